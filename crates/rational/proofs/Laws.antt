@@ -1,0 +1,84 @@
+-- The laws of rationals: equality, order, and the ring.
+use Rattle.std.proofs.Common.{◌≡◌, ℕ, ◌*◌, ◌<◌, ◌^◌, ◌⊎◌, inl, inr, [], ◌∷◌, ℤ, pos, ◌+ℤ◌, ◌*ℤ◌, ◌≤ℤ◌, arith, sym, refl, pow_pos}
+use Rattle.std.proofs.lemmas.Int.{ints, by_lt_z}
+use Rattle.whole_math.proofs.Ring.{ring, va, ◌⊕◌, ◌⊖◌, ◌⊗◌}
+use Rattle.whole_math.proofs.Order.{lins, mul_le_right, mul_le_cancel, eq_by, le_by_factor, mul_nn}
+use Rattle.rational.specs.Rational.{Rational, InBox, add_r, mul_r, ◌≈◌, ◌≤ʳ◌}
+
+nn : (n : ℕ) → pos 0 ≤ℤ pos n
+nn n = omega (arith, ints)
+
+-- ---- equality
+pub ≈_refl : (p : Rational) → p ≈ p
+≈_refl p = refl
+
+pub ≈_sym : (p q : Rational) → p ≈ q → q ≈ p
+≈_sym p q h = sym h
+
+-- ---- order
+trans : (a b c : ℤ) (d e f : ℕ) → 0 < e → (a *ℤ pos e) ≤ℤ (b *ℤ pos d) → (b *ℤ pos f) ≤ℤ (c *ℤ pos e) → (a *ℤ pos f) ≤ℤ (c *ℤ pos d)
+trans a b c d e f h i j =
+    let r : ((a *ℤ pos e) *ℤ pos f) ≤ℤ ((b *ℤ pos d) *ℤ pos f) = mul_le_right (pos f) (a *ℤ pos e) (b *ℤ pos d) (nn f) i in
+    let s : ((b *ℤ pos f) *ℤ pos d) ≤ℤ ((c *ℤ pos e) *ℤ pos d) = mul_le_right (pos d) (b *ℤ pos f) (c *ℤ pos e) (nn d) j in
+    mul_le_cancel (a *ℤ pos f) (c *ℤ pos d) e h (omega (arith, lins, turn a e f, turn b d f, turn c e d))
+  where
+    turn : (a : ℤ) (m n : ℕ) → (a *ℤ pos m) *ℤ pos n ≡ (a *ℤ pos n) *ℤ pos m
+    turn a m n = ring (a ∷ (pos m) ∷ (pos n) ∷ []) ((va 0 ⊗ va 1) ⊗ va 2) ((va 0 ⊗ va 2) ⊗ va 1) refl
+
+pub ≤ʳ_trans : (p q r : Rational) → p ≤ʳ q → q ≤ʳ r → p ≤ʳ r
+≤ʳ_trans p q r h g = trans p.num q.num r.num p.den q.den r.den q.positive h g
+
+pub ≤ʳ_total : (p q : Rational) → (p ≤ʳ q) ⊎ (q ≤ʳ p)
+≤ʳ_total p q = by_lt_z (p.num *ℤ pos q.den) (q.num *ℤ pos p.den) (λ l. inl (omega (arith, lins))) (λ l. inr l)
+
+pub ≤ʳ_from_same : (p q : Rational) → p ≈ q → p ≤ʳ q
+≤ʳ_from_same p q h = omega (arith, lins, h)
+
+pub ≤ʳ_antisym : (p q : Rational) → p ≤ʳ q → q ≤ʳ p → p ≈ q
+≤ʳ_antisym p q h g = omega (arith, lins, h, g)
+
+pub ≈_trans : (p q r : Rational) → p ≈ q → q ≈ r → p ≈ r
+≈_trans p q r h g = ≤ʳ_antisym p r (≤ʳ_trans p q r (≤ʳ_from_same p q h) (≤ʳ_from_same q r g)) (≤ʳ_trans r q p (≤ʳ_from_same r q (≈_sym q r g)) (≤ʳ_from_same q p (≈_sym p q h)))
+
+-- ---- the ring
+pub add_r-comm : (p q : Rational) → add_r p q ≈ add_r q p
+add_r-comm p q = ring (p.num ∷ (pos q.den) ∷ q.num ∷ (pos p.den) ∷ []) (((va 0 ⊗ va 1) ⊕ (va 2 ⊗ va 3)) ⊗ (va 1 ⊗ va 3)) (((va 2 ⊗ va 3) ⊕ (va 0 ⊗ va 1)) ⊗ (va 3 ⊗ va 1)) refl
+
+pub add_r-assoc : (p q r : Rational) → add_r (add_r p q) r ≈ add_r p (add_r q r)
+add_r-assoc p q r = ring (p.num ∷ (pos q.den) ∷ q.num ∷ (pos p.den) ∷ (pos r.den) ∷ r.num ∷ []) (((((va 0 ⊗ va 1) ⊕ (va 2 ⊗ va 3)) ⊗ va 4) ⊕ (va 5 ⊗ (va 3 ⊗ va 1))) ⊗ (va 3 ⊗ (va 1 ⊗ va 4))) (((va 0 ⊗ (va 1 ⊗ va 4)) ⊕ (((va 2 ⊗ va 4) ⊕ (va 5 ⊗ va 1)) ⊗ va 3)) ⊗ ((va 3 ⊗ va 1) ⊗ va 4)) refl
+
+pub mul_r-comm : (p q : Rational) → mul_r p q ≈ mul_r q p
+mul_r-comm p q = ring (p.num ∷ q.num ∷ (pos q.den) ∷ (pos p.den) ∷ []) ((va 0 ⊗ va 1) ⊗ (va 2 ⊗ va 3)) ((va 1 ⊗ va 0) ⊗ (va 3 ⊗ va 2)) refl
+
+pub mul_r-assoc : (p q r : Rational) → mul_r (mul_r p q) r ≈ mul_r p (mul_r q r)
+mul_r-assoc p q r = ring (p.num ∷ q.num ∷ r.num ∷ (pos p.den) ∷ (pos q.den) ∷ (pos r.den) ∷ []) (((va 0 ⊗ va 1) ⊗ va 2) ⊗ (va 3 ⊗ (va 4 ⊗ va 5))) ((va 0 ⊗ (va 1 ⊗ va 2)) ⊗ ((va 3 ⊗ va 4) ⊗ va 5)) refl
+
+pub mul_r-add : (p q r : Rational) → mul_r p (add_r q r) ≈ add_r (mul_r p q) (mul_r p r)
+mul_r-add p q r = ring (p.num ∷ q.num ∷ (pos r.den) ∷ r.num ∷ (pos q.den) ∷ (pos p.den) ∷ []) ((va 0 ⊗ ((va 1 ⊗ va 2) ⊕ (va 3 ⊗ va 4))) ⊗ ((va 5 ⊗ va 4) ⊗ (va 5 ⊗ va 2))) ((((va 0 ⊗ va 1) ⊗ (va 5 ⊗ va 2)) ⊕ ((va 0 ⊗ va 3) ⊗ (va 5 ⊗ va 4))) ⊗ (va 5 ⊗ (va 4 ⊗ va 2))) refl
+
+-- ---- equal operands
+pub add_r-same : (p q r : Rational) → p ≈ q → add_r p r ≈ add_r q r
+add_r-same p q r h = eq_by (((p.num *ℤ pos r.den) +ℤ (r.num *ℤ pos p.den)) *ℤ (pos q.den *ℤ pos r.den)) (((q.num *ℤ pos r.den) +ℤ (r.num *ℤ pos q.den)) *ℤ (pos p.den *ℤ pos r.den))
+    (p.num *ℤ pos q.den) (q.num *ℤ pos p.den) (pos r.den *ℤ pos r.den) h
+    (ring (p.num ∷ (pos r.den) ∷ r.num ∷ (pos p.den) ∷ (pos q.den) ∷ q.num ∷ []) ((((va 0 ⊗ va 1) ⊕ (va 2 ⊗ va 3)) ⊗ (va 4 ⊗ va 1)) ⊖ (((va 5 ⊗ va 1) ⊕ (va 2 ⊗ va 4)) ⊗ (va 3 ⊗ va 1))) ((va 1 ⊗ va 1) ⊗ ((va 0 ⊗ va 4) ⊖ (va 5 ⊗ va 3))) refl)
+
+pub mul_r-same : (p q r : Rational) → p ≈ q → mul_r p r ≈ mul_r q r
+mul_r-same p q r h = eq_by ((p.num *ℤ r.num) *ℤ (pos q.den *ℤ pos r.den)) ((q.num *ℤ r.num) *ℤ (pos p.den *ℤ pos r.den))
+    (p.num *ℤ pos q.den) (q.num *ℤ pos p.den) (r.num *ℤ pos r.den) h
+    (ring (p.num ∷ r.num ∷ (pos q.den) ∷ (pos r.den) ∷ q.num ∷ (pos p.den) ∷ []) (((va 0 ⊗ va 1) ⊗ (va 2 ⊗ va 3)) ⊖ ((va 4 ⊗ va 1) ⊗ (va 5 ⊗ va 3))) ((va 1 ⊗ va 3) ⊗ ((va 0 ⊗ va 2) ⊖ (va 4 ⊗ va 5))) refl)
+
+-- ---- order and the ring
+pub add_r-mono : (p q r : Rational) → p ≤ʳ q → add_r p r ≤ʳ add_r q r
+add_r-mono p q r h = le_by_factor (((p.num *ℤ pos r.den) +ℤ (r.num *ℤ pos p.den)) *ℤ (pos q.den *ℤ pos r.den)) (((q.num *ℤ pos r.den) +ℤ (r.num *ℤ pos q.den)) *ℤ (pos p.den *ℤ pos r.den))
+    (p.num *ℤ pos q.den) (q.num *ℤ pos p.den) (pos r.den *ℤ pos r.den) h (nn (r.den * r.den))
+    (ring (q.num ∷ (pos r.den) ∷ r.num ∷ (pos q.den) ∷ (pos p.den) ∷ p.num ∷ []) ((((va 0 ⊗ va 1) ⊕ (va 2 ⊗ va 3)) ⊗ (va 4 ⊗ va 1)) ⊖ (((va 5 ⊗ va 1) ⊕ (va 2 ⊗ va 4)) ⊗ (va 3 ⊗ va 1))) ((va 1 ⊗ va 1) ⊗ ((va 0 ⊗ va 4) ⊖ (va 5 ⊗ va 3))) refl)
+
+pub mul_r-mono : (p q r : Rational) → pos 0 ≤ℤ r.num → p ≤ʳ q → mul_r p r ≤ʳ mul_r q r
+mul_r-mono p q r k h = le_by_factor ((p.num *ℤ r.num) *ℤ (pos q.den *ℤ pos r.den)) ((q.num *ℤ r.num) *ℤ (pos p.den *ℤ pos r.den))
+    (p.num *ℤ pos q.den) (q.num *ℤ pos p.den) (r.num *ℤ pos r.den) h (mul_nn r.num (pos r.den) k (nn r.den))
+    (ring (q.num ∷ r.num ∷ (pos p.den) ∷ (pos r.den) ∷ p.num ∷ (pos q.den) ∷ []) (((va 0 ⊗ va 1) ⊗ (va 2 ⊗ va 3)) ⊖ ((va 4 ⊗ va 1) ⊗ (va 5 ⊗ va 3))) ((va 1 ⊗ va 3) ⊗ ((va 0 ⊗ va 2) ⊖ (va 4 ⊗ va 5))) refl)
+
+-- ---- a box is an order with its two ends, by definition
+pub InBox-out : (k : ℕ) (lo hi : ℤ) (q : Rational) → InBox k lo hi q →
+    (record { num = lo; den = 2 ^ k; positive = pow_pos k } ≤ʳ q) × (q ≤ʳ record { num = hi; den = 2 ^ k; positive = pow_pos k })
+InBox-out k lo hi q h = h

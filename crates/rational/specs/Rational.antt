@@ -1,0 +1,40 @@
+-- Rationals, and the boxes that hold them.
+use Rattle.std.specs.Prelude.{◌≡◌, ℕ, ◌*◌, ◌<◌, ◌^◌, ℤ, pos, ◌+ℤ◌, ◌-ℤ◌, ◌*ℤ◌, neg_ℤ, ◌≤ℤ◌, unsigned_abs}
+use Rattle.std.proofs.Common.{mul-pos}
+
+-- num / den
+pub record Rational : Type 0 where
+  pub num : ℤ
+  pub den : ℕ
+  pub positive : 0 < den
+
+infix 50 ◌≈◌ ◌≤ʳ◌
+abbrev pub ◌≈◌ : Rational → Rational → Type 0
+p ≈ q = (p.num *ℤ pos q.den) ≡ (q.num *ℤ pos p.den)
+
+abbrev pub ◌≤ʳ◌ : Rational → Rational → Type 0
+p ≤ʳ q = (p.num *ℤ pos q.den) ≤ℤ (q.num *ℤ pos p.den)
+
+abbrev pub add_r : Rational → Rational → Rational
+add_r p q = record { num = (p.num *ℤ pos q.den) +ℤ (q.num *ℤ pos p.den); den = p.den * q.den; positive = mul-pos p.positive q.positive }
+
+abbrev pub neg_r : Rational → Rational
+neg_r p = record { num = neg_ℤ p.num; den = p.den; positive = p.positive }
+
+abbrev pub sub_r : Rational → Rational → Rational
+sub_r p q = record { num = (p.num *ℤ pos q.den) -ℤ (q.num *ℤ pos p.den); den = p.den * q.den; positive = mul-pos p.positive q.positive }
+
+abbrev pub mul_r : Rational → Rational → Rational
+mul_r p q = record { num = p.num *ℤ q.num; den = p.den * q.den; positive = mul-pos p.positive q.positive }
+
+-- q lies from lo / 2^k to hi / 2^k
+abbrev pub InBox : ℕ → ℤ → ℤ → Rational → Type 0
+InBox k lo hi q = ((lo *ℤ pos q.den) ≤ℤ (q.num *ℤ pos (2 ^ k))) × ((q.num *ℤ pos (2 ^ k)) ≤ℤ (hi *ℤ pos q.den))
+
+-- q is num / den
+abbrev pub IsRatio : Rational → ℤ → ℤ → Type 0
+IsRatio q num den = q.num *ℤ den ≡ num *ℤ pos q.den
+
+-- r ≥ 0 and 2^60 |r² - q| ≤ q
+abbrev pub IsNearRoot : Rational → Rational → Type 0
+IsNearRoot r q = (pos 0 ≤ℤ r.num) × ((pos (unsigned_abs (((r.num *ℤ r.num) *ℤ pos q.den) -ℤ (q.num *ℤ pos (r.den * r.den)))) *ℤ pos (2 ^ 60)) ≤ℤ (q.num *ℤ pos (r.den * r.den)))
