@@ -1,0 +1,90 @@
+-- What an answer of the elimination keeps.
+use Rattle.std.proofs.Common.{◌≡◌, ℕ, zero, suc, ◌^◌, ◌-◌, ◌<◌, ◌≤◌, Bool, true, false, ◌&&◌, nat_lt, List, [], ◌∷◌, ℤ, pos, negsuc, ◌≤ℤ◌, ◌<ℤ◌, Result, Ok, Err, unsigned_abs, arith, sym, refl, subst}
+use Rattle.std.proofs.lemmas.Int.{ints}
+use borrow.Author.Tests.{ltb-true}
+use Rattle.quadratic_form.specs.Forms.{Column}
+use Rattle.quadratic_form.specs.Steps.{kept, Factor, Refusal, wide_entry, all_small, form_small, step, with_factor, steps}
+use Rattle.quadratic_form.specs.Data.{Group, first_form}
+use Rattle.quadratic_form.specs.Search.{Small, SmallList, SmallForm}
+use Rattle.quadratic_form.specs.Lower.{front}
+use Rattle.quadratic_form.proofs.Search.{d_range}
+use Rattle.quadratic_form.proofs.Chain.{Taken, step_taken}
+
+-- an answer of the front is one of its three steps
+pub front_steps : (h i : ℕ) (gs : List Group) (p : List Factor × List Column) → front h i gs ≡ Ok p → steps 0 3 (first_form h i gs) ≡ Ok p
+front_steps h i gs p e = go (form_small (first_form h i gs)) e
+  where
+    go : (t : Bool) → elim t as (λ b. Result (List Factor × List Column) Refusal) [ true ↦ steps 0 3 (first_form h i gs) | false ↦ Err wide_entry ] ≡ Ok p → steps 0 3 (first_form h i gs) ≡ Ok p
+    go true e = e
+    go false e = absurd cc
+
+-- ---- the tests
+both : (a b : Bool) → (a && b) ≡ true → (a ≡ true) × (b ≡ true)
+both true true e = (refl, refl)
+both true false e = absurd cc
+both false b e = absurd cc
+
+small_is : (x : ℤ) → nat_lt (unsigned_abs x) (2 ^ 52) ≡ true → Small x
+small_is (pos a) e = (omega (arith, ints, ltb-true), omega (arith, ints, ltb-true))
+small_is (negsuc a) e = (omega (arith, ints, ltb-true), omega (arith, ints, ltb-true))
+
+list_is : (s : List ℤ) → all_small s ≡ true → SmallList s
+list_is [] e = tt
+list_is (x ∷ s) e = let p : (nat_lt (unsigned_abs x) (2 ^ 52) ≡ true) × (all_small s ≡ true) = both _ _ e in (small_is x p.0, list_is s p.1)
+
+pub form_is : (a : List Column) → form_small a ≡ true → SmallForm a
+form_is [] e = tt
+form_is (c ∷ a) e =
+    let p : (nat_lt (unsigned_abs c.own) (2 ^ 52) ≡ true) × ((all_small c.others && form_small a) ≡ true) = both _ _ e in
+    let q : (all_small c.others ≡ true) × (form_small a ≡ true) = both _ _ p.1 in
+    (small_is c.own p.0, list_is c.others q.0, form_is a q.1)
+
+-- ---- the ranges of an answer
+pub record InRange (f : Factor) : Type 0 where
+  pub low : pos (2 ^ 20 - 1) ≤ℤ f.d
+  pub high : f.d <ℤ pos (2 ^ 52)
+  pub l : SmallList f.l
+
+abbrev pub AllInRange : List Factor → Type 0
+AllInRange [] = Unit {0}
+AllInRange (f ∷ fs) = InRange f × AllInRange fs
+
+taken_range : (c : Column) (m : List Column) (u : Factor × List Column) → Taken c m u → Small c.own → InRange u.0
+taken_range c m u t s = record { low = subst (λ (z : ℤ). pos (2 ^ 20 - 1) ≤ℤ z) (sym t.d) r.0; high = subst (λ (z : ℤ). z <ℤ pos (2 ^ 52)) (sym t.d) r.1; l = list_is u.0.l t.small_factors }
+  where
+    from : (x : ℤ) → pos (2 ^ 20) ≤ℤ x → 2 ^ 20 ≤ unsigned_abs x
+    from x h = omega (arith, ints)
+
+    to : (x : ℤ) → pos (2 ^ 20) ≤ℤ x → x <ℤ pos (2 ^ 52) → unsigned_abs x < 2 ^ 52
+    to x h k = omega (arith, ints)
+
+    r : (pos (2 ^ 20 - 1) ≤ℤ kept (unsigned_abs c.own)) × (kept (unsigned_abs c.own) <ℤ pos (2 ^ 52))
+    r = d_range (unsigned_abs c.own) (from c.own t.pivot) (to c.own t.pivot s.1)
+
+pub steps_range : (j k : ℕ) (a : List Column) (p : List Factor × List Column) → steps j k a ≡ Ok p → SmallForm a → AllInRange p.0 × SmallForm p.1
+steps_range j zero a p e s =
+    let q : (List Factor × List Column) = ([], a) in
+    let i : q ≡ p = cc in
+    subst (λ (z : List Factor × List Column). AllInRange z.0 × SmallForm z.1) i (tt, s)
+steps_range j (suc k) [] p e s =
+    let q : (List Factor × List Column) = ([], []) in
+    let i : q ≡ p = cc in
+    subst (λ (z : List Factor × List Column). AllInRange z.0 × SmallForm z.1) i (tt, tt)
+steps_range j (suc k) (c ∷ m) p e s = first (step j c m) refl (λ b q. steps_range (suc j) k b q) e
+  where
+    second : (u : Factor × List Column) → Taken c m u → (r : Result (List Factor × List Column) Refusal) →
+        ((q : List Factor × List Column) → r ≡ Ok q → AllInRange q.0 × SmallForm q.1) → with_factor u.0 r ≡ Ok p → AllInRange p.0 × SmallForm p.1
+    second u t (Err i) ih e = absurd cc
+    second u t (Ok q) ih e =
+        let w : (List Factor × List Column) = (u.0 ∷ q.0, q.1) in
+        let i : w ≡ p = cc in
+        let h : AllInRange q.0 × SmallForm q.1 = ih q refl in
+        subst (λ (z : List Factor × List Column). AllInRange z.0 × SmallForm z.1) i ((taken_range c m u t s.0, h.0), h.1)
+
+    first : (r : Result (Factor × List Column) Refusal) → step j c m ≡ r →
+        ((b : List Column) (q : List Factor × List Column) → steps (suc j) k b ≡ Ok q → SmallForm b → AllInRange q.0 × SmallForm q.1) →
+        elim r as (λ t. Result (List Factor × List Column) Refusal) [ Ok u ↦ with_factor u.0 (steps (suc j) k u.1) | Err i ↦ Err i ] ≡ Ok p → AllInRange p.0 × SmallForm p.1
+    first (Err i) o ih e = absurd cc
+    first (Ok u) o ih e =
+        let t : Taken c m u = step_taken j c m u o in
+        second u t (steps (suc j) k u.1) (λ q i. ih u.1 q i (form_is u.1 t.small_left)) e

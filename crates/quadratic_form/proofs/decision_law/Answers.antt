@@ -1,0 +1,5 @@
+use Rattle.quadratic_form.proofs.Claim.{decided_best}
+use Rattle.quadratic_form.proofs.decision_law.Goals as goal
+
+pub returns : goal.returns
+returns c = decided_best
