@@ -1,6 +1,6 @@
 -- Rationals, and the boxes that hold them.
-use Rattle.std.specs.Prelude.{◌≡◌, ℕ, ◌*◌, ◌<◌, ◌^◌, ℤ, pos, ◌+ℤ◌, ◌-ℤ◌, ◌*ℤ◌, neg_ℤ, ◌≤ℤ◌, unsigned_abs}
-use Rattle.std.proofs.Common.{mul-pos}
+use Rattle.std.specs.Prelude.{◌≡◌, ℕ, ◌*◌, ◌<◌, ◌^◌, ℤ, pos, ◌+ℤ◌, ◌-ℤ◌, ◌*ℤ◌, neg_ℤ, ◌≤ℤ◌, ◌<ℤ◌, unsigned_abs}
+use Rattle.std.proofs.Common.{mul-pos, lit<}
 
 -- num / den
 pub record Rational : Type 0 where
@@ -8,12 +8,19 @@ pub record Rational : Type 0 where
   pub den : ℕ
   pub positive : 0 < den
 
-infix 50 ◌≈◌ ◌≤ʳ◌
+infix 50 ◌≈◌ ◌≤ʳ◌ ◌<ʳ◌
 abbrev pub ◌≈◌ : Rational → Rational → Type 0
 p ≈ q = (p.num *ℤ pos q.den) ≡ (q.num *ℤ pos p.den)
 
 abbrev pub ◌≤ʳ◌ : Rational → Rational → Type 0
 p ≤ʳ q = (p.num *ℤ pos q.den) ≤ℤ (q.num *ℤ pos p.den)
+
+abbrev pub ◌<ʳ◌ : Rational → Rational → Type 0
+p <ʳ q = (p.num *ℤ pos q.den) <ℤ (q.num *ℤ pos p.den)
+
+-- k / 1
+abbrev pub of_whole : ℤ → Rational
+of_whole k = record { num = k; den = 1; positive = lit< tt }
 
 abbrev pub add_r : Rational → Rational → Rational
 add_r p q = record { num = (p.num *ℤ pos q.den) +ℤ (q.num *ℤ pos p.den); den = p.den * q.den; positive = mul-pos p.positive q.positive }
@@ -30,6 +37,10 @@ mul_r p q = record { num = p.num *ℤ q.num; den = p.den * q.den; positive = mul
 -- q lies from lo / 2^k to hi / 2^k
 abbrev pub InBox : ℕ → ℤ → ℤ → Rational → Type 0
 InBox k lo hi q = ((lo *ℤ pos q.den) ≤ℤ (q.num *ℤ pos (2 ^ k))) × ((q.num *ℤ pos (2 ^ k)) ≤ℤ (hi *ℤ pos q.den))
+
+-- q is at most r from c
+abbrev pub Near : ℤ → ℤ → Rational → Type 0
+Near c r q = (of_whole (c -ℤ r) ≤ʳ q) × (q ≤ʳ of_whole (c +ℤ r))
 
 -- q is num / den
 abbrev pub IsRatio : Rational → ℤ → ℤ → Type 0

@@ -6,3 +6,4 @@ pub mod Rounding
 pub mod Sums
 pub mod Certificates
 pub mod Examples
+pub mod Inequalities

@@ -1,2 +1,3 @@
 pub mod Rounding
 pub mod Sums
+pub mod Bounds
