@@ -1,0 +1,4 @@
+pub mod Hold
+pub mod More
+pub mod Quot
+pub mod Root
