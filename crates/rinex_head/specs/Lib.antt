@@ -1,0 +1,4 @@
+pub mod Reasons
+pub mod Places
+pub mod Walk
+pub mod FirstFailing

@@ -1,0 +1,27 @@
+//! What the readers of all texts share: the place of a refusal, the closed list of reasons, and the walk over
+//! the lines of a text, in which a reader's contract names the first line that no rule admits.
+//!
+//! # How a reader uses the walk
+//!
+//! A reader states its form as `Rules` (specs/Walk.antt), two tables over a type of its own for what is expected
+//! next: `admit` says what a line must be in its place and what is expected behind it, `finish` whether the text
+//! may end there. `walk` then says of the whole list of lines what they give, or their first failing place. Lines
+//! that are too long and the numbers of lines are its own and stand in no table.
+//!
+//! The code keeps no such state: it has its own loops over [`next_line`] and [`line_or_end`]. Each of its
+//! functions has one clause, `Reads rules lines.old lines.new before behind result`: where `before` was expected,
+//! the function has read a part of the text, and `behind` is expected now; or the text is refused there. The part
+//! that reaches the end has `Gives (rest_gives rules lines.old before) view result`. Each loop has the invariant
+//! `rest_gives rules l.fn.lines before ≡ rest_gives rules l.lines now`, and each answer is the invariant and one
+//! step of proofs/Walks.antt: `goes_on`, `stops_after`, `stops`, `has_none`, `has_long`, `ends_well`, `handed_on`.
+//!
+//! That the place of a refusal is the first failing line by the form alone, which mentions no rules
+//! (specs/FirstFailing.antt), is `first_failing` of proofs/Stops.antt: it asks for a rest of a text behind every
+//! state (`with_line`, one line more), and for a law between the form and the rules.
+#![tactic(auto)]
+
+mod place;
+mod walk;
+
+pub use place::{At, Flaw, TextFault, What};
+pub use walk::{line_or_end, next_line};
