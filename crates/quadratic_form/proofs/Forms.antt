@@ -2,9 +2,9 @@
 use Rattle.std.proofs.Common.{◌≡◌, List, [], ◌∷◌, ℤ, pos, ◌+ℤ◌, ◌-ℤ◌, ◌*ℤ◌, neg_ℤ, ◌≤ℤ◌, arith, sym, ap, ap₂, ◌∙◌, refl}
 use Rattle.whole_math.proofs.Ring.{◌⊕◌, ◌⊖◌, ◌⊗◌, ng}
 use Rattle.whole_math.proofs.Order.{lins, square_nn}
-use Rattle.quadratic_form.proofs.Certify.{le_by, both_nn, prod_nn, less_nn, pos_nn, halve, same_by, nat}
+use Rattle.quadratic_form.proofs.Inequalities.{le_by, both_nn, prod_nn, less_nn, pos_nn, halve, same_by, nat}
 use Rattle.quadratic_form.proofs.Spread.{len_nonneg, len_tail, len_apart}
-use Rattle.quadratic_form.specs.Lists.{len, sumsq, dot, scaled, added}
+use Rattle.quadratic_form.specs.Vectors.{len, squared_norm, dot, scaled, added}
 use Rattle.quadratic_form.specs.Forms.{Column, quad, plus, times, outer}
 
 pub dot_added : (r s v : List ℤ) → dot (added r s) v ≡ dot r v +ℤ dot s v
@@ -87,12 +87,12 @@ Above a g [] (d ∷ q) = ⊥
 Above a g (c ∷ p) [] = ⊥
 Above a g (c ∷ p) (d ∷ q) = (g ≤ℤ (pos 2 *ℤ (c.own -ℤ d.own))) × Close a c.others d.others × Above a g p q
 
-pub sumsq_nonneg : (s : List ℤ) → pos 0 ≤ℤ sumsq s
+pub sumsq_nonneg : (s : List ℤ) → pos 0 ≤ℤ squared_norm s
 sumsq_nonneg [] = omega (arith, lins)
 sumsq_nonneg (x ∷ s) = both_nn (square_nn x) (sumsq_nonneg s)
 
-dot_close : (a x : ℤ) (r s v : List ℤ) → pos 0 ≤ℤ a → Close a r s → pos 0 ≤ℤ (pos 4 *ℤ (x *ℤ (dot r v -ℤ dot s v)) +ℤ a *ℤ (len v *ℤ (x *ℤ x) +ℤ sumsq v))
-dot_close a x [] [] v h k = step a x (len v) (sumsq v) (prod_nn h (both_nn (prod_nn (len_nonneg v) (square_nn x)) (sumsq_nonneg v)))
+dot_close : (a x : ℤ) (r s v : List ℤ) → pos 0 ≤ℤ a → Close a r s → pos 0 ≤ℤ (pos 4 *ℤ (x *ℤ (dot r v -ℤ dot s v)) +ℤ a *ℤ (len v *ℤ (x *ℤ x) +ℤ squared_norm v))
+dot_close a x [] [] v h k = step a x (len v) (squared_norm v) (prod_nn h (both_nn (prod_nn (len_nonneg v) (square_nn x)) (sumsq_nonneg v)))
   where
     step : (a x n q : ℤ) → pos 0 ≤ℤ (a *ℤ (n *ℤ (x *ℤ x) +ℤ q)) → pos 0 ≤ℤ (pos 4 *ℤ (x *ℤ (pos 0 -ℤ pos 0)) +ℤ a *ℤ (n *ℤ (x *ℤ x) +ℤ q))
     step a x n q h = le_by (x ∷ a ∷ n ∷ q ∷ []) (λ x a n q. (nat 0, nat 4 ⊗ (x ⊗ (nat 0 ⊖ nat 0)) ⊕ a ⊗ (n ⊗ (x ⊗ x) ⊕ q), a ⊗ (n ⊗ (x ⊗ x) ⊕ q))) refl (h)
@@ -100,7 +100,7 @@ dot_close a x [] (z ∷ s) v h k = absurd k
 dot_close a x (y ∷ r) [] v h k = absurd k
 dot_close a x (y ∷ r) (z ∷ s) [] h k = le_by (x ∷ a ∷ []) (λ x a. (nat 0, nat 4 ⊗ (x ⊗ (nat 0 ⊖ nat 0)) ⊕ a ⊗ (nat 0 ⊗ (x ⊗ x) ⊕ nat 0), nat 0 ⊗ nat 0)) refl (square_nn (pos 0))
 dot_close a x (y ∷ r) (z ∷ s) (w ∷ v) h k =
-    step a x y z w (dot r v) (dot s v) (len v) (sumsq v) k.0 k.1 (dot_close a x r s v h k.2)
+    step a x y z w (dot r v) (dot s v) (len v) (squared_norm v) k.0 k.1 (dot_close a x r s v h k.2)
   where
     -- twice a (x² + w²) + 4 (y - z) x w is (a + 2 (y - z)) (x + w)² + (a - 2 (y - z)) (x - w)²
     step : (a x y z w p q n t : ℤ) → neg_ℤ a ≤ℤ (pos 2 *ℤ (y -ℤ z)) → (pos 2 *ℤ (y -ℤ z)) ≤ℤ a → pos 0 ≤ℤ (pos 4 *ℤ (x *ℤ (p -ℤ q)) +ℤ a *ℤ (n *ℤ (x *ℤ x) +ℤ t)) →
@@ -108,14 +108,14 @@ dot_close a x (y ∷ r) (z ∷ s) (w ∷ v) h k =
     step a x y z w p q n t i j ih = halve (le_by (x ∷ y ∷ w ∷ p ∷ z ∷ q ∷ a ∷ n ∷ t ∷ []) (λ x y w p z q a n t. (nat 2 ⊗ nat 0, nat 2 ⊗ (nat 4 ⊗ (x ⊗ (y ⊗ w ⊕ p ⊖ (z ⊗ w ⊕ q))) ⊕ a ⊗ ((nat 1 ⊕ n) ⊗ (x ⊗ x) ⊕ (w ⊗ w ⊕ t))), (nat 2 ⊗ (y ⊖ z) ⊖ ng a) ⊗ ((x ⊕ w) ⊗ (x ⊕ w)) ⊕ (a ⊖ nat 2 ⊗ (y ⊖ z)) ⊗ ((x ⊖ w) ⊗ (x ⊖ w)) ⊕ nat 2 ⊗ (nat 4 ⊗ (x ⊗ (p ⊖ q)) ⊕ a ⊗ (n ⊗ (x ⊗ x) ⊕ t)))) refl (both_nn (both_nn (prod_nn (less_nn i) (square_nn (x +ℤ w))) (prod_nn (less_nn j) (square_nn (x -ℤ w)))) (prod_nn (pos_nn 2) ih)))
 
 pub dominant : (a g : ℤ) (p q : List Column) (x : List ℤ) → pos 0 ≤ℤ a → Above a g p q → len p ≡ len x →
-    ((g +ℤ a -ℤ a *ℤ len x) *ℤ sumsq x) ≤ℤ (pos 2 *ℤ (quad p x -ℤ quad q x))
+    ((g +ℤ a -ℤ a *ℤ len x) *ℤ squared_norm x) ≤ℤ (pos 2 *ℤ (quad p x -ℤ quad q x))
 dominant a g [] [] [] h k e = le_by (g ∷ a ∷ []) (λ g a. ((g ⊕ a ⊖ a ⊗ nat 0) ⊗ nat 0, nat 2 ⊗ (nat 0 ⊖ nat 0), nat 0 ⊗ nat 0)) refl (square_nn (pos 0))
 dominant a g [] [] (x ∷ v) h k e = absurd (len_apart (len v) (len_nonneg v) e)
 dominant a g [] (d ∷ q) x h k e = absurd k
 dominant a g (c ∷ p) [] x h k e = absurd k
 dominant a g (c ∷ p) (d ∷ q) [] h k e = absurd (len_apart (len p) (len_nonneg p) (sym e))
 dominant a g (c ∷ p) (d ∷ q) (x ∷ v) h k e =
-    step a g c.own d.own x (dot c.others v) (dot d.others v) (len v) (sumsq v) (quad p v) (quad q v)
+    step a g c.own d.own x (dot c.others v) (dot d.others v) (len v) (squared_norm v) (quad p v) (quad q v)
     k.0 (dot_close a x c.others d.others v h k.1) (dominant a g p q v h k.2 (len_tail (len p) (len v) e))
   where
     step : (a g o b x r s n t i j : ℤ) → g ≤ℤ (pos 2 *ℤ (o -ℤ b)) → pos 0 ≤ℤ (pos 4 *ℤ (x *ℤ (r -ℤ s)) +ℤ a *ℤ (n *ℤ (x *ℤ x) +ℤ t)) → ((g +ℤ a -ℤ a *ℤ n) *ℤ t) ≤ℤ (pos 2 *ℤ (i -ℤ j)) →

@@ -1,9 +1,9 @@
 -- The shapes of the forms: each has n columns, and each column an entry with each later one.
 use Rattle.std.proofs.Common.{◌≡◌, List, [], ◌∷◌, ◌++◌, length, ℤ, pos, negsuc, ◌+ℤ◌, ◌*ℤ◌, sym, ap, ◌∙◌, refl}
 use Rattle.quadratic_form.proofs.Spread.{len_nonneg, len_tail, len_apart, len_scaled, len_added}
-use Rattle.quadratic_form.specs.Lists.{len, scaled}
+use Rattle.quadratic_form.specs.Vectors.{len, scaled}
 use Rattle.quadratic_form.specs.Forms.{Column, Shaped, plus, times, outer}
-use Rattle.quadratic_form.specs.Data.{Row, Base, Group, coefficients, sum_coefficients, sum_outer, group_matrix, matrix, Radii, diagonal, zeros, columns, lower_form, columns_at, RowsOf, GroupsOf}
+use Rattle.quadratic_form.specs.Rows.{Row, WholeBaseline, Group, coefficients, sum_coefficients, sum_outer, group_matrix, matrix, Radii, diagonal, zeros, columns, bounding_form, columns_at, RowsOf, GroupsOf}
 
 abbrev pub Sized : ℤ → List Column → Type 0
 Sized n a = (len a ≡ n) × Shaped a
@@ -47,7 +47,7 @@ four n k e = ap (λ n. pos 1 +ℤ (pos 1 +ℤ (pos 1 +ℤ n))) e
 len_coefficients : (k : ℤ) (r : Row) → len r.cycles ≡ k → len (coefficients r) ≡ cols k
 len_coefficients k r e = four _ k (len_last r.cycles r.y ∙ ap (λ n. pos 1 +ℤ n) e)
 
-pub len_columns : (e : ℤ) (z : List ℤ) (b : Base) → len (columns_at e z b) ≡ cols (len z)
+pub len_columns : (e : ℤ) (z : List ℤ) (b : WholeBaseline) → len (columns_at e z b) ≡ cols (len z)
 len_columns e z b = four _ (len z) (len_last (scaled e z) e ∙ ap (λ n. pos 1 +ℤ n) (len_scaled e z))
 
 len_start : (z : List ℤ) → len (zeros (columns (length z))) ≡ cols (len z)
@@ -83,8 +83,8 @@ sized_matrix z (g ∷ gs) h = both (cols (len z)) (group_matrix (length z) g) (m
     one : Sized (cols (len z)) (group_matrix (length z) g)
     one = more n _ _ (both n _ _ (more n (len g.rows) (sum_outer (length z) g.rows) (sized_sum_outer z g.rows h.3)) (more n (negsuc 0) (outer (sum_coefficients (length z) g.rows)) (product n (sum_coefficients (length z) g.rows) (len_sum_coefficients z g.rows h.3))))
 
-pub sized_lower_form : (z : List ℤ) (gs : List Group) (r : Radii) → GroupsOf (len z) gs → Sized (cols (len z)) (lower_form (length z) (matrix (length z) gs) r)
-sized_lower_form z gs r h = both (cols (len z)) (times (pos 63) (matrix (length z) gs)) (diagonal w) (more (cols (len z)) (pos 63) (matrix (length z) gs) (sized_matrix z gs h))
+pub sized_bounding_form : (z : List ℤ) (gs : List Group) (r : Radii) → GroupsOf (len z) gs → Sized (cols (len z)) (bounding_form (length z) (matrix (length z) gs) r)
+sized_bounding_form z gs r h = both (cols (len z)) (times (pos 63) (matrix (length z) gs)) (diagonal w) (more (cols (len z)) (pos 63) (matrix (length z) gs) (sized_matrix z gs h))
     ((sized_diagonal w).0 ∙ four _ (len z) (len_last (zeros (length z)) (negsuc 16127 *ℤ r.ry) ∙ ap (λ n. pos 1 +ℤ n) (len_zeros z)), (sized_diagonal w).1)
   where
     w : List ℤ

@@ -1,17 +1,17 @@
 -- A symmetric table is a form, and a form at a mapped vector is the form of the transformed table.
 use Rattle.std.proofs.Common.{arith, ℕ, zero, suc, ◌≡◌, List, [], ◌∷◌, ◌++◌, length, ℤ, pos, ◌+ℤ◌, ◌*ℤ◌, ◌≤ℤ◌, sym, ap, ap₂, ◌∙◌, refl}
-use Rattle.quadratic_form.proofs.Certify.{same_by, nat}
+use Rattle.quadratic_form.proofs.Inequalities.{same_by, nat}
 use Rattle.whole_math.proofs.Ring.{◌⊕◌, ◌⊗◌}
 use Rattle.quadratic_form.proofs.Spread.{len_nonneg, len_tail, len_apart}
 use Rattle.quadratic_form.proofs.Forms.{dot_added, dot_scaled}
-use Rattle.quadratic_form.proofs.Data.{dot_zeros}
+use Rattle.quadratic_form.proofs.NormalForm.{dot_zeros}
 use Rattle.quadratic_form.proofs.Shapes.{len_zeros}
-use Rattle.quadratic_form.specs.Data.{zeros}
-use Rattle.quadratic_form.specs.Entries.{list_from, form_from}
-use Rattle.quadratic_form.proofs.Entries.{form_same}
-use Rattle.quadratic_form.specs.Lists.{len, dot, scaled, added}
+use Rattle.quadratic_form.specs.Rows.{zeros}
+use Rattle.quadratic_form.specs.Places.{list_from, form_from}
+use Rattle.quadratic_form.proofs.Places.{form_same}
+use Rattle.quadratic_form.specs.Vectors.{len, dot, scaled, added}
 use Rattle.quadratic_form.specs.Forms.{Column, quad}
-use Rattle.quadratic_form.specs.Reduce.{apply, AllRows, entry, row}
+use Rattle.quadratic_form.specs.Maps.{apply, AllRows, entry, row}
 use Rattle.quadratic_form.specs.Tables.{table_value, tail, tails, half, Symmetric, add_tables, outer_table, product, combine, after_map, transformed, with_constant}
 
 -- ---- the form of a symmetric table

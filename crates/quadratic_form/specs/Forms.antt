@@ -1,6 +1,6 @@
 -- A quadratic form: for each column its own entry and its entries with the later columns.
 use Rattle.std.specs.Prelude.{List, [], ◌∷◌, ◌≡◌, ℤ, pos, ◌+ℤ◌, ◌*ℤ◌}
-use Rattle.quadratic_form.specs.Lists.{len, dot, scaled, added}
+use Rattle.quadratic_form.specs.Vectors.{len, dot, scaled, added}
 
 pub record Column : Type 0 where
   pub own : ℤ

@@ -1,8 +1,8 @@
 -- Forms as tables, and tables under a map.
 use Rattle.std.specs.Prelude.{ℕ, zero, suc, ◌≡◌, List, [], ◌∷◌, ◌++◌, ℤ, pos}
-use Rattle.quadratic_form.specs.Lists.{dot, scaled, added}
+use Rattle.quadratic_form.specs.Vectors.{dot, scaled, added}
 use Rattle.quadratic_form.specs.Forms.{Column}
-use Rattle.quadratic_form.specs.Reduce.{apply, entry, row}
+use Rattle.quadratic_form.specs.Maps.{apply, entry, row}
 
 -- xᵀ t x
 abbrev pub table_value : List (List ℤ) → List ℤ → ℤ

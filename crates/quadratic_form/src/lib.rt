@@ -2,33 +2,33 @@
 #![tactic(auto)]
 
 ghost use Rattle.std.specs.Prelude.{◌≡◌, ℕ, ◌^◌, List, [], ◌∷◌, ◌++◌, length, ℤ, pos, ◌*ℤ◌, ◌≤ℤ◌, ◌<ℤ◌, Ok};
-ghost use Rattle.quadratic_form.specs.Lists.{len};
+ghost use Rattle.quadratic_form.specs.Vectors.{len};
 ghost use Rattle.quadratic_form.specs.Forms.{Column};
-ghost use Rattle.quadratic_form.specs.Steps.{Factor, steps};
-ghost use Rattle.quadratic_form.specs.Data.{Base, Group, Datum, GroupsOf, FitsAll, first_form, value, sum_of_squares};
-ghost use Rattle.quadratic_form.specs.Upper.{top};
-ghost use Rattle.quadratic_form.specs.Decide.{TwoLeast};
+ghost use Rattle.quadratic_form.specs.Elimination.{Factor, steps};
+ghost use Rattle.quadratic_form.specs.Rows.{WholeBaseline, Group, WholeData, GroupsOf, WholeFitsAll, first_rounding, value, whole_sum_of_squares};
+ghost use Rattle.quadratic_form.specs.UpperSum.{top};
+ghost use Rattle.quadratic_form.specs.TwoLeast.{TwoLeast};
 ghost use Rattle.quadratic_form.specs.Rat.{whole, mul_r, ◌≤ʳ◌};
-ghost use Rattle.quadratic_form.specs.Claim.{Data, Baseline, FitsAllR, sum_of_squares_r, IsBest};
+ghost use Rattle.quadratic_form.specs.RationalData.{RowData, Baseline, FitsAll, sum_of_squares, IsBest};
 
 /// 64 times the sum of squares is at least 2^h times the value of the form that three steps leave,
 /// for all data in the boxes, over d, all whole numbers z and all baselines, over e.
 pub fn bound_law()
-    ensures { (d e : ℤ) (h : ℕ) (z : List ℤ) (b : Base) (gs : List Group) (ts : List (List Datum)) (p : List Factor × List Column) →
-        GroupsOf (len z) gs → FitsAll d gs ts → steps 0 3 (first_form h (length z) gs) ≡ Ok p →
-        (((d *ℤ e) *ℤ (d *ℤ e)) *ℤ (pos (2 ^ h) *ℤ value p.1 z)) ≤ℤ (pos 64 *ℤ sum_of_squares d e z b gs ts) }
+    ensures { (d e : ℤ) (h : ℕ) (z : List ℤ) (b : WholeBaseline) (gs : List Group) (ts : List (List WholeData)) (p : List Factor × List Column) →
+        GroupsOf (len z) gs → WholeFitsAll d gs ts → steps 0 3 (first_rounding h (length z) gs) ≡ Ok p →
+        (((d *ℤ e) *ℤ (d *ℤ e)) *ℤ (pos (2 ^ h) *ℤ value p.1 z)) ≤ℤ (pos 64 *ℤ whole_sum_of_squares d e z b gs ts) }
 {}
 
 /// The same over rationals.
 pub fn rational_bound_law()
-    ensures { (h : ℕ) (z : List ℤ) (b : Baseline) (gs : List Group) (qs : List (List Data)) (p : List Factor × List Column) →
-        GroupsOf (len z) gs → FitsAllR gs qs → steps 0 3 (first_form h (length z) gs) ≡ Ok p →
-        whole (pos (2 ^ h) *ℤ value p.1 z) ≤ʳ mul_r (whole (pos 64)) (sum_of_squares_r z b gs qs) }
+    ensures { (h : ℕ) (z : List ℤ) (b : Baseline) (gs : List Group) (qs : List (List RowData)) (p : List Factor × List Column) →
+        GroupsOf (len z) gs → FitsAll gs qs → steps 0 3 (first_rounding h (length z) gs) ≡ Ok p →
+        whole (pos (2 ^ h) *ℤ value p.1 z) ≤ʳ mul_r (whole (pos 64)) (sum_of_squares z b gs qs) }
 {}
 
 /// Where the second least value is large enough against the upper sum, the first is best for all data in the boxes.
 pub fn decision_law()
-    ensures { (h : ℕ) (ratio : ℤ) (z1 z2 : List ℤ) (m : Base) (gs : List Group) (p : List Factor × List Column) →
-        GroupsOf (len z1) gs → steps 0 3 (first_form h (length z1) gs) ≡ Ok p → TwoLeast p.1 (len z1) z1 z2 → pos 1000 ≤ℤ ratio →
+    ensures { (h : ℕ) (ratio : ℤ) (z1 z2 : List ℤ) (m : WholeBaseline) (gs : List Group) (p : List Factor × List Column) →
+        GroupsOf (len z1) gs → steps 0 3 (first_rounding h (length z1) gs) ≡ Ok p → TwoLeast p.1 (len z1) z1 z2 → pos 1000 ≤ℤ ratio →
         (pos 64 *ℤ (ratio *ℤ top h z1 m gs)) <ℤ (pos 1000 *ℤ value p.1 z2) → IsBest gs z1 m }
 {}

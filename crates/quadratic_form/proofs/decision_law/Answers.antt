@@ -1,4 +1,4 @@
-use Rattle.quadratic_form.proofs.Claim.{decided_best}
+use Rattle.quadratic_form.proofs.RationalData.{decided_best}
 use Rattle.quadratic_form.proofs.decision_law.Goals as goal
 
 pub returns : goal.returns

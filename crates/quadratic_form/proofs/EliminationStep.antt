@@ -5,12 +5,12 @@ use Rattle.whole_math.proofs.Ring.{ko, ◌⊕◌, ◌⊖◌, ◌⊗◌, ng}
 use Rattle.whole_math.proofs.Order.{lins, square_nn}
 use Rattle.whole_math.proofs.Rounding.{ceil_least}
 use Rattle.whole_math.specs.Rounding.{floor_div, ceil_div, nearest_div}
-use Rattle.quadratic_form.proofs.Certify.{le_by, both_nn, prod_nn, less_nn, pos_nn, weak, halve, nearest_close, ceil_close, floor_close, square_share, cancel, le_eq, same_by, nat}
+use Rattle.quadratic_form.proofs.Inequalities.{le_by, both_nn, prod_nn, less_nn, pos_nn, weak, halve, nearest_close, ceil_close, floor_close, square_share, cancel, le_eq, same_by, nat}
 use Rattle.quadratic_form.proofs.Spread.{len_nonneg, len_tail, len_apart, spread_nonneg}
 use Rattle.quadratic_form.proofs.Forms.{Close, Above, dominant, quad_plus, quad_times, quad_outer, sumsq_nonneg}
-use Rattle.quadratic_form.specs.Lists.{len, sum, sumsq, dot, scaled, added}
+use Rattle.quadratic_form.specs.Vectors.{len, sum, squared_norm, dot, scaled, added}
 use Rattle.quadratic_form.specs.Forms.{Column, Shaped, quad, plus, times, outer}
-use Rattle.quadratic_form.specs.Steps.{nearest_each, rounded, factors, kept, others_after, next}
+use Rattle.quadratic_form.specs.Elimination.{nearest_each, rounded, factors, kept, others_after, next}
 
 -- ---- the first rounding
 nearest_each_close : (m : ℕ) (r : List ℤ) → 0 < m → Close (pos m) r (scaled (pos m) (nearest_each m r))
@@ -30,7 +30,7 @@ rounded_above m n (c ∷ b) h = (own (pos m) c.own (floor_div c.own m) n (floor_
 pub rounded_below : (m : ℕ) (n : ℤ) (b : List Column) (x : List ℤ) → 0 < m → len b ≡ len x → len x ≤ℤ n →
     (pos m *ℤ quad (rounded m n b) x) ≤ℤ quad b x
 rounded_below m n b x h e k = rw (← quad_times (pos m) (rounded m n b) x)
-    (step (pos m) n (len x) (sumsq x) (quad b x) (quad (times (pos m) (rounded m n b)) x) (pos_nn m) (len_nonneg x) k (sumsq_nonneg x)
+    (step (pos m) n (len x) (squared_norm x) (quad b x) (quad (times (pos m) (rounded m n b)) x) (pos_nn m) (len_nonneg x) k (sumsq_nonneg x)
     (dominant (pos m) (pos 2 *ℤ (pos m *ℤ n)) b (times (pos m) (rounded m n b)) x (pos_nn m) (rounded_above m n b h) e))
   where
     step : (m n l t i j : ℤ) → pos 0 ≤ℤ m → pos 0 ≤ℤ l → l ≤ℤ n → pos 0 ≤ℤ t → ((pos 2 *ℤ (m *ℤ n) +ℤ m -ℤ m *ℤ l) *ℤ t) ≤ℤ (pos 2 *ℤ (i -ℤ j)) → j ≤ℤ i
@@ -60,13 +60,13 @@ misses_len a (y ∷ r) (x ∷ v) = step (len (misses a r v)) (len v) (misses_len
     step : (l n : ℤ) → l ≤ℤ n → (pos 1 +ℤ l) ≤ℤ (pos 1 +ℤ n)
     step l n h = omega (arith, lins)
 
-misses_sumsq : (a : ℕ) (r v : List ℤ) → 0 < a → (pos 4 *ℤ sumsq (misses a r v)) ≤ℤ (pos a *ℤ pos a *ℤ sumsq v)
-misses_sumsq a [] v h = step (pos a) (sumsq v) (sumsq_nonneg v)
+misses_sumsq : (a : ℕ) (r v : List ℤ) → 0 < a → (pos 4 *ℤ squared_norm (misses a r v)) ≤ℤ (pos a *ℤ pos a *ℤ squared_norm v)
+misses_sumsq a [] v h = step (pos a) (squared_norm v) (sumsq_nonneg v)
   where
     step : (a s : ℤ) → pos 0 ≤ℤ s → (pos 4 *ℤ pos 0) ≤ℤ (a *ℤ a *ℤ s)
     step a s h = le_by (a ∷ s ∷ []) (λ a s. (nat 4 ⊗ nat 0, a ⊗ a ⊗ s, a ⊗ a ⊗ s)) refl (prod_nn (square_nn a) h)
 misses_sumsq a (y ∷ r) [] h = le_by (pos a ∷ []) (λ a. (nat 4 ⊗ nat 0, a ⊗ a ⊗ nat 0, nat 0 ⊗ nat 0)) refl (square_nn (pos 0))
-misses_sumsq a (y ∷ r) (x ∷ v) h = step (pos a) (y *ℤ pos (2 ^ 30) -ℤ pos a *ℤ nearest_div (y *ℤ pos (2 ^ 30)) a) x (sumsq (misses a r v)) (sumsq v) b.0 (weak b.1) (misses_sumsq a r v h)
+misses_sumsq a (y ∷ r) (x ∷ v) h = step (pos a) (y *ℤ pos (2 ^ 30) -ℤ pos a *ℤ nearest_div (y *ℤ pos (2 ^ 30)) a) x (squared_norm (misses a r v)) (squared_norm v) b.0 (weak b.1) (misses_sumsq a r v h)
   where
     b : (neg_ℤ (pos a) ≤ℤ (pos 2 *ℤ (y *ℤ pos (2 ^ 30) -ℤ pos a *ℤ nearest_div (y *ℤ pos (2 ^ 30)) a))) × ((pos 2 *ℤ (y *ℤ pos (2 ^ 30) -ℤ pos a *ℤ nearest_div (y *ℤ pos (2 ^ 30)) a)) <ℤ pos a)
     b = nearest_close (y *ℤ pos (2 ^ 30)) a h
@@ -76,8 +76,8 @@ misses_sumsq a (y ∷ r) (x ∷ v) h = step (pos a) (y *ℤ pos (2 ^ 30) -ℤ po
 
 -- twice the error of the factors at v is at most √n a |v|
 pub factors_close : (a : ℕ) (r v : List ℤ) → 0 < a →
-    (pos 4 *ℤ ((pos a *ℤ dot (factors a r) v -ℤ pos (2 ^ 30) *ℤ dot r v) *ℤ (pos a *ℤ dot (factors a r) v -ℤ pos (2 ^ 30) *ℤ dot r v))) ≤ℤ (len v *ℤ (pos a *ℤ pos a *ℤ sumsq v))
-factors_close a r v h = step (pos a) (dot (factors a r) v) (dot r v) (len (misses a r v)) (len v) (sumsq (misses a r v)) (sum (misses a r v)) (sumsq v)
+    (pos 4 *ℤ ((pos a *ℤ dot (factors a r) v -ℤ pos (2 ^ 30) *ℤ dot r v) *ℤ (pos a *ℤ dot (factors a r) v -ℤ pos (2 ^ 30) *ℤ dot r v))) ≤ℤ (len v *ℤ (pos a *ℤ pos a *ℤ squared_norm v))
+factors_close a r v h = step (pos a) (dot (factors a r) v) (dot r v) (len (misses a r v)) (len v) (squared_norm (misses a r v)) (sum (misses a r v)) (squared_norm v)
     (misses_sum a r v) (len_nonneg (misses a r v)) (misses_len a r v) (sumsq_nonneg v) (misses_sumsq a r v h) (spread_nonneg (misses a r v))
   where
     step : (a l r i n q t s : ℤ) → t ≡ pos (2 ^ 30) *ℤ r -ℤ a *ℤ l → pos 0 ≤ℤ i → i ≤ℤ n → pos 0 ≤ℤ s → (pos 4 *ℤ q) ≤ℤ (a *ℤ a *ℤ s) → pos 0 ≤ℤ (i *ℤ q -ℤ t *ℤ t) →
@@ -91,13 +91,13 @@ others_close a p [] [] h e = tt
 others_close a p [] (z ∷ t) h e = absurd (len_apart (len t) (len_nonneg t) (sym e))
 others_close a p (y ∷ r) [] h e = absurd (len_apart (len r) (len_nonneg r) e)
 others_close a p (y ∷ r) (z ∷ t) h e =
-    (low (pos a) (p *ℤ y) (nearest_div (p *ℤ y) a) z b.1, high (pos a) (p *ℤ y) (nearest_div (p *ℤ y) a) z b.0, others_close a p r t h (len_tail (len t) (len r) e))
+    (lower_sum (pos a) (p *ℤ y) (nearest_div (p *ℤ y) a) z b.1, high (pos a) (p *ℤ y) (nearest_div (p *ℤ y) a) z b.0, others_close a p r t h (len_tail (len t) (len r) e))
   where
     b : (neg_ℤ (pos a) ≤ℤ (pos 2 *ℤ (p *ℤ y -ℤ pos a *ℤ nearest_div (p *ℤ y) a))) × ((pos 2 *ℤ (p *ℤ y -ℤ pos a *ℤ nearest_div (p *ℤ y) a)) <ℤ pos a)
     b = nearest_close (p *ℤ y) a h
 
-    low : (a w q z : ℤ) → (pos 2 *ℤ (w -ℤ a *ℤ q)) <ℤ a → neg_ℤ a ≤ℤ (pos 2 *ℤ (a *ℤ z +ℤ negsuc 0 *ℤ w -ℤ a *ℤ (z -ℤ q)))
-    low a w q z h = le_by (a ∷ z ∷ w ∷ q ∷ []) (λ a z w q. (ng a, nat 2 ⊗ (a ⊗ z ⊕ ko (negsuc 0) ⊗ w ⊖ a ⊗ (z ⊖ q)), a ⊖ nat 2 ⊗ (w ⊖ a ⊗ q))) refl (less_nn (weak h))
+    lower_sum : (a w q z : ℤ) → (pos 2 *ℤ (w -ℤ a *ℤ q)) <ℤ a → neg_ℤ a ≤ℤ (pos 2 *ℤ (a *ℤ z +ℤ negsuc 0 *ℤ w -ℤ a *ℤ (z -ℤ q)))
+    lower_sum a w q z h = le_by (a ∷ z ∷ w ∷ q ∷ []) (λ a z w q. (ng a, nat 2 ⊗ (a ⊗ z ⊕ ko (negsuc 0) ⊗ w ⊖ a ⊗ (z ⊖ q)), a ⊖ nat 2 ⊗ (w ⊖ a ⊗ q))) refl (less_nn (weak h))
 
     high : (a w q z : ℤ) → neg_ℤ a ≤ℤ (pos 2 *ℤ (w -ℤ a *ℤ q)) → (pos 2 *ℤ (a *ℤ z +ℤ negsuc 0 *ℤ w -ℤ a *ℤ (z -ℤ q))) ≤ℤ a
     high a w q z h = le_by (a ∷ z ∷ w ∷ q ∷ []) (λ a z w q. (nat 2 ⊗ (a ⊗ z ⊕ ko (negsuc 0) ⊗ w ⊖ a ⊗ (z ⊖ q)), a, nat 2 ⊗ (w ⊖ a ⊗ q) ⊖ ng a)) refl (less_nn h)
@@ -118,8 +118,8 @@ next_above a n (p ∷ r) (c ∷ m) h e k = (
 
 -- a quad(M) - (r·v)² ≥ a quad(M') + a G |v|²
 pub next_below : (a : ℕ) (n : ℤ) (r : List ℤ) (m : List Column) (v : List ℤ) → 0 < a → len r ≡ len m → Shaped m → len m ≡ len v → len v ≤ℤ n →
-    (dot r v *ℤ dot r v +ℤ pos a *ℤ quad (next a n r m) v +ℤ pos a *ℤ ceil_div (n *ℤ pos a) (2 ^ 42) *ℤ sumsq v) ≤ℤ (pos a *ℤ quad m v)
-next_below a n r m v h e k f i = step (pos a) n (ceil_div (n *ℤ pos a) (2 ^ 42)) (len v) (sumsq v) (quad m v) (dot r v) (quad (next a n r m) v)
+    (dot r v *ℤ dot r v +ℤ pos a *ℤ quad (next a n r m) v +ℤ pos a *ℤ ceil_div (n *ℤ pos a) (2 ^ 42) *ℤ squared_norm v) ≤ℤ (pos a *ℤ quad m v)
+next_below a n r m v h e k f i = step (pos a) n (ceil_div (n *ℤ pos a) (2 ^ 42)) (len v) (squared_norm v) (quad m v) (dot r v) (quad (next a n r m) v)
     (quad (plus (times (pos a) m) (times (negsuc 0) (outer r))) v) (quad (times (pos a) (next a n r m)) v)
     left (quad_times (pos a) (next a n r m) v) (pos_nn a) (len_nonneg v) i (sumsq_nonneg v)
     (dominant (pos a) (pos 2 *ℤ (pos a *ℤ n +ℤ pos a *ℤ ceil_div (n *ℤ pos a) (2 ^ 42))) (plus (times (pos a) m) (times (negsuc 0) (outer r))) (times (pos a) (next a n r m)) v
@@ -148,10 +148,10 @@ step_below a r m x v h e k f =
     let g : ℤ = ceil_div (len r *ℤ pos a) (2 ^ 42) in
     let c : ℤ = ceil_div (pos a) (2 ^ 20) in
     let i : len v ≡ len r = sym f ∙ sym e in
-    step a x (dot r v) (dot (factors a r) v) (quad m v) (quad (next a (len r) r m) v) g (sumsq v) (len r) c h
+    step a x (dot r v) (dot (factors a r) v) (quad m v) (quad (next a (len r) r m) v) g (squared_norm v) (len r) c h
     (sumsq_nonneg v)
     (next_below a (len r) r m v h e k f (le_eq i))
-    (subst (λ (z : ℤ). (pos 4 *ℤ ((pos a *ℤ dot (factors a r) v -ℤ pos (2 ^ 30) *ℤ dot r v) *ℤ (pos a *ℤ dot (factors a r) v -ℤ pos (2 ^ 30) *ℤ dot r v))) ≤ℤ (z *ℤ (pos a *ℤ pos a *ℤ sumsq v))) i (factors_close a r v h))
+    (subst (λ (z : ℤ). (pos 4 *ℤ ((pos a *ℤ dot (factors a r) v -ℤ pos (2 ^ 30) *ℤ dot r v) *ℤ (pos a *ℤ dot (factors a r) v -ℤ pos (2 ^ 30) *ℤ dot r v))) ≤ℤ (z *ℤ (pos a *ℤ pos a *ℤ squared_norm v))) i (factors_close a r v h))
     (ceil_close (len r *ℤ pos a) (2 ^ 42) (omega arith))
     (square_share a c (pos (2 ^ 20)) (pos (2 ^ 30) *ℤ (pos a *ℤ x +ℤ dot r v)) (pos a *ℤ dot (factors a r) v -ℤ pos (2 ^ 30) *ℤ dot r v)
     (share_pos a h) (share_le a) (ceil_close (pos a) (2 ^ 20) (omega arith)))

@@ -3,10 +3,10 @@ use Rattle.std.proofs.Common.{◌≡◌, ◌⊎◌, inl, inr, ⊎_elim, List, []
 use Rattle.std.proofs.lemmas.Int.{by_lt_z}
 use Rattle.whole_math.proofs.Order.{lins}
 use Rattle.quadratic_form.proofs.Spread.{len_nonneg, len_tail, len_apart}
-use Rattle.quadratic_form.specs.Lists.{len}
+use Rattle.quadratic_form.specs.Vectors.{len}
 use Rattle.quadratic_form.specs.Forms.{Column}
-use Rattle.quadratic_form.specs.Data.{value}
-use Rattle.quadratic_form.specs.Decide.{Before, Less, TwoLeast}
+use Rattle.quadratic_form.specs.Rows.{value}
+use Rattle.quadratic_form.specs.TwoLeast.{Before, Less, TwoLeast}
 
 never : (a : ℤ) → a <ℤ a → ⊥
 never a h = omega (arith, lins)
@@ -65,22 +65,22 @@ first_less p n z1 z2 v t e d = ⊎_elim (λ (i : v ≡ z2). subst (λ (s : List 
     decide v w e = ⊎_elim (λ (i : v ≡ w). inl i) (λ (q : Before v w ⊎ Before w v). inr (λ (i : v ≡ w). before_never w (⊎_elim (λ (r : Before v w). subst (λ (s : List ℤ). Before s w) i r) (λ (r : Before w v). subst (λ (s : List ℤ). Before w s) i r) q))) (before_total v w e)
 
 pub first_unique : (p : List Column) (n : ℤ) (z1 z2 w1 w2 : List ℤ) → TwoLeast p n z1 z2 → TwoLeast p n w1 w2 → z1 ≡ w1
-first_unique p n z1 z2 w1 w2 t u = ⊎_elim (λ (i : z1 ≡ w1). i) (λ (q : Less p z1 w1 ⊎ Less p w1 z1). absurd (both (apart q))) (less_total p z1 w1 (t.first ∙ sym u.first))
+first_unique p n z1 z2 w1 w2 t u = ⊎_elim (λ (i : z1 ≡ w1). i) (λ (q : Less p z1 w1 ⊎ Less p w1 z1). absurd (both (distances_from q))) (less_total p z1 w1 (t.first ∙ sym u.first))
   where
-    apart : Less p z1 w1 ⊎ Less p w1 z1 → z1 ≡ w1 → ⊥
-    apart q i = ⊎_elim (λ (r : Less p z1 w1). less_never p w1 (subst (λ (s : List ℤ). Less p s w1) i r)) (λ (r : Less p w1 z1). less_never p w1 (subst (λ (s : List ℤ). Less p w1 s) i r)) q
+    distances_from : Less p z1 w1 ⊎ Less p w1 z1 → z1 ≡ w1 → ⊥
+    distances_from q i = ⊎_elim (λ (r : Less p z1 w1). less_never p w1 (subst (λ (s : List ℤ). Less p s w1) i r)) (λ (r : Less p w1 z1). less_never p w1 (subst (λ (s : List ℤ). Less p w1 s) i r)) q
 
     both : (z1 ≡ w1 → ⊥) → ⊥
     both d = less_never p z1 (less_chain p z1 w1 z1 (first_less p n z1 z2 w1 t u.first (λ (i : w1 ≡ z1). d (sym i))) (first_less p n w1 w2 z1 u t.first d))
 
 pub second_unique : (p : List Column) (n : ℤ) (z1 z2 w1 w2 : List ℤ) → TwoLeast p n z1 z2 → TwoLeast p n w1 w2 → z2 ≡ w2
-second_unique p n z1 z2 w1 w2 t u = ⊎_elim (λ (i : z2 ≡ w2). i) (λ (q : Less p z2 w2 ⊎ Less p w2 z2). absurd (both (apart q))) (less_total p z2 w2 (t.second ∙ sym u.second))
+second_unique p n z1 z2 w1 w2 t u = ⊎_elim (λ (i : z2 ≡ w2). i) (λ (q : Less p z2 w2 ⊎ Less p w2 z2). absurd (both (distances_from q))) (less_total p z2 w2 (t.second ∙ sym u.second))
   where
     f : z1 ≡ w1
     f = first_unique p n z1 z2 w1 w2 t u
 
-    apart : Less p z2 w2 ⊎ Less p w2 z2 → z2 ≡ w2 → ⊥
-    apart q i = ⊎_elim (λ (r : Less p z2 w2). less_never p w2 (subst (λ (s : List ℤ). Less p s w2) i r)) (λ (r : Less p w2 z2). less_never p w2 (subst (λ (s : List ℤ). Less p w2 s) i r)) q
+    distances_from : Less p z2 w2 ⊎ Less p w2 z2 → z2 ≡ w2 → ⊥
+    distances_from q i = ⊎_elim (λ (r : Less p z2 w2). less_never p w2 (subst (λ (s : List ℤ). Less p s w2) i r)) (λ (r : Less p w2 z2). less_never p w2 (subst (λ (s : List ℤ). Less p w2 s) i r)) q
 
     both : (z2 ≡ w2 → ⊥) → ⊥
     both d = less_never p z2 (less_chain p z2 w2 z2

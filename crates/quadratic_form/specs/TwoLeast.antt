@@ -1,8 +1,8 @@
 -- The order of integer vectors by the value of a form, and the two least of all.
 use Rattle.std.specs.Prelude.{◌≡◌, ◌⊎◌, List, [], ◌∷◌, ℤ, ◌<ℤ◌}
-use Rattle.quadratic_form.specs.Lists.{len}
+use Rattle.quadratic_form.specs.Vectors.{len}
 use Rattle.quadratic_form.specs.Forms.{Column}
-use Rattle.quadratic_form.specs.Data.{value}
+use Rattle.quadratic_form.specs.Rows.{value}
 
 -- at the first place where the two differ, the first is the less
 abbrev pub Before : List ℤ → List ℤ → Type 0

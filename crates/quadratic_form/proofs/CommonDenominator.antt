@@ -2,10 +2,10 @@
 use Rattle.std.proofs.Common.{◌≡◌, ℕ, ◌*◌, ◌<◌, [], ◌∷◌, ℤ, pos, ◌+ℤ◌, ◌-ℤ◌, ◌*ℤ◌, neg_ℤ, ◌≤ℤ◌, ◌<ℤ◌, mul-pos, sym, ap, ap₂, ◌∙◌, refl}
 use Rattle.whole_math.proofs.Ring.{◌⊕◌, ◌⊖◌, ◌⊗◌, ng}
 use Rattle.whole_math.proofs.Order.{mul_le_cancel, mul_lt_cancel}
-use Rattle.quadratic_form.proofs.Certify.{le_by, both_nn, prod_nn, less_nn, pos_nn, le_eq, pos_one, one_nn, later, strict, same_by, nat}
+use Rattle.quadratic_form.proofs.Inequalities.{le_by, both_nn, prod_nn, less_nn, pos_nn, le_eq, pos_one, one_nn, later, strict, same_by, nat}
 use Rattle.quadratic_form.specs.Rat.{Rat, ◌≤ʳ◌, ◌<ʳ◌, whole, add_r, sub_r, mul_r}
-use Rattle.quadratic_form.specs.Data.{Within}
-use Rattle.quadratic_form.specs.Claim.{Near}
+use Rattle.quadratic_form.specs.Rows.{Within}
+use Rattle.quadratic_form.specs.RationalData.{Near}
 
 -- q is n / k
 abbrev pub Over : ℤ → ℤ → Rat → Type 0

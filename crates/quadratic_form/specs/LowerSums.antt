@@ -1,19 +1,19 @@
 -- The lower sums of the search over integer vectors.
 use Rattle.std.specs.Prelude.{◌≡◌, ◌⊎◌, ◌^◌, List, [], ◌∷◌, ◌++◌, ℤ, pos, ◌+ℤ◌, ◌*ℤ◌, neg_ℤ, ◌≤ℤ◌, ◌<ℤ◌}
-use Rattle.quadratic_form.specs.Lists.{dot}
+use Rattle.quadratic_form.specs.Vectors.{dot}
 use Rattle.quadratic_form.specs.Forms.{Column}
-use Rattle.quadratic_form.specs.Steps.{Factor}
-use Rattle.quadratic_form.specs.Decide.{Less}
+use Rattle.quadratic_form.specs.Elimination.{Factor}
+use Rattle.quadratic_form.specs.TwoLeast.{Less}
 
 -- 2^30 times the distance of x from the centre that the later entries give
 abbrev pub offset : Factor → ℤ → List ℤ → ℤ
 offset f x s = pos (2 ^ 30) *ℤ x +ℤ dot f.l (s ++ (pos 1 ∷ []))
 
 -- the lower sum of the entries s, which belong to these factors, over the last entry g
-abbrev pub low : ℤ → List Factor → List ℤ → ℤ
-low g [] s = pos (2 ^ 60) *ℤ g
-low g (f ∷ fs) [] = pos (2 ^ 60) *ℤ g
-low g (f ∷ fs) (x ∷ s) = low g fs s +ℤ f.d *ℤ (offset f x s *ℤ offset f x s)
+abbrev pub lower_sum : ℤ → List Factor → List ℤ → ℤ
+lower_sum g [] s = pos (2 ^ 60) *ℤ g
+lower_sum g (f ∷ fs) [] = pos (2 ^ 60) *ℤ g
+lower_sum g (f ∷ fs) (x ∷ s) = lower_sum g fs s +ℤ f.d *ℤ (offset f x s *ℤ offset f x s)
 
 abbrev pub AllNonneg : List Factor → Type 0
 AllNonneg [] = Unit {0}

@@ -1,46 +1,46 @@
 -- The claim over rationals, from the one over whole numbers.
 use Rattle.std.proofs.Common.{◌≡◌, ℕ, ◌*◌, ◌<◌, ◌^◌, List, [], ◌∷◌, length, ℤ, pos, ◌+ℤ◌, ◌*ℤ◌, ◌≤ℤ◌, ◌<ℤ◌, Ok, mul-pos, pow_pos, arith, ap, refl, subst}
 use Rattle.whole_math.proofs.Ring.{◌⊕◌, ◌⊖◌, ◌⊗◌}
-use Rattle.quadratic_form.proofs.Certify.{le_by, prod_nn, less_nn, pos_nn, pos_one, later, strict, same_by, nat}
+use Rattle.quadratic_form.proofs.Inequalities.{le_by, prod_nn, less_nn, pos_nn, pos_one, later, strict, same_by, nat}
 use Rattle.quadratic_form.proofs.Bound.{bound}
-use Rattle.quadratic_form.proofs.Decide.{decided}
-use Rattle.quadratic_form.proofs.Over.{Over, over_whole, over_zero, over_add, over_sub, over_mul, over_times, over_wide, over_le, over_lt, over_box}
-use Rattle.quadratic_form.specs.Lists.{len, sum, sumsq, dot, spread}
+use Rattle.quadratic_form.proofs.Decision.{decided}
+use Rattle.quadratic_form.proofs.CommonDenominator.{Over, over_whole, over_zero, over_add, over_sub, over_mul, over_times, over_wide, over_le, over_lt, over_box}
+use Rattle.quadratic_form.specs.Vectors.{len, sum, squared_norm, dot, spread}
 use Rattle.quadratic_form.specs.Forms.{Column}
-use Rattle.quadratic_form.specs.Steps.{Factor, steps}
-use Rattle.quadratic_form.specs.Data.{Row, Datum, Base, Group, Fits, FitsAll, residual, residuals, share, sum_of_squares, GroupsOf, first_form, value}
-use Rattle.quadratic_form.specs.Upper.{top}
-use Rattle.quadratic_form.specs.Decide.{TwoLeast}
+use Rattle.quadratic_form.specs.Elimination.{Factor, steps}
+use Rattle.quadratic_form.specs.Rows.{Row, WholeData, WholeBaseline, Group, WholeFits, WholeFitsAll, whole_residual, whole_residuals, share, whole_sum_of_squares, GroupsOf, first_rounding, value}
+use Rattle.quadratic_form.specs.UpperSum.{top}
+use Rattle.quadratic_form.specs.TwoLeast.{TwoLeast}
 use Rattle.quadratic_form.specs.Rat.{Rat, ◌≤ʳ◌, ◌<ʳ◌, whole, add_r, sub_r, mul_r}
-use Rattle.quadratic_form.specs.Claim.{Data, Baseline, FitsR, FitsAllR, residual_r, residuals_r, sum_r, sumsq_r, spread_r, sum_of_squares_r, moved, IsBest}
+use Rattle.quadratic_form.specs.RationalData.{RowData, Baseline, Fits, FitsAll, residual, residuals, sum_of_rationals, squared_norm_of_rationals, spread_of_rationals, sum_of_squares, moved, IsBest}
 
 -- ---- data and baseline over one denominator
-pub record OverDatum (d : ℤ) (t : Datum) (q : Data) : Type 0 where
+pub record OverDatum (d : ℤ) (t : WholeData) (q : RowData) : Type 0 where
   pub u1 : Over d t.u1 q.u1
   pub u2 : Over d t.u2 q.u2
   pub u3 : Over d t.u3 q.u3
   pub y : Over d t.y q.y
 
-pub record OverBase (e : ℤ) (c : Base) (b : Baseline) : Type 0 where
+pub record OverBase (e : ℤ) (c : WholeBaseline) (b : Baseline) : Type 0 where
   pub b1 : Over e c.b1 b.b1
   pub b2 : Over e c.b2 b.b2
   pub b3 : Over e c.b3 b.b3
 
-abbrev pub OverRows : ℤ → List Datum → List Data → Type 0
+abbrev pub OverRows : ℤ → List WholeData → List RowData → Type 0
 OverRows d [] [] = Unit {0}
 OverRows d [] (q ∷ qs) = ⊥
 OverRows d (t ∷ ts) [] = ⊥
 OverRows d (t ∷ ts) (q ∷ qs) = OverDatum d t q × OverRows d ts qs
 
-abbrev pub OverAll : ℤ → List (List Datum) → List (List Data) → Type 0
+abbrev pub OverAll : ℤ → List (List WholeData) → List (List RowData) → Type 0
 OverAll d [] [] = Unit {0}
 OverAll d [] (q ∷ qs) = ⊥
 OverAll d (t ∷ ts) [] = ⊥
 OverAll d (t ∷ ts) (q ∷ qs) = OverRows d t q × OverAll d ts qs
 
 -- ---- F over one denominator
-residual_over : (d e : ℤ) (z : List ℤ) (c : Base) (b : Baseline) (r : Row) (t : Datum) (q : Data) → OverDatum d t q → OverBase e c b →
-    Over (d *ℤ e) (residual d e z c r t) (residual_r z b r q)
+residual_over : (d e : ℤ) (z : List ℤ) (c : WholeBaseline) (b : Baseline) (r : Row) (t : WholeData) (q : RowData) → OverDatum d t q → OverBase e c b →
+    Over (d *ℤ e) (whole_residual d e z c r t) (residual z b r q)
 residual_over d e z c b r t q h k =
     over_add (d *ℤ e) _ _ (sub_r q.y s) (whole (dot r.cycles z)) (over_sub (d *ℤ e) _ _ q.y s (over_wide d e t.y q.y h.y)
     (over_add (d *ℤ e) _ _ (mul_r q.u1 b.b1) (add_r (mul_r q.u2 b.b2) (mul_r q.u3 b.b3)) (over_mul d e _ _ q.u1 b.b1 h.u1 k.b1)
@@ -57,8 +57,8 @@ OverList k [] (q ∷ s) = ⊥
 OverList k (n ∷ t) [] = ⊥
 OverList k (n ∷ t) (q ∷ s) = Over k n q × OverList k t s
 
-residuals_over : (d e : ℤ) (z : List ℤ) (c : Base) (b : Baseline) (rs : List Row) (ts : List Datum) (qs : List Data) → OverRows d ts qs → OverBase e c b →
-    OverList (d *ℤ e) (residuals d e z c rs ts) (residuals_r z b rs qs)
+residuals_over : (d e : ℤ) (z : List ℤ) (c : WholeBaseline) (b : Baseline) (rs : List Row) (ts : List WholeData) (qs : List RowData) → OverRows d ts qs → OverBase e c b →
+    OverList (d *ℤ e) (whole_residuals d e z c rs ts) (residuals z b rs qs)
 residuals_over d e z c b [] ts qs h k = tt
 residuals_over d e z c b (r ∷ rs) [] [] h k = tt
 residuals_over d e z c b (r ∷ rs) [] (q ∷ qs) h k = absurd h
@@ -71,80 +71,80 @@ list_len k [] (q ∷ s) h = absurd h
 list_len k (n ∷ t) [] h = absurd h
 list_len k (n ∷ t) (q ∷ s) h = ap (λ m. pos 1 +ℤ m) (list_len k t s h.1)
 
-sum_over : (k : ℤ) (t : List ℤ) (s : List Rat) → OverList k t s → Over k (sum t) (sum_r s)
+sum_over : (k : ℤ) (t : List ℤ) (s : List Rat) → OverList k t s → Over k (sum t) (sum_of_rationals s)
 sum_over k [] [] h = over_zero k
 sum_over k [] (q ∷ s) h = absurd h
 sum_over k (n ∷ t) [] h = absurd h
-sum_over k (n ∷ t) (q ∷ s) h = over_add k n (sum t) q (sum_r s) h.0 (sum_over k t s h.1)
+sum_over k (n ∷ t) (q ∷ s) h = over_add k n (sum t) q (sum_of_rationals s) h.0 (sum_over k t s h.1)
 
-sumsq_over : (k : ℤ) (t : List ℤ) (s : List Rat) → OverList k t s → Over (k *ℤ k) (sumsq t) (sumsq_r s)
+sumsq_over : (k : ℤ) (t : List ℤ) (s : List Rat) → OverList k t s → Over (k *ℤ k) (squared_norm t) (squared_norm_of_rationals s)
 sumsq_over k [] [] h = over_zero (k *ℤ k)
 sumsq_over k [] (q ∷ s) h = absurd h
 sumsq_over k (n ∷ t) [] h = absurd h
-sumsq_over k (n ∷ t) (q ∷ s) h = over_add (k *ℤ k) (n *ℤ n) (sumsq t) (mul_r q q) (sumsq_r s) (over_mul k k n n q q h.0 h.0) (sumsq_over k t s h.1)
+sumsq_over k (n ∷ t) (q ∷ s) h = over_add (k *ℤ k) (n *ℤ n) (squared_norm t) (mul_r q q) (squared_norm_of_rationals s) (over_mul k k n n q q h.0 h.0) (sumsq_over k t s h.1)
 
-spread_over : (k : ℤ) (t : List ℤ) (s : List Rat) → OverList k t s → Over (k *ℤ k) (spread t) (spread_r s)
-spread_over k t s h = over_sub (k *ℤ k) (len t *ℤ sumsq t) (sum t *ℤ sum t) (mul_r (whole (len s)) (sumsq_r s)) (mul_r (sum_r s) (sum_r s))
-    (subst (λ (n : ℤ). Over (k *ℤ k) (len t *ℤ sumsq t) (mul_r (whole n) (sumsq_r s))) (list_len k t s h) (over_times (k *ℤ k) (len t) (sumsq t) (sumsq_r s) (sumsq_over k t s h)))
-    (over_mul k k (sum t) (sum t) (sum_r s) (sum_r s) (sum_over k t s h) (sum_over k t s h))
+spread_over : (k : ℤ) (t : List ℤ) (s : List Rat) → OverList k t s → Over (k *ℤ k) (spread t) (spread_of_rationals s)
+spread_over k t s h = over_sub (k *ℤ k) (len t *ℤ squared_norm t) (sum t *ℤ sum t) (mul_r (whole (len s)) (squared_norm_of_rationals s)) (mul_r (sum_of_rationals s) (sum_of_rationals s))
+    (subst (λ (n : ℤ). Over (k *ℤ k) (len t *ℤ squared_norm t) (mul_r (whole n) (squared_norm_of_rationals s))) (list_len k t s h) (over_times (k *ℤ k) (len t) (squared_norm t) (squared_norm_of_rationals s) (sumsq_over k t s h)))
+    (over_mul k k (sum t) (sum t) (sum_of_rationals s) (sum_of_rationals s) (sum_over k t s h) (sum_over k t s h))
 
-pub F_over : (d e : ℤ) (z : List ℤ) (c : Base) (b : Baseline) (gs : List Group) (ts : List (List Datum)) (qs : List (List Data)) → OverAll d ts qs → OverBase e c b →
-    Over ((d *ℤ e) *ℤ (d *ℤ e)) (sum_of_squares d e z c gs ts) (sum_of_squares_r z b gs qs)
+pub F_over : (d e : ℤ) (z : List ℤ) (c : WholeBaseline) (b : Baseline) (gs : List Group) (ts : List (List WholeData)) (qs : List (List RowData)) → OverAll d ts qs → OverBase e c b →
+    Over ((d *ℤ e) *ℤ (d *ℤ e)) (whole_sum_of_squares d e z c gs ts) (sum_of_squares z b gs qs)
 F_over d e z c b [] ts qs h k = over_zero ((d *ℤ e) *ℤ (d *ℤ e))
 F_over d e z c b (g ∷ gs) [] [] h k = over_zero ((d *ℤ e) *ℤ (d *ℤ e))
 F_over d e z c b (g ∷ gs) [] (q ∷ qs) h k = absurd h
 F_over d e z c b (g ∷ gs) (t ∷ ts) [] h k = absurd h
-F_over d e z c b (g ∷ gs) (t ∷ ts) (q ∷ qs) h k = over_add ((d *ℤ e) *ℤ (d *ℤ e)) _ _ (mul_r (whole (share g)) (spread_r (residuals_r z b g.rows q))) (sum_of_squares_r z b gs qs)
-    (over_times ((d *ℤ e) *ℤ (d *ℤ e)) (share g) (spread (residuals d e z c g.rows t)) (spread_r (residuals_r z b g.rows q))
-    (spread_over (d *ℤ e) (residuals d e z c g.rows t) (residuals_r z b g.rows q) (residuals_over d e z c b g.rows t q h.0 k)))
+F_over d e z c b (g ∷ gs) (t ∷ ts) (q ∷ qs) h k = over_add ((d *ℤ e) *ℤ (d *ℤ e)) _ _ (mul_r (whole (share g)) (spread_of_rationals (residuals z b g.rows q))) (sum_of_squares z b gs qs)
+    (over_times ((d *ℤ e) *ℤ (d *ℤ e)) (share g) (spread (whole_residuals d e z c g.rows t)) (spread_of_rationals (residuals z b g.rows q))
+    (spread_over (d *ℤ e) (whole_residuals d e z c g.rows t) (residuals z b g.rows q) (residuals_over d e z c b g.rows t q h.0 k)))
     (F_over d e z c b gs ts qs h.1 k)
 
 -- ---- a common denominator
-record CommonDatum (q : Data) : Type 0 where
+record CommonDatum (q : RowData) : Type 0 where
   d : ℕ
   positive : 0 < d
-  over : Datum
+  over : WholeData
   is : OverDatum (pos d) over q
 
-record CommonRows (qs : List Data) : Type 0 where
+record CommonRows (qs : List RowData) : Type 0 where
   d : ℕ
   positive : 0 < d
-  over : List Datum
+  over : List WholeData
   is : OverRows (pos d) over qs
 
-record CommonAll (qs : List (List Data)) : Type 0 where
+record CommonAll (qs : List (List RowData)) : Type 0 where
   d : ℕ
   positive : 0 < d
-  over : List (List Datum)
+  over : List (List WholeData)
   is : OverAll (pos d) over qs
 
 record CommonBase (b : Baseline) : Type 0 where
   d : ℕ
   positive : 0 < d
-  over : Base
+  over : WholeBaseline
   is : OverBase (pos d) over b
 
-abbrev wide : ℤ → Datum → Datum
+abbrev wide : ℤ → WholeData → WholeData
 wide k t = record { u1 = t.u1 *ℤ k; u2 = t.u2 *ℤ k; u3 = t.u3 *ℤ k; y = t.y *ℤ k }
 
-abbrev wide_rows : ℤ → List Datum → List Datum
+abbrev wide_rows : ℤ → List WholeData → List WholeData
 wide_rows k [] = []
 wide_rows k (t ∷ ts) = wide k t ∷ wide_rows k ts
 
-abbrev wide_all : ℤ → List (List Datum) → List (List Datum)
+abbrev wide_all : ℤ → List (List WholeData) → List (List WholeData)
 wide_all k [] = []
 wide_all k (t ∷ ts) = wide_rows k t ∷ wide_all k ts
 
-wide_is : (j k : ℤ) (t : Datum) (q : Data) → OverDatum j t q → OverDatum (j *ℤ k) (wide k t) q
+wide_is : (j k : ℤ) (t : WholeData) (q : RowData) → OverDatum j t q → OverDatum (j *ℤ k) (wide k t) q
 wide_is j k t q h = record { u1 = over_wide j k t.u1 q.u1 h.u1; u2 = over_wide j k t.u2 q.u2 h.u2; u3 = over_wide j k t.u3 q.u3 h.u3; y = over_wide j k t.y q.y h.y }
 
-wide_rows_is : (j k : ℤ) (ts : List Datum) (qs : List Data) → OverRows j ts qs → OverRows (j *ℤ k) (wide_rows k ts) qs
+wide_rows_is : (j k : ℤ) (ts : List WholeData) (qs : List RowData) → OverRows j ts qs → OverRows (j *ℤ k) (wide_rows k ts) qs
 wide_rows_is j k [] [] h = tt
 wide_rows_is j k [] (q ∷ qs) h = absurd h
 wide_rows_is j k (t ∷ ts) [] h = absurd h
 wide_rows_is j k (t ∷ ts) (q ∷ qs) h = (wide_is j k t q h.0, wide_rows_is j k ts qs h.1)
 
-wide_all_is : (j k : ℤ) (ts : List (List Datum)) (qs : List (List Data)) → OverAll j ts qs → OverAll (j *ℤ k) (wide_all k ts) qs
+wide_all_is : (j k : ℤ) (ts : List (List WholeData)) (qs : List (List RowData)) → OverAll j ts qs → OverAll (j *ℤ k) (wide_all k ts) qs
 wide_all_is j k [] [] h = tt
 wide_all_is j k [] (q ∷ qs) h = absurd h
 wide_all_is j k (t ∷ ts) [] h = absurd h
@@ -153,7 +153,7 @@ wide_all_is j k (t ∷ ts) (q ∷ qs) h = (wide_rows_is j k t q h.0, wide_all_is
 swap : (j k : ℕ) → pos j *ℤ pos k ≡ pos k *ℤ pos j
 swap j k = same_by (pos j ∷ pos k ∷ []) (λ j k. (j ⊗ k, k ⊗ j)) refl
 
-common_datum : (q : Data) → CommonDatum q
+common_datum : (q : RowData) → CommonDatum q
 common_datum q = record {
   d = (q.u1.den * q.u2.den) * (q.u3.den * q.y.den);
   positive = mul-pos (mul-pos q.u1.positive q.u2.positive) (mul-pos q.u3.positive q.y.positive);
@@ -183,7 +183,7 @@ common_datum q = record {
     last : (n a b c e : ℤ) → n *ℤ (a *ℤ b *ℤ (c *ℤ e)) ≡ n *ℤ (a *ℤ (b *ℤ c)) *ℤ e
     last n a b c e = same_by (n ∷ a ∷ b ∷ c ∷ e ∷ []) (λ n a b c e. (n ⊗ (a ⊗ b ⊗ (c ⊗ e)), n ⊗ (a ⊗ (b ⊗ c)) ⊗ e)) refl
 
-common_rows : (qs : List Data) → CommonRows qs
+common_rows : (qs : List RowData) → CommonRows qs
 common_rows [] = record { d = 1; positive = omega arith; over = []; is = tt }
 common_rows (q ∷ qs) =
     let h : CommonDatum q = common_datum q in
@@ -195,7 +195,7 @@ common_rows (q ∷ qs) =
       is = (wide_is (pos h.d) (pos k.d) h.over q h.is, subst (λ (n : ℤ). OverRows n (wide_rows (pos h.d) k.over) qs) (swap k.d h.d) (wide_rows_is (pos k.d) (pos h.d) k.over qs k.is));
     }
 
-common : (qs : List (List Data)) → CommonAll qs
+common : (qs : List (List RowData)) → CommonAll qs
 common [] = record { d = 1; positive = omega arith; over = []; is = tt }
 common (q ∷ qs) =
     let h : CommonRows q = common_rows q in
@@ -224,7 +224,7 @@ common_base b = record {
     three : (n a b c : ℤ) → n *ℤ (a *ℤ (b *ℤ c)) ≡ n *ℤ (a *ℤ b) *ℤ c
     three n a b c = same_by (n ∷ a ∷ b ∷ c ∷ []) (λ n a b c. (n ⊗ (a ⊗ (b ⊗ c)), n ⊗ (a ⊗ b) ⊗ c)) refl
 
-fits_over : (d : ℤ) (rs : List Row) (ts : List Datum) (qs : List Data) → pos 0 ≤ℤ d → OverRows d ts qs → FitsR rs qs → Fits d rs ts
+fits_over : (d : ℤ) (rs : List Row) (ts : List WholeData) (qs : List RowData) → pos 0 ≤ℤ d → OverRows d ts qs → Fits rs qs → WholeFits d rs ts
 fits_over d [] [] qs i h f = tt
 fits_over d [] (t ∷ ts) [] i h f = absurd h
 fits_over d [] (t ∷ ts) (q ∷ qs) i h f = absurd f
@@ -236,7 +236,7 @@ fits_over d (r ∷ rs) (t ∷ ts) (q ∷ qs) i h f = (
   fits_over d rs ts qs i h.1 f.1,
 )
 
-fits_all_over : (d : ℤ) (gs : List Group) (ts : List (List Datum)) (qs : List (List Data)) → pos 0 ≤ℤ d → OverAll d ts qs → FitsAllR gs qs → FitsAll d gs ts
+fits_all_over : (d : ℤ) (gs : List Group) (ts : List (List WholeData)) (qs : List (List RowData)) → pos 0 ≤ℤ d → OverAll d ts qs → FitsAll gs qs → WholeFitsAll d gs ts
 fits_all_over d [] [] qs i h f = tt
 fits_all_over d [] (t ∷ ts) [] i h f = absurd h
 fits_all_over d [] (t ∷ ts) (q ∷ qs) i h f = absurd f
@@ -247,13 +247,13 @@ fits_all_over d (g ∷ gs) (t ∷ ts) (q ∷ qs) i h f = (fits_over d g.rows t q
 
 -- ---- the bound and the decision
 -- 64 F is at least 2^h P(z), for all rational data in the boxes, all integers and all rational baselines
-pub bound_over_rationals : (h : ℕ) (z : List ℤ) (b : Baseline) (gs : List Group) (qs : List (List Data)) (p : List Factor × List Column) →
-    GroupsOf (len z) gs → FitsAllR gs qs → steps 0 3 (first_form h (length z) gs) ≡ Ok p →
-    whole (pos (2 ^ h) *ℤ value p.1 z) ≤ʳ mul_r (whole (pos 64)) (sum_of_squares_r z b gs qs)
+pub bound_over_rationals : (h : ℕ) (z : List ℤ) (b : Baseline) (gs : List Group) (qs : List (List RowData)) (p : List Factor × List Column) →
+    GroupsOf (len z) gs → FitsAll gs qs → steps 0 3 (first_rounding h (length z) gs) ≡ Ok p →
+    whole (pos (2 ^ h) *ℤ value p.1 z) ≤ʳ mul_r (whole (pos 64)) (sum_of_squares z b gs qs)
 bound_over_rationals h z b gs qs p g f s =
-    over_le 1 q (pos (2 ^ h) *ℤ value p.1 z) (pos 64 *ℤ n) (whole (pos (2 ^ h) *ℤ value p.1 z)) (mul_r (whole (pos 64)) (sum_of_squares_r z b gs qs))
+    over_le 1 q (pos (2 ^ h) *ℤ value p.1 z) (pos 64 *ℤ n) (whole (pos (2 ^ h) *ℤ value p.1 z)) (mul_r (whole (pos 64)) (sum_of_squares z b gs qs))
     (omega arith) (mul-pos (mul-pos t.positive c.positive) (mul-pos t.positive c.positive)) refl
-    (over_times (pos q) (pos 64) n (sum_of_squares_r z b gs qs) (F_over (pos t.d) (pos c.d) z c.over b gs t.over qs t.is c.is))
+    (over_times (pos q) (pos 64) n (sum_of_squares z b gs qs) (F_over (pos t.d) (pos c.d) z c.over b gs t.over qs t.is c.is))
     (step (pos t.d) (pos c.d) (pos (2 ^ h) *ℤ value p.1 z) n (bound (pos t.d) (pos c.d) h z c.over gs t.over p g (fits_all_over (pos t.d) gs t.over qs (pos_nn t.d) t.is f) s))
   where
     t : CommonAll qs
@@ -266,20 +266,20 @@ bound_over_rationals h z b gs qs p g f s =
     q = (t.d * c.d) * (t.d * c.d)
 
     n : ℤ
-    n = sum_of_squares (pos t.d) (pos c.d) z c.over gs t.over
+    n = whole_sum_of_squares (pos t.d) (pos c.d) z c.over gs t.over
 
     step : (d e v f : ℤ) → (d *ℤ e *ℤ (d *ℤ e) *ℤ v) ≤ℤ (pos 64 *ℤ f) → (v *ℤ (d *ℤ e *ℤ (d *ℤ e))) ≤ℤ (pos 64 *ℤ f *ℤ pos 1)
     step d e v f h = le_by (v ∷ d ∷ e ∷ f ∷ []) (λ v d e f. (v ⊗ (d ⊗ e ⊗ (d ⊗ e)), nat 64 ⊗ f ⊗ nat 1, nat 64 ⊗ f ⊖ d ⊗ e ⊗ (d ⊗ e) ⊗ v)) refl (less_nn h)
 
-pub decided_best : (h : ℕ) (ratio : ℤ) (z1 z2 : List ℤ) (m : Base) (gs : List Group) (p : List Factor × List Column) →
-    GroupsOf (len z1) gs → steps 0 3 (first_form h (length z1) gs) ≡ Ok p → TwoLeast p.1 (len z1) z1 z2 →
+pub decided_best : (h : ℕ) (ratio : ℤ) (z1 z2 : List ℤ) (m : WholeBaseline) (gs : List Group) (p : List Factor × List Column) →
+    GroupsOf (len z1) gs → steps 0 3 (first_rounding h (length z1) gs) ≡ Ok p → TwoLeast p.1 (len z1) z1 z2 →
     pos 1000 ≤ℤ ratio → (pos 64 *ℤ (ratio *ℤ top h z1 m gs)) <ℤ (pos 1000 *ℤ value p.1 z2) → IsBest gs z1 m
-decided_best h ratio z1 z2 m gs p g s t r c = record { best = λ (qs : List (List Data)) (f : FitsAllR gs qs) (v : List ℤ) (k : len v ≡ len z1) (o : v ≡ z1 → ⊥) (b : Baseline). go qs f v k o b (common qs) (common_base b) }
+decided_best h ratio z1 z2 m gs p g s t r c = record { best = λ (qs : List (List RowData)) (f : FitsAll gs qs) (v : List ℤ) (k : len v ≡ len z1) (o : v ≡ z1 → ⊥) (b : Baseline). go qs f v k o b (common qs) (common_base b) }
   where
-    go : (qs : List (List Data)) → FitsAllR gs qs → (v : List ℤ) → len v ≡ len z1 → (v ≡ z1 → ⊥) → (b : Baseline) → CommonAll qs → CommonBase b →
-        sum_of_squares_r z1 (moved m) gs qs <ʳ sum_of_squares_r v b gs qs
+    go : (qs : List (List RowData)) → FitsAll gs qs → (v : List ℤ) → len v ≡ len z1 → (v ≡ z1 → ⊥) → (b : Baseline) → CommonAll qs → CommonBase b →
+        sum_of_squares z1 (moved m) gs qs <ʳ sum_of_squares v b gs qs
     go qs f v k o b w u = over_lt ((w.d * 2 ^ 16) * (w.d * 2 ^ 16)) ((w.d * u.d) * (w.d * u.d))
-        (sum_of_squares (pos w.d) (pos (2 ^ 16)) z1 m gs w.over) (sum_of_squares (pos w.d) (pos u.d) v u.over gs w.over) (sum_of_squares_r z1 (moved m) gs qs) (sum_of_squares_r v b gs qs)
+        (whole_sum_of_squares (pos w.d) (pos (2 ^ 16)) z1 m gs w.over) (whole_sum_of_squares (pos w.d) (pos u.d) v u.over gs w.over) (sum_of_squares z1 (moved m) gs qs) (sum_of_squares v b gs qs)
         (mul-pos (mul-pos w.positive (pow_pos 16)) (mul-pos w.positive (pow_pos 16))) (mul-pos (mul-pos w.positive u.positive) (mul-pos w.positive u.positive))
         (F_over (pos w.d) (pos (2 ^ 16)) z1 m (moved m) gs w.over qs w.is moved_over) (F_over (pos w.d) (pos u.d) v u.over b gs w.over qs w.is u.is)
         (last w.d (pos u.d) _ _ w.positive

@@ -1,8 +1,8 @@
 -- Rows, the data that lie in their boxes, the sum of squares over the data, and the normal form of the rows.
 use Rattle.std.specs.Prelude.{ℕ, zero, suc, ◌≡◌, ◌/◌, ◌^◌, ◌<◌, ◌≤◌, List, [], ◌∷◌, ◌++◌, length, ℤ, pos, negsuc, ◌+ℤ◌, ◌-ℤ◌, ◌*ℤ◌, neg_ℤ, ◌≤ℤ◌}
-use Rattle.quadratic_form.specs.Lists.{len, dot, scaled, added, spread}
+use Rattle.quadratic_form.specs.Vectors.{len, dot, scaled, added, spread}
 use Rattle.quadratic_form.specs.Forms.{Column, quad, plus, times, outer}
-use Rattle.quadratic_form.specs.Steps.{rounded}
+use Rattle.quadratic_form.specs.Elimination.{rounded}
 
 -- a row as one signal sees it: centres and radii of three directions, the coefficients of the integers, centre and radius of y
 pub record Row : Type 0 where
@@ -17,13 +17,13 @@ pub record Row : Type 0 where
   pub ry : ℤ
 
 -- the data of a row, over one denominator
-pub record Datum : Type 0 where
+pub record WholeData : Type 0 where
   pub u1 : ℤ
   pub u2 : ℤ
   pub u3 : ℤ
   pub y : ℤ
 
-pub record Base : Type 0 where
+pub record WholeBaseline : Type 0 where
   pub b1 : ℤ
   pub b2 : ℤ
   pub b3 : ℤ
@@ -37,42 +37,42 @@ abbrev pub Within : ℤ → ℤ → Type 0
 Within m t = (neg_ℤ m ≤ℤ t) × (t ≤ℤ m)
 
 -- the datum over D lies in the row's boxes
-pub record InBoxes (d : ℤ) (r : Row) (t : Datum) : Type 0 where
+pub record WholeInBoxes (d : ℤ) (r : Row) (t : WholeData) : Type 0 where
   pub u1 : Within (d *ℤ r.ru1) (t.u1 -ℤ (d *ℤ r.u1))
   pub u2 : Within (d *ℤ r.ru2) (t.u2 -ℤ (d *ℤ r.u2))
   pub u3 : Within (d *ℤ r.ru3) (t.u3 -ℤ (d *ℤ r.u3))
   pub y : Within (d *ℤ r.ry) (t.y -ℤ (d *ℤ r.y))
 
-abbrev pub Fits : ℤ → List Row → List Datum → Type 0
-Fits d [] [] = Unit {0}
-Fits d [] (t ∷ ts) = ⊥
-Fits d (r ∷ rs) [] = ⊥
-Fits d (r ∷ rs) (t ∷ ts) = InBoxes d r t × Fits d rs ts
+abbrev pub WholeFits : ℤ → List Row → List WholeData → Type 0
+WholeFits d [] [] = Unit {0}
+WholeFits d [] (t ∷ ts) = ⊥
+WholeFits d (r ∷ rs) [] = ⊥
+WholeFits d (r ∷ rs) (t ∷ ts) = WholeInBoxes d r t × WholeFits d rs ts
 
-abbrev pub FitsAll : ℤ → List Group → List (List Datum) → Type 0
-FitsAll d [] [] = Unit {0}
-FitsAll d [] (t ∷ ts) = ⊥
-FitsAll d (g ∷ gs) [] = ⊥
-FitsAll d (g ∷ gs) (t ∷ ts) = Fits d g.rows t × FitsAll d gs ts
+abbrev pub WholeFitsAll : ℤ → List Group → List (List WholeData) → Type 0
+WholeFitsAll d [] [] = Unit {0}
+WholeFitsAll d [] (t ∷ ts) = ⊥
+WholeFitsAll d (g ∷ gs) [] = ⊥
+WholeFitsAll d (g ∷ gs) (t ∷ ts) = WholeFits d g.rows t × WholeFitsAll d gs ts
 
 -- d e times the residual, at data over d, a baseline over e and integers z
-abbrev pub residual : ℤ → ℤ → List ℤ → Base → Row → Datum → ℤ
-residual d e z b r t = t.y *ℤ e -ℤ (t.u1 *ℤ b.b1 +ℤ (t.u2 *ℤ b.b2 +ℤ t.u3 *ℤ b.b3)) +ℤ d *ℤ e *ℤ dot r.cycles z
+abbrev pub whole_residual : ℤ → ℤ → List ℤ → WholeBaseline → Row → WholeData → ℤ
+whole_residual d e z b r t = t.y *ℤ e -ℤ (t.u1 *ℤ b.b1 +ℤ (t.u2 *ℤ b.b2 +ℤ t.u3 *ℤ b.b3)) +ℤ d *ℤ e *ℤ dot r.cycles z
 
-abbrev pub residuals : ℤ → ℤ → List ℤ → Base → List Row → List Datum → List ℤ
-residuals d e z b [] ts = []
-residuals d e z b (r ∷ rs) [] = []
-residuals d e z b (r ∷ rs) (t ∷ ts) = residual d e z b r t ∷ residuals d e z b rs ts
+abbrev pub whole_residuals : ℤ → ℤ → List ℤ → WholeBaseline → List Row → List WholeData → List ℤ
+whole_residuals d e z b [] ts = []
+whole_residuals d e z b (r ∷ rs) [] = []
+whole_residuals d e z b (r ∷ rs) (t ∷ ts) = whole_residual d e z b r t ∷ whole_residuals d e z b rs ts
 
 -- 360360 w / n, whole for n from 1 to 15
 abbrev pub share : Group → ℤ
 share g = pos (360360 / length g.rows) *ℤ g.weight
 
 -- (d e)² times the sum of squares
-abbrev pub sum_of_squares : ℤ → ℤ → List ℤ → Base → List Group → List (List Datum) → ℤ
-sum_of_squares d e z b [] ts = pos 0
-sum_of_squares d e z b (g ∷ gs) [] = pos 0
-sum_of_squares d e z b (g ∷ gs) (t ∷ ts) = (share g *ℤ spread (residuals d e z b g.rows t)) +ℤ sum_of_squares d e z b gs ts
+abbrev pub whole_sum_of_squares : ℤ → ℤ → List ℤ → WholeBaseline → List Group → List (List WholeData) → ℤ
+whole_sum_of_squares d e z b [] ts = pos 0
+whole_sum_of_squares d e z b (g ∷ gs) [] = pos 0
+whole_sum_of_squares d e z b (g ∷ gs) (t ∷ ts) = (share g *ℤ spread (whole_residuals d e z b g.rows t)) +ℤ whole_sum_of_squares d e z b gs ts
 
 -- ---- the normal form
 abbrev pub coefficients : Row → List ℤ
@@ -128,11 +128,11 @@ radii [] = no_radii
 radii (g ∷ gs) = add_radii (row_radii g.weight g.rows) (radii gs)
 
 -- the form of three baseline columns, i integers and the constant, that bounds 64 F over all data
-abbrev pub lower_form : ℕ → List Column → Radii → List Column
-lower_form i c r = plus (times (pos 63) c) (diagonal ((negsuc 16127 *ℤ r.r1) ∷ ((negsuc 16127 *ℤ r.r2) ∷ ((negsuc 16127 *ℤ r.r3) ∷ (zeros i ++ ((negsuc 16127 *ℤ r.ry) ∷ []))))))
+abbrev pub bounding_form : ℕ → List Column → Radii → List Column
+bounding_form i c r = plus (times (pos 63) c) (diagonal ((negsuc 16127 *ℤ r.r1) ∷ ((negsuc 16127 *ℤ r.r2) ∷ ((negsuc 16127 *ℤ r.r3) ∷ (zeros i ++ ((negsuc 16127 *ℤ r.ry) ∷ []))))))
 
 -- e times (b, z, 1), where b is over e
-abbrev pub columns_at : ℤ → List ℤ → Base → List ℤ
+abbrev pub columns_at : ℤ → List ℤ → WholeBaseline → List ℤ
 columns_at e z b = b.b1 ∷ (b.b2 ∷ (b.b3 ∷ (scaled e z ++ (e ∷ []))))
 
 -- each group has 1 to 15 rows, a weight that is not negative, and a coefficient for each integer
@@ -145,8 +145,8 @@ GroupsOf n [] = Unit {0}
 GroupsOf n (g ∷ gs) = (0 < length g.rows) × (length g.rows ≤ 15) × (pos 0 ≤ℤ g.weight) × RowsOf n g.rows × GroupsOf n gs
 
 -- the form after the first rounding, by 2^h
-abbrev pub first_form : ℕ → ℕ → List Group → List Column
-first_form h i gs = rounded (2 ^ h) (pos (columns i)) (lower_form i (matrix i gs) (radii gs))
+abbrev pub first_rounding : ℕ → ℕ → List Group → List Column
+first_rounding h i gs = rounded (2 ^ h) (pos (columns i)) (bounding_form i (matrix i gs) (radii gs))
 
 -- P: the value of a form of the integers and the constant
 abbrev pub value : List Column → List ℤ → ℤ

@@ -1,26 +1,26 @@
 -- One baseline for each pair: the bound of the sum of their forms.
 use Rattle.std.proofs.Common.{◌≡◌, ℕ, ◌^◌, List, [], ◌∷◌, ◌++◌, length, ℤ, pos, ◌+ℤ◌, ◌*ℤ◌, ◌≤ℤ◌, Ok, refl}
 use Rattle.whole_math.proofs.Ring.{◌⊕◌, ◌⊖◌, ◌⊗◌}
-use Rattle.quadratic_form.proofs.Certify.{le_by, both_nn, prod_nn, less_nn, pos_nn, nat}
-use Rattle.quadratic_form.proofs.Fronts.{fronts_below}
-use Rattle.quadratic_form.proofs.Claim.{bound_over_rationals}
-use Rattle.quadratic_form.specs.Lists.{len}
-use Rattle.quadratic_form.specs.Steps.{Factor, steps}
-use Rattle.quadratic_form.specs.Data.{Group, GroupsOf, first_form, value}
+use Rattle.quadratic_form.proofs.Inequalities.{le_by, both_nn, prod_nn, less_nn, pos_nn, nat}
+use Rattle.quadratic_form.proofs.FrontSum.{fronts_below}
+use Rattle.quadratic_form.proofs.RationalData.{bound_over_rationals}
+use Rattle.quadratic_form.specs.Vectors.{len}
+use Rattle.quadratic_form.specs.Elimination.{Factor, steps}
+use Rattle.quadratic_form.specs.Rows.{Group, GroupsOf, first_rounding, value}
 use Rattle.quadratic_form.specs.Rat.{Rat, ◌≤ʳ◌, whole, add_r, mul_r}
-use Rattle.quadratic_form.specs.Claim.{Data, Baseline, FitsAllR, sum_of_squares_r}
-use Rattle.quadratic_form.specs.Fronts.{Front, sum_fronts, fronts_value, FrontsOf}
+use Rattle.quadratic_form.specs.RationalData.{RowData, Baseline, FitsAll, sum_of_squares}
+use Rattle.quadratic_form.specs.FrontSum.{Front, sum_fronts, fronts_value, FrontsOf}
 
 -- a pair: its rows, its data, its baseline, and the front that three steps leave
 pub record Pair (z : List ℤ) : Type 0 where
   pub groups : List Group
-  pub data' : List (List Data)
+  pub data' : List (List RowData)
   pub base : Baseline
   pub front : Front
   pub factors : List Factor
   pub sound : GroupsOf (len z) groups
-  pub fits : FitsAllR groups data'
-  pub is : steps 0 3 (first_form front.h (length z) groups) ≡ Ok (factors, front.form)
+  pub fits : FitsAll groups data'
+  pub is : steps 0 3 (first_rounding front.h (length z) groups) ≡ Ok (factors, front.form)
 
 abbrev pub fronts_of : (z : List ℤ) → List (Pair z) → List Front
 fronts_of z [] = []
@@ -28,13 +28,13 @@ fronts_of z (q ∷ qs) = q.front ∷ fronts_of z qs
 
 -- the sum of the F of the pairs
 abbrev pub track_sum : (z : List ℤ) → Pair z → List (Pair z) → Rat
-track_sum z p [] = sum_of_squares_r z p.base p.groups p.data'
-track_sum z p (q ∷ qs) = add_r (sum_of_squares_r z p.base p.groups p.data') (track_sum z q qs)
+track_sum z p [] = sum_of_squares z p.base p.groups p.data'
+track_sum z p (q ∷ qs) = add_r (sum_of_squares z p.base p.groups p.data') (track_sum z q qs)
 
 fronts_over : (z : List ℤ) (p : Pair z) (qs : List (Pair z)) → whole (fronts_value p.front (fronts_of z qs) (z ++ (pos 1 ∷ []))) ≤ʳ mul_r (whole (pos 64)) (track_sum z p qs)
 fronts_over z p [] = bound_over_rationals p.front.h z p.base p.groups p.data' (p.factors, p.front.form) p.sound p.fits p.is
 fronts_over z p (q ∷ qs) = step (pos (2 ^ p.front.h) *ℤ value p.front.form z) (fronts_value q.front (fronts_of z qs) (z ++ (pos 1 ∷ [])))
-    (sum_of_squares_r z p.base p.groups p.data').num (track_sum z q qs).num (sum_of_squares_r z p.base p.groups p.data').den (track_sum z q qs).den
+    (sum_of_squares z p.base p.groups p.data').num (track_sum z q qs).num (sum_of_squares z p.base p.groups p.data').den (track_sum z q qs).den
     (bound_over_rationals p.front.h z p.base p.groups p.data' (p.factors, p.front.form) p.sound p.fits p.is) (fronts_over z q qs)
   where
     step : (k l a c : ℤ) (b d : ℕ) → (k *ℤ (pos 1 *ℤ pos b)) ≤ℤ (pos 64 *ℤ a *ℤ pos 1) → (l *ℤ (pos 1 *ℤ pos d)) ≤ℤ (pos 64 *ℤ c *ℤ pos 1) → ((k +ℤ l) *ℤ (pos 1 *ℤ (pos b *ℤ pos d))) ≤ℤ (pos 64 *ℤ (a *ℤ pos d +ℤ c *ℤ pos b) *ℤ pos 1)

@@ -2,7 +2,7 @@
 use Rattle.std.proofs.Common.{◌≡◌, ◌⊎◌, inl, inr, ⊎_elim, suc, List, [], ◌∷◌, ◌++◌, length, ℤ, pos, ◌+ℤ◌, ◌-ℤ◌, ◌≤ℤ◌, ◌<ℤ◌, append_assoc, length-append, arith, sym, ap, ◌∙◌, refl, subst}
 use Rattle.std.proofs.lemmas.Int.{by_lt_z}
 use Rattle.whole_math.proofs.Order.{lins}
-use Rattle.quadratic_form.specs.Open.{Frame, Untaken, Through, Open, new_frame, up_taken, down_taken, Takes, Chain}
+use Rattle.quadratic_form.specs.SearchStack.{Frame, Untaken, Through, Open, new_frame, up_taken, down_taken, Takes, Chain}
 
 -- ---- lists
 record Snoc (v : List ℤ) : Type 0 where
@@ -134,10 +134,10 @@ between f f' x h t = ⊎_elim (λ (k : (x ≡ f.up) × (f' ≡ up_taken f)). sub
     at_down d x u e h = (omega (arith, lins), omega (arith, lins))
 
 not_untaken : (g : Frame) (x y : ℤ) → g.down <ℤ x → x <ℤ g.up → x ≡ y → Untaken g y → ⊥
-not_untaken g x y h k e u = ⊎_elim (λ (l : y ≤ℤ g.down). low g.down x y h e l) (λ (l : g.up ≤ℤ y). high g.up x y k e l) u
+not_untaken g x y h k e u = ⊎_elim (λ (l : y ≤ℤ g.down). lower_sum g.down x y h e l) (λ (l : g.up ≤ℤ y). high g.up x y k e l) u
   where
-    low : (d x y : ℤ) → d <ℤ x → x ≡ y → y ≤ℤ d → ⊥
-    low d x y h e l = omega (arith, lins)
+    lower_sum : (d x y : ℤ) → d <ℤ x → x ≡ y → y ≤ℤ d → ⊥
+    lower_sum d x y h e l = omega (arith, lins)
 
     high : (u x y : ℤ) → x <ℤ u → x ≡ y → u ≤ℤ y → ⊥
     high u x y h e l = omega (arith, lins)

@@ -1,13 +1,13 @@
 -- A sum of fronts stays below them.
 use Rattle.std.proofs.Common.{◌≡◌, ℕ, ◌+◌, ◌-◌, ◌^◌, ◌≤◌, List, [], ◌∷◌, ℤ, pos, ◌+ℤ◌, ◌*ℤ◌, ◌≤ℤ◌, pow_pos, pow-add, arith, ap, ◌∙◌, refl}
 use Rattle.whole_math.proofs.Ring.{◌⊕◌, ◌⊖◌, ◌⊗◌}
-use Rattle.quadratic_form.proofs.Certify.{le_by, both_nn, prod_nn, less_nn, pos_nn, le_eq}
+use Rattle.quadratic_form.proofs.Inequalities.{le_by, both_nn, prod_nn, less_nn, pos_nn, le_eq}
 use Rattle.quadratic_form.proofs.Forms.{quad_plus}
-use Rattle.quadratic_form.proofs.Steps.{rounded_below}
-use Rattle.quadratic_form.specs.Lists.{len}
+use Rattle.quadratic_form.proofs.EliminationStep.{rounded_below}
+use Rattle.quadratic_form.specs.Vectors.{len}
 use Rattle.quadratic_form.specs.Forms.{quad}
-use Rattle.quadratic_form.specs.Steps.{rounded}
-use Rattle.quadratic_form.specs.Fronts.{Front, sum_fronts, fronts_value, FrontOf, FrontsOf}
+use Rattle.quadratic_form.specs.Elimination.{rounded}
+use Rattle.quadratic_form.specs.FrontSum.{Front, sum_fronts, fronts_value, FrontOf, FrontsOf}
 
 one_front : (h : ℕ) (f : Front) (v : List ℤ) → FrontOf h (len v) f → (pos (2 ^ h) *ℤ quad (rounded (2 ^ (h - f.h)) (len v) f.form) v) ≤ℤ (pos (2 ^ f.h) *ℤ quad f.form v)
 one_front h f v k = rw split (step (pos (2 ^ f.h)) (pos (2 ^ (h - f.h))) (quad (rounded (2 ^ (h - f.h)) (len v) f.form) v) (quad f.form v) (pos_nn (2 ^ f.h))

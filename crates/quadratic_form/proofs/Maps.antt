@@ -1,12 +1,12 @@
 -- A shear and a swap keep that map and inverse undo each other.
 use Rattle.std.proofs.Common.{ℕ, zero, suc, ◌≡◌, List, [], ◌∷◌, length, ℤ, pos, ◌+ℤ◌, ◌-ℤ◌, ◌*ℤ◌, ◌≤ℤ◌, ◌<ℤ◌, arith, sym, ap, ap₂, ◌∙◌, refl, subst}
-use Rattle.quadratic_form.proofs.Certify.{same_by, nat}
+use Rattle.quadratic_form.proofs.Inequalities.{same_by, nat}
 use Rattle.whole_math.proofs.Ring.{◌⊕◌, ◌⊖◌, ◌⊗◌}
 use Rattle.whole_math.proofs.Order.{lins}
 use Rattle.quadratic_form.proofs.Spread.{len_nonneg, len_tail, len_apart}
 use Rattle.quadratic_form.proofs.Forms.{dot_added, dot_scaled}
-use Rattle.quadratic_form.specs.Lists.{len, dot, scaled}
-use Rattle.quadratic_form.specs.Reduce.{apply, AllRows, Inverse, entry, row, sheared_from, shear_map, add_rows, shear_back, swapped, swap_map}
+use Rattle.quadratic_form.specs.Vectors.{len, dot, scaled}
+use Rattle.quadratic_form.specs.Maps.{apply, AllRows, Inverse, entry, row, sheared_from, shear_map, add_rows, shear_back, swapped, swap_map}
 
 -- ---- what the shear does to a vector, and back
 abbrev less_each : List ℤ → ℤ → List ℤ → List ℤ

@@ -4,31 +4,31 @@ use Rattle.std.proofs.lemmas.Int.{by_lt_z, ints}
 use Rattle.whole_math.proofs.Ring.{◌⊕◌, ◌⊖◌, ◌⊗◌}
 use Rattle.whole_math.proofs.Order.{lins, square_nn, mul_le_cancel}
 use Rattle.whole_math.specs.Rounding.{ceil_div}
-use Rattle.quadratic_form.proofs.Certify.{le_by, both_nn, prod_nn, less_nn, pos_nn, pos_one, later, strict, ceil_near, ceil_close, le_eq, same_by, nat}
+use Rattle.quadratic_form.proofs.Inequalities.{le_by, both_nn, prod_nn, less_nn, pos_nn, pos_one, later, strict, ceil_near, ceil_close, le_eq, same_by, nat}
 use Rattle.quadratic_form.proofs.Spread.{len_nonneg, len_tail, len_apart}
-use Rattle.quadratic_form.proofs.Chain.{steps_below}
-use Rattle.quadratic_form.proofs.Decide.{second_value}
-use Rattle.quadratic_form.specs.Lists.{len, dot}
+use Rattle.quadratic_form.proofs.StepsBelow.{steps_below}
+use Rattle.quadratic_form.proofs.Decision.{second_value}
+use Rattle.quadratic_form.specs.Vectors.{len, dot}
 use Rattle.quadratic_form.specs.Forms.{Column, Shaped, quad}
-use Rattle.quadratic_form.specs.Steps.{kept, Factor, squares, steps}
-use Rattle.quadratic_form.specs.Data.{zeros, value}
-use Rattle.quadratic_form.specs.Decide.{TwoLeast}
-use Rattle.quadratic_form.specs.Search.{offset, low, AllNonneg, Small, SmallList, SmallForm}
+use Rattle.quadratic_form.specs.Elimination.{kept, Factor, squares, steps}
+use Rattle.quadratic_form.specs.Rows.{zeros, value}
+use Rattle.quadratic_form.specs.TwoLeast.{TwoLeast}
+use Rattle.quadratic_form.specs.LowerSums.{offset, lower_sum, AllNonneg, Small, SmallList, SmallForm}
 
 -- entries put before never lower the sum
-pub low_grows : (g : ℤ) (t s : List ℤ) (es fs : List Factor) → len es ≡ len t → AllNonneg es → low g fs s ≤ℤ low g (es ++ fs) (t ++ s)
-low_grows g [] s [] fs e h = same (low g fs s)
+pub lower_sum_grows : (g : ℤ) (t s : List ℤ) (es fs : List Factor) → len es ≡ len t → AllNonneg es → lower_sum g fs s ≤ℤ lower_sum g (es ++ fs) (t ++ s)
+lower_sum_grows g [] s [] fs e h = same (lower_sum g fs s)
   where
     same : (a : ℤ) → a ≤ℤ a
     same a = omega (arith, lins)
-low_grows g [] s (f ∷ es) fs e h = absurd (len_apart (len es) (len_nonneg es) (sym e))
-low_grows g (x ∷ t) s [] fs e h = absurd (len_apart (len t) (len_nonneg t) e)
-low_grows g (x ∷ t) s (f ∷ es) fs e h = step (low g fs s) (low g (es ++ fs) (t ++ s)) f.d (offset f x (t ++ s)) (low_grows g t s es fs (len_tail (len es) (len t) e) h.1) h.0
+lower_sum_grows g [] s (f ∷ es) fs e h = absurd (len_apart (len es) (len_nonneg es) (sym e))
+lower_sum_grows g (x ∷ t) s [] fs e h = absurd (len_apart (len t) (len_nonneg t) e)
+lower_sum_grows g (x ∷ t) s (f ∷ es) fs e h = step (lower_sum g fs s) (lower_sum g (es ++ fs) (t ++ s)) f.d (offset f x (t ++ s)) (lower_sum_grows g t s es fs (len_tail (len es) (len t) e) h.1) h.0
   where
     step : (a b d c : ℤ) → a ≤ℤ b → pos 0 ≤ℤ d → a ≤ℤ (b +ℤ d *ℤ (c *ℤ c))
     step a b d c h k = le_by (a ∷ b ∷ d ∷ c ∷ []) (λ a b d c. (a, b ⊕ d ⊗ (c ⊗ c), b ⊖ a ⊕ d ⊗ (c ⊗ c))) refl (both_nn (less_nn h) (prod_nn k (square_nn c)))
 
-low_is : (g : ℤ) (fs : List Factor) (z : List ℤ) → len fs ≡ len z → low g fs z ≡ squares fs (z ++ (pos 1 ∷ [])) +ℤ pos (2 ^ 60) *ℤ g
+low_is : (g : ℤ) (fs : List Factor) (z : List ℤ) → len fs ≡ len z → lower_sum g fs z ≡ squares fs (z ++ (pos 1 ∷ [])) +ℤ pos (2 ^ 60) *ℤ g
 low_is g [] [] e = same_by (g ∷ []) (λ g. (nat (2 ^ 60) ⊗ g, nat 0 ⊕ nat (2 ^ 60) ⊗ g)) refl
 low_is g [] (x ∷ z) e = absurd (len_apart (len z) (len_nonneg z) e)
 low_is g (f ∷ fs) [] e = absurd (len_apart (len fs) (len_nonneg fs) (sym e))
@@ -42,9 +42,9 @@ drop_all [] = refl
 drop_all (x ∷ z) = drop_all z
 
 -- where the steps end at the one entry g, the lower sum stays below 2^60 P
-pub low_below : (p : List Column) (z : List ℤ) (fs : List Factor) (g : ℤ) → Shaped p → len p ≡ len (z ++ (pos 1 ∷ [])) → len fs ≡ len z →
-    steps 0 (length z) p ≡ Ok (fs, record { own = g; others = [] } ∷ []) → low g fs z ≤ℤ (pos (2 ^ 60) *ℤ value p z)
-low_below p z fs g s e f h = rw (low_is g fs z f) (step (squares fs x) (quad (record { own = g; others = [] } ∷ []) (drop (length z) x)) g (value p z) last (steps_below 0 (length z) p x (fs, record { own = g; others = [] } ∷ []) h s e).1)
+pub lower_sum_below : (p : List Column) (z : List ℤ) (fs : List Factor) (g : ℤ) → Shaped p → len p ≡ len (z ++ (pos 1 ∷ [])) → len fs ≡ len z →
+    steps 0 (length z) p ≡ Ok (fs, record { own = g; others = [] } ∷ []) → lower_sum g fs z ≤ℤ (pos (2 ^ 60) *ℤ value p z)
+lower_sum_below p z fs g s e f h = rw (low_is g fs z f) (step (squares fs x) (quad (record { own = g; others = [] } ∷ []) (drop (length z) x)) g (value p z) last (steps_below 0 (length z) p x (fs, record { own = g; others = [] } ∷ []) h s e).1)
   where
     x : List ℤ
     x = z ++ (pos 1 ∷ [])
