@@ -2,7 +2,7 @@
 use Rattle.std.proofs.Common.{◌≡◌, ℕ, ◌^◌, List, [], ◌∷◌, ◌++◌, length, ℤ, pos, ◌*ℤ◌, ◌≤ℤ◌, Ok, arith, sym, ap, ◌∙◌, refl, subst, pow_pos}
 use Rattle.whole_math.proofs.Ring.{◌⊕◌, ◌⊖◌, ◌⊗◌}
 use Rattle.whole_math.proofs.Order.{lins, square_nn}
-use Rattle.quadratic_form.proofs.Inequalities.{le_by, both_nn, prod_nn, less_nn, pos_nn, le_eq, same_by, nat}
+use Rattle.whole_math.proofs.Inequalities.{le_by, both_nn, prod_nn, less_nn, pos_nn, le_eq, same_by, nat}
 use Rattle.quadratic_form.proofs.Forms.{quad_scale}
 use Rattle.quadratic_form.proofs.EliminationStep.{rounded_below, rounded_sized}
 use Rattle.quadratic_form.proofs.StepsBelow.{front_below}
@@ -11,7 +11,7 @@ use Rattle.quadratic_form.proofs.Shapes.{cols, len_columns, sized_bounding_form}
 use Rattle.quadratic_form.specs.Vectors.{len, scaled}
 use Rattle.quadratic_form.specs.Forms.{Column, Shaped, quad}
 use Rattle.quadratic_form.specs.Elimination.{Factor, steps}
-use Rattle.quadratic_form.specs.Rows.{WholeData, WholeBaseline, Group, WholeFitsAll, whole_sum_of_squares, matrix, radii, columns, bounding_form, columns_at, GroupsOf, first_rounding, value}
+use Rattle.quadratic_form.specs.Rows.{WholeData, WholeBaseline, SignalGroup, WholeFitsAll, whole_sum_of_squares, matrix, radii, columns, bounding_form, columns_at, GroupsOf, first_rounding, value}
 
 scaled_last : (e : ℤ) (z : List ℤ) → scaled e z ++ (e ∷ []) ≡ scaled e (z ++ (pos 1 ∷ []))
 scaled_last e [] = ap (λ k. k ∷ []) (same_by (e ∷ []) (λ e. (e, e ⊗ nat 1)) refl)
@@ -19,7 +19,7 @@ scaled_last e (x ∷ z) = ap (λ s. (e *ℤ x) ∷ s) (scaled_last e z)
 
 -- for all data in the boxes, over d, all integers z and all baselines, over e:
 -- 64 times the sum of squares is at least 2^h times the value of the form that three steps leave
-pub bound : (d e : ℤ) (h : ℕ) (z : List ℤ) (b : WholeBaseline) (gs : List Group) (ts : List (List WholeData)) (p : List Factor × List Column) →
+pub bound : (d e : ℤ) (h : ℕ) (z : List ℤ) (b : WholeBaseline) (gs : List SignalGroup) (ts : List (List WholeData)) (p : List Factor × List Column) →
     GroupsOf (len z) gs → WholeFitsAll d gs ts → steps 0 3 (first_rounding h (length z) gs) ≡ Ok p →
     (d *ℤ e *ℤ (d *ℤ e) *ℤ (pos (2 ^ h) *ℤ value p.1 z)) ≤ℤ (pos 64 *ℤ whole_sum_of_squares d e z b gs ts)
 bound d e h z b gs ts p g f s =

@@ -3,14 +3,14 @@ use Rattle.std.proofs.Common.{◌≡◌, ⊎_elim, ℕ, ◌^◌, ◌<◌, List, 
 use Rattle.std.proofs.lemmas.Int.{by_lt_z}
 use Rattle.whole_math.proofs.Ring.{◌⊕◌, ◌⊖◌, ◌⊗◌}
 use Rattle.whole_math.proofs.Order.{lins, square_nn, mul_lt_cancel}
-use Rattle.quadratic_form.proofs.Inequalities.{le_by, both_nn, prod_nn, less_nn, pos_nn, pos_one, one_nn, later, strict, ceil_close, nat}
+use Rattle.whole_math.proofs.Inequalities.{le_by, both_nn, prod_nn, less_nn, pos_nn, pos_one, one_nn, later, strict, ceil_close, nat}
 use Rattle.quadratic_form.proofs.NormalForm.{len_is}
 use Rattle.quadratic_form.proofs.Bound.{bound}
 use Rattle.quadratic_form.proofs.UpperSum.{upper, share_nonneg}
 use Rattle.quadratic_form.specs.Vectors.{len}
 use Rattle.quadratic_form.specs.Forms.{Column}
 use Rattle.quadratic_form.specs.Elimination.{Factor, steps}
-use Rattle.quadratic_form.specs.Rows.{Row, WholeData, WholeBaseline, Group, WholeFitsAll, whole_sum_of_squares, GroupsOf, first_rounding, value}
+use Rattle.quadratic_form.specs.Rows.{SignalRow, WholeData, WholeBaseline, SignalGroup, WholeFitsAll, whole_sum_of_squares, GroupsOf, first_rounding, value}
 use Rattle.quadratic_form.specs.UpperSum.{gap, gaps_from, gaps, upper_sum, top}
 use Rattle.quadratic_form.specs.TwoLeast.{Less, Before, TwoLeast}
 
@@ -32,26 +32,26 @@ second_value p n z1 z2 v t e d = by_lt_z (value p v) (value p z2)
     distances_from : (a b : ℤ) → a <ℤ b → a ≡ b → ⊥
     distances_from a b h e = omega (arith, lins)
 
-gaps_from_nonneg : (z : List ℤ) (m : WholeBaseline) (r : Row) (rs : List Row) → pos 0 ≤ℤ gaps_from z m r rs
+gaps_from_nonneg : (z : List ℤ) (m : WholeBaseline) (r : SignalRow) (rs : List SignalRow) → pos 0 ≤ℤ gaps_from z m r rs
 gaps_from_nonneg z m r [] = omega (arith, lins)
 gaps_from_nonneg z m r (s ∷ rs) = both_nn (square_nn (gap z m r s)) (gaps_from_nonneg z m r rs)
 
-gaps_nonneg : (z : List ℤ) (m : WholeBaseline) (rs : List Row) → pos 0 ≤ℤ gaps z m rs
+gaps_nonneg : (z : List ℤ) (m : WholeBaseline) (rs : List SignalRow) → pos 0 ≤ℤ gaps z m rs
 gaps_nonneg z m [] = omega (arith, lins)
 gaps_nonneg z m (r ∷ rs) = both_nn (gaps_from_nonneg z m r rs) (gaps_nonneg z m rs)
 
-upper_sum_nonneg : (n : ℤ) (z : List ℤ) (m : WholeBaseline) (gs : List Group) → GroupsOf n gs → pos 0 ≤ℤ upper_sum z m gs
+upper_sum_nonneg : (n : ℤ) (z : List ℤ) (m : WholeBaseline) (gs : List SignalGroup) → GroupsOf n gs → pos 0 ≤ℤ upper_sum z m gs
 upper_sum_nonneg n z m [] h = omega (arith, lins)
 upper_sum_nonneg n z m (g ∷ gs) h = both_nn (prod_nn (share_nonneg g h.2) (gaps_nonneg z m g.rows)) (upper_sum_nonneg n z m gs h.4)
 
-top_nonneg : (n : ℤ) (h : ℕ) (z : List ℤ) (m : WholeBaseline) (gs : List Group) → GroupsOf n gs → pos 0 ≤ℤ (pos (2 ^ h) *ℤ top h z m gs)
+top_nonneg : (n : ℤ) (h : ℕ) (z : List ℤ) (m : WholeBaseline) (gs : List SignalGroup) → GroupsOf n gs → pos 0 ≤ℤ (pos (2 ^ h) *ℤ top h z m gs)
 top_nonneg n h z m gs g = go (upper_sum z m gs) (pos (2 ^ h) *ℤ top h z m gs) (upper_sum_nonneg n z m gs g) (ceil_close (upper_sum z m gs) (2 ^ h) (pow_pos h))
   where
     go : (u t : ℤ) → pos 0 ≤ℤ u → u ≤ℤ t → pos 0 ≤ℤ t
     go u t h k = omega (arith, lins)
 
 -- for all data in the boxes, over d: every other vector z', with every baseline, over e, has a greater sum of squares than z1 with m
-pub decided : (d e h : ℕ) (ratio : ℤ) (z1 z2 z' : List ℤ) (m b : WholeBaseline) (gs : List Group) (ts : List (List WholeData)) (p : List Factor × List Column) →
+pub decided : (d e h : ℕ) (ratio : ℤ) (z1 z2 z' : List ℤ) (m b : WholeBaseline) (gs : List SignalGroup) (ts : List (List WholeData)) (p : List Factor × List Column) →
     0 < d → 0 < e → GroupsOf (len z1) gs → WholeFitsAll (pos d) gs ts → steps 0 3 (first_rounding h (length z1) gs) ≡ Ok p → TwoLeast p.1 (len z1) z1 z2 →
     pos 1000 ≤ℤ ratio → (pos 64 *ℤ (ratio *ℤ top h z1 m gs)) <ℤ (pos 1000 *ℤ value p.1 z2) → len z' ≡ len z1 → (z' ≡ z1 → ⊥) →
     (whole_sum_of_squares (pos d) (pos (2 ^ 16)) z1 m gs ts *ℤ (pos e *ℤ pos e)) <ℤ (whole_sum_of_squares (pos d) (pos e) z' b gs ts *ℤ (pos (2 ^ 16) *ℤ pos (2 ^ 16)))

@@ -5,7 +5,7 @@ use Rattle.whole_math.proofs.Ring.{ko, ◌⊕◌, ◌⊖◌, ◌⊗◌, ng}
 use Rattle.whole_math.proofs.Order.{lins, square_nn}
 use Rattle.whole_math.proofs.Rounding.{ceil_least}
 use Rattle.whole_math.specs.Rounding.{floor_div, ceil_div, nearest_div}
-use Rattle.quadratic_form.proofs.Inequalities.{le_by, both_nn, prod_nn, less_nn, pos_nn, weak, halve, nearest_close, ceil_close, floor_close, square_share, cancel, le_eq, same_by, nat}
+use Rattle.whole_math.proofs.Inequalities.{le_by, both_nn, prod_nn, less_nn, pos_nn, weak, halve, nearest_close, ceil_close, floor_close, square_share, cancel, le_eq, same_by, nat}
 use Rattle.quadratic_form.proofs.Spread.{len_nonneg, len_tail, len_apart, spread_nonneg}
 use Rattle.quadratic_form.proofs.Forms.{Close, Above, dominant, quad_plus, quad_times, quad_outer, sumsq_nonneg}
 use Rattle.quadratic_form.specs.Vectors.{len, sum, squared_norm, dot, scaled, added}

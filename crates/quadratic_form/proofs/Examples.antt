@@ -2,7 +2,7 @@
 use Rattle.std.proofs.Common.{◌≡◌, ◌^◌, List, [], ◌∷◌, ℤ, pos, negsuc, ◌*ℤ◌, Err, refl}
 use Rattle.quadratic_form.specs.Elimination.{factors, kept, next, weak, steps}
 use Rattle.quadratic_form.specs.Vectors.{spread}
-use Rattle.quadratic_form.specs.Rows.{Row, Group, first_rounding, whole_sum_of_squares}
+use Rattle.quadratic_form.specs.Rows.{SignalRow, SignalGroup, first_rounding, whole_sum_of_squares}
 
 -- two columns, with 2^30 as own entries and 2^29 as the other
 factor_at : factors (2 ^ 30) (pos (2 ^ 29) ∷ []) ≡ pos 536870912 ∷ []
@@ -15,10 +15,10 @@ next_at : next (2 ^ 30) (pos 1) (pos (2 ^ 29) ∷ []) (record { own = pos (2 ^ 3
 next_at = refl
 
 -- two rows without directions, each with an integer of its own: the first pivot is 0 - 6
-abbrev still : List ℤ → Row
+abbrev still : List ℤ → SignalRow
 still q = record { u1 = pos 0; u2 = pos 0; u3 = pos 0; ru1 = pos 0; ru2 = pos 0; ru3 = pos 0; cycles = q; y = pos 0; ry = pos 1 }
 
-abbrev small : List Group
+abbrev small : List SignalGroup
 small = record { weight = pos 10000; rows = still ((negsuc 76 *ℤ pos (2 ^ 18)) ∷ (pos 0 ∷ [])) ∷ (still (pos 0 ∷ ((negsuc 59 *ℤ pos (2 ^ 18)) ∷ [])) ∷ []) } ∷ []
 
 weak_at : steps 0 3 (first_rounding 36 2 small) ≡ Err (weak 0 (negsuc 5))

@@ -2,7 +2,7 @@
 use Rattle.std.proofs.Common.{◌≡◌, List, [], ◌∷◌, ℤ, pos, ◌+ℤ◌, ◌-ℤ◌, ◌*ℤ◌, neg_ℤ, ◌≤ℤ◌, arith, sym, ap, ap₂, ◌∙◌, refl}
 use Rattle.whole_math.proofs.Ring.{◌⊕◌, ◌⊖◌, ◌⊗◌, ng}
 use Rattle.whole_math.proofs.Order.{lins, square_nn}
-use Rattle.quadratic_form.proofs.Inequalities.{le_by, both_nn, prod_nn, less_nn, pos_nn, halve, same_by, nat}
+use Rattle.whole_math.proofs.Inequalities.{le_by, both_nn, prod_nn, less_nn, pos_nn, halve, same_by, nat}
 use Rattle.quadratic_form.proofs.Spread.{len_nonneg, len_tail, len_apart}
 use Rattle.quadratic_form.specs.Vectors.{len, squared_norm, dot, scaled, added}
 use Rattle.quadratic_form.specs.Forms.{Column, quad, plus, times, outer}

@@ -1,7 +1,7 @@
 -- A sum of fronts stays below them.
 use Rattle.std.proofs.Common.{◌≡◌, ℕ, ◌+◌, ◌-◌, ◌^◌, ◌≤◌, List, [], ◌∷◌, ℤ, pos, ◌+ℤ◌, ◌*ℤ◌, ◌≤ℤ◌, pow_pos, pow-add, arith, ap, ◌∙◌, refl}
 use Rattle.whole_math.proofs.Ring.{◌⊕◌, ◌⊖◌, ◌⊗◌}
-use Rattle.quadratic_form.proofs.Inequalities.{le_by, both_nn, prod_nn, less_nn, pos_nn, le_eq}
+use Rattle.whole_math.proofs.Inequalities.{le_by, both_nn, prod_nn, less_nn, pos_nn, le_eq}
 use Rattle.quadratic_form.proofs.Forms.{quad_plus}
 use Rattle.quadratic_form.proofs.EliminationStep.{rounded_below}
 use Rattle.quadratic_form.specs.Vectors.{len}

@@ -4,7 +4,7 @@ use Rattle.std.proofs.lemmas.Int.{by_lt_z, ints}
 use Rattle.whole_math.proofs.Ring.{◌⊕◌, ◌⊖◌, ◌⊗◌}
 use Rattle.whole_math.proofs.Order.{lins, square_nn, mul_le_cancel}
 use Rattle.whole_math.specs.Rounding.{ceil_div}
-use Rattle.quadratic_form.proofs.Inequalities.{le_by, both_nn, prod_nn, less_nn, pos_nn, pos_one, later, strict, ceil_near, ceil_close, le_eq, same_by, nat}
+use Rattle.whole_math.proofs.Inequalities.{le_by, both_nn, prod_nn, less_nn, pos_nn, pos_one, later, strict, ceil_near, ceil_close, le_eq, same_by, nat}
 use Rattle.quadratic_form.proofs.Spread.{len_nonneg, len_tail, len_apart}
 use Rattle.quadratic_form.proofs.StepsBelow.{steps_below}
 use Rattle.quadratic_form.proofs.Decision.{second_value}

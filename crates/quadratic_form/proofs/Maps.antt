@@ -1,6 +1,6 @@
 -- A shear and a swap keep that map and inverse undo each other.
 use Rattle.std.proofs.Common.{ℕ, zero, suc, ◌≡◌, List, [], ◌∷◌, length, ℤ, pos, ◌+ℤ◌, ◌-ℤ◌, ◌*ℤ◌, ◌≤ℤ◌, ◌<ℤ◌, arith, sym, ap, ap₂, ◌∙◌, refl, subst}
-use Rattle.quadratic_form.proofs.Inequalities.{same_by, nat}
+use Rattle.whole_math.proofs.Inequalities.{same_by, nat}
 use Rattle.whole_math.proofs.Ring.{◌⊕◌, ◌⊖◌, ◌⊗◌}
 use Rattle.whole_math.proofs.Order.{lins}
 use Rattle.quadratic_form.proofs.Spread.{len_nonneg, len_tail, len_apart}

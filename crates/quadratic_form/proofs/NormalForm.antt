@@ -2,12 +2,13 @@
 use Rattle.std.proofs.Common.{◌≡◌, ℕ, zero, suc, ◌+◌, ◌*◌, ◌/◌, ◌<◌, ◌≤◌, List, [], ◌∷◌, ◌++◌, length, ℤ, pos, negsuc, ◌+ℤ◌, ◌-ℤ◌, ◌*ℤ◌, neg_ℤ, ◌≤ℤ◌, arith, sym, ap, ap₂, ◌∙◌, refl, subst}
 use Rattle.whole_math.proofs.Ring.{ko, ◌⊕◌, ◌⊖◌, ◌⊗◌, ng}
 use Rattle.whole_math.proofs.Order.{square_nn}
-use Rattle.quadratic_form.proofs.Inequalities.{le_by, both_nn, prod_nn, less_nn, pos_nn, four_squares, same_by, nat}
+use Rattle.whole_math.proofs.Inequalities.{le_by, both_nn, prod_nn, less_nn, pos_nn, four_squares, same_by, nat}
 use Rattle.quadratic_form.proofs.Spread.{len_nonneg, len_tail, len_apart, perturb, spread_scale, spread_below, len_scaled}
 use Rattle.quadratic_form.proofs.Forms.{dot_added, quad_plus, quad_times, quad_outer}
 use Rattle.quadratic_form.specs.Vectors.{len, sum, squared_norm, dot, scaled, added, spread}
 use Rattle.quadratic_form.specs.Forms.{Column, quad, plus, times, outer}
-use Rattle.quadratic_form.specs.Rows.{Row, WholeData, WholeBaseline, Group, Within, WholeInBoxes, WholeFits, WholeFitsAll, whole_residual, whole_residuals, share, whole_sum_of_squares, coefficients, sum_coefficients, sum_outer, group_matrix, matrix, Radii, no_radii, add_radii, row_radii, radii, diagonal, zeros, columns, bounding_form, columns_at, RowsOf, GroupsOf}
+use Rattle.whole_math.specs.Bounds.{Within}
+use Rattle.quadratic_form.specs.Rows.{SignalRow, WholeData, WholeBaseline, SignalGroup, WholeInBoxes, WholeFits, WholeFitsAll, whole_residual, whole_residuals, share, whole_sum_of_squares, coefficients, sum_coefficients, sum_outer, group_matrix, matrix, Radii, no_radii, add_radii, row_radii, radii, diagonal, zeros, columns, bounding_form, columns_at, RowsOf, GroupsOf}
 
 -- ---- the columns: the integers and the constant
 dot_tail : (e y : ℤ) (q z : List ℤ) → len q ≡ len z → dot (q ++ (y ∷ [])) (scaled e z ++ (e ∷ [])) ≡ e *ℤ dot q z +ℤ y *ℤ e
@@ -20,10 +21,10 @@ dot_tail e y (k ∷ q) (x ∷ z) f = ap (λ t. (k *ℤ (e *ℤ x)) +ℤ t) (dot_
     step e k x y r = same_by (k ∷ e ∷ x ∷ r ∷ y ∷ []) (λ k e x r y. (k ⊗ (e ⊗ x) ⊕ (e ⊗ r ⊕ y ⊗ e), e ⊗ (k ⊗ x ⊕ r) ⊕ y ⊗ e)) refl
 
 -- what the data add to the residual of the centres
-abbrev error : ℤ → ℤ → WholeBaseline → Row → WholeData → ℤ
+abbrev error : ℤ → ℤ → WholeBaseline → SignalRow → WholeData → ℤ
 error d e b r t = (t.y -ℤ d *ℤ r.y) *ℤ e -ℤ ((t.u1 -ℤ d *ℤ r.u1) *ℤ b.b1 +ℤ ((t.u2 -ℤ d *ℤ r.u2) *ℤ b.b2 +ℤ (t.u3 -ℤ d *ℤ r.u3) *ℤ b.b3))
 
-split : (d e : ℤ) (z : List ℤ) (b : WholeBaseline) (r : Row) (t : WholeData) → len r.cycles ≡ len z →
+split : (d e : ℤ) (z : List ℤ) (b : WholeBaseline) (r : SignalRow) (t : WholeData) → len r.cycles ≡ len z →
     whole_residual d e z b r t ≡ d *ℤ dot (coefficients r) (columns_at e z b) +ℤ error d e b r t
 split d e z b r t f = step d e t.y r.y t.u1 r.u1 b.b1 t.u2 r.u2 b.b2 t.u3 r.u3 b.b3 (dot r.cycles z)
     ∙ ap (λ k. d *ℤ (neg_ℤ r.u1 *ℤ b.b1 +ℤ (neg_ℤ r.u2 *ℤ b.b2 +ℤ (neg_ℤ r.u3 *ℤ b.b3 +ℤ k))) +ℤ error d e b r t) (sym (dot_tail e r.y r.cycles z f))
@@ -32,13 +33,13 @@ split d e z b r t f = step d e t.y r.y t.u1 r.u1 b.b1 t.u2 r.u2 b.b2 t.u3 r.u3 b
     step d e y c p u i q v j s w k m = same_by (y ∷ e ∷ p ∷ i ∷ q ∷ j ∷ s ∷ k ∷ d ∷ m ∷ u ∷ v ∷ w ∷ c ∷ []) (λ y e p i q j s k d m u v w c. (y ⊗ e ⊖ (p ⊗ i ⊕ (q ⊗ j ⊕ s ⊗ k)) ⊕ d ⊗ e ⊗ m, d ⊗ (ng u ⊗ i ⊕ (ng v ⊗ j ⊕ (ng w ⊗ k ⊕ (e ⊗ m ⊕ c ⊗ e)))) ⊕ ((y ⊖ d ⊗ c) ⊗ e ⊖ ((p ⊖ d ⊗ u) ⊗ i ⊕ ((q ⊖ d ⊗ v) ⊗ j ⊕ (s ⊖ d ⊗ w) ⊗ k))))) refl
 
 -- the squares of the radii at the columns
-abbrev slack : ℤ → WholeBaseline → Row → ℤ
+abbrev slack : ℤ → WholeBaseline → SignalRow → ℤ
 slack e b r = r.ry *ℤ r.ry *ℤ (e *ℤ e) +ℤ (r.ru1 *ℤ r.ru1 *ℤ (b.b1 *ℤ b.b1) +ℤ (r.ru2 *ℤ r.ru2 *ℤ (b.b2 *ℤ b.b2) +ℤ r.ru3 *ℤ r.ru3 *ℤ (b.b3 *ℤ b.b3)))
 
 pub square_within : (m t : ℤ) → Within m t → (t *ℤ t) ≤ℤ (m *ℤ m)
 square_within m t h = le_by (t ∷ m ∷ []) (λ t m. (t ⊗ t, m ⊗ m, (t ⊖ ng m) ⊗ (m ⊖ t))) refl (prod_nn (less_nn h.0) (less_nn h.1))
 
-reach : (d e : ℤ) (b : WholeBaseline) (r : Row) (t : WholeData) → WholeInBoxes d r t → (error d e b r t *ℤ error d e b r t) ≤ℤ (pos 4 *ℤ (d *ℤ d *ℤ slack e b r))
+reach : (d e : ℤ) (b : WholeBaseline) (r : SignalRow) (t : WholeData) → WholeInBoxes d r t → (error d e b r t *ℤ error d e b r t) ≤ℤ (pos 4 *ℤ (d *ℤ d *ℤ slack e b r))
 reach d e b r t h = step d e (t.y -ℤ (d *ℤ r.y)) (t.u1 -ℤ (d *ℤ r.u1)) (t.u2 -ℤ (d *ℤ r.u2)) (t.u3 -ℤ (d *ℤ r.u3)) b.b1 b.b2 b.b3 r.ry r.ru1 r.ru2 r.ru3
     (square_within (d *ℤ r.ry) (t.y -ℤ (d *ℤ r.y)) h.y) (square_within (d *ℤ r.ru1) (t.u1 -ℤ (d *ℤ r.u1)) h.u1)
     (square_within (d *ℤ r.ru2) (t.u2 -ℤ (d *ℤ r.u2)) h.u2) (square_within (d *ℤ r.ru3) (t.u3 -ℤ (d *ℤ r.u3)) h.u3)
@@ -48,37 +49,37 @@ reach d e b r t h = step d e (t.y -ℤ (d *ℤ r.y)) (t.u1 -ℤ (d *ℤ r.u1)) (
     step d e y p q s i j k a f g l h₁ h₂ h₃ h₄ = le_by (y ∷ e ∷ p ∷ i ∷ q ∷ j ∷ s ∷ k ∷ d ∷ a ∷ f ∷ g ∷ l ∷ []) (λ y e p i q j s k d a f g l. ((y ⊗ e ⊖ (p ⊗ i ⊕ (q ⊗ j ⊕ s ⊗ k))) ⊗ (y ⊗ e ⊖ (p ⊗ i ⊕ (q ⊗ j ⊕ s ⊗ k))), nat 4 ⊗ (d ⊗ d ⊗ (a ⊗ a ⊗ (e ⊗ e) ⊕ (f ⊗ f ⊗ (i ⊗ i) ⊕ (g ⊗ g ⊗ (j ⊗ j) ⊕ l ⊗ l ⊗ (k ⊗ k))))), nat 4 ⊗ (y ⊗ e ⊗ (y ⊗ e) ⊕ ng (p ⊗ i) ⊗ ng (p ⊗ i) ⊕ ng (q ⊗ j) ⊗ ng (q ⊗ j) ⊕ ng (s ⊗ k) ⊗ ng (s ⊗ k)) ⊖ (y ⊗ e ⊕ ng (p ⊗ i) ⊕ ng (q ⊗ j) ⊕ ng (s ⊗ k)) ⊗ (y ⊗ e ⊕ ng (p ⊗ i) ⊕ ng (q ⊗ j) ⊕ ng (s ⊗ k)) ⊕ nat 4 ⊗ ((d ⊗ a ⊗ (d ⊗ a) ⊖ y ⊗ y) ⊗ (e ⊗ e) ⊕ (d ⊗ f ⊗ (d ⊗ f) ⊖ p ⊗ p) ⊗ (i ⊗ i) ⊕ ((d ⊗ g ⊗ (d ⊗ g) ⊖ q ⊗ q) ⊗ (j ⊗ j) ⊕ (d ⊗ l ⊗ (d ⊗ l) ⊖ s ⊗ s) ⊗ (k ⊗ k))))) refl (both_nn (less_nn (four_squares (y *ℤ e) (neg_ℤ (p *ℤ i)) (neg_ℤ (q *ℤ j)) (neg_ℤ (s *ℤ k)))) (prod_nn (pos_nn 4) (both_nn (both_nn (prod_nn (less_nn h₁) (square_nn e)) (prod_nn (less_nn h₂) (square_nn i))) (both_nn (prod_nn (less_nn h₃) (square_nn j)) (prod_nn (less_nn h₄) (square_nn k))))))
 
 -- ---- the rows of a group
-abbrev values : List ℤ → List Row → List ℤ
+abbrev values : List ℤ → List SignalRow → List ℤ
 values x [] = []
 values x (r ∷ rs) = dot (coefficients r) x ∷ values x rs
 
-abbrev errors : ℤ → ℤ → WholeBaseline → List Row → List WholeData → List ℤ
+abbrev errors : ℤ → ℤ → WholeBaseline → List SignalRow → List WholeData → List ℤ
 errors d e b [] ts = []
 errors d e b (r ∷ rs) [] = []
 errors d e b (r ∷ rs) (t ∷ ts) = error d e b r t ∷ errors d e b rs ts
 
-abbrev slacks : ℤ → WholeBaseline → List Row → ℤ
+abbrev slacks : ℤ → WholeBaseline → List SignalRow → ℤ
 slacks e b [] = pos 0
 slacks e b (r ∷ rs) = slack e b r +ℤ slacks e b rs
 
-split_all : (d e : ℤ) (z : List ℤ) (b : WholeBaseline) (rs : List Row) (ts : List WholeData) → WholeFits d rs ts → RowsOf (len z) rs →
+split_all : (d e : ℤ) (z : List ℤ) (b : WholeBaseline) (rs : List SignalRow) (ts : List WholeData) → WholeFits d rs ts → RowsOf (len z) rs →
     whole_residuals d e z b rs ts ≡ added (scaled d (values (columns_at e z b) rs)) (errors d e b rs ts)
 split_all d e z b [] [] h k = refl
 split_all d e z b [] (t ∷ ts) h k = absurd h
 split_all d e z b (r ∷ rs) [] h k = absurd h
 split_all d e z b (r ∷ rs) (t ∷ ts) h k = ap₂ (λ x s. x ∷ s) (split d e z b r t k.0) (split_all d e z b rs ts h.1 k.1)
 
-errors_len : (d e : ℤ) (b : WholeBaseline) (x : List ℤ) (rs : List Row) (ts : List WholeData) → WholeFits d rs ts → len (scaled d (values x rs)) ≡ len (errors d e b rs ts)
+errors_len : (d e : ℤ) (b : WholeBaseline) (x : List ℤ) (rs : List SignalRow) (ts : List WholeData) → WholeFits d rs ts → len (scaled d (values x rs)) ≡ len (errors d e b rs ts)
 errors_len d e b x [] [] h = refl
 errors_len d e b x [] (t ∷ ts) h = absurd h
 errors_len d e b x (r ∷ rs) [] h = absurd h
 errors_len d e b x (r ∷ rs) (t ∷ ts) h = ap (λ n. pos 1 +ℤ n) (errors_len d e b x rs ts h.1)
 
-values_len : (x : List ℤ) (rs : List Row) → len (values x rs) ≡ len rs
+values_len : (x : List ℤ) (rs : List SignalRow) → len (values x rs) ≡ len rs
 values_len x [] = refl
 values_len x (r ∷ rs) = ap (λ n. pos 1 +ℤ n) (values_len x rs)
 
-errors_sumsq : (d e : ℤ) (b : WholeBaseline) (rs : List Row) (ts : List WholeData) → WholeFits d rs ts → squared_norm (errors d e b rs ts) ≤ℤ (pos 4 *ℤ (d *ℤ d *ℤ slacks e b rs))
+errors_sumsq : (d e : ℤ) (b : WholeBaseline) (rs : List SignalRow) (ts : List WholeData) → WholeFits d rs ts → squared_norm (errors d e b rs ts) ≤ℤ (pos 4 *ℤ (d *ℤ d *ℤ slacks e b rs))
 errors_sumsq d e b [] [] h = le_by (d ∷ []) (λ d. (nat 0, nat 4 ⊗ (d ⊗ d ⊗ nat 0), nat 0 ⊗ nat 0)) refl (square_nn (pos 0))
 errors_sumsq d e b [] (t ∷ ts) h = absurd h
 errors_sumsq d e b (r ∷ rs) [] h = absurd h
@@ -98,16 +99,16 @@ quad_zeros zero x = refl
 quad_zeros (suc n) [] = refl
 quad_zeros (suc n) (x ∷ v) = ap₂ (λ s t. pos 0 *ℤ (x *ℤ x) +ℤ pos 2 *ℤ (x *ℤ s) +ℤ t) (dot_zeros (length (zeros n)) v) (quad_zeros n v) ∙ (same_by (x ∷ []) (λ x. (nat 0 ⊗ (x ⊗ x) ⊕ nat 2 ⊗ (x ⊗ nat 0) ⊕ nat 0, nat 0)) refl)
 
-sum_values : (i : ℕ) (x : List ℤ) (rs : List Row) → dot (sum_coefficients i rs) x ≡ sum (values x rs)
+sum_values : (i : ℕ) (x : List ℤ) (rs : List SignalRow) → dot (sum_coefficients i rs) x ≡ sum (values x rs)
 sum_values i x [] = dot_zeros (columns i) x
 sum_values i x (r ∷ rs) = dot_added (coefficients r) (sum_coefficients i rs) x ∙ ap (λ t. dot (coefficients r) x +ℤ t) (sum_values i x rs)
 
-sumsq_values : (i : ℕ) (x : List ℤ) (rs : List Row) → quad (sum_outer i rs) x ≡ squared_norm (values x rs)
+sumsq_values : (i : ℕ) (x : List ℤ) (rs : List SignalRow) → quad (sum_outer i rs) x ≡ squared_norm (values x rs)
 sumsq_values i x [] = quad_zeros (columns i) x
 sumsq_values i x (r ∷ rs) = quad_plus (outer (coefficients r)) (sum_outer i rs) x ∙ ap₂ (λ s t. s +ℤ t) (quad_outer (coefficients r) x) (sumsq_values i x rs)
 
 -- at one group's matrix
-group_at : (i : ℕ) (x : List ℤ) (g : Group) → quad (group_matrix i g) x ≡ share g *ℤ spread (values x g.rows)
+group_at : (i : ℕ) (x : List ℤ) (g : SignalGroup) → quad (group_matrix i g) x ≡ share g *ℤ spread (values x g.rows)
 group_at i x g = quad_times (share g) (plus (times n a) (times (negsuc 0) (outer c))) x ∙ ap (λ z. share g *ℤ z)
     (quad_plus (times n a) (times (negsuc 0) (outer c)) x
     ∙ ap₂ (λ s t. s +ℤ t) (quad_times n a x ∙ ap₂ (λ s t. s *ℤ t) (sym (values_len x g.rows)) (sumsq_values i x g.rows))
@@ -126,12 +127,12 @@ group_at i x g = quad_times (share g) (plus (times n a) (times (negsuc 0) (outer
     step : (p s : ℤ) → p +ℤ negsuc 0 *ℤ (s *ℤ s) ≡ p -ℤ s *ℤ s
     step p s = same_by (p ∷ s ∷ []) (λ p s. (p ⊕ ko (negsuc 0) ⊗ (s ⊗ s), p ⊖ s ⊗ s)) refl
 
-abbrev pub sum_spreads : List ℤ → List Group → ℤ
+abbrev pub sum_spreads : List ℤ → List SignalGroup → ℤ
 sum_spreads x [] = pos 0
 sum_spreads x (g ∷ gs) = share g *ℤ spread (values x g.rows) +ℤ sum_spreads x gs
 
 -- the matrix at the columns is the sum of squares at the centres
-pub matrix_at_centres : (i : ℕ) (x : List ℤ) (gs : List Group) → quad (matrix i gs) x ≡ sum_spreads x gs
+pub matrix_at_centres : (i : ℕ) (x : List ℤ) (gs : List SignalGroup) → quad (matrix i gs) x ≡ sum_spreads x gs
 matrix_at_centres i x [] = quad_zeros (columns i) x
 matrix_at_centres i x (g ∷ gs) = quad_plus (group_matrix i g) (matrix i gs) x ∙ ap₂ (λ s t. s +ℤ t) (group_at i x g) (matrix_at_centres i x gs)
 
@@ -159,14 +160,14 @@ pub len_is : {A : Type 0} (s : List A) → len s ≡ pos (length s)
 len_is [] = refl
 len_is (x ∷ s) = let e : 1 + length s ≡ suc (length s) = omega arith in ap (λ z. pos 1 +ℤ z) (len_is s) ∙ ap pos e
 
-share_is : (g : Group) → 0 < length g.rows → length g.rows ≤ 15 → share g *ℤ len g.rows ≡ pos 360360 *ℤ g.weight
+share_is : (g : SignalGroup) → 0 < length g.rows → length g.rows ≤ 15 → share g *ℤ len g.rows ≡ pos 360360 *ℤ g.weight
 share_is g h k = rw (len_is g.rows) (step (pos (360360 / length g.rows)) (pos (length g.rows)) g.weight ∙ ap (λ z. pos z *ℤ g.weight) (whole (length g.rows) h k))
   where
     step : (f n w : ℤ) → f *ℤ w *ℤ n ≡ f *ℤ n *ℤ w
     step f n w = same_by (f ∷ w ∷ n ∷ []) (λ f w n. (f ⊗ w ⊗ n, f ⊗ n ⊗ w)) refl
 
 -- ---- one group
-group_below : (d e : ℤ) (z : List ℤ) (b : WholeBaseline) (g : Group) (ts : List WholeData) →
+group_below : (d e : ℤ) (z : List ℤ) (b : WholeBaseline) (g : SignalGroup) (ts : List WholeData) →
     0 < length g.rows → length g.rows ≤ 15 → pos 0 ≤ℤ g.weight → RowsOf (len z) g.rows → WholeFits d g.rows ts →
     (d *ℤ d *ℤ (pos 63 *ℤ (share g *ℤ spread (values (columns_at e z b) g.rows)) -ℤ pos 16128 *ℤ (pos 360360 *ℤ g.weight *ℤ slacks e b g.rows))) ≤ℤ (pos 64 *ℤ (share g *ℤ spread (whole_residuals d e z b g.rows ts)))
 group_below d e z b g ts h k w o f = rw (split_all d e z b g.rows ts f o)
@@ -204,7 +205,7 @@ none_at e b = step (b.b1 *ℤ b.b1) (b.b2 *ℤ b.b2) (b.b3 *ℤ b.b3) (e *ℤ e)
     step : (a f g h : ℤ) → pos 0 *ℤ a +ℤ (pos 0 *ℤ f +ℤ (pos 0 *ℤ g +ℤ pos 0 *ℤ h)) ≡ pos 0
     step a f g h = same_by (a ∷ f ∷ g ∷ h ∷ []) (λ a f g h. (nat 0 ⊗ a ⊕ (nat 0 ⊗ f ⊕ (nat 0 ⊗ g ⊕ nat 0 ⊗ h)), nat 0)) refl
 
-row_radii_at : (e : ℤ) (b : WholeBaseline) (w : ℤ) (rs : List Row) → radii_at e b (row_radii w rs) ≡ pos 360360 *ℤ w *ℤ slacks e b rs
+row_radii_at : (e : ℤ) (b : WholeBaseline) (w : ℤ) (rs : List SignalRow) → radii_at e b (row_radii w rs) ≡ pos 360360 *ℤ w *ℤ slacks e b rs
 row_radii_at e b w [] = none_at e b ∙ (same_by (w ∷ []) (λ w. (nat 0, nat 360360 ⊗ w ⊗ nat 0)) refl)
 row_radii_at e b w (r ∷ rs) = add_radii_at e b (record { r1 = pos 360360 *ℤ w *ℤ (r.ru1 *ℤ r.ru1); r2 = pos 360360 *ℤ w *ℤ (r.ru2 *ℤ r.ru2); r3 = pos 360360 *ℤ w *ℤ (r.ru3 *ℤ r.ru3); ry = pos 360360 *ℤ w *ℤ (r.ry *ℤ r.ry) }) (row_radii w rs)
     ∙ ap₂ (λ s t. s +ℤ t) (step w (r.ru1 *ℤ r.ru1) (r.ru2 *ℤ r.ru2) (r.ru3 *ℤ r.ru3) (r.ry *ℤ r.ry) (b.b1 *ℤ b.b1) (b.b2 *ℤ b.b2) (b.b3 *ℤ b.b3) (e *ℤ e)) (row_radii_at e b w rs)
@@ -249,7 +250,7 @@ bounding_form_at e z b c r = quad_plus (times (pos 63) c) (diagonal w1) (columns
     w1 : List ℤ
     w1 = (negsuc 16127 *ℤ r.r1) ∷ w2
 
-groups_below : (d e : ℤ) (z : List ℤ) (b : WholeBaseline) (gs : List Group) (ts : List (List WholeData)) → GroupsOf (len z) gs → WholeFitsAll d gs ts →
+groups_below : (d e : ℤ) (z : List ℤ) (b : WholeBaseline) (gs : List SignalGroup) (ts : List (List WholeData)) → GroupsOf (len z) gs → WholeFitsAll d gs ts →
     (d *ℤ d *ℤ (pos 63 *ℤ sum_spreads (columns_at e z b) gs -ℤ pos 16128 *ℤ radii_at e b (radii gs))) ≤ℤ (pos 64 *ℤ whole_sum_of_squares d e z b gs ts)
 groups_below d e z b [] [] h f = rw (none_at e b) (le_by (d ∷ []) (λ d. (d ⊗ d ⊗ (nat 63 ⊗ nat 0 ⊖ nat 16128 ⊗ nat 0), nat 64 ⊗ nat 0, nat 0 ⊗ nat 0)) refl (square_nn (pos 0)))
 groups_below d e z b [] (t ∷ ts) h f = absurd f
@@ -263,6 +264,6 @@ groups_below d e z b (g ∷ gs) (t ∷ ts) h f = rw (add_radii_at e b (row_radii
     step d p q r s t u h k = le_by (d ∷ p ∷ s ∷ q ∷ t ∷ r ∷ u ∷ []) (λ d p s q t r u. (d ⊗ d ⊗ (nat 63 ⊗ (p ⊕ s) ⊖ nat 16128 ⊗ (q ⊕ t)), nat 64 ⊗ (r ⊕ u), nat 64 ⊗ r ⊖ d ⊗ d ⊗ (nat 63 ⊗ p ⊖ nat 16128 ⊗ q) ⊕ (nat 64 ⊗ u ⊖ d ⊗ d ⊗ (nat 63 ⊗ s ⊖ nat 16128 ⊗ t)))) refl (both_nn (less_nn h) (less_nn k))
 
 -- for all data in the boxes, over d, all baselines over e and all integers z
-pub bounding_form_below : (d e : ℤ) (z : List ℤ) (b : WholeBaseline) (gs : List Group) (ts : List (List WholeData)) → GroupsOf (len z) gs → WholeFitsAll d gs ts →
+pub bounding_form_below : (d e : ℤ) (z : List ℤ) (b : WholeBaseline) (gs : List SignalGroup) (ts : List (List WholeData)) → GroupsOf (len z) gs → WholeFitsAll d gs ts →
     (d *ℤ d *ℤ quad (bounding_form (length z) (matrix (length z) gs) (radii gs)) (columns_at e z b)) ≤ℤ (pos 64 *ℤ whole_sum_of_squares d e z b gs ts)
 bounding_form_below d e z b gs ts h f = rw (bounding_form_at e z b (matrix (length z) gs) (radii gs), matrix_at_centres (length z) (columns_at e z b) gs) (groups_below d e z b gs ts h f)

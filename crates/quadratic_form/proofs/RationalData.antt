@@ -1,17 +1,17 @@
 -- The claim over rationals, from the one over whole numbers.
 use Rattle.std.proofs.Common.{◌≡◌, ℕ, ◌*◌, ◌<◌, ◌^◌, List, [], ◌∷◌, length, ℤ, pos, ◌+ℤ◌, ◌*ℤ◌, ◌≤ℤ◌, ◌<ℤ◌, Ok, mul-pos, pow_pos, arith, ap, refl, subst}
 use Rattle.whole_math.proofs.Ring.{◌⊕◌, ◌⊖◌, ◌⊗◌}
-use Rattle.quadratic_form.proofs.Inequalities.{le_by, prod_nn, less_nn, pos_nn, pos_one, later, strict, same_by, nat}
+use Rattle.whole_math.proofs.Inequalities.{le_by, prod_nn, less_nn, pos_nn, pos_one, later, strict, same_by, nat}
 use Rattle.quadratic_form.proofs.Bound.{bound}
 use Rattle.quadratic_form.proofs.Decision.{decided}
-use Rattle.quadratic_form.proofs.CommonDenominator.{Over, over_whole, over_zero, over_add, over_sub, over_mul, over_times, over_wide, over_le, over_lt, over_box}
+use Rattle.rational.proofs.Over.{Over, over_whole, over_zero, over_add, over_sub, over_mul, over_times, over_wide, over_le, over_lt, over_box}
 use Rattle.quadratic_form.specs.Vectors.{len, sum, squared_norm, dot, spread}
 use Rattle.quadratic_form.specs.Forms.{Column}
 use Rattle.quadratic_form.specs.Elimination.{Factor, steps}
-use Rattle.quadratic_form.specs.Rows.{Row, WholeData, WholeBaseline, Group, WholeFits, WholeFitsAll, whole_residual, whole_residuals, share, whole_sum_of_squares, GroupsOf, first_rounding, value}
+use Rattle.quadratic_form.specs.Rows.{SignalRow, WholeData, WholeBaseline, SignalGroup, WholeFits, WholeFitsAll, whole_residual, whole_residuals, share, whole_sum_of_squares, GroupsOf, first_rounding, value}
 use Rattle.quadratic_form.specs.UpperSum.{top}
 use Rattle.quadratic_form.specs.TwoLeast.{TwoLeast}
-use Rattle.quadratic_form.specs.Rat.{Rat, ◌≤ʳ◌, ◌<ʳ◌, whole, add_r, sub_r, mul_r}
+use Rattle.rational.specs.Rational.{Rational, ◌≤ʳ◌, ◌<ʳ◌, of_whole, add_r, sub_r, mul_r}
 use Rattle.quadratic_form.specs.RationalData.{RowData, Baseline, Fits, FitsAll, residual, residuals, sum_of_rationals, squared_norm_of_rationals, spread_of_rationals, sum_of_squares, moved, IsBest}
 
 -- ---- data and baseline over one denominator
@@ -39,25 +39,25 @@ OverAll d (t ∷ ts) [] = ⊥
 OverAll d (t ∷ ts) (q ∷ qs) = OverRows d t q × OverAll d ts qs
 
 -- ---- F over one denominator
-residual_over : (d e : ℤ) (z : List ℤ) (c : WholeBaseline) (b : Baseline) (r : Row) (t : WholeData) (q : RowData) → OverDatum d t q → OverBase e c b →
+residual_over : (d e : ℤ) (z : List ℤ) (c : WholeBaseline) (b : Baseline) (r : SignalRow) (t : WholeData) (q : RowData) → OverDatum d t q → OverBase e c b →
     Over (d *ℤ e) (whole_residual d e z c r t) (residual z b r q)
 residual_over d e z c b r t q h k =
-    over_add (d *ℤ e) _ _ (sub_r q.y s) (whole (dot r.cycles z)) (over_sub (d *ℤ e) _ _ q.y s (over_wide d e t.y q.y h.y)
+    over_add (d *ℤ e) _ _ (sub_r q.y s) (of_whole (dot r.cycles z)) (over_sub (d *ℤ e) _ _ q.y s (over_wide d e t.y q.y h.y)
     (over_add (d *ℤ e) _ _ (mul_r q.u1 b.b1) (add_r (mul_r q.u2 b.b2) (mul_r q.u3 b.b3)) (over_mul d e _ _ q.u1 b.b1 h.u1 k.b1)
     (over_add (d *ℤ e) _ _ (mul_r q.u2 b.b2) (mul_r q.u3 b.b3) (over_mul d e _ _ q.u2 b.b2 h.u2 k.b2) (over_mul d e _ _ q.u3 b.b3 h.u3 k.b3))))
     (over_whole (d *ℤ e) (dot r.cycles z))
   where
-    s : Rat
+    s : Rational
     s = add_r (mul_r q.u1 b.b1) (add_r (mul_r q.u2 b.b2) (mul_r q.u3 b.b3))
 
 -- a list over one denominator
-abbrev OverList : ℤ → List ℤ → List Rat → Type 0
+abbrev OverList : ℤ → List ℤ → List Rational → Type 0
 OverList k [] [] = Unit {0}
 OverList k [] (q ∷ s) = ⊥
 OverList k (n ∷ t) [] = ⊥
 OverList k (n ∷ t) (q ∷ s) = Over k n q × OverList k t s
 
-residuals_over : (d e : ℤ) (z : List ℤ) (c : WholeBaseline) (b : Baseline) (rs : List Row) (ts : List WholeData) (qs : List RowData) → OverRows d ts qs → OverBase e c b →
+residuals_over : (d e : ℤ) (z : List ℤ) (c : WholeBaseline) (b : Baseline) (rs : List SignalRow) (ts : List WholeData) (qs : List RowData) → OverRows d ts qs → OverBase e c b →
     OverList (d *ℤ e) (whole_residuals d e z c rs ts) (residuals z b rs qs)
 residuals_over d e z c b [] ts qs h k = tt
 residuals_over d e z c b (r ∷ rs) [] [] h k = tt
@@ -65,36 +65,36 @@ residuals_over d e z c b (r ∷ rs) [] (q ∷ qs) h k = absurd h
 residuals_over d e z c b (r ∷ rs) (t ∷ ts) [] h k = absurd h
 residuals_over d e z c b (r ∷ rs) (t ∷ ts) (q ∷ qs) h k = (residual_over d e z c b r t q h.0 k, residuals_over d e z c b rs ts qs h.1 k)
 
-list_len : (k : ℤ) (t : List ℤ) (s : List Rat) → OverList k t s → len t ≡ len s
+list_len : (k : ℤ) (t : List ℤ) (s : List Rational) → OverList k t s → len t ≡ len s
 list_len k [] [] h = refl
 list_len k [] (q ∷ s) h = absurd h
 list_len k (n ∷ t) [] h = absurd h
 list_len k (n ∷ t) (q ∷ s) h = ap (λ m. pos 1 +ℤ m) (list_len k t s h.1)
 
-sum_over : (k : ℤ) (t : List ℤ) (s : List Rat) → OverList k t s → Over k (sum t) (sum_of_rationals s)
+sum_over : (k : ℤ) (t : List ℤ) (s : List Rational) → OverList k t s → Over k (sum t) (sum_of_rationals s)
 sum_over k [] [] h = over_zero k
 sum_over k [] (q ∷ s) h = absurd h
 sum_over k (n ∷ t) [] h = absurd h
 sum_over k (n ∷ t) (q ∷ s) h = over_add k n (sum t) q (sum_of_rationals s) h.0 (sum_over k t s h.1)
 
-sumsq_over : (k : ℤ) (t : List ℤ) (s : List Rat) → OverList k t s → Over (k *ℤ k) (squared_norm t) (squared_norm_of_rationals s)
+sumsq_over : (k : ℤ) (t : List ℤ) (s : List Rational) → OverList k t s → Over (k *ℤ k) (squared_norm t) (squared_norm_of_rationals s)
 sumsq_over k [] [] h = over_zero (k *ℤ k)
 sumsq_over k [] (q ∷ s) h = absurd h
 sumsq_over k (n ∷ t) [] h = absurd h
 sumsq_over k (n ∷ t) (q ∷ s) h = over_add (k *ℤ k) (n *ℤ n) (squared_norm t) (mul_r q q) (squared_norm_of_rationals s) (over_mul k k n n q q h.0 h.0) (sumsq_over k t s h.1)
 
-spread_over : (k : ℤ) (t : List ℤ) (s : List Rat) → OverList k t s → Over (k *ℤ k) (spread t) (spread_of_rationals s)
-spread_over k t s h = over_sub (k *ℤ k) (len t *ℤ squared_norm t) (sum t *ℤ sum t) (mul_r (whole (len s)) (squared_norm_of_rationals s)) (mul_r (sum_of_rationals s) (sum_of_rationals s))
-    (subst (λ (n : ℤ). Over (k *ℤ k) (len t *ℤ squared_norm t) (mul_r (whole n) (squared_norm_of_rationals s))) (list_len k t s h) (over_times (k *ℤ k) (len t) (squared_norm t) (squared_norm_of_rationals s) (sumsq_over k t s h)))
+spread_over : (k : ℤ) (t : List ℤ) (s : List Rational) → OverList k t s → Over (k *ℤ k) (spread t) (spread_of_rationals s)
+spread_over k t s h = over_sub (k *ℤ k) (len t *ℤ squared_norm t) (sum t *ℤ sum t) (mul_r (of_whole (len s)) (squared_norm_of_rationals s)) (mul_r (sum_of_rationals s) (sum_of_rationals s))
+    (subst (λ (n : ℤ). Over (k *ℤ k) (len t *ℤ squared_norm t) (mul_r (of_whole n) (squared_norm_of_rationals s))) (list_len k t s h) (over_times (k *ℤ k) (len t) (squared_norm t) (squared_norm_of_rationals s) (sumsq_over k t s h)))
     (over_mul k k (sum t) (sum t) (sum_of_rationals s) (sum_of_rationals s) (sum_over k t s h) (sum_over k t s h))
 
-pub F_over : (d e : ℤ) (z : List ℤ) (c : WholeBaseline) (b : Baseline) (gs : List Group) (ts : List (List WholeData)) (qs : List (List RowData)) → OverAll d ts qs → OverBase e c b →
+pub F_over : (d e : ℤ) (z : List ℤ) (c : WholeBaseline) (b : Baseline) (gs : List SignalGroup) (ts : List (List WholeData)) (qs : List (List RowData)) → OverAll d ts qs → OverBase e c b →
     Over ((d *ℤ e) *ℤ (d *ℤ e)) (whole_sum_of_squares d e z c gs ts) (sum_of_squares z b gs qs)
 F_over d e z c b [] ts qs h k = over_zero ((d *ℤ e) *ℤ (d *ℤ e))
 F_over d e z c b (g ∷ gs) [] [] h k = over_zero ((d *ℤ e) *ℤ (d *ℤ e))
 F_over d e z c b (g ∷ gs) [] (q ∷ qs) h k = absurd h
 F_over d e z c b (g ∷ gs) (t ∷ ts) [] h k = absurd h
-F_over d e z c b (g ∷ gs) (t ∷ ts) (q ∷ qs) h k = over_add ((d *ℤ e) *ℤ (d *ℤ e)) _ _ (mul_r (whole (share g)) (spread_of_rationals (residuals z b g.rows q))) (sum_of_squares z b gs qs)
+F_over d e z c b (g ∷ gs) (t ∷ ts) (q ∷ qs) h k = over_add ((d *ℤ e) *ℤ (d *ℤ e)) _ _ (mul_r (of_whole (share g)) (spread_of_rationals (residuals z b g.rows q))) (sum_of_squares z b gs qs)
     (over_times ((d *ℤ e) *ℤ (d *ℤ e)) (share g) (spread (whole_residuals d e z c g.rows t)) (spread_of_rationals (residuals z b g.rows q))
     (spread_over (d *ℤ e) (whole_residuals d e z c g.rows t) (residuals z b g.rows q) (residuals_over d e z c b g.rows t q h.0 k)))
     (F_over d e z c b gs ts qs h.1 k)
@@ -224,7 +224,7 @@ common_base b = record {
     three : (n a b c : ℤ) → n *ℤ (a *ℤ (b *ℤ c)) ≡ n *ℤ (a *ℤ b) *ℤ c
     three n a b c = same_by (n ∷ a ∷ b ∷ c ∷ []) (λ n a b c. (n ⊗ (a ⊗ (b ⊗ c)), n ⊗ (a ⊗ b) ⊗ c)) refl
 
-fits_over : (d : ℤ) (rs : List Row) (ts : List WholeData) (qs : List RowData) → pos 0 ≤ℤ d → OverRows d ts qs → Fits rs qs → WholeFits d rs ts
+fits_over : (d : ℤ) (rs : List SignalRow) (ts : List WholeData) (qs : List RowData) → pos 0 ≤ℤ d → OverRows d ts qs → Fits rs qs → WholeFits d rs ts
 fits_over d [] [] qs i h f = tt
 fits_over d [] (t ∷ ts) [] i h f = absurd h
 fits_over d [] (t ∷ ts) (q ∷ qs) i h f = absurd f
@@ -236,7 +236,7 @@ fits_over d (r ∷ rs) (t ∷ ts) (q ∷ qs) i h f = (
   fits_over d rs ts qs i h.1 f.1,
 )
 
-fits_all_over : (d : ℤ) (gs : List Group) (ts : List (List WholeData)) (qs : List (List RowData)) → pos 0 ≤ℤ d → OverAll d ts qs → FitsAll gs qs → WholeFitsAll d gs ts
+fits_all_over : (d : ℤ) (gs : List SignalGroup) (ts : List (List WholeData)) (qs : List (List RowData)) → pos 0 ≤ℤ d → OverAll d ts qs → FitsAll gs qs → WholeFitsAll d gs ts
 fits_all_over d [] [] qs i h f = tt
 fits_all_over d [] (t ∷ ts) [] i h f = absurd h
 fits_all_over d [] (t ∷ ts) (q ∷ qs) i h f = absurd f
@@ -247,11 +247,11 @@ fits_all_over d (g ∷ gs) (t ∷ ts) (q ∷ qs) i h f = (fits_over d g.rows t q
 
 -- ---- the bound and the decision
 -- 64 F is at least 2^h P(z), for all rational data in the boxes, all integers and all rational baselines
-pub bound_over_rationals : (h : ℕ) (z : List ℤ) (b : Baseline) (gs : List Group) (qs : List (List RowData)) (p : List Factor × List Column) →
+pub bound_over_rationals : (h : ℕ) (z : List ℤ) (b : Baseline) (gs : List SignalGroup) (qs : List (List RowData)) (p : List Factor × List Column) →
     GroupsOf (len z) gs → FitsAll gs qs → steps 0 3 (first_rounding h (length z) gs) ≡ Ok p →
-    whole (pos (2 ^ h) *ℤ value p.1 z) ≤ʳ mul_r (whole (pos 64)) (sum_of_squares z b gs qs)
+    of_whole (pos (2 ^ h) *ℤ value p.1 z) ≤ʳ mul_r (of_whole (pos 64)) (sum_of_squares z b gs qs)
 bound_over_rationals h z b gs qs p g f s =
-    over_le 1 q (pos (2 ^ h) *ℤ value p.1 z) (pos 64 *ℤ n) (whole (pos (2 ^ h) *ℤ value p.1 z)) (mul_r (whole (pos 64)) (sum_of_squares z b gs qs))
+    over_le 1 q (pos (2 ^ h) *ℤ value p.1 z) (pos 64 *ℤ n) (of_whole (pos (2 ^ h) *ℤ value p.1 z)) (mul_r (of_whole (pos 64)) (sum_of_squares z b gs qs))
     (omega arith) (mul-pos (mul-pos t.positive c.positive) (mul-pos t.positive c.positive)) refl
     (over_times (pos q) (pos 64) n (sum_of_squares z b gs qs) (F_over (pos t.d) (pos c.d) z c.over b gs t.over qs t.is c.is))
     (step (pos t.d) (pos c.d) (pos (2 ^ h) *ℤ value p.1 z) n (bound (pos t.d) (pos c.d) h z c.over gs t.over p g (fits_all_over (pos t.d) gs t.over qs (pos_nn t.d) t.is f) s))
@@ -271,7 +271,7 @@ bound_over_rationals h z b gs qs p g f s =
     step : (d e v f : ℤ) → (d *ℤ e *ℤ (d *ℤ e) *ℤ v) ≤ℤ (pos 64 *ℤ f) → (v *ℤ (d *ℤ e *ℤ (d *ℤ e))) ≤ℤ (pos 64 *ℤ f *ℤ pos 1)
     step d e v f h = le_by (v ∷ d ∷ e ∷ f ∷ []) (λ v d e f. (v ⊗ (d ⊗ e ⊗ (d ⊗ e)), nat 64 ⊗ f ⊗ nat 1, nat 64 ⊗ f ⊖ d ⊗ e ⊗ (d ⊗ e) ⊗ v)) refl (less_nn h)
 
-pub decided_best : (h : ℕ) (ratio : ℤ) (z1 z2 : List ℤ) (m : WholeBaseline) (gs : List Group) (p : List Factor × List Column) →
+pub decided_best : (h : ℕ) (ratio : ℤ) (z1 z2 : List ℤ) (m : WholeBaseline) (gs : List SignalGroup) (p : List Factor × List Column) →
     GroupsOf (len z1) gs → steps 0 3 (first_rounding h (length z1) gs) ≡ Ok p → TwoLeast p.1 (len z1) z1 z2 →
     pos 1000 ≤ℤ ratio → (pos 64 *ℤ (ratio *ℤ top h z1 m gs)) <ℤ (pos 1000 *ℤ value p.1 z2) → IsBest gs z1 m
 decided_best h ratio z1 z2 m gs p g s t r c = record { best = λ (qs : List (List RowData)) (f : FitsAll gs qs) (v : List ℤ) (k : len v ≡ len z1) (o : v ≡ z1 → ⊥) (b : Baseline). go qs f v k o b (common qs) (common_base b) }

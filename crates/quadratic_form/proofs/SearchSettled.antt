@@ -2,7 +2,7 @@
 use Rattle.std.proofs.Common.{◌≡◌, ◌⊎◌, inl, inr, ⊎_elim, ◌^◌, List, [], ◌∷◌, ◌++◌, length, ℤ, pos, ◌+ℤ◌, ◌*ℤ◌, ◌≤ℤ◌, ◌<ℤ◌, Ok, arith, sym, refl, subst}
 use Rattle.whole_math.proofs.Order.{mul_lt_cancel}
 use Rattle.whole_math.proofs.Ring.{◌⊕◌, ◌⊖◌, ◌⊗◌}
-use Rattle.quadratic_form.proofs.Inequalities.{le_by, both_nn, less_nn, pos_one, later, strict, nat}
+use Rattle.whole_math.proofs.Inequalities.{le_by, both_nn, less_nn, pos_one, later, strict, nat}
 use Rattle.quadratic_form.proofs.VectorOrder.{less_chain}
 use Rattle.quadratic_form.proofs.LowerSums.{lower_sum_grows, lower_sum_below}
 use Rattle.quadratic_form.specs.Vectors.{len}

@@ -3,7 +3,7 @@ use Rattle.std.proofs.Common.{◌≡◌, List, [], ◌∷◌, ◌++◌, length, 
 use Rattle.quadratic_form.proofs.Spread.{len_nonneg, len_tail, len_apart, len_scaled, len_added}
 use Rattle.quadratic_form.specs.Vectors.{len, scaled}
 use Rattle.quadratic_form.specs.Forms.{Column, Shaped, plus, times, outer}
-use Rattle.quadratic_form.specs.Rows.{Row, WholeBaseline, Group, coefficients, sum_coefficients, sum_outer, group_matrix, matrix, Radii, diagonal, zeros, columns, bounding_form, columns_at, RowsOf, GroupsOf}
+use Rattle.quadratic_form.specs.Rows.{SignalRow, WholeBaseline, SignalGroup, coefficients, sum_coefficients, sum_outer, group_matrix, matrix, Radii, diagonal, zeros, columns, bounding_form, columns_at, RowsOf, GroupsOf}
 
 abbrev pub Sized : ℤ → List Column → Type 0
 Sized n a = (len a ≡ n) × Shaped a
@@ -44,7 +44,7 @@ cols k = pos 1 +ℤ (pos 1 +ℤ (pos 1 +ℤ (pos 1 +ℤ k)))
 four : (n k : ℤ) → n ≡ pos 1 +ℤ k → pos 1 +ℤ (pos 1 +ℤ (pos 1 +ℤ n)) ≡ cols k
 four n k e = ap (λ n. pos 1 +ℤ (pos 1 +ℤ (pos 1 +ℤ n))) e
 
-len_coefficients : (k : ℤ) (r : Row) → len r.cycles ≡ k → len (coefficients r) ≡ cols k
+len_coefficients : (k : ℤ) (r : SignalRow) → len r.cycles ≡ k → len (coefficients r) ≡ cols k
 len_coefficients k r e = four _ k (len_last r.cycles r.y ∙ ap (λ n. pos 1 +ℤ n) e)
 
 pub len_columns : (e : ℤ) (z : List ℤ) (b : WholeBaseline) → len (columns_at e z b) ≡ cols (len z)
@@ -53,7 +53,7 @@ len_columns e z b = four _ (len z) (len_last (scaled e z) e ∙ ap (λ n. pos 1 
 len_start : (z : List ℤ) → len (zeros (columns (length z))) ≡ cols (len z)
 len_start z = ap (λ n. cols n) (len_zeros z)
 
-len_sum_coefficients : (z : List ℤ) (rs : List Row) → RowsOf (len z) rs → len (sum_coefficients (length z) rs) ≡ cols (len z)
+len_sum_coefficients : (z : List ℤ) (rs : List SignalRow) → RowsOf (len z) rs → len (sum_coefficients (length z) rs) ≡ cols (len z)
 len_sum_coefficients z [] h = len_start z
 len_sum_coefficients z (r ∷ rs) h = len_added (coefficients r) (sum_coefficients (length z) rs) (len_coefficients (len z) r h.0 ∙ sym (len_sum_coefficients z rs h.1)) ∙ len_coefficients (len z) r h.0
 
@@ -69,11 +69,11 @@ product n c e = ((sized_outer c).0 ∙ e, (sized_outer c).1)
 sized_start : (z : List ℤ) → Sized (cols (len z)) (diagonal (zeros (columns (length z))))
 sized_start z = ((sized_diagonal (zeros (columns (length z)))).0 ∙ len_start z, (sized_diagonal (zeros (columns (length z)))).1)
 
-sized_sum_outer : (z : List ℤ) (rs : List Row) → RowsOf (len z) rs → Sized (cols (len z)) (sum_outer (length z) rs)
+sized_sum_outer : (z : List ℤ) (rs : List SignalRow) → RowsOf (len z) rs → Sized (cols (len z)) (sum_outer (length z) rs)
 sized_sum_outer z [] h = sized_start z
 sized_sum_outer z (r ∷ rs) h = both (cols (len z)) (outer (coefficients r)) (sum_outer (length z) rs) (product (cols (len z)) (coefficients r) (len_coefficients (len z) r h.0)) (sized_sum_outer z rs h.1)
 
-sized_matrix : (z : List ℤ) (gs : List Group) → GroupsOf (len z) gs → Sized (cols (len z)) (matrix (length z) gs)
+sized_matrix : (z : List ℤ) (gs : List SignalGroup) → GroupsOf (len z) gs → Sized (cols (len z)) (matrix (length z) gs)
 sized_matrix z [] h = sized_start z
 sized_matrix z (g ∷ gs) h = both (cols (len z)) (group_matrix (length z) g) (matrix (length z) gs) one (sized_matrix z gs h.4)
   where
@@ -83,7 +83,7 @@ sized_matrix z (g ∷ gs) h = both (cols (len z)) (group_matrix (length z) g) (m
     one : Sized (cols (len z)) (group_matrix (length z) g)
     one = more n _ _ (both n _ _ (more n (len g.rows) (sum_outer (length z) g.rows) (sized_sum_outer z g.rows h.3)) (more n (negsuc 0) (outer (sum_coefficients (length z) g.rows)) (product n (sum_coefficients (length z) g.rows) (len_sum_coefficients z g.rows h.3))))
 
-pub sized_bounding_form : (z : List ℤ) (gs : List Group) (r : Radii) → GroupsOf (len z) gs → Sized (cols (len z)) (bounding_form (length z) (matrix (length z) gs) r)
+pub sized_bounding_form : (z : List ℤ) (gs : List SignalGroup) (r : Radii) → GroupsOf (len z) gs → Sized (cols (len z)) (bounding_form (length z) (matrix (length z) gs) r)
 sized_bounding_form z gs r h = both (cols (len z)) (times (pos 63) (matrix (length z) gs)) (diagonal w) (more (cols (len z)) (pos 63) (matrix (length z) gs) (sized_matrix z gs h))
     ((sized_diagonal w).0 ∙ four _ (len z) (len_last (zeros (length z)) (negsuc 16127 *ℤ r.ry) ∙ ap (λ n. pos 1 +ℤ n) (len_zeros z)), (sized_diagonal w).1)
   where

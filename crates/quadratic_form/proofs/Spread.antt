@@ -2,7 +2,7 @@
 use Rattle.std.proofs.Common.{◌≡◌, List, [], ◌∷◌, ℤ, pos, ◌+ℤ◌, ◌-ℤ◌, ◌*ℤ◌, ◌≤ℤ◌, arith, sym, ap, ap₂, ◌∙◌, refl, subst}
 use Rattle.whole_math.proofs.Ring.{◌⊕◌, ◌⊖◌, ◌⊗◌}
 use Rattle.whole_math.proofs.Order.{lins, square_nn}
-use Rattle.quadratic_form.proofs.Inequalities.{le_by, both_nn, same_by, nat}
+use Rattle.whole_math.proofs.Inequalities.{le_by, both_nn, same_by, nat}
 use Rattle.quadratic_form.specs.Vectors.{len, sum, squared_norm, dot, scaled, added, spread, cross_spread, distances_from, pair_distances}
 
 pub apart_open : (x : ℤ) (s : List ℤ) → distances_from x s ≡ len s *ℤ (x *ℤ x) -ℤ pos 2 *ℤ (x *ℤ sum s) +ℤ squared_norm s

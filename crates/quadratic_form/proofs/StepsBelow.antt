@@ -3,7 +3,7 @@ use Rattle.std.proofs.Common.{◌≡◌, ℕ, zero, suc, ◌^◌, ◌<◌, Bool,
 use Rattle.std.proofs.lemmas.Int.{ints}
 use Rattle.whole_math.proofs.Ring.{◌⊕◌, ◌⊖◌, ◌⊗◌}
 use Rattle.whole_math.proofs.Order.{lins, square_nn, mul_le_cancel}
-use Rattle.quadratic_form.proofs.Inequalities.{le_by, both_nn, prod_nn, less_nn, nat}
+use Rattle.whole_math.proofs.Inequalities.{le_by, both_nn, prod_nn, less_nn, nat}
 use Rattle.quadratic_form.proofs.Spread.{len_nonneg, len_tail, len_apart}
 use Rattle.quadratic_form.proofs.EliminationStep.{step_below, kept_nonneg, next_len, next_shaped}
 use Rattle.quadratic_form.specs.Vectors.{len, dot}

@@ -1,6 +1,6 @@
 -- A symmetric table is a form, and a form at a mapped vector is the form of the transformed table.
 use Rattle.std.proofs.Common.{arith, ℕ, zero, suc, ◌≡◌, List, [], ◌∷◌, ◌++◌, length, ℤ, pos, ◌+ℤ◌, ◌*ℤ◌, ◌≤ℤ◌, sym, ap, ap₂, ◌∙◌, refl}
-use Rattle.quadratic_form.proofs.Inequalities.{same_by, nat}
+use Rattle.whole_math.proofs.Inequalities.{same_by, nat}
 use Rattle.whole_math.proofs.Ring.{◌⊕◌, ◌⊗◌}
 use Rattle.quadratic_form.proofs.Spread.{len_nonneg, len_tail, len_apart}
 use Rattle.quadratic_form.proofs.Forms.{dot_added, dot_scaled}

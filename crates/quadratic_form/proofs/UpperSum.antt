@@ -5,11 +5,12 @@ use Rattle.whole_math.proofs.Ring.{◌⊕◌, ◌⊖◌, ◌⊗◌, ng}
 use Rattle.whole_math.proofs.Order.{square_nn}
 use Rattle.whole_math.proofs.Rounding.{lt_floor}
 use Rattle.whole_math.specs.Rounding.{floor_div, ceil_div}
-use Rattle.quadratic_form.proofs.Inequalities.{le_by, both_nn, prod_nn, less_nn, pos_nn, weak, halve, floor_close, ceil_close, le_trans_ℤ, nat}
+use Rattle.whole_math.proofs.Inequalities.{le_by, both_nn, prod_nn, less_nn, pos_nn, weak, halve, floor_close, ceil_close, le_trans_ℤ, nat}
 use Rattle.quadratic_form.proofs.Spread.{spread_pairs}
 use Rattle.quadratic_form.proofs.NormalForm.{square_within}
 use Rattle.quadratic_form.specs.Vectors.{dot, spread, distances_from, pair_distances}
-use Rattle.quadratic_form.specs.Rows.{Row, WholeData, WholeBaseline, Group, Within, WholeInBoxes, WholeFits, WholeFitsAll, whole_residual, whole_residuals, share, whole_sum_of_squares, GroupsOf}
+use Rattle.whole_math.specs.Bounds.{Within}
+use Rattle.quadratic_form.specs.Rows.{SignalRow, WholeData, WholeBaseline, SignalGroup, WholeInBoxes, WholeFits, WholeFitsAll, whole_residual, whole_residuals, share, whole_sum_of_squares, GroupsOf}
 use Rattle.quadratic_form.specs.UpperSum.{size, centre, rad, gap, gaps_from, gaps, upper_sum, top}
 
 size_within : (b : ℤ) → Within (size b) b
@@ -37,7 +38,7 @@ floor_part x n h = (floor_close x n h, step x (floor_div x n) (pos n) (lt_floor 
     step x f n h = le_by (x ∷ n ∷ f ∷ []) (λ x n f. (x, n ⊗ (f ⊕ nat 1), f ⊗ n ⊕ n ⊖ x)) refl (less_nn (weak h))
 
 -- the residual lies within rad of the centre
-in_reach : (d : ℤ) (z : List ℤ) (m : WholeBaseline) (r : Row) (t : WholeData) → pos 0 ≤ℤ d → WholeInBoxes d r t →
+in_reach : (d : ℤ) (z : List ℤ) (m : WholeBaseline) (r : SignalRow) (t : WholeData) → pos 0 ≤ℤ d → WholeInBoxes d r t →
     Within (d *ℤ pos (2 ^ 16) *ℤ rad m r) (whole_residual d (pos (2 ^ 16)) z m r t -ℤ d *ℤ pos (2 ^ 16) *ℤ centre z m r)
 in_reach d z m r t h k =
     step d t.y r.y r.ry t.u1 r.u1 m.b1 r.ru1 (size m.b1) t.u2 r.u2 m.b2 r.ru2 (size m.b2) t.u3 r.u3 m.b3 r.ru3 (size m.b3) (dot r.cycles z) (floor_div x (2 ^ 16)) (ceil_div y (2 ^ 16)) h
@@ -61,7 +62,7 @@ in_reach d z m r t h k =
     )
 
 -- two residuals
-two_rows : (d : ℤ) (z : List ℤ) (m : WholeBaseline) (r s : Row) (t u : WholeData) → pos 0 ≤ℤ d → WholeInBoxes d r t → WholeInBoxes d s u →
+two_rows : (d : ℤ) (z : List ℤ) (m : WholeBaseline) (r s : SignalRow) (t u : WholeData) → pos 0 ≤ℤ d → WholeInBoxes d r t → WholeInBoxes d s u →
     ((whole_residual d (pos (2 ^ 16)) z m r t -ℤ whole_residual d (pos (2 ^ 16)) z m s u) *ℤ (whole_residual d (pos (2 ^ 16)) z m r t -ℤ whole_residual d (pos (2 ^ 16)) z m s u)) ≤ℤ (d *ℤ pos (2 ^ 16) *ℤ (d *ℤ pos (2 ^ 16)) *ℤ (gap z m r s *ℤ gap z m r s))
 two_rows d z m r s t u h i j =
     le_trans_ℤ (square_within (d *ℤ pos (2 ^ 16) *ℤ gap z m r s) (whole_residual d (pos (2 ^ 16)) z m r t -ℤ whole_residual d (pos (2 ^ 16)) z m s u)
@@ -84,28 +85,28 @@ add_step k a b g h i j = le_by (a ∷ b ∷ k ∷ g ∷ h ∷ []) (λ a b k g h.
 none : (k : ℤ) → pos 0 ≤ℤ (k *ℤ k *ℤ pos 0)
 none k = le_by (k ∷ []) (λ k. (nat 0, k ⊗ k ⊗ nat 0, nat 0 ⊗ nat 0)) refl (square_nn (pos 0))
 
-apart_above : (d : ℤ) (z : List ℤ) (m : WholeBaseline) (r : Row) (t : WholeData) (rs : List Row) (ts : List WholeData) → pos 0 ≤ℤ d → WholeInBoxes d r t → WholeFits d rs ts →
+apart_above : (d : ℤ) (z : List ℤ) (m : WholeBaseline) (r : SignalRow) (t : WholeData) (rs : List SignalRow) (ts : List WholeData) → pos 0 ≤ℤ d → WholeInBoxes d r t → WholeFits d rs ts →
     distances_from (whole_residual d (pos (2 ^ 16)) z m r t) (whole_residuals d (pos (2 ^ 16)) z m rs ts) ≤ℤ (d *ℤ pos (2 ^ 16) *ℤ (d *ℤ pos (2 ^ 16)) *ℤ gaps_from z m r rs)
 apart_above d z m r t [] [] h i f = none (d *ℤ pos (2 ^ 16))
 apart_above d z m r t [] (u ∷ ts) h i f = absurd f
 apart_above d z m r t (s ∷ rs) [] h i f = absurd f
 apart_above d z m r t (s ∷ rs) (u ∷ ts) h i f = add_step (d *ℤ pos (2 ^ 16)) _ _ _ _ (two_rows d z m r s t u h i f.0) (apart_above d z m r t rs ts h i f.1)
 
-pairs_below : (d : ℤ) (z : List ℤ) (m : WholeBaseline) (rs : List Row) (ts : List WholeData) → pos 0 ≤ℤ d → WholeFits d rs ts →
+pairs_below : (d : ℤ) (z : List ℤ) (m : WholeBaseline) (rs : List SignalRow) (ts : List WholeData) → pos 0 ≤ℤ d → WholeFits d rs ts →
     pair_distances (whole_residuals d (pos (2 ^ 16)) z m rs ts) ≤ℤ (d *ℤ pos (2 ^ 16) *ℤ (d *ℤ pos (2 ^ 16)) *ℤ gaps z m rs)
 pairs_below d z m [] [] h f = none (d *ℤ pos (2 ^ 16))
 pairs_below d z m [] (t ∷ ts) h f = absurd f
 pairs_below d z m (r ∷ rs) [] h f = absurd f
 pairs_below d z m (r ∷ rs) (t ∷ ts) h f = add_step (d *ℤ pos (2 ^ 16)) _ _ _ _ (apart_above d z m r t rs ts h f.0 f.1) (pairs_below d z m rs ts h f.1)
 
-pub pairs_above : (d : ℤ) (z : List ℤ) (m : WholeBaseline) (rs : List Row) (ts : List WholeData) → pos 0 ≤ℤ d → WholeFits d rs ts →
+pub pairs_above : (d : ℤ) (z : List ℤ) (m : WholeBaseline) (rs : List SignalRow) (ts : List WholeData) → pos 0 ≤ℤ d → WholeFits d rs ts →
     spread (whole_residuals d (pos (2 ^ 16)) z m rs ts) ≤ℤ (d *ℤ pos (2 ^ 16) *ℤ (d *ℤ pos (2 ^ 16)) *ℤ gaps z m rs)
 pairs_above d z m rs ts h f = rw (spread_pairs (whole_residuals d (pos (2 ^ 16)) z m rs ts)) (pairs_below d z m rs ts h f)
 
-pub share_nonneg : (g : Group) → pos 0 ≤ℤ g.weight → pos 0 ≤ℤ share g
+pub share_nonneg : (g : SignalGroup) → pos 0 ≤ℤ g.weight → pos 0 ≤ℤ share g
 share_nonneg g h = prod_nn (pos_nn (360360 / length g.rows)) h
 
-sums_below : (n d : ℤ) (z : List ℤ) (m : WholeBaseline) (gs : List Group) (ts : List (List WholeData)) → pos 0 ≤ℤ d → GroupsOf n gs → WholeFitsAll d gs ts →
+sums_below : (n d : ℤ) (z : List ℤ) (m : WholeBaseline) (gs : List SignalGroup) (ts : List (List WholeData)) → pos 0 ≤ℤ d → GroupsOf n gs → WholeFitsAll d gs ts →
     whole_sum_of_squares d (pos (2 ^ 16)) z m gs ts ≤ℤ (d *ℤ pos (2 ^ 16) *ℤ (d *ℤ pos (2 ^ 16)) *ℤ upper_sum z m gs)
 sums_below n d z m [] [] h g f = none (d *ℤ pos (2 ^ 16))
 sums_below n d z m [] (t ∷ ts) h g f = absurd f
@@ -118,7 +119,7 @@ sums_below n d z m (s ∷ gs) (t ∷ ts) h g f = add_step (d *ℤ pos (2 ^ 16)) 
     step k f s g h i = le_by (f ∷ s ∷ k ∷ g ∷ []) (λ f s k g. (f ⊗ s, k ⊗ k ⊗ (f ⊗ g), f ⊗ (k ⊗ k ⊗ g ⊖ s))) refl (prod_nn h (less_nn i))
 
 -- for all data in the boxes, over d, at integers z and the baseline m in units of 2^-16
-pub upper : (n d : ℤ) (h : ℕ) (z : List ℤ) (m : WholeBaseline) (gs : List Group) (ts : List (List WholeData)) → pos 0 ≤ℤ d → GroupsOf n gs → WholeFitsAll d gs ts →
+pub upper : (n d : ℤ) (h : ℕ) (z : List ℤ) (m : WholeBaseline) (gs : List SignalGroup) (ts : List (List WholeData)) → pos 0 ≤ℤ d → GroupsOf n gs → WholeFitsAll d gs ts →
     whole_sum_of_squares d (pos (2 ^ 16)) z m gs ts ≤ℤ (d *ℤ pos (2 ^ 16) *ℤ (d *ℤ pos (2 ^ 16)) *ℤ (pos (2 ^ h) *ℤ top h z m gs))
 upper n d h z m gs ts i g f = step (d *ℤ pos (2 ^ 16)) (whole_sum_of_squares d (pos (2 ^ 16)) z m gs ts) (upper_sum z m gs) (pos (2 ^ h) *ℤ top h z m gs)
     (sums_below n d z m gs ts i g f) (ceil_close (upper_sum z m gs) (2 ^ h) (pow_pos h))

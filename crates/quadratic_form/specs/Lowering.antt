@@ -2,7 +2,7 @@
 use Rattle.std.specs.Prelude.{ℕ, ◌+◌, ◌^◌, ◌≤◌, true, false, List, [], ◌∷◌, pos, ◌*ℤ◌, ◌<ℤ◌, Result, Err}
 use Rattle.quadratic_form.specs.Forms.{Column}
 use Rattle.quadratic_form.specs.Elimination.{Factor, Refusal, wide_entry, form_small, steps}
-use Rattle.quadratic_form.specs.Rows.{Group, first_rounding}
+use Rattle.quadratic_form.specs.Rows.{SignalGroup, first_rounding}
 
 -- 63 times each own entry is below 2^(50 + h)
 abbrev pub OwnBelow : ℕ → List Column → Type 0
@@ -15,7 +15,7 @@ pub record IsExponent (h : ℕ) (c : List Column) : Type 0 where
   pub least : (k : ℕ) → OwnBelow k c → h ≤ k
 
 -- the form that three steps leave, where i integers are
-abbrev pub front : ℕ → ℕ → List Group → Result (List Factor × List Column) Refusal
+abbrev pub front : ℕ → ℕ → List SignalGroup → Result (List Factor × List Column) Refusal
 front h i gs =
     let a : List Column = first_rounding h i gs in
     elim (form_small a) [ true ↦ steps 0 3 a | false ↦ Err wide_entry ]

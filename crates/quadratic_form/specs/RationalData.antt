@@ -1,76 +1,72 @@
 -- The sum of squares over rational data, rational baselines and whole integers: what the proofs are about.
-use Rattle.std.specs.Prelude.{◌≡◌, ◌^◌, List, [], ◌∷◌, ℤ, pos, ◌+ℤ◌, ◌-ℤ◌}
+use Rattle.std.specs.Prelude.{◌≡◌, ◌^◌, List, [], ◌∷◌, ℤ, pos}
 use Rattle.std.proofs.Common.{pow_pos}
 use Rattle.quadratic_form.specs.Vectors.{len, dot}
-use Rattle.quadratic_form.specs.Rat.{Rat, ◌≤ʳ◌, ◌<ʳ◌, whole, add_r, sub_r, mul_r}
-use Rattle.quadratic_form.specs.Rows.{Row, WholeBaseline, Group, share}
+use Rattle.rational.specs.Rational.{Near, Rational, ◌<ʳ◌, of_whole, add_r, sub_r, mul_r}
+use Rattle.quadratic_form.specs.Rows.{SignalRow, WholeBaseline, SignalGroup, share}
 
 -- three directions and y
 pub record RowData : Type 0 where
-  pub u1 : Rat
-  pub u2 : Rat
-  pub u3 : Rat
-  pub y : Rat
+  pub u1 : Rational
+  pub u2 : Rational
+  pub u3 : Rational
+  pub y : Rational
 
 pub record Baseline : Type 0 where
-  pub b1 : Rat
-  pub b2 : Rat
-  pub b3 : Rat
+  pub b1 : Rational
+  pub b2 : Rational
+  pub b3 : Rational
 
--- at most r from c
-abbrev pub Near : ℤ → ℤ → Rat → Type 0
-Near c r q = (whole (c -ℤ r) ≤ʳ q) × (q ≤ʳ whole (c +ℤ r))
-
-abbrev pub InBoxes : Row → RowData → Type 0
+abbrev pub InBoxes : SignalRow → RowData → Type 0
 InBoxes r q = Near r.u1 r.ru1 q.u1 × Near r.u2 r.ru2 q.u2 × Near r.u3 r.ru3 q.u3 × Near r.y r.ry q.y
 
 -- data for each row, in its boxes
-abbrev pub Fits : List Row → List RowData → Type 0
+abbrev pub Fits : List SignalRow → List RowData → Type 0
 Fits [] [] = Unit {0}
 Fits [] (q ∷ qs) = ⊥
 Fits (r ∷ rs) [] = ⊥
 Fits (r ∷ rs) (q ∷ qs) = InBoxes r q × Fits rs qs
 
-abbrev pub FitsAll : List Group → List (List RowData) → Type 0
+abbrev pub FitsAll : List SignalGroup → List (List RowData) → Type 0
 FitsAll [] [] = Unit {0}
 FitsAll [] (q ∷ qs) = ⊥
 FitsAll (g ∷ gs) [] = ⊥
 FitsAll (g ∷ gs) (q ∷ qs) = Fits g.rows q × FitsAll gs qs
 
 -- y - u·b + cycles·z
-abbrev pub residual : List ℤ → Baseline → Row → RowData → Rat
-residual z b r q = add_r (sub_r q.y (add_r (mul_r q.u1 b.b1) (add_r (mul_r q.u2 b.b2) (mul_r q.u3 b.b3)))) (whole (dot r.cycles z))
+abbrev pub residual : List ℤ → Baseline → SignalRow → RowData → Rational
+residual z b r q = add_r (sub_r q.y (add_r (mul_r q.u1 b.b1) (add_r (mul_r q.u2 b.b2) (mul_r q.u3 b.b3)))) (of_whole (dot r.cycles z))
 
-abbrev pub residuals : List ℤ → Baseline → List Row → List RowData → List Rat
+abbrev pub residuals : List ℤ → Baseline → List SignalRow → List RowData → List Rational
 residuals z b [] qs = []
 residuals z b (r ∷ rs) [] = []
 residuals z b (r ∷ rs) (q ∷ qs) = residual z b r q ∷ residuals z b rs qs
 
-abbrev pub sum_of_rationals : List Rat → Rat
-sum_of_rationals [] = whole (pos 0)
+abbrev pub sum_of_rationals : List Rational → Rational
+sum_of_rationals [] = of_whole (pos 0)
 sum_of_rationals (x ∷ s) = add_r x (sum_of_rationals s)
 
-abbrev pub squared_norm_of_rationals : List Rat → Rat
-squared_norm_of_rationals [] = whole (pos 0)
+abbrev pub squared_norm_of_rationals : List Rational → Rational
+squared_norm_of_rationals [] = of_whole (pos 0)
 squared_norm_of_rationals (x ∷ s) = add_r (mul_r x x) (squared_norm_of_rationals s)
 
-abbrev pub spread_of_rationals : List Rat → Rat
-spread_of_rationals s = sub_r (mul_r (whole (len s)) (squared_norm_of_rationals s)) (mul_r (sum_of_rationals s) (sum_of_rationals s))
+abbrev pub spread_of_rationals : List Rational → Rational
+spread_of_rationals s = sub_r (mul_r (of_whole (len s)) (squared_norm_of_rationals s)) (mul_r (sum_of_rationals s) (sum_of_rationals s))
 
 -- F: over the pairs and signals, (360360 / n) w (n Σ s² - (Σ s)²)
-abbrev pub sum_of_squares : List ℤ → Baseline → List Group → List (List RowData) → Rat
-sum_of_squares z b [] qs = whole (pos 0)
-sum_of_squares z b (g ∷ gs) [] = whole (pos 0)
-sum_of_squares z b (g ∷ gs) (q ∷ qs) = add_r (mul_r (whole (share g)) (spread_of_rationals (residuals z b g.rows q))) (sum_of_squares z b gs qs)
+abbrev pub sum_of_squares : List ℤ → Baseline → List SignalGroup → List (List RowData) → Rational
+sum_of_squares z b [] qs = of_whole (pos 0)
+sum_of_squares z b (g ∷ gs) [] = of_whole (pos 0)
+sum_of_squares z b (g ∷ gs) (q ∷ qs) = add_r (mul_r (of_whole (share g)) (spread_of_rationals (residuals z b g.rows q))) (sum_of_squares z b gs qs)
 
 -- m / 2^16
 abbrev pub moved : WholeBaseline → Baseline
 moved m = record { b1 = part m.b1; b2 = part m.b2; b3 = part m.b3 }
   where
-    part : ℤ → Rat
+    part : ℤ → Rational
     part k = record { num = k; den = 2 ^ 16; positive = pow_pos 16 }
 
 -- for all data in the boxes: any other integers, with any baseline, have a greater sum of squares than z with m
-pub record IsBest (gs : List Group) (z : List ℤ) (m : WholeBaseline) : Type 0 where
+pub record IsBest (gs : List SignalGroup) (z : List ℤ) (m : WholeBaseline) : Type 0 where
   pub best : (qs : List (List RowData)) → FitsAll gs qs → (v : List ℤ) → len v ≡ len z → (v ≡ z → ⊥) → (b : Baseline) →
       sum_of_squares z (moved m) gs qs <ʳ sum_of_squares v b gs qs

@@ -1,34 +1,34 @@
-// Quadratic forms over whole numbers, their elimination, and what it says for all data. Lemmas only.
+// Quadratic forms over of_whole numbers, their elimination, and what it says for all data. Lemmas only.
 #![tactic(auto)]
 
 ghost use Rattle.std.specs.Prelude.{◌≡◌, ℕ, ◌^◌, List, [], ◌∷◌, ◌++◌, length, ℤ, pos, ◌*ℤ◌, ◌≤ℤ◌, ◌<ℤ◌, Ok};
 ghost use Rattle.quadratic_form.specs.Vectors.{len};
 ghost use Rattle.quadratic_form.specs.Forms.{Column};
 ghost use Rattle.quadratic_form.specs.Elimination.{Factor, steps};
-ghost use Rattle.quadratic_form.specs.Rows.{WholeBaseline, Group, WholeData, GroupsOf, WholeFitsAll, first_rounding, value, whole_sum_of_squares};
+ghost use Rattle.quadratic_form.specs.Rows.{WholeBaseline, SignalGroup, WholeData, GroupsOf, WholeFitsAll, first_rounding, value, whole_sum_of_squares};
 ghost use Rattle.quadratic_form.specs.UpperSum.{top};
 ghost use Rattle.quadratic_form.specs.TwoLeast.{TwoLeast};
-ghost use Rattle.quadratic_form.specs.Rat.{whole, mul_r, ◌≤ʳ◌};
+ghost use Rattle.rational.specs.Rational.{of_whole, mul_r, ◌≤ʳ◌};
 ghost use Rattle.quadratic_form.specs.RationalData.{RowData, Baseline, FitsAll, sum_of_squares, IsBest};
 
 /// 64 times the sum of squares is at least 2^h times the value of the form that three steps leave,
-/// for all data in the boxes, over d, all whole numbers z and all baselines, over e.
+/// for all data in the boxes, over d, all of_whole numbers z and all baselines, over e.
 pub fn bound_law()
-    ensures { (d e : ℤ) (h : ℕ) (z : List ℤ) (b : WholeBaseline) (gs : List Group) (ts : List (List WholeData)) (p : List Factor × List Column) →
+    ensures { (d e : ℤ) (h : ℕ) (z : List ℤ) (b : WholeBaseline) (gs : List SignalGroup) (ts : List (List WholeData)) (p : List Factor × List Column) →
         GroupsOf (len z) gs → WholeFitsAll d gs ts → steps 0 3 (first_rounding h (length z) gs) ≡ Ok p →
         (((d *ℤ e) *ℤ (d *ℤ e)) *ℤ (pos (2 ^ h) *ℤ value p.1 z)) ≤ℤ (pos 64 *ℤ whole_sum_of_squares d e z b gs ts) }
 {}
 
 /// The same over rationals.
 pub fn rational_bound_law()
-    ensures { (h : ℕ) (z : List ℤ) (b : Baseline) (gs : List Group) (qs : List (List RowData)) (p : List Factor × List Column) →
+    ensures { (h : ℕ) (z : List ℤ) (b : Baseline) (gs : List SignalGroup) (qs : List (List RowData)) (p : List Factor × List Column) →
         GroupsOf (len z) gs → FitsAll gs qs → steps 0 3 (first_rounding h (length z) gs) ≡ Ok p →
-        whole (pos (2 ^ h) *ℤ value p.1 z) ≤ʳ mul_r (whole (pos 64)) (sum_of_squares z b gs qs) }
+        of_whole (pos (2 ^ h) *ℤ value p.1 z) ≤ʳ mul_r (of_whole (pos 64)) (sum_of_squares z b gs qs) }
 {}
 
 /// Where the second least value is large enough against the upper sum, the first is best for all data in the boxes.
 pub fn decision_law()
-    ensures { (h : ℕ) (ratio : ℤ) (z1 z2 : List ℤ) (m : WholeBaseline) (gs : List Group) (p : List Factor × List Column) →
+    ensures { (h : ℕ) (ratio : ℤ) (z1 z2 : List ℤ) (m : WholeBaseline) (gs : List SignalGroup) (p : List Factor × List Column) →
         GroupsOf (len z1) gs → steps 0 3 (first_rounding h (length z1) gs) ≡ Ok p → TwoLeast p.1 (len z1) z1 z2 → pos 1000 ≤ℤ ratio →
         (pos 64 *ℤ (ratio *ℤ top h z1 m gs)) <ℤ (pos 1000 *ℤ value p.1 z2) → IsBest gs z1 m }
 {}
