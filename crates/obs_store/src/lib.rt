@@ -1,0 +1,59 @@
+//! An observation file as data: what its header says of GPS, and its epochs in order.
+#![tactic(auto)]
+
+mod file;
+mod kinds;
+mod sats;
+mod series;
+mod values;
+
+pub use file::ObsFile;
+pub use kinds::{ObsType, SLOTS};
+pub use sats::Satellites;
+pub use series::{Epoch, Epochs};
+pub use values::{SatObs, Value};
+
+#[cfg(test)]
+mod tests {
+    use super::*;
+    use gps_time::Tick;
+    use std::test::Fail;
+
+    #[test]
+    fn names_and_slots(rt: HostRuntime) {
+        let slots = [
+            ("C1C", 0),
+            ("L1L", 9),
+            ("C2W", 10),
+            ("C2C", 14),
+            ("L2W", 15),
+            ("L2C", 19),
+        ];
+        for (name, slot) in slots {
+            let found = ObsType::named(name.as_bytes()).map(|kind| kind.slot());
+            assert_eq!(rt; found, Some(slot), "at {name}");
+        }
+        for name in ["C1P", "L5X", "c1c", "C1C ", ""] {
+            assert_eq!(rt; ObsType::named(name.as_bytes()), None, "at {name}");
+        }
+    }
+
+    #[test]
+    fn holds_epochs(rt: HostRuntime) -> Result<(), Fail> {
+        let mut sats = Satellites::new(rt.alloc());
+        sats.push(SatObs::missing(5))?;
+        assert!(rt; sats.has(5) && !sats.has(6));
+        let mut epochs = Epochs::new(rt.alloc());
+        assert_eq!(rt; epochs.last_tag(), None);
+        assert_eq!(rt; epochs.len(), 0);
+        epochs.push(Epoch {
+            tag: Tick(13881024000000000),
+            power: false,
+            sats,
+        })?;
+        assert_eq!(rt; epochs.len(), 1);
+        assert_eq!(rt; epochs.tag_at(0), Tick(13881024000000000));
+        assert_eq!(rt; epochs.last_tag(), Some(Tick(13881024000000000)));
+        Ok(())
+    }
+}
