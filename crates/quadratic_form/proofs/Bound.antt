@@ -6,12 +6,13 @@ use Rattle.whole_math.proofs.Inequalities.{le_by, both_nn, prod_nn, less_nn, pos
 use Rattle.quadratic_form.proofs.Forms.{quad_scale}
 use Rattle.quadratic_form.proofs.EliminationStep.{rounded_below, rounded_sized}
 use Rattle.quadratic_form.proofs.StepsBelow.{front_below}
-use Rattle.quadratic_form.proofs.NormalForm.{bounding_form_below, len_is}
+use Rattle.quadratic_form.proofs.NormalForm.{bounding_form_below}
 use Rattle.quadratic_form.proofs.Shapes.{cols, len_columns, sized_bounding_form}
-use Rattle.quadratic_form.specs.Vectors.{len, scaled}
 use Rattle.quadratic_form.specs.Forms.{Column, Shaped, quad}
 use Rattle.quadratic_form.specs.Elimination.{Factor, steps}
 use Rattle.quadratic_form.specs.Rows.{WholeData, WholeBaseline, SignalGroup, WholeFitsAll, whole_sum_of_squares, matrix, radii, columns, bounding_form, columns_at, GroupsOf, first_rounding, value}
+use Rattle.whole_math.proofs.Vectors.{len_is}
+use Rattle.whole_math.specs.Vectors.{len, scaled}
 
 scaled_last : (e : ℤ) (z : List ℤ) → scaled e z ++ (e ∷ []) ≡ scaled e (z ++ (pos 1 ∷ []))
 scaled_last e [] = ap (λ k. k ∷ []) (same_by (e ∷ []) (λ e. (e, e ⊗ nat 1)) refl)

@@ -1,10 +1,10 @@
 -- The two least under a map that has an inverse are the two least.
 use Rattle.std.proofs.Common.{◌≡◌, List, ℤ, sym, ap, ◌∙◌, subst}
-use Rattle.quadratic_form.specs.Vectors.{len}
 use Rattle.quadratic_form.specs.Forms.{Column}
 use Rattle.quadratic_form.specs.TwoLeast.{Less, TwoLeast}
 use Rattle.quadratic_form.specs.Maps.{apply, Inverse}
 use Rattle.quadratic_form.proofs.Maps.{len_apply}
+use Rattle.whole_math.specs.Vectors.{len}
 
 -- the two least by the values and entries of their images
 pub record TwoLeastUnder (p : List Column) (n : ℤ) (m : List (List ℤ)) (w1 w2 : List ℤ) : Type 0 where

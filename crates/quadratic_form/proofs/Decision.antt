@@ -3,16 +3,17 @@ use Rattle.std.proofs.Common.{◌≡◌, ⊎_elim, ℕ, ◌^◌, ◌<◌, List, 
 use Rattle.std.proofs.lemmas.Int.{by_lt_z}
 use Rattle.whole_math.proofs.Ring.{◌⊕◌, ◌⊖◌, ◌⊗◌}
 use Rattle.whole_math.proofs.Order.{lins, square_nn, mul_lt_cancel}
-use Rattle.whole_math.proofs.Inequalities.{le_by, both_nn, prod_nn, less_nn, pos_nn, pos_one, one_nn, later, strict, ceil_close, nat}
-use Rattle.quadratic_form.proofs.NormalForm.{len_is}
+use Rattle.whole_math.proofs.Inequalities.{le_by, both_nn, prod_nn, less_nn, pos_nn, pos_one, one_nn, later, strict, nat}
 use Rattle.quadratic_form.proofs.Bound.{bound}
 use Rattle.quadratic_form.proofs.UpperSum.{upper, share_nonneg}
-use Rattle.quadratic_form.specs.Vectors.{len}
 use Rattle.quadratic_form.specs.Forms.{Column}
 use Rattle.quadratic_form.specs.Elimination.{Factor, steps}
 use Rattle.quadratic_form.specs.Rows.{SignalRow, WholeData, WholeBaseline, SignalGroup, WholeFitsAll, whole_sum_of_squares, GroupsOf, first_rounding, value}
 use Rattle.quadratic_form.specs.UpperSum.{gap, gaps_from, gaps, upper_sum, top}
 use Rattle.quadratic_form.specs.TwoLeast.{Less, Before, TwoLeast}
+use Rattle.whole_math.proofs.Rounding.{ceil_close}
+use Rattle.whole_math.proofs.Vectors.{len_is}
+use Rattle.whole_math.specs.Vectors.{len}
 
 less_value : (p : List Column) (v w : List ℤ) → Less p v w → value p v ≤ℤ value p w
 less_value p v w h = ⊎_elim (below (value p v) (value p w)) (λ (q : (value p v ≡ value p w) × Before v w). same (value p v) (value p w) q.0) h

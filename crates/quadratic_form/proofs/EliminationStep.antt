@@ -3,14 +3,15 @@ use Rattle.std.proofs.Common.{◌≡◌, ℕ, ◌^◌, ◌-◌, ◌<◌, List, [
 use Rattle.std.proofs.lemmas.Int.{ints}
 use Rattle.whole_math.proofs.Ring.{ko, ◌⊕◌, ◌⊖◌, ◌⊗◌, ng}
 use Rattle.whole_math.proofs.Order.{lins, square_nn}
-use Rattle.whole_math.proofs.Rounding.{ceil_least}
+use Rattle.whole_math.proofs.Rounding.{ceil_least, nearest_close, ceil_close, floor_close}
 use Rattle.whole_math.specs.Rounding.{floor_div, ceil_div, nearest_div}
-use Rattle.whole_math.proofs.Inequalities.{le_by, both_nn, prod_nn, less_nn, pos_nn, weak, halve, nearest_close, ceil_close, floor_close, square_share, cancel, le_eq, same_by, nat}
-use Rattle.quadratic_form.proofs.Spread.{len_nonneg, len_tail, len_apart, spread_nonneg}
-use Rattle.quadratic_form.proofs.Forms.{Close, Above, dominant, quad_plus, quad_times, quad_outer, sumsq_nonneg}
-use Rattle.quadratic_form.specs.Vectors.{len, sum, squared_norm, dot, scaled, added}
+use Rattle.whole_math.proofs.Inequalities.{le_by, both_nn, prod_nn, less_nn, pos_nn, weak, halve, square_share, cancel_square, le_eq, same_by, nat}
+use Rattle.quadratic_form.proofs.Spread.{spread_nonneg}
+use Rattle.quadratic_form.proofs.Forms.{Close, Above, dominant, quad_plus, quad_times, quad_outer}
 use Rattle.quadratic_form.specs.Forms.{Column, Shaped, quad, plus, times, outer}
 use Rattle.quadratic_form.specs.Elimination.{nearest_each, rounded, factors, kept, others_after, next}
+use Rattle.whole_math.proofs.Vectors.{len_nonneg, len_tail, len_apart, squared_norm_nonneg}
+use Rattle.whole_math.specs.Vectors.{len, sum, squared_norm, dot, scaled, added}
 
 -- ---- the first rounding
 nearest_each_close : (m : ℕ) (r : List ℤ) → 0 < m → Close (pos m) r (scaled (pos m) (nearest_each m r))
@@ -30,7 +31,7 @@ rounded_above m n (c ∷ b) h = (own (pos m) c.own (floor_div c.own m) n (floor_
 pub rounded_below : (m : ℕ) (n : ℤ) (b : List Column) (x : List ℤ) → 0 < m → len b ≡ len x → len x ≤ℤ n →
     (pos m *ℤ quad (rounded m n b) x) ≤ℤ quad b x
 rounded_below m n b x h e k = rw (← quad_times (pos m) (rounded m n b) x)
-    (step (pos m) n (len x) (squared_norm x) (quad b x) (quad (times (pos m) (rounded m n b)) x) (pos_nn m) (len_nonneg x) k (sumsq_nonneg x)
+    (step (pos m) n (len x) (squared_norm x) (quad b x) (quad (times (pos m) (rounded m n b)) x) (pos_nn m) (len_nonneg x) k (squared_norm_nonneg x)
     (dominant (pos m) (pos 2 *ℤ (pos m *ℤ n)) b (times (pos m) (rounded m n b)) x (pos_nn m) (rounded_above m n b h) e))
   where
     step : (m n l t i j : ℤ) → pos 0 ≤ℤ m → pos 0 ≤ℤ l → l ≤ℤ n → pos 0 ≤ℤ t → ((pos 2 *ℤ (m *ℤ n) +ℤ m -ℤ m *ℤ l) *ℤ t) ≤ℤ (pos 2 *ℤ (i -ℤ j)) → j ≤ℤ i
@@ -61,7 +62,7 @@ misses_len a (y ∷ r) (x ∷ v) = step (len (misses a r v)) (len v) (misses_len
     step l n h = omega (arith, lins)
 
 misses_sumsq : (a : ℕ) (r v : List ℤ) → 0 < a → (pos 4 *ℤ squared_norm (misses a r v)) ≤ℤ (pos a *ℤ pos a *ℤ squared_norm v)
-misses_sumsq a [] v h = step (pos a) (squared_norm v) (sumsq_nonneg v)
+misses_sumsq a [] v h = step (pos a) (squared_norm v) (squared_norm_nonneg v)
   where
     step : (a s : ℤ) → pos 0 ≤ℤ s → (pos 4 *ℤ pos 0) ≤ℤ (a *ℤ a *ℤ s)
     step a s h = le_by (a ∷ s ∷ []) (λ a s. (nat 4 ⊗ nat 0, a ⊗ a ⊗ s, a ⊗ a ⊗ s)) refl (prod_nn (square_nn a) h)
@@ -78,7 +79,7 @@ misses_sumsq a (y ∷ r) (x ∷ v) h = step (pos a) (y *ℤ pos (2 ^ 30) -ℤ po
 pub factors_close : (a : ℕ) (r v : List ℤ) → 0 < a →
     (pos 4 *ℤ ((pos a *ℤ dot (factors a r) v -ℤ pos (2 ^ 30) *ℤ dot r v) *ℤ (pos a *ℤ dot (factors a r) v -ℤ pos (2 ^ 30) *ℤ dot r v))) ≤ℤ (len v *ℤ (pos a *ℤ pos a *ℤ squared_norm v))
 factors_close a r v h = step (pos a) (dot (factors a r) v) (dot r v) (len (misses a r v)) (len v) (squared_norm (misses a r v)) (sum (misses a r v)) (squared_norm v)
-    (misses_sum a r v) (len_nonneg (misses a r v)) (misses_len a r v) (sumsq_nonneg v) (misses_sumsq a r v h) (spread_nonneg (misses a r v))
+    (misses_sum a r v) (len_nonneg (misses a r v)) (misses_len a r v) (squared_norm_nonneg v) (misses_sumsq a r v h) (spread_nonneg (misses a r v))
   where
     step : (a l r i n q t s : ℤ) → t ≡ pos (2 ^ 30) *ℤ r -ℤ a *ℤ l → pos 0 ≤ℤ i → i ≤ℤ n → pos 0 ≤ℤ s → (pos 4 *ℤ q) ≤ℤ (a *ℤ a *ℤ s) → pos 0 ≤ℤ (i *ℤ q -ℤ t *ℤ t) →
         (pos 4 *ℤ ((a *ℤ l -ℤ pos (2 ^ 30) *ℤ r) *ℤ (a *ℤ l -ℤ pos (2 ^ 30) *ℤ r))) ≤ℤ (n *ℤ (a *ℤ a *ℤ s))
@@ -121,7 +122,7 @@ pub next_below : (a : ℕ) (n : ℤ) (r : List ℤ) (m : List Column) (v : List 
     (dot r v *ℤ dot r v +ℤ pos a *ℤ quad (next a n r m) v +ℤ pos a *ℤ ceil_div (n *ℤ pos a) (2 ^ 42) *ℤ squared_norm v) ≤ℤ (pos a *ℤ quad m v)
 next_below a n r m v h e k f i = step (pos a) n (ceil_div (n *ℤ pos a) (2 ^ 42)) (len v) (squared_norm v) (quad m v) (dot r v) (quad (next a n r m) v)
     (quad (plus (times (pos a) m) (times (negsuc 0) (outer r))) v) (quad (times (pos a) (next a n r m)) v)
-    left (quad_times (pos a) (next a n r m) v) (pos_nn a) (len_nonneg v) i (sumsq_nonneg v)
+    left (quad_times (pos a) (next a n r m) v) (pos_nn a) (len_nonneg v) i (squared_norm_nonneg v)
     (dominant (pos a) (pos 2 *ℤ (pos a *ℤ n +ℤ pos a *ℤ ceil_div (n *ℤ pos a) (2 ^ 42))) (plus (times (pos a) m) (times (negsuc 0) (outer r))) (times (pos a) (next a n r m)) v
     (pos_nn a) (next_above a n r m h e k) (len_plus m r e ∙ f))
   where
@@ -149,7 +150,7 @@ step_below a r m x v h e k f =
     let c : ℤ = ceil_div (pos a) (2 ^ 20) in
     let i : len v ≡ len r = sym f ∙ sym e in
     step a x (dot r v) (dot (factors a r) v) (quad m v) (quad (next a (len r) r m) v) g (squared_norm v) (len r) c h
-    (sumsq_nonneg v)
+    (squared_norm_nonneg v)
     (next_below a (len r) r m v h e k f (le_eq i))
     (subst (λ (z : ℤ). (pos 4 *ℤ ((pos a *ℤ dot (factors a r) v -ℤ pos (2 ^ 30) *ℤ dot r v) *ℤ (pos a *ℤ dot (factors a r) v -ℤ pos (2 ^ 30) *ℤ dot r v))) ≤ℤ (z *ℤ (pos a *ℤ pos a *ℤ squared_norm v))) i (factors_close a r v h))
     (ceil_close (len r *ℤ pos a) (2 ^ 42) (omega arith))
@@ -169,7 +170,7 @@ step_below a r m x v h e k f =
         (pos 4 *ℤ ((pos a *ℤ l -ℤ pos (2 ^ 30) *ℤ r) *ℤ (pos a *ℤ l -ℤ pos (2 ^ 30) *ℤ r))) ≤ℤ (n *ℤ (pos a *ℤ pos a *ℤ s)) → (n *ℤ pos a) ≤ℤ (pos (2 ^ 42) *ℤ g) →
         ((pos a -ℤ c) *ℤ ((pos (2 ^ 30) *ℤ (pos a *ℤ x +ℤ r) +ℤ (pos a *ℤ l -ℤ pos (2 ^ 30) *ℤ r)) *ℤ (pos (2 ^ 30) *ℤ (pos a *ℤ x +ℤ r) +ℤ (pos a *ℤ l -ℤ pos (2 ^ 30) *ℤ r)))) ≤ℤ (pos a *ℤ (pos (2 ^ 30) *ℤ (pos a *ℤ x +ℤ r) *ℤ (pos (2 ^ 30) *ℤ (pos a *ℤ x +ℤ r))) +ℤ pos (2 ^ 20) *ℤ pos a *ℤ ((pos a *ℤ l -ℤ pos (2 ^ 30) *ℤ r) *ℤ (pos a *ℤ l -ℤ pos (2 ^ 30) *ℤ r))) →
         ((pos a -ℤ c) *ℤ ((pos (2 ^ 30) *ℤ x +ℤ l) *ℤ (pos (2 ^ 30) *ℤ x +ℤ l)) +ℤ pos (2 ^ 60) *ℤ w) ≤ℤ (pos (2 ^ 60) *ℤ (pos a *ℤ (x *ℤ x) +ℤ pos 2 *ℤ (x *ℤ r) +ℤ q))
-    step a x r l q w g s n c h₀ h₁ h₂ h₃ h₄ h₅ = cancel a (pos (2 ^ 60) *ℤ (pos a *ℤ (x *ℤ x) +ℤ pos 2 *ℤ (x *ℤ r) +ℤ q)) ((pos a -ℤ c) *ℤ ((pos (2 ^ 30) *ℤ x +ℤ l) *ℤ (pos (2 ^ 30) *ℤ x +ℤ l)) +ℤ pos (2 ^ 60) *ℤ w) h₀
+    step a x r l q w g s n c h₀ h₁ h₂ h₃ h₄ h₅ = cancel_square a (pos (2 ^ 60) *ℤ (pos a *ℤ (x *ℤ x) +ℤ pos 2 *ℤ (x *ℤ r) +ℤ q)) ((pos a -ℤ c) *ℤ ((pos (2 ^ 30) *ℤ x +ℤ l) *ℤ (pos (2 ^ 30) *ℤ x +ℤ l)) +ℤ pos (2 ^ 60) *ℤ w) h₀
         (le_by (pos a ∷ c ∷ x ∷ l ∷ w ∷ r ∷ q ∷ g ∷ s ∷ n ∷ []) (λ a c x l w r q g s n. (a ⊗ a ⊗ ((a ⊖ c) ⊗ ((nat (2 ^ 30) ⊗ x ⊕ l) ⊗ (nat (2 ^ 30) ⊗ x ⊕ l)) ⊕ nat (2 ^ 60) ⊗ w), a ⊗ a ⊗ (nat (2 ^ 60) ⊗ (a ⊗ (x ⊗ x) ⊕ nat 2 ⊗ (x ⊗ r) ⊕ q)), a ⊗ (nat (2 ^ 30) ⊗ (a ⊗ x ⊕ r) ⊗ (nat (2 ^ 30) ⊗ (a ⊗ x ⊕ r))) ⊕ nat (2 ^ 20) ⊗ a ⊗ ((a ⊗ l ⊖ nat (2 ^ 30) ⊗ r) ⊗ (a ⊗ l ⊖ nat (2 ^ 30) ⊗ r)) ⊖ (a ⊖ c) ⊗ ((nat (2 ^ 30) ⊗ (a ⊗ x ⊕ r) ⊕ (a ⊗ l ⊖ nat (2 ^ 30) ⊗ r)) ⊗ (nat (2 ^ 30) ⊗ (a ⊗ x ⊕ r) ⊕ (a ⊗ l ⊖ nat (2 ^ 30) ⊗ r))) ⊕ nat (2 ^ 60) ⊗ a ⊗ (a ⊗ q ⊖ (r ⊗ r ⊕ a ⊗ w ⊕ a ⊗ g ⊗ s)) ⊕ (nat (2 ^ 18) ⊗ a ⊗ a ⊗ s ⊗ (nat (2 ^ 42) ⊗ g ⊖ n ⊗ a) ⊕ nat (2 ^ 18) ⊗ a ⊗ (n ⊗ (a ⊗ a ⊗ s) ⊖ nat 4 ⊗ ((a ⊗ l ⊖ nat (2 ^ 30) ⊗ r) ⊗ (a ⊗ l ⊖ nat (2 ^ 30) ⊗ r)))))) refl (both_nn (both_nn (less_nn h₅) (prod_nn (prod_nn (pos_nn (2 ^ 60)) (pos_nn a)) (less_nn h₂))) (both_nn (prod_nn (prod_nn (prod_nn (prod_nn (pos_nn (2 ^ 18)) (pos_nn a)) (pos_nn a)) h₁) (less_nn h₄)) (prod_nn (prod_nn (pos_nn (2 ^ 18)) (pos_nn a)) (less_nn h₃)))))
 
 -- ---- what a step keeps

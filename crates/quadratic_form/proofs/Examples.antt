@@ -1,8 +1,8 @@
 -- The definitions at numbers.
 use Rattle.std.proofs.Common.{◌≡◌, ◌^◌, List, [], ◌∷◌, ℤ, pos, negsuc, ◌*ℤ◌, Err, refl}
 use Rattle.quadratic_form.specs.Elimination.{factors, kept, next, weak, steps}
-use Rattle.quadratic_form.specs.Vectors.{spread}
 use Rattle.quadratic_form.specs.Rows.{SignalRow, SignalGroup, first_rounding, whole_sum_of_squares}
+use Rattle.quadratic_form.specs.Spread.{spread}
 
 -- two columns, with 2^30 as own entries and 2^29 as the other
 factor_at : factors (2 ^ 30) (pos (2 ^ 29) ∷ []) ≡ pos 536870912 ∷ []

@@ -4,10 +4,10 @@ use Rattle.whole_math.proofs.Ring.{◌⊕◌, ◌⊖◌, ◌⊗◌}
 use Rattle.whole_math.proofs.Inequalities.{le_by, both_nn, prod_nn, less_nn, pos_nn, le_eq}
 use Rattle.quadratic_form.proofs.Forms.{quad_plus}
 use Rattle.quadratic_form.proofs.EliminationStep.{rounded_below}
-use Rattle.quadratic_form.specs.Vectors.{len}
 use Rattle.quadratic_form.specs.Forms.{quad}
 use Rattle.quadratic_form.specs.Elimination.{rounded}
 use Rattle.quadratic_form.specs.FrontSum.{Front, sum_fronts, fronts_value, FrontOf, FrontsOf}
+use Rattle.whole_math.specs.Vectors.{len}
 
 one_front : (h : ℕ) (f : Front) (v : List ℤ) → FrontOf h (len v) f → (pos (2 ^ h) *ℤ quad (rounded (2 ^ (h - f.h)) (len v) f.form) v) ≤ℤ (pos (2 ^ f.h) *ℤ quad f.form v)
 one_front h f v k = rw split (step (pos (2 ^ f.h)) (pos (2 ^ (h - f.h))) (quad (rounded (2 ^ (h - f.h)) (len v) f.form) v) (quad f.form v) (pos_nn (2 ^ f.h))

@@ -4,16 +4,17 @@ use Rattle.std.proofs.lemmas.Int.{by_lt_z, ints}
 use Rattle.whole_math.proofs.Ring.{◌⊕◌, ◌⊖◌, ◌⊗◌}
 use Rattle.whole_math.proofs.Order.{lins, square_nn, mul_le_cancel}
 use Rattle.whole_math.specs.Rounding.{ceil_div}
-use Rattle.whole_math.proofs.Inequalities.{le_by, both_nn, prod_nn, less_nn, pos_nn, pos_one, later, strict, ceil_near, ceil_close, le_eq, same_by, nat}
-use Rattle.quadratic_form.proofs.Spread.{len_nonneg, len_tail, len_apart}
+use Rattle.whole_math.proofs.Inequalities.{le_by, both_nn, prod_nn, less_nn, pos_nn, pos_one, later, strict, le_eq, same_by, nat}
 use Rattle.quadratic_form.proofs.StepsBelow.{steps_below}
 use Rattle.quadratic_form.proofs.Decision.{second_value}
-use Rattle.quadratic_form.specs.Vectors.{len, dot}
 use Rattle.quadratic_form.specs.Forms.{Column, Shaped, quad}
 use Rattle.quadratic_form.specs.Elimination.{kept, Factor, squares, steps}
-use Rattle.quadratic_form.specs.Rows.{zeros, value}
+use Rattle.quadratic_form.specs.Rows.{value}
 use Rattle.quadratic_form.specs.TwoLeast.{TwoLeast}
 use Rattle.quadratic_form.specs.LowerSums.{offset, lower_sum, AllNonneg, Small, SmallList, SmallForm}
+use Rattle.whole_math.proofs.Rounding.{ceil_near, ceil_close}
+use Rattle.whole_math.proofs.Vectors.{len_nonneg, len_tail, len_apart}
+use Rattle.whole_math.specs.Vectors.{len, dot, zeros}
 
 -- entries put before never lower the sum
 pub lower_sum_grows : (g : ℤ) (t s : List ℤ) (es fs : List Factor) → len es ≡ len t → AllNonneg es → lower_sum g fs s ≤ℤ lower_sum g (es ++ fs) (t ++ s)

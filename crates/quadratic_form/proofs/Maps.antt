@@ -3,10 +3,9 @@ use Rattle.std.proofs.Common.{ℕ, zero, suc, ◌≡◌, List, [], ◌∷◌, le
 use Rattle.whole_math.proofs.Inequalities.{same_by, nat}
 use Rattle.whole_math.proofs.Ring.{◌⊕◌, ◌⊖◌, ◌⊗◌}
 use Rattle.whole_math.proofs.Order.{lins}
-use Rattle.quadratic_form.proofs.Spread.{len_nonneg, len_tail, len_apart}
-use Rattle.quadratic_form.proofs.Forms.{dot_added, dot_scaled}
-use Rattle.quadratic_form.specs.Vectors.{len, dot, scaled}
 use Rattle.quadratic_form.specs.Maps.{apply, AllRows, Inverse, entry, row, sheared_from, shear_map, add_rows, shear_back, swapped, swap_map}
+use Rattle.whole_math.proofs.Vectors.{len_nonneg, len_tail, len_apart, dot_added, dot_scaled}
+use Rattle.whole_math.specs.Vectors.{len, dot, scaled}
 
 -- ---- what the shear does to a vector, and back
 abbrev less_each : List ℤ → ℤ → List ℤ → List ℤ

@@ -1,14 +1,16 @@
 -- The normal form stays below the sum of squares, for all data in the boxes.
-use Rattle.std.proofs.Common.{◌≡◌, ℕ, zero, suc, ◌+◌, ◌*◌, ◌/◌, ◌<◌, ◌≤◌, List, [], ◌∷◌, ◌++◌, length, ℤ, pos, negsuc, ◌+ℤ◌, ◌-ℤ◌, ◌*ℤ◌, neg_ℤ, ◌≤ℤ◌, arith, sym, ap, ap₂, ◌∙◌, refl, subst}
+use Rattle.std.proofs.Common.{◌≡◌, ℕ, zero, suc, ◌*◌, ◌/◌, ◌<◌, ◌≤◌, List, [], ◌∷◌, ◌++◌, length, ℤ, pos, negsuc, ◌+ℤ◌, ◌-ℤ◌, ◌*ℤ◌, neg_ℤ, ◌≤ℤ◌, arith, sym, ap, ap₂, ◌∙◌, refl, subst}
 use Rattle.whole_math.proofs.Ring.{ko, ◌⊕◌, ◌⊖◌, ◌⊗◌, ng}
 use Rattle.whole_math.proofs.Order.{square_nn}
 use Rattle.whole_math.proofs.Inequalities.{le_by, both_nn, prod_nn, less_nn, pos_nn, four_squares, same_by, nat}
-use Rattle.quadratic_form.proofs.Spread.{len_nonneg, len_tail, len_apart, perturb, spread_scale, spread_below, len_scaled}
-use Rattle.quadratic_form.proofs.Forms.{dot_added, quad_plus, quad_times, quad_outer}
-use Rattle.quadratic_form.specs.Vectors.{len, sum, squared_norm, dot, scaled, added, spread}
+use Rattle.quadratic_form.proofs.Spread.{perturb, spread_scale, spread_below}
+use Rattle.quadratic_form.proofs.Forms.{quad_plus, quad_times, quad_outer}
 use Rattle.quadratic_form.specs.Forms.{Column, quad, plus, times, outer}
 use Rattle.whole_math.specs.Bounds.{Within}
-use Rattle.quadratic_form.specs.Rows.{SignalRow, WholeData, WholeBaseline, SignalGroup, WholeInBoxes, WholeFits, WholeFitsAll, whole_residual, whole_residuals, share, whole_sum_of_squares, coefficients, sum_coefficients, sum_outer, group_matrix, matrix, Radii, no_radii, add_radii, row_radii, radii, diagonal, zeros, columns, bounding_form, columns_at, RowsOf, GroupsOf}
+use Rattle.quadratic_form.specs.Rows.{SignalRow, WholeData, WholeBaseline, SignalGroup, WholeInBoxes, WholeFits, WholeFitsAll, whole_residual, whole_residuals, share, whole_sum_of_squares, coefficients, sum_coefficients, sum_outer, group_matrix, matrix, Radii, no_radii, add_radii, row_radii, radii, diagonal, columns, bounding_form, columns_at, RowsOf, GroupsOf}
+use Rattle.whole_math.proofs.Vectors.{len_nonneg, len_tail, len_apart, len_scaled, dot_added, dot_zeros, len_is}
+use Rattle.whole_math.specs.Vectors.{len, sum, squared_norm, dot, scaled, added, zeros}
+use Rattle.quadratic_form.specs.Spread.{spread}
 
 -- ---- the columns: the integers and the constant
 dot_tail : (e y : ℤ) (q z : List ℤ) → len q ≡ len z → dot (q ++ (y ∷ [])) (scaled e z ++ (e ∷ [])) ≡ e *ℤ dot q z +ℤ y *ℤ e
@@ -89,11 +91,6 @@ errors_sumsq d e b (r ∷ rs) (t ∷ ts) h = step d (error d e b r t *ℤ error 
     step d i s j t h k = le_by (i ∷ j ∷ d ∷ s ∷ t ∷ []) (λ i j d s t. (i ⊕ j, nat 4 ⊗ (d ⊗ d ⊗ (s ⊕ t)), nat 4 ⊗ (d ⊗ d ⊗ s) ⊖ i ⊕ (nat 4 ⊗ (d ⊗ d ⊗ t) ⊖ j))) refl (both_nn (less_nn h) (less_nn k))
 
 -- ---- the matrix at x
-pub dot_zeros : (n : ℕ) (x : List ℤ) → dot (zeros n) x ≡ pos 0
-dot_zeros zero x = refl
-dot_zeros (suc n) [] = refl
-dot_zeros (suc n) (x ∷ v) = ap (λ t. (pos 0 *ℤ x) +ℤ t) (dot_zeros n v) ∙ (same_by (x ∷ []) (λ x. (nat 0 ⊗ x ⊕ nat 0, nat 0)) refl)
-
 quad_zeros : (n : ℕ) (x : List ℤ) → quad (diagonal (zeros n)) x ≡ pos 0
 quad_zeros zero x = refl
 quad_zeros (suc n) [] = refl
@@ -155,10 +152,6 @@ whole (suc (suc (suc (suc (suc (suc (suc (suc (suc (suc (suc (suc (suc zero)))))
 whole (suc (suc (suc (suc (suc (suc (suc (suc (suc (suc (suc (suc (suc (suc zero)))))))))))))) h k = refl
 whole (suc (suc (suc (suc (suc (suc (suc (suc (suc (suc (suc (suc (suc (suc (suc zero))))))))))))))) h k = refl
 whole (suc (suc (suc (suc (suc (suc (suc (suc (suc (suc (suc (suc (suc (suc (suc (suc n)))))))))))))))) h k = absurd (omega arith)
-
-pub len_is : {A : Type 0} (s : List A) → len s ≡ pos (length s)
-len_is [] = refl
-len_is (x ∷ s) = let e : 1 + length s ≡ suc (length s) = omega arith in ap (λ z. pos 1 +ℤ z) (len_is s) ∙ ap pos e
 
 share_is : (g : SignalGroup) → 0 < length g.rows → length g.rows ≤ 15 → share g *ℤ len g.rows ≡ pos 360360 *ℤ g.weight
 share_is g h k = rw (len_is g.rows) (step (pos (360360 / length g.rows)) (pos (length g.rows)) g.weight ∙ ap (λ z. pos z *ℤ g.weight) (whole (length g.rows) h k))

@@ -4,12 +4,12 @@ use Rattle.whole_math.proofs.Ring.{◌⊕◌, ◌⊖◌, ◌⊗◌}
 use Rattle.whole_math.proofs.Inequalities.{le_by, both_nn, prod_nn, less_nn, pos_nn, nat}
 use Rattle.quadratic_form.proofs.FrontSum.{fronts_below}
 use Rattle.quadratic_form.proofs.RationalData.{bound_over_rationals}
-use Rattle.quadratic_form.specs.Vectors.{len}
 use Rattle.quadratic_form.specs.Elimination.{Factor, steps}
 use Rattle.quadratic_form.specs.Rows.{SignalGroup, GroupsOf, first_rounding, value}
 use Rattle.rational.specs.Rational.{Rational, ◌≤ʳ◌, of_whole, add_r, mul_r}
 use Rattle.quadratic_form.specs.RationalData.{RowData, Baseline, FitsAll, sum_of_squares}
 use Rattle.quadratic_form.specs.FrontSum.{Front, sum_fronts, fronts_value, FrontsOf}
+use Rattle.whole_math.specs.Vectors.{len}
 
 -- a pair: its rows, its data, its baseline, and the front that three steps leave
 pub record Pair (z : List ℤ) : Type 0 where

@@ -1,10 +1,10 @@
 -- What code does entry by entry is what the definitions do to forms.
 use Rattle.std.proofs.Common.{ℕ, zero, suc, ◌≡◌, ◌+◌, ◌^◌, ◌<◌, ◌≤◌, List, ◌∷◌, ℤ, pos, ◌+ℤ◌, ◌-ℤ◌, ◌*ℤ◌, arith, ap, ap₂, ◌∙◌, refl}
 use Rattle.whole_math.specs.Rounding.{floor_div, ceil_div, nearest_div}
-use Rattle.quadratic_form.specs.Vectors.{len, scaled, added}
 use Rattle.quadratic_form.specs.Forms.{Column, plus, times, outer}
 use Rattle.quadratic_form.specs.Elimination.{nearest_each, rounded, factors, others_after, next}
 use Rattle.quadratic_form.specs.Places.{list_from, form_from}
+use Rattle.whole_math.specs.Vectors.{len, scaled, added}
 
 pub list_same : (f g : ℕ → ℤ) (j k : ℕ) → ((c : ℕ) → j ≤ c → c < j + k → f c ≡ g c) → list_from f j k ≡ list_from g j k
 list_same f g j zero h = refl

@@ -5,7 +5,6 @@ use Rattle.whole_math.proofs.Inequalities.{le_by, prod_nn, less_nn, pos_nn, pos_
 use Rattle.quadratic_form.proofs.Bound.{bound}
 use Rattle.quadratic_form.proofs.Decision.{decided}
 use Rattle.rational.proofs.Over.{Over, over_whole, over_zero, over_add, over_sub, over_mul, over_times, over_wide, over_le, over_lt, over_box}
-use Rattle.quadratic_form.specs.Vectors.{len, sum, squared_norm, dot, spread}
 use Rattle.quadratic_form.specs.Forms.{Column}
 use Rattle.quadratic_form.specs.Elimination.{Factor, steps}
 use Rattle.quadratic_form.specs.Rows.{SignalRow, WholeData, WholeBaseline, SignalGroup, WholeFits, WholeFitsAll, whole_residual, whole_residuals, share, whole_sum_of_squares, GroupsOf, first_rounding, value}
@@ -13,6 +12,8 @@ use Rattle.quadratic_form.specs.UpperSum.{top}
 use Rattle.quadratic_form.specs.TwoLeast.{TwoLeast}
 use Rattle.rational.specs.Rational.{Rational, ◌≤ʳ◌, ◌<ʳ◌, of_whole, add_r, sub_r, mul_r}
 use Rattle.quadratic_form.specs.RationalData.{RowData, Baseline, Fits, FitsAll, residual, residuals, sum_of_rationals, squared_norm_of_rationals, spread_of_rationals, sum_of_squares, moved, IsBest}
+use Rattle.whole_math.specs.Vectors.{len, sum, squared_norm, dot}
+use Rattle.quadratic_form.specs.Spread.{spread}
 
 -- ---- data and baseline over one denominator
 pub record OverDatum (d : ℤ) (t : WholeData) (q : RowData) : Type 0 where

@@ -3,9 +3,9 @@ use Rattle.std.proofs.Common.{◌≡◌, ◌⊎◌, ◌↔◌, ⊎_elim, ℕ, �
 use Rattle.std.proofs.lemmas.Int.{by_lt_z}
 use Rattle.whole_math.proofs.Ring.{◌⊕◌, ◌⊖◌, ◌⊗◌, ng}
 use Rattle.whole_math.proofs.Order.{lins, square_nn}
-use Rattle.whole_math.proofs.Rounding.{floor_greatest}
+use Rattle.whole_math.proofs.Rounding.{floor_greatest, floor_close}
 use Rattle.whole_math.specs.Rounding.{floor_div}
-use Rattle.whole_math.proofs.Inequalities.{le_by, both_nn, prod_nn, less_nn, pos_nn, pos_one, later, strict, floor_close, same_by, nat}
+use Rattle.whole_math.proofs.Inequalities.{le_by, both_nn, prod_nn, less_nn, pos_nn, pos_one, later, strict, same_by, nat}
 
 -- the test by a quotient: c is small and c² ≤ ⌊(b - l) / d⌋
 pub record Fitting (l b c : ℤ) (d : ℕ) : Type 0 where

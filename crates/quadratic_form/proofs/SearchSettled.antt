@@ -5,12 +5,12 @@ use Rattle.whole_math.proofs.Ring.{◌⊕◌, ◌⊖◌, ◌⊗◌}
 use Rattle.whole_math.proofs.Inequalities.{le_by, both_nn, less_nn, pos_one, later, strict, nat}
 use Rattle.quadratic_form.proofs.VectorOrder.{less_chain}
 use Rattle.quadratic_form.proofs.LowerSums.{lower_sum_grows, lower_sum_below}
-use Rattle.quadratic_form.specs.Vectors.{len}
 use Rattle.quadratic_form.specs.Forms.{Column, Shaped}
 use Rattle.quadratic_form.specs.Elimination.{Factor, steps}
 use Rattle.quadratic_form.specs.Rows.{value}
 use Rattle.quadratic_form.specs.TwoLeast.{Less, TwoLeast}
 use Rattle.quadratic_form.specs.LowerSums.{offset, lower_sum, AllNonneg, Settled}
+use Rattle.whole_math.specs.Vectors.{len}
 
 -- a vector less than the first becomes the first
 pub offer_first : (p : List Column) (a b z v : List ℤ) → Less p a b → Less p z a → Settled p a b v → Settled p z a v

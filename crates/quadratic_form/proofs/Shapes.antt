@@ -1,9 +1,9 @@
 -- The shapes of the forms: each has n columns, and each column an entry with each later one.
 use Rattle.std.proofs.Common.{◌≡◌, List, [], ◌∷◌, ◌++◌, length, ℤ, pos, negsuc, ◌+ℤ◌, ◌*ℤ◌, sym, ap, ◌∙◌, refl}
-use Rattle.quadratic_form.proofs.Spread.{len_nonneg, len_tail, len_apart, len_scaled, len_added}
-use Rattle.quadratic_form.specs.Vectors.{len, scaled}
 use Rattle.quadratic_form.specs.Forms.{Column, Shaped, plus, times, outer}
-use Rattle.quadratic_form.specs.Rows.{SignalRow, WholeBaseline, SignalGroup, coefficients, sum_coefficients, sum_outer, group_matrix, matrix, Radii, diagonal, zeros, columns, bounding_form, columns_at, RowsOf, GroupsOf}
+use Rattle.quadratic_form.specs.Rows.{SignalRow, WholeBaseline, SignalGroup, coefficients, sum_coefficients, sum_outer, group_matrix, matrix, Radii, diagonal, columns, bounding_form, columns_at, RowsOf, GroupsOf}
+use Rattle.whole_math.proofs.Vectors.{len_nonneg, len_tail, len_apart, len_scaled, len_added, len_last, len_zeros}
+use Rattle.whole_math.specs.Vectors.{len, scaled, zeros}
 
 abbrev pub Sized : ℤ → List Column → Type 0
 Sized n a = (len a ≡ n) × Shaped a
@@ -25,17 +25,9 @@ sized_plus (c ∷ a) (d ∷ b) e s t =
     let ih : Sized (len a) (plus a b) = sized_plus a b f s.1 t.1 in
     (ap (λ n. pos 1 +ℤ n) ih.0, (len_added c.others d.others (s.0 ∙ f ∙ sym t.0) ∙ s.0 ∙ sym ih.0, ih.1))
 
-pub len_zeros : {A : Type 0} (s : List A) → len (zeros (length s)) ≡ len s
-len_zeros [] = refl
-len_zeros (x ∷ s) = ap (λ n. pos 1 +ℤ n) (len_zeros s)
-
 sized_diagonal : (s : List ℤ) → Sized (len s) (diagonal s)
 sized_diagonal [] = (refl, tt)
 sized_diagonal (x ∷ s) = (ap (λ n. pos 1 +ℤ n) (sized_diagonal s).0, (len_zeros s ∙ sym (sized_diagonal s).0, (sized_diagonal s).1))
-
-len_last : (s : List ℤ) (y : ℤ) → len (s ++ (y ∷ [])) ≡ pos 1 +ℤ len s
-len_last [] y = refl
-len_last (x ∷ s) y = ap (λ n. pos 1 +ℤ n) (len_last s y)
 
 -- the number of columns, where there are k integers
 abbrev pub cols : ℤ → ℤ

@@ -3,7 +3,9 @@ use Rattle.std.proofs.Common.{◌≡◌, List, [], ◌∷◌, ℤ, pos, ◌+ℤ�
 use Rattle.whole_math.proofs.Ring.{◌⊕◌, ◌⊖◌, ◌⊗◌}
 use Rattle.whole_math.proofs.Order.{lins, square_nn}
 use Rattle.whole_math.proofs.Inequalities.{le_by, both_nn, same_by, nat}
-use Rattle.quadratic_form.specs.Vectors.{len, sum, squared_norm, dot, scaled, added, spread, cross_spread, distances_from, pair_distances}
+use Rattle.whole_math.specs.Vectors.{len, sum, squared_norm, dot, scaled, added}
+use Rattle.quadratic_form.specs.Spread.{spread, cross_spread, distances_from, pair_distances}
+use Rattle.whole_math.proofs.Vectors.{len_added, len_scaled, squared_norm_shift, sum_shift}
 
 pub apart_open : (x : ℤ) (s : List ℤ) → distances_from x s ≡ len s *ℤ (x *ℤ x) -ℤ pos 2 *ℤ (x *ℤ sum s) +ℤ squared_norm s
 apart_open x [] = same_by (x ∷ []) (λ x. (nat 0, nat 0 ⊗ (x ⊗ x) ⊖ nat 2 ⊗ (x ⊗ nat 0) ⊕ nat 0)) refl
@@ -36,63 +38,8 @@ spread_below s = step (len s *ℤ squared_norm s) (sum s) (square_nn (sum s))
     step : (a b : ℤ) → pos 0 ≤ℤ (b *ℤ b) → (a -ℤ (b *ℤ b)) ≤ℤ a
     step a b h = omega (arith, lins)
 
--- ---- sums over s + k t
-pub sum_shift : (k : ℤ) (s t : List ℤ) → sum (added s (scaled k t)) ≡ sum s +ℤ k *ℤ sum t
-sum_shift k [] [] = same_by (k ∷ []) (λ k. (nat 0, nat 0 ⊕ k ⊗ nat 0)) refl
-sum_shift k [] (y ∷ t) = ap (λ z. (k *ℤ y) +ℤ z) (sum_shift k [] t) ∙ step k y (sum t)
-  where
-    step : (k y b : ℤ) → k *ℤ y +ℤ (pos 0 +ℤ k *ℤ b) ≡ pos 0 +ℤ k *ℤ (y +ℤ b)
-    step k y b = same_by (k ∷ y ∷ b ∷ []) (λ k y b. (k ⊗ y ⊕ (nat 0 ⊕ k ⊗ b), nat 0 ⊕ k ⊗ (y ⊕ b))) refl
-sum_shift k (x ∷ s) [] = step k (x +ℤ sum s)
-  where
-    step : (k a : ℤ) → a ≡ a +ℤ k *ℤ pos 0
-    step k a = same_by (a ∷ k ∷ []) (λ a k. (a, a ⊕ k ⊗ nat 0)) refl
-sum_shift k (x ∷ s) (y ∷ t) = ap (λ z. (x +ℤ (k *ℤ y)) +ℤ z) (sum_shift k s t) ∙ step k x y (sum s) (sum t)
-  where
-    step : (k x y a b : ℤ) → x +ℤ k *ℤ y +ℤ (a +ℤ k *ℤ b) ≡ x +ℤ a +ℤ k *ℤ (y +ℤ b)
-    step k x y a b = same_by (x ∷ k ∷ y ∷ a ∷ b ∷ []) (λ x k y a b. (x ⊕ k ⊗ y ⊕ (a ⊕ k ⊗ b), x ⊕ a ⊕ k ⊗ (y ⊕ b))) refl
-
-pub sumsq_shift : (k : ℤ) (s t : List ℤ) → squared_norm (added s (scaled k t)) ≡ squared_norm s +ℤ pos 2 *ℤ k *ℤ dot s t +ℤ k *ℤ k *ℤ squared_norm t
-sumsq_shift k [] [] = same_by (k ∷ []) (λ k. (nat 0, nat 0 ⊕ nat 2 ⊗ k ⊗ nat 0 ⊕ k ⊗ k ⊗ nat 0)) refl
-sumsq_shift k [] (y ∷ t) = ap (λ z. ((k *ℤ y) *ℤ (k *ℤ y)) +ℤ z) (sumsq_shift k [] t) ∙ step k y (squared_norm t)
-  where
-    step : (k y b : ℤ) → k *ℤ y *ℤ (k *ℤ y) +ℤ (pos 0 +ℤ pos 2 *ℤ k *ℤ pos 0 +ℤ k *ℤ k *ℤ b) ≡ pos 0 +ℤ pos 2 *ℤ k *ℤ pos 0 +ℤ k *ℤ k *ℤ (y *ℤ y +ℤ b)
-    step k y b = same_by (k ∷ y ∷ b ∷ []) (λ k y b. (k ⊗ y ⊗ (k ⊗ y) ⊕ (nat 0 ⊕ nat 2 ⊗ k ⊗ nat 0 ⊕ k ⊗ k ⊗ b), nat 0 ⊕ nat 2 ⊗ k ⊗ nat 0 ⊕ k ⊗ k ⊗ (y ⊗ y ⊕ b))) refl
-sumsq_shift k (x ∷ s) [] = step k (squared_norm (x ∷ s))
-  where
-    step : (k a : ℤ) → a ≡ a +ℤ pos 2 *ℤ k *ℤ pos 0 +ℤ k *ℤ k *ℤ pos 0
-    step k a = same_by (a ∷ k ∷ []) (λ a k. (a, a ⊕ nat 2 ⊗ k ⊗ nat 0 ⊕ k ⊗ k ⊗ nat 0)) refl
-sumsq_shift k (x ∷ s) (y ∷ t) = ap (λ z. ((x +ℤ (k *ℤ y)) *ℤ (x +ℤ (k *ℤ y))) +ℤ z) (sumsq_shift k s t) ∙ step k x y (squared_norm s) (dot s t) (squared_norm t)
-  where
-    step : (k x y a c b : ℤ) → (x +ℤ k *ℤ y) *ℤ (x +ℤ k *ℤ y) +ℤ (a +ℤ pos 2 *ℤ k *ℤ c +ℤ k *ℤ k *ℤ b) ≡ x *ℤ x +ℤ a +ℤ pos 2 *ℤ k *ℤ (x *ℤ y +ℤ c) +ℤ k *ℤ k *ℤ (y *ℤ y +ℤ b)
-    step k x y a c b = same_by (x ∷ k ∷ y ∷ a ∷ c ∷ b ∷ []) (λ x k y a c b. ((x ⊕ k ⊗ y) ⊗ (x ⊕ k ⊗ y) ⊕ (a ⊕ nat 2 ⊗ k ⊗ c ⊕ k ⊗ k ⊗ b), x ⊗ x ⊕ a ⊕ nat 2 ⊗ k ⊗ (x ⊗ y ⊕ c) ⊕ k ⊗ k ⊗ (y ⊗ y ⊕ b))) refl
-
-pub len_scaled : (k : ℤ) (s : List ℤ) → len (scaled k s) ≡ len s
-len_scaled k [] = refl
-len_scaled k (x ∷ s) = ap (λ z. pos 1 +ℤ z) (len_scaled k s)
-
-pub len_nonneg : {A : Type 0} (s : List A) → pos 0 ≤ℤ len s
-len_nonneg [] = omega (arith, lins)
-len_nonneg (x ∷ s) = step (len s) (len_nonneg s)
-  where
-    step : (n : ℤ) → pos 0 ≤ℤ n → pos 0 ≤ℤ (pos 1 +ℤ n)
-    step n h = omega (arith, lins)
-
--- of two lists of one length
-pub len_tail : (a b : ℤ) → pos 1 +ℤ a ≡ pos 1 +ℤ b → a ≡ b
-len_tail a b e = omega (arith, lins)
-
-pub len_apart : (n : ℤ) → pos 0 ≤ℤ n → pos 0 ≡ pos 1 +ℤ n → ⊥
-len_apart n h e = omega (arith, lins)
-
-pub len_added : (s t : List ℤ) → len s ≡ len t → len (added s t) ≡ len s
-len_added [] [] e = refl
-len_added [] (y ∷ t) e = absurd (len_apart (len t) (len_nonneg t) e)
-len_added (x ∷ s) [] e = refl
-len_added (x ∷ s) (y ∷ t) e = ap (λ z. pos 1 +ℤ z) (len_added s t (len_tail (len s) (len t) e))
-
 pub spread_shift : (k : ℤ) (s t : List ℤ) → len s ≡ len t → spread (added s (scaled k t)) ≡ spread s +ℤ pos 2 *ℤ k *ℤ cross_spread s t +ℤ k *ℤ k *ℤ spread t
-spread_shift k s t e = rw (len_added s (scaled k t) (e ∙ sym (len_scaled k t)), sum_shift k s t, sumsq_shift k s t)
+spread_shift k s t e = rw (len_added s (scaled k t) (e ∙ sym (len_scaled k t)), sum_shift k s t, squared_norm_shift k s t)
     (step k (len s) (sum s) (squared_norm s) (dot s t) (sum t) (squared_norm t) ∙ ap (λ z. spread s +ℤ pos 2 *ℤ k *ℤ cross_spread s t +ℤ k *ℤ k *ℤ (z *ℤ squared_norm t -ℤ sum t *ℤ sum t)) e)
   where
     step : (k n a q c b r : ℤ) → n *ℤ (q +ℤ pos 2 *ℤ k *ℤ c +ℤ k *ℤ k *ℤ r) -ℤ (a +ℤ k *ℤ b) *ℤ (a +ℤ k *ℤ b) ≡ n *ℤ q -ℤ a *ℤ a +ℤ pos 2 *ℤ k *ℤ (n *ℤ c -ℤ a *ℤ b) +ℤ k *ℤ k *ℤ (n *ℤ r -ℤ b *ℤ b)
@@ -114,7 +61,7 @@ spread_scale k s = rw (len_scaled k s, sum_scale k s, sumsq_scale k s) (step k (
     clear k a = same_by (k ∷ a ∷ []) (λ k a. (nat 0 ⊕ nat 2 ⊗ k ⊗ nat 0 ⊕ k ⊗ k ⊗ a, k ⊗ k ⊗ a)) refl
 
     sumsq_scale : (k : ℤ) (s : List ℤ) → squared_norm (scaled k s) ≡ k *ℤ k *ℤ squared_norm s
-    sumsq_scale k s = sumsq_shift k [] s ∙ clear k (squared_norm s)
+    sumsq_scale k s = squared_norm_shift k [] s ∙ clear k (squared_norm s)
 
 -- what a change d of the entries takes away at most
 pub perturb : (a d : List ℤ) → len a ≡ len d → (pos 63 *ℤ spread a -ℤ pos 4032 *ℤ spread d) ≤ℤ (pos 64 *ℤ spread (added a d))

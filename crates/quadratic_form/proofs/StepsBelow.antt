@@ -4,11 +4,11 @@ use Rattle.std.proofs.lemmas.Int.{ints}
 use Rattle.whole_math.proofs.Ring.{◌⊕◌, ◌⊖◌, ◌⊗◌}
 use Rattle.whole_math.proofs.Order.{lins, square_nn, mul_le_cancel}
 use Rattle.whole_math.proofs.Inequalities.{le_by, both_nn, prod_nn, less_nn, nat}
-use Rattle.quadratic_form.proofs.Spread.{len_nonneg, len_tail, len_apart}
 use Rattle.quadratic_form.proofs.EliminationStep.{step_below, kept_nonneg, next_len, next_shaped}
-use Rattle.quadratic_form.specs.Vectors.{len, dot}
 use Rattle.quadratic_form.specs.Forms.{Column, Shaped, quad}
 use Rattle.quadratic_form.specs.Elimination.{factors, kept, next, Factor, squares, Refusal, all_small, form_small, step, with_factor, steps, weak, wide_factor, wide_entry}
+use Rattle.whole_math.proofs.Vectors.{len_nonneg, len_tail, len_apart}
+use Rattle.whole_math.specs.Vectors.{len, dot}
 
 -- what a step answers where it answers
 pub record Taken (c : Column) (m : List Column) (p : Factor × List Column) : Type 0 where

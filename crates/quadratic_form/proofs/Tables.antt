@@ -2,17 +2,13 @@
 use Rattle.std.proofs.Common.{arith, ℕ, zero, suc, ◌≡◌, List, [], ◌∷◌, ◌++◌, length, ℤ, pos, ◌+ℤ◌, ◌*ℤ◌, ◌≤ℤ◌, sym, ap, ap₂, ◌∙◌, refl}
 use Rattle.whole_math.proofs.Inequalities.{same_by, nat}
 use Rattle.whole_math.proofs.Ring.{◌⊕◌, ◌⊗◌}
-use Rattle.quadratic_form.proofs.Spread.{len_nonneg, len_tail, len_apart}
-use Rattle.quadratic_form.proofs.Forms.{dot_added, dot_scaled}
-use Rattle.quadratic_form.proofs.NormalForm.{dot_zeros}
-use Rattle.quadratic_form.proofs.Shapes.{len_zeros}
-use Rattle.quadratic_form.specs.Rows.{zeros}
 use Rattle.quadratic_form.specs.Places.{list_from, form_from}
 use Rattle.quadratic_form.proofs.Places.{form_same}
-use Rattle.quadratic_form.specs.Vectors.{len, dot, scaled, added}
 use Rattle.quadratic_form.specs.Forms.{Column, quad}
 use Rattle.quadratic_form.specs.Maps.{apply, AllRows, entry, row}
 use Rattle.quadratic_form.specs.Tables.{table_value, tail, tails, half, Symmetric, add_tables, outer_table, product, combine, after_map, transformed, with_constant}
+use Rattle.whole_math.proofs.Vectors.{len_nonneg, len_tail, len_apart, dot_added, dot_scaled, dot_zeros, len_zeros, dot_last, dot_swap}
+use Rattle.whole_math.specs.Vectors.{zeros, len, dot, scaled, added}
 
 -- ---- the form of a symmetric table
 abbrev heads : List (List ℤ) → List ℤ
@@ -80,12 +76,6 @@ rows_quad ((c ∷ b) ∷ rs) (y ∷ v) e a s =
     step y c d q = same_by (y ∷ c ∷ d ∷ q ∷ []) (λ y c d q. (y ⊗ (c ⊗ y ⊕ d) ⊕ (y ⊗ d ⊕ q), c ⊗ (y ⊗ y) ⊕ nat 2 ⊗ (y ⊗ d) ⊕ q)) refl
 
 -- ---- a table under a map
-dot_swap : (s t : List ℤ) → dot s t ≡ dot t s
-dot_swap [] [] = refl
-dot_swap [] (y ∷ t) = refl
-dot_swap (x ∷ s) [] = refl
-dot_swap (x ∷ s) (y ∷ t) = ap₂ (λ a b. a +ℤ b) (same_by (x ∷ y ∷ []) (λ x y. (x ⊗ y, y ⊗ x)) refl) (dot_swap s t)
-
 pub adjoint : (u : List ℤ) (m : List (List ℤ)) (w : List ℤ) → dot (combine u m) w ≡ dot u (apply m w)
 adjoint [] m w = refl
 adjoint (c ∷ u) [] w = refl
@@ -115,12 +105,6 @@ transformed_value m p w = ap (λ u. dot w u) (apply_product m (after_map p m) w 
     ∙ dot_swap w (combine (apply p (apply m w)) m) ∙ adjoint (apply p (apply m w)) m w ∙ dot_swap (apply p (apply m w)) (apply m w)
 
 -- the constant stays
-dot_last : (a b : ℤ) (r w : List ℤ) → len r ≡ len w → dot (r ++ (a ∷ [])) (w ++ (b ∷ [])) ≡ dot r w +ℤ a *ℤ b
-dot_last a b [] [] e = same_by (a ∷ b ∷ []) (λ a b. (a ⊗ b ⊕ nat 0, nat 0 ⊕ a ⊗ b)) refl
-dot_last a b [] (y ∷ w) e = absurd (len_apart (len w) (len_nonneg w) e)
-dot_last a b (x ∷ r) [] e = absurd (len_apart (len r) (len_nonneg r) (sym e))
-dot_last a b (x ∷ r) (y ∷ w) e = ap (λ s. (x *ℤ y) +ℤ s) (dot_last a b r w (len_tail (len r) (len w) e)) ∙ (same_by (x ∷ y ∷ dot r w ∷ a ∷ b ∷ []) (λ x y d a b. (x ⊗ y ⊕ (d ⊕ a ⊗ b), x ⊗ y ⊕ d ⊕ a ⊗ b)) refl)
-
 zeros_at : (w : List ℤ) → dot (zeros (length w) ++ (pos 1 ∷ [])) (w ++ (pos 1 ∷ [])) ≡ pos 1
 zeros_at w = dot_last (pos 1) (pos 1) (zeros (length w)) w (len_zeros w) ∙ ap (λ t. t +ℤ pos 1 *ℤ pos 1) (dot_zeros (length w) w)
 

@@ -3,15 +3,16 @@ use Rattle.std.proofs.Common.{ℕ, ◌^◌, ◌/◌, ◌<◌, List, [], ◌∷�
 use Rattle.std.proofs.lemmas.Int.{ints}
 use Rattle.whole_math.proofs.Ring.{◌⊕◌, ◌⊖◌, ◌⊗◌, ng}
 use Rattle.whole_math.proofs.Order.{square_nn}
-use Rattle.whole_math.proofs.Rounding.{lt_floor}
+use Rattle.whole_math.proofs.Rounding.{lt_floor, floor_close, ceil_close}
 use Rattle.whole_math.specs.Rounding.{floor_div, ceil_div}
-use Rattle.whole_math.proofs.Inequalities.{le_by, both_nn, prod_nn, less_nn, pos_nn, weak, halve, floor_close, ceil_close, le_trans_ℤ, nat}
+use Rattle.whole_math.proofs.Inequalities.{le_by, both_nn, prod_nn, less_nn, pos_nn, weak, halve, le_trans_ℤ, nat}
 use Rattle.quadratic_form.proofs.Spread.{spread_pairs}
 use Rattle.quadratic_form.proofs.NormalForm.{square_within}
-use Rattle.quadratic_form.specs.Vectors.{dot, spread, distances_from, pair_distances}
 use Rattle.whole_math.specs.Bounds.{Within}
 use Rattle.quadratic_form.specs.Rows.{SignalRow, WholeData, WholeBaseline, SignalGroup, WholeInBoxes, WholeFits, WholeFitsAll, whole_residual, whole_residuals, share, whole_sum_of_squares, GroupsOf}
 use Rattle.quadratic_form.specs.UpperSum.{size, centre, rad, gap, gaps_from, gaps, upper_sum, top}
+use Rattle.whole_math.specs.Vectors.{dot}
+use Rattle.quadratic_form.specs.Spread.{spread, distances_from, pair_distances}
 
 size_within : (b : ℤ) → Within (size b) b
 size_within b = (lower_sum b, high b)

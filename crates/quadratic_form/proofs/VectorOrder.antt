@@ -2,11 +2,11 @@
 use Rattle.std.proofs.Common.{◌≡◌, ◌⊎◌, inl, inr, ⊎_elim, List, [], ◌∷◌, ℤ, ◌≤ℤ◌, ◌<ℤ◌, arith, sym, ap₂, ◌∙◌, refl, subst}
 use Rattle.std.proofs.lemmas.Int.{by_lt_z}
 use Rattle.whole_math.proofs.Order.{lins}
-use Rattle.quadratic_form.proofs.Spread.{len_nonneg, len_tail, len_apart}
-use Rattle.quadratic_form.specs.Vectors.{len}
 use Rattle.quadratic_form.specs.Forms.{Column}
 use Rattle.quadratic_form.specs.Rows.{value}
 use Rattle.quadratic_form.specs.TwoLeast.{Before, Less, TwoLeast}
+use Rattle.whole_math.proofs.Vectors.{len_nonneg, len_tail, len_apart}
+use Rattle.whole_math.specs.Vectors.{len}
 
 never : (a : ℤ) → a <ℤ a → ⊥
 never a h = omega (arith, lins)

@@ -1,8 +1,8 @@
 -- The first rounding of a form, and its elimination column by column.
 use Rattle.std.specs.Prelude.{ℕ, zero, suc, ◌^◌, Bool, true, false, ◌&&◌, nat_lt, int_lt, List, [], ◌∷◌, ℤ, pos, ◌+ℤ◌, ◌-ℤ◌, ◌*ℤ◌, Result, Ok, Err, unsigned_abs}
 use Rattle.whole_math.specs.Rounding.{floor_div, ceil_div, nearest_div}
-use Rattle.quadratic_form.specs.Vectors.{len, dot}
 use Rattle.quadratic_form.specs.Forms.{Column}
+use Rattle.whole_math.specs.Vectors.{len, dot}
 
 abbrev pub nearest_each : ℕ → List ℤ → List ℤ
 nearest_each m [] = []

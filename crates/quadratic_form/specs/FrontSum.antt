@@ -1,8 +1,8 @@
 -- Forms of several pairs, each over its own power of 2, added over one.
 use Rattle.std.specs.Prelude.{◌≡◌, ℕ, ◌-◌, ◌^◌, ◌≤◌, List, [], ◌∷◌, ℤ, pos, ◌+ℤ◌, ◌*ℤ◌}
-use Rattle.quadratic_form.specs.Vectors.{len}
 use Rattle.quadratic_form.specs.Forms.{Column, Shaped, quad, plus}
 use Rattle.quadratic_form.specs.Elimination.{rounded}
+use Rattle.whole_math.specs.Vectors.{len}
 
 -- a form in units of 2^h
 pub record Front : Type 0 where

@@ -1,9 +1,9 @@
 -- The lower sums of the search over integer vectors.
 use Rattle.std.specs.Prelude.{◌≡◌, ◌⊎◌, ◌^◌, List, [], ◌∷◌, ◌++◌, ℤ, pos, ◌+ℤ◌, ◌*ℤ◌, neg_ℤ, ◌≤ℤ◌, ◌<ℤ◌}
-use Rattle.quadratic_form.specs.Vectors.{dot}
 use Rattle.quadratic_form.specs.Forms.{Column}
 use Rattle.quadratic_form.specs.Elimination.{Factor}
 use Rattle.quadratic_form.specs.TwoLeast.{Less}
+use Rattle.whole_math.specs.Vectors.{dot}
 
 -- 2^30 times the distance of x from the centre that the later entries give
 abbrev pub offset : Factor → ℤ → List ℤ → ℤ

@@ -1,6 +1,6 @@
 -- Maps of integer vectors and their inverses: a shear and a swap of two neighbours.
 use Rattle.std.specs.Prelude.{ℕ, zero, suc, ◌≡◌, List, [], ◌∷◌, length, ℤ, pos, ◌+ℤ◌, ◌-ℤ◌, ◌*ℤ◌}
-use Rattle.quadratic_form.specs.Vectors.{len, dot, scaled, added}
+use Rattle.whole_math.specs.Vectors.{len, dot, scaled, added}
 
 -- a map, as a list of rows, at x
 abbrev pub apply : List (List ℤ) → List ℤ → List ℤ

@@ -1,9 +1,9 @@
 -- The sum of squares over rational data, rational baselines and whole integers: what the proofs are about.
 use Rattle.std.specs.Prelude.{◌≡◌, ◌^◌, List, [], ◌∷◌, ℤ, pos}
 use Rattle.std.proofs.Common.{pow_pos}
-use Rattle.quadratic_form.specs.Vectors.{len, dot}
 use Rattle.rational.specs.Rational.{Near, Rational, ◌<ʳ◌, of_whole, add_r, sub_r, mul_r}
 use Rattle.quadratic_form.specs.Rows.{SignalRow, WholeBaseline, SignalGroup, share}
+use Rattle.whole_math.specs.Vectors.{len, dot}
 
 -- three directions and y
 pub record RowData : Type 0 where

@@ -1,9 +1,10 @@
 -- Rows, the data that lie in their boxes, the sum of squares over the data, and the normal form of the rows.
-use Rattle.std.specs.Prelude.{ℕ, zero, suc, ◌≡◌, ◌/◌, ◌^◌, ◌<◌, ◌≤◌, List, [], ◌∷◌, ◌++◌, length, ℤ, pos, negsuc, ◌+ℤ◌, ◌-ℤ◌, ◌*ℤ◌, neg_ℤ, ◌≤ℤ◌}
+use Rattle.std.specs.Prelude.{ℕ, suc, ◌≡◌, ◌/◌, ◌^◌, ◌<◌, ◌≤◌, List, [], ◌∷◌, ◌++◌, length, ℤ, pos, negsuc, ◌+ℤ◌, ◌-ℤ◌, ◌*ℤ◌, neg_ℤ, ◌≤ℤ◌}
 use Rattle.whole_math.specs.Bounds.{Within}
-use Rattle.quadratic_form.specs.Vectors.{len, dot, scaled, added, spread}
 use Rattle.quadratic_form.specs.Forms.{Column, quad, plus, times, outer}
 use Rattle.quadratic_form.specs.Elimination.{rounded}
+use Rattle.whole_math.specs.Vectors.{len, dot, scaled, added, zeros}
+use Rattle.quadratic_form.specs.Spread.{spread}
 
 -- a row as one signal sees it: centres and radii of three directions, the coefficients of the integers, centre and radius of y
 pub record SignalRow : Type 0 where
@@ -75,10 +76,6 @@ whole_sum_of_squares d e z b (g ∷ gs) (t ∷ ts) = (share g *ℤ spread (whole
 -- ---- the normal form
 abbrev pub coefficients : SignalRow → List ℤ
 coefficients r = neg_ℤ r.u1 ∷ (neg_ℤ r.u2 ∷ (neg_ℤ r.u3 ∷ (r.cycles ++ (r.y ∷ []))))
-
-abbrev pub zeros : ℕ → List ℤ
-zeros zero = []
-zeros (suc n) = pos 0 ∷ zeros n
 
 -- the form with these own entries and no others
 abbrev pub diagonal : List ℤ → List Column

@@ -1,8 +1,8 @@
 -- Forms as tables, and tables under a map.
 use Rattle.std.specs.Prelude.{ℕ, zero, suc, ◌≡◌, List, [], ◌∷◌, ◌++◌, ℤ, pos}
-use Rattle.quadratic_form.specs.Vectors.{dot, scaled, added}
 use Rattle.quadratic_form.specs.Forms.{Column}
 use Rattle.quadratic_form.specs.Maps.{apply, entry, row}
+use Rattle.whole_math.specs.Vectors.{dot, scaled, added}
 
 -- xᵀ t x
 abbrev pub table_value : List (List ℤ) → List ℤ → ℤ

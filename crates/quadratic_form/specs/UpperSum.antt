@@ -1,8 +1,8 @@
 -- An upper bound of the sum of squares at given integers and a given baseline, in units of 2^-16.
 use Rattle.std.specs.Prelude.{ℕ, ◌^◌, List, [], ◌∷◌, ℤ, pos, ◌+ℤ◌, ◌-ℤ◌, ◌*ℤ◌, unsigned_abs}
 use Rattle.whole_math.specs.Rounding.{floor_div, ceil_div}
-use Rattle.quadratic_form.specs.Vectors.{dot}
 use Rattle.quadratic_form.specs.Rows.{SignalRow, WholeBaseline, SignalGroup, share}
+use Rattle.whole_math.specs.Vectors.{dot}
 
 abbrev pub size : ℤ → ℤ
 size x = pos (unsigned_abs x)

@@ -1,8 +1,7 @@
-// Quadratic forms over of_whole numbers, their elimination, and what it says for all data. Lemmas only.
+// Quadratic forms over whole numbers, their elimination, and what it says for all data. Lemmas only.
 #![tactic(auto)]
 
 ghost use Rattle.std.specs.Prelude.{◌≡◌, ℕ, ◌^◌, List, [], ◌∷◌, ◌++◌, length, ℤ, pos, ◌*ℤ◌, ◌≤ℤ◌, ◌<ℤ◌, Ok};
-ghost use Rattle.quadratic_form.specs.Vectors.{len};
 ghost use Rattle.quadratic_form.specs.Forms.{Column};
 ghost use Rattle.quadratic_form.specs.Elimination.{Factor, steps};
 ghost use Rattle.quadratic_form.specs.Rows.{WholeBaseline, SignalGroup, WholeData, GroupsOf, WholeFitsAll, first_rounding, value, whole_sum_of_squares};
@@ -10,9 +9,10 @@ ghost use Rattle.quadratic_form.specs.UpperSum.{top};
 ghost use Rattle.quadratic_form.specs.TwoLeast.{TwoLeast};
 ghost use Rattle.rational.specs.Rational.{of_whole, mul_r, ◌≤ʳ◌};
 ghost use Rattle.quadratic_form.specs.RationalData.{RowData, Baseline, FitsAll, sum_of_squares, IsBest};
+ghost use Rattle.whole_math.specs.Vectors.{len};
 
 /// 64 times the sum of squares is at least 2^h times the value of the form that three steps leave,
-/// for all data in the boxes, over d, all of_whole numbers z and all baselines, over e.
+/// for all data in the boxes, over d, all whole numbers z and all baselines, over e.
 pub fn bound_law()
     ensures { (d e : ℤ) (h : ℕ) (z : List ℤ) (b : WholeBaseline) (gs : List SignalGroup) (ts : List (List WholeData)) (p : List Factor × List Column) →
         GroupsOf (len z) gs → WholeFitsAll d gs ts → steps 0 3 (first_rounding h (length z) gs) ≡ Ok p →

@@ -2,8 +2,6 @@
 use Rattle.std.proofs.Common.{suc, ◌≡◌, ℕ, ◌<◌, List, [], ◌∷◌, ℤ, pos, negsuc, ◌+ℤ◌, ◌-ℤ◌, ◌*ℤ◌, neg_ℤ, ◌≤ℤ◌, ◌<ℤ◌, arith, sym, refl, subst}
 use Rattle.whole_math.proofs.Ring.{Ex, ev, norm, ring, va, ko, ◌⊕◌, ◌⊖◌, ◌⊗◌, ng}
 use Rattle.whole_math.proofs.Order.{lins, mul_nn, square_nn, le_from_diff, mul_le_cancel}
-use Rattle.whole_math.proofs.Rounding.{floor_le, lt_floor, ceil_le, nearest_bounds}
-use Rattle.whole_math.specs.Rounding.{floor_div, ceil_div, nearest_div}
 
 -- a claim about numbers, as a function of their names: a pair (left, right), or with a third part
 abbrev pub Pair : List ℤ → Type 0
@@ -81,37 +79,6 @@ le_trans_ℤ h k = omega (arith, lins)
 pub le_eq : {a b : ℤ} → a ≡ b → a ≤ℤ b
 le_eq e = omega (arith, lins)
 
--- ---- rounding
-pub nearest_close : (x : ℤ) (m : ℕ) → 0 < m →
-    (neg_ℤ (pos m) ≤ℤ (pos 2 *ℤ (x -ℤ pos m *ℤ nearest_div x m))) × ((pos 2 *ℤ (x -ℤ pos m *ℤ nearest_div x m)) <ℤ pos m)
-nearest_close x m h =
-    let q : ℤ = nearest_div x m in
-    let e : pos 2 *ℤ (x -ℤ pos m *ℤ q) ≡ pos 2 *ℤ x -ℤ pos 2 *ℤ (q *ℤ pos m) = same_by (x ∷ pos m ∷ q ∷ []) (λ x m q. (nat 2 ⊗ (x ⊖ m ⊗ q), nat 2 ⊗ x ⊖ nat 2 ⊗ (q ⊗ m))) refl in
-    let b : ((pos 2 *ℤ (q *ℤ pos m)) ≤ℤ (pos 2 *ℤ x +ℤ pos m)) × ((pos 2 *ℤ x -ℤ pos m) <ℤ (pos 2 *ℤ (q *ℤ pos m))) = nearest_bounds x m h in
-    (omega (arith, lins), omega (arith, lins))
-
-pub ceil_close : (x : ℤ) (m : ℕ) → 0 < m → x ≤ℤ (pos m *ℤ ceil_div x m)
-ceil_close x m h =
-    let e : ceil_div x m *ℤ pos m ≡ pos m *ℤ ceil_div x m = same_by (ceil_div x m ∷ pos m ∷ []) (λ c m. (c ⊗ m, m ⊗ c)) refl in
-    omega (arith, lins, ceil_le x m h)
-
-pub floor_close : (x : ℤ) (m : ℕ) → 0 < m → (pos m *ℤ floor_div x m) ≤ℤ x
-floor_close x m h =
-    let e : floor_div x m *ℤ pos m ≡ pos m *ℤ floor_div x m = same_by (floor_div x m ∷ pos m ∷ []) (λ f m. (f ⊗ m, m ⊗ f)) refl in
-    omega (arith, lins, floor_le x m h)
-
-pub ceil_near : (x : ℤ) (m : ℕ) → 0 < m → (pos m *ℤ ceil_div x m) <ℤ (x +ℤ pos m)
-ceil_near x m h = step x (floor_div (neg_ℤ x) m) (pos m) (lt_floor (neg_ℤ x) m h)
-  where
-    step : (x f m : ℤ) → neg_ℤ x <ℤ (f *ℤ m +ℤ m) → (m *ℤ neg_ℤ f) <ℤ (x +ℤ m)
-    step x f m h = strict {b = pos 1} (pos_one 1 (omega arith)) (le_by (m ∷ f ∷ x ∷ []) (λ m f x. (m ⊗ ng f ⊕ nat 1, x ⊕ m, f ⊗ m ⊕ m ⊖ (ng x ⊕ nat 1))) refl (less_nn (later h)))
-
-pub floor_near : (x : ℤ) (m : ℕ) → 0 < m → x <ℤ (pos m *ℤ floor_div x m +ℤ pos m)
-floor_near x m h = step x (floor_div x m) (pos m) (lt_floor x m h)
-  where
-    step : (x f m : ℤ) → x <ℤ (f *ℤ m +ℤ m) → x <ℤ (m *ℤ f +ℤ m)
-    step x f m h = strict {b = pos 1} (pos_one 1 (omega arith)) (le_by (x ∷ m ∷ f ∷ []) (λ x m f. (x ⊕ nat 1, m ⊗ f ⊕ m, f ⊗ m ⊕ m ⊖ (x ⊕ nat 1))) refl (less_nn (later h)))
-
 -- ---- squares
 pub two_products : (x y : ℤ) → (neg_ℤ (x *ℤ x +ℤ y *ℤ y) ≤ℤ (pos 2 *ℤ (x *ℤ y))) × ((pos 2 *ℤ (x *ℤ y)) ≤ℤ (x *ℤ x +ℤ y *ℤ y))
 two_products x y = (le_by (x ∷ y ∷ []) (λ x y. (ng (x ⊗ x ⊕ y ⊗ y), nat 2 ⊗ (x ⊗ y), (x ⊕ y) ⊗ (x ⊕ y))) refl (square_nn (x +ℤ y)), le_by (x ∷ y ∷ []) (λ x y. (nat 2 ⊗ (x ⊗ y), x ⊗ x ⊕ y ⊗ y, (x ⊖ y) ⊗ (x ⊖ y))) refl (square_nn (x -ℤ y)))
@@ -119,8 +86,8 @@ two_products x y = (le_by (x ∷ y ∷ []) (λ x y. (ng (x ⊗ x ⊕ y ⊗ y), n
 pub four_squares : (p q r s : ℤ) → ((p +ℤ q +ℤ r +ℤ s) *ℤ (p +ℤ q +ℤ r +ℤ s)) ≤ℤ (pos 4 *ℤ (p *ℤ p +ℤ q *ℤ q +ℤ r *ℤ r +ℤ s *ℤ s))
 four_squares p q r s = le_by (p ∷ q ∷ r ∷ s ∷ []) (λ p q r s. ((p ⊕ q ⊕ r ⊕ s) ⊗ (p ⊕ q ⊕ r ⊕ s), nat 4 ⊗ (p ⊗ p ⊕ q ⊗ q ⊕ r ⊗ r ⊕ s ⊗ s), (p ⊖ q) ⊗ (p ⊖ q) ⊕ (p ⊖ r) ⊗ (p ⊖ r) ⊕ ((p ⊖ s) ⊗ (p ⊖ s) ⊕ (q ⊖ r) ⊗ (q ⊖ r)) ⊕ ((q ⊖ s) ⊗ (q ⊖ s) ⊕ (r ⊖ s) ⊗ (r ⊖ s)))) refl (both_nn (both_nn (both_nn (square_nn (p -ℤ q)) (square_nn (p -ℤ r))) (both_nn (square_nn (p -ℤ s)) (square_nn (q -ℤ r)))) (both_nn (square_nn (q -ℤ s)) (square_nn (r -ℤ s))))
 
-pub cancel : (a : ℕ) (x y : ℤ) → 0 < a → (pos a *ℤ pos a *ℤ y) ≤ℤ (pos a *ℤ pos a *ℤ x) → y ≤ℤ x
-cancel a x y h k = mul_le_cancel y x a h (mul_le_cancel (y *ℤ pos a) (x *ℤ pos a) a h
+pub cancel_square : (a : ℕ) (x y : ℤ) → 0 < a → (pos a *ℤ pos a *ℤ y) ≤ℤ (pos a *ℤ pos a *ℤ x) → y ≤ℤ x
+cancel_square a x y h k = mul_le_cancel y x a h (mul_le_cancel (y *ℤ pos a) (x *ℤ pos a) a h
     (le_by (y ∷ pos a ∷ x ∷ []) (λ y a x. (y ⊗ a ⊗ a, x ⊗ a ⊗ a, a ⊗ a ⊗ x ⊖ a ⊗ a ⊗ y)) refl (less_nn k)))
 
 -- a share of a square that two terms make: (a - c)(X + T)² ≤ a X² + k a T², where a ≤ k c

@@ -7,3 +7,4 @@ pub mod Sums
 pub mod Certificates
 pub mod Examples
 pub mod Inequalities
+pub mod Vectors

@@ -2,8 +2,9 @@
 use Rattle.std.proofs.Common.{[], ◌∷◌, ◌≡◌, ℕ, ◌*◌, ◌<◌, ℤ, pos, negsuc, ◌+ℤ◌, ◌-ℤ◌, ◌*ℤ◌, neg_ℤ, ◌≤ℤ◌, ◌<ℤ◌, arith, refl}
 use Rattle.std.proofs.lemmas.Int.{ints}
 use Rattle.whole_math.proofs.IntLaws.{add_mul_ℤ, neg_mul_ℤ}
-use Rattle.whole_math.proofs.Ring.{ring, va, ko, ◌⊗◌}
+use Rattle.whole_math.proofs.Ring.{ring, va, ko, ◌⊕◌, ◌⊖◌, ◌⊗◌, ng}
 use Rattle.whole_math.proofs.Order.{lins, mul_lt_cancel, mul_le_cancel}
+use Rattle.whole_math.proofs.Inequalities.{le_by, less_nn, pos_one, later, strict, same_by, nat}
 use Rattle.whole_math.specs.Rounding.{floor_div, ceil_div, nearest_div}
 
 pub floor_le : (z : ℤ) (m : ℕ) → 0 < m → (floor_div z m *ℤ pos m) ≤ℤ z
@@ -50,3 +51,34 @@ floor_le_ceil z w m h g =
     let a : (floor_div z m *ℤ pos m) ≤ℤ z = floor_le z m h in
     let b : w ≤ℤ (ceil_div w m *ℤ pos m) = ceil_le w m h in
     mul_le_cancel (floor_div z m) (ceil_div w m) m h (omega (arith, lins))
+
+-- ---- the same with the factor before, as the forms have it
+pub nearest_close : (x : ℤ) (m : ℕ) → 0 < m →
+    (neg_ℤ (pos m) ≤ℤ (pos 2 *ℤ (x -ℤ pos m *ℤ nearest_div x m))) × ((pos 2 *ℤ (x -ℤ pos m *ℤ nearest_div x m)) <ℤ pos m)
+nearest_close x m h =
+    let q : ℤ = nearest_div x m in
+    let e : pos 2 *ℤ (x -ℤ pos m *ℤ q) ≡ pos 2 *ℤ x -ℤ pos 2 *ℤ (q *ℤ pos m) = same_by (x ∷ pos m ∷ q ∷ []) (λ x m q. (nat 2 ⊗ (x ⊖ m ⊗ q), nat 2 ⊗ x ⊖ nat 2 ⊗ (q ⊗ m))) refl in
+    let b : ((pos 2 *ℤ (q *ℤ pos m)) ≤ℤ (pos 2 *ℤ x +ℤ pos m)) × ((pos 2 *ℤ x -ℤ pos m) <ℤ (pos 2 *ℤ (q *ℤ pos m))) = nearest_bounds x m h in
+    (omega (arith, lins), omega (arith, lins))
+
+pub ceil_close : (x : ℤ) (m : ℕ) → 0 < m → x ≤ℤ (pos m *ℤ ceil_div x m)
+ceil_close x m h =
+    let e : ceil_div x m *ℤ pos m ≡ pos m *ℤ ceil_div x m = same_by (ceil_div x m ∷ pos m ∷ []) (λ c m. (c ⊗ m, m ⊗ c)) refl in
+    omega (arith, lins, ceil_le x m h)
+
+pub floor_close : (x : ℤ) (m : ℕ) → 0 < m → (pos m *ℤ floor_div x m) ≤ℤ x
+floor_close x m h =
+    let e : floor_div x m *ℤ pos m ≡ pos m *ℤ floor_div x m = same_by (floor_div x m ∷ pos m ∷ []) (λ f m. (f ⊗ m, m ⊗ f)) refl in
+    omega (arith, lins, floor_le x m h)
+
+pub ceil_near : (x : ℤ) (m : ℕ) → 0 < m → (pos m *ℤ ceil_div x m) <ℤ (x +ℤ pos m)
+ceil_near x m h = step x (floor_div (neg_ℤ x) m) (pos m) (lt_floor (neg_ℤ x) m h)
+  where
+    step : (x f m : ℤ) → neg_ℤ x <ℤ (f *ℤ m +ℤ m) → (m *ℤ neg_ℤ f) <ℤ (x +ℤ m)
+    step x f m h = strict {b = pos 1} (pos_one 1 (omega arith)) (le_by (m ∷ f ∷ x ∷ []) (λ m f x. (m ⊗ ng f ⊕ nat 1, x ⊕ m, f ⊗ m ⊕ m ⊖ (ng x ⊕ nat 1))) refl (less_nn (later h)))
+
+pub floor_near : (x : ℤ) (m : ℕ) → 0 < m → x <ℤ (pos m *ℤ floor_div x m +ℤ pos m)
+floor_near x m h = step x (floor_div x m) (pos m) (lt_floor x m h)
+  where
+    step : (x f m : ℤ) → x <ℤ (f *ℤ m +ℤ m) → x <ℤ (m *ℤ f +ℤ m)
+    step x f m h = strict {b = pos 1} (pos_one 1 (omega arith)) (le_by (x ∷ m ∷ f ∷ []) (λ x m f. (x ⊕ nat 1, m ⊗ f ⊕ m, f ⊗ m ⊕ m ⊖ (x ⊕ nat 1))) refl (less_nn (later h)))

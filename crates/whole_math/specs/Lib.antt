@@ -1,3 +1,4 @@
 pub mod Rounding
 pub mod Sums
 pub mod Bounds
+pub mod Vectors
