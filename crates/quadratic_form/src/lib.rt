@@ -1,15 +1,32 @@
-// Quadratic forms over whole numbers, their elimination, and what it says for all data. Lemmas only.
+//! Quadratic forms over whole numbers, their elimination column by column, and what it says for all
+//! data of the rows. Definitions stand in `specs/`, proofs in `proofs/`; there is no code to run.
+//! The functions below have empty bodies: their contracts name the laws that the crates above cite.
 #![tactic(auto)]
 
-ghost use Rattle.std.specs.Prelude.{◌≡◌, ℕ, ◌^◌, List, [], ◌∷◌, ◌++◌, length, ℤ, pos, ◌*ℤ◌, ◌≤ℤ◌, ◌<ℤ◌, Ok};
-ghost use Rattle.quadratic_form.specs.Forms.{Column};
-ghost use Rattle.quadratic_form.specs.Elimination.{Factor, steps};
-ghost use Rattle.quadratic_form.specs.Rows.{WholeBaseline, SignalGroup, WholeData, GroupsOf, WholeFitsAll, first_rounding, value, whole_sum_of_squares};
+ghost use Rattle.std.specs.Prelude.{◌≡◌, ℕ, ◌^◌, ◌<◌, List, [], ◌∷◌, ◌++◌, length, ℤ, pos, ◌+ℤ◌, ◌*ℤ◌, ◌≤ℤ◌, ◌<ℤ◌, Ok};
+ghost use Rattle.rational.specs.Rational.{of_whole, mul_r, ◌≤ʳ◌};
+ghost use Rattle.whole_math.specs.Vectors.{len, dot};
+ghost use Rattle.quadratic_form.specs.Forms.{Column, Shaped, quad};
+ghost use Rattle.quadratic_form.specs.Elimination.{Factor, factors, kept, next, steps};
+ghost use Rattle.quadratic_form.specs.Rows.{WholeBaseline, SignalGroup, WholeData, GroupsOf, WholeFitsAll, matrix, radii, bounding_form, columns_at, first_rounding, value, whole_sum_of_squares};
 ghost use Rattle.quadratic_form.specs.UpperSum.{top};
 ghost use Rattle.quadratic_form.specs.TwoLeast.{TwoLeast};
-ghost use Rattle.rational.specs.Rational.{of_whole, mul_r, ◌≤ʳ◌};
 ghost use Rattle.quadratic_form.specs.RationalData.{RowData, Baseline, FitsAll, sum_of_squares, IsBest};
-ghost use Rattle.whole_math.specs.Vectors.{len};
+
+/// 63 times the matrix at the centres, with 16128 times the squares of the radii taken from four of
+/// its own entries, stays below 64 times the sum of squares, whatever the data in the boxes are.
+pub fn bounding_law()
+    ensures { (d e : ℤ) (z : List ℤ) (b : WholeBaseline) (gs : List SignalGroup) (ts : List (List WholeData)) → GroupsOf (len z) gs → WholeFitsAll d gs ts →
+        ((d *ℤ d) *ℤ quad (bounding_form (length z) (matrix (length z) gs) (radii gs)) (columns_at e z b)) ≤ℤ (pos 64 *ℤ whole_sum_of_squares d e z b gs ts) }
+{}
+
+/// One step of the elimination loses only what the square that it takes covers: a is the pivot,
+/// r are its entries with the later columns, m is the form of these.
+pub fn step_law()
+    ensures { (a : ℕ) (r : List ℤ) (m : List Column) (x : ℤ) (v : List ℤ) → 0 < a → len r ≡ len m → Shaped m → len m ≡ len v →
+        ((kept a *ℤ (((pos (2 ^ 30) *ℤ x) +ℤ dot (factors a r) v) *ℤ ((pos (2 ^ 30) *ℤ x) +ℤ dot (factors a r) v))) +ℤ (pos (2 ^ 60) *ℤ quad (next a (len r) r m) v))
+        ≤ℤ (pos (2 ^ 60) *ℤ (((pos a *ℤ (x *ℤ x)) +ℤ (pos 2 *ℤ (x *ℤ dot r v))) +ℤ quad m v)) }
+{}
 
 /// 64 times the sum of squares is at least 2^h times the value of the form that three steps leave,
 /// for all data in the boxes, over d, all whole numbers z and all baselines, over e.
@@ -19,7 +36,7 @@ pub fn bound_law()
         (((d *ℤ e) *ℤ (d *ℤ e)) *ℤ (pos (2 ^ h) *ℤ value p.1 z)) ≤ℤ (pos 64 *ℤ whole_sum_of_squares d e z b gs ts) }
 {}
 
-/// The same over rationals.
+/// The same for all rational data and all rational baselines.
 pub fn rational_bound_law()
     ensures { (h : ℕ) (z : List ℤ) (b : Baseline) (gs : List SignalGroup) (qs : List (List RowData)) (p : List Factor × List Column) →
         GroupsOf (len z) gs → FitsAll gs qs → steps 0 3 (first_rounding h (length z) gs) ≡ Ok p →
