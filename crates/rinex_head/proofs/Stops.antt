@@ -4,7 +4,9 @@ use Rattle.std.proofs.lemmas.List.{append-nil}
 use Rattle.rinex_head.specs.declared.place.Flaw.{Flaw}
 use Rattle.rinex_head.specs.declared.place.At.{At}
 use Rattle.rinex_head.specs.Places.{and_then, place, at_line}
-use Rattle.rinex_head.specs.Walk.{Rules, admitted, walk, text_gives}
+use Rattle.rinex_head.specs.declared.place.TextFault.{TextFault}
+use Rattle.rinex_head.specs.declared.place.TextFault.TheVariants.{Refused, NoMemory}
+use Rattle.rinex_head.specs.Walk.{Rules, admitted, walk, text_gives, Gives, OnRefusal, IfRefused}
 use Rattle.rinex_head.specs.FirstFailing.{IsStuck, IsFirstFailing, IsFileOf}
 use Rattle.rinex_head.proofs.Walks.{walk-takes}
 
@@ -100,3 +102,20 @@ first_failing rules IsFile to from completed lines at e =
       begun = record { more = finish.more; file = from (stop.front ++ finish.more) (finish.whole, stop.reach finish.more ∙ finish.gives (0 + length stop.front)) };
       stuck = stuck_here rules IsFile to stop.last stop.front stop.rest at stop.reach stop.fails;
     }
+
+-- What a reader's exact answer says of the form: nothing is a file where the text is refused, and the place is the first
+-- failing line.
+pub refused_exit : {S F X : Type 0} (rules : Rules S F) (IsFile : List (List ℕ) → Type 0) → ((lines : List (List ℕ)) → IsFile lines → IsFileOf rules lines)
+    → (lines : List (List ℕ)) (view : X → F) (r : Result X TextFault) → Gives (text_gives rules lines) view r → OnRefusal r (IsFile lines → ⊥)
+refused_exit rules IsFile to lines view (Ok x) given = tt
+refused_exit rules IsFile to lines view (Err (Refused at)) given = λ is. let found = to lines is in absurd (cc (found.1, given))
+refused_exit rules IsFile to lines view (Err NoMemory) given = tt
+
+pub first_exit : {S F X : Type 0} (rules : Rules S F) (IsFile : List (List ℕ) → Type 0)
+    → ((lines : List (List ℕ)) → IsFile lines → IsFileOf rules lines)
+    → ((lines : List (List ℕ)) → IsFileOf rules lines → IsFile lines)
+    → ((s : S) → Completes rules s)
+    → (lines : List (List ℕ)) (view : X → F) (r : Result X TextFault) → Gives (text_gives rules lines) view r → IfRefused r (λ at. IsFirstFailing IsFile lines at.line)
+first_exit rules IsFile to from completed lines view (Ok x) given = tt
+first_exit rules IsFile to from completed lines view (Err (Refused at)) given = first_failing rules IsFile to from completed lines at given
+first_exit rules IsFile to from completed lines view (Err NoMemory) given = tt

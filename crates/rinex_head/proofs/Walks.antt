@@ -10,7 +10,7 @@ use Rattle.rinex_head.specs.declared.place.At.{At}
 use Rattle.rinex_head.specs.declared.place.TextFault.{TextFault}
 use Rattle.rinex_head.specs.declared.place.TextFault.TheVariants.{Refused, NoMemory}
 use Rattle.rinex_head.specs.Places.{and_then, flawed, place, at_line}
-use Rattle.rinex_head.specs.Walk.{Rules, admitted, walk, rest_gives, ReadsFree, HasNoLine, IsLongLine, FailsBy}
+use Rattle.rinex_head.specs.Walk.{Rules, admitted, walk, rest_gives, ReadsFree, Gives, HasNoLine, IsLongLine, FailsBy}
 
 pub short_admitted : {S F : Type 0} (rules : Rules S F) (s : S) (line : List ℕ) → length line ≤ 4096 → admitted rules s line ≡ rules.admit s line
 short_admitted rules s line short = let e : nat_lt 4096 (length line) ≡ false = grind (arith, nat_tests) in rw e refl
@@ -91,6 +91,11 @@ ends_well rules s old new whole ended is = rw (ended.none, is) refl
 pub handed_on : {F : Type 0} (a b : Result F At) (fault : TextFault) → a ≡ b → FailsBy b fault → FailsBy a fault
 handed_on a b (Refused at) same given = same ∙ given
 handed_on a b NoMemory same given = tt
+
+-- the answer to a rest is the answer to the same rest
+pub gives_same : {F X : Type 0} (a b : Result F At) (view : X → F) (r : Result X TextFault) → a ≡ b → Gives b view r → Gives a view r
+gives_same a b view (Ok x) same given = same ∙ given
+gives_same a b view (Err fault) same given = handed_on a b fault same given
 
 -- a reader that has given a line has fewer left
 pub gives_less : (old new : Reading) (number : ℕ) (line : List ℕ) → GivesLine old new number line → length new.left < length old.left

@@ -37,6 +37,15 @@ abbrev pub FailsBy : {F : Type 0} → Result F At → TextFault → Type 0
 FailsBy given (Refused at) = given ≡ Err at
 FailsBy given NoMemory = Unit {0}
 
+-- what holds where a text is refused, and of the place
+abbrev pub OnRefusal : {X : Type 0} → Result X TextFault → Type 0 → Type 0
+OnRefusal (Err (Refused at)) P = P
+OnRefusal _ P = Unit {0}
+
+abbrev pub IfRefused : {X : Type 0} → Result X TextFault → (At → Type 0) → Type 0
+IfRefused (Err (Refused at)) P = P at
+IfRefused _ P = Unit {0}
+
 -- A part of a text was read where s was expected. Behind it next is expected, by what was read in it.
 abbrev pub Reads : {S F X : Type 0} → Rules S F → Reading → Reading → S → (X → S) → Result X TextFault → Type 0
 Reads rules old new s next (Ok x) = rest_gives rules old s ≡ rest_gives rules new (next x)

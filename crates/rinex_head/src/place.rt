@@ -2,7 +2,9 @@
 ghost use Rattle.std.specs.Prelude.{◌≡◌};
 ghost use Rattle.rinex_head.specs.Places.{place};
 ghost use Rattle.rinex_head.specs.Reasons.{text_of_reason};
+ghost use Rattle.rinex_head.specs.declared.place.TextFault.TheVariants.{Refused, NoMemory};
 
+use std::alloc::{AllocError, AllocFailed};
 use thiserror::Error;
 
 /// Why a text is refused. The list is closed.
@@ -95,11 +97,36 @@ impl Flaw {
     }
 }
 
-/// Why a text is not read.
+/// Why a text is not read. A reader gives it a name of its own by an alias.
 #[derive(Clone, Copy, Debug, PartialEq, Eq, Error)]
 pub enum TextFault {
+    /// No rule admits the text; this is the first place at which that shows.
     #[error("refused")]
     Refused(At),
     #[error("no memory")]
     NoMemory,
+}
+
+impl From<At> for TextFault {
+    ghost from_gives = { λ at fault. fault ≡ Refused at };
+
+    fn from(at: At) -> TextFault {
+        TextFault::Refused(at)
+    }
+}
+
+impl From<AllocError> for TextFault {
+    ghost from_gives = { λ _ fault. fault ≡ NoMemory };
+
+    fn from(_: AllocError) -> TextFault {
+        TextFault::NoMemory
+    }
+}
+
+impl<T: Drop> From<AllocFailed<T>> for TextFault {
+    ghost from_gives = { λ _ fault. fault ≡ NoMemory };
+
+    fn from(_: AllocFailed<T>) -> TextFault {
+        TextFault::NoMemory
+    }
 }
