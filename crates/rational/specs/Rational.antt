@@ -1,6 +1,6 @@
 -- Rationals, and the boxes that hold them.
-use Rattle.std.specs.Prelude.{◌≡◌, ℕ, ◌*◌, ◌<◌, ◌^◌, ℤ, pos, ◌+ℤ◌, ◌-ℤ◌, ◌*ℤ◌, neg_ℤ, ◌≤ℤ◌, ◌<ℤ◌, unsigned_abs}
-use Rattle.std.proofs.Common.{mul-pos, lit<}
+use Rattle.std.specs.Prelude.{◌≡◌, ℕ, zero, suc, ◌*◌, ◌<◌, ◌^◌, ℤ, pos, ◌+ℤ◌, ◌-ℤ◌, ◌*ℤ◌, neg_ℤ, ◌≤ℤ◌, ◌<ℤ◌, ◌⊎◌, unsigned_abs}
+use Rattle.std.proofs.Common.{mul-pos, pow_pos, lit<}
 
 -- num / den
 pub record Rational : Type 0 where
@@ -34,9 +34,42 @@ sub_r p q = record { num = (p.num *ℤ pos q.den) -ℤ (q.num *ℤ pos p.den); d
 abbrev pub mul_r : Rational → Rational → Rational
 mul_r p q = record { num = p.num *ℤ q.num; den = p.den * q.den; positive = mul-pos p.positive q.positive }
 
+-- n q and 1 / 2^n
+abbrev pub times : ℕ → Rational → Rational
+times n q = record { num = pos n *ℤ q.num; den = q.den; positive = q.positive }
+
+abbrev pub two_to_minus : ℕ → Rational
+two_to_minus n = record { num = pos 1; den = 2 ^ n; positive = pow_pos n }
+
+-- q / n and q^n
+abbrev pub divided : Rational → (n : ℕ) → 0 < n → Rational
+divided q n h = record { num = q.num; den = n * q.den; positive = mul-pos h q.positive }
+
+unfoldable pub power_r : Rational → ℕ → Rational
+power_r q zero = of_whole (pos 1)
+power_r q (suc n) = mul_r q (power_r q n)
+
+-- |p - q| ≤ d
+abbrev pub IsWithin : Rational → Rational → Rational → Type 0
+IsWithin d p q = (sub_r p q ≤ʳ d) × (sub_r q p ≤ʳ d)
+
+-- |q| ≤ b
+abbrev pub IsAtMost : Rational → Rational → Type 0
+IsAtMost b q = (q ≤ʳ b) × (neg_r q ≤ʳ b)
+
+-- q lies between p and r, whichever is the lesser; it may be one of them
+abbrev pub IsBetween : Rational → Rational → Rational → Type 0
+IsBetween p r q = ((p ≤ʳ q) × (q ≤ʳ r)) ⊎ ((r ≤ʳ q) × (q ≤ʳ p))
+
 -- q lies from lo / 2^k to hi / 2^k
 abbrev pub InBox : ℕ → ℤ → ℤ → Rational → Type 0
 InBox k lo hi q = ((lo *ℤ pos q.den) ≤ℤ (q.num *ℤ pos (2 ^ k))) × ((q.num *ℤ pos (2 ^ k)) ≤ℤ (hi *ℤ pos q.den))
+
+-- q is within d of a rational in the box
+pub record IsNearBox (k : ℕ) (lo hi : ℤ) (d q : Rational) : Type 0 where
+  pub inside : Rational
+  pub held : InBox k lo hi inside
+  pub near : IsWithin d q inside
 
 -- q is at most r from c
 abbrev pub Near : ℤ → ℤ → Rational → Type 0

@@ -1,0 +1,275 @@
+-- Every solution of the equation lies near the point at which the steps have ended.
+use Rattle.std.proofs.Common.{◌≡◌, ◌*◌, ◌^◌, ◌≤◌, [], ◌∷◌, ℤ, pos, ◌+ℤ◌, ◌-ℤ◌, ◌*ℤ◌, neg_ℤ, ◌≤ℤ◌, ◌<ℤ◌, arith, sym, subst, refl, lit≤, lit<, pow_pos, unsigned_abs}
+use Rattle.std.proofs.lemmas.Int.{ints, by_lt_z}
+use Rattle.whole_math.proofs.Ring.{ring, va, ko, ◌⊕◌, ◌⊖◌, ◌⊗◌}
+use Rattle.whole_math.proofs.Order.{lins, mul_le_right}
+use Rattle.whole_math.proofs.Certificates.{cert, cancel, mul_positive, weak, ◌≼◌, hy, nm, sq, ◌⊞◌, ◌⊠◌}
+use Rattle.rational.specs.Rational.{Rational, InBox, add_r, sub_r, mul_r, ◌≤ʳ◌, IsWithin, times, two_to_minus, IsNearBox}
+use Rattle.trig_box.specs.Pairs.{IsAnglePair, InRange}
+use Rattle.trig_box.proofs.Base.{le_pos, lt_pos}
+use Rattle.std.proofs.Math.Nat.{mul-pos}
+use Rattle.trig_box.proofs.OfPairs.{canonical_exists, canonical_is_pair, sharp_law, bound_nn}
+use Rattle.kepler_box.specs.Anomaly.{IsAnomaly}
+use Rattle.kepler_box.specs.Steps.{at_56}
+
+pub upper : (en ed sn sd mn md nn nd pn pd tn td dn dd x r h : ℤ) → (((nn *ℤ (pd *ℤ td)) +ℤ ((pn *ℤ tn) *ℤ nd)) *ℤ (pos 72057594037927936)) ≤ℤ (h *ℤ (nd *ℤ (pd *ℤ td))) → (((en *ℤ (pd *ℤ sd)) -ℤ ((pn *ℤ sn) *ℤ ed)) *ℤ md) ≤ℤ (mn *ℤ (ed *ℤ (pd *ℤ sd))) → (((mn *ℤ nd) -ℤ (nn *ℤ md)) *ℤ dd) ≤ℤ (dn *ℤ (md *ℤ nd)) → (((sn *ℤ td) -ℤ (tn *ℤ sd)) *ℤ ((ed *ℤ (pos 72057594037927936)) *ℤ (pos 147573952589676412928))) ≤ℤ (((((pos 2) *ℤ ((en *ℤ (pos 72057594037927936)) -ℤ (x *ℤ ed))) *ℤ (pos 147573952589676412928)) +ℤ ((pos 1) *ℤ (ed *ℤ (pos 72057594037927936)))) *ℤ (sd *ℤ td)) → ((pos 32) *ℤ pn) ≤ℤ pd → (pos 0) ≤ℤ pn → (((pos 16) *ℤ (h -ℤ x)) +ℤ (pos 1)) ≤ℤ ((pos 15) *ℤ r) → (pos 0) ≤ℤ ((en *ℤ (pos 72057594037927936)) -ℤ (x *ℤ ed)) → (pos 0) <ℤ ed → (pos 0) <ℤ sd → (pos 0) <ℤ md → (pos 0) <ℤ nd → (pos 0) <ℤ pd → (pos 0) <ℤ td → (pos 0) <ℤ dd → ((pos 15) *ℤ (((en *ℤ (pos 72057594037927936)) -ℤ ((x +ℤ r) *ℤ ed)) *ℤ dd)) ≤ℤ ((pos 16) *ℤ (dn *ℤ (ed *ℤ (pos 72057594037927936))))
+upper en ed sn sd mn md nn nd pn pd tn td dn dd x r h h0 h1 h2 h3 h4 h5 h6 h7 h8 h9 h10 h11 h12 h13 h14 =
+    cancel ((pos 9223372036854775808) *ℤ (md *ℤ (nd *ℤ (pd *ℤ (sd *ℤ td))))) ((pos 15) *ℤ (((en *ℤ (pos 72057594037927936)) -ℤ ((x +ℤ r) *ℤ ed)) *ℤ dd)) ((pos 16) *ℤ (dn *ℤ (ed *ℤ (pos 72057594037927936)))) (mul_positive (pos 9223372036854775808) (md *ℤ (nd *ℤ (pd *ℤ (sd *ℤ td)))) (lt_pos 0 9223372036854775808 (lit< tt)) (mul_positive md (nd *ℤ (pd *ℤ (sd *ℤ td))) h10 (mul_positive nd (pd *ℤ (sd *ℤ td)) h11 (mul_positive pd (sd *ℤ td) h12 (mul_positive sd td h9 h13))))) (cert (en ∷ ed ∷ sn ∷ sd ∷ mn ∷ md ∷ nn ∷ nd ∷ pn ∷ pd ∷ tn ∷ td ∷ dn ∷ dd ∷ x ∷ r ∷ h ∷ []) ((((((va 6) ⊗ ((va 9) ⊗ (va 11))) ⊕ (((va 8) ⊗ (va 10)) ⊗ (va 7))) ⊗ (ko (pos 72057594037927936))) ≼ ((va 16) ⊗ ((va 7) ⊗ ((va 9) ⊗ (va 11))))) ∷ (((((va 0) ⊗ ((va 9) ⊗ (va 3))) ⊖ (((va 8) ⊗ (va 2)) ⊗ (va 1))) ⊗ (va 5)) ≼ ((va 4) ⊗ ((va 1) ⊗ ((va 9) ⊗ (va 3))))) ∷ (((((va 4) ⊗ (va 7)) ⊖ ((va 6) ⊗ (va 5))) ⊗ (va 13)) ≼ ((va 12) ⊗ ((va 5) ⊗ (va 7)))) ∷ (((((va 2) ⊗ (va 11)) ⊖ ((va 10) ⊗ (va 3))) ⊗ (((va 1) ⊗ (ko (pos 72057594037927936))) ⊗ (ko (pos 147573952589676412928)))) ≼ (((((ko (pos 2)) ⊗ (((va 0) ⊗ (ko (pos 72057594037927936))) ⊖ ((va 14) ⊗ (va 1)))) ⊗ (ko (pos 147573952589676412928))) ⊕ ((ko (pos 1)) ⊗ ((va 1) ⊗ (ko (pos 72057594037927936))))) ⊗ ((va 3) ⊗ (va 11)))) ∷ (((ko (pos 32)) ⊗ (va 8)) ≼ (va 9)) ∷ ((ko (pos 0)) ≼ (va 8)) ∷ ((((ko (pos 16)) ⊗ ((va 16) ⊖ (va 14))) ⊕ (ko (pos 1))) ≼ ((ko (pos 15)) ⊗ (va 15))) ∷ ((ko (pos 0)) ≼ (((va 0) ⊗ (ko (pos 72057594037927936))) ⊖ ((va 14) ⊗ (va 1)))) ∷ ((ko (pos 0)) ≼ (va 1)) ∷ ((ko (pos 0)) ≼ (va 3)) ∷ ((ko (pos 0)) ≼ (va 5)) ∷ ((ko (pos 0)) ≼ (va 7)) ∷ ((ko (pos 0)) ≼ (va 9)) ∷ ((ko (pos 0)) ≼ (va 11)) ∷ ((ko (pos 0)) ≼ (va 13)) ∷ []) (((ko (pos 9223372036854775808)) ⊗ ((va 5) ⊗ ((va 7) ⊗ ((va 9) ⊗ ((va 3) ⊗ (va 11)))))) ⊗ ((ko (pos 15)) ⊗ ((((va 0) ⊗ (ko (pos 72057594037927936))) ⊖ (((va 14) ⊕ (va 15)) ⊗ (va 1))) ⊗ (va 13)))) (((ko (pos 9223372036854775808)) ⊗ ((va 5) ⊗ ((va 7) ⊗ ((va 9) ⊗ ((va 3) ⊗ (va 11)))))) ⊗ ((ko (pos 16)) ⊗ ((va 12) ⊗ ((va 1) ⊗ (ko (pos 72057594037927936)))))) (((((((((((((nm 147573952589676412928) ⊠ (hy 0)) ⊠ (hy 8)) ⊠ (hy 14)) ⊠ (hy 10)) ⊠ (hy 9)) ⊞ (((((nm 10633823966279326983230456482242756608) ⊠ (hy 1)) ⊠ (hy 14)) ⊠ (hy 11)) ⊠ (hy 13))) ⊞ ((((((nm 10633823966279326983230456482242756608) ⊠ (hy 2)) ⊠ (hy 8)) ⊠ (hy 12)) ⊠ (hy 9)) ⊠ (hy 13))) ⊞ ((((((nm 1) ⊠ (hy 5)) ⊠ (hy 3)) ⊠ (hy 14)) ⊠ (hy 10)) ⊠ (hy 11))) ⊞ ((((((((nm 9223372036854775808) ⊠ (hy 4)) ⊠ (hy 7)) ⊠ (hy 14)) ⊠ (hy 10)) ⊠ (hy 11)) ⊠ (hy 9)) ⊠ (hy 13))) ⊞ ((((((((nm 2251799813685248) ⊠ (hy 4)) ⊠ (hy 8)) ⊠ (hy 14)) ⊠ (hy 10)) ⊠ (hy 11)) ⊠ (hy 9)) ⊠ (hy 13))) ⊞ (((((((((nm 9223372036854775808) ⊠ (hy 6)) ⊠ (hy 8)) ⊠ (hy 14)) ⊠ (hy 10)) ⊠ (hy 11)) ⊠ (hy 12)) ⊠ (hy 9)) ⊠ (hy 13))) ⊞ ((((((((nm 9221120237041090560) ⊠ (hy 8)) ⊠ (hy 14)) ⊠ (hy 10)) ⊠ (hy 11)) ⊠ (hy 12)) ⊠ (hy 9)) ⊠ (hy 13))) refl (h0, (h1, (h2, (h3, (h4, (h5, (h6, (h7, (weak (pos 0) ed h8, (weak (pos 0) sd h9, (weak (pos 0) md h10, (weak (pos 0) nd h11, (weak (pos 0) pd h12, (weak (pos 0) td h13, (weak (pos 0) dd h14, tt))))))))))))))))
+
+pub lower : (en ed sn sd mn md nn nd pn pd tn td dn dd x r h : ℤ) → (h *ℤ (nd *ℤ (pd *ℤ td))) ≤ℤ (((nn *ℤ (pd *ℤ td)) +ℤ ((pn *ℤ tn) *ℤ nd)) *ℤ (pos 72057594037927936)) → (mn *ℤ (ed *ℤ (pd *ℤ sd))) ≤ℤ (((en *ℤ (pd *ℤ sd)) -ℤ ((pn *ℤ sn) *ℤ ed)) *ℤ md) → (((nn *ℤ md) -ℤ (mn *ℤ nd)) *ℤ dd) ≤ℤ (dn *ℤ (nd *ℤ md)) → (((tn *ℤ sd) -ℤ (sn *ℤ td)) *ℤ ((ed *ℤ (pos 72057594037927936)) *ℤ (pos 147573952589676412928))) ≤ℤ (((((pos 2) *ℤ ((x *ℤ ed) -ℤ (en *ℤ (pos 72057594037927936)))) *ℤ (pos 147573952589676412928)) +ℤ ((pos 1) *ℤ (ed *ℤ (pos 72057594037927936)))) *ℤ (td *ℤ sd)) → ((pos 32) *ℤ pn) ≤ℤ pd → (pos 0) ≤ℤ pn → (((pos 16) *ℤ (x -ℤ h)) +ℤ (pos 1)) ≤ℤ ((pos 15) *ℤ r) → (pos 0) ≤ℤ ((x *ℤ ed) -ℤ (en *ℤ (pos 72057594037927936))) → (pos 0) <ℤ ed → (pos 0) <ℤ sd → (pos 0) <ℤ md → (pos 0) <ℤ nd → (pos 0) <ℤ pd → (pos 0) <ℤ td → (pos 0) <ℤ dd → ((pos 15) *ℤ ((((x -ℤ r) *ℤ ed) -ℤ (en *ℤ (pos 72057594037927936))) *ℤ dd)) ≤ℤ ((pos 16) *ℤ (dn *ℤ (ed *ℤ (pos 72057594037927936))))
+lower en ed sn sd mn md nn nd pn pd tn td dn dd x r h h0 h1 h2 h3 h4 h5 h6 h7 h8 h9 h10 h11 h12 h13 h14 =
+    cancel ((pos 9223372036854775808) *ℤ (md *ℤ (nd *ℤ (pd *ℤ (sd *ℤ td))))) ((pos 15) *ℤ ((((x -ℤ r) *ℤ ed) -ℤ (en *ℤ (pos 72057594037927936))) *ℤ dd)) ((pos 16) *ℤ (dn *ℤ (ed *ℤ (pos 72057594037927936)))) (mul_positive (pos 9223372036854775808) (md *ℤ (nd *ℤ (pd *ℤ (sd *ℤ td)))) (lt_pos 0 9223372036854775808 (lit< tt)) (mul_positive md (nd *ℤ (pd *ℤ (sd *ℤ td))) h10 (mul_positive nd (pd *ℤ (sd *ℤ td)) h11 (mul_positive pd (sd *ℤ td) h12 (mul_positive sd td h9 h13))))) (cert (en ∷ ed ∷ sn ∷ sd ∷ mn ∷ md ∷ nn ∷ nd ∷ pn ∷ pd ∷ tn ∷ td ∷ dn ∷ dd ∷ x ∷ r ∷ h ∷ []) ((((va 16) ⊗ ((va 7) ⊗ ((va 9) ⊗ (va 11)))) ≼ ((((va 6) ⊗ ((va 9) ⊗ (va 11))) ⊕ (((va 8) ⊗ (va 10)) ⊗ (va 7))) ⊗ (ko (pos 72057594037927936)))) ∷ (((va 4) ⊗ ((va 1) ⊗ ((va 9) ⊗ (va 3)))) ≼ ((((va 0) ⊗ ((va 9) ⊗ (va 3))) ⊖ (((va 8) ⊗ (va 2)) ⊗ (va 1))) ⊗ (va 5))) ∷ (((((va 6) ⊗ (va 5)) ⊖ ((va 4) ⊗ (va 7))) ⊗ (va 13)) ≼ ((va 12) ⊗ ((va 7) ⊗ (va 5)))) ∷ (((((va 10) ⊗ (va 3)) ⊖ ((va 2) ⊗ (va 11))) ⊗ (((va 1) ⊗ (ko (pos 72057594037927936))) ⊗ (ko (pos 147573952589676412928)))) ≼ (((((ko (pos 2)) ⊗ (((va 14) ⊗ (va 1)) ⊖ ((va 0) ⊗ (ko (pos 72057594037927936))))) ⊗ (ko (pos 147573952589676412928))) ⊕ ((ko (pos 1)) ⊗ ((va 1) ⊗ (ko (pos 72057594037927936))))) ⊗ ((va 11) ⊗ (va 3)))) ∷ (((ko (pos 32)) ⊗ (va 8)) ≼ (va 9)) ∷ ((ko (pos 0)) ≼ (va 8)) ∷ ((((ko (pos 16)) ⊗ ((va 14) ⊖ (va 16))) ⊕ (ko (pos 1))) ≼ ((ko (pos 15)) ⊗ (va 15))) ∷ ((ko (pos 0)) ≼ (((va 14) ⊗ (va 1)) ⊖ ((va 0) ⊗ (ko (pos 72057594037927936))))) ∷ ((ko (pos 0)) ≼ (va 1)) ∷ ((ko (pos 0)) ≼ (va 3)) ∷ ((ko (pos 0)) ≼ (va 5)) ∷ ((ko (pos 0)) ≼ (va 7)) ∷ ((ko (pos 0)) ≼ (va 9)) ∷ ((ko (pos 0)) ≼ (va 11)) ∷ ((ko (pos 0)) ≼ (va 13)) ∷ []) (((ko (pos 9223372036854775808)) ⊗ ((va 5) ⊗ ((va 7) ⊗ ((va 9) ⊗ ((va 3) ⊗ (va 11)))))) ⊗ ((ko (pos 15)) ⊗ (((((va 14) ⊖ (va 15)) ⊗ (va 1)) ⊖ ((va 0) ⊗ (ko (pos 72057594037927936)))) ⊗ (va 13)))) (((ko (pos 9223372036854775808)) ⊗ ((va 5) ⊗ ((va 7) ⊗ ((va 9) ⊗ ((va 3) ⊗ (va 11)))))) ⊗ ((ko (pos 16)) ⊗ ((va 12) ⊗ ((va 1) ⊗ (ko (pos 72057594037927936)))))) (((((((((((((nm 147573952589676412928) ⊠ (hy 0)) ⊠ (hy 8)) ⊠ (hy 14)) ⊠ (hy 10)) ⊠ (hy 9)) ⊞ (((((nm 10633823966279326983230456482242756608) ⊠ (hy 1)) ⊠ (hy 14)) ⊠ (hy 11)) ⊠ (hy 13))) ⊞ ((((((nm 10633823966279326983230456482242756608) ⊠ (hy 2)) ⊠ (hy 8)) ⊠ (hy 12)) ⊠ (hy 9)) ⊠ (hy 13))) ⊞ ((((((nm 1) ⊠ (hy 5)) ⊠ (hy 3)) ⊠ (hy 14)) ⊠ (hy 10)) ⊠ (hy 11))) ⊞ ((((((((nm 9223372036854775808) ⊠ (hy 4)) ⊠ (hy 7)) ⊠ (hy 14)) ⊠ (hy 10)) ⊠ (hy 11)) ⊠ (hy 9)) ⊠ (hy 13))) ⊞ ((((((((nm 2251799813685248) ⊠ (hy 4)) ⊠ (hy 8)) ⊠ (hy 14)) ⊠ (hy 10)) ⊠ (hy 11)) ⊠ (hy 9)) ⊠ (hy 13))) ⊞ (((((((((nm 9223372036854775808) ⊠ (hy 6)) ⊠ (hy 8)) ⊠ (hy 14)) ⊠ (hy 10)) ⊠ (hy 11)) ⊠ (hy 12)) ⊠ (hy 9)) ⊠ (hy 13))) ⊞ ((((((((nm 9221120237041090560) ⊠ (hy 8)) ⊠ (hy 14)) ⊠ (hy 10)) ⊠ (hy 11)) ⊠ (hy 12)) ⊠ (hy 9)) ⊠ (hy 13))) refl (h0, (h1, (h2, (h3, (h4, (h5, (h6, (h7, (weak (pos 0) ed h8, (weak (pos 0) sd h9, (weak (pos 0) md h10, (weak (pos 0) nd h11, (weak (pos 0) pd h12, (weak (pos 0) td h13, (weak (pos 0) dd h14, tt))))))))))))))))
+
+pub upper_easy : (en ed dn dd x r : ℤ) → (en *ℤ (pos 72057594037927936)) ≤ℤ (x *ℤ ed) → (pos 0) ≤ℤ r → (pos 0) ≤ℤ dn → (pos 0) ≤ℤ ed → (pos 0) ≤ℤ dd → ((pos 15) *ℤ (((en *ℤ (pos 72057594037927936)) -ℤ ((x +ℤ r) *ℤ ed)) *ℤ dd)) ≤ℤ ((pos 16) *ℤ (dn *ℤ (ed *ℤ (pos 72057594037927936))))
+upper_easy en ed dn dd x r h0 h1 h2 h3 h4 =
+    cert (en ∷ ed ∷ dn ∷ dd ∷ x ∷ r ∷ []) ((((va 0) ⊗ (ko (pos 72057594037927936))) ≼ ((va 4) ⊗ (va 1))) ∷ ((ko (pos 0)) ≼ (va 5)) ∷ ((ko (pos 0)) ≼ (va 2)) ∷ ((ko (pos 0)) ≼ (va 1)) ∷ ((ko (pos 0)) ≼ (va 3)) ∷ []) ((ko (pos 15)) ⊗ ((((va 0) ⊗ (ko (pos 72057594037927936))) ⊖ (((va 4) ⊕ (va 5)) ⊗ (va 1))) ⊗ (va 3))) ((ko (pos 16)) ⊗ ((va 2) ⊗ ((va 1) ⊗ (ko (pos 72057594037927936))))) (((((nm 15) ⊠ (hy 4)) ⊠ (hy 0)) ⊞ ((((nm 15) ⊠ (hy 4)) ⊠ (hy 3)) ⊠ (hy 1))) ⊞ (((nm 1152921504606846976) ⊠ (hy 2)) ⊠ (hy 3))) refl (h0, (h1, (h2, (h3, (h4, tt)))))
+
+pub lower_easy : (en ed dn dd x r : ℤ) → (x *ℤ ed) ≤ℤ (en *ℤ (pos 72057594037927936)) → (pos 0) ≤ℤ r → (pos 0) ≤ℤ dn → (pos 0) ≤ℤ ed → (pos 0) ≤ℤ dd → ((pos 15) *ℤ ((((x -ℤ r) *ℤ ed) -ℤ (en *ℤ (pos 72057594037927936))) *ℤ dd)) ≤ℤ ((pos 16) *ℤ (dn *ℤ (ed *ℤ (pos 72057594037927936))))
+lower_easy en ed dn dd x r h0 h1 h2 h3 h4 =
+    cert (en ∷ ed ∷ dn ∷ dd ∷ x ∷ r ∷ []) ((((va 4) ⊗ (va 1)) ≼ ((va 0) ⊗ (ko (pos 72057594037927936)))) ∷ ((ko (pos 0)) ≼ (va 5)) ∷ ((ko (pos 0)) ≼ (va 2)) ∷ ((ko (pos 0)) ≼ (va 1)) ∷ ((ko (pos 0)) ≼ (va 3)) ∷ []) ((ko (pos 15)) ⊗ (((((va 4) ⊖ (va 5)) ⊗ (va 1)) ⊖ ((va 0) ⊗ (ko (pos 72057594037927936)))) ⊗ (va 3))) ((ko (pos 16)) ⊗ ((va 2) ⊗ ((va 1) ⊗ (ko (pos 72057594037927936))))) (((((nm 15) ⊠ (hy 4)) ⊠ (hy 0)) ⊞ ((((nm 15) ⊠ (hy 4)) ⊠ (hy 3)) ⊠ (hy 1))) ⊞ (((nm 1152921504606846976) ⊠ (hy 2)) ⊠ (hy 3))) refl (h0, (h1, (h2, (h3, (h4, tt)))))
+
+pub own_near : (z w : ℤ) → (pos 0) ≤ℤ z → (z *ℤ w) ≤ℤ (z *ℤ w)
+own_near z w h0 =
+    cert (z ∷ w ∷ []) (((ko (pos 0)) ≼ (va 0)) ∷ []) ((va 0) ⊗ (va 1)) ((va 0) ⊗ (va 1)) (nm 0) refl (h0, tt)
+
+pub back_near : (a b w : ℤ) → (pos 0) ≤ℤ (a -ℤ b) → (pos 0) ≤ℤ w → ((b -ℤ a) *ℤ w) ≤ℤ ((a -ℤ b) *ℤ w)
+back_near a b w h0 h1 =
+    cert (a ∷ b ∷ w ∷ []) (((ko (pos 0)) ≼ ((va 0) ⊖ (va 1))) ∷ ((ko (pos 0)) ≼ (va 2)) ∷ []) (((va 1) ⊖ (va 0)) ⊗ (va 2)) (((va 0) ⊖ (va 1)) ⊗ (va 2)) (((nm 2) ⊠ (hy 0)) ⊠ (hy 1)) refl (h0, (h1, tt))
+
+pub back_turned : (a b u w : ℤ) → (pos 0) ≤ℤ (a -ℤ b) → (pos 0) ≤ℤ (u *ℤ w) → ((b -ℤ a) *ℤ (u *ℤ w)) ≤ℤ ((a -ℤ b) *ℤ (w *ℤ u))
+back_turned a b u w h0 h1 =
+    cert (a ∷ b ∷ u ∷ w ∷ []) (((ko (pos 0)) ≼ ((va 0) ⊖ (va 1))) ∷ ((ko (pos 0)) ≼ ((va 2) ⊗ (va 3))) ∷ []) (((va 1) ⊖ (va 0)) ⊗ ((va 2) ⊗ (va 3))) (((va 0) ⊖ (va 1)) ⊗ ((va 3) ⊗ (va 2))) (((nm 2) ⊠ (hy 0)) ⊠ (hy 1)) refl (h0, (h1, tt))
+
+-- ---- the solution, seen from x
+pub record IsSeen (x r lo hi : ℤ) (d mean other e angle c s t : Rational) : Type 0 where
+  pub is_anomaly : IsAnomaly mean e angle c s
+  pub near : IsWithin d mean other
+  pub held : InBox 56 lo hi (add_r other (mul_r e t))
+  pub e_low : pos 0 ≤ℤ e.num
+  pub e_high : (pos 32 *ℤ e.num) ≤ℤ pos e.den
+  pub above : ((pos 16 *ℤ (hi -ℤ x)) +ℤ pos 1) ≤ℤ (pos 15 *ℤ r)
+  pub below : ((pos 16 *ℤ (x -ℤ lo)) +ℤ pos 1) ≤ℤ (pos 15 *ℤ r)
+  pub radius : pos 0 ≤ℤ r
+
+pub d_nn : (d x y : Rational) → IsWithin d x y → pos 0 ≤ℤ d.num
+d_nn d x y h = bound_nn d.num (pos d.den) x.num (pos x.den) y.num (pos y.den) h.0 h.1 (lt_pos 0 (2 * (x.den * y.den)) (mul-pos (lit< tt) (mul-pos x.positive y.positive)))
+
+positive_of : (x : Rational) → pos 0 <ℤ pos x.den
+positive_of x = lt_pos 0 x.den x.positive
+
+le_of : {a b : ℤ} → a ≡ b → a ≤ℤ b
+le_of {a} {b} e = omega (arith, lins)
+
+apart_nn : (a b : ℤ) → b ≤ℤ a → pos 0 ≤ℤ (a -ℤ b)
+apart_nn a b h = omega (arith, lins)
+
+pub above_is : (x r lo hi : ℤ) (d mean other e angle c s c' t : Rational) → IsSeen x r lo hi d mean other e angle c s t → IsAnglePair 5 (at_56 x) c' t →
+    (pos 15 *ℤ (((angle.num *ℤ pos (2 ^ 56)) -ℤ ((x +ℤ r) *ℤ pos angle.den)) *ℤ pos d.den)) ≤ℤ (pos 16 *ℤ (d.num *ℤ (pos angle.den *ℤ pos (2 ^ 56))))
+above_is x r lo hi d mean other e angle c s c' t g k = by_lt_z (angle.num *ℤ pos (2 ^ 56)) (x *ℤ pos angle.den)
+    (λ l. upper_easy angle.num (pos angle.den) d.num (pos d.den) x r (weak _ _ l) g.radius (d_nn d mean other g.near) (weak _ _ (positive_of angle)) (weak _ _ (positive_of d)))
+    (λ l.
+    let z : ℤ = (angle.num *ℤ pos (2 ^ 56)) -ℤ (x *ℤ pos angle.den) in
+    let z0 : pos 0 ≤ℤ z = apart_nn (angle.num *ℤ pos (2 ^ 56)) (x *ℤ pos angle.den) l in
+    let w : ℤ = pos angle.den *ℤ pos (2 ^ 56) in
+    let far : Rational = record { num = z; den = angle.den * 2 ^ 56; positive = mul-pos angle.positive (pow_pos 56) } in
+    let n : IsWithin far angle (at_56 x) = (own_near z (pos angle.den *ℤ pos (2 ^ 56)) z0, back_turned (angle.num *ℤ pos (2 ^ 56)) (x *ℤ pos angle.den) (pos angle.den) (pos (2 ^ 56)) z0 (weak _ _ (lt_pos 0 (angle.den * 2 ^ 56) far.positive))) in
+    let law = sharp_law 5 far angle (at_56 x) c s c' t (lit≤ tt) g.is_anomaly.is_pair k n in
+    upper angle.num (pos angle.den) s.num (pos s.den) mean.num (pos mean.den) other.num (pos other.den) e.num (pos e.den) t.num (pos t.den) d.num (pos d.den) x r hi
+    g.held.1 (le_of (sym g.is_anomaly.equation)) g.near.0 law.1.0 g.e_high g.e_low g.above z0 (positive_of angle) (positive_of s) (positive_of mean) (positive_of other) (positive_of e) (positive_of t) (positive_of d))
+
+pub below_is : (x r lo hi : ℤ) (d mean other e angle c s c' t : Rational) → IsSeen x r lo hi d mean other e angle c s t → IsAnglePair 5 (at_56 x) c' t →
+    (pos 15 *ℤ ((((x -ℤ r) *ℤ pos angle.den) -ℤ (angle.num *ℤ pos (2 ^ 56))) *ℤ pos d.den)) ≤ℤ (pos 16 *ℤ (d.num *ℤ (pos angle.den *ℤ pos (2 ^ 56))))
+below_is x r lo hi d mean other e angle c s c' t g k = by_lt_z (x *ℤ pos angle.den) (angle.num *ℤ pos (2 ^ 56))
+    (λ l. lower_easy angle.num (pos angle.den) d.num (pos d.den) x r (weak _ _ l) g.radius (d_nn d mean other g.near) (weak _ _ (positive_of angle)) (weak _ _ (positive_of d)))
+    (λ l.
+    let z : ℤ = (x *ℤ pos angle.den) -ℤ (angle.num *ℤ pos (2 ^ 56)) in
+    let z0 : pos 0 ≤ℤ z = apart_nn (x *ℤ pos angle.den) (angle.num *ℤ pos (2 ^ 56)) l in
+    let far : Rational = record { num = z; den = angle.den * 2 ^ 56; positive = mul-pos angle.positive (pow_pos 56) } in
+    let n : IsWithin far angle (at_56 x) = (back_near (x *ℤ pos angle.den) (angle.num *ℤ pos (2 ^ 56)) (pos angle.den *ℤ pos (2 ^ 56)) z0 (weak _ _ (lt_pos 0 (angle.den * 2 ^ 56) far.positive)), turned z (pos angle.den) (pos (2 ^ 56))) in
+    let law = sharp_law 5 far angle (at_56 x) c s c' t (lit≤ tt) g.is_anomaly.is_pair k n in
+    lower angle.num (pos angle.den) s.num (pos s.den) mean.num (pos mean.den) other.num (pos other.den) e.num (pos e.den) t.num (pos t.den) d.num (pos d.den) x r lo
+    g.held.0 (le_of g.is_anomaly.equation) g.near.1 law.1.1 g.e_high g.e_low g.below z0 (positive_of angle) (positive_of s) (positive_of mean) (positive_of other) (positive_of e) (positive_of t) (positive_of d))
+  where
+    turned : (z a b : ℤ) → (z *ℤ (a *ℤ b)) ≤ℤ (z *ℤ (b *ℤ a))
+    turned z a b = le_of (ring (z ∷ a ∷ b ∷ []) (va 0 ⊗ (va 1 ⊗ va 2)) (va 0 ⊗ (va 2 ⊗ va 1)) refl)
+
+pub plain_high : (en ed x r : ℤ) → ((pos 15) *ℤ (((en *ℤ (pos 72057594037927936)) -ℤ ((x +ℤ r) *ℤ ed)) *ℤ (pos 1))) ≤ℤ ((pos 16) *ℤ ((pos 0) *ℤ (ed *ℤ (pos 72057594037927936)))) → (en *ℤ (pos 72057594037927936)) ≤ℤ ((x +ℤ r) *ℤ ed)
+plain_high en ed x r h0 =
+    cancel (pos 15) (en *ℤ (pos 72057594037927936)) ((x +ℤ r) *ℤ ed) (omega (arith, ints)) (cert (en ∷ ed ∷ x ∷ r ∷ []) ((((ko (pos 15)) ⊗ ((((va 0) ⊗ (ko (pos 72057594037927936))) ⊖ (((va 2) ⊕ (va 3)) ⊗ (va 1))) ⊗ (ko (pos 1)))) ≼ ((ko (pos 16)) ⊗ ((ko (pos 0)) ⊗ ((va 1) ⊗ (ko (pos 72057594037927936)))))) ∷ []) ((ko (pos 15)) ⊗ ((va 0) ⊗ (ko (pos 72057594037927936)))) ((ko (pos 15)) ⊗ (((va 2) ⊕ (va 3)) ⊗ (va 1))) (hy 0) refl (h0, tt))
+
+pub plain_low : (en ed x r : ℤ) → ((pos 15) *ℤ ((((x -ℤ r) *ℤ ed) -ℤ (en *ℤ (pos 72057594037927936))) *ℤ (pos 1))) ≤ℤ ((pos 16) *ℤ ((pos 0) *ℤ (ed *ℤ (pos 72057594037927936)))) → ((x -ℤ r) *ℤ ed) ≤ℤ (en *ℤ (pos 72057594037927936))
+plain_low en ed x r h0 =
+    cancel (pos 15) ((x -ℤ r) *ℤ ed) (en *ℤ (pos 72057594037927936)) (omega (arith, ints)) (cert (en ∷ ed ∷ x ∷ r ∷ []) ((((ko (pos 15)) ⊗ (((((va 2) ⊖ (va 3)) ⊗ (va 1)) ⊖ ((va 0) ⊗ (ko (pos 72057594037927936)))) ⊗ (ko (pos 1)))) ≼ ((ko (pos 16)) ⊗ ((ko (pos 0)) ⊗ ((va 1) ⊗ (ko (pos 72057594037927936)))))) ∷ []) ((ko (pos 15)) ⊗ (((va 2) ⊖ (va 3)) ⊗ (va 1))) ((ko (pos 15)) ⊗ ((va 0) ⊗ (ko (pos 72057594037927936)))) (hy 0) refl (h0, tt))
+
+pub high_near : (en ed dn dd x r : ℤ) → ((pos 15) *ℤ (((en *ℤ (pos 72057594037927936)) -ℤ ((x +ℤ r) *ℤ ed)) *ℤ dd)) ≤ℤ ((pos 16) *ℤ (dn *ℤ (ed *ℤ (pos 72057594037927936)))) → (pos 0) ≤ℤ dn → (pos 0) ≤ℤ ed → (((en *ℤ (pos 72057594037927936)) -ℤ ((x +ℤ r) *ℤ ed)) *ℤ dd) ≤ℤ (((pos 2) *ℤ dn) *ℤ (ed *ℤ (pos 72057594037927936)))
+high_near en ed dn dd x r h0 h1 h2 =
+    cancel (pos 15) (((en *ℤ (pos 72057594037927936)) -ℤ ((x +ℤ r) *ℤ ed)) *ℤ dd) (((pos 2) *ℤ dn) *ℤ (ed *ℤ (pos 72057594037927936))) (omega (arith, ints)) (cert (en ∷ ed ∷ dn ∷ dd ∷ x ∷ r ∷ []) ((((ko (pos 15)) ⊗ ((((va 0) ⊗ (ko (pos 72057594037927936))) ⊖ (((va 4) ⊕ (va 5)) ⊗ (va 1))) ⊗ (va 3))) ≼ ((ko (pos 16)) ⊗ ((va 2) ⊗ ((va 1) ⊗ (ko (pos 72057594037927936)))))) ∷ ((ko (pos 0)) ≼ (va 2)) ∷ ((ko (pos 0)) ≼ (va 1)) ∷ []) ((ko (pos 15)) ⊗ ((((va 0) ⊗ (ko (pos 72057594037927936))) ⊖ (((va 4) ⊕ (va 5)) ⊗ (va 1))) ⊗ (va 3))) ((ko (pos 15)) ⊗ (((ko (pos 2)) ⊗ (va 2)) ⊗ ((va 1) ⊗ (ko (pos 72057594037927936))))) ((hy 0) ⊞ (((nm 1008806316530991104) ⊠ (hy 1)) ⊠ (hy 2))) refl (h0, (h1, (h2, tt))))
+
+pub high_back : (en ed dn dd x r : ℤ) → ((x +ℤ r) *ℤ ed) ≤ℤ (en *ℤ (pos 72057594037927936)) → (pos 0) ≤ℤ dn → (pos 0) ≤ℤ ed → (pos 0) ≤ℤ dd → ((((x +ℤ r) *ℤ ed) -ℤ (en *ℤ (pos 72057594037927936))) *ℤ dd) ≤ℤ (((pos 2) *ℤ dn) *ℤ ((pos 72057594037927936) *ℤ ed))
+high_back en ed dn dd x r h0 h1 h2 h3 =
+    cert (en ∷ ed ∷ dn ∷ dd ∷ x ∷ r ∷ []) (((((va 4) ⊕ (va 5)) ⊗ (va 1)) ≼ ((va 0) ⊗ (ko (pos 72057594037927936)))) ∷ ((ko (pos 0)) ≼ (va 2)) ∷ ((ko (pos 0)) ≼ (va 1)) ∷ ((ko (pos 0)) ≼ (va 3)) ∷ []) (((((va 4) ⊕ (va 5)) ⊗ (va 1)) ⊖ ((va 0) ⊗ (ko (pos 72057594037927936)))) ⊗ (va 3)) (((ko (pos 2)) ⊗ (va 2)) ⊗ ((ko (pos 72057594037927936)) ⊗ (va 1))) (((hy 0) ⊠ (hy 3)) ⊞ (((nm 144115188075855872) ⊠ (hy 1)) ⊠ (hy 2))) refl (h0, (h1, (h2, (h3, tt))))
+
+pub low_near : (en ed dn dd x r : ℤ) → ((pos 15) *ℤ ((((x -ℤ r) *ℤ ed) -ℤ (en *ℤ (pos 72057594037927936))) *ℤ dd)) ≤ℤ ((pos 16) *ℤ (dn *ℤ (ed *ℤ (pos 72057594037927936)))) → (pos 0) ≤ℤ dn → (pos 0) ≤ℤ ed → ((((x -ℤ r) *ℤ ed) -ℤ (en *ℤ (pos 72057594037927936))) *ℤ dd) ≤ℤ (((pos 2) *ℤ dn) *ℤ ((pos 72057594037927936) *ℤ ed))
+low_near en ed dn dd x r h0 h1 h2 =
+    cancel (pos 15) ((((x -ℤ r) *ℤ ed) -ℤ (en *ℤ (pos 72057594037927936))) *ℤ dd) (((pos 2) *ℤ dn) *ℤ ((pos 72057594037927936) *ℤ ed)) (omega (arith, ints)) (cert (en ∷ ed ∷ dn ∷ dd ∷ x ∷ r ∷ []) ((((ko (pos 15)) ⊗ (((((va 4) ⊖ (va 5)) ⊗ (va 1)) ⊖ ((va 0) ⊗ (ko (pos 72057594037927936)))) ⊗ (va 3))) ≼ ((ko (pos 16)) ⊗ ((va 2) ⊗ ((va 1) ⊗ (ko (pos 72057594037927936)))))) ∷ ((ko (pos 0)) ≼ (va 2)) ∷ ((ko (pos 0)) ≼ (va 1)) ∷ []) ((ko (pos 15)) ⊗ (((((va 4) ⊖ (va 5)) ⊗ (va 1)) ⊖ ((va 0) ⊗ (ko (pos 72057594037927936)))) ⊗ (va 3))) ((ko (pos 15)) ⊗ (((ko (pos 2)) ⊗ (va 2)) ⊗ ((ko (pos 72057594037927936)) ⊗ (va 1)))) ((hy 0) ⊞ (((nm 1008806316530991104) ⊠ (hy 1)) ⊠ (hy 2))) refl (h0, (h1, (h2, tt))))
+
+pub low_back : (en ed dn dd x r : ℤ) → (en *ℤ (pos 72057594037927936)) ≤ℤ ((x -ℤ r) *ℤ ed) → (pos 0) ≤ℤ dn → (pos 0) ≤ℤ ed → (pos 0) ≤ℤ dd → (((en *ℤ (pos 72057594037927936)) -ℤ ((x -ℤ r) *ℤ ed)) *ℤ dd) ≤ℤ (((pos 2) *ℤ dn) *ℤ (ed *ℤ (pos 72057594037927936)))
+low_back en ed dn dd x r h0 h1 h2 h3 =
+    cert (en ∷ ed ∷ dn ∷ dd ∷ x ∷ r ∷ []) ((((va 0) ⊗ (ko (pos 72057594037927936))) ≼ (((va 4) ⊖ (va 5)) ⊗ (va 1))) ∷ ((ko (pos 0)) ≼ (va 2)) ∷ ((ko (pos 0)) ≼ (va 1)) ∷ ((ko (pos 0)) ≼ (va 3)) ∷ []) ((((va 0) ⊗ (ko (pos 72057594037927936))) ⊖ (((va 4) ⊖ (va 5)) ⊗ (va 1))) ⊗ (va 3)) (((ko (pos 2)) ⊗ (va 2)) ⊗ ((va 1) ⊗ (ko (pos 72057594037927936)))) (((hy 0) ⊠ (hy 3)) ⊞ (((nm 144115188075855872) ⊠ (hy 1)) ⊠ (hy 2))) refl (h0, (h1, (h2, (h3, tt))))
+
+pub own_two : (n w dn dd : ℤ) → (pos 0) ≤ℤ dn → (pos 0) ≤ℤ w → (((n *ℤ w) -ℤ (n *ℤ w)) *ℤ dd) ≤ℤ (((pos 2) *ℤ dn) *ℤ (w *ℤ w))
+own_two n w dn dd h0 h1 =
+    cert (n ∷ w ∷ dn ∷ dd ∷ []) (((ko (pos 0)) ≼ (va 2)) ∷ ((ko (pos 0)) ≼ (va 1)) ∷ []) ((((va 0) ⊗ (va 1)) ⊖ ((va 0) ⊗ (va 1))) ⊗ (va 3)) (((ko (pos 2)) ⊗ (va 2)) ⊗ ((va 1) ⊗ (va 1))) (((nm 2) ⊠ (hy 0)) ⊠ (sq (va 1))) refl (h0, (h1, tt))
+
+pub looser : (g dn dd w : ℤ) → (g *ℤ (dd *ℤ (pos 147573952589676412928))) ≤ℤ (((((pos 2) *ℤ ((pos 2) *ℤ dn)) *ℤ (pos 147573952589676412928)) +ℤ ((pos 1) *ℤ dd)) *ℤ w) → (pos 0) ≤ℤ dd → (pos 0) ≤ℤ w → (g *ℤ (dd *ℤ (pos 1152921504606846976))) ≤ℤ (((((pos 4) *ℤ dn) *ℤ (pos 1152921504606846976)) +ℤ ((pos 1) *ℤ dd)) *ℤ w)
+looser g dn dd w h0 h1 h2 =
+    cancel (pos 128) (g *ℤ (dd *ℤ (pos 1152921504606846976))) (((((pos 4) *ℤ dn) *ℤ (pos 1152921504606846976)) +ℤ ((pos 1) *ℤ dd)) *ℤ w) (omega (arith, ints)) (cert (g ∷ dn ∷ dd ∷ w ∷ []) ((((va 0) ⊗ ((va 2) ⊗ (ko (pos 147573952589676412928)))) ≼ (((((ko (pos 2)) ⊗ ((ko (pos 2)) ⊗ (va 1))) ⊗ (ko (pos 147573952589676412928))) ⊕ ((ko (pos 1)) ⊗ (va 2))) ⊗ (va 3))) ∷ ((ko (pos 0)) ≼ (va 2)) ∷ ((ko (pos 0)) ≼ (va 3)) ∷ []) ((ko (pos 128)) ⊗ ((va 0) ⊗ ((va 2) ⊗ (ko (pos 1152921504606846976))))) ((ko (pos 128)) ⊗ (((((ko (pos 4)) ⊗ (va 1)) ⊗ (ko (pos 1152921504606846976))) ⊕ ((ko (pos 1)) ⊗ (va 2))) ⊗ (va 3))) ((hy 0) ⊞ (((nm 127) ⊠ (hy 1)) ⊠ (hy 2))) refl (h0, (h1, (h2, tt))))
+
+pub zero_near : (n w : ℤ) → (((n *ℤ w) -ℤ (n *ℤ w)) *ℤ (pos 1)) ≤ℤ ((pos 0) *ℤ (w *ℤ w))
+zero_near n w =
+    cert (n ∷ w ∷ []) ([]) ((((va 0) ⊗ (va 1)) ⊖ ((va 0) ⊗ (va 1))) ⊗ (ko (pos 1))) ((ko (pos 0)) ⊗ ((va 1) ⊗ (va 1))) (nm 0) refl tt
+
+pub e_bound : (n d h : ℤ) → (n *ℤ (pos 1152921504606846976)) ≤ℤ (h *ℤ d) → h ≤ℤ (pos 36028797018963968) → (pos 0) ≤ℤ d → ((pos 32) *ℤ n) ≤ℤ d
+e_bound n d h h0 h1 h2 =
+    cancel (pos 36028797018963968) ((pos 32) *ℤ n) d (omega (arith, ints)) (cert (n ∷ d ∷ h ∷ []) ((((va 0) ⊗ (ko (pos 1152921504606846976))) ≼ ((va 2) ⊗ (va 1))) ∷ ((va 2) ≼ (ko (pos 36028797018963968))) ∷ ((ko (pos 0)) ≼ (va 1)) ∷ []) ((ko (pos 36028797018963968)) ⊗ ((ko (pos 32)) ⊗ (va 0))) ((ko (pos 36028797018963968)) ⊗ (va 1)) ((hy 0) ⊞ ((hy 2) ⊠ (hy 1))) refl (h0, (h1, (h2, tt))))
+
+pub e_sign : (n d l : ℤ) → (l *ℤ d) ≤ℤ (n *ℤ (pos 1152921504606846976)) → (pos 0) ≤ℤ l → (pos 0) ≤ℤ d → (pos 0) ≤ℤ n
+e_sign n d l h0 h1 h2 =
+    cancel (pos 1152921504606846976) (pos 0) n (omega (arith, ints)) (cert (n ∷ d ∷ l ∷ []) ((((va 2) ⊗ (va 1)) ≼ ((va 0) ⊗ (ko (pos 1152921504606846976)))) ∷ ((ko (pos 0)) ≼ (va 2)) ∷ ((ko (pos 0)) ≼ (va 1)) ∷ []) ((ko (pos 1152921504606846976)) ⊗ (ko (pos 0))) ((ko (pos 1152921504606846976)) ⊗ (va 0)) ((hy 0) ⊞ ((hy 1) ⊠ (hy 2))) refl (h0, (h1, (h2, tt))))
+
+-- ---- what the code has at hand: the boxes m and e, the angle x, the box (a, b) of its sine, the right side (fl, fh), and the answer
+pub record IsFound (ml mh el eh x r a b fl fh al ah cl ch sl sh : ℤ) : Type 0 where
+  pub e_low : pos 0 ≤ℤ el
+  pub e_high : eh ≤ℤ pos (2 ^ 55)
+  pub sine : (c s : Rational) → IsAnglePair 5 (at_56 x) c s → InBox 60 a b s
+  pub right : (u v w : Rational) → InBox 56 ml mh u → InBox 60 el eh v → InBox 60 a b w → InBox 56 fl fh (add_r u (mul_r v w))
+  pub above : ((pos 16 *ℤ (fh -ℤ x)) +ℤ pos 1) ≤ℤ (pos 15 *ℤ r)
+  pub below : ((pos 16 *ℤ (x -ℤ fl)) +ℤ pos 1) ≤ℤ (pos 15 *ℤ r)
+  pub radius : pos 0 ≤ℤ r
+  pub low_is : al ≡ x -ℤ r
+  pub high_is : ah ≡ x +ℤ r
+  pub low_end : neg_ℤ (pos (2 ^ 60)) ≤ℤ al
+  pub high_end : ah ≤ℤ pos (2 ^ 60)
+  pub pair : (z c s : Rational) → InBox 56 al ah z → IsAnglePair 5 z c s → InBox 60 cl ch c × InBox 60 sl sh s
+
+between_range : (x r al ah z : ℤ) → al ≡ x -ℤ r → ah ≡ x +ℤ r → neg_ℤ (pos (2 ^ 60)) ≤ℤ al → ah ≤ℤ pos (2 ^ 60) → (x -ℤ r) ≤ℤ z → z ≤ℤ (x +ℤ r) → InRange 5 (at_56 z)
+between_range x r al ah z e f h k l u = go z (first x r al z e h l) (last x r ah z f k u)
+  where
+    first : (x r al z : ℤ) → al ≡ x -ℤ r → neg_ℤ (pos (2 ^ 60)) ≤ℤ al → (x -ℤ r) ≤ℤ z → neg_ℤ (pos (2 ^ 60)) ≤ℤ z
+    first x r al z e h l = omega (arith, ints)
+
+    last : (x r ah z : ℤ) → ah ≡ x +ℤ r → ah ≤ℤ pos (2 ^ 60) → z ≤ℤ (x +ℤ r) → z ≤ℤ pos (2 ^ 60)
+    last x r ah z e h l = omega (arith, ints)
+
+    go : (z : ℤ) → neg_ℤ (pos (2 ^ 60)) ≤ℤ z → z ≤ℤ pos (2 ^ 60) → 2 * unsigned_abs z ≤ 2 ^ 5 * 2 ^ 56
+    go z h k = omega (arith, ints)
+
+back : (x r : ℤ) → pos 0 ≤ℤ r → (x -ℤ r) ≤ℤ x
+back x r h = omega (arith, lins)
+
+on : (x r : ℤ) → pos 0 ≤ℤ r → x ≤ℤ (x +ℤ r)
+on x r h = omega (arith, lins)
+
+across : (x r : ℤ) → pos 0 ≤ℤ r → (x -ℤ r) ≤ℤ (x +ℤ r)
+across x r h = omega (arith, lins)
+
+same : (x : ℤ) → x ≤ℤ x
+same x = omega (arith, lins)
+
+pub record IsClose (x r : ℤ) (d angle : Rational) : Type 0 where
+  pub above : (pos 15 *ℤ (((angle.num *ℤ pos (2 ^ 56)) -ℤ ((x +ℤ r) *ℤ pos angle.den)) *ℤ pos d.den)) ≤ℤ (pos 16 *ℤ (d.num *ℤ (pos angle.den *ℤ pos (2 ^ 56))))
+  pub below : (pos 15 *ℤ ((((x -ℤ r) *ℤ pos angle.den) -ℤ (angle.num *ℤ pos (2 ^ 56))) *ℤ pos d.den)) ≤ℤ (pos 16 *ℤ (d.num *ℤ (pos angle.den *ℤ pos (2 ^ 56))))
+
+-- Contraction: the angle of a solution is within 16/15 d of the box
+pub contraction : (ml mh el eh x r a b fl fh al ah cl ch sl sh : ℤ) (d mean other e angle c s : Rational) → IsFound ml mh el eh x r a b fl fh al ah cl ch sl sh →
+    InBox 56 ml mh other → IsWithin d mean other → InBox 60 el eh e → IsAnomaly mean e angle c s → IsClose x r d angle
+contraction ml mh el eh x r a b fl fh al ah cl ch sl sh d mean other e angle c s f h n k g =
+    let star = canonical_exists 5 (at_56 x) (between_range x r al ah x f.low_is f.high_is f.low_end f.high_end (back x r f.radius) (on x r f.radius)) in
+    let t : Rational = star.1 in
+    let p = canonical_is_pair 5 (at_56 x) star.0 t star.2 in
+    let seen : IsSeen x r fl fh d mean other e angle c s t = record {
+      is_anomaly = g;
+      near = n;
+      held = f.right other e t h k (f.sine star.0 t p);
+      e_low = e_sign e.num (pos e.den) el k.0 f.e_low (weak _ _ (positive_of e));
+      e_high = e_bound e.num (pos e.den) eh k.1 f.e_high (weak _ _ (positive_of e));
+      above = f.above;
+      below = f.below;
+      radius = f.radius;
+    } in
+    record { above = above_is x r fl fh d mean other e angle c s star.0 t seen p; below = below_is x r fl fh d mean other e angle c s star.0 t seen p }
+
+boxed : (x r al ah : ℤ) (z : Rational) → al ≡ x -ℤ r → ah ≡ x +ℤ r → ((x -ℤ r) *ℤ pos z.den) ≤ℤ (z.num *ℤ pos (2 ^ 56)) → (z.num *ℤ pos (2 ^ 56)) ≤ℤ ((x +ℤ r) *ℤ pos z.den) → InBox 56 al ah z
+boxed x r al ah z e f h k = (subst (λ (i : ℤ). (i *ℤ pos z.den) ≤ℤ (z.num *ℤ pos (2 ^ 56))) (sym e) h, subst (λ (i : ℤ). (z.num *ℤ pos (2 ^ 56)) ≤ℤ (i *ℤ pos z.den)) (sym f) k)
+
+pub found_holds : (ml mh el eh x r a b fl fh al ah cl ch sl sh : ℤ) (mean e angle c s : Rational) → IsFound ml mh el eh x r a b fl fh al ah cl ch sl sh →
+    InBox 56 ml mh mean → InBox 60 el eh e → IsAnomaly mean e angle c s → InBox 56 al ah angle × InBox 60 cl ch c × InBox 60 sl sh s
+found_holds ml mh el eh x r a b fl fh al ah cl ch sl sh mean e angle c s f h k g =
+    let zero : Rational = record { num = pos 0; den = 1; positive = lit< tt } in
+    let n : IsWithin zero mean mean = (zero_near mean.num (pos mean.den), zero_near mean.num (pos mean.den)) in
+    let q = contraction ml mh el eh x r a b fl fh al ah cl ch sl sh zero mean mean e angle c s f h n k g in
+    let i : InBox 56 al ah angle = boxed x r al ah angle f.low_is f.high_is (plain_low angle.num (pos angle.den) x r q.below) (plain_high angle.num (pos angle.den) x r q.above) in
+    let j = f.pair angle c s i g.is_pair in
+    (i, j.0, j.1)
+
+-- the angle, clamped to the box
+record IsClamped (al ah : ℤ) (d angle z : Rational) : Type 0 where
+  pub held : InBox 56 al ah z
+  pub near : IsWithin (times 2 d) angle z
+  pub in_range : InRange 5 z
+
+clamp : (x r al ah : ℤ) (d angle : Rational) → IsClose x r d angle → InRange 5 angle → pos 0 ≤ℤ r → pos 0 ≤ℤ d.num → al ≡ x -ℤ r → ah ≡ x +ℤ r → neg_ℤ (pos (2 ^ 60)) ≤ℤ al → ah ≤ℤ pos (2 ^ 60) →
+    (z : Rational) × IsClamped al ah d angle z
+clamp x r al ah d angle q i r0 d0 e f h k =
+    let n : ℤ = angle.num in
+    let m : ℤ = pos angle.den in
+    let m0 : pos 0 ≤ℤ m = weak _ _ (positive_of angle) in
+    let w0 : pos 0 ≤ℤ pos d.den = weak _ _ (positive_of d) in
+    let p0 : pos 0 ≤ℤ pos (2 ^ 56) = le_pos 0 (2 ^ 56) (lit≤ tt) in
+    by_lt_z ((x +ℤ r) *ℤ m) (n *ℤ pos (2 ^ 56))
+    (λ l. (
+      at_56 (x +ℤ r),
+      record {
+        held = boxed x r al ah (at_56 (x +ℤ r)) e f (mul_le_right (pos (2 ^ 56)) (x -ℤ r) (x +ℤ r) p0 (across x r r0)) (same ((x +ℤ r) *ℤ pos (2 ^ 56)));
+        near = (high_near n m d.num (pos d.den) x r q.above d0 m0, high_back n m d.num (pos d.den) x r (weak _ _ l) d0 m0 w0);
+        in_range = between_range x r al ah (x +ℤ r) e f h k (across x r r0) (same (x +ℤ r));
+      },
+    ))
+    (λ u. by_lt_z (n *ℤ pos (2 ^ 56)) ((x -ℤ r) *ℤ m)
+    (λ l. (
+      at_56 (x -ℤ r),
+      record {
+        held = boxed x r al ah (at_56 (x -ℤ r)) e f (same ((x -ℤ r) *ℤ pos (2 ^ 56))) (mul_le_right (pos (2 ^ 56)) (x -ℤ r) (x +ℤ r) p0 (across x r r0));
+        near = (low_back n m d.num (pos d.den) x r (weak _ _ l) d0 m0 w0, low_near n m d.num (pos d.den) x r q.below d0 m0);
+        in_range = between_range x r al ah (x -ℤ r) e f h k (same (x -ℤ r)) (across x r r0);
+      },
+    ))
+    (λ l. (
+      angle,
+      record {
+        held = boxed x r al ah angle e f l u;
+        near = (own_two n m d.num (pos d.den) d0 m0, own_two n m d.num (pos d.den) d0 m0);
+        in_range = i;
+      },
+    )))
+
+pub found_near : (ml mh el eh x r a b fl fh al ah cl ch sl sh : ℤ) (d mean e angle c s : Rational) → IsFound ml mh el eh x r a b fl fh al ah cl ch sl sh →
+    IsNearBox 56 ml mh d mean → InBox 60 el eh e → IsAnomaly mean e angle c s → IsNearBox 56 al ah (times 2 d) angle × IsNearBox 60 cl ch (add_r (times 4 d) (two_to_minus 60)) c × IsNearBox 60 sl sh (add_r (times 4 d) (two_to_minus 60)) s
+found_near ml mh el eh x r a b fl fh al ah cl ch sl sh d mean e angle c s f h k g =
+    let q = contraction ml mh el eh x r a b fl fh al ah cl ch sl sh d mean h.inside e angle c s f h.held h.near k g in
+    let d0 = d_nn d mean h.inside h.near in
+    let z = clamp x r al ah d angle q g.is_pair.in_range f.radius d0 f.low_is f.high_is f.low_end f.high_end in
+    let star = canonical_exists 5 z.0 z.1.in_range in
+    let u : Rational = star.0 in
+    let v : Rational = star.1 in
+    let p = canonical_is_pair 5 z.0 u v star.2 in
+    let law = sharp_law 5 (times 2 d) angle z.0 c s u v (lit≤ tt) g.is_pair p z.1.near in
+    let j = f.pair z.0 u v z.1.held p in
+    let w0 : pos 0 ≤ℤ pos d.den = weak _ _ (positive_of d) in (
+      record { inside = z.0; held = z.1.held; near = z.1.near },
+      record { inside = u; held = j.0; near = (loose c u law.0.0 w0, loose u c law.0.1 w0) },
+      record { inside = v; held = j.1; near = (loose s v law.1.0 w0, loose v s law.1.1 w0) },
+    )
+  where
+    loose : (x y : Rational) → sub_r x y ≤ʳ add_r (times 2 (times 2 d)) (two_to_minus 67) → pos 0 ≤ℤ pos d.den → sub_r x y ≤ʳ add_r (times 4 d) (two_to_minus 60)
+    loose x y h w0 = looser (sub_r x y).num d.num (pos d.den) (pos (x.den * y.den)) h w0 (weak _ _ (lt_pos 0 (x.den * y.den) (mul-pos x.positive y.positive)))
