@@ -22,11 +22,11 @@ form_same d e j (suc k) h = column (d j j) (e j j) (list_from (d j) (suc j) k) (
     (form_same d e (suc j) k (λ r c a b g. h r c (omega arith) (omega arith) (omega arith)))
 
 -- ---- sums, multiples, products
-list_added : (f g : ℕ → ℤ) (j k : ℕ) → list_from (λ c. f c +ℤ g c) j k ≡ added (list_from f j k) (list_from g j k)
+pub list_added : (f g : ℕ → ℤ) (j k : ℕ) → list_from (λ c. f c +ℤ g c) j k ≡ added (list_from f j k) (list_from g j k)
 list_added f g j zero = refl
 list_added f g j (suc k) = ap (λ s. (f j +ℤ g j) ∷ s) (list_added f g (suc j) k)
 
-list_scaled : (x : ℤ) (f : ℕ → ℤ) (j k : ℕ) → list_from (λ c. x *ℤ f c) j k ≡ scaled x (list_from f j k)
+pub list_scaled : (x : ℤ) (f : ℕ → ℤ) (j k : ℕ) → list_from (λ c. x *ℤ f c) j k ≡ scaled x (list_from f j k)
 list_scaled x f j zero = refl
 list_scaled x f j (suc k) = ap (λ s. (x *ℤ f j) ∷ s) (list_scaled x f (suc j) k)
 

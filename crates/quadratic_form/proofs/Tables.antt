@@ -113,7 +113,7 @@ apply_constant [] w a = ap (λ t. t ∷ []) (zeros_at w)
 apply_constant (r ∷ m) w a = ap₂ (λ x s. x ∷ s) (dot_last (pos 0) (pos 1) r w a.0 ∙ (same_by (dot r w ∷ []) (λ d. (d ⊕ nat 0 ⊗ nat 1, d)) refl)) (apply_constant m w a.1)
 
 -- ---- a table by its entries
-list_shift : (f : ℕ → ℤ) (j k : ℕ) → list_from (λ c. f (suc c)) j k ≡ list_from f (suc j) k
+pub list_shift : (f : ℕ → ℤ) (j k : ℕ) → list_from (λ c. f (suc c)) j k ≡ list_from f (suc j) k
 list_shift f j zero = refl
 list_shift f j (suc k) = ap (λ s. f (suc j) ∷ s) (list_shift f (suc j) k)
 
