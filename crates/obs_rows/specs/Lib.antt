@@ -1,0 +1,5 @@
+pub mod Letters
+pub mod Ranges
+pub mod Tables
+pub mod Arcs
+pub mod Pairs
