@@ -1,9 +1,9 @@
 -- The laws of rationals: equality, order, and the ring.
-use Rattle.std.proofs.Common.{◌≡◌, ℕ, ◌*◌, ◌<◌, ◌^◌, ◌⊎◌, inl, inr, [], ◌∷◌, ℤ, pos, ◌+ℤ◌, ◌*ℤ◌, ◌≤ℤ◌, arith, sym, refl, pow_pos}
+use Rattle.std.proofs.Common.{◌≡◌, ℕ, ◌*◌, ◌<◌, ◌⊎◌, inl, inr, [], ◌∷◌, ℤ, pos, ◌+ℤ◌, ◌*ℤ◌, ◌≤ℤ◌, arith, sym, refl}
 use Rattle.std.proofs.lemmas.Int.{ints, by_lt_z}
 use Rattle.whole_math.proofs.Ring.{ring, va, ◌⊕◌, ◌⊖◌, ◌⊗◌}
 use Rattle.whole_math.proofs.Order.{lins, mul_le_right, mul_le_cancel, eq_by, le_by_factor, mul_nn}
-use Rattle.rational.specs.Rational.{Rational, InBox, add_r, mul_r, ◌≈◌, ◌≤ʳ◌}
+use Rattle.rational.specs.Rational.{Rational, add_r, mul_r, ◌≈◌, ◌≤ʳ◌}
 
 nn : (n : ℕ) → pos 0 ≤ℤ pos n
 nn n = omega (arith, ints)
@@ -77,8 +77,3 @@ pub mul_r-mono : (p q r : Rational) → pos 0 ≤ℤ r.num → p ≤ʳ q → mul
 mul_r-mono p q r k h = le_by_factor ((p.num *ℤ r.num) *ℤ (pos q.den *ℤ pos r.den)) ((q.num *ℤ r.num) *ℤ (pos p.den *ℤ pos r.den))
     (p.num *ℤ pos q.den) (q.num *ℤ pos p.den) (r.num *ℤ pos r.den) h (mul_nn r.num (pos r.den) k (nn r.den))
     (ring (q.num ∷ r.num ∷ (pos p.den) ∷ (pos r.den) ∷ p.num ∷ (pos q.den) ∷ []) (((va 0 ⊗ va 1) ⊗ (va 2 ⊗ va 3)) ⊖ ((va 4 ⊗ va 1) ⊗ (va 5 ⊗ va 3))) ((va 1 ⊗ va 3) ⊗ ((va 0 ⊗ va 2) ⊖ (va 4 ⊗ va 5))) refl)
-
--- ---- a box is an order with its two ends, by definition
-pub InBox-out : (k : ℕ) (lo hi : ℤ) (q : Rational) → InBox k lo hi q →
-    (record { num = lo; den = 2 ^ k; positive = pow_pos k } ≤ʳ q) × (q ≤ʳ record { num = hi; den = 2 ^ k; positive = pow_pos k })
-InBox-out k lo hi q h = h

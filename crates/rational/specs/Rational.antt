@@ -22,6 +22,10 @@ p <ʳ q = (p.num *ℤ pos q.den) <ℤ (q.num *ℤ pos p.den)
 abbrev pub of_whole : ℤ → Rational
 of_whole k = record { num = k; den = 1; positive = lit< tt }
 
+-- k / 2^scale
+abbrev pub of_scale : ℕ → ℤ → Rational
+of_scale scale k = record { num = k; den = 2 ^ scale; positive = pow_pos scale }
+
 abbrev pub add_r : Rational → Rational → Rational
 add_r p q = record { num = (p.num *ℤ pos q.den) +ℤ (q.num *ℤ pos p.den); den = p.den * q.den; positive = mul-pos p.positive q.positive }
 

@@ -8,3 +8,6 @@ pub mod Certificates
 pub mod Examples
 pub mod Inequalities
 pub mod Vectors
+pub mod Absolute
+pub mod Extremes
+pub mod Powers

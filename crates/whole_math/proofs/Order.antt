@@ -1,5 +1,5 @@
 -- Orders, products, squares and bounds over ℤ.
-use Rattle.std.proofs.Common.{◌≡◌, ℕ, suc, ◌*◌, ◌≤◌, ◌<◌, ℤ, pos, negsuc, ◌+ℤ◌, ◌-ℤ◌, ◌*ℤ◌, neg_ℤ, ◌≤ℤ◌, ◌<ℤ◌, arith, sym, ap, ◌∙◌, unsigned_abs, mul-le-mul}
+use Rattle.std.proofs.Common.{◌≡◌, ◌⊎◌, inl, inr, ℕ, suc, ◌*◌, ◌≤◌, ◌<◌, ℤ, pos, negsuc, ◌+ℤ◌, ◌-ℤ◌, ◌*ℤ◌, neg_ℤ, ◌≤ℤ◌, ◌<ℤ◌, arith, sym, ap, ◌∙◌, unsigned_abs, mul-le-mul}
 use Rattle.std.proofs.lemmas.Int.{ints, unsigned_abs-mul, by_lt_z}
 use Rattle.whole_math.proofs.IntLaws.{mul_comm_ℤ, mul_add_ℤ, add_mul_ℤ}
 use borrow.Author.Differences.{up, down, fits_out, same_out, Apart-out, lt_T, le_T, lt_not, le_not, lt-true, lt-false, le-true, le-false, true-lt, false-lt, true-le, false-le, not_negative_out, lt_out, le_out, fits_in, same_in, lt_in, le_in, below_in, at_most_in, not_negative_in, true_is_lt, false_is_lt, true_is_le, false_is_le, sum_is_lem, neg_is, product_is, quot_is, rem_is, abs_is, mag_is, back_is, small_is, read_fits, bits_is}
@@ -34,6 +34,15 @@ mul_sub_ℤ a b c =
     let f : a *ℤ ((b -ℤ c) +ℤ c) ≡ a *ℤ b = ap (λ x. a *ℤ x) d in
     let g : a *ℤ (b -ℤ c) +ℤ (a *ℤ c) ≡ a *ℤ b = e ∙ f in
     omega (arith, lins, g)
+
+pub le_pos : (m n : ℕ) → m ≤ n → pos m ≤ℤ pos n
+le_pos m n h = omega (arith, ints)
+
+pub lt_pos : (m n : ℕ) → m < n → pos m <ℤ pos n
+lt_pos m n h = omega (arith, ints)
+
+pub trichotomy : (a b : ℤ) → (a <ℤ b) ⊎ ((a ≡ b) ⊎ (b <ℤ a))
+trichotomy a b = by_lt_z a b (λ h. inl h) (λ h. by_lt_z b a (λ k. inr (inr k)) (λ k. inr (inl (omega (arith, lins)))))
 
 -- ---- a factor that is not negative keeps an order
 pub mul_le_left : (c a b : ℤ) → pos 0 ≤ℤ c → a ≤ℤ b → (c *ℤ a) ≤ℤ (c *ℤ b)
