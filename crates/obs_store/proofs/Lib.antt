@@ -1,1 +1,2 @@
 pub mod EpochsLaws
+pub mod SeenLaws

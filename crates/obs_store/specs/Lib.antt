@@ -1,3 +1,4 @@
 pub mod Kinds
 pub mod Satellites
 pub mod Epochs
+pub mod Seen

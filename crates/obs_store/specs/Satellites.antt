@@ -1,11 +1,11 @@
 -- The satellites of an epoch.
-use Rattle.std.specs.Prelude.{◌≡◌, ◌≢◌, ℕ, ◌≤◌, ◌==◌, Bool, List, All, AllPairs}
+use Rattle.std.specs.Prelude.{◌≢◌, ℕ, ◌≤◌, ◌==◌, Bool, List, All, AllPairs}
 use Rattle.std.specs.List.{list_any}
 use Rattle.obs_store.specs.declared.values.SatObs.{SatObs}
 
 -- some satellite has that number
 abbrev pub has_satellite : ℕ → List SatObs → Bool
-has_satellite number sats = list_any (λ s. s.number == number) sats
+has_satellite number sats = list_any (λ s. number == s.number) sats
 
 -- a number that a satellite may have
 abbrev pub IsNumber : SatObs → Type 0

@@ -5,6 +5,7 @@ mod file;
 mod kinds;
 mod sats;
 mod series;
+mod tally;
 mod values;
 
 pub use file::ObsFile;
@@ -54,6 +55,41 @@ mod tests {
         assert_eq!(rt; epochs.len(), 1);
         assert_eq!(rt; epochs.tag_at(0), Tick(13881024000000000));
         assert_eq!(rt; epochs.last_tag(), Some(Tick(13881024000000000)));
+        Ok(())
+    }
+
+    #[test]
+    fn counts_satellites(rt: HostRuntime) -> Result<(), Fail> {
+        let mut epochs = Epochs::new(rt.alloc());
+        let mut first = Satellites::new(rt.alloc());
+        first.push(SatObs::missing(5))?;
+        first.push(SatObs::missing(32))?;
+        epochs.push(Epoch {
+            tag: Tick(13881024000000000),
+            power: false,
+            sats: first,
+        })?;
+        let mut second = Satellites::new(rt.alloc());
+        second.push(SatObs::missing(12))?;
+        second.push(SatObs::missing(5))?;
+        epochs.push(Epoch {
+            tag: Tick(13881024300000000),
+            power: true,
+            sats: second,
+        })?;
+        let file = ObsFile {
+            hundredths: 304,
+            position: None,
+            delta: [0, 0, 0],
+            listed: [false; SLOTS],
+            epochs,
+        };
+        let seen = file.seen(rt.alloc())?;
+        assert_eq!(rt; seen.len(), 3);
+        for (at, number, count) in [(0, 5, 2), (1, 32, 1), (2, 12, 1)] {
+            let entry = seen.get_index(at).map(|(n, c)| (*n, *c));
+            assert_eq!(rt; entry, Some((number, count)), "at {at}");
+        }
         Ok(())
     }
 }

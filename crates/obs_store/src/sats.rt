@@ -46,7 +46,7 @@ impl Satellites {
     pub fn has(&self, number: u8) -> bool
         ensures { result ≡ has_satellite number self.now }
     {
-        self.items.iter().any(|sat| sat.number == number)
+        self.items.iter().any(|sat| number == sat.number)
     }
 
     /// Adds a satellite that isn't there yet; after an `Err` the satellites are as before.

@@ -1,0 +1,10 @@
+-- The epochs before, and of this epoch the satellites so far.
+use Rattle.std.proofs.Common.{◌≡◌, [], ◌∷◌, ◌++◌, take, get_or}
+use Rattle.obs_store.specs.declared.series.Epoch.{Epoch}
+use Rattle.obs_store.specs.Seen.{seen_in}
+use Rattle.obs_store.proofs.SeenLaws.{with_sats}
+use Rattle.obs_store.proofs.tally.count_epoch.Given as goal
+
+abbrev pub invariant-loop-sat : goal.invariant-loop-sat
+invariant-loop-sat l =
+    (d : Epoch) → l.seen.entries ≡ seen_in (take l.at l.epochs ++ with_sats (get_or l.epochs l.at d) (take l.sat-index l.sat-items) ∷ [])
