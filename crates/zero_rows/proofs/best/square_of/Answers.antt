@@ -1,0 +1,21 @@
+use Rattle.std.proofs.Common.{◌≡◌, ◌≤◌, ◌^◌, ◌*◌, ap, subst, sym, ◌∙◌, arith, of_z, to_z, FitsSigned, lit<, ℤ, ◌≤ℤ◌, pos, unsigned_abs}
+use Rattle.std.specs.Int.{w128}
+use Rattle.std.proofs.lemmas.Int.{ints, to_z-of_z, fits_signed_mul}
+use Rattle.zero_rows.specs.Sums.{square}
+use Rattle.zero_rows.proofs.Squares.{square-low, square-high}
+use Rattle.zero_rows.proofs.best.square_of.Goals as goal
+
+pub overflow_mul-result : goal.overflow_mul-result
+overflow_mul-result c = fits_signed_mul w128 (to_z w128 (of_z w128 c.args.x)) (to_z w128 (of_z w128 c.args.x)) (2 ^ 37) (2 ^ 37) (omega (arith, ints)) (omega (arith, ints)) (lit< tt)
+
+pub returns : goal.returns
+returns c =
+    let same_x : to_z w128 (of_z w128 c.args.x) ≡ c.args.x = omega (arith, ints) in
+    let small : unsigned_abs c.args.x ≤ 2 ^ 37 = omega (arith, ints) in
+    let fits : FitsSigned w128 (square c.args.x) = fits_signed_mul w128 c.args.x c.args.x (2 ^ 37) (2 ^ 37) small small (lit< tt) in
+    let value = ap (λ (y : ℤ). to_z w128 (of_z w128 (square y))) same_x ∙ to_z-of_z w128 (square c.args.x) fits in
+    record {
+      value = value;
+      low = subst (λ (y : ℤ). pos 0 ≤ℤ y) (sym value) (square-low c.args.x);
+      high = subst (λ (y : ℤ). y ≤ℤ pos (2 ^ 37 * 2 ^ 37)) (sym value) (square-high c.args.x (2 ^ 37) small);
+    }

@@ -1,0 +1,22 @@
+use Rattle.std.proofs.Common.{ap, sym}
+use Rattle.line_source.specs.Lines.{Reading, lines_of}
+use Rattle.rinex_head.specs.Walk.{rest_gives}
+use Rattle.rinex_head.proofs.Walks.{gives_same}
+use Rattle.rinex_head.proofs.Stops.{refused_exit, first_exit}
+use Rattle.zero_rows.specs.Rows.{Rows, IsZeroFile}
+use Rattle.zero_rows.specs.RowsRules.{Head, rows_rules}
+use Rattle.zero_rows.proofs.RowsLaws.{file_of_rules, rules_of_file, completed, ok_exit, only_exit}
+use Rattle.zero_rows.proofs.rows.read_rows.Goals as goal
+
+pub returns : goal.returns
+returns c =
+    let lines = lines_of c.args.text.now in
+    let whole = sym (ap (λ (r : Reading). rest_gives rows_rules r Head) c.new.ensures) in
+    let exact = gives_same _ _ (λ (found : Rows). found) _ whole c.read_lines.ensures in
+    record {
+      ok = ok_exit lines _ exact;
+      only = only_exit lines _ exact;
+      refused = refused_exit rows_rules IsZeroFile file_of_rules lines _ _ exact;
+      first = first_exit rows_rules IsZeroFile file_of_rules rules_of_file completed lines _ _ exact;
+      exact = exact;
+    }

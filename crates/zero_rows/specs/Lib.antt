@@ -1,0 +1,4 @@
+pub mod Rows
+pub mod RowsRules
+pub mod Sums
+pub mod Verdicts
