@@ -4,11 +4,12 @@ use Rattle.std.proofs.lemmas.Int.{ints, by_lt_z}
 use Rattle.whole_math.proofs.Ring.{ring, va, ko, ◌⊕◌, ◌⊖◌, ◌⊗◌}
 use Rattle.whole_math.proofs.Order.{lins, mul_le_right}
 use Rattle.whole_math.proofs.Certificates.{cert, cancel, mul_positive, weak, ◌≼◌, hy, nm, sq, ◌⊞◌, ◌⊠◌}
-use Rattle.rational.specs.Rational.{Rational, InBox, add_r, sub_r, mul_r, ◌≤ʳ◌, IsWithin, times, two_to_minus, IsNearBox}
-use Rattle.trig_box.specs.Pairs.{IsAnglePair, InRange}
+use Rattle.rational.specs.Rational.{Rational, InBox, add_r, sub_r, mul_r, ◌≤ʳ◌, AreWithin, times, two_to_minus, IsNearBox}
+use Rattle.trig_box.specs.AnglePairs.{IsAnglePair, InRange}
 use Rattle.trig_box.proofs.Base.{le_pos, lt_pos}
 use Rattle.std.proofs.Math.Nat.{mul-pos}
-use Rattle.trig_box.proofs.OfPairs.{canonical_exists, canonical_is_pair, sharp_law, bound_nn}
+use Rattle.trig_box.proofs.PairLaws.{canonical_exists, canonical_is_pair, sharp_law}
+use Rattle.trig_box.proofs.PointLaws.{bound_nn}
 use Rattle.kepler_box.specs.Anomaly.{IsAnomaly}
 use Rattle.kepler_box.specs.Steps.{at_56}
 
@@ -43,7 +44,7 @@ back_turned a b u w h0 h1 =
 -- ---- the solution, seen from x
 pub record IsSeen (x r lo hi : ℤ) (d mean other e angle c s t : Rational) : Type 0 where
   pub is_anomaly : IsAnomaly mean e angle c s
-  pub near : IsWithin d mean other
+  pub near : AreWithin d mean other
   pub held : InBox 56 lo hi (add_r other (mul_r e t))
   pub e_low : pos 0 ≤ℤ e.num
   pub e_high : (pos 32 *ℤ e.num) ≤ℤ pos e.den
@@ -51,7 +52,7 @@ pub record IsSeen (x r lo hi : ℤ) (d mean other e angle c s t : Rational) : Ty
   pub below : ((pos 16 *ℤ (x -ℤ lo)) +ℤ pos 1) ≤ℤ (pos 15 *ℤ r)
   pub radius : pos 0 ≤ℤ r
 
-pub d_nn : (d x y : Rational) → IsWithin d x y → pos 0 ≤ℤ d.num
+pub d_nn : (d x y : Rational) → AreWithin d x y → pos 0 ≤ℤ d.num
 d_nn d x y h = bound_nn d.num (pos d.den) x.num (pos x.den) y.num (pos y.den) h.0 h.1 (lt_pos 0 (2 * (x.den * y.den)) (mul-pos (lit< tt) (mul-pos x.positive y.positive)))
 
 positive_of : (x : Rational) → pos 0 <ℤ pos x.den
@@ -72,7 +73,7 @@ above_is x r lo hi d mean other e angle c s c' t g k = by_lt_z (angle.num *ℤ p
     let z0 : pos 0 ≤ℤ z = apart_nn (angle.num *ℤ pos (2 ^ 56)) (x *ℤ pos angle.den) l in
     let w : ℤ = pos angle.den *ℤ pos (2 ^ 56) in
     let far : Rational = record { num = z; den = angle.den * 2 ^ 56; positive = mul-pos angle.positive (pow_pos 56) } in
-    let n : IsWithin far angle (at_56 x) = (own_near z (pos angle.den *ℤ pos (2 ^ 56)) z0, back_turned (angle.num *ℤ pos (2 ^ 56)) (x *ℤ pos angle.den) (pos angle.den) (pos (2 ^ 56)) z0 (weak _ _ (lt_pos 0 (angle.den * 2 ^ 56) far.positive))) in
+    let n : AreWithin far angle (at_56 x) = (own_near z (pos angle.den *ℤ pos (2 ^ 56)) z0, back_turned (angle.num *ℤ pos (2 ^ 56)) (x *ℤ pos angle.den) (pos angle.den) (pos (2 ^ 56)) z0 (weak _ _ (lt_pos 0 (angle.den * 2 ^ 56) far.positive))) in
     let law = sharp_law 5 far angle (at_56 x) c s c' t (lit≤ tt) g.is_anomaly.is_pair k n in
     upper angle.num (pos angle.den) s.num (pos s.den) mean.num (pos mean.den) other.num (pos other.den) e.num (pos e.den) t.num (pos t.den) d.num (pos d.den) x r hi
     g.held.1 (le_of (sym g.is_anomaly.equation)) g.near.0 law.1.0 g.e_high g.e_low g.above z0 (positive_of angle) (positive_of s) (positive_of mean) (positive_of other) (positive_of e) (positive_of t) (positive_of d))
@@ -85,7 +86,7 @@ below_is x r lo hi d mean other e angle c s c' t g k = by_lt_z (x *ℤ pos angle
     let z : ℤ = (x *ℤ pos angle.den) -ℤ (angle.num *ℤ pos (2 ^ 56)) in
     let z0 : pos 0 ≤ℤ z = apart_nn (x *ℤ pos angle.den) (angle.num *ℤ pos (2 ^ 56)) l in
     let far : Rational = record { num = z; den = angle.den * 2 ^ 56; positive = mul-pos angle.positive (pow_pos 56) } in
-    let n : IsWithin far angle (at_56 x) = (back_near (x *ℤ pos angle.den) (angle.num *ℤ pos (2 ^ 56)) (pos angle.den *ℤ pos (2 ^ 56)) z0 (weak _ _ (lt_pos 0 (angle.den * 2 ^ 56) far.positive)), turned z (pos angle.den) (pos (2 ^ 56))) in
+    let n : AreWithin far angle (at_56 x) = (back_near (x *ℤ pos angle.den) (angle.num *ℤ pos (2 ^ 56)) (pos angle.den *ℤ pos (2 ^ 56)) z0 (weak _ _ (lt_pos 0 (angle.den * 2 ^ 56) far.positive)), turned z (pos angle.den) (pos (2 ^ 56))) in
     let law = sharp_law 5 far angle (at_56 x) c s c' t (lit≤ tt) g.is_anomaly.is_pair k n in
     lower angle.num (pos angle.den) s.num (pos s.den) mean.num (pos mean.den) other.num (pos other.den) e.num (pos e.den) t.num (pos t.den) d.num (pos d.den) x r lo
     g.held.0 (le_of g.is_anomaly.equation) g.near.1 law.1.1 g.e_high g.e_low g.below z0 (positive_of angle) (positive_of s) (positive_of mean) (positive_of other) (positive_of e) (positive_of t) (positive_of d))
@@ -182,7 +183,7 @@ pub record IsClose (x r : ℤ) (d angle : Rational) : Type 0 where
 
 -- Contraction: the angle of a solution is within 16/15 d of the box
 pub contraction : (ml mh el eh x r a b fl fh al ah cl ch sl sh : ℤ) (d mean other e angle c s : Rational) → IsFound ml mh el eh x r a b fl fh al ah cl ch sl sh →
-    InBox 56 ml mh other → IsWithin d mean other → InBox 60 el eh e → IsAnomaly mean e angle c s → IsClose x r d angle
+    InBox 56 ml mh other → AreWithin d mean other → InBox 60 el eh e → IsAnomaly mean e angle c s → IsClose x r d angle
 contraction ml mh el eh x r a b fl fh al ah cl ch sl sh d mean other e angle c s f h n k g =
     let star = canonical_exists 5 (at_56 x) (between_range x r al ah x f.low_is f.high_is f.low_end f.high_end (back x r f.radius) (on x r f.radius)) in
     let t : Rational = star.1 in
@@ -206,7 +207,7 @@ pub found_holds : (ml mh el eh x r a b fl fh al ah cl ch sl sh : ℤ) (mean e an
     InBox 56 ml mh mean → InBox 60 el eh e → IsAnomaly mean e angle c s → InBox 56 al ah angle × InBox 60 cl ch c × InBox 60 sl sh s
 found_holds ml mh el eh x r a b fl fh al ah cl ch sl sh mean e angle c s f h k g =
     let zero : Rational = record { num = pos 0; den = 1; positive = lit< tt } in
-    let n : IsWithin zero mean mean = (zero_near mean.num (pos mean.den), zero_near mean.num (pos mean.den)) in
+    let n : AreWithin zero mean mean = (zero_near mean.num (pos mean.den), zero_near mean.num (pos mean.den)) in
     let q = contraction ml mh el eh x r a b fl fh al ah cl ch sl sh zero mean mean e angle c s f h n k g in
     let i : InBox 56 al ah angle = boxed x r al ah angle f.low_is f.high_is (plain_low angle.num (pos angle.den) x r q.below) (plain_high angle.num (pos angle.den) x r q.above) in
     let j = f.pair angle c s i g.is_pair in
@@ -215,7 +216,7 @@ found_holds ml mh el eh x r a b fl fh al ah cl ch sl sh mean e angle c s f h k g
 -- the angle, clamped to the box
 record IsClamped (al ah : ℤ) (d angle z : Rational) : Type 0 where
   pub held : InBox 56 al ah z
-  pub near : IsWithin (times 2 d) angle z
+  pub near : AreWithin (times 2 d) angle z
   pub in_range : InRange 5 z
 
 clamp : (x r al ah : ℤ) (d angle : Rational) → IsClose x r d angle → InRange 5 angle → pos 0 ≤ℤ r → pos 0 ≤ℤ d.num → al ≡ x -ℤ r → ah ≡ x +ℤ r → neg_ℤ (pos (2 ^ 60)) ≤ℤ al → ah ≤ℤ pos (2 ^ 60) →

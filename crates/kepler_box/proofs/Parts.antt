@@ -7,9 +7,9 @@ use Rattle.whole_math.proofs.Certificates.{cert, weak, ◌≼◌, hy, nm, ◌⊞
 use Rattle.whole_math.specs.Rounding.{floor_div, ceil_div}
 use Rattle.whole_math.proofs.Rounding.{floor_le, lt_floor, floor_greatest, ceil_least}
 use Rattle.rational.specs.Rational.{Rational, InBox}
-use Rattle.trig_box.specs.Pairs.{IsAnglePair, InRange}
+use Rattle.trig_box.specs.AnglePairs.{IsAnglePair, InRange}
 use Rattle.trig_box.proofs.Base.{lt_pos}
-use Rattle.trig_box.proofs.OfPairs.{canonical_is_pair}
+use Rattle.trig_box.proofs.PairLaws.{canonical_is_pair}
 use Rattle.kepler_box.specs.Steps.{at_56, IsStep, Within}
 use Rattle.std.proofs.Common.{Result, Ok, Err, IsOk, IsErr, to_z, of_z}
 use Rattle.std.specs.Int.{w64}

@@ -6,10 +6,10 @@ use Rattle.whole_math.proofs.Order.{lins, abs_mul_le}
 use Rattle.whole_math.proofs.Certificates.{cert, cancel, mul_positive, weak, ◌≼◌, hy, nm, ◌⊞◌, ◌⊠◌}
 use Rattle.whole_math.specs.Rounding.{floor_div}
 use Rattle.whole_math.proofs.Rounding.{floor_le, lt_floor}
-use Rattle.rational.specs.Rational.{Rational, IsWithin}
-use Rattle.trig_box.specs.Pairs.{InRange}
+use Rattle.rational.specs.Rational.{Rational, AreWithin}
+use Rattle.trig_box.specs.AnglePairs.{InRange}
 use Rattle.trig_box.proofs.Base.{le_pos, lt_pos}
-use Rattle.trig_box.proofs.OfPairs.{canonical_exists, canonical_law}
+use Rattle.trig_box.proofs.PairLaws.{canonical_exists, canonical_law}
 use Rattle.kepler_box.specs.Steps.{at_56, IsStep, Within, Settled}
 use Rattle.std.proofs.Math.Nat.{pow-suc}
 use Rattle.std.proofs.Common.{add-one}
@@ -45,7 +45,7 @@ one_side m e x y a b d rx ry e0 e1 d0 w p q =
     let moon = canonical_exists 5 (at_56 y) ry in
     let s : Rational = star.1 in
     let t : Rational = moon.1 in
-    let near : IsWithin (at_56 d) (at_56 x) (at_56 y) = (angles_near x y d w.0, angles_near y x d w.1) in
+    let near : AreWithin (at_56 d) (at_56 x) (at_56 y) = (angles_near x y d w.0, angles_near y x d w.1) in
     let law = canonical_law 5 (at_56 d) (at_56 x) (at_56 y) star.0 s moon.0 t (lit≤ tt) star.2 moon.2 near in
     let gap = sine_gap s.num (pos s.den) p.sine t.num (pos t.den) q.sine d (p.near star.0 s star.2).0 (q.near moon.0 t moon.2).1 law.1.0 (lt_pos 0 s.den s.positive) (lt_pos 0 t.den t.positive) in
     let i : ℤ = floor_div (e *ℤ p.sine) (2 ^ 64) in

@@ -3,7 +3,7 @@ use Rattle.std.specs.Prelude.{◌≡◌, ℕ, ◌^◌, ◌≤◌, ℤ, pos, ◌+
 use Rattle.std.proofs.Common.{pow_pos}
 use Rattle.whole_math.specs.Rounding.{floor_div}
 use Rattle.rational.specs.Rational.{Rational, InBox}
-use Rattle.trig_box.specs.Pairs.{IsCanonicalPair}
+use Rattle.trig_box.specs.AnglePairs.{IsCanonicalPair}
 
 -- n / 2^56
 abbrev pub at_56 : ℤ → Rational

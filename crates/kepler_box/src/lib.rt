@@ -5,7 +5,7 @@ ghost use Rattle.std.specs.Prelude.{◌≡◌, ℕ, ◌+◌, ◌-◌, ◌*◌, �
 ghost use Rattle.whole_math.specs.Rounding.{floor_div, ceil_div};
 ghost use Rattle.iv_core.specs.Boxes.{least_corner, most_corner};
 ghost use Rattle.rational.specs.Rational.{Rational, InBox, add_r, mul_r, times, two_to_minus, IsNearBox};
-ghost use Rattle.trig_box.specs.Pairs.{IsAnglePair};
+ghost use Rattle.trig_box.specs.AnglePairs.{IsAnglePair};
 ghost use Rattle.kepler_box.specs.Anomaly.{IsAnomaly};
 ghost use Rattle.kepler_box.specs.Steps.{at_56, IsStep, Within, Settled};
 

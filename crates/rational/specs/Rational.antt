@@ -54,12 +54,12 @@ power_r q zero = of_whole (pos 1)
 power_r q (suc n) = mul_r q (power_r q n)
 
 -- |p - q| ≤ d
-abbrev pub IsWithin : Rational → Rational → Rational → Type 0
-IsWithin d p q = (sub_r p q ≤ʳ d) × (sub_r q p ≤ʳ d)
+abbrev pub AreWithin : Rational → Rational → Rational → Type 0
+AreWithin d p q = (sub_r p q ≤ʳ d) × (sub_r q p ≤ʳ d)
 
 -- |q| ≤ b
-abbrev pub IsAtMost : Rational → Rational → Type 0
-IsAtMost b q = (q ≤ʳ b) × (neg_r q ≤ʳ b)
+abbrev pub IsAtMostInSize : Rational → Rational → Type 0
+IsAtMostInSize b q = (q ≤ʳ b) × (neg_r q ≤ʳ b)
 
 -- q lies between p and r, whichever is the lesser; it may be one of them
 abbrev pub IsBetween : Rational → Rational → Rational → Type 0
@@ -73,7 +73,7 @@ InBox k lo hi q = ((lo *ℤ pos q.den) ≤ℤ (q.num *ℤ pos (2 ^ k))) × ((q.n
 pub record IsNearBox (k : ℕ) (lo hi : ℤ) (d q : Rational) : Type 0 where
   pub inside : Rational
   pub held : InBox k lo hi inside
-  pub near : IsWithin d q inside
+  pub near : AreWithin d q inside
 
 -- q is at most r from c
 abbrev pub Near : ℤ → ℤ → Rational → Type 0

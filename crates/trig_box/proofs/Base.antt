@@ -5,8 +5,8 @@ use Rattle.whole_math.proofs.Ring.{va, ko, ◌⊕◌, ◌⊖◌, ◌⊗◌}
 use Rattle.whole_math.proofs.Order.{square_nn}
 use Rattle.whole_math.proofs.Certificates.{cert, cancel, mul_positive, weak, ◌≼◌, hy, nm, ◌⊞◌, ◌⊠◌}
 use Rattle.std.proofs.Common.{lit≤, lit<}
-use Rattle.trig_box.specs.Pairs.{top, bottom, cos18, cos20, sin19, sin21, Between, Point, IsBase, canonical_base}
-use Rattle.trig_box.specs.Chain.{Apt}
+use Rattle.trig_box.specs.Chain.{cos18, cos20, sin19, sin21, Point, Apt}
+use Rattle.trig_box.proofs.Points.{top, bottom, Between, IsBase, canonical_base}
 use Rattle.trig_box.proofs.Nests.{Close, bottom_positive, nest_range, depth, nests_near_last, weight}
 
 pub quarter : (p q : ℤ) → (pos 2 *ℤ p) ≤ℤ q → (pos 0) ≤ℤ (q +ℤ (pos 2 *ℤ p)) → (pos 4 *ℤ (p *ℤ p)) ≤ℤ (q *ℤ q)

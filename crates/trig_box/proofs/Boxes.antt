@@ -9,12 +9,13 @@ use Rattle.whole_math.proofs.IntLaws.{mul_one_ℤ}
 use Rattle.std.proofs.Math.Nat.{mul-le-mul}
 use Rattle.whole_math.specs.Rounding.{floor_div}
 use Rattle.whole_math.proofs.Rounding.{floor_le, lt_floor}
-use Rattle.rational.specs.Rational.{Rational, InBox, IsWithin}
-use Rattle.trig_box.specs.Pairs.{Point, IsAnglePair, InRange, canonical_base, doubled, cos18, sin19}
-use Rattle.trig_box.specs.Chain.{chain, IsSized, argument, code_base, code_pair, rounded}
+use Rattle.rational.specs.Rational.{Rational, InBox, AreWithin}
+use Rattle.trig_box.specs.AnglePairs.{InRange}
+use Rattle.trig_box.specs.Chain.{Point, cos18, sin19, chain, IsSized, argument, code_base, code_pair, rounded}
+use Rattle.trig_box.proofs.Points.{IsPointPair, canonical_base, doubled_point}
 use Rattle.trig_box.proofs.Base.{le_pos, lt_pos, canonical_near}
 use Rattle.trig_box.proofs.Norm.{den_positive, base_norm}
-use Rattle.trig_box.proofs.OfPairs.{as_small, canonical_exists, canonical_is_pair, canonical_is_base, sharp_law}
+use Rattle.trig_box.proofs.PointLaws.{as_small, canonical_exists, canonical_is_pair, canonical_is_base, sharp_law}
 use Rattle.trig_box.proofs.Rounding.{IsRounded, IsArgument, base_rounds, rounds, loss, loss_is}
 
 pub star_high : (n m d x c e : ℤ) → ((pos 4611686018427387904 *ℤ x) -ℤ (c *ℤ d)) ≤ℤ (e *ℤ d) → (n *ℤ d) ≤ℤ (x *ℤ m) → (pos 0) ≤ℤ m → (pos 0) <ℤ d → (pos 4611686018427387904 *ℤ n) ≤ℤ ((c +ℤ e) *ℤ m)
@@ -51,7 +52,7 @@ reach r = record { num = r; den = 2 ^ 56; positive = pow_pos 56 }
 pos_nn : (n : ℕ) → pos 0 ≤ℤ pos n
 pos_nn n = omega (arith, ints)
 
-near_middle : (lo hi x r : ℤ) (a : Rational) → (hi -ℤ x) ≤ℤ r → (x -ℤ lo) ≤ℤ r → InBox 56 lo hi a → IsWithin (reach r) a (middle x)
+near_middle : (lo hi x r : ℤ) (a : Rational) → (hi -ℤ x) ≤ℤ r → (x -ℤ lo) ≤ℤ r → InBox 56 lo hi a → AreWithin (reach r) a (middle x)
 near_middle lo hi x r a h l b = (mid_high a.num (pos a.den) x r lo hi b.1 h (pos_nn a.den), mid_low a.num (pos a.den) x r lo hi b.0 l (pos_nn a.den))
 
 floor_4 : (c : ℤ) → ((floor_div c 4 *ℤ pos 4) ≤ℤ c) × (c ≤ℤ ((floor_div c 4 *ℤ pos 4) +ℤ pos 4))
@@ -59,10 +60,10 @@ floor_4 c = (floor_le c 4 (lit< tt), weak c ((floor_div c 4 *ℤ pos 4) +ℤ pos
 
 -- the base point pair of the code, at the canonical base of the middle
 pub exact : ℕ → ℤ → Point
-exact k x = doubled k (canonical_base x (pos (2 ^ k * 2 ^ 56)))
+exact k x = doubled_point k (canonical_base x (pos (2 ^ k * 2 ^ 56)))
 
 pub pair_holds : (k : ℕ) (lo hi x r e w : ℤ) (p : Point) (a c s : Rational) → k ≤ 10 → InRange k (middle x) → (hi -ℤ x) ≤ℤ r → (x -ℤ lo) ≤ℤ r → ((e +ℤ pos 4) +ℤ (pos 128 *ℤ r)) ≤ℤ (pos 4 *ℤ w) →
-    IsRounded e (exact k x) p → InBox 56 lo hi a → IsAnglePair k a c s →
+    IsRounded e (exact k x) p → InBox 56 lo hi a → IsPointPair k a c s →
     InBox 60 (floor_div p.cos 4 -ℤ w) ((floor_div p.cos 4 +ℤ pos 1) +ℤ w) c × InBox 60 (floor_div p.sin 4 -ℤ w) ((floor_div p.sin 4 +ℤ pos 1) +ℤ w) s
 unfolding exact
 pair_holds k lo hi x r e w p a c s h m hr lr we q b t =
@@ -72,7 +73,7 @@ pair_holds k lo hi x r e w p a c s h m hr lr we q b t =
     let at = star.2.is_at in
     let n = near_middle lo hi x r a hr lr b in
     let law = sharp_law k (reach r) a (middle x) c s c' s' h t (canonical_is_pair k (middle x) c' s' star.2) n in
-    let z : Point = doubled k (canonical_base x (pos (2 ^ k * 2 ^ 56))) in
+    let z : Point = doubled_point k (canonical_base x (pos (2 ^ k * 2 ^ 56))) in
     let z0 = den_positive k (canonical_base x (pos (2 ^ k * 2 ^ 56))) (canonical_near x (pos (2 ^ k * 2 ^ 56)) (as_small k (middle x) m)).positive in
     let f = floor_4 p.cos in
     let g = floor_4 p.sin in
@@ -135,7 +136,7 @@ sine_in n h = (floor_le (n *ℤ pos h) (2 ^ 63) (lit< tt), weak (n *ℤ pos h) (
 
 -- the code's point pair is near the canonical one: 5 doublings, begun at 4x
 pub code_5 : (i : ℕ) (x : ℤ) → i ≤ 7 → InRange 5 (middle x) → unsigned_abs (x *ℤ pos 4) ≤ 2 ^ 62 →
-    IsRounded (pos (loss i)) (doubled i (canonical_base x (pos (2 ^ 5 * 2 ^ 56)))) (chain i (code_base (x *ℤ pos 4))) × IsSized (chain i (code_base (x *ℤ pos 4)))
+    IsRounded (pos (loss i)) (doubled_point i (canonical_base x (pos (2 ^ 5 * 2 ^ 56)))) (chain i (code_base (x *ℤ pos 4))) × IsSized (chain i (code_base (x *ℤ pos 4)))
 unfolding code_base
 code_5 i x h m l =
     let n : ℤ = x *ℤ pos 4 in
@@ -149,7 +150,7 @@ code_5 i x h m l =
 
 -- 7 doublings, begun at x
 pub code_7 : (i : ℕ) (x : ℤ) → i ≤ 7 → InRange 7 (middle x) → unsigned_abs x ≤ 2 ^ 62 →
-    IsRounded (pos (loss i)) (doubled i (canonical_base x (pos (2 ^ 7 * 2 ^ 56)))) (chain i (code_base x)) × IsSized (chain i (code_base x))
+    IsRounded (pos (loss i)) (doubled_point i (canonical_base x (pos (2 ^ 7 * 2 ^ 56)))) (chain i (code_base x)) × IsSized (chain i (code_base x))
 unfolding code_base
 code_7 i x h m l =
     let q : ℤ = pos (2 ^ 7 * 2 ^ 56) in
@@ -199,7 +200,7 @@ code_is_7 m h =
     let e : m ≡ m *ℤ pos 1 = sym (mul_one_ℤ m) in
     record {
       in_range = r;
-      near = subst (λ (z : ℤ). IsRounded (pos (loss 7)) (doubled 7 (canonical_base m (pos (2 ^ 7 * 2 ^ 56)))) (chain 7 (code_base z))) e (code_7 7 m (lit≤ tt) r h).0;
+      near = subst (λ (z : ℤ). IsRounded (pos (loss 7)) (doubled_point 7 (canonical_base m (pos (2 ^ 7 * 2 ^ 56)))) (chain 7 (code_base z))) e (code_7 7 m (lit≤ tt) r h).0;
       sized = λ i k. subst (λ (z : ℤ). IsSized (chain i (code_base z))) e (code_7 i m (omega arith) r h).1;
     }
   where
@@ -236,7 +237,7 @@ at_most_10 k (inr e) = omega arith
 
 -- what a box at these ends holds
 pub IsHeld : ℕ → ℤ → ℤ → ℤ → ℤ → ℤ → ℤ → Type 0
-IsHeld k lo hi cl ch sl sh = (a c s : Rational) → InBox 56 lo hi a → IsAnglePair k a c s → InBox 60 cl ch c × InBox 60 sl sh s
+IsHeld k lo hi cl ch sl sh = (a c s : Rational) → InBox 56 lo hi a → IsPointPair k a c s → InBox 60 cl ch c × InBox 60 sl sh s
 
 pub box_holds : (k : ℕ) (lo hi x w cl ch sl sh : ℤ) → (k ≡ 5) ⊎ (k ≡ 7) → (k ≡ 5 → unsigned_abs x ≤ 2 ^ 60) → unsigned_abs x ≤ 2 ^ 62 → (x -ℤ lo) ≤ℤ (hi -ℤ x) →
     (k ≡ 5 → w ≡ pos 183 +ℤ (pos 32 *ℤ (hi -ℤ x))) → (k ≡ 7 → w ≡ pos 1641 +ℤ (pos 32 *ℤ (hi -ℤ x))) →
@@ -251,7 +252,7 @@ box_holds k lo hi x w cl ch sl sh u h5 h7 m w5 w7 e f g h a c s b p =
     self : (z : ℤ) → z ≤ℤ z
     self z = omega (arith, lins)
 
-pub held_is : (k : ℕ) (lo hi cl ch sl sh : ℤ) → IsHeld k lo hi cl ch sl sh → (a c s : Rational) → InBox 56 lo hi a → IsAnglePair k a c s → InBox 60 cl ch c × InBox 60 sl sh s
+pub held_is : (k : ℕ) (lo hi cl ch sl sh : ℤ) → IsHeld k lo hi cl ch sl sh → (a c s : Rational) → InBox 56 lo hi a → IsPointPair k a c s → InBox 60 cl ch c × InBox 60 sl sh s
 unfolding IsHeld
 held_is k lo hi cl ch sl sh h = h
 

@@ -4,7 +4,7 @@ use Rattle.std.proofs.lemmas.Int.{ints}
 use Rattle.whole_math.proofs.Ring.{ring, va, ko, ◌⊕◌, ◌⊖◌, ◌⊗◌}
 use Rattle.whole_math.proofs.Certificates.{cert, cancel, ◌≼◌, hy, nm, sq, ◌⊞◌, ◌⊠◌}
 
--- the norm of the double is the square of the norm
+-- the norm of the double_point is the square of the norm
 pub norm_double : (c s : ℤ) → (((c *ℤ c) -ℤ (s *ℤ s)) *ℤ ((c *ℤ c) -ℤ (s *ℤ s))) +ℤ ((pos 2 *ℤ (c *ℤ s)) *ℤ (pos 2 *ℤ (c *ℤ s))) ≡ ((c *ℤ c) +ℤ (s *ℤ s)) *ℤ ((c *ℤ c) +ℤ (s *ℤ s))
 norm_double c s = ring (c ∷ s ∷ []) ((((va 0 ⊗ va 0) ⊖ (va 1 ⊗ va 1)) ⊗ ((va 0 ⊗ va 0) ⊖ (va 1 ⊗ va 1))) ⊕ ((ko (pos 2) ⊗ (va 0 ⊗ va 1)) ⊗ (ko (pos 2) ⊗ (va 0 ⊗ va 1)))) (((va 0 ⊗ va 0) ⊕ (va 1 ⊗ va 1)) ⊗ ((va 0 ⊗ va 0) ⊕ (va 1 ⊗ va 1))) refl
 

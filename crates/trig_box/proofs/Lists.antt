@@ -2,8 +2,7 @@
 use Rattle.std.proofs.Common.{ℤ, ◌-ℤ◌, ◌*ℤ◌, ap₂, add-one, ◌≡◌, ℕ, zero, suc, ◌+◌, ◌-◌, ◌*◌, ◌/◌, ◌^◌, ◌<◌, ◌≤◌, List, [], ◌∷◌, length, get_or, drop, refl, ap, ◌∙◌, arith}
 use Rattle.std.proofs.Math.Seq.{drop-cons}
 use Rattle.whole_math.specs.Rounding.{floor_div}
-use Rattle.trig_box.specs.Pairs.{Point}
-use Rattle.trig_box.specs.Chain.{Apt, rounded, chain}
+use Rattle.trig_box.specs.Chain.{Point, Apt, rounded, chain}
 
 pub apt_at : (ds : List ℕ) (i : ℕ) → Apt ds → i < length ds → 2 ≤ get_or ds i 0
 apt_at [] i h k = absurd (omega arith)

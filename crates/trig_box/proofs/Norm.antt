@@ -7,8 +7,8 @@ use Rattle.whole_math.proofs.Certificates.{cert, cancel, mul_positive, weak, ◌
 use Rattle.std.proofs.Common.{lit≤, lit<}
 use Rattle.std.proofs.Math.Nat.{pow-suc, pow-le-pow_right}
 use Rattle.std.proofs.lemmas.Int.{by_lt_z}
-use Rattle.trig_box.specs.Pairs.{top, bottom, cos18, cos20, sin19, sin21, Between, Point, IsBase, doubled}
-use Rattle.trig_box.specs.Chain.{Apt}
+use Rattle.trig_box.specs.Chain.{cos18, cos20, sin19, sin21, Point, Apt}
+use Rattle.trig_box.proofs.Points.{top, bottom, Between, IsBase, doubled_point}
 use Rattle.trig_box.proofs.Nests.{bottom_positive, nest_range}
 use Rattle.trig_box.proofs.Base.{IsSmall, quarter, apt_cos, apt_sin, apt_cos_more, apt_sin_more, le_pos, lt_pos}
 
@@ -232,12 +232,12 @@ slack_step k h = let i : slack k + 1 ≡ 2 * 2 ^ k = slack_is k in let p : 2 ^ k
 step_is : (s : ℕ) (z : ℤ) → ((pos 2 *ℤ pos s) +ℤ pos 1) *ℤ z ≡ pos (2 * s + 1) *ℤ z
 step_is s z = refl
 
-pub norms : (k : ℕ) (x : Point) → k ≤ 10 → IsNormed (pos 1) x → IsNormed (pos (slack k)) (doubled k x)
-unfolding slack doubled
+pub norms : (k : ℕ) (x : Point) → k ≤ 10 → IsNormed (pos 1) x → IsNormed (pos (slack k)) (doubled_point k x)
+unfolding slack doubled_point
 norms zero x h b = b
 norms (suc k) x h b =
     let i = norms k x (omega arith) b in
-    let y : Point = doubled k x in
+    let y : Point = doubled_point k x in
     let m : pos (slack k) ≤ℤ pos 2048 = le_pos (slack k) 2048 (slack_step k (omega arith)) in
     let m0 : pos 0 ≤ℤ pos (slack k) = le_pos 0 (slack k) (omega arith) in
     record {
@@ -245,7 +245,7 @@ norms (suc k) x h b =
       low = normed_low y.cos y.sin y.den (pos (slack k)) i.low;
     }
 
-pub den_positive : (k : ℕ) (x : Point) → pos 0 <ℤ x.den → pos 0 <ℤ (doubled k x).den
-unfolding doubled
+pub den_positive : (k : ℕ) (x : Point) → pos 0 <ℤ x.den → pos 0 <ℤ (doubled_point k x).den
+unfolding doubled_point
 den_positive zero x h = h
-den_positive (suc k) x h = mul_positive (doubled k x).den (doubled k x).den (den_positive k x h) (den_positive k x h)
+den_positive (suc k) x h = mul_positive (doubled_point k x).den (doubled_point k x).den (den_positive k x h) (den_positive k x h)

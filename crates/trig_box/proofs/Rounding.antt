@@ -8,8 +8,8 @@ use Rattle.std.proofs.Common.{lit≤, lit<, ◌/◌, div-le_self, mul-le-mul}
 use Rattle.std.proofs.Math.Nat.{pow-suc, pow-le-pow_right}
 use Rattle.whole_math.specs.Rounding.{floor_div}
 use Rattle.whole_math.proofs.Rounding.{floor_le, lt_floor}
-use Rattle.trig_box.specs.Pairs.{Point, top, bottom, cos18, sin19, canonical_base, double, doubled}
-use Rattle.trig_box.specs.Chain.{Apt, rounded, rounded_double, chain, IsSized}
+use Rattle.trig_box.specs.Chain.{Point, cos18, sin19, Apt, rounded, rounded_double, chain, IsSized}
+use Rattle.trig_box.proofs.Points.{top, bottom, canonical_base, double_point, doubled_point}
 use Rattle.trig_box.proofs.Nests.{bottom_positive, nest_range}
 use Rattle.trig_box.proofs.Base.{IsSmall, quarter, apt_cos, apt_sin, le_pos, lt_pos}
 use Rattle.trig_box.proofs.Norm.{IsNormed, norms, slack, slack_step, den_positive}
@@ -200,7 +200,7 @@ floor_in z = (floor_le z (2 ^ 62) (lit< tt), weak z ((floor_div z (2 ^ 62) *ℤ 
 half_in : (z : ℤ) → ((floor_div z (2 ^ 61) *ℤ pos 4611686018427387904) ≤ℤ (pos 2 *ℤ z)) × ((pos 2 *ℤ z) ≤ℤ ((floor_div z (2 ^ 61) *ℤ pos 4611686018427387904) +ℤ pos 4611686018427387904))
 half_in z = (twice_low (floor_div z (2 ^ 61)) z (floor_le z (2 ^ 61) (lit< tt)), twice_high (floor_div z (2 ^ 61)) z (weak z ((floor_div z (2 ^ 61) *ℤ pos 2305843009213693952) +ℤ pos 2305843009213693952) (lt_floor z (2 ^ 61) (lit< tt))))
 
-pub rounds_step : (n : ℕ) (x p : Point) → 0 < n → n ≤ 8192 → pos 0 <ℤ x.den → IsSized p → IsRounded (pos n) x p → IsRounded (pos (3 * n + 2)) (double x) (rounded_double p)
+pub rounds_step : (n : ℕ) (x p : Point) → 0 < n → n ≤ 8192 → pos 0 <ℤ x.den → IsSized p → IsRounded (pos n) x p → IsRounded (pos (3 * n + 2)) (double_point x) (rounded_double p)
 rounds_step n x p n0 n1 d0 z r =
     let cf = floor_in ((p.cos *ℤ p.cos) -ℤ (p.sin *ℤ p.sin)) in
     let sf = half_in (p.cos *ℤ p.sin) in
@@ -215,14 +215,14 @@ rounds_step n x p n0 n1 d0 z r =
       sin_low = double_sin_low x.cos x.sin x.den p.cos p.sin (pos n) (rounded_double p).sin r.cos_high r.cos_low r.sin_high r.sin_low z.both z.first z.second z.neither sf.0 sf.1 dn e0 e2 ed;
     }
 
-pub rounds : (k : ℕ) (x p : Point) → k ≤ 7 → pos 0 <ℤ x.den → IsNormed (pos 1) x → IsRounded (pos 2) x p → IsRounded (pos (loss k)) (doubled k x) (chain k p) × IsSized (chain k p)
-unfolding loss doubled chain
+pub rounds : (k : ℕ) (x p : Point) → k ≤ 7 → pos 0 <ℤ x.den → IsNormed (pos 1) x → IsRounded (pos 2) x p → IsRounded (pos (loss k)) (doubled_point k x) (chain k p) × IsSized (chain k p)
+unfolding loss doubled_point chain
 rounds zero x p h d n r = (r, sized (pos 2) 0 x p (lit≤ tt) (le_pos 48 4611686018427387904 (lit≤ tt)) d (norms 0 x (lit≤ tt) n) r)
 rounds (suc k) x p h d n r =
     let i = rounds k x p (omega arith) d n r in
-    let q = rounds_step (loss k) (doubled k x) (chain k p) (loss_positive k) (loss_le k (omega arith)) (den_positive k x d) i.1 i.0 in
+    let q = rounds_step (loss k) (doubled_point k x) (chain k p) (loss_positive k) (loss_le k (omega arith)) (den_positive k x d) i.1 i.0 in
     let l : loss (suc k) ≤ 8192 = loss_le (suc k) h in
-    (q, sized (pos (3 * loss k + 2)) (suc k) (double (doubled k x)) (rounded_double (chain k p)) (omega arith) (le_pos (24 * (3 * loss k + 2)) 4611686018427387904 (omega arith)) (den_positive (suc k) x d) (norms (suc k) x (omega arith) n) q)
+    (q, sized (pos (3 * loss k + 2)) (suc k) (double_point (doubled_point k x)) (rounded_double (chain k p)) (omega arith) (le_pos (24 * (3 * loss k + 2)) 4611686018427387904 (omega arith)) (den_positive (suc k) x d) (norms (suc k) x (omega arith) n) q)
 
 -- the base
 pub base_rounds : (p q : ℤ) (z : ℕ) (s : ℤ) → IsSmall p q → IsArgument (p *ℤ p) (q *ℤ q) z → (s *ℤ q) ≤ℤ (p *ℤ pos (rounded sin19 z)) → (p *ℤ pos (rounded sin19 z)) ≤ℤ ((s *ℤ q) +ℤ q) →

@@ -6,11 +6,11 @@ use Rattle.whole_math.proofs.Order.{lins, mul_nn, mul_le_right}
 use Rattle.whole_math.proofs.Certificates.{cert, cancel, mul_positive, weak, square_root, ◌≼◌, hy, nm, sq, ◌⊞◌, ◌⊠◌}
 use Rattle.std.proofs.Math.Nat.{pow-le-pow_right}
 use Rattle.std.proofs.Common.{lit≤, lit<, unsigned_abs}
-use Rattle.rational.specs.Rational.{Rational, InBox, add_r, IsAtMost, two_to_minus, of_whole}
-use Rattle.trig_box.specs.Pairs.{IsAnglePair}
+use Rattle.rational.specs.Rational.{Rational, InBox, add_r, IsAtMostInSize, two_to_minus, of_whole}
+use Rattle.trig_box.proofs.Points.{IsPointPair}
 use Rattle.trig_box.proofs.Base.{le_pos, lt_pos}
 use Rattle.trig_box.proofs.Norm.{slack, slack_is}
-use Rattle.trig_box.proofs.OfPairs.{norm_law, canonical_exists, canonical_is_pair}
+use Rattle.trig_box.proofs.PointLaws.{norm_law, canonical_exists, canonical_is_pair}
 use Rattle.trig_box.proofs.Boxes.{middle, code_is, held_is}
 use Rattle.trig_box.proofs.Start.{IsMade, made_holds, made_five, made_seven, plain_is}
 
@@ -34,7 +34,7 @@ second_low n x e f o h0 h1 h2 =
 minus : (n : ℤ) → pos 0 -ℤ n ≡ neg_ℤ n
 minus n = omega (arith, lins)
 
-pub size_law : (k b : ℕ) (x c s : Rational) → k ≤ 10 → slack k * 2 ^ b ≤ 2 ^ 22 → IsAnglePair k x c s →
+pub size_law : (k b : ℕ) (x c s : Rational) → k ≤ 10 → slack k * 2 ^ b ≤ 2 ^ 22 → IsPointPair k x c s →
     ((c.num *ℤ pos (2 ^ b)) ≤ℤ ((pos (2 ^ b) +ℤ pos 1) *ℤ pos c.den)) × ((neg_ℤ c.num *ℤ pos (2 ^ b)) ≤ℤ ((pos (2 ^ b) +ℤ pos 1) *ℤ pos c.den))
     × ((s.num *ℤ pos (2 ^ b)) ≤ℤ ((pos (2 ^ b) +ℤ pos 1) *ℤ pos s.den)) × ((neg_ℤ s.num *ℤ pos (2 ^ b)) ≤ℤ ((pos (2 ^ b) +ℤ pos 1) *ℤ pos s.den))
 size_law k b x c s h l p =
@@ -67,10 +67,10 @@ slack_7 b h =
     let p : 2 ^ b ≤ 2 ^ 14 = pow-le-pow_right (lit≤ tt) h in
     rw f (omega arith)
 
-pub size_5 : (x c s : Rational) → IsAnglePair 5 x c s → IsAtMost (add_r (of_whole (pos 1)) (two_to_minus 16)) c × IsAtMost (add_r (of_whole (pos 1)) (two_to_minus 16)) s
+pub size_5 : (x c s : Rational) → IsPointPair 5 x c s → IsAtMostInSize (add_r (of_whole (pos 1)) (two_to_minus 16)) c × IsAtMostInSize (add_r (of_whole (pos 1)) (two_to_minus 16)) s
 size_5 x c s h = let l = size_law 5 16 x c s (lit≤ tt) (slack_5 16 (lit≤ tt)) h in ((l.0, l.1), (l.2, l.3))
 
-pub size_7 : (x c s : Rational) → IsAnglePair 7 x c s → IsAtMost (add_r (of_whole (pos 1)) (two_to_minus 14)) c × IsAtMost (add_r (of_whole (pos 1)) (two_to_minus 14)) s
+pub size_7 : (x c s : Rational) → IsPointPair 7 x c s → IsAtMostInSize (add_r (of_whole (pos 1)) (two_to_minus 14)) c × IsAtMostInSize (add_r (of_whole (pos 1)) (two_to_minus 14)) s
 size_7 x c s h = let l = size_law 7 14 x c s (lit≤ tt) (slack_7 14 (lit≤ tt)) h in ((l.0, l.1), (l.2, l.3))
 
 pub end_high : (l h n d : ℤ) → (l *ℤ d) ≤ℤ (n *ℤ pos 1152921504606846976) → (h -ℤ l) ≤ℤ pos 4194304 → (n *ℤ pos 16384) ≤ℤ ((pos 16384 +ℤ pos 1) *ℤ d) → (pos 0) <ℤ d → h ≤ℤ pos 1297036692682702848

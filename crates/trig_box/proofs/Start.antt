@@ -4,8 +4,7 @@ use Rattle.std.proofs.lemmas.Int.{ints, to_z-of_z, to_z_pos}
 use Rattle.std.specs.Int.{w64, w128}
 use mir.Val.{SFits}
 use Rattle.whole_math.specs.Rounding.{floor_div}
-use Rattle.trig_box.specs.Pairs.{Point, cos18, sin19}
-use Rattle.trig_box.specs.Chain.{code_base, code_pair, rounded, argument}
+use Rattle.trig_box.specs.Chain.{Point, cos18, sin19, code_base, code_pair, rounded, argument}
 use Rattle.trig_box.proofs.Boxes.{base_is, box_holds, width_is, IsHeld}
 
 pub start_is : (m r s : ℤ) (k z x y : ℕ) → SFits w64 m → SFits w64 r → SFits w128 s → x ≤ 2 ^ 62 → r ≡ to_z w64 (of_z w64 m) *ℤ pos (2 ^ (7 - k)) → z ≡ argument (to_z w64 (of_z w64 r)) →

@@ -1,7 +1,26 @@
 -- What the code computes: nests and doublings in whole numbers, in units of 2^-62.
 use Rattle.std.specs.Prelude.{ℕ, zero, suc, ◌-◌, ◌*◌, ◌/◌, ◌^◌, ◌≤◌, List, [], ◌∷◌, unsigned_abs, ℤ, pos, ◌+ℤ◌, ◌-ℤ◌, ◌*ℤ◌, ◌≤ℤ◌}
 use Rattle.whole_math.specs.Rounding.{floor_div}
-use Rattle.trig_box.specs.Pairs.{Point, cos18, sin19}
+
+-- the cosine's through the degrees 18 and 20, at z = v²
+abbrev pub cos18 : List ℕ
+cos18 = 1 * 2 ∷ 3 * 4 ∷ 5 * 6 ∷ 7 * 8 ∷ 9 * 10 ∷ 11 * 12 ∷ 13 * 14 ∷ 15 * 16 ∷ 17 * 18 ∷ []
+
+abbrev pub cos20 : List ℕ
+cos20 = 1 * 2 ∷ 3 * 4 ∷ 5 * 6 ∷ 7 * 8 ∷ 9 * 10 ∷ 11 * 12 ∷ 13 * 14 ∷ 15 * 16 ∷ 17 * 18 ∷ 19 * 20 ∷ []
+
+-- the sine's through the degrees 19 and 21, less the factor v
+abbrev pub sin19 : List ℕ
+sin19 = 2 * 3 ∷ 4 * 5 ∷ 6 * 7 ∷ 8 * 9 ∷ 10 * 11 ∷ 12 * 13 ∷ 14 * 15 ∷ 16 * 17 ∷ 18 * 19 ∷ []
+
+abbrev pub sin21 : List ℕ
+sin21 = 2 * 3 ∷ 4 * 5 ∷ 6 * 7 ∷ 8 * 9 ∷ 10 * 11 ∷ 12 * 13 ∷ 14 * 15 ∷ 16 * 17 ∷ 18 * 19 ∷ 20 * 21 ∷ []
+
+-- (cos / den, sin / den)
+pub record Point : Type 0 where
+  pub cos : ℤ
+  pub sin : ℤ
+  pub den : ℤ
 
 -- 1 - z/d (1 - z/d' (1 - ..)), rounded
 unfoldable pub rounded : List ℕ → ℕ → ℕ

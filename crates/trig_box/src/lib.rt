@@ -4,7 +4,7 @@
 ghost use Rattle.std.specs.Prelude.{◌≡◌, ℕ, ◌+◌, ◌-◌, ◌*◌, ◌/◌, ◌^◌, ◌<◌, ◌≤◌, pos, ◌+ℤ◌, ◌-ℤ◌, ◌*ℤ◌, neg_ℤ, ℤ, ◌≤ℤ◌, ◌⊎◌, unsigned_abs};
 ghost use Rattle.whole_math.specs.Rounding.{floor_div};
 ghost use Rattle.rational.specs.Rational.{Rational, InBox};
-ghost use Rattle.trig_box.specs.Pairs.{IsAnglePair};
+ghost use Rattle.trig_box.specs.AnglePairs.{IsAnglePair};
 ghost use Rattle.trig_box.specs.Chain.{Apt, rounded, argument, chain, IsSized, code_pair};
 
 pub mod laws;

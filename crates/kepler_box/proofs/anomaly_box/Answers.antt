@@ -2,7 +2,7 @@ use Rattle.std.proofs.Common.{ℤ, pos, ◌+ℤ◌, ◌-ℤ◌, ◌≤ℤ◌, su
 use Rattle.std.proofs.lemmas.Int.{to_z-of_z}
 use Rattle.std.specs.Int.{w64}
 use Rattle.rational.specs.Rational.{Rational, InBox}
-use Rattle.trig_box.specs.Pairs.{IsAnglePair}
+use Rattle.trig_box.specs.AnglePairs.{IsAnglePair}
 use Rattle.kepler_box.specs.Steps.{at_56, IsStep, Within}
 use Rattle.kepler_box.proofs.Contract.{IsFound, found_holds, found_near}
 use Rattle.kepler_box.proofs.Parts.{IsReached, residual, halves, wide_of, ends_of}

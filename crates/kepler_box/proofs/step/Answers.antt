@@ -3,7 +3,7 @@ use Rattle.std.proofs.lemmas.Int.{to_z-of_z}
 use Rattle.std.specs.Int.{w64}
 use Rattle.rational.specs.Rational.{Rational, InBox}
 use Rattle.whole_math.specs.Rounding.{floor_div}
-use Rattle.trig_box.specs.Pairs.{IsAnglePair}
+use Rattle.trig_box.specs.AnglePairs.{IsAnglePair}
 use Rattle.kepler_box.specs.Steps.{at_56}
 use Rattle.kepler_box.proofs.Parts.{step_is, halves, plain_sum, IsSineBox, wider_low, wider_high}
 use Rattle.kepler_box.proofs.step.Goals as goal

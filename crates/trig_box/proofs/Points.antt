@@ -1,7 +1,8 @@
--- Sine pairs of a rational angle.
-use Rattle.std.specs.Prelude.{◌≡◌, ℕ, zero, suc, ◌*◌, ◌^◌, ◌≤◌, List, [], ◌∷◌, ℤ, pos, ◌-ℤ◌, ◌*ℤ◌, ◌≤ℤ◌, ◌<ℤ◌, ◌⊎◌, unsigned_abs}
-use Rattle.std.proofs.Common.{pow_pos}
-use Rattle.rational.specs.Rational.{Rational, neg_r, sub_r, ◌≤ʳ◌}
+-- Pairs as points over one denominator, with their Taylor sums in nested form: what the proofs compute with.
+use Rattle.std.specs.Prelude.{◌≡◌, ℕ, zero, suc, ◌*◌, ◌^◌, List, [], ◌∷◌, ℤ, pos, ◌-ℤ◌, ◌*ℤ◌, ◌≤ℤ◌, ◌<ℤ◌, ◌⊎◌}
+use Rattle.rational.specs.Rational.{Rational}
+use Rattle.trig_box.specs.AnglePairs.{InRange}
+use Rattle.trig_box.specs.Chain.{Point, cos18, cos20, sin19, sin21}
 
 -- ---- Taylor sums, in nested form: 1 - z/d (1 - z/d' (1 - ..)) for z = a/b and the divisors d, d', .. of a list, as one fraction
 unfoldable pub bottom : List ℕ → ℤ → ℤ
@@ -12,38 +13,18 @@ unfoldable pub top : List ℕ → ℤ → ℤ → ℤ
 top [] a b = pos 1
 top (d ∷ ds) a b = bottom (d ∷ ds) b -ℤ (a *ℤ top ds a b)
 
--- the cosine's through the degrees 18 and 20, at z = v²
-abbrev pub cos18 : List ℕ
-cos18 = 1 * 2 ∷ 3 * 4 ∷ 5 * 6 ∷ 7 * 8 ∷ 9 * 10 ∷ 11 * 12 ∷ 13 * 14 ∷ 15 * 16 ∷ 17 * 18 ∷ []
-
-abbrev pub cos20 : List ℕ
-cos20 = 1 * 2 ∷ 3 * 4 ∷ 5 * 6 ∷ 7 * 8 ∷ 9 * 10 ∷ 11 * 12 ∷ 13 * 14 ∷ 15 * 16 ∷ 17 * 18 ∷ 19 * 20 ∷ []
-
--- the sine's through the degrees 19 and 21, less the factor v
-abbrev pub sin19 : List ℕ
-sin19 = 2 * 3 ∷ 4 * 5 ∷ 6 * 7 ∷ 8 * 9 ∷ 10 * 11 ∷ 12 * 13 ∷ 14 * 15 ∷ 16 * 17 ∷ 18 * 19 ∷ []
-
-abbrev pub sin21 : List ℕ
-sin21 = 2 * 3 ∷ 4 * 5 ∷ 6 * 7 ∷ 8 * 9 ∷ 10 * 11 ∷ 12 * 13 ∷ 14 * 15 ∷ 16 * 17 ∷ 18 * 19 ∷ 20 * 21 ∷ []
-
 -- x/y lies between a/b and c/d
 abbrev pub Between : ℤ → ℤ → ℤ → ℤ → ℤ → ℤ → Type 0
 Between a b c d x y = (((a *ℤ y) ≤ℤ (x *ℤ b)) × ((x *ℤ d) ≤ℤ (c *ℤ y))) ⊎ (((c *ℤ y) ≤ℤ (x *ℤ d)) × ((x *ℤ b) ≤ℤ (a *ℤ y)))
 
--- ---- (cos / den, sin / den)
-pub record Point : Type 0 where
-  pub cos : ℤ
-  pub sin : ℤ
-  pub den : ℤ
-
 -- (C² - S², 2CS)
-abbrev pub double : Point → Point
-double p = record { cos = (p.cos *ℤ p.cos) -ℤ (p.sin *ℤ p.sin); sin = pos 2 *ℤ (p.cos *ℤ p.sin); den = p.den *ℤ p.den }
+abbrev pub double_point : Point → Point
+double_point p = record { cos = (p.cos *ℤ p.cos) -ℤ (p.sin *ℤ p.sin); sin = pos 2 *ℤ (p.cos *ℤ p.sin); den = p.den *ℤ p.den }
 
 -- k doublings
-unfoldable pub doubled : ℕ → Point → Point
-doubled zero p = p
-doubled (suc k) p = double (doubled k p)
+unfoldable pub doubled_point : ℕ → Point → Point
+doubled_point zero p = p
+doubled_point (suc k) p = double_point (doubled_point k p)
 
 -- the base point lies between the Taylor sums at p / q
 pub record IsBase (p q : ℤ) (base : Point) : Type 0 where
@@ -56,16 +37,12 @@ pub record IsAt (p : Point) (c s : Rational) : Type 0 where
   pub cos_is : c.num *ℤ p.den ≡ p.cos *ℤ pos c.den
   pub sin_is : s.num *ℤ p.den ≡ p.sin *ℤ pos s.den
 
--- |x| ≤ 2^(k - 1)
-abbrev pub InRange : ℕ → Rational → Type 0
-InRange k x = 2 * unsigned_abs x.num ≤ 2 ^ k * x.den
-
 -- (c, s) is a k-pair of the angle x: k doublings of a base point at x / 2^k
-pub record IsAnglePair (k : ℕ) (x c s : Rational) : Type 0 where
+pub record IsPointPair (k : ℕ) (x c s : Rational) : Type 0 where
   pub in_range : InRange k x
   pub base : Point
   pub is_base : IsBase x.num (pos (2 ^ k * x.den)) base
-  pub is_at : IsAt (doubled k base) c s
+  pub is_at : IsAt (doubled_point k base) c s
 
 -- ---- the pair whose base has the Taylor sums through 18 and 19
 abbrev pub canonical_base : ℤ → ℤ → Point
@@ -75,6 +52,6 @@ canonical_base p q = record {
   den = bottom cos18 (q *ℤ q) *ℤ (q *ℤ bottom sin19 (q *ℤ q));
 }
 
-pub record IsCanonicalPair (k : ℕ) (x c s : Rational) : Type 0 where
+pub record IsCanonicalPoint (k : ℕ) (x c s : Rational) : Type 0 where
   pub in_range : InRange k x
-  pub is_at : IsAt (doubled k (canonical_base x.num (pos (2 ^ k * x.den)))) c s
+  pub is_at : IsAt (doubled_point k (canonical_base x.num (pos (2 ^ k * x.den)))) c s

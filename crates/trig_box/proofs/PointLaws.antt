@@ -1,4 +1,4 @@
--- The laws of pairs, over rationals.
+-- The laws of pairs that are points over one denominator.
 use Rattle.std.proofs.Common.{◌≡◌, ℕ, ◌+◌, ◌*◌, ◌^◌, ◌≤◌, ◌<◌, [], ◌∷◌, ℤ, pos, ◌+ℤ◌, ◌-ℤ◌, ◌*ℤ◌, ◌≤ℤ◌, ◌<ℤ◌, inl, inr, arith, sym, ap, ap₂, subst, ◌∙◌, refl}
 use Rattle.std.proofs.lemmas.Int.{ints}
 use Rattle.whole_math.proofs.Ring.{ring, va, ko, ◌⊕◌, ◌⊖◌, ◌⊗◌}
@@ -7,9 +7,11 @@ use Rattle.whole_math.proofs.Certificates.{cert, cancel, mul_positive, weak, ◌
 use Rattle.std.proofs.Common.{lit≤, lit<, pow_pos, unsigned_abs}
 use Rattle.std.proofs.Math.Nat.{pow-le-pow_right, mul-pos}
 use Rattle.std.proofs.lemmas.Int.{by_lt_z}
-use Rattle.rational.specs.Rational.{Rational, add_r, sub_r, mul_r, ◌≤ʳ◌, IsWithin, times, two_to_minus, of_whole}
+use Rattle.rational.specs.Rational.{Rational, add_r, sub_r, mul_r, ◌≤ʳ◌, AreWithin, times, two_to_minus, of_whole}
 use Rattle.rational.proofs.Laws.{≤ʳ_trans}
-use Rattle.trig_box.specs.Pairs.{Point, IsBase, IsAnglePair, IsCanonicalPair, IsAt, InRange, canonical_base, doubled, top, bottom, cos18, cos20, sin19, sin21, Between}
+use Rattle.trig_box.specs.AnglePairs.{InRange}
+use Rattle.trig_box.specs.Chain.{Point, cos18, cos20, sin19, sin21}
+use Rattle.trig_box.proofs.Points.{IsBase, IsPointPair, IsCanonicalPoint, IsAt, canonical_base, doubled_point, top, bottom, Between}
 use Rattle.trig_box.proofs.Nests.{Close, bottom_positive}
 use Rattle.trig_box.proofs.Base.{IsSmall, IsNearBase, base_law, base_near, canonical_near, fine, le_pos, lt_pos, apt_cos, apt_sin}
 use Rattle.trig_box.proofs.Norm.{IsNormed, base_norm, norms, slack, slack_is, den_positive}
@@ -64,10 +66,10 @@ as_small k x h = record {
     low_of z n h = omega (arith, ints)
 
 -- what the laws need of two angles
-near_nn : (d x y : Rational) → IsWithin d x y → pos 0 ≤ℤ d.num
+near_nn : (d x y : Rational) → AreWithin d x y → pos 0 ≤ℤ d.num
 near_nn d x y h = bound_nn d.num (pos d.den) x.num (pos x.den) y.num (pos y.den) h.0 h.1 (lt_pos 0 (2 * (x.den * y.den)) (mul-pos (lit< tt) (mul-pos x.positive y.positive)))
 
-close_of : (k : ℕ) (d x y : Rational) → IsWithin d x y → Close x.num (pos (2 ^ k * x.den)) y.num (pos (2 ^ k * y.den)) d.num (pos (d.den * 2 ^ k))
+close_of : (k : ℕ) (d x y : Rational) → AreWithin d x y → Close x.num (pos (2 ^ k * x.den)) y.num (pos (2 ^ k * y.den)) d.num (pos (d.den * 2 ^ k))
 close_of k d x y h = (
   v_near x.num (pos x.den) y.num (pos y.den) d.num (pos d.den) (pos (2 ^ k)) h.0,
   v_near y.num (pos y.den) x.num (pos x.den) d.num (pos d.den) (pos (2 ^ k)) h.1,
@@ -83,17 +85,17 @@ pub record IsSeen (k : ℕ) (j i : ℤ) (x c s : Rational) (base : Point) : Type
   pub in_range : InRange k x
   pub near : IsNearBase x.num (pos (2 ^ k * x.den)) j i base
   pub normed : IsNormed (pos 1) base
-  pub is_at : IsAt (doubled k base) c s
+  pub is_at : IsAt (doubled_point k base) c s
 
-pub side : (k : ℕ) (j i : ℤ) (d x y c s e t : Rational) (p r : Point) → k ≤ 10 → pos 0 ≤ℤ j → pos 0 ≤ℤ i → IsSeen k j i x c s p → IsSeen k j i y e t r → IsWithin d x y → IsSide k j i d c e s t
+pub side : (k : ℕ) (j i : ℤ) (d x y c s e t : Rational) (p r : Point) → k ≤ 10 → pos 0 ≤ℤ j → pos 0 ≤ℤ i → IsSeen k j i x c s p → IsSeen k j i y e t r → AreWithin d x y → IsSide k j i d c e s t
 side k j i d x y c s e t p r h j0 i0 a b n =
     let u : ℤ = pos (d.den * 2 ^ k) in
     let u0 = pos_nn (d.den * 2 ^ k) in
     let v0 = near_nn d x y n in
     let l = base_law x.num (pos (2 ^ k * x.den)) y.num (pos (2 ^ k * y.den)) d.num u j i p r (as_small k x a.in_range) (as_small k y b.in_range) a.near b.near v0 u0 i0 (close_of k d x y n) in
     let q = sharp_points k d.num u j i p r h l a.normed b.normed a.near.positive b.near.positive v0 u0 j0 i0 in
-    let z : Point = doubled k p in
-    let w : Point = doubled k r in
+    let z : Point = doubled_point k p in
+    let w : Point = doubled_point k r in
     let z0 = den_positive k p a.near.positive in
     let w0 = den_positive k r b.near.positive in
     let m : ℤ = (pos 2 *ℤ pos (2 ^ k)) *ℤ ((d.num *ℤ i) +ℤ (pos 2 *ℤ (u *ℤ j))) in
@@ -105,7 +107,7 @@ side k j i d x y c s e t p r h j0 i0 a b n =
           (as_points z.sin w.sin z.den w.den (u *ℤ i) m s.num t.num (pos s.den) (pos t.den) a.is_at.sin_is b.is_at.sin_is z0 w0 (pos_nn s.den) (pos_nn t.den) q.sin_part) g0;
     }
 
-flip : (d x y : Rational) → IsWithin d x y → IsWithin d y x
+flip : (d x y : Rational) → AreWithin d x y → AreWithin d y x
 flip d x y h = (h.1, h.0)
 
 -- ---- canonical pairs: the end of an interval lies in it
@@ -149,13 +151,13 @@ canonical_is_base p q s =
       sin_between = own_turned (p *ℤ top sin19 a b) (q *ℤ bottom sin19 b) (p *ℤ top sin21 a b) (q *ℤ bottom sin21 b) (bottom cos18 b) (weak _ _ (bottom_positive cos18 b apt_cos b0));
     }
 
-pub canonical_is_pair : (k : ℕ) (x c s : Rational) → IsCanonicalPair k x c s → IsAnglePair k x c s
+pub canonical_is_pair : (k : ℕ) (x c s : Rational) → IsCanonicalPoint k x c s → IsPointPair k x c s
 canonical_is_pair k x c s h = record { in_range = h.in_range; base = canonical_base x.num (pos (2 ^ k * x.den)); is_base = canonical_is_base x.num (pos (2 ^ k * x.den)) (as_small k x h.in_range); is_at = h.is_at }
 
 -- it exists
-pub canonical_exists : (k : ℕ) (x : Rational) → InRange k x → (c : Rational) × (s : Rational) × IsCanonicalPair k x c s
+pub canonical_exists : (k : ℕ) (x : Rational) → InRange k x → (c : Rational) × (s : Rational) × IsCanonicalPoint k x c s
 canonical_exists k x h =
-    let p : Point = doubled k (canonical_base x.num (pos (2 ^ k * x.den))) in
+    let p : Point = doubled_point k (canonical_base x.num (pos (2 ^ k * x.den))) in
     let d0 = den_positive k (canonical_base x.num (pos (2 ^ k * x.den))) (canonical_near x.num (pos (2 ^ k * x.den)) (as_small k x h)).positive in
     let e : pos (unsigned_abs p.den) ≡ p.den = abs_is_it p.den d0 in
     let c : Rational = record { num = p.cos; den = unsigned_abs p.den; positive = abs_positive p.den d0 } in
@@ -169,12 +171,12 @@ canonical_exists k x h =
     abs_positive : (z : ℤ) → pos 0 <ℤ z → 0 < unsigned_abs z
     abs_positive z h = omega (arith, ints)
 
-canonical_seen : (k : ℕ) (x c s : Rational) → IsCanonicalPair k x c s → IsSeen k (pos 0) (pos 1) x c s (canonical_base x.num (pos (2 ^ k * x.den)))
+canonical_seen : (k : ℕ) (x c s : Rational) → IsCanonicalPoint k x c s → IsSeen k (pos 0) (pos 1) x c s (canonical_base x.num (pos (2 ^ k * x.den)))
 canonical_seen k x c s h =
     let m = as_small k x h.in_range in
     record { in_range = h.in_range; near = canonical_near x.num (pos (2 ^ k * x.den)) m; normed = base_norm x.num (pos (2 ^ k * x.den)) (canonical_base x.num (pos (2 ^ k * x.den))) m (canonical_is_base x.num (pos (2 ^ k * x.den)) m); is_at = h.is_at }
 
-pair_seen : (k : ℕ) (x c s : Rational) → (h : IsAnglePair k x c s) → IsSeen k (pos 1) fine x c s h.base
+pair_seen : (k : ℕ) (x c s : Rational) → (h : IsPointPair k x c s) → IsSeen k (pos 1) fine x c s h.base
 pair_seen k x c s h =
     let m = as_small k x h.in_range in
     record { in_range = h.in_range; near = base_near x.num (pos (2 ^ k * x.den)) h.base m h.is_base; normed = base_norm x.num (pos (2 ^ k * x.den)) h.base m h.is_base; is_at = h.is_at }
@@ -187,7 +189,7 @@ canonical_half k d c e s t h = (
 )
 
 -- two canonical pairs differ by at most twice as much as their angles
-pub canonical_law : (k : ℕ) (d x y c s e t : Rational) → k ≤ 10 → IsCanonicalPair k x c s → IsCanonicalPair k y e t → IsWithin d x y → IsWithin (times 2 d) c e × IsWithin (times 2 d) s t
+pub canonical_law : (k : ℕ) (d x y c s e t : Rational) → k ≤ 10 → IsCanonicalPoint k x c s → IsCanonicalPoint k y e t → AreWithin d x y → AreWithin (times 2 d) c e × AreWithin (times 2 d) s t
 canonical_law k d x y c s e t h a b n =
     let z = le_pos 0 0 (lit≤ tt) in
     let o = le_pos 0 1 (lit≤ tt) in
@@ -207,7 +209,7 @@ pair_half k d c e s t h g =
     )
 
 -- the sharp law: two pairs differ by at most twice as much as their angles, and 2^-67
-pub sharp_law : (k : ℕ) (d x y c s e t : Rational) → k ≤ 10 → IsAnglePair k x c s → IsAnglePair k y e t → IsWithin d x y → IsWithin (sharp_bound d) c e × IsWithin (sharp_bound d) s t
+pub sharp_law : (k : ℕ) (d x y c s e t : Rational) → k ≤ 10 → IsPointPair k x c s → IsPointPair k y e t → AreWithin d x y → AreWithin (sharp_bound d) c e × AreWithin (sharp_bound d) s t
 sharp_law k d x y c s e t h a b n =
     let z = le_pos 0 1 (lit≤ tt) in
     let o = le_pos 0 (2 ^ 80) (lit≤ tt) in
@@ -223,9 +225,9 @@ weaker_five n d h0 h1 =
 abbrev pub five_bound : Rational → Rational
 five_bound d = add_r (times 8 d) (two_to_minus 49)
 
-pub public_law_five : (k : ℕ) (d x y c s e t : Rational) → k ≤ 10 → IsAnglePair k x c s → IsAnglePair k y e t → IsWithin d x y → IsWithin (five_bound d) c e × IsWithin (five_bound d) s t
-public_law_five k d x y c s e t h a b n =
-    let l = sharp_law k d x y c s e t h a b n in
+pub wide_law_5 : (d x y c s e t : Rational) → IsPointPair 5 x c s → IsPointPair 5 y e t → AreWithin d x y → AreWithin (five_bound d) c e × AreWithin (five_bound d) s t
+wide_law_5 d x y c s e t a b n =
+    let l = sharp_law 5 d x y c s e t (lit≤ tt) a b n in
     let w : sharp_bound d ≤ʳ five_bound d = weaker_five d.num (pos d.den) (near_nn d x y n) (pos_nn d.den) in (
       (≤ʳ_trans (sub_r c e) (sharp_bound d) (five_bound d) l.0.0 w, ≤ʳ_trans (sub_r e c) (sharp_bound d) (five_bound d) l.0.1 w),
       (≤ʳ_trans (sub_r s t) (sharp_bound d) (five_bound d) l.1.0 w, ≤ʳ_trans (sub_r t s) (sharp_bound d) (five_bound d) l.1.1 w),
@@ -239,9 +241,9 @@ weaker_seven n d h0 h1 =
 abbrev pub seven_bound : Rational → Rational
 seven_bound d = add_r (times 16 d) (two_to_minus 46)
 
-pub public_law_seven : (k : ℕ) (d x y c s e t : Rational) → k ≤ 10 → IsAnglePair k x c s → IsAnglePair k y e t → IsWithin d x y → IsWithin (seven_bound d) c e × IsWithin (seven_bound d) s t
-public_law_seven k d x y c s e t h a b n =
-    let l = sharp_law k d x y c s e t h a b n in
+pub wide_law_7 : (d x y c s e t : Rational) → IsPointPair 7 x c s → IsPointPair 7 y e t → AreWithin d x y → AreWithin (seven_bound d) c e × AreWithin (seven_bound d) s t
+wide_law_7 d x y c s e t a b n =
+    let l = sharp_law 7 d x y c s e t (lit≤ tt) a b n in
     let w : sharp_bound d ≤ʳ seven_bound d = weaker_seven d.num (pos d.den) (near_nn d x y n) (pos_nn d.den) in (
       (≤ʳ_trans (sub_r c e) (sharp_bound d) (seven_bound d) l.0.0 w, ≤ʳ_trans (sub_r e c) (sharp_bound d) (seven_bound d) l.0.1 w),
       (≤ʳ_trans (sub_r s t) (sharp_bound d) (seven_bound d) l.1.0 w, ≤ʳ_trans (sub_r t s) (sharp_bound d) (seven_bound d) l.1.1 w),
@@ -276,10 +278,10 @@ norm_low n x e f z o c s h g z0 k =
     cancel (z *ℤ z) (((pos 1 *ℤ ((e *ℤ e) *ℤ (f *ℤ f))) -ℤ ((((n *ℤ n) *ℤ (f *ℤ f)) +ℤ ((x *ℤ x) *ℤ (e *ℤ e))) *ℤ pos 1)) *ℤ o) (pos 1 *ℤ (pos 1 *ℤ ((e *ℤ e) *ℤ (f *ℤ f)))) (mul_positive z z z0 z0) (subst (λ (q : ℤ). q ≤ℤ ((z *ℤ z) *ℤ (pos 1 *ℤ (pos 1 *ℤ ((e *ℤ e) *ℤ (f *ℤ f)))))) (sym l) (norm_low_product n x e f z o c s k))
 
 -- the square of a pair's length is within 2^-b of 1
-pub norm_law : (k b : ℕ) (x c s : Rational) → k ≤ 10 → slack k * 2 ^ b ≤ 2 ^ 22 → IsAnglePair k x c s → IsWithin (two_to_minus b) (add_r (mul_r c c) (mul_r s s)) (of_whole (pos 1))
+pub norm_law : (k b : ℕ) (x c s : Rational) → k ≤ 10 → slack k * 2 ^ b ≤ 2 ^ 22 → IsPointPair k x c s → AreWithin (two_to_minus b) (add_r (mul_r c c) (mul_r s s)) (of_whole (pos 1))
 norm_law k b x c s h l p =
     let m = as_small k x p.in_range in
-    let y : Point = doubled k p.base in
+    let y : Point = doubled_point k p.base in
     let n = norms k p.base h (base_norm x.num (pos (2 ^ k * x.den)) p.base m p.is_base) in
     let z0 = den_positive k p.base p.is_base.positive in
     let o : ℤ = pos (2 ^ b) in
@@ -295,8 +297,8 @@ slack_5 = let e : slack 5 + 1 ≡ 2 * 2 ^ 5 = slack_is 5 in let f : slack 5 ≡ 
 slack_7 : slack 7 * 2 ^ 14 ≤ 2 ^ 22
 slack_7 = let e : slack 7 + 1 ≡ 2 * 2 ^ 7 = slack_is 7 in let f : slack 7 ≡ 255 = omega arith in rw f (lit≤ tt)
 
-pub norm_law_5 : (x c s : Rational) → IsAnglePair 5 x c s → IsWithin (two_to_minus 16) (add_r (mul_r c c) (mul_r s s)) (of_whole (pos 1))
+pub norm_law_5 : (x c s : Rational) → IsPointPair 5 x c s → AreWithin (two_to_minus 16) (add_r (mul_r c c) (mul_r s s)) (of_whole (pos 1))
 norm_law_5 x c s h = norm_law 5 16 x c s (lit≤ tt) slack_5 h
 
-pub norm_law_7 : (x c s : Rational) → IsAnglePair 7 x c s → IsWithin (two_to_minus 14) (add_r (mul_r c c) (mul_r s s)) (of_whole (pos 1))
+pub norm_law_7 : (x c s : Rational) → IsPointPair 7 x c s → AreWithin (two_to_minus 14) (add_r (mul_r c c) (mul_r s s)) (of_whole (pos 1))
 norm_law_7 x c s h = norm_law 7 14 x c s (lit≤ tt) slack_7 h
