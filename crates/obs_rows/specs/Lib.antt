@@ -3,3 +3,9 @@ pub mod Ranges
 pub mod Tables
 pub mod Arcs
 pub mod Pairs
+pub mod Signals
+pub mod Integers
+pub mod Data
+pub mod SumOfSquares
+pub mod Best
+pub mod SignalGroups

@@ -35,9 +35,8 @@ pub const ROW_EXPONENT: u32 = 18;
 /// A row's directions are in the unit 2^-24.
 pub const DIRECTION_EXPONENT: u32 = 24;
 
-/// A baseline is in the unit 64 · 2^scale κ, so that a direction times it is in a row's unit. A move is in 2^-16 of
-/// that unit, which at scale 0 is 2^-10 κ.
-pub const MOVE_EXPONENT: u32 = 16;
+/// A move of a baseline is in the unit 2^-10 κ.
+pub const MOVE_EXPONENT: u32 = 10;
 
 /// The columns of the baseline.
 pub const BASELINE_COLUMNS: usize = 3;

@@ -1,0 +1,76 @@
+-- The places of the integers, and what the coefficients there give.
+use Rattle.std.proofs.Common.{◌≡◌, ℕ, zero, suc, ◌+◌, ◌*◌, ◌<◌, ◌≤◌, Bool, true, false, cond, Option, Some, None, List, [], ◌∷◌, length, take, set, count_by, ℤ, pos, ◌+ℤ◌, ◌*ℤ◌, neg_ℤ, arith, sym, ◌∙◌, ap, refl, length-set, get_or}
+use Rattle.std.specs.Prelude.{slice_get, position, ◌==◌}
+use Rattle.std.specs.Option.{option_map}
+use Rattle.std.proofs.lemmas.Option.{slice_get_within, get_or_from_slice_get, none-some, same_Some}
+use Rattle.std.proofs.lemmas.List.Quantifiers.{position-Some}
+use Rattle.std.proofs.lemmas.List.Sums.{count_by_more_yes, sum_by-take-le}
+use Rattle.std.proofs.lemmas.Bool.{false≢true}
+use Rattle.std.proofs.Math.Nat.{mul-le-mul_left}
+use Rattle.whole_math.specs.Vectors.{len, dot, zeros}
+use Rattle.whole_math.proofs.Vectors.{len_is, dot_zeros}
+use Rattle.whole_math.proofs.Ring.{◌⊕◌, ◌⊗◌}
+use Rattle.whole_math.proofs.Inequalities.{same_by, nat}
+use Rattle.obs_rows.specs.declared.arcs.Arc.{Arc}
+use Rattle.obs_rows.specs.Arcs.{is_free, free_count, free_before}
+use Rattle.obs_rows.specs.Signals.{phases}
+use Rattle.obs_rows.specs.Integers.{integer_count, integer_place, is_some_free, entry_at}
+use Rattle.obs_rows.specs.SignalGroups.{only_at}
+
+-- ---- the places
+pub free_before_below : (arcs : List Arc) (k : ℕ) (a : Arc) → slice_get arcs k ≡ Some a → is_free a ≡ true → free_before arcs k + 1 ≤ free_count arcs
+free_before_below arcs k a e f =
+    let inside : k < length arcs = slice_get_within arcs k a e in
+    let here : is_free (get_or arcs k a) ≡ true = ap is_free (get_or_from_slice_get arcs k a a e) ∙ f in
+    let more : count_by is_free (take (k + 1) arcs) ≡ count_by is_free (take k arcs) + 1 = count_by_more_yes is_free arcs k a inside here in
+    let below : count_by is_free (take (k + 1) arcs) ≤ count_by is_free arcs = sum_by-take-le (λ (x : Arc). cond (is_free x) 1 0) arcs (k + 1) in
+    omega arith
+
+from_cond : (b : Bool) (q : Option ℕ) (i : ℕ) → cond b q None ≡ Some i → (b ≡ true) × (q ≡ Some i)
+from_cond true q i e = (refl, e)
+from_cond false q i e = absurd (none-some i e)
+
+from_map : (f : ℕ → ℕ) (p : Option ℕ) (i : ℕ) → option_map f p ≡ Some i → (j : ℕ) × (p ≡ Some j) × (f j ≡ i)
+from_map f (Some j) i e = (j, refl, same_Some (f j) i e)
+from_map f None i e = absurd (none-some i e)
+
+some_free : (o : Option Arc) → is_some_free o ≡ true → (a : Arc) × (o ≡ Some a) × (is_free a ≡ true)
+some_free (Some a) e = (a, refl, e)
+some_free None e = absurd (false≢true e)
+
+-- each place is one of the vector's
+pub place_below : (arcs : List Arc) (scale k s i : ℕ) → integer_place arcs scale k s ≡ Some i → i < integer_count arcs scale
+place_below arcs scale k s i e =
+    let q = from_cond (is_some_free (slice_get arcs k)) (option_map (λ (j : ℕ). (length (phases scale) * free_before arcs k) + j) (position (λ (t : ℕ). t == s) (phases scale))) i e in
+    let a = some_free (slice_get arcs k) q.0 in
+    let j = from_map (λ (j : ℕ). (length (phases scale) * free_before arcs k) + j) (position (λ (t : ℕ). t == s) (phases scale)) i q.1 in
+    let inside : j.0 < length (phases scale) = (position-Some (λ (t : ℕ). t == s) (phases scale) j.0 0 j.1).0 in
+    let free : free_before arcs k + 1 ≤ free_count arcs = free_before_below arcs k a.0 a.1 a.2 in
+    let all : (length (phases scale) * (free_before arcs k + 1)) ≤ (length (phases scale) * free_count arcs) = mul-le-mul_left (length (phases scale)) free in
+    below (length (phases scale)) (free_before arcs k) (free_count arcs) j.0 i inside all j.2
+  where
+    below : (m f n j i : ℕ) → j < m → (m * (f + 1)) ≤ (m * n) → (m * f) + j ≡ i → i < m * n
+    below m f n j i h g e = omega arith
+
+-- ---- coefficients that are 0 but at one place
+pub length_zeros : (n : ℕ) → length (zeros n) ≡ n
+length_zeros zero = refl
+length_zeros (suc n) = ap suc (length_zeros n)
+
+pub len_only_at : (n : ℕ) (p : Option ℕ) (c : ℤ) → len (only_at n p c) ≡ pos n
+len_only_at n (Some i) c = len_is (set (zeros n) i c) ∙ ap pos (length-set (zeros n) i c ∙ length_zeros n)
+len_only_at n None c = len_is (zeros n) ∙ ap pos (length_zeros n)
+
+times_zero : (c : ℤ) → pos 0 ≡ c *ℤ pos 0
+times_zero c = same_by (c ∷ []) (λ c. (nat 0, c ⊗ nat 0)) refl
+
+dot_set : (n i : ℕ) (c : ℤ) (z : List ℤ) → i < n → dot (set (zeros n) i c) z ≡ c *ℤ get_or z i (pos 0)
+dot_set zero i c z h = let f : ⊥ = omega arith in absurd f
+dot_set (suc n) zero c [] h = times_zero c
+dot_set (suc n) zero c (x ∷ z) h = ap (λ (w : ℤ). (c *ℤ x) +ℤ w) (dot_zeros n z) ∙ same_by (c ∷ x ∷ []) (λ c x. (c ⊗ x ⊕ nat 0, c ⊗ x)) refl
+dot_set (suc n) (suc i) c [] h = times_zero c
+dot_set (suc n) (suc i) c (x ∷ z) h = ap (λ (w : ℤ). (pos 0 *ℤ x) +ℤ w) (dot_set n i c z (omega arith)) ∙ same_by (c ∷ get_or z i (pos 0) ∷ x ∷ []) (λ c w x. (nat 0 ⊗ x ⊕ c ⊗ w, c ⊗ w)) refl
+
+pub dot_only_at : (n : ℕ) (p : Option ℕ) (c : ℤ) (z : List ℤ) → ((i : ℕ) → p ≡ Some i → i < n) → dot (only_at n p c) z ≡ c *ℤ entry_at z p
+dot_only_at n (Some i) c z h = dot_set n i c z (h i refl)
+dot_only_at n None c z h = dot_zeros n z ∙ times_zero c
