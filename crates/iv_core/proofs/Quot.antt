@@ -14,10 +14,10 @@ use Rattle.std.specs.Int.{int_min, int_max}
 use lib.Signed.{lt_z}
 use Rattle.iv_core.proofs.Hold.{pos_nn, min_case, max_case, end_in}
 
-pos_abs : (d : ℤ) → pos 0 <ℤ d → pos (unsigned_abs d) ≡ d
+pub pos_abs : (d : ℤ) → pos 0 <ℤ d → pos (unsigned_abs d) ≡ d
 pos_abs d h = omega (arith, ints)
 
-abs_pos : (d : ℤ) → pos 0 <ℤ d → 0 < unsigned_abs d
+pub abs_pos : (d : ℤ) → pos 0 <ℤ d → 0 < unsigned_abs d
 abs_pos d h = omega (arith, ints)
 
 -- m times what lies from c to d, where m c and m d are at most a
@@ -168,7 +168,7 @@ neg_quot x y z e =
     ∙ ap neg_ℤ e
     ∙ sym (neg_mul_ℤ x.num (pos (z.den * y.den)))
 
-positive_is : (c : ℤ) → pos 0 <ℤ c → lt_z (pos 0) c ≡ true
+pub positive_is : (c : ℤ) → pos 0 <ℤ c → lt_z (pos 0) c ≡ true
 positive_is c h = go (lt_z (pos 0) c) refl
   where
     go : (t : Bool) → lt_z (pos 0) c ≡ t → lt_z (pos 0) c ≡ true

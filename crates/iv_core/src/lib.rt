@@ -1,376 +1,53 @@
-// Boxes of rationals with ends on a grid of powers of two.
+//! Boxes of rationals with ends on a grid of powers of two.
 #![tactic(auto)]
 
 ghost use Rattle.std.specs.Prelude.{◌≡◌, ℕ, ◌+◌, ◌-◌, ◌*◌, ◌^◌, ◌<◌, ◌≤◌, pos, negsuc, ◌+ℤ◌, ◌-ℤ◌, ◌*ℤ◌, neg_ℤ, ℤ, ◌≤ℤ◌, ◌<ℤ◌, IfOk, IfSome, IfErr, IsErr, IsSome, Err, ◌↔◌, ◌⊎◌, unsigned_abs};
-ghost use Rattle.std.specs.Int.{int_min, int_max};
-ghost use Rattle.iv_core.specs.Boxes.{least_corner, most_corner, near_end, far_end, low_quot, high_quot, low_ratio, high_ratio, Past};
-ghost use Rattle.whole_math.specs.Rounding.{floor_div, ceil_div};
-ghost use Rattle.rational.specs.Rational.{Rational, InBox, add_r, sub_r, mul_r, IsRatio, ◌≈◌, IsNearRoot};
 
-#[derive(Debug, Drop)]
+mod products;
+mod quotients;
+mod roots;
+mod rounding;
+
+use products::{least_product, least_square, most_product, most_square};
+use quotients::{high_end, low_end};
+use roots::{high_root, low_root, root_argument};
+use rounding::{ceil_ratio, ceil_shift, floor_ratio, floor_shift, scaled};
+use thiserror::Error;
+
+/// An end of the box would be more than 2^62 units from 0.
+#[derive(Clone, Copy, Debug, PartialEq, Eq, Error)]
+#[error("an end of the box is too far from 0")]
 pub struct Overwidth;
 
-#[derive(Debug, Drop)]
+/// Why two boxes have no quotient.
+#[derive(Clone, Copy, Debug, PartialEq, Eq, Error)]
 pub enum DivFault {
+    /// 0 lies in the divisor.
+    #[error("0 lies in the divisor")]
     ZeroInside,
+    /// An end of the quotient would be more than 2^62 units from 0.
+    #[error("an end of the quotient is too far from 0")]
     Overwidth,
 }
 
-fn product(a: i64, b: i64) -> i128
-    requires a_size { unsigned_abs a ≤ 2 ^ 62 }
-    requires b_size { unsigned_abs b ≤ 2 ^ 62 }
-    ensures value { result ≡ a *ℤ b }
-    ensures size { unsigned_abs result ≤ 2 ^ 124 }
-{
-    a as i128 * b as i128
-}
-
-// The quotient by 2^shift, rounded down.
-fn floor_shift(z: i128, shift: u32) -> i128
-    requires size { unsigned_abs z ≤ 2 ^ 126 }
-    requires shift { shift < 127 }
-    ensures value { result ≡ floor_div z (2 ^ shift) }
-    ensures size { unsigned_abs result ≤ 2 ^ 126 }
-{
-    z >> shift
-}
-
-// The quotient by 2^shift, rounded up.
-fn ceil_shift(z: i128, shift: u32) -> i128
-    requires size { unsigned_abs z ≤ 2 ^ 126 }
-    requires shift { shift < 127 }
-    ensures value { result ≡ ceil_div z (2 ^ shift) }
-    ensures size { unsigned_abs result ≤ 2 ^ 126 }
-{
-    -floor_shift(-z, shift)
-}
-
-fn least_of(a: i128, b: i128, c: i128, d: i128) -> i128
-    requires a_size { unsigned_abs a ≤ 2 ^ 124 }
-    requires b_size { unsigned_abs b ≤ 2 ^ 124 }
-    requires c_size { unsigned_abs c ≤ 2 ^ 124 }
-    requires d_size { unsigned_abs d ≤ 2 ^ 124 }
-    ensures value { result ≡ int_min (int_min a b) (int_min c d) }
-    ensures size { unsigned_abs result ≤ 2 ^ 124 }
-{
-    a.min(b).min(c.min(d))
-}
-
-fn most_of(a: i128, b: i128, c: i128, d: i128) -> i128
-    requires a_size { unsigned_abs a ≤ 2 ^ 124 }
-    requires b_size { unsigned_abs b ≤ 2 ^ 124 }
-    requires c_size { unsigned_abs c ≤ 2 ^ 124 }
-    requires d_size { unsigned_abs d ≤ 2 ^ 124 }
-    ensures value { result ≡ int_max (int_max a b) (int_max c d) }
-    ensures size { unsigned_abs result ≤ 2 ^ 124 }
-{
-    a.max(b).max(c.max(d))
-}
-
-// The least product of an end of one box and an end of the other.
-fn least_product(a: i64, b: i64, c: i64, d: i64) -> i128
-    requires a_size { unsigned_abs a ≤ 2 ^ 62 }
-    requires b_size { unsigned_abs b ≤ 2 ^ 62 }
-    requires c_size { unsigned_abs c ≤ 2 ^ 62 }
-    requires d_size { unsigned_abs d ≤ 2 ^ 62 }
-    ensures value { result ≡ least_corner a b c d }
-    ensures size { unsigned_abs result ≤ 2 ^ 126 }
-{
-    least_of(product(a, c), product(a, d), product(b, c), product(b, d))
-}
-
-// The greatest product of an end of one box and an end of the other.
-fn most_product(a: i64, b: i64, c: i64, d: i64) -> i128
-    requires a_size { unsigned_abs a ≤ 2 ^ 62 }
-    requires b_size { unsigned_abs b ≤ 2 ^ 62 }
-    requires c_size { unsigned_abs c ≤ 2 ^ 62 }
-    requires d_size { unsigned_abs d ≤ 2 ^ 62 }
-    ensures value { result ≡ most_corner a b c d }
-    ensures size { unsigned_abs result ≤ 2 ^ 126 }
-{
-    most_of(product(a, c), product(a, d), product(b, c), product(b, d))
-}
-
-// num / den, rounded down.
-fn floor_ratio(num: i128, den: i128) -> i128
-    requires size { unsigned_abs num ≤ 2 ^ 126 }
-    requires positive { pos 0 <ℤ den }
-    ensures value { result ≡ floor_div num (unsigned_abs den) }
-    ensures size { unsigned_abs result ≤ 2 ^ 126 }
-{
-    num.div_euclid(den)
-}
-
-// num / den, rounded up.
-fn ceil_ratio(num: i128, den: i128) -> i128
-    requires size { unsigned_abs num ≤ 2 ^ 126 }
-    requires positive { pos 0 <ℤ den }
-    ensures value { result ≡ ceil_div num (unsigned_abs den) }
-    ensures size { unsigned_abs result ≤ 2 ^ 126 }
-{
-    -floor_ratio(-num, den)
-}
-
-// num · 2^scale
-fn scaled(num: i128, scale: u32) -> i128
-    requires scale { scale ≤ 60 }
-    requires size { unsigned_abs num < 2 ^ (126 - scale) }
-    ensures value { result ≡ num *ℤ pos (2 ^ scale) }
-    ensures size { unsigned_abs result ≤ 2 ^ 126 }
-{
-    num * (1i128 << scale)
-}
-
-// The distance of the box from 0.
-fn nearest_end(a: i64, b: i64) -> i64
-    requires low { neg_ℤ (pos (2 ^ 62)) ≤ℤ a }
-    requires ordered { a ≤ℤ b }
-    requires high { b ≤ℤ pos (2 ^ 62) }
-    ensures value { result ≡ near_end a b }
-    ensures size { unsigned_abs result ≤ 2 ^ 62 }
-{
-    a.max(-b).max(0)
-}
-
-// The greatest distance from 0 in the box.
-fn farthest_end(a: i64, b: i64) -> i64
-    requires low { neg_ℤ (pos (2 ^ 62)) ≤ℤ a }
-    requires ordered { a ≤ℤ b }
-    requires high { b ≤ℤ pos (2 ^ 62) }
-    ensures value { result ≡ far_end a b }
-    ensures size { unsigned_abs result ≤ 2 ^ 62 }
-{
-    (-a).max(b)
-}
-
-// The square of the distance of the box from 0.
-fn least_square(a: i64, b: i64) -> i128
-    requires low { neg_ℤ (pos (2 ^ 62)) ≤ℤ a }
-    requires ordered { a ≤ℤ b }
-    requires high { b ≤ℤ pos (2 ^ 62) }
-    ensures value { result ≡ near_end a b *ℤ near_end a b }
-    ensures size { unsigned_abs result ≤ 2 ^ 126 }
-{
-    let end = nearest_end(a, b);
-    product(end, end)
-}
-
-// The greatest square in the box.
-fn most_square(a: i64, b: i64) -> i128
-    requires low { neg_ℤ (pos (2 ^ 62)) ≤ℤ a }
-    requires ordered { a ≤ℤ b }
-    requires high { b ≤ℤ pos (2 ^ 62) }
-    ensures value { result ≡ far_end a b *ℤ far_end a b }
-    ensures size { unsigned_abs result ≤ 2 ^ 126 }
-{
-    let end = farthest_end(a, b);
-    product(end, end)
-}
-
-// a · 2^shift
-fn shifted(a: i64, shift: u32) -> i128
-    requires size { unsigned_abs a ≤ 2 ^ 62 }
-    requires shift { shift ≤ 60 }
-    ensures value { result ≡ a *ℤ pos (2 ^ shift) }
-    ensures size { unsigned_abs result ≤ 2 ^ 126 }
-{
-    scaled(a as i128, shift)
-}
-
-// The lesser of a · 2^shift / c and a · 2^shift / d, rounded down.
-fn low_quotient(a: i64, c: i64, d: i64, shift: u32) -> i128
-    requires size { unsigned_abs a ≤ 2 ^ 62 }
-    requires c_positive { pos 0 <ℤ c }
-    requires d_positive { pos 0 <ℤ d }
-    requires shift { shift ≤ 60 }
-    ensures { result ≡ low_quot a c d (2 ^ shift) }
-{
-    let n = shifted(a, shift);
-    floor_ratio(n, c as i128).min(floor_ratio(n, d as i128))
-}
-
-// The greater of b · 2^shift / c and b · 2^shift / d, rounded up.
-fn high_quotient(b: i64, c: i64, d: i64, shift: u32) -> i128
-    requires size { unsigned_abs b ≤ 2 ^ 62 }
-    requires c_positive { pos 0 <ℤ c }
-    requires d_positive { pos 0 <ℤ d }
-    requires shift { shift ≤ 60 }
-    ensures { result ≡ high_quot b c d (2 ^ shift) }
-{
-    let n = shifted(b, shift);
-    ceil_ratio(n, c as i128).max(ceil_ratio(n, d as i128))
-}
-
-// The lower end of a quotient of boxes.
-fn low_end(a: i64, b: i64, c: i64, d: i64, shift: u32) -> i128
-    requires a_size { unsigned_abs a ≤ 2 ^ 62 }
-    requires b_size { unsigned_abs b ≤ 2 ^ 62 }
-    requires c_size { unsigned_abs c ≤ 2 ^ 62 }
-    requires d_size { unsigned_abs d ≤ 2 ^ 62 }
-    requires ordered { c ≤ℤ d }
-    requires apart { (pos 0 <ℤ c) ⊎ (d <ℤ pos 0) }
-    requires shift { shift ≤ 60 }
-    ensures { result ≡ low_ratio a b c d (2 ^ shift) }
-{
-    if c > 0 {
-        low_quotient(a, c, d, shift)
-    } else {
-        low_quotient(-b, -d, -c, shift)
-    }
-}
-
-// The upper end of a quotient of boxes.
-fn high_end(a: i64, b: i64, c: i64, d: i64, shift: u32) -> i128
-    requires a_size { unsigned_abs a ≤ 2 ^ 62 }
-    requires b_size { unsigned_abs b ≤ 2 ^ 62 }
-    requires c_size { unsigned_abs c ≤ 2 ^ 62 }
-    requires d_size { unsigned_abs d ≤ 2 ^ 62 }
-    requires ordered { c ≤ℤ d }
-    requires apart { (pos 0 <ℤ c) ⊎ (d <ℤ pos 0) }
-    requires shift { shift ≤ 60 }
-    ensures { result ≡ high_ratio a b c d (2 ^ shift) }
-{
-    if c > 0 {
-        high_quotient(b, c, d, shift)
-    } else {
-        high_quotient(-a, -d, -c, shift)
-    }
-}
-
-fn bit_of(i: u32) -> i128
-    requires { i < 62 }
-    ensures value { result ≡ pos (2 ^ (61 - i)) }
-    ensures high { result ≤ℤ pos (2 ^ 61) }
-    ensures low { pos 0 <ℤ result }
-{
-    1i128 << (61 - i)
-}
-
-// (root + bit)²
-fn next_square(root: i128, bit: i128) -> i128
-    requires low { pos 0 ≤ℤ root }
-    requires high { root ≤ℤ pos (2 ^ 62) }
-    requires bit_low { pos 0 <ℤ bit }
-    requires bit_high { bit ≤ℤ pos (2 ^ 61) }
-    ensures { result ≡ (root +ℤ bit) *ℤ (root +ℤ bit) }
-{
-    (root + bit) * (root + bit)
-}
-
-// One more bit of the root of n.
-fn root_step(n: i128, root: i128, bit: i128) -> i128
-    requires low { pos 0 ≤ℤ root }
-    requires size { n <ℤ pos (2 ^ 124) }
-    requires bit_low { pos 0 <ℤ bit }
-    requires bit_high { bit ≤ℤ pos (2 ^ 61) }
-    requires below { (root *ℤ root) ≤ℤ n }
-    requires above { n <ℤ ((root +ℤ (bit +ℤ bit)) *ℤ (root +ℤ (bit +ℤ bit))) }
-    ensures low { pos 0 ≤ℤ result }
-    ensures below { (result *ℤ result) ≤ℤ n }
-    ensures above { n <ℤ ((result +ℤ bit) *ℤ (result +ℤ bit)) }
-{
-    if next_square(root, bit) <= n {
-        root + bit
-    } else {
-        root
-    }
-}
-
-// The root of n, rounded down.
-fn floor_root(n: i128) -> i128
-    requires low { pos 0 ≤ℤ n }
-    requires size { n <ℤ pos (2 ^ 124) }
-    ensures low { pos 0 ≤ℤ result }
-    ensures below { (result *ℤ result) ≤ℤ n }
-    ensures above { n <ℤ ((result +ℤ pos 1) *ℤ (result +ℤ pos 1)) }
-{
-    let mut root = 0;
-    for i in 0..62 {
-        root = root_step(n, root, bit_of(i));
-    }
-    root
-}
-
-// The root of n, rounded up.
-fn ceil_root(n: i128) -> i128
-    requires low { pos 0 ≤ℤ n }
-    requires size { n <ℤ pos (2 ^ 124) }
-    ensures low { pos 0 ≤ℤ result }
-    ensures high { result ≤ℤ pos (2 ^ 62) }
-    ensures above { n ≤ℤ (result *ℤ result) }
-    ensures below { pos 0 <ℤ result → ((result -ℤ pos 1) *ℤ (result -ℤ pos 1)) <ℤ n }
-{
-    let root = floor_root(n);
-    if square(root) < n { root + 1 } else { root }
-}
-
-// What a near-root of n may be off its square, rounded up
-fn slack_of(n: i128) -> i128
-    requires low { pos 0 ≤ℤ n }
-    requires high { n ≤ℤ pos (2 ^ 122) }
-    ensures value { result ≡ ceil_div n (2 ^ 60) }
-    ensures low { pos 0 ≤ℤ result }
-    ensures high { result ≤ℤ n }
-{
-    ceil_shift(n, 60)
-}
-
-fn low_root(n: i128) -> i128
-    requires low { pos 0 ≤ℤ n }
-    requires high { n ≤ℤ pos (2 ^ 122) }
-    ensures low { pos 0 ≤ℤ result }
-    ensures square { (result *ℤ result) ≤ℤ n }
-    ensures below { ((result *ℤ result) +ℤ ceil_div n (2 ^ 60)) ≤ℤ n }
-    ensures near { n <ℤ (((result +ℤ pos 1) *ℤ (result +ℤ pos 1)) +ℤ ceil_div n (2 ^ 60)) }
-{
-    floor_root(n - slack_of(n))
-}
-
-fn high_root(n: i128) -> i128
-    requires low { pos 0 ≤ℤ n }
-    requires high { n ≤ℤ pos (2 ^ 122) }
-    ensures low { pos 0 ≤ℤ result }
-    ensures high { result ≤ℤ pos (2 ^ 62) }
-    ensures square { n ≤ℤ (result *ℤ result) }
-    ensures above { (n +ℤ ceil_div n (2 ^ 60)) ≤ℤ (result *ℤ result) }
-    ensures near { pos 0 <ℤ result → ((result -ℤ pos 1) *ℤ (result -ℤ pos 1)) <ℤ (n +ℤ ceil_div n (2 ^ 60)) }
-{
-    ceil_root(n + slack_of(n))
-}
-
-// root²
-fn square(root: i128) -> i128
-    requires low { pos 0 ≤ℤ root }
-    requires high { root ≤ℤ pos (2 ^ 62) }
-    ensures { result ≡ root *ℤ root }
-{
-    root * root
-}
-
-// a · 2^shift
-fn root_argument(a: i64, shift: u32) -> i128
-    requires low { pos 0 ≤ℤ a }
-    requires high { a ≤ℤ pos (2 ^ 62) }
-    requires shift { shift ≤ 60 }
-    ensures value { result ≡ a *ℤ pos (2 ^ shift) }
-    ensures low { pos 0 ≤ℤ result }
-    ensures high { result ≤ℤ pos (2 ^ 122) }
-{
-    shifted(a, shift)
-}
-
-/// From lo / 2^K to hi / 2^K.
+/// The rationals from `lo` / 2^K to `hi` / 2^K. Each end is at most 2^62 in size, and K at most 60.
 #[derive(Clone, Copy, Debug)]
 pub struct Iv<const K: u32> {
-    lo: i64,
-    hi: i64,
-    ghost scale: { K ≤ 60 },
-    ghost ordered: { lo ≤ℤ hi },
-    ghost low: { neg_ℤ (pos (2 ^ 62)) ≤ℤ lo },
-    ghost high: { hi ≤ℤ pos (2 ^ 62) },
+    pub lo: i64,
+    pub hi: i64,
+    pub ghost scale: { K ≤ 60 },
+    pub ghost ordered: { lo ≤ℤ hi },
+    pub ghost low: { neg_ℤ (pos (2 ^ 62)) ≤ℤ lo },
+    pub ghost high: { hi ≤ℤ pos (2 ^ 62) },
 }
 
 impl<const K: u32> Iv<K> {
+    ghost use Rattle.std.specs.Int.{int_min, int_max};
+    ghost use Rattle.whole_math.specs.Rounding.{floor_div, ceil_div};
+    ghost use Rattle.rational.specs.Rational.{Rational, InBox, add_r, sub_r, mul_r, IsRatio, ◌≈◌, IsNearRoot};
+    ghost use Rattle.iv_core.specs.Boxes.{Past};
+    ghost use Rattle.iv_core.specs.Intervals.{Holds, width_of, IsWithin, HasZero, IsClearOfZero, low_product, high_product, low_square, high_square, low_quotient, high_quotient, IsRatioWithin, under_root, IsCloseBelowRoot, IsCloseAboveRoot};
+
     pub fn lo(&self) -> i64
         ensures { result ≡ self.now.lo }
     {
@@ -383,6 +60,7 @@ impl<const K: u32> Iv<K> {
         self.hi
     }
 
+    /// The box of n / 2^K alone.
     pub fn point(n: i64) -> Result<Iv<K>, Overwidth>
         requires { K ≤ 60 }
         ensures ends { IfOk result (λ c. (c.lo ≡ n) × (c.hi ≡ n)) }
@@ -429,10 +107,15 @@ impl<const K: u32> Iv<K> {
         requires scale { K ≤ 60 }
         requires positive { pos 0 <ℤ den }
         requires size { unsigned_abs num < 2 ^ (126 - K) }
-        ensures ends { IfOk result (λ c. (c.lo ≡ floor_div (num *ℤ pos (2 ^ K)) (unsigned_abs den)) × (c.hi ≡ ceil_div (num *ℤ pos (2 ^ K)) (unsigned_abs den))) }
-        ensures refused { IsErr result ↔ Past (floor_div (num *ℤ pos (2 ^ K)) (unsigned_abs den)) (ceil_div (num *ℤ pos (2 ^ K)) (unsigned_abs den)) }
-        ensures holds { IfOk result (λ c. (x : Rational) → IsRatio x num den → InBox K c.lo c.hi x) }
-        ensures least { IfOk result (λ c. (l h : ℤ) → ((x : Rational) → IsRatio x num den → InBox K l h x) → (l ≤ℤ c.lo) × (c.hi ≤ℤ h)) }
+        ensures ends { IfOk result (λ c.
+            (c.lo ≡ floor_div (num *ℤ pos (2 ^ K)) (unsigned_abs den)) ×
+            (c.hi ≡ ceil_div (num *ℤ pos (2 ^ K)) (unsigned_abs den))) }
+        ensures refused { IsErr result ↔
+            Past (floor_div (num *ℤ pos (2 ^ K)) (unsigned_abs den)) (ceil_div (num *ℤ pos (2 ^ K)) (unsigned_abs den)) }
+        ensures holds { IfOk result (λ c. (x : Rational) → IsRatio x num den → Holds c x) }
+        ensures least { IfOk result (λ c. (l h : ℤ) →
+            ((x : Rational) → IsRatio x num den → InBox K l h x) → (l ≤ℤ c.lo) × (c.hi ≤ℤ h)) }
+        ensures width { IfOk result (λ c. width_of c ≤ℤ pos 1) }
     {
         let n = scaled(num, K);
         let lo = floor_ratio(n, den);
@@ -440,20 +123,30 @@ impl<const K: u32> Iv<K> {
         Iv::enclose(lo, hi)
     }
 
+    /// The box of all sums.
     pub fn add(&self, other: &Iv<K>) -> Result<Iv<K>, Overwidth>
-        ensures ends { IfOk result (λ c. (c.lo ≡ self.now.lo +ℤ other.now.lo) × (c.hi ≡ self.now.hi +ℤ other.now.hi)) }
-        ensures refused { IsErr result ↔ Past (self.now.lo +ℤ other.now.lo) (self.now.hi +ℤ other.now.hi) }
-        ensures holds { IfOk result (λ c. (x y : Rational) → InBox K self.now.lo self.now.hi x → InBox K other.now.lo other.now.hi y → InBox K c.lo c.hi (add_r x y)) }
+        ensures ends { IfOk result (λ c.
+            (c.lo ≡ self.now.lo +ℤ other.now.lo) × (c.hi ≡ self.now.hi +ℤ other.now.hi)) }
+        ensures refused { IsErr result ↔
+            Past (self.now.lo +ℤ other.now.lo) (self.now.hi +ℤ other.now.hi) }
+        ensures holds { IfOk result (λ c. (x y : Rational) →
+            Holds self.now x → Holds other.now y → Holds c (add_r x y)) }
+        ensures width { IfOk result (λ c. width_of c ≡ width_of self.now +ℤ width_of other.now) }
     {
         let lo = self.lo as i128 + other.lo as i128;
         let hi = self.hi as i128 + other.hi as i128;
         Iv::enclose(lo, hi)
     }
 
+    /// The box of all differences.
     pub fn sub(&self, other: &Iv<K>) -> Result<Iv<K>, Overwidth>
-        ensures ends { IfOk result (λ c. (c.lo ≡ self.now.lo -ℤ other.now.hi) × (c.hi ≡ self.now.hi -ℤ other.now.lo)) }
-        ensures refused { IsErr result ↔ Past (self.now.lo -ℤ other.now.hi) (self.now.hi -ℤ other.now.lo) }
-        ensures holds { IfOk result (λ c. (x y : Rational) → InBox K self.now.lo self.now.hi x → InBox K other.now.lo other.now.hi y → InBox K c.lo c.hi (sub_r x y)) }
+        ensures ends { IfOk result (λ c.
+            (c.lo ≡ self.now.lo -ℤ other.now.hi) × (c.hi ≡ self.now.hi -ℤ other.now.lo)) }
+        ensures refused { IsErr result ↔
+            Past (self.now.lo -ℤ other.now.hi) (self.now.hi -ℤ other.now.lo) }
+        ensures holds { IfOk result (λ c. (x y : Rational) →
+            Holds self.now x → Holds other.now y → Holds c (sub_r x y)) }
+        ensures width { IfOk result (λ c. width_of c ≡ width_of self.now +ℤ width_of other.now) }
     {
         let lo = self.lo as i128 - other.hi as i128;
         let hi = self.hi as i128 - other.lo as i128;
@@ -464,8 +157,11 @@ impl<const K: u32> Iv<K> {
     pub fn join(&self, other: &Iv<K>) -> Iv<K>
         ensures lo { result.lo ≡ int_min self.now.lo other.now.lo }
         ensures hi { result.hi ≡ int_max self.now.hi other.now.hi }
-        ensures holds { (x : Rational) → InBox K self.now.lo self.now.hi x ⊎ InBox K other.now.lo other.now.hi x → InBox K result.lo result.hi x }
-        ensures least { (l h : ℤ) → ((x : Rational) → InBox K self.now.lo self.now.hi x ⊎ InBox K other.now.lo other.now.hi x → InBox K l h x) → (l ≤ℤ result.lo) × (result.hi ≤ℤ h) }
+        ensures holds { (x : Rational) →
+            Holds self.now x ⊎ Holds other.now x → Holds result x }
+        ensures least { (l h : ℤ) →
+            ((x : Rational) → Holds self.now x ⊎ Holds other.now x → InBox K l h x) →
+            (l ≤ℤ result.lo) × (result.hi ≤ℤ h) }
     {
         Iv {
             lo: self.lo.min(other.lo),
@@ -475,28 +171,64 @@ impl<const K: u32> Iv<K> {
 
     /// What both boxes hold, if they share a value.
     pub fn meet(&self, other: &Iv<K>) -> Option<Iv<K>>
-        ensures ends { IfSome result (λ c. (c.lo ≡ int_max self.now.lo other.now.lo) × (c.hi ≡ int_min self.now.hi other.now.hi)) }
-        ensures shared { IsSome result ↔ ((x : Rational) × InBox K self.now.lo self.now.hi x × InBox K other.now.lo other.now.hi x) }
-        ensures holds { IfSome result (λ c. (x : Rational) → (InBox K self.now.lo self.now.hi x × InBox K other.now.lo other.now.hi x) ↔ InBox K c.lo c.hi x) }
+        ensures ends { IfSome result (λ c.
+            (c.lo ≡ int_max self.now.lo other.now.lo) × (c.hi ≡ int_min self.now.hi other.now.hi)) }
+        ensures shared { IsSome result ↔ ((x : Rational) × Holds self.now x × Holds other.now x) }
+        ensures holds { IfSome result (λ c. (x : Rational) →
+            (Holds self.now x × Holds other.now x) ↔ Holds c x) }
     {
         let lo = self.lo.max(other.lo);
         let hi = self.hi.min(other.hi);
         if lo <= hi { Some(Iv { lo, hi }) } else { None }
     }
 
+    /// In units of 2^-K.
     pub fn width(&self) -> u64
-        ensures { pos result ≡ self.now.hi -ℤ self.now.lo }
+        ensures { pos result ≡ width_of self.now }
     {
         (self.hi as i128 - self.lo as i128) as u64
     }
 
+    /// The least box of all products.
+    pub fn mul_to<const A: u32, const B: u32>(&self, other: &Iv<A>) -> Result<Iv<B>, Overwidth>
+        requires scale { B ≤ 60 }
+        requires coarser { B ≤ K + A }
+        ensures ends { IfOk result (λ c.
+            (c.lo ≡ low_product B self.now other.now) × (c.hi ≡ high_product B self.now other.now)) }
+        ensures refused { IsErr result ↔
+            Past (low_product B self.now other.now) (high_product B self.now other.now) }
+        ensures holds { IfOk result (λ c. (x y : Rational) →
+            Holds self.now x → Holds other.now y → Holds c (mul_r x y)) }
+        ensures least { IfOk result (λ c. (l h : ℤ) →
+            ((x y : Rational) → Holds self.now x → Holds other.now y → InBox B l h (mul_r x y)) →
+            (l ≤ℤ c.lo) × (c.hi ≤ℤ h)) }
+        ensures width { IfOk result (λ c. (m n : ℕ) → IsWithin m self.now → IsWithin n other.now →
+            (pos (2 ^ (K + A - B)) *ℤ width_of c) <ℤ
+            (((pos m *ℤ width_of other.now) +ℤ (pos n *ℤ width_of self.now)) +ℤ (pos 2 *ℤ pos (2 ^ (K + A - B))))) }
+    {
+        let shift = K + A - B;
+        let least = least_product(self.lo, self.hi, other.lo, other.hi);
+        let most = most_product(self.lo, self.hi, other.lo, other.hi);
+        let lo = floor_shift(least, shift);
+        let hi = ceil_shift(most, shift);
+        Iv::enclose(lo, hi)
+    }
+
+    /// The least box of all squares.
     pub fn square_to<const B: u32>(&self) -> Result<Iv<B>, Overwidth>
         requires scale { B ≤ 60 }
         requires coarser { B ≤ K + K }
-        ensures ends { IfOk result (λ c. (c.lo ≡ floor_div (near_end self.now.lo self.now.hi *ℤ near_end self.now.lo self.now.hi) (2 ^ (K + K - B))) × (c.hi ≡ ceil_div (far_end self.now.lo self.now.hi *ℤ far_end self.now.lo self.now.hi) (2 ^ (K + K - B)))) }
-        ensures refused { IsErr result ↔ Past (floor_div (near_end self.now.lo self.now.hi *ℤ near_end self.now.lo self.now.hi) (2 ^ (K + K - B))) (ceil_div (far_end self.now.lo self.now.hi *ℤ far_end self.now.lo self.now.hi) (2 ^ (K + K - B))) }
-        ensures holds { IfOk result (λ c. (x : Rational) → InBox K self.now.lo self.now.hi x → InBox B c.lo c.hi (mul_r x x)) }
-        ensures least { IfOk result (λ c. (l h : ℤ) → ((x : Rational) → InBox K self.now.lo self.now.hi x → InBox B l h (mul_r x x)) → (l ≤ℤ c.lo) × (c.hi ≤ℤ h)) }
+        ensures ends { IfOk result (λ c.
+            (c.lo ≡ low_square B self.now) × (c.hi ≡ high_square B self.now)) }
+        ensures refused { IsErr result ↔ Past (low_square B self.now) (high_square B self.now) }
+        ensures holds { IfOk result (λ c. (x : Rational) →
+            Holds self.now x → Holds c (mul_r x x)) }
+        ensures least { IfOk result (λ c. (l h : ℤ) →
+            ((x : Rational) → Holds self.now x → InBox B l h (mul_r x x)) →
+            (l ≤ℤ c.lo) × (c.hi ≤ℤ h)) }
+        ensures width { IfOk result (λ c. (m : ℕ) → IsWithin m self.now →
+            (pos (2 ^ (K + K - B)) *ℤ width_of c) <ℤ
+            (((pos 2 *ℤ pos m) *ℤ width_of self.now) +ℤ (pos 2 *ℤ pos (2 ^ (K + K - B))))) }
     {
         let shift = K + K - B;
         let lo = floor_shift(least_square(self.lo, self.hi), shift);
@@ -512,25 +244,31 @@ impl<const K: u32> Iv<K> {
         ensures overwidth { (result ≡ Err DivFault.Overwidth) ↔ Past lo hi }
         ensures cause { IfErr result (λ e. e ≡ DivFault.Overwidth) }
     {
-        if lo < -(1 << 62) || hi > 1 << 62 {
-            Err(DivFault::Overwidth)
-        } else {
-            Ok(Iv {
-                lo: lo as i64,
-                hi: hi as i64,
-            })
+        match Iv::enclose(lo, hi) {
+            Ok(quotient) => Ok(quotient),
+            Err(Overwidth) => Err(DivFault::Overwidth),
         }
     }
 
+    /// The least box of all quotients. A divisor that holds 0 is refused first.
     pub fn div_to<const A: u32, const B: u32>(&self, other: &Iv<A>) -> Result<Iv<B>, DivFault>
         requires scale { B ≤ 60 }
         requires finer { K ≤ B + A }
         requires small { B + A ≤ K + 60 }
-        ensures ends { IfOk result (λ r. (r.lo ≡ low_ratio self.now.lo self.now.hi other.now.lo other.now.hi (2 ^ (B + A - K))) × (r.hi ≡ high_ratio self.now.lo self.now.hi other.now.lo other.now.hi (2 ^ (B + A - K)))) }
-        ensures zero_inside { (result ≡ Err DivFault.ZeroInside) ↔ ((other.now.lo ≤ℤ pos 0) × (pos 0 ≤ℤ other.now.hi)) }
-        ensures overwidth { (result ≡ Err DivFault.Overwidth) ↔ (((pos 0 <ℤ other.now.lo) ⊎ (other.now.hi <ℤ pos 0)) × Past (low_ratio self.now.lo self.now.hi other.now.lo other.now.hi (2 ^ (B + A - K))) (high_ratio self.now.lo self.now.hi other.now.lo other.now.hi (2 ^ (B + A - K)))) }
-        ensures holds { IfOk result (λ r. (x y z : Rational) → InBox K self.now.lo self.now.hi x → InBox A other.now.lo other.now.hi y → mul_r z y ≈ x → InBox B r.lo r.hi z) }
-        ensures least { IfOk result (λ r. (l h : ℤ) → ((x y z : Rational) → InBox K self.now.lo self.now.hi x → InBox A other.now.lo other.now.hi y → mul_r z y ≈ x → InBox B l h z) → (l ≤ℤ r.lo) × (r.hi ≤ℤ h)) }
+        ensures ends { IfOk result (λ c.
+            (c.lo ≡ low_quotient B self.now other.now) × (c.hi ≡ high_quotient B self.now other.now)) }
+        ensures zero_inside { (result ≡ Err DivFault.ZeroInside) ↔ HasZero other.now }
+        ensures overwidth { (result ≡ Err DivFault.Overwidth) ↔
+            (IsClearOfZero other.now × Past (low_quotient B self.now other.now) (high_quotient B self.now other.now)) }
+        ensures holds { IfOk result (λ c. (x y z : Rational) →
+            Holds self.now x → Holds other.now y → mul_r z y ≈ x → Holds c z) }
+        ensures least { IfOk result (λ c. (l h : ℤ) →
+            ((x y z : Rational) → Holds self.now x → Holds other.now y → mul_r z y ≈ x → InBox B l h z) →
+            (l ≤ℤ c.lo) × (c.hi ≤ℤ h)) }
+        ensures width { IfOk result (λ c. (d g : ℕ) → 0 < d → pos d ≤ℤ other.now.lo →
+            IsRatioWithin (2 ^ (B + A - K)) g self.now other.now →
+            (pos d *ℤ width_of c) <ℤ
+            (((pos (2 ^ (B + A - K)) *ℤ width_of self.now) +ℤ (pos g *ℤ width_of other.now)) +ℤ (pos 2 *ℤ pos d))) }
     {
         if other.lo <= 0 && other.hi >= 0 {
             Err(DivFault::ZeroInside)
@@ -542,36 +280,27 @@ impl<const K: u32> Iv<K> {
         }
     }
 
-    /// A box of every near-root of every value in this one.
+    /// A box of every r ≥ 0 whose square is within 2^-60 of its size of a value in this box.
+    ///
+    /// Each end is at most 2^-B + 2^-59 times the root outside the exact root.
     pub fn root_to<const B: u32>(&self) -> Iv<B>
         requires scale { B ≤ 60 }
         requires positive { pos 0 ≤ℤ self.now.lo }
         requires finer { K ≤ B + B }
         requires small { B + B ≤ K + 60 }
-        ensures holds { (x r : Rational) → InBox K self.now.lo self.now.hi x → IsNearRoot r x → InBox B result.lo result.hi r }
-        ensures near_low { ((self.now.lo *ℤ pos (2 ^ (B + B - K))) *ℤ (pos (2 ^ 60) -ℤ pos 1)) <ℤ (((result.lo +ℤ pos 1) *ℤ (result.lo +ℤ pos 1)) *ℤ pos (2 ^ 60)) }
-        ensures near_high { pos 0 <ℤ result.hi → (((result.hi -ℤ pos 1) *ℤ (result.hi -ℤ pos 1)) *ℤ pos (2 ^ 60)) <ℤ ((self.now.hi *ℤ pos (2 ^ (B + B - K))) *ℤ (pos (2 ^ 60) +ℤ pos 1)) }
+        ensures holds { (x r : Rational) → Holds self.now x → IsNearRoot r x → Holds result r }
+        ensures near_low { (under_root K B self.now.lo *ℤ (pos (2 ^ 60) -ℤ pos 1)) <ℤ
+            (((result.lo +ℤ pos 1) *ℤ (result.lo +ℤ pos 1)) *ℤ pos (2 ^ 60)) }
+        ensures near_high { pos 0 <ℤ result.hi →
+            (((result.hi -ℤ pos 1) *ℤ (result.hi -ℤ pos 1)) *ℤ pos (2 ^ 60)) <ℤ
+            (under_root K B self.now.hi *ℤ (pos (2 ^ 60) +ℤ pos 1)) }
+        ensures low_distance { IsCloseBelowRoot (under_root K B self.now.lo) result.lo }
+        ensures high_distance { IsCloseAboveRoot (under_root K B self.now.hi) result.hi }
     {
         let shift = B + B - K;
         let lo = low_root(root_argument(self.lo, shift));
         let hi = high_root(root_argument(self.hi, shift));
         Iv::from_ends(lo as i64, hi as i64)
-    }
-
-    pub fn mul_to<const A: u32, const B: u32>(&self, other: &Iv<A>) -> Result<Iv<B>, Overwidth>
-        requires scale { B ≤ 60 }
-        requires coarser { B ≤ K + A }
-        ensures ends { IfOk result (λ c. (c.lo ≡ floor_div (least_corner self.now.lo self.now.hi other.now.lo other.now.hi) (2 ^ (K + A - B))) × (c.hi ≡ ceil_div (most_corner self.now.lo self.now.hi other.now.lo other.now.hi) (2 ^ (K + A - B)))) }
-        ensures refused { IsErr result ↔ Past (floor_div (least_corner self.now.lo self.now.hi other.now.lo other.now.hi) (2 ^ (K + A - B))) (ceil_div (most_corner self.now.lo self.now.hi other.now.lo other.now.hi) (2 ^ (K + A - B))) }
-        ensures holds { IfOk result (λ c. (x y : Rational) → InBox K self.now.lo self.now.hi x → InBox A other.now.lo other.now.hi y → InBox B c.lo c.hi (mul_r x y)) }
-        ensures least { IfOk result (λ c. (l h : ℤ) → ((x y : Rational) → InBox K self.now.lo self.now.hi x → InBox A other.now.lo other.now.hi y → InBox B l h (mul_r x y)) → (l ≤ℤ c.lo) × (c.hi ≤ℤ h)) }
-    {
-        let shift = K + A - B;
-        let least = least_product(self.lo, self.hi, other.lo, other.hi);
-        let most = most_product(self.lo, self.hi, other.lo, other.hi);
-        let lo = floor_shift(least, shift);
-        let hi = ceil_shift(most, shift);
-        Iv::enclose(lo, hi)
     }
 }
 

@@ -1,3 +1,5 @@
+use Rattle.std.proofs.Common.{◌-ℤ◌, ◌+ℤ◌}
+use Rattle.iv_core.specs.Intervals.{width_of}
 use Rattle.std.proofs.Common.{◌≡◌, ◌+ℤ◌, IsErr, arith}
 use Rattle.std.proofs.lemmas.Int.{ints}
 use Rattle.rational.specs.Rational.{Rational, InBox, add_r}
@@ -19,3 +21,10 @@ returns-clause-holds g c =
     at_ends c.enclose.result (λ b. b.lo) (λ b. b.hi) (a.lo +ℤ b.lo) (a.hi +ℤ b.hi)
     (λ l h. (x y : Rational) → InBox g.row.K a.lo a.hi x → InBox g.row.K b.lo b.hi y → InBox g.row.K l h (add_r x y))
     (add_holds g.row.K a.lo a.hi b.lo b.hi) (returns-clause-ends g c)
+
+pub returns-clause-width : goal.returns-clause-width
+returns-clause-width g c =
+    let a = c.args.self.now in
+    let b = c.args.other.now in
+    at_ends c.enclose.result (λ b. b.lo) (λ b. b.hi) (a.lo +ℤ b.lo) (a.hi +ℤ b.hi)
+    (λ l h. (h -ℤ l) ≡ (width_of a +ℤ width_of b)) (omega (arith, ints)) (returns-clause-ends g c)

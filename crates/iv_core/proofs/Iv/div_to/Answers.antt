@@ -7,6 +7,9 @@ use Rattle.iv_core.proofs.Hold.{at_ends}
 use Rattle.iv_core.proofs.Quot.{div_holds, div_least, div_ordered, apart_of, not_apart}
 use Rattle.iv_core.specs.declared.DivFault.{DivFault}
 use Rattle.iv_core.specs.declared.DivFault.TheVariants.{ZeroInside, Overwidth}
+use Rattle.std.proofs.Common.{◌-ℤ◌, ◌+ℤ◌, ◌*ℤ◌, ◌<◌}
+use Rattle.iv_core.specs.Intervals.{IsRatioWithin, width_of}
+use Rattle.iv_core.proofs.Widths.{quotient_width}
 use Rattle.iv_core.proofs.Iv.div_to.Goals as goal
 
 pub enclose_quotient-requires : goal.enclose_quotient-requires
@@ -70,3 +73,12 @@ returns-else-other-le0-clause-least g c =
     at_ends c.enclose_quotient.result (λ b. b.lo) (λ b. b.hi) (low_ratio a.lo a.hi b.lo b.hi p) (high_ratio a.lo a.hi b.lo b.hi p)
     (λ q r. (l h : ℤ) → ((x y z : Rational) → InBox g.row.K a.lo a.hi x → InBox g.row.A b.lo b.hi y → mul_r z y ≈ x → InBox g.row.B l h z) → (l ≤ℤ q) × (r ≤ℤ h))
     (div_least g.row.K g.row.A g.row.B a.lo a.hi b.lo b.hi c.requires.finer a.ordered b.ordered apart) (returns-else-other-le0-clause-ends g c)
+
+pub returns-else-other-le0-clause-width : goal.returns-else-other-le0-clause-width
+returns-else-other-le0-clause-width g c =
+    let a = c.args.self.now in
+    let b = c.args.other.now in
+    let p : ℕ = 2 ^ (g.row.B + g.row.A - g.row.K) in
+    at_ends c.enclose_quotient.result (λ b. b.lo) (λ b. b.hi) (low_ratio a.lo a.hi b.lo b.hi p) (high_ratio a.lo a.hi b.lo b.hi p)
+    (λ l h. (d g : ℕ) → 0 < d → pos d ≤ℤ b.lo → IsRatioWithin p g a b → (pos d *ℤ (h -ℤ l)) <ℤ (((pos p *ℤ width_of a) +ℤ (pos g *ℤ width_of b)) +ℤ (pos 2 *ℤ pos d)))
+    (λ d r d0 above i. quotient_width a.lo a.hi b.lo b.hi p d r a.ordered b.ordered d0 above i.0 i.1) (returns-else-other-le0-clause-ends g c)

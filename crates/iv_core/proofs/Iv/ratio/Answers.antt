@@ -5,6 +5,8 @@ use Rattle.rational.specs.Rational.{Rational, InBox, IsRatio}
 use Rattle.whole_math.specs.Rounding.{floor_div, ceil_div}
 use Rattle.whole_math.proofs.Rounding.{floor_le_ceil}
 use Rattle.iv_core.proofs.Hold.{ratio_holds, ratio_least, at_ends, refused_at, le_self, abs_pos}
+use Rattle.std.proofs.Common.{◌-ℤ◌}
+use Rattle.iv_core.proofs.Widths.{ratio_width}
 use Rattle.iv_core.proofs.Iv.ratio.Goals as goal
 
 pub enclose-requires : goal.enclose-requires
@@ -46,3 +48,10 @@ returns-clause-least g c =
     at_ends c.enclose.result (λ b. b.lo) (λ b. b.hi) (floor_div p d) (ceil_div p d)
     (λ q r. (l h : ℤ) → ((x : Rational) → IsRatio x c.args.num c.args.den → InBox g.row.K l h x) → (l ≤ℤ q) × (r ≤ℤ h))
     (ratio_least g.row.K c.args.num c.args.den c.requires.positive) (returns-clause-ends g c)
+
+pub returns-clause-width : goal.returns-clause-width
+returns-clause-width g c =
+    let p : ℤ = c.args.num *ℤ pos (2 ^ g.row.K) in
+    let d : ℕ = unsigned_abs c.args.den in
+    at_ends c.enclose.result (λ b. b.lo) (λ b. b.hi) (floor_div p d) (ceil_div p d)
+    (λ l h. (h -ℤ l) ≤ℤ pos 1) (ratio_width p d (abs_pos c.args.den c.requires.positive)) (returns-clause-ends g c)

@@ -6,6 +6,9 @@ use Rattle.whole_math.specs.Rounding.{ceil_div}
 use Rattle.whole_math.proofs.Order.{mul_le_right}
 use Rattle.iv_core.proofs.Hold.{pos_nn}
 use Rattle.iv_core.proofs.Root.{root_holds, root_ordered, near_low_end, near_high_end, cast_lo, cast_hi, end_cast, cast_fits, same_end, same_top}
+use Rattle.iv_core.specs.Intervals.{under_root}
+use Rattle.iv_core.proofs.Root.{argument_nn}
+use Rattle.iv_core.proofs.Widths.{low_distance, high_distance}
 use Rattle.iv_core.proofs.Iv.root_to.Goals as goal
 
 pub overflow_cast-lo : goal.overflow_cast-lo
@@ -114,3 +117,14 @@ returns-clause-near_high g c =
     let eh : c.from_ends.result.hi ≡ s = same_top s h₀ h₁ c.from_ends.result.hi c.from_ends.ensures.hi in
     let k : pos 0 <ℤ s → ((s -ℤ pos 1) *ℤ (s -ℤ pos 1)) <ℤ (n +ℤ ceil_div n (2 ^ 60)) = subst (λ n. pos 0 <ℤ s → ((s -ℤ pos 1) *ℤ (s -ℤ pos 1)) <ℤ (n +ℤ ceil_div n (2 ^ 60))) e₂ c.high_root-hi.ensures.near in
     rw eh (λ h. near_high_end n ((s -ℤ pos 1) *ℤ (s -ℤ pos 1)) (2 ^ 60) (pow_pos 60) (k h))
+
+pub returns-clause-low_distance : goal.returns-clause-low_distance
+returns-clause-low_distance g c =
+    let a = c.args.self.now in
+    low_distance (under_root g.row.K g.row.B a.lo) (c.from_ends.result.lo +ℤ pos 1) (argument_nn a.lo (g.row.B + g.row.B - g.row.K) c.requires.positive) (returns-clause-near_low g c)
+
+pub returns-clause-high_distance : goal.returns-clause-high_distance
+returns-clause-high_distance g c =
+    let a = c.args.self.now in
+    let high : pos 0 ≤ℤ a.hi = omega (arith, ints) in
+    (λ h. high_distance (under_root g.row.K g.row.B a.hi) (c.from_ends.result.hi -ℤ pos 1) (argument_nn a.hi (g.row.B + g.row.B - g.row.K) high) (returns-clause-near_high g c h))

@@ -7,6 +7,9 @@ use Rattle.whole_math.specs.Rounding.{floor_div, ceil_div}
 use Rattle.whole_math.proofs.Rounding.{floor_le_ceil}
 use Rattle.iv_core.proofs.Hold.{at_ends, refused_at}
 use Rattle.iv_core.proofs.More.{square_holds, square_least, near_le_far}
+use Rattle.std.proofs.Common.{pos, ◌+ℤ◌, ◌-ℤ◌, ◌<ℤ◌}
+use Rattle.iv_core.specs.Intervals.{IsWithin, width_of}
+use Rattle.iv_core.proofs.Widths.{square_width}
 use Rattle.iv_core.proofs.Iv.square_to.Goals as goal
 
 pub enclose-requires : goal.enclose-requires
@@ -60,3 +63,13 @@ returns-clause-least g c =
     at_ends c.enclose.result (λ b. b.lo) (λ b. b.hi) (floor_div u s) (ceil_div v s)
     (λ p q. (l h : ℤ) → ((x : Rational) → InBox g.row.K a.lo a.hi x → InBox g.row.B l h (mul_r x x)) → (l ≤ℤ p) × (q ≤ℤ h))
     (square_least g.row.K g.row.B a.lo a.hi c.requires.coarser a.ordered) (returns-clause-ends g c)
+
+pub returns-clause-width : goal.returns-clause-width
+returns-clause-width g c =
+    let a = c.args.self.now in
+    let s : ℕ = 2 ^ (g.row.K + g.row.K - g.row.B) in
+    let u : ℤ = near_end a.lo a.hi *ℤ near_end a.lo a.hi in
+    let v : ℤ = far_end a.lo a.hi *ℤ far_end a.lo a.hi in
+    at_ends c.enclose.result (λ b. b.lo) (λ b. b.hi) (floor_div u s) (ceil_div v s)
+    (λ l h. (m : ℕ) → IsWithin m a → (pos s *ℤ (h -ℤ l)) <ℤ (((pos 2 *ℤ pos m) *ℤ width_of a) +ℤ (pos 2 *ℤ pos s)))
+    (λ m i. square_width a.lo a.hi s m (pow_pos (g.row.K + g.row.K - g.row.B)) a.ordered i.0 i.1) (returns-clause-ends g c)

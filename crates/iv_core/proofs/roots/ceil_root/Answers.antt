@@ -2,7 +2,7 @@ use Rattle.std.proofs.Common.{◌≡◌, ◌^◌, ℤ, pos, ◌+ℤ◌, ◌*ℤ�
 use Rattle.std.proofs.lemmas.Int.{ints, to_z-of_z}
 use Rattle.std.specs.Int.{w128}
 use Rattle.iv_core.proofs.Root.{root_less, before}
-use Rattle.iv_core.proofs.ceil_root.Goals as goal
+use Rattle.iv_core.proofs.roots.ceil_root.Goals as goal
 
 pub square-requires-clause-high : goal.square-requires-clause-high
 square-requires-clause-high c =

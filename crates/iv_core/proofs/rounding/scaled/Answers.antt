@@ -2,7 +2,7 @@ use Rattle.std.proofs.Common.{◌≡◌, ◌≤◌, ◌^◌, ◌*◌, ◌%◌, a
 use Rattle.std.proofs.lemmas.Int.{ints, to_z-of_z}
 use Rattle.std.specs.Int.{w128}
 use Rattle.iv_core.proofs.Hold.{shl_is, scaled_size}
-use Rattle.iv_core.proofs.scaled.Goals as goal
+use Rattle.iv_core.proofs.rounding.scaled.Goals as goal
 
 pub overflow_mul-result : goal.overflow_mul-result
 overflow_mul-result c =

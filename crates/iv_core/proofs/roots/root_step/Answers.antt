@@ -3,7 +3,7 @@ use Rattle.std.proofs.lemmas.Int.{ints, to_z-of_z}
 use Rattle.std.specs.Int.{w128}
 use Rattle.whole_math.proofs.Order.{lins}
 use Rattle.iv_core.proofs.Root.{root_small, bits_apart}
-use Rattle.iv_core.proofs.root_step.Goals as goal
+use Rattle.iv_core.proofs.roots.root_step.Goals as goal
 
 pub next_square-requires-clause-high : goal.next_square-requires-clause-high
 next_square-requires-clause-high c =

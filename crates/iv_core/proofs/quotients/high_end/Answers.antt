@@ -3,7 +3,7 @@ use Rattle.std.proofs.lemmas.Int.{ints, to_z-of_z}
 use Rattle.std.specs.Int.{w64, w128}
 use Rattle.iv_core.specs.Boxes.{high_quot}
 use Rattle.iv_core.proofs.Quot.{high_else, high_args}
-use Rattle.iv_core.proofs.high_end.Goals as goal
+use Rattle.iv_core.proofs.quotients.high_end.Goals as goal
 
 pub returns-else-c-gt0 : goal.returns-else-c-gt0
 returns-else-c-gt0 c =

@@ -2,7 +2,7 @@ use Rattle.std.proofs.Common.{◌≤◌, ◌^◌, arith, unsigned_abs}
 use Rattle.std.proofs.lemmas.Int.{to_z-of_z}
 use Rattle.std.specs.Int.{int_min}
 use Rattle.iv_core.proofs.Hold.{least_case}
-use Rattle.iv_core.proofs.least_of.Goals as goal
+use Rattle.iv_core.proofs.products.least_of.Goals as goal
 
 pub returns-clause-size : goal.returns-clause-size
 returns-clause-size c =

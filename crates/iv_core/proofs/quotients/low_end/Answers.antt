@@ -3,7 +3,7 @@ use Rattle.std.proofs.lemmas.Int.{ints, to_z-of_z}
 use Rattle.std.specs.Int.{w64, w128}
 use Rattle.iv_core.specs.Boxes.{low_quot}
 use Rattle.iv_core.proofs.Quot.{low_else, low_args}
-use Rattle.iv_core.proofs.low_end.Goals as goal
+use Rattle.iv_core.proofs.quotients.low_end.Goals as goal
 
 pub returns-else-c-gt0 : goal.returns-else-c-gt0
 returns-else-c-gt0 c =

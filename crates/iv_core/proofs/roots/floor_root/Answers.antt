@@ -2,7 +2,7 @@ use Rattle.std.proofs.Common.{◌≡◌, ◌^◌, ◌-◌, ◌<◌, ℤ, pos, �
 use Rattle.std.proofs.lemmas.Int.{ints, to_z-of_z}
 use Rattle.std.specs.Int.{w128}
 use Rattle.iv_core.proofs.Root.{bit_twice}
-use Rattle.iv_core.proofs.floor_root.Goals as goal
+use Rattle.iv_core.proofs.roots.floor_root.Goals as goal
 
 pub root_step-root-requires-clause-above : goal.root_step-root-requires-clause-above
 root_step-root-requires-clause-above c =

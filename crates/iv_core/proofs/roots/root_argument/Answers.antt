@@ -2,7 +2,7 @@ use Rattle.std.proofs.Common.{◌≡◌, ◌^◌, ℤ, pos, ◌*ℤ◌, arith, t
 use Rattle.std.proofs.lemmas.Int.{to_z-of_z}
 use Rattle.std.specs.Int.{w128}
 use Rattle.iv_core.proofs.Root.{argument_high}
-use Rattle.iv_core.proofs.root_argument.Goals as goal
+use Rattle.iv_core.proofs.roots.root_argument.Goals as goal
 
 pub returns-clause-high : goal.returns-clause-high
 returns-clause-high c =
