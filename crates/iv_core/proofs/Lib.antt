@@ -1,5 +1,7 @@
-pub mod Hold
-pub mod More
-pub mod Quot
-pub mod Root
+pub mod SumLaws
+pub mod ProductLaws
+pub mod QuotientLaws
+pub mod RootLaws
+pub mod BoxLaws
+pub mod Sizes
 pub mod Widths

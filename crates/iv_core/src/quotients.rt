@@ -1,6 +1,6 @@
 // The ends of quotients.
 ghost use Rattle.std.specs.Prelude.{◌≡◌, ◌^◌, ◌≤◌, pos, ◌≤ℤ◌, ◌<ℤ◌, ◌⊎◌, unsigned_abs};
-ghost use Rattle.iv_core.specs.Boxes.{low_quot, high_quot, low_ratio, high_ratio};
+ghost use Rattle.iv_core.specs.Boxes.{least_quotient, most_quotient, least_ratio, most_ratio};
 
 use crate::rounding::{ceil_ratio, floor_ratio, shifted};
 
@@ -10,7 +10,7 @@ fn low_quotient(a: i64, c: i64, d: i64, shift: u32) -> i128
     requires c_positive { pos 0 <ℤ c }
     requires d_positive { pos 0 <ℤ d }
     requires shift { shift ≤ 60 }
-    ensures { result ≡ low_quot a c d (2 ^ shift) }
+    ensures { result ≡ least_quotient a c d (2 ^ shift) }
 {
     let n = shifted(a, shift);
     floor_ratio(n, c as i128).min(floor_ratio(n, d as i128))
@@ -22,7 +22,7 @@ fn high_quotient(b: i64, c: i64, d: i64, shift: u32) -> i128
     requires c_positive { pos 0 <ℤ c }
     requires d_positive { pos 0 <ℤ d }
     requires shift { shift ≤ 60 }
-    ensures { result ≡ high_quot b c d (2 ^ shift) }
+    ensures { result ≡ most_quotient b c d (2 ^ shift) }
 {
     let n = shifted(b, shift);
     ceil_ratio(n, c as i128).max(ceil_ratio(n, d as i128))
@@ -37,7 +37,7 @@ pub fn low_end(a: i64, b: i64, c: i64, d: i64, shift: u32) -> i128
     requires ordered { c ≤ℤ d }
     requires apart { (pos 0 <ℤ c) ⊎ (d <ℤ pos 0) }
     requires shift { shift ≤ 60 }
-    ensures { result ≡ low_ratio a b c d (2 ^ shift) }
+    ensures { result ≡ least_ratio a b c d (2 ^ shift) }
 {
     if c > 0 {
         low_quotient(a, c, d, shift)
@@ -55,7 +55,7 @@ pub fn high_end(a: i64, b: i64, c: i64, d: i64, shift: u32) -> i128
     requires ordered { c ≤ℤ d }
     requires apart { (pos 0 <ℤ c) ⊎ (d <ℤ pos 0) }
     requires shift { shift ≤ 60 }
-    ensures { result ≡ high_ratio a b c d (2 ^ shift) }
+    ensures { result ≡ most_ratio a b c d (2 ^ shift) }
 {
     if c > 0 {
         high_quotient(b, c, d, shift)

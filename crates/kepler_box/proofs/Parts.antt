@@ -14,7 +14,7 @@ use Rattle.kepler_box.specs.Steps.{at_56, IsStep, Within}
 use Rattle.std.proofs.Common.{Result, Ok, Err, IsOk, IsErr, to_z, of_z}
 use Rattle.std.specs.Int.{w64}
 use Rattle.iv_core.specs.Boxes.{least_corner, most_corner, Past}
-use Rattle.iv_core.proofs.Hold.{least_case, most_case}
+use Rattle.whole_math.proofs.Extremes.{least_case, most_case}
 use Rattle.kepler_box.proofs.Steps.{in_range}
 
 -- ---- results that are no refusals

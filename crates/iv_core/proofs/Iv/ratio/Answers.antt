@@ -4,9 +4,12 @@ use Rattle.std.proofs.lemmas.Int.{to_z-of_z}
 use Rattle.rational.specs.Rational.{Rational, InBox, IsRatio}
 use Rattle.whole_math.specs.Rounding.{floor_div, ceil_div}
 use Rattle.whole_math.proofs.Rounding.{floor_le_ceil}
-use Rattle.iv_core.proofs.Hold.{ratio_holds, ratio_least, at_ends, refused_at, le_self, abs_pos}
 use Rattle.std.proofs.Common.{◌-ℤ◌}
+use Rattle.iv_core.proofs.BoxLaws.{at_ends, refused_at}
+use Rattle.iv_core.proofs.QuotientLaws.{ratio_holds, ratio_least}
 use Rattle.iv_core.proofs.Widths.{ratio_width}
+use Rattle.whole_math.proofs.Absolute.{abs_pos}
+use Rattle.whole_math.proofs.Inequalities.{le_refl_ℤ}
 use Rattle.iv_core.proofs.Iv.ratio.Goals as goal
 
 pub enclose-requires : goal.enclose-requires
@@ -15,7 +18,7 @@ enclose-requires g c =
     let d : ℕ = unsigned_abs c.args.den in
     let lo : to_z w128 (of_z w128 c.floor_ratio-lo.result) ≡ floor_div p d = grind (arith, to_z-of_z) in
     let hi : to_z w128 (of_z w128 c.ceil_ratio-hi.result) ≡ ceil_div p d = grind (arith, to_z-of_z) in
-    (omega arith, (c.requires.scale, rw (lo, hi) (floor_le_ceil p p d (abs_pos c.args.den c.requires.positive) (le_self p))))
+    (omega arith, (c.requires.scale, rw (lo, hi) (floor_le_ceil p p d (abs_pos c.args.den c.requires.positive) (le_refl_ℤ p))))
 
 pub returns-clause-ends : goal.returns-clause-ends
 returns-clause-ends g c =

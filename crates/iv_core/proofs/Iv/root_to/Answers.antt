@@ -4,11 +4,11 @@ use Rattle.std.proofs.lemmas.Int.{ints, to_z-of_z}
 use Rattle.rational.specs.Rational.{Rational, InBox, IsNearRoot}
 use Rattle.whole_math.specs.Rounding.{ceil_div}
 use Rattle.whole_math.proofs.Order.{mul_le_right}
-use Rattle.iv_core.proofs.Hold.{pos_nn}
-use Rattle.iv_core.proofs.Root.{root_holds, root_ordered, near_low_end, near_high_end, cast_lo, cast_hi, end_cast, cast_fits, same_end, same_top}
 use Rattle.iv_core.specs.Intervals.{under_root}
-use Rattle.iv_core.proofs.Root.{argument_nn}
-use Rattle.iv_core.proofs.Widths.{low_distance, high_distance}
+use Rattle.iv_core.proofs.RootLaws.{argument_nn, near_high_end, near_low_end, root_holds, root_ordered}
+use Rattle.iv_core.proofs.Sizes.{cast_fits, cast_hi, cast_lo, end_cast, same_end, same_top}
+use Rattle.iv_core.proofs.Widths.{high_distance, low_distance}
+use Rattle.whole_math.proofs.Inequalities.{pos_nn}
 use Rattle.iv_core.proofs.Iv.root_to.Goals as goal
 
 pub overflow_cast-lo : goal.overflow_cast-lo

@@ -1,7 +1,7 @@
-use Rattle.std.proofs.Common.{◌≡◌, ◌^◌, ◌-◌, ◌<◌, ℤ, pos, ◌+ℤ◌, arith, to_z, of_z, ap₂, ◌∙◌}
-use Rattle.std.proofs.lemmas.Int.{ints, to_z-of_z}
+use Rattle.std.proofs.Common.{◌≡◌, ◌^◌, ◌-◌, ◌<◌, pos, ◌+ℤ◌, arith, to_z, of_z, ap₂, ◌∙◌}
+use Rattle.std.proofs.lemmas.Int.{to_z-of_z}
 use Rattle.std.specs.Int.{w128}
-use Rattle.iv_core.proofs.Root.{bit_twice}
+use Rattle.iv_core.proofs.Sizes.{bit_twice}
 use Rattle.iv_core.proofs.roots.floor_root.Goals as goal
 
 pub root_step-root-requires-clause-above : goal.root_step-root-requires-clause-above

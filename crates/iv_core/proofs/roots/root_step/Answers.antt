@@ -1,8 +1,7 @@
-use Rattle.std.proofs.Common.{◌≡◌, ◌^◌, ℤ, pos, ◌+ℤ◌, ◌*ℤ◌, ◌≤ℤ◌, arith, to_z, of_z}
+use Rattle.std.proofs.Common.{◌≡◌, ◌^◌, pos, ◌+ℤ◌, ◌*ℤ◌, ◌≤ℤ◌, arith, to_z, of_z}
 use Rattle.std.proofs.lemmas.Int.{ints, to_z-of_z}
 use Rattle.std.specs.Int.{w128}
-use Rattle.whole_math.proofs.Order.{lins}
-use Rattle.iv_core.proofs.Root.{root_small, bits_apart}
+use Rattle.iv_core.proofs.RootLaws.{bits_apart, root_small}
 use Rattle.iv_core.proofs.roots.root_step.Goals as goal
 
 pub next_square-requires-clause-high : goal.next_square-requires-clause-high

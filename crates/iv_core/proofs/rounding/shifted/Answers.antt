@@ -1,7 +1,7 @@
 use Rattle.std.proofs.Common.{◌≡◌, arith, unsigned_abs, to_z, of_z}
 use Rattle.std.proofs.lemmas.Int.{to_z-of_z}
 use Rattle.std.specs.Int.{w64, w128}
-use Rattle.iv_core.proofs.Quot.{room}
+use Rattle.iv_core.proofs.Sizes.{room}
 use Rattle.iv_core.proofs.rounding.shifted.Goals as goal
 
 pub scaled-requires-clause-size : goal.scaled-requires-clause-size

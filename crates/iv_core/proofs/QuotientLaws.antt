@@ -1,24 +1,38 @@
--- Quotients of boxes.
-use Rattle.std.proofs.Common.{◌≡◌, ℕ, ◌+◌, ◌*◌, ◌-◌, ◌≤◌, ◌<◌, ◌^◌, [], ◌∷◌, ℤ, pos, ◌+ℤ◌, ◌-ℤ◌, ◌*ℤ◌, neg_ℤ, ◌≤ℤ◌, ◌<ℤ◌, arith, sym, ap, ap₂, ◌∙◌, refl, pow_pos, subst, subst₂, ◌⊎◌, inl, inr, Bool, true, false, cond, unsigned_abs, mul-pos}
-use Rattle.std.proofs.lemmas.Int.{ints, by_lt_z, clamps}
-use Rattle.std.proofs.lemmas.Nat.{pow-add}
-use Rattle.whole_math.proofs.Ring.{ring, va, ko, ◌⊕◌, ◌⊖◌, ◌⊗◌, ng}
-use Rattle.whole_math.proofs.Order.{lins, mul_le_right, mul_le_left, mul_le_cancel, mul_nn}
+-- Boxes of ratios and of quotients.
+use Rattle.std.proofs.Common.{◌≡◌, ℕ, ◌+◌, ◌*◌, ◌-◌, ◌≤◌, ◌<◌, ◌^◌, [], ◌∷◌, ℤ, pos, ◌*ℤ◌, neg_ℤ, ◌≤ℤ◌, ◌<ℤ◌, arith, sym, ap, ap₂, ◌∙◌, refl, Bool, true, false, cond, pow_pos, ◌⊎◌, inl, inr, unsigned_abs, mul-pos}
+use Rattle.std.proofs.lemmas.Int.{ints, by_lt_z}
+use Rattle.whole_math.proofs.Ring.{ring, va, ◌⊗◌, ng}
+use Rattle.whole_math.proofs.Order.{lins, mul_le_right, mul_le_left, mul_le_cancel}
+use Rattle.whole_math.proofs.Inequalities.{pos_nn, weak}
+use lib.Signed.{lt_z}
 use Rattle.whole_math.proofs.Rounding.{floor_le, floor_greatest, ceil_le, ceil_least, floor_le_ceil}
+use Rattle.whole_math.proofs.Extremes.{min_is, max_is, min_case, max_case}
+use Rattle.whole_math.proofs.Absolute.{pos_abs, abs_pos}
+use Rattle.whole_math.proofs.Powers.{power_split}
 use Rattle.whole_math.proofs.IntLaws.{neg_mul_ℤ}
 use Rattle.whole_math.proofs.Certificates.{cancel, mul_positive}
 use Rattle.whole_math.specs.Rounding.{floor_div, ceil_div}
-use Rattle.rational.specs.Rational.{Rational, InBox, neg_r, mul_r, ◌≈◌}
-use Rattle.iv_core.specs.Boxes.{low_quot, high_quot, low_ratio, high_ratio}
-use Rattle.std.specs.Int.{int_min, int_max}
-use lib.Signed.{lt_z}
-use Rattle.iv_core.proofs.Hold.{pos_nn, min_case, max_case, end_in}
+use Rattle.rational.specs.Rational.{Rational, InBox, neg_r, mul_r, IsRatio, ◌≈◌}
+use Rattle.rational.proofs.Boxes.{InBox-along, end_in, neg_box, neg_box_back}
+use Rattle.iv_core.specs.Boxes.{least_quotient, most_quotient, least_ratio, most_ratio}
 
-pub pos_abs : (d : ℤ) → pos 0 <ℤ d → pos (unsigned_abs d) ≡ d
-pos_abs d h = omega (arith, ints)
+pub ratio_holds : (k : ℕ) (num den : ℤ) → pos 0 <ℤ den → (x : Rational) → IsRatio x num den →
+    InBox k (floor_div (num *ℤ pos (2 ^ k)) (unsigned_abs den)) (ceil_div (num *ℤ pos (2 ^ k)) (unsigned_abs den)) x
+ratio_holds k num den h x e =
+    let d : ℕ = unsigned_abs den in
+    let p : ℤ = num *ℤ pos (2 ^ k) in
+    let y : Rational = record { num = num; den = d; positive = abs_pos den h } in
+    let t : num *ℤ pos x.den ≡ x.num *ℤ pos d = sym (ap (λ z. x.num *ℤ z) (pos_abs den (weak h)) ∙ e) in
+    InBox-along k (floor_div p d) (ceil_div p d) y x t (floor_le p d (abs_pos den h), ceil_le p d (abs_pos den h))
 
-pub abs_pos : (d : ℤ) → pos 0 <ℤ d → 0 < unsigned_abs d
-abs_pos d h = omega (arith, ints)
+pub ratio_least : (k : ℕ) (num den : ℤ) → pos 0 <ℤ den → (l u : ℤ) → ((x : Rational) → IsRatio x num den → InBox k l u x) →
+    (l ≤ℤ floor_div (num *ℤ pos (2 ^ k)) (unsigned_abs den)) × (ceil_div (num *ℤ pos (2 ^ k)) (unsigned_abs den) ≤ℤ u)
+ratio_least k num den h l u all =
+    let d : ℕ = unsigned_abs den in
+    let p : ℤ = num *ℤ pos (2 ^ k) in
+    let y : Rational = record { num = num; den = d; positive = abs_pos den h } in
+    let i : InBox k l u y = all y (ap (λ z. num *ℤ z) (sym (pos_abs den (weak h)))) in
+    (floor_greatest p l d (abs_pos den h) i.0, ceil_least p u d (abs_pos den h) i.1)
 
 -- m times what lies from c to d, where m c and m d are at most a
 one_high : (m a c d y : ℤ) (e : ℕ) → (c *ℤ pos e) ≤ℤ y → y ≤ℤ (d *ℤ pos e) → (m *ℤ c) ≤ℤ a → (m *ℤ d) ≤ℤ a → (m *ℤ y) ≤ℤ (a *ℤ pos e)
@@ -61,16 +75,12 @@ quot_ge m a c d p k n w zn xn yn zd xd yd xd0 yd0 c0 e2 mc md hx h g e1 =
     chain : (a b c d e f g h : ℤ) → a ≤ℤ b → b ≡ c → c ≤ℤ d → d ≡ e → e ≡ f → f ≡ g → a ≡ h → h ≤ℤ g
     chain a b c d e f g h i₁ i₂ i₃ i₄ i₅ i₆ i₇ = omega (arith, lins)
 
--- 2^n 2^w = 2^(n + w - k) 2^k
-shifts : (k w n : ℕ) → k ≤ n + w → pos (2 ^ n) *ℤ pos (2 ^ w) ≡ pos (2 ^ (n + w - k)) *ℤ pos (2 ^ k)
-shifts k w n h = let e : n + w ≡ (n + w - k) + k = omega arith in ap pos (sym (pow-add 2 n w) ∙ ap (λ (i : ℕ). 2 ^ i) e ∙ pow-add 2 (n + w - k) k)
-
 floor_at : (z c m : ℤ) → pos 0 <ℤ c → m ≤ℤ floor_div z (unsigned_abs c) → (m *ℤ c) ≤ℤ z
 floor_at z c m h g =
     let n : ℕ = unsigned_abs c in
     let p : (m *ℤ pos n) ≤ℤ (floor_div z n *ℤ pos n) = mul_le_right (pos n) m (floor_div z n) (pos_nn n) g in
     let q : (floor_div z n *ℤ pos n) ≤ℤ z = floor_le z n (abs_pos c h) in
-    let e : m *ℤ pos n ≡ m *ℤ c = ap (λ x. m *ℤ x) (pos_abs c h) in
+    let e : m *ℤ pos n ≡ m *ℤ c = ap (λ x. m *ℤ x) (pos_abs c (weak h)) in
     omega (arith, lins)
 
 ceil_at : (z c m : ℤ) → pos 0 <ℤ c → ceil_div z (unsigned_abs c) ≤ℤ m → z ≤ℤ (m *ℤ c)
@@ -78,27 +88,21 @@ ceil_at z c m h g =
     let n : ℕ = unsigned_abs c in
     let p : (ceil_div z n *ℤ pos n) ≤ℤ (m *ℤ pos n) = mul_le_right (pos n) (ceil_div z n) m (pos_nn n) g in
     let q : z ≤ℤ (ceil_div z n *ℤ pos n) = ceil_le z n (abs_pos c h) in
-    let e : m *ℤ pos n ≡ m *ℤ c = ap (λ x. m *ℤ x) (pos_abs c h) in
+    let e : m *ℤ pos n ≡ m *ℤ c = ap (λ x. m *ℤ x) (pos_abs c (weak h)) in
     omega (arith, lins)
 
-min_is : (a b : ℤ) → (int_min a b ≤ℤ a) × (int_min a b ≤ℤ b)
-min_is a b = omega (arith, lins, clamps)
-
-max_is : (a b : ℤ) → (a ≤ℤ int_max a b) × (b ≤ℤ int_max a b)
-max_is a b = omega (arith, lins, clamps)
-
 quot_holds : (k w n : ℕ) (a b c d : ℤ) → k ≤ n + w → pos 0 <ℤ c → c ≤ℤ d → (x y z : Rational) → InBox k a b x → InBox w c d y → mul_r z y ≈ x →
-    InBox n (low_quot a c d (2 ^ (n + w - k))) (high_quot b c d (2 ^ (n + w - k))) z
+    InBox n (least_quotient a c d (2 ^ (n + w - k))) (most_quotient b c d (2 ^ (n + w - k))) z
 quot_holds k w n a b c d s c0 o x y z i j e =
     let p : ℕ = 2 ^ (n + w - k) in
-    let m : ℤ = low_quot a c d p in
-    let u : ℤ = high_quot b c d p in
+    let m : ℤ = least_quotient a c d p in
+    let u : ℤ = most_quotient b c d p in
     let d0 : pos 0 <ℤ d = omega (arith, lins) in
     let l = min_is (floor_div (a *ℤ pos p) (unsigned_abs c)) (floor_div (a *ℤ pos p) (unsigned_abs d)) in
     let h = max_is (ceil_div (b *ℤ pos p) (unsigned_abs c)) (ceil_div (b *ℤ pos p) (unsigned_abs d)) in
-    let low : (m *ℤ pos z.den) ≤ℤ (z.num *ℤ pos (2 ^ n)) = quot_ge m a c d p (2 ^ k) (2 ^ n) (2 ^ w) z.num x.num y.num z.den x.den y.den x.positive y.positive c0 (shifts k w n s)
+    let low : (m *ℤ pos z.den) ≤ℤ (z.num *ℤ pos (2 ^ n)) = quot_ge m a c d p (2 ^ k) (2 ^ n) (2 ^ w) z.num x.num y.num z.den x.den y.den x.positive y.positive c0 (ap pos (power_split n w k s))
     (floor_at (a *ℤ pos p) c m c0 l.0) (floor_at (a *ℤ pos p) d m d0 l.1) i.0 j.0 j.1 e in
-    let high : (neg_ℤ u *ℤ pos z.den) ≤ℤ (neg_ℤ z.num *ℤ pos (2 ^ n)) = quot_ge (neg_ℤ u) (neg_ℤ b) c d p (2 ^ k) (2 ^ n) (2 ^ w) (neg_ℤ z.num) (neg_ℤ x.num) y.num z.den x.den y.den x.positive y.positive c0 (shifts k w n s)
+    let high : (neg_ℤ u *ℤ pos z.den) ≤ℤ (neg_ℤ z.num *ℤ pos (2 ^ n)) = quot_ge (neg_ℤ u) (neg_ℤ b) c d p (2 ^ k) (2 ^ n) (2 ^ w) (neg_ℤ z.num) (neg_ℤ x.num) y.num z.den x.den y.den x.positive y.positive c0 (ap pos (power_split n w k s))
     (flip u c b (pos p) (ceil_at (b *ℤ pos p) c u c0 h.0)) (flip u d b (pos p) (ceil_at (b *ℤ pos p) d u d0 h.1)) (flip b (pos x.den) x.num (pos (2 ^ k)) i.1) j.0 j.1 turned in
     (low, unflip u (pos z.den) z.num (pos (2 ^ n)) high)
   where
@@ -116,7 +120,7 @@ quot_holds k w n a b c d s c0 o x y z i j e =
 
 quot_least : (k w n : ℕ) (a b c d : ℤ) → k ≤ n + w → a ≤ℤ b → pos 0 <ℤ c → c ≤ℤ d → (l h : ℤ) →
     ((x y z : Rational) → InBox k a b x → InBox w c d y → mul_r z y ≈ x → InBox n l h z) →
-    (l ≤ℤ low_quot a c d (2 ^ (n + w - k))) × (high_quot b c d (2 ^ (n + w - k)) ≤ℤ h)
+    (l ≤ℤ least_quotient a c d (2 ^ (n + w - k))) × (most_quotient b c d (2 ^ (n + w - k)) ≤ℤ h)
 quot_least k w n a b c d s ab c0 o l h all =
     let p : ℕ = 2 ^ (n + w - k) in
     let aa : a ≤ℤ a = omega (arith, lins) in
@@ -132,7 +136,7 @@ quot_least k w n a b c d s ab c0 o l h all =
     move : (u : ℤ) → (u *ℤ pos (2 ^ w)) *ℤ pos (2 ^ n) ≡ (u *ℤ pos (2 ^ (n + w - k))) *ℤ pos (2 ^ k)
     move u =
         ring (u ∷ pos (2 ^ w) ∷ pos (2 ^ n) ∷ []) ((va 0 ⊗ va 1) ⊗ va 2) (va 0 ⊗ (va 2 ⊗ va 1)) refl
-        ∙ ap (λ z. u *ℤ z) (shifts k w n s)
+        ∙ ap (λ z. u *ℤ z) (ap pos (power_split n w k s))
         ∙ ring (u ∷ pos (2 ^ (n + w - k)) ∷ pos (2 ^ k) ∷ []) (va 0 ⊗ (va 1 ⊗ va 2)) ((va 0 ⊗ va 1) ⊗ va 2) refl
 
     parts : (l : ℤ) (v q : ℕ) → l *ℤ pos (v * q) ≡ (l *ℤ pos v) *ℤ pos q
@@ -146,21 +150,12 @@ quot_least k w n a b c d s ab c0 o l h all =
         let y : Rational = record { num = v; den = 2 ^ w; positive = pow_pos w } in
         let z : Rational = record { num = u *ℤ pos (2 ^ w); den = m * 2 ^ k; positive = mul-pos (abs_pos v v0) (pow_pos k) } in
         let e : ((u *ℤ pos (2 ^ w)) *ℤ v) *ℤ pos (2 ^ k) ≡ u *ℤ pos ((m * 2 ^ k) * 2 ^ w) =
-        ap (λ t. ((u *ℤ pos (2 ^ w)) *ℤ t) *ℤ pos (2 ^ k)) (sym (pos_abs v v0)) ∙ ring (u ∷ pos (2 ^ w) ∷ pos m ∷ pos (2 ^ k) ∷ []) (((va 0 ⊗ va 1) ⊗ va 2) ⊗ va 3) (va 0 ⊗ ((va 2 ⊗ va 3) ⊗ va 1)) refl in
+        ap (λ t. ((u *ℤ pos (2 ^ w)) *ℤ t) *ℤ pos (2 ^ k)) (sym (pos_abs v (weak v0))) ∙ ring (u ∷ pos (2 ^ w) ∷ pos m ∷ pos (2 ^ k) ∷ []) (((va 0 ⊗ va 1) ⊗ va 2) ⊗ va 3) (va 0 ⊗ ((va 2 ⊗ va 3) ⊗ va 1)) refl in
         let t : InBox n l h z = all x y z (end_in k a b u i₁ i₂) (end_in w c d v j₁ j₂) e in
         let f : ℤ = u *ℤ pos (2 ^ (n + w - k)) in (
           floor_greatest f l m (abs_pos v v0) (mul_le_cancel (l *ℤ pos m) f (2 ^ k) (pow_pos k) (omega (arith, lins, t.0, move u, parts l m (2 ^ k)))),
           ceil_least f h m (abs_pos v v0) (mul_le_cancel f (h *ℤ pos m) (2 ^ k) (pow_pos k) (omega (arith, lins, t.1, move u, parts h m (2 ^ k)))),
         )
-
--- ---- divisors below 0
-neg_box : (k : ℕ) (a b : ℤ) (x : Rational) → InBox k a b x → InBox k (neg_ℤ b) (neg_ℤ a) (neg_r x)
-neg_box k a b x h =
-    (omega (arith, lins, h.1, neg_mul_ℤ b (pos x.den), neg_mul_ℤ x.num (pos (2 ^ k))), omega (arith, lins, h.0, neg_mul_ℤ a (pos x.den), neg_mul_ℤ x.num (pos (2 ^ k))))
-
-back_box : (k : ℕ) (a b : ℤ) (x : Rational) → InBox k (neg_ℤ b) (neg_ℤ a) x → InBox k a b (neg_r x)
-back_box k a b x h =
-    (omega (arith, lins, h.1, neg_mul_ℤ a (pos x.den), neg_mul_ℤ x.num (pos (2 ^ k))), omega (arith, lins, h.0, neg_mul_ℤ b (pos x.den), neg_mul_ℤ x.num (pos (2 ^ k))))
 
 neg_quot : (x y z : Rational) → mul_r z y ≈ x → mul_r z (neg_r y) ≈ neg_r x
 neg_quot x y z e =
@@ -185,27 +180,27 @@ not_above c h = go (lt_z (pos 0) c) refl
 not_positive_is : (c d : ℤ) → c ≤ℤ d → d <ℤ pos 0 → lt_z (pos 0) c ≡ false
 not_positive_is c d h g = not_above c (omega (arith, lins))
 
-pub low_else : (a b c d : ℤ) (p : ℕ) → c ≤ℤ pos 0 → low_ratio a b c d p ≡ low_quot (neg_ℤ b) (neg_ℤ d) (neg_ℤ c) p
-low_else a b c d p h = ap (λ t. cond t (low_quot a c d p) (low_quot (neg_ℤ b) (neg_ℤ d) (neg_ℤ c) p)) (not_above c h)
+pub low_else : (a b c d : ℤ) (p : ℕ) → c ≤ℤ pos 0 → least_ratio a b c d p ≡ least_quotient (neg_ℤ b) (neg_ℤ d) (neg_ℤ c) p
+low_else a b c d p h = ap (λ t. cond t (least_quotient a c d p) (least_quotient (neg_ℤ b) (neg_ℤ d) (neg_ℤ c) p)) (not_above c h)
 
-pub high_else : (a b c d : ℤ) (p : ℕ) → c ≤ℤ pos 0 → high_ratio a b c d p ≡ high_quot (neg_ℤ a) (neg_ℤ d) (neg_ℤ c) p
-high_else a b c d p h = ap (λ t. cond t (high_quot b c d p) (high_quot (neg_ℤ a) (neg_ℤ d) (neg_ℤ c) p)) (not_above c h)
+pub high_else : (a b c d : ℤ) (p : ℕ) → c ≤ℤ pos 0 → most_ratio a b c d p ≡ most_quotient (neg_ℤ a) (neg_ℤ d) (neg_ℤ c) p
+high_else a b c d p h = ap (λ t. cond t (most_quotient b c d p) (most_quotient (neg_ℤ a) (neg_ℤ d) (neg_ℤ c) p)) (not_above c h)
 
 pub div_holds : (k w n : ℕ) (a b c d : ℤ) → k ≤ n + w → c ≤ℤ d → (pos 0 <ℤ c) ⊎ (d <ℤ pos 0) → (x y z : Rational) → InBox k a b x → InBox w c d y → mul_r z y ≈ x →
-    InBox n (low_ratio a b c d (2 ^ (n + w - k))) (high_ratio a b c d (2 ^ (n + w - k))) z
+    InBox n (least_ratio a b c d (2 ^ (n + w - k))) (most_ratio a b c d (2 ^ (n + w - k))) z
 div_holds k w n a b c d s o (inl p) x y z i j e = rw (positive_is c p) (quot_holds k w n a b c d s p o x y z i j e)
 div_holds k w n a b c d s o (inr q) x y z i j e = rw (not_positive_is c d o q)
     (quot_holds k w n (neg_ℤ b) (neg_ℤ a) (neg_ℤ d) (neg_ℤ c) s (omega (arith, lins)) (omega (arith, lins)) (neg_r x) (neg_r y) z (neg_box k a b x i) (neg_box w c d y j) (neg_quot x y z e))
 
 pub div_least : (k w n : ℕ) (a b c d : ℤ) → k ≤ n + w → a ≤ℤ b → c ≤ℤ d → (pos 0 <ℤ c) ⊎ (d <ℤ pos 0) → (l h : ℤ) →
     ((x y z : Rational) → InBox k a b x → InBox w c d y → mul_r z y ≈ x → InBox n l h z) →
-    (l ≤ℤ low_ratio a b c d (2 ^ (n + w - k))) × (high_ratio a b c d (2 ^ (n + w - k)) ≤ℤ h)
+    (l ≤ℤ least_ratio a b c d (2 ^ (n + w - k))) × (most_ratio a b c d (2 ^ (n + w - k)) ≤ℤ h)
 div_least k w n a b c d s ab o (inl p) l h all = rw (positive_is c p) (quot_least k w n a b c d s ab p o l h all)
 div_least k w n a b c d s ab o (inr q) l h all = rw (not_positive_is c d o q)
     (quot_least k w n (neg_ℤ b) (neg_ℤ a) (neg_ℤ d) (neg_ℤ c) s (omega (arith, lins)) (omega (arith, lins)) (omega (arith, lins)) l h
-    (λ x y z i j e. all (neg_r x) (neg_r y) z (back_box k a b x i) (back_box w c d y j) (neg_quot x y z e)))
+    (λ x y z i j e. all (neg_r x) (neg_r y) z (neg_box_back k a b x i) (neg_box_back w c d y j) (neg_quot x y z e)))
 
-quot_ordered : (a b c d : ℤ) (p : ℕ) → a ≤ℤ b → pos 0 <ℤ c → low_quot a c d p ≤ℤ high_quot b c d p
+quot_ordered : (a b c d : ℤ) (p : ℕ) → a ≤ℤ b → pos 0 <ℤ c → least_quotient a c d p ≤ℤ most_quotient b c d p
 quot_ordered a b c d p h c0 =
     let n : ℕ = unsigned_abs c in
     let i : (a *ℤ pos p) ≤ℤ (b *ℤ pos p) = mul_le_right (pos p) a b (pos_nn p) h in
@@ -214,17 +209,9 @@ quot_ordered a b c d p h c0 =
     let u = max_is (ceil_div (b *ℤ pos p) n) (ceil_div (b *ℤ pos p) (unsigned_abs d)) in
     omega (arith, lins, m, l.0, u.0)
 
-pub div_ordered : (a b c d : ℤ) (p : ℕ) → a ≤ℤ b → c ≤ℤ d → (pos 0 <ℤ c) ⊎ (d <ℤ pos 0) → low_ratio a b c d p ≤ℤ high_ratio a b c d p
+pub div_ordered : (a b c d : ℤ) (p : ℕ) → a ≤ℤ b → c ≤ℤ d → (pos 0 <ℤ c) ⊎ (d <ℤ pos 0) → least_ratio a b c d p ≤ℤ most_ratio a b c d p
 div_ordered a b c d p h o (inl q) = rw (positive_is c q) (quot_ordered a b c d p h q)
 div_ordered a b c d p h o (inr q) = rw (not_positive_is c d o q) (quot_ordered (neg_ℤ b) (neg_ℤ a) (neg_ℤ d) (neg_ℤ c) p (omega (arith, lins)) (omega (arith, lins)))
-
--- 2^62 < 2^(126 - s)
-pub room : (a : ℕ) (s : ℕ) → s ≤ 60 → a ≤ 2 ^ 62 → a < 2 ^ (126 - s)
-room a s h g =
-    let e : 126 - s ≡ 66 + (60 - s) = omega arith in
-    let f : 2 ^ (126 - s) ≡ 2 ^ 66 * 2 ^ (60 - s) = ap (λ (i : ℕ). 2 ^ i) e ∙ pow-add 2 66 (60 - s) in
-    let q : 0 < 2 ^ (60 - s) = pow_pos (60 - s) in
-    omega arith
 
 pub apart_of : (c d : ℤ) → ((c ≤ℤ pos 0) × (pos 0 ≤ℤ d) → ⊥) → (pos 0 <ℤ c) ⊎ (d <ℤ pos 0)
 apart_of c d f = by_lt_z (pos 0) c inl (λ h. by_lt_z d (pos 0) inr (λ g. absurd (f (h, g))))
@@ -233,8 +220,8 @@ pub not_apart : (c d : ℤ) → (pos 0 <ℤ c) ⊎ (d <ℤ pos 0) → c ≤ℤ p
 not_apart c d (inl p) h g = omega (arith, lins)
 not_apart c d (inr p) h g = omega (arith, lins)
 
-pub low_args : (a c d a' c' d' : ℤ) (p : ℕ) → a ≡ a' → c ≡ c' → d ≡ d' → low_quot a c d p ≡ low_quot a' c' d' p
+pub low_args : (a c d a' c' d' : ℤ) (p : ℕ) → a ≡ a' → c ≡ c' → d ≡ d' → least_quotient a c d p ≡ least_quotient a' c' d' p
 low_args a c d a' c' d' p e f g = rw (e, f, g) refl
 
-pub high_args : (a c d a' c' d' : ℤ) (p : ℕ) → a ≡ a' → c ≡ c' → d ≡ d' → high_quot a c d p ≡ high_quot a' c' d' p
+pub high_args : (a c d a' c' d' : ℤ) (p : ℕ) → a ≡ a' → c ≡ c' → d ≡ d' → most_quotient a c d p ≡ most_quotient a' c' d' p
 high_args a c d a' c' d' p e f g = rw (e, f, g) refl

@@ -1,16 +1,19 @@
--- Near-roots of boxes.
-use Rattle.std.proofs.Common.{◌≡◌, ℕ, ◌+◌, ◌*◌, ◌-◌, ◌≤◌, ◌<◌, ◌^◌, [], ◌∷◌, ℤ, pos, ◌+ℤ◌, ◌-ℤ◌, ◌*ℤ◌, neg_ℤ, ◌≤ℤ◌, ◌<ℤ◌, arith, sym, ap, ap₂, ◌∙◌, refl, pow_pos, subst, subst₂, ◌%◌, to_z, of_z, FitsSigned, mul-le-mul, le_refl, unsigned_abs}
-use Rattle.std.proofs.lemmas.Int.{ints, by_lt_z, to_z_pos}
-use Rattle.std.proofs.lemmas.Nat.{pow-add, one_shl, pow_below}
+-- Boxes of near-roots.
+use Rattle.std.proofs.Common.{◌≡◌, ℕ, ◌+◌, ◌*◌, ◌-◌, ◌≤◌, ◌<◌, ◌^◌, [], ◌∷◌, ℤ, pos, ◌+ℤ◌, ◌-ℤ◌, ◌*ℤ◌, neg_ℤ, ◌≤ℤ◌, ◌<ℤ◌, arith, ap, ◌∙◌, refl, pow_pos, mul-pos}
+use Rattle.std.proofs.lemmas.Int.{by_lt_z}
 use Rattle.whole_math.proofs.Ring.{ring, va, ko, ◌⊕◌, ◌⊖◌, ◌⊗◌, ng}
-use Rattle.whole_math.proofs.Order.{lins, mul_le_right, mul_le_left, mul_le_cancel, mul_nn, square_nn}
+use Rattle.whole_math.proofs.Order.{lins, mul_le_right, mul_le_cancel, mul_nn}
+use Rattle.whole_math.proofs.Inequalities.{pos_nn, weak}
 use Rattle.whole_math.proofs.Rounding.{ceil_le, lt_floor}
-use Rattle.whole_math.proofs.Certificates.{cancel, mul_positive, square_root, square_mono}
+use Rattle.whole_math.proofs.Absolute.{abs_times_le}
+use Rattle.whole_math.proofs.Powers.{power_split}
+use Rattle.whole_math.proofs.Certificates.{square_root, square_mono}
 use Rattle.whole_math.specs.Rounding.{floor_div, ceil_div}
-use Rattle.std.specs.Int.{w64, w128}
 use Rattle.rational.specs.Rational.{Rational, InBox, IsNearRoot}
-use Rattle.whole_math.proofs.IntLaws.{neg_mul_ℤ}
-use Rattle.iv_core.proofs.Hold.{pos_nn}
+
+-- three orders joined by equal terms
+steps : (a b c d e f g h : ℤ) → b ≤ℤ c → d ≤ℤ e → f ≤ℤ g → a ≡ b → c ≡ d → e ≡ f → g ≡ h → a ≤ℤ h
+steps a b c d e f g h i₁ i₂ i₃ j₁ j₂ j₃ j₄ = omega (arith, lins)
 
 -- the numbers: r = a/d near the root of q = n/e, N at least q 2^(2B), hi^2 at least N + c, c at least N / 2^60
 pub root_high : (h big c a q : ℤ) (d e s p : ℕ) → 0 < e →
@@ -21,7 +24,7 @@ pub root_high : (h big c a q : ℤ) (d e s p : ℕ) → 0 < e →
     0 < s → (a *ℤ pos p) ≤ℤ (h *ℤ pos d)
 root_high h big c a q d e s p e0 h0 a0 i j k l s0 =
     square_root (a *ℤ pos p) (h *ℤ pos d) (mul_nn h (pos d) h0 (pos_nn d))
-    (mul_le_cancel ((a *ℤ pos p) *ℤ (a *ℤ pos p)) ((h *ℤ pos d) *ℤ (h *ℤ pos d)) (e * s) (prod e s e0 s0)
+    (mul_le_cancel ((a *ℤ pos p) *ℤ (a *ℤ pos p)) ((h *ℤ pos d) *ℤ (h *ℤ pos d)) (e * s) (mul-pos e0 s0)
     (steps (((a *ℤ pos p) *ℤ (a *ℤ pos p)) *ℤ pos (e * s)) _ _ _ _ _ _ _
     (mul_le_right (pos (p * p)) (((a *ℤ a) *ℤ pos e) *ℤ pos s) ((q *ℤ (pos d *ℤ pos d)) *ℤ (pos s +ℤ pos 1)) (pos_nn (p * p)) l)
     (mul_le_right ((pos d *ℤ pos d) *ℤ (pos s +ℤ pos 1)) ((q *ℤ pos p) *ℤ pos p) (big *ℤ pos e) (pos_nn ((d * d) * (s + 1))) k)
@@ -31,40 +34,11 @@ root_high h big c a q d e s p e0 h0 a0 i j k l s0 =
     (ring (big ∷ pos e ∷ pos d ∷ pos s ∷ []) ((va 0 ⊗ va 1) ⊗ ((va 2 ⊗ va 2) ⊗ (va 3 ⊕ ko (pos 1)))) ((va 0 ⊗ (va 3 ⊕ ko (pos 1))) ⊗ ((va 2 ⊗ va 2) ⊗ va 1)) refl)
     (ring (h ∷ pos s ∷ pos d ∷ pos e ∷ []) (((va 0 ⊗ va 0) ⊗ va 1) ⊗ ((va 2 ⊗ va 2) ⊗ va 3)) (((va 0 ⊗ va 2) ⊗ (va 0 ⊗ va 2)) ⊗ (va 3 ⊗ va 1)) refl)))
   where
-    prod : (e s : ℕ) → 0 < e → 0 < s → 0 < e * s
-    prod e s h g = search (Rattle.std.proofs.Common.mul-pos)
-
     both : (big c z : ℤ) (s : ℕ) → (big +ℤ c) ≤ℤ z → big ≤ℤ (c *ℤ pos s) → ((big +ℤ c) *ℤ pos s) ≤ℤ (z *ℤ pos s) → (big *ℤ (pos s +ℤ pos 1)) ≤ℤ (z *ℤ pos s)
     both big c z s i j k =
         let e : (big +ℤ c) *ℤ pos s ≡ (big *ℤ pos s) +ℤ (c *ℤ pos s) = ring (big ∷ c ∷ pos s ∷ []) ((va 0 ⊕ va 1) ⊗ va 2) ((va 0 ⊗ va 2) ⊕ (va 1 ⊗ va 2)) refl in
         let f : big *ℤ (pos s +ℤ pos 1) ≡ (big *ℤ pos s) +ℤ big = ring (big ∷ pos s ∷ []) (va 0 ⊗ (va 1 ⊕ ko (pos 1))) ((va 0 ⊗ va 1) ⊕ va 0) refl in
         omega (arith, lins, e, f, j, k)
-
-    steps : (a b c d e f g h : ℤ) → b ≤ℤ c → d ≤ℤ e → f ≤ℤ g → a ≡ b → c ≡ d → e ≡ f → g ≡ h → a ≤ℤ h
-    steps a b c d e f g h i₁ i₂ i₃ j₁ j₂ j₃ j₄ = omega (arith, lins)
-
-pub root_small : (r n : ℤ) → pos 0 ≤ℤ r → (r *ℤ r) ≤ℤ n → n <ℤ pos (2 ^ 124) → r ≤ℤ pos (2 ^ 62)
-root_small r n h g i = square_root r (pos (2 ^ 62)) (pos_nn (2 ^ 62)) (omega (arith, lins))
-
-pub bit_is : (i : ℕ) → i < 62 → to_z w128 ((1 * 2 ^ (61 - i)) % 2 ^ 128) ≡ pos (2 ^ (61 - i))
-bit_is i h = ap (to_z w128) (one_shl (61 - i) 128 (omega arith)) ∙ to_z_pos w128 (2 ^ (61 - i)) (pow_below (61 - i) 127 (omega arith))
-
-pub bit_high : (i : ℕ) → i < 62 → pos (2 ^ (61 - i)) ≤ℤ pos (2 ^ 61)
-bit_high i h =
-    let e : (61 - i) + i ≡ 61 = omega arith in
-    let f : 2 ^ (61 - i) * 2 ^ i ≡ 2 ^ 61 = sym (pow-add 2 (61 - i) i) ∙ ap (λ (j : ℕ). 2 ^ j) e in
-    let q : 0 < 2 ^ i = pow_pos i in
-    let g : 2 ^ (61 - i) * 1 ≤ 2 ^ (61 - i) * 2 ^ i = mul-le-mul (le_refl (2 ^ (61 - i))) q in
-    omega (arith, ints)
-
-pub bit_twice : (i : ℕ) → i < 62 → (pos (2 ^ (61 - i)) +ℤ pos (2 ^ (61 - i))) ≡ pos (2 ^ (62 - i))
-bit_twice i h =
-    let e : 62 - i ≡ 1 + (61 - i) = omega arith in
-    let f : 2 ^ (62 - i) ≡ 2 ^ 1 * 2 ^ (61 - i) = ap (λ (j : ℕ). 2 ^ j) e ∙ pow-add 2 1 (61 - i) in
-    omega (arith, ints)
-
-pub bits_apart : (r b : ℤ) → ((r +ℤ b) +ℤ b) *ℤ ((r +ℤ b) +ℤ b) ≡ (r +ℤ (b +ℤ b)) *ℤ (r +ℤ (b +ℤ b))
-bits_apart r b = ring (r ∷ b ∷ []) (((va 0 ⊕ va 1) ⊕ va 1) ⊗ ((va 0 ⊕ va 1) ⊕ va 1)) ((va 0 ⊕ (va 1 ⊕ va 1)) ⊗ (va 0 ⊕ (va 1 ⊕ va 1))) refl
 
 pub root_low : (h big c a q : ℤ) (d e s p : ℕ) → 0 < e →
     pos 0 ≤ℤ a →
@@ -75,7 +49,7 @@ pub root_low : (h big c a q : ℤ) (d e s p : ℕ) → 0 < e →
 root_low h big c a q d e s p e0 a0 i j k l s0 =
     let s1 : pos 0 ≤ℤ (pos s -ℤ pos 1) = omega (arith, lins) in
     square_root (h *ℤ pos d) (a *ℤ pos p) (mul_nn a (pos p) a0 (pos_nn p))
-    (mul_le_cancel ((h *ℤ pos d) *ℤ (h *ℤ pos d)) ((a *ℤ pos p) *ℤ (a *ℤ pos p)) (e * s) (prod e s e0 s0)
+    (mul_le_cancel ((h *ℤ pos d) *ℤ (h *ℤ pos d)) ((a *ℤ pos p) *ℤ (a *ℤ pos p)) (e * s) (mul-pos e0 s0)
     (steps (((h *ℤ pos d) *ℤ (h *ℤ pos d)) *ℤ pos (e * s)) _ _ _ _ _ _ _
     (mul_le_right (pos ((d * d) * e)) ((h *ℤ h) *ℤ pos s) (big *ℤ (pos s -ℤ pos 1)) (pos_nn ((d * d) * e)) (both (h *ℤ h) c big s i j (mul_le_right (pos s) ((h *ℤ h) +ℤ c) big (pos_nn s) i)))
     (mul_le_right ((pos d *ℤ pos d) *ℤ (pos s -ℤ pos 1)) (big *ℤ pos e) ((q *ℤ pos p) *ℤ pos p) (mul_nn (pos (d * d)) (pos s -ℤ pos 1) (pos_nn (d * d)) s1) k)
@@ -85,38 +59,27 @@ root_low h big c a q d e s p e0 a0 i j k l s0 =
     (ring (q ∷ pos d ∷ pos s ∷ pos p ∷ []) (((va 0 ⊗ va 3) ⊗ va 3) ⊗ ((va 1 ⊗ va 1) ⊗ (va 2 ⊖ ko (pos 1)))) (((va 0 ⊗ (va 1 ⊗ va 1)) ⊗ (va 2 ⊖ ko (pos 1))) ⊗ (va 3 ⊗ va 3)) refl)
     (ring (a ∷ pos p ∷ pos e ∷ pos s ∷ []) ((((va 0 ⊗ va 0) ⊗ va 2) ⊗ va 3) ⊗ (va 1 ⊗ va 1)) (((va 0 ⊗ va 1) ⊗ (va 0 ⊗ va 1)) ⊗ (va 2 ⊗ va 3)) refl)))
   where
-    prod : (e s : ℕ) → 0 < e → 0 < s → 0 < e * s
-    prod e s h g = search (Rattle.std.proofs.Common.mul-pos)
-
     both : (z c big : ℤ) (s : ℕ) → (z +ℤ c) ≤ℤ big → big ≤ℤ (c *ℤ pos s) → ((z +ℤ c) *ℤ pos s) ≤ℤ (big *ℤ pos s) → (z *ℤ pos s) ≤ℤ (big *ℤ (pos s -ℤ pos 1))
     both z c big s i j k =
         let e : (z +ℤ c) *ℤ pos s ≡ (z *ℤ pos s) +ℤ (c *ℤ pos s) = ring (z ∷ c ∷ pos s ∷ []) ((va 0 ⊕ va 1) ⊗ va 2) ((va 0 ⊗ va 2) ⊕ (va 1 ⊗ va 2)) refl in
         let f : big *ℤ (pos s -ℤ pos 1) ≡ (big *ℤ pos s) -ℤ big = ring (big ∷ pos s ∷ []) (va 0 ⊗ (va 1 ⊖ ko (pos 1))) ((va 0 ⊗ va 1) ⊖ va 0) refl in
         omega (arith, lins, e, f, j, k)
 
-    steps : (a b c d e f g h : ℤ) → b ≤ℤ c → d ≤ℤ e → f ≤ℤ g → a ≡ b → c ≡ d → e ≡ f → g ≡ h → a ≤ℤ h
-    steps a b c d e f g h i₁ i₂ i₃ j₁ j₂ j₃ j₄ = omega (arith, lins)
-
 pub root_less : (r n : ℤ) → (r *ℤ r) ≤ℤ n → n <ℤ pos (2 ^ 124) → r <ℤ pos (2 ^ 62)
 root_less r n h g = by_lt_z r (pos (2 ^ 62)) (λ l. l) (λ l.
     let q : (pos (2 ^ 62) *ℤ pos (2 ^ 62)) ≤ℤ (r *ℤ r) = square_mono (pos (2 ^ 62)) r (omega (arith, lins)) l in
     absurd (omega (arith, lins)))
 
--- the two sides of a near-root, without the size
-near_sides : (z m : ℤ) (s : ℕ) → (pos (unsigned_abs z) *ℤ pos s) ≤ℤ m → ((z *ℤ pos s) ≤ℤ m) × ((neg_ℤ z *ℤ pos s) ≤ℤ m)
-near_sides z m s h =
-    let p : (z *ℤ pos s) ≤ℤ (pos (unsigned_abs z) *ℤ pos s) = mul_le_right (pos s) z (pos (unsigned_abs z)) (pos_nn s) (omega (arith, ints)) in
-    let q : (neg_ℤ z *ℤ pos s) ≤ℤ (pos (unsigned_abs z) *ℤ pos s) = mul_le_right (pos s) (neg_ℤ z) (pos (unsigned_abs z)) (pos_nn s) (omega (arith, ints)) in
-    (omega (arith, lins, p, h), omega (arith, lins, q, h))
+pub root_small : (r n : ℤ) → pos 0 ≤ℤ r → (r *ℤ r) ≤ℤ n → n <ℤ pos (2 ^ 124) → r ≤ℤ pos (2 ^ 62)
+root_small r n h g i = weak (root_less r n g i)
 
--- 2^b 2^b = 2^(b + b - k) 2^k
-twice : (k b : ℕ) → k ≤ b + b → pos (2 ^ b) *ℤ pos (2 ^ b) ≡ pos (2 ^ (b + b - k)) *ℤ pos (2 ^ k)
-twice k b h = let e : b + b ≡ (b + b - k) + k = omega arith in ap pos (sym (pow-add 2 b b) ∙ ap (λ (i : ℕ). 2 ^ i) e ∙ pow-add 2 (b + b - k) k)
+pub bits_apart : (r b : ℤ) → ((r +ℤ b) +ℤ b) *ℤ ((r +ℤ b) +ℤ b) ≡ (r +ℤ (b +ℤ b)) *ℤ (r +ℤ (b +ℤ b))
+bits_apart r b = ring (r ∷ b ∷ []) (((va 0 ⊕ va 1) ⊕ va 1) ⊗ ((va 0 ⊕ va 1) ⊕ va 1)) ((va 0 ⊕ (va 1 ⊕ va 1)) ⊗ (va 0 ⊕ (va 1 ⊕ va 1))) refl
 
 moved : (k b : ℕ) (q : ℤ) → k ≤ b + b → (q *ℤ pos (2 ^ b)) *ℤ pos (2 ^ b) ≡ (q *ℤ pos (2 ^ k)) *ℤ pos (2 ^ (b + b - k))
 moved k b q h =
     ring (q ∷ pos (2 ^ b) ∷ []) ((va 0 ⊗ va 1) ⊗ va 1) (va 0 ⊗ (va 1 ⊗ va 1)) refl
-    ∙ ap (λ z. q *ℤ z) (twice k b h)
+    ∙ ap (λ z. q *ℤ z) (ap pos (power_split b b k h))
     ∙ ring (q ∷ pos (2 ^ k) ∷ pos (2 ^ (b + b - k)) ∷ []) (va 0 ⊗ (va 2 ⊗ va 1)) ((va 0 ⊗ va 1) ⊗ va 2) refl
 
 pub root_holds : (k b : ℕ) (u v lo hi : ℤ) → k ≤ b + b → pos 0 ≤ℤ hi →
@@ -127,7 +90,7 @@ root_holds k b u v lo hi fit h0 low high x r i near =
     let w : ℕ = b + b - k in
     let s0 : 0 < 2 ^ 60 = pow_pos 60 in
     let z : ℤ = ((r.num *ℤ r.num) *ℤ pos x.den) -ℤ (x.num *ℤ pos (r.den * r.den)) in
-    let t = near_sides z (x.num *ℤ pos (r.den * r.den)) (2 ^ 60) near.1 in
+    let t = abs_times_le z (x.num *ℤ pos (r.den * r.den)) (2 ^ 60) near.1 in
     let m : (x.num *ℤ pos (2 ^ b)) *ℤ pos (2 ^ b) ≡ (x.num *ℤ pos (2 ^ k)) *ℤ pos (2 ^ w) = moved k b x.num fit in
     let ku : ((u *ℤ pos x.den) *ℤ pos (2 ^ w)) ≤ℤ ((x.num *ℤ pos (2 ^ k)) *ℤ pos (2 ^ w)) = mul_le_right (pos (2 ^ w)) (u *ℤ pos x.den) (x.num *ℤ pos (2 ^ k)) (pos_nn (2 ^ w)) i.0 in
     let kv : ((x.num *ℤ pos (2 ^ k)) *ℤ pos (2 ^ w)) ≤ℤ ((v *ℤ pos x.den) *ℤ pos (2 ^ w)) = mul_le_right (pos (2 ^ w)) (x.num *ℤ pos (2 ^ k)) (v *ℤ pos x.den) (pos_nn (2 ^ w)) i.1 in (
@@ -161,17 +124,6 @@ before r n h g =
 
 pub argument_nn : (a : ℤ) (s : ℕ) → pos 0 ≤ℤ a → pos 0 ≤ℤ (a *ℤ pos (2 ^ s))
 argument_nn a s h = mul_nn a (pos (2 ^ s)) h (pos_nn (2 ^ s))
-
-pub argument_high : (a : ℤ) (s : ℕ) → a ≤ℤ pos (2 ^ 62) → s ≤ 60 → (a *ℤ pos (2 ^ s)) ≤ℤ pos (2 ^ 122)
-argument_high a s h g =
-    let e : s + (60 - s) ≡ 60 = omega arith in
-    let f : 2 ^ s * 2 ^ (60 - s) ≡ 2 ^ 60 = sym (pow-add 2 s (60 - s)) ∙ ap (λ (j : ℕ). 2 ^ j) e in
-    let q : 0 < 2 ^ (60 - s) = pow_pos (60 - s) in
-    let i : 2 ^ s * 1 ≤ 2 ^ s * 2 ^ (60 - s) = mul-le-mul (le_refl (2 ^ s)) q in
-    let j : pos (2 ^ s) ≤ℤ pos (2 ^ 60) = omega (arith, ints) in
-    let m : (a *ℤ pos (2 ^ s)) ≤ℤ (pos (2 ^ 62) *ℤ pos (2 ^ s)) = mul_le_right (pos (2 ^ s)) a (pos (2 ^ 62)) (pos_nn (2 ^ s)) h in
-    let n : (pos (2 ^ 62) *ℤ pos (2 ^ s)) ≤ℤ (pos (2 ^ 62) *ℤ pos (2 ^ 60)) = mul_le_left (pos (2 ^ 62)) (pos (2 ^ s)) (pos (2 ^ 60)) (pos_nn (2 ^ 62)) j in
-    omega (arith, lins, m, n)
 
 pub root_ordered : (lo hi m n : ℤ) → pos 0 ≤ℤ hi → m ≤ℤ n → (lo *ℤ lo) ≤ℤ m → n ≤ℤ (hi *ℤ hi) → lo ≤ℤ hi
 root_ordered lo hi m n h i j k = square_root lo hi h (omega (arith, lins, i, j, k))
@@ -207,21 +159,3 @@ near_low_end n z s h g =
   where
     last : (z q l n m : ℤ) → l <ℤ n → q ≤ℤ z → q ≡ m -ℤ l → n *ℤ (pos s -ℤ pos 1) ≡ m -ℤ n → (n *ℤ (pos s -ℤ pos 1)) <ℤ z
     last z q l n m i j e f = omega (arith, lins, i, j, e, f)
-
-pub cast_lo : (r s : ℤ) → r ≤ℤ s → s ≤ℤ pos (2 ^ 62) → r ≤ℤ pos (2 ^ 62)
-cast_lo r s h g = omega (arith, ints)
-
-pub cast_fits : (r : ℤ) → pos 0 ≤ℤ r → r ≤ℤ pos (2 ^ 62) → FitsSigned w64 (to_z w128 (of_z w128 r))
-cast_fits r h g = omega (arith, ints)
-
-pub same_top : (s : ℤ) → pos 0 ≤ℤ s → s ≤ℤ pos (2 ^ 62) → (z : ℤ) → z ≡ to_z w64 (of_z w64 (to_z w128 (of_z w128 s))) → z ≡ s
-same_top s h g z e = omega (arith, ints)
-
-pub same_end : (r s : ℤ) → pos 0 ≤ℤ r → r ≤ℤ s → s ≤ℤ pos (2 ^ 62) → (z : ℤ) → z ≡ to_z w64 (of_z w64 (to_z w128 (of_z w128 r))) → z ≡ r
-same_end r s h o g z e = same_top r h (cast_lo r s o g) z e
-
-pub cast_hi : (r s : ℤ) → r ≤ℤ s → neg_ℤ (pos (2 ^ 62)) ≤ℤ r → neg_ℤ (pos (2 ^ 62)) ≤ℤ s
-cast_hi r s h g = omega (arith, ints)
-
-pub end_cast : (z : ℤ) → neg_ℤ (pos (2 ^ 62)) ≤ℤ z → z ≤ℤ pos (2 ^ 62) → to_z w64 (of_z w64 z) ≡ z
-end_cast z h g = omega (arith, ints)
