@@ -11,3 +11,4 @@ pub mod Vectors
 pub mod Absolute
 pub mod Extremes
 pub mod Powers
+pub mod Quotients

@@ -1,3 +1,92 @@
-//! Laws of whole numbers that every later proof cites: identities of polynomials, orders and products,
-//! roundings, and sums over lists. Definitions stand in `specs/`, laws in `proofs/`; there is no code to run.
+//! Whole numbers: quotients rounded down, up and to the nearest, and the laws that every later proof
+//! cites: polynomial identities, orders and products, roundings, sums and vectors of whole numbers.
+//!
+//! `specs/` has the definitions, `proofs/` the laws; `laws` names those that a newcomer should see.
 #![tactic(auto)]
+
+pub mod laws;
+
+ghost use Rattle.std.specs.Prelude.{◌≡◌, ◌^◌, ◌<◌, ◌≤◌, pos, ◌+ℤ◌, ◌*ℤ◌, ◌≤ℤ◌, ◌<ℤ◌, unsigned_abs};
+ghost use Rattle.whole_math.specs.Rounding.{floor_div, ceil_div, nearest_div, IsFloor, IsCeil, IsNearest};
+
+/// ⌊n / m⌋, the greatest whole number that is at most n / m.
+pub fn floor(n: i128, m: i128) -> i128
+    requires positive { pos 0 <ℤ m }
+    ensures value { result ≡ floor_div n (unsigned_abs m) }
+    ensures bounds { IsFloor n (unsigned_abs m) result }
+    ensures size { unsigned_abs result ≤ unsigned_abs n }
+{
+    n.div_euclid(m)
+}
+
+/// What is left of n where m is taken ⌊n / m⌋ times.
+pub fn remainder(n: i128, m: i128) -> i128
+    requires positive { pos 0 <ℤ m }
+    ensures value { n ≡ (floor_div n (unsigned_abs m) *ℤ m) +ℤ result }
+    ensures low { pos 0 ≤ℤ result }
+    ensures high { result <ℤ m }
+{
+    n.rem_euclid(m)
+}
+
+/// ⌈n / m⌉, the least whole number that is at least n / m.
+pub fn ceil(n: i128, m: i128) -> i128
+    requires positive { pos 0 <ℤ m }
+    ensures value { result ≡ ceil_div n (unsigned_abs m) }
+    ensures bounds { IsCeil n (unsigned_abs m) result }
+    ensures size { unsigned_abs result ≤ unsigned_abs n }
+{
+    let down = floor(n, m);
+    let rest = remainder(n, m);
+    if rest == 0 { down } else { down + 1 }
+}
+
+/// ⌊n / m + 1/2⌋, the whole number nearest to n / m, and where two are as near the greater.
+pub fn nearest(n: i128, m: i128) -> i128
+    requires positive { pos 0 <ℤ m }
+    ensures value { result ≡ nearest_div n (unsigned_abs m) }
+    ensures bounds { IsNearest n (unsigned_abs m) result }
+    ensures size { unsigned_abs result ≤ unsigned_abs n }
+{
+    let down = floor(n, m);
+    let rest = remainder(n, m);
+    // Twice the rest might not fit.
+    if rest < m - rest { down } else { down + 1 }
+}
+
+/// ⌊n / 2^shift⌋
+pub fn floor_shift(n: i128, shift: u32) -> i128
+    requires shift { shift < 128 }
+    ensures value { result ≡ floor_div n (2 ^ shift) }
+    ensures size { unsigned_abs result ≤ unsigned_abs n }
+{
+    n >> shift
+}
+
+/// ⌈n / 2^shift⌉
+pub fn ceil_shift(n: i128, shift: u32) -> i128
+    requires shift { shift < 128 }
+    requires size { unsigned_abs n < 2 ^ 127 }
+    ensures value { result ≡ ceil_div n (2 ^ shift) }
+    ensures size { unsigned_abs result ≤ unsigned_abs n }
+{
+    -floor_shift(-n, shift)
+}
+
+#[cfg(test)]
+mod tests {
+    use super::*;
+
+    #[test]
+    fn rounds(rt: HostRuntime) {
+        assert_eq!(rt; (floor(7, 2), ceil(7, 2), nearest(7, 2)), (3, 4, 4));
+        assert_eq!(rt; (floor(-7, 2), ceil(-7, 2), nearest(-7, 2)), (-4, -3, -3));
+        assert_eq!(rt; (floor(5, 3), ceil(5, 3), nearest(5, 3)), (1, 2, 2));
+        assert_eq!(rt; (floor(-5, 3), remainder(-5, 3)), (-2, 1));
+        assert_eq!(rt;
+            nearest(i128::MAX, 2),
+            85070591730234615865843651857942052864
+        );
+        assert_eq!(rt; (floor_shift(-7, 1), ceil_shift(-7, 1)), (-4, -3));
+    }
+}
