@@ -1,2 +1,4 @@
 pub mod Walks
 pub mod Stops
+pub mod Fields
+pub mod HeadLaws

@@ -2,3 +2,5 @@ pub mod Reasons
 pub mod Places
 pub mod Walk
 pub mod FirstFailing
+pub mod Columns
+pub mod Head

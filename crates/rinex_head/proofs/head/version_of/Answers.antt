@@ -1,0 +1,28 @@
+-- No number but the one that was read stands in the columns.
+use Rattle.std.proofs.Common.{◌≡◌, pos, Ok, arith, sym, ◌∙◌}
+use Rattle.std.proofs.lemmas.Int.{ints}
+use Rattle.rinex_head.proofs.head.version_of.Goals as goal
+
+pub returns-in_default-clause-refused : goal.returns-in_default-clause-refused
+returns-in_default-clause-refused c v is =
+    let h = c.in-Ok.ensures.only (Ok (pos v.hundredths)) (rw c.field.ensures is.number) in
+    let same : c.in-Ok.hundredths ≡ pos v.hundredths = cc h in
+    let least = is.from_300 in
+    let most = is.to_305 in
+    let test = rw same at c.if-hundredths-le305.false in
+    omega (arith, ints, test)
+
+pub returns-in_default-2-clause-refused : goal.returns-in_default-2-clause-refused
+returns-in_default-2-clause-refused c v is =
+    let h = c.in-Ok.ensures.only (Ok (pos v.hundredths)) (rw c.field.ensures is.number) in
+    let same : c.in-Ok.hundredths ≡ pos v.hundredths = cc h in
+    let least = is.from_300 in
+    let most = is.to_305 in
+    let test = rw same at c.if-hundredths-ge300.false in
+    omega (arith, ints, test)
+
+pub returns-in_default-3-clause-refused : goal.returns-in_default-3-clause-refused
+returns-in_default-3-clause-refused c v is =
+    let h = c.read_fixed.ensures.only (Ok (pos v.hundredths)) (rw c.field.ensures is.number) in
+    let fault = sym c.in_default.is ∙ sym h in
+    cc fault
