@@ -1,9 +1,10 @@
 -- The laws of rationals: equality, order, and the ring.
-use Rattle.std.proofs.Common.{◌≡◌, ℕ, ◌*◌, ◌<◌, ◌⊎◌, inl, inr, [], ◌∷◌, ℤ, pos, ◌+ℤ◌, ◌*ℤ◌, ◌≤ℤ◌, arith, sym, refl}
+use Rattle.std.proofs.Common.{⊎_elim, ◌≡◌, ℕ, ◌*◌, ◌<◌, ◌⊎◌, inl, inr, [], ◌∷◌, ℤ, pos, ◌+ℤ◌, ◌*ℤ◌, ◌≤ℤ◌, arith, sym, refl}
 use Rattle.std.proofs.lemmas.Int.{ints, by_lt_z}
-use Rattle.whole_math.proofs.Ring.{ring, va, ◌⊕◌, ◌⊖◌, ◌⊗◌}
-use Rattle.whole_math.proofs.Order.{lins, mul_le_right, mul_le_cancel, eq_by, le_by_factor, mul_nn}
-use Rattle.rational.specs.Rational.{Rational, add_r, mul_r, ◌≈◌, ◌≤ʳ◌}
+use Rattle.whole_math.proofs.Ring.{ring, va, ◌⊕◌, ◌⊖◌, ◌⊗◌, ng}
+use Rattle.whole_math.proofs.Inequalities.{same_by, nat}
+use Rattle.whole_math.proofs.Order.{lins, mul_le_right, mul_le_cancel, eq_by, le_by_factor, mul_nn, square_nn}
+use Rattle.rational.specs.Rational.{Rational, of_whole, add_r, neg_r, sub_r, mul_r, ◌≈◌, ◌≤ʳ◌, ◌<ʳ◌}
 
 nn : (n : ℕ) → pos 0 ≤ℤ pos n
 nn n = omega (arith, ints)
@@ -77,3 +78,57 @@ pub mul_r-mono : (p q r : Rational) → pos 0 ≤ℤ r.num → p ≤ʳ q → mul
 mul_r-mono p q r k h = le_by_factor ((p.num *ℤ r.num) *ℤ (pos q.den *ℤ pos r.den)) ((q.num *ℤ r.num) *ℤ (pos p.den *ℤ pos r.den))
     (p.num *ℤ pos q.den) (q.num *ℤ pos p.den) (r.num *ℤ pos r.den) h (mul_nn r.num (pos r.den) k (nn r.den))
     (ring (q.num ∷ r.num ∷ (pos p.den) ∷ (pos r.den) ∷ p.num ∷ (pos q.den) ∷ []) (((va 0 ⊗ va 1) ⊗ (va 2 ⊗ va 3)) ⊖ ((va 4 ⊗ va 1) ⊗ (va 5 ⊗ va 3))) ((va 1 ⊗ va 3) ⊗ ((va 0 ⊗ va 2) ⊖ (va 4 ⊗ va 5))) refl)
+
+-- ---- the strict order
+pub <ʳ_not : (p q : Rational) → p <ʳ q → q ≤ʳ p → ⊥
+<ʳ_not p q h g = omega (arith, lins, h, g)
+
+pub not_≤ʳ : (p q : Rational) → (p ≤ʳ q) ⊎ (q <ʳ p)
+not_≤ʳ p q = by_lt_z (q.num *ℤ pos p.den) (p.num *ℤ pos q.den) (λ l. inr l) (λ l. inl l)
+
+pub <ʳ_weak : (p q : Rational) → p <ʳ q → p ≤ʳ q
+<ʳ_weak p q h = omega (arith, lins, h)
+
+pub ≤ʳ_<ʳ_trans : (p q r : Rational) → p ≤ʳ q → q <ʳ r → p <ʳ r
+≤ʳ_<ʳ_trans p q r h g = ⊎_elim (λ (k : r ≤ʳ p). absurd (<ʳ_not q r g (≤ʳ_trans r p q k h))) (λ (k : p <ʳ r). k) (not_≤ʳ r p)
+
+pub <ʳ_≤ʳ_trans : (p q r : Rational) → p <ʳ q → q ≤ʳ r → p <ʳ r
+<ʳ_≤ʳ_trans p q r h g = ⊎_elim (λ (k : r ≤ʳ p). absurd (<ʳ_not p q h (≤ʳ_trans q r p g k))) (λ (k : p <ʳ r). k) (not_≤ʳ r p)
+
+pub <ʳ_trans : (p q r : Rational) → p <ʳ q → q <ʳ r → p <ʳ r
+<ʳ_trans p q r h g = <ʳ_≤ʳ_trans p q r h (<ʳ_weak q r g)
+
+-- an order holds of equal rationals alike
+pub ≤ʳ_along : (p p' q q' : Rational) → p ≈ p' → q ≈ q' → p ≤ʳ q → p' ≤ʳ q'
+≤ʳ_along p p' q q' e f h = ≤ʳ_trans p' p q' (≤ʳ_from_same p' p (≈_sym p p' e)) (≤ʳ_trans p q q' h (≤ʳ_from_same q q' f))
+
+pub <ʳ_along : (p p' q q' : Rational) → p ≈ p' → q ≈ q' → p <ʳ q → p' <ʳ q'
+<ʳ_along p p' q q' e f h = ≤ʳ_<ʳ_trans p' p q' (≤ʳ_from_same p' p (≈_sym p p' e)) (<ʳ_≤ʳ_trans p q q' h (≤ʳ_from_same q q' f))
+
+-- ---- whole numbers, 0, and the negative
+pub of_whole-add : (a b : ℤ) → of_whole (a +ℤ b) ≈ add_r (of_whole a) (of_whole b)
+of_whole-add a b = same_by (a ∷ b ∷ []) (λ a b. ((a ⊕ b) ⊗ (nat 1 ⊗ nat 1), (a ⊗ nat 1 ⊕ b ⊗ nat 1) ⊗ nat 1)) refl
+
+pub of_whole-mul : (a b : ℤ) → of_whole (a *ℤ b) ≈ mul_r (of_whole a) (of_whole b)
+of_whole-mul a b = same_by (a ∷ b ∷ []) (λ a b. (a ⊗ b ⊗ (nat 1 ⊗ nat 1), a ⊗ b ⊗ nat 1)) refl
+
+pub of_whole-le : (a b : ℤ) → a ≤ℤ b → of_whole a ≤ʳ of_whole b
+of_whole-le a b h = mul_le_right (pos 1) a b (nn 1) h
+
+pub add_r-zero : (p : Rational) → add_r p (of_whole (pos 0)) ≈ p
+add_r-zero p = same_by (p.num ∷ pos p.den ∷ []) (λ a d. ((a ⊗ nat 1 ⊕ nat 0 ⊗ d) ⊗ d, a ⊗ (d ⊗ nat 1))) refl
+
+pub mul_r-one : (p : Rational) → mul_r p (of_whole (pos 1)) ≈ p
+mul_r-one p = same_by (p.num ∷ pos p.den ∷ []) (λ a d. (a ⊗ nat 1 ⊗ d, a ⊗ (d ⊗ nat 1))) refl
+
+pub add_r-neg : (p : Rational) → add_r p (neg_r p) ≈ of_whole (pos 0)
+add_r-neg p = same_by (p.num ∷ pos p.den ∷ []) (λ a d. ((a ⊗ d ⊕ ng a ⊗ d) ⊗ nat 1, nat 0 ⊗ (d ⊗ d))) refl
+
+pub sub_r-is : (p q : Rational) → sub_r p q ≈ add_r p (neg_r q)
+sub_r-is p q = same_by (p.num ∷ pos p.den ∷ q.num ∷ pos q.den ∷ []) (λ a d b e. ((a ⊗ e ⊖ b ⊗ d) ⊗ (d ⊗ e), (a ⊗ e ⊕ ng b ⊗ d) ⊗ (d ⊗ e))) refl
+
+pub square_r-nonneg : (p : Rational) → of_whole (pos 0) ≤ʳ mul_r p p
+square_r-nonneg p = step (p.num *ℤ p.num) (p.den * p.den) (square_nn p.num)
+  where
+    step : (a : ℤ) (d : ℕ) → pos 0 ≤ℤ a → (pos 0 *ℤ pos d) ≤ℤ (a *ℤ pos 1)
+    step a d h = omega (arith, ints)
