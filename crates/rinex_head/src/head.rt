@@ -30,6 +30,10 @@ pub struct Version {
 
 const FIRST_LABEL: &[u8] = b"RINEX VERSION / TYPE";
 
+const OLDEST: i64 = 300;
+
+const NEWEST: i64 = 305;
+
 fn trim_end(text: &[u8]) -> &[u8]
     ensures { result.now ≡ trimmed text.now }
 {
@@ -74,7 +78,7 @@ pub fn version_of(line: &Line<'_>) -> Result<Version, At>
         return Err(refused);
     }
     match read_fixed(&field::<9>(line.bytes, 1), 2) {
-        Ok(hundredths) if hundredths >= 300 && hundredths <= 305 => Ok(Version {
+        Ok(hundredths) if hundredths >= OLDEST && hundredths <= NEWEST => Ok(Version {
             hundredths: hundredths as u16,
             kind: byte_in(line.bytes, 21),
             system: byte_in(line.bytes, 41),

@@ -9,7 +9,7 @@ returns-in_default-clause-refused c v is =
     let same : c.in-Ok.hundredths ≡ pos v.hundredths = cc h in
     let least = is.from_300 in
     let most = is.to_305 in
-    let test = rw same at c.if-hundredths-le305.false in
+    let test = rw same at c.if-hundredths-le-NEWEST.false in
     omega (arith, ints, test)
 
 pub returns-in_default-2-clause-refused : goal.returns-in_default-2-clause-refused
@@ -18,7 +18,7 @@ returns-in_default-2-clause-refused c v is =
     let same : c.in-Ok.hundredths ≡ pos v.hundredths = cc h in
     let least = is.from_300 in
     let most = is.to_305 in
-    let test = rw same at c.if-hundredths-ge300.false in
+    let test = rw same at c.if-hundredths-ge-OLDEST.false in
     omega (arith, ints, test)
 
 pub returns-in_default-3-clause-refused : goal.returns-in_default-3-clause-refused
