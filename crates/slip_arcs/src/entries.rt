@@ -1,0 +1,74 @@
+//! What the pairs say of one satellite, and how far it goes on without a cut.
+ghost use Rattle.std.specs.Prelude.{◌≡◌, ◌<◌, ◌≤◌, length, All, IfSome, ℕ, true, false};
+ghost use Rattle.std.specs.Option.{option_copied};
+ghost use Rattle.slip_arcs.specs.Used.{IsInRange, IsSmall, is_cut, entry_in, entry, goes_on};
+
+use crate::phase::size_of_jump;
+use crate::used::{UsedPair, UsedSat};
+
+// Whether there is a cut between two entries.
+fn is_cut_between(before: &UsedSat, now: &UsedSat, power: bool, jump: u32) -> bool
+    requires before { IsSmall before.now }
+    requires now { IsSmall now.now }
+    ensures { result ≡ is_cut jump power before.now now.now }
+{
+    if power {
+        return true;
+    }
+    if now.lost {
+        return true;
+    }
+    size_of_jump(before, now) > 1000 * u64::from(jump)
+}
+
+fn find_in(sats: &[UsedSat], sat: u8) -> Option<&UsedSat>
+    ensures { option_copied result ≡ entry_in sats.now sat }
+{
+    sats.iter().find(|u| u.sat == sat)
+}
+
+// What a pair says of a satellite.
+fn entry_of(used: &[UsedPair], at: usize, sat: u8) -> Option<UsedSat>
+    requires ranges { All IsInRange used.now }
+    requires inside { at < length used.now }
+    ensures entry { result ≡ entry used.now sat at }
+    ensures small { IfSome result IsSmall }
+{
+    find_in(&used[at].sats, sat).copied()
+}
+
+/// Whether a satellite is used in a pair and in the next, without a cut between them.
+pub fn does_go_on(used: &[UsedPair], at: usize, sat: u8, jump: u32) -> bool
+    requires few { length used.now ≤ 3600 }
+    requires ranges { All IsInRange used.now }
+    requires inside { at < length used.now }
+    ensures { result ≡ goes_on jump used.now sat at }
+{
+    if at + 1 >= used.len() {
+        return false;
+    }
+    let Some(before) = entry_of(used, at, sat) else {
+        return false;
+    };
+    let Some(now) = entry_of(used, at + 1, sat) else {
+        return false;
+    };
+    !is_cut_between(&before, &now, used[at + 1].power, jump)
+}
+
+/// The last pair to which a satellite goes on from this pair.
+pub fn last_of(used: &[UsedPair], first: usize, sat: u8, jump: u32) -> usize
+    requires few { length used.now ≤ 3600 }
+    requires ranges { All IsInRange used.now }
+    requires inside { first < length used.now }
+    ensures order { first ≤ result }
+    ensures inside { result < length used.now }
+    ensures held { (i : ℕ) → first ≤ i → i < result → goes_on jump used.now sat i ≡ true }
+    ensures ends { goes_on jump used.now sat result ≡ false }
+{
+    let mut last = first;
+    'run: while does_go_on(used, last, sat, jump) {
+        last += 1;
+    }
+    last
+}

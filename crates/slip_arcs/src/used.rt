@@ -1,0 +1,20 @@
+//! What a taken pair says of its satellites.
+
+/// A satellite that a pair uses.
+#[derive(Clone, Copy, Debug)]
+pub struct UsedSat {
+    /// The satellite's number.
+    pub sat: u8,
+    /// The rover's phase minus the base's on L1 and on L2, in thousandths of a cycle.
+    pub phase: [i64; 2],
+    /// Whether a receiver lost lock on one of its phases in an epoch up to this pair.
+    pub lost: bool,
+}
+
+/// A pair of epochs: the satellites that it uses, in rising number.
+#[derive(Debug, Drop)]
+pub struct UsedPair {
+    /// Whether an epoch up to this pair says that power failed.
+    pub power: bool,
+    pub sats: Vec<UsedSat>,
+}
