@@ -1,10 +1,10 @@
 -- The places of the integers, and what the coefficients there give.
 use Rattle.std.proofs.Common.{◌≡◌, ℕ, zero, suc, ◌+◌, ◌*◌, ◌<◌, ◌≤◌, Bool, true, false, cond, Option, Some, None, List, [], ◌∷◌, length, take, set, count_by, ℤ, pos, ◌+ℤ◌, ◌*ℤ◌, neg_ℤ, arith, sym, ◌∙◌, ap, refl, length-set, get_or}
-use Rattle.std.specs.Prelude.{slice_get, position, ◌==◌}
+use Rattle.std.specs.Prelude.{slice_get, position, ◌==◌, filter}
 use Rattle.std.specs.Option.{option_map}
 use Rattle.std.proofs.lemmas.Option.{slice_get_within, get_or_from_slice_get, none-some, same_Some}
 use Rattle.std.proofs.lemmas.List.Quantifiers.{position-Some}
-use Rattle.std.proofs.lemmas.List.Sums.{count_by_more_yes, sum_by-take-le}
+use Rattle.std.proofs.lemmas.List.Sums.{count_by_more_yes, sum_by-take-le, count_by-le-length}
 use Rattle.std.proofs.lemmas.Bool.{false≢true}
 use Rattle.std.proofs.Math.Nat.{mul-le-mul_left}
 use Rattle.whole_math.specs.Vectors.{len, dot, zeros}
@@ -13,7 +13,8 @@ use Rattle.whole_math.proofs.Ring.{◌⊕◌, ◌⊗◌}
 use Rattle.whole_math.proofs.Inequalities.{same_by, nat}
 use Rattle.obs_rows.specs.declared.arcs.Arc.{Arc}
 use Rattle.obs_rows.specs.Arcs.{is_free, free_count, free_before}
-use Rattle.obs_rows.specs.Signals.{phases}
+use Rattle.obs_rows.specs.declared.units.TheConstants.{PHASES, FINE_SIGNALS, COARSE_SIGNALS}
+use Rattle.obs_rows.specs.Signals.{phases, is_phase}
 use Rattle.obs_rows.specs.Integers.{integer_count, integer_place, is_some_free, entry_at}
 use Rattle.obs_rows.specs.SignalGroups.{only_at}
 
@@ -74,3 +75,14 @@ dot_set (suc n) (suc i) c (x ∷ z) h = ap (λ (w : ℤ). (pos 0 *ℤ x) +ℤ w)
 pub dot_only_at : (n : ℕ) (p : Option ℕ) (c : ℤ) (z : List ℤ) → ((i : ℕ) → p ≡ Some i → i < n) → dot (only_at n p c) z ≡ c *ℤ entry_at z p
 dot_only_at n (Some i) c z h = dot_set n i c z (h i refl)
 dot_only_at n None c z h = dot_zeros n z ∙ times_zero c
+
+-- ---- sizes
+pub phases_few : (scale : ℕ) → length (phases scale) ≤ PHASES
+phases_few scale = few (scale == 0)
+  where
+    few : (fine : Bool) → length (filter is_phase (cond fine FINE_SIGNALS COARSE_SIGNALS)) ≤ PHASES
+    few true = omega arith
+    few false = omega arith
+
+pub free_le_length : (arcs : List Arc) → free_count arcs ≤ length arcs
+free_le_length arcs = count_by-le-length is_free arcs

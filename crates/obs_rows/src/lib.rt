@@ -3,22 +3,30 @@
 
 mod arcs;
 mod bands;
-mod builder;
+mod pair_builder;
 mod pair_list;
 mod pair_rows;
+mod places;
+mod ranges;
 mod row_list;
 mod rows;
+mod session_builder;
 mod sessions;
 mod tables;
 mod units;
 
 pub use arcs::{Arc, ArcList};
 pub use bands::{L1_LETTERS, L2_LETTERS, Signals};
-pub use builder::SessionBuilder;
+pub use pair_builder::PairBuilder;
 pub use pair_list::PairList;
 pub use pair_rows::PairRows;
+pub use places::{
+    counted_signals, free_arcs, integer_count, integer_place, is_of_pair, phase_count,
+};
+pub use ranges::{are_arcs, are_radii, are_within, is_arc_in_range, is_point, is_radius, is_scale};
 pub use row_list::RowList;
 pub use rows::Row;
+pub use session_builder::SessionBuilder;
 pub use sessions::Session;
 pub use tables::{FactorTable, FormTable, FrontTable, MapTable, NormalTable};
 pub use units::{

@@ -1,0 +1,58 @@
+//! Tests of the ranges that rows, arcs and sessions keep.
+ghost use Rattle.std.specs.Prelude.{◌≡◌, ◌↔◌, ◌^◌, ◌≤◌, All, IsTrue, IsSome, IfSome};
+ghost use Rattle.obs_rows.specs.Ranges.{IsWithin, IsBelow, IsRadius, IsScale, IsPoint};
+ghost use Rattle.obs_rows.specs.Arcs.{IsArcInRange, AreArcs};
+
+use crate::{Arc, COARSE_SCALE, MOST_FREE_ARCS, free_arcs};
+
+/// Whether each number is at most so great in size.
+pub fn are_within(numbers: &[i64], most: u64) -> bool
+    ensures { IsTrue result ↔ All (IsWithin most) numbers.now }
+{
+    numbers.iter().all(|n| n.unsigned_abs() <= most)
+}
+
+/// Whether a number is the radius of a box of a row.
+pub fn is_radius(number: i64) -> bool
+    ensures { IsTrue result ↔ IsRadius number }
+{
+    0 <= number && number <= 1 << 20
+}
+
+/// Whether each number is the radius of a box of a row.
+pub fn are_radii(numbers: &[i64]) -> bool
+    ensures { IsTrue result ↔ All IsRadius numbers.now }
+{
+    numbers.iter().all(|n| 0 <= *n && *n <= 1 << 20)
+}
+
+/// Whether this is the scale of a fine or a coarse session.
+pub fn is_scale(scale: u32) -> bool
+    ensures { IsTrue result ↔ IsScale scale }
+{
+    scale == 0 || scale == COARSE_SCALE
+}
+
+/// Whether each coordinate, in 0.1 mm, is at most 7,000 km in size.
+pub fn is_point(point: &[i64; 3]) -> bool
+    ensures { IsTrue result ↔ IsPoint point.now }
+{
+    are_within(point, 70_000_000_000)
+}
+
+/// Whether an arc's numbers are in range.
+pub fn is_arc_in_range(arc: &Arc) -> bool
+    ensures { IsTrue result ↔ IsArcInRange arc.now }
+{
+    let shifts = arc.shift.iter().all(|n| n.unsigned_abs() < 1 << 40);
+    1 <= arc.sat && arc.sat <= 32 && arc.first <= arc.last && arc.last < 3600 && shifts
+}
+
+/// Whether these are the arcs of a session: 2 to 200, of which 1 to 20 are free, with their numbers in range.
+pub fn are_arcs(arcs: &[Arc]) -> bool
+    ensures { IsTrue result ↔ AreArcs arcs.now }
+{
+    let free = free_arcs(arcs);
+    let ranges = arcs.iter().all(|a| is_arc_in_range(a));
+    2 <= arcs.len() && arcs.len() <= 200 && 1 <= free && free <= MOST_FREE_ARCS && ranges
+}
