@@ -426,9 +426,9 @@ mod tests {
     fn bounds_roots(rt: HostRuntime) -> Result<(), Fail> {
         let two = Iv::<0>::point(2)?.root_to::<4>();
         assert_eq!(rt; (two.lo, two.hi), (22, 23));
-        let eighths = between(4, 9)?.root_to::<3>();
+        let eighths = Iv::<0>::from_ends(4, 9).root_to::<3>();
         assert_eq!(rt; (eighths.lo, eighths.hi), (15, 25));
-        let all = between(0, MOST)?.root_to::<30>();
+        let all = Iv::<0>::from_ends(0, MOST).root_to::<30>();
         assert_eq!(rt; (all.lo, all.hi), (0, (1 << 61) + 1));
         let largest = Iv::<60>::point(MOST)?.root_to::<60>();
         assert_eq!(rt; (largest.lo, largest.hi), ((1 << 61) - 2, (1 << 61) + 1));
