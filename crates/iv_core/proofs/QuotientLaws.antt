@@ -7,6 +7,7 @@ use Rattle.whole_math.proofs.Inequalities.{pos_nn, weak}
 use lib.Signed.{lt_z}
 use Rattle.whole_math.proofs.Rounding.{floor_le, floor_greatest, ceil_le, ceil_least, floor_le_ceil}
 use Rattle.whole_math.proofs.Extremes.{min_is, max_is, min_case, max_case}
+use Rattle.whole_math.proofs.Quotients.{floor_at, ceil_at}
 use Rattle.whole_math.proofs.Absolute.{pos_abs, abs_pos}
 use Rattle.whole_math.proofs.Powers.{power_split}
 use Rattle.whole_math.proofs.IntLaws.{neg_mul_ℤ}
@@ -74,22 +75,6 @@ quot_ge m a c d p k n w zn xn yn zd xd yd xd0 yd0 c0 e2 mc md hx h g e1 =
 
     chain : (a b c d e f g h : ℤ) → a ≤ℤ b → b ≡ c → c ≤ℤ d → d ≡ e → e ≡ f → f ≡ g → a ≡ h → h ≤ℤ g
     chain a b c d e f g h i₁ i₂ i₃ i₄ i₅ i₆ i₇ = omega (arith, lins)
-
-floor_at : (z c m : ℤ) → pos 0 <ℤ c → m ≤ℤ floor_div z (unsigned_abs c) → (m *ℤ c) ≤ℤ z
-floor_at z c m h g =
-    let n : ℕ = unsigned_abs c in
-    let p : (m *ℤ pos n) ≤ℤ (floor_div z n *ℤ pos n) = mul_le_right (pos n) m (floor_div z n) (pos_nn n) g in
-    let q : (floor_div z n *ℤ pos n) ≤ℤ z = floor_le z n (abs_pos c h) in
-    let e : m *ℤ pos n ≡ m *ℤ c = ap (λ x. m *ℤ x) (pos_abs c (weak h)) in
-    omega (arith, lins)
-
-ceil_at : (z c m : ℤ) → pos 0 <ℤ c → ceil_div z (unsigned_abs c) ≤ℤ m → z ≤ℤ (m *ℤ c)
-ceil_at z c m h g =
-    let n : ℕ = unsigned_abs c in
-    let p : (ceil_div z n *ℤ pos n) ≤ℤ (m *ℤ pos n) = mul_le_right (pos n) (ceil_div z n) m (pos_nn n) g in
-    let q : z ≤ℤ (ceil_div z n *ℤ pos n) = ceil_le z n (abs_pos c h) in
-    let e : m *ℤ pos n ≡ m *ℤ c = ap (λ x. m *ℤ x) (pos_abs c (weak h)) in
-    omega (arith, lins)
 
 quot_holds : (k w n : ℕ) (a b c d : ℤ) → k ≤ n + w → pos 0 <ℤ c → c ≤ℤ d → (x y z : Rational) → InBox k a b x → InBox w c d y → mul_r z y ≈ x →
     InBox n (least_quotient a c d (2 ^ (n + w - k))) (most_quotient b c d (2 ^ (n + w - k))) z

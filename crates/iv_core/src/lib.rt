@@ -6,13 +6,14 @@ ghost use Rattle.std.specs.Prelude.{◌≡◌, ℕ, ◌+◌, ◌-◌, ◌*◌, �
 mod products;
 mod quotients;
 mod roots;
-mod rounding;
+mod scaling;
 
 use products::{least_product, least_square, most_product, most_square};
 use quotients::{high_end, low_end};
 use roots::{high_root, low_root, root_argument};
-use rounding::{ceil_ratio, ceil_shift, floor_ratio, floor_shift, scaled};
+use scaling::scaled;
 use thiserror::Error;
+use whole_math::{ceil, ceil_shift, floor, floor_shift};
 
 /// An end of the box would be more than 2^62 units from 0.
 #[derive(Clone, Copy, Debug, PartialEq, Eq, Error)]
@@ -118,8 +119,8 @@ impl<const K: u32> Iv<K> {
         ensures width { IfOk result (λ c. width_of c ≤ℤ pos 1) }
     {
         let n = scaled(num, K);
-        let lo = floor_ratio(n, den);
-        let hi = ceil_ratio(n, den);
+        let lo = floor(n, den);
+        let hi = ceil(n, den);
         Iv::enclose(lo, hi)
     }
 

@@ -2,7 +2,8 @@
 ghost use Rattle.std.specs.Prelude.{◌≡◌, ◌^◌, ◌≤◌, pos, ◌≤ℤ◌, ◌<ℤ◌, ◌⊎◌, unsigned_abs};
 ghost use Rattle.iv_core.specs.Boxes.{least_quotient, most_quotient, least_ratio, most_ratio};
 
-use crate::rounding::{ceil_ratio, floor_ratio, shifted};
+use crate::scaling::shifted;
+use whole_math::{ceil, floor};
 
 // The lesser of a · 2^shift / c and a · 2^shift / d, rounded down.
 fn low_quotient(a: i64, c: i64, d: i64, shift: u32) -> i128
@@ -13,7 +14,7 @@ fn low_quotient(a: i64, c: i64, d: i64, shift: u32) -> i128
     ensures { result ≡ least_quotient a c d (2 ^ shift) }
 {
     let n = shifted(a, shift);
-    floor_ratio(n, c as i128).min(floor_ratio(n, d as i128))
+    floor(n, c as i128).min(floor(n, d as i128))
 }
 
 // The greater of b · 2^shift / c and b · 2^shift / d, rounded up.
@@ -25,7 +26,7 @@ fn high_quotient(b: i64, c: i64, d: i64, shift: u32) -> i128
     ensures { result ≡ most_quotient b c d (2 ^ shift) }
 {
     let n = shifted(b, shift);
-    ceil_ratio(n, c as i128).max(ceil_ratio(n, d as i128))
+    ceil(n, c as i128).max(ceil(n, d as i128))
 }
 
 // The lower end of a quotient of boxes.

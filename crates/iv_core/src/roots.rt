@@ -2,7 +2,8 @@
 ghost use Rattle.std.specs.Prelude.{◌≡◌, ◌-◌, ◌^◌, ◌<◌, ◌≤◌, pos, ◌+ℤ◌, ◌-ℤ◌, ◌*ℤ◌, ◌≤ℤ◌, ◌<ℤ◌};
 ghost use Rattle.whole_math.specs.Rounding.{ceil_div};
 
-use crate::rounding::{ceil_shift, shifted};
+use crate::scaling::shifted;
+use whole_math::ceil_shift;
 
 fn bit_of(i: u32) -> i128
     requires { i < 62 }
