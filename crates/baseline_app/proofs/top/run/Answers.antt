@@ -1,0 +1,16 @@
+use Rattle.std.proofs.Common.{inl, inr}
+use Rattle.baseline_app.proofs.Completes.{run_complete, run_usage, run_write}
+use Rattle.baseline_app.proofs.top.run.Goals as goal
+
+pub returns-clause-write : goal.returns-clause-write
+returns-clause-write g c = run_write _ _ _ _ _ c.write_answer.ensures.run
+
+pub returns-clause-usage : goal.returns-clause-usage
+returns-clause-usage g c = run_usage _ _ _ _ _ c.write_answer.ensures.run
+
+pub returns-clause-complete : goal.returns-clause-complete
+returns-clause-complete g c = λ job asked readable quiet.
+    run_complete job _ _ _ _ _ c.write_answer.ensures.run asked readable (elim quiet [
+      | inl sure ↦ c.write_answer.ensures.sure job asked sure
+      | inr stays ↦ λ e. stays (c.write_answer.ensures.read e)
+    ])

@@ -1,0 +1,33 @@
+-- What each job ends with, on what is told of the files. A command adds its cases.
+use Rattle.std.specs.Prelude.{◌≡◌, ◌⊎◌, ℕ, List, []}
+use Rattle.std.specs.declared.option.Option.{Option}
+use Rattle.zero_rows.specs.Rows.{IsZeroFile}
+use Rattle.baseline_app.specs.declared.status.Status.TheVariants.{Usage, NoMemory}
+use Rattle.baseline_app.specs.declared.words.Job.{Job}
+use Rattle.baseline_app.specs.declared.words.Job.TheVariants.{Zero}
+use Rattle.baseline_app.specs.Words.{IsJob}
+use Rattle.baseline_app.specs.Texts.{usage_line, no_memory_line}
+use Rattle.baseline_app.specs.Endings.{Ending, ending, EndsByFile, IsAdmitted}
+use Rattle.baseline_app.specs.Zero.{ZeroEnds}
+
+abbrev pub JobEnds : Job → (List ℕ → Option (List ℕ)) → Ending → Type 0
+JobEnds (Zero rows) told end = EndsByFile told rows (ZeroEnds rows) end
+
+-- all files of the job are told and admitted
+abbrev pub IsReadable : Job → (List ℕ → Option (List ℕ)) → Type 0
+IsReadable (Zero rows) told = IsAdmitted told rows IsZeroFile
+
+-- the words ask for a job, which ends so
+pub record AnswersJob (words : List (List ℕ)) (told : List ℕ → Option (List ℕ)) (end : Ending) : Type 0 where
+  pub job : Job
+  pub asked : IsJob words job
+  pub ends : JobEnds job told end
+
+-- the words ask for none
+pub record AnswersUsage (words : List (List ℕ)) (end : Ending) : Type 0 where
+  pub none : (job : Job) → IsJob words job → ⊥
+  pub end_is : end ≡ ending Usage [] usage_line
+
+-- what the words end with; want of memory may come in the place of either
+abbrev pub IsAnswer : List (List ℕ) → (List ℕ → Option (List ℕ)) → Ending → Type 0
+IsAnswer words told end = AnswersJob words told end ⊎ (AnswersUsage words end ⊎ (end ≡ ending NoMemory [] no_memory_line))

@@ -1,0 +1,26 @@
+-- Which words are a job.
+use Rattle.std.specs.Prelude.{◌≡◌, ℕ, Bool, true, not, ◌==◌, IsTrue, List, [], ◌∷◌, map, codes, string_bytes, String, All}
+use Rattle.std.specs.declared.alloc.Global.{Global}
+use Rattle.baseline_app.specs.declared.words.Job.{Job}
+use Rattle.baseline_app.specs.declared.words.Job.TheVariants.{Zero}
+
+abbrev pub texts_of : List (String Global) → List (List ℕ)
+texts_of words = map (λ w. string_bytes w) words
+
+-- a word that may stand for a file: `-` alone, or any that doesn't begin with it
+abbrev pub is_file_word : List ℕ → Bool
+is_file_word [] = true
+is_file_word (b ∷ []) = true
+is_file_word (b ∷ c ∷ bs) = not (b == 45)
+
+-- the words are this command, and behind it exactly these files
+pub record IsCommand (command : List ℕ) (files words : List (List ℕ)) : Type 0 where
+  pub words_are : words ≡ command ∷ files
+  pub ordinary : All (λ file. IsTrue (is_file_word file)) files
+
+abbrev pub IsJob : List (List ℕ) → Job → Type 0
+IsJob words (Zero rows) = IsCommand (codes "zero") (rows ∷ []) words
+
+-- the words of a job that stand for files
+abbrev pub file_words : Job → List (List ℕ)
+file_words (Zero rows) = rows ∷ []

@@ -1,0 +1,42 @@
+//! Reads a job from the words of the command line, and does it. What a run may answer and write is `run`'s contract:
+//! the texts of `out` and of `err` are definitions on the words and the bytes of the files.
+//!
+//! # How a command is added
+//!
+//! A command has a variant of `Job`, and cases of `IsJob` and `file_words` (specs/Words.antt), of `JobEnds` and
+//! `IsReadable` (specs/Jobs.antt) over definitions of its own (as specs/Zero.antt), an arm in `read_words` and in
+//! `do_job`, and a lemma that a readable job ends with status 0 or 1 (`readable_ends` of proofs/Completes.antt). What
+//! is said of statuses, sinks, faults and completeness (specs/Runs.antt) stays as it is.
+#![tactic(auto)]
+
+mod answer;
+mod status;
+#[cfg(test)]
+mod tests;
+mod top;
+mod words;
+mod zero;
+
+use line_source::{HostFiles, HostSink};
+use status::Status;
+use std::process::ExitCode;
+use std::{env, io};
+
+fn main(rt: HostRuntime) -> ExitCode {
+    let args = match env::args(&rt) {
+        Ok(args) => args,
+        Err(e) if e.kind() == io::ErrorKind::OutOfMemory => {
+            return ExitCode::from(Status::NoMemory.number());
+        }
+        Err(_) => return ExitCode::from(Status::Usage.number()),
+    };
+    let Ok(words) = args.skip(1).collect::<Vec<String>>(rt.alloc()) else {
+        return ExitCode::from(Status::NoMemory.number());
+    };
+    let mut out = HostSink::new(rt.stdout());
+    let mut err = HostSink::new(rt.stderr());
+    let alloc = rt.alloc();
+    let mut files = HostFiles::new(rt);
+    let status = top::run(alloc, &words, &mut files, &mut out, &mut err);
+    ExitCode::from(status.number())
+}

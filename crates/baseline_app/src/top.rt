@@ -1,0 +1,138 @@
+// The program over any files and sinks.
+ghost use Rattle.std.specs.Prelude.{◌≡◌, ◌≢◌, ◌⊎◌, ◌≤◌, IfOk, All};
+ghost use Rattle.std.specs.Io.KnownBytes.{Appends};
+ghost use Rattle.line_source.specs.Causes.{Rose};
+ghost use Rattle.line_source.specs.Told.{AppendsPrefix};
+ghost use Rattle.baseline_app.specs.declared.words.Job.{Job};
+ghost use Rattle.baseline_app.specs.Words.{texts_of, file_words, IsJob};
+ghost use Rattle.baseline_app.specs.Answers.{ending_of, IfEnded};
+ghost use Rattle.baseline_app.specs.Endings.{ending};
+ghost use Rattle.baseline_app.specs.Jobs.{JobEnds, IsReadable, IsAnswer};
+ghost use Rattle.baseline_app.specs.Runs.{sink_change, IsDelivered, IsRun, IsComplete};
+
+use crate::answer::{Answer, Stop};
+use crate::status::Status;
+use crate::words::{Job, WordFault, read_words};
+use crate::zero::zero;
+use line_source::{Files, Sink, put_all};
+use std::alloc::{AllocError, Global};
+
+const USAGE: &str = "usage: baseline fix|check|residuals|zero|list|orbit|arcs|sim WORDS\n";
+
+// What the job ends with.
+fn do_job<F: Files>(alloc: Global, job: &Job, files: &mut F) -> Result<Answer, Stop>
+    ensures ends { IfEnded result (λ end. JobEnds job.now (F.text_of files.old) end) }
+    ensures fault { IfEnded result (λ end. end.status ≡ Status.ReadFault → Rose (F.faults files.old) (F.faults files.new)) }
+    ensures sure { All (F.is_sure_name files.old) (file_words job.now) → IfEnded result (λ end. end.status ≢ Status.ReadFault) }
+{
+    match job {
+        Job::Zero { rows } => zero(alloc, files, rows.as_str()),
+    }
+}
+
+// What the words ask for, as far as memory goes.
+fn answer_of<F: Files>(alloc: Global, words: &[String], files: &mut F) -> Result<Answer, AllocError>
+    ensures answer { IfOk result (λ a. IsAnswer (texts_of words.now) (F.text_of files.old) (ending_of a)) }
+    ensures fault { IfOk result (λ a. a.status ≡ Status.ReadFault → Rose (F.faults files.old) (F.faults files.new)) }
+    ensures sure { (job : Job) → IsJob (texts_of words.now) job → All (F.is_sure_name files.old) (file_words job)
+        → IfOk result (λ a. a.status ≢ Status.ReadFault) }
+{
+    let job = match read_words(alloc, words) {
+        Ok(job) => job,
+        Err(WordFault::NoMemory) => return Err(AllocError),
+        Err(WordFault::Usage) => {
+            let err = String::from_str(alloc, USAGE)?;
+            return Ok(Answer::on_err(alloc, Status::Usage, err));
+        }
+    };
+    match do_job(alloc, &job, files) {
+        Ok(answer) => Ok(answer),
+        Err(Stop::Ended(answer)) => Ok(answer),
+        Err(Stop::NoMemory) => Err(AllocError),
+    }
+}
+
+// Writes a line about a fault. Its own fault changes nothing.
+fn tell<E: Sink>(err: &mut E, line: &[u8])
+    ensures prefix { AppendsPrefix (E.contents err.old) (E.contents err.new) line.now }
+    ensures later { E.faults err.old ≤ E.faults err.new }
+    ensures whole { Appends (E.contents err.old) (E.contents err.new) line.now ⊎ Rose (E.faults err.old) (E.faults err.new) }
+{
+    let _ = put_all(err, line);
+}
+
+/// Does what the words after the program's name ask for, and writes its two texts, `out` first.
+pub fn run<F: Files, O: Sink, E: Sink>(
+    alloc: Global,
+    words: &[String],
+    files: &mut F,
+    out: &mut O,
+    err: &mut E,
+) -> Status
+    ensures run { IsRun (texts_of words.now) (F.text_of files.old) result
+        (sink_change (O.contents out.old) (O.contents out.new) (O.faults out.old) (O.faults out.new))
+        (sink_change (E.contents err.old) (E.contents err.new) (E.faults err.old) (E.faults err.new)) }
+    ensures read { result ≡ Status.ReadFault → Rose (F.faults files.old) (F.faults files.new) }
+    ensures sure { (job : Job) → IsJob (texts_of words.now) job → All (F.is_sure_name files.old) (file_words job)
+        → result ≢ Status.ReadFault }
+    ensures write { result ≡ Status.WriteFault → Rose (O.faults out.old) (O.faults out.new) ⊎ Rose (E.faults err.old) (E.faults err.new) }
+    ensures usage { result ≡ Status.Usage → (job : Job) → IsJob (texts_of words.now) job → ⊥ }
+    ensures complete { (job : Job) → IsJob (texts_of words.now) job → IsReadable job (F.text_of files.old)
+        → All (F.is_sure_name files.old) (file_words job) ⊎ (Rose (F.faults files.old) (F.faults files.new) → ⊥)
+        → IsComplete job (F.text_of files.old) result
+        (sink_change (O.contents out.old) (O.contents out.new) (O.faults out.old) (O.faults out.new))
+        (sink_change (E.contents err.old) (E.contents err.new) (E.faults err.old) (E.faults err.new)) }
+{
+    write_answer(alloc, words, files, out, err)
+}
+
+// Finds the answer, and writes it.
+fn write_answer<F: Files, O: Sink, E: Sink>(
+    alloc: Global,
+    words: &[String],
+    files: &mut F,
+    out: &mut O,
+    err: &mut E,
+) -> Status
+    ensures run { IsRun (texts_of words.now) (F.text_of files.old) result
+        (sink_change (O.contents out.old) (O.contents out.new) (O.faults out.old) (O.faults out.new))
+        (sink_change (E.contents err.old) (E.contents err.new) (E.faults err.old) (E.faults err.new)) }
+    ensures read { result ≡ Status.ReadFault → Rose (F.faults files.old) (F.faults files.new) }
+    ensures sure { (job : Job) → IsJob (texts_of words.now) job → All (F.is_sure_name files.old) (file_words job)
+        → result ≢ Status.ReadFault }
+{
+    match answer_of(alloc, words, files) {
+        Ok(answer) => deliver(answer.status, &answer.out, &answer.err, out, err),
+        Err(AllocError) => deliver(Status::NoMemory, b"", b"no memory\n", out, err),
+    }
+}
+
+// Writes the two texts, out first. Where out has a fault, err is told of it, once.
+fn deliver<O: Sink, E: Sink>(
+    status: Status,
+    out_text: &[u8],
+    err_text: &[u8],
+    out: &mut O,
+    err: &mut E,
+) -> Status
+    ensures { IsDelivered (ending status out_text.now err_text.now) result
+        (sink_change (O.contents out.old) (O.contents out.new) (O.faults out.old) (O.faults out.new))
+        (sink_change (E.contents err.old) (E.contents err.new) (E.faults err.old) (E.faults err.new)) }
+{
+    if put_all(out, out_text).is_err() {
+        tell(err, b"write fault\n");
+        return Status::WriteFault;
+    }
+    match status {
+        Status::Done | Status::Declined => {
+            if put_all(err, err_text).is_err() {
+                return Status::WriteFault;
+            }
+            status
+        }
+        _ => {
+            tell(err, err_text);
+            status
+        }
+    }
+}

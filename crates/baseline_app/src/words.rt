@@ -1,0 +1,88 @@
+// The words of the command line.
+ghost use Rattle.std.specs.Prelude.{◌≡◌, IfOk, IsErrOf, string_bytes};
+ghost use Rattle.baseline_app.specs.declared.words.Job.{Job};
+ghost use Rattle.baseline_app.specs.declared.words.WordFault.TheVariants.{NoMemory};
+ghost use Rattle.baseline_app.specs.Words.{texts_of, is_file_word, IsJob};
+
+use std::alloc::{AllocError, Global};
+use std::marker::Model;
+use thiserror::Error;
+
+/// A word that stands for a file. Contracts see its bytes.
+#[derive(Drop)]
+pub struct Word {
+    text: String,
+}
+
+impl Model for Word {
+    ghost use Rattle.std.specs.Prelude.{ℕ, List, string_bytes};
+
+    ghost Value = { List ℕ };
+
+    ghost view = { λ s. string_bytes s.text };
+}
+
+impl Word {
+    /// A copy of the word.
+    pub fn copy_of(alloc: Global, text: &str) -> Result<Word, AllocError>
+        ensures { IfOk result (λ word. word ≡ text.now) }
+    {
+        let text = String::from_str(alloc, text)?;
+        Ok(Word { text })
+    }
+
+    /// The word as text.
+    pub fn as_str(&self) -> &str
+        ensures { result.now ≡ self.now }
+    {
+        self.text.as_str()
+    }
+}
+
+/// What is to be done.
+#[derive(Drop)]
+pub enum Job {
+    /// Whether a claimed whole number is strictly best for differences.
+    Zero { rows: Word },
+}
+
+/// Why the words are no job.
+#[derive(Clone, Copy, Debug, PartialEq, Eq, Error)]
+pub enum WordFault {
+    #[error("usage")]
+    Usage,
+    #[error("no memory")]
+    NoMemory,
+}
+
+impl From<AllocError> for WordFault {
+    ghost from_gives = { λ _ fault. fault ≡ NoMemory };
+
+    fn from(_: AllocError) -> WordFault {
+        WordFault::NoMemory
+    }
+}
+
+// Whether a word may stand for a file.
+fn is_ordinary(word: &str) -> bool
+    ensures { result ≡ is_file_word word.now }
+{
+    match word.as_bytes() {
+        [b'-', _, ..] => false,
+        _ => true,
+    }
+}
+
+/// The job that the words after the program's name ask for. `Usage` exactly where they ask for none.
+pub fn read_words(alloc: Global, words: &[String]) -> Result<Job, WordFault>
+    ensures job { IfOk result (λ job. IsJob (texts_of words.now) job) }
+    ensures usage { IsErrOf result WordFault.Usage → (job : Job) → IsJob (texts_of words.now) job → ⊥ }
+{
+    match words {
+        [command, rows] if command.as_str() == "zero" && is_ordinary(rows.as_str()) => {
+            let rows = Word::copy_of(alloc, rows.as_str())?;
+            Ok(Job::Zero { rows })
+        }
+        _ => Err(WordFault::Usage),
+    }
+}
