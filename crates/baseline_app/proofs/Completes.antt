@@ -1,6 +1,5 @@
 -- A job whose files are told and admitted ends with status 0 or 1.
-use Rattle.std.proofs.Common.{◌≡◌, ◌≢◌, ◌⊎◌, inl, inr, ◌<◌, ℕ, List, [], length, Some, Option, refl, sym, ap, ◌∙◌, subst, arith, IfSome}
-use Rattle.std.specs.Io.KnownBytes.{Appends}
+use Rattle.std.proofs.Common.{◌≡◌, ◌≢◌, ◌⊎◌, inl, inr, ◌<◌, ℕ, List, length, Some, Option, sym, ap, ◌∙◌, subst, arith, IfSome}
 use Rattle.line_source.specs.Lines.{lines_of}
 use Rattle.line_source.specs.Causes.{Rose}
 use Rattle.zero_rows.specs.Rows.{IsZeroFile}
@@ -10,7 +9,7 @@ use Rattle.baseline_app.specs.declared.words.Job.{Job}
 use Rattle.baseline_app.specs.declared.words.Job.TheVariants.{Zero}
 use Rattle.baseline_app.specs.Words.{IsJob}
 use Rattle.baseline_app.specs.Statuses.{IsVerdictStatus}
-use Rattle.baseline_app.specs.Endings.{Ending, IsTextOf, EndsUnloaded, EndsByFile, IsAdmitted}
+use Rattle.baseline_app.specs.Endings.{Ending, EndsByFile, IsAdmitted}
 use Rattle.baseline_app.specs.Zero.{ZeroEnds}
 use Rattle.baseline_app.specs.Jobs.{JobEnds, IsReadable, IsAnswer}
 use Rattle.baseline_app.specs.Runs.{SinkChange, IsDelivered, IsRun, IsComplete}
