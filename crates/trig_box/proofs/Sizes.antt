@@ -83,18 +83,12 @@ end_low l h n d h0 h1 h2 h3 =
 
 -- both ends of a narrow box that holds a part of a pair
 ends_of : (l h : ℤ) (c : Rational) → InBox 60 l h c → (h -ℤ l) ≤ℤ pos 4194304 → l ≤ℤ h → (c.num *ℤ pos (2 ^ 14)) ≤ℤ ((pos (2 ^ 14) +ℤ pos 1) *ℤ pos c.den) → (neg_ℤ c.num *ℤ pos (2 ^ 14)) ≤ℤ ((pos (2 ^ 14) +ℤ pos 1) *ℤ pos c.den) →
-    (unsigned_abs l ≤ 9 * 2 ^ 57) × (unsigned_abs h ≤ 9 * 2 ^ 57)
+    (neg_ℤ (pos (9 * 2 ^ 57)) ≤ℤ l) × (h ≤ℤ pos (9 * 2 ^ 57))
 ends_of l h c b w lh u v =
     let d0 = lt_pos 0 c.den c.positive in
     let p = end_high l h c.num (pos c.den) b.0 w u d0 in
     let q = end_low l h c.num (pos c.den) b.1 w (subst (λ (z : ℤ). (z *ℤ pos (2 ^ 14)) ≤ℤ ((pos (2 ^ 14) +ℤ pos 1) *ℤ pos c.den)) (sym (minus c.num)) v) d0 in
-    (go l l h (first l) lh p q, go h l h lh (first h) p q)
-  where
-    first : (z : ℤ) → z ≤ℤ z
-    first z = omega (arith, lins)
-
-    go : (z l h : ℤ) → l ≤ℤ z → z ≤ℤ h → h ≤ℤ pos 1297036692682702848 → (pos 0 -ℤ pos 1297036692682702848) ≤ℤ l → unsigned_abs z ≤ 9 * 2 ^ 57
-    go z l h a b p q = omega (arith, ints)
+    (q, p)
 
 narrow_5 : (w d : ℤ) → d ≤ℤ (pos 512 +ℤ (pos 32 *ℤ w)) → w ≤ℤ pos (2 ^ 16) → d ≤ℤ pos 4194304
 narrow_5 w d h k = omega (arith, ints)
@@ -119,7 +113,7 @@ widths k lo hi l h m w c s cl ch sl sh d (inr e) =
     (narrow_7 (hi -ℤ lo) (ch -ℤ cl) p.0 d.narrow, narrow_7 (hi -ℤ lo) (sh -ℤ sl) p.1 d.narrow)
 
 pub made_ends : (k : ℕ) (lo hi l h m w c s cl ch sl sh : ℤ) → IsMade k lo hi l h m w c s cl ch sl sh → cl ≤ℤ ch → sl ≤ℤ sh →
-    ((unsigned_abs cl ≤ 9 * 2 ^ 57) × (unsigned_abs ch ≤ 9 * 2 ^ 57)) × ((unsigned_abs sl ≤ 9 * 2 ^ 57) × (unsigned_abs sh ≤ 9 * 2 ^ 57))
+    ((neg_ℤ (pos (9 * 2 ^ 57)) ≤ℤ cl) × (ch ≤ℤ pos (9 * 2 ^ 57))) × ((neg_ℤ (pos (9 * 2 ^ 57)) ≤ℤ sl) × (sh ≤ℤ pos (9 * 2 ^ 57)))
 made_ends k lo hi l h m w c s cl ch sl sh d co so =
     let p = plain_is k lo hi l h m w c s cl ch sl sh d in
     let r = (code_is k m d.choice p.five p.size).in_range in
@@ -132,3 +126,13 @@ made_ends k lo hi l h m w c s cl ch sl sh d co so =
     let z = size_law k 14 (middle m) star.0 star.1 (ten k d.choice) (slack_of k d.choice) pair in
     let v = widths k lo hi l h m w c s cl ch sl sh d d.choice in
     (ends_of cl ch star.0 q.0 v.0 co z.0 z.1, ends_of sl sh star.1 q.1 v.1 so z.2 z.3)
+
+-- ---- the wider bounds
+pub width_nn : (lo hi : ℤ) → lo ≤ℤ hi → pos 0 ≤ℤ (hi -ℤ lo)
+width_nn lo hi h = omega (arith, lins)
+
+pub wider_five : (w d : ℤ) → pos 0 ≤ℤ w → d ≤ℤ (pos 512 +ℤ (pos 32 *ℤ w)) → d ≤ℤ (pos 2048 +ℤ (pos 128 *ℤ w))
+wider_five w d h k = omega (arith, ints)
+
+pub wider_seven : (w d : ℤ) → pos 0 ≤ℤ w → d ≤ℤ (pos 4096 +ℤ (pos 32 *ℤ w)) → d ≤ℤ (pos 16384 +ℤ (pos 256 *ℤ w))
+wider_seven w d h k = omega (arith, ints)

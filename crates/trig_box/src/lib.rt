@@ -4,7 +4,9 @@
 ghost use Rattle.std.specs.Prelude.{◌≡◌, ℕ, ◌+◌, ◌-◌, ◌*◌, ◌/◌, ◌^◌, ◌<◌, ◌≤◌, pos, ◌+ℤ◌, ◌-ℤ◌, ◌*ℤ◌, neg_ℤ, ℤ, ◌≤ℤ◌, ◌⊎◌, unsigned_abs};
 ghost use Rattle.whole_math.specs.Rounding.{floor_div};
 ghost use Rattle.rational.specs.Rational.{Rational, InBox};
+ghost use Rattle.iv_core.specs.Intervals.{Holds, width_of, IsWithin};
 ghost use Rattle.trig_box.specs.AnglePairs.{IsAnglePair};
+ghost use Rattle.trig_box.specs.PairBoxes.{HoldsPair, AreAtMostWide, HasEndsWithin};
 ghost use Rattle.trig_box.specs.Chain.{Apt, rounded, argument, chain, IsSized, code_pair};
 
 pub mod laws;
@@ -150,7 +152,7 @@ fn around(c: i128, pad: i64) -> Iv<60>
     let near = quarter_of(c);
     let lo = near - pad;
     let hi = near + 1 + pad;
-    Iv::from_ends(lo, hi)
+    Iv { lo, hi }
 }
 
 // v = middle / 2^(56 + halvings), in units of 2^-63
@@ -181,27 +183,37 @@ fn point_pair(middle: i64, halvings: u32) -> (i128, i128)
     turned(c as i128, s, halvings)
 }
 
-/// A box of the cosine and one of the sine.
+/// A box of the cosine and one of the sine, both at 2^-60.
 #[derive(Clone, Copy, Debug)]
 pub struct PairBox {
     pub cos: Iv<60>,
     pub sin: Iv<60>,
 }
 
-/// Boxes of every pair of every angle in x.
+/// Boxes of every pair of every angle in `x`: 5 halvings for angles of at most 16, 7 for those of at most 64.
+/// The box of the angles, at 2^-56, is at most 2^-40 wide.
 pub fn pair_box(x: &Iv<56>, halvings: u32) -> PairBox
     requires halvings { (halvings ≡ 5) ⊎ (halvings ≡ 7) }
-    requires five { halvings ≡ 5 → (neg_ℤ (pos (2 ^ 60)) ≤ℤ x.now.lo) × (x.now.hi ≤ℤ pos (2 ^ 60)) }
-    requires narrow { (x.now.hi -ℤ x.now.lo) ≤ℤ pos (2 ^ 16) }
+    requires range { halvings ≡ 5 → IsWithin (2 ^ 60) x.now }
+    requires narrow { width_of x.now ≤ℤ pos (2 ^ 16) }
 
-    ensures holds { (a c s : Rational) → InBox 56 x.now.lo x.now.hi a → IsAnglePair halvings a c s → InBox 60 result.cos.lo result.cos.hi c × InBox 60 result.sin.lo result.sin.hi s }
+    ensures holds { (a c s : Rational) →
+        Holds x.now a → IsAnglePair halvings a c s → HoldsPair result c s }
+
+    // At most 2^-51 + 2w and 2^-48 + 2w, for a box of angles that is w wide: w is in units of 2^-56.
+    ensures width_of_five { halvings ≡ 5 →
+        AreAtMostWide (pos 512 +ℤ (pos 32 *ℤ width_of x.now)) result }
+    ensures width_of_seven { halvings ≡ 7 →
+        AreAtMostWide (pos 4096 +ℤ (pos 32 *ℤ width_of x.now)) result }
+
+    // So at most 2^-49 + 8w and 2^-46 + 16w.
+    ensures wide_of_five { halvings ≡ 5 →
+        AreAtMostWide (pos 2048 +ℤ (pos 128 *ℤ width_of x.now)) result }
+    ensures wide_of_seven { halvings ≡ 7 →
+        AreAtMostWide (pos 16384 +ℤ (pos 256 *ℤ width_of x.now)) result }
 
     // No end is over 9/8 in size.
-    ensures ends { ((unsigned_abs result.cos.lo ≤ 9 * 2 ^ 57) × (unsigned_abs result.cos.hi ≤ 9 * 2 ^ 57)) × ((unsigned_abs result.sin.lo ≤ 9 * 2 ^ 57) × (unsigned_abs result.sin.hi ≤ 9 * 2 ^ 57)) }
-
-    // 2^-51 + 2w and 2^-48 + 2w
-    ensures width_of_five { halvings ≡ 5 → ((result.cos.hi -ℤ result.cos.lo) ≤ℤ (pos 512 +ℤ (pos 32 *ℤ (x.now.hi -ℤ x.now.lo)))) × ((result.sin.hi -ℤ result.sin.lo) ≤ℤ (pos 512 +ℤ (pos 32 *ℤ (x.now.hi -ℤ x.now.lo)))) }
-    ensures width_of_seven { halvings ≡ 7 → ((result.cos.hi -ℤ result.cos.lo) ≤ℤ (pos 4096 +ℤ (pos 32 *ℤ (x.now.hi -ℤ x.now.lo)))) × ((result.sin.hi -ℤ result.sin.lo) ≤ℤ (pos 4096 +ℤ (pos 32 *ℤ (x.now.hi -ℤ x.now.lo)))) }
+    ensures ends { HasEndsWithin (9 * 2 ^ 57) result }
 {
     let lo = x.lo();
     let hi = x.hi();
@@ -218,32 +230,127 @@ mod tests {
     use super::*;
     use std::test::Fail;
 
-    // 2^60 times the cosine and the sine of 1 and of 50, rounded down
-    const COS_1: i64 = 622926147424044489;
+    // Angles in units of 2^-56, with 2^60 times their cosine and their sine, rounded down, as mpmath gives them.
+    const SMALL: [(i64, i64, i64); 19] = [
+        (0, 1152921504606846976, 0),
+        (1, 1152921504606846975, 15),
+        (-1, 1152921504606846975, -16),
+        (1073741824, 1152921504606846848, 17179869183),
+        (37729268010818348, 998459311558907194, 576460752303423486),
+        (-56593902016227522, 815238614083298890, -815238614083298886),
+        (75458536021636696, 576460752303423491, 998459311558907191),
+        (113187804032455044, 6, 1152921504606846975),
+        (-226375608064910088, -1152921504606846976, -14),
+        (72057594037927936, 622926147424044489, 970149993887725314),
+        (
+            -216172782113783808,
+            -1141383638730074417,
+            -162700292022512490,
+        ),
+        (180143985094819840, -923655702642540182, 689991404845619264),
+        (526020436476873932, 606526082878858497, 980486668227846913),
+        (-720575940379279360, -967383609775591313, 627213637704460588),
+        (905502432259640355, 1152921504606846975, -5),
+        (
+            -987189038319612724,
+            488117616800298900,
+            -1044494704607980497,
+        ),
+        (1080863910568919040, -875860531524827476, 749730835101479982),
+        (
+            1152921504606846976,
+            -1104106208955447788,
+            -331929925030788602,
+        ),
+        (
+            -1152921504606846976,
+            -1104106208955447788,
+            331929925030788601,
+        ),
+    ];
 
-    const SIN_1: i64 = 970149993887725314;
+    const LARGE: [(i64, i64, i64); 14] = [
+        (0, 1152921504606846976, 0),
+        (-1, 1152921504606846975, -16),
+        (113187804032455044, 6, 1152921504606846975),
+        (
+            -1152921504606846976,
+            -1104106208955447788,
+            331929925030788601,
+        ),
+        (1441151880758558720, 470486584708960221, 1052554212092571634),
+        (
+            -2399517881463000269,
+            -355304951929099408,
+            -1096807360897790580,
+        ),
+        (3199357175284000358, 1053797023027287575, 467696301079816337),
+        (
+            3602879701896396800,
+            1112530085463620804,
+            -302497611103334934,
+        ),
+        (
+            -3684304783159255368,
+            748254399320261732,
+            -877122197691285300,
+        ),
+        (4527512161298201776, 1152921504606846975, -8),
+        (
+            -4323455642275676160,
+            -1098057406387333475,
+            351422719901315225,
+        ),
+        (4611686018427387903, 451780627697908748, 1060717804235320375),
+        (4611686018427387904, 451780627697908733, 1060717804235320381),
+        (
+            -4611686018427387904,
+            451780627697908733,
+            -1060717804235320382,
+        ),
+    ];
 
-    const COS_50: i64 = 1112530085463620804;
-
-    const SIN_50: i64 = -302497611103334934;
+    // The value rounded down, and the next one: the true one lies between them.
+    fn is_around(b: &Iv<60>, value: i64) -> bool {
+        b.lo() <= value && value < b.hi()
+    }
 
     #[test]
-    fn of_one(rt: HostRuntime) -> Result<(), Fail> {
-        let pair = pair_box(&Iv::point(1 << 56)?, 5);
-        assert!(rt; pair.cos.lo() <= COS_1);
-        assert!(rt; COS_1 < pair.cos.hi());
-        assert!(rt; pair.sin.lo() <= SIN_1);
-        assert!(rt; SIN_1 < pair.sin.hi());
+    fn five_halvings(rt: HostRuntime) -> Result<(), Fail> {
+        for (angle, cos, sin) in SMALL {
+            assert!(rt; -(1 << 60) <= angle && angle <= 1 << 60);
+            let pair = pair_box(&Iv::point(angle)?, 5);
+            assert!(rt; is_around(&pair.cos, cos), "the cosine of {angle}");
+            assert!(rt; is_around(&pair.sin, sin), "the sine of {angle}");
+        }
         Ok(())
     }
 
     #[test]
-    fn of_fifty(rt: HostRuntime) -> Result<(), Fail> {
-        let pair = pair_box(&Iv::point(50 << 56)?, 7);
-        assert!(rt; pair.cos.lo() <= COS_50);
-        assert!(rt; COS_50 < pair.cos.hi());
-        assert!(rt; pair.sin.lo() <= SIN_50);
-        assert!(rt; SIN_50 < pair.sin.hi());
+    fn seven_halvings(rt: HostRuntime) -> Result<(), Fail> {
+        for (angle, cos, sin) in LARGE {
+            let pair = pair_box(&Iv::point(angle)?, 7);
+            assert!(rt; is_around(&pair.cos, cos), "the cosine of {angle}");
+            assert!(rt; is_around(&pair.sin, sin), "the sine of {angle}");
+        }
+        Ok(())
+    }
+
+    // The values at both ends of a box of angles that is 2^-40 wide.
+    #[test]
+    fn widest(rt: HostRuntime) -> Result<(), Fail> {
+        let angles = Iv {
+            lo: 72057594037895168,
+            hi: 72057594037960704,
+        };
+        let pair = pair_box(&angles, 5);
+        for (cos, sin) in [
+            (622926147424485662, 970149993887442040),
+            (622926147423603315, 970149993888008588),
+        ] {
+            assert!(rt; is_around(&pair.cos, cos));
+            assert!(rt; is_around(&pair.sin, sin));
+        }
         Ok(())
     }
 }
