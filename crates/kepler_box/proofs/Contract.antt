@@ -4,14 +4,13 @@ use Rattle.std.proofs.lemmas.Int.{ints, by_lt_z}
 use Rattle.whole_math.proofs.Ring.{ring, va, ko, ◌⊕◌, ◌⊖◌, ◌⊗◌}
 use Rattle.whole_math.proofs.Order.{lins, mul_le_right}
 use Rattle.whole_math.proofs.Certificates.{cert, cancel, mul_positive, weak, ◌≼◌, hy, nm, sq, ◌⊞◌, ◌⊠◌}
-use Rattle.rational.specs.Rational.{Rational, InBox, add_r, sub_r, mul_r, ◌≤ʳ◌, AreWithin, times, two_to_minus, IsNearBox}
+use Rattle.rational.specs.Rational.{Rational, InBox, add_r, sub_r, mul_r, ◌≤ʳ◌, AreWithin, times, two_to_minus, IsNearBox, of_scale}
 use Rattle.trig_box.specs.AnglePairs.{IsAnglePair, InRange}
 use Rattle.trig_box.proofs.Base.{le_pos, lt_pos}
 use Rattle.std.proofs.Math.Nat.{mul-pos}
 use Rattle.trig_box.proofs.PairLaws.{canonical_exists, canonical_is_pair, sharp_law}
 use Rattle.trig_box.proofs.PointLaws.{bound_nn}
-use Rattle.kepler_box.specs.Anomaly.{IsAnomaly}
-use Rattle.kepler_box.specs.Steps.{at_56}
+use Rattle.kepler_box.specs.Kepler.{SolvesKepler}
 
 pub upper : (en ed sn sd mn md nn nd pn pd tn td dn dd x r h : ℤ) → (((nn *ℤ (pd *ℤ td)) +ℤ ((pn *ℤ tn) *ℤ nd)) *ℤ (pos 72057594037927936)) ≤ℤ (h *ℤ (nd *ℤ (pd *ℤ td))) → (((en *ℤ (pd *ℤ sd)) -ℤ ((pn *ℤ sn) *ℤ ed)) *ℤ md) ≤ℤ (mn *ℤ (ed *ℤ (pd *ℤ sd))) → (((mn *ℤ nd) -ℤ (nn *ℤ md)) *ℤ dd) ≤ℤ (dn *ℤ (md *ℤ nd)) → (((sn *ℤ td) -ℤ (tn *ℤ sd)) *ℤ ((ed *ℤ (pos 72057594037927936)) *ℤ (pos 147573952589676412928))) ≤ℤ (((((pos 2) *ℤ ((en *ℤ (pos 72057594037927936)) -ℤ (x *ℤ ed))) *ℤ (pos 147573952589676412928)) +ℤ ((pos 1) *ℤ (ed *ℤ (pos 72057594037927936)))) *ℤ (sd *ℤ td)) → ((pos 32) *ℤ pn) ≤ℤ pd → (pos 0) ≤ℤ pn → (((pos 16) *ℤ (h -ℤ x)) +ℤ (pos 1)) ≤ℤ ((pos 15) *ℤ r) → (pos 0) ≤ℤ ((en *ℤ (pos 72057594037927936)) -ℤ (x *ℤ ed)) → (pos 0) <ℤ ed → (pos 0) <ℤ sd → (pos 0) <ℤ md → (pos 0) <ℤ nd → (pos 0) <ℤ pd → (pos 0) <ℤ td → (pos 0) <ℤ dd → ((pos 15) *ℤ (((en *ℤ (pos 72057594037927936)) -ℤ ((x +ℤ r) *ℤ ed)) *ℤ dd)) ≤ℤ ((pos 16) *ℤ (dn *ℤ (ed *ℤ (pos 72057594037927936))))
 upper en ed sn sd mn md nn nd pn pd tn td dn dd x r h h0 h1 h2 h3 h4 h5 h6 h7 h8 h9 h10 h11 h12 h13 h14 =
@@ -43,7 +42,7 @@ back_turned a b u w h0 h1 =
 
 -- ---- the solution, seen from x
 pub record IsSeen (x r lo hi : ℤ) (d mean other e angle c s t : Rational) : Type 0 where
-  pub is_anomaly : IsAnomaly mean e angle c s
+  pub is_anomaly : SolvesKepler mean e angle c s
   pub near : AreWithin d mean other
   pub held : InBox 56 lo hi (add_r other (mul_r e t))
   pub e_low : pos 0 ≤ℤ e.num
@@ -64,7 +63,7 @@ le_of {a} {b} e = omega (arith, lins)
 apart_nn : (a b : ℤ) → b ≤ℤ a → pos 0 ≤ℤ (a -ℤ b)
 apart_nn a b h = omega (arith, lins)
 
-pub above_is : (x r lo hi : ℤ) (d mean other e angle c s c' t : Rational) → IsSeen x r lo hi d mean other e angle c s t → IsAnglePair 5 (at_56 x) c' t →
+pub above_is : (x r lo hi : ℤ) (d mean other e angle c s c' t : Rational) → IsSeen x r lo hi d mean other e angle c s t → IsAnglePair 5 (of_scale 56 x) c' t →
     (pos 15 *ℤ (((angle.num *ℤ pos (2 ^ 56)) -ℤ ((x +ℤ r) *ℤ pos angle.den)) *ℤ pos d.den)) ≤ℤ (pos 16 *ℤ (d.num *ℤ (pos angle.den *ℤ pos (2 ^ 56))))
 above_is x r lo hi d mean other e angle c s c' t g k = by_lt_z (angle.num *ℤ pos (2 ^ 56)) (x *ℤ pos angle.den)
     (λ l. upper_easy angle.num (pos angle.den) d.num (pos d.den) x r (weak _ _ l) g.radius (d_nn d mean other g.near) (weak _ _ (positive_of angle)) (weak _ _ (positive_of d)))
@@ -73,12 +72,12 @@ above_is x r lo hi d mean other e angle c s c' t g k = by_lt_z (angle.num *ℤ p
     let z0 : pos 0 ≤ℤ z = apart_nn (angle.num *ℤ pos (2 ^ 56)) (x *ℤ pos angle.den) l in
     let w : ℤ = pos angle.den *ℤ pos (2 ^ 56) in
     let far : Rational = record { num = z; den = angle.den * 2 ^ 56; positive = mul-pos angle.positive (pow_pos 56) } in
-    let n : AreWithin far angle (at_56 x) = (own_near z (pos angle.den *ℤ pos (2 ^ 56)) z0, back_turned (angle.num *ℤ pos (2 ^ 56)) (x *ℤ pos angle.den) (pos angle.den) (pos (2 ^ 56)) z0 (weak _ _ (lt_pos 0 (angle.den * 2 ^ 56) far.positive))) in
-    let law = sharp_law 5 far angle (at_56 x) c s c' t (lit≤ tt) g.is_anomaly.is_pair k n in
+    let n : AreWithin far angle (of_scale 56 x) = (own_near z (pos angle.den *ℤ pos (2 ^ 56)) z0, back_turned (angle.num *ℤ pos (2 ^ 56)) (x *ℤ pos angle.den) (pos angle.den) (pos (2 ^ 56)) z0 (weak _ _ (lt_pos 0 (angle.den * 2 ^ 56) far.positive))) in
+    let law = sharp_law 5 far angle (of_scale 56 x) c s c' t (lit≤ tt) g.is_anomaly.is_pair k n in
     upper angle.num (pos angle.den) s.num (pos s.den) mean.num (pos mean.den) other.num (pos other.den) e.num (pos e.den) t.num (pos t.den) d.num (pos d.den) x r hi
     g.held.1 (le_of (sym g.is_anomaly.equation)) g.near.0 law.1.0 g.e_high g.e_low g.above z0 (positive_of angle) (positive_of s) (positive_of mean) (positive_of other) (positive_of e) (positive_of t) (positive_of d))
 
-pub below_is : (x r lo hi : ℤ) (d mean other e angle c s c' t : Rational) → IsSeen x r lo hi d mean other e angle c s t → IsAnglePair 5 (at_56 x) c' t →
+pub below_is : (x r lo hi : ℤ) (d mean other e angle c s c' t : Rational) → IsSeen x r lo hi d mean other e angle c s t → IsAnglePair 5 (of_scale 56 x) c' t →
     (pos 15 *ℤ ((((x -ℤ r) *ℤ pos angle.den) -ℤ (angle.num *ℤ pos (2 ^ 56))) *ℤ pos d.den)) ≤ℤ (pos 16 *ℤ (d.num *ℤ (pos angle.den *ℤ pos (2 ^ 56))))
 below_is x r lo hi d mean other e angle c s c' t g k = by_lt_z (x *ℤ pos angle.den) (angle.num *ℤ pos (2 ^ 56))
     (λ l. lower_easy angle.num (pos angle.den) d.num (pos d.den) x r (weak _ _ l) g.radius (d_nn d mean other g.near) (weak _ _ (positive_of angle)) (weak _ _ (positive_of d)))
@@ -86,8 +85,8 @@ below_is x r lo hi d mean other e angle c s c' t g k = by_lt_z (x *ℤ pos angle
     let z : ℤ = (x *ℤ pos angle.den) -ℤ (angle.num *ℤ pos (2 ^ 56)) in
     let z0 : pos 0 ≤ℤ z = apart_nn (x *ℤ pos angle.den) (angle.num *ℤ pos (2 ^ 56)) l in
     let far : Rational = record { num = z; den = angle.den * 2 ^ 56; positive = mul-pos angle.positive (pow_pos 56) } in
-    let n : AreWithin far angle (at_56 x) = (back_near (x *ℤ pos angle.den) (angle.num *ℤ pos (2 ^ 56)) (pos angle.den *ℤ pos (2 ^ 56)) z0 (weak _ _ (lt_pos 0 (angle.den * 2 ^ 56) far.positive)), turned z (pos angle.den) (pos (2 ^ 56))) in
-    let law = sharp_law 5 far angle (at_56 x) c s c' t (lit≤ tt) g.is_anomaly.is_pair k n in
+    let n : AreWithin far angle (of_scale 56 x) = (back_near (x *ℤ pos angle.den) (angle.num *ℤ pos (2 ^ 56)) (pos angle.den *ℤ pos (2 ^ 56)) z0 (weak _ _ (lt_pos 0 (angle.den * 2 ^ 56) far.positive)), turned z (pos angle.den) (pos (2 ^ 56))) in
+    let law = sharp_law 5 far angle (of_scale 56 x) c s c' t (lit≤ tt) g.is_anomaly.is_pair k n in
     lower angle.num (pos angle.den) s.num (pos s.den) mean.num (pos mean.den) other.num (pos other.den) e.num (pos e.den) t.num (pos t.den) d.num (pos d.den) x r lo
     g.held.0 (le_of g.is_anomaly.equation) g.near.1 law.1.1 g.e_high g.e_low g.below z0 (positive_of angle) (positive_of s) (positive_of mean) (positive_of other) (positive_of e) (positive_of t) (positive_of d))
   where
@@ -142,7 +141,7 @@ e_sign n d l h0 h1 h2 =
 pub record IsFound (ml mh el eh x r a b fl fh al ah cl ch sl sh : ℤ) : Type 0 where
   pub e_low : pos 0 ≤ℤ el
   pub e_high : eh ≤ℤ pos (2 ^ 55)
-  pub sine : (c s : Rational) → IsAnglePair 5 (at_56 x) c s → InBox 60 a b s
+  pub sine : (c s : Rational) → IsAnglePair 5 (of_scale 56 x) c s → InBox 60 a b s
   pub right : (u v w : Rational) → InBox 56 ml mh u → InBox 60 el eh v → InBox 60 a b w → InBox 56 fl fh (add_r u (mul_r v w))
   pub above : ((pos 16 *ℤ (fh -ℤ x)) +ℤ pos 1) ≤ℤ (pos 15 *ℤ r)
   pub below : ((pos 16 *ℤ (x -ℤ fl)) +ℤ pos 1) ≤ℤ (pos 15 *ℤ r)
@@ -153,7 +152,7 @@ pub record IsFound (ml mh el eh x r a b fl fh al ah cl ch sl sh : ℤ) : Type 0 
   pub high_end : ah ≤ℤ pos (2 ^ 60)
   pub pair : (z c s : Rational) → InBox 56 al ah z → IsAnglePair 5 z c s → InBox 60 cl ch c × InBox 60 sl sh s
 
-between_range : (x r al ah z : ℤ) → al ≡ x -ℤ r → ah ≡ x +ℤ r → neg_ℤ (pos (2 ^ 60)) ≤ℤ al → ah ≤ℤ pos (2 ^ 60) → (x -ℤ r) ≤ℤ z → z ≤ℤ (x +ℤ r) → InRange 5 (at_56 z)
+between_range : (x r al ah z : ℤ) → al ≡ x -ℤ r → ah ≡ x +ℤ r → neg_ℤ (pos (2 ^ 60)) ≤ℤ al → ah ≤ℤ pos (2 ^ 60) → (x -ℤ r) ≤ℤ z → z ≤ℤ (x +ℤ r) → InRange 5 (of_scale 56 z)
 between_range x r al ah z e f h k l u = go z (first x r al z e h l) (last x r ah z f k u)
   where
     first : (x r al z : ℤ) → al ≡ x -ℤ r → neg_ℤ (pos (2 ^ 60)) ≤ℤ al → (x -ℤ r) ≤ℤ z → neg_ℤ (pos (2 ^ 60)) ≤ℤ z
@@ -183,11 +182,11 @@ pub record IsClose (x r : ℤ) (d angle : Rational) : Type 0 where
 
 -- Contraction: the angle of a solution is within 16/15 d of the box
 pub contraction : (ml mh el eh x r a b fl fh al ah cl ch sl sh : ℤ) (d mean other e angle c s : Rational) → IsFound ml mh el eh x r a b fl fh al ah cl ch sl sh →
-    InBox 56 ml mh other → AreWithin d mean other → InBox 60 el eh e → IsAnomaly mean e angle c s → IsClose x r d angle
+    InBox 56 ml mh other → AreWithin d mean other → InBox 60 el eh e → SolvesKepler mean e angle c s → IsClose x r d angle
 contraction ml mh el eh x r a b fl fh al ah cl ch sl sh d mean other e angle c s f h n k g =
-    let star = canonical_exists 5 (at_56 x) (between_range x r al ah x f.low_is f.high_is f.low_end f.high_end (back x r f.radius) (on x r f.radius)) in
+    let star = canonical_exists 5 (of_scale 56 x) (between_range x r al ah x f.low_is f.high_is f.low_end f.high_end (back x r f.radius) (on x r f.radius)) in
     let t : Rational = star.1 in
-    let p = canonical_is_pair 5 (at_56 x) star.0 t star.2 in
+    let p = canonical_is_pair 5 (of_scale 56 x) star.0 t star.2 in
     let seen : IsSeen x r fl fh d mean other e angle c s t = record {
       is_anomaly = g;
       near = n;
@@ -204,7 +203,7 @@ boxed : (x r al ah : ℤ) (z : Rational) → al ≡ x -ℤ r → ah ≡ x +ℤ r
 boxed x r al ah z e f h k = (subst (λ (i : ℤ). (i *ℤ pos z.den) ≤ℤ (z.num *ℤ pos (2 ^ 56))) (sym e) h, subst (λ (i : ℤ). (z.num *ℤ pos (2 ^ 56)) ≤ℤ (i *ℤ pos z.den)) (sym f) k)
 
 pub found_holds : (ml mh el eh x r a b fl fh al ah cl ch sl sh : ℤ) (mean e angle c s : Rational) → IsFound ml mh el eh x r a b fl fh al ah cl ch sl sh →
-    InBox 56 ml mh mean → InBox 60 el eh e → IsAnomaly mean e angle c s → InBox 56 al ah angle × InBox 60 cl ch c × InBox 60 sl sh s
+    InBox 56 ml mh mean → InBox 60 el eh e → SolvesKepler mean e angle c s → InBox 56 al ah angle × InBox 60 cl ch c × InBox 60 sl sh s
 found_holds ml mh el eh x r a b fl fh al ah cl ch sl sh mean e angle c s f h k g =
     let zero : Rational = record { num = pos 0; den = 1; positive = lit< tt } in
     let n : AreWithin zero mean mean = (zero_near mean.num (pos mean.den), zero_near mean.num (pos mean.den)) in
@@ -229,18 +228,18 @@ clamp x r al ah d angle q i r0 d0 e f h k =
     let p0 : pos 0 ≤ℤ pos (2 ^ 56) = le_pos 0 (2 ^ 56) (lit≤ tt) in
     by_lt_z ((x +ℤ r) *ℤ m) (n *ℤ pos (2 ^ 56))
     (λ l. (
-      at_56 (x +ℤ r),
+      of_scale 56 (x +ℤ r),
       record {
-        held = boxed x r al ah (at_56 (x +ℤ r)) e f (mul_le_right (pos (2 ^ 56)) (x -ℤ r) (x +ℤ r) p0 (across x r r0)) (same ((x +ℤ r) *ℤ pos (2 ^ 56)));
+        held = boxed x r al ah (of_scale 56 (x +ℤ r)) e f (mul_le_right (pos (2 ^ 56)) (x -ℤ r) (x +ℤ r) p0 (across x r r0)) (same ((x +ℤ r) *ℤ pos (2 ^ 56)));
         near = (high_near n m d.num (pos d.den) x r q.above d0 m0, high_back n m d.num (pos d.den) x r (weak _ _ l) d0 m0 w0);
         in_range = between_range x r al ah (x +ℤ r) e f h k (across x r r0) (same (x +ℤ r));
       },
     ))
     (λ u. by_lt_z (n *ℤ pos (2 ^ 56)) ((x -ℤ r) *ℤ m)
     (λ l. (
-      at_56 (x -ℤ r),
+      of_scale 56 (x -ℤ r),
       record {
-        held = boxed x r al ah (at_56 (x -ℤ r)) e f (same ((x -ℤ r) *ℤ pos (2 ^ 56))) (mul_le_right (pos (2 ^ 56)) (x -ℤ r) (x +ℤ r) p0 (across x r r0));
+        held = boxed x r al ah (of_scale 56 (x -ℤ r)) e f (same ((x -ℤ r) *ℤ pos (2 ^ 56))) (mul_le_right (pos (2 ^ 56)) (x -ℤ r) (x +ℤ r) p0 (across x r r0));
         near = (low_back n m d.num (pos d.den) x r (weak _ _ l) d0 m0 w0, low_near n m d.num (pos d.den) x r q.below d0 m0);
         in_range = between_range x r al ah (x -ℤ r) e f h k (same (x -ℤ r)) (across x r r0);
       },
@@ -255,7 +254,7 @@ clamp x r al ah d angle q i r0 d0 e f h k =
     )))
 
 pub found_near : (ml mh el eh x r a b fl fh al ah cl ch sl sh : ℤ) (d mean e angle c s : Rational) → IsFound ml mh el eh x r a b fl fh al ah cl ch sl sh →
-    IsNearBox 56 ml mh d mean → InBox 60 el eh e → IsAnomaly mean e angle c s → IsNearBox 56 al ah (times 2 d) angle × IsNearBox 60 cl ch (add_r (times 4 d) (two_to_minus 60)) c × IsNearBox 60 sl sh (add_r (times 4 d) (two_to_minus 60)) s
+    IsNearBox 56 ml mh d mean → InBox 60 el eh e → SolvesKepler mean e angle c s → IsNearBox 56 al ah (times 2 d) angle × IsNearBox 60 cl ch (add_r (times 4 d) (two_to_minus 60)) c × IsNearBox 60 sl sh (add_r (times 4 d) (two_to_minus 60)) s
 found_near ml mh el eh x r a b fl fh al ah cl ch sl sh d mean e angle c s f h k g =
     let q = contraction ml mh el eh x r a b fl fh al ah cl ch sl sh d mean h.inside e angle c s f h.held h.near k g in
     let d0 = d_nn d mean h.inside h.near in

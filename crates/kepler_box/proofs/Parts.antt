@@ -6,11 +6,11 @@ use Rattle.whole_math.proofs.Order.{lins, mul_le_right, abs_mul_le}
 use Rattle.whole_math.proofs.Certificates.{cert, weak, ◌≼◌, hy, nm, ◌⊞◌, ◌⊠◌}
 use Rattle.whole_math.specs.Rounding.{floor_div, ceil_div}
 use Rattle.whole_math.proofs.Rounding.{floor_le, lt_floor, floor_greatest, ceil_least}
-use Rattle.rational.specs.Rational.{Rational, InBox}
+use Rattle.rational.specs.Rational.{Rational, InBox, of_scale}
 use Rattle.trig_box.specs.AnglePairs.{IsAnglePair, InRange}
 use Rattle.trig_box.proofs.Base.{lt_pos}
 use Rattle.trig_box.proofs.PairLaws.{canonical_is_pair}
-use Rattle.kepler_box.specs.Steps.{at_56, IsStep, Within}
+use Rattle.kepler_box.specs.Steps.{IsStep, AreNear}
 use Rattle.std.proofs.Common.{Result, Ok, Err, IsOk, IsErr, to_z, of_z}
 use Rattle.std.specs.Int.{w64}
 use Rattle.iv_core.specs.Boxes.{least_corner, most_corner, Past}
@@ -73,7 +73,7 @@ sum_fits p q a b ml mh pl ph h m0 m1 el eh = let e = product_ends p q a b h in g
     go m n l h m0 n0 i j (inr k) = omega (arith, ints)
 
 -- ---- boxes
-pub point_holds : (x l h : ℤ) → l ≡ x → h ≡ x → InBox 56 l h (at_56 x)
+pub point_holds : (x l h : ℤ) → l ≡ x → h ≡ x → InBox 56 l h (of_scale 56 x)
 point_holds x l h e f = (subst (λ (z : ℤ). (z *ℤ pos (2 ^ 56)) ≤ℤ (x *ℤ pos (2 ^ 56))) (sym e) (same (x *ℤ pos (2 ^ 56))), subst (λ (z : ℤ). (x *ℤ pos (2 ^ 56)) ≤ℤ (z *ℤ pos (2 ^ 56))) (sym f) (same (x *ℤ pos (2 ^ 56))))
   where
     same : (z : ℤ) → z ≤ℤ z
@@ -93,7 +93,7 @@ widen a b l h s i j k = (
 
 -- ---- a step from a box of the sine
 pub record IsSineBox (x a b : ℤ) : Type 0 where
-  pub holds : (c s : Rational) → IsAnglePair 5 (at_56 x) c s → InBox 60 a b s
+  pub holds : (c s : Rational) → IsAnglePair 5 (of_scale 56 x) c s → InBox 60 a b s
   pub ordered : a ≤ℤ b
   pub narrow : (b -ℤ a) ≤ℤ pos 512
   pub a_size : unsigned_abs a ≤ 2 ^ 61
@@ -103,7 +103,7 @@ pub step_is : (m e x a b t next : ℤ) → IsSineBox x a b → a ≤ℤ t → t 
 step_is m e x a b t next h at tb ta bt n = record {
   sine = t;
   size = size a b t h.a_size h.b_size at tb;
-  near = λ c s k. widen (t -ℤ pos 256) (t +ℤ pos 256) a b s (below a t ta) (above b t bt) (h.holds c s (canonical_is_pair 5 (at_56 x) c s k));
+  near = λ c s k. widen (t -ℤ pos 256) (t +ℤ pos 256) a b s (below a t ta) (above b t bt) (h.holds c s (canonical_is_pair 5 (of_scale 56 x) c s k));
   next_is = n;
 }
   where
@@ -123,7 +123,7 @@ halves a b t n k h i j = (omega (arith, ints), omega (arith, ints))
 pub plain_sum : (a b : ℤ) → neg_ℤ (pos (13 * 2 ^ 56)) ≤ℤ a → a ≤ℤ pos (13 * 2 ^ 56) → neg_ℤ (pos (2 ^ 52)) ≤ℤ b → b ≤ℤ pos (2 ^ 52) → to_z w64 (of_z w64 (to_z w64 (of_z w64 a) +ℤ to_z w64 (of_z w64 b))) ≡ a +ℤ b
 plain_sum a b h k i j = omega (arith, ints)
 
-pub inside : (x : ℤ) → neg_ℤ (pos (13 * 2 ^ 56)) ≤ℤ x → x ≤ℤ pos (13 * 2 ^ 56) → InRange 5 (at_56 x)
+pub inside : (x : ℤ) → neg_ℤ (pos (13 * 2 ^ 56)) ≤ℤ x → x ≤ℤ pos (13 * 2 ^ 56) → InRange 5 (of_scale 56 x)
 inside x h k = in_range x (low x h) (high x k)
   where
     low : (x : ℤ) → neg_ℤ (pos (13 * 2 ^ 56)) ≤ℤ x → neg_ℤ (pos (2 ^ 60)) ≤ℤ x
@@ -154,7 +154,7 @@ pub record IsReached (ml mh el eh m x a b fl fh : ℤ) : Type 0 where
   pub sine : IsSineBox x a b
   pub m_below : (m -ℤ ml) ≤ℤ pos 8
   pub m_above : (mh -ℤ m) ≤ℤ pos 8
-  pub settled : (next : ℤ) → IsStep m el x next → Within (pos 3) next x
+  pub settled : (next : ℤ) → IsStep m el x next → AreNear (pos 3) next x
   pub lo_is : fl ≡ ml +ℤ floor_div (least_corner el eh a b) (2 ^ 64)
   pub hi_is : fh ≡ mh +ℤ ceil_div (most_corner el eh a b) (2 ^ 64)
 
@@ -230,3 +230,13 @@ narrow_pair w d h k = omega (arith, ints)
 
 pub narrow_angle : (w : ℤ) → w ≤ℤ pos 34 → w ≤ℤ pos (2 ^ 16)
 narrow_angle w h = omega (arith, ints)
+
+-- the bounds in whole powers of two
+pub promised_angle : (w : ℤ) → w ≤ℤ pos 34 → w ≤ℤ pos (2 ^ 6)
+promised_angle w h = omega (arith, ints)
+
+pub promised_pair : (w : ℤ) → w ≤ℤ pos 1600 → w ≤ℤ pos (2 ^ 11)
+promised_pair w h = omega (arith, ints)
+
+pub wider_pair : (w : ℤ) → w ≤ℤ pos 1600 → w ≤ℤ pos (2 ^ 13)
+wider_pair w h = omega (arith, ints)

@@ -6,11 +6,11 @@ use Rattle.whole_math.proofs.Order.{lins, abs_mul_le}
 use Rattle.whole_math.proofs.Certificates.{cert, cancel, mul_positive, weak, ◌≼◌, hy, nm, ◌⊞◌, ◌⊠◌}
 use Rattle.whole_math.specs.Rounding.{floor_div}
 use Rattle.whole_math.proofs.Rounding.{floor_le, lt_floor}
-use Rattle.rational.specs.Rational.{Rational, AreWithin}
+use Rattle.rational.specs.Rational.{Rational, AreWithin, of_scale}
 use Rattle.trig_box.specs.AnglePairs.{InRange}
 use Rattle.trig_box.proofs.Base.{le_pos, lt_pos}
 use Rattle.trig_box.proofs.PairLaws.{canonical_exists, canonical_law}
-use Rattle.kepler_box.specs.Steps.{at_56, IsStep, Within, Settled}
+use Rattle.kepler_box.specs.Steps.{IsStep, AreNear, Settled}
 use Rattle.std.proofs.Math.Nat.{pow-suc}
 use Rattle.std.proofs.Common.{add-one}
 
@@ -29,7 +29,7 @@ angles_near x y d h0 =
     cert (x ∷ y ∷ d ∷ []) ((((va 0) ⊖ (va 1)) ≼ (va 2)) ∷ []) ((((va 0) ⊗ (ko (pos 72057594037927936))) ⊖ ((va 1) ⊗ (ko (pos 72057594037927936)))) ⊗ (ko (pos 72057594037927936))) ((va 2) ⊗ ((ko (pos 72057594037927936)) ⊗ (ko (pos 72057594037927936)))) ((nm 5192296858534827628530496329220096) ⊠ (hy 0)) refl (h0, tt)
 
 -- the range of the code's angles
-pub in_range : (x : ℤ) → neg_ℤ (pos (2 ^ 60)) ≤ℤ x → x ≤ℤ pos (2 ^ 60) → InRange 5 (at_56 x)
+pub in_range : (x : ℤ) → neg_ℤ (pos (2 ^ 60)) ≤ℤ x → x ≤ℤ pos (2 ^ 60) → InRange 5 (of_scale 56 x)
 in_range x h k = go x h k
   where
     go : (x : ℤ) → neg_ℤ (pos (2 ^ 60)) ≤ℤ x → x ≤ℤ pos (2 ^ 60) → 2 * unsigned_abs x ≤ 2 ^ 5 * 2 ^ 56
@@ -38,15 +38,15 @@ in_range x h k = go x h k
 move : (m a b x y : ℤ) → x ≡ m +ℤ a → y ≡ m +ℤ b → x -ℤ y ≡ a -ℤ b
 move m a b x y h k = omega (arith, lins)
 
-pub one_side : (m e x y a b d : ℤ) → InRange 5 (at_56 x) → InRange 5 (at_56 y) → pos 0 ≤ℤ e → e ≤ℤ pos (2 ^ 55) → pos 0 ≤ℤ d → Within d x y → IsStep m e x a → IsStep m e y b →
+pub one_side : (m e x y a b d : ℤ) → InRange 5 (of_scale 56 x) → InRange 5 (of_scale 56 y) → pos 0 ≤ℤ e → e ≤ℤ pos (2 ^ 55) → pos 0 ≤ℤ d → AreNear d x y → IsStep m e x a → IsStep m e y b →
     (pos 16 *ℤ (a -ℤ b)) ≤ℤ (d +ℤ pos 32)
 one_side m e x y a b d rx ry e0 e1 d0 w p q =
-    let star = canonical_exists 5 (at_56 x) rx in
-    let moon = canonical_exists 5 (at_56 y) ry in
+    let star = canonical_exists 5 (of_scale 56 x) rx in
+    let moon = canonical_exists 5 (of_scale 56 y) ry in
     let s : Rational = star.1 in
     let t : Rational = moon.1 in
-    let near : AreWithin (at_56 d) (at_56 x) (at_56 y) = (angles_near x y d w.0, angles_near y x d w.1) in
-    let law = canonical_law 5 (at_56 d) (at_56 x) (at_56 y) star.0 s moon.0 t (lit≤ tt) star.2 moon.2 near in
+    let near : AreWithin (of_scale 56 d) (of_scale 56 x) (of_scale 56 y) = (angles_near x y d w.0, angles_near y x d w.1) in
+    let law = canonical_law 5 (of_scale 56 d) (of_scale 56 x) (of_scale 56 y) star.0 s moon.0 t (lit≤ tt) star.2 moon.2 near in
     let gap = sine_gap s.num (pos s.den) p.sine t.num (pos t.den) q.sine d (p.near star.0 s star.2).0 (q.near moon.0 t moon.2).1 law.1.0 (lt_pos 0 s.den s.positive) (lt_pos 0 t.den t.positive) in
     let i : ℤ = floor_div (e *ℤ p.sine) (2 ^ 64) in
     let j : ℤ = floor_div (e *ℤ q.sine) (2 ^ 64) in
@@ -54,7 +54,7 @@ one_side m e x y a b d rx ry e0 e1 d0 w p q =
     subst (λ (z : ℤ). (pos 16 *ℤ z) ≤ℤ (d +ℤ pos 32)) (sym (move m i j a b p.next_is q.next_is)) r
 
 -- 16 |next(x) - next(y)| ≤ |x - y| + 32
-pub steps_shrink : (m e x y a b d : ℤ) → InRange 5 (at_56 x) → InRange 5 (at_56 y) → pos 0 ≤ℤ e → e ≤ℤ pos (2 ^ 55) → pos 0 ≤ℤ d → Within d x y → IsStep m e x a → IsStep m e y b →
+pub steps_shrink : (m e x y a b d : ℤ) → InRange 5 (of_scale 56 x) → InRange 5 (of_scale 56 y) → pos 0 ≤ℤ e → e ≤ℤ pos (2 ^ 55) → pos 0 ≤ℤ d → AreNear d x y → IsStep m e x a → IsStep m e y b →
     ((pos 16 *ℤ (a -ℤ b)) ≤ℤ (d +ℤ pos 32)) × ((pos 16 *ℤ (b -ℤ a)) ≤ℤ (d +ℤ pos 32))
 steps_shrink m e x y a b d rx ry e0 e1 d0 w p q = (one_side m e x y a b d rx ry e0 e1 d0 w p q, one_side m e y x b a d ry rx e0 e1 d0 (w.1, w.0) q p)
 
@@ -68,10 +68,10 @@ size_of e h k = omega (arith, ints)
 pub pull_size : (e s : ℤ) → pos 0 ≤ℤ e → e ≤ℤ pos (2 ^ 55) → unsigned_abs s ≤ 2 ^ 61 → (neg_ℤ (pos (2 ^ 52)) ≤ℤ floor_div (e *ℤ s) (2 ^ 64)) × (floor_div (e *ℤ s) (2 ^ 64) ≤ℤ pos (2 ^ 52))
 pull_size e s e0 e1 h = pull_within (e *ℤ s) (floor_div (e *ℤ s) (2 ^ 64)) (floor_le (e *ℤ s) (2 ^ 64) (lit< tt)) (lt_floor (e *ℤ s) (2 ^ 64) (lit< tt)) (abs_mul_le e s (2 ^ 55) (2 ^ 61) (size_of e e0 e1) h)
 
-pub step_near : (m e x a : ℤ) → pos 0 ≤ℤ e → e ≤ℤ pos (2 ^ 55) → IsStep m e x a → Within (pos (2 ^ 52)) a m
+pub step_near : (m e x a : ℤ) → pos 0 ≤ℤ e → e ≤ℤ pos (2 ^ 55) → IsStep m e x a → AreNear (pos (2 ^ 52)) a m
 step_near m e x a e0 e1 p = let q = pull_size e p.sine e0 e1 p.size in go m a (floor_div (e *ℤ p.sine) (2 ^ 64)) p.next_is q.0 q.1
   where
-    go : (m a f : ℤ) → a ≡ m +ℤ f → neg_ℤ (pos (2 ^ 52)) ≤ℤ f → f ≤ℤ pos (2 ^ 52) → Within (pos (2 ^ 52)) a m
+    go : (m a f : ℤ) → a ≡ m +ℤ f → neg_ℤ (pos (2 ^ 52)) ≤ℤ f → f ≤ℤ pos (2 ^ 52) → AreNear (pos (2 ^ 52)) a m
     go m a f e h k = (omega (arith, ints), omega (arith, ints))
 
 -- ---- the rounds
@@ -87,7 +87,7 @@ round z d w h0 h1 h2 =
 
 record IsMagnitude (x y d : ℤ) : Type 0 where
   pub nn : pos 0 ≤ℤ d
-  pub within : Within d x y
+  pub within : AreNear d x y
   pub either : (d ≡ x -ℤ y) ⊎ (d ≡ y -ℤ x)
 
 magnitude : (x y : ℤ) → (d : ℤ) × IsMagnitude x y d
@@ -114,7 +114,7 @@ choose : (P : ℤ → Type 0) (d a b : ℤ) → P a → P b → (d ≡ a) ⊎ (d
 choose P d a b p q (inl e) = subst P (sym e) p
 choose P d a b p q (inr e) = subst P (sym e) q
 
-pub settled_step : (j i : ℕ) (m e x y : ℤ) → i ≡ j + 1 → pos 0 ≤ℤ e → e ≤ℤ pos (2 ^ 55) → InRange 5 (at_56 x) → InRange 5 (at_56 y) → Settled j m e x → IsStep m e x y → Settled i m e y
+pub settled_step : (j i : ℕ) (m e x y : ℤ) → i ≡ j + 1 → pos 0 ≤ℤ e → e ≤ℤ pos (2 ^ 55) → InRange 5 (of_scale 56 x) → InRange 5 (of_scale 56 y) → Settled j m e x → IsStep m e x y → Settled i m e y
 settled_step j i m e x y ij e0 e1 rx ry h p z q =
     let d = magnitude y x in
     let s = steps_shrink m e y x z y d.0 ry rx e0 e1 d.1.nn d.1.within q p in
@@ -126,8 +126,21 @@ settled_step j i m e x y ij e0 e1 rx ry h p z q =
       subst (λ (n : ℕ). ((y -ℤ z) *ℤ pos n) ≤ℤ (pos (2 ^ 52) +ℤ (pos 3 *ℤ pos n))) k (round (y -ℤ z) d.0 (pos (16 ^ j)) s.1 b w0),
     )
 
-pub settled_end : (m e x : ℤ) → Settled 14 m e x → (next : ℤ) → IsStep m e x next → Within (pos 3) next x
+pub settled_end : (m e x : ℤ) → Settled 14 m e x → (next : ℤ) → IsStep m e x next → AreNear (pos 3) next x
 settled_end m e x h z q = let p = h z q in (go (z -ℤ x) p.0, go (x -ℤ z) p.1)
   where
     go : (z : ℤ) → (z *ℤ pos 72057594037927936) ≤ℤ (pos 4503599627370496 +ℤ (pos 3 *ℤ pos 72057594037927936)) → z ≤ℤ pos 3
+    go z h = omega (arith, ints)
+
+-- where a step changes nothing, each further step leads at most 2 units away
+pub settled_fixed : (m e x : ℤ) → pos 0 ≤ℤ e → e ≤ℤ pos (2 ^ 55) → InRange 5 (of_scale 56 x) → IsStep m e x x → (next : ℤ) → IsStep m e x next → AreNear (pos 3) next x
+settled_fixed m e x e0 e1 r p next q = let s = steps_shrink m e x x next x (pos 0) r r e0 e1 (zero_le (pos 0)) (own x) q p in (go (next -ℤ x) s.0, go (x -ℤ next) s.1)
+  where
+    zero_le : (z : ℤ) → z ≤ℤ z
+    zero_le z = omega (arith, lins)
+
+    own : (x : ℤ) → AreNear (pos 0) x x
+    own x = (omega (arith, lins), omega (arith, lins))
+
+    go : (z : ℤ) → (pos 16 *ℤ z) ≤ℤ (pos 0 +ℤ pos 32) → z ≤ℤ pos 3
     go z h = omega (arith, ints)

@@ -1,16 +1,21 @@
-// Boxes of the eccentric anomaly.
+//! The eccentric anomaly: boxes of all solutions of Kepler's equation M = E − e·sin E (IS-GPS-200, table 20-IV).
 #![tactic(auto)]
 
 ghost use Rattle.std.specs.Prelude.{◌≡◌, ℕ, ◌+◌, ◌-◌, ◌*◌, ◌^◌, ◌<◌, ◌≤◌, pos, ◌+ℤ◌, ◌-ℤ◌, ◌*ℤ◌, neg_ℤ, ℤ, ◌≤ℤ◌, unsigned_abs};
 ghost use Rattle.whole_math.specs.Rounding.{floor_div, ceil_div};
+ghost use Rattle.whole_math.specs.Bounds.{Within};
+ghost use Rattle.rational.specs.Rational.{Rational, add_r, mul_r, of_scale, IsNearBox};
 ghost use Rattle.iv_core.specs.Boxes.{least_corner, most_corner};
-ghost use Rattle.rational.specs.Rational.{Rational, InBox, add_r, mul_r, times, two_to_minus, IsNearBox};
+ghost use Rattle.iv_core.specs.Intervals.{Holds, width_of, IsWithin};
 ghost use Rattle.trig_box.specs.AnglePairs.{IsAnglePair};
-ghost use Rattle.kepler_box.specs.Anomaly.{IsAnomaly};
-ghost use Rattle.kepler_box.specs.Steps.{at_56, IsStep, Within, Settled};
+ghost use Rattle.kepler_box.specs.Kepler.{SolvesKepler, HoldsAnomaly, IsNearAnomaly, IsPairAtMostWide};
+ghost use Rattle.kepler_box.specs.Steps.{IsMeanAnomaly, IsAngle, IsEccentricity, IsStep, AreNear, last_step, residual_limit, radius_limit, angle_width_limit, pair_width_limit};
 
 use iv_core::Iv;
 use trig_box::pair_box;
+
+// After these many a further step leads at most 3 units away, wherever the first began.
+const ROUNDS: u32 = 14;
 
 fn half_of(width: i64) -> i64
     requires low { pos 0 ≤ℤ width }
@@ -35,14 +40,16 @@ fn middle_of(lo: i64, hi: i64) -> i64
 
 // The box of the sine of angle / 2^56
 fn sine_of(angle: i64) -> Iv<60>
-    requires low { neg_ℤ (pos (13 * 2 ^ 56)) ≤ℤ angle }
-    requires high { angle ≤ℤ pos (13 * 2 ^ 56) }
-    ensures holds { (c s : Rational) → IsAnglePair 5 (at_56 angle) c s → InBox 60 result.lo result.hi s }
-    ensures narrow { (result.hi -ℤ result.lo) ≤ℤ pos 512 }
+    requires angle { IsAngle angle }
+    ensures holds { (c s : Rational) → IsAnglePair 5 (of_scale 56 angle) c s → Holds result s }
+    ensures narrow { width_of result ≤ℤ pos 512 }
     ensures lo_size { unsigned_abs result.lo ≤ 2 ^ 61 }
     ensures hi_size { unsigned_abs result.hi ≤ 2 ^ 61 }
 {
-    let point = Iv::<56>::from_ends(angle, angle);
+    let point: Iv<56> = Iv {
+        lo: angle,
+        hi: angle,
+    };
     pair_box(&point, 5).sin
 }
 
@@ -59,34 +66,28 @@ fn product(e: i64, sine: i64) -> i128
 fn coarse(z: i128) -> i64
     requires size { unsigned_abs z ≤ 2 ^ 116 }
     ensures value { result ≡ floor_div z (2 ^ 64) }
-    ensures low { neg_ℤ (pos (2 ^ 52)) ≤ℤ result }
-    ensures high { result ≤ℤ pos (2 ^ 52) }
+    ensures size { Within (pos (2 ^ 52)) result }
 {
     (z >> 64) as i64
 }
 
 // e · sine in units of 2^-56, rounded down
 fn pull_of(e: i64, sine: i64) -> i64
-    requires e_low { pos 0 ≤ℤ e }
-    requires e_high { e ≤ℤ pos (2 ^ 55) }
+    requires eccentricity { IsEccentricity e }
     requires size { unsigned_abs sine ≤ 2 ^ 61 }
     ensures value { result ≡ floor_div (e *ℤ sine) (2 ^ 64) }
-    ensures low { neg_ℤ (pos (2 ^ 52)) ≤ℤ result }
-    ensures high { result ≤ℤ pos (2 ^ 52) }
+    ensures size { Within (pos (2 ^ 52)) result }
 {
     coarse(product(e, sine))
 }
 
+// m + e · sine of the angle
 fn step(m: i64, e: i64, angle: i64) -> i64
-    requires m_low { neg_ℤ (pos (12 * 2 ^ 56)) ≤ℤ m }
-    requires m_high { m ≤ℤ pos (12 * 2 ^ 56) }
-    requires e_low { pos 0 ≤ℤ e }
-    requires e_high { e ≤ℤ pos (2 ^ 55) }
-    requires low { neg_ℤ (pos (13 * 2 ^ 56)) ≤ℤ angle }
-    requires high { angle ≤ℤ pos (13 * 2 ^ 56) }
+    requires mean { IsMeanAnomaly m }
+    requires eccentricity { IsEccentricity e }
+    requires angle { IsAngle angle }
     ensures step { IsStep m e angle result }
-    ensures low { neg_ℤ (pos (13 * 2 ^ 56)) ≤ℤ result }
-    ensures high { result ≤ℤ pos (13 * 2 ^ 56) }
+    ensures angle { IsAngle result }
 {
     let sine = sine_of(angle);
     m + pull_of(e, middle_of(sine.lo(), sine.hi()))
@@ -94,32 +95,35 @@ fn step(m: i64, e: i64, angle: i64) -> i64
 
 // The angle from which a further step leads at most 3 units away
 fn settle(m: i64, e: i64) -> i64
-    requires m_low { neg_ℤ (pos (12 * 2 ^ 56)) ≤ℤ m }
-    requires m_high { m ≤ℤ pos (12 * 2 ^ 56) }
-    requires e_low { pos 0 ≤ℤ e }
-    requires e_high { e ≤ℤ pos (2 ^ 55) }
-    ensures settled { (next : ℤ) → IsStep m e result next → Within (pos 3) next result }
-    ensures low { neg_ℤ (pos (13 * 2 ^ 56)) ≤ℤ result }
-    ensures high { result ≤ℤ pos (13 * 2 ^ 56) }
+    requires mean { IsMeanAnomaly m }
+    requires eccentricity { IsEccentricity e }
+    ensures settled { (next : ℤ) → IsStep m e result next → AreNear last_step next result }
+    ensures angle { IsAngle result }
 {
     let mut angle = m;
-    for _i in 0..14u32 {
-        angle = step(m, e, angle);
+    for _round in 0..ROUNDS {
+        let next = step(m, e, angle);
+        if next == angle {
+            return angle;
+        }
+        angle = next;
     }
     angle
 }
 
 // m + e · sine
 fn right_side(m: &Iv<56>, e: &Iv<60>, sine: &Iv<60>) -> Iv<56>
-    requires m_low { neg_ℤ (pos (12 * 2 ^ 56)) ≤ℤ m.now.lo }
-    requires m_high { m.now.hi ≤ℤ pos (12 * 2 ^ 56) }
+    requires mean { IsWithin (12 * 2 ^ 56) m.now }
     requires e_low { pos 0 ≤ℤ e.now.lo }
     requires e_high { e.now.hi ≤ℤ pos (2 ^ 55) }
     requires lo_size { unsigned_abs sine.now.lo ≤ 2 ^ 61 }
     requires hi_size { unsigned_abs sine.now.hi ≤ 2 ^ 61 }
-    ensures holds { (x y z : Rational) → InBox 56 m.now.lo m.now.hi x → InBox 60 e.now.lo e.now.hi y → InBox 60 sine.now.lo sine.now.hi z → InBox 56 result.lo result.hi (add_r x (mul_r y z)) }
-    ensures lo { result.lo ≡ m.now.lo +ℤ floor_div (least_corner e.now.lo e.now.hi sine.now.lo sine.now.hi) (2 ^ 64) }
-    ensures hi { result.hi ≡ m.now.hi +ℤ ceil_div (most_corner e.now.lo e.now.hi sine.now.lo sine.now.hi) (2 ^ 64) }
+    ensures holds { (x y z : Rational) →
+        Holds m.now x → Holds e.now y → Holds sine.now z → Holds result (add_r x (mul_r y z)) }
+    ensures lo { result.lo ≡
+        m.now.lo +ℤ floor_div (least_corner e.now.lo e.now.hi sine.now.lo sine.now.hi) (2 ^ 64) }
+    ensures hi { result.hi ≡
+        m.now.hi +ℤ ceil_div (most_corner e.now.lo e.now.hi sine.now.lo sine.now.hi) (2 ^ 64) }
 {
     let product: Iv<56> = e.mul_to::<60, 56>(sine).unwrap();
     m.add(&product).unwrap()
@@ -128,10 +132,10 @@ fn right_side(m: &Iv<56>, e: &Iv<60>, sine: &Iv<60>) -> Iv<56>
 // A little over 16/15 of the residual
 fn widened(residual: i64) -> i64
     requires low { pos 0 ≤ℤ residual }
-    requires high { residual ≤ℤ pos 14 }
+    requires high { residual ≤ℤ residual_limit }
     ensures wide { ((pos 16 *ℤ residual) +ℤ pos 1) ≤ℤ (pos 15 *ℤ result) }
     ensures low { pos 0 ≤ℤ result }
-    ensures high { result ≤ℤ pos 17 }
+    ensures high { result ≤ℤ radius_limit }
 {
     residual + (residual >> 3) + 2
 }
@@ -139,33 +143,31 @@ fn widened(residual: i64) -> i64
 // How far the ends lo and hi lie from the angle at most
 fn residual_of(angle: i64, lo: i64, hi: i64) -> i64
     requires ordered { lo ≤ℤ hi }
-    requires above { (hi -ℤ angle) ≤ℤ pos 14 }
-    requires below { (angle -ℤ lo) ≤ℤ pos 14 }
-    requires low { neg_ℤ (pos (13 * 2 ^ 56)) ≤ℤ angle }
-    requires high { angle ≤ℤ pos (13 * 2 ^ 56) }
+    requires above { (hi -ℤ angle) ≤ℤ residual_limit }
+    requires below { (angle -ℤ lo) ≤ℤ residual_limit }
+    requires angle { IsAngle angle }
     ensures above { (hi -ℤ angle) ≤ℤ result }
     ensures below { (angle -ℤ lo) ≤ℤ result }
     ensures low { pos 0 ≤ℤ result }
-    ensures high { result ≤ℤ pos 14 }
+    ensures high { result ≤ℤ residual_limit }
 {
     (hi - angle).max(angle - lo)
 }
 
 // The box that reaches `radius` beyond the angle
 fn around(angle: i64, radius: i64) -> Iv<56>
-    requires low { neg_ℤ (pos (13 * 2 ^ 56)) ≤ℤ angle }
-    requires high { angle ≤ℤ pos (13 * 2 ^ 56) }
+    requires angle { IsAngle angle }
     requires radius_low { pos 0 ≤ℤ radius }
-    requires radius_high { radius ≤ℤ pos 17 }
+    requires radius_high { radius ≤ℤ radius_limit }
     ensures lo { result.lo ≡ angle -ℤ radius }
     ensures hi { result.hi ≡ angle +ℤ radius }
 {
     let lo = angle - radius;
     let hi = angle + radius;
-    Iv::from_ends(lo, hi)
+    Iv { lo, hi }
 }
 
-/// A box of the eccentric anomaly, and one of its cosine and of its sine.
+/// A box of the eccentric anomaly, in units of 2^-56 of a radian, and one of its cosine and of its sine, in units of 2^-60.
 #[derive(Clone, Copy, Debug)]
 pub struct Anomaly {
     pub angle: Iv<56>,
@@ -175,16 +177,15 @@ pub struct Anomaly {
 
 // The box that reaches `radius` beyond the angle, with the boxes of its pairs
 fn pairs_around(angle: i64, radius: i64) -> Anomaly
-    requires low { neg_ℤ (pos (13 * 2 ^ 56)) ≤ℤ angle }
-    requires high { angle ≤ℤ pos (13 * 2 ^ 56) }
+    requires angle { IsAngle angle }
     requires radius_low { pos 0 ≤ℤ radius }
-    requires radius_high { radius ≤ℤ pos 17 }
+    requires radius_high { radius ≤ℤ radius_limit }
     ensures lo { result.angle.lo ≡ angle -ℤ radius }
     ensures hi { result.angle.hi ≡ angle +ℤ radius }
-    ensures pairs { (x c s : Rational) → InBox 56 result.angle.lo result.angle.hi x → IsAnglePair 5 x c s → InBox 60 result.cos.lo result.cos.hi c × InBox 60 result.sin.lo result.sin.hi s }
-    ensures cos_width { (result.cos.hi -ℤ result.cos.lo) ≤ℤ pos 1600 }
-    ensures sin_width { (result.sin.hi -ℤ result.sin.lo) ≤ℤ pos 1600 }
-    ensures ends { ((unsigned_abs result.cos.lo ≤ 9 * 2 ^ 57) × (unsigned_abs result.cos.hi ≤ 9 * 2 ^ 57)) × ((unsigned_abs result.sin.lo ≤ 9 * 2 ^ 57) × (unsigned_abs result.sin.hi ≤ 9 * 2 ^ 57)) }
+    ensures pairs { (x c s : Rational) →
+        Holds result.angle x → IsAnglePair 5 x c s → Holds result.cos c × Holds result.sin s }
+    ensures pair_width { IsPairAtMostWide pair_width_limit result }
+    ensures ends { IsWithin (9 * 2 ^ 57) result.cos × IsWithin (9 * 2 ^ 57) result.sin }
 {
     let reach = around(angle, radius);
     let pair = pair_box(&reach, 5);
@@ -195,30 +196,40 @@ fn pairs_around(angle: i64, radius: i64) -> Anomaly
     }
 }
 
-/// Boxes of every solution of Kepler's equation for a mean anomaly in m and an eccentricity in e.
+/// Boxes of every solution of Kepler's equation for a mean anomaly in `m` and an eccentricity in `e`.
+///
+/// `m` is at most 12 in size and 2^-52 wide; `e` lies from 0 to 1/32 and is at most 2^-59 wide.
 pub fn anomaly_box(m: &Iv<56>, e: &Iv<60>) -> Anomaly
-    requires m_low { neg_ℤ (pos (12 * 2 ^ 56)) ≤ℤ m.now.lo }
-    requires m_high { m.now.hi ≤ℤ pos (12 * 2 ^ 56) }
-    requires m_narrow { (m.now.hi -ℤ m.now.lo) ≤ℤ pos 16 }
-    requires e_low { pos 0 ≤ℤ e.now.lo }
-    requires e_high { e.now.hi ≤ℤ pos (2 ^ 55) }
-    requires e_narrow { (e.now.hi -ℤ e.now.lo) ≤ℤ pos 2 }
+    requires mean { IsWithin (12 * 2 ^ 56) m.now }
+    requires mean_narrow { width_of m.now ≤ℤ pos (2 ^ 4) }
+    requires eccentricity_low { pos 0 ≤ℤ e.now.lo }
+    requires eccentricity_high { e.now.hi ≤ℤ pos (2 ^ 55) }
+    requires eccentricity_narrow { width_of e.now ≤ℤ pos 2 }
 
-    ensures holds { (mean ecc angle c s : Rational) → InBox 56 m.now.lo m.now.hi mean → InBox 60 e.now.lo e.now.hi ecc → IsAnomaly mean ecc angle c s → InBox 56 result.angle.lo result.angle.hi angle × InBox 60 result.cos.lo result.cos.hi c × InBox 60 result.sin.lo result.sin.hi s }
+    ensures holds { (mean eccentricity angle c s : Rational) →
+        Holds m.now mean → Holds e.now eccentricity →
+        SolvesKepler mean eccentricity angle c s → HoldsAnomaly result angle c s }
 
-    // Every pair of every angle in the box
-    ensures pairs { (angle c s : Rational) → InBox 56 result.angle.lo result.angle.hi angle → IsAnglePair 5 angle c s → InBox 60 result.cos.lo result.cos.hi c × InBox 60 result.sin.lo result.sin.hi s }
+    // Every pair of every angle in the box, a solution or not
+    ensures pairs { (angle c s : Rational) →
+        Holds result.angle angle → IsAnglePair 5 angle c s → Holds result.cos c × Holds result.sin s }
 
-    // A mean anomaly within d of the box m: the angle is within 2d of its box, the pair within 4d + 2^-60 of its boxes.
-    ensures near { (d mean ecc angle c s : Rational) → IsNearBox 56 m.now.lo m.now.hi d mean → InBox 60 e.now.lo e.now.hi ecc → IsAnomaly mean ecc angle c s → IsNearBox 56 result.angle.lo result.angle.hi (times 2 d) angle × IsNearBox 60 result.cos.lo result.cos.hi (add_r (times 4 d) (two_to_minus 60)) c × IsNearBox 60 result.sin.lo result.sin.hi (add_r (times 4 d) (two_to_minus 60)) s }
+    // A solution whose mean anomaly is only within d of the box m
+    ensures near { (d mean eccentricity angle c s : Rational) →
+        IsNearBox 56 m.now.lo m.now.hi d mean → Holds e.now eccentricity →
+        SolvesKepler mean eccentricity angle c s → IsNearAnomaly d result angle c s }
 
-    // 2^-50 and 2^-49
-    ensures angle_width { (result.angle.hi -ℤ result.angle.lo) ≤ℤ pos 34 }
-    ensures cos_width { (result.cos.hi -ℤ result.cos.lo) ≤ℤ pos 1600 }
-    ensures sin_width { (result.sin.hi -ℤ result.sin.lo) ≤ℤ pos 1600 }
+    // 34 units of 2^-56, and 1600 of 2^-60
+    ensures angle_width { width_of result.angle ≤ℤ angle_width_limit }
+    ensures pair_width { IsPairAtMostWide pair_width_limit result }
+
+    // So at most 2^-50; at most 2^-49, and all the more 2^-47
+    ensures wide_angle { width_of result.angle ≤ℤ pos (2 ^ 6) }
+    ensures wide_pair { IsPairAtMostWide (pos (2 ^ 11)) result }
+    ensures wider_pair { IsPairAtMostWide (pos (2 ^ 13)) result }
 
     // No end of the pair is over 9/8 in size.
-    ensures ends { ((unsigned_abs result.cos.lo ≤ 9 * 2 ^ 57) × (unsigned_abs result.cos.hi ≤ 9 * 2 ^ 57)) × ((unsigned_abs result.sin.lo ≤ 9 * 2 ^ 57) × (unsigned_abs result.sin.hi ≤ 9 * 2 ^ 57)) }
+    ensures ends { IsWithin (9 * 2 ^ 57) result.cos × IsWithin (9 * 2 ^ 57) result.sin }
 {
     let angle = settle(middle_of(m.lo(), m.hi()), e.lo());
     let sine = sine_of(angle);
@@ -232,22 +243,231 @@ mod tests {
     use super::*;
     use std::test::Fail;
 
-    // 2^56 times E and 2^60 times its cosine and its sine, rounded down, where E - sin E / 32 = 1
-    const ANGLE: i64 = 73984267909044733;
+    // A mean anomaly in units of 2^-56 and an eccentricity in units of 2^-60; then the solution as mpmath gives it, rounded
+    // down: the angle in units of 2^-56, its cosine and its sine in units of 2^-60.
+    const SOLUTIONS: [(i64, i64, i64, i64, i64); 27] = [
+        (0, 0, 0, 1152921504606846976, 0),
+        (0, 36028797018963968, 0, 1152921504606846976, 0),
+        (1, 36028797018963968, 1, 1152921504606846975, 16),
+        (-1, 36028797018963968, -2, 1152921504606846975, -17),
+        (
+            72057594037927936,
+            0,
+            72057594037927936,
+            622926147424044489,
+            970149993887725314,
+        ),
+        (
+            72057594037927936,
+            36028797018963968,
+            73984267909044733,
+            596766737937467854,
+            986457022011800287,
+        ),
+        (
+            -72057594037927936,
+            36028797018963968,
+            -73984267909044734,
+            596766737937467854,
+            -986457022011800288,
+        ),
+        (
+            36028797018963968,
+            18014398509481984,
+            36576070891721424,
+            1007556633529327445,
+            560408445703635364,
+        ),
+        (
+            113187804032455044,
+            36028797018963968,
+            115438505496159459,
+            -36005368219557185,
+            1152359149416660801,
+        ),
+        (
+            -113187804032455044,
+            36028797018963968,
+            -115438505496159460,
+            -36005368219557185,
+            -1152359149416660802,
+        ),
+        (
+            226375608064910088,
+            36028797018963968,
+            226375608064910088,
+            -1152921504606846976,
+            12,
+        ),
+        (
+            -226375608064910088,
+            1,
+            -226375608064910089,
+            -1152921504606846976,
+            -14,
+        ),
+        (
+            180143985094819840,
+            11529215046068469,
+            180571794772702977,
+            -927735914648830435,
+            684495484613020573,
+        ),
+        (
+            -237790060325162189,
+            36028797018963968,
+            -237445485759151912,
+            -1139343324448862974,
+            176422177797262305,
+        ),
+        (
+            288230376151711744,
+            36028797018963967,
+            286560766866761542,
+            -773612725470929508,
+            -854839953894503067,
+        ),
+        (
+            410728286016189235,
+            9223372036854775,
+            410408706486119644,
+            959533059163108617,
+            -639159060139181765,
+        ),
+        (
+            -432345564227567616,
+            36028797018963968,
+            -431696940036499267,
+            1104056392427099288,
+            332095585826994709,
+        ),
+        (
+            452751216129820177,
+            36028797018963968,
+            452751216129820176,
+            1152921504606846975,
+            -11,
+        ),
+        (
+            -504403158265495552,
+            20000000000000000,
+            -505235218302911476,
+            860385932228112836,
+            -767439928208636470,
+        ),
+        (
+            594475150812905472,
+            36028797018963968,
+            596527096430571557,
+            -474842829016162407,
+            1050596156245035681,
+        ),
+        (
+            -713370180975486567,
+            3000000000000000,
+            -713284591089571758,
+            -1025793445353469637,
+            526284906922832222,
+        ),
+        (
+            727781699783072153,
+            36028797018963968,
+            726407929612945846,
+            -913508718477052635,
+            -703370327104668859,
+        ),
+        (
+            792633534417207296,
+            36028797018963968,
+            790382544009402642,
+            -30909643477808198,
+            -1152507088795982488,
+        ),
+        (
+            864691128455135232,
+            0,
+            864691128455135232,
+            972897375770308954,
+            -618626455952347813,
+        ),
+        (
+            864691128455135232,
+            36028797018963968,
+            863450334112961767,
+            962101242349952172,
+            -635286703192813936,
+        ),
+        (
+            -864691128455135232,
+            36028797018963968,
+            -863450334112961768,
+            962101242349952172,
+            635286703192813935,
+        ),
+        (
+            -864691128455135232,
+            0,
+            -864691128455135232,
+            972897375770308954,
+            618626455952347812,
+        ),
+    ];
 
-    const COS: i64 = 596766737937467854;
-
-    const SIN: i64 = 986457022011800287;
+    // The value rounded down, and the next one: the true one lies between them.
+    fn is_around<const K: u32>(b: &Iv<K>, value: i64) -> bool {
+        b.lo() <= value && value < b.hi()
+    }
 
     #[test]
-    fn of_one(rt: HostRuntime) -> Result<(), Fail> {
-        let found = anomaly_box(&Iv::point(1 << 56)?, &Iv::point(1 << 55)?);
-        assert!(rt; found.angle.lo() <= ANGLE);
-        assert!(rt; ANGLE < found.angle.hi());
-        assert!(rt; found.cos.lo() <= COS);
-        assert!(rt; COS < found.cos.hi());
-        assert!(rt; found.sin.lo() <= SIN);
-        assert!(rt; SIN < found.sin.hi());
+    fn solutions(rt: HostRuntime) -> Result<(), Fail> {
+        for (m, e, angle, cos, sin) in SOLUTIONS {
+            assert!(rt; -(12 << 56) <= m && m <= 12 << 56);
+            assert!(rt; 0 <= e && e <= 1 << 55);
+            let found = anomaly_box(&Iv::point(m)?, &Iv::point(e)?);
+            assert!(rt; is_around(&found.angle, angle), "the angle at {m} and {e}");
+            assert!(rt; is_around(&found.cos, cos), "the cosine at {m} and {e}");
+            assert!(rt; is_around(&found.sin, sin), "the sine at {m} and {e}");
+        }
+        Ok(())
+    }
+
+    #[test]
+    fn at_perigee(rt: HostRuntime) -> Result<(), Fail> {
+        for e in [0, 1 << 55] {
+            assert!(rt; 0 <= e && e <= 1 << 55);
+            let found = anomaly_box(&Iv::point(0)?, &Iv::point(e)?);
+            assert!(rt; is_around(&found.angle, 0));
+            assert!(rt; is_around(&found.cos, 1 << 60));
+            assert!(rt; is_around(&found.sin, 0));
+            assert!(rt; found.angle.width() <= 1 << 6);
+            assert!(rt; found.cos.width() <= 1 << 11);
+            assert!(rt; found.sin.width() <= 1 << 11);
+        }
+        Ok(())
+    }
+
+    // The solutions at the corners of boxes that are as wide as they may be.
+    #[test]
+    fn widest(rt: HostRuntime) -> Result<(), Fail> {
+        let m = Iv {
+            lo: (12 << 56) - 16,
+            hi: 12 << 56,
+        };
+        let e = Iv {
+            lo: (1 << 55) - 2,
+            hi: 1 << 55,
+        };
+        let found = anomaly_box(&m, &e);
+        for (angle, cos, sin) in [
+            (863450334112961750, 962101242349952028, -635286703192814155),
+            (863450334112961750, 962101242349952028, -635286703192814156),
+            (863450334112961767, 962101242349952172, -635286703192813936),
+            (863450334112961767, 962101242349952173, -635286703192813935),
+        ] {
+            assert!(rt; is_around(&found.angle, angle));
+            assert!(rt; is_around(&found.cos, cos));
+            assert!(rt; is_around(&found.sin, sin));
+        }
         Ok(())
     }
 }

@@ -7,7 +7,8 @@ use Rattle.whole_math.proofs.Order.{mul_eq_cancel}
 use Rattle.whole_math.proofs.Inequalities.{same_by, le_by, prod_nn, less_nn, pos_nn, nat, weak}
 use Rattle.whole_math.proofs.Certificates.{cancel, mul_positive}
 use Rattle.rational.specs.Rational.{Rational, ◌≈◌, ◌≤ʳ◌, neg_r, mul_r, power_r, IsBetween}
-use Rattle.rational.proofs.Over.{Over, over_add, over_mul, over_wide}
+use Rattle.rational.specs.Over.{Over}
+use Rattle.rational.proofs.Over.{over_add, over_mul, over_wide}
 use Rattle.trig_box.specs.AnglePairs.{factorial, term, sum_of_terms, cosine_sum, sine_sum, Pair, double, doubled, part, IsAnglePair, taylor_pair, IsCanonicalPair}
 use Rattle.trig_box.specs.Chain.{Point, cos18, cos20, sin19, sin21}
 use Rattle.trig_box.proofs.Points.{top, bottom, Between, double_point, doubled_point, IsBase, IsAt, IsPointPair, canonical_base, IsCanonicalPoint}

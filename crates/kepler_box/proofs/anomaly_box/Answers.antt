@@ -1,11 +1,11 @@
 use Rattle.std.proofs.Common.{ℤ, pos, ◌+ℤ◌, ◌-ℤ◌, ◌≤ℤ◌, subst, subst₂, sym, ◌∙◌}
 use Rattle.std.proofs.lemmas.Int.{to_z-of_z}
 use Rattle.std.specs.Int.{w64}
-use Rattle.rational.specs.Rational.{Rational, InBox}
+use Rattle.rational.specs.Rational.{Rational, InBox, of_scale}
 use Rattle.trig_box.specs.AnglePairs.{IsAnglePair}
-use Rattle.kepler_box.specs.Steps.{at_56, IsStep, Within}
+use Rattle.kepler_box.specs.Steps.{IsStep, AreNear}
 use Rattle.kepler_box.proofs.Contract.{IsFound, found_holds, found_near}
-use Rattle.kepler_box.proofs.Parts.{IsReached, residual, halves, wide_of, ends_of}
+use Rattle.kepler_box.proofs.Parts.{IsReached, residual, halves, wide_of, ends_of, promised_angle, promised_pair, wider_pair}
 use Rattle.kepler_box.proofs.anomaly_box.Goals as goal
 
 reached : (c : goal.After-hi-2) →
@@ -20,13 +20,13 @@ reached c =
     let ee = to_z-of_z w64 c.lo-2.result (record { sfits = c.lo-2.type_inv }) ∙ c.lo-2.ensures in
     let el = to_z-of_z w64 c.lo.result (record { sfits = c.lo.type_inv }) ∙ c.lo.ensures in
     let eh = to_z-of_z w64 c.hi.result (record { sfits = c.hi.type_inv }) ∙ c.hi.ensures in
-    let h = halves c.args.m.now.lo c.args.m.now.hi t (pos 8) (pos 0) c.requires.m_narrow
+    let h = halves c.args.m.now.lo c.args.m.now.hi t (pos 8) (pos 0) c.requires.mean_narrow
     (subst₂ (λ (y z : ℤ). (t -ℤ y) ≤ℤ (z -ℤ t)) el eh c.middle_of.ensures.nearer) (subst₂ (λ (y z : ℤ). ((z -ℤ t) +ℤ (z -ℤ t)) ≤ℤ ((z -ℤ y) +ℤ pos 1)) el eh c.middle_of.ensures.half) in
     record {
-      sized = record { e_low = c.requires.e_low; e_high = c.requires.e_high; ordered = c.args.e.now.ordered; a_size = c.sine_of-sine.ensures.lo_size; b_size = c.sine_of-sine.ensures.hi_size };
-      e_narrow = c.requires.e_narrow;
+      sized = record { e_low = c.requires.eccentricity_low; e_high = c.requires.eccentricity_high; ordered = c.args.e.now.ordered; a_size = c.sine_of-sine.ensures.lo_size; b_size = c.sine_of-sine.ensures.hi_size };
+      e_narrow = c.requires.eccentricity_narrow;
       sine = record {
-        holds = subst (λ (z : ℤ). (c s : Rational) → IsAnglePair 5 (at_56 z) c s → InBox 60 a b s) ex c.sine_of-sine.ensures.holds;
+        holds = subst (λ (z : ℤ). (c s : Rational) → IsAnglePair 5 (of_scale 56 z) c s → InBox 60 a b s) ex c.sine_of-sine.ensures.holds;
         ordered = c.sine_of-sine.result.ordered;
         narrow = c.sine_of-sine.ensures.narrow;
         a_size = c.sine_of-sine.ensures.lo_size;
@@ -34,7 +34,7 @@ reached c =
       };
       m_below = h.0;
       m_above = h.1;
-      settled = subst₂ (λ (y z : ℤ). (next : ℤ) → IsStep y z x next → Within (pos 3) next x) et ee c.settle-angle.ensures.settled;
+      settled = subst₂ (λ (y z : ℤ). (next : ℤ) → IsStep y z x next → AreNear (pos 3) next x) et ee c.settle-angle.ensures.settled;
       lo_is = c.right_side-right.ensures.lo;
       hi_is = c.right_side-right.ensures.hi;
     }
@@ -67,11 +67,11 @@ found c =
     let en = to_z-of_z w64 n (record { sfits = c.residual_of.type_inv }) in
     let eh = to_z-of_z w64 c.hi-2.result (record { sfits = c.hi-2.type_inv }) ∙ c.hi-2.ensures in
     let el = to_z-of_z w64 c.lo-3.result (record { sfits = c.lo-3.type_inv }) ∙ c.lo-3.ensures in
-    let e = ends_of x r c.pairs_around.result.angle.lo c.pairs_around.result.angle.hi _ _ ex er c.settle-angle.ensures.low c.settle-angle.ensures.high c.widened-radius.ensures.low c.widened-radius.ensures.high c.pairs_around.ensures.lo c.pairs_around.ensures.hi in
+    let e = ends_of x r c.pairs_around.result.angle.lo c.pairs_around.result.angle.hi _ _ ex er c.settle-angle.ensures.angle.0 c.settle-angle.ensures.angle.1 c.widened-radius.ensures.low c.widened-radius.ensures.high c.pairs_around.ensures.lo c.pairs_around.ensures.hi in
     record {
-      e_low = c.requires.e_low;
-      e_high = c.requires.e_high;
-      sine = subst (λ (z : ℤ). (c s : Rational) → IsAnglePair 5 (at_56 z) c s → InBox 60 a b s) ex c.sine_of-sine.ensures.holds;
+      e_low = c.requires.eccentricity_low;
+      e_high = c.requires.eccentricity_high;
+      sine = subst (λ (z : ℤ). (c s : Rational) → IsAnglePair 5 (of_scale 56 z) c s → InBox 60 a b s) ex c.sine_of-sine.ensures.holds;
       right = c.right_side-right.ensures.holds;
       above = wide_of _ n _ r (subst₂ (λ (y z : ℤ). (y -ℤ z) ≤ℤ n) eh ex c.residual_of.ensures.above) en c.widened-radius.ensures.wide;
       below = wide_of _ n _ r (subst₂ (λ (y z : ℤ). (y -ℤ z) ≤ℤ n) ex el c.residual_of.ensures.below) en c.widened-radius.ensures.wide;
@@ -93,4 +93,13 @@ pub returns-clause-angle_width : goal.returns-clause-angle_width
 returns-clause-angle_width c =
     let ex = to_z-of_z w64 c.settle-angle.result (record { sfits = c.settle-angle.type_inv }) in
     let er = to_z-of_z w64 c.widened-radius.result (record { sfits = c.widened-radius.type_inv }) in
-    (ends_of c.settle-angle.result c.widened-radius.result c.pairs_around.result.angle.lo c.pairs_around.result.angle.hi _ _ ex er c.settle-angle.ensures.low c.settle-angle.ensures.high c.widened-radius.ensures.low c.widened-radius.ensures.high c.pairs_around.ensures.lo c.pairs_around.ensures.hi).2
+    (ends_of c.settle-angle.result c.widened-radius.result c.pairs_around.result.angle.lo c.pairs_around.result.angle.hi _ _ ex er c.settle-angle.ensures.angle.0 c.settle-angle.ensures.angle.1 c.widened-radius.ensures.low c.widened-radius.ensures.high c.pairs_around.ensures.lo c.pairs_around.ensures.hi).2
+
+pub returns-clause-wide_angle : goal.returns-clause-wide_angle
+returns-clause-wide_angle c = promised_angle (c.pairs_around.result.angle.hi -ℤ c.pairs_around.result.angle.lo) (returns-clause-angle_width c)
+
+pub returns-clause-wide_pair : goal.returns-clause-wide_pair
+returns-clause-wide_pair c = let w = c.pairs_around.ensures.pair_width in (promised_pair _ w.0, promised_pair _ w.1)
+
+pub returns-clause-wider_pair : goal.returns-clause-wider_pair
+returns-clause-wider_pair c = let w = c.pairs_around.ensures.pair_width in (wider_pair _ w.0, wider_pair _ w.1)

@@ -1,0 +1,26 @@
+-- Kepler's equation over rationals, and what a box of its solutions holds.
+use Rattle.std.specs.Prelude.{ℤ, ◌≤ℤ◌}
+use Rattle.rational.specs.Rational.{Rational, sub_r, mul_r, add_r, ◌≈◌, times, two_to_minus, IsNearBox}
+use Rattle.iv_core.specs.Intervals.{Holds, width_of}
+use Rattle.trig_box.specs.AnglePairs.{IsAnglePair}
+use Rattle.kepler_box.specs.declared.Anomaly.{Anomaly}
+
+-- M = E - e sin E, where (c, s) is a 5-pair of E
+pub record SolvesKepler (mean eccentricity angle c s : Rational) : Type 0 where
+  pub is_pair : IsAnglePair 5 angle c s
+  pub equation : mean ≈ sub_r angle (mul_r eccentricity s)
+
+-- each of the three lies in its box
+abbrev pub HoldsAnomaly : Anomaly → Rational → Rational → Rational → Type 0
+HoldsAnomaly b angle c s = Holds b.angle angle × Holds b.cos c × Holds b.sin s
+
+-- the angle is within 2d of its box, and each part of the pair within 4d + 2^-60 of its own
+abbrev pub IsNearAnomaly : Rational → Anomaly → Rational → Rational → Rational → Type 0
+IsNearAnomaly d b angle c s =
+    IsNearBox 56 b.angle.lo b.angle.hi (times 2 d) angle
+    × IsNearBox 60 b.cos.lo b.cos.hi (add_r (times 4 d) (two_to_minus 60)) c
+    × IsNearBox 60 b.sin.lo b.sin.hi (add_r (times 4 d) (two_to_minus 60)) s
+
+-- neither box of the pair is wider than w, in units of 2^-60
+abbrev pub IsPairAtMostWide : ℤ → Anomaly → Type 0
+IsPairAtMostWide w b = (width_of b.cos ≤ℤ w) × (width_of b.sin ≤ℤ w)
