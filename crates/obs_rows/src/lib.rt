@@ -3,6 +3,7 @@
 
 mod arcs;
 mod bands;
+mod laws;
 mod pair_builder;
 mod pair_list;
 mod pair_rows;
@@ -17,11 +18,12 @@ mod units;
 
 pub use arcs::{Arc, ArcList};
 pub use bands::{L1_LETTERS, L2_LETTERS, Signals};
+pub use laws::{best_law, bound_law, centres_law, groups_law};
 pub use pair_builder::PairBuilder;
 pub use pair_list::PairList;
 pub use pair_rows::PairRows;
 pub use places::{
-    counted_signals, free_arcs, integer_count, integer_place, is_of_pair, phase_count,
+    counted_signals, free_arcs, has_its_arcs, integer_count, integer_place, is_of_pair, phase_count,
 };
 pub use ranges::{are_arcs, are_radii, are_within, is_arc_in_range, is_point, is_radius, is_scale};
 pub use row_list::RowList;
@@ -34,3 +36,6 @@ pub use units::{
     MOST_COLUMNS, MOST_FACTORS, MOST_FORM_COLUMNS, MOST_FREE_ARCS, MOST_INTEGERS, MOVE_EXPONENT,
     PHASES, ROW_EXPONENT, SIGNALS, UNIT_FREQUENCY, WAVELENGTHS, WEIGHTS,
 };
+
+#[cfg(test)]
+mod tests;

@@ -1,10 +1,11 @@
 //! Which signals count, and where the integers of an arc stand.
 ghost use Rattle.std.specs.Prelude.{◌≡◌, ◌<◌, ◌≤◌, ℕ, IsTrue, ◌↔◌, length, take, position, ◌==◌, IfSome};
 ghost use Rattle.obs_rows.specs.Arcs.{IsOfPair, free_count, free_before};
+ghost use Rattle.obs_rows.specs.Pairs.{HasItsArcs};
 ghost use Rattle.obs_rows.specs.Signals.{counted, phases};
 ghost use Rattle.obs_rows.specs.Integers.{integer_count, integer_place};
 
-use crate::{Arc, COARSE_SIGNALS, FINE_SIGNALS, Row, WAVELENGTHS};
+use crate::{Arc, COARSE_SIGNALS, FINE_SIGNALS, PairRows, Row, WAVELENGTHS};
 
 /// The signals that count at a scale: all at scale 0, else the code on L1 alone.
 pub fn counted_signals(scale: u32) -> &'static [usize]
@@ -25,6 +26,17 @@ pub fn is_of_pair(arcs: &[Arc], number: u32, row: &Row) -> bool
         return false;
     };
     arc.first <= number && number <= arc.last
+}
+
+/// Whether this holds for each row of a pair.
+pub fn has_its_arcs(arcs: &[Arc], pair: &PairRows) -> bool
+    ensures { IsTrue result ↔ HasItsArcs arcs.now pair.now }
+{
+    let number = pair.number;
+    pair.rows
+        .as_slice()
+        .iter()
+        .all(|r| is_of_pair(arcs, number, r))
 }
 
 /// The number of free arcs.
