@@ -1,3 +1,4 @@
 pub mod Written
 pub mod WordLists
 pub mod Completes
+pub mod ZeroSays

@@ -6,3 +6,4 @@ pub mod Answers
 pub mod Zero
 pub mod Jobs
 pub mod Runs
+pub mod ZeroRuns

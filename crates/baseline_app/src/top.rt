@@ -1,5 +1,5 @@
 // The program over any files and sinks.
-ghost use Rattle.std.specs.Prelude.{◌≡◌, ◌≢◌, ◌⊎◌, ◌≤◌, IfOk, All};
+ghost use Rattle.std.specs.Prelude.{◌≡◌, ◌≢◌, ◌⊎◌, ◌≤◌, ℕ, List, IfOk, All};
 ghost use Rattle.std.specs.Io.KnownBytes.{Appends};
 ghost use Rattle.line_source.specs.Causes.{Rose};
 ghost use Rattle.line_source.specs.Told.{AppendsPrefix};
@@ -8,6 +8,7 @@ ghost use Rattle.baseline_app.specs.Words.{texts_of, file_words, IsJob};
 ghost use Rattle.baseline_app.specs.Answers.{ending_of, IfEnded};
 ghost use Rattle.baseline_app.specs.Endings.{ending};
 ghost use Rattle.baseline_app.specs.Jobs.{JobEnds, IsReadable, IsAnswer};
+ghost use Rattle.baseline_app.specs.ZeroRuns.{SaysOfZero};
 ghost use Rattle.baseline_app.specs.Runs.{sink_change, IsDelivered, IsRun, IsComplete};
 
 use crate::answer::{Answer, Stop};
@@ -76,6 +77,8 @@ pub fn run<F: Files, O: Sink, E: Sink>(
     ensures sure { (job : Job) → IsJob (texts_of words.now) job → All (F.is_sure_name files.old) (file_words job)
         → result ≢ Status.ReadFault }
     ensures write { result ≡ Status.WriteFault → Rose (O.faults out.old) (O.faults out.new) ⊎ Rose (E.faults err.old) (E.faults err.new) }
+    ensures zero { (rows : List ℕ) → IsJob (texts_of words.now) (Job.Zero rows) → SaysOfZero (F.text_of files.old) rows result
+        (sink_change (O.contents out.old) (O.contents out.new) (O.faults out.old) (O.faults out.new)) }
     ensures usage { result ≡ Status.Usage → (job : Job) → IsJob (texts_of words.now) job → ⊥ }
     ensures complete { (job : Job) → IsJob (texts_of words.now) job → IsReadable job (F.text_of files.old)
         → All (F.is_sure_name files.old) (file_words job) ⊎ (Rose (F.faults files.old) (F.faults files.new) → ⊥)

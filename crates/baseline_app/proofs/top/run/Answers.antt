@@ -1,5 +1,6 @@
 use Rattle.std.proofs.Common.{inl, inr}
 use Rattle.baseline_app.proofs.Completes.{run_complete, run_usage, run_write}
+use Rattle.baseline_app.proofs.ZeroSays.{run_says}
 use Rattle.baseline_app.proofs.top.run.Goals as goal
 
 pub returns-clause-write : goal.returns-clause-write
@@ -14,3 +15,6 @@ returns-clause-complete g c = λ job asked readable quiet.
       | inl sure ↦ c.write_answer.ensures.sure job asked sure
       | inr stays ↦ λ e. stays (c.write_answer.ensures.read e)
     ])
+
+pub returns-clause-zero : goal.returns-clause-zero
+returns-clause-zero g c = λ rows asked. run_says _ _ rows _ _ _ c.write_answer.ensures.run asked
