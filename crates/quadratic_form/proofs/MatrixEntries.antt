@@ -1,8 +1,9 @@
 -- The normal matrix is the form of its entries.
-use Rattle.std.proofs.Common.{◌≡◌, ℕ, zero, suc, ◌+◌, List, [], ◌∷◌, ◌++◌, length, ℤ, pos, negsuc, ◌+ℤ◌, ◌-ℤ◌, ◌*ℤ◌, arith, length-append, slice_index_or, sym, ap, ap₂, ◌∙◌, refl, subst}
+use Rattle.std.proofs.Common.{◌≡◌, ℕ, zero, suc, ◌+◌, ◌≤◌, List, [], ◌∷◌, ◌++◌, length, ℤ, pos, negsuc, ◌+ℤ◌, ◌-ℤ◌, ◌*ℤ◌, arith, length-append, slice_index_or, sym, ap, ap₂, ◌∙◌, refl, subst}
 use Rattle.std.proofs.lemmas.Int.{ints}
+use Rattle.std.proofs.lemmas.List.{get_or_past}
 use Rattle.whole_math.proofs.Ring.{ko, ◌⊕◌, ◌⊖◌, ◌⊗◌}
-use Rattle.whole_math.proofs.Inequalities.{same_by}
+use Rattle.whole_math.proofs.Inequalities.{same_by, nat}
 use Rattle.whole_math.proofs.Vectors.{len_is}
 use Rattle.whole_math.specs.Vectors.{len, added, zeros}
 use Rattle.quadratic_form.specs.Forms.{Column, plus, times, outer}
@@ -66,3 +67,52 @@ group_form i g h = form_same (group_entry g) (λ r c. share g *ℤ (n *ℤ produ
 pub matrix_form : (i : ℕ) (gs : List SignalGroup) → GroupsOf (pos i) gs → form_from (matrix_entry gs) 0 (columns i) ≡ matrix i gs
 matrix_form i [] h = form_zeros 0 (columns i)
 matrix_form i (g ∷ gs) h = form_plus (group_entry g) (matrix_entry gs) 0 (columns i) ∙ ap₂ (λ a b. plus a b) (group_form i g h.3) (matrix_form i gs h.4)
+
+-- ---- outside the columns, turned round, appended
+coefficient_past : (n : ℕ) (r : SignalRow) (j : ℕ) → len r.cycles ≡ pos n → columns n ≤ j → coefficient r j ≡ pos 0
+coefficient_past n r j h g = get_or_past (coefficients r) j (pos 0) (subst (λ (m : ℕ). m ≤ j) (sym (length_coefficients n r h)) g)
+
+sum_past : (n : ℕ) (rs : List SignalRow) (j : ℕ) → RowsOf (pos n) rs → columns n ≤ j → coefficient_sum rs j ≡ pos 0
+sum_past n [] j h g = refl
+sum_past n (r ∷ rs) j h g = ap₂ (λ s t. s +ℤ t) (coefficient_past n r j h.0 g) (sum_past n rs j h.1 g)
+
+product_past : (n : ℕ) (rs : List SignalRow) (i j : ℕ) → RowsOf (pos n) rs → columns n ≤ j → product_sum rs i j ≡ pos 0
+product_past n [] i j h g = refl
+product_past n (r ∷ rs) i j h g = ap₂ (λ s t. (coefficient r i *ℤ s) +ℤ t) (coefficient_past n r j h.0 g) (product_past n rs i j h.1 g) ∙ nothing (coefficient r i)
+  where
+    nothing : (x : ℤ) → (x *ℤ pos 0) +ℤ pos 0 ≡ pos 0
+    nothing x = same_by (x ∷ []) (λ x. (x ⊗ nat 0 ⊕ nat 0, nat 0)) refl
+
+group_past : (n : ℕ) (g : SignalGroup) (i j : ℕ) → RowsOf (pos n) g.rows → columns n ≤ j → group_entry g i j ≡ pos 0
+group_past n g i j h k = ap₂ (λ s t. share g *ℤ ((len g.rows *ℤ s) -ℤ (coefficient_sum g.rows i *ℤ t))) (product_past n g.rows i j h k) (sum_past n g.rows j h k) ∙ nothing (share g) (len g.rows) (coefficient_sum g.rows i)
+  where
+    nothing : (f n s : ℤ) → f *ℤ ((n *ℤ pos 0) -ℤ (s *ℤ pos 0)) ≡ pos 0
+    nothing f n s = same_by (f ∷ n ∷ s ∷ []) (λ f n s. (f ⊗ ((n ⊗ nat 0) ⊖ (s ⊗ nat 0)), nat 0)) refl
+
+pub matrix_past : (n : ℕ) (gs : List SignalGroup) (i j : ℕ) → GroupsOf (pos n) gs → columns n ≤ j → matrix_entry gs i j ≡ pos 0
+matrix_past n [] i j h k = refl
+matrix_past n (g ∷ gs) i j h k = ap₂ (λ s t. s +ℤ t) (group_past n g i j h.3 k) (matrix_past n gs i j h.4 k)
+
+product_turned : (rs : List SignalRow) (i j : ℕ) → product_sum rs i j ≡ product_sum rs j i
+product_turned [] i j = refl
+product_turned (r ∷ rs) i j = ap₂ (λ s t. s +ℤ t) (swap (coefficient r i) (coefficient r j)) (product_turned rs i j)
+  where
+    swap : (x y : ℤ) → x *ℤ y ≡ y *ℤ x
+    swap x y = same_by (x ∷ y ∷ []) (λ x y. (x ⊗ y, y ⊗ x)) refl
+
+group_turned : (g : SignalGroup) (i j : ℕ) → group_entry g i j ≡ group_entry g j i
+group_turned g i j = ap (λ p. share g *ℤ ((len g.rows *ℤ p) -ℤ (coefficient_sum g.rows i *ℤ coefficient_sum g.rows j))) (product_turned g.rows i j) ∙ swap (share g) (len g.rows *ℤ product_sum g.rows j i) (coefficient_sum g.rows i) (coefficient_sum g.rows j)
+  where
+    swap : (f p s t : ℤ) → f *ℤ (p -ℤ (s *ℤ t)) ≡ f *ℤ (p -ℤ (t *ℤ s))
+    swap f p s t = same_by (f ∷ p ∷ s ∷ t ∷ []) (λ f p s t. (f ⊗ (p ⊖ (s ⊗ t)), f ⊗ (p ⊖ (t ⊗ s)))) refl
+
+pub matrix_turned : (gs : List SignalGroup) (i j : ℕ) → matrix_entry gs i j ≡ matrix_entry gs j i
+matrix_turned [] i j = refl
+matrix_turned (g ∷ gs) i j = ap₂ (λ s t. s +ℤ t) (group_turned g i j) (matrix_turned gs i j)
+
+pub matrix_append : (gs hs : List SignalGroup) (i j : ℕ) → matrix_entry (gs ++ hs) i j ≡ matrix_entry gs i j +ℤ matrix_entry hs i j
+matrix_append [] hs i j = same_by (matrix_entry hs i j ∷ []) (λ x. (x, nat 0 ⊕ x)) refl
+matrix_append (g ∷ gs) hs i j = ap (λ z. group_entry g i j +ℤ z) (matrix_append gs hs i j) ∙ assoc (group_entry g i j) (matrix_entry gs i j) (matrix_entry hs i j)
+  where
+    assoc : (x y z : ℤ) → x +ℤ (y +ℤ z) ≡ (x +ℤ y) +ℤ z
+    assoc x y z = same_by (x ∷ y ∷ z ∷ []) (λ x y z. (x ⊕ (y ⊕ z), (x ⊕ y) ⊕ z)) refl

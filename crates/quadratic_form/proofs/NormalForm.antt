@@ -153,7 +153,7 @@ whole (suc (suc (suc (suc (suc (suc (suc (suc (suc (suc (suc (suc (suc (suc zero
 whole (suc (suc (suc (suc (suc (suc (suc (suc (suc (suc (suc (suc (suc (suc (suc zero))))))))))))))) h k = refl
 whole (suc (suc (suc (suc (suc (suc (suc (suc (suc (suc (suc (suc (suc (suc (suc (suc n)))))))))))))))) h k = absurd (omega arith)
 
-share_is : (g : SignalGroup) → 0 < length g.rows → length g.rows ≤ 15 → share g *ℤ len g.rows ≡ pos 360360 *ℤ g.weight
+pub share_is : (g : SignalGroup) → 0 < length g.rows → length g.rows ≤ 15 → share g *ℤ len g.rows ≡ pos 360360 *ℤ g.weight
 share_is g h k = rw (len_is g.rows) (step (pos (360360 / length g.rows)) (pos (length g.rows)) g.weight ∙ ap (λ z. pos z *ℤ g.weight) (whole (length g.rows) h k))
   where
     step : (f n w : ℤ) → f *ℤ w *ℤ n ≡ f *ℤ n *ℤ w
