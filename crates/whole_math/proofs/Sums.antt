@@ -1,9 +1,9 @@
--- Sums over lists: linear, monotone, and the square of a sum.
-use Rattle.std.proofs.Common.{◌≡◌, suc, ◌+◌, List, [], ◌∷◌, ◌++◌, length, All, ℤ, pos, ◌+ℤ◌, ◌-ℤ◌, ◌*ℤ◌, ◌≤ℤ◌, arith, sym, ap, ap₂, ◌∙◌, refl}
+-- Sums over lists: linear, monotone, and in either order.
+use Rattle.std.proofs.Common.{◌≡◌, suc, List, [], ◌∷◌, ◌++◌, All, ℤ, pos, ◌+ℤ◌, ◌*ℤ◌, ◌≤ℤ◌, arith, sym, ap, ◌∙◌, refl}
 use Rattle.std.proofs.lemmas.Int.{ints}
-use Rattle.whole_math.proofs.Ring.{ring, va, ko, ◌⊕◌, ◌⊖◌, ◌⊗◌}
-use Rattle.whole_math.proofs.Order.{lins, square_nn, add_nn}
-use Rattle.whole_math.specs.Sums.{sum_of, total, squares, pair_squares}
+use Rattle.whole_math.proofs.Ring.{ring, va, ◌⊕◌, ◌⊗◌}
+use Rattle.whole_math.proofs.Order.{lins, add_nn}
+use Rattle.whole_math.specs.Sums.{sum_of}
 
 pub sum_of-add : {A : Type 0} (f g : A → ℤ) (xs : List A) → sum_of (λ x. f x +ℤ g x) xs ≡ sum_of f xs +ℤ sum_of g xs
 sum_of-add f g [] = refl
@@ -50,41 +50,3 @@ sum_of-swap f [] ys = sym (none ys)
     none [] = refl
     none (y ∷ ys) = ap (λ z. pos 0 +ℤ z) (none ys)
 sum_of-swap f (x ∷ xs) ys = ap (λ z. sum_of (λ y. f x y) ys +ℤ z) (sum_of-swap f xs ys) ∙ sym (sum_of-add (λ y. f x y) (λ y. sum_of (λ x. f x y) xs) ys)
-
--- Σ (x - y)² = n x² - 2 x Σ y + Σ y²
-one_row : (x : ℤ) (ys : List ℤ) → sum_of (λ y. (x -ℤ y) *ℤ (x -ℤ y)) ys ≡ ((pos (length ys) *ℤ (x *ℤ x)) -ℤ ((pos 2 *ℤ x) *ℤ total ys)) +ℤ squares ys
-one_row x [] = step x
-  where
-    step : (x : ℤ) → pos 0 ≡ ((pos 0 *ℤ (x *ℤ x)) -ℤ ((pos 2 *ℤ x) *ℤ pos 0)) +ℤ pos 0
-    step x = ring (x ∷ []) (ko (pos 0)) ((((ko (pos 0)) ⊗ (va 0 ⊗ va 0)) ⊖ (((ko (pos 2)) ⊗ va 0) ⊗ (ko (pos 0)))) ⊕ (ko (pos 0))) refl
-one_row x (y ∷ ys) = let e : suc (length ys) ≡ 1 + length ys = omega arith in rw e (ap (λ z. ((x -ℤ y) *ℤ (x -ℤ y)) +ℤ z) (one_row x ys) ∙ step x y (pos (length ys)) (total ys) (squares ys))
-  where
-    step : (x y n s q : ℤ) → ((x -ℤ y) *ℤ (x -ℤ y)) +ℤ (((n *ℤ (x *ℤ x)) -ℤ ((pos 2 *ℤ x) *ℤ s)) +ℤ q)
-        ≡ (((pos 1 +ℤ n) *ℤ (x *ℤ x)) -ℤ ((pos 2 *ℤ x) *ℤ (y +ℤ s))) +ℤ ((y *ℤ y) +ℤ q)
-    step x y n s q = ring (x ∷ y ∷ n ∷ s ∷ q ∷ []) (((va 0 ⊖ va 1) ⊗ (va 0 ⊖ va 1)) ⊕ (((va 2 ⊗ (va 0 ⊗ va 0)) ⊖ (((ko (pos 2)) ⊗ va 0) ⊗ va 3)) ⊕ va 4)) (((((ko (pos 1)) ⊕ va 2) ⊗ (va 0 ⊗ va 0)) ⊖ (((ko (pos 2)) ⊗ va 0) ⊗ (va 1 ⊕ va 3))) ⊕ ((va 1 ⊗ va 1) ⊕ va 4)) refl
-
--- n Σ s² - (Σ s)² is the sum of the squares of the differences
-pub spread : (xs : List ℤ) → (pos (length xs) *ℤ squares xs) -ℤ (total xs *ℤ total xs) ≡ pair_squares xs
-spread [] = refl
-spread (x ∷ xs) = let e : suc (length xs) ≡ 1 + length xs = omega arith in rw e (
-    step x (pos (length xs)) (total xs) (squares xs)
-    ∙ ap₂ (λ a b. a +ℤ b) (sym (one_row x xs)) (spread xs))
-  where
-    step : (x n s q : ℤ) → ((pos 1 +ℤ n) *ℤ ((x *ℤ x) +ℤ q)) -ℤ ((x +ℤ s) *ℤ (x +ℤ s))
-        ≡ (((n *ℤ (x *ℤ x)) -ℤ ((pos 2 *ℤ x) *ℤ s)) +ℤ q) +ℤ ((n *ℤ q) -ℤ (s *ℤ s))
-    step x n s q = ring (x ∷ n ∷ s ∷ q ∷ []) ((((ko (pos 1)) ⊕ va 1) ⊗ ((va 0 ⊗ va 0) ⊕ va 3)) ⊖ ((va 0 ⊕ va 2) ⊗ (va 0 ⊕ va 2))) ((((va 1 ⊗ (va 0 ⊗ va 0)) ⊖ (((ko (pos 2)) ⊗ va 0) ⊗ va 2)) ⊕ va 3) ⊕ ((va 1 ⊗ va 3) ⊖ (va 2 ⊗ va 2))) refl
-
-pair_squares_nn : (xs : List ℤ) → pos 0 ≤ℤ pair_squares xs
-pair_squares_nn [] = omega (arith, lins)
-pair_squares_nn (x ∷ xs) = add_nn (sum_of (λ y. (x -ℤ y) *ℤ (x -ℤ y)) xs) (pair_squares xs) (sum_of-nn (λ y. (x -ℤ y) *ℤ (x -ℤ y)) xs (λ y. square_nn (x -ℤ y))) (pair_squares_nn xs)
-
-pub spread_nn : (xs : List ℤ) → (total xs *ℤ total xs) ≤ℤ (pos (length xs) *ℤ squares xs)
-spread_nn xs = omega (arith, lins, spread xs, pair_squares_nn xs)
-
--- the same from any centre t: n Σ (s - t)² = n Σ s² - (Σ s)² + (n t - Σ s)²
-pub from_centre : (t : ℤ) (xs : List ℤ) → pos (length xs) *ℤ sum_of (λ y. (t -ℤ y) *ℤ (t -ℤ y)) xs
-    ≡ ((pos (length xs) *ℤ squares xs) -ℤ (total xs *ℤ total xs)) +ℤ (((pos (length xs) *ℤ t) -ℤ total xs) *ℤ ((pos (length xs) *ℤ t) -ℤ total xs))
-from_centre t xs = ap (λ z. pos (length xs) *ℤ z) (one_row t xs) ∙ step t (pos (length xs)) (total xs) (squares xs)
-  where
-    step : (t n s q : ℤ) → n *ℤ (((n *ℤ (t *ℤ t)) -ℤ ((pos 2 *ℤ t) *ℤ s)) +ℤ q) ≡ ((n *ℤ q) -ℤ (s *ℤ s)) +ℤ (((n *ℤ t) -ℤ s) *ℤ ((n *ℤ t) -ℤ s))
-    step t n s q = ring (t ∷ n ∷ s ∷ q ∷ []) (va 1 ⊗ (((va 1 ⊗ (va 0 ⊗ va 0)) ⊖ (((ko (pos 2)) ⊗ va 0) ⊗ va 2)) ⊕ va 3)) (((va 1 ⊗ va 3) ⊖ (va 2 ⊗ va 2)) ⊕ (((va 1 ⊗ va 0) ⊖ va 2) ⊗ ((va 1 ⊗ va 0) ⊖ va 2))) refl
