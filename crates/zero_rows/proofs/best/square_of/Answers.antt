@@ -2,7 +2,7 @@ use Rattle.std.proofs.Common.{◌≡◌, ◌≤◌, ◌^◌, ◌*◌, ap, subst,
 use Rattle.std.specs.Int.{w128}
 use Rattle.std.proofs.lemmas.Int.{ints, to_z-of_z, fits_signed_mul}
 use Rattle.zero_rows.specs.Sums.{square}
-use Rattle.zero_rows.proofs.Squares.{square-low, square-high}
+use Rattle.whole_math.proofs.Order.{square_nn, mul_bounds}
 use Rattle.zero_rows.proofs.best.square_of.Goals as goal
 
 pub overflow_mul-result : goal.overflow_mul-result
@@ -16,6 +16,6 @@ returns c =
     let value = ap (λ (y : ℤ). to_z w128 (of_z w128 (square y))) same_x ∙ to_z-of_z w128 (square c.args.x) fits in
     record {
       value = value;
-      low = subst (λ (y : ℤ). pos 0 ≤ℤ y) (sym value) (square-low c.args.x);
-      high = subst (λ (y : ℤ). y ≤ℤ pos (2 ^ 37 * 2 ^ 37)) (sym value) (square-high c.args.x (2 ^ 37) small);
+      low = subst (λ (y : ℤ). pos 0 ≤ℤ y) (sym value) (square_nn c.args.x);
+      high = subst (λ (y : ℤ). y ≤ℤ pos (2 ^ 37 * 2 ^ 37)) (sym value) (mul_bounds c.args.x c.args.x (2 ^ 37) (2 ^ 37) c.requires.low c.requires.high c.requires.low c.requires.high).1;
     }
