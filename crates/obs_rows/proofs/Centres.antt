@@ -1,5 +1,5 @@
 -- The centres of the boxes are data: so each session has data.
-use Rattle.std.proofs.Common.{◌≡◌, ℕ, zero, suc, ◌<◌, List, [], ◌∷◌, map, length, All, ℤ, pos, ◌+ℤ◌, ◌-ℤ◌, ◌*ℤ◌, ◌≤ℤ◌, arith, get_or, refl}
+use Rattle.std.proofs.Common.{ℕ, zero, suc, ◌<◌, List, [], ◌∷◌, map, length, All, ℤ, pos, ◌≤ℤ◌, arith, get_or, refl}
 use Rattle.std.specs.List.{AllZip}
 use Rattle.std.proofs.lemmas.List.Elements.{All-tail}
 use Rattle.whole_math.proofs.Order.{lins}
@@ -10,7 +10,7 @@ use Rattle.obs_rows.specs.declared.rows.Row.{Row}
 use Rattle.obs_rows.specs.declared.pair_rows.PairRows.{PairRows}
 use Rattle.obs_rows.specs.Ranges.{IsRadius}
 use Rattle.obs_rows.specs.Signals.{counted}
-use Rattle.obs_rows.specs.Data.{Observed, number_at, IsInBoxes, AreData, centre_of, centres}
+use Rattle.obs_rows.specs.Data.{number_at, IsInBoxes, AreData, centre_of, centres}
 
 near_itself : (c r : ℤ) → pos 0 ≤ℤ r → Near c r (of_whole c)
 near_itself c r h = (

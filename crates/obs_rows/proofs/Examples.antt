@@ -1,17 +1,15 @@
 -- Values worked by hand.
-use Rattle.std.proofs.Common.{◌≡◌, ℕ, zero, suc, ◌<◌, ◌≤◌, ◌^◌, List, [], ◌∷◌, ℤ, pos, All, AllPairs, Some, None, false, true, get_or, length, lit≤, lit<, refl, arith}
+use Rattle.std.proofs.Common.{◌≡◌, ℕ, zero, suc, ◌<◌, ◌≤◌, ◌^◌, List, [], ◌∷◌, pos, All, AllPairs, Some, None, false, true, get_or, length, lit≤, lit<, refl, arith}
 use Rattle.std.proofs.lemmas.List.Elements.{All-from_recursion}
 use Rattle.std.proofs.lemmas.List.Quantifiers.{all_pairs_push}
 use Rattle.whole_math.proofs.Order.{lins}
-use Rattle.rational.specs.Rational.{Rational, ◌≈◌, of_whole}
+use Rattle.rational.specs.Rational.{◌≈◌, of_whole}
 use Rattle.quadratic_form.specs.RationalData.{Baseline, spread_of_rationals}
 use Rattle.obs_rows.specs.declared.arcs.Arc.{Arc}
 use Rattle.obs_rows.specs.declared.rows.Row.{Row}
 use Rattle.obs_rows.specs.declared.pair_rows.PairRows.{PairRows}
 use Rattle.obs_rows.specs.Ranges.{IsRadius, IsWithin}
-use Rattle.obs_rows.specs.Arcs.{free_count, free_before}
-use Rattle.obs_rows.specs.Signals.{counted, phases}
-use Rattle.obs_rows.specs.Integers.{integer_count, integer_place, integer}
+use Rattle.obs_rows.specs.Integers.{integer_count, integer_place}
 use Rattle.obs_rows.specs.Data.{centres}
 use Rattle.obs_rows.specs.SumOfSquares.{sum_of_squares}
 

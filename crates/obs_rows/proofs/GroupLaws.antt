@@ -1,23 +1,23 @@
 -- A session's data and sum of squares are those of its signal groups.
-use Rattle.std.proofs.Common.{◌≡◌, ℕ, ◌*◌, ◌/◌, ◌<◌, ◌≤◌, IsTrue, List, [], ◌∷◌, ◌++◌, map, length, ℤ, pos, ◌+ℤ◌, ◌-ℤ◌, ◌*ℤ◌, neg_ℤ, ◌≤ℤ◌, arith, sym, ◌∙◌, ap, ap₂, refl, subst, mul-pos}
+use Rattle.std.proofs.Common.{◌≡◌, ℕ, ◌*◌, List, [], ◌∷◌, ◌++◌, map, ℤ, pos, ◌*ℤ◌, neg_ℤ, sym, ◌∙◌, ap, ap₂, refl, mul-pos}
 use Rattle.std.specs.List.{AllZip}
 use Rattle.std.proofs.lemmas.List.{length-map}
 use Rattle.std.proofs.lemmas.List.Elements.{All-head, All-tail}
-use Rattle.whole_math.specs.Vectors.{len, dot}
+use Rattle.whole_math.specs.Vectors.{dot}
 use Rattle.whole_math.proofs.Ring.{◌⊕◌, ◌⊖◌, ◌⊗◌, ng}
 use Rattle.whole_math.proofs.Inequalities.{same_by, nat}
 use Rattle.rational.specs.Rational.{Rational, Near, of_whole, add_r, sub_r, mul_r}
-use Rattle.quadratic_form.specs.Rows.{SignalRow, SignalGroup, RowsOf, GroupsOf, share as group_share}
-use Rattle.quadratic_form.specs.RationalData.{RowData, Baseline, Fits, FitsAll, InBoxes, sum_of_rationals, spread_of_rationals, residual as group_residual, residuals as group_residuals, sum_of_squares as group_sum}
+use Rattle.quadratic_form.specs.Rows.{SignalGroup, share as group_share}
+use Rattle.quadratic_form.specs.RationalData.{RowData, Baseline, Fits, FitsAll, sum_of_rationals, spread_of_rationals, residual as group_residual, residuals as group_residuals, sum_of_squares as group_sum}
 use Rattle.obs_rows.specs.declared.arcs.Arc.{Arc}
 use Rattle.obs_rows.specs.declared.rows.Row.{Row}
 use Rattle.obs_rows.specs.declared.pair_rows.PairRows.{PairRows}
-use Rattle.obs_rows.specs.Signals.{weight, cycle, counted}
+use Rattle.obs_rows.specs.Signals.{cycle, counted}
 use Rattle.obs_rows.specs.Integers.{integer_count, integer_place, integer}
 use Rattle.obs_rows.specs.Data.{Observed, number_at, IsInBoxes, AreData}
 use Rattle.obs_rows.specs.SumOfSquares.{along, residual, residuals, share, term, terms, sum_of_squares}
 use Rattle.obs_rows.specs.SignalGroups.{cycles, signal_row, signal_group, signal_groups, signal_data, group_data}
-use Rattle.obs_rows.proofs.IntegerPlaces.{place_below, len_only_at, dot_only_at}
+use Rattle.obs_rows.proofs.IntegerPlaces.{place_below, dot_only_at}
 
 -- ---- residuals
 sub_of_whole : (p : Rational) (k : ℤ) → sub_r p (of_whole k) ≡ add_r p (of_whole (neg_ℤ k))

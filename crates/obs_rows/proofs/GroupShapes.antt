@@ -1,5 +1,5 @@
 -- The shape of a session's signal groups: 1 to 15 rows, a coefficient for each integer, no negative weight.
-use Rattle.std.proofs.Common.{◌≡◌, ℕ, zero, suc, ◌<◌, ◌≤◌, IsTrue, Bool, true, false, ◌&&◌, List, [], ◌∷◌, ◌++◌, map, length, ℤ, pos, ◌≤ℤ◌, arith, refl, get_or}
+use Rattle.std.proofs.Common.{◌≡◌, ℕ, zero, suc, Bool, true, false, ◌&&◌, List, [], ◌∷◌, ◌++◌, map, length, ℤ, pos, ◌≤ℤ◌, arith, refl, get_or}
 use Rattle.std.proofs.lemmas.Int.{ints}
 use Rattle.std.proofs.lemmas.Bool.{false≢true}
 use Rattle.std.specs.Prelude.{int_le}
@@ -10,7 +10,7 @@ use Rattle.obs_rows.specs.declared.arcs.Arc.{Arc}
 use Rattle.obs_rows.specs.declared.rows.Row.{Row}
 use Rattle.obs_rows.specs.declared.pair_rows.PairRows.{PairRows}
 use Rattle.obs_rows.specs.declared.units.TheConstants.{WEIGHTS}
-use Rattle.obs_rows.specs.Signals.{weight, cycle, counted}
+use Rattle.obs_rows.specs.Signals.{weight, counted}
 use Rattle.obs_rows.specs.Integers.{integer_count, integer_place}
 use Rattle.obs_rows.specs.SignalGroups.{signal_row, signal_group, signal_groups}
 use Rattle.obs_rows.proofs.IntegerPlaces.{len_only_at}

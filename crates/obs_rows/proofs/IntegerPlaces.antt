@@ -1,5 +1,5 @@
 -- The places of the integers, and what the coefficients there give.
-use Rattle.std.proofs.Common.{◌≡◌, ℕ, zero, suc, ◌+◌, ◌*◌, ◌<◌, ◌≤◌, Bool, true, false, cond, Option, Some, None, List, [], ◌∷◌, length, take, set, count_by, ℤ, pos, ◌+ℤ◌, ◌*ℤ◌, neg_ℤ, arith, sym, ◌∙◌, ap, refl, length-set, get_or}
+use Rattle.std.proofs.Common.{◌≡◌, ℕ, zero, suc, ◌+◌, ◌*◌, ◌<◌, ◌≤◌, Bool, true, false, cond, Option, Some, None, List, [], ◌∷◌, length, take, set, count_by, ℤ, pos, ◌+ℤ◌, ◌*ℤ◌, arith, ◌∙◌, ap, refl, length-set, get_or}
 use Rattle.std.specs.Prelude.{slice_get, position, ◌==◌, filter}
 use Rattle.std.specs.Option.{option_map}
 use Rattle.std.proofs.lemmas.Option.{slice_get_within, get_or_from_slice_get, none-some, same_Some}

@@ -1,13 +1,13 @@
 -- From the signal groups to the session: the bound over all data, best integers, one denominator.
-use Rattle.std.proofs.Common.{◌≡◌, ◌≢◌, ℕ, ◌^◌, List, length, ℤ, pos, ◌*ℤ◌, ◌≤ℤ◌, Ok, sym, ◌∙◌, ap, refl, subst}
+use Rattle.std.proofs.Common.{◌≡◌, ◌≢◌, ℕ, ◌^◌, List, length, ℤ, pos, ◌*ℤ◌, Ok, sym, ◌∙◌, ap, subst}
 use Rattle.whole_math.specs.Vectors.{len}
 use Rattle.whole_math.proofs.Vectors.{len_is}
 use Rattle.rational.specs.Rational.{Rational, of_whole, mul_r, ◌≤ʳ◌, ◌<ʳ◌}
 use Rattle.rational.proofs.Over.{Over}
 use Rattle.quadratic_form.specs.Forms.{Column}
 use Rattle.quadratic_form.specs.Elimination.{Factor, steps}
-use Rattle.quadratic_form.specs.Rows.{SignalGroup, WholeBaseline, WholeData, GroupsOf, first_rounding, value, whole_sum_of_squares}
-use Rattle.quadratic_form.specs.RationalData.{Baseline, IsBest, sum_of_squares as group_sum}
+use Rattle.quadratic_form.specs.Rows.{WholeBaseline, WholeData, GroupsOf, first_rounding, value, whole_sum_of_squares}
+use Rattle.quadratic_form.specs.RationalData.{Baseline, IsBest}
 use Rattle.quadratic_form.proofs.RationalData.{OverAll, OverBase, F_over, bound_over_rationals}
 use Rattle.obs_rows.specs.declared.arcs.Arc.{Arc}
 use Rattle.obs_rows.specs.declared.pair_rows.PairRows.{PairRows}

@@ -1,5 +1,5 @@
 -- The rows and data of a session as the signal groups of quadratic_form: one for each pair and each signal that counts.
-use Rattle.std.specs.Prelude.{ℕ, ℤ, ◌*ℤ◌, neg_ℤ, Option, Some, None, List, [], ◌∷◌, ◌++◌, map, set}
+use Rattle.std.specs.Prelude.{ℕ, ℤ, neg_ℤ, Option, Some, None, List, [], ◌∷◌, ◌++◌, map, set}
 use Rattle.whole_math.specs.Vectors.{zeros}
 use Rattle.quadratic_form.specs.Rows.{SignalRow, SignalGroup, WholeBaseline}
 use Rattle.quadratic_form.specs.RationalData.{RowData}
