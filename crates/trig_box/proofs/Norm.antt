@@ -7,7 +7,7 @@ use Rattle.whole_math.proofs.Certificates.{cert, cancel, mul_positive, weak, ◌
 use Rattle.std.proofs.Common.{lit≤, lit<}
 use Rattle.std.proofs.Math.Nat.{pow-suc, pow-le-pow_right}
 use Rattle.std.proofs.lemmas.Int.{by_lt_z}
-use Rattle.trig_box.specs.Chain.{cos18, cos20, sin19, sin21, Point, Apt}
+use Rattle.trig_box.specs.Chain.{cosine_to_18, cosine_to_20, sine_to_19, sine_to_21, Point, Apt}
 use Rattle.trig_box.proofs.Points.{top, bottom, Between, IsBase, doubled_point}
 use Rattle.trig_box.proofs.Nests.{bottom_positive, nest_range}
 use Rattle.trig_box.proofs.Base.{IsSmall, quarter, apt_cos, apt_sin, apt_cos_more, apt_sin_more, le_pos, lt_pos}
@@ -161,8 +161,8 @@ pub record IsNormed (m : ℤ) (x : Point) : Type 0 where
   pub low : (pos 4194304 *ℤ ((x.den *ℤ x.den) -ℤ ((x.cos *ℤ x.cos) +ℤ (x.sin *ℤ x.sin)))) ≤ℤ (m *ℤ (x.den *ℤ x.den))
 
 cos_parts : (a b : ℤ) → pos 0 ≤ℤ a → (pos 4 *ℤ a) ≤ℤ b → pos 0 ≤ℤ b →
-    ((cos_least a b *ℤ bottom cos18 b) ≤ℤ (top cos18 a b *ℤ cos_unit b)) × ((top cos18 a b *ℤ cos_unit b) ≤ℤ (cos_most a b *ℤ bottom cos18 b))
-    × ((cos_least a b *ℤ bottom cos20 b) ≤ℤ (top cos20 a b *ℤ cos_unit b)) × ((top cos20 a b *ℤ cos_unit b) ≤ℤ (cos_most a b *ℤ bottom cos20 b))
+    ((cos_least a b *ℤ bottom cosine_to_18 b) ≤ℤ (top cosine_to_18 a b *ℤ cos_unit b)) × ((top cosine_to_18 a b *ℤ cos_unit b) ≤ℤ (cos_most a b *ℤ bottom cosine_to_18 b))
+    × ((cos_least a b *ℤ bottom cosine_to_20 b) ≤ℤ (top cosine_to_20 a b *ℤ cos_unit b)) × ((top cosine_to_20 a b *ℤ cos_unit b) ≤ℤ (cos_most a b *ℤ bottom cosine_to_20 b))
 unfolding IsShort
 cos_parts a b a0 ab b0 =
     let i = cos_short (9 * 10 ∷ 11 * 12 ∷ 13 * 14 ∷ 15 * 16 ∷ 17 * 18 ∷ []) a b (lit≤ tt, (lit≤ tt, (lit≤ tt, (lit≤ tt, (lit≤ tt, tt))))) a0 ab b0 in
@@ -170,8 +170,8 @@ cos_parts a b a0 ab b0 =
     (i.0, i.1, j.0, j.1)
 
 sin_parts : (a b : ℤ) → pos 0 ≤ℤ a → (pos 4 *ℤ a) ≤ℤ b → pos 0 ≤ℤ b →
-    ((sin_least a b *ℤ bottom sin19 b) ≤ℤ (top sin19 a b *ℤ sin_unit b)) × ((top sin19 a b *ℤ sin_unit b) ≤ℤ (sin_most a b *ℤ bottom sin19 b))
-    × ((sin_least a b *ℤ bottom sin21 b) ≤ℤ (top sin21 a b *ℤ sin_unit b)) × ((top sin21 a b *ℤ sin_unit b) ≤ℤ (sin_most a b *ℤ bottom sin21 b))
+    ((sin_least a b *ℤ bottom sine_to_19 b) ≤ℤ (top sine_to_19 a b *ℤ sin_unit b)) × ((top sine_to_19 a b *ℤ sin_unit b) ≤ℤ (sin_most a b *ℤ bottom sine_to_19 b))
+    × ((sin_least a b *ℤ bottom sine_to_21 b) ≤ℤ (top sine_to_21 a b *ℤ sin_unit b)) × ((top sine_to_21 a b *ℤ sin_unit b) ≤ℤ (sin_most a b *ℤ bottom sine_to_21 b))
 unfolding IsShort
 sin_parts a b a0 ab b0 =
     let i = sin_short (10 * 11 ∷ 12 * 13 ∷ 14 * 15 ∷ 16 * 17 ∷ 18 * 19 ∷ []) a b (lit≤ tt, (lit≤ tt, (lit≤ tt, (lit≤ tt, (lit≤ tt, tt))))) a0 ab b0 in
@@ -198,10 +198,10 @@ base_norm p q x s h =
     let s9 = sin_parts a b a0 ab b0 in
     let l0 = cos_low_nn a b a0 ab in
     let k0 = sin_low_nn a b a0 ab in
-    let c = short_between (top cos18 a b) (bottom cos18 b) (top cos20 a b) (bottom cos20 b) x.cos x.den (cos_least a b) (cos_most a b) (cos_unit b) h.cos_between c9.0 c9.1 c9.2 c9.3 d0 y0
-    (bottom_positive cos18 b apt_cos b1) (bottom_positive cos20 b apt_cos_more b1) in
-    let z = sin_squares p q (top sin19 a b) (bottom sin19 b) (top sin21 a b) (bottom sin21 b) x.sin x.den (sin_least a b) (sin_most a b) (sin_unit b) h.sin_between s9.0 s9.1 s9.2 s9.3 e0 y0
-    (bottom_positive sin19 b apt_sin b1) (bottom_positive sin21 b apt_sin_more b1) s.positive k0 in
+    let c = short_between (top cosine_to_18 a b) (bottom cosine_to_18 b) (top cosine_to_20 a b) (bottom cosine_to_20 b) x.cos x.den (cos_least a b) (cos_most a b) (cos_unit b) h.cos_between c9.0 c9.1 c9.2 c9.3 d0 y0
+    (bottom_positive cosine_to_18 b apt_cos b1) (bottom_positive cosine_to_20 b apt_cos_more b1) in
+    let z = sin_squares p q (top sine_to_19 a b) (bottom sine_to_19 b) (top sine_to_21 a b) (bottom sine_to_21 b) x.sin x.den (sin_least a b) (sin_most a b) (sin_unit b) h.sin_between s9.0 s9.1 s9.2 s9.3 e0 y0
+    (bottom_positive sine_to_19 b apt_sin b1) (bottom_positive sine_to_21 b apt_sin_more b1) s.positive k0 in
     let l1 = mul_nn (cos_least a b) x.den l0 y0 in
     record {
       high = norm_from_high p q x.cos x.sin x.den a0 ab (square_up (cos_least a b *ℤ x.den) (x.cos *ℤ cos_unit b) (cos_most a b *ℤ x.den) l1 c.0 c.1) z.1 k1;

@@ -1,4 +1,7 @@
-// Sine pairs of boxes of angles.
+//! Angle pairs: boxes of the cosines and sines of all angles in a box, and the laws of such pairs.
+//!
+//! The pair of one angle is computed by a chain of whole numbers at 2^-62: a Taylor sum each for the cosine and the sine of
+//! a small part of the angle, then doublings. How far it may be off is a constant; the width of the angles is added after.
 #![tactic(auto)]
 
 ghost use Rattle.std.specs.Prelude.{◌≡◌, ℕ, ◌+◌, ◌-◌, ◌*◌, ◌/◌, ◌^◌, ◌<◌, ◌≤◌, pos, ◌+ℤ◌, ◌-ℤ◌, ◌*ℤ◌, neg_ℤ, ℤ, ◌≤ℤ◌, ◌⊎◌, unsigned_abs};
