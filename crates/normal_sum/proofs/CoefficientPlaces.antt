@@ -1,0 +1,135 @@
+-- The places that hold the coefficients of a row.
+use Rattle.std.proofs.Common.{◌≡◌, ◌≢◌, ◌⊎◌, ⊎_elim, ℕ, zero, suc, ◌+◌, ◌<◌, ◌≤◌, List, [], ◌∷◌, ◌++◌, length, ℤ, pos, neg_ℤ, Option, Some, None, IfSome, replicate, set, unsigned_abs, slice_index_or, get_or-set_same, get_or-set_other, length-set, length-append, arith, sym, ap, ◌∙◌, refl, subst}
+use Rattle.std.proofs.lemmas.Bool.{cases_eq}
+use Rattle.std.proofs.lemmas.List.{get_or-replicate, get_or_append_left, get_or_push, get_or_past, length-replicate}
+use Rattle.whole_math.specs.Vectors.{zeros}
+use Rattle.quadratic_form.specs.MatrixEntries.{coefficient}
+use Rattle.obs_rows.specs.declared.arcs.Arc.{Arc}
+use Rattle.obs_rows.specs.declared.rows.Row.{Row}
+use Rattle.obs_rows.specs.Signals.{cycle}
+use Rattle.obs_rows.specs.Integers.{integer_count, integer_place}
+use Rattle.obs_rows.specs.Data.{number_at}
+use Rattle.obs_rows.specs.SignalGroups.{only_at, signal_row}
+use Rattle.normal_sum.specs.Places.{put_at}
+
+abbrev item : List ℤ → ℕ → ℤ
+item s j = slice_index_or s j (pos 0)
+
+-- ---- zeros
+pub item_replicate : (m k : ℕ) → item (replicate m (pos 0)) k ≡ pos 0
+item_replicate zero k = refl
+item_replicate (suc m) zero = refl
+item_replicate (suc m) (suc k) = item_replicate m k
+
+item_zeros : (n k : ℕ) → item (zeros n) k ≡ pos 0
+item_zeros zero k = refl
+item_zeros (suc n) zero = refl
+item_zeros (suc n) (suc k) = item_zeros n k
+
+length_zeros : (n : ℕ) → length (zeros n) ≡ n
+length_zeros zero = refl
+length_zeros (suc n) = ap (λ k. suc k) (length_zeros n)
+
+-- ---- a write
+item_set_zero : (t : List ℤ) (i k : ℕ) (v : ℤ) → k ≢ i → item t k ≡ pos 0 → item (set t i v) k ≡ pos 0
+item_set_zero t i k v n h = get_or-set_other t i k v (pos 0) n ∙ h
+
+-- the last value behind the others
+written_last : (t s : List ℤ) (n : ℕ) (y : ℤ) → n < length t → length s ≡ n → ((k : ℕ) → k < n → item t k ≡ item s k) → ((k : ℕ) → n < k → item t k ≡ pos 0) →
+    (k : ℕ) → item (set t n y) k ≡ item (s ++ (y ∷ [])) k
+written_last t s n y h l before after k = ⊎_elim
+    (λ (e : k ≡ n). subst (λ (m : ℕ). item (set t n y) m ≡ item (s ++ (y ∷ [])) m) (sym e) (get_or-set_same t n y (pos 0) h ∙ sym (get_or_push s y (pos 0) n l)))
+    (λ (e : k ≡ n → ⊥). get_or-set_other t n k y (pos 0) e ∙ other (order k n e))
+    (cases_eq k n)
+  where
+    order : (k n : ℕ) → (k ≡ n → ⊥) → (k < n) ⊎ (n < k)
+    order k n e = grind arith
+
+    other : (k < n) ⊎ (n < k) → item t k ≡ item (s ++ (y ∷ [])) k
+    other w = ⊎_elim (λ (g : k < n). before k g ∙ sym (get_or_append_left s (y ∷ []) (pos 0) k (omega arith)))
+        (λ (g : n < k). after k g ∙ sym (get_or_past (s ++ (y ∷ [])) k (pos 0) (omega (arith, length-append s (y ∷ []))))) w
+
+one_set : (t s : List ℤ) (i n : ℕ) (v : ℤ) → i < n → n < length t → length s ≡ n → ((k : ℕ) → item t k ≡ pos 0) → ((k : ℕ) → item s k ≡ pos 0) →
+    (k : ℕ) → k < n → item (set t i v) k ≡ item (set s i v) k
+one_set t s i n v h l m f g k b = ⊎_elim
+    (λ (e : k ≡ i). subst (λ (r : ℕ). item (set t i v) r ≡ item (set s i v) r) (sym e) (get_or-set_same t i v (pos 0) (omega arith) ∙ sym (get_or-set_same s i v (pos 0) (omega arith))))
+    (λ (e : k ≡ i → ⊥). item_set_zero t i k v e (f k) ∙ sym (item_set_zero s i k v e (g k)))
+    (cases_eq k i)
+
+-- behind the columns of the baseline
+behind : (n : ℕ) (p : Option ℕ) (v y : ℤ) → n ≤ 40 → IfSome p (λ i. i < n) → (k : ℕ) →
+    item (set (elim p as (λ q. List ℤ) [ Some i ↦ set (replicate 41 (pos 0)) i v | None ↦ replicate 41 (pos 0) ]) n y) k ≡ item (only_at n p v ++ (y ∷ [])) k
+behind n None v y h i k = written_last (replicate 41 (pos 0)) (zeros n) n y (omega (arith, length-replicate 41 (pos 0))) (length_zeros n)
+    (λ j g. item_replicate 41 j ∙ sym (item_zeros n j)) (λ j g. item_replicate 41 j) k
+behind n (Some i) v y h g k = written_last (set (replicate 41 (pos 0)) i v) (set (zeros n) i v) n y (omega (arith, length-set (replicate 41 (pos 0)) i v, length-replicate 41 (pos 0))) (length-set (zeros n) i v ∙ length_zeros n)
+    (one_set (replicate 41 (pos 0)) (zeros n) i n v g (omega (arith, length-replicate 41 (pos 0))) (length_zeros n) (item_replicate 41) (item_zeros n))
+    (λ j l. item_set_zero (replicate 41 (pos 0)) i j v (omega arith) (item_replicate 41 j)) k
+
+-- the whole array
+all_places : (n : ℕ) (p : Option ℕ) (a b d v y : ℤ) → n ≤ 40 → IfSome p (λ i. i < n) → (j : ℕ) →
+    item (set (put_at (set (set (set (replicate 44 (pos 0)) 0 a) 1 b) 2 d) p v) (3 + n) y) j ≡ item (a ∷ (b ∷ (d ∷ (only_at n p v ++ (y ∷ []))))) j
+all_places n p a b d v y h i j = rw (three_more n) (opened p i j)
+  where
+    three_more : (n : ℕ) → 3 + n ≡ suc (suc (suc n))
+    three_more n = omega arith
+
+    opened : (p : Option ℕ) → IfSome p (λ i. i < n) → (j : ℕ) →
+        item (set (put_at (set (set (set (replicate 44 (pos 0)) 0 a) 1 b) 2 d) p v) (suc (suc (suc n))) y) j ≡ item (a ∷ (b ∷ (d ∷ (only_at n p v ++ (y ∷ []))))) j
+    opened None i zero = refl
+    opened None i (suc zero) = refl
+    opened None i (suc (suc zero)) = refl
+    opened None i (suc (suc (suc k))) = behind n None v y h i k
+    opened (Some q) i zero = rw (three_more q) refl
+    opened (Some q) i (suc zero) = rw (three_more q) refl
+    opened (Some q) i (suc (suc zero)) = rw (three_more q) refl
+    opened (Some q) i (suc (suc (suc k))) = rw (three_more q) (behind n (Some q) v y h i k)
+
+pub coefficients_are : (arcs : List Arc) (scale s : ℕ) (r : Row) (w : List ℤ) (n : ℕ) (p : Option ℕ) (a b d v y : ℤ) →
+    w ≡ put_at (set (set (set (replicate 44 (pos 0)) 0 a) 1 b) 2 d) p v → n ≤ 40 → IfSome p (λ i. i < integer_count arcs scale) →
+    n ≡ integer_count arcs scale → p ≡ integer_place arcs scale r.arc s → v ≡ neg_ℤ (cycle s) →
+    a ≡ neg_ℤ (number_at r.u 0) → b ≡ neg_ℤ (number_at r.u 1) → d ≡ neg_ℤ (number_at r.u 2) → y ≡ number_at r.y s →
+    (j : ℕ) → item (set w (3 + n) y) j ≡ coefficient (signal_row arcs scale s r) j
+coefficients_are arcs scale s r w n p a b d v y e h i en ep ev ea eb ed ey j =
+    ap (λ (t : List ℤ). item (set t (3 + n) y) j) e ∙ all_places n p a b d v y h (subst (λ (m : ℕ). IfSome p (λ i. i < m)) (sym en) i) j
+    ∙ ap (λ (t : List ℤ). item t j) (ap (λ x. x ∷ (b ∷ (d ∷ (only_at n p v ++ (y ∷ []))))) ea
+    ∙ ap (λ x. neg_ℤ (number_at r.u 0) ∷ (x ∷ (d ∷ (only_at n p v ++ (y ∷ []))))) eb
+    ∙ ap (λ x. neg_ℤ (number_at r.u 0) ∷ (neg_ℤ (number_at r.u 1) ∷ (x ∷ (only_at n p v ++ (y ∷ []))))) ed
+    ∙ ap (λ x. first (only_at x p v ++ (y ∷ []))) en
+    ∙ ap (λ (x : Option ℕ). first (only_at (integer_count arcs scale) x v ++ (y ∷ []))) ep
+    ∙ ap (λ x. first (only_at (integer_count arcs scale) (integer_place arcs scale r.arc s) x ++ (y ∷ []))) ev
+    ∙ ap (λ x. first (only_at (integer_count arcs scale) (integer_place arcs scale r.arc s) (neg_ℤ (cycle s)) ++ (x ∷ []))) ey)
+  where
+    first : List ℤ → List ℤ
+    first t = neg_ℤ (number_at r.u 0) ∷ (neg_ℤ (number_at r.u 1) ∷ (neg_ℤ (number_at r.u 2) ∷ t))
+
+-- ---- sizes
+bounded_set : (m : ℕ) (t : List ℤ) (i : ℕ) (v : ℤ) → ((j : ℕ) → unsigned_abs (item t j) ≤ m) → unsigned_abs v ≤ m → (j : ℕ) → unsigned_abs (item (set t i v) j) ≤ m
+bounded_set m [] i v h g j = h j
+bounded_set m (x ∷ t) zero v h g zero = g
+bounded_set m (x ∷ t) zero v h g (suc j) = h (suc j)
+bounded_set m (x ∷ t) (suc i) v h g zero = h zero
+bounded_set m (x ∷ t) (suc i) v h g (suc j) = bounded_set m t i v (λ k. h (suc k)) g j
+
+bounded_put : (m : ℕ) (t : List ℤ) (p : Option ℕ) (v : ℤ) → ((j : ℕ) → unsigned_abs (item t j) ≤ m) → unsigned_abs v ≤ m → (j : ℕ) → unsigned_abs (item (put_at t p v) j) ≤ m
+bounded_put m t None v h g j = h j
+bounded_put m t (Some i) v h g j = bounded_set m t (3 + i) v h g j
+
+bounded_zeros : (m n j : ℕ) → unsigned_abs (item (replicate n (pos 0)) j) ≤ m
+bounded_zeros m n j = rw (item_replicate n j) (omega arith)
+
+pub coefficients_within : (m : ℕ) (w : List ℤ) (n : ℕ) (p : Option ℕ) (a b d v y : ℤ) → w ≡ put_at (set (set (set (replicate 44 (pos 0)) 0 a) 1 b) 2 d) p v →
+    unsigned_abs a ≤ m → unsigned_abs b ≤ m → unsigned_abs d ≤ m → unsigned_abs v ≤ m → unsigned_abs y ≤ m → (j : ℕ) → unsigned_abs (item (set w n y) j) ≤ m
+coefficients_within m w n p a b d v y e ha hb hd hv hy j = subst (λ (t : List ℤ). unsigned_abs (item (set t n y) j) ≤ m) (sym e)
+    (bounded_set m (put_at w3 p v) n y (bounded_put m w3 p v (bounded_set m w2 2 d (bounded_set m w1 1 b (bounded_set m w0 0 a (bounded_zeros m 44) ha) hb) hd) hv) hy j)
+  where
+    w0 : List ℤ
+    w0 = replicate 44 (pos 0)
+
+    w1 : List ℤ
+    w1 = set w0 0 a
+
+    w2 : List ℤ
+    w2 = set w1 1 b
+
+    w3 : List ℤ
+    w3 = set w2 2 d

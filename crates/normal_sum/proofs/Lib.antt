@@ -1,0 +1,7 @@
+pub mod Steps
+pub mod Words
+pub mod CoefficientPlaces
+pub mod RowSums
+pub mod RadiusLaws
+pub mod WeightLaws
+pub mod NormalLaws

@@ -1,0 +1,96 @@
+-- A table whose entries are those of the rows, inside and outside its columns.
+use Rattle.std.proofs.Common.{◌≡◌, ◌⊎◌, ⊎_elim, ℕ, zero, suc, drop, ◌+◌, ◌*◌, ◌^◌, ◌<◌, ◌≤◌, List, [], ◌∷◌, ◌++◌, length, ℤ, pos, ◌+ℤ◌, ◌≤ℤ◌, ◌<ℤ◌, unsigned_abs, slice_index_or, to_z, of_z, arith, sym, ap, ◌∙◌, refl, subst}
+use Rattle.std.proofs.lemmas.List.{get_or_past}
+use Rattle.std.specs.Int.{w128}
+use Rattle.whole_math.proofs.Order.{lins}
+use Rattle.quadratic_form.specs.Rows.{SignalGroup, columns, GroupsOf, Radii, add_radii, row_radii, no_radii, radii}
+use Rattle.quadratic_form.specs.MatrixEntries.{matrix_entry}
+use Rattle.quadratic_form.proofs.MatrixEntries.{matrix_past, matrix_turned}
+use Rattle.obs_rows.specs.Tables.{entry, HasShape, IsZeroOutside}
+use Rattle.normal_sum.specs.declared.radii.RadiusSums.{RadiusSums}
+use Rattle.normal_sum.specs.RadiusSums.{IsAtMost}
+use Rattle.normal_sum.specs.Matrices.{IsSymmetric, EntriesBelow, IsRadiusSum}
+use Rattle.normal_sum.proofs.Words.{small_w128}
+use Rattle.normal_sum.proofs.RadiusLaws.{radii_assoc, radii_same}
+
+side : (i n : ℕ) → (i < n) ⊎ (n ≤ i)
+side i n = grind arith
+
+entry_past_row : (t : List (List ℤ)) (i j : ℕ) → HasShape 44 44 t → 44 ≤ i → entry t i j ≡ pos 0
+entry_past_row t i j s h = ap (λ (r : List ℤ). slice_index_or r j (pos 0)) (get_or_past t i [] (omega (arith, s.rows)))
+
+entry_past_column : (t : List (List ℤ)) (i j : ℕ) → HasShape 44 44 t → i < 44 → 44 ≤ j → entry t i j ≡ pos 0
+entry_past_column t i j s h g = get_or_past (slice_index_or t i []) j (pos 0) (omega (arith, s.columns i h))
+
+pub matrix_past_row : (n : ℕ) (gs : List SignalGroup) (i j : ℕ) → GroupsOf (pos n) gs → columns n ≤ i → matrix_entry gs i j ≡ pos 0
+matrix_past_row n gs i j h g = matrix_turned gs i j ∙ matrix_past n gs j i h g
+
+pub entries_everywhere : (n : ℕ) (gs : List SignalGroup) (t : List (List ℤ)) → HasShape 44 44 t → columns n ≤ 44 → GroupsOf (pos n) gs →
+    ((i j : ℕ) → i < 44 → j < 44 → entry t i j ≡ matrix_entry gs i j) → (i j : ℕ) → entry t i j ≡ matrix_entry gs i j
+entries_everywhere n gs t s c h e i j = ⊎_elim
+    (λ (hi : i < 44). ⊎_elim (λ (hj : j < 44). e i j hi hj) (λ (gj : 44 ≤ j). entry_past_column t i j s hi gj ∙ sym (matrix_past n gs i j h (omega arith))) (side j 44))
+    (λ (gi : 44 ≤ i). entry_past_row t i j s gi ∙ sym (matrix_past_row n gs i j h (omega arith)))
+    (side i 44)
+
+pub symmetric_is : (gs : List SignalGroup) (t : List (List ℤ)) → ((i j : ℕ) → entry t i j ≡ matrix_entry gs i j) → IsSymmetric t
+symmetric_is gs t e = λ i j. e i j ∙ matrix_turned gs i j ∙ sym (e j i)
+
+pub outside_is : (n m : ℕ) (gs : List SignalGroup) (t : List (List ℤ)) → m ≡ columns n → GroupsOf (pos n) gs → ((i j : ℕ) → entry t i j ≡ matrix_entry gs i j) → IsZeroOutside m m t
+outside_is n m gs t c h e = λ i j w. e i j ∙ ⊎_elim (λ (g : m ≤ i). matrix_past_row n gs i j h (subst (λ (k : ℕ). k ≤ i) c g)) (λ (g : m ≤ j). matrix_past n gs i j h (subst (λ (k : ℕ). k ≤ j) c g)) w
+
+pub below_is : (m : ℕ) (t : List (List ℤ)) → HasShape 44 44 t → 0 < m → ((i j : ℕ) → i < 44 → j < 44 → unsigned_abs (entry t i j) < m) → EntriesBelow m t
+below_is m t s h e = λ i j. ⊎_elim
+    (λ (hi : i < 44). ⊎_elim (λ (hj : j < 44). e i j hi hj) (λ (gj : 44 ≤ j). nothing (entry t i j) (entry_past_column t i j s hi gj)) (side j 44))
+    (λ (gi : 44 ≤ i). nothing (entry t i j) (entry_past_row t i j s gi))
+    (side i 44)
+  where
+    nothing : (x : ℤ) → x ≡ pos 0 → unsigned_abs x < m
+    nothing x e = subst (λ (z : ℤ). unsigned_abs z < m) (sym e) h
+
+no_left : (x : ℤ) → pos 0 +ℤ x ≡ x
+no_left x = omega (arith, lins)
+
+no_right : (x : ℤ) → x +ℤ pos 0 ≡ x
+no_right x = omega (arith, lins)
+
+pub radii_start : (r : Radii) → add_radii no_radii r ≡ r
+radii_start r = radii_same _ _ _ _ _ _ _ _ (no_left r.r1) (no_left r.r2) (no_left r.r3) (no_left r.ry)
+
+pub radii_end : (r : Radii) → add_radii r no_radii ≡ r
+radii_end r = radii_same _ _ _ _ _ _ _ _ (no_right r.r1) (no_right r.r2) (no_right r.r3) (no_right r.ry)
+
+pub radii_append : (gs hs : List SignalGroup) → radii (gs ++ hs) ≡ add_radii (radii gs) (radii hs)
+radii_append [] hs = sym (radii_start (radii hs))
+radii_append (g ∷ gs) hs = ap (λ (r : Radii). add_radii (row_radii g.weight g.rows) r) (radii_append gs hs) ∙ sym (radii_assoc (row_radii g.weight g.rows) (radii gs) (radii hs))
+
+pub four_and : (n : ℕ) → columns n ≡ 4 + n
+four_and n = omega arith
+
+pub drop_end : {A : Type 0} (xs : List A) (i : ℕ) → length xs ≤ i → drop i xs ≡ []
+drop_end [] zero h = refl
+drop_end [] (suc i) h = refl
+drop_end (x ∷ xs) zero h = absurd (omega arith)
+drop_end (x ∷ xs) (suc i) h = drop_end xs i (omega arith)
+
+below_limit : (x : ℤ) (m : ℕ) → x ≤ℤ pos m → m < 2 ^ 100 → x <ℤ pos (2 ^ 100)
+below_limit x m h g = omega (arith, lins)
+
+pub radii_within : (s : RadiusSums) (m : ℕ) → IsAtMost m s → m < 2 ^ 100 → (k : ℕ) (d : ℤ) → k < 4 → IsRadiusSum (slice_index_or (s.u1 ∷ (s.u2 ∷ (s.u3 ∷ (s.y ∷ [])))) k d)
+radii_within s m h g zero d k = (h.u1_from, below_limit s.u1 m h.u1_to g)
+radii_within s m h g (suc zero) d k = (h.u2_from, below_limit s.u2 m h.u2_to g)
+radii_within s m h g (suc (suc zero)) d k = (h.u3_from, below_limit s.u3 m h.u3_to g)
+radii_within s m h g (suc (suc (suc zero))) d k = (h.y_from, below_limit s.y m h.y_to g)
+radii_within s m h g (suc (suc (suc (suc i)))) d k = absurd (omega arith)
+
+-- the sums, each as a word
+abbrev word : ℤ → ℤ
+word x = to_z w128 (of_z w128 x)
+
+pub words_are : (s : RadiusSums) (m : ℕ) → IsAtMost m s → m < 2 ^ 100 → (word s.u1 ∷ (word s.u2 ∷ (word s.u3 ∷ (word s.y ∷ [])))) ≡ (s.u1 ∷ (s.u2 ∷ (s.u3 ∷ (s.y ∷ []))))
+words_are s m h g = ap (λ x. x ∷ (word s.u2 ∷ (word s.u3 ∷ (word s.y ∷ [])))) (small_w128 s.u1 h.u1_from (larger_limit s.u1 m h.u1_to g))
+    ∙ ap (λ x. s.u1 ∷ (x ∷ (word s.u3 ∷ (word s.y ∷ [])))) (small_w128 s.u2 h.u2_from (larger_limit s.u2 m h.u2_to g))
+    ∙ ap (λ x. s.u1 ∷ (s.u2 ∷ (x ∷ (word s.y ∷ [])))) (small_w128 s.u3 h.u3_from (larger_limit s.u3 m h.u3_to g))
+    ∙ ap (λ x. s.u1 ∷ (s.u2 ∷ (s.u3 ∷ (x ∷ [])))) (small_w128 s.y h.y_from (larger_limit s.y m h.y_to g))
+  where
+    larger_limit : (x : ℤ) (m : ℕ) → x ≤ℤ pos m → m < 2 ^ 100 → x ≤ℤ pos (2 ^ 111)
+    larger_limit x m h g = omega (arith, lins)

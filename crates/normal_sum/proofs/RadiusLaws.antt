@@ -1,0 +1,69 @@
+-- Sums of squares of radii.
+use Rattle.std.proofs.Common.{◌≡◌, ℕ, ◌+◌, ◌^◌, ◌≤◌, ◌∷◌, [], ℤ, pos, ◌+ℤ◌, ◌*ℤ◌, ◌≤ℤ◌, to_z, of_z, arith, sym, ap, ◌∙◌, refl, subst}
+use Rattle.std.specs.Int.{w64, w128}
+use Rattle.whole_math.proofs.Ring.{◌⊕◌}
+use Rattle.whole_math.proofs.Order.{lins}
+use Rattle.whole_math.proofs.Inequalities.{same_by}
+use Rattle.quadratic_form.specs.Rows.{Radii, add_radii}
+use Rattle.normal_sum.specs.declared.radii.RadiusSums.{RadiusSums}
+use Rattle.normal_sum.specs.RadiusSums.{IsAtMost}
+use Rattle.normal_sum.proofs.Words.{small_w64, small_w128}
+
+pub radii_same : (a b c d a' b' c' d' : ℤ) → a ≡ a' → b ≡ b' → c ≡ c' → d ≡ d' →
+    let p : Radii = record { r1 = a; r2 = b; r3 = c; ry = d } in let q : Radii = record { r1 = a'; r2 = b'; r3 = c'; ry = d' } in p ≡ q
+radii_same a b c d a' b' c' d' e f g h =
+    ap (λ (z : ℤ). let p : Radii = record { r1 = z; r2 = b; r3 = c; ry = d } in p) e ∙ ap (λ (z : ℤ). let p : Radii = record { r1 = a'; r2 = z; r3 = c; ry = d } in p) f
+    ∙ ap (λ (z : ℤ). let p : Radii = record { r1 = a'; r2 = b'; r3 = z; ry = d } in p) g ∙ ap (λ (z : ℤ). let p : Radii = record { r1 = a'; r2 = b'; r3 = c'; ry = z } in p) h
+
+plus_assoc : (a b c : ℤ) → (a +ℤ b) +ℤ c ≡ a +ℤ (b +ℤ c)
+plus_assoc a b c = same_by (a ∷ b ∷ c ∷ []) (λ a b c. ((a ⊕ b) ⊕ c, a ⊕ (b ⊕ c))) refl
+
+pub radii_assoc : (p q r : Radii) → add_radii (add_radii p q) r ≡ add_radii p (add_radii q r)
+radii_assoc p q r = radii_same _ _ _ _ _ _ _ _ (plus_assoc p.r1 q.r1 r.r1) (plus_assoc p.r2 q.r2 r.r2) (plus_assoc p.r3 q.r3 r.r3) (plus_assoc p.ry q.ry r.ry)
+
+pub up_to : (a b : ℤ) (m : ℕ) → a ≤ℤ (b +ℤ pos (2 ^ 72)) → b ≤ℤ pos m → a ≤ℤ pos (m + 2 ^ 72)
+up_to a b m h g = omega (arith, lins)
+
+weaker : (m n : ℕ) (a : ℤ) → m ≤ n → a ≤ℤ pos m → a ≤ℤ pos n
+weaker m n a h g = omega (arith, lins)
+
+pub at_most_wider : (m n : ℕ) (s : RadiusSums) → m ≤ n → IsAtMost m s → IsAtMost n s
+at_most_wider m n s h k = record {
+  u1_from = k.u1_from;
+  u1_to = weaker m n s.u1 h k.u1_to;
+  u2_from = k.u2_from;
+  u2_to = weaker m n s.u2 h k.u2_to;
+  u3_from = k.u3_from;
+  u3_to = weaker m n s.u3 h k.u3_to;
+  y_from = k.y_from;
+  y_to = weaker m n s.y h k.y_to;
+}
+
+-- ---- what a sum with one square more is, where each number stands as a word
+pub record Added (x s w r : ℤ) : Type 0 where
+  pub value : to_z w128 (of_z w128 x) ≡ s +ℤ (w *ℤ (r *ℤ r))
+  pub from : pos 0 ≤ℤ to_z w128 (of_z w128 x)
+  pub to : to_z w128 (of_z w128 x) ≤ℤ (s +ℤ pos (2 ^ 72))
+
+pub added_is : (x s w r : ℤ) → pos 0 ≤ℤ s → s ≤ℤ pos (2 ^ 110) → pos 0 ≤ℤ w → w ≤ℤ pos (2 ^ 32) → pos 0 ≤ℤ r → r ≤ℤ pos (2 ^ 20) →
+    x ≡ to_z w128 (of_z w128 s) +ℤ (to_z w64 (of_z w64 w) *ℤ (to_z w64 (of_z w64 r) *ℤ to_z w64 (of_z w64 r))) → pos 0 ≤ℤ x → x ≤ℤ (to_z w128 (of_z w128 s) +ℤ pos (2 ^ 72)) → Added x s w r
+added_is x s w r s0 s1 w0 w1 r0 r1 e x0 x1 =
+    let es : to_z w128 (of_z w128 s) ≡ s = small_w128 s s0 (widen s s1) in
+    let ew : to_z w64 (of_z w64 w) ≡ w = small_w64 w w0 w1 in
+    let er : to_z w64 (of_z w64 r) ≡ r = small_w64 r r0 (radius r r1) in
+    let y1 : x ≤ℤ (s +ℤ pos (2 ^ 72)) = subst (λ (z : ℤ). x ≤ℤ (z +ℤ pos (2 ^ 72))) es x1 in
+    let ex : to_z w128 (of_z w128 x) ≡ x = small_w128 x x0 (both x s y1 s1) in
+    record {
+      value = ex ∙ e ∙ ap (λ z. z +ℤ (to_z w64 (of_z w64 w) *ℤ (to_z w64 (of_z w64 r) *ℤ to_z w64 (of_z w64 r)))) es ∙ ap (λ z. s +ℤ (z *ℤ (to_z w64 (of_z w64 r) *ℤ to_z w64 (of_z w64 r)))) ew ∙ ap (λ z. s +ℤ (w *ℤ (z *ℤ z))) er;
+      from = subst (λ (z : ℤ). pos 0 ≤ℤ z) (sym ex) x0;
+      to = subst (λ (z : ℤ). z ≤ℤ (s +ℤ pos (2 ^ 72))) (sym ex) y1;
+    }
+  where
+    widen : (s : ℤ) → s ≤ℤ pos (2 ^ 110) → s ≤ℤ pos (2 ^ 111)
+    widen s h = omega (arith, lins)
+
+    radius : (r : ℤ) → r ≤ℤ pos (2 ^ 20) → r ≤ℤ pos (2 ^ 32)
+    radius r h = omega (arith, lins)
+
+    both : (x s : ℤ) → x ≤ℤ (s +ℤ pos (2 ^ 72)) → s ≤ℤ pos (2 ^ 110) → x ≤ℤ pos (2 ^ 111)
+    both x s h g = omega (arith, lins)

@@ -1,0 +1,49 @@
+use Rattle.std.proofs.Common.{rules, ◌≡◌, ℕ, ◌+◌, ◌^◌, ◌<◌, ◌≤◌, length, pos, neg_ℤ, ◌-ℤ◌, ℤ, unsigned_abs, slice_index_or, arith, to_z, of_z, ap, sym, ◌∙◌, subst}
+use Rattle.std.specs.Int.{w64}
+use Rattle.obs_rows.specs.Data.{number_at}
+use Rattle.normal_sum.proofs.Words.{as_w64, neg_w64, size_neg}
+use Rattle.normal_sum.proofs.CoefficientPlaces.{coefficients_are, coefficients_within}
+use Rattle.normal_sum.proofs.coefficients.coefficients.Goals as goal
+
+-- the value that is written for a number that is turned
+abbrev turned : ℤ → ℤ
+turned x = to_z w64 (of_z w64 (pos 0 -ℤ to_z w64 (of_z w64 x)))
+
+turned_size : (m : ℕ) (x : ℤ) → unsigned_abs x ≤ m → m ≤ 2 ^ 60 → unsigned_abs (turned x) ≤ m
+turned_size m x h g = subst (λ (z : ℤ). unsigned_abs z ≤ m) (sym (neg_w64 x (omega arith))) (subst (λ (k : ℕ). k ≤ m) (sym (size_neg x)) h)
+
+pub returns-clause-entries : goal.returns-clause-entries
+returns-clause-entries c =
+    let r = c.args.row.now in
+    let l0 : 0 < length c.args.row.now.u = search rules in
+    let l1 : 1 < length c.args.row.now.u = search rules in
+    let l2 : 2 < length c.args.row.now.u = search rules in
+    let ly : c.args.signal < length c.args.row.now.y = search rules in
+    let s0 : unsigned_abs (number_at c.args.row.now.u 0) ≤ 2 ^ 24 = c.args.row.now.u_in 0 (pos 0) l0 in
+    let s1 : unsigned_abs (number_at c.args.row.now.u 1) ≤ 2 ^ 24 = c.args.row.now.u_in 1 (pos 0) l1 in
+    let s2 : unsigned_abs (number_at c.args.row.now.u 2) ≤ 2 ^ 24 = c.args.row.now.u_in 2 (pos 0) l2 in
+    let sy : unsigned_abs (number_at c.args.row.now.y c.args.signal) ≤ 2 ^ 34 = c.args.row.now.y_in c.args.signal (pos 0) ly in
+    coefficients_are c.args.arcs.now c.args.scale c.args.signal c.args.row.now c.put_integer.new.values c.args.integers c.place_of_integer.result
+    (turned (number_at c.args.row.now.u 0)) (turned (number_at c.args.row.now.u 1)) (turned (number_at c.args.row.now.u 2)) (turned c.cycle_of.result)
+    (to_z w64 (of_z w64 (number_at c.args.row.now.y c.args.signal)))
+    c.put_integer.ensures c.requires.few c.place_of_integer.ensures.within c.requires.integers c.place_of_integer.ensures.value
+    (neg_w64 c.cycle_of.result (omega (arith, c.cycle_of.ensures.size)) ∙ ap (λ z. neg_ℤ z) c.cycle_of.ensures.value)
+    (neg_w64 (number_at c.args.row.now.u 0) (omega arith)) (neg_w64 (number_at c.args.row.now.u 1) (omega arith)) (neg_w64 (number_at c.args.row.now.u 2) (omega arith))
+    (as_w64 (number_at c.args.row.now.y c.args.signal) (omega arith))
+
+pub returns-clause-size : goal.returns-clause-size
+returns-clause-size c =
+    let l0 : 0 < length c.args.row.now.u = search rules in
+    let l1 : 1 < length c.args.row.now.u = search rules in
+    let l2 : 2 < length c.args.row.now.u = search rules in
+    let ly : c.args.signal < length c.args.row.now.y = search rules in
+    let s0 : unsigned_abs (number_at c.args.row.now.u 0) ≤ 2 ^ 24 = c.args.row.now.u_in 0 (pos 0) l0 in
+    let s1 : unsigned_abs (number_at c.args.row.now.u 1) ≤ 2 ^ 24 = c.args.row.now.u_in 1 (pos 0) l1 in
+    let s2 : unsigned_abs (number_at c.args.row.now.u 2) ≤ 2 ^ 24 = c.args.row.now.u_in 2 (pos 0) l2 in
+    let sy : unsigned_abs (number_at c.args.row.now.y c.args.signal) ≤ 2 ^ 34 = c.args.row.now.y_in c.args.signal (pos 0) ly in
+    coefficients_within (2 ^ 34) c.put_integer.new.values (3 + c.args.integers) c.place_of_integer.result
+    (turned (number_at c.args.row.now.u 0)) (turned (number_at c.args.row.now.u 1)) (turned (number_at c.args.row.now.u 2)) (turned c.cycle_of.result)
+    (to_z w64 (of_z w64 (number_at c.args.row.now.y c.args.signal))) c.put_integer.ensures
+    (turned_size (2 ^ 34) (number_at c.args.row.now.u 0) (omega arith) (omega arith)) (turned_size (2 ^ 34) (number_at c.args.row.now.u 1) (omega arith) (omega arith)) (turned_size (2 ^ 34) (number_at c.args.row.now.u 2) (omega arith) (omega arith))
+    (turned_size (2 ^ 34) c.cycle_of.result (omega (arith, c.cycle_of.ensures.size)) (omega arith))
+    (subst (λ (z : ℤ). unsigned_abs z ≤ 2 ^ 34) (sym (as_w64 (number_at c.args.row.now.y c.args.signal) (omega arith))) sy)

@@ -1,0 +1,15 @@
+use Rattle.std.proofs.Common.{◌≡◌, ℕ, ◌+◌, ◌*◌, ◌^◌, ◌<◌, ◌≤◌, drop, ◌+ℤ◌, unsigned_abs}
+use Rattle.quadratic_form.specs.Rows.{add_radii, radii}
+use Rattle.quadratic_form.specs.MatrixEntries.{matrix_entry}
+use Rattle.obs_rows.specs.Tables.{entry}
+use Rattle.obs_rows.specs.SignalGroups.{signal_groups}
+use Rattle.normal_sum.specs.RadiusSums.{radii_of, IsAtMost}
+use Rattle.normal_sum.proofs.sums.sum_pairs.Given as goal
+
+abbrev pub invariant-loop-pair : goal.invariant-loop-pair
+invariant-loop-pair l = record {
+  sums : (i j : ℕ) → i < 44 → j < 44 → entry l.table i j +ℤ matrix_entry (signal_groups l.arcs l.fn.scale (drop l.pair-index l.pairs)) i j ≡ matrix_entry (signal_groups l.arcs l.fn.scale l.pairs) i j;
+  size : (i j : ℕ) → i < 44 → j < 44 → unsigned_abs (entry l.table i j) ≤ l.pair-index * 2 ^ 107;
+  radii : add_radii (radii_of l.radii) (radii (signal_groups l.arcs l.fn.scale (drop l.pair-index l.pairs))) ≡ radii (signal_groups l.arcs l.fn.scale l.pairs);
+  radii_size : IsAtMost (l.pair-index * 2 ^ 78) l.radii;
+}

@@ -1,0 +1,5 @@
+pub mod Places
+pub mod Pairs
+pub mod RadiusSums
+pub mod Matrices
+pub mod Normals

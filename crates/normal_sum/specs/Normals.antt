@@ -1,0 +1,22 @@
+-- The normal matrix of the rows of pairs.
+use Rattle.std.specs.Prelude.{◌≡◌, ℕ, ◌+◌, List, All}
+use Rattle.quadratic_form.specs.Rows.{radii}
+use Rattle.quadratic_form.specs.MatrixEntries.{matrix_entry}
+use Rattle.obs_rows.specs.declared.arcs.Arc.{Arc}
+use Rattle.obs_rows.specs.declared.pair_rows.PairRows.{PairRows}
+use Rattle.obs_rows.specs.Tables.{entry}
+use Rattle.obs_rows.specs.Integers.{integer_count}
+use Rattle.obs_rows.specs.SignalGroups.{signal_groups}
+use Rattle.normal_sum.specs.declared.normal.Normal.{Normal}
+use Rattle.normal_sum.specs.Matrices.{radius_list}
+use Rattle.normal_sum.specs.Pairs.{HaveArcs}
+
+-- each row of each pair names an arc of the list
+abbrev pub AllHaveArcs : List Arc → List PairRows → Type 0
+AllHaveArcs arcs pairs = All (λ p. HaveArcs arcs p.rows) pairs
+
+-- the columns, the entries and the sums of squares of radii are those of the rows, as each signal that counts sees them
+pub record IsNormalOf (arcs : List Arc) (scale : ℕ) (pairs : List PairRows) (n : Normal) : Type 0 where
+  pub columns : n.columns ≡ 4 + integer_count arcs scale
+  pub entries : (i j : ℕ) → entry n.c i j ≡ matrix_entry (signal_groups arcs scale pairs) i j
+  pub radii : n.r ≡ radius_list (radii (signal_groups arcs scale pairs))

@@ -1,0 +1,28 @@
+//! The normal matrix of rows.
+ghost use Rattle.std.specs.Prelude.{◌^◌, ◌≤◌, All};
+ghost use Rattle.obs_rows.specs.Tables.{IsZeroOutside};
+ghost use Rattle.obs_rows.specs.declared.units.TheConstants.{MOST_COLUMNS};
+ghost use Rattle.normal_sum.specs.Matrices.{IsSymmetric, EntriesBelow, IsRadiusSum};
+
+use obs_rows::NormalTable;
+
+/// The weighted sum of squares at the centres of the rows as a matrix, and what the radii of the rows may take from it.
+///
+/// The columns are the three of the baseline, in units of 64 · 2^scale κ, the integers, two for each free arc, and the
+/// constant.
+#[derive(Clone, Copy, Debug)]
+pub struct Normal {
+    /// The number of columns.
+    pub columns: usize,
+    /// The matrix C: the sum of squares at the centres is xᵀCx for x = (baseline, integers, 1). Behind the columns it
+    /// is 0.
+    pub c: NormalTable,
+    /// Σ 360360·w·ru² for the three columns of the baseline and Σ 360360·w·ry² for the constant.
+    pub r: [i128; 4],
+    pub ghost columns_from: { 4 ≤ columns },
+    pub ghost columns_to: { columns ≤ MOST_COLUMNS },
+    pub ghost symmetric: { IsSymmetric c },
+    pub ghost entries_in: { EntriesBelow (2 ^ 120) c },
+    pub ghost nothing_outside: { IsZeroOutside columns columns c },
+    pub ghost radii_in: { All IsRadiusSum r },
+}

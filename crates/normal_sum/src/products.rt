@@ -1,0 +1,83 @@
+//! Weighted products of the coefficients of a row, added to a table. A place where a coefficient is 0 is left alone,
+//! so a row touches only the columns that it has.
+ghost use Rattle.std.specs.Prelude.{◌≡◌, ◌≢◌, ◌⊎◌, ℕ, ◌^◌, ◌<◌, ◌≤◌, pos, ◌+ℤ◌, ◌*ℤ◌, unsigned_abs, slice_index_or};
+ghost use Rattle.obs_rows.specs.Tables.{entry};
+
+use obs_rows::{MOST_COLUMNS, NormalTable};
+
+/// weight · value
+pub(crate) fn times(weight: i64, value: i64) -> i128
+    requires weight_size { unsigned_abs weight ≤ 2 ^ 32 }
+    requires value_size { unsigned_abs value ≤ 2 ^ 40 }
+    ensures value { result ≡ weight *ℤ value }
+    ensures size { unsigned_abs result ≤ 2 ^ 72 }
+{
+    weight as i128 * value as i128
+}
+
+/// sum + factor · value
+fn plus_times(sum: i128, factor: i128, value: i64) -> i128
+    requires sum_size { unsigned_abs sum ≤ 2 ^ 120 }
+    requires factor_size { unsigned_abs factor ≤ 2 ^ 72 }
+    requires value_size { unsigned_abs value ≤ 2 ^ 38 }
+    ensures { result ≡ sum +ℤ (factor *ℤ value) }
+{
+    sum + factor * value as i128
+}
+
+/// Adds factor · value to one entry.
+fn add_to_entry(table: &mut NormalTable, row: usize, column: usize, factor: i128, value: i64)
+    requires row_in { row < MOST_COLUMNS }
+    requires column_in { column < MOST_COLUMNS }
+    requires factor_size { unsigned_abs factor ≤ 2 ^ 72 }
+    requires value_size { unsigned_abs value ≤ 2 ^ 38 }
+    requires entry_size { unsigned_abs (entry table.old row column) ≤ 2 ^ 120 }
+    ensures there { entry table.new row column ≡ entry table.old row column +ℤ (factor *ℤ value) }
+    ensures others { (i j : ℕ) → (i ≢ row) ⊎ (j ≢ column) → entry table.new i j ≡ entry table.old i j }
+{
+    if value != 0 {
+        let sum = plus_times(table.at(row, column), factor, value);
+        table.set(row, column, sum);
+    }
+}
+
+/// Adds factor times the values to a row.
+fn add_to_row(table: &mut NormalTable, row: usize, factor: i128, values: &[i64; MOST_COLUMNS])
+    requires row_in { row < MOST_COLUMNS }
+    requires factor_size { unsigned_abs factor ≤ 2 ^ 72 }
+    requires value_size { (j : ℕ) → j < MOST_COLUMNS → unsigned_abs (slice_index_or values.now j (pos 0)) ≤ 2 ^ 38 }
+    requires entry_size { (j : ℕ) → j < MOST_COLUMNS → unsigned_abs (entry table.old row j) ≤ 2 ^ 120 }
+    ensures added { (j : ℕ) → j < MOST_COLUMNS → entry table.new row j ≡ entry table.old row j +ℤ (factor *ℤ slice_index_or values.now j (pos 0)) }
+    ensures others { (i j : ℕ) → i ≢ row → entry table.new i j ≡ entry table.old i j }
+{
+    for j in 0..MOST_COLUMNS {
+        add_to_entry(table, row, j, factor, values[j]);
+    }
+}
+
+/// Adds weight · `values[row]` times the values to a row.
+fn add_product_row(table: &mut NormalTable, row: usize, values: &[i64; MOST_COLUMNS], weight: i64)
+    requires row_in { row < MOST_COLUMNS }
+    requires weight_size { unsigned_abs weight ≤ 2 ^ 32 }
+    requires value_size { (j : ℕ) → j < MOST_COLUMNS → unsigned_abs (slice_index_or values.now j (pos 0)) ≤ 2 ^ 38 }
+    requires entry_size { (j : ℕ) → j < MOST_COLUMNS → unsigned_abs (entry table.old row j) ≤ 2 ^ 120 }
+    ensures added { (j : ℕ) → j < MOST_COLUMNS → entry table.new row j ≡ entry table.old row j +ℤ ((weight *ℤ slice_index_or values.now row (pos 0)) *ℤ slice_index_or values.now j (pos 0)) }
+    ensures others { (i j : ℕ) → i ≢ row → entry table.new i j ≡ entry table.old i j }
+{
+    let value = values[row];
+    if value != 0 {
+        add_to_row(table, row, times(weight, value), values);
+    }
+}
+
+/// Adds weight · values · valuesᵀ.
+pub(crate) fn add_product(table: &mut NormalTable, values: &[i64; MOST_COLUMNS], weight: i64)
+    requires weight_size { unsigned_abs weight ≤ 2 ^ 32 }
+    requires value_size { (j : ℕ) → j < MOST_COLUMNS → unsigned_abs (slice_index_or values.now j (pos 0)) ≤ 2 ^ 38 }
+    requires entry_size { (i j : ℕ) → i < MOST_COLUMNS → j < MOST_COLUMNS → unsigned_abs (entry table.old i j) ≤ 2 ^ 120 }
+    ensures { (i j : ℕ) → i < MOST_COLUMNS → j < MOST_COLUMNS → entry table.new i j ≡ entry table.old i j +ℤ ((weight *ℤ slice_index_or values.now i (pos 0)) *ℤ slice_index_or values.now j (pos 0)) }
+{
+    for i in 0..MOST_COLUMNS {
+        add_product_row(table, i, values, weight);
+    }
+}

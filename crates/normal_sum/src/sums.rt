@@ -1,0 +1,77 @@
+//! The normal matrix of one pair's rows and of a session.
+ghost use Rattle.std.specs.Prelude.{◌≡◌, ◌∷◌, [], ◌≤◌, length, All};
+ghost use Rattle.obs_rows.specs.Ranges.{IsScale};
+ghost use Rattle.obs_rows.specs.Arcs.{free_count};
+ghost use Rattle.obs_rows.specs.Tables.{HasShape};
+ghost use Rattle.normal_sum.specs.Pairs.{HaveArcs};
+ghost use Rattle.normal_sum.specs.Normals.{AllHaveArcs, IsNormalOf};
+
+use crate::Normal;
+use crate::coefficients::count_integers;
+use crate::pairs::{add_pair, add_pair_radii};
+use crate::radii::RadiusSums;
+use obs_rows::{
+    Arc, BASELINE_COLUMNS, MOST_COLUMNS, MOST_FREE_ARCS, NormalTable, PairRows, Session,
+};
+use std::slice;
+
+/// The same table. Every table has the shape that a read of it tells.
+fn shaped(table: NormalTable) -> NormalTable
+    ensures same { result ≡ table }
+    ensures shape { HasShape MOST_COLUMNS MOST_COLUMNS table }
+{
+    let _first = table.at(0, 0);
+    table
+}
+
+/// The sums over all these pairs.
+fn sum_pairs(arcs: &[Arc], scale: u32, pairs: &[PairRows]) -> Normal
+    requires have_arcs { AllHaveArcs arcs.now pairs.now }
+    requires scale { IsScale scale }
+    requires free { free_count arcs.now ≤ MOST_FREE_ARCS }
+    requires few { length pairs.now ≤ 3600 }
+    ensures { IsNormalOf arcs.now scale pairs.now result }
+{
+    let integers = count_integers(arcs, scale);
+    let mut table = NormalTable::zeros();
+    let mut radii = RadiusSums {
+        u1: 0,
+        u2: 0,
+        u3: 0,
+        y: 0,
+    };
+    for pair in pairs {
+        add_pair(&mut table, arcs, scale, integers, pair);
+        radii = add_pair_radii(radii, scale, pair);
+    }
+    let c = shaped(table);
+    let r = [radii.u1, radii.u2, radii.u3, radii.y];
+    Normal {
+        columns: BASELINE_COLUMNS + integers + 1,
+        c,
+        r,
+    }
+}
+
+/// The normal matrix of one pair's rows.
+///
+/// The columns are those of all free arcs of the list; those that have no row in the pair are 0.
+pub fn sum_pair(arcs: &[Arc], scale: u32, pair: &PairRows) -> Normal
+    requires have_arcs { HaveArcs arcs.now pair.now.rows }
+    requires scale { IsScale scale }
+    requires free { free_count arcs.now ≤ MOST_FREE_ARCS }
+    ensures normal { IsNormalOf arcs.now scale (pair.now ∷ []) result }
+{
+    sum_pairs(arcs, scale, slice::from_ref(pair))
+}
+
+/// The normal matrix of a session: entry by entry the sum over its pairs.
+pub fn sum(session: &Session) -> Normal
+    ensures normal { IsNormalOf session.now.arcs session.now.scale session.now.pairs result }
+{
+    sum_pairs(
+        session.arcs.as_slice(),
+        session.scale,
+        session.pairs.as_slice(),
+    )
+}
