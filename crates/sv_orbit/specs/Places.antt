@@ -1,6 +1,5 @@
 -- What the boxes of a satellite's place keep.
-use Rattle.std.specs.Prelude.{ℕ, ◌^◌, ℤ, pos, negsuc, neg_ℤ, ◌+ℤ◌, ◌*ℤ◌, ◌≤ℤ◌, ◌≡◌, ◌⊎◌}
-use Rattle.std.proofs.Common.{lit<}
+use Rattle.std.specs.Prelude.{ℕ, ℤ, pos, neg_ℤ, ◌*ℤ◌, ◌≡◌, ◌⊎◌}
 use Rattle.rational.specs.Rational.{Rational, ◌≤ʳ◌, of_whole, add_r, mul_r}
 use Rattle.iv_core.specs.declared.Iv.{Iv}
 use Rattle.iv_core.specs.Intervals.{Holds}

@@ -1,5 +1,5 @@
 -- A satellite's place and clock by the user algorithm of IS-GPS-200, as a set of equations over rationals.
-use Rattle.std.specs.Prelude.{ℤ, pos}
+use Rattle.std.specs.Prelude.{pos}
 use Rattle.rational.specs.Rational.{Rational, ◌≈◌, of_whole, add_r, sub_r, mul_r, IsNearRoot}
 use Rattle.trig_box.specs.AnglePairs.{Pair, IsAnglePair, double}
 use Rattle.kepler_box.specs.Anomaly.{IsAnomaly}

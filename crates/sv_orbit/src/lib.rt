@@ -9,7 +9,6 @@ ghost use Rattle.iv_core.specs.Intervals.{width_of, IsWithin};
 ghost use Rattle.sv_orbit.specs.Places.{IsBetweenDistances};
 
 use iv_core::Iv;
-
 pub use world::World;
 
 /// The Earth-fixed place of a satellite's antenna in metres, at scale 2^-36 and at most 2^-18 m wide in each
