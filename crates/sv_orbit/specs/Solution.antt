@@ -2,7 +2,7 @@
 use Rattle.std.specs.Prelude.{pos}
 use Rattle.rational.specs.Rational.{Rational, ◌≈◌, of_whole, add_r, sub_r, mul_r, IsNearRoot}
 use Rattle.trig_box.specs.AnglePairs.{Pair, IsAnglePair, double}
-use Rattle.kepler_box.specs.Anomaly.{IsAnomaly}
+use Rattle.kepler_box.specs.Kepler.{SolvesKepler}
 use Rattle.sv_orbit.specs.Elements.{Elements, Constants, earth_rate}
 
 abbrev pub one : Rational
@@ -80,7 +80,7 @@ pub record IsSatelliteSolution (world : Constants) (eph : Elements) (sent : Rati
   -- M = M0 + n tk
   pub mean_anomaly : q.mean ≈ add_r eph.m0 (mul_r q.motion q.tk)
   -- M = E - e sin E
-  pub kepler : IsAnomaly q.mean eph.ecc q.eccentric q.eccentric_pair.cos q.eccentric_pair.sin
+  pub kepler : SolvesKepler q.mean eph.ecc q.eccentric q.eccentric_pair.cos q.eccentric_pair.sin
   -- cos ν = (cos E - e) / (1 - e cos E), sin ν = √(1 - e²) sin E / (1 - e cos E)
   pub root_of_rest : IsNearRoot q.root_rest (sub_r one (mul_r eph.ecc eph.ecc))
   pub true_anomaly_cos : mul_r q.true_pair.cos (sub_r one (mul_r eph.ecc q.eccentric_pair.cos)) ≈ sub_r q.eccentric_pair.cos eph.ecc
