@@ -1,0 +1,6 @@
+pub mod TypeLists
+pub mod Moments
+pub mod Steps
+pub mod FormLaws
+pub mod FormTook
+pub mod FormPlaces

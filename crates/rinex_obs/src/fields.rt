@@ -1,0 +1,112 @@
+// Numbers in the fields of a line.
+ghost use Rattle.std.specs.Prelude.{◌≡◌, ◌+◌, ◌<◌, ◌≤◌, ◌^◌, length, IfOk, IfSome, true};
+ghost use Rattle.decimal_text.specs.Whole.{are_digits, number_from};
+ghost use Rattle.decimal_text.specs.Fixed.{fixed_of};
+ghost use Rattle.rinex_head.specs.Columns.{column, columns};
+ghost use Rattle.rinex_obs.specs.Fields.{without_blanks, whole_of, filled_of, readable};
+
+use decimal_text::{NumberFault, read_fixed};
+use rinex_head::{Flaw, What};
+
+fn skip_blanks(text: &[u8]) -> &[u8]
+    ensures value { result.now ≡ without_blanks text.now }
+    ensures shorter { length result.now ≤ length text.now }
+{
+    let mut rest = text;
+    while let [b, after @ ..] = rest {
+        if *b != b' ' {
+            return rest;
+        }
+        rest = after;
+    }
+    rest
+}
+
+fn all_digits(text: &[u8]) -> bool
+    ensures { result ≡ are_digits text.now }
+{
+    let mut rest = text;
+    while let [b, after @ ..] = rest {
+        if *b < b'0' || *b > b'9' {
+            return false;
+        }
+        rest = after;
+    }
+    true
+}
+
+fn number_of(digits: &[u8]) -> u16
+    requires few { length digits.now ≤ 4 }
+    requires digits { are_digits digits.now ≡ true }
+    ensures value { result ≡ number_from 0 digits.now }
+    ensures small { result ≤ 9999 }
+    ensures of_two { length digits.now ≤ 2 → result ≤ 99 }
+{
+    let mut number: u16 = 0;
+    let mut rest = digits;
+    while let [b, after @ ..] = rest {
+        number = 10 * number + (*b - b'0') as u16;
+        rest = after;
+    }
+    number
+}
+
+/// The whole number in a field of at most four columns that begins at this one, if they aren't all blank.
+pub fn whole_number(field: &[u8], first: u32) -> Result<Option<u16>, Flaw>
+    requires { length field.now ≤ 4 }
+    ensures value { result ≡ whole_of first field.now }
+    ensures small { IfOk result (λ found. IfSome found (λ n. n ≤ 9999)) }
+    ensures of_two { length field.now ≤ 2 → IfOk result (λ found. IfSome found (λ n. n ≤ 99)) }
+{
+    let digits = skip_blanks(field);
+    if digits.is_empty() {
+        return Ok(None);
+    }
+    if !all_digits(digits) {
+        return Err(bad_field(first));
+    }
+    Ok(Some(number_of(digits)))
+}
+
+/// The same, where the number must be there.
+pub fn filled_number(field: &[u8], first: u32) -> Result<u16, Flaw>
+    requires { length field.now ≤ 4 }
+    ensures value { result ≡ filled_of first field.now }
+    ensures small { IfOk result (λ n. n ≤ 9999) }
+    ensures of_two { length field.now ≤ 2 → IfOk result (λ n. n ≤ 99) }
+{
+    match whole_number(field, first) {
+        Ok(Some(number)) => Ok(number),
+        Ok(None) => Err(bad_field(first)),
+        Err(flaw) => Err(flaw),
+    }
+}
+
+/// The number with a point that the text spells, times 10^places.
+pub fn fixed(text: &[u8], places: u32) -> Result<i64, NumberFault>
+    requires { places ≤ 9 }
+    ensures { result ≡ fixed_of text.now places }
+{
+    read_fixed(text, places)
+}
+
+/// The same in a field that begins at this column, where it must be there.
+pub fn fixed_number(field: &[u8], first: u32, places: u32) -> Result<i64, Flaw>
+    requires { places ≤ 9 }
+    ensures { result ≡ readable first (fixed_of field.now places) }
+{
+    match fixed(field, places) {
+        Ok(number) => Ok(number),
+        Err(_) => Err(bad_field(first)),
+    }
+}
+
+/// The field that begins at this column can't be read.
+pub fn bad_field(column: u32) -> Flaw
+    ensures { result ≡ record { column = column; what = What.BadField } }
+{
+    Flaw {
+        column,
+        what: What::BadField,
+    }
+}

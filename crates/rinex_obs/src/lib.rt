@@ -1,0 +1,20 @@
+//! The reader of observation files (RINEX 3).
+#![tactic(auto)]
+
+mod body;
+mod epoch_lines;
+mod fields;
+mod header;
+mod header_lines;
+mod reader;
+mod sat_lines;
+mod types;
+
+pub use epoch_lines::EpochLine;
+pub use header_lines::{HeaderLine, Label};
+pub use reader::read_obs;
+pub use rinex_head::TextFault as ObsFault;
+pub use types::{KeptType, TypeList, TypeNames};
+
+#[cfg(test)]
+mod tests;
