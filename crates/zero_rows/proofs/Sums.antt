@@ -1,10 +1,11 @@
 -- How the sum changes from one whole number to the next.
-use Rattle.std.proofs.Common.{◌≡◌, ◌≢◌, ◌⊎◌, inl, inr, ℕ, ℤ, zero, suc, pos, negsuc, ◌+◌, ◌-◌, ◌*◌, ◌<◌, ◌+ℤ◌, ◌-ℤ◌, ◌*ℤ◌, ◌<ℤ◌, ◌≤ℤ◌, List, [], ◌∷◌, length, refl, ap, ◌∙◌, arith}
+use Rattle.std.proofs.Common.{◌≡◌, ◌≢◌, ◌⊎◌, inl, inr, ℕ, ℤ, zero, suc, pos, negsuc, ◌*◌, ◌+ℤ◌, ◌-ℤ◌, ◌*ℤ◌, ◌<ℤ◌, ◌≤ℤ◌, List, [], ◌∷◌, length, refl, ap, ◌∙◌, arith}
 use Rattle.std.proofs.lemmas.Int.{ints}
 use Rattle.whole_math.proofs.Inequalities.{same_by, nat}
 use Rattle.whole_math.proofs.Ring.{◌⊕◌, ◌⊖◌, ◌⊗◌}
 use Rattle.whole_math.proofs.IntLaws.{add_mul_ℤ, zero_mul_ℤ}
 use Rattle.whole_math.proofs.Order.{mul_sub_ℤ}
+use Rattle.whole_math.specs.Rounding.{IsCeil}
 use Rattle.zero_rows.specs.Sums.{square, sum_at, slope_at, total, IsBest, IsRival, IsLowest}
 
 one_square : (d w : ℤ) → square (d -ℤ pos 60 *ℤ (w +ℤ pos 1)) ≡ square (d -ℤ pos 60 *ℤ w) +ℤ (pos 3600 +ℤ (pos 7200 *ℤ w -ℤ pos 120 *ℤ d))
@@ -131,17 +132,21 @@ rival_lowest ds z m low ne = record {
   lesser = λ w wz e. lesser_by ds m w (w -ℤ m) low e refl;
 }
 
--- the quotient of a division that rounds down, moved back, is where the sum is lowest
-pub lowest_at : (ds : List ℤ) (p : ℤ) (n q r : ℕ) → length ds ≡ n → 0 < n → p ≡ pos q -ℤ pos 67108864 → r < 60 * n → pos (60 * n * q + r) ≡ (total ds +ℤ pos (30 * n)) +ℤ pos (60 * 67108864 * n - 1) → IsLowest ds p
-lowest_at ds p n q r len some at rest whole =
-    let before : p -ℤ pos 1 ≡ pos q -ℤ pos 67108865 = omega (arith, ints, at) in
+-- the sum is lowest at the mean's quotient by 60, less a half and rounded up
+pub lowest_at : (ds : List ℤ) (p : ℤ) → IsCeil (total ds -ℤ pos (30 * length ds)) (60 * length ds) p → IsLowest ds p
+lowest_at ds p is =
+    let n = length ds in
+    let factor : pos (7200 * n) ≡ pos 120 *ℤ pos (60 * n) = omega (arith, ints) in
+    let turned : (pos 120 *ℤ pos (60 * n)) *ℤ p ≡ pos 120 *ℤ (p *ℤ pos (60 * n)) = same_by (pos (60 * n) ∷ p ∷ []) (λ k q. (nat 120 ⊗ k ⊗ q, nat 120 ⊗ (q ⊗ k))) refl in
+    let times : pos (7200 * n) *ℤ p ≡ pos 120 *ℤ (p *ℤ pos (60 * n)) = ap (λ (z : ℤ). z *ℤ p) factor ∙ turned in
+    let times_before : pos (7200 * n) *ℤ (p -ℤ pos 1) ≡ pos (7200 * n) *ℤ p -ℤ pos (7200 * n) *ℤ pos 1 = mul_sub_ℤ (pos (7200 * n)) p (pos 1) in
     let slope_here = slope_at-is ds p in
     let slope_before = slope_at-is ds (p -ℤ pos 1) in
-    let times_here : pos (7200 * length ds) *ℤ p ≡ pos (7200 * n * q) -ℤ pos (7200 * n * 67108864) =
-    rw (len, at) (mul_sub_ℤ (pos (7200 * n)) (pos q) (pos 67108864)) in
-    let times_before : pos (7200 * length ds) *ℤ (p -ℤ pos 1) ≡ pos (7200 * n * q) -ℤ pos (7200 * n * 67108865) =
-    rw (len, before) (mul_sub_ℤ (pos (7200 * n)) (pos q) (pos 67108865)) in
     record {
-      stays = omega (arith, ints, slope_here, times_here, whole, len);
-      fell = omega (arith, ints, slope_before, times_before, whole, len);
+      stays = omega (arith, ints, slope_here, times, is.0);
+      fell = omega (arith, ints, slope_before, times, times_before, is.1);
     }
+
+-- the same quotient of the same numbers
+pub ceil_same : (z : ℤ) (m : ℕ) (q : ℤ) {y : ℤ} {n : ℕ} {p : ℤ} → IsCeil z m q → z ≡ y → m ≡ n → q ≡ p → IsCeil y n p
+ceil_same z m q is same_z same_m same_q = rw (← same_z, ← same_m, ← same_q) is

@@ -1,9 +1,11 @@
 // Which whole number fits the differences best.
 ghost use Rattle.std.specs.Prelude.{◌≡◌, ◌+◌, ◌-◌, ◌*◌, ◌^◌, ◌<◌, ◌≤◌, ℤ, pos, neg_ℤ, ◌+ℤ◌, ◌-ℤ◌, ◌*ℤ◌, ◌≤ℤ◌, ◌<ℤ◌, length, All};
+ghost use Rattle.whole_math.specs.Rounding.{IsCeil};
 ghost use Rattle.zero_rows.specs.Sums.{square, sum_at, slope_at, total, IsLowest, AreSmall};
 ghost use Rattle.zero_rows.specs.Verdicts.{IsVerdict};
 
 use crate::rows::ZeroRows;
+use whole_math::ceil;
 
 /// That the claimed number is strictly best, with its sum; or the other number of least sum, the lesser of two equals,
 /// with both sums.
@@ -16,21 +18,21 @@ pub enum Verdict {
 fn misfit(diff: i64, w: i64) -> i128
     requires diff_low { neg_ℤ (pos (2 ^ 30)) ≤ℤ diff }
     requires diff_high { diff ≤ℤ pos (2 ^ 30) }
-    requires low { neg_ℤ (pos (2 ^ 30)) ≤ℤ w }
-    requires high { w ≤ℤ pos (2 ^ 30) }
+    requires low { neg_ℤ (pos (2 ^ 42)) ≤ℤ w }
+    requires high { w ≤ℤ pos (2 ^ 42) }
     ensures value { result ≡ diff -ℤ pos 60 *ℤ w }
-    ensures low { neg_ℤ (pos (2 ^ 37)) ≤ℤ result }
-    ensures high { result ≤ℤ pos (2 ^ 37) }
+    ensures low { neg_ℤ (pos (2 ^ 49)) ≤ℤ result }
+    ensures high { result ≤ℤ pos (2 ^ 49) }
 {
     (diff - 60 * w) as i128
 }
 
 fn square_of(x: i128) -> i128
-    requires low { neg_ℤ (pos (2 ^ 37)) ≤ℤ x }
-    requires high { x ≤ℤ pos (2 ^ 37) }
+    requires low { neg_ℤ (pos (2 ^ 49)) ≤ℤ x }
+    requires high { x ≤ℤ pos (2 ^ 49) }
     ensures value { result ≡ square x }
     ensures low { pos 0 ≤ℤ result }
-    ensures high { result ≤ℤ pos (2 ^ 74) }
+    ensures high { result ≤ℤ pos (2 ^ 98) }
 {
     x * x
 }
@@ -39,8 +41,8 @@ fn square_of(x: i128) -> i128
 fn sum_of(diffs: &[i64], w: i64) -> i128
     requires diffs { AreSmall diffs.now }
     requires count { length diffs.now ≤ 1000 }
-    requires low { neg_ℤ (pos (2 ^ 30)) ≤ℤ w }
-    requires high { w ≤ℤ pos (2 ^ 30) }
+    requires low { neg_ℤ (pos (2 ^ 42)) ≤ℤ w }
+    requires high { w ≤ℤ pos (2 ^ 42) }
     ensures { result ≡ sum_at diffs.now w }
 {
     let mut sum: i128 = 0;
@@ -70,18 +72,18 @@ fn total_of(diffs: &[i64]) -> i64
     total
 }
 
-const SHIFT: i64 = 1 << 26;
-
-// A natural number in place of a signed one, for a division that rounds down.
-fn shifted_of(total: i64, count: u64) -> u64
+// (total - 30 · count) / (60 · count), rounded up.
+fn lowest_place(total: i64, count: u64) -> i64
     requires count { count ≤ 1000 }
     requires some { 0 < count }
     requires low { neg_ℤ (pos (2 ^ 31 * count)) ≤ℤ total }
     requires high { total ≤ℤ pos (2 ^ 31 * count) }
-    ensures value { pos result ≡ (total +ℤ pos (30 * count)) +ℤ pos (60 * 67108864 * count - 1) }
-    ensures high { result < 60 * 2 ^ 27 * count }
+    ensures place { IsCeil (total -ℤ pos (30 * count)) (60 * count) result }
+    ensures low { neg_ℤ (pos (2 ^ 42)) ≤ℤ result }
+    ensures high { result ≤ℤ pos (2 ^ 42) }
 {
-    (total + 30 * (count as i64) + (60 * SHIFT * (count as i64) - 1)) as u64
+    let count = count as i128;
+    ceil(total as i128 - 30 * count, 60 * count) as i64
 }
 
 // The least of the numbers whose sum is least.
@@ -90,21 +92,10 @@ fn lowest(diffs: &[i64]) -> i64
     requires some { 0 < length diffs.now }
     requires count { length diffs.now ≤ 1000 }
     ensures lowest { IsLowest diffs.now result }
-    ensures low { neg_ℤ (pos (2 ^ 26)) ≤ℤ result }
-    ensures high { result ≤ℤ pos (2 ^ 27) }
+    ensures low { neg_ℤ (pos (2 ^ 42)) ≤ℤ result }
+    ensures high { result ≤ℤ pos (2 ^ 42) }
 {
-    let count = diffs.len() as u64;
-    let shifted = shifted_of(total_of(diffs), count);
-    place_of(shifted / (60 * count))
-}
-
-fn place_of(quotient: u64) -> i64
-    requires { quotient < 2 ^ 27 }
-    ensures value { result ≡ pos quotient -ℤ pos 67108864 }
-    ensures low { neg_ℤ (pos (2 ^ 26)) ≤ℤ result }
-    ensures high { result ≤ℤ pos (2 ^ 27) }
-{
-    quotient as i64 - SHIFT
+    lowest_place(total_of(diffs), diffs.len() as u64)
 }
 
 /// Whether the claimed number is strictly best: whether the sum of the squares of what 60 times it leaves of the

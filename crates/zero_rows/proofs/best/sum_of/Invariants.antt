@@ -8,7 +8,7 @@ invariant-diffs l = record {
   value : l.sum +ℤ sum_at l.rest l.w ≡ sum_at l.diffs l.w;
   count : length l.rest ≤ 1000;
   low : pos 0 ≤ℤ l.sum;
-  high : (l.sum +ℤ pos (2 ^ 74 * length l.rest)) ≤ℤ pos (2 ^ 74 * 1000);
+  high : (l.sum +ℤ pos (2 ^ 98 * length l.rest)) ≤ℤ pos (2 ^ 98 * 1000);
 }
 
 abbrev pub decreases-diffs : goal.decreases-diffs
