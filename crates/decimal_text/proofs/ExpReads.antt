@@ -5,12 +5,13 @@ use Rattle.decimal_text.specs.declared.exponent.Dec.{Dec}
 use Rattle.decimal_text.specs.declared.fixed.NumberFault.{NumberFault}
 use Rattle.decimal_text.specs.declared.fixed.NumberFault.TheVariants.{Blank, BadChar, TooManyPlaces, TooLong}
 use Rattle.decimal_text.specs.declared.fixed.Stage.TheVariants.{Start}
-use Rattle.decimal_text.specs.Whole.{number_from, size_of}
+use Rattle.decimal_text.specs.Whole.{digit_sum, size_of}
 use Rattle.decimal_text.specs.Fixed.{is_blank, are_blank, walk, Outcome, Fails, Ends, signed}
 use Rattle.decimal_text.specs.FixedForm.{IsSomeFixed}
 use Rattle.decimal_text.specs.Shapes.{FailsFirst}
 use Rattle.decimal_text.specs.Exp.{is_mark, before_mark, behind_mark, ends_blank, power_of, dec_from, dec_of}
 use Rattle.decimal_text.specs.ExpForm.{IsExp, IsMarked, HasPower, IsReadAsDec}
+use Rattle.decimal_text.proofs.Numbers.{digits_are}
 use Rattle.decimal_text.proofs.FixedWalks.{walk-fixed, capped_from-is, capped_from, first_and, blank_is}
 use Rattle.decimal_text.proofs.FixedTakes.{took_start, TookStart}
 use Rattle.decimal_text.proofs.FixedPlaces.{fails_first}
@@ -21,21 +22,21 @@ use Rattle.decimal_text.proofs.ExpPlaces.{SomeMarked, plain_exp, marked_before, 
 use Rattle.decimal_text.proofs.ShapesLaws.{fails_not, fails_once}
 
 -- the digits up to 10^18
-capped_is : (digits : List ℕ) → capped_from 0 digits ≡ min (number_from 0 digits) 1_000_000_000_000_000_000
-capped_is digits = capped_from-is 0 digits 0 (omega arith)
+capped_is : (digits : List ℕ) → capped_from 0 digits ≡ min (digit_sum digits) 1_000_000_000_000_000_000
+capped_is digits = capped_from-is 0 digits 0 (omega arith) ∙ ap (λ n. min n 1_000_000_000_000_000_000) (digits_are digits)
 
 -- what a number gives
 abbrev given : (text : List ℕ) → IsExp text → Result Dec NumberFault
 given text e = dec_from (Ends e.negative (capped_from 0 (e.whole ++ e.part)) (length e.part)) e.power
 
-short_is : (text : List ℕ) (e : IsExp text) → number_from 0 (e.whole ++ e.part) < 1_000_000_000_000_000_000 → given text e ≡ Ok (record { mant = signed e.negative (number_from 0 (e.whole ++ e.part)); exp = e.power -ℤ pos (length e.part) })
+short_is : (text : List ℕ) (e : IsExp text) → digit_sum (e.whole ++ e.part) < 1_000_000_000_000_000_000 → given text e ≡ Ok (record { mant = signed e.negative (digit_sum (e.whole ++ e.part)); exp = e.power -ℤ pos (length e.part) })
 short_is text e short =
     let cap = capped_is (e.whole ++ e.part) in
-    let same : capped_from 0 (e.whole ++ e.part) ≡ number_from 0 (e.whole ++ e.part) = omega arith in
-    let test : nat_le 1_000_000_000_000_000_000 (number_from 0 (e.whole ++ e.part)) ≡ false = grind (arith, nat_tests) in
+    let same : capped_from 0 (e.whole ++ e.part) ≡ digit_sum (e.whole ++ e.part) = omega arith in
+    let test : nat_le 1_000_000_000_000_000_000 (digit_sum (e.whole ++ e.part)) ≡ false = grind (arith, nat_tests) in
     rw (same, test) refl
 
-long_is : (text : List ℕ) (e : IsExp text) → 1_000_000_000_000_000_000 ≤ number_from 0 (e.whole ++ e.part) → given text e ≡ Err TooLong
+long_is : (text : List ℕ) (e : IsExp text) → 1_000_000_000_000_000_000 ≤ digit_sum (e.whole ++ e.part) → given text e ≡ Err TooLong
 long_is text e long =
     let cap = capped_is (e.whole ++ e.part) in
     let reaches : 1_000_000_000_000_000_000 ≤ capped_from 0 (e.whole ++ e.part) = omega arith in
@@ -43,14 +44,14 @@ long_is text e long =
     rw test refl
 
 given_form : (text : List ℕ) (e : IsExp text) → IsReadAsDec text (given text e)
-given_form text e = by (nat_le 1_000_000_000_000_000_000 (number_from 0 (e.whole ++ e.part))) refl
+given_form text e = by (nat_le 1_000_000_000_000_000_000 (digit_sum (e.whole ++ e.part))) refl
   where
-    by : (t : Bool) → nat_le 1_000_000_000_000_000_000 (number_from 0 (e.whole ++ e.part)) ≡ t → IsReadAsDec text (given text e)
+    by : (t : Bool) → nat_le 1_000_000_000_000_000_000 (digit_sum (e.whole ++ e.part)) ≡ t → IsReadAsDec text (given text e)
     by true is =
-        let long : 1_000_000_000_000_000_000 ≤ number_from 0 (e.whole ++ e.part) = grind (arith, nat_tests) in
+        let long : 1_000_000_000_000_000_000 ≤ digit_sum (e.whole ++ e.part) = grind (arith, nat_tests) in
         subst (IsReadAsDec text) (sym (long_is text e long)) (record { number = e; long = long })
     by false is =
-        let short : number_from 0 (e.whole ++ e.part) < 1_000_000_000_000_000_000 = grind (arith, nat_tests) in
+        let short : digit_sum (e.whole ++ e.part) < 1_000_000_000_000_000_000 = grind (arith, nat_tests) in
         subst (IsReadAsDec text) (sym (short_is text e short)) (record { number = e; short = short; mant = refl; exp = refl })
 
 -- a text with a mark isn't blank
@@ -148,6 +149,6 @@ dec_only text (Err TooLong) form = sym (exp_is text form.number ∙ long_is text
 
 pub dec_small : (text : List ℕ) (r : Result Dec NumberFault) → IsReadAsDec text r → IfOk r (λ d. size_of d.mant < 1_000_000_000_000_000_000)
 dec_small text (Ok d) form =
-    let at : size_of d.mant ≡ number_from 0 (form.number.whole ++ form.number.part) = ap size_of form.mant ∙ size_of_signed form.number.negative (number_from 0 (form.number.whole ++ form.number.part)) in
+    let at : size_of d.mant ≡ digit_sum (form.number.whole ++ form.number.part) = ap size_of form.mant ∙ size_of_signed form.number.negative (digit_sum (form.number.whole ++ form.number.part)) in
     omega (arith, at, form.short)
 dec_small text (Err fault) form = tt

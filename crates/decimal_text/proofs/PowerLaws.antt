@@ -1,11 +1,12 @@
 -- Exponents: what is worked out of a text, and where it stops being one.
 use Rattle.std.proofs.Common.{◌≡◌, ◌≢◌, ℕ, ℤ, ◌+◌, ◌-◌, ◌*◌, ◌≤◌, Bool, true, false, ◌==◌, ◌&&◌, List, [], ◌∷◌, ◌++◌, length, refl, sym, ap, subst, length-append, ◌∙◌, inl, inr, arith, Ok, Err, Result}
 use Rattle.std.proofs.lemmas.Bool.Decides.{nat_tests}
-use Rattle.decimal_text.specs.Whole.{is_digit, are_digits, number_from}
+use Rattle.decimal_text.specs.Whole.{is_digit, are_digits, number_from, digit_sum}
 use Rattle.decimal_text.specs.Fixed.{is_blank, are_blank, signed}
 use Rattle.decimal_text.specs.Shapes.{FailsFirst}
 use Rattle.decimal_text.specs.Exp.{only_blanks, power_digits, signed_power, power_of}
 use Rattle.decimal_text.specs.ExpForm.{IsPower, IsSignedPower}
+use Rattle.decimal_text.proofs.Numbers.{digits_are}
 use Rattle.decimal_text.proofs.FixedWalks.{first_and, blank_is}
 use Rattle.decimal_text.proofs.ShapesLaws.{fails_behind, fails_alike}
 
@@ -318,11 +319,12 @@ power_fails (b ∷ bs) i is = by_plus (b == 43) refl
         rw at_43 (place bs 1 (digits_fail bs 1 0 0 i (omega arith) (signed_err false (power_digits bs 1 0 0) i (sym step ∙ is))) refl 43 (λ v h. record { negative = false; power = h.power; signed_is = inl (v, refl, from_rest v h) }) behind_plus)
     by_plus false no_plus_sign = by_minus (b == 45) no_plus_sign refl
 
-power_digits_is : (t power : List ℕ) (at : ℕ) → IsPower t power → power_digits t at 0 0 ≡ Ok (number_from 0 power)
-power_digits_is t power at h = rw (h.text_is) (digits_pass power h.after at 0 0 h.digits h.blank (omega (arith, h.some)) (omega (arith, h.few)))
+power_digits_is : (t power : List ℕ) (at : ℕ) → IsPower t power → power_digits t at 0 0 ≡ Ok (digit_sum power)
+power_digits_is t power at h =
+    rw (h.text_is, ← digits_are power) (digits_pass power h.after at 0 0 h.digits h.blank (omega (arith, h.some)) (omega (arith, h.few)))
 
 -- an exponent is worked out as its digits say
-pub power_is : (text : List ℕ) (negative : Bool) (power : List ℕ) → IsSignedPower text negative power → power_of text ≡ Ok (signed negative (number_from 0 power))
+pub power_is : (text : List ℕ) (negative : Bool) (power : List ℕ) → IsSignedPower text negative power → power_of text ≡ Ok (signed negative (digit_sum power))
 power_is text true power (rest, is, h) = rw (is, power_digits_is rest power 1 h) refl
 power_is text false power (inl (rest, is, h)) = rw (is, power_digits_is rest power 1 h) refl
 power_is [] false power (inr h) = let len = ap length h.text_is in absurd (omega (arith, h.some, length-append power h.after))
@@ -336,7 +338,7 @@ pub record PowerTook (text : List ℕ) (z : ℤ) : Type 0 where
   pub negative : Bool
   pub power : List ℕ
   pub signed_is : IsSignedPower text negative power
-  pub value : z ≡ signed negative (number_from 0 power)
+  pub value : z ≡ signed negative (digit_sum power)
 
 record SignedOk (negative : Bool) (r : Result ℕ ℕ) (z : ℤ) : Type 0 where
   n : ℕ
@@ -361,12 +363,12 @@ power_took (b ∷ bs) z is = by_plus (b == 43) refl
         let step : power_of (b ∷ bs) ≡ signed_power true (power_digits bs 1 0 0) = rw (no_plus_sign, sign) refl in
         let o = signed_ok true (power_digits bs 1 0 0) z (sym step ∙ is) in
         let t = digits_took bs 1 0 0 o.n (omega arith) o.was in
-        record { negative = true; power = t.power; signed_is = (bs, ap (λ x. x ∷ bs) at_45, power_from bs 0 o.n t); value = o.value ∙ ap (signed true) t.value }
+        record { negative = true; power = t.power; signed_is = (bs, ap (λ x. x ∷ bs) at_45, power_from bs 0 o.n t); value = o.value ∙ ap (signed true) (t.value ∙ digits_are t.power) }
     by_minus false no_plus_sign no_minus_sign =
         let step : power_of (b ∷ bs) ≡ signed_power false (power_digits (b ∷ bs) 0 0 0) = rw (no_plus_sign, no_minus_sign) refl in
         let o = signed_ok false (power_digits (b ∷ bs) 0 0 0) z (sym step ∙ is) in
         let t = digits_took (b ∷ bs) 0 0 0 o.n (omega arith) o.was in
-        record { negative = false; power = t.power; signed_is = inr (power_from (b ∷ bs) 0 o.n t); value = o.value ∙ ap (signed false) t.value }
+        record { negative = false; power = t.power; signed_is = inr (power_from (b ∷ bs) 0 o.n t); value = o.value ∙ ap (signed false) (t.value ∙ digits_are t.power) }
 
     by_plus : (t : Bool) → (b == 43) ≡ t → PowerTook (b ∷ bs) z
     by_plus true sign =
@@ -374,5 +376,5 @@ power_took (b ∷ bs) z is = by_plus (b == 43) refl
         let step : power_of (b ∷ bs) ≡ signed_power false (power_digits bs 1 0 0) = rw sign refl in
         let o = signed_ok false (power_digits bs 1 0 0) z (sym step ∙ is) in
         let t = digits_took bs 1 0 0 o.n (omega arith) o.was in
-        record { negative = false; power = t.power; signed_is = inl (bs, ap (λ x. x ∷ bs) at_43, power_from bs 0 o.n t); value = o.value ∙ ap (signed false) t.value }
+        record { negative = false; power = t.power; signed_is = inl (bs, ap (λ x. x ∷ bs) at_43, power_from bs 0 o.n t); value = o.value ∙ ap (signed false) (t.value ∙ digits_are t.power) }
     by_plus false no_plus_sign = by_minus (b == 45) no_plus_sign refl

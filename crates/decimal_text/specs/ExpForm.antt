@@ -5,7 +5,7 @@ use Rattle.std.specs.declared.result.Result.{Result}
 use Rattle.decimal_text.specs.declared.exponent.Dec.{Dec}
 use Rattle.decimal_text.specs.declared.fixed.NumberFault.{NumberFault}
 use Rattle.decimal_text.specs.declared.fixed.NumberFault.TheVariants.{Blank, BadChar, TooManyPlaces, TooLong}
-use Rattle.decimal_text.specs.Whole.{are_digits, number_from}
+use Rattle.decimal_text.specs.Whole.{are_digits, digit_sum}
 use Rattle.decimal_text.specs.Fixed.{are_blank, signed}
 use Rattle.decimal_text.specs.FixedForm.{IsFixed}
 use Rattle.decimal_text.specs.Shapes.{FailsFirst}
@@ -39,7 +39,7 @@ pub record IsMarked (text : List ℕ) (negative : Bool) (whole : List ℕ) (part
 -- with no exponent, or with one
 abbrev pub HasPower : List ℕ → Bool → List ℕ → List ℕ → ℤ → Type 0
 HasPower text negative whole part power =
-    (IsFixed text negative whole part × (power ≡ pos 0)) ⊎ ((below : Bool) × (digits : List ℕ) × IsMarked text negative whole part below digits × (power ≡ signed below (number_from 0 digits)))
+    (IsFixed text negative whole part × (power ≡ pos 0)) ⊎ ((below : Bool) × (digits : List ℕ) × IsMarked text negative whole part below digits × (power ≡ signed below (digit_sum digits)))
 
 -- the text is a number with that sign, those digits before the point and behind it, and that exponent
 pub record IsExp (text : List ℕ) : Type 0 where
@@ -51,13 +51,13 @@ pub record IsExp (text : List ℕ) : Type 0 where
 
 pub record IsDec (text : List ℕ) (d : Dec) : Type 0 where
   pub number : IsExp text
-  pub short : number_from 0 (number.whole ++ number.part) < 1_000_000_000_000_000_000
-  pub mant : d.mant ≡ signed number.negative (number_from 0 (number.whole ++ number.part))
+  pub short : digit_sum (number.whole ++ number.part) < 1_000_000_000_000_000_000
+  pub mant : d.mant ≡ signed number.negative (digit_sum (number.whole ++ number.part))
   pub exp : d.exp ≡ number.power -ℤ pos (length number.part)
 
 pub record IsLongExp (text : List ℕ) : Type 0 where
   pub number : IsExp text
-  pub long : 1_000_000_000_000_000_000 ≤ number_from 0 (number.whole ++ number.part)
+  pub long : 1_000_000_000_000_000_000 ≤ digit_sum (number.whole ++ number.part)
 
 -- what the text is read as: one of these and no other
 abbrev pub IsReadAsDec : List ℕ → Result Dec NumberFault → Type 0

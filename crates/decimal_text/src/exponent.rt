@@ -10,7 +10,7 @@ ghost use Rattle.decimal_text.specs.Exp.{is_mark, behind_mark, ends_blank, only_
 use crate::fixed::{LIMIT, NumberFault, Scan, all_blank, is_blank_byte, scan_text, with_sign};
 use crate::whole::is_digit_byte;
 
-/// The number mant · 10^exp.
+/// The number mant · 10^exp, where exp is the written exponent less the count of digits behind the point.
 #[derive(Clone, Copy, Debug, PartialEq, Eq)]
 pub struct Dec {
     pub mant: i64,
@@ -158,7 +158,8 @@ fn read_marked(text: &[u8]) -> Result<Dec, NumberFault>
 }
 
 /// The number that the text spells, of at most 4,096 bytes: a number with a point, and next to it, before the blanks at
-/// its end, at most one exponent of one to three digits behind one of `D`, `d`, `E` and `e` (RINEX 3, navigation record).
+/// its end, at most one exponent: one of `D`, `d`, `E` and `e`, a sign or none, one to three digits (RINEX 3, navigation
+/// record). `TooManyPlaces` never comes. It takes no memory.
 pub fn read_exp(text: &[u8]) -> Result<Dec, NumberFault>
     requires { length text.now ≤ 4096 }
     ensures value { result ≡ dec_of text.now }
