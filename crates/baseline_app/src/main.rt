@@ -19,18 +19,18 @@ mod zero;
 
 use line_source::{HostFiles, HostSink};
 use status::Status;
+use std::alloc::AllocError;
 use std::process::ExitCode;
 use std::{env, io};
 
 fn main(rt: HostRuntime) -> ExitCode {
-    let args = match env::args(&rt) {
-        Ok(args) => args,
-        Err(e) if e.kind() == io::ErrorKind::OutOfMemory => {
-            return ExitCode::from(Status::NoMemory.number());
-        }
-        Err(_) => return ExitCode::from(Status::Usage.number()),
+    let words = match env::args(&rt) {
+        Ok(args) => args.skip(1).collect::<Vec<String>>(rt.alloc()),
+        Err(e) if e.kind() == io::ErrorKind::OutOfMemory => Err(AllocError),
+        // a word that is no text makes the words no job, as no words do
+        Err(_) => Ok(Vec::new(rt.alloc())),
     };
-    let Ok(words) = args.skip(1).collect::<Vec<String>>(rt.alloc()) else {
+    let Ok(words) = words else {
         return ExitCode::from(Status::NoMemory.number());
     };
     let mut out = HostSink::new(rt.stdout());
