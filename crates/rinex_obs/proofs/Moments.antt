@@ -2,7 +2,7 @@
 use Rattle.std.proofs.Common.{◌≡◌, ◌<◌, ◌≤◌, ◌<ℤ◌, ◌≤ℤ◌, ℕ, ℤ, pos, negsuc, Bool, true, false, Ok, Err, refl, sym, ap, ◌∙◌, arith, if◌then◌else◌, unsigned_abs, to_z, of_z, w64, SFits}
 use Rattle.std.proofs.lemmas.Int.{ints, to_z-of_z}
 use Rattle.gps_time.specs.Ticks.{IsMoment, is_moment, ticks_since}
-use Rattle.gps_time.proofs.Tests.{is_moment-holds, is_moment-true}
+use Rattle.gps_time.proofs.MomentTests.{is_moment-holds, is_moment-true}
 use Rattle.rinex_head.specs.declared.place.What.TheVariants.{BadDate}
 use Rattle.rinex_head.specs.Places.{flawed}
 use Rattle.rinex_obs.specs.EpochLines.{moment_of}
