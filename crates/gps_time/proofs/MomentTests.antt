@@ -1,6 +1,6 @@
 -- The test of a moment tells what a moment is.
-use Rattle.std.proofs.Common.{◌≡◌, ◌≤◌, ◌≤ℤ◌, ℕ, ℤ, pos, negsuc, Bool, T, true, false, ◌&&◌, nat_le, refl, arith, lit≤}
-use Rattle.std.specs.Int.Signed.{le_z, le_z_yes}
+use Rattle.std.proofs.Common.{◌≡◌, ◌≤◌, ◌≤ℤ◌, ℕ, ℤ, pos, negsuc, Bool, T, true, false, ◌&&◌, nat_le, refl, arith}
+use Rattle.std.specs.Int.Signed.{le_z}
 use Rattle.std.proofs.lemmas.Bool.Decides.{nat_tests}
 use Rattle.jiff_core.specs.Calendar.{days_from_civil, days_in_month}
 use Rattle.gps_time.specs.Ticks.{first_day, last_day, IsGpsDate, IsMoment, is_gps_date, is_moment}
