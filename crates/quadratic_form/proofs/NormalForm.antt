@@ -23,10 +23,10 @@ dot_tail e y (k ∷ q) (x ∷ z) f = ap (λ t. (k *ℤ (e *ℤ x)) +ℤ t) (dot_
     step e k x y r = same_by (k ∷ e ∷ x ∷ r ∷ y ∷ []) (λ k e x r y. (k ⊗ (e ⊗ x) ⊕ (e ⊗ r ⊕ y ⊗ e), e ⊗ (k ⊗ x ⊕ r) ⊕ y ⊗ e)) refl
 
 -- what the data add to the residual of the centres
-abbrev error : ℤ → ℤ → WholeBaseline → SignalRow → WholeData → ℤ
+abbrev pub error : ℤ → ℤ → WholeBaseline → SignalRow → WholeData → ℤ
 error d e b r t = (t.y -ℤ d *ℤ r.y) *ℤ e -ℤ ((t.u1 -ℤ d *ℤ r.u1) *ℤ b.b1 +ℤ ((t.u2 -ℤ d *ℤ r.u2) *ℤ b.b2 +ℤ (t.u3 -ℤ d *ℤ r.u3) *ℤ b.b3))
 
-split : (d e : ℤ) (z : List ℤ) (b : WholeBaseline) (r : SignalRow) (t : WholeData) → len r.cycles ≡ len z →
+pub split : (d e : ℤ) (z : List ℤ) (b : WholeBaseline) (r : SignalRow) (t : WholeData) → len r.cycles ≡ len z →
     whole_residual d e z b r t ≡ d *ℤ dot (coefficients r) (columns_at e z b) +ℤ error d e b r t
 split d e z b r t f = step d e t.y r.y t.u1 r.u1 b.b1 t.u2 r.u2 b.b2 t.u3 r.u3 b.b3 (dot r.cycles z)
     ∙ ap (λ k. d *ℤ (neg_ℤ r.u1 *ℤ b.b1 +ℤ (neg_ℤ r.u2 *ℤ b.b2 +ℤ (neg_ℤ r.u3 *ℤ b.b3 +ℤ k))) +ℤ error d e b r t) (sym (dot_tail e r.y r.cycles z f))
@@ -51,7 +51,7 @@ reach d e b r t h = step d e (t.y -ℤ (d *ℤ r.y)) (t.u1 -ℤ (d *ℤ r.u1)) (
     step d e y p q s i j k a f g l h₁ h₂ h₃ h₄ = le_by (y ∷ e ∷ p ∷ i ∷ q ∷ j ∷ s ∷ k ∷ d ∷ a ∷ f ∷ g ∷ l ∷ []) (λ y e p i q j s k d a f g l. ((y ⊗ e ⊖ (p ⊗ i ⊕ (q ⊗ j ⊕ s ⊗ k))) ⊗ (y ⊗ e ⊖ (p ⊗ i ⊕ (q ⊗ j ⊕ s ⊗ k))), nat 4 ⊗ (d ⊗ d ⊗ (a ⊗ a ⊗ (e ⊗ e) ⊕ (f ⊗ f ⊗ (i ⊗ i) ⊕ (g ⊗ g ⊗ (j ⊗ j) ⊕ l ⊗ l ⊗ (k ⊗ k))))), nat 4 ⊗ (y ⊗ e ⊗ (y ⊗ e) ⊕ ng (p ⊗ i) ⊗ ng (p ⊗ i) ⊕ ng (q ⊗ j) ⊗ ng (q ⊗ j) ⊕ ng (s ⊗ k) ⊗ ng (s ⊗ k)) ⊖ (y ⊗ e ⊕ ng (p ⊗ i) ⊕ ng (q ⊗ j) ⊕ ng (s ⊗ k)) ⊗ (y ⊗ e ⊕ ng (p ⊗ i) ⊕ ng (q ⊗ j) ⊕ ng (s ⊗ k)) ⊕ nat 4 ⊗ ((d ⊗ a ⊗ (d ⊗ a) ⊖ y ⊗ y) ⊗ (e ⊗ e) ⊕ (d ⊗ f ⊗ (d ⊗ f) ⊖ p ⊗ p) ⊗ (i ⊗ i) ⊕ ((d ⊗ g ⊗ (d ⊗ g) ⊖ q ⊗ q) ⊗ (j ⊗ j) ⊕ (d ⊗ l ⊗ (d ⊗ l) ⊖ s ⊗ s) ⊗ (k ⊗ k))))) refl (both_nn (less_nn (four_squares (y *ℤ e) (neg_ℤ (p *ℤ i)) (neg_ℤ (q *ℤ j)) (neg_ℤ (s *ℤ k)))) (prod_nn (pos_nn 4) (both_nn (both_nn (prod_nn (less_nn h₁) (square_nn e)) (prod_nn (less_nn h₂) (square_nn i))) (both_nn (prod_nn (less_nn h₃) (square_nn j)) (prod_nn (less_nn h₄) (square_nn k))))))
 
 -- ---- the rows of a group
-abbrev values : List ℤ → List SignalRow → List ℤ
+abbrev pub values : List ℤ → List SignalRow → List ℤ
 values x [] = []
 values x (r ∷ rs) = dot (coefficients r) x ∷ values x rs
 

@@ -2,12 +2,14 @@
 use Rattle.std.proofs.Common.{◌≡◌, ℕ, ◌*◌, ◌<◌, ◌^◌, List, [], ◌∷◌, length, ℤ, pos, ◌+ℤ◌, ◌*ℤ◌, ◌≤ℤ◌, ◌<ℤ◌, Ok, mul-pos, pow_pos, arith, ap, refl, subst}
 use Rattle.whole_math.proofs.Ring.{◌⊕◌, ◌⊖◌, ◌⊗◌}
 use Rattle.whole_math.proofs.Inequalities.{le_by, prod_nn, less_nn, pos_nn, pos_one, later, strict, same_by, nat}
+use Rattle.whole_math.proofs.Order.{square_nn}
 use Rattle.quadratic_form.proofs.Bound.{bound}
+use Rattle.quadratic_form.proofs.NormalForm.{bounding_form_below}
 use Rattle.quadratic_form.proofs.Decision.{decided}
 use Rattle.rational.proofs.Over.{Over, over_whole, over_zero, over_add, over_sub, over_mul, over_times, over_wide, over_le, over_lt, over_box}
-use Rattle.quadratic_form.specs.Forms.{Column}
+use Rattle.quadratic_form.specs.Forms.{Column, quad}
 use Rattle.quadratic_form.specs.Elimination.{Factor, steps}
-use Rattle.quadratic_form.specs.Rows.{SignalRow, WholeData, WholeBaseline, SignalGroup, WholeFits, WholeFitsAll, whole_residual, whole_residuals, share, whole_sum_of_squares, GroupsOf, first_rounding, value}
+use Rattle.quadratic_form.specs.Rows.{SignalRow, WholeData, WholeBaseline, SignalGroup, WholeFits, WholeFitsAll, whole_residual, whole_residuals, share, whole_sum_of_squares, matrix, radii, bounding_form, columns_at, GroupsOf, first_rounding, value}
 use Rattle.quadratic_form.specs.UpperSum.{top}
 use Rattle.quadratic_form.specs.TwoLeast.{TwoLeast}
 use Rattle.rational.specs.Rational.{Rational, ◌≤ʳ◌, ◌<ʳ◌, of_whole, add_r, sub_r, mul_r}
@@ -271,6 +273,30 @@ bound_over_rationals h z b gs qs p g f s =
 
     step : (d e v f : ℤ) → (d *ℤ e *ℤ (d *ℤ e) *ℤ v) ≤ℤ (pos 64 *ℤ f) → (v *ℤ (d *ℤ e *ℤ (d *ℤ e))) ≤ℤ (pos 64 *ℤ f *ℤ pos 1)
     step d e v f h = le_by (v ∷ d ∷ e ∷ f ∷ []) (λ v d e f. (v ⊗ (d ⊗ e ⊗ (d ⊗ e)), nat 64 ⊗ f ⊗ nat 1, nat 64 ⊗ f ⊖ d ⊗ e ⊗ (d ⊗ e) ⊗ v)) refl (less_nn h)
+
+-- 64 F is at least the bounding form at the columns, over the square of the denominator e of the baseline
+pub bounding_over_rationals : (e : ℕ) (z : List ℤ) (c : WholeBaseline) (b : Baseline) (gs : List SignalGroup) (qs : List (List RowData)) (r : Rational) → 0 < e → OverBase (pos e) c b →
+    GroupsOf (len z) gs → FitsAll gs qs → Over (pos (e * e)) (quad (bounding_form (length z) (matrix (length z) gs) (radii gs)) (columns_at (pos e) z c)) r →
+    r ≤ʳ mul_r (of_whole (pos 64)) (sum_of_squares z b gs qs)
+bounding_over_rationals e z c b gs qs r h o g f w =
+    over_le (e * e) q v (pos 64 *ℤ n) r (mul_r (of_whole (pos 64)) (sum_of_squares z b gs qs)) (mul-pos h h) (mul-pos (mul-pos t.positive h) (mul-pos t.positive h)) w
+    (over_times (pos q) (pos 64) n (sum_of_squares z b gs qs) (F_over (pos t.d) (pos e) z c b gs t.over qs t.is o))
+    (step (pos t.d) (pos e) v n (bounding_form_below (pos t.d) (pos e) z c gs t.over g (fits_all_over (pos t.d) gs t.over qs (pos_nn t.d) t.is f)))
+  where
+    t : CommonAll qs
+    t = common qs
+
+    q : ℕ
+    q = (t.d * e) * (t.d * e)
+
+    v : ℤ
+    v = quad (bounding_form (length z) (matrix (length z) gs) (radii gs)) (columns_at (pos e) z c)
+
+    n : ℤ
+    n = whole_sum_of_squares (pos t.d) (pos e) z c gs t.over
+
+    step : (d e v f : ℤ) → (d *ℤ d *ℤ v) ≤ℤ (pos 64 *ℤ f) → (v *ℤ (d *ℤ e *ℤ (d *ℤ e))) ≤ℤ (pos 64 *ℤ f *ℤ (e *ℤ e))
+    step d e v f h = le_by (v ∷ d ∷ e ∷ f ∷ []) (λ v d e f. (v ⊗ (d ⊗ e ⊗ (d ⊗ e)), nat 64 ⊗ f ⊗ (e ⊗ e), (nat 64 ⊗ f ⊖ d ⊗ d ⊗ v) ⊗ (e ⊗ e))) refl (prod_nn (less_nn h) (square_nn e))
 
 pub decided_best : (h : ℕ) (ratio : ℤ) (z1 z2 : List ℤ) (m : WholeBaseline) (gs : List SignalGroup) (p : List Factor × List Column) →
     GroupsOf (len z1) gs → steps 0 3 (first_rounding h (length z1) gs) ≡ Ok p → TwoLeast p.1 (len z1) z1 z2 →
