@@ -5,3 +5,4 @@ pub mod RowSums
 pub mod RadiusLaws
 pub mod WeightLaws
 pub mod NormalLaws
+pub mod NormalValues

@@ -3,3 +3,4 @@ pub mod Pairs
 pub mod RadiusSums
 pub mod Matrices
 pub mod Normals
+pub mod Values

@@ -1,5 +1,5 @@
 -- The normal matrix of the rows of pairs.
-use Rattle.std.specs.Prelude.{◌≡◌, ℕ, ◌+◌, List, All}
+use Rattle.std.specs.Prelude.{◌≡◌, ℕ, ◌+◌, List}
 use Rattle.quadratic_form.specs.Rows.{radii}
 use Rattle.quadratic_form.specs.MatrixEntries.{matrix_entry}
 use Rattle.obs_rows.specs.declared.arcs.Arc.{Arc}
@@ -9,11 +9,6 @@ use Rattle.obs_rows.specs.Integers.{integer_count}
 use Rattle.obs_rows.specs.SignalGroups.{signal_groups}
 use Rattle.normal_sum.specs.declared.normal.Normal.{Normal}
 use Rattle.normal_sum.specs.Matrices.{radius_list}
-use Rattle.normal_sum.specs.Pairs.{HaveArcs}
-
--- each row of each pair names an arc of the list
-abbrev pub AllHaveArcs : List Arc → List PairRows → Type 0
-AllHaveArcs arcs pairs = All (λ p. HaveArcs arcs p.rows) pairs
 
 -- the columns, the entries and the sums of squares of radii are those of the rows, as each signal that counts sees them
 pub record IsNormalOf (arcs : List Arc) (scale : ℕ) (pairs : List PairRows) (n : Normal) : Type 0 where

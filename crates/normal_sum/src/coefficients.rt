@@ -10,15 +10,8 @@ ghost use Rattle.normal_sum.specs.Places.{put_at};
 
 use obs_rows::{
     Arc, BASELINE_COLUMNS, MOST_COLUMNS, MOST_FREE_ARCS, MOST_INTEGERS, PHASES, ROW_EXPONENT, Row,
-    SIGNALS, WAVELENGTHS,
+    SIGNALS, WAVELENGTHS, free_arcs,
 };
-
-/// How many of the arcs are free.
-fn count_free(arcs: &[Arc]) -> usize
-    ensures { result ≡ free_count arcs.now }
-{
-    arcs.iter().filter(|a| !a.datum).count()
-}
 
 /// How many integers there are: at scale 0 one for each free arc and phase, else none.
 pub(crate) fn count_integers(arcs: &[Arc], scale: u32) -> usize
@@ -28,7 +21,7 @@ pub(crate) fn count_integers(arcs: &[Arc], scale: u32) -> usize
     ensures few { result ≤ MOST_INTEGERS }
 {
     if scale == 0 {
-        PHASES * count_free(arcs)
+        PHASES * free_arcs(arcs)
     } else {
         0
     }
@@ -46,7 +39,7 @@ fn place_of_integer(arcs: &[Arc], scale: u32, arc: usize, signal: usize) -> Opti
     if scale != 0 || signal >= PHASES || arcs[arc].datum {
         return None;
     }
-    Some(PHASES * count_free(&arcs[..arc]) + signal)
+    Some(PHASES * free_arcs(&arcs[..arc]) + signal)
 }
 
 /// The wavelength of a signal in the unit of the rows.

@@ -11,3 +11,6 @@ mod sums;
 
 pub use normal::Normal;
 pub use sums::{sum, sum_pair};
+
+#[cfg(test)]
+mod tests;

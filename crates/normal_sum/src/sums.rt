@@ -3,8 +3,9 @@ ghost use Rattle.std.specs.Prelude.{◌≡◌, ◌∷◌, [], ◌≤◌, length,
 ghost use Rattle.obs_rows.specs.Ranges.{IsScale};
 ghost use Rattle.obs_rows.specs.Arcs.{free_count};
 ghost use Rattle.obs_rows.specs.Tables.{HasShape};
-ghost use Rattle.normal_sum.specs.Pairs.{HaveArcs};
-ghost use Rattle.normal_sum.specs.Normals.{AllHaveArcs, IsNormalOf};
+ghost use Rattle.obs_rows.specs.Pairs.{HasItsArcs};
+ghost use Rattle.normal_sum.specs.Normals.{IsNormalOf};
+ghost use Rattle.normal_sum.specs.Values.{IsSumAtCentres, StaysBelow};
 
 use crate::Normal;
 use crate::coefficients::count_integers;
@@ -26,7 +27,7 @@ fn shaped(table: NormalTable) -> NormalTable
 
 /// The sums over all these pairs.
 fn sum_pairs(arcs: &[Arc], scale: u32, pairs: &[PairRows]) -> Normal
-    requires have_arcs { AllHaveArcs arcs.now pairs.now }
+    requires arcs { All (HasItsArcs arcs.now) pairs.now }
     requires scale { IsScale scale }
     requires free { free_count arcs.now ≤ MOST_FREE_ARCS }
     requires few { length pairs.now ≤ 3600 }
@@ -57,10 +58,12 @@ fn sum_pairs(arcs: &[Arc], scale: u32, pairs: &[PairRows]) -> Normal
 ///
 /// The columns are those of all free arcs of the list; those that have no row in the pair are 0.
 pub fn sum_pair(arcs: &[Arc], scale: u32, pair: &PairRows) -> Normal
-    requires have_arcs { HaveArcs arcs.now pair.now.rows }
+    requires arcs { HasItsArcs arcs.now pair.now }
     requires scale { IsScale scale }
     requires free { free_count arcs.now ≤ MOST_FREE_ARCS }
     ensures normal { IsNormalOf arcs.now scale (pair.now ∷ []) result }
+    ensures centres { IsSumAtCentres arcs.now scale (pair.now ∷ []) result }
+    ensures below { StaysBelow arcs.now scale (pair.now ∷ []) result }
 {
     sum_pairs(arcs, scale, slice::from_ref(pair))
 }
@@ -68,6 +71,8 @@ pub fn sum_pair(arcs: &[Arc], scale: u32, pair: &PairRows) -> Normal
 /// The normal matrix of a session: entry by entry the sum over its pairs.
 pub fn sum(session: &Session) -> Normal
     ensures normal { IsNormalOf session.now.arcs session.now.scale session.now.pairs result }
+    ensures centres { IsSumAtCentres session.now.arcs session.now.scale session.now.pairs result }
+    ensures below { StaysBelow session.now.arcs session.now.scale session.now.pairs result }
 {
     sum_pairs(
         session.arcs.as_slice(),

@@ -6,6 +6,7 @@ use Rattle.quadratic_form.specs.Rows.{SignalGroup, columns, GroupsOf, Radii, add
 use Rattle.quadratic_form.specs.MatrixEntries.{matrix_entry}
 use Rattle.quadratic_form.proofs.MatrixEntries.{matrix_append}
 use Rattle.obs_rows.specs.declared.pair_rows.PairRows.{PairRows}
+use Rattle.obs_rows.specs.Pairs.{HasItsArcs}
 use Rattle.obs_rows.specs.Tables.{entry, HasShape}
 use Rattle.obs_rows.specs.Integers.{integer_count}
 use Rattle.obs_rows.specs.SignalGroups.{signal_groups}
@@ -42,13 +43,16 @@ radii_range i n h k = omega arith
 
 pub loop-pair-init : goal.loop-pair-init
 loop-pair-init c =
-    let z : (i j : ℕ) → i < 44 → j < 44 → entry c.zeros-table.result i j ≡ pos 0 = λ i j hi hj. ap (λ (t : List (List ℤ)). entry t i j) c.zeros-table.ensures.zeros ∙ zero_entry 44 44 i j hi hj in
+    let z : (i j : ℕ) → i < 44 → j < 44 → entry c.zeros-table.result i j ≡ pos 0 = λ i j hi hj. ap (λ (t : List (List ℤ)). entry t i j) c.zeros-table.ensures.zeros ∙ zero_entry 44 44 i j in
     record {
       sums = λ i j hi hj. zero_first _ _ (z i j hi hj);
       size = λ i j hi hj. size_zero _ (z i j hi hj);
       radii = radii_start (radii (signal_groups c.args.arcs.now c.args.scale c.args.pairs.now));
       radii_size = record { u1_from = omega (arith, lins); u1_to = omega (arith, lins); u2_from = omega (arith, lins); u2_to = omega (arith, lins); u3_from = omega (arith, lins); u3_to = omega (arith, lins); y_from = omega (arith, lins); y_to = omega (arith, lins) };
     }
+
+pub add_pair-requires-clause-have_arcs : goal.add_pair-requires-clause-have_arcs
+add_pair-requires-clause-have_arcs c = λ k d h. (subst (λ (p : PairRows). HasItsArcs c.args.arcs.now p) (sym c.pair-item.is) (c.requires.arcs c.loop-pair.pair-index c.pair-item.result c.loop-pair-test.true) k d h).arc_in
 
 pub loop-pair-preserved : goal.loop-pair-preserved
 loop-pair-preserved c =
