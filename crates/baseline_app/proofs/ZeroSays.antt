@@ -1,5 +1,5 @@
 -- What a run of `zero` says of its file.
-use Rattle.std.proofs.Common.{◌≡◌, ◌≢◌, ◌⊎◌, inl, inr, ℕ, List, Option, refl, sym, ap, ◌∙◌, subst}
+use Rattle.std.proofs.Common.{◌≡◌, inl, inr, ℕ, List, Option, sym, ap, ◌∙◌, subst}
 use Rattle.std.specs.Io.KnownBytes.{Appends}
 use Rattle.baseline_app.specs.declared.status.Status.{Status}
 use Rattle.baseline_app.specs.declared.status.Status.TheVariants.{Done, Declined, Usage, Refused, ReadFault, WriteFault, NoMemory}
@@ -8,10 +8,10 @@ use Rattle.baseline_app.specs.declared.words.Job.TheVariants.{Zero}
 use Rattle.baseline_app.specs.Words.{IsJob}
 use Rattle.baseline_app.specs.Statuses.{IsVerdictStatus}
 use Rattle.baseline_app.specs.Endings.{Ending, EndsByText}
-use Rattle.baseline_app.specs.Zero.{ZeroEnds, EndsByRows}
-use Rattle.baseline_app.specs.Jobs.{JobEnds, IsAnswer}
+use Rattle.baseline_app.specs.Zero.{EndsByRows}
+use Rattle.baseline_app.specs.Jobs.{JobEnds}
 use Rattle.baseline_app.specs.Runs.{SinkChange, IsRun, EndsWritten}
-use Rattle.baseline_app.specs.ZeroRuns.{SaysOptimal, SaysBeaten, SaysOfZero}
+use Rattle.baseline_app.specs.ZeroRuns.{SaysOfZero}
 use Rattle.baseline_app.proofs.Completes.{one_job}
 
 -- an ending with a verdict comes of rows
