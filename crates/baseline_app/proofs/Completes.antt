@@ -1,22 +1,35 @@
 -- A job whose files are told and admitted ends with status 0 or 1.
-use Rattle.std.proofs.Common.{◌≡◌, ◌≢◌, ◌⊎◌, inl, inr, ◌<◌, ℕ, List, length, Some, Option, sym, ap, ◌∙◌, subst, arith, IfSome}
+use Rattle.std.proofs.Common.{◌≡◌, ◌≢◌, ◌⊎◌, inl, inr, ◌<◌, ℕ, List, [], ◌∷◌, codes, get_or, true, false, length, Some, Option, sym, ap, ◌∙◌, subst, arith, IfSome}
+use Rattle.std.specs.Str.{bytes_eq}
 use Rattle.line_source.specs.Lines.{lines_of}
 use Rattle.line_source.specs.Causes.{Rose}
 use Rattle.zero_rows.specs.Rows.{IsZeroFile}
 use Rattle.baseline_app.specs.declared.status.Status.{Status}
 use Rattle.baseline_app.specs.declared.status.Status.TheVariants.{Done, Declined, Usage, Refused, ReadFault, WriteFault, NoMemory}
 use Rattle.baseline_app.specs.declared.words.Job.{Job}
-use Rattle.baseline_app.specs.declared.words.Job.TheVariants.{Zero}
+use Rattle.baseline_app.specs.declared.words.Job.TheVariants as job
 use Rattle.baseline_app.specs.Words.{IsJob}
 use Rattle.baseline_app.specs.Statuses.{IsVerdictStatus}
 use Rattle.baseline_app.specs.Endings.{Ending, EndsByFile, IsAdmitted}
 use Rattle.baseline_app.specs.Zero.{ZeroEnds}
+use Rattle.baseline_app.specs.Listing.{ListEnds}
+use Rattle.rinex_obs.specs.ObsForm.{HasObsFile}
 use Rattle.baseline_app.specs.Jobs.{JobEnds, IsReadable, IsAnswer}
 use Rattle.baseline_app.specs.Runs.{SinkChange, IsDelivered, IsRun, IsComplete}
 
+-- the two commands are two words
+other_words : (words : List (List ℕ)) (rows obs : List ℕ) → words ≡ codes "zero" ∷ rows ∷ [] → words ≡ codes "list" ∷ obs ∷ [] → ⊥
+other_words words rows obs first second =
+    let same : codes "zero" ≡ codes "list" = ap (λ (ws : List (List ℕ)). get_or ws 0 []) (sym first ∙ second) in
+    let tested : true ≡ false = ap (λ (w : List ℕ). bytes_eq (codes "zero") w) same in
+    absurd (cc (tested))
+
 -- words ask for one job at most
 pub one_job : (words : List (List ℕ)) (a b : Job) → IsJob words a → IsJob words b → a ≡ b
-one_job words (Zero rows) (Zero others) first second = let same : rows ≡ others = cc (first.words_are, second.words_are) in ap Zero same
+one_job words (job.Zero rows) (job.Zero others) first second = let same : rows ≡ others = cc (first.words_are, second.words_are) in ap (λ (r : List ℕ). job.Zero r) same
+one_job words (job.List obs) (job.List others) first second = let same : obs ≡ others = cc (first.words_are, second.words_are) in ap (λ (r : List ℕ). job.List r) same
+one_job words (job.Zero rows) (job.List obs) first second = absurd (other_words words rows obs first.words_are second.words_are)
+one_job words (job.List obs) (job.Zero rows) first second = absurd (other_words words rows obs second.words_are first.words_are)
 
 told_at : (told : List ℕ → Option (List ℕ)) (name bytes : List ℕ) (P : List ℕ → Type 0) → told name ≡ Some bytes → IfSome (told name) P → P bytes
 told_at told name bytes P is holds = subst (λ (o : Option (List ℕ)). IfSome o P) is holds
@@ -42,9 +55,14 @@ zero_ends name text end file (inl by_rows) = elim by_rows.verdict [
 ]
 zero_ends name text end file (inr refusal) = absurd (refusal.none file)
 
+list_ends : (name text : List ℕ) (end : Ending) → HasObsFile (lines_of text) → ListEnds name text end → IsVerdictStatus end.status
+list_ends name text end file (inl by_obs) = verdict_at end.status Done (ap (λ (e : Ending). e.status) by_obs.end_is) tt
+list_ends name text end file (inr refusal) = absurd (refusal.none file)
+
 -- each command's own part
 readable_ends : (job : Job) (told : List ℕ → Option (List ℕ)) (end : Ending) → IsReadable job told → end.status ≢ ReadFault → JobEnds job told end → IsVerdictStatus end.status
-readable_ends (Zero rows) told end file no_fault ends = zero_ends rows file.text end file.file (admitted_ends told rows IsZeroFile (ZeroEnds rows) end file no_fault ends)
+readable_ends (job.Zero rows) told end file no_fault ends = zero_ends rows file.text end file.file (admitted_ends told rows IsZeroFile (ZeroEnds rows) end file no_fault ends)
+readable_ends (job.List obs) told end file no_fault ends = list_ends obs file.text end file.file (admitted_ends told obs HasObsFile (ListEnds obs) end file no_fault ends)
 
 answer_ends : (job : Job) (words : List (List ℕ)) (told : List ℕ → Option (List ℕ)) (end : Ending) → IsJob words job → IsReadable job told → end.status ≢ ReadFault → IsAnswer words told end
     → (end.status ≡ NoMemory) ⊎ (JobEnds job told end × IsVerdictStatus end.status)
@@ -94,9 +112,14 @@ zero_status name end text (inl by_rows) = elim by_rows.verdict [
 ]
 zero_status name end text (inr refusal) = job_status_at end _ refusal.end_is tt
 
+list_status : (name : List ℕ) (end : Ending) (text : List ℕ) → ListEnds name text end → IsJobStatus end.status
+list_status name end text (inl by_obs) = job_status_at end _ by_obs.end_is tt
+list_status name end text (inr refusal) = job_status_at end _ refusal.end_is tt
+
 -- each command's own part
 job_status : (job : Job) (told : List ℕ → Option (List ℕ)) (end : Ending) → JobEnds job told end → IsJobStatus end.status
-job_status (Zero rows) told end ends = file_status told rows (ZeroEnds rows) end (zero_status rows end) ends
+job_status (job.Zero rows) told end ends = file_status told rows (ZeroEnds rows) end (zero_status rows end) ends
+job_status (job.List obs) told end ends = file_status told obs (ListEnds obs) end (list_status obs end) ends
 
 -- usage comes only where the words ask for no job
 pub run_usage : (words : List (List ℕ)) (told : List ℕ → Option (List ℕ)) (result : Status) (out err : SinkChange) → IsRun words told result out err → result ≡ Usage → (job : Job) → IsJob words job → ⊥

@@ -1,4 +1,4 @@
 pub mod Written
-pub mod WordLists
 pub mod Completes
 pub mod ZeroSays
+pub mod ListSays

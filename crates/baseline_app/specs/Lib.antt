@@ -4,6 +4,8 @@ pub mod Words
 pub mod Endings
 pub mod Answers
 pub mod Zero
+pub mod Listing
 pub mod Jobs
 pub mod Runs
 pub mod ZeroRuns
+pub mod ListRuns

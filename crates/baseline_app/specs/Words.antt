@@ -2,7 +2,7 @@
 use Rattle.std.specs.Prelude.{◌≡◌, ℕ, Bool, true, not, ◌==◌, IsTrue, List, [], ◌∷◌, map, codes, string_bytes, String, All}
 use Rattle.std.specs.declared.alloc.Global.{Global}
 use Rattle.baseline_app.specs.declared.words.Job.{Job}
-use Rattle.baseline_app.specs.declared.words.Job.TheVariants.{Zero}
+use Rattle.baseline_app.specs.declared.words.Job.TheVariants as job
 
 abbrev pub texts_of : List (String Global) → List (List ℕ)
 texts_of words = map (λ w. string_bytes w) words
@@ -19,8 +19,10 @@ pub record IsCommand (command : List ℕ) (files words : List (List ℕ)) : Type
   pub ordinary : All (λ file. IsTrue (is_file_word file)) files
 
 abbrev pub IsJob : List (List ℕ) → Job → Type 0
-IsJob words (Zero rows) = IsCommand (codes "zero") (rows ∷ []) words
+IsJob words (job.Zero rows) = IsCommand (codes "zero") (rows ∷ []) words
+IsJob words (job.List obs) = IsCommand (codes "list") (obs ∷ []) words
 
 -- the words of a job that stand for files
 abbrev pub file_words : Job → List (List ℕ)
-file_words (Zero rows) = rows ∷ []
+file_words (job.Zero rows) = rows ∷ []
+file_words (job.List obs) = obs ∷ []

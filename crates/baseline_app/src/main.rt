@@ -10,6 +10,7 @@
 #![tactic(auto)]
 
 mod answer;
+mod list;
 mod status;
 #[cfg(test)]
 mod tests;

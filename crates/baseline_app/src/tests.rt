@@ -281,3 +281,37 @@ fn each_call_on_a_sink_fails(rt: HostRuntime) -> Result<(), Fail> {
     expect_run(&rt, &ran, Status::Refused, "", "refused");
     Ok(())
 }
+
+const OBS: &str =
+    "     3.04           OBSERVATION DATA    G                   RINEX VERSION / TYPE\n\
+G    1 C1C                                                  SYS / # / OBS TYPES\n\
+\x20                                                           END OF HEADER\n\
+> 2024 01 01 00 00  0.0000000  0  1\n\
+G05  22123456.789\n\
+> 2024 01 01 00 00 30.0000000  0  2\n\
+G05\n\
+G12\n";
+
+#[test]
+fn lists(rt: HostRuntime) -> Result<(), Fail> {
+    let alloc = rt.alloc();
+    let listed =
+        "version 3.04\nepochs 2\nfirst 13881024000000000\nlast 13881024300000000\nG05 2\nG12 1\n";
+    let none = "refused: F line 1 column 1: version not 3.00 to 3.05\n";
+    let rows = [
+        (OBS, Status::Done, listed, ""),
+        ("", Status::Refused, "", none),
+        ("\n\n", Status::Refused, "", none),
+    ];
+    for (text, status, out, err) in rows {
+        let ran = run_on(
+            alloc,
+            &["list", "F"],
+            text.as_bytes(),
+            1000,
+            Fails::none(alloc),
+        )?;
+        expect_run(&rt, &ran, status, out, err);
+    }
+    Ok(())
+}

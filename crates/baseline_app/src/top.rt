@@ -9,9 +9,11 @@ ghost use Rattle.baseline_app.specs.Answers.{ending_of, IfEnded};
 ghost use Rattle.baseline_app.specs.Endings.{ending};
 ghost use Rattle.baseline_app.specs.Jobs.{JobEnds, IsReadable, IsAnswer};
 ghost use Rattle.baseline_app.specs.ZeroRuns.{SaysOfZero};
+ghost use Rattle.baseline_app.specs.ListRuns.{SaysOfList};
 ghost use Rattle.baseline_app.specs.Runs.{sink_change, IsDelivered, IsRun, IsComplete};
 
 use crate::answer::{Answer, Stop};
+use crate::list::list;
 use crate::status::Status;
 use crate::words::{Job, WordFault, read_words};
 use crate::zero::zero;
@@ -28,6 +30,7 @@ fn do_job<F: Files>(alloc: Global, job: &Job, files: &mut F) -> Result<Answer, S
 {
     match job {
         Job::Zero { rows } => zero(alloc, files, rows.as_str()),
+        Job::List { obs } => list(alloc, files, obs.as_str()),
     }
 }
 
@@ -78,6 +81,8 @@ pub fn run<F: Files, O: Sink, E: Sink>(
         → result ≢ Status.ReadFault }
     ensures write { result ≡ Status.WriteFault → Rose (O.faults out.old) (O.faults out.new) ⊎ Rose (E.faults err.old) (E.faults err.new) }
     ensures zero { (rows : List ℕ) → IsJob (texts_of words.now) (Job.Zero rows) → SaysOfZero (F.text_of files.old) rows result
+        (sink_change (O.contents out.old) (O.contents out.new) (O.faults out.old) (O.faults out.new)) }
+    ensures list { (obs : List ℕ) → IsJob (texts_of words.now) (Job.List obs) → SaysOfList (F.text_of files.old) obs result
         (sink_change (O.contents out.old) (O.contents out.new) (O.faults out.old) (O.faults out.new)) }
     ensures usage { result ≡ Status.Usage → (job : Job) → IsJob (texts_of words.now) job → ⊥ }
     ensures complete { (job : Job) → IsJob (texts_of words.now) job → IsReadable job (F.text_of files.old)

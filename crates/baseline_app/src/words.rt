@@ -1,5 +1,5 @@
 // The words of the command line.
-ghost use Rattle.std.specs.Prelude.{◌≡◌, IfOk, IsErrOf, string_bytes};
+ghost use Rattle.std.specs.Prelude.{◌≡◌, ◌∷◌, [], IfOk, IsErrOf, IsTrue, string_bytes};
 ghost use Rattle.baseline_app.specs.declared.words.Job.{Job};
 ghost use Rattle.baseline_app.specs.declared.words.WordFault.TheVariants.{NoMemory};
 ghost use Rattle.baseline_app.specs.Words.{texts_of, is_file_word, IsJob};
@@ -44,6 +44,8 @@ impl Word {
 pub enum Job {
     /// Whether a claimed whole number is strictly best for differences.
     Zero { rows: Word },
+    /// What an observation file holds.
+    List { obs: Word },
 }
 
 /// Why the words are no job.
@@ -79,10 +81,26 @@ pub fn read_words(alloc: Global, words: &[String]) -> Result<Job, WordFault>
     ensures usage { IsErrOf result WordFault.Usage → (job : Job) → IsJob (texts_of words.now) job → ⊥ }
 {
     match words {
-        [command, rows] if command.as_str() == "zero" && is_ordinary(rows.as_str()) => {
-            let rows = Word::copy_of(alloc, rows.as_str())?;
-            Ok(Job::Zero { rows })
+        [command, file] if is_ordinary(file.as_str()) => {
+            file_job(alloc, command.as_str(), file.as_str())
         }
         _ => Err(WordFault::Usage),
     }
+}
+
+// The job of a command with one file.
+fn file_job(alloc: Global, command: &str, file: &str) -> Result<Job, WordFault>
+    requires { IsTrue (is_file_word file.now) }
+    ensures job { IfOk result (λ job. IsJob (command.now ∷ file.now ∷ []) job) }
+    ensures usage { IsErrOf result WordFault.Usage → (job : Job) → IsJob (command.now ∷ file.now ∷ []) job → ⊥ }
+{
+    if command == "zero" {
+        let rows = Word::copy_of(alloc, file)?;
+        return Ok(Job::Zero { rows });
+    }
+    if command == "list" {
+        let obs = Word::copy_of(alloc, file)?;
+        return Ok(Job::List { obs });
+    }
+    Err(WordFault::Usage)
 }

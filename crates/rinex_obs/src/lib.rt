@@ -10,11 +10,8 @@ mod reader;
 mod sat_lines;
 mod types;
 
-pub use epoch_lines::EpochLine;
-pub use header_lines::{HeaderLine, Label};
 pub use reader::read_obs;
 pub use rinex_head::TextFault as ObsFault;
-pub use types::{KeptType, TypeList, TypeNames};
 
 #[cfg(test)]
 mod tests;
