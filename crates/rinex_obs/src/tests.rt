@@ -239,3 +239,77 @@ fn refuses_headers(rt: HostRuntime) -> Result<(), Fail> {
     }
     Ok(())
 }
+
+fn place_of(rt: &impl Abort, alloc: Global, parts: &[&str]) -> Result<Option<At>, AllocError> {
+    match read(rt, alloc, parts)? {
+        Ok(_) => Ok(None),
+        Err(at) => Ok(Some(at)),
+    }
+}
+
+#[test]
+fn reads_lines_with_returns(rt: HostRuntime) -> Result<(), Fail> {
+    let alloc = rt.alloc();
+    let text = text_of(
+        alloc,
+        &[FIRST, TYPES, COMMENT, END, EPOCH, "G05  22123456.789\n"],
+    )?;
+    let mut returns = String::new(alloc);
+    for c in text.as_str().chars() {
+        if c == '\n' {
+            returns.push('\r')?;
+        }
+        returns.push(c)?;
+    }
+    let file = read_well(&rt, alloc, &[returns.as_str()])?;
+    let code = Value {
+        amount: 22_123_456_789,
+        lock: 0,
+    };
+    assert_eq!(rt; value_of(&rt, &file, 0, ObsType::C1C), Some(code));
+    Ok(())
+}
+
+#[test]
+fn keeps_the_limits(rt: HostRuntime) -> Result<(), Fail> {
+    let alloc = rt.alloc();
+    let mut blanks = String::new(alloc);
+    for _ in 0..4093 {
+        blanks.push(' ')?;
+    }
+    let full = [FIRST, TYPES, END, EPOCH, "G05", blanks.as_str()];
+    assert_eq!(rt; place_of(&rt, alloc, &full)?, None);
+    let long = [FIRST, TYPES, END, EPOCH, "G05 ", blanks.as_str()];
+    let what = What::LongLine;
+    assert_eq!(rt;
+        place_of(&rt, alloc, &long)?,
+        Some(At {
+            line: 5,
+            column: 1,
+            what
+        })
+    );
+    let mut text = text_of(alloc, &[FIRST, TYPES, END])?;
+    for k in 0..20_000u32 {
+        let hour = k / 3600;
+        let minute = k / 60 % 60;
+        let second = k % 60;
+        let line = format!(in alloc;
+            "> 2024 01 01 {hour:02} {minute:02}{second:>3}.0000000  0  0\n"
+        )?;
+        text.push_str(line.as_str())?;
+    }
+    let file = read_well(&rt, alloc, &[text.as_str()])?;
+    assert_eq!(rt; file.epochs.len(), 20_000);
+    let what = What::TooMany;
+    let more = [text.as_str(), EPOCH];
+    assert_eq!(rt;
+        place_of(&rt, alloc, &more)?,
+        Some(At {
+            line: 20_004,
+            column: 1,
+            what
+        })
+    );
+    Ok(())
+}
