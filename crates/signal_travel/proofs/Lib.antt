@@ -1,0 +1,4 @@
+pub mod Products
+pub mod MaskLaws
+pub mod GridPlaces
+pub mod AboveLaws

@@ -1,0 +1,32 @@
+-- What the boxes of a seen place say.
+use Rattle.std.specs.Prelude.{◌*◌, List, [], ◌∷◌, ℤ, pos, ◌≤ℤ◌}
+use Rattle.whole_math.specs.Vectors.{squared_norm}
+use Rattle.rational.specs.Rational.{Rational, AreWithin, two_to_minus}
+use Rattle.iv_core.specs.declared.Iv.{Iv}
+use Rattle.iv_core.specs.Intervals.{Holds}
+use Rattle.signal_travel.specs.SeenPlaces.{Place}
+
+-- a point in units of 0.1 mm that is from 6,000 km to 7,000 km from the Earth's centre
+abbrev pub IsPoint : List ℤ → Type 0
+IsPoint p = (pos (60000000000 * 60000000000) ≤ℤ squared_norm p) × (squared_norm p ≤ℤ pos (70000000000 * 70000000000))
+
+-- each rational lies in the box in its place, and the lists are equally long
+abbrev pub HoldsEach : List (Iv 36) → List Rational → Type 0
+HoldsEach [] [] = Unit {0}
+HoldsEach [] (q ∷ qs) = ⊥
+HoldsEach (b ∷ bs) [] = ⊥
+HoldsEach (b ∷ bs) (q ∷ qs) = Holds b q × HoldsEach bs qs
+
+-- each coordinate lies in its box
+abbrev pub HoldsPlace : List (Iv 36) → Place → Type 0
+HoldsPlace boxes p = HoldsEach boxes (p.x ∷ p.y ∷ p.z ∷ [])
+
+-- each coordinate is within 2^-17 m of that coordinate of every place in the boxes
+abbrev pub IsNearPlaces : List (Iv 36) → Place → Type 0
+IsNearPlaces boxes p = (q : Place) → HoldsPlace boxes q → AreWithin (two_to_minus 17) p.x q.x × AreWithin (two_to_minus 17) p.y q.y × AreWithin (two_to_minus 17) p.z q.z
+
+-- some such place has the property P
+pub record HasNearPlace (boxes : List (Iv 36)) (P : Place → Type 0) : Type 0 where
+  pub place : Place
+  pub near : IsNearPlaces boxes place
+  pub has : P place

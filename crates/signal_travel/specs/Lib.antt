@@ -1,0 +1,3 @@
+pub mod SeenPlaces
+pub mod Boxes
+pub mod Grid

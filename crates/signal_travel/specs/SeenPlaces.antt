@@ -1,0 +1,85 @@
+-- Where a receiver sees a satellite, over rationals: metres and seconds, in the Earth-fixed frame of the moment of reception.
+use Rattle.std.specs.Prelude.{ℕ, ◌*◌, ◌^◌, ℤ, pos, ◌⊎◌}
+use Rattle.std.proofs.Common.{lit<}
+use Rattle.rational.specs.Rational.{Rational, ◌≈◌, ◌≤ʳ◌, ◌<ʳ◌, of_whole, add_r, sub_r, mul_r, divided, IsNearRoot}
+use Rattle.trig_box.specs.AnglePairs.{Pair, IsAnglePair}
+use Rattle.sv_orbit.specs.Elements.{earth_rate}
+
+pub record Place : Type 0 where
+  pub x : Rational
+  pub y : Rational
+  pub z : Rational
+
+abbrev pub difference : Place → Place → Place
+difference p q = record { x = sub_r p.x q.x; y = sub_r p.y q.y; z = sub_r p.z q.z }
+
+abbrev pub dot : Place → Place → Rational
+dot p q = add_r (add_r (mul_r p.x q.x) (mul_r p.y q.y)) (mul_r p.z q.z)
+
+-- |p|²
+abbrev pub square : Place → Rational
+square p = dot p p
+
+-- a point whose coordinates are given in units of 0.1 mm
+abbrev pub point_of : ℤ → ℤ → ℤ → Place
+point_of a b c = record { x = divided (of_whole a) 10000 (lit< tt); y = divided (of_whole b) 10000 (lit< tt); z = divided (of_whole c) 10000 (lit< tt) }
+
+-- ---- the seen place
+-- q / c², c the speed of light in m/s
+abbrev pub over_light_speed_squared : Rational → Rational
+over_light_speed_squared q = divided q (299792458 * 299792458) (lit< tt)
+
+-- a place that the Earth turns away from by the angle of the pair: (C X + S Y, -S X + C Y, Z)
+abbrev pub turned_back : Pair → Place → Place
+turned_back turn p = record {
+  x = add_r (mul_r turn.cos p.x) (mul_r turn.sin p.y);
+  y = sub_r (mul_r turn.cos p.y) (mul_r turn.sin p.x);
+  z = p.z;
+}
+
+abbrev pub AreSamePlace : Place → Place → Type 0
+AreSamePlace p q = (p.x ≈ q.x) × (p.y ≈ q.y) × (p.z ≈ q.z)
+
+-- `seen` is where a receiver at `point` sees the satellite that sent from `sent`, after the travel time: a near-root of
+-- |seen - point|² / c², in which the Earth turned by its rate times this time
+pub record IsSeenPlace (sent point : Place) (travel : Rational) (seen : Place) : Type 0 where
+  pub turn : Pair
+  pub turn_is : IsAnglePair 5 (mul_r earth_rate travel) turn.cos turn.sin
+  pub seen_is : AreSamePlace seen (turned_back turn sent)
+  pub travel_is : IsNearRoot travel (over_light_speed_squared (square (difference seen point)))
+
+-- c times the travel time
+abbrev pub range_of : Rational → Rational
+range_of travel = mul_r (of_whole (pos 299792458)) travel
+
+-- ---- the mean direction
+-- a displacement is at most 16 m
+abbrev pub IsDisplacement : Place → Type 0
+IsDisplacement move = square move ≤ʳ of_whole (pos 256)
+
+-- the exact change of the range over a displacement, as a direction: -(2 (seen - point) - move) over the sum of near-roots
+-- of |seen - point|² and |seen - point - move|². Its product with the displacement is the change of the range, but for the slack of the roots
+pub record IsMeanDirection (seen point move direction : Place) : Type 0 where
+  pub before : Rational
+  pub after : Rational
+  pub before_is : IsNearRoot before (square (difference seen point))
+  pub after_is : IsNearRoot after (square (difference (difference seen point) move))
+  pub x_is : mul_r direction.x (add_r before after) ≈ sub_r move.x (mul_r (of_whole (pos 2)) (sub_r seen.x point.x))
+  pub y_is : mul_r direction.y (add_r before after) ≈ sub_r move.y (mul_r (of_whole (pos 2)) (sub_r seen.y point.y))
+  pub z_is : mul_r direction.z (add_r before after) ≈ sub_r move.z (mul_r (of_whole (pos 2)) (sub_r seen.z point.z))
+
+-- ---- the mask
+-- mask² |seen - point|² |point|², and 10^6 ((seen - point) · point)²
+abbrev pub mask_side : ℕ → Place → Place → Rational
+mask_side mask seen point = mul_r (of_whole (pos (mask * mask))) (mul_r (square (difference seen point)) (square point))
+
+abbrev pub height_side : Place → Place → Rational
+height_side seen point = mul_r (of_whole (pos (10 ^ 6))) (mul_r (dot (difference seen point) point) (dot (difference seen point) point))
+
+-- the sine of the elevation, above the plane across the line from the Earth's centre to the point, is at least mask / 1000
+abbrev pub IsAboveMask : ℕ → Place → Place → Type 0
+IsAboveMask mask seen point = (of_whole (pos 0) ≤ʳ dot (difference seen point) point) × (mask_side mask seen point ≤ʳ height_side seen point)
+
+-- the sine is less
+abbrev pub IsBelowMask : ℕ → Place → Place → Type 0
+IsBelowMask mask seen point = (dot (difference seen point) point <ʳ of_whole (pos 0)) ⊎ (height_side seen point <ʳ mask_side mask seen point)

@@ -1,0 +1,55 @@
+//! Travel time of a signal, the place where a receiver sees the satellite, directions and the mask.
+#![tactic(auto)]
+
+ghost use Rattle.std.specs.Prelude.{◌≡◌, ℕ, ◌*◌, ◌^◌, ◌≤◌, ℤ, pos, ◌≤ℤ◌, [], ◌∷◌, All, IsTrue, false};
+ghost use Rattle.iv_core.specs.declared.Iv.{Iv};
+ghost use Rattle.iv_core.specs.Intervals.{width_of};
+ghost use Rattle.sv_orbit.specs.Places.{IsBetweenDistances};
+ghost use Rattle.signal_travel.specs.SeenPlaces.{point_of, IsAboveMask, IsBelowMask};
+ghost use Rattle.signal_travel.specs.Boxes.{IsPoint, HasNearPlace};
+
+mod mask;
+mod wide;
+
+use iv_core::Iv;
+use mask::{is_above, offset_of};
+
+/// Where a receiver sees a satellite, in metres at scale 2^-36 and in the Earth-fixed frame of the moment of reception, with its
+/// range in metres at 2^-36 and the signal's travel time in seconds at 2^-60.
+///
+/// Each coordinate and the range are at most 2^-17 m wide; the range is at least 10,000 km, and every place in the box is from
+/// 18,900 km to 38,100 km from the Earth's centre.
+#[derive(Clone, Copy, Debug)]
+pub struct SeenBox {
+    pub place: [Iv<36>; 3],
+    pub range: Iv<36>,
+    pub travel: Iv<60>,
+    pub ghost narrow: { All (λ b. width_of b ≤ℤ pos (2 ^ 19)) place },
+    pub ghost away: { (a b c : Iv 36) → place ≡ a ∷ b ∷ c ∷ [] → IsBetweenDistances 18900000 38100000 a b c },
+    pub ghost range_narrow: { width_of range ≤ℤ pos (2 ^ 19) },
+    pub ghost range_far: { pos (10000000 * 2 ^ 36) ≤ℤ range.lo },
+}
+
+/// Whether the satellite is high enough at `point`, in units of 0.1 mm: whether the sine of its elevation, above the plane across
+/// the line from the Earth's centre, is at least `mask` / 1000. It is decided exactly at one place, which is within 2^-17 m in each
+/// coordinate of every place in the box.
+pub fn above(seen: &SeenBox, point: &[i64; 3], mask: u32) -> bool
+    requires point { IsPoint point.now }
+    requires mask { mask ≤ 1000 }
+    ensures kept { IsTrue result → (a b c : ℤ) → point.now ≡ a ∷ b ∷ c ∷ [] →
+        HasNearPlace seen.now.place (λ g. IsAboveMask mask g (point_of a b c)) }
+    ensures left_out { result ≡ false → (a b c : ℤ) → point.now ≡ a ∷ b ∷ c ∷ [] →
+        HasNearPlace seen.now.place (λ g. IsBelowMask mask g (point_of a b c)) }
+{
+    let [x, y, z] = seen.place;
+    let [p, q, r] = *point;
+    is_above(
+        mask,
+        offset_of(x.lo, p),
+        offset_of(y.lo, q),
+        offset_of(z.lo, r),
+        p,
+        q,
+        r,
+    )
+}
