@@ -1,0 +1,5 @@
+pub mod Scales
+pub mod Signs
+pub mod ChosenLaws
+pub mod ProfileLaws
+pub mod FitLaws
