@@ -1,0 +1,4 @@
+pub mod Words
+pub mod SmallEntries
+pub mod NewEntries
+pub mod StepLaws

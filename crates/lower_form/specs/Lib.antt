@@ -1,0 +1,2 @@
+pub mod StepEntries
+pub mod Stops
