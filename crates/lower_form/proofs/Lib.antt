@@ -2,3 +2,4 @@ pub mod Words
 pub mod SmallEntries
 pub mod NewEntries
 pub mod StepLaws
+pub mod StoredLaws

@@ -57,3 +57,6 @@ form_wide e j (suc k) r c a b d h = ⊎_elim
 
 pub small_size : (x : ℤ) → is_small x ≡ true → unsigned_abs x ≤ 2 ^ 62
 small_size x e = omega (arith, ltb-true)
+
+pub small_entry : (x : ℤ) → is_small x ≡ true → unsigned_abs x ≤ 2 ^ 52
+small_entry x e = omega (arith, ltb-true)

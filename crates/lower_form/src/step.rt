@@ -132,6 +132,9 @@ pub(crate) fn step(
     requires entries { (r c : ℕ) → j ≤ r → r ≤ c → c < columns → unsigned_abs (entry table.old r c) ≤ 2 ^ 52 }
     ensures taken { IfOk result (λ d. elimination j (column_at table.old j (columns - j - 1)) (form_after table.old j (columns - j - 1)) ≡ Ok (factor_at d factors.new j (columns - j - 1), form_after table.new j (columns - j - 1))) }
     ensures refused { IfErr result (λ e. elimination j (column_at table.old j (columns - j - 1)) (form_after table.old j (columns - j - 1)) ≡ Err (refusal_of j (entry table.old j j) e)) }
+    ensures small { IfOk result (λ d. (r c : ℕ) → j < r → r ≤ c → c < columns → unsigned_abs (entry table.new r c) ≤ 2 ^ 52) }
+    ensures size { IfOk result (λ d. unsigned_abs d ≤ 2 ^ 53) }
+    ensures others { (i c : ℕ) → c ≢ j → entry factors.new i c ≡ entry factors.old i c }
 {
     let a = table.at(j, j);
     if a < LEAST_PIVOT {

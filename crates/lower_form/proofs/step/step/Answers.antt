@@ -11,7 +11,7 @@ use Rattle.lower_form.specs.StepEntries.{is_small, factor_entry, new_entry}
 use Rattle.lower_form.specs.Stops.{column_at, form_after}
 use Rattle.lower_form.proofs.Words.{as_w128}
 use Rattle.lower_form.proofs.NewEntries.{positive_is}
-use Rattle.lower_form.proofs.SmallEntries.{list_small, list_wide, form_all_small, form_wide}
+use Rattle.lower_form.proofs.SmallEntries.{list_small, list_wide, form_all_small, form_wide, small_entry}
 use Rattle.lower_form.proofs.StepLaws.{step_tests, factors_are, next_is, above}
 use Rattle.lower_form.proofs.step.step.Goals as goal
 
@@ -73,3 +73,6 @@ returns-clause-taken c =
   where
     answer : (d e : ℤ) (s t : List ℤ) (a b : List Column) → d ≡ e → s ≡ t → a ≡ b → let x : Result (Factor × List Column) Refusal = Ok (record { d = d; l = s }, a) in let y : Result (Factor × List Column) Refusal = Ok (record { d = e; l = t }, b) in x ≡ y
     answer d e s t a b f g h = ap (λ (z : ℤ). let x : Result (Factor × List Column) Refusal = Ok (record { d = z; l = s }, a) in x) f ∙ ap (λ (z : List ℤ). let x : Result (Factor × List Column) Refusal = Ok (record { d = e; l = z }, a) in x) g ∙ ap (λ (z : List Column). let x : Result (Factor × List Column) Refusal = Ok (record { d = e; l = t }, z) in x) h
+
+pub returns-clause-small : goal.returns-clause-small
+returns-clause-small c = λ r k h l g. subst (λ (z : ℤ). unsigned_abs z ≤ 2 ^ 52) (sym (c.update.ensures.value c.if-not-update.false r k h l g)) (small_entry (new_entry c.args.table.now c.args.j (unsigned_abs (to_z w128 (of_z w128 c.at-a.result))) (pos ((c.args.columns - c.args.j) - 1)) r k) (c.update.ensures.small c.if-not-update.false r k h l g))

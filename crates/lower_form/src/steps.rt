@@ -1,0 +1,50 @@
+//! The elimination of several columns.
+ghost use Rattle.std.specs.Prelude.{◌≡◌, ℕ, ◌+◌, ◌-◌, ◌^◌, ◌<◌, ◌≤◌, unsigned_abs, OnOk, IfErr, Ok, Err};
+ghost use Rattle.quadratic_form.specs.Elimination.{steps};
+ghost use Rattle.quadratic_form.specs.Places.{form_from};
+ghost use Rattle.obs_rows.specs.Tables.{entry};
+ghost use Rattle.lower_form.specs.Stops.{refusal_of};
+ghost use Rattle.lower_form.specs.Taken.{stored};
+
+use crate::step::{Stop, step};
+use obs_rows::{FactorTable, MOST_COLUMNS, MOST_FACTORS, NormalTable};
+
+/// Where the elimination stopped: the column, its own entry, and why.
+#[derive(Clone, Copy)]
+pub(crate) struct Stopped {
+    pub(crate) column: usize,
+    pub(crate) pivot: i128,
+    pub(crate) stop: Stop,
+}
+
+/// The steps of the columns from `from` to before `end`.
+pub(crate) fn take_steps(
+    table: &mut NormalTable,
+    factors: &mut FactorTable,
+    kept: &mut [i64; MOST_FACTORS],
+    from: usize,
+    end: usize,
+    columns: usize,
+) -> Result<(), Stopped>
+    requires order { from ≤ end }
+    requires end_in { end < columns }
+    requires columns_in { columns ≤ MOST_COLUMNS }
+    requires entries { (r c : ℕ) → from ≤ r → r ≤ c → c < columns → unsigned_abs (entry table.old r c) ≤ 2 ^ 52 }
+    ensures taken { OnOk result (steps from (end - from) (form_from (entry table.old) from (columns - from)) ≡ Ok (stored kept.new factors.new columns from (end - from), form_from (entry table.new) end (columns - end))) }
+    ensures refused { IfErr result (λ e. steps from (end - from) (form_from (entry table.old) from (columns - from)) ≡ Err (refusal_of e.column e.pivot e.stop)) }
+{
+    for j in from..end {
+        let pivot = table.at(j, j);
+        match step(table, factors, j, columns) {
+            Ok(d) => kept[j] = d as i64,
+            Err(stop) => {
+                return Err(Stopped {
+                    column: j,
+                    pivot,
+                    stop,
+                });
+            }
+        }
+    }
+    Ok(())
+}
