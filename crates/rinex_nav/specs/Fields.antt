@@ -1,0 +1,40 @@
+-- Numbers in the fields of a line.
+use Rattle.std.specs.Prelude.{ℕ, ◌==◌, if◌then◌else◌, List, [], ◌∷◌, Result, Ok, Err, None, Some}
+use Rattle.std.specs.declared.option.Option.{Option}
+use Rattle.decimal_text.specs.Whole.{are_digits, number_from}
+use Rattle.decimal_text.specs.Exp.{dec_of}
+use Rattle.decimal_text.specs.declared.exponent.Dec.{Dec}
+use Rattle.decimal_text.specs.declared.fixed.NumberFault.{NumberFault}
+use Rattle.rinex_head.specs.declared.place.Flaw.{Flaw}
+use Rattle.rinex_head.specs.declared.place.What.TheVariants.{BadField}
+use Rattle.rinex_head.specs.Columns.{columns}
+use Rattle.rinex_head.specs.Places.{and_then, flawed}
+
+abbrev pub without_blanks : List ℕ → List ℕ
+without_blanks [] = []
+without_blanks (b ∷ bs) = if b == 32 then without_blanks bs else b ∷ bs
+
+-- A whole number in a field that begins at a column: digits behind blanks in place of zeros, or blanks alone.
+abbrev pub digits_of : ℕ → List ℕ → Result (Option ℕ) Flaw
+digits_of first [] = Ok None
+digits_of first (b ∷ bs) = if are_digits (b ∷ bs) then Ok (Some (number_from 0 (b ∷ bs))) else flawed first BadField
+
+abbrev pub whole_of : ℕ → List ℕ → Result (Option ℕ) Flaw
+whole_of first field = digits_of first (without_blanks field)
+
+-- a whole number that must be there
+abbrev pub required : ℕ → Option ℕ → Result ℕ Flaw
+required first None = flawed first BadField
+required first (Some n) = Ok n
+
+abbrev pub filled_of : ℕ → List ℕ → Result ℕ Flaw
+filled_of first field = and_then (whole_of first field) (λ n. required first n)
+
+-- a number that must be there and can be read
+abbrev pub readable : ℕ → Result Dec NumberFault → Result Dec Flaw
+readable first (Ok d) = Ok d
+readable first (Err fault) = flawed first BadField
+
+-- the number with an exponent in the 19 columns from one on
+unfoldable pub number_in : List ℕ → ℕ → Result Dec Flaw
+number_in line first = readable first (dec_of (columns line first 19))

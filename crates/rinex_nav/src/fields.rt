@@ -1,0 +1,129 @@
+// Numbers in the fields of a line.
+ghost use Rattle.std.specs.Prelude.{◌≡◌, ◌+◌, ◌<◌, ◌≤◌, ◌^◌, length, IfOk, IfSome, true};
+ghost use Rattle.decimal_text.specs.Whole.{are_digits, number_from};
+ghost use Rattle.decimal_text.specs.Fixed.{are_blank};
+ghost use Rattle.decimal_text.specs.Exp.{dec_of};
+ghost use Rattle.rinex_head.specs.Columns.{column, columns};
+ghost use Rattle.rinex_nav.specs.Fields.{without_blanks, whole_of, filled_of, readable, number_in};
+
+use decimal_text::{Dec, read_exp};
+use rinex_head::{Flaw, What, field};
+
+fn skip_blanks(text: &[u8]) -> &[u8]
+    ensures value { result.now ≡ without_blanks text.now }
+    ensures shorter { length result.now ≤ length text.now }
+{
+    let mut rest = text;
+    while let [b, after @ ..] = rest {
+        if *b != b' ' {
+            return rest;
+        }
+        rest = after;
+    }
+    rest
+}
+
+fn all_digits(text: &[u8]) -> bool
+    ensures { result ≡ are_digits text.now }
+{
+    let mut rest = text;
+    while let [b, after @ ..] = rest {
+        if *b < b'0' || *b > b'9' {
+            return false;
+        }
+        rest = after;
+    }
+    true
+}
+
+fn number_of(digits: &[u8]) -> u16
+    requires few { length digits.now ≤ 4 }
+    requires digits { are_digits digits.now ≡ true }
+    ensures value { result ≡ number_from 0 digits.now }
+    ensures small { result ≤ 9999 }
+    ensures of_two { length digits.now ≤ 2 → result ≤ 99 }
+{
+    let mut number: u16 = 0;
+    let mut rest = digits;
+    while let [b, after @ ..] = rest {
+        number = 10 * number + (*b - b'0') as u16;
+        rest = after;
+    }
+    number
+}
+
+/// The whole number in a field of at most four columns that begins at this one, if they aren't all blank.
+pub fn whole_number(field: &[u8], first: u32) -> Result<Option<u16>, Flaw>
+    requires { length field.now ≤ 4 }
+    ensures value { result ≡ whole_of first field.now }
+    ensures small { IfOk result (λ found. IfSome found (λ n. n ≤ 9999)) }
+    ensures of_two { length field.now ≤ 2 → IfOk result (λ found. IfSome found (λ n. n ≤ 99)) }
+{
+    let digits = skip_blanks(field);
+    if digits.is_empty() {
+        return Ok(None);
+    }
+    if !all_digits(digits) {
+        return Err(bad_field(first));
+    }
+    Ok(Some(number_of(digits)))
+}
+
+/// The same, where the number must be there.
+pub fn filled_number(field: &[u8], first: u32) -> Result<u16, Flaw>
+    requires { length field.now ≤ 4 }
+    ensures value { result ≡ filled_of first field.now }
+    ensures small { IfOk result (λ n. n ≤ 9999) }
+    ensures of_two { length field.now ≤ 2 → IfOk result (λ n. n ≤ 99) }
+{
+    match whole_number(field, first) {
+        Ok(Some(number)) => Ok(number),
+        Ok(None) => Err(bad_field(first)),
+        Err(flaw) => Err(flaw),
+    }
+}
+
+// The number with an exponent that the text spells.
+fn exponent_number(text: &[u8], first: u32) -> Result<Dec, Flaw>
+    requires { length text.now ≤ 4096 }
+    ensures { result ≡ readable first (dec_of text.now) }
+{
+    match read_exp(text) {
+        Ok(number) => Ok(number),
+        Err(_) => Err(bad_field(first)),
+    }
+}
+
+/// The number with an exponent in the 19 columns from this one on.
+#[tactic(auto, unfolding(crate::specs::Fields::number_in))]
+pub fn number(line: &[u8], first: u32) -> Result<Dec, Flaw>
+    requires from_one { 1 ≤ first }
+    requires near { first ≤ 100 }
+    ensures { result ≡ number_in line.now first }
+{
+    exponent_number(&field::<19>(line, first as usize), first)
+}
+
+/// Whether each byte is blank.
+pub fn is_blank_line(line: &[u8]) -> bool
+    ensures { result ≡ are_blank line.now }
+{
+    let mut rest = line;
+    while let [b, after @ ..] = rest {
+        if *b != b' ' {
+            return false;
+        }
+        rest = after;
+    }
+    true
+}
+
+/// The field that begins at this column can't be read.
+pub fn bad_field(column: u32) -> Flaw
+    ensures { result ≡ record { column = column; what = What.BadField } }
+{
+    Flaw {
+        column,
+        what: What::BadField,
+    }
+}

@@ -1,0 +1,31 @@
+// The whole text.
+ghost use Rattle.std.specs.Prelude.{◌≤◌, length};
+ghost use Rattle.line_source.specs.Lines.{lines_of};
+ghost use Rattle.rinex_head.specs.Walk.{rest_gives, Gives};
+ghost use Rattle.rinex_nav.specs.NavRules.{First, nav_rules, nav_of};
+
+use crate::body::read_records;
+use crate::header::read_header;
+use eph_store::NavFile;
+use line_source::Lines;
+use rinex_head::TextFault;
+use std::alloc::Global;
+
+/// The GPS records of a navigation file (RINEX 3.00 to 3.05), or the first place at which the text is none.
+///
+/// A record's numbers are decimals in the units of the file. Records of other systems are skipped.
+pub fn read_nav(alloc: Global, text: &[u8]) -> Result<NavFile, TextFault>
+    requires { length text.now ≤ 67_108_864 }
+    ensures { Gives (nav_of (lines_of text.now)) (λ file. file.all) result }
+{
+    read_lines(alloc, Lines::new(text))
+}
+
+fn read_lines(alloc: Global, mut lines: Lines<'_>) -> Result<NavFile, TextFault>
+    ensures { Gives (rest_gives nav_rules lines.entry First) (λ file. file.all) result }
+{
+    match read_header(&mut lines) {
+        Ok(()) => read_records(alloc, &mut lines),
+        Err(at) => Err(TextFault::Refused(at)),
+    }
+}
