@@ -9,3 +9,6 @@ mod record_lines;
 
 pub use reader::read_nav;
 pub use rinex_head::TextFault as NavFault;
+
+#[cfg(test)]
+mod tests;
