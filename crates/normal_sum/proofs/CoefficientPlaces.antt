@@ -1,7 +1,7 @@
 -- The places that hold the coefficients of a row.
 use Rattle.std.proofs.Common.{◌≡◌, ◌≢◌, ◌⊎◌, ⊎_elim, ℕ, zero, suc, ◌+◌, ◌<◌, ◌≤◌, List, [], ◌∷◌, ◌++◌, length, ℤ, pos, neg_ℤ, Option, Some, None, IfSome, replicate, set, unsigned_abs, slice_index_or, get_or-set_same, get_or-set_other, length-set, length-append, arith, sym, ap, ◌∙◌, refl, subst}
 use Rattle.std.proofs.lemmas.Bool.{cases_eq}
-use Rattle.std.proofs.lemmas.List.{get_or-replicate, get_or_append_left, get_or_push, get_or_past, length-replicate}
+use Rattle.std.proofs.lemmas.List.{get_or_append_left, get_or_push, get_or_past, length-replicate}
 use Rattle.whole_math.specs.Vectors.{zeros}
 use Rattle.quadratic_form.specs.MatrixEntries.{coefficient}
 use Rattle.obs_rows.specs.declared.arcs.Arc.{Arc}

@@ -1,18 +1,17 @@
 -- What the value of the normal matrix is to the sum of squares.
-use Rattle.std.proofs.Common.{◌≡◌, ℕ, ◌+◌, ◌*◌, ◌<◌, ◌≤◌, List, [], ◌∷◌, ◌++◌, length, map, ℤ, pos, ◌+ℤ◌, ◌-ℤ◌, ◌*ℤ◌, arith, sym, ap, ap₂, ◌∙◌, refl, subst}
+use Rattle.std.proofs.Common.{◌≡◌, ℕ, ◌*◌, ◌<◌, List, [], ◌∷◌, ◌++◌, length, map, ℤ, pos, ◌+ℤ◌, ◌-ℤ◌, ◌*ℤ◌, sym, ap, ap₂, ◌∙◌, refl, subst}
 use Rattle.whole_math.proofs.Ring.{◌⊕◌, ◌⊖◌, ◌⊗◌}
 use Rattle.whole_math.proofs.Inequalities.{same_by, nat}
 use Rattle.whole_math.specs.Vectors.{len, dot}
 use Rattle.rational.specs.Rational.{Rational, ◌≈◌, ◌≤ʳ◌, of_whole, mul_r}
-use Rattle.rational.specs.Over.{Over}
 use Rattle.quadratic_form.specs.Forms.{Column, quad}
 use Rattle.quadratic_form.specs.Spread.{spread}
 use Rattle.quadratic_form.specs.Rows.{SignalRow, SignalGroup, WholeData, WholeBaseline, Radii, coefficients, columns, columns_at, share, matrix, radii, bounding_form, RowsOf, GroupsOf, whole_residual, whole_residuals, whole_sum_of_squares}
-use Rattle.quadratic_form.specs.RationalData.{RowData, Baseline}
+use Rattle.quadratic_form.specs.RationalData.{RowData}
 use Rattle.quadratic_form.specs.Places.{form_from}
 use Rattle.quadratic_form.specs.MatrixEntries.{matrix_entry}
 use Rattle.quadratic_form.proofs.Places.{form_same}
-use Rattle.quadratic_form.proofs.NormalForm.{split, error, values, sum_spreads, matrix_at_centres}
+use Rattle.quadratic_form.proofs.NormalForm.{split, values, sum_spreads, matrix_at_centres}
 use Rattle.quadratic_form.proofs.MatrixEntries.{matrix_form}
 use Rattle.quadratic_form.proofs.RationalData.{OverBase, OverRows, OverAll, bounding_over_rationals}
 use Rattle.obs_rows.specs.declared.arcs.Arc.{Arc}
@@ -29,7 +28,6 @@ use Rattle.obs_rows.proofs.GroupShapes.{groups_of}
 use Rattle.obs_rows.proofs.GroupLaws.{sum_is, data_fit}
 use Rattle.obs_rows.proofs.SessionLaws.{groups_of_vector, sum_over}
 use Rattle.normal_sum.specs.declared.normal.Normal.{Normal}
-use Rattle.normal_sum.specs.Matrices.{radius_list}
 use Rattle.normal_sum.specs.Normals.{IsNormalOf}
 use Rattle.normal_sum.specs.Values.{form_of, radii_from, bounding_of, baseline_over, value_over, IsSumAtCentres, StaysBelow}
 use Rattle.normal_sum.proofs.NormalLaws.{four_and}

@@ -1,8 +1,8 @@
 -- The steps of the sums over rows, over plain numbers.
-use Rattle.std.proofs.Common.{◌≡◌, ℕ, ◌+◌, ◌*◌, ◌^◌, ◌≤◌, List, [], ◌∷◌, ℤ, pos, ◌+ℤ◌, ◌-ℤ◌, ◌*ℤ◌, neg_ℤ, unsigned_abs, arith, sym, ap, ◌∙◌, refl, subst}
+use Rattle.std.proofs.Common.{◌≡◌, ℕ, ◌+◌, ◌*◌, ◌^◌, ◌≤◌, [], ◌∷◌, ℤ, pos, ◌+ℤ◌, ◌-ℤ◌, ◌*ℤ◌, unsigned_abs, arith, sym, ap, ◌∙◌, refl, subst}
 use Rattle.std.proofs.lemmas.Int.{ints}
 use Rattle.whole_math.proofs.Ring.{◌⊕◌, ◌⊖◌, ◌⊗◌}
-use Rattle.whole_math.proofs.Order.{lins, abs_mul_le}
+use Rattle.whole_math.proofs.Order.{abs_mul_le}
 use Rattle.whole_math.proofs.Inequalities.{same_by, nat}
 use Rattle.normal_sum.proofs.Words.{size_add}
 

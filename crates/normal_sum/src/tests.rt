@@ -130,6 +130,52 @@ fn push(
     Ok(true)
 }
 
+// What an arc's row says where all numbers are at the ends of their ranges, with changing signs.
+fn numbers_at_ends(arc: u16) -> Numbers {
+    let y = if arc % 2 == 0 { 1 << 34 } else { -(1 << 34) };
+    let u = if arc % 3 == 0 { 1 << 24 } else { -(1 << 24) };
+    let w = if arc % 2 == 0 { 1 << 24 } else { -(1 << 24) };
+    let radius = 1 << 20;
+    (arc, [y, -y, y, -y], radius, [u, -u, w], [radius; 3])
+}
+
+fn rows_at_ends(first: u16) -> [Numbers; 15]
+    requires { first < 7 }
+{
+    let mut rows = [(0, [0; 4], 0, [0; 3], [0; 3]); 15];
+    for i in 0..15 {
+        rows[i] = numbers_at_ends(first + i as u16);
+    }
+    rows
+}
+
+// 3600 pairs of 15 rows, with one datum and 20 free arcs.
+fn greatest_session(alloc: Global) -> Result<Option<Session>, AllocError> {
+    let mut arcs = Vec::new(alloc);
+    for sat in 1..22u8 {
+        arcs.push(Arc {
+            last: 3599,
+            ..arc(sat, sat == 1)
+        })?;
+    }
+    let base = [63_781_370_000, 0, 0];
+    let signals = Signals { l1: b'C', l2: b'W' };
+    if !are_arcs(&arcs) || !is_point(&base) {
+        return Ok(None);
+    }
+    let mut session = SessionBuilder::new(alloc, 0, base, base, signals, ArcList::new(arcs));
+    for number in 0..3600u32 {
+        let rows = rows_at_ends((number % 7) as u16);
+        if !push(alloc, &mut session, number, &rows)? {
+            return Ok(None);
+        }
+    }
+    if session.pairs.is_empty() {
+        return Ok(None);
+    }
+    Ok(Some(session.finish()))
+}
+
 // The entries on the diagonal and after it that are not 0, from an independent model; both halves are compared.
 fn agrees(normal: &Normal, expected: &[(usize, usize, i128)]) -> bool {
     for i in 0..normal.columns {
@@ -231,5 +277,39 @@ fn sums_a_coarse_session(rt: HostRuntime) -> Result<(), AllocError> {
             397_122_799_518_605_160
         ]
     );
+    Ok(())
+}
+
+// Whether these entries, and those mirrored on the diagonal, stand in the matrix.
+fn has_entries(normal: &Normal, expected: &[(usize, usize, i128)]) -> bool {
+    expected.iter().all(|e| e.0 < 44
+        && e.1 < 44
+        && normal.c.at(e.0, e.1) == e.2
+        && normal.c.at(e.1, e.0) == e.2)
+}
+
+// Some entries of the greatest session, from the definition by differences of each two rows of a pair.
+#[test]
+fn sums_the_greatest_session(rt: HostRuntime) -> Result<(), AllocError> {
+    let Some(session) = greatest_session(rt.alloc())? else {
+        assert!(rt; false, "the session is in range");
+        return Ok(());
+    };
+    let normal = sum(&session);
+    assert_eq!(rt; normal.columns, 44);
+    let expected = [
+        (0, 0, 97_384_767_206_124_231_705_231_360_000),
+        (0, 1, -97_384_767_206_124_231_705_231_360_000),
+        (0, 2, 1_390_438_065_109_662_641_569_136_640),
+        (0, 3, -652_970_576_785_472_225_280_000_000),
+        (3, 3, 857_023_882_030_932_295_680_000_000),
+        (3, 4, 0),
+        (4, 6, -100_819_337_233_361_063_116_800_000),
+        (42, 42, 704_365_000_709_967_194_357_760_000),
+        (42, 43, 599_496_943_980_888_442_200_391_680_000),
+        (43, 43, 114_369_169_216_880_393_070_690_039_968_563_200),
+    ];
+    assert!(rt; has_entries(&normal, &expected));
+    assert_eq!(rt; normal.r, [427_960_402_761_288_127_610_880_000; 4]);
     Ok(())
 }

@@ -1,4 +1,4 @@
-use Rattle.std.proofs.Common.{rules, ◌≡◌, ℕ, ◌+◌, ◌^◌, ◌<◌, ◌≤◌, length, pos, neg_ℤ, ◌-ℤ◌, ℤ, unsigned_abs, slice_index_or, arith, to_z, of_z, ap, sym, ◌∙◌, subst}
+use Rattle.std.proofs.Common.{rules, ℕ, ◌+◌, ◌^◌, ◌<◌, ◌≤◌, length, pos, neg_ℤ, ◌-ℤ◌, ℤ, unsigned_abs, arith, to_z, of_z, ap, sym, ◌∙◌, subst}
 use Rattle.std.specs.Int.{w64}
 use Rattle.obs_rows.specs.Data.{number_at}
 use Rattle.normal_sum.proofs.Words.{as_w64, neg_w64, size_neg}

@@ -1,4 +1,4 @@
-use Rattle.std.proofs.Common.{◌≡◌, ℕ, ◌+◌, ◌*◌, ◌^◌, ◌<◌, ◌≤◌, ◌∷◌, List, ℤ, ◌+ℤ◌, length, map, drop, get_or, unsigned_abs, arith, sym, ap, ◌∙◌, rules}
+use Rattle.std.proofs.Common.{◌≡◌, ℕ, ◌+◌, ◌*◌, ◌^◌, ◌<◌, ◌≤◌, ◌∷◌, List, ◌+ℤ◌, length, map, drop, get_or, arith, sym, ap, ◌∙◌, rules}
 use Rattle.std.proofs.lemmas.List.{drop_more}
 use Rattle.quadratic_form.specs.Rows.{SignalGroup}
 use Rattle.quadratic_form.specs.MatrixEntries.{group_entry, matrix_entry}

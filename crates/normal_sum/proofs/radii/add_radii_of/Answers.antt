@@ -1,12 +1,11 @@
-use Rattle.std.proofs.Common.{◌≡◌, ℕ, ◌+◌, ◌*◌, ◌^◌, ◌<◌, ◌≤◌, ◌∷◌, List, ℤ, pos, ◌*ℤ◌, ◌≤ℤ◌, length, map, drop, to_z, of_z, arith, sym, ap, ◌∙◌, subst, rules}
+use Rattle.std.proofs.Common.{◌≡◌, ℕ, ◌+◌, ◌*◌, ◌^◌, ◌<◌, ◌≤◌, ◌∷◌, List, ℤ, pos, ◌*ℤ◌, length, map, drop, to_z, of_z, arith, sym, ap, ◌∙◌, rules}
 use Rattle.std.proofs.lemmas.List.{drop_more}
 use Rattle.std.specs.Int.{w64}
 use Rattle.quadratic_form.specs.Rows.{Radii, add_radii, row_radii}
-use Rattle.obs_rows.specs.declared.arcs.Arc.{Arc}
 use Rattle.obs_rows.specs.declared.rows.Row.{Row}
 use Rattle.obs_rows.specs.Signals.{weight}
 use Rattle.obs_rows.specs.SignalGroups.{signal_row}
-use Rattle.normal_sum.specs.RadiusSums.{radii_of, IsAtMost, squares_of}
+use Rattle.normal_sum.specs.RadiusSums.{radii_of, squares_of}
 use Rattle.normal_sum.proofs.Words.{small_w64}
 use Rattle.normal_sum.proofs.RadiusLaws.{radii_assoc, at_most_wider}
 use Rattle.normal_sum.proofs.radii.add_radii_of.Goals as goal

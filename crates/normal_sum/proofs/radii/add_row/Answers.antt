@@ -1,7 +1,6 @@
-use Rattle.std.proofs.Common.{◌≡◌, ℕ, ◌+◌, ◌^◌, ◌<◌, ◌≤◌, length, ℤ, pos, ◌≤ℤ◌, arith, rules}
+use Rattle.std.proofs.Common.{◌^◌, ◌<◌, length, ℤ, pos, ◌≤ℤ◌, arith, rules}
 use Rattle.whole_math.proofs.Order.{lins}
 use Rattle.obs_rows.specs.Data.{number_at}
-use Rattle.normal_sum.specs.RadiusSums.{IsAtMost}
 use Rattle.normal_sum.proofs.Words.{from_w64, to_w64, from_w128, to_w128}
 use Rattle.normal_sum.proofs.RadiusLaws.{radii_same, up_to, Added, added_is}
 use Rattle.normal_sum.proofs.radii.add_row.Goals as goal

@@ -2,7 +2,7 @@ use Rattle.std.proofs.Common.{◌≡◌, ℕ, ◌+◌, ◌*◌, ◌/◌, ◌^◌
 use Rattle.std.proofs.lemmas.List.{length-map}
 use Rattle.std.specs.Int.{w64}
 use Rattle.whole_math.specs.Vectors.{len}
-use Rattle.quadratic_form.specs.Rows.{SignalRow, share}
+use Rattle.quadratic_form.specs.Rows.{SignalRow}
 use Rattle.quadratic_form.specs.MatrixEntries.{coefficient_sum, product_sum}
 use Rattle.quadratic_form.proofs.NormalForm.{share_is}
 use Rattle.obs_rows.specs.declared.rows.Row.{Row}

@@ -14,7 +14,7 @@ use Rattle.obs_rows.proofs.TableLaws.{zero_entry}
 use Rattle.obs_rows.proofs.GroupShapes.{groups_of}
 use Rattle.normal_sum.specs.Matrices.{IsRadiusSum, radius_list}
 use Rattle.normal_sum.specs.Pairs.{pair_groups}
-use Rattle.normal_sum.specs.RadiusSums.{radii_of, IsAtMost}
+use Rattle.normal_sum.specs.RadiusSums.{radii_of}
 use Rattle.normal_sum.proofs.RowSums.{next_sum}
 use Rattle.normal_sum.proofs.RadiusLaws.{radii_assoc, at_most_wider}
 use Rattle.normal_sum.proofs.NormalLaws.{entries_everywhere, symmetric_is, outside_is, below_is, radii_start, radii_end, radii_append, drop_end, radii_within, words_are, four_and}

@@ -1,4 +1,4 @@
-use Rattle.std.proofs.Common.{◌≡◌, ℕ, ◌+◌, ◌*◌, ◌^◌, ◌<◌, ◌≤◌, drop, ◌+ℤ◌, unsigned_abs}
+use Rattle.std.proofs.Common.{◌≡◌, ℕ, ◌*◌, ◌^◌, ◌<◌, ◌≤◌, drop, ◌+ℤ◌, unsigned_abs}
 use Rattle.quadratic_form.specs.Rows.{add_radii, radii}
 use Rattle.quadratic_form.specs.MatrixEntries.{matrix_entry}
 use Rattle.obs_rows.specs.Tables.{entry}
