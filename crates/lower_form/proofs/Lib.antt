@@ -1,3 +1,5 @@
+mod FrontLaws
+mod FirstRoundingLaws
 pub mod Words
 pub mod SmallEntries
 pub mod NewEntries

@@ -1,11 +1,10 @@
 -- Factors one by one.
-use Rattle.std.proofs.Common.{◌≡◌, ◌≢◌, ℕ, zero, suc, ◌+◌, ◌-◌, ◌<◌, ◌≤◌, List, [], ◌∷◌, ◌++◌, ℤ, pos, Result, Ok, Err, slice_index_or, arith, sym, ap, ap₂, ◌∙◌, refl, subst}
+use Rattle.std.proofs.Common.{◌≡◌, ℕ, zero, suc, ◌+◌, ◌-◌, ◌<◌, ◌≤◌, List, [], ◌∷◌, ◌++◌, ℤ, pos, Result, Ok, Err, slice_index_or, arith, ap, ap₂, ◌∙◌, refl}
 use Rattle.quadratic_form.specs.Forms.{Column}
 use Rattle.quadratic_form.specs.Elimination.{Factor, Refusal, step, steps, with_factor}
-use Rattle.quadratic_form.specs.Places.{list_from, form_from}
 use Rattle.quadratic_form.proofs.Places.{list_same}
 use Rattle.obs_rows.specs.Tables.{entry}
-use Rattle.lower_form.specs.Stops.{column_at, form_after, factor_at}
+use Rattle.lower_form.specs.Stops.{factor_at}
 use Rattle.lower_form.specs.Taken.{stored, before}
 
 abbrev Answer : Type 0

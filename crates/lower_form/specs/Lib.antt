@@ -1,3 +1,5 @@
+pub mod FirstRounding
+pub mod Fronts
 pub mod StepEntries
 pub mod Stops
 pub mod Taken

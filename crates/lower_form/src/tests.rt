@@ -1,3 +1,4 @@
+use crate::rounding::exponent_of;
 use crate::step::{Stop, step};
 use obs_rows::{FactorTable, NormalTable};
 
@@ -31,4 +32,12 @@ fn stops_at_a_weak_pivot(rt: HostRuntime) {
         step(&mut least, &mut factors, 0, 1).ok(),
         Some((1 << 20) - 1)
     );
+}
+
+// The least h with the number below 2^(50 + h).
+#[test]
+fn finds_the_least_exponent(rt: HostRuntime) {
+    assert_eq!(rt; (exponent_of(0), exponent_of((1 << 50) - 1)), (0, 0));
+    assert_eq!(rt; (exponent_of(1 << 50), exponent_of((1 << 51) - 1)), (1, 1));
+    assert_eq!(rt; exponent_of(1 << 51), 2);
 }

@@ -1,7 +1,7 @@
-use Rattle.std.proofs.Common.{◌≡◌, ◌≢◌, ℕ, zero, suc, ◌+◌, ◌-◌, ◌<◌, ◌≤◌, ◌^◌, List, [], ◌∷◌, ◌++◌, length, set, ℤ, pos, Result, Ok, Err, unsigned_abs, slice_index_or, get_or-set_same, get_or-set_other, length-set, arith, to_z, of_z, sym, ap, ap₂, ◌∙◌, refl, subst, rules}
+use Rattle.std.proofs.Common.{◌≡◌, ℕ, suc, ◌+◌, ◌-◌, ◌<◌, ◌≤◌, ◌^◌, List, [], ◌∷◌, ◌++◌, length, set, ℤ, pos, Result, Err, unsigned_abs, slice_index_or, get_or-set_same, get_or-set_other, length-set, arith, to_z, of_z, sym, ap, ap₂, ◌∙◌, subst, rules}
 use Rattle.std.specs.Int.{w64, w128}
 use Rattle.quadratic_form.specs.Forms.{Column}
-use Rattle.quadratic_form.specs.Elimination.{Factor, Refusal, steps, with_factor}
+use Rattle.quadratic_form.specs.Elimination.{Factor, Refusal, steps}
 use Rattle.quadratic_form.specs.Places.{form_from}
 use Rattle.obs_rows.specs.Tables.{entry}
 use Rattle.lower_form.specs.Stops.{refusal_of, column_at, form_after, factor_at}

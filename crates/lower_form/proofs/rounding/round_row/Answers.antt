@@ -1,0 +1,25 @@
+use Rattle.std.proofs.Common.{◌≡◌, inl, inr, ℕ, ◌≤◌, ℤ, true, arith, to_z, of_z, sym, ap, ◌∙◌, subst, below_more}
+use Rattle.std.specs.Int.{w128}
+use Rattle.obs_rows.specs.Tables.{entry}
+use Rattle.lower_form.specs.StepEntries.{is_small}
+use Rattle.lower_form.specs.FirstRounding.{first_entry}
+use Rattle.lower_form.proofs.Words.{wide_w128}
+use Rattle.lower_form.proofs.rounding.round_row.Goals as goal
+
+pub loop-c-preserved : goal.loop-c-preserved
+loop-c-preserved c =
+    let k : ℕ = c.loop-c.c in
+    let r : ℕ = c.args.r in
+    let f : ℤ = c.first_entry-rounded.result in
+    let wf : to_z w128 (of_z w128 f) ≡ f = wide_w128 f c.first_entry-rounded.ensures.size in
+    let is : f ≡ first_entry c.args.normal.now c.args.h r k = c.first_entry-rounded.ensures.value in
+    let s : is_small f ≡ true = ap (λ z. is_small z) (sym wf) ∙ sym c.is_small.ensures ∙ c.if-not-is_small.false in
+    record {
+      from = omega (arith, c.loop-c.invariant.from);
+      value = below_more (λ (m : ℕ). r ≤ m → entry c.set.new.self r m ≡ first_entry c.args.normal.now c.args.h r m) k (λ m g h. c.set.ensures.others r m (inr (omega arith)) ∙ c.loop-c.invariant.value m g h) (λ h. c.set.ensures.there ∙ wf ∙ is);
+      small = below_more (λ (m : ℕ). r ≤ m → is_small (first_entry c.args.normal.now c.args.h r m) ≡ true) k (λ m g h. c.loop-c.invariant.small m g h) (λ h. subst (λ (z : ℤ). is_small z ≡ true) is s);
+      others = λ i m d. c.set.ensures.others i m (inl d) ∙ c.loop-c.invariant.others i m d;
+    }
+
+pub returns-clause-value : goal.returns-clause-value
+returns-clause-value c = λ e k h g. c.loop-c.invariant.value k (omega (arith, c.loop-c-test.false)) h

@@ -1,0 +1,40 @@
+//! The front of the elimination: the first rounding of a normal matrix and the steps of the baseline's columns.
+ghost use Rattle.std.specs.Prelude.{◌≡◌, ℕ, ◌-◌, ◌^◌, ◌<◌, ◌≤◌, List, unsigned_abs, OnOk, IfErr, Ok, Err};
+ghost use Rattle.quadratic_form.specs.Places.{form_from};
+ghost use Rattle.obs_rows.specs.declared.arcs.Arc.{Arc};
+ghost use Rattle.obs_rows.specs.declared.pair_rows.PairRows.{PairRows};
+ghost use Rattle.obs_rows.specs.Tables.{entry};
+ghost use Rattle.normal_sum.specs.Normals.{IsNormalOf};
+ghost use Rattle.lower_form.specs.Stops.{refusal_of};
+ghost use Rattle.lower_form.specs.Taken.{stored};
+ghost use Rattle.lower_form.specs.Fronts.{front_of, BoundsAllData};
+
+use crate::rounding::round;
+use crate::step::Stop;
+use crate::steps::{Stopped, take_steps};
+use normal_sum::Normal;
+use obs_rows::{BASELINE_COLUMNS, FactorTable, MOST_FACTORS, NormalTable};
+
+/// The first rounding over 2^h and the steps of the baseline's columns. What they leave stands in the table, on the
+/// diagonal and after it.
+pub(crate) fn take_front(
+    normal: &Normal,
+    h: u32,
+    table: &mut NormalTable,
+    factors: &mut FactorTable,
+    kept: &mut [i64; MOST_FACTORS],
+) -> Result<(), Stopped>
+    requires few { h ≤ 76 }
+    ensures taken { OnOk result (front_of h normal.now ≡ Ok (stored kept.new factors.new normal.now.columns 0 3, form_from (entry table.new) 3 (normal.now.columns - 3))) }
+    ensures refused { IfErr result (λ e. front_of h normal.now ≡ Err (refusal_of e.column e.pivot e.stop)) }
+    ensures bound { OnOk result ((arcs : List Arc) (scale : ℕ) (pairs : List PairRows) → IsNormalOf arcs scale pairs normal.now → BoundsAllData arcs scale pairs h (form_from (entry table.new) 3 (normal.now.columns - 3))) }
+{
+    if !round(normal, table, h) {
+        return Err(Stopped {
+            column: 0,
+            pivot: 0,
+            stop: Stop::WideEntry,
+        });
+    }
+    take_steps(table, factors, kept, 0, BASELINE_COLUMNS, normal.columns)
+}
