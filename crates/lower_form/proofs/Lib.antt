@@ -1,3 +1,4 @@
+mod ExponentLaws
 mod FrontLaws
 mod FirstRoundingLaws
 pub mod Words

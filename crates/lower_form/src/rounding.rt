@@ -1,8 +1,10 @@
 //! The first rounding: the power of two by which the matrix is divided, and the entries over it.
-ghost use Rattle.std.specs.Prelude.{◌≡◌, ◌≢◌, ℕ, ◌+◌, ◌^◌, ◌<◌, ◌≤◌, pos, ◌*ℤ◌, ◌<ℤ◌, ◌≤ℤ◌, unsigned_abs, true, false};
+ghost use Rattle.std.specs.Prelude.{◌≡◌, ◌≢◌, ℕ, ◌+◌, ◌^◌, ◌<◌, ◌≤◌, ℤ, pos, ◌*ℤ◌, ◌<ℤ◌, ◌≤ℤ◌, unsigned_abs, true, false};
 ghost use Rattle.quadratic_form.specs.Elimination.{form_small};
 ghost use Rattle.quadratic_form.specs.Places.{form_from};
+ghost use Rattle.quadratic_form.specs.Lowering.{IsExponent};
 ghost use Rattle.obs_rows.specs.Tables.{entry};
+ghost use Rattle.normal_sum.specs.Values.{form_of};
 ghost use Rattle.lower_form.specs.StepEntries.{is_small};
 ghost use Rattle.lower_form.specs.FirstRounding.{first_entry as first_entry_of, first_form};
 
@@ -17,6 +19,7 @@ pub(crate) fn greatest_own(table: &NormalTable, columns: usize) -> i128
     requires columns_in { columns ≤ MOST_COLUMNS }
     requires entries { (i : ℕ) → i < columns → unsigned_abs (entry table.now i i) < 2 ^ 120 }
     ensures above { (i : ℕ) → i < columns → (pos 63 *ℤ entry table.now i i) ≤ℤ result }
+    ensures attained { (k : ℤ) → pos 0 <ℤ k → ((i : ℕ) → i < columns → (pos 63 *ℤ entry table.now i i) <ℤ k) → result <ℤ k }
     ensures from { pos 0 ≤ℤ result }
     ensures to { result <ℤ pos (2 ^ 126) }
 {
@@ -43,6 +46,14 @@ pub(crate) fn exponent_of(greatest: i128) -> u32
         h += 1;
     }
     h
+}
+
+/// The least h with 63 times each own entry of the matrix below 2^(50 + h).
+pub(crate) fn exponent(normal: &Normal) -> u32
+    ensures least { IsExponent result (form_of normal.now) }
+    ensures few { result ≤ 76 }
+{
+    exponent_of(greatest_own(&normal.c, normal.columns))
 }
 
 /// Writes the entries of row r from its own on; false where one is too large.
