@@ -1,8 +1,9 @@
 -- The own entries of a form, by their places.
-use Rattle.std.proofs.Common.{◌≡◌, ◌⊎◌, ⊎_elim, ℕ, zero, suc, ◌+◌, ◌^◌, ◌<◌, ◌≤◌, ℤ, pos, ◌*ℤ◌, ◌<ℤ◌, arith, subst, pow_pos}
+use Rattle.std.proofs.Common.{◌≡◌, ◌⊎◌, ⊎_elim, ℕ, zero, suc, List, ◌+◌, ◌^◌, ◌<◌, ◌≤◌, ℤ, pos, ◌*ℤ◌, ◌<ℤ◌, arith, subst, pow_pos}
 use Rattle.whole_math.proofs.Order.{lt_pos}
 use Rattle.quadratic_form.specs.Places.{form_from}
-use Rattle.quadratic_form.specs.Lowering.{OwnBelow}
+use Rattle.quadratic_form.specs.Forms.{Column}
+use Rattle.quadratic_form.specs.Lowering.{OwnBelow, IsExponent}
 
 pub own_below : (e : ℕ → ℕ → ℤ) (h j k : ℕ) → ((i : ℕ) → j ≤ i → i < j + k → (pos 63 *ℤ e i i) <ℤ pos (2 ^ (50 + h))) → OwnBelow h (form_from e j k)
 own_below e h j zero b = tt
@@ -17,3 +18,7 @@ own_of e h j (suc k) b i f g = ⊎_elim (λ (s : j ≡ i). subst (λ (m : ℕ). 
 
 pub power_above : (k : ℕ) → pos 0 <ℤ pos (2 ^ (50 + k))
 power_above k = lt_pos 0 (2 ^ (50 + k)) (pow_pos (50 + k))
+
+-- the least is one
+pub exponent_unique : (h k : ℕ) (c : List Column) → IsExponent h c → IsExponent k c → h ≡ k
+exponent_unique h k c a b = let x : h ≤ k = a.least k b.enough in let y : k ≤ h = b.least h a.enough in omega (arith, x, y)

@@ -1,15 +1,17 @@
 //! The front of the elimination: the first rounding of a normal matrix and the steps of the baseline's columns.
-ghost use Rattle.std.specs.Prelude.{◌≡◌, ℕ, ◌-◌, ◌^◌, ◌<◌, ◌≤◌, List, unsigned_abs, OnOk, IfErr, Ok, Err};
+ghost use Rattle.std.specs.Prelude.{◌≡◌, ℕ, ◌-◌, ◌^◌, ◌<◌, ◌≤◌, List, unsigned_abs, OnOk, IfOk, IfErr, Ok, Err};
 ghost use Rattle.quadratic_form.specs.Places.{form_from};
+ghost use Rattle.quadratic_form.specs.Lowering.{IsExponent};
 ghost use Rattle.obs_rows.specs.declared.arcs.Arc.{Arc};
 ghost use Rattle.obs_rows.specs.declared.pair_rows.PairRows.{PairRows};
 ghost use Rattle.obs_rows.specs.Tables.{entry};
 ghost use Rattle.normal_sum.specs.Normals.{IsNormalOf};
+ghost use Rattle.normal_sum.specs.Values.{form_of};
 ghost use Rattle.lower_form.specs.Stops.{refusal_of};
 ghost use Rattle.lower_form.specs.Taken.{stored};
 ghost use Rattle.lower_form.specs.Fronts.{front_of, BoundsAllData};
 
-use crate::rounding::round;
+use crate::rounding::{exponent, round};
 use crate::step::Stop;
 use crate::steps::{Stopped, take_steps};
 use normal_sum::Normal;
@@ -37,4 +39,22 @@ pub(crate) fn take_front(
         });
     }
     take_steps(table, factors, kept, 0, BASELINE_COLUMNS, normal.columns)
+}
+
+/// The front of a normal matrix, over the least power of two that serves. Gives its exponent h.
+pub(crate) fn lower_front(
+    normal: &Normal,
+    table: &mut NormalTable,
+    factors: &mut FactorTable,
+    kept: &mut [i64; MOST_FACTORS],
+) -> Result<u32, Stopped>
+    ensures exponent { IfOk result (λ h. IsExponent h (form_of normal.now)) }
+    ensures few { IfOk result (λ h. h ≤ 77) }
+    ensures taken { IfOk result (λ h. front_of h normal.now ≡ Ok (stored kept.new factors.new normal.now.columns 0 3, form_from (entry table.new) 3 (normal.now.columns - 3))) }
+    ensures refused { IfErr result (λ e. (h : ℕ) → IsExponent h (form_of normal.now) → front_of h normal.now ≡ Err (refusal_of e.column e.pivot e.stop)) }
+    ensures bound { IfOk result (λ h. (arcs : List Arc) (scale : ℕ) (pairs : List PairRows) → IsNormalOf arcs scale pairs normal.now → BoundsAllData arcs scale pairs h (form_from (entry table.new) 3 (normal.now.columns - 3))) }
+{
+    let h = exponent(normal);
+    take_front(normal, h, table, factors, kept)?;
+    Ok(h)
 }
