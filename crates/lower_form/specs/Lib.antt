@@ -3,3 +3,4 @@ pub mod Fronts
 pub mod StepEntries
 pub mod Stops
 pub mod Taken
+pub mod Told

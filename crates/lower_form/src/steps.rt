@@ -5,7 +5,9 @@ ghost use Rattle.quadratic_form.specs.Places.{form_from};
 ghost use Rattle.obs_rows.specs.Tables.{entry};
 ghost use Rattle.lower_form.specs.Stops.{refusal_of};
 ghost use Rattle.lower_form.specs.Taken.{stored};
+ghost use Rattle.lower_form.specs.Told.{told};
 
+use crate::faults::{LowerFault, Place};
 use crate::step::{Stop, step};
 use obs_rows::{FactorTable, MOST_COLUMNS, MOST_FACTORS, NormalTable};
 
@@ -15,6 +17,28 @@ pub(crate) struct Stopped {
     pub(crate) column: usize,
     pub(crate) pivot: i128,
     pub(crate) stop: Stop,
+}
+
+impl Stopped {
+    /// The fault that is told of it.
+    pub(crate) fn fault(self) -> LowerFault
+        requires column_in { self.column ≤ MOST_COLUMNS }
+        requires pivot_size { unsigned_abs self.pivot ≤ 2 ^ 52 }
+        ensures { result ≡ told (refusal_of self.column self.pivot self.stop) }
+    {
+        match self.stop {
+            Stop::Weak => LowerFault::Weak {
+                column: self.column as u32,
+                pivot: self.pivot as i64,
+            },
+            Stop::WideFactor => LowerFault::Overwidth {
+                place: Place::Factor,
+            },
+            Stop::WideEntry => LowerFault::Overwidth {
+                place: Place::Entry,
+            },
+        }
+    }
 }
 
 /// The steps of the columns from `from` to before `end`.
