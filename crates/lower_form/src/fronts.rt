@@ -15,7 +15,7 @@ use crate::rounding::{exponent, round};
 use crate::step::Stop;
 use crate::steps::{Stopped, take_steps};
 use normal_sum::Normal;
-use obs_rows::{BASELINE_COLUMNS, FactorTable, MOST_FACTORS, NormalTable};
+use obs_rows::{BASELINE_COLUMNS, FactorTable, MOST_COLUMNS, MOST_FACTORS, NormalTable};
 
 /// The first rounding over 2^h and the steps of the baseline's columns. What they leave stands in the table, on the
 /// diagonal and after it.
@@ -28,6 +28,8 @@ pub(crate) fn take_front(
 ) -> Result<(), Stopped>
     requires few { h ≤ 76 }
     ensures taken { OnOk result (front_of h normal.now ≡ Ok (stored kept.new factors.new normal.now.columns 0 3, form_from (entry table.new) 3 (normal.now.columns - 3))) }
+    ensures column { IfErr result (λ e. e.column < MOST_COLUMNS) }
+    ensures pivot { IfErr result (λ e. unsigned_abs e.pivot ≤ 2 ^ 52) }
     ensures refused { IfErr result (λ e. front_of h normal.now ≡ Err (refusal_of e.column e.pivot e.stop)) }
     ensures bound { OnOk result ((arcs : List Arc) (scale : ℕ) (pairs : List PairRows) → IsNormalOf arcs scale pairs normal.now → BoundsAllData arcs scale pairs h (form_from (entry table.new) 3 (normal.now.columns - 3))) }
 {

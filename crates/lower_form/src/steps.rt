@@ -55,6 +55,8 @@ pub(crate) fn take_steps(
     requires columns_in { columns ≤ MOST_COLUMNS }
     requires entries { (r c : ℕ) → from ≤ r → r ≤ c → c < columns → unsigned_abs (entry table.old r c) ≤ 2 ^ 52 }
     ensures taken { OnOk result (steps from (end - from) (form_from (entry table.old) from (columns - from)) ≡ Ok (stored kept.new factors.new columns from (end - from), form_from (entry table.new) end (columns - end))) }
+    ensures column { IfErr result (λ e. e.column < columns) }
+    ensures pivot { IfErr result (λ e. unsigned_abs e.pivot ≤ 2 ^ 52) }
     ensures refused { IfErr result (λ e. steps from (end - from) (form_from (entry table.old) from (columns - from)) ≡ Err (refusal_of e.column e.pivot e.stop)) }
 {
     for j in from..end {
