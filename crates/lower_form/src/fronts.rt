@@ -9,8 +9,10 @@ ghost use Rattle.normal_sum.specs.Normals.{IsNormalOf};
 ghost use Rattle.normal_sum.specs.Values.{form_of};
 ghost use Rattle.lower_form.specs.Stops.{refusal_of};
 ghost use Rattle.lower_form.specs.Taken.{stored};
+ghost use Rattle.lower_form.specs.Told.{IsToldAs};
 ghost use Rattle.lower_form.specs.Fronts.{front_of, BoundsAllData};
 
+use crate::LowerFault;
 use crate::rounding::{exponent, round};
 use crate::step::Stop;
 use crate::steps::{Stopped, take_steps};
@@ -49,14 +51,16 @@ pub(crate) fn lower_front(
     table: &mut NormalTable,
     factors: &mut FactorTable,
     kept: &mut [i64; MOST_FACTORS],
-) -> Result<u32, Stopped>
+) -> Result<u32, LowerFault>
     ensures exponent { IfOk result (λ h. IsExponent h (form_of normal.now)) }
     ensures few { IfOk result (λ h. h ≤ 77) }
     ensures taken { IfOk result (λ h. front_of h normal.now ≡ Ok (stored kept.new factors.new normal.now.columns 0 3, form_from (entry table.new) 3 (normal.now.columns - 3))) }
-    ensures refused { IfErr result (λ e. (h : ℕ) → IsExponent h (form_of normal.now) → front_of h normal.now ≡ Err (refusal_of e.column e.pivot e.stop)) }
+    ensures refused { IfErr result (λ e. (h : ℕ) → IsExponent h (form_of normal.now) → IsToldAs e (front_of h normal.now)) }
     ensures bound { IfOk result (λ h. (arcs : List Arc) (scale : ℕ) (pairs : List PairRows) → IsNormalOf arcs scale pairs normal.now → BoundsAllData arcs scale pairs h (form_from (entry table.new) 3 (normal.now.columns - 3))) }
 {
     let h = exponent(normal);
-    take_front(normal, h, table, factors, kept)?;
-    Ok(h)
+    match take_front(normal, h, table, factors, kept) {
+        Ok(()) => Ok(h),
+        Err(stopped) => Err(stopped.fault()),
+    }
 }
