@@ -3,7 +3,7 @@ use Rattle.std.specs.Prelude.{ℕ, ◌*◌, ◌^◌, ℤ, pos, ◌⊎◌}
 use Rattle.std.proofs.Common.{lit<}
 use Rattle.rational.specs.Rational.{Rational, ◌≈◌, ◌≤ʳ◌, ◌<ʳ◌, of_whole, add_r, sub_r, mul_r, divided, IsNearRoot}
 use Rattle.trig_box.specs.AnglePairs.{Pair, IsAnglePair}
-use Rattle.sv_orbit.specs.Elements.{earth_rate}
+use Rattle.orbit_model.specs.Elements.{earth_rate}
 
 pub record Place : Type 0 where
   pub x : Rational

@@ -4,7 +4,7 @@
 ghost use Rattle.std.specs.Prelude.{◌≡◌, ℕ, ◌*◌, ◌^◌, ◌≤◌, ℤ, pos, ◌≤ℤ◌, [], ◌∷◌, All, IsTrue, false};
 ghost use Rattle.iv_core.specs.declared.Iv.{Iv};
 ghost use Rattle.iv_core.specs.Intervals.{width_of};
-ghost use Rattle.sv_orbit.specs.Places.{IsBetweenDistances};
+ghost use Rattle.orbit_model.specs.Places.{IsBetweenDistances};
 ghost use Rattle.signal_travel.specs.SeenPlaces.{point_of, IsAboveMask, IsBelowMask};
 ghost use Rattle.signal_travel.specs.Boxes.{IsPoint, HasNearPlace};
 

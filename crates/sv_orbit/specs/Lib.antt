@@ -1,3 +1,1 @@
-pub mod Elements
-pub mod Solution
-pub mod Places
+pub mod Worlds

@@ -6,7 +6,7 @@ mod world;
 ghost use Rattle.std.specs.Prelude.{◌≡◌, ◌^◌, pos, ◌≤ℤ◌, [], ◌∷◌, All};
 ghost use Rattle.iv_core.specs.declared.Iv.{Iv};
 ghost use Rattle.iv_core.specs.Intervals.{width_of, IsWithin};
-ghost use Rattle.sv_orbit.specs.Places.{IsBetweenDistances};
+ghost use Rattle.orbit_model.specs.Places.{IsBetweenDistances};
 
 use iv_core::Iv;
 pub use world::World;

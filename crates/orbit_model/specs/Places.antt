@@ -1,5 +1,5 @@
 -- What the boxes of a satellite's place keep.
-use Rattle.std.specs.Prelude.{ℕ, ℤ, pos, neg_ℤ, ◌*ℤ◌, ◌≡◌, ◌⊎◌}
+use Rattle.std.specs.Prelude.{ℕ, pos, ◌*ℤ◌}
 use Rattle.rational.specs.Rational.{Rational, ◌≤ʳ◌, of_whole, add_r, mul_r}
 use Rattle.iv_core.specs.declared.Iv.{Iv}
 use Rattle.iv_core.specs.Intervals.{Holds}
@@ -12,7 +12,3 @@ squared_distance x y z = add_r (add_r (mul_r x x) (mul_r y y)) (mul_r z z)
 abbrev pub IsBetweenDistances : ℕ → ℕ → {k : ℕ} → Iv k → Iv k → Iv k → Type 0
 IsBetweenDistances nearest farthest {k} a b c = (x y z : Rational) → Holds a x → Holds b y → Holds c z →
     (of_whole (pos nearest *ℤ pos nearest) ≤ʳ squared_distance x y z) × (squared_distance x y z ≤ʳ of_whole (pos farthest *ℤ pos farthest))
-
--- μ in m³/s² and F in 10^-19 s/√m: those of GPS or those of Galileo
-abbrev pub IsWorld : ℤ → ℤ → Type 0
-IsWorld mu rel = ((mu ≡ pos 398600500000000) × (rel ≡ neg_ℤ (pos 4442807633))) ⊎ ((mu ≡ pos 398600441800000) × (rel ≡ neg_ℤ (pos 4442807309)))

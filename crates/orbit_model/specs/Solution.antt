@@ -3,7 +3,7 @@ use Rattle.std.specs.Prelude.{pos}
 use Rattle.rational.specs.Rational.{Rational, ◌≈◌, of_whole, add_r, sub_r, mul_r, IsNearRoot}
 use Rattle.trig_box.specs.AnglePairs.{Pair, IsAnglePair, double}
 use Rattle.kepler_box.specs.Kepler.{SolvesKepler}
-use Rattle.sv_orbit.specs.Elements.{Elements, Constants, earth_rate}
+use Rattle.orbit_model.specs.Elements.{Elements, Constants, earth_rate}
 
 abbrev pub one : Rational
 one = of_whole (pos 1)

@@ -1,0 +1,2 @@
+//! The user algorithm of IS-GPS-200 for a satellite's place and clock, as definitions in `specs/`: several crates cite them.
+#![tactic(auto)]
