@@ -1,8 +1,3 @@
 mod ExponentLaws
 mod FrontLaws
 mod FirstRoundingLaws
-pub mod Words
-pub mod SmallEntries
-pub mod NewEntries
-pub mod StepLaws
-pub mod StoredLaws

@@ -7,15 +7,14 @@ ghost use Rattle.obs_rows.specs.declared.pair_rows.PairRows.{PairRows};
 ghost use Rattle.obs_rows.specs.Tables.{entry};
 ghost use Rattle.normal_sum.specs.Normals.{IsNormalOf};
 ghost use Rattle.normal_sum.specs.Values.{form_of};
-ghost use Rattle.lower_form.specs.Stops.{refusal_of};
-ghost use Rattle.lower_form.specs.Taken.{stored};
-ghost use Rattle.lower_form.specs.Told.{IsToldAs};
+ghost use Rattle.elimination.specs.Stops.{refusal_of};
+ghost use Rattle.integer_form.specs.Factors.{stored};
+ghost use Rattle.integer_form.specs.Told.{IsToldAs};
 ghost use Rattle.lower_form.specs.Fronts.{front_of, BoundsAllData};
 
-use crate::LowerFault;
 use crate::rounding::{exponent, round};
-use crate::step::Stop;
-use crate::steps::{Stopped, take_steps};
+use elimination::{Stop, Stopped, take_steps};
+use integer_form::LowerFault;
 use normal_sum::Normal;
 use obs_rows::{BASELINE_COLUMNS, FactorTable, MOST_COLUMNS, MOST_FACTORS, NormalTable};
 

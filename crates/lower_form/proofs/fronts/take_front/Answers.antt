@@ -4,7 +4,7 @@ use Rattle.quadratic_form.specs.Elimination.{steps}
 use Rattle.quadratic_form.specs.Places.{form_from}
 use Rattle.obs_rows.specs.Tables.{entry}
 use Rattle.lower_form.specs.FirstRounding.{first_form}
-use Rattle.lower_form.specs.Taken.{stored}
+use Rattle.integer_form.specs.Factors.{stored}
 use Rattle.lower_form.proofs.FrontLaws.{bounds_all}
 use Rattle.lower_form.proofs.fronts.take_front.Goals as goal
 

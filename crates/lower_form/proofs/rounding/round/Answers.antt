@@ -3,9 +3,9 @@ use Rattle.quadratic_form.specs.Forms.{Column}
 use Rattle.quadratic_form.specs.Elimination.{form_small}
 use Rattle.quadratic_form.proofs.Places.{form_same}
 use Rattle.obs_rows.specs.Tables.{entry}
-use Rattle.lower_form.specs.StepEntries.{is_small}
+use Rattle.elimination.specs.StepEntries.{is_small}
 use Rattle.lower_form.specs.FirstRounding.{first_entry}
-use Rattle.lower_form.proofs.SmallEntries.{form_all_small, form_wide}
+use Rattle.elimination.proofs.SmallEntries.{form_all_small, form_wide}
 use Rattle.lower_form.proofs.FirstRoundingLaws.{first_form_is}
 use Rattle.lower_form.proofs.rounding.round.Goals as goal
 

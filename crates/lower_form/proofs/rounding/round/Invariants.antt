@@ -1,6 +1,6 @@
 use Rattle.std.proofs.Common.{◌≡◌, ℕ, ◌<◌, ◌≤◌, true}
 use Rattle.obs_rows.specs.Tables.{entry}
-use Rattle.lower_form.specs.StepEntries.{is_small}
+use Rattle.elimination.specs.StepEntries.{is_small}
 use Rattle.lower_form.specs.FirstRounding.{first_entry}
 use Rattle.lower_form.proofs.rounding.round.Given as goal
 

@@ -1,9 +1,9 @@
 use Rattle.std.proofs.Common.{◌≡◌, inl, inr, ℕ, ◌≤◌, ℤ, true, arith, to_z, of_z, sym, ap, ◌∙◌, subst, below_more}
 use Rattle.std.specs.Int.{w128}
 use Rattle.obs_rows.specs.Tables.{entry}
-use Rattle.lower_form.specs.StepEntries.{is_small}
+use Rattle.elimination.specs.StepEntries.{is_small}
 use Rattle.lower_form.specs.FirstRounding.{first_entry}
-use Rattle.lower_form.proofs.Words.{wide_w128}
+use Rattle.elimination.proofs.Words.{wide_w128}
 use Rattle.lower_form.proofs.rounding.round_row.Goals as goal
 
 pub loop-c-preserved : goal.loop-c-preserved

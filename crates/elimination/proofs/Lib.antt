@@ -1,0 +1,5 @@
+pub mod Words
+pub mod SmallEntries
+pub mod NewEntries
+pub mod StepLaws
+pub mod StoredLaws

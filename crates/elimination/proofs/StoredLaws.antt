@@ -1,0 +1,51 @@
+-- Factors one by one.
+use Rattle.std.proofs.Common.{◌≡◌, ℕ, zero, suc, ◌+◌, ◌-◌, ◌<◌, ◌≤◌, List, [], ◌∷◌, ◌++◌, ℤ, pos, Result, Ok, Err, slice_index_or, arith, ap, ap₂, ◌∙◌, refl}
+use Rattle.quadratic_form.specs.Forms.{Column}
+use Rattle.quadratic_form.specs.Elimination.{Factor, Refusal, step, steps, with_factor}
+use Rattle.quadratic_form.proofs.Places.{list_same}
+use Rattle.obs_rows.specs.Tables.{entry}
+use Rattle.integer_form.specs.Factors.{factor_at}
+use Rattle.integer_form.specs.Factors.{stored}
+use Rattle.elimination.specs.Taken.{before}
+
+abbrev Answer : Type 0
+Answer = Result (List Factor × List Column) Refusal
+
+pub before_last : (fs : List Factor) (f : Factor) (r : Answer) → before (fs ++ (f ∷ [])) r ≡ before fs (with_factor f r)
+before_last [] f r = refl
+before_last (g ∷ fs) f r = ap (λ (x : Answer). with_factor g x) (before_last fs f r)
+
+pub before_ok : (fs : List Factor) (a : List Column) → let x : Answer = Ok (fs, a) in let y : Answer = Ok ([], a) in before fs y ≡ x
+before_ok [] a = refl
+before_ok (f ∷ fs) a = ap (λ (x : Answer). with_factor f x) (before_ok fs a)
+
+pub before_err : (fs : List Factor) (e : Refusal) → let x : Answer = Err e in before fs x ≡ x
+before_err [] e = refl
+before_err (f ∷ fs) e = ap (λ (x : Answer). with_factor f x) (before_err fs e)
+
+-- one more column
+pub stored_last : (d : List ℤ) (f : List (List ℤ)) (columns j count : ℕ) → stored d f columns j (suc count) ≡ stored d f columns j count ++ (factor_at (slice_index_or d (j + count) (pos 0)) f (j + count) (columns - (j + count) - 1) ∷ [])
+stored_last d f columns j zero = rw (add_nothing j) refl
+  where
+    add_nothing : (j : ℕ) → j + 0 ≡ j
+    add_nothing j = omega arith
+stored_last d f columns j (suc count) = ap (λ (s : List Factor). factor_at (slice_index_or d j (pos 0)) f j (columns - j - 1) ∷ s) (stored_last d f columns (suc j) count ∙ rw (shift j count) refl)
+  where
+    shift : (j count : ℕ) → suc j + count ≡ j + suc count
+    shift j count = omega arith
+
+-- a write at a later place
+pub stored_same : (d e : List ℤ) (f g : List (List ℤ)) (columns j count : ℕ) → ((i : ℕ) → j ≤ i → i < j + count → slice_index_or d i (pos 0) ≡ slice_index_or e i (pos 0)) →
+    ((r i : ℕ) → j ≤ i → i < j + count → entry f r i ≡ entry g r i) → stored d f columns j count ≡ stored e g columns j count
+stored_same d e f g columns j zero h k = refl
+stored_same d e f g columns j (suc count) h k = ap₂ (λ (x : Factor) (s : List Factor). x ∷ s) one (stored_same d e f g columns (suc j) count (λ i a b. h i (omega arith) (omega arith)) (λ r i a b. k r i (omega arith) (omega arith)))
+  where
+    one : factor_at (slice_index_or d j (pos 0)) f j (columns - j - 1) ≡ factor_at (slice_index_or e j (pos 0)) g j (columns - j - 1)
+    one = ap₂ (λ (x : ℤ) (s : List ℤ). let y : Factor = record { d = x; l = s } in y) (h j (omega arith) (omega arith)) (list_same (λ i. entry f i j) (λ i. entry g i j) (suc j) (columns - j - 1) (λ r a b. k r j (omega arith) (omega arith)))
+
+-- a step that is taken, and one that stops
+pub steps_ok : (j k : ℕ) (c : Column) (m : List Column) (p : Factor × List Column) → step j c m ≡ Ok p → steps j (suc k) (c ∷ m) ≡ with_factor p.0 (steps (suc j) k p.1)
+steps_ok j k c m p e = ap (λ (x : Result (Factor × List Column) Refusal). elim x as (λ y. Answer) [ Ok q ↦ with_factor q.0 (steps (suc j) k q.1) | Err i ↦ Err i ]) e
+
+pub steps_err : (j k : ℕ) (c : Column) (m : List Column) (i : Refusal) → step j c m ≡ Err i → steps j (suc k) (c ∷ m) ≡ Err i
+steps_err j k c m i e = ap (λ (x : Result (Factor × List Column) Refusal). elim x as (λ y. Answer) [ Ok q ↦ with_factor q.0 (steps (suc j) k q.1) | Err i ↦ Err i ]) e

@@ -1,0 +1,3 @@
+pub mod StepEntries
+pub mod Stops
+pub mod Taken

@@ -1,0 +1,108 @@
+//! The new entries of one step of the elimination.
+ghost use Rattle.std.specs.Prelude.{◌≡◌, ◌^◌, ◌≤◌, pos, ◌-ℤ◌, ◌*ℤ◌, ◌<ℤ◌, ◌≤ℤ◌, unsigned_abs, nat_lt};
+ghost use Rattle.whole_math.specs.Rounding.{nearest_div, ceil_div};
+
+use whole_math::{ceil, nearest};
+
+/// Every factor and every entry after a rounding is below this in size.
+const LIMIT: i128 = 1 << 52;
+
+/// The unit of the factors is 2^-30.
+const FACTOR_EXPONENT: u32 = 30;
+
+/// Whether a number is below 2^52 in size.
+pub fn is_small(number: i128) -> bool
+    ensures { result ≡ nat_lt (unsigned_abs number) (2 ^ 52) }
+{
+    -LIMIT < number && number < LIMIT
+}
+
+/// p · q
+fn product(p: i128, q: i128) -> i128
+    requires p_size { unsigned_abs p ≤ 2 ^ 52 }
+    requires q_size { unsigned_abs q ≤ 2 ^ 52 }
+    ensures value { result ≡ p *ℤ q }
+    ensures size { unsigned_abs result ≤ 2 ^ 104 }
+{
+    p * q
+}
+
+/// p · 2^30 / a to the nearest: the factor of a column with the entry p in the column of the pivot a.
+pub(crate) fn factor_of(p: i128, a: i128) -> i128
+    requires p_size { unsigned_abs p ≤ 2 ^ 52 }
+    requires positive { pos 0 <ℤ a }
+    ensures value { result ≡ nearest_div (p *ℤ pos (2 ^ 30)) (unsigned_abs a) }
+    ensures size { unsigned_abs result ≤ 2 ^ 104 }
+{
+    nearest(product(p, 1 << FACTOR_EXPONENT), a)
+}
+
+/// entry - loss
+fn less(entry: i128, loss: i128) -> i128
+    requires entry_size { unsigned_abs entry ≤ 2 ^ 52 }
+    requires loss_size { unsigned_abs loss ≤ 2 ^ 104 }
+    ensures value { result ≡ entry -ℤ loss }
+    ensures size { unsigned_abs result ≤ 2 ^ 105 }
+{
+    entry - loss
+}
+
+/// entry - square - count - loss
+fn less_three(entry: i128, square: i128, count: i128, loss: i128) -> i128
+    requires entry_size { unsigned_abs entry ≤ 2 ^ 52 }
+    requires square_size { unsigned_abs square ≤ 2 ^ 104 }
+    requires count_size { unsigned_abs count ≤ 2 ^ 52 }
+    requires loss_size { unsigned_abs loss ≤ 2 ^ 104 }
+    ensures value { result ≡ ((entry -ℤ square) -ℤ count) -ℤ loss }
+    ensures size { unsigned_abs result ≤ 2 ^ 107 }
+{
+    let rest = entry - square;
+    let fewer = rest - count;
+    fewer - loss
+}
+
+/// An entry off the diagonal, less p · q / a to the nearest.
+pub(crate) fn other_after(entry: i128, p: i128, q: i128, a: i128) -> i128
+    requires entry_size { unsigned_abs entry ≤ 2 ^ 52 }
+    requires p_size { unsigned_abs p ≤ 2 ^ 52 }
+    requires q_size { unsigned_abs q ≤ 2 ^ 52 }
+    requires positive { pos 0 <ℤ a }
+    ensures value { result ≡ entry -ℤ nearest_div (p *ℤ q) (unsigned_abs a) }
+    ensures size { unsigned_abs result ≤ 2 ^ 105 }
+{
+    less(entry, nearest(product(p, q), a))
+}
+
+/// n · a / 2^42 upward: what the rounding of the factors may take from an own entry.
+fn factor_loss(count: i128, a: i128) -> i128
+    requires count_from { pos 0 ≤ℤ count }
+    requires count_to { count ≤ℤ pos 44 }
+    requires a_size { unsigned_abs a ≤ 2 ^ 52 }
+    ensures value { result ≡ ceil_div (count *ℤ a) (2 ^ 42) }
+    ensures size { unsigned_abs result ≤ 2 ^ 104 }
+{
+    ceil(product(count, a), 1 << 42)
+}
+
+/// An own entry, less p² / a upward, the number of later columns and the loss of their factors.
+pub(crate) fn own_after(entry: i128, p: i128, a: i128, count: i128) -> i128
+    requires entry_size { unsigned_abs entry ≤ 2 ^ 52 }
+    requires p_size { unsigned_abs p ≤ 2 ^ 52 }
+    requires a_size { unsigned_abs a ≤ 2 ^ 52 }
+    requires positive { pos 0 <ℤ a }
+    requires count_from { pos 0 ≤ℤ count }
+    requires count_to { count ≤ℤ pos 44 }
+    ensures value { result ≡ ((entry -ℤ ceil_div (p *ℤ p) (unsigned_abs a)) -ℤ count) -ℤ ceil_div (count *ℤ a) (2 ^ 42) }
+    ensures size { unsigned_abs result ≤ 2 ^ 107 }
+{
+    less_three(entry, ceil(product(p, p), a), count, factor_loss(count, a))
+}
+
+/// What is kept of a pivot.
+pub(crate) fn kept_of(a: i128) -> i128
+    requires a_size { unsigned_abs a ≤ 2 ^ 52 }
+    ensures value { result ≡ a -ℤ ceil_div a (2 ^ 20) }
+    ensures size { unsigned_abs result ≤ 2 ^ 53 }
+{
+    a - ceil(a, 1 << 20)
+}

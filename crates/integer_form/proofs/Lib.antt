@@ -1,0 +1,3 @@
+pub mod FormShapes
+pub mod StepOrder
+pub mod FormLaws

@@ -1,0 +1,4 @@
+pub mod Factors
+pub mod Kept
+pub mod Forms
+pub mod Told

@@ -1,0 +1,16 @@
+-- A refusal of the definition as the fault that is told.
+use Rattle.std.specs.Prelude.{◌≡◌, List, Result, Err}
+use Rattle.quadratic_form.specs.Forms.{Column}
+use Rattle.quadratic_form.specs.Elimination.{Factor, Refusal, weak, wide_factor, wide_entry}
+use Rattle.integer_form.specs.declared.faults.Place.TheVariants.{Factor as PlaceOfFactor, Entry as PlaceOfEntry}
+use Rattle.integer_form.specs.declared.faults.LowerFault.{LowerFault}
+use Rattle.integer_form.specs.declared.faults.LowerFault.TheVariants.{Weak, Overwidth}
+
+abbrev pub told : Refusal → LowerFault
+told (weak j a) = Weak j a
+told wide_factor = Overwidth PlaceOfFactor
+told wide_entry = Overwidth PlaceOfEntry
+
+-- the answer is a refusal, and this fault tells it
+abbrev pub IsToldAs : LowerFault → Result (List Factor × List Column) Refusal → Type 0
+IsToldAs fault answer = (refusal : Refusal) × ((answer ≡ Err refusal) × (fault ≡ told refusal))
