@@ -1,14 +1,13 @@
 -- Boxes around a bound in size, boxes that are made wider, and how far the ends of a narrow box are from what it holds.
-use Rattle.std.proofs.Common.{◌≡◌, ℕ, ◌*◌, ◌^◌, List, [], ◌∷◌, ℤ, pos, ◌+ℤ◌, ◌-ℤ◌, ◌*ℤ◌, neg_ℤ, ◌≤ℤ◌, arith, refl}
+use Rattle.std.proofs.Common.{◌≡◌, ℕ, ◌^◌, List, [], ◌∷◌, ℤ, pos, ◌+ℤ◌, ◌-ℤ◌, ◌*ℤ◌, neg_ℤ, ◌≤ℤ◌, arith, refl}
 use Rattle.whole_math.proofs.IntLaws.{neg_mul_ℤ}
 use Rattle.whole_math.proofs.Ring.{va, ◌⊕◌, ◌⊖◌, ◌⊗◌}
-use Rattle.whole_math.proofs.Order.{lins, mul_le_cancel, mul_le_right}
+use Rattle.whole_math.proofs.Order.{lins, mul_le_cancel}
 use Rattle.whole_math.proofs.Inequalities.{same_by}
-use Rattle.whole_math.proofs.Certificates.{Hy, ◌≼◌, hy, ◌⊞◌}
-use Rattle.rational.specs.Rational.{Rational, ◌≤ʳ◌, of_scale, add_r, sub_r, neg_r, IsAtMostInSize, AreWithin, InBox, IsNearBox}
+use Rattle.whole_math.proofs.Certificates.{◌≼◌, hy, ◌⊞◌}
+use Rattle.rational.specs.Rational.{Rational, ◌≤ʳ◌, of_scale, add_r, sub_r, IsAtMostInSize, InBox, IsNearBox}
 use Rattle.rational.proofs.Boxes.{wider}
 use Rattle.rational.proofs.Laws.{≤ʳ_trans, ≤ʳ_from_same}
-use Rattle.rational_algebra.proofs.Identities.{ring_r}
 use Rattle.rational_algebra.proofs.Orders.{order_r}
 
 -- ---- bounds in size

@@ -1,6 +1,6 @@
 -- Identities between rationals by the solver for whole numbers: over one denominator k an expression of degree d is a
 -- polynomial of the numerators, over k^d.
-use Rattle.std.proofs.Common.{◌≡◌, ℕ, zero, suc, ◌+◌, ◌-◌, ◌*◌, ◌^◌, ◌<◌, List, [], ◌∷◌, ℤ, pos, ◌+ℤ◌, ◌-ℤ◌, ◌*ℤ◌, neg_ℤ, arith, sym, ap, ap₂, ◌∙◌, refl, subst, subst₂}
+use Rattle.std.proofs.Common.{◌≡◌, ℕ, zero, suc, ◌+◌, ◌-◌, ◌*◌, ◌^◌, ◌<◌, List, [], ◌∷◌, ℤ, pos, ◌*ℤ◌, neg_ℤ, arith, sym, ap, ◌∙◌, refl, subst, subst₂}
 use Rattle.std.proofs.lemmas.Nat.{pow-add}
 use Rattle.std.proofs.Math.Nat.{pow-succ', pow-zero, one-le-pow}
 use Rattle.whole_math.proofs.Ring.{Ex, va, ko, ◌⊕◌, ◌⊖◌, ◌⊗◌, ng, look, ev, norm, ring}

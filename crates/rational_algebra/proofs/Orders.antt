@@ -1,10 +1,10 @@
 -- Equations and orders between rationals that follow from others: by a combination of equations, and by a certificate.
-use Rattle.std.proofs.Common.{◌≡◌, ℕ, zero, suc, ◌+◌, ◌*◌, ◌<◌, List, [], ◌∷◌, ℤ, pos, ◌+ℤ◌, ◌-ℤ◌, ◌*ℤ◌, neg_ℤ, ◌≤ℤ◌, ◌<ℤ◌, arith, sym, ap, ◌∙◌, refl, subst}
-use Rattle.whole_math.proofs.Ring.{Ex, va, ko, ◌⊕◌, ◌⊖◌, ◌⊗◌, ng, norm}
+use Rattle.std.proofs.Common.{◌≡◌, ℕ, zero, suc, List, [], ◌∷◌, ℤ, pos, ◌+ℤ◌, ◌*ℤ◌, ◌≤ℤ◌, ◌<ℤ◌, arith, ap, ◌∙◌, refl}
+use Rattle.whole_math.proofs.Ring.{Ex, va, ko, ◌⊕◌, ◌⊖◌, ◌⊗◌, norm}
 use Rattle.whole_math.proofs.Order.{lins, mul_nn, square_nn, add_nn, diff_nn, le_from_diff, mul_le_cancel, mul_eq_cancel}
 use Rattle.whole_math.proofs.Inequalities.{same_by, pos_nn}
 use Rattle.whole_math.proofs.Certificates.{Hy, Ce, ◌≼◌, hy, nm, sq, ◌⊞◌, ◌⊠◌, gap_of, as_ex, cancel}
-use Rattle.rational.specs.Rational.{Rational, ◌≈◌, ◌≤ʳ◌, ◌<ʳ◌, of_whole, add_r, neg_r, sub_r, mul_r}
+use Rattle.rational.specs.Rational.{Rational, ◌≈◌, ◌≤ʳ◌, add_r, sub_r, mul_r}
 use Rattle.rational_algebra.proofs.Identities.{ev_r, balanced, ring_r}
 
 -- ---- a combination of equations

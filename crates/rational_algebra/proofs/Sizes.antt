@@ -1,11 +1,11 @@
 -- Bounds in size, of sums, products and quotients.
-use Rattle.std.proofs.Common.{◌≡◌, ℕ, ◌*◌, ◌^◌, ◌<◌, ◌≤◌, List, [], ◌∷◌, ℤ, pos, ◌+ℤ◌, ◌-ℤ◌, ◌*ℤ◌, neg_ℤ, ◌≤ℤ◌, ◌<ℤ◌, arith, sym, ap, ◌∙◌, refl, lit≤, lit<}
+use Rattle.std.proofs.Common.{◌≡◌, List, [], ◌∷◌, ℤ, pos, ◌*ℤ◌, ◌≤ℤ◌, ◌<ℤ◌, arith, refl}
 use Rattle.std.proofs.lemmas.Int.{ints, by_lt_z}
 use Rattle.whole_math.proofs.Ring.{va, ko, ◌⊕◌, ◌⊖◌, ◌⊗◌, ng}
-use Rattle.whole_math.proofs.Order.{lins, le_pos, lt_pos, mul_le_right}
+use Rattle.whole_math.proofs.Order.{lins, lt_pos, mul_le_right}
 use Rattle.whole_math.proofs.Inequalities.{same_by, pos_nn}
-use Rattle.whole_math.proofs.Certificates.{Hy, ◌≼◌, hy, nm, sq, ◌⊞◌, ◌⊠◌, mul_positive}
-use Rattle.rational.specs.Rational.{Rational, ◌≈◌, ◌≤ʳ◌, ◌<ʳ◌, of_whole, of_scale, add_r, neg_r, sub_r, mul_r, IsAtMostInSize, InBox}
+use Rattle.whole_math.proofs.Certificates.{Hy, ◌≼◌, hy, ◌⊞◌, ◌⊠◌, mul_positive}
+use Rattle.rational.specs.Rational.{Rational, ◌≈◌, ◌≤ʳ◌, of_whole, add_r, neg_r, sub_r, mul_r, IsAtMostInSize}
 use Rattle.rational.proofs.Laws.{≤ʳ_trans}
 use Rattle.rational_algebra.proofs.Orders.{order_r, cancel_r, ◌≐◌}
 
