@@ -1,0 +1,4 @@
+pub mod Identities
+pub mod Orders
+pub mod Sizes
+pub mod Ends
