@@ -1,6 +1,6 @@
 //! One step of the elimination, in place: it reads the row of its column and writes only rows and columns after it.
 //! Of a table only the entries on the diagonal and after it are read and written.
-ghost use Rattle.std.specs.Prelude.{◌≡◌, ◌≢◌, ℕ, ◌+◌, ◌-◌, ◌^◌, ◌<◌, ◌≤◌, pos, ◌*ℤ◌, ◌<ℤ◌, unsigned_abs, true, false, IfOk, IfErr, Ok, Err};
+ghost use Rattle.std.specs.Prelude.{◌≡◌, ◌≢◌, ◌⊎◌, ℕ, ◌+◌, ◌-◌, ◌^◌, ◌<◌, ◌≤◌, pos, ◌*ℤ◌, ◌<ℤ◌, unsigned_abs, true, false, IfOk, IfErr, Ok, Err};
 ghost use Rattle.quadratic_form.specs.Elimination.{step as elimination};
 ghost use Rattle.obs_rows.specs.Tables.{entry};
 ghost use Rattle.elimination.specs.StepEntries.{is_small, factor_entry, other_entry, new_entry};
@@ -40,7 +40,7 @@ fn write_factors(
     ensures value { result ≡ true → (c : ℕ) → j < c → c < columns → entry factors.new c j ≡ factor_entry table.now j (unsigned_abs a) c }
     ensures small { result ≡ true → (c : ℕ) → j < c → c < columns → is_small (factor_entry table.now j (unsigned_abs a) c) ≡ true }
     ensures refused { result ≡ false → (c : ℕ) × ((j < c) × (c < columns) × (is_small (factor_entry table.now j (unsigned_abs a) c) ≡ false)) }
-    ensures others { (i c : ℕ) → c ≢ j → entry factors.new i c ≡ entry factors.old i c }
+    ensures others { (i c : ℕ) → (c ≢ j) ⊎ ((i ≤ j) ⊎ (columns ≤ i)) → entry factors.new i c ≡ entry factors.old i c }
 {
     for c in j + 1..columns {
         let factor = factor_of(table.at(j, c), a);
@@ -135,7 +135,7 @@ pub(crate) fn step(
     ensures refused { IfErr result (λ e. elimination j (column_at table.old j (columns - j - 1)) (form_after table.old j (columns - j - 1)) ≡ Err (refusal_of j (entry table.old j j) e)) }
     ensures small { IfOk result (λ d. (r c : ℕ) → j < r → r ≤ c → c < columns → unsigned_abs (entry table.new r c) ≤ 2 ^ 52) }
     ensures size { IfOk result (λ d. unsigned_abs d ≤ 2 ^ 53) }
-    ensures others { (i c : ℕ) → c ≢ j → entry factors.new i c ≡ entry factors.old i c }
+    ensures others { (i c : ℕ) → (c ≢ j) ⊎ ((i ≤ j) ⊎ (columns ≤ i)) → entry factors.new i c ≡ entry factors.old i c }
 {
     let a = table.at(j, j);
     if a < LEAST_PIVOT {

@@ -1,2 +1,3 @@
 pub mod FirstRounding
 pub mod Fronts
+pub mod Forms

@@ -1,5 +1,5 @@
 //! The front of the elimination: the first rounding of a normal matrix and the steps of the baseline's columns.
-ghost use Rattle.std.specs.Prelude.{◌≡◌, ℕ, ◌-◌, ◌^◌, ◌<◌, ◌≤◌, List, unsigned_abs, OnOk, IfOk, IfErr, Ok, Err};
+ghost use Rattle.std.specs.Prelude.{◌≡◌, ◌⊎◌, ℕ, ◌-◌, ◌^◌, ◌<◌, ◌≤◌, List, unsigned_abs, OnOk, IfOk, IfErr, Ok, Err};
 ghost use Rattle.quadratic_form.specs.Places.{form_from};
 ghost use Rattle.quadratic_form.specs.Lowering.{IsExponent};
 ghost use Rattle.obs_rows.specs.declared.arcs.Arc.{Arc};
@@ -10,11 +10,14 @@ ghost use Rattle.normal_sum.specs.Values.{form_of};
 ghost use Rattle.elimination.specs.Stops.{refusal_of};
 ghost use Rattle.integer_form.specs.Factors.{stored};
 ghost use Rattle.integer_form.specs.Told.{IsToldAs};
+ghost use Rattle.integer_form.specs.Kept.{form_of_table};
 ghost use Rattle.lower_form.specs.Fronts.{front_of, BoundsAllData};
+ghost use Rattle.lower_form.specs.Forms.{IsFrontOf};
 
 use crate::rounding::{exponent, round};
+use crate::tables::{first_kept, form_table, front_factors};
 use elimination::{Stop, Stopped, take_steps};
-use integer_form::LowerFault;
+use integer_form::{FrontForm, LowerFault};
 use normal_sum::Normal;
 use obs_rows::{BASELINE_COLUMNS, FactorTable, MOST_COLUMNS, MOST_FACTORS, NormalTable};
 
@@ -29,6 +32,7 @@ pub(crate) fn take_front(
 ) -> Result<(), Stopped>
     requires few { h ≤ 76 }
     ensures taken { OnOk result (front_of h normal.now ≡ Ok (stored kept.new factors.new normal.now.columns 0 3, form_from (entry table.new) 3 (normal.now.columns - 3))) }
+    ensures outside { (r i : ℕ) → (3 ≤ i) ⊎ ((r ≤ i) ⊎ (normal.now.columns ≤ r)) → entry factors.new r i ≡ entry factors.old r i }
     ensures column { IfErr result (λ e. e.column < MOST_COLUMNS) }
     ensures pivot { IfErr result (λ e. unsigned_abs e.pivot ≤ 2 ^ 52) }
     ensures refused { IfErr result (λ e. front_of h normal.now ≡ Err (refusal_of e.column e.pivot e.stop)) }
@@ -54,6 +58,7 @@ pub(crate) fn lower_front(
     ensures exponent { IfOk result (λ h. IsExponent h (form_of normal.now)) }
     ensures few { IfOk result (λ h. h ≤ 77) }
     ensures taken { IfOk result (λ h. front_of h normal.now ≡ Ok (stored kept.new factors.new normal.now.columns 0 3, form_from (entry table.new) 3 (normal.now.columns - 3))) }
+    ensures outside { (r i : ℕ) → (3 ≤ i) ⊎ ((r ≤ i) ⊎ (normal.now.columns ≤ r)) → entry factors.new r i ≡ entry factors.old r i }
     ensures refused { IfErr result (λ e. (h : ℕ) → IsExponent h (form_of normal.now) → IsToldAs e (front_of h normal.now)) }
     ensures bound { IfOk result (λ h. (arcs : List Arc) (scale : ℕ) (pairs : List PairRows) → IsNormalOf arcs scale pairs normal.now → BoundsAllData arcs scale pairs h (form_from (entry table.new) 3 (normal.now.columns - 3))) }
 {
@@ -62,4 +67,31 @@ pub(crate) fn lower_front(
         Ok(()) => Ok(h),
         Err(stopped) => Err(stopped.fault()),
     }
+}
+
+/// The first half of the elimination of a normal matrix: the first rounding, over the least power of two that serves,
+/// and the steps of the baseline's columns.
+///
+/// 64 times the sum of squares of the rows, at any data in their boxes, any integers and any baseline, is at least 2^h
+/// times the value of the form at the integers.
+pub fn front(normal: &Normal) -> Result<FrontForm, LowerFault>
+    ensures front { IfOk result (λ r. IsFrontOf normal.now r) }
+    ensures few { IfOk result (λ r. r.h ≤ 77) }
+    ensures refused { IfErr result (λ e. (h : ℕ) → IsExponent h (form_of normal.now) → IsToldAs e (front_of h normal.now)) }
+    ensures bound { IfOk result (λ r. (arcs : List Arc) (scale : ℕ) (pairs : List PairRows) → IsNormalOf arcs scale pairs normal.now → BoundsAllData arcs scale pairs r.h (form_of_table r.p (r.columns - 3))) }
+{
+    let mut table = NormalTable::zeros();
+    let mut factors = FactorTable::zeros();
+    let mut kept = [0; MOST_FACTORS];
+    let h = lower_front(normal, &mut table, &mut factors, &mut kept)?;
+    let d = first_kept(&kept);
+    let l = front_factors(&factors);
+    let p = form_table(&table, normal.columns - BASELINE_COLUMNS);
+    Ok(FrontForm {
+        columns: normal.columns,
+        h,
+        d,
+        l,
+        p,
+    })
 }

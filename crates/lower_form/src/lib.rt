@@ -5,9 +5,13 @@
 #![tactic(auto)]
 
 mod first_entries;
+mod forms;
 mod fronts;
 mod rounding;
+mod tables;
 
+pub use forms::{finish, lower};
+pub use fronts::front;
 pub use integer_form::{Form, FrontForm, LowerFault, Overwidth, Place};
 
 #[cfg(test)]

@@ -1,4 +1,4 @@
-use Rattle.std.proofs.Common.{◌≡◌, inl, inr, ℕ, ◌<◌, ◌≤◌, ◌^◌, ℤ, pos, ◌*ℤ◌, true, unsigned_abs, arith, to_z, of_z, sym, ap, ◌∙◌, subst, below_more}
+use Rattle.std.proofs.Common.{◌≡◌, ◌≢◌, ◌⊎◌, inl, inr, ℕ, ◌<◌, ◌≤◌, ◌^◌, ℤ, pos, ◌*ℤ◌, true, unsigned_abs, arith, to_z, of_z, sym, ap, ◌∙◌, subst, below_more}
 use Rattle.std.proofs.lemmas.Int.{to_z-of_z}
 use Rattle.std.specs.Int.{w64, w128}
 use Rattle.whole_math.specs.Rounding.{nearest_div}
@@ -26,5 +26,11 @@ loop-c-preserved c =
       from = omega (arith, c.loop-c.invariant.from);
       value = λ m h g. below_more (λ (m : ℕ). j < m → entry c.set.new.self m j ≡ factor_entry c.args.table.now j n m) k (λ m g h. c.set.ensures.others m j (inl (omega arith)) ∙ c.loop-c.invariant.value m h g) (λ h. there) m g h;
       small = λ m h g. below_more (λ (m : ℕ). j < m → is_small (factor_entry c.args.table.now j n m) ≡ true) k (λ m g h. c.loop-c.invariant.small m h g) (λ h. subst (λ (z : ℤ). is_small z ≡ true) is s) m g h;
-      others = λ i m d. c.set.ensures.others i m (inr d) ∙ c.loop-c.invariant.others i m d;
+      others = λ i m d. c.set.ensures.others i m (apart i m j k c.args.columns c.loop-c.invariant.from c.loop-c-test.true d) ∙ c.loop-c.invariant.others i m d;
     }
+  where
+    -- a write of column j after its own row is none outside
+    apart : (i m j k n : ℕ) → j < k → k < n → (m ≢ j) ⊎ ((i ≤ j) ⊎ (n ≤ i)) → (i ≢ k) ⊎ (m ≢ j)
+    apart i m j k n h g (inl d) = inr d
+    apart i m j k n h g (inr (inl d)) = inl (omega arith)
+    apart i m j k n h g (inr (inr d)) = inl (omega arith)

@@ -1,4 +1,4 @@
-use Rattle.std.proofs.Common.{◌≡◌, ℕ, suc, ◌+◌, ◌-◌, ◌<◌, ◌≤◌, ◌^◌, List, [], ◌∷◌, ◌++◌, length, set, ℤ, pos, Result, Err, unsigned_abs, slice_index_or, get_or-set_same, get_or-set_other, length-set, arith, to_z, of_z, sym, ap, ap₂, ◌∙◌, subst, rules}
+use Rattle.std.proofs.Common.{◌≡◌, ◌≢◌, ◌⊎◌, inl, inr, ℕ, suc, ◌+◌, ◌-◌, ◌<◌, ◌≤◌, ◌^◌, List, [], ◌∷◌, ◌++◌, length, set, ℤ, pos, Result, Err, unsigned_abs, slice_index_or, get_or-set_same, get_or-set_other, length-set, arith, to_z, of_z, sym, ap, ap₂, ◌∙◌, subst, rules}
 use Rattle.std.specs.Int.{w64, w128}
 use Rattle.quadratic_form.specs.Forms.{Column}
 use Rattle.quadratic_form.specs.Elimination.{Factor, Refusal, steps}
@@ -54,7 +54,7 @@ loop-j-preserved c =
     let room : j < length c.loop-j.kept = omega (arith, c.loop-j.invariant.full, c.loop-j-test.true, c.requires.end_in, c.requires.columns_in) in
     let here : slice_index_or kept j (pos 0) ≡ d = get_or-set_same c.loop-j.kept j v (pos 0) room ∙ ev in
     let rest : Answer = steps (suc j) left (form_after t j n) in
-    let same : stored kept f c.args.columns from count ≡ fs = stored_same kept c.loop-j.kept f c.loop-j.factors c.args.columns from count (λ i a b. get_or-set_other c.loop-j.kept j i v (pos 0) (omega arith)) (λ r i a b. c.in-Ok.ensures.others r i (omega arith)) in
+    let same : stored kept f c.args.columns from count ≡ fs = stored_same kept c.loop-j.kept f c.loop-j.factors c.args.columns from count (λ i a b. get_or-set_other c.loop-j.kept j i v (pos 0) (omega arith)) (λ r i a b. c.in-Ok.ensures.others r i (inl (omega arith))) in
     let more : stored kept f c.args.columns from (suc count) ≡ fs ++ (factor_at d f j n ∷ []) = stored_last kept f c.args.columns from count
     ∙ ap (λ (m : ℕ). stored kept f c.args.columns from count ++ (factor_at (slice_index_or kept m (pos 0)) f m ((c.args.columns - m) - 1) ∷ [])) place
     ∙ ap₂ (λ (s : List Factor) (z : ℤ). s ++ (factor_at z f j n ∷ [])) same here in
@@ -66,9 +66,21 @@ loop-j-preserved c =
       full = length-set c.loop-j.kept j v ∙ c.loop-j.invariant.full;
       so_far = c.loop-j.invariant.so_far ∙ ap (λ (x : Answer). before fs x) (open_it ∙ steps_ok j left (column_at c.loop-j.table j n) (form_after c.loop-j.table j n) (factor_at d f j n, form_after t j n) c.in-Ok.ensures.taken)
           ∙ sym (before_last fs (factor_at d f j n) rest) ∙ ap (λ (s : List Factor). before s rest) (sym more) ∙ result;
+      factors_outside = λ r i d. c.in-Ok.ensures.others r i (outside from j c.args.end c.args.columns r i low c.loop-j-test.true d) ∙ c.loop-j.invariant.factors_outside r i d;
+      kept_outside = λ i d. get_or-set_other c.loop-j.kept j i v (pos 0) (apart from j c.args.end i low c.loop-j-test.true d) ∙ c.loop-j.invariant.kept_outside i d;
       entries = λ r k h l g. c.in-Ok.ensures.small r k (omega arith) l g;
     }
   where
+    outside : (from j end n r i : ℕ) → from ≤ j → j < end → ((i < from) ⊎ (end ≤ i)) ⊎ ((r ≤ i) ⊎ (n ≤ r)) → (i ≢ j) ⊎ ((r ≤ j) ⊎ (n ≤ r))
+    outside from j end n r i h g (inl (inl d)) = inl (omega arith)
+    outside from j end n r i h g (inl (inr d)) = inl (omega arith)
+    outside from j end n r i h g (inr (inl d)) = grind arith
+    outside from j end n r i h g (inr (inr d)) = inr (inr d)
+
+    apart : (from j end i : ℕ) → from ≤ j → j < end → (i < from) ⊎ (end ≤ i) → i ≢ j
+    apart from j end i h g (inl d) = omega arith
+    apart from j end i h g (inr d) = omega arith
+
     next_count : (j from : ℕ) → from ≤ j → suc (j - from) ≡ (j + 1) - from
     next_count j from h = omega arith
 

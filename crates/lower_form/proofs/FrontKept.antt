@@ -1,0 +1,65 @@
+-- What the front keeps, from the tables that its steps leave.
+use Rattle.std.proofs.Common.{◌≡◌, ◌⊎◌, inl, inr, ⊎_elim, ℕ, ◌-◌, ◌^◌, ◌<◌, ◌≤◌, Bool, true, false, List, ℤ, pos, Result, Ok, Err, unsigned_abs, slice_index_or, arith, sym, ap₂, ◌∙◌, refl, subst}
+use Rattle.quadratic_form.specs.Forms.{Column}
+use Rattle.quadratic_form.specs.Elimination.{Factor, Refusal, wide_entry, form_small, steps}
+use Rattle.quadratic_form.specs.LowerSums.{SmallForm}
+use Rattle.quadratic_form.specs.Places.{form_from}
+use Rattle.quadratic_form.proofs.Ranges.{AllInRange, form_is, steps_range}
+use Rattle.obs_rows.specs.Tables.{entry, IsZeroOutside}
+use Rattle.normal_sum.specs.declared.normal.Normal.{Normal}
+use Rattle.normal_sum.specs.Matrices.{EntriesBelow}
+use Rattle.integer_form.specs.Factors.{stored}
+use Rattle.integer_form.specs.Kept.{form_of_table, IsBelowDiagonal}
+use Rattle.elimination.proofs.StoredLaws.{stored_same}
+use Rattle.lower_form.specs.FirstRounding.{first_form}
+use Rattle.lower_form.specs.Fronts.{front_of}
+use Rattle.lower_form.proofs.KeptLaws.{none, factors_below}
+
+abbrev Answer : Type 0
+Answer = Result (List Factor × List Column) Refusal
+
+-- an answer of the front passed the test of the first rounding
+pub front_answer : (h : ℕ) (n : Normal) (p : List Factor × List Column) → front_of h n ≡ Ok p → (form_small (first_form h n) ≡ true) × (steps 0 3 (first_form h n) ≡ Ok p)
+front_answer h n p e = go (form_small (first_form h n)) refl e
+  where
+    go : (t : Bool) → form_small (first_form h n) ≡ t → elim t as (λ b. Answer) [ true ↦ steps 0 3 (first_form h n) | false ↦ Err wide_entry ] ≡ Ok p → (form_small (first_form h n) ≡ true) × (steps 0 3 (first_form h n) ≡ Ok p)
+    go true o e = (o, e)
+    go false o e = absurd cc
+
+pub front_range : (h : ℕ) (n : Normal) (p : List Factor × List Column) → front_of h n ≡ Ok p → AllInRange p.0 × SmallForm p.1
+front_range h n p e = let a : (form_small (first_form h n) ≡ true) × (steps 0 3 (first_form h n) ≡ Ok p) = front_answer h n p e in steps_range 0 3 (first_form h n) p a.1 (form_is (first_form h n) a.0)
+
+-- what the front form keeps
+pub record Fronted (columns h : ℕ) (n : Normal) (d : List ℤ) (l p : List (List ℤ)) : Type 0 where
+  pub factors_in : EntriesBelow (2 ^ 52) l
+  pub factors_outside : IsBelowDiagonal columns l
+  pub taken : front_of h n ≡ Ok (stored d l columns 0 3, form_of_table p (columns - 3))
+
+-- from what the steps kept in the lists d' and l', and left of the table t
+pub fronted : (columns h : ℕ) (n : Normal) (d d' : List ℤ) (l l' t p : List (List ℤ)) → columns ≤ 44 → front_of h n ≡ Ok (stored d' l' columns 0 3, form_from (entry t) 3 (columns - 3)) →
+    ((r i : ℕ) → (3 ≤ i) ⊎ ((r ≤ i) ⊎ (columns ≤ r)) → entry l' r i ≡ pos 0) →
+    ((i : ℕ) → i < 3 → slice_index_or d i (pos 0) ≡ slice_index_or d' i (pos 0)) →
+    ((r c : ℕ) → r < 44 → c < 3 → entry l r c ≡ entry l' r c) → IsZeroOutside 44 3 l →
+    form_of_table p (columns - 3) ≡ form_from (entry t) 3 (columns - 3) → Fronted columns h n d l p
+fronted columns h n d d' l l' t p to e z kept factors outside form = record {
+  factors_in = λ r c. subst (λ (x : ℤ). unsigned_abs x < 2 ^ 52) (sym (same r c))
+      (⊎_elim (λ (a : c < 3). factors_below d' l' columns 0 3 below range.0 r c (omega arith) a) (λ (a : 3 ≤ c). subst (λ (x : ℤ). unsigned_abs x < 2 ^ 52) (sym (z r c (inl a))) none) (either c 3));
+  factors_outside = λ r c a. same r c ∙ below r c a;
+  taken = e ∙ ap₂ (λ (s : List Factor) (a : List Column). let x : Answer = Ok (s, a) in x) (sym (stored_same d d' l l' columns 0 3 (λ i a b. kept i b) (λ r i a b. same r i))) (sym form);
+}
+  where
+    either : (c n : ℕ) → (c < n) ⊎ (n ≤ c)
+    either c n = grind arith
+
+    range : AllInRange (stored d' l' columns 0 3) × SmallForm (form_from (entry t) 3 (columns - 3))
+    range = front_range h n (stored d' l' columns 0 3, form_from (entry t) 3 (columns - 3)) e
+
+    below : IsBelowDiagonal columns l'
+    below r c a = z r c (inr a)
+
+    past : (r : ℕ) → 44 ≤ r → columns ≤ r
+    past r a = omega arith
+
+    same : (r c : ℕ) → entry l r c ≡ entry l' r c
+    same r c = ⊎_elim (λ (a : c < 3). ⊎_elim (λ (b : r < 44). factors r c b a) (λ (b : 44 ≤ r). outside r c (inl b) ∙ sym (z r c (inr (inr (past r b))))) (either r 44))
+        (λ (a : 3 ≤ c). outside r c (inr a) ∙ sym (z r c (inl a))) (either c 3)
