@@ -1,0 +1,4 @@
+pub mod Circle
+pub mod Reaches
+pub mod Turns
+pub mod Angles
