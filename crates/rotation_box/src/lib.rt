@@ -10,6 +10,11 @@ ghost use Rattle.kepler_box.specs.Kepler.{SolvesKepler};
 ghost use Rattle.orbit_model.specs.Solution.{turned, IsPairOf5, IsPairOf7};
 ghost use Rattle.rotation_box.specs.Rotations.{HasPairNearCircle, HoldsBoth};
 
+mod ellipse;
+
+pub use ellipse::{
+    ANOMALY_WIDTH, ECCENTRICITY, OnEllipse, RADIUS, RADIUS_WIDTH, TRUE_WIDTH, on_ellipse,
+};
 use iv_core::Iv;
 use kepler_box::anomaly_box;
 use sized_box::SizedBox;
@@ -144,7 +149,7 @@ pub fn wide_rotation_of<const ANGLE: u64, const ANGLE_WIDTH: u64, const WIDTH: u
 
 /// The pair of the eccentric anomaly: holds that of every solution of Kepler's equation for a mean anomaly in `mean` and an
 /// eccentricity in `eccentricity`. What is asked of the two is what `anomaly_box` asks.
-pub fn eccentric_pair(mean: &Iv<56>, eccentricity: &Iv<60>) -> Rotation<1, 1600>
+pub fn eccentric_pair(mean: &Iv<56>, eccentricity: &Iv<60>) -> Rotation<1, ANOMALY_WIDTH>
     requires mean { IsWithin (12 * 2 ^ 56) mean.now }
     requires mean_narrow { width_of mean.now ≤ℤ pos (2 ^ 4) }
     requires eccentricity_low { pos 0 ≤ℤ eccentricity.now.lo }

@@ -27,14 +27,16 @@ new-requires g c =
     )
 
 pub returns : goal.returns
-returns g c = record { holds = λ p q h k.
-    let s = c.args.self.now in
-    let o = c.args.other.now in
-    let a = c.cosine-cos.result.held in
-    let b = c.sine-sin.result.held in
-    let d = c.cosine-other_cos.result.held in
-    let e = c.sine-other_sin.result.held in
-    both_along c.new.result.cos c.new.result.sin c.sub-difference.result.held c.add-sum.result.held (turned p q) c.new.ensures.cos c.new.ensures.sin
-    (turned_held a b d e c.mul-both.result.held c.mul-neither.result.held c.mul-first.result.held c.mul-second.result.held c.sub-difference.result.held c.add-sum.result.held
-    c.mul-both.ensures.holds c.mul-neither.ensures.holds c.mul-first.ensures.holds c.mul-second.ensures.holds c.sub-difference.ensures.holds c.add-sum.ensures.holds
-    p q (both_along a b s.cos s.sin p c.cosine-cos.ensures c.sine-sin.ensures h) (both_along d e o.cos o.sin q c.cosine-other_cos.ensures c.sine-other_sin.ensures k)) }
+returns g c = record {
+  holds = λ p q h k.
+      let s = c.args.self.now in
+      let o = c.args.other.now in
+      let a = c.cosine-cos.result.held in
+      let b = c.sine-sin.result.held in
+      let d = c.cosine-other_cos.result.held in
+      let e = c.sine-other_sin.result.held in
+      both_along c.new.result.cos c.new.result.sin c.sub-difference.result.held c.add-sum.result.held (turned p q) c.new.ensures.cos c.new.ensures.sin
+      (turned_held a b d e c.mul-both.result.held c.mul-neither.result.held c.mul-first.result.held c.mul-second.result.held c.sub-difference.result.held c.add-sum.result.held
+      c.mul-both.ensures.holds c.mul-neither.ensures.holds c.mul-first.ensures.holds c.mul-second.ensures.holds c.sub-difference.ensures.holds c.add-sum.ensures.holds
+      p q (both_along a b s.cos s.sin p c.cosine-cos.ensures c.sine-sin.ensures h) (both_along d e o.cos o.sin q c.cosine-other_cos.ensures c.sine-other_sin.ensures k));
+}
