@@ -2,77 +2,47 @@
 //! 20-IV) from the true anomaly on.
 #![tactic(auto)]
 
-ghost use Rattle.std.specs.Prelude.{◌≡◌, ◌*◌, ◌^◌, ◌<◌, ◌≤◌, pos, ◌≤ℤ◌};
+ghost use Rattle.std.specs.Prelude.{◌≡◌, ◌^◌, pos, ◌≤ℤ◌, [], ◌∷◌, All};
+ghost use Rattle.rational.specs.Rational.{Rational};
+ghost use Rattle.iv_core.specs.declared.Iv.{Iv};
+ghost use Rattle.iv_core.specs.Intervals.{width_of};
+ghost use Rattle.orbit_model.specs.Elements.{Constants, Elements};
+ghost use Rattle.orbit_model.specs.Solution.{Quantities, IsSatelliteSolution};
+ghost use Rattle.orbit_model.specs.Places.{IsBetweenDistances};
+ghost use Rattle.orbit_place.specs.Held.{HoldsOrbit, HoldsPlace};
 
-use rotation_box::Rotation;
+mod angles;
+mod directions;
+mod orbit;
+mod plane;
+
+use angles::{inclination_of, node_of};
+use directions::direction_of;
+use iv_core::Iv;
+pub use orbit::{ANGLE, AXIS, EPOCH_TIME, Orbit, RADIUS_CHANGE, SMALL, TINY};
+use plane::in_plane;
+pub use rotation_box::{ANOMALY_WIDTH, ECCENTRICITY};
 use sized_box::SizedBox;
 
-/// 1/32 at 2^-60: the greatest eccentricity.
-pub const ECCENTRICITY: u64 = 1 << 55;
+// A coordinate.
+const PLACE: u64 = 37_190_000 << 36;
 
-/// The width of the pair of the eccentric anomaly, in units of 2^-60.
-pub const ANOMALY_WIDTH: u64 = 1600;
+const PLACE_WIDTH: u64 = 68_155;
 
-/// 36,000 km at 2^-36 m: the greatest semi-major axis.
-pub const AXIS: u64 = 36_000_000 << 36;
-
-/// 10^4 s at 2^-60 of it: no time since the reference epoch is longer.
-pub const EPOCH_TIME: u64 = 1 << 60;
-
-/// 8 rad at 2^-56: no angle of a record is larger.
-pub const ANGLE: u64 = 1 << 59;
-
-/// 1/512 at 2^-60: no amplitude of a correction of an angle, in rad, and no rate of the node, in 10^-4 rad/s, is larger.
-pub const SMALL: u64 = 1 << 51;
-
-/// 1/8192 at 2^-60: no rate of the inclination, in 10^-4 rad/s, is larger.
-pub const TINY: u64 = 1 << 47;
-
-/// 10 km at 2^-40 m: the greatest amplitude of a correction of the radius.
-pub const RADIUS_CHANGE: u64 = 10_000 << 40;
-
-/// What a satellite's place is made from: boxes of the numbers of a record, and of what its clock and Kepler's equation give.
-#[derive(Clone, Copy, Debug)]
-pub struct Orbit {
-    /// e
-    pub eccentricity: SizedBox<60, ECCENTRICITY, 1>,
-    /// The pair of E
-    pub anomaly: Rotation<1, ANOMALY_WIDTH>,
-    /// A, in metres
-    pub axis: SizedBox<36, AXIS, 4>,
-    /// tk, in 10^4 s
-    pub epoch_time: SizedBox<60, EPOCH_TIME, 3>,
-    /// ω, i0 and Ω0, in radians
-    pub perigee: SizedBox<56, ANGLE, 1>,
-    pub inclination: SizedBox<56, ANGLE, 1>,
-    pub node: SizedBox<56, ANGLE, 1>,
-    /// The rates of i and Ω, in 10^-4 rad/s
-    pub inclination_rate: SizedBox<60, TINY, 1>,
-    pub node_rate: SizedBox<60, SMALL, 1>,
-    /// The amplitudes of the corrections of u and i, in radians, and of r, in metres
-    pub cuc: SizedBox<60, SMALL, 1>,
-    pub cus: SizedBox<60, SMALL, 1>,
-    pub cic: SizedBox<60, SMALL, 1>,
-    pub cis: SizedBox<60, SMALL, 1>,
-    pub crc: SizedBox<40, RADIUS_CHANGE, 1>,
-    pub crs: SizedBox<40, RADIUS_CHANGE, 1>,
-    /// toe as a second of its week
-    pub toe_second: u32,
-    pub ghost axis_least: { pos (20249999 * 2 ^ 36) ≤ℤ axis.held.lo },
-    pub ghost in_week: { toe_second < 604800 },
+/// The Earth-fixed place in metres, at scale 2^-36: holds that of every solution whose numbers lie in the boxes.
+///
+/// Each coordinate is at most 2^-18 m wide, and every place in the box is from 19,000 km to 38,000 km from the Earth's centre.
+pub fn place_of(orbit: &Orbit) -> [Iv<36>; 3]
+    ensures holds { (world : Constants) (eph : Elements) (sent : Rational) (q : Quantities) →
+        HoldsOrbit orbit.now eph q → IsSatelliteSolution world eph sent q → HoldsPlace result q }
+    ensures narrow { All (λ b. width_of b ≤ℤ pos (2 ^ 18)) result }
+    ensures away { (a b c : Iv 36) → result ≡ a ∷ b ∷ c ∷ [] → IsBetweenDistances 19000000 38000000 a b c }
+{
+    let plane = in_plane(orbit);
+    let inclination = inclination_of(orbit, &plane.twice);
+    let direction = direction_of(&plane.latitude, &inclination, &node_of(orbit));
+    let x: SizedBox<36, PLACE, PLACE_WIDTH> = plane.radius.mul(&direction.x);
+    let y: SizedBox<36, PLACE, PLACE_WIDTH> = plane.radius.mul(&direction.y);
+    let z: SizedBox<36, PLACE, PLACE_WIDTH> = plane.radius.mul(&direction.z);
+    [x.held, y.held, z.held]
 }
-
-// To come, with these clauses:
-//
-// pub fn place_of(orbit: &Orbit) -> [Iv<36>; 3]
-//     ensures holds { (world : Constants) (eph : Elements) (sent : Rational) (q : Quantities) →
-//         HoldsOrbit orbit.now eph q → IsSatelliteSolution world eph sent q → HoldsPlace result q }
-//     ensures narrow { All (λ b. width_of b ≤ℤ pos (2 ^ 18)) result }
-//     ensures away { (a b c : Iv 36) → result ≡ a ∷ b ∷ c ∷ [] → IsBetweenDistances 19000000 38000000 a b c }
-//
-// and in rotation_box, for the field `anomaly`:
-//
-// pub fn eccentric_pair(m: &Iv<56>, e: &Iv<60>) -> Rotation<1, 1600>
-//     requires as of anomaly_box
-//     ensures holds { (mean ecc angle : Rational) (p : Pair) → Holds m.now mean → Holds e.now ecc →
-//         SolvesKepler mean ecc angle p.cos p.sin → HoldsBoth result.cos result.sin p }
