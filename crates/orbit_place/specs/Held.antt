@@ -4,8 +4,8 @@ use Rattle.std.proofs.Common.{lit<}
 use Rattle.rational.specs.Rational.{Rational, ◌≈◌, of_whole, times, divided}
 use Rattle.iv_core.specs.declared.Iv.{Iv}
 use Rattle.iv_core.specs.Intervals.{Holds}
-use Rattle.orbit_model.specs.Elements.{Elements}
-use Rattle.orbit_model.specs.Solution.{Quantities}
+use Rattle.orbit_model.specs.Elements.{Elements, Constants}
+use Rattle.orbit_model.specs.Solution.{Quantities, IsSatelliteSolution}
 use Rattle.rotation_box.specs.Rotations.{HoldsBoth}
 use Rattle.orbit_place.specs.declared.orbit.Orbit.{Orbit}
 
@@ -27,6 +27,10 @@ pub record HoldsOrbit (b : Orbit) (eph : Elements) (q : Quantities) : Type 0 whe
   pub crc : Holds b.crc.held eph.crc
   pub crs : Holds b.crs.held eph.crs
   pub toe_second : eph.toe_second ≈ of_whole (pos b.toe_second)
+
+-- P holds of the quantities of every solution whose numbers lie in the boxes
+abbrev pub ForSolutions : Orbit → (Quantities → Type 0) → Type 0
+ForSolutions b P = (world : Constants) (eph : Elements) (sent : Rational) (q : Quantities) → HoldsOrbit b eph q → IsSatelliteSolution world eph sent q → P q
 
 -- each coordinate lies in its box
 abbrev pub HoldsPlace : List (Iv 36) → Quantities → Type 0

@@ -2,10 +2,9 @@
 ghost use Rattle.std.specs.Prelude.{◌≡◌, ◌*◌, ◌^◌, ◌<◌, ◌≤◌, pos, ◌≤ℤ◌};
 ghost use Rattle.rational.specs.Rational.{Rational, ◌≈◌, add_r, sub_r, mul_r, times, of_whole};
 ghost use Rattle.iv_core.specs.Intervals.{Holds};
-ghost use Rattle.orbit_model.specs.Elements.{Constants, Elements, earth_rate};
-ghost use Rattle.orbit_model.specs.Solution.{Quantities, IsSatelliteSolution};
+ghost use Rattle.orbit_model.specs.Elements.{earth_rate};
 ghost use Rattle.rotation_box.specs.Rotations.{HoldsBoth};
-ghost use Rattle.orbit_place.specs.Held.{HoldsOrbit};
+ghost use Rattle.orbit_place.specs.Held.{ForSolutions};
 
 use crate::plane::{ANGLE_CHANGE, ANGLE_CHANGE_WIDTH, TWICE_WIDTH, angle_change};
 use crate::{ANGLE, EPOCH_TIME, Orbit, SMALL, TINY};
@@ -95,10 +94,8 @@ pub fn inclination_of(
     orbit: &Orbit,
     twice: &Rotation<9, TWICE_WIDTH>,
 ) -> Rotation<1, INCLINATION_WIDTH>
-    ensures holds { (world : Constants) (eph : Elements) (sent : Rational) (q : Quantities) →
-        HoldsOrbit orbit.now eph q → IsSatelliteSolution world eph sent q →
-        HoldsBoth twice.now.cos twice.now.sin q.twice_pair →
-        HoldsBoth result.cos result.sin q.inclination_pair }
+    ensures holds { ForSolutions orbit.now (λ q. HoldsBoth twice.now.cos twice.now.sin q.twice_pair →
+        HoldsBoth result.cos result.sin q.inclination_pair) }
 {
     let change = angle_change(&orbit.cis, &orbit.cic, twice);
     let angle = inclined(
@@ -112,9 +109,7 @@ pub fn inclination_of(
 
 /// The pair of the longitude of the ascending node.
 pub fn node_of(orbit: &Orbit) -> Rotation<4, NODE_WIDTH>
-    ensures holds { (world : Constants) (eph : Elements) (sent : Rational) (q : Quantities) →
-        HoldsOrbit orbit.now eph q → IsSatelliteSolution world eph sent q →
-        HoldsBoth result.cos result.sin q.node_pair }
+    ensures holds { ForSolutions orbit.now (λ q. HoldsBoth result.cos result.sin q.node_pair) }
 {
     let angle = longitude_of(
         &orbit.node,

@@ -45,17 +45,18 @@ pub fn direction_of(
         HoldsBoth inclination.now.cos inclination.now.sin i → HoldsBoth node.now.cos node.now.sin n →
         HoldsPoint result.x.held result.y.held result.z.held (direction u i n) }
 {
-    let across: SizedBox<60, PART, ACROSS_WIDTH> = latitude.sine().mul(&inclination.cosine());
-    let up: SizedBox<60, PART, ACROSS_WIDTH> = latitude.sine().mul(&inclination.sine());
+    let (ahead, aside) = (latitude.cosine(), latitude.sine());
+    let (level, steep) = (inclination.cosine(), inclination.sine());
     let (cos, sin) = (node.cosine(), node.sine());
-    let ahead = latitude.cosine();
+    let across: SizedBox<60, PART, ACROSS_WIDTH> = aside.mul(&level);
     let first: SizedBox<60, HALF, ALONG_WIDTH> = ahead.mul(&cos);
     let second: SizedBox<60, HALF, TURNED_WIDTH> = across.mul(&sin);
     let third: SizedBox<60, HALF, ALONG_WIDTH> = ahead.mul(&sin);
     let fourth: SizedBox<60, HALF, TURNED_WIDTH> = across.mul(&cos);
     let x: SizedBox<60, SUM, DIRECTION_WIDTH> = first.sub(&second);
     let y: SizedBox<60, SUM, DIRECTION_WIDTH> = third.add(&fourth);
-    near_sphere(x.held, y.held, up.held)
+    let z: SizedBox<60, PART, DIRECTION_WIDTH> = aside.mul(&steep);
+    near_sphere(x.held, y.held, z.held)
 }
 
 // The direction in the boxes, one of which is near the sphere.

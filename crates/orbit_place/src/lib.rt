@@ -3,13 +3,10 @@
 #![tactic(auto)]
 
 ghost use Rattle.std.specs.Prelude.{◌≡◌, ◌^◌, pos, ◌≤ℤ◌, [], ◌∷◌, All};
-ghost use Rattle.rational.specs.Rational.{Rational};
 ghost use Rattle.iv_core.specs.declared.Iv.{Iv};
 ghost use Rattle.iv_core.specs.Intervals.{width_of};
-ghost use Rattle.orbit_model.specs.Elements.{Constants, Elements};
-ghost use Rattle.orbit_model.specs.Solution.{Quantities, IsSatelliteSolution};
 ghost use Rattle.orbit_model.specs.Places.{IsBetweenDistances};
-ghost use Rattle.orbit_place.specs.Held.{HoldsOrbit, HoldsPlace};
+ghost use Rattle.orbit_place.specs.Held.{ForSolutions, HoldsPlace};
 
 mod angles;
 mod directions;
@@ -33,8 +30,7 @@ const PLACE_WIDTH: u64 = 68_155;
 ///
 /// Each coordinate is at most 2^-18 m wide, and every place in the box is from 19,000 km to 38,000 km from the Earth's centre.
 pub fn place_of(orbit: &Orbit) -> [Iv<36>; 3]
-    ensures holds { (world : Constants) (eph : Elements) (sent : Rational) (q : Quantities) →
-        HoldsOrbit orbit.now eph q → IsSatelliteSolution world eph sent q → HoldsPlace result q }
+    ensures holds { ForSolutions orbit.now (HoldsPlace result) }
     ensures narrow { All (λ b. width_of b ≤ℤ pos (2 ^ 18)) result }
     ensures away { (a b c : Iv 36) → result ≡ a ∷ b ∷ c ∷ [] → IsBetweenDistances 19000000 38000000 a b c }
 {

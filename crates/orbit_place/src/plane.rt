@@ -3,13 +3,14 @@ ghost use Rattle.std.specs.Prelude.{◌≡◌, ◌+◌, ◌-◌, ◌*◌, ◌^�
 ghost use Rattle.rational.specs.Rational.{Rational, add_r, mul_r};
 ghost use Rattle.iv_core.specs.Intervals.{Holds};
 ghost use Rattle.trig_box.specs.AnglePairs.{Pair};
-ghost use Rattle.orbit_model.specs.Elements.{Constants, Elements};
-ghost use Rattle.orbit_model.specs.Solution.{harmonic, turned, Quantities, IsPairOf5, IsSatelliteSolution};
+ghost use Rattle.orbit_model.specs.Solution.{harmonic, turned, IsPairOf5};
 ghost use Rattle.rotation_box.specs.Rotations.{HoldsBoth};
-ghost use Rattle.orbit_place.specs.Held.{HoldsOrbit};
+ghost use Rattle.orbit_place.specs.Held.{ForSolutions};
 
 use crate::{ANGLE, AXIS, Orbit, RADIUS_CHANGE, SMALL};
-use rotation_box::{OnEllipse, RADIUS, RADIUS_WIDTH, Rotation, TRUE_WIDTH, on_ellipse, rotation_of};
+use rotation_box::{
+    OnEllipse, RADIUS, RADIUS_WIDTH, Rotation, TRUE_WIDTH, on_ellipse, rotation_of,
+};
 use sized_box::SizedBox;
 
 const PERIGEE_WIDTH: u64 = 544;
@@ -131,23 +132,20 @@ fn radius_of(
 
 /// The place in the plane of the orbit.
 pub fn in_plane(orbit: &Orbit) -> InPlane
-    ensures radius { (world : Constants) (eph : Elements) (sent : Rational) (q : Quantities) →
-        HoldsOrbit orbit.now eph q → IsSatelliteSolution world eph sent q → Holds result.radius.held q.radius }
-    ensures latitude { (world : Constants) (eph : Elements) (sent : Rational) (q : Quantities) →
-        HoldsOrbit orbit.now eph q → IsSatelliteSolution world eph sent q →
-        HoldsBoth result.latitude.cos result.latitude.sin q.corrected_pair }
-    ensures twice { (world : Constants) (eph : Elements) (sent : Rational) (q : Quantities) →
-        HoldsOrbit orbit.now eph q → IsSatelliteSolution world eph sent q →
-        HoldsBoth result.twice.cos result.twice.sin q.twice_pair }
+    ensures radius { ForSolutions orbit.now (λ q. Holds result.radius.held q.radius) }
+    ensures latitude { ForSolutions orbit.now (λ q. HoldsBoth result.latitude.cos result.latitude.sin q.corrected_pair) }
+    ensures twice { ForSolutions orbit.now (λ q. HoldsBoth result.twice.cos result.twice.sin q.twice_pair) }
 {
     let ellipse = on_ellipse(&orbit.eccentricity, &orbit.anomaly);
-    let latitude = latitude_of(&ellipse.true_anomaly, &orbit.perigee);
-    let twice = latitude.double::<TWICE_PART, 9, TWICE_WIDTH>();
+    let argument = latitude_of(&ellipse.true_anomaly, &orbit.perigee);
+    let twice = argument.double::<TWICE_PART, 9, TWICE_WIDTH>();
     let change = angle_change(&orbit.cus, &orbit.cuc, &twice);
     let correction = radius_change(&orbit.crs, &orbit.crc, &twice);
+    let latitude = corrected(&argument, &change);
+    let radius = radius_of(&orbit.axis, &ellipse.radius, &correction);
     InPlane {
-        radius: radius_of(&orbit.axis, &ellipse.radius, &correction),
-        latitude: corrected(&latitude, &change),
+        radius,
+        latitude,
         twice,
     }
 }
