@@ -290,6 +290,7 @@ impl<const K: u32> Iv<K> {
         requires finer { K ≤ B + B }
         requires small { B + B ≤ K + 60 }
         ensures holds { (x r : Rational) → Holds self.now x → IsNearRoot r x → Holds result r }
+        ensures not_negative { pos 0 ≤ℤ result.lo }
         ensures near_low { (under_root K B self.now.lo *ℤ (pos (2 ^ 60) -ℤ pos 1)) <ℤ
             (((result.lo +ℤ pos 1) *ℤ (result.lo +ℤ pos 1)) *ℤ pos (2 ^ 60)) }
         ensures near_high { pos 0 <ℤ result.hi →

@@ -219,6 +219,9 @@ pub fn anomaly_box(m: &Iv<56>, e: &Iv<60>) -> Anomaly
         IsNearBox 56 m.now.lo m.now.hi d mean → Holds e.now eccentricity →
         SolvesKepler mean eccentricity angle c s → IsNearAnomaly d result angle c s }
 
+    // No angle in the box is over 16 in size, so each has pairs.
+    ensures range { IsWithin (2 ^ 60) result.angle }
+
     // 34 units of 2^-56, and 1600 of 2^-60
     ensures angle_width { width_of result.angle ≤ℤ angle_width_limit }
     ensures pair_width { IsPairAtMostWide pair_width_limit result }

@@ -89,6 +89,13 @@ returns-clause-holds c = λ mean e angle cos sin h k g. found_holds _ _ _ _ _ _ 
 pub returns-clause-near : goal.returns-clause-near
 returns-clause-near c = λ d mean e angle cos sin h k g. found_near _ _ _ _ _ _ _ _ _ _ _ _ _ _ _ _ d mean e angle cos sin (found c) h k g
 
+pub returns-clause-range : goal.returns-clause-range
+returns-clause-range c =
+    let ex = to_z-of_z w64 c.settle-angle.result (record { sfits = c.settle-angle.type_inv }) in
+    let er = to_z-of_z w64 c.widened-radius.result (record { sfits = c.widened-radius.type_inv }) in
+    let e = ends_of c.settle-angle.result c.widened-radius.result c.pairs_around.result.angle.lo c.pairs_around.result.angle.hi _ _ ex er c.settle-angle.ensures.angle.0 c.settle-angle.ensures.angle.1 c.widened-radius.ensures.low c.widened-radius.ensures.high c.pairs_around.ensures.lo c.pairs_around.ensures.hi in
+    (e.0, e.1)
+
 pub returns-clause-angle_width : goal.returns-clause-angle_width
 returns-clause-angle_width c =
     let ex = to_z-of_z w64 c.settle-angle.result (record { sfits = c.settle-angle.type_inv }) in

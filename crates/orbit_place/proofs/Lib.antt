@@ -1,0 +1,5 @@
+pub mod Radii
+pub mod Transports
+pub mod Spheres
+pub mod Turned
+pub mod Distances

@@ -1,0 +1,23 @@
+-- What the products and sums of the boxes of a direction hold.
+use Rattle.std.proofs.Common.{◌≡◌, ℕ, sym, subst}
+use Rattle.rational.specs.Rational.{add_r, sub_r, mul_r}
+use Rattle.iv_core.specs.declared.Iv.{Iv}
+use Rattle.trig_box.specs.AnglePairs.{Pair}
+use Rattle.rotation_box.specs.Rotations.{HoldsBoth}
+use Rattle.rotation_box.proofs.Turns.{HoldsAll}
+use Rattle.orbit_place.specs.Directions.{Point, direction, HoldsPoint}
+
+pub direction_held : (uc us ic is nc ns across first second third fourth x y z : Iv 60) →
+    HoldsAll mul_r us ic across → HoldsAll mul_r uc nc first → HoldsAll mul_r across ns second → HoldsAll mul_r uc ns third → HoldsAll mul_r across nc fourth →
+    HoldsAll sub_r first second x → HoldsAll add_r third fourth y → HoldsAll mul_r us is z →
+    (u i n : Pair) → HoldsBoth uc us u → HoldsBoth ic is i → HoldsBoth nc ns n → HoldsPoint x y z (direction u i n)
+direction_held uc us ic is nc ns across first second third fourth x y z f g h j k l m o u i n hu hi hn =
+    let a = f u.sin i.cos hu.1 hi.0 in (
+      l (mul_r u.cos n.cos) (mul_r (mul_r u.sin i.cos) n.sin) (g u.cos n.cos hu.0 hn.0) (h (mul_r u.sin i.cos) n.sin a hn.1),
+      m (mul_r u.cos n.sin) (mul_r (mul_r u.sin i.cos) n.cos) (j u.cos n.sin hu.0 hn.1) (k (mul_r u.sin i.cos) n.cos a hn.0),
+      o u.sin i.sin hu.1 hi.1,
+    )
+
+pub point_along : {k : ℕ} (a b c d e f : Iv k) (p : Point) → a ≡ d → b ≡ e → c ≡ f → HoldsPoint d e f p → HoldsPoint a b c p
+point_along {k} a b c d e f p x y z h =
+    subst (λ (t : Iv k). HoldsPoint t b c p) (sym x) (subst (λ (t : Iv k). HoldsPoint d t c p) (sym y) (subst (λ (t : Iv k). HoldsPoint d e t p) (sym z) h))

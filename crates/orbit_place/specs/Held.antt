@@ -1,0 +1,41 @@
+-- What the boxes of an orbit and of a place hold.
+use Rattle.std.specs.Prelude.{pos, List, [], ◌∷◌}
+use Rattle.std.proofs.Common.{lit<}
+use Rattle.rational.specs.Rational.{Rational, ◌≈◌, of_whole, times, divided}
+use Rattle.iv_core.specs.declared.Iv.{Iv}
+use Rattle.iv_core.specs.Intervals.{Holds}
+use Rattle.orbit_model.specs.Elements.{Elements, Constants}
+use Rattle.orbit_model.specs.Solution.{Quantities, IsSatelliteSolution}
+use Rattle.rotation_box.specs.Rotations.{HoldsBoth}
+use Rattle.orbit_place.specs.declared.orbit.Orbit.{Orbit}
+
+-- the boxes hold the numbers of a record and the quantities that the place is made from; times are over 10^4 s, and rates are times it
+pub record HoldsOrbit (b : Orbit) (eph : Elements) (q : Quantities) : Type 0 where
+  pub eccentricity : Holds b.eccentricity.held eph.ecc
+  pub anomaly : HoldsBoth b.anomaly.cos b.anomaly.sin q.eccentric_pair
+  pub axis : Holds b.axis.held q.axis
+  pub epoch_time : Holds b.epoch_time.held (divided q.tk 10000 (lit< tt))
+  pub perigee : Holds b.perigee.held eph.peri
+  pub inclination : Holds b.inclination.held eph.incl
+  pub node : Holds b.node.held eph.node
+  pub inclination_rate : Holds b.inclination_rate.held (times 10000 eph.incl_rate)
+  pub node_rate : Holds b.node_rate.held (times 10000 eph.node_rate)
+  pub cuc : Holds b.cuc.held eph.cuc
+  pub cus : Holds b.cus.held eph.cus
+  pub cic : Holds b.cic.held eph.cic
+  pub cis : Holds b.cis.held eph.cis
+  pub crc : Holds b.crc.held eph.crc
+  pub crs : Holds b.crs.held eph.crs
+  pub toe_second : eph.toe_second ≈ of_whole (pos b.toe_second)
+
+-- P holds of the quantities of every solution whose numbers lie in the boxes
+abbrev pub ForSolutions : Orbit → (Quantities → Type 0) → Type 0
+ForSolutions b P = (world : Constants) (eph : Elements) (sent : Rational) (q : Quantities) → HoldsOrbit b eph q → IsSatelliteSolution world eph sent q → P q
+
+-- each coordinate lies in its box
+abbrev pub HoldsPlace : List (Iv 36) → Quantities → Type 0
+HoldsPlace [] q = ⊥
+HoldsPlace (a ∷ []) q = ⊥
+HoldsPlace (a ∷ b ∷ []) q = ⊥
+HoldsPlace (a ∷ b ∷ c ∷ []) q = Holds a q.x × Holds b q.y × Holds c q.z
+HoldsPlace (a ∷ b ∷ c ∷ d ∷ more) q = ⊥

@@ -1,0 +1,6 @@
+pub mod Circle
+pub mod Reaches
+pub mod Turns
+pub mod Angles
+pub mod Roots
+pub mod Ellipses
