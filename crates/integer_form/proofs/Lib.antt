@@ -1,3 +1,5 @@
 pub mod FormShapes
 pub mod StepOrder
 pub mod FormLaws
+pub mod Words
+pub mod PlaceLaws

@@ -5,6 +5,8 @@ mod faults;
 mod form;
 mod front_form;
 mod laws;
+mod products;
+mod values;
 
 pub use faults::{LowerFault, Overwidth, Place};
 pub use form::Form;

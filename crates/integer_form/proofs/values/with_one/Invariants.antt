@@ -1,0 +1,9 @@
+use Rattle.std.proofs.Common.{◌≡◌, ℕ, ◌<◌, length}
+use Rattle.integer_form.specs.FloatPoint.{item}
+use Rattle.integer_form.proofs.values.with_one.Given as goal
+
+abbrev pub invariant-loop-i : goal.invariant-loop-i
+invariant-loop-i l = record {
+  full : length l.x ≡ 41;
+  same : (k : ℕ) → k < l.i → item l.x k ≡ item l.z k;
+}
