@@ -1,12 +1,14 @@
 // Numbers in the fields of a line.
 ghost use Rattle.std.specs.Prelude.{◌≡◌, ◌+◌, ◌<◌, ◌≤◌, ◌^◌, length, IfOk, IfSome, true};
 ghost use Rattle.decimal_text.specs.Whole.{are_digits, number_from};
-ghost use Rattle.decimal_text.specs.Fixed.{fixed_of};
+ghost use Rattle.decimal_text.specs.Fixed.{fixed_of, are_blank};
+ghost use Rattle.decimal_text.specs.Exp.{dec_of};
 ghost use Rattle.rinex_head.specs.Columns.{column, columns};
-ghost use Rattle.rinex_obs.specs.Fields.{without_blanks, whole_of, filled_of, readable};
+ghost use Rattle.rinex_head.specs.Fields.{without_blanks, whole_of, filled_of, readable};
 
-use decimal_text::{NumberFault, read_fixed};
-use rinex_head::{Flaw, What};
+use crate::columns::field;
+use crate::place::{Flaw, What};
+use decimal_text::{Dec, NumberFault, read_exp, read_fixed};
 
 fn skip_blanks(text: &[u8]) -> &[u8]
     ensures value { result.now ≡ without_blanks text.now }
@@ -82,6 +84,19 @@ pub fn filled_number(field: &[u8], first: u32) -> Result<u16, Flaw>
     }
 }
 
+/// The same in the two columns from this one on.
+pub fn two_digits(line: &[u8], first: u32) -> Result<u8, Flaw>
+    requires from_one { 1 ≤ first }
+    requires near { first ≤ 100 }
+    ensures value { result ≡ filled_of first (columns line.now first 2) }
+    ensures small { IfOk result (λ n. n ≤ 99) }
+{
+    match filled_number(&field::<2>(line, first as usize), first) {
+        Ok(number) => Ok(number as u8),
+        Err(flaw) => Err(flaw),
+    }
+}
+
 /// The number with a point that the text spells, times 10^places.
 pub fn fixed(text: &[u8], places: u32) -> Result<i64, NumberFault>
     requires { places ≤ 9 }
@@ -99,6 +114,31 @@ pub fn fixed_number(field: &[u8], first: u32, places: u32) -> Result<i64, Flaw>
         Ok(number) => Ok(number),
         Err(_) => Err(bad_field(first)),
     }
+}
+
+/// The number with an exponent in a field that begins at this column, where it must be there.
+pub fn exponent_number(field: &[u8], first: u32) -> Result<Dec, Flaw>
+    requires { length field.now ≤ 4096 }
+    ensures { result ≡ readable first (dec_of field.now) }
+{
+    match read_exp(field) {
+        Ok(number) => Ok(number),
+        Err(_) => Err(bad_field(first)),
+    }
+}
+
+/// Whether each byte is blank.
+pub fn is_blank_line(line: &[u8]) -> bool
+    ensures { result ≡ are_blank line.now }
+{
+    let mut rest = line;
+    while let [b, after @ ..] = rest {
+        if *b != b' ' {
+            return false;
+        }
+        rest = after;
+    }
+    true
 }
 
 /// The field that begins at this column can't be read.

@@ -1,8 +1,10 @@
 -- Numbers in the fields of a line.
-use Rattle.std.specs.Prelude.{ℕ, ℤ, zero, suc, ◌-◌, ◌==◌, if◌then◌else◌, List, [], ◌∷◌, drop, replicate, slice_index_or, Result, Ok, Err, None, Some}
+use Rattle.std.specs.Prelude.{ℕ, ℤ, ◌==◌, if◌then◌else◌, List, [], ◌∷◌, Result, Ok, Err, None, Some}
 use Rattle.std.specs.declared.option.Option.{Option}
 use Rattle.decimal_text.specs.Whole.{are_digits, number_from}
 use Rattle.decimal_text.specs.Fixed.{fixed_of}
+use Rattle.decimal_text.specs.Exp.{dec_of}
+use Rattle.decimal_text.specs.declared.exponent.Dec.{Dec}
 use Rattle.decimal_text.specs.declared.fixed.NumberFault.{NumberFault}
 use Rattle.rinex_head.specs.declared.place.Flaw.{Flaw}
 use Rattle.rinex_head.specs.declared.place.What.TheVariants.{BadField}
@@ -30,9 +32,14 @@ abbrev pub filled_of : ℕ → List ℕ → Result ℕ Flaw
 filled_of first field = and_then (whole_of first field) (λ n. required first n)
 
 -- a number that must be there and can be read
-abbrev pub readable : ℕ → Result ℤ NumberFault → Result ℤ Flaw
-readable first (Ok z) = Ok z
+abbrev pub readable : {A : Type 0} → ℕ → Result A NumberFault → Result A Flaw
+readable first (Ok number) = Ok number
 readable first (Err fault) = flawed first BadField
 
+-- the number with a point in so many columns from one on, times 10^places
 unfoldable pub fixed_in : List ℕ → ℕ → ℕ → ℕ → Result ℤ Flaw
 fixed_in line first count places = readable first (fixed_of (columns line first count) places)
+
+-- the number with an exponent in so many columns from one on
+unfoldable pub exponent_in : List ℕ → ℕ → ℕ → Result Dec Flaw
+exponent_in line first count = readable first (dec_of (columns line first count))
