@@ -2,3 +2,4 @@ pub mod Walks
 pub mod Stops
 pub mod ColumnLaws
 pub mod HeadLaws
+pub mod TakenLines

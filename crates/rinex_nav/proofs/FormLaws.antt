@@ -8,6 +8,7 @@ use Rattle.eph_store.specs.declared.record.Raw.{Raw}
 use Rattle.rinex_head.specs.Columns.{column}
 use Rattle.rinex_head.specs.Walk.{walk}
 use Rattle.rinex_head.proofs.Walks.{walk-takes, walk-end}
+use Rattle.rinex_head.proofs.TakenLines.{All-behind}
 use Rattle.rinex_nav.specs.FirstLine.{ends_header}
 use Rattle.rinex_nav.specs.RecordLines.{start_in, body_line_of, quad_in, continuation_of}
 use Rattle.rinex_nav.specs.declared.record_lines.Start.{Start}
@@ -16,13 +17,12 @@ use Rattle.decimal_text.specs.declared.exponent.Dec.{Dec}
 use Rattle.rinex_nav.specs.NavRules.{Expected, First, Head, Body, Further, behind, admit, nav_rules}
 use Rattle.rinex_nav.specs.NavForm.{IsHeader, IsFurther, IsOtherRecord, EightLines, further_of, IsGpsRecord, Part, Blank, Other, Gps, IsPart, lines_of_part, body_lines, records_of, IsNavFile}
 
--- each line may be read
-abbrev pub AreShort : List (List ℕ) → Type 0
-AreShort lines = All (λ line. length line ≤ 4096) lines
+-- a line that may be read
+abbrev IsShort : List ℕ → Type 0
+IsShort line = length line ≤ 4096
 
-pub All-behind : {X : Type 0} (P : X → Type 0) (xs ys : List X) → All P (xs ++ ys) → All P ys
-All-behind P [] ys all = all
-All-behind P (x ∷ xs) ys all = All-behind P xs ys (All-tail P x (xs ++ ys) all)
+abbrev AreShort : List (List ℕ) → Type 0
+AreShort lines = All IsShort lines
 
 blank_column : (line : List ℕ) → are_blank line ≡ true → column line 1 ≡ 32
 blank_column [] is = refl
@@ -147,7 +147,7 @@ further_taken [] more raws n short are = rw add-zero refl
 further_taken (line ∷ lines) more raws n short are =
     let on : n + suc (length lines) ≡ n + 1 + length lines = omega arith in
     walk-takes nav_rules (Body raws true) (Body raws true) line (lines ++ more) n (short 0 [] (omega arith)) (takes_further raws line (All-head IsFurther line lines are))
-    ∙ further_taken lines more raws (n + 1) (All-tail (λ l. length l ≤ 4096) line (lines ++ more) short) (All-tail IsFurther line lines are) ∙ rw on refl
+    ∙ further_taken lines more raws (n + 1) (All-tail IsShort line (lines ++ more) short) (All-tail IsFurther line lines are) ∙ rw on refl
 
 -- and so are the parts of a body
 parts_taken : (parts : List Part) (raws : List Raw) (skipping : Bool) (n : ℕ) → AreShort (body_lines parts) → All IsPart parts → length raws + length (records_of parts) ≤ 4096
@@ -155,19 +155,19 @@ parts_taken : (parts : List Part) (raws : List Raw) (skipping : Bool) (n : ℕ) 
 parts_taken [] raws skipping n short are few = walk-end nav_rules (Body raws skipping) n ∙ rw (append-nil raws) refl
 parts_taken (Blank line ∷ parts) raws skipping n short are few =
     walk-takes nav_rules (Body raws skipping) (Body raws skipping) line (body_lines parts) n (short 0 [] (omega arith)) (takes_blank raws skipping line (All-head IsPart (Blank line) parts are))
-    ∙ parts_taken parts raws skipping (n + 1) (All-tail (λ l. length l ≤ 4096) line (body_lines parts) short) (All-tail IsPart (Blank line) parts are) few
+    ∙ parts_taken parts raws skipping (n + 1) (All-tail IsShort line (body_lines parts) short) (All-tail IsPart (Blank line) parts are) few
 parts_taken (Other first further ∷ parts) raws skipping n short are few =
     let is = All-head IsPart (Other first further) parts are in
-    let others = All-tail (λ l. length l ≤ 4096) first (further ++ body_lines parts) short in
+    let others = All-tail IsShort first (further ++ body_lines parts) short in
     walk-takes nav_rules (Body raws skipping) (Body raws true) first (further ++ body_lines parts) n (short 0 [] (omega arith)) (takes_other raws skipping first is.begins is.other)
     ∙ further_taken further (body_lines parts) raws (n + 1) others is.behind
-    ∙ parts_taken parts raws true (n + 1 + length further) (All-behind (λ l. length l ≤ 4096) further (body_lines parts) others) (All-tail IsPart (Other first further) parts are) few
+    ∙ parts_taken parts raws true (n + 1 + length further) (All-behind IsShort further (body_lines parts) others) (All-tail IsPart (Other first further) parts are) few
 parts_taken (Gps lines r ∷ parts) raws skipping n short are few =
     let is = All-head IsPart (Gps lines r) parts are in
     let one_more : length (raws ++ r ∷ []) ≡ length raws + 1 = length-append raws (r ∷ []) in
     let fits : length (raws ++ r ∷ []) + length (records_of parts) ≤ 4096 = omega arith in
     record_taken lines r (body_lines parts) raws skipping n is (omega arith) short
-    ∙ parts_taken parts (raws ++ r ∷ []) false (n + 1 + 1 + 1 + 1 + 1 + 1 + 1 + 1) (All-behind (λ l. length l ≤ 4096) (lines.first ∷ further_of lines) (body_lines parts) short) (All-tail IsPart (Gps lines r) parts are) fits
+    ∙ parts_taken parts (raws ++ r ∷ []) false (n + 1 + 1 + 1 + 1 + 1 + 1 + 1 + 1) (All-behind IsShort (lines.first ∷ further_of lines) (body_lines parts) short) (All-tail IsPart (Gps lines r) parts are) fits
     ∙ rw (append_assoc raws (r ∷ []) (records_of parts)) refl
 
 -- ---- the header and the file
@@ -180,7 +180,7 @@ between_taken (line ∷ lines) more n short are =
     let goes_on : ends_header line ≡ false = All-head (λ l. ends_header l ≡ false) line lines are in
     let admits : admit Head line ≡ Ok Head = rw goes_on refl in
     walk-takes nav_rules Head Head line (lines ++ more) n (short 0 [] (omega arith)) admits
-    ∙ between_taken lines more (n + 1) (All-tail (λ l. length l ≤ 4096) line (lines ++ more) short) (All-tail (λ l. ends_header l ≡ false) line lines are) ∙ rw on refl
+    ∙ between_taken lines more (n + 1) (All-tail IsShort line (lines ++ more) short) (All-tail (λ l. ends_header l ≡ false) line lines are) ∙ rw on refl
 
 pub regroup : (first : List ℕ) (between : List (List ℕ)) (last : List ℕ) (more : List (List ℕ)) → (first ∷ (between ++ last ∷ [])) ++ more ≡ first ∷ (between ++ last ∷ more)
 regroup first between last more = simp append_assoc
@@ -192,8 +192,8 @@ file_given lines records is =
     let body = body_lines is.parts in
     let all : lines ≡ h.first ∷ (h.between ++ h.last ∷ body) = is.lines_are ∙ ap (λ (l : List (List ℕ)). l ++ body) h.lines_are ∙ regroup h.first h.between h.last body in
     let short : AreShort (h.first ∷ (h.between ++ h.last ∷ body)) = subst AreShort all is.short in
-    let behind_first = All-tail (λ l. length l ≤ 4096) h.first (h.between ++ h.last ∷ body) short in
-    let from_last = All-behind (λ l. length l ≤ 4096) h.between (h.last ∷ body) behind_first in
+    let behind_first = All-tail IsShort h.first (h.between ++ h.last ∷ body) short in
+    let from_last = All-behind IsShort h.between (h.last ∷ body) behind_first in
     let first_admits : admit First h.first ≡ Ok Head = rw (h.version) refl in
     let last_admits : admit Head h.last ≡ Ok (Body [] false) = rw (h.ends) refl in
     let n = 0 + 1 + length h.between in
@@ -202,5 +202,5 @@ file_given lines records is =
     ∙ walk-takes nav_rules First Head h.first (h.between ++ h.last ∷ body) 0 (short 0 [] (omega arith)) first_admits
     ∙ between_taken h.between (h.last ∷ body) (0 + 1) behind_first h.goes_on
     ∙ walk-takes nav_rules Head (Body [] false) h.last body n (from_last 0 [] (omega arith)) last_admits
-    ∙ parts_taken is.parts [] false (n + 1) (All-tail (λ l. length l ≤ 4096) h.last body from_last) is.are_parts fits
+    ∙ parts_taken is.parts [] false (n + 1) (All-tail IsShort h.last body from_last) is.are_parts fits
     ∙ ap (λ (rs : List Raw). Ok rs) (sym is.records_are)
