@@ -1,8 +1,8 @@
 -- What the lines give is what the grammar says.
-use Rattle.std.proofs.Common.{◌≡◌, ◌≢◌, ◌<◌, ◌≤◌, ◌+◌, ℕ, pos, zero, suc, nat_le, ◌==◌, ◌&&◌, ◌||◌, Bool, true, false, List, [], ◌∷◌, ◌++◌, length, All, Result, Ok, Err, refl, sym, ap, ◌∙◌, subst, arith, append_assoc, length-append, add-zero, if◌then◌else◌}
+use Rattle.std.proofs.Common.{◌≡◌, ◌≢◌, ◌<◌, ◌≤◌, ◌+◌, ℕ, pos, suc, nat_le, ◌==◌, Bool, true, false, List, [], ◌∷◌, ◌++◌, length, All, Ok, refl, sym, ap, ◌∙◌, subst, arith, append_assoc, length-append, add-zero}
 use Rattle.std.proofs.lemmas.Bool.Decides.{nat_tests}
 use Rattle.std.proofs.lemmas.List.{append-nil}
-use Rattle.std.proofs.lemmas.List.Elements.{All-head, All-tail, All-same}
+use Rattle.std.proofs.lemmas.List.Elements.{All-head, All-tail}
 use Rattle.decimal_text.specs.Fixed.{are_blank}
 use Rattle.eph_store.specs.declared.record.Raw.{Raw}
 use Rattle.rinex_head.specs.Columns.{column}
@@ -15,7 +15,7 @@ use Rattle.rinex_nav.specs.declared.record_lines.Start.{Start}
 use Rattle.rinex_nav.specs.declared.record_lines.Quad.{Quad}
 use Rattle.decimal_text.specs.declared.exponent.Dec.{Dec}
 use Rattle.rinex_nav.specs.NavRules.{Expected, First, Head, Body, Further, behind, admit, nav_rules}
-use Rattle.rinex_nav.specs.NavForm.{IsHeader, IsFurther, IsOtherRecord, EightLines, further_of, IsGpsRecord, Part, Blank, Other, Gps, IsPart, lines_of_part, body_lines, records_of, IsNavFile}
+use Rattle.rinex_nav.specs.NavForm.{IsFurther, EightLines, further_of, IsGpsRecord, Part, Blank, Other, Gps, IsPart, body_lines, records_of, IsNavFile}
 
 -- a line that may be read
 abbrev IsShort : List ℕ → Type 0

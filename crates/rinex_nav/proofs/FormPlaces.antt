@@ -1,10 +1,9 @@
 -- The place of a refusal is the first failing line by the grammar: every state can be completed to a file.
-use Rattle.std.proofs.Common.{◌≡◌, ◌<◌, ◌≤◌, ◌+◌, ◌⊎◌, inl, inr, ℕ, zero, suc, pos, Bool, true, false, List, [], ◌∷◌, ◌++◌, length, codes, Result, Ok, Err, refl, sym, ap, ◌∙◌, subst, arith, lit≤, length-append, IfOk}
+use Rattle.std.proofs.Common.{◌≡◌, ◌<◌, ◌≤◌, ◌+◌, ◌⊎◌, inl, inr, ℕ, zero, suc, pos, Bool, true, false, List, [], ◌∷◌, ◌++◌, length, codes, Result, Ok, Err, refl, sym, ◌∙◌, subst, arith, lit≤, length-append, IfOk}
 use Rattle.decimal_text.specs.declared.exponent.Dec.{Dec}
 use Rattle.eph_store.specs.declared.record.Raw.{Raw}
 use Rattle.eph_store.specs.File.{Records}
 use Rattle.rinex_head.specs.declared.place.TextFault.{TextFault}
-use Rattle.rinex_head.specs.declared.place.Flaw.{Flaw}
 use Rattle.rinex_head.specs.Columns.{padded}
 use Rattle.rinex_head.specs.Fields.{exponent_in}
 use Rattle.rinex_head.specs.Head.{trimmed}

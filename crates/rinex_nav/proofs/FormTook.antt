@@ -1,5 +1,5 @@
 -- Lines that give a file are one of the grammar.
-use Rattle.std.proofs.Common.{◌≡◌, ◌≢◌, ◌<◌, ◌≤◌, ◌+◌, ℕ, pos, zero, suc, nat_le, ◌==◌, ◌&&◌, ◌||◌, Bool, true, false, List, [], ◌∷◌, ◌++◌, length, All, Result, Ok, Err, refl, sym, ap, ◌∙◌, subst, arith, append_assoc, length-append, if◌then◌else◌}
+use Rattle.std.proofs.Common.{◌≡◌, ◌≢◌, ◌<◌, ◌≤◌, ◌+◌, ℕ, zero, suc, nat_le, ◌==◌, ◌||◌, Bool, true, false, List, [], ◌∷◌, ◌++◌, length, All, Result, Ok, refl, sym, ap, ◌∙◌, subst, arith, append_assoc, length-append, if◌then◌else◌}
 use Rattle.std.proofs.lemmas.Bool.Decides.{nat_tests}
 use Rattle.std.proofs.lemmas.List.{append-nil}
 use Rattle.std.proofs.lemmas.List.Elements.{All-nil, All-cons}
@@ -21,7 +21,7 @@ use Rattle.rinex_nav.specs.declared.record_lines.Quad.{Quad}
 use Rattle.rinex_nav.specs.declared.record_lines.BodyLine.{BodyLine}
 use Rattle.rinex_nav.specs.declared.record_lines.BodyLine.TheVariants as line
 use Rattle.rinex_nav.specs.NavRules.{Expected, First, Head, Body, Further, raw_of, behind, after_header, after_body, nav_rules}
-use Rattle.rinex_nav.specs.NavForm.{IsHeader, IsFurther, IsOtherRecord, EightLines, further_of, IsGpsRecord, Part, Blank, Other, Gps, IsPart, body_lines, records_of, IsNavFile}
+use Rattle.rinex_nav.specs.NavForm.{IsFurther, EightLines, further_of, IsGpsRecord, Part, Blank, Other, Gps, IsPart, body_lines, records_of, IsNavFile}
 use Rattle.rinex_nav.proofs.FormLaws.{regroup}
 
 no_file : (n : ℕ) (what : What) (whole : List Raw) → at_line (n + 1) (flawed {A = List Raw} 1 what) ≡ Ok whole → ⊥
@@ -157,16 +157,16 @@ record TookRecord (first : List ℕ) (lines : List (List ℕ)) (raws : List Raw)
   number : ℕ
   gives : walk nav_rules rest number (Body (raws ++ raw ∷ []) false) ≡ Ok whole
 
-record_took : (first : List ℕ) (lines : List (List ℕ)) (raws : List Raw) (s : Start) (n : ℕ) (whole : List Raw) → column first 1 ≡ 71 → start_in first ≡ Ok s → walk nav_rules lines n (Further raws s []) ≡ Ok whole → TookRecord first lines raws whole
-record_took first lines raws s n whole letter starts gives =
-    let l1 = start_took first s starts in
-    let t2 = further_took lines raws s [] n whole gives in
-    let t3 = further_took t2.rest raws s (t2.quad ∷ []) (n + 1) whole t2.gives in
-    let t4 = further_took t3.rest raws s (t2.quad ∷ t3.quad ∷ []) (n + 1 + 1) whole t3.gives in
-    let t5 = further_took t4.rest raws s (t2.quad ∷ t3.quad ∷ t4.quad ∷ []) (n + 1 + 1 + 1) whole t4.gives in
-    let t6 = further_took t5.rest raws s (t2.quad ∷ t3.quad ∷ t4.quad ∷ t5.quad ∷ []) (n + 1 + 1 + 1 + 1) whole t5.gives in
-    let t7 = further_took t6.rest raws s (t2.quad ∷ t3.quad ∷ t4.quad ∷ t5.quad ∷ t6.quad ∷ []) (n + 1 + 1 + 1 + 1 + 1) whole t6.gives in
-    let t8 = further_took t7.rest raws s (t2.quad ∷ t3.quad ∷ t4.quad ∷ t5.quad ∷ t6.quad ∷ t7.quad ∷ []) (n + 1 + 1 + 1 + 1 + 1 + 1) whole t7.gives in
+record_of : (first : List ℕ) (lines : List (List ℕ)) (raws : List Raw) (s : Start) (n : ℕ) (whole : List Raw) → column first 1 ≡ 71 → TookStart first s
+    → (t2 : TookFurther lines raws s [] n whole)
+    → (t3 : TookFurther t2.rest raws s (t2.quad ∷ []) (n + 1) whole)
+    → (t4 : TookFurther t3.rest raws s (t2.quad ∷ t3.quad ∷ []) (n + 1 + 1) whole)
+    → (t5 : TookFurther t4.rest raws s (t2.quad ∷ t3.quad ∷ t4.quad ∷ []) (n + 1 + 1 + 1) whole)
+    → (t6 : TookFurther t5.rest raws s (t2.quad ∷ t3.quad ∷ t4.quad ∷ t5.quad ∷ []) (n + 1 + 1 + 1 + 1) whole)
+    → (t7 : TookFurther t6.rest raws s (t2.quad ∷ t3.quad ∷ t4.quad ∷ t5.quad ∷ t6.quad ∷ []) (n + 1 + 1 + 1 + 1 + 1) whole)
+    → (t8 : TookFurther t7.rest raws s (t2.quad ∷ t3.quad ∷ t4.quad ∷ t5.quad ∷ t6.quad ∷ t7.quad ∷ []) (n + 1 + 1 + 1 + 1 + 1 + 1) whole)
+    → TookRecord first lines raws whole
+record_of first lines raws s n whole letter l1 t2 t3 t4 t5 t6 t7 t8 =
     let l2 = quad_took 0 t2.bytes t2.quad t2.says in
     let l3 = quad_took 1 t3.bytes t3.quad t3.says in
     let l4 = quad_took 2 t4.bytes t4.quad t4.says in
@@ -212,6 +212,17 @@ record_took first lines raws s n whole letter starts gives =
       number = n + 1 + 1 + 1 + 1 + 1 + 1 + 1;
       gives = t8.gives;
     }
+
+record_took : (first : List ℕ) (lines : List (List ℕ)) (raws : List Raw) (s : Start) (n : ℕ) (whole : List Raw) → column first 1 ≡ 71 → start_in first ≡ Ok s → walk nav_rules lines n (Further raws s []) ≡ Ok whole → TookRecord first lines raws whole
+record_took first lines raws s n whole letter starts gives =
+    let t2 = further_took lines raws s [] n whole gives in
+    let t3 = further_took t2.rest raws s (t2.quad ∷ []) (n + 1) whole t2.gives in
+    let t4 = further_took t3.rest raws s (t2.quad ∷ t3.quad ∷ []) (n + 1 + 1) whole t3.gives in
+    let t5 = further_took t4.rest raws s (t2.quad ∷ t3.quad ∷ t4.quad ∷ []) (n + 1 + 1 + 1) whole t4.gives in
+    let t6 = further_took t5.rest raws s (t2.quad ∷ t3.quad ∷ t4.quad ∷ t5.quad ∷ []) (n + 1 + 1 + 1 + 1) whole t5.gives in
+    let t7 = further_took t6.rest raws s (t2.quad ∷ t3.quad ∷ t4.quad ∷ t5.quad ∷ t6.quad ∷ []) (n + 1 + 1 + 1 + 1 + 1) whole t6.gives in
+    let t8 = further_took t7.rest raws s (t2.quad ∷ t3.quad ∷ t4.quad ∷ t5.quad ∷ t6.quad ∷ t7.quad ∷ []) (n + 1 + 1 + 1 + 1 + 1 + 1) whole t7.gives in
+    record_of first lines raws s n whole letter (start_took first s starts) t2 t3 t4 t5 t6 t7 t8
 
 -- ---- the body
 

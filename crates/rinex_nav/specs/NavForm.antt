@@ -1,5 +1,5 @@
 -- A navigation file as a grammar over the whole list of its lines: a header, then blank lines and records.
-use Rattle.std.specs.Prelude.{◌≡◌, ◌≢◌, ℕ, ◌≤◌, Bool, true, false, List, [], ◌∷◌, ◌++◌, length, All, Result, Ok}
+use Rattle.std.specs.Prelude.{◌≡◌, ◌≢◌, ℕ, ◌≤◌, true, false, List, [], ◌∷◌, ◌++◌, length, All, Ok}
 use Rattle.decimal_text.specs.Fixed.{are_blank}
 use Rattle.eph_store.specs.declared.record.Raw.{Raw}
 use Rattle.rinex_head.specs.Columns.{column}

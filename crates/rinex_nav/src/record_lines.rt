@@ -5,8 +5,8 @@ ghost use Rattle.rinex_nav.specs.RecordLines.{number_in, satellite_in, moment_of
 use decimal_text::Dec;
 use gps_time::{Tick, tick_of};
 use rinex_head::{
-    Flaw, What, bad_field, byte_in, exponent_number, field, filled_number, is_blank_line, two_digits,
-    whole_number,
+    Flaw, What, bad_field, byte_in, exponent_number, field, filled_number, is_blank_line,
+    two_digits, whole_number,
 };
 
 /// How many GPS records a file may have.
