@@ -1,4 +1,5 @@
 pub mod Walks
 pub mod Stops
-pub mod Fields
+pub mod ColumnLaws
 pub mod HeadLaws
+pub mod TakenLines

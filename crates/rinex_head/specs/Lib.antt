@@ -4,3 +4,4 @@ pub mod Walk
 pub mod FirstFailing
 pub mod Columns
 pub mod Head
+pub mod Fields

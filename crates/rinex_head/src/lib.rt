@@ -21,11 +21,16 @@
 #![tactic(auto)]
 
 mod columns;
+mod fields;
 mod head;
 mod place;
 mod walk;
 
 pub use columns::{byte_in, field};
+pub use fields::{
+    bad_field, exponent_number, filled_number, fixed, fixed_number, is_blank_line, two_digits,
+    whole_number,
+};
 pub use head::{HeadLine, Version, head_line, version_of};
 pub use place::{At, Flaw, TextFault, What};
 pub use walk::{line_or_end, next_line};

@@ -1,2 +1,5 @@
 pub mod Moments
 pub mod Steps
+pub mod FormLaws
+pub mod FormTook
+pub mod FormPlaces

@@ -1,4 +1,4 @@
-pub mod Fields
 pub mod FirstLine
 pub mod RecordLines
 pub mod NavRules
+pub mod NavForm

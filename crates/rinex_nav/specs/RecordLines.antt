@@ -9,11 +9,15 @@ use Rattle.rinex_head.specs.declared.place.Flaw.{Flaw}
 use Rattle.rinex_head.specs.declared.place.What.TheVariants.{BadField, BadDate, BadSat, TooMany, Truncated}
 use Rattle.rinex_head.specs.Places.{and_then, flawed}
 use Rattle.rinex_head.specs.Columns.{column, columns}
-use Rattle.rinex_nav.specs.Fields.{whole_of, filled_of, number_in}
+use Rattle.rinex_head.specs.Fields.{whole_of, filled_of, exponent_in}
 use Rattle.rinex_nav.specs.declared.record_lines.Start.{Start}
 use Rattle.rinex_nav.specs.declared.record_lines.Quad.{Quad}
 use Rattle.rinex_nav.specs.declared.record_lines.BodyLine.{BodyLine}
 use Rattle.rinex_nav.specs.declared.record_lines.BodyLine.TheVariants.{Passed, Other, Record}
+
+-- the number with an exponent in the 19 columns from one on
+unfoldable pub number_in : List ℕ → ℕ → Result Dec Flaw
+number_in line first = exponent_in line first 19
 
 -- a number 1 to 32
 abbrev pub satellite_of : Result (Option ℕ) Flaw → Result ℕ Flaw

@@ -2,7 +2,6 @@
 #![tactic(auto)]
 
 mod body;
-mod fields;
 mod header;
 mod reader;
 mod record_lines;

@@ -1,7 +1,10 @@
 // The whole text.
-ghost use Rattle.std.specs.Prelude.{◌≤◌, length};
+ghost use Rattle.std.specs.Prelude.{◌≡◌, ◌≤◌, List, length, IfOk};
+ghost use Rattle.eph_store.specs.declared.record.Raw.{Raw};
 ghost use Rattle.line_source.specs.Lines.{lines_of};
-ghost use Rattle.rinex_head.specs.Walk.{rest_gives, Gives};
+ghost use Rattle.rinex_head.specs.FirstFailing.{IsFirstFailing};
+ghost use Rattle.rinex_head.specs.Walk.{rest_gives, Gives, OnRefusal, IfRefused};
+ghost use Rattle.rinex_nav.specs.NavForm.{IsNavFile, HasNavFile};
 ghost use Rattle.rinex_nav.specs.NavRules.{First, nav_rules, nav_of};
 
 use crate::body::read_records;
@@ -16,7 +19,11 @@ use std::alloc::Global;
 /// A record's numbers are decimals in the units of the file. Records of other systems are skipped.
 pub fn read_nav(alloc: Global, text: &[u8]) -> Result<NavFile, TextFault>
     requires { length text.now ≤ 67_108_864 }
-    ensures { Gives (nav_of (lines_of text.now)) (λ file. file.all) result }
+    ensures ok { IfOk result (λ file. IsNavFile (lines_of text.now) file.all) }
+    ensures only { IfOk result (λ file. (other : List Raw) → IsNavFile (lines_of text.now) other → other ≡ file.all) }
+    ensures refused { OnRefusal result (HasNavFile (lines_of text.now) → ⊥) }
+    ensures first { IfRefused result (λ at. IsFirstFailing HasNavFile (lines_of text.now) at.line) }
+    ensures exact { Gives (nav_of (lines_of text.now)) (λ file. file.all) result }
 {
     read_lines(alloc, Lines::new(text))
 }

@@ -1,13 +1,13 @@
 // The lines of the body (RINEX 3, navigation message record of GPS).
-ghost use Rattle.std.specs.Prelude.{◌≡◌, ◌≤◌, ◌<◌, ◌+◌, length, IfOk, Ok};
-ghost use Rattle.rinex_head.specs.Columns.{column, columns};
-ghost use Rattle.rinex_nav.specs.Fields.{filled_of};
-ghost use Rattle.rinex_nav.specs.RecordLines.{satellite_in, moment_of, toc_in, start_in, record_line_of, body_line_of, number_if, quad_in, continuation_of};
+ghost use Rattle.std.specs.Prelude.{◌≡◌, ◌≤◌, length, Ok};
+ghost use Rattle.rinex_nav.specs.RecordLines.{number_in, satellite_in, moment_of, toc_in, start_in, record_line_of, body_line_of, number_if, quad_in, continuation_of};
 
-use crate::fields::{bad_field, filled_number, is_blank_line, number, whole_number};
 use decimal_text::Dec;
 use gps_time::{Tick, tick_of};
-use rinex_head::{Flaw, What, byte_in, field};
+use rinex_head::{
+    Flaw, What, bad_field, byte_in, exponent_number, field, filled_number, is_blank_line,
+    two_digits, whole_number,
+};
 
 /// How many GPS records a file may have.
 pub const MOST: usize = 4_096;
@@ -50,6 +50,16 @@ fn flaw(column: u32, what: What) -> Flaw
     Flaw { column, what }
 }
 
+// The number with an exponent in the 19 columns from this one on.
+#[tactic(auto, unfolding(crate::specs::RecordLines::number_in, rinex_head::specs::Fields::exponent_in))]
+fn number(line: &[u8], first: u32) -> Result<Dec, Flaw>
+    requires from_one { 1 ≤ first }
+    requires near { first ≤ 100 }
+    ensures { result ≡ number_in line.now first }
+{
+    exponent_number(&field::<19>(line, first as usize), first)
+}
+
 #[tactic(auto, unfolding(crate::specs::RecordLines::satellite_in))]
 fn satellite(line: &[u8]) -> Result<u8, Flaw>
     ensures { result ≡ satellite_in line.now }
@@ -57,18 +67,6 @@ fn satellite(line: &[u8]) -> Result<u8, Flaw>
     match whole_number(&field::<2>(line, 2), 2) {
         Ok(Some(number)) if number >= 1 && number <= LAST_NUMBER => Ok(number as u8),
         _ => Err(flaw(1, What::BadSat)),
-    }
-}
-
-fn two_digits(line: &[u8], first: u32) -> Result<u8, Flaw>
-    requires from_one { 1 ≤ first }
-    requires near { first ≤ 100 }
-    ensures value { result ≡ filled_of first (columns line.now first 2) }
-    ensures small { IfOk result (λ n. n ≤ 99) }
-{
-    match filled_number(&field::<2>(line, first as usize), first) {
-        Ok(number) => Ok(number as u8),
-        Err(flaw) => Err(flaw),
     }
 }
 

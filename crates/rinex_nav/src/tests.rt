@@ -21,6 +21,18 @@ const LINES: [&str; 10] = [
     "     7.900000000000D+04",
 ];
 
+// Each number says its line and its place in it. Fields that aren't read hold no numbers.
+const NUMBERED: [&str; 8] = [
+    "G 7 2024  1  1  0  0  01.1                -1.2                +1.3",
+    "    not read           22                 23                 24                 past",
+    "    31D2               32d+02             33E+2              34e002",
+    "    41D-999            42D+999            43D-9              -44D+9",
+    "    51                 52                 53                 54",
+    "    61                 not read           63                 not read",
+    "    not read           72                 not read           not read",
+    " not read",
+];
+
 fn add_line(text: &mut Vec<u8>, line: &str) -> Result<(), AllocError> {
     for b in line.as_bytes() {
         text.push(*b)?;
@@ -95,6 +107,51 @@ fn keeps_a_record_out_of_range(rt: HostRuntime) -> Result<(), Fail> {
     Ok(())
 }
 
+// A number of a record, with its place in the file.
+type Row = (Dec, i64, i32);
+
+#[test]
+fn reads_each_number(rt: HostRuntime) -> Result<(), Fail> {
+    let mut text = text_of(rt.alloc(), 2, 10, "")?;
+    for line in NUMBERED {
+        add_line(&mut text, line)?;
+    }
+    assert!(rt; text.len() < 5_000);
+    let file = read_nav(rt.alloc(), &text)?;
+    let [raw] = file.all() else {
+        panic!(&rt; "no record");
+    };
+    let rows: [Row; 21] = [
+        (raw.af0, 11, -1),
+        (raw.af1, -12, -1),
+        (raw.af2, 13, -1),
+        (raw.crs, 22, 0),
+        (raw.dn, 23, 0),
+        (raw.m0, 24, 0),
+        (raw.cuc, 31, 2),
+        (raw.ecc, 32, 2),
+        (raw.cus, 33, 2),
+        (raw.root_a, 34, 2),
+        (raw.toe_s, 41, -999),
+        (raw.cic, 42, 999),
+        (raw.node, 43, -9),
+        (raw.cis, -44, 9),
+        (raw.incl, 51, 0),
+        (raw.crc, 52, 0),
+        (raw.peri, 53, 0),
+        (raw.node_rate, 54, 0),
+        (raw.incl_rate, 61, 0),
+        (raw.week, 63, 0),
+        (raw.health, 72, 0),
+    ];
+    for (found, mant, exp) in rows {
+        assert_eq!(rt; found, Dec { mant, exp }, "at {mant}");
+    }
+    assert_eq!(rt; raw.sat, 7);
+    assert_eq!(rt; file.fit().len(), 0);
+    Ok(())
+}
+
 #[test]
 fn refuses_at_the_first_place(rt: HostRuntime) -> Result<(), Fail> {
     let kind = "     3.04           OBSERVATION DATA    M: MIXED            RINEX VERSION / TYPE";
@@ -125,5 +182,43 @@ fn refuses_at_the_first_place(rt: HostRuntime) -> Result<(), Fail> {
         read_nav(rt.alloc(), &early).err(),
         refused(8, 1, What::Truncated)
     );
+    Ok(())
+}
+
+#[test]
+fn keeps_the_limits(rt: HostRuntime) -> Result<(), Fail> {
+    let mut text = text_of(rt.alloc(), 2, 10, "")?;
+    for _ in 0..4_096 {
+        for line in &LINES[2..] {
+            add_line(&mut text, line)?;
+        }
+    }
+    assert!(rt; text.len() < 67_108_864);
+    let file = read_nav(rt.alloc(), &text)?;
+    assert_eq!(rt; file.all().len(), 4_096);
+    assert_eq!(rt; file.fit().len(), 4_096);
+    add_line(&mut text, "R01 2024 01 01 00 00 00 anything")?;
+    add_line(&mut text, "G99 and anything behind it")?;
+    assert!(rt; text.len() < 67_108_864);
+    assert_eq!(rt;
+        read_nav(rt.alloc(), &text).err(),
+        refused(32_772, 1, What::TooMany)
+    );
+    Ok(())
+}
+
+#[test]
+fn reads_lines_with_returns(rt: HostRuntime) -> Result<(), Fail> {
+    let mut text = Vec::new(rt.alloc());
+    for line in LINES {
+        for b in line.as_bytes() {
+            text.push(*b)?;
+        }
+        text.push(b'\r')?;
+        text.push(b'\n')?;
+    }
+    assert!(rt; text.len() < 5_000);
+    let file = read_nav(rt.alloc(), &text)?;
+    assert_eq!(rt; file.fit().len(), 1);
     Ok(())
 }

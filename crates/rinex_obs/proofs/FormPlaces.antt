@@ -14,7 +14,7 @@ use Rattle.rinex_head.specs.Head.{trimmed}
 use Rattle.rinex_head.specs.Walk.{text_gives, Gives}
 use Rattle.rinex_head.specs.FirstFailing.{IsFileOf}
 use Rattle.rinex_head.proofs.Stops.{Completes, with_line, with_end}
-use Rattle.rinex_obs.specs.Fields.{fixed_in}
+use Rattle.rinex_head.specs.Fields.{fixed_in}
 use Rattle.rinex_obs.specs.FirstLine.{first_line_of}
 use Rattle.rinex_obs.specs.HeaderLines.{label_in, header_line_of}
 use Rattle.rinex_obs.specs.Types.{is_listed, names_from, type_list, further_types_of}

@@ -12,7 +12,7 @@ use Rattle.rinex_head.specs.declared.place.What.TheVariants.{BadField, TimeSyste
 use Rattle.rinex_head.specs.Head.{label_of}
 use Rattle.rinex_head.specs.Places.{and_then, flawed}
 use Rattle.rinex_head.specs.Columns.{column, columns}
-use Rattle.rinex_obs.specs.Fields.{fixed_in, readable}
+use Rattle.rinex_head.specs.Fields.{fixed_in, readable}
 use Rattle.rinex_obs.specs.declared.header_lines.Label.{Label}
 use Rattle.rinex_obs.specs.declared.header_lines.Label.TheVariants as label
 use Rattle.rinex_obs.specs.declared.header_lines.HeaderLine.{HeaderLine}

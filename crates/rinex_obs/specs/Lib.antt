@@ -1,4 +1,3 @@
-pub mod Fields
 pub mod FirstLine
 pub mod HeaderLines
 pub mod Types

@@ -9,7 +9,7 @@ use Rattle.rinex_head.specs.declared.place.Flaw.{Flaw}
 use Rattle.rinex_head.specs.declared.place.What.TheVariants.{Types}
 use Rattle.rinex_head.specs.Places.{and_then, flawed}
 use Rattle.rinex_head.specs.Columns.{column, columns}
-use Rattle.rinex_obs.specs.Fields.{whole_of}
+use Rattle.rinex_head.specs.Fields.{whole_of}
 use Rattle.rinex_obs.specs.HeaderLines.{label_in}
 use Rattle.rinex_obs.specs.declared.header_lines.Label.{Label}
 use Rattle.rinex_obs.specs.declared.header_lines.Label.TheVariants as label

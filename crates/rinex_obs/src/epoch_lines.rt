@@ -1,18 +1,17 @@
 // The line of an epoch or an event (RINEX 3, epoch record), and a line of an event.
-ghost use Rattle.std.specs.Prelude.{◌≡◌, ◌≤◌, ◌&&◌, length, ◌<◌, IfOk, IfSome, IsTrue, Ok, true, false};
-ghost use Rattle.decimal_text.specs.Fixed.{are_blank};
-ghost use Rattle.rinex_head.specs.Columns.{columns};
-ghost use Rattle.rinex_obs.specs.Fields.{filled_of};
+ghost use Rattle.std.specs.Prelude.{◌≡◌, ◌&&◌, length, ◌<◌, IfOk, IfSome, IsTrue, Ok, true, false};
 ghost use Rattle.obs_store.specs.Epochs.{last_tag_of};
 ghost use Rattle.rinex_obs.specs.EpochTag.{IfEpoch, IsNoEpoch};
 ghost use Rattle.rinex_obs.specs.EpochLines.{count_in, moment_of, tag_in, is_later, event_in, epoch_in, by_flag, epoch_line_of, changes_header, event_line_of};
 
-use crate::fields::{bad_field, filled_number, fixed_number, whole_number};
 use crate::header_lines::{Label, label_of_line};
 use gps_time::{Tick, tick_of};
 use line_source::Line;
 use obs_store::Epochs;
-use rinex_head::{Flaw, What, byte_in, field};
+use rinex_head::{
+    Flaw, What, bad_field, byte_in, field, filled_number, fixed_number, is_blank_line, two_digits,
+    whole_number,
+};
 
 /// What stands where an epoch's line is expected.
 #[derive(Clone, Copy, Debug)]
@@ -55,18 +54,7 @@ fn moment(year: u16, month: u8, day: u8, hour: u8, minute: u8, part: i64) -> Res
     }
 }
 
-fn two_digits(line: &[u8], first: u32) -> Result<u8, Flaw>
-    requires from_one { 1 ≤ first }
-    requires near { first ≤ 100 }
-    ensures { result ≡ filled_of first (columns line.now first 2) }
-{
-    match filled_number(&field::<2>(line, first as usize), first) {
-        Ok(number) => Ok(number as u8),
-        Err(flaw) => Err(flaw),
-    }
-}
-
-#[tactic(auto, unfolding(crate::specs::EpochLines::tag_in, crate::specs::Fields::fixed_in))]
+#[tactic(auto, unfolding(crate::specs::EpochLines::tag_in, rinex_head::specs::Fields::fixed_in))]
 fn tag(line: &[u8]) -> Result<Tick, Flaw>
     ensures { result ≡ tag_in line.now }
 {
@@ -139,19 +127,6 @@ fn flagged(line: &[u8], flag: u8, epochs: &Epochs) -> Result<EpochLine, Flaw>
             what: What::Flag,
         }),
     }
-}
-
-fn is_blank_line(line: &[u8]) -> bool
-    ensures { result ≡ are_blank line.now }
-{
-    let mut rest = line;
-    while let [b, after @ ..] = rest {
-        if *b != b' ' {
-            return false;
-        }
-        rest = after;
-    }
-    true
 }
 
 /// What a line says where an epoch's line is expected behind these epochs.

@@ -1,12 +1,11 @@
 // What stands in a line of the header (RINEX 3, observation file header).
 ghost use Rattle.std.specs.Prelude.{◌≡◌, ◌+◌, ◌≤◌, length};
-ghost use Rattle.rinex_obs.specs.Fields.{fixed_in};
+ghost use Rattle.rinex_head.specs.Fields.{fixed_in};
 ghost use Rattle.rinex_obs.specs.HeaderLines.{named_label, label_in, length_in, offset_in, position_in, delta_in, names_gps, line_of_label, header_line_of};
 
-use crate::fields::{bad_field, fixed, fixed_number};
 use decimal_text::NumberFault;
 use line_source::Line;
-use rinex_head::{Flaw, What, byte_in, field, head_line};
+use rinex_head::{Flaw, What, bad_field, byte_in, field, fixed, fixed_number, head_line};
 
 /// The labels that count in the header of an observation file.
 #[derive(Clone, Copy, Debug, PartialEq, Eq)]
@@ -71,7 +70,7 @@ pub fn label_of_line(line: &Line<'_>) -> Label
     named(head_line(line).label)
 }
 
-#[tactic(auto, unfolding(crate::specs::Fields::fixed_in))]
+#[tactic(auto, unfolding(rinex_head::specs::Fields::fixed_in))]
 fn length_at(line: &[u8], first: u32) -> Result<i64, Flaw>
     requires from_one { 1 ≤ first }
     requires near { first ≤ 100 }

@@ -3,7 +3,6 @@
 
 mod body;
 mod epoch_lines;
-mod fields;
 mod header;
 mod header_lines;
 mod reader;

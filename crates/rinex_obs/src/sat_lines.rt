@@ -4,11 +4,10 @@ ghost use Rattle.obs_store.specs.Satellites.{has_satellite};
 ghost use Rattle.rinex_head.specs.Columns.{column, columns};
 ghost use Rattle.rinex_obs.specs.SatLines.{is_letter, digit_of, number_in, satellite_in, has_no_digit_above_0, amount_in, lock_of, value_in, values_from, satellite_line_of};
 
-use crate::fields::{bad_field, fixed};
 use crate::types::KeptType;
 use decimal_text::NumberFault;
 use obs_store::{SLOTS, SatObs, Satellites, Value};
-use rinex_head::{Flaw, What, byte_in, field};
+use rinex_head::{Flaw, What, bad_field, byte_in, field, fixed};
 
 const LAST_NUMBER: u8 = 32;
 

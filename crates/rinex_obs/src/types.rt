@@ -1,16 +1,15 @@
 // The list of the observation types of GPS (RINEX 3, `SYS / # / OBS TYPES`).
 ghost use Rattle.std.specs.Prelude.{◌≡◌, ◌+◌, ◌-◌, ◌*◌, ◌<◌, ◌≤◌, ◌++◌, ◌∷◌, [], min, length, IfOk, OnOk, IfErr, Ok, Err};
 ghost use Rattle.rinex_head.specs.Columns.{columns};
-ghost use Rattle.rinex_obs.specs.Fields.{whole_of};
+ghost use Rattle.rinex_head.specs.Fields.{whole_of};
 ghost use Rattle.rinex_obs.specs.Types.{is_listed, names_from, with_line, count_from, first_types_of, further_types_of, kept_at, kept_from, listed_of};
 ghost use Rattle.obs_store.specs.Kinds.{kept_type_of};
 
-use crate::fields::whole_number;
 use crate::header_lines::{Label, label_of_line};
 use arrayvec::ArrayVec;
 use line_source::Line;
 use obs_store::{ObsType, SLOTS};
-use rinex_head::{Flaw, What, byte_in, field};
+use rinex_head::{Flaw, What, byte_in, field, whole_number};
 use std::alloc::{AllocError, Global};
 use std::marker::Model;
 

@@ -1,6 +1,6 @@
 use Rattle.std.proofs.Common.{◌≢◌, ◌<◌, length, arith, ◌∙◌, get_or-set_other, get_or-set_same, below_more, length-set}
 use Rattle.std.proofs.lemmas.List.{length-replicate}
-use Rattle.rinex_head.proofs.Fields.{columns-are}
+use Rattle.rinex_head.proofs.ColumnLaws.{columns-are}
 use Rattle.rinex_head.proofs.columns.field.Goals as goal
 
 pub loop-k-init : goal.loop-k-init

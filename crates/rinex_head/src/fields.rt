@@ -1,13 +1,14 @@
 // Numbers in the fields of a line.
 ghost use Rattle.std.specs.Prelude.{◌≡◌, ◌+◌, ◌<◌, ◌≤◌, ◌^◌, length, IfOk, IfSome, true};
 ghost use Rattle.decimal_text.specs.Whole.{are_digits, number_from};
-ghost use Rattle.decimal_text.specs.Fixed.{are_blank};
+ghost use Rattle.decimal_text.specs.Fixed.{fixed_of, are_blank};
 ghost use Rattle.decimal_text.specs.Exp.{dec_of};
 ghost use Rattle.rinex_head.specs.Columns.{column, columns};
-ghost use Rattle.rinex_nav.specs.Fields.{without_blanks, whole_of, filled_of, readable, number_in};
+ghost use Rattle.rinex_head.specs.Fields.{without_blanks, whole_of, filled_of, readable};
 
-use decimal_text::{Dec, read_exp};
-use rinex_head::{Flaw, What, field};
+use crate::columns::field;
+use crate::place::{Flaw, What};
+use decimal_text::{Dec, NumberFault, read_exp, read_fixed};
 
 fn skip_blanks(text: &[u8]) -> &[u8]
     ensures value { result.now ≡ without_blanks text.now }
@@ -83,25 +84,47 @@ pub fn filled_number(field: &[u8], first: u32) -> Result<u16, Flaw>
     }
 }
 
-// The number with an exponent that the text spells.
-fn exponent_number(text: &[u8], first: u32) -> Result<Dec, Flaw>
-    requires { length text.now ≤ 4096 }
-    ensures { result ≡ readable first (dec_of text.now) }
+/// The same in the two columns from this one on.
+pub fn two_digits(line: &[u8], first: u32) -> Result<u8, Flaw>
+    requires from_one { 1 ≤ first }
+    requires near { first ≤ 100 }
+    ensures value { result ≡ filled_of first (columns line.now first 2) }
+    ensures small { IfOk result (λ n. n ≤ 99) }
 {
-    match read_exp(text) {
+    match filled_number(&field::<2>(line, first as usize), first) {
+        Ok(number) => Ok(number as u8),
+        Err(flaw) => Err(flaw),
+    }
+}
+
+/// The number with a point that the text spells, times 10^places.
+pub fn fixed(text: &[u8], places: u32) -> Result<i64, NumberFault>
+    requires { places ≤ 9 }
+    ensures { result ≡ fixed_of text.now places }
+{
+    read_fixed(text, places)
+}
+
+/// The same in a field that begins at this column, where it must be there.
+pub fn fixed_number(field: &[u8], first: u32, places: u32) -> Result<i64, Flaw>
+    requires { places ≤ 9 }
+    ensures { result ≡ readable first (fixed_of field.now places) }
+{
+    match fixed(field, places) {
         Ok(number) => Ok(number),
         Err(_) => Err(bad_field(first)),
     }
 }
 
-/// The number with an exponent in the 19 columns from this one on.
-#[tactic(auto, unfolding(crate::specs::Fields::number_in))]
-pub fn number(line: &[u8], first: u32) -> Result<Dec, Flaw>
-    requires from_one { 1 ≤ first }
-    requires near { first ≤ 100 }
-    ensures { result ≡ number_in line.now first }
+/// The number with an exponent in a field that begins at this column, where it must be there.
+pub fn exponent_number(field: &[u8], first: u32) -> Result<Dec, Flaw>
+    requires { length field.now ≤ 4096 }
+    ensures { result ≡ readable first (dec_of field.now) }
 {
-    exponent_number(&field::<19>(line, first as usize), first)
+    match read_exp(field) {
+        Ok(number) => Ok(number),
+        Err(_) => Err(bad_field(first)),
+    }
 }
 
 /// Whether each byte is blank.

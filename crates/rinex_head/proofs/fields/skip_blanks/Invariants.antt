@@ -1,6 +1,6 @@
 use Rattle.std.proofs.Common.{◌≡◌, ◌≤◌, length}
-use Rattle.rinex_obs.specs.Fields.{without_blanks}
-use Rattle.rinex_obs.proofs.fields.skip_blanks.Given as goal
+use Rattle.rinex_head.specs.Fields.{without_blanks}
+use Rattle.rinex_head.proofs.fields.skip_blanks.Given as goal
 
 abbrev pub invariant-loop-rest : goal.invariant-loop-rest
 invariant-loop-rest l = record {

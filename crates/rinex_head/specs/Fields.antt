@@ -1,7 +1,8 @@
 -- Numbers in the fields of a line.
-use Rattle.std.specs.Prelude.{ℕ, ◌==◌, if◌then◌else◌, List, [], ◌∷◌, Result, Ok, Err, None, Some}
+use Rattle.std.specs.Prelude.{ℕ, ℤ, ◌==◌, if◌then◌else◌, List, [], ◌∷◌, Result, Ok, Err, None, Some}
 use Rattle.std.specs.declared.option.Option.{Option}
 use Rattle.decimal_text.specs.Whole.{are_digits, number_from}
+use Rattle.decimal_text.specs.Fixed.{fixed_of}
 use Rattle.decimal_text.specs.Exp.{dec_of}
 use Rattle.decimal_text.specs.declared.exponent.Dec.{Dec}
 use Rattle.decimal_text.specs.declared.fixed.NumberFault.{NumberFault}
@@ -31,10 +32,14 @@ abbrev pub filled_of : ℕ → List ℕ → Result ℕ Flaw
 filled_of first field = and_then (whole_of first field) (λ n. required first n)
 
 -- a number that must be there and can be read
-abbrev pub readable : ℕ → Result Dec NumberFault → Result Dec Flaw
-readable first (Ok d) = Ok d
+abbrev pub readable : {A : Type 0} → ℕ → Result A NumberFault → Result A Flaw
+readable first (Ok number) = Ok number
 readable first (Err fault) = flawed first BadField
 
--- the number with an exponent in the 19 columns from one on
-unfoldable pub number_in : List ℕ → ℕ → Result Dec Flaw
-number_in line first = readable first (dec_of (columns line first 19))
+-- the number with a point in so many columns from one on, times 10^places
+unfoldable pub fixed_in : List ℕ → ℕ → ℕ → ℕ → Result ℤ Flaw
+fixed_in line first count places = readable first (fixed_of (columns line first count) places)
+
+-- the number with an exponent in so many columns from one on
+unfoldable pub exponent_in : List ℕ → ℕ → ℕ → Result Dec Flaw
+exponent_in line first count = readable first (dec_of (columns line first count))

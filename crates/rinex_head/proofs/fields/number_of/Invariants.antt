@@ -1,6 +1,6 @@
 use Rattle.std.proofs.Common.{◌≡◌, ◌≤◌, length, true}
 use Rattle.decimal_text.specs.Whole.{are_digits, number_from}
-use Rattle.rinex_obs.proofs.fields.number_of.Given as goal
+use Rattle.rinex_head.proofs.fields.number_of.Given as goal
 
 abbrev pub invariant-loop-rest : goal.invariant-loop-rest
 invariant-loop-rest l = record {

@@ -1,0 +1,29 @@
+-- What is known of lines and parts of lines that are taken.
+use Rattle.std.proofs.Common.{◌≡◌, ◌≤◌, ◌+◌, ℕ, List, [], ◌∷◌, ◌++◌, length, All, Result, Ok, Err, refl}
+use Rattle.std.proofs.lemmas.List.Elements.{All-nil, All-cons, All-tail}
+use Rattle.rinex_head.specs.declared.place.Flaw.{Flaw}
+use Rattle.rinex_head.specs.Places.{and_then}
+use Rattle.rinex_head.specs.Walk.{Rules, walk}
+use Rattle.rinex_head.proofs.Walks.{walk-took}
+
+-- what holds of each element holds of those behind some
+pub All-behind : {X : Type 0} (P : X → Type 0) (xs ys : List X) → All P (xs ++ ys) → All P ys
+All-behind P [] ys all = all
+All-behind P (x ∷ xs) ys all = All-behind P xs ys (All-tail P x (xs ++ ys) all)
+
+-- where two parts of a line are read, the first one is
+pub and_then_took : {A B : Type 0} (r : Result A Flaw) (f : A → Result B Flaw) (y : B) → and_then r f ≡ Ok y → (x : A) × (r ≡ Ok x) × (f x ≡ Ok y)
+and_then_took (Ok x) f y e = (x, refl, e)
+and_then_took (Err flaw) f y e = absurd cc
+
+-- the same where the second part only tells what is expected behind the line
+pub then_took : {A S : Type 0} (r : Result A Flaw) (next : A → S) (s : S) → and_then r (λ x. Ok (next x)) ≡ Ok s → (x : A) × (r ≡ Ok x) × (next x ≡ s)
+then_took (Ok x) next s e = (x, refl, cc (e))
+then_took (Err flaw) next s e = absurd cc
+
+-- lines that give something are short
+pub walk-short : {S F : Type 0} (rules : Rules S F) (lines : List (List ℕ)) (n : ℕ) (s : S) (whole : F) → walk rules lines n s ≡ Ok whole → All (λ line. length line ≤ 4096) lines
+walk-short rules [] n s whole gives = All-nil (λ line. length line ≤ 4096)
+walk-short rules (line ∷ lines) n s whole gives =
+    let first = walk-took rules s line lines n whole gives in
+    All-cons (λ l. length l ≤ 4096) line lines first.short (walk-short rules lines (n + 1) first.next whole first.others)
