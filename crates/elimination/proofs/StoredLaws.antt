@@ -1,9 +1,7 @@
 -- Factors one by one.
-use Rattle.std.proofs.Common.{◌≡◌, ℕ, zero, suc, ◌+◌, ◌-◌, ◌<◌, ◌≤◌, List, [], ◌∷◌, ◌++◌, ℤ, pos, Result, Ok, Err, slice_index_or, arith, ap, ap₂, ◌∙◌, refl}
+use Rattle.std.proofs.Common.{◌≡◌, ℕ, zero, suc, ◌+◌, ◌-◌, List, [], ◌∷◌, ◌++◌, ℤ, pos, Result, Ok, Err, slice_index_or, arith, ap, ◌∙◌, refl}
 use Rattle.quadratic_form.specs.Forms.{Column}
 use Rattle.quadratic_form.specs.Elimination.{Factor, Refusal, step, steps, with_factor}
-use Rattle.quadratic_form.proofs.Places.{list_same}
-use Rattle.obs_rows.specs.Tables.{entry}
 use Rattle.integer_form.specs.Factors.{factor_at}
 use Rattle.integer_form.specs.Factors.{stored}
 use Rattle.elimination.specs.Taken.{before}
@@ -33,15 +31,6 @@ stored_last d f columns j (suc count) = ap (λ (s : List Factor). factor_at (sli
   where
     shift : (j count : ℕ) → suc j + count ≡ j + suc count
     shift j count = omega arith
-
--- a write at a later place
-pub stored_same : (d e : List ℤ) (f g : List (List ℤ)) (columns j count : ℕ) → ((i : ℕ) → j ≤ i → i < j + count → slice_index_or d i (pos 0) ≡ slice_index_or e i (pos 0)) →
-    ((r i : ℕ) → j ≤ i → i < j + count → entry f r i ≡ entry g r i) → stored d f columns j count ≡ stored e g columns j count
-stored_same d e f g columns j zero h k = refl
-stored_same d e f g columns j (suc count) h k = ap₂ (λ (x : Factor) (s : List Factor). x ∷ s) one (stored_same d e f g columns (suc j) count (λ i a b. h i (omega arith) (omega arith)) (λ r i a b. k r i (omega arith) (omega arith)))
-  where
-    one : factor_at (slice_index_or d j (pos 0)) f j (columns - j - 1) ≡ factor_at (slice_index_or e j (pos 0)) g j (columns - j - 1)
-    one = ap₂ (λ (x : ℤ) (s : List ℤ). let y : Factor = record { d = x; l = s } in y) (h j (omega arith) (omega arith)) (list_same (λ i. entry f i j) (λ i. entry g i j) (suc j) (columns - j - 1) (λ r a b. k r j (omega arith) (omega arith)))
 
 -- a step that is taken, and one that stops
 pub steps_ok : (j k : ℕ) (c : Column) (m : List Column) (p : Factor × List Column) → step j c m ≡ Ok p → steps j (suc k) (c ∷ m) ≡ with_factor p.0 (steps (suc j) k p.1)

@@ -3,3 +3,5 @@ pub mod StepOrder
 pub mod FormLaws
 pub mod Words
 pub mod PlaceLaws
+pub mod StoredPlaces
+pub mod FloatLaws

@@ -1,5 +1,5 @@
 -- The float point of a form, and the baseline of an integer vector, in units of 2^-16.
-use Rattle.std.specs.Prelude.{ℕ, ◌-◌, ◌^◌, ◌≤◌, List, [], ◌∷◌, ◌++◌, take, ℤ, pos, neg_ℤ, unsigned_abs, slice_index_or}
+use Rattle.std.specs.Prelude.{ℕ, ◌-◌, ◌^◌, ◌<◌, ◌≤◌, List, [], ◌∷◌, ◌++◌, take, ℤ, pos, neg_ℤ, unsigned_abs, slice_index_or}
 use Rattle.whole_math.specs.Rounding.{nearest_div}
 use Rattle.whole_math.specs.Vectors.{dot, scaled}
 use Rattle.quadratic_form.specs.Elimination.{Factor}
@@ -29,3 +29,7 @@ baseline_at d l columns z = take 3 (solved (stored d l columns 0 3) (scaled (pos
 -- a number is 2^46 or more in size
 abbrev pub HasWide : List ℤ → Type 0
 HasWide s = (i : ℕ) × (2 ^ 46 ≤ unsigned_abs (item s i))
+
+-- one of the first n
+abbrev pub HasWideBefore : ℕ → List ℤ → Type 0
+HasWideBefore n s = (i : ℕ) × ((i < n) × (2 ^ 46 ≤ unsigned_abs (item s i)))

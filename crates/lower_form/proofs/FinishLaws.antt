@@ -10,7 +10,7 @@ use Rattle.obs_rows.specs.Tables.{entry, IsZeroOutside}
 use Rattle.normal_sum.specs.Matrices.{EntriesBelow}
 use Rattle.integer_form.specs.Factors.{stored}
 use Rattle.integer_form.specs.Kept.{form_of_table, constant_form, IsEliminated, AreKept, IsZeroFrom, IsBelowDiagonal}
-use Rattle.elimination.proofs.StoredLaws.{stored_same}
+use Rattle.integer_form.proofs.StoredPlaces.{stored_same}
 use Rattle.lower_form.proofs.TableLaws.{small_of_form}
 use Rattle.lower_form.proofs.KeptLaws.{none, are_kept, factors_below}
 

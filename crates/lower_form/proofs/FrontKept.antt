@@ -10,7 +10,7 @@ use Rattle.normal_sum.specs.declared.normal.Normal.{Normal}
 use Rattle.normal_sum.specs.Matrices.{EntriesBelow}
 use Rattle.integer_form.specs.Factors.{stored}
 use Rattle.integer_form.specs.Kept.{form_of_table, IsBelowDiagonal}
-use Rattle.elimination.proofs.StoredLaws.{stored_same}
+use Rattle.integer_form.proofs.StoredPlaces.{stored_same}
 use Rattle.lower_form.specs.FirstRounding.{first_form}
 use Rattle.lower_form.specs.Fronts.{front_of}
 use Rattle.lower_form.proofs.KeptLaws.{none, factors_below}

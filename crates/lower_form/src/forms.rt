@@ -12,9 +12,9 @@ ghost use Rattle.lower_form.specs.Fronts.{BoundsAllData};
 ghost use Rattle.lower_form.specs.Forms.{IsFrontOf, IsFinishOf, IsLowerOf, finish_of, elimination_of};
 
 use crate::fronts::front;
-use crate::tables::{factor_table, kept_list, normal_table};
+use crate::tables::{kept_list, normal_table};
 use elimination::take_steps;
-use integer_form::{Form, FrontForm, LowerFault};
+use integer_form::{Form, FrontForm, LowerFault, factor_table};
 use normal_sum::Normal;
 use obs_rows::BASELINE_COLUMNS;
 

@@ -112,29 +112,6 @@ pub(crate) fn front_factors(factors: &FactorTable) -> FrontTable
     front
 }
 
-/// Writes row r of the factors of the baseline's columns into a table of all factors.
-fn copy_factors_back(front: &FrontTable, factors: &mut FactorTable, r: usize)
-    requires row_in { r < MOST_COLUMNS }
-    ensures row { (c : ℕ) → c < BASELINE_COLUMNS → entry factors.new r c ≡ entry front.now r c }
-    ensures others { (i c : ℕ) → (i ≢ r) ⊎ (BASELINE_COLUMNS ≤ c) → entry factors.new i c ≡ entry factors.old i c }
-{
-    for c in 0..BASELINE_COLUMNS {
-        factors.set(r, c, front.at(r, c));
-    }
-}
-
-/// A table with these factors of the baseline's columns.
-pub(crate) fn factor_table(front: &FrontTable) -> FactorTable
-    ensures same { (r c : ℕ) → r < MOST_COLUMNS → c < BASELINE_COLUMNS → entry result r c ≡ entry front.now r c }
-    ensures outside { IsZeroOutside MOST_COLUMNS BASELINE_COLUMNS result }
-{
-    let mut factors = FactorTable::zeros();
-    for r in 0..MOST_COLUMNS {
-        copy_factors_back(front, &mut factors, r);
-    }
-    factors
-}
-
 /// What is kept of the baseline's pivots, and 0 for the other columns.
 pub(crate) fn kept_list(d: &[i64; BASELINE_COLUMNS]) -> [i64; MOST_FACTORS]
     ensures same { (i : ℕ) → i < BASELINE_COLUMNS → slice_index_or result i (pos 0) ≡ slice_index_or d.now i (pos 0) }

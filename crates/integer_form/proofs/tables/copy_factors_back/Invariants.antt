@@ -1,6 +1,6 @@
 use Rattle.std.proofs.Common.{◌≡◌, ◌≢◌, ◌⊎◌, ℕ, ◌<◌, ◌≤◌}
 use Rattle.obs_rows.specs.Tables.{entry}
-use Rattle.lower_form.proofs.tables.copy_factors_back.Given as goal
+use Rattle.integer_form.proofs.tables.copy_factors_back.Given as goal
 
 abbrev pub invariant-loop-c : goal.invariant-loop-c
 invariant-loop-c l = record {

@@ -1,6 +1,6 @@
 use Rattle.std.proofs.Common.{◌≡◌, ℕ, ◌<◌}
 use Rattle.obs_rows.specs.Tables.{entry, IsZeroOutside}
-use Rattle.lower_form.proofs.tables.factor_table.Given as goal
+use Rattle.integer_form.proofs.tables.factor_table.Given as goal
 
 abbrev pub invariant-loop-r : goal.invariant-loop-r
 invariant-loop-r l = record {
