@@ -1,0 +1,5 @@
+pub mod Reaches
+pub mod UpperSums
+pub mod Widths
+pub mod Bounds
+pub mod Decisions
