@@ -1,15 +1,15 @@
 -- The boxes of the pairs of the angles of a box hold one near the circle.
-use Rattle.std.proofs.Common.{◌≡◌, ℕ, ◌+◌, ◌*◌, ◌^◌, ◌≤◌, ◌⊎◌, ℤ, pos, ◌+ℤ◌, ◌*ℤ◌, neg_ℤ, ◌≤ℤ◌, arith, unsigned_abs, lit≤}
+use Rattle.std.proofs.Common.{ℕ, ◌+◌, ◌*◌, ◌^◌, ◌≤◌, ℤ, pos, ◌+ℤ◌, ◌*ℤ◌, neg_ℤ, ◌≤ℤ◌, arith, lit≤}
 use Rattle.std.proofs.lemmas.Int.{ints}
 use Rattle.whole_math.proofs.Order.{le_pos}
-use Rattle.rational.specs.Rational.{Rational, ◌≤ʳ◌, add_r, mul_r, of_scale, two_to_minus, AreWithin}
+use Rattle.rational.specs.Rational.{Rational, ◌≤ʳ◌, add_r, mul_r, of_scale, two_to_minus}
 use Rattle.rational.proofs.Boxes.{end_in}
 use Rattle.iv_core.specs.declared.Iv.{Iv}
 use Rattle.iv_core.specs.Intervals.{Holds, IsWithin}
-use Rattle.trig_box.specs.AnglePairs.{Pair, InRange, IsAnglePair}
+use Rattle.trig_box.specs.AnglePairs.{InRange, IsAnglePair}
 use Rattle.trig_box.proofs.PairLaws.{canonical_exists, canonical_is_pair, norm_law_5, norm_law_7}
 use Rattle.rotation_box.proofs.Circle.{near_looser}
-use Rattle.rotation_box.specs.Rotations.{HasPairNearCircle, HoldsBoth, IsNearCircle}
+use Rattle.rotation_box.specs.Rotations.{HasPairNearCircle}
 
 -- the lower end of a box is an angle in it
 low_end_in : (b : Iv 56) → Holds b (of_scale 56 b.lo)

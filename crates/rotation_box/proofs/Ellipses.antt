@@ -1,10 +1,10 @@
 -- The boxes of the pair of the true anomaly hold every one, and one near the circle.
-use Rattle.std.proofs.Common.{◌≡◌, ℕ, ◌+◌, ◌-◌, ◌*◌, ◌^◌, ◌<◌, ◌≤◌, [], ◌∷◌, ℤ, pos, ◌+ℤ◌, ◌-ℤ◌, ◌*ℤ◌, neg_ℤ, ◌≤ℤ◌, ◌<ℤ◌, arith, ap, sym, refl, subst, List, ◌∙◌, lit≤, lit<, mul-pos, unsigned_abs}
+use Rattle.std.proofs.Common.{◌≡◌, ◌-◌, ◌*◌, ◌^◌, ◌<◌, [], ◌∷◌, ℤ, pos, ◌*ℤ◌, ◌≤ℤ◌, ◌<ℤ◌, arith, ap, sym, refl, List, ◌∙◌, lit≤, mul-pos, unsigned_abs}
 use Rattle.std.proofs.lemmas.Int.{ints}
 use Rattle.std.proofs.Math.Logic.{∥∥₁_map}
 use Rattle.whole_math.proofs.Ring.{Ex, va, ◌⊕◌, ◌⊖◌, ◌⊗◌, ng}
-use Rattle.whole_math.proofs.Order.{le_pos, lt_pos}
-use Rattle.whole_math.proofs.Inequalities.{nat, pos_nn, same_by}
+use Rattle.whole_math.proofs.Order.{le_pos}
+use Rattle.whole_math.proofs.Inequalities.{nat, same_by}
 use Rattle.whole_math.proofs.Certificates.{Hy, Ce, mul_positive, ◌≼◌, hy, nm, sq, ◌⊞◌, ◌⊠◌}
 use Rattle.rational.specs.Rational.{Rational, ◌≈◌, ◌≤ʳ◌, of_whole, of_scale, two_to_minus, add_r, neg_r, sub_r, mul_r, AreWithin}
 use Rattle.rational.proofs.Laws.{≤ʳ_trans}

@@ -1,11 +1,10 @@
 -- The root of what is near 1, from what is known of the ends of a box of it: how wide the box is, and that its lower end is near.
-use Rattle.std.proofs.Common.{◌≡◌, ℕ, ◌+◌, ◌-◌, ◌*◌, ◌^◌, [], ◌∷◌, ℤ, pos, ◌+ℤ◌, ◌-ℤ◌, ◌*ℤ◌, neg_ℤ, ◌≤ℤ◌, ◌<ℤ◌, arith, refl}
+use Rattle.std.proofs.Common.{◌+◌, ◌-◌, ◌*◌, ◌^◌, [], ◌∷◌, ℤ, pos, ◌+ℤ◌, ◌-ℤ◌, ◌*ℤ◌, ◌≤ℤ◌, ◌<ℤ◌, arith, refl}
 use Rattle.std.proofs.lemmas.Int.{ints, by_lt_z}
 use Rattle.whole_math.proofs.Ring.{va, ◌⊕◌, ◌⊖◌, ◌⊗◌}
-use Rattle.whole_math.proofs.Order.{lins}
 use Rattle.whole_math.proofs.Inequalities.{nat, pos_nn}
-use Rattle.whole_math.proofs.Certificates.{cert, cancel, weak, square_root, ◌≼◌, hy, nm, sq, ◌⊞◌, ◌⊠◌}
-use Rattle.rational.specs.Rational.{Rational, ◌≤ʳ◌, of_scale, two_to_minus, mul_r, sub_r, AreWithin, InBox}
+use Rattle.whole_math.proofs.Certificates.{cert, cancel, weak, square_root, ◌≼◌, hy, nm, ◌⊞◌, ◌⊠◌}
+use Rattle.rational.specs.Rational.{Rational, of_scale, two_to_minus, mul_r, AreWithin, InBox}
 
 low_square : (n l : ℤ) → (n *ℤ pos 1152921504606846976 *ℤ pos 1152921504606846975) ≤ℤ ((l +ℤ pos 1) *ℤ (l +ℤ pos 1) *ℤ pos 1152921504606846976) → (n *ℤ pos 1152921504606846975) ≤ℤ ((l +ℤ pos 1) *ℤ (l +ℤ pos 1))
 low_square n l h0 =

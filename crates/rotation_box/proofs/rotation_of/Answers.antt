@@ -1,5 +1,4 @@
-use Rattle.std.proofs.Common.{◌≡◌, ℕ, ◌+◌, ◌*◌, ◌≤◌, ℤ, pos, ◌+ℤ◌, ◌*ℤ◌, ◌≤ℤ◌, arith, refl}
-use Rattle.std.proofs.lemmas.Int.{ints}
+use Rattle.std.proofs.Common.{arith, refl}
 use Rattle.rotation_box.proofs.Angles.{near_circle_5, narrow_5, within_16}
 use Rattle.rotation_box.proofs.Turns.{both_along}
 use Rattle.rotation_box.proofs.rotation_of.Goals as goal
