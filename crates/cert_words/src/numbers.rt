@@ -1,5 +1,5 @@
 // The numbers of a line, each behind one blank.
-ghost use Rattle.std.specs.Prelude.{◌≡◌, ◌+◌, ◌≤◌, ◌<◌, ◌∷◌, ◌++◌, ◌^◌, ℤ, [], length, MatchOption, None, Some, Ok, Err, IfOk, OnSome, unsigned_abs};
+ghost use Rattle.std.specs.Prelude.{◌≡◌, ◌+◌, ◌≤◌, ◌<◌, ◌∷◌, ◌++◌, ◌^◌, ℤ, [], length, MatchOption, None, Some, Ok, Err, IfOk, IfNone, OnSome};
 ghost use Rattle.std.specs.Option.{option_map};
 ghost use Rattle.decimal_text.specs.Whole.{whole_of};
 ghost use Rattle.cert_words.specs.Numbers.{part, capped, word_of, behind_word, next_number, more_numbers, behind_text, at_end, numbers_behind};
@@ -94,9 +94,11 @@ impl<'a> LineReader<'a> {
         }
     }
 
-    /// Goes past a text; `None` where the line doesn't go on with it.
+    /// Goes past a text; `None` where the line doesn't go on with it, and then nothing is taken.
     pub fn take_text(&mut self, text: &[u8]) -> Option<()>
-        ensures { MatchOption result (behind_text text.now self.old ≡ None) (λ _. behind_text text.now self.old ≡ Some self.new) }
+        ensures numbers { self.new.numbers ≡ self.old.numbers }
+        ensures unchanged { IfNone result (self.new ≡ self.old) }
+        ensures value { MatchOption result (behind_text text.now self.old ≡ None) (λ _. behind_text text.now self.old ≡ Some self.new) }
     {
         let left = self.left.strip_prefix(text)?;
         self.left = left;

@@ -1,0 +1,4 @@
+pub mod Values
+pub mod Spelled
+pub mod ArcLaws
+pub mod Appends

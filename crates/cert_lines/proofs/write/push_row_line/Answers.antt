@@ -1,0 +1,14 @@
+use Rattle.std.proofs.Common.{◌≡◌, ℤ, w64, to_z, of_z, arith}
+use Rattle.std.proofs.lemmas.Int.{ints}
+use Rattle.cert_lines.proofs.Appends.{row_appended}
+use Rattle.cert_lines.proofs.write.push_row_line.Goals as goal
+
+pub returns : goal.returns
+returns c =
+    let r = c.args.row.now in
+    let low = r.ry_in.0 in
+    let high = r.ry_in.1 in
+    let same : to_z w64 (of_z w64 r.ry) ≡ r.ry = omega (arith, ints) in
+    let ry = rw same at c.in_ok-push_number-2.ensures in
+    row_appended c.args.out.now.items c.extend_from_slice.new.self.items c.push_number.new.out.items c.push_numbers.new.out.items c.push_number-2.new.out.items c.push_numbers-2.new.out.items c.push_numbers-3.new.out.items c.push.new.self.items r.arc r.y r.ry r.u r.ru
+    c.in_ok-extend_from_slice.ensures.items c.in_ok-push_number.ensures c.in_ok-push_numbers.ensures ry c.in_ok-push_numbers-2.ensures c.in_ok-push_numbers-3.ensures c.in_ok-push.ensures.items

@@ -1,0 +1,93 @@
+// The lines, written.
+ghost use Rattle.std.specs.Prelude.{◌≡◌, ◌++◌, ◌∷◌, [], OnOk};
+ghost use Rattle.cert_words.specs.Spelling.{text_of_lines};
+ghost use Rattle.cert_lines.specs.Lines.{count_line, vector_line, signals_line, arc_line, kind_text, row_line, row_lines, pair_lines};
+
+use cert_words::{push_number, push_numbers};
+use obs_rows::{Arc, PairRows, Row, Signals};
+use std::alloc::AllocError;
+
+/// Appends a line of a word and one number that isn't below 0.
+pub fn push_count_line(out: &mut Vec<u8>, word: &[u8], number: u64) -> Result<(), AllocError>
+    ensures { OnOk result (out.new.items ≡ out.old.items ++ text_of_lines (count_line word.now number ∷ [])) }
+{
+    out.extend_from_slice(word)?;
+    push_number(out, number)?;
+    out.push(b'\n')?;
+    Ok(())
+}
+
+/// Appends a line of a word and numbers.
+pub fn push_vector_line(out: &mut Vec<u8>, word: &[u8], numbers: &[i64]) -> Result<(), AllocError>
+    ensures { OnOk result (out.new.items ≡ out.old.items ++ text_of_lines (vector_line word.now numbers.now ∷ [])) }
+{
+    out.extend_from_slice(word)?;
+    push_numbers(out, numbers)?;
+    out.push(b'\n')?;
+    Ok(())
+}
+
+/// Appends the line of the signals' letters.
+pub fn push_signals_line(out: &mut Vec<u8>, signals: Signals) -> Result<(), AllocError>
+    ensures { OnOk result (out.new.items ≡ out.old.items ++ text_of_lines (signals_line signals.l1 signals.l2 ∷ [])) }
+{
+    out.extend_from_slice(b"signals")?;
+    out.extend_from_slice(&[b' ', signals.l1, b' ', signals.l2, b'\n'])
+}
+
+/// Appends the line of an arc.
+pub fn push_arc_line(out: &mut Vec<u8>, arc: &Arc) -> Result<(), AllocError>
+    ensures { OnOk result (out.new.items ≡ out.old.items ++ text_of_lines (arc_line arc.now ∷ [])) }
+{
+    out.extend_from_slice(b"arc")?;
+    push_number(out, arc.sat)?;
+    push_number(out, arc.first)?;
+    push_number(out, arc.last)?;
+    out.extend_from_slice(kind_text(arc.datum))?;
+    push_numbers(out, &arc.shift)?;
+    out.push(b'\n')?;
+    Ok(())
+}
+
+fn kind_text(datum: bool) -> &'static [u8]
+    ensures { result.now ≡ kind_text datum }
+{
+    if datum { b" datum" } else { b" free" }
+}
+
+/// Appends the line of a row.
+pub fn push_row_line(out: &mut Vec<u8>, row: &Row) -> Result<(), AllocError>
+    ensures { OnOk result (out.new.items ≡ out.old.items ++ text_of_lines (row_line row.now ∷ [])) }
+{
+    out.extend_from_slice(b"row")?;
+    push_number(out, row.arc)?;
+    push_numbers(out, &row.y)?;
+    push_number(out, row.ry)?;
+    push_numbers(out, &row.u)?;
+    push_numbers(out, &row.ru)?;
+    out.push(b'\n')?;
+    Ok(())
+}
+
+fn push_row_lines(out: &mut Vec<u8>, rows: &[Row]) -> Result<(), AllocError>
+    ensures { OnOk result (out.new.items ≡ out.old.items ++ text_of_lines (row_lines rows.now)) }
+{
+    for row in rows {
+        push_row_line(out, row)?;
+    }
+    Ok(())
+}
+
+/// Appends the lines of a pair: its own, and one for each row.
+pub fn push_pair_lines(out: &mut Vec<u8>, pair: &PairRows) -> Result<(), AllocError>
+    ensures { OnOk result (out.new.items ≡ out.old.items ++ text_of_lines (pair_lines pair.now)) }
+{
+    let rows = pair.rows.as_slice();
+    out.extend_from_slice(b"pair")?;
+    push_number(out, pair.number)?;
+    push_number(out, pair.tag.0)?;
+    push_number(out, pair.group)?;
+    push_number(out, rows.len())?;
+    out.push(b'\n')?;
+    push_row_lines(out, rows)
+}
