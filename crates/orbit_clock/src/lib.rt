@@ -2,8 +2,13 @@
 //! table 20-IV) from the record to the mean anomaly.
 #![tactic(auto)]
 
+mod correction;
+mod quotient;
 mod shape;
+mod timing;
 mod world;
 
-pub use shape::{axis, eccentricity, mean_motion};
+pub use shape::{AXIS, ECCENTRICITY, axis, eccentricity};
+
+pub use timing::{CLOCK_WIDTH, EPOCH_TIME, MEAN, Timing, timing_of};
 pub use world::World;

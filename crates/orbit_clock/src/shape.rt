@@ -1,5 +1,5 @@
 // The orbit's size and shape, and how fast it is run through, from the numbers of a record.
-ghost use Rattle.std.specs.Prelude.{◌≡◌, ◌*◌, ◌^◌, pos, ◌≤ℤ◌};
+ghost use Rattle.std.specs.Prelude.{◌≡◌, ◌*◌, ◌^◌, pos, ◌*ℤ◌, ◌≤ℤ◌};
 ghost use Rattle.rational.specs.Rational.{Rational, ◌≈◌, of_whole, times, mul_r, IsNearRoot};
 ghost use Rattle.iv_core.specs.Intervals.{Holds};
 ghost use Rattle.orbit_model.specs.Solution.{Quantities, IsSatelliteSolution};
@@ -30,7 +30,7 @@ const ROOT_OF_MU: u64 = 19_965_300 << 36;
 
 const TENS: u64 = 199_653_000_000 << 24;
 
-const TEN_THOUSAND: u64 = 10_000;
+pub const TEN_THOUSAND: u64 = 10_000;
 
 const THOUSANDTH: u64 = (1 << 60) / 1_000 + 1;
 
@@ -83,11 +83,21 @@ fn cube(eph: &Eph) -> SizedBox<24, CUBE, 10>
     axis(eph).mul(&root_of_axis(eph))
 }
 
+// μ in units of 2^-12
+fn scaled_mu(world: &World) -> i64
+    ensures value { result ≡ world.now.mu *ℤ pos 4096 }
+    ensures low { pos 0 ≤ℤ result }
+    ensures high { result ≤ℤ pos (398600500000000 * 2 ^ 12) }
+{
+    world.mu * 4_096
+}
+
 // The near-roots of μ
 fn root_of_mu(world: &World) -> SizedBox<36, ROOT_OF_MU, 3>
     ensures { (r : Rational) → IsNearRoot r (of_whole world.now.mu) → Holds result.held r }
 {
-    let mu: Iv<12> = Iv::from_ends(world.mu << 12, world.mu << 12);
+    let scaled = scaled_mu(world);
+    let mu: Iv<12> = Iv::from_ends(scaled, scaled);
     SizedBox::new(mu.root_to::<36>())
 }
 
