@@ -9,6 +9,5 @@ mod timing;
 mod world;
 
 pub use shape::{AXIS, ECCENTRICITY, axis, eccentricity};
-
 pub use timing::{CLOCK_WIDTH, EPOCH_TIME, MEAN, Timing, timing_of};
 pub use world::World;

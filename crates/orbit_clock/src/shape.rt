@@ -107,8 +107,7 @@ pub fn mean_motion(eph: &Eph, world: &World) -> SizedBox<60, MOTION, MOTION_WIDT
         Holds result.held (times 10000 q.motion) }
 {
     let tens: SizedBox<24, TENS, 9> = root_of_mu(world).mul(&ten_thousand());
-    let computed =
-        tens.div::<24, CUBE, 10, LEAST_CUBE, 60, COMPUTED, 25>(&cube(eph));
+    let computed = tens.div::<24, CUBE, 10, LEAST_CUBE, 60, COMPUTED, 25>(&cube(eph));
     let change = decimal_box::<60, 1, 7, 4, THOUSANDTH>(eph.dn);
     computed.add(&change)
 }
