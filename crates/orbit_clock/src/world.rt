@@ -1,6 +1,6 @@
 // The constants of a navigation system.
 ghost use Rattle.std.specs.Prelude.{◌≡◌, pos, neg_ℤ};
-ghost use Rattle.sv_orbit.specs.Worlds.{IsWorld};
+ghost use Rattle.orbit_clock.specs.Worlds.{IsWorld};
 
 /// The Earth's gravitational constant μ in m³/s², and F of the relativistic clock term in 10^-19 s/√m.
 #[derive(Clone, Copy, Debug, PartialEq, Eq)]

@@ -1,0 +1,178 @@
+-- The first bounds of any solution: from |E| ≤ 16 to the time since the reference epoch, to the clock, to the time again, to the clock.
+use Rattle.std.proofs.Common.{◌≡◌, ℕ, ◌+◌, ◌*◌, ◌^◌, ◌≤◌, ◌<◌, List, [], ◌∷◌, ℤ, pos, ◌+ℤ◌, ◌-ℤ◌, ◌*ℤ◌, neg_ℤ, ◌≤ℤ◌, ◌<ℤ◌, unsigned_abs, arith, refl, sym, lit≤, lit<}
+use Rattle.std.proofs.lemmas.Int.{ints}
+use Rattle.std.specs.Int.{abs_diff}
+use Rattle.whole_math.proofs.IntLaws.{neg_mul_ℤ}
+use Rattle.whole_math.proofs.Ring.{Ex, va, ko, ◌⊕◌, ◌⊖◌, ◌⊗◌, ng}
+use Rattle.whole_math.proofs.Order.{lins, le_pos, lt_pos, mul_le_left, mul_le_right, square_nn}
+use Rattle.whole_math.proofs.Inequalities.{same_by, nat, pos_nn, le_eq, le_trans_ℤ}
+use Rattle.whole_math.proofs.Certificates.{cert, cancel, square_root, mul_positive, ◌≼◌, hy, nm, ◌⊞◌, ◌⊠◌}
+use Rattle.decimal_text.specs.declared.exponent.Dec.{Dec}
+use Rattle.rational.specs.Rational.{Rational, ◌≈◌, ◌≤ʳ◌, of_whole, of_scale, two_to_minus, add_r, sub_r, mul_r, neg_r, IsAtMostInSize, IsNearRoot}
+use Rattle.rational.proofs.Laws.{≤ʳ_trans, ≤ʳ_from_same, ≈_sym, ≈_trans}
+use Rattle.rational_algebra.proofs.Identities.{ring_r}
+use Rattle.rational_algebra.proofs.Orders.{order_r, equal_r, cancel_r, ◌≐◌}
+use Rattle.rational_algebra.proofs.Sizes.{positive_above, size_add, size_sub, size_mul, size_along, size_looser, size_over}
+use Rattle.trig_box.specs.AnglePairs.{IsAnglePair, InRange}
+use Rattle.trig_box.proofs.PairLaws.{size_law_5}
+use Rattle.eph_store.specs.Decimals.{decimal, value_of, IsFromTo, IsWithin}
+use Rattle.eph_store.specs.declared.ephemeris.Eph.{Eph}
+use Rattle.orbit_model.specs.Elements.{Elements, Constants, sent_at}
+use Rattle.orbit_model.specs.Solution.{Quantities, IsSatelliteSolution}
+use Rattle.orbit_clock.specs.declared.world.World.{World}
+use Rattle.orbit_clock.specs.Records.{elements_of, constants_of, seconds}
+use Rattle.orbit_clock.proofs.Values.{from_to_within}
+use Rattle.orbit_clock.proofs.RootOfMu.{bounded, AreBounded}
+
+-- what the profile says of a number
+pub size_of_decimal : (bound places : ℕ) (d : Dec) → IsWithin bound places d → IsAtMostInSize (decimal (pos bound) places) (value_of d)
+size_of_decimal bound places d w = (w.high, turned ((value_of d).num) (pos (10 ^ places)) (pos (value_of d).den) (pos bound) w.low)
+  where
+    turned : (v p d b : ℤ) → (neg_ℤ b *ℤ d) ≤ℤ (v *ℤ p) → (neg_ℤ v *ℤ p) ≤ℤ (b *ℤ d)
+    turned v p d b h = le_trans_ℤ (le_eq (neg_mul_ℤ v p)) (step (neg_ℤ b *ℤ d) (v *ℤ p) (b *ℤ d) (neg_mul_ℤ b d) h)
+      where
+        step : (x y z : ℤ) → x ≡ neg_ℤ z → x ≤ℤ y → neg_ℤ y ≤ℤ z
+        step x y z e h = omega (arith, lins)
+
+-- |E| ≤ 16
+size_of_angle : (x : Rational) → InRange 5 x → IsAtMostInSize (of_whole (pos 16)) x
+size_of_angle x h = (up x.num x.den h, down x.num x.den h)
+  where
+    up : (n : ℤ) (d : ℕ) → 2 * unsigned_abs n ≤ 2 ^ 5 * d → (n *ℤ pos 1) ≤ℤ (pos 16 *ℤ pos d)
+    up n d h = omega (arith, ints)
+
+    down : (n : ℤ) (d : ℕ) → 2 * unsigned_abs n ≤ 2 ^ 5 * d → (neg_ℤ n *ℤ pos 1) ≤ℤ (pos 16 *ℤ pos d)
+    down n d h = omega (arith, ints)
+
+-- a near-root of μ is at least 19964900
+low_root : (r mu : ℤ) (d : ℕ) → pos 0 ≤ℤ r → pos 398600441800000 ≤ℤ mu → (pos (unsigned_abs (((r *ℤ r) *ℤ pos 1) -ℤ (mu *ℤ pos (d * d)))) *ℤ pos (2 ^ 60)) ≤ℤ (mu *ℤ pos (d * d)) → (pos 19964900 *ℤ pos d) ≤ℤ r
+low_root r mu d r0 m h = square_root (pos 19964900 *ℤ pos d) r r0 (squares (r *ℤ r) mu (pos d) (below (r *ℤ r) (mu *ℤ pos (d * d)) h) m)
+  where
+    below : (s n : ℤ) → (pos (unsigned_abs ((s *ℤ pos 1) -ℤ n)) *ℤ pos (2 ^ 60)) ≤ℤ n → ((n -ℤ s) *ℤ pos (2 ^ 60)) ≤ℤ n
+    below s n h = omega (arith, ints)
+
+    squares : (s m d : ℤ) → ((m *ℤ (d *ℤ d) -ℤ s) *ℤ pos (2 ^ 60)) ≤ℤ (m *ℤ (d *ℤ d)) → pos 398600441800000 ≤ℤ m → ((pos 19964900 *ℤ d) *ℤ (pos 19964900 *ℤ d)) ≤ℤ s
+    squares s m d h k = cancel (pos (2 ^ 60)) ((pos 19964900 *ℤ d) *ℤ (pos 19964900 *ℤ d)) s (omega (arith, ints))
+        (cert (s ∷ m ∷ d ∷ []) (((va 1 ⊗ (va 2 ⊗ va 2) ⊖ va 0) ⊗ ko (pos (2 ^ 60)) ≼ va 1 ⊗ (va 2 ⊗ va 2)) ∷ (ko (pos 398600441800000) ≼ va 1) ∷ (ko (pos 0) ≼ va 2 ⊗ va 2) ∷ [])
+        (ko (pos (2 ^ 60)) ⊗ ((ko (pos 19964900) ⊗ va 2) ⊗ (ko (pos 19964900) ⊗ va 2))) (ko (pos (2 ^ 60)) ⊗ va 0) (hy 0 ⊞ nm 1152921504606846975 ⊠ hy 1 ⊠ hy 2 ⊞ nm 3700635916271612754653240000 ⊠ hy 2) refl (h, (k, (square_nn d, tt))))
+
+-- ---- n ≥ 9.23 · 10^-5
+parted : (a b : ℕ) (h : 0 < b) (q : Rational) → of_whole (pos a) ≤ʳ mul_r (of_whole (pos b)) q → record { num = pos a; den = b; positive = h } ≤ʳ q
+parted a b h q l = le_trans_ℤ (le_eq (same_by (pos a ∷ pos q.den ∷ []) (λ a d. (a ⊗ d, a ⊗ (nat 1 ⊗ d))) refl)) (le_trans_ℤ l (le_eq (same_by (pos b ∷ q.num ∷ []) (λ b n. (b ⊗ n ⊗ nat 1, n ⊗ b)) refl)))
+
+computed_least : (n0 axis a r : Rational) → mul_r n0 (mul_r axis a) ≈ r → axis ≈ mul_r a a → of_whole (pos 19964900) ≤ʳ r → of_whole (pos 4500) ≤ʳ a → a ≤ʳ of_whole (pos 6000) → of_whole (pos 924) ≤ʳ mul_r (of_whole (pos 10000000)) n0
+computed_least n0 axis a r e f h l m =
+    cancel_r (mul_r (mul_r a a) a) (of_whole (pos 924)) (mul_r (of_whole (pos 10000000)) n0) (cubed a.num (positive l))
+    (order_r (n0 ∷ axis ∷ a ∷ r ∷ []) ((ko (pos 19964900) ≼ va 3) ∷ (va 2 ≼ ko (pos 6000)) ∷ (ko (pos 4500) ≼ va 2) ∷ [])
+    ((va 0 ⊗ (va 1 ⊗ va 2) ≐ va 3) ∷ (va 1 ≐ va 2 ⊗ va 2) ∷ [])
+    (((va 2 ⊗ va 2) ⊗ va 2) ⊗ ko (pos 924)) (((va 2 ⊗ va 2) ⊗ va 2) ⊗ (ko (pos 10000000) ⊗ va 0))
+    (nm 10000000 ⊠ hy 0 ⊞ nm 65000000000 ⊞ nm 924 ⊠ hy 1 ⊠ (nm 36000000 ⊞ nm 6000 ⊠ (hy 2 ⊞ nm 4500) ⊞ (hy 2 ⊞ nm 4500) ⊠ (hy 2 ⊞ nm 4500)))
+    (ko (pos 10000000) ∷ ng (ko (pos 10000000) ⊗ va 0 ⊗ va 2) ∷ []) refl (h, (m, (l, tt))) (e, (f, tt)))
+  where
+    positive : of_whole (pos 4500) ≤ʳ a → pos 0 <ℤ a.num
+    positive l = positive_above (of_whole (pos 4500)) a (omega (arith, ints)) l
+
+    cubed : (n : ℤ) → pos 0 <ℤ n → pos 0 <ℤ (n *ℤ n *ℤ n)
+    cubed n h = mul_positive (n *ℤ n) n (mul_positive n n h h) h
+
+motion_least : (n n0 dn : Rational) → n ≈ add_r n0 dn → of_whole (pos 924) ≤ʳ mul_r (of_whole (pos 10000000)) n0 → IsAtMostInSize (decimal (pos 1) 7) dn → decimal (pos 923) 7 ≤ʳ n
+motion_least n n0 dn e h s = parted 923 (10 ^ 7) (lit< tt) n
+    (order_r (n ∷ n0 ∷ dn ∷ decimal (pos 1) 7 ∷ []) ((ko (pos 924) ≼ ko (pos 10000000) ⊗ va 1) ∷ (ng (va 2) ≼ va 3) ∷ (va 3 ⊗ ko (pos 10000000) ≼ ko (pos 1)) ∷ []) ((va 0 ≐ va 1 ⊕ va 2) ∷ [])
+    (ko (pos 923)) (ko (pos 10000000) ⊗ va 0) (hy 0 ⊞ nm 10000000 ⊠ hy 1 ⊞ hy 2) (ko (pos 10000000) ∷ []) refl (h, (s.1, (omega (arith, ints), tt))) (e, tt))
+
+-- ---- the polynomial
+abbrev pub clock_limit : Rational → Rational
+clock_limit b = add_r (add_r (add_r (decimal (pos 1) 2) (mul_r (decimal (pos 1) 7) b)) (mul_r (decimal (pos 1) 12) (mul_r b b))) (mul_r (mul_r (mul_r (decimal (pos 4442807633) 19) (decimal (pos 3125) 5)) (of_whole (pos 6000))) (add_r (of_whole (pos 1)) (two_to_minus 16)))
+
+relativity_size : (rel : ℤ) → neg_ℤ (pos 4442807633) ≤ℤ rel → rel ≤ℤ neg_ℤ (pos 4442807309) → IsAtMostInSize (decimal (pos 4442807633) 19) (decimal rel 19)
+relativity_size rel l h = (mul_le_right (pos (10 ^ 19)) rel (pos 4442807633) (pos_nn (10 ^ 19)) (omega (arith, ints, l, h)), mul_le_right (pos (10 ^ 19)) (neg_ℤ rel) (pos 4442807633) (pos_nn (10 ^ 19)) (omega (arith, ints, l, h)))
+
+-- the relativistic term
+pub effect_size : (eph : Eph) (world : World) (x c s : Rational) → IsAnglePair 5 x c s →
+    IsAtMostInSize (mul_r (mul_r (mul_r (decimal (pos 4442807633) 19) (decimal (pos 3125) 5)) (of_whole (pos 6000))) (add_r (of_whole (pos 1)) (two_to_minus 16)))
+    (mul_r (mul_r (mul_r (constants_of world).relativity (elements_of eph).ecc) (elements_of eph).root_a) s)
+effect_size eph world x c s p =
+    let w : AreBounded world.mu world.rel = bounded world.mu world.rel world.known in
+    let f = relativity_size world.rel w.rel_low w.rel_high in
+    let e = size_of_decimal 3125 5 eph.ecc (from_to_within 0 3125 5 eph.ecc eph.ecc_in) in
+    let a = size_of_decimal 6000 0 eph.root_a (from_to_within 4500 6000 0 eph.root_a eph.root_a_in) in
+    let six : decimal (pos 6000) 0 ≤ʳ of_whole (pos 6000) = omega (arith, ints) in
+    size_mul (mul_r (mul_r (decimal (pos 4442807633) 19) (decimal (pos 3125) 5)) (of_whole (pos 6000))) (add_r (of_whole (pos 1)) (two_to_minus 16)) (mul_r (mul_r (constants_of world).relativity (elements_of eph).ecc) (elements_of eph).root_a) s
+    (size_mul (mul_r (decimal (pos 4442807633) 19) (decimal (pos 3125) 5)) (of_whole (pos 6000)) (mul_r (constants_of world).relativity (elements_of eph).ecc) (elements_of eph).root_a
+    (size_mul (decimal (pos 4442807633) 19) (decimal (pos 3125) 5) (constants_of world).relativity (elements_of eph).ecc f e)
+    (size_looser (decimal (pos 6000) 0) (of_whole (pos 6000)) (elements_of eph).root_a six a))
+    (size_law_5 x c s p).1
+
+clock_size : (eph : Eph) (world : World) (sent b : Rational) (q : Quantities) → IsSatelliteSolution (constants_of world) (elements_of eph) sent q → IsAtMostInSize b (sub_r q.t (elements_of eph).toc) → IsAtMostInSize (clock_limit b) q.clock
+clock_size eph world sent b q s h =
+    let d : Elements = elements_of eph in
+    let x : Rational = sub_r q.t d.toc in
+    let bias = size_of_decimal 1 2 eph.af0 eph.af0_in in
+    let drift = size_mul (decimal (pos 1) 7) b d.af1 x (size_of_decimal 1 7 eph.af1 eph.af1_in) h in
+    let aging = size_mul (decimal (pos 1) 12) (mul_r b b) d.af2 (mul_r x x) (size_of_decimal 1 12 eph.af2 eph.af2_in) (size_mul b b x x h h) in
+    let effect = effect_size eph world q.eccentric q.eccentric_pair.cos q.eccentric_pair.sin s.kepler.is_pair in
+    let two = size_add (decimal (pos 1) 2) (mul_r (decimal (pos 1) 7) b) d.af0 (mul_r d.af1 x) bias drift in
+    let three = size_add (add_r (decimal (pos 1) 2) (mul_r (decimal (pos 1) 7) b)) (mul_r (decimal (pos 1) 12) (mul_r b b)) (add_r d.af0 (mul_r d.af1 x)) (mul_r d.af2 (mul_r x x)) two aging in
+    let value : Rational = add_r (add_r (add_r d.af0 (mul_r d.af1 x)) (mul_r d.af2 (mul_r x x))) (mul_r (mul_r (mul_r (constants_of world).relativity d.ecc) d.root_a) q.eccentric_pair.sin) in
+    let four : IsAtMostInSize (clock_limit b) value = size_add (add_r (add_r (decimal (pos 1) 2) (mul_r (decimal (pos 1) 7) b)) (mul_r (decimal (pos 1) 12) (mul_r b b))) (mul_r (mul_r (mul_r (decimal (pos 4442807633) 19) (decimal (pos 3125) 5)) (of_whole (pos 6000))) (add_r (of_whole (pos 1)) (two_to_minus 16))) (add_r (add_r d.af0 (mul_r d.af1 x)) (mul_r d.af2 (mul_r x x))) (mul_r (mul_r (mul_r (constants_of world).relativity d.ecc) d.root_a) q.eccentric_pair.sin) three effect in
+    size_along (clock_limit b) value q.clock (≈_sym q.clock value s.clock_correction) four
+
+-- ---- toe and toc are at most two hours apart
+epochs_size : (a b : ℕ) → a ≤ b + 72000000000 → b ≤ a + 72000000000 → IsAtMostInSize (of_whole (pos 7200)) (sub_r (seconds a) (seconds b))
+epochs_size a b h g = (omega (arith, ints, h), omega (arith, ints, g))
+
+abbrev pub sent_limit : Rational
+sent_limit = record { num = pos 720134; den = 100; positive = lit< tt }
+
+-- the sending by the satellite's own clock is at most 7201.34 s from toe
+pub sent_size : (tag toe : ℕ) (code : ℤ) → abs_diff tag toe ≤ 72010000000 → pos 0 ≤ℤ code → code ≤ℤ pos (10 ^ 11) → IsAtMostInSize sent_limit (sub_r (sent_at tag code) (seconds toe))
+sent_size tag toe code n l h = let a = apart tag toe n in (high tag toe code a.0 l, low tag toe code a.1 h)
+  where
+    apart : (a b : ℕ) → abs_diff a b ≤ 72010000000 → (a ≤ b + 72010000000) × (b ≤ a + 72010000000)
+    apart a b h = (omega arith, omega arith)
+
+    high : (t e : ℕ) (c : ℤ) → t ≤ e + 72010000000 → pos 0 ≤ℤ c → ((((pos t *ℤ pos 149896229 -ℤ c *ℤ pos 5000) *ℤ pos 10000000) -ℤ (pos e *ℤ pos 1498962290000000)) *ℤ pos 100) ≤ℤ (pos 720134 *ℤ pos (1498962290000000 * 10000000))
+    high t e c h l = omega (arith, ints, h, l)
+
+    low : (t e : ℕ) (c : ℤ) → e ≤ t + 72010000000 → c ≤ℤ pos (10 ^ 11) → (neg_ℤ (((pos t *ℤ pos 149896229 -ℤ c *ℤ pos 5000) *ℤ pos 10000000) -ℤ (pos e *ℤ pos 1498962290000000)) *ℤ pos 100) ≤ℤ (pos 720134 *ℤ pos (1498962290000000 * 10000000))
+    low t e c h l = omega (arith, ints, h, l)
+
+-- ---- the bounds
+pub clock_small : (eph : Eph) (world : World) (sent : Rational) (q : Quantities) → IsSatelliteSolution (constants_of world) (elements_of eph) sent q → IsAtMostInSize sent_limit (sub_r sent (elements_of eph).toe) → IsAtMostInSize (of_scale 60 (pos (2 ^ 54))) q.clock
+clock_small eph world sent q s near =
+    let d : Elements = elements_of eph in
+    let w : AreBounded world.mu world.rel = bounded world.mu world.rel world.known in
+    let sine = size_law_5 q.eccentric q.eccentric_pair.cos q.eccentric_pair.sin s.kepler.is_pair in
+    let one_and : Rational = add_r (of_whole (pos 1)) (two_to_minus 16) in
+    let e = size_of_decimal 3125 5 eph.ecc (from_to_within 0 3125 5 eph.ecc eph.ecc_in) in
+    let pull = size_mul (decimal (pos 3125) 5) one_and d.ecc q.eccentric_pair.sin e sine.1 in
+    let angle = size_of_angle q.eccentric s.kepler.is_pair.in_range in
+    let mean = size_along (add_r (of_whole (pos 16)) (mul_r (decimal (pos 3125) 5) one_and)) (sub_r q.eccentric (mul_r d.ecc q.eccentric_pair.sin)) q.mean (≈_sym q.mean (sub_r q.eccentric (mul_r d.ecc q.eccentric_pair.sin)) s.kepler.equation)
+    (size_sub (of_whole (pos 16)) (mul_r (decimal (pos 3125) 5) one_and) q.eccentric (mul_r d.ecc q.eccentric_pair.sin) angle pull) in
+    let turn_limit : Rational = add_r (add_r (of_whole (pos 16)) (mul_r (decimal (pos 3125) 5) one_and)) (decimal (pos 65) 1) in
+    let turn = size_along turn_limit (sub_r q.mean d.m0) (mul_r q.tk q.motion) (turned q.mean d.m0 q.motion q.tk s.mean_anomaly)
+    (size_sub (add_r (of_whole (pos 16)) (mul_r (decimal (pos 3125) 5) one_and)) (decimal (pos 65) 1) q.mean d.m0 mean (size_of_decimal 65 1 eph.m0 eph.m0_in)) in
+    let root : of_whole (pos 19964900) ≤ʳ q.root_mu = root_least q.root_mu world.mu w.mu_low s.root_of_mu in
+    let slow : decimal (pos 923) 7 ≤ʳ q.motion = motion_least q.motion q.computed_motion d.dn s.corrected_mean_motion
+    (computed_least q.computed_motion q.axis d.root_a q.root_mu s.computed_mean_motion s.semi_major_axis root eph.root_a_in.low eph.root_a_in.high) (size_of_decimal 1 7 eph.dn eph.dn_in) in
+    let time = size_over turn_limit (decimal (pos 923) 7) (of_whole (pos 245000)) q.tk q.motion (omega (arith, ints)) (omega (arith, ints)) slow (le_pos _ _ (lit≤ tt)) turn in
+    let gap = epochs_size eph.toe.0 eph.toc.0 eph.toc_late_enough eph.toc_early_enough in
+    let far = size_along (of_whole (pos 252200)) (add_r q.tk (sub_r d.toe d.toc)) (sub_r q.t d.toc) (since q.t q.tk d.toe d.toc s.time_from_epoch)
+    (size_looser (add_r (of_whole (pos 245000)) (of_whole (pos 7200))) (of_whole (pos 252200)) (add_r q.tk (sub_r d.toe d.toc)) (le_pos _ _ (lit≤ tt)) (size_add (of_whole (pos 245000)) (of_whole (pos 7200)) q.tk (sub_r d.toe d.toc) time gap)) in
+    let first = size_looser (clock_limit (of_whole (pos 252200))) (of_scale 3 (pos 1)) q.clock (le_pos _ _ (lit≤ tt)) (clock_size eph world sent (of_whole (pos 252200)) q s far) in
+    let close_limit : Rational = add_r (add_r sent_limit (of_scale 3 (pos 1))) (of_whole (pos 7200)) in
+    let close = size_along close_limit (add_r (sub_r (sub_r sent d.toe) q.clock) (sub_r d.toe d.toc)) (sub_r q.t d.toc) (sent_since sent q.t q.clock d.toe d.toc s.time_of_sending)
+    (size_add (add_r sent_limit (of_scale 3 (pos 1))) (of_whole (pos 7200)) (sub_r (sub_r sent d.toe) q.clock) (sub_r d.toe d.toc) (size_sub sent_limit (of_scale 3 (pos 1)) (sub_r sent d.toe) q.clock near first) gap) in
+    size_looser (clock_limit close_limit) (of_scale 60 (pos (2 ^ 54))) q.clock (le_pos _ _ (lit≤ tt)) (clock_size eph world sent close_limit q s close)
+  where
+    turned : (m m0 n t : Rational) → m ≈ add_r m0 (mul_r n t) → sub_r m m0 ≈ mul_r t n
+    turned m m0 n t e = equal_r (m ∷ m0 ∷ n ∷ t ∷ []) ((va 0 ≐ va 1 ⊕ va 2 ⊗ va 3) ∷ []) (ko (pos 1) ∷ []) (va 0 ⊖ va 1) (va 3 ⊗ va 2) refl (e, tt)
+
+    since : (t k toe toc : Rational) → k ≈ sub_r t toe → add_r k (sub_r toe toc) ≈ sub_r t toc
+    since t k toe toc e = equal_r (t ∷ k ∷ toe ∷ toc ∷ []) ((va 1 ≐ va 0 ⊖ va 2) ∷ []) (ko (pos 1) ∷ []) (va 1 ⊕ (va 2 ⊖ va 3)) (va 0 ⊖ va 3) refl (e, tt)
+
+    sent_since : (sent t k toe toc : Rational) → t ≈ sub_r sent k → add_r (sub_r (sub_r sent toe) k) (sub_r toe toc) ≈ sub_r t toc
+    sent_since sent t k toe toc e = equal_r (sent ∷ t ∷ k ∷ toe ∷ toc ∷ []) ((va 1 ≐ va 0 ⊖ va 2) ∷ []) (ng (ko (pos 1)) ∷ []) (((va 0 ⊖ va 3) ⊖ va 2) ⊕ (va 3 ⊖ va 4)) (va 1 ⊖ va 4) refl (e, tt)
+
+    root_least : (r : Rational) (mu : ℤ) → pos 398600441800000 ≤ℤ mu → IsNearRoot r (of_whole mu) → of_whole (pos 19964900) ≤ʳ r
+    root_least r mu l h = le_trans_ℤ (low_root r.num mu r.den h.0 l h.1) (le_eq (same_by (r.num ∷ []) (λ n. (n, n ⊗ nat 1)) refl))

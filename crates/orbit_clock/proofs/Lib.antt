@@ -1,0 +1,5 @@
+pub mod Values
+pub mod RootOfMu
+pub mod Quotients
+pub mod FirstBounds
+pub mod NearMean

@@ -1,0 +1,10 @@
+use Rattle.rational.specs.Rational.{Rational, mul_r}
+use Rattle.std.proofs.Common.{refl}
+use Rattle.eph_store.specs.Decimals.{value_of}
+use Rattle.orbit_clock.proofs.Values.{cube_least}
+use Rattle.orbit_clock.proofs.shape.cube.Goals as goal
+
+pub returns-clause-least : goal.returns-clause-least
+returns-clause-least c =
+    let a : Rational = value_of c.args.eph.now.root_a in
+    cube_least c.mul.result.held a c.args.eph.now.root_a_in.low (c.mul.ensures.holds (mul_r a a) a (c.axis.ensures.holds (mul_r a a) refl) c.root_of_axis.ensures) c.mul.result.narrow

@@ -1,0 +1,18 @@
+-- Each quantity of a solution lies in the box of its step.
+use Rattle.std.proofs.Common.{pos, refl}
+use Rattle.rational.specs.Rational.{Rational, ◌≈◌, of_whole, mul_r, add_r, times}
+use Rattle.rational.proofs.Boxes.{InBox-along}
+use Rattle.iv_core.specs.Intervals.{Holds}
+use Rattle.eph_store.specs.Decimals.{value_of}
+use Rattle.orbit_clock.proofs.Values.{scaled_motion, scaled_sum}
+use Rattle.orbit_clock.proofs.shape.mean_motion.Goals as goal
+
+pub returns : goal.returns
+returns c = λ sent q s.
+    let a : Rational = value_of c.args.eph.now.root_a in
+    let dn : Rational = value_of c.args.eph.now.dn in
+    let tens = c.mul-tens.ensures.holds q.root_mu (of_whole (pos 10000)) (c.root_of_mu.ensures q.root_mu s.root_of_mu) c.ten_thousand.ensures.holds in
+    let cube = c.cube.ensures.holds q.axis s.semi_major_axis in
+    let computed = c.div-computed.ensures.holds (mul_r q.root_mu (of_whole (pos 10000))) (mul_r q.axis a) (times 10000 q.computed_motion) tens cube (scaled_motion q.computed_motion q.axis a q.root_mu s.computed_mean_motion) in
+    let sum = c.add.ensures.holds (times 10000 q.computed_motion) (times 10000 dn) computed (c.decimal_box-change.ensures.holds (times 10000 dn) refl) in
+    InBox-along 60 c.add.result.held.lo c.add.result.held.hi (add_r (times 10000 q.computed_motion) (times 10000 dn)) (times 10000 q.motion) (scaled_sum q.motion q.computed_motion dn s.corrected_mean_motion) sum

@@ -1,0 +1,26 @@
+-- The mean anomaly of a solution is near that at the middle of the first box.
+use Rattle.std.proofs.Common.{◌≡◌, ℤ, pos, ◌+ℤ◌, ◌-ℤ◌, ◌≤ℤ◌, subst, sym, to_z, of_z, arith}
+use Rattle.std.proofs.lemmas.Int.{ints, to_z-of_z}
+use Rattle.std.specs.Int.{w64}
+use Rattle.rational.specs.Rational.{Rational, mul_r, sub_r, times, of_scale, two_to_minus, IsNearBox}
+use Rattle.iv_core.specs.Intervals.{Holds}
+use Rattle.eph_store.specs.Decimals.{decimal, value_of}
+use Rattle.orbit_clock.specs.Records.{seconds}
+use Rattle.orbit_clock.specs.Terms.{part}
+use Rattle.orbit_clock.proofs.NearMean.{mean_at, mean_near}
+use Rattle.orbit_clock.proofs.timing.effect_of.Goals as goal
+
+pub returns : goal.returns
+returns c = λ s q sol hm hs hf.
+    let p : ℤ = c.middle_of.result in
+    let toe : Rational = seconds c.args.eph.now.toe.0 in
+    let m0 : Rational = value_of c.args.eph.now.m0 in
+    let e : Rational = value_of c.args.eph.now.ecc in
+    let point : Holds c.clock_at.result.held (of_scale 60 p) = subst (λ (z : ℤ). Holds c.clock_at.result.held (of_scale 60 z)) (to_z-of_z w64 p (record { sfits = c.middle_of.type_inv })) c.clock_at.ensures in
+    let time = c.time_at-time.ensures (part (sub_r s toe)) (of_scale 60 p) hs point in
+    let mean = c.mean_anomaly-mean.ensures (times 10000 q.motion) (sub_r (part (sub_r s toe)) (part (of_scale 60 p))) hm time in
+    let near = mean_near q.mean m0 q.motion s toe q.clock q.t q.tk c.args.first.now.held.lo c.args.first.now.held.hi p c.args.motion.now.held.lo c.args.motion.now.held.hi
+    sol.mean_anomaly sol.time_from_epoch sol.time_of_sending hf c.middle_of.ensures.above c.middle_of.ensures.below hm c.args.motion.now.within.0 c.args.motion.now.within.1 in
+    let close : IsNearBox 56 c.mean_anomaly-mean.result.held.lo c.mean_anomaly-mean.result.held.hi (two_to_minus 35) q.mean = record { inside = mean_at m0 q.motion s toe (of_scale 60 p); held = mean; near = near } in
+    let sine = c.sine_near-sine.ensures q.mean e q.eccentric q.eccentric_pair.cos q.eccentric_pair.sin close c.eccentricity.ensures.holds sol.kepler in
+    c.mul.ensures.holds (mul_r (mul_r (decimal c.args.world.now.rel 19) e) (value_of c.args.eph.now.root_a)) q.eccentric_pair.sin c.relativity.ensures sine

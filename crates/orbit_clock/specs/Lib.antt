@@ -1,0 +1,4 @@
+pub mod Worlds
+pub mod Records
+pub mod Terms
+pub mod Timings

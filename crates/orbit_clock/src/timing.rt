@@ -1,0 +1,240 @@
+// The clock by three passes of its correction, and the mean anomaly at the time that it gives.
+ghost use Rattle.std.specs.Prelude.{◌≡◌, ◌+◌, ◌*◌, ◌^◌, ◌<◌, ◌≤◌, pos, ◌+ℤ◌, ◌-ℤ◌, ◌*ℤ◌, neg_ℤ, ◌≤ℤ◌};
+ghost use Rattle.std.specs.Int.{abs_diff};
+ghost use Rattle.rational.specs.Rational.{Rational, add_r, sub_r, mul_r, times, of_scale, two_to_minus, IsNearBox, IsAtMostInSize};
+ghost use Rattle.iv_core.specs.Intervals.{Holds};
+ghost use Rattle.kepler_box.specs.Kepler.{SolvesKepler};
+ghost use Rattle.orbit_model.specs.Elements.{Elements, sent_at};
+ghost use Rattle.orbit_model.specs.Solution.{Quantities, IsSatelliteSolution};
+ghost use Rattle.orbit_clock.specs.Records.{elements_of, constants_of, seconds};
+ghost use Rattle.orbit_clock.specs.Terms.{part};
+ghost use Rattle.orbit_clock.specs.Timings.{HoldsTiming};
+
+use crate::World;
+use crate::correction::{CLOCK, EFFECT, SHARE, Terms, pass, share_of, time_since};
+use crate::quotient::quotient;
+use crate::shape::{
+    ECCENTRICITY, MOTION, MOTION_WIDTH, TEN_THOUSAND, eccentricity, mean_motion, root_of_axis,
+    ten_thousand,
+};
+use decimal_box::decimal_box;
+use eph_store::Eph;
+use gps_time::Tick;
+use iv_core::Iv;
+use kepler_box::anomaly_box;
+use sized_box::SizedBox;
+
+// The time from toe to sending by the satellite's own clock, and by GPS time, at 2^-60 of 10^4 s
+const SENT: u64 = (1 << 60) / 10_000 * 7_202;
+
+/// The greatest time since the reference epoch, at 2^-60 of 10^4 s.
+pub const EPOCH_TIME: u64 = (1 << 60) / 10_000 * 7_203;
+
+// 6.5 at 2^-56
+const ANGLE: u64 = 13 << 55;
+
+const TURNED: u64 = (1 << 56) / 100 * 158;
+
+/// The greatest mean anomaly, at 2^-56.
+pub const MEAN: u64 = 12 << 56;
+
+// F at 2^-60 of 10^-4 s/√m, and with √A, with e, and in s
+const FACTOR: u64 = 5_123_000_000_000;
+
+const BY_ROOT: u64 = 30_738_000_000_000_000;
+
+const BY_ECCENTRICITY: u64 = 960_600_000_000_000;
+
+const RELATIVITY: u64 = 96_100_000_000;
+
+// How much the sine of an approximate solution is widened
+const PAD: i64 = (1 << 27) + 1;
+
+const SINE: u64 = (9 << 57) + (1 << 27) + 1;
+
+const SINE_WIDTH: u64 = 1_600 + (1 << 28) + 2;
+
+const EFFECT_WIDTH: u64 = 26;
+
+const FIRST_WIDTH: u64 = 224_698_263_226;
+
+const SECOND_WIDTH: u64 = 29_336;
+
+/// The width of the clock, at 2^-60 s.
+pub const CLOCK_WIDTH: u64 = 34;
+
+/// When a satellite sent, and what Kepler's equation is asked with.
+#[derive(Clone, Copy, Debug)]
+pub struct Timing {
+    /// Δt, in s
+    pub clock: SizedBox<60, CLOCK, CLOCK_WIDTH>,
+    /// tk, in 10^4 s
+    pub epoch_time: SizedBox<60, EPOCH_TIME, 3>,
+    /// M, in radians
+    pub mean: SizedBox<56, MEAN, 4>,
+}
+
+// F e √A, in s
+fn relativity(eph: &Eph, world: &World) -> SizedBox<60, RELATIVITY, 2>
+    ensures { Holds result.held (mul_r (mul_r (constants_of world.now).relativity (elements_of eph.now).ecc) (elements_of eph.now).root_a) }
+{
+    let factor: SizedBox<60, FACTOR, 1> = factor_of(world);
+    let by_root: SizedBox<60, BY_ROOT, 6_002> = factor.mul(&root_of_axis(eph));
+    let both: SizedBox<60, BY_ECCENTRICITY, 189> = by_root.mul(&eccentricity(eph));
+    both.div::<0, TEN_THOUSAND, 0, TEN_THOUSAND, 60, RELATIVITY, 2>(&ten_thousand())
+}
+
+// F in 10^-4 s/√m
+fn factor_of(world: &World) -> SizedBox<60, FACTOR, 1>
+    ensures { Holds result.held (times (10 ^ 4) (constants_of world.now).relativity) }
+{
+    quotient(world.rel as i128, 1_000_000_000_000_000)
+}
+
+// tk over 10^4, at a clock
+fn time_at<const WIDTH: u64>(
+    sent: &SizedBox<60, SENT, 1>,
+    clock: &SizedBox<60, CLOCK, WIDTH>,
+) -> SizedBox<60, EPOCH_TIME, 3>
+    requires { WIDTH ≤ 10000 }
+    ensures { (s x : Rational) → Holds sent.now.held s → Holds clock.now.held x → Holds result.held (sub_r s (part x)) }
+{
+    let share: SizedBox<60, SHARE, 2> = share_of(clock);
+    sent.sub(&share)
+}
+
+// M0 + n tk
+fn mean_anomaly(
+    eph: &Eph,
+    motion: &SizedBox<60, MOTION, MOTION_WIDTH>,
+    time: &SizedBox<60, EPOCH_TIME, 3>,
+) -> SizedBox<56, MEAN, 4>
+    ensures { (n t : Rational) → Holds motion.now.held n → Holds time.now.held t →
+        Holds result.held (add_r (elements_of eph.now).m0 (mul_r n t)) }
+{
+    let start: SizedBox<56, ANGLE, 1> = decimal_box::<56, 65, 1, 0, ANGLE>(eph.m0);
+    let turned: SizedBox<56, TURNED, 3> = motion.mul(time);
+    start.add(&turned)
+}
+
+// The sines of the solutions whose mean anomaly is within 2^-35 of the box
+fn sine_near(
+    mean: &SizedBox<56, MEAN, 4>,
+    eccentricity: &SizedBox<60, ECCENTRICITY, 1>,
+) -> SizedBox<60, SINE, SINE_WIDTH>
+    requires { pos 0 ≤ℤ eccentricity.now.held.lo }
+    ensures { (m e x c s : Rational) → IsNearBox 56 mean.now.held.lo mean.now.held.hi (two_to_minus 35) m →
+        Holds eccentricity.now.held e → SolvesKepler m e x c s → Holds result.held s }
+{
+    let sine = anomaly_box(&mean.held, &eccentricity.held).sin;
+    SizedBox::new(Iv::from_ends(sine.lo() - PAD, sine.hi() + PAD))
+}
+
+fn half_of(width: i64) -> i64
+    requires low { pos 0 ≤ℤ width }
+    requires high { width ≤ℤ pos 224698263226 }
+    ensures below { (result +ℤ result) ≤ℤ width }
+    ensures near { width ≤ℤ ((result +ℤ result) +ℤ pos 1) }
+{
+    width >> 1
+}
+
+// The middle of the ends of a box, rounded down
+fn middle_of(clock: &SizedBox<60, CLOCK, FIRST_WIDTH>) -> i64
+    ensures low { clock.now.held.lo ≤ℤ result }
+    ensures high { result ≤ℤ clock.now.held.hi }
+    ensures above { ((clock.now.held.hi -ℤ result) +ℤ (clock.now.held.hi -ℤ result)) ≤ℤ pos 224698263227 }
+    ensures below { ((result -ℤ clock.now.held.lo) +ℤ (result -ℤ clock.now.held.lo)) ≤ℤ pos 224698263227 }
+{
+    let lo = clock.held.lo();
+    let hi = clock.held.hi();
+    lo + half_of(hi - lo)
+}
+
+// That clock alone
+fn clock_at(point: i64) -> SizedBox<60, CLOCK, 0>
+    requires low { neg_ℤ (pos (2 ^ 54)) ≤ℤ point }
+    requires high { point ≤ℤ pos (2 ^ 54) }
+    ensures { Holds result.held (of_scale 60 point) }
+{
+    SizedBox::new(Iv::from_ends(point, point))
+}
+
+// All clocks of at most 1/64 s
+fn any_clock() -> SizedBox<60, CLOCK, 36_028_797_018_963_968>
+    ensures { (x : Rational) → IsAtMostInSize (of_scale 60 (pos (2 ^ 54))) x → Holds result.held x }
+{
+    SizedBox::new(Iv::from_ends(-(1 << 54), 1 << 54))
+}
+
+// All relativistic terms
+fn any_effect() -> SizedBox<60, EFFECT, 220_000_000_000>
+    ensures { (x : Rational) → IsAtMostInSize (of_scale 60 (pos 110000000000)) x → Holds result.held x }
+{
+    SizedBox::new(Iv::from_ends(-110_000_000_000, 110_000_000_000))
+}
+
+// The relativistic term, from an approximate clock
+fn effect_of(
+    eph: &Eph,
+    world: &World,
+    motion: &SizedBox<60, MOTION, MOTION_WIDTH>,
+    sent: &SizedBox<60, SENT, 1>,
+    first: &SizedBox<60, CLOCK, FIRST_WIDTH>,
+) -> SizedBox<60, EFFECT, EFFECT_WIDTH>
+    ensures { (s : Rational) (q : Quantities) → IsSatelliteSolution (constants_of world.now) (elements_of eph.now) s q →
+        Holds motion.now.held (times 10000 q.motion) → Holds sent.now.held (part (sub_r s (elements_of eph.now).toe)) →
+        Holds first.now.held q.clock →
+        Holds result.held (mul_r (mul_r (mul_r (constants_of world.now).relativity (elements_of eph.now).ecc) (elements_of eph.now).root_a) q.eccentric_pair.sin) }
+{
+    let time = time_at(sent, &clock_at(middle_of(first)));
+    let mean = mean_anomaly(eph, motion, &time);
+    let sine = sine_near(&mean, &eccentricity(eph));
+    relativity(eph, world).mul(&sine)
+}
+
+/// When a satellite sent what was received at a tag with a code, in mm, and what Kepler's equation is asked with: boxes of
+/// every solution. The tag is at most 7201 s from the ephemeris' time.
+pub fn timing_of(eph: &Eph, tag: Tick, code: i64, world: &World) -> Timing
+    requires near { abs_diff tag.0 eph.now.toe.0 ≤ 72010000000 }
+    requires code_low { pos 0 ≤ℤ code }
+    requires code_high { code ≤ℤ pos (10 ^ 11) }
+    ensures { (q : Quantities) → IsSatelliteSolution (constants_of world.now) (elements_of eph.now) (sent_at tag.0 code) q → HoldsTiming result q }
+{
+    let motion = mean_motion(eph, world);
+    let sent = time_since::<72_010_000_000, SENT>(eph.toe, tag, code);
+    let terms = Terms::of(eph, tag, code);
+    let first: SizedBox<60, CLOCK, FIRST_WIDTH> = pass::<
+        36_028_797_018_963_968,
+        3_602_879_701_898,
+        3_602_879_701_899,
+        360_287_973,
+        360_287_974,
+        4_698_263_225,
+        4_698_263_226,
+        220_000_000_000,
+        FIRST_WIDTH,
+    >(&terms, &any_clock(), &any_effect());
+    let effect = effect_of(eph, world, &motion, &sent, &first);
+    let second = pass::<
+        FIRST_WIDTH,
+        22_469_828,
+        22_469_829,
+        2_250,
+        2_251,
+        29_309,
+        29_310,
+        EFFECT_WIDTH,
+        SECOND_WIDTH,
+    >(&terms, &first, &effect);
+    let clock = pass::<SECOND_WIDTH, 4, 5, 3, 4, 7, 8, EFFECT_WIDTH, CLOCK_WIDTH>(
+        &terms, &second, &effect,
+    );
+    let epoch_time = time_at(&sent, &clock);
+    let mean = mean_anomaly(eph, &motion, &epoch_time);
+    Timing {
+        clock,
+        epoch_time,
+        mean,
+    }
+}
