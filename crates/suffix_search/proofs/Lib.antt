@@ -1,0 +1,4 @@
+pub mod SuffixLaws
+pub mod OrderLaws
+pub mod OpenLaws
+pub mod SearchLaws

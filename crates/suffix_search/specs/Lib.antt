@@ -1,0 +1,6 @@
+pub mod Suffixes
+pub mod PlainCount
+pub mod Order
+pub mod LatestLevel
+pub mod Levels
+pub mod Search
