@@ -1,5 +1,5 @@
 -- The numbers of an integer form, as the search reads them.
-use Rattle.std.proofs.Common.{◌≡◌, ℕ, zero, suc, ◌+◌, ◌-◌, ◌<◌, ◌≤◌, ◌^◌, List, [], ◌∷◌, ◌++◌, length, get_or, drop, take, ℤ, pos, ◌*ℤ◌, ◌<ℤ◌, ◌≤ℤ◌, neg_ℤ, unsigned_abs, arith, refl, ap, ap₂, sym, ◌∙◌, subst}
+use Rattle.std.proofs.Common.{◌≡◌, ℕ, zero, suc, ◌+◌, ◌-◌, ◌<◌, ◌≤◌, ◌^◌, List, [], ◌∷◌, ◌++◌, length, get_or, drop, ℤ, pos, ◌*ℤ◌, ◌≤ℤ◌, unsigned_abs, arith, refl, ap, ap₂, sym, ◌∙◌, subst}
 use Rattle.std.proofs.lemmas.Int.{ints}
 use Rattle.whole_math.specs.Vectors.{dot}
 use Rattle.quadratic_form.specs.Elimination.{Factor}
@@ -7,13 +7,12 @@ use Rattle.quadratic_form.specs.Places.{list_from, form_from}
 use Rattle.quadratic_form.specs.LowerSums.{lower_sum, Small, SmallList, SmallForm}
 use Rattle.quadratic_form.proofs.Ranges.{steps_range}
 use Rattle.obs_rows.specs.Tables.{entry}
-use Rattle.normal_sum.specs.Matrices.{EntriesBelow}
 use Rattle.integer_form.specs.declared.form.Form.{Form}
 use Rattle.integer_form.specs.Factors.{factor_at, stored}
 use Rattle.integer_form.specs.Kept.{constant_form}
 use Rattle.integer_form.specs.Forms.{integers_of, columns_of, value_of, factors_of}
 use Rattle.integer_form.proofs.FormLaws.{lower_sums_below}
-use Rattle.suffix_search.specs.Suffixes.{SearchForm, IsSearchable, low, rest, weight, no_factor}
+use Rattle.suffix_search.specs.Suffixes.{IsSearchable, low, rest, weight, no_factor}
 use Rattle.int_search.specs.Vectors.{suffix}
 use Rattle.int_search.specs.SearchedForm.{search_form}
 use Rattle.int_search.proofs.SuffixArrays.{suffix-length}

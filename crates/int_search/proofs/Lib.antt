@@ -10,3 +10,4 @@ pub mod LevelMoves
 pub mod WalkLaws
 pub mod StartLaws
 pub mod PlainLaws
+pub mod TableLaws

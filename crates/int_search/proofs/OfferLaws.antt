@@ -1,5 +1,5 @@
 -- A vector takes its place among the two best.
-use Rattle.std.proofs.Common.{◌≡◌, ◌⊎◌, inl, inr, ℕ, List, length, ℤ, ◌<ℤ◌, ◌≤ℤ◌, refl, sym, ap, ◌∙◌, subst}
+use Rattle.std.proofs.Common.{◌≡◌, ◌⊎◌, inl, inr, ℕ, List, length, ℤ, refl, sym, ap, ◌∙◌, subst}
 use Rattle.std.specs.declared.cmp.Ordering.{Ordering}
 use Rattle.std.specs.declared.cmp.Ordering.TheVariants.{Less, Equal, Greater}
 use Rattle.quadratic_form.specs.Rows.{value}
@@ -8,7 +8,7 @@ use Rattle.suffix_search.specs.Order.{IsLess, IsOneToOne}
 use Rattle.suffix_search.proofs.SearchLaws.{offer_first, offer_second, offer_none}
 use Rattle.int_search.specs.Vectors.{Holds, suffix}
 use Rattle.int_search.specs.Orders.{IsRankLess, IsRankOrder}
-use Rattle.int_search.specs.Best.{HoldsBest, TakesOffer, KeepsBest}
+use Rattle.int_search.specs.Best.{HoldsBest, KeepsBest}
 use Rattle.int_search.specs.declared.best.Best.{Best}
 
 -- the order of values and entries as that of the vectors for which they stand

@@ -1,15 +1,14 @@
 -- The search in the form's own coordinates, where the map leaves every vector as it is.
-use Rattle.std.proofs.Common.{◌≡◌, ◌⊎◌, inl, inr, ⊎_elim, ℕ, ◌<◌, ◌≤◌, ◌^◌, ◌-◌, List, length, take, get_or, ℤ, pos, ◌<ℤ◌, arith, sym, ap, ◌∙◌, subst, Result, Ok, Err, IfOk, MatchResult}
+use Rattle.std.proofs.Common.{◌≡◌, ◌⊎◌, inl, inr, ⊎_elim, ℕ, ◌<◌, ◌≤◌, List, length, take, ℤ, pos, ◌<ℤ◌, arith, sym, ap, ◌∙◌, subst, Result, Ok, Err, IfOk, MatchResult}
 use Rattle.whole_math.specs.Vectors.{len}
 use Rattle.whole_math.proofs.Vectors.{len_is}
 use Rattle.quadratic_form.specs.Rows.{value}
-use Rattle.quadratic_form.specs.TwoLeast.{Before, Less, TwoLeast}
+use Rattle.quadratic_form.specs.TwoLeast.{Before, Less}
 use Rattle.quadratic_form.proofs.VectorOrder.{less_never}
 use Rattle.integer_form.specs.declared.form.Form.{Form}
 use Rattle.integer_form.specs.Forms.{integers_of, columns_of, value_of}
 use Rattle.suffix_search.specs.PlainCount.{IsOver, IsWide, HasLarge}
-use Rattle.suffix_search.specs.Order.{IsLess, IsOneToOne}
-use Rattle.int_search.specs.Vectors.{suffix, Holds}
+use Rattle.suffix_search.specs.Order.{IsLess}
 use Rattle.int_search.specs.Images.{image_of, IsMap}
 use Rattle.int_search.specs.SearchedForm.{search_form}
 use Rattle.int_search.specs.Walk.{search_image, CanSearch, IsTooWide}

@@ -1,5 +1,5 @@
 -- Roundings and quotients of one level.
-use Rattle.std.proofs.Common.{◌≡◌, ℕ, ◌<◌, ◌^◌, ℤ, pos, ◌+ℤ◌, ◌-ℤ◌, ◌*ℤ◌, neg_ℤ, ◌<ℤ◌, ◌≤ℤ◌, arith, sym, ◌∙◌, unsigned_abs}
+use Rattle.std.proofs.Common.{◌≡◌, ◌^◌, ℤ, pos, ◌+ℤ◌, ◌*ℤ◌, neg_ℤ, ◌<ℤ◌, ◌≤ℤ◌, arith, sym, ◌∙◌, unsigned_abs}
 use Rattle.whole_math.proofs.IntLaws.{mul_comm_ℤ}
 use Rattle.whole_math.proofs.Order.{polys, lins}
 use Rattle.whole_math.proofs.Rounding.{ceil_le, ceil_lt}

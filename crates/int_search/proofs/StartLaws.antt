@@ -1,5 +1,5 @@
 -- The rounded point and its neighbour as the first two best.
-use Rattle.std.proofs.Common.{◌≡◌, ◌^◌, ◌<◌, List, [], length, ℤ, pos, ◌≤ℤ◌, ◌<ℤ◌, sym, ap, ◌∙◌, subst, arith}
+use Rattle.std.proofs.Common.{◌≡◌, ◌^◌, List, [], length, ℤ, pos, ◌≤ℤ◌, ◌<ℤ◌, sym, ap, ◌∙◌, arith}
 use Rattle.quadratic_form.specs.Rows.{value}
 use Rattle.suffix_search.specs.Suffixes.{SearchForm, IsSearchable}
 use Rattle.suffix_search.specs.PlainCount.{rounded, neighbour, top, IsWideIn, HasLarge}
@@ -9,7 +9,7 @@ use Rattle.int_search.specs.Orders.{IsRankLess}
 use Rattle.int_search.specs.Walk.{IsFresh, BeginsWith}
 use Rattle.int_search.specs.declared.walk.Walk.{Walk}
 use Rattle.int_search.proofs.OfferLaws.{less_of}
-use Rattle.int_search.proofs.PointLaws.{counts_end, neighbour_differs, top_first, top_second, rounded_length, neighbour_length}
+use Rattle.int_search.proofs.PointLaws.{counts_end, neighbour_differs, rounded_length, neighbour_length}
 
 -- y is the image of the vector v, p its value
 pub record IsPoint (f : SearchForm) (im : List ℤ → List ℤ) (v y : List ℤ) (p : ℤ) : Type 0 where

@@ -1,13 +1,13 @@
 -- What a turn does to the state.
-use Rattle.std.proofs.Common.{◌≡◌, ◌⊎◌, inl, inr, ℕ, suc, ◌+◌, ◌-◌, ◌*◌, ◌<◌, ◌≤◌, ◌^◌, List, [], ◌∷◌, length, get_or, set, drop, ℤ, pos, ◌+ℤ◌, ◌-ℤ◌, ◌*ℤ◌, neg_ℤ, ◌<ℤ◌, ◌≤ℤ◌, Bool, true, false, arith, unsigned_abs, refl, ap, sym, ◌∙◌, subst, length-set}
+use Rattle.std.proofs.Common.{◌≡◌, inl, inr, ℕ, suc, ◌+◌, ◌-◌, ◌*◌, ◌<◌, ◌≤◌, ◌^◌, List, [], ◌∷◌, length, get_or, set, drop, ℤ, pos, ◌+ℤ◌, ◌-ℤ◌, ◌*ℤ◌, neg_ℤ, ◌<ℤ◌, ◌≤ℤ◌, Bool, true, false, arith, unsigned_abs, refl, ap, sym, ◌∙◌, subst, length-set}
 use Rattle.std.specs.Bool.{MatchBool}
 use Rattle.std.proofs.lemmas.Int.{ints}
-use Rattle.whole_math.proofs.Order.{lins, polys}
+use Rattle.whole_math.proofs.Order.{polys}
 use Rattle.quadratic_form.specs.Rows.{value}
-use Rattle.suffix_search.specs.Suffixes.{SearchForm, IsSearchable, rest, offset, low, weight}
+use Rattle.suffix_search.specs.Suffixes.{SearchForm, IsSearchable, rest, low, weight}
 use Rattle.suffix_search.specs.PlainCount.{top, IsOver, IsWide, IsWideIn, HasLarge}
 use Rattle.suffix_search.specs.Order.{IsLess, IsOneToOne}
-use Rattle.suffix_search.specs.Levels.{tail_of, IsFree, IsLevel, Takes}
+use Rattle.suffix_search.specs.Levels.{tail_of, IsLevel, Takes}
 use Rattle.suffix_search.specs.Search.{IsSearch, IsOffered}
 use Rattle.suffix_search.specs.LatestLevel.{IsLatest}
 use Rattle.suffix_search.specs.declared.stack.Level.{Level}
@@ -16,7 +16,7 @@ use Rattle.suffix_search.proofs.SearchLaws.{search_pop, search_inner, search_lea
 use Rattle.int_search.specs.Vectors.{IsSmall, Holds, suffix}
 use Rattle.int_search.specs.Steps.{IsFresh, Chooses, Moves, IsTermWithin}
 use Rattle.int_search.specs.Best.{HoldsBest, TakesOffer, KeepsBest}
-use Rattle.int_search.specs.Walk.{here, IsWalk, IsReach, IsPassed, BeginsWith, Offers, Visits, HasFound}
+use Rattle.int_search.specs.Walk.{here, IsWalk, IsReach, BeginsWith, Offers, Visits, HasFound}
 use Rattle.int_search.specs.declared.best.Best.{Best}
 use Rattle.int_search.specs.declared.walk.Walk.{Walk}
 use Rattle.int_search.specs.declared.walk.Reach.{Reach}

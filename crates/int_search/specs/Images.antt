@@ -1,5 +1,5 @@
 -- Vectors under a map.
-use Rattle.std.specs.Prelude.{◌≡◌, ℕ, ◌^◌, List, take, length, ℤ}
+use Rattle.std.specs.Prelude.{ℕ, ◌^◌, List, take, ℤ}
 use Rattle.quadratic_form.specs.Maps.{apply}
 use Rattle.normal_sum.specs.Matrices.{EntriesBelow}
 use Rattle.obs_rows.specs.Tables.{HasShape}

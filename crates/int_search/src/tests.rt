@@ -1,4 +1,4 @@
-ghost use Rattle.std.specs.Prelude.{◌^◌, ◌+◌, ◌<◌, ◌≤◌, unsigned_abs, OnTrue, IfSome};
+ghost use Rattle.std.specs.Prelude.{◌^◌, ◌+◌, ◌<◌, ◌≤◌, unsigned_abs, IfSome};
 ghost use Rattle.obs_rows.specs.declared.units.TheConstants.{MOST_INTEGERS, MOST_FORM_COLUMNS};
 ghost use Rattle.obs_rows.specs.Tables.{IsZeroOutside};
 ghost use Rattle.normal_sum.specs.Matrices.{IsSymmetric, EntriesBelow};

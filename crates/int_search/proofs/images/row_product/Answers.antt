@@ -1,4 +1,4 @@
-use Rattle.std.proofs.Common.{◌≡◌, ℕ, ◌+◌, ◌<◌, ◌≤◌, List, [], length, get_or, drop, ℤ, pos, ◌+ℤ◌, ◌*ℤ◌, arith, rules, SFits, w64, to_z, subst}
+use Rattle.std.proofs.Common.{◌≡◌, ℕ, List, [], length, get_or, drop, ℤ, pos, ◌+ℤ◌, ◌*ℤ◌, arith, rules, SFits, w64, to_z, subst}
 use Rattle.std.specs.Int.{w128}
 use Rattle.std.proofs.lemmas.Int.{ints, to_z-of_z}
 use Rattle.whole_math.specs.Vectors.{dot}

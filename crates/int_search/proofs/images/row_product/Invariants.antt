@@ -1,4 +1,4 @@
-use Rattle.std.proofs.Common.{◌≡◌, ◌*◌, ◌^◌, ◌≤◌, [], pos, ◌+ℤ◌, unsigned_abs, get_or, drop}
+use Rattle.std.proofs.Common.{◌≡◌, ◌*◌, ◌^◌, ◌≤◌, [], ◌+ℤ◌, unsigned_abs, get_or, drop}
 use Rattle.whole_math.specs.Vectors.{dot}
 use Rattle.int_search.specs.Vectors.{suffix}
 use Rattle.int_search.proofs.images.row_product.Given as goal

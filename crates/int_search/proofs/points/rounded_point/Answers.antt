@@ -1,9 +1,8 @@
-use Rattle.std.proofs.Common.{◌≡◌, ◌<◌, ◌≤◌, ◌+◌, ◌-◌, ◌^◌, ℕ, List, replicate, ℤ, pos, neg_ℤ, arith, ap, sym, ◌∙◌, subst, unsigned_abs, to_z, of_z, w64, rules, refl, length-set}
+use Rattle.std.proofs.Common.{◌≡◌, ◌<◌, ◌+◌, ◌-◌, ◌^◌, ℕ, replicate, pos, neg_ℤ, arith, ap, ◌∙◌, subst, unsigned_abs, to_z, of_z, w64, rules, refl, length-set}
 use Rattle.std.specs.Int.{w128}
 use Rattle.std.proofs.lemmas.Int.{ints, to_z-of_z}
 use Rattle.whole_math.specs.Rounding.{nearest_div}
 use Rattle.integer_form.specs.Forms.{integers_of}
-use Rattle.integer_form.specs.declared.form.Form.{Form}
 use Rattle.suffix_search.specs.Suffixes.{SearchForm, rest}
 use Rattle.suffix_search.specs.PlainCount.{rounded}
 use Rattle.int_search.specs.Vectors.{suffix}

@@ -1,4 +1,4 @@
-use Rattle.std.proofs.Common.{◌≡◌, inl, inr, ℤ, refl, arith, to_z, of_z}
+use Rattle.std.proofs.Common.{◌≡◌, inl, inr, refl, arith, to_z, of_z}
 use Rattle.std.specs.Int.{w128}
 use Rattle.std.proofs.lemmas.Int.{to_z-of_z}
 use Rattle.int_search.specs.Vectors.{suffix}

@@ -1,4 +1,4 @@
-use Rattle.std.proofs.Common.{◌≡◌, ◌+◌, ◌-◌, ◌^◌, ℕ, [], ◌∷◌, length, pos, ◌*ℤ◌, arith, ap, ◌∙◌, to_z, of_z, rules}
+use Rattle.std.proofs.Common.{◌≡◌, ◌+◌, ◌-◌, ◌^◌, [], ◌∷◌, length, pos, ◌*ℤ◌, arith, ap, ◌∙◌, to_z, of_z, rules}
 use Rattle.std.specs.Int.{w128}
 use Rattle.std.proofs.lemmas.Int.{ints, to_z-of_z}
 use Rattle.suffix_search.specs.Suffixes.{SearchForm, rest}

@@ -1,9 +1,7 @@
-use Rattle.std.proofs.Common.{rules, ◌≡◌, ◌≤◌, ℕ, List, ℤ, length, arith, sym, ap, ◌∙◌, subst, to_z, of_z}
+use Rattle.std.proofs.Common.{rules, ◌≡◌, ℕ, List, ℤ, length, arith, subst, to_z, of_z}
 use Rattle.std.specs.Int.{w128}
-use Rattle.std.proofs.lemmas.Int.{ints, to_z-of_z}
-use Rattle.quadratic_form.specs.Rows.{value}
+use Rattle.std.proofs.lemmas.Int.{ints}
 use Rattle.suffix_search.specs.Suffixes.{SearchForm}
-use Rattle.suffix_search.specs.PlainCount.{HasLarge}
 use Rattle.int_search.specs.Vectors.{Holds, suffix}
 use Rattle.int_search.specs.Images.{image_of}
 use Rattle.int_search.specs.Best.{KeepsBest}
@@ -11,7 +9,7 @@ use Rattle.int_search.specs.SearchedForm.{search_form}
 use Rattle.int_search.specs.Walk.{search_image}
 use Rattle.int_search.specs.declared.walk.Walk.{Walk}
 use Rattle.int_search.proofs.SuffixArrays.{suffix-length}
-use Rattle.int_search.proofs.WalkLaws.{offers_best, offers_past}
+use Rattle.int_search.proofs.WalkLaws.{offers_best}
 use Rattle.int_search.proofs.walk.Walk.offer.Goals as goal
 
 pub returns : goal.returns

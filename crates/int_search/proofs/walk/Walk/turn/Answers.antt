@@ -1,8 +1,7 @@
-use Rattle.std.proofs.Common.{rules, ◌≡◌, ◌≤◌, ◌<◌, ◌+◌, ◌-◌, ◌*◌, ◌^◌, ℕ, List, ◌∷◌, length, drop, ℤ, Bool, true, false, arith, inl, inr, ap, sym, ◌∙◌, subst, unsigned_abs, to_z, of_z, w64}
-use Rattle.std.specs.Bool.{MatchBool}
+use Rattle.std.proofs.Common.{rules, ◌≡◌, ◌<◌, ◌+◌, ◌-◌, ◌*◌, ℕ, List, length, drop, ℤ, arith, inl, ap, sym, ◌∙◌, subst}
 use Rattle.std.proofs.lemmas.Int.{ints}
 use Rattle.suffix_search.specs.Suffixes.{SearchForm}
-use Rattle.suffix_search.specs.PlainCount.{IsOver, IsWideIn}
+use Rattle.suffix_search.specs.PlainCount.{IsOver}
 use Rattle.suffix_search.specs.declared.stack.Level.{Level}
 use Rattle.int_search.specs.SearchedForm.{search_form}
 use Rattle.int_search.specs.Walk.{search_image, IsWalk, Visits}

@@ -1,12 +1,10 @@
-use Rattle.std.proofs.Common.{rules, ◌≡◌, ◌≤◌, ◌<◌, ◌+◌, ◌-◌, ◌^◌, ℕ, List, ◌∷◌, length, set, drop, ℤ, Bool, true, false, arith, refl, ap, ap₂, sym, ◌∙◌, subst, unsigned_abs, to_z, of_z, w64}
+use Rattle.std.proofs.Common.{◌≡◌, ◌<◌, ◌+◌, ◌-◌, ◌^◌, List, ◌∷◌, length, set, drop, ℤ, arith, refl, ap, ap₂, sym, ◌∙◌, unsigned_abs, to_z, of_z, w64}
 use Rattle.std.specs.Int.{w128}
 use Rattle.std.proofs.lemmas.Int.{ints, to_z-of_z}
-use Rattle.std.specs.Bool.{MatchBool}
 use Rattle.suffix_search.specs.Suffixes.{SearchForm, rest}
-use Rattle.suffix_search.specs.PlainCount.{HasLarge, IsWideIn}
 use Rattle.int_search.specs.Vectors.{suffix}
 use Rattle.int_search.specs.SearchedForm.{search_form}
-use Rattle.int_search.specs.Walk.{search_image, Offers, Visits}
+use Rattle.int_search.specs.Walk.{search_image}
 use Rattle.int_search.specs.declared.walk.Walk.{Walk}
 use Rattle.int_search.specs.declared.walk.Reach.{Reach}
 use Rattle.int_search.proofs.FormNumbers.{searchable}
