@@ -1,0 +1,13 @@
+pub mod Quotients
+pub mod LevelLaws
+pub mod SuffixArrays
+pub mod FormNumbers
+pub mod OrderArrays
+pub mod PointLaws
+pub mod ImageLaws
+pub mod OfferLaws
+pub mod LevelMoves
+pub mod WalkLaws
+pub mod StartLaws
+pub mod PlainLaws
+pub mod TableLaws

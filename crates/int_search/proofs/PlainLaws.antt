@@ -1,0 +1,94 @@
+-- The search in the form's own coordinates, where the map leaves every vector as it is.
+use Rattle.std.proofs.Common.{◌≡◌, ◌⊎◌, inl, inr, ⊎_elim, ℕ, ◌<◌, ◌≤◌, List, length, take, ℤ, pos, ◌<ℤ◌, arith, sym, ap, ◌∙◌, subst, Result, Ok, Err, IfOk, MatchResult}
+use Rattle.whole_math.specs.Vectors.{len}
+use Rattle.whole_math.proofs.Vectors.{len_is}
+use Rattle.quadratic_form.specs.Rows.{value}
+use Rattle.quadratic_form.specs.TwoLeast.{Before, Less}
+use Rattle.quadratic_form.proofs.VectorOrder.{less_never}
+use Rattle.integer_form.specs.declared.form.Form.{Form}
+use Rattle.integer_form.specs.Forms.{integers_of, columns_of, value_of}
+use Rattle.suffix_search.specs.PlainCount.{IsOver, IsWide, HasLarge}
+use Rattle.suffix_search.specs.Order.{IsLess}
+use Rattle.int_search.specs.Images.{image_of, IsMap}
+use Rattle.int_search.specs.SearchedForm.{search_form}
+use Rattle.int_search.specs.Walk.{search_image, CanSearch, IsTooWide}
+use Rattle.int_search.specs.Answers.{IsAnswer, IsFault, IsTwoBest}
+use Rattle.int_search.specs.declared.answer.TwoBest.{TwoBest}
+use Rattle.int_search.specs.declared.answer.SearchFault.{SearchFault}
+use Rattle.int_search.specs.declared.answer.SearchFault.TheVariants.{Spent, Overwidth}
+use Rattle.int_search.proofs.SuffixArrays.{suffix-all}
+
+-- the map leaves every vector as it is
+abbrev pub IsOwn : List (List ℤ) → Type 0
+IsOwn map = (n : ℕ) (v : List ℤ) → n ≤ 40 → length v ≡ n → image_of map n v ≡ v
+
+own_image : (form : Form) (map : List (List ℤ)) (v : List ℤ) → IsOwn map → length v ≡ integers_of form → search_image form map v ≡ v
+own_image form map v o e = let m = form.columns_to in o (integers_of form) v (omega arith) e
+
+pub plain_can : (form : Form) (map : List (List ℤ)) → 4 < form.columns → IsMap map → IsOwn map → CanSearch form map
+plain_can form map h m o = record {
+  some = h;
+  map_in = m;
+  one_to_one = record {
+    entries = λ v e. ap length (own_image form map v o e) ∙ e;
+    apart = λ v w e g i. sym (own_image form map v o e) ∙ i ∙ own_image form map w o g;
+  };
+}
+
+-- the order by images is that by the vectors themselves
+own_less : (form : Form) (map : List (List ℤ)) (v w : List ℤ) → IsOwn map → length v ≡ integers_of form → length w ≡ integers_of form → IsLess (search_form form) (search_image form map) v w → Less (columns_of form) v w
+own_less form map v w o a b h = subst (λ (x : List ℤ). (value (columns_of form) v <ℤ value (columns_of form) w) ⊎ ((value (columns_of form) v ≡ value (columns_of form) w) × Before x w)) (own_image form map v o a)
+    (subst (λ (x : List ℤ). (value (columns_of form) v <ℤ value (columns_of form) w) ⊎ ((value (columns_of form) v ≡ value (columns_of form) w) × Before (search_image form map v) x)) (own_image form map w o b) h)
+
+length_of : (v : List ℤ) (n : ℕ) → len v ≡ pos n → length v ≡ n
+length_of v n e = pos_same (length v) n (sym (len_is v) ∙ e)
+  where
+    pos_same : (a b : ℕ) → pos a ≡ pos b → a ≡ b
+    pos_same a b e = cc
+
+pub plain_found : (form : Form) (map : List (List ℤ)) (b : TwoBest) → IsOwn map → IsAnswer (search_form form) (search_image form map) b → IsTwoBest form b
+plain_found form map b o a = record {
+  size = a.size;
+  least = record {
+    first = ap len one ∙ count a.one a.least.first_size;
+    second = ap len two ∙ count a.two a.least.second_size;
+    differ = λ e. less_never (columns_of form) a.two (subst (λ (v : List ℤ). Less (columns_of form) v a.two) (sym one ∙ e ∙ two) order);
+    order = subst (λ (v : List ℤ). Less (columns_of form) v (take b.size b.second)) (sym one) (subst (λ (v : List ℤ). Less (columns_of form) a.one v) (sym two) order);
+    rest = λ v e d f. subst (λ (u : List ℤ). Less (columns_of form) u v) (sym two) (others v (length_of v (integers_of form) e) (λ i. d (i ∙ sym one)) (λ i. f (i ∙ sym two)));
+  };
+  p1 = a.p1 ∙ ap (value_of form) (sym one);
+  p2 = a.p2 ∙ ap (value_of form) (sym two);
+  first_small = a.first.small;
+  second_small = a.second.small;
+}
+  where
+    one : take b.size b.first ≡ a.one
+    one = ap (λ n. take n b.first) a.size ∙ sym (suffix-all b.first (integers_of form)) ∙ a.first.is ∙ own_image form map a.one o a.least.first_size
+
+    two : take b.size b.second ≡ a.two
+    two = ap (λ n. take n b.second) a.size ∙ sym (suffix-all b.second (integers_of form)) ∙ a.second.is ∙ own_image form map a.two o a.least.second_size
+
+    count : (v : List ℤ) → length v ≡ integers_of form → len v ≡ pos (integers_of form)
+    count v e = len_is v ∙ ap pos e
+
+    order : Less (columns_of form) a.one a.two
+    order = own_less form map a.one a.two o a.least.first_size a.least.second_size a.least.ordered
+
+    others : (v : List ℤ) → length v ≡ integers_of form → (v ≡ a.one → ⊥) → (v ≡ a.two → ⊥) → Less (columns_of form) a.two v
+    others v e d f = ⊎_elim (λ (i : v ≡ a.one). absurd (d i)) (λ (t : (v ≡ a.two) ⊎ IsLess (search_form form) (search_image form map) a.two v).
+        ⊎_elim (λ (i : v ≡ a.two). absurd (f i)) (λ (l : IsLess (search_form form) (search_image form map) a.two v). own_less form map a.two v o a.least.second_size e l) t) (a.least.others v e)
+
+pub plain_wide : (form : Form) (map : List (List ℤ)) → IsOwn map → IsTooWide (search_form form) (search_image form map) → IsWide (search_form form)
+plain_wide form map o (inl w) = w
+plain_wide form map o (inr w) = record { wide = inr (w.vector, (w.counted, subst HasLarge (own_image form map w.vector o w.full) w.large)) }
+
+-- ---- the answers of the search, in the form's own terms
+pub answer_found : (form : Form) (map : List (List ℤ)) (budget : ℕ) → IsOwn map → (r : Result TwoBest SearchFault) → MatchResult r (IsAnswer (search_form form) (search_image form map)) (IsFault (search_form form) (search_image form map) budget) → IfOk r (IsTwoBest form)
+answer_found form map budget o (Ok b) h = plain_found form map b o h
+answer_found form map budget o (Err e) h = tt
+
+pub answer_spent : (form : Form) (map : List (List ℤ)) (budget : ℕ) (r : Result TwoBest SearchFault) → MatchResult r (IsAnswer (search_form form) (search_image form map)) (IsFault (search_form form) (search_image form map) budget) → r ≡ Err Spent → IsOver (search_form form) budget
+answer_spent form map budget r h e = subst (λ (r : Result TwoBest SearchFault). MatchResult r (IsAnswer (search_form form) (search_image form map)) (IsFault (search_form form) (search_image form map) budget)) e h
+
+pub answer_wide : (form : Form) (map : List (List ℤ)) (budget : ℕ) → IsOwn map → (r : Result TwoBest SearchFault) → MatchResult r (IsAnswer (search_form form) (search_image form map)) (IsFault (search_form form) (search_image form map) budget) → r ≡ Err Overwidth → IsWide (search_form form)
+answer_wide form map budget o r h e = plain_wide form map o (subst (λ (r : Result TwoBest SearchFault). MatchResult r (IsAnswer (search_form form) (search_image form map)) (IsFault (search_form form) (search_image form map) budget)) e h)

@@ -1,0 +1,174 @@
+-- The rounded point and its neighbour, and small arrays with zeros behind.
+use Rattle.std.proofs.Common.{◌≡◌, ◌⊎◌, inl, inr, ℕ, zero, suc, ◌+◌, ◌-◌, ◌<◌, ◌≤◌, ◌^◌, List, [], ◌∷◌, ◌++◌, length, get_or, set, ℤ, pos, negsuc, ◌+ℤ◌, ◌*ℤ◌, neg_ℤ, ◌<ℤ◌, ◌≤ℤ◌, arith, unsigned_abs, refl, ap, ap₂, sym, ◌∙◌, subst, replicate, length-append}
+use Rattle.std.proofs.lemmas.Int.{ints, clamps}
+use Rattle.whole_math.specs.Rounding.{nearest_div}
+use Rattle.whole_math.proofs.Order.{polys}
+use Rattle.quadratic_form.specs.Rows.{value}
+use Rattle.suffix_search.specs.Suffixes.{SearchForm, IsSearchable, rest, offset, low}
+use Rattle.suffix_search.specs.PlainCount.{rounded, neighbour, first_moved, side, top, Counts, IsWide}
+use Rattle.suffix_search.proofs.SuffixLaws.{low_grows}
+use Rattle.int_search.specs.Vectors.{IsSmall, IsZeroFrom, suffix}
+use Rattle.int_search.proofs.SuffixArrays.{suffix-set, suffix-none, suffix-cons}
+
+pub rounded-suc : (f : SearchForm) (n : ℕ) → rounded f (suc n) ≡ nearest_div (neg_ℤ (rest f (rounded f n))) (2 ^ 30) ∷ rounded f n
+unfolding rounded
+rounded-suc f n = refl
+
+pub rounded-zero : (f : SearchForm) → rounded f 0 ≡ []
+unfolding rounded
+rounded-zero f = refl
+
+pub rounded_length : (f : SearchForm) (n : ℕ) → length (rounded f n) ≡ n
+rounded_length f zero = ap length (rounded-zero f)
+rounded_length f (suc n) = ap length (rounded-suc f n) ∙ ap (λ k. suc k) (rounded_length f n)
+
+rounded_split : (f : SearchForm) (k n : ℕ) → k ≤ n → (front : List ℤ) × (rounded f n ≡ front ++ rounded f k)
+rounded_split f k zero h = let e : 0 ≡ k = omega arith in ([], ap (rounded f) e)
+rounded_split f k (suc n) h = go (same_or_less k n h) (λ l. rounded_split f k n l)
+  where
+    same_or_less : (k n : ℕ) → k ≤ suc n → (suc n ≡ k) ⊎ (k ≤ n)
+    same_or_less k n h = grind arith
+
+    go : (suc n ≡ k) ⊎ (k ≤ n) → (k ≤ n → (front : List ℤ) × (rounded f n ≡ front ++ rounded f k)) → (front : List ℤ) × (rounded f (suc n) ≡ front ++ rounded f k)
+    go (inl e) before = ([], ap (rounded f) e)
+    go (inr l) before = let r = before l in (nearest_div (neg_ℤ (rest f (rounded f n))) (2 ^ 30) ∷ r.0, rounded-suc f n ∙ ap (λ s. nearest_div (neg_ℤ (rest f (rounded f n))) (2 ^ 30) ∷ s) r.1)
+
+pub top_first : (f : SearchForm) → value f.p (rounded f f.size) ≤ℤ top f
+unfolding top
+top_first f = omega (arith, ints, clamps)
+
+pub top_second : (f : SearchForm) → value f.p (neighbour f) ≤ℤ top f
+unfolding top
+top_second f = omega (arith, ints, clamps)
+
+pub top_small : (f : SearchForm) (p q : ℤ) → p ≡ value f.p (rounded f f.size) → q ≡ value f.p (neighbour f) → p <ℤ pos (2 ^ 62) → q <ℤ pos (2 ^ 62) → top f <ℤ pos (2 ^ 62)
+unfolding top
+top_small f p q a b h k = omega (arith, ints, clamps)
+
+pub top_wide : (f : SearchForm) (v : List ℤ) → value f.p v ≤ℤ top f → pos (2 ^ 62) ≤ℤ value f.p v → IsWide f
+top_wide f v h k = record { wide = inl (omega (arith, ints)) }
+
+pub counts_end : (f : SearchForm) (t q : List ℤ) → IsSearchable f → length (t ++ q) ≡ f.size → 0 < length q → value f.p (t ++ q) ≤ℤ top f → Counts f q
+counts_end f t q h k n m =
+    let g : low f q ≤ℤ low f (t ++ q) = low_grows f h t q (omega arith) in
+    let b : low f (t ++ q) ≤ℤ (pos (2 ^ 60) *ℤ value f.p (t ++ q)) = h.below (t ++ q) k in
+    let l : length (t ++ q) ≡ length t + length q = length-append t q in
+    record { some = n; most = omega arith; within = last (low f q) (low f (t ++ q)) (value f.p (t ++ q)) (top f) g b m }
+  where
+    last : (a b v t : ℤ) → a ≤ℤ b → b ≤ℤ (pos (2 ^ 60) *ℤ v) → v ≤ℤ t → a ≤ℤ (pos (2 ^ 60) *ℤ t)
+    last a b v t h k l = omega (arith, polys)
+
+pub rounded_wide : (f : SearchForm) (k : ℕ) → IsSearchable f → k < f.size → 2 ^ 30 ≤ unsigned_abs (nearest_div (neg_ℤ (rest f (rounded f k))) (2 ^ 30)) → IsWide f
+rounded_wide f k h m w =
+    let r = rounded_split f (suc k) f.size (omega arith) in
+    let e : length (r.0 ++ rounded f (suc k)) ≡ f.size = ap length (sym r.1) ∙ rounded_length f f.size in
+    let v : value f.p (r.0 ++ rounded f (suc k)) ≤ℤ top f = subst (λ (s : List ℤ). value f.p s ≤ℤ top f) r.1 (top_first f) in
+    let c : Counts f (rounded f (suc k)) = counts_end f r.0 (rounded f (suc k)) h e (let n : length (rounded f (suc k)) ≡ suc k = rounded_length f (suc k) in omega arith) v in
+    record { wide = inr (rounded f (suc k), (c, (0, at))) }
+  where
+    at : 2 ^ 30 ≤ unsigned_abs (get_or (rounded f (suc k)) 0 (pos 0))
+    at = rw (rounded-suc f k) w
+
+pub neighbour_is : (f : SearchForm) (x : ℤ) (s : List ℤ) → rounded f f.size ≡ x ∷ s → neighbour f ≡ (x +ℤ side (offset f x s)) ∷ s
+unfolding neighbour
+neighbour_is f x s e = ap (first_moved f) e
+
+pub neighbour_wide : (f : SearchForm) (x y : ℤ) (s : List ℤ) → IsSearchable f → rounded f f.size ≡ x ∷ s → y ≡ x +ℤ side (offset f x s) → 2 ^ 30 ≤ unsigned_abs y → IsWide f
+neighbour_wide f x y s h e m w =
+    let n : neighbour f ≡ y ∷ s = neighbour_is f x s e ∙ ap (λ z. z ∷ s) (sym m) in
+    let v : value f.p (y ∷ s) ≤ℤ top f = subst (λ (t : List ℤ). value f.p t ≤ℤ top f) n (top_second f) in
+    let l : length (y ∷ s) ≡ f.size = sym (ap length e) ∙ rounded_length f f.size in
+    record { wide = inr (y ∷ s, (counts_end f [] (y ∷ s) h l (omega arith) v, (0, w))) }
+
+pub neighbour_length : (f : SearchForm) → 0 < f.size → length (neighbour f) ≡ f.size
+neighbour_length f h = go (rounded f f.size) refl (rounded_length f f.size)
+  where
+    go : (v : List ℤ) → rounded f f.size ≡ v → length v ≡ f.size → length (neighbour f) ≡ f.size
+    go [] g l = absurd (omega arith)
+    go (x ∷ s) g l = ap length (neighbour_is f x s g) ∙ l
+
+-- a vector that is one of the two
+pub within_top : (f : SearchForm) (v w : List ℤ) → w ≡ v → value f.p v ≤ℤ top f → value f.p w ≤ℤ top f
+within_top f v w e h = subst (λ (u : List ℤ). value f.p u ≤ℤ top f) (sym e) h
+
+-- ---- the side
+pub side_up : (c : ℤ) → c ≤ℤ pos 0 → side c ≡ pos 1
+side_up (pos zero) h = refl
+side_up (pos (suc n)) h = absurd (omega (arith, ints))
+side_up (negsuc n) h = refl
+
+pub side_down : (c : ℤ) → pos 0 <ℤ c → side c ≡ negsuc 0
+side_down (pos zero) h = absurd (omega (arith, ints))
+side_down (pos (suc n)) h = refl
+side_down (negsuc n) h = absurd (omega (arith, ints))
+
+pub side_moves : (c : ℤ) → side c ≡ pos 0 → ⊥
+side_moves (pos zero) h = cc
+side_moves (pos (suc n)) h = cc
+side_moves (negsuc n) h = cc
+
+-- ---- small arrays
+pub small_set : (z : List ℤ) (i : ℕ) (x : ℤ) → IsSmall z → unsigned_abs x < 2 ^ 30 → IsSmall (set z i x)
+small_set [] i x h k j = h j
+small_set (y ∷ z) zero x h k zero = k
+small_set (y ∷ z) zero x h k (suc j) = h (suc j)
+small_set (y ∷ z) (suc i) x h k zero = h 0
+small_set (y ∷ z) (suc i) x h k (suc j) = small_set z i x (λ m. h (suc m)) k j
+
+pub small_zero : (n : ℕ) → IsSmall (replicate n (pos 0))
+small_zero zero zero = omega arith
+small_zero zero (suc i) = omega arith
+small_zero (suc n) zero = omega arith
+small_zero (suc n) (suc i) = small_zero n i
+
+-- ---- the loop that rounds
+pub rounded_next : (f : SearchForm) (z : List ℤ) (i : ℕ) (x : ℤ) → f.size ≤ length z → i < f.size → suffix z (i + 1) f.size ≡ rounded f (f.size - (i + 1)) → x ≡ nearest_div (neg_ℤ (rest f (suffix z (i + 1) f.size))) (2 ^ 30) →
+    suffix (set z i x) i f.size ≡ rounded f (f.size - i)
+rounded_next f z i x k h e g =
+    let n : f.size - i ≡ suc (f.size - (i + 1)) = omega arith in
+    suffix-set z i f.size x h k ∙ ap₂ (λ u v. u ∷ v) (g ∙ ap (λ v. nearest_div (neg_ℤ (rest f v)) (2 ^ 30)) e) e ∙ sym (rounded-suc f (f.size - (i + 1))) ∙ ap (rounded f) (sym n)
+
+pub rounded_is_wide : (f : SearchForm) (z : List ℤ) (i : ℕ) (x : ℤ) → IsSearchable f → i < f.size → suffix z (i + 1) f.size ≡ rounded f (f.size - (i + 1)) → x ≡ nearest_div (neg_ℤ (rest f (suffix z (i + 1) f.size))) (2 ^ 30) →
+    2 ^ 30 ≤ unsigned_abs x → IsWide f
+rounded_is_wide f z i x k h e g w =
+    let q : x ≡ nearest_div (neg_ℤ (rest f (rounded f (f.size - (i + 1))))) (2 ^ 30) = g ∙ ap (λ v. nearest_div (neg_ℤ (rest f v)) (2 ^ 30)) e in
+    rounded_wide f (f.size - (i + 1)) k (omega arith) (subst (λ (y : ℤ). 2 ^ 30 ≤ unsigned_abs y) q w)
+
+pub rounded_first : (f : SearchForm) (z : List ℤ) → suffix z f.size f.size ≡ rounded f (f.size - f.size)
+rounded_first f z = let n : 0 ≡ f.size - f.size = omega arith in suffix-none z f.size f.size (omega arith) ∙ sym (rounded-zero f) ∙ ap (rounded f) n
+
+-- ---- the neighbour
+pub point_head : (f : SearchForm) (z : List ℤ) → f.size ≤ length z → 0 < f.size → suffix z 0 f.size ≡ rounded f f.size → rounded f f.size ≡ get_or z 0 (pos 0) ∷ suffix z 1 f.size
+point_head f z k h e = sym e ∙ suffix-cons z 0 f.size h k
+
+pub neighbour_set : (f : SearchForm) (z : List ℤ) (y : ℤ) → f.size ≤ length z → 0 < f.size → suffix z 0 f.size ≡ rounded f f.size → y ≡ get_or z 0 (pos 0) +ℤ side (offset f (get_or z 0 (pos 0)) (suffix z 1 f.size)) →
+    suffix (set z 0 y) 0 f.size ≡ neighbour f
+neighbour_set f z y k h e g = suffix-set z 0 f.size y h k ∙ ap (λ x. x ∷ suffix z 1 f.size) g ∙ sym (neighbour_is f (get_or z 0 (pos 0)) (suffix z 1 f.size) (point_head f z k h e))
+
+pub neighbour_differs : (f : SearchForm) → 0 < f.size → rounded f f.size ≡ neighbour f → ⊥
+neighbour_differs f h e = go (rounded f f.size) refl (rounded_length f f.size)
+  where
+    head_of : (x y : ℤ) (s t : List ℤ) → x ∷ s ≡ y ∷ t → x ≡ y
+    head_of x y s t e = cc
+
+    zero_from : (x c : ℤ) → x ≡ x +ℤ c → c ≡ pos 0
+    zero_from x c e = omega (arith, ints)
+
+    go : (v : List ℤ) → rounded f f.size ≡ v → length v ≡ f.size → ⊥
+    go [] g l = omega arith
+    go (x ∷ s) g l = side_moves (offset f x s) (zero_from x (side (offset f x s)) (head_of x (x +ℤ side (offset f x s)) s s (sym g ∙ e ∙ neighbour_is f x s g)))
+
+-- ---- arrays with nothing from place n on
+pub zeros_set : (z : List ℤ) (n i : ℕ) (x : ℤ) → i < n → IsZeroFrom n z → IsZeroFrom n (set z i x)
+zeros_set [] n i x h k j g = k j g
+zeros_set (y ∷ z) n zero x h k zero g = absurd (omega arith)
+zeros_set (y ∷ z) n zero x h k (suc j) g = k (suc j) g
+zeros_set (y ∷ z) n (suc i) x h k zero g = k 0 g
+zeros_set (y ∷ z) zero (suc i) x h k (suc j) g = absurd (omega arith)
+zeros_set (y ∷ z) (suc n) (suc i) x h k (suc j) g = zeros_set z n i x (omega arith) (λ m p. k (suc m) (omega arith)) j (omega arith)
+
+pub zeros_start : (m n : ℕ) → IsZeroFrom n (replicate m (pos 0))
+zeros_start zero n zero g = refl
+zeros_start zero n (suc i) g = refl
+zeros_start (suc m) n zero g = refl
+zeros_start (suc m) n (suc i) g = zeros_start m 0 i (omega arith)

@@ -1,0 +1,99 @@
+-- Suffixes of vectors in arrays, and sums over them.
+use Rattle.std.proofs.Common.{◌≡◌, ℕ, zero, suc, ◌+◌, ◌-◌, ◌<◌, ◌≤◌, List, [], ◌∷◌, ◌++◌, length, get_or, set, drop, take, ℤ, pos, ◌+ℤ◌, ◌*ℤ◌, arith, refl, ap, ap₂, ◌∙◌, add-one, length-drop, length-take}
+use Rattle.std.proofs.lemmas.Int.{ints}
+use Rattle.whole_math.specs.Vectors.{dot}
+use Rattle.quadratic_form.specs.Places.{list_from}
+use Rattle.suffix_search.specs.Levels.{tail_of}
+use Rattle.int_search.specs.Vectors.{suffix}
+
+unfoldable cut : List ℤ → ℕ → ℕ → List ℤ
+cut z i n = drop i (take n z)
+
+cut_suc : (x : ℤ) (z : List ℤ) (i n : ℕ) → cut (x ∷ z) (suc i) (suc n) ≡ cut z i n
+unfolding cut
+cut_suc x z i n = refl
+
+cut_cons : (z : List ℤ) (i n : ℕ) → i < n → n ≤ length z → cut z i n ≡ get_or z i (pos 0) ∷ cut z (suc i) n
+unfolding cut
+cut_cons z i zero h k = absurd (omega arith)
+cut_cons [] i (suc n) h k = absurd (omega arith)
+cut_cons (x ∷ z) zero (suc n) h k = refl
+cut_cons (x ∷ z) (suc i) (suc n) h k = cut_cons z i n (omega arith) (omega arith)
+
+cut_none : (z : List ℤ) (n i : ℕ) → n ≤ i → cut z i n ≡ []
+unfolding cut
+cut_none z zero zero h = refl
+cut_none z zero (suc i) h = refl
+cut_none z (suc n) zero h = absurd (omega arith)
+cut_none [] (suc n) (suc i) h = refl
+cut_none (x ∷ z) (suc n) (suc i) h = cut_none z n i (omega arith)
+
+cut_set : (z : List ℤ) (i n : ℕ) (x : ℤ) → i < n → n ≤ length z → cut (set z i x) i n ≡ x ∷ cut z (suc i) n
+unfolding cut
+cut_set z i zero x h k = absurd (omega arith)
+cut_set [] i (suc n) x h k = absurd (omega arith)
+cut_set (y ∷ z) zero (suc n) x h k = refl
+cut_set (y ∷ z) (suc i) (suc n) x h k = cut_set z i n x (omega arith) (omega arith)
+
+cut_above : (z : List ℤ) (i k n : ℕ) (x : ℤ) → i < k → cut (set z i x) k n ≡ cut z k n
+unfolding cut
+cut_above z i zero n x h = absurd (omega arith)
+cut_above [] i (suc k) n x h = refl
+cut_above (y ∷ z) i (suc k) zero x h = refl
+cut_above (y ∷ z) zero (suc k) (suc n) x h = refl
+cut_above (y ∷ z) (suc i) (suc k) (suc n) x h = cut_above z i k n x (omega arith)
+
+drop_tail : (l : List ℤ) (i : ℕ) → tail_of (drop i l) ≡ drop (suc i) l
+drop_tail [] zero = refl
+drop_tail [] (suc i) = refl
+drop_tail (x ∷ l) zero = refl
+drop_tail (x ∷ l) (suc i) = drop_tail l i
+
+same : (z : List ℤ) (i n : ℕ) → suffix z i n ≡ cut z i n
+unfolding suffix cut
+same z i n = refl
+
+pub suffix-cons : (z : List ℤ) (i n : ℕ) → i < n → n ≤ length z → suffix z i n ≡ get_or z i (pos 0) ∷ suffix z (i + 1) n
+unfolding suffix cut
+suffix-cons z i n h k = let e : i + 1 ≡ suc i = add-one i in rw e (cut_cons z i n h k)
+
+pub suffix-none : (z : List ℤ) (i n : ℕ) → n ≤ i → suffix z i n ≡ []
+unfolding suffix cut
+suffix-none z i n h = cut_none z n i h
+
+pub suffix-set : (z : List ℤ) (i n : ℕ) (x : ℤ) → i < n → n ≤ length z → suffix (set z i x) i n ≡ x ∷ suffix z (i + 1) n
+unfolding suffix cut
+suffix-set z i n x h k = let e : i + 1 ≡ suc i = add-one i in rw e (cut_set z i n x h k)
+
+pub suffix-above : (z : List ℤ) (i k n : ℕ) (x : ℤ) → i < k → suffix (set z i x) k n ≡ suffix z k n
+unfolding suffix cut
+suffix-above z i k n x h = cut_above z i k n x h
+
+pub suffix-tail : (z : List ℤ) (i n : ℕ) → tail_of (suffix z i n) ≡ suffix z (i + 1) n
+unfolding suffix
+suffix-tail z i n = let e : i + 1 ≡ suc i = add-one i in rw e (drop_tail (take n z) i)
+
+pub suffix-length : (z : List ℤ) (i n : ℕ) → n ≤ length z → length (suffix z i n) ≡ n - i
+unfolding suffix
+suffix-length z i n h = omega (arith, length-drop i (take n z), length-take n z)
+
+pub suffix-all : (z : List ℤ) (n : ℕ) → suffix z 0 n ≡ take n z
+unfolding suffix
+suffix-all z n = refl
+
+-- ---- sums of places from k on, with the constant's at place n
+pub affine_step : (g : ℕ → ℤ) (z : List ℤ) (b k n : ℕ) → k < n → n ≤ length z →
+    dot (list_from g (b + k) (n - k + 1)) (suffix z k n ++ pos 1 ∷ []) ≡ (g (b + k) *ℤ get_or z k (pos 0)) +ℤ dot (list_from g (b + (k + 1)) (n - (k + 1) + 1)) (suffix z (k + 1) n ++ pos 1 ∷ [])
+affine_step g z b k n h m =
+    let e : n - k + 1 ≡ suc (n - (k + 1) + 1) = omega arith in
+    let i : suc (b + k) ≡ b + (k + 1) = omega arith in
+    ap₂ (λ c v. dot (list_from g (b + k) c) (v ++ pos 1 ∷ [])) e (suffix-cons z k n h m)
+    ∙ ap (λ j. (g (b + k) *ℤ get_or z k (pos 0)) +ℤ dot (list_from g j (n - (k + 1) + 1)) (suffix z (k + 1) n ++ pos 1 ∷ [])) i
+
+pub affine_end : (g : ℕ → ℤ) (z : List ℤ) (b n : ℕ) → dot (list_from g (b + n) (n - n + 1)) (suffix z n n ++ pos 1 ∷ []) ≡ g (b + n)
+affine_end g z b n =
+    let e : n - n + 1 ≡ suc 0 = omega arith in
+    ap₂ (λ c v. dot (list_from g (b + n) c) (v ++ pos 1 ∷ [])) e (suffix-none z n n (omega arith)) ∙ last (g (b + n))
+  where
+    last : (x : ℤ) → (x *ℤ pos 1) +ℤ pos 0 ≡ x
+    last x = omega (arith, ints)

@@ -1,0 +1,11 @@
+use Rattle.std.proofs.Common.{◌≡◌, ◌≢◌, ◌⊎◌, ℕ, ◌<◌, ◌≤◌, pos}
+use Rattle.obs_rows.specs.Tables.{entry, HasShape}
+use Rattle.obs_rows.specs.declared.units.TheConstants.{MOST_INTEGERS}
+use Rattle.int_search.proofs.images.identity.Given as goal
+
+abbrev pub invariant-loop-i : goal.invariant-loop-i
+invariant-loop-i l = record {
+  own : (k : ℕ) → k < l.i → entry l.map k k ≡ pos 1;
+  others : (k j : ℕ) → (k ≢ j) ⊎ (l.i ≤ k) → entry l.map k j ≡ pos 0;
+  shape : HasShape MOST_INTEGERS MOST_INTEGERS l.map;
+}

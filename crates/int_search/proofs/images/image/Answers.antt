@@ -1,0 +1,45 @@
+use Rattle.std.proofs.Common.{◌≡◌, ◌<◌, ◌≤◌, ◌^◌, List, get_or, ℤ, pos, arith, rules, refl, sym, ◌∙◌, unsigned_abs, to_z, of_z, w64, length-set}
+use Rattle.std.specs.Int.{w128}
+use Rattle.std.proofs.lemmas.Int.{ints}
+use Rattle.int_search.specs.Vectors.{suffix}
+use Rattle.int_search.specs.Images.{image_of}
+use Rattle.int_search.proofs.PointLaws.{small_zero, small_set, zeros_start, zeros_set}
+use Rattle.int_search.proofs.ImageLaws.{image_at, done_set, image_done}
+use Rattle.int_search.proofs.images.image.Goals as goal
+
+pub loop-i-init : goal.loop-i-init
+loop-i-init c = record { done = λ k h. absurd (omega arith); small = small_zero 40; zeros = zeros_start 40 c.args.size; room = refl }
+
+pub returns-then-is_large : goal.returns-then-is_large
+returns-then-is_large c =
+    let m : List (List ℤ) = c.args.map.now in
+    let v : List ℤ = suffix c.args.z.now 0 c.args.size in
+    let b = c.is_large.ensures.yes (rw c.if-is_large.true (search rules)) in
+    let s = c.row_product-entry.ensures.size in
+    let r = c.requires.map.shape.rows in
+    let e : get_or (image_of m c.args.size v) c.loop-i.i (pos 0) ≡ c.row_product-entry.result = image_at m c.args.size c.loop-i.i v (omega arith) (omega arith) ∙ sym c.row_product-entry.ensures.value in
+    let w : 2 ^ 30 ≤ unsigned_abs c.row_product-entry.result = omega (arith, ints) in
+    (c.loop-i.i, rw e w)
+
+pub loop-i-preserved : goal.loop-i-preserved
+loop-i-preserved c =
+    let v : List ℤ = suffix c.args.z.now 0 c.args.size in
+    let y : List ℤ = c.loop-i.y in
+    let b = c.is_large.ensures.no c.if-is_large.false in
+    let s = c.row_product-entry.ensures.size in
+    let g : unsigned_abs c.row_product-entry.result < 2 ^ 30 = omega (arith, ints) in
+    let t : to_z w64 (of_z w64 (to_z w128 (of_z w128 c.row_product-entry.result))) ≡ c.row_product-entry.result = omega (arith, ints) in
+    let r = c.loop-i.invariant.room in
+    record {
+      done = done_set c.args.map.now v y c.loop-i.i _ (omega arith) c.loop-i.invariant.done (t ∙ c.row_product-entry.ensures.value);
+      small = small_set y c.loop-i.i _ c.loop-i.invariant.small (rw t g);
+      zeros = zeros_set y c.args.size c.loop-i.i _ (omega arith) c.loop-i.invariant.zeros;
+      room = length-set y c.loop-i.i _ ∙ r;
+    }
+
+pub returns : goal.returns
+returns c =
+    let v : List ℤ = suffix c.args.z.now 0 c.args.size in
+    let r = c.loop-i.invariant.room in
+    let s = c.requires.map.shape.rows in
+    record { room = r; small = c.loop-i.invariant.small; zeros = c.loop-i.invariant.zeros; is = image_done c.args.map.now v c.loop-i.y c.args.size (omega arith) (omega arith) (λ k h. c.loop-i.invariant.done k (omega arith)) }

@@ -1,0 +1,13 @@
+use Rattle.std.proofs.Common.{◌≡◌, ℕ, ◌<◌, [], pos, get_or, length}
+use Rattle.whole_math.specs.Vectors.{dot}
+use Rattle.obs_rows.specs.declared.units.TheConstants.{MOST_INTEGERS}
+use Rattle.int_search.specs.Vectors.{suffix, IsSmall, IsZeroFrom}
+use Rattle.int_search.proofs.images.image.Given as goal
+
+abbrev pub invariant-loop-i : goal.invariant-loop-i
+invariant-loop-i l = record {
+  done : (k : ℕ) → k < l.i → get_or l.y k (pos 0) ≡ dot (get_or l.map k []) (suffix l.z 0 l.size);
+  small : IsSmall l.y;
+  zeros : IsZeroFrom l.size l.y;
+  room : length l.y ≡ MOST_INTEGERS;
+}

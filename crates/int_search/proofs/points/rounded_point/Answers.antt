@@ -1,0 +1,68 @@
+use Rattle.std.proofs.Common.{◌≡◌, ◌<◌, ◌+◌, ◌-◌, ◌^◌, ℕ, replicate, pos, neg_ℤ, arith, ap, ◌∙◌, subst, unsigned_abs, to_z, of_z, w64, rules, refl, length-set}
+use Rattle.std.specs.Int.{w128}
+use Rattle.std.proofs.lemmas.Int.{ints, to_z-of_z}
+use Rattle.whole_math.specs.Rounding.{nearest_div}
+use Rattle.integer_form.specs.Forms.{integers_of}
+use Rattle.suffix_search.specs.Suffixes.{SearchForm, rest}
+use Rattle.suffix_search.specs.PlainCount.{rounded}
+use Rattle.int_search.specs.Vectors.{suffix}
+use Rattle.int_search.specs.SearchedForm.{search_form}
+use Rattle.int_search.proofs.FormNumbers.{searchable}
+use Rattle.int_search.proofs.PointLaws.{rounded_next, rounded_is_wide, rounded_first, small_zero, small_set, zeros_start, zeros_set}
+use Rattle.int_search.proofs.points.rounded_point.Goals as goal
+
+pub loop-i-init : goal.loop-i-init
+loop-i-init c =
+    let f : SearchForm = search_form c.args.form.now in
+    let n : ℕ = integers_of c.args.form.now in
+    let e : n ≡ c.args.form.now.columns - 3 - 1 = omega arith in
+    record { within = omega arith; point = subst (λ (m : ℕ). suffix (replicate 40 (pos 0)) m n ≡ rounded f (n - m)) e (rounded_first f (replicate 40 (pos 0))); small = small_zero 40; zeros = zeros_start 40 n; room = refl }
+
+pub returns-then-is_large : goal.returns-then-is_large
+returns-then-is_large c =
+    let f : SearchForm = search_form c.args.form.now in
+    let n : ℕ = integers_of c.args.form.now in
+    let i : ℕ = c.loop-i.i - 1 in
+    let w = c.loop-i.invariant.within in
+    let back : c.loop-i.i ≡ i + 1 = omega arith in
+    let q : suffix c.loop-i.z (i + 1) n ≡ rounded f (n - (i + 1)) = subst (λ (m : ℕ). suffix c.loop-i.z m n ≡ rounded f (n - m)) back c.loop-i.invariant.point in
+    let s = c.later_part.ensures.size in
+    let x : c.nearest_part-x.result ≡ nearest_div (neg_ℤ c.later_part.result) (2 ^ 30) = grind (arith, to_z-of_z) in
+    let y : c.nearest_part-x.result ≡ nearest_div (neg_ℤ (rest f (suffix c.loop-i.z (i + 1) n))) (2 ^ 30) = x ∙ ap (λ v. nearest_div (neg_ℤ v) (2 ^ 30)) c.later_part.ensures.value in
+    let b = c.is_large.ensures.yes (rw c.if-is_large.true (search rules)) in
+    let m = c.nearest_part-x.ensures.size in
+    rounded_is_wide f c.loop-i.z i c.nearest_part-x.result (searchable c.args.form.now c.requires) (omega arith) q y (omega (arith, ints))
+
+pub loop-i-preserved : goal.loop-i-preserved
+loop-i-preserved c =
+    let f : SearchForm = search_form c.args.form.now in
+    let n : ℕ = integers_of c.args.form.now in
+    let i : ℕ = c.loop-i.i - 1 in
+    let w = c.loop-i.invariant.within in
+    let most = c.args.form.now.columns_to in
+    let back : c.loop-i.i ≡ i + 1 = omega arith in
+    let q : suffix c.loop-i.z (i + 1) n ≡ rounded f (n - (i + 1)) = subst (λ (m : ℕ). suffix c.loop-i.z m n ≡ rounded f (n - m)) back c.loop-i.invariant.point in
+    let s = c.later_part.ensures.size in
+    let x : c.nearest_part-x.result ≡ nearest_div (neg_ℤ c.later_part.result) (2 ^ 30) = grind (arith, to_z-of_z) in
+    let m = c.nearest_part-x.ensures.size in
+    let b = c.is_large.ensures.no c.if-is_large.false in
+    let g : unsigned_abs c.nearest_part-x.result < 2 ^ 30 = omega (arith, ints) in
+    let t : to_z w64 (of_z w64 (to_z w128 (of_z w128 c.nearest_part-x.result))) ≡ c.nearest_part-x.result = omega (arith, ints) in
+    let y : to_z w64 (of_z w64 (to_z w128 (of_z w128 c.nearest_part-x.result))) ≡ nearest_div (neg_ℤ (rest f (suffix c.loop-i.z (i + 1) n))) (2 ^ 30) = t ∙ x ∙ ap (λ v. nearest_div (neg_ℤ v) (2 ^ 30)) c.later_part.ensures.value in
+    let room = c.loop-i.invariant.room in
+    record {
+      within = omega arith;
+      point = rounded_next f c.loop-i.z i _ (omega arith) (omega arith) q y;
+      small = small_set c.loop-i.z i _ c.loop-i.invariant.small (rw t g);
+      zeros = zeros_set c.loop-i.z n i _ (omega arith) c.loop-i.invariant.zeros;
+      room = length-set c.loop-i.z i _ ∙ room;
+    }
+
+pub returns : goal.returns
+returns c =
+    let f : SearchForm = search_form c.args.form.now in
+    let n : ℕ = integers_of c.args.form.now in
+    let z : c.loop-i.i ≡ 0 = omega arith in
+    let q : suffix c.loop-i.z 0 n ≡ rounded f (n - 0) = subst (λ (m : ℕ). suffix c.loop-i.z m n ≡ rounded f (n - m)) z c.loop-i.invariant.point in
+    let e : n - 0 ≡ n = omega arith in
+    record { room = c.loop-i.invariant.room; small = c.loop-i.invariant.small; zeros = c.loop-i.invariant.zeros; is = q ∙ ap (rounded f) e }

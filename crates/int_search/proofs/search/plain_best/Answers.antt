@@ -1,0 +1,5 @@
+use Rattle.int_search.proofs.PlainLaws.{answer_found}
+use Rattle.int_search.proofs.search.plain_best.Goals as goal
+
+pub returns-clause-found : goal.returns-clause-found
+returns-clause-found c = answer_found c.args.form.now c.identity.result c.args.budget c.identity.ensures.own c.search.result c.search.ensures

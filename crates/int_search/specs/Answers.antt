@@ -1,0 +1,48 @@
+-- What a search answers.
+use Rattle.std.specs.Prelude.{◌≡◌, ℕ, List, take, ℤ, pos}
+use Rattle.quadratic_form.specs.Rows.{value}
+use Rattle.quadratic_form.specs.TwoLeast.{TwoLeast}
+use Rattle.integer_form.specs.declared.form.Form.{Form}
+use Rattle.integer_form.specs.Forms.{integers_of, columns_of, value_of}
+use Rattle.suffix_search.specs.Suffixes.{SearchForm}
+use Rattle.suffix_search.specs.PlainCount.{IsOver, IsWide}
+use Rattle.suffix_search.specs.Order.{AreTwoLeast}
+use Rattle.int_search.specs.Vectors.{IsSmall, Holds}
+use Rattle.int_search.specs.SearchedForm.{search_form}
+use Rattle.int_search.specs.Walk.{IsTooWide}
+use Rattle.int_search.specs.declared.answer.TwoBest.{TwoBest}
+use Rattle.int_search.specs.declared.answer.SearchFault.{SearchFault}
+use Rattle.int_search.specs.declared.answer.SearchFault.TheVariants.{Spent, Overwidth}
+
+-- b has the images of the two least vectors, and their values
+pub record IsAnswer (f : SearchForm) (image : List ℤ → List ℤ) (b : TwoBest) : Type 0 where
+  pub size : b.size ≡ f.size
+  pub one : List ℤ
+  pub two : List ℤ
+  pub first : Holds f.size b.first (image one)
+  pub second : Holds f.size b.second (image two)
+  pub p1 : b.p1 ≡ value f.p one
+  pub p2 : b.p2 ≡ value f.p two
+  pub least : AreTwoLeast f image one two
+
+-- spent only where the plain count is over the budget, overwidth only where it has something too wide
+abbrev pub IsFault : SearchForm → (List ℤ → List ℤ) → ℕ → SearchFault → Type 0
+IsFault f image budget Spent = IsOver f budget
+IsFault f image budget Overwidth = IsTooWide f image
+
+-- the two integer vectors at which the form is least, and its values there
+pub record IsTwoBest (f : Form) (b : TwoBest) : Type 0 where
+  pub size : b.size ≡ integers_of f
+  pub least : TwoLeast (columns_of f) (pos (integers_of f)) (take b.size b.first) (take b.size b.second)
+  pub p1 : b.p1 ≡ value_of f (take b.size b.first)
+  pub p2 : b.p2 ≡ value_of f (take b.size b.second)
+  pub first_small : IsSmall b.first
+  pub second_small : IsSmall b.second
+
+-- the plain count of the form is over n
+abbrev pub IsPlainCountOver : Form → ℕ → Type 0
+IsPlainCountOver f n = IsOver (search_form f) n
+
+-- the greater value of the rounded point and its neighbour is 2^62 or more, or a suffix of the plain count has an entry of 2^30 or more in size
+abbrev pub IsSearchTooWide : Form → Type 0
+IsSearchTooWide f = IsWide (search_form f)

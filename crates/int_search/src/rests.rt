@@ -1,0 +1,34 @@
+//! What the later entries of a vector and the constant give at an integer.
+ghost use Rattle.std.specs.Prelude.{◌≡◌, ℕ, ◌+◌, ◌^◌, ◌<◌, ◌≤◌, pos, ◌*ℤ◌, unsigned_abs};
+ghost use Rattle.suffix_search.specs.Suffixes.{rest};
+ghost use Rattle.integer_form.specs.Forms.{integers_of};
+ghost use Rattle.int_search.specs.Vectors.{IsSmall, suffix};
+ghost use Rattle.int_search.specs.SearchedForm.{search_form};
+
+use integer_form::Form;
+use obs_rows::{BASELINE_COLUMNS, MOST_INTEGERS};
+
+fn product(factor: i64, entry: i64) -> i128
+    requires factor_size { unsigned_abs factor ≤ 2 ^ 52 }
+    requires entry_size { unsigned_abs entry ≤ 2 ^ 30 }
+    ensures value { result ≡ factor *ℤ entry }
+    ensures size { unsigned_abs result ≤ 2 ^ 82 }
+{
+    factor as i128 * entry as i128
+}
+
+/// Σ l·z over the integers after integer i, and the constant's l.
+pub(crate) fn later_part(form: &Form, i: usize, z: &[i64; MOST_INTEGERS]) -> i128
+    requires place { i < integers_of form.now }
+    requires small { IsSmall z.now }
+    ensures value { result ≡ rest (search_form form.now) (suffix z.now (i + 1) (integers_of form.now)) }
+    ensures size { unsigned_abs result ≤ 2 ^ 88 }
+{
+    let integers = form.columns - BASELINE_COLUMNS - 1;
+    let column = BASELINE_COLUMNS + i;
+    let mut sum = 0;
+    for k in i + 1..integers {
+        sum += product(form.l.at(BASELINE_COLUMNS + k, column), z[k]);
+    }
+    sum + form.l.at(BASELINE_COLUMNS + integers, column) as i128
+}
