@@ -11,7 +11,7 @@ use Rattle.whole_math.proofs.Certificates.{square_root}
 use Rattle.rational.specs.Rational.{Rational, AreWithin, two_to_minus, of_scale}
 use Rattle.iv_core.specs.declared.Iv.{Iv}
 use Rattle.iv_core.specs.Intervals.{Holds, width_of}
-use Rattle.signal_travel.specs.SeenPlaces.{point_of, IsAboveMask, IsBelowMask}
+use Rattle.travel_model.specs.SeenPlaces.{point_of, IsAboveMask, IsBelowMask}
 use Rattle.signal_travel.specs.Boxes.{IsNearPlaces, HasNearPlace}
 use Rattle.signal_travel.specs.Grid.{grid, offset, dot3, IsAboveWhole}
 use Rattle.signal_travel.proofs.GridPlaces.{grid_place, grid_near, sides, is_above, decided_place}

@@ -2,3 +2,9 @@ pub mod Products
 pub mod MaskLaws
 pub mod GridPlaces
 pub mod AboveLaws
+pub mod PlaceLists
+pub mod Lengths
+pub mod EarthTurn
+pub mod PlaceBoxes
+pub mod Times
+pub mod Sights

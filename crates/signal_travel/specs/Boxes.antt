@@ -4,7 +4,7 @@ use Rattle.whole_math.specs.Vectors.{squared_norm}
 use Rattle.rational.specs.Rational.{Rational, AreWithin, two_to_minus}
 use Rattle.iv_core.specs.declared.Iv.{Iv}
 use Rattle.iv_core.specs.Intervals.{Holds}
-use Rattle.signal_travel.specs.SeenPlaces.{Place}
+use Rattle.travel_model.specs.SeenPlaces.{Place}
 
 -- a point in units of 0.1 mm that is from 6,000 km to 7,000 km from the Earth's centre
 abbrev pub IsPoint : List ℤ → Type 0

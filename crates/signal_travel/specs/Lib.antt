@@ -1,3 +1,3 @@
-pub mod SeenPlaces
 pub mod Boxes
 pub mod Grid
+pub mod VectorBoxes

@@ -1,18 +1,27 @@
-//! Travel time of a signal, the place where a receiver sees the satellite, directions and the mask.
+//! Travel time of a signal, the place where a receiver sees the satellite, and the mask.
 #![tactic(auto)]
 
 ghost use Rattle.std.specs.Prelude.{◌≡◌, ℕ, ◌*◌, ◌^◌, ◌≤◌, ℤ, pos, ◌≤ℤ◌, [], ◌∷◌, All, IsTrue, false};
 ghost use Rattle.iv_core.specs.declared.Iv.{Iv};
-ghost use Rattle.iv_core.specs.Intervals.{width_of};
+ghost use Rattle.iv_core.specs.Intervals.{Holds, width_of};
 ghost use Rattle.orbit_model.specs.Places.{IsBetweenDistances};
-ghost use Rattle.signal_travel.specs.SeenPlaces.{point_of, IsAboveMask, IsBelowMask};
-ghost use Rattle.signal_travel.specs.Boxes.{IsPoint, HasNearPlace};
+ghost use Rattle.rational.specs.Rational.{Rational};
+ghost use Rattle.travel_model.specs.SeenPlaces.{Place, point_of, IsSeenPlace, HasSeenPlace, range_of, IsAboveMask, IsBelowMask};
+ghost use Rattle.signal_travel.specs.Boxes.{IsPoint, HoldsPlace, HasNearPlace};
 
 mod mask;
+mod passes;
+mod places;
+mod sent;
+mod turns;
+mod vectors;
 mod wide;
 
 use iv_core::Iv;
 use mask::{is_above, offset_of};
+use passes::sight_of;
+use sent::{point_at, sent_box};
+use sv_orbit::SvBox;
 
 /// Where a receiver sees a satellite, in metres at scale 2^-36 and in the Earth-fixed frame of the moment of reception, with its
 /// range in metres at 2^-36 and the signal's travel time in seconds at 2^-60.
@@ -28,6 +37,28 @@ pub struct SeenBox {
     pub ghost away: { (a b c : Iv 36) → place ≡ a ∷ b ∷ c ∷ [] → IsBetweenDistances 18900000 38100000 a b c },
     pub ghost range_narrow: { width_of range ≤ℤ pos (2 ^ 19) },
     pub ghost range_far: { pos (10000000 * 2 ^ 36) ≤ℤ range.lo },
+}
+
+/// Boxes of every place where a receiver at `point`, in units of 0.1 mm, sees a satellite that sent from a place of `sv`, with the
+/// range and the travel time. It takes no memory and is never refused.
+pub fn seen_from(sv: &SvBox, point: &[i64; 3]) -> SeenBox
+    requires { IsPoint point.now }
+    ensures place { (a b c : ℤ) (sent seen : Place) (travel : Rational) → point.now ≡ a ∷ b ∷ c ∷ [] →
+        HoldsPlace sv.now.place sent → IsSeenPlace sent (point_of a b c) travel seen → HoldsPlace result.place seen }
+    ensures range { (a b c : ℤ) (sent seen : Place) (travel : Rational) → point.now ≡ a ∷ b ∷ c ∷ [] →
+        HoldsPlace sv.now.place sent → IsSeenPlace sent (point_of a b c) travel seen → Holds result.range (range_of travel) }
+    ensures time { (a b c : ℤ) (sent seen : Place) (travel : Rational) → point.now ≡ a ∷ b ∷ c ∷ [] →
+        HoldsPlace sv.now.place sent → IsSeenPlace sent (point_of a b c) travel seen → Holds result.travel travel }
+
+    // The equations of each place of `sv` have a solution.
+    ensures exists { (a b c : ℤ) (sent : Place) → point.now ≡ a ∷ b ∷ c ∷ [] → HoldsPlace sv.now.place sent → HasSeenPlace sent (point_of a b c) }
+{
+    let sight = sight_of(&sent_box(sv), &point_at(point));
+    SeenBox {
+        place: [sight.place.x, sight.place.y, sight.place.z],
+        range: sight.range,
+        travel: sight.travel,
+    }
 }
 
 /// Whether the satellite is high enough at `point`, in units of 0.1 mm: whether the sine of its elevation, above the plane across

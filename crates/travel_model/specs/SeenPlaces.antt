@@ -20,6 +20,10 @@ dot p q = add_r (add_r (mul_r p.x q.x) (mul_r p.y q.y)) (mul_r p.z q.z)
 abbrev pub square : Place → Rational
 square p = dot p p
 
+-- least ≤ |p| ≤ most
+abbrev pub HasLengthBetween : ℕ → ℕ → Place → Type 0
+HasLengthBetween least most p = (of_whole (pos (least * least)) ≤ʳ square p) × (square p ≤ʳ of_whole (pos (most * most)))
+
 -- a point whose coordinates are given in units of 0.1 mm
 abbrev pub point_of : ℤ → ℤ → ℤ → Place
 point_of a b c = record { x = divided (of_whole a) 10000 (lit< tt); y = divided (of_whole b) 10000 (lit< tt); z = divided (of_whole c) 10000 (lit< tt) }
@@ -47,6 +51,20 @@ pub record IsSeenPlace (sent point : Place) (travel : Rational) (seen : Place) :
   pub turn_is : IsAnglePair 5 (mul_r earth_rate travel) turn.cos turn.sin
   pub seen_is : AreSamePlace seen (turned_back turn sent)
   pub travel_is : IsNearRoot travel (over_light_speed_squared (square (difference seen point)))
+
+-- a satellite's place, from 19,000 km to 38,000 km from the Earth's centre
+abbrev pub IsSentPlace : Place → Type 0
+IsSentPlace p = HasLengthBetween 19000000 38000000 p
+
+-- a receiver's place, from 6,000 km to 7,000 km from it
+abbrev pub IsReceiverPlace : Place → Type 0
+IsReceiverPlace p = HasLengthBetween 6000000 7000000 p
+
+-- some travel time and some place
+pub record HasSeenPlace (sent point : Place) : Type 0 where
+  pub travel : Rational
+  pub seen : Place
+  pub is_seen : IsSeenPlace sent point travel seen
 
 -- c times the travel time
 abbrev pub range_of : Rational → Rational

@@ -1,0 +1,220 @@
+-- The Earth's turn in a box of times: its angles, its pairs, and the places that it turns.
+use Rattle.std.proofs.Common.{◌≡◌, ℕ, zero, suc, ◌+◌, ◌*◌, ◌^◌, ◌≤◌, [], ◌∷◌, ℤ, pos, ◌+ℤ◌, ◌-ℤ◌, ◌*ℤ◌, neg_ℤ, ◌≤ℤ◌, ◌<ℤ◌, unsigned_abs, arith, sym, ap, subst, ◌∙◌, refl, lit<, lit≤, to_z, of_z}
+use Rattle.std.proofs.lemmas.Int.{ints}
+use Rattle.std.specs.Int.{w64}
+use Rattle.whole_math.proofs.Ring.{va, ko, ◌⊕◌, ◌⊖◌, ◌⊗◌, ng}
+use Rattle.whole_math.proofs.Order.{lins, mul_le_cancel, le_pos, lt_pos}
+use Rattle.whole_math.proofs.Certificates.{cert, cancel, weak, ◌≼◌, hy, nm, ◌⊞◌, ◌⊠◌}
+use Rattle.whole_math.proofs.Inequalities.{same_by}
+use Rattle.whole_math.specs.Rounding.{floor_div}
+use Rattle.whole_math.proofs.Rounding.{floor_le, lt_floor}
+use Rattle.rational.specs.Rational.{Rational, ◌≈◌, ◌≤ʳ◌, of_whole, of_scale, add_r, sub_r, mul_r, neg_r, times, two_to_minus, AreWithin, IsAtMostInSize, InBox}
+use Rattle.rational.proofs.Laws.{≤ʳ_trans, ≤ʳ_from_same, ≈_sym}
+use Rattle.travel_model.proofs.Orders.{cert_r}
+use Rattle.trig_box.specs.AnglePairs.{Pair, doubled, double, taylor_pair, part, InRange, IsAnglePair, IsCanonicalPair}
+use Rattle.trig_box.proofs.PairLaws.{canonical_exists, canonical_is_pair, canonical_law, sharp_law, size_law_5}
+use Rattle.orbit_model.specs.Elements.{earth_rate}
+
+-- the angle of a time of the box against that of its middle, rounded
+pub angle_up : (t u h m r a p : ℤ) → (t *ℤ (pos 1152921504606846976)) ≤ℤ (h *ℤ u) → (h -ℤ m) ≤ℤ r → ((pos 72921151467) *ℤ m) ≤ℤ ((a *ℤ (pos 16000000000000000)) +ℤ (pos 16000000000000000)) → (r +ℤ (pos 135168)) ≤ℤ ((pos 4096) *ℤ p) → (pos 0) ≤ℤ r → (pos 0) ≤ℤ u → (((((pos 72921151467) *ℤ t) *ℤ (pos 72057594037927936)) -ℤ (a *ℤ ((pos 1000000000000000) *ℤ u))) *ℤ (pos 2305843009213693952)) ≤ℤ ((p -ℤ (pos 1)) *ℤ (((pos 1000000000000000) *ℤ u) *ℤ (pos 72057594037927936)))
+angle_up t u h m r a p h0 h1 h2 h3 h4 h5 =
+    cancel (pos 4096) (((((pos 72921151467) *ℤ t) *ℤ (pos 72057594037927936)) -ℤ (a *ℤ ((pos 1000000000000000) *ℤ u))) *ℤ (pos 2305843009213693952)) ((p -ℤ (pos 1)) *ℤ (((pos 1000000000000000) *ℤ u) *ℤ (pos 72057594037927936))) (omega (arith, ints)) (cert (t ∷ u ∷ h ∷ m ∷ r ∷ a ∷ p ∷ []) ((((va 0) ⊗ (ko (pos 1152921504606846976))) ≼ ((va 2) ⊗ (va 1))) ∷ (((va 2) ⊖ (va 3)) ≼ (va 4)) ∷ (((ko (pos 72921151467)) ⊗ (va 3)) ≼ (((va 5) ⊗ (ko (pos 16000000000000000))) ⊕ (ko (pos 16000000000000000)))) ∷ (((va 4) ⊕ (ko (pos 135168))) ≼ ((ko (pos 4096)) ⊗ (va 6))) ∷ ((ko (pos 0)) ≼ (va 4)) ∷ ((ko (pos 0)) ≼ (va 1)) ∷ []) ((ko (pos 4096)) ⊗ (((((ko (pos 72921151467)) ⊗ (va 0)) ⊗ (ko (pos 72057594037927936))) ⊖ ((va 5) ⊗ ((ko (pos 1000000000000000)) ⊗ (va 1)))) ⊗ (ko (pos 2305843009213693952)))) ((ko (pos 4096)) ⊗ (((va 6) ⊖ (ko (pos 1))) ⊗ (((ko (pos 1000000000000000)) ⊗ (va 1)) ⊗ (ko (pos 72057594037927936))))) ((((((nm 43045050197502682430559699861504) ⊠ (hy 0)) ⊞ (((nm 43045050197502682430559699861504) ⊠ (hy 5)) ⊠ (hy 1))) ⊞ (((nm 590295810358705651712) ⊠ (hy 5)) ⊠ (hy 2))) ⊞ (((nm 72057594037927936000000000000000) ⊠ (hy 5)) ⊠ (hy 3))) ⊞ (((nm 29012543840425253569440300138496) ⊠ (hy 5)) ⊠ (hy 4))) refl (h0, (h1, (h2, (h3, (h4, (h5, tt)))))))
+
+pub angle_down : (t u l m r a p : ℤ) → (l *ℤ u) ≤ℤ (t *ℤ (pos 1152921504606846976)) → (m -ℤ l) ≤ℤ r → (a *ℤ (pos 16000000000000000)) ≤ℤ ((pos 72921151467) *ℤ m) → (r +ℤ (pos 135168)) ≤ℤ ((pos 4096) *ℤ p) → (pos 0) ≤ℤ r → (pos 0) ≤ℤ u → (((a *ℤ ((pos 1000000000000000) *ℤ u)) -ℤ (((pos 72921151467) *ℤ t) *ℤ (pos 72057594037927936))) *ℤ (pos 2305843009213693952)) ≤ℤ ((p -ℤ (pos 1)) *ℤ ((pos 72057594037927936) *ℤ ((pos 1000000000000000) *ℤ u)))
+angle_down t u l m r a p h0 h1 h2 h3 h4 h5 =
+    cancel (pos 4096) (((a *ℤ ((pos 1000000000000000) *ℤ u)) -ℤ (((pos 72921151467) *ℤ t) *ℤ (pos 72057594037927936))) *ℤ (pos 2305843009213693952)) ((p -ℤ (pos 1)) *ℤ ((pos 72057594037927936) *ℤ ((pos 1000000000000000) *ℤ u))) (omega (arith, ints)) (cert (t ∷ u ∷ l ∷ m ∷ r ∷ a ∷ p ∷ []) ((((va 2) ⊗ (va 1)) ≼ ((va 0) ⊗ (ko (pos 1152921504606846976)))) ∷ (((va 3) ⊖ (va 2)) ≼ (va 4)) ∷ (((va 5) ⊗ (ko (pos 16000000000000000))) ≼ ((ko (pos 72921151467)) ⊗ (va 3))) ∷ (((va 4) ⊕ (ko (pos 135168))) ≼ ((ko (pos 4096)) ⊗ (va 6))) ∷ ((ko (pos 0)) ≼ (va 4)) ∷ ((ko (pos 0)) ≼ (va 1)) ∷ []) ((ko (pos 4096)) ⊗ ((((va 5) ⊗ ((ko (pos 1000000000000000)) ⊗ (va 1))) ⊖ (((ko (pos 72921151467)) ⊗ (va 0)) ⊗ (ko (pos 72057594037927936)))) ⊗ (ko (pos 2305843009213693952)))) ((ko (pos 4096)) ⊗ (((va 6) ⊖ (ko (pos 1))) ⊗ ((ko (pos 72057594037927936)) ⊗ ((ko (pos 1000000000000000)) ⊗ (va 1))))) (((((((nm 43045050197502682430559699861504) ⊠ (hy 0)) ⊞ (((nm 43045050197502682430559699861504) ⊠ (hy 5)) ⊠ (hy 1))) ⊞ (((nm 590295810358705651712) ⊠ (hy 5)) ⊠ (hy 2))) ⊞ (((nm 72057594037927936000000000000000) ⊠ (hy 5)) ⊠ (hy 3))) ⊞ (((nm 29012543840425253569440300138496) ⊠ (hy 5)) ⊠ (hy 4))) ⊞ ((nm 9444732965739290427392000000000000000) ⊠ (hy 5))) refl (h0, (h1, (h2, (h3, (h4, (h5, tt)))))))
+
+pub pad_low : (c s d l p : Rational) → l ≤ʳ s → (sub_r s c) ≤ʳ d → d ≤ʳ p → (sub_r l p) ≤ʳ c
+pad_low c s d l p h0 h1 h2 =
+    cert_r (c ∷ s ∷ d ∷ l ∷ p ∷ []) (((va 3) ≼ (va 1)) ∷ (((va 1) ⊖ (va 0)) ≼ (va 2)) ∷ ((va 2) ≼ (va 4)) ∷ []) ((va 3) ⊖ (va 4)) (va 0) (((hy 0) ⊞ (hy 1)) ⊞ (hy 2)) refl (h0, (h1, (h2, tt)))
+
+pub pad_high : (c s d h p : Rational) → s ≤ʳ h → (sub_r c s) ≤ʳ d → d ≤ʳ p → c ≤ʳ (add_r h p)
+pad_high c s d h p h0 h1 h2 =
+    cert_r (c ∷ s ∷ d ∷ h ∷ p ∷ []) (((va 1) ≼ (va 3)) ∷ (((va 0) ⊖ (va 1)) ≼ (va 2)) ∷ ((va 2) ≼ (va 4)) ∷ []) (va 0) ((va 3) ⊕ (va 4)) (((hy 0) ⊞ (hy 1)) ⊞ (hy 2)) refl (h0, (h1, (h2, tt)))
+
+pub zero_right : (n d e p q : ℤ) → (((n *ℤ e) -ℤ ((pos 0) *ℤ d)) *ℤ q) ≤ℤ (p *ℤ (d *ℤ e)) → (pos 0) <ℤ e → (n *ℤ q) ≤ℤ (p *ℤ d)
+zero_right n d e p q h0 h1 =
+    cancel e (n *ℤ q) (p *ℤ d) h1 (cert (n ∷ d ∷ e ∷ p ∷ q ∷ []) ((((((va 0) ⊗ (va 2)) ⊖ ((ko (pos 0)) ⊗ (va 1))) ⊗ (va 4)) ≼ ((va 3) ⊗ ((va 1) ⊗ (va 2)))) ∷ ((ko (pos 0)) ≼ (va 2)) ∷ []) ((va 2) ⊗ ((va 0) ⊗ (va 4))) ((va 2) ⊗ ((va 3) ⊗ (va 1))) (hy 0) refl (h0, (weak (pos 0) e h1, tt)))
+
+pub zero_left : (n d e p q : ℤ) → ((((pos 0) *ℤ d) -ℤ (n *ℤ e)) *ℤ q) ≤ℤ (p *ℤ (e *ℤ d)) → (pos 0) <ℤ e → ((neg_ℤ (n)) *ℤ q) ≤ℤ (p *ℤ d)
+zero_left n d e p q h0 h1 =
+    cancel e ((neg_ℤ (n)) *ℤ q) (p *ℤ d) h1 (cert (n ∷ d ∷ e ∷ p ∷ q ∷ []) ((((((ko (pos 0)) ⊗ (va 1)) ⊖ ((va 0) ⊗ (va 2))) ⊗ (va 4)) ≼ ((va 3) ⊗ ((va 2) ⊗ (va 1)))) ∷ ((ko (pos 0)) ≼ (va 2)) ∷ []) ((va 2) ⊗ ((ng (va 0)) ⊗ (va 4))) ((va 2) ⊗ ((va 3) ⊗ (va 1))) (hy 0) refl (h0, (weak (pos 0) e h1, tt)))
+
+-- ---- a pair of a time of the box lies within the pad of the canonical pair of the middle
+within : (t : Rational) (l h m r a p : ℤ) → InBox 60 l h t → (m -ℤ l) ≤ℤ r → (h -ℤ m) ≤ℤ r → a ≡ floor_div (pos 72921151467 *ℤ m) 16000000000000000 → (r +ℤ pos 135168) ≤ℤ (pos 4096 *ℤ p) → pos 0 ≤ℤ r →
+    AreWithin (of_scale 61 (p -ℤ pos 1)) (mul_r earth_rate t) (of_scale 56 a)
+within t l h m r a p b lm mh e k r0 = (
+  angle_up t.num (pos t.den) h m r a p b.1 mh (top (pos 72921151467 *ℤ m) a e) k r0 (weak (pos 0) (pos t.den) (lt_pos 0 t.den t.positive)),
+  angle_down t.num (pos t.den) l m r a p b.0 lm (bottom (pos 72921151467 *ℤ m) a e) k r0 (weak (pos 0) (pos t.den) (lt_pos 0 t.den t.positive)),
+)
+  where
+    top : (z a : ℤ) → a ≡ floor_div z 16000000000000000 → z ≤ℤ ((a *ℤ pos 16000000000000000) +ℤ pos 16000000000000000)
+    top z a e = subst (λ (y : ℤ). z ≤ℤ ((y *ℤ pos 16000000000000000) +ℤ pos 16000000000000000)) (sym e) (weak z ((floor_div z 16000000000000000 *ℤ pos 16000000000000000) +ℤ pos 16000000000000000) (lt_floor z 16000000000000000 (lit< tt)))
+
+    bottom : (z a : ℤ) → a ≡ floor_div z 16000000000000000 → (a *ℤ pos 16000000000000000) ≤ℤ z
+    bottom z a e = subst (λ (y : ℤ). (y *ℤ pos 16000000000000000) ≤ℤ z) (sym e) (floor_le z 16000000000000000 (lit< tt))
+
+-- twice that distance, and the constant of the law, are at most the pad
+pad_most : (p : ℤ) → add_r (times 2 (of_scale 61 (p -ℤ pos 1))) (two_to_minus 67) ≤ʳ of_scale 60 p
+pad_most p = omega (arith, ints)
+
+-- a box that reaches the pad further on both sides
+pub padded_holds : (l h l' h' p : ℤ) (c s d : Rational) → l' ≡ l -ℤ p → h' ≡ h +ℤ p → InBox 60 l h s → AreWithin d c s → d ≤ʳ of_scale 60 p → InBox 60 l' h' c
+padded_holds l h l' h' p c s d el eh b w k = (
+  ≤ʳ_trans (of_scale 60 l') (sub_r (of_scale 60 l) (of_scale 60 p)) c (≤ʳ_from_same (of_scale 60 l') (sub_r (of_scale 60 l) (of_scale 60 p)) (low l p l' el)) (pad_low c s d (of_scale 60 l) (of_scale 60 p) b.0 w.1 k),
+  ≤ʳ_trans c (add_r (of_scale 60 h) (of_scale 60 p)) (of_scale 60 h') (pad_high c s d (of_scale 60 h) (of_scale 60 p) b.1 w.0 k) (≤ʳ_from_same (add_r (of_scale 60 h) (of_scale 60 p)) (of_scale 60 h') (high h p h' eh)),
+)
+  where
+    low : (l p z : ℤ) → z ≡ l -ℤ p → of_scale 60 z ≈ sub_r (of_scale 60 l) (of_scale 60 p)
+    low l p z e = subst (λ (y : ℤ). of_scale 60 y ≈ sub_r (of_scale 60 l) (of_scale 60 p)) (sym e) (same_by (l ∷ p ∷ pos (2 ^ 60) ∷ []) (λ l p k. ((l ⊖ p) ⊗ (k ⊗ k), (l ⊗ k ⊖ p ⊗ k) ⊗ k)) refl)
+
+    high : (h p z : ℤ) → z ≡ h +ℤ p → add_r (of_scale 60 h) (of_scale 60 p) ≈ of_scale 60 z
+    high h p z e = subst (λ (y : ℤ). add_r (of_scale 60 h) (of_scale 60 p) ≈ of_scale 60 y) (sym e) (same_by (h ∷ p ∷ pos (2 ^ 60) ∷ []) (λ h p k. ((h ⊗ k ⊕ p ⊗ k) ⊗ k, (h ⊕ p) ⊗ (k ⊗ k))) refl)
+
+-- the boxes of the pairs of an angle
+pub record ArePairs (a cl ch sl sh : ℤ) : Type 0 where
+  pub angle_low : pos 0 ≤ℤ a
+  pub angle_high : a ≤ℤ pos 875753788197
+  pub pairs : (c s : Rational) → IsAnglePair 5 (of_scale 56 a) c s → InBox 60 cl ch c × InBox 60 sl sh s
+  pub cos_narrow : (ch -ℤ cl) ≤ℤ pos 512
+  pub sin_narrow : (sh -ℤ sl) ≤ℤ pos 512
+
+-- the box of times, its middle, the angle, the boxes of the pairs, the pad
+pub record IsTurn (tl th m a p cl ch sl sh : ℤ) : Type 0 where
+  pub middle_high : m ≤ℤ th
+  pub below : (m -ℤ tl) ≤ℤ (th -ℤ m)
+  pub angle : a ≡ floor_div (pos 72921151467 *ℤ m) 16000000000000000
+  pub angle_low : pos 0 ≤ℤ a
+  pub angle_high : a ≤ℤ pos 875753788197
+  pub least : ((th -ℤ m) +ℤ pos 135168) ≤ℤ (pos 4096 *ℤ p)
+  pub pairs : (c s : Rational) → IsAnglePair 5 (of_scale 56 a) c s → InBox 60 cl ch c × InBox 60 sl sh s
+
+canonical : (a : ℤ) → pos 0 ≤ℤ a → a ≤ℤ pos 875753788197 → (c : Rational) × (s : Rational) × IsCanonicalPair 5 (of_scale 56 a) c s
+canonical a l h = canonical_exists 5 (of_scale 56 a) (go a l h)
+  where
+    go : (a : ℤ) → pos 0 ≤ℤ a → a ≤ℤ pos 875753788197 → 2 * unsigned_abs a ≤ 2 ^ 5 * 2 ^ 56
+    go a l h = omega (arith, ints)
+
+pub turn_holds : (tl th m a p cl ch sl sh cl' ch' sl' sh' : ℤ) → IsTurn tl th m a p cl ch sl sh → cl' ≡ cl -ℤ p → ch' ≡ ch +ℤ p → sl' ≡ sl -ℤ p → sh' ≡ sh +ℤ p →
+    (t c s : Rational) → InBox 60 tl th t → IsAnglePair 5 (mul_r earth_rate t) c s → InBox 60 cl' ch' c × InBox 60 sl' sh' s
+turn_holds tl th m a p cl ch sl sh cl' ch' sl' sh' k e f g h t c s b q =
+    let x = canonical a k.angle_low k.angle_high in
+    let w = within t tl th m (th -ℤ m) a p b k.below (same (th -ℤ m)) k.angle k.least (nn m th k.middle_high) in
+    let v = canonical_is_pair 5 (of_scale 56 a) x.0 x.1 x.2 in
+    let law = sharp_law 5 (of_scale 61 (p -ℤ pos 1)) (mul_r earth_rate t) (of_scale 56 a) c s x.0 x.1 (lit≤ tt) q v w in
+    let held = k.pairs x.0 x.1 v in
+    let d : Rational = add_r (times 2 (of_scale 61 (p -ℤ pos 1))) (two_to_minus 67) in
+    (padded_holds cl ch cl' ch' p c x.0 d e f held.0 law.0 (pad_most p), padded_holds sl sh sl' sh' p s x.1 d g h held.1 law.1 (pad_most p))
+  where
+    same : (z : ℤ) → z ≤ℤ z
+    same z = omega (arith, lins)
+
+    nn : (m h : ℤ) → m ≤ℤ h → pos 0 ≤ℤ (h -ℤ m)
+    nn m h l = omega (arith, lins)
+
+-- ---- sizes: the pair of so small an angle is near (1, 0)
+high_end : (l h w m : ℤ) (q : Rational) → (h -ℤ l) ≤ℤ w → InBox 60 l h q → q ≤ʳ of_scale 60 m → h ≤ℤ (m +ℤ w)
+high_end l h w m q n b k = step (mul_le_cancel l m q.den q.positive (through (l *ℤ pos q.den) (q.num *ℤ pos (2 ^ 60)) (m *ℤ pos q.den) b.0 k))
+  where
+    through : (a b c : ℤ) → a ≤ℤ b → b ≤ℤ c → a ≤ℤ c
+    through a b c h k = omega (arith, lins)
+
+    step : l ≤ℤ m → h ≤ℤ (m +ℤ w)
+    step k = omega (arith, lins)
+
+low_end : (l h w m : ℤ) (q : Rational) → (h -ℤ l) ≤ℤ w → InBox 60 l h q → of_scale 60 m ≤ʳ q → (m -ℤ w) ≤ℤ l
+low_end l h w m q n b k = step (mul_le_cancel m h q.den q.positive (through (m *ℤ pos q.den) (q.num *ℤ pos (2 ^ 60)) (h *ℤ pos q.den) k b.1))
+  where
+    through : (a b c : ℤ) → a ≤ℤ b → b ≤ℤ c → a ≤ℤ c
+    through a b c h k = omega (arith, lins)
+
+    step : m ≤ℤ h → (m -ℤ w) ≤ℤ l
+    step k = omega (arith, lins)
+
+-- from a bound of the negative
+low_of : (m : ℤ) (q : Rational) → neg_r q ≤ʳ of_scale 60 m → of_scale 60 (neg_ℤ m) ≤ʳ q
+low_of m q h = go m q.num (pos q.den) h
+  where
+    go : (m n d : ℤ) → (neg_ℤ n *ℤ pos 1152921504606846976) ≤ℤ (m *ℤ d) → (neg_ℤ m *ℤ d) ≤ℤ (n *ℤ pos 1152921504606846976)
+    go m n d h = cert (m ∷ n ∷ d ∷ []) ((ng (va 1) ⊗ ko (pos 1152921504606846976) ≼ va 0 ⊗ va 2) ∷ []) (ng (va 0) ⊗ va 2) (va 1 ⊗ ko (pos 1152921504606846976)) (hy 0) refl (h, tt)
+
+one_most : add_r (of_whole (pos 1)) (two_to_minus 16) ≤ʳ of_scale 60 (pos 1152939096792891392)
+one_most = le_pos (65537 * 1152921504606846976) (1152939096792891392 * 65536) (lit≤ tt)
+
+pub cos_ends : (a cl ch sl sh : ℤ) → ArePairs a cl ch sl sh → (neg_ℤ (pos 1152939096792891904) ≤ℤ cl) × (ch ≤ℤ pos 1152939096792891904)
+cos_ends a cl ch sl sh k =
+    let x = canonical a k.angle_low k.angle_high in
+    let v = canonical_is_pair 5 (of_scale 56 a) x.0 x.1 x.2 in
+    let n = (size_law_5 (of_scale 56 a) x.0 x.1 v).0 in
+    let b = (k.pairs x.0 x.1 v).0 in
+    let u : Rational = add_r (of_whole (pos 1)) (two_to_minus 16) in
+    let q : Rational = x.0 in (
+      low_end cl ch (pos 512) (neg_ℤ (pos 1152939096792891392)) q k.cos_narrow b (low_of (pos 1152939096792891392) q (≤ʳ_trans (neg_r q) u (of_scale 60 (pos 1152939096792891392)) n.1 one_most)),
+      high_end cl ch (pos 512) (pos 1152939096792891392) q k.cos_narrow b (≤ʳ_trans q u (of_scale 60 (pos 1152939096792891392)) n.0 one_most),
+    )
+
+-- the sine of the canonical pair of 0 is 0
+zero_sine : (k : ℕ) (p : Pair) → p.sin.num ≡ pos 0 → (doubled k p).sin.num ≡ pos 0
+unfolding doubled
+zero_sine zero p h = h
+zero_sine (suc k) p h = ap (λ (z : ℤ). pos 2 *ℤ (z *ℤ (doubled k p).cos.num)) (zero_sine k p h) ∙ none (doubled k p).cos.num
+  where
+    none : (z : ℤ) → pos 2 *ℤ (pos 0 *ℤ z) ≡ pos 0
+    none z = omega (arith, ints)
+
+first_sine : (taylor_pair (part 5 (of_scale 56 (pos 0)))).sin.num ≡ pos 0
+first_sine = omega (arith, ints)
+
+at_zero : (d s e : Rational) → e.num ≡ pos 0 → AreWithin d s e → (s ≤ʳ d) × (neg_r s ≤ʳ d)
+at_zero d s e z w = (
+  zero_right s.num (pos s.den) (pos e.den) d.num (pos d.den) (subst (λ (m : ℤ). (((s.num *ℤ pos e.den) -ℤ (m *ℤ pos s.den)) *ℤ pos d.den) ≤ℤ (d.num *ℤ (pos s.den *ℤ pos e.den))) z w.0) (lt_pos 0 e.den e.positive),
+  zero_left s.num (pos s.den) (pos e.den) d.num (pos d.den) (subst (λ (m : ℤ). (((m *ℤ pos s.den) -ℤ (s.num *ℤ pos e.den)) *ℤ pos d.den) ≤ℤ (d.num *ℤ (pos e.den *ℤ pos s.den))) z w.1) (lt_pos 0 e.den e.positive),
+)
+
+zero_pair : Pair
+zero_pair = doubled 5 (taylor_pair (part 5 (of_scale 56 (pos 0))))
+
+zero_canonical : IsCanonicalPair 5 (of_scale 56 (pos 0)) zero_pair.cos zero_pair.sin
+unfolding zero_pair
+zero_canonical = record { in_range = lit≤ tt; cos_is = refl; sin_is = refl }
+
+zero_is : zero_pair.sin.num ≡ pos 0
+unfolding zero_pair
+zero_is = zero_sine 5 (taylor_pair (part 5 (of_scale 56 (pos 0)))) first_sine
+
+pub sin_ends : (a cl ch sl sh : ℤ) → ArePairs a cl ch sl sh → (neg_ℤ (pos 28024121222816) ≤ℤ sl) × (sh ≤ℤ pos 28024121222816)
+sin_ends a cl ch sl sh k =
+    let x = canonical a k.angle_low k.angle_high in
+    let v = canonical_is_pair 5 (of_scale 56 a) x.0 x.1 x.2 in
+    let b = (k.pairs x.0 x.1 v).1 in
+    let q : Rational = x.1 in
+    let law = canonical_law 5 (of_scale 56 a) (of_scale 56 a) (of_scale 56 (pos 0)) x.0 q zero_pair.cos zero_pair.sin (lit≤ tt) x.2 zero_canonical (near a k.angle_low) in
+    let z = at_zero (times 2 (of_scale 56 a)) q zero_pair.sin zero_is law.1 in
+    let u = small a k.angle_high in (
+      low_end sl sh (pos 512) (neg_ℤ (pos 28024121222304)) q k.sin_narrow b (low_of (pos 28024121222304) q (≤ʳ_trans (neg_r q) (times 2 (of_scale 56 a)) (of_scale 60 (pos 28024121222304)) z.1 u)),
+      high_end sl sh (pos 512) (pos 28024121222304) q k.sin_narrow b (≤ʳ_trans q (times 2 (of_scale 56 a)) (of_scale 60 (pos 28024121222304)) z.0 u),
+    )
+  where
+    near : (a : ℤ) → pos 0 ≤ℤ a → AreWithin (of_scale 56 a) (of_scale 56 a) (of_scale 56 (pos 0))
+    near a h = (omega (arith, ints), omega (arith, ints))
+
+    small : (a : ℤ) → a ≤ℤ pos 875753788197 → times 2 (of_scale 56 a) ≤ʳ of_scale 60 (pos 28024121222304)
+    small a h = omega (arith, ints)
+
+-- ---- the limits of the padded boxes
+pub pad_small : (d p : ℤ) → (d +ℤ d) ≤ℤ pos 192153584101141164 → (pos 4096 *ℤ p) ≤ℤ (d +ℤ pos 139264) → p ≤ℤ pos 23456248059260
+pad_small d p h k = omega (arith, ints)
+
+pub padded_within : (l h l' h' p m n : ℤ) → l' ≡ l -ℤ p → h' ≡ h +ℤ p → neg_ℤ m ≤ℤ l → h ≤ℤ m → p ≤ℤ pos 23456248059260 → (m +ℤ pos 23456248059260) ≤ℤ n → (neg_ℤ n ≤ℤ l') × (h' ≤ℤ n)
+padded_within l h l' h' p m n el eh ml mh k o = (omega (arith, ints), omega (arith, ints))
+
+-- the width of a padded box of 512 units
+pub padded_width : (l h l' h' p d t w : ℤ) → l' ≡ l -ℤ p → h' ≡ h +ℤ p → (h -ℤ l) ≤ℤ pos 512 → (pos 4096 *ℤ p) ≤ℤ (d +ℤ pos 139264) → (d +ℤ d) ≤ℤ (t +ℤ pos 1) → (t +ℤ pos (580 * 2 ^ 12 + 1)) ≤ℤ (pos (2 ^ 12) *ℤ w) → (h' -ℤ l') ≤ℤ w
+padded_width l h l' h' p d t w el eh n k j o = omega (arith, ints)
+
+pub point_holds : (x l h : ℤ) → l ≡ x → h ≡ x → InBox 56 l h (of_scale 56 x)
+point_holds x l h e f = (omega (arith, ints), omega (arith, ints))
+
+-- ---- from the values of the code, read with casts, to plain ones
+pub plain_radius : (m h : ℤ) → pos 0 ≤ℤ m → m ≤ℤ h → h ≤ℤ pos 192153584101141163 → to_z w64 (of_z w64 (to_z w64 (of_z w64 h) -ℤ to_z w64 (of_z w64 m))) ≡ h -ℤ m
+plain_radius m h a b c = omega (arith, ints)

@@ -1,0 +1,111 @@
+-- What a receiver sees after a travel time of a box, and the place in the boxes from which their sizes follow.
+use Rattle.std.proofs.Common.{◌≡◌, ◌*◌, ◌^◌, ◌≤◌, [], ◌∷◌, ℤ, pos, ◌+ℤ◌, ◌-ℤ◌, ◌*ℤ◌, ◌≤ℤ◌, unsigned_abs, arith, refl}
+use Rattle.std.proofs.lemmas.Int.{ints}
+use Rattle.whole_math.proofs.Ring.{va, ko, ◌⊕◌, ◌⊖◌, ◌⊗◌}
+use Rattle.whole_math.proofs.Certificates.{◌≼◌, hy, ◌⊞◌}
+use Rattle.rational.specs.Rational.{Rational, ◌≈◌, ◌≤ʳ◌, of_whole, of_scale, mul_r, sub_r, InBox}
+use Rattle.rational.proofs.Boxes.{InBox-along, end_in}
+use Rattle.rational.proofs.Laws.{≈_sym}
+use Rattle.travel_model.proofs.Orders.{cert_r}
+use Rattle.iv_core.specs.declared.Iv.{Iv}
+use Rattle.iv_core.specs.Intervals.{Holds, width_of}
+use Rattle.trig_box.specs.AnglePairs.{Pair, InRange, IsAnglePair}
+use Rattle.trig_box.proofs.PairLaws.{canonical_exists, canonical_is_pair}
+use Rattle.orbit_model.specs.Elements.{earth_rate}
+use Rattle.orbit_model.specs.Places.{IsBetweenDistances}
+use Rattle.travel_model.specs.SeenPlaces.{Place, difference, square, turned_back, point_of, AreSamePlace, IsSentPlace, IsReceiverPlace}
+use Rattle.travel_model.proofs.Apart.{IsBetween, turned_square, loosely, vector_square}
+use Rattle.travel_model.proofs.Distances.{place_far, place_near}
+use Rattle.signal_travel.specs.declared.places.VectorBox.{VectorBox}
+use Rattle.signal_travel.specs.declared.places.Point.{Point}
+use Rattle.signal_travel.specs.VectorBoxes.{HoldsVector, IsVectorAtMostWide, HasVectorBetween}
+use Rattle.signal_travel.proofs.PlaceBoxes.{low_held}
+
+-- equal places lie in the same boxes
+pub held_along : (b : VectorBox) (p q : Place) → AreSamePlace p q → HoldsVector b q → HoldsVector b p
+held_along b p q e h = (
+  InBox-along 36 b.x.lo b.x.hi q.x p.x (≈_sym p.x q.x e.0) h.0,
+  InBox-along 36 b.y.lo b.y.hi q.y p.y (≈_sym p.y q.y e.1) h.1,
+  InBox-along 36 b.z.lo b.z.hi q.z p.z (≈_sym p.z q.z e.2) h.2,
+)
+
+-- the place of the lower ends
+pub lowest : VectorBox → Place
+lowest b = record { x = of_scale 36 b.x.lo; y = of_scale 36 b.y.lo; z = of_scale 36 b.z.lo }
+
+pub lowest_held : (b : VectorBox) → HoldsVector b (lowest b)
+unfolding lowest
+lowest_held b = (low_held b.x, low_held b.y, low_held b.z)
+
+pub lowest_sent : (b : VectorBox) → IsBetweenDistances 19000000 38000000 b.x b.y b.z → IsSentPlace (lowest b)
+unfolding lowest
+lowest_sent b away = away (of_scale 36 b.x.lo) (of_scale 36 b.y.lo) (of_scale 36 b.z.lo) (low_held b.x) (low_held b.y) (low_held b.z)
+
+-- a point is a receiver's place
+pub point_place : (p : Point) → IsReceiverPlace (point_of p.x p.y p.z)
+point_place p = go (p.x *ℤ p.x) (p.y *ℤ p.y) (p.z *ℤ p.z) p.far p.near
+  where
+    go : (a b c : ℤ) → pos 3600000000000000000000 ≤ℤ ((a +ℤ b) +ℤ c) → ((a +ℤ b) +ℤ c) ≤ℤ pos 4900000000000000000000 →
+        ((pos 36000000000000 *ℤ pos 1000000000000000000000000) ≤ℤ (((((a *ℤ pos 100000000) +ℤ (b *ℤ pos 100000000)) *ℤ pos 100000000) +ℤ (c *ℤ pos 10000000000000000)) *ℤ pos 1))
+        × ((((((a *ℤ pos 100000000) +ℤ (b *ℤ pos 100000000)) *ℤ pos 100000000) +ℤ (c *ℤ pos 10000000000000000)) *ℤ pos 1) ≤ℤ (pos 49000000000000 *ℤ pos 1000000000000000000000000))
+    go a b c h k = (omega (arith, ints), omega (arith, ints))
+
+-- a travel time of the box has a pair of the Earth's turn
+record IsSomeTurn (t : Rational) : Type 0 where
+  pub turn : Pair
+  pub is_pair : IsAnglePair 5 (mul_r earth_rate t) turn.cos turn.sin
+
+some_turn : (l : ℤ) → pos 0 ≤ℤ l → l ≤ℤ pos 192153584101141163 → IsSomeTurn (of_scale 60 l)
+some_turn l h k =
+    let x = canonical_exists 5 (mul_r earth_rate (of_scale 60 l)) (go l h k) in
+    record { turn = record { cos = x.0; sin = x.1 }; is_pair = canonical_is_pair 5 (mul_r earth_rate (of_scale 60 l)) x.0 x.1 x.2 }
+  where
+    go : (l : ℤ) → pos 0 ≤ℤ l → l ≤ℤ pos 192153584101141163 → 2 * unsigned_abs (pos 72921151467 *ℤ l) ≤ 2 ^ 5 * (10 ^ 15 * 2 ^ 60)
+    go l h k = omega (arith, ints)
+
+-- a place in the box of turned places, with its distance from the Earth's centre
+pub record HasTurned (b : VectorBox) : Type 0 where
+  pub place : Place
+  pub held : HoldsVector b place
+  pub bounds : IsBetween 360990000000000 1444030000000000 (square place)
+
+pub turned_in : (sent b : VectorBox) (tl th : ℤ) → IsBetweenDistances 19000000 38000000 sent.x sent.y sent.z → pos 0 ≤ℤ tl → tl ≤ℤ th → th ≤ℤ pos 192153584101141163 →
+    ((t : Rational) (pair : Pair) → InBox 60 tl th t → IsAnglePair 5 (mul_r earth_rate t) pair.cos pair.sin → (p : Place) → HoldsVector sent p → HoldsVector b (turned_back pair p)) → HasTurned b
+turned_in sent b tl th away t0 o t1 holds =
+    let s = some_turn tl t0 (through tl th o t1) in
+    let p : Place = lowest sent in
+    record {
+      place = turned_back s.turn p;
+      held = holds (of_scale 60 tl) s.turn (end_in 60 tl th tl (same tl) o) s.is_pair p (lowest_held sent);
+      bounds = turned_square p (mul_r earth_rate (of_scale 60 tl)) s.turn (lowest_sent sent away) s.is_pair;
+    }
+  where
+    same : (z : ℤ) → z ≤ℤ z
+    same z = omega (arith, ints)
+
+    through : (a b : ℤ) → a ≤ℤ b → b ≤ℤ pos 192153584101141163 → a ≤ℤ pos 192153584101141163
+    through a b h k = omega (arith, ints)
+
+-- the vector from the point to it
+pub between : (b v : VectorBox) (p : Point) → HasTurned b → ((q : Place) → HoldsVector b q → HoldsVector v (difference q (point_of p.x p.y p.z))) → HasVectorBetween 141000000000000 2040000000000000 v
+between b v p h holds =
+    let s = vector_square h.place (point_of p.x p.y p.z) (loosely (square h.place) h.bounds) (point_place p) in
+    record { vector = difference h.place (point_of p.x p.y p.z); held = holds h.place h.held; far = s.low; near = s.high }
+
+-- ---- two places in a narrow box are near each other
+apart : (a x h l : Rational) → a ≤ʳ h → l ≤ʳ x → sub_r h l ≤ʳ of_whole (pos 1) → sub_r a x ≤ʳ of_whole (pos 1)
+apart a x h l i j k = cert_r (a ∷ x ∷ h ∷ l ∷ []) ((va 0 ≼ va 2) ∷ (va 3 ≼ va 1) ∷ (va 2 ⊖ va 3 ≼ ko (pos 1)) ∷ []) (va 0 ⊖ va 1) (ko (pos 1)) (hy 0 ⊞ hy 1 ⊞ hy 2) refl (i, (j, (k, tt)))
+
+near : (b : Iv 36) (p q : Rational) → width_of b ≤ℤ pos (2 ^ 19) → Holds b p → Holds b q → sub_r p q ≤ʳ of_whole (pos 1)
+near b p q w h k = apart p q (of_scale 36 b.hi) (of_scale 36 b.lo) h.1 k.0 (go b.lo b.hi w)
+  where
+    go : (l h : ℤ) → (h -ℤ l) ≤ℤ pos 524288 → (((h *ℤ pos 68719476736) -ℤ (l *ℤ pos 68719476736)) *ℤ pos 1) ≤ℤ (pos 1 *ℤ pos (68719476736 * 68719476736))
+    go l h w = omega (arith, ints)
+
+pub all_away : (b : VectorBox) → HasTurned b → IsVectorAtMostWide (pos (2 ^ 19)) b → IsBetweenDistances 18900000 38100000 b.x b.y b.z
+all_away b r n x y z ix iy iz =
+    let p : Place = r.place in
+    let k = r.held in (
+      place_far p.x p.y p.z x y z r.bounds.low r.bounds.high (near b.x x p.x n.0 ix k.0) (near b.x p.x x n.0 k.0 ix) (near b.y y p.y n.1 iy k.1) (near b.y p.y y n.1 k.1 iy) (near b.z z p.z n.2 iz k.2) (near b.z p.z z n.2 k.2 iz),
+      place_near p.x p.y p.z x y z r.bounds.low r.bounds.high (near b.x x p.x n.0 ix k.0) (near b.x p.x x n.0 k.0 ix) (near b.y y p.y n.1 iy k.1) (near b.y p.y y n.1 k.1 iy) (near b.z z p.z n.2 iz k.2) (near b.z p.z z n.2 k.2 iz),
+    )

@@ -1,0 +1,94 @@
+// The travel time, from a box of it to a narrower one.
+ghost use Rattle.std.specs.Prelude.{◌≡◌, ◌+◌, ◌*◌, ◌^◌, ℤ, pos, ◌+ℤ◌, ◌*ℤ◌, ◌≤ℤ◌};
+ghost use Rattle.rational.specs.Rational.{Rational};
+ghost use Rattle.iv_core.specs.Intervals.{Holds, width_of, IsWithin};
+ghost use Rattle.orbit_model.specs.Places.{IsBetweenDistances};
+ghost use Rattle.travel_model.specs.SeenPlaces.{Place, point_of, IsSeenPlace, range_of};
+ghost use Rattle.signal_travel.specs.VectorBoxes.{HoldsVector, IsVectorWithin, IsVectorAtMostWide, IsTravel};
+
+use crate::places::{Point, VectorBox};
+use crate::sent::SentBox;
+use crate::turns::{turn_in, turned_box};
+use crate::vectors::{length_of, vector_from};
+use iv_core::Iv;
+
+const LIGHT_SPEED: i64 = 299_792_458;
+
+// The time in which light goes so far
+fn time_over(range: &Iv<36>) -> Iv<60>
+    requires low { pos 0 ≤ℤ range.now.lo }
+    requires high { range.now.hi ≤ℤ pos (45200000 * 2 ^ 36) }
+    ensures holds { (t : Rational) → Holds range.now (range_of t) → Holds result t }
+    ensures travel { IsTravel result }
+    ensures width { (pos 299792458 *ℤ width_of result) ≤ℤ ((pos (2 ^ 24) *ℤ width_of range.now) +ℤ pos (2 * 299792458)) }
+{
+    let speed: Iv<0> = Iv::from_ends(LIGHT_SPEED, LIGHT_SPEED);
+    range.div_to::<0, 60>(&speed).unwrap()
+}
+
+/// Where a receiver sees what was sent from a place, after which time.
+#[derive(Clone, Copy)]
+pub struct Sight {
+    pub place: VectorBox,
+    pub range: Iv<36>,
+    pub travel: Iv<60>,
+}
+
+/// The sights at the point after the travel times of the box.
+pub fn sight_after(sent: &SentBox, point: &Point, travel: &Iv<60>) -> Sight
+    requires { IsTravel travel.now }
+    ensures place { (p seen : Place) (t : Rational) → HoldsVector sent.now.place p → Holds travel.now t →
+        IsSeenPlace p (point_of point.now.x point.now.y point.now.z) t seen → HoldsVector result.place seen }
+    ensures range { (p seen : Place) (t : Rational) → HoldsVector sent.now.place p → Holds travel.now t →
+        IsSeenPlace p (point_of point.now.x point.now.y point.now.z) t seen → Holds result.range (range_of t) }
+    ensures time { (p seen : Place) (t : Rational) → HoldsVector sent.now.place p → Holds travel.now t →
+        IsSeenPlace p (point_of point.now.x point.now.y point.now.z) t seen → Holds result.travel t }
+    ensures travel { IsTravel result.travel }
+    ensures far { pos (10000000 * 2 ^ 36) ≤ℤ result.range.lo }
+
+    // A coordinate is at most 264,813 units and a 452nd of half the time's width wide.
+    ensures width { (w : ℤ) → (width_of travel.now +ℤ pos (904 * 264813)) ≤ℤ (pos 904 *ℤ w) → IsVectorAtMostWide w result.place }
+    ensures range_width { (w : ℤ) → (width_of travel.now +ℤ pos (904 * 264813)) ≤ℤ (pos 904 *ℤ w) →
+        (pos 4 *ℤ width_of result.range) ≤ℤ ((pos 7 *ℤ w) +ℤ pos 807) }
+    ensures time_width { (pos 299792458 *ℤ width_of result.travel) ≤ℤ ((pos (2 ^ 24) *ℤ width_of result.range) +ℤ pos (2 * 299792458)) }
+    ensures away { IsVectorAtMostWide (pos (2 ^ 19)) result.place →
+        IsBetweenDistances 18900000 38100000 result.place.x result.place.y result.place.z }
+{
+    let turn = turn_in(travel);
+    let place = turned_box(&turn, sent);
+    let vector = vector_from(point, &place);
+    let range = length_of(&vector);
+    let travel = time_over(&range);
+    Sight {
+        place,
+        range,
+        travel,
+    }
+}
+
+// From 0 to 1/6 s: every travel time that there is
+fn any_travel() -> Iv<60>
+    ensures lo { result.lo ≡ pos 0 }
+    ensures hi { result.hi ≡ pos 192153584101141163 }
+{
+    Iv::from_ends(0, 192_153_584_101_141_163)
+}
+
+/// The sights at the point.
+pub fn sight_of(sent: &SentBox, point: &Point) -> Sight
+    ensures place { (p seen : Place) (t : Rational) → HoldsVector sent.now.place p →
+        IsSeenPlace p (point_of point.now.x point.now.y point.now.z) t seen → HoldsVector result.place seen }
+    ensures range { (p seen : Place) (t : Rational) → HoldsVector sent.now.place p →
+        IsSeenPlace p (point_of point.now.x point.now.y point.now.z) t seen → Holds result.range (range_of t) }
+    ensures time { (p seen : Place) (t : Rational) → HoldsVector sent.now.place p →
+        IsSeenPlace p (point_of point.now.x point.now.y point.now.z) t seen → Holds result.travel t }
+    ensures narrow { IsVectorAtMostWide (pos (2 ^ 19)) result.place }
+    ensures range_narrow { width_of result.range ≤ℤ pos (2 ^ 19) }
+    ensures far { pos (10000000 * 2 ^ 36) ≤ℤ result.range.lo }
+    ensures away { IsBetweenDistances 18900000 38100000 result.place.x result.place.y result.place.z }
+{
+    let first = sight_after(sent, point, &any_travel());
+    let second = sight_after(sent, point, &first.travel);
+    let third = sight_after(sent, point, &second.travel);
+    sight_after(sent, point, &third.travel)
+}

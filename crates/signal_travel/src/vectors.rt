@@ -1,0 +1,103 @@
+// The vector from a point to a place, and its length.
+ghost use Rattle.std.specs.Prelude.{◌≡◌, ℕ, ◌+◌, ◌*◌, ◌^◌, ◌≤◌, ℤ, pos, ◌+ℤ◌, ◌-ℤ◌, ◌*ℤ◌, ◌≤ℤ◌, unsigned_abs};
+ghost use Rattle.whole_math.specs.Rounding.{floor_div, ceil_div};
+ghost use Rattle.rational.specs.Rational.{Rational, sub_r, mul_r, IsNearRoot};
+ghost use Rattle.iv_core.specs.Boxes.{near_end, far_end};
+ghost use Rattle.iv_core.specs.Intervals.{Holds, width_of, IsWithin};
+ghost use Rattle.travel_model.specs.SeenPlaces.{Place, square};
+ghost use Rattle.signal_travel.specs.VectorBoxes.{coordinate_of, HoldsVector, IsVectorWithin, AreEndsWithin, IsVectorAtMostWide, HasVectorBetween, near_square, far_square};
+
+use crate::places::{Point, VectorBox};
+use iv_core::Iv;
+
+// A coordinate in units of 0.1 mm
+fn coordinate_box(coordinate: i64) -> Iv<36>
+    requires { unsigned_abs coordinate ≤ 70000000000 }
+    ensures holds { Holds result (coordinate_of coordinate) }
+    ensures size { IsWithin (7000001 * 2 ^ 36) result }
+    ensures width { width_of result ≤ℤ pos 1 }
+{
+    Iv::ratio(coordinate as i128, 10_000).unwrap()
+}
+
+// x less a coordinate in units of 0.1 mm
+fn offset_from(x: &Iv<36>, coordinate: i64) -> Iv<36>
+    requires x_size { IsWithin (38100000 * 2 ^ 36) x.now }
+    requires size { unsigned_abs coordinate ≤ 70000000000 }
+    ensures holds { (q : Rational) → Holds x.now q → Holds result (sub_r q (coordinate_of coordinate)) }
+    ensures size { IsWithin (45200000 * 2 ^ 36) result }
+    ensures width { width_of result ≤ℤ (width_of x.now +ℤ pos 1) }
+{
+    x.sub(&coordinate_box(coordinate)).unwrap()
+}
+
+/// The place less the point.
+pub fn vector_from(point: &Point, place: &VectorBox) -> VectorBox
+    requires { IsVectorWithin (38100000 * 2 ^ 36) place.now }
+    ensures holds { (p : Place) → HoldsVector place.now p → HoldsVector result (record {
+      x = sub_r p.x (coordinate_of point.now.x);
+      y = sub_r p.y (coordinate_of point.now.y);
+      z = sub_r p.z (coordinate_of point.now.z);
+    }) }
+    ensures size { IsVectorWithin (45200000 * 2 ^ 36) result }
+    ensures width { (w : ℤ) → IsVectorAtMostWide w place.now → IsVectorAtMostWide (w +ℤ pos 1) result }
+{
+    VectorBox {
+        x: offset_from(&place.x, point.x),
+        y: offset_from(&place.y, point.y),
+        z: offset_from(&place.z, point.z),
+    }
+}
+
+fn square_of(x: &Iv<36>) -> Iv<9>
+    requires { IsWithin (45200000 * 2 ^ 36) x.now }
+    ensures holds { (q : Rational) → Holds x.now q → Holds result (mul_r q q) }
+    ensures lo { result.lo ≡ floor_div (near_end x.now.lo x.now.hi *ℤ near_end x.now.lo x.now.hi) (2 ^ 63) }
+    ensures hi { result.hi ≡ ceil_div (far_end x.now.lo x.now.hi *ℤ far_end x.now.lo x.now.hi) (2 ^ 63) }
+    ensures low { pos 0 ≤ℤ result.lo }
+    ensures high { result.hi ≤ℤ pos (45200000 * 45200000 * 2 ^ 9) }
+{
+    x.square_to::<9>().unwrap()
+}
+
+// x² + y² + z²
+fn squared_length(v: &VectorBox) -> Iv<9>
+    requires { IsVectorWithin (45200000 * 2 ^ 36) v.now }
+    ensures holds { (p : Place) → HoldsVector v.now p → Holds result (square p) }
+    ensures low { pos 0 ≤ℤ result.lo }
+    ensures near { near_square v.now ≤ℤ (pos (2 ^ 63) *ℤ (result.lo +ℤ pos 3)) }
+    ensures far { (pos (2 ^ 63) *ℤ (result.hi -ℤ pos 3)) ≤ℤ far_square v.now }
+{
+    let x = square_of(&v.x);
+    let y = square_of(&v.y);
+    let z = square_of(&v.z);
+    x.add(&y).unwrap().add(&z).unwrap()
+}
+
+// From units of 2^-34 to units of 2^-36
+fn in_quarters(root: &Iv<34>) -> Iv<36>
+    requires low { pos 0 ≤ℤ root.now.lo }
+    requires high { root.now.hi ≤ℤ pos (2 ^ 60) }
+    ensures lo { result.lo ≡ pos 4 *ℤ root.now.lo }
+    ensures hi { result.hi ≡ pos 4 *ℤ root.now.hi }
+{
+    Iv::from_ends(4 * root.lo, 4 * root.hi)
+}
+
+/// The length of the vector, at least 10,000 km.
+pub fn length_of(v: &VectorBox) -> Iv<36>
+    requires size { IsVectorWithin (45200000 * 2 ^ 36) v.now }
+    requires narrow { IsVectorAtMostWide (pos (2 ^ 48)) v.now }
+    requires between { HasVectorBetween 141000000000000 2040000000000000 v.now }
+    ensures holds { (p : Place) (r : Rational) → HoldsVector v.now p → IsNearRoot r (square p) → Holds result r }
+    ensures far { pos (10000000 * 2 ^ 36) ≤ℤ result.lo }
+    ensures near { result.hi ≤ℤ pos (45200000 * 2 ^ 36) }
+
+    // At most 7/4 of a coordinate's width, and rounding.
+    ensures width { (w : ℤ) → IsVectorAtMostWide w v.now → (pos 4 *ℤ width_of result) ≤ℤ ((pos 7 *ℤ w) +ℤ pos 800) }
+
+    // No end of a coordinate is longer than the vector's least length, but for its width and rounding.
+    ensures reach { (w : ℤ) → IsVectorAtMostWide w v.now → AreEndsWithin ((result.lo +ℤ pos 80) +ℤ w) v.now }
+{
+    in_quarters(&squared_length(v).root_to::<34>())
+}
