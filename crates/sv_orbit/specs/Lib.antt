@@ -1,1 +1,1 @@
-pub mod Solutions
+pub mod Worlds
