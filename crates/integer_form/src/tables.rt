@@ -1,9 +1,15 @@
-//! The factors of the baseline's columns in a table of all factors.
-ghost use Rattle.std.specs.Prelude.{◌≡◌, ◌≢◌, ◌⊎◌, ℕ, ◌<◌, ◌≤◌};
+//! The factors of the baseline's columns in a table of all factors, and whether a table is that of a form.
+ghost use Rattle.std.specs.Prelude.{◌≡◌, ◌≢◌, ◌⊎◌, ℕ, ◌^◌, ◌<◌, ◌≤◌, true, pos, unsigned_abs};
 ghost use Rattle.obs_rows.specs.Tables.{entry, IsZeroOutside};
 ghost use Rattle.obs_rows.specs.declared.units.TheConstants.{BASELINE_COLUMNS, MOST_COLUMNS};
+ghost use Rattle.normal_sum.specs.Matrices.{IsSymmetric, EntriesBelow};
 
-use obs_rows::{BASELINE_COLUMNS, FactorTable, FrontTable, MOST_COLUMNS};
+use obs_rows::{
+    BASELINE_COLUMNS, FactorTable, FormTable, FrontTable, MOST_COLUMNS, MOST_FORM_COLUMNS,
+};
+
+/// Every entry of a form is below this in size.
+const LIMIT: i64 = 1 << 52;
 
 /// Writes row r of the factors of the baseline's columns into a table of all factors.
 fn copy_factors_back(front: &FrontTable, factors: &mut FactorTable, r: usize)
@@ -26,4 +32,39 @@ pub fn factor_table(front: &FrontTable) -> FactorTable
         copy_factors_back(front, &mut factors, r);
     }
     factors
+}
+
+/// Whether row r of a table is that of a form of n columns: below 2^52 in size, the same across the diagonal, and 0
+/// outside the columns.
+fn is_form_row(p: &FormTable, r: usize, n: usize) -> bool
+    requires row_in { r < MOST_FORM_COLUMNS }
+    ensures symmetric { result ≡ true → (c : ℕ) → c < MOST_FORM_COLUMNS → entry p.now r c ≡ entry p.now c r }
+    ensures small { result ≡ true → (c : ℕ) → c < MOST_FORM_COLUMNS → unsigned_abs (entry p.now r c) < 2 ^ 52 }
+    ensures outside { result ≡ true → (c : ℕ) → c < MOST_FORM_COLUMNS → (n ≤ r) ⊎ (n ≤ c) → entry p.now r c ≡ pos 0 }
+{
+    for c in 0..MOST_FORM_COLUMNS {
+        let entry = p.at(r, c);
+        let is_inside = r < n && c < n;
+        if entry != p.at(c, r) || entry <= -LIMIT || entry >= LIMIT || (!is_inside && entry != 0) {
+            return false;
+        }
+    }
+    true
+}
+
+/// Whether a table is the matrix of a form of n columns: symmetric, its entries below 2^52 in size, and 0 outside the
+/// columns.
+pub fn is_form_table(p: &FormTable, n: usize) -> bool
+    ensures symmetric { result ≡ true → IsSymmetric p.now }
+    ensures entries { result ≡ true → EntriesBelow (2 ^ 52) p.now }
+    ensures outside { result ≡ true → IsZeroOutside n n p.now }
+{
+    // A read tells the shape of the table, so that nothing stands behind its ends.
+    let _first = p.at(0, 0);
+    for r in 0..MOST_FORM_COLUMNS {
+        if !is_form_row(p, r, n) {
+            return false;
+        }
+    }
+    true
 }
