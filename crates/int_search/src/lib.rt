@@ -22,4 +22,6 @@ pub use search::{plain_best, two_best};
 #[cfg(test)]
 mod cases;
 #[cfg(test)]
+mod session_cases;
+#[cfg(test)]
 mod tests;

@@ -3,7 +3,8 @@ ghost use Rattle.obs_rows.specs.declared.units.TheConstants.{MOST_INTEGERS, MOST
 ghost use Rattle.obs_rows.specs.Tables.{IsZeroOutside};
 ghost use Rattle.normal_sum.specs.Matrices.{IsSymmetric, EntriesBelow};
 
-use crate::cases::{Case, SESSIONS, SMALL};
+use crate::cases::{Case, SMALL};
+use crate::session_cases::SESSIONS;
 use crate::{SearchFault, plain_best, two_best};
 use integer_form::{Form, FrontForm};
 use lower_form::finish;
