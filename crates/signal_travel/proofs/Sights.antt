@@ -1,15 +1,15 @@
 -- What a receiver sees after a travel time of a box, and the place in the boxes from which their sizes follow.
-use Rattle.std.proofs.Common.{◌≡◌, ◌*◌, ◌^◌, ◌≤◌, [], ◌∷◌, ℤ, pos, ◌+ℤ◌, ◌-ℤ◌, ◌*ℤ◌, ◌≤ℤ◌, unsigned_abs, arith, refl}
+use Rattle.std.proofs.Common.{◌*◌, ◌^◌, ◌≤◌, [], ◌∷◌, ℤ, pos, ◌+ℤ◌, ◌-ℤ◌, ◌*ℤ◌, ◌≤ℤ◌, unsigned_abs, arith, refl}
 use Rattle.std.proofs.lemmas.Int.{ints}
-use Rattle.whole_math.proofs.Ring.{va, ko, ◌⊕◌, ◌⊖◌, ◌⊗◌}
+use Rattle.whole_math.proofs.Ring.{va, ko, ◌⊖◌}
 use Rattle.whole_math.proofs.Certificates.{◌≼◌, hy, ◌⊞◌}
-use Rattle.rational.specs.Rational.{Rational, ◌≈◌, ◌≤ʳ◌, of_whole, of_scale, mul_r, sub_r, InBox}
+use Rattle.rational.specs.Rational.{Rational, ◌≤ʳ◌, of_whole, of_scale, mul_r, sub_r, InBox}
 use Rattle.rational.proofs.Boxes.{InBox-along, end_in}
 use Rattle.rational.proofs.Laws.{≈_sym}
 use Rattle.travel_model.proofs.Orders.{cert_r}
 use Rattle.iv_core.specs.declared.Iv.{Iv}
 use Rattle.iv_core.specs.Intervals.{Holds, width_of}
-use Rattle.trig_box.specs.AnglePairs.{Pair, InRange, IsAnglePair}
+use Rattle.trig_box.specs.AnglePairs.{Pair, IsAnglePair}
 use Rattle.trig_box.proofs.PairLaws.{canonical_exists, canonical_is_pair}
 use Rattle.orbit_model.specs.Elements.{earth_rate}
 use Rattle.orbit_model.specs.Places.{IsBetweenDistances}

@@ -1,5 +1,5 @@
 -- The distances of seen places, from the laws of pairs.
-use Rattle.std.proofs.Common.{◌≡◌, ℕ, ◌*◌, ◌^◌, ◌≤◌, ℤ, pos, ◌*ℤ◌, ◌≤ℤ◌, arith, lit≤}
+use Rattle.std.proofs.Common.{ℕ, ◌≤◌, pos, ◌*ℤ◌, ◌≤ℤ◌, arith, lit≤}
 use Rattle.std.proofs.lemmas.Int.{ints}
 use Rattle.whole_math.proofs.Order.{le_pos}
 use Rattle.rational.specs.Rational.{Rational, ◌≤ʳ◌, of_whole, mul_r, two_to_minus}

@@ -1,18 +1,18 @@
 -- Every sent place is seen: a travel time is found by bisection, with canonical pairs.
-use Rattle.std.proofs.Common.{◌≡◌, ℕ, zero, suc, ◌+◌, ◌*◌, ◌^◌, ◌≤◌, ◌<◌, ◌⊎◌, inl, inr, [], ◌∷◌, ℤ, pos, negsuc, ◌*ℤ◌, ◌≤ℤ◌, unsigned_abs, arith, refl, sym, subst, ap, ◌∙◌, lit<, lit≤, mul-pos}
+use Rattle.std.proofs.Common.{◌≡◌, ℕ, zero, suc, ◌*◌, ◌^◌, ◌≤◌, ◌⊎◌, inl, inr, [], ◌∷◌, ℤ, pos, ◌*ℤ◌, ◌≤ℤ◌, unsigned_abs, arith, refl, lit<, lit≤}
 use Rattle.std.proofs.lemmas.Int.{ints}
 use Rattle.whole_math.proofs.Ring.{va, ko, ◌⊕◌, ◌⊖◌, ◌⊗◌, ng}
 use Rattle.whole_math.proofs.Certificates.{◌≼◌, hy, nm, sq, ◌⊞◌, ◌⊠◌}
 use Rattle.whole_math.proofs.Inequalities.{same_by, nat}
 use Rattle.whole_math.proofs.Order.{le_pos}
 use Rattle.whole_math.proofs.Powers.{pow_suc}
-use Rattle.rational.specs.Rational.{Rational, ◌≈◌, ◌≤ʳ◌, of_whole, add_r, sub_r, mul_r, neg_r, times, divided, two_to_minus, AreWithin, IsAtMostInSize, IsNearRoot}
-use Rattle.rational.proofs.Laws.{≤ʳ_total, ≤ʳ_trans, ≤ʳ_from_same, ≤ʳ_along, ≈_sym, of_whole-mul, square_r-nonneg}
+use Rattle.rational.specs.Rational.{Rational, ◌≈◌, ◌≤ʳ◌, of_whole, add_r, sub_r, mul_r, neg_r, times, divided, two_to_minus, AreWithin, IsAtMostInSize}
+use Rattle.rational.proofs.Laws.{≤ʳ_total, ≤ʳ_trans, ≤ʳ_from_same, ≈_sym}
 use Rattle.travel_model.proofs.Orders.{cert_r, cancel_r, root_r}
-use Rattle.trig_box.specs.AnglePairs.{Pair, doubled, taylor_pair, part, InRange, IsCanonicalPair, IsAnglePair}
-use Rattle.trig_box.proofs.PairLaws.{canonical_law, canonical_is_pair, norm_law_5, size_law_5}
+use Rattle.trig_box.specs.AnglePairs.{Pair, doubled, taylor_pair, part, IsCanonicalPair}
+use Rattle.trig_box.proofs.PairLaws.{canonical_law, canonical_is_pair, size_law_5}
 use Rattle.orbit_model.specs.Elements.{earth_rate}
-use Rattle.travel_model.specs.SeenPlaces.{Place, difference, square, turned_back, over_light_speed_squared, IsSeenPlace, HasSeenPlace, IsSentPlace, IsReceiverPlace, range_of}
+use Rattle.travel_model.specs.SeenPlaces.{Place, difference, square, turned_back, HasSeenPlace, IsSentPlace, IsReceiverPlace, range_of}
 use Rattle.travel_model.proofs.NearRoots.{near_root, travel_root}
 use Rattle.travel_model.proofs.Apart.{IsBetween, turned_square, loosely, vector_square}
 
@@ -133,7 +133,6 @@ pub slower_back : (a b w : Rational) → a ≤ʳ b → (of_whole (pos 0)) ≤ʳ 
 slower_back a b w h0 h1 =
     cert_r (a ∷ b ∷ w ∷ []) (((va 0) ≼ (va 1)) ∷ ((ko (pos 0)) ≼ (va 2)) ∷ []) (((va 2) ⊗ (va 0)) ⊖ ((va 2) ⊗ (va 1))) ((va 1) ⊖ (va 0)) ((hy 0) ⊞ ((hy 1) ⊠ (hy 0))) refl (h0, (h1, tt))
 
-
 -- ---- the pair by which the Earth turns in a time, and what is seen after it
 abbrev pair_at : Rational → Pair
 pair_at t = doubled 5 (taylor_pair (part 5 (mul_r earth_rate t)))
@@ -169,7 +168,6 @@ coordinates x y z b h =
 pub range_nn : (b : Rational) → (of_whole (pos 0)) ≤ʳ b → (of_whole (pos 0)) ≤ʳ (mul_r (of_whole (pos 299792458)) b)
 range_nn b h0 =
     cert_r (b ∷ []) (((ko (pos 0)) ≼ (va 0)) ∷ []) (ko (pos 0)) ((ko (pos 299792458)) ⊗ (va 0)) ((nm 299792458) ⊠ (hy 0)) refl (h0, tt)
-
 
 both_within : (d p q : Rational) → AreWithin (times 2 d) p q → (sub_r p q ≤ʳ mul_r (of_whole (pos 2)) d) × (sub_r q p ≤ʳ mul_r (of_whole (pos 2)) d)
 both_within d p q h = (≤ʳ_trans (sub_r p q) (times 2 d) (mul_r (of_whole (pos 2)) d) h.0 twice, ≤ʳ_trans (sub_r q p) (times 2 d) (mul_r (of_whole (pos 2)) d) h.1 twice)

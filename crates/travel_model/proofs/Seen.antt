@@ -1,6 +1,5 @@
 -- What holds of every seen place.
-use Rattle.std.proofs.Common.{[], ◌∷◌, ◌*◌, ℤ, pos, ◌*ℤ◌, neg_ℤ, ◌≡◌, ap, sym, refl, lit≤}
-use Rattle.whole_math.proofs.IntLaws.{neg_mul_ℤ}
+use Rattle.std.proofs.Common.{pos, refl, lit≤}
 use Rattle.rational.specs.Rational.{Rational, ◌≈◌, ◌≤ʳ◌, of_whole, add_r, sub_r, mul_r, neg_r}
 use Rattle.rational.proofs.Laws.{≈_sym, ≈_trans, ≤ʳ_trans, ≤ʳ_along, add_r-same, add_r-comm, mul_r-same, mul_r-comm, sub_r-is}
 use Rattle.travel_model.proofs.Orders.{root_r}

@@ -1,10 +1,9 @@
-use Rattle.std.proofs.Common.{◌≡◌, List, [], ◌∷◌, ℤ, sym, subst, ◌∙◌, refl}
+use Rattle.std.proofs.Common.{◌≡◌, List, [], ◌∷◌, ℤ, sym, subst, refl}
 use Rattle.rational.specs.Rational.{Rational}
 use Rattle.iv_core.specs.declared.Iv.{Iv}
 use Rattle.travel_model.specs.SeenPlaces.{Place, point_of, IsSeenPlace, HasSeenPlace}
 use Rattle.travel_model.proofs.Exists.{seen_place_exists}
 use Rattle.signal_travel.specs.declared.places.VectorBox.{VectorBox}
-use Rattle.signal_travel.specs.declared.places.Point.{Point}
 use Rattle.signal_travel.specs.Boxes.{HoldsPlace}
 use Rattle.signal_travel.specs.VectorBoxes.{HoldsVector}
 use Rattle.signal_travel.proofs.Sights.{point_place}

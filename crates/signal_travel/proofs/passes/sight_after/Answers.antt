@@ -1,10 +1,8 @@
-use Rattle.std.proofs.Common.{◌≡◌, ◌+◌, ◌-◌, ◌*◌, ◌^◌, ℤ, pos, ◌+ℤ◌, ◌-ℤ◌, ◌*ℤ◌, ◌≤ℤ◌, arith, refl}
+use Rattle.std.proofs.Common.{◌-◌, ◌*◌, ◌^◌, ℤ, pos, ◌+ℤ◌, ◌-ℤ◌, ◌*ℤ◌, ◌≤ℤ◌, arith}
 use Rattle.std.proofs.lemmas.Int.{ints}
-use Rattle.rational.specs.Rational.{Rational}
-use Rattle.trig_box.specs.AnglePairs.{Pair}
-use Rattle.travel_model.specs.SeenPlaces.{Place, square, difference, point_of, turned_back, range_of, IsSeenPlace}
+use Rattle.travel_model.specs.SeenPlaces.{Place, square, difference, point_of, turned_back, range_of}
 use Rattle.travel_model.proofs.NearRoots.{range_root}
-use Rattle.signal_travel.specs.VectorBoxes.{HoldsVector, IsVectorAtMostWide}
+use Rattle.signal_travel.specs.VectorBoxes.{IsVectorAtMostWide}
 use Rattle.signal_travel.proofs.Sights.{HasTurned, held_along, turned_in, between, all_away}
 use Rattle.signal_travel.proofs.Times.{pair_width, pair_enough, place_enough, any_width}
 use Rattle.signal_travel.proofs.passes.sight_after.Goals as goal

@@ -4,7 +4,7 @@ use Rattle.rational.specs.Rational.{Rational, ◌≤ʳ◌, of_whole, mul_r, InBo
 use Rattle.iv_core.specs.Intervals.{Holds}
 use Rattle.travel_model.specs.SeenPlaces.{Place, point_of, IsSeenPlace}
 use Rattle.travel_model.proofs.Seen.{travel_nn, travel_most}
-use Rattle.signal_travel.specs.VectorBoxes.{HoldsVector, IsVectorAtMostWide}
+use Rattle.signal_travel.specs.VectorBoxes.{HoldsVector}
 use Rattle.signal_travel.proofs.Sights.{point_place}
 use Rattle.signal_travel.proofs.Times.{first_time, second_time, third_time, last_range}
 use Rattle.signal_travel.proofs.passes.sight_of.Goals as goal

@@ -1,8 +1,7 @@
-use Rattle.std.proofs.Common.{◌≡◌, ◌^◌, ℤ, pos, ◌+ℤ◌, ◌-ℤ◌, ◌*ℤ◌, ◌≤ℤ◌, neg_ℤ, arith, refl, subst, ◌∙◌, to_z, of_z}
+use Rattle.std.proofs.Common.{◌≡◌, ℤ, pos, ◌+ℤ◌, ◌-ℤ◌, ◌*ℤ◌, ◌≤ℤ◌, arith, refl, ◌∙◌, to_z, of_z}
 use Rattle.std.proofs.lemmas.Int.{ints, to_z-of_z}
 use Rattle.std.specs.Int.{w64}
-use Rattle.rational.specs.Rational.{Rational, InBox, of_scale}
-use Rattle.trig_box.specs.AnglePairs.{IsAnglePair}
+use Rattle.rational.specs.Rational.{of_scale}
 use Rattle.signal_travel.proofs.EarthTurn.{ArePairs, cos_ends, sin_ends, point_holds}
 use Rattle.signal_travel.proofs.turns.pairs_of.Goals as goal
 

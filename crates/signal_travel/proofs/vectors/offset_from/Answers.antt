@@ -1,4 +1,4 @@
-use Rattle.std.proofs.Common.{◌^◌, ℤ, pos, ◌+ℤ◌, ◌-ℤ◌, ◌≤ℤ◌, neg_ℤ, arith, lit≤, subst}
+use Rattle.std.proofs.Common.{ℤ, pos, ◌-ℤ◌, ◌≤ℤ◌, neg_ℤ, arith, lit≤, subst}
 use Rattle.std.proofs.lemmas.Int.{ints, to_z-of_z}
 use Rattle.std.specs.Int.{w64}
 use Rattle.iv_core.specs.Intervals.{Holds}
