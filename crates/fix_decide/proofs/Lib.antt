@@ -1,0 +1,5 @@
+pub mod Words
+pub mod GapSums
+pub mod Radii
+pub mod Wide
+pub mod Products

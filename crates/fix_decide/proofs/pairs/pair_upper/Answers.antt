@@ -1,0 +1,48 @@
+use Rattle.std.proofs.Common.{◌≡◌, ℕ, ◌+◌, ◌*◌, ◌^◌, ◌<◌, ◌≤◌, ◌∷◌, List, length, map, drop, get_or, ℤ, pos, ◌+ℤ◌, to_z, of_z, arith, sym, ap, ◌∙◌, subst, rules, below_more}
+use Rattle.std.proofs.lemmas.Bool.{false≢true}
+use Rattle.std.proofs.lemmas.List.{drop_more, get_or_default}
+use Rattle.std.specs.Int.{w128}
+use Rattle.whole_math.specs.Vectors.{sum}
+use Rattle.obs_rows.specs.Signals.{counted}
+use Rattle.fix_decide.specs.UpperSums.{signal_upper}
+use Rattle.fix_decide.specs.Widths.{IsWideFor}
+use Rattle.fix_decide.proofs.GapSums.{next, Step, step, times_below}
+use Rattle.fix_decide.proofs.Wide.{none_of}
+use Rattle.fix_decide.proofs.pairs.pair_upper.Goals as goal
+
+pub returns-in_err-sum-clause-refused : goal.returns-in_err-sum-clause-refused
+returns-in_err-sum-clause-refused c =
+    let signals : List ℕ = c.counted_signals-signals.result.now in
+    let k : ℕ = c.loop-signal.signal-index in
+    let inside : k < length signals = search rules in
+    let l : length signals ≡ 4 = ap length c.counted_signals-signals.ensures in
+    let here : get_or (counted 0) k (get_or signals k 0) ≡ get_or signals k 0 =
+        ap (λ (x : List ℕ). get_or x k (get_or signals k 0)) (sym c.counted_signals-signals.ensures) ∙ get_or_default signals k (get_or signals k 0) 0 inside in
+    (λ e. (k, get_or signals k 0, omega arith, here, c.in_err-sum.ensures.wide), λ w. c.from_residual.ensures.0)
+
+pub loop-signal-preserved : goal.loop-signal-preserved
+loop-signal-preserved c =
+    let signals : List ℕ = c.counted_signals-signals.result.now in
+    let k : ℕ = c.loop-signal.signal-index in
+    let f : ℕ → ℤ = signal_upper c.args.arcs.now c.args.z.now c.args.moved.now c.args.pair.now in
+    let inside : k < length signals = search rules in
+    let l : length signals ≡ 4 = ap length c.counted_signals-signals.ensures in
+    let e : drop k signals ≡ get_or signals k 0 ∷ drop (k + 1) signals = drop_more signals k 0 inside in
+    let s : ℤ = to_z w128 c.loop-signal.sum-bits in
+    let q : ℤ = c.in_ok-sum.field-0 in
+    let t : Step (to_z w128 (of_z w128 (s +ℤ to_z w128 (of_z w128 q)))) s q k (2 ^ 104) =
+        step s q k (2 ^ 104) c.loop-signal.invariant.from c.loop-signal.invariant.to c.in_ok-sum.ensures.from c.in_ok-sum.ensures.to (times_below (k + 1) 4 (2 ^ 104) (omega arith) (omega arith) (omega arith)) in
+    record {
+      value = next s _ q (f (get_or signals k 0)) (sum (map f (drop (k + 1) signals))) (sum (map f signals))
+          (ap (λ (x : List ℕ). s +ℤ sum (map f x)) (sym e) ∙ c.loop-signal.invariant.value) c.in_ok-sum.ensures.value t.is;
+      from = t.from;
+      to = t.to;
+      narrow = below_more (λ j. IsWideFor c.args.arcs.now c.args.z.now c.args.moved.now c.args.pair.now.rows (get_or signals j 0) → ⊥) k c.loop-signal.invariant.narrow c.in_ok-sum.ensures.narrow;
+    }
+
+pub returns-clause-refused : goal.returns-clause-refused
+returns-clause-refused c =
+    let signals : List ℕ = c.counted_signals-signals.result.now in
+    let l : length signals ≡ 4 = ap length c.counted_signals-signals.ensures in
+    let P : ℕ → Type 0 = IsWideFor c.args.arcs.now c.args.z.now c.args.moved.now c.args.pair.now.rows in
+    (λ e. absurd (false≢true e), λ w. absurd (none_of P (counted 0) (λ j h p. c.loop-signal.invariant.narrow j (omega arith) (subst (λ (x : List ℕ). P (get_or x j 0)) (sym c.counted_signals-signals.ensures) p)) w))

@@ -1,0 +1,49 @@
+use Rattle.std.proofs.Common.{◌≡◌, ◌^◌, ◌<◌, ◌≤◌, length, map, ℤ, pos, ◌+ℤ◌, ◌≤ℤ◌, unsigned_abs, to_z, of_z, arith, sym, ap, ◌∙◌, subst, rules}
+use Rattle.std.proofs.lemmas.Int.{ints}
+use Rattle.std.specs.Int.{w64, w128}
+use Rattle.whole_math.specs.Rounding.{ceil_div}
+use Rattle.quadratic_form.specs.UpperSum.{size}
+use Rattle.obs_rows.specs.Data.{number_at}
+use Rattle.normal_sum.proofs.Words.{as_w128}
+use Rattle.fix_decide.specs.UpperSums.{scalar_product, rad}
+use Rattle.fix_decide.proofs.Words.{radius_word}
+use Rattle.fix_decide.proofs.Radii.{product_nonneg, ceil_nonneg}
+use Rattle.fix_decide.proofs.reaches.radius_of.Goals as goal
+
+at_least_one : (y u : ℤ) → pos 0 ≤ℤ y → pos 0 ≤ℤ u → pos 0 ≤ℤ ((y +ℤ u) +ℤ pos 1)
+at_least_one y u h g = omega (arith, ints)
+
+at_most : (y u : ℤ) → pos 0 ≤ℤ y → y ≤ℤ pos (2 ^ 20) → unsigned_abs u ≤ 2 ^ 56 → ((y +ℤ u) +ℤ pos 1) ≤ℤ pos (2 ^ 57)
+at_most y u k h g = omega (arith, ints)
+
+pub overflow_add-result-2 : goal.overflow_add-result-2
+overflow_add-result-2 c =
+    let r0 = c.args.row.now.ry_in.0 in
+    let r1 = c.args.row.now.ry_in.1 in
+    omega (arith, ints, c.rounded_up.ensures.size)
+
+pub returns-clause-value : goal.returns-clause-value
+returns-clause-value c =
+    let s : ℤ = c.scalar_product-spread.result in
+    let e : to_z w128 (of_z w128 s) ≡ scalar_product c.args.row.now.ru (map size c.args.moved.now) =
+        as_w128 s (omega (arith, c.scalar_product-spread.ensures.size)) ∙ c.scalar_product-spread.ensures.value ∙ ap (scalar_product c.args.row.now.ru) c.sizes.ensures.value in
+    radius_word c.args.row.now.ry c.rounded_up.result c.args.row.now.ry_in.0 c.args.row.now.ry_in.1 c.rounded_up.ensures.size
+    ∙ ap (λ u. (c.args.row.now.ry +ℤ u) +ℤ pos 1) (c.rounded_up.ensures.value ∙ ap (λ x. ceil_div x (2 ^ 16)) e)
+
+pub returns-clause-from : goal.returns-clause-from
+returns-clause-from c =
+    let s : ℤ = c.scalar_product-spread.result in
+    let l0 : 0 < length c.args.row.now.ru = search rules in
+    let l1 : 1 < length c.args.row.now.ru = search rules in
+    let l2 : 2 < length c.args.row.now.ru = search rules in
+    let e : to_z w128 (of_z w128 s) ≡ scalar_product c.args.row.now.ru (map size c.args.moved.now) =
+        as_w128 s (omega (arith, c.scalar_product-spread.ensures.size)) ∙ c.scalar_product-spread.ensures.value ∙ ap (scalar_product c.args.row.now.ru) c.sizes.ensures.value in
+    let p : pos 0 ≤ℤ scalar_product c.args.row.now.ru (map size c.args.moved.now) =
+        product_nonneg c.args.row.now.ru c.args.moved.now (c.args.row.now.ru_in 0 (pos 0) l0).0 (c.args.row.now.ru_in 1 (pos 0) l1).0 (c.args.row.now.ru_in 2 (pos 0) l2).0 in
+    let u : pos 0 ≤ℤ c.rounded_up.result = subst (λ (x : ℤ). pos 0 ≤ℤ x) (sym (c.rounded_up.ensures.value ∙ ap (λ x. ceil_div x (2 ^ 16)) e)) (ceil_nonneg (scalar_product c.args.row.now.ru (map size c.args.moved.now)) (2 ^ 16) p) in
+    subst (λ (x : ℤ). pos 0 ≤ℤ x) (sym (radius_word c.args.row.now.ry c.rounded_up.result c.args.row.now.ry_in.0 c.args.row.now.ry_in.1 c.rounded_up.ensures.size))
+    (at_least_one c.args.row.now.ry c.rounded_up.result c.args.row.now.ry_in.0 u)
+
+pub returns-clause-to : goal.returns-clause-to
+returns-clause-to c = subst (λ (x : ℤ). x ≤ℤ pos (2 ^ 57)) (sym (radius_word c.args.row.now.ry c.rounded_up.result c.args.row.now.ry_in.0 c.args.row.now.ry_in.1 c.rounded_up.ensures.size))
+    (at_most c.args.row.now.ry c.rounded_up.result c.args.row.now.ry_in.0 c.args.row.now.ry_in.1 c.rounded_up.ensures.size)

@@ -1,0 +1,16 @@
+-- Where the upper sum is too wide to be computed.
+use Rattle.std.specs.Prelude.{ℕ, ◌^◌, List, Any, ℤ, pos, ◌≤ℤ◌}
+use Rattle.obs_rows.specs.declared.arcs.Arc.{Arc}
+use Rattle.obs_rows.specs.declared.rows.Row.{Row}
+use Rattle.obs_rows.specs.declared.pair_rows.PairRows.{PairRows}
+use Rattle.obs_rows.specs.Signals.{counted}
+use Rattle.fix_decide.specs.Reaches.{extent}
+use Rattle.fix_decide.specs.UpperSums.{reach_of}
+
+-- |S| + rad of some row is 2^33 or more, as this signal sees it
+abbrev pub IsWideFor : List Arc → List ℤ → List ℤ → List Row → ℕ → Type 0
+IsWideFor arcs z m rows s = Any (λ r. pos (2 ^ 33) ≤ℤ extent (reach_of arcs z m s r)) rows
+
+-- as some signal sees it
+abbrev pub IsWide : List Arc → List ℤ → List ℤ → PairRows → Type 0
+IsWide arcs z m p = Any (IsWideFor arcs z m p.rows) (counted 0)

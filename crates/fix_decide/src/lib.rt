@@ -1,0 +1,8 @@
+//! The upper sum of the weighted sum of squares at given integers, and the decision whether they are fixed.
+#![tactic(auto)]
+
+mod gaps;
+mod pairs;
+mod reaches;
+
+pub use pairs::pair_upper;

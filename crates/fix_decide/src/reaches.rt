@@ -1,0 +1,191 @@
+//! Where the residual of a row may lie, whatever the data in its boxes are.
+ghost use Rattle.std.specs.Prelude.{◌≡◌, ◌+◌, ◌*◌, ◌^◌, ◌<◌, ◌≤◌, map, length, All, pos, ◌+ℤ◌, ◌-ℤ◌, ◌*ℤ◌, ◌≤ℤ◌, unsigned_abs, IfOk, IfErr, OnErr};
+ghost use Rattle.whole_math.specs.Rounding.{floor_div, ceil_div};
+ghost use Rattle.obs_rows.specs.Ranges.{IsWithin, IsBelow, IsRadius};
+ghost use Rattle.obs_rows.specs.Arcs.{free_count};
+ghost use Rattle.obs_rows.specs.Signals.{cycle};
+ghost use Rattle.obs_rows.specs.Integers.{integer_count, integer};
+ghost use Rattle.obs_rows.specs.Best.{move_exponent};
+ghost use Rattle.quadratic_form.specs.UpperSum.{size};
+ghost use Rattle.fix_decide.specs.Reaches.{IsNarrow, extent};
+ghost use Rattle.fix_decide.specs.UpperSums.{scalar_product, centre, rad, reach_of};
+
+use integer_form::{Overwidth, Place};
+use obs_rows::{
+    Arc, DIRECTION_EXPONENT, MOST_FREE_ARCS, MOVE_EXPONENT, PHASES, ROW_EXPONENT, Row, SIGNALS,
+    WAVELENGTHS, free_arcs,
+};
+use whole_math::{ceil_shift, floor_shift};
+
+/// The most rows of a pair.
+pub(crate) const MOST_ROWS: usize = 15;
+
+/// A direction times a move is in 2^-16 of the unit of a row.
+const FINER: u32 = MOVE_EXPONENT + DIRECTION_EXPONENT - ROW_EXPONENT;
+
+/// A residual that may lie this far from 0 is refused.
+const WIDE: i64 = 1 << 33;
+
+/// A residual lies within `rad` of `centre`, in the unit of the rows.
+#[derive(Clone, Copy, Debug, Default)]
+pub(crate) struct Reach {
+    pub(crate) centre: i64,
+    pub(crate) rad: i64,
+}
+
+/// a · b
+fn times(a: i64, b: i64) -> i128
+    requires a_size { unsigned_abs a ≤ 2 ^ 24 }
+    requires b_size { unsigned_abs b ≤ 2 ^ 46 }
+    ensures value { result ≡ a *ℤ b }
+    ensures size { unsigned_abs result ≤ 2 ^ 70 }
+{
+    a as i128 * b as i128
+}
+
+/// a + b
+fn plus(a: i128, b: i128) -> i128
+    requires a_size { unsigned_abs a ≤ 2 ^ 80 }
+    requires b_size { unsigned_abs b ≤ 2 ^ 80 }
+    ensures value { result ≡ a +ℤ b }
+    ensures size { unsigned_abs result ≤ unsigned_abs a + unsigned_abs b }
+{
+    a + b
+}
+
+/// u · m
+fn scalar_product(u: &[i64; 3], m: &[i64; 3]) -> i128
+    requires u_size { All (IsWithin (2 ^ 24)) u.now }
+    requires m_size { All (IsWithin (2 ^ 46)) m.now }
+    ensures value { result ≡ scalar_product u.now m.now }
+    ensures size { unsigned_abs result ≤ 3 * 2 ^ 70 }
+{
+    let rest = plus(times(u[1], m[1]), times(u[2], m[2]));
+    plus(times(u[0], m[0]), rest)
+}
+
+/// ⌊n / 2^16⌋
+fn rounded_down(n: i128) -> i64
+    requires { unsigned_abs n ≤ 2 ^ 72 }
+    ensures value { result ≡ floor_div n (2 ^ move_exponent) }
+    ensures size { unsigned_abs result ≤ 2 ^ 56 }
+{
+    floor_shift(n, FINER) as i64
+}
+
+/// ⌈n / 2^16⌉
+fn rounded_up(n: i128) -> i64
+    requires { unsigned_abs n ≤ 2 ^ 72 }
+    ensures value { result ≡ ceil_div n (2 ^ move_exponent) }
+    ensures size { unsigned_abs result ≤ 2 ^ 56 }
+{
+    ceil_shift(n, FINER) as i64
+}
+
+/// |n|
+pub(crate) fn size(n: i64) -> i64
+    requires { unsigned_abs n ≤ 2 ^ 62 }
+    ensures { result ≡ size n }
+{
+    n.abs()
+}
+
+/// The sizes of the three numbers.
+fn sizes(m: &[i64; 3]) -> [i64; 3]
+    requires { All (IsWithin (2 ^ 46)) m.now }
+    ensures value { result ≡ map size m.now }
+    ensures from { All (λ x. pos 0 ≤ℤ x) result }
+    ensures size { All (IsWithin (2 ^ 46)) result }
+{
+    [size(m[0]), size(m[1]), size(m[2])]
+}
+
+/// The integer of an arc and a signal: 0 for a datum and for a code.
+fn integer_of(arcs: &[Arc], z: &[i64], arc: usize, signal: usize) -> i64
+    requires arc { arc < length arcs.now }
+    requires signal { signal < SIGNALS }
+    requires free { free_count arcs.now ≤ MOST_FREE_ARCS }
+    requires entries { length z.now ≡ integer_count arcs.now 0 }
+    requires z_size { All (IsBelow (2 ^ 30)) z.now }
+    ensures value { result ≡ integer arcs.now 0 z.now arc signal }
+    ensures size { unsigned_abs result ≤ 2 ^ 30 }
+{
+    if signal >= PHASES || arcs[arc].datum {
+        return 0;
+    }
+    z[PHASES * free_arcs(&arcs[..arc]) + signal]
+}
+
+/// λ · N in the unit of the rows.
+fn cycles(signal: usize, integer: i64) -> i64
+    requires signal { signal < SIGNALS }
+    requires size { unsigned_abs integer ≤ 2 ^ 30 }
+    ensures value { result ≡ cycle signal *ℤ integer }
+    ensures size { unsigned_abs result ≤ 2 ^ 55 }
+{
+    WAVELENGTHS[signal] * (1 << ROW_EXPONENT) * integer
+}
+
+/// y - u · m, in 2^-16 of the unit of the rows.
+fn finer(y: i64, advance: i128) -> i128
+    requires y_size { unsigned_abs y ≤ 2 ^ 34 }
+    requires size { unsigned_abs advance ≤ 3 * 2 ^ 70 }
+    ensures value { result ≡ (y *ℤ pos (2 ^ move_exponent)) -ℤ advance }
+    ensures size { unsigned_abs result ≤ 2 ^ 72 }
+{
+    y as i128 * (1 << FINER) - advance
+}
+
+/// The residual of the centres of the boxes, rounded down.
+fn centre_of(arcs: &[Arc], z: &[i64], moved: &[i64; 3], row: &Row, signal: usize) -> i64
+    requires arc { row.now.arc < length arcs.now }
+    requires signal { signal < SIGNALS }
+    requires free { free_count arcs.now ≤ MOST_FREE_ARCS }
+    requires entries { length z.now ≡ integer_count arcs.now 0 }
+    requires z_size { All (IsBelow (2 ^ 30)) z.now }
+    requires moved_size { All (IsWithin (2 ^ 46)) moved.now }
+    ensures value { result ≡ centre arcs.now z.now moved.now signal row.now }
+    ensures size { unsigned_abs result ≤ 2 ^ 57 }
+{
+    let integer = integer_of(arcs, z, row.arc as usize, signal);
+    let residual = finer(row.y[signal], scalar_product(&row.u, moved));
+    rounded_down(residual) - cycles(signal, integer)
+}
+
+/// How far from there the residual may lie.
+fn radius_of(moved: &[i64; 3], row: &Row) -> i64
+    requires { All (IsWithin (2 ^ 46)) moved.now }
+    ensures value { result ≡ rad moved.now row.now }
+    ensures from { pos 0 ≤ℤ result }
+    ensures to { result ≤ℤ pos (2 ^ 57) }
+{
+    let spread = scalar_product(&row.ru, &sizes(moved));
+    row.ry + rounded_up(spread) + 1
+}
+
+/// Where the residual of a row may lie, as a signal sees it.
+pub(crate) fn reach_of(
+    arcs: &[Arc],
+    z: &[i64],
+    moved: &[i64; 3],
+    row: &Row,
+    signal: usize,
+) -> Result<Reach, Overwidth>
+    requires arc { row.now.arc < length arcs.now }
+    requires signal { signal < SIGNALS }
+    requires free { free_count arcs.now ≤ MOST_FREE_ARCS }
+    requires entries { length z.now ≡ integer_count arcs.now 0 }
+    requires z_size { All (IsBelow (2 ^ 30)) z.now }
+    requires moved_size { All (IsWithin (2 ^ 46)) moved.now }
+    ensures value { IfOk result (λ p. p ≡ reach_of arcs.now z.now moved.now signal row.now) }
+    ensures narrow { IfOk result IsNarrow }
+    ensures place { IfErr result (λ e. e.place ≡ Place.Sum) }
+    ensures wide { OnErr result (pos (2 ^ 33) ≤ℤ extent (reach_of arcs.now z.now moved.now signal row.now)) }
+{
+    let centre = centre_of(arcs, z, moved, row, signal);
+    let rad = radius_of(moved, row);
+    if size(centre) + rad >= WIDE {
+        return Err(Overwidth { place: Place::Sum });
+    }
+    Ok(Reach { centre, rad })
+}
