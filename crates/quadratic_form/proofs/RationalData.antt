@@ -6,11 +6,12 @@ use Rattle.whole_math.proofs.Order.{square_nn}
 use Rattle.quadratic_form.proofs.Bound.{bound}
 use Rattle.quadratic_form.proofs.NormalForm.{bounding_form_below}
 use Rattle.quadratic_form.proofs.Decision.{decided}
+use Rattle.quadratic_form.proofs.UpperSum.{sums_below}
 use Rattle.rational.proofs.Over.{Over, over_whole, over_zero, over_add, over_sub, over_mul, over_times, over_wide, over_le, over_lt, over_box}
 use Rattle.quadratic_form.specs.Forms.{Column, quad}
 use Rattle.quadratic_form.specs.Elimination.{Factor, steps}
 use Rattle.quadratic_form.specs.Rows.{SignalRow, WholeData, WholeBaseline, SignalGroup, WholeFits, WholeFitsAll, whole_residual, whole_residuals, share, whole_sum_of_squares, matrix, radii, bounding_form, columns_at, GroupsOf, first_rounding, value}
-use Rattle.quadratic_form.specs.UpperSum.{top}
+use Rattle.quadratic_form.specs.UpperSum.{upper_sum, top}
 use Rattle.quadratic_form.specs.TwoLeast.{TwoLeast}
 use Rattle.rational.specs.Rational.{Rational, ◌≤ʳ◌, ◌<ʳ◌, of_whole, add_r, sub_r, mul_r}
 use Rattle.quadratic_form.specs.RationalData.{RowData, Baseline, Fits, FitsAll, residual, residuals, sum_of_rationals, squared_norm_of_rationals, spread_of_rationals, sum_of_squares, moved, IsBest}
@@ -297,6 +298,27 @@ bounding_over_rationals e z c b gs qs r h o g f w =
 
     step : (d e v f : ℤ) → (d *ℤ d *ℤ v) ≤ℤ (pos 64 *ℤ f) → (v *ℤ (d *ℤ e *ℤ (d *ℤ e))) ≤ℤ (pos 64 *ℤ f *ℤ (e *ℤ e))
     step d e v f h = le_by (v ∷ d ∷ e ∷ f ∷ []) (λ v d e f. (v ⊗ (d ⊗ e ⊗ (d ⊗ e)), nat 64 ⊗ f ⊗ (e ⊗ e), (nat 64 ⊗ f ⊖ d ⊗ d ⊗ v) ⊗ (e ⊗ e))) refl (prod_nn (less_nn h) (square_nn e))
+
+-- the sum of squares at the integers z and the move m is at most the upper sum, for all rational data in the boxes
+pub upper_over_rationals : (z : List ℤ) (m : WholeBaseline) (gs : List SignalGroup) (qs : List (List RowData)) → GroupsOf (len z) gs → FitsAll gs qs →
+    sum_of_squares z (moved m) gs qs ≤ʳ of_whole (upper_sum z m gs)
+upper_over_rationals z m gs qs g f =
+    over_le q 1 n (upper_sum z m gs) (sum_of_squares z (moved m) gs qs) (of_whole (upper_sum z m gs))
+    (mul-pos (mul-pos t.positive (pow_pos 16)) (mul-pos t.positive (pow_pos 16))) (omega arith)
+    (F_over (pos t.d) (pos (2 ^ 16)) z m (moved m) gs t.over qs t.is (record { b1 = refl; b2 = refl; b3 = refl })) refl
+    (step (pos t.d *ℤ pos (2 ^ 16)) n (upper_sum z m gs) (sums_below (len z) (pos t.d) z m gs t.over (pos_nn t.d) g (fits_all_over (pos t.d) gs t.over qs (pos_nn t.d) t.is f)))
+  where
+    t : CommonAll qs
+    t = common qs
+
+    q : ℕ
+    q = (t.d * 2 ^ 16) * (t.d * 2 ^ 16)
+
+    n : ℤ
+    n = whole_sum_of_squares (pos t.d) (pos (2 ^ 16)) z m gs t.over
+
+    step : (k n u : ℤ) → n ≤ℤ (k *ℤ k *ℤ u) → (n *ℤ pos 1) ≤ℤ (u *ℤ (k *ℤ k))
+    step k n u h = le_by (n ∷ u ∷ k ∷ []) (λ n u k. (n ⊗ nat 1, u ⊗ (k ⊗ k), k ⊗ k ⊗ u ⊖ n)) refl (less_nn h)
 
 pub decided_best : (h : ℕ) (ratio : ℤ) (z1 z2 : List ℤ) (m : WholeBaseline) (gs : List SignalGroup) (p : List Factor × List Column) →
     GroupsOf (len z1) gs → steps 0 3 (first_rounding h (length z1) gs) ≡ Ok p → TwoLeast p.1 (len z1) z1 z2 →

@@ -107,7 +107,8 @@ pairs_above d z m rs ts h f = rw (spread_pairs (whole_residuals d (pos (2 ^ 16))
 pub share_nonneg : (g : SignalGroup) → pos 0 ≤ℤ g.weight → pos 0 ≤ℤ share g
 share_nonneg g h = prod_nn (pos_nn (360360 / length g.rows)) h
 
-sums_below : (n d : ℤ) (z : List ℤ) (m : WholeBaseline) (gs : List SignalGroup) (ts : List (List WholeData)) → pos 0 ≤ℤ d → GroupsOf n gs → WholeFitsAll d gs ts →
+-- for all data in the boxes, over d, at integers z and the baseline m in units of 2^-16
+pub sums_below : (n d : ℤ) (z : List ℤ) (m : WholeBaseline) (gs : List SignalGroup) (ts : List (List WholeData)) → pos 0 ≤ℤ d → GroupsOf n gs → WholeFitsAll d gs ts →
     whole_sum_of_squares d (pos (2 ^ 16)) z m gs ts ≤ℤ (d *ℤ pos (2 ^ 16) *ℤ (d *ℤ pos (2 ^ 16)) *ℤ upper_sum z m gs)
 sums_below n d z m [] [] h g f = none (d *ℤ pos (2 ^ 16))
 sums_below n d z m [] (t ∷ ts) h g f = absurd f
@@ -119,7 +120,7 @@ sums_below n d z m (s ∷ gs) (t ∷ ts) h g f = add_step (d *ℤ pos (2 ^ 16)) 
     step : (k f s g : ℤ) → pos 0 ≤ℤ f → s ≤ℤ (k *ℤ k *ℤ g) → (f *ℤ s) ≤ℤ (k *ℤ k *ℤ (f *ℤ g))
     step k f s g h i = le_by (f ∷ s ∷ k ∷ g ∷ []) (λ f s k g. (f ⊗ s, k ⊗ k ⊗ (f ⊗ g), f ⊗ (k ⊗ k ⊗ g ⊖ s))) refl (prod_nn h (less_nn i))
 
--- for all data in the boxes, over d, at integers z and the baseline m in units of 2^-16
+-- the same in units of 2^h
 pub upper : (n d : ℤ) (h : ℕ) (z : List ℤ) (m : WholeBaseline) (gs : List SignalGroup) (ts : List (List WholeData)) → pos 0 ≤ℤ d → GroupsOf n gs → WholeFitsAll d gs ts →
     whole_sum_of_squares d (pos (2 ^ 16)) z m gs ts ≤ℤ (d *ℤ pos (2 ^ 16) *ℤ (d *ℤ pos (2 ^ 16)) *ℤ (pos (2 ^ h) *ℤ top h z m gs))
 upper n d h z m gs ts i g f = step (d *ℤ pos (2 ^ 16)) (whole_sum_of_squares d (pos (2 ^ 16)) z m gs ts) (upper_sum z m gs) (pos (2 ^ h) *ℤ top h z m gs)

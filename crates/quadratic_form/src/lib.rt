@@ -9,9 +9,9 @@ ghost use Rattle.whole_math.specs.Vectors.{len, dot};
 ghost use Rattle.quadratic_form.specs.Forms.{Column, Shaped, quad};
 ghost use Rattle.quadratic_form.specs.Elimination.{Factor, factors, kept, next, steps};
 ghost use Rattle.quadratic_form.specs.Rows.{WholeBaseline, SignalGroup, WholeData, GroupsOf, WholeFitsAll, matrix, radii, bounding_form, columns_at, first_rounding, value, whole_sum_of_squares};
-ghost use Rattle.quadratic_form.specs.UpperSum.{top};
+ghost use Rattle.quadratic_form.specs.UpperSum.{upper_sum, top};
 ghost use Rattle.quadratic_form.specs.TwoLeast.{TwoLeast};
-ghost use Rattle.quadratic_form.specs.RationalData.{RowData, Baseline, FitsAll, sum_of_squares, IsBest};
+ghost use Rattle.quadratic_form.specs.RationalData.{RowData, Baseline, FitsAll, sum_of_squares, moved, IsBest};
 
 /// 63 times the matrix at the centres, with 16128 times the squares of the radii taken from four of
 /// its own entries, stays below 64 times the sum of squares, whatever the data in the boxes are.
@@ -41,6 +41,12 @@ pub fn rational_bound_law()
     ensures { (h : ℕ) (z : List ℤ) (b : Baseline) (gs : List SignalGroup) (qs : List (List RowData)) (p : List Factor × List Column) →
         GroupsOf (len z) gs → FitsAll gs qs → steps 0 3 (first_rounding h (length z) gs) ≡ Ok p →
         of_whole (pos (2 ^ h) *ℤ value p.1 z) ≤ʳ mul_r (of_whole (pos 64)) (sum_of_squares z b gs qs) }
+{}
+
+/// The sum of squares at the integers z and the move m is at most the upper sum, for all rational data in the boxes.
+pub fn upper_law()
+    ensures { (z : List ℤ) (m : WholeBaseline) (gs : List SignalGroup) (qs : List (List RowData)) → GroupsOf (len z) gs → FitsAll gs qs →
+        sum_of_squares z (moved m) gs qs ≤ʳ of_whole (upper_sum z m gs) }
 {}
 
 /// Where the second least value is large enough against the upper sum, the first is best for all data in the boxes.
