@@ -3,3 +3,4 @@ pub mod GapSums
 pub mod Radii
 pub mod Wide
 pub mod Products
+pub mod UpperLaws

@@ -1,3 +1,4 @@
 pub mod Reaches
 pub mod UpperSums
 pub mod Widths
+pub mod Bounds

@@ -14,3 +14,7 @@ IsWideFor arcs z m rows s = Any (λ r. pos (2 ^ 33) ≤ℤ extent (reach_of arcs
 -- as some signal sees it
 abbrev pub IsWide : List Arc → List ℤ → List ℤ → PairRows → Type 0
 IsWide arcs z m p = Any (IsWideFor arcs z m p.rows) (counted 0)
+
+-- as some signal sees some row of some pair
+abbrev pub AreWide : List Arc → List PairRows → List ℤ → List ℤ → Type 0
+AreWide arcs pairs z m = Any (IsWide arcs z m) pairs

@@ -4,5 +4,7 @@
 mod gaps;
 mod pairs;
 mod reaches;
+mod upper_sums;
 
 pub use pairs::pair_upper;
+pub use upper_sums::upper_sum;

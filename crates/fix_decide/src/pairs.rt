@@ -1,5 +1,5 @@
 //! The upper sum of the rows of one pair.
-ghost use Rattle.std.specs.Prelude.{◌≡◌, ◌*◌, ◌^◌, ◌<◌, ◌≤◌, ◌↔◌, map, length, All, pos, ◌*ℤ◌, ◌≤ℤ◌, IsErr, IfOk, IfErr, OnOk, OnErr};
+ghost use Rattle.std.specs.Prelude.{◌≡◌, ◌*◌, ◌^◌, ◌<◌, ◌≤◌, ◌↔◌, ◌∷◌, [], map, length, All, pos, ◌*ℤ◌, ◌≤ℤ◌, IsErr, IfOk, IfErr, OnOk, OnErr};
 ghost use Rattle.obs_rows.specs.Ranges.{IsBelow, IsWithin};
 ghost use Rattle.obs_rows.specs.Arcs.{free_count};
 ghost use Rattle.obs_rows.specs.Pairs.{HasItsArcs};
@@ -8,6 +8,7 @@ ghost use Rattle.obs_rows.specs.SumOfSquares.{share};
 ghost use Rattle.normal_sum.specs.Pairs.{HaveArcs};
 ghost use Rattle.fix_decide.specs.Reaches.{IsNarrow};
 ghost use Rattle.fix_decide.specs.UpperSums.{reach_of, signal_upper, pair_upper};
+ghost use Rattle.fix_decide.specs.Bounds.{StaysAtMost};
 ghost use Rattle.fix_decide.specs.Widths.{IsWideFor, IsWide};
 
 use crate::gaps::gaps;
@@ -84,7 +85,10 @@ fn signal_upper(
     Ok(share(rows.len(), signal) as i128 * gaps(reaches.as_slice()))
 }
 
-/// U of a pair's rows: what 2^-32 of its weighted sum of squares TODO
+/// What the weighted sum of squares of a pair's rows is at most, at the integers z and a move in 2^-10 κ.
+///
+/// z has two entries for each free arc of the list. Refused by the place `Sum` exactly where the residual of some row may
+/// lie 2^33 or more from 0, as some signal sees it.
 pub fn pair_upper(
     arcs: &[Arc],
     pair: &PairRows,
@@ -97,6 +101,7 @@ pub fn pair_upper(
     requires z_size { All (IsBelow (2 ^ 30)) z.now }
     requires moved_size { All (IsBelow (2 ^ 46)) moved.now }
     ensures value { IfOk result (λ u. u ≡ pair_upper arcs.now z.now moved.now pair.now) }
+    ensures above { IfOk result (StaysAtMost arcs.now 0 (pair.now ∷ []) z.now moved.now) }
     ensures from { IfOk result (λ u. pos 0 ≤ℤ u) }
     ensures to { IfOk result (λ u. u ≤ℤ pos (2 ^ 106)) }
     ensures refused { IsErr result ↔ IsWide arcs.now z.now moved.now pair.now }

@@ -1,14 +1,21 @@
-use Rattle.std.proofs.Common.{◌≡◌, ℕ, ◌+◌, ◌*◌, ◌^◌, ◌<◌, ◌≤◌, ◌∷◌, List, length, map, drop, get_or, ℤ, pos, ◌+ℤ◌, to_z, of_z, arith, sym, ap, ◌∙◌, subst, rules, below_more}
+use Rattle.std.proofs.Common.{◌≡◌, ℕ, ◌+◌, ◌*◌, ◌^◌, ◌<◌, ◌≤◌, ◌∷◌, [], List, length, map, drop, get_or, ℤ, pos, ◌+ℤ◌, to_z, of_z, arith, sym, ap, ◌∙◌, subst, rules, below_more}
 use Rattle.std.proofs.lemmas.Bool.{false≢true}
-use Rattle.std.proofs.lemmas.List.{drop_more, get_or_default}
+use Rattle.std.proofs.lemmas.List.{drop_more, drop_all, get_or_default}
 use Rattle.std.specs.Int.{w128}
 use Rattle.whole_math.specs.Vectors.{sum}
+use Rattle.whole_math.proofs.Order.{lins}
+use Rattle.obs_rows.specs.declared.pair_rows.PairRows.{PairRows}
 use Rattle.obs_rows.specs.Signals.{counted}
 use Rattle.fix_decide.specs.UpperSums.{signal_upper}
+use Rattle.fix_decide.specs.Bounds.{StaysAtMost}
 use Rattle.fix_decide.specs.Widths.{IsWideFor}
 use Rattle.fix_decide.proofs.GapSums.{next, Step, step, times_below}
+use Rattle.fix_decide.proofs.UpperLaws.{stays_at_most}
 use Rattle.fix_decide.proofs.Wide.{none_of}
 use Rattle.fix_decide.proofs.pairs.pair_upper.Goals as goal
+
+no_more : (s a : ℤ) → s +ℤ pos 0 ≡ a → s ≡ a +ℤ pos 0
+no_more s a e = omega (arith, lins)
 
 pub returns-in_err-sum-clause-refused : goal.returns-in_err-sum-clause-refused
 returns-in_err-sum-clause-refused c =
@@ -39,6 +46,19 @@ loop-signal-preserved c =
       to = t.to;
       narrow = below_more (λ j. IsWideFor c.args.arcs.now c.args.z.now c.args.moved.now c.args.pair.now.rows (get_or signals j 0) → ⊥) k c.loop-signal.invariant.narrow c.in_ok-sum.ensures.narrow;
     }
+
+pub returns-clause-above : goal.returns-clause-above
+returns-clause-above c =
+    let signals : List ℕ = c.counted_signals-signals.result.now in
+    let k : ℕ = c.loop-signal.signal-index in
+    let f : ℕ → ℤ = signal_upper c.args.arcs.now c.args.z.now c.args.moved.now c.args.pair.now in
+    let s : ℤ = to_z w128 c.loop-signal.sum-bits in
+    let past : drop k signals ≡ [] = drop_all k signals (omega arith) in
+    let all : s +ℤ pos 0 ≡ sum (map f (counted 0)) =
+        ap (λ (x : List ℕ). s +ℤ sum (map f x)) (sym past) ∙ c.loop-signal.invariant.value ∙ ap (λ (x : List ℕ). sum (map f x)) c.counted_signals-signals.ensures in
+    let one : List PairRows = c.args.pair.now ∷ [] in
+    subst (StaysAtMost c.args.arcs.now 0 one c.args.z.now c.args.moved.now) (sym (no_more s (sum (map f (counted 0))) all))
+    (stays_at_most c.args.arcs.now one c.args.z.now c.args.moved.now c.requires.entries)
 
 pub returns-clause-refused : goal.returns-clause-refused
 returns-clause-refused c =

@@ -1,0 +1,101 @@
+-- The upper sum over rows is that of their signal groups, and bounds the sum of squares for all data.
+use Rattle.std.proofs.Common.{◌≡◌, ℕ, ◌^◌, List, [], ◌∷◌, ◌++◌, length, map, ℤ, pos, neg_ℤ, ◌+ℤ◌, ◌-ℤ◌, ◌*ℤ◌, ◌≤ℤ◌, arith, sym, ap, ap₂, ◌∙◌, refl, subst, pow_pos}
+use Rattle.std.proofs.lemmas.List.{length-map}
+use Rattle.whole_math.specs.Vectors.{sum, dot}
+use Rattle.whole_math.specs.Rounding.{floor_div, ceil_div}
+use Rattle.whole_math.proofs.Order.{lins}
+use Rattle.whole_math.proofs.Ring.{◌⊕◌, ◌⊖◌, ◌⊗◌, ng}
+use Rattle.whole_math.proofs.Inequalities.{same_by}
+use Rattle.whole_math.proofs.Rounding.{ceil_close}
+use Rattle.rational.specs.Rational.{Rational, of_whole, ◌≤ʳ◌}
+use Rattle.rational.proofs.Laws.{≤ʳ_trans, of_whole-le}
+use Rattle.quadratic_form.specs.Rows.{SignalGroup, WholeBaseline, share as group_share}
+use Rattle.quadratic_form.specs.UpperSum.{size, centre as group_centre, rad as group_rad, gap as group_gap, gaps_from as group_gaps_from, gaps as group_gaps, upper_sum as group_sum}
+use Rattle.quadratic_form.proofs.RationalData.{upper_over_rationals}
+use Rattle.obs_rows.specs.declared.arcs.Arc.{Arc}
+use Rattle.obs_rows.specs.declared.rows.Row.{Row}
+use Rattle.obs_rows.specs.declared.pair_rows.PairRows.{PairRows}
+use Rattle.obs_rows.specs.Signals.{cycle, counted}
+use Rattle.obs_rows.specs.Integers.{integer_count, integer_place, integer}
+use Rattle.obs_rows.specs.Data.{Observed, number_at, AreData}
+use Rattle.obs_rows.specs.SumOfSquares.{share, sum_of_squares}
+use Rattle.obs_rows.specs.Best.{moved}
+use Rattle.obs_rows.specs.SignalGroups.{cycles, signal_row, signal_group, signal_groups, group_data, whole_move}
+use Rattle.obs_rows.proofs.IntegerPlaces.{place_below, dot_only_at}
+use Rattle.obs_rows.proofs.GroupLaws.{sum_is, data_fit}
+use Rattle.obs_rows.proofs.SessionLaws.{groups_of_vector}
+use Rattle.fix_decide.specs.declared.reaches.Reach.{Reach}
+use Rattle.fix_decide.specs.Reaches.{gap, gaps_from, gaps}
+use Rattle.fix_decide.specs.UpperSums.{scalar_product, centre, rad, reach_of, signal_upper, pair_upper, upper_sum, top}
+use Rattle.fix_decide.specs.Bounds.{StaysAtMost}
+use Rattle.fix_decide.proofs.Radii.{number-sizes}
+
+-- ---- one row
+cycles_give : (arcs : List Arc) (s : ℕ) (z : List ℤ) (r : Row) → neg_ℤ (cycle s *ℤ integer arcs 0 z r.arc s) ≡ dot (cycles arcs 0 s r) z
+cycles_give arcs s z r =
+    same_by (cycle s ∷ integer arcs 0 z r.arc s ∷ []) (λ c n. (ng (c ⊗ n), ng c ⊗ n)) refl
+    ∙ sym (dot_only_at (integer_count arcs 0) (integer_place arcs 0 r.arc s) (neg_ℤ (cycle s)) z (place_below arcs 0 r.arc s))
+
+less : (a b c : ℤ) → neg_ℤ b ≡ c → a -ℤ b ≡ a +ℤ c
+less a b c e = omega (arith, lins)
+
+centre_is : (arcs : List Arc) (z m : List ℤ) (s : ℕ) (r : Row) → centre arcs z m s r ≡ group_centre z (whole_move m) (signal_row arcs 0 s r)
+centre_is arcs z m s r = less (floor_div ((number_at r.y s *ℤ pos (2 ^ 16)) -ℤ scalar_product r.u m) (2 ^ 16)) (cycle s *ℤ integer arcs 0 z r.arc s) (dot (cycles arcs 0 s r) z) (cycles_give arcs s z r)
+
+rad_is : (arcs : List Arc) (m : List ℤ) (s : ℕ) (r : Row) → rad m r ≡ group_rad (whole_move m) (signal_row arcs 0 s r)
+rad_is arcs m s r = rw (number-sizes m 0, number-sizes m 1, number-sizes m 2) refl
+
+gap_is : (arcs : List Arc) (z m : List ℤ) (s : ℕ) (r q : Row) → gap (reach_of arcs z m s r) (reach_of arcs z m s q) ≡ group_gap z (whole_move m) (signal_row arcs 0 s r) (signal_row arcs 0 s q)
+gap_is arcs z m s r q = ap₂ (λ a b. a +ℤ b)
+    (ap₂ (λ a b. size (a -ℤ b)) (centre_is arcs z m s r) (centre_is arcs z m s q))
+    (ap₂ (λ a b. a +ℤ b) (rad_is arcs m s r) (rad_is arcs m s q))
+
+-- ---- the rows of a pair, as one signal sees them
+gaps_from_are : (arcs : List Arc) (z m : List ℤ) (s : ℕ) (r : Row) (rs : List Row) →
+    gaps_from (reach_of arcs z m s r) (map (reach_of arcs z m s) rs) ≡ group_gaps_from z (whole_move m) (signal_row arcs 0 s r) (map (signal_row arcs 0 s) rs)
+gaps_from_are arcs z m s r [] = refl
+gaps_from_are arcs z m s r (q ∷ rs) = ap₂ (λ a b. (a *ℤ a) +ℤ b) (gap_is arcs z m s r q) (gaps_from_are arcs z m s r rs)
+
+gaps_are : (arcs : List Arc) (z m : List ℤ) (s : ℕ) (rs : List Row) → gaps (map (reach_of arcs z m s) rs) ≡ group_gaps z (whole_move m) (map (signal_row arcs 0 s) rs)
+gaps_are arcs z m s [] = refl
+gaps_are arcs z m s (r ∷ rs) = ap₂ (λ a b. a +ℤ b) (gaps_from_are arcs z m s r rs) (gaps_are arcs z m s rs)
+
+signal_is : (arcs : List Arc) (z m : List ℤ) (p : PairRows) (s : ℕ) →
+    signal_upper arcs z m p s ≡ group_share (signal_group arcs 0 p s) *ℤ group_gaps z (whole_move m) (map (signal_row arcs 0 s) p.rows)
+signal_is arcs z m p s = ap₂ (λ (n : ℕ) (g : ℤ). share n s *ℤ g) (sym (length-map p.rows (signal_row arcs 0 s))) (gaps_are arcs z m s p.rows)
+
+-- ---- all pairs
+three : (a b c : ℤ) → (a +ℤ b) +ℤ c ≡ a +ℤ (b +ℤ c)
+three a b c = same_by (a ∷ b ∷ c ∷ []) (λ a b c. ((a ⊕ b) ⊕ c, a ⊕ (b ⊕ c))) refl
+
+sum_of_pair : (arcs : List Arc) (z m : List ℤ) (p : PairRows) (signals : List ℕ) (rest : ℤ) (gs : List SignalGroup) → rest ≡ group_sum z (whole_move m) gs →
+    sum (map (signal_upper arcs z m p) signals) +ℤ rest ≡ group_sum z (whole_move m) (map (signal_group arcs 0 p) signals ++ gs)
+sum_of_pair arcs z m p [] rest gs e = zero_first rest ∙ e
+  where
+    zero_first : (x : ℤ) → pos 0 +ℤ x ≡ x
+    zero_first x = omega (arith, lins)
+sum_of_pair arcs z m p (s ∷ signals) rest gs e =
+    three (signal_upper arcs z m p s) (sum (map (signal_upper arcs z m p) signals)) rest
+    ∙ ap₂ (λ x y. x +ℤ y) (signal_is arcs z m p s) (sum_of_pair arcs z m p signals rest gs e)
+
+pub upper_sum_is : (arcs : List Arc) (pairs : List PairRows) (z m : List ℤ) → upper_sum arcs pairs z m ≡ group_sum z (whole_move m) (signal_groups arcs 0 pairs)
+upper_sum_is arcs [] z m = refl
+upper_sum_is arcs (p ∷ ps) z m = sum_of_pair arcs z m p (counted 0) (upper_sum arcs ps z m) (signal_groups arcs 0 ps) (upper_sum_is arcs ps z m)
+
+-- ---- for all data
+pub stays_at_most : (arcs : List Arc) (pairs : List PairRows) (z m : List ℤ) → length z ≡ integer_count arcs 0 → StaysAtMost arcs 0 pairs z m (upper_sum arcs pairs z m)
+stays_at_most arcs pairs z m e = record { above = λ (observed : List (List Observed)) (h : AreData 0 pairs observed). go observed h }
+  where
+    go : (observed : List (List Observed)) → AreData 0 pairs observed → sum_of_squares arcs 0 pairs z (moved m) observed ≤ʳ of_whole (upper_sum arcs pairs z m)
+    go observed h = rw (sum_is arcs 0 pairs z (moved m) observed h, upper_sum_is arcs pairs z m)
+        (upper_over_rationals z (whole_move m) (signal_groups arcs 0 pairs) (group_data 0 observed) (groups_of_vector arcs 0 pairs z e) (data_fit arcs 0 pairs observed h))
+
+-- in units of 2^h, rounded up
+pub top_stays_at_most : (h : ℕ) (arcs : List Arc) (pairs : List PairRows) (z m : List ℤ) → length z ≡ integer_count arcs 0 → StaysAtMost arcs 0 pairs z m (pos (2 ^ h) *ℤ top h arcs pairs z m)
+top_stays_at_most h arcs pairs z m e = record {
+  above = λ (observed : List (List Observed)) (f : AreData 0 pairs observed).
+      wider (sum_of_squares arcs 0 pairs z (moved m) observed) (upper_sum arcs pairs z m) (pos (2 ^ h) *ℤ top h arcs pairs z m) ((stays_at_most arcs pairs z m e).above observed f) (ceil_close (upper_sum arcs pairs z m) (2 ^ h) (pow_pos h));
+}
+  where
+    wider : (q : Rational) (u t : ℤ) → q ≤ʳ of_whole u → u ≤ℤ t → q ≤ʳ of_whole t
+    wider q u t h k = ≤ʳ_trans q (of_whole u) (of_whole t) h (of_whole-le u t k)
