@@ -4,3 +4,4 @@ pub mod Radii
 pub mod Wide
 pub mod Products
 pub mod UpperLaws
+pub mod DecisionLaws

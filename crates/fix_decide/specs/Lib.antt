@@ -2,3 +2,4 @@ pub mod Reaches
 pub mod UpperSums
 pub mod Widths
 pub mod Bounds
+pub mod Decisions

@@ -1,6 +1,7 @@
 //! The upper sum of the weighted sum of squares at given integers, and the decision whether they are fixed.
 #![tactic(auto)]
 
+mod decision;
 mod gaps;
 mod pairs;
 mod reaches;
