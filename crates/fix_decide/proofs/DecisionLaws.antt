@@ -30,8 +30,11 @@ room t r q h g k = mul_lt_cancel (pos 64 *ℤ t) q 1000 (omega arith)
 between : (n d m e h t q v : ℤ) → pos 1 ≤ℤ d → pos 1 ≤ℤ e → pos 1 ≤ℤ h → (pos 64 *ℤ t) <ℤ q → q ≤ℤ v →
     (n *ℤ pos 1) ≤ℤ (h *ℤ t *ℤ d) → (h *ℤ v *ℤ (pos 1 *ℤ e)) ≤ℤ (pos 64 *ℤ m *ℤ pos 1) → (n *ℤ e) <ℤ (m *ℤ d)
 between n d m e h t q v h₁ h₂ h₃ h₄ h₅ h₆ h₇ = mul_lt_cancel (n *ℤ e) (m *ℤ d) 64 (omega arith)
-    (strict (ones e d h₂ h₁) (le_by (n ∷ e ∷ d ∷ m ∷ h ∷ v ∷ q ∷ t ∷ []) (λ n e d m h v q t. (n ⊗ e ⊗ nat 64 ⊕ e ⊗ d, m ⊗ d ⊗ nat 64,
-    ((nat 64 ⊗ m ⊗ nat 1 ⊖ h ⊗ v ⊗ (nat 1 ⊗ e)) ⊗ d ⊕ h ⊗ (v ⊖ q) ⊗ (e ⊗ d)) ⊕ (h ⊗ (e ⊗ d) ⊗ (q ⊖ (nat 64 ⊗ t ⊕ nat 1)) ⊕ ((h ⊖ nat 1) ⊗ (e ⊗ d) ⊕ nat 64 ⊗ (e ⊗ (h ⊗ t ⊗ d ⊖ n ⊗ nat 1)))))) refl
+    (strict (ones e d h₂ h₁) (le_by (n ∷ e ∷ d ∷ m ∷ h ∷ v ∷ q ∷ t ∷ []) (λ n e d m h v q t. (
+      n ⊗ e ⊗ nat 64 ⊕ e ⊗ d,
+      m ⊗ d ⊗ nat 64,
+      ((nat 64 ⊗ m ⊗ nat 1 ⊖ h ⊗ v ⊗ (nat 1 ⊗ e)) ⊗ d ⊕ h ⊗ (v ⊖ q) ⊗ (e ⊗ d)) ⊕ (h ⊗ (e ⊗ d) ⊗ (q ⊖ (nat 64 ⊗ t ⊕ nat 1)) ⊕ ((h ⊖ nat 1) ⊗ (e ⊗ d) ⊕ nat 64 ⊗ (e ⊗ (h ⊗ t ⊗ d ⊖ n ⊗ nat 1)))),
+    )) refl
     (both_nn (both_nn (prod_nn (less_nn h₇) (one_nn h₁)) (prod_nn (prod_nn (one_nn h₃) (less_nn h₅)) (prod_nn (one_nn h₂) (one_nn h₁))))
     (both_nn (prod_nn (prod_nn (one_nn h₃) (prod_nn (one_nn h₂) (one_nn h₁))) (less_nn (later h₄)))
     (both_nn (prod_nn (less_nn h₃) (prod_nn (one_nn h₂) (one_nn h₁))) (prod_nn (pos_nn 64) (prod_nn (one_nn h₂) (less_nn h₆))))))))

@@ -16,7 +16,7 @@ fn times_ratio(ratio: u32, top: i128) -> i128
 }
 
 /// Whether 1000 · p2 > 64 · ratio · top.
-fn is_separated(ratio: u32, top: i128, p2: i128) -> bool
+pub(crate) fn is_separated(ratio: u32, top: i128, p2: i128) -> bool
     requires ratio_from { 1000 ≤ ratio }
     requires ratio_to { ratio ≤ 100_000 }
     requires top_from { pos 0 ≤ℤ top }

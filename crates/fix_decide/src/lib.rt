@@ -9,3 +9,6 @@ mod upper_sums;
 
 pub use pairs::pair_upper;
 pub use upper_sums::upper_sum;
+
+#[cfg(test)]
+mod tests;

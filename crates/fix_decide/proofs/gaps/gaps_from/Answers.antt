@@ -22,8 +22,8 @@ loop-q-preserved c =
     let g : to_z w64 (of_z w64 c.gap.result) ≡ gap c.args.p q = small_w64 c.gap.result c.gap.ensures.from (weaker c.gap.result c.gap.ensures.to) ∙ c.gap.ensures.value in
     let v : c.square-sum.result ≡ gap c.args.p q *ℤ gap c.args.p q = c.square-sum.ensures.value ∙ ap (λ x. x *ℤ x) g in
     let t : Step (to_z w128 (of_z w128 (s +ℤ to_z w128 (of_z w128 c.square-sum.result)))) s c.square-sum.result c.loop-q.q-index (2 ^ 68) =
-        step s c.square-sum.result c.loop-q.q-index (2 ^ 68) c.loop-q.invariant.from c.loop-q.invariant.to c.square-sum.ensures.from c.square-sum.ensures.to
-        (times_below (c.loop-q.q-index + 1) (length c.args.others.now) (2 ^ 68) (omega arith) c.requires.few (omega arith)) in
+    step s c.square-sum.result c.loop-q.q-index (2 ^ 68) c.loop-q.invariant.from c.loop-q.invariant.to c.square-sum.ensures.from c.square-sum.ensures.to
+    (times_below (c.loop-q.q-index + 1) (length c.args.others.now) (2 ^ 68) (omega arith) c.requires.few (omega arith)) in
     record {
       value = next s _ c.square-sum.result (gap c.args.p q *ℤ gap c.args.p q) (gaps_from c.args.p later) (gaps_from c.args.p c.args.others.now)
           (ap (λ (l : List Reach). s +ℤ gaps_from c.args.p l) (sym e) ∙ c.loop-q.invariant.value) v t.is;

@@ -24,7 +24,7 @@ returns-in_err-sum-clause-refused c =
     let inside : k < length signals = search rules in
     let l : length signals ≡ 4 = ap length c.counted_signals-signals.ensures in
     let here : get_or (counted 0) k (get_or signals k 0) ≡ get_or signals k 0 =
-        ap (λ (x : List ℕ). get_or x k (get_or signals k 0)) (sym c.counted_signals-signals.ensures) ∙ get_or_default signals k (get_or signals k 0) 0 inside in
+    ap (λ (x : List ℕ). get_or x k (get_or signals k 0)) (sym c.counted_signals-signals.ensures) ∙ get_or_default signals k (get_or signals k 0) 0 inside in
     (λ e. (k, get_or signals k 0, omega arith, here, c.in_err-sum.ensures.wide), λ w. c.from_residual.ensures.0)
 
 pub loop-signal-preserved : goal.loop-signal-preserved
@@ -38,7 +38,7 @@ loop-signal-preserved c =
     let s : ℤ = to_z w128 c.loop-signal.sum-bits in
     let q : ℤ = c.in_ok-sum.field-0 in
     let t : Step (to_z w128 (of_z w128 (s +ℤ to_z w128 (of_z w128 q)))) s q k (2 ^ 104) =
-        step s q k (2 ^ 104) c.loop-signal.invariant.from c.loop-signal.invariant.to c.in_ok-sum.ensures.from c.in_ok-sum.ensures.to (times_below (k + 1) 4 (2 ^ 104) (omega arith) (omega arith) (omega arith)) in
+    step s q k (2 ^ 104) c.loop-signal.invariant.from c.loop-signal.invariant.to c.in_ok-sum.ensures.from c.in_ok-sum.ensures.to (times_below (k + 1) 4 (2 ^ 104) (omega arith) (omega arith) (omega arith)) in
     record {
       value = next s _ q (f (get_or signals k 0)) (sum (map f (drop (k + 1) signals))) (sum (map f signals))
           (ap (λ (x : List ℕ). s +ℤ sum (map f x)) (sym e) ∙ c.loop-signal.invariant.value) c.in_ok-sum.ensures.value t.is;
@@ -55,7 +55,7 @@ returns-clause-above c =
     let s : ℤ = to_z w128 c.loop-signal.sum-bits in
     let past : drop k signals ≡ [] = drop_all k signals (omega arith) in
     let all : s +ℤ pos 0 ≡ sum (map f (counted 0)) =
-        ap (λ (x : List ℕ). s +ℤ sum (map f x)) (sym past) ∙ c.loop-signal.invariant.value ∙ ap (λ (x : List ℕ). sum (map f x)) c.counted_signals-signals.ensures in
+    ap (λ (x : List ℕ). s +ℤ sum (map f x)) (sym past) ∙ c.loop-signal.invariant.value ∙ ap (λ (x : List ℕ). sum (map f x)) c.counted_signals-signals.ensures in
     let one : List PairRows = c.args.pair.now ∷ [] in
     subst (StaysAtMost c.args.arcs.now 0 one c.args.z.now c.args.moved.now) (sym (no_more s (sum (map f (counted 0))) all))
     (stays_at_most c.args.arcs.now one c.args.z.now c.args.moved.now c.requires.entries)

@@ -36,7 +36,7 @@ returns-clause-value c =
     let some = c.args.pair.now.some_rows in
     let few = c.args.pair.now.few_rows in
     let w : Weighted c.share.result c.gaps.result = weighted c.share.result c.gaps.result (length rows) (omega arith) (omega arith) c.share.ensures.from c.share.ensures.to c.gaps.ensures.from
-        (subst (λ (k : ℕ). c.gaps.result ≤ℤ pos (k * 2 ^ 72)) n c.gaps.ensures.to) in
+    (subst (λ (k : ℕ). c.gaps.result ≤ℤ pos (k * 2 ^ 72)) n c.gaps.ensures.to) in
     product_word c.share.result c.gaps.result w
     ∙ ap₂ (λ (a b : ℤ). a *ℤ b) (c.share.ensures.value ∙ ap (λ (k : ℕ). share k c.args.signal) m) (c.gaps.ensures.value ∙ ap gaps (same ∙ ap (map f) c.as_slice-rows.ensures))
 
@@ -50,7 +50,7 @@ returns-clause-from c =
     let some = c.args.pair.now.some_rows in
     let few = c.args.pair.now.few_rows in
     let w : Weighted c.share.result c.gaps.result = weighted c.share.result c.gaps.result (length rows) (omega arith) (omega arith) c.share.ensures.from c.share.ensures.to c.gaps.ensures.from
-        (subst (λ (k : ℕ). c.gaps.result ≤ℤ pos (k * 2 ^ 72)) n c.gaps.ensures.to) in
+    (subst (λ (k : ℕ). c.gaps.result ≤ℤ pos (k * 2 ^ 72)) n c.gaps.ensures.to) in
     subst (λ (x : ℤ). pos 0 ≤ℤ x) (sym (product_word c.share.result c.gaps.result w)) w.from
 
 pub returns-clause-to : goal.returns-clause-to
@@ -63,7 +63,7 @@ returns-clause-to c =
     let some = c.args.pair.now.some_rows in
     let few = c.args.pair.now.few_rows in
     let w : Weighted c.share.result c.gaps.result = weighted c.share.result c.gaps.result (length rows) (omega arith) (omega arith) c.share.ensures.from c.share.ensures.to c.gaps.ensures.from
-        (subst (λ (k : ℕ). c.gaps.result ≤ℤ pos (k * 2 ^ 72)) n c.gaps.ensures.to) in
+    (subst (λ (k : ℕ). c.gaps.result ≤ℤ pos (k * 2 ^ 72)) n c.gaps.ensures.to) in
     subst (λ (x : ℤ). x ≤ℤ pos (2 ^ 104)) (sym (product_word c.share.result c.gaps.result w)) w.to
 
 pub returns-clause-narrow : goal.returns-clause-narrow

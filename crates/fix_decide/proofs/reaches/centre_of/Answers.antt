@@ -25,7 +25,7 @@ returns-clause-value c =
     let ep : to_z w128 (of_z w128 p) ≡ scalar_product c.args.row.now.u c.args.moved.now = as_w128 p (omega (arith, c.scalar_product.ensures.size)) ∙ c.scalar_product.ensures.value in
     let f : ℤ = c.finer-residual.result in
     let ef : to_z w128 (of_z w128 f) ≡ (y *ℤ pos (2 ^ 16)) -ℤ scalar_product c.args.row.now.u c.args.moved.now =
-        as_w128 f (omega (arith, c.finer-residual.ensures.size)) ∙ c.finer-residual.ensures.value ∙ ap₂ (λ a b. (a *ℤ pos (2 ^ 16)) -ℤ b) (as_w64 y (omega arith)) ep in
+    as_w128 f (omega (arith, c.finer-residual.ensures.size)) ∙ c.finer-residual.ensures.value ∙ ap₂ (λ a b. (a *ℤ pos (2 ^ 16)) -ℤ b) (as_w64 y (omega arith)) ep in
     let n : ℤ = c.integer_of-integer.result in
     let en : to_z w64 (of_z w64 n) ≡ integer c.args.arcs.now 0 c.args.z.now c.args.row.now.arc c.args.signal = as_w64 n (omega (arith, c.integer_of-integer.ensures.size)) ∙ c.integer_of-integer.ensures.value in
     difference_word c.rounded_down.result c.cycles.result (omega (arith, c.rounded_down.ensures.size)) (omega (arith, c.cycles.ensures.size))

@@ -26,7 +26,7 @@ pub returns-clause-value : goal.returns-clause-value
 returns-clause-value c =
     let s : ℤ = c.scalar_product-spread.result in
     let e : to_z w128 (of_z w128 s) ≡ scalar_product c.args.row.now.ru (map size c.args.moved.now) =
-        as_w128 s (omega (arith, c.scalar_product-spread.ensures.size)) ∙ c.scalar_product-spread.ensures.value ∙ ap (scalar_product c.args.row.now.ru) c.sizes.ensures.value in
+    as_w128 s (omega (arith, c.scalar_product-spread.ensures.size)) ∙ c.scalar_product-spread.ensures.value ∙ ap (scalar_product c.args.row.now.ru) c.sizes.ensures.value in
     radius_word c.args.row.now.ry c.rounded_up.result c.args.row.now.ry_in.0 c.args.row.now.ry_in.1 c.rounded_up.ensures.size
     ∙ ap (λ u. (c.args.row.now.ry +ℤ u) +ℤ pos 1) (c.rounded_up.ensures.value ∙ ap (λ x. ceil_div x (2 ^ 16)) e)
 
@@ -37,9 +37,9 @@ returns-clause-from c =
     let l1 : 1 < length c.args.row.now.ru = search rules in
     let l2 : 2 < length c.args.row.now.ru = search rules in
     let e : to_z w128 (of_z w128 s) ≡ scalar_product c.args.row.now.ru (map size c.args.moved.now) =
-        as_w128 s (omega (arith, c.scalar_product-spread.ensures.size)) ∙ c.scalar_product-spread.ensures.value ∙ ap (scalar_product c.args.row.now.ru) c.sizes.ensures.value in
+    as_w128 s (omega (arith, c.scalar_product-spread.ensures.size)) ∙ c.scalar_product-spread.ensures.value ∙ ap (scalar_product c.args.row.now.ru) c.sizes.ensures.value in
     let p : pos 0 ≤ℤ scalar_product c.args.row.now.ru (map size c.args.moved.now) =
-        product_nonneg c.args.row.now.ru c.args.moved.now (c.args.row.now.ru_in 0 (pos 0) l0).0 (c.args.row.now.ru_in 1 (pos 0) l1).0 (c.args.row.now.ru_in 2 (pos 0) l2).0 in
+    product_nonneg c.args.row.now.ru c.args.moved.now (c.args.row.now.ru_in 0 (pos 0) l0).0 (c.args.row.now.ru_in 1 (pos 0) l1).0 (c.args.row.now.ru_in 2 (pos 0) l2).0 in
     let u : pos 0 ≤ℤ c.rounded_up.result = subst (λ (x : ℤ). pos 0 ≤ℤ x) (sym (c.rounded_up.ensures.value ∙ ap (λ x. ceil_div x (2 ^ 16)) e)) (ceil_nonneg (scalar_product c.args.row.now.ru (map size c.args.moved.now)) (2 ^ 16) p) in
     subst (λ (x : ℤ). pos 0 ≤ℤ x) (sym (radius_word c.args.row.now.ry c.rounded_up.result c.args.row.now.ry_in.0 c.args.row.now.ry_in.1 c.rounded_up.ensures.size))
     (at_least_one c.args.row.now.ry c.rounded_up.result c.args.row.now.ry_in.0 u)

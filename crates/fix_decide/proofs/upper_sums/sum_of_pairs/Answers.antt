@@ -29,7 +29,7 @@ loop-pair-preserved c =
     let s : ℤ = to_z w128 c.loop-pair.sum-bits in
     let q : ℤ = c.in_ok-sum.field-0 in
     let t : Step (to_z w128 (of_z w128 (s +ℤ to_z w128 (of_z w128 q)))) s q k (2 ^ 106) =
-        step s q k (2 ^ 106) c.loop-pair.invariant.from c.loop-pair.invariant.to c.in_ok-sum.ensures.from c.in_ok-sum.ensures.to (few k (length pairs) inside c.requires.few) in
+    step s q k (2 ^ 106) c.loop-pair.invariant.from c.loop-pair.invariant.to c.in_ok-sum.ensures.from c.in_ok-sum.ensures.to (few k (length pairs) inside c.requires.few) in
     let W : PairRows → Type 0 = IsWide c.args.arcs.now c.args.z.now c.args.moved.now in
     record {
       value = next s _ q (f x) (sum (map f later)) (sum (map f pairs)) (ap (λ (l : List PairRows). s +ℤ sum (map f l)) (sym e) ∙ c.loop-pair.invariant.value) c.in_ok-sum.ensures.value t.is;

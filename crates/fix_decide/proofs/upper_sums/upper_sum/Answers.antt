@@ -35,7 +35,7 @@ returns-clause-above c =
     let t : ℤ = c.ceil_shift.result in
     let u_word : to_z w128 (of_z w128 u) ≡ u = small_w128 u c.in_ok-sum.ensures.from (weaker u c.in_ok-sum.ensures.to) in
     let u_is : u ≡ upper_sum arcs pairs c.args.z.now c.args.moved.now =
-        c.in_ok-sum.ensures.value ∙ ap₂ (λ (a : List Arc) (p : List PairRows). upper_sum a p c.args.z.now c.args.moved.now) c.as_slice.ensures c.as_slice-2.ensures in
+    c.in_ok-sum.ensures.value ∙ ap₂ (λ (a : List Arc) (p : List PairRows). upper_sum a p c.args.z.now c.args.moved.now) c.as_slice.ensures c.as_slice-2.ensures in
     let t_is : t ≡ top h arcs pairs c.args.z.now c.args.moved.now = c.ceil_shift.ensures.value ∙ ap (λ x. ceil_div x (2 ^ h)) (u_word ∙ u_is) in
     let t_word : to_z w128 (of_z w128 t) ≡ t = as_w128 t (smaller t u c.in_ok-sum.ensures.from c.in_ok-sum.ensures.to (subst (λ (x : ℤ). unsigned_abs t ≤ unsigned_abs x) u_word c.ceil_shift.ensures.size)) in
     let A : ℕ → ℤ → Type 0 = λ s x. StaysAtMost arcs s pairs c.args.z.now c.args.moved.now (pos (2 ^ h) *ℤ x) in
