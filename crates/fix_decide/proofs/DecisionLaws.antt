@@ -1,5 +1,5 @@
 -- Where the values are separated, the least integers are strictly best for all data.
-use Rattle.std.proofs.Common.{◌≡◌, ◌≢◌, ℕ, ◌^◌, ◌<◌, List, [], ◌∷◌, length, ℤ, pos, ◌+ℤ◌, ◌*ℤ◌, ◌≤ℤ◌, ◌<ℤ◌, arith, sym, ap, ◌∙◌, refl, pow_pos}
+use Rattle.std.proofs.Common.{◌≡◌, ◌≢◌, ℕ, ◌^◌, List, [], ◌∷◌, length, ℤ, pos, ◌*ℤ◌, ◌≤ℤ◌, ◌<ℤ◌, arith, sym, ap, ◌∙◌, refl, pow_pos}
 use Rattle.whole_math.specs.Vectors.{len}
 use Rattle.whole_math.proofs.Vectors.{len_is}
 use Rattle.whole_math.proofs.Order.{mul_lt_cancel}

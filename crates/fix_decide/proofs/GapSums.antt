@@ -1,8 +1,7 @@
 -- The steps of the sums over rows.
-use Rattle.std.proofs.Common.{◌≡◌, ℕ, ◌+◌, ◌*◌, ◌^◌, ◌≤◌, ◌<◌, ℤ, pos, ◌+ℤ◌, ◌*ℤ◌, ◌≤ℤ◌, [], ◌∷◌, arith, ap, ◌∙◌, refl, to_z, of_z}
+use Rattle.std.proofs.Common.{◌≡◌, ℕ, ◌+◌, ◌*◌, ◌^◌, ◌≤◌, ℤ, pos, ◌+ℤ◌, ◌≤ℤ◌, arith, to_z, of_z}
 use Rattle.std.specs.Int.{w128}
-use Rattle.whole_math.proofs.Ring.{◌⊕◌}
-use Rattle.whole_math.proofs.Inequalities.{same_by, both_nn}
+use Rattle.whole_math.proofs.Inequalities.{both_nn}
 use Rattle.whole_math.proofs.Order.{lins}
 use Rattle.fix_decide.proofs.Words.{sum_word}
 

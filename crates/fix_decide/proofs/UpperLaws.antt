@@ -1,15 +1,15 @@
 -- The upper sum over rows is that of their signal groups, and bounds the sum of squares for all data.
-use Rattle.std.proofs.Common.{◌≡◌, ℕ, ◌^◌, List, [], ◌∷◌, ◌++◌, length, map, ℤ, pos, neg_ℤ, ◌+ℤ◌, ◌-ℤ◌, ◌*ℤ◌, ◌≤ℤ◌, arith, sym, ap, ap₂, ◌∙◌, refl, subst, pow_pos}
+use Rattle.std.proofs.Common.{◌≡◌, ℕ, ◌^◌, List, [], ◌∷◌, ◌++◌, length, map, ℤ, pos, neg_ℤ, ◌+ℤ◌, ◌-ℤ◌, ◌*ℤ◌, ◌≤ℤ◌, arith, sym, ap₂, ◌∙◌, refl, pow_pos}
 use Rattle.std.proofs.lemmas.List.{length-map}
 use Rattle.whole_math.specs.Vectors.{sum, dot}
-use Rattle.whole_math.specs.Rounding.{floor_div, ceil_div}
+use Rattle.whole_math.specs.Rounding.{floor_div}
 use Rattle.whole_math.proofs.Order.{lins}
-use Rattle.whole_math.proofs.Ring.{◌⊕◌, ◌⊖◌, ◌⊗◌, ng}
+use Rattle.whole_math.proofs.Ring.{◌⊕◌, ◌⊗◌, ng}
 use Rattle.whole_math.proofs.Inequalities.{same_by}
 use Rattle.whole_math.proofs.Rounding.{ceil_close}
 use Rattle.rational.specs.Rational.{Rational, of_whole, ◌≤ʳ◌}
 use Rattle.rational.proofs.Laws.{≤ʳ_trans, of_whole-le}
-use Rattle.quadratic_form.specs.Rows.{SignalGroup, WholeBaseline, share as group_share}
+use Rattle.quadratic_form.specs.Rows.{SignalGroup, share as group_share}
 use Rattle.quadratic_form.specs.UpperSum.{size, centre as group_centre, rad as group_rad, gap as group_gap, gaps_from as group_gaps_from, gaps as group_gaps, upper_sum as group_sum}
 use Rattle.quadratic_form.proofs.RationalData.{upper_over_rationals}
 use Rattle.obs_rows.specs.declared.arcs.Arc.{Arc}
@@ -24,9 +24,8 @@ use Rattle.obs_rows.specs.SignalGroups.{cycles, signal_row, signal_group, signal
 use Rattle.obs_rows.proofs.IntegerPlaces.{place_below, dot_only_at}
 use Rattle.obs_rows.proofs.GroupLaws.{sum_is, data_fit}
 use Rattle.obs_rows.proofs.SessionLaws.{groups_of_vector}
-use Rattle.fix_decide.specs.declared.reaches.Reach.{Reach}
 use Rattle.fix_decide.specs.Reaches.{gap, gaps_from, gaps}
-use Rattle.fix_decide.specs.UpperSums.{scalar_product, centre, rad, reach_of, signal_upper, pair_upper, upper_sum, top}
+use Rattle.fix_decide.specs.UpperSums.{scalar_product, centre, rad, reach_of, signal_upper, upper_sum, top}
 use Rattle.fix_decide.specs.Bounds.{StaysAtMost}
 use Rattle.fix_decide.proofs.Radii.{number-sizes}
 

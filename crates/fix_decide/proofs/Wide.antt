@@ -1,5 +1,5 @@
 -- Rows that are wide for a signal, and rows that are not.
-use Rattle.std.proofs.Common.{◌≡◌, ℕ, ◌^◌, ◌<◌, List, length, map, ℤ, pos, ◌≤ℤ◌, ◌<ℤ◌, Result, Ok, Err, OnErr, get_or, arith, sym, ap, ◌∙◌, subst, All, Any}
+use Rattle.std.proofs.Common.{ℕ, ◌^◌, ◌<◌, List, length, map, ℤ, pos, ◌≤ℤ◌, ◌<ℤ◌, Result, Ok, Err, OnErr, get_or, arith, sym, ap, ◌∙◌, subst, All, Any}
 use Rattle.std.proofs.lemmas.List.{length-map, get_or-map, get_or_default}
 use Rattle.whole_math.proofs.Order.{lins}
 use Rattle.fix_decide.specs.declared.reaches.Reach.{Reach}

@@ -1,11 +1,10 @@
 use Rattle.std.proofs.Common.{◌≡◌, ◌^◌, ◌<◌, ◌≤◌, length, map, ℤ, pos, ◌+ℤ◌, ◌≤ℤ◌, unsigned_abs, to_z, of_z, arith, sym, ap, ◌∙◌, subst, rules}
 use Rattle.std.proofs.lemmas.Int.{ints}
-use Rattle.std.specs.Int.{w64, w128}
+use Rattle.std.specs.Int.{w128}
 use Rattle.whole_math.specs.Rounding.{ceil_div}
 use Rattle.quadratic_form.specs.UpperSum.{size}
-use Rattle.obs_rows.specs.Data.{number_at}
 use Rattle.normal_sum.proofs.Words.{as_w128}
-use Rattle.fix_decide.specs.UpperSums.{scalar_product, rad}
+use Rattle.fix_decide.specs.UpperSums.{scalar_product}
 use Rattle.fix_decide.proofs.Words.{radius_word}
 use Rattle.fix_decide.proofs.Radii.{product_nonneg, ceil_nonneg}
 use Rattle.fix_decide.proofs.reaches.radius_of.Goals as goal
