@@ -4,4 +4,5 @@ pub mod Radii
 pub mod Wide
 pub mod Products
 pub mod UpperLaws
+pub mod SessionForms
 pub mod DecisionLaws

@@ -1,6 +1,29 @@
 //! The decision whether the least integers are fixed.
-ghost use Rattle.std.specs.Prelude.{◌↔◌, ◌^◌, ◌≤◌, ◌≡◌, pos, ◌*ℤ◌, ◌≤ℤ◌, IsTrue};
-ghost use Rattle.fix_decide.specs.Decisions.{IsSeparated};
+ghost use Rattle.std.specs.Prelude.{◌≡◌, ◌⊎◌, ◌↔◌, ◌^◌, ◌≤◌, pos, ◌*ℤ◌, ◌≤ℤ◌, IsTrue, IfOk, IfErr, IsErrAnd};
+ghost use Rattle.integer_form.specs.declared.faults.Place.TheVariants.{Float, Sum};
+ghost use Rattle.integer_form.specs.FloatPoint.{HasWide};
+ghost use Rattle.obs_rows.specs.Best.{IsStrictlyBest};
+ghost use Rattle.fix_decide.specs.UpperSums.{top};
+ghost use Rattle.fix_decide.specs.Widths.{AreWide};
+ghost use Rattle.fix_decide.specs.Decisions.{IsFormOf, AreTwoBest, IsSeparated, first_of, move_of};
+
+use crate::upper_sums::upper_sum;
+use int_search::TwoBest;
+use integer_form::{Form, Overwidth};
+use obs_rows::Session;
+
+/// Whether the integers at which a session's form is least are fixed, with the numbers that say so.
+#[derive(Clone, Copy, Debug, PartialEq, Eq)]
+pub struct Decision {
+    /// Whether 1000 · p2 > 64 · ratio · top. Then the first integers with the move are strictly best for all data.
+    pub fixed: bool,
+    /// The two least vectors of the form, with its values there.
+    pub best: TwoBest,
+    /// The baseline of the first, as a move in 2^-10 κ.
+    pub moved: [i64; 3],
+    /// The upper sum at the first with this move, in units of 2^h.
+    pub top: i128,
+}
 
 /// The sum of squares is divided by 64 in the bound of the form; the ratio is in thousandths.
 const PARTS: i128 = 64;
@@ -28,4 +51,43 @@ pub(crate) fn is_separated(ratio: u32, top: i128, p2: i128) -> bool
         return false;
     }
     times_ratio(ratio, top) < 1000 * p2
+}
+
+/// Decides whether the least integers of a fine session's form are fixed, at a ratio in thousandths.
+///
+/// Where they are, they are with their move strictly best: whatever the data in the boxes are, each other integer vector,
+/// with any baseline, has a greater weighted sum of squares. Refused by the place `Float` exactly where a number of the
+/// baseline is 2^46 or more in size, and else by the place `Sum` exactly where the residual of some row may lie 2^33 or
+/// more from 0.
+pub fn decide(
+    session: &Session,
+    form: &Form,
+    best: &TwoBest,
+    ratio: u32,
+) -> Result<Decision, Overwidth>
+    requires fine { session.now.scale ≡ 0 }
+    requires form { IsFormOf session.now form.now }
+    requires best { AreTwoBest form.now best.now }
+    requires ratio_from { 1000 ≤ ratio }
+    requires ratio_to { ratio ≤ 100_000 }
+
+    ensures best { IfOk result (λ d. d.best ≡ best.now) }
+    ensures moved { IfOk result (λ d. d.moved ≡ move_of form.now (first_of best.now)) }
+    ensures top { IfOk result (λ d. d.top ≡ top form.now.h session.now.arcs session.now.pairs (first_of best.now) d.moved) }
+    ensures fixed { IfOk result (λ d. IsTrue d.fixed ↔ IsSeparated (pos ratio) d.top best.now.p2) }
+    ensures strictly_best { IfOk result (λ d. IsTrue d.fixed → IsStrictlyBest session.now (first_of best.now) d.moved) }
+
+    ensures float { IsErrAnd result (λ e. e.place ≡ Float) ↔ HasWide (move_of form.now (first_of best.now)) }
+    ensures sum { IsErrAnd result (λ e. e.place ≡ Sum) ↔ ((HasWide (move_of form.now (first_of best.now)) → ⊥) × AreWide session.now.arcs session.now.pairs (first_of best.now) (move_of form.now (first_of best.now))) }
+    ensures only { IfErr result (λ e. (e.place ≡ Float) ⊎ (e.place ≡ Sum)) }
+{
+    let first = &best.first[..best.size];
+    let moved = form.baseline_of(first)?;
+    let top = upper_sum(session, form, first, &moved)?;
+    Ok(Decision {
+        fixed: is_separated(ratio, top, best.p2),
+        best: *best,
+        moved,
+        top,
+    })
 }

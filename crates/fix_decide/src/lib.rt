@@ -7,6 +7,7 @@ mod pairs;
 mod reaches;
 mod upper_sums;
 
+pub use decision::{Decision, decide};
 pub use pairs::pair_upper;
 pub use upper_sums::upper_sum;
 

@@ -1,8 +1,8 @@
 mod ExponentLaws
-mod FrontLaws
+pub mod FrontLaws
 mod FirstRoundingLaws
 mod TableLaws
 mod KeptLaws
-mod FinishLaws
+pub mod FinishLaws
 mod FrontKept
 mod LowerLaws

@@ -1,0 +1,88 @@
+-- What is known of the form of a session and of its two least vectors.
+use Rattle.std.proofs.Common.{◌≡◌, ℕ, zero, suc, ◌+◌, ◌-◌, ◌*◌, ◌^◌, ◌<◌, ◌≤◌, true, false, Bool, List, [], ◌∷◌, ◌++◌, length, ℤ, pos, ◌<ℤ◌, Result, Ok, Err, arith, sym, ap, ◌∙◌, subst, unsigned_abs, All}
+use Rattle.std.proofs.lemmas.List.{get_or_default}
+use Rattle.whole_math.specs.Vectors.{len, zeros}
+use Rattle.whole_math.proofs.Vectors.{len_is}
+use Rattle.whole_math.proofs.Order.{lins}
+use Rattle.quadratic_form.specs.Forms.{Column}
+use Rattle.quadratic_form.specs.Elimination.{Factor, Refusal, wide_entry, form_small, steps}
+use Rattle.quadratic_form.specs.TwoLeast.{TwoLeast}
+use Rattle.quadratic_form.proofs.LowerSums.{small_second}
+use Rattle.obs_rows.specs.declared.sessions.Session.{Session}
+use Rattle.obs_rows.specs.Arcs.{free_count}
+use Rattle.obs_rows.specs.Ranges.{IsBelow}
+use Rattle.obs_rows.specs.Tables.{entry}
+use Rattle.obs_rows.specs.Integers.{integer_count}
+use Rattle.obs_rows.proofs.IntegerPlaces.{length_zeros}
+use Rattle.normal_sum.specs.declared.normal.Normal.{Normal}
+use Rattle.integer_form.specs.declared.form.Form.{Form}
+use Rattle.integer_form.specs.Factors.{stored}
+use Rattle.integer_form.specs.Forms.{integers_of, columns_of, value_of}
+use Rattle.integer_form.specs.FloatPoint.{item, HasWide}
+use Rattle.integer_form.proofs.FormShapes.{len_form, shaped_form, len_with_one, columns_left}
+use Rattle.lower_form.specs.FirstRounding.{first_form}
+use Rattle.lower_form.specs.Fronts.{front_of, BoundsAllData}
+use Rattle.lower_form.proofs.FrontLaws.{bounds_all}
+use Rattle.lower_form.proofs.FinishLaws.{small_form}
+use Rattle.int_search.specs.declared.answer.TwoBest.{TwoBest}
+use Rattle.fix_decide.specs.Decisions.{IsFormOf, AreTwoBest, first_of, second_of}
+
+-- ---- the bound over all data
+abbrev Answer : Type 0
+Answer = Result (List Factor × List Column) Refusal
+
+-- an answer that isn't refused is that of the steps
+taken : (r : Answer) (b : Bool) (p : List Factor × List Column) → elim b as (λ x. Answer) [ true ↦ r | false ↦ Err wide_entry ] ≡ Ok p → r ≡ Ok p
+taken r true p e = e
+taken r false p e = absurd (apart e)
+  where
+    apart : Err wide_entry ≡ Ok p → ⊥
+    apart e = cc
+
+pub bounds_of : (s : Session) (f : Form) → IsFormOf s f → BoundsAllData s.arcs s.scale s.pairs f.h (columns_of f)
+bounds_of s f h = bounds_all s.arcs s.scale s.pairs h.normal f.h (stored f.d f.l f.columns 0 3, columns_of f) h.of_rows
+    (taken (steps 0 3 (first_form f.h h.normal)) (form_small (first_form f.h h.normal)) (stored f.d f.l f.columns 0 3, columns_of f) h.lowered.front)
+
+-- ---- the number of integers
+pub integers_are : (s : Session) (f : Form) → IsFormOf s f → s.scale ≡ 0 → integers_of f ≡ integer_count s.arcs 0
+integers_are s f h fine = fewer f.columns h.normal.columns (integer_count s.arcs s.scale) (integer_count s.arcs 0) h.lowered.columns h.of_rows.columns (ap (integer_count s.arcs) fine)
+  where
+    fewer : (a b c d : ℕ) → a ≡ b → b ≡ 4 + c → c ≡ d → a - 4 ≡ d
+    fewer a b c d e f g = omega arith
+
+some_integers : (s : Session) → 1 ≤ integer_count s.arcs 0
+some_integers s = twice (free_count s.arcs) s.arcs_in.some_free
+  where
+    twice : (n : ℕ) → 1 ≤ n → 1 ≤ 2 * n
+    twice n h = omega arith
+
+-- ---- the second value is below 2^54
+one_less : (n : ℕ) → 1 ≤ n → n ≡ suc (n - 1)
+one_less n h = omega arith
+
+small_value : (f : Form) (n : ℕ) (z1 z2 : List ℤ) → integers_of f ≡ suc n → TwoLeast (columns_of f) (pos (integers_of f)) z1 z2 → value_of f z2 <ℤ pos (2 ^ 54)
+small_value f n z1 z2 e t = small_second n (columns_of f) z1 z2 (small_form (entry f.p) 0 (f.columns - 3) f.entries_in) (shaped_form (entry f.p) 0 (f.columns - 3))
+    (len_form (entry f.p) 0 (f.columns - 3) ∙ ap pos (columns_left f.columns f.columns_from ∙ ap suc e) ∙ sym (len_with_one (zeros (suc n)) (suc n) (length_zeros (suc n))))
+    (subst (λ (k : ℤ). TwoLeast (columns_of f) k z1 z2) (ap pos e ∙ sym (len_is (zeros (suc n)) ∙ ap pos (length_zeros (suc n)))) t)
+
+pub second_small : (s : Session) (f : Form) (b : TwoBest) → IsFormOf s f → s.scale ≡ 0 → AreTwoBest f b → b.p2 <ℤ pos (2 ^ 54)
+second_small s f b h fine two = subst (λ (x : ℤ). x <ℤ pos (2 ^ 54)) (sym two.second_value)
+    (small_value f (integers_of f - 1) (first_of b) (second_of b) (one_less (integers_of f) (subst (λ (k : ℕ). 1 ≤ k) (sym (integers_are s f h fine)) (some_integers s)))
+    (subst (λ (k : ℕ). TwoLeast (columns_of f) (pos k) (first_of b) (second_of b)) two.size two.least))
+
+-- ---- the entries of the first vector
+pub first_length : (f : Form) (b : TwoBest) → AreTwoBest f b → length (first_of b) ≡ b.size
+first_length f b two = same (length (first_of b)) b.size (sym (len_is (first_of b)) ∙ two.least.first)
+  where
+    same : (a b : ℕ) → pos a ≡ pos b → a ≡ b
+    same a b e = omega (arith, lins)
+
+pub least_of : (f : Form) (b : TwoBest) → AreTwoBest f b → TwoLeast (columns_of f) (len (first_of b)) (first_of b) (second_of b)
+least_of f b two = subst (λ (k : ℤ). TwoLeast (columns_of f) k (first_of b) (second_of b)) (sym two.least.first) two.least
+
+-- ---- a baseline that isn't wide
+pub all_narrow : (m : List ℤ) → (HasWide m → ⊥) → All (IsBelow (2 ^ 46)) m
+all_narrow m h k d inside = subst (λ (x : ℤ). unsigned_abs x < 2 ^ 46) (get_or_default m k (pos 0) d inside) (not_wide (unsigned_abs (item m k)) (λ g. h (k, g)))
+  where
+    not_wide : (n : ℕ) → (2 ^ 46 ≤ n → ⊥) → n < 2 ^ 46
+    not_wide n f = omega arith

@@ -1,0 +1,77 @@
+use Rattle.std.proofs.Common.{◌≡◌, ℕ, ◌^◌, ◌<◌, ◌≤◌, List, length, All, ℤ, pos, ◌*ℤ◌, ◌≤ℤ◌, ◌<ℤ◌, IsTrue, FitsSigned, to_z, of_z, arith, sym, ap, ◌∙◌, refl, subst, rules}
+use Rattle.std.proofs.lemmas.Bool.{false≢true}
+use Rattle.std.proofs.lemmas.Int.{ints}
+use Rattle.std.proofs.lemmas.Result.{err_from_is_err_and}
+use Rattle.std.specs.Int.{w128}
+use Rattle.std.specs.Prelude.{IsErrAnd}
+use Rattle.obs_rows.specs.Ranges.{IsBelow}
+use Rattle.obs_rows.specs.Integers.{integer_count}
+use Rattle.integer_form.specs.declared.faults.Overwidth.{Overwidth}
+use Rattle.integer_form.specs.declared.faults.Place.TheVariants.{Sum}
+use Rattle.integer_form.specs.FloatPoint.{HasWide}
+use Rattle.integer_form.specs.Forms.{columns_of, value_of}
+use Rattle.fix_decide.specs.Widths.{AreWide}
+use Rattle.fix_decide.specs.Decisions.{IsSeparated, first_of, second_of, move_of}
+use Rattle.fix_decide.proofs.Words.{small_w128}
+use Rattle.fix_decide.proofs.SessionForms.{bounds_of, integers_are, second_small, first_length, least_of, all_narrow}
+use Rattle.fix_decide.proofs.DecisionLaws.{best_from_bounds}
+use Rattle.fix_decide.proofs.decision.decide.Goals as goal
+
+-- a value below 2^54 that fits its word
+own_word : (x : ℤ) → FitsSigned w128 x → to_z w128 (of_z w128 x) ≡ x
+own_word x h = omega (arith, ints)
+
+small : (x : ℤ) → x <ℤ pos (2 ^ 54) → x ≤ℤ pos (2 ^ 62)
+small x h = omega (arith, ints)
+
+weaker : (x : ℤ) → x ≤ℤ pos (2 ^ 118) → x ≤ℤ pos (2 ^ 126)
+weaker x h = omega (arith, ints)
+
+at_least : (n : ℕ) → 1000 ≤ n → pos 1000 ≤ℤ pos n
+at_least n h = omega (arith, ints)
+
+pub upper_sum-requires-clause-moved_size : goal.upper_sum-requires-clause-moved_size
+upper_sum-requires-clause-moved_size c =
+    let m : List ℤ = move_of c.args.form.now (first_of c.args.best.now) in
+    subst (All (IsBelow (2 ^ 46))) (sym c.in_ok-moved.ensures.ok) (all_narrow m (λ w. false≢true (c.in_ok-moved.ensures.refused.1 w)))
+
+pub returns-in_err-top-clause-sum : goal.returns-in_err-top-clause-sum
+returns-in_err-top-clause-sum c =
+    let W : List ℤ → Type 0 = AreWide c.args.session.now.arcs c.args.session.now.pairs (first_of c.args.best.now) in
+    let wide : W (move_of c.args.form.now (first_of c.args.best.now)) = subst W c.in_ok-moved.ensures.ok (c.in_err-top.ensures.refused.0 refl) in
+    let told : IsErrAnd c.from_residual-in_err-top.result (λ (e : Overwidth). e.place ≡ Sum) =
+        let p = err_from_is_err_and c.from_residual-in_err-top.result c.from_residual-in_err-top.ensures.1 in rw (p.1, p.2) c.in_err-top.ensures.place in
+    (λ e. (λ w. false≢true (c.in_ok-moved.ensures.refused.1 w), wide), λ w. told)
+
+pub is_separated-requires-clause-p2_to : goal.is_separated-requires-clause-p2_to
+is_separated-requires-clause-p2_to c =
+    let fits : FitsSigned w128 c.args.best.now.p2 = search rules in
+    subst (λ (x : ℤ). x ≤ℤ pos (2 ^ 62)) (sym (own_word c.args.best.now.p2 fits)) (small c.args.best.now.p2 (second_small c.args.session.now c.args.form.now c.args.best.now c.requires.form c.requires.fine c.requires.best))
+
+pub returns-clause-fixed : goal.returns-clause-fixed
+returns-clause-fixed c =
+    let fits : FitsSigned w128 c.args.best.now.p2 = search rules in
+    let t : ℤ = to_z w128 (of_z w128 c.in_ok-top.top) in
+    subst (λ (x : ℤ). (IsTrue c.is_separated.result → IsSeparated (pos c.args.ratio) t x) × (IsSeparated (pos c.args.ratio) t x → IsTrue c.is_separated.result)) (own_word c.args.best.now.p2 fits) c.is_separated.ensures
+
+pub returns-clause-strictly_best : goal.returns-clause-strictly_best
+returns-clause-strictly_best c =
+    let s = c.args.session.now in
+    let f = c.args.form.now in
+    let b = c.args.best.now in
+    let fits : FitsSigned w128 c.args.best.now.p2 = search rules in
+    let second : to_z w128 (of_z w128 c.args.best.now.p2) ≡ value_of f (second_of b) = own_word c.args.best.now.p2 fits ∙ c.requires.best.second_value in
+    let t : to_z w128 (of_z w128 c.in_ok-top.top) ≡ c.in_ok-top.top = small_w128 c.in_ok-top.top c.in_ok-top.ensures.from (weaker c.in_ok-top.top c.in_ok-top.ensures.to) in
+    let entries : length (first_of b) ≡ integer_count s.arcs s.scale =
+        first_length f b c.requires.best ∙ c.requires.best.size ∙ integers_are s f c.requires.form c.requires.fine ∙ ap (integer_count s.arcs) (sym c.requires.fine) in
+    λ yes. best_from_bounds s f.h (columns_of f) (pos c.args.ratio) c.in_ok-top.top (first_of b) (second_of b) c.in_ok-moved.moved c.requires.fine entries
+        (bounds_of s f c.requires.form) (least_of f b c.requires.best) c.in_ok-top.ensures.above (at_least c.args.ratio c.requires.ratio_from) c.in_ok-top.ensures.from
+        (subst (λ (x : ℤ). IsSeparated (pos c.args.ratio) x (value_of f (second_of b))) t (subst (λ (x : ℤ). IsSeparated (pos c.args.ratio) (to_z w128 (of_z w128 c.in_ok-top.top)) x) second (c.is_separated.ensures.0 yes)))
+
+pub returns-clause-float : goal.returns-clause-float
+returns-clause-float c = (λ e. absurd e, λ w. false≢true (c.in_ok-moved.ensures.refused.1 w))
+
+pub returns-clause-sum : goal.returns-clause-sum
+returns-clause-sum c =
+    let W : List ℤ → Type 0 = AreWide c.args.session.now.arcs c.args.session.now.pairs (first_of c.args.best.now) in
+    (λ e. absurd e, λ w. false≢true (c.in_ok-top.ensures.refused.1 (subst W (sym c.in_ok-moved.ensures.ok) w.1)))
