@@ -1,6 +1,6 @@
 -- What is known of the form of a session and of its two least vectors.
-use Rattle.std.proofs.Common.{◌≡◌, ℕ, zero, suc, ◌+◌, ◌-◌, ◌*◌, ◌^◌, ◌<◌, ◌≤◌, true, false, Bool, List, [], ◌∷◌, ◌++◌, length, ℤ, pos, ◌<ℤ◌, Result, Ok, Err, arith, sym, ap, ◌∙◌, subst, unsigned_abs, All}
-use Rattle.std.proofs.lemmas.List.{get_or_default}
+use Rattle.std.proofs.Common.{◌≡◌, ℕ, zero, suc, ◌+◌, ◌-◌, ◌*◌, ◌^◌, ◌<◌, ◌≤◌, true, false, Bool, List, [], ◌∷◌, ◌++◌, length, ℤ, pos, ◌<ℤ◌, Result, Ok, Err, arith, sym, ap, ◌∙◌, subst, unsigned_abs, All, take, min}
+use Rattle.std.proofs.lemmas.List.{get_or_default, get_or-take, length-take}
 use Rattle.whole_math.specs.Vectors.{len, zeros}
 use Rattle.whole_math.proofs.Vectors.{len_is}
 use Rattle.whole_math.proofs.Order.{lins}
@@ -25,7 +25,9 @@ use Rattle.lower_form.specs.Fronts.{front_of, BoundsAllData}
 use Rattle.lower_form.proofs.FrontLaws.{bounds_all}
 use Rattle.lower_form.proofs.FinishLaws.{small_form}
 use Rattle.int_search.specs.declared.answer.TwoBest.{TwoBest}
-use Rattle.fix_decide.specs.Decisions.{IsFormOf, AreTwoBest, first_of, second_of}
+use Rattle.int_search.specs.Vectors.{IsSmall}
+use Rattle.int_search.specs.Answers.{IsTwoBest}
+use Rattle.fix_decide.specs.Decisions.{IsFormOf, first_of, second_of}
 
 -- ---- the bound over all data
 abbrev Answer : Type 0
@@ -65,20 +67,26 @@ small_value f n z1 z2 e t = small_second n (columns_of f) z1 z2 (small_form (ent
     (len_form (entry f.p) 0 (f.columns - 3) ∙ ap pos (columns_left f.columns f.columns_from ∙ ap suc e) ∙ sym (len_with_one (zeros (suc n)) (suc n) (length_zeros (suc n))))
     (subst (λ (k : ℤ). TwoLeast (columns_of f) k z1 z2) (ap pos e ∙ sym (len_is (zeros (suc n)) ∙ ap pos (length_zeros (suc n)))) t)
 
-pub second_small : (s : Session) (f : Form) (b : TwoBest) → IsFormOf s f → s.scale ≡ 0 → AreTwoBest f b → b.p2 <ℤ pos (2 ^ 54)
-second_small s f b h fine two = subst (λ (x : ℤ). x <ℤ pos (2 ^ 54)) (sym two.second_value)
+pub second_small : (s : Session) (f : Form) (b : TwoBest) → IsFormOf s f → s.scale ≡ 0 → IsTwoBest f b → b.p2 <ℤ pos (2 ^ 54)
+second_small s f b h fine two = subst (λ (x : ℤ). x <ℤ pos (2 ^ 54)) (sym two.p2)
     (small_value f (integers_of f - 1) (first_of b) (second_of b) (one_less (integers_of f) (subst (λ (k : ℕ). 1 ≤ k) (sym (integers_are s f h fine)) (some_integers s)))
-    (subst (λ (k : ℕ). TwoLeast (columns_of f) (pos k) (first_of b) (second_of b)) two.size two.least))
+    two.least)
 
 -- ---- the entries of the first vector
-pub first_length : (f : Form) (b : TwoBest) → AreTwoBest f b → length (first_of b) ≡ b.size
-first_length f b two = same (length (first_of b)) b.size (sym (len_is (first_of b)) ∙ two.least.first)
+pub first_length : (f : Form) (b : TwoBest) → IsTwoBest f b → length (first_of b) ≡ b.size
+first_length f b two = same (length (first_of b)) b.size (sym (len_is (first_of b)) ∙ two.least.first ∙ ap pos (sym two.size))
   where
     same : (a b : ℕ) → pos a ≡ pos b → a ≡ b
     same a b e = omega (arith, lins)
 
-pub least_of : (f : Form) (b : TwoBest) → AreTwoBest f b → TwoLeast (columns_of f) (len (first_of b)) (first_of b) (second_of b)
+pub least_of : (f : Form) (b : TwoBest) → IsTwoBest f b → TwoLeast (columns_of f) (len (first_of b)) (first_of b) (second_of b)
 least_of f b two = subst (λ (k : ℤ). TwoLeast (columns_of f) k (first_of b) (second_of b)) (sym two.least.first) two.least
+
+pub first_small : (n : ℕ) (z : List ℤ) → IsSmall z → All (IsBelow (2 ^ 30)) (take n z)
+first_small n z h k d inside = subst (λ (x : ℤ). unsigned_abs x < 2 ^ 30) (sym (get_or_default (take n z) k d (pos 0) inside ∙ get_or-take n z k (pos 0) (within (length z) (subst (λ (m : ℕ). k < m) (length-take n z) inside)))) (h k)
+  where
+    within : (m : ℕ) → k < min n m → k < n
+    within m g = omega arith
 
 -- ---- a baseline that isn't wide
 pub all_narrow : (m : List ℤ) → (HasWide m → ⊥) → All (IsBelow (2 ^ 46)) m

@@ -1,12 +1,9 @@
 -- The decision whether the least integers of a session's form are fixed.
-use Rattle.std.specs.Prelude.{◌≡◌, ℕ, ◌^◌, ◌<◌, List, All, take, ℤ, pos, ◌*ℤ◌, ◌<ℤ◌}
-use Rattle.quadratic_form.specs.TwoLeast.{TwoLeast}
+use Rattle.std.specs.Prelude.{List, take, ℤ, pos, ◌*ℤ◌, ◌<ℤ◌}
 use Rattle.obs_rows.specs.declared.sessions.Session.{Session}
-use Rattle.obs_rows.specs.Ranges.{IsBelow}
 use Rattle.normal_sum.specs.declared.normal.Normal.{Normal}
 use Rattle.normal_sum.specs.Normals.{IsNormalOf}
 use Rattle.integer_form.specs.declared.form.Form.{Form}
-use Rattle.integer_form.specs.Forms.{integers_of, columns_of, value_of}
 use Rattle.integer_form.specs.FloatPoint.{baseline_at}
 use Rattle.lower_form.specs.Forms.{IsLowerOf}
 use Rattle.int_search.specs.declared.answer.TwoBest.{TwoBest}
@@ -23,15 +20,6 @@ first_of b = take b.size b.first
 
 abbrev pub second_of : TwoBest → List ℤ
 second_of b = take b.size b.second
-
--- the two least integer vectors of the form, with its values there and entries below 2^30
-pub record AreTwoBest (f : Form) (b : TwoBest) : Type 0 where
-  pub size : b.size ≡ integers_of f
-  pub least : TwoLeast (columns_of f) (pos b.size) (first_of b) (second_of b)
-  pub first_value : b.p1 ≡ value_of f (first_of b)
-  pub second_value : b.p2 ≡ value_of f (second_of b)
-  pub first_in : All (IsBelow (2 ^ 30)) b.first
-  pub second_in : All (IsBelow (2 ^ 30)) b.second
 
 -- the baseline of the integers z, as a move in 2^-10 κ
 abbrev pub move_of : Form → List ℤ → List ℤ

@@ -5,7 +5,8 @@ ghost use Rattle.integer_form.specs.FloatPoint.{HasWide};
 ghost use Rattle.obs_rows.specs.Best.{IsStrictlyBest};
 ghost use Rattle.fix_decide.specs.UpperSums.{top};
 ghost use Rattle.fix_decide.specs.Widths.{AreWide};
-ghost use Rattle.fix_decide.specs.Decisions.{IsFormOf, AreTwoBest, IsSeparated, first_of, move_of};
+ghost use Rattle.int_search.specs.Answers.{IsTwoBest};
+ghost use Rattle.fix_decide.specs.Decisions.{IsFormOf, IsSeparated, first_of, move_of};
 
 use crate::upper_sums::upper_sum;
 use int_search::TwoBest;
@@ -67,7 +68,7 @@ pub fn decide(
 ) -> Result<Decision, Overwidth>
     requires fine { session.now.scale ≡ 0 }
     requires form { IsFormOf session.now form.now }
-    requires best { AreTwoBest form.now best.now }
+    requires best { IsTwoBest form.now best.now }
     requires ratio_from { 1000 ≤ ratio }
     requires ratio_to { ratio ≤ 100_000 }
 

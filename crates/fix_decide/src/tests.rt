@@ -2,8 +2,9 @@ ghost use Rattle.std.specs.Prelude.{◌<◌, ◌↔◌, IsTrue, All};
 ghost use Rattle.obs_rows.specs.Ranges.{IsBelow};
 
 use crate::decision::is_separated;
-use crate::{pair_upper, upper_sum};
+use crate::{Decision, decide, pair_upper, upper_sum};
 use gps_time::Tick;
+use int_search::two_best;
 use integer_form::{Form, FrontForm, Overwidth, Place};
 use lower_form::{finish, lower};
 use normal_sum::sum;
@@ -233,6 +234,56 @@ fn upper_sums_of_six_sessions(rt: HostRuntime) -> Result<(), AllocError> {
         made.z[0] = made.z[0].wrapping_add(1);
         let found = upper_of(&made.session, &form, &made.z, &made.moved);
         assert_eq!(rt; found, Some(Ok(other)));
+    }
+    Ok(())
+}
+
+// The decision from the rows alone, or None where there is none.
+fn decision_of(session: &Session, ratio: u32) -> Option<Result<Decision, Overwidth>> {
+    if session.scale != 0 || ratio < 1000 || ratio > 100_000 {
+        return None;
+    }
+    let normal = sum(session);
+    let Ok(form) = lower(&normal) else {
+        return None;
+    };
+    if form.columns <= 4 {
+        return None;
+    }
+    let Ok(best) = two_best(&form, 1_000_000) else {
+        return None;
+    };
+    Some(decide(session, &form, &best, ratio))
+}
+
+// Whether the ratio fixes the integers, the move and the upper sum, from an independent model. The least integers are
+// those that the session was made with. The last one's values are 1.93245 apart.
+#[test]
+fn decides_six_sessions(rt: HostRuntime) -> Result<(), AllocError> {
+    let cases = [
+        ((1, 4, 3, 1 << 19, 600), 2000, true, [-7100, 15_007, 5484], 162_934_593),
+        ((2, 5, 5, 1 << 20, 900), 2000, true, [15_603, -16_326, -15_337], 1_674_236_106),
+        ((3, 6, 4, 1 << 22, 130_000), 2000, true, [12_438, -7793, -1140], 7_030_662_209),
+        ((4, 8, 6, 1 << 21, 600), 2000, true, [-5539, 1794, 15_431], 1_300_150_673),
+        ((5, 15, 3, 1 << 20, 1024), 2000, true, [19_230, -19_543, -6666], 335_463_419),
+        ((6, 4, 12, 8_000_000, 700), 2000, false, [21_029, -17_998, 9968], 76_403_032_170),
+        ((6, 4, 12, 8_000_000, 700), 1933, false, [21_029, -17_998, 9968], 76_403_032_170),
+        ((6, 4, 12, 8_000_000, 700), 1932, true, [21_029, -17_998, 9968], 76_403_032_170),
+    ];
+    for (case, ratio, fixed, moved, top) in cases {
+        let Some(made) = drawn_session(rt.alloc(), case)? else {
+            assert!(rt; false, "the session is in range");
+            return Ok(());
+        };
+        let Some(Ok(decision)) = decision_of(&made.session, ratio) else {
+            assert!(rt; false, "the session has a decision");
+            return Ok(());
+        };
+        assert_eq!(rt; decision.fixed, fixed);
+        assert_eq!(rt; decision.moved, moved);
+        assert_eq!(rt; decision.top, top);
+        assert_eq!(rt; decision.best.size, made.z.len());
+        assert!(rt; (0..made.z.len()).all(|k| k >= 40 || decision.best.first[k] == made.z[k]));
     }
     Ok(())
 }

@@ -13,7 +13,7 @@ use Rattle.integer_form.specs.Forms.{columns_of, value_of}
 use Rattle.fix_decide.specs.Widths.{AreWide}
 use Rattle.fix_decide.specs.Decisions.{IsSeparated, first_of, second_of, move_of}
 use Rattle.fix_decide.proofs.Words.{small_w128}
-use Rattle.fix_decide.proofs.SessionForms.{bounds_of, integers_are, second_small, first_length, least_of, all_narrow}
+use Rattle.fix_decide.proofs.SessionForms.{bounds_of, integers_are, second_small, first_length, least_of, first_small, all_narrow}
 use Rattle.fix_decide.proofs.DecisionLaws.{best_from_bounds}
 use Rattle.fix_decide.proofs.decision.decide.Goals as goal
 
@@ -29,6 +29,9 @@ weaker x h = omega (arith, ints)
 
 at_least : (n : ℕ) → 1000 ≤ n → pos 1000 ≤ℤ pos n
 at_least n h = omega (arith, ints)
+
+pub upper_sum-requires-clause-z_size : goal.upper_sum-requires-clause-z_size
+upper_sum-requires-clause-z_size c = first_small c.args.best.now.size c.args.best.now.first c.requires.best.first_small
 
 pub upper_sum-requires-clause-moved_size : goal.upper_sum-requires-clause-moved_size
 upper_sum-requires-clause-moved_size c =
@@ -60,7 +63,7 @@ returns-clause-strictly_best c =
     let f = c.args.form.now in
     let b = c.args.best.now in
     let fits : FitsSigned w128 c.args.best.now.p2 = search rules in
-    let second : to_z w128 (of_z w128 c.args.best.now.p2) ≡ value_of f (second_of b) = own_word c.args.best.now.p2 fits ∙ c.requires.best.second_value in
+    let second : to_z w128 (of_z w128 c.args.best.now.p2) ≡ value_of f (second_of b) = own_word c.args.best.now.p2 fits ∙ c.requires.best.p2 in
     let t : to_z w128 (of_z w128 c.in_ok-top.top) ≡ c.in_ok-top.top = small_w128 c.in_ok-top.top c.in_ok-top.ensures.from (weaker c.in_ok-top.top c.in_ok-top.ensures.to) in
     let entries : length (first_of b) ≡ integer_count s.arcs s.scale =
         first_length f b c.requires.best ∙ c.requires.best.size ∙ integers_are s f c.requires.form c.requires.fine ∙ ap (integer_count s.arcs) (sym c.requires.fine) in
