@@ -196,30 +196,79 @@ fn upper_of(
     Some(upper_sum(session, form, z, moved))
 }
 
-// The exponent of a session's form and its upper sums from an independent model, at the integers and the move that it
-// was made with, and where the first integer is one greater.
+// A session with what an independent model says of it: the exponent of its form, its upper sums at the integers and the
+// move that it was made with and where the first integer is one greater, and the decision at a ratio of 2000.
+struct Known {
+    case: Case,
+    h: u32,
+    upper: i128,
+    other: i128,
+    fixed: bool,
+    moved: [i64; 3],
+    top: i128,
+}
+
+static KNOWN: [Known; 6] = [
+    Known {
+        case: (1, 4, 3, 1 << 19, 600),
+        h: 45,
+        upper: 220_144_521,
+        other: 57_998_373_757,
+        fixed: true,
+        moved: [-7100, 15_007, 5484],
+        top: 162_934_593,
+    },
+    Known {
+        case: (2, 5, 5, 1 << 20, 900),
+        h: 45,
+        upper: 1_750_924_031,
+        other: 106_203_654_452,
+        fixed: true,
+        moved: [15_603, -16_326, -15_337],
+        top: 1_674_236_106,
+    },
+    Known {
+        case: (3, 6, 4, 1 << 22, 130_000),
+        h: 47,
+        upper: 7_385_331_227,
+        other: 23_999_783_407,
+        fixed: true,
+        moved: [12_438, -7793, -1140],
+        top: 7_030_662_209,
+    },
+    Known {
+        case: (4, 8, 6, 1 << 21, 600),
+        h: 48,
+        upper: 1_358_963_570,
+        other: 16_417_539_040,
+        fixed: true,
+        moved: [-5539, 1794, 15_431],
+        top: 1_300_150_673,
+    },
+    Known {
+        case: (5, 15, 3, 1 << 20, 1024),
+        h: 48,
+        upper: 341_373_784,
+        other: 9_208_475_674,
+        fixed: true,
+        moved: [19_230, -19_543, -6666],
+        top: 335_463_419,
+    },
+    Known {
+        case: (6, 4, 12, 8_000_000, 700),
+        h: 46,
+        upper: 77_533_938_656,
+        other: 163_873_808_815,
+        fixed: false,
+        moved: [21_029, -17_998, 9968],
+        top: 76_403_032_170,
+    },
+];
+
 #[test]
 fn upper_sums_of_six_sessions(rt: HostRuntime) -> Result<(), AllocError> {
-    let cases = [
-        ((1, 4, 3, 1 << 19, 600), 45, 220_144_521, 57_998_373_757),
-        ((2, 5, 5, 1 << 20, 900), 45, 1_750_924_031, 106_203_654_452),
-        (
-            (3, 6, 4, 1 << 22, 130_000),
-            47,
-            7_385_331_227,
-            23_999_783_407,
-        ),
-        ((4, 8, 6, 1 << 21, 600), 48, 1_358_963_570, 16_417_539_040),
-        ((5, 15, 3, 1 << 20, 1024), 48, 341_373_784, 9_208_475_674),
-        (
-            (6, 4, 12, 8_000_000, 700),
-            46,
-            77_533_938_656,
-            163_873_808_815,
-        ),
-    ];
-    for (case, h, top, other) in cases {
-        let Some(mut made) = drawn_session(rt.alloc(), case)? else {
+    for known in &KNOWN {
+        let Some(mut made) = drawn_session(rt.alloc(), known.case)? else {
             assert!(rt; false, "the session is in range");
             return Ok(());
         };
@@ -227,13 +276,13 @@ fn upper_sums_of_six_sessions(rt: HostRuntime) -> Result<(), AllocError> {
             assert!(rt; false, "the session has a form");
             return Ok(());
         };
-        assert_eq!(rt; form.h, h);
+        assert_eq!(rt; form.h, known.h);
         let found = upper_of(&made.session, &form, &made.z, &made.moved);
-        assert_eq!(rt; found, Some(Ok(top)));
+        assert_eq!(rt; found, Some(Ok(known.upper)));
         assert!(rt; made.z.len() > 0);
         made.z[0] = made.z[0].wrapping_add(1);
         let found = upper_of(&made.session, &form, &made.z, &made.moved);
-        assert_eq!(rt; found, Some(Ok(other)));
+        assert_eq!(rt; found, Some(Ok(known.other)));
     }
     Ok(())
 }
@@ -256,34 +305,40 @@ fn decision_of(session: &Session, ratio: u32) -> Option<Result<Decision, Overwid
     Some(decide(session, &form, &best, ratio))
 }
 
-// Whether the ratio fixes the integers, the move and the upper sum, from an independent model. The least integers are
-// those that the session was made with. The last one's values are 1.93245 apart.
+// The least integers are those that each session was made with.
 #[test]
 fn decides_six_sessions(rt: HostRuntime) -> Result<(), AllocError> {
-    let cases = [
-        ((1, 4, 3, 1 << 19, 600), 2000, true, [-7100, 15_007, 5484], 162_934_593),
-        ((2, 5, 5, 1 << 20, 900), 2000, true, [15_603, -16_326, -15_337], 1_674_236_106),
-        ((3, 6, 4, 1 << 22, 130_000), 2000, true, [12_438, -7793, -1140], 7_030_662_209),
-        ((4, 8, 6, 1 << 21, 600), 2000, true, [-5539, 1794, 15_431], 1_300_150_673),
-        ((5, 15, 3, 1 << 20, 1024), 2000, true, [19_230, -19_543, -6666], 335_463_419),
-        ((6, 4, 12, 8_000_000, 700), 2000, false, [21_029, -17_998, 9968], 76_403_032_170),
-        ((6, 4, 12, 8_000_000, 700), 1933, false, [21_029, -17_998, 9968], 76_403_032_170),
-        ((6, 4, 12, 8_000_000, 700), 1932, true, [21_029, -17_998, 9968], 76_403_032_170),
-    ];
-    for (case, ratio, fixed, moved, top) in cases {
-        let Some(made) = drawn_session(rt.alloc(), case)? else {
+    for known in &KNOWN {
+        let Some(made) = drawn_session(rt.alloc(), known.case)? else {
             assert!(rt; false, "the session is in range");
             return Ok(());
         };
+        let Some(Ok(decision)) = decision_of(&made.session, 2000) else {
+            assert!(rt; false, "the session has a decision");
+            return Ok(());
+        };
+        assert_eq!(rt; decision.fixed, known.fixed);
+        assert_eq!(rt; decision.moved, known.moved);
+        assert_eq!(rt; decision.top, known.top);
+        assert_eq!(rt; decision.best.size, made.z.len());
+        assert!(rt; (0..made.z.len()).all(|k| k >= 40 || decision.best.first[k] == made.z[k]));
+    }
+    Ok(())
+}
+
+// The values of the last session are 1.93245 apart.
+#[test]
+fn a_ratio_decides(rt: HostRuntime) -> Result<(), AllocError> {
+    let Some(made) = drawn_session(rt.alloc(), KNOWN[5].case)? else {
+        assert!(rt; false, "the session is in range");
+        return Ok(());
+    };
+    for (ratio, fixed) in [(1000, true), (1932, true), (1933, false), (100_000, false)] {
         let Some(Ok(decision)) = decision_of(&made.session, ratio) else {
             assert!(rt; false, "the session has a decision");
             return Ok(());
         };
         assert_eq!(rt; decision.fixed, fixed);
-        assert_eq!(rt; decision.moved, moved);
-        assert_eq!(rt; decision.top, top);
-        assert_eq!(rt; decision.best.size, made.z.len());
-        assert!(rt; (0..made.z.len()).all(|k| k >= 40 || decision.best.first[k] == made.z[k]));
     }
     Ok(())
 }

@@ -43,7 +43,7 @@ returns-in_err-top-clause-sum c =
     let W : List ℤ → Type 0 = AreWide c.args.session.now.arcs c.args.session.now.pairs (first_of c.args.best.now) in
     let wide : W (move_of c.args.form.now (first_of c.args.best.now)) = subst W c.in_ok-moved.ensures.ok (c.in_err-top.ensures.refused.0 refl) in
     let told : IsErrAnd c.from_residual-in_err-top.result (λ (e : Overwidth). e.place ≡ Sum) =
-        let p = err_from_is_err_and c.from_residual-in_err-top.result c.from_residual-in_err-top.ensures.1 in rw (p.1, p.2) c.in_err-top.ensures.place in
+    let p = err_from_is_err_and c.from_residual-in_err-top.result c.from_residual-in_err-top.ensures.1 in rw (p.1, p.2) c.in_err-top.ensures.place in
     (λ e. (λ w. false≢true (c.in_ok-moved.ensures.refused.1 w), wide), λ w. told)
 
 pub is_separated-requires-clause-p2_to : goal.is_separated-requires-clause-p2_to
@@ -66,10 +66,10 @@ returns-clause-strictly_best c =
     let second : to_z w128 (of_z w128 c.args.best.now.p2) ≡ value_of f (second_of b) = own_word c.args.best.now.p2 fits ∙ c.requires.best.p2 in
     let t : to_z w128 (of_z w128 c.in_ok-top.top) ≡ c.in_ok-top.top = small_w128 c.in_ok-top.top c.in_ok-top.ensures.from (weaker c.in_ok-top.top c.in_ok-top.ensures.to) in
     let entries : length (first_of b) ≡ integer_count s.arcs s.scale =
-        first_length f b c.requires.best ∙ c.requires.best.size ∙ integers_are s f c.requires.form c.requires.fine ∙ ap (integer_count s.arcs) (sym c.requires.fine) in
+    first_length f b c.requires.best ∙ c.requires.best.size ∙ integers_are s f c.requires.form c.requires.fine ∙ ap (integer_count s.arcs) (sym c.requires.fine) in
     λ yes. best_from_bounds s f.h (columns_of f) (pos c.args.ratio) c.in_ok-top.top (first_of b) (second_of b) c.in_ok-moved.moved c.requires.fine entries
-        (bounds_of s f c.requires.form) (least_of f b c.requires.best) c.in_ok-top.ensures.above (at_least c.args.ratio c.requires.ratio_from) c.in_ok-top.ensures.from
-        (subst (λ (x : ℤ). IsSeparated (pos c.args.ratio) x (value_of f (second_of b))) t (subst (λ (x : ℤ). IsSeparated (pos c.args.ratio) (to_z w128 (of_z w128 c.in_ok-top.top)) x) second (c.is_separated.ensures.0 yes)))
+    (bounds_of s f c.requires.form) (least_of f b c.requires.best) c.in_ok-top.ensures.above (at_least c.args.ratio c.requires.ratio_from) c.in_ok-top.ensures.from
+    (subst (λ (x : ℤ). IsSeparated (pos c.args.ratio) x (value_of f (second_of b))) t (subst (λ (x : ℤ). IsSeparated (pos c.args.ratio) (to_z w128 (of_z w128 c.in_ok-top.top)) x) second (c.is_separated.ensures.0 yes)))
 
 pub returns-clause-float : goal.returns-clause-float
 returns-clause-float c = (λ e. absurd e, λ w. false≢true (c.in_ok-moved.ensures.refused.1 w))
