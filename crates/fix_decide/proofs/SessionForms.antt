@@ -1,5 +1,5 @@
 -- What is known of the form of a session and of its two least vectors.
-use Rattle.std.proofs.Common.{◌≡◌, ℕ, zero, suc, ◌+◌, ◌-◌, ◌*◌, ◌^◌, ◌<◌, ◌≤◌, true, false, Bool, List, [], ◌∷◌, ◌++◌, length, ℤ, pos, ◌<ℤ◌, Result, Ok, Err, arith, sym, ap, ◌∙◌, subst, unsigned_abs, All, take, min}
+use Rattle.std.proofs.Common.{◌≡◌, ℕ, suc, ◌+◌, ◌-◌, ◌*◌, ◌^◌, ◌<◌, ◌≤◌, true, false, Bool, List, length, ℤ, pos, ◌<ℤ◌, Result, Ok, Err, arith, sym, ap, ◌∙◌, subst, unsigned_abs, All, take, min}
 use Rattle.std.proofs.lemmas.List.{get_or_default, get_or-take, length-take}
 use Rattle.whole_math.specs.Vectors.{len, zeros}
 use Rattle.whole_math.proofs.Vectors.{len_is}
@@ -14,14 +14,13 @@ use Rattle.obs_rows.specs.Ranges.{IsBelow}
 use Rattle.obs_rows.specs.Tables.{entry}
 use Rattle.obs_rows.specs.Integers.{integer_count}
 use Rattle.obs_rows.proofs.IntegerPlaces.{length_zeros}
-use Rattle.normal_sum.specs.declared.normal.Normal.{Normal}
 use Rattle.integer_form.specs.declared.form.Form.{Form}
 use Rattle.integer_form.specs.Factors.{stored}
 use Rattle.integer_form.specs.Forms.{integers_of, columns_of, value_of}
 use Rattle.integer_form.specs.FloatPoint.{item, HasWide}
 use Rattle.integer_form.proofs.FormShapes.{len_form, shaped_form, len_with_one, columns_left}
 use Rattle.lower_form.specs.FirstRounding.{first_form}
-use Rattle.lower_form.specs.Fronts.{front_of, BoundsAllData}
+use Rattle.lower_form.specs.Fronts.{BoundsAllData}
 use Rattle.lower_form.proofs.FrontLaws.{bounds_all}
 use Rattle.lower_form.proofs.FinishLaws.{small_form}
 use Rattle.int_search.specs.declared.answer.TwoBest.{TwoBest}

@@ -1,4 +1,4 @@
-use Rattle.std.proofs.Common.{◌≡◌, ℕ, ◌^◌, ◌<◌, ◌≤◌, List, length, All, ℤ, pos, ◌*ℤ◌, ◌≤ℤ◌, ◌<ℤ◌, IsTrue, FitsSigned, to_z, of_z, arith, sym, ap, ◌∙◌, refl, subst, rules}
+use Rattle.std.proofs.Common.{◌≡◌, ℕ, ◌^◌, ◌≤◌, List, length, All, ℤ, pos, ◌≤ℤ◌, ◌<ℤ◌, IsTrue, FitsSigned, to_z, of_z, arith, sym, ap, ◌∙◌, refl, subst, rules}
 use Rattle.std.proofs.lemmas.Bool.{false≢true}
 use Rattle.std.proofs.lemmas.Int.{ints}
 use Rattle.std.proofs.lemmas.Result.{err_from_is_err_and}
@@ -8,7 +8,6 @@ use Rattle.obs_rows.specs.Ranges.{IsBelow}
 use Rattle.obs_rows.specs.Integers.{integer_count}
 use Rattle.integer_form.specs.declared.faults.Overwidth.{Overwidth}
 use Rattle.integer_form.specs.declared.faults.Place.TheVariants.{Sum}
-use Rattle.integer_form.specs.FloatPoint.{HasWide}
 use Rattle.integer_form.specs.Forms.{columns_of, value_of}
 use Rattle.fix_decide.specs.Widths.{AreWide}
 use Rattle.fix_decide.specs.Decisions.{IsSeparated, first_of, second_of, move_of}
