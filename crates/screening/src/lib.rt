@@ -1,6 +1,7 @@
 //! Which satellites a taken pair of epochs uses, with their boxes, their observations and what was lost on the way.
 #![tactic(auto)]
 
+mod amounts;
 mod lists;
 mod screened;
 mod sv_pair;
