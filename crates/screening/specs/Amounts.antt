@@ -1,5 +1,5 @@
 -- What a receiver observed of a satellite, and whether it may be used.
-use Rattle.std.specs.Prelude.{ℕ, ℤ, pos, ◌+◌, ◌*◌, ◌^◌, ◌/◌, ◌-ℤ◌, ◌%◌, Bool, not, ◌&&◌, ◌==◌, nat_le, int_le, if◌then◌else◌, Option, Some, None, List, [], ◌∷◌, find, slice_index_or, unsigned_abs}
+use Rattle.std.specs.Prelude.{ℕ, ℤ, pos, ◌+◌, ◌*◌, ◌^◌, ◌/◌, ◌-ℤ◌, ◌≤◌, ◌≤ℤ◌, ◌%◌, Bool, not, ◌&&◌, ◌==◌, nat_le, int_le, if◌then◌else◌, Option, Some, None, List, [], ◌∷◌, find, slice_index_or, unsigned_abs}
 use Rattle.obs_rows.specs.declared.bands.Signals.{Signals}
 use Rattle.obs_store.specs.declared.kinds.ObsType.{ObsType}
 use Rattle.obs_store.specs.declared.values.Value.{Value}
@@ -68,3 +68,12 @@ differences base rover =
 -- for the two phases alone
 abbrev pub phase_differences : Amounts → Amounts → List ℤ
 phase_differences base rover = (rover.l1_phase -ℤ base.l1_phase) ∷ (rover.l2_phase -ℤ base.l2_phase) ∷ []
+
+-- phases of at most 10^11 cycles, and codes from 10,000 km to 100,000 km
+pub record AreUsable (a : Amounts) : Type 0 where
+  pub l1_phase : unsigned_abs a.l1_phase ≤ 10 ^ 14
+  pub l2_phase : unsigned_abs a.l2_phase ≤ 10 ^ 14
+  pub l1_code_from : pos (10 ^ 10) ≤ℤ a.l1_code
+  pub l1_code_to : a.l1_code ≤ℤ pos (10 ^ 11)
+  pub l2_code_from : pos (10 ^ 10) ≤ℤ a.l2_code
+  pub l2_code_to : a.l2_code ≤ℤ pos (10 ^ 11)

@@ -4,3 +4,4 @@ pub mod Amounts
 pub mod Marks
 pub mod Sightings
 pub mod Screening
+pub mod Gathering

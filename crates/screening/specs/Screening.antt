@@ -82,16 +82,31 @@ pub record AreUsedPairs (setting : Setting) (base rover : List Epoch) (pairs : L
   pub count : length used ≡ length pairs
   pub each : (k : ℕ) (p : PairOf) (u : UsedPair) → slice_get pairs k ≡ Some p → slice_get used k ≡ Some u → IsUsedPair setting base rover (pair_before pairs k) p u
 
--- the entry of a satellite in a pair: its boxes hold every solution at each receiver's own tag and L1 code
+-- the entry of a satellite that two epochs see: its boxes hold every solution at each receiver's own tag and L1 code
+pub record IsEntry (setting : Setting) (base rover : Epoch) (b : SvPair) : Type 0 where
+  pub sighting : Sighting
+  pub seen : IsSighting setting base rover b.sat sighting
+  pub kept : MayBeKept setting base.tag.0 sighting
+  pub tag : b.tag ≡ base.tag
+  pub observed : b.observed ≡ differences sighting.base sighting.rover
+  pub base_holds : (q : Quantities) → Sent setting sighting.eph base.tag.0 sighting.base.l1_code q → HoldsSolution b.base q
+  pub rover_holds : (q : Quantities) → Sent setting sighting.eph rover.tag.0 sighting.rover.l1_code q → HoldsSolution b.rover q
+
+-- an entry of the pair that it names
 pub record IsSvPair (setting : Setting) (base rover : List Epoch) (pairs : List PairOf) (b : SvPair) : Type 0 where
   pub pair : PairOf
   pub base_epoch : Epoch
   pub rover_epoch : Epoch
   pub pair_is : slice_get pairs b.pair ≡ Some pair
   pub epochs : AreEpochsOf base rover pair base_epoch rover_epoch
-  pub sighting : Sighting
-  pub seen : IsSighting setting base_epoch rover_epoch b.sat sighting
-  pub tag : b.tag ≡ base_epoch.tag
-  pub observed : b.observed ≡ differences sighting.base sighting.rover
-  pub base_holds : (q : Quantities) → Sent setting sighting.eph base_epoch.tag.0 sighting.base.l1_code q → HoldsSolution b.base q
-  pub rover_holds : (q : Quantities) → Sent setting sighting.eph rover_epoch.tag.0 sighting.rover.l1_code q → HoldsSolution b.rover q
+  pub entry : IsEntry setting base_epoch rover_epoch b
+
+-- the entry of that satellite for that pair
+pub record IsEntryAt (setting : Setting) (base rover : Epoch) (pair sat : ℕ) (b : SvPair) : Type 0 where
+  pub pair_is : b.pair ≡ pair
+  pub sat_is : b.sat ≡ sat
+  pub entry : IsEntry setting base rover b
+
+-- where the epochs see the satellite, the mask may leave it out
+abbrev pub IsLeftOut : Setting → Epoch → Epoch → ℕ → Type 0
+IsLeftOut setting base rover sat = (g : Sighting) → IsSighting setting base rover sat g → MayBeLeftOut setting base.tag.0 g

@@ -6,11 +6,13 @@ use Rattle.eph_store.specs.declared.ephemeris.Eph.{Eph}
 use Rattle.eph_store.specs.Chosen.{IsChosenRecord}
 use Rattle.orbit_model.specs.Elements.{Constants, sent_at}
 use Rattle.orbit_model.specs.Solution.{Quantities, IsSatelliteSolution}
-use Rattle.orbit_clock.specs.Records.{elements_of}
+use Rattle.orbit_clock.specs.Records.{elements_of, constants_of}
 use Rattle.travel_model.specs.SeenPlaces.{Place, point_of, IsSeenPlace, IsAboveMask, IsBelowMask}
 use Rattle.screening.specs.declared.amounts.SignalTypes.{SignalTypes}
 use Rattle.screening.specs.declared.amounts.Amounts.{Amounts}
+use Rattle.screening.specs.declared.rules.Rules.{Rules}
 use Rattle.screening.specs.Amounts.{amounts_at}
+use Rattle.screening.specs.Entries.{IsGpsNumber}
 
 -- what satellites are used by: the types of the signals, the usable records in the order of their file, the constants of the
 -- system, the mask in thousandths and the base's position
@@ -25,16 +27,25 @@ pub record Setting : Type 0 where
 abbrev pub point_at : List ℤ → Place
 point_at p = point_of (slice_index_or p 0 (pos 0)) (slice_index_or p 1 (pos 0)) (slice_index_or p 2 (pos 0))
 
+-- these rules with these usable records
+abbrev pub setting_with : Rules → List Eph → Setting
+setting_with rules records = record {
+  types = rules.types;
+  records = records;
+  world = constants_of rules.world;
+  mask = rules.mask;
+  point = point_at rules.point;
+}
+
 -- what both receivers observed of a satellite, and its chosen record
 pub record Sighting : Type 0 where
   pub base : Amounts
   pub rover : Amounts
   pub eph : Eph
 
--- both epochs have the satellite's codes and phases, all of them usable, and it has a chosen record at the base's tag
+-- it is a GPS satellite, both epochs have its codes and phases, all of them usable, and it has a chosen record at the base's tag
 pub record IsSighting (setting : Setting) (base rover : Epoch) (sat : ℕ) (g : Sighting) : Type 0 where
-  pub from_first : 1 ≤ sat
-  pub to_last : sat ≤ 32
+  pub number : IsGpsNumber sat
   pub at_base : amounts_at setting.types base sat ≡ Some g.base
   pub at_rover : amounts_at setting.types rover sat ≡ Some g.rover
   pub chosen : IsChosenRecord setting.records sat base.tag.0 g.eph

@@ -1,7 +1,7 @@
 //! What a receiver observed of a satellite, and whether it may be used.
-ghost use Rattle.std.specs.Prelude.{◌≡◌};
+ghost use Rattle.std.specs.Prelude.{◌≡◌, ◌^◌, ◌≤◌, ◌≤ℤ◌, pos, IfSome, unsigned_abs};
 ghost use Rattle.std.specs.Option.{option_copied};
-ghost use Rattle.screening.specs.Amounts.{types_of, value_in, is_usable_phase, is_usable_code, amount_of, amounts_of, amounts_at, sat_in};
+ghost use Rattle.screening.specs.Amounts.{types_of, value_in, is_usable_phase, is_usable_code, amount_of, amounts_of, amounts_at, sat_in, AreUsable};
 
 use obs_rows::Signals;
 use obs_store::{Epoch, ObsType, SatObs, Value};
@@ -60,7 +60,8 @@ fn is_usable_code(value: Value) -> bool
 }
 
 fn usable_phase(value: Option<Value>) -> Option<i64>
-    ensures { result ≡ amount_of is_usable_phase value }
+    ensures value { result ≡ amount_of is_usable_phase value }
+    ensures size { IfSome result (λ a. unsigned_abs a ≤ 10 ^ 14) }
 {
     match value {
         Some(value) if is_usable_phase(value) => Some(value.amount),
@@ -69,7 +70,9 @@ fn usable_phase(value: Option<Value>) -> Option<i64>
 }
 
 fn usable_code(value: Option<Value>) -> Option<i64>
-    ensures { result ≡ amount_of is_usable_code value }
+    ensures value { result ≡ amount_of is_usable_code value }
+    ensures from { IfSome result (λ a. pos (10 ^ 10) ≤ℤ a) }
+    ensures to { IfSome result (λ a. a ≤ℤ pos (10 ^ 11)) }
 {
     match value {
         Some(value) if is_usable_code(value) => Some(value.amount),
@@ -78,7 +81,8 @@ fn usable_code(value: Option<Value>) -> Option<i64>
 }
 
 fn amounts_of(types: &SignalTypes, sat: Option<&SatObs>) -> Option<Amounts>
-    ensures { result ≡ amounts_of types.now (option_copied sat.entry) }
+    ensures value { result ≡ amounts_of types.now (option_copied sat.entry) }
+    ensures usable { IfSome result AreUsable }
 {
     let sat = sat?;
     Some(Amounts {
@@ -98,7 +102,8 @@ pub fn sat_in(number: u8, sats: &[SatObs]) -> Option<&SatObs>
 
 /// What an epoch says of a satellite, where all of it may be used.
 pub fn amounts_at(types: &SignalTypes, epoch: &Epoch, number: u8) -> Option<Amounts>
-    ensures { result ≡ amounts_at types.now epoch.now number }
+    ensures value { result ≡ amounts_at types.now epoch.now number }
+    ensures usable { IfSome result AreUsable }
 {
     amounts_of(types, sat_in(number, epoch.sats.as_slice()))
 }

@@ -2,8 +2,12 @@
 #![tactic(auto)]
 
 mod amounts;
+mod gather;
 mod lists;
+mod marks;
+mod rules;
 mod screened;
+mod sights;
 mod sv_pair;
 
 pub use lists::{SvPairList, UsedList};

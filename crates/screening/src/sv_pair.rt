@@ -1,5 +1,5 @@
 //! What is kept of a satellite that a pair uses.
-ghost use Rattle.std.specs.Prelude.{◌^◌, ◌<◌};
+ghost use Rattle.std.specs.Prelude.{◌^◌, ◌<◌, ◌≤◌};
 ghost use Rattle.screening.specs.Observed.{ArePhasesBelow, AreCodesBelow};
 
 use gps_time::Tick;
@@ -21,6 +21,8 @@ pub struct SvPair {
     pub observed: [i64; SIGNALS],
     /// The base's tag.
     pub tag: Tick,
+    pub ghost sat_from: { 1 ≤ sat },
+    pub ghost sat_to: { sat ≤ 32 },
     pub ghost phases_in: { ArePhasesBelow (2 ^ 48) observed },
     pub ghost codes_in: { AreCodesBelow (2 ^ 37) observed },
     pub ghost tag_in: { tag.0 < 2 ^ 63 },
