@@ -1,3 +1,6 @@
 pub mod PlainAmounts
 pub mod ChosenOnce
 pub mod SightLaws
+pub mod GatherLaws
+pub mod PairLaws
+pub mod BeginLaws

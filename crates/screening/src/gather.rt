@@ -5,13 +5,13 @@ ghost use Rattle.slip_arcs.specs.Used.{IsSmall};
 ghost use Rattle.screening.specs.Entries.{IsGpsNumber};
 ghost use Rattle.screening.specs.Marks.{power_failed, lost_lock};
 ghost use Rattle.screening.specs.Sightings.{setting_with};
-ghost use Rattle.screening.specs.Gathering.{IsPassedOver, IsAdded, AreGathered};
+ghost use Rattle.screening.specs.Gathering.{IsPassedOver, IsAdded, AreGathered, IsGathered};
 
 use crate::amounts::SignalTypes;
 use crate::marks::{lost_in, power_failed};
 use crate::rules::Rules;
 use crate::sights::entry_of;
-use crate::{SvPair, SvPairList, UsedSat};
+use crate::{SvPair, SvPairList, UsedPair, UsedSat};
 use eph_store::NavFile;
 use obs_store::Epoch;
 use std::alloc::{AllocError, Global};
@@ -29,8 +29,8 @@ pub struct PairAt<'a> {
     pub rover_passed: &'a [Epoch],
 }
 
-/// Whether power failed up to the pair.
-pub fn power_up_to(at: &PairAt<'_>) -> bool
+// Whether power failed up to the pair.
+fn power_up_to(at: &PairAt<'_>) -> bool
     ensures { result ≡ power_failed (record { base = at.now.base_passed.now; rover = at.now.rover_passed.now }) }
 {
     power_failed(at.base_passed) || power_failed(at.rover_passed)
@@ -83,8 +83,8 @@ fn add_sat(
     Ok(())
 }
 
-/// The used satellites of a pair, in rising number. Their entries go behind the earlier ones.
-pub fn sats_of(
+// The used satellites of a pair, in rising number. Their entries go behind the earlier ones.
+fn sats_of(
     alloc: Global,
     rules: &Rules,
     nav: &NavFile,
@@ -101,4 +101,22 @@ pub fn sats_of(
         add_sat(rules, nav, at, number, &mut sats, boxes)?;
     }
     Ok(sats)
+}
+
+/// What a pair uses. The entries of its satellites go behind the earlier ones.
+pub fn gather(
+    alloc: Global,
+    rules: &Rules,
+    nav: &NavFile,
+    at: &PairAt<'_>,
+    boxes: &mut SvPairList,
+) -> Result<UsedPair, AllocError>
+    requires near { abs_diff at.now.base.now.tag.0 at.now.rover.now.tag.0 ≤ 5_000_000 }
+    ensures { IfOk result (λ u.
+        IsGathered (setting_with rules.now nav.now.fit) at.now.base.now at.now.rover.now (record { base = at.now.base_passed.now; rover = at.now.rover_passed.now })
+            at.now.number boxes.old u boxes.new) }
+{
+    let power = power_up_to(at);
+    let sats = sats_of(alloc, rules, nav, at, boxes)?;
+    Ok(UsedPair { power, sats })
 }

@@ -2,15 +2,19 @@
 #![tactic(auto)]
 
 mod amounts;
+mod files;
 mod gather;
 mod lists;
 mod marks;
+mod pairs;
 mod rules;
+
 mod screened;
 mod sights;
 mod sv_pair;
 
 pub use lists::{SvPairList, UsedList};
+pub use files::{screen, screen_in};
 pub use screened::Screened;
 pub use slip_arcs::{UsedPair, UsedSat};
 pub use sv_pair::SvPair;
