@@ -1,6 +1,12 @@
 -- The used satellites of all pairs, one pair more.
 use Rattle.std.proofs.Common.{◌≡◌, ℕ, zero, suc, ◌+◌, ◌<◌, ◌≤◌, ◌⊎◌, inl, inr, ⊎_elim, Option, Some, None, List, [], ◌∷◌, ◌++◌, length, get_or, All, refl, sym, ap, ap₂, ◌∙◌, subst, arith, append_assoc}
-use Rattle.std.specs.Prelude.{slice_get}
+use Rattle.std.specs.Prelude.{slice_get, ℤ}
+use Rattle.obs_rows.specs.declared.bands.Signals.{Signals}
+use Rattle.obs_store.specs.declared.file.ObsFile.{ObsFile}
+use Rattle.eph_store.specs.File.{Records}
+use Rattle.orbit_model.specs.Elements.{Constants}
+use Rattle.screening.specs.declared.amounts.SignalTypes.{SignalTypes}
+use Rattle.screening.specs.Amounts.{types_of}
 use Rattle.std.proofs.lemmas.List.{append-nil, map-append, length_push}
 use Rattle.std.proofs.lemmas.List.Elements.{All-push, All-append}
 use Rattle.std.proofs.lemmas.Option.{slice_get_within}
@@ -10,8 +16,8 @@ use Rattle.slip_arcs.specs.Used.{IsInRange}
 use Rattle.slip_arcs.specs.declared.used.UsedPair.{UsedPair}
 use Rattle.screening.specs.declared.sv_pair.SvPair.{SvPair}
 use Rattle.screening.specs.Entries.{entries_in, entries_from, entries_of, places_of, AreNumbered}
-use Rattle.screening.specs.Sightings.{Setting}
-use Rattle.screening.specs.Screening.{IsUsedPair, IsSvPair, AreUsedPairs, AreEpochsOf, pair_before, IsEntry}
+use Rattle.screening.specs.Sightings.{Setting, point_at}
+use Rattle.screening.specs.Screening.{IsUsedPair, IsSvPair, AreUsedPairs, AreEpochsOf, pair_before, IsEntry, setting_of, position_of}
 use Rattle.screening.specs.Gathering.{IsPairDone, IsScreenedTo, IsGathered, IsPairAt}
 use Rattle.screening.specs.Marks.{Passed, passed}
 use Rattle.screening.proofs.GatherLaws.{used_sats}
@@ -36,6 +42,11 @@ entries_push n (q ∷ ps) p =
     ap (λ (xs : List (ℕ × ℕ)). entries_in n q.sats.items ++ xs) (entries_push (n + 1) ps p ∙ ap (λ (m : ℕ). entries_from (n + 1) ps ++ entries_in m p.sats.items) same)
     ∙ sym (append_assoc (entries_in n q.sats.items) (entries_from (n + 1) ps) (entries_in (n + suc (length ps)) p.sats.items))
 
+one_pair_more : (ps : List UsedPair) (p : UsedPair) → entries_of (ps ++ p ∷ []) ≡ entries_of ps ++ entries_in (length ps) p.sats.items
+one_pair_more ps p =
+    let same : 0 + length ps ≡ length ps = omega arith in
+    entries_push 0 ps p ∙ ap (λ (m : ℕ). entries_from 0 ps ++ entries_in m p.sats.items) same
+
 pub screened_none : (s : Setting) (base rover : List Epoch) (pairs : List PairOf) → IsScreenedTo s base rover pairs 0 [] []
 screened_none s base rover pairs = record {
   count = refl;
@@ -58,7 +69,7 @@ one_more s base rover pairs k used before boxes u done new = record {
   ranges = All-push IsInRange used u done.ranges new.in_range;
   numbered = All-push AreNumbered used u done.numbered new.numbered;
   matched = ap places_of new.boxes_are ∙ map-append (λ (x : SvPair). (x.pair, x.sat)) before new.added ∙ ap₂ (λ (xs ys : List (ℕ × ℕ)). xs ++ ys) done.matched (new.places ∙ ap (λ (m : ℕ). entries_in m u.sats.items) (sym done.count))
-    ∙ sym (entries_push 0 used u);
+    ∙ sym (one_pair_more used u);
   entries = subst (All (IsSvPair s base rover pairs)) (sym new.boxes_are) (All-append (IsSvPair s base rover pairs) before new.added done.entries new.entries);
 }
   where
@@ -111,3 +122,10 @@ pair_done s base rover pairs k number b r epochs before u boxes at g =
 -- all pairs are done
 pub used_pairs : (s : Setting) (base rover : List Epoch) (pairs : List PairOf) (k : ℕ) (used : List UsedPair) (boxes : List SvPair) → k ≡ length pairs → IsScreenedTo s base rover pairs k used boxes → AreUsedPairs s base rover pairs used
 used_pairs s base rover pairs k used boxes e done = record { count = done.count ∙ e; each = done.each }
+
+pub few_pairs : (s : Setting) (base rover : List Epoch) (pairs : List PairOf) (k : ℕ) (used : List UsedPair) (boxes : List SvPair) → k ≤ length pairs → length pairs ≤ 3600 → IsScreenedTo s base rover pairs k used boxes → length used ≤ 3600
+few_pairs s base rover pairs k used boxes h few done = let c = done.count in omega (arith, h, few, c)
+
+pub same_setting : (base : ObsFile) (nav : Records) (signals : Signals) (mask : ℕ) (world : Constants) (types : SignalTypes) (point : List ℤ) → types ≡ types_of signals → point ≡ position_of base.position →
+    (let s : Setting = record { types = types; records = nav.fit; world = world; mask = mask; point = point_at point } in s ≡ setting_of base nav signals mask world)
+same_setting base nav signals mask world types point e f = rw (e, f) refl

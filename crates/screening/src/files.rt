@@ -3,6 +3,7 @@ ghost use Rattle.std.specs.Prelude.{◌≡◌, ◌≤◌, IfOk, All};
 ghost use Rattle.orbit_clock.specs.Records.{constants_of};
 ghost use Rattle.signal_travel.specs.Boxes.{IsPoint};
 ghost use Rattle.sv_orbit.specs.Solutions.{gps};
+ghost use Rattle.screening.specs.Sightings.{setting_with};
 ghost use Rattle.screening.specs.Screening.{HasPosition, position_of, setting_of, ArePairsOf, AreUsedPairs, IsSvPair};
 
 use crate::amounts::types_of;
@@ -13,7 +14,7 @@ use crate::{Screened, SvPairList, UsedList};
 use eph_store::NavFile;
 use epoch_pair::PairOf;
 use obs_rows::Signals;
-use obs_store::ObsFile;
+use obs_store::{Epoch, ObsFile};
 use orbit_clock::World;
 use std::alloc::{AllocError, Global};
 
@@ -26,6 +27,29 @@ fn position_of(base: &ObsFile) -> [i64; 3]
         Some(point) => point,
         None => [0, 0, 0],
     }
+}
+
+// The pairs of these epochs, one after another.
+fn screen_pairs(
+    alloc: Global,
+    rules: &Rules,
+    nav: &NavFile,
+    base: &[Epoch],
+    rover: &[Epoch],
+    pairs: &[PairOf],
+) -> Result<Screened, AllocError>
+    requires pairs { ArePairsOf base.now rover.now pairs.now }
+    ensures used { IfOk result (λ s. AreUsedPairs (setting_with rules.now nav.now.fit) base.now rover.now pairs.now s.used) }
+    ensures boxes { IfOk result (λ s. All (IsSvPair (setting_with rules.now nav.now.fit) base.now rover.now pairs.now) s.boxes) }
+{
+    let mut used = UsedList::new(Vec::new(alloc));
+    let mut boxes = SvPairList::new(Vec::new(alloc));
+    'pairs: for k in 0..pairs.len() {
+        let at = pair_at(base, rover, pairs, k);
+        let pair = gather(alloc, rules, nav, &at, &mut boxes)?;
+        used.push(pair)?;
+    }
+    Ok(Screened { used, boxes })
 }
 
 /// The satellites that each pair uses, with their boxes and their marks. Refused only for want of memory.
@@ -58,16 +82,8 @@ pub fn screen_in(
         mask,
         world: *world,
     };
-    let base = base.epochs.as_slice();
-    let rover = rover.epochs.as_slice();
-    let mut used = UsedList::new(Vec::new(alloc));
-    let mut boxes = SvPairList::new(Vec::new(alloc));
-    'pairs: for k in 0..pairs.len() {
-        let at = pair_at(base, rover, pairs, k);
-        let pair = gather(alloc, &rules, nav, &at, &mut boxes)?;
-        used.push(pair)?;
-    }
-    Ok(Screened { used, boxes })
+    let (of_base, of_rover) = (base.epochs.as_slice(), rover.epochs.as_slice());
+    screen_pairs(alloc, &rules, nav, of_base, of_rover, pairs)
 }
 
 /// The same with the constants of IS-GPS-200.

@@ -8,13 +8,12 @@ mod lists;
 mod marks;
 mod pairs;
 mod rules;
-
 mod screened;
 mod sights;
 mod sv_pair;
 
-pub use lists::{SvPairList, UsedList};
 pub use files::{screen, screen_in};
+pub use lists::{SvPairList, UsedList};
 pub use screened::Screened;
 pub use slip_arcs::{UsedPair, UsedSat};
 pub use sv_pair::SvPair;

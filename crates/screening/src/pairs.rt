@@ -9,6 +9,13 @@ use crate::gather::PairAt;
 use epoch_pair::PairOf;
 use obs_store::Epoch;
 
+fn behind(number: u32, later: u32) -> u32
+    requires { number < later }
+    ensures { result ≡ number + 1 }
+{
+    number + 1
+}
+
 // The epochs up to a pair begin behind those of the taken pair before it. The first pair has its own alone.
 fn begins(pairs: &[PairOf], k: usize) -> PairOf
     requires inside { k < length pairs.now }
@@ -20,10 +27,9 @@ fn begins(pairs: &[PairOf], k: usize) -> PairOf
         return pair;
     }
     let before = pairs[k - 1];
-    PairOf {
-        base: before.base + 1,
-        rover: before.rover + 1,
-    }
+    let base = behind(before.base, pair.base);
+    let rover = behind(before.rover, pair.rover);
+    PairOf { base, rover }
 }
 
 // The epochs of these numbers, both ends included.
