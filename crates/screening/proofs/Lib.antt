@@ -4,3 +4,4 @@ pub mod SightLaws
 pub mod GatherLaws
 pub mod PairLaws
 pub mod BeginLaws
+pub mod TakenLaws

@@ -17,3 +17,6 @@ pub use lists::{SvPairList, UsedList};
 pub use screened::Screened;
 pub use slip_arcs::{UsedPair, UsedSat};
 pub use sv_pair::SvPair;
+
+#[cfg(test)]
+mod tests;
