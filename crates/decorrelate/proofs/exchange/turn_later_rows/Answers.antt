@@ -1,0 +1,26 @@
+use Rattle.std.proofs.Common.{◌≡◌, ◌⊎◌, inl, inr, ⊎_elim, ℕ, ◌+◌, ◌^◌, ◌<◌, ◌≤◌, ℤ, unsigned_abs, arith, refl, subst, sym, to_z, of_z, w64, below_more, ◌∙◌}
+use Rattle.obs_rows.specs.Tables.{entry}
+use Rattle.decorrelate.specs.Turning.{AreColumnsSmall, IsRowTurned}
+use Rattle.decorrelate.proofs.ExchangeLaws.{columns_as, row_as}
+use Rattle.decorrelate.proofs.exchange.turn_later_rows.Goals as goal
+
+pub turn_row-requires-clause-small : goal.turn_row-requires-clause-small
+turn_row-requires-clause-small c = λ m. subst (λ (z : ℤ). unsigned_abs z < 2 ^ 52) (sym (c.loop-i.invariant.rest c.loop-i.i m (inr (omega arith)))) (c.requires.small c.loop-i.i m)
+
+pub loop-i-preserved : goal.loop-i-preserved
+loop-i-preserved c =
+    let j : ℕ = c.args.j in
+    let i : ℕ = c.loop-i.i in
+    let r : ℤ = to_z w64 (of_z w64 c.args.r) in
+    let q : ℤ = to_z w64 (of_z w64 c.args.q) in
+    let old : (m : ℕ) → entry c.loop-i.l i m ≡ entry c.args.l.now i m = λ m. c.loop-i.invariant.rest i m (inr (omega arith)) in
+    let here : IsRowTurned r q j (entry c.args.l.now i) (entry c.turn_row.new.l i) = row_as r q j (entry c.loop-i.l i) (entry c.args.l.now i) (entry c.turn_row.new.l i) (entry c.turn_row.new.l i) old (λ m. refl) (c.if-not-turn_row.ensures.turned refl) in
+    let small : AreColumnsSmall r q j (entry c.args.l.now i) = columns_as r q j (entry c.loop-i.l i) (entry c.args.l.now i) old (c.if-not-turn_row.ensures.narrow refl) in
+    record {
+      turned = below_more (λ (k : ℕ). j + 1 < k → IsRowTurned r q j (entry c.args.l.now k) (entry c.turn_row.new.l k)) i
+          (λ k h g. row_as r q j (entry c.args.l.now k) (entry c.args.l.now k) (entry c.loop-i.l k) (entry c.turn_row.new.l k) (λ m. refl) (λ m. c.if-not-turn_row.ensures.others k m (omega arith)) (c.loop-i.invariant.turned k h g)) (λ g. here);
+      narrow = below_more (λ (k : ℕ). j + 1 < k → AreColumnsSmall r q j (entry c.args.l.now k)) i c.loop-i.invariant.narrow (λ g. small);
+      rest = λ k m h. ⊎_elim
+          (λ (a : k ≤ j + 1). c.if-not-turn_row.ensures.others k m (omega (arith, c.loop-i.auto.i)) ∙ c.loop-i.invariant.rest k m (inl a))
+          (λ (a : i + 1 ≤ k). c.if-not-turn_row.ensures.others k m (omega arith) ∙ c.loop-i.invariant.rest k m (inr (omega arith))) h;
+    }
