@@ -1,7 +1,7 @@
 -- Falls, one after another.
-use Rattle.std.proofs.Common.{ℕ, zero, suc, ◌≡◌, ◌+◌, ◌-◌, ◌^◌, ◌<◌, ◌≤◌, ◌⊎◌, inl, inr, ⊎_elim, Bool, true, false, nat_lt, ℤ, pos, ◌-ℤ◌, ◌*ℤ◌, arith, sym, ap, ap₂, ◌∙◌, refl, subst, unsigned_abs}
+use Rattle.std.proofs.Common.{ℕ, zero, suc, ◌≡◌, ◌+◌, ◌-◌, ◌^◌, ◌<◌, ◌≤◌, ◌⊎◌, ⊎_elim, Bool, true, false, nat_lt, ℤ, pos, ◌-ℤ◌, ◌*ℤ◌, arith, sym, ap, ap₂, ◌∙◌, refl, subst, unsigned_abs}
 use Rattle.whole_math.specs.Rounding.{nearest_div}
-use Rattle.decorrelate.specs.Falling.{with_own, fallen, multiple, left_at, IsFall, IsWideFall, FallsSmall}
+use Rattle.decorrelate.specs.Falling.{with_own, fallen, left_at, IsFall, IsWideFall, FallsSmall}
 
 is_less : (x m : ℕ) → x < m → nat_lt x m ≡ true
 is_less x m h = grind arith

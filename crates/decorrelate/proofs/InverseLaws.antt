@@ -1,7 +1,6 @@
 -- A map and its inverse in tables: at the start, and after a turn.
 use Rattle.std.proofs.Common.{ℕ, zero, suc, ◌≡◌, ◌≢◌, ◌+◌, ◌<◌, ◌≤◌, Bool, true, false, nat_eq, List, [], ◌∷◌, ℤ, pos, ◌+ℤ◌, ◌*ℤ◌, ◌<ℤ◌, ◌≤ℤ◌, arith, sym, ap, ap₂, ◌∙◌, refl, subst}
 use Rattle.std.proofs.lemmas.Int.{ints}
-use Rattle.whole_math.proofs.Order.{lins}
 use Rattle.whole_math.proofs.Inequalities.{same_by, nat}
 use Rattle.whole_math.proofs.Ring.{◌⊕◌, ◌⊗◌}
 use Rattle.whole_math.proofs.Vectors.{len_nonneg}

@@ -14,9 +14,7 @@ pub(crate) static CASES: [Case; 5] = [
         size: 2,
         seed: 5,
         range: 8589934592,
-        map: &[
-            5, 1, 1, 0,
-        ],
+        map: &[5, 1, 1, 0],
     },
     Case {
         size: 6,

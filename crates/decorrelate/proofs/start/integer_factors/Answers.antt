@@ -1,4 +1,4 @@
-use Rattle.std.proofs.Common.{◌≡◌, ◌<◌, ◌^◌, ℕ, List, ℤ, pos, unsigned_abs, arith, subst, sym, ap, ◌∙◌}
+use Rattle.std.proofs.Common.{◌<◌, ◌^◌, List, ℤ, pos, unsigned_abs, arith, subst, sym, ap, ◌∙◌}
 use Rattle.obs_rows.specs.Tables.{entry}
 use Rattle.obs_rows.proofs.TableLaws.{zero_entry}
 use Rattle.decorrelate.proofs.start.integer_factors.Goals as goal
