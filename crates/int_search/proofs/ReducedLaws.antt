@@ -144,6 +144,7 @@ forms_same a b x y g h p q i j k l = ap (λ (z : ℕ). let s : SearchForm = reco
 
 search_same : (f r : Form) (u : Unimodular) (n : ℕ) (c : HasCountIn f n u.map) → IsDecorrelated f r u → (let x : Result (List Factor × List Column) Refusal = Ok (c.factors, constant_form c.g) in x) ≡ Ok (factors_of r, constant_form r.g) →
     search_form r ≡ decorrelated f u.map c.factors c.g
+unfolding own_of
 search_same f r u n c d e =
     let i : (c.factors, constant_form c.g) ≡ (factors_of r, constant_form r.g) = ok_same (c.factors, constant_form c.g) (factors_of r, constant_form r.g) e in
     forms_same (integers_of r) (integers_of f) (factors_of r) c.factors r.g c.g (columns_of r) (transformed_form (integers_of f) u.map f.p) d.integers (sym (ap (λ (p : List Factor × List Column). p.0) i)) (sym (ap (λ (p : List Factor × List Column). own_of p.1) i)) d.form
