@@ -1,5 +1,5 @@
 -- The form in the coordinates of a map has at each vector the value that the form has at its image.
-use Rattle.std.proofs.Common.{ℕ, zero, suc, nat_lt, nat_eq, true, false, Bool, ◌≡◌, ◌≢◌, ◌⊎◌, inl, inr, ⊎_elim, ◌+◌, ◌<◌, ◌≤◌, List, [], ◌∷◌, ◌++◌, length, get_or, ℤ, pos, ◌+ℤ◌, ◌*ℤ◌, arith, sym, ap, ap₂, ◌∙◌, refl, subst, length-append}
+use Rattle.std.proofs.Common.{ℕ, zero, suc, nat_lt, nat_eq, true, false, ◌≡◌, ◌⊎◌, inl, inr, ⊎_elim, ◌+◌, ◌<◌, ◌≤◌, List, [], ◌∷◌, ◌++◌, length, get_or, ℤ, pos, ◌+ℤ◌, ◌*ℤ◌, arith, sym, ap, ap₂, ◌∙◌, refl, length-append}
 use Rattle.whole_math.proofs.Inequalities.{same_by, nat}
 use Rattle.whole_math.proofs.Ring.{◌⊕◌, ◌⊗◌}
 use Rattle.whole_math.proofs.IntLaws.{mul_comm_ℤ}

@@ -3,6 +3,8 @@
 
 mod coordinates;
 mod halves;
+mod laws;
 mod products;
 
 pub use coordinates::transformed;
+pub use laws::value_law;

@@ -1,4 +1,4 @@
-use Rattle.std.proofs.Common.{◌≡◌, ◌+◌, ◌^◌, ◌<◌, ℕ, List, ℤ, pos, unsigned_abs, arith, refl, sym, ap, ◌∙◌, subst, below_more}
+use Rattle.std.proofs.Common.{◌≡◌, ◌^◌, ◌<◌, ℕ, List, ℤ, pos, unsigned_abs, arith, refl, sym, ap, ◌∙◌, subst, below_more}
 use Rattle.obs_rows.specs.Tables.{entry}
 use Rattle.obs_rows.proofs.TableLaws.{zero_entry}
 use Rattle.reduced_form.specs.Transformed.{whole_entry}

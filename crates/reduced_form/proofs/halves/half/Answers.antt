@@ -1,4 +1,4 @@
-use Rattle.std.proofs.Common.{◌≡◌, ℕ, ◌+◌, ◌*◌, ◌^◌, ◌<◌, ◌≤◌, ℤ, pos, ◌+ℤ◌, ◌*ℤ◌, unsigned_abs, arith, to_z, of_z, ap, ap₂, sym, ◌∙◌, subst}
+use Rattle.std.proofs.Common.{◌≡◌, ℕ, ◌+◌, ◌*◌, ◌^◌, ◌<◌, ◌≤◌, ℤ, ◌+ℤ◌, ◌*ℤ◌, unsigned_abs, arith, to_z, of_z, ap, ap₂, sym, ◌∙◌, subst}
 use Rattle.std.specs.Int.{w64, w128}
 use Rattle.obs_rows.specs.Tables.{entry}
 use Rattle.reduced_form.specs.Sums.{total}

@@ -1,4 +1,4 @@
-use Rattle.std.proofs.Common.{◌≡◌, ℕ, ◌*◌, ◌^◌, ◌≤◌, ◌*ℤ◌, unsigned_abs}
+use Rattle.std.proofs.Common.{◌≡◌, ◌*◌, ◌^◌, ◌≤◌, ◌*ℤ◌, unsigned_abs}
 use Rattle.obs_rows.specs.Tables.{entry}
 use Rattle.reduced_form.specs.Sums.{total}
 use Rattle.reduced_form.specs.Transformed.{with_constant}
