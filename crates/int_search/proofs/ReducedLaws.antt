@@ -1,5 +1,5 @@
 -- The search in the coordinates of a map that has an inverse.
-use Rattle.std.proofs.Common.{◌≡◌, ◌⊎◌, inl, inr, ⊎_elim, ℕ, ◌+◌, ◌-◌, ◌<◌, ◌≤◌, ◌^◌, List, [], ◌∷◌, length, take, ℤ, pos, ◌<ℤ◌, ◌≤ℤ◌, arith, sym, ap, ap₂, ◌∙◌, refl, subst, Result, Ok}
+use Rattle.std.proofs.Common.{◌≡◌, ◌⊎◌, inl, inr, ⊎_elim, ℕ, ◌+◌, ◌-◌, ◌<◌, ◌≤◌, ◌^◌, List, [], ◌∷◌, length, take, ℤ, pos, ◌<ℤ◌, ◌≤ℤ◌, arith, sym, ap, ◌∙◌, subst, Result, Ok}
 use Rattle.whole_math.specs.Vectors.{len}
 use Rattle.whole_math.proofs.Vectors.{len_is}
 use Rattle.whole_math.proofs.Order.{lins}
@@ -11,7 +11,7 @@ use Rattle.quadratic_form.specs.Places.{form_from}
 use Rattle.quadratic_form.specs.TwoLeast.{Before, Less, TwoLeast}
 use Rattle.quadratic_form.proofs.VectorOrder.{less_never}
 use Rattle.quadratic_form.proofs.CarriedSearch.{TwoLeastUnder, carried}
-use Rattle.obs_rows.specs.Tables.{entry, HasShape}
+use Rattle.obs_rows.specs.Tables.{entry}
 use Rattle.decorrelate.specs.declared.unimodular.Unimodular.{Unimodular}
 use Rattle.decorrelate.specs.Inverses.{block, Undoes}
 use Rattle.decorrelate.proofs.InverseLaws.{inverse_of}
@@ -21,8 +21,8 @@ use Rattle.integer_form.specs.Kept.{constant_form}
 use Rattle.reduced_form.specs.Transformed.{transformed_form}
 use Rattle.reduced_form.proofs.ImageLaws.{image_block, reduced_value}
 use Rattle.suffix_search.specs.Suffixes.{SearchForm}
-use Rattle.suffix_search.specs.PlainCount.{Counts, HasLarge, IsOver, IsWide, IsWideIn, top}
-use Rattle.suffix_search.specs.Order.{IsLess, IsOneToOne}
+use Rattle.suffix_search.specs.PlainCount.{Counts, HasLarge, IsOver, top}
+use Rattle.suffix_search.specs.Order.{IsLess}
 use Rattle.int_search.specs.Images.{image_of, IsMap}
 use Rattle.int_search.specs.SearchedForm.{search_form}
 use Rattle.int_search.specs.Walk.{CanSearch, search_image, IsTooWide}

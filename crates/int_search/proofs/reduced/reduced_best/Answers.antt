@@ -1,4 +1,4 @@
-use Rattle.std.proofs.Common.{◌≡◌, ◌+◌, ◌-◌, ◌<◌, ◌≤◌, ℕ, List, ℤ, arith, sym, ap, ap₂, ◌∙◌, refl, length, subst, Result, Ok, Err}
+use Rattle.std.proofs.Common.{◌≡◌, ◌+◌, ◌-◌, ◌<◌, ℕ, List, ℤ, arith, sym, ap₂, ◌∙◌, refl, length, subst, Result, Ok, Err}
 use Rattle.quadratic_form.specs.Forms.{Column}
 use Rattle.quadratic_form.specs.Elimination.{Factor, Refusal, steps}
 use Rattle.decorrelate.specs.declared.unimodular.Unimodular.{Unimodular}
@@ -57,9 +57,9 @@ returns-in_default-finish c =
     let red : IsReduced (integers_of f) f.d f.l u = subst (λ (k : ℕ). IsReduced k f.d f.l u) e c.reduce-change.ensures.reduced in
     let t : IsTransformed (integers_of f) u.map f.p c.in-Some.front = c.in-Some.ensures in
     λ h.
-      let k : HasCountIn f c.args.budget u.map = h u red in
-      let w = c.in_default-finish.ensures.refused in
-      apart (k.factors, constant_form k.g) w.0 (sym (same_steps (integers_of f) u.map f.p c.in-Some.front t ∙ k.taken) ∙ w.1.0)
+    let k : HasCountIn f c.args.budget u.map = h u red in
+    let w = c.in_default-finish.ensures.refused in
+    apart (k.factors, constant_form k.g) w.0 (sym (same_steps (integers_of f) u.map f.p c.in-Some.front t ∙ k.taken) ∙ w.1.0)
 
 pub search-requires : goal.search-requires
 search-requires c =
@@ -97,5 +97,5 @@ returns-in-Err c =
     let fin : IsFinishOf c.in-Some.front c.in-Ok.reduced = c.in-Ok.ensures.finished in
     let d : IsDecorrelated f c.in-Ok.reduced u = decorrelated_is f c.in-Ok.reduced c.in-Some.front u c.requires size c.at.ensures.shape.rows t fin in
     λ h.
-      let k : HasCountIn f c.args.budget u.map = h u red in
-      reduced_fault f c.in-Ok.reduced u c.args.budget _ k d (sym k.taken ∙ sym (same_steps (integers_of f) u.map f.p c.in-Some.front t) ∙ fin.taken) c.in-Err.ensures
+    let k : HasCountIn f c.args.budget u.map = h u red in
+    reduced_fault f c.in-Ok.reduced u c.args.budget _ k d (sym k.taken ∙ sym (same_steps (integers_of f) u.map f.p c.in-Some.front t) ∙ fin.taken) c.in-Err.ensures
