@@ -1,2 +1,2 @@
-mod Distances
+mod DistanceLaws
 mod Measures

@@ -3,8 +3,8 @@
 #![tactic(auto)]
 
 mod distances;
-mod observe;
+mod passes;
 mod receiver;
 
-pub use observe::observe;
+pub use passes::observe;
 pub use receiver::Receiver;

@@ -50,14 +50,17 @@ fn push_blanks(out: &mut Vec<u8>, count: usize) -> Result<(), AllocError>
     Ok(())
 }
 
+#[tactic(auto, unfolding(crate::specs::Columns::right_in))]
 fn push_right(out: &mut Vec<u8>, text: &[u8], width: usize) -> Result<(), AllocError>
     ensures { OnOk result (out.new.items ≡ out.old.items ++ right_in width text.now) }
 {
     push_blanks(out, width.saturating_sub(text.len()))?;
-    out.extend_from_slice(text)
+    out.extend_from_slice(text)?;
+    Ok(())
 }
 
 /// Appends value/10^places with so many places, at the right end of so many columns.
+#[tactic(auto, unfolding(crate::specs::Columns::fixed_in))]
 pub fn push_fixed(
     alloc: Global,
     out: &mut Vec<u8>,
@@ -70,5 +73,6 @@ pub fn push_fixed(
 {
     let mut text = Vec::new(alloc);
     write_fixed(alloc, &mut text, value, places)?;
-    push_right(out, &text, width)
+    push_right(out, &text, width)?;
+    Ok(())
 }

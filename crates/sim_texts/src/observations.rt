@@ -58,6 +58,7 @@ fn write_satellite(
     number: u64,
     signals: &Signals,
 ) -> Result<(), AllocError>
+    requires { AreInColumns signals.now }
     ensures { OnOk result (out.new.items ≡ out.old.items ++ satellite_line number signals.now) }
 {
     out.extend_from_slice(b"G")?;
@@ -78,7 +79,8 @@ fn write_satellites(
     out: &mut Vec<u8>,
     sats: &[Signals],
 ) -> Result<(), AllocError>
-    requires { length sats.now ≤ 99 }
+    requires few { length sats.now ≤ 99 }
+    requires columns { All AreInColumns sats.now }
     ensures { OnOk result (out.new.items ≡ out.old.items ++ satellite_lines 0 sats.now) }
 {
     for (k, signals) in sats.iter().enumerate() {

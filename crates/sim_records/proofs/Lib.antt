@@ -1,0 +1,2 @@
+mod Normals
+mod Lengths
