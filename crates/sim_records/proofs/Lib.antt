@@ -1,2 +1,3 @@
 mod Normals
 mod Lengths
+mod RecordLaws

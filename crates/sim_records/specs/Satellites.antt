@@ -1,7 +1,6 @@
 -- The satellites' records.
-use Rattle.std.specs.Prelude.{◌≡◌, ℕ, ◌+◌, List, [], ◌∷◌, ℤ, pos, negsuc, ◌-ℤ◌, ◌*ℤ◌, slice_index_or, All}
+use Rattle.std.specs.Prelude.{◌≡◌, ℕ, ◌+◌, List, [], ◌∷◌, ℤ, pos, negsuc, ◌-ℤ◌, ◌*ℤ◌, slice_index_or}
 use Rattle.rational.specs.Rational.{◌≈◌, of_whole}
-use Rattle.decimal_text.specs.declared.exponent.Dec.{Dec}
 use Rattle.eph_store.specs.Decimals.{decimal, value_of}
 use Rattle.eph_store.specs.declared.ephemeris.Eph.{Eph}
 use Rattle.sim_records.specs.Numbers.{IsNormal}
@@ -45,13 +44,28 @@ pub record IsSatellite (k : ℕ) (e : Eph) : Type 0 where
   pub af1 : value_of e.af1 ≈ decimal (pos 1) 12
   pub af2 : value_of e.af2 ≈ of_whole (pos 0)
 
--- the numbers that are written of a record
-abbrev pub numbers_of : Eph → List Dec
-numbers_of e =
-    e.af0 ∷ e.af1 ∷ e.af2 ∷ e.crs ∷ e.dn ∷ e.m0 ∷ e.cuc ∷ e.ecc ∷ e.cus ∷ e.root_a ∷ e.cic ∷ e.node ∷ e.cis ∷ e.incl ∷ e.crc ∷ e.peri ∷ e.node_rate
-    ∷ e.incl_rate ∷ []
+-- its numbers have 13 digits each
+pub record AreNormal (e : Eph) : Type 0 where
+  pub af0 : IsNormal e.af0
+  pub af1 : IsNormal e.af1
+  pub af2 : IsNormal e.af2
+  pub crs : IsNormal e.crs
+  pub dn : IsNormal e.dn
+  pub m0 : IsNormal e.m0
+  pub cuc : IsNormal e.cuc
+  pub ecc : IsNormal e.ecc
+  pub cus : IsNormal e.cus
+  pub root_a : IsNormal e.root_a
+  pub cic : IsNormal e.cic
+  pub node : IsNormal e.node
+  pub cis : IsNormal e.cis
+  pub incl : IsNormal e.incl
+  pub crc : IsNormal e.crc
+  pub peri : IsNormal e.peri
+  pub node_rate : IsNormal e.node_rate
+  pub incl_rate : IsNormal e.incl_rate
 
 -- the records of satellites k + 1, k + 2 and so on
 abbrev pub AreSatellites : ℕ → List Eph → Type 0
 AreSatellites k [] = Unit {0}
-AreSatellites k (e ∷ es) = IsSatellite k e × All IsNormal (numbers_of e) × AreSatellites (k + 1) es
+AreSatellites k (e ∷ es) = IsSatellite k e × AreNormal e × AreSatellites (k + 1) es

@@ -26,9 +26,9 @@ fn write_first(out: &mut Vec<u8>, sat: u8, a: Dec, b: Dec, c: Dec) -> Result<(),
     out.extend_from_slice(b"G")?;
     push_digits(out, sat as u64, 2)?;
     out.extend_from_slice(b" 2024 01 01 00 00 00")?;
-    push_number(out, a.mant, a.exp)?;
-    push_number(out, b.mant, b.exp)?;
-    push_number(out, c.mant, c.exp)?;
+    push_number(out, a)?;
+    push_number(out, b)?;
+    push_number(out, c)?;
     out.extend_from_slice(b"\n")?;
     Ok(())
 }
@@ -43,10 +43,10 @@ fn write_further(
     ensures { OnOk result (out.new.items ≡ out.old.items ++ further_line a b c d) }
 {
     out.extend_from_slice(b"    ")?;
-    push_number(out, a.mant, a.exp)?;
-    push_number(out, b.mant, b.exp)?;
-    push_number(out, c.mant, c.exp)?;
-    push_number(out, d.mant, d.exp)?;
+    push_number(out, a)?;
+    push_number(out, b)?;
+    push_number(out, c)?;
+    push_number(out, d)?;
     out.extend_from_slice(b"\n")?;
     Ok(())
 }

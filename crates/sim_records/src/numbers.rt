@@ -1,5 +1,6 @@
 // Numbers in 19 columns.
-ghost use Rattle.std.specs.Prelude.{◌≡◌, ◌+◌, ◌<◌, ◌≤◌, ◌++◌, length, OnOk, unsigned_abs};
+ghost use Rattle.std.specs.Prelude.{◌≡◌, ◌+◌, ◌<◌, ◌≤◌, ◌++◌, OnOk, pos, ◌+ℤ◌, unsigned_abs};
+ghost use Rattle.decimal_text.specs.Whole.{size_of};
 ghost use Rattle.rational.specs.Rational.{◌≈◌};
 ghost use Rattle.eph_store.specs.Decimals.{decimal, value_of};
 ghost use Rattle.sim_records.specs.Numbers.{IsNormal, sign_or, number_text};
@@ -45,18 +46,31 @@ fn sign_of(value: i64, other: u8) -> u8
     if value < 0 { b'-' } else { other }
 }
 
-/// Appends a number: a blank or `-`, a digit, a point, twelve digits, `E`, a sign and two digits.
-pub fn push_number(out: &mut Vec<u8>, mant: i64, exp: i32) -> Result<(), AllocError>
-    ensures { OnOk result (out.new.items ≡ out.old.items ++ number_text (record { mant = mant; exp = exp })) }
+fn size_of(value: i64) -> u64
+    ensures { result ≡ size_of value }
 {
-    let size = mant.unsigned_abs();
-    let exponent = exp as i64 + 12;
-    out.push(sign_of(mant, b' '))?;
+    value.unsigned_abs()
+}
+
+// The exponent behind the first digit
+fn exponent_of(d: Dec) -> i64
+    ensures { result ≡ d.exp +ℤ pos 12 }
+{
+    d.exp as i64 + 12
+}
+
+/// Appends a number: a blank or `-`, a digit, a point, twelve digits, `E`, a sign and two digits.
+pub fn push_number(out: &mut Vec<u8>, d: Dec) -> Result<(), AllocError>
+    ensures { OnOk result (out.new.items ≡ out.old.items ++ number_text d) }
+{
+    let size = size_of(d.mant);
+    let exponent = exponent_of(d);
+    out.push(sign_of(d.mant, b' '))?;
     push_digits(out, size / TEN_TO_TWELVE, 1)?;
     out.push(b'.')?;
     push_digits(out, size, 12)?;
     out.push(b'E')?;
     out.push(sign_of(exponent, b'+'))?;
-    push_digits(out, exponent.unsigned_abs(), 2)?;
+    push_digits(out, size_of(exponent), 2)?;
     Ok(())
 }

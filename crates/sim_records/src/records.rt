@@ -1,7 +1,9 @@
 // The satellites' records.
-ghost use Rattle.std.specs.Prelude.{◌≡◌, ◌+◌, ◌<◌, ◌≤◌, ℤ, pos, unsigned_abs, length, All, IfOk};
+ghost use Rattle.std.specs.Prelude.{◌≡◌, ◌+◌, ◌<◌, ◌≤◌, ℤ, pos, unsigned_abs, length, IfOk};
+ghost use Rattle.rational.specs.Rational.{◌≈◌};
+ghost use Rattle.eph_store.specs.Decimals.{decimal, value_of, IsFromTo, IsWithin};
 ghost use Rattle.sim_records.specs.Numbers.{IsNormal};
-ghost use Rattle.sim_records.specs.Satellites.{anomaly, node, IsSatellite, numbers_of, AreSatellites};
+ghost use Rattle.sim_records.specs.Satellites.{anomaly, node, IsSatellite, AreNormal, AreSatellites};
 
 use crate::numbers::normal;
 use decimal_text::Dec;
@@ -19,7 +21,7 @@ const EPOCH: Tick = Tick(13_881_024_000_000_000);
 
 const ZERO: Dec = Dec { mant: 0, exp: -12 };
 
-fn anomaly(k: u32) -> i64
+fn anomaly_tenths(k: u32) -> i64
     requires { k < 15 }
     ensures value { result ≡ anomaly k }
     ensures size { unsigned_abs result ≤ 8 }
@@ -27,7 +29,7 @@ fn anomaly(k: u32) -> i64
     ANOMALIES[k as usize]
 }
 
-fn node(k: u32) -> i64
+fn node_hundredths(k: u32) -> i64
     requires { k < 15 }
     ensures value { result ≡ node k }
     ensures size { unsigned_abs result ≤ 108 }
@@ -35,18 +37,61 @@ fn node(k: u32) -> i64
     10 * LONGITUDES[k as usize] - 6 * ANOMALIES[k as usize]
 }
 
+fn number_of(k: u32) -> i64
+    requires { k < 15 }
+    ensures value { result ≡ pos (k + 1) }
+    ensures size { unsigned_abs result ≤ 15 }
+{
+    k as i64 + 1
+}
+
+fn clock_offset(k: u32) -> Dec
+    requires { k < 15 }
+    ensures value { value_of result ≈ decimal (pos (k + 1)) 5 }
+    ensures normal { IsNormal result }
+    ensures range { IsWithin 1 2 result }
+{
+    normal(number_of(k), 5)
+}
+
+fn eccentricity(k: u32) -> Dec
+    requires { k < 15 }
+    ensures value { value_of result ≈ decimal (pos (k + 1)) 3 }
+    ensures normal { IsNormal result }
+    ensures range { IsFromTo (pos 0) (pos 3125) 5 result }
+{
+    normal(number_of(k), 3)
+}
+
+fn mean_anomaly(k: u32) -> Dec
+    requires { k < 15 }
+    ensures value { value_of result ≈ decimal (anomaly k) 1 }
+    ensures normal { IsNormal result }
+    ensures range { IsWithin 65 1 result }
+{
+    normal(anomaly_tenths(k), 1)
+}
+
+fn ascending_node(k: u32) -> Dec
+    requires { k < 15 }
+    ensures value { value_of result ≈ decimal (node k) 2 }
+    ensures normal { IsNormal result }
+    ensures range { IsWithin 65 1 result }
+{
+    normal(node_hundredths(k), 2)
+}
+
 fn satellite(k: u32) -> Eph
     requires { k < 15 }
     ensures values { IsSatellite k result }
-    ensures normal { All IsNormal (numbers_of result) }
+    ensures normal { AreNormal result }
 {
-    let number = k as i64 + 1;
     Eph {
         sat: k as u8 + 1,
         toc: EPOCH,
         toe: EPOCH,
         toe_second: 86_400,
-        af0: normal(number, 5),
+        af0: clock_offset(k),
         af1: Dec {
             mant: 1_000_000_000_000,
             exp: -24,
@@ -57,19 +102,19 @@ fn satellite(k: u32) -> Eph
             mant: 4_500_000_000_000,
             exp: -21,
         },
-        m0: normal(anomaly(k), 1),
+        m0: mean_anomaly(k),
         cuc: Dec {
             mant: 1_000_000_000_000,
             exp: -18,
         },
-        ecc: normal(number, 3),
+        ecc: eccentricity(k),
         cus: ZERO,
         root_a: Dec {
             mant: 5_153_600_000_000,
             exp: -9,
         },
         cic: ZERO,
-        node: normal(node(k), 2),
+        node: ascending_node(k),
         cis: ZERO,
         incl: Dec {
             mant: 9_600_000_000_000,

@@ -8,6 +8,8 @@ ghost use Rattle.sim_session.specs.Texts.{IsBaseText, IsRoverText, IsNavigationT
 
 mod observations;
 mod receivers;
+#[cfg(test)]
+mod tests;
 
 use observations::observation_file;
 use receivers::{base_receiver, rover_receiver};
@@ -64,17 +66,4 @@ pub fn make(alloc: Global, seed: u32, epochs: u32, sats: u32) -> Result<Made, Al
         truth,
         offset,
     })
-}
-
-#[cfg(test)]
-mod tests {
-    use super::*;
-    use std::test::Fail;
-
-    #[test]
-    fn makes_a_session(rt: HostRuntime) -> Result<(), Fail> {
-        let made = make(rt.alloc(), 1, 2, 4)?;
-        assert_eq!(rt; made.offset, [-165_680, 943_607, -659_500]);
-        Ok(())
-    }
 }

@@ -1,2 +1,3 @@
 mod DistanceLaws
 mod Measures
+mod Solutions

@@ -33,7 +33,7 @@ IsCodeAfter eph tag point clock before after = ForSolutions eph tag before point
 -- the code is reached from 25,000 km in so many such steps
 abbrev pub IsReachedIn : ℕ → Eph → ℕ → List ℤ → ℤ → ℤ → Type 0
 IsReachedIn zero eph tag point clock code = code ≡ pos 25000000000
-IsReachedIn (suc n) eph tag point clock code = (before : ℤ) × IsReachedIn n eph tag point clock before × IsCodeAfter eph tag point clock before code
+IsReachedIn (suc n) eph tag point clock code = (before : ℤ) × (IsReachedIn n eph tag point clock before × IsCodeAfter eph tag point clock before code)
 
 -- a length in mm over the wavelength of a carrier of so many Hz, in thousandths of a cycle: the wavelength is c / frequency
 abbrev pub thousandths : ℕ → Rational → Rational

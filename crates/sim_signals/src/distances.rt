@@ -61,16 +61,27 @@ pub fn code_of(distance: &Distance, clock: i64) -> i64
     whole_units(distance) + clock
 }
 
-// A distance and a clock term in units of 2^-36 mm, times a frequency
-fn scaled(distance: &Distance, clock: i64, frequency: u32) -> i128
-    requires clock { unsigned_abs clock ≤ 100000 }
+// A distance and a clock term in units of 2^-36 mm
+fn with_clock(distance: &Distance, clock: i64) -> i128
+    requires { unsigned_abs clock ≤ 100000 }
+    ensures value { result ≡ (pos 1000 *ℤ distance.now.units) +ℤ (clock *ℤ pos (2 ^ 36)) }
+    ensures low { pos (4900000000 * 2 ^ 36) ≤ℤ result }
+    ensures high { result ≤ℤ pos (73000000000 * 2 ^ 36) }
+{
+    1_000 * distance.units as i128 + clock as i128 * (1 << 36)
+}
+
+// A length in units of 2^-36 mm times a frequency in Hz
+fn scaled(length: i128, frequency: u32) -> i128
+    requires low { pos (4900000000 * 2 ^ 36) ≤ℤ length }
+    requires high { length ≤ℤ pos (73000000000 * 2 ^ 36) }
     requires least { 1000000000 ≤ frequency }
     requires most { frequency ≤ 2000000000 }
-    ensures value { result ≡ ((pos 1000 *ℤ distance.now.units) +ℤ (clock *ℤ pos (2 ^ 36))) *ℤ pos frequency }
+    ensures value { result ≡ length *ℤ pos frequency }
     ensures low { pos (4900000000 * 2 ^ 36 * 1000000000) ≤ℤ result }
     ensures high { result ≤ℤ pos (73000000000 * 2 ^ 36 * 2000000000) }
 {
-    (1_000 * distance.units as i128 + clock as i128 * (1 << 36)) * frequency as i128
+    length * frequency as i128
 }
 
 // That over c, to the nearest whole number
@@ -96,5 +107,6 @@ pub fn phase_of(distance: &Distance, clock: i64, frequency: u32, cycles: i64) ->
     ensures low { pos 0 ≤ℤ result }
     ensures high { result <ℤ pos (10 ^ 13) }
 {
-    whole_thousandths(scaled(distance, clock, frequency)) + 1_000 * cycles
+    let length = with_clock(distance, clock);
+    whole_thousandths(scaled(length, frequency)) + 1_000 * cycles
 }
