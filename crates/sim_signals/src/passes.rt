@@ -23,42 +23,40 @@ const L1: u32 = 1_575_420_000;
 
 const L2: u32 = 1_227_600_000;
 
-/// A code in mm, below 100,000 km.
-#[derive(Clone, Copy, Debug)]
-struct Code {
-    mm: i64,
-    ghost low: { pos 0 ≤ℤ mm },
-    ghost high: { mm ≤ℤ pos (10 ^ 11) },
-}
-
 // How far the satellite is seen at the tag with a code of so many mm, less what its clock is ahead
-fn distance_at(eph: &Eph, tag: Tick, code: &Code, receiver: &Receiver) -> Distance
-    requires { abs_diff tag.0 eph.now.toe.0 ≤ 72010000000 }
-    ensures { ForSolutions eph.now tag.0 code.now.mm receiver.now.point (λ v. IsDistance result.units v) }
+fn distance_at(eph: &Eph, tag: Tick, code: i64, receiver: &Receiver) -> Distance
+    requires near { abs_diff tag.0 eph.now.toe.0 ≤ 72010000000 }
+    requires code_low { pos 0 ≤ℤ code }
+    requires code_high { code ≤ℤ pos (10 ^ 11) }
+    ensures { ForSolutions eph.now tag.0 code receiver.now.point (λ v. IsDistance result.units v) }
 {
-    let satellite = sv_at(eph, tag, code.mm);
+    let satellite = sv_at(eph, tag, code);
     let seen = seen_from(&satellite, &receiver.point);
     distance_of(&seen.range, &satellite.clock)
 }
 
-fn code_after(eph: &Eph, tag: Tick, code: &Code, receiver: &Receiver) -> Code
-    requires { abs_diff tag.0 eph.now.toe.0 ≤ 72010000000 }
-    ensures { IsCodeAfter eph.now tag.0 receiver.now.point receiver.now.clock code.now.mm result.mm }
+fn code_after(eph: &Eph, tag: Tick, code: i64, receiver: &Receiver) -> i64
+    requires near { abs_diff tag.0 eph.now.toe.0 ≤ 72010000000 }
+    requires code_low { pos 0 ≤ℤ code }
+    requires code_high { code ≤ℤ pos (10 ^ 11) }
+    ensures near { IsCodeAfter eph.now tag.0 receiver.now.point receiver.now.clock code result }
+    ensures low { pos 0 ≤ℤ result }
+    ensures high { result ≤ℤ pos (10 ^ 11) }
 {
     let distance = distance_at(eph, tag, code, receiver);
-    Code {
-        mm: code_of(&distance, receiver.clock),
-    }
+    code_of(&distance, receiver.clock)
 }
 
 // The code that six steps reach
-fn code_at(eph: &Eph, tag: Tick, receiver: &Receiver) -> Code
-    requires { abs_diff tag.0 eph.now.toe.0 ≤ 72010000000 }
-    ensures { IsReachedIn 6 eph.now tag.0 receiver.now.point receiver.now.clock result.mm }
+fn code_at(eph: &Eph, tag: Tick, receiver: &Receiver) -> i64
+    requires near { abs_diff tag.0 eph.now.toe.0 ≤ 72010000000 }
+    ensures reached { IsReachedIn 6 eph.now tag.0 receiver.now.point receiver.now.clock result }
+    ensures low { pos 0 ≤ℤ result }
+    ensures high { result ≤ℤ pos (10 ^ 11) }
 {
-    let mut code = Code { mm: FIRST_CODE };
+    let mut code = FIRST_CODE;
     for _pass in 0..PASSES {
-        code = code_after(eph, tag, &code, receiver);
+        code = code_after(eph, tag, code, receiver);
     }
     code
 }
@@ -75,9 +73,9 @@ pub fn observe(eph: &Eph, tag: Tick, receiver: &Receiver, l1_cycles: i64, l2_cyc
     ensures columns { AreInColumns result }
 {
     let code = code_at(eph, tag, receiver);
-    let distance = distance_at(eph, tag, &code, receiver);
+    let distance = distance_at(eph, tag, code, receiver);
     Signals {
-        code: code.mm,
+        code,
         l1: phase_of(&distance, receiver.clock, L1, l1_cycles),
         l2: phase_of(&distance, receiver.clock, L2, l2_cycles),
     }
