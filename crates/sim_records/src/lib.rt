@@ -20,7 +20,8 @@ mod tests {
         let all = satellites(alloc, 3)?;
         let mut out = Vec::new(alloc);
         write_navigation(&mut out, &all)?;
-        let want = "\x20    3.04           N: GNSS NAV DATA    G                   RINEX VERSION / TYPE\n\
+        let want =
+            "\x20    3.04           N: GNSS NAV DATA    G                   RINEX VERSION / TYPE\n\
             \x20                                                           END OF HEADER\n\
             G01 2024 01 01 00 00 00 1.000000000000E-05 1.000000000000E-12 0.000000000000E+00\n\
             \x20    0.000000000000E+00 0.000000000000E+00 4.500000000000E-09 0.000000000000E+00\n\

@@ -33,13 +33,7 @@ fn write_first(out: &mut Vec<u8>, sat: u8, a: Dec, b: Dec, c: Dec) -> Result<(),
     Ok(())
 }
 
-fn write_further(
-    out: &mut Vec<u8>,
-    a: Dec,
-    b: Dec,
-    c: Dec,
-    d: Dec,
-) -> Result<(), AllocError>
+fn write_further(out: &mut Vec<u8>, a: Dec, b: Dec, c: Dec, d: Dec) -> Result<(), AllocError>
     ensures { OnOk result (out.new.items ≡ out.old.items ++ further_line a b c d) }
 {
     out.extend_from_slice(b"    ")?;

@@ -1,2 +1,4 @@
 mod Progress
 mod Points
+mod Smalls
+mod Held

@@ -20,7 +20,9 @@ epochs_text-push step i [] e =
     rw (same, append-nil) refl
 epochs_text-push step i (x ∷ es) e =
     let same : i + 1 + length es ≡ i + length (x ∷ es) = omega arith in
-    rw (epochs_text-push step (i + 1) es e, append_assoc, same) refl
+    ap (λ (t : List ℕ). epoch_text (step * i) x ++ t) (epochs_text-push step (i + 1) es e)
+    ∙ sym (append_assoc (epoch_text (step * i) x) (epochs_text step (i + 1) es) (epoch_text (step * (i + 1 + length es)) e))
+    ∙ ap (λ (n : ℕ). (epoch_text (step * i) x ++ epochs_text step (i + 1) es) ++ epoch_text (step * n) e) same
 
 -- the text so far, of i epochs
 pub record IsBegun (step i : ℕ) (point : List ℤ) (clock : ℤ) (records : List Eph) (cycles : List (List ℤ)) (text : List ℕ) : Type 0 where

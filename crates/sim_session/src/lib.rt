@@ -51,7 +51,8 @@ pub fn make(alloc: Global, seed: u32, epochs: u32, sats: u32) -> Result<Made, Al
     let mut nav = Vec::new(alloc);
     write_navigation(&mut nav, &records)?;
     let base = base_receiver(base_clock);
-    let rover = rover_receiver(&offset, rover_clock);
+    let [x, y, z] = offset;
+    let rover = rover_receiver(x, y, z, rover_clock);
     let base = observation_file(alloc, epochs, &records, &base, &cycles.base)?;
     let rover = observation_file(alloc, epochs, &records, &rover, &cycles.rover)?;
     let Cycles {

@@ -1,5 +1,5 @@
 // The base and the rover.
-ghost use Rattle.std.specs.Prelude.{◌≡◌, ◌≤◌, ℤ, pos, ◌+ℤ◌, ◌*ℤ◌, [], ◌∷◌, unsigned_abs, All};
+ghost use Rattle.std.specs.Prelude.{◌≡◌, ◌≤◌, pos, ◌+ℤ◌, ◌*ℤ◌, [], ◌∷◌, unsigned_abs};
 ghost use Rattle.sim_session.specs.Texts.{base_point};
 
 use sim_signals::Receiver;
@@ -19,14 +19,14 @@ pub fn base_receiver(clock: i64) -> Receiver
 }
 
 /// The rover, which lies so many mm off the base.
-pub fn rover_receiver(offset: &[i64; 3], clock: i64) -> Receiver
-    requires offset { All (λ z. unsigned_abs z ≤ 1000000) offset.now }
+pub fn rover_receiver(x: i64, y: i64, z: i64, clock: i64) -> Receiver
+    requires x { unsigned_abs x ≤ 1000000 }
+    requires y { unsigned_abs y ≤ 1000000 }
+    requires z { unsigned_abs z ≤ 1000000 }
     requires clock { unsigned_abs clock ≤ 100000 }
-    ensures point { (x y z : ℤ) → offset.now ≡ x ∷ y ∷ z ∷ [] →
-        result.point ≡ (pos 63781370000 +ℤ (pos 10 *ℤ x)) ∷ (pos 10 *ℤ y) ∷ (pos 10 *ℤ z) ∷ [] }
+    ensures point { result.point ≡ (pos 63781370000 +ℤ (pos 10 *ℤ x)) ∷ (pos 10 *ℤ y) ∷ (pos 10 *ℤ z) ∷ [] }
     ensures clock { result.clock ≡ clock }
 {
-    let [x, y, z] = *offset;
     Receiver {
         point: [EQUATOR + 10 * x, 10 * y, 10 * z],
         clock,

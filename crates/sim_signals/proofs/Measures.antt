@@ -20,13 +20,14 @@ code_high : (d n : ℤ) → ((pos 2 *ℤ (pos 1000 *ℤ d)) +ℤ pos (2 ^ 36)) <
 code_high d n h = omega (arith, ints)
 
 pub code_near : (d n clock code : ℤ) (v : Rational) → code ≡ n +ℤ clock → IsNearest (pos 1000 *ℤ d) (2 ^ 36) n → IsDistance d v → AreWithin (of_whole (pos 2)) (of_whole code) (measured clock v)
-code_near d n clock code v e i h =
-    (order_r (v ∷ of_whole n ∷ of_whole clock ∷ of_scale 36 (d -ℤ pos 1) ∷ of_whole code ∷ [])
-    ((va 3 ≼ va 0) ∷ (va 1 ≼ ko (pos 1000) ⊗ va 3 ⊕ ko (pos 1)) ∷ []) ((va 4 ≐ va 1 ⊕ va 2) ∷ [])
-    (va 4 ⊖ (ko (pos 1000) ⊗ va 0 ⊕ va 2)) (ko (pos 2)) (hy 1 ⊞ nm 1000 ⊠ hy 0 ⊞ nm 1) (ng (ko (pos 1)) ∷ []) refl (h.0, (code_low d n i.0, tt)) (sum_is code n clock e, tt),
-    order_r (v ∷ of_whole n ∷ of_whole clock ∷ of_scale 36 (d +ℤ pos (2 ^ 20)) ∷ of_whole code ∷ [])
-    ((va 0 ≼ va 3) ∷ (ko (pos 1000) ⊗ va 3 ≼ va 1 ⊕ ko (pos 1)) ∷ []) ((va 4 ≐ va 1 ⊕ va 2) ∷ [])
-    ((ko (pos 1000) ⊗ va 0 ⊕ va 2) ⊖ va 4) (ko (pos 2)) (hy 1 ⊞ nm 1000 ⊠ hy 0 ⊞ nm 1) (ko (pos 1) ∷ []) refl (h.1, (code_high d n i.1, tt)) (sum_is code n clock e, tt))
+code_near d n clock code v e i h = (
+  order_r (v ∷ of_whole n ∷ of_whole clock ∷ of_scale 36 (d -ℤ pos 1) ∷ of_whole code ∷ [])
+      ((va 3 ≼ va 0) ∷ (va 1 ≼ ko (pos 1000) ⊗ va 3 ⊕ ko (pos 1)) ∷ []) ((va 4 ≐ va 1 ⊕ va 2) ∷ [])
+      (va 4 ⊖ (ko (pos 1000) ⊗ va 0 ⊕ va 2)) (ko (pos 2)) (hy 1 ⊞ nm 1000 ⊠ hy 0 ⊞ nm 1) (ng (ko (pos 1)) ∷ []) refl (h.0, (code_low d n i.0, tt)) (sum_is code n clock e, tt),
+  order_r (v ∷ of_whole n ∷ of_whole clock ∷ of_scale 36 (d +ℤ pos (2 ^ 20)) ∷ of_whole code ∷ [])
+      ((va 0 ≼ va 3) ∷ (ko (pos 1000) ⊗ va 3 ≼ va 1 ⊕ ko (pos 1)) ∷ []) ((va 4 ≐ va 1 ⊕ va 2) ∷ [])
+      ((ko (pos 1000) ⊗ va 0 ⊕ va 2) ⊖ va 4) (ko (pos 2)) (hy 1 ⊞ nm 1000 ⊠ hy 0 ⊞ nm 1) (ko (pos 1) ∷ []) refl (h.1, (code_high d n i.1, tt)) (sum_is code n clock e, tt),
+)
 
 -- ---- phases
 half : (a b : ℤ) → (pos 2 *ℤ a) ≤ℤ (pos 2 *ℤ b) → a ≤ℤ b
@@ -67,19 +68,20 @@ phase_near f d n clock cycles phase v small e i h =
     let some : of_whole (pos 0) ≤ʳ of_whole (pos f) = nonnegative (pos f) (least f) in
     let few : pos f ≤ℤ pos 2000000000 = most f small in
     let w : Rational = thousandths f (measured clock v) in
-    let whole : Rational = of_whole (pos 1000 *ℤ cycles) in
-    (cancel_r (of_whole (pos 299792458)) (sub_r (of_whole phase) (add_r w whole)) (of_whole (pos 2)) light
-    (order_r (v ∷ of_whole n ∷ of_whole clock ∷ of_scale 36 (d -ℤ pos 1) ∷ of_whole phase ∷ whole ∷ w ∷ of_whole (pos f) ∷ [])
-    ((va 3 ≼ va 0) ∷ (ko (pos 299792458) ⊗ va 1 ≼ va 7 ⊗ (ko (pos 1000) ⊗ va 3 ⊕ va 2) ⊕ ko (pos 299792458)) ∷ (ko (pos 0) ≼ va 7) ∷ [])
-    ((va 4 ≐ va 1 ⊕ va 5) ∷ (va 6 ⊗ ko (pos 299792458) ≐ va 7 ⊗ (ko (pos 1000) ⊗ va 0 ⊕ va 2)) ∷ [])
-    (ko (pos 299792458) ⊗ (va 4 ⊖ (va 6 ⊕ va 5))) (ko (pos 299792458) ⊗ ko (pos 2)) (hy 1 ⊞ nm 1000 ⊠ hy 2 ⊠ hy 0 ⊞ nm 299792458) (ng (ko (pos 299792458)) ∷ ko (pos 1) ∷ []) refl
-    (h.0, (phase_low (pos f) d n clock few i.0, (some, tt))) (sum_is phase n (pos 1000 *ℤ cycles) e, (times_wavelength (pos f) (measured clock v), tt))),
-    cancel_r (of_whole (pos 299792458)) (sub_r (add_r w whole) (of_whole phase)) (of_whole (pos 2)) light
-    (order_r (v ∷ of_whole n ∷ of_whole clock ∷ of_scale 36 (d +ℤ pos (2 ^ 20)) ∷ of_whole phase ∷ whole ∷ w ∷ of_whole (pos f) ∷ [])
-    ((va 0 ≼ va 3) ∷ (va 7 ⊗ (ko (pos 1000) ⊗ va 3 ⊕ va 2) ≼ ko (pos 299792458) ⊗ va 1 ⊕ ko (pos 299792458)) ∷ (ko (pos 0) ≼ va 7) ∷ [])
-    ((va 4 ≐ va 1 ⊕ va 5) ∷ (va 6 ⊗ ko (pos 299792458) ≐ va 7 ⊗ (ko (pos 1000) ⊗ va 0 ⊕ va 2)) ∷ [])
-    (ko (pos 299792458) ⊗ ((va 6 ⊕ va 5) ⊖ va 4)) (ko (pos 299792458) ⊗ ko (pos 2)) (hy 1 ⊞ nm 1000 ⊠ hy 2 ⊠ hy 0 ⊞ nm 299792458) (ko (pos 299792458) ∷ ng (ko (pos 1)) ∷ []) refl
-    (h.1, (phase_high (pos f) d n clock few i.1, (some, tt))) (sum_is phase n (pos 1000 *ℤ cycles) e, (times_wavelength (pos f) (measured clock v), tt))))
+    let whole : Rational = of_whole (pos 1000 *ℤ cycles) in (
+      cancel_r (of_whole (pos 299792458)) (sub_r (of_whole phase) (add_r w whole)) (of_whole (pos 2)) light
+          (order_r (v ∷ of_whole n ∷ of_whole clock ∷ of_scale 36 (d -ℤ pos 1) ∷ of_whole phase ∷ whole ∷ w ∷ of_whole (pos f) ∷ [])
+          ((va 3 ≼ va 0) ∷ (ko (pos 299792458) ⊗ va 1 ≼ va 7 ⊗ (ko (pos 1000) ⊗ va 3 ⊕ va 2) ⊕ ko (pos 299792458)) ∷ (ko (pos 0) ≼ va 7) ∷ [])
+          ((va 4 ≐ va 1 ⊕ va 5) ∷ (va 6 ⊗ ko (pos 299792458) ≐ va 7 ⊗ (ko (pos 1000) ⊗ va 0 ⊕ va 2)) ∷ [])
+          (ko (pos 299792458) ⊗ (va 4 ⊖ (va 6 ⊕ va 5))) (ko (pos 299792458) ⊗ ko (pos 2)) (hy 1 ⊞ nm 1000 ⊠ hy 2 ⊠ hy 0 ⊞ nm 299792458) (ng (ko (pos 299792458)) ∷ ko (pos 1) ∷ []) refl
+          (h.0, (phase_low (pos f) d n clock few i.0, (some, tt))) (sum_is phase n (pos 1000 *ℤ cycles) e, (times_wavelength (pos f) (measured clock v), tt))),
+      cancel_r (of_whole (pos 299792458)) (sub_r (add_r w whole) (of_whole phase)) (of_whole (pos 2)) light
+          (order_r (v ∷ of_whole n ∷ of_whole clock ∷ of_scale 36 (d +ℤ pos (2 ^ 20)) ∷ of_whole phase ∷ whole ∷ w ∷ of_whole (pos f) ∷ [])
+          ((va 0 ≼ va 3) ∷ (va 7 ⊗ (ko (pos 1000) ⊗ va 3 ⊕ va 2) ≼ ko (pos 299792458) ⊗ va 1 ⊕ ko (pos 299792458)) ∷ (ko (pos 0) ≼ va 7) ∷ [])
+          ((va 4 ≐ va 1 ⊕ va 5) ∷ (va 6 ⊗ ko (pos 299792458) ≐ va 7 ⊗ (ko (pos 1000) ⊗ va 0 ⊕ va 2)) ∷ [])
+          (ko (pos 299792458) ⊗ ((va 6 ⊕ va 5) ⊖ va 4)) (ko (pos 299792458) ⊗ ko (pos 2)) (hy 1 ⊞ nm 1000 ⊠ hy 2 ⊠ hy 0 ⊞ nm 299792458) (ko (pos 299792458) ∷ ng (ko (pos 1)) ∷ []) refl
+          (h.1, (phase_high (pos f) d n clock few i.1, (some, tt))) (sum_is phase n (pos 1000 *ℤ cycles) e, (times_wavelength (pos f) (measured clock v), tt))),
+    )
   where
     least : (f : ℕ) → pos 0 ≤ℤ pos f
     least f = omega (arith, ints)

@@ -74,11 +74,7 @@ fn write_satellite(
     Ok(())
 }
 
-fn write_satellites(
-    alloc: Global,
-    out: &mut Vec<u8>,
-    sats: &[Signals],
-) -> Result<(), AllocError>
+fn write_satellites(alloc: Global, out: &mut Vec<u8>, sats: &[Signals]) -> Result<(), AllocError>
     requires few { length sats.now ≤ 99 }
     requires columns { All AreInColumns sats.now }
     ensures { OnOk result (out.new.items ≡ out.old.items ++ satellite_lines 0 sats.now) }

@@ -13,7 +13,7 @@ loop-pass-preserved c =
     let kept = sym (code_cast after low high) in
     record {
       reached = subst (λ (z : ℤ). IsReachedIn (c.loop-pass._pass + 1) c.args.eph.now c.args.tag.0 receiver.point receiver.clock z) kept
-        (subst (λ (n : ℕ). IsReachedIn n c.args.eph.now c.args.tag.0 receiver.point receiver.clock after) (sym (add-one c.loop-pass._pass)) (before, (c.loop-pass.invariant.reached, c.code_after-code.ensures.near)));
+          (subst (λ (n : ℕ). IsReachedIn n c.args.eph.now c.args.tag.0 receiver.point receiver.clock after) (sym (add-one c.loop-pass._pass)) (before, (c.loop-pass.invariant.reached, c.code_after-code.ensures.near)));
       low = subst (λ (z : ℤ). pos 0 ≤ℤ z) kept low;
       high = subst (λ (z : ℤ). z ≤ℤ pos (10 ^ 11)) kept high;
     }
