@@ -41,3 +41,7 @@ rover_point x y z a b c = near_equator (pos 63781370000 +ℤ (pos 10 *ℤ x)) (p
 
     above : (y : ℤ) → unsigned_abs y ≤ 1000000 → (pos 10 *ℤ y) ≤ℤ pos 10000000
     above y h = omega (arith, ints)
+
+pub point_along : (x y z a b c : ℤ) → x ≡ a → y ≡ b → z ≡ c →
+    (pos 63781370000 +ℤ (pos 10 *ℤ x)) ∷ (pos 10 *ℤ y) ∷ (pos 10 *ℤ z) ∷ [] ≡ (pos 63781370000 +ℤ (pos 10 *ℤ a)) ∷ (pos 10 *ℤ b) ∷ (pos 10 *ℤ c) ∷ []
+point_along x y z a b c e f g = rw (e, f, g) refl
