@@ -1,5 +1,5 @@
 -- No line of a certificate has a line feed.
-use Rattle.std.proofs.Common.{◌≡◌, ◌^◌, ◌<◌, ◌≤◌, ◌+◌, ℕ, zero, suc, ℤ, pos, negsuc, ◌≤ℤ◌, unsigned_abs, Bool, true, false, ◌==◌, not, List, [], ◌∷◌, ◌++◌, length, take, get_or, codes, All, IsTrue, refl, sym, ap, ◌∙◌, subst, arith}
+use Rattle.std.proofs.Common.{◌≡◌, ◌^◌, ◌<◌, ◌≤◌, ℕ, zero, suc, ℤ, pos, negsuc, Bool, true, false, ◌==◌, not, List, [], ◌∷◌, ◌++◌, length, take, get_or, codes, All, IsTrue, refl, subst, arith}
 use Rattle.std.proofs.lemmas.Int.{ints}
 use Rattle.std.proofs.lemmas.Bool.Decides.{nat_tests}
 use Rattle.std.proofs.lemmas.List.Elements.{All-head, All-tail}
@@ -21,7 +21,7 @@ use Rattle.int_search.specs.Vectors.{IsSmall}
 use Rattle.cert_words.specs.Spelling.{behind_blanks}
 use Rattle.cert_words.proofs.NumberLaws.{AreSmall}
 use Rattle.cert_words.proofs.TextLaws.{has_no_feed, AreLines, feed-append, lines-append, numbers_feed}
-use Rattle.cert_lines.specs.Lines.{count_line, vector_line, signals_line, arc_line, kind_text, pair_line, row_line, row_numbers, row_lines, pair_lines, values_line, weak_line, unsettled_line, overwidth_line}
+use Rattle.cert_lines.specs.Lines.{signals_line, arc_line, kind_text, row_numbers, row_lines, pair_lines, overwidth_line}
 use Rattle.cert_lines.proofs.Values.{size_is, small_append}
 use Rattle.cert_data.specs.declared.certs.Cert.{Cert}
 use Rattle.cert_data.specs.declared.tails.Tail.{Tail}

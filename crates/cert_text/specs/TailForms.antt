@@ -1,5 +1,5 @@
 -- What the lines of a tail must be, each in its place: first its shape, then its numbers from left to right.
-use Rattle.std.specs.Prelude.{ℕ, ℤ, pos, neg_ℤ, ◌^◌, Bool, true, false, if◌then◌else◌, List, length, take, drop, slice_index_or, codes, Result, Ok, None, Some}
+use Rattle.std.specs.Prelude.{ℕ, ℤ, pos, neg_ℤ, Bool, true, false, if◌then◌else◌, List, length, take, drop, slice_index_or, codes, Result, Ok, None, Some}
 use Rattle.std.specs.declared.option.Option.{Option}
 use Rattle.std.specs.Str.{bytes_eq}
 use Rattle.integer_form.specs.declared.faults.Place.{Place}

@@ -15,3 +15,6 @@ pub use cert_data::{
 pub use cert_spelling::write_cert;
 pub use reader::read_cert;
 pub use rinex_head::TextFault as CertFault;
+
+#[cfg(test)]
+mod tests;

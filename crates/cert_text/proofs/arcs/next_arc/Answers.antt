@@ -1,9 +1,8 @@
-use Rattle.std.proofs.Common.{◌≡◌, Ok, sym, ap, ◌∙◌, refl}
 use Rattle.std.proofs.lemmas.Result.{err_from_is_err_and}
 use Rattle.std.proofs.Common.{◌-◌, ◌++◌, ◌∷◌, []}
 use Rattle.cert_lines.specs.Forms.{arc_in}
 use Rattle.cert_text.specs.Rules.{before_arcs}
-use Rattle.cert_text.proofs.LineLaws.{line_goes, line_stops, line_wants, arc_taken, pair_taken, row_taken}
+use Rattle.cert_text.proofs.LineLaws.{line_goes, line_stops, line_wants, arc_taken}
 use Rattle.cert_text.proofs.arcs.next_arc.Goals as goal
 
 pub returns-in_err-line-clause-reads : goal.returns-in_err-line-clause-reads

@@ -1,4 +1,4 @@
-use Rattle.std.proofs.Common.{◌≡◌, Ok, sym, ap, ◌∙◌, refl}
+use Rattle.std.proofs.Common.{◌∙◌, refl}
 use Rattle.std.proofs.lemmas.Result.{err_from_is_err_and}
 use Rattle.cert_text.specs.Rules.{Form, Ratio, Budget, Base, Point, Letters, ArcCount}
 use Rattle.cert_text.proofs.head.read_head.Goals as goal

@@ -1,7 +1,7 @@
-use Rattle.std.proofs.Common.{◌≡◌, Ok, sym, ap, ◌∙◌, refl}
+use Rattle.std.proofs.Common.{sym}
 use Rattle.std.proofs.lemmas.Result.{err_from_is_err_and}
 use Rattle.cert_lines.specs.Forms.{letters_in}
-use Rattle.cert_text.proofs.LineLaws.{line_goes, line_stops, line_wants, arc_taken, pair_taken, row_taken}
+use Rattle.cert_text.proofs.LineLaws.{line_goes, line_stops, line_wants}
 use Rattle.cert_text.proofs.lines.next_letters.Goals as goal
 
 pub returns-in_err-line-clause-reads : goal.returns-in_err-line-clause-reads

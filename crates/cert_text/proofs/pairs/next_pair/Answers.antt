@@ -1,5 +1,3 @@
-use Rattle.std.proofs.Common.{◌≡◌, Ok, sym, ap, ◌∙◌, refl}
-use Rattle.std.proofs.lemmas.Result.{err_from_is_err_and}
 use Rattle.std.proofs.Common.{ℕ, ◌+◌, ◌-◌}
 use Rattle.cert_text.specs.Rules.{cert_rules, before_pairs, before_rows}
 use Rattle.cert_text.proofs.PairSteps.{reads_behind, pair_renumbered}

@@ -1,13 +1,11 @@
-use Rattle.std.proofs.Common.{◌≡◌, Ok, sym, ap, ◌∙◌, refl}
-use Rattle.std.proofs.lemmas.Result.{err_from_is_err_and}
-use Rattle.std.proofs.Common.{◌+◌, ◌-◌, ◌≤◌, ◌++◌, ◌∷◌, [], ℕ, List, length, arith}
+use Rattle.std.proofs.Common.{sym, ap, ◌∙◌}
+use Rattle.std.proofs.Common.{◌++◌, ℕ, List, arith}
 use Rattle.std.proofs.lemmas.List.{length_push}
 use Rattle.std.proofs.lemmas.List.Elements.{All-push}
 use Rattle.obs_rows.specs.declared.rows.Row.{Row}
 use Rattle.obs_rows.specs.Arcs.{IsOfPair}
 use Rattle.cert_lines.specs.Lines.{row_lines}
-use Rattle.obs_rows.specs.Rows.{AreBelow}
-use Rattle.cert_text.proofs.PairSteps.{rows_took, rows_below, rows_under}
+use Rattle.cert_text.proofs.PairSteps.{rows_took, rows_below}
 use Rattle.cert_text.proofs.pairs.read_rows.Goals as goal
 
 pub rows-preserved : goal.rows-preserved

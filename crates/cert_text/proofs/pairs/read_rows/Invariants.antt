@@ -1,4 +1,4 @@
-use Rattle.std.proofs.Common.{◌≡◌, ◌+◌, ◌≤◌, ◌++◌, ℕ, length, All}
+use Rattle.std.proofs.Common.{◌≡◌, ◌+◌, ◌++◌, ℕ, length, All}
 use Rattle.rinex_head.specs.Walk.{rest_gives}
 use Rattle.obs_rows.specs.Arcs.{IsOfPair}
 use Rattle.obs_rows.specs.Rows.{AreBelow}

@@ -1,8 +1,8 @@
-use Rattle.std.proofs.Common.{◌≡◌, Ok, sym, ap, ◌∙◌, refl}
+use Rattle.std.proofs.Common.{◌∙◌, refl}
 use Rattle.std.proofs.lemmas.Result.{err_from_is_err_and}
 use Rattle.std.proofs.Common.{All, ◌^◌, rules}
 use Rattle.obs_rows.specs.Ranges.{IsBelow}
-use Rattle.cert_text.specs.Rules.{Second, Move, Values, Last, End}
+use Rattle.cert_text.specs.Rules.{Second, Move, Values}
 use Rattle.cert_text.proofs.TailLaws.{word126}
 use Rattle.cert_text.proofs.tail.read_vectors.Goals as goal
 
