@@ -1,0 +1,3 @@
+pub mod TailForms
+pub mod Rules
+pub mod LineParts
