@@ -1,0 +1,10 @@
+pub mod Words
+pub mod FallLaws
+pub mod MovedRows
+pub mod RaisedRows
+pub mod InverseLaws
+pub mod TurnedTables
+pub mod ExchangeLaws
+pub mod WeightLaws
+pub mod TurnLaws
+pub mod ReducingLaws
