@@ -25,11 +25,7 @@ fn write_cause(alloc: Global, out: &mut Vec<u8>, cause: &Cause) -> Result<(), Al
 }
 
 /// Appends the line of a verdict.
-pub fn write_verdict(
-    alloc: Global,
-    out: &mut Vec<u8>,
-    verdict: &Verdict,
-) -> Result<(), AllocError>
+pub fn write_verdict(alloc: Global, out: &mut Vec<u8>, verdict: &Verdict) -> Result<(), AllocError>
     ensures { OnOk result (out.new.items ≡ out.old.items ++ verdict_text verdict.now) }
 {
     match verdict {

@@ -93,7 +93,7 @@ const SESSION: [&str; 54] = [
 ];
 
 // A line in its place, and where the text is refused with it.
-type BadLine = (usize, &'static str, u32, What);
+type BadLine = (u32, &'static str, u32, What);
 
 const BAD_LINES: [BadLine; 57] = [
     (1, "baseline-cert 2", 1, What::BadLine),
@@ -254,9 +254,10 @@ fn place_of(
     rt: &impl Abort,
     alloc: Global,
     lines: &[&str],
-    number: usize,
+    number: u32,
     line: &str,
 ) -> Result<Option<At>, AllocError> {
+    let number = number as usize;
     assert!(rt; 0 < number && number <= lines.len());
     let mut text = text_of(alloc, &lines[..number - 1], &[line])?;
     push_lines(&mut text, &lines[number..])?;
@@ -271,7 +272,7 @@ fn check_places(
 ) -> Result<(), AllocError> {
     for (number, line, column, what) in bad {
         let want = At {
-            line: *number as u32,
+            line: *number,
             column: *column,
             what: *what,
         };
