@@ -4,6 +4,7 @@ use Rattle.std.specs.Prelude.{slice_get, ℤ}
 use Rattle.obs_rows.specs.declared.bands.Signals.{Signals}
 use Rattle.obs_store.specs.declared.file.ObsFile.{ObsFile}
 use Rattle.eph_store.specs.File.{Records}
+use Rattle.eph_store.specs.declared.ephemeris.Eph.{Eph}
 use Rattle.orbit_model.specs.Elements.{Constants}
 use Rattle.screening.specs.declared.amounts.SignalTypes.{SignalTypes}
 use Rattle.screening.specs.Amounts.{types_of}
@@ -126,6 +127,6 @@ used_pairs s base rover pairs k used boxes e done = record { count = done.count 
 pub few_pairs : (s : Setting) (base rover : List Epoch) (pairs : List PairOf) (k : ℕ) (used : List UsedPair) (boxes : List SvPair) → k ≤ length pairs → length pairs ≤ 3600 → IsScreenedTo s base rover pairs k used boxes → length used ≤ 3600
 few_pairs s base rover pairs k used boxes h few done = let c = done.count in omega (arith, h, few, c)
 
-pub same_setting : (base : ObsFile) (nav : Records) (signals : Signals) (mask : ℕ) (world : Constants) (types : SignalTypes) (point : List ℤ) → types ≡ types_of signals → point ≡ position_of base.position →
-    (let s : Setting = record { types = types; records = nav.fit; world = world; mask = mask; point = point_at point } in s ≡ setting_of base nav signals mask world)
-same_setting base nav signals mask world types point e f = rw (e, f) refl
+pub same_setting : (base : ObsFile) (nav : Records) (signals : Signals) (mask : ℕ) (world : Constants) (types : SignalTypes) (point : List ℤ) (records : List Eph) → types ≡ types_of signals → point ≡ position_of base.position → records ≡ nav.fit →
+    (let s : Setting = record { types = types; records = records; world = world; mask = mask; point = point_at point } in s ≡ setting_of base nav signals mask world)
+same_setting base nav signals mask world types point records e f g = rw (e, f, g) refl

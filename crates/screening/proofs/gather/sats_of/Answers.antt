@@ -23,5 +23,5 @@ returns c =
     let most = c.numbers.invariant.to_end in
     let over = c.numbers-test.false in
     let done : c.numbers.number ≡ 33 = omega (arith, most, over) in
-    subst (λ (n : ℕ). AreGathered (setting_with c.args.rules.now c.args.nav.now.fit) c.args.at.now.base.now c.args.at.now.rover.now (record { base = c.args.at.now.base_passed.now; rover = c.args.at.now.rover_passed.now })
+    subst (λ (n : ℕ). AreGathered (setting_with c.args.rules.now c.args.table.now.fit.now) c.args.at.now.base.now c.args.at.now.rover.now (record { base = c.args.at.now.base_passed.now; rover = c.args.at.now.rover_passed.now })
     c.args.at.now.number n c.args.boxes.now c.numbers.sats.items c.numbers.boxes) done c.numbers.invariant.gathered

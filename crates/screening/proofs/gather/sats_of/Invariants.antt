@@ -8,5 +8,5 @@ abbrev pub invariant-numbers : goal.invariant-numbers
 invariant-numbers l = record {
   from_one : 1 ≤ l.number;
   to_end : l.number ≤ 33;
-  gathered : AreGathered (setting_with l.rules l.nav.fit) l.at.base.now l.at.rover.now (record { base = l.at.base_passed.now; rover = l.at.rover_passed.now }) l.at.number l.number l.fn.boxes l.sats.items l.boxes;
+  gathered : AreGathered (setting_with l.rules l.table.fit.now) l.at.base.now l.at.rover.now (record { base = l.at.base_passed.now; rover = l.at.rover_passed.now }) l.at.number l.number l.fn.boxes l.sats.items l.boxes;
 }
