@@ -64,5 +64,5 @@ tail_text s (Fixed h moved best top) = session_text s (first_of best) moved
 tail_text s (Unseparated h moved best top) = session_text s (first_of best) moved
 tail_text s _ = codes "nothing to show\n"
 
-unfoldable pub residuals_text : Cert → List ℕ
+abbrev pub residuals_text : Cert → List ℕ
 residuals_text c = tail_text c.session c.tail

@@ -1,12 +1,16 @@
 //! The residuals of a certificate's rows.
-ghost use Rattle.std.specs.Prelude.{◌≡◌, ◌≤◌, ◌<◌, ◌^◌, ◌*◌, ◌++◌, ◌+◌, pos, ◌+ℤ◌, ◌-ℤ◌, ◌*ℤ◌, map, length, All, unsigned_abs, OnOk, IfOk};
+ghost use Rattle.std.specs.Prelude.{◌≡◌, ◌≤◌, ◌<◌, ◌^◌, ◌*◌, ◌++◌, ◌+◌, pos, ◌+ℤ◌, ◌-ℤ◌, ◌*ℤ◌, map, length, All, unsigned_abs, codes, true, false, OnOk, IfOk};
 ghost use Rattle.whole_math.specs.Vectors.{sum};
+ghost use Rattle.obs_rows.specs.Ranges.{IsBelow};
+ghost use Rattle.obs_rows.specs.Integers.{integer_count};
 ghost use Rattle.obs_rows.specs.Pairs.{HasItsArcs};
+ghost use Rattle.int_search.specs.Vectors.{IsSmall};
 ghost use Rattle.fix_decide.specs.UpperSums.{centre};
+ghost use Rattle.fix_decide.specs.Decisions.{first_of};
 ghost use Rattle.cert_words.specs.Spelling.{behind_blanks};
-ghost use Rattle.cert_report.specs.Residuals.{CanShow, micrometres, residual, residuals, row_line, rows_text, pairs_text, session_text, has_vectors, tail_text, residuals_text};
+ghost use Rattle.cert_report.specs.Residuals.{CanShow, micrometres, residual, residuals, row_line, rows_text, session_text, has_vectors, residuals_text};
 
-use cert_data::{Cert, Tail};
+use cert_data::{Cert, Tail, TwoBest};
 use cert_words::push_number;
 use fix_decide::centre_of;
 use obs_rows::{Arc, PairRows, Row, SIGNALS, Session};
@@ -176,6 +180,32 @@ fn write_session(
     Ok(())
 }
 
+// Shows the rows at the first integers with this move.
+fn write_shown(
+    alloc: Global,
+    out: &mut Vec<u8>,
+    session: &Session,
+    best: &TwoBest,
+    moved: &[i64; 3],
+) -> Result<bool, AllocError>
+    requires size { best.now.size ≡ integer_count session.now.arcs 0 }
+    requires small { IsSmall best.now.first }
+    requires moved { All (IsBelow (2 ^ 46)) moved.now }
+    ensures text { OnOk result (out.new.items ≡ out.old.items ++ session_text session.now (first_of best.now) moved.now) }
+    ensures shown { IfOk result (λ shown. shown ≡ true) }
+{
+    write_session(alloc, out, session, &best.first[..best.size], moved)?;
+    Ok(true)
+}
+
+fn write_nothing(out: &mut Vec<u8>) -> Result<bool, AllocError>
+    ensures text { OnOk result (out.new.items ≡ out.old.items ++ codes "nothing to show\n") }
+    ensures shown { IfOk result (λ shown. shown ≡ false) }
+{
+    out.extend_from_slice(b"nothing to show\n")?;
+    Ok(false)
+}
+
 /// Appends a line for each row of a certificate: its pair's number, its arc, and how far each of its observations lies
 /// from the mean of its pair, at the tail's first integers with its move, in micrometres. Where the tail has no
 /// vectors, it appends that there is nothing to show, and answers that.
@@ -184,13 +214,13 @@ pub fn write_residuals(alloc: Global, out: &mut Vec<u8>, cert: &Cert) -> Result<
     ensures shown { IfOk result (λ shown. shown ≡ has_vectors cert.now.tail) }
 {
     match &cert.tail {
-        Tail::Fixed { moved, best, .. } | Tail::Unseparated { moved, best, .. } => {
-            write_session(alloc, out, &cert.session, &best.first[..best.size], moved)?;
-            Ok(true)
+        Tail::Fixed { moved, best, .. } => write_shown(alloc, out, &cert.session, best, moved),
+        Tail::Unseparated { moved, best, .. } => {
+            write_shown(alloc, out, &cert.session, best, moved)
         }
-        _ => {
-            out.extend_from_slice(b"nothing to show\n")?;
-            Ok(false)
-        }
+        Tail::Weak { .. } => write_nothing(out),
+        Tail::Overwidth { .. } => write_nothing(out),
+        Tail::Unsettled { .. } => write_nothing(out),
+        Tail::Spent { .. } => write_nothing(out),
     }
 }
