@@ -4,7 +4,7 @@ ghost use Rattle.line_source.specs.Causes.{Rose};
 ghost use Rattle.gps_time.specs.declared.Tick.{Tick};
 ghost use Rattle.job_answers.specs.Answers.{ending_of, IfEnded};
 ghost use Rattle.job_answers.specs.Delivered.{sink_change};
-ghost use Rattle.command_words.specs.declared.words.Job.{Job};
+ghost use Rattle.command_words.specs.declared.jobs.Job.{Job};
 ghost use Rattle.command_words.specs.Words.{texts_of, file_words, IsJob};
 ghost use Rattle.zero_job.specs.ZeroRuns.{SaysOfZero};
 ghost use Rattle.list_job.specs.ListRuns.{SaysOfList};
