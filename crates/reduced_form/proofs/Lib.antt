@@ -1,0 +1,5 @@
+pub mod TotalLaws
+pub mod FormSums
+pub mod TransformedLaws
+pub mod Words
+pub mod ImageLaws
