@@ -393,3 +393,22 @@ fn finds_no_record(rt: HostRuntime) -> Result<(), Fail> {
     expect_run(&rt, &ran, Status::Refused, "", refused);
     Ok(())
 }
+
+#[test]
+fn lists_a_made_up_session(rt: HostRuntime) -> Result<(), Fail> {
+    let alloc = rt.alloc();
+    let words = ["sim", "base", "1", "60", "8"];
+    let made = run_on(alloc, &words, b"", 8_000_000, Fails::none(alloc))?;
+    assert_eq!(rt; made.status, Status::Done);
+    let ran = run_on(
+        alloc,
+        &["list", "F"],
+        made.out.bytes(),
+        1000,
+        Fails::none(alloc),
+    )?;
+    let listed = "version 3.04\nepochs 60\nfirst 13881024000000000\nlast 13881041700000000\n\
+G01 60\nG02 60\nG03 60\nG04 60\nG05 60\nG06 60\nG07 60\nG08 60\n";
+    expect_run(&rt, &ran, Status::Done, listed, "");
+    Ok(())
+}

@@ -1,12 +1,16 @@
 -- Words ask for one job at most.
-use Rattle.std.proofs.Common.{◌≡◌, ℕ, List, [], ◌∷◌, codes, get_or, length, drop, refl, IsErrOf, Err, sym, ap, ◌∙◌, subst, arith}
+use Rattle.std.proofs.Common.{◌≡◌, ℕ, ◌≤◌, ◌==◌, if◌then◌else◌, Option, None, Some, List, [], ◌∷◌, codes, get_or, length, drop, refl, IsErrOf, Err, sym, ap, ap₂, ◌∙◌, subst, arith}
 use Rattle.gps_time.specs.declared.Tick.{Tick}
 use Rattle.command_words.specs.declared.settings.Given.{Given}
+use Rattle.std.proofs.lemmas.Option.{same_Some}
+use Rattle.command_words.specs.declared.sims.Part.{Part}
+use Rattle.command_words.specs.declared.sims.Part.TheVariants as part
+use Rattle.command_words.specs.declared.sims.Sim.{Sim}
 use Rattle.command_words.specs.declared.jobs.Job.{Job}
 use Rattle.command_words.specs.declared.jobs.Job.TheVariants as job
 use Rattle.command_words.specs.Numbers.{IsNumber, IsSatellite}
 use Rattle.command_words.specs.Parts.{AreParted}
-use Rattle.command_words.specs.Words.{IsPlainJob, IsOrbitJob, IsJobOf, IsJob}
+use Rattle.command_words.specs.Words.{name_of_part, sim_with, IsPlainJob, IsOrbitJob, IsSim, IsSimJob, IsJobOf, IsJob, IsInRange}
 use Rattle.command_words.proofs.SettingLaws.{one_number, one_satellite}
 use Rattle.command_words.proofs.PartLaws.{one_parting}
 
@@ -31,16 +35,54 @@ one_orbit nav nav' sat sat' tick tick' c p g first second =
     let same_tick : tick ≡ tick' = ap (λ (n : ℕ). let t : Tick = record { 0 = n } in t) same_number in
     cc (same_nav, same_sat, same_tick)
 
+-- the parts of a session have three names
+abbrev part_with_letter : List ℕ → Option Part
+part_with_letter [] = None
+part_with_letter (b ∷ bs) = if b == 98 then Some part.Base else (if b == 114 then Some part.Rover else Some part.Nav)
+
+is_part_name : (p : Part) → part_with_letter (name_of_part p) ≡ Some p
+is_part_name part.Base = refl
+is_part_name part.Rover = refl
+is_part_name part.Nav = refl
+
+one_part : (p q : Part) → name_of_part p ≡ name_of_part q → p ≡ q
+one_part p q same = same_Some p q (sym (is_part_name p) ∙ ap part_with_letter same ∙ is_part_name q)
+
+same_sim : (s r : Sim) → s.part ≡ r.part → s.seed ≡ r.seed → s.epochs ≡ r.epochs → s.sats ≡ r.sats → s ≡ r
+same_sim s r part seed epochs sats =
+    let made : Part → ℕ → ℕ → ℕ → Sim = λ p a b c. record { part = p; seed = a; epochs = b; sats = c } in
+    ap₂ (λ (p : Part) (a : ℕ). made p a s.epochs s.sats) part seed ∙ ap₂ (λ (b c : ℕ). made r.part r.seed b c) epochs sats
+
+one_sim : (s r : Sim) (c : List ℕ) (p : List (List ℕ)) (g : List Given) → IsSimJob s c p g → IsSimJob r c p g → job.Sim s.part s.seed s.epochs s.sats ≡ job.Sim r.part r.seed r.epochs r.sats
+one_sim s r c p g first second =
+    let words = one_plain (codes "sim") _ _ c p g first.asked second.asked in
+    let part_word : first.part_word ≡ second.part_word = ap (λ (ws : List (List ℕ)). get_or ws 0 []) words in
+    let seed_word : first.seed_word ≡ second.seed_word = ap (λ (ws : List (List ℕ)). get_or ws 1 []) words in
+    let epochs_word : first.epochs_word ≡ second.epochs_word = ap (λ (ws : List (List ℕ)). get_or ws 2 []) words in
+    let sats_word : first.sats_word ≡ second.sats_word = ap (λ (ws : List (List ℕ)). get_or ws 3 []) words in
+    let part : s.part ≡ r.part = one_part s.part r.part (sym first.is.part ∙ part_word ∙ second.is.part) in
+    let seed : s.seed ≡ r.seed = one_number first.seed_word s.seed r.seed first.is.seed.number (subst (λ (w : List ℕ). IsNumber w r.seed) (sym seed_word) second.is.seed.number) in
+    let epochs : s.epochs ≡ r.epochs = one_number first.epochs_word s.epochs r.epochs first.is.epochs.number (subst (λ (w : List ℕ). IsNumber w r.epochs) (sym epochs_word) second.is.epochs.number) in
+    let sats : s.sats ≡ r.sats = one_number first.sats_word s.sats r.sats first.is.sats.number (subst (λ (w : List ℕ). IsNumber w r.sats) (sym sats_word) second.is.sats.number) in
+    ap (λ (q : Sim). job.Sim q.part q.seed q.epochs q.sats) (same_sim s r part seed epochs sats)
+
 one_of : (c : List ℕ) (p : List (List ℕ)) (g : List Given) (a b : Job) → IsJobOf c p g a → IsJobOf c p g b → a ≡ b
-one_of c p g (job.Zero rows) (job.Zero others) first second = ap (λ (r : List ℕ). job.Zero r) (one_file (codes "zero") rows others c p g first second)
-one_of c p g (job.List obs) (job.List others) first second = ap (λ (r : List ℕ). job.List r) (one_file (codes "list") obs others c p g first second)
+one_of c p g (job.Zero rows) (job.Zero rows') first second = ap (λ (r : List ℕ). job.Zero r) (one_file (codes "zero") rows rows' c p g first second)
+one_of c p g (job.List obs) (job.List obs') first second = ap (λ (r : List ℕ). job.List r) (one_file (codes "list") obs obs' c p g first second)
 one_of c p g (job.Orbit nav sat tick) (job.Orbit nav' sat' tick') first second = one_orbit nav nav' sat sat' tick tick' c p g first second
-one_of c p g (job.Zero rows) (job.List obs) first second = absurd (omega (arith, other_letter 122 108 c _ _ first.command_is second.command_is refl refl))
-one_of c p g (job.Zero rows) (job.Orbit nav sat tick) first second = absurd (omega (arith, other_letter 122 111 c _ _ first.command_is second.asked.command_is refl refl))
-one_of c p g (job.List obs) (job.Zero rows) first second = absurd (omega (arith, other_letter 108 122 c _ _ first.command_is second.command_is refl refl))
-one_of c p g (job.List obs) (job.Orbit nav sat tick) first second = absurd (omega (arith, other_letter 108 111 c _ _ first.command_is second.asked.command_is refl refl))
-one_of c p g (job.Orbit nav sat tick) (job.Zero rows) first second = absurd (omega (arith, other_letter 111 122 c _ _ first.asked.command_is second.command_is refl refl))
-one_of c p g (job.Orbit nav sat tick) (job.List obs) first second = absurd (omega (arith, other_letter 111 108 c _ _ first.asked.command_is second.command_is refl refl))
+one_of c p g (job.Sim part seed epochs sats) (job.Sim part' seed' epochs' sats') first second = one_sim (sim_with part seed epochs sats) (sim_with part' seed' epochs' sats') c p g first second
+one_of c p g (job.Zero rows) (job.List obs') first second = absurd (omega (arith, other_letter 122 108 c _ _ first.command_is second.command_is refl refl))
+one_of c p g (job.Zero rows) (job.Orbit nav' sat' tick') first second = absurd (omega (arith, other_letter 122 111 c _ _ first.command_is second.asked.command_is refl refl))
+one_of c p g (job.Zero rows) (job.Sim part' seed' epochs' sats') first second = absurd (omega (arith, other_letter 122 115 c _ _ first.command_is second.asked.command_is refl refl))
+one_of c p g (job.List obs) (job.Zero rows') first second = absurd (omega (arith, other_letter 108 122 c _ _ first.command_is second.command_is refl refl))
+one_of c p g (job.List obs) (job.Orbit nav' sat' tick') first second = absurd (omega (arith, other_letter 108 111 c _ _ first.command_is second.asked.command_is refl refl))
+one_of c p g (job.List obs) (job.Sim part' seed' epochs' sats') first second = absurd (omega (arith, other_letter 108 115 c _ _ first.command_is second.asked.command_is refl refl))
+one_of c p g (job.Orbit nav sat tick) (job.Zero rows') first second = absurd (omega (arith, other_letter 111 122 c _ _ first.asked.command_is second.command_is refl refl))
+one_of c p g (job.Orbit nav sat tick) (job.List obs') first second = absurd (omega (arith, other_letter 111 108 c _ _ first.asked.command_is second.command_is refl refl))
+one_of c p g (job.Orbit nav sat tick) (job.Sim part' seed' epochs' sats') first second = absurd (omega (arith, other_letter 111 115 c _ _ first.asked.command_is second.asked.command_is refl refl))
+one_of c p g (job.Sim part seed epochs sats) (job.Zero rows') first second = absurd (omega (arith, other_letter 115 122 c _ _ first.asked.command_is second.command_is refl refl))
+one_of c p g (job.Sim part seed epochs sats) (job.List obs') first second = absurd (omega (arith, other_letter 115 108 c _ _ first.asked.command_is second.command_is refl refl))
+one_of c p g (job.Sim part seed epochs sats) (job.Orbit nav' sat' tick') first second = absurd (omega (arith, other_letter 115 111 c _ _ first.asked.command_is second.asked.command_is refl refl))
 
 -- the command and the words behind it are one
 pub same_behind : (words : List (List ℕ)) (a b : Job) (first : IsJob words a) (second : IsJob words b) → second.behind ≡ first.behind
@@ -82,8 +124,37 @@ other_count name a b c d command asked =
 pub no_satellite : (command nav sat tick : List ℕ) → ((n : ℕ) → IsSatellite sat n → ⊥) → (job : Job) → IsJobOf command (nav ∷ sat ∷ tick ∷ []) [] job → ⊥
 no_satellite command nav sat tick none (job.Zero rows) asked = other_count (codes "zero") rows nav sat tick command asked
 no_satellite command nav sat tick none (job.List obs) asked = other_count (codes "list") obs nav sat tick command asked
+no_satellite command nav sat tick none (job.Sim part seed epochs sats) asked =
+    let same : 3 ≡ 4 = ap (λ (ws : List (List ℕ)). length ws) asked.asked.plain_are in absurd (omega (arith, same))
 no_satellite command nav sat tick none (job.Orbit nav' number tick') asked =
     let same : asked.sat_word ≡ sat = ap (λ (ws : List (List ℕ)). get_or ws 1 []) (sym asked.asked.plain_are) in none number (subst (λ (w : List ℕ). IsSatellite w number) same asked.satellite)
 
 pub err_along : {A B E : Type 0} (e f : E) → IsErrOf {T = A} {E = E} (Err e) f → IsErrOf {T = B} {E = E} (Err e) f
 err_along {A} {B} {E} e f h = let same : e ≡ f = cc h in subst (λ (x : E). IsErrOf {T = B} {E = E} (Err e) x) same refl
+
+-- no job of `sim` without its numbers
+pub no_sim : (command part seed epochs sats : List ℕ) → ((s : Sim) → IsSim part seed epochs sats s → ⊥) → (job : Job) → command ≡ codes "sim" → IsJobOf command (part ∷ seed ∷ epochs ∷ sats ∷ []) [] job → ⊥
+no_sim command part seed epochs sats none (job.Zero rows) is asked = absurd (omega (arith, other_letter 115 122 command _ _ is asked.command_is refl refl))
+no_sim command part seed epochs sats none (job.List obs) is asked = absurd (omega (arith, other_letter 115 108 command _ _ is asked.command_is refl refl))
+no_sim command part seed epochs sats none (job.Orbit nav sat tick) is asked = absurd (omega (arith, other_letter 115 111 command _ _ is asked.asked.command_is refl refl))
+no_sim command part seed epochs sats none (job.Sim part' seed' epochs' sats') is asked =
+    let words = asked.asked.plain_are in
+    let first : asked.part_word ≡ part = ap (λ (ws : List (List ℕ)). get_or ws 0 []) (sym words) in
+    let second : asked.seed_word ≡ seed = ap (λ (ws : List (List ℕ)). get_or ws 1 []) (sym words) in
+    let third : asked.epochs_word ≡ epochs = ap (λ (ws : List (List ℕ)). get_or ws 2 []) (sym words) in
+    let fourth : asked.sats_word ≡ sats = ap (λ (ws : List (List ℕ)). get_or ws 3 []) (sym words) in
+    let s : Sim = sim_with part' seed' epochs' sats' in
+    none s (subst (λ (w : List ℕ). IsSim w seed epochs sats s) first
+    (subst (λ (w : List ℕ). IsSim asked.part_word w epochs sats s) second
+    (subst (λ (w : List ℕ). IsSim asked.part_word asked.seed_word w sats s) third
+    (subst (λ (w : List ℕ). IsSim asked.part_word asked.seed_word asked.epochs_word w s) fourth asked.is))))
+
+-- a job that is asked for keeps its ranges
+asked_range : (c : List ℕ) (p : List (List ℕ)) (g : List Given) (a : Job) → IsJobOf c p g a → IsInRange a
+asked_range c p g (job.Zero rows) asked = tt
+asked_range c p g (job.List obs) asked = tt
+asked_range c p g (job.Orbit nav sat tick) asked = tt
+asked_range c p g (job.Sim part seed epochs sats) asked = (asked.is.epochs.to, asked.is.sats.to)
+
+pub job_range : (words : List (List ℕ)) (a : Job) → IsJob words a → IsInRange a
+job_range words a asked = asked_range asked.command asked.plain asked.given a asked.asked

@@ -2,11 +2,12 @@
 ghost use Rattle.std.specs.Prelude.{◌≡◌, ◌∷◌, [], IfOk, IsErrOf, codes};
 ghost use Rattle.command_words.specs.declared.jobs.Job.{Job};
 ghost use Rattle.command_words.specs.Numbers.{IsSatellite};
-ghost use Rattle.command_words.specs.Words.{texts_of, IsJobOf, IsJob};
+ghost use Rattle.command_words.specs.Words.{texts_of, IsJobOf, IsJob, IsInRange};
 
 use crate::WordFault;
 use crate::numbers::{number_of, satellite_of};
 use crate::parts::{Parted, part_words};
+use crate::sims::{Part, sim_of};
 use crate::word::{Word, copy_words};
 use gps_time::Tick;
 use std::alloc::Global;
@@ -15,16 +16,32 @@ use std::alloc::Global;
 #[derive(Drop)]
 pub enum Job {
     /// Whether a claimed whole number is strictly best for differences.
-    Zero { rows: Word },
+    Zero {
+        rows: Word,
+    },
     /// What an observation file holds.
-    List { obs: Word },
+    List {
+        obs: Word,
+    },
     /// Where a satellite is at a time, by a navigation file.
-    Orbit { nav: Word, sat: u8, tick: Tick },
+    Orbit {
+        nav: Word,
+        sat: u8,
+        tick: Tick,
+    },
+    /// A part of a made-up session.
+    Sim {
+        part: Part,
+        seed: u32,
+        epochs: u32,
+        sats: u32,
+    },
 }
 
 /// The job that the words after the program's name ask for. `Usage` exactly where they ask for none.
 pub fn read_words(alloc: Global, words: &[String]) -> Result<Job, WordFault>
     ensures job { IfOk result (λ job. IsJob (texts_of words.now) job) }
+    ensures range { IfOk result IsInRange }
     ensures usage { IsErrOf result WordFault.Usage → (job : Job) → IsJob (texts_of words.now) job → ⊥ }
 {
     let words = copy_words(alloc, words)?;
@@ -64,6 +81,7 @@ fn plain_job(alloc: Global, command: &[u8], plain: &[Word]) -> Result<Job, WordF
     match plain {
         [file] => file_job(alloc, command, file),
         [nav, sat, tick] => orbit_job(alloc, command, nav, sat, tick),
+        [part, seed, epochs, sats] => sim_job(command, part, seed, epochs, sats),
         _ => Err(WordFault::Usage),
     }
 }
@@ -125,6 +143,31 @@ fn orbit_at(
                 tick: Tick(ticks),
             })
         }
+        None => Err(WordFault::Usage),
+    }
+}
+
+// The job of the command `sim`.
+fn sim_job(
+    command: &[u8],
+    part: &Word,
+    seed: &Word,
+    epochs: &Word,
+    sats: &Word,
+) -> Result<Job, WordFault>
+    ensures job { IfOk result (λ job. IsJobOf command.now (part.now ∷ seed.now ∷ epochs.now ∷ sats.now ∷ []) [] job) }
+    ensures usage { IsErrOf result WordFault.Usage → (job : Job) → IsJobOf command.now (part.now ∷ seed.now ∷ epochs.now ∷ sats.now ∷ []) [] job → ⊥ }
+{
+    if command != b"sim".as_slice() {
+        return Err(WordFault::Usage);
+    }
+    match sim_of(part, seed, epochs, sats) {
+        Some(sim) => Ok(Job::Sim {
+            part: sim.part,
+            seed: sim.seed,
+            epochs: sim.epochs,
+            sats: sim.sats,
+        }),
         None => Err(WordFault::Usage),
     }
 }

@@ -7,11 +7,13 @@ mod jobs;
 mod numbers;
 mod parts;
 mod settings;
+mod sims;
 mod word;
 
 pub use fault::WordFault;
 pub use jobs::{Job, read_words};
 pub use settings::{Given, Setting};
+pub use sims::{Part, Sim};
 pub use word::Word;
 
 #[cfg(test)]

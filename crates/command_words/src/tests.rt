@@ -17,6 +17,7 @@ fn asked(job: &Job) -> (&str, &str, u8, u64) {
         Job::Zero { rows } => ("zero", rows.as_str(), 0, 0),
         Job::List { obs } => ("list", obs.as_str(), 0, 0),
         Job::Orbit { nav, sat, tick } => ("orbit", nav.as_str(), *sat, tick.0),
+        Job::Sim { epochs, .. } => ("sim", "", 0, *epochs as u64),
     }
 }
 
@@ -34,6 +35,11 @@ fn reads_jobs(rt: HostRuntime) -> Result<(), Fail> {
         (&["zero", "--", "-1"], ("zero", "-1", 0, 0)),
         (&["zero", "--", "--ratio"], ("zero", "--ratio", 0, 0)),
         (&["list", "F"], ("list", "F", 0, 0)),
+        (
+            &["sim", "base", "4294967295", "3600", "15"],
+            ("sim", "", 0, 3600),
+        ),
+        (&["sim", "nav", "0", "1", "04"], ("sim", "", 0, 1)),
         (&["orbit", "N", "G01", "0"], ("orbit", "N", 1, 0)),
         (
             &["orbit", "--", "N", "G32", "000999999999999999"],
@@ -86,6 +92,12 @@ fn refuses_words(rt: HostRuntime) -> Result<(), Fail> {
         &["orbit", "N", "G01", "5 "],
         &["orbit", "N", "G01", "0000000000000000000"],
         &["fix", "a", "b"],
+        &["sim", "Base", "1", "60", "8"],
+        &["sim", "base", "4294967296", "60", "8"],
+        &["sim", "base", "1", "0", "8"],
+        &["sim", "base", "1", "3601", "8"],
+        &["sim", "base", "1", "60", "3"],
+        &["sim", "base", "1", "60", "16"],
     ];
     for words in rows {
         let list = words_of(alloc, words)?;
