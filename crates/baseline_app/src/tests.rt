@@ -215,6 +215,12 @@ fn wrong_words_open_no_file(rt: HostRuntime) -> Result<(), Fail> {
         &["--", "zero", "F"],
         &["Zero", "F"],
         &["fix", "a", "b"],
+        &["orbit", "F", "G33", "1"],
+        &["orbit", "F", "g01", "1"],
+        &["orbit", "F", "G00", "1"],
+        &["orbit", "F", "G01", ""],
+        &["orbit", "F", "G01", "+5"],
+        &["orbit", "F", "G01", "1000000000000000000"],
     ];
     for row in rows {
         let words = words_of(alloc, row)?;
@@ -313,5 +319,96 @@ fn lists(rt: HostRuntime) -> Result<(), Fail> {
         )?;
         expect_run(&rt, &ran, status, out, err);
     }
+    Ok(())
+}
+
+// A satellite on a circle of 25,000 km, over the equator, on the meridian of Greenwich at the start of week 2295.
+const NAV: &str =
+    "     3.04           N: GNSS NAV DATA    G: GPS              RINEX VERSION / TYPE\n\
+\x20                                                           END OF HEADER\n\
+G07 2023 12 31 00 00 00                  0                  0                  0\n\
+\x20                     0                  0                  0                  0\n\
+\x20                     0                  0                  0               5000\n\
+\x20                     0                  0                  0                  0\n\
+\x20                     0                  0                  0                  0\n\
+\x20                     0                  0               2295                  0\n\
+\x20                     0                  0                  0                  0\n\
+\x20                     0\n";
+
+const TOE: u64 = 13_880_160_000_000_000;
+
+// The two numbers of a line with that name.
+fn ends_in(line: &str, name: &str) -> Option<(i64, i64)> {
+    let mut words = line.split(' ');
+    if words.next()? != name {
+        return None;
+    }
+    let low = words.next()?.parse::<i64>().ok()?;
+    let high = words.next()?.parse::<i64>().ok()?;
+    Some((low, high))
+}
+
+#[test]
+fn places_a_satellite(rt: HostRuntime) -> Result<(), Fail> {
+    let alloc = rt.alloc();
+    let tick = format!(in alloc; "{TOE}")?;
+    let words = ["orbit", "F", "G07", tick.as_str()];
+    let ran = run_on(alloc, &words, NAV.as_bytes(), 1000, Fails::none(alloc))?;
+    assert_eq!(rt; ran.status, Status::Done);
+    let text = str::from_utf8(ran.out.bytes())?;
+    let rows = [("x", 25_000_000_000_000), ("y", 0), ("z", 0), ("clock", 0)];
+    let mut lines = text.lines();
+    for (name, want) in rows {
+        let ends = lines.next().and_then(|line| ends_in(line, name));
+        let Some((low, high)) = ends else {
+            panic!(&rt; "no line of {name}");
+        };
+        assert!(rt; low <= want && want <= high, "at {name}");
+        assert!(rt; high.abs_diff(low) <= 5, "at {name}");
+    }
+    assert!(rt; lines.next().is_none());
+    Ok(())
+}
+
+#[test]
+fn finds_no_record(rt: HostRuntime) -> Result<(), Fail> {
+    let alloc = rt.alloc();
+    let rows = [
+        ("G07", "13880232000000000", Status::Done),
+        ("G07", "13880232000000001", Status::Declined),
+        ("G07", "13880087999999999", Status::Declined),
+        ("G08", "13880160000000000", Status::Declined),
+    ];
+    for (sat, tick, status) in rows {
+        let words = ["orbit", "F", sat, tick];
+        let ran = run_on(alloc, &words, NAV.as_bytes(), 1000, Fails::none(alloc))?;
+        assert_eq!(rt; ran.status, status, "at {sat} {tick}");
+        if status == Status::Declined {
+            expect_run(&rt, &ran, status, "no record\n", "");
+        }
+    }
+    let words = ["orbit", "F", "G07", "0"];
+    let ran = run_on(alloc, &words, b"", 1000, Fails::none(alloc))?;
+    let refused = "refused: F line 1 column 1: version not 3.00 to 3.05\n";
+    expect_run(&rt, &ran, Status::Refused, "", refused);
+    Ok(())
+}
+
+#[test]
+fn lists_a_made_up_session(rt: HostRuntime) -> Result<(), Fail> {
+    let alloc = rt.alloc();
+    let words = ["sim", "base", "1", "60", "8"];
+    let made = run_on(alloc, &words, b"", 8_000_000, Fails::none(alloc))?;
+    assert_eq!(rt; made.status, Status::Done);
+    let ran = run_on(
+        alloc,
+        &["list", "F"],
+        made.out.bytes(),
+        1000,
+        Fails::none(alloc),
+    )?;
+    let listed = "version 3.04\nepochs 60\nfirst 13881024000000000\nlast 13881041700000000\n\
+G01 60\nG02 60\nG03 60\nG04 60\nG05 60\nG06 60\nG07 60\nG08 60\n";
+    expect_run(&rt, &ran, Status::Done, listed, "");
     Ok(())
 }

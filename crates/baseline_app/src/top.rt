@@ -4,11 +4,13 @@ ghost use Rattle.line_source.specs.Causes.{Rose};
 ghost use Rattle.gps_time.specs.declared.Tick.{Tick};
 ghost use Rattle.job_answers.specs.Answers.{ending_of, IfEnded};
 ghost use Rattle.job_answers.specs.Delivered.{sink_change};
-ghost use Rattle.command_words.specs.declared.words.Job.{Job};
-ghost use Rattle.command_words.specs.Words.{texts_of, file_words, IsJob};
+ghost use Rattle.command_words.specs.declared.sims.Part.{Part};
+ghost use Rattle.command_words.specs.declared.jobs.Job.{Job};
+ghost use Rattle.command_words.specs.Words.{texts_of, file_words, IsJob, IsInRange};
 ghost use Rattle.zero_job.specs.ZeroRuns.{SaysOfZero};
 ghost use Rattle.list_job.specs.ListRuns.{SaysOfList};
 ghost use Rattle.orbit_job.specs.OrbitRuns.{SaysOfOrbit};
+ghost use Rattle.sim_job.specs.SimRuns.{SaysOfSim};
 ghost use Rattle.baseline_app.specs.Jobs.{JobEnds, IsReadable, IsAnswer};
 ghost use Rattle.baseline_app.specs.Runs.{IsRun, IsComplete};
 
@@ -17,6 +19,7 @@ use job_answers::{Answer, Status, Stop, deliver};
 use line_source::{Files, Sink};
 use list_job::list;
 use orbit_job::orbit;
+use sim_job::sim;
 use std::alloc::{AllocError, Global};
 use zero_job::zero;
 
@@ -24,6 +27,7 @@ const USAGE: &str = "usage: baseline fix|check|residuals|zero|list|orbit|arcs|si
 
 // What the job ends with.
 fn do_job<F: Files>(alloc: Global, job: &Job, files: &mut F) -> Result<Answer, Stop>
+    requires { IsInRange job.now }
     ensures ends { IfEnded result (λ end. JobEnds job.now (F.text_of files.old) end) }
     ensures fault { IfEnded result (λ end. end.status ≡ Status.ReadFault → Rose (F.faults files.old) (F.faults files.new)) }
     ensures sure { All (F.is_sure_name files.old) (file_words job.now) → IfEnded result (λ end. end.status ≢ Status.ReadFault) }
@@ -32,6 +36,12 @@ fn do_job<F: Files>(alloc: Global, job: &Job, files: &mut F) -> Result<Answer, S
         Job::Zero { rows } => zero(alloc, files, rows.as_str()),
         Job::List { obs } => list(alloc, files, obs.as_str()),
         Job::Orbit { nav, sat, tick } => orbit(alloc, files, nav.as_str(), *sat, *tick),
+        Job::Sim {
+            part,
+            seed,
+            epochs,
+            sats,
+        } => Ok(sim(alloc, *part, *seed, *epochs, *sats)?),
     }
 }
 
@@ -78,6 +88,9 @@ pub fn run<F: Files, O: Sink, E: Sink>(
         (sink_change (O.contents out.old) (O.contents out.new) (O.faults out.old) (O.faults out.new)) }
     ensures orbit { (nav : List ℕ) (sat : ℕ) (tick : Tick) → IsJob (texts_of words.now) (Job.Orbit nav sat tick)
         → SaysOfOrbit (F.text_of files.old) nav sat tick.0 result
+        (sink_change (O.contents out.old) (O.contents out.new) (O.faults out.old) (O.faults out.new)) }
+    ensures sim { (part : Part) (seed epochs sats : ℕ) → IsJob (texts_of words.now) (Job.Sim part seed epochs sats)
+        → SaysOfSim part seed epochs sats result
         (sink_change (O.contents out.old) (O.contents out.new) (O.faults out.old) (O.faults out.new)) }
     ensures usage { result ≡ Status.Usage → (job : Job) → IsJob (texts_of words.now) job → ⊥ }
     ensures complete { (job : Job) → IsJob (texts_of words.now) job → IsReadable job (F.text_of files.old)

@@ -1,6 +1,6 @@
 use Rattle.std.proofs.Common.{inl, inr}
 use Rattle.baseline_app.proofs.Completes.{run_complete, run_usage, run_write}
-use Rattle.baseline_app.proofs.Says.{run_says_zero, run_says_list, run_says_orbit}
+use Rattle.baseline_app.proofs.Says.{run_says_zero, run_says_list, run_says_orbit, run_says_sim}
 use Rattle.baseline_app.proofs.top.run.Goals as goal
 
 pub returns-clause-write : goal.returns-clause-write
@@ -24,3 +24,6 @@ returns-clause-list g c = λ obs asked. run_says_list _ _ obs _ _ _ c.write_answ
 
 pub returns-clause-orbit : goal.returns-clause-orbit
 returns-clause-orbit g c = λ nav sat tick asked. run_says_orbit _ _ nav sat tick _ _ _ c.write_answer.ensures.run asked
+
+pub returns-clause-sim : goal.returns-clause-sim
+returns-clause-sim g c = λ part seed epochs sats asked. run_says_sim _ _ part seed epochs sats _ _ _ c.write_answer.ensures.run asked
