@@ -1,0 +1,36 @@
+use Rattle.std.proofs.Common.{◌≡◌, ◌^◌, ◌<◌, ◌≤ℤ◌, ◌⊎◌, ⊎_elim, None, IfSome, List, [], ◌∷◌, ℤ, pos, unsigned_abs, sym, subst, refl}
+use Rattle.obs_rows.specs.Data.{number_at}
+use Rattle.row_boxes.specs.declared.terms.Observations.{Observations}
+use Rattle.row_boxes.specs.YBoxes.{Pairing, HoldsBoth, HasSightings, HoldsYs, HasFarSignal}
+use Rattle.row_boxes.proofs.Ys.{both_some, four_ys, far_signal}
+use Rattle.row_boxes.proofs.terms.fine.Goals as goal
+
+pub returns-clause-holds : goal.returns-clause-holds
+returns-clause-holds c =
+    let l1 = c.y_of_signal-l1 in
+    let l2 = c.y_of_signal-l2 in
+    let c1 = c.y_of_signal-c1 in
+    let c2 = c.y_of_signal-c2 in
+    both_some c.gathered.result (λ (o : Observations). o.y ≡ l1.result.centre ∷ l2.result.centre ∷ c1.result.centre ∷ c2.result.centre ∷ [])
+    (λ (o : Observations). (l1.result.radius ≤ℤ o.ry) × (l2.result.radius ≤ℤ o.ry) × (c1.result.radius ≤ℤ o.ry) × (c2.result.radius ≤ℤ o.ry))
+    (λ (o : Observations). (p : Pairing) → HoldsBoth p c.args.base.now c.args.rover.now → HoldsYs p 0 c.args.amounts.now c.args.group c.args.shift.now o.y o.ry)
+    (λ o e r p h. subst (λ (y : List ℤ). HoldsYs p 0 c.args.amounts.now c.args.group c.args.shift.now y o.ry) (sym e)
+      (four_ys p c.args.amounts.now c.args.shift.now c.args.group l1.result.centre l2.result.centre c1.result.centre c2.result.centre l1.result.radius l2.result.radius c1.result.radius c2.result.radius o.ry
+        (record { l1 = l1.ensures.holds p h; l2 = l2.ensures.holds p h; c1 = c1.ensures.holds p h; c2 = c2.ensures.holds p h; radii = r })))
+    c.gathered.ensures.centres c.gathered.ensures.radii
+
+pub returns-clause-far : goal.returns-clause-far
+returns-clause-far c = λ e p h s.
+    let l1 = c.y_of_signal-l1 in
+    let l2 = c.y_of_signal-l2 in
+    let c1 = c.y_of_signal-c1 in
+    let c2 = c.y_of_signal-c2 in
+    let n = c.args.amounts.now in
+    let k = c.args.shift.now in
+    ⊎_elim (λ (f : 2 ^ 34 < unsigned_abs l1.result.centre). far_signal p 0 0 0 n k c.args.group l1.result.centre l1.result.radius refl l1.result.most f (l1.ensures.holds p h) s)
+    (λ (g : (2 ^ 34 < unsigned_abs l2.result.centre) ⊎ ((2 ^ 34 < unsigned_abs c1.result.centre) ⊎ (2 ^ 34 < unsigned_abs c2.result.centre))).
+      ⊎_elim (λ (f : 2 ^ 34 < unsigned_abs l2.result.centre). far_signal p 0 1 1 n k c.args.group l2.result.centre l2.result.radius refl l2.result.most f (l2.ensures.holds p h) s)
+      (λ (i : (2 ^ 34 < unsigned_abs c1.result.centre) ⊎ (2 ^ 34 < unsigned_abs c2.result.centre)).
+        ⊎_elim (λ (f : 2 ^ 34 < unsigned_abs c1.result.centre). far_signal p 0 2 2 n k c.args.group c1.result.centre c1.result.radius refl c1.result.most f (c1.ensures.holds p h) s)
+        (λ (f : 2 ^ 34 < unsigned_abs c2.result.centre). far_signal p 0 3 3 n k c.args.group c2.result.centre c2.result.radius refl c2.result.most f (c2.ensures.holds p h) s) i) g)
+    (c.gathered.ensures.far e)
