@@ -17,6 +17,9 @@ plain64 x h k = omega (arith, ints)
 pub plain_size : (x : ℤ) (m : ℕ) → m ≤ 2 ^ 100 → unsigned_abs x ≤ m → to_z w128 (of_z w128 x) ≡ x
 plain_size x m h k = omega (arith, ints)
 
+pub read_small : (x : ℤ) → unsigned_abs x < 2 ^ 48 → to_z w64 (of_z w64 x) ≡ x
+read_small x h = omega (arith, ints)
+
 -- a size by its two bounds
 pub size_of : (x : ℤ) (m : ℕ) → neg_ℤ (pos m) ≤ℤ x → x ≤ℤ pos m → unsigned_abs x ≤ m
 size_of x m h k = omega (arith, ints)

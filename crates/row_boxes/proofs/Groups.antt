@@ -63,8 +63,8 @@ close : (c r n k : ℤ) (d : ℕ) → 0 < d → r ≤ℤ pos 2048 → (c -ℤ r)
 close c r n k d h small low high l u nl nu =
     let up : ((c +ℤ r) *ℤ pos d) ≤ℤ (pos 266240 *ℤ pos d) = mul_le_right (pos d) (c +ℤ r) (pos 266240) (pos_nn d) (top c r small low) in
     let down : (neg_ℤ (pos 266240) *ℤ pos d) ≤ℤ ((c -ℤ r) *ℤ pos d) = mul_le_right (pos d) (neg_ℤ (pos 266240)) (c -ℤ r) (pos_nn d) (bottom c r small high) in
-    (low_of k (mul_le_cancel (neg_ℤ (pos 1597440)) (pos 1048576 *ℤ k) d h (first ((c -ℤ r) *ℤ pos d) ((c +ℤ r) *ℤ pos d) n (k *ℤ pos d) (pos d) ((pos 1048576 *ℤ k) *ℤ pos d) up (rw (one d) at u) nl (product k (pos d)))),
-      high_of k (mul_le_cancel (pos 1048576 *ℤ k) (pos 1597440) d h (second ((c -ℤ r) *ℤ pos d) ((c +ℤ r) *ℤ pos d) n (k *ℤ pos d) (pos d) ((pos 1048576 *ℤ k) *ℤ pos d) down (rw (one d) at l) nu (product k (pos d)))))
+    (low_of k (mul_le_cancel (neg_ℤ (pos 1597440)) (pos 1048576 *ℤ k) d h (first ((c +ℤ r) *ℤ pos d) n (k *ℤ pos d) (pos d) ((pos 1048576 *ℤ k) *ℤ pos d) (pos_nn d) up (rw (one d) at u) nl (product k (pos d)))),
+      high_of k (mul_le_cancel (pos 1048576 *ℤ k) (pos 1597440) d h (second ((c -ℤ r) *ℤ pos d) n (k *ℤ pos d) (pos d) ((pos 1048576 *ℤ k) *ℤ pos d) down (rw (one d) at l) nu (product k (pos d)))))
   where
     one : (d : ℕ) → 1 * (d * 1) ≡ d
     one d = omega arith
@@ -78,11 +78,11 @@ close c r n k d h small low high l u nl nu =
     product : (k d : ℤ) → (pos 1048576 *ℤ k) *ℤ d ≡ pos 1048576 *ℤ (k *ℤ d)
     product k d = same_by (k ∷ d ∷ []) (λ k d. ((ko (pos 1048576) ⊗ k) ⊗ d, ko (pos 1048576) ⊗ (k ⊗ d))) refl
 
-    first : (a b n y d z : ℤ) → b ≤ℤ (pos 266240 *ℤ d) → ((pos 262144 *ℤ ((n *ℤ pos 1) -ℤ y)) *ℤ pos 1) ≤ℤ b → (neg_ℤ (pos 524288) *ℤ d) ≤ℤ (n *ℤ pos 1048576) → z ≡ pos 1048576 *ℤ y → (neg_ℤ (pos 1597440) *ℤ d) ≤ℤ z
-    first a b n y d z h i j e = omega (arith, ints)
+    first : (b n y d z : ℤ) → pos 0 ≤ℤ d → b ≤ℤ (pos 266240 *ℤ d) → ((pos 262144 *ℤ ((n *ℤ pos 1) -ℤ y)) *ℤ pos 1) ≤ℤ b → (neg_ℤ (pos 524288) *ℤ d) ≤ℤ (n *ℤ pos 1048576) → z ≡ pos 1048576 *ℤ y → (neg_ℤ (pos 1597440) *ℤ d) ≤ℤ z
+    first b n y d z d0 h i j e = omega (arith, ints)
 
-    second : (a b n y d z : ℤ) → (neg_ℤ (pos 266240) *ℤ d) ≤ℤ a → a ≤ℤ ((pos 262144 *ℤ ((n *ℤ pos 1) -ℤ y)) *ℤ pos 1) → (n *ℤ pos 1048576) ≤ℤ (pos 532480 *ℤ d) → z ≡ pos 1048576 *ℤ y → z ≤ℤ (pos 1597440 *ℤ d)
-    second a b n y d z h i j e = omega (arith, ints)
+    second : (a n y d z : ℤ) → (neg_ℤ (pos 266240) *ℤ d) ≤ℤ a → a ≤ℤ ((pos 262144 *ℤ ((n *ℤ pos 1) -ℤ y)) *ℤ pos 1) → (n *ℤ pos 1048576) ≤ℤ (pos 532480 *ℤ d) → z ≡ pos 1048576 *ℤ y → z ≤ℤ (pos 1597440 *ℤ d)
+    second a n y d z h i j e = omega (arith, ints)
 
     low_of : (k : ℤ) → neg_ℤ (pos 1597440) ≤ℤ (pos 1048576 *ℤ k) → neg_ℤ (pos 1) ≤ℤ k
     low_of k h = omega (arith, ints)

@@ -24,7 +24,7 @@ use Rattle.row_boxes.proofs.Boxes.{whole_at}
 abbrev pub less_pseudoranges : ℕ → ℤ → Sighting → Sighting → Rational
 less_pseudoranges s amount base rover = sub_r (observed s amount) (sub_r (pseudorange (range_of rover.travel) rover.clock) (pseudorange (range_of base.travel) base.clock))
 
-whole_sum : (w g k : ℤ) → w ≡ g +ℤ k → of_whole w ≈ add_r (of_whole g) (of_whole k)
+pub whole_sum : (w g k : ℤ) → w ≡ g +ℤ k → of_whole w ≈ add_r (of_whole g) (of_whole k)
 whole_sum w g k e = omega (arith, ints)
 
 -- ---- one whole number in place of the group and the shift

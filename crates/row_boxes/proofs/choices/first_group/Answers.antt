@@ -1,4 +1,4 @@
-use Rattle.std.proofs.Common.{◌≡◌, ◌+◌, ◌*◌, ◌^◌, ◌≤◌, ◌≤ℤ◌, ◌-ℤ◌, ◌+ℤ◌, ◌*ℤ◌, ℕ, ℤ, pos, arith, lit≤, to_z, of_z, sym, subst}
+use Rattle.std.proofs.Common.{◌≡◌, ◌+◌, ◌*◌, ◌^◌, ◌≤◌, ◌≤ℤ◌, ◌-ℤ◌, ◌+ℤ◌, ◌*ℤ◌, neg_ℤ, ℕ, ℤ, pos, arith, lit≤, to_z, of_z, sym, subst}
 use Rattle.std.proofs.lemmas.Int.{ints, to_z-of_z}
 use Rattle.std.specs.Int.{w64, w128}
 use Rattle.whole_math.specs.Rounding.{IsNearest, floor_div, ceil_div}
@@ -33,7 +33,7 @@ returns-clause-near c = λ p h b r a.
     let x = c.prefit_of-prefit.result in
     let g : ℤ = c.nearest_kappa.result in
     let w : IsWithinHalf (pos 1) (sub_r (less_pseudoranges 2 c.args.amount b r) (of_whole g)) = within_half (pos 1) x.lo x.hi g (less_pseudoranges 2 c.args.amount b r) (half_group x.lo x.hi g x.narrow (nearest c)) (held c p h b r a) in
-    let y : IsWithinHalf (pos 1) (y_of 2 c.args.amount g (pos 0) b r) = InBox-along 20 _ _ (sub_r (less_pseudoranges 2 c.args.amount b r) (of_whole g)) (y_of 2 c.args.amount g (pos 0) b r) (y_is 2 c.args.amount g (pos 0) g b r (no_shift g)) w in
+    let y : IsWithinHalf (pos 1) (y_of 2 c.args.amount g (pos 0) b r) = InBox-along 20 (neg_ℤ (pos (2 ^ 19))) (pos (2 ^ 19) +ℤ pos (2 ^ 13)) (sub_r (less_pseudoranges 2 c.args.amount b r) (of_whole g)) (y_of 2 c.args.amount g (pos 0) b r) (y_is 2 c.args.amount g (pos 0) g b r (no_shift g)) w in
     subst (λ (z : ℤ). IsWithinHalf (pos 1) (y_of 2 c.args.amount z (pos 0) b r)) (sym (result_is c)) y
 
 pub returns-clause-allowed : goal.returns-clause-allowed

@@ -1,7 +1,6 @@
 use Rattle.std.proofs.Common.{◌≡◌, ◌+◌, ◌^◌, ◌≤◌, ◌<◌, ◌≤ℤ◌, ◌-ℤ◌, ◌+ℤ◌, ◌*ℤ◌, ℕ, ℤ, pos, length, unsigned_abs, get_or, arith, to_z, of_z, sym, subst, ap, ◌∙◌}
-use Rattle.std.proofs.lemmas.Int.{ints, to_z-of_z}
+use Rattle.std.proofs.lemmas.Int.{to_z-of_z}
 use Rattle.std.specs.Int.{w64}
-use mir.Val.{SFits}
 use Rattle.rational.specs.Rational.{Rational, of_whole, sub_r, InBox, Near}
 use Rattle.rational.proofs.Boxes.{Near-along}
 use Rattle.travel_model.specs.SeenPlaces.{range_of}
@@ -9,6 +8,7 @@ use Rattle.obs_rows.specs.Signals.{wavelength}
 use Rattle.obs_rows.specs.Data.{number_at}
 use Rattle.row_boxes.specs.Terms.{pseudorange, observed, in_row_unit}
 use Rattle.row_boxes.specs.Sightings.{y_in_rows}
+use Rattle.row_boxes.proofs.Ends.{read_small}
 use Rattle.row_boxes.proofs.Ys.{less_pseudoranges, y_in_rows_is}
 use Rattle.row_boxes.proofs.terms.y_of_signal.Goals as goal
 
@@ -16,10 +16,10 @@ whole_is : (c : goal.After-y_box) → to_z w64 (of_z w64 c.whole_of.result) ≡ 
 whole_is c = to_z-of_z w64 c.whole_of.result (record { sfits = c.whole_of.type_inv }) ∙ c.whole_of.ensures.value ∙ ap (λ (g : ℤ). g +ℤ (wavelength c.args.signal *ℤ number_at c.args.shift.now c.args.signal)) (to_z-of_z w64 c.args.group c.ranges.group)
 
 read_amount : (c : goal.After-y_box) → to_z w64 (of_z w64 (number_at c.args.amounts.now c.args.signal)) ≡ number_at c.args.amounts.now c.args.signal
-read_amount c = to_z-of_z w64 (number_at c.args.amounts.now c.args.signal) (amount_fits (number_at c.args.amounts.now c.args.signal) (c.requires.amounts c.args.signal (pos 0) (let l : length c.args.amounts.now ≡ 4 = omega arith in omega arith)))
-  where
-    amount_fits : (z : ℤ) → unsigned_abs z < 2 ^ 48 → SFits w64 z
-    amount_fits z h = record { sfits = omega (arith, ints) }
+read_amount c =
+    let l : length c.args.amounts.now ≡ 4 = omega arith in
+    let i : c.args.signal < length c.args.amounts.now = omega arith in
+    read_small (number_at c.args.amounts.now c.args.signal) (c.requires.amounts c.args.signal (pos 0) i)
 
 pub returns-clause-holds : goal.returns-clause-holds
 returns-clause-holds c = λ p h base rover a.
