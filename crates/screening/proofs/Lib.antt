@@ -1,0 +1,3 @@
+pub mod PlainAmounts
+pub mod ChosenOnce
+pub mod SightLaws
