@@ -42,9 +42,9 @@ of_light lo hi t h = (times_low lo t.num (pos 299792458) (pos (2 ^ 60)) (pos (1 
 -- from 2^-36 to 2^-60
 finer : (lo hi : ℤ) (r : Rational) → InBox 36 lo hi r → InBox 60 (lo *ℤ pos (2 ^ 24)) (hi *ℤ pos (2 ^ 24)) r
 finer lo hi r h = (
-      low lo (pos r.den) (r.num) h.0,
-      high hi (pos r.den) (r.num) h.1,
-    )
+  low lo (pos r.den) (r.num) h.0,
+  high hi (pos r.den) (r.num) h.1,
+)
   where
     same : (l d : ℤ) → (l *ℤ pos (2 ^ 24)) *ℤ d ≡ (l *ℤ d) *ℤ pos (2 ^ 24)
     same l d = same_by (l ∷ d ∷ pos (2 ^ 24) ∷ []) (λ l d n. ((l ⊗ n) ⊗ d, (l ⊗ d) ⊗ n)) refl

@@ -62,9 +62,10 @@ close : (c r n k : ℤ) (d : ℕ) → 0 < d → r ≤ℤ pos 2048 → (c -ℤ r)
     (neg_ℤ (pos 524288) *ℤ pos d) ≤ℤ (n *ℤ pos 1048576) → (n *ℤ pos 1048576) ≤ℤ (pos 532480 *ℤ pos d) → (neg_ℤ (pos 1) ≤ℤ k) × (k ≤ℤ pos 1)
 close c r n k d h small low high l u nl nu =
     let up : ((c +ℤ r) *ℤ pos d) ≤ℤ (pos 266240 *ℤ pos d) = mul_le_right (pos d) (c +ℤ r) (pos 266240) (pos_nn d) (top c r small low) in
-    let down : (neg_ℤ (pos 266240) *ℤ pos d) ≤ℤ ((c -ℤ r) *ℤ pos d) = mul_le_right (pos d) (neg_ℤ (pos 266240)) (c -ℤ r) (pos_nn d) (bottom c r small high) in
-    (low_of k (mul_le_cancel (neg_ℤ (pos 1597440)) (pos 1048576 *ℤ k) d h (first ((c +ℤ r) *ℤ pos d) n (k *ℤ pos d) (pos d) ((pos 1048576 *ℤ k) *ℤ pos d) (pos_nn d) up (rw (one d) at u) nl (product k (pos d)))),
-      high_of k (mul_le_cancel (pos 1048576 *ℤ k) (pos 1597440) d h (second ((c -ℤ r) *ℤ pos d) n (k *ℤ pos d) (pos d) ((pos 1048576 *ℤ k) *ℤ pos d) down (rw (one d) at l) nu (product k (pos d)))))
+    let down : (neg_ℤ (pos 266240) *ℤ pos d) ≤ℤ ((c -ℤ r) *ℤ pos d) = mul_le_right (pos d) (neg_ℤ (pos 266240)) (c -ℤ r) (pos_nn d) (bottom c r small high) in (
+      low_of k (mul_le_cancel (neg_ℤ (pos 1597440)) (pos 1048576 *ℤ k) d h (first ((c +ℤ r) *ℤ pos d) n (k *ℤ pos d) (pos d) ((pos 1048576 *ℤ k) *ℤ pos d) (pos_nn d) up (rw (one d) at u) nl (product k (pos d)))),
+      high_of k (mul_le_cancel (pos 1048576 *ℤ k) (pos 1597440) d h (second ((c -ℤ r) *ℤ pos d) n (k *ℤ pos d) (pos d) ((pos 1048576 *ℤ k) *ℤ pos d) down (rw (one d) at l) nu (product k (pos d)))),
+    )
   where
     one : (d : ℕ) → 1 * (d * 1) ≡ d
     one d = omega arith

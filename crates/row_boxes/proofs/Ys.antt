@@ -134,7 +134,7 @@ far_signal p scale place s amounts shift group centre radius is small far holds 
     rover = has.rover.sighting;
     are = record { base_is = has.base.is; rover_is = has.rover.is };
     far = far_from centre radius (y_in_rows scale s (number_at amounts s) group (number_at shift s) has.base.sighting has.rover.sighting) far small
-      (holds has.base.sighting has.rover.sighting (record { base_is = has.base.is; rover_is = has.rover.is }));
+        (holds has.base.sighting has.rover.sighting (record { base_is = has.base.is; rover_is = has.rover.is }));
   };
 }
 

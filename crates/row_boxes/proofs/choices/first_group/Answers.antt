@@ -49,7 +49,7 @@ returns-clause-allowed c = λ scale p t h.
       radius = u;
       narrow = y_radius scale x.lo x.hi g f u e;
       holds = λ b r a. Near-along f u (in_row_unit scale (sub_r (less_pseudoranges 2 c.args.amount b r) (of_whole g))) (y_in_rows scale 2 c.args.amount g (pos 0) b r)
-        (y_in_rows_is scale 2 c.args.amount g (pos 0) g b r (no_shift g)) (y_holds scale x.lo x.hi g f u (less_pseudoranges 2 c.args.amount b r) e (held c p h b r a));
+          (y_in_rows_is scale 2 c.args.amount g (pos 0) g b r (no_shift g)) (y_holds scale x.lo x.hi g f u (less_pseudoranges 2 c.args.amount b r) e (held c p h b r a));
       meets = y_meets scale x.lo x.hi g f u e k.0 k.1;
     } in
     subst (λ (z : ℤ). IsAllowedGroup p scale c.args.amount z) (sym (result_is c)) y

@@ -14,7 +14,7 @@ returns-clause-holds c =
     (λ (o : Observations). (pos 0 ≤ℤ o.ry) × (pos 0 ≤ℤ o.ry) × (c1.result.radius ≤ℤ o.ry) × (pos 0 ≤ℤ o.ry))
     (λ (o : Observations). (p : Pairing) → HoldsBoth p c.args.base.now c.args.rover.now → HoldsYs p 14 c.args.amounts.now c.args.group c.args.shift.now o.y o.ry)
     (λ o e r p h. subst (λ (y : List ℤ). HoldsYs p 14 c.args.amounts.now c.args.group c.args.shift.now y o.ry) (sym e)
-      (one_y p c.args.amounts.now c.args.shift.now c.args.group (pos 0) (pos 0) c1.result.centre (pos 0) c1.result.radius o.ry (subst (λ (g : ℤ). HoldsY p 14 2 (number_at c.args.amounts.now 2) g (number_at c.args.shift.now 2) c1.result.centre c1.result.radius) (to_z-of_z w64 c.args.group c.ranges.group) (c1.ensures.holds p h)) r.2))
+    (one_y p c.args.amounts.now c.args.shift.now c.args.group (pos 0) (pos 0) c1.result.centre (pos 0) c1.result.radius o.ry (subst (λ (g : ℤ). HoldsY p 14 2 (number_at c.args.amounts.now 2) g (number_at c.args.shift.now 2) c1.result.centre c1.result.radius) (to_z-of_z w64 c.args.group c.ranges.group) (c1.ensures.holds p h)) r.2))
     c.gathered.ensures.centres c.gathered.ensures.radii
 
 not_far : 2 ^ 34 < unsigned_abs (pos 0) → ⊥
@@ -25,8 +25,8 @@ returns-clause-far c = λ e p h s.
     let c1 = c.y_of_signal-c1 in
     ⊎_elim (λ (f : 2 ^ 34 < unsigned_abs (pos 0)). absurd (not_far f))
     (λ (g : (2 ^ 34 < unsigned_abs (pos 0)) ⊎ ((2 ^ 34 < unsigned_abs c1.result.centre) ⊎ (2 ^ 34 < unsigned_abs (pos 0)))).
-      ⊎_elim (λ (f : 2 ^ 34 < unsigned_abs (pos 0)). absurd (not_far f))
-      (λ (i : (2 ^ 34 < unsigned_abs c1.result.centre) ⊎ (2 ^ 34 < unsigned_abs (pos 0))).
-        ⊎_elim (λ (f : 2 ^ 34 < unsigned_abs c1.result.centre). far_signal p 14 0 2 c.args.amounts.now c.args.shift.now c.args.group c1.result.centre c1.result.radius refl c1.result.most f (subst (λ (g : ℤ). HoldsY p 14 2 (number_at c.args.amounts.now 2) g (number_at c.args.shift.now 2) c1.result.centre c1.result.radius) (to_z-of_z w64 c.args.group c.ranges.group) (c1.ensures.holds p h)) s)
-        (λ (f : 2 ^ 34 < unsigned_abs (pos 0)). absurd (not_far f)) i) g)
+    ⊎_elim (λ (f : 2 ^ 34 < unsigned_abs (pos 0)). absurd (not_far f))
+    (λ (i : (2 ^ 34 < unsigned_abs c1.result.centre) ⊎ (2 ^ 34 < unsigned_abs (pos 0))).
+    ⊎_elim (λ (f : 2 ^ 34 < unsigned_abs c1.result.centre). far_signal p 14 0 2 c.args.amounts.now c.args.shift.now c.args.group c1.result.centre c1.result.radius refl c1.result.most f (subst (λ (g : ℤ). HoldsY p 14 2 (number_at c.args.amounts.now 2) g (number_at c.args.shift.now 2) c1.result.centre c1.result.radius) (to_z-of_z w64 c.args.group c.ranges.group) (c1.ensures.holds p h)) s)
+    (λ (f : 2 ^ 34 < unsigned_abs (pos 0)). absurd (not_far f)) i) g)
     (c.gathered.ensures.far e)

@@ -41,7 +41,7 @@ ends c = record {
   top = c.around.ensures.top ∙ hi_is c.before;
   bottom = subst (λ (z : ℤ). (c.around.result.centre -ℤ c.around.result.radius) ≤ℤ z) (lo_is c.before) c.around.ensures.bottom;
   radius = subst (λ (z : ℤ). c.around.result.radius ≤ℤ (z -ℤ floor_div (less c.args.prefit.now.lo c.args.whole) (2 ^ (c.args.scale + 2)))) (hi_is c.before)
-    (subst (λ (z : ℤ). c.around.result.radius ≤ℤ (to_z w128 (of_z w128 c.ceil_shift-hi.result) -ℤ z)) (lo_is c.before) c.around.ensures.radius);
+      (subst (λ (z : ℤ). c.around.result.radius ≤ℤ (to_z w128 (of_z w128 c.ceil_shift-hi.result) -ℤ z)) (lo_is c.before) c.around.ensures.radius);
 }
 
 pub returns-clause-holds : goal.returns-clause-holds
