@@ -1,10 +1,10 @@
 -- Groups and shifts: what follows from the nearest whole numbers.
-use Rattle.std.proofs.Common.{◌≡◌, ℕ, ◌+◌, ◌-◌, ◌*◌, ◌^◌, ◌<◌, ◌≤◌, ◌⊎◌, ⊎_elim, [], ◌∷◌, ℤ, pos, ◌+ℤ◌, ◌-ℤ◌, ◌*ℤ◌, neg_ℤ, ◌≤ℤ◌, ◌<ℤ◌, arith, refl, sym, subst}
+use Rattle.std.proofs.Common.{◌≡◌, ℕ, ◌-◌, ◌*◌, ◌^◌, ◌<◌, ⊎_elim, [], ◌∷◌, ℤ, pos, ◌+ℤ◌, ◌-ℤ◌, ◌*ℤ◌, neg_ℤ, ◌≤ℤ◌, arith, refl, sym, subst}
 use Rattle.std.proofs.lemmas.Int.{ints}
 use Rattle.whole_math.proofs.Ring.{va, ko, ng, ◌⊕◌, ◌⊖◌, ◌⊗◌}
-use Rattle.whole_math.proofs.Order.{lins, mul_le_right, mul_le_cancel}
+use Rattle.whole_math.proofs.Order.{mul_le_right, mul_le_cancel}
 use Rattle.whole_math.proofs.Inequalities.{same_by, pos_nn}
-use Rattle.rational.specs.Rational.{Rational, ◌≈◌, ◌≤ʳ◌, of_whole, sub_r, Near}
+use Rattle.rational.specs.Rational.{Rational, ◌≈◌, of_whole, sub_r, Near}
 use Rattle.rational.proofs.Laws.{≤ʳ_along}
 use Rattle.rational.proofs.Boxes.{Near-along}
 use Rattle.rational_algebra.proofs.Orders.{equal_r, ◌≐◌}
@@ -12,7 +12,7 @@ use Rattle.obs_rows.specs.Ranges.{IsScale}
 use Rattle.obs_rows.specs.Signals.{wavelength}
 use Rattle.row_boxes.specs.Terms.{observed, in_row_unit, row_unit}
 use Rattle.row_boxes.specs.Sightings.{Sighting, computed, y_of, y_in_rows}
-use Rattle.row_boxes.specs.YBoxes.{Pairing, AreSightings, HasSightings, HoldsY, MeetsOne, IsAllowedGroup, IsWithinHalf, IsWithinCycle, most_radius}
+use Rattle.row_boxes.specs.YBoxes.{Pairing, AreSightings, HasSightings, MeetsOne, IsAllowedGroup, IsWithinHalf, IsWithinCycle}
 use Rattle.row_boxes.proofs.Ends.{scale_cases}
 use Rattle.row_boxes.proofs.Ys.{group_moved, whole_sum}
 

@@ -1,16 +1,16 @@
 -- The observations of a row: in the order in which the boxes are made, and what follows from boxes that hold them.
-use Rattle.std.proofs.Common.{◌≡◌, ℕ, zero, suc, ◌+◌, ◌-◌, ◌*◌, ◌^◌, ◌<◌, ◌≤◌, ◌⊎◌, inl, inr, ⊎_elim, Option, Some, None, IfSome, All, List, [], ◌∷◌, get_or, ℤ, pos, ◌+ℤ◌, ◌-ℤ◌, ◌*ℤ◌, neg_ℤ, ◌≤ℤ◌, ◌<ℤ◌, unsigned_abs, arith, refl, sym, subst, lit<, pow_pos}
+use Rattle.std.proofs.Common.{◌≡◌, ℕ, zero, suc, ◌-◌, ◌*◌, ◌^◌, ◌<◌, inl, inr, Option, Some, None, IfSome, All, List, [], ◌∷◌, get_or, ℤ, pos, ◌+ℤ◌, ◌-ℤ◌, ◌*ℤ◌, neg_ℤ, ◌≤ℤ◌, ◌<ℤ◌, unsigned_abs, arith, refl, sym, subst}
 use Rattle.std.proofs.lemmas.Int.{ints, by_lt_z}
-use Rattle.whole_math.specs.Rounding.{floor_div, ceil_div, IsNearest}
+use Rattle.whole_math.specs.Rounding.{IsNearest}
 use Rattle.whole_math.proofs.Ring.{va, ko, ng, ◌⊕◌, ◌⊖◌, ◌⊗◌}
-use Rattle.whole_math.proofs.Order.{lins, mul_le_right, lt_pos}
+use Rattle.whole_math.proofs.Order.{lins, mul_le_right}
 use Rattle.whole_math.proofs.Inequalities.{same_by, pos_nn}
-use Rattle.rational.specs.Rational.{Rational, ◌≈◌, ◌≤ʳ◌, ◌<ʳ◌, of_whole, add_r, sub_r, mul_r, InBox, Near}
-use Rattle.rational.proofs.Boxes.{wider, InBox-along, Near-along}
+use Rattle.rational.specs.Rational.{Rational, ◌≈◌, ◌<ʳ◌, of_whole, add_r, sub_r, InBox, Near}
+use Rattle.rational.proofs.Boxes.{wider}
 use Rattle.rational_algebra.proofs.Orders.{equal_r, ◌≐◌}
 use Rattle.iv_core.proofs.SumLaws.{sub_holds}
 use Rattle.travel_model.specs.SeenPlaces.{range_of}
-use Rattle.obs_rows.specs.Ranges.{IsScale, IsWithin}
+use Rattle.obs_rows.specs.Ranges.{IsWithin}
 use Rattle.std.specs.Prelude.{slice_get}
 use Rattle.obs_rows.specs.Signals.{wavelength, counted}
 use Rattle.obs_rows.specs.Data.{number_at}

@@ -6,7 +6,7 @@ use Rattle.travel_model.specs.SeenPlaces.{range_of}
 use Rattle.obs_rows.specs.Data.{number_at}
 use Rattle.obs_rows.specs.Signals.{wavelength, counted}
 use Rattle.row_boxes.specs.Terms.{pseudorange}
-use Rattle.row_boxes.specs.Sightings.{Sighting, IsSighting, HasSighting, y_of, y_in_rows}
+use Rattle.row_boxes.specs.Sightings.{Sighting, IsSighting, HasSighting, y_in_rows}
 use Rattle.row_boxes.specs.declared.pseudoranges.Pseudorange.{Pseudorange}
 
 -- what is known of one satellite in one pair: its boxes as the two receivers' codes give them, and the receivers' points

@@ -19,9 +19,12 @@ pub record RowSetting : Type 0 where
   pub point : List ℤ
   pub scale : ℕ
 
--- the satellite of an entry, as the two receivers see it
+-- the satellite of an entry, as receivers at two points see it
+abbrev pub seen_by : SvPair → List ℤ → List ℤ → Pairing
+seen_by v base point = record { base_sv = v.base; rover_sv = v.rover; base = base; point = point }
+
 abbrev pub pairing_of : RowSetting → SvPair → Pairing
-pairing_of t v = record { base_sv = v.base; rover_sv = v.rover; base = t.base; point = t.point }
+pairing_of t v = seen_by v t.base t.point
 
 -- a coordinate of a direction, in 2^-24, is in the box in its place
 abbrev pub IsInU : ℕ → List ℤ → List ℤ → Rational → Type 0

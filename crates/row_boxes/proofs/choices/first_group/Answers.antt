@@ -1,11 +1,10 @@
-use Rattle.std.proofs.Common.{◌≡◌, ◌+◌, ◌*◌, ◌^◌, ◌≤◌, ◌≤ℤ◌, ◌-ℤ◌, ◌+ℤ◌, ◌*ℤ◌, neg_ℤ, ℕ, ℤ, pos, arith, lit≤, to_z, of_z, sym, subst}
+use Rattle.std.proofs.Common.{◌≡◌, ◌+◌, ◌^◌, ◌-ℤ◌, ◌+ℤ◌, ◌*ℤ◌, neg_ℤ, ℤ, pos, arith, lit≤, to_z, of_z, sym, subst}
 use Rattle.std.proofs.lemmas.Int.{ints, to_z-of_z}
-use Rattle.std.specs.Int.{w64, w128}
+use Rattle.std.specs.Int.{w64}
 use Rattle.whole_math.specs.Rounding.{IsNearest, floor_div, ceil_div}
-use Rattle.rational.specs.Rational.{Rational, of_whole, sub_r, InBox, Near}
+use Rattle.rational.specs.Rational.{of_whole, sub_r, InBox}
 use Rattle.rational.proofs.Boxes.{InBox-along, Near-along}
 use Rattle.travel_model.specs.SeenPlaces.{range_of}
-use Rattle.obs_rows.specs.Ranges.{IsScale}
 use Rattle.obs_rows.specs.Signals.{wavelength}
 use Rattle.row_boxes.specs.Terms.{pseudorange, in_row_unit}
 use Rattle.row_boxes.specs.Sightings.{Sighting, y_of, y_in_rows}

@@ -1,5 +1,5 @@
-use Rattle.std.proofs.Common.{◌≡◌, ◌+◌, ◌*◌, ◌^◌, ◌≤◌, ◌≤ℤ◌, ◌-ℤ◌, ◌+ℤ◌, ◌*ℤ◌, ℕ, ℤ, pos, unsigned_abs, arith, lit≤, to_z, of_z, sym, subst, ap₂, ◌∙◌, refl}
-use Rattle.std.proofs.lemmas.Int.{ints, to_z-of_z}
+use Rattle.std.proofs.Common.{◌≡◌, ◌*◌, ◌^◌, ◌-ℤ◌, ◌+ℤ◌, ◌*ℤ◌, ℕ, ℤ, pos, unsigned_abs, lit≤, to_z, of_z, sym, subst, ap₂, ◌∙◌, refl}
+use Rattle.std.proofs.lemmas.Int.{to_z-of_z}
 use Rattle.std.specs.Int.{w64, w128}
 use Rattle.whole_math.specs.Rounding.{IsNearest}
 use Rattle.rational.specs.Rational.{Rational, of_whole, sub_r, InBox}

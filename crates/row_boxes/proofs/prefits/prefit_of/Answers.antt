@@ -1,7 +1,7 @@
-use Rattle.std.proofs.Common.{◌≡◌, ◌+◌, ◌*◌, ◌^◌, ◌≤◌, ◌<◌, ◌≤ℤ◌, ◌-ℤ◌, ℤ, pos, arith, lit≤, unsigned_abs, to_z, of_z, sym, subst, ap, ◌∙◌}
+use Rattle.std.proofs.Common.{◌≡◌, ◌*◌, ◌^◌, ◌<◌, ◌-ℤ◌, ℤ, arith, lit≤, unsigned_abs, to_z, of_z, sym, subst}
 use Rattle.std.proofs.lemmas.Int.{to_z-of_z}
 use Rattle.std.specs.Int.{w64, w128}
-use Rattle.rational.specs.Rational.{Rational, InBox, sub_r}
+use Rattle.rational.specs.Rational.{InBox, sub_r}
 use Rattle.obs_rows.specs.Signals.{wavelength}
 use Rattle.row_boxes.specs.Terms.{observed}
 use Rattle.row_boxes.specs.declared.pseudoranges.Pseudorange.{Pseudorange}

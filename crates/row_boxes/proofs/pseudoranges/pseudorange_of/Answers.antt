@@ -1,8 +1,8 @@
-use Rattle.std.proofs.Common.{◌≡◌, ◌+◌, ◌*◌, ◌^◌, ◌≤◌, ℤ, pos, ◌-ℤ◌, ◌*ℤ◌, ◌≤ℤ◌, arith, to_z, of_z, sym, subst, ap₂, ◌∙◌}
-use Rattle.std.specs.Int.{w64, w128}
+use Rattle.std.proofs.Common.{◌≡◌, ◌+◌, ◌*◌, ◌^◌, ℤ, pos, ◌-ℤ◌, ◌*ℤ◌, ◌≤ℤ◌, arith, to_z, of_z, sym, subst, ap₂, ◌∙◌}
+use Rattle.std.specs.Int.{w128}
 use Rattle.std.proofs.lemmas.Int.{ints, to_z-of_z}
 use Rattle.whole_math.specs.Rounding.{IsFloor, IsCeil}
-use Rattle.rational.specs.Rational.{Rational, InBox}
+use Rattle.rational.specs.Rational.{InBox}
 use Rattle.row_boxes.specs.Terms.{pseudorange}
 use Rattle.row_boxes.proofs.Ends.{plain64, through, pseudorange_ordered, pseudorange_narrow}
 use Rattle.row_boxes.proofs.Boxes.{pseudorange_holds}

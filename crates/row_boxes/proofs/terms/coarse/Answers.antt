@@ -1,9 +1,9 @@
-use Rattle.std.proofs.Common.{◌≡◌, ◌^◌, ◌<◌, ◌≤ℤ◌, ◌⊎◌, ⊎_elim, IfSome, List, [], ◌∷◌, ℤ, pos, unsigned_abs, arith, sym, subst, refl}
+use Rattle.std.proofs.Common.{◌≡◌, ◌^◌, ◌<◌, ◌≤ℤ◌, ◌⊎◌, ⊎_elim, List, [], ◌∷◌, ℤ, pos, unsigned_abs, arith, sym, subst, refl}
 use Rattle.std.proofs.lemmas.Int.{ints, to_z-of_z}
 use Rattle.std.specs.Int.{w64}
 use Rattle.obs_rows.specs.Data.{number_at}
 use Rattle.row_boxes.specs.declared.terms.Observations.{Observations}
-use Rattle.row_boxes.specs.YBoxes.{Pairing, HoldsBoth, HasSightings, HoldsY, HoldsYs, HasFarSignal}
+use Rattle.row_boxes.specs.YBoxes.{Pairing, HoldsBoth, HoldsY, HoldsYs}
 use Rattle.row_boxes.proofs.Ys.{both_some, one_y, far_signal}
 use Rattle.row_boxes.proofs.terms.coarse.Goals as goal
 

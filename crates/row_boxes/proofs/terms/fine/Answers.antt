@@ -1,9 +1,9 @@
-use Rattle.std.proofs.Common.{◌≡◌, ◌^◌, ◌<◌, ◌≤ℤ◌, ◌⊎◌, ⊎_elim, None, IfSome, List, [], ◌∷◌, ℤ, pos, unsigned_abs, sym, subst, refl}
+use Rattle.std.proofs.Common.{◌≡◌, ◌^◌, ◌<◌, ◌≤ℤ◌, ◌⊎◌, ⊎_elim, List, [], ◌∷◌, ℤ, unsigned_abs, sym, subst, refl}
 use Rattle.std.proofs.lemmas.Int.{to_z-of_z}
 use Rattle.std.specs.Int.{w64}
 use Rattle.obs_rows.specs.Data.{number_at}
 use Rattle.row_boxes.specs.declared.terms.Observations.{Observations}
-use Rattle.row_boxes.specs.YBoxes.{Pairing, HoldsBoth, HasSightings, HoldsY, HoldsYs, HasFarSignal}
+use Rattle.row_boxes.specs.YBoxes.{Pairing, HoldsBoth, HoldsY, HoldsYs}
 use Rattle.row_boxes.proofs.Ys.{both_some, four_ys, far_signal}
 use Rattle.row_boxes.proofs.terms.fine.Goals as goal
 

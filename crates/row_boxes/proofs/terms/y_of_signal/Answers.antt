@@ -1,12 +1,12 @@
-use Rattle.std.proofs.Common.{◌≡◌, ◌+◌, ◌^◌, ◌≤◌, ◌<◌, ◌≤ℤ◌, ◌-ℤ◌, ◌+ℤ◌, ◌*ℤ◌, ℕ, ℤ, pos, length, unsigned_abs, get_or, arith, to_z, of_z, sym, subst, ap, ◌∙◌}
+use Rattle.std.proofs.Common.{◌≡◌, ◌<◌, ◌+ℤ◌, ◌*ℤ◌, ℕ, ℤ, pos, length, arith, to_z, of_z, subst, ap, ◌∙◌}
 use Rattle.std.proofs.lemmas.Int.{to_z-of_z}
 use Rattle.std.specs.Int.{w64}
-use Rattle.rational.specs.Rational.{Rational, of_whole, sub_r, InBox, Near}
+use Rattle.rational.specs.Rational.{of_whole, sub_r, InBox}
 use Rattle.rational.proofs.Boxes.{Near-along}
 use Rattle.travel_model.specs.SeenPlaces.{range_of}
 use Rattle.obs_rows.specs.Signals.{wavelength}
 use Rattle.obs_rows.specs.Data.{number_at}
-use Rattle.row_boxes.specs.Terms.{pseudorange, observed, in_row_unit}
+use Rattle.row_boxes.specs.Terms.{pseudorange, in_row_unit}
 use Rattle.row_boxes.specs.Sightings.{y_in_rows}
 use Rattle.row_boxes.proofs.Ends.{read_small}
 use Rattle.row_boxes.proofs.Ys.{less_pseudoranges, y_in_rows_is}
