@@ -1,2 +1,5 @@
 pub mod EntryLaws
 pub mod ArcLaws
+pub mod FewRows
+pub mod RowLists
+pub mod Amounts

@@ -19,6 +19,9 @@ pub record RowSetting : Type 0 where
   pub point : List ℤ
   pub scale : ℕ
 
+abbrev pub setting : List SvPair → List Arc → List ℤ → List ℤ → ℕ → RowSetting
+setting boxes arcs base point scale = record { boxes = boxes; arcs = arcs; base = base; point = point; scale = scale }
+
 -- the satellite of an entry, as receivers at two points see it
 abbrev pub seen_by : SvPair → List ℤ → List ℤ → Pairing
 seen_by v base point = record { base_sv = v.base; rover_sv = v.rover; base = base; point = point }

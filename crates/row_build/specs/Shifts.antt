@@ -12,7 +12,7 @@ use Rattle.row_build.specs.Rows.{RowSetting, pairing_of}
 -- allows in a fine session, and for all places and clocks
 pub record AreFirstShifts (t : RowSetting) (pair sat : ℕ) (shift : List ℤ) : Type 0 where
   pub first : SvPair
-  pub first_is : IsFirstEntry t pair first
+  pub first_is : IsFirstEntry t.boxes t.arcs pair first
   pub entry : SvPair
   pub entry_is : IsEntry t.boxes pair sat entry
   pub within : (group : ℤ) → IsAllowedGroup (pairing_of t first) 0 (number_at first.observed 2) group →

@@ -1,19 +1,26 @@
 // The entry of a satellite in a pair.
-ghost use Rattle.std.specs.Prelude.{◌≡◌, ℕ, ◌<◌, true, None, Contains, length, IfSome, slice_get, Some};
+ghost use Rattle.std.specs.Prelude.{◌≡◌, ℕ, ◌<◌, ◌≤◌, true, None, Contains, length, IfSome, slice_get, Some};
 ghost use Rattle.slip_arcs.specs.Used.{is_used};
 ghost use Rattle.screening.specs.declared.sv_pair.SvPair.{SvPair};
-ghost use Rattle.row_build.specs.Entries.{IsEntry};
+ghost use Rattle.row_build.specs.Entries.{IsEntry, is_entry};
 
 use screening::{Screened, SvPair, UsedPair};
 
-// Of these entries
-fn found_in(boxes: &[SvPair], pair: u32, sat: u8) -> Option<SvPair>
-    ensures found { IfSome result (λ v. IsEntry boxes.now pair sat v) }
-    ensures none { result ≡ None → (v : SvPair) → IsEntry boxes.now pair sat v → ⊥ }
+fn is_entry(entry: &SvPair, pair: u32, sat: u8) -> bool
+    ensures { result ≡ is_entry entry.now pair sat }
 {
-    for entry in boxes {
-        if entry.pair == pair && entry.sat == sat {
-            return Some(*entry);
+    entry.pair == pair && entry.sat == sat
+}
+
+// Of the entries from this place on
+fn found_from(boxes: &[SvPair], from: usize, pair: u32, sat: u8) -> Option<SvPair>
+    requires { from ≤ length boxes.now }
+    ensures found { IfSome result (λ v. IsEntry boxes.now pair sat v) }
+    ensures none { result ≡ None → (v : SvPair) (e : IsEntry boxes.now pair sat v) → e.place < from }
+{
+    for place in from..boxes.len() {
+        if is_entry(&boxes[place], pair, sat) {
+            return Some(boxes[place]);
         }
     }
     None
@@ -34,8 +41,8 @@ pub fn entry_of(screened: &Screened, pair: u32, sat: u8) -> SvPair
 {
     let boxes = screened.boxes.as_slice();
     let from = before(screened.used.as_slice(), pair).min(boxes.len());
-    match found_in(&boxes[from..], pair, sat) {
+    match found_from(boxes, from, pair, sat) {
         Some(entry) => entry,
-        None => found_in(boxes, pair, sat).unwrap(),
+        None => found_from(boxes, 0, pair, sat).unwrap(),
     }
 }

@@ -2,9 +2,14 @@
 //! the satellite, each as a box that holds every solution.
 #![tactic(auto)]
 
+mod arcs;
 mod entries;
 mod faults;
+mod pairs;
 mod rows;
+mod shifts;
 
 pub use faults::RowFault;
+pub use pairs::pair_rows;
 pub use screening::{Screened, SvPair, SvPairList, UsedList, UsedPair, UsedSat};
+pub use shifts::shift_at;

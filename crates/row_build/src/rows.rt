@@ -14,6 +14,7 @@ use screening::SvPair;
 use signal_travel::{SeenBox, mean_direction};
 
 // The observations of an entry, with what the rover may see of the satellite
+#[derive(Clone, Copy)]
 struct Geometry {
     seen: SeenBox,
     held: Observations,
@@ -38,6 +39,8 @@ fn geometry_of(
     ensures seen { IfSome result (λ g. (s : Sighting) → IsSighting entry.now.rover point.now s → HoldsPlace g.seen.place s.seen) }
     ensures far { result ≡ None → HasFarSignal (seen_by entry.now base.now point.now) scale entry.now.observed group shift.now }
 {
+    // All four, which the proof names.
+    let [_l1, _l2, _c1, _c2] = entry.observed;
     let rover = sight_of(&entry.rover, point);
     let known = sight_of(&entry.base, base);
     let held = observations_of(
