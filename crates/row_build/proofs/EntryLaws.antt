@@ -46,7 +46,7 @@ pub record HasEntry (boxes : List SvPair) (pair sat : ℕ) : Type 0 where
   pub entry : SvPair
   pub is : IsEntry boxes pair sat entry
 
-abbrev place_of : SvPair → ℕ × ℕ
+abbrev pub place_of : SvPair → ℕ × ℕ
 place_of b = (b.pair, b.sat)
 
 same_pairs : (a b c d : ℕ) (x y : ℕ × ℕ) → x ≡ (a, b) → y ≡ (c, d) → x ≡ y → (a ≡ c) × (b ≡ d)

@@ -16,7 +16,7 @@ arcs_of rows = map (λ (r : Row). r.arc) rows
 
 pub record AreFirstRows (t : RowSetting) (pair : ℕ) (group : ℤ) (numbers : List ℕ) (rows : List Row) : Type 0 where
   pub arcs : map (λ (r : Row). r.arc) rows ≡ numbers
-  pub rows : All (IsRow t pair group) rows
+  pub each : All (IsRow t pair group) rows
 
 length_arcs : (rows : List Row) → length (arcs_of rows) ≡ length rows
 length_arcs [] = refl
@@ -67,7 +67,7 @@ pub one_row_more : (t : RowSetting) (pair : ℕ) (group : ℤ) (held : List ℕ)
     AreFirstRows t pair group (take (k + 1) held) (rows ++ r ∷ [])
 one_row_more t pair group held rows k m r a is e i = record {
       arcs = arcs_more rows r ∙ ap (λ (xs : List ℕ). xs ++ r.arc ∷ []) a.arcs ∙ ap (λ (x : ℕ). take k held ++ x ∷ []) e ∙ take_next held k m is ∙ ap (λ (n : ℕ). take n held) (one_more k);
-      rows = All-push (IsRow t pair group) rows r a.rows i;
+      each = All-push (IsRow t pair group) rows r a.each i;
     }
   where
     one_more : (k : ℕ) → suc k ≡ k + 1

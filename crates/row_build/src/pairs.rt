@@ -78,7 +78,7 @@ fn with_rows(
         HasFarRow (setting screened.now.boxes arcs.now base.now point.now scale) rows.number }
 {
     for place in 0..held.len() {
-        let row = row_at(
+        match row_at(
             screened,
             arcs,
             held[place],
@@ -87,8 +87,10 @@ fn with_rows(
             base,
             point,
             scale,
-        )?;
-        rows.push(row)?;
+        ) {
+            Ok(row) => rows.push(row)?,
+            Err(fault) => return Err(fault),
+        }
     }
     Ok(rows)
 }
@@ -123,6 +125,8 @@ pub fn pair_rows(
     let first = first_entry(screened, arcs, pair);
     let group = group_of(&first, base, point);
     let rows = PairBuilder::new(alloc, pair, first.tag, group);
-    let rows = with_rows(rows, screened, arcs, held.as_slice(), base, point, scale)?;
-    Ok(Some(rows.finish()))
+    match with_rows(rows, screened, arcs, held.as_slice(), base, point, scale) {
+        Ok(rows) => Ok(Some(rows.finish())),
+        Err(fault) => Err(fault),
+    }
 }
