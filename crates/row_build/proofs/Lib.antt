@@ -5,3 +5,4 @@ pub mod RowLists
 pub mod Unique
 pub mod FirstRow
 pub mod Amounts
+pub mod SessionLaws

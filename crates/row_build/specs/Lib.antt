@@ -4,3 +4,4 @@ pub mod Rows
 pub mod PairRows
 pub mod Far
 pub mod Shifts
+pub mod SessionRows

@@ -7,9 +7,11 @@ mod entries;
 mod faults;
 mod pairs;
 mod rows;
+mod session_rows;
 mod shifts;
 
 pub use faults::RowFault;
 pub use pairs::pair_rows;
 pub use screening::{Screened, SvPair, SvPairList, UsedList, UsedPair, UsedSat};
+pub use session_rows::rows_at;
 pub use shifts::shift_at;
