@@ -1,16 +1,17 @@
 -- The used satellites of each taken pair, and their boxes.
-use Rattle.std.specs.Prelude.{◌≡◌, ℕ, zero, suc, ◌<◌, ◌≤◌, ◌⊎◌, ℤ, Bool, false, ◌==◌, Option, Some, None, List, length, All, AllPairs, slice_get, []}
+use Rattle.std.specs.Prelude.{◌≡◌, ℕ, zero, suc, ◌<◌, ◌≤◌, ◌⊎◌, ℤ, Bool, false, ◌==◌, Option, Some, None, List, length, All, AllPairs, slice_get, [], ◌∷◌, pos}
 use Rattle.std.specs.List.{list_any}
 use Rattle.obs_rows.specs.declared.bands.Signals.{Signals}
 use Rattle.obs_store.specs.declared.file.ObsFile.{ObsFile}
 use Rattle.obs_store.specs.declared.series.Epoch.{Epoch}
 use Rattle.eph_store.specs.File.{Records}
 use Rattle.orbit_model.specs.Solution.{Quantities}
-use Rattle.orbit_clock.specs.Records.{constants_of}
-use Rattle.orbit_clock.specs.declared.world.World.{World}
+use Rattle.orbit_model.specs.Elements.{Constants}
 use Rattle.signal_travel.specs.Boxes.{IsPoint}
 use Rattle.sv_orbit.specs.Solutions.{HoldsSolution}
+use Rattle.obs_store.specs.Epochs.{tags_of}
 use Rattle.epoch_pair.specs.declared.pairs.PairOf.{PairOf}
+use Rattle.epoch_pair.specs.Pairs.{IsNearPair, Follows}
 use Rattle.slip_arcs.specs.declared.used.UsedSat.{UsedSat}
 use Rattle.slip_arcs.specs.declared.used.UsedPair.{UsedPair}
 use Rattle.screening.specs.declared.sv_pair.SvPair.{SvPair}
@@ -23,19 +24,25 @@ abbrev pub HasPosition : Option (List ℤ) → Type 0
 HasPosition None = ⊥
 HasPosition (Some p) = IsPoint p
 
--- the position of a header that gives one
+-- the position of a header, and no matter what where it gives none
 abbrev pub position_of : Option (List ℤ) → List ℤ
-position_of None = []
+position_of None = pos 0 ∷ pos 0 ∷ pos 0 ∷ []
 position_of (Some p) = p
 
-abbrev pub setting_of : ObsFile → Records → Signals → ℕ → World → Setting
+abbrev pub setting_of : ObsFile → Records → Signals → ℕ → Constants → Setting
 setting_of base nav signals mask world = record {
   types = types_of signals;
   records = nav.fit;
-  world = constants_of world;
+  world = world;
   mask = mask;
   point = point_at (position_of base.position);
 }
+
+-- the pairs that may be screened: at most 3,600 of epochs that rise in both files, with tags at most half a second apart
+pub record ArePairsOf (base rover : List Epoch) (pairs : List PairOf) : Type 0 where
+  pub few : length pairs ≤ 3600
+  pub near : All (IsNearPair 5_000_000 (tags_of base) (tags_of rover)) pairs
+  pub rises : AllPairs Follows pairs
 
 -- what a pair says of a satellite that it uses: its phases, and whether lock was lost up to the pair
 pub record IsUsedSat (setting : Setting) (base rover : Epoch) (epochs : Passed) (u : UsedSat) : Type 0 where
