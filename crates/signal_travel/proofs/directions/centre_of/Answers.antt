@@ -1,4 +1,4 @@
-use Rattle.std.proofs.Common.{◌≡◌, ◌≤◌, ℤ, pos, ◌-ℤ◌, ◌≤ℤ◌, neg_ℤ, arith, to_z, of_z}
+use Rattle.std.proofs.Common.{◌≡◌, ℤ, pos, ◌-ℤ◌, ◌≤ℤ◌, neg_ℤ, arith, to_z, of_z}
 use Rattle.std.proofs.lemmas.Int.{ints, clamps}
 use Rattle.std.specs.Int.{w64, int_min, int_max}
 use Rattle.signal_travel.proofs.directions.centre_of.Goals as goal

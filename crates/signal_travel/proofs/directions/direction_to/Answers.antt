@@ -1,4 +1,4 @@
-use Rattle.std.proofs.Common.{◌≡◌, ◌^◌, ℤ, pos, ◌+ℤ◌, ◌-ℤ◌, ◌≤ℤ◌, neg_ℤ, arith}
+use Rattle.std.proofs.Common.{◌^◌, ℤ, pos, ◌+ℤ◌, ◌≤ℤ◌, neg_ℤ, arith}
 use Rattle.std.proofs.lemmas.Int.{ints}
 use Rattle.travel_model.specs.SeenPlaces.{Place, difference, square, point_of}
 use Rattle.travel_model.proofs.Changes.{range_change}

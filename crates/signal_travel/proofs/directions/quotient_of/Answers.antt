@@ -1,8 +1,7 @@
-use Rattle.std.proofs.Common.{◌≡◌, ◌*◌, ◌+◌, ◌^◌, ℤ, pos, ◌+ℤ◌, ◌-ℤ◌, ◌*ℤ◌, ◌≤ℤ◌, ◌<ℤ◌, neg_ℤ, arith, lit<, lit≤}
+use Rattle.std.proofs.Common.{◌*◌, ◌+◌, ◌^◌, ℤ, pos, ◌+ℤ◌, ◌-ℤ◌, ◌*ℤ◌, ◌≤ℤ◌, ◌<ℤ◌, neg_ℤ, arith, lit<, lit≤}
 use Rattle.std.proofs.lemmas.Int.{ints}
 use Rattle.std.proofs.lemmas.Result.{IfOk-at_ok}
 use Rattle.iv_core.specs.Boxes.{least_ratio, most_ratio}
-use Rattle.iv_core.specs.Intervals.{IsRatioWithin}
 use Rattle.sized_box.proofs.Bounds.{ok_of_quotient, in_reach}
 use Rattle.signal_travel.proofs.MeanDirections.{ratio_size}
 use Rattle.signal_travel.proofs.directions.quotient_of.Goals as goal
