@@ -113,11 +113,11 @@ pub rising : (arcs : List Arc) (n pair j k m l : ℕ) → j < k → slice_get (a
 rising [] n pair j k m l h e f = absurd (none-some m e)
 rising (a ∷ arcs) n pair j k m l h e f =
     ⊎_elim (λ (t : holds_pair a pair ≡ true).
-      let c = cond-true (holds_pair a pair) (n ∷ arcs_from (n + 1) arcs pair) (arcs_from (n + 1) arcs pair) t in
-      rising_step n m l pair j k arcs h (subst (λ (xs : List ℕ). slice_get xs j ≡ Some m) c e) (subst (λ (xs : List ℕ). slice_get xs k ≡ Some l) c f) (λ i o g x y. rising arcs (n + 1) pair i o m l g x y))
+    let c = cond-true (holds_pair a pair) (n ∷ arcs_from (n + 1) arcs pair) (arcs_from (n + 1) arcs pair) t in
+    rising_step n m l pair j k arcs h (subst (λ (xs : List ℕ). slice_get xs j ≡ Some m) c e) (subst (λ (xs : List ℕ). slice_get xs k ≡ Some l) c f) (λ i o g x y. rising arcs (n + 1) pair i o m l g x y))
     (λ (t : holds_pair a pair ≡ false).
-      let c = cond-false (holds_pair a pair) (n ∷ arcs_from (n + 1) arcs pair) (arcs_from (n + 1) arcs pair) t in
-      rising arcs (n + 1) pair j k m l h (subst (λ (xs : List ℕ). slice_get xs j ≡ Some m) c e) (subst (λ (xs : List ℕ). slice_get xs k ≡ Some l) c f))
+    let c = cond-false (holds_pair a pair) (n ∷ arcs_from (n + 1) arcs pair) (arcs_from (n + 1) arcs pair) t in
+    rising arcs (n + 1) pair j k m l h (subst (λ (xs : List ℕ). slice_get xs j ≡ Some m) c e) (subst (λ (xs : List ℕ). slice_get xs k ≡ Some l) c f))
     (cases_Bool (holds_pair a pair))
 
 -- ---- a number in the list is that of an arc that holds the pair

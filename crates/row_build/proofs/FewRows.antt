@@ -75,7 +75,7 @@ held_of : (arcs : List Arc) (pair q : ℕ) → is_member eqb (held_sats arcs pai
 held_of [] pair q e = absurd (both_ways false refl e)
 held_of (a ∷ arcs) pair q e =
     ⊎_elim (λ (t : holds_pair a pair ≡ true). ⊎_elim (λ (s : eqb q a.sat ≡ true). record { place = 0; arc = a; is = refl; held = t; sat = sym (eqb-true q a.sat s) }) (λ (r : list_any (eqb q) (held_sats arcs pair) ≡ true). later (held_of arcs pair q r))
-        (or_cases (eqb q a.sat) (list_any (eqb q) (held_sats arcs pair)) (subst (λ (xs : List ℕ). list_any (eqb q) xs ≡ true) (cond-true (holds_pair a pair) (a.sat ∷ held_sats arcs pair) (held_sats arcs pair) t) e)))
+    (or_cases (eqb q a.sat) (list_any (eqb q) (held_sats arcs pair)) (subst (λ (xs : List ℕ). list_any (eqb q) xs ≡ true) (cond-true (holds_pair a pair) (a.sat ∷ held_sats arcs pair) (held_sats arcs pair) t) e)))
     (λ (f : holds_pair a pair ≡ false). later (held_of arcs pair q (subst (λ (xs : List ℕ). list_any (eqb q) xs ≡ true) (cond-false (holds_pair a pair) (a.sat ∷ held_sats arcs pair) (held_sats arcs pair) f) e)))
     (cases_Bool (holds_pair a pair))
   where
@@ -109,7 +109,7 @@ held_few used arcs pair c r h =
     let e : length (arcs_at arcs pair) ≡ length (held_sats arcs pair) = same_length arcs 0 pair in
     let d : IsDistinct eqb (held_sats arcs pair) = distinct arcs pair (λ i j a b x y s t q. let m = held_ends a pair s in let n = held_ends b pair t in kept_one c.jump c.least used arcs c.short i j a b pair c.kept x y q m.0 m.1 n.0 n.1) in
     let l : length (held_sats arcs pair) ≤ length (map (λ (u : UsedSat). u.sat) (sats_at used pair)) = length-le_from_is_member nat_eq_equiv (held_sats arcs pair) (map (λ (u : UsedSat). u.sat) (sats_at used pair)) d
-      (λ q m. let x = held_of arcs pair q m in in_sats (sats_at used pair) q (subst (λ (s : ℕ). is_used used s pair ≡ true) x.sat (held_sat used arcs x.place pair x.arc c x.is x.held))) in
+    (λ q m. let x = held_of arcs pair q m in in_sats (sats_at used pair) q (subst (λ (s : ℕ). is_used used s pair ≡ true) x.sat (held_sat used arcs x.place pair x.arc c x.is x.held))) in
     let f : length (sats_at used pair) ≤ 15 = few_at used pair r h in
     let g : length (map (λ (u : UsedSat). u.sat) (sats_at used pair)) ≡ length (sats_at used pair) = length_sats (sats_at used pair) in
     omega arith

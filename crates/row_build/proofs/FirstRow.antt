@@ -48,8 +48,8 @@ first_meets used t pair group r f m rs s first is row has near =
     let arc : row.arc ≡ first.arc = same_Some row.arc first.arc (sym row.arc_is ∙ ap (λ (k : ℕ). slice_get t.arcs k) number ∙ first.arc_is) in
     let entry : row.entry ≡ f = one_entry used t.boxes pair first.arc.sat row.entry f m rs (subst (λ (a : Arc). IsEntry t.boxes pair a.sat row.entry) arc row.entry_is) first.entry_is in
     let box : HoldsY (pairing_of t f) t.scale 2 (number_at f.observed 2) group (number_at row.arc.shift 2) (number_at r.y 2) r.ry =
-      subst (λ (v : SvPair). HoldsY (pairing_of t v) t.scale 2 (number_at v.observed 2) group (number_at row.arc.shift 2) (number_at r.y 2) r.ry) entry
-      (code_box (pairing_of t row.entry) t.scale row.entry.observed group row.arc.shift r.y r.ry s row.y) in
+    subst (λ (v : SvPair). HoldsY (pairing_of t v) t.scale 2 (number_at v.observed 2) group (number_at row.arc.shift 2) (number_at r.y 2) r.ry) entry
+    (code_box (pairing_of t row.entry) t.scale row.entry.observed group row.arc.shift r.y r.ry s row.y) in
     let b : Sighting = has.base.sighting in
     let q : Sighting = has.rover.sighting in
     let are : AreSightings (pairing_of t f) b q = record { base_is = has.base.is; rover_is = has.rover.is } in

@@ -6,3 +6,4 @@ pub mod Unique
 pub mod FirstRow
 pub mod Amounts
 pub mod SessionLaws
+pub mod StandsLaws

@@ -66,9 +66,9 @@ take_next (x ∷ xs) (suc k) m e = ap (λ (ys : List ℕ). x ∷ ys) (take_next 
 pub one_row_more : (t : RowSetting) (pair : ℕ) (group : ℤ) (held : List ℕ) (rows : List Row) (k m : ℕ) (r : Row) → AreFirstRows t pair group (take k held) rows → slice_get held k ≡ Some m → r.arc ≡ m → IsRow t pair group r →
     AreFirstRows t pair group (take (k + 1) held) (rows ++ r ∷ [])
 one_row_more t pair group held rows k m r a is e i = record {
-      arcs = arcs_more rows r ∙ ap (λ (xs : List ℕ). xs ++ r.arc ∷ []) a.arcs ∙ ap (λ (x : ℕ). take k held ++ x ∷ []) e ∙ take_next held k m is ∙ ap (λ (n : ℕ). take n held) (one_more k);
-      each = All-push (IsRow t pair group) rows r a.each i;
-    }
+  arcs = arcs_more rows r ∙ ap (λ (xs : List ℕ). xs ++ r.arc ∷ []) a.arcs ∙ ap (λ (x : ℕ). take k held ++ x ∷ []) e ∙ take_next held k m is ∙ ap (λ (n : ℕ). take n held) (one_more k);
+  each = All-push (IsRow t pair group) rows r a.each i;
+}
   where
     one_more : (k : ℕ) → suc k ≡ k + 1
     one_more k = omega arith

@@ -5,3 +5,4 @@ pub mod PairRows
 pub mod Far
 pub mod Shifts
 pub mod SessionRows
+pub mod Stands

@@ -12,6 +12,6 @@ mod shifts;
 
 pub use faults::RowFault;
 pub use pairs::pair_rows;
-pub use screening::{Screened, SvPair, SvPairList, UsedList, UsedPair, UsedSat};
+pub use screening::{Screened, SvPair, SvPairList, UsedList, UsedPair, UsedSat, screen, screen_in};
 pub use session_rows::rows_at;
 pub use shifts::shift_at;

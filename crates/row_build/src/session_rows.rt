@@ -56,7 +56,16 @@ pub fn rows_at(
     let held = ArcList::new(Vec::from_slice(alloc, arcs)?);
     let mut session = SessionBuilder::new(alloc, scale, *base, *point, signals, held);
     for pair in 0..screened.used.len() {
-        match pair_rows(alloc, screened, arcs, pair as u32, base, point, signals, scale) {
+        match pair_rows(
+            alloc,
+            screened,
+            arcs,
+            pair as u32,
+            base,
+            point,
+            signals,
+            scale,
+        ) {
             Ok(rows) => add_pair(&mut session, rows)?,
             Err(fault) => return Err(fault),
         }

@@ -28,20 +28,20 @@ returns-in-Ok-clause-rows c =
     let plain : to_z w64 (of_z w64 g) ≡ g = to_z-of_z w64 g (record { sfits = c.group_of-group.type_inv }) in
     let group : p.group ≡ g = c.finish.ensures.group ∙ c.in-Ok.ensures.group ∙ c.new-rows.ensures.group ∙ plain in
     let arcs : map (λ (r : Row). r.arc) p.rows ≡ arcs_at c.args.arcs.now c.args.pair =
-      ap (λ (rs : List Row). map (λ (r : Row). r.arc) rs) c.finish.ensures.rows ∙ c.in-Ok.ensures.arcs ∙ c.as_slice.ensures.value ∙ c.in_ok-held.ensures in
+    ap (λ (rs : List Row). map (λ (r : Row). r.arc) rs) c.finish.ensures.rows ∙ c.in-Ok.ensures.arcs ∙ c.as_slice.ensures.value ∙ c.in_ok-held.ensures in
     let rows : All (IsRow t c.args.pair p.group) p.rows =
-      subst (λ (rs : List Row). All (IsRow t c.args.pair p.group) rs) (sym c.finish.ensures.rows)
-      (subst₂ (λ (n : ℕ) (k : ℤ). All (IsRow t n k) c.in-Ok.rows.rows) c.new-rows.ensures.number (sym (c.finish.ensures.group ∙ c.in-Ok.ensures.group)) c.in-Ok.ensures.rows) in
+    subst (λ (rs : List Row). All (IsRow t c.args.pair p.group) rs) (sym c.finish.ensures.rows)
+    (subst₂ (λ (n : ℕ) (k : ℤ). All (IsRow t n k) c.in-Ok.rows.rows) c.new-rows.ensures.number (sym (c.finish.ensures.group ∙ c.in-Ok.ensures.group)) c.in-Ok.ensures.rows) in
     record {
       number = c.finish.ensures.number ∙ c.in-Ok.ensures.number ∙ c.new-rows.ensures.number;
       tag = record { sat = c.first_entry-first.ensures.arc.sat; entry = f; entry_is = c.first_entry-first.ensures.entry_is; tag_is = sym (c.finish.ensures.tag ∙ c.in-Ok.ensures.tag ∙ c.new-rows.ensures.tag) };
       arcs = arcs;
       rows = rows;
       group = λ r e.
-        first_meets c.args.screened.now.used t c.args.pair p.group r f c.args.screened.now.matched c.args.screened.now.ranges c.requires.scale c.first_entry-first.ensures
-        (ap (λ (xs : List ℕ). slice_get xs 0) (sym arcs) ∙ slice_get-map (λ (q : Row). q.arc) p.rows 0 ∙ ap (λ (o : Option Row). option_map (λ (q : Row). q.arc) o) e)
-        (row_in (IsRow t c.args.pair p.group) p.rows r rows e) c.group_of-group.ensures.exists
-        (subst (λ (k : ℤ). (b q : Sighting) → AreSightings (seen_by f c.args.base.now c.args.point.now) b q → IsWithinHalf (pos 1) (y_of 2 (number_at f.observed 2) k (pos 0) b q)) (sym group) c.group_of-group.ensures.near);
+          first_meets c.args.screened.now.used t c.args.pair p.group r f c.args.screened.now.matched c.args.screened.now.ranges c.requires.scale c.first_entry-first.ensures
+          (ap (λ (xs : List ℕ). slice_get xs 0) (sym arcs) ∙ slice_get-map (λ (q : Row). q.arc) p.rows 0 ∙ ap (λ (o : Option Row). option_map (λ (q : Row). q.arc) o) e)
+          (row_in (IsRow t c.args.pair p.group) p.rows r rows e) c.group_of-group.ensures.exists
+          (subst (λ (k : ℤ). (b q : Sighting) → AreSightings (seen_by f c.args.base.now c.args.point.now) b q → IsWithinHalf (pos 1) (y_of 2 (number_at f.observed 2) k (pos 0) b q)) (sym group) c.group_of-group.ensures.near);
     }
 
 pub returns-clause-overwidth : goal.returns-clause-overwidth

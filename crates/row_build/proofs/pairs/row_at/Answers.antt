@@ -29,7 +29,7 @@ returns-in-Some-clause-row c =
       entry = v;
       entry_is = subst (λ (a : Arc). IsEntry c.args.screened.now.boxes c.args.pair a.sat v) e c.entry_of-entry.ensures;
       y = subst (λ (a : Arc). HoldsYs (seen_by v c.args.base.now c.args.point.now) c.args.scale v.observed c.args.group a.shift r.y r.ry) e
-        (subst (λ (g : ℤ). HoldsYs (seen_by v c.args.base.now c.args.point.now) c.args.scale v.observed g (get_or c.args.arcs.now c.args.number (record { sat = 0; first = 0; last = 0; datum = false; shift = [] })).shift r.y r.ry) (to_z-of_z w64 c.args.group c.ranges.group) c.in-Some.ensures.y);
+          (subst (λ (g : ℤ). HoldsYs (seen_by v c.args.base.now c.args.point.now) c.args.scale v.observed g (get_or c.args.arcs.now c.args.number (record { sat = 0; first = 0; last = 0; datum = false; shift = [] })).shift r.y r.ry) (to_z-of_z w64 c.args.group c.ranges.group) c.in-Some.ensures.y);
       radius = c.in-Some.ensures.radius;
       others = c.in-Some.ensures.others;
       u = c.in-Some.ensures.u;
@@ -51,5 +51,5 @@ returns-in-None-clause-far c = λ g.
       entry = v;
       entry_is = subst (λ (a : Arc). IsEntry c.args.screened.now.boxes c.args.pair a.sat v) e c.entry_of-entry.ensures;
       far = subst (λ (a : Arc). HasFarSignal (seen_by v c.args.base.now c.args.point.now) c.args.scale v.observed c.args.group a.shift) e
-        (subst (λ (i : ℤ). HasFarSignal (seen_by v c.args.base.now c.args.point.now) c.args.scale v.observed i (get_or c.args.arcs.now c.args.number (record { sat = 0; first = 0; last = 0; datum = false; shift = [] })).shift) (to_z-of_z w64 c.args.group c.ranges.group) (c.in-None.ensures.far refl));
+          (subst (λ (i : ℤ). HasFarSignal (seen_by v c.args.base.now c.args.point.now) c.args.scale v.observed i (get_or c.args.arcs.now c.args.number (record { sat = 0; first = 0; last = 0; datum = false; shift = [] })).shift) (to_z-of_z w64 c.args.group c.ranges.group) (c.in-None.ensures.far refl));
     }

@@ -48,7 +48,10 @@ loop-place-preserved c =
     let i = c.loop-place.invariant in
     let m : ℕ = get_or c.args.held.now c.loop-place.place 0 in
     let at : slice_get c.args.held.now c.loop-place.place ≡ Some m = slice_get-get_or c.args.held.now c.loop-place.place 0 c.loop-place-test.true in
-    let row : IsRow t c.args.rows.number c.args.rows.group c.in-Ok.row = subst₂ (λ (n : ℕ) (k : ℤ). IsRow t n k c.in-Ok.row) i.0 (read_group c.loop-place.rows.group c.loop-place.rows.group_in ∙ i.2) c.in-Ok.ensures.row in
-    (c.push.ensures.number ∙ i.0, c.push.ensures.tag ∙ i.1, c.push.ensures.group ∙ i.2,
+    let row : IsRow t c.args.rows.number c.args.rows.group c.in-Ok.row = subst₂ (λ (n : ℕ) (k : ℤ). IsRow t n k c.in-Ok.row) i.0 (read_group c.loop-place.rows.group c.loop-place.rows.group_in ∙ i.2) c.in-Ok.ensures.row in (
+      c.push.ensures.number ∙ i.0,
+      c.push.ensures.tag ∙ i.1,
+      c.push.ensures.group ∙ i.2,
       subst (λ (rs : List Row). AreFirstRows t c.args.rows.number c.args.rows.group (take (c.loop-place.place + 1) c.args.held.now) rs) (sym c.in_ok-push-in-Ok.ensures.added)
-      (one_row_more t c.args.rows.number c.args.rows.group c.args.held.now c.loop-place.rows.rows c.loop-place.place m c.in-Ok.row i.3 at c.in-Ok.ensures.arc row))
+          (one_row_more t c.args.rows.number c.args.rows.group c.args.held.now c.loop-place.rows.rows c.loop-place.place m c.in-Ok.row i.3 at c.in-Ok.ensures.arc row),
+    )

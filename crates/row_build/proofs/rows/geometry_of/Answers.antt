@@ -13,11 +13,11 @@ pub returns-in_err-held-clause-far : goal.returns-in_err-held-clause-far
 returns-in_err-held-clause-far c = λ _.
     subst (λ (g : ℤ). HasFarSignal (seen_by c.args.entry.now c.args.base.now c.args.point.now) c.args.scale c.args.entry.now.observed g c.args.shift.now) (to_z-of_z w64 c.args.group c.ranges.group)
     (c.in_err-held.ensures.far refl (seen_by c.args.entry.now c.args.base.now c.args.point.now)
-      (record { base_held = c.sight_of-known.ensures.pseudorange; rover_held = c.sight_of-rover.ensures.pseudorange })
-      (record { base = c.sight_of-known.ensures.exists; rover = c.sight_of-rover.ensures.exists }))
+    (record { base_held = c.sight_of-known.ensures.pseudorange; rover_held = c.sight_of-rover.ensures.pseudorange })
+    (record { base = c.sight_of-known.ensures.exists; rover = c.sight_of-rover.ensures.exists }))
 
 pub returns-clause-y : goal.returns-clause-y
 returns-clause-y c =
     subst (λ (g : ℤ). HoldsYs (seen_by c.args.entry.now c.args.base.now c.args.point.now) c.args.scale c.args.entry.now.observed g c.args.shift.now c.in_ok-held.held.y c.in_ok-held.held.ry) (to_z-of_z w64 c.args.group c.ranges.group)
     (c.in_ok-held.ensures.holds (seen_by c.args.entry.now c.args.base.now c.args.point.now)
-      (record { base_held = c.sight_of-known.ensures.pseudorange; rover_held = c.sight_of-rover.ensures.pseudorange }))
+    (record { base_held = c.sight_of-known.ensures.pseudorange; rover_held = c.sight_of-rover.ensures.pseudorange }))

@@ -27,5 +27,5 @@ returns-clause-u c = λ s move direction h d m.
     let z : Spread = get_or c.mean_direction.result 2 c.index-mean_direction-2.result in
     let l : length c.mean_direction.result ≡ 3 = omega arith in
     let held : HoldsDirection (x ∷ y ∷ z ∷ []) direction = subst (λ (t : List Spread). HoldsDirection t direction) (three_is c.mean_direction.result c.index-mean_direction-0.result c.index-mean_direction-1.result c.index-mean_direction-2.result l)
-      (c.mean_direction.ensures (get_or c.args.point.now 0 (pos 0)) (get_or c.args.point.now 1 (pos 0)) (get_or c.args.point.now 2 (pos 0)) s.seen move direction (shape c) h d m) in
+    (c.mean_direction.ensures (get_or c.args.point.now 0 (pos 0)) (get_or c.args.point.now 1 (pos 0)) (get_or c.args.point.now 2 (pos 0)) s.seen move direction (shape c) h d m) in
     (read x direction.x held.0, read y direction.y held.1.0, read z direction.z held.1.1.0)

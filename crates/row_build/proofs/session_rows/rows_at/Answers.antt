@@ -31,10 +31,15 @@ pub loop-pair-preserved : goal.loop-pair-preserved
 loop-pair-preserved c =
     let t = setting c.args.screened.now.boxes c.args.arcs.now c.args.base.now c.args.point.now c.args.scale in
     let i = c.loop-pair.invariant in
-    let a = c.add_pair.ensures in
-    (a.scale ∙ i.0, a.base ∙ i.1, a.point ∙ i.2, a.signals ∙ i.3, a.arcs ∙ i.4,
+    let a = c.add_pair.ensures in (
+      a.scale ∙ i.0,
+      a.base ∙ i.1,
+      a.point ∙ i.2,
+      a.signals ∙ i.3,
+      a.arcs ∙ i.4,
       with_listed t c.loop-pair.pair c.loop-pair.session.pairs c.add_pair.new.session.pairs c.in-Ok.rows i.5 c.in-Ok.ensures.none
-      (some_at c.in-Ok.rows (λ (p : PairRows). ArePairRows t c.loop-pair.pair p) c.in-Ok.ensures.rows) c.in_ok-add_pair-in-Ok.ensures.added)
+          (some_at c.in-Ok.rows (λ (p : PairRows). ArePairRows t c.loop-pair.pair p) c.in-Ok.ensures.rows) c.in_ok-add_pair-in-Ok.ensures.added,
+    )
 
 pub finish-requires : goal.finish-requires
 finish-requires c =

@@ -21,7 +21,7 @@ returns-clause-near c =
       entry = n;
       entry_is = c.entry_of-entry.ensures;
       within = λ group a s h b r q.
-        shift_within s (number_at n.observed s) g group (number_at c.shifts_of.result s) b r (long_cycle s h)
-        (allowed_close (seen_by f c.args.base.now c.args.point.now) (number_at f.observed 2) g group a c.group_of.ensures.exists c.group_of.ensures.near)
-        (subst (λ (m : ℤ). IsWithinHalf (wavelength s) (y_of s (number_at n.observed s) m (number_at c.shifts_of.result s) b r)) (to_z-of_z w64 g (record { sfits = c.group_of.type_inv })) (c.shifts_of.ensures.near s h b r q));
+          shift_within s (number_at n.observed s) g group (number_at c.shifts_of.result s) b r (long_cycle s h)
+          (allowed_close (seen_by f c.args.base.now c.args.point.now) (number_at f.observed 2) g group a c.group_of.ensures.exists c.group_of.ensures.near)
+          (subst (λ (m : ℤ). IsWithinHalf (wavelength s) (y_of s (number_at n.observed s) m (number_at c.shifts_of.result s) b r)) (to_z-of_z w64 g (record { sfits = c.group_of.type_inv })) (c.shifts_of.ensures.near s h b r q));
     }

@@ -32,5 +32,5 @@ second c b r a =
 
 pub returns-clause-near : goal.returns-clause-near
 returns-clause-near c = two (λ (s : ℕ). (b r : Sighting) → AreSightings (seen_by c.args.entry.now c.args.base.now c.args.point.now) b r →
-        IsWithinHalf (wavelength s) (y_of s (number_at c.args.entry.now.observed s) c.args.group (number_at (to_z w64 (of_z w64 c.first_shift.result) ∷ to_z w64 (of_z w64 c.first_shift-2.result) ∷ []) s) b r))
+    IsWithinHalf (wavelength s) (y_of s (number_at c.args.entry.now.observed s) c.args.group (number_at (to_z w64 (of_z w64 c.first_shift.result) ∷ to_z w64 (of_z w64 c.first_shift-2.result) ∷ []) s) b r))
     (first c) (second c)
