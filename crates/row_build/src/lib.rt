@@ -5,12 +5,14 @@
 mod arcs;
 mod entries;
 mod faults;
+mod laws;
 mod pairs;
 mod rows;
 mod session_rows;
 mod shifts;
 
 pub use faults::RowFault;
+pub use laws::stands_law;
 pub use pairs::pair_rows;
 pub use screening::{Screened, SvPair, SvPairList, UsedList, UsedPair, UsedSat, screen, screen_in};
 pub use session_rows::rows_at;
