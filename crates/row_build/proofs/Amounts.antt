@@ -1,5 +1,5 @@
 -- What an entry's amounts are bounded by.
-use Rattle.std.proofs.Common.{◌≡◌, ℕ, zero, suc, ◌+◌, ◌^◌, ◌<◌, ◌≤◌, All, List, [], ◌∷◌, length, get_or, ℤ, pos, unsigned_abs, arith}
+use Rattle.std.proofs.Common.{◌≡◌, ℕ, zero, suc, ◌^◌, ◌<◌, All, List, [], ◌∷◌, length, get_or, ℤ, unsigned_abs, arith}
 use Rattle.obs_rows.specs.Ranges.{IsBelow}
 use Rattle.screening.specs.Observed.{ArePhasesBelow, AreCodesBelow}
 

@@ -1,8 +1,8 @@
 -- A satellite that a pair uses has an entry.
-use Rattle.std.proofs.Common.{◌≡◌, ℕ, zero, suc, ◌+◌, ◌<◌, ◌≤◌, ◌⊎◌, inl, inr, ⊎_elim, Bool, true, false, cond, Option, Some, None, List, [], ◌∷◌, ◌++◌, map, length, get_or, arith, rules, refl, sym, subst, ap, ◌∙◌}
+use Rattle.std.proofs.Common.{◌≡◌, ℕ, zero, suc, ◌+◌, ◌<◌, ◌≤◌, ⊎_elim, Bool, true, false, Option, Some, None, List, [], ◌∷◌, ◌++◌, length, get_or, arith, rules, refl, sym, subst, ap, ◌∙◌}
 use Rattle.std.specs.Prelude.{slice_get, is_some, IsSome, ◌==◌, ◌&&◌}
 use Rattle.std.specs.Option.{option_map}
-use Rattle.std.proofs.lemmas.Bool.{cond-true, cond-false, cases_Bool, cases_lt, eqb-true, eq-eqb, both_ways, and_parts}
+use Rattle.std.proofs.lemmas.Bool.{cond-false, cases_Bool, cases_lt, eqb-true, eq-eqb, both_ways, and_parts}
 use Rattle.std.proofs.lemmas.Option.{none-some, same_Some, slice_get-map, slice_get_read, get_or_from_slice_get, slice_get_within}
 use Rattle.slip_arcs.specs.declared.used.UsedSat.{UsedSat}
 use Rattle.slip_arcs.specs.declared.used.UsedPair.{UsedPair}

@@ -1,5 +1,5 @@
 -- The y box of the code on L1 of a pair's first row meets that from -1 to 1 κ.
-use Rattle.std.proofs.Common.{◌≡◌, ℕ, ◌<◌, ◌⊎◌, ⊎_elim, Some, All, List, ℤ, pos, ◌*ℤ◌, lit<, arith, sym, subst, ap, ◌∙◌}
+use Rattle.std.proofs.Common.{◌≡◌, ℕ, ⊎_elim, Some, All, List, ℤ, pos, lit<, sym, subst, ap, ◌∙◌}
 use Rattle.std.specs.Prelude.{slice_get}
 use Rattle.std.proofs.lemmas.Option.{same_Some}
 use Rattle.whole_math.proofs.IntLaws.{zero_mul_ℤ}

@@ -1,5 +1,5 @@
 -- Rows of what was screened stand for the files.
-use Rattle.std.proofs.Common.{◌≡◌, ℕ, ◌<◌, All, Some, List, [], ◌∷◌, map, length, get_or, ℤ, refl, sym, subst, ap, ◌∙◌}
+use Rattle.std.proofs.Common.{◌≡◌, ℕ, All, Some, List, [], ◌∷◌, map, length, get_or, ℤ, refl, sym, subst, ap, ◌∙◌}
 use Rattle.std.specs.Prelude.{slice_get}
 use Rattle.std.proofs.lemmas.Option.{same_Some, slice_get_within, get_or_from_slice_get}
 use Rattle.iv_core.specs.declared.Iv.{Iv}

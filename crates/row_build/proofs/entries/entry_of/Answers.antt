@@ -1,4 +1,4 @@
-use Rattle.std.proofs.Common.{◌≡◌, ◌<◌, None, List, arith, sym, subst}
+use Rattle.std.proofs.Common.{◌<◌, List, arith, sym, subst}
 use Rattle.screening.specs.declared.sv_pair.SvPair.{SvPair}
 use Rattle.row_build.specs.Entries.{IsEntry}
 use Rattle.row_build.proofs.EntryLaws.{HasEntry, used_has_entry, some_or}

@@ -1,4 +1,4 @@
-use Rattle.std.proofs.Common.{◌≡◌, ◌≤◌, false, ◌∙◌, sym, subst, arith, length, get_or}
+use Rattle.std.proofs.Common.{◌≡◌, false, ◌∙◌, sym, subst}
 use Rattle.screening.specs.declared.sv_pair.SvPair.{SvPair}
 use Rattle.row_build.specs.Entries.{is_entry}
 use Rattle.row_build.proofs.EntryLaws.{entry_read, none_next, none_of}

@@ -1,4 +1,4 @@
-use Rattle.std.proofs.Common.{◌≡◌, ℕ, Option, Some, Err, All, List, map, get_or, ℤ, pos, to_z, of_z, sym, subst, subst₂, ap, ◌∙◌}
+use Rattle.std.proofs.Common.{◌≡◌, ℕ, Option, Some, All, List, map, ℤ, pos, to_z, of_z, sym, subst, subst₂, ap, ◌∙◌}
 use Rattle.std.specs.Prelude.{slice_get}
 use Rattle.std.specs.Option.{option_map}
 use Rattle.std.proofs.lemmas.Int.{to_z-of_z}
@@ -8,7 +8,6 @@ use Rattle.obs_rows.specs.declared.rows.Row.{Row}
 use Rattle.obs_rows.specs.Data.{number_at}
 use Rattle.row_boxes.specs.Sightings.{Sighting, y_of}
 use Rattle.row_boxes.specs.YBoxes.{AreSightings, IsWithinHalf}
-use Rattle.row_build.specs.declared.faults.RowFault.{RowFault}
 use Rattle.row_build.specs.declared.faults.RowFault.TheVariants.{Overwidth}
 use Rattle.row_build.specs.HeldArcs.{arcs_at}
 use Rattle.row_build.specs.Rows.{setting, seen_by, IsRow}

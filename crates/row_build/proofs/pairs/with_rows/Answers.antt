@@ -1,11 +1,11 @@
-use Rattle.std.proofs.Common.{◌≡◌, ℕ, ◌+◌, ◌^◌, ◌<◌, ◌≤◌, Some, Err, List, [], ◌∷◌, ◌++◌, take, length, get_or, ℤ, unsigned_abs, arith, to_z, of_z, sym, subst, subst₂, ap, ◌∙◌}
+use Rattle.std.proofs.Common.{◌≡◌, ℕ, ◌+◌, ◌^◌, ◌<◌, ◌≤◌, Some, List, take, length, get_or, ℤ, unsigned_abs, arith, to_z, of_z, sym, subst, subst₂, ap, ◌∙◌}
 use Rattle.std.specs.Prelude.{slice_get}
 use Rattle.std.proofs.lemmas.Int.{ints}
 use Rattle.std.specs.Int.{w64}
 use Rattle.std.proofs.lemmas.Option.{slice_get-get_or}
 use Rattle.obs_rows.specs.declared.rows.Row.{Row}
 use Rattle.obs_rows.specs.Rows.{AreBelow}
-use Rattle.row_build.specs.HeldArcs.{arcs_at, IsHeld}
+use Rattle.row_build.specs.HeldArcs.{IsHeld}
 use Rattle.row_build.specs.Rows.{setting, IsRow}
 use Rattle.row_build.specs.Far.{IsGroup, HasFarRow}
 use Rattle.row_build.proofs.ArcLaws.{held_number}

@@ -1,6 +1,5 @@
-use Rattle.std.proofs.Common.{◌≡◌, List, map, take, All}
-use Rattle.obs_rows.specs.declared.rows.Row.{Row}
-use Rattle.row_build.specs.Rows.{setting, IsRow}
+use Rattle.std.proofs.Common.{◌≡◌, take}
+use Rattle.row_build.specs.Rows.{setting}
 use Rattle.row_build.proofs.RowLists.{AreFirstRows}
 use Rattle.row_build.proofs.pairs.with_rows.Given as goal
 

@@ -1,10 +1,7 @@
-use Rattle.std.proofs.Common.{◌≡◌, ◌<◌, ℕ, true, false, Some, None, length, get_or, arith, sym, subst, ◌∙◌, refl}
-use Rattle.std.specs.Prelude.{slice_get}
-use Rattle.std.proofs.lemmas.Bool.{both_ways}
-use Rattle.std.proofs.lemmas.Option.{none-some, slice_get-get_or, get_or_from_slice_get}
+use Rattle.std.proofs.Common.{◌≡◌, false, sym, subst, ◌∙◌, refl}
+use Rattle.std.proofs.lemmas.Option.{slice_get-get_or, get_or_from_slice_get}
 use Rattle.obs_rows.specs.declared.arcs.Arc.{Arc}
-use Rattle.slip_arcs.specs.Used.{is_used}
-use Rattle.row_build.specs.HeldArcs.{holds_pair, arcs_at}
+use Rattle.row_build.specs.HeldArcs.{holds_pair}
 use Rattle.row_build.specs.Rows.{setting}
 use Rattle.row_build.specs.Shifts.{AreFirstShifts}
 use Rattle.row_build.proofs.ArcLaws.{not_empty, held_sat}
