@@ -1,0 +1,5 @@
+pub mod Points
+pub mod Limits
+pub mod Shifts
+pub mod Counts
+pub mod Steps
