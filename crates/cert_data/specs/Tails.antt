@@ -1,0 +1,42 @@
+-- What a tail may hold: the ranges of its numbers, with an entry for each integer of the arcs.
+use Rattle.std.specs.Prelude.{◌≡◌, ◌^◌, ◌≤◌, ℕ, ℤ, List, All}
+use Rattle.std.proofs.Props.{props}
+use Rattle.obs_rows.specs.declared.arcs.Arc.{Arc}
+use Rattle.obs_rows.specs.Ranges.{IsBelow}
+use Rattle.obs_rows.specs.Integers.{integer_count}
+use Rattle.int_search.specs.declared.answer.TwoBest.{TwoBest}
+use Rattle.int_search.specs.Vectors.{IsSmall}
+use Rattle.cert_data.specs.declared.tails.Tail.{Tail}
+use Rattle.cert_data.specs.declared.tails.Tail.TheVariants.{Fixed, Unseparated, Weak, Overwidth, Unsettled, Spent}
+
+-- a tail with vectors
+pub record AreVectors (arcs : List Arc) (h : ℕ) (moved : List ℤ) (best : TwoBest) (top : ℤ) : Type 0 where
+  pub h_to : h ≤ 127
+  pub moved_in : All (IsBelow (2 ^ 46)) moved
+  pub size : best.size ≡ integer_count arcs 0
+  pub first_in : IsSmall best.first
+  pub second_in : IsSmall best.second
+  pub p1_in : IsBelow (2 ^ 126) best.p1
+  pub p2_in : IsBelow (2 ^ 126) best.p2
+  pub top_in : IsBelow (2 ^ 126) top
+
+pub record IsWeak (column : ℕ) (pivot : ℤ) : Type 0 where
+  pub column_to : column ≤ 42
+  pub pivot_in : IsBelow (2 ^ 52) pivot
+
+-- a tail of a certificate of these arcs and this budget
+abbrev pub IsTailOf : List Arc → ℕ → Tail → Type 0
+IsTailOf arcs budget (Fixed h moved best top) = AreVectors arcs h moved best top
+IsTailOf arcs budget (Unseparated h moved best top) = AreVectors arcs h moved best top
+IsTailOf arcs budget (Weak column pivot) = IsWeak column pivot
+IsTailOf arcs budget (Overwidth place) = Unit {0}
+IsTailOf arcs budget (Unsettled entry) = IsBelow (2 ^ 46) entry
+IsTailOf arcs budget (Spent spent) = spent ≡ budget
+
+pub IsTailOf-prop : (arcs : List Arc) (budget : ℕ) (tail : Tail) → IsProp (IsTailOf arcs budget tail)
+IsTailOf-prop arcs budget (Fixed h moved best top) = Prim.hlevel props
+IsTailOf-prop arcs budget (Unseparated h moved best top) = Prim.hlevel props
+IsTailOf-prop arcs budget (Weak column pivot) = Prim.hlevel props
+IsTailOf-prop arcs budget (Overwidth place) = Prim.hlevel props
+IsTailOf-prop arcs budget (Unsettled entry) = Prim.hlevel props
+IsTailOf-prop arcs budget (Spent spent) = Prim.hlevel props
