@@ -3,3 +3,5 @@ pub mod Limits
 pub mod Shifts
 pub mod Counts
 pub mod Steps
+pub mod Decided
+pub mod Runs

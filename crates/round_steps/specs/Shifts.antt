@@ -1,5 +1,5 @@
 -- How the shifts of arcs grow in a fine round that isn't settled.
-use Rattle.std.specs.Prelude.{◌≡◌, ℕ, if◌then◌else◌, nat_lt, List, [], ◌∷◌, length, drop, Option, Some, slice_get, ℤ, pos, ◌+ℤ◌, unsigned_abs, All}
+use Rattle.std.specs.Prelude.{◌≡◌, ℕ, if◌then◌else◌, nat_lt, List, [], ◌∷◌, length, map, drop, Option, Some, slice_get, ℤ, pos, ◌+ℤ◌, unsigned_abs, All}
 use Rattle.whole_math.specs.Rounding.{nearest_div}
 use Rattle.obs_rows.specs.declared.arcs.Arc.{Arc}
 use Rattle.obs_rows.specs.Ranges.{IsBelow}
@@ -29,3 +29,11 @@ pub record AreGrown (arcs : List Arc) (x : List ℤ) (after : List Arc) : Type 0
 -- each shift is below m in size
 abbrev pub AreShiftsBelow : ℕ → List Arc → Type 0
 AreShiftsBelow m arcs = All (λ a. All (IsBelow m) a.shift) arcs
+
+-- the arc without its shifts
+abbrev pub without_shifts : Arc → Arc
+without_shifts a = record a { shift = [] }
+
+-- the same arcs but for their shifts
+abbrev pub AreSameArcs : List Arc → List Arc → Type 0
+AreSameArcs arcs after = map without_shifts after ≡ map without_shifts arcs

@@ -1,7 +1,8 @@
 -- What one round makes of its session, and what a settled fine round decides.
-use Rattle.std.specs.Prelude.{◌≡◌, ℕ, ◌^◌, ◌<◌, ◌⊎◌, ◌↔◌, Bool, true, false, IsTrue, List, ℤ, pos}
+use Rattle.std.specs.Prelude.{◌≡◌, ℕ, ◌⊎◌, Bool, true, false, List, ℤ, pos}
 use Rattle.quadratic_form.specs.Lowering.{IsExponent}
 use Rattle.obs_rows.specs.declared.sessions.Session.{Session}
+use Rattle.obs_rows.specs.Best.{IsStrictlyBest}
 use Rattle.normal_sum.specs.declared.normal.Normal.{Normal}
 use Rattle.normal_sum.specs.Normals.{IsNormalOf}
 use Rattle.normal_sum.specs.Values.{form_of}
@@ -15,12 +16,11 @@ use Rattle.integer_form.specs.Told.{IsToldAs}
 use Rattle.lower_form.specs.Forms.{elimination_of}
 use Rattle.int_search.specs.declared.answer.TwoBest.{TwoBest}
 use Rattle.int_search.specs.Answers.{IsTwoBest, IsPlainCountOver, IsSearchTooWide}
-use Rattle.fix_decide.specs.declared.decision.Decision.{Decision}
-use Rattle.fix_decide.specs.UpperSums.{top}
+use Rattle.fix_decide.specs.UpperSums.{top as top_of}
 use Rattle.fix_decide.specs.Widths.{AreWide}
 use Rattle.fix_decide.specs.Decisions.{IsFormOf, IsSeparated, first_of, move_of}
-use Rattle.round_steps.specs.declared.declines.Decline.{Decline}
-use Rattle.round_steps.specs.declared.declines.Decline.TheVariants.{Weak, Overwidth, Unsettled, Spent}
+use Rattle.cert_data.specs.declared.tails.Tail.{Tail}
+use Rattle.cert_data.specs.declared.tails.Tail.TheVariants.{Fixed, Unseparated, Weak, Overwidth, Unsettled, Spent}
 use Rattle.round_steps.specs.declared.steps.Step.{Step}
 use Rattle.round_steps.specs.declared.steps.Step.TheVariants.{Settled, Moved}
 use Rattle.round_steps.specs.Points.{moved_point, IsReceiverPoint}
@@ -69,9 +69,9 @@ pub record IsRefused (s : Session) (fault : LowerFault) : Type 0 where
   pub of_rows : IsNormalOf s.arcs s.scale s.pairs normal
   pub told : (h : ℕ) → IsExponent h (form_of normal) → IsToldAs fault (elimination_of h normal)
 
-abbrev pub decline_of : LowerFault → Decline
-decline_of (LowerFault.Weak column pivot) = Weak column pivot
-decline_of (LowerFault.Overwidth place) = Overwidth place
+abbrev pub tail_of : LowerFault → Tail
+tail_of (LowerFault.Weak column pivot) = Weak column pivot
+tail_of (LowerFault.Overwidth place) = Overwidth place
 
 -- a number of the float point is 2^46 or more in size
 pub record IsFloatWide (s : Session) : Type 0 where
@@ -81,21 +81,23 @@ pub record IsFloatWide (s : Session) : Type 0 where
 
 -- The round ends the run: its elimination is refused, or its float point is too wide, or it isn't settled and is the
 -- last that is allowed or moves out of reach
-abbrev pub IsRoundDeclined : Bool → Session → Decline → Type 0
+abbrev pub IsRoundDeclined : Bool → Session → Tail → Type 0
+IsRoundDeclined last s (Fixed h moved best top) = ⊥
+IsRoundDeclined last s (Unseparated h moved best top) = ⊥
 IsRoundDeclined last s (Weak column pivot) = IsRefused s (LowerFault.Weak column pivot)
 IsRoundDeclined last s (Overwidth place) =
     IsRefused s (LowerFault.Overwidth place) ⊎ (((place ≡ Place.Float) × IsFloatWide s) ⊎ ((place ≡ Place.Point) × ((last ≡ false) × IsOutOfReach s)))
 IsRoundDeclined last s (Unsettled entry) = (last ≡ true) × ((x : List ℤ) × IsUnsettled s x entry)
-IsRoundDeclined last s Spent = ⊥
+IsRoundDeclined last s (Spent budget) = ⊥
 
--- the decision of a session with its form, at a ratio in thousandths
-pub record IsDecided (s : Session) (form : Form) (ratio : ℕ) (d : Decision) : Type 0 where
-  pub best : IsTwoBest form d.best
-  pub moved : d.moved ≡ move_of form (first_of d.best)
-  pub narrow : HasWide d.moved → ⊥
-  pub top : d.top ≡ top form.h s.arcs s.pairs (first_of d.best) d.moved
-  pub bounded : AreWide s.arcs s.pairs (first_of d.best) d.moved → ⊥
-  pub fixed : IsTrue d.fixed ↔ IsSeparated (pos ratio) d.top d.best.p2
+-- the two least vectors of a session's form, the baseline of the first, and its upper sum
+pub record AreFound (s : Session) (form : Form) (h : ℕ) (moved : List ℤ) (best : TwoBest) (top : ℤ) : Type 0 where
+  pub h_is : h ≡ form.h
+  pub best_is : IsTwoBest form best
+  pub moved_is : moved ≡ move_of form (first_of best)
+  pub narrow : HasWide moved → ⊥
+  pub top_is : top ≡ top_of form.h s.arcs s.pairs (first_of best) moved
+  pub bounded : AreWide s.arcs s.pairs (first_of best) moved → ⊥
 
 -- the baseline of the least integers is too wide
 pub record IsBaselineWide (form : Form) : Type 0 where
@@ -110,11 +112,22 @@ pub record IsSumWide (s : Session) (form : Form) : Type 0 where
   pub narrow : HasWide (move_of form (first_of best)) → ⊥
   pub wide : AreWide s.arcs s.pairs (first_of best) (move_of form (first_of best))
 
--- A settled fine round has no decision: the search is spent or too wide, or else the baseline is too wide, or else the
--- upper sum
-abbrev pub IsDecisionDeclined : Session → Form → ℕ → Decline → Type 0
-IsDecisionDeclined s form budget (Weak column pivot) = ⊥
-IsDecisionDeclined s form budget (Overwidth place) =
+-- What a settled fine round with this form decides: the search is spent or too wide, or else the baseline is too wide, or
+-- else the upper sum, or else the second value is far enough above it or it isn't
+abbrev pub IsDecision : Session → Form → ℕ → ℕ → Tail → Type 0
+IsDecision s form ratio budget (Fixed h moved best top) = AreFound s form h moved best top × IsSeparated (pos ratio) top best.p2
+IsDecision s form ratio budget (Unseparated h moved best top) = AreFound s form h moved best top × (IsSeparated (pos ratio) top best.p2 → ⊥)
+IsDecision s form ratio budget (Weak column pivot) = ⊥
+IsDecision s form ratio budget (Overwidth place) =
     ((place ≡ Place.Search) × IsSearchTooWide form) ⊎ (((place ≡ Place.Float) × IsBaselineWide form) ⊎ ((place ≡ Place.Sum) × IsSumWide s form))
-IsDecisionDeclined s form budget (Unsettled entry) = ⊥
-IsDecisionDeclined s form budget Spent = IsPlainCountOver form budget
+IsDecision s form ratio budget (Unsettled entry) = ⊥
+IsDecision s form ratio budget (Spent spent) = (spent ≡ budget) × IsPlainCountOver form budget
+
+-- where the integers are fixed, they are with their move strictly best for all data in the boxes
+abbrev pub IsBestWhereFixed : Session → Tail → Type 0
+IsBestWhereFixed s (Fixed h moved best top) = IsStrictlyBest s (first_of best) moved
+IsBestWhereFixed s (Unseparated h moved best top) = Unit {0}
+IsBestWhereFixed s (Weak column pivot) = Unit {0}
+IsBestWhereFixed s (Overwidth place) = Unit {0}
+IsBestWhereFixed s (Unsettled entry) = Unit {0}
+IsBestWhereFixed s (Spent budget) = Unit {0}

@@ -3,17 +3,17 @@
 
 mod counts;
 mod decided;
-mod declines;
 mod limits;
 mod options;
 mod points;
+mod runs;
 mod shifts;
 mod steps;
 
 pub use counts::{are_few, are_many};
 pub use decided::decide_settled;
-pub use declines::Decline;
 pub use options::Options;
 pub use points::is_receiver_point;
+pub use runs::{End, Rounds, run};
 pub use shifts::grown;
 pub use steps::{Step, round_step};

@@ -1,5 +1,6 @@
 //! Whether a float point is settled.
-ghost use Rattle.std.specs.Prelude.{◌≡◌, MatchOption};
+ghost use Rattle.std.specs.Prelude.{◌≡◌, ℕ, ◌^◌, ◌<◌, unsigned_abs, MatchOption};
+ghost use Rattle.integer_form.specs.FloatPoint.{item};
 ghost use Rattle.round_steps.specs.Limits.{limit, IsSettled, IsFirstOver};
 
 use obs_rows::{BASELINE_COLUMNS, MOST_FACTORS};
@@ -28,6 +29,7 @@ fn limit(scale: u32, column: usize) -> u64
 
 /// The first number that is over its limit. Where there is none, the float point is settled.
 pub(crate) fn first_over(scale: u32, numbers: &[i64; MOST_FACTORS]) -> Option<i64>
+    requires { (j : ℕ) → unsigned_abs (item numbers.now j) < 2 ^ 46 }
     ensures { MatchOption result (IsSettled scale numbers.now) (IsFirstOver scale numbers.now) }
 {
     for column in 0..MOST_FACTORS {

@@ -43,16 +43,16 @@ fn number_of(arcs: &[Arc], k: usize, phase: usize, numbers: &[i64; MOST_FACTORS]
     }
 }
 
-/// Arc k with its shifts grown.
-fn grown_arc(arcs: &[Arc], k: usize, numbers: &[i64; MOST_FACTORS]) -> Arc
+/// Arc k, which this is, with its shifts grown.
+fn grown_arc(arcs: &[Arc], k: usize, arc: &Arc, numbers: &[i64; MOST_FACTORS]) -> Arc
     requires few { length arcs.now ≤ 200 }
     requires few_free { free_count arcs.now ≤ MOST_FREE_ARCS }
     requires arc { k < length arcs.now }
     requires numbers { (j : ℕ) → unsigned_abs (item numbers.now j) < 2 ^ 46 }
-    requires shifts { AreShiftsBelow (2 ^ 40) arcs.now }
-    ensures { (a : Arc) → slice_get arcs.now k ≡ Some a → result ≡ grown_arc arcs.now numbers.now k a }
+    requires shifts { All (IsBelow (2 ^ 40)) arc.now.shift }
+    ensures grown { result ≡ grown_arc arcs.now numbers.now k arc.now }
+    ensures below { (m : ℕ) → All (IsBelow m) arc.now.shift → 0 < m → All (IsBelow (m + 2 ^ 30)) result.shift }
 {
-    let arc = arcs[k];
     let first = growth(number_of(arcs, k, 0, numbers));
     let second = growth(number_of(arcs, k, 1, numbers));
     Arc {
@@ -76,11 +76,11 @@ pub fn grown(
     requires numbers { (j : ℕ) → unsigned_abs (item numbers.now j) < 2 ^ 46 }
     requires shifts { AreShiftsBelow (2 ^ 40) arcs.now }
     ensures grown { IfOk result (λ v. AreGrown arcs.now numbers.now v.items) }
-    ensures below { (m : ℕ) → AreShiftsBelow m arcs.now → IfOk result (λ v. AreShiftsBelow (m + 2 ^ 30) v.items) }
+    ensures below { IfOk result (λ v. (m : ℕ) → AreShiftsBelow m arcs.now → 0 < m → AreShiftsBelow (m + 2 ^ 30) v.items) }
 {
     let mut after = Vec::new(alloc);
     for k in 0..arcs.len() {
-        after.push(grown_arc(arcs, k, numbers))?;
+        after.push(grown_arc(arcs, k, &arcs[k], numbers))?;
     }
     Ok(after)
 }

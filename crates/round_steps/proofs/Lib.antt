@@ -1,0 +1,4 @@
+pub mod PointLaws
+pub mod StepLaws
+pub mod ShiftLaws
+pub mod RunLaws
