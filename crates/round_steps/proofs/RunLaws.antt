@@ -79,11 +79,14 @@ pub coarse_at_y : (rules : Rules) (point : List ℤ) (arcs : List Arc) (left : �
 coarse_at_y rules point arcs left h w = inl (refl, record { before = h.before; round = coarse point arcs; scale_is = refl; reached = coarse_reached rules point arcs left h; wide = w })
 
 pub coarse_declines : (rules : Rules) (point : List ℤ) (arcs : List Arc) (left : ℕ) (s : Session) (tail : Tail) → CoarseSoFar rules point arcs left → IsSessionOf rules (coarse point arcs) s → IsRoundDeclined (nat_eq left 0) s tail → EndsEarly rules Coarse tail
-coarse_declines rules point arcs left s tail h k d = inr (refl, record {
-  session = s;
-  is_coarse = scale_is rules (coarse point arcs) s k;
-  ends = record { before = h.before; reached = coarse_session rules point arcs left h s k; stands = k.stands; declined = subst (λ (b : Bool). IsRoundDeclined b s tail) (sym (coarse_last rules point arcs left h s k)) d };
-})
+coarse_declines rules point arcs left s tail h k d = inr (
+  refl,
+  record {
+    session = s;
+    is_coarse = scale_is rules (coarse point arcs) s k;
+    ends = record { before = h.before; reached = coarse_session rules point arcs left h s k; stands = k.stands; declined = subst (λ (b : Bool). IsRoundDeclined b s tail) (sym (coarse_last rules point arcs left h s k)) d };
+  },
+)
 
 pub coarse_settles : (rules : Rules) (point : List ℤ) (arcs : List Arc) (left : ℕ) (s : Session) (form : Form) → CoarseSoFar rules point arcs left → IsSessionOf rules (coarse point arcs) s → IsSettledForm s form → SettlesAt rules point
 coarse_settles rules point arcs left s form h k g = record {
@@ -104,13 +107,19 @@ coarse_moves rules point arcs left s numbers next h k b m =
     let e : s.scale ≡ 14 = scale_is rules (coarse point arcs) s k in
     record {
       before = s ∷ h.before;
-      run = ((coarse_session rules point arcs left h s k).run, (k.stands, inl (record {
-        is_coarse = e;
-        numbers = numbers;
-        point = next;
-        moved = m;
-        next_is = ap (coarse next) (sym (arcs_are rules (coarse point arcs) s k));
-      })));
+      run = (
+        (coarse_session rules point arcs left h s k).run,
+        (
+          k.stands,
+          inl (record {
+            is_coarse = e;
+            numbers = numbers;
+            point = next;
+            moved = m;
+            next_is = ap (coarse next) (sym (arcs_are rules (coarse point arcs) s k));
+          }),
+        ),
+      );
       count = one_less (rounds_at 14 (s ∷ h.before)) (rounds_at 14 h.before) left 9 (more_coarse s h.before e) h.count (some_left left b);
       none_fine = no_more_fine s h.before e ∙ h.none_fine;
       in_reach = m.in_reach;
@@ -131,14 +140,20 @@ pub record FineSoFar (rules : Rules) (point : List ℤ) (arcs : List Arc) (left 
 pub fine_begins : (rules : Rules) (point : List ℤ) (arcs : List Arc) → SettlesAt rules point → rules.begins point arcs → AreSameArcs rules.arcs arcs → AreShiftsBelow (2 ^ 39) arcs → FineSoFar rules point arcs 5
 fine_begins rules point arcs h b same below = record {
   before = h.session ∷ h.before;
-  run = (h.reached.run, (h.stands, inr (inl (record {
-    is_coarse = h.is_coarse;
-    form = h.form;
-    settled = h.settled;
-    arcs = arcs;
-    begins = subst (λ (p : List ℤ). rules.begins p arcs) (sym h.point_is) b;
-    next_is = ap (λ (p : List ℤ). fine p arcs) (sym h.point_is);
-  }))));
+  run = (
+    h.reached.run,
+    (
+      h.stands,
+      inr (inl (record {
+        is_coarse = h.is_coarse;
+        form = h.form;
+        settled = h.settled;
+        arcs = arcs;
+        begins = subst (λ (p : List ℤ). rules.begins p arcs) (sym h.point_is) b;
+        next_is = ap (λ (p : List ℤ). fine p arcs) (sym h.point_is);
+      })),
+    ),
+  );
   count = ap (λ (n : ℕ). n + 5) (no_more_fine h.session h.before h.is_coarse ∙ h.none_fine);
   in_reach = h.in_reach;
   same = same;
@@ -161,22 +176,28 @@ pub fine_at_y : (rules : Rules) (point : List ℤ) (arcs : List Arc) (left : ℕ
 fine_at_y rules point arcs left h w = inl (refl, record { before = h.before; round = fine point arcs; scale_is = refl; reached = fine_reached rules point arcs left h; wide = w })
 
 pub fine_declines : (rules : Rules) (point : List ℤ) (arcs : List Arc) (left ratio budget : ℕ) (s : Session) (tail : Tail) → FineSoFar rules point arcs left → IsSessionOf rules (fine point arcs) s → IsRoundDeclined (nat_eq left 0) s tail → EndsFull rules ratio budget s tail
-fine_declines rules point arcs left ratio budget s tail h k d = (scale_is rules (fine point arcs) s k, inl (record {
-  before = h.before;
-  reached = fine_session rules point arcs left h s k;
-  stands = k.stands;
-  declined = subst (λ (b : Bool). IsRoundDeclined b s tail) (sym (fine_last rules point arcs left h s k)) d;
-}))
+fine_declines rules point arcs left ratio budget s tail h k d = (
+  scale_is rules (fine point arcs) s k,
+  inl (record {
+    before = h.before;
+    reached = fine_session rules point arcs left h s k;
+    stands = k.stands;
+    declined = subst (λ (b : Bool). IsRoundDeclined b s tail) (sym (fine_last rules point arcs left h s k)) d;
+  }),
+)
 
 pub fine_decides : (rules : Rules) (point : List ℤ) (arcs : List Arc) (left ratio budget : ℕ) (s : Session) (form : Form) (tail : Tail) → FineSoFar rules point arcs left → IsSessionOf rules (fine point arcs) s → IsSettledForm s form → IsDecision s form ratio budget tail → EndsFull rules ratio budget s tail
-fine_decides rules point arcs left ratio budget s form tail h k g d = (scale_is rules (fine point arcs) s k, inr (record {
-  before = h.before;
-  reached = fine_session rules point arcs left h s k;
-  stands = k.stands;
-  form = form;
-  settled = g;
-  decision = d;
-}))
+fine_decides rules point arcs left ratio budget s form tail h k g d = (
+  scale_is rules (fine point arcs) s k,
+  inr (record {
+    before = h.before;
+    reached = fine_session rules point arcs left h s k;
+    stands = k.stands;
+    form = form;
+    settled = g;
+    decision = d;
+  }),
+)
 
 pub fine_moves : (rules : Rules) (point : List ℤ) (arcs : List Arc) (left : ℕ) (s : Session) (numbers next : List ℤ) (after : List Arc) → FineSoFar rules point arcs left → IsSessionOf rules (fine point arcs) s → nat_eq left 0 ≡ false → IsMoved s numbers next →
     AreGrown arcs numbers after → ((m : ℕ) → AreShiftsBelow m arcs → 0 < m → AreShiftsBelow (m + 2 ^ 30) after) → FineSoFar rules next after (left - 1)
@@ -184,15 +205,21 @@ fine_moves rules point arcs left s numbers next after h k b m g below =
     let e : s.scale ≡ 0 = scale_is rules (fine point arcs) s k in
     record {
       before = s ∷ h.before;
-      run = ((fine_session rules point arcs left h s k).run, (k.stands, inr (inr (record {
-        is_fine = e;
-        numbers = numbers;
-        point = next;
-        arcs = after;
-        moved = m;
-        grown = subst (λ (a : List Arc). AreGrown a numbers after) (sym (arcs_are rules (fine point arcs) s k)) g;
-        next_is = refl;
-      }))));
+      run = (
+        (fine_session rules point arcs left h s k).run,
+        (
+          k.stands,
+          inr (inr (record {
+            is_fine = e;
+            numbers = numbers;
+            point = next;
+            arcs = after;
+            moved = m;
+            grown = subst (λ (a : List Arc). AreGrown a numbers after) (sym (arcs_are rules (fine point arcs) s k)) g;
+            next_is = refl;
+          })),
+        ),
+      );
       count = one_less (rounds_at 0 (s ∷ h.before)) (rounds_at 0 h.before) left 5 (more_fine s h.before e) h.count (some_left left b);
       in_reach = m.in_reach;
       same = grown_same arcs numbers after g ∙ h.same;

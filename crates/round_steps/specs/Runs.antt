@@ -5,6 +5,7 @@ use Rattle.obs_rows.specs.declared.arcs.Arc.{Arc}
 use Rattle.obs_rows.specs.declared.sessions.Session.{Session}
 use Rattle.integer_form.specs.declared.form.Form.{Form}
 use Rattle.integer_form.specs.declared.faults.Place.TheVariants as Place
+use Rattle.cert_data.specs.Tails.{IsTailOf}
 use Rattle.cert_data.specs.declared.tails.Tail.{Tail}
 use Rattle.cert_data.specs.declared.tails.Tail.TheVariants as Tail
 use Rattle.cert_data.specs.declared.outcomes.Stage.{Stage}
@@ -15,7 +16,7 @@ use Rattle.round_steps.specs.declared.runs.CoarseEnd.{CoarseEnd}
 use Rattle.round_steps.specs.declared.runs.CoarseEnd.TheVariants as CoarseEnd
 use Rattle.round_steps.specs.Shifts.{AreGrown}
 use Rattle.round_steps.specs.Points.{IsReceiverPoint}
-use Rattle.round_steps.specs.Steps.{IsSettledForm, IsMoved, IsRoundDeclined, IsDecision}
+use Rattle.round_steps.specs.Steps.{IsSettledForm, IsMoved, IsRoundDeclined, IsDecision, IsBestWhereFixed}
 
 -- a round: its scale, the rover's point, and the arcs with their shifts
 pub record Round : Type 0 where
@@ -153,6 +154,16 @@ EndsFull rules ratio budget s tail = (s.scale ≡ 0) × (EndsAt rules s tail ⊎
 abbrev pub IsEnd : Rules → ℕ → ℕ → End → Type 0
 IsEnd rules ratio budget (End.Early stage tail) = EndsEarly rules stage tail
 IsEnd rules ratio budget (End.Full s tail) = EndsFull rules ratio budget s tail
+
+-- the tail is one of a certificate of this budget
+abbrev pub FitsEnd : ℕ → End → Type 0
+FitsEnd budget (End.Early stage tail) = Unit {0}
+FitsEnd budget (End.Full s tail) = IsTailOf s.arcs budget tail
+
+-- where the integers are fixed, they are with their move strictly best
+abbrev pub IsBestEnd : End → Type 0
+IsBestEnd (End.Early stage tail) = Unit {0}
+IsBestEnd (End.Full s tail) = IsBestWhereFixed s tail
 
 -- a run reaches a coarse round that is settled at this point
 pub record SettlesAt (rules : Rules) (point : List ℤ) : Type 0 where

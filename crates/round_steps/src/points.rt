@@ -64,11 +64,7 @@ fn moved_coordinate(scale: u32, coordinate: i64, number: i64) -> i64
 }
 
 /// The point moved by the baseline of a float point.
-pub(crate) fn moved_point(
-    scale: u32,
-    point: &[i64; 3],
-    numbers: &[i64; MOST_FACTORS],
-) -> [i64; 3]
+pub(crate) fn moved_point(scale: u32, point: &[i64; 3], numbers: &[i64; MOST_FACTORS]) -> [i64; 3]
     requires scale { IsScale scale }
     requires point { IsPoint point.now }
     requires numbers { (j : ℕ) → unsigned_abs (item numbers.now j) < 2 ^ 46 }

@@ -4,7 +4,7 @@ ghost use Rattle.obs_rows.specs.Arcs.{free_count};
 ghost use Rattle.obs_rows.specs.Ranges.{IsScale};
 ghost use Rattle.round_steps.specs.Points.{IsReceiverPoint};
 ghost use Rattle.round_steps.specs.Shifts.{AreSameArcs, AreShiftsBelow};
-ghost use Rattle.round_steps.specs.Runs.{Rules, IsSessionAt, SettlesAt, IsCoarseEnd, IsEnd, round_at};
+ghost use Rattle.round_steps.specs.Runs.{Rules, IsSessionAt, SettlesAt, IsCoarseEnd, IsEnd, FitsEnd, IsBestEnd, round_at};
 
 use crate::{Step, decide_settled, grown, round_step};
 use cert_data::{Stage, Tail};
@@ -106,7 +106,9 @@ fn fine_rounds<R: Rounds>(
     requires free { free_count (R.rules rounds.now).arcs ≤ 20 }
     requires ratio_from { 1000 ≤ ratio }
     requires ratio_to { ratio ≤ 100_000 }
-    ensures { IfOk result (IsEnd (R.rules rounds.now) ratio budget) }
+    ensures end { IfOk result (IsEnd (R.rules rounds.now) ratio budget) }
+    ensures fits { IfOk result (FitsEnd budget) }
+    ensures strictly_best { IfOk result IsBestEnd }
 {
     let mut point = *first;
     let mut arcs = rounds.first_shifts(alloc, first)?;
@@ -123,10 +125,12 @@ fn fine_rounds<R: Rounds>(
                 let tail = decide_settled(&session, &form, ratio, budget);
                 return Ok(End::Full { session, tail });
             }
-            Ok(Step::Moved {
-                point: moved,
-                numbers,
-            }) => {
+            Ok(
+                Step::Moved {
+                    point: moved,
+                    numbers,
+                },
+            ) => {
                 arcs = grown(alloc, arcs.as_slice(), &numbers)?;
                 point = moved;
                 left -= 1;
@@ -153,7 +157,9 @@ pub fn run<R: Rounds>(
     requires free { free_count arcs.now ≤ 20 }
     requires ratio_from { 1000 ≤ ratio }
     requires ratio_to { ratio ≤ 100_000 }
-    ensures { IfOk result (IsEnd (R.rules rounds.now) ratio budget) }
+    ensures end { IfOk result (IsEnd (R.rules rounds.now) ratio budget) }
+    ensures fits { IfOk result (FitsEnd budget) }
+    ensures strictly_best { IfOk result IsBestEnd }
 {
     match coarse_rounds(alloc, rounds, arcs, base)? {
         CoarseEnd::Settled { point } => fine_rounds(alloc, rounds, &point, ratio, budget),

@@ -2,7 +2,8 @@
 ghost use Rattle.std.specs.Prelude.{◌≡◌, ℕ, ◌^◌, ◌<◌, Bool, unsigned_abs, IfOk, IfErr};
 ghost use Rattle.integer_form.specs.FloatPoint.{item, float_point, HasWide};
 ghost use Rattle.fix_decide.specs.Decisions.{IsFormOf};
-ghost use Rattle.round_steps.specs.Steps.{IsStep, IsRoundDeclined, tail_of};
+ghost use Rattle.cert_data.specs.Tails.{IsTailOf};
+ghost use Rattle.round_steps.specs.Steps.{IsStep, IsRoundDeclined, IsBestWhereFixed, tail_of};
 
 use crate::limits::first_over;
 use crate::points::{is_receiver_point, moved_point};
@@ -23,7 +24,9 @@ pub struct Solved {
 #[derive(Clone, Copy, Debug)]
 pub enum Step {
     /// No number is over its limit.
-    Settled { form: Form },
+    Settled {
+        form: Form,
+    },
     /// The point moves here, by the float point with these numbers.
     Moved {
         point: [i64; 3],
@@ -64,6 +67,8 @@ fn solve(session: &Session) -> Result<Solved, Tail>
 pub fn round_step(session: &Session, last: bool) -> Result<Step, Tail>
     ensures step { IfOk result (IsStep last session.now) }
     ensures declined { IfErr result (IsRoundDeclined last session.now) }
+    ensures never_fixed { IfErr result (IsBestWhereFixed session.now) }
+    ensures fits { IfErr result (λ t. (budget : ℕ) → IsTailOf session.now.arcs budget t) }
 {
     let solved = match solve(session) {
         Ok(solved) => solved,

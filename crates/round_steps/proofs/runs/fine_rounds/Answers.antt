@@ -17,14 +17,14 @@ rounds-init g c = fine_begins (g.R.Rounds.rules c.args.rounds.now) c.args.first.
 pub session-requires-clause-shifts : goal.session-requires-clause-shifts
 session-requires-clause-shifts g c = narrow_shifts c.rounds.left c.rounds.arcs.items c.as_slice.result.now c.as_slice.ensures.value c.rounds.invariant.below
 
-pub returns-in_default : goal.returns-in_default
-returns-in_default g c =
+pub returns-in_default-clause-end : goal.returns-in_default-clause-end
+returns-in_default-clause-end g c =
     let rules : Rules = g.R.Rounds.rules c.args.rounds.now in
     fine_at_y rules c.rounds.point c.rounds.arcs.items c.rounds.left c.rounds.invariant
     (subst (IsSessionAt rules (fine c.rounds.point c.rounds.arcs.items)) c.in_default.is (subst (λ (a : List Arc). IsSessionAt rules (fine c.rounds.point a) c.in_ok-session.field-0) c.as_slice.ensures.value c.in_ok-session.ensures))
 
-pub returns-in-Ok-Settled : goal.returns-in-Ok-Settled
-returns-in-Ok-Settled g c =
+pub returns-in-Ok-Settled-clause-end : goal.returns-in-Ok-Settled-clause-end
+returns-in-Ok-Settled-clause-end g c =
     let rules : Rules = g.R.Rounds.rules c.args.rounds.now in
     let s = c.in-Some.session in
     let a : List Arc = c.rounds.arcs.items in
@@ -41,8 +41,8 @@ grown-requires-clause-numbers g c =
 pub grown-requires-clause-shifts : goal.grown-requires-clause-shifts
 grown-requires-clause-shifts g c = narrow_shifts c.rounds.left c.rounds.arcs.items c.as_slice-in-Ok-Moved.result.now c.as_slice-in-Ok-Moved.ensures.value c.rounds.invariant.below
 
-pub returns-in-Err : goal.returns-in-Err
-returns-in-Err g c =
+pub returns-in-Err-clause-end : goal.returns-in-Err-clause-end
+returns-in-Err-clause-end g c =
     let rules : Rules = g.R.Rounds.rules c.args.rounds.now in
     let s = c.in-Some.session in
     let a : List Arc = c.rounds.arcs.items in
@@ -60,3 +60,6 @@ rounds-preserved g c =
     fine_moves rules c.rounds.point a c.rounds.left s c.in-Ok-Moved.numbers c.in-Ok-Moved.moved c.in_ok-arcs-in-Ok-Moved.arcs.items c.rounds.invariant k m.0 m.1
     (subst (λ (b : List Arc). AreGrown b c.in-Ok-Moved.numbers c.in_ok-arcs-in-Ok-Moved.arcs.items) v c.in_ok-arcs-in-Ok-Moved.ensures.grown)
     (λ n h z. c.in_ok-arcs-in-Ok-Moved.ensures.below n (subst (AreShiftsBelow n) (sym v) h) z)
+
+pub returns-in-Err-clause-fits : goal.returns-in-Err-clause-fits
+returns-in-Err-clause-fits g c = c.in-Err.ensures.fits c.args.budget

@@ -17,11 +17,14 @@ returns-in-Err-clause-refused c = λ last. refused last c.args.session.now c.in-
     (record { normal = c.sum-normal.result; of_rows = c.sum-normal.ensures.normal; told = c.in-Err.ensures.refused })
 
 pub returns-in-Err-float_of-clause-refused : goal.returns-in-Err-float_of-clause-refused
-returns-in-Err-float_of-clause-refused c = λ last. inr (inl (c.in-Err-float_of.ensures.place, record {
-  form = c.in-Ok.form;
-  of_rows = record { normal = c.sum-normal.result; of_rows = c.sum-normal.ensures.normal; lowered = c.in-Ok.ensures.lower };
-  wide = c.in-Err-float_of.ensures.refused.0 refl;
-}))
+returns-in-Err-float_of-clause-refused c = λ last. inr (inl (
+  c.in-Err-float_of.ensures.place,
+  record {
+    form = c.in-Ok.form;
+    of_rows = record { normal = c.sum-normal.result; of_rows = c.sum-normal.ensures.normal; lowered = c.in-Ok.ensures.lower };
+    wide = c.in-Err-float_of.ensures.refused.0 refl;
+  },
+))
 
 pub returns-in-Ok-float_of-clause-small : goal.returns-in-Ok-float_of-clause-small
 returns-in-Ok-float_of-clause-small c = narrow_numbers c.in-Ok.form c.in-Ok-float_of.numbers c.in-Ok-float_of.ensures.ok (λ w. false≢true (c.in-Ok-float_of.ensures.refused.1 w))

@@ -1,0 +1,10 @@
+//! A run over the files of two receivers: from the pairs of their epochs to the answer.
+#![tactic(auto)]
+
+mod answers;
+mod begin;
+mod faults;
+
+pub use cert_data::{Answer, Cert, Outcome, Stage, Tail};
+pub use faults::{PairWhat, SessionFault};
+pub use round_steps::Options;
