@@ -1,4 +1,6 @@
 //! Tests of the numbers of a round.
+ghost use Rattle.std.specs.Prelude.{◌↔◌, ◌<◌, All, IsTrue};
+ghost use Rattle.obs_rows.specs.Ranges.{IsBelow, IsScale};
 
 use crate::limits::first_over;
 use crate::points::{is_receiver_point, moved_point};
@@ -15,14 +17,38 @@ fn numbers(first: [i64; 5]) -> [i64; MOST_FACTORS] {
     all
 }
 
+// Whether all are below the limit in size.
+fn are_below(numbers: &[i64], limit: u64) -> bool
+    ensures { IsTrue result ↔ All (IsBelow limit) numbers.now }
+{
+    numbers.iter().all(|n| n.unsigned_abs() < limit)
+}
+
+fn moved(scale: u32, first: [i64; 5]) -> Option<[i64; 3]>
+    requires { IsScale scale }
+{
+    let numbers = numbers(first);
+    if !are_below(&numbers, 1 << 46) {
+        return None;
+    }
+    Some(moved_point(scale, &[63_781_370_000, 0, 0], &numbers))
+}
+
+fn over(scale: u32, first: [i64; 5]) -> Option<Option<i64>> {
+    let numbers = numbers(first);
+    if !are_below(&numbers, 1 << 46) {
+        return None;
+    }
+    Some(first_over(scale, &numbers))
+}
+
 // 323 units of 2^-10 κ are 1 mm, and one of 2^4 κ is 50.7 mm.
 #[test]
 fn moves_by_a_millimetre(rt: HostRuntime) {
-    let base = [63_781_370_000, 0, 0];
-    let fine = moved_point(0, &base, &numbers([323, -323, 0, 0, 0]));
-    assert_eq!(rt; fine, [63_781_370_010, -10, 0]);
-    let coarse = moved_point(14, &base, &numbers([1, 0, -1, 0, 0]));
-    assert_eq!(rt; coarse, [63_781_370_507, 0, -507]);
+    let fine = moved(0, [323, -323, 0, 0, 0]);
+    assert_eq!(rt; fine, Some([63_781_370_010, -10, 0]));
+    let coarse = moved(14, [1, 0, -1, 0, 0]);
+    assert_eq!(rt; coarse, Some([63_781_370_507, 0, -507]));
 }
 
 #[test]
@@ -50,7 +76,7 @@ fn settles_at_its_limits(rt: HostRuntime) {
         (14, [0, 65, 0, 0, 0], Some(65)),
     ];
     for (scale, first, expected) in cases {
-        assert_eq!(rt; first_over(scale, &numbers(first)), expected);
+        assert_eq!(rt; over(scale, first), Some(expected));
     }
 }
 

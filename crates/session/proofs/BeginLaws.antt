@@ -2,8 +2,15 @@
 use Rattle.std.proofs.Common.{◌≡◌, ℕ, zero, suc, ◌+◌, ◌*◌, ◌<◌, ◌≤◌, List, [], ◌∷◌, length, get_or, All, AllPairs, arith, sym, ap, ap₂, ◌∙◌, refl, subst}
 use Rattle.std.specs.Prelude.{unwrap_or}
 use Rattle.std.proofs.lemmas.Option.{unwrap_or-slice_get}
-use Rattle.std.proofs.Math.Nat.{mul-lt-mul_left}
+use Rattle.obs_store.specs.declared.file.ObsFile.{ObsFile}
+use Rattle.obs_store.specs.Epochs.{tags_of}
 use Rattle.epoch_pair.specs.declared.pairs.PairOf.{PairOf}
+use Rattle.epoch_pair.specs.declared.pairs.PairFault.{PairFault}
+use Rattle.epoch_pair.specs.declared.pairs.PairFault.TheVariants.{Dense, NoMemory}
+use Rattle.epoch_pair.specs.Faults.{IsPairFault}
+use Rattle.round_steps.specs.declared.options.Options.{Options}
+use Rattle.session.specs.declared.faults.SessionFault.{SessionFault}
+use Rattle.session.specs.Beginnings.{HasPosition, HaveSignals, IsSessionFault, fault_of}
 use Rattle.epoch_pair.specs.Pairs.{Follows, IsTaken}
 
 -- numbers that rise from lo on and stay below n are at most n - lo
@@ -37,3 +44,7 @@ taken_rises pairs taken first step count s t h i j d l m =
 
     before : (i j : ℕ) → i < j → first + step * i < first + step * j
     before i j l = grind arith
+
+pub refused_pair : (base rover : ObsFile) (o : Options) (f : PairFault) (r : SessionFault) → r ≡ fault_of f → HasPosition base → HaveSignals base rover → IsPairFault o.gap (tags_of base.epochs) (tags_of rover.epochs) f → IsSessionFault base rover o r
+refused_pair base rover o (Dense in_rover epoch) r e p s h = subst (IsSessionFault base rover o) (sym e) (p, (s, h))
+refused_pair base rover o NoMemory r e p s h = subst (IsSessionFault base rover o) (sym e) (p, (s, h))

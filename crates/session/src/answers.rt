@@ -2,12 +2,23 @@
 ghost use Rattle.std.specs.Prelude.{◌≡◌, ◌^◌, IfOk};
 ghost use Rattle.round_steps.specs.Points.{IsReceiverPoint};
 ghost use Rattle.round_steps.specs.Shifts.{AreShiftsBelow};
-ghost use Rattle.session.specs.Answers.{IsAnswer, IsBestAnswer};
+ghost use Rattle.session.specs.Answers.{counted, IsAnswer, IsBestAnswer};
 
 use cert_data::{Answer, Cert};
 use obs_rows::{Arc, free_arcs};
 use round_steps::{End, Options, Rounds, are_few, are_many, run};
 use std::alloc::{AllocError, Global};
+
+/// A count, which stands still at the end of its type.
+pub(crate) fn counted(n: usize) -> u32
+    ensures { result ≡ counted n }
+{
+    if n < 0xffff_ffff {
+        n as u32
+    } else {
+        0xffff_ffff
+    }
+}
 
 /// Too few satellites, too many arcs, or the end of the run.
 pub(crate) fn answer<R: Rounds>(
@@ -30,16 +41,17 @@ pub(crate) fn answer<R: Rounds>(
     }
     if are_many(kept) {
         return Ok(Answer::Arcs {
-            free: free_arcs(kept) as u32,
+            free: counted(free_arcs(kept)),
         });
     }
-    match run(alloc, rounds, kept, base, options.ratio, options.budget)? {
-        End::Early { stage, tail } => Ok(Answer::Early { stage, tail }),
-        End::Full { session, tail } => Ok(Answer::Full(Cert {
+    match run(alloc, rounds, kept, base, options.ratio, options.budget) {
+        Ok(End::Early { stage, tail }) => Ok(Answer::Early { stage, tail }),
+        Ok(End::Full { session, tail }) => Ok(Answer::Full(Cert {
             ratio: options.ratio,
             budget: options.budget,
             session,
             tail,
         })),
+        Err(fault) => Err(fault),
     }
 }

@@ -87,7 +87,7 @@ pub(crate) fn begin(
     };
     match take(
         alloc,
-        &pairs,
+        pairs.as_slice(),
         options.first,
         options.step,
         options.count,
@@ -95,7 +95,7 @@ pub(crate) fn begin(
         Ok(taken) => Ok(Begun {
             position,
             signals,
-            all: count_of(base, &pairs),
+            all: count_of(base, pairs.as_slice()),
             taken,
         }),
         Err(_) => Err(SessionFault::NoMemory),

@@ -1,4 +1,6 @@
 //! Why two files are refused.
+ghost use Rattle.std.specs.Prelude.{◌≡◌};
+ghost use Rattle.session.specs.declared.faults.SessionFault.TheVariants.{NoMemory};
 
 use std::alloc::AllocError;
 use thiserror::Error;
@@ -23,8 +25,6 @@ pub enum SessionFault {
 }
 
 impl From<AllocError> for SessionFault {
-    ghost use Rattle.session.specs.declared.faults.SessionFault.TheVariants.{NoMemory};
-
     ghost from_gives = { λ _ fault. fault ≡ NoMemory };
 
     fn from(_: AllocError) -> SessionFault {
