@@ -1,0 +1,141 @@
+-- The used satellites of a pair, one number more.
+use Rattle.std.proofs.Common.{◌≡◌, ℕ, zero, suc, ◌+◌, ◌<◌, ◌≤◌, ◌⊎◌, inl, inr, ⊎_elim, ℤ, Bool, true, false, true≢false, ◌||◌, ◌==◌, List, [], ◌∷◌, ◌++◌, length, take, refl, sym, ap, ap₂, ◌∙◌, subst, arith, append_assoc}
+use Rattle.std.proofs.lemmas.Bool.{eqb-false}
+use Rattle.std.proofs.lemmas.List.{append-nil, map-append, length_push}
+use Rattle.std.proofs.lemmas.List.Elements.{All-push}
+use Rattle.std.proofs.lemmas.List.Folds.{list_any-append}
+use Rattle.std.proofs.lemmas.List.Quantifiers.{all_pairs_push}
+use Rattle.obs_store.specs.declared.series.Epoch.{Epoch}
+use Rattle.slip_arcs.specs.Used.{IsSmall}
+use Rattle.slip_arcs.specs.declared.used.UsedSat.{UsedSat}
+use Rattle.screening.specs.declared.sv_pair.SvPair.{SvPair}
+use Rattle.screening.specs.Marks.{Passed, lost_lock}
+use Rattle.screening.specs.Sightings.{Setting, Sighting, IsSighting, MayBeLeftOut}
+use Rattle.screening.specs.Screening.{IsUsedSat, AreUsedSats, IsEntry, IsEntryAt, IsLeftOut, AreEnoughBelow, is_among}
+use Rattle.screening.specs.Gathering.{IsPassedOver, IsAdded, AreGathered}
+
+pub added_of : (s : Setting) (base rover : Epoch) (epochs : Passed) (pair sat : ℕ) (sats sats' : List UsedSat) (boxes boxes' : List SvPair) (u : UsedSat) (b : SvPair) (lost : Bool) →
+    IsEntryAt s base rover pair sat b → length sats < 15 → u.sat ≡ b.sat → u.phase ≡ take 2 b.observed → u.lost ≡ lost → lost ≡ lost_lock s.types sat epochs → IsSmall u →
+    sats' ≡ sats ++ u ∷ [] → boxes' ≡ boxes ++ b ∷ [] → IsAdded s base rover epochs pair sat sats sats' boxes boxes'
+added_of s base rover epochs pair sat sats sats' boxes boxes' u b lost at room named phase mark is small more grow =
+    let e : IsEntry s base rover b = at.entry in
+    let sat_is : u.sat ≡ sat = named ∙ at.sat_is in
+    record {
+      room = room;
+      used = u;
+      entry = b;
+      sats_grow = more;
+      boxes_grow = grow;
+      named = sat_is;
+      is_used = record {
+        sighting = e.sighting;
+        seen = subst (λ (n : ℕ). IsSighting s base rover n e.sighting) (sym named) e.seen;
+        kept = e.kept;
+        phase = phase ∙ ap (λ (zs : List ℤ). take 2 zs) e.observed;
+        lost = mark ∙ is ∙ ap (λ (n : ℕ). lost_lock s.types n epochs) (sym sat_is);
+      };
+      small = small;
+      is_entry = at;
+    }
+
+pub gathered_none : (s : Setting) (base rover : Epoch) (epochs : Passed) (pair : ℕ) (before : List SvPair) → AreGathered s base rover epochs pair 1 before [] before
+gathered_none s base rover epochs pair before = record {
+  few = omega arith;
+  rising = λ i j d less inside. absurd (omega (arith, inside));
+  below = λ k d inside. absurd (omega (arith, inside));
+  each = λ k d inside. absurd (omega (arith, inside));
+  small = λ k d inside. absurd (omega (arith, inside));
+  others = λ sat g less is none. absurd (too_low sat less is.number.0);
+  added = [];
+  boxes_are = sym (append-nil before);
+  places = refl;
+  entries = λ k d inside. absurd (omega (arith, inside));
+  of_pair = λ k d inside. absurd (omega (arith, inside));
+}
+  where
+    too_low : (sat : ℕ) → sat < 1 → 1 ≤ sat → ⊥
+    too_low sat h k = omega (arith, h, k)
+
+below_or_at : (a n : ℕ) → a < n + 1 → (a < n) ⊎ (a ≡ n)
+below_or_at zero zero h = inr refl
+below_or_at zero (suc n) h = inl (omega arith)
+below_or_at (suc a) zero h = absurd (omega (arith, h))
+below_or_at (suc a) (suc n) h = ⊎_elim (λ (l : a < n). inl (omega (arith, l))) (λ (e : a ≡ n). inr (ap suc e)) (below_or_at a n (omega (arith, h)))
+
+passed_over : (s : Setting) (base rover : Epoch) (epochs : Passed) (pair n : ℕ) (before : List SvPair) (sats : List UsedSat) (boxes : List SvPair) →
+    (15 ≤ length sats) ⊎ IsLeftOut s base rover n → AreGathered s base rover epochs pair n before sats boxes → AreGathered s base rover epochs pair (n + 1) before sats boxes
+passed_over s base rover epochs pair n before sats boxes reason g = record {
+  few = g.few;
+  rising = g.rising;
+  below = λ k d inside. let h = g.below k d inside in omega (arith, h);
+  each = g.each;
+  small = g.small;
+  others = λ sat seen less is none. ⊎_elim (λ (lower : sat < n). g.others sat seen lower is none) (λ (here : sat ≡ n). at_n sat seen here is reason) (below_or_at sat n less);
+  added = g.added;
+  boxes_are = g.boxes_are;
+  places = g.places;
+  entries = g.entries;
+  of_pair = g.of_pair;
+}
+  where
+    at_n : (sat : ℕ) (seen : Sighting) → sat ≡ n → IsSighting s base rover sat seen → (15 ≤ length sats) ⊎ IsLeftOut s base rover n → MayBeLeftOut s base.tag.0 seen ⊎ AreEnoughBelow sat sats
+    at_n sat seen here is (inl full) =
+        let few = g.few in
+        let whole : length sats ≡ 15 = omega (arith, full, few) in
+        inr (whole, λ k d inside. let h = g.below k d inside in omega (arith, h, here))
+    at_n sat seen here is (inr out) = inl (out seen (subst (λ (m : ℕ). IsSighting s base rover m seen) here is))
+
+left_false : (a b : Bool) → (a || b) ≡ false → a ≡ false
+left_false true b h = h
+left_false false b h = refl
+
+right_false : (a b : Bool) → (a || b) ≡ false → b ≡ false
+right_false true b h = absurd (true≢false h)
+right_false false b h = h
+
+added_one : (s : Setting) (base rover : Epoch) (epochs : Passed) (pair n : ℕ) (before : List SvPair) (sats : List UsedSat) (boxes : List SvPair) (u : UsedSat) (b : SvPair) → length sats < 15 → u.sat ≡ n →
+    IsUsedSat s base rover epochs u → IsSmall u → IsEntryAt s base rover pair n b → AreGathered s base rover epochs pair n before sats boxes → AreGathered s base rover epochs pair (n + 1) before (sats ++ u ∷ []) (boxes ++ b ∷ [])
+added_one s base rover epochs pair n before sats boxes u b room named used small at g = record {
+  few = let l = length_push sats u in omega (arith, l, room);
+  rising = all_pairs_push (λ (v w : UsedSat). v.sat < w.sat) sats u g.rising (λ k d inside. let h = g.below k d inside in omega (arith, h, named));
+  below = All-push (λ (v : UsedSat). v.sat < n + 1) sats u (λ k d inside. let h = g.below k d inside in omega (arith, h)) (omega (arith, named));
+  each = All-push (IsUsedSat s base rover epochs) sats u g.each used;
+  small = All-push IsSmall sats u g.small small;
+  others = λ sat seen less is none.
+      let split : (is_among sat sats || ((u.sat == sat) || false)) ≡ false = sym (list_any-append (λ (v : UsedSat). v.sat == sat) sats (u ∷ [])) ∙ none in
+      let apart : u.sat ≡ sat → ⊥ = eqb-false u.sat sat (left_false (u.sat == sat) false (right_false (is_among sat sats) ((u.sat == sat) || false) split)) in
+      ⊎_elim (λ (lower : sat < n). inl (earlier sat seen lower is (left_false (is_among sat sats) ((u.sat == sat) || false) split)))
+      (λ (here : sat ≡ n). absurd (apart (named ∙ sym here))) (below_or_at sat n less);
+  added = g.added ++ b ∷ [];
+  boxes_are = ap (λ (xs : List SvPair). xs ++ b ∷ []) g.boxes_are ∙ append_assoc before g.added (b ∷ []);
+  places = map-append (λ (x : SvPair). (x.pair, x.sat)) g.added (b ∷ []) ∙ ap₂ (λ (xs ys : List (ℕ × ℕ)). xs ++ ys) g.places (one_place b.pair pair b.sat u.sat at.pair_is (at.sat_is ∙ sym named))
+      ∙ sym (map-append (λ (v : UsedSat). (pair, v.sat)) sats (u ∷ []));
+  entries = All-push (IsEntry s base rover) g.added b g.entries at.entry;
+  of_pair = All-push (λ (x : SvPair). x.pair ≡ pair) g.added b g.of_pair at.pair_is;
+}
+  where
+    one_place : (p p' t t' : ℕ) → p ≡ p' → t ≡ t' → (let xs : List (ℕ × ℕ) = (p, t) ∷ [] in let ys : List (ℕ × ℕ) = (p', t') ∷ [] in xs ≡ ys)
+    one_place p p' t t' e f = rw (e, f) refl
+
+    earlier : (sat : ℕ) (seen : Sighting) → sat < n → IsSighting s base rover sat seen → is_among sat sats ≡ false → MayBeLeftOut s base.tag.0 seen
+    earlier sat seen lower is none = ⊎_elim (λ (out : MayBeLeftOut s base.tag.0 seen). out) (λ (enough : AreEnoughBelow sat sats). absurd (let e = enough.0 in omega (arith, e, room))) (g.others sat seen lower is none)
+
+pub gathered_next : (s : Setting) (base rover : Epoch) (epochs : Passed) (pair n : ℕ) (before : List SvPair) (sats sats' : List UsedSat) (boxes boxes' : List SvPair) →
+    AreGathered s base rover epochs pair n before sats boxes → IsPassedOver s base rover n sats sats' boxes boxes' ⊎ IsAdded s base rover epochs pair n sats sats' boxes boxes' →
+    AreGathered s base rover epochs pair (n + 1) before sats' boxes'
+gathered_next s base rover epochs pair n before sats sats' boxes boxes' g (inl over) = rw (over.sats_stay, over.boxes_stay) (passed_over s base rover epochs pair n before sats boxes over.reason g)
+gathered_next s base rover epochs pair n before sats sats' boxes boxes' g (inr a) =
+    rw (a.sats_grow, a.boxes_grow) (added_one s base rover epochs pair n before sats boxes a.used a.entry a.room a.named a.is_used a.small a.is_entry g)
+
+-- all numbers are done
+pub used_sats : (s : Setting) (base rover : Epoch) (epochs : Passed) (pair : ℕ) (before : List SvPair) (sats : List UsedSat) (boxes : List SvPair) →
+    AreGathered s base rover epochs pair 33 before sats boxes → AreUsedSats s base rover epochs sats
+used_sats s base rover epochs pair before sats boxes g = record {
+  few = g.few;
+  rising = g.rising;
+  each = g.each;
+  others = λ sat seen is none. g.others sat seen (in_range sat is.number.1) is none;
+}
+  where
+    in_range : (sat : ℕ) → sat ≤ 32 → sat < 33
+    in_range sat h = omega (arith, h)

@@ -1,0 +1,122 @@
+//! The used satellites of one pair.
+ghost use Rattle.std.specs.Prelude.{◌≡◌, ◌≤◌, ◌⊎◌, IfOk, OnOk, take};
+ghost use Rattle.std.specs.Int.{abs_diff};
+ghost use Rattle.slip_arcs.specs.Used.{IsSmall};
+ghost use Rattle.screening.specs.Entries.{IsGpsNumber};
+ghost use Rattle.screening.specs.Marks.{power_failed, lost_lock};
+ghost use Rattle.screening.specs.Sightings.{setting_with};
+ghost use Rattle.screening.specs.Gathering.{IsPassedOver, IsAdded, AreGathered, IsGathered};
+
+use crate::amounts::SignalTypes;
+use crate::marks::{lost_in, power_failed};
+use crate::records::RecordTable;
+use crate::rules::Rules;
+use crate::sights::entry_of;
+use crate::{SvPair, SvPairList, UsedPair, UsedSat};
+use obs_store::Epoch;
+use std::alloc::{AllocError, Global};
+
+/// How many satellites a pair uses at most.
+const MOST_SATS: usize = 15;
+
+/// A pair's two epochs, and the epochs of both files up to it.
+#[derive(Clone, Copy)]
+pub struct PairAt<'a> {
+    pub number: u32,
+    pub base: &'a Epoch,
+    pub rover: &'a Epoch,
+    pub base_passed: &'a [Epoch],
+    pub rover_passed: &'a [Epoch],
+}
+
+// Whether power failed up to the pair.
+fn power_up_to(at: &PairAt<'_>) -> bool
+    ensures { result ≡ power_failed (record { base = at.now.base_passed.now; rover = at.now.rover_passed.now }) }
+{
+    power_failed(at.base_passed) || power_failed(at.rover_passed)
+}
+
+fn lost_up_to(types: &SignalTypes, number: u8, at: &PairAt<'_>) -> bool
+    ensures { result ≡ lost_lock types.now number (record { base = at.now.base_passed.now; rover = at.now.rover_passed.now }) }
+{
+    lost_in(types, number, at.base_passed) || lost_in(types, number, at.rover_passed)
+}
+
+fn used_sat(entry: &SvPair, lost: bool) -> UsedSat
+    ensures sat { result.sat ≡ entry.now.sat }
+    ensures phase { result.phase ≡ take 2 entry.now.observed }
+    ensures lost { result.lost ≡ lost }
+    ensures small { IsSmall result }
+{
+    UsedSat {
+        sat: entry.sat,
+        phase: [entry.observed[0], entry.observed[1]],
+        lost,
+    }
+}
+
+// Adds the satellite of that number, where both epochs see it above the mask and there is room.
+fn add_sat(
+    rules: &Rules,
+    table: &RecordTable<'_>,
+    at: &PairAt<'_>,
+    number: u8,
+    sats: &mut Vec<UsedSat>,
+    boxes: &mut SvPairList,
+) -> Result<(), AllocError>
+    requires near { abs_diff at.now.base.now.tag.0 at.now.rover.now.tag.0 ≤ 5_000_000 }
+    requires number { IsGpsNumber number }
+    ensures { OnOk result
+        (IsPassedOver (setting_with rules.now table.now.fit.now) at.now.base.now at.now.rover.now number sats.old.items sats.new.items boxes.old boxes.new
+        ⊎ IsAdded (setting_with rules.now table.now.fit.now) at.now.base.now at.now.rover.now (record { base = at.now.base_passed.now; rover = at.now.rover_passed.now })
+        at.now.number number sats.old.items sats.new.items boxes.old boxes.new) }
+{
+    if sats.len() >= MOST_SATS {
+        return Ok(());
+    }
+    let Some(entry) = entry_of(rules, table, at.base, at.rover, at.number, number) else {
+        return Ok(());
+    };
+    let lost = lost_up_to(&rules.types, number, at);
+    sats.push(used_sat(&entry, lost))?;
+    boxes.push(entry)?;
+    Ok(())
+}
+
+// The used satellites of a pair, in rising number. Their entries go behind the earlier ones.
+fn sats_of(
+    alloc: Global,
+    rules: &Rules,
+    table: &RecordTable<'_>,
+    at: &PairAt<'_>,
+    boxes: &mut SvPairList,
+) -> Result<Vec<UsedSat>, AllocError>
+    requires near { abs_diff at.now.base.now.tag.0 at.now.rover.now.tag.0 ≤ 5_000_000 }
+    ensures { IfOk result (λ sats.
+        AreGathered (setting_with rules.now table.now.fit.now) at.now.base.now at.now.rover.now (record { base = at.now.base_passed.now; rover = at.now.rover_passed.now })
+        at.now.number 33 boxes.old sats.items boxes.new) }
+{
+    let mut sats: Vec<UsedSat> = Vec::new(alloc);
+    'numbers: for number in 1..33u8 {
+        add_sat(rules, table, at, number, &mut sats, boxes)?;
+    }
+    Ok(sats)
+}
+
+/// What a pair uses. The entries of its satellites go behind the earlier ones.
+pub fn gather(
+    alloc: Global,
+    rules: &Rules,
+    table: &RecordTable<'_>,
+    at: &PairAt<'_>,
+    boxes: &mut SvPairList,
+) -> Result<UsedPair, AllocError>
+    requires near { abs_diff at.now.base.now.tag.0 at.now.rover.now.tag.0 ≤ 5_000_000 }
+    ensures { IfOk result (λ u.
+        IsGathered (setting_with rules.now table.now.fit.now) at.now.base.now at.now.rover.now (record { base = at.now.base_passed.now; rover = at.now.rover_passed.now })
+        at.now.number boxes.old u boxes.new) }
+{
+    let power = power_up_to(at);
+    let sats = sats_of(alloc, rules, table, at, boxes)?;
+    Ok(UsedPair { power, sats })
+}
