@@ -10,7 +10,7 @@ use round_steps::{End, Options, Rounds, are_few, are_many, run};
 use std::alloc::{AllocError, Global};
 
 /// A count, which stands still at the end of its type.
-pub(crate) fn counted(n: usize) -> u32
+pub fn counted(n: usize) -> u32
     ensures { result ≡ counted n }
 {
     if n < 0xffff_ffff {
@@ -21,7 +21,7 @@ pub(crate) fn counted(n: usize) -> u32
 }
 
 /// Too few satellites, too many arcs, or the end of the run.
-pub(crate) fn answer<R: Rounds>(
+pub fn answer<R: Rounds>(
     alloc: Global,
     rounds: &R,
     kept: &[Arc],

@@ -2,9 +2,11 @@
 #![tactic(auto)]
 
 mod answers;
-mod begin;
+mod beginnings;
 mod faults;
 
+pub use answers::{answer, counted};
+pub use beginnings::{Begun, begin};
 pub use cert_data::{Answer, Cert, Outcome, Stage, Tail};
 pub use faults::{PairWhat, SessionFault};
 pub use round_steps::Options;

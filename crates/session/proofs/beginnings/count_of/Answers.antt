@@ -2,7 +2,7 @@ use Rattle.std.proofs.Common.{◌≡◌, ◌<◌, ◌≤◌, ℕ, length, arith,
 use Rattle.std.proofs.lemmas.List.{length-map}
 use Rattle.obs_store.specs.Epochs.{tags_of}
 use Rattle.session.proofs.BeginLaws.{few_pairs}
-use Rattle.session.proofs.begin.count_of.Goals as goal
+use Rattle.session.proofs.beginnings.count_of.Goals as goal
 
 pub overflow_cast-result : goal.overflow_cast-result
 overflow_cast-result c =

@@ -13,7 +13,7 @@ use std::alloc::Global;
 
 /// What a run begins with.
 #[derive(Debug, Drop)]
-pub(crate) struct Begun {
+pub struct Begun {
     /// The base's position in 0.1 mm.
     pub position: [i64; 3],
     pub signals: Signals,
@@ -60,7 +60,7 @@ fn fault_of(fault: PairFault) -> SessionFault
 }
 
 /// What a run of these files begins with, or why they are refused.
-pub(crate) fn begin(
+pub fn begin(
     alloc: Global,
     base: &ObsFile,
     rover: &ObsFile,

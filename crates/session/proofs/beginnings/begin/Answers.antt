@@ -4,7 +4,7 @@ use Rattle.epoch_pair.specs.declared.pairs.PairOf.{PairOf}
 use Rattle.epoch_pair.specs.Pairs.{IsTaken, IsNearPair}
 use Rattle.session.specs.Beginnings.{HaveSignals}
 use Rattle.session.proofs.BeginLaws.{refused_pair, taken_rises, all_taken}
-use Rattle.session.proofs.begin.begin.Goals as goal
+use Rattle.session.proofs.beginnings.begin.Goals as goal
 
 pub returns-in-Err-clause-refused : goal.returns-in-Err-clause-refused
 returns-in-Err-clause-refused c =
