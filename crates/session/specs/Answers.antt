@@ -1,5 +1,6 @@
 -- The answers of a run over the arcs that were kept.
-use Rattle.std.specs.Prelude.{◌≡◌, ℕ, min}
+use Rattle.std.specs.Prelude.{◌≡◌, ◌≢◌, ℕ, min, Any, pos}
+use Rattle.obs_store.specs.declared.file.ObsFile.{ObsFile}
 use Rattle.obs_rows.specs.Arcs.{free_count}
 use Rattle.cert_data.specs.declared.tails.Tail.{Tail}
 use Rattle.cert_data.specs.declared.certs.Cert.{Cert}
@@ -39,3 +40,7 @@ IsBestAnswer (Few pairs) = Unit {0}
 IsBestAnswer (Arcs free) = Unit {0}
 IsBestAnswer (Early stage tail) = Unit {0}
 IsBestAnswer (Full cert) = IsBestWhereFixed cert.session cert.tail
+
+-- a header whose antenna delta isn't 0
+abbrev pub HasDelta : ObsFile → Type 0
+HasDelta file = Any (λ d. d ≢ pos 0) file.delta

@@ -1,5 +1,5 @@
 //! What two files have in common before a run: the base's position, the codes, the pairs that are taken.
-ghost use Rattle.std.specs.Prelude.{◌≡◌, ◌<◌, All, AllPairs, length, MatchOption, IfOk, IfErr};
+ghost use Rattle.std.specs.Prelude.{◌≡◌, ◌<◌, ◌≤◌, All, AllPairs, length, MatchOption, IfOk, IfErr};
 ghost use Rattle.obs_store.specs.Epochs.{tags_of};
 ghost use Rattle.epoch_pair.specs.Pairs.{Follows, IsNearPair};
 ghost use Rattle.session.specs.Beginnings.{IsPosition, LacksPosition, AreSignals, AreSparse, IsSessionFault, pairs_of, AreTaken, fault_of};
@@ -72,6 +72,7 @@ pub fn begin(
     ensures sparse { IfOk result (λ b. AreSparse options.now.gap base.now rover.now) }
     ensures all { IfOk result (λ b. b.all ≡ length (pairs_of base.now rover.now options.now)) }
     ensures taken { IfOk result (λ b. AreTaken base.now rover.now options.now b.taken.items) }
+    ensures few { IfOk result (λ b. length b.taken.items ≤ 3600) }
     ensures rises { IfOk result (λ b. AllPairs Follows b.taken.items) }
     ensures near { IfOk result (λ b. All (IsNearPair options.now.gap (tags_of base.now.epochs) (tags_of rover.now.epochs)) b.taken.items) }
 {

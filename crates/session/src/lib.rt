@@ -4,9 +4,14 @@
 mod answers;
 mod beginnings;
 mod faults;
+mod outcomes;
 
 pub use answers::{answer, counted};
 pub use beginnings::{Begun, begin};
 pub use cert_data::{Answer, Cert, Outcome, Stage, Tail};
 pub use faults::{PairWhat, SessionFault};
+pub use outcomes::{have_delta, outcome};
 pub use round_steps::Options;
+
+#[cfg(test)]
+mod tests;

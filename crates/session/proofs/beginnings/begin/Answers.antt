@@ -1,4 +1,4 @@
-use Rattle.std.proofs.Common.{◌≡◌, ◌<◌, ℕ, List, arith, subst}
+use Rattle.std.proofs.Common.{◌≡◌, ◌<◌, ◌≤◌, ℕ, List, length, arith, subst}
 use Rattle.obs_store.specs.Epochs.{tags_of}
 use Rattle.epoch_pair.specs.declared.pairs.PairOf.{PairOf}
 use Rattle.epoch_pair.specs.Pairs.{IsTaken, IsNearPair}
@@ -28,3 +28,12 @@ pub returns-clause-refused : goal.returns-clause-refused
 returns-clause-refused c =
     let s : HaveSignals c.args.base.now c.args.rover.now = (c.in-Some-signals.signals, record { l1 = c.in-Some-signals.ensures.signals.0; l2 = c.in-Some-signals.ensures.signals.1 }) in
     ((c.in-Some.position, c.in-Some.ensures), (s, (c.in-Ok.ensures.apart_base, c.in-Ok.ensures.apart_rover)))
+
+pub returns-in-Ok-take-clause-few : goal.returns-in-Ok-take-clause-few
+returns-in-Ok-take-clause-few c =
+    let o = c.args.options.now in
+    let t : IsTaken c.in-Ok.pairs.items o.first o.step o.count c.in-Ok-take.taken.items = subst (λ (l : List PairOf). IsTaken l o.first o.step o.count c.in-Ok-take.taken.items) c.as_slice.ensures.value c.in-Ok-take.ensures in
+    below (length c.in-Ok-take.taken.items) o.count t.few o.count_to
+  where
+    below : (n m : ℕ) → n ≤ m → m ≤ 3600 → n ≤ 3600
+    below n m h g = omega arith
