@@ -1,4 +1,2 @@
-pub mod Written
 pub mod Completes
-pub mod ZeroSays
-pub mod ListSays
+pub mod Says

@@ -3,23 +3,27 @@ use Rattle.std.specs.Prelude.{◌≡◌, ◌⊎◌, ℕ, List, []}
 use Rattle.std.specs.declared.option.Option.{Option}
 use Rattle.zero_rows.specs.Rows.{IsZeroFile}
 use Rattle.rinex_obs.specs.ObsForm.{HasObsFile}
-use Rattle.baseline_app.specs.declared.status.Status.TheVariants.{Usage, NoMemory}
-use Rattle.baseline_app.specs.declared.words.Job.{Job}
-use Rattle.baseline_app.specs.declared.words.Job.TheVariants as job
-use Rattle.baseline_app.specs.Words.{IsJob}
-use Rattle.baseline_app.specs.Texts.{usage_line, no_memory_line}
-use Rattle.baseline_app.specs.Endings.{Ending, ending, EndsByFile, IsAdmitted}
-use Rattle.baseline_app.specs.Zero.{ZeroEnds}
-use Rattle.baseline_app.specs.Listing.{ListEnds}
+use Rattle.rinex_nav.specs.NavForm.{HasNavFile}
+use Rattle.job_answers.specs.declared.status.Status.TheVariants.{Usage, NoMemory}
+use Rattle.job_answers.specs.Texts.{usage_line, no_memory_line}
+use Rattle.job_answers.specs.Endings.{Ending, ending, EndsByFile, IsAdmitted}
+use Rattle.command_words.specs.declared.words.Job.{Job}
+use Rattle.command_words.specs.declared.words.Job.TheVariants as job
+use Rattle.command_words.specs.Words.{IsJob}
+use Rattle.zero_job.specs.Zero.{ZeroEnds}
+use Rattle.list_job.specs.Listing.{ListEnds}
+use Rattle.orbit_job.specs.Orbits.{OrbitEnds}
 
 abbrev pub JobEnds : Job → (List ℕ → Option (List ℕ)) → Ending → Type 0
 JobEnds (job.Zero rows) told end = EndsByFile told rows (ZeroEnds rows) end
 JobEnds (job.List obs) told end = EndsByFile told obs (ListEnds obs) end
+JobEnds (job.Orbit nav sat tick) told end = EndsByFile told nav (OrbitEnds nav sat tick.0) end
 
 -- all files of the job are told and admitted
 abbrev pub IsReadable : Job → (List ℕ → Option (List ℕ)) → Type 0
 IsReadable (job.Zero rows) told = IsAdmitted told rows IsZeroFile
 IsReadable (job.List obs) told = IsAdmitted told obs HasObsFile
+IsReadable (job.Orbit nav sat tick) told = IsAdmitted told nav HasNavFile
 
 -- the words ask for a job, which ends so
 pub record AnswersJob (words : List (List ℕ)) (told : List ℕ → Option (List ℕ)) (end : Ending) : Type 0 where

@@ -1,11 +1,2 @@
-pub mod Statuses
-pub mod Texts
-pub mod Words
-pub mod Endings
-pub mod Answers
-pub mod Zero
-pub mod Listing
 pub mod Jobs
 pub mod Runs
-pub mod ZeroRuns
-pub mod ListRuns

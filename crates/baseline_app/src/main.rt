@@ -3,23 +3,19 @@
 //!
 //! # How a command is added
 //!
-//! A command has a variant of `Job`, and cases of `IsJob` and `file_words` (specs/Words.antt), of `JobEnds` and
-//! `IsReadable` (specs/Jobs.antt) over definitions of its own (as specs/Zero.antt), an arm in `read_words` and in
-//! `do_job`, and a lemma that a readable job ends with status 0 or 1 (`readable_ends` of proofs/Completes.antt). What
-//! is said of statuses, sinks, faults and completeness (specs/Runs.antt) stays as it is.
+//! A command has a variant of `Job` with its words (crate command_words), and a crate of its own, as zero_job, with
+//! what it ends with, what a run of it says, and the lemmas on its statuses. Here it has cases of `JobEnds` and
+//! `IsReadable` (specs/Jobs.antt), of `readable_ends` and `job_status` (proofs/Completes.antt), a clause of `run` with
+//! its lemma (proofs/Says.antt), and an arm in `do_job`. What is said of statuses, sinks, faults and completeness
+//! (specs/Runs.antt) stays as it is.
 #![tactic(auto)]
 
-mod answer;
-mod list;
-mod status;
 #[cfg(test)]
 mod tests;
 mod top;
-mod words;
-mod zero;
 
+use job_answers::Status;
 use line_source::{HostFiles, HostSink};
-use status::Status;
 use std::alloc::AllocError;
 use std::process::ExitCode;
 use std::{env, io};

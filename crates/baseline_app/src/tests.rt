@@ -1,6 +1,6 @@
 // Runs over files and sinks in memory. Expected texts are worked out by hand from the form and the sums.
-use crate::status::Status;
 use crate::top::run;
+use job_answers::Status;
 use line_source::{MemFiles, MemSink, Named, load};
 use std::alloc::{AllocError, Global};
 use std::process::Abort;

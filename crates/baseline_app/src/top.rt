@@ -1,24 +1,24 @@
 // The program over any files and sinks.
-ghost use Rattle.std.specs.Prelude.{◌≡◌, ◌≢◌, ◌⊎◌, ◌≤◌, ℕ, List, IfOk, All};
-ghost use Rattle.std.specs.Io.KnownBytes.{Appends};
+ghost use Rattle.std.specs.Prelude.{◌≡◌, ◌≢◌, ◌⊎◌, ℕ, List, IfOk, All};
 ghost use Rattle.line_source.specs.Causes.{Rose};
-ghost use Rattle.line_source.specs.Told.{AppendsPrefix};
-ghost use Rattle.baseline_app.specs.declared.words.Job.{Job};
-ghost use Rattle.baseline_app.specs.Words.{texts_of, file_words, IsJob};
-ghost use Rattle.baseline_app.specs.Answers.{ending_of, IfEnded};
-ghost use Rattle.baseline_app.specs.Endings.{ending};
+ghost use Rattle.gps_time.specs.declared.Tick.{Tick};
+ghost use Rattle.job_answers.specs.Answers.{ending_of, IfEnded};
+ghost use Rattle.job_answers.specs.Delivered.{sink_change};
+ghost use Rattle.command_words.specs.declared.words.Job.{Job};
+ghost use Rattle.command_words.specs.Words.{texts_of, file_words, IsJob};
+ghost use Rattle.zero_job.specs.ZeroRuns.{SaysOfZero};
+ghost use Rattle.list_job.specs.ListRuns.{SaysOfList};
+ghost use Rattle.orbit_job.specs.OrbitRuns.{SaysOfOrbit};
 ghost use Rattle.baseline_app.specs.Jobs.{JobEnds, IsReadable, IsAnswer};
-ghost use Rattle.baseline_app.specs.ZeroRuns.{SaysOfZero};
-ghost use Rattle.baseline_app.specs.ListRuns.{SaysOfList};
-ghost use Rattle.baseline_app.specs.Runs.{sink_change, IsDelivered, IsRun, IsComplete};
+ghost use Rattle.baseline_app.specs.Runs.{IsRun, IsComplete};
 
-use crate::answer::{Answer, Stop};
-use crate::list::list;
-use crate::status::Status;
-use crate::words::{Job, WordFault, read_words};
-use crate::zero::zero;
-use line_source::{Files, Sink, put_all};
+use command_words::{Job, WordFault, read_words};
+use job_answers::{Answer, Status, Stop, deliver};
+use line_source::{Files, Sink};
+use list_job::list;
+use orbit_job::orbit;
 use std::alloc::{AllocError, Global};
+use zero_job::zero;
 
 const USAGE: &str = "usage: baseline fix|check|residuals|zero|list|orbit|arcs|sim WORDS\n";
 
@@ -31,6 +31,7 @@ fn do_job<F: Files>(alloc: Global, job: &Job, files: &mut F) -> Result<Answer, S
     match job {
         Job::Zero { rows } => zero(alloc, files, rows.as_str()),
         Job::List { obs } => list(alloc, files, obs.as_str()),
+        Job::Orbit { nav, sat, tick } => orbit(alloc, files, nav.as_str(), *sat, *tick),
     }
 }
 
@@ -56,15 +57,6 @@ fn answer_of<F: Files>(alloc: Global, words: &[String], files: &mut F) -> Result
     }
 }
 
-// Writes a line about a fault. Its own fault changes nothing.
-fn tell<E: Sink>(err: &mut E, line: &[u8])
-    ensures prefix { AppendsPrefix (E.contents err.old) (E.contents err.new) line.now }
-    ensures later { E.faults err.old ≤ E.faults err.new }
-    ensures whole { Appends (E.contents err.old) (E.contents err.new) line.now ⊎ Rose (E.faults err.old) (E.faults err.new) }
-{
-    let _ = put_all(err, line);
-}
-
 /// Does what the words after the program's name ask for, and writes its two texts, `out` first.
 pub fn run<F: Files, O: Sink, E: Sink>(
     alloc: Global,
@@ -83,6 +75,9 @@ pub fn run<F: Files, O: Sink, E: Sink>(
     ensures zero { (rows : List ℕ) → IsJob (texts_of words.now) (Job.Zero rows) → SaysOfZero (F.text_of files.old) rows result
         (sink_change (O.contents out.old) (O.contents out.new) (O.faults out.old) (O.faults out.new)) }
     ensures list { (obs : List ℕ) → IsJob (texts_of words.now) (Job.List obs) → SaysOfList (F.text_of files.old) obs result
+        (sink_change (O.contents out.old) (O.contents out.new) (O.faults out.old) (O.faults out.new)) }
+    ensures orbit { (nav : List ℕ) (sat : ℕ) (tick : Tick) → IsJob (texts_of words.now) (Job.Orbit nav sat tick)
+        → SaysOfOrbit (F.text_of files.old) nav sat tick.0 result
         (sink_change (O.contents out.old) (O.contents out.new) (O.faults out.old) (O.faults out.new)) }
     ensures usage { result ≡ Status.Usage → (job : Job) → IsJob (texts_of words.now) job → ⊥ }
     ensures complete { (job : Job) → IsJob (texts_of words.now) job → IsReadable job (F.text_of files.old)
@@ -112,35 +107,5 @@ fn write_answer<F: Files, O: Sink, E: Sink>(
     match answer_of(alloc, words, files) {
         Ok(answer) => deliver(answer.status, &answer.out, &answer.err, out, err),
         Err(AllocError) => deliver(Status::NoMemory, b"", b"no memory\n", out, err),
-    }
-}
-
-// Writes the two texts, out first. Where out has a fault, err is told of it, once.
-fn deliver<O: Sink, E: Sink>(
-    status: Status,
-    out_text: &[u8],
-    err_text: &[u8],
-    out: &mut O,
-    err: &mut E,
-) -> Status
-    ensures { IsDelivered (ending status out_text.now err_text.now) result
-        (sink_change (O.contents out.old) (O.contents out.new) (O.faults out.old) (O.faults out.new))
-        (sink_change (E.contents err.old) (E.contents err.new) (E.faults err.old) (E.faults err.new)) }
-{
-    if put_all(out, out_text).is_err() {
-        tell(err, b"write fault\n");
-        return Status::WriteFault;
-    }
-    match status {
-        Status::Done | Status::Declined => {
-            if put_all(err, err_text).is_err() {
-                return Status::WriteFault;
-            }
-            status
-        }
-        _ => {
-            tell(err, err_text);
-            status
-        }
     }
 }

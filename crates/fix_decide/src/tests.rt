@@ -124,6 +124,48 @@ fn builder(alloc: Global, arcs: Vec<Arc>) -> Option<SessionBuilder> {
     Some(SessionBuilder::new(alloc, 0, base, base, signals, ArcList::new(arcs)))
 }
 
+// The same rows with the L1 code's y greater by so much, as by the receivers' clocks.
+fn later_pair(alloc: Global, pair: &PairRows, by: i64) -> Result<Option<PairRows>, AllocError> {
+    let mut later = PairBuilder::new(alloc, pair.number, pair.tag, 0);
+    for row in pair.rows.as_slice() {
+        let [l1, l2, code, other] = row.y;
+        let y = [l1, l2, code.wrapping_add(by), other];
+        let Some(row) = Row::new(row.arc, y, row.ry, row.u, row.ru) else {
+            return Ok(None);
+        };
+        if later.rows.len() >= 15 || !later.may_follow(row.arc) {
+            return Ok(None);
+        }
+        later.push(row)?;
+    }
+    if later.rows.is_empty() {
+        return Ok(None);
+    }
+    Ok(Some(later.finish()))
+}
+
+fn later_session(alloc: Global, session: &Session, by: i64) -> Result<Option<Session>, AllocError> {
+    let mut arcs = Vec::new(alloc);
+    for arc in session.arcs.as_slice() {
+        arcs.push(*arc)?;
+    }
+    let Some(mut later) = builder(alloc, arcs) else {
+        return Ok(None);
+    };
+    for pair in session.pairs.as_slice() {
+        let Some(pair) = later_pair(alloc, pair, by)? else {
+            return Ok(None);
+        };
+        if !push(&mut later, pair)? {
+            return Ok(None);
+        }
+    }
+    if later.pairs.is_empty() {
+        return Ok(None);
+    }
+    Ok(Some(later.finish()))
+}
+
 fn push(session: &mut SessionBuilder, pair: PairRows) -> Result<bool, AllocError> {
     if !session.may_follow(pair.number) || !has_its_arcs(session.arcs.as_slice(), &pair) {
         return Ok(false);
@@ -339,6 +381,28 @@ fn a_ratio_decides(rt: HostRuntime) -> Result<(), AllocError> {
             return Ok(());
         };
         assert_eq!(rt; decision.fixed, fixed);
+    }
+    Ok(())
+}
+
+// A clock that all rows share doesn't change the form. 2^33 units of it leave the upper sum no room.
+#[test]
+fn a_great_clock_is_too_wide(rt: HostRuntime) -> Result<(), AllocError> {
+    let Some(made) = drawn_session(rt.alloc(), KNOWN[0].case)? else {
+        assert!(rt; false, "the session is in range");
+        return Ok(());
+    };
+    for (by, refused) in [(1 << 32, false), (1 << 33, true)] {
+        let Some(later) = later_session(rt.alloc(), &made.session, by)? else {
+            assert!(rt; false, "the session is in range");
+            return Ok(());
+        };
+        let Some(answer) = decision_of(&later, 2000) else {
+            assert!(rt; false, "the session has two least vectors");
+            return Ok(());
+        };
+        let wide = answer.err().map(|e| e.place);
+        assert_eq!(rt; wide, if refused { Some(Place::Sum) } else { None });
     }
     Ok(())
 }

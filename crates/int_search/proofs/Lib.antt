@@ -10,4 +10,5 @@ pub mod LevelMoves
 pub mod WalkLaws
 pub mod StartLaws
 pub mod PlainLaws
+pub mod ReducedLaws
 pub mod TableLaws

@@ -1,8 +1,9 @@
 //! The two integer vectors at which a form is least, found among all integer vectors.
 //!
 //! The search takes the entries of a vector from the last to the first and leaves out each suffix whose lower sum is past
-//! the second best value so far (`suffix_search`). It answers in the form's own coordinates, in which it also searches
-//! (`plain_best`); its engine searches in other ones as well, where a map gives the vectors of the answer.
+//! the second best value so far (`suffix_search`). It answers in the form's own coordinates. `plain_best` searches in them as
+//! well, and `two_best` first in decorrelated ones (`decorrelate`, `reduced_form`), where a map gives the vectors of the
+//! answer.
 #![tactic(auto)]
 
 mod answer;
@@ -10,6 +11,7 @@ mod best;
 mod images;
 mod orders;
 mod points;
+mod reduced;
 mod rests;
 mod search;
 mod steps;
@@ -17,10 +19,13 @@ mod values;
 mod walk;
 
 pub use answer::{SearchFault, TwoBest};
-pub use search::{plain_best, two_best};
+pub use reduced::two_best;
+pub use search::plain_best;
 
 #[cfg(test)]
 mod cases;
+#[cfg(test)]
+mod reduced_case;
 #[cfg(test)]
 mod session_cases;
 #[cfg(test)]

@@ -48,15 +48,3 @@ pub fn plain_best(form: &Form, budget: u64) -> Result<TwoBest, SearchFault>
 {
     search(form, &identity(), budget)
 }
-
-/// Of all integer vectors the two at which the form is least.
-///
-/// Each visit of a suffix costs one of the budget.
-pub fn two_best(form: &Form, budget: u64) -> Result<TwoBest, SearchFault>
-    requires { 4 < form.now.columns }
-    ensures found { IfOk result (IsTwoBest form.now) }
-    ensures spent { result ≡ Err SearchFault.Spent → IsPlainCountOver form.now budget }
-    ensures overwidth { result ≡ Err SearchFault.Overwidth → IsSearchTooWide form.now }
-{
-    plain_best(form, budget)
-}

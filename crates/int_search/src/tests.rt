@@ -4,8 +4,9 @@ ghost use Rattle.obs_rows.specs.Tables.{IsZeroOutside};
 ghost use Rattle.normal_sum.specs.Matrices.{IsSymmetric, EntriesBelow};
 
 use crate::cases::{Case, SMALL};
+use crate::reduced_case::FIVE_EPOCHS;
 use crate::session_cases::SESSIONS;
-use crate::{SearchFault, plain_best, two_best};
+use crate::{SearchFault, TwoBest, plain_best, two_best};
 use integer_form::{Form, FrontForm};
 use lower_form::finish;
 use obs_rows::{FormTable, MOST_FORM_COLUMNS, MOST_INTEGERS};
@@ -73,29 +74,57 @@ fn form(integers: usize, entries: &[i64]) -> Option<Form>
     finish(&FrontForm::of(integers + 4, 0, &p)).ok()
 }
 
-// Whether the search gives this answer with this budget and none with one visit less.
-fn answers(case: &Case) -> bool {
-    if case.integers == 0 || case.integers > MOST_INTEGERS {
-        return false;
+// The form of a case, where it has integers.
+fn case_form(case: &Case) -> Option<Form>
+    ensures { IfSome result (λ f. 4 < f.columns) }
+{
+    if case.integers > MOST_INTEGERS {
+        return None;
     }
-    let Some(form) = form(case.integers, case.entries) else {
-        return false;
-    };
-    if form.columns <= 4 {
-        return false;
-    }
-    let Ok(best) = two_best(&form, case.visits) else {
-        return false;
-    };
+    let form = form(case.integers, case.entries)?;
+    if form.columns > 4 { Some(form) } else { None }
+}
+
+// Whether these are the two best of a case.
+fn is_answer(case: &Case, best: &TwoBest) -> bool {
     let first = best.first;
     let second = best.second;
-    let spent = plain_best(&form, case.visits.saturating_sub(1)).is_err_and(|e| e
-        == SearchFault::Spent);
-    spent
-        && best.size == case.integers
+    best.size == case.integers
         && first.iter().zip(case.first).all(|(a, b)| a == b)
         && second.iter().zip(case.second).all(|(a, b)| a == b)
         && (best.p1, best.p2) == case.values
+}
+
+// Whether the plain search gives this answer with this budget and none with one visit less, and the other search the same
+// answer with a budget of the reduced count.
+fn answers(case: &Case) -> bool {
+    let Some(form) = case_form(case) else {
+        return false;
+    };
+    let Ok(plain) = plain_best(&form, case.visits) else {
+        return false;
+    };
+    let Ok(best) = two_best(&form, case.reduced_count) else {
+        return false;
+    };
+    let spent = plain_best(&form, case.visits.saturating_sub(1)).is_err_and(|e| e
+        == SearchFault::Spent);
+    spent && is_answer(case, &plain) && is_answer(case, &best)
+}
+
+// Whether the search gives this answer with this budget and none with one visit less, and the plain search none with the
+// greater budget.
+fn answers_decorrelated(case: &Case, greater: u64) -> bool {
+    let Some(form) = case_form(case) else {
+        return false;
+    };
+    let Ok(best) = two_best(&form, case.visits) else {
+        return false;
+    };
+    let spent = two_best(&form, case.visits.saturating_sub(1)).is_err_and(|e| e
+        == SearchFault::Spent);
+    let plain = plain_best(&form, greater).is_err_and(|e| e == SearchFault::Spent);
+    spent && plain && is_answer(case, &best)
 }
 
 #[test]
@@ -126,4 +155,9 @@ fn forms_of_sessions(rt: HostRuntime) {
     for case in &SESSIONS {
         assert!(rt; answers(case));
     }
+}
+
+#[test]
+fn form_of_five_epochs(rt: HostRuntime) {
+    assert!(rt; answers_decorrelated(&FIVE_EPOCHS, 1000));
 }

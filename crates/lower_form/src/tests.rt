@@ -77,6 +77,18 @@ fn session_of(
     requires { (scale ≡ 0) ⊎ (scale ≡ 14) }
 {
     let arcs = vec![in alloc; arc(3, true), arc(5, false), arc(9, false)]?;
+    session_over(alloc, scale, arcs, pairs)
+}
+
+// Pairs of so many rows, each list of rows a pair.
+fn session_over<const N: usize>(
+    alloc: Global,
+    scale: u32,
+    arcs: Vec<Arc>,
+    pairs: &[[Numbers; N]],
+) -> Result<Option<Session>, AllocError>
+    requires { (scale ≡ 0) ⊎ (scale ≡ 14) }
+{
     let base = [63_781_370_000, 0, 0];
     let signals = Signals { l1: b'C', l2: b'W' };
     if !are_arcs(&arcs) || !is_point(&base) {
@@ -435,6 +447,38 @@ fn refuses_a_weak_session(rt: HostRuntime) -> Result<(), AllocError> {
     };
     assert_eq!(rt; lower(&sum(&session)).err(), Some(weak));
     assert_eq!(rt; front(&sum(&session)).err(), Some(weak));
+    Ok(())
+}
+
+// Two arcs of which nothing is known, as a certificate may have them: of six columns the first pivot is -6.
+#[test]
+fn refuses_the_weakest_session(rt: HostRuntime) -> Result<(), AllocError> {
+    let nothing = |arc| (arc, [0, 0, 0, 0], 0, [0, 0, 0], [0, 0, 0]);
+    let arcs = vec![in rt.alloc(); arc(3, true), arc(5, false)]?;
+    let Some(session) = session_over(rt.alloc(), 0, arcs, &[[nothing(0), nothing(1)]])? else {
+        assert!(rt; false, "the session is in range");
+        return Ok(());
+    };
+    let weak = LowerFault::Weak {
+        column: 0,
+        pivot: -6,
+    };
+    assert_eq!(rt; lower(&sum(&session)).err(), Some(weak));
+    Ok(())
+}
+
+// The greatest radii, one pair: the entry of the constant is past 2^52 in size before the first pivot, which is weak, is seen.
+#[test]
+fn refuses_the_greatest_radii(rt: HostRuntime) -> Result<(), AllocError> {
+    let wide = |arc| (arc, [0, 0, 0, 0], 1 << 20, [0, 0, 0], [0, 0, 0]);
+    let Some(session) = session_of(rt.alloc(), 0, &[[wide(0), wide(1), wide(2)]])? else {
+        assert!(rt; false, "the session is in range");
+        return Ok(());
+    };
+    let entry = LowerFault::Overwidth {
+        place: Place::Entry,
+    };
+    assert_eq!(rt; lower(&sum(&session)).err(), Some(entry));
     Ok(())
 }
 

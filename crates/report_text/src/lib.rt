@@ -2,8 +2,10 @@
 #![tactic(auto)]
 
 mod list;
+mod orbit;
 
 pub use list::write_list;
+pub use orbit::write_orbit;
 
 #[cfg(test)]
 mod tests {

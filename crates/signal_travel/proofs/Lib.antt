@@ -8,3 +8,5 @@ pub mod EarthTurn
 pub mod PlaceBoxes
 pub mod Times
 pub mod Sights
+pub mod Handed
+pub mod MeanDirections

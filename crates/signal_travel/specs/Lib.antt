@@ -1,3 +1,4 @@
 pub mod Boxes
+pub mod Directions
 pub mod Grid
 pub mod VectorBoxes

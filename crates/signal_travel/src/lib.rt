@@ -1,4 +1,4 @@
-//! Travel time of a signal, the place where a receiver sees the satellite, and the mask.
+//! Travel time of a signal, the place where a receiver sees the satellite, the mean direction to it, and the mask.
 #![tactic(auto)]
 
 ghost use Rattle.std.specs.Prelude.{◌≡◌, ℕ, ◌*◌, ◌^◌, ◌≤◌, ℤ, pos, ◌≤ℤ◌, [], ◌∷◌, All, IsTrue, false};
@@ -6,21 +6,28 @@ ghost use Rattle.iv_core.specs.declared.Iv.{Iv};
 ghost use Rattle.iv_core.specs.Intervals.{Holds, width_of};
 ghost use Rattle.orbit_model.specs.Places.{IsBetweenDistances};
 ghost use Rattle.rational.specs.Rational.{Rational};
-ghost use Rattle.travel_model.specs.SeenPlaces.{Place, point_of, IsSeenPlace, HasSeenPlace, range_of, IsAboveMask, IsBelowMask};
+ghost use Rattle.travel_model.specs.SeenPlaces.{Place, point_of, IsSeenPlace, HasSeenPlace, range_of, IsDisplacement, IsMeanDirection, IsAboveMask, IsBelowMask};
 ghost use Rattle.signal_travel.specs.Boxes.{IsPoint, HoldsPlace, HasNearPlace};
+ghost use Rattle.signal_travel.specs.Directions.{HoldsDirection};
 
+mod directions;
 mod mask;
 mod passes;
 mod places;
+mod points;
 mod sent;
+mod spread;
 mod turns;
 mod vectors;
 mod wide;
 
+use directions::direction_to;
 use iv_core::Iv;
 use mask::{is_above, offset_of};
 use passes::sight_of;
-use sent::{point_at, sent_box};
+pub use points::is_receiver_point;
+use sent::{point_at, seen_place, sent_box};
+pub use spread::Spread;
 use sv_orbit::SvBox;
 
 /// Where a receiver sees a satellite, in metres at scale 2^-36 and in the Earth-fixed frame of the moment of reception, with its
@@ -83,4 +90,16 @@ pub fn above(seen: &SeenBox, point: &[i64; 3], mask: u32) -> bool
         q,
         r,
     )
+}
+
+/// The mean direction from `point`, in units of 0.1 mm, to the satellite over any displacement of at most 16 m: its product with
+/// the displacement is what the range changes by. It takes no memory and is never refused, and works from `place` alone, so that
+/// the point may be another one than the box was made with.
+pub fn mean_direction(seen: &SeenBox, point: &[i64; 3]) -> [Spread; 3]
+    requires { IsPoint point.now }
+    ensures { (a b c : ℤ) (place move direction : Place) → point.now ≡ a ∷ b ∷ c ∷ [] → HoldsPlace seen.now.place place →
+        IsDisplacement move → IsMeanDirection place (point_of a b c) move direction → HoldsDirection result direction }
+{
+    let direction = direction_to(&seen_place(seen), &point_at(point));
+    [direction.x, direction.y, direction.z]
 }

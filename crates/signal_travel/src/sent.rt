@@ -4,6 +4,7 @@ ghost use Rattle.orbit_model.specs.Places.{IsBetweenDistances};
 ghost use Rattle.signal_travel.specs.Boxes.{IsPoint};
 ghost use Rattle.signal_travel.specs.VectorBoxes.{IsVectorWithin, IsVectorAtMostWide};
 
+use crate::SeenBox;
 use crate::places::{Point, VectorBox};
 use sv_orbit::SvBox;
 
@@ -31,4 +32,22 @@ pub fn point_at(point: &[i64; 3]) -> Point
 {
     let [x, y, z] = *point;
     Point { x, y, z }
+}
+
+/// A box of the place where a receiver sees a satellite.
+#[derive(Clone, Copy)]
+pub struct SeenPlace {
+    pub place: VectorBox,
+    pub ghost narrow: { IsVectorAtMostWide (pos (2 ^ 19)) place },
+    pub ghost within: { IsVectorWithin (38100000 * 2 ^ 36) place },
+    pub ghost away: { IsBetweenDistances 18900000 38100000 place.x place.y place.z },
+}
+
+pub fn seen_place(seen: &SeenBox) -> SeenPlace
+    ensures { seen.now.place ≡ result.place.x ∷ result.place.y ∷ result.place.z ∷ [] }
+{
+    let [x, y, z] = seen.place;
+    SeenPlace {
+        place: VectorBox { x, y, z },
+    }
 }

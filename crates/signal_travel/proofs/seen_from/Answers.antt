@@ -1,22 +1,10 @@
-use Rattle.std.proofs.Common.{◌≡◌, List, [], ◌∷◌, ℤ, sym, subst, refl}
+use Rattle.std.proofs.Common.{◌≡◌, [], ◌∷◌, ℤ, sym, subst}
 use Rattle.rational.specs.Rational.{Rational}
-use Rattle.iv_core.specs.declared.Iv.{Iv}
 use Rattle.travel_model.specs.SeenPlaces.{Place, point_of, IsSeenPlace, HasSeenPlace}
 use Rattle.travel_model.proofs.Exists.{seen_place_exists}
-use Rattle.signal_travel.specs.declared.places.VectorBox.{VectorBox}
-use Rattle.signal_travel.specs.Boxes.{HoldsPlace}
-use Rattle.signal_travel.specs.VectorBoxes.{HoldsVector}
+use Rattle.signal_travel.proofs.Handed.{same_point, held}
 use Rattle.signal_travel.proofs.Sights.{point_place}
 use Rattle.signal_travel.proofs.seen_from.Goals as goal
-
-same_point : (s : List ℤ) (a b c x y z : ℤ) → s ≡ a ∷ b ∷ c ∷ [] → s ≡ x ∷ y ∷ z ∷ [] → point_of x y z ≡ point_of a b c
-same_point s a b c x y z e f = same a b c x y z (cc) (cc) (cc)
-  where
-    same : (a b c x y z : ℤ) → x ≡ a → y ≡ b → z ≡ c → point_of x y z ≡ point_of a b c
-    same a b c x y z e f g = rw (e, f, g) refl
-
-held : (s : List (Iv 36)) (b : VectorBox) (p : Place) → s ≡ b.x ∷ b.y ∷ b.z ∷ [] → HoldsPlace s p → HoldsVector b p
-held s b p e h = let k : HoldsPlace (b.x ∷ b.y ∷ b.z ∷ []) p = subst (λ (t : List (Iv 36)). HoldsPlace t p) e h in (k.0, k.1.0, k.1.1.0)
 
 seen_there : (c : goal.After-result-6-1) (x y z : ℤ) (sent seen : Place) (t : Rational) → c.args.point.now ≡ x ∷ y ∷ z ∷ [] → IsSeenPlace sent (point_of x y z) t seen → IsSeenPlace sent (point_of c.point_at.result.x c.point_at.result.y c.point_at.result.z) t seen
 seen_there c x y z sent seen t e s = subst (λ (p : Place). IsSeenPlace sent p t seen) (sym (same_point c.args.point.now x y z c.point_at.result.x c.point_at.result.y c.point_at.result.z e c.point_at.ensures)) s

@@ -1,7 +1,6 @@
 use Rattle.std.proofs.Common.{inl, inr}
 use Rattle.baseline_app.proofs.Completes.{run_complete, run_usage, run_write}
-use Rattle.baseline_app.proofs.ZeroSays.{run_says}
-use Rattle.baseline_app.proofs.ListSays as listed
+use Rattle.baseline_app.proofs.Says.{run_says_zero, run_says_list, run_says_orbit}
 use Rattle.baseline_app.proofs.top.run.Goals as goal
 
 pub returns-clause-write : goal.returns-clause-write
@@ -18,7 +17,10 @@ returns-clause-complete g c = λ job asked readable quiet.
     ])
 
 pub returns-clause-zero : goal.returns-clause-zero
-returns-clause-zero g c = λ rows asked. run_says _ _ rows _ _ _ c.write_answer.ensures.run asked
+returns-clause-zero g c = λ rows asked. run_says_zero _ _ rows _ _ _ c.write_answer.ensures.run asked
 
 pub returns-clause-list : goal.returns-clause-list
-returns-clause-list g c = λ obs asked. listed.run_says _ _ obs _ _ _ c.write_answer.ensures.run asked
+returns-clause-list g c = λ obs asked. run_says_list _ _ obs _ _ _ c.write_answer.ensures.run asked
+
+pub returns-clause-orbit : goal.returns-clause-orbit
+returns-clause-orbit g c = λ nav sat tick asked. run_says_orbit _ _ nav sat tick _ _ _ c.write_answer.ensures.run asked

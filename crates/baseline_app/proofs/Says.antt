@@ -1,0 +1,68 @@
+-- What a run with status 0 or 1 says of the job's files is what its ending says.
+use Rattle.std.proofs.Common.{◌≡◌, inl, inr, ℕ, List, Option, sym, ap, ◌∙◌, subst}
+use Rattle.std.specs.Io.KnownBytes.{Appends}
+use Rattle.job_answers.specs.declared.status.Status.{Status}
+use Rattle.job_answers.specs.declared.status.Status.TheVariants.{Done, Declined, Usage, Refused, ReadFault, WriteFault, NoMemory}
+use Rattle.job_answers.specs.Statuses.{IsVerdictStatus}
+use Rattle.job_answers.specs.Endings.{Ending}
+use Rattle.job_answers.specs.Delivered.{SinkChange}
+use Rattle.command_words.specs.declared.words.Job.{Job}
+use Rattle.command_words.specs.declared.words.Job.TheVariants as job
+use Rattle.command_words.specs.Words.{IsJob}
+use Rattle.command_words.proofs.OneJob.{one_job}
+use Rattle.zero_job.specs.ZeroRuns.{SaysOfZero}
+use Rattle.zero_job.proofs.ZeroSays.{zero_says}
+use Rattle.list_job.specs.ListRuns.{SaysOfList}
+use Rattle.list_job.proofs.ListSays.{list_says}
+use Rattle.gps_time.specs.declared.Tick.{Tick}
+use Rattle.orbit_job.specs.OrbitRuns.{SaysOfOrbit}
+use Rattle.orbit_job.proofs.OrbitSays.{orbit_says}
+use Rattle.baseline_app.specs.Jobs.{JobEnds}
+use Rattle.baseline_app.specs.Runs.{IsRun}
+
+-- something is said of the statuses of verdicts alone
+record SaysNoMore (Says : Status → Type 0) : Type 0 where
+  usage : Says Usage
+  refused : Says Refused
+  read : Says ReadFault
+  write : Says WriteFault
+  memory : Says NoMemory
+
+-- a run with a verdict has an ending of the job, whose text for out was written
+verdict_says : (words : List (List ℕ)) (told : List ℕ → Option (List ℕ)) (job : Job) (result : Status) (out err : SinkChange) (Says : Status → Type 0)
+    → ((end : Ending) → JobEnds job told end → Appends out.old out.new end.out → Says end.status)
+    → IsRun words told result out err → IsJob words job → IsVerdictStatus result → Says result
+verdict_says words told job result out err Says says run asked verdict = elim (run.written) [
+  | inl written ↦ elim (run.answer) [
+    | inl answer ↦
+        let ends = subst (λ (j : Job). JobEnds j told run.end) (one_job words answer.job job answer.asked asked) answer.ends in
+        subst Says (sym written.same) (says run.end ends written.out_whole)
+    | inr (inl usage) ↦ absurd (usage.none job asked)
+    | inr (inr none) ↦ absurd (subst IsVerdictStatus (written.same ∙ ap (λ (e : Ending). e.status) none) verdict)
+  ]
+  | inr (inl by_out) ↦ absurd (subst IsVerdictStatus by_out.fault verdict)
+  | inr (inr by_err) ↦ absurd (subst IsVerdictStatus by_err.fault verdict)
+]
+
+run_says : (words : List (List ℕ)) (told : List ℕ → Option (List ℕ)) (job : Job) (result : Status) (out err : SinkChange) (Says : Status → Type 0) → SaysNoMore Says
+    → ((end : Ending) → JobEnds job told end → Appends out.old out.new end.out → Says end.status)
+    → IsRun words told result out err → IsJob words job → Says result
+run_says words told job Done out err Says none says run asked = verdict_says words told job Done out err Says says run asked tt
+run_says words told job Declined out err Says none says run asked = verdict_says words told job Declined out err Says says run asked tt
+run_says words told job Usage out err Says none says run asked = none.usage
+run_says words told job Refused out err Says none says run asked = none.refused
+run_says words told job ReadFault out err Says none says run asked = none.read
+run_says words told job WriteFault out err Says none says run asked = none.write
+run_says words told job NoMemory out err Says none says run asked = none.memory
+
+pub run_says_zero : (words : List (List ℕ)) (told : List ℕ → Option (List ℕ)) (rows : List ℕ) (result : Status) (out err : SinkChange) → IsRun words told result out err → IsJob words (job.Zero rows) → SaysOfZero told rows result out
+run_says_zero words told rows result out err run asked =
+    run_says words told (job.Zero rows) result out err (λ s. SaysOfZero told rows s out) (record { usage = tt; refused = tt; read = tt; write = tt; memory = tt }) (λ end ends written. zero_says told rows end out ends written) run asked
+
+pub run_says_list : (words : List (List ℕ)) (told : List ℕ → Option (List ℕ)) (obs : List ℕ) (result : Status) (out err : SinkChange) → IsRun words told result out err → IsJob words (job.List obs) → SaysOfList told obs result out
+run_says_list words told obs result out err run asked =
+    run_says words told (job.List obs) result out err (λ s. SaysOfList told obs s out) (record { usage = tt; refused = tt; read = tt; write = tt; memory = tt }) (λ end ends written. list_says told obs end out ends written) run asked
+
+pub run_says_orbit : (words : List (List ℕ)) (told : List ℕ → Option (List ℕ)) (nav : List ℕ) (sat : ℕ) (tick : Tick) (result : Status) (out err : SinkChange) → IsRun words told result out err → IsJob words (job.Orbit nav sat tick) → SaysOfOrbit told nav sat tick.0 result out
+run_says_orbit words told nav sat tick result out err run asked =
+    run_says words told (job.Orbit nav sat tick) result out err (λ s. SaysOfOrbit told nav sat tick.0 s out) (record { usage = tt; refused = tt; read = tt; write = tt; memory = tt }) (λ end ends written. orbit_says told nav sat tick.0 end out ends written) run asked

@@ -1,0 +1,42 @@
+-- What the steps of a check say.
+use Rattle.std.proofs.Common.{◌≡◌, ◌⊎◌, inl, inr, ℤ, List, FitsSigned, to_z, of_z, w64, sym, subst, arith}
+use Rattle.std.specs.Int.{w128}
+use Rattle.std.proofs.lemmas.Int.{ints}
+use Rattle.obs_rows.specs.declared.sessions.Session.{Session}
+use Rattle.obs_rows.specs.Best.{IsStrictlyBest}
+use Rattle.integer_form.specs.declared.faults.Place.{Place}
+use Rattle.integer_form.specs.declared.faults.Place.TheVariants.{Float, Sum}
+use Rattle.integer_form.specs.declared.form.Form.{Form}
+use Rattle.integer_form.specs.FloatPoint.{HasWide}
+use Rattle.int_search.specs.declared.answer.TwoBest.{TwoBest}
+use Rattle.int_search.specs.Answers.{IsTwoBest}
+use Rattle.fix_decide.specs.Widths.{AreWide}
+use Rattle.fix_decide.specs.Decisions.{IsFormOf, first_of, move_of}
+use Rattle.cert_data.specs.declared.tails.Tail.{Tail}
+use Rattle.cert_data.specs.declared.tails.Tail.TheVariants.{Fixed, Unseparated, Weak, Overwidth, Unsettled, Spent}
+use Rattle.cert_check.specs.Decided.{Numbers, Says, IsBestIn}
+use Rattle.cert_check.specs.Verdicts.{IsWideAt}
+
+-- what is strictly best is so in a tail that says it
+pub best_said : (s : Session) (t : Tail) (d : Numbers) → Says t d → IsStrictlyBest s (first_of d.best) d.moved → IsBestIn s t
+best_said s (Fixed h moved best u) d said is = subst (λ (z : List ℤ). IsStrictlyBest s z moved) (sym said.best_is.first_is) (subst (λ (m : List ℤ). IsStrictlyBest s (first_of d.best) m) (sym said.moved_is) is)
+best_said s (Unseparated h moved best u) d said is = absurd said
+best_said s (Weak column pivot) d said is = absurd said
+best_said s (Overwidth place) d said is = absurd said
+best_said s (Unsettled entry) d said is = absurd said
+best_said s (Spent budget) d said is = absurd said
+
+-- a decision that is refused
+pub wide_decision : (s : Session) (f : Form) (b : TwoBest) (place : Place) → IsFormOf s f → IsTwoBest f b → (place ≡ Float → HasWide (move_of f (first_of b)))
+    → (place ≡ Sum → (HasWide (move_of f (first_of b)) → ⊥) × AreWide s.arcs s.pairs (first_of b) (move_of f (first_of b))) → (place ≡ Float) ⊎ (place ≡ Sum) → IsWideAt s place
+wide_decision s f b place of_rows best move sum (inl is) =
+    subst (IsWideAt s) (sym is) (record { form = f; best = b; has = record { of_rows = of_rows; best_is = best }; wide = move is })
+wide_decision s f b place of_rows best move sum (inr is) =
+    let both = sum is in
+    subst (IsWideAt s) (sym is) (record { form = f; best = b; has = record { of_rows = of_rows; best_is = best }; narrow = both.0; wide = both.1 })
+
+pub own_word64 : (x : ℤ) → FitsSigned w64 x → to_z w64 (of_z w64 x) ≡ x
+own_word64 x h = omega (arith, ints)
+
+pub own_word128 : (x : ℤ) → FitsSigned w128 x → to_z w128 (of_z w128 x) ≡ x
+own_word128 x h = omega (arith, ints)

@@ -1,0 +1,4 @@
+pub mod SameForms
+pub mod Exponents
+pub mod OneVerdict
+pub mod Checked

@@ -1,0 +1,7 @@
+use Rattle.std.proofs.Common.{◌≡◌, ◌++◌, drop}
+use Rattle.cert_words.specs.Spelling.{text_of_lines}
+use Rattle.cert_spelling.specs.Spelling.{arc_lines}
+use Rattle.cert_spelling.proofs.parts.push_arc_lines.Given as goal
+
+abbrev pub invariant-loop-arc : goal.invariant-loop-arc
+invariant-loop-arc l = l.out.items ++ text_of_lines (arc_lines (drop l.arc-index l.arcs)) ≡ l.fn.out.items ++ text_of_lines (arc_lines l.arcs)

@@ -1,0 +1,18 @@
+use Rattle.std.proofs.Common.{[], ◌∷◌, codes}
+use Rattle.cert_lines.specs.Lines.{count_line, vector_line, signals_line}
+use Rattle.cert_spelling.specs.Spelling.{form_line}
+use Rattle.cert_spelling.proofs.Texts.{then_lines, then_written}
+use Rattle.cert_spelling.proofs.parts.push_head.Goals as goal
+
+pub returns : goal.returns
+returns c =
+    let o = c.args.out.now.items in
+    let ratio = count_line (codes "ratio") c.args.ratio in
+    let budget = count_line (codes "budget") c.args.budget in
+    let base = vector_line (codes "base") c.args.base.now in
+    let point = vector_line (codes "point") c.args.point.now in
+    let two = then_lines o _ _ (form_line ∷ []) (ratio ∷ []) c.in_ok-push_form.ensures c.in_ok-push_count_line.ensures in
+    let three = then_lines o _ _ (form_line ∷ ratio ∷ []) (budget ∷ []) two c.in_ok-push_count_line-2.ensures in
+    let four = then_lines o _ _ (form_line ∷ ratio ∷ budget ∷ []) (base ∷ []) three c.in_ok-push_vector_line.ensures in
+    let five = then_lines o _ _ (form_line ∷ ratio ∷ budget ∷ base ∷ []) (point ∷ []) four c.in_ok-push_vector_line-2.ensures in
+    then_written o _ _ (form_line ∷ ratio ∷ budget ∷ base ∷ point ∷ []) (signals_line c.args.signals.l1 c.args.signals.l2 ∷ []) _ five c.push_signals_line.ensures

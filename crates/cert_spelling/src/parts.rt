@@ -1,0 +1,91 @@
+//! The parts of a certificate before its tail, written.
+ghost use Rattle.std.specs.Prelude.{◌≡◌, ◌++◌, ◌∷◌, [], OnOk};
+ghost use Rattle.cert_words.specs.Spelling.{text_of_lines};
+ghost use Rattle.cert_spelling.specs.Spelling.{head_lines, form_line, arc_lines, counted_arcs, all_pair_lines, counted_pairs, session_lines};
+
+use cert_lines::{
+    push_arc_line, push_count_line, push_pair_lines, push_signals_line, push_vector_line,
+};
+use obs_rows::{Arc, PairRows, Session, Signals};
+use std::alloc::AllocError;
+
+// Appends the first line.
+fn push_form(out: &mut Vec<u8>) -> Result<(), AllocError>
+    ensures { OnOk result (out.new.items ≡ out.old.items ++ text_of_lines (form_line ∷ [])) }
+{
+    out.extend_from_slice(b"baseline-cert 1\n")
+}
+
+// Appends what stands before the arcs.
+fn push_head(
+    out: &mut Vec<u8>,
+    ratio: u32,
+    budget: u64,
+    base: &[i64; 3],
+    point: &[i64; 3],
+    signals: Signals,
+) -> Result<(), AllocError>
+    ensures { OnOk result (out.new.items ≡ out.old.items ++ text_of_lines (head_lines ratio budget base.now point.now signals)) }
+{
+    push_form(out)?;
+    push_count_line(out, b"ratio", ratio as u64)?;
+    push_count_line(out, b"budget", budget)?;
+    push_vector_line(out, b"base", base)?;
+    push_vector_line(out, b"point", point)?;
+    push_signals_line(out, signals)
+}
+
+fn push_arc_lines(out: &mut Vec<u8>, arcs: &[Arc]) -> Result<(), AllocError>
+    ensures { OnOk result (out.new.items ≡ out.old.items ++ text_of_lines (arc_lines arcs.now)) }
+{
+    for arc in arcs {
+        push_arc_line(out, arc)?;
+    }
+    Ok(())
+}
+
+// Appends the number of arcs, and the arcs.
+fn push_arcs(out: &mut Vec<u8>, arcs: &[Arc]) -> Result<(), AllocError>
+    ensures { OnOk result (out.new.items ≡ out.old.items ++ text_of_lines (counted_arcs arcs.now)) }
+{
+    push_count_line(out, b"arcs", arcs.len() as u64)?;
+    push_arc_lines(out, arcs)
+}
+
+fn push_all_pair_lines(out: &mut Vec<u8>, pairs: &[PairRows]) -> Result<(), AllocError>
+    ensures { OnOk result (out.new.items ≡ out.old.items ++ text_of_lines (all_pair_lines pairs.now)) }
+{
+    for pair in pairs {
+        push_pair_lines(out, pair)?;
+    }
+    Ok(())
+}
+
+// Appends the number of pairs, and the pairs with their rows.
+fn push_pairs(out: &mut Vec<u8>, pairs: &[PairRows]) -> Result<(), AllocError>
+    ensures { OnOk result (out.new.items ≡ out.old.items ++ text_of_lines (counted_pairs pairs.now)) }
+{
+    push_count_line(out, b"pairs", pairs.len() as u64)?;
+    push_all_pair_lines(out, pairs)
+}
+
+/// Appends what stands before the tail.
+pub(crate) fn push_session(
+    out: &mut Vec<u8>,
+    ratio: u32,
+    budget: u64,
+    session: &Session,
+) -> Result<(), AllocError>
+    ensures { OnOk result (out.new.items ≡ out.old.items ++ text_of_lines (session_lines ratio budget session.now)) }
+{
+    push_head(
+        out,
+        ratio,
+        budget,
+        &session.base,
+        &session.point,
+        session.signals,
+    )?;
+    push_arcs(out, session.arcs.as_slice())?;
+    push_pairs(out, session.pairs.as_slice())
+}

@@ -1,0 +1,37 @@
+use Rattle.std.proofs.Common.{sym, ap, ◌∙◌}
+use Rattle.std.proofs.lemmas.Result.{err_from_is_err_and}
+use Rattle.std.proofs.Common.{◌++◌, ℕ, List, arith}
+use Rattle.std.proofs.lemmas.List.{length_push}
+use Rattle.obs_rows.specs.declared.pair_rows.PairRows.{PairRows}
+use Rattle.rinex_head.proofs.Walks.{handed_on}
+use Rattle.cert_spelling.specs.Spelling.{all_pair_lines}
+use Rattle.cert_text.proofs.PairSteps.{pairs_took, pairs_below}
+use Rattle.cert_text.proofs.pairs.read_all_pairs.Goals as goal
+
+pub returns-in_err-pair-clause-reads : goal.returns-in_err-pair-clause-reads
+returns-in_err-pair-clause-reads c = λ budget.
+    let p = err_from_is_err_and c.from_residual.result c.from_residual.ensures.1 in
+    let arcs = c.as_slice.ensures ∙ c.pairs.invariant.arcs in
+    let given = rw arcs at c.in_err-pair.ensures.reads in
+    rw (p.1, p.2) (handed_on _ _ c.in_err-pair.field-0.0 (c.pairs.invariant.reads budget) (given budget))
+
+pub pairs-preserved : goal.pairs-preserved
+pairs-preserved c =
+    let before = c.pairs.session.pairs in
+    let p = c.in_ok-pair.pair in
+    let pairs = c.in_ok-push.ensures.added in
+    let arcs = c.as_slice.ensures ∙ c.pairs.invariant.arcs in
+    let given = rw arcs at c.in_ok-pair.ensures.reads in
+    let one = length_push before p in
+    record {
+      reads = λ budget. c.pairs.invariant.reads budget ∙ given budget;
+      took = c.pairs.invariant.took ∙ ap (λ (l : List (List ℕ)). all_pair_lines before ++ l) c.in_ok-pair.ensures.took ∙ pairs_took before p c.next_pair.new.lines.left
+          ∙ ap (λ (ps : List PairRows). all_pair_lines ps ++ c.next_pair.new.lines.left) (sym pairs);
+      count = rw pairs (omega (arith, one, c.pairs.invariant.count));
+      below = rw pairs (pairs_below before p c.pairs.least c.pairs.invariant.below c.in_ok-pair.ensures.least);
+      scale = c.push.ensures.scale ∙ c.pairs.invariant.scale;
+      base = c.push.ensures.base ∙ c.pairs.invariant.base;
+      point = c.push.ensures.point ∙ c.pairs.invariant.point;
+      signals = c.push.ensures.signals ∙ c.pairs.invariant.signals;
+      arcs = c.push.ensures.arcs ∙ c.pairs.invariant.arcs;
+    }

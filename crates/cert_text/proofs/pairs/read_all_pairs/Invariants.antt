@@ -1,0 +1,21 @@
+use Rattle.std.proofs.Common.{◌≡◌, ◌+◌, ◌<◌, ◌++◌, ℕ, length, All}
+use Rattle.rinex_head.specs.Walk.{rest_gives}
+use Rattle.cert_spelling.specs.Spelling.{all_pair_lines}
+use Rattle.cert_text.specs.Rules.{cert_rules, before_pairs}
+use Rattle.cert_text.proofs.pairs.read_all_pairs.Given as goal
+
+abbrev pub invariant-pairs : goal.invariant-pairs
+invariant-pairs l = record {
+  reads : (budget : ℕ) → rest_gives cert_rules l.fn.lines (before_pairs budget l.fn.session.arcs l.count 0) ≡ rest_gives cert_rules l.lines (before_pairs budget l.fn.session.arcs l.left l.least);
+  took : l.fn.lines.left ≡ all_pair_lines l.session.pairs ++ l.lines.left;
+  count : length l.session.pairs + l.left ≡ l.count;
+  below : All (λ p. p.number < l.least) l.session.pairs;
+  scale : l.session.scale ≡ l.fn.session.scale;
+  base : l.session.base ≡ l.fn.session.base;
+  point : l.session.point ≡ l.fn.session.point;
+  signals : l.session.signals ≡ l.fn.session.signals;
+  arcs : l.session.arcs ≡ l.fn.session.arcs;
+}
+
+abbrev pub decreases-pairs : goal.decreases-pairs
+decreases-pairs l = l.left

@@ -1,0 +1,58 @@
+//! A certificate, read.
+ghost use Rattle.std.specs.Prelude.{◌≡◌, ◌≤◌, ◌++◌, [], length, Ok, Err, IfOk, MatchResult};
+ghost use Rattle.rinex_head.specs.Walk.{rest_gives, Gives, OnRefusal};
+ghost use Rattle.cert_data.specs.declared.certs.Cert.{Cert};
+ghost use Rattle.cert_spelling.specs.Spelling.{lines_of_cert, spelling};
+ghost use Rattle.cert_text.specs.Lengths.{IsCertificate};
+ghost use Rattle.cert_text.specs.Rules.{cert_rules, reading_of, Form, End};
+
+use crate::arcs::read_arcs;
+use crate::head::read_head;
+use crate::pairs::read_pairs;
+use crate::tail::read_tail;
+use cert_data::Cert;
+use cert_words::{BAD_LINE, TextLines, line_or_end};
+use obs_rows::{SessionBuilder, integer_count};
+use rinex_head::{At, TextFault};
+use std::alloc::Global;
+
+// Nothing stands behind a tail.
+fn read_end(lines: &mut TextLines<'_>) -> Result<(), At>
+    ensures { MatchResult result
+        (λ u. (rest_gives cert_rules lines.old End ≡ Ok tt) × (lines.old.left ≡ []))
+        (λ at. rest_gives cert_rules lines.old End ≡ Err at) }
+{
+    match line_or_end(lines)? {
+        Some(line) => Err(BAD_LINE.at(line.number)),
+        None => Ok(()),
+    }
+}
+
+fn read_lines(alloc: Global, mut lines: TextLines<'_>) -> Result<Cert, TextFault>
+    ensures reads { Gives (rest_gives cert_rules lines.entry Form) (λ c. tt) result }
+    ensures took { IfOk result (λ c. lines.entry.left ≡ lines_of_cert c) }
+{
+    let head = read_head(&mut lines)?;
+    let arcs = read_arcs(alloc, &mut lines)?;
+    let builder = SessionBuilder::new(alloc, 0, head.base, head.point, head.signals, arcs);
+    let session = read_pairs(alloc, &mut lines, builder)?;
+    let integers = integer_count(session.arcs.as_slice(), 0);
+    let tail = read_tail(&mut lines, head.budget, integers)?;
+    read_end(&mut lines)?;
+    Ok(Cert {
+        ratio: head.ratio,
+        budget: head.budget,
+        session,
+        tail,
+    })
+}
+
+/// The certificate that a text spells, or the first place at which it is none.
+pub fn read_cert(alloc: Global, text: &[u8]) -> Result<Cert, TextFault>
+    requires { length text.now ≤ 67108864 }
+    ensures ok { IfOk result (λ c. text.now ≡ spelling c) }
+    ensures refused { OnRefusal result (IsCertificate text.now → ⊥) }
+    ensures exact { Gives (reading_of text.now) (λ c. tt) result }
+{
+    read_lines(alloc, TextLines::new(text))
+}

@@ -1,0 +1,21 @@
+-- Numbers and satellites as words.
+use Rattle.std.specs.Prelude.{◌≡◌, ℕ, ◌+◌, ◌-◌, ◌*◌, ◌≤◌, true, List, [], ◌∷◌, length}
+use Rattle.decimal_text.specs.Whole.{is_digit, are_digits, digit_sum}
+
+-- the word is 1 to 18 digits, which stand for n
+pub record IsNumber (word : List ℕ) (n : ℕ) : Type 0 where
+  pub digits : are_digits word ≡ true
+  pub some : 1 ≤ length word
+  pub few : length word ≤ 18
+  pub value : n ≡ digit_sum word
+
+-- the word is `G` and the two digits of a number from 1 to 32
+pub record IsSatellite (word : List ℕ) (n : ℕ) : Type 0 where
+  pub tens : ℕ
+  pub ones : ℕ
+  pub word_is : word ≡ 71 ∷ tens ∷ ones ∷ []
+  pub tens_digit : is_digit tens ≡ true
+  pub ones_digit : is_digit ones ≡ true
+  pub value : n ≡ 10 * (tens - 48) + (ones - 48)
+  pub least : 1 ≤ n
+  pub most : n ≤ 32

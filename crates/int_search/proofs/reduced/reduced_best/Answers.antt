@@ -1,0 +1,106 @@
+use Rattle.std.proofs.Common.{◌≡◌, ◌+◌, ◌-◌, ◌<◌, ℕ, List, ℤ, arith, sym, ap₂, ◌∙◌, refl, length, subst, Result, Ok, Err}
+use Rattle.quadratic_form.specs.Forms.{Column}
+use Rattle.quadratic_form.specs.Elimination.{Factor, Refusal, steps}
+use Rattle.decorrelate.specs.declared.unimodular.Unimodular.{Unimodular}
+use Rattle.decorrelate.specs.Inverses.{Undoes}
+use Rattle.decorrelate.specs.Reducing.{IsReduced}
+use Rattle.decorrelate.proofs.SameStates.{reduced_same}
+use Rattle.integer_form.specs.declared.form.Form.{Form}
+use Rattle.integer_form.specs.declared.front_form.FrontForm.{FrontForm}
+use Rattle.integer_form.specs.Forms.{integers_of}
+use Rattle.integer_form.specs.Kept.{form_of_table, constant_form}
+use Rattle.lower_form.specs.Forms.{finish_of, IsFinishOf}
+use Rattle.reduced_form.specs.Transformed.{transformed_form, IsTransformed}
+use Rattle.int_search.specs.ReducedCounts.{HasCountIn, HasReducedCount}
+use Rattle.int_search.proofs.ReducedLaws.{IsDecorrelated, reduced_can, reduced_found, reduced_fault, count_as}
+use Rattle.int_search.proofs.reduced.reduced_best.Goals as goal
+
+integers : (f : Form) → 4 < f.columns → (f.columns - 3) - 1 ≡ integers_of f
+integers f h = omega arith
+
+fewer : (a b n : ℕ) → a ≡ b → b ≡ n + 4 → a - 4 ≡ n
+fewer a b n e g = omega arith
+
+more : (f : Form) (a b : ℕ) → 4 < f.columns → a ≡ b → b ≡ integers_of f + 4 → 4 < a
+more f a b h e g = omega arith
+
+apart : (p : List Factor × List Column) (r : Refusal) → (let x : Result (List Factor × List Column) Refusal = Ok p in x) ≡ Err r → ⊥
+apart p r e = cc
+
+-- the steps of the front are those of the form in the coordinates of the map
+same_steps : (n : ℕ) (map p : List (List ℤ)) (r : FrontForm) → IsTransformed n map p r → finish_of r ≡ steps 3 n (transformed_form n map p)
+same_steps n map p r t = ap₂ (λ (k : ℕ) (a : List Column). steps 3 k a) (fewer r.columns r.columns n refl t.columns) t.form
+
+decorrelated_is : (f r : Form) (front : FrontForm) (u : Unimodular) → 4 < f.columns → u.size ≡ integers_of f → length u.map ≡ 40 → IsTransformed (integers_of f) u.map f.p front → IsFinishOf front r → IsDecorrelated f r u
+decorrelated_is f r front u h s m t e = record {
+  some = h;
+  size = s;
+  integers = fewer r.columns front.columns (integers_of f) e.columns t.columns;
+  form = ap₂ (λ (a : List (List ℤ)) (k : ℕ). form_of_table a (k - 3)) e.p e.columns ∙ t.form;
+  rows = m;
+}
+
+-- the count in the map at hand
+count : (f : Form) (n : ℕ) (u : Unimodular) → IsReduced (integers_of f) f.d f.l u → HasReducedCount f n → HasCountIn f n u.map
+count f n u r h = count_as f n h.change.map u.map (λ i k a b. (reduced_same (integers_of f) f.d f.l h.change u h.reduced r i k a b).0) h.count
+
+pub returns-in_default : goal.returns-in_default
+returns-in_default c =
+    let f : Form = c.args.form.now in
+    let u : Unimodular = c.reduce-change.result in
+    let e : (f.columns - 3) - 1 ≡ integers_of f = integers f c.requires in
+    let size : u.size ≡ integers_of f = c.reduce-change.ensures.size ∙ e in
+    let red : IsReduced (integers_of f) f.d f.l u = subst (λ (k : ℕ). IsReduced k f.d f.l u) e c.reduce-change.ensures.reduced in
+    λ h. c.in_default.ensures (count f c.args.budget u red h).small
+
+pub returns-in_default-finish : goal.returns-in_default-finish
+returns-in_default-finish c =
+    let f : Form = c.args.form.now in
+    let u : Unimodular = c.reduce-change.result in
+    let e : (f.columns - 3) - 1 ≡ integers_of f = integers f c.requires in
+    let size : u.size ≡ integers_of f = c.reduce-change.ensures.size ∙ e in
+    let red : IsReduced (integers_of f) f.d f.l u = subst (λ (k : ℕ). IsReduced k f.d f.l u) e c.reduce-change.ensures.reduced in
+    let t : IsTransformed (integers_of f) u.map f.p c.in-Some.front = c.in-Some.ensures in
+    λ h.
+    let k : HasCountIn f c.args.budget u.map = count f c.args.budget u red h in
+    let w = c.in_default-finish.ensures.refused in
+    apart (k.factors, constant_form k.g) w.0 (sym (same_steps (integers_of f) u.map f.p c.in-Some.front t ∙ k.taken) ∙ w.1.0)
+
+pub search-requires : goal.search-requires
+search-requires c =
+    let f : Form = c.args.form.now in
+    let u : Unimodular = c.reduce-change.result in
+    let e : (f.columns - 3) - 1 ≡ integers_of f = integers f c.requires in
+    let size : u.size ≡ integers_of f = c.reduce-change.ensures.size ∙ e in
+    let red : IsReduced (integers_of f) f.d f.l u = subst (λ (k : ℕ). IsReduced k f.d f.l u) e c.reduce-change.ensures.reduced in
+    let t : IsTransformed (integers_of f) u.map f.p c.in-Some.front = c.in-Some.ensures in
+    let fin : IsFinishOf c.in-Some.front c.in-Ok.reduced = c.in-Ok.ensures.finished in
+    let d : IsDecorrelated f c.in-Ok.reduced u = decorrelated_is f c.in-Ok.reduced c.in-Some.front u c.requires size c.at.ensures.shape.rows t fin in
+    reduced_can c.in-Ok.reduced u.map u.back (more f c.in-Ok.reduced.columns c.in-Some.front.columns c.requires fin.columns t.columns) (record { shape = c.at.ensures.shape; entries = u.map_small })
+    (subst (λ (k : ℕ). Undoes k u.back u.map) (size ∙ sym d.integers) u.one_to_one)
+
+pub returns-in-Ok-search : goal.returns-in-Ok-search
+returns-in-Ok-search c =
+    let f : Form = c.args.form.now in
+    let u : Unimodular = c.reduce-change.result in
+    let e : (f.columns - 3) - 1 ≡ integers_of f = integers f c.requires in
+    let size : u.size ≡ integers_of f = c.reduce-change.ensures.size ∙ e in
+    let red : IsReduced (integers_of f) f.d f.l u = subst (λ (k : ℕ). IsReduced k f.d f.l u) e c.reduce-change.ensures.reduced in
+    let t : IsTransformed (integers_of f) u.map f.p c.in-Some.front = c.in-Some.ensures in
+    let fin : IsFinishOf c.in-Some.front c.in-Ok.reduced = c.in-Ok.ensures.finished in
+    let d : IsDecorrelated f c.in-Ok.reduced u = decorrelated_is f c.in-Ok.reduced c.in-Some.front u c.requires size c.at.ensures.shape.rows t fin in
+    reduced_found f c.in-Ok.reduced u c.in-Ok-search.best d c.in-Ok-search.ensures
+
+pub returns-in-Err : goal.returns-in-Err
+returns-in-Err c =
+    let f : Form = c.args.form.now in
+    let u : Unimodular = c.reduce-change.result in
+    let e : (f.columns - 3) - 1 ≡ integers_of f = integers f c.requires in
+    let size : u.size ≡ integers_of f = c.reduce-change.ensures.size ∙ e in
+    let red : IsReduced (integers_of f) f.d f.l u = subst (λ (k : ℕ). IsReduced k f.d f.l u) e c.reduce-change.ensures.reduced in
+    let t : IsTransformed (integers_of f) u.map f.p c.in-Some.front = c.in-Some.ensures in
+    let fin : IsFinishOf c.in-Some.front c.in-Ok.reduced = c.in-Ok.ensures.finished in
+    let d : IsDecorrelated f c.in-Ok.reduced u = decorrelated_is f c.in-Ok.reduced c.in-Some.front u c.requires size c.at.ensures.shape.rows t fin in
+    λ h.
+    let k : HasCountIn f c.args.budget u.map = count f c.args.budget u red h in
+    reduced_fault f c.in-Ok.reduced u c.args.budget _ k d (sym k.taken ∙ sym (same_steps (integers_of f) u.map f.p c.in-Some.front t) ∙ fin.taken) c.in-Err.ensures

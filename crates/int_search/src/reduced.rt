@@ -1,0 +1,50 @@
+//! The search in decorrelated coordinates.
+ghost use Rattle.std.specs.Prelude.{◌≡◌, ◌<◌, IfOk, IfErr, MatchOption, Err};
+ghost use Rattle.int_search.specs.Answers.{IsTwoBest, IsPlainCountOver, IsSearchTooWide};
+ghost use Rattle.int_search.specs.ReducedCounts.{HasReducedCount};
+ghost use Rattle.int_search.specs.declared.answer.SearchFault.TheVariants as SearchFault;
+
+use crate::answer::{SearchFault, TwoBest};
+use crate::search::{plain_best, search};
+use decorrelate::reduce;
+use integer_form::Form;
+use lower_form::finish;
+use obs_rows::BASELINE_COLUMNS;
+use reduced_form::transformed;
+
+// The two least vectors, searched in the coordinates of the reduction; None where this attempt ends without an answer.
+fn reduced_best(form: &Form, budget: u64) -> Option<TwoBest>
+    requires { 4 < form.now.columns }
+    ensures { MatchOption result (HasReducedCount form.now budget → ⊥) (IsTwoBest form.now) }
+{
+    let change = reduce(form.columns - BASELINE_COLUMNS - 1, &form.d, &form.l);
+    let Some(front) = transformed(form, &change) else {
+        return None;
+    };
+    let Ok(reduced) = finish(&front) else {
+        return None;
+    };
+    // What the type of a table says is known behind a call of it.
+    let _ = change.map.at(0, 0);
+    match search(&reduced, &change.map, budget) {
+        Ok(best) => Some(best),
+        Err(_) => None,
+    }
+}
+
+/// Of all integer vectors the two at which the form is least.
+///
+/// Each visit of a suffix costs one of the budget. The search in decorrelated coordinates comes first, and where it ends
+/// without an answer, the plain search with the same budget.
+pub fn two_best(form: &Form, budget: u64) -> Result<TwoBest, SearchFault>
+    requires { 4 < form.now.columns }
+    ensures found { IfOk result (IsTwoBest form.now) }
+    ensures spent { result ≡ Err SearchFault.Spent → IsPlainCountOver form.now budget }
+    ensures overwidth { result ≡ Err SearchFault.Overwidth → IsSearchTooWide form.now }
+    ensures reduced { HasReducedCount form.now budget → IfErr result (λ e. ⊥) }
+{
+    match reduced_best(form, budget) {
+        Some(best) => Ok(best),
+        None => plain_best(form, budget),
+    }
+}

@@ -1,0 +1,52 @@
+-- What is written of an answer, whatever the job.
+use Rattle.std.specs.Prelude.{◌≡◌, ◌⊎◌, ℕ, List}
+use Rattle.std.specs.declared.option.Option.{Option}
+use Rattle.std.specs.Io.KnownBytes.{Appends}
+use Rattle.line_source.specs.Causes.{Rose}
+use Rattle.line_source.specs.Told.{AppendsPrefix}
+use Rattle.job_answers.specs.declared.status.Status.{Status}
+use Rattle.job_answers.specs.declared.status.Status.TheVariants.{WriteFault}
+use Rattle.job_answers.specs.Statuses.{IsVerdictStatus}
+use Rattle.job_answers.specs.Texts.{write_fault_line}
+use Rattle.job_answers.specs.Endings.{Ending}
+
+-- what a sink held and holds, where it tells, and its count of faults
+pub record SinkChange : Type 0 where
+  pub old : Option (List ℕ)
+  pub new : Option (List ℕ)
+  pub before : ℕ
+  pub now : ℕ
+
+abbrev pub sink_change : Option (List ℕ) → Option (List ℕ) → ℕ → ℕ → SinkChange
+sink_change old new before now = record { old = old; new = new; before = before; now = now }
+
+-- the sink has gained a first part of the text, all of it unless its count rose
+pub record GainsUnlessFault (sink : SinkChange) (text : List ℕ) : Type 0 where
+  pub prefix : AppendsPrefix sink.old sink.new text
+  pub whole : Appends sink.old sink.new text ⊎ Rose sink.before sink.now
+
+-- Both texts were written. Only a line about a failure may be cut off, by a fault of err.
+pub record EndsWritten (end : Ending) (result : Status) (out err : SinkChange) : Type 0 where
+  pub same : result ≡ end.status
+  pub out_whole : Appends out.old out.new end.out
+  pub err_gains : GainsUnlessFault err end.err
+  pub err_whole : IsVerdictStatus end.status → Appends err.old err.new end.err
+
+-- out had a fault, and err was told of it, once
+pub record EndsByOut (end : Ending) (result : Status) (out err : SinkChange) : Type 0 where
+  pub fault : result ≡ WriteFault
+  pub rose : Rose out.before out.now
+  pub out_prefix : AppendsPrefix out.old out.new end.out
+  pub err_gains : GainsUnlessFault err write_fault_line
+
+-- err had a fault, where its text was wanted whole
+pub record EndsByErr (end : Ending) (result : Status) (out err : SinkChange) : Type 0 where
+  pub fault : result ≡ WriteFault
+  pub rose : Rose err.before err.now
+  pub verdict : IsVerdictStatus end.status
+  pub out_whole : Appends out.old out.new end.out
+  pub err_prefix : AppendsPrefix err.old err.new end.err
+
+-- what is written of an ending, out first
+abbrev pub IsDelivered : Ending → Status → SinkChange → SinkChange → Type 0
+IsDelivered end result out err = EndsWritten end result out err ⊎ (EndsByOut end result out err ⊎ EndsByErr end result out err)

@@ -1,0 +1,59 @@
+-- What a job may end with: a status and two texts. These parts are those of every command.
+use Rattle.std.specs.Prelude.{◌≡◌, ◌⊎◌, ℕ, ◌<◌, ◌≤◌, List, [], length, IfSome, Result, Err, Some}
+use Rattle.std.specs.declared.option.Option.{Option}
+use Rattle.line_source.specs.Lines.{lines_of}
+use Rattle.rinex_head.specs.declared.place.At.{At}
+use Rattle.rinex_head.specs.FirstFailing.{IsFirstFailing}
+use Rattle.job_answers.specs.declared.status.Status.{Status}
+use Rattle.job_answers.specs.declared.status.Status.TheVariants.{Refused, ReadFault}
+use Rattle.job_answers.specs.Texts.{refusal_line, too_large_line, read_fault_line}
+
+pub record Ending : Type 0 where
+  pub status : Status
+  pub out : List ℕ
+  pub err : List ℕ
+
+abbrev pub ending : Status → List ℕ → List ℕ → Ending
+ending status out err = record { status = status; out = out; err = err }
+
+-- the text of the file, which is what is told of it where something is told
+pub record IsTextOf (told : List ℕ → Option (List ℕ)) (name text : List ℕ) : Type 0 where
+  pub told_is : IfSome (told name) (λ bytes. text ≡ bytes)
+  pub fits : length text ≤ 67108864
+
+-- the file has more bytes than a file may have
+pub record IsTooLarge (told : List ℕ → Option (List ℕ)) (name : List ℕ) (end : Ending) : Type 0 where
+  pub large : IfSome (told name) (λ bytes. 67108864 < length bytes)
+  pub end_is : end ≡ ending Refused [] (too_large_line name)
+
+abbrev pub IsReadFault : List ℕ → Ending → Type 0
+IsReadFault name end = end ≡ ending ReadFault [] (read_fault_line name)
+
+abbrev pub EndsUnloaded : (List ℕ → Option (List ℕ)) → List ℕ → Ending → Type 0
+EndsUnloaded told name end = IsTooLarge told name end ⊎ IsReadFault name end
+
+-- The text is no file of this form. It is refused at the first line at which that shows, at the column and for the
+-- reason that the rules of the form give.
+pub record IsRefusal {F : Type 0} (gives : List (List ℕ) → Result F At) (IsFile : List (List ℕ) → Type 0) (name text : List ℕ) (end : Ending) : Type 0 where
+  pub at : At
+  pub none : IsFile (lines_of text) → ⊥
+  pub first : IsFirstFailing IsFile (lines_of text) at.line
+  pub gives_is : gives (lines_of text) ≡ Err at
+  pub end_is : end ≡ ending Refused [] (refusal_line name at)
+
+-- the job ends with what the file's text ends with
+pub record EndsByText (told : List ℕ → Option (List ℕ)) (name : List ℕ) (ends : List ℕ → Ending → Type 0) (end : Ending) : Type 0 where
+  pub text : List ℕ
+  pub is : IsTextOf told name text
+  pub ends_so : ends text end
+
+-- that, or the file can't be had
+abbrev pub EndsByFile : (List ℕ → Option (List ℕ)) → List ℕ → (List ℕ → Ending → Type 0) → Ending → Type 0
+EndsByFile told name ends end = EndsByText told name ends end ⊎ EndsUnloaded told name end
+
+-- the file is told, and is one of this form
+pub record IsAdmitted (told : List ℕ → Option (List ℕ)) (name : List ℕ) (IsFile : List (List ℕ) → Type 0) : Type 0 where
+  pub text : List ℕ
+  pub told_is : told name ≡ Some text
+  pub fits : length text ≤ 67108864
+  pub file : IsFile (lines_of text)

@@ -1,0 +1,5 @@
+pub mod Statuses
+pub mod Texts
+pub mod Endings
+pub mod Answers
+pub mod Delivered

@@ -1,0 +1,54 @@
+-- What the command `orbit` ends with.
+use Rattle.std.specs.Prelude.{◌≡◌, ◌⊎◌, ℕ, pos, List, []}
+use Rattle.line_source.specs.Lines.{lines_of}
+use Rattle.orbit_model.specs.Elements.{sent_at}
+use Rattle.orbit_model.specs.Solution.{Quantities, IsSatelliteSolution}
+use Rattle.orbit_clock.specs.Records.{elements_of}
+use Rattle.eph_store.specs.declared.record.Raw.{Raw}
+use Rattle.eph_store.specs.declared.ephemeris.Eph.{Eph}
+use Rattle.eph_store.specs.Records.{AreFit}
+use Rattle.eph_store.specs.Chosen.{IsChosenRecord, HasNoCandidate}
+use Rattle.sv_orbit.specs.Solutions.{gps}
+use Rattle.rinex_nav.specs.NavForm.{IsNavFile, HasNavFile}
+use Rattle.rinex_nav.specs.NavRules.{nav_of}
+use Rattle.report_text.specs.Orbit.{OrbitNumbers, HoldsQuantities, AreNarrow, orbit_lines, no_record_line}
+use Rattle.job_answers.specs.declared.status.Status.TheVariants.{Done, Declined}
+use Rattle.job_answers.specs.Endings.{Ending, ending, IsRefusal}
+
+-- The numbers hold the satellite of the record at that tag by the satellite's clock, as received with a code of 0: every
+-- solution of the equations has its place and its clock between them.
+abbrev pub HoldsSatellite : Eph → ℕ → OrbitNumbers → Type 0
+HoldsSatellite eph tag n = (q : Quantities) → IsSatelliteSolution gps (elements_of eph) (sent_at tag (pos 0)) q → HoldsQuantities n q
+
+-- such numbers of the record are printed, and lie near each other
+pub record IsPlacedBy (eph : Eph) (tag : ℕ) (end : Ending) : Type 0 where
+  pub numbers : OrbitNumbers
+  pub holds : HoldsSatellite eph tag numbers
+  pub narrow : AreNarrow numbers
+  pub end_is : end ≡ ending Done (orbit_lines numbers) []
+
+-- those of the chosen record at that tag
+pub record IsPlaced (fit : List Eph) (sat tag : ℕ) (end : Ending) : Type 0 where
+  pub eph : Eph
+  pub chosen : IsChosenRecord fit sat tag eph
+  pub placed : IsPlacedBy eph tag end
+
+-- no record is chosen at that tag
+pub record IsWithoutRecord (fit : List Eph) (sat tag : ℕ) (end : Ending) : Type 0 where
+  pub none : HasNoCandidate fit sat tag
+  pub end_is : end ≡ ending Declined no_record_line []
+
+abbrev pub IsFound : List Eph → ℕ → ℕ → Ending → Type 0
+IsFound fit sat tag end = IsPlaced fit sat tag end ⊎ IsWithoutRecord fit sat tag end
+
+-- the text stands for a navigation file with these records, of which these are usable
+pub record EndsByRecords (sat tag : ℕ) (text : List ℕ) (end : Ending) : Type 0 where
+  pub records : List Raw
+  pub is : IsNavFile (lines_of text) records
+  pub fit : List Eph
+  pub are_fit : AreFit records fit
+  pub found : IsFound fit sat tag end
+
+-- what a file of that name and text ends with
+abbrev pub OrbitEnds : List ℕ → ℕ → ℕ → List ℕ → Ending → Type 0
+OrbitEnds name sat tag text end = EndsByRecords sat tag text end ⊎ IsRefusal nav_of HasNavFile name text end

@@ -1,0 +1,11 @@
+use Rattle.std.proofs.Common.{◌≡◌, ◌*◌, ◌^◌, ◌≤◌, ◌*ℤ◌, unsigned_abs}
+use Rattle.obs_rows.specs.Tables.{entry}
+use Rattle.reduced_form.specs.Sums.{total}
+use Rattle.reduced_form.specs.Transformed.{with_constant}
+use Rattle.reduced_form.proofs.coordinates.whole.Given as goal
+
+abbrev pub invariant-loop-a : goal.invariant-loop-a
+invariant-loop-a l = record {
+  value : l.sum ≡ total (λ a. entry l.halves a l.j *ℤ with_constant l.n (entry l.map) a l.i) 0 l.a;
+  size : unsigned_abs l.sum ≤ l.a * 2 ^ 118;
+}

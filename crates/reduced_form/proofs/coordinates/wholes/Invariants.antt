@@ -1,0 +1,12 @@
+use Rattle.std.proofs.Common.{◌≡◌, ℕ, ◌+◌, ◌^◌, ◌<◌}
+use Rattle.obs_rows.specs.Tables.{entry, IsZeroOutside}
+use Rattle.normal_sum.specs.Matrices.{EntriesBelow}
+use Rattle.reduced_form.specs.Transformed.{whole_entry}
+use Rattle.reduced_form.proofs.coordinates.wholes.Given as goal
+
+abbrev pub invariant-loop-i : goal.invariant-loop-i
+invariant-loop-i l = record {
+  same : (k j : ℕ) → k < l.i → j < l.n + 1 → entry l.p k j ≡ whole_entry l.n (entry l.map) (entry l.halves) k j;
+  entries : EntriesBelow (2 ^ 52) l.p;
+  outside : IsZeroOutside (l.n + 1) (l.n + 1) l.p;
+}

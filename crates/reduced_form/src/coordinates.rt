@@ -1,0 +1,82 @@
+//! The form in the coordinates of a map.
+ghost use Rattle.std.specs.Prelude.{◌≡◌, ◌≢◌, ◌⊎◌, ℕ, ◌+◌, ◌-◌, ◌*◌, ◌^◌, ◌<◌, ◌≤◌, unsigned_abs, true, false, MatchOption};
+ghost use Rattle.obs_rows.specs.Tables.{entry, IsZeroOutside};
+ghost use Rattle.obs_rows.specs.declared.units.TheConstants.{MOST_INTEGERS};
+ghost use Rattle.normal_sum.specs.Matrices.{EntriesBelow};
+ghost use Rattle.integer_form.specs.Forms.{integers_of};
+ghost use Rattle.reduced_form.specs.Transformed.{whole_entry, AreWholesSmall, AreWholes, IsTransformedSmall, IsTransformed};
+
+use crate::halves::{halves, map_entry};
+use crate::products::{half_product, is_narrow};
+use decorrelate::Unimodular;
+use integer_form::{Form, FrontForm};
+use obs_rows::{FormTable, MapTable, NormalTable};
+
+// The entry in row i and column j of the turned map times the halves.
+fn whole(halves: &NormalTable, map: &MapTable, n: usize, i: usize, j: usize) -> i128
+    requires size { n ≤ MOST_INTEGERS }
+    requires column { j ≤ n }
+    requires map { EntriesBelow (2 ^ 30) map.now }
+    requires halves { (a : ℕ) → a < n + 1 → unsigned_abs (entry halves.now a j) ≤ 2 ^ 88 }
+    ensures value { result ≡ whole_entry n (entry map.now) (entry halves.now) i j }
+    ensures size { unsigned_abs result ≤ 2 ^ 124 }
+{
+    let mut sum: i128 = 0;
+    for a in 0..n + 1 {
+        sum += half_product(halves.at(a, j), map_entry(map, n, a, i));
+    }
+    sum
+}
+
+// Writes row i of the turned map times the halves; false where an entry is too large.
+fn write_row(p: &mut FormTable, halves: &NormalTable, map: &MapTable, n: usize, i: usize) -> bool
+    requires size { n ≤ MOST_INTEGERS }
+    requires row { i ≤ n }
+    requires map { EntriesBelow (2 ^ 30) map.now }
+    requires halves { (a j : ℕ) → a < n + 1 → j < n + 1 → unsigned_abs (entry halves.now a j) ≤ 2 ^ 88 }
+    requires entries { EntriesBelow (2 ^ 52) p.old }
+    requires outside { IsZeroOutside (n + 1) (n + 1) p.old }
+    ensures row { result ≡ true → (j : ℕ) → j < n + 1 → entry p.new i j ≡ whole_entry n (entry map.now) (entry halves.now) i j }
+    ensures wide { result ≡ false → ((j : ℕ) → j < n + 1 → unsigned_abs (whole_entry n (entry map.now) (entry halves.now) i j) < 2 ^ 52) → ⊥ }
+    ensures others { (k j : ℕ) → k ≢ i → entry p.new k j ≡ entry p.old k j }
+    ensures entries { EntriesBelow (2 ^ 52) p.new }
+    ensures outside { IsZeroOutside (n + 1) (n + 1) p.new }
+{
+    for j in 0..n + 1 {
+        let value = whole(halves, map, n, i, j);
+        if !is_narrow(value) {
+            return false;
+        }
+        p.set(i, j, value as i64);
+    }
+    true
+}
+
+// The turned map times the halves; None where an entry is too large.
+fn wholes(halves: &NormalTable, map: &MapTable, n: usize) -> Option<FormTable>
+    requires size { n ≤ MOST_INTEGERS }
+    requires map { EntriesBelow (2 ^ 30) map.now }
+    requires halves { (a j : ℕ) → a < n + 1 → j < n + 1 → unsigned_abs (entry halves.now a j) ≤ 2 ^ 88 }
+    ensures { MatchOption result (AreWholesSmall n (entry map.now) (entry halves.now) → ⊥) (λ p. AreWholes n (entry map.now) (entry halves.now) p) }
+{
+    let mut p = FormTable::zeros();
+    for i in 0..n + 1 {
+        if !write_row(&mut p, halves, map, n, i) {
+            return None;
+        }
+    }
+    Some(p)
+}
+
+/// The form in the coordinates of the map, before any step; None where an entry of its matrix is too large.
+pub fn transformed(form: &Form, change: &Unimodular) -> Option<FrontForm>
+    requires { change.now.size ≡ integers_of form.now }
+    ensures { MatchOption result (IsTransformedSmall (integers_of form.now) change.now.map form.now.p → ⊥) (IsTransformed (integers_of form.now) change.now.map form.now.p) }
+{
+    let n = change.size;
+    let halves = halves(&form.p, &change.map, n);
+    let Some(p) = wholes(&halves, &change.map, n) else {
+        return None;
+    };
+    Some(FrontForm::of(form.columns, form.h, &p))
+}

@@ -1,0 +1,128 @@
+-- The sum of two ranges, a move less twice a vector, and their quotient, in whole numbers; and the vector to a seen place.
+use Rattle.std.proofs.Common.{◌≡◌, ℕ, ◌<◌, [], ◌∷◌, ℤ, pos, ◌+ℤ◌, ◌-ℤ◌, ◌*ℤ◌, neg_ℤ, ◌≤ℤ◌, ◌<ℤ◌, unsigned_abs, arith, lit≤, ap, refl}
+use Rattle.std.proofs.lemmas.Int.{ints}
+use Rattle.whole_math.specs.Rounding.{floor_div, ceil_div}
+use Rattle.whole_math.proofs.Ring.{va, ko, ◌⊕◌, ◌⊖◌, ◌⊗◌, ng}
+use Rattle.whole_math.proofs.Order.{lins, mul_le_left}
+use Rattle.whole_math.proofs.Inequalities.{pos_nn, same_by}
+use Rattle.whole_math.proofs.Certificates.{cert, ◌≼◌, hy, nm, ◌⊞◌, ◌⊠◌}
+use Rattle.whole_math.proofs.Rounding.{floor_greatest, ceil_least}
+use Rattle.whole_math.proofs.Extremes.{min_case, max_case}
+use Rattle.rational.specs.Rational.{Rational, ◌≤ʳ◌, of_whole, add_r, mul_r, IsAtMostInSize}
+use Rattle.rational.proofs.Laws.{≤ʳ_trans}
+use Rattle.iv_core.specs.Boxes.{least_ratio, most_ratio}
+use Rattle.iv_core.proofs.QuotientLaws.{positive_is}
+use Rattle.orbit_model.specs.Places.{IsBetweenDistances}
+use Rattle.travel_model.specs.SeenPlaces.{Place, difference, square, point_of, IsDisplacement}
+use Rattle.travel_model.proofs.Apart.{IsBetween, vector_square, whole_le}
+use Rattle.travel_model.proofs.Exists.{coordinates, turned_round, turned_about}
+use Rattle.signal_travel.specs.declared.places.VectorBox.{VectorBox}
+use Rattle.signal_travel.specs.declared.places.Point.{Point}
+use Rattle.signal_travel.specs.VectorBoxes.{HoldsVector, HasVectorBetween}
+use Rattle.signal_travel.proofs.Sights.{lowest, lowest_held, point_place}
+
+-- ---- r + s, for r in a box and s within 33/2 of it, over numerators and denominators
+pub sum_low : (l r d s e : ℤ) → pos 0 ≤ℤ e → (l *ℤ d) ≤ℤ (r *ℤ pos 68719476736) →
+    ((((pos 2 *ℤ r) *ℤ pos 1) -ℤ (pos 33 *ℤ (pos 1 *ℤ d))) *ℤ (pos 1 *ℤ e)) ≤ℤ ((pos 2 *ℤ s) *ℤ ((pos 1 *ℤ d) *ℤ pos 1)) →
+    ((l -ℤ pos 566935683072) *ℤ (d *ℤ e)) ≤ℤ (((r *ℤ e) +ℤ (s *ℤ d)) *ℤ pos 34359738368)
+sum_low l r d s e h0 h1 h2 =
+    cert (l ∷ r ∷ d ∷ s ∷ e ∷ [])
+    ((ko (pos 0) ≼ va 4) ∷ ((va 0 ⊗ va 2) ≼ (va 1 ⊗ ko (pos 68719476736))) ∷ (((((ko (pos 2) ⊗ va 1) ⊗ ko (pos 1)) ⊖ (ko (pos 33) ⊗ (ko (pos 1) ⊗ va 2))) ⊗ (ko (pos 1) ⊗ va 4)) ≼ ((ko (pos 2) ⊗ va 3) ⊗ ((ko (pos 1) ⊗ va 2) ⊗ ko (pos 1)))) ∷ [])
+    ((va 0 ⊖ ko (pos 566935683072)) ⊗ (va 2 ⊗ va 4)) (((va 1 ⊗ va 4) ⊕ (va 3 ⊗ va 2)) ⊗ ko (pos 34359738368))
+    (((hy 0) ⊠ (hy 1)) ⊞ ((nm 17179869184) ⊠ (hy 2))) refl (h0, (h1, (h2, tt)))
+
+pub sum_high : (h r d s e : ℤ) → pos 0 ≤ℤ e → (r *ℤ pos 68719476736) ≤ℤ (h *ℤ d) →
+    ((pos 2 *ℤ s) *ℤ ((pos 1 *ℤ d) *ℤ pos 1)) ≤ℤ ((((pos 2 *ℤ r) *ℤ pos 1) +ℤ (pos 33 *ℤ (pos 1 *ℤ d))) *ℤ (pos 1 *ℤ e)) →
+    (((r *ℤ e) +ℤ (s *ℤ d)) *ℤ pos 34359738368) ≤ℤ ((h +ℤ pos 566935683072) *ℤ (d *ℤ e))
+sum_high h r d s e h0 h1 h2 =
+    cert (h ∷ r ∷ d ∷ s ∷ e ∷ [])
+    ((ko (pos 0) ≼ va 4) ∷ ((va 1 ⊗ ko (pos 68719476736)) ≼ (va 0 ⊗ va 2)) ∷ (((ko (pos 2) ⊗ va 3) ⊗ ((ko (pos 1) ⊗ va 2) ⊗ ko (pos 1))) ≼ ((((ko (pos 2) ⊗ va 1) ⊗ ko (pos 1)) ⊕ (ko (pos 33) ⊗ (ko (pos 1) ⊗ va 2))) ⊗ (ko (pos 1) ⊗ va 4))) ∷ [])
+    (((va 1 ⊗ va 4) ⊕ (va 3 ⊗ va 2)) ⊗ ko (pos 34359738368)) ((va 0 ⊕ ko (pos 566935683072)) ⊗ (va 2 ⊗ va 4))
+    (((hy 0) ⊠ (hy 1)) ⊞ ((nm 17179869184) ⊠ (hy 2))) refl (h0, (h1, (h2, tt)))
+
+-- ---- m − 2 q, for q in a box and m of at most 16 in size
+pub move_low : (h q d m e : ℤ) → pos 0 ≤ℤ d → pos 0 ≤ℤ e → (q *ℤ pos 68719476736) ≤ℤ (h *ℤ d) → (neg_ℤ m *ℤ pos 1) ≤ℤ (pos 16 *ℤ e) →
+    ((neg_ℤ h -ℤ pos 549755813888) *ℤ (e *ℤ (pos 1 *ℤ d))) ≤ℤ (((m *ℤ (pos 1 *ℤ d)) -ℤ ((pos 2 *ℤ q) *ℤ e)) *ℤ pos 34359738368)
+move_low h q d m e h0 h1 h2 h3 =
+    cert (h ∷ q ∷ d ∷ m ∷ e ∷ [])
+    ((ko (pos 0) ≼ va 2) ∷ (ko (pos 0) ≼ va 4) ∷ ((va 1 ⊗ ko (pos 68719476736)) ≼ (va 0 ⊗ va 2)) ∷ ((ng (va 3) ⊗ ko (pos 1)) ≼ (ko (pos 16) ⊗ va 4)) ∷ [])
+    ((ng (va 0) ⊖ ko (pos 549755813888)) ⊗ (va 4 ⊗ (ko (pos 1) ⊗ va 2))) (((va 3 ⊗ (ko (pos 1) ⊗ va 2)) ⊖ ((ko (pos 2) ⊗ va 1) ⊗ va 4)) ⊗ ko (pos 34359738368))
+    (((hy 1) ⊠ (hy 2)) ⊞ (((nm 34359738368) ⊠ (hy 0)) ⊠ (hy 3))) refl (h0, (h1, (h2, (h3, tt))))
+
+pub move_high : (l q d m e : ℤ) → pos 0 ≤ℤ d → pos 0 ≤ℤ e → (l *ℤ d) ≤ℤ (q *ℤ pos 68719476736) → (m *ℤ pos 1) ≤ℤ (pos 16 *ℤ e) →
+    (((m *ℤ (pos 1 *ℤ d)) -ℤ ((pos 2 *ℤ q) *ℤ e)) *ℤ pos 34359738368) ≤ℤ ((pos 549755813888 -ℤ l) *ℤ (e *ℤ (pos 1 *ℤ d)))
+move_high l q d m e h0 h1 h2 h3 =
+    cert (l ∷ q ∷ d ∷ m ∷ e ∷ [])
+    ((ko (pos 0) ≼ va 2) ∷ (ko (pos 0) ≼ va 4) ∷ ((va 0 ⊗ va 2) ≼ (va 1 ⊗ ko (pos 68719476736))) ∷ ((va 3 ⊗ ko (pos 1)) ≼ (ko (pos 16) ⊗ va 4)) ∷ [])
+    (((va 3 ⊗ (ko (pos 1) ⊗ va 2)) ⊖ ((ko (pos 2) ⊗ va 1) ⊗ va 4)) ⊗ ko (pos 34359738368)) ((ko (pos 549755813888) ⊖ va 0) ⊗ (va 4 ⊗ (ko (pos 1) ⊗ va 2)))
+    (((hy 1) ⊠ (hy 2)) ⊞ (((nm 34359738368) ⊠ (hy 0)) ⊠ (hy 3))) refl (h0, (h1, (h2, (h3, tt))))
+
+-- ---- quotients of a to b, times p, that are at most t times the least divisor in size
+pub ratio_size : (a b c d : ℤ) (p t : ℕ) → pos 0 <ℤ c → c ≤ℤ d → neg_ℤ (pos t *ℤ c) ≤ℤ (a *ℤ pos p) → (b *ℤ pos p) ≤ℤ (pos t *ℤ c) →
+    (neg_ℤ (pos t) ≤ℤ least_ratio a b c d p) × (most_ratio a b c d p ≤ℤ pos t)
+ratio_size a b c d p t c0 cd l u =
+    rw (positive_is c c0) (
+      min_case (λ z. neg_ℤ (pos t) ≤ℤ z) (floor_div (a *ℤ pos p) (unsigned_abs c)) (floor_div (a *ℤ pos p) (unsigned_abs d)) (low c c0 cc) (low d d0 cd),
+      max_case (λ z. z ≤ℤ pos t) (ceil_div (b *ℤ pos p) (unsigned_abs c)) (ceil_div (b *ℤ pos p) (unsigned_abs d)) (high c c0 cc) (high d d0 cd),
+    )
+  where
+    cc : c ≤ℤ c
+    cc = omega (arith, lins)
+
+    d0 : pos 0 <ℤ d
+    d0 = omega (arith, lins)
+
+    plain : (y : ℤ) → pos 0 <ℤ y → (0 < unsigned_abs y) × (pos (unsigned_abs y) ≡ y)
+    plain y h = (omega (arith, ints), omega (arith, ints))
+
+    low : (y : ℤ) → pos 0 <ℤ y → c ≤ℤ y → neg_ℤ (pos t) ≤ℤ floor_div (a *ℤ pos p) (unsigned_abs y)
+    low y h k =
+        let f = plain y h in
+        let i : neg_ℤ (pos t) *ℤ pos (unsigned_abs y) ≡ neg_ℤ (pos t *ℤ pos (unsigned_abs y)) = same_by (pos t ∷ pos (unsigned_abs y) ∷ []) (λ t y. (ng t ⊗ y, ng (t ⊗ y))) refl in
+        let o : pos t *ℤ pos (unsigned_abs y) ≡ pos t *ℤ y = ap (λ z. pos t *ℤ z) f.1 in
+        let m : (pos t *ℤ c) ≤ℤ (pos t *ℤ y) = mul_le_left (pos t) c y (pos_nn t) k in
+        floor_greatest (a *ℤ pos p) (neg_ℤ (pos t)) (unsigned_abs y) f.0 (omega (arith, lins, i, o, m, l))
+
+    high : (y : ℤ) → pos 0 <ℤ y → c ≤ℤ y → ceil_div (b *ℤ pos p) (unsigned_abs y) ≤ℤ pos t
+    high y h k =
+        let f = plain y h in
+        let o : pos t *ℤ pos (unsigned_abs y) ≡ pos t *ℤ y = ap (λ z. pos t *ℤ z) f.1 in
+        let m : (pos t *ℤ c) ≤ℤ (pos t *ℤ y) = mul_le_left (pos t) c y (pos_nn t) k in
+        ceil_least (b *ℤ pos p) (pos t) (unsigned_abs y) f.0 (omega (arith, lins, o, m, u))
+
+-- ---- the bounds of a number, from those of its box
+pub in_spread_low : (l v n d : ℤ) → v ≤ℤ l → pos 0 ≤ℤ d → (l *ℤ d) ≤ℤ (n *ℤ pos 16777216) → (v *ℤ (pos 1 *ℤ d)) ≤ℤ ((pos 16777216 *ℤ n) *ℤ pos 1)
+in_spread_low l v n d h0 h1 h2 =
+    cert (l ∷ v ∷ n ∷ d ∷ []) ((va 1 ≼ va 0) ∷ (ko (pos 0) ≼ va 3) ∷ ((va 0 ⊗ va 3) ≼ (va 2 ⊗ ko (pos 16777216))) ∷ []) (va 1 ⊗ (ko (pos 1) ⊗ va 3)) ((ko (pos 16777216) ⊗ va 2) ⊗ ko (pos 1)) (((hy 0) ⊠ (hy 1)) ⊞ (hy 2)) refl (h0, (h1, (h2, tt)))
+
+pub in_spread_high : (h v n d : ℤ) → h ≤ℤ v → pos 0 ≤ℤ d → (n *ℤ pos 16777216) ≤ℤ (h *ℤ d) → ((pos 16777216 *ℤ n) *ℤ pos 1) ≤ℤ (v *ℤ (pos 1 *ℤ d))
+in_spread_high h v n d h0 h1 h2 =
+    cert (h ∷ v ∷ n ∷ d ∷ []) ((va 0 ≼ va 1) ∷ (ko (pos 0) ≼ va 3) ∷ ((va 2 ⊗ ko (pos 16777216)) ≼ (va 0 ⊗ va 3)) ∷ []) ((ko (pos 16777216) ⊗ va 2) ⊗ ko (pos 1)) (va 1 ⊗ (ko (pos 1) ⊗ va 3)) (((hy 0) ⊠ (hy 1)) ⊞ (hy 2)) refl (h0, (h1, (h2, tt)))
+
+-- ---- the vectors from the point to the places of a box
+pub seen_square : (b : VectorBox) (p : Point) (q : Place) → IsBetweenDistances 18900000 38100000 b.x b.y b.z → HoldsVector b q → IsBetween 141000000000000 2040000000000000 (square (difference q (point_of p.x p.y p.z)))
+seen_square b p q away h =
+    let s = away q.x q.y q.z h.0 h.1 h.2 in
+    vector_square q (point_of p.x p.y p.z) (record { low = s.0; high = s.1 }) (point_place p)
+
+pub seen_between : (b v : VectorBox) (p : Point) → IsBetweenDistances 18900000 38100000 b.x b.y b.z → ((q : Place) → HoldsVector b q → HoldsVector v (difference q (point_of p.x p.y p.z))) → HasVectorBetween 141000000000000 2040000000000000 v
+seen_between b v p away holds =
+    let s = seen_square b p (lowest b) away (lowest_held b) in
+    record { vector = difference (lowest b) (point_of p.x p.y p.z); held = holds (lowest b) (lowest_held b); far = s.low; near = s.high }
+
+-- within the limits of the law on the change of the range
+pub far_enough : (q : Rational) → IsBetween 141000000000000 2040000000000000 q → of_whole (pos 100000000000000) ≤ʳ q
+far_enough q h = ≤ʳ_trans (of_whole (pos 100000000000000)) (of_whole (pos 141000000000000)) q (whole_le 100000000000000 141000000000000 (lit≤ tt)) h.low
+
+pub near_enough : (q : Rational) → IsBetween 141000000000000 2040000000000000 q → q ≤ʳ of_whole (pos 2251799813685248)
+near_enough q h = ≤ʳ_trans q (of_whole (pos 2040000000000000)) (of_whole (pos 2251799813685248)) h.high (whole_le 2040000000000000 2251799813685248 (lit≤ tt))
+
+-- the coordinates of a displacement
+pub move_x : (m : Place) → IsDisplacement m → IsAtMostInSize (of_whole (pos 16)) m.x
+move_x m h = coordinates m.x m.y m.z 16 h
+
+pub move_y : (m : Place) → IsDisplacement m → IsAtMostInSize (of_whole (pos 16)) m.y
+move_y m h = coordinates m.y m.x m.z 16 (≤ʳ_trans (add_r (add_r (mul_r m.y m.y) (mul_r m.x m.x)) (mul_r m.z m.z)) (square m) (of_whole (pos 256)) (turned_round m.x m.y m.z) h)
+
+pub move_z : (m : Place) → IsDisplacement m → IsAtMostInSize (of_whole (pos 16)) m.z
+move_z m h = coordinates m.z m.y m.x 16 (≤ʳ_trans (add_r (add_r (mul_r m.z m.z) (mul_r m.y m.y)) (mul_r m.x m.x)) (square m) (of_whole (pos 256)) (turned_about m.x m.y m.z) h)

@@ -1,0 +1,20 @@
+-- What a spread says of a number, and three of a direction.
+use Rattle.std.specs.Prelude.{◌^◌, List, [], ◌∷◌, pos}
+use Rattle.rational.specs.Rational.{Rational, Near, of_whole, mul_r}
+use Rattle.travel_model.specs.SeenPlaces.{Place}
+use Rattle.signal_travel.specs.declared.spread.Spread.{Spread}
+
+-- 2^24 q is within the radius of the centre
+abbrev pub IsInSpread : Spread → Rational → Type 0
+IsInSpread s q = Near s.centre s.radius (mul_r (of_whole (pos (2 ^ 24))) q)
+
+-- each rational is in the spread in its place, and the lists are equally long
+abbrev pub AreInSpreads : List Spread → List Rational → Type 0
+AreInSpreads [] [] = Unit {0}
+AreInSpreads [] (q ∷ qs) = ⊥
+AreInSpreads (s ∷ ss) [] = ⊥
+AreInSpreads (s ∷ ss) (q ∷ qs) = IsInSpread s q × AreInSpreads ss qs
+
+-- each coordinate is in its spread
+abbrev pub HoldsDirection : List Spread → Place → Type 0
+HoldsDirection spreads q = AreInSpreads spreads (q.x ∷ q.y ∷ q.z ∷ [])

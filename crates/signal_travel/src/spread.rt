@@ -1,0 +1,12 @@
+// A number between bounds.
+ghost use Rattle.std.specs.Prelude.{◌^◌, ◌≤◌, pos, ◌≤ℤ◌, unsigned_abs};
+
+/// A number between bounds that are given by their middle, in units of 2^-24: from `centre` − `radius` to `centre` + `radius`.
+#[derive(Clone, Copy, Debug)]
+pub struct Spread {
+    pub centre: i64,
+    pub radius: i64,
+    pub ghost centre_in: { unsigned_abs centre ≤ 2 ^ 24 },
+    pub ghost radius_least: { pos 0 ≤ℤ radius },
+    pub ghost radius_most: { radius ≤ℤ pos 32 },
+}

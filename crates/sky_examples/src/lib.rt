@@ -1,0 +1,11 @@
+//! Places of satellites and what a receiver sees of them, against an independent calculation. There is nothing here but tests.
+#![tactic(auto)]
+
+#[cfg(test)]
+mod places;
+#[cfg(test)]
+mod records;
+#[cfg(test)]
+mod sightings;
+#[cfg(test)]
+mod tests;
