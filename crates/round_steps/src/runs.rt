@@ -17,6 +17,9 @@ pub trait Rounds {
     /// What the run keeps to: its sessions stand for these files and options.
     ghost rules: { Self → Rules };
 
+    /// What its calls rest on.
+    ghost ready: { Self → Type 0 };
+
     /// The session of the round at this point with these arcs, or `None` where a centre of y may be out of range.
     fn session(
         &self,
@@ -25,6 +28,7 @@ pub trait Rounds {
         point: &[i64; 3],
         scale: u32,
     ) -> Result<Option<Session>, AllocError>
+        requires ready { ready self.now }
         requires scale { IsScale scale }
         requires point { IsReceiverPoint point.now }
         requires arcs { AreSameArcs (rules self.now).arcs arcs.now }
@@ -33,6 +37,7 @@ pub trait Rounds {
 
     /// The arcs with shifts that the first fine round may have at this point.
     fn first_shifts(&self, alloc: Global, point: &[i64; 3]) -> Result<Vec<Arc>, AllocError>
+        requires ready { ready self.now }
         requires point { IsReceiverPoint point.now }
         ensures begins { IfOk result (λ v. (rules self.now).begins point.now v.items) }
         ensures arcs { IfOk result (λ v. AreSameArcs (rules self.now).arcs v.items) }
@@ -71,6 +76,7 @@ fn coarse_rounds<R: Rounds>(
     arcs: &[Arc],
     base: &[i64; 3],
 ) -> Result<CoarseEnd, AllocError>
+    requires ready { R.ready rounds.now }
     requires base { base.now ≡ (R.rules rounds.now).base }
     requires arcs { arcs.now ≡ (R.rules rounds.now).arcs }
     requires point { IsReceiverPoint base.now }
@@ -101,6 +107,7 @@ fn fine_rounds<R: Rounds>(
     ratio: u32,
     budget: u64,
 ) -> Result<End, AllocError>
+    requires ready { R.ready rounds.now }
     requires first { SettlesAt (R.rules rounds.now) first.now }
     requires few { length (R.rules rounds.now).arcs ≤ 200 }
     requires free { free_count (R.rules rounds.now).arcs ≤ 20 }
@@ -149,6 +156,7 @@ pub fn run<R: Rounds>(
     ratio: u32,
     budget: u64,
 ) -> Result<End, AllocError>
+    requires ready { R.ready rounds.now }
     requires base { base.now ≡ (R.rules rounds.now).base }
     requires arcs { arcs.now ≡ (R.rules rounds.now).arcs }
     requires point { IsReceiverPoint base.now }

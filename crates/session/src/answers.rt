@@ -29,6 +29,7 @@ pub fn answer<R: Rounds>(
     base: &[i64; 3],
     options: &Options,
 ) -> Result<Answer, AllocError>
+    requires ready { R.ready rounds.now }
     requires base { base.now ≡ (R.rules rounds.now).base }
     requires arcs { kept.now ≡ (R.rules rounds.now).arcs }
     requires point { IsReceiverPoint base.now }

@@ -33,6 +33,7 @@ pub fn outcome<R: Rounds>(
     delta: bool,
     options: &Options,
 ) -> Result<Outcome, AllocError>
+    requires ready { R.ready rounds.now }
     requires base { begun.now.position ≡ (R.rules rounds.now).base }
     requires arcs { kept.now ≡ (R.rules rounds.now).arcs }
     requires point { IsReceiverPoint begun.now.position }
