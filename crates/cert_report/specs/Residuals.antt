@@ -1,7 +1,7 @@
 -- What is printed of a certificate's residuals: of each row how far each of its observations lies from the mean of its
 -- pair, at the tail's first integers with its move, in micrometres.
 use Rattle.std.specs.Prelude.{◌≡◌, ℕ, ℤ, pos, ◌≤◌, ◌^◌, ◌*◌, ◌-ℤ◌, ◌*ℤ◌, Bool, true, false, List, [], ◌∷◌, ◌++◌, length, map, codes, All}
-use Rattle.std.specs.Fmt.{decimal, signed_decimal}
+use Rattle.std.specs.Fmt.{decimal}
 use Rattle.whole_math.specs.Rounding.{nearest_div}
 use Rattle.whole_math.specs.Vectors.{sum}
 use Rattle.obs_rows.specs.declared.arcs.Arc.{Arc}
@@ -12,6 +12,7 @@ use Rattle.obs_rows.specs.declared.units.TheConstants.{MOST_FREE_ARCS}
 use Rattle.obs_rows.specs.Arcs.{free_count}
 use Rattle.obs_rows.specs.Ranges.{IsBelow, IsWithin}
 use Rattle.obs_rows.specs.Integers.{integer_count}
+use Rattle.cert_words.specs.Spelling.{behind_blanks}
 use Rattle.fix_decide.specs.UpperSums.{centre}
 use Rattle.fix_decide.specs.Decisions.{first_of}
 use Rattle.cert_data.specs.declared.certs.Cert.{Cert}
@@ -37,13 +38,8 @@ residual arcs z m rows r s = micrometres ((pos (length rows) *ℤ centre arcs z 
 abbrev pub residuals : List Arc → List ℤ → List ℤ → List Row → Row → List ℤ
 residuals arcs z m rows r = residual arcs z m rows r 0 ∷ residual arcs z m rows r 1 ∷ residual arcs z m rows r 2 ∷ residual arcs z m rows r 3 ∷ []
 
--- each number behind one blank
-abbrev pub behind_blanks : List ℤ → List ℕ
-behind_blanks [] = []
-behind_blanks (x ∷ xs) = codes " " ++ (signed_decimal x ++ behind_blanks xs)
-
 abbrev pub row_line : ℕ → ℕ → List ℤ → List ℕ
-row_line number arc rs = decimal number ++ (codes " " ++ (decimal arc ++ (behind_blanks rs ++ codes "\n")))
+row_line number arc rs = decimal number ++ (codes " " ++ (decimal arc ++ (behind_blanks rs ++ 10 ∷ [])))
 
 -- each row of a pair on a line of its own
 abbrev pub rows_text : List Arc → List ℤ → List ℤ → ℕ → List Row → List Row → List ℕ
@@ -68,5 +64,5 @@ tail_text s (Fixed h moved best top) = session_text s (first_of best) moved
 tail_text s (Unseparated h moved best top) = session_text s (first_of best) moved
 tail_text s _ = codes "nothing to show\n"
 
-unfoldable pub residuals_text : Cert → List ℕ
+abbrev pub residuals_text : Cert → List ℕ
 residuals_text c = tail_text c.session c.tail

@@ -1,13 +1,17 @@
 //! The residuals of a certificate's rows.
-ghost use Rattle.std.specs.Prelude.{◌≡◌, ◌≤◌, ◌<◌, ◌^◌, ◌*◌, ◌++◌, map, length, All, unsigned_abs, IsTrue, ◌↔◌, OnOk, IfOk, true};
+ghost use Rattle.std.specs.Prelude.{◌≡◌, ◌≤◌, ◌<◌, ◌^◌, ◌*◌, ◌++◌, ◌+◌, pos, ◌+ℤ◌, ◌-ℤ◌, ◌*ℤ◌, map, length, All, unsigned_abs, codes, true, false, OnOk, IfOk};
 ghost use Rattle.whole_math.specs.Vectors.{sum};
-ghost use Rattle.obs_rows.specs.Arcs.{IsOfPair};
+ghost use Rattle.obs_rows.specs.Ranges.{IsBelow};
+ghost use Rattle.obs_rows.specs.Integers.{integer_count};
 ghost use Rattle.obs_rows.specs.Pairs.{HasItsArcs};
+ghost use Rattle.int_search.specs.Vectors.{IsSmall};
 ghost use Rattle.fix_decide.specs.UpperSums.{centre};
 ghost use Rattle.fix_decide.specs.Decisions.{first_of};
-ghost use Rattle.cert_report.specs.Residuals.{CanShow, micrometres, residual, residuals, row_line, rows_text, pairs_text, session_text, has_vectors, tail_text, residuals_text};
+ghost use Rattle.cert_words.specs.Spelling.{behind_blanks};
+ghost use Rattle.cert_report.specs.Residuals.{CanShow, micrometres, residual, residuals, row_line, rows_text, session_text, has_vectors, residuals_text};
 
 use cert_data::{Cert, Tail, TwoBest};
+use cert_words::push_number;
 use fix_decide::centre_of;
 use obs_rows::{Arc, PairRows, Row, SIGNALS, Session};
 use std::alloc::{AllocError, Global};
@@ -29,6 +33,26 @@ fn micrometres(times: i128, count: usize) -> i128
     nearest(times * MICROMETRES, count as i128 * UNITS)
 }
 
+fn plus(sum: i128, more: i64) -> i128
+    requires sum { unsigned_abs sum ≤ 14 * 2 ^ 57 }
+    requires more { unsigned_abs more ≤ 2 ^ 57 }
+    ensures value { result ≡ sum +ℤ more }
+    ensures size { unsigned_abs result ≤ unsigned_abs sum + 2 ^ 57 }
+{
+    sum + more as i128
+}
+
+// n · own - all
+fn apart(count: usize, own: i64, all: i128) -> i128
+    requires count { count ≤ 15 }
+    requires own { unsigned_abs own ≤ 2 ^ 57 }
+    requires all { unsigned_abs all ≤ 15 * 2 ^ 57 }
+    ensures value { result ≡ (pos count *ℤ own) -ℤ all }
+    ensures size { unsigned_abs result ≤ 2 ^ 62 }
+{
+    count as i128 * own as i128 - all
+}
+
 // The sum over the rows of a pair, as a signal sees them.
 fn sum_of(arcs: &[Arc], z: &[i64], moved: &[i64; 3], rows: &[Row], signal: usize) -> i128
     requires shown { CanShow arcs.now z.now moved.now }
@@ -40,7 +64,7 @@ fn sum_of(arcs: &[Arc], z: &[i64], moved: &[i64; 3], rows: &[Row], signal: usize
 {
     let mut sum: i128 = 0;
     for row in rows {
-        sum += centre_of(arcs, z, moved, row, signal) as i128;
+        sum = plus(sum, centre_of(arcs, z, moved, row, signal));
     }
     sum
 }
@@ -63,8 +87,18 @@ fn residual_of(
     ensures { result ≡ residual arcs.now z.now moved.now rows.now row.now signal }
 {
     let all = sum_of(arcs, z, moved, rows, signal);
-    let own = centre_of(arcs, z, moved, row, signal) as i128;
-    micrometres(rows.len() as i128 * own - all, rows.len())
+    let own = centre_of(arcs, z, moved, row, signal);
+    micrometres(apart(rows.len(), own, all), rows.len())
+}
+
+// Each number behind one blank.
+fn push_each(out: &mut Vec<u8>, numbers: &[i128]) -> Result<(), AllocError>
+    ensures { OnOk result (out.new.items ≡ out.old.items ++ behind_blanks numbers.now) }
+{
+    for number in numbers {
+        push_number(out, *number)?;
+    }
+    Ok(())
 }
 
 // The line of a row.
@@ -77,9 +111,11 @@ fn write_row(
 ) -> Result<(), AllocError>
     ensures { OnOk result (out.new.items ≡ out.old.items ++ row_line number arc all.now) }
 {
-    let [a, b, c, d] = *all;
-    let line = format!(in alloc; "{number} {arc} {a} {b} {c} {d}\n")?;
-    out.extend_from_slice(line.as_bytes())
+    let head = format!(in alloc; "{number} {arc}")?;
+    out.extend_from_slice(head.as_bytes())?;
+    push_each(out, all)?;
+    out.push(b'\n')?;
+    Ok(())
 }
 
 // The residuals of a row.
@@ -144,6 +180,32 @@ fn write_session(
     Ok(())
 }
 
+// Shows the rows at the first integers with this move.
+fn write_shown(
+    alloc: Global,
+    out: &mut Vec<u8>,
+    session: &Session,
+    best: &TwoBest,
+    moved: &[i64; 3],
+) -> Result<bool, AllocError>
+    requires size { best.now.size ≡ integer_count session.now.arcs 0 }
+    requires small { IsSmall best.now.first }
+    requires moved { All (IsBelow (2 ^ 46)) moved.now }
+    ensures text { OnOk result (out.new.items ≡ out.old.items ++ session_text session.now (first_of best.now) moved.now) }
+    ensures shown { IfOk result (λ shown. shown ≡ true) }
+{
+    write_session(alloc, out, session, &best.first[..best.size], moved)?;
+    Ok(true)
+}
+
+fn write_nothing(out: &mut Vec<u8>) -> Result<bool, AllocError>
+    ensures text { OnOk result (out.new.items ≡ out.old.items ++ codes "nothing to show\n") }
+    ensures shown { IfOk result (λ shown. shown ≡ false) }
+{
+    out.extend_from_slice(b"nothing to show\n")?;
+    Ok(false)
+}
+
 /// Appends a line for each row of a certificate: its pair's number, its arc, and how far each of its observations lies
 /// from the mean of its pair, at the tail's first integers with its move, in micrometres. Where the tail has no
 /// vectors, it appends that there is nothing to show, and answers that.
@@ -152,13 +214,13 @@ pub fn write_residuals(alloc: Global, out: &mut Vec<u8>, cert: &Cert) -> Result<
     ensures shown { IfOk result (λ shown. shown ≡ has_vectors cert.now.tail) }
 {
     match &cert.tail {
-        Tail::Fixed { moved, best, .. } | Tail::Unseparated { moved, best, .. } => {
-            write_session(alloc, out, &cert.session, &best.first[..best.size], moved)?;
-            Ok(true)
+        Tail::Fixed { moved, best, .. } => write_shown(alloc, out, &cert.session, best, moved),
+        Tail::Unseparated { moved, best, .. } => {
+            write_shown(alloc, out, &cert.session, best, moved)
         }
-        _ => {
-            out.extend_from_slice(b"nothing to show\n")?;
-            Ok(false)
-        }
+        Tail::Weak { .. } => write_nothing(out),
+        Tail::Overwidth { .. } => write_nothing(out),
+        Tail::Unsettled { .. } => write_nothing(out),
+        Tail::Spent { .. } => write_nothing(out),
     }
 }
