@@ -13,12 +13,12 @@ some_inj : (a b : Arc) → Some a ≡ Some b → a ≡ b
 some_inj a b e = cc
 
 -- the arc of number k in the one list has its like in the other
-record Like (arcs : List Arc) (k : ℕ) (a : Arc) : Type 0 where
-  arc : Arc
-  arc_is : slice_get arcs k ≡ Some arc
-  same : without_shifts arc ≡ without_shifts a
+pub record Like (arcs : List Arc) (k : ℕ) (a : Arc) : Type 0 where
+  pub arc : Arc
+  pub arc_is : slice_get arcs k ≡ Some arc
+  pub same : without_shifts arc ≡ without_shifts a
 
-like : (xs ys : List Arc) → AreSameArcs xs ys → (k : ℕ) (a : Arc) → slice_get xs k ≡ Some a → Like ys k a
+pub like : (xs ys : List Arc) → AreSameArcs xs ys → (k : ℕ) (a : Arc) → slice_get xs k ≡ Some a → Like ys k a
 like [] ys e k a h = absurd cc
 like (x ∷ xs) [] e k a h = absurd cc
 like (x ∷ xs) (y ∷ ys) e zero a h = record { arc = y; arc_is = refl; same = heads (without_shifts y) (without_shifts x) (map without_shifts ys) (map without_shifts xs) e ∙ ap without_shifts (some_inj x a h) }

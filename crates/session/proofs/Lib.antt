@@ -1,2 +1,4 @@
 pub mod BeginLaws
 pub mod CutLaws
+pub mod RangeLaws
+pub mod FirstArcs

@@ -1,2 +1,4 @@
 pub mod Beginnings
 pub mod Answers
+pub mod FileRules
+pub mod Outcomes

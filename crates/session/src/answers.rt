@@ -2,7 +2,7 @@
 ghost use Rattle.std.specs.Prelude.{◌≡◌, ◌^◌, IfOk};
 ghost use Rattle.round_steps.specs.Points.{IsReceiverPoint};
 ghost use Rattle.round_steps.specs.Shifts.{AreShiftsBelow};
-ghost use Rattle.session.specs.Answers.{counted, IsAnswer, IsBestAnswer};
+ghost use Rattle.session.specs.Answers.{counted, GoesOn, IsAnswer, IsBestAnswer};
 
 use cert_data::{Answer, Cert};
 use obs_rows::{Arc, free_arcs};
@@ -29,7 +29,7 @@ pub fn answer<R: Rounds>(
     base: &[i64; 3],
     options: &Options,
 ) -> Result<Answer, AllocError>
-    requires ready { R.ready rounds.now }
+    requires ready { GoesOn (R.rules rounds.now) taken → R.ready rounds.now }
     requires base { base.now ≡ (R.rules rounds.now).base }
     requires arcs { kept.now ≡ (R.rules rounds.now).arcs }
     requires point { IsReceiverPoint base.now }

@@ -2,7 +2,7 @@
 ghost use Rattle.std.specs.Prelude.{◌≡◌, ◌≤◌, ◌^◌, ◌⊎◌, ◌↔◌, length, IsTrue, IfOk};
 ghost use Rattle.round_steps.specs.Points.{IsReceiverPoint};
 ghost use Rattle.round_steps.specs.Shifts.{AreShiftsBelow};
-ghost use Rattle.session.specs.Answers.{counted, HasDelta, IsAnswer, IsBestAnswer};
+ghost use Rattle.session.specs.Answers.{counted, GoesOn, HasDelta, IsAnswer, IsBestAnswer};
 
 use crate::{Begun, answer, counted};
 use cert_data::Outcome;
@@ -33,7 +33,7 @@ pub fn outcome<R: Rounds>(
     delta: bool,
     options: &Options,
 ) -> Result<Outcome, AllocError>
-    requires ready { R.ready rounds.now }
+    requires ready { GoesOn (R.rules rounds.now) (length begun.now.taken.items) → R.ready rounds.now }
     requires base { begun.now.position ≡ (R.rules rounds.now).base }
     requires arcs { kept.now ≡ (R.rules rounds.now).arcs }
     requires point { IsReceiverPoint begun.now.position }

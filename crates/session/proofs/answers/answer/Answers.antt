@@ -38,3 +38,9 @@ returns-in-Ok-Full-clause-answer g c =
     } in
     let e : EndsFull rules c.args.options.now.ratio c.args.options.now.budget c.in-Ok-Full.session c.in-Ok-Full.tail = subst (IsEnd rules c.args.options.now.ratio c.args.options.now.budget) c.in-Ok-Full.field-0-is c.in-Ok-Full.ensures.end in
     (on, record { ratio = refl; budget = refl; ends = e })
+
+pub run-requires-clause-ready : goal.run-requires-clause-ready
+run-requires-clause-ready g c = c.requires.ready (record {
+  not_few = λ h. false≢true (c.if-are_few.ensures.1 (subst (AreFew c.args.taken) (sym c.requires.arcs) h));
+  not_many = λ h. false≢true (c.if-are_many.ensures.1 (subst AreMany (sym c.requires.arcs) h));
+})
