@@ -1,4 +1,3 @@
-pub mod BeginLaws
 pub mod CutLaws
 pub mod RangeLaws
 pub mod FirstArcs

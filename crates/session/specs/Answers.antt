@@ -6,7 +6,7 @@ use Rattle.cert_data.specs.declared.tails.Tail.{Tail}
 use Rattle.cert_data.specs.declared.certs.Cert.{Cert}
 use Rattle.cert_data.specs.declared.outcomes.Answer.{Answer}
 use Rattle.cert_data.specs.declared.outcomes.Answer.TheVariants.{Few, Arcs, Early, Full}
-use Rattle.round_steps.specs.declared.options.Options.{Options}
+use Rattle.run_options.specs.declared.options.Options.{Options}
 use Rattle.round_steps.specs.Counts.{AreFew, AreMany}
 use Rattle.round_steps.specs.Runs.{Rules, EndsEarly, EndsFull}
 use Rattle.round_steps.specs.Steps.{IsBestWhereFixed}

@@ -1,4 +1,3 @@
-pub mod Beginnings
 pub mod Answers
 pub mod FileRules
 pub mod Outcomes

@@ -9,9 +9,9 @@ use Rattle.slip_arcs.specs.Runs.{AreKept}
 use Rattle.slip_arcs.specs.Linked.{HaveDatums}
 use Rattle.screening.specs.Screening.{setting_of, AreUsedPairs, IsSvPair}
 use Rattle.cert_data.specs.declared.outcomes.Outcome.{Outcome}
-use Rattle.round_steps.specs.declared.options.Options.{Options}
+use Rattle.run_options.specs.declared.options.Options.{Options}
 use Rattle.session.specs.declared.file_rounds.FileRounds.{FileRounds}
-use Rattle.session.specs.Beginnings.{IsPosition, AreSignals, AreSparse, AreTaken, pairs_of}
+use Rattle.session_begin.specs.Beginnings.{IsPosition, AreSignals, AreSparse, AreTaken, pairs_of}
 use Rattle.session.specs.Answers.{counted, HasDelta, IsAnswer}
 use Rattle.session.specs.FileRules.{rules_of}
 

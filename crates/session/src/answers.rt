@@ -6,7 +6,8 @@ ghost use Rattle.session.specs.Answers.{counted, GoesOn, IsAnswer, IsBestAnswer}
 
 use cert_data::{Answer, Cert};
 use obs_rows::{Arc, free_arcs};
-use round_steps::{End, Options, Rounds, are_few, are_many, run};
+use round_steps::{End, Rounds, are_few, are_many, run};
+use session_begin::Options;
 use std::alloc::{AllocError, Global};
 
 /// A count, which stands still at the end of its type.

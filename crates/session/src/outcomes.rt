@@ -4,11 +4,12 @@ ghost use Rattle.round_steps.specs.Points.{IsReceiverPoint};
 ghost use Rattle.round_steps.specs.Shifts.{AreShiftsBelow};
 ghost use Rattle.session.specs.Answers.{counted, GoesOn, HasDelta, IsAnswer, IsBestAnswer};
 
-use crate::{Begun, answer, counted};
+use crate::{answer, counted};
 use cert_data::Outcome;
 use obs_rows::Arc;
 use obs_store::ObsFile;
-use round_steps::{Options, Rounds};
+use round_steps::Rounds;
+use session_begin::{Begun, Options};
 use std::alloc::{AllocError, Global};
 
 fn has_delta(file: &ObsFile) -> bool

@@ -2,16 +2,16 @@
 ghost use Rattle.std.specs.Prelude.{◌≡◌, ◌≤◌, All, AllPairs, length, IfOk, IfErr};
 ghost use Rattle.obs_store.specs.Epochs.{tags_of};
 ghost use Rattle.epoch_pair.specs.Pairs.{Follows, IsNearPair};
-ghost use Rattle.session.specs.Beginnings.{IsPosition, IsSessionFault};
+ghost use Rattle.session_begin.specs.Beginnings.{IsPosition, IsSessionFault};
 ghost use Rattle.session.specs.Answers.{IsBestAnswer};
 ghost use Rattle.session.specs.Outcomes.{AreScreened, IsOutcome};
 
-use crate::{Begun, FileRounds, SessionFault, begin, have_delta, outcome};
+use crate::{FileRounds, have_delta, outcome};
 use cert_data::Outcome;
 use eph_store::NavFile;
 use obs_store::ObsFile;
-use round_steps::Options;
 use row_build::screen;
+use session_begin::{Begun, Options, SessionFault, begin};
 use slip_arcs::cut;
 use std::alloc::{AllocError, Global};
 
