@@ -110,7 +110,7 @@ arcs_feed : (arcs : List Arc) → All IsArcInRange arcs → AreLines (arc_lines 
 arcs_feed [] all = tt
 arcs_feed (a ∷ arcs) all = (arc_feed a (All-head IsArcInRange a arcs all), arcs_feed arcs (All-tail IsArcInRange a arcs all))
 
-row_small : (arcs : List Arc) (number : ℕ) (r : Row) → length arcs ≤ 200 → IsOfPair arcs number r → AreSmall (row_numbers r)
+pub row_small : (arcs : List Arc) (number : ℕ) (r : Row) → length arcs ≤ 200 → IsOfPair arcs number r → AreSmall (row_numbers r)
 row_small arcs number r few is =
     let y = each_small (IsWithin (2 ^ 34)) r.y (λ z h. within_small (2 ^ 34) z (omega arith) h) r.y_in in
     let u = each_small (IsWithin (2 ^ 24)) r.u (λ z h. within_small (2 ^ 24) z (omega arith) h) r.u_in in

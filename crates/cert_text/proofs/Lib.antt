@@ -3,3 +3,6 @@ pub mod TailLaws
 pub mod ArcSteps
 pub mod PairSteps
 pub mod FeedLaws
+pub mod LineSpells
+pub mod TailSpells
+pub mod Accepted

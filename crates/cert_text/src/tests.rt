@@ -24,6 +24,14 @@ const SMALL: [&str; 13] = [
 
 const WEAK: [&str; 1] = ["declined weak fine 0 -6"];
 
+const NEAR: [&str; 5] = [
+    "z1 -1 1073741823",
+    "z2 7 7",
+    "move 1 -2 3",
+    "values 0 -1 2 -3",
+    "declined unseparated",
+];
+
 const FIXED: [&str; 5] = ["z1 0 0", "z2 0 1", "move 0 0 0", "values 36 0 0 0", "fixed"];
 
 // The certificate of an independent model for six epochs of five satellites.
@@ -85,7 +93,7 @@ const SESSION: [&str; 54] = [
 ];
 
 // A line in its place, and where the text is refused with it.
-type BadLine = (usize, &'static str, u32, What);
+type BadLine = (u32, &'static str, u32, What);
 
 const BAD_LINES: [BadLine; 57] = [
     (1, "baseline-cert 2", 1, What::BadLine),
@@ -182,14 +190,18 @@ const BAD_VECTORS: [BadLine; 7] = [
     (18, "fixed ", 1, What::BadLine),
 ];
 
-fn text_of(alloc: Global, parts: &[&[&str]]) -> Result<String, AllocError> {
-    let mut text = String::new(alloc);
-    for lines in parts {
-        for line in *lines {
-            text.push_str(line)?;
-            text.push('\n')?;
-        }
+fn push_lines(text: &mut String, lines: &[&str]) -> Result<(), AllocError> {
+    for line in lines {
+        text.push_str(line)?;
+        text.push('\n')?;
     }
+    Ok(())
+}
+
+fn text_of(alloc: Global, front: &[&str], back: &[&str]) -> Result<String, AllocError> {
+    let mut text = String::new(alloc);
+    push_lines(&mut text, front)?;
+    push_lines(&mut text, back)?;
     Ok(text)
 }
 
@@ -214,29 +226,26 @@ fn again(rt: &impl Abort, alloc: Global, text: &str) -> Result<Vec<u8>, AllocErr
     Ok(out)
 }
 
+fn gives_back(rt: &impl Abort, alloc: Global, tail: &[&str]) -> Result<(), AllocError> {
+    let text = text_of(alloc, &SMALL, tail)?;
+    let out = again(rt, alloc, &text)?;
+    assert!(rt; out.as_slice() == text.as_bytes());
+    Ok(())
+}
+
 #[test]
 fn gives_texts_back(rt: HostRuntime) -> Result<(), Fail> {
-    let tails: [&[&str]; 7] = [
-        &WEAK,
-        &FIXED,
-        &[
-            "z1 -1 1073741823",
-            "z2 7 7",
-            "move 1 -2 3",
-            "values 0 -1 2 -3",
-            "declined unseparated",
-        ],
-        &["declined overwidth fine y"],
-        &["declined overwidth fine search"],
-        &["declined unsettled fine -70368744177663"],
-        &["declined spent 1000"],
-    ];
-    for tail in tails {
-        let text = text_of(rt.alloc(), &[&SMALL, tail])?;
-        assert!(rt; again(&rt, rt.alloc(), &text)?.as_slice() == text.as_bytes());
-    }
-    let text = text_of(rt.alloc(), &[&SESSION])?;
-    assert!(rt; again(&rt, rt.alloc(), &text)?.as_slice() == text.as_bytes());
+    let alloc = rt.alloc();
+    gives_back(&rt, alloc, &WEAK)?;
+    gives_back(&rt, alloc, &FIXED)?;
+    gives_back(&rt, alloc, &NEAR)?;
+    gives_back(&rt, alloc, &["declined overwidth fine y"])?;
+    gives_back(&rt, alloc, &["declined overwidth fine search"])?;
+    gives_back(&rt, alloc, &["declined unsettled fine -70368744177663"])?;
+    gives_back(&rt, alloc, &["declined spent 1000"])?;
+    let text = text_of(alloc, &SESSION, &[])?;
+    let out = again(&rt, alloc, &text)?;
+    assert!(rt; out.as_slice() == text.as_bytes());
     Ok(())
 }
 
@@ -245,11 +254,13 @@ fn place_of(
     rt: &impl Abort,
     alloc: Global,
     lines: &[&str],
-    number: usize,
+    number: u32,
     line: &str,
 ) -> Result<Option<At>, AllocError> {
+    let number = number as usize;
     assert!(rt; 0 < number && number <= lines.len());
-    let text = text_of(alloc, &[&lines[..number - 1], &[line], &lines[number..]])?;
+    let mut text = text_of(alloc, &lines[..number - 1], &[line])?;
+    push_lines(&mut text, &lines[number..])?;
     Ok(refusal(rt, alloc, &text))
 }
 
@@ -261,7 +272,7 @@ fn check_places(
 ) -> Result<(), AllocError> {
     for (number, line, column, what) in bad {
         let want = At {
-            line: *number as u32,
+            line: *number,
             column: *column,
             what: *what,
         };
@@ -295,8 +306,8 @@ fn refuses_vectors(rt: HostRuntime) -> Result<(), Fail> {
 #[test]
 fn refuses_ends(rt: HostRuntime) -> Result<(), Fail> {
     let alloc = rt.alloc();
-    let whole = text_of(alloc, &[&SMALL, &WEAK])?;
-    let bare = text_of(alloc, &[&SMALL])?;
+    let whole = text_of(alloc, &SMALL, &WEAK)?;
+    let bare = text_of(alloc, &SMALL, &[])?;
     let unended = format!(in alloc; "{bare}declined weak fine 0 -6")?;
     let longer = format!(in alloc; "{whole}\n")?;
     let long = "0".repeat(alloc, 4097)?;

@@ -9,6 +9,7 @@ mod upper_sums;
 
 pub use decision::{Decision, decide};
 pub use pairs::pair_upper;
+pub use reaches::centre_of;
 pub use upper_sums::upper_sum;
 
 #[cfg(test)]

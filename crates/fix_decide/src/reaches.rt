@@ -137,7 +137,7 @@ fn finer(y: i64, advance: i128) -> i128
 }
 
 /// The residual of the centres of the boxes, rounded down.
-fn centre_of(arcs: &[Arc], z: &[i64], moved: &[i64; 3], row: &Row, signal: usize) -> i64
+pub fn centre_of(arcs: &[Arc], z: &[i64], moved: &[i64; 3], row: &Row, signal: usize) -> i64
     requires arc { row.now.arc < length arcs.now }
     requires signal { signal < SIGNALS }
     requires free { free_count arcs.now ≤ MOST_FREE_ARCS }

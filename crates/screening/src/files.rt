@@ -104,14 +104,5 @@ pub fn screen(
     ensures used { IfOk result (λ s. AreUsedPairs (setting_of base.now nav.now signals mask gps) base.now.epochs rover.now.epochs pairs.now s.used) }
     ensures boxes { IfOk result (λ s. All (IsSvPair (setting_of base.now nav.now signals mask gps) base.now.epochs rover.now.epochs pairs.now) s.boxes) }
 {
-    screen_in(
-        alloc,
-        base,
-        rover,
-        nav,
-        signals,
-        pairs,
-        mask,
-        &World::gps(),
-    )
+    screen_in(alloc, base, rover, nav, signals, pairs, mask, &World::gps())
 }

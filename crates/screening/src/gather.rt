@@ -69,7 +69,7 @@ fn add_sat(
     ensures { OnOk result
         (IsPassedOver (setting_with rules.now table.now.fit.now) at.now.base.now at.now.rover.now number sats.old.items sats.new.items boxes.old boxes.new
         ⊎ IsAdded (setting_with rules.now table.now.fit.now) at.now.base.now at.now.rover.now (record { base = at.now.base_passed.now; rover = at.now.rover_passed.now })
-            at.now.number number sats.old.items sats.new.items boxes.old boxes.new) }
+        at.now.number number sats.old.items sats.new.items boxes.old boxes.new) }
 {
     if sats.len() >= MOST_SATS {
         return Ok(());
@@ -94,7 +94,7 @@ fn sats_of(
     requires near { abs_diff at.now.base.now.tag.0 at.now.rover.now.tag.0 ≤ 5_000_000 }
     ensures { IfOk result (λ sats.
         AreGathered (setting_with rules.now table.now.fit.now) at.now.base.now at.now.rover.now (record { base = at.now.base_passed.now; rover = at.now.rover_passed.now })
-            at.now.number 33 boxes.old sats.items boxes.new) }
+        at.now.number 33 boxes.old sats.items boxes.new) }
 {
     let mut sats: Vec<UsedSat> = Vec::new(alloc);
     'numbers: for number in 1..33u8 {
@@ -114,7 +114,7 @@ pub fn gather(
     requires near { abs_diff at.now.base.now.tag.0 at.now.rover.now.tag.0 ≤ 5_000_000 }
     ensures { IfOk result (λ u.
         IsGathered (setting_with rules.now table.now.fit.now) at.now.base.now at.now.rover.now (record { base = at.now.base_passed.now; rover = at.now.rover_passed.now })
-            at.now.number boxes.old u boxes.new) }
+        at.now.number boxes.old u boxes.new) }
 {
     let power = power_up_to(at);
     let sats = sats_of(alloc, rules, table, at, boxes)?;

@@ -1,6 +1,6 @@
 -- One satellite more at an epoch, and one epoch more in a file.
 use Rattle.std.proofs.Common.{◌≡◌, ℕ, ◌+◌, ◌*◌, ◌<◌, List, [], ◌∷◌, ◌++◌, length, get_or, ℤ, arith, refl, ap, sym, subst, ◌∙◌, append_assoc, below_more}
-use Rattle.std.proofs.lemmas.List.{get_or_push, get_or_append_left, get_or_default, length_push, append-nil}
+use Rattle.std.proofs.lemmas.List.{get_or_push, get_or_append_left, length_push, append-nil}
 use Rattle.eph_store.specs.declared.ephemeris.Eph.{Eph}
 use Rattle.sim_texts.specs.declared.signals.Signals.{Signals}
 use Rattle.sim_texts.specs.Observations.{header_text, epoch_text, epochs_text}
@@ -37,7 +37,7 @@ one_epoch step i point clock records cycles text further sats b o e = record {
   values = b.values ++ sats ∷ [];
   count = length_push b.values sats ∙ ap (λ (n : ℕ). n + 1) b.count;
   text_is = e ∙ ap (λ (t : List ℕ). t ++ epoch_text (step * i) sats) b.text_is ∙ append_assoc header_text (epochs_text step 0 b.values) (epoch_text (step * i) sats)
-    ∙ ap (λ (t : List ℕ). header_text ++ t) (ap (λ (n : ℕ). epochs_text step 0 b.values ++ epoch_text (step * n) sats) (counted b.values i b.count) ∙ sym (epochs_text-push step 0 b.values sats));
+      ∙ ap (λ (t : List ℕ). header_text ++ t) (ap (λ (n : ℕ). epochs_text step 0 b.values ++ epoch_text (step * n) sats) (counted b.values i b.count) ∙ sym (epochs_text-push step 0 b.values sats));
   observed = one_more (λ j s. AreObserved (tag_of step j) point clock records cycles s) b.values sats i b.count b.observed o;
 }
   where

@@ -51,9 +51,12 @@ fn agrees_with_another_model(rt: HostRuntime) -> Result<(), Fail> {
     ];
     for (seed, base, rover) in sessions {
         let made = make(rt.alloc(), seed, 1, 4)?;
-        assert!(rt; made.base.len() >= HEADER && made.rover.len() >= HEADER);
-        assert!(rt; &made.base[HEADER..] == base.as_bytes(), "base of seed {seed}");
-        assert!(rt; &made.rover[HEADER..] == rover.as_bytes(), "rover of seed {seed}");
+        let text = made.base.as_slice();
+        assert!(rt; text.len() >= HEADER);
+        assert!(rt; &text[HEADER..] == base.as_bytes(), "base of seed {seed}");
+        let text = made.rover.as_slice();
+        assert!(rt; text.len() >= HEADER);
+        assert!(rt; &text[HEADER..] == rover.as_bytes(), "rover of seed {seed}");
     }
     Ok(())
 }
@@ -63,7 +66,12 @@ fn agrees_with_another_model(rt: HostRuntime) -> Result<(), Fail> {
 fn tells_the_truth(rt: HostRuntime) -> Result<(), Fail> {
     let made = make(rt.alloc(), 1, 2, 4)?;
     assert_eq!(rt; made.offset, [-165_680, 943_607, -659_500]);
-    let truth = [[-352_426, -269_348], [383_694, -572_712], [-414_053, 597_662], [-240_734, 374_034]];
+    let truth = [
+        [-352_426, -269_348],
+        [383_694, -572_712],
+        [-414_053, 597_662],
+        [-240_734, 374_034],
+    ];
     assert_eq!(rt; made.truth.as_slice(), truth.as_slice());
     Ok(())
 }

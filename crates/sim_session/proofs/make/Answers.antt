@@ -1,4 +1,4 @@
-use Rattle.std.proofs.Common.{◌≡◌, ℕ, List, [], ◌∷◌, ◌++◌, length, get_or, ℤ, pos, All, sym, subst, ap, ◌∙◌}
+use Rattle.std.proofs.Common.{ℕ, List, ◌++◌, length, get_or, ℤ, pos, All, sym, subst, ap, ◌∙◌}
 use Rattle.eph_store.specs.declared.ephemeris.Eph.{Eph}
 use Rattle.sim_draws.specs.Sequence.{drawn_within}
 use Rattle.sim_draws.specs.Values.{base_clock_of, rover_clock_of, base_cycles, rover_cycles, first_of, AreSmall}
@@ -56,7 +56,7 @@ returns-clause-base c =
       count = c.in_ok-records.ensures.count;
       are = c.in_ok-records.ensures.records;
       has = text_along c.args.epochs own.result.point base_point own.result.clock (base_clock_of c.args.seed) c.deref-2.result.now c.in_ok-records.records.items c.deref-3.result.now (first_of (base_cycles c.args.seed) c.args.sats) c.in_ok-base.base.items
-        own.ensures.point (own.ensures.clock ∙ clock_cast drawn.field-0.base_clock drawn.ensures.base_clock_size ∙ drawn.ensures.base_clock) c.deref-2.ensures.value (c.deref-3.ensures.value ∙ drawn.ensures.base_cycles) c.in_ok-base.ensures.text;
+          own.ensures.point (own.ensures.clock ∙ clock_cast drawn.field-0.base_clock drawn.ensures.base_clock_size ∙ drawn.ensures.base_clock) c.deref-2.ensures.value (c.deref-3.ensures.value ∙ drawn.ensures.base_cycles) c.in_ok-base.ensures.text;
     }
 
 pub returns-clause-rover : goal.returns-clause-rover
@@ -66,15 +66,15 @@ returns-clause-rover c =
     let offset : List ℤ = drawn.field-0.offset in
     let size = drawn.ensures.offset_size in
     let there = point_along _ _ _ (drawn_within 1000000 c.args.seed 0) (drawn_within 1000000 c.args.seed 1) (drawn_within 1000000 c.args.seed 2)
-        (small_cast (get_or offset 0 (pos 0)) (small_at offset 0 size) ∙ ap (λ (xs : List ℤ). get_or xs 0 (pos 0)) drawn.ensures.offset)
-        (small_cast (get_or offset 1 (pos 0)) (small_at offset 1 size) ∙ ap (λ (xs : List ℤ). get_or xs 1 (pos 0)) drawn.ensures.offset)
-        (small_cast (get_or offset 2 (pos 0)) (small_at offset 2 size) ∙ ap (λ (xs : List ℤ). get_or xs 2 (pos 0)) drawn.ensures.offset) in
+    (small_cast (get_or offset 0 (pos 0)) (small_at offset 0 size) ∙ ap (λ (xs : List ℤ). get_or xs 0 (pos 0)) drawn.ensures.offset)
+    (small_cast (get_or offset 1 (pos 0)) (small_at offset 1 size) ∙ ap (λ (xs : List ℤ). get_or xs 1 (pos 0)) drawn.ensures.offset)
+    (small_cast (get_or offset 2 (pos 0)) (small_at offset 2 size) ∙ ap (λ (xs : List ℤ). get_or xs 2 (pos 0)) drawn.ensures.offset) in
     record {
       records = c.in_ok-records.records.items;
       count = c.in_ok-records.ensures.count;
       are = c.in_ok-records.ensures.records;
       has = text_along c.args.epochs own.result.point (rover_point c.args.seed) own.result.clock (rover_clock_of c.args.seed) c.deref-4.result.now c.in_ok-records.records.items c.deref-5.result.now (first_of (rover_cycles c.args.seed) c.args.sats) c.in_ok-rover.rover.items
-        (own.ensures.point ∙ there) (own.ensures.clock ∙ clock_cast drawn.field-0.rover_clock drawn.ensures.rover_clock_size ∙ drawn.ensures.rover_clock) c.deref-4.ensures.value (c.deref-5.ensures.value ∙ drawn.ensures.rover_cycles) c.in_ok-rover.ensures.text;
+          (own.ensures.point ∙ there) (own.ensures.clock ∙ clock_cast drawn.field-0.rover_clock drawn.ensures.rover_clock_size ∙ drawn.ensures.rover_clock) c.deref-4.ensures.value (c.deref-5.ensures.value ∙ drawn.ensures.rover_cycles) c.in_ok-rover.ensures.text;
     }
 
 pub returns-clause-nav : goal.returns-clause-nav

@@ -6,6 +6,10 @@ use Rattle.cert_words.proofs.TextLaws.{AreLines, text_of_ended}
 use Rattle.rinex_head.specs.declared.place.TextFault.{TextFault}
 use Rattle.cert_data.specs.declared.certs.Cert.{Cert}
 use Rattle.cert_spelling.specs.Spelling.{lines_of_cert, spelling}
+use Rattle.rinex_head.specs.Walk.{rest_gives}
+use Rattle.rinex_head.proofs.Walks.{gives_same}
+use Rattle.cert_text.specs.Rules.{cert_rules, Form}
+use Rattle.cert_text.proofs.Accepted.{refused_text}
 use Rattle.cert_text.proofs.FeedLaws.{cert_feed}
 use Rattle.cert_text.proofs.reader.read_cert.Goals as goal
 
@@ -19,3 +23,9 @@ spelled text lines (Err fault) are took = tt
 
 pub returns-clause-ok : goal.returns-clause-ok
 returns-clause-ok c = spelled c.args.text.now c.new.result.left c.read_lines.result (ap (λ (r : Reading). r.left) c.new.ensures) c.read_lines.ensures.took
+
+pub returns-clause-refused : goal.returns-clause-refused
+returns-clause-refused c =
+    let text = c.args.text.now in
+    let whole = sym (ap (λ (r : Reading). rest_gives cert_rules r Form) c.new.ensures) in
+    refused_text text (λ x. tt) c.read_lines.result (gives_same _ _ (λ x. tt) c.read_lines.result whole c.read_lines.ensures.reads)

@@ -1,10 +1,7 @@
-use Rattle.std.proofs.Common.{◌≡◌, ℤ, refl, sym, ◌∙◌, Some, None, to_z, of_z}
-use Rattle.std.specs.Int.{w64}
-use Rattle.orbit_model.specs.Solution.{Quantities}
+use Rattle.std.proofs.Common.{refl, sym, ◌∙◌}
 use Rattle.orbit_clock.specs.Records.{elements_of}
 use Rattle.sv_orbit.specs.Solutions.{HoldsSolution}
 use Rattle.screening.specs.Amounts.{AreUsable}
-use Rattle.eph_store.specs.Chosen.{IsChosenRecord, HasNoCandidate}
 use Rattle.screening.specs.Sightings.{Setting, Sighting, IsSighting, Sent, setting_with}
 use Rattle.screening.proofs.ChosenOnce.{none_chosen}
 use Rattle.screening.proofs.SightLaws.{match_none, match_some, if_some, at_code, fewer, left_out_as}

@@ -1,4 +1,4 @@
-use Rattle.std.proofs.Common.{◌≡◌, ℕ, ◌+◌, ◌<◌, ◌≤◌, List, [], ◌∷◌, ◌++◌, length, get_or, ℤ, pos, All, w64, to_z, of_z, sym, subst, ap, ◌∙◌, arith}
+use Rattle.std.proofs.Common.{ℕ, ◌+◌, ◌<◌, List, [], length, get_or, ℤ, pos, All, sym, subst, ap, ◌∙◌, arith}
 use Rattle.std.proofs.lemmas.List.{length_push, get_or_default}
 use Rattle.std.proofs.lemmas.List.Elements.{All-push}
 use Rattle.eph_store.specs.declared.ephemeris.Eph.{Eph}
@@ -32,14 +32,14 @@ loop-k-preserved c =
     let within : k < length records = c.loop-k-test.true in
     let also : k < length all = omega (arith, c.requires.as_many) in
     let here : (e : Eph) (d : List ℤ) → IsObserved tag receiver.point receiver.clock (get_or records k e) (get_or all k d) own =
-        λ e d. observed_is tag receiver.point receiver.clock eph (get_or records k e) cycles (get_or all k d) _ _ own
-        (c.index-records-k.is ∙ get_or_default records k eph e within) (get_or_default all k [] d also)
-        (small_cast (get_or cycles 0 (pos 0)) (small_at cycles 0 small)) (small_cast (get_or cycles 1 (pos 0)) (small_at cycles 1 small))
-        c.observe.ensures.code c.observe.ensures.l1 c.observe.ensures.l2 in
+    λ e d. observed_is tag receiver.point receiver.clock eph (get_or records k e) cycles (get_or all k d) _ _ own
+    (c.index-records-k.is ∙ get_or_default records k eph e within) (get_or_default all k [] d also)
+    (small_cast (get_or cycles 0 (pos 0)) (small_at cycles 0 small)) (small_cast (get_or cycles 1 (pos 0)) (small_at cycles 1 small))
+    c.observe.ensures.code c.observe.ensures.l1 c.observe.ensures.l2 in
     record {
       count = ap (λ (xs : List Signals). length xs) c.in_ok-push.ensures.items ∙ length_push sats own ∙ ap (λ (n : ℕ). n + 1) now.count;
       each = λ j s l e d. subst (λ (xs : List Signals). IsObserved tag receiver.point receiver.clock (get_or records j e) (get_or all j d) (get_or xs j s)) (sym c.in_ok-push.ensures.items)
-        (one_more (λ (i : ℕ) (x : Signals). (e : Eph) (d : List ℤ) → IsObserved tag receiver.point receiver.clock (get_or records i e) (get_or all i d) x) sats own k now.count now.each here j s l e d);
+          (one_more (λ (i : ℕ) (x : Signals). (e : Eph) (d : List ℤ) → IsObserved tag receiver.point receiver.clock (get_or records i e) (get_or all i d) x) sats own k now.count now.each here j s l e d);
       columns = subst (λ (xs : List Signals). All AreInColumns xs) (sym c.in_ok-push.ensures.items) (All-push AreInColumns sats own now.columns c.observe.ensures.columns);
     }
 

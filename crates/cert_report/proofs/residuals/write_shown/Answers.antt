@@ -1,0 +1,16 @@
+use Rattle.std.proofs.Common.{◌≤◌, length, ◌∙◌, rules}
+use Rattle.std.proofs.lemmas.List.{length-take-le}
+use Rattle.fix_decide.proofs.SessionForms.{first_small}
+use Rattle.cert_report.proofs.Sums.{at_most}
+use Rattle.cert_report.proofs.residuals.write_shown.Goals as goal
+
+pub write_session-requires : goal.write_session-requires
+write_session-requires c =
+    let b = c.args.best.now in
+    let room : b.size ≤ length b.first = search rules in
+    record {
+      free = c.args.session.now.arcs_in.few_free;
+      entries = length-take-le b.size b.first room ∙ c.requires.size;
+      z_size = first_small b.size b.first c.requires.small;
+      m_size = at_most _ c.args.moved.now c.requires.moved;
+    }

@@ -1,0 +1,146 @@
+-- What the lines of a tail give where they are spelled.
+use Rattle.std.proofs.Common.{◌≡◌, ◌+◌, ◌^◌, ◌≤◌, ℕ, ℤ, zero, suc, pos, neg_ℤ, Bool, true, false, List, [], ◌∷◌, ◌++◌, length, take, get_or, codes, Result, Ok, refl, ap, ◌∙◌, lit≤, arith}
+use Rattle.std.proofs.lemmas.List.{length-take-le}
+use Rattle.obs_rows.specs.declared.arcs.Arc.{Arc}
+use Rattle.obs_rows.specs.Ranges.{IsBelow}
+use Rattle.integer_form.specs.declared.faults.Place.{Place}
+use Rattle.integer_form.specs.declared.faults.Place.TheVariants.{Y, Factor, Entry, Float, Point, Search, Sum}
+use Rattle.int_search.specs.declared.answer.TwoBest.{TwoBest}
+use Rattle.rinex_head.specs.declared.place.Flaw.{Flaw}
+use Rattle.rinex_head.specs.Places.{and_then}
+use Rattle.rinex_head.proofs.Walks.{walk-takes, walk-end}
+use Rattle.rinex_head.specs.Walk.{walk}
+use Rattle.cert_words.specs.declared.numbers.Number.{Number}
+use Rattle.cert_words.specs.Numbers.{number_at, natural_within, within_range, IsIn, IsBetween}
+use Rattle.cert_words.proofs.NumberLaws.{AreSmall, placed, line_written}
+use Rattle.cert_words.proofs.RangeLaws.{AreIn, within_holds}
+use Rattle.cert_lines.specs.declared.ranges.TheConstants.{ENTRIES, MOVES, PIVOTS, VALUE_LIMIT}
+use Rattle.cert_lines.specs.Lines.{vector_line, values_line, weak_line, unsettled_line, overwidth_line}
+use Rattle.cert_data.specs.declared.tails.Tail.{Tail as CertTail}
+use Rattle.cert_data.specs.declared.tails.Tail.TheVariants.{Fixed, Unseparated, Weak, Overwidth, Unsettled, Spent}
+use Rattle.cert_data.specs.Tails.{AreVectors, IsTailOf}
+use Rattle.cert_data.specs.Places.{name_of_place}
+use Rattle.cert_spelling.specs.Spelling.{vectors_lines, fixed_line, unseparated_line, spent_line, tail_lines}
+use Rattle.cert_text.specs.TailForms.{weak_in, unsettled_in, spent_in, form_values, value_within, values_in, last_in}
+use Rattle.cert_text.specs.Rules.{Expected, Tail, Second, Move, Values, Last, End, cert_rules, admit}
+use Rattle.cert_text.specs.Lengths.{AreWholeVectors, IsWholeTail}
+use Rattle.cert_text.proofs.FeedLaws.{below_small, each_small, entries_small}
+use Rattle.cert_text.proofs.LineLaws.{admits_vectors, admits_declined}
+use Rattle.cert_text.proofs.LineSpells.{HaveValues, placed_values, natural_at, range_at, line_length, count_spells, vector_spells, are_in, below_is}
+
+-- ---- lines that are admitted where s is expected, up to the end
+
+abbrev pub Accepted : Expected → List (List ℕ) → Type 0
+Accepted s lines = (n : ℕ) → walk cert_rules lines n s ≡ Ok tt
+
+pub step : (s next : Expected) (line : List ℕ) (lines : List (List ℕ)) → length line ≤ 4096 → admit s line ≡ Ok next → Accepted next lines → Accepted s (line ∷ lines)
+step s next line lines short is rest = λ n. walk-takes cert_rules s next line lines n short is ∙ rest (n + 1)
+
+pub at_last : Accepted End []
+at_last = λ n. walk-end cert_rules End n
+
+-- ---- numbers
+
+entries_in : (n : ℕ) (z : List ℤ) → ((i : ℕ) → IsBelow (2 ^ 30) (get_or z i (pos 0))) → AreIn ENTRIES (take n z)
+entries_in zero z h = tt
+entries_in (suc n) [] h = tt
+entries_in (suc n) (x ∷ xs) h = (below_is (2 ^ 30) 1_073_741_823 x refl (h 0), entries_in n xs (λ i. h (suc i)))
+
+value_at : (n : Number) (z : ℤ) → n.value ≡ z → IsBelow (2 ^ 126) z → value_within n ≡ Ok z
+value_at n z is below =
+    let inside : IsBetween (neg_ℤ VALUE_LIMIT) VALUE_LIMIT z = below_is (2 ^ 126) 85_070_591_730_234_615_865_843_651_857_942_052_863 z refl below in
+    within_holds (neg_ℤ VALUE_LIMIT) VALUE_LIMIT n (rw is inside) ∙ ap Ok is
+
+value_numbers : (h : ℕ) (p1 p2 top : ℤ) (ns : List Number) → HaveValues ns (pos h ∷ p1 ∷ p2 ∷ top ∷ []) → h ≤ 127 → IsBelow (2 ^ 126) p1 → IsBelow (2 ^ 126) p2 → IsBelow (2 ^ 126) top
+    → and_then (natural_within 0 127 (number_at ns 0)) (λ h.
+    and_then (value_within (number_at ns 1)) (λ p1.
+    and_then (value_within (number_at ns 2)) (λ p2.
+    and_then (value_within (number_at ns 3)) (λ top. Ok (form_values h p1 p2 top))))) ≡ Ok (form_values h p1 p2 top)
+value_numbers h p1 p2 top [] have to b1 b2 b3 = absurd have
+value_numbers h p1 p2 top (a ∷ []) have to b1 b2 b3 = absurd have.1
+value_numbers h p1 p2 top (a ∷ b ∷ []) have to b1 b2 b3 = absurd have.1.1
+value_numbers h p1 p2 top (a ∷ b ∷ c ∷ []) have to b1 b2 b3 = absurd have.1.1.1
+value_numbers h p1 p2 top (a ∷ b ∷ c ∷ d ∷ []) have to b1 b2 b3 =
+    rw (natural_at 0 127 h a have.0 (omega arith) to, value_at b p1 have.1.0 b1, value_at c p2 have.1.1.0 b2, value_at d top have.1.1.1.0 b3) refl
+value_numbers h p1 p2 top (a ∷ b ∷ c ∷ d ∷ e ∷ ns) have to b1 b2 b3 = absurd have.1.1.1.1
+
+values_small : (h : ℕ) (p1 p2 top : ℤ) → h ≤ 127 → IsBelow (2 ^ 126) p1 → IsBelow (2 ^ 126) p2 → IsBelow (2 ^ 126) top → AreSmall (pos h ∷ p1 ∷ p2 ∷ top ∷ [])
+values_small h p1 p2 top to b1 b2 b3 =
+    let whole : 2 ^ 126 ≤ 2 ^ 126 = omega arith in
+    (omega (arith, to), (below_small (2 ^ 126) p1 whole b1, (below_small (2 ^ 126) p2 whole b2, (below_small (2 ^ 126) top whole b3, tt))))
+
+values_spell : (h : ℕ) (p1 p2 top : ℤ) → h ≤ 127 → IsBelow (2 ^ 126) p1 → IsBelow (2 ^ 126) p2 → IsBelow (2 ^ 126) top → values_in (values_line h p1 p2 top) ≡ Ok (form_values h p1 p2 top)
+values_spell h p1 p2 top to b1 b2 b3 =
+    let zs : List ℤ = pos h ∷ p1 ∷ p2 ∷ top ∷ [] in
+    let small = values_small h p1 p2 top to b1 b2 b3 in
+    rw (line_written (codes "values") zs small) (value_numbers h p1 p2 top (placed (1 + 6) zs) (placed_values (1 + 6) zs small) to b1 b2 b3)
+
+weak_numbers : (column : ℕ) (pivot : ℤ) (ns : List Number) → HaveValues ns (pos column ∷ pivot ∷ []) → column ≤ 42 → IsIn PIVOTS pivot
+    → and_then (natural_within 0 42 (number_at ns 0)) (λ column. and_then (within_range PIVOTS (number_at ns 1)) (λ pivot. Ok (Weak column pivot))) ≡ Ok (Weak column pivot)
+weak_numbers column pivot [] have to inside = absurd have
+weak_numbers column pivot (a ∷ []) have to inside = absurd have.1
+weak_numbers column pivot (a ∷ b ∷ []) have to inside = rw (natural_at 0 42 column a have.0 (omega arith) to, range_at PIVOTS b pivot have.1.0 inside) refl
+weak_numbers column pivot (a ∷ b ∷ c ∷ ns) have to inside = absurd have.1.1
+
+-- ---- tails
+
+-- the lines of a tail with vectors, before its last
+vectors_accepted : (budget : ℕ) (arcs : List Arc) (h : ℕ) (moved : List ℤ) (best : TwoBest) (top : ℤ) (last : List ℕ) (fixed : Bool) → AreVectors arcs h moved best top → AreWholeVectors moved best
+    → length last ≤ 4096 → last_in last ≡ Ok fixed → Accepted (Tail budget arcs) (vectors_lines h moved best top ++ last ∷ [])
+vectors_accepted budget arcs h moved best top last fixed are whole short ends =
+    let n = best.size in
+    let first = take n best.first in
+    let second = take n best.second in
+    let first_long : length first ≡ n = length-take-le n best.first (omega (arith, best.size_to, whole.first)) in
+    let second_long : length second ≡ n = length-take-le n best.second (omega (arith, best.size_to, whole.second)) in
+    let few : n ≤ 40 = best.size_to in
+    let s1 = entries_small n best.first are.first_in in
+    let s2 = entries_small n best.second are.second_in in
+    let s3 = each_small (IsBelow (2 ^ 46)) moved (λ z b. below_small (2 ^ 46) z (omega arith) b) are.moved_in in
+    let s4 = values_small h best.p1 best.p2 top are.h_to are.p1_in are.p2_in are.top_in in
+    let z1 : admit (Tail budget arcs) (vector_line (codes "z1") first) ≡ Ok (Second n) =
+    admits_vectors budget n arcs (vector_line (codes "z1") first) are.size refl ∙ ap (λ (r : Result (List ℤ) Flaw). and_then r (λ z. Ok (Second n))) (vector_spells (codes "z1") n ENTRIES first first_long s1 (entries_in n best.first are.first_in)) in
+    let z2 : admit (Second n) (vector_line (codes "z2") second) ≡ Ok Move =
+    ap (λ (r : Result (List ℤ) Flaw). and_then r (λ z. Ok Move)) (vector_spells (codes "z2") n ENTRIES second second_long s2 (entries_in n best.second are.second_in)) in
+    let move : admit Move (vector_line (codes "move") moved) ≡ Ok Values =
+    ap (λ (r : Result (List ℤ) Flaw). and_then r (λ m. Ok Values)) (vector_spells (codes "move") 3 MOVES moved whole.move s3 (are_in (IsBelow (2 ^ 46)) MOVES moved (λ z b. below_is (2 ^ 46) 70_368_744_177_663 z refl b) are.moved_in)) in
+    let values : admit Values (values_line h best.p1 best.p2 top) ≡ Ok Last = ap (λ r. and_then r (λ v. Ok Last)) (values_spell h best.p1 best.p2 top are.h_to are.p1_in are.p2_in are.top_in) in
+    let final : admit Last last ≡ Ok End = ap (λ (r : Result Bool Flaw). and_then r (λ f. Ok End)) ends in
+    step (Tail budget arcs) (Second n) _ _ (line_length (codes "z1") first (lit≤ tt) (omega (arith, first_long, few)) s1) z1
+    (step (Second n) Move _ _ (line_length (codes "z2") second (lit≤ tt) (omega (arith, second_long, few)) s2) z2
+    (step Move Values _ _ (line_length (codes "move") moved (lit≤ tt) (omega (arith, whole.move)) s3) move
+    (step Values Last _ _ (line_length (codes "values") (pos h ∷ best.p1 ∷ best.p2 ∷ top ∷ []) (lit≤ tt) (lit≤ tt) s4) values
+    (step Last End last [] short final at_last))))
+
+place_accepted : (budget : ℕ) (arcs : List Arc) (p : Place) → Accepted (Tail budget arcs) (overwidth_line (name_of_place p) ∷ [])
+place_accepted budget arcs Y = step (Tail budget arcs) End _ [] (lit≤ tt) (admits_declined budget arcs (overwidth_line (codes "y")) refl ∙ refl) at_last
+place_accepted budget arcs Factor = step (Tail budget arcs) End _ [] (lit≤ tt) (admits_declined budget arcs (overwidth_line (codes "factor")) refl ∙ refl) at_last
+place_accepted budget arcs Entry = step (Tail budget arcs) End _ [] (lit≤ tt) (admits_declined budget arcs (overwidth_line (codes "entry")) refl ∙ refl) at_last
+place_accepted budget arcs Float = step (Tail budget arcs) End _ [] (lit≤ tt) (admits_declined budget arcs (overwidth_line (codes "float")) refl ∙ refl) at_last
+place_accepted budget arcs Point = step (Tail budget arcs) End _ [] (lit≤ tt) (admits_declined budget arcs (overwidth_line (codes "point")) refl ∙ refl) at_last
+place_accepted budget arcs Search = step (Tail budget arcs) End _ [] (lit≤ tt) (admits_declined budget arcs (overwidth_line (codes "search")) refl ∙ refl) at_last
+place_accepted budget arcs Sum = step (Tail budget arcs) End _ [] (lit≤ tt) (admits_declined budget arcs (overwidth_line (codes "sum")) refl ∙ refl) at_last
+
+pub tail_accepted : (arcs : List Arc) (budget : ℕ) (t : CertTail) → budget ≤ 100_000_000 → IsTailOf arcs budget t → IsWholeTail t → Accepted (Tail budget arcs) (tail_lines t)
+tail_accepted arcs budget (Fixed h moved best top) few fits whole = vectors_accepted budget arcs h moved best top fixed_line true fits whole (lit≤ tt) refl
+tail_accepted arcs budget (Unseparated h moved best top) few fits whole = vectors_accepted budget arcs h moved best top unseparated_line false fits whole (lit≤ tt) refl
+tail_accepted arcs budget (Weak column pivot) few fits whole =
+    let zs : List ℤ = pos column ∷ pivot ∷ [] in
+    let small : AreSmall zs = (omega (arith, fits.column_to), (below_small (2 ^ 52) pivot (omega arith) fits.pivot_in, tt)) in
+    let word = codes "declined weak fine" in
+    let read : weak_in (weak_line column pivot) ≡ Ok (Weak column pivot) =
+    rw (line_written word zs small) (weak_numbers column pivot (placed (1 + 18) zs) (placed_values (1 + 18) zs small) fits.column_to (below_is (2 ^ 52) 4_503_599_627_370_495 pivot refl fits.pivot_in)) in
+    step (Tail budget arcs) End _ [] (line_length word zs (lit≤ tt) (lit≤ tt) small) (admits_declined budget arcs (weak_line column pivot) refl ∙ ap (λ (r : Result CertTail Flaw). and_then r (λ t. Ok End)) read) at_last
+tail_accepted arcs budget (Overwidth place) few fits whole = place_accepted budget arcs place
+tail_accepted arcs budget (Unsettled entry) few fits whole =
+    let small : AreSmall (entry ∷ []) = (below_small (2 ^ 46) entry (omega arith) fits, tt) in
+    let word = codes "declined unsettled fine" in
+    let read : unsettled_in (unsettled_line entry) ≡ Ok (Unsettled entry) =
+    ap (λ (r : Result (List ℤ) Flaw). and_then r (λ zs. Ok (Unsettled (get_or zs 0 (pos 0))))) (vector_spells word 1 MOVES (entry ∷ []) refl small (below_is (2 ^ 46) 70_368_744_177_663 entry refl fits, tt)) in
+    step (Tail budget arcs) End _ [] (line_length word (entry ∷ []) (lit≤ tt) (lit≤ tt) small) (admits_declined budget arcs (unsettled_line entry) refl ∙ ap (λ (r : Result CertTail Flaw). and_then r (λ t. Ok End)) read) at_last
+tail_accepted arcs budget (Spent spent) few fits whole =
+    let small : AreSmall (pos spent ∷ []) = (omega (arith, fits), tt) in
+    let word = codes "declined spent" in
+    let read : spent_in budget (spent_line spent) ≡ Ok (Spent spent) =
+    ap (λ (r : Result ℕ Flaw). and_then r (λ b. Ok (Spent b))) (count_spells word budget budget spent (omega (arith, fits)) (omega (arith, fits)) (omega arith)) in
+    step (Tail budget arcs) End _ [] (line_length word (pos spent ∷ []) (lit≤ tt) (lit≤ tt) small) (admits_declined budget arcs (spent_line spent) refl ∙ ap (λ (r : Result CertTail Flaw). and_then r (λ t. Ok End)) read) at_last
