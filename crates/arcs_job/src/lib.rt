@@ -72,7 +72,8 @@ fn arcs_of(
         &begun.taken,
         options.mask,
     )?;
-    cut(alloc, screened.used.as_slice(), options.jump, options.arc)
+    let arcs = cut(alloc, screened.used.as_slice(), options.jump, options.arc)?;
+    Ok(arcs)
 }
 
 fn answer_arcs(alloc: Global, arcs: &Arcs) -> Result<Answer, AllocError>

@@ -2,6 +2,7 @@
 use crate::top::run;
 use job_answers::Status;
 use line_source::{MemFiles, MemSink, Named, load};
+use sim_session::make;
 use std::alloc::{AllocError, Global};
 use std::process::Abort;
 use std::test::Fail;
@@ -410,5 +411,112 @@ fn lists_a_made_up_session(rt: HostRuntime) -> Result<(), Fail> {
     let listed = "version 3.04\nepochs 60\nfirst 13881024000000000\nlast 13881041700000000\n\
 G01 60\nG02 60\nG03 60\nG04 60\nG05 60\nG06 60\nG07 60\nG08 60\n";
     expect_run(&rt, &ran, Status::Done, listed, "");
+    Ok(())
+}
+
+const CERT: &str =
+    "baseline-cert 1\nratio 2000\nbudget 1000\nbase 63781370000 0 0\npoint 63781370000 0 0\n\
+signals C W\narcs 2\narc 3 0 0 datum 0 0\narc 5 0 0 free 0 0\npairs 1\npair 0 13881024000000000 0 2\n\
+row 0 0 0 0 0 0 0 0 0 0 0 0\nrow 1 0 0 0 0 0 0 0 0 0 0 0\n";
+
+#[test]
+fn checks_and_shows_a_certificate(rt: HostRuntime) -> Result<(), Fail> {
+    let alloc = rt.alloc();
+    let weak = "declined weak fine 0 -6\n";
+    let fixed = "z1 0 0\nz2 0 1\nmove 0 0 0\nvalues 36 0 0 0\nfixed\n";
+    let not = "not certified weak 0 -6\n";
+    let left = "0 0 0 0 0 0\n0 1 0 0 0 0\n";
+    let rows = [
+        ("check", weak, Status::Declined, not, ""),
+        ("check", fixed, Status::Declined, not, ""),
+        ("residuals", weak, Status::Declined, "nothing to show\n", ""),
+        ("residuals", fixed, Status::Done, left, ""),
+        (
+            "check",
+            "fixed\n",
+            Status::Refused,
+            "",
+            "refused: F line 14 column 1: bad line\n",
+        ),
+        (
+            "residuals",
+            "",
+            Status::Refused,
+            "",
+            "refused: F line 14 column 1: bad line\n",
+        ),
+    ];
+    for (command, tail, status, out, err) in rows {
+        let text = format!(in alloc; "{CERT}{tail}")?;
+        let ran = run_on(
+            alloc,
+            &[command, "F"],
+            text.as_bytes(),
+            1000,
+            Fails::none(alloc),
+        )?;
+        expect_run(&rt, &ran, status, out, err);
+    }
+    Ok(())
+}
+
+// A run of `arcs` on three files.
+fn run_arcs(
+    alloc: Global,
+    base: &[u8],
+    rover: &[u8],
+    nav: &[u8],
+    option: &str,
+) -> Result<Ran, AllocError> {
+    let words = words_of(alloc, &["arcs", "B", option, "R", "N"])?;
+    let mut list = Vec::new(alloc);
+    for (name, text) in [("B", base), ("R", rover), ("N", nav)] {
+        list.push(Named {
+            name: String::from_str(alloc, name)?,
+            bytes: text.to_vec(alloc)?,
+            at: 0,
+        })?;
+    }
+    let mut files = MemFiles::new(list, Vec::new(alloc));
+    let mut out = MemSink::new(alloc, 1000, 7, Vec::new(alloc))?;
+    let mut err = MemSink::new(alloc, 1000, 7, Vec::new(alloc))?;
+    let status = run(alloc, &words, &mut files, &mut out, &mut err);
+    Ok(Ran { status, out, err })
+}
+
+#[test]
+fn shows_arcs(rt: HostRuntime) -> Result<(), Fail> {
+    let alloc = rt.alloc();
+    let made = make(alloc, 1, 60, 8)?;
+    let whole = "arc G01 0 59 datum\narc G02 0 59 free\narc G03 0 59 free\narc G04 0 59 free\n\
+arc G05 0 59 free\narc G06 0 59 free\narc G07 0 59 free\narc G08 0 59 free\nshort 0\n";
+    let nav = made.nav.as_slice();
+    let ran = run_arcs(alloc, &made.base, &made.rover, nav, "--gap=0")?;
+    expect_run(&rt, &ran, Status::Done, whole, "");
+    let ran = run_arcs(alloc, &made.base, &made.base, nav, "--step=1")?;
+    expect_run(&rt, &ran, Status::Done, whole, "");
+    let ran = run_arcs(alloc, &made.base, &made.rover, nav, "--count=4")?;
+    expect_run(&rt, &ran, Status::Done, "short 8\n", "");
+    let ran = run_arcs(alloc, &made.base, &made.rover, nav, "--ratio=2000")?;
+    expect_run(&rt, &ran, Status::Usage, "", USAGE);
+    let ran = run_arcs(alloc, OBS.as_bytes(), &made.rover, nav, "--")?;
+    expect_run(
+        &rt,
+        &ran,
+        Status::Refused,
+        "",
+        "refused: no base position\n",
+    );
+    let ran = run_arcs(alloc, &made.base, OBS.as_bytes(), nav, "--")?;
+    expect_run(
+        &rt,
+        &ran,
+        Status::Refused,
+        "",
+        "refused: no common signals\n",
+    );
+    let ran = run_arcs(alloc, &made.base, &made.rover, b"", "--")?;
+    let refused = "refused: N line 1 column 1: version not 3.00 to 3.05\n";
+    expect_run(&rt, &ran, Status::Refused, "", refused);
     Ok(())
 }

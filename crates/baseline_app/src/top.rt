@@ -11,9 +11,14 @@ ghost use Rattle.zero_job.specs.ZeroRuns.{SaysOfZero};
 ghost use Rattle.list_job.specs.ListRuns.{SaysOfList};
 ghost use Rattle.orbit_job.specs.OrbitRuns.{SaysOfOrbit};
 ghost use Rattle.sim_job.specs.SimRuns.{SaysOfSim};
+ghost use Rattle.run_options.specs.declared.options.Options.{Options};
+ghost use Rattle.cert_jobs.specs.CertRuns.{SaysOfCheck, SaysOfResiduals};
+ghost use Rattle.arcs_job.specs.ArcRuns.{SaysOfArcs};
 ghost use Rattle.baseline_app.specs.Jobs.{JobEnds, IsReadable, IsAnswer};
 ghost use Rattle.baseline_app.specs.Runs.{IsRun, IsComplete};
 
+use arcs_job::arcs;
+use cert_jobs::{check_file, residuals};
 use command_words::{Job, WordFault, read_words};
 use job_answers::{Answer, Status, Stop, deliver};
 use line_source::{Files, Sink};
@@ -36,6 +41,21 @@ fn do_job<F: Files>(alloc: Global, job: &Job, files: &mut F) -> Result<Answer, S
         Job::Zero { rows } => zero(alloc, files, rows.as_str()),
         Job::List { obs } => list(alloc, files, obs.as_str()),
         Job::Orbit { nav, sat, tick } => orbit(alloc, files, nav.as_str(), *sat, *tick),
+        Job::Check { cert } => check_file(alloc, files, cert.as_str()),
+        Job::Residuals { cert } => residuals(alloc, files, cert.as_str()),
+        Job::Arcs {
+            base,
+            rover,
+            nav,
+            options,
+        } => arcs(
+            alloc,
+            files,
+            base.as_str(),
+            rover.as_str(),
+            nav.as_str(),
+            options,
+        ),
         Job::Sim {
             part,
             seed,
@@ -91,6 +111,13 @@ pub fn run<F: Files, O: Sink, E: Sink>(
         (sink_change (O.contents out.old) (O.contents out.new) (O.faults out.old) (O.faults out.new)) }
     ensures sim { (part : Part) (seed epochs sats : ℕ) → IsJob (texts_of words.now) (Job.Sim part seed epochs sats)
         → SaysOfSim part seed epochs sats result
+        (sink_change (O.contents out.old) (O.contents out.new) (O.faults out.old) (O.faults out.new)) }
+    ensures check { (cert : List ℕ) → IsJob (texts_of words.now) (Job.Check cert) → SaysOfCheck (F.text_of files.old) cert result
+        (sink_change (O.contents out.old) (O.contents out.new) (O.faults out.old) (O.faults out.new)) }
+    ensures residuals { (cert : List ℕ) → IsJob (texts_of words.now) (Job.Residuals cert) → SaysOfResiduals (F.text_of files.old) cert result
+        (sink_change (O.contents out.old) (O.contents out.new) (O.faults out.old) (O.faults out.new)) }
+    ensures arcs { (base rover nav : List ℕ) (options : Options) → IsJob (texts_of words.now) (Job.Arcs base rover nav options)
+        → SaysOfArcs (F.text_of files.old) base rover nav options result
         (sink_change (O.contents out.old) (O.contents out.new) (O.faults out.old) (O.faults out.new)) }
     ensures usage { result ≡ Status.Usage → (job : Job) → IsJob (texts_of words.now) job → ⊥ }
     ensures complete { (job : Job) → IsJob (texts_of words.now) job → IsReadable job (F.text_of files.old)

@@ -10,8 +10,14 @@ use Rattle.command_words.specs.declared.jobs.Job.{Job}
 use Rattle.command_words.specs.declared.jobs.Job.TheVariants as job
 use Rattle.command_words.specs.Numbers.{IsNumber, IsSatellite}
 use Rattle.command_words.specs.Parts.{AreParted}
-use Rattle.command_words.specs.Words.{name_of_part, sim_with, IsPlainJob, IsOrbitJob, IsSim, IsSimJob, IsJobOf, IsJob, IsInRange}
-use Rattle.command_words.proofs.SettingLaws.{one_number, one_satellite}
+use Rattle.command_words.specs.Words.{name_of_part, sim_with, IsPlainJob, IsOrbitJob, IsSim, IsSimJob, IsArcsJob, IsJobOf, IsJob, IsInRange}
+use Rattle.run_options.specs.declared.options.Options.{Options}
+use Rattle.run_options.specs.Defaults.{numbers_of}
+use Rattle.run_options.proofs.OneOptions.{one_options}
+use Rattle.command_words.specs.declared.settings.Setting.{Setting}
+use Rattle.command_words.specs.declared.settings.Setting.TheVariants.{Ratio, Budget, Mask, Gap, Jump, Arc, Step, First, Count}
+use Rattle.command_words.specs.Settings.{numbers_for, IsSet, AreOptions, ArePairOptions}
+use Rattle.command_words.proofs.SettingLaws.{one_number, one_satellite, one_set}
 use Rattle.command_words.proofs.PartLaws.{one_parting}
 
 -- the first letters of two commands
@@ -66,23 +72,82 @@ one_sim s r c p g first second =
     let sats : s.sats ≡ r.sats = one_number first.sats_word s.sats r.sats first.is.sats.number (subst (λ (w : List ℕ). IsNumber w r.sats) (sym sats_word) second.is.sats.number) in
     ap (λ (q : Sim). job.Sim q.part q.seed q.epochs q.sats) (same_sim s r part seed epochs sats)
 
+one_setting : (given : List Given) (s : Setting) (least most plain m n : ℕ) → IsSet given s least most plain m → IsSet given s least most plain n → m ≡ n
+one_setting given s least most plain m n first second = one_set (numbers_for s given) least most plain m n first second
+
+one_of_options : (given : List Given) (o p : Options) → AreOptions given o → AreOptions given p → o ≡ p
+one_of_options given o p first second =
+    let ratio : o.ratio ≡ p.ratio = one_setting given Ratio 1000 100000 2000 o.ratio p.ratio first.ratio second.ratio in
+    let budget : o.budget ≡ p.budget = one_setting given Budget 1 100000000 1000000 o.budget p.budget first.budget second.budget in
+    let mask : o.mask ≡ p.mask = one_setting given Mask 0 900 200 o.mask p.mask first.mask second.mask in
+    let gap : o.gap ≡ p.gap = one_setting given Gap 0 5000000 100000 o.gap p.gap first.gap second.gap in
+    let jump : o.jump ≡ p.jump = one_setting given Jump 1 1000 12 o.jump p.jump first.jump second.jump in
+    let arc : o.arc ≡ p.arc = one_setting given Arc 2 3600 5 o.arc p.arc first.arc second.arc in
+    let step : o.step ≡ p.step = one_setting given Step 1 1000 1 o.step p.step first.step second.step in
+    let first_pair : o.first ≡ p.first = one_setting given First 0 19999 0 o.first p.first first.first second.first in
+    let count : o.count ≡ p.count = one_setting given Count 1 3600 3600 o.count p.count first.count second.count in
+    let same : numbers_of o ≡ numbers_of p = cc (ratio, budget, mask, gap, jump, arc, step, first_pair, count) in
+    one_options o p same
+
+one_arcs : (base rover nav base' rover' nav' : List ℕ) (o p : Options) (c : List ℕ) (w : List (List ℕ)) (g : List Given) → IsArcsJob base rover nav o c w g → IsArcsJob base' rover' nav' p c w g → job.Arcs base rover nav o ≡ job.Arcs base' rover' nav' p
+one_arcs base rover nav base' rover' nav' o p c w g first second =
+    let words = sym first.plain_are ∙ second.plain_are in
+    let same_base : base ≡ base' = ap (λ (ws : List (List ℕ)). get_or ws 0 []) words in
+    let same_rover : rover ≡ rover' = ap (λ (ws : List (List ℕ)). get_or ws 1 []) words in
+    let same_nav : nav ≡ nav' = ap (λ (ws : List (List ℕ)). get_or ws 2 []) words in
+    let same : o ≡ p = one_of_options g o p first.options.options second.options.options in
+    cc (same_base, same_rover, same_nav, same)
+
 one_of : (c : List ℕ) (p : List (List ℕ)) (g : List Given) (a b : Job) → IsJobOf c p g a → IsJobOf c p g b → a ≡ b
 one_of c p g (job.Zero rows) (job.Zero rows') first second = ap (λ (r : List ℕ). job.Zero r) (one_file (codes "zero") rows rows' c p g first second)
 one_of c p g (job.List obs) (job.List obs') first second = ap (λ (r : List ℕ). job.List r) (one_file (codes "list") obs obs' c p g first second)
+one_of c p g (job.Check cert) (job.Check cert') first second = ap (λ (r : List ℕ). job.Check r) (one_file (codes "check") cert cert' c p g first second)
+one_of c p g (job.Residuals cert) (job.Residuals cert') first second = ap (λ (r : List ℕ). job.Residuals r) (one_file (codes "residuals") cert cert' c p g first second)
 one_of c p g (job.Orbit nav sat tick) (job.Orbit nav' sat' tick') first second = one_orbit nav nav' sat sat' tick tick' c p g first second
+one_of c p g (job.Arcs base rover nav options) (job.Arcs base' rover' nav' options') first second = one_arcs base rover nav base' rover' nav' options options' c p g first second
 one_of c p g (job.Sim part seed epochs sats) (job.Sim part' seed' epochs' sats') first second = one_sim (sim_with part seed epochs sats) (sim_with part' seed' epochs' sats') c p g first second
 one_of c p g (job.Zero rows) (job.List obs') first second = absurd (omega (arith, other_letter 122 108 c _ _ first.command_is second.command_is refl refl))
 one_of c p g (job.Zero rows) (job.Orbit nav' sat' tick') first second = absurd (omega (arith, other_letter 122 111 c _ _ first.command_is second.asked.command_is refl refl))
+one_of c p g (job.Zero rows) (job.Check cert') first second = absurd (omega (arith, other_letter 122 99 c _ _ first.command_is second.command_is refl refl))
+one_of c p g (job.Zero rows) (job.Residuals cert') first second = absurd (omega (arith, other_letter 122 114 c _ _ first.command_is second.command_is refl refl))
+one_of c p g (job.Zero rows) (job.Arcs base' rover' nav' options') first second = absurd (omega (arith, other_letter 122 97 c _ _ first.command_is second.command_is refl refl))
 one_of c p g (job.Zero rows) (job.Sim part' seed' epochs' sats') first second = absurd (omega (arith, other_letter 122 115 c _ _ first.command_is second.asked.command_is refl refl))
 one_of c p g (job.List obs) (job.Zero rows') first second = absurd (omega (arith, other_letter 108 122 c _ _ first.command_is second.command_is refl refl))
 one_of c p g (job.List obs) (job.Orbit nav' sat' tick') first second = absurd (omega (arith, other_letter 108 111 c _ _ first.command_is second.asked.command_is refl refl))
+one_of c p g (job.List obs) (job.Check cert') first second = absurd (omega (arith, other_letter 108 99 c _ _ first.command_is second.command_is refl refl))
+one_of c p g (job.List obs) (job.Residuals cert') first second = absurd (omega (arith, other_letter 108 114 c _ _ first.command_is second.command_is refl refl))
+one_of c p g (job.List obs) (job.Arcs base' rover' nav' options') first second = absurd (omega (arith, other_letter 108 97 c _ _ first.command_is second.command_is refl refl))
 one_of c p g (job.List obs) (job.Sim part' seed' epochs' sats') first second = absurd (omega (arith, other_letter 108 115 c _ _ first.command_is second.asked.command_is refl refl))
 one_of c p g (job.Orbit nav sat tick) (job.Zero rows') first second = absurd (omega (arith, other_letter 111 122 c _ _ first.asked.command_is second.command_is refl refl))
 one_of c p g (job.Orbit nav sat tick) (job.List obs') first second = absurd (omega (arith, other_letter 111 108 c _ _ first.asked.command_is second.command_is refl refl))
+one_of c p g (job.Orbit nav sat tick) (job.Check cert') first second = absurd (omega (arith, other_letter 111 99 c _ _ first.asked.command_is second.command_is refl refl))
+one_of c p g (job.Orbit nav sat tick) (job.Residuals cert') first second = absurd (omega (arith, other_letter 111 114 c _ _ first.asked.command_is second.command_is refl refl))
+one_of c p g (job.Orbit nav sat tick) (job.Arcs base' rover' nav' options') first second = absurd (omega (arith, other_letter 111 97 c _ _ first.asked.command_is second.command_is refl refl))
 one_of c p g (job.Orbit nav sat tick) (job.Sim part' seed' epochs' sats') first second = absurd (omega (arith, other_letter 111 115 c _ _ first.asked.command_is second.asked.command_is refl refl))
+one_of c p g (job.Check cert) (job.Zero rows') first second = absurd (omega (arith, other_letter 99 122 c _ _ first.command_is second.command_is refl refl))
+one_of c p g (job.Check cert) (job.List obs') first second = absurd (omega (arith, other_letter 99 108 c _ _ first.command_is second.command_is refl refl))
+one_of c p g (job.Check cert) (job.Orbit nav' sat' tick') first second = absurd (omega (arith, other_letter 99 111 c _ _ first.command_is second.asked.command_is refl refl))
+one_of c p g (job.Check cert) (job.Residuals cert') first second = absurd (omega (arith, other_letter 99 114 c _ _ first.command_is second.command_is refl refl))
+one_of c p g (job.Check cert) (job.Arcs base' rover' nav' options') first second = absurd (omega (arith, other_letter 99 97 c _ _ first.command_is second.command_is refl refl))
+one_of c p g (job.Check cert) (job.Sim part' seed' epochs' sats') first second = absurd (omega (arith, other_letter 99 115 c _ _ first.command_is second.asked.command_is refl refl))
+one_of c p g (job.Residuals cert) (job.Zero rows') first second = absurd (omega (arith, other_letter 114 122 c _ _ first.command_is second.command_is refl refl))
+one_of c p g (job.Residuals cert) (job.List obs') first second = absurd (omega (arith, other_letter 114 108 c _ _ first.command_is second.command_is refl refl))
+one_of c p g (job.Residuals cert) (job.Orbit nav' sat' tick') first second = absurd (omega (arith, other_letter 114 111 c _ _ first.command_is second.asked.command_is refl refl))
+one_of c p g (job.Residuals cert) (job.Check cert') first second = absurd (omega (arith, other_letter 114 99 c _ _ first.command_is second.command_is refl refl))
+one_of c p g (job.Residuals cert) (job.Arcs base' rover' nav' options') first second = absurd (omega (arith, other_letter 114 97 c _ _ first.command_is second.command_is refl refl))
+one_of c p g (job.Residuals cert) (job.Sim part' seed' epochs' sats') first second = absurd (omega (arith, other_letter 114 115 c _ _ first.command_is second.asked.command_is refl refl))
+one_of c p g (job.Arcs base rover nav options) (job.Zero rows') first second = absurd (omega (arith, other_letter 97 122 c _ _ first.command_is second.command_is refl refl))
+one_of c p g (job.Arcs base rover nav options) (job.List obs') first second = absurd (omega (arith, other_letter 97 108 c _ _ first.command_is second.command_is refl refl))
+one_of c p g (job.Arcs base rover nav options) (job.Orbit nav' sat' tick') first second = absurd (omega (arith, other_letter 97 111 c _ _ first.command_is second.asked.command_is refl refl))
+one_of c p g (job.Arcs base rover nav options) (job.Check cert') first second = absurd (omega (arith, other_letter 97 99 c _ _ first.command_is second.command_is refl refl))
+one_of c p g (job.Arcs base rover nav options) (job.Residuals cert') first second = absurd (omega (arith, other_letter 97 114 c _ _ first.command_is second.command_is refl refl))
+one_of c p g (job.Arcs base rover nav options) (job.Sim part' seed' epochs' sats') first second = absurd (omega (arith, other_letter 97 115 c _ _ first.command_is second.asked.command_is refl refl))
 one_of c p g (job.Sim part seed epochs sats) (job.Zero rows') first second = absurd (omega (arith, other_letter 115 122 c _ _ first.asked.command_is second.command_is refl refl))
 one_of c p g (job.Sim part seed epochs sats) (job.List obs') first second = absurd (omega (arith, other_letter 115 108 c _ _ first.asked.command_is second.command_is refl refl))
 one_of c p g (job.Sim part seed epochs sats) (job.Orbit nav' sat' tick') first second = absurd (omega (arith, other_letter 115 111 c _ _ first.asked.command_is second.asked.command_is refl refl))
+one_of c p g (job.Sim part seed epochs sats) (job.Check cert') first second = absurd (omega (arith, other_letter 115 99 c _ _ first.asked.command_is second.command_is refl refl))
+one_of c p g (job.Sim part seed epochs sats) (job.Residuals cert') first second = absurd (omega (arith, other_letter 115 114 c _ _ first.asked.command_is second.command_is refl refl))
+one_of c p g (job.Sim part seed epochs sats) (job.Arcs base' rover' nav' options') first second = absurd (omega (arith, other_letter 115 97 c _ _ first.asked.command_is second.command_is refl refl))
 
 -- the command and the words behind it are one
 pub same_behind : (words : List (List ℕ)) (a b : Job) (first : IsJob words a) (second : IsJob words b) → second.behind ≡ first.behind
@@ -121,12 +186,15 @@ other_count name a b c d command asked =
     let same : 3 ≡ 1 = ap (λ (ws : List (List ℕ)). length ws) asked.plain_are in absurd (omega (arith, same))
 
 -- no job of `orbit` without a satellite
-pub no_satellite : (command nav sat tick : List ℕ) → ((n : ℕ) → IsSatellite sat n → ⊥) → (job : Job) → IsJobOf command (nav ∷ sat ∷ tick ∷ []) [] job → ⊥
-no_satellite command nav sat tick none (job.Zero rows) asked = other_count (codes "zero") rows nav sat tick command asked
-no_satellite command nav sat tick none (job.List obs) asked = other_count (codes "list") obs nav sat tick command asked
-no_satellite command nav sat tick none (job.Sim part seed epochs sats) asked =
+pub no_satellite : (command nav sat tick : List ℕ) → (command ≡ codes "arcs" → ⊥) → ((n : ℕ) → IsSatellite sat n → ⊥) → (job : Job) → IsJobOf command (nav ∷ sat ∷ tick ∷ []) [] job → ⊥
+no_satellite command nav sat tick no_arcs none (job.Zero rows) asked = other_count (codes "zero") rows nav sat tick command asked
+no_satellite command nav sat tick no_arcs none (job.List obs) asked = other_count (codes "list") obs nav sat tick command asked
+no_satellite command nav sat tick no_arcs none (job.Check cert) asked = other_count (codes "check") cert nav sat tick command asked
+no_satellite command nav sat tick no_arcs none (job.Residuals cert) asked = other_count (codes "residuals") cert nav sat tick command asked
+no_satellite command nav sat tick no_arcs none (job.Arcs base rover nav' options) asked = no_arcs asked.command_is
+no_satellite command nav sat tick no_arcs none (job.Sim part seed epochs sats) asked =
     let same : 3 ≡ 4 = ap (λ (ws : List (List ℕ)). length ws) asked.asked.plain_are in absurd (omega (arith, same))
-no_satellite command nav sat tick none (job.Orbit nav' number tick') asked =
+no_satellite command nav sat tick no_arcs none (job.Orbit nav' number tick') asked =
     let same : asked.sat_word ≡ sat = ap (λ (ws : List (List ℕ)). get_or ws 1 []) (sym asked.asked.plain_are) in none number (subst (λ (w : List ℕ). IsSatellite w number) same asked.satellite)
 
 pub err_along : {A B E : Type 0} (e f : E) → IsErrOf {T = A} {E = E} (Err e) f → IsErrOf {T = B} {E = E} (Err e) f
@@ -136,6 +204,9 @@ err_along {A} {B} {E} e f h = let same : e ≡ f = cc h in subst (λ (x : E). Is
 pub no_sim : (command part seed epochs sats : List ℕ) → ((s : Sim) → IsSim part seed epochs sats s → ⊥) → (job : Job) → command ≡ codes "sim" → IsJobOf command (part ∷ seed ∷ epochs ∷ sats ∷ []) [] job → ⊥
 no_sim command part seed epochs sats none (job.Zero rows) is asked = absurd (omega (arith, other_letter 115 122 command _ _ is asked.command_is refl refl))
 no_sim command part seed epochs sats none (job.List obs) is asked = absurd (omega (arith, other_letter 115 108 command _ _ is asked.command_is refl refl))
+no_sim command part seed epochs sats none (job.Check cert) is asked = absurd (omega (arith, other_letter 115 99 command _ _ is asked.command_is refl refl))
+no_sim command part seed epochs sats none (job.Residuals cert) is asked = absurd (omega (arith, other_letter 115 114 command _ _ is asked.command_is refl refl))
+no_sim command part seed epochs sats none (job.Arcs base rover nav options) is asked = absurd (omega (arith, other_letter 115 97 command _ _ is asked.command_is refl refl))
 no_sim command part seed epochs sats none (job.Orbit nav sat tick) is asked = absurd (omega (arith, other_letter 115 111 command _ _ is asked.asked.command_is refl refl))
 no_sim command part seed epochs sats none (job.Sim part' seed' epochs' sats') is asked =
     let words = asked.asked.plain_are in
@@ -154,7 +225,20 @@ asked_range : (c : List ℕ) (p : List (List ℕ)) (g : List Given) (a : Job) �
 asked_range c p g (job.Zero rows) asked = tt
 asked_range c p g (job.List obs) asked = tt
 asked_range c p g (job.Orbit nav sat tick) asked = tt
+asked_range c p g (job.Check cert) asked = tt
+asked_range c p g (job.Residuals cert) asked = tt
+asked_range c p g (job.Arcs base rover nav options) asked = tt
 asked_range c p g (job.Sim part seed epochs sats) asked = (asked.is.epochs.to, asked.is.sats.to)
 
 pub job_range : (words : List (List ℕ)) (a : Job) → IsJob words a → IsInRange a
 job_range words a asked = asked_range asked.command asked.plain asked.given a asked.asked
+
+-- words of `arcs` that ask for no job
+pub no_arcs_job : (plain : List (List ℕ)) (given : List Given) → ((base rover nav : List ℕ) (o : Options) → plain ≡ base ∷ rover ∷ nav ∷ [] → ArePairOptions given o → ⊥) → (job : Job) → IsJobOf (codes "arcs") plain given job → ⊥
+no_arcs_job plain given none (job.Zero rows) asked = absurd (omega (arith, other_letter 97 122 (codes "arcs") _ _ refl asked.command_is refl refl))
+no_arcs_job plain given none (job.List obs) asked = absurd (omega (arith, other_letter 97 108 (codes "arcs") _ _ refl asked.command_is refl refl))
+no_arcs_job plain given none (job.Orbit nav sat tick) asked = absurd (omega (arith, other_letter 97 111 (codes "arcs") _ _ refl asked.asked.command_is refl refl))
+no_arcs_job plain given none (job.Check cert) asked = absurd (omega (arith, other_letter 97 99 (codes "arcs") _ _ refl asked.command_is refl refl))
+no_arcs_job plain given none (job.Residuals cert) asked = absurd (omega (arith, other_letter 97 114 (codes "arcs") _ _ refl asked.command_is refl refl))
+no_arcs_job plain given none (job.Arcs base rover nav options) asked = none base rover nav options asked.plain_are asked.options
+no_arcs_job plain given none (job.Sim part seed epochs sats) asked = absurd (omega (arith, other_letter 97 115 (codes "arcs") _ _ refl asked.asked.command_is refl refl))

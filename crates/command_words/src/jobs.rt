@@ -6,10 +6,13 @@ ghost use Rattle.command_words.specs.Words.{texts_of, IsJobOf, IsJob, IsInRange}
 
 use crate::WordFault;
 use crate::numbers::{number_of, satellite_of};
+use crate::options::pair_options_of;
 use crate::parts::{Parted, part_words};
+use crate::settings::Given;
 use crate::sims::{Part, sim_of};
 use crate::word::{Word, copy_words};
 use gps_time::Tick;
+use run_options::Options;
 use std::alloc::Global;
 
 /// What is to be done.
@@ -28,6 +31,21 @@ pub enum Job {
         nav: Word,
         sat: u8,
         tick: Tick,
+    },
+    /// Whether a certificate says what its rows say.
+    Check {
+        cert: Word,
+    },
+    /// What is left of the observations of a certificate.
+    Residuals {
+        cert: Word,
+    },
+    /// The arcs of a session.
+    Arcs {
+        base: Word,
+        rover: Word,
+        nav: Word,
+        options: Options,
     },
     /// A part of a made-up session.
     Sim {
@@ -67,6 +85,9 @@ fn job_of(alloc: Global, command: &[u8], parted: &Parted) -> Result<Job, WordFau
     ensures job { IfOk result (λ job. IsJobOf command.now parted.now.plain.items parted.now.given.items job) }
     ensures usage { IsErrOf result WordFault.Usage → (job : Job) → IsJobOf command.now parted.now.plain.items parted.now.given.items job → ⊥ }
 {
+    if command == b"arcs".as_slice() {
+        return arcs_job(alloc, &parted.plain, &parted.given);
+    }
     match parted.given.as_slice() {
         [] => plain_job(alloc, command, &parted.plain),
         _ => Err(WordFault::Usage),
@@ -75,6 +96,7 @@ fn job_of(alloc: Global, command: &[u8], parted: &Parted) -> Result<Job, WordFau
 
 // The job of a command without options.
 fn plain_job(alloc: Global, command: &[u8], plain: &[Word]) -> Result<Job, WordFault>
+    requires { command.now ≡ codes "arcs" → ⊥ }
     ensures job { IfOk result (λ job. IsJobOf command.now plain.now [] job) }
     ensures usage { IsErrOf result WordFault.Usage → (job : Job) → IsJobOf command.now plain.now [] job → ⊥ }
 {
@@ -99,6 +121,14 @@ fn file_job(alloc: Global, command: &[u8], file: &Word) -> Result<Job, WordFault
         let obs = Word::copy_of(alloc, file.as_str())?;
         return Ok(Job::List { obs });
     }
+    if command == b"check".as_slice() {
+        let cert = Word::copy_of(alloc, file.as_str())?;
+        return Ok(Job::Check { cert });
+    }
+    if command == b"residuals".as_slice() {
+        let cert = Word::copy_of(alloc, file.as_str())?;
+        return Ok(Job::Residuals { cert });
+    }
     Err(WordFault::Usage)
 }
 
@@ -110,6 +140,7 @@ fn orbit_job(
     sat: &Word,
     tick: &Word,
 ) -> Result<Job, WordFault>
+    requires { command.now ≡ codes "arcs" → ⊥ }
     ensures job { IfOk result (λ job. IsJobOf command.now (nav.now ∷ sat.now ∷ tick.now ∷ []) [] job) }
     ensures usage { IsErrOf result WordFault.Usage → (job : Job) → IsJobOf command.now (nav.now ∷ sat.now ∷ tick.now ∷ []) [] job → ⊥ }
 {
@@ -170,4 +201,26 @@ fn sim_job(
         }),
         None => Err(WordFault::Usage),
     }
+}
+
+// The job of the command `arcs`.
+fn arcs_job(alloc: Global, plain: &[Word], given: &[Given]) -> Result<Job, WordFault>
+    ensures job { IfOk result (λ job. IsJobOf (codes "arcs") plain.now given.now job) }
+    ensures usage { IsErrOf result WordFault.Usage → (job : Job) → IsJobOf (codes "arcs") plain.now given.now job → ⊥ }
+{
+    let Some(options) = pair_options_of(given) else {
+        return Err(WordFault::Usage);
+    };
+    let [base, rover, nav] = plain else {
+        return Err(WordFault::Usage);
+    };
+    let base = Word::copy_of(alloc, base.as_str())?;
+    let rover = Word::copy_of(alloc, rover.as_str())?;
+    let nav = Word::copy_of(alloc, nav.as_str())?;
+    Ok(Job::Arcs {
+        base,
+        rover,
+        nav,
+        options,
+    })
 }

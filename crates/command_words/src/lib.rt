@@ -5,6 +5,7 @@
 mod fault;
 mod jobs;
 mod numbers;
+mod options;
 mod parts;
 mod settings;
 mod sims;

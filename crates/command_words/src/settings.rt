@@ -1,5 +1,5 @@
 // The options and what they are set to.
-ghost use Rattle.std.specs.Prelude.{◌≡◌, ◌++◌, ◌∷◌, ℕ, List, MatchOption};
+ghost use Rattle.std.specs.Prelude.{◌≡◌, ◌++◌, ◌∷◌, ℕ, List, ◌≤◌, ◌↔◌, [], IsTrue, IfSome, MatchOption};
 ghost use Rattle.command_words.specs.declared.settings.Setting.{Setting};
 ghost use Rattle.command_words.specs.declared.settings.Given.{Given};
 ghost use Rattle.command_words.specs.Settings.{name_of, place_of, setting_of, numbers_for, IsSetBy, HasFound, IsJoinedOption};
@@ -158,12 +158,26 @@ fn numbers_found(given: &[Given], setting: Setting) -> Found
 
 /// What the setting is set to: the number that is given, once and within the limits, or the plain one.
 pub fn number_for(given: &[Given], setting: Setting, limits: &Limits) -> Option<u64>
-    ensures { MatchOption result ((n : ℕ) → IsSetBy (numbers_for setting given.now) limits.now.least limits.now.most limits.now.plain n → ⊥)
+    requires plain_from { limits.now.least ≤ limits.now.plain }
+    requires plain_to { limits.now.plain ≤ limits.now.most }
+    ensures set { MatchOption result ((n : ℕ) → IsSetBy (numbers_for setting given.now) limits.now.least limits.now.most limits.now.plain n → ⊥)
         (λ n. IsSetBy (numbers_for setting given.now) limits.now.least limits.now.most limits.now.plain n) }
+    ensures from { IfSome result (λ n. limits.now.least ≤ n) }
+    ensures to { IfSome result (λ n. n ≤ limits.now.most) }
 {
     match numbers_found(given, setting) {
         Found::Nothing => Some(limits.plain),
         Found::One(number) if limits.least <= number && number <= limits.most => Some(number),
         _ => None,
+    }
+}
+
+/// Whether no number is given for the setting.
+pub fn is_left_out(given: &[Given], setting: Setting) -> bool
+    ensures { IsTrue result ↔ (numbers_for setting given.now ≡ []) }
+{
+    match numbers_found(given, setting) {
+        Found::Nothing => true,
+        _ => false,
     }
 }
