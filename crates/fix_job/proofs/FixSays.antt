@@ -1,5 +1,5 @@
 -- What the ending of `fix` says of its files, and its statuses.
-use Rattle.std.proofs.Common.{◌≡◌, ◌≢◌, ◌⊎◌, inl, inr, ℕ, List, Option, Bool, true, false, if◌then◌else◌, refl, sym, subst}
+use Rattle.std.proofs.Common.{◌≡◌, ◌≢◌, inl, inr, ℕ, List, Option, Bool, true, false, if◌then◌else◌, refl, sym, subst}
 use Rattle.std.proofs.lemmas.Bool.{false≢true}
 use Rattle.std.specs.Io.KnownBytes.{Appends}
 use Rattle.cert_data.specs.declared.certs.Cert.{Cert}
@@ -11,18 +11,18 @@ use Rattle.cert_data.specs.declared.tails.Tail.TheVariants as tail
 use Rattle.run_options.specs.declared.options.Options.{Options}
 use Rattle.round_steps.specs.Steps.{IsBestWhereFixed}
 use Rattle.session.specs.Answers.{IsBestAnswer}
-use Rattle.outcome_report.specs.OutcomeText.{answer_text, outcome_text, is_fixed, is_fixed_tail}
+use Rattle.outcome_report.specs.OutcomeText.{answer_text, is_fixed, is_fixed_tail}
 use Rattle.job_answers.specs.declared.status.Status.TheVariants.{Done, Declined, ReadFault}
 use Rattle.job_answers.specs.Statuses.{IsVerdictStatus, IsJobStatus}
-use Rattle.job_answers.specs.Endings.{Ending, ending, EndsByFile}
+use Rattle.job_answers.specs.Endings.{Ending, EndsByFile}
 use Rattle.job_answers.specs.Delivered.{SinkChange}
 use Rattle.job_answers.proofs.EndingLaws.{verdict_at, job_status_at}
 use Rattle.session_files.specs.SessionFiles.{StopsAtFiles}
 use Rattle.arcs_job.specs.ArcJobs.{ArcsEnds}
 use Rattle.arcs_job.specs.ArcRuns.{AreAdmitted}
 use Rattle.arcs_job.proofs.ArcSays.{arcs_status, arcs_verdict}
-use Rattle.fix_job.specs.FixJobs.{status_of, FixEnds}
-use Rattle.fix_job.specs.FixRuns.{IsFix, HaveOutcome, SaysFixed, SaysDeclined, SaysOfFix}
+use Rattle.fix_job.specs.FixJobs.{FixEnds}
+use Rattle.fix_job.specs.FixRuns.{IsFix, HaveOutcome, SaysOfFix}
 use Rattle.fix_job.proofs.Runs.{stands_for}
 
 -- ---- statuses

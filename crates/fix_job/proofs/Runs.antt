@@ -1,15 +1,14 @@
 -- The session in which a run ends stands for the files.
-use Rattle.std.proofs.Common.{◌≡◌, ◌⊎◌, inl, inr, ℕ, List, [], ◌∷◌, map, length, ℤ, refl, sym, ap, ◌∙◌, subst}
+use Rattle.std.proofs.Common.{◌≡◌, inl, inr, ℕ, List, [], ◌∷◌, map, length, ℤ, refl, sym, ap, ◌∙◌, subst}
 use Rattle.obs_store.specs.declared.file.ObsFile.{ObsFile}
 use Rattle.eph_store.specs.File.{Records}
 use Rattle.sv_orbit.specs.Solutions.{gps}
 use Rattle.obs_rows.specs.declared.arcs.Arc.{Arc}
 use Rattle.obs_rows.specs.declared.bands.Signals.{Signals}
 use Rattle.obs_rows.specs.declared.sessions.Session.{Session}
-use Rattle.epoch_pair.specs.declared.pairs.PairOf.{PairOf}
 use Rattle.slip_arcs.specs.declared.used.UsedPair.{UsedPair}
 use Rattle.slip_arcs.specs.Runs.{Run, run_of, AreKept}
-use Rattle.slip_arcs.specs.Linked.{HaveDatums, IsCutOf}
+use Rattle.slip_arcs.specs.Linked.{IsCutOf}
 use Rattle.screening.specs.declared.sv_pair.SvPair.{SvPair}
 use Rattle.screening.specs.Screening.{setting_of}
 use Rattle.row_build.specs.Stands.{StandsForFiles}
@@ -17,7 +16,6 @@ use Rattle.row_build.proofs.StandsLaws.{session_stands}
 use Rattle.cert_data.specs.declared.certs.Cert.{Cert}
 use Rattle.cert_data.specs.declared.tails.Tail.{Tail}
 use Rattle.cert_data.specs.declared.outcomes.Outcome.{Outcome}
-use Rattle.cert_data.specs.declared.outcomes.Answer.{Answer}
 use Rattle.cert_data.specs.declared.outcomes.Answer.TheVariants.{Full}
 use Rattle.round_steps.specs.Shifts.{without_shifts, AreSameArcs}
 use Rattle.round_steps.specs.Runs.{Round, round_of, IsRunTo, LeadsTo, EndsFull}
@@ -25,7 +23,7 @@ use Rattle.round_steps.proofs.ShiftLaws.{grown_same}
 use Rattle.run_options.specs.declared.options.Options.{Options}
 use Rattle.session.specs.FileRules.{HasRowsOf, rules_of}
 use Rattle.session.specs.Answers.{IsAnswer}
-use Rattle.session.specs.Outcomes.{AreScreened, IsOutcome}
+use Rattle.session.specs.Outcomes.{IsOutcome}
 use Rattle.session.proofs.CutLaws.{cut_along}
 use Rattle.fix_job.specs.FixRuns.{StandsForIts}
 
@@ -73,7 +71,7 @@ stands_for b r n o outcome cert is full =
     let cut : IsCutOf f.screened.used f.kept = record { jump = o.jump; least = o.arc; short = is.screened.short; kept = is.screened.kept_are; datums = is.screened.datums } in
     let t = setting_of b n is.signals o.mask gps in
     let stands = session_stands t b.epochs r.epochs is.taken o.jump o.arc is.screened.short f.screened.used f.screened.boxes s is.screened.used_are is.screened.boxes_are
-        (kept_along o.jump o.arc is.screened.short f.screened.used f.kept s.arcs of.same is.screened.kept_are) (cut_along f.screened.used f.kept s.arcs of.same cut).datums of.rows.rows in
+    (kept_along o.jump o.arc is.screened.short f.screened.used f.kept s.arcs of.same is.screened.kept_are) (cut_along f.screened.used f.kept s.arcs of.same cut).datums of.rows.rows in
     let shifts : List (List ℤ) = map (λ (a : Arc). a.shift) s.arcs in
     let at_base = subst (λ (p : List ℤ). StandsForFiles t b.epochs r.epochs is.taken o.jump o.arc p s.signals s.point shifts s.scale s) (of.rows.base_is ∙ is.screened.position_is) stands in
     let at_signals = subst (λ (g : Signals). StandsForFiles t b.epochs r.epochs is.taken o.jump o.arc is.position g s.point shifts s.scale s) (of.rows.signals_are ∙ is.screened.signals_are) at_base in
