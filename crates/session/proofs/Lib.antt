@@ -2,3 +2,4 @@ pub mod BeginLaws
 pub mod CutLaws
 pub mod RangeLaws
 pub mod FirstArcs
+pub mod StandsLaws
