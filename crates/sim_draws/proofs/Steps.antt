@@ -1,5 +1,5 @@
 -- From one draw to the next.
-use Rattle.std.proofs.Common.{◌≡◌, ℕ, ◌+◌, ◌*◌, List, [], ◌∷◌, ◌++◌, ℤ, refl, ap, ◌∙◌, add-one}
+use Rattle.std.proofs.Common.{◌≡◌, ℕ, ◌+◌, List, [], ◌∷◌, ◌++◌, ℤ, refl, ap, ◌∙◌, add-one}
 use Rattle.sim_draws.specs.Sequence.{state_after}
 use Rattle.sim_draws.specs.Values.{first_of}
 

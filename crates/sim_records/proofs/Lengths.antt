@@ -1,5 +1,5 @@
 -- How long the lines of a navigation file are.
-use Rattle.std.proofs.Common.{◌≡◌, ℕ, ◌+◌, ◌*◌, List, [], ◌∷◌, ◌++◌, length, ℤ, pos, negsuc, refl, arith, length-append}
+use Rattle.std.proofs.Common.{◌≡◌, ℕ, ◌*◌, List, [], ◌∷◌, length, refl, arith, length-append}
 use Rattle.decimal_text.specs.declared.exponent.Dec.{Dec}
 use Rattle.eph_store.specs.declared.ephemeris.Eph.{Eph}
 use Rattle.sim_records.specs.Numbers.{number_text}

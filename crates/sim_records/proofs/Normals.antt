@@ -1,9 +1,9 @@
 -- Numbers with 13 digits, and their ranges.
-use Rattle.std.proofs.Common.{◌≡◌, ℕ, suc, ◌+◌, ◌*◌, ◌^◌, ◌∷◌, [], ℤ, pos, negsuc, ◌*ℤ◌, neg_ℤ, arith, refl, ap, ◌∙◌}
+use Rattle.std.proofs.Common.{◌≡◌, ℕ, suc, ◌+◌, ◌*◌, ◌^◌, ◌∷◌, [], ℤ, pos, negsuc, ◌*ℤ◌, arith, refl, ap, ◌∙◌}
 use Rattle.std.proofs.lemmas.Nat.{pow-add}
-use Rattle.whole_math.proofs.Ring.{va, ko, ◌⊕◌, ◌⊖◌, ◌⊗◌}
+use Rattle.whole_math.proofs.Ring.{◌⊗◌}
 use Rattle.whole_math.proofs.Inequalities.{same_by}
-use Rattle.rational.specs.Rational.{Rational, ◌≈◌, ◌≤ʳ◌}
+use Rattle.rational.specs.Rational.{◌≈◌, ◌≤ʳ◌}
 use Rattle.rational.proofs.Laws.{≤ʳ_trans, ≤ʳ_from_same, ≈_sym}
 use Rattle.decimal_text.specs.declared.exponent.Dec.{Dec}
 use Rattle.eph_store.specs.Decimals.{decimal, with_exponent, value_of, IsFromTo}

@@ -1,5 +1,5 @@
 -- Numbers of a navigation file, in 19 columns.
-use Rattle.std.specs.Prelude.{◌≡◌, ℕ, ◌+◌, ◌/◌, ◌^◌, ◌<◌, ◌≤◌, List, ◌∷◌, ◌++◌, ℤ, pos, negsuc, ◌+ℤ◌, ◌⊎◌}
+use Rattle.std.specs.Prelude.{◌≡◌, ℕ, ◌/◌, ◌^◌, ◌<◌, ◌≤◌, List, ◌∷◌, ◌++◌, ℤ, pos, negsuc, ◌+ℤ◌, ◌⊎◌}
 use Rattle.decimal_text.specs.Whole.{size_of}
 use Rattle.decimal_text.specs.Write.{last_digits}
 use Rattle.decimal_text.specs.declared.exponent.Dec.{Dec}

@@ -1,5 +1,5 @@
 -- The rover is on the Earth.
-use Rattle.std.proofs.Common.{◌≡◌, ◌*◌, ◌≤◌, List, [], ◌∷◌, ℤ, pos, ◌+ℤ◌, ◌*ℤ◌, ◌≤ℤ◌, neg_ℤ, unsigned_abs, w64, to_z, of_z, arith, refl}
+use Rattle.std.proofs.Common.{◌≡◌, ◌*◌, ◌≤◌, [], ◌∷◌, ℤ, pos, ◌+ℤ◌, ◌*ℤ◌, ◌≤ℤ◌, neg_ℤ, unsigned_abs, w64, to_z, of_z, arith, refl}
 use Rattle.std.proofs.lemmas.Int.{ints}
 use Rattle.whole_math.proofs.Ring.{va, ko, ng, ◌⊕◌, ◌⊖◌, ◌⊗◌}
 use Rattle.whole_math.proofs.Certificates.{cert, ◌≼◌, hy, nm, sq, ◌⊞◌, ◌⊠◌}

@@ -1,6 +1,6 @@
 -- One satellite more at an epoch, and one epoch more in a file.
 use Rattle.std.proofs.Common.{◌≡◌, ℕ, ◌+◌, ◌*◌, ◌<◌, List, [], ◌∷◌, ◌++◌, length, get_or, ℤ, arith, refl, ap, sym, subst, ◌∙◌, append_assoc, below_more}
-use Rattle.std.proofs.lemmas.List.{get_or_push, get_or_append_left, get_or_default, length_push, append-nil}
+use Rattle.std.proofs.lemmas.List.{get_or_push, get_or_append_left, length_push, append-nil}
 use Rattle.eph_store.specs.declared.ephemeris.Eph.{Eph}
 use Rattle.sim_texts.specs.declared.signals.Signals.{Signals}
 use Rattle.sim_texts.specs.Observations.{header_text, epoch_text, epochs_text}

@@ -51,15 +51,12 @@ fn agrees_with_another_model(rt: HostRuntime) -> Result<(), Fail> {
     ];
     for (seed, base, rover) in sessions {
         let made = make(rt.alloc(), seed, 1, 4)?;
-        assert!(rt; made.base.len() >= HEADER && made.rover.len() >= HEADER);
-        assert!(rt;
-            &made.base[HEADER..] == base.as_bytes(),
-            "base of seed {seed}"
-        );
-        assert!(rt;
-            &made.rover[HEADER..] == rover.as_bytes(),
-            "rover of seed {seed}"
-        );
+        let text = made.base.as_slice();
+        assert!(rt; text.len() >= HEADER);
+        assert!(rt; &text[HEADER..] == base.as_bytes(), "base of seed {seed}");
+        let text = made.rover.as_slice();
+        assert!(rt; text.len() >= HEADER);
+        assert!(rt; &text[HEADER..] == rover.as_bytes(), "rover of seed {seed}");
     }
     Ok(())
 }

@@ -1,4 +1,4 @@
-use Rattle.std.proofs.Common.{◌≡◌, ℕ, List, [], ◌∷◌, ◌++◌, length, get_or, ℤ, pos, All, sym, subst, ap, ◌∙◌}
+use Rattle.std.proofs.Common.{ℕ, List, ◌++◌, length, get_or, ℤ, pos, All, sym, subst, ap, ◌∙◌}
 use Rattle.eph_store.specs.declared.ephemeris.Eph.{Eph}
 use Rattle.sim_draws.specs.Sequence.{drawn_within}
 use Rattle.sim_draws.specs.Values.{base_clock_of, rover_clock_of, base_cycles, rover_cycles, first_of, AreSmall}

@@ -1,4 +1,4 @@
-use Rattle.std.proofs.Common.{◌≡◌, ℕ, List, ◌++◌, length, drop, ap, arith, length-append, length-drop}
+use Rattle.std.proofs.Common.{ℕ, List, length, drop, ap, arith, length-append, length-drop}
 use Rattle.sim_records.specs.Navigation.{navigation_header, navigation_text, record_texts}
 use Rattle.sim_records.proofs.Lengths.{length-navigation_header, length-record_texts}
 use Rattle.sim_records.proofs.navigation.write_navigation.Goals as goal

@@ -1,4 +1,4 @@
-use Rattle.std.proofs.Common.{◌≡◌, ℤ, pos, ◌+ℤ◌, w64, to_z, of_z, arith, ap, ◌∙◌, append_assoc}
+use Rattle.std.proofs.Common.{◌≡◌, ℤ, w64, to_z, of_z, arith, ap, ◌∙◌, append_assoc}
 use Rattle.std.proofs.lemmas.Int.{ints, to_z-of_z}
 use Rattle.decimal_text.specs.Whole.{size_of}
 use Rattle.sim_records.specs.Numbers.{sign_or, number_text}

@@ -1,8 +1,7 @@
-use Rattle.std.proofs.Common.{◌≡◌, ℕ, ◌+◌, ◌<◌, ◌≤◌, ℤ, pos, neg_ℤ, unsigned_abs, w64, arith, subst, ◌∙◌}
+use Rattle.std.proofs.Common.{◌≤◌, ℤ, pos, neg_ℤ, unsigned_abs, w64, arith, subst, ◌∙◌}
 use Rattle.std.proofs.lemmas.Int.{ints, to_z-of_z}
 use Rattle.rational.specs.Rational.{◌≈◌, ◌≤ʳ◌}
 use Rattle.eph_store.specs.Decimals.{decimal, value_of}
-use Rattle.sim_records.specs.Satellites.{anomaly, node}
 use Rattle.sim_records.proofs.Normals.{from_to}
 use Rattle.sim_records.proofs.records.mean_anomaly.Goals as goal
 

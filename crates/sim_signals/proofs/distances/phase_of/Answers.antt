@@ -2,7 +2,7 @@ use Rattle.std.proofs.Common.{◌≡◌, ◌*◌, ◌^◌, ◌≤◌, ℤ, pos, 
 use Rattle.std.specs.Int.{w128}
 use Rattle.std.proofs.lemmas.Int.{ints, to_z-of_z}
 use Rattle.whole_math.specs.Rounding.{IsNearest}
-use Rattle.sim_signals.proofs.Measures.{scaled, phase_near}
+use Rattle.sim_signals.proofs.Measures.{phase_near}
 use Rattle.sim_signals.proofs.distances.phase_of.Goals as goal
 
 plain : (n k : ℤ) → pos 16000000000 ≤ℤ n → n ≤ℤ pos 490000000000 → unsigned_abs k ≤ 1000000 →

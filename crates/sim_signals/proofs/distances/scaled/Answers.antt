@@ -1,7 +1,7 @@
-use Rattle.std.proofs.Common.{◌≡◌, ℕ, ◌*◌, ◌^◌, ◌≤◌, ◌∷◌, [], ℤ, pos, ◌*ℤ◌, ◌≤ℤ◌, FitsSigned, to_z, of_z, arith, refl, ◌∙◌}
+use Rattle.std.proofs.Common.{◌≡◌, ℕ, ◌*◌, ◌≤◌, ◌∷◌, [], ℤ, pos, ◌*ℤ◌, ◌≤ℤ◌, FitsSigned, to_z, of_z, arith, refl}
 use Rattle.std.specs.Int.{w128}
 use Rattle.std.proofs.lemmas.Int.{ints}
-use Rattle.whole_math.proofs.Ring.{va, ko, ◌⊕◌, ◌⊖◌, ◌⊗◌}
+use Rattle.whole_math.proofs.Ring.{va, ko, ◌⊗◌}
 use Rattle.whole_math.proofs.Certificates.{cert, ◌≼◌, hy, nm, ◌⊞◌, ◌⊠◌}
 use Rattle.sim_signals.proofs.distances.scaled.Goals as goal
 

@@ -1,4 +1,4 @@
-use Rattle.std.proofs.Common.{◌≡◌, ◌++◌, length, ap, ◌∙◌, arith, length-append}
+use Rattle.std.proofs.Common.{length, ap, arith, length-append}
 use Rattle.sim_texts.specs.Observations.{epoch_line, satellite_lines}
 use Rattle.sim_texts.proofs.Lengths.{length-epoch_line, length-satellite_lines}
 use Rattle.sim_texts.proofs.observations.write_epoch.Goals as goal

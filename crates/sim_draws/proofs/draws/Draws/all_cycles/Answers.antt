@@ -1,6 +1,6 @@
 use Rattle.std.proofs.Common.{◌≡◌, ℕ, ◌+◌, ◌*◌, List, ℤ, All, ap, sym, subst, ◌∙◌, arith}
 use Rattle.std.proofs.lemmas.List.Elements.{All-push}
-use Rattle.sim_draws.specs.Sequence.{state_after, drawn_within}
+use Rattle.sim_draws.specs.Sequence.{drawn_within}
 use Rattle.sim_draws.specs.Values.{cycles_from, base_cycles, rover_cycles, truth_of, AreSmall}
 use Rattle.sim_draws.proofs.Steps.{counted, one_more}
 use Rattle.sim_draws.proofs.draws.Draws.all_cycles.Goals as goal

@@ -1,4 +1,4 @@
-use Rattle.std.proofs.Common.{◌≡◌, w64, to_z, of_z, ◌∙◌}
+use Rattle.std.proofs.Common.{w64, ◌∙◌}
 use Rattle.std.proofs.lemmas.Int.{to_z-of_z}
 use Rattle.sim_draws.specs.Sequence.{drawn_within}
 use Rattle.sim_draws.proofs.Steps.{same_three}
