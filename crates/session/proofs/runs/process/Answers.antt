@@ -11,9 +11,13 @@ use Rattle.session.proofs.runs.process.Goals as goal
 pub outcome-requires-clause-ready : goal.outcome-requires-clause-ready
 outcome-requires-clause-ready c = λ on.
     let f = c.in-Ok-screened.rounds in
-    let cut : IsCutOf f.screened.used f.kept = record { jump = c.args.options.now.jump; least = c.args.options.now.arc; short = c.in-Ok-screened.ensures.short; kept = c.in-Ok-screened.ensures.kept_are; datums = c.in-Ok-screened.ensures.datums } in
-    (cut, (able f.screened.used f.kept (length c.in-Ok.begun.taken.items) cut f.screened.few f.screened.numbered (no_shifts f.kept c.in-Ok-screened.ensures.shifts) on.not_few on.not_many,
-    subst IsReceiverPoint (sym c.in-Ok-screened.ensures.position_is) c.in-Ok.ensures.position.in_reach))
+    let cut : IsCutOf f.screened.used f.kept = record { jump = c.args.options.now.jump; least = c.args.options.now.arc; short = c.in-Ok-screened.ensures.short; kept = c.in-Ok-screened.ensures.kept_are; datums = c.in-Ok-screened.ensures.datums } in (
+      cut,
+      (
+        able f.screened.used f.kept (length c.in-Ok.begun.taken.items) cut f.screened.few f.screened.numbered (no_shifts f.kept c.in-Ok-screened.ensures.shifts) on.not_few on.not_many,
+        subst IsReceiverPoint (sym c.in-Ok-screened.ensures.position_is) c.in-Ok.ensures.position.in_reach,
+      ),
+    )
 
 pub outcome-requires-clause-shifts : goal.outcome-requires-clause-shifts
 outcome-requires-clause-shifts c = subst (AreShiftsBelow (2 ^ 40)) (sym c.as_slice.ensures) (no_shifts c.in-Ok-screened.rounds.kept c.in-Ok-screened.ensures.shifts)
