@@ -62,7 +62,7 @@ first_along xs ys e k h n l = h n (linked_along ys xs (sym e) k n l)
 datum_along : (a b : Arc) → without_shifts b ≡ without_shifts a → a.datum ≡ b.datum
 datum_along a b e = sym (ap (λ (x : Arc). x.datum) e)
 
-datums_along : (xs ys : List Arc) → AreSameArcs xs ys → HaveDatums xs → HaveDatums ys
+pub datums_along : (xs ys : List Arc) → AreSameArcs xs ys → HaveDatums xs → HaveDatums ys
 datums_along xs ys e h k b g =
     let p : Like xs k b = like ys xs (sym e) k b g in
     let d : b.datum ≡ p.arc.datum = datum_along b p.arc p.same in
@@ -77,7 +77,7 @@ runs_without (a ∷ arcs) = ap (λ (l : List Run). run_of a ∷ l) (runs_without
 runs_along : (xs ys : List Arc) → AreSameArcs xs ys → map run_of ys ≡ map run_of xs
 runs_along xs ys e = sym (runs_without ys) ∙ ap (map run_of) e ∙ runs_without xs
 
-kept_along : (jump least short : ℕ) (used : List UsedPair) (xs ys : List Arc) → AreSameArcs xs ys → AreKept jump least used xs short → AreKept jump least used ys short
+pub kept_along : (jump least short : ℕ) (used : List UsedPair) (xs ys : List Arc) → AreSameArcs xs ys → AreKept jump least used xs short → AreKept jump least used ys short
 kept_along jump least short used xs ys e h = record { runs = h.runs; all = h.all; kept_are = runs_along xs ys e ∙ h.kept_are; short_is = h.short_is }
 
 -- shifts don't matter to a cut

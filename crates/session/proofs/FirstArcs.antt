@@ -58,9 +58,6 @@ more_first boxes kept position point n arcs after x h f e = record {
         let is : x ≡ b = some_inj x b (sym (last_push arcs x) ∙ ap (λ l. slice_get l (length arcs)) (sym e) ∙ ap (slice_get after) (sym q) ∙ i) in
         subst (IsFirst boxes kept position point a) is (f a at)
 
-pub begins : (boxes : List SvPair) (kept : List Arc) (position point : List ℤ) (n : ℕ) (arcs : List Arc) → AreFirstTo boxes kept position point n arcs → HaveFirstShifts boxes kept position point arcs
-begins boxes kept position point n arcs h k a b g i = (h.each k a b g i).near
-
 same_lists : (xs ys : List Arc) → length ys ≡ length xs → ((k : ℕ) (a b : Arc) → slice_get xs k ≡ Some a → slice_get ys k ≡ Some b → without_shifts b ≡ without_shifts a) → AreSameArcs xs ys
 same_lists [] [] e h = refl
 same_lists [] (y ∷ ys) e h = absurd (omega arith)
@@ -69,3 +66,6 @@ same_lists (x ∷ xs) (y ∷ ys) e h = ap₂ (λ a l. a ∷ l) (h 0 x y refl ref
 
 pub same_first : (boxes : List SvPair) (kept : List Arc) (position point : List ℤ) (n : ℕ) (arcs : List Arc) → AreFirstTo boxes kept position point n arcs → n ≡ length kept → AreSameArcs kept arcs
 same_first boxes kept position point n arcs h e = same_lists kept arcs (h.as_many ∙ e) (λ k a b g i. (h.each k a b g i).same)
+
+pub begins : (boxes : List SvPair) (kept : List Arc) (position point : List ℤ) (n : ℕ) (arcs : List Arc) → AreFirstTo boxes kept position point n arcs → n ≡ length kept → HaveFirstShifts boxes kept position point arcs
+begins boxes kept position point n arcs h e = record { same = same_first boxes kept position point n arcs h e; near = λ k a b g i. (h.each k a b g i).near }

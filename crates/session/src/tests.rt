@@ -1,9 +1,8 @@
 //! Tests of what two files begin with, and of the answer over arcs.
-ghost use Rattle.std.specs.Prelude.{◌≡◌};
 
 use super::*;
+use eph_store::NavFile;
 use gps_time::Tick;
-use obs_rows::Arc;
 use obs_store::{Epoch, Epochs, ObsFile, ObsType, Satellites};
 use std::alloc::{AllocError, Global};
 use std::test::Fail;
@@ -107,5 +106,26 @@ fn begins_with_the_taken_pairs(rt: HostRuntime) -> Result<(), Fail> {
     assert_eq!(rt; begun.all, 5);
     assert_eq!(rt; begun.taken.len(), 2);
     assert_eq!(rt; (begun.taken[0].base, begun.taken[1].rover), (1, 3));
+    Ok(())
+}
+
+// Without records no satellite is used.
+#[test]
+fn few_without_records(rt: HostRuntime) -> Result<(), Fail> {
+    let tags = [0, 300_000_000, 600_000_000];
+    let base = file_of(rt.alloc(), ON_GROUND, &ALL, &tags)?;
+    let mut rover = file_of(rt.alloc(), None, &ALL, &tags)?;
+    rover.delta[0] = 1;
+    let nav = NavFile::new(rt.alloc());
+    let Ok(outcome) = process(rt.alloc(), &base, &rover, &nav, &Options::defaults()) else {
+        assert!(rt; false);
+        return Ok(());
+    };
+    assert_eq!(rt; (outcome.taken, outcome.all, outcome.kept), (3, 3, 0));
+    assert!(rt; outcome.delta);
+    assert!(rt; matches!(&outcome.answer, Answer::Few { pairs: 3 }));
+    let refused = process(rt.alloc(), &rover, &base, &nav, &Options::defaults()).err();
+    let expected = SessionFault::Refused(PairWhat::NoBasePosition);
+    assert_eq!(rt; refused, Some(expected));
     Ok(())
 }

@@ -17,7 +17,10 @@ loop-k-preserved c =
     }
 
 pub returns-clause-begins : goal.returns-clause-begins
-returns-clause-begins c = let f = c.args.files.now in begins f.screened.boxes f.kept f.position c.args.point.now c.loop-k.k c.loop-k.arcs.items c.loop-k.invariant.first
+returns-clause-begins c =
+    let f = c.args.files.now in
+    let e : c.loop-k.k ≡ length c.args.files.now.kept = omega (arith, c.len-k-end.ensures) in
+    begins f.screened.boxes f.kept f.position c.args.point.now c.loop-k.k c.loop-k.arcs.items c.loop-k.invariant.first e
 
 pub returns-clause-same : goal.returns-clause-same
 returns-clause-same c =

@@ -4,6 +4,7 @@ use Rattle.round_steps.specs.Points.{IsReceiverPoint}
 use Rattle.round_steps.specs.Shifts.{AreShiftsBelow}
 use Rattle.slip_arcs.specs.Linked.{IsCutOf}
 use Rattle.session.specs.Answers.{counted, HasDelta}
+use Rattle.session.proofs.StandsLaws.{rows_stand}
 use Rattle.session.proofs.RangeLaws.{able, no_shifts}
 use Rattle.session.proofs.runs.process.Goals as goal
 
@@ -32,6 +33,7 @@ returns-in-Ok-outcome-clause-outcome c = record {
   taken_are = c.in-Ok.ensures.taken;
   rounds = c.in-Ok-screened.rounds;
   screened = c.in-Ok-screened.ensures;
+  stands = rows_stand c.args.base.now c.args.rover.now c.args.nav.now c.args.options.now c.in-Ok.begun.position c.in-Ok.begun.signals c.in-Ok.begun.taken.items c.in-Ok-screened.rounds c.in-Ok-screened.ensures;
   taken_is = c.in-Ok-outcome.ensures.taken;
   all_is = c.in-Ok-outcome.ensures.all ∙ c.in-Ok.ensures.all;
   kept_is = c.in-Ok-outcome.ensures.kept ∙ ap (λ (l : List Arc). counted (length l)) c.as_slice.ensures;
