@@ -1,5 +1,5 @@
 // The program over any files and sinks.
-ghost use Rattle.std.specs.Prelude.{◌≡◌, ◌≢◌, ◌⊎◌, ℕ, List, IfOk, All};
+ghost use Rattle.std.specs.Prelude.{◌≡◌, ◌≢◌, ◌⊎◌, [], ◌∷◌, ℕ, List, IfOk, All};
 ghost use Rattle.line_source.specs.Causes.{Rose};
 ghost use Rattle.gps_time.specs.declared.Tick.{Tick};
 ghost use Rattle.job_answers.specs.Answers.{ending_of, IfEnded};
@@ -13,22 +13,47 @@ ghost use Rattle.orbit_job.specs.OrbitRuns.{SaysOfOrbit};
 ghost use Rattle.sim_job.specs.SimRuns.{SaysOfSim};
 ghost use Rattle.run_options.specs.declared.options.Options.{Options};
 ghost use Rattle.cert_jobs.specs.CertRuns.{SaysOfCheck, SaysOfResiduals};
+ghost use Rattle.arcs_job.specs.ArcJobs.{ArcsEnds};
 ghost use Rattle.arcs_job.specs.ArcRuns.{SaysOfArcs};
 ghost use Rattle.baseline_app.specs.Jobs.{JobEnds, IsReadable, IsAnswer};
 ghost use Rattle.baseline_app.specs.Runs.{IsRun, IsComplete};
 
 use arcs_job::arcs;
 use cert_jobs::{check_file, residuals};
-use command_words::{Job, WordFault, read_words};
+use command_words::{Job, Word, WordFault, read_words};
 use job_answers::{Answer, Status, Stop, deliver};
 use line_source::{Files, Sink};
 use list_job::list;
 use orbit_job::orbit;
+use run_options::Options;
 use sim_job::sim;
 use std::alloc::{AllocError, Global};
 use zero_job::zero;
 
 const USAGE: &str = "usage: baseline fix|check|residuals|zero|list|orbit|arcs|sim WORDS\n";
+
+// The command `arcs` by its words.
+fn arcs_by_words<F: Files>(
+    alloc: Global,
+    files: &mut F,
+    base: &Word,
+    rover: &Word,
+    nav: &Word,
+    options: &Options,
+) -> Result<Answer, Stop>
+    ensures ends { IfEnded result (λ end. ArcsEnds (F.text_of files.old) base.now rover.now nav.now options.now end) }
+    ensures fault { IfEnded result (λ end. end.status ≡ Status.ReadFault → Rose (F.faults files.old) (F.faults files.new)) }
+    ensures sure { All (F.is_sure_name files.old) (base.now ∷ rover.now ∷ nav.now ∷ []) → IfEnded result (λ end. end.status ≢ Status.ReadFault) }
+{
+    arcs(
+        alloc,
+        files,
+        base.as_str(),
+        rover.as_str(),
+        nav.as_str(),
+        options,
+    )
+}
 
 // What the job ends with.
 fn do_job<F: Files>(alloc: Global, job: &Job, files: &mut F) -> Result<Answer, Stop>
@@ -48,14 +73,7 @@ fn do_job<F: Files>(alloc: Global, job: &Job, files: &mut F) -> Result<Answer, S
             rover,
             nav,
             options,
-        } => arcs(
-            alloc,
-            files,
-            base.as_str(),
-            rover.as_str(),
-            nav.as_str(),
-            options,
-        ),
+        } => arcs_by_words(alloc, files, base, rover, nav, options),
         Job::Sim {
             part,
             seed,

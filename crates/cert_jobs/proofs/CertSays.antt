@@ -41,7 +41,7 @@ check_text_status name end text (inr refused) = job_status_at end _ refused.end_
 pub check_status : (told : List ℕ → Option (List ℕ)) (cert : List ℕ) (end : Ending) → EndsByFile told cert (CheckEnds cert) end → IsJobStatus end.status
 check_status told cert end ends = file_status told cert (CheckEnds cert) end (check_text_status cert end) ends
 
-admitted : (told : List ℕ → Option (List ℕ)) (name : List ℕ) → IsCertAdmitted told name → IsAdmitted told name (λ lines. Unit {0})
+abbrev admitted : (told : List ℕ → Option (List ℕ)) (name : List ℕ) → IsCertAdmitted told name → IsAdmitted told name (λ lines. Unit {0})
 admitted told name file = record { text = file.text; told_is = file.told_is; fits = file.fits; file = tt }
 
 pub check_verdict : (told : List ℕ → Option (List ℕ)) (cert : List ℕ) (end : Ending) → IsCertAdmitted told cert → end.status ≢ ReadFault → EndsByFile told cert (CheckEnds cert) end → IsVerdictStatus end.status
