@@ -1,10 +1,10 @@
 -- The search in the coordinates of a map that has an inverse.
-use Rattle.std.proofs.Common.{◌≡◌, ◌⊎◌, inl, inr, ⊎_elim, ℕ, ◌+◌, ◌-◌, ◌<◌, ◌≤◌, ◌^◌, List, [], ◌∷◌, length, take, ℤ, pos, ◌<ℤ◌, ◌≤ℤ◌, arith, sym, ap, ◌∙◌, subst, Result, Ok}
+use Rattle.std.proofs.Common.{◌≡◌, ◌⊎◌, inl, inr, ⊎_elim, ℕ, ◌+◌, ◌-◌, ◌<◌, ◌≤◌, ◌^◌, List, [], ◌∷◌, length, take, ℤ, pos, ◌<ℤ◌, ◌≤ℤ◌, arith, refl, sym, ap, ◌∙◌, subst, Result, Ok}
 use Rattle.whole_math.specs.Vectors.{len}
 use Rattle.whole_math.proofs.Vectors.{len_is}
 use Rattle.whole_math.proofs.Order.{lins}
 use Rattle.quadratic_form.specs.Forms.{Column}
-use Rattle.quadratic_form.specs.Elimination.{Factor, Refusal}
+use Rattle.quadratic_form.specs.Elimination.{Factor, Refusal, steps}
 use Rattle.quadratic_form.specs.Rows.{value}
 use Rattle.quadratic_form.specs.Maps.{apply, Inverse}
 use Rattle.quadratic_form.specs.Places.{form_from}
@@ -20,6 +20,7 @@ use Rattle.integer_form.specs.Forms.{integers_of, columns_of, factors_of, value_
 use Rattle.integer_form.specs.Kept.{constant_form}
 use Rattle.reduced_form.specs.Transformed.{transformed_form}
 use Rattle.reduced_form.proofs.ImageLaws.{image_block, reduced_value}
+use Rattle.reduced_form.proofs.SameMaps.{AreSameInside, form_as, small_as, block_as}
 use Rattle.suffix_search.specs.Suffixes.{SearchForm}
 use Rattle.suffix_search.specs.PlainCount.{Counts, HasLarge, IsOver, top}
 use Rattle.suffix_search.specs.Order.{IsLess}
@@ -163,4 +164,23 @@ reduced_fault f r u n Overwidth c d e h = wide (subst (λ (s : SearchForm). IsTo
 
     wide : IsTooWide (decorrelated f u.map c.factors c.g) (search_image r u.map) → ⊥
     wide (inl w) = inside w.wide
-    wide (inr w) = c.images_small w.vector w.full w.counted (subst (λ (k : ℕ). HasLarge (image_of u.map k w.vector)) d.integers w.large)
+    wide (inr w) = c.images_small w.vector w.full w.counted (subst HasLarge (image_is f r u w.vector d w.full) w.large)
+
+-- ---- the count is one, whatever map with these entries it is taken in
+pub count_as : (f : Form) (n : ℕ) (a b : List (List ℤ)) → AreSameInside (integers_of f) (entry a) (entry b) → HasCountIn f n a → HasCountIn f n b
+count_as f n a b e c = record {
+  small = small_as (integers_of f) a b f.p e c.small;
+  factors = c.factors;
+  g = c.g;
+  taken = subst (λ (p : List Column). steps 3 (integers_of f) p ≡ Ok (c.factors, constant_form c.g)) form c.taken;
+  top_small = subst (λ (s : SearchForm). top s <ℤ pos (2 ^ 62)) same c.top_small;
+  entries_small = λ s k l. c.entries_small s (subst (λ (t : SearchForm). Counts t s) (sym same) k) l;
+  images_small = λ w q k l. c.images_small w q (subst (λ (t : SearchForm). Counts t w) (sym same) k) (subst (λ (m : List (List ℤ)). HasLarge (apply m w)) (sym (block_as (integers_of f) a b e)) l);
+  counted = λ o. c.counted (subst (λ (t : SearchForm). IsOver t n) (sym same) o);
+}
+  where
+    form : transformed_form (integers_of f) a f.p ≡ transformed_form (integers_of f) b f.p
+    form = form_as (integers_of f) a b f.p e
+
+    same : decorrelated f a c.factors c.g ≡ decorrelated f b c.factors c.g
+    same = forms_same (integers_of f) (integers_of f) c.factors c.factors c.g c.g (transformed_form (integers_of f) a f.p) (transformed_form (integers_of f) b f.p) refl refl refl form

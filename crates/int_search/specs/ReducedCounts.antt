@@ -1,7 +1,9 @@
 -- The reduced count of a form: the count of suffixes in decorrelated coordinates.
 use Rattle.std.specs.Prelude.{◌≡◌, ℕ, ◌^◌, List, length, ℤ, pos, ◌<ℤ◌, Ok}
 use Rattle.quadratic_form.specs.Elimination.{Factor, steps}
+use Rattle.quadratic_form.specs.Maps.{apply}
 use Rattle.decorrelate.specs.declared.unimodular.Unimodular.{Unimodular}
+use Rattle.decorrelate.specs.Inverses.{block}
 use Rattle.decorrelate.specs.Reducing.{IsReduced}
 use Rattle.integer_form.specs.declared.form.Form.{Form}
 use Rattle.integer_form.specs.Forms.{integers_of}
@@ -9,7 +11,6 @@ use Rattle.integer_form.specs.Kept.{constant_form}
 use Rattle.reduced_form.specs.Transformed.{transformed_form, IsTransformedSmall}
 use Rattle.suffix_search.specs.Suffixes.{SearchForm}
 use Rattle.suffix_search.specs.PlainCount.{Counts, HasLarge, IsOver, top}
-use Rattle.int_search.specs.Images.{image_of}
 
 -- the form in the coordinates of a map, with these factors and this last entry
 abbrev pub decorrelated : Form → List (List ℤ) → List Factor → ℤ → SearchForm
@@ -27,9 +28,11 @@ pub record HasCountIn (f : Form) (n : ℕ) (map : List (List ℤ)) : Type 0 wher
   pub top_small : top (decorrelated f map factors g) <ℤ pos (2 ^ 62)
   -- each suffix that counts has entries below 2^30 in size, and so has the image of each full vector among them
   pub entries_small : (s : List ℤ) → Counts (decorrelated f map factors g) s → HasLarge s → ⊥
-  pub images_small : (w : List ℤ) → length w ≡ integers_of f → Counts (decorrelated f map factors g) w → HasLarge (image_of map (integers_of f) w) → ⊥
+  pub images_small : (w : List ℤ) → length w ≡ integers_of f → Counts (decorrelated f map factors g) w → HasLarge (apply (block (integers_of f) map) w) → ⊥
   pub counted : IsOver (decorrelated f map factors g) n → ⊥
 
--- the form has a reduced count, and it is at most n; the map is that of the reduction
-abbrev pub HasReducedCount : Form → ℕ → Type 0
-HasReducedCount f n = (u : Unimodular) → IsReduced (integers_of f) f.d f.l u → HasCountIn f n u.map
+-- the form has a reduced count, and it is at most n; the map is the one that the reduction leaves
+pub record HasReducedCount (f : Form) (n : ℕ) : Type 0 where
+  pub change : Unimodular
+  pub reduced : IsReduced (integers_of f) f.d f.l change
+  pub count : HasCountIn f n change.map

@@ -1,7 +1,7 @@
 //! Forms with the answers that were computed from them elsewhere. The entries of a form are those of the rows of its
 //! matrix, each from the diagonal on, the constant's column the last.
 
-/// A form of n integers, its two best vectors, and the visits of their search.
+/// A form of n integers, its two best vectors, the visits of their search, and the form's reduced count.
 pub(crate) struct Case {
     pub(crate) integers: usize,
     pub(crate) entries: &'static [i64],
@@ -9,6 +9,7 @@ pub(crate) struct Case {
     pub(crate) second: &'static [i64],
     pub(crate) values: (i128, i128),
     pub(crate) visits: u64,
+    pub(crate) reduced_count: u64,
 }
 
 /// Small forms, most with ties: at the first, at the second, or at both. All vectors of a box were compared.
@@ -31,6 +32,7 @@ pub(crate) static SMALL: [Case; 11] = [
         second: &[0, 1, -2],
         values: (-17_985_175_552, -17_985_175_552),
         visits: 9,
+        reduced_count: 8,
     },
     Case {
         integers: 2,
@@ -46,6 +48,7 @@ pub(crate) static SMALL: [Case; 11] = [
         second: &[-1, 2],
         values: (-6_174_015_488, -6_174_015_488),
         visits: 5,
+        reduced_count: 3,
     },
     Case {
         integers: 2,
@@ -61,6 +64,7 @@ pub(crate) static SMALL: [Case; 11] = [
         second: &[0, 1],
         values: (-7_784_628_224, -5_637_144_576),
         visits: 4,
+        reduced_count: 4,
     },
     Case {
         integers: 1,
@@ -69,6 +73,7 @@ pub(crate) static SMALL: [Case; 11] = [
         second: &[2],
         values: (-1_879_048_192, -1_879_048_192),
         visits: 2,
+        reduced_count: 2,
     },
     Case {
         integers: 3,
@@ -88,6 +93,7 @@ pub(crate) static SMALL: [Case; 11] = [
         second: &[0, 1, -1],
         values: (-23_622_320_128, -17_179_869_184),
         visits: 9,
+        reduced_count: 5,
     },
     Case {
         integers: 4,
@@ -112,6 +118,7 @@ pub(crate) static SMALL: [Case; 11] = [
         second: &[1, 0, 0, 1],
         values: (-2_952_790_016, -2_952_790_016),
         visits: 5,
+        reduced_count: 9,
     },
     Case {
         integers: 4,
@@ -136,6 +143,7 @@ pub(crate) static SMALL: [Case; 11] = [
         second: &[-1, 1, -1, 2],
         values: (-27_111_981_056, -27_111_981_056),
         visits: 13,
+        reduced_count: 16,
     },
     Case {
         integers: 3,
@@ -155,6 +163,7 @@ pub(crate) static SMALL: [Case; 11] = [
         second: &[1, 1, -2],
         values: (-77_577_846_784, -77_577_846_784),
         visits: 8,
+        reduced_count: 7,
     },
     Case {
         integers: 1,
@@ -163,6 +172,7 @@ pub(crate) static SMALL: [Case; 11] = [
         second: &[-2],
         values: (-6_442_450_944, 1_073_741_824),
         visits: 3,
+        reduced_count: 3,
     },
     Case {
         integers: 2,
@@ -178,6 +188,7 @@ pub(crate) static SMALL: [Case; 11] = [
         second: &[1, -1],
         values: (-23_622_320_128, -23_622_320_128),
         visits: 6,
+        reduced_count: 6,
     },
     Case {
         integers: 4,
@@ -202,5 +213,6 @@ pub(crate) static SMALL: [Case; 11] = [
         second: &[1, -1, -1, 0],
         values: (-24_427_626_496, -19_058_917_376),
         visits: 16,
+        reduced_count: 8,
     },
 ];

@@ -131,4 +131,5 @@ pub(crate) static FIVE_EPOCHS: Case = Case {
     second: &[0, 0, 0, 0, -8, -6, 8, 6, 5, 4, -5, -4, 0, 0],
     values: (342_289_037, 21_331_483_396_695),
     visits: 175,
+    reduced_count: 175,
 };

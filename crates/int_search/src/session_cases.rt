@@ -39,6 +39,7 @@ pub(crate) static SESSIONS: [Case; 6] = [
         second: &[0, 0, 0, 0, 4, 3],
         values: (263_650_288, 2_860_948_205_107),
         visits: 107,
+        reduced_count: 49,
     },
     Case {
         integers: 8,
@@ -93,6 +94,7 @@ pub(crate) static SESSIONS: [Case; 6] = [
         second: &[4, 3, -5, -4, 4, 3, -5, -4],
         values: (474_557_635, 11_310_460_162_117),
         visits: 303,
+        reduced_count: 53,
     },
     Case {
         integers: 8,
@@ -147,6 +149,7 @@ pub(crate) static SESSIONS: [Case; 6] = [
         second: &[-1, -1, 0, 0, 0, 0, -1, -1],
         values: (356_905_363, 13_319_924_209_508),
         visits: 75,
+        reduced_count: 15,
     },
     Case {
         integers: 10,
@@ -222,6 +225,7 @@ pub(crate) static SESSIONS: [Case; 6] = [
         second: &[1, 1, 0, 0, 0, 0, 1, 1, 1, 1],
         values: (452_738_965, 14_919_184_514_549),
         visits: 377,
+        reduced_count: 35,
     },
     Case {
         integers: 12,
@@ -322,6 +326,7 @@ pub(crate) static SESSIONS: [Case; 6] = [
         second: &[-4, -3, 4, 3, -4, -3, 4, 3, 0, 0, 0, 0],
         values: (427_733_171, 8_829_080_812_965),
         visits: 634,
+        reduced_count: 13,
     },
     Case {
         integers: 14,
@@ -451,5 +456,6 @@ pub(crate) static SESSIONS: [Case; 6] = [
         second: &[-2, -2, 0, 0, -1, -1, -1, -1, -1, -1, 0, 0, -1, -1],
         values: (603_513_064, 57_516_606_436_047),
         visits: 745,
+        reduced_count: 105,
     },
 ];

@@ -96,7 +96,7 @@ fn is_answer(case: &Case, best: &TwoBest) -> bool {
 }
 
 // Whether the plain search gives this answer with this budget and none with one visit less, and the other search the same
-// answer.
+// answer with a budget of the reduced count.
 fn answers(case: &Case) -> bool {
     let Some(form) = case_form(case) else {
         return false;
@@ -104,7 +104,7 @@ fn answers(case: &Case) -> bool {
     let Ok(plain) = plain_best(&form, case.visits) else {
         return false;
     };
-    let Ok(best) = two_best(&form, case.visits) else {
+    let Ok(best) = two_best(&form, case.reduced_count) else {
         return false;
     };
     let spent = plain_best(&form, case.visits.saturating_sub(1)).is_err_and(|e| e

@@ -3,3 +3,4 @@ pub mod FormSums
 pub mod TransformedLaws
 pub mod Words
 pub mod ImageLaws
+pub mod SameMaps

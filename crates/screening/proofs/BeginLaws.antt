@@ -1,5 +1,5 @@
 -- Where the epochs up to a pair begin.
-use Rattle.std.proofs.Common.{◌≡◌, ℕ, zero, suc, ◌+◌, ◌-◌, ◌<◌, ◌≤◌, Some, List, [], ◌∷◌, length, get_or, map, All, AllPairs, refl, sym, ap, ap₂, ◌∙◌, subst, arith}
+use Rattle.std.proofs.Common.{◌≡◌, ℕ, zero, suc, ◌+◌, ◌-◌, ◌<◌, ◌≤◌, Some, List, length, get_or, AllPairs, refl, sym, ap, ◌∙◌, subst, arith}
 use Rattle.std.specs.Prelude.{slice_get}
 use Rattle.std.specs.List.{slice_range}
 use Rattle.std.specs.Int.{abs_diff}
@@ -10,8 +10,8 @@ use Rattle.obs_store.specs.Epochs.{tags_of}
 use Rattle.obs_store.proofs.EpochsLaws.{length-tags_of}
 use Rattle.epoch_pair.specs.declared.pairs.PairOf.{PairOf}
 use Rattle.epoch_pair.specs.Pairs.{IsNearPair, Follows}
-use Rattle.screening.specs.Marks.{Passed, passed, first_number}
-use Rattle.screening.specs.Screening.{ArePairsOf, AreEpochsOf, pair_before}
+use Rattle.screening.specs.Marks.{Passed, first_number}
+use Rattle.screening.specs.Screening.{ArePairsOf, pair_before}
 use Rattle.screening.specs.Gathering.{Begins, IsPairAt}
 use Rattle.screening.proofs.PairLaws.{before_is}
 
@@ -89,14 +89,14 @@ pair_at base rover pairs k number p from b r bs rs are named inside is begins b_
       pair_is = read_is pairs k p inside is;
       of_pair = record { of_base = read_is base p.base b there b_is; of_rover = read_is rover p.rover r there_too r_is };
       passed_is = both bs _ rs _
-        (bs_is ∙ ap (λ (n : ℕ). slice_range base n (p.base + 1)) (begins.base_is ∙ ap (λ (q : PairOf). first_number (λ q. q.base) (pair_before pairs k) q) e))
-        (rs_is ∙ ap (λ (n : ℕ). slice_range rover n (p.rover + 1)) (begins.rover_is ∙ ap (λ (q : PairOf). first_number (λ q. q.rover) (pair_before pairs k) q) e));
+          (bs_is ∙ ap (λ (n : ℕ). slice_range base n (p.base + 1)) (begins.base_is ∙ ap (λ (q : PairOf). first_number (λ q. q.base) (pair_before pairs k) q) e))
+          (rs_is ∙ ap (λ (n : ℕ). slice_range rover n (p.rover + 1)) (begins.rover_is ∙ ap (λ (q : PairOf). first_number (λ q. q.rover) (pair_before pairs k) q) e));
       near =
-        let low = near.low in
-        let high = near.high in
-        let t = tag_read base p.base b there b_is in
-        let t' = tag_read rover p.rover r there_too r_is in
-        apart b.tag.0 r.tag.0 _ _ t t' low high;
+          let low = near.low in
+          let high = near.high in
+          let t = tag_read base p.base b there b_is in
+          let t' = tag_read rover p.rover r there_too r_is in
+          apart b.tag.0 r.tag.0 _ _ t t' low high;
     }
   where
     both : (xs xs' ys ys' : List Epoch) → xs ≡ xs' → ys ≡ ys' → (let x : Passed = record { base = xs; rover = ys } in let y : Passed = record { base = xs'; rover = ys' } in x ≡ y)

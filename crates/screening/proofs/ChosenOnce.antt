@@ -1,5 +1,5 @@
 -- A satellite has one chosen record at a time, and a pair sees it in one way.
-use Rattle.std.proofs.Common.{◌≡◌, ℕ, ◌<◌, ◌≤◌, List, [], ◌∷◌, ◌++◌, refl, sym, ap, ◌∙◌, subst, arith, Some, All}
+use Rattle.std.proofs.Common.{◌≡◌, ℕ, ◌<◌, ◌≤◌, List, [], ◌∷◌, ◌++◌, refl, sym, ◌∙◌, subst, arith, Some, All}
 use Rattle.std.proofs.lemmas.List.Elements.{All-head, All-tail}
 use Rattle.obs_store.specs.declared.series.Epoch.{Epoch}
 use Rattle.eph_store.specs.declared.ephemeris.Eph.{Eph}

@@ -1,6 +1,5 @@
 -- The used satellites of a pair, one number more.
-use Rattle.std.proofs.Common.{◌≡◌, ℕ, zero, suc, ◌+◌, ◌<◌, ◌≤◌, ◌⊎◌, inl, inr, ⊎_elim, ℤ, Bool, true, false, true≢false, ◌||◌, ◌==◌, List, [], ◌∷◌, ◌++◌, length, take, All, AllPairs, refl, sym, ap, ap₂, ◌∙◌, subst, arith, append_assoc}
-use Rattle.std.specs.List.{list_any}
+use Rattle.std.proofs.Common.{◌≡◌, ℕ, zero, suc, ◌+◌, ◌<◌, ◌≤◌, ◌⊎◌, inl, inr, ⊎_elim, ℤ, Bool, true, false, true≢false, ◌||◌, ◌==◌, List, [], ◌∷◌, ◌++◌, length, take, refl, sym, ap, ap₂, ◌∙◌, subst, arith, append_assoc}
 use Rattle.std.proofs.lemmas.Bool.{eqb-false}
 use Rattle.std.proofs.lemmas.List.{append-nil, map-append, length_push}
 use Rattle.std.proofs.lemmas.List.Elements.{All-push}
@@ -10,7 +9,6 @@ use Rattle.obs_store.specs.declared.series.Epoch.{Epoch}
 use Rattle.slip_arcs.specs.Used.{IsSmall}
 use Rattle.slip_arcs.specs.declared.used.UsedSat.{UsedSat}
 use Rattle.screening.specs.declared.sv_pair.SvPair.{SvPair}
-use Rattle.screening.specs.Entries.{entries_in, places_of}
 use Rattle.screening.specs.Marks.{Passed, lost_lock}
 use Rattle.screening.specs.Sightings.{Setting, Sighting, IsSighting, MayBeLeftOut}
 use Rattle.screening.specs.Screening.{IsUsedSat, AreUsedSats, IsEntry, IsEntryAt, IsLeftOut, AreEnoughBelow, is_among}
@@ -104,14 +102,14 @@ added_one s base rover epochs pair n before sats boxes u b room named used small
   each = All-push (IsUsedSat s base rover epochs) sats u g.each used;
   small = All-push IsSmall sats u g.small small;
   others = λ sat seen less is none.
-    let split : (is_among sat sats || ((u.sat == sat) || false)) ≡ false = sym (list_any-append (λ (v : UsedSat). v.sat == sat) sats (u ∷ [])) ∙ none in
-    let apart : u.sat ≡ sat → ⊥ = eqb-false u.sat sat (left_false (u.sat == sat) false (right_false (is_among sat sats) ((u.sat == sat) || false) split)) in
-    ⊎_elim (λ (lower : sat < n). inl (earlier sat seen lower is (left_false (is_among sat sats) ((u.sat == sat) || false) split)))
-    (λ (here : sat ≡ n). absurd (apart (named ∙ sym here))) (below_or_at sat n less);
+      let split : (is_among sat sats || ((u.sat == sat) || false)) ≡ false = sym (list_any-append (λ (v : UsedSat). v.sat == sat) sats (u ∷ [])) ∙ none in
+      let apart : u.sat ≡ sat → ⊥ = eqb-false u.sat sat (left_false (u.sat == sat) false (right_false (is_among sat sats) ((u.sat == sat) || false) split)) in
+      ⊎_elim (λ (lower : sat < n). inl (earlier sat seen lower is (left_false (is_among sat sats) ((u.sat == sat) || false) split)))
+      (λ (here : sat ≡ n). absurd (apart (named ∙ sym here))) (below_or_at sat n less);
   added = g.added ++ b ∷ [];
   boxes_are = ap (λ (xs : List SvPair). xs ++ b ∷ []) g.boxes_are ∙ append_assoc before g.added (b ∷ []);
   places = map-append (λ (x : SvPair). (x.pair, x.sat)) g.added (b ∷ []) ∙ ap₂ (λ (xs ys : List (ℕ × ℕ)). xs ++ ys) g.places (one_place b.pair pair b.sat u.sat at.pair_is (at.sat_is ∙ sym named))
-    ∙ sym (map-append (λ (v : UsedSat). (pair, v.sat)) sats (u ∷ []));
+      ∙ sym (map-append (λ (v : UsedSat). (pair, v.sat)) sats (u ∷ []));
   entries = All-push (IsEntry s base rover) g.added b g.entries at.entry;
   of_pair = All-push (λ (x : SvPair). x.pair ≡ pair) g.added b g.of_pair at.pair_is;
 }

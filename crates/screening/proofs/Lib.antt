@@ -5,3 +5,4 @@ pub mod GatherLaws
 pub mod PairLaws
 pub mod BeginLaws
 pub mod TakenLaws
+pub mod TableLaws

@@ -1,5 +1,5 @@
 -- What a receiver observed of a satellite, and whether it may be used.
-use Rattle.std.specs.Prelude.{ℕ, ℤ, pos, ◌+◌, ◌*◌, ◌^◌, ◌/◌, ◌-ℤ◌, ◌≤◌, ◌≤ℤ◌, ◌%◌, Bool, not, ◌&&◌, ◌==◌, nat_le, int_le, if◌then◌else◌, Option, Some, None, List, [], ◌∷◌, find, slice_index_or, unsigned_abs}
+use Rattle.std.specs.Prelude.{ℕ, ℤ, pos, ◌^◌, ◌/◌, ◌-ℤ◌, ◌≤◌, ◌≤ℤ◌, ◌%◌, Bool, not, ◌&&◌, ◌==◌, nat_le, int_le, if◌then◌else◌, Option, Some, None, List, [], ◌∷◌, find, slice_index_or, unsigned_abs}
 use Rattle.obs_rows.specs.declared.bands.Signals.{Signals}
 use Rattle.obs_store.specs.declared.kinds.ObsType.{ObsType}
 use Rattle.obs_store.specs.declared.values.Value.{Value}
@@ -47,10 +47,10 @@ all_four (Some a) (Some b) (Some c) (Some d) = Some (record { l1_phase = a; l2_p
 abbrev pub amounts_of : SignalTypes → Option SatObs → Option Amounts
 amounts_of types None = None
 amounts_of types (Some s) = all_four
-  (amount_of is_usable_phase (value_in s types.l1_phase))
-  (amount_of is_usable_phase (value_in s types.l2_phase))
-  (amount_of is_usable_code (value_in s types.l1_code))
-  (amount_of is_usable_code (value_in s types.l2_code))
+    (amount_of is_usable_phase (value_in s types.l1_phase))
+    (amount_of is_usable_phase (value_in s types.l2_phase))
+    (amount_of is_usable_code (value_in s types.l1_code))
+    (amount_of is_usable_code (value_in s types.l2_code))
 
 -- the satellite of that number
 abbrev pub sat_in : ℕ → List SatObs → Option SatObs
@@ -63,7 +63,7 @@ amounts_at types e number = amounts_of types (sat_in number e.sats)
 -- for each signal the rover's amount minus the base's
 abbrev pub differences : Amounts → Amounts → List ℤ
 differences base rover =
-  (rover.l1_phase -ℤ base.l1_phase) ∷ (rover.l2_phase -ℤ base.l2_phase) ∷ (rover.l1_code -ℤ base.l1_code) ∷ (rover.l2_code -ℤ base.l2_code) ∷ []
+    (rover.l1_phase -ℤ base.l1_phase) ∷ (rover.l2_phase -ℤ base.l2_phase) ∷ (rover.l1_code -ℤ base.l1_code) ∷ (rover.l2_code -ℤ base.l2_code) ∷ []
 
 -- for the two phases alone
 abbrev pub phase_differences : Amounts → Amounts → List ℤ

@@ -1,5 +1,5 @@
 -- Which satellites a pair of epochs sees, and the mask.
-use Rattle.std.specs.Prelude.{◌≡◌, ℕ, ◌≤◌, ℤ, pos, Option, Some, None, List, slice_index_or}
+use Rattle.std.specs.Prelude.{◌≡◌, ℕ, ℤ, pos, Some, List, slice_index_or}
 use Rattle.rational.specs.Rational.{Rational, AreWithin, two_to_minus}
 use Rattle.obs_store.specs.declared.series.Epoch.{Epoch}
 use Rattle.eph_store.specs.declared.ephemeris.Eph.{Eph}

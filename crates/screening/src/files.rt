@@ -9,6 +9,7 @@ ghost use Rattle.screening.specs.Screening.{HasPosition, position_of, setting_of
 use crate::amounts::types_of;
 use crate::gather::gather;
 use crate::pairs::pair_at;
+use crate::records::{RecordTable, table_of};
 use crate::rules::Rules;
 use crate::{Screened, SvPairList, UsedList};
 use eph_store::NavFile;
@@ -33,20 +34,20 @@ fn position_of(base: &ObsFile) -> [i64; 3]
 fn screen_pairs(
     alloc: Global,
     rules: &Rules,
-    nav: &NavFile,
+    table: &RecordTable<'_>,
     base: &[Epoch],
     rover: &[Epoch],
     pairs: &[PairOf],
 ) -> Result<Screened, AllocError>
     requires pairs { ArePairsOf base.now rover.now pairs.now }
-    ensures used { IfOk result (λ s. AreUsedPairs (setting_with rules.now nav.now.fit) base.now rover.now pairs.now s.used) }
-    ensures boxes { IfOk result (λ s. All (IsSvPair (setting_with rules.now nav.now.fit) base.now rover.now pairs.now) s.boxes) }
+    ensures used { IfOk result (λ s. AreUsedPairs (setting_with rules.now table.now.fit.now) base.now rover.now pairs.now s.used) }
+    ensures boxes { IfOk result (λ s. All (IsSvPair (setting_with rules.now table.now.fit.now) base.now rover.now pairs.now) s.boxes) }
 {
     let mut used = UsedList::new(Vec::new(alloc));
     let mut boxes = SvPairList::new(Vec::new(alloc));
     'pairs: for k in 0..pairs.len() {
         let at = pair_at(base, rover, pairs, k);
-        let pair = gather(alloc, rules, nav, &at, &mut boxes)?;
+        let pair = gather(alloc, rules, table, &at, &mut boxes)?;
         used.push(pair)?;
     }
     Ok(Screened { used, boxes })
@@ -76,6 +77,7 @@ pub fn screen_in(
     ensures boxes { IfOk result (λ s.
         All (IsSvPair (setting_of base.now nav.now signals mask (constants_of world.now)) base.now.epochs rover.now.epochs pairs.now) s.boxes) }
 {
+    let table = table_of(alloc, nav.fit())?;
     let rules = Rules {
         types: types_of(signals),
         point: position_of(base),
@@ -83,7 +85,7 @@ pub fn screen_in(
         world: *world,
     };
     let (of_base, of_rover) = (base.epochs.as_slice(), rover.epochs.as_slice());
-    screen_pairs(alloc, &rules, nav, of_base, of_rover, pairs)
+    screen_pairs(alloc, &rules, &table, of_base, of_rover, pairs)
 }
 
 /// The same with the constants of IS-GPS-200.
@@ -102,14 +104,5 @@ pub fn screen(
     ensures used { IfOk result (λ s. AreUsedPairs (setting_of base.now nav.now signals mask gps) base.now.epochs rover.now.epochs pairs.now s.used) }
     ensures boxes { IfOk result (λ s. All (IsSvPair (setting_of base.now nav.now signals mask gps) base.now.epochs rover.now.epochs pairs.now) s.boxes) }
 {
-    screen_in(
-        alloc,
-        base,
-        rover,
-        nav,
-        signals,
-        pairs,
-        mask,
-        &World::gps(),
-    )
+    screen_in(alloc, base, rover, nav, signals, pairs, mask, &World::gps())
 }

@@ -9,10 +9,10 @@ ghost use Rattle.screening.specs.Gathering.{IsPassedOver, IsAdded, AreGathered, 
 
 use crate::amounts::SignalTypes;
 use crate::marks::{lost_in, power_failed};
+use crate::records::RecordTable;
 use crate::rules::Rules;
 use crate::sights::entry_of;
 use crate::{SvPair, SvPairList, UsedPair, UsedSat};
-use eph_store::NavFile;
 use obs_store::Epoch;
 use std::alloc::{AllocError, Global};
 
@@ -58,7 +58,7 @@ fn used_sat(entry: &SvPair, lost: bool) -> UsedSat
 // Adds the satellite of that number, where both epochs see it above the mask and there is room.
 fn add_sat(
     rules: &Rules,
-    nav: &NavFile,
+    table: &RecordTable<'_>,
     at: &PairAt<'_>,
     number: u8,
     sats: &mut Vec<UsedSat>,
@@ -67,14 +67,14 @@ fn add_sat(
     requires near { abs_diff at.now.base.now.tag.0 at.now.rover.now.tag.0 ≤ 5_000_000 }
     requires number { IsGpsNumber number }
     ensures { OnOk result
-        (IsPassedOver (setting_with rules.now nav.now.fit) at.now.base.now at.now.rover.now number sats.old.items sats.new.items boxes.old boxes.new
-        ⊎ IsAdded (setting_with rules.now nav.now.fit) at.now.base.now at.now.rover.now (record { base = at.now.base_passed.now; rover = at.now.rover_passed.now })
-            at.now.number number sats.old.items sats.new.items boxes.old boxes.new) }
+        (IsPassedOver (setting_with rules.now table.now.fit.now) at.now.base.now at.now.rover.now number sats.old.items sats.new.items boxes.old boxes.new
+        ⊎ IsAdded (setting_with rules.now table.now.fit.now) at.now.base.now at.now.rover.now (record { base = at.now.base_passed.now; rover = at.now.rover_passed.now })
+        at.now.number number sats.old.items sats.new.items boxes.old boxes.new) }
 {
     if sats.len() >= MOST_SATS {
         return Ok(());
     }
-    let Some(entry) = entry_of(rules, nav, at.base, at.rover, at.number, number) else {
+    let Some(entry) = entry_of(rules, table, at.base, at.rover, at.number, number) else {
         return Ok(());
     };
     let lost = lost_up_to(&rules.types, number, at);
@@ -87,18 +87,18 @@ fn add_sat(
 fn sats_of(
     alloc: Global,
     rules: &Rules,
-    nav: &NavFile,
+    table: &RecordTable<'_>,
     at: &PairAt<'_>,
     boxes: &mut SvPairList,
 ) -> Result<Vec<UsedSat>, AllocError>
     requires near { abs_diff at.now.base.now.tag.0 at.now.rover.now.tag.0 ≤ 5_000_000 }
     ensures { IfOk result (λ sats.
-        AreGathered (setting_with rules.now nav.now.fit) at.now.base.now at.now.rover.now (record { base = at.now.base_passed.now; rover = at.now.rover_passed.now })
-            at.now.number 33 boxes.old sats.items boxes.new) }
+        AreGathered (setting_with rules.now table.now.fit.now) at.now.base.now at.now.rover.now (record { base = at.now.base_passed.now; rover = at.now.rover_passed.now })
+        at.now.number 33 boxes.old sats.items boxes.new) }
 {
     let mut sats: Vec<UsedSat> = Vec::new(alloc);
     'numbers: for number in 1..33u8 {
-        add_sat(rules, nav, at, number, &mut sats, boxes)?;
+        add_sat(rules, table, at, number, &mut sats, boxes)?;
     }
     Ok(sats)
 }
@@ -107,16 +107,16 @@ fn sats_of(
 pub fn gather(
     alloc: Global,
     rules: &Rules,
-    nav: &NavFile,
+    table: &RecordTable<'_>,
     at: &PairAt<'_>,
     boxes: &mut SvPairList,
 ) -> Result<UsedPair, AllocError>
     requires near { abs_diff at.now.base.now.tag.0 at.now.rover.now.tag.0 ≤ 5_000_000 }
     ensures { IfOk result (λ u.
-        IsGathered (setting_with rules.now nav.now.fit) at.now.base.now at.now.rover.now (record { base = at.now.base_passed.now; rover = at.now.rover_passed.now })
-            at.now.number boxes.old u boxes.new) }
+        IsGathered (setting_with rules.now table.now.fit.now) at.now.base.now at.now.rover.now (record { base = at.now.base_passed.now; rover = at.now.rover_passed.now })
+        at.now.number boxes.old u boxes.new) }
 {
     let power = power_up_to(at);
-    let sats = sats_of(alloc, rules, nav, at, boxes)?;
+    let sats = sats_of(alloc, rules, table, at, boxes)?;
     Ok(UsedPair { power, sats })
 }

@@ -11,8 +11,8 @@ ghost use Rattle.screening.specs.Screening.{IsEntryAt, IsLeftOut};
 
 use crate::SvPair;
 use crate::amounts::{Amounts, amounts_at};
+use crate::records::{RecordTable, chosen};
 use crate::rules::Rules;
-use eph_store::NavFile;
 use obs_rows::SIGNALS;
 use obs_store::Epoch;
 use signal_travel::{above, seen_from};
@@ -63,7 +63,7 @@ fn differences(base: Amounts, rover: Amounts) -> [i64; SIGNALS]
 /// What a pair of epochs says of a satellite that it may use. The boxes of a receiver are made once.
 pub fn entry_of(
     rules: &Rules,
-    nav: &NavFile,
+    table: &RecordTable<'_>,
     base: &Epoch,
     rover: &Epoch,
     pair: u32,
@@ -72,12 +72,12 @@ pub fn entry_of(
     requires near { abs_diff base.now.tag.0 rover.now.tag.0 ≤ 5_000_000 }
     requires number { IsGpsNumber number }
     ensures { MatchOption result
-        (IsLeftOut (setting_with rules.now nav.now.fit) base.now rover.now number)
-        (IsEntryAt (setting_with rules.now nav.now.fit) base.now rover.now pair number) }
+        (IsLeftOut (setting_with rules.now table.now.fit.now) base.now rover.now number)
+        (IsEntryAt (setting_with rules.now table.now.fit.now) base.now rover.now pair number) }
 {
     let at_base = amounts_at(&rules.types, base, number)?;
     let at_rover = amounts_at(&rules.types, rover, number)?;
-    let eph = nav.choose(number, base.tag)?;
+    let eph = chosen(table, number, base.tag)?;
     let from_base = sv_with(eph, base.tag, at_base.l1_code, &rules.world);
     if !is_high(rules, &from_base) {
         return None;

@@ -214,7 +214,11 @@ fn ends_of_the_ranges(rt: HostRuntime) -> Result<(), Fail> {
         (0, 0, 100_000_000_001, 0),
     ] {
         let found = used_with(rt.alloc(), &nav, observed(1, phase, lock, code))?;
-        assert_eq!(rt; found, (used, used), "phase {phase}, lock {lock}, code {code}");
+        assert_eq!(rt;
+            found,
+            (used, used),
+            "phase {phase}, lock {lock}, code {code}"
+        );
     }
     Ok(())
 }

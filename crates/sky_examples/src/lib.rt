@@ -2,6 +2,10 @@
 #![tactic(auto)]
 
 #[cfg(test)]
-mod tables;
+mod places;
+#[cfg(test)]
+mod records;
+#[cfg(test)]
+mod sightings;
 #[cfg(test)]
 mod tests;

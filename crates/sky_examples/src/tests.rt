@@ -1,6 +1,7 @@
 // Each box holds the value of the independent calculation, which is rounded down.
-use crate::tables::{LINES, OF_GALILEO, PLACES, Placed, SIGHTINGS};
-use eph_store::{Eph, NavFile};
+use crate::places::{OF_GALILEO, PLACES};
+use crate::records::LINES;
+use crate::sightings::SIGHTINGS;
 use gps_time::Tick;
 use iv_core::Iv;
 use rinex_nav::read_nav;

@@ -4,14 +4,15 @@ use Rattle.quadratic_form.specs.Elimination.{Factor, Refusal, steps}
 use Rattle.decorrelate.specs.declared.unimodular.Unimodular.{Unimodular}
 use Rattle.decorrelate.specs.Inverses.{Undoes}
 use Rattle.decorrelate.specs.Reducing.{IsReduced}
+use Rattle.decorrelate.proofs.SameStates.{reduced_same}
 use Rattle.integer_form.specs.declared.form.Form.{Form}
 use Rattle.integer_form.specs.declared.front_form.FrontForm.{FrontForm}
 use Rattle.integer_form.specs.Forms.{integers_of}
 use Rattle.integer_form.specs.Kept.{form_of_table, constant_form}
 use Rattle.lower_form.specs.Forms.{finish_of, IsFinishOf}
 use Rattle.reduced_form.specs.Transformed.{transformed_form, IsTransformed}
-use Rattle.int_search.specs.ReducedCounts.{HasCountIn}
-use Rattle.int_search.proofs.ReducedLaws.{IsDecorrelated, reduced_can, reduced_found, reduced_fault}
+use Rattle.int_search.specs.ReducedCounts.{HasCountIn, HasReducedCount}
+use Rattle.int_search.proofs.ReducedLaws.{IsDecorrelated, reduced_can, reduced_found, reduced_fault, count_as}
 use Rattle.int_search.proofs.reduced.reduced_best.Goals as goal
 
 integers : (f : Form) → 4 < f.columns → (f.columns - 3) - 1 ≡ integers_of f
@@ -39,6 +40,10 @@ decorrelated_is f r front u h s m t e = record {
   rows = m;
 }
 
+-- the count in the map at hand
+count : (f : Form) (n : ℕ) (u : Unimodular) → IsReduced (integers_of f) f.d f.l u → HasReducedCount f n → HasCountIn f n u.map
+count f n u r h = count_as f n h.change.map u.map (λ i k a b. (reduced_same (integers_of f) f.d f.l h.change u h.reduced r i k a b).0) h.count
+
 pub returns-in_default : goal.returns-in_default
 returns-in_default c =
     let f : Form = c.args.form.now in
@@ -46,7 +51,7 @@ returns-in_default c =
     let e : (f.columns - 3) - 1 ≡ integers_of f = integers f c.requires in
     let size : u.size ≡ integers_of f = c.reduce-change.ensures.size ∙ e in
     let red : IsReduced (integers_of f) f.d f.l u = subst (λ (k : ℕ). IsReduced k f.d f.l u) e c.reduce-change.ensures.reduced in
-    λ h. c.in_default.ensures (h u red).small
+    λ h. c.in_default.ensures (count f c.args.budget u red h).small
 
 pub returns-in_default-finish : goal.returns-in_default-finish
 returns-in_default-finish c =
@@ -57,7 +62,7 @@ returns-in_default-finish c =
     let red : IsReduced (integers_of f) f.d f.l u = subst (λ (k : ℕ). IsReduced k f.d f.l u) e c.reduce-change.ensures.reduced in
     let t : IsTransformed (integers_of f) u.map f.p c.in-Some.front = c.in-Some.ensures in
     λ h.
-    let k : HasCountIn f c.args.budget u.map = h u red in
+    let k : HasCountIn f c.args.budget u.map = count f c.args.budget u red h in
     let w = c.in_default-finish.ensures.refused in
     apart (k.factors, constant_form k.g) w.0 (sym (same_steps (integers_of f) u.map f.p c.in-Some.front t ∙ k.taken) ∙ w.1.0)
 
@@ -97,5 +102,5 @@ returns-in-Err c =
     let fin : IsFinishOf c.in-Some.front c.in-Ok.reduced = c.in-Ok.ensures.finished in
     let d : IsDecorrelated f c.in-Ok.reduced u = decorrelated_is f c.in-Ok.reduced c.in-Some.front u c.requires size c.at.ensures.shape.rows t fin in
     λ h.
-    let k : HasCountIn f c.args.budget u.map = h u red in
+    let k : HasCountIn f c.args.budget u.map = count f c.args.budget u red h in
     reduced_fault f c.in-Ok.reduced u c.args.budget _ k d (sym k.taken ∙ sym (same_steps (integers_of f) u.map f.p c.in-Some.front t) ∙ fin.taken) c.in-Err.ensures

@@ -1,10 +1,7 @@
-use Rattle.std.proofs.Common.{◌≡◌, ℤ, refl, sym, ◌∙◌, Some, None, to_z, of_z}
-use Rattle.std.specs.Int.{w64}
-use Rattle.orbit_model.specs.Solution.{Quantities}
+use Rattle.std.proofs.Common.{refl, sym, ◌∙◌}
 use Rattle.orbit_clock.specs.Records.{elements_of}
 use Rattle.sv_orbit.specs.Solutions.{HoldsSolution}
 use Rattle.screening.specs.Amounts.{AreUsable}
-use Rattle.eph_store.specs.Chosen.{IsChosenRecord, HasNoCandidate}
 use Rattle.screening.specs.Sightings.{Setting, Sighting, IsSighting, Sent, setting_with}
 use Rattle.screening.proofs.ChosenOnce.{none_chosen}
 use Rattle.screening.proofs.SightLaws.{match_none, match_some, if_some, at_code, fewer, left_out_as}
@@ -14,17 +11,17 @@ use Rattle.screening.proofs.sights.entry_of.Goals as goal
 pub returns-in_err-eph : goal.returns-in_err-eph
 returns-in_err-eph c =
     rw c.from_residual-in_err-eph.ensures
-    (λ g is. absurd (none_chosen c.args.nav.now.fit c.args.number c.args.base.now.tag.0 g.eph (match_none c.choose.result _ _ c.in_err-eph.was c.choose.ensures) is.chosen))
+    (λ g is. absurd (none_chosen c.args.table.now.fit.now c.args.number c.args.base.now.tag.0 g.eph (match_none c.chosen.result _ _ c.in_err-eph.was c.chosen.ensures) is.chosen))
 
 pub returns-then-not-is_high : goal.returns-then-not-is_high
 returns-then-not-is_high c =
-    let s : Setting = setting_with c.args.rules.now c.args.nav.now.fit in
+    let s : Setting = setting_with c.args.rules.now c.args.table.now.fit.now in
     let g : Sighting = record { base = c.in_ok-at_base.at_base; rover = c.in_ok-at_rover.at_rover; eph = c.in_ok-eph.eph.now } in
     let seen : IsSighting s c.args.base.now c.args.rover.now c.args.number g = record {
       number = c.requires.number;
       at_base = sym c.amounts_at.ensures.value ∙ c.in_ok-at_base.was;
       at_rover = sym c.amounts_at-2.ensures.value ∙ c.in_ok-at_rover.was;
-      chosen = match_some c.choose.result _ _ c.in_ok-eph.eph c.in_ok-eph.was c.choose.ensures;
+      chosen = match_some c.chosen.result _ _ c.in_ok-eph.eph c.in_ok-eph.was c.chosen.ensures;
     } in
     let fit : AreUsable g.base = if_some c.amounts_at.result AreUsable g.base c.in_ok-at_base.was c.amounts_at.ensures.usable in
     let holds = at_code s.world (elements_of g.eph) c.args.base.now.tag.0 g.base.l1_code c.sv_with-from_base.result (plain_code g.base.l1_code fit.l1_code_from fit.l1_code_to) c.sv_with-from_base.ensures in
@@ -33,13 +30,13 @@ returns-then-not-is_high c =
 
 pub returns : goal.returns
 returns c =
-    let s : Setting = setting_with c.args.rules.now c.args.nav.now.fit in
+    let s : Setting = setting_with c.args.rules.now c.args.table.now.fit.now in
     let g : Sighting = record { base = c.in_ok-at_base.at_base; rover = c.in_ok-at_rover.at_rover; eph = c.in_ok-eph.eph.now } in
     let seen : IsSighting s c.args.base.now c.args.rover.now c.args.number g = record {
       number = c.requires.number;
       at_base = sym c.amounts_at.ensures.value ∙ c.in_ok-at_base.was;
       at_rover = sym c.amounts_at-2.ensures.value ∙ c.in_ok-at_rover.was;
-      chosen = match_some c.choose.result _ _ c.in_ok-eph.eph c.in_ok-eph.was c.choose.ensures;
+      chosen = match_some c.chosen.result _ _ c.in_ok-eph.eph c.in_ok-eph.was c.chosen.ensures;
     } in
     let fit : AreUsable g.base = if_some c.amounts_at.result AreUsable g.base c.in_ok-at_base.was c.amounts_at.ensures.usable in
     let fit_too : AreUsable g.rover = if_some c.amounts_at-2.result AreUsable g.rover c.in_ok-at_rover.was c.amounts_at-2.ensures.usable in

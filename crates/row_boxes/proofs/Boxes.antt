@@ -1,0 +1,229 @@
+-- What the boxes hold, step by step.
+use Rattle.std.proofs.Common.{◌≡◌, ℕ, ◌+◌, ◌*◌, ◌^◌, ◌<◌, ◌≤◌, ◌⊎◌, [], ◌∷◌, ℤ, pos, ◌+ℤ◌, ◌-ℤ◌, ◌*ℤ◌, neg_ℤ, ◌≤ℤ◌, ◌<ℤ◌, arith, refl, sym, subst, lit<, pow_pos, inl, inr, ⊎_elim}
+use Rattle.std.proofs.lemmas.Int.{ints}
+use Rattle.std.proofs.lemmas.Bool.{cases_lt}
+use Rattle.whole_math.specs.Rounding.{floor_div, ceil_div, IsFloor, IsCeil}
+use Rattle.whole_math.proofs.Rounding.{floor_is, ceil_is, floor_le_ceil}
+use Rattle.whole_math.proofs.IntLaws.{mul_one_ℤ}
+use Rattle.whole_math.proofs.Ring.{◌⊗◌}
+use Rattle.whole_math.proofs.Order.{lins, mul_le_right}
+use Rattle.whole_math.proofs.Inequalities.{same_by, pos_nn, le_refl_ℤ}
+use Rattle.rational.specs.Rational.{Rational, of_whole, sub_r, mul_r, InBox, Near}
+use Rattle.rational.proofs.Boxes.{wider}
+use Rattle.iv_core.proofs.SumLaws.{sub_holds}
+use Rattle.obs_rows.specs.Ranges.{IsScale}
+use Rattle.row_boxes.specs.Terms.{metre, light_speed, pseudorange, thousandth, observed, row_unit, in_row_unit}
+use Rattle.row_boxes.specs.YBoxes.{most_radius, MeetsOne}
+use Rattle.row_boxes.proofs.Scaling.{scaled_box}
+use Rattle.row_boxes.proofs.Ends.{scale_cases}
+
+-- ---- exact steps
+-- a whole multiple
+times_low : (a x n k d : ℤ) → pos 0 ≤ℤ n → (a *ℤ d) ≤ℤ (x *ℤ k) → ((a *ℤ n) *ℤ d) ≤ℤ ((n *ℤ x) *ℤ k)
+times_low a x n k d n0 h = step ((a *ℤ d) *ℤ n) ((x *ℤ k) *ℤ n) ((a *ℤ n) *ℤ d) ((n *ℤ x) *ℤ k) (mul_le_right n (a *ℤ d) (x *ℤ k) n0 h)
+    (same_by (a ∷ n ∷ d ∷ []) (λ a n d. ((a ⊗ n) ⊗ d, (a ⊗ d) ⊗ n)) refl) (same_by (n ∷ x ∷ k ∷ []) (λ n x k. ((n ⊗ x) ⊗ k, (x ⊗ k) ⊗ n)) refl)
+  where
+    step : (p q r s : ℤ) → p ≤ℤ q → r ≡ p → s ≡ q → r ≤ℤ s
+    step p q r s h e f = omega (arith, lins)
+
+times_high : (a x n k d : ℤ) → pos 0 ≤ℤ n → (x *ℤ k) ≤ℤ (a *ℤ d) → ((n *ℤ x) *ℤ k) ≤ℤ ((a *ℤ n) *ℤ d)
+times_high a x n k d n0 h = step ((x *ℤ k) *ℤ n) ((a *ℤ d) *ℤ n) ((n *ℤ x) *ℤ k) ((a *ℤ n) *ℤ d) (mul_le_right n (x *ℤ k) (a *ℤ d) n0 h)
+    (same_by (n ∷ x ∷ k ∷ []) (λ n x k. ((n ⊗ x) ⊗ k, (x ⊗ k) ⊗ n)) refl) (same_by (a ∷ n ∷ d ∷ []) (λ a n d. ((a ⊗ n) ⊗ d, (a ⊗ d) ⊗ n)) refl)
+  where
+    step : (p q r s : ℤ) → p ≤ℤ q → r ≡ p → s ≡ q → r ≤ℤ s
+    step p q r s h e f = omega (arith, lins)
+
+of_light : (lo hi : ℤ) (t : Rational) → InBox 60 lo hi t → InBox 60 (lo *ℤ pos 299792458) (hi *ℤ pos 299792458) (mul_r light_speed t)
+of_light lo hi t h = (times_low lo t.num (pos 299792458) (pos (2 ^ 60)) (pos (1 * t.den)) (pos_nn 299792458) (rw (one t.den) h.0), times_high hi t.num (pos 299792458) (pos (2 ^ 60)) (pos (1 * t.den)) (pos_nn 299792458) (rw (one t.den) h.1))
+  where
+    one : (d : ℕ) → 1 * d ≡ d
+    one d = omega arith
+
+-- from 2^-36 to 2^-60
+finer : (lo hi : ℤ) (r : Rational) → InBox 36 lo hi r → InBox 60 (lo *ℤ pos (2 ^ 24)) (hi *ℤ pos (2 ^ 24)) r
+finer lo hi r h = (
+  low lo (pos r.den) (r.num) h.0,
+  high hi (pos r.den) (r.num) h.1,
+)
+  where
+    same : (l d : ℤ) → (l *ℤ pos (2 ^ 24)) *ℤ d ≡ (l *ℤ d) *ℤ pos (2 ^ 24)
+    same l d = same_by (l ∷ d ∷ pos (2 ^ 24) ∷ []) (λ l d n. ((l ⊗ n) ⊗ d, (l ⊗ d) ⊗ n)) refl
+
+    step : (p x q : ℤ) → p ≤ℤ (x *ℤ pos (2 ^ 36)) → q ≡ p *ℤ pos (2 ^ 24) → q ≤ℤ (x *ℤ pos (2 ^ 60))
+    step p x q h e = omega (arith, ints)
+
+    step' : (p x q : ℤ) → (x *ℤ pos (2 ^ 36)) ≤ℤ p → q ≡ p *ℤ pos (2 ^ 24) → (x *ℤ pos (2 ^ 60)) ≤ℤ q
+    step' p x q h e = omega (arith, ints)
+
+    low : (l d x : ℤ) → (l *ℤ d) ≤ℤ (x *ℤ pos (2 ^ 36)) → ((l *ℤ pos (2 ^ 24)) *ℤ d) ≤ℤ (x *ℤ pos (2 ^ 60))
+    low l d x h = step (l *ℤ d) x ((l *ℤ pos (2 ^ 24)) *ℤ d) h (same l d)
+
+    high : (l d x : ℤ) → (x *ℤ pos (2 ^ 36)) ≤ℤ (l *ℤ d) → (x *ℤ pos (2 ^ 60)) ≤ℤ ((l *ℤ pos (2 ^ 24)) *ℤ d)
+    high l d x h = step' (l *ℤ d) x ((l *ℤ pos (2 ^ 24)) *ℤ d) h (same l d)
+
+pub pseudorange_holds : (rl rh tl th f g : ℤ) (r t : Rational) →
+    IsFloor (((rl *ℤ pos (2 ^ 24)) -ℤ (th *ℤ pos 299792458)) *ℤ pos 47262600000) (149896229 * 2 ^ 40) f →
+    IsCeil (((rh *ℤ pos (2 ^ 24)) -ℤ (tl *ℤ pos 299792458)) *ℤ pos 47262600000) (149896229 * 2 ^ 40) g →
+    InBox 36 rl rh r → InBox 60 tl th t → InBox 20 f g (pseudorange r t)
+pseudorange_holds rl rh tl th f g r t k l h i =
+    scaled_box 60 20 ((rl *ℤ pos (2 ^ 24)) -ℤ (th *ℤ pos 299792458)) ((rh *ℤ pos (2 ^ 24)) -ℤ (tl *ℤ pos 299792458)) (pos 47262600000) f g (149896229 * 2 ^ 40) metre (sub_r r (mul_r light_speed t))
+    (lit< tt) (pos_nn 47262600000) refl k l (sub_holds 60 (rl *ℤ pos (2 ^ 24)) (rh *ℤ pos (2 ^ 24)) (tl *ℤ pos 299792458) (th *ℤ pos 299792458) r (mul_r light_speed t) (finer rl rh r h) (of_light tl th t i))
+
+-- ---- observed
+whole_in : (a : ℤ) → InBox 0 a a (of_whole a)
+whole_in a = (le_refl_ℤ (a *ℤ pos 1), le_refl_ℤ (a *ℤ pos 1))
+
+pub observed_l1 : (a f g : ℤ) → IsFloor (a *ℤ pos 62914560) 1000 f → IsCeil (a *ℤ pos 62914560) 1000 g → InBox 20 f g (observed 0 a)
+observed_l1 a f g k l = scaled_box 0 20 a a (pos 62914560) f g 1000 (thousandth 0) (of_whole a) (lit< tt) (pos_nn 62914560) refl k l (whole_in a)
+
+pub observed_l2 : (a f g : ℤ) → IsFloor (a *ℤ pos 80740352) 1000 f → IsCeil (a *ℤ pos 80740352) 1000 g → InBox 20 f g (observed 1 a)
+observed_l2 a f g k l = scaled_box 0 20 a a (pos 80740352) f g 1000 (thousandth 1) (of_whole a) (lit< tt) (pos_nn 80740352) refl k l (whole_in a)
+
+pub observed_code : (s : ℕ) (a f g : ℤ) → 2 ≤ s → s < 4 → IsFloor (a *ℤ pos (47262600 * 2 ^ 20)) 149896229 f → IsCeil (a *ℤ pos (47262600 * 2 ^ 20)) 149896229 g → InBox 20 f g (observed s a)
+observed_code s a f g m n k l = ⊎_elim (λ (e : s ≡ 2). subst (λ (i : ℕ). InBox 20 f g (observed i a)) (sym e) (code2)) (λ (e : s ≡ 3). subst (λ (i : ℕ). InBox 20 f g (observed i a)) (sym e) (code3)) (which s m n)
+  where
+    code2 : InBox 20 f g (observed 2 a)
+    code2 = scaled_box 0 20 a a (pos (47262600 * 2 ^ 20)) f g 149896229 (thousandth 2) (of_whole a) (lit< tt) (pos_nn (47262600 * 2 ^ 20)) refl k l (whole_in a)
+
+    code3 : InBox 20 f g (observed 3 a)
+    code3 = scaled_box 0 20 a a (pos (47262600 * 2 ^ 20)) f g 149896229 (thousandth 3) (of_whole a) (lit< tt) (pos_nn (47262600 * 2 ^ 20)) refl k l (whole_in a)
+
+    last : (s : ℕ) → 2 ≤ s → s < 4 → 3 ≤ s → s ≡ 3
+    last s m n h = omega arith
+
+    first : (s : ℕ) → 2 ≤ s → s < 3 → s ≡ 2
+    first s m h = omega arith
+
+    which : (s : ℕ) → 2 ≤ s → s < 4 → (s ≡ 2) ⊎ (s ≡ 3)
+    which s m n = ⊎_elim (λ (h : s < 3). inl (first s m h)) (λ (h : 3 ≤ s). inr (last s m n h)) (cases_lt s 3)
+
+-- ---- observed less computed
+pub prefit_holds : (hl hh bl bh rl rh : ℤ) (o b r : Rational) → InBox 20 hl hh o → InBox 20 bl bh b → InBox 20 rl rh r → InBox 20 (hl -ℤ (rh -ℤ bl)) (hh -ℤ (rl -ℤ bh)) (sub_r o (sub_r r b))
+prefit_holds hl hh bl bh rl rh o b r h i j = sub_holds 20 hl hh (rl -ℤ bh) (rh -ℤ bl) o (sub_r r b) h (sub_holds 20 rl rh bl bh r b j i)
+
+-- ---- in the unit of a row
+unit_is : (s : ℕ) → IsScale s → (pos 1 *ℤ pos (2 ^ s)) *ℤ pos (2 ^ 20) ≡ (pos (2 ^ 18) *ℤ pos (2 ^ 0)) *ℤ pos (2 ^ (s + 2))
+unit_is s h = ⊎_elim (λ (e : s ≡ 0). subst (λ (i : ℕ). (pos 1 *ℤ pos (2 ^ i)) *ℤ pos (2 ^ 20) ≡ (pos (2 ^ 18) *ℤ pos (2 ^ 0)) *ℤ pos (2 ^ (i + 2))) (sym e) refl)
+    (λ (e : s ≡ 14). subst (λ (i : ℕ). (pos 1 *ℤ pos (2 ^ i)) *ℤ pos (2 ^ 20) ≡ (pos (2 ^ 18) *ℤ pos (2 ^ 0)) *ℤ pos (2 ^ (i + 2))) (sym e) refl) (scale_cases s h)
+
+pub whole_at : (w : ℤ) → InBox 20 (w *ℤ pos 1048576) (w *ℤ pos 1048576) (of_whole w)
+whole_at w = (same (w *ℤ pos 1048576), same' (w *ℤ pos 1048576))
+  where
+    same : (x : ℤ) → (x *ℤ pos 1) ≤ℤ x
+    same x = omega (arith, ints)
+
+    same' : (x : ℤ) → x ≤ℤ (x *ℤ pos 1)
+    same' x = omega (arith, ints)
+
+-- the ends after a whole number of κ is taken off, and the middle and radius of a box around them
+pub record AreYEnds (s : ℕ) (lo hi w c r : ℤ) : Type 0 where
+  pub scale : IsScale s
+  pub ordered : lo ≤ℤ hi
+  pub narrow : (hi -ℤ lo) ≤ℤ pos 5225
+  pub top : c +ℤ r ≡ ceil_div (hi -ℤ (w *ℤ pos 1048576)) (2 ^ (s + 2))
+  pub bottom : (c -ℤ r) ≤ℤ floor_div (lo -ℤ (w *ℤ pos 1048576)) (2 ^ (s + 2))
+  pub radius : r ≤ℤ (ceil_div (hi -ℤ (w *ℤ pos 1048576)) (2 ^ (s + 2)) -ℤ floor_div (lo -ℤ (w *ℤ pos 1048576)) (2 ^ (s + 2)))
+
+pub y_holds : (s : ℕ) (lo hi w c r : ℤ) (q : Rational) → AreYEnds s lo hi w c r → InBox 20 lo hi q → Near c r (in_row_unit s (sub_r q (of_whole w)))
+y_holds s lo hi w c r q a h =
+    let e : ℕ = 2 ^ (s + 2) in
+    let l : ℤ = lo -ℤ (w *ℤ pos 1048576) in
+    let u : ℤ = hi -ℤ (w *ℤ pos 1048576) in
+    let x : Rational = sub_r q (of_whole w) in
+    wider 0 (floor_div l e) (ceil_div u e) (c -ℤ r) (c +ℤ r) (in_row_unit s x) a.bottom (same_le _ _ (sym a.top))
+    (scaled_box 20 0 l u (pos 1) (floor_div l e) (ceil_div u e) e (row_unit s) x (pow_pos (s + 2)) (pos_nn 1) (unit_is s a.scale)
+    (rw (mul_one_ℤ l) (floor_is l e (pow_pos (s + 2)))) (rw (mul_one_ℤ u) (ceil_is u e (pow_pos (s + 2))))
+    (sub_holds 20 lo hi (w *ℤ pos 1048576) (w *ℤ pos 1048576) q (of_whole w) h (whole_at w)))
+  where
+    same_le : (x y : ℤ) → x ≡ y → x ≤ℤ y
+    same_le x y e = omega (arith, lins)
+
+-- how the ends are rounded, over e
+record Rounded (e : ℕ) (l u f g : ℤ) : Type 0 where
+  low : (f *ℤ pos e) ≤ℤ l
+  below : l <ℤ ((f *ℤ pos e) +ℤ pos e)
+  high : u ≤ℤ (g *ℤ pos e)
+  above : (g *ℤ pos e) <ℤ (u +ℤ pos e)
+
+rounded : (e : ℕ) (l u : ℤ) → 0 < e → Rounded e l u (floor_div l e) (ceil_div u e)
+rounded e l u h = let f = floor_is l e h in let g = ceil_is u e h in record { low = f.0; below = f.1; high = g.0; above = g.1 }
+
+pub y_narrow : (s : ℕ) (lo hi x : ℤ) → IsScale s → (hi -ℤ lo) ≤ℤ pos 5225 → (ceil_div (hi -ℤ x) (2 ^ (s + 2)) -ℤ floor_div (lo -ℤ x) (2 ^ (s + 2))) ≤ℤ pos 1308
+y_narrow s lo hi x t h = ⊎_elim (λ (e : s ≡ 0). subst (λ (i : ℕ). (ceil_div (hi -ℤ x) (2 ^ (i + 2)) -ℤ floor_div (lo -ℤ x) (2 ^ (i + 2))) ≤ℤ pos 1308) (sym e) (four (lo -ℤ x) (hi -ℤ x) _ _ (rounded 4 (lo -ℤ x) (hi -ℤ x) (lit< tt)) (same lo hi x h)))
+    (λ (e : s ≡ 14). subst (λ (i : ℕ). (ceil_div (hi -ℤ x) (2 ^ (i + 2)) -ℤ floor_div (lo -ℤ x) (2 ^ (i + 2))) ≤ℤ pos 1308) (sym e) (many (lo -ℤ x) (hi -ℤ x) _ _ (rounded 65536 (lo -ℤ x) (hi -ℤ x) (lit< tt)) (same lo hi x h))) (scale_cases s t)
+  where
+    four : (l u f g : ℤ) → Rounded 4 l u f g → (u -ℤ l) ≤ℤ pos 5225 → (g -ℤ f) ≤ℤ pos 1308
+    four l u f g k h = omega (arith, ints)
+
+    many : (l u f g : ℤ) → Rounded 65536 l u f g → (u -ℤ l) ≤ℤ pos 5225 → (g -ℤ f) ≤ℤ pos 1308
+    many l u f g k h = omega (arith, ints)
+
+    same : (lo hi x : ℤ) → (hi -ℤ lo) ≤ℤ pos 5225 → ((hi -ℤ x) -ℤ (lo -ℤ x)) ≤ℤ pos 5225
+    same lo hi x h = omega (arith, lins)
+
+pub y_ordered : (s : ℕ) (lo hi x : ℤ) → lo ≤ℤ hi → floor_div (lo -ℤ x) (2 ^ (s + 2)) ≤ℤ ceil_div (hi -ℤ x) (2 ^ (s + 2))
+y_ordered s lo hi x h = floor_le_ceil (lo -ℤ x) (hi -ℤ x) (2 ^ (s + 2)) (pow_pos (s + 2)) (less lo hi x h)
+  where
+    less : (lo hi x : ℤ) → lo ≤ℤ hi → (lo -ℤ x) ≤ℤ (hi -ℤ x)
+    less lo hi x h = omega (arith, lins)
+
+pub y_radius : (s : ℕ) (lo hi w c r : ℤ) → AreYEnds s lo hi w c r → r ≤ℤ most_radius s
+y_radius s lo hi w c r a = ⊎_elim (λ (e : s ≡ 0). subst (λ (i : ℕ). r ≤ℤ most_radius i) (sym e) (fine (subst (λ (i : ℕ). AreYEnds i lo hi w c r) e a)))
+    (λ (e : s ≡ 14). subst (λ (i : ℕ). r ≤ℤ most_radius i) (sym e) (coarse (subst (λ (i : ℕ). AreYEnds i lo hi w c r) e a))) (scale_cases s a.scale)
+  where
+    four : (l u f g r : ℤ) → Rounded 4 l u f g → (u -ℤ l) ≤ℤ pos 5225 → r ≤ℤ (g -ℤ f) → r ≤ℤ pos 2048
+    four l u f g r k h i = omega (arith, ints)
+
+    many : (l u f g r : ℤ) → Rounded 65536 l u f g → (u -ℤ l) ≤ℤ pos 5225 → r ≤ℤ (g -ℤ f) → r ≤ℤ pos 2
+    many l u f g r k h i = omega (arith, ints)
+
+    same : (lo hi x : ℤ) → (hi -ℤ lo) ≤ℤ pos 5225 → ((hi -ℤ x) -ℤ (lo -ℤ x)) ≤ℤ pos 5225
+    same lo hi x h = omega (arith, lins)
+
+    fine : AreYEnds 0 lo hi w c r → r ≤ℤ pos 2048
+    fine a = four _ _ _ _ r (rounded 4 (lo -ℤ (w *ℤ pos 1048576)) (hi -ℤ (w *ℤ pos 1048576)) (lit< tt)) (same lo hi (w *ℤ pos 1048576) a.narrow) a.radius
+
+    coarse : AreYEnds 14 lo hi w c r → r ≤ℤ pos 2
+    coarse a = many _ _ _ _ r (rounded 65536 (lo -ℤ (w *ℤ pos 1048576)) (hi -ℤ (w *ℤ pos 1048576)) (lit< tt)) (same lo hi (w *ℤ pos 1048576) a.narrow) a.radius
+
+-- the ends themselves
+pub plain_ends : (s : ℕ) (lo hi w : ℤ) → IsScale s → lo ≤ℤ hi → (hi -ℤ lo) ≤ℤ pos 5225 →
+    AreYEnds s lo hi w (floor_div (lo -ℤ (w *ℤ pos 1048576)) (2 ^ (s + 2))) (ceil_div (hi -ℤ (w *ℤ pos 1048576)) (2 ^ (s + 2)) -ℤ floor_div (lo -ℤ (w *ℤ pos 1048576)) (2 ^ (s + 2)))
+plain_ends s lo hi w t h k =
+    let f : ℤ = floor_div (lo -ℤ (w *ℤ pos 1048576)) (2 ^ (s + 2)) in
+    let g : ℤ = ceil_div (hi -ℤ (w *ℤ pos 1048576)) (2 ^ (s + 2)) in
+    record { scale = t; ordered = h; narrow = k; top = sum f g; bottom = below f g (y_ordered s lo hi (w *ℤ pos 1048576) h); radius = le_refl_ℤ (g -ℤ f) }
+  where
+    sum : (f g : ℤ) → f +ℤ (g -ℤ f) ≡ g
+    sum f g = omega (arith, lins)
+
+    below : (f g : ℤ) → f ≤ℤ g → (f -ℤ (g -ℤ f)) ≤ℤ f
+    below f g h = omega (arith, lins)
+
+pub y_meets : (s : ℕ) (lo hi w c r : ℤ) → AreYEnds s lo hi w c r → neg_ℤ (pos (2 ^ 19)) ≤ℤ (lo -ℤ (w *ℤ pos 1048576)) → (hi -ℤ (w *ℤ pos 1048576)) ≤ℤ (pos (2 ^ 19) +ℤ pos (2 ^ 13)) → MeetsOne s c r
+y_meets s lo hi w c r a h k = ⊎_elim (λ (e : s ≡ 0). subst (λ (i : ℕ). MeetsOne i c r) (sym e) (fine (subst (λ (i : ℕ). AreYEnds i lo hi w c r) e a)))
+    (λ (e : s ≡ 14). subst (λ (i : ℕ). MeetsOne i c r) (sym e) (coarse (subst (λ (i : ℕ). AreYEnds i lo hi w c r) e a))) (scale_cases s a.scale)
+  where
+    four : (l u f g : ℤ) → Rounded 4 l u f g → neg_ℤ (pos (2 ^ 19)) ≤ℤ l → u ≤ℤ (pos (2 ^ 19) +ℤ pos (2 ^ 13)) → l ≤ℤ u → (f ≤ℤ pos (2 ^ 18)) × (neg_ℤ (pos (2 ^ 18)) ≤ℤ g)
+    four l u f g k h i j = (omega (arith, ints), omega (arith, ints))
+
+    many : (l u f g : ℤ) → Rounded 65536 l u f g → neg_ℤ (pos (2 ^ 19)) ≤ℤ l → u ≤ℤ (pos (2 ^ 19) +ℤ pos (2 ^ 13)) → l ≤ℤ u → (f ≤ℤ pos 16) × (neg_ℤ (pos 16) ≤ℤ g)
+    many l u f g k h i j = (omega (arith, ints), omega (arith, ints))
+
+    less : (lo hi x : ℤ) → lo ≤ℤ hi → (lo -ℤ x) ≤ℤ (hi -ℤ x)
+    less lo hi x h = omega (arith, lins)
+
+    both : (x f m : ℤ) → x ≤ℤ f → f ≤ℤ m → x ≤ℤ m
+    both x f m h k = omega (arith, lins)
+
+    along : (x g m : ℤ) → x ≡ g → m ≤ℤ g → m ≤ℤ x
+    along x g m e k = omega (arith, lins)
+
+    meet : (x f g m : ℤ) → x ≤ℤ f → c +ℤ r ≡ g → (f ≤ℤ m) × (neg_ℤ m ≤ℤ g) → (x ≤ℤ m) × (neg_ℤ m ≤ℤ (c +ℤ r))
+    meet x f g m h e k = (both x f m h k.0, along (c +ℤ r) g (neg_ℤ m) e k.1)
+
+    fine : AreYEnds 0 lo hi w c r → MeetsOne 0 c r
+    fine a = meet (c -ℤ r) _ _ (pos (2 ^ 18)) a.bottom a.top (four (lo -ℤ (w *ℤ pos 1048576)) (hi -ℤ (w *ℤ pos 1048576)) _ _ (rounded 4 (lo -ℤ (w *ℤ pos 1048576)) (hi -ℤ (w *ℤ pos 1048576)) (lit< tt)) h k (less lo hi (w *ℤ pos 1048576) a.ordered))
+
+    coarse : AreYEnds 14 lo hi w c r → MeetsOne 14 c r
+    coarse a = meet (c -ℤ r) _ _ (pos 16) a.bottom a.top (many (lo -ℤ (w *ℤ pos 1048576)) (hi -ℤ (w *ℤ pos 1048576)) _ _ (rounded 65536 (lo -ℤ (w *ℤ pos 1048576)) (hi -ℤ (w *ℤ pos 1048576)) (lit< tt)) h k (less lo hi (w *ℤ pos 1048576) a.ordered))

@@ -1,0 +1,80 @@
+-- Widths and sizes of the boxes' ends, and numbers as the code reads them.
+use Rattle.std.proofs.Common.{◌≡◌, ℕ, ◌+◌, ◌*◌, ◌^◌, ◌<◌, ◌≤◌, ◌⊎◌, ℤ, pos, ◌+ℤ◌, ◌-ℤ◌, ◌*ℤ◌, neg_ℤ, ◌≤ℤ◌, ◌<ℤ◌, unsigned_abs, Bool, true, IsTrue, inl, inr, ⊎_elim, arith, to_z, of_z}
+use Rattle.std.specs.Int.{w64, w128}
+use Rattle.std.proofs.lemmas.Int.{ints}
+use Rattle.std.proofs.lemmas.Bool.{or_cases, eqb-true}
+use Rattle.std.specs.Prelude.{◌==◌}
+use Rattle.whole_math.specs.Rounding.{IsFloor, IsCeil}
+use Rattle.obs_rows.specs.Ranges.{IsScale}
+
+-- ---- as the code reads them
+pub plain : (x : ℤ) → neg_ℤ (pos (2 ^ 100)) ≤ℤ x → x ≤ℤ pos (2 ^ 100) → to_z w128 (of_z w128 x) ≡ x
+plain x h k = omega (arith, ints)
+
+pub plain64 : (x : ℤ) → neg_ℤ (pos (2 ^ 62)) ≤ℤ x → x ≤ℤ pos (2 ^ 62) → to_z w64 (of_z w64 x) ≡ x
+plain64 x h k = omega (arith, ints)
+
+pub plain_size : (x : ℤ) (m : ℕ) → m ≤ 2 ^ 100 → unsigned_abs x ≤ m → to_z w128 (of_z w128 x) ≡ x
+plain_size x m h k = omega (arith, ints)
+
+pub read_small : (x : ℤ) → unsigned_abs x < 2 ^ 48 → to_z w64 (of_z w64 x) ≡ x
+read_small x h = omega (arith, ints)
+
+-- a size by its two bounds
+pub size_of : (x : ℤ) (m : ℕ) → neg_ℤ (pos m) ≤ℤ x → x ≤ℤ pos m → unsigned_abs x ≤ m
+size_of x m h k = omega (arith, ints)
+
+pub through : (x y z : ℤ) → x ≤ℤ y → y ≤ℤ z → x ≤ℤ z
+through x y z h k = omega (arith, ints)
+
+pub scale_cases : (s : ℕ) → IsScale s → (s ≡ 0) ⊎ (s ≡ 14)
+scale_cases s h = ⊎_elim (λ (e : (s == 0) ≡ true). inl (eqb-true s 0 e)) (λ (e : (s == 14) ≡ true). inr (eqb-true s 14 e)) (or_cases (s == 0) (s == 14) (to_true _ h))
+  where
+    to_true : (b : Bool) → IsTrue b → b ≡ true
+    to_true b h = h
+
+-- ---- pseudoranges
+pub pseudorange_ordered : (f g v w : ℤ) → v ≤ℤ w → IsFloor (v *ℤ pos 47262600000) (149896229 * 2 ^ 40) f → IsCeil (w *ℤ pos 47262600000) (149896229 * 2 ^ 40) g → f ≤ℤ g
+pseudorange_ordered f g v w h k l = step h k.0 l.0
+  where
+    step : v ≤ℤ w → (f *ℤ pos (149896229 * 2 ^ 40)) ≤ℤ (v *ℤ pos 47262600000) → (w *ℤ pos 47262600000) ≤ℤ (g *ℤ pos (149896229 * 2 ^ 40)) → f ≤ℤ g
+    step h k l = omega (arith, ints)
+
+pub pseudorange_narrow : (f g v w : ℤ) → (w -ℤ v) ≤ℤ pos (2 ^ 43 + 2 ^ 10 * 299792458) → IsFloor (v *ℤ pos 47262600000) (149896229 * 2 ^ 40) f → IsCeil (w *ℤ pos 47262600000) (149896229 * 2 ^ 40) g → (g -ℤ f) ≤ℤ pos 2612
+pseudorange_narrow f g v w h k l = step h k.1 l.1
+  where
+    step : (w -ℤ v) ≤ℤ pos (2 ^ 43 + 2 ^ 10 * 299792458) → (v *ℤ pos 47262600000) <ℤ (f *ℤ pos (149896229 * 2 ^ 40) +ℤ pos (149896229 * 2 ^ 40)) → (g *ℤ pos (149896229 * 2 ^ 40)) <ℤ (w *ℤ pos 47262600000 +ℤ pos (149896229 * 2 ^ 40)) → (g -ℤ f) ≤ℤ pos 2612
+    step h k l = omega (arith, ints)
+
+pub pseudorange_low : (f v : ℤ) → unsigned_abs v ≤ 2 ^ 86 + 2 ^ 83 → IsFloor (v *ℤ pos 47262600000) (149896229 * 2 ^ 40) f → neg_ℤ (pos (2 ^ 55)) ≤ℤ f
+pseudorange_low f v h k = step h k.1
+  where
+    step : unsigned_abs v ≤ 2 ^ 86 + 2 ^ 83 → (v *ℤ pos 47262600000) <ℤ (f *ℤ pos (149896229 * 2 ^ 40) +ℤ pos (149896229 * 2 ^ 40)) → neg_ℤ (pos (2 ^ 55)) ≤ℤ f
+    step h k = omega (arith, ints)
+
+pub pseudorange_high : (g w : ℤ) → unsigned_abs w ≤ 2 ^ 86 + 2 ^ 83 → IsCeil (w *ℤ pos 47262600000) (149896229 * 2 ^ 40) g → g ≤ℤ pos (2 ^ 55)
+pseudorange_high g w h k = step h k.1
+  where
+    step : unsigned_abs w ≤ 2 ^ 86 + 2 ^ 83 → (g *ℤ pos (149896229 * 2 ^ 40)) <ℤ (w *ℤ pos 47262600000 +ℤ pos (149896229 * 2 ^ 40)) → g ≤ℤ pos (2 ^ 55)
+    step h k = omega (arith, ints)
+
+-- ---- prefits
+pub record ArePrefitEnds (hl hh bl bh rl rh : ℤ) : Type 0 where
+  pub held_ordered : hl ≤ℤ hh
+  pub held_narrow : (hh -ℤ hl) ≤ℤ pos 1
+  pub base_ordered : bl ≤ℤ bh
+  pub base_narrow : (bh -ℤ bl) ≤ℤ pos 2612
+  pub rover_ordered : rl ≤ℤ rh
+  pub rover_narrow : (rh -ℤ rl) ≤ℤ pos 2612
+
+pub prefit_ordered : (hl hh bl bh rl rh : ℤ) → ArePrefitEnds hl hh bl bh rl rh → (hl -ℤ (rh -ℤ bl)) ≤ℤ (hh -ℤ (rl -ℤ bh))
+prefit_ordered hl hh bl bh rl rh a = omega (arith, ints)
+
+pub prefit_narrow : (hl hh bl bh rl rh : ℤ) → ArePrefitEnds hl hh bl bh rl rh → ((hh -ℤ (rl -ℤ bh)) -ℤ (hl -ℤ (rh -ℤ bl))) ≤ℤ pos 5225
+prefit_narrow hl hh bl bh rl rh a = omega (arith, ints)
+
+pub prefit_size : (m n : ℕ) (h r b : ℤ) → m + 2 ^ 56 ≤ n → unsigned_abs h ≤ m → unsigned_abs r ≤ 2 ^ 55 → unsigned_abs b ≤ 2 ^ 55 → unsigned_abs (h -ℤ (r -ℤ b)) ≤ n
+prefit_size m n h r b l i j k = omega (arith, ints)
+
+pub prefit_phase : (m : ℕ) (h r b : ℤ) → 1000 * unsigned_abs h ≤ m + 1000 → unsigned_abs r ≤ 2 ^ 55 → unsigned_abs b ≤ 2 ^ 55 → 1000 * unsigned_abs (h -ℤ (r -ℤ b)) ≤ m + 1000 * 2 ^ 57
+prefit_phase m h r b i j k = omega (arith, ints)

@@ -1,0 +1,61 @@
+use Rattle.std.proofs.Common.{◌≡◌, ◌*◌, ◌^◌, ◌<◌, ◌-ℤ◌, ℤ, arith, lit≤, unsigned_abs, to_z, of_z, sym, subst}
+use Rattle.std.proofs.lemmas.Int.{to_z-of_z}
+use Rattle.std.specs.Int.{w64, w128}
+use Rattle.rational.specs.Rational.{InBox, sub_r}
+use Rattle.obs_rows.specs.Signals.{wavelength}
+use Rattle.row_boxes.specs.Terms.{observed}
+use Rattle.row_boxes.specs.declared.pseudoranges.Pseudorange.{Pseudorange}
+use Rattle.row_boxes.proofs.Ends.{ArePrefitEnds, prefit_ordered, prefit_narrow, prefit_size, prefit_phase}
+use Rattle.row_boxes.proofs.Boxes.{prefit_holds}
+use Rattle.row_boxes.proofs.prefits.prefit_of.Goals as goal
+
+lo_is : (c : goal.After-less-2) → to_z w128 (of_z w128 c.less.result) ≡ c.observed_box-held.result.lo -ℤ (c.args.rover.now.hi -ℤ c.args.base.now.lo)
+lo_is c = grind (arith, to_z-of_z)
+
+hi_is : (c : goal.After-less-2) → to_z w128 (of_z w128 c.less-2.result) ≡ c.observed_box-held.result.hi -ℤ (c.args.rover.now.lo -ℤ c.args.base.now.hi)
+hi_is c = grind (arith, to_z-of_z)
+
+are : (c : goal.After-less-2) → ArePrefitEnds c.observed_box-held.result.lo c.observed_box-held.result.hi c.args.base.now.lo c.args.base.now.hi c.args.rover.now.lo c.args.rover.now.hi
+are c = record {
+  held_ordered = c.observed_box-held.result.ordered;
+  held_narrow = c.observed_box-held.result.narrow;
+  base_ordered = c.args.base.now.ordered;
+  base_narrow = c.args.base.now.narrow;
+  rover_ordered = c.args.rover.now.ordered;
+  rover_narrow = c.args.rover.now.narrow;
+}
+
+pub invariant_of-result : goal.invariant_of-result
+invariant_of-result c =
+    let h = c.observed_box-held in
+    let b : Pseudorange = c.args.base.now in
+    let r : Pseudorange = c.args.rover.now in
+    record {
+      ordered = rw (lo_is c, hi_is c) (prefit_ordered h.result.lo h.result.hi b.lo b.hi r.lo r.hi (are c));
+      narrow = rw (lo_is c, hi_is c) (prefit_narrow h.result.lo h.result.hi b.lo b.hi r.lo r.hi (are c));
+      lo_size = rw (lo_is c) (prefit_size (2 ^ 67) (2 ^ 68) h.result.lo r.hi b.lo (lit≤ tt) h.ensures.lo_size r.hi_size b.lo_size);
+      hi_size = rw (hi_is c) (prefit_size (2 ^ 67) (2 ^ 68) h.result.hi r.lo b.hi (lit≤ tt) h.ensures.hi_size r.lo_size b.hi_size);
+    }
+
+plain_amount : (c : goal.After-less-2) → to_z w64 (of_z w64 c.args.amount) ≡ c.args.amount
+plain_amount c = to_z-of_z w64 c.args.amount c.ranges.amount
+
+pub returns-clause-holds : goal.returns-clause-holds
+returns-clause-holds c = λ b r i j.
+    let h = c.observed_box-held in
+    let x : Pseudorange = c.args.base.now in
+    let y : Pseudorange = c.args.rover.now in
+    let held : InBox 20 (h.result.lo -ℤ (y.hi -ℤ x.lo)) (h.result.hi -ℤ (y.lo -ℤ x.hi)) (sub_r (observed c.args.signal c.args.amount) (sub_r r b)) =
+    prefit_holds h.result.lo h.result.hi x.lo x.hi y.lo y.hi (observed c.args.signal c.args.amount) b r (subst (λ (z : ℤ). InBox 20 h.result.lo h.result.hi (observed c.args.signal z)) (plain_amount c.before) h.ensures.holds) i j in
+    subst (λ (z : ℤ). InBox 20 z (to_z w128 (of_z w128 c.less-2.result)) (sub_r (observed c.args.signal c.args.amount) (sub_r r b))) (sym (lo_is c.before))
+    (subst (λ (z : ℤ). InBox 20 (h.result.lo -ℤ (y.hi -ℤ x.lo)) z (sub_r (observed c.args.signal c.args.amount) (sub_r r b))) (sym (hi_is c.before)) held)
+
+pub returns-clause-code : goal.returns-clause-code
+returns-clause-code c = λ s a.
+    let h = c.observed_box-held in
+    rw (lo_is c.before) (prefit_size (2 ^ 56) (2 ^ 57) h.result.lo c.args.rover.now.hi c.args.base.now.lo (lit≤ tt) (h.ensures.code s (subst (λ (z : ℤ). unsigned_abs z < 2 ^ 37) (sym (plain_amount c.before)) a)) c.args.rover.now.hi_size c.args.base.now.lo_size)
+
+pub returns-clause-phase : goal.returns-clause-phase
+returns-clause-phase c = λ s.
+    let h = c.observed_box-held in
+    rw (lo_is c.before) (prefit_phase (unsigned_abs (wavelength c.args.signal) * 2 ^ 68) h.result.lo c.args.rover.now.hi c.args.base.now.lo (h.ensures.phase s) c.args.rover.now.hi_size c.args.base.now.lo_size)

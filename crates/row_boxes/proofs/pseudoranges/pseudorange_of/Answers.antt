@@ -1,0 +1,67 @@
+use Rattle.std.proofs.Common.{◌≡◌, ◌+◌, ◌*◌, ◌^◌, ℤ, pos, ◌-ℤ◌, ◌*ℤ◌, ◌≤ℤ◌, arith, to_z, of_z, sym, subst, ap₂, ◌∙◌}
+use Rattle.std.specs.Int.{w128}
+use Rattle.std.proofs.lemmas.Int.{ints, to_z-of_z}
+use Rattle.whole_math.specs.Rounding.{IsFloor, IsCeil}
+use Rattle.rational.specs.Rational.{InBox}
+use Rattle.row_boxes.specs.Terms.{pseudorange}
+use Rattle.row_boxes.proofs.Ends.{plain64, through, pseudorange_ordered, pseudorange_narrow}
+use Rattle.row_boxes.proofs.Boxes.{pseudorange_holds}
+use Rattle.row_boxes.proofs.pseudoranges.pseudorange_of.Goals as goal
+
+-- in 2^-60 m
+abbrev metres : ℤ → ℤ → ℤ
+metres r t = (r *ℤ pos (2 ^ 24)) -ℤ (t *ℤ pos 299792458)
+
+lo_is : (c : goal.After-above) → to_z w128 (of_z w128 c.below.result) ≡ c.below.result
+lo_is c = to_z-of_z w128 c.below.result (record { sfits = c.below.type_inv })
+
+hi_is : (c : goal.After-above) → to_z w128 (of_z w128 c.above.result) ≡ c.above.result
+hi_is c = to_z-of_z w128 c.above.result (record { sfits = c.above.type_inv })
+
+-- what the two ends are rounded from
+low_metres : (c : goal.After-above) → c.less_clock.result ≡ metres c.args.range.now.lo c.args.clock.now.hi
+low_metres c =
+    let r = c.args.range.now in
+    let t = c.args.clock.now in
+    c.less_clock.ensures.value ∙ ap₂ metres (plain64 r.lo r.low (through r.lo r.hi (pos (2 ^ 62)) r.ordered r.high)) (plain64 t.hi (through _ t.lo t.hi t.low t.ordered) t.high)
+
+high_metres : (c : goal.After-above) → c.less_clock-2.result ≡ metres c.args.range.now.hi c.args.clock.now.lo
+high_metres c =
+    let r = c.args.range.now in
+    let t = c.args.clock.now in
+    c.less_clock-2.ensures.value ∙ ap₂ metres (plain64 r.hi (through _ r.lo r.hi r.low r.ordered) r.high) (plain64 t.lo t.low (through t.lo t.hi (pos (2 ^ 62)) t.ordered t.high))
+
+is_floor : (c : goal.After-above) → IsFloor (metres c.args.range.now.lo c.args.clock.now.hi *ℤ pos 47262600000) (149896229 * 2 ^ 40) c.below.result
+is_floor c = subst (λ (v : ℤ). IsFloor (v *ℤ pos 47262600000) (149896229 * 2 ^ 40) c.below.result) (to_z-of_z w128 c.less_clock.result (record { sfits = c.less_clock.type_inv }) ∙ low_metres c) c.below.ensures.rounded
+
+is_ceil : (c : goal.After-above) → IsCeil (metres c.args.range.now.hi c.args.clock.now.lo *ℤ pos 47262600000) (149896229 * 2 ^ 40) c.above.result
+is_ceil c = subst (λ (v : ℤ). IsCeil (v *ℤ pos 47262600000) (149896229 * 2 ^ 40) c.above.result) (to_z-of_z w128 c.less_clock-2.result (record { sfits = c.less_clock-2.type_inv }) ∙ high_metres c) c.above.ensures.rounded
+
+rising : (rl rh tl th : ℤ) → rl ≤ℤ rh → tl ≤ℤ th → metres rl th ≤ℤ metres rh tl
+rising rl rh tl th h k = omega (arith, ints)
+
+narrow : (rl rh tl th : ℤ) → (rh -ℤ rl) ≤ℤ pos (2 ^ 19) → (th -ℤ tl) ≤ℤ pos (2 ^ 10) → (metres rh tl -ℤ metres rl th) ≤ℤ pos (2 ^ 43 + 2 ^ 10 * 299792458)
+narrow rl rh tl th h k = omega (arith, ints)
+
+pub invariant_of-result : goal.invariant_of-result
+invariant_of-result c =
+    let r = c.args.range.now in
+    let t = c.args.clock.now in
+    let v : ℤ = metres r.lo t.hi in
+    let w : ℤ = metres r.hi t.lo in
+    let f : ℤ = c.below.result in
+    let g : ℤ = c.above.result in
+    record {
+      ordered = rw (lo_is c, hi_is c) (pseudorange_ordered f g v w (rising r.lo r.hi t.lo t.hi r.ordered t.ordered) (is_floor c) (is_ceil c));
+      narrow = rw (lo_is c, hi_is c) (pseudorange_narrow f g v w (narrow r.lo r.hi t.lo t.hi c.requires.range_narrow c.requires.clock_narrow) (is_floor c) (is_ceil c));
+      lo_size = rw (lo_is c) c.below.ensures.size;
+      hi_size = rw (hi_is c) c.above.ensures.size;
+    }
+
+pub returns : goal.returns
+returns c = λ r t h i.
+    let x = c.args.range.now in
+    let y = c.args.clock.now in
+    let held : InBox 20 c.before.below.result c.before.above.result (pseudorange r t) = pseudorange_holds x.lo x.hi y.lo y.hi c.before.below.result c.before.above.result r t (is_floor c.before) (is_ceil c.before) h i in
+    subst (λ (z : ℤ). InBox 20 z (to_z w128 (of_z w128 c.above.result)) (pseudorange r t)) (sym (lo_is c.before))
+    (subst (λ (z : ℤ). InBox 20 c.below.result z (pseudorange r t)) (sym (hi_is c.before)) held)

@@ -1,0 +1,90 @@
+-- What the y boxes of a row hold, and which groups they allow.
+use Rattle.std.specs.Prelude.{◌≡◌, ℕ, ◌-◌, ◌^◌, ◌==◌, if◌then◌else◌, Some, List, All, slice_get, ℤ, pos, ◌+ℤ◌, ◌-ℤ◌, ◌*ℤ◌, neg_ℤ, ◌≤ℤ◌, ◌⊎◌}
+use Rattle.rational.specs.Rational.{Rational, ◌≤ʳ◌, ◌<ʳ◌, of_whole, InBox, Near}
+use Rattle.sv_orbit.specs.declared.place.SvBox.{SvBox}
+use Rattle.travel_model.specs.SeenPlaces.{range_of}
+use Rattle.obs_rows.specs.Data.{number_at}
+use Rattle.obs_rows.specs.Signals.{wavelength, counted}
+use Rattle.row_boxes.specs.Terms.{pseudorange}
+use Rattle.row_boxes.specs.Sightings.{Sighting, IsSighting, HasSighting, y_in_rows}
+use Rattle.row_boxes.specs.declared.pseudoranges.Pseudorange.{Pseudorange}
+
+-- what is known of one satellite in one pair: its boxes as the two receivers' codes give them, and the receivers' points
+pub record Pairing : Type 0 where
+  pub base_sv : SvBox
+  pub rover_sv : SvBox
+  pub base : List ℤ
+  pub point : List ℤ
+
+-- one way in which both may have seen it
+pub record AreSightings (p : Pairing) (base rover : Sighting) : Type 0 where
+  pub base_is : IsSighting p.base_sv p.base base
+  pub rover_is : IsSighting p.rover_sv p.point rover
+
+-- there is one
+pub record HasSightings (p : Pairing) : Type 0 where
+  pub base : HasSighting p.base_sv p.base
+  pub rover : HasSighting p.rover_sv p.point
+
+-- the box holds the pseudorange of every sighting
+abbrev pub HoldsPseudoranges : SvBox → List ℤ → Pseudorange → Type 0
+HoldsPseudoranges sv point b = (s : Sighting) → IsSighting sv point s → InBox 20 b.lo b.hi (pseudorange (range_of s.travel) s.clock)
+
+-- of both receivers
+pub record HoldsBoth (p : Pairing) (base rover : Pseudorange) : Type 0 where
+  pub base_held : HoldsPseudoranges p.base_sv p.base base
+  pub rover_held : HoldsPseudoranges p.rover_sv p.point rover
+
+-- ---- y boxes
+-- the box holds the observation of signal s for all places and clocks
+abbrev pub HoldsY : Pairing → ℕ → ℕ → ℤ → ℤ → ℤ → ℤ → ℤ → Type 0
+HoldsY p scale s amount group shift centre radius = (base rover : Sighting) → AreSightings p base rover → Near centre radius (y_in_rows scale s amount group shift base rover)
+
+-- the box of each signal that counts; its amount, its shift and its centre are those in its place, and all have one radius
+abbrev pub HoldsYs : Pairing → ℕ → List ℤ → ℤ → List ℤ → List ℤ → ℤ → Type 0
+HoldsYs p scale amounts group shift y ry = All (λ s. HoldsY p scale s (number_at amounts s) group (number_at shift s) (number_at y s) ry) (counted scale)
+
+-- the greatest radius of a y box
+abbrev pub most_radius : ℕ → ℤ
+most_radius scale = if scale == 0 then pos (2 ^ 11) else pos 2
+
+-- ---- groups
+-- the box meets that from -1 to 1 κ
+abbrev pub MeetsOne : ℕ → ℤ → ℤ → Type 0
+MeetsOne scale centre radius = ((centre -ℤ radius) ≤ℤ pos (2 ^ (18 - scale))) × (neg_ℤ (pos (2 ^ (18 - scale))) ≤ℤ (centre +ℤ radius))
+
+-- a whole number for which a y box of the code on L1, of the satellite of a pair's first row, meets -1 to 1 κ
+pub record IsAllowedGroup (p : Pairing) (scale : ℕ) (amount group : ℤ) : Type 0 where
+  pub centre : ℤ
+  pub radius : ℤ
+  pub narrow : radius ≤ℤ most_radius scale
+  pub holds : HoldsY p scale 2 amount group (pos 0) centre radius
+  pub meets : MeetsOne scale centre radius
+
+-- ---- what is too far
+-- an observation past 2^34 - 2^12, in size
+abbrev pub IsFar : Rational → Type 0
+IsFar q = (of_whole (pos (2 ^ 34 - 2 ^ 12)) <ʳ q) ⊎ (q <ʳ of_whole (neg_ℤ (pos (2 ^ 34 - 2 ^ 12))))
+
+-- for some places and clocks the observation of signal s is so far
+pub record HasFarY (p : Pairing) (scale s : ℕ) (amount group shift : ℤ) : Type 0 where
+  pub base : Sighting
+  pub rover : Sighting
+  pub are : AreSightings p base rover
+  pub far : IsFar (y_in_rows scale s amount group shift base rover)
+
+-- of some signal that counts
+pub record HasFarSignal (p : Pairing) (scale : ℕ) (amounts : List ℤ) (group : ℤ) (shift : List ℤ) : Type 0 where
+  pub signal : ℕ
+  pub place : ℕ
+  pub counts : slice_get (counted scale) place ≡ Some signal
+  pub far : HasFarY p scale signal (number_at amounts signal) group (number_at shift signal)
+
+-- ---- what is nearest
+-- at most n/2 κ in size, and 2^-7 κ more above
+abbrev pub IsWithinHalf : ℤ → Rational → Type 0
+IsWithinHalf n q = InBox 20 (neg_ℤ (n *ℤ pos (2 ^ 19))) ((n *ℤ pos (2 ^ 19)) +ℤ pos (2 ^ 13)) q
+
+-- from -λ to λ, in κ
+abbrev pub IsWithinCycle : ℕ → Rational → Type 0
+IsWithinCycle s q = (of_whole (neg_ℤ (wavelength s)) ≤ʳ q) × (q ≤ʳ of_whole (wavelength s))

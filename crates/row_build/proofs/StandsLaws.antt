@@ -1,0 +1,133 @@
+-- Rows of what was screened stand for the files.
+use Rattle.std.proofs.Common.{◌≡◌, ℕ, All, Some, List, [], ◌∷◌, map, length, get_or, ℤ, refl, sym, subst, ap, ◌∙◌}
+use Rattle.std.specs.Prelude.{slice_get}
+use Rattle.std.proofs.lemmas.Option.{same_Some, slice_get_within, get_or_from_slice_get}
+use Rattle.iv_core.specs.declared.Iv.{Iv}
+use Rattle.iv_core.specs.Intervals.{Holds}
+use Rattle.rational.specs.Rational.{Rational, Near}
+use Rattle.orbit_model.specs.Solution.{Quantities}
+use Rattle.orbit_place.specs.Held.{HoldsPlace as HoldsCoordinates}
+use Rattle.sv_orbit.specs.declared.place.SvBox.{SvBox}
+use Rattle.sv_orbit.specs.Solutions.{HoldsSolution}
+use Rattle.travel_model.specs.SeenPlaces.{Place}
+use Rattle.signal_travel.specs.Boxes.{HoldsPlace}
+use Rattle.eph_store.specs.declared.ephemeris.Eph.{Eph}
+use Rattle.obs_store.specs.declared.series.Epoch.{Epoch}
+use Rattle.epoch_pair.specs.declared.pairs.PairOf.{PairOf}
+use Rattle.obs_rows.specs.declared.arcs.Arc.{Arc}
+use Rattle.obs_rows.specs.declared.rows.Row.{Row}
+use Rattle.obs_rows.specs.declared.pair_rows.PairRows.{PairRows}
+use Rattle.obs_rows.specs.declared.sessions.Session.{Session}
+use Rattle.obs_rows.specs.Data.{number_at}
+use Rattle.obs_rows.specs.Signals.{counted}
+use Rattle.slip_arcs.specs.declared.used.UsedPair.{UsedPair}
+use Rattle.slip_arcs.specs.Runs.{AreKept}
+use Rattle.slip_arcs.specs.Linked.{HaveDatums}
+use Rattle.screening.specs.declared.sv_pair.SvPair.{SvPair}
+use Rattle.screening.specs.Sightings.{Setting, Sent, place_of}
+use Rattle.screening.specs.Screening.{AreEpochsOf, AreUsedPairs, IsSvPair}
+use Rattle.row_boxes.specs.Sightings.{Sighting, IsSighting, y_in_rows}
+use Rattle.row_build.specs.Entries.{IsEntry}
+use Rattle.row_build.specs.Rows.{setting, IsRow}
+use Rattle.row_build.specs.PairRows.{ArePairRows}
+use Rattle.row_build.specs.SessionRows.{AreSessionRows, pairs_held}
+use Rattle.row_build.specs.HeldArcs.{arcs_at}
+use Rattle.row_build.specs.Stands.{IsSolved, StandsForRow, StandsForPair, StandsForFiles}
+
+-- ---- a solution lies in the boxes that hold it
+held_place : (s : List (Iv 36)) (q : Quantities) → HoldsCoordinates s q → HoldsPlace s (place_of q)
+held_place [] q h = absurd h
+held_place (a ∷ []) q h = absurd h
+held_place (a ∷ b ∷ []) q h = absurd h
+held_place (a ∷ b ∷ c ∷ []) q h = (h.0, (h.1, (h.2, tt)))
+held_place (a ∷ b ∷ c ∷ d ∷ more) q h = absurd h
+
+solved : (t : Setting) (eph : Eph) (tag : ℕ) (code : ℤ) (point : List ℤ) (b : SvBox) (s : Sighting) → ((q : Quantities) → Sent t eph tag code q → HoldsSolution b q) → IsSolved t eph tag code point s → IsSighting b point s
+solved t eph tag code point b s holds h =
+    let k : HoldsSolution b h.solution = holds h.solution h.sent in
+    record {
+      sent_in = subst (λ (p : Place). HoldsPlace b.place p) (sym h.place) (held_place b.place h.solution k.place);
+      clock_in = subst (λ (c : Rational). Holds b.clock c) (sym h.clock) k.clock;
+      seen_is = h.seen;
+    }
+
+-- ---- the entry of the row's satellite
+element : (P : SvPair → Type 0) (boxes : List SvPair) (k : ℕ) (v : SvPair) → All P boxes → slice_get boxes k ≡ Some v → P v
+element P boxes k v all e = subst P (get_or_from_slice_get boxes k v v e) (all k v (slice_get_within boxes k v e))
+
+-- the epochs of a pair are of its number alone
+same_epoch : (xs : List Epoch) (k : ℕ) (a b : Epoch) → slice_get xs k ≡ Some a → slice_get xs k ≡ Some b → a ≡ b
+same_epoch xs k a b e f = same_Some a b (sym e ∙ f)
+
+same_pair : (xs : List PairOf) (k : ℕ) (a b : PairOf) → slice_get xs k ≡ Some a → slice_get xs k ≡ Some b → a ≡ b
+same_pair xs k a b e f = same_Some a b (sym e ∙ f)
+
+-- a row's y boxes at one sighting of each receiver
+abbrev HoldsAll : ℕ → ℤ → List ℤ → Row → Sighting → Sighting → List ℤ → Type 0
+HoldsAll scale group shift r s w xs = All (λ (i : ℕ). Near (number_at r.y i) r.ry (y_in_rows scale i (number_at xs i) group (number_at shift i) s w)) (counted scale)
+
+pub row_stands : (t : Setting) (base rover : List Epoch) (taken : List PairOf) (boxes : List SvPair) (arcs : List Arc) (position point : List ℤ) (scale n : ℕ) (group : ℤ) (pair : PairOf) (be re : Epoch) (r : Row) →
+    All (IsSvPair t base rover taken) boxes → slice_get taken n ≡ Some pair → AreEpochsOf base rover pair be re → IsRow (setting boxes arcs position point scale) n group r →
+    (a : Arc) → slice_get arcs r.arc ≡ Some a → StandsForRow t be re a.sat position point scale group a.shift r
+row_stands t base rover taken boxes arcs position point scale n group pair be re r all pair_is epochs row a a_is =
+    let v : SvPair = row.entry in
+    let arc : row.arc ≡ a = same_Some row.arc a (sym row.arc_is ∙ a_is) in
+    let x : IsSvPair t base rover taken v = element (IsSvPair t base rover taken) boxes row.entry_is.place v all row.entry_is.is in
+    let p : x.pair ≡ pair = same_pair taken n x.pair pair (subst (λ (k : ℕ). slice_get taken k ≡ Some x.pair) row.entry_is.of_pair x.pair_is) pair_is in
+    let b : x.base_epoch ≡ be = same_epoch base pair.base x.base_epoch be (subst (λ (o : PairOf). slice_get base o.base ≡ Some x.base_epoch) p x.epochs.of_base) epochs.of_base in
+    let q : x.rover_epoch ≡ re = same_epoch rover pair.rover x.rover_epoch re (subst (λ (o : PairOf). slice_get rover o.rover ≡ Some x.rover_epoch) p x.epochs.of_rover) epochs.of_rover in
+    let made : StandsForRow t x.base_epoch x.rover_epoch v.sat position point scale group row.arc.shift r = record {
+      observed = x.entry.sighting;
+      are = x.entry.seen;
+      y = λ s w hs hw. subst (λ (xs : List ℤ). HoldsAll scale group row.arc.shift r s w xs) x.entry.observed (λ k d l. row.y k d l s w (record {
+        base_is = solved t x.entry.sighting.eph x.base_epoch.tag.0 x.entry.sighting.base.l1_code position v.base s x.entry.base_holds hs;
+        rover_is = solved t x.entry.sighting.eph x.rover_epoch.tag.0 x.entry.sighting.rover.l1_code point v.rover w x.entry.rover_holds hw;
+      }));
+      u = λ w move direction hw d m. row.u w move direction (solved t x.entry.sighting.eph x.rover_epoch.tag.0 x.entry.sighting.rover.l1_code point v.rover w x.entry.rover_holds hw) d m;
+      radius = row.radius;
+      others = row.others;
+      narrow = row.narrow;
+    } in
+    subst (λ (e : Epoch). StandsForRow t e re a.sat position point scale group a.shift r) b
+    (subst (λ (e : Epoch). StandsForRow t x.base_epoch e a.sat position point scale group a.shift r) q
+    (subst (λ (c : Arc). StandsForRow t x.base_epoch x.rover_epoch c.sat position point scale group c.shift r) arc
+    (subst (λ (k : ℕ). StandsForRow t x.base_epoch x.rover_epoch k position point scale group row.arc.shift r) row.entry_is.of_sat made)))
+
+-- ---- the rows of a pair, and of all pairs
+pub pair_stands : (t : Setting) (base rover : List Epoch) (taken : List PairOf) (boxes : List SvPair) (arcs : List Arc) (position point : List ℤ) (scale n : ℕ) (p : PairRows) →
+    All (IsSvPair t base rover taken) boxes → ArePairRows (setting boxes arcs position point scale) n p → StandsForPair t base rover taken position point scale arcs p
+pair_stands t base rover taken boxes arcs position point scale n p all rows =
+    let e : IsEntry boxes n rows.tag.sat rows.tag.entry = rows.tag.entry_is in
+    let x : IsSvPair t base rover taken rows.tag.entry = element (IsSvPair t base rover taken) boxes e.place rows.tag.entry all e.is in
+    let is : slice_get taken n ≡ Some x.pair = subst (λ (k : ℕ). slice_get taken k ≡ Some x.pair) e.of_pair x.pair_is in
+    record {
+      pair = x.pair;
+      base_epoch = x.base_epoch;
+      rover_epoch = x.rover_epoch;
+      pair_is = subst (λ (k : ℕ). slice_get taken k ≡ Some x.pair) (sym rows.number) is;
+      epochs = x.epochs;
+      tag = sym rows.tag.tag_is ∙ x.entry.tag;
+      held = rows.arcs ∙ ap (λ (k : ℕ). arcs_at arcs k) (sym rows.number);
+      rows = λ k d l a a_is. row_stands t base rover taken boxes arcs position point scale n p.group x.pair x.base_epoch x.rover_epoch (get_or p.rows k d) all is x.epochs (rows.rows k d l) a a_is;
+      group = rows.group;
+    }
+
+-- what `screen_in`, `cut` and `rows_at` say, together: the session stands for the files
+pub session_stands : (t : Setting) (base rover : List Epoch) (taken : List PairOf) (jump least short : ℕ) (used : List UsedPair) (boxes : List SvPair) (s : Session) →
+    AreUsedPairs t base rover taken used → All (IsSvPair t base rover taken) boxes → AreKept jump least used s.arcs short → HaveDatums s.arcs →
+    AreSessionRows (setting boxes s.arcs s.base s.point s.scale) (length used) s.pairs →
+    StandsForFiles t base rover taken jump least s.base s.signals s.point (map (λ (a : Arc). a.shift) s.arcs) s.scale s
+session_stands t base rover taken jump least short used boxes s used_are all kept datums rows = record {
+  base_is = refl;
+  point_is = refl;
+  scale_is = refl;
+  signals_are = refl;
+  used = used;
+  used_are = used_are;
+  short = short;
+  kept = kept;
+  datums = datums;
+  shifts_are = refl;
+  numbers = rows.numbers ∙ ap (λ (n : ℕ). pairs_held s.arcs n) used_are.count;
+  pairs = λ k d l. pair_stands t base rover taken boxes s.arcs s.base s.point s.scale (get_or s.pairs k d).number (get_or s.pairs k d) all (rows.each k d l);
+}

@@ -1,0 +1,23 @@
+//! What the calls say together.
+ghost use Rattle.std.specs.Prelude.{ℕ, List, length, map, All};
+ghost use Rattle.obs_store.specs.declared.series.Epoch.{Epoch};
+ghost use Rattle.epoch_pair.specs.declared.pairs.PairOf.{PairOf};
+ghost use Rattle.obs_rows.specs.declared.sessions.Session.{Session};
+ghost use Rattle.slip_arcs.specs.declared.used.UsedPair.{UsedPair};
+ghost use Rattle.slip_arcs.specs.Runs.{AreKept};
+ghost use Rattle.slip_arcs.specs.Linked.{HaveDatums};
+ghost use Rattle.screening.specs.declared.sv_pair.SvPair.{SvPair};
+ghost use Rattle.screening.specs.Sightings.{Setting};
+ghost use Rattle.screening.specs.Screening.{AreUsedPairs, IsSvPair};
+ghost use Rattle.row_build.specs.Rows.{setting};
+ghost use Rattle.row_build.specs.SessionRows.{AreSessionRows};
+ghost use Rattle.row_build.specs.Stands.{StandsForFiles};
+
+/// The session that `rows_at` makes of what `screen_in` screened and of the arcs that `cut` kept, with whatever shifts, stands for the
+/// files. There is nothing to run: the contract is the law.
+pub fn stands_law()
+    ensures { (rules : Setting) (base rover : List Epoch) (taken : List PairOf) (jump least short : ℕ) (used : List UsedPair) (boxes : List SvPair) (s : Session) →
+        AreUsedPairs rules base rover taken used → All (IsSvPair rules base rover taken) boxes → AreKept jump least used s.arcs short → HaveDatums s.arcs →
+        AreSessionRows (setting boxes s.arcs s.base s.point s.scale) (length used) s.pairs →
+        StandsForFiles rules base rover taken jump least s.base s.signals s.point (map (λ a. a.shift) s.arcs) s.scale s }
+{}

@@ -1,0 +1,74 @@
+// The rows of all pairs.
+ghost use Rattle.std.specs.Prelude.{◌≡◌, ◌<◌, ◌++◌, [], Err, length, IfOk, IfSome, OnOk};
+ghost use Rattle.signal_travel.specs.Boxes.{IsPoint};
+ghost use Rattle.obs_rows.specs.Ranges.{IsScale};
+ghost use Rattle.obs_rows.specs.Arcs.{AreArcs};
+ghost use Rattle.obs_rows.specs.Pairs.{IsAfter, HasItsArcs};
+ghost use Rattle.slip_arcs.specs.Linked.{IsCutOf};
+ghost use Rattle.row_build.specs.Rows.{setting};
+ghost use Rattle.row_build.specs.SessionRows.{AreSessionRows, HasFarPair, listed};
+
+use crate::{RowFault, pair_rows};
+use obs_rows::{Arc, ArcList, PairRows, Session, SessionBuilder, Signals};
+use screening::Screened;
+use std::alloc::{AllocError, Global};
+
+// One more pair, if it has rows
+fn add_pair(session: &mut SessionBuilder, rows: Option<PairRows>) -> Result<(), AllocError>
+    requires order { IfSome rows (λ p. IsAfter session.old.pairs p.number) }
+    requires arcs { IfSome rows (λ p. HasItsArcs session.old.arcs p) }
+    ensures added { OnOk result (session.new.pairs ≡ session.old.pairs ++ listed rows) }
+    ensures scale { session.new.scale ≡ session.old.scale }
+    ensures base { session.new.base ≡ session.old.base }
+    ensures point { session.new.point ≡ session.old.point }
+    ensures signals { session.new.signals ≡ session.old.signals }
+    ensures arcs { session.new.arcs ≡ session.old.arcs }
+{
+    match rows {
+        Some(rows) => session.push(rows),
+        None => Ok(()),
+    }
+}
+
+/// The session of these arcs at these points: the rows of `pair_rows` of every pair.
+pub fn rows_at(
+    alloc: Global,
+    screened: &Screened,
+    arcs: &[Arc],
+    base: &[i64; 3],
+    point: &[i64; 3],
+    signals: Signals,
+    scale: u32,
+) -> Result<Session, RowFault>
+    requires cut { IsCutOf screened.now.used arcs.now }
+    requires arcs { AreArcs arcs.now }
+    requires base { IsPoint base.now }
+    requires point { IsPoint point.now }
+    requires scale { IsScale scale }
+    ensures scale { IfOk result (λ s. s.scale ≡ scale) }
+    ensures base { IfOk result (λ s. s.base ≡ base.now) }
+    ensures point { IfOk result (λ s. s.point ≡ point.now) }
+    ensures signals { IfOk result (λ s. s.signals ≡ signals) }
+    ensures arcs { IfOk result (λ s. s.arcs ≡ arcs.now) }
+    ensures rows { IfOk result (λ s. AreSessionRows (setting screened.now.boxes arcs.now base.now point.now scale) (length screened.now.used) s.pairs) }
+    ensures overwidth { result ≡ Err RowFault.Overwidth → HasFarPair (setting screened.now.boxes arcs.now base.now point.now scale) }
+{
+    let held = ArcList::new(Vec::from_slice(alloc, arcs)?);
+    let mut session = SessionBuilder::new(alloc, scale, *base, *point, signals, held);
+    for pair in 0..screened.used.len() {
+        match pair_rows(
+            alloc,
+            screened,
+            arcs,
+            pair as u32,
+            base,
+            point,
+            signals,
+            scale,
+        ) {
+            Ok(rows) => add_pair(&mut session, rows)?,
+            Err(fault) => return Err(fault),
+        }
+    }
+    Ok(session.finish())
+}

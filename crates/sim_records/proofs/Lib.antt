@@ -1,0 +1,3 @@
+mod Normals
+mod Lengths
+mod RecordLaws

@@ -1,0 +1,4 @@
+mod Progress
+mod Points
+mod Smalls
+mod Held

@@ -1,0 +1,70 @@
+//! Made-up sessions: from a seed the observation files of a base and of a rover, and the navigation file of the satellites that both
+//! see, with what a processor should find.
+#![tactic(auto)]
+
+ghost use Rattle.std.specs.Prelude.{◌≡◌, ◌^◌, ◌<◌, ◌≤◌, vec_len, IfOk};
+ghost use Rattle.sim_draws.specs.Values.{offset_of, truth_of, first_of};
+ghost use Rattle.sim_session.specs.Texts.{IsBaseText, IsRoverText, IsNavigationText};
+
+mod observations;
+mod receivers;
+#[cfg(test)]
+mod tests;
+
+use observations::observation_file;
+use receivers::{base_receiver, rover_receiver};
+use sim_draws::{Cycles, Drawn, draw_all};
+use sim_records::{satellites, write_navigation};
+use std::alloc::{AllocError, Global};
+
+/// A made-up session: the texts of both observation files and of the navigation file; for each satellite what the rover's whole cycles
+/// are more than the base's, on L1 and on L2; and what the rover lies off the base, in mm.
+#[derive(Debug, Drop)]
+pub struct Made {
+    pub base: Vec<u8>,
+    pub rover: Vec<u8>,
+    pub nav: Vec<u8>,
+    pub truth: Vec<[i64; 2]>,
+    pub offset: [i64; 3],
+}
+
+/// Makes a session of so many epochs and satellites from a seed.
+pub fn make(alloc: Global, seed: u32, epochs: u32, sats: u32) -> Result<Made, AllocError>
+    requires epochs { epochs ≤ 3600 }
+    requires sats { sats ≤ 15 }
+    ensures base { IfOk result (λ m. IsBaseText seed epochs sats m.base.items) }
+    ensures rover { IfOk result (λ m. IsRoverText seed epochs sats m.rover.items) }
+    ensures nav { IfOk result (λ m. IsNavigationText sats m.nav.items) }
+    ensures truth { IfOk result (λ m. m.truth.items ≡ first_of (truth_of seed) sats) }
+    ensures offset { IfOk result (λ m. m.offset ≡ offset_of seed) }
+    ensures base_size { IfOk result (λ m. vec_len m.base < 2 ^ 23) }
+    ensures rover_size { IfOk result (λ m. vec_len m.rover < 2 ^ 23) }
+    ensures nav_size { IfOk result (λ m. vec_len m.nav < 2 ^ 23) }
+{
+    let Drawn {
+        offset,
+        base_clock,
+        rover_clock,
+        cycles,
+    } = draw_all(alloc, seed, sats)?;
+    let records = satellites(alloc, sats)?;
+    let mut nav = Vec::new(alloc);
+    write_navigation(&mut nav, &records)?;
+    let base = base_receiver(base_clock);
+    let [x, y, z] = offset;
+    let rover = rover_receiver(x, y, z, rover_clock);
+    let base = observation_file(alloc, epochs, &records, &base, &cycles.base)?;
+    let rover = observation_file(alloc, epochs, &records, &rover, &cycles.rover)?;
+    let Cycles {
+        base: _,
+        rover: _,
+        truth,
+    } = cycles;
+    Ok(Made {
+        base,
+        rover,
+        nav,
+        truth,
+        offset,
+    })
+}

@@ -1,0 +1,75 @@
+// A receiver's observation file.
+ghost use Rattle.std.specs.Prelude.{◌≡◌, ◌+◌, ◌*◌, ◌^◌, ◌<◌, ◌≤◌, length, All, IfOk};
+ghost use Rattle.sim_draws.specs.Values.{AreSmall};
+ghost use Rattle.sim_texts.specs.Observations.{AreInColumns};
+ghost use Rattle.sim_session.specs.Observations.{step_of, tag_of, AreObserved, IsObservationText};
+ghost use Rattle.sim_session.specs.Limits.{IsOnTime};
+
+use eph_store::Eph;
+use gps_time::Tick;
+use sim_signals::{Receiver, observe};
+use sim_texts::{Signals, write_epoch, write_header};
+use std::alloc::{AllocError, Global};
+
+/// 2024-01-01 00:00:00.
+const START: u64 = 13_881_024_000_000_000;
+
+const TICKS_IN_SECOND: u64 = 10_000_000;
+
+fn step_of(epochs: u32) -> u32
+    requires { epochs ≤ 3600 }
+    ensures value { result ≡ step_of epochs }
+{
+    if epochs <= 240 { 30 } else { 2 }
+}
+
+fn observe_all(
+    alloc: Global,
+    records: &[Eph],
+    tag: Tick,
+    receiver: &Receiver,
+    cycles: &[[i64; 2]],
+) -> Result<Vec<Signals>, AllocError>
+    requires early { 13881024000000000 ≤ tag.0 }
+    requires late { tag.0 ≤ 13881024000000000 + 72000000000 }
+    requires records { All IsOnTime records.now }
+    requires as_many { length cycles.now ≡ length records.now }
+    requires small { All AreSmall cycles.now }
+    ensures observed { IfOk result (λ s. AreObserved tag.0 receiver.now.point receiver.now.clock records.now cycles.now s.items) }
+    ensures columns { IfOk result (λ s. All AreInColumns s.items) }
+{
+    let mut sats = Vec::new(alloc);
+    for (k, eph) in records.iter().enumerate() {
+        let [l1, l2] = cycles[k];
+        sats.push(observe(eph, tag, receiver, l1, l2))?;
+    }
+    Ok(sats)
+}
+
+/// A receiver's observation file of so many epochs.
+pub fn observation_file(
+    alloc: Global,
+    epochs: u32,
+    records: &[Eph],
+    receiver: &Receiver,
+    cycles: &[[i64; 2]],
+) -> Result<Vec<u8>, AllocError>
+    requires epochs { epochs ≤ 3600 }
+    requires few { length records.now ≤ 15 }
+    requires records { All IsOnTime records.now }
+    requires as_many { length cycles.now ≡ length records.now }
+    requires small { All AreSmall cycles.now }
+    ensures text { IfOk result (λ t. IsObservationText epochs receiver.now.point receiver.now.clock records.now cycles.now t.items) }
+    ensures size { IfOk result (λ t. length t.items < 2 ^ 23) }
+{
+    let step = step_of(epochs);
+    let mut out = Vec::new(alloc);
+    write_header(&mut out)?;
+    for i in 0..epochs {
+        let seconds = step * i;
+        let tag = Tick(START + seconds as u64 * TICKS_IN_SECOND);
+        let sats = observe_all(alloc, records, tag, receiver, cycles)?;
+        write_epoch(alloc, &mut out, seconds, &sats)?;
+    }
+    Ok(out)
+}

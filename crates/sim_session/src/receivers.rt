@@ -1,0 +1,34 @@
+// The base and the rover.
+ghost use Rattle.std.specs.Prelude.{◌≡◌, ◌≤◌, pos, ◌+ℤ◌, ◌*ℤ◌, [], ◌∷◌, unsigned_abs};
+ghost use Rattle.sim_session.specs.Texts.{base_point};
+
+use sim_signals::Receiver;
+
+/// 6,378,137 m in units of 0.1 mm.
+const EQUATOR: i64 = 63_781_370_000;
+
+pub fn base_receiver(clock: i64) -> Receiver
+    requires { unsigned_abs clock ≤ 100000 }
+    ensures point { result.point ≡ base_point }
+    ensures clock { result.clock ≡ clock }
+{
+    Receiver {
+        point: [EQUATOR, 0, 0],
+        clock,
+    }
+}
+
+/// The rover, which lies so many mm off the base.
+pub fn rover_receiver(x: i64, y: i64, z: i64, clock: i64) -> Receiver
+    requires x { unsigned_abs x ≤ 1000000 }
+    requires y { unsigned_abs y ≤ 1000000 }
+    requires z { unsigned_abs z ≤ 1000000 }
+    requires clock { unsigned_abs clock ≤ 100000 }
+    ensures point { result.point ≡ (pos 63781370000 +ℤ (pos 10 *ℤ x)) ∷ (pos 10 *ℤ y) ∷ (pos 10 *ℤ z) ∷ [] }
+    ensures clock { result.clock ≡ clock }
+{
+    Receiver {
+        point: [EQUATOR + 10 * x, 10 * y, 10 * z],
+        clock,
+    }
+}

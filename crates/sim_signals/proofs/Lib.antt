@@ -1,0 +1,3 @@
+mod DistanceLaws
+mod Measures
+mod Solutions
