@@ -1,18 +1,16 @@
 -- What two files have in common before a run.
-use Rattle.std.specs.Prelude.{◌≡◌, ◌⊎◌, ℕ, ◌≤◌, Bool, List, length, Option, None, Some, All, AllPairs, ℤ}
+use Rattle.std.specs.Prelude.{◌≡◌, ◌⊎◌, ℕ, List, Option, None, Some, ℤ}
 use Rattle.obs_rows.specs.declared.bands.TheConstants.{L1_LETTERS, L2_LETTERS}
 use Rattle.obs_rows.specs.declared.bands.Signals.{Signals}
 use Rattle.obs_store.specs.declared.file.ObsFile.{ObsFile}
 use Rattle.obs_store.specs.Epochs.{tags_of}
 use Rattle.epoch_pair.specs.declared.pairs.PairOf.{PairOf}
 use Rattle.epoch_pair.specs.declared.pairs.PairFault.{PairFault}
-use Rattle.epoch_pair.specs.declared.pairs.PairFault.TheVariants as PairFault
 use Rattle.epoch_pair.specs.Pairs.{all_pairs, AreApart, IsTaken}
 use Rattle.epoch_pair.specs.Faults.{IsDense}
 use Rattle.epoch_pair.specs.Signals.{common_letter}
 use Rattle.round_steps.specs.declared.options.Options.{Options}
 use Rattle.round_steps.specs.Points.{IsReceiverPoint}
-use Rattle.session.specs.declared.faults.PairWhat.{PairWhat}
 use Rattle.session.specs.declared.faults.PairWhat.TheVariants.{NoBasePosition, NoSignal, Dense}
 use Rattle.session.specs.declared.faults.SessionFault.{SessionFault}
 use Rattle.session.specs.declared.faults.SessionFault.TheVariants.{Refused, NoMemory}
