@@ -6,13 +6,16 @@ use Rattle.job_answers.specs.declared.status.Status.TheVariants.{Usage, ReadFaul
 use Rattle.job_answers.specs.Statuses.{IsVerdictStatus, IsJobStatus}
 use Rattle.job_answers.specs.Endings.{Ending}
 use Rattle.job_answers.specs.Delivered.{SinkChange}
-use Rattle.command_words.specs.declared.words.Job.{Job}
-use Rattle.command_words.specs.declared.words.Job.TheVariants as job
+use Rattle.command_words.specs.declared.jobs.Job.{Job}
+use Rattle.command_words.specs.declared.jobs.Job.TheVariants as job
 use Rattle.command_words.specs.Words.{IsJob}
 use Rattle.command_words.proofs.OneJob.{one_job}
 use Rattle.zero_job.proofs.ZeroSays.{zero_status, zero_verdict}
 use Rattle.list_job.proofs.ListSays.{list_status, list_verdict}
 use Rattle.orbit_job.proofs.OrbitSays.{orbit_status, orbit_verdict}
+use Rattle.sim_job.proofs.SimSays.{sim_status, sim_verdict}
+use Rattle.cert_jobs.proofs.CertSays.{check_status, check_verdict, residuals_status, residuals_verdict}
+use Rattle.arcs_job.proofs.ArcSays.{arcs_status, arcs_verdict}
 use Rattle.baseline_app.specs.Jobs.{JobEnds, IsReadable, IsAnswer}
 use Rattle.baseline_app.specs.Runs.{IsRun, IsComplete}
 
@@ -21,11 +24,19 @@ readable_ends : (job : Job) (told : List ℕ → Option (List ℕ)) (end : Endin
 readable_ends (job.Zero rows) told end = zero_verdict told rows end
 readable_ends (job.List obs) told end = list_verdict told obs end
 readable_ends (job.Orbit nav sat tick) told end = orbit_verdict told nav sat tick.0 end
+readable_ends (job.Check cert) told end = check_verdict told cert end
+readable_ends (job.Residuals cert) told end = residuals_verdict told cert end
+readable_ends (job.Arcs base rover nav options) told end = arcs_verdict told base rover nav options end
+readable_ends (job.Sim part seed epochs sats) told end = λ readable no_fault ends. sim_verdict part seed epochs sats end ends
 
 job_status : (job : Job) (told : List ℕ → Option (List ℕ)) (end : Ending) → JobEnds job told end → IsJobStatus end.status
 job_status (job.Zero rows) told end = zero_status told rows end
 job_status (job.List obs) told end = list_status told obs end
 job_status (job.Orbit nav sat tick) told end = orbit_status told nav sat tick.0 end
+job_status (job.Check cert) told end = check_status told cert end
+job_status (job.Residuals cert) told end = residuals_status told cert end
+job_status (job.Arcs base rover nav options) told end = arcs_status told base rover nav options end
+job_status (job.Sim part seed epochs sats) told end = sim_status part seed epochs sats end
 
 answer_ends : (job : Job) (words : List (List ℕ)) (told : List ℕ → Option (List ℕ)) (end : Ending) → IsJob words job → IsReadable job told → end.status ≢ ReadFault → IsAnswer words told end
     → (end.status ≡ NoMemory) ⊎ (JobEnds job told end × IsVerdictStatus end.status)

@@ -6,8 +6,8 @@ use Rattle.job_answers.specs.declared.status.Status.TheVariants.{Done, Declined,
 use Rattle.job_answers.specs.Statuses.{IsVerdictStatus}
 use Rattle.job_answers.specs.Endings.{Ending}
 use Rattle.job_answers.specs.Delivered.{SinkChange}
-use Rattle.command_words.specs.declared.words.Job.{Job}
-use Rattle.command_words.specs.declared.words.Job.TheVariants as job
+use Rattle.command_words.specs.declared.jobs.Job.{Job}
+use Rattle.command_words.specs.declared.jobs.Job.TheVariants as job
 use Rattle.command_words.specs.Words.{IsJob}
 use Rattle.command_words.proofs.OneJob.{one_job}
 use Rattle.zero_job.specs.ZeroRuns.{SaysOfZero}
@@ -17,6 +17,14 @@ use Rattle.list_job.proofs.ListSays.{list_says}
 use Rattle.gps_time.specs.declared.Tick.{Tick}
 use Rattle.orbit_job.specs.OrbitRuns.{SaysOfOrbit}
 use Rattle.orbit_job.proofs.OrbitSays.{orbit_says}
+use Rattle.command_words.specs.declared.sims.Part.{Part}
+use Rattle.sim_job.specs.SimRuns.{SaysOfSim}
+use Rattle.sim_job.proofs.SimSays.{sim_says}
+use Rattle.cert_jobs.specs.CertRuns.{SaysOfCheck, SaysOfResiduals}
+use Rattle.cert_jobs.proofs.CertSays.{check_says, residuals_says}
+use Rattle.run_options.specs.declared.options.Options.{Options}
+use Rattle.arcs_job.specs.ArcRuns.{SaysOfArcs}
+use Rattle.arcs_job.proofs.ArcSays.{arcs_says}
 use Rattle.baseline_app.specs.Jobs.{JobEnds}
 use Rattle.baseline_app.specs.Runs.{IsRun}
 
@@ -66,3 +74,19 @@ run_says_list words told obs result out err run asked =
 pub run_says_orbit : (words : List (List ℕ)) (told : List ℕ → Option (List ℕ)) (nav : List ℕ) (sat : ℕ) (tick : Tick) (result : Status) (out err : SinkChange) → IsRun words told result out err → IsJob words (job.Orbit nav sat tick) → SaysOfOrbit told nav sat tick.0 result out
 run_says_orbit words told nav sat tick result out err run asked =
     run_says words told (job.Orbit nav sat tick) result out err (λ s. SaysOfOrbit told nav sat tick.0 s out) (record { usage = tt; refused = tt; read = tt; write = tt; memory = tt }) (λ end ends written. orbit_says told nav sat tick.0 end out ends written) run asked
+
+pub run_says_sim : (words : List (List ℕ)) (told : List ℕ → Option (List ℕ)) (part : Part) (seed epochs sats : ℕ) (result : Status) (out err : SinkChange) → IsRun words told result out err → IsJob words (job.Sim part seed epochs sats) → SaysOfSim part seed epochs sats result out
+run_says_sim words told part seed epochs sats result out err run asked =
+    run_says words told (job.Sim part seed epochs sats) result out err (λ s. SaysOfSim part seed epochs sats s out) (record { usage = tt; refused = tt; read = tt; write = tt; memory = tt }) (λ end ends written. sim_says part seed epochs sats end out ends written) run asked
+
+pub run_says_check : (words : List (List ℕ)) (told : List ℕ → Option (List ℕ)) (cert : List ℕ) (result : Status) (out err : SinkChange) → IsRun words told result out err → IsJob words (job.Check cert) → SaysOfCheck told cert result out
+run_says_check words told cert result out err run asked =
+    run_says words told (job.Check cert) result out err (λ s. SaysOfCheck told cert s out) (record { usage = tt; refused = tt; read = tt; write = tt; memory = tt }) (λ end ends written. check_says told cert end out ends written) run asked
+
+pub run_says_residuals : (words : List (List ℕ)) (told : List ℕ → Option (List ℕ)) (cert : List ℕ) (result : Status) (out err : SinkChange) → IsRun words told result out err → IsJob words (job.Residuals cert) → SaysOfResiduals told cert result out
+run_says_residuals words told cert result out err run asked =
+    run_says words told (job.Residuals cert) result out err (λ s. SaysOfResiduals told cert s out) (record { usage = tt; refused = tt; read = tt; write = tt; memory = tt }) (λ end ends written. residuals_says told cert end out ends written) run asked
+
+pub run_says_arcs : (words : List (List ℕ)) (told : List ℕ → Option (List ℕ)) (base rover nav : List ℕ) (options : Options) (result : Status) (out err : SinkChange) → IsRun words told result out err → IsJob words (job.Arcs base rover nav options) → SaysOfArcs told base rover nav options result out
+run_says_arcs words told base rover nav options result out err run asked =
+    run_says words told (job.Arcs base rover nav options) result out err (λ s. SaysOfArcs told base rover nav options s out) (record { usage = tt; refused = tt; read = tt; write = tt; memory = tt }) (λ end ends written. arcs_says told base rover nav options end out ends written) run asked

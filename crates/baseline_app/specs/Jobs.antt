@@ -7,23 +7,36 @@ use Rattle.rinex_nav.specs.NavForm.{HasNavFile}
 use Rattle.job_answers.specs.declared.status.Status.TheVariants.{Usage, NoMemory}
 use Rattle.job_answers.specs.Texts.{usage_line, no_memory_line}
 use Rattle.job_answers.specs.Endings.{Ending, ending, EndsByFile, IsAdmitted}
-use Rattle.command_words.specs.declared.words.Job.{Job}
-use Rattle.command_words.specs.declared.words.Job.TheVariants as job
+use Rattle.command_words.specs.declared.jobs.Job.{Job}
+use Rattle.command_words.specs.declared.jobs.Job.TheVariants as job
 use Rattle.command_words.specs.Words.{IsJob}
 use Rattle.zero_job.specs.Zero.{ZeroEnds}
 use Rattle.list_job.specs.Listing.{ListEnds}
 use Rattle.orbit_job.specs.Orbits.{OrbitEnds}
+use Rattle.sim_job.specs.Sims.{SimEnds}
+use Rattle.cert_jobs.specs.CertJobs.{CheckEnds, ResidualsEnds}
+use Rattle.cert_jobs.specs.CertRuns.{IsCertAdmitted}
+use Rattle.arcs_job.specs.ArcJobs.{ArcsEnds}
+use Rattle.arcs_job.specs.ArcRuns.{AreAdmitted}
 
 abbrev pub JobEnds : Job → (List ℕ → Option (List ℕ)) → Ending → Type 0
 JobEnds (job.Zero rows) told end = EndsByFile told rows (ZeroEnds rows) end
 JobEnds (job.List obs) told end = EndsByFile told obs (ListEnds obs) end
 JobEnds (job.Orbit nav sat tick) told end = EndsByFile told nav (OrbitEnds nav sat tick.0) end
+JobEnds (job.Check cert) told end = EndsByFile told cert (CheckEnds cert) end
+JobEnds (job.Residuals cert) told end = EndsByFile told cert (ResidualsEnds cert) end
+JobEnds (job.Arcs base rover nav options) told end = ArcsEnds told base rover nav options end
+JobEnds (job.Sim part seed epochs sats) told end = SimEnds part seed epochs sats end
 
--- all files of the job are told and admitted
+-- all files of the job are told and admitted, and those of a session aren't refused together
 abbrev pub IsReadable : Job → (List ℕ → Option (List ℕ)) → Type 0
 IsReadable (job.Zero rows) told = IsAdmitted told rows IsZeroFile
 IsReadable (job.List obs) told = IsAdmitted told obs HasObsFile
 IsReadable (job.Orbit nav sat tick) told = IsAdmitted told nav HasNavFile
+IsReadable (job.Check cert) told = IsCertAdmitted told cert
+IsReadable (job.Residuals cert) told = IsCertAdmitted told cert
+IsReadable (job.Arcs base rover nav options) told = AreAdmitted told base rover nav options
+IsReadable (job.Sim part seed epochs sats) told = Unit {0}
 
 -- the words ask for a job, which ends so
 pub record AnswersJob (words : List (List ℕ)) (told : List ℕ → Option (List ℕ)) (end : Ending) : Type 0 where

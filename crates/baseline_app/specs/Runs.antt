@@ -8,7 +8,7 @@ use Rattle.job_answers.specs.declared.status.Status.TheVariants.{WriteFault, NoM
 use Rattle.job_answers.specs.Statuses.{IsVerdictStatus}
 use Rattle.job_answers.specs.Endings.{Ending}
 use Rattle.job_answers.specs.Delivered.{SinkChange, IsDelivered}
-use Rattle.command_words.specs.declared.words.Job.{Job}
+use Rattle.command_words.specs.declared.jobs.Job.{Job}
 use Rattle.baseline_app.specs.Jobs.{JobEnds, IsAnswer}
 
 -- A run: the words end in a status with two texts, which are written.

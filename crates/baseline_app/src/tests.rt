@@ -2,6 +2,7 @@
 use crate::top::run;
 use job_answers::Status;
 use line_source::{MemFiles, MemSink, Named, load};
+use sim_session::make;
 use std::alloc::{AllocError, Global};
 use std::process::Abort;
 use std::test::Fail;
@@ -215,6 +216,12 @@ fn wrong_words_open_no_file(rt: HostRuntime) -> Result<(), Fail> {
         &["--", "zero", "F"],
         &["Zero", "F"],
         &["fix", "a", "b"],
+        &["orbit", "F", "G33", "1"],
+        &["orbit", "F", "g01", "1"],
+        &["orbit", "F", "G00", "1"],
+        &["orbit", "F", "G01", ""],
+        &["orbit", "F", "G01", "+5"],
+        &["orbit", "F", "G01", "1000000000000000000"],
     ];
     for row in rows {
         let words = words_of(alloc, row)?;
@@ -313,5 +320,203 @@ fn lists(rt: HostRuntime) -> Result<(), Fail> {
         )?;
         expect_run(&rt, &ran, status, out, err);
     }
+    Ok(())
+}
+
+// A satellite on a circle of 25,000 km, over the equator, on the meridian of Greenwich at the start of week 2295.
+const NAV: &str =
+    "     3.04           N: GNSS NAV DATA    G: GPS              RINEX VERSION / TYPE\n\
+\x20                                                           END OF HEADER\n\
+G07 2023 12 31 00 00 00                  0                  0                  0\n\
+\x20                     0                  0                  0                  0\n\
+\x20                     0                  0                  0               5000\n\
+\x20                     0                  0                  0                  0\n\
+\x20                     0                  0                  0                  0\n\
+\x20                     0                  0               2295                  0\n\
+\x20                     0                  0                  0                  0\n\
+\x20                     0\n";
+
+const TOE: u64 = 13_880_160_000_000_000;
+
+// The two numbers of a line with that name.
+fn ends_in(line: &str, name: &str) -> Option<(i64, i64)> {
+    let mut words = line.split(' ');
+    if words.next()? != name {
+        return None;
+    }
+    let low = words.next()?.parse::<i64>().ok()?;
+    let high = words.next()?.parse::<i64>().ok()?;
+    Some((low, high))
+}
+
+#[test]
+fn places_a_satellite(rt: HostRuntime) -> Result<(), Fail> {
+    let alloc = rt.alloc();
+    let tick = format!(in alloc; "{TOE}")?;
+    let words = ["orbit", "F", "G07", tick.as_str()];
+    let ran = run_on(alloc, &words, NAV.as_bytes(), 1000, Fails::none(alloc))?;
+    assert_eq!(rt; ran.status, Status::Done);
+    let text = str::from_utf8(ran.out.bytes())?;
+    let rows = [("x", 25_000_000_000_000), ("y", 0), ("z", 0), ("clock", 0)];
+    let mut lines = text.lines();
+    for (name, want) in rows {
+        let ends = lines.next().and_then(|line| ends_in(line, name));
+        let Some((low, high)) = ends else {
+            panic!(&rt; "no line of {name}");
+        };
+        assert!(rt; low <= want && want <= high, "at {name}");
+        assert!(rt; high.abs_diff(low) <= 5, "at {name}");
+    }
+    assert!(rt; lines.next().is_none());
+    Ok(())
+}
+
+#[test]
+fn finds_no_record(rt: HostRuntime) -> Result<(), Fail> {
+    let alloc = rt.alloc();
+    let rows = [
+        ("G07", "13880232000000000", Status::Done),
+        ("G07", "13880232000000001", Status::Declined),
+        ("G07", "13880087999999999", Status::Declined),
+        ("G08", "13880160000000000", Status::Declined),
+    ];
+    for (sat, tick, status) in rows {
+        let words = ["orbit", "F", sat, tick];
+        let ran = run_on(alloc, &words, NAV.as_bytes(), 1000, Fails::none(alloc))?;
+        assert_eq!(rt; ran.status, status, "at {sat} {tick}");
+        if status == Status::Declined {
+            expect_run(&rt, &ran, status, "no record\n", "");
+        }
+    }
+    let words = ["orbit", "F", "G07", "0"];
+    let ran = run_on(alloc, &words, b"", 1000, Fails::none(alloc))?;
+    let refused = "refused: F line 1 column 1: version not 3.00 to 3.05\n";
+    expect_run(&rt, &ran, Status::Refused, "", refused);
+    Ok(())
+}
+
+#[test]
+fn lists_a_made_up_session(rt: HostRuntime) -> Result<(), Fail> {
+    let alloc = rt.alloc();
+    let words = ["sim", "base", "1", "60", "8"];
+    let made = run_on(alloc, &words, b"", 8_000_000, Fails::none(alloc))?;
+    assert_eq!(rt; made.status, Status::Done);
+    let ran = run_on(
+        alloc,
+        &["list", "F"],
+        made.out.bytes(),
+        1000,
+        Fails::none(alloc),
+    )?;
+    let listed = "version 3.04\nepochs 60\nfirst 13881024000000000\nlast 13881041700000000\n\
+G01 60\nG02 60\nG03 60\nG04 60\nG05 60\nG06 60\nG07 60\nG08 60\n";
+    expect_run(&rt, &ran, Status::Done, listed, "");
+    Ok(())
+}
+
+const CERT: &str =
+    "baseline-cert 1\nratio 2000\nbudget 1000\nbase 63781370000 0 0\npoint 63781370000 0 0\n\
+signals C W\narcs 2\narc 3 0 0 datum 0 0\narc 5 0 0 free 0 0\npairs 1\npair 0 13881024000000000 0 2\n\
+row 0 0 0 0 0 0 0 0 0 0 0 0\nrow 1 0 0 0 0 0 0 0 0 0 0 0\n";
+
+#[test]
+fn checks_and_shows_a_certificate(rt: HostRuntime) -> Result<(), Fail> {
+    let alloc = rt.alloc();
+    let weak = "declined weak fine 0 -6\n";
+    let fixed = "z1 0 0\nz2 0 1\nmove 0 0 0\nvalues 36 0 0 0\nfixed\n";
+    let not = "not certified weak 0 -6\n";
+    let left = "0 0 0 0 0 0\n0 1 0 0 0 0\n";
+    let rows = [
+        ("check", weak, Status::Declined, not, ""),
+        ("check", fixed, Status::Declined, not, ""),
+        ("residuals", weak, Status::Declined, "nothing to show\n", ""),
+        ("residuals", fixed, Status::Done, left, ""),
+        (
+            "check",
+            "fixed\n",
+            Status::Refused,
+            "",
+            "refused: F line 14 column 1: bad line\n",
+        ),
+        (
+            "residuals",
+            "",
+            Status::Refused,
+            "",
+            "refused: F line 14 column 1: bad line\n",
+        ),
+    ];
+    for (command, tail, status, out, err) in rows {
+        let text = format!(in alloc; "{CERT}{tail}")?;
+        let ran = run_on(
+            alloc,
+            &[command, "F"],
+            text.as_bytes(),
+            1000,
+            Fails::none(alloc),
+        )?;
+        expect_run(&rt, &ran, status, out, err);
+    }
+    Ok(())
+}
+
+// A run of `arcs` on three files.
+fn run_arcs(
+    alloc: Global,
+    base: &[u8],
+    rover: &[u8],
+    nav: &[u8],
+    option: &str,
+) -> Result<Ran, AllocError> {
+    let words = words_of(alloc, &["arcs", "B", option, "R", "N"])?;
+    let mut list = Vec::new(alloc);
+    for (name, text) in [("B", base), ("R", rover), ("N", nav)] {
+        list.push(Named {
+            name: String::from_str(alloc, name)?,
+            bytes: text.to_vec(alloc)?,
+            at: 0,
+        })?;
+    }
+    let mut files = MemFiles::new(list, Vec::new(alloc));
+    let mut out = MemSink::new(alloc, 1000, 7, Vec::new(alloc))?;
+    let mut err = MemSink::new(alloc, 1000, 7, Vec::new(alloc))?;
+    let status = run(alloc, &words, &mut files, &mut out, &mut err);
+    Ok(Ran { status, out, err })
+}
+
+#[test]
+fn shows_arcs(rt: HostRuntime) -> Result<(), Fail> {
+    let alloc = rt.alloc();
+    let made = make(alloc, 1, 60, 8)?;
+    let whole = "arc G01 0 59 datum\narc G02 0 59 free\narc G03 0 59 free\narc G04 0 59 free\n\
+arc G05 0 59 free\narc G06 0 59 free\narc G07 0 59 free\narc G08 0 59 free\nshort 0\n";
+    let nav = made.nav.as_slice();
+    let ran = run_arcs(alloc, &made.base, &made.rover, nav, "--gap=0")?;
+    expect_run(&rt, &ran, Status::Done, whole, "");
+    let ran = run_arcs(alloc, &made.base, &made.base, nav, "--step=1")?;
+    expect_run(&rt, &ran, Status::Done, whole, "");
+    let ran = run_arcs(alloc, &made.base, &made.rover, nav, "--count=4")?;
+    expect_run(&rt, &ran, Status::Done, "short 8\n", "");
+    let ran = run_arcs(alloc, &made.base, &made.rover, nav, "--ratio=2000")?;
+    expect_run(&rt, &ran, Status::Usage, "", USAGE);
+    let ran = run_arcs(alloc, OBS.as_bytes(), &made.rover, nav, "--")?;
+    expect_run(
+        &rt,
+        &ran,
+        Status::Refused,
+        "",
+        "refused: no base position\n",
+    );
+    let ran = run_arcs(alloc, &made.base, OBS.as_bytes(), nav, "--")?;
+    expect_run(
+        &rt,
+        &ran,
+        Status::Refused,
+        "",
+        "refused: no common signals\n",
+    );
+    let ran = run_arcs(alloc, &made.base, &made.rover, b"", "--")?;
+    let refused = "refused: N line 1 column 1: version not 3.00 to 3.05\n";
+    expect_run(&rt, &ran, Status::Refused, "", refused);
     Ok(())
 }

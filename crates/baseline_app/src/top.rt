@@ -1,29 +1,63 @@
 // The program over any files and sinks.
-ghost use Rattle.std.specs.Prelude.{◌≡◌, ◌≢◌, ◌⊎◌, ℕ, List, IfOk, All};
+ghost use Rattle.std.specs.Prelude.{◌≡◌, ◌≢◌, ◌⊎◌, [], ◌∷◌, ℕ, List, IfOk, All};
 ghost use Rattle.line_source.specs.Causes.{Rose};
 ghost use Rattle.gps_time.specs.declared.Tick.{Tick};
 ghost use Rattle.job_answers.specs.Answers.{ending_of, IfEnded};
 ghost use Rattle.job_answers.specs.Delivered.{sink_change};
-ghost use Rattle.command_words.specs.declared.words.Job.{Job};
-ghost use Rattle.command_words.specs.Words.{texts_of, file_words, IsJob};
+ghost use Rattle.command_words.specs.declared.sims.Part.{Part};
+ghost use Rattle.command_words.specs.declared.jobs.Job.{Job};
+ghost use Rattle.command_words.specs.Words.{texts_of, file_words, IsJob, IsInRange};
 ghost use Rattle.zero_job.specs.ZeroRuns.{SaysOfZero};
 ghost use Rattle.list_job.specs.ListRuns.{SaysOfList};
 ghost use Rattle.orbit_job.specs.OrbitRuns.{SaysOfOrbit};
+ghost use Rattle.sim_job.specs.SimRuns.{SaysOfSim};
+ghost use Rattle.run_options.specs.declared.options.Options.{Options};
+ghost use Rattle.cert_jobs.specs.CertRuns.{SaysOfCheck, SaysOfResiduals};
+ghost use Rattle.arcs_job.specs.ArcJobs.{ArcsEnds};
+ghost use Rattle.arcs_job.specs.ArcRuns.{SaysOfArcs};
 ghost use Rattle.baseline_app.specs.Jobs.{JobEnds, IsReadable, IsAnswer};
 ghost use Rattle.baseline_app.specs.Runs.{IsRun, IsComplete};
 
-use command_words::{Job, WordFault, read_words};
+use arcs_job::arcs;
+use cert_jobs::{check_file, residuals};
+use command_words::{Job, Word, WordFault, read_words};
 use job_answers::{Answer, Status, Stop, deliver};
 use line_source::{Files, Sink};
 use list_job::list;
 use orbit_job::orbit;
+use run_options::Options;
+use sim_job::sim;
 use std::alloc::{AllocError, Global};
 use zero_job::zero;
 
 const USAGE: &str = "usage: baseline fix|check|residuals|zero|list|orbit|arcs|sim WORDS\n";
 
+// The command `arcs` by its words.
+fn arcs_by_words<F: Files>(
+    alloc: Global,
+    files: &mut F,
+    base: &Word,
+    rover: &Word,
+    nav: &Word,
+    options: &Options,
+) -> Result<Answer, Stop>
+    ensures ends { IfEnded result (λ end. ArcsEnds (F.text_of files.old) base.now rover.now nav.now options.now end) }
+    ensures fault { IfEnded result (λ end. end.status ≡ Status.ReadFault → Rose (F.faults files.old) (F.faults files.new)) }
+    ensures sure { All (F.is_sure_name files.old) (base.now ∷ rover.now ∷ nav.now ∷ []) → IfEnded result (λ end. end.status ≢ Status.ReadFault) }
+{
+    arcs(
+        alloc,
+        files,
+        base.as_str(),
+        rover.as_str(),
+        nav.as_str(),
+        options,
+    )
+}
+
 // What the job ends with.
 fn do_job<F: Files>(alloc: Global, job: &Job, files: &mut F) -> Result<Answer, Stop>
+    requires { IsInRange job.now }
     ensures ends { IfEnded result (λ end. JobEnds job.now (F.text_of files.old) end) }
     ensures fault { IfEnded result (λ end. end.status ≡ Status.ReadFault → Rose (F.faults files.old) (F.faults files.new)) }
     ensures sure { All (F.is_sure_name files.old) (file_words job.now) → IfEnded result (λ end. end.status ≢ Status.ReadFault) }
@@ -32,6 +66,20 @@ fn do_job<F: Files>(alloc: Global, job: &Job, files: &mut F) -> Result<Answer, S
         Job::Zero { rows } => zero(alloc, files, rows.as_str()),
         Job::List { obs } => list(alloc, files, obs.as_str()),
         Job::Orbit { nav, sat, tick } => orbit(alloc, files, nav.as_str(), *sat, *tick),
+        Job::Check { cert } => check_file(alloc, files, cert.as_str()),
+        Job::Residuals { cert } => residuals(alloc, files, cert.as_str()),
+        Job::Arcs {
+            base,
+            rover,
+            nav,
+            options,
+        } => arcs_by_words(alloc, files, base, rover, nav, options),
+        Job::Sim {
+            part,
+            seed,
+            epochs,
+            sats,
+        } => Ok(sim(alloc, *part, *seed, *epochs, *sats)?),
     }
 }
 
@@ -78,6 +126,16 @@ pub fn run<F: Files, O: Sink, E: Sink>(
         (sink_change (O.contents out.old) (O.contents out.new) (O.faults out.old) (O.faults out.new)) }
     ensures orbit { (nav : List ℕ) (sat : ℕ) (tick : Tick) → IsJob (texts_of words.now) (Job.Orbit nav sat tick)
         → SaysOfOrbit (F.text_of files.old) nav sat tick.0 result
+        (sink_change (O.contents out.old) (O.contents out.new) (O.faults out.old) (O.faults out.new)) }
+    ensures sim { (part : Part) (seed epochs sats : ℕ) → IsJob (texts_of words.now) (Job.Sim part seed epochs sats)
+        → SaysOfSim part seed epochs sats result
+        (sink_change (O.contents out.old) (O.contents out.new) (O.faults out.old) (O.faults out.new)) }
+    ensures check { (cert : List ℕ) → IsJob (texts_of words.now) (Job.Check cert) → SaysOfCheck (F.text_of files.old) cert result
+        (sink_change (O.contents out.old) (O.contents out.new) (O.faults out.old) (O.faults out.new)) }
+    ensures residuals { (cert : List ℕ) → IsJob (texts_of words.now) (Job.Residuals cert) → SaysOfResiduals (F.text_of files.old) cert result
+        (sink_change (O.contents out.old) (O.contents out.new) (O.faults out.old) (O.faults out.new)) }
+    ensures arcs { (base rover nav : List ℕ) (options : Options) → IsJob (texts_of words.now) (Job.Arcs base rover nav options)
+        → SaysOfArcs (F.text_of files.old) base rover nav options result
         (sink_change (O.contents out.old) (O.contents out.new) (O.faults out.old) (O.faults out.new)) }
     ensures usage { result ≡ Status.Usage → (job : Job) → IsJob (texts_of words.now) job → ⊥ }
     ensures complete { (job : Job) → IsJob (texts_of words.now) job → IsReadable job (F.text_of files.old)

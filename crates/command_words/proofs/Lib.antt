@@ -1,2 +1,4 @@
 pub mod NumberLaws
+pub mod SettingLaws
+pub mod PartLaws
 pub mod OneJob

@@ -1,2 +1,4 @@
 pub mod Numbers
+pub mod Settings
+pub mod Parts
 pub mod Words

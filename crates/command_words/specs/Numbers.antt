@@ -9,6 +9,12 @@ pub record IsNumber (word : List ℕ) (n : ℕ) : Type 0 where
   pub few : length word ≤ 18
   pub value : n ≡ digit_sum word
 
+-- a number from the least to the most
+pub record IsNumberIn (least most : ℕ) (word : List ℕ) (n : ℕ) : Type 0 where
+  pub number : IsNumber word n
+  pub from : least ≤ n
+  pub to : n ≤ most
+
 -- the word is `G` and the two digits of a number from 1 to 32
 pub record IsSatellite (word : List ℕ) (n : ℕ) : Type 0 where
   pub tens : ℕ

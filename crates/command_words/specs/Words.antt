@@ -1,40 +1,95 @@
 -- Which words are a job.
-use Rattle.std.specs.Prelude.{◌≡◌, ℕ, Bool, true, not, ◌==◌, IsTrue, List, [], ◌∷◌, map, codes, string_bytes, String, All}
+use Rattle.std.specs.Prelude.{◌≡◌, ◌≤◌, ℕ, List, [], ◌∷◌, map, codes, string_bytes, String}
 use Rattle.std.specs.declared.alloc.Global.{Global}
-use Rattle.command_words.specs.Numbers.{IsNumber, IsSatellite}
-use Rattle.command_words.specs.declared.words.Job.{Job}
-use Rattle.command_words.specs.declared.words.Job.TheVariants as job
+use Rattle.command_words.specs.declared.settings.Given.{Given}
+use Rattle.command_words.specs.declared.sims.Part.{Part}
+use Rattle.command_words.specs.declared.sims.Part.TheVariants as part
+use Rattle.command_words.specs.declared.sims.Sim.{Sim}
+use Rattle.command_words.specs.declared.jobs.Job.{Job}
+use Rattle.command_words.specs.declared.jobs.Job.TheVariants as job
+use Rattle.command_words.specs.Numbers.{IsNumber, IsNumberIn, IsSatellite}
+use Rattle.command_words.specs.Parts.{AreParted}
+use Rattle.run_options.specs.declared.options.Options.{Options}
+use Rattle.command_words.specs.Settings.{ArePairOptions}
 
 abbrev pub texts_of : List (String Global) → List (List ℕ)
 texts_of words = map (λ w. string_bytes w) words
 
--- a word that may stand for a file: `-` alone, or any that doesn't begin with it
-abbrev pub is_file_word : List ℕ → Bool
-is_file_word [] = true
-is_file_word (b ∷ []) = true
-is_file_word (b ∷ c ∷ bs) = not (b == 45)
-
--- the words are this command, and behind it exactly these files
-pub record IsCommand (command : List ℕ) (files words : List (List ℕ)) : Type 0 where
-  pub words_are : words ≡ command ∷ files
-  pub ordinary : All (λ file. IsTrue (is_file_word file)) files
+-- the command has that name, exactly these ordinary words and no option
+pub record IsPlainJob (name : List ℕ) (words : List (List ℕ)) (command : List ℕ) (plain : List (List ℕ)) (given : List Given) : Type 0 where
+  pub command_is : command ≡ name
+  pub plain_are : plain ≡ words
+  pub none_given : given ≡ []
 
 -- `orbit`, a navigation file, a satellite and a tick
-pub record IsOrbit (nav : List ℕ) (sat tick : ℕ) (words : List (List ℕ)) : Type 0 where
+pub record IsOrbitJob (nav : List ℕ) (sat tick : ℕ) (command : List ℕ) (plain : List (List ℕ)) (given : List Given) : Type 0 where
   pub sat_word : List ℕ
   pub tick_word : List ℕ
-  pub words_are : words ≡ codes "orbit" ∷ nav ∷ sat_word ∷ tick_word ∷ []
-  pub ordinary : IsTrue (is_file_word nav)
+  pub asked : IsPlainJob (codes "orbit") (nav ∷ sat_word ∷ tick_word ∷ []) command plain given
   pub satellite : IsSatellite sat_word sat
   pub number : IsNumber tick_word tick
 
-abbrev pub IsJob : List (List ℕ) → Job → Type 0
-IsJob words (job.Zero rows) = IsCommand (codes "zero") (rows ∷ []) words
-IsJob words (job.List obs) = IsCommand (codes "list") (obs ∷ []) words
-IsJob words (job.Orbit nav sat tick) = IsOrbit nav sat tick.0 words
+abbrev pub name_of_part : Part → List ℕ
+name_of_part part.Base = codes "base"
+name_of_part part.Rover = codes "rover"
+name_of_part part.Nav = codes "nav"
+
+abbrev pub sim_with : Part → ℕ → ℕ → ℕ → Sim
+sim_with part seed epochs sats = record { part = part; seed = seed; epochs = epochs; sats = sats }
+
+-- the part of a made-up session, its seed, and how many epochs and satellites it has
+pub record IsSim (part_word seed_word epochs_word sats_word : List ℕ) (s : Sim) : Type 0 where
+  pub part : part_word ≡ name_of_part s.part
+  pub seed : IsNumberIn 0 4294967295 seed_word s.seed
+  pub epochs : IsNumberIn 1 3600 epochs_word s.epochs
+  pub sats : IsNumberIn 4 15 sats_word s.sats
+
+-- `sim` and these four words
+pub record IsSimJob (s : Sim) (command : List ℕ) (plain : List (List ℕ)) (given : List Given) : Type 0 where
+  pub part_word : List ℕ
+  pub seed_word : List ℕ
+  pub epochs_word : List ℕ
+  pub sats_word : List ℕ
+  pub asked : IsPlainJob (codes "sim") (part_word ∷ seed_word ∷ epochs_word ∷ sats_word ∷ []) command plain given
+  pub is : IsSim part_word seed_word epochs_word sats_word s
+
+-- `arcs`, three files, and options without a ratio and a budget
+pub record IsArcsJob (base rover nav : List ℕ) (o : Options) (command : List ℕ) (plain : List (List ℕ)) (given : List Given) : Type 0 where
+  pub command_is : command ≡ codes "arcs"
+  pub plain_are : plain ≡ base ∷ rover ∷ nav ∷ []
+  pub options : ArePairOptions given o
+
+-- a command with these ordinary words and options asks for the job
+abbrev pub IsJobOf : List ℕ → List (List ℕ) → List Given → Job → Type 0
+IsJobOf command plain given (job.Zero rows) = IsPlainJob (codes "zero") (rows ∷ []) command plain given
+IsJobOf command plain given (job.List obs) = IsPlainJob (codes "list") (obs ∷ []) command plain given
+IsJobOf command plain given (job.Orbit nav sat tick) = IsOrbitJob nav sat tick.0 command plain given
+IsJobOf command plain given (job.Check cert) = IsPlainJob (codes "check") (cert ∷ []) command plain given
+IsJobOf command plain given (job.Residuals cert) = IsPlainJob (codes "residuals") (cert ∷ []) command plain given
+IsJobOf command plain given (job.Arcs base rover nav options) = IsArcsJob base rover nav options command plain given
+IsJobOf command plain given (job.Sim part seed epochs sats) = IsSimJob (sim_with part seed epochs sats) command plain given
+
+-- the first word is the command, and the words behind it are parted into those
+pub record IsJob (words : List (List ℕ)) (job : Job) : Type 0 where
+  pub command : List ℕ
+  pub behind : List (List ℕ)
+  pub plain : List (List ℕ)
+  pub given : List Given
+  pub words_are : words ≡ command ∷ behind
+  pub parted : AreParted behind plain given
+  pub asked : IsJobOf command plain given job
 
 -- the words of a job that stand for files
 abbrev pub file_words : Job → List (List ℕ)
 file_words (job.Zero rows) = rows ∷ []
 file_words (job.List obs) = obs ∷ []
 file_words (job.Orbit nav sat tick) = nav ∷ []
+file_words (job.Check cert) = cert ∷ []
+file_words (job.Residuals cert) = cert ∷ []
+file_words (job.Arcs base rover nav options) = base ∷ rover ∷ nav ∷ []
+file_words (job.Sim part seed epochs sats) = []
+
+-- what each job that words ask for keeps
+abbrev pub IsInRange : Job → Type 0
+IsInRange (job.Sim part seed epochs sats) = (epochs ≤ 3600) × (sats ≤ 15)
+IsInRange other = Unit {0}

@@ -1,7 +1,21 @@
-//! Reads a job from the words of the command line.
+//! Reads a job from the words of the command line. Which words are a job, and which job it is, are definitions on the
+//! list of words.
 #![tactic(auto)]
 
+mod fault;
+mod jobs;
 mod numbers;
-mod words;
+mod options;
+mod parts;
+mod settings;
+mod sims;
+mod word;
 
-pub use words::{Job, Word, WordFault, read_words};
+pub use fault::WordFault;
+pub use jobs::{Job, read_words};
+pub use settings::{Given, Setting};
+pub use sims::{Part, Sim};
+pub use word::Word;
+
+#[cfg(test)]
+mod tests;

@@ -1,6 +1,6 @@
 use Rattle.std.proofs.Common.{inl, inr}
 use Rattle.baseline_app.proofs.Completes.{run_complete, run_usage, run_write}
-use Rattle.baseline_app.proofs.Says.{run_says_zero, run_says_list, run_says_orbit}
+use Rattle.baseline_app.proofs.Says.{run_says_zero, run_says_list, run_says_orbit, run_says_sim, run_says_check, run_says_residuals, run_says_arcs}
 use Rattle.baseline_app.proofs.top.run.Goals as goal
 
 pub returns-clause-write : goal.returns-clause-write
@@ -24,3 +24,15 @@ returns-clause-list g c = λ obs asked. run_says_list _ _ obs _ _ _ c.write_answ
 
 pub returns-clause-orbit : goal.returns-clause-orbit
 returns-clause-orbit g c = λ nav sat tick asked. run_says_orbit _ _ nav sat tick _ _ _ c.write_answer.ensures.run asked
+
+pub returns-clause-sim : goal.returns-clause-sim
+returns-clause-sim g c = λ part seed epochs sats asked. run_says_sim _ _ part seed epochs sats _ _ _ c.write_answer.ensures.run asked
+
+pub returns-clause-check : goal.returns-clause-check
+returns-clause-check g c = λ cert asked. run_says_check _ _ cert _ _ _ c.write_answer.ensures.run asked
+
+pub returns-clause-residuals : goal.returns-clause-residuals
+returns-clause-residuals g c = λ cert asked. run_says_residuals _ _ cert _ _ _ c.write_answer.ensures.run asked
+
+pub returns-clause-arcs : goal.returns-clause-arcs
+returns-clause-arcs g c = λ base rover nav options asked. run_says_arcs _ _ base rover nav options _ _ _ c.write_answer.ensures.run asked

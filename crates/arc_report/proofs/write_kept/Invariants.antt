@@ -1,0 +1,6 @@
+use Rattle.std.proofs.Common.{◌≡◌, ◌++◌, drop}
+use Rattle.arc_report.specs.ArcLines.{arc_lines}
+use Rattle.arc_report.proofs.write_kept.Given as goal
+
+abbrev pub invariant-loop-arc : goal.invariant-loop-arc
+invariant-loop-arc l = l.out.items ++ arc_lines (drop l.arc-index l.kept) ≡ l.fn.out.items ++ arc_lines l.kept

@@ -1,0 +1,2 @@
+pub mod ArcJobs
+pub mod ArcRuns

@@ -1,0 +1,7 @@
+use Rattle.std.proofs.Common.{All, subst}
+use Rattle.command_words.specs.declared.jobs.Job.{Job}
+use Rattle.command_words.specs.Words.{file_words}
+use Rattle.baseline_app.proofs.top.do_job.Goals as goal
+
+pub returns-in-Arcs-clause-sure : goal.returns-in-Arcs-clause-sure
+returns-in-Arcs-clause-sure g c = λ all. c.arcs_by_words.ensures.sure (subst (λ (j : Job). All (g.F.Files.is_sure_name c.args.files.now) (file_words j)) c.in-Arcs.is all)

@@ -1,0 +1,2 @@
+pub mod CertJobs
+pub mod CertRuns

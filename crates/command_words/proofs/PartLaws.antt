@@ -1,0 +1,300 @@
+-- Words are parted in one way.
+use Rattle.std.proofs.Common.{◌≡◌, ◌⊎◌, inl, inr, ℕ, Bool, true, false, IsTrue, List, [], ◌∷◌, ◌++◌, append_assoc, append-nil, refl, sym, ap, ap₂, ◌∙◌, subst, take, drop, get_or, length, Some, arith, ◌-◌, ◌≤◌}
+use Rattle.std.proofs.lemmas.List.{take_all}
+use Rattle.command_words.specs.declared.settings.Setting.{Setting}
+use Rattle.command_words.specs.declared.settings.Given.{Given}
+use Rattle.command_words.specs.declared.parts.Start.{Start}
+use Rattle.command_words.specs.declared.parts.Start.TheVariants as start
+use Rattle.command_words.specs.Numbers.{IsNumber}
+use Rattle.command_words.specs.Settings.{name_of, setting_of, IsJoinedOption}
+use Rattle.command_words.specs.Parts.{Piece, Plain, Apart, Joined, is_ordinary, IsPiece, words_of_piece, plain_of_piece, given_of_piece, ArePieces, words_of, plain_of, given_of, IsBehind, AreParted, AreTaken, IsApart, Begins, HasNoPiece, start_of, plain_in, given_in, count_in}
+use Rattle.command_words.proofs.SettingLaws.{begins_with_name, is_name, one_name, no_longer_name, same_behind, one_number}
+
+head_is : (a b : List ℕ) (xs ys : List (List ℕ)) → a ∷ xs ≡ b ∷ ys → a ≡ b
+head_is a b xs ys h = ap (λ (ws : List (List ℕ)). get_or ws 0 a) h
+
+tail_is : (a b : List ℕ) (xs ys : List (List ℕ)) → a ∷ xs ≡ b ∷ ys → xs ≡ ys
+tail_is a b xs ys h = ap (λ (ws : List (List ℕ)). drop 1 ws) h
+
+-- a word with two dashes and more is not ordinary
+no_dashes : (word text : List ℕ) → IsTrue (is_ordinary word) → word ≡ 45 ∷ 45 ∷ text → ⊥
+no_dashes word text is h = no (subst (λ (w : List ℕ). IsTrue (is_ordinary w)) h is)
+  where
+    no : IsTrue (is_ordinary (45 ∷ 45 ∷ text)) → ⊥
+    no t = absurd (cc t)
+
+text_is : (s t : List ℕ) → 45 ∷ 45 ∷ s ≡ 45 ∷ 45 ∷ t → s ≡ t
+text_is s t h = ap (λ (w : List ℕ). drop 2 w) h
+
+-- two names at the start of one text
+same_setting : (s r : Setting) (text : List ℕ) → setting_of text ≡ Some s → setting_of text ≡ Some r → s ≡ r
+same_setting s r text = one_name text s r
+
+-- what two pieces at the front of the same words have in common: all
+pub record ArePeeled (p q : Piece) (xs ys : List (List ℕ)) : Type 0 where
+  pub same : p ≡ q
+  pub rest : xs ≡ ys
+
+peeled_apart : (s r : Setting) (d e : List ℕ) (m n : ℕ) (xs ys : List (List ℕ)) → name_of s ≡ name_of r → d ≡ e → IsNumber d m → IsNumber e n → xs ≡ ys → ArePeeled (Apart s d m) (Apart r e n) xs ys
+peeled_apart s r d e m n xs ys name digits first second rest =
+    let setting : s ≡ r = one_name (name_of s) s r (is_name s) (subst (λ (t : List ℕ). setting_of t ≡ Some r) (sym name) (is_name r)) in
+    let number : m ≡ n = one_number d m n first (subst (λ (w : List ℕ). IsNumber w n) (sym digits) second) in
+    record { same = cc (setting, digits, number); rest = rest }
+
+peeled_joined : (s r : Setting) (d e : List ℕ) (m n : ℕ) (xs ys : List (List ℕ)) → name_of s ++ 61 ∷ d ≡ name_of r ++ 61 ∷ e → IsNumber d m → IsNumber e n → xs ≡ ys → ArePeeled (Joined s d m) (Joined r e n) xs ys
+peeled_joined s r d e m n xs ys text first second rest =
+    let setting : s ≡ r = one_name (name_of s ++ 61 ∷ d) s r (begins_with_name s (61 ∷ d)) (subst (λ (t : List ℕ). setting_of t ≡ Some r) (sym text) (begins_with_name r (61 ∷ e))) in
+    let behind : 61 ∷ d ≡ 61 ∷ e = same_behind (name_of s) (61 ∷ d) (61 ∷ e) (text ∙ ap (λ (t : Setting). name_of t ++ 61 ∷ e) (sym setting)) in
+    let digits : d ≡ e = ap (λ (w : List ℕ). drop 1 w) behind in
+    let number : m ≡ n = one_number d m n first (subst (λ (w : List ℕ). IsNumber w n) (sym digits) second) in
+    record { same = cc (setting, digits, number); rest = rest }
+
+no_apart_joined : (s r : Setting) (d : List ℕ) → name_of s ≡ name_of r ++ 61 ∷ d → ⊥
+no_apart_joined s r d h =
+    let setting : s ≡ r = one_name (name_of s) s r (is_name s) (subst (λ (t : List ℕ). setting_of t ≡ Some r) (sym h) (begins_with_name r (61 ∷ d))) in
+    no_longer_name s d (h ∙ ap (λ (t : Setting). name_of t ++ 61 ∷ d) (sym setting))
+
+pub peel : (p q : Piece) (xs ys : List (List ℕ)) → IsPiece p → IsPiece q → words_of_piece p ++ xs ≡ words_of_piece q ++ ys → ArePeeled p q xs ys
+peel (Plain w) (Plain v) xs ys is also h = record { same = ap (λ (t : List ℕ). Plain t) (head_is w v xs ys h); rest = tail_is w v xs ys h }
+peel (Plain w) (Apart s d n) xs ys is also h = absurd (no_dashes w (name_of s) is (head_is w _ xs (d ∷ ys) h))
+peel (Plain w) (Joined s d n) xs ys is also h = absurd (no_dashes w (name_of s ++ 61 ∷ d) is (head_is w _ xs ys h))
+peel (Apart s d n) (Plain v) xs ys is also h = absurd (no_dashes v (name_of s) also (sym (head_is _ v (d ∷ xs) ys h)))
+peel (Joined s d n) (Plain v) xs ys is also h = absurd (no_dashes v (name_of s ++ 61 ∷ d) also (sym (head_is _ v xs ys h)))
+peel (Apart s d m) (Apart r e n) xs ys is also h =
+    let behind : d ∷ xs ≡ e ∷ ys = tail_is _ _ (d ∷ xs) (e ∷ ys) h in
+    peeled_apart s r d e m n xs ys (text_is _ _ (head_is _ _ (d ∷ xs) (e ∷ ys) h)) (head_is d e xs ys behind) is also (tail_is d e xs ys behind)
+peel (Joined s d m) (Joined r e n) xs ys is also h = peeled_joined s r d e m n xs ys (text_is _ _ (head_is _ _ xs ys h)) is also (tail_is _ _ xs ys h)
+peel (Apart s d m) (Joined r e n) xs ys is also h = absurd (no_apart_joined s r e (text_is _ _ (head_is _ _ (d ∷ xs) ys h)))
+peel (Joined s d m) (Apart r e n) xs ys is also h = absurd (no_apart_joined r s d (sym (text_is _ _ (head_is _ _ xs (e ∷ ys) h))))
+
+-- no piece begins with `--` alone
+pub no_separator : (p : Piece) (xs further : List (List ℕ)) → IsPiece p → words_of_piece p ++ xs ≡ (45 ∷ 45 ∷ []) ∷ further → ⊥
+no_separator (Plain w) xs further is h = no_dashes w [] is (head_is w _ xs further h)
+no_separator (Apart s d n) xs further is h = no_name s [] (text_is _ _ (head_is _ _ (d ∷ xs) further h)) refl
+  where
+    no_name : (s : Setting) (t : List ℕ) → name_of s ≡ t → t ≡ [] → ⊥
+    no_name s t h e = absurd (cc (sym (is_name s) ∙ ap setting_of (h ∙ e)))
+no_separator (Joined s d n) xs further is h = absurd (cc (sym (begins_with_name s (61 ∷ d)) ∙ ap setting_of (text_is _ _ (head_is _ _ xs further h))))
+
+no_words : (p : Piece) (xs : List (List ℕ)) → words_of_piece p ++ xs ≡ [] → ⊥
+no_words (Plain w) xs h = absurd (cc h)
+no_words (Apart s d n) xs h = absurd (cc h)
+no_words (Joined s d n) xs h = absurd (cc h)
+
+-- nor does it begin what stands behind the pieces
+no_behind : (p : Piece) (xs behind further : List (List ℕ)) → IsPiece p → IsBehind behind further → words_of_piece p ++ xs ≡ behind → ⊥
+no_behind p xs [] further is behind h = no_words p xs h
+no_behind p xs (w ∷ ws) further is behind h = no_separator p xs ws is (h ∙ ap (λ (t : List ℕ). t ∷ ws) behind.0)
+
+-- what is left of parted words behind their first piece
+pub record IsLeft (p : Piece) (rest plain : List (List ℕ)) (given : List Given) : Type 0 where
+  pub plain_rest : List (List ℕ)
+  pub given_rest : List Given
+  pub parted : AreParted rest plain_rest given_rest
+  pub plain_are : plain ≡ plain_of_piece p ++ plain_rest
+  pub given_are : given ≡ given_of_piece p ++ given_rest
+
+left_of : (p : Piece) (rest words plain : List (List ℕ)) (given : List Given) (pieces : List Piece) (behind further : List (List ℕ)) → IsPiece p → words ≡ words_of_piece p ++ rest → words ≡ words_of pieces ++ behind → ArePieces pieces → IsBehind behind further
+    → plain ≡ plain_of pieces ++ further → given ≡ given_of pieces → IsLeft p rest plain given
+left_of p rest words plain given [] behind further is first second are is_behind plain_are given_are = absurd (no_behind p rest behind further is is_behind (sym first ∙ second))
+left_of p rest words plain given (q ∷ pieces) behind further is first second are is_behind plain_are given_are =
+    let peeled = peel p q rest (words_of pieces ++ behind) is are.0 (sym first ∙ second ∙ append_assoc (words_of_piece q) (words_of pieces) behind) in
+    record {
+      plain_rest = plain_of pieces ++ further;
+      given_rest = given_of pieces;
+      parted = record { pieces = pieces; behind = behind; further = further; words_are = peeled.rest; are_pieces = are.1; is_behind = is_behind; plain_are = refl; given_are = refl };
+      plain_are = plain_are ∙ append_assoc (plain_of_piece q) (plain_of pieces) further ∙ ap (λ (t : Piece). plain_of_piece t ++ (plain_of pieces ++ further)) (sym peeled.same);
+      given_are = given_are ∙ ap (λ (t : Piece). given_of_piece t ++ given_of pieces) (sym peeled.same);
+    }
+
+pub left : (p : Piece) (rest plain : List (List ℕ)) (given : List Given) → IsPiece p → AreParted (words_of_piece p ++ rest) plain given → IsLeft p rest plain given
+left p rest plain given is parted = left_of p rest _ plain given parted.pieces parted.behind parted.further is refl parted.words_are parted.are_pieces parted.is_behind parted.plain_are parted.given_are
+
+-- ---- words that are taken piece by piece
+
+-- what is left of parted words behind the pieces that are taken
+pub record AreLeft (pieces : List Piece) (rest plain : List (List ℕ)) (given : List Given) : Type 0 where
+  pub plain_rest : List (List ℕ)
+  pub given_rest : List Given
+  pub parted : AreParted rest plain_rest given_rest
+  pub plain_are : plain ≡ plain_of pieces ++ plain_rest
+  pub given_are : given ≡ given_of pieces ++ given_rest
+
+all_left : (pieces : List Piece) (rest plain : List (List ℕ)) (given : List Given) → ArePieces pieces → AreParted (words_of pieces ++ rest) plain given → AreLeft pieces rest plain given
+all_left [] rest plain given are parted = record { plain_rest = plain; given_rest = given; parted = parted; plain_are = refl; given_are = refl }
+all_left (p ∷ pieces) rest plain given are parted =
+    let split : AreParted (words_of_piece p ++ (words_of pieces ++ rest)) plain given = subst (λ (ws : List (List ℕ)). AreParted ws plain given) (append_assoc (words_of_piece p) (words_of pieces) rest) parted in
+    let first = left p (words_of pieces ++ rest) plain given are.0 split in
+    let more = all_left pieces rest first.plain_rest first.given_rest are.1 first.parted in
+    record {
+      plain_rest = more.plain_rest;
+      given_rest = more.given_rest;
+      parted = more.parted;
+      plain_are = first.plain_are ∙ ap (λ (t : List (List ℕ)). plain_of_piece p ++ t) more.plain_are ∙ sym (append_assoc (plain_of_piece p) (plain_of pieces) more.plain_rest);
+      given_are = first.given_are ∙ ap (λ (t : List Given). given_of_piece p ++ t) more.given_are ∙ sym (append_assoc (given_of_piece p) (given_of pieces) more.given_rest);
+    }
+
+pub taken_left : (words rest taken plain : List (List ℕ)) (with given : List Given) (t : AreTaken words rest taken with) → AreParted words plain given → AreLeft t.pieces rest plain given
+taken_left words rest taken plain with given t parted = all_left t.pieces rest plain given t.are_pieces (subst (λ (ws : List (List ℕ)). AreParted ws plain given) t.words_are parted)
+
+-- nothing is taken yet
+pub none_taken : (words : List (List ℕ)) → AreTaken words words [] []
+none_taken words = record { pieces = []; words_are = refl; are_pieces = tt; plain_are = refl; given_are = refl }
+
+-- all is taken
+pub all_taken : (words plain : List (List ℕ)) (given : List Given) → AreTaken words [] plain given → AreParted words plain given
+all_taken words plain given t = record {
+  pieces = t.pieces;
+  behind = [];
+  further = [];
+  words_are = t.words_are;
+  are_pieces = t.are_pieces;
+  is_behind = refl;
+  plain_are = t.plain_are ∙ sym (append-nil (plain_of t.pieces));
+  given_are = t.given_are;
+}
+
+-- `--` is met
+pub separator_met : (words further plain : List (List ℕ)) (given : List Given) → AreTaken words ((45 ∷ 45 ∷ []) ∷ further) plain given → AreParted words (plain ++ further) given
+separator_met words further plain given t = record {
+  pieces = t.pieces;
+  behind = (45 ∷ 45 ∷ []) ∷ further;
+  further = further;
+  words_are = t.words_are;
+  are_pieces = t.are_pieces;
+  is_behind = (refl, refl);
+  plain_are = ap (λ (ws : List (List ℕ)). ws ++ further) t.plain_are;
+  given_are = t.given_are;
+}
+
+pieces_append : (pieces : List Piece) (p : Piece) → ArePieces pieces → IsPiece p → ArePieces (pieces ++ p ∷ [])
+pieces_append [] p are is = (is, tt)
+pieces_append (q ∷ pieces) p are is = (are.0, pieces_append pieces p are.1 is)
+
+words_append : (pieces : List Piece) (p : Piece) → words_of (pieces ++ p ∷ []) ≡ words_of pieces ++ words_of_piece p
+words_append [] p = append-nil (words_of_piece p)
+words_append (q ∷ pieces) p = ap (λ (ws : List (List ℕ)). words_of_piece q ++ ws) (words_append pieces p) ∙ sym (append_assoc (words_of_piece q) (words_of pieces) (words_of_piece p))
+
+plain_append : (pieces : List Piece) (p : Piece) → plain_of (pieces ++ p ∷ []) ≡ plain_of pieces ++ plain_of_piece p
+plain_append [] p = append-nil (plain_of_piece p)
+plain_append (q ∷ pieces) p = ap (λ (ws : List (List ℕ)). plain_of_piece q ++ ws) (plain_append pieces p) ∙ sym (append_assoc (plain_of_piece q) (plain_of pieces) (plain_of_piece p))
+
+given_append : (pieces : List Piece) (p : Piece) → given_of (pieces ++ p ∷ []) ≡ given_of pieces ++ given_of_piece p
+given_append [] p = append-nil (given_of_piece p)
+given_append (q ∷ pieces) p = ap (λ (gs : List Given). given_of_piece q ++ gs) (given_append pieces p) ∙ sym (append_assoc (given_of_piece q) (given_of pieces) (given_of_piece p))
+
+-- one more piece is taken
+piece_taken : (words rest plain : List (List ℕ)) (given : List Given) (p : Piece) (more : List (List ℕ)) → AreTaken words rest plain given → rest ≡ words_of_piece p ++ more → IsPiece p → AreTaken words more (plain ++ plain_of_piece p) (given ++ given_of_piece p)
+piece_taken words rest plain given p more t rest_is is = record {
+  pieces = t.pieces ++ p ∷ [];
+  words_are = t.words_are ∙ ap (λ (ws : List (List ℕ)). words_of t.pieces ++ ws) rest_is ∙ sym (append_assoc (words_of t.pieces) (words_of_piece p) more) ∙ ap (λ (ws : List (List ℕ)). ws ++ more) (sym (words_append t.pieces p));
+  are_pieces = pieces_append t.pieces p t.are_pieces is;
+  plain_are = ap (λ (ws : List (List ℕ)). ws ++ plain_of_piece p) t.plain_are ∙ sym (plain_append t.pieces p);
+  given_are = ap (λ (gs : List Given). gs ++ given_of_piece p) t.given_are ∙ sym (given_append t.pieces p);
+}
+
+taken_by : (words : List (List ℕ)) (word : List ℕ) (behind plain more : List (List ℕ)) (given : List Given) (p : Piece) → AreTaken words (word ∷ behind) plain given → word ∷ behind ≡ words_of_piece p ++ more → IsPiece p
+    → AreTaken words (drop (count_in (start_of p)) (word ∷ behind)) (plain ++ plain_in (start_of p) word) (given ++ given_in (start_of p))
+taken_by words word behind plain more given (Plain w) t h is =
+    let same : word ≡ w = head_is word w behind more h in
+    let rest : behind ≡ more = tail_is word w behind more h in
+    let taken : AreTaken words more (plain ++ w ∷ []) (given ++ []) = piece_taken words (word ∷ behind) plain given (Plain w) more t h is in
+    subst (λ (ws : List (List ℕ)). AreTaken words ws (plain ++ word ∷ []) (given ++ [])) (sym rest) (subst (λ (v : List ℕ). AreTaken words more (plain ++ v ∷ []) (given ++ [])) (sym same) taken)
+taken_by words word behind plain more given (Apart s d n) t h is =
+    let rest : drop 2 (word ∷ behind) ≡ more = ap (λ (ws : List (List ℕ)). drop 2 ws) h in
+    let g : Given = record { setting = s; number = n } in
+    subst (λ (ws : List (List ℕ)). AreTaken words ws (plain ++ []) (given ++ g ∷ [])) (sym rest) (piece_taken words (word ∷ behind) plain given (Apart s d n) more t h is)
+taken_by words word behind plain more given (Joined s d n) t h is =
+    let rest : behind ≡ more = tail_is word _ behind more h in
+    let g : Given = record { setting = s; number = n } in
+    subst (λ (ws : List (List ℕ)). AreTaken words ws (plain ++ []) (given ++ g ∷ [])) (sym rest) (piece_taken words (word ∷ behind) plain given (Joined s d n) more t h is)
+
+pub start_taken : (words : List (List ℕ)) (word : List ℕ) (behind plain : List (List ℕ)) (given : List Given) (first : Start) → AreTaken words (word ∷ behind) plain given → Begins (word ∷ behind) first
+    → AreTaken words (drop (count_in first) (word ∷ behind)) (plain ++ plain_in first word) (given ++ given_in first)
+start_taken words word behind plain given first t begins =
+    subst (λ (f : Start). AreTaken words (drop (count_in f) (word ∷ behind)) (plain ++ plain_in f word) (given ++ given_in f)) (sym begins.first_is)
+    (taken_by words word behind plain begins.rest given begins.piece t begins.words_are begins.is)
+
+stuck_at : (word : List ℕ) (behind : List (List ℕ)) → HasNoPiece (word ∷ behind) → (word ≡ 45 ∷ 45 ∷ [] → ⊥) → (pieces : List Piece) (other further : List (List ℕ)) → word ∷ behind ≡ words_of pieces ++ other → ArePieces pieces → IsBehind other further → ⊥
+stuck_at word behind none no_dash [] [] further h are is_behind = absurd (cc h)
+stuck_at word behind none no_dash [] (w ∷ ws) further h are is_behind = no_dash (head_is word w behind ws h ∙ is_behind.0)
+stuck_at word behind none no_dash (q ∷ pieces) other further h are is_behind = none q (words_of pieces ++ other) (h ∙ append_assoc (words_of_piece q) (words_of pieces) other) are.0
+
+-- no more is taken
+pub stuck : (words : List (List ℕ)) (word : List ℕ) (behind taken plain : List (List ℕ)) (with given : List Given) → AreTaken words (word ∷ behind) taken with → HasNoPiece (word ∷ behind) → (word ≡ 45 ∷ 45 ∷ [] → ⊥) → AreParted words plain given → ⊥
+stuck words word behind taken plain with given t none no_dash parted =
+    let rest = (taken_left words (word ∷ behind) taken plain with given t parted).parted in
+    stuck_at word behind none no_dash rest.pieces rest.behind rest.further rest.words_are rest.are_pieces rest.is_behind
+
+-- ---- one parting
+one_behind : (behind further other more : List (List ℕ)) → IsBehind behind further → behind ≡ other → IsBehind other more → further ≡ more
+one_behind [] further [] more first same second = first ∙ sym second
+one_behind [] further (w ∷ ws) more first same second = absurd (cc same)
+one_behind (w ∷ ws) further [] more first same second = absurd (cc same)
+one_behind (w ∷ ws) further (v ∷ vs) more first same second = sym first.1 ∙ tail_is w v ws vs same ∙ second.1
+
+pub record IsAllBehind (further plain : List (List ℕ)) (given : List Given) : Type 0 where
+  pub plain_are : plain ≡ further
+  pub none_given : given ≡ []
+
+behind_parted : (behind further plain : List (List ℕ)) (given : List Given) (pieces : List Piece) (other more : List (List ℕ)) → IsBehind behind further → behind ≡ words_of pieces ++ other → ArePieces pieces → IsBehind other more → plain ≡ plain_of pieces ++ more → given ≡ given_of pieces
+    → IsAllBehind further plain given
+behind_parted behind further plain given [] other more is same are also plain_are given_are = record { plain_are = plain_are ∙ sym (one_behind behind further other more is same also); none_given = given_are }
+behind_parted behind further plain given (q ∷ pieces) other more is same are also plain_are given_are =
+    absurd (no_behind q (words_of pieces ++ other) behind further are.0 is (sym (same ∙ append_assoc (words_of_piece q) (words_of pieces) other)))
+
+-- words are parted in one way
+pub one_parting : (words plain other : List (List ℕ)) (given others : List Given) → AreParted words plain given → AreParted words other others → (plain ≡ other) × (given ≡ others)
+one_parting words plain other given others first second =
+    let left = all_left first.pieces first.behind other others first.are_pieces (subst (λ (ws : List (List ℕ)). AreParted ws other others) first.words_are second) in
+    let rest = left.parted in
+    let all = behind_parted first.behind first.further left.plain_rest left.given_rest rest.pieces rest.behind rest.further first.is_behind rest.words_are rest.are_pieces rest.is_behind rest.plain_are rest.given_are in (
+      first.plain_are ∙ ap (λ (ws : List (List ℕ)). plain_of first.pieces ++ ws) (sym all.plain_are) ∙ sym left.plain_are,
+      first.given_are ∙ sym (append-nil (given_of first.pieces)) ∙ ap (λ (gs : List Given). given_of first.pieces ++ gs) (sym all.none_given) ∙ sym left.given_are,
+    )
+
+-- ---- what the code sees of a list of words
+pub first_word : {A : Type 0} (xs : List A) (d : A) → 1 ≤ length xs → xs ≡ get_or xs 0 d ∷ take (length xs - 1) (drop 1 xs)
+first_word [] d some = absurd (omega arith)
+first_word (x ∷ xs) d some = ap (λ t. x ∷ t) (sym (take_all (length (x ∷ xs) - 1) xs (omega arith)))
+
+pub joined_begins : (text : List ℕ) (behind : List (List ℕ)) (g : Given) → IsJoinedOption text g → Begins ((45 ∷ 45 ∷ text) ∷ behind) (start.Joined g)
+joined_begins text behind g is = record {
+  piece = Joined g.setting is.digits g.number;
+  rest = behind;
+  words_are = ap (λ (t : List ℕ). (45 ∷ 45 ∷ t) ∷ behind) is.text_is;
+  is = is.number;
+  first_is = refl;
+}
+
+pub apart_begins : (text : List ℕ) (behind : List (List ℕ)) (g : Given) → IsApart text behind g → Begins ((45 ∷ 45 ∷ text) ∷ behind) (start.Apart g)
+apart_begins text behind g is = record {
+  piece = Apart g.setting is.digits g.number;
+  rest = is.further;
+  words_are = ap₂ (λ (t : List ℕ) (ws : List (List ℕ)). (45 ∷ 45 ∷ t) ∷ ws) is.text_is is.behind_is;
+  is = is.number;
+  first_is = refl;
+}
+
+pub plain_begins : (word : List ℕ) (behind : List (List ℕ)) → IsTrue (is_ordinary word) → Begins (word ∷ behind) start.Plain
+plain_begins word behind is = record { piece = Plain word; rest = behind; words_are = refl; is = is; first_is = refl }
+
+-- an option that is neither joined nor apart begins no words
+pub no_option : (text : List ℕ) (behind : List (List ℕ)) → ((g : Given) → IsJoinedOption text g → ⊥) → ((g : Given) → IsApart text behind g → ⊥) → HasNoPiece ((45 ∷ 45 ∷ text) ∷ behind)
+no_option text behind no_joined no_apart (Plain w) rest h is = no_dashes w text is (sym (head_is _ w behind rest h))
+no_option text behind no_joined no_apart (Apart s d n) rest h is =
+    let g : Given = record { setting = s; number = n } in
+    no_apart g (record { digits = d; further = rest; text_is = text_is _ _ (head_is _ _ behind (d ∷ rest) h); behind_is = tail_is _ _ behind (d ∷ rest) h; number = is })
+no_option text behind no_joined no_apart (Joined s d n) rest h is =
+    let g : Given = record { setting = s; number = n } in
+    no_joined g (record { digits = d; text_is = text_is _ _ (head_is _ _ behind rest h); number = is })
+
+piece_count : (p : Piece) (rest : List (List ℕ)) → count_in (start_of p) ≤ length (words_of_piece p ++ rest)
+piece_count (Plain w) rest = omega arith
+piece_count (Apart s d n) rest = omega arith
+piece_count (Joined s d n) rest = omega arith
+
+pub count_fits : (words : List (List ℕ)) (first : Start) → Begins words first → count_in first ≤ length words
+count_fits words first begins =
+    subst (λ (ws : List (List ℕ)). count_in first ≤ length ws) (sym begins.words_are)
+    (subst (λ (f : Start). count_in f ≤ length (words_of_piece begins.piece ++ begins.rest)) (sym begins.first_is) (piece_count begins.piece begins.rest))

@@ -1,0 +1,90 @@
+-- The names of the settings, and their numbers.
+use Rattle.std.proofs.Common.{◌≡◌, ℕ, ◌+◌, ◌-◌, ◌*◌, ◌<◌, ◌≤◌, Bool, true, false, List, [], ◌∷◌, ◌++◌, length, take, drop, get_or, None, Some, Option, refl, sym, ap, ap₂, ◌∙◌, subst, arith}
+use Rattle.std.proofs.Math.Seq.{take-append_seam, drop-append_seam}
+use Rattle.std.proofs.lemmas.List.{take-append-drop}
+use Rattle.std.proofs.lemmas.Option.{same_Some}
+use Rattle.command_words.specs.declared.settings.Setting.{Setting}
+use Rattle.command_words.specs.declared.settings.Setting.TheVariants.{Ratio, Budget, Mask, Gap, Jump, Arc, Step, First, Count}
+use Rattle.command_words.specs.declared.settings.Given.{Given}
+use Rattle.command_words.specs.Numbers.{IsNumber, IsSatellite}
+use Rattle.command_words.specs.Settings.{name_of, setting_of, IsSetBy, IsJoinedOption}
+
+-- what begins with a setting's name is of that setting
+pub begins_with_name : (s : Setting) (text : List ℕ) → setting_of (name_of s ++ text) ≡ Some s
+begins_with_name Ratio text = refl
+begins_with_name Budget text = refl
+begins_with_name Mask text = refl
+begins_with_name Gap text = refl
+begins_with_name Jump text = refl
+begins_with_name Arc text = refl
+begins_with_name Step text = refl
+begins_with_name First text = refl
+begins_with_name Count text = refl
+
+pub is_name : (s : Setting) → setting_of (name_of s) ≡ Some s
+is_name Ratio = refl
+is_name Budget = refl
+is_name Mask = refl
+is_name Gap = refl
+is_name Jump = refl
+is_name Arc = refl
+is_name Step = refl
+is_name First = refl
+is_name Count = refl
+
+-- two settings whose names begin one text are one
+pub one_name : (text : List ℕ) (s r : Setting) → setting_of text ≡ Some s → setting_of text ≡ Some r → s ≡ r
+one_name text s r first second = same_Some s r (sym first ∙ second)
+
+-- no name is another with more behind it
+pub no_longer_name : (s : Setting) (digits : List ℕ) → name_of s ≡ name_of s ++ 61 ∷ digits → ⊥
+no_longer_name Ratio digits h = absurd (cc h)
+no_longer_name Budget digits h = absurd (cc h)
+no_longer_name Mask digits h = absurd (cc h)
+no_longer_name Gap digits h = absurd (cc h)
+no_longer_name Jump digits h = absurd (cc h)
+no_longer_name Arc digits h = absurd (cc h)
+no_longer_name Step digits h = absurd (cc h)
+no_longer_name First digits h = absurd (cc h)
+no_longer_name Count digits h = absurd (cc h)
+
+-- what is behind a first part is one text
+pub same_behind : (front xs ys : List ℕ) → front ++ xs ≡ front ++ ys → xs ≡ ys
+same_behind [] xs ys h = h
+same_behind (b ∷ front) xs ys h = same_behind front xs ys (ap (λ (t : List ℕ). drop 1 t) h)
+
+pub one_number : (word : List ℕ) (m n : ℕ) → IsNumber word m → IsNumber word n → m ≡ n
+one_number word m n first second = first.value ∙ sym second.value
+
+pub one_satellite : (word : List ℕ) (m n : ℕ) → IsSatellite word m → IsSatellite word n → m ≡ n
+one_satellite word m n first second =
+    let tens : first.tens ≡ second.tens = cc (first.word_is, second.word_is) in
+    let ones : first.ones ≡ second.ones = cc (first.word_is, second.word_is) in
+    let same : 10 * (first.tens - 48) + (first.ones - 48) ≡ 10 * (second.tens - 48) + (second.ones - 48) = cc (tens, ones) in
+    first.value ∙ same ∙ sym second.value
+
+-- a setting is set to one number
+pub one_set : (given : List ℕ) (least most plain m n : ℕ) → IsSetBy given least most plain m → IsSetBy given least most plain n → m ≡ n
+one_set [] least most plain m n first second = first ∙ sym second
+one_set (v ∷ []) least most plain m n first second = first.0 ∙ sym second.0
+one_set (v ∷ w ∷ vs) least most plain m n first second = absurd first
+
+-- a text with a name and `=` at its front
+pub record HasFront (text name digits : List ℕ) : Type 0 where
+  pub longer : length name < length text
+  pub front : take (length name) text ≡ name
+  pub behind : drop (length name) text ≡ 61 ∷ digits
+
+pub front_of : (text name digits : List ℕ) → text ≡ name ++ 61 ∷ digits → HasFront text name digits
+front_of text name digits h = subst (λ (t : List ℕ). HasFront t name digits) (sym h) (record {
+  longer = longer name;
+  front = take-append_seam name (61 ∷ digits);
+  behind = drop-append_seam name (61 ∷ digits);
+})
+  where
+    longer : (name : List ℕ) → length name < length (name ++ 61 ∷ digits)
+    longer [] = omega arith
+    longer (b ∷ name) = omega (arith, longer name)
+
+pub from_front : (text name digits : List ℕ) → take (length name) text ≡ name → drop (length name) text ≡ 61 ∷ digits → text ≡ name ++ 61 ∷ digits
+from_front text name digits front behind = sym (take-append-drop (length name) text) ∙ ap₂ (λ (a b : List ℕ). a ++ b) front behind

@@ -1,0 +1,226 @@
+// The jobs that words ask for.
+ghost use Rattle.std.specs.Prelude.{◌≡◌, ◌∷◌, [], IfOk, IsErrOf, codes};
+ghost use Rattle.command_words.specs.declared.jobs.Job.{Job};
+ghost use Rattle.command_words.specs.Numbers.{IsSatellite};
+ghost use Rattle.command_words.specs.Words.{texts_of, IsJobOf, IsJob, IsInRange};
+
+use crate::WordFault;
+use crate::numbers::{number_of, satellite_of};
+use crate::options::pair_options_of;
+use crate::parts::{Parted, part_words};
+use crate::settings::Given;
+use crate::sims::{Part, sim_of};
+use crate::word::{Word, copy_words};
+use gps_time::Tick;
+use run_options::Options;
+use std::alloc::Global;
+
+/// What is to be done.
+#[derive(Drop)]
+pub enum Job {
+    /// Whether a claimed whole number is strictly best for differences.
+    Zero {
+        rows: Word,
+    },
+    /// What an observation file holds.
+    List {
+        obs: Word,
+    },
+    /// Where a satellite is at a time, by a navigation file.
+    Orbit {
+        nav: Word,
+        sat: u8,
+        tick: Tick,
+    },
+    /// Whether a certificate says what its rows say.
+    Check {
+        cert: Word,
+    },
+    /// What is left of the observations of a certificate.
+    Residuals {
+        cert: Word,
+    },
+    /// The arcs of a session.
+    Arcs {
+        base: Word,
+        rover: Word,
+        nav: Word,
+        options: Options,
+    },
+    /// A part of a made-up session.
+    Sim {
+        part: Part,
+        seed: u32,
+        epochs: u32,
+        sats: u32,
+    },
+}
+
+/// The job that the words after the program's name ask for. `Usage` exactly where they ask for none.
+pub fn read_words(alloc: Global, words: &[String]) -> Result<Job, WordFault>
+    ensures job { IfOk result (λ job. IsJob (texts_of words.now) job) }
+    ensures range { IfOk result IsInRange }
+    ensures usage { IsErrOf result WordFault.Usage → (job : Job) → IsJob (texts_of words.now) job → ⊥ }
+{
+    let words = copy_words(alloc, words)?;
+    job_in(alloc, &words)
+}
+
+// The same, of words as they are copied.
+fn job_in(alloc: Global, words: &[Word]) -> Result<Job, WordFault>
+    ensures job { IfOk result (λ job. IsJob words.now job) }
+    ensures usage { IsErrOf result WordFault.Usage → (job : Job) → IsJob words.now job → ⊥ }
+{
+    let [command, behind @ ..] = words else {
+        return Err(WordFault::Usage);
+    };
+    match part_words(alloc, behind) {
+        Ok(parted) => job_of(alloc, command.as_bytes(), &parted),
+        Err(fault) => Err(fault),
+    }
+}
+
+// The job of a command with these words.
+fn job_of(alloc: Global, command: &[u8], parted: &Parted) -> Result<Job, WordFault>
+    ensures job { IfOk result (λ job. IsJobOf command.now parted.now.plain.items parted.now.given.items job) }
+    ensures usage { IsErrOf result WordFault.Usage → (job : Job) → IsJobOf command.now parted.now.plain.items parted.now.given.items job → ⊥ }
+{
+    if command == b"arcs".as_slice() {
+        return arcs_job(alloc, &parted.plain, &parted.given);
+    }
+    match parted.given.as_slice() {
+        [] => plain_job(alloc, command, &parted.plain),
+        _ => Err(WordFault::Usage),
+    }
+}
+
+// The job of a command without options.
+fn plain_job(alloc: Global, command: &[u8], plain: &[Word]) -> Result<Job, WordFault>
+    requires { command.now ≡ codes "arcs" → ⊥ }
+    ensures job { IfOk result (λ job. IsJobOf command.now plain.now [] job) }
+    ensures usage { IsErrOf result WordFault.Usage → (job : Job) → IsJobOf command.now plain.now [] job → ⊥ }
+{
+    match plain {
+        [file] => file_job(alloc, command, file),
+        [nav, sat, tick] => orbit_job(alloc, command, nav, sat, tick),
+        [part, seed, epochs, sats] => sim_job(command, part, seed, epochs, sats),
+        _ => Err(WordFault::Usage),
+    }
+}
+
+// The job of a command with one file.
+fn file_job(alloc: Global, command: &[u8], file: &Word) -> Result<Job, WordFault>
+    ensures job { IfOk result (λ job. IsJobOf command.now (file.now ∷ []) [] job) }
+    ensures usage { IsErrOf result WordFault.Usage → (job : Job) → IsJobOf command.now (file.now ∷ []) [] job → ⊥ }
+{
+    if command == b"zero".as_slice() {
+        let rows = Word::copy_of(alloc, file.as_str())?;
+        return Ok(Job::Zero { rows });
+    }
+    if command == b"list".as_slice() {
+        let obs = Word::copy_of(alloc, file.as_str())?;
+        return Ok(Job::List { obs });
+    }
+    if command == b"check".as_slice() {
+        let cert = Word::copy_of(alloc, file.as_str())?;
+        return Ok(Job::Check { cert });
+    }
+    if command == b"residuals".as_slice() {
+        let cert = Word::copy_of(alloc, file.as_str())?;
+        return Ok(Job::Residuals { cert });
+    }
+    Err(WordFault::Usage)
+}
+
+// The job of the command `orbit`.
+fn orbit_job(
+    alloc: Global,
+    command: &[u8],
+    nav: &Word,
+    sat: &Word,
+    tick: &Word,
+) -> Result<Job, WordFault>
+    requires { command.now ≡ codes "arcs" → ⊥ }
+    ensures job { IfOk result (λ job. IsJobOf command.now (nav.now ∷ sat.now ∷ tick.now ∷ []) [] job) }
+    ensures usage { IsErrOf result WordFault.Usage → (job : Job) → IsJobOf command.now (nav.now ∷ sat.now ∷ tick.now ∷ []) [] job → ⊥ }
+{
+    if command != b"orbit".as_slice() {
+        return Err(WordFault::Usage);
+    }
+    match satellite_of(sat.as_bytes()) {
+        Some(number) => orbit_at(alloc, nav, sat, number, tick),
+        None => Err(WordFault::Usage),
+    }
+}
+
+// The same, with the satellite's number.
+fn orbit_at(
+    alloc: Global,
+    nav: &Word,
+    sat: &Word,
+    number: u8,
+    tick: &Word,
+) -> Result<Job, WordFault>
+    requires { IsSatellite sat.now number }
+    ensures job { IfOk result (λ job. IsJobOf (codes "orbit") (nav.now ∷ sat.now ∷ tick.now ∷ []) [] job) }
+    ensures usage { IsErrOf result WordFault.Usage → (job : Job) → IsJobOf (codes "orbit") (nav.now ∷ sat.now ∷ tick.now ∷ []) [] job → ⊥ }
+{
+    match number_of(tick.as_bytes()) {
+        Some(ticks) => {
+            let nav = Word::copy_of(alloc, nav.as_str())?;
+            Ok(Job::Orbit {
+                nav,
+                sat: number,
+                tick: Tick(ticks),
+            })
+        }
+        None => Err(WordFault::Usage),
+    }
+}
+
+// The job of the command `sim`.
+fn sim_job(
+    command: &[u8],
+    part: &Word,
+    seed: &Word,
+    epochs: &Word,
+    sats: &Word,
+) -> Result<Job, WordFault>
+    ensures job { IfOk result (λ job. IsJobOf command.now (part.now ∷ seed.now ∷ epochs.now ∷ sats.now ∷ []) [] job) }
+    ensures usage { IsErrOf result WordFault.Usage → (job : Job) → IsJobOf command.now (part.now ∷ seed.now ∷ epochs.now ∷ sats.now ∷ []) [] job → ⊥ }
+{
+    if command != b"sim".as_slice() {
+        return Err(WordFault::Usage);
+    }
+    match sim_of(part, seed, epochs, sats) {
+        Some(sim) => Ok(Job::Sim {
+            part: sim.part,
+            seed: sim.seed,
+            epochs: sim.epochs,
+            sats: sim.sats,
+        }),
+        None => Err(WordFault::Usage),
+    }
+}
+
+// The job of the command `arcs`.
+fn arcs_job(alloc: Global, plain: &[Word], given: &[Given]) -> Result<Job, WordFault>
+    ensures job { IfOk result (λ job. IsJobOf (codes "arcs") plain.now given.now job) }
+    ensures usage { IsErrOf result WordFault.Usage → (job : Job) → IsJobOf (codes "arcs") plain.now given.now job → ⊥ }
+{
+    let Some(options) = pair_options_of(given) else {
+        return Err(WordFault::Usage);
+    };
+    let [base, rover, nav] = plain else {
+        return Err(WordFault::Usage);
+    };
+    let base = Word::copy_of(alloc, base.as_str())?;
+    let rover = Word::copy_of(alloc, rover.as_str())?;
+    let nav = Word::copy_of(alloc, nav.as_str())?;
+    Ok(Job::Arcs {
+        base,
+        rover,
+        nav,
+        options,
+    })
+}

@@ -1,0 +1,97 @@
+// The options of a run by what is given.
+ghost use Rattle.std.specs.Prelude.{◌≡◌, MatchOption};
+ghost use Rattle.run_options.specs.declared.options.Options.{Options};
+ghost use Rattle.command_words.specs.Settings.{AreOptions, ArePairOptions};
+
+use crate::settings::{Given, Limits, Setting, is_left_out, number_for};
+use run_options::Options;
+
+const RATIO: Limits = Limits {
+    least: 1_000,
+    most: 100_000,
+    plain: 2_000,
+};
+
+const BUDGET: Limits = Limits {
+    least: 1,
+    most: 100_000_000,
+    plain: 1_000_000,
+};
+
+const MASK: Limits = Limits {
+    least: 0,
+    most: 900,
+    plain: 200,
+};
+
+const GAP: Limits = Limits {
+    least: 0,
+    most: 5_000_000,
+    plain: 100_000,
+};
+
+const JUMP: Limits = Limits {
+    least: 1,
+    most: 1_000,
+    plain: 12,
+};
+
+const ARC: Limits = Limits {
+    least: 2,
+    most: 3_600,
+    plain: 5,
+};
+
+const STEP: Limits = Limits {
+    least: 1,
+    most: 1_000,
+    plain: 1,
+};
+
+const FIRST: Limits = Limits {
+    least: 0,
+    most: 19_999,
+    plain: 0,
+};
+
+const COUNT: Limits = Limits {
+    least: 1,
+    most: 3_600,
+    plain: 3_600,
+};
+
+/// The options with the numbers that are given, and the defaults of the others.
+pub fn options_of(given: &[Given]) -> Option<Options>
+    ensures { MatchOption result ((o : Options) → AreOptions given.now o → ⊥) (λ o. AreOptions given.now o) }
+{
+    let ratio = number_for(given, Setting::Ratio, &RATIO)?;
+    let budget = number_for(given, Setting::Budget, &BUDGET)?;
+    let mask = number_for(given, Setting::Mask, &MASK)?;
+    let gap = number_for(given, Setting::Gap, &GAP)?;
+    let jump = number_for(given, Setting::Jump, &JUMP)?;
+    let arc = number_for(given, Setting::Arc, &ARC)?;
+    let step = number_for(given, Setting::Step, &STEP)?;
+    let first = number_for(given, Setting::First, &FIRST)?;
+    let count = number_for(given, Setting::Count, &COUNT)?;
+    Some(Options {
+        ratio: ratio as u32,
+        budget,
+        mask: mask as u32,
+        gap,
+        jump: jump as u32,
+        arc: arc as u32,
+        step: step as u32,
+        first: first as u32,
+        count: count as u32,
+    })
+}
+
+/// The same where nothing is searched: no ratio and no budget is given.
+pub fn pair_options_of(given: &[Given]) -> Option<Options>
+    ensures { MatchOption result ((o : Options) → ArePairOptions given.now o → ⊥) (λ o. ArePairOptions given.now o) }
+{
+    if !is_left_out(given, Setting::Ratio) || !is_left_out(given, Setting::Budget) {
+        return None;
+    }
+    options_of(given)
+}

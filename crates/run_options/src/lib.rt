@@ -1,0 +1,43 @@
+//! What a run is asked to do: its options, each with its range and its default.
+#![tactic(auto)]
+
+mod options;
+
+ghost use Rattle.run_options.specs.Defaults.{AreDefaults};
+
+pub use options::Options;
+
+impl Options {
+    /// Those of a run that is asked for nothing in particular.
+    pub const fn defaults() -> Options
+        ensures { AreDefaults result }
+    {
+        Options {
+            ratio: 2000,
+            budget: 1_000_000,
+            mask: 200,
+            gap: 100_000,
+            jump: 12,
+            arc: 5,
+            step: 1,
+            first: 0,
+            count: 3600,
+        }
+    }
+}
+
+#[cfg(test)]
+mod tests {
+    use super::*;
+
+    #[test]
+    fn has_defaults(rt: HostRuntime) {
+        let plain = Options::defaults();
+        assert_eq!(rt;
+            (plain.ratio, plain.budget, plain.mask),
+            (2000, 1_000_000, 200)
+        );
+        assert_eq!(rt; (plain.gap, plain.jump, plain.arc), (100_000, 12, 5));
+        assert_eq!(rt; (plain.step, plain.first, plain.count), (1, 0, 3600));
+    }
+}

@@ -1,0 +1,39 @@
+use Rattle.std.proofs.Common.{◌≡◌, ◌<◌, ◌≤◌, ℕ, List, length, arith, subst}
+use Rattle.obs_store.specs.Epochs.{tags_of}
+use Rattle.epoch_pair.specs.declared.pairs.PairOf.{PairOf}
+use Rattle.epoch_pair.specs.Pairs.{IsTaken, IsNearPair}
+use Rattle.session_begin.specs.Beginnings.{HaveSignals}
+use Rattle.session_begin.proofs.BeginLaws.{refused_pair, taken_rises, all_taken}
+use Rattle.session_begin.proofs.beginnings.begin.Goals as goal
+
+pub returns-in-Err-clause-refused : goal.returns-in-Err-clause-refused
+returns-in-Err-clause-refused c =
+    let s : HaveSignals c.args.base.now c.args.rover.now = (c.in-Some-signals.signals, record { l1 = c.in-Some-signals.ensures.signals.0; l2 = c.in-Some-signals.ensures.signals.1 }) in
+    refused_pair c.args.base.now c.args.rover.now c.args.options.now c.in-Err.fault c.fault_of.result c.fault_of.ensures (c.in-Some.position, c.in-Some.ensures) s c.in-Err.ensures.refused
+
+pub returns-in-Ok-take-clause-rises : goal.returns-in-Ok-take-clause-rises
+returns-in-Ok-take-clause-rises c =
+    let o = c.args.options.now in
+    let t : IsTaken c.in-Ok.pairs.items o.first o.step o.count c.in-Ok-take.taken.items = subst (λ (l : List PairOf). IsTaken l o.first o.step o.count c.in-Ok-take.taken.items) c.as_slice.ensures.value c.in-Ok-take.ensures in
+    let s : 0 < o.step = omega (arith, o.step_from) in
+    taken_rises c.in-Ok.pairs.items c.in-Ok-take.taken.items o.first o.step o.count s t c.in-Ok.ensures.rises
+
+pub returns-in-Ok-take-clause-near : goal.returns-in-Ok-take-clause-near
+returns-in-Ok-take-clause-near c =
+    let o = c.args.options.now in
+    let t : IsTaken c.in-Ok.pairs.items o.first o.step o.count c.in-Ok-take.taken.items = subst (λ (l : List PairOf). IsTaken l o.first o.step o.count c.in-Ok-take.taken.items) c.as_slice.ensures.value c.in-Ok-take.ensures in
+    all_taken (IsNearPair o.gap (tags_of c.args.base.now.epochs) (tags_of c.args.rover.now.epochs)) c.in-Ok.pairs.items c.in-Ok-take.taken.items o.first o.step o.count t c.in-Ok.ensures.near
+
+pub returns-clause-refused : goal.returns-clause-refused
+returns-clause-refused c =
+    let s : HaveSignals c.args.base.now c.args.rover.now = (c.in-Some-signals.signals, record { l1 = c.in-Some-signals.ensures.signals.0; l2 = c.in-Some-signals.ensures.signals.1 }) in
+    ((c.in-Some.position, c.in-Some.ensures), (s, (c.in-Ok.ensures.apart_base, c.in-Ok.ensures.apart_rover)))
+
+pub returns-in-Ok-take-clause-few : goal.returns-in-Ok-take-clause-few
+returns-in-Ok-take-clause-few c =
+    let o = c.args.options.now in
+    let t : IsTaken c.in-Ok.pairs.items o.first o.step o.count c.in-Ok-take.taken.items = subst (λ (l : List PairOf). IsTaken l o.first o.step o.count c.in-Ok-take.taken.items) c.as_slice.ensures.value c.in-Ok-take.ensures in
+    below (length c.in-Ok-take.taken.items) o.count t.few o.count_to
+  where
+    below : (n m : ℕ) → n ≤ m → m ≤ 3600 → n ≤ 3600
+    below n m h g = omega arith

@@ -1,0 +1,66 @@
+-- What is told of files after others were read, and what files that are admitted end with.
+use Rattle.std.proofs.Common.{◌≡◌, ◌≢◌, ◌⊎◌, inl, inr, ◌<◌, ℕ, List, Option, length, IfSome, sym, subst}
+use Rattle.obs_store.specs.declared.file.ObsFile.{ObsFile}
+use Rattle.eph_store.specs.File.{Records}
+use Rattle.rinex_obs.specs.ObsForm.{HasObsFile}
+use Rattle.rinex_obs.specs.ObsRules.{obs_of}
+use Rattle.rinex_nav.specs.NavForm.{HasNavFile}
+use Rattle.rinex_nav.specs.NavRules.{nav_of}
+use Rattle.line_source.specs.Told.{Same}
+use Rattle.job_answers.specs.declared.status.Status.TheVariants.{ReadFault}
+use Rattle.job_answers.specs.declared.answer.Stop.{Stop}
+use Rattle.job_answers.specs.declared.answer.Stop.TheVariants.{Ended, NoMemory}
+use Rattle.job_answers.specs.Answers.{ending_of, IfEnds}
+use Rattle.job_answers.specs.Statuses.{IsJobStatus}
+use Rattle.job_answers.specs.Endings.{Ending, IsTextOf, IsRefusal, EndsByFile, IsAdmitted}
+use Rattle.job_answers.proofs.EndingLaws.{admitted_ends, job_status_at, file_status}
+use Rattle.session_files.specs.SessionFiles.{IsObsOf, IsNavOf, StopsAtObs, StopsAtNav, StopsAtFiles}
+
+text_along : (told later : List ℕ → Option (List ℕ)) (name text : List ℕ) → Same told later → IsTextOf later name text → IsTextOf told name text
+text_along told later name text same is = record { told_is = subst (λ (o : Option (List ℕ)). IfSome o (λ bytes. text ≡ bytes)) (same name) is.told_is; fits = is.fits }
+
+pub obs_along : (told later : List ℕ → Option (List ℕ)) (name : List ℕ) (file : ObsFile) → Same told later → IsObsOf later name file → IsObsOf told name file
+obs_along told later name file same is = record { text = is.text; is = text_along told later name is.text same is.is; is_file = is.is_file }
+
+pub nav_along : (told later : List ℕ → Option (List ℕ)) (name : List ℕ) (records : Records) → Same told later → IsNavOf later name records → IsNavOf told name records
+nav_along told later name records same is = record { text = is.text; is = text_along told later name is.text same is.is; is_file = is.is_file; are_fit = is.are_fit }
+
+pub file_along : (told later : List ℕ → Option (List ℕ)) (name : List ℕ) (ends : List ℕ → Ending → Type 0) (end : Ending) → Same told later → EndsByFile later name ends end → EndsByFile told name ends end
+file_along told later name ends end same (inl by_text) = inl (record { text = by_text.text; is = text_along told later name by_text.text same by_text.is; ends_so = by_text.ends_so })
+file_along told later name ends end same (inr (inl large)) = inr (inl (record { large = subst (λ (o : Option (List ℕ)). IfSome o (λ bytes. 67108864 < length bytes)) (same name) large.large; end_is = large.end_is }))
+file_along told later name ends end same (inr (inr fault)) = inr (inr fault)
+
+-- ---- statuses
+stop_status : (told : List ℕ → Option (List ℕ)) (name : List ℕ) (end : Ending) → StopsAtObs told name end → IsJobStatus end.status
+stop_status told name end stops = file_status told name (IsRefusal obs_of HasObsFile name) end (λ text refusal. job_status_at end _ refusal.end_is tt) stops
+
+nav_stop_status : (told : List ℕ → Option (List ℕ)) (name : List ℕ) (end : Ending) → StopsAtNav told name end → IsJobStatus end.status
+nav_stop_status told name end stops = file_status told name (IsRefusal nav_of HasNavFile name) end (λ text refusal. job_status_at end _ refusal.end_is tt) stops
+
+pub files_status : (told : List ℕ → Option (List ℕ)) (base rover nav : List ℕ) (end : Ending) → StopsAtFiles told base rover nav end → IsJobStatus end.status
+files_status told base rover nav end (inl stops) = stop_status told base end stops
+files_status told base rover nav end (inr (inl stops)) = stop_status told rover end stops.stops
+files_status told base rover nav end (inr (inr stops)) = nav_stop_status told nav end stops.stops
+
+-- ---- files that are admitted are none at which it stops
+pub no_stop : (told : List ℕ → Option (List ℕ)) (base rover nav : List ℕ) (end : Ending) → IsAdmitted told base HasObsFile → IsAdmitted told rover HasObsFile → IsAdmitted told nav HasNavFile → end.status ≢ ReadFault → StopsAtFiles told base rover nav end → ⊥
+no_stop told base rover nav end b r n no_fault (inl stops) = (admitted_ends told base HasObsFile (IsRefusal obs_of HasObsFile base) end b no_fault stops).none b.file
+no_stop told base rover nav end b r n no_fault (inr (inl stops)) = (admitted_ends told rover HasObsFile (IsRefusal obs_of HasObsFile rover) end r no_fault stops.stops).none r.file
+no_stop told base rover nav end b r n no_fault (inr (inr stops)) = (admitted_ends told nav HasNavFile (IsRefusal nav_of HasNavFile nav) end n no_fault stops.stops).none n.file
+
+-- ---- reading one after the other
+pub ends_weaker : (stop : Stop) (P Q : Ending → Type 0) → ((end : Ending) → P end → Q end) → IfEnds stop P → IfEnds stop Q
+ends_weaker (Ended answer) P Q weaker holds = weaker (ending_of answer) holds
+ends_weaker NoMemory P Q weaker holds = tt
+
+pub at_rover : (told later : List ℕ → Option (List ℕ)) (base rover nav : List ℕ) (b : ObsFile) (end : Ending) → Same told later → IsObsOf told base b → StopsAtObs later rover end → StopsAtFiles told base rover nav end
+at_rover told later base rover nav b end same is stops = inr (inl (record { base_file = b; base_is = is; stops = file_along told later rover _ end same stops }))
+
+pub at_third : (told later last : List ℕ → Option (List ℕ)) (base rover nav : List ℕ) (b r : ObsFile) (end : Ending) → Same told later → Same later last → IsObsOf told base b → IsObsOf later rover r → StopsAtNav last nav end → StopsAtFiles told base rover nav end
+at_third told later last base rover nav b r end same again is also stops = inr (inr (record {
+  base_file = b;
+  base_is = is;
+  rover_file = r;
+  rover_is = obs_along told later rover r same also;
+  stops = file_along told later nav _ end same (file_along later last nav _ end again stops);
+}))

@@ -1,0 +1,119 @@
+//! The three files of a session, read one after the other.
+#![tactic(auto)]
+
+ghost use Rattle.std.specs.Prelude.{◌≡◌, ◌≢◌, ◌≤◌, [], ◌∷◌, length, IfOk, All};
+ghost use Rattle.line_source.specs.Causes.{Rose};
+ghost use Rattle.line_source.specs.Told.{Same, Stays};
+ghost use Rattle.line_source.specs.Lines.{lines_of};
+ghost use Rattle.rinex_obs.specs.ObsForm.{IsObsFile, HasObsFile};
+ghost use Rattle.rinex_obs.specs.ObsRules.{obs_of};
+ghost use Rattle.rinex_nav.specs.NavForm.{IsNavFile, HasNavFile};
+ghost use Rattle.rinex_nav.specs.NavRules.{nav_of};
+ghost use Rattle.eph_store.specs.Records.{AreFit};
+ghost use Rattle.job_answers.specs.Answers.{IfStopped};
+ghost use Rattle.job_answers.specs.Endings.{IsRefusal};
+ghost use Rattle.session_files.specs.SessionFiles.{IsObsOf, IsNavOf, StopsAtObs, StopsAtNav, StopsAtFiles, AreFilesOf};
+
+use eph_store::NavFile;
+use job_answers::{Status, Stop, load_file, refused};
+use line_source::Files;
+use obs_store::ObsFile;
+use rinex_nav::{NavFault, read_nav};
+use rinex_obs::{ObsFault, read_obs};
+use std::alloc::Global;
+
+/// The files of a base and of a rover, and that of the satellites.
+#[derive(Drop)]
+pub struct SessionFiles {
+    pub base: ObsFile,
+    pub rover: ObsFile,
+    pub nav: NavFile,
+}
+
+fn obs_in(alloc: Global, name: &str, text: &[u8]) -> Result<ObsFile, Stop>
+    requires { length text.now ≤ 67108864 }
+    ensures file { IfOk result (λ file. IsObsFile (lines_of text.now) file) }
+    ensures stopped { IfStopped result (λ end. IsRefusal obs_of HasObsFile name.now text.now end) }
+{
+    match read_obs(alloc, text) {
+        Ok(file) => Ok(file),
+        Err(ObsFault::Refused(at)) => Err(Stop::Ended(refused(alloc, name, at)?)),
+        Err(ObsFault::NoMemory) => Err(Stop::NoMemory),
+    }
+}
+
+fn nav_in(alloc: Global, name: &str, text: &[u8]) -> Result<NavFile, Stop>
+    requires { length text.now ≤ 67108864 }
+    ensures file { IfOk result (λ file. IsNavFile (lines_of text.now) file.all) }
+    ensures fit { IfOk result (λ file. AreFit file.all file.fit) }
+    ensures stopped { IfStopped result (λ end. IsRefusal nav_of HasNavFile name.now text.now end) }
+{
+    match read_nav(alloc, text) {
+        Ok(file) => {
+            let _usable = file.fit();
+            Ok(file)
+        }
+        Err(NavFault::Refused(at)) => Err(Stop::Ended(refused(alloc, name, at)?)),
+        Err(NavFault::NoMemory) => Err(Stop::NoMemory),
+    }
+}
+
+fn obs_file<F: Files>(alloc: Global, files: &mut F, name: &str) -> Result<ObsFile, Stop>
+    ensures read { IfOk result (λ file. IsObsOf (F.text_of files.old) name.now file) }
+    ensures stopped { IfStopped result (λ end. StopsAtObs (F.text_of files.old) name.now end) }
+    ensures cause { F.faults files.old ≤ F.faults files.new }
+    ensures fault { IfStopped result (λ end. end.status ≡ Status.ReadFault → Rose (F.faults files.old) (F.faults files.new)) }
+    ensures sure { F.is_sure_name files.old name.now → IfStopped result (λ end. end.status ≢ Status.ReadFault) }
+    ensures texts { Same (F.text_of files.old) (F.text_of files.new) }
+    ensures sure_names { Stays (F.is_sure_name files.old) (F.is_sure_name files.new) }
+{
+    match load_file(alloc, files, name) {
+        Ok(text) => obs_in(alloc, name, &text),
+        Err(stop) => Err(stop),
+    }
+}
+
+fn nav_file<F: Files>(alloc: Global, files: &mut F, name: &str) -> Result<NavFile, Stop>
+    ensures read { IfOk result (λ file. IsNavOf (F.text_of files.old) name.now file) }
+    ensures stopped { IfStopped result (λ end. StopsAtNav (F.text_of files.old) name.now end) }
+    ensures cause { F.faults files.old ≤ F.faults files.new }
+    ensures fault { IfStopped result (λ end. end.status ≡ Status.ReadFault → Rose (F.faults files.old) (F.faults files.new)) }
+    ensures sure { F.is_sure_name files.old name.now → IfStopped result (λ end. end.status ≢ Status.ReadFault) }
+{
+    match load_file(alloc, files, name) {
+        Ok(text) => nav_in(alloc, name, &text),
+        Err(stop) => Err(stop),
+    }
+}
+
+/// Reads the three files in this order, each whole before the next, or stops at the first that can't be had or is none of
+/// its form.
+pub fn read_session<F: Files>(
+    alloc: Global,
+    files: &mut F,
+    base: &str,
+    rover: &str,
+    nav: &str,
+) -> Result<SessionFiles, Stop>
+    ensures read { IfOk result (λ s. AreFilesOf (F.text_of files.old) base.now rover.now nav.now s.base s.rover s.nav) }
+    ensures stopped { IfStopped result (λ end. StopsAtFiles (F.text_of files.old) base.now rover.now nav.now end) }
+    ensures fault { IfStopped result (λ end. end.status ≡ Status.ReadFault → Rose (F.faults files.old) (F.faults files.new)) }
+    ensures sure { All (F.is_sure_name files.old) (base.now ∷ rover.now ∷ nav.now ∷ []) → IfStopped result (λ end. end.status ≢ Status.ReadFault) }
+{
+    let base_file = match obs_file(alloc, files, base) {
+        Ok(file) => file,
+        Err(stop) => return Err(stop),
+    };
+    let rover_file = match obs_file(alloc, files, rover) {
+        Ok(file) => file,
+        Err(stop) => return Err(stop),
+    };
+    match nav_file(alloc, files, nav) {
+        Ok(file) => Ok(SessionFiles {
+            base: base_file,
+            rover: rover_file,
+            nav: file,
+        }),
+        Err(stop) => Err(stop),
+    }
+}

@@ -1,0 +1,2 @@
+pub mod Sims
+pub mod SimRuns

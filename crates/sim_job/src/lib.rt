@@ -1,0 +1,58 @@
+//! The command `sim`: a made-up session to try the program on.
+#![tactic(auto)]
+
+ghost use Rattle.std.specs.Prelude.{◌≡◌, ◌≤◌, IfOk};
+ghost use Rattle.job_answers.specs.Answers.{ending_of};
+ghost use Rattle.sim_job.specs.Sims.{text_in, SimEnds};
+
+use command_words::Part;
+use job_answers::{Answer, Status};
+use sim_session::{Made, make};
+use std::alloc::{AllocError, Global};
+
+fn text_of(part: Part, made: Made) -> Vec<u8>
+    ensures { result.items ≡ text_in part made }
+{
+    match part {
+        Part::Base => made.base,
+        Part::Rover => made.rover,
+        Part::Nav => made.nav,
+    }
+}
+
+/// The part of the session that the seed makes: of so many epochs, 1 to 3600, and satellites, 4 to 15.
+pub fn sim(
+    alloc: Global,
+    part: Part,
+    seed: u32,
+    epochs: u32,
+    sats: u32,
+) -> Result<Answer, AllocError>
+    requires epochs { epochs ≤ 3600 }
+    requires sats { sats ≤ 15 }
+    ensures { IfOk result (λ a. SimEnds part seed epochs sats (ending_of a)) }
+{
+    let made = make(alloc, seed, epochs, sats)?;
+    let out = text_of(part, made);
+    Ok(Answer {
+        status: Status::Done,
+        out,
+        err: Vec::new(alloc),
+    })
+}
+
+#[cfg(test)]
+mod tests {
+    use super::*;
+    use std::test::Fail;
+
+    #[test]
+    fn makes_a_file(rt: HostRuntime) -> Result<(), Fail> {
+        let made = sim(rt.alloc(), Part::Nav, 1, 60, 8)?;
+        assert_eq!(rt; made.status, Status::Done);
+        let first = b"     3.04           N: GNSS NAV DATA";
+        assert!(rt; made.out.starts_with(first.as_slice()));
+        assert!(rt; made.err.is_empty());
+        Ok(())
+    }
+}
