@@ -73,6 +73,8 @@ fn checks_sessions(rt: HostRuntime) -> Result<(), Fail> {
     let other = "values 41 208189931 4449474431826 3308284";
     let greater = cert_of(&rt, alloc, budget, &SESSION, &[other, "fixed"])?;
     verdict_is(&rt, alloc, &greater, b"not certified tail\n")?;
+    let short = cert_of(&rt, alloc, "budget 1", &SESSION, &[VALUES, "fixed"])?;
+    verdict_is(&rt, alloc, &short, b"not certified spent\n")?;
     Ok(())
 }
 

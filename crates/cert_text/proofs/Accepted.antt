@@ -150,7 +150,7 @@ arcs_accepted budget done (a ∷ arcs) rest ranges whole few some behind =
 
 -- ---- the whole
 
-point_small : (p : List ℤ) → IsPoint p → AreSmall p
+pub point_small : (p : List ℤ) → IsPoint p → AreSmall p
 point_small p is = each_small (IsWithin 70_000_000_000) p (λ z h. within_small 70_000_000_000 z (omega arith) h) is
 
 point_spells : (word : List ℕ) (p : List ℤ) → length p ≡ 3 → IsPoint p → vector_in word 3 COORDINATES (vector_line word p) ≡ Ok p
@@ -162,7 +162,7 @@ point_length word p short three is = line_length word p short (omega (arith, thr
 letters_read : (l1 l2 : ℕ) (s t : Bool) → s ≡ true → t ≡ true → if◌then◌else◌ {A = Result (ℕ × ℕ) Flaw} (((32 == 32) && (32 == 32)) && (s && t)) (Ok (l1, l2)) (flawed 1 BadLine) ≡ Ok (l1, l2)
 letters_read l1 l2 s t a b = rw (a, b) refl
 
-letters_spell : (s : Signals) → letters_in (signals_line s.l1 s.l2) ≡ Ok (s.l1, s.l2)
+pub letters_spell : (s : Signals) → letters_in (signals_line s.l1 s.l2) ≡ Ok (s.l1, s.l2)
 letters_spell s = letters_read s.l1 s.l2 (is_letter L1_LETTERS s.l1) (is_letter L2_LETTERS s.l2) s.on_l1 s.on_l2
 
 session_accepted : (ratio budget : ℕ) (s : Session) (rest : List (List ℕ)) → 1000 ≤ ratio → ratio ≤ 100_000 → 1 ≤ budget → budget ≤ 100_000_000 → length s.base ≡ 3 → length s.point ≡ 3 → All IsWholeArc s.arcs → All IsWholePair s.pairs

@@ -6,3 +6,5 @@ pub mod FeedLaws
 pub mod LineSpells
 pub mod TailSpells
 pub mod Accepted
+pub mod SameStructs
+pub mod SameSpelling

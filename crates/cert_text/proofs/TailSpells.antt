@@ -18,10 +18,10 @@ use Rattle.cert_lines.specs.declared.ranges.TheConstants.{ENTRIES, MOVES, PIVOTS
 use Rattle.cert_lines.specs.Lines.{vector_line, values_line, weak_line, unsettled_line, overwidth_line}
 use Rattle.cert_data.specs.declared.tails.Tail.{Tail as CertTail}
 use Rattle.cert_data.specs.declared.tails.Tail.TheVariants.{Fixed, Unseparated, Weak, Overwidth, Unsettled, Spent}
-use Rattle.cert_data.specs.Tails.{AreVectors, IsTailOf}
+use Rattle.cert_data.specs.Tails.{AreVectors, IsWeak, IsTailOf}
 use Rattle.cert_data.specs.Places.{name_of_place}
 use Rattle.cert_spelling.specs.Spelling.{vectors_lines, fixed_line, unseparated_line, spent_line, tail_lines}
-use Rattle.cert_text.specs.TailForms.{weak_in, unsettled_in, spent_in, form_values, value_within, values_in, last_in}
+use Rattle.cert_text.specs.TailForms.{declined_in, weak_in, unsettled_in, spent_in, form_values, value_within, values_in, last_in}
 use Rattle.cert_text.specs.Rules.{Expected, Tail, Second, Move, Values, Last, End, cert_rules, admit}
 use Rattle.cert_text.specs.Lengths.{AreWholeVectors, IsWholeTail}
 use Rattle.cert_text.proofs.FeedLaws.{below_small, each_small, entries_small}
@@ -64,7 +64,7 @@ value_numbers h p1 p2 top (a ∷ b ∷ c ∷ d ∷ []) have to b1 b2 b3 =
     rw (natural_at 0 127 h a have.0 (omega arith) to, value_at b p1 have.1.0 b1, value_at c p2 have.1.1.0 b2, value_at d top have.1.1.1.0 b3) refl
 value_numbers h p1 p2 top (a ∷ b ∷ c ∷ d ∷ e ∷ ns) have to b1 b2 b3 = absurd have.1.1.1.1
 
-values_small : (h : ℕ) (p1 p2 top : ℤ) → h ≤ 127 → IsBelow (2 ^ 126) p1 → IsBelow (2 ^ 126) p2 → IsBelow (2 ^ 126) top → AreSmall (pos h ∷ p1 ∷ p2 ∷ top ∷ [])
+pub values_small : (h : ℕ) (p1 p2 top : ℤ) → h ≤ 127 → IsBelow (2 ^ 126) p1 → IsBelow (2 ^ 126) p2 → IsBelow (2 ^ 126) top → AreSmall (pos h ∷ p1 ∷ p2 ∷ top ∷ [])
 values_small h p1 p2 top to b1 b2 b3 =
     let whole : 2 ^ 126 ≤ 2 ^ 126 = omega arith in
     (omega (arith, to), (below_small (2 ^ 126) p1 whole b1, (below_small (2 ^ 126) p2 whole b2, (below_small (2 ^ 126) top whole b3, tt))))
@@ -111,6 +111,34 @@ vectors_accepted budget arcs h moved best top last fixed are whole short ends =
     (step Move Values _ _ (line_length (codes "move") moved (lit≤ tt) (omega (arith, whole.move)) s3) move
     (step Values Last _ _ (line_length (codes "values") (pos h ∷ best.p1 ∷ best.p2 ∷ top ∷ []) (lit≤ tt) (lit≤ tt) s4) values
     (step Last End last [] short final at_last))))
+
+-- ---- tails of one line
+
+pub weak_read : (budget column : ℕ) (pivot : ℤ) → IsWeak column pivot → declined_in budget (weak_line column pivot) ≡ Ok (Weak column pivot)
+weak_read budget column pivot fits =
+    let zs : List ℤ = pos column ∷ pivot ∷ [] in
+    let small : AreSmall zs = (omega (arith, fits.column_to), (below_small (2 ^ 52) pivot (omega arith) fits.pivot_in, tt)) in
+    let read : weak_in (weak_line column pivot) ≡ Ok (Weak column pivot) =
+    rw (line_written (codes "declined weak fine") zs small) (weak_numbers column pivot (placed (1 + 18) zs) (placed_values (1 + 18) zs small) fits.column_to (below_is (2 ^ 52) 4_503_599_627_370_495 pivot refl fits.pivot_in)) in
+    read
+
+pub unsettled_read : (budget : ℕ) (entry : ℤ) → IsBelow (2 ^ 46) entry → declined_in budget (unsettled_line entry) ≡ Ok (Unsettled entry)
+unsettled_read budget entry fits =
+    let small : AreSmall (entry ∷ []) = (below_small (2 ^ 46) entry (omega arith) fits, tt) in
+    ap (λ (r : Result (List ℤ) Flaw). and_then r (λ zs. Ok (Unsettled (get_or zs 0 (pos 0))))) (vector_spells (codes "declined unsettled fine") 1 MOVES (entry ∷ []) refl small (below_is (2 ^ 46) 70_368_744_177_663 entry refl fits, tt))
+
+pub spent_read : (budget spent : ℕ) → budget ≤ 100_000_000 → spent ≡ budget → declined_in budget (spent_line spent) ≡ Ok (Spent spent)
+spent_read budget spent few is =
+    ap (λ (r : Result ℕ Flaw). and_then r (λ b. Ok (Spent b))) (count_spells (codes "declined spent") budget budget spent (omega (arith, is)) (omega (arith, is)) (omega arith))
+
+pub place_read : (budget : ℕ) (p : Place) → declined_in budget (overwidth_line (name_of_place p)) ≡ Ok (Overwidth p)
+place_read budget Y = refl
+place_read budget Factor = refl
+place_read budget Entry = refl
+place_read budget Float = refl
+place_read budget Point = refl
+place_read budget Search = refl
+place_read budget Sum = refl
 
 place_accepted : (budget : ℕ) (arcs : List Arc) (p : Place) → Accepted (Tail budget arcs) (overwidth_line (name_of_place p) ∷ [])
 place_accepted budget arcs Y = step (Tail budget arcs) End _ [] (lit≤ tt) (admits_declined budget arcs (overwidth_line (codes "y")) refl ∙ refl) at_last

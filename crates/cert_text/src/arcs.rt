@@ -6,6 +6,7 @@ ghost use Rattle.rinex_head.specs.Walk.{Reads, ReadsFree};
 ghost use Rattle.cert_lines.specs.Lines.{arc_line};
 ghost use Rattle.cert_lines.specs.Forms.{may_stand};
 ghost use Rattle.cert_spelling.specs.Spelling.{arc_lines, counted_arcs};
+ghost use Rattle.cert_text.specs.Lengths.{IsWholeArc};
 ghost use Rattle.cert_text.specs.Rules.{cert_rules, before_arcs, free_by, ArcCount, PairCount};
 
 use crate::lines::next_count;
@@ -22,6 +23,7 @@ fn next_arc(lines: &mut TextLines<'_>, free: usize, left: usize) -> Result<Arc, 
     ensures took { IfOk result (λ a. lines.old.left ≡ arc_line a ∷ lines.new.left) }
     ensures in_range { IfOk result IsArcInRange }
     ensures stands { IfOk result (λ a. IsTrue (may_stand free left a.datum)) }
+    ensures whole { IfOk result IsWholeArc }
 {
     let line = next_line(lines)?;
     match arc_in(free, left, line.bytes) {
@@ -50,6 +52,7 @@ fn read_arc_lines(
     ensures took { IfOk result (λ arcs. lines.old.left ≡ arc_lines arcs.items ++ lines.new.left) }
     ensures count { IfOk result (λ arcs. length arcs.items ≡ count) }
     ensures are { IfOk result (λ arcs. AreArcs arcs.items) }
+    ensures whole { IfOk result (λ arcs. All IsWholeArc arcs.items) }
 {
     let mut arcs: Vec<Arc> = Vec::new(alloc);
     let mut free = 0;
@@ -68,6 +71,7 @@ pub(crate) fn read_arcs(alloc: Global, lines: &mut TextLines<'_>) -> Result<ArcL
     ensures reads { (budget : ℕ) → Reads cert_rules lines.old lines.new (ArcCount budget) (λ arcs. PairCount budget arcs) result }
     ensures took { IfOk result (λ arcs. lines.old.left ≡ counted_arcs arcs ++ lines.new.left) }
     ensures are { IfOk result AreArcs }
+    ensures whole { IfOk result (All IsWholeArc) }
 {
     let count = next_count(lines, b"arcs", 2, 200)?;
     let arcs = read_arc_lines(alloc, lines, count as usize)?;

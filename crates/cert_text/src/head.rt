@@ -1,5 +1,5 @@
 //! The head of a certificate: what stands before its arcs.
-ghost use Rattle.std.specs.Prelude.{◌≡◌, ◌≤◌, ◌++◌, IfOk};
+ghost use Rattle.std.specs.Prelude.{◌≡◌, ◌≤◌, ◌++◌, length, IfOk};
 ghost use Rattle.obs_rows.specs.Ranges.{IsPoint};
 ghost use Rattle.rinex_head.specs.Walk.{ReadsFree};
 ghost use Rattle.cert_spelling.specs.Spelling.{head_lines};
@@ -29,6 +29,7 @@ pub(crate) fn read_head(lines: &mut TextLines<'_>) -> Result<Head, At>
     ensures budget { IfOk result (λ h. (1 ≤ h.budget) × (h.budget ≤ 100_000_000)) }
     ensures base { IfOk result (λ h. IsPoint h.base) }
     ensures point { IfOk result (λ h. IsPoint h.point) }
+    ensures whole { IfOk result (λ h. (length h.base ≡ 3) × (length h.point ≡ 3)) }
 {
     next_word(lines, b"baseline-cert 1")?;
     let ratio = next_count(lines, b"ratio", 1000, 100_000)?;

@@ -6,6 +6,7 @@ ghost use Rattle.obs_rows.specs.Pairs.{HasItsArcs};
 ghost use Rattle.rinex_head.specs.Walk.{Reads, ReadsFree};
 ghost use Rattle.cert_lines.specs.Lines.{pair_line, row_line, row_lines, pair_lines};
 ghost use Rattle.cert_spelling.specs.Spelling.{all_pair_lines, counted_pairs};
+ghost use Rattle.cert_text.specs.Lengths.{IsWholeRow, IsWholePair};
 ghost use Rattle.cert_text.specs.Rules.{cert_rules, before_pairs, before_rows, PairCount, Tail};
 
 use crate::lines::next_count;
@@ -47,6 +48,7 @@ fn next_row(
     ensures took { IfOk result (λ r. lines.old.left ≡ row_line r ∷ lines.new.left) }
     ensures least { IfOk result (λ r. least ≤ r.arc) }
     ensures of_pair { IfOk result (λ r. IsOfPair arcs.now number r) }
+    ensures whole { IfOk result IsWholeRow }
 {
     let line = next_line(lines)?;
     match row_in(arcs, number, least, line.bytes) {
@@ -76,6 +78,7 @@ fn read_rows(
     ensures group { IfOk result (λ p. p.group ≡ head.group) }
     ensures count { IfOk result (λ p. length p.rows ≡ head.count) }
     ensures arcs { IfOk result (λ p. HasItsArcs arcs.now p) }
+    ensures whole { IfOk result IsWholePair }
 {
     let mut pair = PairBuilder::new(alloc, head.number, head.tag, head.group);
     let mut least = 0;
@@ -104,6 +107,7 @@ fn next_pair(
     ensures took { IfOk result (λ p. lines.old.left ≡ pair_lines p ++ lines.new.left) }
     ensures least { IfOk result (λ p. least ≤ p.number) }
     ensures arcs { IfOk result (λ p. HasItsArcs arcs.now p) }
+    ensures whole { IfOk result IsWholePair }
 {
     let head = next_pair_head(lines, least, left)?;
     read_rows(alloc, lines, arcs, head)
@@ -121,6 +125,7 @@ fn read_all_pairs(
     ensures reads { (budget : ℕ) → Reads cert_rules lines.old lines.new (before_pairs budget session.arcs count 0) (λ s. Tail budget session.arcs) result }
     ensures took { IfOk result (λ s. lines.old.left ≡ all_pair_lines s.pairs ++ lines.new.left) }
     ensures count { IfOk result (λ s. length s.pairs ≡ count) }
+    ensures whole { IfOk result (λ s. All IsWholePair s.pairs) }
     ensures scale { IfOk result (λ s. s.scale ≡ session.scale) }
     ensures base { IfOk result (λ s. s.base ≡ session.base) }
     ensures point { IfOk result (λ s. s.point ≡ session.point) }
@@ -147,6 +152,7 @@ pub(crate) fn read_pairs(
     requires { session.pairs ≡ [] }
     ensures reads { (budget : ℕ) → Reads cert_rules lines.old lines.new (PairCount budget session.arcs) (λ s. Tail budget session.arcs) result }
     ensures took { IfOk result (λ s. lines.old.left ≡ counted_pairs s.pairs ++ lines.new.left) }
+    ensures whole { IfOk result (λ s. All IsWholePair s.pairs) }
     ensures scale { IfOk result (λ s. s.scale ≡ session.scale) }
     ensures base { IfOk result (λ s. s.base ≡ session.base) }
     ensures point { IfOk result (λ s. s.point ≡ session.point) }

@@ -3,7 +3,7 @@ ghost use Rattle.std.specs.Prelude.{◌≡◌, ◌≤◌, ◌++◌, [], length, 
 ghost use Rattle.rinex_head.specs.Walk.{rest_gives, Gives, OnRefusal};
 ghost use Rattle.cert_data.specs.declared.certs.Cert.{Cert};
 ghost use Rattle.cert_spelling.specs.Spelling.{lines_of_cert, spelling};
-ghost use Rattle.cert_text.specs.Lengths.{IsCertificate};
+ghost use Rattle.cert_text.specs.Lengths.{IsWhole, IsCertificate};
 ghost use Rattle.cert_text.specs.Rules.{cert_rules, reading_of, Form, End};
 
 use crate::arcs::read_arcs;
@@ -31,6 +31,7 @@ fn read_end(lines: &mut TextLines<'_>) -> Result<(), At>
 fn read_lines(alloc: Global, mut lines: TextLines<'_>) -> Result<Cert, TextFault>
     ensures reads { Gives (rest_gives cert_rules lines.entry Form) (λ c. tt) result }
     ensures took { IfOk result (λ c. lines.entry.left ≡ lines_of_cert c) }
+    ensures whole { IfOk result IsWhole }
 {
     let head = read_head(&mut lines)?;
     let arcs = read_arcs(alloc, &mut lines)?;
@@ -51,6 +52,8 @@ fn read_lines(alloc: Global, mut lines: TextLines<'_>) -> Result<Cert, TextFault
 pub fn read_cert(alloc: Global, text: &[u8]) -> Result<Cert, TextFault>
     requires { length text.now ≤ 67108864 }
     ensures ok { IfOk result (λ c. text.now ≡ spelling c) }
+    ensures whole { IfOk result IsWhole }
+    ensures only { IfOk result (λ c. (d : Cert) → IsWhole d → text.now ≡ spelling d → d ≡ c) }
     ensures refused { OnRefusal result (IsCertificate text.now → ⊥) }
     ensures exact { Gives (reading_of text.now) (λ c. tt) result }
 {

@@ -12,6 +12,7 @@ ghost use Rattle.cert_lines.specs.Forms.{vector_in};
 ghost use Rattle.cert_lines.specs.declared.ranges.TheConstants.{ENTRIES};
 ghost use Rattle.cert_data.specs.Tails.{AreVectors, IsTailOf};
 ghost use Rattle.cert_spelling.specs.Spelling.{vectors_lines, fixed_line, unseparated_line, tail_lines};
+ghost use Rattle.cert_text.specs.Lengths.{AreWholeVectors, IsWholeTail};
 ghost use Rattle.cert_text.specs.Rules.{Expected, cert_rules, Tail as TailStart, Second, Move, Values, Last, End};
 ghost use Rattle.cert_text.specs.LineParts.{TakesLine};
 
@@ -93,6 +94,7 @@ fn next_last(lines: &mut TextLines<'_>) -> Result<bool, At>
 fn tail_of(fixed: bool, h: u32, moved: [i64; 3], best: TwoBest, top: i128) -> Tail
     ensures lines { tail_lines result ≡ vectors_lines h moved best top ++ (if fixed then fixed_line else unseparated_line) ∷ [] }
     ensures fits { (arcs : List Arc) (budget : ℕ) → AreVectors arcs h moved best top → IsTailOf arcs budget result }
+    ensures whole { AreWholeVectors moved best → IsWholeTail result }
 {
     if fixed {
         Tail::Fixed {
@@ -123,6 +125,7 @@ fn read_vectors(
     ensures reads { ReadsFree cert_rules lines.old lines.new (Second count) (λ t. End) result }
     ensures took { IfOk result (λ t. vector_line (codes "z1") (take count first) ∷ lines.old.left ≡ tail_lines t ++ lines.new.left) }
     ensures fits { IfOk result (λ t. (arcs : List Arc) (budget : ℕ) → count ≡ integer_count arcs 0 → IsTailOf arcs budget t) }
+    ensures whole { IfOk result IsWholeTail }
 {
     let second = next_integers(lines, b"z2", count)?;
     let moved = next_triple(lines, b"move", &MOVES)?;
@@ -144,6 +147,7 @@ pub(crate) fn read_tail(lines: &mut TextLines<'_>, budget: u64, count: usize) ->
     ensures reads { (arcs : List Arc) → count ≡ integer_count arcs 0 → ReadsFree cert_rules lines.old lines.new (TailStart budget arcs) (λ t. End) result }
     ensures took { IfOk result (λ t. lines.old.left ≡ tail_lines t ++ lines.new.left) }
     ensures fits { IfOk result (λ t. (arcs : List Arc) → count ≡ integer_count arcs 0 → IsTailOf arcs budget t) }
+    ensures whole { IfOk result IsWholeTail }
 {
     let line = next_line(lines)?;
     if begins(b"z1", line.bytes) {

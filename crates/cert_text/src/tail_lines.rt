@@ -5,6 +5,7 @@ ghost use Rattle.obs_rows.specs.Ranges.{IsBelow};
 ghost use Rattle.cert_lines.specs.Lines.{values_line};
 ghost use Rattle.cert_data.specs.Tails.{IsTailOf};
 ghost use Rattle.cert_spelling.specs.Spelling.{fixed_line, unseparated_line, tail_lines};
+ghost use Rattle.cert_text.specs.Lengths.{IsWholeTail};
 ghost use Rattle.cert_text.specs.TailForms.{weak_in, unsettled_in, spent_in, overwidth_in, declined_in, value_within, values_in, last_in, begins};
 
 use cert_data::{Tail, place_named};
@@ -17,6 +18,7 @@ fn weak_in(line: &[u8]) -> Result<Tail, Flaw>
     ensures value { result ≡ weak_in line.now }
     ensures spelled { IfOk result (λ t. line.now ∷ [] ≡ tail_lines t) }
     ensures fits { IfOk result (λ t. (arcs : List Arc) (budget : ℕ) → IsTailOf arcs budget t) }
+    ensures whole { IfOk result IsWholeTail }
 {
     let numbers = numbers_behind(b"declined weak fine", 2, line)?;
     let numbers = numbers.as_slice();
@@ -33,6 +35,7 @@ fn unsettled_in(line: &[u8]) -> Result<Tail, Flaw>
     ensures value { result ≡ unsettled_in line.now }
     ensures spelled { IfOk result (λ t. line.now ∷ [] ≡ tail_lines t) }
     ensures fits { IfOk result (λ t. (arcs : List Arc) (budget : ℕ) → IsTailOf arcs budget t) }
+    ensures whole { IfOk result IsWholeTail }
 {
     let entries: [i64; 1] = vector_in(b"declined unsettled fine", 1, &MOVES, line)?;
     Ok(Tail::Unsettled { entry: entries[0] })
@@ -43,6 +46,7 @@ fn spent_in(budget: u64, line: &[u8]) -> Result<Tail, Flaw>
     ensures value { result ≡ spent_in budget line.now }
     ensures spelled { IfOk result (λ t. line.now ∷ [] ≡ tail_lines t) }
     ensures fits { IfOk result (λ t. (arcs : List Arc) → IsTailOf arcs budget t) }
+    ensures whole { IfOk result IsWholeTail }
 {
     let spent = count_in(b"declined spent", budget, budget, line)?;
     Ok(Tail::Spent { budget: spent })
@@ -52,6 +56,7 @@ fn overwidth_in(line: &[u8]) -> Result<Tail, Flaw>
     ensures value { result ≡ overwidth_in line.now }
     ensures spelled { IfOk result (λ t. line.now ∷ [] ≡ tail_lines t) }
     ensures fits { IfOk result (λ t. (arcs : List Arc) (budget : ℕ) → IsTailOf arcs budget t) }
+    ensures whole { IfOk result IsWholeTail }
 {
     let Some(name) = line.strip_prefix(b"declined overwidth fine ") else {
         return Err(BAD_LINE);
@@ -75,6 +80,7 @@ pub(crate) fn declined_in(budget: u64, line: &[u8]) -> Result<Tail, Flaw>
     ensures value { result ≡ declined_in budget line.now }
     ensures spelled { IfOk result (λ t. line.now ∷ [] ≡ tail_lines t) }
     ensures fits { IfOk result (λ t. (arcs : List Arc) → IsTailOf arcs budget t) }
+    ensures whole { IfOk result IsWholeTail }
 {
     if begins(b"declined weak", line) {
         return weak_in(line);

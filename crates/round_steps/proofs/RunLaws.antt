@@ -1,5 +1,5 @@
 -- Runs, round by round.
-use Rattle.std.proofs.Common.{◌≡◌, ℕ, ◌+◌, ◌-◌, ◌*◌, ◌^◌, ◌<◌, ◌≤◌, inl, inr, true, false, Bool, cond, nat_eq, Option, Some, List, [], ◌∷◌, ℤ, arith, sym, ap, ap₂, ◌∙◌, refl, subst}
+use Rattle.std.proofs.Common.{◌≡◌, ℕ, ◌+◌, ◌-◌, ◌*◌, ◌^◌, ◌<◌, inl, inr, false, Bool, cond, nat_eq, Option, Some, List, [], ◌∷◌, ℤ, arith, sym, ap, ap₂, ◌∙◌, refl, subst}
 use Rattle.std.proofs.lemmas.Bool.Decides.{nat_tests}
 use Rattle.std.proofs.lemmas.List.Sums.{sum_by-cons}
 use Rattle.obs_rows.specs.declared.arcs.Arc.{Arc}
@@ -7,12 +7,11 @@ use Rattle.obs_rows.specs.declared.sessions.Session.{Session}
 use Rattle.integer_form.specs.declared.form.Form.{Form}
 use Rattle.integer_form.specs.declared.faults.Place.TheVariants as Place
 use Rattle.cert_data.specs.declared.tails.Tail.{Tail}
-use Rattle.cert_data.specs.declared.tails.Tail.TheVariants as Tail
 use Rattle.cert_data.specs.declared.outcomes.Stage.TheVariants.{Coarse, Fine}
 use Rattle.round_steps.specs.Points.{IsReceiverPoint}
 use Rattle.round_steps.specs.Shifts.{AreGrown, AreSameArcs, AreShiftsBelow}
 use Rattle.round_steps.specs.Steps.{IsSettledForm, IsMoved, IsRoundDeclined, IsDecision}
-use Rattle.round_steps.specs.Runs.{Round, Rules, round_of, IsSessionOf, IsSessionAt, coarse, fine, IsRunTo, rounds_at, most_rounds, is_last, Reaches, EndsEarly, EndsFull, SettlesAt}
+use Rattle.round_steps.specs.Runs.{Round, Rules, round_of, IsSessionOf, IsSessionAt, coarse, fine, IsRunTo, rounds_at, is_last, Reaches, EndsEarly, EndsFull, SettlesAt}
 use Rattle.round_steps.proofs.ShiftLaws.{grown_same}
 
 -- ---- counts

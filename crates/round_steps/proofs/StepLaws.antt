@@ -1,12 +1,11 @@
 -- What a session's float point says.
-use Rattle.std.proofs.Common.{◌≡◌, ℕ, ◌^◌, ◌<◌, ◌≤◌, ◌⊎◌, inl, inr, ⊎_elim, true, false, Bool, cond, IsTrue, List, length, ℤ, pos, neg_ℤ, ◌*ℤ◌, ◌≤ℤ◌, ◌<ℤ◌, unsigned_abs, to_z, of_z, arith, sym, ◌∙◌, subst, refl}
+use Rattle.std.proofs.Common.{◌≡◌, ℕ, ◌^◌, ◌<◌, ◌≤◌, ◌⊎◌, inl, inr, ⊎_elim, true, false, Bool, cond, IsTrue, List, length, ℤ, pos, neg_ℤ, ◌≤ℤ◌, ◌<ℤ◌, unsigned_abs, to_z, of_z, arith, sym, ◌∙◌, subst, refl}
 use Rattle.std.proofs.lemmas.Int.{ints}
 use Rattle.std.proofs.lemmas.Bool.{false≢true}
 use Rattle.std.specs.Int.{w64}
 use Rattle.obs_rows.specs.declared.sessions.Session.{Session}
 use Rattle.integer_form.specs.declared.form.Form.{Form}
 use Rattle.integer_form.specs.declared.faults.Place.{Place}
-use Rattle.integer_form.specs.declared.faults.Place.TheVariants as Place
 use Rattle.integer_form.specs.FloatPoint.{item, float_point, HasWide}
 use Rattle.int_search.specs.declared.answer.TwoBest.{TwoBest}
 use Rattle.int_search.specs.Answers.{IsTwoBest, IsSearchTooWide}

@@ -1,12 +1,12 @@
 -- The ranges of a weak pivot.
-use Rattle.std.proofs.Common.{◌≡◌, ℕ, zero, suc, ◌+◌, ◌-◌, ◌*◌, ◌^◌, ◌<◌, ◌≤◌, ◌⊎◌, inl, inr, ⊎_elim, Bool, true, false, ◌&&◌, nat_lt, int_lt, List, [], ◌∷◌, ℤ, pos, ◌*ℤ◌, ◌<ℤ◌, ◌≤ℤ◌, Result, Ok, Err, unsigned_abs, arith, refl, sym, ap, ◌∙◌, subst}
+use Rattle.std.proofs.Common.{◌≡◌, ℕ, zero, suc, ◌+◌, ◌-◌, ◌^◌, ◌<◌, ◌≤◌, ◌⊎◌, inl, inr, ⊎_elim, Bool, true, false, ◌&&◌, nat_lt, int_lt, List, [], ◌∷◌, ℤ, pos, ◌*ℤ◌, ◌<ℤ◌, ◌≤ℤ◌, Result, Ok, Err, unsigned_abs, arith, refl, sym, ap, ◌∙◌, subst}
 use Rattle.std.proofs.lemmas.Bool.Decides.{nat_tests}
 use Rattle.std.proofs.lemmas.Int.{ints, by_lt_z}
 use Rattle.std.proofs.Math.Pow.{pow-lt, pow_mono}
 use Rattle.whole_math.specs.Vectors.{len}
 use Rattle.whole_math.proofs.Order.{lins}
 use Rattle.quadratic_form.specs.Forms.{Column}
-use Rattle.quadratic_form.specs.Elimination.{Factor, Refusal, weak, wide_factor, wide_entry, kept, factors, next, all_small, form_small, step, with_factor, steps}
+use Rattle.quadratic_form.specs.Elimination.{Factor, Refusal, weak, wide_factor, wide_entry, kept, factors, next, all_small, form_small, with_factor, steps}
 use Rattle.quadratic_form.specs.Lowering.{OwnBelow, IsExponent}
 use Rattle.normal_sum.specs.declared.normal.Normal.{Normal}
 use Rattle.normal_sum.specs.Values.{form_of}

@@ -1,19 +1,16 @@
 -- Runs of rounds, from the first coarse round to the end. What a session has to stand for is given by the files; here it
 -- is a part of the rules.
-use Rattle.std.specs.Prelude.{◌≡◌, ℕ, Option, Some, None, ◌+◌, ◌<◌, ◌⊎◌, ◌==◌, Bool, if◌then◌else◌, List, [], ◌∷◌, map, count_by, ℤ}
+use Rattle.std.specs.Prelude.{◌≡◌, ℕ, Option, Some, None, ◌+◌, ◌<◌, ◌⊎◌, ◌==◌, Bool, if◌then◌else◌, List, [], ◌∷◌, count_by, ℤ}
 use Rattle.obs_rows.specs.declared.arcs.Arc.{Arc}
 use Rattle.obs_rows.specs.declared.sessions.Session.{Session}
 use Rattle.integer_form.specs.declared.form.Form.{Form}
 use Rattle.integer_form.specs.declared.faults.Place.TheVariants as Place
 use Rattle.cert_data.specs.Tails.{IsTailOf}
 use Rattle.cert_data.specs.declared.tails.Tail.{Tail}
-use Rattle.cert_data.specs.declared.tails.Tail.TheVariants as Tail
 use Rattle.cert_data.specs.declared.outcomes.Stage.{Stage}
 use Rattle.cert_data.specs.declared.outcomes.Stage.TheVariants.{Coarse, Fine}
 use Rattle.round_steps.specs.declared.runs.End.{End}
-use Rattle.round_steps.specs.declared.runs.End.TheVariants as End
 use Rattle.round_steps.specs.declared.runs.CoarseEnd.{CoarseEnd}
-use Rattle.round_steps.specs.declared.runs.CoarseEnd.TheVariants as CoarseEnd
 use Rattle.round_steps.specs.Shifts.{AreGrown}
 use Rattle.round_steps.specs.Points.{IsReceiverPoint}
 use Rattle.round_steps.specs.Steps.{IsSettledForm, IsMoved, IsRoundDeclined, IsDecision, IsBestWhereFixed}

@@ -1,5 +1,5 @@
 -- How the shifts of arcs grow in a fine round that isn't settled.
-use Rattle.std.specs.Prelude.{◌≡◌, ℕ, if◌then◌else◌, nat_lt, List, [], ◌∷◌, length, map, drop, Option, Some, slice_get, ℤ, pos, ◌+ℤ◌, unsigned_abs, All}
+use Rattle.std.specs.Prelude.{◌≡◌, ℕ, if◌then◌else◌, nat_lt, List, [], ◌∷◌, length, map, drop, Some, slice_get, ℤ, pos, ◌+ℤ◌, unsigned_abs, All}
 use Rattle.whole_math.specs.Rounding.{nearest_div}
 use Rattle.obs_rows.specs.declared.arcs.Arc.{Arc}
 use Rattle.obs_rows.specs.Ranges.{IsBelow}

@@ -8,9 +8,7 @@ use Rattle.normal_sum.specs.Normals.{IsNormalOf}
 use Rattle.normal_sum.specs.Values.{form_of}
 use Rattle.integer_form.specs.declared.form.Form.{Form}
 use Rattle.integer_form.specs.declared.faults.Place.{Place}
-use Rattle.integer_form.specs.declared.faults.Place.TheVariants as Place
 use Rattle.integer_form.specs.declared.faults.LowerFault.{LowerFault}
-use Rattle.integer_form.specs.declared.faults.LowerFault.TheVariants as LowerFault
 use Rattle.integer_form.specs.FloatPoint.{item, float_point, HasWide}
 use Rattle.integer_form.specs.Told.{IsToldAs}
 use Rattle.lower_form.specs.Forms.{elimination_of}

@@ -1,5 +1,5 @@
 -- Arcs that are the same but for their shifts are cut of the same pairs; and where two arcs share a pair, one is free.
-use Rattle.std.proofs.Common.{◌≡◌, ◌≢◌, ℕ, zero, suc, ◌+◌, ◌<◌, ◌≤◌, inl, inr, true, false, Bool, not, cond, IsTrue, List, [], ◌∷◌, length, map, Some, None, arith, sym, ap, ap₂, ◌∙◌, refl, subst}
+use Rattle.std.proofs.Common.{◌≡◌, ℕ, zero, suc, ◌+◌, ◌<◌, ◌≤◌, true, false, Bool, not, cond, IsTrue, List, [], ◌∷◌, map, Some, arith, sym, ap, ◌∙◌, refl, subst}
 use Rattle.std.specs.Prelude.{slice_get, ◌↔◌}
 use Rattle.std.proofs.lemmas.List.Sums.{sum_by-cons}
 use Rattle.obs_rows.specs.declared.arcs.Arc.{Arc}

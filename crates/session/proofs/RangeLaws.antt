@@ -1,5 +1,5 @@
 -- The arcs of a run that goes on are those of a session.
-use Rattle.std.proofs.Common.{◌≡◌, ℕ, zero, suc, ◌+◌, ◌<◌, ◌≤◌, ◌^◌, ◌⊎◌, inl, inr, ⊎_elim, true, false, Bool, cond, nat_eq, List, [], ◌∷◌, length, get_or, Some, None, All, arith, sym, ap, ◌∙◌, refl, subst}
+use Rattle.std.proofs.Common.{◌≡◌, ℕ, zero, suc, ◌+◌, ◌<◌, ◌≤◌, ◌^◌, ◌⊎◌, inl, inr, ⊎_elim, true, false, Bool, cond, nat_eq, List, [], ◌∷◌, length, get_or, Some, All, arith, sym, ap, ◌∙◌, refl, subst}
 use Rattle.std.specs.Prelude.{slice_get, is_some, find, ◌==◌, ◌&&◌, nat_le, pos}
 use Rattle.std.proofs.lemmas.Option.{slice_get-get_or, slice_get_within, get_or_from_slice_get}
 use Rattle.std.proofs.lemmas.Bool.Decides.{nat_tests}

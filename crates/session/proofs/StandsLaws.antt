@@ -1,5 +1,5 @@
 -- Each session that has the rows of the files stands for them.
-use Rattle.std.proofs.Common.{◌≡◌, ℕ, List, length, map, ℤ, ◌∙◌, subst}
+use Rattle.std.proofs.Common.{List, length, map, ℤ, ◌∙◌, subst}
 use Rattle.obs_rows.specs.declared.bands.Signals.{Signals}
 use Rattle.obs_rows.specs.declared.sessions.Session.{Session}
 use Rattle.obs_store.specs.declared.file.ObsFile.{ObsFile}

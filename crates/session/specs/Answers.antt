@@ -2,7 +2,6 @@
 use Rattle.std.specs.Prelude.{◌≡◌, ◌≢◌, ℕ, min, Any, pos}
 use Rattle.obs_store.specs.declared.file.ObsFile.{ObsFile}
 use Rattle.obs_rows.specs.Arcs.{free_count}
-use Rattle.cert_data.specs.declared.tails.Tail.{Tail}
 use Rattle.cert_data.specs.declared.certs.Cert.{Cert}
 use Rattle.cert_data.specs.declared.outcomes.Answer.{Answer}
 use Rattle.cert_data.specs.declared.outcomes.Answer.TheVariants.{Few, Arcs, Early, Full}

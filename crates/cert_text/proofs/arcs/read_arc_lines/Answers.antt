@@ -6,6 +6,7 @@ use Rattle.obs_rows.specs.declared.arcs.Arc.{Arc}
 use Rattle.obs_rows.specs.Arcs.{IsArcInRange, free_count}
 use Rattle.rinex_head.specs.Walk.{rest_gives}
 use Rattle.cert_spelling.specs.Spelling.{arc_lines}
+use Rattle.cert_text.specs.Lengths.{IsWholeArc}
 use Rattle.cert_text.specs.Rules.{cert_rules, before_arcs, free_by}
 use Rattle.cert_text.proofs.ArcSteps.{arcs_took, free_push, few_stand, some_stand}
 use Rattle.cert_text.proofs.arcs.read_arc_lines.Goals as goal
@@ -28,4 +29,5 @@ arcs-preserved c =
       few_free = rw c.free_with-free.ensures (few_stand c.arcs.free c.arcs.left a.datum c.in_ok-arc.ensures.stands c.arcs.invariant.few_free);
       some_free = rw c.free_with-free.ensures (some_stand c.arcs.free c.arcs.left a.datum some c.in_ok-arc.ensures.stands);
       ranges = rw items (All-push IsArcInRange before a c.arcs.invariant.ranges c.in_ok-arc.ensures.in_range);
+      whole = rw items (All-push IsWholeArc before a c.arcs.invariant.whole c.in_ok-arc.ensures.whole);
     }

@@ -2,6 +2,7 @@ use Rattle.std.proofs.Common.{◌≡◌, ◌+◌, ◌≤◌, ◌⊎◌, ◌++◌
 use Rattle.rinex_head.specs.Walk.{rest_gives}
 use Rattle.obs_rows.specs.Arcs.{IsArcInRange, free_count}
 use Rattle.cert_spelling.specs.Spelling.{arc_lines}
+use Rattle.cert_text.specs.Lengths.{IsWholeArc}
 use Rattle.cert_text.specs.Rules.{cert_rules, before_arcs}
 use Rattle.cert_text.proofs.arcs.read_arc_lines.Given as goal
 
@@ -14,6 +15,7 @@ invariant-arcs l = record {
   few_free : l.free ≤ 20;
   some_free : (1 ≤ l.left) ⊎ (1 ≤ l.free);
   ranges : All IsArcInRange l.arcs.items;
+  whole : All IsWholeArc l.arcs.items;
 }
 
 abbrev pub decreases-arcs : goal.decreases-arcs

@@ -5,6 +5,8 @@ use Rattle.std.proofs.lemmas.List.{length_push}
 use Rattle.obs_rows.specs.declared.pair_rows.PairRows.{PairRows}
 use Rattle.rinex_head.proofs.Walks.{handed_on}
 use Rattle.cert_spelling.specs.Spelling.{all_pair_lines}
+use Rattle.std.proofs.lemmas.List.Elements.{All-push}
+use Rattle.cert_text.specs.Lengths.{IsWholePair}
 use Rattle.cert_text.proofs.PairSteps.{pairs_took, pairs_below}
 use Rattle.cert_text.proofs.pairs.read_all_pairs.Goals as goal
 
@@ -29,6 +31,7 @@ pairs-preserved c =
           ∙ ap (λ (ps : List PairRows). all_pair_lines ps ++ c.next_pair.new.lines.left) (sym pairs);
       count = rw pairs (omega (arith, one, c.pairs.invariant.count));
       below = rw pairs (pairs_below before p c.pairs.least c.pairs.invariant.below c.in_ok-pair.ensures.least);
+      whole = rw pairs (All-push IsWholePair before p c.pairs.invariant.whole c.in_ok-pair.ensures.whole);
       scale = c.push.ensures.scale ∙ c.pairs.invariant.scale;
       base = c.push.ensures.base ∙ c.pairs.invariant.base;
       point = c.push.ensures.point ∙ c.pairs.invariant.point;

@@ -1,6 +1,7 @@
 use Rattle.std.proofs.Common.{◌≡◌, ◌+◌, ◌<◌, ◌++◌, ℕ, length, All}
 use Rattle.rinex_head.specs.Walk.{rest_gives}
 use Rattle.cert_spelling.specs.Spelling.{all_pair_lines}
+use Rattle.cert_text.specs.Lengths.{IsWholePair}
 use Rattle.cert_text.specs.Rules.{cert_rules, before_pairs}
 use Rattle.cert_text.proofs.pairs.read_all_pairs.Given as goal
 
@@ -10,6 +11,7 @@ invariant-pairs l = record {
   took : l.fn.lines.left ≡ all_pair_lines l.session.pairs ++ l.lines.left;
   count : length l.session.pairs + l.left ≡ l.count;
   below : All (λ p. p.number < l.least) l.session.pairs;
+  whole : All IsWholePair l.session.pairs;
   scale : l.session.scale ≡ l.fn.session.scale;
   base : l.session.base ≡ l.fn.session.base;
   point : l.session.point ≡ l.fn.session.point;

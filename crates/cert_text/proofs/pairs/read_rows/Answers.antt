@@ -5,6 +5,7 @@ use Rattle.std.proofs.lemmas.List.Elements.{All-push}
 use Rattle.obs_rows.specs.declared.rows.Row.{Row}
 use Rattle.obs_rows.specs.Arcs.{IsOfPair}
 use Rattle.cert_lines.specs.Lines.{row_lines}
+use Rattle.cert_text.specs.Lengths.{IsWholeRow}
 use Rattle.cert_text.proofs.PairSteps.{rows_took, rows_below}
 use Rattle.cert_text.proofs.pairs.read_rows.Goals as goal
 
@@ -24,4 +25,5 @@ rows-preserved c =
       group = c.push.ensures.group ∙ c.rows.invariant.group;
       below = rw rows (rows_below before r c.rows.least c.rows.invariant.below c.in_ok-row.ensures.least);
       of_pair = rw rows (All-push (IsOfPair c.args.arcs.now c.args.head.number) before r c.rows.invariant.of_pair c.in_ok-row.ensures.of_pair);
+      whole = rw rows (All-push IsWholeRow before r c.rows.invariant.whole c.in_ok-row.ensures.whole);
     }

@@ -10,6 +10,8 @@ use Rattle.rinex_head.specs.Walk.{rest_gives}
 use Rattle.rinex_head.proofs.Walks.{gives_same}
 use Rattle.cert_text.specs.Rules.{cert_rules, Form}
 use Rattle.cert_text.proofs.Accepted.{refused_text}
+use Rattle.cert_text.specs.Lengths.{IsWhole}
+use Rattle.cert_text.proofs.SameSpelling.{spelling_same}
 use Rattle.cert_text.proofs.FeedLaws.{cert_feed}
 use Rattle.cert_text.proofs.reader.read_cert.Goals as goal
 
@@ -29,3 +31,12 @@ returns-clause-refused c =
     let text = c.args.text.now in
     let whole = sym (ap (λ (r : Reading). rest_gives cert_rules r Form) c.new.ensures) in
     refused_text text (λ x. tt) c.read_lines.result (gives_same _ _ (λ x. tt) c.read_lines.result whole c.read_lines.ensures.reads)
+
+-- what is read is the only certificate with this spelling
+alone : (text : List ℕ) (r : Result Cert TextFault) → IfOk r (λ c. text ≡ spelling c) → IfOk r IsWhole → IfOk r (λ c. (d : Cert) → IsWhole d → text ≡ spelling d → d ≡ c)
+alone text (Ok c) ok whole = λ d other is. spelling_same d c other whole (sym is ∙ ok)
+alone text (Err fault) ok whole = tt
+
+pub returns-clause-only : goal.returns-clause-only
+returns-clause-only c =
+    alone c.args.text.now c.read_lines.result (spelled c.args.text.now c.new.result.left c.read_lines.result (ap (λ (r : Reading). r.left) c.new.ensures) c.read_lines.ensures.took) c.read_lines.ensures.whole

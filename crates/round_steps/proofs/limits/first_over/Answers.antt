@@ -1,6 +1,5 @@
-use Rattle.std.proofs.Common.{◌≡◌, ◌<◌, ◌^◌, ℕ, ℤ, pos, get_or, unsigned_abs, to_z, of_z, ap, ◌∙◌, subst, sym}
+use Rattle.std.proofs.Common.{◌≡◌, ◌<◌, ℕ, ℤ, pos, get_or, unsigned_abs, to_z, of_z, ap, ◌∙◌, subst}
 use Rattle.std.specs.Int.{w64}
-use Rattle.round_steps.specs.Limits.{limit}
 use Rattle.round_steps.proofs.StepLaws.{word}
 use Rattle.round_steps.proofs.limits.first_over.Goals as goal
 

@@ -1,4 +1,4 @@
-use Rattle.std.proofs.Common.{◌≡◌, ◌<◌, length, List, ℤ, pos, get_or, to_z, of_z, arith, ◌∙◌}
+use Rattle.std.proofs.Common.{◌≡◌, length, List, ℤ, pos, get_or, to_z, of_z, arith, ◌∙◌}
 use Rattle.std.proofs.lemmas.Int.{ints}
 use Rattle.std.specs.Int.{w64}
 use Rattle.round_steps.proofs.PointLaws.{three_words, norm_of, plain}

@@ -1,5 +1,4 @@
-use Rattle.std.proofs.Common.{◌≡◌, ◌<◌, ◌-◌, false, nat_eq, ℕ, List, ℤ, arith, subst}
-use Rattle.obs_rows.specs.declared.arcs.Arc.{Arc}
+use Rattle.std.proofs.Common.{◌≡◌, ◌<◌, ◌-◌, false, nat_eq, ℕ, arith, subst}
 use Rattle.round_steps.specs.Steps.{IsStep, IsSettledForm, IsMoved}
 use Rattle.round_steps.specs.Runs.{Rules, IsSessionOf, coarse}
 use Rattle.round_steps.proofs.RunLaws.{session_at, some_left, coarse_settles, coarse_declines, coarse_moves}

@@ -1,4 +1,3 @@
-use Rattle.std.proofs.Common.{◌≡◌}
 use Rattle.round_steps.proofs.RunLaws.{CoarseSoFar}
 use Rattle.round_steps.proofs.runs.coarse_rounds.Given as goal
 

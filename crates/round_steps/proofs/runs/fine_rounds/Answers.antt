@@ -1,11 +1,11 @@
-use Rattle.std.proofs.Common.{◌≡◌, ◌<◌, ◌≤◌, ◌-◌, ◌+◌, ◌*◌, ◌^◌, false, nat_eq, ℕ, List, ℤ, arith, subst, sym}
+use Rattle.std.proofs.Common.{◌≡◌, ◌-◌, ◌+◌, ◌*◌, ◌^◌, false, nat_eq, ℕ, List, arith, subst, sym}
 use Rattle.obs_rows.specs.declared.arcs.Arc.{Arc}
 use Rattle.round_steps.specs.Shifts.{AreGrown, AreShiftsBelow}
 use Rattle.round_steps.specs.Steps.{IsStep, IsSettledForm, IsMoved}
 use Rattle.round_steps.specs.Runs.{Rules, IsSessionOf, IsSessionAt, fine}
 use Rattle.round_steps.proofs.StepLaws.{narrow_numbers}
 use Rattle.round_steps.proofs.ShiftLaws.{wider_shifts}
-use Rattle.round_steps.proofs.RunLaws.{session_at, some_left, fine_begins, fine_at_y, fine_decides, fine_declines, fine_moves}
+use Rattle.round_steps.proofs.RunLaws.{session_at, fine_begins, fine_at_y, fine_decides, fine_declines, fine_moves}
 use Rattle.round_steps.proofs.runs.fine_rounds.Goals as goal
 
 narrow_shifts : (left : ℕ) (arcs given : List Arc) → given ≡ arcs → AreShiftsBelow (2 ^ 39 + 2 ^ 30 * (5 - left)) arcs → AreShiftsBelow (2 ^ 40) given

@@ -1,4 +1,3 @@
-use Rattle.std.proofs.Common.{◌≡◌}
 use Rattle.round_steps.proofs.RunLaws.{FineSoFar}
 use Rattle.round_steps.proofs.runs.fine_rounds.Given as goal
 

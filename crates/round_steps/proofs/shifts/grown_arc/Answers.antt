@@ -1,4 +1,4 @@
-use Rattle.std.proofs.Common.{◌≡◌, ◌+ℤ◌, ◌+◌, ◌^◌, ◌<◌, ◌∷◌, [], ℕ, ℤ, pos, List, get_or, unsigned_abs, ap, ap₂, ◌∙◌, subst, sym, arith}
+use Rattle.std.proofs.Common.{◌+ℤ◌, ◌+◌, ◌^◌, ◌<◌, ◌∷◌, [], ℤ, pos, get_or, unsigned_abs, ap, ap₂, ◌∙◌, subst, sym, arith}
 use Rattle.obs_rows.specs.declared.arcs.Arc.{Arc}
 use Rattle.round_steps.specs.Shifts.{growth}
 use Rattle.round_steps.proofs.StepLaws.{word}

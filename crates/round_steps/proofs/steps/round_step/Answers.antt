@@ -1,8 +1,8 @@
-use Rattle.std.proofs.Common.{◌≡◌, List, ℤ, inl, inr, refl, sym, subst}
+use Rattle.std.proofs.Common.{inr, refl, sym, subst}
 use Rattle.std.proofs.lemmas.Bool.{false≢true}
 use Rattle.round_steps.specs.Points.{IsReceiverPoint}
 use Rattle.round_steps.specs.Limits.{IsFirstOver}
-use Rattle.round_steps.specs.Steps.{IsFloatOf, IsUnsettled}
+use Rattle.round_steps.specs.Steps.{IsFloatOf}
 use Rattle.round_steps.proofs.StepLaws.{entry_word, declined_fits, declined_best}
 use Rattle.round_steps.proofs.steps.round_step.Goals as goal
 

@@ -1,4 +1,4 @@
-use Rattle.std.proofs.Common.{◌≡◌, ◌+◌, ◌^◌, ◌++◌, ◌∷◌, [], ℕ, List, length, All, arith, sym, subst}
+use Rattle.std.proofs.Common.{◌≡◌, ◌^◌, ◌++◌, ◌∷◌, [], length, All, arith, sym, subst}
 use Rattle.std.proofs.lemmas.List.Elements.{All-push}
 use Rattle.obs_rows.specs.declared.arcs.Arc.{Arc}
 use Rattle.obs_rows.specs.Ranges.{IsBelow}
