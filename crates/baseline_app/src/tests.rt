@@ -469,14 +469,22 @@ fn run_arcs(
     option: &str,
 ) -> Result<Ran, AllocError> {
     let words = words_of(alloc, &["arcs", "B", option, "R", "N"])?;
-    let mut list = Vec::new(alloc);
-    for (name, text) in [("B", base), ("R", rover), ("N", nav)] {
-        list.push(Named {
-            name: String::from_str(alloc, name)?,
-            bytes: text.to_vec(alloc)?,
-            at: 0,
-        })?;
-    }
+    let base = Named {
+        name: String::from_str(alloc, "B")?,
+        bytes: base.to_vec(alloc)?,
+        at: 0,
+    };
+    let rover = Named {
+        name: String::from_str(alloc, "R")?,
+        bytes: rover.to_vec(alloc)?,
+        at: 0,
+    };
+    let nav = Named {
+        name: String::from_str(alloc, "N")?,
+        bytes: nav.to_vec(alloc)?,
+        at: 0,
+    };
+    let list = vec![in alloc; base, rover, nav]?;
     let mut files = MemFiles::new(list, Vec::new(alloc));
     let mut out = MemSink::new(alloc, 1000, 7, Vec::new(alloc))?;
     let mut err = MemSink::new(alloc, 1000, 7, Vec::new(alloc))?;
