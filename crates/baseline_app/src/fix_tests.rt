@@ -9,36 +9,44 @@ use std::alloc::{AllocError, Global};
 use std::process::Abort;
 use std::test::Fail;
 
+// A file of this name.
+fn named(alloc: Global, name: &str, text: &[u8]) -> Result<Named, AllocError> {
+    Ok(Named {
+        name: String::from_str(alloc, name)?,
+        bytes: text.to_vec(alloc)?,
+        at: 0,
+    })
+}
+
 // A run on these files, with room for so many bytes of out.
 fn run_on_files(
     alloc: Global,
     words: &[&str],
-    texts: &[(&str, &[u8])],
+    mut files: MemFiles,
     room: usize,
 ) -> Result<Ran, AllocError> {
     let words = words_of(alloc, words)?;
-    let mut list = Vec::new(alloc);
-    for (name, text) in texts {
-        list.push(Named {
-            name: String::from_str(alloc, *name)?,
-            bytes: text.to_vec(alloc)?,
-            at: 0,
-        })?;
-    }
-    let mut files = MemFiles::new(list, Vec::new(alloc));
     let mut out = MemSink::new(alloc, room, 4096, Vec::new(alloc))?;
     let mut err = MemSink::new(alloc, 1000, 7, Vec::new(alloc))?;
     let status = run(alloc, &words, &mut files, &mut out, &mut err);
     Ok(Ran { status, out, err })
 }
 
-fn run_fix(alloc: Global, made: &Made, option: &str) -> Result<Ran, AllocError> {
-    let texts = [
-        ("B", made.base.as_slice()),
-        ("R", made.rover.as_slice()),
-        ("N", made.nav.as_slice()),
-    ];
-    run_on_files(alloc, &["fix", "B", "R", option, "N"], &texts, 8_000_000)
+// A run of `fix` on three texts.
+fn run_fix(
+    alloc: Global,
+    base: &[u8],
+    made: &Made,
+    option: &str,
+    room: usize,
+) -> Result<Ran, AllocError> {
+    let list = vec![in alloc;
+        named(alloc, "B", base)?,
+        named(alloc, "R", &made.rover)?,
+        named(alloc, "N", &made.nav)?,
+    ]?;
+    let files = MemFiles::new(list, Vec::new(alloc));
+    run_on_files(alloc, &["fix", "B", "R", option, "N"], files, room)
 }
 
 // The three coordinates of the line of the baseline, in 0.1 mm.
@@ -58,7 +66,7 @@ fn baseline_in(text: &str) -> Option<[i64; 3]> {
 fn fixes_a_made_up_session(rt: HostRuntime) -> Result<(), Fail> {
     let alloc = rt.alloc();
     let made = make(alloc, 1, 60, 8)?;
-    let ran = run_fix(alloc, &made, "--")?;
+    let ran = run_fix(alloc, &made.base, &made, "--", 8_000_000)?;
     assert_eq!(rt; ran.status, Status::Done);
     let told = str::from_utf8(ran.err.bytes())?;
     assert!(rt; told.starts_with("pairs 60 of 60\narcs 8\nbaseline "));
@@ -69,7 +77,9 @@ fn fixes_a_made_up_session(rt: HostRuntime) -> Result<(), Fail> {
     for (number, offset) in found.iter().zip([-165_680i64, 943_607, -659_500]) {
         assert!(rt; number.abs_diff(offset * 10) <= 20, "at {offset}");
     }
-    let checked = run_on_files(alloc, &["check", "C"], &[("C", ran.out.bytes())], 1000)?;
+    let list = vec![in alloc; named(alloc, "C", ran.out.bytes())?]?;
+    let files = MemFiles::new(list, Vec::new(alloc));
+    let checked = run_on_files(alloc, &["check", "C"], files, 1000)?;
     expect_run(&rt, &checked, Status::Done, "certified\n", "");
     Ok(())
 }
@@ -78,10 +88,10 @@ fn fixes_a_made_up_session(rt: HostRuntime) -> Result<(), Fail> {
 fn declines(rt: HostRuntime) -> Result<(), Fail> {
     let alloc = rt.alloc();
     let made = make(alloc, 1, 60, 8)?;
-    let ran = run_fix(alloc, &made, "--count=2")?;
+    let ran = run_fix(alloc, &made.base, &made, "--count=2", 1000)?;
     let few = "pairs 2 of 60\narcs 0\nverdict declined\n";
     expect_run(&rt, &ran, Status::Declined, "declined few 2\n", few);
-    let ran = run_fix(alloc, &made, "--budget=1")?;
+    let ran = run_fix(alloc, &made.base, &made, "--budget=1", 8_000_000)?;
     assert_eq!(rt; ran.status, Status::Declined);
     assert!(rt; ran.out.bytes().ends_with(b"\ndeclined spent 1\n"));
     let told = b"pairs 60 of 60\narcs 8\nverdict declined\n";
@@ -93,21 +103,10 @@ fn declines(rt: HostRuntime) -> Result<(), Fail> {
 fn stops_before_a_fix(rt: HostRuntime) -> Result<(), Fail> {
     let alloc = rt.alloc();
     let made = make(alloc, 1, 8, 8)?;
-    let texts = [
-        ("B", b"".as_slice()),
-        ("R", made.rover.as_slice()),
-        ("N", made.nav.as_slice()),
-    ];
-    let words = ["fix", "B", "R", "N"];
-    let ran = run_on_files(alloc, &words, &texts, 1000)?;
+    let ran = run_fix(alloc, b"", &made, "--", 1000)?;
     let none = "refused: B line 1 column 1: version not 3.00 to 3.05\n";
     expect_run(&rt, &ran, Status::Refused, "", none);
-    let texts = [
-        ("B", made.base.as_slice()),
-        ("R", made.rover.as_slice()),
-        ("N", made.nav.as_slice()),
-    ];
-    let ran = run_on_files(alloc, &words, &texts, 7)?;
+    let ran = run_fix(alloc, &made.base, &made, "--", 7)?;
     expect_run(&rt, &ran, Status::WriteFault, "baselin", "write fault\n");
     Ok(())
 }
