@@ -71,12 +71,13 @@ fn fixes_a_made_up_session(rt: HostRuntime) -> Result<(), Fail> {
     let told = str::from_utf8(ran.err.bytes())?;
     assert!(rt; told.starts_with("pairs 60 of 60\narcs 8\nbaseline "));
     assert!(rt; told.ends_with("\nverdict fixed\n"));
-    let Some(found) = baseline_in(told) else {
+    let Some([x, y, z]) = baseline_in(told) else {
         panic!(&rt; "no baseline");
     };
-    for (number, offset) in found.iter().zip([-165_680i64, 943_607, -659_500]) {
-        assert!(rt; number.abs_diff(offset * 10) <= 20, "at {offset}");
-    }
+    // the generator's offset of this seed is (-165680, 943607, -659500) mm
+    assert!(rt; x.abs_diff(-1_656_800) <= 20);
+    assert!(rt; y.abs_diff(9_436_070) <= 20);
+    assert!(rt; z.abs_diff(-6_595_000) <= 20);
     let list = vec![in alloc; named(alloc, "C", ran.out.bytes())?]?;
     let files = MemFiles::new(list, Vec::new(alloc));
     let checked = run_on_files(alloc, &["check", "C"], files, 1000)?;
