@@ -50,7 +50,7 @@ fn run_fix(
 }
 
 // The three coordinates of the line of the baseline, in 0.1 mm.
-fn baseline_in(text: &str) -> Option<[i64; 3]> {
+fn baseline_in(text: &str) -> Option<(i64, i64, i64)> {
     let line = text.lines().nth(2)?;
     let mut words = line.split(' ');
     if words.next()? != "baseline" {
@@ -59,7 +59,7 @@ fn baseline_in(text: &str) -> Option<[i64; 3]> {
     let x = read_fixed(words.next()?.as_bytes(), 4).ok()?;
     let y = read_fixed(words.next()?.as_bytes(), 4).ok()?;
     let z = read_fixed(words.next()?.as_bytes(), 4).ok()?;
-    Some([x, y, z])
+    Some((x, y, z))
 }
 
 #[test]
@@ -71,7 +71,7 @@ fn fixes_a_made_up_session(rt: HostRuntime) -> Result<(), Fail> {
     let told = str::from_utf8(ran.err.bytes())?;
     assert!(rt; told.starts_with("pairs 60 of 60\narcs 8\nbaseline "));
     assert!(rt; told.ends_with("\nverdict fixed\n"));
-    let Some([x, y, z]) = baseline_in(told) else {
+    let Some((x, y, z)) = baseline_in(told) else {
         panic!(&rt; "no baseline");
     };
     // the generator's offset of this seed is (-165680, 943607, -659500) mm
