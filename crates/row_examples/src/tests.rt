@@ -1,0 +1,296 @@
+// The boxes of the rows hold the values of the independent model, whatever groups and shifts are chosen.
+ghost use Rattle.std.specs.Prelude.{◌≤◌, ◌^◌, unsigned_abs, IfOk};
+ghost use Rattle.signal_travel.specs.Boxes.{IsPoint};
+ghost use Rattle.slip_arcs.specs.Linked.{IsCutOf};
+
+use crate::expected::{Expected, ExpectedPair, ExpectedRow, HIGH, PLAIN};
+use crate::files::{Files, files_of, with_shifts};
+use obs_rows::{Arc, PairRows, Row, Session, are_arcs};
+use row_build::{pair_rows, rows_at, shift_at};
+use run_options::Options;
+use signal_travel::is_receiver_point;
+use std::alloc::Global;
+use std::process::Abort;
+use std::test::Fail;
+
+/// How many units of a fine row are one κ.
+const FINE: i128 = 262_144;
+
+// Seed 1, with the options that a run has by itself.
+fn plain(rt: &impl Abort, alloc: Global) -> Result<Files, Fail>
+    ensures { IfOk result (λ f. IsCutOf f.screened.used f.kept) }
+{
+    files_of(rt, alloc, 1, 6, 4, &Options::defaults())
+}
+
+// Seed 77, with a higher mask and shorter arcs.
+fn high(rt: &impl Abort, alloc: Global) -> Result<Files, Fail>
+    ensures { IfOk result (λ f. IsCutOf f.screened.used f.kept) }
+{
+    let mut options = Options::defaults();
+    options.mask = 500;
+    options.arc = 2;
+    files_of(rt, alloc, 77, 3, 6, &options)
+}
+
+fn arcs_agree(rt: &impl Abort, files: &Files, want: &Expected) {
+    assert_eq!(rt; files.base, want.base);
+    assert_eq!(rt; files.screened.used.len(), want.taken);
+    assert_eq!(rt; files.short, 0);
+    let kept = files.kept.as_slice();
+    assert_eq!(rt; kept.len(), want.arcs.len());
+    for (arc, (sat, first, last, datum)) in kept.iter().zip(want.arcs) {
+        assert_eq!(rt;
+            (arc.sat, arc.first, arc.last, arc.datum),
+            (sat, first, last, datum)
+        );
+        assert_eq!(rt; arc.shift, [0, 0]);
+    }
+}
+
+// Whether the box around y holds the value, once what was taken off is back.
+fn is_held(y: i64, ry: i64, taken_off: i128, exact: i64) -> bool
+    requires { unsigned_abs taken_off ≤ 2 ^ 100 }
+{
+    let apart = y as i128 + taken_off - exact as i128;
+    apart.unsigned_abs() <= ry.unsigned_abs() as u128
+}
+
+fn is_direction(row: &Row, direction: [i64; 3]) -> bool {
+    row.u.iter().zip(row.ru).zip(direction).all(|((u, ru), want)| ru <= 32
+        && u.abs_diff(want) <= ru.unsigned_abs())
+}
+
+fn is_fine_row(row: &Row, group: i64, shift: [i64; 2], want: ExpectedRow) -> bool {
+    let (arc, exact, _coarse, direction) = want;
+    let group = group as i128;
+    let l1 = (group + 60 * (shift[0] as i128)) * FINE;
+    let l2 = (group + 77 * (shift[1] as i128)) * FINE;
+    row.arc == arc
+        && row.ry <= 2048
+        && is_held(row.y[0], row.ry, l1, exact[0])
+        && is_held(row.y[1], row.ry, l2, exact[1])
+        && is_held(row.y[2], row.ry, group * FINE, exact[2])
+        && is_held(row.y[3], row.ry, group * FINE, exact[3])
+        && is_direction(row, direction)
+}
+
+fn is_coarse_row(row: &Row, group: i64, want: ExpectedRow) -> bool {
+    let (arc, _exact, coarse, direction) = want;
+    let [l1, l2, code, other] = row.y;
+    row.arc == arc
+        && row.ry <= 2
+        && [l1, l2, other] == [0, 0, 0]
+        && is_held(code, row.ry, group as i128 * 16, coarse)
+        && is_direction(row, direction)
+}
+
+// Whether the box of the code on L1 meets -1 to 1 κ, which is so many units.
+fn is_near(row: &Row, unit: u64) -> bool {
+    row.y[2].unsigned_abs() <= unit.saturating_add(row.ry.unsigned_abs())
+}
+
+// Whether the box around a phase meets -λ to λ with this shift.
+fn is_within_cycle(exact: i64, ry: i64, taken_off: i128, wavelength: i64) -> bool
+    requires { unsigned_abs taken_off ≤ 2 ^ 100 }
+{
+    let left = exact as i128 - taken_off;
+    left.unsigned_abs() <= (wavelength as i128 * FINE + ry as i128).unsigned_abs()
+}
+
+fn are_shifts(shift: [i64; 2], ry: i64, group: i64, exact: [i64; 4]) -> bool {
+    let group = group as i128;
+    let l1 = (group + 60 * (shift[0] as i128)) * FINE;
+    let l2 = (group + 77 * (shift[1] as i128)) * FINE;
+    shift.iter().all(|n| n.unsigned_abs() < 549_755_813_888)
+        && is_within_cycle(exact[0], ry, l1, 60)
+        && is_within_cycle(exact[1], ry, l2, 77)
+}
+
+fn fine_pair_agrees(rt: &impl Abort, pair: &PairRows, arcs: &[Arc], want: &ExpectedPair) {
+    let (number, tag, rows) = *want;
+    assert_eq!(rt; (pair.number as usize, pair.tag.0), (number, tag));
+    assert_eq!(rt; pair.rows.len(), rows.len());
+    let found = pair.rows.as_slice();
+    assert!(rt; is_near(&found[0], 262_144), "the group of pair {number}");
+    for (row, want) in found.iter().zip(rows) {
+        let arc = row.arc as usize;
+        assert!(rt; arc < arcs.len());
+        assert!(rt;
+            is_fine_row(row, pair.group, arcs[arc].shift, want),
+            "row {arc} of pair {number}"
+        );
+    }
+}
+
+fn coarse_pair_agrees(rt: &impl Abort, pair: &PairRows, want: &ExpectedPair) {
+    let (number, tag, rows) = *want;
+    assert_eq!(rt; (pair.number as usize, pair.tag.0), (number, tag));
+    assert_eq!(rt; pair.rows.len(), rows.len());
+    let found = pair.rows.as_slice();
+    assert!(rt; is_near(&found[0], 16), "the group of pair {number}");
+    for (row, want) in found.iter().zip(rows) {
+        let arc = row.arc;
+        assert!(rt;
+            is_coarse_row(row, pair.group, want),
+            "row {arc} of pair {number}"
+        );
+    }
+}
+
+// The shifts of every arc in that pair.
+fn shifts_agree(
+    rt: &impl Abort,
+    files: &Files,
+    pair: &PairRows,
+    point: &[i64; 3],
+    want: &ExpectedPair,
+)
+    requires cut { IsCutOf files.now.screened.used files.now.kept }
+    requires point { IsPoint point.now }
+{
+    let (number, _tag, rows) = *want;
+    assert!(rt; number < files.screened.used.len());
+    let kept = files.kept.as_slice();
+    for (arc, exact, _coarse, _direction) in rows {
+        assert!(rt; (arc as usize) < kept.len());
+        let found = shift_at(
+            &files.screened,
+            kept,
+            arc,
+            number as u32,
+            &files.base,
+            point,
+            files.signals,
+        );
+        let shift = found.expect(rt, "the arc doesn't hold the pair");
+        assert!(rt;
+            are_shifts(shift, 2048, pair.group, exact),
+            "arc {arc} in pair {number}"
+        );
+    }
+}
+
+fn is_same_pair(one: &PairRows, other: &PairRows) -> bool {
+    (one.number, one.tag, one.group) == (other.number, other.tag, other.group)
+        && one.rows.as_slice() == other.rows.as_slice()
+}
+
+// The session's pair is that of `pair_rows`.
+fn alone_agrees(
+    rt: &impl Abort,
+    alloc: Global,
+    files: &Files,
+    session: &Session,
+    number: usize,
+) -> Result<(), Fail>
+    requires cut { IsCutOf files.now.screened.used session.now.arcs }
+    requires base { IsPoint session.now.base }
+    requires point { IsPoint session.now.point }
+{
+    assert!(rt; number < session.pairs.len() && number < files.screened.used.len());
+    let alone = pair_rows(
+        alloc,
+        &files.screened,
+        session.arcs.as_slice(),
+        number as u32,
+        &session.base,
+        &session.point,
+        session.signals,
+        session.scale,
+    )?;
+    let alone = alone.expect(rt, "no arc holds the pair");
+    assert!(rt; is_same_pair(&alone, &session.pairs.as_slice()[number]));
+    Ok(())
+}
+
+fn copy_agrees(rt: &impl Abort, alloc: Global, session: &Session) -> Result<(), Fail> {
+    let copied = session.copy(alloc)?;
+    assert_eq!(rt; copied.scale, session.scale);
+    assert_eq!(rt; (copied.base, copied.point), (session.base, session.point));
+    assert!(rt; copied.arcs.as_slice() == session.arcs.as_slice());
+    assert_eq!(rt; copied.pairs.len(), session.pairs.len());
+    for (one, other) in copied.pairs.as_slice().iter().zip(session.pairs.as_slice()) {
+        assert!(rt; is_same_pair(one, other));
+    }
+    Ok(())
+}
+
+fn fine_rows_agree(
+    rt: &impl Abort,
+    alloc: Global,
+    files: &Files,
+    want: &Expected,
+) -> Result<(), Fail>
+    requires cut { IsCutOf files.now.screened.used files.now.kept }
+{
+    let point = want.point;
+    assert!(rt; is_receiver_point(&point));
+    let arcs = with_shifts(alloc, files, &point)?;
+    assert!(rt; are_arcs(&arcs));
+    let session = rows_at(
+        alloc,
+        &files.screened,
+        &arcs,
+        &files.base,
+        &point,
+        files.signals,
+        0,
+    )?;
+    assert_eq!(rt; session.pairs.len(), want.taken);
+    for pair in &want.pairs {
+        let number = pair.0;
+        assert!(rt; number < session.pairs.len());
+        let found = &session.pairs.as_slice()[number];
+        fine_pair_agrees(rt, found, &arcs, pair);
+        shifts_agree(rt, files, found, &point, pair);
+        alone_agrees(rt, alloc, files, &session, number)?;
+    }
+    copy_agrees(rt, alloc, &session)
+}
+
+fn coarse_rows_agree(
+    rt: &impl Abort,
+    alloc: Global,
+    files: &Files,
+    want: &Expected,
+) -> Result<(), Fail>
+    requires cut { IsCutOf files.now.screened.used files.now.kept }
+{
+    let point = want.point;
+    assert!(rt; is_receiver_point(&point));
+    let arcs = files.kept.as_slice();
+    let session = rows_at(
+        alloc,
+        &files.screened,
+        arcs,
+        &files.base,
+        &point,
+        files.signals,
+        14,
+    )?;
+    assert_eq!(rt; session.pairs.len(), want.taken);
+    for pair in &want.pairs {
+        let number = pair.0;
+        assert!(rt; number < session.pairs.len());
+        coarse_pair_agrees(rt, &session.pairs.as_slice()[number], pair);
+        alone_agrees(rt, alloc, files, &session, number)?;
+    }
+    copy_agrees(rt, alloc, &session)
+}
+
+#[test]
+fn rows_where_the_rover_stands(rt: HostRuntime) -> Result<(), Fail> {
+    let files = plain(&rt, rt.alloc())?;
+    arcs_agree(&rt, &files, &PLAIN);
+    fine_rows_agree(&rt, rt.alloc(), &files, &PLAIN)?;
+    coarse_rows_agree(&rt, rt.alloc(), &files, &PLAIN)
+}
+
+#[test]
+fn rows_beside_the_rover(rt: HostRuntime) -> Result<(), Fail> {
+    let files = high(&rt, rt.alloc())?;
+    arcs_agree(&rt, &files, &HIGH);
+    fine_rows_agree(&rt, rt.alloc(), &files, &HIGH)?;
+    coarse_rows_agree(&rt, rt.alloc(), &files, &HIGH)
+}
