@@ -16,6 +16,7 @@ use Rattle.orbit_job.proofs.OrbitSays.{orbit_status, orbit_verdict}
 use Rattle.sim_job.proofs.SimSays.{sim_status, sim_verdict}
 use Rattle.cert_jobs.proofs.CertSays.{check_status, check_verdict, residuals_status, residuals_verdict}
 use Rattle.arcs_job.proofs.ArcSays.{arcs_status, arcs_verdict}
+use Rattle.fix_job.proofs.FixSays.{fix_status, fix_verdict}
 use Rattle.baseline_app.specs.Jobs.{JobEnds, IsReadable, IsAnswer}
 use Rattle.baseline_app.specs.Runs.{IsRun, IsComplete}
 
@@ -26,6 +27,7 @@ readable_ends (job.List obs) told end = list_verdict told obs end
 readable_ends (job.Orbit nav sat tick) told end = orbit_verdict told nav sat tick.0 end
 readable_ends (job.Check cert) told end = check_verdict told cert end
 readable_ends (job.Residuals cert) told end = residuals_verdict told cert end
+readable_ends (job.Fix base rover nav options) told end = fix_verdict told base rover nav options end
 readable_ends (job.Arcs base rover nav options) told end = arcs_verdict told base rover nav options end
 readable_ends (job.Sim part seed epochs sats) told end = λ readable no_fault ends. sim_verdict part seed epochs sats end ends
 
@@ -35,6 +37,7 @@ job_status (job.List obs) told end = list_status told obs end
 job_status (job.Orbit nav sat tick) told end = orbit_status told nav sat tick.0 end
 job_status (job.Check cert) told end = check_status told cert end
 job_status (job.Residuals cert) told end = residuals_status told cert end
+job_status (job.Fix base rover nav options) told end = fix_status told base rover nav options end
 job_status (job.Arcs base rover nav options) told end = arcs_status told base rover nav options end
 job_status (job.Sim part seed epochs sats) told end = sim_status part seed epochs sats end
 

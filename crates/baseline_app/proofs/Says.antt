@@ -25,6 +25,8 @@ use Rattle.cert_jobs.proofs.CertSays.{check_says, residuals_says}
 use Rattle.run_options.specs.declared.options.Options.{Options}
 use Rattle.arcs_job.specs.ArcRuns.{SaysOfArcs}
 use Rattle.arcs_job.proofs.ArcSays.{arcs_says}
+use Rattle.fix_job.specs.FixRuns.{SaysOfFix}
+use Rattle.fix_job.proofs.FixSays.{fix_says}
 use Rattle.baseline_app.specs.Jobs.{JobEnds}
 use Rattle.baseline_app.specs.Runs.{IsRun}
 
@@ -90,3 +92,7 @@ run_says_residuals words told cert result out err run asked =
 pub run_says_arcs : (words : List (List ℕ)) (told : List ℕ → Option (List ℕ)) (base rover nav : List ℕ) (options : Options) (result : Status) (out err : SinkChange) → IsRun words told result out err → IsJob words (job.Arcs base rover nav options) → SaysOfArcs told base rover nav options result out
 run_says_arcs words told base rover nav options result out err run asked =
     run_says words told (job.Arcs base rover nav options) result out err (λ s. SaysOfArcs told base rover nav options s out) (record { usage = tt; refused = tt; read = tt; write = tt; memory = tt }) (λ end ends written. arcs_says told base rover nav options end out ends written) run asked
+
+pub run_says_fix : (words : List (List ℕ)) (told : List ℕ → Option (List ℕ)) (base rover nav : List ℕ) (options : Options) (result : Status) (out err : SinkChange) → IsRun words told result out err → IsJob words (job.Fix base rover nav options) → SaysOfFix told base rover nav options result out
+run_says_fix words told base rover nav options result out err run asked =
+    run_says words told (job.Fix base rover nav options) result out err (λ s. SaysOfFix told base rover nav options s out) (record { usage = tt; refused = tt; read = tt; write = tt; memory = tt }) (λ end ends written. fix_says told base rover nav options end out ends written) run asked

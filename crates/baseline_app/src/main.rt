@@ -11,6 +11,8 @@
 #![tactic(auto)]
 
 #[cfg(test)]
+mod fix_tests;
+#[cfg(test)]
 mod tests;
 mod top;
 

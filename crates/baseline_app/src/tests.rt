@@ -10,10 +10,10 @@ use std::test::Fail;
 const USAGE: &str = "usage: baseline fix|check|residuals|zero|list|orbit|arcs|sim WORDS\n";
 
 #[derive(Drop)]
-struct Ran {
-    status: Status,
-    out: MemSink,
-    err: MemSink,
+pub(crate) struct Ran {
+    pub(crate) status: Status,
+    pub(crate) out: MemSink,
+    pub(crate) err: MemSink,
 }
 
 // The calls that are to fail: of the files, of out, of err.
@@ -34,7 +34,7 @@ impl Fails {
     }
 }
 
-fn words_of(alloc: Global, words: &[&str]) -> Result<Vec<String>, AllocError> {
+pub(crate) fn words_of(alloc: Global, words: &[&str]) -> Result<Vec<String>, AllocError> {
     let mut list = Vec::new(alloc);
     for word in words {
         list.push(String::from_str(alloc, *word)?)?;
@@ -74,7 +74,7 @@ fn run_on(
     Ok(Ran { status, out, err })
 }
 
-fn expect_run(rt: &impl Abort, ran: &Ran, status: Status, out: &str, err: &str) {
+pub(crate) fn expect_run(rt: &impl Abort, ran: &Ran, status: Status, out: &str, err: &str) {
     assert_eq!(rt; ran.out.bytes(), out.as_bytes(), "at {out}{err}");
     assert_eq!(rt; ran.err.bytes(), err.as_bytes(), "at {out}{err}");
     assert_eq!(rt; ran.status, status, "at {out}{err}");
@@ -469,14 +469,22 @@ fn run_arcs(
     option: &str,
 ) -> Result<Ran, AllocError> {
     let words = words_of(alloc, &["arcs", "B", option, "R", "N"])?;
-    let mut list = Vec::new(alloc);
-    for (name, text) in [("B", base), ("R", rover), ("N", nav)] {
-        list.push(Named {
-            name: String::from_str(alloc, name)?,
-            bytes: text.to_vec(alloc)?,
-            at: 0,
-        })?;
-    }
+    let base = Named {
+        name: String::from_str(alloc, "B")?,
+        bytes: base.to_vec(alloc)?,
+        at: 0,
+    };
+    let rover = Named {
+        name: String::from_str(alloc, "R")?,
+        bytes: rover.to_vec(alloc)?,
+        at: 0,
+    };
+    let nav = Named {
+        name: String::from_str(alloc, "N")?,
+        bytes: nav.to_vec(alloc)?,
+        at: 0,
+    };
+    let list = vec![in alloc; base, rover, nav]?;
     let mut files = MemFiles::new(list, Vec::new(alloc));
     let mut out = MemSink::new(alloc, 1000, 7, Vec::new(alloc))?;
     let mut err = MemSink::new(alloc, 1000, 7, Vec::new(alloc))?;

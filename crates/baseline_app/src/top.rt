@@ -15,12 +15,15 @@ ghost use Rattle.run_options.specs.declared.options.Options.{Options};
 ghost use Rattle.cert_jobs.specs.CertRuns.{SaysOfCheck, SaysOfResiduals};
 ghost use Rattle.arcs_job.specs.ArcJobs.{ArcsEnds};
 ghost use Rattle.arcs_job.specs.ArcRuns.{SaysOfArcs};
+ghost use Rattle.fix_job.specs.FixJobs.{FixEnds};
+ghost use Rattle.fix_job.specs.FixRuns.{SaysOfFix};
 ghost use Rattle.baseline_app.specs.Jobs.{JobEnds, IsReadable, IsAnswer};
 ghost use Rattle.baseline_app.specs.Runs.{IsRun, IsComplete};
 
 use arcs_job::arcs;
 use cert_jobs::{check_file, residuals};
 use command_words::{Job, Word, WordFault, read_words};
+use fix_job::fix;
 use job_answers::{Answer, Status, Stop, deliver};
 use line_source::{Files, Sink};
 use list_job::list;
@@ -31,6 +34,29 @@ use std::alloc::{AllocError, Global};
 use zero_job::zero;
 
 const USAGE: &str = "usage: baseline fix|check|residuals|zero|list|orbit|arcs|sim WORDS\n";
+
+// The command `fix` by its words.
+fn fix_by_words<F: Files>(
+    alloc: Global,
+    files: &mut F,
+    base: &Word,
+    rover: &Word,
+    nav: &Word,
+    options: &Options,
+) -> Result<Answer, Stop>
+    ensures ends { IfEnded result (λ end. FixEnds (F.text_of files.old) base.now rover.now nav.now options.now end) }
+    ensures fault { IfEnded result (λ end. end.status ≡ Status.ReadFault → Rose (F.faults files.old) (F.faults files.new)) }
+    ensures sure { All (F.is_sure_name files.old) (base.now ∷ rover.now ∷ nav.now ∷ []) → IfEnded result (λ end. end.status ≢ Status.ReadFault) }
+{
+    fix(
+        alloc,
+        files,
+        base.as_str(),
+        rover.as_str(),
+        nav.as_str(),
+        options,
+    )
+}
 
 // The command `arcs` by its words.
 fn arcs_by_words<F: Files>(
@@ -68,6 +94,12 @@ fn do_job<F: Files>(alloc: Global, job: &Job, files: &mut F) -> Result<Answer, S
         Job::Orbit { nav, sat, tick } => orbit(alloc, files, nav.as_str(), *sat, *tick),
         Job::Check { cert } => check_file(alloc, files, cert.as_str()),
         Job::Residuals { cert } => residuals(alloc, files, cert.as_str()),
+        Job::Fix {
+            base,
+            rover,
+            nav,
+            options,
+        } => fix_by_words(alloc, files, base, rover, nav, options),
         Job::Arcs {
             base,
             rover,
@@ -136,6 +168,9 @@ pub fn run<F: Files, O: Sink, E: Sink>(
         (sink_change (O.contents out.old) (O.contents out.new) (O.faults out.old) (O.faults out.new)) }
     ensures arcs { (base rover nav : List ℕ) (options : Options) → IsJob (texts_of words.now) (Job.Arcs base rover nav options)
         → SaysOfArcs (F.text_of files.old) base rover nav options result
+        (sink_change (O.contents out.old) (O.contents out.new) (O.faults out.old) (O.faults out.new)) }
+    ensures fix { (base rover nav : List ℕ) (options : Options) → IsJob (texts_of words.now) (Job.Fix base rover nav options)
+        → SaysOfFix (F.text_of files.old) base rover nav options result
         (sink_change (O.contents out.old) (O.contents out.new) (O.faults out.old) (O.faults out.new)) }
     ensures usage { result ≡ Status.Usage → (job : Job) → IsJob (texts_of words.now) job → ⊥ }
     ensures complete { (job : Job) → IsJob (texts_of words.now) job → IsReadable job (F.text_of files.old)

@@ -10,7 +10,7 @@ use Rattle.command_words.specs.declared.jobs.Job.{Job}
 use Rattle.command_words.specs.declared.jobs.Job.TheVariants as job
 use Rattle.command_words.specs.Numbers.{IsNumber, IsSatellite}
 use Rattle.command_words.specs.Parts.{AreParted}
-use Rattle.command_words.specs.Words.{name_of_part, sim_with, IsPlainJob, IsOrbitJob, IsSim, IsSimJob, IsArcsJob, IsJobOf, IsJob, IsInRange}
+use Rattle.command_words.specs.Words.{name_of_part, sim_with, IsPlainJob, IsOrbitJob, IsSim, IsSimJob, IsFixJob, IsArcsJob, IsJobOf, IsJob, IsInRange}
 use Rattle.run_options.specs.declared.options.Options.{Options}
 use Rattle.run_options.specs.Defaults.{numbers_of}
 use Rattle.run_options.proofs.OneOptions.{one_options}
@@ -98,6 +98,15 @@ one_arcs base rover nav base' rover' nav' o p c w g first second =
     let same : o ≡ p = one_of_options g o p first.options.options second.options.options in
     cc (same_base, same_rover, same_nav, same)
 
+one_fix : (base rover nav base' rover' nav' : List ℕ) (o p : Options) (c : List ℕ) (w : List (List ℕ)) (g : List Given) → IsFixJob base rover nav o c w g → IsFixJob base' rover' nav' p c w g → job.Fix base rover nav o ≡ job.Fix base' rover' nav' p
+one_fix base rover nav base' rover' nav' o p c w g first second =
+    let words = sym first.plain_are ∙ second.plain_are in
+    let same_base : base ≡ base' = ap (λ (ws : List (List ℕ)). get_or ws 0 []) words in
+    let same_rover : rover ≡ rover' = ap (λ (ws : List (List ℕ)). get_or ws 1 []) words in
+    let same_nav : nav ≡ nav' = ap (λ (ws : List (List ℕ)). get_or ws 2 []) words in
+    let same : o ≡ p = one_of_options g o p first.options second.options in
+    cc (same_base, same_rover, same_nav, same)
+
 one_of : (c : List ℕ) (p : List (List ℕ)) (g : List Given) (a b : Job) → IsJobOf c p g a → IsJobOf c p g b → a ≡ b
 one_of c p g (job.Zero rows) (job.Zero rows') first second = ap (λ (r : List ℕ). job.Zero r) (one_file (codes "zero") rows rows' c p g first second)
 one_of c p g (job.List obs) (job.List obs') first second = ap (λ (r : List ℕ). job.List r) (one_file (codes "list") obs obs' c p g first second)
@@ -148,6 +157,21 @@ one_of c p g (job.Sim part seed epochs sats) (job.Orbit nav' sat' tick') first s
 one_of c p g (job.Sim part seed epochs sats) (job.Check cert') first second = absurd (omega (arith, other_letter 115 99 c _ _ first.asked.command_is second.command_is refl refl))
 one_of c p g (job.Sim part seed epochs sats) (job.Residuals cert') first second = absurd (omega (arith, other_letter 115 114 c _ _ first.asked.command_is second.command_is refl refl))
 one_of c p g (job.Sim part seed epochs sats) (job.Arcs base' rover' nav' options') first second = absurd (omega (arith, other_letter 115 97 c _ _ first.asked.command_is second.command_is refl refl))
+one_of c p g (job.Fix base rover nav options) (job.Fix base' rover' nav' options') first second = one_fix base rover nav base' rover' nav' options options' c p g first second
+one_of c p g (job.Fix base rover nav options) (job.Zero rows') first second = absurd (omega (arith, other_letter 102 122 c _ _ first.command_is second.command_is refl refl))
+one_of c p g (job.Zero rows) (job.Fix base' rover' nav' options') first second = absurd (omega (arith, other_letter 122 102 c _ _ first.command_is second.command_is refl refl))
+one_of c p g (job.Fix base rover nav options) (job.List obs') first second = absurd (omega (arith, other_letter 102 108 c _ _ first.command_is second.command_is refl refl))
+one_of c p g (job.List obs) (job.Fix base' rover' nav' options') first second = absurd (omega (arith, other_letter 108 102 c _ _ first.command_is second.command_is refl refl))
+one_of c p g (job.Fix base rover nav options) (job.Orbit nav' sat' tick') first second = absurd (omega (arith, other_letter 102 111 c _ _ first.command_is second.asked.command_is refl refl))
+one_of c p g (job.Orbit nav sat tick) (job.Fix base' rover' nav' options') first second = absurd (omega (arith, other_letter 111 102 c _ _ first.asked.command_is second.command_is refl refl))
+one_of c p g (job.Fix base rover nav options) (job.Check cert') first second = absurd (omega (arith, other_letter 102 99 c _ _ first.command_is second.command_is refl refl))
+one_of c p g (job.Check cert) (job.Fix base' rover' nav' options') first second = absurd (omega (arith, other_letter 99 102 c _ _ first.command_is second.command_is refl refl))
+one_of c p g (job.Fix base rover nav options) (job.Residuals cert') first second = absurd (omega (arith, other_letter 102 114 c _ _ first.command_is second.command_is refl refl))
+one_of c p g (job.Residuals cert) (job.Fix base' rover' nav' options') first second = absurd (omega (arith, other_letter 114 102 c _ _ first.command_is second.command_is refl refl))
+one_of c p g (job.Fix base rover nav options) (job.Arcs base' rover' nav' options') first second = absurd (omega (arith, other_letter 102 97 c _ _ first.command_is second.command_is refl refl))
+one_of c p g (job.Arcs base rover nav options) (job.Fix base' rover' nav' options') first second = absurd (omega (arith, other_letter 97 102 c _ _ first.command_is second.command_is refl refl))
+one_of c p g (job.Fix base rover nav options) (job.Sim part' seed' epochs' sats') first second = absurd (omega (arith, other_letter 102 115 c _ _ first.command_is second.asked.command_is refl refl))
+one_of c p g (job.Sim part seed epochs sats) (job.Fix base' rover' nav' options') first second = absurd (omega (arith, other_letter 115 102 c _ _ first.asked.command_is second.command_is refl refl))
 
 -- the command and the words behind it are one
 pub same_behind : (words : List (List ℕ)) (a b : Job) (first : IsJob words a) (second : IsJob words b) → second.behind ≡ first.behind
@@ -186,15 +210,16 @@ other_count name a b c d command asked =
     let same : 3 ≡ 1 = ap (λ (ws : List (List ℕ)). length ws) asked.plain_are in absurd (omega (arith, same))
 
 -- no job of `orbit` without a satellite
-pub no_satellite : (command nav sat tick : List ℕ) → (command ≡ codes "arcs" → ⊥) → ((n : ℕ) → IsSatellite sat n → ⊥) → (job : Job) → IsJobOf command (nav ∷ sat ∷ tick ∷ []) [] job → ⊥
-no_satellite command nav sat tick no_arcs none (job.Zero rows) asked = other_count (codes "zero") rows nav sat tick command asked
-no_satellite command nav sat tick no_arcs none (job.List obs) asked = other_count (codes "list") obs nav sat tick command asked
-no_satellite command nav sat tick no_arcs none (job.Check cert) asked = other_count (codes "check") cert nav sat tick command asked
-no_satellite command nav sat tick no_arcs none (job.Residuals cert) asked = other_count (codes "residuals") cert nav sat tick command asked
-no_satellite command nav sat tick no_arcs none (job.Arcs base rover nav' options) asked = no_arcs asked.command_is
-no_satellite command nav sat tick no_arcs none (job.Sim part seed epochs sats) asked =
+pub no_satellite : (command nav sat tick : List ℕ) → (command ≡ codes "arcs" → ⊥) → (command ≡ codes "fix" → ⊥) → ((n : ℕ) → IsSatellite sat n → ⊥) → (job : Job) → IsJobOf command (nav ∷ sat ∷ tick ∷ []) [] job → ⊥
+no_satellite command nav sat tick no_arcs no_fix none (job.Zero rows) asked = other_count (codes "zero") rows nav sat tick command asked
+no_satellite command nav sat tick no_arcs no_fix none (job.List obs) asked = other_count (codes "list") obs nav sat tick command asked
+no_satellite command nav sat tick no_arcs no_fix none (job.Check cert) asked = other_count (codes "check") cert nav sat tick command asked
+no_satellite command nav sat tick no_arcs no_fix none (job.Residuals cert) asked = other_count (codes "residuals") cert nav sat tick command asked
+no_satellite command nav sat tick no_arcs no_fix none (job.Arcs base rover nav' options) asked = no_arcs asked.command_is
+no_satellite command nav sat tick no_arcs no_fix none (job.Fix base rover nav' options) asked = no_fix asked.command_is
+no_satellite command nav sat tick no_arcs no_fix none (job.Sim part seed epochs sats) asked =
     let same : 3 ≡ 4 = ap (λ (ws : List (List ℕ)). length ws) asked.asked.plain_are in absurd (omega (arith, same))
-no_satellite command nav sat tick no_arcs none (job.Orbit nav' number tick') asked =
+no_satellite command nav sat tick no_arcs no_fix none (job.Orbit nav' number tick') asked =
     let same : asked.sat_word ≡ sat = ap (λ (ws : List (List ℕ)). get_or ws 1 []) (sym asked.asked.plain_are) in none number (subst (λ (w : List ℕ). IsSatellite w number) same asked.satellite)
 
 pub err_along : {A B E : Type 0} (e f : E) → IsErrOf {T = A} {E = E} (Err e) f → IsErrOf {T = B} {E = E} (Err e) f
@@ -206,6 +231,7 @@ no_sim command part seed epochs sats none (job.Zero rows) is asked = absurd (ome
 no_sim command part seed epochs sats none (job.List obs) is asked = absurd (omega (arith, other_letter 115 108 command _ _ is asked.command_is refl refl))
 no_sim command part seed epochs sats none (job.Check cert) is asked = absurd (omega (arith, other_letter 115 99 command _ _ is asked.command_is refl refl))
 no_sim command part seed epochs sats none (job.Residuals cert) is asked = absurd (omega (arith, other_letter 115 114 command _ _ is asked.command_is refl refl))
+no_sim command part seed epochs sats none (job.Fix base rover nav options) is asked = absurd (omega (arith, other_letter 115 102 command _ _ is asked.command_is refl refl))
 no_sim command part seed epochs sats none (job.Arcs base rover nav options) is asked = absurd (omega (arith, other_letter 115 97 command _ _ is asked.command_is refl refl))
 no_sim command part seed epochs sats none (job.Orbit nav sat tick) is asked = absurd (omega (arith, other_letter 115 111 command _ _ is asked.asked.command_is refl refl))
 no_sim command part seed epochs sats none (job.Sim part' seed' epochs' sats') is asked =
@@ -227,6 +253,7 @@ asked_range c p g (job.List obs) asked = tt
 asked_range c p g (job.Orbit nav sat tick) asked = tt
 asked_range c p g (job.Check cert) asked = tt
 asked_range c p g (job.Residuals cert) asked = tt
+asked_range c p g (job.Fix base rover nav options) asked = tt
 asked_range c p g (job.Arcs base rover nav options) asked = tt
 asked_range c p g (job.Sim part seed epochs sats) asked = (asked.is.epochs.to, asked.is.sats.to)
 
@@ -240,5 +267,6 @@ no_arcs_job plain given none (job.List obs) asked = absurd (omega (arith, other_
 no_arcs_job plain given none (job.Orbit nav sat tick) asked = absurd (omega (arith, other_letter 97 111 (codes "arcs") _ _ refl asked.asked.command_is refl refl))
 no_arcs_job plain given none (job.Check cert) asked = absurd (omega (arith, other_letter 97 99 (codes "arcs") _ _ refl asked.command_is refl refl))
 no_arcs_job plain given none (job.Residuals cert) asked = absurd (omega (arith, other_letter 97 114 (codes "arcs") _ _ refl asked.command_is refl refl))
+no_arcs_job plain given none (job.Fix base rover nav options) asked = absurd (omega (arith, other_letter 97 102 (codes "arcs") _ _ refl asked.command_is refl refl))
 no_arcs_job plain given none (job.Arcs base rover nav options) asked = none base rover nav options asked.plain_are asked.options
 no_arcs_job plain given none (job.Sim part seed epochs sats) asked = absurd (omega (arith, other_letter 97 115 (codes "arcs") _ _ refl asked.asked.command_is refl refl))

@@ -10,7 +10,7 @@ use Rattle.command_words.specs.declared.jobs.Job.TheVariants as job
 use Rattle.command_words.specs.Numbers.{IsNumber, IsNumberIn, IsSatellite}
 use Rattle.command_words.specs.Parts.{AreParted}
 use Rattle.run_options.specs.declared.options.Options.{Options}
-use Rattle.command_words.specs.Settings.{ArePairOptions}
+use Rattle.command_words.specs.Settings.{AreOptions, ArePairOptions}
 
 abbrev pub texts_of : List (String Global) → List (List ℕ)
 texts_of words = map (λ w. string_bytes w) words
@@ -53,6 +53,12 @@ pub record IsSimJob (s : Sim) (command : List ℕ) (plain : List (List ℕ)) (gi
   pub asked : IsPlainJob (codes "sim") (part_word ∷ seed_word ∷ epochs_word ∷ sats_word ∷ []) command plain given
   pub is : IsSim part_word seed_word epochs_word sats_word s
 
+-- `fix`, three files, and any options
+pub record IsFixJob (base rover nav : List ℕ) (o : Options) (command : List ℕ) (plain : List (List ℕ)) (given : List Given) : Type 0 where
+  pub command_is : command ≡ codes "fix"
+  pub plain_are : plain ≡ base ∷ rover ∷ nav ∷ []
+  pub options : AreOptions given o
+
 -- `arcs`, three files, and options without a ratio and a budget
 pub record IsArcsJob (base rover nav : List ℕ) (o : Options) (command : List ℕ) (plain : List (List ℕ)) (given : List Given) : Type 0 where
   pub command_is : command ≡ codes "arcs"
@@ -66,6 +72,7 @@ IsJobOf command plain given (job.List obs) = IsPlainJob (codes "list") (obs ∷ 
 IsJobOf command plain given (job.Orbit nav sat tick) = IsOrbitJob nav sat tick.0 command plain given
 IsJobOf command plain given (job.Check cert) = IsPlainJob (codes "check") (cert ∷ []) command plain given
 IsJobOf command plain given (job.Residuals cert) = IsPlainJob (codes "residuals") (cert ∷ []) command plain given
+IsJobOf command plain given (job.Fix base rover nav options) = IsFixJob base rover nav options command plain given
 IsJobOf command plain given (job.Arcs base rover nav options) = IsArcsJob base rover nav options command plain given
 IsJobOf command plain given (job.Sim part seed epochs sats) = IsSimJob (sim_with part seed epochs sats) command plain given
 
@@ -86,6 +93,7 @@ file_words (job.List obs) = obs ∷ []
 file_words (job.Orbit nav sat tick) = nav ∷ []
 file_words (job.Check cert) = cert ∷ []
 file_words (job.Residuals cert) = cert ∷ []
+file_words (job.Fix base rover nav options) = base ∷ rover ∷ nav ∷ []
 file_words (job.Arcs base rover nav options) = base ∷ rover ∷ nav ∷ []
 file_words (job.Sim part seed epochs sats) = []
 

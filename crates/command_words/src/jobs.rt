@@ -6,7 +6,7 @@ ghost use Rattle.command_words.specs.Words.{texts_of, IsJobOf, IsJob, IsInRange}
 
 use crate::WordFault;
 use crate::numbers::{number_of, satellite_of};
-use crate::options::pair_options_of;
+use crate::options::{options_of, pair_options_of};
 use crate::parts::{Parted, part_words};
 use crate::settings::Given;
 use crate::sims::{Part, sim_of};
@@ -39,6 +39,13 @@ pub enum Job {
     /// What is left of the observations of a certificate.
     Residuals {
         cert: Word,
+    },
+    /// The baseline of a session, with the certificate of its integers.
+    Fix {
+        base: Word,
+        rover: Word,
+        nav: Word,
+        options: Options,
     },
     /// The arcs of a session.
     Arcs {
@@ -85,6 +92,9 @@ fn job_of(alloc: Global, command: &[u8], parted: &Parted) -> Result<Job, WordFau
     ensures job { IfOk result (λ job. IsJobOf command.now parted.now.plain.items parted.now.given.items job) }
     ensures usage { IsErrOf result WordFault.Usage → (job : Job) → IsJobOf command.now parted.now.plain.items parted.now.given.items job → ⊥ }
 {
+    if command == b"fix".as_slice() {
+        return fix_job(alloc, &parted.plain, &parted.given);
+    }
     if command == b"arcs".as_slice() {
         return arcs_job(alloc, &parted.plain, &parted.given);
     }
@@ -96,7 +106,8 @@ fn job_of(alloc: Global, command: &[u8], parted: &Parted) -> Result<Job, WordFau
 
 // The job of a command without options.
 fn plain_job(alloc: Global, command: &[u8], plain: &[Word]) -> Result<Job, WordFault>
-    requires { command.now ≡ codes "arcs" → ⊥ }
+    requires no_arcs { command.now ≡ codes "arcs" → ⊥ }
+    requires no_fix { command.now ≡ codes "fix" → ⊥ }
     ensures job { IfOk result (λ job. IsJobOf command.now plain.now [] job) }
     ensures usage { IsErrOf result WordFault.Usage → (job : Job) → IsJobOf command.now plain.now [] job → ⊥ }
 {
@@ -140,7 +151,8 @@ fn orbit_job(
     sat: &Word,
     tick: &Word,
 ) -> Result<Job, WordFault>
-    requires { command.now ≡ codes "arcs" → ⊥ }
+    requires no_arcs { command.now ≡ codes "arcs" → ⊥ }
+    requires no_fix { command.now ≡ codes "fix" → ⊥ }
     ensures job { IfOk result (λ job. IsJobOf command.now (nav.now ∷ sat.now ∷ tick.now ∷ []) [] job) }
     ensures usage { IsErrOf result WordFault.Usage → (job : Job) → IsJobOf command.now (nav.now ∷ sat.now ∷ tick.now ∷ []) [] job → ⊥ }
 {
@@ -201,6 +213,28 @@ fn sim_job(
         }),
         None => Err(WordFault::Usage),
     }
+}
+
+// The job of the command `fix`.
+fn fix_job(alloc: Global, plain: &[Word], given: &[Given]) -> Result<Job, WordFault>
+    ensures job { IfOk result (λ job. IsJobOf (codes "fix") plain.now given.now job) }
+    ensures usage { IsErrOf result WordFault.Usage → (job : Job) → IsJobOf (codes "fix") plain.now given.now job → ⊥ }
+{
+    let Some(options) = options_of(given) else {
+        return Err(WordFault::Usage);
+    };
+    let [base, rover, nav] = plain else {
+        return Err(WordFault::Usage);
+    };
+    let base = Word::copy_of(alloc, base.as_str())?;
+    let rover = Word::copy_of(alloc, rover.as_str())?;
+    let nav = Word::copy_of(alloc, nav.as_str())?;
+    Ok(Job::Fix {
+        base,
+        rover,
+        nav,
+        options,
+    })
 }
 
 // The job of the command `arcs`.

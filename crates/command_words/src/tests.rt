@@ -19,6 +19,7 @@ fn asked(job: &Job) -> (&str, &str, u8, u64) {
         Job::Orbit { nav, sat, tick } => ("orbit", nav.as_str(), *sat, tick.0),
         Job::Check { cert } => ("check", cert.as_str(), 0, 0),
         Job::Residuals { cert } => ("residuals", cert.as_str(), 0, 0),
+        Job::Fix { nav, options, .. } => ("fix", nav.as_str(), 0, options.budget),
         Job::Arcs { nav, options, .. } => ("arcs", nav.as_str(), 0, options.gap),
         Job::Sim { epochs, .. } => ("sim", "", 0, *epochs as u64),
     }
@@ -44,6 +45,11 @@ fn reads_jobs(rt: HostRuntime) -> Result<(), Fail> {
         ),
         (&["check", "F"], ("check", "F", 0, 0)),
         (&["residuals", "F"], ("residuals", "F", 0, 0)),
+        (&["fix", "B", "R", "N"], ("fix", "N", 0, 1_000_000)),
+        (
+            &["fix", "--budget=1", "B", "R", "N", "--ratio", "1000"],
+            ("fix", "N", 0, 1),
+        ),
         (&["arcs", "B", "R", "N"], ("arcs", "N", 0, 100_000)),
         (&["arcs", "--gap", "0", "B", "R", "N"], ("arcs", "N", 0, 0)),
         (

@@ -75,6 +75,8 @@ pub fn decide(
     ensures best { IfOk result (λ d. d.best ≡ best.now) }
     ensures moved { IfOk result (λ d. d.moved ≡ move_of form.now (first_of best.now)) }
     ensures top { IfOk result (λ d. d.top ≡ top form.now.h session.now.arcs session.now.pairs (first_of best.now) d.moved) }
+    ensures top_from { IfOk result (λ d. pos 0 ≤ℤ d.top) }
+    ensures top_to { IfOk result (λ d. d.top ≤ℤ pos (2 ^ 118)) }
     ensures fixed { IfOk result (λ d. IsTrue d.fixed ↔ IsSeparated (pos ratio) d.top best.now.p2) }
     ensures strictly_best { IfOk result (λ d. IsTrue d.fixed → IsStrictlyBest session.now (first_of best.now) d.moved) }
 

@@ -5,3 +5,6 @@ use Rattle.baseline_app.proofs.top.do_job.Goals as goal
 
 pub returns-in-Arcs-clause-sure : goal.returns-in-Arcs-clause-sure
 returns-in-Arcs-clause-sure g c = λ all. c.arcs_by_words.ensures.sure (subst (λ (j : Job). All (g.F.Files.is_sure_name c.args.files.now) (file_words j)) c.in-Arcs.is all)
+
+pub returns-in-Fix-clause-sure : goal.returns-in-Fix-clause-sure
+returns-in-Fix-clause-sure g c = λ all. c.fix_by_words.ensures.sure (subst (λ (j : Job). All (g.F.Files.is_sure_name c.args.files.now) (file_words j)) c.in-Fix.is all)

@@ -1,6 +1,6 @@
 use Rattle.std.proofs.Common.{inl, inr}
 use Rattle.baseline_app.proofs.Completes.{run_complete, run_usage, run_write}
-use Rattle.baseline_app.proofs.Says.{run_says_zero, run_says_list, run_says_orbit, run_says_sim, run_says_check, run_says_residuals, run_says_arcs}
+use Rattle.baseline_app.proofs.Says.{run_says_zero, run_says_list, run_says_orbit, run_says_sim, run_says_check, run_says_residuals, run_says_arcs, run_says_fix}
 use Rattle.baseline_app.proofs.top.run.Goals as goal
 
 pub returns-clause-write : goal.returns-clause-write
@@ -36,3 +36,6 @@ returns-clause-residuals g c = λ cert asked. run_says_residuals _ _ cert _ _ _ 
 
 pub returns-clause-arcs : goal.returns-clause-arcs
 returns-clause-arcs g c = λ base rover nav options asked. run_says_arcs _ _ base rover nav options _ _ _ c.write_answer.ensures.run asked
+
+pub returns-clause-fix : goal.returns-clause-fix
+returns-clause-fix g c = λ base rover nav options asked. run_says_fix _ _ base rover nav options _ _ _ c.write_answer.ensures.run asked

@@ -1,0 +1,112 @@
+// Runs of `fix` over made-up sessions in memory.
+use crate::tests::{Ran, expect_run, words_of};
+use crate::top::run;
+use decimal_text::read_fixed;
+use job_answers::Status;
+use line_source::{MemFiles, MemSink, Named};
+use sim_session::{Made, make};
+use std::alloc::{AllocError, Global};
+use std::process::Abort;
+use std::test::Fail;
+
+// A file of this name.
+fn named(alloc: Global, name: &str, text: &[u8]) -> Result<Named, AllocError> {
+    Ok(Named {
+        name: String::from_str(alloc, name)?,
+        bytes: text.to_vec(alloc)?,
+        at: 0,
+    })
+}
+
+// A run on these files, with room for so many bytes of out.
+fn run_on_files(
+    alloc: Global,
+    words: &[&str],
+    mut files: MemFiles,
+    room: usize,
+) -> Result<Ran, AllocError> {
+    let words = words_of(alloc, words)?;
+    let mut out = MemSink::new(alloc, room, 4096, Vec::new(alloc))?;
+    let mut err = MemSink::new(alloc, 1000, 7, Vec::new(alloc))?;
+    let status = run(alloc, &words, &mut files, &mut out, &mut err);
+    Ok(Ran { status, out, err })
+}
+
+// A run of `fix` on three texts.
+fn run_fix(
+    alloc: Global,
+    base: &[u8],
+    made: &Made,
+    option: &str,
+    room: usize,
+) -> Result<Ran, AllocError> {
+    let list = vec![in alloc;
+        named(alloc, "B", base)?,
+        named(alloc, "R", &made.rover)?,
+        named(alloc, "N", &made.nav)?,
+    ]?;
+    let files = MemFiles::new(list, Vec::new(alloc));
+    run_on_files(alloc, &["fix", "B", "R", option, "N"], files, room)
+}
+
+// The three coordinates of the line of the baseline, in 0.1 mm.
+fn baseline_in(text: &str) -> Option<[i64; 3]> {
+    let line = text.lines().nth(2)?;
+    let mut words = line.split(' ');
+    if words.next()? != "baseline" {
+        return None;
+    }
+    let x = read_fixed(words.next()?.as_bytes(), 4).ok()?;
+    let y = read_fixed(words.next()?.as_bytes(), 4).ok()?;
+    let z = read_fixed(words.next()?.as_bytes(), 4).ok()?;
+    Some([x, y, z])
+}
+
+#[test]
+fn fixes_a_made_up_session(rt: HostRuntime) -> Result<(), Fail> {
+    let alloc = rt.alloc();
+    let made = make(alloc, 1, 60, 8)?;
+    let ran = run_fix(alloc, &made.base, &made, "--", 8_000_000)?;
+    assert_eq!(rt; ran.status, Status::Done);
+    let told = str::from_utf8(ran.err.bytes())?;
+    assert!(rt; told.starts_with("pairs 60 of 60\narcs 8\nbaseline "));
+    assert!(rt; told.ends_with("\nverdict fixed\n"));
+    let Some(found) = baseline_in(told) else {
+        panic!(&rt; "no baseline");
+    };
+    for (number, offset) in found.iter().zip([-165_680i64, 943_607, -659_500]) {
+        assert!(rt; number.abs_diff(offset * 10) <= 20, "at {offset}");
+    }
+    let list = vec![in alloc; named(alloc, "C", ran.out.bytes())?]?;
+    let files = MemFiles::new(list, Vec::new(alloc));
+    let checked = run_on_files(alloc, &["check", "C"], files, 1000)?;
+    expect_run(&rt, &checked, Status::Done, "certified\n", "");
+    Ok(())
+}
+
+#[test]
+fn declines(rt: HostRuntime) -> Result<(), Fail> {
+    let alloc = rt.alloc();
+    let made = make(alloc, 1, 60, 8)?;
+    let ran = run_fix(alloc, &made.base, &made, "--count=2", 1000)?;
+    let few = "pairs 2 of 60\narcs 0\nverdict declined\n";
+    expect_run(&rt, &ran, Status::Declined, "declined few 2\n", few);
+    let ran = run_fix(alloc, &made.base, &made, "--budget=1", 8_000_000)?;
+    assert_eq!(rt; ran.status, Status::Declined);
+    assert!(rt; ran.out.bytes().ends_with(b"\ndeclined spent 1\n"));
+    let told = b"pairs 60 of 60\narcs 8\nverdict declined\n";
+    assert!(rt; ran.err.bytes() == told.as_slice());
+    Ok(())
+}
+
+#[test]
+fn stops_before_a_fix(rt: HostRuntime) -> Result<(), Fail> {
+    let alloc = rt.alloc();
+    let made = make(alloc, 1, 8, 8)?;
+    let ran = run_fix(alloc, b"", &made, "--", 1000)?;
+    let none = "refused: B line 1 column 1: version not 3.00 to 3.05\n";
+    expect_run(&rt, &ran, Status::Refused, "", none);
+    let ran = run_fix(alloc, &made.base, &made, "--", 7)?;
+    expect_run(&rt, &ran, Status::WriteFault, "baselin", "write fault\n");
+    Ok(())
+}

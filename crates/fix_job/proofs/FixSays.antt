@@ -1,0 +1,111 @@
+-- What the ending of `fix` says of its files, and its statuses.
+use Rattle.std.proofs.Common.{◌≡◌, ◌≢◌, inl, inr, ℕ, List, Option, Bool, true, false, if◌then◌else◌, refl, sym, subst}
+use Rattle.std.proofs.lemmas.Bool.{false≢true}
+use Rattle.std.specs.Io.KnownBytes.{Appends}
+use Rattle.cert_data.specs.declared.certs.Cert.{Cert}
+use Rattle.cert_data.specs.declared.outcomes.Outcome.{Outcome}
+use Rattle.cert_data.specs.declared.outcomes.Answer.{Answer}
+use Rattle.cert_data.specs.declared.outcomes.Answer.TheVariants.{Few, Arcs, Early, Full}
+use Rattle.cert_data.specs.declared.tails.Tail.{Tail}
+use Rattle.cert_data.specs.declared.tails.Tail.TheVariants as tail
+use Rattle.run_options.specs.declared.options.Options.{Options}
+use Rattle.round_steps.specs.Steps.{IsBestWhereFixed}
+use Rattle.session.specs.Answers.{IsBestAnswer}
+use Rattle.outcome_report.specs.OutcomeText.{answer_text, is_fixed, is_fixed_tail}
+use Rattle.job_answers.specs.declared.status.Status.TheVariants.{Done, Declined, ReadFault}
+use Rattle.job_answers.specs.Statuses.{IsVerdictStatus, IsJobStatus}
+use Rattle.job_answers.specs.Endings.{Ending, EndsByFile}
+use Rattle.job_answers.specs.Delivered.{SinkChange}
+use Rattle.job_answers.proofs.EndingLaws.{verdict_at, job_status_at}
+use Rattle.session_files.specs.SessionFiles.{StopsAtFiles}
+use Rattle.arcs_job.specs.ArcJobs.{ArcsEnds}
+use Rattle.arcs_job.specs.ArcRuns.{AreAdmitted}
+use Rattle.arcs_job.proofs.ArcSays.{arcs_status, arcs_verdict}
+use Rattle.fix_job.specs.FixJobs.{FixEnds}
+use Rattle.fix_job.specs.FixRuns.{IsFix, HaveOutcome, SaysOfFix}
+use Rattle.fix_job.proofs.Runs.{stands_for}
+
+-- ---- statuses
+verdict_of : (fixed : Bool) → IsVerdictStatus (if fixed then Done else Declined)
+verdict_of true = tt
+verdict_of false = tt
+
+job_of : (fixed : Bool) → IsJobStatus (if fixed then Done else Declined)
+job_of true = tt
+job_of false = tt
+
+pub fix_status : (told : List ℕ → Option (List ℕ)) (base rover nav : List ℕ) (o : Options) (end : Ending) → FixEnds told base rover nav o end → IsJobStatus end.status
+fix_status told base rover nav o end (inl session) = elim (session.ends_so) [
+  | inl outcome ↦ job_status_at end _ outcome.end_is (job_of (is_fixed outcome.outcome.answer))
+  | inr refused ↦ job_status_at end _ refused.end_is tt
+]
+fix_status told base rover nav o end (inr stops) = arcs_status told base rover nav o end (inr stops)
+
+pub fix_verdict : (told : List ℕ → Option (List ℕ)) (base rover nav : List ℕ) (o : Options) (end : Ending) → AreAdmitted told base rover nav o → end.status ≢ ReadFault → FixEnds told base rover nav o end → IsVerdictStatus end.status
+fix_verdict told base rover nav o end admitted no_fault (inl session) = elim (session.ends_so) [
+  | inl outcome ↦ verdict_at end _ outcome.end_is (verdict_of (is_fixed outcome.outcome.answer))
+  | inr refused ↦
+      let ends : ArcsEnds told base rover nav o end = inl (record { base_file = session.base_file; rover_file = session.rover_file; records = session.records; are = session.are; ends_so = inr refused }) in
+      arcs_verdict told base rover nav o end admitted no_fault ends
+]
+fix_verdict told base rover nav o end admitted no_fault (inr stops) = arcs_verdict told base rover nav o end admitted no_fault (inr stops)
+
+-- ---- what is said
+says_at : (told : List ℕ → Option (List ℕ)) (base rover nav : List ℕ) (o : Options) (end t : Ending) (out : SinkChange) → end ≡ t → SaysOfFix told base rover nav o t.status out → SaysOfFix told base rover nav o end.status out
+says_at told base rover nav o end t out same says = subst (λ (e : Ending). SaysOfFix told base rover nav o e.status out) (sym same) says
+
+-- an answer that is fixed is a certificate that says so
+pub record IsFixedCert (a : Answer) : Type 0 where
+  pub cert : Cert
+  pub is : a ≡ Full cert
+  pub fix : IsFix cert
+
+fixed_tail : (cert : Cert) (t : Tail) → cert.tail ≡ t → is_fixed_tail t ≡ true → IsBestWhereFixed cert.session t → IsFix cert
+fixed_tail cert (tail.Fixed h moved best top) is fixed strictly = record { h = h; moved = moved; best = best; top = top; tail_is = is; strictly_best = strictly }
+fixed_tail cert (tail.Unseparated h moved best top) is fixed strictly = absurd (false≢true fixed)
+fixed_tail cert (tail.Weak column pivot) is fixed strictly = absurd (false≢true fixed)
+fixed_tail cert (tail.Overwidth place) is fixed strictly = absurd (false≢true fixed)
+fixed_tail cert (tail.Unsettled entry) is fixed strictly = absurd (false≢true fixed)
+fixed_tail cert (tail.Spent budget) is fixed strictly = absurd (false≢true fixed)
+
+fixed_cert : (a : Answer) → is_fixed a ≡ true → IsBestAnswer a → IsFixedCert a
+fixed_cert (Few pairs) fixed best = absurd (false≢true fixed)
+fixed_cert (Arcs free) fixed best = absurd (false≢true fixed)
+fixed_cert (Early stage why) fixed best = absurd (false≢true fixed)
+fixed_cert (Full cert) fixed best = record { cert = cert; is = refl; fix = fixed_tail cert cert.tail refl fixed best }
+
+outcome_says : (told : List ℕ → Option (List ℕ)) (base rover nav : List ℕ) (o : Options) (outcome : Outcome) (out : SinkChange) (fixed : Bool) → is_fixed outcome.answer ≡ fixed → HaveOutcome told base rover nav o outcome → IsBestAnswer outcome.answer
+    → Appends out.old out.new (answer_text outcome.answer) → SaysOfFix told base rover nav o (if fixed then Done else Declined) out
+outcome_says told base rover nav o outcome out true is have best printed =
+    let c : IsFixedCert outcome.answer = fixed_cert outcome.answer is best in
+    record {
+      outcome = outcome;
+      have = have;
+      cert = c.cert;
+      answer_is = c.is;
+      fix = c.fix;
+      stands = stands_for have.base_file have.rover_file have.records o outcome c.cert have.is c.is;
+      printed = subst (λ (a : Answer). Appends out.old out.new (answer_text a)) c.is printed;
+    }
+outcome_says told base rover nav o outcome out false is have best printed = record { outcome = outcome; have = have; none = is; printed = printed }
+
+-- what is written of an ending is what it says of the files
+pub fix_says : (told : List ℕ → Option (List ℕ)) (base rover nav : List ℕ) (o : Options) (end : Ending) (out : SinkChange) → FixEnds told base rover nav o end → Appends out.old out.new end.out → SaysOfFix told base rover nav o end.status out
+fix_says told base rover nav o end out (inl session) written = elim (session.ends_so) [
+  | inl outcome ↦
+      let printed : Appends out.old out.new (answer_text outcome.outcome.answer) = subst (λ (e : Ending). Appends out.old out.new e.out) outcome.end_is written in
+      let have : HaveOutcome told base rover nav o outcome.outcome = record { base_file = session.base_file; rover_file = session.rover_file; records = session.records; are_files = session.are; is = outcome.is } in
+      says_at told base rover nav o end _ out outcome.end_is (outcome_says told base rover nav o outcome.outcome out (is_fixed outcome.outcome.answer) refl have outcome.best printed)
+  | inr refused ↦ says_at told base rover nav o end _ out refused.end_is tt
+]
+fix_says told base rover nav o end out (inr stops) written = stops_say stops
+  where
+    stopped_says : {name : List ℕ} {ends : List ℕ → Ending → Type 0} → ((text : List ℕ) → ends text end → SaysOfFix told base rover nav o end.status out) → EndsByFile told name ends end → SaysOfFix told base rover nav o end.status out
+    stopped_says by_text (inl text) = by_text text.text text.ends_so
+    stopped_says by_text (inr (inl large)) = says_at told base rover nav o end _ out large.end_is tt
+    stopped_says by_text (inr (inr fault)) = says_at told base rover nav o end _ out fault tt
+
+    stops_say : StopsAtFiles told base rover nav end → SaysOfFix told base rover nav o end.status out
+    stops_say (inl stops) = stopped_says (λ text refusal. says_at told base rover nav o end _ out refusal.end_is tt) stops
+    stops_say (inr (inl stops)) = stopped_says (λ text refusal. says_at told base rover nav o end _ out refusal.end_is tt) stops.stops
+    stops_say (inr (inr stops)) = stopped_says (λ text refusal. says_at told base rover nav o end _ out refusal.end_is tt) stops.stops

@@ -1,0 +1,2 @@
+pub mod FixJobs
+pub mod FixRuns

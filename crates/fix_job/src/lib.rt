@@ -1,0 +1,81 @@
+//! The command `fix`: the baseline of two receivers, with the certificate of its integers.
+#![tactic(auto)]
+
+ghost use Rattle.std.specs.Prelude.{◌≡◌, ◌≢◌, [], ◌∷◌, IfOk, All};
+ghost use Rattle.line_source.specs.Causes.{Rose};
+ghost use Rattle.job_answers.specs.Answers.{ending_of, IfEnded};
+ghost use Rattle.job_answers.specs.Endings.{ending};
+ghost use Rattle.outcome_report.specs.OutcomeText.{answer_text, outcome_text};
+ghost use Rattle.fix_job.specs.FixJobs.{status_of, FixEnd, FixEnds};
+
+use arcs_job::refused_pair;
+use eph_store::NavFile;
+use job_answers::{Answer, Status, Stop};
+use line_source::Files;
+use obs_store::ObsFile;
+use outcome_report::{is_fixed, write_outcome};
+use run_options::Options;
+use session::{Outcome, SessionFault, process};
+use session_files::read_session;
+use std::alloc::{AllocError, Global};
+
+// Done for a fix, else declined.
+fn status_of(answer: &session::Answer) -> Status
+    ensures { result ≡ status_of answer.now }
+{
+    if is_fixed(answer) {
+        Status::Done
+    } else {
+        Status::Declined
+    }
+}
+
+// The texts of an outcome.
+fn answer_outcome(alloc: Global, outcome: &Outcome) -> Result<Answer, AllocError>
+    ensures { IfOk result (λ a. ending_of a ≡ ending (status_of outcome.now.answer) (answer_text outcome.now.answer) (outcome_text outcome.now)) }
+{
+    let mut out = Vec::new(alloc);
+    let mut err = Vec::new(alloc);
+    write_outcome(alloc, &mut out, &mut err, outcome)?;
+    Ok(Answer {
+        status: status_of(&outcome.answer),
+        out,
+        err,
+    })
+}
+
+// What the three files end with.
+fn answer_session(
+    alloc: Global,
+    base: &ObsFile,
+    rover: &ObsFile,
+    nav: &NavFile,
+    options: &Options,
+) -> Result<Answer, Stop>
+    ensures { IfEnded result (λ end. FixEnd options.now base.now rover.now nav.now end) }
+{
+    match process(alloc, base, rover, nav, options) {
+        Ok(outcome) => Ok(answer_outcome(alloc, &outcome)?),
+        Err(SessionFault::Refused(what)) => Ok(refused_pair(alloc, what)?),
+        Err(SessionFault::NoMemory) => Err(Stop::NoMemory),
+    }
+}
+
+/// The baseline of the rover from the base, with the certificate of its integers, or why it is declined.
+pub fn fix<F: Files>(
+    alloc: Global,
+    files: &mut F,
+    base: &str,
+    rover: &str,
+    nav: &str,
+    options: &Options,
+) -> Result<Answer, Stop>
+    ensures ends { IfEnded result (λ end. FixEnds (F.text_of files.old) base.now rover.now nav.now options.now end) }
+    ensures fault { IfEnded result (λ end. end.status ≡ Status.ReadFault → Rose (F.faults files.old) (F.faults files.new)) }
+    ensures sure { All (F.is_sure_name files.old) (base.now ∷ rover.now ∷ nav.now ∷ []) → IfEnded result (λ end. end.status ≢ Status.ReadFault) }
+{
+    match read_session(alloc, files, base, rover, nav) {
+        Ok(read) => answer_session(alloc, &read.base, &read.rover, &read.nav, options),
+        Err(stop) => Err(stop),
+    }
+}

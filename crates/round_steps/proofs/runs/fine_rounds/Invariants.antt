@@ -1,0 +1,8 @@
+use Rattle.round_steps.proofs.RunLaws.{FineSoFar}
+use Rattle.round_steps.proofs.runs.fine_rounds.Given as goal
+
+abbrev pub invariant-rounds : goal.invariant-rounds
+invariant-rounds g l = FineSoFar (g.R.Rounds.rules l.rounds) l.point l.arcs.items l.left
+
+abbrev pub decreases-rounds : goal.decreases-rounds
+decreases-rounds g l = l.left

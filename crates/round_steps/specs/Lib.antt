@@ -1,0 +1,7 @@
+pub mod Points
+pub mod Limits
+pub mod Shifts
+pub mod Counts
+pub mod Steps
+pub mod Decided
+pub mod Runs

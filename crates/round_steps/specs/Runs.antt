@@ -1,0 +1,181 @@
+-- Runs of rounds, from the first coarse round to the end. What a session has to stand for is given by the files; here it
+-- is a part of the rules.
+use Rattle.std.specs.Prelude.{◌≡◌, ℕ, Option, Some, None, ◌+◌, ◌<◌, ◌⊎◌, ◌==◌, Bool, if◌then◌else◌, List, [], ◌∷◌, count_by, ℤ}
+use Rattle.obs_rows.specs.declared.arcs.Arc.{Arc}
+use Rattle.obs_rows.specs.declared.sessions.Session.{Session}
+use Rattle.integer_form.specs.declared.form.Form.{Form}
+use Rattle.integer_form.specs.declared.faults.Place.TheVariants as Place
+use Rattle.cert_data.specs.Tails.{IsTailOf}
+use Rattle.cert_data.specs.declared.tails.Tail.{Tail}
+use Rattle.cert_data.specs.declared.outcomes.Stage.{Stage}
+use Rattle.cert_data.specs.declared.outcomes.Stage.TheVariants.{Coarse, Fine}
+use Rattle.round_steps.specs.declared.runs.End.{End}
+use Rattle.round_steps.specs.declared.runs.CoarseEnd.{CoarseEnd}
+use Rattle.round_steps.specs.Shifts.{AreGrown}
+use Rattle.round_steps.specs.Points.{IsReceiverPoint}
+use Rattle.round_steps.specs.Steps.{IsSettledForm, IsMoved, IsRoundDeclined, IsDecision, IsBestWhereFixed}
+
+-- a round: its scale, the rover's point, and the arcs with their shifts
+pub record Round : Type 0 where
+  pub scale : ℕ
+  pub point : List ℤ
+  pub arcs : List Arc
+
+-- what a run of these files and options keeps to: where it begins, which sessions stand for the files, which shifts its
+-- first fine round may have at a point, and in which rounds a centre of y may be out of range
+pub record Rules : Type 1 where
+  pub base : List ℤ
+  pub arcs : List Arc
+  pub stands : Session → Type 0
+  pub begins : List ℤ → List Arc → Type 0
+  pub may_be_wide : Round → Type 0
+
+abbrev pub round_of : Session → Round
+round_of s = record { scale = s.scale; point = s.point; arcs = s.arcs }
+
+-- this session stands for the files in this round, or there is none, where a centre of y may be out of range
+pub record IsSessionOf (rules : Rules) (r : Round) (s : Session) : Type 0 where
+  pub stands : rules.stands s
+  pub round_is : round_of s ≡ r
+
+abbrev pub IsSessionAt : Rules → Round → Option Session → Type 0
+IsSessionAt rules r (Some s) = IsSessionOf rules r s
+IsSessionAt rules r None = rules.may_be_wide r
+
+abbrev pub round_at : ℕ → List ℤ → List Arc → Round
+round_at scale point arcs = record { scale = scale; point = point; arcs = arcs }
+
+-- coarse rounds use the code on L1 alone, fine ones all signals
+abbrev pub coarse : List ℤ → List Arc → Round
+coarse point arcs = record { scale = 14; point = point; arcs = arcs }
+
+abbrev pub fine : List ℤ → List Arc → Round
+fine point arcs = record { scale = 0; point = point; arcs = arcs }
+
+-- a coarse round that isn't settled moves the point
+pub record MovesCoarse (s : Session) (next : Round) : Type 0 where
+  pub is_coarse : s.scale ≡ 14
+  pub numbers : List ℤ
+  pub point : List ℤ
+  pub moved : IsMoved s numbers point
+  pub next_is : next ≡ coarse point s.arcs
+
+-- a settled coarse round leaves the point, and the fine rounds begin
+pub record BeginsFine (rules : Rules) (s : Session) (next : Round) : Type 0 where
+  pub is_coarse : s.scale ≡ 14
+  pub form : Form
+  pub settled : IsSettledForm s form
+  pub arcs : List Arc
+  pub begins : rules.begins s.point arcs
+  pub next_is : next ≡ fine s.point arcs
+
+-- a fine round that isn't settled moves the point, and the shifts grow
+pub record MovesFine (s : Session) (next : Round) : Type 0 where
+  pub is_fine : s.scale ≡ 0
+  pub numbers : List ℤ
+  pub point : List ℤ
+  pub arcs : List Arc
+  pub moved : IsMoved s numbers point
+  pub grown : AreGrown s.arcs numbers arcs
+  pub next_is : next ≡ fine point arcs
+
+abbrev pub LeadsTo : Rules → Session → Round → Type 0
+LeadsTo rules s next = MovesCoarse s next ⊎ (BeginsFine rules s next ⊎ MovesFine s next)
+
+-- These sessions, the latest first, are those of the rounds before this one: the first round is coarse and at the base,
+-- each session stands for the files, and each round leads to the next
+abbrev pub IsRunTo : Rules → List Session → Round → Type 0
+IsRunTo rules [] r = r ≡ coarse rules.base rules.arcs
+IsRunTo rules (s ∷ before) r = IsRunTo rules before (round_of s) × (rules.stands s × LeadsTo rules s r)
+
+-- how many of the rounds are at a scale
+abbrev pub rounds_at : ℕ → List Session → ℕ
+rounds_at scale before = count_by (λ s. s.scale == scale) before
+
+-- at most ten rounds are coarse and at most six fine
+abbrev pub most_rounds : ℕ → ℕ
+most_rounds scale = if scale == 0 then 6 else 10
+
+-- no further round at this scale is allowed
+abbrev pub is_last : ℕ → List Session → Bool
+is_last scale before = (rounds_at scale before + 1) == most_rounds scale
+
+-- a run reaches this round, and so many rounds are allowed
+pub record Reaches (rules : Rules) (before : List Session) (r : Round) : Type 0 where
+  pub run : IsRunTo rules before r
+  pub allowed : rounds_at r.scale before < most_rounds r.scale
+
+-- the run ends in a round without a session, since a centre of y may be out of range
+pub record EndsAtY (rules : Rules) (scale : ℕ) : Type 0 where
+  pub before : List Session
+  pub round : Round
+  pub scale_is : round.scale ≡ scale
+  pub reached : Reaches rules before round
+  pub wide : rules.may_be_wide round
+
+-- the run ends in the round of this session
+pub record EndsAt (rules : Rules) (s : Session) (tail : Tail) : Type 0 where
+  pub before : List Session
+  pub reached : Reaches rules before (round_of s)
+  pub stands : rules.stands s
+  pub declined : IsRoundDeclined (is_last s.scale before) s tail
+
+-- the run is decided in the round of this session
+pub record DecidesAt (rules : Rules) (ratio budget : ℕ) (s : Session) (tail : Tail) : Type 0 where
+  pub before : List Session
+  pub reached : Reaches rules before (round_of s)
+  pub stands : rules.stands s
+  pub form : Form
+  pub settled : IsSettledForm s form
+  pub decision : IsDecision s form ratio budget tail
+
+abbrev pub scale_of : Stage → ℕ
+scale_of Coarse = 14
+scale_of Fine = 0
+
+-- a coarse round that is declined
+pub record EndsCoarse (rules : Rules) (tail : Tail) : Type 0 where
+  pub session : Session
+  pub is_coarse : session.scale ≡ 14
+  pub ends : EndsAt rules session tail
+
+-- the run ends without a session to print: at a centre of y, or in a coarse round
+abbrev pub EndsEarly : Rules → Stage → Tail → Type 0
+EndsEarly rules stage tail = ((tail ≡ Tail.Overwidth Place.Y) × EndsAtY rules (scale_of stage)) ⊎ ((stage ≡ Coarse) × EndsCoarse rules tail)
+
+-- the run ends on a fine session
+abbrev pub EndsFull : Rules → ℕ → ℕ → Session → Tail → Type 0
+EndsFull rules ratio budget s tail = (s.scale ≡ 0) × (EndsAt rules s tail ⊎ DecidesAt rules ratio budget s tail)
+
+-- the end of a run
+abbrev pub IsEnd : Rules → ℕ → ℕ → End → Type 0
+IsEnd rules ratio budget (End.Early stage tail) = EndsEarly rules stage tail
+IsEnd rules ratio budget (End.Full s tail) = EndsFull rules ratio budget s tail
+
+-- the tail is one of a certificate of this budget
+abbrev pub FitsEnd : ℕ → End → Type 0
+FitsEnd budget (End.Early stage tail) = Unit {0}
+FitsEnd budget (End.Full s tail) = IsTailOf s.arcs budget tail
+
+-- where the integers are fixed, they are with their move strictly best
+abbrev pub IsBestEnd : End → Type 0
+IsBestEnd (End.Early stage tail) = Unit {0}
+IsBestEnd (End.Full s tail) = IsBestWhereFixed s tail
+
+-- a run reaches a coarse round that is settled at this point
+pub record SettlesAt (rules : Rules) (point : List ℤ) : Type 0 where
+  pub before : List Session
+  pub session : Session
+  pub is_coarse : session.scale ≡ 14
+  pub point_is : session.point ≡ point
+  pub reached : Reaches rules before (round_of session)
+  pub stands : rules.stands session
+  pub form : Form
+  pub settled : IsSettledForm session form
+  pub none_fine : rounds_at 0 before ≡ 0
+  pub in_reach : IsReceiverPoint point
+
+-- the end of the coarse rounds
+abbrev pub IsCoarseEnd : Rules → CoarseEnd → Type 0
+IsCoarseEnd rules (CoarseEnd.Settled point) = SettlesAt rules point
+IsCoarseEnd rules (CoarseEnd.Declined tail) = EndsEarly rules Coarse tail

@@ -1,0 +1,57 @@
+//! What a run is asked to do.
+ghost use Rattle.std.specs.Prelude.{◌≤◌};
+
+/// The options of a run, each in its range.
+#[derive(Clone, Copy, Debug, PartialEq, Eq)]
+pub struct Options {
+    /// The least ratio of the second best value to the best, in thousandths.
+    pub ratio: u32,
+    /// The most suffixes that a search visits.
+    pub budget: u64,
+    /// The least sine of an elevation, in thousandths.
+    pub mask: u32,
+    /// The largest difference of paired tags, in ticks.
+    pub gap: u64,
+    /// The largest jump of the phases against each other without a cut, in κ.
+    pub jump: u32,
+    /// The least number of pairs of a kept arc.
+    pub arc: u32,
+    /// Each so-many-th pair is taken.
+    pub step: u32,
+    /// The number of the first pair that is taken.
+    pub first: u32,
+    /// At most so many pairs are taken.
+    pub count: u32,
+    pub ghost ratio_from: { 1000 ≤ ratio },
+    pub ghost ratio_to: { ratio ≤ 100_000 },
+    pub ghost budget_from: { 1 ≤ budget },
+    pub ghost budget_to: { budget ≤ 100_000_000 },
+    pub ghost mask_to: { mask ≤ 900 },
+    pub ghost gap_to: { gap ≤ 5_000_000 },
+    pub ghost jump_from: { 1 ≤ jump },
+    pub ghost jump_to: { jump ≤ 1000 },
+    pub ghost arc_from: { 2 ≤ arc },
+    pub ghost arc_to: { arc ≤ 3600 },
+    pub ghost step_from: { 1 ≤ step },
+    pub ghost step_to: { step ≤ 1000 },
+    pub ghost first_to: { first ≤ 19_999 },
+    pub ghost count_from: { 1 ≤ count },
+    pub ghost count_to: { count ≤ 3600 },
+}
+
+impl Options {
+    /// Those of a run that is asked for nothing in particular.
+    pub const fn defaults() -> Options {
+        Options {
+            ratio: 2000,
+            budget: 1_000_000,
+            mask: 200,
+            gap: 100_000,
+            jump: 12,
+            arc: 5,
+            step: 1,
+            first: 0,
+            count: 3600,
+        }
+    }
+}

@@ -1,0 +1,179 @@
+//! The rounds of a run.
+ghost use Rattle.std.specs.Prelude.{◌≡◌, ◌^◌, ◌≤◌, length, IfOk};
+ghost use Rattle.obs_rows.specs.Arcs.{free_count};
+ghost use Rattle.obs_rows.specs.Ranges.{IsScale};
+ghost use Rattle.round_steps.specs.Points.{IsReceiverPoint};
+ghost use Rattle.round_steps.specs.Shifts.{AreSameArcs, AreShiftsBelow};
+ghost use Rattle.round_steps.specs.Runs.{Rules, IsSessionAt, SettlesAt, IsCoarseEnd, IsEnd, FitsEnd, IsBestEnd, round_at};
+
+use crate::{Step, decide_settled, grown, round_step};
+use cert_data::{Stage, Tail};
+use integer_form::Place;
+use obs_rows::{Arc, COARSE_SCALE, Session};
+use std::alloc::{AllocError, Global};
+
+/// What gives a run its sessions.
+pub trait Rounds {
+    /// What the run keeps to: its sessions stand for these files and options.
+    ghost rules: { Self → Rules };
+
+    /// What its calls rest on.
+    ghost ready: { Self → Type 0 };
+
+    /// The session of the round at this point with these arcs, or `None` where a centre of y may be out of range.
+    fn session(
+        &self,
+        alloc: Global,
+        arcs: &[Arc],
+        point: &[i64; 3],
+        scale: u32,
+    ) -> Result<Option<Session>, AllocError>
+        requires ready { ready self.now }
+        requires scale { IsScale scale }
+        requires point { IsReceiverPoint point.now }
+        requires arcs { AreSameArcs (rules self.now).arcs arcs.now }
+        requires shifts { AreShiftsBelow (2 ^ 40) arcs.now }
+        ensures { IfOk result (IsSessionAt (rules self.now) (round_at scale point.now arcs.now)) };
+
+    /// The arcs with shifts that the first fine round may have at this point.
+    fn first_shifts(&self, alloc: Global, point: &[i64; 3]) -> Result<Vec<Arc>, AllocError>
+        requires ready { ready self.now }
+        requires point { IsReceiverPoint point.now }
+        ensures begins { IfOk result (λ v. (rules self.now).begins point.now v.items) }
+        ensures arcs { IfOk result (λ v. AreSameArcs (rules self.now).arcs v.items) }
+        ensures shifts { IfOk result (λ v. AreShiftsBelow (2 ^ 39) v.items) };
+}
+
+/// How a run ends.
+#[derive(Debug, Drop)]
+pub enum End {
+    /// At a centre of y, or in a coarse round.
+    Early { stage: Stage, tail: Tail },
+    /// On the session of a fine round.
+    Full { session: Session, tail: Tail },
+}
+
+/// How the coarse rounds end.
+#[derive(Clone, Copy, Debug)]
+pub(crate) enum CoarseEnd {
+    /// Settled at this point.
+    Settled { point: [i64; 3] },
+    Declined { tail: Tail },
+}
+
+/// At most ten rounds are coarse.
+const COARSE_ROUNDS: u32 = 10;
+
+/// At most six are fine.
+const FINE_ROUNDS: u32 = 6;
+
+/// No session, since a centre of y may be out of range.
+const AT_Y: Tail = Tail::Overwidth { place: Place::Y };
+
+fn coarse_rounds<R: Rounds>(
+    alloc: Global,
+    rounds: &R,
+    arcs: &[Arc],
+    base: &[i64; 3],
+) -> Result<CoarseEnd, AllocError>
+    requires ready { R.ready rounds.now }
+    requires base { base.now ≡ (R.rules rounds.now).base }
+    requires arcs { arcs.now ≡ (R.rules rounds.now).arcs }
+    requires point { IsReceiverPoint base.now }
+    requires shifts { AreShiftsBelow (2 ^ 40) arcs.now }
+    ensures { IfOk result (IsCoarseEnd (R.rules rounds.now)) }
+{
+    let mut point = *base;
+    let mut left = COARSE_ROUNDS - 1;
+    'rounds: loop {
+        let Some(session) = rounds.session(alloc, arcs, &point, COARSE_SCALE)? else {
+            return Ok(CoarseEnd::Declined { tail: AT_Y });
+        };
+        match round_step(&session, left == 0) {
+            Ok(Step::Settled { .. }) => return Ok(CoarseEnd::Settled { point }),
+            Ok(Step::Moved { point: moved, .. }) => {
+                point = moved;
+                left -= 1;
+            }
+            Err(tail) => return Ok(CoarseEnd::Declined { tail }),
+        }
+    }
+}
+
+fn fine_rounds<R: Rounds>(
+    alloc: Global,
+    rounds: &R,
+    first: &[i64; 3],
+    ratio: u32,
+    budget: u64,
+) -> Result<End, AllocError>
+    requires ready { R.ready rounds.now }
+    requires first { SettlesAt (R.rules rounds.now) first.now }
+    requires few { length (R.rules rounds.now).arcs ≤ 200 }
+    requires free { free_count (R.rules rounds.now).arcs ≤ 20 }
+    requires ratio_from { 1000 ≤ ratio }
+    requires ratio_to { ratio ≤ 100_000 }
+    ensures end { IfOk result (IsEnd (R.rules rounds.now) ratio budget) }
+    ensures fits { IfOk result (FitsEnd budget) }
+    ensures strictly_best { IfOk result IsBestEnd }
+{
+    let mut point = *first;
+    let mut arcs = rounds.first_shifts(alloc, first)?;
+    let mut left = FINE_ROUNDS - 1;
+    'rounds: loop {
+        let Some(session) = rounds.session(alloc, arcs.as_slice(), &point, 0)? else {
+            return Ok(End::Early {
+                stage: Stage::Fine,
+                tail: AT_Y,
+            });
+        };
+        match round_step(&session, left == 0) {
+            Ok(Step::Settled { form }) => {
+                let tail = decide_settled(&session, &form, ratio, budget);
+                return Ok(End::Full { session, tail });
+            }
+            Ok(
+                Step::Moved {
+                    point: moved,
+                    numbers,
+                },
+            ) => {
+                arcs = grown(alloc, arcs.as_slice(), &numbers)?;
+                point = moved;
+                left -= 1;
+            }
+            Err(tail) => return Ok(End::Full { session, tail }),
+        }
+    }
+}
+
+/// The rounds of a run, to its end.
+pub fn run<R: Rounds>(
+    alloc: Global,
+    rounds: &R,
+    arcs: &[Arc],
+    base: &[i64; 3],
+    ratio: u32,
+    budget: u64,
+) -> Result<End, AllocError>
+    requires ready { R.ready rounds.now }
+    requires base { base.now ≡ (R.rules rounds.now).base }
+    requires arcs { arcs.now ≡ (R.rules rounds.now).arcs }
+    requires point { IsReceiverPoint base.now }
+    requires shifts { AreShiftsBelow (2 ^ 40) arcs.now }
+    requires few { length arcs.now ≤ 200 }
+    requires free { free_count arcs.now ≤ 20 }
+    requires ratio_from { 1000 ≤ ratio }
+    requires ratio_to { ratio ≤ 100_000 }
+    ensures end { IfOk result (IsEnd (R.rules rounds.now) ratio budget) }
+    ensures fits { IfOk result (FitsEnd budget) }
+    ensures strictly_best { IfOk result IsBestEnd }
+{
+    match coarse_rounds(alloc, rounds, arcs, base)? {
+        CoarseEnd::Settled { point } => fine_rounds(alloc, rounds, &point, ratio, budget),
+        CoarseEnd::Declined { tail } => Ok(End::Early {
+            stage: Stage::Coarse,
+            tail,
+        }),
+    }
+}

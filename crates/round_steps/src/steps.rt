@@ -1,0 +1,93 @@
+//! What one round makes of its session.
+ghost use Rattle.std.specs.Prelude.{◌≡◌, ℕ, ◌^◌, ◌<◌, Bool, unsigned_abs, IfOk, IfErr};
+ghost use Rattle.integer_form.specs.FloatPoint.{item, float_point, HasWide};
+ghost use Rattle.fix_decide.specs.Decisions.{IsFormOf};
+ghost use Rattle.cert_data.specs.Tails.{IsTailOf};
+ghost use Rattle.round_steps.specs.Steps.{IsStep, IsRoundDeclined, IsBestWhereFixed, tail_of};
+
+use crate::limits::first_over;
+use crate::points::{is_receiver_point, moved_point};
+use cert_data::Tail;
+use integer_form::{Form, LowerFault, Place};
+use lower_form::lower;
+use normal_sum::sum;
+use obs_rows::{MOST_FACTORS, Session};
+
+/// A session's form and the numbers of its float point.
+#[derive(Clone, Copy, Debug)]
+pub struct Solved {
+    pub form: Form,
+    pub numbers: [i64; MOST_FACTORS],
+}
+
+/// What a round that doesn't end the run makes of its session.
+#[derive(Clone, Copy, Debug)]
+pub enum Step {
+    /// No number is over its limit.
+    Settled {
+        form: Form,
+    },
+    /// The point moves here, by the float point with these numbers.
+    Moved {
+        point: [i64; 3],
+        numbers: [i64; MOST_FACTORS],
+    },
+}
+
+/// How a run ends with this fault.
+fn tail_of(fault: LowerFault) -> Tail
+    ensures { result ≡ tail_of fault }
+{
+    match fault {
+        LowerFault::Weak { column, pivot } => Tail::Weak { column, pivot },
+        LowerFault::Overwidth { place } => Tail::Overwidth { place },
+    }
+}
+
+/// The form of a session with its float point.
+fn solve(session: &Session) -> Result<Solved, Tail>
+    ensures form { IfOk result (λ s. IsFormOf session.now s.form) }
+    ensures numbers { IfOk result (λ s. (j : ℕ) → item s.numbers j ≡ item (float_point s.form) j) }
+    ensures narrow { IfOk result (λ s. HasWide (float_point s.form) → ⊥) }
+    ensures small { IfOk result (λ s. (j : ℕ) → unsigned_abs (item s.numbers j) < 2 ^ 46) }
+    ensures refused { IfErr result (λ t. (last : Bool) → IsRoundDeclined last session.now t) }
+{
+    let normal = sum(session);
+    let form = match lower(&normal) {
+        Ok(form) => form,
+        Err(fault) => return Err(tail_of(fault)),
+    };
+    match form.float_of() {
+        Ok(numbers) => Ok(Solved { form, numbers }),
+        Err(fault) => Err(Tail::Overwidth { place: fault.place }),
+    }
+}
+
+/// What a round makes of its session, which has a last round where it isn't settled in it.
+pub fn round_step(session: &Session, last: bool) -> Result<Step, Tail>
+    ensures step { IfOk result (IsStep last session.now) }
+    ensures declined { IfErr result (IsRoundDeclined last session.now) }
+    ensures never_fixed { IfErr result (IsBestWhereFixed session.now) }
+    ensures fits { IfErr result (λ t. (budget : ℕ) → IsTailOf session.now.arcs budget t) }
+{
+    let solved = match solve(session) {
+        Ok(solved) => solved,
+        Err(tail) => return Err(tail),
+    };
+    let Some(entry) = first_over(session.scale, &solved.numbers) else {
+        return Ok(Step::Settled { form: solved.form });
+    };
+    if last {
+        return Err(Tail::Unsettled { entry });
+    }
+    let point = moved_point(session.scale, &session.point, &solved.numbers);
+    if !is_receiver_point(&point) {
+        return Err(Tail::Overwidth {
+            place: Place::Point,
+        });
+    }
+    Ok(Step::Moved {
+        point,
+        numbers: solved.numbers,
+    })
+}

@@ -1,0 +1,4 @@
+pub mod CutLaws
+pub mod RangeLaws
+pub mod FirstArcs
+pub mod StandsLaws

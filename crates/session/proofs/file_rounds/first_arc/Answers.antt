@@ -1,0 +1,51 @@
+use Rattle.std.proofs.Common.{◌≡◌, ◌<◌, ℕ, false, List, [], length, Some, get_or, refl, sym, ap, ◌∙◌, subst}
+use Rattle.std.specs.Prelude.{slice_get}
+use Rattle.std.proofs.lemmas.Bool.{false≢true}
+use Rattle.std.proofs.lemmas.Option.{slice_get-get_or, get_or_from_slice_get}
+use Rattle.obs_rows.specs.declared.arcs.Arc.{Arc}
+use Rattle.row_build.specs.Rows.{setting}
+use Rattle.row_build.specs.HeldArcs.{holds_pair}
+use Rattle.row_build.specs.Shifts.{AreFirstShifts}
+use Rattle.round_steps.specs.Shifts.{without_shifts}
+use Rattle.session.proofs.RangeLaws.{first_inside, holds_first}
+use Rattle.session.proofs.file_rounds.first_arc.Goals as goal
+
+pub shift_at-found-requires-clause-pair : goal.shift_at-found-requires-clause-pair
+shift_at-found-requires-clause-pair c =
+    let kept : List Arc = c.args.files.now.kept in
+    let e : Arc = record { sat = 0; first = 0; last = 0; datum = false; shift = [] } in
+    subst (λ (l : List Arc). (get_or l c.args.k e).first < length c.args.files.now.screened.used) (sym c.as_slice-kept.ensures)
+    (first_inside c.args.files.now.screened.used kept c.args.k (get_or kept c.args.k e) c.requires.cut c.args.files.now.screened.numbered (slice_get-get_or kept c.args.k e c.requires.inside))
+
+pub returns-in-Some-clause-same : goal.returns-in-Some-clause-same
+returns-in-Some-clause-same c = λ a h.
+    let kept : List Arc = c.args.files.now.kept in
+    let e : Arc = record { sat = 0; first = 0; last = 0; datum = false; shift = [] } in
+    ap without_shifts (ap (λ (l : List Arc). get_or l c.args.k e) c.as_slice-kept.ensures ∙ get_or_from_slice_get kept c.args.k a e h)
+
+pub returns-in-None-clause-same : goal.returns-in-None-clause-same
+returns-in-None-clause-same c = λ a h.
+    let kept : List Arc = c.args.files.now.kept in
+    let e : Arc = record { sat = 0; first = 0; last = 0; datum = false; shift = [] } in
+    ap without_shifts (ap (λ (l : List Arc). get_or l c.args.k e) c.as_slice-kept.ensures ∙ get_or_from_slice_get kept c.args.k a e h)
+
+pub returns-in-Some-clause-near : goal.returns-in-Some-clause-near
+returns-in-Some-clause-near c = λ a h.
+    let kept : List Arc = c.args.files.now.kept in
+    let f = c.args.files.now in
+    let s : List Arc = c.as_slice-kept.result.now in
+    let e : Arc = record { sat = 0; first = 0; last = 0; datum = false; shift = [] } in
+    let q : get_or s c.args.k e ≡ a = ap (λ (l : List Arc). get_or l c.args.k e) c.as_slice-kept.ensures ∙ get_or_from_slice_get kept c.args.k a e h in
+    let near : AreFirstShifts (setting f.screened.boxes s f.position c.args.point.now 0) (get_or s c.args.k e).first a.sat c.in-Some.shift =
+    c.in-Some.ensures.near a (subst (λ (l : List Arc). slice_get l c.args.k ≡ Some a) (sym c.as_slice-kept.ensures) h) in
+    subst (λ (n : ℕ). AreFirstShifts (setting f.screened.boxes kept f.position c.args.point.now 0) n a.sat c.in-Some.shift) (ap (λ (x : Arc). x.first) q)
+    (subst (λ (l : List Arc). AreFirstShifts (setting f.screened.boxes l f.position c.args.point.now 0) (get_or s c.args.k e).first a.sat c.in-Some.shift) c.as_slice-kept.ensures near)
+
+pub returns-in-None-clause-near : goal.returns-in-None-clause-near
+returns-in-None-clause-near c = λ a h.
+    let kept : List Arc = c.args.files.now.kept in
+    let s : List Arc = c.as_slice-kept.result.now in
+    let e : Arc = record { sat = 0; first = 0; last = 0; datum = false; shift = [] } in
+    let q : get_or s c.args.k e ≡ a = ap (λ (l : List Arc). get_or l c.args.k e) c.as_slice-kept.ensures ∙ get_or_from_slice_get kept c.args.k a e h in
+    let none : holds_pair a (get_or s c.args.k e).first ≡ false = (c.in-None.ensures.none a (subst (λ (l : List Arc). slice_get l c.args.k ≡ Some a) (sym c.as_slice-kept.ensures) h)).0 refl in
+    absurd (false≢true (sym (subst (λ (n : ℕ). holds_pair a n ≡ false) (ap (λ (x : Arc). x.first) q) none) ∙ holds_first kept c.args.k a c.requires.arcs h))

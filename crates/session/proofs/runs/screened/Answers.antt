@@ -1,0 +1,24 @@
+use Rattle.std.proofs.Common.{List, All, refl, subst}
+use Rattle.epoch_pair.specs.declared.pairs.PairOf.{PairOf}
+use Rattle.slip_arcs.specs.declared.used.UsedPair.{UsedPair}
+use Rattle.slip_arcs.specs.Runs.{AreKept}
+use Rattle.screening.specs.Screening.{setting_of, AreUsedPairs, IsSvPair}
+use Rattle.sv_orbit.specs.Solutions.{gps}
+use Rattle.session.proofs.runs.screened.Goals as goal
+
+pub returns-in-Ok-cut : goal.returns-in-Ok-cut
+returns-in-Ok-cut c =
+    let o = c.args.options.now in
+    let base = c.args.base.now in
+    let rover = c.args.rover.now in
+    let rules = setting_of base c.args.nav.now c.args.begun.now.signals o.mask gps in
+    record {
+      position_is = refl;
+      signals_are = refl;
+      used_are = subst (λ (t : List PairOf). AreUsedPairs rules base.epochs rover.epochs t c.in-Ok.screened.used) c.as_slice-taken.ensures.value c.in-Ok.ensures.used;
+      boxes_are = subst (λ (t : List PairOf). All (IsSvPair rules base.epochs rover.epochs t) c.in-Ok.screened.boxes) c.as_slice-taken.ensures.value c.in-Ok.ensures.boxes;
+      short = c.in-Ok-cut.arcs.short;
+      kept_are = subst (λ (u : List UsedPair). AreKept o.jump o.arc u c.in-Ok-cut.arcs.kept c.in-Ok-cut.arcs.short) c.as_slice.ensures c.in-Ok-cut.ensures.kept;
+      datums = c.in-Ok-cut.ensures.datums;
+      shifts = c.in-Ok-cut.ensures.shifts;
+    }

@@ -1,0 +1,45 @@
+-- The answers of a run over the arcs that were kept.
+use Rattle.std.specs.Prelude.{◌≡◌, ◌≢◌, ℕ, min, Any, pos}
+use Rattle.obs_store.specs.declared.file.ObsFile.{ObsFile}
+use Rattle.obs_rows.specs.Arcs.{free_count}
+use Rattle.cert_data.specs.declared.certs.Cert.{Cert}
+use Rattle.cert_data.specs.declared.outcomes.Answer.{Answer}
+use Rattle.cert_data.specs.declared.outcomes.Answer.TheVariants.{Few, Arcs, Early, Full}
+use Rattle.run_options.specs.declared.options.Options.{Options}
+use Rattle.round_steps.specs.Counts.{AreFew, AreMany}
+use Rattle.round_steps.specs.Runs.{Rules, EndsEarly, EndsFull}
+use Rattle.round_steps.specs.Steps.{IsBestWhereFixed}
+
+-- a count, which stands still at the end of its type, 2^32 - 1. There are at most 54,000 arcs, so none gets there
+abbrev pub counted : ℕ → ℕ
+counted n = min n 4294967295
+
+-- four satellites are in kept arcs in some pair, and the arcs aren't too many
+pub record GoesOn (rules : Rules) (taken : ℕ) : Type 0 where
+  pub not_few : AreFew taken rules.arcs → ⊥
+  pub not_many : AreMany rules.arcs → ⊥
+
+-- a certificate of the session in which the run ends, with the ratio and the budget of the options
+pub record IsEndCert (rules : Rules) (o : Options) (cert : Cert) : Type 0 where
+  pub ratio : cert.ratio ≡ o.ratio
+  pub budget : cert.budget ≡ o.budget
+  pub ends : EndsFull rules o.ratio o.budget cert.session cert.tail
+
+-- Few exactly where no taken pair has four satellites in kept arcs, else Arcs exactly where the arcs are too many, else
+-- the end of a run
+abbrev pub IsAnswer : Rules → ℕ → Options → Answer → Type 0
+IsAnswer rules taken o (Few pairs) = (pairs ≡ taken) × AreFew taken rules.arcs
+IsAnswer rules taken o (Arcs free) = (free ≡ counted (free_count rules.arcs)) × ((AreFew taken rules.arcs → ⊥) × AreMany rules.arcs)
+IsAnswer rules taken o (Early stage tail) = GoesOn rules taken × EndsEarly rules stage tail
+IsAnswer rules taken o (Full cert) = GoesOn rules taken × IsEndCert rules o cert
+
+-- where the integers of an answer are fixed, they are with their move strictly best
+abbrev pub IsBestAnswer : Answer → Type 0
+IsBestAnswer (Few pairs) = Unit {0}
+IsBestAnswer (Arcs free) = Unit {0}
+IsBestAnswer (Early stage tail) = Unit {0}
+IsBestAnswer (Full cert) = IsBestWhereFixed cert.session cert.tail
+
+-- a header whose antenna delta isn't 0
+abbrev pub HasDelta : ObsFile → Type 0
+HasDelta file = Any (λ d. d ≢ pos 0) file.delta

@@ -1,0 +1,59 @@
+//! The answer of a run over the arcs that were kept.
+ghost use Rattle.std.specs.Prelude.{◌≡◌, ◌^◌, IfOk};
+ghost use Rattle.round_steps.specs.Points.{IsReceiverPoint};
+ghost use Rattle.round_steps.specs.Shifts.{AreShiftsBelow};
+ghost use Rattle.session.specs.Answers.{counted, GoesOn, IsAnswer, IsBestAnswer};
+
+use cert_data::{Answer, Cert};
+use obs_rows::{Arc, free_arcs};
+use round_steps::{End, Rounds, are_few, are_many, run};
+use session_begin::Options;
+use std::alloc::{AllocError, Global};
+
+/// A count, which stands still at the end of its type.
+pub fn counted(n: usize) -> u32
+    ensures { result ≡ counted n }
+{
+    if n < 0xffff_ffff {
+        n as u32
+    } else {
+        0xffff_ffff
+    }
+}
+
+/// Too few satellites, too many arcs, or the end of the run.
+pub fn answer<R: Rounds>(
+    alloc: Global,
+    rounds: &R,
+    kept: &[Arc],
+    taken: u32,
+    base: &[i64; 3],
+    options: &Options,
+) -> Result<Answer, AllocError>
+    requires ready { GoesOn (R.rules rounds.now) taken → R.ready rounds.now }
+    requires base { base.now ≡ (R.rules rounds.now).base }
+    requires arcs { kept.now ≡ (R.rules rounds.now).arcs }
+    requires point { IsReceiverPoint base.now }
+    requires shifts { AreShiftsBelow (2 ^ 40) kept.now }
+    ensures answer { IfOk result (IsAnswer (R.rules rounds.now) taken options.now) }
+    ensures strictly_best { IfOk result IsBestAnswer }
+{
+    if are_few(taken, kept) {
+        return Ok(Answer::Few { pairs: taken });
+    }
+    if are_many(kept) {
+        return Ok(Answer::Arcs {
+            free: counted(free_arcs(kept)),
+        });
+    }
+    match run(alloc, rounds, kept, base, options.ratio, options.budget) {
+        Ok(End::Early { stage, tail }) => Ok(Answer::Early { stage, tail }),
+        Ok(End::Full { session, tail }) => Ok(Answer::Full(Cert {
+            ratio: options.ratio,
+            budget: options.budget,
+            session,
+            tail,
+        })),
+        Err(fault) => Err(fault),
+    }
+}

@@ -1,0 +1,110 @@
+//! The rounds of a run over what was screened of two files.
+ghost use Rattle.std.specs.Prelude.{◌≡◌, ◌<◌, ◌≤◌, ◌^◌, length, All, IfOk, Some, slice_get, pos, [], ◌∷◌};
+ghost use Rattle.obs_rows.specs.Arcs.{AreArcs};
+ghost use Rattle.obs_rows.specs.Ranges.{IsBelow};
+ghost use Rattle.signal_travel.specs.Boxes.{IsPoint};
+ghost use Rattle.slip_arcs.specs.Linked.{IsCutOf};
+ghost use Rattle.row_build.specs.Rows.{setting};
+ghost use Rattle.row_build.specs.Shifts.{AreFirstShifts};
+ghost use Rattle.round_steps.specs.Shifts.{AreSameArcs, AreShiftsBelow, without_shifts};
+ghost use Rattle.session.specs.FileRules.{rules_of, HaveFirstShifts};
+
+use obs_rows::{Arc, ArcList, Session, Signals};
+use round_steps::Rounds;
+use row_build::{RowFault, Screened, rows_at, shift_at};
+use std::alloc::{AllocError, Global};
+
+/// What was screened of two files, with the arcs that were kept.
+#[derive(Debug, Drop)]
+pub struct FileRounds {
+    pub screened: Screened,
+    pub kept: ArcList,
+    /// The base's position.
+    pub position: [i64; 3],
+    pub signals: Signals,
+}
+
+impl Rounds for FileRounds {
+    ghost rules = { λ f. rules_of f.screened.boxes (length f.screened.used) f.kept f.position f.signals };
+
+    ghost ready = { λ f. IsCutOf f.screened.used f.kept × (AreArcs f.kept × IsPoint f.position) };
+
+    fn session(
+        &self,
+        alloc: Global,
+        arcs: &[Arc],
+        point: &[i64; 3],
+        scale: u32,
+    ) -> Result<Option<Session>, AllocError> {
+        match rows_at(
+            alloc,
+            &self.screened,
+            arcs,
+            &self.position,
+            point,
+            self.signals,
+            scale,
+        ) {
+            Ok(session) => Ok(Some(session)),
+            Err(RowFault::Overwidth) => Ok(None),
+            Err(RowFault::NoMemory) => Err(AllocError),
+        }
+    }
+
+    fn first_shifts(&self, alloc: Global, point: &[i64; 3]) -> Result<Vec<Arc>, AllocError> {
+        first_arcs(alloc, self, point)
+    }
+}
+
+/// The kept arcs with the shifts that their first pairs give.
+fn first_arcs(alloc: Global, files: &FileRounds, point: &[i64; 3]) -> Result<Vec<Arc>, AllocError>
+    requires cut { IsCutOf files.now.screened.used files.now.kept }
+    requires arcs { AreArcs files.now.kept }
+    requires base { IsPoint files.now.position }
+    requires point { IsPoint point.now }
+    ensures begins { IfOk result (λ v. HaveFirstShifts files.now.screened.boxes files.now.kept files.now.position point.now v.items) }
+    ensures same { IfOk result (λ v. AreSameArcs files.now.kept v.items) }
+    ensures size { IfOk result (λ v. AreShiftsBelow (2 ^ 39) v.items) }
+{
+    let mut arcs = Vec::new(alloc);
+    for k in 0..files.kept.len() {
+        arcs.push(first_arc(files, k, point))?;
+    }
+    Ok(arcs)
+}
+
+/// Kept arc k with the shifts that its first pair gives.
+fn first_arc(files: &FileRounds, k: usize, point: &[i64; 3]) -> Arc
+    requires cut { IsCutOf files.now.screened.used files.now.kept }
+    requires arcs { AreArcs files.now.kept }
+    requires base { IsPoint files.now.position }
+    requires point { IsPoint point.now }
+    requires inside { k < length files.now.kept }
+    ensures same { (a : Arc) → slice_get files.now.kept k ≡ Some a → without_shifts result ≡ without_shifts a }
+    ensures near { (a : Arc) → slice_get files.now.kept k ≡ Some a → AreFirstShifts (setting files.now.screened.boxes files.now.kept files.now.position point.now 0) a.first a.sat result.shift }
+    ensures size { All (IsBelow (2 ^ 39)) result.shift }
+{
+    let kept = files.kept.as_slice();
+    let arc = kept[k];
+    let found = shift_at(
+        &files.screened,
+        kept,
+        k as u16,
+        arc.first,
+        &files.position,
+        point,
+        files.signals,
+    );
+    // The arc holds its first pair.
+    let shift = match found {
+        Some(shift) => shift,
+        None => [0, 0],
+    };
+    Arc {
+        sat: arc.sat,
+        first: arc.first,
+        last: arc.last,
+        datum: arc.datum,
+        shift,
+    }
+}

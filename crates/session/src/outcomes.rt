@@ -1,0 +1,59 @@
+//! The counts of an outcome, with its answer.
+ghost use Rattle.std.specs.Prelude.{◌≡◌, ◌≤◌, ◌^◌, ◌⊎◌, ◌↔◌, length, IsTrue, IfOk};
+ghost use Rattle.round_steps.specs.Points.{IsReceiverPoint};
+ghost use Rattle.round_steps.specs.Shifts.{AreShiftsBelow};
+ghost use Rattle.session.specs.Answers.{counted, GoesOn, HasDelta, IsAnswer, IsBestAnswer};
+
+use crate::{answer, counted};
+use cert_data::Outcome;
+use obs_rows::Arc;
+use obs_store::ObsFile;
+use round_steps::Rounds;
+use session_begin::{Begun, Options};
+use std::alloc::{AllocError, Global};
+
+fn has_delta(file: &ObsFile) -> bool
+    ensures { IsTrue result ↔ HasDelta file.now }
+{
+    file.delta.iter().any(|d| *d != 0)
+}
+
+/// Whether either header has an antenna delta that isn't 0.
+pub fn have_delta(base: &ObsFile, rover: &ObsFile) -> bool
+    ensures { IsTrue result ↔ (HasDelta base.now ⊎ HasDelta rover.now) }
+{
+    has_delta(base) || has_delta(rover)
+}
+
+/// The outcome of a run that begins so, over the arcs that were kept.
+pub fn outcome<R: Rounds>(
+    alloc: Global,
+    rounds: &R,
+    begun: &Begun,
+    kept: &[Arc],
+    delta: bool,
+    options: &Options,
+) -> Result<Outcome, AllocError>
+    requires ready { GoesOn (R.rules rounds.now) (length begun.now.taken.items) → R.ready rounds.now }
+    requires base { begun.now.position ≡ (R.rules rounds.now).base }
+    requires arcs { kept.now ≡ (R.rules rounds.now).arcs }
+    requires point { IsReceiverPoint begun.now.position }
+    requires shifts { AreShiftsBelow (2 ^ 40) kept.now }
+    requires few { length begun.now.taken.items ≤ 3600 }
+    ensures taken { IfOk result (λ o. o.taken ≡ length begun.now.taken.items) }
+    ensures all { IfOk result (λ o. o.all ≡ begun.now.all) }
+    ensures kept { IfOk result (λ o. o.kept ≡ counted (length kept.now)) }
+    ensures delta { IfOk result (λ o. o.delta ≡ delta) }
+    ensures answer { IfOk result (λ o. IsAnswer (R.rules rounds.now) o.taken options.now o.answer) }
+    ensures strictly_best { IfOk result (λ o. IsBestAnswer o.answer) }
+{
+    let taken = begun.taken.len() as u32;
+    let answer = answer(alloc, rounds, kept, taken, &begun.position, options)?;
+    Ok(Outcome {
+        taken,
+        all: begun.all,
+        kept: counted(kept.len()),
+        delta,
+        answer,
+    })
+}

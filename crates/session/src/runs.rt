@@ -1,0 +1,84 @@
+//! The whole run of two files.
+ghost use Rattle.std.specs.Prelude.{◌≡◌, ◌≤◌, All, AllPairs, length, IfOk, IfErr};
+ghost use Rattle.obs_store.specs.Epochs.{tags_of};
+ghost use Rattle.epoch_pair.specs.Pairs.{Follows, IsNearPair};
+ghost use Rattle.session_begin.specs.Beginnings.{IsPosition, IsSessionFault};
+ghost use Rattle.session.specs.Answers.{IsBestAnswer};
+ghost use Rattle.session.specs.Outcomes.{AreScreened, IsOutcome};
+
+use crate::{FileRounds, have_delta, outcome};
+use cert_data::Outcome;
+use eph_store::NavFile;
+use obs_store::ObsFile;
+use row_build::screen;
+use session_begin::{Begun, Options, SessionFault, begin};
+use slip_arcs::cut;
+use std::alloc::{AllocError, Global};
+
+/// The used satellites of the taken pairs, and the arcs that are kept of them.
+fn screened(
+    alloc: Global,
+    base: &ObsFile,
+    rover: &ObsFile,
+    nav: &NavFile,
+    begun: &Begun,
+    options: &Options,
+) -> Result<FileRounds, AllocError>
+    requires position { IsPosition base.now begun.now.position }
+    requires few { length begun.now.taken.items ≤ 3600 }
+    requires rises { AllPairs Follows begun.now.taken.items }
+    requires near { All (IsNearPair options.now.gap (tags_of base.now.epochs) (tags_of rover.now.epochs)) begun.now.taken.items }
+    ensures { IfOk result (AreScreened base.now rover.now nav.now options.now begun.now.position begun.now.signals begun.now.taken.items) }
+{
+    let taken = begun.taken.as_slice();
+    let screened = match screen(alloc, base, rover, nav, begun.signals, taken, options.mask) {
+        Ok(screened) => screened,
+        Err(fault) => return Err(fault),
+    };
+    match cut(alloc, screened.used.as_slice(), options.jump, options.arc) {
+        Ok(arcs) => Ok(FileRounds {
+            screened,
+            kept: arcs.kept,
+            position: begun.position,
+            signals: begun.signals,
+        }),
+        Err(fault) => Err(fault),
+    }
+}
+
+/// The outcome of the files of two receivers: the end of a run of rounds over the satellites that both used, or why the
+/// files are refused.
+///
+/// Where it says fixed, the integers are with their move strictly best for all data in the boxes of the session.
+pub fn process(
+    alloc: Global,
+    base: &ObsFile,
+    rover: &ObsFile,
+    nav: &NavFile,
+    options: &Options,
+) -> Result<Outcome, SessionFault>
+    ensures refused { IfErr result (IsSessionFault base.now rover.now options.now) }
+    ensures outcome { IfOk result (IsOutcome base.now rover.now nav.now options.now) }
+    ensures strictly_best { IfOk result (λ o. IsBestAnswer o.answer) }
+{
+    let begun = match begin(alloc, base, rover, options) {
+        Ok(begun) => begun,
+        Err(fault) => return Err(fault),
+    };
+    let rounds = match screened(alloc, base, rover, nav, &begun, options) {
+        Ok(rounds) => rounds,
+        Err(_) => return Err(SessionFault::NoMemory),
+    };
+    let delta = have_delta(base, rover);
+    match outcome(
+        alloc,
+        &rounds,
+        &begun,
+        rounds.kept.as_slice(),
+        delta,
+        options,
+    ) {
+        Ok(outcome) => Ok(outcome),
+        Err(_) => Err(SessionFault::NoMemory),
+    }
+}
