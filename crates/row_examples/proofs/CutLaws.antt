@@ -102,9 +102,6 @@ length_push : (xs : List Arc) (y : Arc) → length (xs ++ y ∷ []) ≡ length x
 length_push [] y = refl
 length_push (x ∷ xs) y = let e : length (xs ++ y ∷ []) ≡ length xs + 1 = length_push xs y in omega arith
 
-pub none_same : (kept : List Arc) → AreSameTo kept 0 []
-none_same kept = record { as_many = refl; each = λ k a b g h. absurd cc }
-
 pub more_same : (kept : List Arc) (n : ℕ) (arcs after : List Arc) (x : Arc) → AreSameTo kept n arcs →
     ((a : Arc) → slice_get kept n ≡ Some a → without_shifts x ≡ without_shifts a) → after ≡ arcs ++ x ∷ [] → AreSameTo kept (n + 1) after
 more_same kept n arcs after x h f e = record {

@@ -1,4 +1,4 @@
-use Rattle.std.proofs.Common.{◌≡◌, false, List, [], get_or, ap, ◌∙◌}
+use Rattle.std.proofs.Common.{false, List, [], get_or, ap, ◌∙◌}
 use Rattle.std.proofs.lemmas.Option.{get_or_from_slice_get}
 use Rattle.obs_rows.specs.declared.arcs.Arc.{Arc}
 use Rattle.row_examples.specs.Shifted.{without_shifts}
