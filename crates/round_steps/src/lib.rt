@@ -4,7 +4,6 @@
 mod counts;
 mod decided;
 mod limits;
-mod options;
 mod points;
 mod runs;
 mod shifts;
@@ -12,7 +11,6 @@ mod steps;
 
 pub use counts::{are_few, are_many};
 pub use decided::decide_settled;
-pub use options::Options;
 pub use points::is_receiver_point;
 pub use runs::{End, Rounds, run};
 pub use shifts::grown;

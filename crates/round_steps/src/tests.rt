@@ -4,7 +4,7 @@ ghost use Rattle.obs_rows.specs.Ranges.{IsBelow, IsScale};
 
 use crate::limits::first_over;
 use crate::points::{is_receiver_point, moved_point};
-use crate::{Options, are_few, are_many};
+use crate::{are_few, are_many};
 use obs_rows::{Arc, MOST_FACTORS};
 use std::alloc::{AllocError, Global};
 
@@ -111,15 +111,4 @@ fn counts_arcs(rt: HostRuntime) -> Result<(), AllocError> {
         assert_eq!(rt; are_many(&arcs), expected);
     }
     Ok(())
-}
-
-#[test]
-fn default_options(rt: HostRuntime) {
-    let options = Options::defaults();
-    assert_eq!(rt;
-        (options.ratio, options.budget, options.mask),
-        (2000, 1_000_000, 200)
-    );
-    assert_eq!(rt; (options.gap, options.jump, options.arc), (100_000, 12, 5));
-    assert_eq!(rt; (options.step, options.first, options.count), (1, 0, 3600));
 }
