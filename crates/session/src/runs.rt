@@ -10,7 +10,7 @@ use crate::{FileRounds, have_delta, outcome};
 use cert_data::Outcome;
 use eph_store::NavFile;
 use obs_store::ObsFile;
-use row_build::screen;
+use row_build::{base_halves, screen};
 use session_begin::{Begun, Options, SessionFault, begin};
 use slip_arcs::cut;
 use std::alloc::{AllocError, Global};
@@ -35,12 +35,14 @@ fn screened(
         Ok(screened) => screened,
         Err(fault) => return Err(fault),
     };
+    let halves = base_halves(alloc, &screened, &begun.position)?;
     match cut(alloc, screened.used.as_slice(), options.jump, options.arc) {
         Ok(arcs) => Ok(FileRounds {
             screened,
             kept: arcs.kept,
             position: begun.position,
             signals: begun.signals,
+            halves,
         }),
         Err(fault) => Err(fault),
     }

@@ -1,7 +1,7 @@
 use Rattle.std.proofs.Common.{◌≡◌}
 use Rattle.row_build.specs.Rows.{setting}
 use Rattle.row_build.specs.SessionRows.{AreSessionRows}
-use Rattle.row_build.proofs.session_rows.rows_at.Given as goal
+use Rattle.row_build.proofs.session_rows.rows_with.Given as goal
 
 -- the rows of the first pairs
 abbrev pub invariant-loop-pair : goal.invariant-loop-pair
