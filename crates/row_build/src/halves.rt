@@ -17,12 +17,7 @@ fn half_of(entry: &SvPair, base: &[i64; 3]) -> Pseudorange
 }
 
 /// The half of the entry in this place: the one that is kept, or else one that is made.
-pub fn half_at(
-    halves: &[Pseudorange],
-    place: usize,
-    entry: &SvPair,
-    base: &[i64; 3],
-) -> Pseudorange
+pub fn half_at(halves: &[Pseudorange], place: usize, entry: &SvPair, base: &[i64; 3]) -> Pseudorange
     requires kept { (half : Pseudorange) → slice_get halves.now place ≡ Some half → IsBaseHalf entry.now base.now half }
     requires base { IsPoint base.now }
     ensures { IsBaseHalf entry.now base.now result }

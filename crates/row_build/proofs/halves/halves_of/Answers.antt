@@ -11,8 +11,8 @@ pub loop-place-preserved : goal.loop-place-preserved
 loop-place-preserved c =
     let pushed : c.push.new.self.items ≡ c.loop-place.halves.items ++ c.half_of.result ∷ [] = c.in_ok-push.ensures.items in
     let here : (v : SvPair) → slice_get c.args.boxes.now (length c.loop-place.halves.items) ≡ Some v → IsBaseHalf v c.args.base.now c.half_of.result = λ v at.
-        subst (λ (w : SvPair). IsBaseHalf w c.args.base.now c.half_of.result)
-        (c.index-boxes-place.is ∙ get_or_from_slice_get c.args.boxes.now c.loop-place.place v _ (subst (λ (n : ℕ). slice_get c.args.boxes.now n ≡ Some v) c.loop-place.invariant.count at)) c.half_of.ensures in
+    subst (λ (w : SvPair). IsBaseHalf w c.args.base.now c.half_of.result)
+    (c.index-boxes-place.is ∙ get_or_from_slice_get c.args.boxes.now c.loop-place.place v _ (subst (λ (n : ℕ). slice_get c.args.boxes.now n ≡ Some v) c.loop-place.invariant.count at)) c.half_of.ensures in
     record {
       halves = subst (λ (hs : List Pseudorange). AreBaseHalves c.args.boxes.now c.args.base.now hs) (sym pushed) (halves_pushed c.args.boxes.now c.args.base.now c.loop-place.halves.items c.half_of.result c.loop-place.invariant.halves here);
       count = length_pushed c.loop-place.halves.items c.push.new.self.items c.half_of.result c.loop-place.place pushed c.loop-place.invariant.count;

@@ -27,7 +27,7 @@ returns-in-Ok-clause-rows c =
     let plain : to_z w64 (of_z w64 g) ≡ g = to_z-of_z w64 g (record { sfits = c.group_of-group.type_inv }) in
     let group : p.group ≡ g = c.finish.ensures.group ∙ c.in-Ok.ensures.group ∙ c.new-rows.ensures.group ∙ plain in
     let arcs : map (λ (r : Row). r.arc) p.rows ≡ arcs_at c.args.arcs.now c.args.pair =
-    ap (λ (rs : List Row). map (λ (r : Row). r.arc) rs) c.finish.ensures.rows ∙ c.in-Ok.ensures.arcs ∙ c.as_slice.ensures.value ∙ c.in_ok-held.ensures in
+    ap (λ (rs : List Row). map (λ (r : Row). r.arc) rs) c.finish.ensures.rows ∙ c.in-Ok.ensures.arcs ∙ c.as_slice-held.ensures.value ∙ c.in_ok-held.ensures in
     let rows : All (IsRow t c.args.pair p.group) p.rows =
     subst (λ (rs : List Row). All (IsRow t c.args.pair p.group) rs) (sym c.finish.ensures.rows)
     (subst₂ (λ (n : ℕ) (k : ℤ). All (IsRow t n k) c.in-Ok.rows.rows) c.new-rows.ensures.number (sym (c.finish.ensures.group ∙ c.in-Ok.ensures.group)) c.in-Ok.ensures.rows) in

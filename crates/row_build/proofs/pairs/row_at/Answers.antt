@@ -2,7 +2,7 @@ use Rattle.std.proofs.Common.{◌≡◌, ℕ, [], true, false, Some, ℤ, get_or
 use Rattle.std.specs.Prelude.{slice_get}
 use Rattle.std.proofs.lemmas.Int.{to_z-of_z}
 use Rattle.std.specs.Int.{w64}
-use Rattle.std.proofs.lemmas.Option.{get_or_from_slice_get}
+use Rattle.std.proofs.lemmas.Option.{get_or_from_slice_get, slice_get_within}
 use Rattle.obs_rows.specs.declared.arcs.Arc.{Arc}
 use Rattle.slip_arcs.specs.Used.{is_used}
 use Rattle.row_boxes.specs.YBoxes.{HoldsYs, HasFarSignal}
@@ -16,6 +16,11 @@ entry_of-entry-requires-clause-used c =
     let h = c.requires.number in
     subst (λ (a : Arc). is_used c.args.screened.now.used a.sat c.args.pair ≡ true) (sym (get_or_from_slice_get c.args.arcs.now c.args.number h.arc _ h.is))
     (held_sat c.args.screened.now.used c.args.arcs.now c.args.number c.args.pair h.arc c.requires.cut h.is h.held)
+
+pub row_of-requires-clause-shift : goal.row_of-requires-clause-shift
+row_of-requires-clause-shift c =
+    let h = c.requires.number in
+    (c.requires.arcs.ranges c.args.number (record { sat = 0; first = 0; last = 0; datum = false; shift = [] }) (slice_get_within c.args.arcs.now c.args.number h.arc h.is)).shifts_in
 
 pub returns-in-Some-clause-row : goal.returns-in-Some-clause-row
 returns-in-Some-clause-row c =

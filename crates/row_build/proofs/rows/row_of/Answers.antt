@@ -1,7 +1,7 @@
-use Rattle.std.proofs.Common.{List, ℤ, sym, subst}
+use Rattle.std.proofs.Common.{List, ℤ, refl, sym, subst}
 use Rattle.std.proofs.lemmas.Int.{to_z-of_z}
 use Rattle.std.specs.Int.{w64}
-use Rattle.row_boxes.specs.YBoxes.{HoldsYs}
+use Rattle.row_boxes.specs.YBoxes.{HoldsYs, HasFarSignal}
 use Rattle.row_build.specs.Rows.{seen_by}
 use Rattle.row_build.proofs.rows.row_of.Goals as goal
 
@@ -13,3 +13,8 @@ returns-clause-y c = λ base known.
 
 pub returns-clause-u : goal.returns-clause-u
 returns-clause-u c = λ s move direction h d m. c.row_over.ensures.u s move direction (c.in_ok-geometry.ensures.seen s h) d m
+
+pub returns-in_err-geometry-clause-far : goal.returns-in_err-geometry-clause-far
+returns-in_err-geometry-clause-far c = λ _ base known.
+    subst (λ (g : ℤ). HasFarSignal (seen_by c.args.entry.now.sv base c.args.point.now) c.args.scale c.args.entry.now.sv.observed g c.args.shift.now) (to_z-of_z w64 c.args.group c.ranges.group)
+    (c.in_err-geometry.ensures.far refl base known)
