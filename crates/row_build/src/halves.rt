@@ -45,7 +45,8 @@ fn halves_of(
     Ok(halves)
 }
 
-/// The half of each entry in its place, to be made once and kept for all rounds of a run.
+/// The half of each entry in its place, in 2^-20 κ, to be made once and kept for all rounds of a run. The base is at `base`, in units
+/// of 0.1 mm. Refused only for want of memory.
 pub fn base_halves(
     alloc: Global,
     screened: &Screened,

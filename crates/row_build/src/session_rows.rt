@@ -33,7 +33,8 @@ fn add_pair(session: &mut SessionBuilder, rows: Option<PairRows>) -> Result<(), 
     }
 }
 
-/// The session of `rows_at`, with the base's halves that are kept: `base_halves` makes them once for all points of a run.
+/// The session of `rows_at`, with the base's halves that are kept, each in the place of its entry: `base_halves` makes them once for
+/// all points of a run. What is not kept is made, so the session is the same with none.
 pub fn rows_with(
     alloc: Global,
     screened: &Screened,
