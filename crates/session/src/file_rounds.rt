@@ -25,13 +25,12 @@ pub struct FileRounds {
     pub signals: Signals,
     /// The base's half of each entry's computed term, which no round changes.
     pub halves: Vec<Pseudorange>,
-    pub ghost halves_are: { AreBaseHalves screened.boxes position halves.items },
 }
 
 impl Rounds for FileRounds {
     ghost rules = { λ f. rules_of f.screened.boxes (length f.screened.used) f.kept f.position f.signals };
 
-    ghost ready = { λ f. IsCutOf f.screened.used f.kept × (AreArcs f.kept × IsPoint f.position) };
+    ghost ready = { λ f. IsCutOf f.screened.used f.kept × (AreArcs f.kept × IsPoint f.position) × AreBaseHalves f.screened.boxes f.position f.halves.items };
 
     fn session(
         &self,

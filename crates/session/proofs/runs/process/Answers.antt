@@ -11,16 +11,17 @@ use Rattle.session.proofs.runs.process.Goals as goal
 pub outcome-requires-clause-ready : goal.outcome-requires-clause-ready
 outcome-requires-clause-ready c = λ on.
     let f = c.in-Ok-screened.rounds in
-    let cut : IsCutOf f.screened.used f.kept = record { jump = c.args.options.now.jump; least = c.args.options.now.arc; short = c.in-Ok-screened.ensures.short; kept = c.in-Ok-screened.ensures.kept_are; datums = c.in-Ok-screened.ensures.datums } in (
+    let cut : IsCutOf f.screened.used f.kept = record { jump = c.args.options.now.jump; least = c.args.options.now.arc; short = c.in-Ok-screened.ensures.screened.short; kept = c.in-Ok-screened.ensures.screened.kept_are; datums = c.in-Ok-screened.ensures.screened.datums } in (
       cut,
       (
-        able f.screened.used f.kept (length c.in-Ok.begun.taken.items) cut f.screened.few f.screened.numbered (no_shifts f.kept c.in-Ok-screened.ensures.shifts) on.not_few on.not_many,
-        subst IsReceiverPoint (sym c.in-Ok-screened.ensures.position_is) c.in-Ok.ensures.position.in_reach,
+        able f.screened.used f.kept (length c.in-Ok.begun.taken.items) cut f.screened.few f.screened.numbered (no_shifts f.kept c.in-Ok-screened.ensures.screened.shifts) on.not_few on.not_many,
+        subst IsReceiverPoint (sym c.in-Ok-screened.ensures.screened.position_is) c.in-Ok.ensures.position.in_reach,
       ),
+      c.in-Ok-screened.ensures.halves,
     )
 
 pub outcome-requires-clause-shifts : goal.outcome-requires-clause-shifts
-outcome-requires-clause-shifts c = subst (AreShiftsBelow (2 ^ 40)) (sym c.as_slice.ensures) (no_shifts c.in-Ok-screened.rounds.kept c.in-Ok-screened.ensures.shifts)
+outcome-requires-clause-shifts c = subst (AreShiftsBelow (2 ^ 40)) (sym c.as_slice.ensures) (no_shifts c.in-Ok-screened.rounds.kept c.in-Ok-screened.ensures.screened.shifts)
 
 pub returns-in-Ok-outcome-clause-outcome : goal.returns-in-Ok-outcome-clause-outcome
 returns-in-Ok-outcome-clause-outcome c = record {
@@ -32,8 +33,8 @@ returns-in-Ok-outcome-clause-outcome c = record {
   taken = c.in-Ok.begun.taken.items;
   taken_are = c.in-Ok.ensures.taken;
   rounds = c.in-Ok-screened.rounds;
-  screened = c.in-Ok-screened.ensures;
-  stands = rows_stand c.args.base.now c.args.rover.now c.args.nav.now c.args.options.now c.in-Ok.begun.position c.in-Ok.begun.signals c.in-Ok.begun.taken.items c.in-Ok-screened.rounds c.in-Ok-screened.ensures;
+  screened = c.in-Ok-screened.ensures.screened;
+  stands = rows_stand c.args.base.now c.args.rover.now c.args.nav.now c.args.options.now c.in-Ok.begun.position c.in-Ok.begun.signals c.in-Ok.begun.taken.items c.in-Ok-screened.rounds c.in-Ok-screened.ensures.screened;
   taken_is = c.in-Ok-outcome.ensures.taken;
   all_is = c.in-Ok-outcome.ensures.all ∙ c.in-Ok.ensures.all;
   kept_is = c.in-Ok-outcome.ensures.kept ∙ ap (λ (l : List Arc). counted (length l)) c.as_slice.ensures;

@@ -9,8 +9,8 @@ use Rattle.session.proofs.runs.screened.Goals as goal
 pub base_halves-requires : goal.base_halves-requires
 base_halves-requires c = c.requires.position.in_reach
 
-pub returns-in-Ok-cut : goal.returns-in-Ok-cut
-returns-in-Ok-cut c =
+pub returns-in-Ok-cut-clause-screened : goal.returns-in-Ok-cut-clause-screened
+returns-in-Ok-cut-clause-screened c =
     let o = c.args.options.now in
     let base = c.args.base.now in
     let rover = c.args.rover.now in
