@@ -1,5 +1,5 @@
 -- At most 54,000 arcs are kept: at most fifteen begin in each pair.
-use Rattle.std.proofs.Common.{◌≡◌, ℕ, zero, suc, ◌+◌, ◌*◌, ◌<◌, ◌≤◌, true, false, Bool, cond, List, [], ◌∷◌, length, get_or, All, arith, sym, ap, ◌∙◌, refl, subst}
+use Rattle.std.proofs.Common.{◌≡◌, ℕ, zero, suc, ◌+◌, ◌*◌, ◌<◌, ◌≤◌, true, false, Bool, cond, List, [], ◌∷◌, length, get_or, All, arith, refl}
 use Rattle.std.specs.Prelude.{nat_le, nat_lt, ◌&&◌, count_by}
 use Rattle.std.proofs.lemmas.Bool.Decides.{nat_tests}
 use Rattle.std.proofs.lemmas.List.Elements.{All-head, All-tail}
@@ -33,8 +33,14 @@ one_more : (f l n : ℕ) → f ≤ l → one_if (nat_lt f (suc n)) ≤ one_if (n
 one_more f l n h = grind (arith, nat_tests)
 
 longer : (b : Bool) (m : ℕ) (xs : List ℕ) → length (cond b (m ∷ xs) xs) ≡ one_if b + length xs
-longer true m xs = refl
-longer false m xs = refl
+longer true m xs = after (length xs)
+  where
+    after : (n : ℕ) → suc n ≡ 1 + n
+    after n = omega arith
+longer false m xs = same (length xs)
+  where
+    same : (n : ℕ) → n ≡ 0 + n
+    same n = omega arith
 
 more_begin : (arcs : List Arc) (n m : ℕ) → All IsOrdered arcs → count_by (begins_before (suc n)) arcs ≤ count_by (begins_before n) arcs + length (arcs_from m arcs n)
 more_begin [] n m h = omega arith
@@ -48,7 +54,14 @@ more_begin (a ∷ arcs) n m h =
 
 none_begin : (arcs : List Arc) → count_by (begins_before 0) arcs ≡ 0
 none_begin [] = refl
-none_begin (a ∷ arcs) = with_first (begins_before 0) a arcs ∙ none_begin arcs
+none_begin (a ∷ arcs) =
+    let rest : count_by (begins_before 0) arcs ≡ 0 = none_begin arcs in
+    let here : one_if (begins_before 0 a) ≡ 0 = none a.first in
+    let all : count_by (begins_before 0) (a ∷ arcs) ≡ one_if (begins_before 0 a) + count_by (begins_before 0) arcs = with_first (begins_before 0) a arcs in
+    omega arith
+  where
+    none : (f : ℕ) → one_if (nat_lt f 0) ≡ 0
+    none f = grind (arith, nat_tests)
 
 all_begin : (arcs : List Arc) (n : ℕ) → All (λ a. a.first < n) arcs → count_by (begins_before n) arcs ≡ length arcs
 all_begin [] n h = refl

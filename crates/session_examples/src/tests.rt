@@ -138,7 +138,8 @@ fn integers_agree(rt: &impl Abort, what: &str, cert: &Cert) {
         return;
     };
     let arcs = cert.session.arcs.as_slice();
-    assert!(rt; arcs.len() <= 21 && arcs[0].datum, "the datum: {what}");
+    assert!(rt; !arcs.is_empty() && arcs.len() <= 21, "the arcs: {what}");
+    assert!(rt; arcs[0].datum, "the datum: {what}");
     let datum = off_by(rt, &arcs[0], [0, 0]);
     for k in 1..arcs.len() {
         assert!(rt; k < 21 && !arcs[k].datum, "arc {k}: {what}");
@@ -179,11 +180,11 @@ fn ends_as_the_model_does(rt: HostRuntime) -> Result<(), Fail> {
 fn twenty_arcs_are_free(rt: HostRuntime) -> Result<(), Fail> {
     let made = make(rt.alloc(), 1, 4, 12)?;
     let options = options_of(&rt, 2, 1_000_000);
-    let fixed = (End::Full(Verdict::Fixed), Some(UNCUT_POINT));
-    let many = (End::Arcs { free: 21 }, None);
-    for (cuts, (end, point)) in [(&CUTS[..9], fixed), (&CUTS[..], many)] {
+    let fixed = (21, End::Full(Verdict::Fixed), Some(UNCUT_POINT));
+    let many = (22, End::Arcs { free: 21 }, None);
+    for (cuts, (kept, end, point)) in [(&CUTS[..9], fixed), (&CUTS[..], many)] {
         let outcome = run(&rt, rt.alloc(), &made, [cuts, &[], &[]], &options)?;
-        assert_eq!(rt; outcome.kept as usize, cuts.len() + 12);
+        assert_eq!(rt; outcome.kept, kept);
         answer_agrees(&rt, "cut", &outcome.answer, end, point);
     }
     Ok(())
