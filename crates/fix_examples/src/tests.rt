@@ -1,5 +1,7 @@
 // Expected integers and offsets are the generator's own truth; counts, options and which searches end come from an
 // independent model.
+ghost use Rattle.std.specs.Prelude.{◌<◌};
+
 use crate::runs::{
     are_true, baseline_in, cert_in, fix_failing, fix_texts, is_certified, vectors_of,
 };
