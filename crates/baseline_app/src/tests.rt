@@ -18,14 +18,14 @@ pub(crate) struct Ran {
 
 // The calls that are to fail: of the files, of out, of err.
 #[derive(Drop)]
-struct Fails {
-    files: Vec<u64>,
-    out: Vec<u64>,
-    err: Vec<u64>,
+pub(crate) struct Fails {
+    pub(crate) files: Vec<u64>,
+    pub(crate) out: Vec<u64>,
+    pub(crate) err: Vec<u64>,
 }
 
 impl Fails {
-    fn none(alloc: Global) -> Fails {
+    pub(crate) fn none(alloc: Global) -> Fails {
         Fails {
             files: Vec::new(alloc),
             out: Vec::new(alloc),
@@ -59,7 +59,7 @@ fn files_of(
 }
 
 // A run on the file F, by sinks that take 7 bytes a call.
-fn run_on(
+pub(crate) fn run_on(
     alloc: Global,
     words: &[&str],
     text: &[u8],
@@ -324,7 +324,7 @@ fn lists(rt: HostRuntime) -> Result<(), Fail> {
 }
 
 // A satellite on a circle of 25,000 km, over the equator, on the meridian of Greenwich at the start of week 2295.
-const NAV: &str =
+pub(crate) const NAV: &str =
     "     3.04           N: GNSS NAV DATA    G: GPS              RINEX VERSION / TYPE\n\
 \x20                                                           END OF HEADER\n\
 G07 2023 12 31 00 00 00                  0                  0                  0\n\
@@ -414,7 +414,7 @@ G01 60\nG02 60\nG03 60\nG04 60\nG05 60\nG06 60\nG07 60\nG08 60\n";
     Ok(())
 }
 
-const CERT: &str =
+pub(crate) const CERT: &str =
     "baseline-cert 1\nratio 2000\nbudget 1000\nbase 63781370000 0 0\npoint 63781370000 0 0\n\
 signals C W\narcs 2\narc 3 0 0 datum 0 0\narc 5 0 0 free 0 0\npairs 1\npair 0 13881024000000000 0 2\n\
 row 0 0 0 0 0 0 0 0 0 0 0 0\nrow 1 0 0 0 0 0 0 0 0 0 0 0\n";
