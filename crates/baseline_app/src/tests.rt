@@ -414,7 +414,7 @@ G01 60\nG02 60\nG03 60\nG04 60\nG05 60\nG06 60\nG07 60\nG08 60\n";
     Ok(())
 }
 
-pub(crate) const CERT: &str =
+const CERT: &str =
     "baseline-cert 1\nratio 2000\nbudget 1000\nbase 63781370000 0 0\npoint 63781370000 0 0\n\
 signals C W\narcs 2\narc 3 0 0 datum 0 0\narc 5 0 0 free 0 0\npairs 1\npair 0 13881024000000000 0 2\n\
 row 0 0 0 0 0 0 0 0 0 0 0 0\nrow 1 0 0 0 0 0 0 0 0 0 0 0\n";
