@@ -51,13 +51,13 @@ printed_number d =
         (printed-append (last_digits 1 (size_of d.mant / 10 ^ 12)) (digits_part d.mant (d.exp +ℤ pos 12)) (printed_digits 1 (size_of d.mant / 10 ^ 12)) (printed_part d.mant (d.exp +ℤ pos 12)))
 
 -- ---- lines
-pub three : Dec → Dec → Dec → List ℕ
+unfoldable pub three : Dec → Dec → Dec → List ℕ
 three a b c = number_text a ++ (number_text b ++ number_text c)
 
-pub first_content : ℕ → Dec → Dec → Dec → List ℕ
+unfoldable pub first_content : ℕ → Dec → Dec → Dec → List ℕ
 first_content sat a b c = codes "G" ++ (last_digits 2 sat ++ (codes " 2024 01 01 00 00 00" ++ three a b c))
 
-pub further_content : Dec → Dec → Dec → Dec → List ℕ
+unfoldable pub further_content : Dec → Dec → Dec → Dec → List ℕ
 further_content a b c d = codes "    " ++ (number_text a ++ three b c d)
 
 printed_three : (a b c : Dec) → are_printed (three a b c) ≡ true

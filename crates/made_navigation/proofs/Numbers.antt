@@ -68,10 +68,13 @@ ends_with_digit mant = last (size_of mant / 10 ^ 0)
     last : (m : ℕ) → (48 + m % 10 == 32) ≡ false
     last m = grind (arith, nat_tests)
 
+sum_from : (xs ys : List ℕ) (high n : ℕ) → digit_sum xs ≡ high → length ys ≡ 12 → high * 10 ^ 12 + digit_sum ys ≡ n → digit_sum (xs ++ ys) ≡ n
+sum_from xs ys high n above twelve whole = sum-append xs ys ∙ rw (above, twelve) whole
+
 sum_is : (n : ℕ) → n < 10 ^ 13 → digit_sum (last_digits 1 (n / 10 ^ 12) ++ last_digits 12 n) ≡ n
 sum_is n few =
     let high : n / 10 ^ 12 < 10 ^ 1 = omega arith in
-    sum-append (last_digits 1 (n / 10 ^ 12)) (last_digits 12 n) ∙ rw (last_digits-value 1 (n / 10 ^ 12) high, length-last_digits 12 n) (last_digits-sum 12 n)
+    sum_from (last_digits 1 (n / 10 ^ 12)) (last_digits 12 n) (n / 10 ^ 12) n (last_digits-value 1 (n / 10 ^ 12) high) (length-last_digits 12 n) (last_digits-sum 12 n)
 
 number_text-is : (d : Dec) → number_text d ≡ front_text d.mant ++ 69 ∷ power_text (d.exp +ℤ pos 12)
 unfolding number_text front_text digits_text power_text

@@ -25,7 +25,7 @@ use Rattle.made_navigation.proofs.Numbers.{HasRoom}
 use Rattle.made_navigation.proofs.Rooms.{room}
 use Rattle.made_navigation.proofs.Lines.{first_content, further_content, three, first_read, further_read, first_letter, first_sat, further_blank, first_24, first_43, first_62, further_5, further_24, further_43, further_62}
 
-pub lines_for : Eph → EightLines
+unfoldable pub lines_for : Eph → EightLines
 lines_for e = record {
   first = first_content e.sat e.af0 e.af1 e.af2;
   second = further_content zero_number e.crs e.dn e.m0;

@@ -58,7 +58,7 @@ few_places mant n m p low high places same = by (unsigned_abs n) refl
     sizes = sym (unsigned_abs-mul mant (pos (10 ^ p))) ∙ ap unsigned_abs same ∙ unsigned_abs-mul n (pos (10 ^ suc m))
 
     above : (m : ℕ) → 33 ≤ m → 10 ^ 34 ≤ 10 ^ suc m
-    above m far = pow-le-pow_right (lit< tt) (omega arith)
+    above m far = let more : 34 ≤ suc m = omega arith in pow-le-pow_right (lit< tt) more
 
     left : unsigned_abs mant * 10 ^ p ≤ 10 ^ 13 * 10 ^ 20
     left = let abs = size_is mant in product_below (unsigned_abs mant) (10 ^ p) (10 ^ 13) (10 ^ 20) (omega arith) (pow-le-pow_right (lit< tt) places)

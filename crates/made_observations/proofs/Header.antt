@@ -75,10 +75,10 @@ header_read rest =
     ∙ ap (λ (l : List (List ℕ)). line_4 ∷ l) (read_5 (line_6 ++ 10 ∷ rest)
     ∙ ap (λ (l : List (List ℕ)). line_5 ∷ l) (read_6 rest)))))
 
-names : List (List ℕ)
+unfoldable pub names : List (List ℕ)
 names = codes "C1C" ∷ codes "L1C" ∷ codes "C2W" ∷ codes "L2W" ∷ []
 
-pub the_header : Header
+unfoldable pub the_header : Header
 the_header = record { hundredths = 304; position = Some (pos 63781370000 ∷ pos 0 ∷ pos 0 ∷ []); delta = pos 0 ∷ pos 0 ∷ pos 0 ∷ []; types = names }
 
 pub kept_are : kept_from 0 the_header.types ≡ the_kept

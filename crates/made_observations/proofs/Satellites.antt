@@ -91,56 +91,56 @@ padded-whole xs n is = subst (λ (l : List ℕ). padded l n ≡ xs) (append-nil 
 
 -- the columns of three texts of 14 bytes, from column 1 of the first one on
 record AreLong (c l1 l2 : List ℕ) : Type 0 where
-  c : length c ≡ 14
-  l1 : length l1 ≡ 14
-  l2 : length l2 ≡ 14
+  code : length c ≡ 14
+  first : length l1 ≡ 14
+  second : length l2 ≡ 14
 
 at_first : (c l1 l2 : List ℕ) → AreLong c l1 l2 → padded (fields c l1 l2) 14 ≡ c
 unfolding fields
-at_first c l1 l2 long = padded-front c (32 ∷ 32 ∷ (l1 ++ (32 ∷ 32 ∷ (c ++ (32 ∷ 32 ∷ l2))))) 14 (sym long.c)
+at_first c l1 l2 long = padded-front c (32 ∷ 32 ∷ (l1 ++ (32 ∷ 32 ∷ (c ++ (32 ∷ 32 ∷ l2))))) 14 (sym long.code)
 
 at_second : (c l1 l2 : List ℕ) → AreLong c l1 l2 → padded (drop 16 (fields c l1 l2)) 14 ≡ l1
 unfolding fields
 at_second c l1 l2 long =
-    ap (λ (l : List ℕ). padded l 14) (drop-behind c (32 ∷ 32 ∷ (l1 ++ (32 ∷ 32 ∷ (c ++ (32 ∷ 32 ∷ l2))))) 16 2 (omega (arith, long.c)))
-    ∙ padded-front l1 (32 ∷ 32 ∷ (c ++ (32 ∷ 32 ∷ l2))) 14 (sym long.l1)
+    ap (λ (l : List ℕ). padded l 14) (drop-behind c (32 ∷ 32 ∷ (l1 ++ (32 ∷ 32 ∷ (c ++ (32 ∷ 32 ∷ l2))))) 16 2 (omega (arith, long.code)))
+    ∙ padded-front l1 (32 ∷ 32 ∷ (c ++ (32 ∷ 32 ∷ l2))) 14 (sym long.first)
 
 to_third : (c l1 l2 : List ℕ) → AreLong c l1 l2 → drop 32 (fields c l1 l2) ≡ c ++ (32 ∷ 32 ∷ l2)
 unfolding fields
 to_third c l1 l2 long =
-    drop-behind c (32 ∷ 32 ∷ (l1 ++ (32 ∷ 32 ∷ (c ++ (32 ∷ 32 ∷ l2))))) 32 18 (omega (arith, long.c))
-    ∙ drop-behind l1 (32 ∷ 32 ∷ (c ++ (32 ∷ 32 ∷ l2))) 16 2 (omega (arith, long.l1))
+    drop-behind c (32 ∷ 32 ∷ (l1 ++ (32 ∷ 32 ∷ (c ++ (32 ∷ 32 ∷ l2))))) 32 18 (omega (arith, long.code))
+    ∙ drop-behind l1 (32 ∷ 32 ∷ (c ++ (32 ∷ 32 ∷ l2))) 16 2 (omega (arith, long.first))
 
 at_third : (c l1 l2 : List ℕ) → AreLong c l1 l2 → padded (drop 32 (fields c l1 l2)) 14 ≡ c
-at_third c l1 l2 long = ap (λ (l : List ℕ). padded l 14) (to_third c l1 l2 long) ∙ padded-front c (32 ∷ 32 ∷ l2) 14 (sym long.c)
+at_third c l1 l2 long = ap (λ (l : List ℕ). padded l 14) (to_third c l1 l2 long) ∙ padded-front c (32 ∷ 32 ∷ l2) 14 (sym long.code)
 
 to_fourth : (c l1 l2 : List ℕ) → AreLong c l1 l2 → drop 48 (fields c l1 l2) ≡ l2
 unfolding fields
 to_fourth c l1 l2 long =
-    drop-behind c (32 ∷ 32 ∷ (l1 ++ (32 ∷ 32 ∷ (c ++ (32 ∷ 32 ∷ l2))))) 48 34 (omega (arith, long.c))
-    ∙ drop-behind l1 (32 ∷ 32 ∷ (c ++ (32 ∷ 32 ∷ l2))) 32 18 (omega (arith, long.l1))
-    ∙ drop-behind c (32 ∷ 32 ∷ l2) 16 2 (omega (arith, long.c))
+    drop-behind c (32 ∷ 32 ∷ (l1 ++ (32 ∷ 32 ∷ (c ++ (32 ∷ 32 ∷ l2))))) 48 34 (omega (arith, long.code))
+    ∙ drop-behind l1 (32 ∷ 32 ∷ (c ++ (32 ∷ 32 ∷ l2))) 32 18 (omega (arith, long.first))
+    ∙ drop-behind c (32 ∷ 32 ∷ l2) 16 2 (omega (arith, long.code))
 
 at_fourth : (c l1 l2 : List ℕ) → AreLong c l1 l2 → padded (drop 48 (fields c l1 l2)) 14 ≡ l2
-at_fourth c l1 l2 long = ap (λ (l : List ℕ). padded l 14) (to_fourth c l1 l2 long) ∙ padded-whole l2 14 (sym long.l2)
+at_fourth c l1 l2 long = ap (λ (l : List ℕ). padded l 14) (to_fourth c l1 l2 long) ∙ padded-whole l2 14 (sym long.second)
 
 -- the digits of loss of lock are blank
 lock_first : (c l1 l2 : List ℕ) → AreLong c l1 l2 → get_or (fields c l1 l2) 14 32 ≡ 32
 unfolding fields
-lock_first c l1 l2 long = get-behind c (32 ∷ 32 ∷ (l1 ++ (32 ∷ 32 ∷ (c ++ (32 ∷ 32 ∷ l2))))) 14 0 32 (omega (arith, long.c))
+lock_first c l1 l2 long = get-behind c (32 ∷ 32 ∷ (l1 ++ (32 ∷ 32 ∷ (c ++ (32 ∷ 32 ∷ l2))))) 14 0 32 (omega (arith, long.code))
 
 lock_second : (c l1 l2 : List ℕ) → AreLong c l1 l2 → get_or (fields c l1 l2) 30 32 ≡ 32
 unfolding fields
 lock_second c l1 l2 long =
-    get-behind c (32 ∷ 32 ∷ (l1 ++ (32 ∷ 32 ∷ (c ++ (32 ∷ 32 ∷ l2))))) 30 16 32 (omega (arith, long.c))
-    ∙ get-behind l1 (32 ∷ 32 ∷ (c ++ (32 ∷ 32 ∷ l2))) 14 0 32 (omega (arith, long.l1))
+    get-behind c (32 ∷ 32 ∷ (l1 ++ (32 ∷ 32 ∷ (c ++ (32 ∷ 32 ∷ l2))))) 30 16 32 (omega (arith, long.code))
+    ∙ get-behind l1 (32 ∷ 32 ∷ (c ++ (32 ∷ 32 ∷ l2))) 14 0 32 (omega (arith, long.first))
 
 lock_third : (c l1 l2 : List ℕ) → AreLong c l1 l2 → get_or (fields c l1 l2) 46 32 ≡ 32
 unfolding fields
 lock_third c l1 l2 long =
-    get-behind c (32 ∷ 32 ∷ (l1 ++ (32 ∷ 32 ∷ (c ++ (32 ∷ 32 ∷ l2))))) 46 32 32 (omega (arith, long.c))
-    ∙ get-behind l1 (32 ∷ 32 ∷ (c ++ (32 ∷ 32 ∷ l2))) 30 16 32 (omega (arith, long.l1))
-    ∙ get-behind c (32 ∷ 32 ∷ l2) 14 0 32 (omega (arith, long.c))
+    get-behind c (32 ∷ 32 ∷ (l1 ++ (32 ∷ 32 ∷ (c ++ (32 ∷ 32 ∷ l2))))) 46 32 32 (omega (arith, long.code))
+    ∙ get-behind l1 (32 ∷ 32 ∷ (c ++ (32 ∷ 32 ∷ l2))) 30 16 32 (omega (arith, long.first))
+    ∙ get-behind c (32 ∷ 32 ∷ l2) 14 0 32 (omega (arith, long.code))
 
 past : (xs : List ℕ) (k d : ℕ) → length xs ≤ k → get_or xs k d ≡ d
 past [] k d h = nothing k
@@ -152,7 +152,7 @@ past (x ∷ xs) zero d h = absurd (omega arith)
 past (x ∷ xs) (suc k) d h = past xs k d (omega arith)
 
 lock_fourth : (c l1 l2 : List ℕ) → AreLong c l1 l2 → get_or (fields c l1 l2) 62 32 ≡ 32
-lock_fourth c l1 l2 long = past (fields c l1 l2) 62 32 (omega (arith, length-fields c l1 l2 long.c long.l1 long.l2))
+lock_fourth c l1 l2 long = past (fields c l1 l2) 62 32 (omega (arith, length-fields c l1 l2 long.code long.first long.second))
 
 -- ---- values
 value_at : (line : List ℕ) (first : ℕ) (z : ℤ) → columns line first 14 ≡ field z → column line (first + 14) ≡ 32 → IsInColumns z → value_in line first ≡ Ok (value_of z)
@@ -167,7 +167,7 @@ value_at line first z is blank h =
     locked (Some a) = rw blank refl
 
 long_of : (s : Signals) → AreInColumns s → AreLong (field s.code) (field s.l1) (field s.l2)
-long_of s h = record { c = length-field s.code h.code; l1 = length-field s.l1 h.l1; l2 = length-field s.l2 h.l2 }
+long_of s h = record { code = length-field s.code h.code; first = length-field s.l1 h.l1; second = length-field s.l2 h.l2 }
 
 pub value_4 : (n : ℕ) (s : Signals) → AreInColumns s → value_in (content n s) 4 ≡ Ok (value_of s.code)
 unfolding content
@@ -186,7 +186,7 @@ unfolding content
 value_52 n s h = let long = long_of s h in value_at (content n s) 52 s.l2 (at_fourth (field s.code) (field s.l1) (field s.l2) long) (lock_fourth (field s.code) (field s.l1) (field s.l2) long) h.l2
 
 -- the four types of the header
-pub the_kept : List KeptType
+unfoldable pub the_kept : List KeptType
 the_kept = record { number = 0; kind = C1C } ∷ record { number = 1; kind = L1C } ∷ record { number = 2; kind = C2W } ∷ record { number = 3; kind = L2W } ∷ []
 
 values_read : (n : ℕ) (s : Signals) → AreInColumns s → values_from the_kept (content n s) (replicate 20 None) ≡ Ok (values_of s)
@@ -221,7 +221,7 @@ sat_is n s low high =
     rw (letter_is n s, number, above, below) refl
 
 -- all satellites before have lower numbers
-AreBelow : ℕ → List SatObs → Type 0
+pub AreBelow : ℕ → List SatObs → Type 0
 AreBelow n sats = AllByRecursion (λ s. s.number ≤ n) sats
 
 pub none_below : (n : ℕ) → AreBelow n []
