@@ -86,10 +86,28 @@ further_short a b c d = omega (arith, length-further a b c d)
 body_short : (es : List Eph) → AllByRecursion (λ line. length line ≤ 4096) (body_lines (parts_of es))
 unfolding parts_of lines_for
 body_short [] = tt
-body_short (e ∷ es) =
-    (omega (arith, length-first e.sat e.af0 e.af1 e.af2), (further_short zero_number e.crs e.dn e.m0, (further_short e.cuc e.ecc e.cus e.root_a, (further_short second_number e.cic e.node e.cis,
-    (further_short e.incl e.crc e.peri e.node_rate, (further_short e.incl_rate zero_number week_number zero_number, (further_short zero_number zero_number zero_number zero_number,
-    (further_short zero_number zero_number zero_number zero_number, body_short es))))))))
+body_short (e ∷ es) = (
+  omega (arith, length-first e.sat e.af0 e.af1 e.af2),
+  (
+    further_short zero_number e.crs e.dn e.m0,
+    (
+      further_short e.cuc e.ecc e.cus e.root_a,
+      (
+        further_short second_number e.cic e.node e.cis,
+        (
+          further_short e.incl e.crc e.peri e.node_rate,
+          (
+            further_short e.incl_rate zero_number week_number zero_number,
+            (
+              further_short zero_number zero_number zero_number zero_number,
+              (further_short zero_number zero_number zero_number zero_number, body_short es),
+            ),
+          ),
+        ),
+      ),
+    ),
+  ),
+)
 
 parts_are : (k : ℕ) (es : List Eph) → AreSatellites k es → k + length es ≤ 32 → AllByRecursion IsPart (parts_of es)
 unfolding parts_of
@@ -108,7 +126,7 @@ length-raws (e ∷ es) = omega (arith, length-raws es)
 pub file_is : (es : List Eph) → AreSatellites 0 es → length es ≤ 32 → IsNavFile (lines_of (navigation_text es)) (raws_of es)
 file_is es are few =
     let lines : lines_of (navigation_text es) ≡ first_of_header ∷ last_of_header ∷ body_lines (parts_of es) =
-        header_read (record_texts es) ∙ ap (λ (l : List (List ℕ)). first_of_header ∷ last_of_header ∷ l) (body_read es) in
+    header_read (record_texts es) ∙ ap (λ (l : List (List ℕ)). first_of_header ∷ last_of_header ∷ l) (body_read es) in
     record {
       header = first_of_header ∷ last_of_header ∷ [];
       parts = parts_of es;

@@ -48,7 +48,7 @@ printed_number : (d : Dec) → are_printed (number_text d) ≡ true
 printed_number d =
     ap are_printed (number_is d)
     ∙ printed_cons (sign_or 32 d.mant) (last_digits 1 (size_of d.mant / 10 ^ 12) ++ digits_part d.mant (d.exp +ℤ pos 12)) (printed_sign 32 d.mant refl)
-        (printed-append (last_digits 1 (size_of d.mant / 10 ^ 12)) (digits_part d.mant (d.exp +ℤ pos 12)) (printed_digits 1 (size_of d.mant / 10 ^ 12)) (printed_part d.mant (d.exp +ℤ pos 12)))
+    (printed-append (last_digits 1 (size_of d.mant / 10 ^ 12)) (digits_part d.mant (d.exp +ℤ pos 12)) (printed_digits 1 (size_of d.mant / 10 ^ 12)) (printed_part d.mant (d.exp +ℤ pos 12)))
 
 -- ---- lines
 unfoldable pub three : Dec → Dec → Dec → List ℕ

@@ -92,16 +92,21 @@ number_read d room = record {
     whole = last_digits 1 (size_of d.mant / 10 ^ 12);
     part = last_digits 12 (size_of d.mant);
     power = d.exp +ℤ pos 12;
-    spelled = inr (below_0 (d.exp +ℤ pos 12), last_digits 2 (size_of (d.exp +ℤ pos 12)), record {
-      front = front_text d.mant;
-      mark = 69;
-      tail = power_text (d.exp +ℤ pos 12);
-      text_is = number_text-is d;
-      number = front_is d.mant;
-      next_to = ends_with_digit d.mant;
-      marks = refl;
-      exponent = power_is (d.exp +ℤ pos 12);
-    }, sym (ap (signed (below_0 (d.exp +ℤ pos 12))) (last_digits-value 2 (size_of (d.exp +ℤ pos 12)) room.power) ∙ signed_size (d.exp +ℤ pos 12)));
+    spelled = inr (
+      below_0 (d.exp +ℤ pos 12),
+      last_digits 2 (size_of (d.exp +ℤ pos 12)),
+      record {
+        front = front_text d.mant;
+        mark = 69;
+        tail = power_text (d.exp +ℤ pos 12);
+        text_is = number_text-is d;
+        number = front_is d.mant;
+        next_to = ends_with_digit d.mant;
+        marks = refl;
+        exponent = power_is (d.exp +ℤ pos 12);
+      },
+      sym (ap (signed (below_0 (d.exp +ℤ pos 12))) (last_digits-value 2 (size_of (d.exp +ℤ pos 12)) room.power) ∙ signed_size (d.exp +ℤ pos 12)),
+    );
   };
   short = omega (arith, sum_is (size_of d.mant) room.digits, room.digits);
   mant = sym (ap (signed (below_0 d.mant)) (sum_is (size_of d.mant) room.digits) ∙ signed_size d.mant);

@@ -46,8 +46,8 @@ text_is : (e : Eph) (rest : List ℕ) → record_text e ++ rest ≡ first_line e
 unfolding record_text
 text_is e rest =
     eight (first_line e.sat e.af0 e.af1 e.af2) (further_line zero_number e.crs e.dn e.m0) (further_line e.cuc e.ecc e.cus e.root_a) (further_line second_number e.cic e.node e.cis)
-        (further_line e.incl e.crc e.peri e.node_rate) (further_line e.incl_rate zero_number week_number zero_number) (further_line zero_number zero_number zero_number zero_number)
-        (further_line zero_number zero_number zero_number zero_number) rest
+    (further_line e.incl e.crc e.peri e.node_rate) (further_line e.incl_rate zero_number week_number zero_number) (further_line zero_number zero_number zero_number zero_number)
+    (further_line zero_number zero_number zero_number zero_number) rest
 
 pub record_read : (e : Eph) (rest : List ℕ) → lines_of (record_text e ++ rest) ≡ (lines_for e).first ∷ (further_of (lines_for e) ++ lines_of rest)
 unfolding lines_for
@@ -143,9 +143,25 @@ record_is k e is normal few =
     let number : e.sat ≡ k + 1 = is.sat in
     record {
       letter = first_letter e.sat e.af0 e.af1 e.af2;
-      behind = All-from_recursion IsFurther (further_of (lines_for e)) (further_blank zero_number e.crs e.dn e.m0, (further_blank e.cuc e.ecc e.cus e.root_a, (further_blank second_number e.cic e.node e.cis,
-          (further_blank e.incl e.crc e.peri e.node_rate, (further_blank e.incl_rate zero_number week_number zero_number, (further_blank zero_number zero_number zero_number zero_number,
-          (further_blank zero_number zero_number zero_number zero_number, tt)))))));
+      behind = All-from_recursion IsFurther (further_of (lines_for e)) (
+        further_blank zero_number e.crs e.dn e.m0,
+        (
+          further_blank e.cuc e.ecc e.cus e.root_a,
+          (
+            further_blank second_number e.cic e.node e.cis,
+            (
+              further_blank e.incl e.crc e.peri e.node_rate,
+              (
+                further_blank e.incl_rate zero_number week_number zero_number,
+                (
+                  further_blank zero_number zero_number zero_number zero_number,
+                  (further_blank zero_number zero_number zero_number zero_number, tt),
+                ),
+              ),
+            ),
+          ),
+        ),
+      );
       sat = sat_is e.sat e.af0 e.af1 e.af2 (omega arith) (omega arith);
       toc = toc_is e.toc e.sat e.af0 e.af1 e.af2 is.toc;
       af0 = first_24 e.sat e.af0 e.af1 e.af2 (room e.af0 (pos (k + 1)) 5 normal.af0 is.af0 (omega arith) (omega arith));

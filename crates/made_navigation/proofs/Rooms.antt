@@ -29,7 +29,7 @@ ten k = one-le-pow k 10 (lit< tt)
 no_positive : (mant n : ℤ) (m p : ℕ) → 10 ^ 12 ≤ size_of mant → unsigned_abs n < 10 ^ 6 → (mant *ℤ pos (10 ^ m)) *ℤ pos (10 ^ p) ≡ n *ℤ pos 1 → ⊥
 no_positive mant n m p low small same =
     let left : unsigned_abs ((mant *ℤ pos (10 ^ m)) *ℤ pos (10 ^ p)) ≡ unsigned_abs mant * 10 ^ m * 10 ^ p =
-        unsigned_abs-mul (mant *ℤ pos (10 ^ m)) (pos (10 ^ p)) ∙ ap (λ (x : ℕ). x * 10 ^ p) (unsigned_abs-mul mant (pos (10 ^ m))) in
+    unsigned_abs-mul (mant *ℤ pos (10 ^ m)) (pos (10 ^ p)) ∙ ap (λ (x : ℕ). x * 10 ^ p) (unsigned_abs-mul mant (pos (10 ^ m))) in
     let right : unsigned_abs (n *ℤ pos 1) ≡ unsigned_abs n * 1 = unsigned_abs-mul n (pos 1) in
     let sizes : unsigned_abs ((mant *ℤ pos (10 ^ m)) *ℤ pos (10 ^ p)) ≡ unsigned_abs (n *ℤ pos 1) = ap unsigned_abs same in
     let one = at_least (unsigned_abs mant) (10 ^ m) (ten m) in

@@ -1,7 +1,7 @@
 -- The lines of an epoch, read again.
 use Rattle.std.proofs.Common.{◌≡◌, ℕ, ℤ, pos, negsuc, zero, suc, ◌+◌, ◌-◌, ◌*◌, ◌/◌, ◌%◌, ◌^◌, ◌≤◌, ◌<◌, true, false, ◌==◌, ◌&&◌, nat_le, nat_lt, Bool, List, [], ◌∷◌, ◌++◌, length, drop, get_or, Ok, Some, None, Option, Result, if◌then◌else◌, refl, sym, ap, subst, ◌∙◌, arith, length-append}
 use Rattle.std.proofs.lemmas.Bool.Decides.{nat_tests}
-use Rattle.std.proofs.Math.Nat.{mul-add}
+use Rattle.std.proofs.Math.Nat.{mul-add, div-div-eq-div-mul}
 use Rattle.std.proofs.lemmas.List.{append_assoc}
 use Rattle.std.proofs.lemmas.List.Elements.{All-head, All-tail}
 use Rattle.std.specs.Prelude.{codes, map, unwrap_or}
@@ -159,7 +159,7 @@ moment seconds day =
     (ap (λ (n : ℕ). let tick : Tick = record { 0 = n } in Ok tick) (ticks_are (seconds / 3600) (seconds / 60 % 60) (seconds % 60 * 10000000) ∙ together seconds))
   where
     together : (s : ℕ) → 13_881_024_000_000_000 + (s / 3600 * 60 + s / 60 % 60) * 600_000_000 + s % 60 * 10000000 ≡ 13_881_024_000_000_000 + s * 10_000_000
-    together s = omega arith
+    together s = omega (arith, div-div-eq-div-mul s 60 60)
 
 tag_is : (seconds sats : ℕ) → seconds < 86400 → tag_in (epoch_content seconds sats) ≡ Ok (tick_at seconds)
 unfolding tag_in
@@ -224,9 +224,11 @@ satellites_say : (n : ℕ) (sats : List Signals) (before : List SatObs) → All 
 unfolding contents found
 satellites_say n [] before h few below = tt
 satellites_say n (s ∷ sats) before h few below =
-    let room = All-head AreInColumns s sats h in
-    (omega (arith, length-content (n + 1) s room), read_as n s before room (omega arith) below,
-     satellites_say (n + 1) sats (before ++ satellite_of (n + 1) (values_of s) ∷ []) (All-tail AreInColumns s sats h) (omega arith) (more_below n before (satellite_of (n + 1) (values_of s)) below refl))
+    let room = All-head AreInColumns s sats h in (
+      omega (arith, length-content (n + 1) s room),
+      read_as n s before room (omega arith) below,
+      satellites_say (n + 1) sats (before ++ satellite_of (n + 1) (values_of s) ∷ []) (All-tail AreInColumns s sats h) (omega arith) (more_below n before (satellite_of (n + 1) (values_of s)) below refl),
+    )
 
 -- ---- epochs
 part_of : ℕ → List Signals → EpochPart
@@ -266,7 +268,9 @@ part_gives seconds sats = ap (λ (l : List SatObs). let epoch : Epoch = record {
 pub epochs_are : (step i : ℕ) (epochs : List (List Signals)) → epochs_in (parts_of step i epochs) ≡ epochs_of step i epochs
 unfolding parts_of
 epochs_are step i [] = refl
-epochs_are step i (sats ∷ epochs) = rw (part_gives (step * i) sats, epochs_are step (i + 1) epochs) refl
+epochs_are step i (sats ∷ epochs) =
+    let epoch : Epoch = record { tag = tick_at (step * i); power = false; sats = satellites_of 0 sats } in
+    ap (λ (e : Epoch). e ∷ epochs_in (parts_of step (i + 1) epochs)) (part_gives (step * i) sats) ∙ ap (λ (l : List Epoch). epoch ∷ l) (epochs_are step (i + 1) epochs)
 
 last_is : (epochs : List Epoch) (e : Epoch) → last_tag_of (epochs ++ e ∷ []) ≡ Some e.tag
 last_is [] e = refl
@@ -299,7 +303,8 @@ pub parts_are : (step i : ℕ) (epochs : List (List Signals)) (before : List Epo
     is_later (last_tag_of before) (tick_at (step * i)) ≡ true → AreParts the_kept before (parts_of step i epochs)
 unfolding parts_of
 parts_are step i [] before some day few rooms late = tt
-parts_are step i (sats ∷ epochs) before some day few rooms late =
-    (part_is_epoch before (step * i) sats (omega arith) (in_day step i (length epochs) some day) (All-head HaveRoom sats epochs rooms) late,
-     parts_are step (i + 1) epochs (before ++ epoch_in_part (part_of (step * i) sats) ∷ []) some (moved step i (length epochs) day) (omega (arith, length-append before (epoch_in_part (part_of (step * i) sats) ∷ [])))
-         (All-tail HaveRoom sats epochs rooms) (rw (last_is before (epoch_in_part (part_of (step * i) sats))) (follows step i sats some)))
+parts_are step i (sats ∷ epochs) before some day few rooms late = (
+  part_is_epoch before (step * i) sats (omega arith) (in_day step i (length epochs) some day) (All-head HaveRoom sats epochs rooms) late,
+  parts_are step (i + 1) epochs (before ++ epoch_in_part (part_of (step * i) sats) ∷ []) some (moved step i (length epochs) day) (omega (arith, length-append before (epoch_in_part (part_of (step * i) sats) ∷ [])))
+      (All-tail HaveRoom sats epochs rooms) (rw (last_is before (epoch_in_part (part_of (step * i) sats))) (follows step i sats some)),
+)

@@ -5,7 +5,7 @@ use Rattle.std.proofs.lemmas.List.{append_assoc, append-nil}
 use Rattle.std.proofs.lemmas.List.Elements.{All-head, All-tail}
 use Rattle.std.specs.Prelude.{codes, map, replicate}
 use Rattle.std.specs.List.{All, AllByRecursion, list_any}
-use Rattle.decimal_text.specs.Whole.{is_digit}
+use Rattle.decimal_text.specs.Whole.{is_digit, size_of}
 use Rattle.decimal_text.specs.Write.{last_digits}
 use Rattle.decimal_text.specs.Fixed.{fixed_of}
 use Rattle.line_source.specs.Lines.{lines_of}
@@ -48,7 +48,7 @@ line_is n s rest = ap (λ (l : List ℕ). codes "G" ++ (last_digits 2 n ++ l)) (
 
 printed_field : (z : ℤ) → IsInColumns z → are_printed (field z) ≡ true
 unfolding field
-printed_field z h = let size = size_in z h in printed_fixed 14 z 3 (small _ size)
+printed_field z h = let size = size_in z h in printed_fixed 14 z 3 (small (size_of z) size)
   where
     small : (n : ℕ) → n < 10 ^ 13 → n / 10 ^ 3 < 2 ^ 64
     small n h = omega arith
@@ -222,7 +222,7 @@ sat_is n s low high =
 
 -- all satellites before have lower numbers
 pub AreBelow : ℕ → List SatObs → Type 0
-AreBelow n sats = AllByRecursion (λ s. s.number ≤ n) sats
+AreBelow n sats = AllByRecursion (λ (s : SatObs). s.number ≤ n) sats
 
 pub none_below : (n : ℕ) → AreBelow n []
 unfolding AreBelow

@@ -21,12 +21,16 @@ below places n small = omega (arith, div-le_self n (10 ^ places))
 -- behind the whole part
 rest_is : (places n : ℕ) → IsRest (part_text places n) (last_digits places n)
 rest_is zero n = inl (refl, refl)
-rest_is (suc k) n = inr (last_digits (suc k) n, refl, record {
-  after = [];
-  text_is = sym (append-nil (last_digits (suc k) n));
-  digits = last_digits-digits (suc k) n;
-  blank = refl;
-})
+rest_is (suc k) n = inr (
+  last_digits (suc k) n,
+  refl,
+  record {
+    after = [];
+    text_is = sym (append-nil (last_digits (suc k) n));
+    digits = last_digits-digits (suc k) n;
+    blank = refl;
+  },
+)
 
 number_is : (places n : ℕ) → n < 10 ^ 18 → IsNumber (decimal (n / 10 ^ places) ++ part_text places n) (decimal (n / 10 ^ places)) (last_digits places n)
 number_is places n small = record {
@@ -44,7 +48,7 @@ size_is places n small =
     let none : places - length (last_digits places n) ≡ 0 = omega (arith, length-last_digits places n) in
     let sum = sum-append (decimal (n / 10 ^ places)) (last_digits places n) in
     let all : digit_sum (decimal (n / 10 ^ places) ++ last_digits places n) ≡ n =
-        sum ∙ rw (decimal_value (n / 10 ^ places) (below places n small), length-last_digits places n) (last_digits-sum places n) in
+    sum ∙ rw (decimal_value (n / 10 ^ places) (below places n small), length-last_digits places n) (last_digits-sum places n) in
     rw (none, all) (omega arith)
 
 few_are : (places n : ℕ) → length (last_digits places n) ≤ places
