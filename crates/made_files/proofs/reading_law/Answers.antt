@@ -1,4 +1,4 @@
-use Rattle.made_files.proofs.Reads.{base_reads, rover_reads, navigation_reads}
+use Rattle.made_files.proofs.Readings.{base_reads, rover_reads, navigation_reads}
 use Rattle.made_files.proofs.reading_law.Goals as goal
 
 pub returns-clause-base : goal.returns-clause-base
