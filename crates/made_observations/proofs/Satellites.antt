@@ -81,12 +81,12 @@ unfolding content
 length-content n s h = ap (λ (k : ℕ). suc (suc (suc k))) (length-fields (field s.code) (field s.l1) (field s.l2) (length-field s.code h.code) (length-field s.l1 h.l1) (length-field s.l2 h.l2))
 
 -- ---- the columns of a line
-get-behind : (xs ys : List ℕ) (k j d : ℕ) → k ≡ length xs + j → get_or (xs ++ ys) k d ≡ get_or ys j d
+pub get-behind : (xs ys : List ℕ) (k j d : ℕ) → k ≡ length xs + j → get_or (xs ++ ys) k d ≡ get_or ys j d
 get-behind [] ys k j d is = let same : k ≡ j = omega arith in ap (λ (i : ℕ). get_or ys i d) same
 get-behind (x ∷ xs) ys zero j d is = absurd (omega arith)
 get-behind (x ∷ xs) ys (suc k) j d is = get-behind xs ys k j d (omega arith)
 
-padded-whole : (xs : List ℕ) (n : ℕ) → n ≡ length xs → padded xs n ≡ xs
+pub padded-whole : (xs : List ℕ) (n : ℕ) → n ≡ length xs → padded xs n ≡ xs
 padded-whole xs n is = subst (λ (l : List ℕ). padded l n ≡ xs) (append-nil xs) (padded-front xs [] n is)
 
 -- the columns of three texts of 14 bytes, from column 1 of the first one on
