@@ -1,5 +1,5 @@
 -- The whole navigation file.
-use Rattle.std.proofs.Common.{◌≡◌, ℕ, ◌+◌, ◌≤◌, ◌<◌, true, false, List, [], ◌∷◌, ◌++◌, length, Ok, refl, sym, ap, subst, ◌∙◌, arith, length-append}
+use Rattle.std.proofs.Common.{◌≡◌, ℕ, ◌+◌, ◌≤◌, true, false, List, [], ◌∷◌, ◌++◌, length, Ok, refl, sym, ap, subst, ◌∙◌, arith}
 use Rattle.std.proofs.lemmas.List.Elements.{All-from_recursion}
 use Rattle.std.specs.List.{All, AllByRecursion}
 use Rattle.std.specs.Prelude.{codes}
@@ -10,12 +10,12 @@ use Rattle.line_source.specs.Lines.{lines_of}
 use Rattle.rinex_head.specs.Columns.{padded}
 use Rattle.rinex_head.specs.Head.{trimmed}
 use Rattle.rinex_nav.specs.FirstLine.{first_line_of, ends_header}
-use Rattle.rinex_nav.specs.NavForm.{Part, Gps, EightLines, IsPart, IsHeader, IsNavFile, further_of, lines_of_part, body_lines, records_of}
+use Rattle.rinex_nav.specs.NavForm.{Part, Gps, IsPart, IsHeader, IsNavFile, further_of, body_lines, records_of}
 use Rattle.sim_records.specs.Satellites.{AreSatellites}
-use Rattle.sim_records.specs.Navigation.{zero_number, second_number, week_number, navigation_header, record_text, record_texts, navigation_text}
+use Rattle.sim_records.specs.Navigation.{zero_number, second_number, week_number, navigation_header, record_texts, navigation_text}
 use Rattle.written_texts.proofs.Printed.{line_first}
 use Rattle.made_navigation.specs.Records.{raw_of, raws_of}
-use Rattle.made_navigation.proofs.Lines.{first_content, further_content, length-first, length-further}
+use Rattle.made_navigation.proofs.Lines.{further_content, length-first, length-further}
 use Rattle.made_navigation.proofs.Records.{lines_for, record_read, record_is}
 
 -- ---- the header

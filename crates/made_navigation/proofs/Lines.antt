@@ -1,5 +1,5 @@
 -- The lines of a record, each without its line feed.
-use Rattle.std.proofs.Common.{◌≡◌, ℕ, ℤ, pos, negsuc, zero, suc, ◌+◌, ◌/◌, ◌^◌, ◌≤◌, ◌<◌, ◌+ℤ◌, true, nat_le, List, [], ◌∷◌, ◌++◌, length, Ok, refl, sym, ap, ◌∙◌, arith}
+use Rattle.std.proofs.Common.{◌≡◌, ℕ, ℤ, pos, negsuc, ◌/◌, ◌^◌, ◌+ℤ◌, true, nat_le, List, ◌∷◌, ◌++◌, length, Ok, refl, ap, ◌∙◌}
 use Rattle.std.specs.Prelude.{codes}
 use Rattle.decimal_text.specs.Whole.{size_of}
 use Rattle.decimal_text.specs.Write.{last_digits}

@@ -1,14 +1,13 @@
 -- A number of a navigation file, read again.
-use Rattle.std.proofs.Common.{◌≡◌, ℕ, ℤ, pos, negsuc, zero, suc, ◌+◌, ◌*◌, ◌/◌, ◌%◌, ◌^◌, ◌≤◌, ◌<◌, ◌+ℤ◌, ◌-ℤ◌, ◌==◌, Bool, true, false, List, [], ◌∷◌, ◌++◌, length, Ok, inl, inr, refl, sym, ap, ◌∙◌, arith}
+use Rattle.std.proofs.Common.{◌≡◌, ℕ, ℤ, pos, negsuc, suc, ◌+◌, ◌*◌, ◌/◌, ◌%◌, ◌^◌, ◌<◌, ◌+ℤ◌, ◌==◌, Bool, true, false, List, [], ◌∷◌, ◌++◌, length, Ok, inl, inr, refl, sym, ap, ◌∙◌, arith}
 use Rattle.std.proofs.lemmas.Int.{ints}
 use Rattle.std.proofs.lemmas.Bool.Decides.{nat_tests}
-use Rattle.std.proofs.lemmas.List.{append-nil}
-use Rattle.decimal_text.specs.Whole.{size_of, are_digits, digit_sum}
+use Rattle.decimal_text.specs.Whole.{size_of, digit_sum}
 use Rattle.decimal_text.specs.Write.{last_digits}
-use Rattle.decimal_text.specs.Fixed.{are_blank, signed}
-use Rattle.decimal_text.specs.FixedForm.{IsFixed, IsNumber, IsSigned}
+use Rattle.decimal_text.specs.Fixed.{signed}
+use Rattle.decimal_text.specs.FixedForm.{IsFixed, IsNumber}
 use Rattle.decimal_text.specs.Exp.{ends_blank, dec_of}
-use Rattle.decimal_text.specs.ExpForm.{IsReadAsDec, IsDec, IsMarked, IsPower, IsSignedPower}
+use Rattle.decimal_text.specs.ExpForm.{IsReadAsDec, IsPower, IsSignedPower}
 use Rattle.decimal_text.specs.declared.exponent.Dec.{Dec}
 use Rattle.decimal_text.proofs.ExpReads.{dec_only}
 use Rattle.sim_records.specs.Numbers.{sign_or, number_text}

@@ -1,18 +1,16 @@
 -- A record's lines give its numbers.
-use Rattle.std.proofs.Common.{◌≡◌, ℕ, ℤ, pos, negsuc, zero, suc, ◌+◌, ◌^◌, ◌≤◌, ◌<◌, ◌-ℤ◌, ◌*ℤ◌, ◌≤ℤ◌, Bool, ◌&&◌, true, nat_le, List, [], ◌∷◌, ◌++◌, length, Ok, unsigned_abs, refl, sym, ap, ◌∙◌, arith}
+use Rattle.std.proofs.Common.{◌≡◌, ℕ, ℤ, pos, negsuc, zero, suc, ◌+◌, ◌^◌, ◌≤◌, ◌<◌, ◌-ℤ◌, ◌*ℤ◌, ◌≤ℤ◌, Bool, ◌&&◌, true, nat_le, List, [], ◌∷◌, ◌++◌, Ok, unsigned_abs, refl, sym, ap, ◌∙◌, arith}
 use Rattle.std.proofs.lemmas.Bool.Decides.{nat_tests}
 use Rattle.std.proofs.lemmas.List.{append_assoc}
 use Rattle.std.proofs.lemmas.List.Elements.{All-from_recursion}
 use Rattle.std.proofs.lemmas.Int.{ints}
-use Rattle.std.specs.Prelude.{codes, slice_index_or}
+use Rattle.std.specs.Prelude.{slice_index_or}
 use Rattle.decimal_text.specs.declared.exponent.Dec.{Dec}
 use Rattle.gps_time.specs.declared.Tick.{Tick}
-use Rattle.gps_time.specs.Ticks.{is_moment, ticks_since}
 use Rattle.eph_store.specs.declared.ephemeris.Eph.{Eph}
-use Rattle.eph_store.specs.declared.record.Raw.{Raw}
 use Rattle.line_source.specs.Lines.{lines_of}
-use Rattle.rinex_head.specs.Columns.{padded, columns}
-use Rattle.rinex_head.specs.Fields.{whole_of, filled_of}
+use Rattle.rinex_head.specs.Columns.{padded}
+use Rattle.rinex_head.specs.Fields.{whole_of}
 use Rattle.rinex_nav.specs.RecordLines.{satellite_of, satellite_in, moment_of, toc_in}
 use Rattle.rinex_nav.specs.NavForm.{EightLines, further_of, IsFurther, IsGpsRecord}
 use Rattle.sim_records.specs.Satellites.{IsSatellite, AreNormal, anomalies, longitudes, anomaly, node}
@@ -23,7 +21,7 @@ use Rattle.written_texts.proofs.Dates.{moment_is, ticks_are}
 use Rattle.made_navigation.specs.Records.{raw_of}
 use Rattle.made_navigation.proofs.Numbers.{HasRoom}
 use Rattle.made_navigation.proofs.Rooms.{room}
-use Rattle.made_navigation.proofs.Lines.{first_content, further_content, three, first_read, further_read, first_letter, first_sat, further_blank, first_24, first_43, first_62, further_5, further_24, further_43, further_62}
+use Rattle.made_navigation.proofs.Lines.{first_content, further_content, first_read, further_read, first_letter, first_sat, further_blank, first_24, first_43, first_62, further_5, further_24, further_43, further_62}
 
 unfoldable pub lines_for : Eph → EightLines
 lines_for e = record {

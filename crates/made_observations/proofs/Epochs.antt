@@ -1,15 +1,14 @@
 -- The lines of an epoch, read again.
-use Rattle.std.proofs.Common.{◌≡◌, ℕ, ℤ, pos, negsuc, zero, suc, ◌+◌, ◌-◌, ◌*◌, ◌/◌, ◌%◌, ◌^◌, ◌≤◌, ◌<◌, true, false, ◌==◌, ◌&&◌, nat_le, nat_lt, Bool, List, [], ◌∷◌, ◌++◌, length, drop, get_or, Ok, Some, None, Option, Result, if◌then◌else◌, refl, sym, ap, subst, ◌∙◌, arith, length-append}
+use Rattle.std.proofs.Common.{◌≡◌, ℕ, pos, suc, ◌+◌, ◌*◌, ◌/◌, ◌%◌, ◌^◌, ◌≤◌, ◌<◌, true, false, nat_le, nat_lt, List, [], ◌∷◌, ◌++◌, length, drop, get_or, Ok, Some, Option, Result, refl, sym, ap, ◌∙◌, arith, length-append}
 use Rattle.std.proofs.lemmas.Bool.Decides.{nat_tests}
 use Rattle.std.proofs.Math.Nat.{mul-add, div-div-eq-div-mul}
 use Rattle.std.proofs.lemmas.List.{append_assoc}
 use Rattle.std.proofs.lemmas.List.Elements.{All-head, All-tail}
-use Rattle.std.specs.Prelude.{codes, map, unwrap_or}
+use Rattle.std.specs.Prelude.{codes}
 use Rattle.std.specs.List.{All}
 use Rattle.decimal_text.specs.Write.{last_digits}
 use Rattle.decimal_text.specs.Fixed.{are_blank, fixed_of}
 use Rattle.gps_time.specs.declared.Tick.{Tick}
-use Rattle.gps_time.specs.Ticks.{is_moment, ticks_since}
 use Rattle.line_source.specs.Lines.{lines_of}
 use Rattle.obs_store.specs.declared.series.Epoch.{Epoch}
 use Rattle.obs_store.specs.declared.values.SatObs.{SatObs}
@@ -17,12 +16,11 @@ use Rattle.obs_store.specs.Epochs.{last_tag_of}
 use Rattle.rinex_head.specs.declared.place.Flaw.{Flaw}
 use Rattle.rinex_head.specs.Columns.{column, columns, padded}
 use Rattle.rinex_head.specs.Places.{and_then}
-use Rattle.rinex_head.specs.Fields.{whole_of, filled_of, fixed_in as fixed_field, readable, required}
-use Rattle.rinex_obs.specs.EpochLines.{count_in, moment_of, tag_in, is_later, epoch_in, by_flag, epoch_line_of}
+use Rattle.rinex_head.specs.Fields.{filled_of, fixed_in as fixed_field, readable, required}
+use Rattle.rinex_obs.specs.EpochLines.{count_in, moment_of, tag_in, is_later, epoch_in, epoch_line_of}
 use Rattle.rinex_obs.specs.ObsForm.{EpochPart, Part, Epoch_, IsEpochPart, AreSatLines, AreParts, epoch_in_part, lines_of_part, body_lines}
 use Rattle.rinex_obs.specs.ObsForm.{satellites_of as satellites_in, epochs_of as epochs_in}
 use Rattle.rinex_obs.specs.SatLines.{satellite_of}
-use Rattle.rinex_obs.specs.declared.epoch_lines.EpochLine.{EpochLine}
 use Rattle.rinex_obs.specs.declared.epoch_lines.EpochLine.TheVariants as line
 use Rattle.sim_texts.specs.declared.signals.Signals.{Signals}
 use Rattle.sim_texts.specs.Columns.{fixed_in}

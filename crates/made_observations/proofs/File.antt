@@ -1,12 +1,11 @@
 -- The whole observation file.
-use Rattle.std.proofs.Common.{◌≡◌, ℕ, ◌+◌, ◌*◌, ◌≤◌, ◌<◌, List, [], ◌∷◌, ◌++◌, length, refl, sym, ap, subst, ◌∙◌, arith}
+use Rattle.std.proofs.Common.{◌≡◌, ℕ, ◌+◌, ◌*◌, ◌≤◌, ◌<◌, List, [], ◌++◌, length, refl, sym, ap, subst, ◌∙◌, arith}
 use Rattle.std.specs.List.{All}
 use Rattle.line_source.specs.Lines.{lines_of}
-use Rattle.obs_store.specs.declared.file.ObsFile.{ObsFile}
 use Rattle.obs_store.specs.declared.series.Epoch.{Epoch}
-use Rattle.rinex_obs.specs.Types.{kept_from, listed_of, is_listed}
+use Rattle.rinex_obs.specs.Types.{listed_of, is_listed}
 use Rattle.rinex_obs.specs.ObsRules.{file_of as file_with}
-use Rattle.rinex_obs.specs.ObsForm.{IsObsFile, AreParts, body_lines}
+use Rattle.rinex_obs.specs.ObsForm.{IsObsFile, AreParts}
 use Rattle.rinex_obs.specs.ObsForm.{epochs_of as epochs_in}
 use Rattle.rinex_obs.specs.declared.types.KeptType.{KeptType}
 use Rattle.sim_texts.specs.declared.signals.Signals.{Signals}

@@ -1,5 +1,5 @@
 -- The header, read again.
-use Rattle.std.proofs.Common.{◌≡◌, ℕ, ℤ, pos, ◌≤◌, true, List, [], ◌∷◌, ◌++◌, length, Ok, Some, refl, ap, ◌∙◌, arith}
+use Rattle.std.proofs.Common.{◌≡◌, ℕ, pos, ◌≤◌, List, [], ◌∷◌, ◌++◌, length, Ok, Some, refl, ap, ◌∙◌, arith}
 use Rattle.std.specs.Prelude.{codes}
 use Rattle.line_source.specs.Lines.{lines_of}
 use Rattle.rinex_head.specs.Columns.{padded}
@@ -7,8 +7,8 @@ use Rattle.rinex_head.specs.Head.{trimmed}
 use Rattle.rinex_head.specs.Fields.{fixed_in}
 use Rattle.rinex_obs.specs.FirstLine.{first_line_of}
 use Rattle.rinex_obs.specs.HeaderLines.{label_in, position_in, offset_in, delta_in, header_line_of}
-use Rattle.rinex_obs.specs.Types.{is_listed, names_from, first_types_of, type_list, kept_from, listed_of}
-use Rattle.rinex_obs.specs.ObsForm.{HeadPart, AreHeadParts, IsTypeList, IsHeader}
+use Rattle.rinex_obs.specs.Types.{is_listed, names_from, first_types_of, type_list, kept_from}
+use Rattle.rinex_obs.specs.ObsForm.{IsHeader}
 use Rattle.rinex_obs.specs.declared.header.Header.{Header}
 use Rattle.rinex_obs.specs.declared.header_lines.HeaderLine.TheVariants as header
 use Rattle.sim_texts.specs.Observations.{header_text}

@@ -1,30 +1,26 @@
 -- A satellite's line, read again.
-use Rattle.std.proofs.Common.{◌≡◌, ℕ, ℤ, pos, negsuc, zero, suc, ◌+◌, ◌-◌, ◌*◌, ◌/◌, ◌%◌, ◌^◌, ◌≤◌, ◌<◌, true, false, ◌==◌, ◌&&◌, ◌||◌, nat_le, Bool, List, [], ◌∷◌, ◌++◌, length, drop, get_or, Ok, Some, None, Option, Result, if◌then◌else◌, refl, sym, ap, subst, ◌∙◌, arith, length-append}
+use Rattle.std.proofs.Common.{◌≡◌, ℕ, ℤ, zero, suc, ◌+◌, ◌-◌, ◌/◌, ◌%◌, ◌^◌, ◌≤◌, ◌<◌, true, false, ◌==◌, nat_le, List, [], ◌∷◌, ◌++◌, length, drop, get_or, Ok, Some, None, Option, refl, sym, ap, subst, ◌∙◌, arith, length-append}
 use Rattle.std.proofs.lemmas.Bool.Decides.{nat_tests}
 use Rattle.std.proofs.lemmas.List.{append_assoc, append-nil}
-use Rattle.std.proofs.lemmas.List.Elements.{All-head, All-tail}
-use Rattle.std.specs.Prelude.{codes, map, replicate}
-use Rattle.std.specs.List.{All, AllByRecursion, list_any}
+use Rattle.std.specs.Prelude.{codes, replicate}
+use Rattle.std.specs.List.{AllByRecursion}
 use Rattle.decimal_text.specs.Whole.{is_digit, size_of}
 use Rattle.decimal_text.specs.Write.{last_digits}
 use Rattle.decimal_text.specs.Fixed.{fixed_of}
 use Rattle.line_source.specs.Lines.{lines_of}
-use Rattle.obs_store.specs.declared.values.Value.{Value}
 use Rattle.obs_store.specs.declared.values.SatObs.{SatObs}
 use Rattle.obs_store.specs.declared.kinds.ObsType.TheVariants.{C1C, L1C, C2W, L2W}
 use Rattle.obs_store.specs.Satellites.{has_satellite}
-use Rattle.rinex_head.specs.declared.place.Flaw.{Flaw}
 use Rattle.rinex_head.specs.Columns.{column, columns, padded}
-use Rattle.rinex_head.specs.Places.{and_then}
-use Rattle.rinex_obs.specs.SatLines.{unless_zero, amount_of, amount_in, with_lock, value_in, values_from, digit_of, two_digits, number_in, satellite_in, satellite_line_of, with_values, satellite_of}
+use Rattle.rinex_obs.specs.SatLines.{unless_zero, amount_in, with_lock, value_in, values_from, digit_of, number_in, satellite_in, satellite_line_of, satellite_of}
 use Rattle.rinex_obs.specs.declared.types.KeptType.{KeptType}
 use Rattle.sim_texts.specs.declared.signals.Signals.{Signals}
 use Rattle.sim_texts.specs.Columns.{fixed_in}
-use Rattle.sim_texts.specs.Observations.{satellite_line, satellite_lines, IsInColumns, AreInColumns}
+use Rattle.sim_texts.specs.Observations.{satellite_line, IsInColumns, AreInColumns}
 use Rattle.written_texts.specs.Printed.{are_printed}
 use Rattle.written_texts.proofs.Printed.{printed-append, line_first}
 use Rattle.written_texts.proofs.Fields.{drop-behind, padded-front}
-use Rattle.made_observations.specs.Files.{with_no_lock, value_of, values_of, satellites_of}
+use Rattle.made_observations.specs.Files.{with_no_lock, value_of, values_of}
 use Rattle.made_observations.proofs.Texts.{length-thousandths, printed_digits, printed_fixed, fixed_is, size_in}
 
 pub field : ℤ → List ℕ
@@ -81,12 +77,12 @@ unfolding content
 length-content n s h = ap (λ (k : ℕ). suc (suc (suc k))) (length-fields (field s.code) (field s.l1) (field s.l2) (length-field s.code h.code) (length-field s.l1 h.l1) (length-field s.l2 h.l2))
 
 -- ---- the columns of a line
-get-behind : (xs ys : List ℕ) (k j d : ℕ) → k ≡ length xs + j → get_or (xs ++ ys) k d ≡ get_or ys j d
+pub get-behind : (xs ys : List ℕ) (k j d : ℕ) → k ≡ length xs + j → get_or (xs ++ ys) k d ≡ get_or ys j d
 get-behind [] ys k j d is = let same : k ≡ j = omega arith in ap (λ (i : ℕ). get_or ys i d) same
 get-behind (x ∷ xs) ys zero j d is = absurd (omega arith)
 get-behind (x ∷ xs) ys (suc k) j d is = get-behind xs ys k j d (omega arith)
 
-padded-whole : (xs : List ℕ) (n : ℕ) → n ≡ length xs → padded xs n ≡ xs
+pub padded-whole : (xs : List ℕ) (n : ℕ) → n ≡ length xs → padded xs n ≡ xs
 padded-whole xs n is = subst (λ (l : List ℕ). padded l n ≡ xs) (append-nil xs) (padded-front xs [] n is)
 
 -- the columns of three texts of 14 bytes, from column 1 of the first one on

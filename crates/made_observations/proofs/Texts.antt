@@ -1,11 +1,10 @@
 -- Numbers in columns: how long they are, that they are printed, and what they are read as.
-use Rattle.std.proofs.Common.{◌≡◌, ℕ, ℤ, pos, negsuc, zero, suc, ◌+◌, ◌-◌, ◌*◌, ◌/◌, ◌%◌, ◌^◌, ◌≤◌, ◌<◌, ◌<ℤ◌, ◌≤ℤ◌, true, false, ◌==◌, nat_le, Bool, List, [], ◌∷◌, ◌++◌, length, Ok, Some, if◌then◌else◌, refl, sym, ap, ◌∙◌, arith, length-append, lit<}
-use Rattle.std.proofs.lemmas.Bool.Decides.{nat_tests}
+use Rattle.std.proofs.Common.{◌≡◌, ℕ, ℤ, pos, negsuc, zero, suc, ◌+◌, ◌-◌, ◌*◌, ◌/◌, ◌%◌, ◌^◌, ◌≤◌, ◌<◌, ◌<ℤ◌, true, List, [], ◌∷◌, ◌++◌, length, Ok, Some, refl, ap, ◌∙◌, arith, length-append, lit<}
 use Rattle.std.proofs.lemmas.Int.{ints}
 use Rattle.std.proofs.lemmas.List.{length-replicate, append-nil}
 use Rattle.std.proofs.lemmas.Fmt.{length-decimal-le, decimal_nonempty}
 use Rattle.std.specs.Prelude.{decimal, replicate}
-use Rattle.decimal_text.specs.Whole.{size_of, is_digit, are_digits, number_from}
+use Rattle.decimal_text.specs.Whole.{size_of, are_digits, number_from}
 use Rattle.decimal_text.specs.Write.{last_digits, sign_text, part_text, fixed_text}
 use Rattle.decimal_text.specs.Fixed.{fixed_of}
 use Rattle.decimal_text.proofs.Numbers.{digits_are}
@@ -13,7 +12,7 @@ use Rattle.rinex_head.specs.Fields.{without_blanks, digits_of, whole_of}
 use Rattle.sim_texts.specs.Columns.{right_in, fixed_in}
 use Rattle.sim_texts.specs.Observations.{IsInColumns}
 use Rattle.written_texts.specs.Printed.{are_printed}
-use Rattle.written_texts.proofs.Printed.{printed-append, first_and, second_and}
+use Rattle.written_texts.proofs.Printed.{printed-append}
 use Rattle.written_texts.proofs.Digits.{decimal_digits, decimal_value, digits_printed, last_digits-digits, length-last_digits}
 use Rattle.written_texts.proofs.Fixed.{fixed_again}
 use Rattle.written_texts.proofs.Fields.{no_blanks}

@@ -1,10 +1,10 @@
 -- Moments of 2024-01-01.
-use Rattle.std.proofs.Common.{◌≡◌, ℕ, ℤ, pos, negsuc, ◌≤◌, ◌+◌, ◌*◌, ◌-ℤ◌, ◌≤ℤ◌, true, unsigned_abs, refl, sym, arith}
+use Rattle.std.proofs.Common.{◌≡◌, ℕ, pos, ◌≤◌, ◌+◌, ◌*◌, true, refl, sym, arith}
 use Rattle.jiff_core.specs.Calendar.{days_from_civil, IsCivilDate}
 use Rattle.jiff_core.proofs.SignedLemmas.{signed_arith}
 use Rattle.jiff_core.proofs.MarchLemmas.{day_count-early}
 use Rattle.jiff_core.proofs.CalendarLemmas.{days_from_civil-day_count}
-use Rattle.gps_time.specs.Ticks.{IsGpsDate, IsMoment, is_moment, days_since, ticks_since}
+use Rattle.gps_time.specs.Ticks.{IsGpsDate, is_moment, days_since, ticks_since}
 use Rattle.gps_time.proofs.Days.{in_range, days_are}
 use Rattle.gps_time.proofs.MomentTests.{is_moment-true}
 

@@ -1,12 +1,12 @@
 -- Fields of a written line, and the bytes in its columns.
-use Rattle.std.proofs.Common.{◌≡◌, ℕ, zero, suc, ◌+◌, ◌-◌, ◌^◌, ◌≤◌, ◌<◌, Bool, true, false, ◌==◌, List, [], ◌∷◌, ◌++◌, length, drop, Ok, Some, refl, sym, ap, ◌∙◌, arith}
+use Rattle.std.proofs.Common.{◌≡◌, ℕ, zero, suc, ◌+◌, ◌^◌, ◌<◌, true, false, ◌==◌, List, [], ◌∷◌, ◌++◌, length, drop, Ok, Some, refl, ap, ◌∙◌, arith}
 use Rattle.std.proofs.lemmas.Bool.Decides.{nat_tests}
-use Rattle.decimal_text.specs.Whole.{is_digit, are_digits, number_from}
+use Rattle.decimal_text.specs.Whole.{is_digit, are_digits}
 use Rattle.decimal_text.specs.Write.{last_digits}
 use Rattle.decimal_text.proofs.Numbers.{digits_are}
-use Rattle.rinex_head.specs.Columns.{padded, columns}
+use Rattle.rinex_head.specs.Columns.{padded}
 use Rattle.rinex_head.specs.Fields.{without_blanks, digits_of, whole_of}
-use Rattle.written_texts.proofs.Printed.{first_and, second_and}
+use Rattle.written_texts.proofs.Printed.{first_and}
 use Rattle.written_texts.proofs.Digits.{last_digits-digits, last_digits-value}
 
 not_blank : (d : ℕ) → is_digit d ≡ true → (d == 32) ≡ false

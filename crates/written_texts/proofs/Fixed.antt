@@ -1,13 +1,13 @@
 -- A number with a point, read again.
-use Rattle.std.proofs.Common.{◌≡◌, ℕ, ℤ, pos, negsuc, zero, suc, ◌+◌, ◌*◌, ◌/◌, ◌-◌, ◌^◌, ◌≤◌, ◌<◌, Bool, true, false, List, [], ◌∷◌, ◌++◌, length, Ok, inl, inr, refl, sym, ap, ◌∙◌, arith}
+use Rattle.std.proofs.Common.{◌≡◌, ℕ, ℤ, pos, negsuc, zero, suc, ◌/◌, ◌-◌, ◌^◌, ◌≤◌, ◌<◌, true, false, [], ◌∷◌, ◌++◌, length, Ok, inl, inr, refl, sym, ap, ◌∙◌, arith}
 use Rattle.std.specs.Prelude.{replicate, decimal}
 use Rattle.std.proofs.lemmas.List.{append-nil}
 use Rattle.std.proofs.lemmas.Fmt.{decimal_nonempty}
 use Rattle.std.proofs.Math.Nat.{div-le_self}
-use Rattle.decimal_text.specs.Whole.{size_of, are_digits, digit_sum}
+use Rattle.decimal_text.specs.Whole.{size_of, digit_sum}
 use Rattle.decimal_text.specs.Write.{fixed_text, part_text, last_digits}
 use Rattle.decimal_text.specs.Fixed.{are_blank, signed, fixed_of}
-use Rattle.decimal_text.specs.FixedForm.{IsReadAs, IsFixed, IsNumber, IsRest, IsValue, size_with}
+use Rattle.decimal_text.specs.FixedForm.{IsReadAs, IsNumber, IsRest, size_with}
 use Rattle.decimal_text.proofs.FixedReads.{read_only}
 use Rattle.written_texts.proofs.Digits.{decimal_digits, decimal_value, last_digits-digits, last_digits-sum, length-last_digits, sum-append}
 
