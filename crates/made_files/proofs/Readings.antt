@@ -1,15 +1,13 @@
 -- The texts of a made-up session, read again.
-use Rattle.std.proofs.Common.{◌≡◌, ℕ, ℤ, ◌*◌, ◌≤◌, ◌<◌, Bool, true, false, nat_le, List, length, get_or, All, refl, sym, ap, subst, ◌∙◌, if◌then◌else◌, arith}
+use Rattle.std.proofs.Common.{◌≡◌, ℕ, ℤ, ◌*◌, ◌≤◌, ◌<◌, Bool, true, false, nat_le, List, length, All, refl, sym, subst, if◌then◌else◌, arith}
 use Rattle.std.proofs.lemmas.Bool.Decides.{nat_tests}
 use Rattle.eph_store.specs.declared.ephemeris.Eph.{Eph}
 use Rattle.line_source.specs.Lines.{lines_of}
 use Rattle.rinex_obs.specs.ObsForm.{IsObsFile}
 use Rattle.rinex_nav.specs.NavForm.{IsNavFile}
-use Rattle.sim_texts.specs.declared.signals.Signals.{Signals}
 use Rattle.sim_draws.specs.Values.{base_clock_of, rover_clock_of, base_cycles, rover_cycles, first_of}
-use Rattle.sim_records.specs.Navigation.{navigation_text}
-use Rattle.sim_session.specs.Observations.{step_of, tag_of, AreObserved, IsObservationText}
-use Rattle.sim_session.specs.Texts.{base_point, rover_point, HasRecords, IsBaseText, IsRoverText, IsNavigationText}
+use Rattle.sim_session.specs.Observations.{step_of, IsObservationText}
+use Rattle.sim_session.specs.Texts.{base_point, rover_point, IsBaseText, IsRoverText, IsNavigationText}
 use Rattle.made_navigation.specs.Records.{raws_of}
 use Rattle.made_navigation.proofs.File as navigation
 use Rattle.made_observations.specs.Files.{file_of, HaveRoom}
