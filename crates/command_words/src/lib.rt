@@ -19,3 +19,6 @@ pub use word::Word;
 
 #[cfg(test)]
 mod tests;
+
+#[cfg(test)]
+mod option_tests;
