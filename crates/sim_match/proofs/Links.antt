@@ -89,12 +89,12 @@ reaches_or_not arcs (suc n) k a is low =
     ⊎_elim
     (λ (less : here.0.last < a.first).
     inr (λ m b before at.
-        ⊎_elim (λ (earlier : m < n). none m b earlier at)
-        (λ (more : n ≤ m).
-        let same : n ≡ m = omega arith in
-        let one : here.0 ≡ b = same_Some here.0 b (sym here.1 ∙ ap (λ (i : ℕ). slice_get arcs i) same ∙ at) in
-        subst (λ (c : Arc). c.last < a.first) one less)
-        (cases_lt m n)))
+    ⊎_elim (λ (earlier : m < n). none m b earlier at)
+    (λ (more : n ≤ m).
+    let same : n ≡ m = omega arith in
+    let one : here.0 ≡ b = same_Some here.0 b (sym here.1 ∙ ap (λ (i : ℕ). slice_get arcs i) same ∙ at) in
+    subst (λ (c : Arc). c.last < a.first) one less)
+    (cases_lt m n)))
     (λ (more : a.first ≤ here.0.last). inl (record { place = n; arc = here.0; before = omega arith; is = here.1; reaches = more }))
     (cases_lt here.0.last a.first))
     (reaches_or_not arcs n k a is (omega arith))

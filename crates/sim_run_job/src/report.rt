@@ -45,5 +45,7 @@ pub fn run_text(
     let verdict = verdict_word(answer);
     let integers = integers_of(answer);
     let word = match_word(matched);
-    format!(in alloc; "sim seed {seed} epochs {epochs} sats {sats}\nverdict {verdict}\nintegers {integers}\nmatch {word}\n")
+    format!(in alloc;
+        "sim seed {seed} epochs {epochs} sats {sats}\nverdict {verdict}\nintegers {integers}\nmatch {word}\n"
+    )
 }
