@@ -1,10 +1,10 @@
 -- The datum of an arc's linked set is the last datum at or before the arc, and there is no other in the set.
-use Rattle.std.proofs.Common.{◌≡◌, ℕ, zero, suc, ◌+◌, ◌-◌, ◌<◌, ◌≤◌, ◌⊎◌, true, false, Bool, not, IsTrue, Some, None, Option, List, [], ◌∷◌, ◌++◌, length, arith, refl, sym, ◌∙◌, ap, subst, inl, inr, ⊎_elim}
-use Rattle.std.specs.Prelude.{slice_get, ◌↔◌}
+use Rattle.std.proofs.Common.{◌≡◌, ℕ, zero, suc, ◌<◌, ◌≤◌, ◌⊎◌, true, false, IsTrue, Some, List, [], ◌∷◌, ◌++◌, length, arith, refl, sym, ◌∙◌, ap, subst, inl, inr, ⊎_elim}
+use Rattle.std.specs.Prelude.{slice_get}
 use Rattle.std.proofs.lemmas.Bool.{cases_lt, cases_eq}
-use Rattle.std.proofs.lemmas.Option.{none-some, same_Some, slice_get_within}
+use Rattle.std.proofs.lemmas.Option.{none-some, same_Some}
 use Rattle.obs_rows.specs.declared.arcs.Arc.{Arc}
-use Rattle.slip_arcs.specs.Linked.{SharePair, AreNeighbours, IsChain, AreLinked, IsFirstLinked, HaveDatums}
+use Rattle.slip_arcs.specs.Linked.{AreNeighbours, IsChain, AreLinked, IsFirstLinked, HaveDatums}
 use Rattle.sim_match.specs.Matches.{IsDatumOf, AreInOrder, AreMarked}
 
 -- ---- links go both ways, and one behind another

@@ -1,4 +1,4 @@
-use Rattle.std.proofs.Common.{◌≡◌, true, false, refl, IsTrue, arith}
+use Rattle.std.proofs.Common.{refl, IsTrue, arith}
 use Rattle.sim_match.proofs.Truths.{one_has, all_have}
 use Rattle.sim_match.proofs.matches.have_truth.Goals as goal
 
