@@ -13,5 +13,5 @@ returns-in_ok-answer_match-in-Ok c = inl (record {
   best = c.in-Ok.ensures.strictly_best;
   matched = c.is_matched-matched.result;
   matched_is = subst (λ (t : List (List ℤ)). IsTrue c.is_matched-matched.result ↔ IsMatched t c.in-Ok.outcome.answer) (c.deref.ensures.value ∙ c.requires) c.is_matched-matched.ensures;
-  end_is = c.in_ok-answer_match.ensures;
+  end_is = c.in_ok-answer_match-in-Ok.ensures;
 })
