@@ -62,10 +62,11 @@ fn run(
     rt: &impl Abort,
     alloc: Global,
     made: &Made,
-    edits: [&[Edit]; 3],
+    base: &[Edit],
+    rover: &[Edit],
+    nav: &[Edit],
     options: &Options,
 ) -> Result<Outcome, Fail> {
-    let [base, rover, nav] = edits;
     let base = edited(rt, alloc, &made.base, base)?;
     let rover = edited(rt, alloc, &made.rover, rover)?;
     let nav = edited(rt, alloc, &made.nav, nav)?;
@@ -158,8 +159,7 @@ fn answer_agrees(rt: &impl Abort, what: &str, answer: &Answer, end: End, point: 
 
 fn case_agrees(rt: &impl Abort, alloc: Global, made: &Made, case: &Case) -> Result<(), Fail> {
     let options = options_of(rt, case.arc, case.budget);
-    let edits = [case.base, case.rover, case.nav];
-    let outcome = run(rt, alloc, made, edits, &options)?;
+    let outcome = run(rt, alloc, made, case.base, case.rover, case.nav, &options)?;
     let counts = (outcome.taken, outcome.all, outcome.kept, outcome.delta);
     assert_eq!(rt; counts, (2, 2, case.kept, case.delta), "{}", case.what);
     answer_agrees(rt, case.what, &outcome.answer, case.end, case.point);
@@ -175,17 +175,28 @@ fn ends_as_the_model_does(rt: HostRuntime) -> Result<(), Fail> {
     Ok(())
 }
 
+// The run with these arcs cut.
+fn cut_agrees(
+    rt: &impl Abort,
+    alloc: Global,
+    made: &Made,
+    cuts: &[Edit],
+    want: (u32, End, Option<[i64; 3]>),
+) -> Result<(), Fail> {
+    let (kept, end, point) = want;
+    let options = options_of(rt, 2, 1_000_000);
+    let outcome = run(rt, alloc, made, cuts, &[], &[], &options)?;
+    assert_eq!(rt; outcome.kept, kept);
+    answer_agrees(rt, "cut", &outcome.answer, end, point);
+    Ok(())
+}
+
 // With so many satellites cut all arcs are linked, since two satellites aren't cut.
 #[test]
 fn twenty_arcs_are_free(rt: HostRuntime) -> Result<(), Fail> {
     let made = make(rt.alloc(), 1, 4, 12)?;
-    let options = options_of(&rt, 2, 1_000_000);
     let fixed = (21, End::Full(Verdict::Fixed), Some(UNCUT_POINT));
     let many = (22, End::Arcs { free: 21 }, None);
-    for (cuts, (kept, end, point)) in [(&CUTS[..9], fixed), (&CUTS[..], many)] {
-        let outcome = run(&rt, rt.alloc(), &made, [cuts, &[], &[]], &options)?;
-        assert_eq!(rt; outcome.kept, kept);
-        answer_agrees(&rt, "cut", &outcome.answer, end, point);
-    }
-    Ok(())
+    cut_agrees(&rt, rt.alloc(), &made, &CUTS[..9], fixed)?;
+    cut_agrees(&rt, rt.alloc(), &made, &CUTS, many)
 }
