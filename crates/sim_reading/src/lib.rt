@@ -2,6 +2,9 @@
 #![tactic(auto)]
 
 #[cfg(test)]
+mod piece_tests;
+
+#[cfg(test)]
 mod tests {
     use gps_time::Tick;
     use obs_store::{ObsType, Value};
