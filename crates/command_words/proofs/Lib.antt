@@ -2,3 +2,9 @@ pub mod NumberLaws
 pub mod SettingLaws
 pub mod PartLaws
 pub mod OneJob
+pub mod Steps
+pub mod Leaf
+pub mod Top
+pub mod Values
+pub mod SplitLaws
+pub mod JobLaws
