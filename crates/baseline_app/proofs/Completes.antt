@@ -8,6 +8,8 @@ use Rattle.job_answers.specs.Endings.{Ending}
 use Rattle.job_answers.specs.Delivered.{SinkChange}
 use Rattle.command_words.specs.declared.jobs.Job.{Job}
 use Rattle.command_words.specs.declared.jobs.Job.TheVariants as job
+use Rattle.command_words.specs.declared.sims.Part.{Part}
+use Rattle.command_words.specs.declared.sims.Part.TheVariants as part
 use Rattle.command_words.specs.Words.{IsJob}
 use Rattle.command_words.proofs.OneJob.{one_job}
 use Rattle.zero_job.proofs.ZeroSays.{zero_status, zero_verdict}
@@ -17,8 +19,22 @@ use Rattle.sim_job.proofs.SimSays.{sim_status, sim_verdict}
 use Rattle.cert_jobs.proofs.CertSays.{check_status, check_verdict, residuals_status, residuals_verdict}
 use Rattle.arcs_job.proofs.ArcSays.{arcs_status, arcs_verdict}
 use Rattle.fix_job.proofs.FixSays.{fix_status, fix_verdict}
-use Rattle.baseline_app.specs.Jobs.{JobEnds, IsReadable, IsAnswer}
+use Rattle.sim_run_job.proofs.RunSays.{sim_run_status, sim_run_verdict}
+use Rattle.baseline_app.specs.Jobs.{PartEnds, IsPartReadable, JobEnds, IsReadable, IsAnswer}
 use Rattle.baseline_app.specs.Runs.{IsRun, IsComplete}
+
+-- the parts of a made-up session
+part_verdict : (p : Part) (seed epochs sats : ℕ) (end : Ending) → IsPartReadable p seed epochs sats → end.status ≢ ReadFault → PartEnds p seed epochs sats end → IsVerdictStatus end.status
+part_verdict part.Base seed epochs sats end readable no_fault ends = sim_verdict part.Base seed epochs sats end ends
+part_verdict part.Rover seed epochs sats end readable no_fault ends = sim_verdict part.Rover seed epochs sats end ends
+part_verdict part.Nav seed epochs sats end readable no_fault ends = sim_verdict part.Nav seed epochs sats end ends
+part_verdict part.Run seed epochs sats end readable no_fault ends = sim_run_verdict seed epochs sats end readable no_fault ends
+
+part_status : (p : Part) (seed epochs sats : ℕ) (end : Ending) → PartEnds p seed epochs sats end → IsJobStatus end.status
+part_status part.Base seed epochs sats end ends = sim_status part.Base seed epochs sats end ends
+part_status part.Rover seed epochs sats end ends = sim_status part.Rover seed epochs sats end ends
+part_status part.Nav seed epochs sats end ends = sim_status part.Nav seed epochs sats end ends
+part_status part.Run seed epochs sats end ends = sim_run_status seed epochs sats end ends
 
 -- each command's own part
 readable_ends : (job : Job) (told : List ℕ → Option (List ℕ)) (end : Ending) → IsReadable job told → end.status ≢ ReadFault → JobEnds job told end → IsVerdictStatus end.status
@@ -29,7 +45,7 @@ readable_ends (job.Check cert) told end = check_verdict told cert end
 readable_ends (job.Residuals cert) told end = residuals_verdict told cert end
 readable_ends (job.Fix base rover nav options) told end = fix_verdict told base rover nav options end
 readable_ends (job.Arcs base rover nav options) told end = arcs_verdict told base rover nav options end
-readable_ends (job.Sim part seed epochs sats) told end = λ readable no_fault ends. sim_verdict part seed epochs sats end ends
+readable_ends (job.Sim part seed epochs sats) told end = part_verdict part seed epochs sats end
 
 job_status : (job : Job) (told : List ℕ → Option (List ℕ)) (end : Ending) → JobEnds job told end → IsJobStatus end.status
 job_status (job.Zero rows) told end = zero_status told rows end
@@ -39,7 +55,7 @@ job_status (job.Check cert) told end = check_status told cert end
 job_status (job.Residuals cert) told end = residuals_status told cert end
 job_status (job.Fix base rover nav options) told end = fix_status told base rover nav options end
 job_status (job.Arcs base rover nav options) told end = arcs_status told base rover nav options end
-job_status (job.Sim part seed epochs sats) told end = sim_status part seed epochs sats end
+job_status (job.Sim part seed epochs sats) told end = part_status part seed epochs sats end
 
 answer_ends : (job : Job) (words : List (List ℕ)) (told : List ℕ → Option (List ℕ)) (end : Ending) → IsJob words job → IsReadable job told → end.status ≢ ReadFault → IsAnswer words told end
     → (end.status ≡ NoMemory) ⊎ (JobEnds job told end × IsVerdictStatus end.status)

@@ -9,6 +9,8 @@ use Rattle.job_answers.specs.Texts.{usage_line, no_memory_line}
 use Rattle.job_answers.specs.Endings.{Ending, ending, EndsByFile, IsAdmitted}
 use Rattle.command_words.specs.declared.jobs.Job.{Job}
 use Rattle.command_words.specs.declared.jobs.Job.TheVariants as job
+use Rattle.command_words.specs.declared.sims.Part.{Part}
+use Rattle.command_words.specs.declared.sims.Part.TheVariants as part
 use Rattle.command_words.specs.Words.{IsJob}
 use Rattle.zero_job.specs.Zero.{ZeroEnds}
 use Rattle.list_job.specs.Listing.{ListEnds}
@@ -19,6 +21,22 @@ use Rattle.cert_jobs.specs.CertRuns.{IsCertAdmitted}
 use Rattle.arcs_job.specs.ArcJobs.{ArcsEnds}
 use Rattle.arcs_job.specs.ArcRuns.{AreAdmitted}
 use Rattle.fix_job.specs.FixJobs.{FixEnds}
+use Rattle.sim_run_job.specs.SimRunJobs.{SimRunEnds}
+use Rattle.sim_run_job.specs.SimRunSays.{AreMadeAdmitted}
+
+-- of a made-up session one of its files, or what the three are found to say
+abbrev pub PartEnds : Part → ℕ → ℕ → ℕ → Ending → Type 0
+PartEnds part.Base seed epochs sats end = SimEnds part.Base seed epochs sats end
+PartEnds part.Rover seed epochs sats end = SimEnds part.Rover seed epochs sats end
+PartEnds part.Nav seed epochs sats end = SimEnds part.Nav seed epochs sats end
+PartEnds part.Run seed epochs sats end = SimRunEnds seed epochs sats end
+
+-- a file is made whatever the numbers; a run reads what was made
+abbrev pub IsPartReadable : Part → ℕ → ℕ → ℕ → Type 0
+IsPartReadable part.Base seed epochs sats = Unit {0}
+IsPartReadable part.Rover seed epochs sats = Unit {0}
+IsPartReadable part.Nav seed epochs sats = Unit {0}
+IsPartReadable part.Run seed epochs sats = AreMadeAdmitted seed epochs sats
 
 abbrev pub JobEnds : Job → (List ℕ → Option (List ℕ)) → Ending → Type 0
 JobEnds (job.Zero rows) told end = EndsByFile told rows (ZeroEnds rows) end
@@ -28,7 +46,7 @@ JobEnds (job.Check cert) told end = EndsByFile told cert (CheckEnds cert) end
 JobEnds (job.Residuals cert) told end = EndsByFile told cert (ResidualsEnds cert) end
 JobEnds (job.Fix base rover nav options) told end = FixEnds told base rover nav options end
 JobEnds (job.Arcs base rover nav options) told end = ArcsEnds told base rover nav options end
-JobEnds (job.Sim part seed epochs sats) told end = SimEnds part seed epochs sats end
+JobEnds (job.Sim part seed epochs sats) told end = PartEnds part seed epochs sats end
 
 -- all files of the job are told and admitted, and those of a session aren't refused together
 abbrev pub IsReadable : Job → (List ℕ → Option (List ℕ)) → Type 0
@@ -39,7 +57,7 @@ IsReadable (job.Check cert) told = IsCertAdmitted told cert
 IsReadable (job.Residuals cert) told = IsCertAdmitted told cert
 IsReadable (job.Fix base rover nav options) told = AreAdmitted told base rover nav options
 IsReadable (job.Arcs base rover nav options) told = AreAdmitted told base rover nav options
-IsReadable (job.Sim part seed epochs sats) told = Unit {0}
+IsReadable (job.Sim part seed epochs sats) told = IsPartReadable part seed epochs sats
 
 -- the words ask for a job, which ends so
 pub record AnswersJob (words : List (List ℕ)) (told : List ℕ → Option (List ℕ)) (end : Ending) : Type 0 where

@@ -414,6 +414,30 @@ G01 60\nG02 60\nG03 60\nG04 60\nG05 60\nG06 60\nG07 60\nG08 60\n";
     Ok(())
 }
 
+// The integers of seed 1 are those that it was made with; two pairs are too few to tell.
+#[test]
+fn finds_what_was_made(rt: HostRuntime) -> Result<(), Fail> {
+    let rows = [
+        (
+            "60",
+            Status::Done,
+            "sim seed 1 epochs 60 sats 8\nverdict fixed\nintegers 14\nmatch yes\n",
+        ),
+        (
+            "2",
+            Status::Declined,
+            "sim seed 1 epochs 2 sats 8\nverdict declined\nintegers 0\nmatch no\n",
+        ),
+    ];
+    for (epochs, status, text) in rows {
+        let alloc = rt.alloc();
+        let words = ["sim", "run", "1", epochs, "8"];
+        let ran = run_on(alloc, &words, b"", 1000, Fails::none(alloc))?;
+        expect_run(&rt, &ran, status, text, "");
+    }
+    Ok(())
+}
+
 const CERT: &str =
     "baseline-cert 1\nratio 2000\nbudget 1000\nbase 63781370000 0 0\npoint 63781370000 0 0\n\
 signals C W\narcs 2\narc 3 0 0 datum 0 0\narc 5 0 0 free 0 0\npairs 1\npair 0 13881024000000000 0 2\n\

@@ -1,5 +1,5 @@
 // The program over any files and sinks.
-ghost use Rattle.std.specs.Prelude.{◌≡◌, ◌≢◌, ◌⊎◌, [], ◌∷◌, ℕ, List, IfOk, All};
+ghost use Rattle.std.specs.Prelude.{◌≡◌, ◌≢◌, ◌⊎◌, ◌≤◌, [], ◌∷◌, ℕ, List, IfOk, All};
 ghost use Rattle.line_source.specs.Causes.{Rose};
 ghost use Rattle.gps_time.specs.declared.Tick.{Tick};
 ghost use Rattle.job_answers.specs.Answers.{ending_of, IfEnded};
@@ -11,18 +11,19 @@ ghost use Rattle.zero_job.specs.ZeroRuns.{SaysOfZero};
 ghost use Rattle.list_job.specs.ListRuns.{SaysOfList};
 ghost use Rattle.orbit_job.specs.OrbitRuns.{SaysOfOrbit};
 ghost use Rattle.sim_job.specs.SimRuns.{SaysOfSim};
+ghost use Rattle.sim_run_job.specs.SimRunSays.{SaysOfSimRun};
 ghost use Rattle.run_options.specs.declared.options.Options.{Options};
 ghost use Rattle.cert_jobs.specs.CertRuns.{SaysOfCheck, SaysOfResiduals};
 ghost use Rattle.arcs_job.specs.ArcJobs.{ArcsEnds};
 ghost use Rattle.arcs_job.specs.ArcRuns.{SaysOfArcs};
 ghost use Rattle.fix_job.specs.FixJobs.{FixEnds};
 ghost use Rattle.fix_job.specs.FixRuns.{SaysOfFix};
-ghost use Rattle.baseline_app.specs.Jobs.{JobEnds, IsReadable, IsAnswer};
+ghost use Rattle.baseline_app.specs.Jobs.{PartEnds, JobEnds, IsReadable, IsAnswer};
 ghost use Rattle.baseline_app.specs.Runs.{IsRun, IsComplete};
 
 use arcs_job::arcs;
 use cert_jobs::{check_file, residuals};
-use command_words::{Job, Word, WordFault, read_words};
+use command_words::{Job, Part, Word, WordFault, read_words};
 use fix_job::fix;
 use job_answers::{Answer, Status, Stop, deliver};
 use line_source::{Files, Sink};
@@ -30,6 +31,7 @@ use list_job::list;
 use orbit_job::orbit;
 use run_options::Options;
 use sim_job::sim;
+use sim_run_job::sim_run;
 use std::alloc::{AllocError, Global};
 use zero_job::zero;
 
@@ -81,6 +83,27 @@ fn arcs_by_words<F: Files>(
     )
 }
 
+// A file of a made-up session, or what the three are found to say.
+fn sim_part(
+    alloc: Global,
+    part: Part,
+    seed: u32,
+    epochs: u32,
+    sats: u32,
+) -> Result<Answer, Stop>
+    requires epochs { epochs ≤ 3600 }
+    requires sats { sats ≤ 15 }
+    ensures ends { IfEnded result (λ end. PartEnds part seed epochs sats end) }
+    ensures no_fault { IfEnded result (λ end. end.status ≢ Status.ReadFault) }
+{
+    match part {
+        Part::Run => sim_run(alloc, seed, epochs, sats),
+        Part::Base => Ok(sim(alloc, Part::Base, seed, epochs, sats)?),
+        Part::Rover => Ok(sim(alloc, Part::Rover, seed, epochs, sats)?),
+        Part::Nav => Ok(sim(alloc, Part::Nav, seed, epochs, sats)?),
+    }
+}
+
 // What the job ends with.
 fn do_job<F: Files>(alloc: Global, job: &Job, files: &mut F) -> Result<Answer, Stop>
     requires { IsInRange job.now }
@@ -111,7 +134,7 @@ fn do_job<F: Files>(alloc: Global, job: &Job, files: &mut F) -> Result<Answer, S
             seed,
             epochs,
             sats,
-        } => Ok(sim(alloc, *part, *seed, *epochs, *sats)?),
+        } => sim_part(alloc, *part, *seed, *epochs, *sats),
     }
 }
 
@@ -159,8 +182,11 @@ pub fn run<F: Files, O: Sink, E: Sink>(
     ensures orbit { (nav : List ℕ) (sat : ℕ) (tick : Tick) → IsJob (texts_of words.now) (Job.Orbit nav sat tick)
         → SaysOfOrbit (F.text_of files.old) nav sat tick.0 result
         (sink_change (O.contents out.old) (O.contents out.new) (O.faults out.old) (O.faults out.new)) }
-    ensures sim { (part : Part) (seed epochs sats : ℕ) → IsJob (texts_of words.now) (Job.Sim part seed epochs sats)
+    ensures sim { (part : Part) (seed epochs sats : ℕ) → part ≢ Part.Run → IsJob (texts_of words.now) (Job.Sim part seed epochs sats)
         → SaysOfSim part seed epochs sats result
+        (sink_change (O.contents out.old) (O.contents out.new) (O.faults out.old) (O.faults out.new)) }
+    ensures sim_run { (seed epochs sats : ℕ) → IsJob (texts_of words.now) (Job.Sim Part.Run seed epochs sats)
+        → SaysOfSimRun seed epochs sats result
         (sink_change (O.contents out.old) (O.contents out.new) (O.faults out.old) (O.faults out.new)) }
     ensures check { (cert : List ℕ) → IsJob (texts_of words.now) (Job.Check cert) → SaysOfCheck (F.text_of files.old) cert result
         (sink_change (O.contents out.old) (O.contents out.new) (O.faults out.old) (O.faults out.new)) }

@@ -41,15 +41,16 @@ one_orbit nav nav' sat sat' tick tick' c p g first second =
     let same_tick : tick ≡ tick' = ap (λ (n : ℕ). let t : Tick = record { 0 = n } in t) same_number in
     cc (same_nav, same_sat, same_tick)
 
--- the parts of a session have three names
+-- the parts of a session have four names, of which two begin with one letter
 abbrev part_with_letter : List ℕ → Option Part
 part_with_letter [] = None
-part_with_letter (b ∷ bs) = if b == 98 then Some part.Base else (if b == 114 then Some part.Rover else Some part.Nav)
+part_with_letter (b ∷ bs) = if b == 98 then Some part.Base else (if b == 110 then Some part.Nav else (if get_or bs 0 0 == 111 then Some part.Rover else Some part.Run))
 
 is_part_name : (p : Part) → part_with_letter (name_of_part p) ≡ Some p
 is_part_name part.Base = refl
 is_part_name part.Rover = refl
 is_part_name part.Nav = refl
+is_part_name part.Run = refl
 
 one_part : (p q : Part) → name_of_part p ≡ name_of_part q → p ≡ q
 one_part p q same = same_Some p q (sym (is_part_name p) ∙ ap part_with_letter same ∙ is_part_name q)

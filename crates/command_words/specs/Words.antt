@@ -33,6 +33,7 @@ abbrev pub name_of_part : Part → List ℕ
 name_of_part part.Base = codes "base"
 name_of_part part.Rover = codes "rover"
 name_of_part part.Nav = codes "nav"
+name_of_part part.Run = codes "run"
 
 abbrev pub sim_with : Part → ℕ → ℕ → ℕ → Sim
 sim_with part seed epochs sats = record { part = part; seed = seed; epochs = epochs; sats = sats }

@@ -8,12 +8,13 @@ ghost use Rattle.command_words.specs.Words.{name_of_part, IsSim};
 use crate::numbers::number_of;
 use crate::word::Word;
 
-/// A part of a made-up session: the file of the base, of the rover, or of the satellites.
-#[derive(Clone, Copy, Debug)]
+/// A part of a made-up session: the file of the base, of the rover, or of the satellites; or what the three are found to say.
+#[derive(Clone, Copy, Debug, PartialEq, Eq)]
 pub enum Part {
     Base,
     Rover,
     Nav,
+    Run,
 }
 
 /// A part of a made-up session, with its seed, epochs and satellites.
@@ -47,6 +48,9 @@ fn part_of(word: &[u8]) -> Option<Part>
     }
     if word == b"nav".as_slice() {
         return Some(Part::Nav);
+    }
+    if word == b"run".as_slice() {
+        return Some(Part::Run);
     }
     None
 }

@@ -11,7 +11,16 @@ fn words_of(alloc: Global, words: &[&str]) -> Result<Vec<String>, AllocError> {
     Ok(list)
 }
 
-// The file and, of `orbit`, the satellite and the tick.
+fn part_name(part: Part) -> &'static str {
+    match part {
+        Part::Base => "base",
+        Part::Rover => "rover",
+        Part::Nav => "nav",
+        Part::Run => "run",
+    }
+}
+
+// The file or the part, and, of `orbit`, the satellite and the tick.
 fn asked(job: &Job) -> (&str, &str, u8, u64) {
     match job {
         Job::Zero { rows } => ("zero", rows.as_str(), 0, 0),
@@ -21,7 +30,7 @@ fn asked(job: &Job) -> (&str, &str, u8, u64) {
         Job::Residuals { cert } => ("residuals", cert.as_str(), 0, 0),
         Job::Fix { nav, options, .. } => ("fix", nav.as_str(), 0, options.budget),
         Job::Arcs { nav, options, .. } => ("arcs", nav.as_str(), 0, options.gap),
-        Job::Sim { epochs, .. } => ("sim", "", 0, *epochs as u64),
+        Job::Sim { part, epochs, .. } => ("sim", part_name(*part), 0, *epochs as u64),
     }
 }
 
@@ -41,7 +50,7 @@ fn reads_jobs(rt: HostRuntime) -> Result<(), Fail> {
         (&["list", "F"], ("list", "F", 0, 0)),
         (
             &["sim", "base", "4294967295", "3600", "15"],
-            ("sim", "", 0, 3600),
+            ("sim", "base", 0, 3600),
         ),
         (&["check", "F"], ("check", "F", 0, 0)),
         (&["residuals", "F"], ("residuals", "F", 0, 0)),
@@ -83,7 +92,9 @@ fn reads_jobs(rt: HostRuntime) -> Result<(), Fail> {
             ],
             ("arcs", "--gap", 0, 100_000),
         ),
-        (&["sim", "nav", "0", "1", "04"], ("sim", "", 0, 1)),
+        (&["sim", "nav", "0", "1", "04"], ("sim", "nav", 0, 1)),
+        (&["sim", "rover", "1", "60", "8"], ("sim", "rover", 0, 60)),
+        (&["sim", "run", "1", "60", "8"], ("sim", "run", 0, 60)),
         (&["orbit", "N", "G01", "0"], ("orbit", "N", 1, 0)),
         (
             &["orbit", "--", "N", "G32", "000999999999999999"],
@@ -154,6 +165,10 @@ fn refuses_words(rt: HostRuntime) -> Result<(), Fail> {
         &["arcs", "B", "R", "N", "--count=3601"],
         &["arcs", "B", "R", "N", "--mask=0000000000000000000"],
         &["sim", "Base", "1", "60", "8"],
+        &["sim", "r", "1", "60", "8"],
+        &["sim", "runs", "1", "60", "8"],
+        &["sim", "run", "1", "60"],
+        &["sim", "run", "1", "60", "8", "--budget=1"],
         &["sim", "base", "4294967296", "60", "8"],
         &["sim", "base", "1", "0", "8"],
         &["sim", "base", "1", "3601", "8"],

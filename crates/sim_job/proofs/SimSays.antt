@@ -1,5 +1,5 @@
 -- What the ending of `sim` says, and its status.
-use Rattle.std.proofs.Common.{◌≡◌, ℕ, List, sym, subst}
+use Rattle.std.proofs.Common.{◌≡◌, ◌≢◌, ℕ, List, refl, sym, subst}
 use Rattle.std.specs.Io.KnownBytes.{Appends}
 use Rattle.command_words.specs.declared.sims.Part.{Part}
 use Rattle.job_answers.specs.Statuses.{IsVerdictStatus, IsJobStatus}
@@ -27,7 +27,8 @@ sim_says part seed epochs sats end out ends written = subst (λ (e : Ending). Sa
 })
 
 -- each part of what is made is such a text
-pub made_text : (p : Part) (seed epochs sats : ℕ) (m : Made) → IsBaseText seed epochs sats m.base.items → IsRoverText seed epochs sats m.rover.items → IsNavigationText sats m.nav.items → IsMadeText p seed epochs sats (text_in p m)
-made_text part.Base seed epochs sats m base rover nav = base
-made_text part.Rover seed epochs sats m base rover nav = rover
-made_text part.Nav seed epochs sats m base rover nav = nav
+pub made_text : (p : Part) (seed epochs sats : ℕ) (m : Made) → p ≢ part.Run → IsBaseText seed epochs sats m.base.items → IsRoverText seed epochs sats m.rover.items → IsNavigationText sats m.nav.items → IsMadeText p seed epochs sats (text_in p m)
+made_text part.Base seed epochs sats m file base rover nav = base
+made_text part.Rover seed epochs sats m file base rover nav = rover
+made_text part.Nav seed epochs sats m file base rover nav = nav
+made_text part.Run seed epochs sats m file base rover nav = absurd (file refl)

@@ -1,6 +1,6 @@
 use Rattle.std.proofs.Common.{inl, inr}
 use Rattle.baseline_app.proofs.Completes.{run_complete, run_usage, run_write}
-use Rattle.baseline_app.proofs.Says.{run_says_zero, run_says_list, run_says_orbit, run_says_sim, run_says_check, run_says_residuals, run_says_arcs, run_says_fix}
+use Rattle.baseline_app.proofs.Says.{run_says_zero, run_says_list, run_says_orbit, run_says_sim, run_says_sim_run, run_says_check, run_says_residuals, run_says_arcs, run_says_fix}
 use Rattle.baseline_app.proofs.top.run.Goals as goal
 
 pub returns-clause-write : goal.returns-clause-write
@@ -26,7 +26,10 @@ pub returns-clause-orbit : goal.returns-clause-orbit
 returns-clause-orbit g c = λ nav sat tick asked. run_says_orbit _ _ nav sat tick _ _ _ c.write_answer.ensures.run asked
 
 pub returns-clause-sim : goal.returns-clause-sim
-returns-clause-sim g c = λ part seed epochs sats asked. run_says_sim _ _ part seed epochs sats _ _ _ c.write_answer.ensures.run asked
+returns-clause-sim g c = λ part seed epochs sats file asked. run_says_sim _ _ part seed epochs sats _ _ _ file c.write_answer.ensures.run asked
+
+pub returns-clause-sim_run : goal.returns-clause-sim_run
+returns-clause-sim_run g c = λ seed epochs sats asked. run_says_sim_run _ _ seed epochs sats _ _ _ c.write_answer.ensures.run asked
 
 pub returns-clause-check : goal.returns-clause-check
 returns-clause-check g c = λ cert asked. run_says_check _ _ cert _ _ _ c.write_answer.ensures.run asked

@@ -1,0 +1,4 @@
+pub mod RunArcs
+pub mod MadeFiles
+pub mod RunEnds
+pub mod RunSays

@@ -1,0 +1,52 @@
+-- The arcs of the session in which a run ends are in order, and just the first of each linked set is a datum.
+use Rattle.std.proofs.Common.{◌≡◌, ◌⊎◌, inl, inr, ℕ, ◌<◌, ◌≤◌, Some, List, filter, get_or, AllPairs, All, sym, ap, ◌∙◌, refl, subst, arith}
+use Rattle.std.specs.Prelude.{Option, slice_get}
+use Rattle.std.specs.Option.{option_map}
+use Rattle.std.proofs.lemmas.List.Kept.{AllPairs-filter}
+use Rattle.std.proofs.lemmas.Option.{slice_get-map, slice_get_within, get_or_from_slice_get}
+use Rattle.obs_store.specs.declared.file.ObsFile.{ObsFile}
+use Rattle.eph_store.specs.File.{Records}
+use Rattle.obs_rows.specs.declared.arcs.Arc.{Arc}
+use Rattle.slip_arcs.specs.declared.used.UsedPair.{UsedPair}
+use Rattle.slip_arcs.specs.Runs.{Run, Precedes, is_long, run_of, AreKept}
+use Rattle.slip_arcs.proofs.Kept.{kept_each}
+use Rattle.cert_data.specs.declared.certs.Cert.{Cert}
+use Rattle.cert_data.specs.declared.outcomes.Outcome.{Outcome}
+use Rattle.cert_data.specs.declared.outcomes.Answer.{Answer}
+use Rattle.cert_data.specs.declared.outcomes.Answer.TheVariants.{Few, Arcs, Early, Full}
+use Rattle.run_options.specs.declared.options.Options.{Options}
+use Rattle.session.specs.Outcomes.{IsOutcome}
+use Rattle.fix_job.proofs.Runs.{stands_for}
+use Rattle.sim_match.specs.Matches.{AreInOrder, AreMarked, HasMarkedArcs}
+
+-- kept arcs begin in order
+kept_at : (jump least : ℕ) (used : List UsedPair) (kept : List Arc) (short k : ℕ) (a : Arc) → (are : AreKept jump least used kept short) → slice_get kept k ≡ Some a → slice_get (filter (is_long least) are.runs) k ≡ Some (run_of a)
+kept_at jump least used kept short k a are is = ap (λ (rs : List Run). slice_get rs k) (sym are.kept_are) ∙ slice_get-map run_of kept k ∙ ap (λ (o : Option Arc). option_map run_of o) is
+
+precedes_at : (rs : List Run) (k m : ℕ) (r s : Run) → AllPairs Precedes rs → k < m → slice_get rs k ≡ Some r → slice_get rs m ≡ Some s → Precedes r s
+precedes_at rs k m r s pairs before first second =
+    subst (λ (t : Run). Precedes r t) (get_or_from_slice_get rs m s r second) (subst (λ (t : Run). Precedes t (get_or rs m r)) (get_or_from_slice_get rs k r r first) (pairs k m r before (slice_get_within rs m s second)))
+
+no_later : (r s : Run) → Precedes r s → r.first ≤ s.first
+no_later r s (inl less) = omega arith
+no_later r s (inr (same, less)) = omega arith
+
+in_order : (jump least : ℕ) (used : List UsedPair) (kept : List Arc) (short : ℕ) → AreKept jump least used kept short → AreInOrder kept
+in_order jump least used kept short are = record {
+  forward = λ k a is. (kept_each jump least used kept short k a are is).0.run.order;
+  rising = λ m k b a before first second.
+      let rs : List Run = filter (is_long least) are.runs in
+      let pairs : AllPairs Precedes rs = AllPairs-filter Precedes (is_long least) are.runs are.all.order in
+      no_later (run_of b) (run_of a) (precedes_at rs m k (run_of b) (run_of a) pairs before (kept_at jump least used kept short m b are first) (kept_at jump least used kept short k a are second));
+}
+
+marked_in : (b r : ObsFile) (n : Records) (o : Options) (outcome : Outcome) → IsOutcome b r n o outcome → (a : Answer) → outcome.answer ≡ a → HasMarkedArcs a
+marked_in b r n o outcome is (Few pairs) same = tt
+marked_in b r n o outcome is (Arcs free) same = tt
+marked_in b r n o outcome is (Early stage why) same = tt
+marked_in b r n o outcome is (Full cert) same =
+    let stands = (stands_for b r n o outcome cert is same).stands in
+    record { order = in_order o.jump o.arc stands.used cert.session.arcs stands.short stands.kept; datums = stands.datums }
+
+pub marked : (b r : ObsFile) (n : Records) (o : Options) (outcome : Outcome) → IsOutcome b r n o outcome → HasMarkedArcs outcome.answer
+marked b r n o outcome is = marked_in b r n o outcome is outcome.answer refl

@@ -1,0 +1,2 @@
+pub mod SimRunJobs
+pub mod SimRunSays

@@ -1,0 +1,77 @@
+-- What the command `sim run` ends with.
+use Rattle.std.specs.Prelude.{◌≡◌, ◌⊎◌, ◌↔◌, ℕ, ◌*◌, ℤ, Bool, true, false, IsTrue, if◌then◌else◌, Some, List, [], ◌++◌, codes}
+use Rattle.std.specs.Fmt.{decimal}
+use Rattle.std.specs.declared.option.Option.{Option}
+use Rattle.obs_store.specs.declared.file.ObsFile.{ObsFile}
+use Rattle.eph_store.specs.File.{Records}
+use Rattle.obs_rows.specs.Arcs.{free_count}
+use Rattle.sim_draws.specs.Values.{truth_of, first_of}
+use Rattle.sim_session.specs.Texts.{IsBaseText, IsRoverText, IsNavigationText}
+use Rattle.cert_data.specs.declared.outcomes.Outcome.{Outcome}
+use Rattle.cert_data.specs.declared.outcomes.Answer.{Answer}
+use Rattle.cert_data.specs.declared.outcomes.Answer.TheVariants.{Full}
+use Rattle.run_options.specs.declared.options.Options.{Options}
+use Rattle.run_options.specs.Defaults.{AreDefaults}
+use Rattle.session.specs.Answers.{IsBestAnswer}
+use Rattle.session.specs.Outcomes.{IsOutcome}
+use Rattle.outcome_report.specs.OutcomeText.{is_fixed}
+use Rattle.job_answers.specs.Endings.{Ending, ending}
+use Rattle.session_files.specs.SessionFiles.{EndsBySession}
+use Rattle.arcs_job.specs.ArcJobs.{IsPairRefused}
+use Rattle.fix_job.specs.FixJobs.{status_of}
+use Rattle.sim_match.specs.Matches.{IsMatched}
+
+-- under these three names the texts of the session of the seed are told
+pub record AreMadeFiles (seed epochs sats : ℕ) (told : List ℕ → Option (List ℕ)) : Type 0 where
+  pub base : List ℕ
+  pub rover : List ℕ
+  pub nav : List ℕ
+  pub base_told : told (codes "base") ≡ Some base
+  pub rover_told : told (codes "rover") ≡ Some rover
+  pub nav_told : told (codes "nav") ≡ Some nav
+  pub base_is : IsBaseText seed epochs sats base
+  pub rover_is : IsRoverText seed epochs sats rover
+  pub nav_is : IsNavigationText sats nav
+
+-- the cycles of each satellite with which the session was made: the rover's less the base's
+abbrev pub truth_in : ℕ → ℕ → List (List ℤ)
+truth_in seed sats = first_of (truth_of seed) sats
+
+abbrev pub verdict_word : Answer → List ℕ
+verdict_word a = if is_fixed a then codes "fixed" else codes "declined"
+
+-- two integers for each free arc of the session that was decided, and none where there is no such session
+abbrev pub integers_of : Answer → ℕ
+integers_of (Full cert) = 2 * free_count cert.session.arcs
+integers_of _ = 0
+
+abbrev pub match_word : Bool → List ℕ
+match_word true = codes "yes"
+match_word false = codes "no"
+
+-- the four lines
+abbrev pub run_text : ℕ → ℕ → ℕ → Answer → Bool → List ℕ
+run_text seed epochs sats a matched =
+    codes "sim seed " ++ (decimal seed ++ (codes " epochs " ++ (decimal epochs ++ (codes " sats " ++ (decimal sats ++ (codes "\nverdict " ++ (verdict_word a ++ (codes "\nintegers " ++ (decimal (integers_of a) ++ (codes "\nmatch " ++ (match_word matched ++ codes "\n")))))))))))
+
+-- the outcome of the files, and whether it is a fix with the integers of the truth
+pub record EndsWithMatch (o : Options) (seed epochs sats : ℕ) (b r : ObsFile) (n : Records) (end : Ending) : Type 0 where
+  pub outcome : Outcome
+  pub is : IsOutcome b r n o outcome
+  pub best : IsBestAnswer outcome.answer
+  pub matched : Bool
+  pub matched_is : IsTrue matched ↔ IsMatched (truth_in seed sats) outcome.answer
+  pub end_is : end ≡ ending (status_of outcome.answer) (run_text seed epochs sats outcome.answer matched) []
+
+-- what the three files end with
+abbrev pub SimRunEnd : Options → ℕ → ℕ → ℕ → ObsFile → ObsFile → Records → Ending → Type 0
+SimRunEnd o seed epochs sats b r n end = EndsWithMatch o seed epochs sats b r n end ⊎ IsPairRefused b r o end
+
+-- what the made texts end with, read one after the other and processed with no option given. A text that isn't read, or two
+-- that are refused together, end it as they end `fix`
+pub record SimRunEnds (seed epochs sats : ℕ) (end : Ending) : Type 0 where
+  pub told : List ℕ → Option (List ℕ)
+  pub made : AreMadeFiles seed epochs sats told
+  pub options : Options
+  pub defaults : AreDefaults options
+  pub ends : EndsBySession told (codes "base") (codes "rover") (codes "nav") (SimRunEnd options seed epochs sats) end

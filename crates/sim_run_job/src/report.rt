@@ -1,0 +1,49 @@
+//! The text of `sim run`.
+ghost use Rattle.std.specs.Prelude.{◌≡◌, IfOk, string_bytes};
+ghost use Rattle.sim_run_job.specs.SimRunJobs.{verdict_word, integers_of, match_word, run_text};
+
+use cert_data::Answer;
+use outcome_report::is_fixed;
+use std::alloc::{AllocError, Global};
+
+fn verdict_word(answer: &Answer) -> &'static str
+    ensures { result.now ≡ verdict_word answer.now }
+{
+    if is_fixed(answer) {
+        "fixed"
+    } else {
+        "declined"
+    }
+}
+
+fn integers_of(answer: &Answer) -> usize
+    ensures { result ≡ integers_of answer.now }
+{
+    match answer {
+        Answer::Full(cert) => 2 * cert.session.free(),
+        _ => 0,
+    }
+}
+
+fn match_word(matched: bool) -> &'static str
+    ensures { result.now ≡ match_word matched }
+{
+    if matched { "yes" } else { "no" }
+}
+
+/// The four lines about a session that was made with these numbers.
+pub fn run_text(
+    alloc: Global,
+    seed: u32,
+    epochs: u32,
+    sats: u32,
+    answer: &Answer,
+    matched: bool,
+) -> Result<String, AllocError>
+    ensures { IfOk result (λ text. string_bytes text ≡ run_text seed epochs sats answer.now matched) }
+{
+    let verdict = verdict_word(answer);
+    let integers = integers_of(answer);
+    let word = match_word(matched);
+    format!(in alloc; "sim seed {seed} epochs {epochs} sats {sats}\nverdict {verdict}\nintegers {integers}\nmatch {word}\n")
+}

@@ -1,0 +1,132 @@
+//! A made-up session from its texts to its answer.
+ghost use Rattle.std.specs.Prelude.{◌≡◌, ◌≢◌, ◌≤◌, ℕ, List, [], Some, IfOk, codes, string_bytes};
+ghost use Rattle.job_answers.specs.Answers.{ending_of, IfEnded};
+ghost use Rattle.job_answers.specs.Endings.{ending};
+ghost use Rattle.run_options.specs.Defaults.{AreDefaults};
+ghost use Rattle.fix_job.specs.FixJobs.{status_of};
+ghost use Rattle.sim_run_job.specs.SimRunJobs.{truth_in, run_text, SimRunEnd, SimRunEnds};
+
+use crate::report::run_text;
+use arcs_job::refused_pair;
+use cert_data::Answer as Found;
+use job_answers::{Answer, Status, Stop};
+use line_source::{Files, Named, SureFiles};
+use outcome_report::is_fixed;
+use run_options::Options;
+use session::{SessionFault, process};
+use session_files::{SessionFiles, read_session};
+use sim_match::is_matched;
+use sim_session::{Made, make};
+use std::alloc::{AllocError, Global};
+
+// What is asked of a made-up session, and the cycles of each satellite with which it was made.
+#[derive(Drop)]
+struct Asked {
+    seed: u32,
+    epochs: u32,
+    sats: u32,
+    truth: Vec<[i64; 2]>,
+}
+
+fn named(alloc: Global, name: &str, bytes: Vec<u8>) -> Result<Named, AllocError>
+    ensures name { IfOk result (λ f. string_bytes f.name ≡ name.now) }
+    ensures bytes { IfOk result (λ f. f.bytes.items ≡ bytes.items) }
+{
+    Ok(Named {
+        name: String::from_str(alloc, name)?,
+        bytes,
+        at: 0,
+    })
+}
+
+// The three texts as files in memory, under the names of their parts.
+fn files_of(
+    alloc: Global,
+    base: Vec<u8>,
+    rover: Vec<u8>,
+    nav: Vec<u8>,
+) -> Result<SureFiles, AllocError>
+    ensures base { IfOk result (λ f. ⟦<SureFiles as Files>⟧.text_of f (codes "base") ≡ Some base.items) }
+    ensures rover { IfOk result (λ f. ⟦<SureFiles as Files>⟧.text_of f (codes "rover") ≡ Some rover.items) }
+    ensures nav { IfOk result (λ f. ⟦<SureFiles as Files>⟧.text_of f (codes "nav") ≡ Some nav.items) }
+    ensures sure { IfOk result (λ f. (name : List ℕ) → ⟦<SureFiles as Files>⟧.is_sure_name f name) }
+{
+    let list = vec![in alloc;
+        named(alloc, "base", base)?,
+        named(alloc, "rover", rover)?,
+        named(alloc, "nav", nav)?,
+    ]?;
+    Ok(SureFiles::new(list))
+}
+
+// Done for a fix, else declined.
+fn status_of(answer: &Found) -> Status
+    ensures { result ≡ status_of answer.now }
+{
+    if is_fixed(answer) {
+        Status::Done
+    } else {
+        Status::Declined
+    }
+}
+
+// The four lines of an answer.
+fn answer_match(
+    alloc: Global,
+    asked: &Asked,
+    answer: &Found,
+    matched: bool,
+) -> Result<Answer, AllocError>
+    ensures { IfOk result (λ a. ending_of a ≡ ending (status_of answer.now) (run_text asked.now.seed asked.now.epochs asked.now.sats answer.now matched) []) }
+{
+    let text = run_text(alloc, asked.seed, asked.epochs, asked.sats, answer, matched)?;
+    Ok(Answer::on_out(alloc, status_of(answer), text))
+}
+
+// What the three files end with.
+fn answer_files(
+    alloc: Global,
+    asked: &Asked,
+    files: &SessionFiles,
+    options: &Options,
+) -> Result<Answer, Stop>
+    requires { asked.now.truth.items ≡ truth_in asked.now.seed asked.now.sats }
+    ensures { IfEnded result (λ end. SimRunEnd options.now asked.now.seed asked.now.epochs asked.now.sats files.now.base files.now.rover files.now.nav end) }
+{
+    match process(alloc, &files.base, &files.rover, &files.nav, options) {
+        Ok(outcome) => {
+            let matched = is_matched(&asked.truth, &outcome.answer);
+            Ok(answer_match(alloc, asked, &outcome.answer, matched)?)
+        }
+        Err(SessionFault::Refused(what)) => Ok(refused_pair(alloc, what)?),
+        Err(SessionFault::NoMemory) => Err(Stop::NoMemory),
+    }
+}
+
+/// What the session of this seed is found to say, of so many epochs, 1 to 3600, and satellites, 4 to 15.
+pub fn sim_run(alloc: Global, seed: u32, epochs: u32, sats: u32) -> Result<Answer, Stop>
+    requires epochs { epochs ≤ 3600 }
+    requires sats { sats ≤ 15 }
+    ensures ends { IfEnded result (λ end. SimRunEnds seed epochs sats end) }
+    ensures no_fault { IfEnded result (λ end. end.status ≢ Status.ReadFault) }
+{
+    let Made {
+        base,
+        rover,
+        nav,
+        truth,
+        offset: _,
+    } = make(alloc, seed, epochs, sats)?;
+    let asked = Asked {
+        seed,
+        epochs,
+        sats,
+        truth,
+    };
+    let options = Options::defaults();
+    let mut files = files_of(alloc, base, rover, nav)?;
+    match read_session(alloc, &mut files, "base", "rover", "nav") {
+        Ok(read) => answer_files(alloc, &asked, &read, &options),
+        Err(stop) => Err(stop),
+    }
+}
