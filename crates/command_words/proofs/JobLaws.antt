@@ -129,7 +129,7 @@ piece_is_long (Plain (b ∷ c ∷ bs)) words is h = go (b == 45) (bytes_eq (b �
     go : (t u : Bool) → (b == 45) ≡ t → bytes_eq (b ∷ c ∷ bs) (45 ∷ 45 ∷ []) ≡ u → has_short ((b ∷ c ∷ bs) ∷ words) ≡ false
     go t true e f = rw f refl
     go false false e f = rw (f, e) h
-    go true false e f = absurd (rw e at is)
+    go true false e f = absurd (cc (rw e at is))
 piece_is_long (Apart s d n) words is h = rw ((named_word s).0) (piece_is_long (Plain d) words (number_word d n is) h)
 piece_is_long (Joined s d n) words is h = rw ((joined_word s d).0) h
 

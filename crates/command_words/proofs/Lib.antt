@@ -8,3 +8,5 @@ pub mod Top
 pub mod Values
 pub mod SplitLaws
 pub mod JobLaws
+pub mod GivenLaws
+pub mod ReadLaws

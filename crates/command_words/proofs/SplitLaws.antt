@@ -70,7 +70,7 @@ at_place Step = refl
 at_place First = refl
 at_place Count = refl
 
-is_itself : (s : Setting) → is_same s s ≡ true
+pub is_itself : (s : Setting) → is_same s s ≡ true
 is_itself Ratio = refl
 is_itself Budget = refl
 is_itself Mask = refl
@@ -183,17 +183,17 @@ plain_word (b ∷ c ∷ bs) h = go (b == 45) refl
         absurd (true≢false (sym (ap (λ (n : ℕ). n == 45) first) ∙ e))
 
     go : (t : Bool) → (b == 45) ≡ t → IsPlainWord (b ∷ c ∷ bs)
-    go true e = absurd (rw e at h)
+    go true e = absurd (cc (rw e at h))
     go false e = record { no_separator = apart e (bytes_eq (b ∷ c ∷ bs) (45 ∷ 45 ∷ [])) refl; no_long = rw e refl; no_short = rw e refl }
 
 -- a number is an ordinary word
 pub number_word : (d : Text) (n : ℕ) → IsNumber d n → IsTrue (is_ordinary d)
-number_word [] n is = tt
-number_word (b ∷ []) n is = tt
+number_word [] n is = refl
+number_word (b ∷ []) n is = refl
 number_word (b ∷ c ∷ bs) n is = go (b == 45) refl
   where
     go : (t : Bool) → (b == 45) ≡ t → IsTrue (not t)
-    go false e = tt
+    go false e = refl
     go true e =
         let dash : b ≡ 45 = grind (arith, nat_tests) in
         absurd (cc (subst (λ (m : ℕ). are_digits (m ∷ c ∷ bs) ≡ true) dash is.digits))
@@ -242,7 +242,7 @@ passes sh options r rows p skip was_word (Joined s d n ∷ pieces) behind furthe
 -- ---- words that pass are parted
 
 -- what a text is, cut at its first `=`
-abbrev with_value : Text → Option Text → Text
+abbrev pub with_value : Text → Option Text → Text
 with_value name None = name
 with_value name (Some value) = name ++ 61 ∷ value
 
@@ -277,12 +277,12 @@ first_of (b ∷ bs) = go (b == 61) refl (first_of bs)
 cut : (text : Text) → IsCut text
 cut text = go (first_of text)
   where
-    by : (name : Text) (value : Option Text) → Lacks 61 name → name_and_value (with_value name value) ≡ (name, value)
-    by name None lacks = name_and_value-without name lacks
-    by name (Some v) lacks = name_and_value-at name v lacks
+    its_parts : (name : Text) (value : Option Text) → Lacks 61 name → name_and_value (with_value name value) ≡ (name, value)
+    its_parts name None lacks = name_and_value-without name lacks
+    its_parts name (Some v) lacks = name_and_value-at name v lacks
 
     go : IsFirst text → IsCut text
-    go f = record { name = f.name; value = f.value; cut_is = ap name_and_value f.text_is ∙ by f.name f.value f.lacks; text_is = f.text_is }
+    go f = record { name = f.name; value = f.value; cut_is = ap name_and_value f.text_is ∙ its_parts f.name f.value f.lacks; text_is = f.text_is }
 
 pub record Found (words : List Text) (rows final : List Row) : Type 0 where
   pub plain : List Text
@@ -329,7 +329,7 @@ pub record Knows (sh : Shape) (options : List Text) (final : List Row) : Type 0 
   pub setting : (name : Text) → is_among name options ≡ true → (s : Setting) × (name ≡ name_of s)
   pub numbers : (s : Setting) → AreAll (values_in (name_of s) final)
 
-abbrev FoundAt : Shape → List Row → ℕ → List Text → Type 0
+abbrev pub FoundAt : Shape → List Row → ℕ → List Text → Type 0
 FoundAt sh final skip words = (r rows : List Row) (p : Option (Text × List Text)) (was_word : Bool) → IsSettled sh (record { rows = r; pending = p; skip = skip }) rows → has_short words ≡ false
     → Ends sh (at r p skip (free was_word) false) words final → Found words rows final
 
@@ -381,12 +381,12 @@ apart_found sh options final skip s value words knows rest among no_short ordina
 -- ---- what kind of word it is
 
 sorted : (word : Text) → IsTrue (is_ordinary word) ⊎ ((is_short word ≡ true) ⊎ ((text : Text) × (word ≡ 45 ∷ 45 ∷ text)))
-sorted [] = inl tt
-sorted (b ∷ []) = inl tt
+sorted [] = inl refl
+sorted (b ∷ []) = inl refl
 sorted (b ∷ c ∷ bs) = go (b == 45) (c == 45) refl refl
   where
     go : (t u : Bool) → (b == 45) ≡ t → (c == 45) ≡ u → IsTrue (is_ordinary (b ∷ c ∷ bs)) ⊎ ((is_short (b ∷ c ∷ bs) ≡ true) ⊎ ((text : Text) × (b ∷ c ∷ bs ≡ 45 ∷ 45 ∷ text)))
-    go false u e f = inl (rw e tt)
+    go false u e f = inl (rw e refl)
     go true false e f = inr (inl (rw (e, f) refl))
     go true true e f = let first : b ≡ 45 = grind (arith, nat_tests) in let second : c ≡ 45 = grind (arith, nat_tests) in inr (inr (bs, ap₂ (λ (m n : ℕ). m ∷ n ∷ bs) first second))
 
@@ -423,17 +423,17 @@ option_found : (sh : Shape) (options : List Text) (final : List Row) (skip : ℕ
 option_found sh options final skip s words knows rest among no_short r rows p was_word settled ends =
     go words rest no_short ends (ends_after sh _ _ (45 ∷ 45 ∷ name_of s) words final (name_steps sh options r rows p skip was_word (45 ∷ 45 ∷ name_of s) (name_of s) knows.is settled (named_word s).0 (named_word s).1 among) ends)
   where
-    by : (v : Text) (more : List Text) → FoundAt sh final skip more → has_short (v ∷ more) ≡ false → Ends sh (at r p skip (free was_word) false) ((45 ∷ 45 ∷ name_of s) ∷ v ∷ more) final
+    behind_it : (v : Text) (more : List Text) → FoundAt sh final skip more → has_short (v ∷ more) ≡ false → Ends sh (at r p skip (free was_word) false) ((45 ∷ 45 ∷ name_of s) ∷ v ∷ more) final
         → Ends sh (at rows (Some (name_of s, [])) skip (option (name_of s)) false) (v ∷ more) final
         → IsTrue (is_ordinary v) ⊎ ((is_short v ≡ true) ⊎ ((text : Text) × (v ≡ 45 ∷ 45 ∷ text))) → Found ((45 ∷ 45 ∷ name_of s) ∷ v ∷ more) rows final
-    by v more again none all behind (inl ordinary) = apart_found sh options final skip s v more knows again among (neither v more (plain_word v ordinary).no_separator none).1 ordinary r rows p was_word settled all
-    by v more again none all behind (inr (inl short)) = never_short v more short none
-    by v more again none all behind (inr (inr dashes)) = absurd (flag_behind sh options final skip s dashes.0 more knows among rows (subst (λ (w : Text). Ends sh (at rows (Some (name_of s, [])) skip (option (name_of s)) false) (w ∷ more) final) dashes.1 behind))
+    behind_it v more again none all behind (inl ordinary) = apart_found sh options final skip s v more knows again among (neither v more (plain_word v ordinary).no_separator none).1 ordinary r rows p was_word settled all
+    behind_it v more again none all behind (inr (inl short)) = never_short v more short none
+    behind_it v more again none all behind (inr (inr dashes)) = absurd (flag_behind sh options final skip s dashes.0 more knows among rows (subst (λ (w : Text). Ends sh (at rows (Some (name_of s, [])) skip (option (name_of s)) false) (w ∷ more) final) dashes.1 behind))
 
     go : (ws : List Text) → ((v : Text) (more : List Text) → ws ≡ v ∷ more → FoundAt sh final skip more) → has_short ws ≡ false → Ends sh (at r p skip (free was_word) false) ((45 ∷ 45 ∷ name_of s) ∷ ws) final
         → Ends sh (at rows (Some (name_of s, [])) skip (option (name_of s)) false) ws final → Found ((45 ∷ 45 ∷ name_of s) ∷ ws) rows final
     go [] again none all behind = absurd (waiting_ends sh options rows skip (option (name_of s)) false (name_of s) final knows.is among behind)
-    go (v ∷ more) again none all behind = by v more (again v more refl) none all behind (sorted v)
+    go (v ∷ more) again none all behind = behind_it v more (again v more refl) none all behind (sorted v)
 
 -- `--name` or `--name=value`
 long_found : (sh : Shape) (options : List Text) (final : List Row) (skip : ℕ) (name : Text) (value : Option Text) (text : Text) (words : List Text) → Knows sh options final → FoundAt sh final skip words → ((v : Text) (rest : List Text) → words ≡ v ∷ rest → FoundAt sh final skip rest)

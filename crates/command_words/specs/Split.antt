@@ -1,8 +1,11 @@
 -- The commands with their options, and how words are split.
-use Rattle.std.specs.Prelude.{◌≡◌, ℕ, false, List, [], ◌∷◌, Some, codes}
+use Rattle.std.specs.Prelude.{◌≡◌, ℕ, false, List, [], ◌∷◌, ◌++◌, map, Some, codes}
 use Rattle.clap.specs.Walk.{Row, Text}
+use Rattle.command_words.specs.declared.settings.Setting.{Setting}
+use Rattle.command_words.specs.declared.settings.Given.{Given}
 use Rattle.command_words.specs.Numbers.{IsNumber}
-use Rattle.command_words.specs.Commands.{Ends, built_shape, command_named, has_short, start}
+use Rattle.command_words.specs.Settings.{name_of, numbers_for}
+use Rattle.command_words.specs.Commands.{Ends, built_shape, command_named, has_short, start, values_in}
 
 -- what chooses pairs and arcs
 abbrev pub pair_options : List Text
@@ -37,3 +40,16 @@ AreNumbers (t ∷ texts) (n ∷ ns) = IsNumber t n × AreNumbers texts ns
 abbrev pub AreAll : List Text → Type 0
 AreAll [] = Unit {0}
 AreAll (t ∷ texts) = ((n : ℕ) × IsNumber t n) × AreAll texts
+
+abbrev pub given_with : Setting → ℕ → Given
+given_with s n = record { setting = s; number = n }
+
+-- the numbers of a setting's texts are added to a list
+pub record TakesNumbers (s : Setting) (texts : List Text) (old new : List Given) : Type 0 where
+  pub numbers : List ℕ
+  pub are : AreNumbers texts numbers
+  pub new_are : new ≡ old ++ map (given_with s) numbers
+
+-- the list has the numbers of each setting
+abbrev pub HasNumbers : List Row → List Given → Type 0
+HasNumbers rows given = (s : Setting) → AreNumbers (values_in (name_of s) rows) (numbers_for s given)
