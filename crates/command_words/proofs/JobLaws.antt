@@ -117,20 +117,23 @@ pub record IsClapJob (words : List Text) (command : Text) (behind plain : List T
   pub split : IsSplit words command rows
   pub adds : Adds [] rows plain given
 
-piece_is_long : (p : Piece) (words : List Text) → IsPiece p → has_short words ≡ false → has_short (words_of_piece p ++ words) ≡ false
-piece_is_long (Plain []) words is h = h
-piece_is_long (Plain (b ∷ [])) words is h = go (bytes_eq (b ∷ []) (45 ∷ 45 ∷ [])) refl
+ordinary_is_long : (word : Text) (words : List Text) → IsTrue (is_ordinary word) → has_short words ≡ false → has_short (word ∷ words) ≡ false
+ordinary_is_long [] words is h = h
+ordinary_is_long (b ∷ []) words is h = go (bytes_eq (b ∷ []) (45 ∷ 45 ∷ [])) refl
   where
     go : (t : Bool) → bytes_eq (b ∷ []) (45 ∷ 45 ∷ []) ≡ t → has_short ((b ∷ []) ∷ words) ≡ false
     go true e = rw e refl
     go false e = rw e h
-piece_is_long (Plain (b ∷ c ∷ bs)) words is h = go (b == 45) (bytes_eq (b ∷ c ∷ bs) (45 ∷ 45 ∷ [])) refl refl
+ordinary_is_long (b ∷ c ∷ bs) words is h = go (b == 45) (bytes_eq (b ∷ c ∷ bs) (45 ∷ 45 ∷ [])) refl refl
   where
     go : (t u : Bool) → (b == 45) ≡ t → bytes_eq (b ∷ c ∷ bs) (45 ∷ 45 ∷ []) ≡ u → has_short ((b ∷ c ∷ bs) ∷ words) ≡ false
     go t true e f = rw f refl
     go false false e f = rw (f, e) h
     go true false e f = absurd (cc (rw e at is))
-piece_is_long (Apart s d n) words is h = rw ((named_word s).0) (piece_is_long (Plain d) words (number_word d n is) h)
+
+piece_is_long : (p : Piece) (words : List Text) → IsPiece p → has_short words ≡ false → has_short (words_of_piece p ++ words) ≡ false
+piece_is_long (Plain word) words is h = ordinary_is_long word words is h
+piece_is_long (Apart s d n) words is h = rw ((named_word s).0) (ordinary_is_long d words (number_word d n is) h)
 piece_is_long (Joined s d n) words is h = rw ((joined_word s d).0) h
 
 all_long : (pieces : List Piece) (behind further : List Text) → ArePieces pieces → IsBehind behind further → has_short (words_of pieces ++ behind) ≡ false
