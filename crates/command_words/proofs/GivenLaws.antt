@@ -92,8 +92,8 @@ numbers_append s [] ys = refl
 numbers_append s (g ∷ xs) ys = go (is_same g.setting s) refl (numbers_append s xs ys)
   where
     go : (b : Bool) → is_same g.setting s ≡ b → numbers_for s (xs ++ ys) ≡ numbers_for s xs ++ numbers_for s ys → numbers_for s (g ∷ (xs ++ ys)) ≡ numbers_for s (g ∷ xs) ++ numbers_for s ys
-    go true e rest = rw (e, e) (ap (λ (ns : List ℕ). g.number ∷ ns) rest)
-    go false e rest = rw (e, e) rest
+    go true e rest = rw e (ap (λ (ns : List ℕ). g.number ∷ ns) rest)
+    go false e rest = rw e rest
 
 own_numbers : (s : Setting) (ns : List ℕ) → numbers_for s (map (given_with s) ns) ≡ ns
 own_numbers s [] = refl

@@ -75,10 +75,11 @@ pub split_account : (words : List Text) (command : Text) (rows : List Row) → I
     → (fault_of (app_with commands) words ≡ []) × (subcommand_of (app_with commands) words ≡ Some (command, rows))
 split_account words command rows is =
     let its = its_command command is.options is.found in
-    let named_so = named commands command command is.options is.found in
-    (ap (λ (ws : List Text). fault_of (app_with commands) ws) is.words_are ∙ program_fails_as commands command is.options is.rest named_so ∙ leaf_passes (built_shape (command, is.options)) is.options is.rest rows its is.ends,
-     ap (λ (ws : List Text). subcommand_of (app_with commands) ws) is.words_are ∙ program_gives commands command is.options is.rest named_so
-     ∙ ap (λ (rs : List Row). Some (command, rs)) (leaf_rows (built_shape (command, is.options)) is.options is.rest rows its is.ends))
+    let named_so = named commands command command is.options is.found in (
+      ap (λ (ws : List Text). fault_of (app_with commands) ws) is.words_are ∙ program_fails_as commands command is.options is.rest named_so ∙ leaf_passes (built_shape (command, is.options)) is.options is.rest rows its is.ends,
+      ap (λ (ws : List Text). subcommand_of (app_with commands) ws) is.words_are ∙ program_gives commands command is.options is.rest named_so
+          ∙ ap (λ (rs : List Row). Some (command, rs)) (leaf_rows (built_shape (command, is.options)) is.options is.rest rows its is.ends),
+    )
 
 pub record IsAccounted (words : List Text) : Type 0 where
   pub command : Text
@@ -117,20 +118,23 @@ pub record IsClapJob (words : List Text) (command : Text) (behind plain : List T
   pub split : IsSplit words command rows
   pub adds : Adds [] rows plain given
 
-piece_is_long : (p : Piece) (words : List Text) → IsPiece p → has_short words ≡ false → has_short (words_of_piece p ++ words) ≡ false
-piece_is_long (Plain []) words is h = h
-piece_is_long (Plain (b ∷ [])) words is h = go (bytes_eq (b ∷ []) (45 ∷ 45 ∷ [])) refl
+ordinary_is_long : (word : Text) (words : List Text) → IsTrue (is_ordinary word) → has_short words ≡ false → has_short (word ∷ words) ≡ false
+ordinary_is_long [] words is h = h
+ordinary_is_long (b ∷ []) words is h = go (bytes_eq (b ∷ []) (45 ∷ 45 ∷ [])) refl
   where
     go : (t : Bool) → bytes_eq (b ∷ []) (45 ∷ 45 ∷ []) ≡ t → has_short ((b ∷ []) ∷ words) ≡ false
     go true e = rw e refl
     go false e = rw e h
-piece_is_long (Plain (b ∷ c ∷ bs)) words is h = go (b == 45) (bytes_eq (b ∷ c ∷ bs) (45 ∷ 45 ∷ [])) refl refl
+ordinary_is_long (b ∷ c ∷ bs) words is h = go (b == 45) (bytes_eq (b ∷ c ∷ bs) (45 ∷ 45 ∷ [])) refl refl
   where
     go : (t u : Bool) → (b == 45) ≡ t → bytes_eq (b ∷ c ∷ bs) (45 ∷ 45 ∷ []) ≡ u → has_short ((b ∷ c ∷ bs) ∷ words) ≡ false
     go t true e f = rw f refl
     go false false e f = rw (f, e) h
     go true false e f = absurd (cc (rw e at is))
-piece_is_long (Apart s d n) words is h = rw ((named_word s).0) (piece_is_long (Plain d) words (number_word d n is) h)
+
+piece_is_long : (p : Piece) (words : List Text) → IsPiece p → has_short words ≡ false → has_short (words_of_piece p ++ words) ≡ false
+piece_is_long (Plain word) words is h = ordinary_is_long word words is h
+piece_is_long (Apart s d n) words is h = rw ((named_word s).0) (ordinary_is_long d words (number_word d n is) h)
 piece_is_long (Joined s d n) words is h = rw ((joined_word s d).0) h
 
 all_long : (pieces : List Piece) (behind further : List Text) → ArePieces pieces → IsBehind behind further → has_short (words_of pieces ++ behind) ≡ false
@@ -205,7 +209,7 @@ clap_job : (command : Text) (behind plain : List Text) (given : List Given) → 
 clap_job command behind plain given table parted =
     let sh = built_shape (command, table.options) in
     let p = passes sh table.options [] [] None 0 false parted.pieces parted.behind parted.further (its_command command table.options table.found) (nothing_pending sh [] 0) parted.are_pieces parted.is_behind
-        (subst (λ (g : List Given). AreKnown table.options g) parted.given_are table.known) in
+    (subst (λ (g : List Given). AreKnown table.options g) parted.given_are table.known) in
     record {
       rows = p.final;
       split = record {

@@ -55,7 +55,7 @@ not_asked_so words command rows given split has none j is =
     let so = job_split words j is in
     let same = one_split words is.command command so.rows rows so.split split in
     let numbers : (s : Setting) → numbers_for s is.given ≡ numbers_for s given = λ s. one_numbers (values_in (name_of s) so.rows) (numbers_for s is.given) (numbers_for s given)
-        (added_numbers so.rows is.plain is.given so.adds s) (subst (λ (rs : List Row). AreNumbers (values_in (name_of s) rs) (numbers_for s given)) (sym same.rows_are) (has s)) in
+    (added_numbers so.rows is.plain is.given so.adds s) (subst (λ (rs : List Row). AreNumbers (values_in (name_of s) rs) (numbers_for s given)) (sym same.rows_are) (has s)) in
     let plain : is.plain ≡ values_in word_id rows = sym so.adds.plain_are ∙ ap (λ (rs : List Row). values_in word_id rs) same.rows_are in
     none j (subst (λ (c : Text). IsJobOf c (values_in word_id rows) given j) same.command
     (subst (λ (ws : List Text). IsJobOf is.command ws given j) plain (same_job is.given given numbers is.command is.plain j is.asked)))

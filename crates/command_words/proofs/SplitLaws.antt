@@ -298,7 +298,7 @@ one_of (x ∷ xs) t ys all = one_of xs t ys all.1
 its_number : (rows final : List Row) (s : Setting) (t : Text) (plain : List Text) (given : List Given) → Adds (put (name_of s) t rows) final plain given → AreAll (values_in (name_of s) final) → (n : ℕ) × IsNumber t n
 its_number rows final s t plain given adds all =
     let values : values_in (name_of s) final ≡ values_in (name_of s) rows ++ t ∷ adds.texts s =
-        adds.texts_are s ∙ ap (λ (ws : List Text). ws ++ adds.texts s) (put_same (name_of s) t rows) ∙ append_assoc (values_in (name_of s) rows) (t ∷ []) (adds.texts s) in
+    adds.texts_are s ∙ ap (λ (ws : List Text). ws ++ adds.texts s) (put_same (name_of s) t rows) ∙ append_assoc (values_in (name_of s) rows) (t ∷ []) (adds.texts s) in
     one_of (values_in (name_of s) rows) t (adds.texts s) (subst AreAll values all)
 
 rows_at_end : (sh : Shape) (w : Walk) (rows final : List Row) → IsSettled sh w.held rows → Ends sh w [] final → rows ≡ final
@@ -337,7 +337,7 @@ plain_found : (sh : Shape) (options : List Text) (final : List Row) (skip : ℕ)
     → (r rows : List Row) (p : Option (Text × List Text)) (was_word : Bool) → IsSettled sh (record { rows = r; pending = p; skip = skip }) rows → Ends sh (at r p skip (free was_word) false) (word ∷ words) final → Found (word ∷ words) rows final
 plain_found sh options final skip word words knows rest ordinary no_short r rows p was_word settled ends =
     let found = rest rows (put word_id word rows) (Some (word_id, word ∷ [])) true (word_pending sh options rows skip word knows.is) no_short
-        (ends_after sh _ _ word words final (word_steps sh options r rows p skip was_word word knows.is settled (plain_word word ordinary)) ends) in
+    (ends_after sh _ _ word words final (word_steps sh options r rows p skip was_word word knows.is settled (plain_word word ordinary)) ends) in
     record { plain = word ∷ found.plain; given = found.given; parted = one_piece (Plain word) words (put word_id word rows) final found ordinary; adds = adds_word rows final word found.plain found.given found.adds }
 
 separator_found : (sh : Shape) (options : List Text) (final : List Row) (skip : ℕ) (words : List Text) → Knows sh options final
@@ -354,7 +354,7 @@ joined_found : (sh : Shape) (options : List Text) (final : List Row) (skip : ℕ
     → Ends sh (at r p skip (free was_word) false) ((45 ∷ 45 ∷ (name_of s ++ 61 ∷ value)) ∷ words) final → Found ((45 ∷ 45 ∷ (name_of s ++ 61 ∷ value)) ∷ words) rows final
 joined_found sh options final skip s value words knows rest among no_short r rows p was_word settled ends =
     let found = rest (put (name_of s) value rows) (put (name_of s) value rows) None false (nothing_pending sh (put (name_of s) value rows) skip) no_short
-        (ends_after sh _ _ (45 ∷ 45 ∷ (name_of s ++ 61 ∷ value)) words final (joined_steps sh options r rows p skip was_word (45 ∷ 45 ∷ (name_of s ++ 61 ∷ value)) (name_of s) value knows.is settled (joined_word s value).0 (joined_word s value).1 among) ends) in
+    (ends_after sh _ _ (45 ∷ 45 ∷ (name_of s ++ 61 ∷ value)) words final (joined_steps sh options r rows p skip was_word (45 ∷ 45 ∷ (name_of s ++ 61 ∷ value)) (name_of s) value knows.is settled (joined_word s value).0 (joined_word s value).1 among) ends) in
     let number = its_number rows final s value found.plain found.given found.adds (knows.numbers s) in
     record {
       plain = found.plain;
@@ -369,7 +369,7 @@ apart_found : (sh : Shape) (options : List Text) (final : List Row) (skip : ℕ)
 apart_found sh options final skip s value words knows rest among no_short ordinary r rows p was_word settled ends =
     let waits = ends_after sh _ _ (45 ∷ 45 ∷ name_of s) (value ∷ words) final (name_steps sh options r rows p skip was_word (45 ∷ 45 ∷ name_of s) (name_of s) knows.is settled (named_word s).0 (named_word s).1 among) ends in
     let found = rest rows (put (name_of s) value rows) (Some (name_of s, value ∷ [])) false (option_pending sh options (name_of s) rows skip value knows.is among) no_short
-        (ends_after sh _ _ value words final (value_steps sh options rows skip (name_of s) value knows.is among (plain_word value ordinary)) waits) in
+    (ends_after sh _ _ value words final (value_steps sh options rows skip (name_of s) value knows.is among (plain_word value ordinary)) waits) in
     let number = its_number rows final s value found.plain found.given found.adds (knows.numbers s) in
     record {
       plain = found.plain;

@@ -20,7 +20,6 @@ pub use sims::{Part, Sim};
 pub use word::Word;
 
 #[cfg(test)]
-mod tests;
-
-#[cfg(test)]
 mod option_tests;
+#[cfg(test)]
+mod tests;

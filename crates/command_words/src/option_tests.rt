@@ -11,6 +11,15 @@ fn words_of(alloc: Global, words: &[&str]) -> Result<Vec<String>, AllocError> {
     Ok(list)
 }
 
+// `fix`, three files and these words.
+fn fix_with(alloc: Global, options: &[&str]) -> Result<Vec<String>, AllocError> {
+    let mut list = words_of(alloc, ["fix", "B", "R", "N"].as_slice())?;
+    for word in options {
+        list.push(String::from_str(alloc, *word)?)?;
+    }
+    Ok(list)
+}
+
 // The numbers of a job with options, in the order of their table.
 fn numbers_of(job: &Job) -> [u64; 9] {
     match job {
@@ -142,10 +151,7 @@ fn refuses_options(rt: HostRuntime) -> Result<(), Fail> {
         &[""],
     ];
     for options in rows {
-        let mut list = words_of(alloc, ["fix", "B", "R", "N"].as_slice())?;
-        for word in options {
-            list.push(String::from_str(alloc, *word)?)?;
-        }
+        let list = fix_with(alloc, options)?;
         let found = read_words(alloc, &list).err();
         assert_eq!(rt; found, Some(WordFault::Usage), "at {options:?}");
     }
