@@ -10,3 +10,4 @@ pub mod SplitLaws
 pub mod JobLaws
 pub mod GivenLaws
 pub mod ReadLaws
+pub mod ProgramLaws

@@ -28,8 +28,3 @@ value_small ds h few =
 pub one_more_digit : (n : ℕ) (rest : List ℕ) → 1 ≤ length rest → 10 * n + (get_or rest 0 0 - 48) ≤ number_from n rest
 one_more_digit n [] some = absurd (omega arith)
 one_more_digit n (b ∷ bs) some = number_from-ge (10 * n + (b - 48)) bs
-
--- what an option that is none says
-pub none_of : {A : Type 0} (o : Option A) (P : Type 0) (Q : A → Type 0) → MatchOption o P Q → ((x : A) → o ≡ Some x → ⊥) → P
-none_of None P Q holds not_some = holds
-none_of (Some x) P Q holds not_some = absurd (not_some x refl)

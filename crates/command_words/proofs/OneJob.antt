@@ -189,23 +189,6 @@ one_job words a b first second =
     (subst (λ (p : List (List ℕ)). IsJobOf second.command p first.given b) (sym parts.0)
     (subst (λ (g : List Given). IsJobOf second.command second.plain g b) (sym parts.1) second.asked)))
 
--- words that aren't parted ask for no job
-pub not_parted : (words : List (List ℕ)) (command : List ℕ) (behind : List (List ℕ)) → words ≡ command ∷ behind → ((plain : List (List ℕ)) (given : List Given) → AreParted behind plain given → ⊥) → (job : Job) → IsJob words job → ⊥
-not_parted words command behind words_are none job asked =
-    let same : asked.behind ≡ behind = ap (λ (ws : List (List ℕ)). drop 1 ws) (sym asked.words_are ∙ words_are) in
-    none asked.plain asked.given (subst (λ (ws : List (List ℕ)). AreParted ws asked.plain asked.given) same asked.parted)
-
--- words whose command has no such job ask for none
-pub not_asked : (words : List (List ℕ)) (command : List ℕ) (behind plain : List (List ℕ)) (given : List Given) → words ≡ command ∷ behind → AreParted behind plain given → ((job : Job) → IsJobOf command plain given job → ⊥) → (job : Job) → IsJob words job → ⊥
-not_asked words command behind plain given words_are parted none job asked =
-    let same : asked.behind ≡ behind = ap (λ (ws : List (List ℕ)). drop 1 ws) (sym asked.words_are ∙ words_are) in
-    let name : asked.command ≡ command = ap (λ (ws : List (List ℕ)). get_or ws 0 []) (sym asked.words_are ∙ words_are) in
-    let parts = one_parting behind asked.plain plain asked.given given (subst (λ (ws : List (List ℕ)). AreParted ws asked.plain asked.given) same asked.parted) parted in
-    none job
-    (subst (λ (c : List ℕ). IsJobOf c plain given job) name
-    (subst (λ (p : List (List ℕ)). IsJobOf asked.command p given job) parts.0
-    (subst (λ (g : List Given). IsJobOf asked.command asked.plain g job) parts.1 asked.asked)))
-
 other_count : (name a b c d : List ℕ) (command : List ℕ) → IsPlainJob name (a ∷ []) command (b ∷ c ∷ d ∷ []) [] → ⊥
 other_count name a b c d command asked =
     let same : 3 ≡ 1 = ap (λ (ws : List (List ℕ)). length ws) asked.plain_are in absurd (omega (arith, same))
@@ -222,9 +205,6 @@ no_satellite command nav sat tick no_arcs no_fix none (job.Sim part seed epochs 
     let same : 3 ≡ 4 = ap (λ (ws : List (List ℕ)). length ws) asked.asked.plain_are in absurd (omega (arith, same))
 no_satellite command nav sat tick no_arcs no_fix none (job.Orbit nav' number tick') asked =
     let same : asked.sat_word ≡ sat = ap (λ (ws : List (List ℕ)). get_or ws 1 []) (sym asked.asked.plain_are) in none number (subst (λ (w : List ℕ). IsSatellite w number) same asked.satellite)
-
-pub err_along : {A B E : Type 0} (e f : E) → IsErrOf {T = A} {E = E} (Err e) f → IsErrOf {T = B} {E = E} (Err e) f
-err_along {A} {B} {E} e f h = let same : e ≡ f = cc h in subst (λ (x : E). IsErrOf {T = B} {E = E} (Err e) x) same refl
 
 -- no job of `sim` without its numbers
 pub no_sim : (command part seed epochs sats : List ℕ) → ((s : Sim) → IsSim part seed epochs sats s → ⊥) → (job : Job) → command ≡ codes "sim" → IsJobOf command (part ∷ seed ∷ epochs ∷ sats ∷ []) [] job → ⊥

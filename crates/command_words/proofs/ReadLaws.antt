@@ -1,5 +1,5 @@
 -- Words as clap splits them, and the job that they ask for.
-use Rattle.std.proofs.Common.{◌≡◌, ℕ, List, [], ◌∷◌, ◌++◌, Some, refl, sym, ap, ap₂, ◌∙◌, subst}
+use Rattle.std.proofs.Common.{◌≡◌, ℕ, List, [], ◌∷◌, ◌++◌, Some, Err, IsErrOf, refl, sym, ap, ap₂, ◌∙◌, subst}
 use Rattle.std.proofs.lemmas.Option.{same_Some}
 use Rattle.clap.specs.Walk.{Row, Text}
 use Rattle.command_words.specs.Commands.{word_id, values_in}
@@ -59,3 +59,6 @@ not_asked_so words command rows given split has none j is =
     let plain : is.plain ≡ values_in word_id rows = sym so.adds.plain_are ∙ ap (λ (rs : List Row). values_in word_id rs) same.rows_are in
     none j (subst (λ (c : Text). IsJobOf c (values_in word_id rows) given j) same.command
     (subst (λ (ws : List Text). IsJobOf is.command ws given j) plain (same_job is.given given numbers is.command is.plain j is.asked)))
+
+pub err_is : {A E : Type 0} (e f : E) → e ≡ f → IsErrOf {T = A} {E = E} (Err e) f
+err_is {A} {E} e f same = subst (λ (x : E). IsErrOf {T = A} {E = E} (Err e) x) same refl

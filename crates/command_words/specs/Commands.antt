@@ -100,6 +100,10 @@ top_shape = record (new_shape (codes "baseline")) {
   subcommand_required = true;
 }
 
+-- before it has commands
+abbrev pub bare_app : App
+bare_app = record { top = record top_shape { is_leaf = true }; subs = [] }
+
 -- the program with these commands, each with its name and its options
 abbrev pub app_with : List (Text × List Text) → App
 app_with table = record { top = top_shape; subs = map (λ c. command_shape c.0 c.1) table }

@@ -21,16 +21,6 @@ pub struct Parted {
     pub given: Vec<Given>,
 }
 
-// The texts of an argument.
-fn texts_of<'m, 'a>(matches: &'m ArgMatches<'a>, id: &str) -> &'m [&'a str]
-    ensures { map (λ v. v.now) result.now ≡ values_in id.now (rows_of (found_of matches.now)) }
-{
-    match matches.get_raw(id) {
-        Some(texts) => texts,
-        None => &[],
-    }
-}
-
 fn copies_of(alloc: Global, texts: &[&str]) -> Result<Vec<Word>, AllocError>
     ensures { IfOk result (λ copies. copies.items ≡ map (λ v. v.now) texts.now) }
 {
@@ -61,6 +51,21 @@ fn take_numbers(given: &mut Vec<Given>, setting: Setting, texts: &[&str]) -> Res
     Ok(())
 }
 
+// What is given for a setting.
+fn take_setting(
+    given: &mut Vec<Given>,
+    setting: Setting,
+    matches: &ArgMatches<'_>,
+) -> Result<(), WordFault>
+    ensures numbers { OnOk result (TakesNumbers setting (values_in (name_of setting) (rows_of (found_of matches.now))) given.old.items given.new.items) }
+    ensures usage { IsErrOf result WordFault.Usage → AreAll (values_in (name_of setting) (rows_of (found_of matches.now))) → ⊥ }
+{
+    match matches.get_raw(setting.name()) {
+        Some(texts) => take_numbers(given, setting, texts),
+        None => Ok(()),
+    }
+}
+
 // The options with their numbers.
 fn numbers_in(alloc: Global, matches: &ArgMatches<'_>) -> Result<Vec<Given>, WordFault>
     ensures given { IfOk result (λ given. HasNumbers (rows_of (found_of matches.now)) given.items) }
@@ -68,10 +73,19 @@ fn numbers_in(alloc: Global, matches: &ArgMatches<'_>) -> Result<Vec<Given>, Wor
 {
     let mut given = Vec::new(alloc);
     for place in 0..9 {
-        let setting = Setting::at(place);
-        take_numbers(&mut given, setting, texts_of(matches, setting.name()))?;
+        take_setting(&mut given, Setting::at(place), matches)?;
     }
     Ok(given)
+}
+
+// The ordinary words.
+fn words_in(alloc: Global, matches: &ArgMatches<'_>) -> Result<Vec<Word>, AllocError>
+    ensures { IfOk result (λ words. words.items ≡ values_in word_id (rows_of (found_of matches.now))) }
+{
+    match matches.get_raw("word") {
+        Some(texts) => copies_of(alloc, texts),
+        None => Ok(Vec::new(alloc)),
+    }
 }
 
 /// The ordinary words and the options with their numbers. `Usage` exactly where the value of an option is no number.
@@ -81,6 +95,6 @@ pub fn parted_of(alloc: Global, matches: &ArgMatches<'_>) -> Result<Parted, Word
     ensures usage { IsErrOf result WordFault.Usage → ((s : Setting) → AreAll (values_in (name_of s) (rows_of (found_of matches.now)))) → ⊥ }
 {
     let given = numbers_in(alloc, matches)?;
-    let plain = copies_of(alloc, texts_of(matches, "word"))?;
+    let plain = words_in(alloc, matches)?;
     Ok(Parted { plain, given })
 }

@@ -1,8 +1,7 @@
 // What `clap` is told of the program.
-ghost use Rattle.std.specs.Prelude.{◌≡◌, [], IfOk, false, map};
-ghost use Rattle.clap.specs.Simple.{app_of, with_subcommand};
-ghost use Rattle.clap.specs.Words.{fields_of};
-ghost use Rattle.command_words.specs.Commands.{command_shape, app_with};
+ghost use Rattle.std.specs.Prelude.{◌≡◌, [], IfOk, map};
+ghost use Rattle.clap.specs.Simple.{app_of, with_rule, with_subcommand};
+ghost use Rattle.command_words.specs.Commands.{app_with, bare_app, command_shape, option_rule, word_rule};
 ghost use Rattle.command_words.specs.Split.{commands};
 
 use clap::{Arg, ArgAction, Command};
@@ -14,24 +13,41 @@ static ALL_OPTIONS: [&str; 9] = [
     "ratio", "budget", "mask", "gap", "jump", "arc", "step", "first", "count",
 ];
 
-// A command with these options, each with one value as often as it is given, and any ordinary words.
+// The command with one option more, which may be given again and has one value each time.
+fn with_option<'a>(
+    alloc: Global,
+    command: Command<'a>,
+    option: &'a str,
+) -> Result<Command<'a>, AllocError>
+    ensures { IfOk result (λ c. app_of c ≡ with_rule (app_of command.entry) (option_rule option.now)) }
+{
+    let arg = Arg::new(alloc, option)
+        .long(option)
+        .action(ArgAction::Append);
+    command.arg(arg)
+}
+
+// The command with any ordinary words.
+fn with_words<'a>(alloc: Global, command: Command<'a>) -> Result<Command<'a>, AllocError>
+    ensures { IfOk result (λ c. app_of c ≡ with_rule (app_of command.entry) word_rule) }
+{
+    let words = Arg::new(alloc, "word").action(ArgAction::Append);
+    command.arg(words)
+}
+
+// A command with these options and any ordinary words.
 fn command_with<'a>(
     alloc: Global,
     name: &'a str,
     options: &[&'a str],
 ) -> Result<Command<'a>, AllocError>
-    ensures app { IfOk result (λ c. app_of c ≡ record { top = command_shape name.now (map (λ o. o.now) options.now); subs = [] }) }
-    ensures local { IfOk result (λ c. (fields_of c).has_globals ≡ false) }
+    ensures { IfOk result (λ c. app_of c ≡ record { top = command_shape name.now (map (λ o. o.now) options.now); subs = [] }) }
 {
     let mut command = Command::new(alloc, name);
     for option in options {
-        let arg = Arg::new(alloc, *option)
-            .long(*option)
-            .action(ArgAction::Append);
-        command = command.arg(arg)?;
+        command = with_option(alloc, command, *option)?;
     }
-    let words = Arg::new(alloc, "word").action(ArgAction::Append);
-    command.arg(words)
+    with_words(alloc, command)
 }
 
 // The program with one command more.
@@ -49,7 +65,7 @@ fn with_command<'a>(
 
 // The program before its commands. It has no help and no version.
 fn bare_program<'a>(alloc: Global) -> Command<'a>
-    ensures { app_of result ≡ app_with [] }
+    ensures { app_of result ≡ bare_app }
 {
     Command::new(alloc, "baseline")
         .no_binary_name(true)

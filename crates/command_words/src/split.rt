@@ -1,6 +1,7 @@
 // The words as clap splits them.
-ghost use Rattle.std.specs.Prelude.{◌≡◌, IfOk, IsErrOf, List, ℕ, map, string_bytes};
+ghost use Rattle.std.specs.Prelude.{◌≡◌, ◌≢◌, IfOk, IsErrOf, List, ℕ, map, string_bytes};
 ghost use Rattle.clap.specs.Matches.{found_of};
+ghost use Rattle.clap.specs.Values.{kind_of};
 ghost use Rattle.clap.specs.Walk.{Row, Text, rows_of};
 ghost use Rattle.command_words.specs.Commands.{is_short, has_short};
 ghost use Rattle.command_words.specs.Split.{IsSplit};
@@ -32,19 +33,24 @@ fn is_short_word(word: &[u8]) -> bool
 fn has_short_word(words: &[String]) -> bool
     ensures { result ≡ has_short (map (λ w. string_bytes w) words.now) }
 {
-    for word in words {
+    let mut rest = words;
+    while let [word, behind @ ..] = rest {
         if word.as_str() == "--" {
             return false;
         }
         if is_short_word(word.as_bytes()) {
             return true;
         }
+        rest = behind;
     }
     false
 }
 
 // What an error of clap is here.
-fn fault_of(error: &Error) -> WordFault {
+fn fault_of(error: &Error) -> WordFault
+    ensures memory { kind_of error.now ≡ ErrorKind.OutOfMemory → result ≡ WordFault.NoMemory }
+    ensures usage { kind_of error.now ≢ ErrorKind.OutOfMemory → result ≡ WordFault.Usage }
+{
     match error.kind() {
         ErrorKind::OutOfMemory => WordFault::NoMemory,
         _ => WordFault::Usage,
