@@ -1,16 +1,16 @@
 -- Lists of options with the same numbers ask for the same job.
-use Rattle.std.proofs.Common.{◌≡◌, ◌≢◌, ℕ, ◌+◌, ◌<◌, ◌≤◌, zero, suc, ◌==◌, codes, Bool, true, false, List, [], ◌∷◌, ◌++◌, map, append_assoc, append-nil, if◌then◌else◌, refl, sym, ap, ap₂, ◌∙◌, subst, arith, take, length, get_or}
+use Rattle.std.proofs.Common.{◌≡◌, ◌≢◌, ℕ, ◌+◌, ◌<◌, ◌≤◌, codes, Bool, true, false, List, [], ◌∷◌, ◌++◌, map, append_assoc, append-nil, refl, sym, ap, ap₂, ◌∙◌, subst, arith}
 use Rattle.std.proofs.lemmas.Bool.Decides.{nat_tests}
 use Rattle.clap.specs.Walk.{Row, Text}
 use Rattle.command_words.specs.Commands.{values_in}
-use Rattle.command_words.specs.Split.{AreNumbers, AreAll, HasNumbers, TakesNumbers, given_with}
+use Rattle.command_words.specs.Split.{AreNumbers, AreAll, TakesNumbers, given_with}
 use Rattle.command_words.specs.declared.settings.Setting.{Setting}
 use Rattle.command_words.specs.declared.settings.Setting.TheVariants.{Ratio, Budget, Mask, Gap, Jump, Arc, Step, First, Count}
 use Rattle.command_words.specs.declared.settings.Given.{Given}
 use Rattle.command_words.specs.declared.jobs.Job.{Job}
 use Rattle.command_words.specs.declared.jobs.Job.TheVariants as job
 use Rattle.command_words.specs.Numbers.{IsNumber}
-use Rattle.command_words.specs.Settings.{name_of, place_of, is_same, numbers_for, IsSetBy, AreOptions, ArePairOptions}
+use Rattle.command_words.specs.Settings.{name_of, place_of, is_same, numbers_for, IsSetBy, AreOptions}
 use Rattle.command_words.specs.Words.{IsPlainJob, IsJobOf}
 use Rattle.run_options.specs.declared.options.Options.{Options}
 use Rattle.command_words.proofs.SettingLaws.{one_number}
@@ -123,19 +123,10 @@ one_taken s texts old new t n is number = record {
   new_are = ap (λ (gs : List Given). gs ++ given_with s n ∷ []) is.new_are ∙ append_assoc old (map (given_with s) is.numbers) (given_with s n ∷ []) ∙ ap (λ (gs : List Given). old ++ gs) (sym (map_push s is.numbers n));
 }
 
--- one of texts that are numbers is a number
-pub all_at : (texts : List Text) (i : ℕ) (d : Text) → AreAll texts → i < length texts → (n : ℕ) × IsNumber (get_or texts i d) n
-all_at [] i d all lt = absurd (omega arith)
-all_at (t ∷ texts) zero d all lt = all.0
-all_at (t ∷ texts) (suc i) d all lt = all_at texts i d all.1 (omega arith)
-
 -- so far: the settings before a place have their numbers, and the others none
 pub record HasUpTo (rows : List Row) (given : List Given) (place : ℕ) : Type 0 where
   pub before : (s : Setting) → place_of s < place → AreNumbers (values_in (name_of s) rows) (numbers_for s given)
   pub behind : (s : Setting) → place ≤ place_of s → numbers_for s given ≡ []
-
-pub none_yet : (rows : List Row) → HasUpTo rows [] 0
-none_yet rows = record { before = λ s lt. absurd (omega arith); behind = λ s le. refl }
 
 pub next_taken : (rows : List Row) (old new : List Given) (s : Setting) → HasUpTo rows old (place_of s) → TakesNumbers s (values_in (name_of s) rows) old new → HasUpTo rows new (place_of s + 1)
 next_taken rows old new s has takes = record {
@@ -161,17 +152,3 @@ next_taken rows old new s has takes = record {
     of_before r lt false e =
         let kept : numbers_for r new ≡ numbers_for r old = numbers r ∙ ap (λ (ns : List ℕ). numbers_for r old ++ ns) (other_numbers s r takes.numbers e) ∙ append-nil (numbers_for r old) in
         subst (λ (ns : List ℕ). AreNumbers (values_in (name_of r) rows) ns) (sym kept) (has.before r (less r lt e))
-
-pub all_taken : (rows : List Row) (given : List Given) → HasUpTo rows given 9 → HasNumbers rows given
-all_taken rows given has s = has.before s (below s)
-  where
-    below : (s : Setting) → place_of s < 9
-    below Ratio = omega arith
-    below Budget = omega arith
-    below Mask = omega arith
-    below Gap = omega arith
-    below Jump = omega arith
-    below Arc = omega arith
-    below Step = omega arith
-    below First = omega arith
-    below Count = omega arith

@@ -1,24 +1,23 @@
 -- What clap's account of the program says of jobs.
-use Rattle.std.proofs.Common.{◌≡◌, ◌⊎◌, inl, inr, ℕ, ◌==◌, ◌&&◌, ◌||◌, not, Bool, true, false, IsTrue, List, [], ◌∷◌, ◌++◌, map, append_assoc, Option, Some, None, if◌then◌else◌, codes, refl, sym, ap, ap₂, ◌∙◌, subst, arith, true≢false}
+use Rattle.std.proofs.Common.{◌≡◌, ℕ, ◌==◌, Bool, true, false, IsTrue, List, [], ◌∷◌, ◌++◌, map, append_assoc, Some, None, codes, refl, sym, ap, ◌∙◌, subst, true≢false}
 use Rattle.std.specs.Str.{bytes_eq}
 use Rattle.std.proofs.lemmas.Slice.Eq.{bytes_eq-Decides}
-use Rattle.clap.specs.Walk.{Row, Text, rows_after}
+use Rattle.clap.specs.Walk.{Row, Text}
 use Rattle.clap.specs.Simple.{subcommand_of}
 use Rattle.clap.specs.Faults.{fault_of}
-use Rattle.command_words.specs.Commands.{word_id, is_among, IsCommand, values_in, Ends, IsSettled, is_short, has_short, built_shape, built_rules, command_named, app_with, start}
-use Rattle.command_words.specs.Split.{pair_options, all_options, commands, IsSplit, AreNumbers, AreAll}
+use Rattle.command_words.specs.Commands.{word_id, is_among, IsCommand, values_in, Ends, has_short, built_shape, command_named, app_with, start}
+use Rattle.command_words.specs.Split.{pair_options, all_options, commands, IsSplit, AreAll}
 use Rattle.command_words.proofs.Steps.{nothing_pending}
 use Rattle.command_words.proofs.Leaf.{is_command}
-use Rattle.command_words.proofs.Top.{IsNamed, named, Runs, runs, program_fails_as, program_gives, leaf_passes, leaf_rows, leaf_ends, Ending}
-use Rattle.command_words.proofs.SplitLaws.{Adds, AreKnown, Passes, passes, Knows, Found, found, neither, named_word, joined_word, number_word}
+use Rattle.command_words.proofs.Top.{named, runs, program_fails_as, program_gives, leaf_passes, leaf_rows, leaf_ends}
+use Rattle.command_words.proofs.SplitLaws.{Adds, AreKnown, passes, Knows, Found, found, neither, named_word, joined_word, number_word}
 use Rattle.command_words.specs.declared.settings.Setting.{Setting}
 use Rattle.command_words.specs.declared.settings.Setting.TheVariants.{Ratio, Budget, Mask, Gap, Jump, Arc, Step, First, Count}
 use Rattle.command_words.specs.declared.settings.Given.{Given}
 use Rattle.command_words.specs.declared.jobs.Job.{Job}
 use Rattle.command_words.specs.declared.jobs.Job.TheVariants as job
-use Rattle.command_words.specs.Numbers.{IsNumber}
-use Rattle.command_words.specs.Settings.{name_of, is_same, numbers_for}
-use Rattle.command_words.specs.Parts.{Piece, Plain, Apart, Joined, is_ordinary, IsPiece, words_of_piece, ArePieces, words_of, plain_of, given_of, IsBehind, AreParted}
+use Rattle.command_words.specs.Settings.{name_of, numbers_for}
+use Rattle.command_words.specs.Parts.{Piece, Plain, Apart, Joined, is_ordinary, IsPiece, words_of_piece, ArePieces, words_of, plain_of, IsBehind, AreParted}
 use Rattle.command_words.specs.Words.{IsPlainJob, IsJobOf, IsJob}
 
 -- ---- the options of the commands

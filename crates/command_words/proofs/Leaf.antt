@@ -1,15 +1,15 @@
 -- What the walk reads of a command with options, as clap builds it.
-use Rattle.std.proofs.Common.{◌≡◌, ℕ, ◌+◌, ◌==◌, ◌&&◌, ◌||◌, not, Bool, true, false, List, [], ◌∷◌, ◌++◌, map, Option, Some, None, is_some, if◌then◌else◌, refl, sym, ap, ap₂, ◌∙◌, subst, arith}
-use Rattle.std.specs.Prelude.{fold, find}
+use Rattle.std.proofs.Common.{◌≡◌, ◌&&◌, ◌||◌, not, Bool, true, false, List, [], ◌∷◌, Some, None, if◌then◌else◌, refl, sym, ap, subst}
+use Rattle.std.specs.Prelude.{fold}
 use Rattle.std.specs.List.{list_any}
 use Rattle.std.specs.Str.{bytes_eq}
 use Rattle.std.proofs.lemmas.Slice.Eq.{bytes_eq-Decides}
-use Rattle.clap.specs.Walk.{Row, Rule, Text, arg_by_long, arg_by_id, arg_by_index, has_long, has_row, is_empty, with_default}
+use Rattle.clap.specs.Walk.{Row, Rule, Text, arg_by_long, arg_by_id, arg_by_index, has_row, with_default}
 use Rattle.clap.specs.Simple.{Shape, filled_from}
-use Rattle.clap.specs.Kinds.{Kinds, or_else}
-use Rattle.clap.specs.Faults.{check_fault, default_fault, defaults_fault}
+use Rattle.clap.specs.Kinds.{Kinds}
+use Rattle.clap.specs.Faults.{defaults_fault}
 use Rattle.clap.specs.Takes.{is_given}
-use Rattle.command_words.specs.Commands.{word_id, option_rule, word_rule, rules_with, built_option, built_word, built_rules, is_among, IsCommand}
+use Rattle.command_words.specs.Commands.{word_id, rules_with, built_option, built_word, built_rules, is_among, IsCommand}
 
 pub rules_built : (options : List Text) → filled_from 1 (rules_with options) ≡ built_rules options
 rules_built [] = refl

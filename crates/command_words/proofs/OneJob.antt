@@ -1,5 +1,5 @@
 -- Words ask for one job at most.
-use Rattle.std.proofs.Common.{◌≡◌, ℕ, ◌≤◌, ◌==◌, if◌then◌else◌, Option, None, Some, List, [], ◌∷◌, codes, get_or, length, drop, refl, IsErrOf, Err, sym, ap, ap₂, ◌∙◌, subst, arith}
+use Rattle.std.proofs.Common.{◌≡◌, ℕ, ◌==◌, if◌then◌else◌, Option, None, Some, List, [], ◌∷◌, codes, get_or, length, drop, refl, sym, ap, ap₂, ◌∙◌, subst, arith}
 use Rattle.gps_time.specs.declared.Tick.{Tick}
 use Rattle.command_words.specs.declared.settings.Given.{Given}
 use Rattle.std.proofs.lemmas.Option.{same_Some}
@@ -10,13 +10,13 @@ use Rattle.command_words.specs.declared.jobs.Job.{Job}
 use Rattle.command_words.specs.declared.jobs.Job.TheVariants as job
 use Rattle.command_words.specs.Numbers.{IsNumber, IsSatellite}
 use Rattle.command_words.specs.Parts.{AreParted}
-use Rattle.command_words.specs.Words.{name_of_part, sim_with, IsPlainJob, IsOrbitJob, IsSim, IsSimJob, IsFixJob, IsArcsJob, IsJobOf, IsJob, IsInRange}
+use Rattle.command_words.specs.Words.{name_of_part, sim_with, IsPlainJob, IsOrbitJob, IsSim, IsSimJob, IsFixJob, IsArcsJob, IsJobOf, IsJob}
 use Rattle.run_options.specs.declared.options.Options.{Options}
 use Rattle.run_options.specs.Defaults.{numbers_of}
 use Rattle.run_options.proofs.OneOptions.{one_options}
 use Rattle.command_words.specs.declared.settings.Setting.{Setting}
 use Rattle.command_words.specs.declared.settings.Setting.TheVariants.{Ratio, Budget, Mask, Gap, Jump, Arc, Step, First, Count}
-use Rattle.command_words.specs.Settings.{numbers_for, IsSet, AreOptions, ArePairOptions}
+use Rattle.command_words.specs.Settings.{numbers_for, IsSet, AreOptions}
 use Rattle.command_words.proofs.SettingLaws.{one_number, one_satellite, one_set}
 use Rattle.command_words.proofs.PartLaws.{one_parting}
 
@@ -226,28 +226,3 @@ no_sim command part seed epochs sats none (job.Sim part' seed' epochs' sats') is
     (subst (λ (w : List ℕ). IsSim asked.part_word w epochs sats s) second
     (subst (λ (w : List ℕ). IsSim asked.part_word asked.seed_word w sats s) third
     (subst (λ (w : List ℕ). IsSim asked.part_word asked.seed_word asked.epochs_word w s) fourth asked.is))))
-
--- a job that is asked for keeps its ranges
-asked_range : (c : List ℕ) (p : List (List ℕ)) (g : List Given) (a : Job) → IsJobOf c p g a → IsInRange a
-asked_range c p g (job.Zero rows) asked = tt
-asked_range c p g (job.List obs) asked = tt
-asked_range c p g (job.Orbit nav sat tick) asked = tt
-asked_range c p g (job.Check cert) asked = tt
-asked_range c p g (job.Residuals cert) asked = tt
-asked_range c p g (job.Fix base rover nav options) asked = tt
-asked_range c p g (job.Arcs base rover nav options) asked = tt
-asked_range c p g (job.Sim part seed epochs sats) asked = (asked.is.epochs.to, asked.is.sats.to)
-
-pub job_range : (words : List (List ℕ)) (a : Job) → IsJob words a → IsInRange a
-job_range words a asked = asked_range asked.command asked.plain asked.given a asked.asked
-
--- words of `arcs` that ask for no job
-pub no_arcs_job : (plain : List (List ℕ)) (given : List Given) → ((base rover nav : List ℕ) (o : Options) → plain ≡ base ∷ rover ∷ nav ∷ [] → ArePairOptions given o → ⊥) → (job : Job) → IsJobOf (codes "arcs") plain given job → ⊥
-no_arcs_job plain given none (job.Zero rows) asked = absurd (omega (arith, other_letter 97 122 (codes "arcs") _ _ refl asked.command_is refl refl))
-no_arcs_job plain given none (job.List obs) asked = absurd (omega (arith, other_letter 97 108 (codes "arcs") _ _ refl asked.command_is refl refl))
-no_arcs_job plain given none (job.Orbit nav sat tick) asked = absurd (omega (arith, other_letter 97 111 (codes "arcs") _ _ refl asked.asked.command_is refl refl))
-no_arcs_job plain given none (job.Check cert) asked = absurd (omega (arith, other_letter 97 99 (codes "arcs") _ _ refl asked.command_is refl refl))
-no_arcs_job plain given none (job.Residuals cert) asked = absurd (omega (arith, other_letter 97 114 (codes "arcs") _ _ refl asked.command_is refl refl))
-no_arcs_job plain given none (job.Fix base rover nav options) asked = absurd (omega (arith, other_letter 97 102 (codes "arcs") _ _ refl asked.command_is refl refl))
-no_arcs_job plain given none (job.Arcs base rover nav options) asked = none base rover nav options asked.plain_are asked.options
-no_arcs_job plain given none (job.Sim part seed epochs sats) asked = absurd (omega (arith, other_letter 97 115 (codes "arcs") _ _ refl asked.asked.command_is refl refl))

@@ -1,5 +1,5 @@
 -- Words as clap splits them, and the job that they ask for.
-use Rattle.std.proofs.Common.{◌≡◌, ℕ, List, [], ◌∷◌, ◌++◌, Some, Err, IsErrOf, refl, sym, ap, ap₂, ◌∙◌, subst}
+use Rattle.std.proofs.Common.{◌≡◌, List, [], Err, IsErrOf, refl, sym, ap, ◌∙◌, subst}
 use Rattle.std.proofs.lemmas.Option.{same_Some}
 use Rattle.clap.specs.Walk.{Row, Text}
 use Rattle.command_words.specs.Commands.{word_id, values_in}
@@ -9,8 +9,8 @@ use Rattle.command_words.specs.declared.settings.Given.{Given}
 use Rattle.command_words.specs.declared.jobs.Job.{Job}
 use Rattle.command_words.specs.Settings.{name_of, numbers_for}
 use Rattle.command_words.specs.Words.{IsJobOf, IsJob}
-use Rattle.command_words.proofs.SplitLaws.{Adds, Found}
-use Rattle.command_words.proofs.JobLaws.{IsClapJob, job_split, split_account, split_parted}
+use Rattle.command_words.proofs.SplitLaws.{Adds}
+use Rattle.command_words.proofs.JobLaws.{job_split, split_account, split_parted}
 use Rattle.command_words.proofs.GivenLaws.{one_numbers, all_numbers, same_job}
 
 -- what a walk adds to nothing is what stands there

@@ -1,18 +1,16 @@
 -- Words that are parted are those whose walk by clap fails nowhere, and the walk gives the same words and numbers.
-use Rattle.std.proofs.Common.{◌≡◌, ◌≢◌, ◌⊎◌, inl, inr, ◌<◌, drop, zero, suc, ℕ, ◌==◌, ◌&&◌, ◌||◌, not, ◌≤◌, Bool, true, false, IsTrue, List, [], ◌∷◌, ◌++◌, map, length, get_or, append_assoc, append-nil, Option, Some, None, if◌then◌else◌, refl, sym, ap, ap₂, ◌∙◌, subst, arith, true≢false}
-use Rattle.std.specs.Prelude.{fold}
+use Rattle.std.proofs.Common.{◌≡◌, ◌≢◌, ◌⊎◌, inl, inr, drop, zero, suc, ℕ, ◌==◌, ◌||◌, not, Bool, true, false, IsTrue, List, [], ◌∷◌, ◌++◌, get_or, append_assoc, append-nil, Option, Some, None, if◌then◌else◌, refl, sym, ap, ap₂, ◌∙◌, subst, arith, true≢false}
 use Rattle.std.specs.Str.{bytes_eq}
 use Rattle.std.proofs.lemmas.Slice.Eq.{bytes_eq-Decides}
 use Rattle.std.proofs.lemmas.Bool.Decides.{nat_tests}
-use Rattle.clap.specs.Lexer.{long_of, short_of, name_and_value}
+use Rattle.clap.specs.Lexer.{long_of, name_and_value}
 use Rattle.clap.proofs.CutLemmas.{Lacks}
 use Rattle.clap.proofs.LexerLemmas.{name_and_value-at, name_and_value-without}
-use Rattle.clap.specs.Walk.{Row, Held, Text, Waiting, idle, option, positional, Walk}
+use Rattle.clap.specs.Walk.{Row, Text, Waiting, option, positional, Walk}
 use Rattle.clap.specs.Simple.{Shape}
 use Rattle.clap.specs.Faults.{walk_fault}
 use Rattle.command_words.specs.Commands.{word_id, is_among, free, IsCommand, put, values_in, at, IsSettled, Ends, is_short, has_short}
-use Rattle.command_words.proofs.Steps.{nothing_pending, word_pending, option_pending, Steps, ends_before, ends_after, fails_at, IsPlainWord, word_steps, further_steps, separator_steps, name_steps, joined_steps, value_steps, unknown_fails, waiting_ends, flag_for_value, separator_for_value}
-use Rattle.command_words.proofs.Top.{not_short}
+use Rattle.command_words.proofs.Steps.{nothing_pending, word_pending, option_pending, ends_before, ends_after, fails_at, IsPlainWord, word_steps, further_steps, separator_steps, name_steps, joined_steps, value_steps, unknown_fails, waiting_ends, flag_for_value, separator_for_value}
 use Rattle.command_words.proofs.Values.{put_same, put_other}
 use Rattle.command_words.specs.declared.settings.Setting.{Setting}
 use Rattle.command_words.specs.declared.settings.Setting.TheVariants.{Ratio, Budget, Mask, Gap, Jump, Arc, Step, First, Count}

@@ -1,15 +1,15 @@
 -- One step of clap's walk over the words, for each kind of word.
-use Rattle.std.proofs.Common.{◌≡◌, ℕ, ◌==◌, ◌&&◌, ◌||◌, not, Bool, true, false, List, [], ◌∷◌, ◌++◌, map, Option, Some, None, if◌then◌else◌, refl, sym, ap, ap₂, ◌∙◌, subst, arith, true≢false}
+use Rattle.std.proofs.Common.{◌≡◌, ℕ, ◌&&◌, Bool, true, false, List, [], ◌∷◌, Option, Some, None, if◌then◌else◌, refl, sym, ap, ◌∙◌, subst}
 use Rattle.std.specs.Prelude.{fold}
 use Rattle.std.specs.Str.{bytes_eq}
 use Rattle.std.proofs.lemmas.Slice.Eq.{bytes_eq-Decides}
 use Rattle.clap.specs.Lexer.{long_of, short_of}
-use Rattle.clap.specs.Walk.{Row, Rule, Held, Text, Waiting, idle, option, positional, Walk, settled_rows, walked, pushed, is_pending, settled as settled_held}
+use Rattle.clap.specs.Walk.{Row, Held, Text, Waiting, idle, option, positional, Walk, walked, pushed, is_pending, settled as settled_held}
 use Rattle.clap.specs.Simple.{Shape}
 use Rattle.clap.specs.Kinds.{Kinds, or_else}
 use Rattle.clap.specs.Faults.{settle_fault, turn_fault, walk_fault}
 use Rattle.clap.specs.declared.error.kind.ErrorKind.TheVariants.{InvalidValue}
-use Rattle.command_words.specs.Commands.{word_id, built_option, built_word, is_among, free, IsCommand, put, at, IsSettled, Ends}
+use Rattle.command_words.specs.Commands.{word_id, built_word, is_among, free, IsCommand, put, at, IsSettled, Ends}
 
 -- ---- what is pending
 

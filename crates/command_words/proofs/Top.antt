@@ -1,17 +1,16 @@
 -- What clap makes of the first word and of those behind it.
-use Rattle.std.proofs.Common.{◌≡◌, ℕ, ◌==◌, ◌&&◌, ◌||◌, not, Bool, true, false, List, [], ◌∷◌, ◌++◌, map, append_assoc, append-nil, Option, Some, None, option_map, is_some, if◌then◌else◌, refl, sym, ap, ap₂, ◌∙◌, subst, arith}
+use Rattle.std.proofs.Common.{◌≡◌, ◌==◌, ◌&&◌, ◌||◌, Bool, true, false, List, [], ◌∷◌, ◌++◌, map, append_assoc, append-nil, Option, Some, None, is_some, if◌then◌else◌, refl, sym, ap, ap₂, ◌∙◌, subst}
 use Rattle.std.specs.Prelude.{fold, find, codes}
 use Rattle.std.specs.Str.{bytes_eq}
 use Rattle.std.proofs.lemmas.Slice.Eq.{bytes_eq-Decides}
 use Rattle.clap.specs.Lexer.{long_of, short_of}
-use Rattle.clap.specs.Walk.{Row, Rule, Held, Names, Text, Waiting, idle, Walk, answers_to, finished, nothing_held, rows_after, walk_from, walk, walked, settled_rows, with_default}
-use Rattle.clap.specs.Simple.{App, Shape, built, built_leaf, entered, inherited, label_of, names_of, rows_at, subcommand_of}
+use Rattle.clap.specs.Walk.{Row, Rule, Held, Names, Text, idle, Walk, answers_to, nothing_held, rows_after, walk_from, walk, walked, settled_rows, with_default}
+use Rattle.clap.specs.Simple.{App, Shape, built, built_leaf, entered, inherited, label_of, names_of, subcommand_of}
 use Rattle.clap.specs.Kinds.{Kinds, or_else}
 use Rattle.clap.specs.Faults.{built_fault, entered_fault, fault_of, level_fault, settle_fault, turn_fault, walk_fault, defaults_fault}
 use Rattle.clap.proofs.FaultLemmas.{stopped_fault}
-use Rattle.clap.specs.declared.error.kind.ErrorKind.TheVariants.{MissingSubcommand}
-use Rattle.command_words.specs.Commands.{word_id, built_rules, is_among, IsCommand, at, IsSettled, Ends, built_shape, command_shape, top_shape, built_top, built_app, app_with, start, is_short, has_short, command_named}
-use Rattle.command_words.proofs.Leaf.{is_command, rules_built}
+use Rattle.command_words.specs.Commands.{built_rules, IsCommand, at, Ends, built_shape, command_shape, top_shape, built_top, built_app, app_with, start, is_short, has_short, command_named}
+use Rattle.command_words.proofs.Leaf.{rules_built}
 
 -- ---- behind the command's name
 

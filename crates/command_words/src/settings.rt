@@ -2,7 +2,6 @@
 ghost use Rattle.std.specs.Prelude.{◌≡◌, ℕ, ◌<◌, ◌≤◌, ◌↔◌, [], IsTrue, IfSome, MatchOption};
 ghost use Rattle.command_words.specs.Settings.{name_of, place_of, numbers_for, IsSetBy, HasFound};
 
-
 /// A number that a job can be asked to use.
 #[derive(Clone, Copy, Debug)]
 pub enum Setting {

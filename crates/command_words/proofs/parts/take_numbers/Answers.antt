@@ -1,4 +1,4 @@
-use Rattle.std.proofs.Common.{rules, ◌≡◌, ◌<◌, ℕ, List, length, subst, sym}
+use Rattle.std.proofs.Common.{rules, ◌<◌, ℕ, List, length, subst, sym}
 use Rattle.command_words.specs.Numbers.{IsNumber}
 use Rattle.command_words.proofs.ProgramLaws.{number_at, text_taken}
 use Rattle.command_words.proofs.parts.take_numbers.Goals as goal

@@ -1,4 +1,4 @@
-use Rattle.std.proofs.Common.{◌≡◌, ◌∙◌, ℕ, List, [], OnOk, IsErrOf, map, ap, subst, sym}
+use Rattle.std.proofs.Common.{◌≡◌, ◌∙◌, List, [], OnOk, IsErrOf, ap, subst}
 use Rattle.clap.specs.Matches.{found_of}
 use Rattle.clap.specs.Walk.{Text, rows_of}
 use Rattle.command_words.specs.Commands.{values_in}
@@ -22,5 +22,5 @@ returns-in-Some-clause-usage c =
 pub returns-in-None-clause-numbers : goal.returns-in-None-clause-numbers
 returns-in-None-clause-numbers c =
     let none : [] ≡ values_in (name_of c.args.setting) (rows_of (found_of c.args.matches.now)) =
-        no_texts (found_of c.args.matches.now) c.name.result.now c.in-None.ensures ∙ ap (λ (id : Text). values_in id (rows_of (found_of c.args.matches.now))) c.name.ensures in
+    no_texts (found_of c.args.matches.now) c.name.result.now c.in-None.ensures ∙ ap (λ (id : Text). values_in id (rows_of (found_of c.args.matches.now))) c.name.ensures in
     subst (λ (ts : List Text). TakesNumbers c.args.setting ts c.args.given.now.items c.args.given.now.items) none (none_taken c.args.setting c.args.given.now.items)

@@ -1,6 +1,5 @@
-use Rattle.std.proofs.Common.{◌≡◌, [], map, take}
-use Rattle.clap.specs.Simple.{app_of, new_shape}
-use Rattle.command_words.specs.Commands.{option_rule}
+use Rattle.std.proofs.Common.{◌≡◌, map, take}
+use Rattle.clap.specs.Simple.{app_of}
 use Rattle.command_words.proofs.ProgramLaws.{started}
 use Rattle.command_words.proofs.program.command_with.Given as goal
 

@@ -1,4 +1,4 @@
-use Rattle.std.proofs.Common.{rules, ◌≡◌, ◌∙◌, List, ℕ, [], ap, ap₂, codes, map}
+use Rattle.std.proofs.Common.{◌≡◌, ◌∙◌, List, [], ap, ap₂, codes, map}
 use Rattle.std.proofs.lemmas.Result.{IfOk-weaker}
 use Rattle.clap.specs.Simple.{App, app_of, with_subcommand}
 use Rattle.std.specs.Borrow.{Bor}

@@ -1,6 +1,6 @@
 use Rattle.std.proofs.Common.{◌≡◌, ◌∙◌, true, ap}
 use Rattle.std.proofs.lemmas.Result.{IfOk-weaker}
-use Rattle.clap.specs.Simple.{App, Shape, app_of, with_subcommand}
+use Rattle.clap.specs.Simple.{App, app_of, with_subcommand}
 use Rattle.command_words.proofs.ProgramLaws.{third}
 use Rattle.command_words.proofs.program.with_command.Goals as goal
 

@@ -1,7 +1,7 @@
-use Rattle.std.proofs.Common.{rules, ◌≡◌, ◌∙◌, false, List, ℕ, [], Some, sym, ap, map, string_bytes}
+use Rattle.std.proofs.Common.{◌≡◌, ◌∙◌, false, List, [], sym, ap, map, string_bytes}
 use Rattle.clap.specs.Faults.{fault_of, is_simple_and_free}
-use Rattle.clap.specs.Simple.{App, is_simple, subcommand_of, subcommand_rows_of, app_of}
-use Rattle.clap.specs.Walk.{Row, Text}
+use Rattle.clap.specs.Simple.{App, is_simple, subcommand_of, app_of}
+use Rattle.clap.specs.Walk.{Text}
 use Rattle.command_words.specs.Commands.{app_with, has_short}
 use Rattle.command_words.specs.Split.{commands}
 use Rattle.command_words.specs.declared.fault.WordFault.TheVariants.{Usage}
