@@ -1,1 +1,2 @@
 pub mod ListSays
+pub mod ListEndings

@@ -1,5 +1,5 @@
 -- What is told of files after others were read, and what files that are admitted end with.
-use Rattle.std.proofs.Common.{◌≡◌, ◌≢◌, ◌⊎◌, inl, inr, ◌<◌, ℕ, List, Option, length, IfSome, sym, subst}
+use Rattle.std.proofs.Common.{◌≡◌, ◌≢◌, inl, inr, ◌<◌, ℕ, List, Option, length, IfSome, Result, Ok, Err, subst}
 use Rattle.obs_store.specs.declared.file.ObsFile.{ObsFile}
 use Rattle.eph_store.specs.File.{Records}
 use Rattle.rinex_obs.specs.ObsForm.{HasObsFile}
@@ -7,10 +7,11 @@ use Rattle.rinex_obs.specs.ObsRules.{obs_of}
 use Rattle.rinex_nav.specs.NavForm.{HasNavFile}
 use Rattle.rinex_nav.specs.NavRules.{nav_of}
 use Rattle.line_source.specs.Told.{Same}
+use Rattle.line_source.specs.Pieces.{IsTakenWhole}
 use Rattle.job_answers.specs.declared.status.Status.TheVariants.{ReadFault}
 use Rattle.job_answers.specs.declared.answer.Stop.{Stop}
 use Rattle.job_answers.specs.declared.answer.Stop.TheVariants.{Ended, NoMemory}
-use Rattle.job_answers.specs.Answers.{ending_of, IfEnds}
+use Rattle.job_answers.specs.Answers.{ending_of, IfEnds, IfStopped}
 use Rattle.job_answers.specs.Statuses.{IsJobStatus}
 use Rattle.job_answers.specs.Endings.{Ending, IsTextOf, IsRefusal, EndsByFile, IsAdmitted}
 use Rattle.job_answers.proofs.EndingLaws.{admitted_ends, job_status_at, file_status}
@@ -52,6 +53,16 @@ no_stop told base rover nav end b r n no_fault (inr (inr stops)) = (admitted_end
 pub ends_weaker : (stop : Stop) (P Q : Ending → Type 0) → ((end : Ending) → P end → Q end) → IfEnds stop P → IfEnds stop Q
 ends_weaker (Ended answer) P Q weaker holds = weaker (ending_of answer) holds
 ends_weaker NoMemory P Q weaker holds = tt
+
+-- A file of which all was taken stops a job where each text for which the taker stands is refused.
+pub fed_stops : (told : List ℕ → Option (List ℕ)) (name : List ℕ) (taken : ℕ) (stands_for : List ℕ → Type 0) (r : Result ObsFile Stop) → IsTakenWhole (told name) taken stands_for
+    → IfStopped r (λ end. (text : List ℕ) → stands_for text → IsRefusal obs_of HasObsFile name text end) → IfStopped r (λ end. StopsAtObs told name end)
+fed_stops told name taken stands_for (Ok file) whole stops = tt
+fed_stops told name taken stands_for (Err stop) whole stops = ends_weaker stop _ _ (λ end refusal. inl (record {
+  text = whole.text;
+  is = record { told_is = whole.told_is; fits = whole.fits };
+  ends_so = refusal whole.text whole.stands;
+})) stops
 
 pub at_rover : (told later : List ℕ → Option (List ℕ)) (base rover nav : List ℕ) (b : ObsFile) (end : Ending) → Same told later → IsObsOf told base b → StopsAtObs later rover end → StopsAtFiles told base rover nav end
 at_rover told later base rover nav b end same is stops = inr (inl (record { base_file = b; base_is = is; stops = file_along told later rover _ end same stops }))

@@ -1,5 +1,5 @@
 -- The three files of a session: those of the base and of the rover, and that of the satellites.
-use Rattle.std.specs.Prelude.{◌≡◌, ◌⊎◌, ℕ, List, [], ◌∷◌}
+use Rattle.std.specs.Prelude.{◌⊎◌, ℕ, List}
 use Rattle.std.specs.declared.option.Option.{Option}
 use Rattle.line_source.specs.Lines.{lines_of}
 use Rattle.obs_store.specs.declared.file.ObsFile.{ObsFile}

@@ -1,7 +1,7 @@
 //! The three files of a session, read one after the other.
 #![tactic(auto)]
 
-ghost use Rattle.std.specs.Prelude.{◌≡◌, ◌≢◌, ◌≤◌, [], ◌∷◌, length, IfOk, All};
+ghost use Rattle.std.specs.Prelude.{◌≡◌, ◌≢◌, ◌≤◌, ℕ, List, [], ◌∷◌, length, IfOk, All};
 ghost use Rattle.line_source.specs.Causes.{Rose};
 ghost use Rattle.line_source.specs.Told.{Same, Stays};
 ghost use Rattle.line_source.specs.Lines.{lines_of};
@@ -10,17 +10,18 @@ ghost use Rattle.rinex_obs.specs.ObsRules.{obs_of};
 ghost use Rattle.rinex_nav.specs.NavForm.{IsNavFile, HasNavFile};
 ghost use Rattle.rinex_nav.specs.NavRules.{nav_of};
 ghost use Rattle.eph_store.specs.Records.{AreFit};
-ghost use Rattle.job_answers.specs.Answers.{IfStopped};
-ghost use Rattle.job_answers.specs.Endings.{IsRefusal};
+ghost use Rattle.job_answers.specs.Answers.{ending_of, IfStopped};
+ghost use Rattle.job_answers.specs.Endings.{ending, IsRefusal};
+ghost use Rattle.job_answers.specs.Texts.{too_large_line, read_fault_line};
 ghost use Rattle.session_files.specs.SessionFiles.{IsObsOf, IsNavOf, StopsAtObs, StopsAtNav, StopsAtFiles, AreFilesOf};
 
 use eph_store::NavFile;
-use job_answers::{Status, Stop, load_file, refused};
-use line_source::Files;
+use job_answers::{Answer, Status, Stop, load_file, refused};
+use line_source::{Files, LoadFault, Taker, load_into};
 use obs_store::ObsFile;
 use rinex_nav::{NavFault, read_nav};
-use rinex_obs::{ObsFault, read_obs};
-use std::alloc::Global;
+use rinex_obs::{ObsFault, ObsFeed};
+use std::alloc::{AllocError, Global};
 
 /// The files of a base and of a rover, and that of the satellites.
 #[derive(Drop)]
@@ -30,12 +31,26 @@ pub struct SessionFiles {
     pub nav: NavFile,
 }
 
-fn obs_in(alloc: Global, name: &str, text: &[u8]) -> Result<ObsFile, Stop>
-    requires { length text.now ≤ 67108864 }
-    ensures file { IfOk result (λ file. IsObsFile (lines_of text.now) file) }
-    ensures stopped { IfStopped result (λ end. IsRefusal obs_of HasObsFile name.now text.now end) }
+fn too_large(alloc: Global, name: &str) -> Result<Answer, AllocError>
+    ensures { IfOk result (λ a. ending_of a ≡ ending Status.Refused [] (too_large_line name.now)) }
 {
-    match read_obs(alloc, text) {
+    let err = format!(in alloc; "refused: {name}: file too large\n")?;
+    Ok(Answer::on_err(alloc, Status::Refused, err))
+}
+
+fn read_fault(alloc: Global, name: &str) -> Result<Answer, AllocError>
+    ensures { IfOk result (λ a. ending_of a ≡ ending Status.ReadFault [] (read_fault_line name.now)) }
+{
+    let err = format!(in alloc; "read fault: {name}\n")?;
+    Ok(Answer::on_err(alloc, Status::ReadFault, err))
+}
+
+// The file whose text was fed.
+fn obs_in(alloc: Global, name: &str, feed: ObsFeed) -> Result<ObsFile, Stop>
+    ensures file { IfOk result (λ file. (text : List ℕ) → ⟦<ObsFeed as Taker>⟧.stands_for feed text → IsObsFile (lines_of text) file) }
+    ensures stopped { IfStopped result (λ end. (text : List ℕ) → ⟦<ObsFeed as Taker>⟧.stands_for feed text → IsRefusal obs_of HasObsFile name.now text end) }
+{
+    match feed.finish() {
         Ok(file) => Ok(file),
         Err(ObsFault::Refused(at)) => Err(Stop::Ended(refused(alloc, name, at)?)),
         Err(ObsFault::NoMemory) => Err(Stop::NoMemory),
@@ -58,7 +73,8 @@ fn nav_in(alloc: Global, name: &str, text: &[u8]) -> Result<NavFile, Stop>
     }
 }
 
-fn obs_file<F: Files>(alloc: Global, files: &mut F, name: &str) -> Result<ObsFile, Stop>
+/// The observation file of a job, or the job's end where it can't be had or is none. Its text is not kept.
+pub fn obs_file<F: Files>(alloc: Global, files: &mut F, name: &str) -> Result<ObsFile, Stop>
     ensures read { IfOk result (λ file. IsObsOf (F.text_of files.old) name.now file) }
     ensures stopped { IfStopped result (λ end. StopsAtObs (F.text_of files.old) name.now end) }
     ensures cause { F.faults files.old ≤ F.faults files.new }
@@ -67,9 +83,12 @@ fn obs_file<F: Files>(alloc: Global, files: &mut F, name: &str) -> Result<ObsFil
     ensures texts { Same (F.text_of files.old) (F.text_of files.new) }
     ensures sure_names { Stays (F.is_sure_name files.old) (F.is_sure_name files.new) }
 {
-    match load_file(alloc, files, name) {
-        Ok(text) => obs_in(alloc, name, &text),
-        Err(stop) => Err(stop),
+    let mut feed = ObsFeed::new(alloc);
+    match load_into(files, name, &mut feed) {
+        Ok(()) => obs_in(alloc, name, feed),
+        Err(LoadFault::BigFile) => Err(Stop::Ended(too_large(alloc, name)?)),
+        Err(LoadFault::ReadFault) => Err(Stop::Ended(read_fault(alloc, name)?)),
+        Err(LoadFault::NoMemory) => Err(Stop::NoMemory),
     }
 }
 

@@ -1,5 +1,4 @@
-use Rattle.std.proofs.Common.{◌≢◌, ◌∷◌, [], arith}
-use Rattle.job_answers.specs.declared.status.Status.TheVariants.{ReadFault}
+use Rattle.std.proofs.Common.{arith}
 use Rattle.session_files.proofs.FileLaws.{ends_weaker, at_rover, at_third}
 use Rattle.session_files.proofs.read_session.Goals as goal
 

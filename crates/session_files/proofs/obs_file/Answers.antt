@@ -1,0 +1,5 @@
+use Rattle.session_files.proofs.FileLaws.{fed_stops}
+use Rattle.session_files.proofs.obs_file.Goals as goal
+
+pub returns-in-Ok-clause-stopped : goal.returns-in-Ok-clause-stopped
+returns-in-Ok-clause-stopped g c = fed_stops (g.F.Files.text_of c.args.files.now) c.args.name.now _ _ c.obs_in.result c.in-Ok.ensures.whole c.obs_in.ensures.stopped
