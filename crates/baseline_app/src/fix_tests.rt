@@ -10,7 +10,7 @@ use std::process::Abort;
 use std::test::Fail;
 
 // A file of this name.
-fn named(alloc: Global, name: &str, text: &[u8]) -> Result<Named, AllocError> {
+pub(crate) fn named(alloc: Global, name: &str, text: &[u8]) -> Result<Named, AllocError> {
     Ok(Named {
         name: String::from_str(alloc, name)?,
         bytes: text.to_vec(alloc)?,
@@ -33,7 +33,7 @@ fn run_on_files(
 }
 
 // A run of `fix` on three texts.
-fn run_fix(
+pub(crate) fn run_fix(
     alloc: Global,
     base: &[u8],
     made: &Made,

@@ -11,7 +11,13 @@
 #![tactic(auto)]
 
 #[cfg(test)]
+mod failing_tests;
+#[cfg(test)]
 mod fix_tests;
+#[cfg(test)]
+mod forged_tests;
+#[cfg(test)]
+mod malformed_tests;
 #[cfg(test)]
 mod tests;
 mod top;

@@ -18,14 +18,14 @@ pub(crate) struct Ran {
 
 // The calls that are to fail: of the files, of out, of err.
 #[derive(Drop)]
-struct Fails {
-    files: Vec<u64>,
-    out: Vec<u64>,
-    err: Vec<u64>,
+pub(crate) struct Fails {
+    pub(crate) files: Vec<u64>,
+    pub(crate) out: Vec<u64>,
+    pub(crate) err: Vec<u64>,
 }
 
 impl Fails {
-    fn none(alloc: Global) -> Fails {
+    pub(crate) fn none(alloc: Global) -> Fails {
         Fails {
             files: Vec::new(alloc),
             out: Vec::new(alloc),
@@ -59,7 +59,7 @@ fn files_of(
 }
 
 // A run on the file F, by sinks that take 7 bytes a call.
-fn run_on(
+pub(crate) fn run_on(
     alloc: Global,
     words: &[&str],
     text: &[u8],
@@ -324,7 +324,7 @@ fn lists(rt: HostRuntime) -> Result<(), Fail> {
 }
 
 // A satellite on a circle of 25,000 km, over the equator, on the meridian of Greenwich at the start of week 2295.
-const NAV: &str =
+pub(crate) const NAV: &str =
     "     3.04           N: GNSS NAV DATA    G: GPS              RINEX VERSION / TYPE\n\
 \x20                                                           END OF HEADER\n\
 G07 2023 12 31 00 00 00                  0                  0                  0\n\

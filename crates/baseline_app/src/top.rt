@@ -84,13 +84,8 @@ fn arcs_by_words<F: Files>(
 }
 
 // A file of a made-up session, or what the three are found to say.
-fn sim_part(
-    alloc: Global,
-    part: Part,
-    seed: u32,
-    epochs: u32,
-    sats: u32,
-) -> Result<Answer, Stop>
+#[tactic(auto, using(crate::proofs::Parts::file_no_fault))]
+fn sim_part(alloc: Global, part: Part, seed: u32, epochs: u32, sats: u32) -> Result<Answer, Stop>
     requires epochs { epochs ≤ 3600 }
     requires sats { sats ≤ 15 }
     ensures ends { IfEnded result (λ end. PartEnds part seed epochs sats end) }

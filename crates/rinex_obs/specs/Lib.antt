@@ -6,3 +6,8 @@ pub mod EpochLines
 pub mod SatLines
 pub mod ObsRules
 pub mod ObsForm
+pub mod Started
+pub mod Parts
+pub mod Opened
+pub mod Feeding
+pub mod Fed

@@ -41,8 +41,9 @@ fn kind_of(version: Version) -> Result<u16, Flaw>
     Ok(version.hundredths)
 }
 
+/// The version in hundredths that the first line has.
 #[tactic(auto, unfolding(crate::specs::FirstLine::first_line_of))]
-fn first_line(line: &Line<'_>) -> Result<u16, At>
+pub fn first_line(line: &Line<'_>) -> Result<u16, At>
     ensures { result ≡ at_line line.now.number (first_line_of line.now.bytes.now) }
 {
     match version_of(line) {

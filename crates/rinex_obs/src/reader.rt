@@ -4,16 +4,14 @@ ghost use Rattle.obs_store.specs.declared.file.ObsFile.{ObsFile};
 ghost use Rattle.rinex_head.specs.FirstFailing.{IsFirstFailing};
 ghost use Rattle.rinex_obs.specs.ObsForm.{IsObsFile, HasObsFile};
 ghost use Rattle.line_source.specs.Lines.{lines_of};
-ghost use Rattle.rinex_head.specs.Walk.{rest_gives, Gives, OnRefusal, IfRefused};
-ghost use Rattle.rinex_obs.specs.ObsRules.{First, obs_rules, obs_of};
+ghost use Rattle.rinex_head.specs.Walk.{Gives, OnRefusal, IfRefused};
+ghost use Rattle.rinex_obs.specs.ObsRules.{obs_of};
 
-use crate::body::read_epochs;
-use crate::header::read_header;
-use crate::types::{kept_types, listed_types};
-use line_source::Lines;
+use crate::ObsFeed;
+use line_source::Taker;
 use obs_store::ObsFile;
 use rinex_head::TextFault;
-use std::alloc::Global;
+use std::alloc::{AllocError, Global};
 
 /// The observation file that a text stands for (RINEX 3.00 to 3.05), or the first place at which it stands for none.
 ///
@@ -26,29 +24,9 @@ pub fn read_obs(alloc: Global, text: &[u8]) -> Result<ObsFile, TextFault>
     ensures first { IfRefused result (λ at. IsFirstFailing HasObsFile (lines_of text.now) at.line) }
     ensures exact { Gives (obs_of (lines_of text.now)) (λ file. file) result }
 {
-    read_lines(alloc, Lines::new(text))
-}
-
-fn read_lines(alloc: Global, mut lines: Lines<'_>) -> Result<ObsFile, TextFault>
-    ensures { Gives (rest_gives obs_rules lines.entry First) (λ file. file) result }
-{
-    let header = match read_header(&mut lines) {
-        Ok(header) => header,
-        Err(at) => return Err(TextFault::Refused(at)),
-    };
-    let kept = match kept_types(alloc, &header.types) {
-        Ok(kept) => kept,
-        Err(_) => return Err(TextFault::NoMemory),
-    };
-    let epochs = match read_epochs(alloc, &mut lines, &kept) {
-        Ok(epochs) => epochs,
-        Err(fault) => return Err(fault),
-    };
-    Ok(ObsFile {
-        hundredths: header.hundredths,
-        position: header.position,
-        delta: header.delta,
-        listed: listed_types(&header.types),
-        epochs,
-    })
+    let mut feed = ObsFeed::new(alloc);
+    match feed.take(text) {
+        Ok(()) => feed.finish(),
+        Err(AllocError) => Err(TextFault::NoMemory),
+    }
 }

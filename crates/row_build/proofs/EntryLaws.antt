@@ -64,14 +64,12 @@ used_has_entry used boxes pair sat e h =
     from_place boxes pair sat p.place (slice_get boxes p.place) refl (sym (slice_get-map place_of boxes p.place) ∙ ap (λ (xs : List (ℕ × ℕ)). slice_get xs p.place) e ∙ p.is)
 
 -- ---- a search through the entries
-pub entry_read : (boxes : List SvPair) (k pair sat : ℕ) (x y : SvPair) → k < length boxes → x ≡ get_or boxes k x → y ≡ get_or boxes k y → is_entry x pair sat ≡ true → IsEntry boxes pair sat y
-entry_read boxes k pair sat x y h e f t =
-    let at_x : slice_get boxes k ≡ Some x = slice_get_read boxes (length boxes) k x refl h e in
-    let at_y : slice_get boxes k ≡ Some y = slice_get_read boxes (length boxes) k y refl h f in
-    let same : x ≡ y = same_Some x y (sym at_x ∙ at_y) in
+pub found_entry : (boxes : List SvPair) (k pair sat : ℕ) (x y : SvPair) → k < length boxes → x ≡ get_or boxes k x → is_entry x pair sat ≡ true → slice_get boxes k ≡ Some y → IsEntry boxes pair sat y
+found_entry boxes k pair sat x y h e t at =
+    let same : x ≡ y = same_Some x y (sym (slice_get_read boxes (length boxes) k x refl h e) ∙ at) in
     let u : is_entry y pair sat ≡ true = subst (λ (v : SvPair). is_entry v pair sat ≡ true) same t in
     let p = and_parts (y.pair == pair) (y.sat == sat) u in
-    record { place = k; is = at_y; of_pair = eqb-true y.pair pair p.0; of_sat = eqb-true y.sat sat p.1 }
+    record { place = k; is = at; of_pair = eqb-true y.pair pair p.0; of_sat = eqb-true y.sat sat p.1 }
 
 pub none_next : (boxes : List SvPair) (from i pair sat : ℕ) (d : SvPair) → ((k : ℕ) (v : SvPair) → from ≤ k → k < i → slice_get boxes k ≡ Some v → is_entry v pair sat ≡ false) → is_entry (get_or boxes i d) pair sat ≡ false →
     (k : ℕ) (v : SvPair) → from ≤ k → k < i + 1 → slice_get boxes k ≡ Some v → is_entry v pair sat ≡ false

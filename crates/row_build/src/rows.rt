@@ -1,16 +1,17 @@
 // One row.
-ghost use Rattle.std.specs.Prelude.{◌≡◌, ◌≢◌, ◌^◌, ◌<◌, ◌≤◌, None, [], ◌∷◌, All, ℤ, pos, ◌≤ℤ◌, unsigned_abs, IfSome};
+ghost use Rattle.std.specs.Prelude.{◌≡◌, ◌≢◌, ◌^◌, ◌<◌, ◌≤◌, None, [], ◌∷◌, All, List, ℤ, pos, ◌≤ℤ◌, unsigned_abs, IfSome};
 ghost use Rattle.obs_rows.specs.Ranges.{IsScale, IsBelow};
 ghost use Rattle.obs_rows.specs.Data.{number_at};
 ghost use Rattle.row_boxes.specs.YBoxes.{Pairing, HoldsYs, HasFarSignal, most_radius};
 ghost use Rattle.signal_travel.specs.Boxes.{IsPoint, HoldsPlace};
 ghost use Rattle.travel_model.specs.SeenPlaces.{Place, IsDisplacement, IsMeanDirection};
 ghost use Rattle.row_boxes.specs.Sightings.{Sighting, IsSighting, place_at};
+ghost use Rattle.row_build.specs.Halves.{IsBaseHalf};
 ghost use Rattle.row_build.specs.Rows.{HoldsU, IsInU, seen_by};
 
+use crate::entries::Entry;
 use obs_rows::{PHASES, Row};
 use row_boxes::{Observations, observations_of, sight_of};
-use screening::SvPair;
 use signal_travel::{SeenBox, mean_direction};
 
 // The observations of an entry, with what the rover may see of the satellite
@@ -22,32 +23,29 @@ struct Geometry {
 
 fn geometry_of(
     shift: &[i64; PHASES],
-    entry: &SvPair,
+    entry: &Entry,
     group: i64,
-    base: &[i64; 3],
     point: &[i64; 3],
     scale: u32,
 ) -> Option<Geometry>
     requires shift { All (IsBelow (2 ^ 40)) shift.now }
     requires group { unsigned_abs group ≤ 2 ^ 38 }
-    requires base { IsPoint base.now }
     requires point { IsPoint point.now }
     requires scale { IsScale scale }
-    ensures y { IfSome result (λ g. HoldsYs (seen_by entry.now base.now point.now) scale entry.now.observed group shift.now g.held.y g.held.ry) }
+    ensures y { IfSome result (λ g. (base : List ℤ) → IsBaseHalf entry.now.sv base entry.now.half → HoldsYs (seen_by entry.now.sv base point.now) scale entry.now.sv.observed group shift.now g.held.y g.held.ry) }
     ensures radius { IfSome result (λ g. g.held.ry ≤ℤ most_radius scale) }
     ensures others { IfSome result (λ g. scale ≢ 0 → g.held.y ≡ pos 0 ∷ pos 0 ∷ number_at g.held.y 2 ∷ pos 0 ∷ []) }
-    ensures seen { IfSome result (λ g. (s : Sighting) → IsSighting entry.now.rover point.now s → HoldsPlace g.seen.place s.seen) }
-    ensures far { result ≡ None → HasFarSignal (seen_by entry.now base.now point.now) scale entry.now.observed group shift.now }
+    ensures seen { IfSome result (λ g. (s : Sighting) → IsSighting entry.now.sv.rover point.now s → HoldsPlace g.seen.place s.seen) }
+    ensures far { result ≡ None → (base : List ℤ) → IsBaseHalf entry.now.sv base entry.now.half → HasFarSignal (seen_by entry.now.sv base point.now) scale entry.now.sv.observed group shift.now }
 {
     // All four, which the proof names.
-    let [_l1, _l2, _c1, _c2] = entry.observed;
-    let rover = sight_of(&entry.rover, point);
-    let known = sight_of(&entry.base, base);
+    let [_l1, _l2, _c1, _c2] = entry.sv.observed;
+    let rover = sight_of(&entry.sv.rover, point);
     let held = observations_of(
-        &entry.observed,
+        &entry.sv.observed,
         group,
         shift,
-        &known.pseudorange,
+        &entry.half,
         &rover.pseudorange,
         scale,
     )?;
@@ -81,25 +79,23 @@ fn row_over(arc: u16, geometry: &Geometry, point: &[i64; 3]) -> Row
 pub fn row_of(
     arc: u16,
     shift: &[i64; PHASES],
-    entry: &SvPair,
+    entry: &Entry,
     group: i64,
-    base: &[i64; 3],
     point: &[i64; 3],
     scale: u32,
 ) -> Option<Row>
     requires shift { All (IsBelow (2 ^ 40)) shift.now }
     requires group { unsigned_abs group ≤ 2 ^ 38 }
-    requires base { IsPoint base.now }
     requires point { IsPoint point.now }
     requires scale { IsScale scale }
     ensures arc { IfSome result (λ r. r.arc ≡ arc) }
-    ensures y { IfSome result (λ r. HoldsYs (seen_by entry.now base.now point.now) scale entry.now.observed group shift.now r.y r.ry) }
+    ensures y { IfSome result (λ r. (base : List ℤ) → IsBaseHalf entry.now.sv base entry.now.half → HoldsYs (seen_by entry.now.sv base point.now) scale entry.now.sv.observed group shift.now r.y r.ry) }
     ensures radius { IfSome result (λ r. r.ry ≤ℤ most_radius scale) }
     ensures others { IfSome result (λ r. scale ≢ 0 → r.y ≡ pos 0 ∷ pos 0 ∷ number_at r.y 2 ∷ pos 0 ∷ []) }
-    ensures u { IfSome result (λ r. HoldsU entry.now.rover point.now r.u r.ru) }
+    ensures u { IfSome result (λ r. HoldsU entry.now.sv.rover point.now r.u r.ru) }
     ensures narrow { IfSome result (λ r. All (λ n. n ≤ℤ pos 32) r.ru) }
-    ensures far { result ≡ None → HasFarSignal (seen_by entry.now base.now point.now) scale entry.now.observed group shift.now }
+    ensures far { result ≡ None → (base : List ℤ) → IsBaseHalf entry.now.sv base entry.now.half → HasFarSignal (seen_by entry.now.sv base point.now) scale entry.now.sv.observed group shift.now }
 {
-    let geometry = geometry_of(shift, entry, group, base, point, scale)?;
+    let geometry = geometry_of(shift, entry, group, point, scale)?;
     Some(row_over(arc, &geometry, point))
 }

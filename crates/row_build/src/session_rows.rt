@@ -5,11 +5,14 @@ ghost use Rattle.obs_rows.specs.Ranges.{IsScale};
 ghost use Rattle.obs_rows.specs.Arcs.{AreArcs};
 ghost use Rattle.obs_rows.specs.Pairs.{IsAfter, HasItsArcs};
 ghost use Rattle.slip_arcs.specs.Linked.{IsCutOf};
+ghost use Rattle.row_build.specs.Halves.{AreBaseHalves};
 ghost use Rattle.row_build.specs.Rows.{setting};
 ghost use Rattle.row_build.specs.SessionRows.{AreSessionRows, HasFarPair, listed};
 
-use crate::{RowFault, pair_rows};
+use crate::RowFault;
+use crate::pairs::pair_rows_with;
 use obs_rows::{Arc, ArcList, PairRows, Session, SessionBuilder, Signals};
+use row_boxes::Pseudorange;
 use screening::Screened;
 use std::alloc::{AllocError, Global};
 
@@ -28,6 +31,52 @@ fn add_pair(session: &mut SessionBuilder, rows: Option<PairRows>) -> Result<(), 
         Some(rows) => session.push(rows),
         None => Ok(()),
     }
+}
+
+/// The session of `rows_at`, with the base's halves that are kept, each in the place of its entry: `base_halves` makes them once for
+/// all points of a run. What is not kept is made, so the session is the same with none.
+pub fn rows_with(
+    alloc: Global,
+    screened: &Screened,
+    halves: &[Pseudorange],
+    arcs: &[Arc],
+    base: &[i64; 3],
+    point: &[i64; 3],
+    signals: Signals,
+    scale: u32,
+) -> Result<Session, RowFault>
+    requires cut { IsCutOf screened.now.used arcs.now }
+    requires arcs { AreArcs arcs.now }
+    requires halves { AreBaseHalves screened.now.boxes base.now halves.now }
+    requires base { IsPoint base.now }
+    requires point { IsPoint point.now }
+    requires scale { IsScale scale }
+    ensures scale { IfOk result (λ s. s.scale ≡ scale) }
+    ensures base { IfOk result (λ s. s.base ≡ base.now) }
+    ensures point { IfOk result (λ s. s.point ≡ point.now) }
+    ensures signals { IfOk result (λ s. s.signals ≡ signals) }
+    ensures arcs { IfOk result (λ s. s.arcs ≡ arcs.now) }
+    ensures rows { IfOk result (λ s. AreSessionRows (setting screened.now.boxes arcs.now base.now point.now scale) (length screened.now.used) s.pairs) }
+    ensures overwidth { result ≡ Err RowFault.Overwidth → HasFarPair (setting screened.now.boxes arcs.now base.now point.now scale) }
+{
+    let held = ArcList::new(Vec::from_slice(alloc, arcs)?);
+    let mut session = SessionBuilder::new(alloc, scale, *base, *point, signals, held);
+    for pair in 0..screened.used.len() {
+        match pair_rows_with(
+            alloc,
+            screened,
+            halves,
+            arcs,
+            pair as u32,
+            base,
+            point,
+            scale,
+        ) {
+            Ok(rows) => add_pair(&mut session, rows)?,
+            Err(fault) => return Err(fault),
+        }
+    }
+    Ok(session.finish())
 }
 
 /// The session of these arcs at these points: the rows of `pair_rows` of every pair.
@@ -53,22 +102,5 @@ pub fn rows_at(
     ensures rows { IfOk result (λ s. AreSessionRows (setting screened.now.boxes arcs.now base.now point.now scale) (length screened.now.used) s.pairs) }
     ensures overwidth { result ≡ Err RowFault.Overwidth → HasFarPair (setting screened.now.boxes arcs.now base.now point.now scale) }
 {
-    let held = ArcList::new(Vec::from_slice(alloc, arcs)?);
-    let mut session = SessionBuilder::new(alloc, scale, *base, *point, signals, held);
-    for pair in 0..screened.used.len() {
-        match pair_rows(
-            alloc,
-            screened,
-            arcs,
-            pair as u32,
-            base,
-            point,
-            signals,
-            scale,
-        ) {
-            Ok(rows) => add_pair(&mut session, rows)?,
-            Err(fault) => return Err(fault),
-        }
-    }
-    Ok(session.finish())
+    rows_with(alloc, screened, &[], arcs, base, point, signals, scale)
 }

@@ -1,5 +1,5 @@
 // First shifts.
-ghost use Rattle.std.specs.Prelude.{◌≡◌, ◌≢◌, ◌↔◌, ◌^◌, ◌<◌, ◌≤◌, ℕ, true, false, None, Some, [], All, ℤ, pos, unsigned_abs, IfSome, length, slice_get};
+ghost use Rattle.std.specs.Prelude.{◌≡◌, ◌≢◌, ◌↔◌, ◌^◌, ◌<◌, ◌≤◌, ℕ, true, false, None, Some, [], All, List, ℤ, pos, unsigned_abs, IfSome, length, slice_get};
 ghost use Rattle.signal_travel.specs.Boxes.{IsPoint};
 ghost use Rattle.obs_rows.specs.declared.arcs.Arc.{Arc};
 ghost use Rattle.obs_rows.specs.Ranges.{IsScale, IsBelow};
@@ -10,57 +10,64 @@ ghost use Rattle.slip_arcs.specs.Linked.{IsCutOf};
 ghost use Rattle.row_boxes.specs.Sightings.{Sighting, y_of};
 ghost use Rattle.row_boxes.specs.YBoxes.{AreSightings, HasSightings, IsWithinHalf, IsAllowedGroup};
 ghost use Rattle.row_build.specs.HeldArcs.{holds_pair, arcs_at};
+ghost use Rattle.row_build.specs.Halves.{IsBaseHalf, AreBaseHalves};
 ghost use Rattle.row_build.specs.Rows.{RowSetting, seen_by};
 ghost use Rattle.row_build.specs.Far.{IsFirstEntry};
 ghost use Rattle.row_build.specs.Shifts.{AreFirstShifts};
 
 use crate::arcs::{first_held, holds};
-use crate::entries::entry_of;
+use crate::entries::{Entry, entry_of};
 use obs_rows::{Arc, PHASES, Signals};
-use row_boxes::{first_group, first_shift, sight_of};
-use screening::{Screened, SvPair};
+use row_boxes::{Pseudorange, first_group, first_shift, sight_of};
+use screening::Screened;
 
 /// The entry of the satellite of a pair's first row.
-pub fn first_entry(screened: &Screened, arcs: &[Arc], pair: u32) -> SvPair
+pub fn first_entry(
+    screened: &Screened,
+    halves: &[Pseudorange],
+    arcs: &[Arc],
+    pair: u32,
+    base: &[i64; 3],
+) -> Entry
     requires cut { IsCutOf screened.now.used arcs.now }
     requires few { length arcs.now ≤ 200 }
     requires held { arcs_at arcs.now pair ≢ [] }
-    ensures { IsFirstEntry screened.now.boxes arcs.now pair result }
+    requires halves { AreBaseHalves screened.now.boxes base.now halves.now }
+    requires base { IsPoint base.now }
+    ensures entry { IsFirstEntry screened.now.boxes arcs.now pair result.sv }
+    ensures half { IsBaseHalf result.sv base.now result.half }
 {
     let first = first_held(arcs, pair).unwrap();
-    entry_of(screened, pair, arcs[first].sat)
+    entry_of(screened, halves, pair, arcs[first].sat, base)
 }
 
 /// The group of a pair, from the entry of its first row's satellite.
-pub fn group_of(entry: &SvPair, base: &[i64; 3], point: &[i64; 3]) -> i64
-    requires base { IsPoint base.now }
-    requires point { IsPoint point.now }
-    ensures near { (b r : Sighting) → AreSightings (seen_by entry.now base.now point.now) b r →
-        IsWithinHalf (pos 1) (y_of 2 (number_at entry.now.observed 2) result (pos 0) b r) }
-    ensures allowed { (scale : ℕ) → IsScale scale → IsAllowedGroup (seen_by entry.now base.now point.now) scale (number_at entry.now.observed 2) result }
-    ensures exists { HasSightings (seen_by entry.now base.now point.now) }
+pub fn group_of(entry: &Entry, point: &[i64; 3]) -> i64
+    requires { IsPoint point.now }
+    ensures near { (base : List ℤ) → IsBaseHalf entry.now.sv base entry.now.half → (b r : Sighting) → AreSightings (seen_by entry.now.sv base point.now) b r →
+        IsWithinHalf (pos 1) (y_of 2 (number_at entry.now.sv.observed 2) result (pos 0) b r) }
+    ensures allowed { (base : List ℤ) → IsBaseHalf entry.now.sv base entry.now.half → (scale : ℕ) → IsScale scale →
+        IsAllowedGroup (seen_by entry.now.sv base point.now) scale (number_at entry.now.sv.observed 2) result }
+    ensures exists { (base : List ℤ) → IsBaseHalf entry.now.sv base entry.now.half → HasSightings (seen_by entry.now.sv base point.now) }
     ensures size { unsigned_abs result ≤ 2 ^ 38 }
 {
-    let known = sight_of(&entry.base, base);
-    let seen = sight_of(&entry.rover, point);
-    first_group(entry.observed[2], &known.pseudorange, &seen.pseudorange)
+    let seen = sight_of(&entry.sv.rover, point);
+    first_group(entry.sv.observed[2], &entry.half, &seen.pseudorange)
 }
 
 // The shifts with which, under this group, the phases' observations are least
-fn shifts_of(entry: &SvPair, group: i64, base: &[i64; 3], point: &[i64; 3]) -> [i64; PHASES]
+fn shifts_of(entry: &Entry, group: i64, point: &[i64; 3]) -> [i64; PHASES]
     requires group { unsigned_abs group ≤ 2 ^ 38 }
-    requires base { IsPoint base.now }
     requires point { IsPoint point.now }
-    ensures near { (s : ℕ) → s < 2 → (b r : Sighting) → AreSightings (seen_by entry.now base.now point.now) b r →
-        IsWithinHalf (wavelength s) (y_of s (number_at entry.now.observed s) group (number_at result s) b r) }
+    ensures near { (base : List ℤ) → IsBaseHalf entry.now.sv base entry.now.half → (s : ℕ) → s < 2 → (b r : Sighting) → AreSightings (seen_by entry.now.sv base point.now) b r →
+        IsWithinHalf (wavelength s) (y_of s (number_at entry.now.sv.observed s) group (number_at result s) b r) }
     ensures size { All (IsBelow (2 ^ 39)) result }
 {
-    let known = sight_of(&entry.base, base);
-    let seen = sight_of(&entry.rover, point);
-    let (known, seen) = (known.pseudorange, seen.pseudorange);
+    let seen = sight_of(&entry.sv.rover, point);
+    let (known, seen) = (entry.half, seen.pseudorange);
     [
-        first_shift(0, entry.observed[0], group, &known, &seen),
-        first_shift(1, entry.observed[1], group, &known, &seen),
+        first_shift(0, entry.sv.observed[0], group, &known, &seen),
+        first_shift(1, entry.sv.observed[1], group, &known, &seen),
     ]
 }
 
@@ -82,9 +89,9 @@ fn first_shifts(
     ensures near { AreFirstShifts (record { boxes = screened.now.boxes; arcs = arcs.now; base = base.now; point = point.now; scale = 0 }) pair sat result }
     ensures size { All (IsBelow (2 ^ 39)) result }
 {
-    let first = first_entry(screened, arcs, pair);
-    let entry = entry_of(screened, pair, sat);
-    shifts_of(&entry, group_of(&first, base, point), base, point)
+    let first = first_entry(screened, &[], arcs, pair, base);
+    let entry = entry_of(screened, &[], pair, sat, base);
+    shifts_of(&entry, group_of(&first, point), point)
 }
 
 /// Shifts of an arc with which the observations of its phases in the pair lie from -λ to λ, in a fine session and for every group that

@@ -1,4 +1,5 @@
 pub mod CutLaws
 pub mod RangeLaws
+pub mod FewArcs
 pub mod FirstArcs
 pub mod StandsLaws

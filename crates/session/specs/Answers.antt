@@ -1,5 +1,5 @@
 -- The answers of a run over the arcs that were kept.
-use Rattle.std.specs.Prelude.{◌≡◌, ◌≢◌, ℕ, min, Any, pos}
+use Rattle.std.specs.Prelude.{◌≡◌, ◌≢◌, ℕ, Any, pos}
 use Rattle.obs_store.specs.declared.file.ObsFile.{ObsFile}
 use Rattle.obs_rows.specs.Arcs.{free_count}
 use Rattle.cert_data.specs.declared.certs.Cert.{Cert}
@@ -9,10 +9,6 @@ use Rattle.run_options.specs.declared.options.Options.{Options}
 use Rattle.round_steps.specs.Counts.{AreFew, AreMany}
 use Rattle.round_steps.specs.Runs.{Rules, EndsEarly, EndsFull}
 use Rattle.round_steps.specs.Steps.{IsBestWhereFixed}
-
--- a count, which stands still at the end of its type, 2^32 - 1. There are at most 54,000 arcs, so none gets there
-abbrev pub counted : ℕ → ℕ
-counted n = min n 4294967295
 
 -- four satellites are in kept arcs in some pair, and the arcs aren't too many
 pub record GoesOn (rules : Rules) (taken : ℕ) : Type 0 where
@@ -29,7 +25,7 @@ pub record IsEndCert (rules : Rules) (o : Options) (cert : Cert) : Type 0 where
 -- the end of a run
 abbrev pub IsAnswer : Rules → ℕ → Options → Answer → Type 0
 IsAnswer rules taken o (Few pairs) = (pairs ≡ taken) × AreFew taken rules.arcs
-IsAnswer rules taken o (Arcs free) = (free ≡ counted (free_count rules.arcs)) × ((AreFew taken rules.arcs → ⊥) × AreMany rules.arcs)
+IsAnswer rules taken o (Arcs free) = (free ≡ free_count rules.arcs) × ((AreFew taken rules.arcs → ⊥) × AreMany rules.arcs)
 IsAnswer rules taken o (Early stage tail) = GoesOn rules taken × EndsEarly rules stage tail
 IsAnswer rules taken o (Full cert) = GoesOn rules taken × IsEndCert rules o cert
 

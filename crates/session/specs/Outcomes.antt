@@ -1,5 +1,5 @@
 -- The outcome of two observation files and a navigation file.
-use Rattle.std.specs.Prelude.{◌≡◌, ◌⊎◌, ◌↔◌, ℕ, IsTrue, List, [], ◌∷◌, length, map, All, ℤ, pos}
+use Rattle.std.specs.Prelude.{◌≡◌, ◌≤◌, ◌⊎◌, ◌↔◌, ℕ, IsTrue, List, [], ◌∷◌, length, map, All, ℤ, pos}
 use Rattle.obs_rows.specs.declared.bands.Signals.{Signals}
 use Rattle.obs_rows.specs.declared.sessions.Session.{Session}
 use Rattle.row_build.specs.Stands.{StandsForFiles}
@@ -14,7 +14,7 @@ use Rattle.cert_data.specs.declared.outcomes.Outcome.{Outcome}
 use Rattle.run_options.specs.declared.options.Options.{Options}
 use Rattle.session.specs.declared.file_rounds.FileRounds.{FileRounds}
 use Rattle.session_begin.specs.Beginnings.{IsPosition, AreSignals, AreSparse, AreTaken, pairs_of}
-use Rattle.session.specs.Answers.{counted, HasDelta, IsAnswer}
+use Rattle.session.specs.Answers.{HasDelta, IsAnswer}
 use Rattle.session.specs.FileRules.{HasRowsOf, rules_of}
 
 -- the used satellites of the taken pairs with their boxes, and the arcs that are kept of them
@@ -47,6 +47,7 @@ pub record IsOutcome (base rover : ObsFile) (nav : Records) (o : Options) (out :
   pub stands : (s : Session) → HasRowsOf rounds.screened.boxes (length rounds.screened.used) rounds.kept rounds.position rounds.signals s → StandsAsItIs base rover nav o position signals taken s
   pub taken_is : out.taken ≡ length taken
   pub all_is : out.all ≡ length (pairs_of base rover o)
-  pub kept_is : out.kept ≡ counted (length rounds.kept)
+  pub kept_is : out.kept ≡ length rounds.kept
+  pub kept_few : out.kept ≤ 54000
   pub delta_is : IsTrue out.delta ↔ (HasDelta base ⊎ HasDelta rover)
   pub answer_is : IsAnswer (rules_of rounds.screened.boxes (length rounds.screened.used) rounds.kept rounds.position rounds.signals) out.taken o out.answer

@@ -1,8 +1,9 @@
 //! The answer of a run over the arcs that were kept.
-ghost use Rattle.std.specs.Prelude.{◌≡◌, ◌^◌, IfOk};
+ghost use Rattle.std.specs.Prelude.{◌≡◌, ◌≤◌, ◌^◌, length, IfOk};
+ghost use Rattle.obs_rows.specs.Arcs.{free_count};
 ghost use Rattle.round_steps.specs.Points.{IsReceiverPoint};
 ghost use Rattle.round_steps.specs.Shifts.{AreShiftsBelow};
-ghost use Rattle.session.specs.Answers.{counted, GoesOn, IsAnswer, IsBestAnswer};
+ghost use Rattle.session.specs.Answers.{GoesOn, IsAnswer, IsBestAnswer};
 
 use cert_data::{Answer, Cert};
 use obs_rows::{Arc, free_arcs};
@@ -10,15 +11,12 @@ use round_steps::{End, Rounds, are_few, are_many, run};
 use session_begin::Options;
 use std::alloc::{AllocError, Global};
 
-/// A count, which stands still at the end of its type.
-pub fn counted(n: usize) -> u32
-    ensures { result ≡ counted n }
+/// How many of the arcs are free.
+fn free_count(arcs: &[Arc]) -> u32
+    requires { length arcs.now ≤ 54_000 }
+    ensures { result ≡ free_count arcs.now }
 {
-    if n < 0xffff_ffff {
-        n as u32
-    } else {
-        0xffff_ffff
-    }
+    free_arcs(arcs) as u32
 }
 
 /// Too few satellites, too many arcs, or the end of the run.
@@ -35,6 +33,7 @@ pub fn answer<R: Rounds>(
     requires arcs { kept.now ≡ (R.rules rounds.now).arcs }
     requires point { IsReceiverPoint base.now }
     requires shifts { AreShiftsBelow (2 ^ 40) kept.now }
+    requires few { length kept.now ≤ 54_000 }
     ensures answer { IfOk result (IsAnswer (R.rules rounds.now) taken options.now) }
     ensures strictly_best { IfOk result IsBestAnswer }
 {
@@ -43,7 +42,7 @@ pub fn answer<R: Rounds>(
     }
     if are_many(kept) {
         return Ok(Answer::Arcs {
-            free: counted(free_arcs(kept)),
+            free: free_count(kept),
         });
     }
     match run(alloc, rounds, kept, base, options.ratio, options.budget) {

@@ -4,6 +4,7 @@ ghost use Rattle.obs_rows.specs.Arcs.{AreArcs};
 ghost use Rattle.obs_rows.specs.Ranges.{IsBelow};
 ghost use Rattle.signal_travel.specs.Boxes.{IsPoint};
 ghost use Rattle.slip_arcs.specs.Linked.{IsCutOf};
+ghost use Rattle.row_build.specs.Halves.{AreBaseHalves};
 ghost use Rattle.row_build.specs.Rows.{setting};
 ghost use Rattle.row_build.specs.Shifts.{AreFirstShifts};
 ghost use Rattle.round_steps.specs.Shifts.{AreSameArcs, AreShiftsBelow, without_shifts};
@@ -11,7 +12,7 @@ ghost use Rattle.session.specs.FileRules.{rules_of, HaveFirstShifts};
 
 use obs_rows::{Arc, ArcList, Session, Signals};
 use round_steps::Rounds;
-use row_build::{RowFault, Screened, rows_at, shift_at};
+use row_build::{Pseudorange, RowFault, Screened, rows_with, shift_at};
 use std::alloc::{AllocError, Global};
 
 /// What was screened of two files, with the arcs that were kept.
@@ -22,12 +23,14 @@ pub struct FileRounds {
     /// The base's position.
     pub position: [i64; 3],
     pub signals: Signals,
+    /// The base's half of each entry's computed term, which no round changes.
+    pub halves: Vec<Pseudorange>,
 }
 
 impl Rounds for FileRounds {
     ghost rules = { λ f. rules_of f.screened.boxes (length f.screened.used) f.kept f.position f.signals };
 
-    ghost ready = { λ f. IsCutOf f.screened.used f.kept × (AreArcs f.kept × IsPoint f.position) };
+    ghost ready = { λ f. IsCutOf f.screened.used f.kept × (AreArcs f.kept × IsPoint f.position) × AreBaseHalves f.screened.boxes f.position f.halves.items };
 
     fn session(
         &self,
@@ -36,9 +39,10 @@ impl Rounds for FileRounds {
         point: &[i64; 3],
         scale: u32,
     ) -> Result<Option<Session>, AllocError> {
-        match rows_at(
+        match rows_with(
             alloc,
             &self.screened,
+            self.halves.as_slice(),
             arcs,
             &self.position,
             point,

@@ -6,7 +6,7 @@ mod file_rounds;
 mod outcomes;
 mod runs;
 
-pub use answers::{answer, counted};
+pub use answers::answer;
 pub use cert_data::{Answer, Cert, Outcome, Stage, Tail};
 pub use file_rounds::FileRounds;
 pub use outcomes::{have_delta, outcome};

@@ -2,9 +2,9 @@
 ghost use Rattle.std.specs.Prelude.{◌≡◌, ◌≤◌, ◌^◌, ◌⊎◌, ◌↔◌, length, IsTrue, IfOk};
 ghost use Rattle.round_steps.specs.Points.{IsReceiverPoint};
 ghost use Rattle.round_steps.specs.Shifts.{AreShiftsBelow};
-ghost use Rattle.session.specs.Answers.{counted, GoesOn, HasDelta, IsAnswer, IsBestAnswer};
+ghost use Rattle.session.specs.Answers.{GoesOn, HasDelta, IsAnswer, IsBestAnswer};
 
-use crate::{answer, counted};
+use crate::answer;
 use cert_data::Outcome;
 use obs_rows::Arc;
 use obs_store::ObsFile;
@@ -40,9 +40,10 @@ pub fn outcome<R: Rounds>(
     requires point { IsReceiverPoint begun.now.position }
     requires shifts { AreShiftsBelow (2 ^ 40) kept.now }
     requires few { length begun.now.taken.items ≤ 3600 }
+    requires few_arcs { length kept.now ≤ 54_000 }
     ensures taken { IfOk result (λ o. o.taken ≡ length begun.now.taken.items) }
     ensures all { IfOk result (λ o. o.all ≡ begun.now.all) }
-    ensures kept { IfOk result (λ o. o.kept ≡ counted (length kept.now)) }
+    ensures kept { IfOk result (λ o. o.kept ≡ length kept.now) }
     ensures delta { IfOk result (λ o. o.delta ≡ delta) }
     ensures answer { IfOk result (λ o. IsAnswer (R.rules rounds.now) o.taken options.now o.answer) }
     ensures strictly_best { IfOk result (λ o. IsBestAnswer o.answer) }
@@ -52,7 +53,7 @@ pub fn outcome<R: Rounds>(
     Ok(Outcome {
         taken,
         all: begun.all,
-        kept: counted(kept.len()),
+        kept: kept.len() as u32,
         delta,
         answer,
     })

@@ -2,6 +2,7 @@
 ghost use Rattle.std.specs.Prelude.{◌≡◌, ◌≤◌, All, AllPairs, length, IfOk, IfErr};
 ghost use Rattle.obs_store.specs.Epochs.{tags_of};
 ghost use Rattle.epoch_pair.specs.Pairs.{Follows, IsNearPair};
+ghost use Rattle.row_build.specs.Halves.{AreBaseHalves};
 ghost use Rattle.session_begin.specs.Beginnings.{IsPosition, IsSessionFault};
 ghost use Rattle.session.specs.Answers.{IsBestAnswer};
 ghost use Rattle.session.specs.Outcomes.{AreScreened, IsOutcome};
@@ -10,7 +11,7 @@ use crate::{FileRounds, have_delta, outcome};
 use cert_data::Outcome;
 use eph_store::NavFile;
 use obs_store::ObsFile;
-use row_build::screen;
+use row_build::{base_halves, screen};
 use session_begin::{Begun, Options, SessionFault, begin};
 use slip_arcs::cut;
 use std::alloc::{AllocError, Global};
@@ -28,19 +29,22 @@ fn screened(
     requires few { length begun.now.taken.items ≤ 3600 }
     requires rises { AllPairs Follows begun.now.taken.items }
     requires near { All (IsNearPair options.now.gap (tags_of base.now.epochs) (tags_of rover.now.epochs)) begun.now.taken.items }
-    ensures { IfOk result (AreScreened base.now rover.now nav.now options.now begun.now.position begun.now.signals begun.now.taken.items) }
+    ensures screened { IfOk result (AreScreened base.now rover.now nav.now options.now begun.now.position begun.now.signals begun.now.taken.items) }
+    ensures halves { IfOk result (λ f. AreBaseHalves f.screened.boxes f.position f.halves.items) }
 {
     let taken = begun.taken.as_slice();
     let screened = match screen(alloc, base, rover, nav, begun.signals, taken, options.mask) {
         Ok(screened) => screened,
         Err(fault) => return Err(fault),
     };
+    let halves = base_halves(alloc, &screened, &begun.position)?;
     match cut(alloc, screened.used.as_slice(), options.jump, options.arc) {
         Ok(arcs) => Ok(FileRounds {
             screened,
             kept: arcs.kept,
             position: begun.position,
             signals: begun.signals,
+            halves,
         }),
         Err(fault) => Err(fault),
     }

@@ -1,10 +1,10 @@
 -- The datum of an arc's linked set is the last datum at or before the arc, and there is no other in the set.
-use Rattle.std.proofs.Common.{◌≡◌, ℕ, zero, suc, ◌+◌, ◌-◌, ◌<◌, ◌≤◌, ◌⊎◌, true, false, Bool, not, IsTrue, Some, None, Option, List, [], ◌∷◌, ◌++◌, length, arith, refl, sym, ◌∙◌, ap, subst, inl, inr, ⊎_elim}
-use Rattle.std.specs.Prelude.{slice_get, ◌↔◌}
+use Rattle.std.proofs.Common.{◌≡◌, ℕ, zero, suc, ◌<◌, ◌≤◌, ◌⊎◌, true, false, IsTrue, Some, List, [], ◌∷◌, ◌++◌, length, arith, refl, sym, ◌∙◌, ap, subst, inl, inr, ⊎_elim}
+use Rattle.std.specs.Prelude.{slice_get}
 use Rattle.std.proofs.lemmas.Bool.{cases_lt, cases_eq}
-use Rattle.std.proofs.lemmas.Option.{none-some, same_Some, slice_get_within}
+use Rattle.std.proofs.lemmas.Option.{none-some, same_Some}
 use Rattle.obs_rows.specs.declared.arcs.Arc.{Arc}
-use Rattle.slip_arcs.specs.Linked.{SharePair, AreNeighbours, IsChain, AreLinked, IsFirstLinked, HaveDatums}
+use Rattle.slip_arcs.specs.Linked.{AreNeighbours, IsChain, AreLinked, IsFirstLinked, HaveDatums}
 use Rattle.sim_match.specs.Matches.{IsDatumOf, AreInOrder, AreMarked}
 
 -- ---- links go both ways, and one behind another
@@ -89,12 +89,12 @@ reaches_or_not arcs (suc n) k a is low =
     ⊎_elim
     (λ (less : here.0.last < a.first).
     inr (λ m b before at.
-        ⊎_elim (λ (earlier : m < n). none m b earlier at)
-        (λ (more : n ≤ m).
-        let same : n ≡ m = omega arith in
-        let one : here.0 ≡ b = same_Some here.0 b (sym here.1 ∙ ap (λ (i : ℕ). slice_get arcs i) same ∙ at) in
-        subst (λ (c : Arc). c.last < a.first) one less)
-        (cases_lt m n)))
+    ⊎_elim (λ (earlier : m < n). none m b earlier at)
+    (λ (more : n ≤ m).
+    let same : n ≡ m = omega arith in
+    let one : here.0 ≡ b = same_Some here.0 b (sym here.1 ∙ ap (λ (i : ℕ). slice_get arcs i) same ∙ at) in
+    subst (λ (c : Arc). c.last < a.first) one less)
+    (cases_lt m n)))
     (λ (more : a.first ≤ here.0.last). inl (record { place = n; arc = here.0; before = omega arith; is = here.1; reaches = more }))
     (cases_lt here.0.last a.first))
     (reaches_or_not arcs n k a is (omega arith))

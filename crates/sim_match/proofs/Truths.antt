@@ -1,32 +1,11 @@
 -- What an arc and its datum say decides whether the arc has the cycles that it was made with.
-use Rattle.std.proofs.Common.{◌≡◌, ℕ, ◌-◌, ◌<◌, ◌≤◌, ◌↔◌, ⊎_elim, true, false, Bool, not, IsTrue, Some, None, Option, List, ℤ, length, arith, refl, sym, ap, ◌∙◌, subst}
+use Rattle.std.proofs.Common.{◌≡◌, ℕ, zero, suc, ◌<◌, ◌≤◌, ◌↔◌, true, false, Bool, not, IsTrue, Some, List, [], ◌∷◌, ℤ, length, get_or, arith, refl, subst}
 use Rattle.std.specs.Prelude.{slice_get}
-use Rattle.std.proofs.lemmas.Option.{none-some, same_Some, slice_get_within}
+use Rattle.std.proofs.lemmas.Option.{slice_get_within, slice_get-get_or, get_or_from_slice_get}
 use Rattle.obs_rows.specs.declared.arcs.Arc.{Arc}
 use Rattle.obs_rows.specs.Arcs.{is_free}
-use Rattle.sim_match.specs.Matches.{found, wanted, IsDatumOf, AgreesWith, HasTruth, HaveTruth, AreMarked}
+use Rattle.sim_match.specs.Matches.{IsDatumOf, AgreesWith, HasTruth, HaveTruth, AreMarked}
 use Rattle.sim_match.proofs.Links.{one_datum}
-
--- the satellite of the arc, or of its datum, wasn't made
-pub no_arc : (truth : List (List ℤ)) (arcs : List Arc) (z : List ℤ) (k : ℕ) (a e : Arc) → slice_get truth (a.sat - 1) ≡ None → AgreesWith truth arcs z k a e → ⊥
-no_arc truth arcs z k a e none agrees = none-some agrees.of_arc (sym none ∙ agrees.of_arc_is)
-
-pub no_datum : (truth : List (List ℤ)) (arcs : List Arc) (z : List ℤ) (k : ℕ) (a e : Arc) → slice_get truth (e.sat - 1) ≡ None → AgreesWith truth arcs z k a e → ⊥
-no_datum truth arcs z k a e none agrees = none-some agrees.of_datum (sym none ∙ agrees.of_datum_is)
-
--- on both frequencies
-abbrev pub AgreeOn : List Arc → List ℤ → ℕ → Arc → Arc → List ℤ → List ℤ → Type 0
-AgreeOn arcs z k a e of_arc of_datum = (found arcs z k a e 0 ≡ wanted of_arc of_datum 0) × (found arcs z k a e 1 ≡ wanted of_arc of_datum 1)
-
-pub agree_on : (truth : List (List ℤ)) (arcs : List Arc) (z : List ℤ) (k : ℕ) (a e : Arc) (of_arc of_datum : List ℤ) (b : Bool) → slice_get truth (a.sat - 1) ≡ Some of_arc → slice_get truth (e.sat - 1) ≡ Some of_datum
-    → IsTrue b ↔ AgreeOn arcs z k a e of_arc of_datum → IsTrue b ↔ AgreesWith truth arcs z k a e
-agree_on truth arcs z k a e of_arc of_datum b arc_is datum_is both = (
-  λ on. let h = both.0 on in record { of_arc = of_arc; of_arc_is = arc_is; of_datum = of_datum; of_datum_is = datum_is; on_l1 = h.0; on_l2 = h.1 },
-  λ agrees.
-      let one : agrees.of_arc ≡ of_arc = same_Some agrees.of_arc of_arc (sym agrees.of_arc_is ∙ arc_is) in
-      let other : agrees.of_datum ≡ of_datum = same_Some agrees.of_datum of_datum (sym agrees.of_datum_is ∙ datum_is) in
-      both.1 (subst (λ (t : List ℤ). AgreeOn arcs z k a e t of_datum) one (subst (λ (t : List ℤ). AgreeOn arcs z k a e agrees.of_arc t) other (agrees.on_l1, agrees.on_l2))),
-)
 
 -- an arc has one datum
 pub by_datum : (truth : List (List ℤ)) (arcs : List Arc) (z : List ℤ) (k d : ℕ) (a e : Arc) (b : Bool) → AreMarked arcs → IsDatumOf arcs k d e → IsTrue b ↔ AgreesWith truth arcs z k a e → IsTrue b ↔ HasTruth truth arcs z k a
@@ -35,10 +14,32 @@ by_datum truth arcs z k d a e b marked is agrees = (
   λ has. agrees.1 (subst (λ (t : Arc). AgreesWith truth arcs z k a t) (one_datum arcs k has.place d has.datum e marked.datums has.is_datum is) has.agrees),
 )
 
-free_or_datum : (b : Bool) → IsTrue (not b) → IsTrue b → ⊥
-free_or_datum true free on = absurd (cc free)
-free_or_datum false free on = absurd (cc on)
+-- the same of the entries at the places of the arc and its datum
+pub by_entry : (truth : List (List ℤ)) (arcs : List Arc) (z : List ℤ) (k d : ℕ) (a p q : Arc) (b : Bool) → AreMarked arcs → d < length arcs → ((e : Arc) → slice_get arcs d ≡ Some e → IsDatumOf arcs k d e) → slice_get arcs k ≡ Some a
+    → IsTrue b ↔ AgreesWith truth arcs z k (get_or arcs k p) (get_or arcs d q) → IsTrue b ↔ HasTruth truth arcs z k a
+by_entry truth arcs z k d a p q b marked inside datum is agrees =
+    let e : Arc = get_or arcs d q in
+    by_datum truth arcs z k d a e b marked (datum e (slice_get-get_or arcs d q inside)) (subst (λ (t : Arc). IsTrue b ↔ AgreesWith truth arcs z k t e) (get_or_from_slice_get arcs k a p is) agrees)
 
--- a datum isn't free
-pub not_free : (a : Arc) → IsTrue (is_free a) → IsTrue a.datum → ⊥
-not_free a free on = free_or_datum a.datum free on
+there : (arcs : List Arc) (k : ℕ) → k < length arcs → (a : Arc) × (slice_get arcs k ≡ Some a)
+there [] k inside = absurd (omega arith)
+there (x ∷ xs) zero inside = (x, refl)
+there (x ∷ xs) (suc k) inside = there xs k (omega arith)
+
+true_at : (a : Arc) (b : Bool) (P : Type 0) → (IsTrue a.datum → IsTrue b) → (IsTrue (is_free a) → IsTrue b ↔ P) → (IsTrue (is_free a) → P) → IsTrue b
+true_at a b P datum free has = by_flag a.datum datum free has
+  where
+    by_flag : (flag : Bool) → (IsTrue flag → IsTrue b) → (IsTrue (not flag) → IsTrue b ↔ P) → (IsTrue (not flag) → P) → IsTrue b
+    by_flag true datum free has = datum refl
+    by_flag false datum free has = (free refl).1 (has refl)
+
+-- where all have theirs, so has arc k
+pub one_has : (truth : List (List ℤ)) (arcs : List Arc) (z : List ℤ) (k : ℕ) (b : Bool) → k < length arcs → ((a : Arc) → slice_get arcs k ≡ Some a → IsTrue a.datum → IsTrue b)
+    → ((a : Arc) → slice_get arcs k ≡ Some a → IsTrue (is_free a) → IsTrue b ↔ HasTruth truth arcs z k a) → HaveTruth truth arcs z → IsTrue b
+one_has truth arcs z k b inside datum free all =
+    let here = there arcs k inside in
+    true_at here.0 b (HasTruth truth arcs z k here.0) (datum here.0 here.1) (free here.0 here.1) (all k here.0 here.1)
+
+-- where the first n have theirs and there are no more, all have
+pub all_have : (truth : List (List ℤ)) (arcs : List Arc) (z : List ℤ) (n : ℕ) → length arcs ≤ n → ((k : ℕ) (a : Arc) → k < n → slice_get arcs k ≡ Some a → IsTrue (is_free a) → HasTruth truth arcs z k a) → HaveTruth truth arcs z
+all_have truth arcs z n whole first k a is free = let inside = slice_get_within arcs k a is in first k a (omega (arith, inside)) is free

@@ -1,5 +1,5 @@
 //! Whether integers are those that a session was made with.
-ghost use Rattle.std.specs.Prelude.{◌≡◌, ◌-◌, ◌<◌, ◌≤◌, ◌↔◌, IsTrue, length, Some, slice_get};
+ghost use Rattle.std.specs.Prelude.{◌≡◌, ◌-◌, ◌^◌, ◌<◌, ◌≤◌, ◌↔◌, ◌+ℤ◌, ◌-ℤ◌, unsigned_abs, IsTrue, length, Some, slice_get};
 ghost use Rattle.obs_rows.specs.declared.arcs.Arc.{Arc};
 ghost use Rattle.obs_rows.specs.Arcs.{is_free};
 ghost use Rattle.obs_rows.specs.Integers.{integer, integer_count};
@@ -21,6 +21,21 @@ fn integer_of(arcs: &[Arc], z: &[i64], k: usize, phase: usize) -> i64
     }
 }
 
+// The whole cycles of a phase: its shift and its integer.
+fn cycles_of(shift: i64, integer: i64) -> i128
+    ensures value { result ≡ shift +ℤ integer }
+    ensures size { unsigned_abs result ≤ 2 ^ 64 }
+{
+    i128::from(shift) + i128::from(integer)
+}
+
+fn less(cycles: i128, shift: i64) -> i128
+    requires { unsigned_abs cycles ≤ 2 ^ 64 }
+    ensures { result ≡ cycles -ℤ shift }
+{
+    cycles - i128::from(shift)
+}
+
 // The cycles of arc k, which this is, less those of its datum.
 fn found(arcs: &[Arc], z: &[i64], k: usize, arc: &Arc, datum: &Arc, phase: usize) -> i128
     requires few { length arcs.now ≤ 200 }
@@ -30,7 +45,7 @@ fn found(arcs: &[Arc], z: &[i64], k: usize, arc: &Arc, datum: &Arc, phase: usize
     ensures { result ≡ found arcs.now z.now k arc.now datum.now phase }
 {
     let integer = integer_of(arcs, z, k, phase);
-    i128::from(arc.shift[phase]) + i128::from(integer) - i128::from(datum.shift[phase])
+    less(cycles_of(arc.shift[phase], integer), datum.shift[phase])
 }
 
 // The cycles that an arc was made with, less those of its datum.
@@ -49,14 +64,7 @@ fn truth_of(truth: &[[i64; 2]], sat: u8) -> Option<[i64; 2]>
 }
 
 // Whether arc k, which this is, has against its datum the cycles that it was made with.
-fn agrees(
-    truth: &[[i64; 2]],
-    arcs: &[Arc],
-    z: &[i64],
-    k: usize,
-    arc: &Arc,
-    datum: &Arc,
-) -> bool
+fn agrees(truth: &[[i64; 2]], arcs: &[Arc], z: &[i64], k: usize, arc: &Arc, datum: &Arc) -> bool
     requires few { length arcs.now ≤ 200 }
     requires inside { k < length arcs.now }
     requires entries { length z.now ≡ integer_count arcs.now 0 }

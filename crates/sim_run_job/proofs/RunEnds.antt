@@ -1,15 +1,18 @@
 -- What the outcome of the made files ends with.
-use Rattle.std.proofs.Common.{◌≡◌, ◌≢◌, ◌↔◌, inl, inr, ℕ, List, Option, Bool, true, false, IsTrue, codes, if◌then◌else◌, refl, sym, ap, ◌∙◌, subst}
+use Rattle.std.proofs.Common.{◌≡◌, ◌≢◌, inl, inr, ℕ, List, Option, Some, Result, Ok, Err, Bool, true, false, codes, if◌then◌else◌, sym, ap, ◌∙◌}
 use Rattle.obs_store.specs.declared.file.ObsFile.{ObsFile}
 use Rattle.eph_store.specs.File.{Records}
-use Rattle.cert_data.specs.declared.outcomes.Outcome.{Outcome}
 use Rattle.run_options.specs.declared.options.Options.{Options}
 use Rattle.run_options.specs.Defaults.{AreDefaults}
 use Rattle.outcome_report.specs.OutcomeText.{is_fixed}
-use Rattle.job_answers.specs.declared.status.Status.{Status}
 use Rattle.job_answers.specs.declared.status.Status.TheVariants.{Done, Declined, Refused, ReadFault}
+use Rattle.job_answers.specs.declared.answer.Answer.{Answer}
+use Rattle.job_answers.specs.declared.answer.Stop.{Stop}
+use Rattle.job_answers.specs.Answers.{ending_of, IfEnded}
 use Rattle.job_answers.specs.Endings.{Ending}
 use Rattle.session_files.specs.SessionFiles.{AreFilesOf, StopsAtFiles}
+use Rattle.session_files.proofs.FileLaws.{ends_weaker}
+use Rattle.sim_session.specs.Texts.{IsBaseText, IsRoverText, IsNavigationText}
 use Rattle.sim_run_job.specs.SimRunJobs.{AreMadeFiles, SimRunEnd, SimRunEnds}
 
 no_read_fault : (fixed : Bool) → (if fixed then Done else Declined) ≢ ReadFault
@@ -33,3 +36,12 @@ ends_found seed epochs sats told o b r n end made defaults are ends = record {
 
 pub ends_stopped : (seed epochs sats : ℕ) (told : List ℕ → Option (List ℕ)) (o : Options) (end : Ending) → AreMadeFiles seed epochs sats told → AreDefaults o → StopsAtFiles told (codes "base") (codes "rover") (codes "nav") end → SimRunEnds seed epochs sats end
 ends_stopped seed epochs sats told o end made defaults stops = record { told = told; made = made; options = o; defaults = defaults; ends = inr stops }
+
+pub made_files : (seed epochs sats : ℕ) (told : List ℕ → Option (List ℕ)) (base rover nav : List ℕ) → told (codes "base") ≡ Some base → told (codes "rover") ≡ Some rover → told (codes "nav") ≡ Some nav
+    → IsBaseText seed epochs sats base → IsRoverText seed epochs sats rover → IsNavigationText sats nav → AreMadeFiles seed epochs sats told
+made_files seed epochs sats told base rover nav b r n base_is rover_is nav_is = record { base = base; rover = rover; nav = nav; base_told = b; rover_told = r; nav_told = n; base_is = base_is; rover_is = rover_is; nav_is = nav_is }
+
+-- what holds of an ending, of a job that ends or stops
+pub ended_weaker : (r : Result Answer Stop) (P Q : Ending → Type 0) → ((end : Ending) → P end → Q end) → IfEnded r P → IfEnded r Q
+ended_weaker (Ok a) P Q weaker holds = weaker (ending_of a) holds
+ended_weaker (Err stop) P Q weaker holds = ends_weaker stop P Q weaker holds

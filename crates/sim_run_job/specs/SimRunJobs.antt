@@ -49,10 +49,15 @@ abbrev pub match_word : Bool → List ℕ
 match_word true = codes "yes"
 match_word false = codes "no"
 
+abbrev pub made_line : ℕ → ℕ → ℕ → List ℕ
+made_line seed epochs sats = codes "sim seed " ++ (decimal seed ++ (codes " epochs " ++ (decimal epochs ++ (codes " sats " ++ (decimal sats ++ codes "\n")))))
+
+abbrev pub found_lines : Answer → Bool → List ℕ
+found_lines a matched = codes "verdict " ++ (verdict_word a ++ (codes "\nintegers " ++ (decimal (integers_of a) ++ (codes "\nmatch " ++ (match_word matched ++ codes "\n")))))
+
 -- the four lines
 abbrev pub run_text : ℕ → ℕ → ℕ → Answer → Bool → List ℕ
-run_text seed epochs sats a matched =
-    codes "sim seed " ++ (decimal seed ++ (codes " epochs " ++ (decimal epochs ++ (codes " sats " ++ (decimal sats ++ (codes "\nverdict " ++ (verdict_word a ++ (codes "\nintegers " ++ (decimal (integers_of a) ++ (codes "\nmatch " ++ (match_word matched ++ codes "\n")))))))))))
+run_text seed epochs sats a matched = made_line seed epochs sats ++ found_lines a matched
 
 -- the outcome of the files, and whether it is a fix with the integers of the truth
 pub record EndsWithMatch (o : Options) (seed epochs sats : ℕ) (b r : ObsFile) (n : Records) (end : Ending) : Type 0 where

@@ -1,6 +1,6 @@
 //! The text of `sim run`.
 ghost use Rattle.std.specs.Prelude.{◌≡◌, IfOk, string_bytes};
-ghost use Rattle.sim_run_job.specs.SimRunJobs.{verdict_word, integers_of, match_word, run_text};
+ghost use Rattle.sim_run_job.specs.SimRunJobs.{verdict_word, integers_of, match_word, made_line, found_lines, run_text};
 
 use cert_data::Answer;
 use outcome_report::is_fixed;
@@ -31,6 +31,21 @@ fn match_word(matched: bool) -> &'static str
     if matched { "yes" } else { "no" }
 }
 
+fn made_line(alloc: Global, seed: u32, epochs: u32, sats: u32) -> Result<String, AllocError>
+    ensures { IfOk result (λ text. string_bytes text ≡ made_line seed epochs sats) }
+{
+    format!(in alloc; "sim seed {seed} epochs {epochs} sats {sats}\n")
+}
+
+fn found_lines(alloc: Global, answer: &Answer, matched: bool) -> Result<String, AllocError>
+    ensures { IfOk result (λ text. string_bytes text ≡ found_lines answer.now matched) }
+{
+    let verdict = verdict_word(answer);
+    let integers = integers_of(answer);
+    let word = match_word(matched);
+    format!(in alloc; "verdict {verdict}\nintegers {integers}\nmatch {word}\n")
+}
+
 /// The four lines about a session that was made with these numbers.
 pub fn run_text(
     alloc: Global,
@@ -39,11 +54,11 @@ pub fn run_text(
     sats: u32,
     answer: &Answer,
     matched: bool,
-) -> Result<String, AllocError>
-    ensures { IfOk result (λ text. string_bytes text ≡ run_text seed epochs sats answer.now matched) }
+) -> Result<Vec<u8>, AllocError>
+    ensures { IfOk result (λ text. text.items ≡ run_text seed epochs sats answer.now matched) }
 {
-    let verdict = verdict_word(answer);
-    let integers = integers_of(answer);
-    let word = match_word(matched);
-    format!(in alloc; "sim seed {seed} epochs {epochs} sats {sats}\nverdict {verdict}\nintegers {integers}\nmatch {word}\n")
+    let mut text = made_line(alloc, seed, epochs, sats)?.into_bytes();
+    let found = found_lines(alloc, answer, matched)?;
+    text.extend_from_slice(found.as_bytes())?;
+    Ok(text)
 }

@@ -79,8 +79,12 @@ fn answer_match(
 ) -> Result<Answer, AllocError>
     ensures { IfOk result (λ a. ending_of a ≡ ending (status_of answer.now) (run_text asked.now.seed asked.now.epochs asked.now.sats answer.now matched) []) }
 {
-    let text = run_text(alloc, asked.seed, asked.epochs, asked.sats, answer, matched)?;
-    Ok(Answer::on_out(alloc, status_of(answer), text))
+    let out = run_text(alloc, asked.seed, asked.epochs, asked.sats, answer, matched)?;
+    Ok(Answer {
+        status: status_of(answer),
+        out,
+        err: Vec::new(alloc),
+    })
 }
 
 // What the three files end with.

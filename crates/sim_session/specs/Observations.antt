@@ -1,8 +1,8 @@
 -- What a receiver observes over a session, and the file that says it.
-use Rattle.std.specs.Prelude.{◌≡◌, ℕ, ◌+◌, ◌*◌, ◌<◌, List, length, ℤ, pos, slice_index_or, nat_le, if◌then◌else◌}
+use Rattle.std.specs.Prelude.{◌≡◌, ℕ, ◌+◌, ◌*◌, ◌<◌, List, length, All, ℤ, pos, slice_index_or, nat_le, if◌then◌else◌}
 use Rattle.eph_store.specs.declared.ephemeris.Eph.{Eph}
 use Rattle.sim_texts.specs.declared.signals.Signals.{Signals}
-use Rattle.sim_texts.specs.Observations.{observation_text}
+use Rattle.sim_texts.specs.Observations.{observation_text, AreInColumns}
 use Rattle.sim_signals.specs.Observed.{IsReachedIn, IsPhase}
 
 -- the seconds from one epoch to the next: 30 in sessions of up to 240 epochs
@@ -20,11 +20,12 @@ pub record IsObserved (tag : ℕ) (point : List ℤ) (clock : ℤ) (eph : Eph) (
   pub l1 : IsPhase 1575420000 eph tag point clock s.code (slice_index_or cycles 0 (pos 0)) s.l1
   pub l2 : IsPhase 1227600000 eph tag point clock s.code (slice_index_or cycles 1 (pos 0)) s.l2
 
--- those of all satellites at an epoch
+-- those of all satellites at an epoch, each with room in its columns
 pub record AreObserved (tag : ℕ) (point : List ℤ) (clock : ℤ) (records : List Eph) (cycles : List (List ℤ)) (sats : List Signals) : Type 0 where
   pub as_many : length sats ≡ length records
   pub each : (k : ℕ) (e : Eph) (c : List ℤ) (s : Signals) → k < length sats →
       IsObserved tag point clock (slice_index_or records k e) (slice_index_or cycles k c) (slice_index_or sats k s)
+  pub columns : All AreInColumns sats
 
 -- the text of a receiver's observations at so many epochs
 pub record IsObservationText (epochs : ℕ) (point : List ℤ) (clock : ℤ) (records : List Eph) (cycles : List (List ℤ)) (text : List ℕ) : Type 0 where

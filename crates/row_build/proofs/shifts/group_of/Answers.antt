@@ -1,31 +1,35 @@
-use Rattle.std.proofs.Common.{◌≡◌, ℕ, ◌^◌, ◌<◌, ℤ, pos, unsigned_abs, arith, to_z, of_z, sym, subst}
+use Rattle.std.proofs.Common.{◌≡◌, ℕ, ◌^◌, ◌<◌, List, ℤ, pos, unsigned_abs, arith, to_z, of_z, sym, subst}
 use Rattle.std.proofs.lemmas.Int.{to_z-of_z}
 use Rattle.std.specs.Int.{w64}
 use Rattle.obs_rows.specs.Data.{number_at}
 use Rattle.row_boxes.specs.Sightings.{y_of}
 use Rattle.row_boxes.specs.YBoxes.{IsWithinHalf, IsAllowedGroup, HoldsBoth}
 use Rattle.row_boxes.proofs.Ends.{read_small}
+use Rattle.row_build.specs.Halves.{IsBaseHalf}
 use Rattle.row_build.specs.Rows.{seen_by}
 use Rattle.row_build.proofs.shifts.group_of.Goals as goal
 
 wide : (n : ℕ) → n < 2 ^ 37 → n < 2 ^ 48
 wide n h = omega arith
 
-read : (c : goal.After-first_group) → to_z w64 (of_z w64 (number_at c.args.entry.now.observed 2)) ≡ number_at c.args.entry.now.observed 2
-read c = read_small (number_at c.args.entry.now.observed 2) (wide (unsigned_abs (number_at c.args.entry.now.observed 2)) c.args.entry.now.codes_in.0)
+read : (c : goal.After-first_group) → to_z w64 (of_z w64 (number_at c.args.entry.now.sv.observed 2)) ≡ number_at c.args.entry.now.sv.observed 2
+read c = read_small (number_at c.args.entry.now.sv.observed 2) (wide (unsigned_abs (number_at c.args.entry.now.sv.observed 2)) c.args.entry.now.sv.codes_in.0)
 
 answer : (c : goal.After-first_group) → to_z w64 (of_z w64 c.first_group.result) ≡ c.first_group.result
 answer c = to_z-of_z w64 c.first_group.result (record { sfits = c.first_group.type_inv })
 
-both : (c : goal.After-first_group) → HoldsBoth (seen_by c.args.entry.now c.args.base.now c.args.point.now) c.sight_of-known.result.pseudorange c.sight_of-seen.result.pseudorange
-both c = record { base_held = c.sight_of-known.ensures.pseudorange; rover_held = c.sight_of-seen.ensures.pseudorange }
+both : (c : goal.After-first_group) (base : List ℤ) → IsBaseHalf c.args.entry.now.sv base c.args.entry.now.half → HoldsBoth (seen_by c.args.entry.now.sv base c.args.point.now) c.args.entry.now.half c.sight_of-seen.result.pseudorange
+both c base known = record { base_held = known.holds; rover_held = c.sight_of-seen.ensures.pseudorange }
 
 pub returns-clause-near : goal.returns-clause-near
-returns-clause-near c = λ b r a.
-    subst (λ (g : ℤ). IsWithinHalf (pos 1) (y_of 2 (number_at c.args.entry.now.observed 2) g (pos 0) b r)) (sym (answer c))
-    (subst (λ (n : ℤ). IsWithinHalf (pos 1) (y_of 2 n c.first_group.result (pos 0) b r)) (read c) (c.first_group.ensures.near (seen_by c.args.entry.now c.args.base.now c.args.point.now) (both c) b r a))
+returns-clause-near c = λ base known b r a.
+    subst (λ (g : ℤ). IsWithinHalf (pos 1) (y_of 2 (number_at c.args.entry.now.sv.observed 2) g (pos 0) b r)) (sym (answer c))
+    (subst (λ (n : ℤ). IsWithinHalf (pos 1) (y_of 2 n c.first_group.result (pos 0) b r)) (read c) (c.first_group.ensures.near (seen_by c.args.entry.now.sv base c.args.point.now) (both c base known) b r a))
 
 pub returns-clause-allowed : goal.returns-clause-allowed
-returns-clause-allowed c = λ scale t.
-    subst (λ (g : ℤ). IsAllowedGroup (seen_by c.args.entry.now c.args.base.now c.args.point.now) scale (number_at c.args.entry.now.observed 2) g) (sym (answer c))
-    (subst (λ (n : ℤ). IsAllowedGroup (seen_by c.args.entry.now c.args.base.now c.args.point.now) scale n c.first_group.result) (read c) (c.first_group.ensures.allowed scale (seen_by c.args.entry.now c.args.base.now c.args.point.now) t (both c)))
+returns-clause-allowed c = λ base known scale t.
+    subst (λ (g : ℤ). IsAllowedGroup (seen_by c.args.entry.now.sv base c.args.point.now) scale (number_at c.args.entry.now.sv.observed 2) g) (sym (answer c))
+    (subst (λ (n : ℤ). IsAllowedGroup (seen_by c.args.entry.now.sv base c.args.point.now) scale n c.first_group.result) (read c) (c.first_group.ensures.allowed scale (seen_by c.args.entry.now.sv base c.args.point.now) t (both c base known)))
+
+pub returns-clause-exists : goal.returns-clause-exists
+returns-clause-exists c = λ base known. record { base = known.exists; rover = c.sight_of-seen.ensures.exists }

@@ -4,7 +4,7 @@ use Rattle.obs_rows.specs.declared.arcs.Arc.{Arc}
 use Rattle.obs_rows.specs.Arcs.{free_count}
 use Rattle.round_steps.specs.Counts.{AreFew, AreMany}
 use Rattle.round_steps.specs.Runs.{Rules, IsEnd, EndsEarly, EndsFull}
-use Rattle.session.specs.Answers.{counted, GoesOn}
+use Rattle.session.specs.Answers.{GoesOn}
 use Rattle.session.proofs.answers.answer.Goals as goal
 
 pub returns-then-are_few-clause-answer : goal.returns-then-are_few-clause-answer
@@ -12,7 +12,7 @@ returns-then-are_few-clause-answer g c = (refl, subst (AreFew c.args.taken) c.re
 
 pub returns-then-are_many-clause-answer : goal.returns-then-are_many-clause-answer
 returns-then-are_many-clause-answer g c = (
-  c.counted.ensures ∙ ap counted c.free_arcs.ensures ∙ ap (λ (a : List Arc). counted (free_count a)) c.requires.arcs,
+  c.free_count.ensures ∙ ap (λ (a : List Arc). free_count a) c.requires.arcs,
   (
     λ h. false≢true (c.if-are_few.ensures.1 (subst (AreFew c.args.taken) (sym c.requires.arcs) h)),
     subst AreMany c.requires.arcs (c.if-are_many.ensures.0 refl),

@@ -6,8 +6,11 @@ use Rattle.screening.specs.Screening.{setting_of, AreUsedPairs, IsSvPair}
 use Rattle.sv_orbit.specs.Solutions.{gps}
 use Rattle.session.proofs.runs.screened.Goals as goal
 
-pub returns-in-Ok-cut : goal.returns-in-Ok-cut
-returns-in-Ok-cut c =
+pub base_halves-requires : goal.base_halves-requires
+base_halves-requires c = c.requires.position.in_reach
+
+pub returns-in-Ok-cut-clause-screened : goal.returns-in-Ok-cut-clause-screened
+returns-in-Ok-cut-clause-screened c =
     let o = c.args.options.now in
     let base = c.args.base.now in
     let rover = c.args.rover.now in

@@ -49,4 +49,5 @@ returns-clause-observed c =
     record {
       as_many = omega (arith, now.count, c.loop-k-test.false, c.loop-k.auto.k-end);
       each = λ j e d s l. now.each j s (subst (λ (n : ℕ). j < n) now.count l) e d;
+      columns = now.columns;
     }

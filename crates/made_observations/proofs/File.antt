@@ -1,0 +1,33 @@
+-- The whole observation file.
+use Rattle.std.proofs.Common.{◌≡◌, ℕ, ◌+◌, ◌*◌, ◌≤◌, ◌<◌, List, [], ◌++◌, length, refl, sym, ap, subst, ◌∙◌, arith}
+use Rattle.std.specs.List.{All}
+use Rattle.line_source.specs.Lines.{lines_of}
+use Rattle.obs_store.specs.declared.series.Epoch.{Epoch}
+use Rattle.rinex_obs.specs.Types.{listed_of, is_listed}
+use Rattle.rinex_obs.specs.ObsRules.{file_of as file_with}
+use Rattle.rinex_obs.specs.ObsForm.{IsObsFile, AreParts}
+use Rattle.rinex_obs.specs.ObsForm.{epochs_of as epochs_in}
+use Rattle.rinex_obs.specs.declared.types.KeptType.{KeptType}
+use Rattle.sim_texts.specs.declared.signals.Signals.{Signals}
+use Rattle.sim_texts.specs.Observations.{epochs_text, observation_text}
+use Rattle.made_observations.specs.Files.{file_of, epochs_of, HaveRoom}
+use Rattle.made_observations.proofs.Header.{lines, names, the_header, header_read, header_is, kept_are}
+use Rattle.made_observations.proofs.Epochs.{parts_of, epochs_read, epochs_are, parts_are}
+
+gives : (step : ℕ) (epochs : List (List Signals)) (read : List Epoch) → read ≡ epochs_of step 0 epochs → file_of step epochs ≡ file_with the_header read
+unfolding the_header names listed_of is_listed
+gives step epochs read is = rw is refl
+
+pub file_is : (step : ℕ) (epochs : List (List Signals)) → 0 < step → step * length epochs ≤ 86400 → length epochs ≤ 20000 → All HaveRoom epochs → IsObsFile (lines_of (observation_text step epochs)) (file_of step epochs)
+file_is step epochs some day few rooms = record {
+  header_lines = lines;
+  header = the_header;
+  parts = parts_of step 0 epochs;
+  lines_are = header_read (epochs_text step 0 epochs) ∙ ap (λ (l : List (List ℕ)). lines ++ l) (epochs_read step 0 epochs rooms);
+  is_header = header_is;
+  are_parts = subst (λ (kept : List KeptType). AreParts kept [] (parts_of step 0 epochs)) (sym kept_are) (parts_are step 0 epochs [] some (from_none step (length epochs) day) (omega arith) rooms refl);
+  file_is = gives step epochs (epochs_in (parts_of step 0 epochs)) (epochs_are step 0 epochs);
+}
+  where
+    from_none : (a b : ℕ) → a * b ≤ 86400 → a * (0 + b) ≤ 86400
+    from_none a b h = let same : 0 + b ≡ b = omega arith in rw same h

@@ -1,0 +1,5 @@
+pub mod Texts
+pub mod Satellites
+pub mod Epochs
+pub mod Header
+pub mod File

@@ -1,0 +1,118 @@
+-- Numbers in columns: how long they are, that they are printed, and what they are read as.
+use Rattle.std.proofs.Common.{◌≡◌, ℕ, ℤ, pos, negsuc, zero, suc, ◌+◌, ◌-◌, ◌*◌, ◌/◌, ◌%◌, ◌^◌, ◌≤◌, ◌<◌, ◌<ℤ◌, true, List, [], ◌∷◌, ◌++◌, length, Ok, Some, refl, ap, ◌∙◌, arith, length-append, lit<}
+use Rattle.std.proofs.lemmas.Int.{ints}
+use Rattle.std.proofs.lemmas.List.{length-replicate, append-nil}
+use Rattle.std.proofs.lemmas.Fmt.{length-decimal-le, decimal_nonempty}
+use Rattle.std.specs.Prelude.{decimal, replicate}
+use Rattle.decimal_text.specs.Whole.{size_of, are_digits, number_from}
+use Rattle.decimal_text.specs.Write.{last_digits, sign_text, part_text, fixed_text}
+use Rattle.decimal_text.specs.Fixed.{fixed_of}
+use Rattle.decimal_text.proofs.Numbers.{digits_are}
+use Rattle.rinex_head.specs.Fields.{without_blanks, digits_of, whole_of}
+use Rattle.sim_texts.specs.Columns.{right_in, fixed_in}
+use Rattle.sim_texts.specs.Observations.{IsInColumns}
+use Rattle.written_texts.specs.Printed.{are_printed}
+use Rattle.written_texts.proofs.Printed.{printed-append}
+use Rattle.written_texts.proofs.Digits.{decimal_digits, decimal_value, digits_printed, last_digits-digits, length-last_digits}
+use Rattle.written_texts.proofs.Fixed.{fixed_again}
+use Rattle.written_texts.proofs.Fields.{no_blanks}
+
+-- ---- lengths
+pub length-right : (width : ℕ) (text : List ℕ) → length text ≤ width → length (right_in width text) ≡ width
+unfolding right_in
+length-right width text h = omega (arith, length-append (replicate (width - length text) 32) text, length-replicate {A = ℕ} (width - length text) 32)
+
+length-part : (k n : ℕ) → length (part_text (suc k) n) ≡ k + 2
+length-part k n = omega (arith, length-last_digits (suc k) n)
+
+-- a number of at most so many digits before the point
+length-fixed : (whole k n : ℕ) → 0 < whole → n / 10 ^ suc k < 10 ^ whole → n / 10 ^ suc k < 2 ^ 64 → length (fixed_text (pos n) (suc k)) ≤ whole + (k + 2)
+length-fixed whole k n some few small = omega (arith, length-append (decimal (n / 10 ^ suc k)) (part_text (suc k) n), length-decimal-le whole (n / 10 ^ suc k) some few small, length-part k n)
+
+pub length-thousandths : (z : ℤ) → IsInColumns z → length (fixed_in 14 z 3) ≡ 14
+unfolding fixed_in
+length-thousandths (pos n) h = length-right 14 (fixed_text (pos n) 3) (omega (arith, length-fixed 10 2 n (lit< tt) (small n (under n h.1)) (tiny n (under n h.1))))
+  where
+    under : (n : ℕ) → pos n <ℤ pos (10 ^ 13) → n < 10 ^ 13
+    under n h = omega (arith, ints)
+
+    small : (n : ℕ) → n < 10 ^ 13 → n / 10 ^ 3 < 10 ^ 10
+    small n h = omega arith
+
+    tiny : (n : ℕ) → n < 10 ^ 13 → n / 10 ^ 3 < 2 ^ 64
+    tiny n h = omega arith
+length-thousandths (negsuc n) h = absurd (omega (arith, ints, h.0))
+
+pub length-second : (s : ℕ) → length (fixed_in 11 (pos (s % 60 * 10000000)) 7) ≡ 11
+unfolding fixed_in
+length-second s = length-right 11 (fixed_text (pos (s % 60 * 10000000)) 7) (omega (arith, length-fixed 2 6 (s % 60 * 10000000) (lit< tt) (small s) (tiny s)))
+  where
+    small : (s : ℕ) → s % 60 * 10000000 / 10 ^ 7 < 10 ^ 2
+    small s = omega arith
+
+    tiny : (s : ℕ) → s % 60 * 10000000 / 10 ^ 7 < 2 ^ 64
+    tiny s = omega arith
+
+count_below : (n : ℕ) → n ≤ 99 → n / 10 ^ 0 < 2 ^ 64
+count_below n h = omega arith
+
+pub length-count : (n : ℕ) → n ≤ 99 → length (fixed_in 3 (pos n) 0) ≡ 3
+unfolding fixed_in
+length-count n h = length-right 3 (fixed_text (pos n) 0) (omega (arith, length-append (decimal (n / 10 ^ 0)) [], length-decimal-le 2 (n / 10 ^ 0) (lit< tt) (small n h) (count_below n h)))
+  where
+    small : (n : ℕ) → n ≤ 99 → n / 10 ^ 0 < 10 ^ 2
+    small n h = omega arith
+
+-- ---- printed bytes
+printed_blanks : (k : ℕ) → are_printed (replicate k 32) ≡ true
+printed_blanks zero = refl
+printed_blanks (suc k) = printed_blanks k
+
+pub printed_digits : (k n : ℕ) → are_printed (last_digits k n) ≡ true
+printed_digits k n = digits_printed (last_digits k n) (last_digits-digits k n)
+
+printed_part : (places n : ℕ) → are_printed (part_text places n) ≡ true
+printed_part zero n = refl
+printed_part (suc k) n = printed_digits (suc k) n
+
+printed_sign : (z : ℤ) → are_printed (sign_text z) ≡ true
+printed_sign (pos n) = refl
+printed_sign (negsuc n) = refl
+
+pub printed_fixed : (width : ℕ) (z : ℤ) (places : ℕ) → size_of z / 10 ^ places < 2 ^ 64 → are_printed (fixed_in width z places) ≡ true
+unfolding fixed_in right_in
+printed_fixed width z places small =
+    printed-append (replicate (width - length (fixed_text z places)) 32) (fixed_text z places) (printed_blanks (width - length (fixed_text z places)))
+    (printed-append (sign_text z) (decimal (size_of z / 10 ^ places) ++ part_text places (size_of z)) (printed_sign z)
+    (printed-append (decimal (size_of z / 10 ^ places)) (part_text places (size_of z)) (digits_printed (decimal (size_of z / 10 ^ places)) (decimal_digits (size_of z / 10 ^ places) small)) (printed_part places (size_of z))))
+
+-- ---- read again
+pub fixed_is : (width : ℕ) (z : ℤ) (places : ℕ) → places ≤ 9 → size_of z < 10 ^ 18 → fixed_of (fixed_in width z places) places ≡ Ok z
+unfolding fixed_in right_in
+fixed_is width z places p small = fixed_again (width - length (fixed_text z places)) places z p small
+
+pub size_in : (z : ℤ) → IsInColumns z → size_of z < 10 ^ 13
+size_in (pos n) h = omega (arith, ints, h.1)
+size_in (negsuc n) h = absurd (omega (arith, ints, h.0))
+
+blanks_gone : (k : ℕ) (ds : List ℕ) → without_blanks (replicate k 32 ++ ds) ≡ without_blanks ds
+blanks_gone zero ds = refl
+blanks_gone (suc k) ds = blanks_gone k ds
+
+-- the number of digits behind blanks
+of_digits : (first : ℕ) (ds : List ℕ) → are_digits ds ≡ true → 0 < length ds → digits_of first ds ≡ Ok (Some (number_from 0 ds))
+of_digits first [] is some = absurd (omega arith)
+of_digits first (d ∷ ds) is some = rw is refl
+
+whole_behind : (first k : ℕ) (ds : List ℕ) → are_digits ds ≡ true → 0 < length ds → whole_of first (replicate k 32 ++ ds) ≡ Ok (Some (number_from 0 ds))
+whole_behind first k ds is some = ap (digits_of first) (blanks_gone k ds ∙ no_blanks ds is) ∙ of_digits first ds is some
+
+pub count_is : (n : ℕ) → n ≤ 99 → whole_of 33 (fixed_in 3 (pos n) 0) ≡ Ok (Some n)
+unfolding fixed_in right_in
+count_is n few =
+    let small = count_below n few in
+    let whole : n / 10 ^ 0 ≡ n = omega arith in
+    let none : decimal (n / 10 ^ 0) ++ [] ≡ decimal (n / 10 ^ 0) = append-nil (decimal (n / 10 ^ 0)) in
+    ap (λ (text : List ℕ). whole_of 33 (replicate (3 - length text) 32 ++ text)) none
+    ∙ whole_behind 33 (3 - length (decimal (n / 10 ^ 0))) (decimal (n / 10 ^ 0)) (decimal_digits (n / 10 ^ 0) small) (decimal_nonempty (n / 10 ^ 0) small)
+    ∙ ap (λ (m : ℕ). Ok (Some m)) (digits_are (decimal (n / 10 ^ 0)) ∙ decimal_value (n / 10 ^ 0) small ∙ whole)

@@ -1,0 +1,54 @@
+use Rattle.std.proofs.Common.{◌≡◌, ℕ, Option, Some, All, List, map, ℤ, pos, to_z, of_z, sym, subst, subst₂, ap, ◌∙◌}
+use Rattle.std.specs.Prelude.{slice_get}
+use Rattle.std.specs.Option.{option_map}
+use Rattle.std.proofs.lemmas.Int.{to_z-of_z}
+use Rattle.std.specs.Int.{w64}
+use Rattle.std.proofs.lemmas.Option.{slice_get-map, slice_get_within, get_or_from_slice_get}
+use Rattle.obs_rows.specs.declared.rows.Row.{Row}
+use Rattle.obs_rows.specs.Data.{number_at}
+use Rattle.row_boxes.specs.Sightings.{Sighting, y_of}
+use Rattle.row_boxes.specs.YBoxes.{AreSightings, IsWithinHalf}
+use Rattle.row_build.specs.declared.faults.RowFault.TheVariants.{Overwidth}
+use Rattle.row_build.specs.HeldArcs.{arcs_at}
+use Rattle.row_build.specs.Rows.{setting, seen_by, IsRow}
+use Rattle.row_build.specs.Far.{IsGroup, HasFarRow}
+use Rattle.row_build.proofs.FirstRow.{first_meets}
+use Rattle.row_build.proofs.pairs.pair_rows_with.Goals as goal
+
+row_in : (P : Row → Type 0) (rows : List Row) (r : Row) → All P rows → slice_get rows 0 ≡ Some r → P r
+row_in P rows r all e = subst P (get_or_from_slice_get rows 0 r r e) (all 0 r (slice_get_within rows 0 r e))
+
+pub returns-in-Ok-clause-rows : goal.returns-in-Ok-clause-rows
+returns-in-Ok-clause-rows c =
+    let t = setting c.args.screened.now.boxes c.args.arcs.now c.args.base.now c.args.point.now c.args.scale in
+    let p = c.finish.result in
+    let f = c.first_entry-first.result.sv in
+    let g : ℤ = c.group_of-group.result in
+    let plain : to_z w64 (of_z w64 g) ≡ g = to_z-of_z w64 g (record { sfits = c.group_of-group.type_inv }) in
+    let group : p.group ≡ g = c.finish.ensures.group ∙ c.in-Ok.ensures.group ∙ c.new-rows.ensures.group ∙ plain in
+    let arcs : map (λ (r : Row). r.arc) p.rows ≡ arcs_at c.args.arcs.now c.args.pair =
+    ap (λ (rs : List Row). map (λ (r : Row). r.arc) rs) c.finish.ensures.rows ∙ c.in-Ok.ensures.arcs ∙ c.as_slice-held.ensures.value ∙ c.in_ok-held.ensures in
+    let rows : All (IsRow t c.args.pair p.group) p.rows =
+    subst (λ (rs : List Row). All (IsRow t c.args.pair p.group) rs) (sym c.finish.ensures.rows)
+    (subst₂ (λ (n : ℕ) (k : ℤ). All (IsRow t n k) c.in-Ok.rows.rows) c.new-rows.ensures.number (sym (c.finish.ensures.group ∙ c.in-Ok.ensures.group)) c.in-Ok.ensures.rows) in
+    record {
+      number = c.finish.ensures.number ∙ c.in-Ok.ensures.number ∙ c.new-rows.ensures.number;
+      tag = record { sat = c.first_entry-first.ensures.entry.arc.sat; entry = f; entry_is = c.first_entry-first.ensures.entry.entry_is; tag_is = sym (c.finish.ensures.tag ∙ c.in-Ok.ensures.tag ∙ c.new-rows.ensures.tag) };
+      arcs = arcs;
+      rows = rows;
+      group = λ r e.
+          first_meets c.args.screened.now.used t c.args.pair p.group r f c.args.screened.now.matched c.args.screened.now.ranges c.requires.scale c.first_entry-first.ensures.entry
+          (ap (λ (xs : List ℕ). slice_get xs 0) (sym arcs) ∙ slice_get-map (λ (q : Row). q.arc) p.rows 0 ∙ ap (λ (o : Option Row). option_map (λ (q : Row). q.arc) o) e)
+          (row_in (IsRow t c.args.pair p.group) p.rows r rows e) (c.group_of-group.ensures.exists c.args.base.now c.first_entry-first.ensures.half)
+          (subst (λ (k : ℤ). (b q : Sighting) → AreSightings (seen_by f c.args.base.now c.args.point.now) b q → IsWithinHalf (pos 1) (y_of 2 (number_at f.observed 2) k (pos 0) b q)) (sym group) (c.group_of-group.ensures.near c.args.base.now c.first_entry-first.ensures.half));
+    }
+
+pub returns-clause-overwidth : goal.returns-clause-overwidth
+returns-clause-overwidth c = λ e.
+    let t = setting c.args.screened.now.boxes c.args.arcs.now c.args.base.now c.args.point.now c.args.scale in
+    let g : ℤ = c.group_of-group.result in
+    let plain : to_z w64 (of_z w64 g) ≡ g = to_z-of_z w64 g (record { sfits = c.group_of-group.type_inv }) in
+    let fault : c.in-Err.fault ≡ Overwidth = cc in
+    let allowed : IsGroup t c.args.pair g = record { entry = c.first_entry-first.result.sv; entry_is = c.first_entry-first.ensures.entry; allowed = c.group_of-group.ensures.allowed c.args.base.now c.first_entry-first.ensures.half c.args.scale c.requires.scale } in
+    subst (λ (n : ℕ). HasFarRow t n) c.new-rows.ensures.number
+    (c.in-Err.ensures.far (cc) (subst₂ (λ (n : ℕ) (k : ℤ). IsGroup t n k) (sym c.new-rows.ensures.number) (sym (c.new-rows.ensures.group ∙ plain)) allowed))

@@ -1,0 +1,8 @@
+//! Whole runs over made-up sessions and over what is left of them after a change, against an independent model. There is nothing
+//! here but tests.
+#![tactic(auto)]
+
+#[cfg(test)]
+mod cases;
+#[cfg(test)]
+mod tests;

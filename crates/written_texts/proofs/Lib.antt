@@ -1,0 +1,5 @@
+pub mod Printed
+pub mod Digits
+pub mod Fixed
+pub mod Fields
+pub mod Dates
