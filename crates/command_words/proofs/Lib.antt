@@ -2,3 +2,12 @@ pub mod NumberLaws
 pub mod SettingLaws
 pub mod PartLaws
 pub mod OneJob
+pub mod Steps
+pub mod Leaf
+pub mod Top
+pub mod Values
+pub mod SplitLaws
+pub mod JobLaws
+pub mod GivenLaws
+pub mod ReadLaws
+pub mod ProgramLaws

@@ -1,8 +1,8 @@
 -- How large the number of digits is.
-use Rattle.std.proofs.Common.{◌≡◌, ℕ, ◌+◌, ◌-◌, ◌*◌, ◌^◌, ◌<◌, ◌≤◌, true, List, [], ◌∷◌, length, get_or, arith, pow-suc, lit<, refl, Option, None, Some, MatchOption}
+use Rattle.std.proofs.Common.{◌≡◌, ℕ, ◌+◌, ◌-◌, ◌*◌, ◌^◌, ◌<◌, ◌≤◌, true, List, [], ◌∷◌, length, get_or, arith, pow-suc, lit<}
 use Rattle.std.proofs.Math.Nat.{mul-le-mul_right, pow-le-pow_right}
 use Rattle.std.proofs.lemmas.Bool.Decides.{nat_tests}
-use Rattle.decimal_text.specs.Whole.{is_digit, are_digits, digit_sum, number_from}
+use Rattle.decimal_text.specs.Whole.{are_digits, digit_sum, number_from}
 use Rattle.decimal_text.proofs.Numbers.{number_from-ge, digits_are}
 
 first_digit : (b : ℕ) (bs : List ℕ) → are_digits (b ∷ bs) ≡ true → (b - 48 ≤ 9) × (are_digits bs ≡ true)
@@ -28,8 +28,3 @@ value_small ds h few =
 pub one_more_digit : (n : ℕ) (rest : List ℕ) → 1 ≤ length rest → 10 * n + (get_or rest 0 0 - 48) ≤ number_from n rest
 one_more_digit n [] some = absurd (omega arith)
 one_more_digit n (b ∷ bs) some = number_from-ge (10 * n + (b - 48)) bs
-
--- what an option that is none says
-pub none_of : {A : Type 0} (o : Option A) (P : Type 0) (Q : A → Type 0) → MatchOption o P Q → ((x : A) → o ≡ Some x → ⊥) → P
-none_of None P Q holds not_some = holds
-none_of (Some x) P Q holds not_some = absurd (not_some x refl)

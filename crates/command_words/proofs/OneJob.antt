@@ -1,5 +1,5 @@
 -- Words ask for one job at most.
-use Rattle.std.proofs.Common.{◌≡◌, ℕ, ◌≤◌, ◌==◌, if◌then◌else◌, Option, None, Some, List, [], ◌∷◌, codes, get_or, length, drop, refl, IsErrOf, Err, sym, ap, ap₂, ◌∙◌, subst, arith}
+use Rattle.std.proofs.Common.{◌≡◌, ℕ, ◌==◌, if◌then◌else◌, Option, None, Some, List, [], ◌∷◌, codes, get_or, length, drop, refl, sym, ap, ap₂, ◌∙◌, subst, arith}
 use Rattle.gps_time.specs.declared.Tick.{Tick}
 use Rattle.command_words.specs.declared.settings.Given.{Given}
 use Rattle.std.proofs.lemmas.Option.{same_Some}
@@ -10,13 +10,13 @@ use Rattle.command_words.specs.declared.jobs.Job.{Job}
 use Rattle.command_words.specs.declared.jobs.Job.TheVariants as job
 use Rattle.command_words.specs.Numbers.{IsNumber, IsSatellite}
 use Rattle.command_words.specs.Parts.{AreParted}
-use Rattle.command_words.specs.Words.{name_of_part, sim_with, IsPlainJob, IsOrbitJob, IsSim, IsSimJob, IsFixJob, IsArcsJob, IsJobOf, IsJob, IsInRange}
+use Rattle.command_words.specs.Words.{name_of_part, sim_with, IsPlainJob, IsOrbitJob, IsSim, IsSimJob, IsFixJob, IsArcsJob, IsJobOf, IsJob}
 use Rattle.run_options.specs.declared.options.Options.{Options}
 use Rattle.run_options.specs.Defaults.{numbers_of}
 use Rattle.run_options.proofs.OneOptions.{one_options}
 use Rattle.command_words.specs.declared.settings.Setting.{Setting}
 use Rattle.command_words.specs.declared.settings.Setting.TheVariants.{Ratio, Budget, Mask, Gap, Jump, Arc, Step, First, Count}
-use Rattle.command_words.specs.Settings.{numbers_for, IsSet, AreOptions, ArePairOptions}
+use Rattle.command_words.specs.Settings.{numbers_for, IsSet, AreOptions}
 use Rattle.command_words.proofs.SettingLaws.{one_number, one_satellite, one_set}
 use Rattle.command_words.proofs.PartLaws.{one_parting}
 
@@ -189,23 +189,6 @@ one_job words a b first second =
     (subst (λ (p : List (List ℕ)). IsJobOf second.command p first.given b) (sym parts.0)
     (subst (λ (g : List Given). IsJobOf second.command second.plain g b) (sym parts.1) second.asked)))
 
--- words that aren't parted ask for no job
-pub not_parted : (words : List (List ℕ)) (command : List ℕ) (behind : List (List ℕ)) → words ≡ command ∷ behind → ((plain : List (List ℕ)) (given : List Given) → AreParted behind plain given → ⊥) → (job : Job) → IsJob words job → ⊥
-not_parted words command behind words_are none job asked =
-    let same : asked.behind ≡ behind = ap (λ (ws : List (List ℕ)). drop 1 ws) (sym asked.words_are ∙ words_are) in
-    none asked.plain asked.given (subst (λ (ws : List (List ℕ)). AreParted ws asked.plain asked.given) same asked.parted)
-
--- words whose command has no such job ask for none
-pub not_asked : (words : List (List ℕ)) (command : List ℕ) (behind plain : List (List ℕ)) (given : List Given) → words ≡ command ∷ behind → AreParted behind plain given → ((job : Job) → IsJobOf command plain given job → ⊥) → (job : Job) → IsJob words job → ⊥
-not_asked words command behind plain given words_are parted none job asked =
-    let same : asked.behind ≡ behind = ap (λ (ws : List (List ℕ)). drop 1 ws) (sym asked.words_are ∙ words_are) in
-    let name : asked.command ≡ command = ap (λ (ws : List (List ℕ)). get_or ws 0 []) (sym asked.words_are ∙ words_are) in
-    let parts = one_parting behind asked.plain plain asked.given given (subst (λ (ws : List (List ℕ)). AreParted ws asked.plain asked.given) same asked.parted) parted in
-    none job
-    (subst (λ (c : List ℕ). IsJobOf c plain given job) name
-    (subst (λ (p : List (List ℕ)). IsJobOf asked.command p given job) parts.0
-    (subst (λ (g : List Given). IsJobOf asked.command asked.plain g job) parts.1 asked.asked)))
-
 other_count : (name a b c d : List ℕ) (command : List ℕ) → IsPlainJob name (a ∷ []) command (b ∷ c ∷ d ∷ []) [] → ⊥
 other_count name a b c d command asked =
     let same : 3 ≡ 1 = ap (λ (ws : List (List ℕ)). length ws) asked.plain_are in absurd (omega (arith, same))
@@ -222,9 +205,6 @@ no_satellite command nav sat tick no_arcs no_fix none (job.Sim part seed epochs 
     let same : 3 ≡ 4 = ap (λ (ws : List (List ℕ)). length ws) asked.asked.plain_are in absurd (omega (arith, same))
 no_satellite command nav sat tick no_arcs no_fix none (job.Orbit nav' number tick') asked =
     let same : asked.sat_word ≡ sat = ap (λ (ws : List (List ℕ)). get_or ws 1 []) (sym asked.asked.plain_are) in none number (subst (λ (w : List ℕ). IsSatellite w number) same asked.satellite)
-
-pub err_along : {A B E : Type 0} (e f : E) → IsErrOf {T = A} {E = E} (Err e) f → IsErrOf {T = B} {E = E} (Err e) f
-err_along {A} {B} {E} e f h = let same : e ≡ f = cc h in subst (λ (x : E). IsErrOf {T = B} {E = E} (Err e) x) same refl
 
 -- no job of `sim` without its numbers
 pub no_sim : (command part seed epochs sats : List ℕ) → ((s : Sim) → IsSim part seed epochs sats s → ⊥) → (job : Job) → command ≡ codes "sim" → IsJobOf command (part ∷ seed ∷ epochs ∷ sats ∷ []) [] job → ⊥
@@ -246,28 +226,3 @@ no_sim command part seed epochs sats none (job.Sim part' seed' epochs' sats') is
     (subst (λ (w : List ℕ). IsSim asked.part_word w epochs sats s) second
     (subst (λ (w : List ℕ). IsSim asked.part_word asked.seed_word w sats s) third
     (subst (λ (w : List ℕ). IsSim asked.part_word asked.seed_word asked.epochs_word w s) fourth asked.is))))
-
--- a job that is asked for keeps its ranges
-asked_range : (c : List ℕ) (p : List (List ℕ)) (g : List Given) (a : Job) → IsJobOf c p g a → IsInRange a
-asked_range c p g (job.Zero rows) asked = tt
-asked_range c p g (job.List obs) asked = tt
-asked_range c p g (job.Orbit nav sat tick) asked = tt
-asked_range c p g (job.Check cert) asked = tt
-asked_range c p g (job.Residuals cert) asked = tt
-asked_range c p g (job.Fix base rover nav options) asked = tt
-asked_range c p g (job.Arcs base rover nav options) asked = tt
-asked_range c p g (job.Sim part seed epochs sats) asked = (asked.is.epochs.to, asked.is.sats.to)
-
-pub job_range : (words : List (List ℕ)) (a : Job) → IsJob words a → IsInRange a
-job_range words a asked = asked_range asked.command asked.plain asked.given a asked.asked
-
--- words of `arcs` that ask for no job
-pub no_arcs_job : (plain : List (List ℕ)) (given : List Given) → ((base rover nav : List ℕ) (o : Options) → plain ≡ base ∷ rover ∷ nav ∷ [] → ArePairOptions given o → ⊥) → (job : Job) → IsJobOf (codes "arcs") plain given job → ⊥
-no_arcs_job plain given none (job.Zero rows) asked = absurd (omega (arith, other_letter 97 122 (codes "arcs") _ _ refl asked.command_is refl refl))
-no_arcs_job plain given none (job.List obs) asked = absurd (omega (arith, other_letter 97 108 (codes "arcs") _ _ refl asked.command_is refl refl))
-no_arcs_job plain given none (job.Orbit nav sat tick) asked = absurd (omega (arith, other_letter 97 111 (codes "arcs") _ _ refl asked.asked.command_is refl refl))
-no_arcs_job plain given none (job.Check cert) asked = absurd (omega (arith, other_letter 97 99 (codes "arcs") _ _ refl asked.command_is refl refl))
-no_arcs_job plain given none (job.Residuals cert) asked = absurd (omega (arith, other_letter 97 114 (codes "arcs") _ _ refl asked.command_is refl refl))
-no_arcs_job plain given none (job.Fix base rover nav options) asked = absurd (omega (arith, other_letter 97 102 (codes "arcs") _ _ refl asked.command_is refl refl))
-no_arcs_job plain given none (job.Arcs base rover nav options) asked = none base rover nav options asked.plain_are asked.options
-no_arcs_job plain given none (job.Sim part seed epochs sats) asked = absurd (omega (arith, other_letter 97 115 (codes "arcs") _ _ refl asked.asked.command_is refl refl))

@@ -1,13 +1,10 @@
 -- Words are parted in one way.
-use Rattle.std.proofs.Common.{◌≡◌, ◌⊎◌, inl, inr, ℕ, Bool, true, false, IsTrue, List, [], ◌∷◌, ◌++◌, append_assoc, append-nil, refl, sym, ap, ap₂, ◌∙◌, subst, take, drop, get_or, length, Some, arith, ◌-◌, ◌≤◌}
-use Rattle.std.proofs.lemmas.List.{take_all}
+use Rattle.std.proofs.Common.{◌≡◌, ℕ, IsTrue, List, [], ◌∷◌, ◌++◌, append_assoc, append-nil, refl, sym, ap, ◌∙◌, subst, drop, get_or, Some}
 use Rattle.command_words.specs.declared.settings.Setting.{Setting}
 use Rattle.command_words.specs.declared.settings.Given.{Given}
-use Rattle.command_words.specs.declared.parts.Start.{Start}
-use Rattle.command_words.specs.declared.parts.Start.TheVariants as start
 use Rattle.command_words.specs.Numbers.{IsNumber}
-use Rattle.command_words.specs.Settings.{name_of, setting_of, IsJoinedOption}
-use Rattle.command_words.specs.Parts.{Piece, Plain, Apart, Joined, is_ordinary, IsPiece, words_of_piece, plain_of_piece, given_of_piece, ArePieces, words_of, plain_of, given_of, IsBehind, AreParted, AreTaken, IsApart, Begins, HasNoPiece, start_of, plain_in, given_in, count_in}
+use Rattle.command_words.specs.Settings.{name_of, setting_of}
+use Rattle.command_words.specs.Parts.{Piece, Plain, Apart, Joined, is_ordinary, IsPiece, words_of_piece, plain_of_piece, given_of_piece, ArePieces, words_of, plain_of, given_of, IsBehind, AreParted}
 use Rattle.command_words.proofs.SettingLaws.{begins_with_name, is_name, one_name, no_longer_name, same_behind, one_number}
 
 head_is : (a b : List ℕ) (xs ys : List (List ℕ)) → a ∷ xs ≡ b ∷ ys → a ≡ b
@@ -110,9 +107,7 @@ left_of p rest words plain given (q ∷ pieces) behind further is first second a
 pub left : (p : Piece) (rest plain : List (List ℕ)) (given : List Given) → IsPiece p → AreParted (words_of_piece p ++ rest) plain given → IsLeft p rest plain given
 left p rest plain given is parted = left_of p rest _ plain given parted.pieces parted.behind parted.further is refl parted.words_are parted.are_pieces parted.is_behind parted.plain_are parted.given_are
 
--- ---- words that are taken piece by piece
-
--- what is left of parted words behind the pieces that are taken
+-- what is left of parted words behind some pieces
 pub record AreLeft (pieces : List Piece) (rest plain : List (List ℕ)) (given : List Given) : Type 0 where
   pub plain_rest : List (List ℕ)
   pub given_rest : List Given
@@ -133,98 +128,6 @@ all_left (p ∷ pieces) rest plain given are parted =
       plain_are = first.plain_are ∙ ap (λ (t : List (List ℕ)). plain_of_piece p ++ t) more.plain_are ∙ sym (append_assoc (plain_of_piece p) (plain_of pieces) more.plain_rest);
       given_are = first.given_are ∙ ap (λ (t : List Given). given_of_piece p ++ t) more.given_are ∙ sym (append_assoc (given_of_piece p) (given_of pieces) more.given_rest);
     }
-
-pub taken_left : (words rest taken plain : List (List ℕ)) (with given : List Given) (t : AreTaken words rest taken with) → AreParted words plain given → AreLeft t.pieces rest plain given
-taken_left words rest taken plain with given t parted = all_left t.pieces rest plain given t.are_pieces (subst (λ (ws : List (List ℕ)). AreParted ws plain given) t.words_are parted)
-
--- nothing is taken yet
-pub none_taken : (words : List (List ℕ)) → AreTaken words words [] []
-none_taken words = record { pieces = []; words_are = refl; are_pieces = tt; plain_are = refl; given_are = refl }
-
--- all is taken
-pub all_taken : (words plain : List (List ℕ)) (given : List Given) → AreTaken words [] plain given → AreParted words plain given
-all_taken words plain given t = record {
-  pieces = t.pieces;
-  behind = [];
-  further = [];
-  words_are = t.words_are;
-  are_pieces = t.are_pieces;
-  is_behind = refl;
-  plain_are = t.plain_are ∙ sym (append-nil (plain_of t.pieces));
-  given_are = t.given_are;
-}
-
--- `--` is met
-pub separator_met : (words further plain : List (List ℕ)) (given : List Given) → AreTaken words ((45 ∷ 45 ∷ []) ∷ further) plain given → AreParted words (plain ++ further) given
-separator_met words further plain given t = record {
-  pieces = t.pieces;
-  behind = (45 ∷ 45 ∷ []) ∷ further;
-  further = further;
-  words_are = t.words_are;
-  are_pieces = t.are_pieces;
-  is_behind = (refl, refl);
-  plain_are = ap (λ (ws : List (List ℕ)). ws ++ further) t.plain_are;
-  given_are = t.given_are;
-}
-
-pieces_append : (pieces : List Piece) (p : Piece) → ArePieces pieces → IsPiece p → ArePieces (pieces ++ p ∷ [])
-pieces_append [] p are is = (is, tt)
-pieces_append (q ∷ pieces) p are is = (are.0, pieces_append pieces p are.1 is)
-
-words_append : (pieces : List Piece) (p : Piece) → words_of (pieces ++ p ∷ []) ≡ words_of pieces ++ words_of_piece p
-words_append [] p = append-nil (words_of_piece p)
-words_append (q ∷ pieces) p = ap (λ (ws : List (List ℕ)). words_of_piece q ++ ws) (words_append pieces p) ∙ sym (append_assoc (words_of_piece q) (words_of pieces) (words_of_piece p))
-
-plain_append : (pieces : List Piece) (p : Piece) → plain_of (pieces ++ p ∷ []) ≡ plain_of pieces ++ plain_of_piece p
-plain_append [] p = append-nil (plain_of_piece p)
-plain_append (q ∷ pieces) p = ap (λ (ws : List (List ℕ)). plain_of_piece q ++ ws) (plain_append pieces p) ∙ sym (append_assoc (plain_of_piece q) (plain_of pieces) (plain_of_piece p))
-
-given_append : (pieces : List Piece) (p : Piece) → given_of (pieces ++ p ∷ []) ≡ given_of pieces ++ given_of_piece p
-given_append [] p = append-nil (given_of_piece p)
-given_append (q ∷ pieces) p = ap (λ (gs : List Given). given_of_piece q ++ gs) (given_append pieces p) ∙ sym (append_assoc (given_of_piece q) (given_of pieces) (given_of_piece p))
-
--- one more piece is taken
-piece_taken : (words rest plain : List (List ℕ)) (given : List Given) (p : Piece) (more : List (List ℕ)) → AreTaken words rest plain given → rest ≡ words_of_piece p ++ more → IsPiece p → AreTaken words more (plain ++ plain_of_piece p) (given ++ given_of_piece p)
-piece_taken words rest plain given p more t rest_is is = record {
-  pieces = t.pieces ++ p ∷ [];
-  words_are = t.words_are ∙ ap (λ (ws : List (List ℕ)). words_of t.pieces ++ ws) rest_is ∙ sym (append_assoc (words_of t.pieces) (words_of_piece p) more) ∙ ap (λ (ws : List (List ℕ)). ws ++ more) (sym (words_append t.pieces p));
-  are_pieces = pieces_append t.pieces p t.are_pieces is;
-  plain_are = ap (λ (ws : List (List ℕ)). ws ++ plain_of_piece p) t.plain_are ∙ sym (plain_append t.pieces p);
-  given_are = ap (λ (gs : List Given). gs ++ given_of_piece p) t.given_are ∙ sym (given_append t.pieces p);
-}
-
-taken_by : (words : List (List ℕ)) (word : List ℕ) (behind plain more : List (List ℕ)) (given : List Given) (p : Piece) → AreTaken words (word ∷ behind) plain given → word ∷ behind ≡ words_of_piece p ++ more → IsPiece p
-    → AreTaken words (drop (count_in (start_of p)) (word ∷ behind)) (plain ++ plain_in (start_of p) word) (given ++ given_in (start_of p))
-taken_by words word behind plain more given (Plain w) t h is =
-    let same : word ≡ w = head_is word w behind more h in
-    let rest : behind ≡ more = tail_is word w behind more h in
-    let taken : AreTaken words more (plain ++ w ∷ []) (given ++ []) = piece_taken words (word ∷ behind) plain given (Plain w) more t h is in
-    subst (λ (ws : List (List ℕ)). AreTaken words ws (plain ++ word ∷ []) (given ++ [])) (sym rest) (subst (λ (v : List ℕ). AreTaken words more (plain ++ v ∷ []) (given ++ [])) (sym same) taken)
-taken_by words word behind plain more given (Apart s d n) t h is =
-    let rest : drop 2 (word ∷ behind) ≡ more = ap (λ (ws : List (List ℕ)). drop 2 ws) h in
-    let g : Given = record { setting = s; number = n } in
-    subst (λ (ws : List (List ℕ)). AreTaken words ws (plain ++ []) (given ++ g ∷ [])) (sym rest) (piece_taken words (word ∷ behind) plain given (Apart s d n) more t h is)
-taken_by words word behind plain more given (Joined s d n) t h is =
-    let rest : behind ≡ more = tail_is word _ behind more h in
-    let g : Given = record { setting = s; number = n } in
-    subst (λ (ws : List (List ℕ)). AreTaken words ws (plain ++ []) (given ++ g ∷ [])) (sym rest) (piece_taken words (word ∷ behind) plain given (Joined s d n) more t h is)
-
-pub start_taken : (words : List (List ℕ)) (word : List ℕ) (behind plain : List (List ℕ)) (given : List Given) (first : Start) → AreTaken words (word ∷ behind) plain given → Begins (word ∷ behind) first
-    → AreTaken words (drop (count_in first) (word ∷ behind)) (plain ++ plain_in first word) (given ++ given_in first)
-start_taken words word behind plain given first t begins =
-    subst (λ (f : Start). AreTaken words (drop (count_in f) (word ∷ behind)) (plain ++ plain_in f word) (given ++ given_in f)) (sym begins.first_is)
-    (taken_by words word behind plain begins.rest given begins.piece t begins.words_are begins.is)
-
-stuck_at : (word : List ℕ) (behind : List (List ℕ)) → HasNoPiece (word ∷ behind) → (word ≡ 45 ∷ 45 ∷ [] → ⊥) → (pieces : List Piece) (other further : List (List ℕ)) → word ∷ behind ≡ words_of pieces ++ other → ArePieces pieces → IsBehind other further → ⊥
-stuck_at word behind none no_dash [] [] further h are is_behind = absurd (cc h)
-stuck_at word behind none no_dash [] (w ∷ ws) further h are is_behind = no_dash (head_is word w behind ws h ∙ is_behind.0)
-stuck_at word behind none no_dash (q ∷ pieces) other further h are is_behind = none q (words_of pieces ++ other) (h ∙ append_assoc (words_of_piece q) (words_of pieces) other) are.0
-
--- no more is taken
-pub stuck : (words : List (List ℕ)) (word : List ℕ) (behind taken plain : List (List ℕ)) (with given : List Given) → AreTaken words (word ∷ behind) taken with → HasNoPiece (word ∷ behind) → (word ≡ 45 ∷ 45 ∷ [] → ⊥) → AreParted words plain given → ⊥
-stuck words word behind taken plain with given t none no_dash parted =
-    let rest = (taken_left words (word ∷ behind) taken plain with given t parted).parted in
-    stuck_at word behind none no_dash rest.pieces rest.behind rest.further rest.words_are rest.are_pieces rest.is_behind
 
 -- ---- one parting
 one_behind : (behind further other more : List (List ℕ)) → IsBehind behind further → behind ≡ other → IsBehind other more → further ≡ more
@@ -252,49 +155,3 @@ one_parting words plain other given others first second =
       first.plain_are ∙ ap (λ (ws : List (List ℕ)). plain_of first.pieces ++ ws) (sym all.plain_are) ∙ sym left.plain_are,
       first.given_are ∙ sym (append-nil (given_of first.pieces)) ∙ ap (λ (gs : List Given). given_of first.pieces ++ gs) (sym all.none_given) ∙ sym left.given_are,
     )
-
--- ---- what the code sees of a list of words
-pub first_word : {A : Type 0} (xs : List A) (d : A) → 1 ≤ length xs → xs ≡ get_or xs 0 d ∷ take (length xs - 1) (drop 1 xs)
-first_word [] d some = absurd (omega arith)
-first_word (x ∷ xs) d some = ap (λ t. x ∷ t) (sym (take_all (length (x ∷ xs) - 1) xs (omega arith)))
-
-pub joined_begins : (text : List ℕ) (behind : List (List ℕ)) (g : Given) → IsJoinedOption text g → Begins ((45 ∷ 45 ∷ text) ∷ behind) (start.Joined g)
-joined_begins text behind g is = record {
-  piece = Joined g.setting is.digits g.number;
-  rest = behind;
-  words_are = ap (λ (t : List ℕ). (45 ∷ 45 ∷ t) ∷ behind) is.text_is;
-  is = is.number;
-  first_is = refl;
-}
-
-pub apart_begins : (text : List ℕ) (behind : List (List ℕ)) (g : Given) → IsApart text behind g → Begins ((45 ∷ 45 ∷ text) ∷ behind) (start.Apart g)
-apart_begins text behind g is = record {
-  piece = Apart g.setting is.digits g.number;
-  rest = is.further;
-  words_are = ap₂ (λ (t : List ℕ) (ws : List (List ℕ)). (45 ∷ 45 ∷ t) ∷ ws) is.text_is is.behind_is;
-  is = is.number;
-  first_is = refl;
-}
-
-pub plain_begins : (word : List ℕ) (behind : List (List ℕ)) → IsTrue (is_ordinary word) → Begins (word ∷ behind) start.Plain
-plain_begins word behind is = record { piece = Plain word; rest = behind; words_are = refl; is = is; first_is = refl }
-
--- an option that is neither joined nor apart begins no words
-pub no_option : (text : List ℕ) (behind : List (List ℕ)) → ((g : Given) → IsJoinedOption text g → ⊥) → ((g : Given) → IsApart text behind g → ⊥) → HasNoPiece ((45 ∷ 45 ∷ text) ∷ behind)
-no_option text behind no_joined no_apart (Plain w) rest h is = no_dashes w text is (sym (head_is _ w behind rest h))
-no_option text behind no_joined no_apart (Apart s d n) rest h is =
-    let g : Given = record { setting = s; number = n } in
-    no_apart g (record { digits = d; further = rest; text_is = text_is _ _ (head_is _ _ behind (d ∷ rest) h); behind_is = tail_is _ _ behind (d ∷ rest) h; number = is })
-no_option text behind no_joined no_apart (Joined s d n) rest h is =
-    let g : Given = record { setting = s; number = n } in
-    no_joined g (record { digits = d; text_is = text_is _ _ (head_is _ _ behind rest h); number = is })
-
-piece_count : (p : Piece) (rest : List (List ℕ)) → count_in (start_of p) ≤ length (words_of_piece p ++ rest)
-piece_count (Plain w) rest = omega arith
-piece_count (Apart s d n) rest = omega arith
-piece_count (Joined s d n) rest = omega arith
-
-pub count_fits : (words : List (List ℕ)) (first : Start) → Begins words first → count_in first ≤ length words
-count_fits words first begins =
-    subst (λ (ws : List (List ℕ)). count_in first ≤ length ws) (sym begins.words_are)
-    (subst (λ (f : Start). count_in f ≤ length (words_of_piece begins.piece ++ begins.rest)) (sym begins.first_is) (piece_count begins.piece begins.rest))

@@ -1,13 +1,10 @@
 -- The names of the settings, and their numbers.
-use Rattle.std.proofs.Common.{◌≡◌, ℕ, ◌+◌, ◌-◌, ◌*◌, ◌<◌, ◌≤◌, Bool, true, false, List, [], ◌∷◌, ◌++◌, length, take, drop, get_or, None, Some, Option, refl, sym, ap, ap₂, ◌∙◌, subst, arith}
-use Rattle.std.proofs.Math.Seq.{take-append_seam, drop-append_seam}
-use Rattle.std.proofs.lemmas.List.{take-append-drop}
+use Rattle.std.proofs.Common.{◌≡◌, ℕ, ◌+◌, ◌-◌, ◌*◌, List, [], ◌∷◌, ◌++◌, drop, Some, refl, sym, ap, ◌∙◌}
 use Rattle.std.proofs.lemmas.Option.{same_Some}
 use Rattle.command_words.specs.declared.settings.Setting.{Setting}
 use Rattle.command_words.specs.declared.settings.Setting.TheVariants.{Ratio, Budget, Mask, Gap, Jump, Arc, Step, First, Count}
-use Rattle.command_words.specs.declared.settings.Given.{Given}
 use Rattle.command_words.specs.Numbers.{IsNumber, IsSatellite}
-use Rattle.command_words.specs.Settings.{name_of, setting_of, IsSetBy, IsJoinedOption}
+use Rattle.command_words.specs.Settings.{name_of, setting_of, IsSetBy}
 
 -- what begins with a setting's name is of that setting
 pub begins_with_name : (s : Setting) (text : List ℕ) → setting_of (name_of s ++ text) ≡ Some s
@@ -68,23 +65,3 @@ pub one_set : (given : List ℕ) (least most plain m n : ℕ) → IsSetBy given 
 one_set [] least most plain m n first second = first ∙ sym second
 one_set (v ∷ []) least most plain m n first second = first.0 ∙ sym second.0
 one_set (v ∷ w ∷ vs) least most plain m n first second = absurd first
-
--- a text with a name and `=` at its front
-pub record HasFront (text name digits : List ℕ) : Type 0 where
-  pub longer : length name < length text
-  pub front : take (length name) text ≡ name
-  pub behind : drop (length name) text ≡ 61 ∷ digits
-
-pub front_of : (text name digits : List ℕ) → text ≡ name ++ 61 ∷ digits → HasFront text name digits
-front_of text name digits h = subst (λ (t : List ℕ). HasFront t name digits) (sym h) (record {
-  longer = longer name;
-  front = take-append_seam name (61 ∷ digits);
-  behind = drop-append_seam name (61 ∷ digits);
-})
-  where
-    longer : (name : List ℕ) → length name < length (name ++ 61 ∷ digits)
-    longer [] = omega arith
-    longer (b ∷ name) = omega (arith, longer name)
-
-pub from_front : (text name digits : List ℕ) → take (length name) text ≡ name → drop (length name) text ≡ 61 ∷ digits → text ≡ name ++ 61 ∷ digits
-from_front text name digits front behind = sym (take-append-drop (length name) text) ∙ ap₂ (λ (a b : List ℕ). a ++ b) front behind

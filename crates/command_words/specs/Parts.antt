@@ -2,8 +2,6 @@
 use Rattle.std.specs.Prelude.{◌≡◌, ℕ, ◌==◌, Bool, true, not, IsTrue, List, [], ◌∷◌, ◌++◌}
 use Rattle.command_words.specs.declared.settings.Setting.{Setting}
 use Rattle.command_words.specs.declared.settings.Given.{Given}
-use Rattle.command_words.specs.declared.parts.Start.{Start}
-use Rattle.command_words.specs.declared.parts.Start.TheVariants as start
 use Rattle.command_words.specs.Numbers.{IsNumber}
 use Rattle.command_words.specs.Settings.{name_of}
 
@@ -69,52 +67,4 @@ pub record AreParted (words plain : List (List ℕ)) (given : List Given) : Type
   pub are_pieces : ArePieces pieces
   pub is_behind : IsBehind behind further
   pub plain_are : plain ≡ plain_of pieces ++ further
-  pub given_are : given ≡ given_of pieces
-
--- what the first words are, if they are a piece
-abbrev pub start_of : Piece → Start
-start_of (Plain word) = start.Plain
-start_of (Apart s digits n) = start.Apart (record { setting = s; number = n })
-start_of (Joined s digits n) = start.Joined (record { setting = s; number = n })
-
-pub record Begins (words : List (List ℕ)) (first : Start) : Type 0 where
-  pub piece : Piece
-  pub rest : List (List ℕ)
-  pub words_are : words ≡ words_of_piece piece ++ rest
-  pub is : IsPiece piece
-  pub first_is : first ≡ start_of piece
-
-abbrev pub HasNoPiece : List (List ℕ) → Type 0
-HasNoPiece words = (p : Piece) (rest : List (List ℕ)) → words ≡ words_of_piece p ++ rest → IsPiece p → ⊥
-
--- what the first words add, the first of which is this one
-abbrev pub plain_in : Start → List ℕ → List (List ℕ)
-plain_in start.Plain word = word ∷ []
-plain_in (start.Joined g) word = []
-plain_in (start.Apart g) word = []
-
-abbrev pub given_in : Start → List Given
-given_in start.Plain = []
-given_in (start.Joined g) = g ∷ []
-given_in (start.Apart g) = g ∷ []
-
-abbrev pub count_in : Start → ℕ
-count_in start.Plain = 1
-count_in (start.Joined g) = 1
-count_in (start.Apart g) = 2
-
--- an option whose name stands in one word, and its number in the next
-pub record IsApart (text : List ℕ) (behind : List (List ℕ)) (g : Given) : Type 0 where
-  pub digits : List ℕ
-  pub further : List (List ℕ)
-  pub text_is : text ≡ name_of g.setting
-  pub behind_is : behind ≡ digits ∷ further
-  pub number : IsNumber digits g.number
-
--- so far the words are pieces, with these ordinary words and options; the rest is to come
-pub record AreTaken (words rest plain : List (List ℕ)) (given : List Given) : Type 0 where
-  pub pieces : List Piece
-  pub words_are : words ≡ words_of pieces ++ rest
-  pub are_pieces : ArePieces pieces
-  pub plain_are : plain ≡ plain_of pieces
   pub given_are : given ≡ given_of pieces

@@ -1,7 +1,6 @@
 -- The options: how they are spelled, and what is set by those that are given.
-use Rattle.std.specs.Prelude.{◌≡◌, ℕ, ◌==◌, ◌≤◌, Bool, List, [], ◌∷◌, ◌++◌, codes, if◌then◌else◌, None, Some}
+use Rattle.std.specs.Prelude.{◌≡◌, ℕ, ◌==◌, ◌≤◌, Bool, List, [], ◌∷◌, codes, if◌then◌else◌, None, Some}
 use Rattle.std.specs.declared.option.Option.{Option}
-use Rattle.command_words.specs.Numbers.{IsNumber}
 use Rattle.run_options.specs.declared.options.Options.{Options}
 use Rattle.command_words.specs.declared.settings.Setting.{Setting}
 use Rattle.command_words.specs.declared.settings.Setting.TheVariants.{Ratio, Budget, Mask, Gap, Jump, Arc, Step, First, Count}
@@ -71,12 +70,6 @@ abbrev pub setting_of : List ℕ → Option Setting
 setting_of [] = None
 setting_of (b ∷ bs) =
     if b == 114 then Some Ratio else (if b == 98 then Some Budget else (if b == 109 then Some Mask else (if b == 103 then Some Gap else (if b == 106 then Some Jump else (if b == 97 then Some Arc else (if b == 115 then Some Step else (if b == 102 then Some First else (if b == 99 then Some Count else None))))))))
-
--- `name=number`
-pub record IsJoinedOption (text : List ℕ) (g : Given) : Type 0 where
-  pub digits : List ℕ
-  pub text_is : text ≡ name_of g.setting ++ 61 ∷ digits
-  pub number : IsNumber digits g.number
 
 -- what is found of the numbers for a setting
 abbrev pub HasFound : List ℕ → Found → Type 0

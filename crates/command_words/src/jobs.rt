@@ -7,10 +7,11 @@ ghost use Rattle.command_words.specs.Words.{texts_of, IsJobOf, IsJob, IsInRange}
 use crate::WordFault;
 use crate::numbers::{number_of, satellite_of};
 use crate::options::{options_of, pair_options_of};
-use crate::parts::{Parted, part_words};
+use crate::parts::{Parted, parted_of};
 use crate::settings::Given;
 use crate::sims::{Part, sim_of};
-use crate::word::{Word, copy_words};
+use crate::split::split;
+use crate::word::Word;
 use gps_time::Tick;
 use run_options::Options;
 use std::alloc::Global;
@@ -69,20 +70,9 @@ pub fn read_words(alloc: Global, words: &[String]) -> Result<Job, WordFault>
     ensures range { IfOk result IsInRange }
     ensures usage { IsErrOf result WordFault.Usage → (job : Job) → IsJob (texts_of words.now) job → ⊥ }
 {
-    let words = copy_words(alloc, words)?;
-    job_in(alloc, &words)
-}
-
-// The same, of words as they are copied.
-fn job_in(alloc: Global, words: &[Word]) -> Result<Job, WordFault>
-    ensures job { IfOk result (λ job. IsJob words.now job) }
-    ensures usage { IsErrOf result WordFault.Usage → (job : Job) → IsJob words.now job → ⊥ }
-{
-    let [command, behind @ ..] = words else {
-        return Err(WordFault::Usage);
-    };
-    match part_words(alloc, behind) {
-        Ok(parted) => job_of(alloc, command.as_bytes(), &parted),
+    let line = split(alloc, words)?;
+    match parted_of(alloc, &line.matches) {
+        Ok(parted) => job_of(alloc, line.command.as_bytes(), &parted),
         Err(fault) => Err(fault),
     }
 }

@@ -7,8 +7,10 @@ mod jobs;
 mod numbers;
 mod options;
 mod parts;
+mod program;
 mod settings;
 mod sims;
+mod split;
 mod word;
 
 pub use fault::WordFault;

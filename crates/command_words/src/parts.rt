@@ -1,12 +1,17 @@
-// How the words behind the command are parted.
-ghost use Rattle.std.specs.Prelude.{◌≡◌, ◌++◌, ◌∷◌, ℕ, List, ◌≤◌, length, drop, IfOk, IsErrOf, OnOk, MatchOption};
-ghost use Rattle.command_words.specs.declared.settings.Given.{Given};
-ghost use Rattle.command_words.specs.Parts.{is_ordinary, IsApart, Begins, HasNoPiece, plain_in, given_in, count_in, AreParted};
+// The ordinary words and the numbers of what clap found behind a command.
+ghost use Rattle.std.specs.Prelude.{◌≡◌, ◌++◌, ◌∷◌, [], map, IfOk, IsErrOf, OnOk};
+ghost use Rattle.clap.specs.Matches.{found_of};
+ghost use Rattle.clap.specs.Walk.{rows_of};
+ghost use Rattle.command_words.specs.declared.settings.Setting.{Setting};
+ghost use Rattle.command_words.specs.Commands.{word_id, values_in};
+ghost use Rattle.command_words.specs.Settings.{name_of};
+ghost use Rattle.command_words.specs.Split.{AreAll, HasNumbers, TakesNumbers};
 
 use crate::WordFault;
 use crate::numbers::number_of;
-use crate::settings::{Given, joined, named};
+use crate::settings::{Given, Setting};
 use crate::word::Word;
+use clap::ArgMatches;
 use std::alloc::{AllocError, Global};
 
 /// The ordinary words, and the options with their numbers.
@@ -16,126 +21,80 @@ pub struct Parted {
     pub given: Vec<Given>,
 }
 
-// What the first words are: an ordinary word; an option in one word; an option and its number in the word behind it.
-#[derive(Clone, Copy)]
-enum Start {
-    Plain,
-    Joined(Given),
-    Apart(Given),
-}
-
-fn is_ordinary_word(word: &[u8]) -> bool
-    ensures { result ≡ is_ordinary word.now }
+fn copies_of(alloc: Global, texts: &[&str]) -> Result<Vec<Word>, AllocError>
+    ensures { IfOk result (λ copies. copies.items ≡ map (λ v. v.now) texts.now) }
 {
-    match word {
-        [b'-', _, ..] => false,
-        _ => true,
+    let mut copies = Vec::new(alloc);
+    for text in texts {
+        copies.push(Word::copy_of(alloc, *text)?)?;
     }
+    Ok(copies)
 }
 
-// The option whose name is in one word and its number in the next.
-fn apart(text: &[u8], behind: &[Word]) -> Option<Given>
-    ensures { MatchOption result ((g : Given) → IsApart text.now behind.now g → ⊥) (λ g. IsApart text.now behind.now g) }
+fn push(given: &mut Vec<Given>, one: Given) -> Result<(), AllocError>
+    ensures { OnOk result (given.new.items ≡ given.old.items ++ one ∷ []) }
 {
-    let setting = named(text)?;
-    let [digits, ..] = behind else {
-        return None;
-    };
-    let number = number_of(digits.as_bytes())?;
-    Some(Given { setting, number })
+    given.push(one)?;
+    Ok(())
 }
 
-// The option that a word with two dashes before this text begins.
-fn option_start(text: &[u8], behind: &[Word]) -> Option<Start>
-    ensures { MatchOption result (HasNoPiece ((45 ∷ 45 ∷ text.now) ∷ behind.now)) (λ start. Begins ((45 ∷ 45 ∷ text.now) ∷ behind.now) start) }
+fn take_numbers(given: &mut Vec<Given>, setting: Setting, texts: &[&str]) -> Result<(), WordFault>
+    ensures numbers { OnOk result (TakesNumbers setting (map (λ v. v.now) texts.now) given.old.items given.new.items) }
+    ensures usage { IsErrOf result WordFault.Usage → AreAll (map (λ v. v.now) texts.now) → ⊥ }
 {
-    if let Some(given) = joined(text) {
-        return Some(Start::Joined(given));
-    }
-    match apart(text, behind) {
-        Some(given) => Some(Start::Apart(given)),
-        None => None,
-    }
-}
-
-// What the first words are.
-fn first_start(word: &[u8], behind: &[Word]) -> Option<Start>
-    ensures { MatchOption result (HasNoPiece (word.now ∷ behind.now)) (λ start. Begins (word.now ∷ behind.now) start) }
-{
-    if is_ordinary_word(word) {
-        return Some(Start::Plain);
-    }
-    match word {
-        [b'-', b'-', text @ ..] => option_start(text, behind),
-        _ => None,
-    }
-}
-
-impl Start {
-    fn count(&self) -> usize
-        ensures { result ≡ count_in self.now }
-    {
-        match self {
-            Start::Plain | Start::Joined(_) => 1,
-            Start::Apart(_) => 2,
-        }
-    }
-}
-
-impl Parted {
-    fn take(&mut self, alloc: Global, start: &Start, word: &Word) -> Result<(), AllocError>
-        ensures plain { OnOk result (self.new.plain.items ≡ self.old.plain.items ++ plain_in start.now word.now) }
-        ensures given { OnOk result (self.new.given.items ≡ self.old.given.items ++ given_in start.now) }
-    {
-        match start {
-            Start::Plain => {
-                self.plain.push(Word::copy_of(alloc, word.as_str())?)?;
-                Ok(())
-            }
-            Start::Joined(given) | Start::Apart(given) => {
-                self.given.push(*given)?;
-                Ok(())
-            }
-        }
-    }
-}
-
-fn push_all(alloc: Global, list: &mut Vec<Word>, words: &[Word]) -> Result<(), AllocError>
-    ensures { OnOk result (list.new.items ≡ list.old.items ++ words.now) }
-{
-    for word in words {
-        list.push(Word::copy_of(alloc, word.as_str())?)?;
+    for text in texts {
+        let Some(number) = number_of(text.as_bytes()) else {
+            return Err(WordFault::Usage);
+        };
+        push(given, Given { setting, number })?;
     }
     Ok(())
 }
 
-fn words_behind(words: &[Word], count: usize) -> &[Word]
-    requires { count ≤ length words.now }
-    ensures { result.now ≡ drop count words.now }
+// What is given for a setting.
+fn take_setting(
+    given: &mut Vec<Given>,
+    setting: Setting,
+    matches: &ArgMatches<'_>,
+) -> Result<(), WordFault>
+    ensures numbers { OnOk result (TakesNumbers setting (values_in (name_of setting) (rows_of (found_of matches.now))) given.old.items given.new.items) }
+    ensures usage { IsErrOf result WordFault.Usage → AreAll (values_in (name_of setting) (rows_of (found_of matches.now))) → ⊥ }
 {
-    &words[count..]
+    match matches.get_raw(setting.name()) {
+        Some(texts) => take_numbers(given, setting, texts),
+        None => Ok(()),
+    }
 }
 
-/// The words behind the command as ordinary words and options. `Usage` exactly where they aren't parted so.
-pub fn part_words(alloc: Global, words: &[Word]) -> Result<Parted, WordFault>
-    ensures ok { IfOk result (λ p. AreParted words.now p.plain.items p.given.items) }
-    ensures usage { IsErrOf result WordFault.Usage → (plain : List (List ℕ)) (given : List Given) → AreParted words.now plain given → ⊥ }
+// The options with their numbers.
+fn numbers_in(alloc: Global, matches: &ArgMatches<'_>) -> Result<Vec<Given>, WordFault>
+    ensures given { IfOk result (λ given. HasNumbers (rows_of (found_of matches.now)) given.items) }
+    ensures usage { IsErrOf result WordFault.Usage → ((s : Setting) → AreAll (values_in (name_of s) (rows_of (found_of matches.now)))) → ⊥ }
 {
-    let mut parted = Parted {
-        plain: Vec::new(alloc),
-        given: Vec::new(alloc),
-    };
-    let mut rest = words;
-    while let [word, behind @ ..] = rest {
-        if word.as_bytes() == b"--".as_slice() {
-            push_all(alloc, &mut parted.plain, behind)?;
-            return Ok(parted);
-        }
-        let Some(start) = first_start(word.as_bytes(), behind) else {
-            return Err(WordFault::Usage);
-        };
-        parted.take(alloc, &start, word)?;
-        rest = words_behind(rest, start.count());
+    let mut given = Vec::new(alloc);
+    for place in 0..9 {
+        take_setting(&mut given, Setting::at(place), matches)?;
     }
-    Ok(parted)
+    Ok(given)
+}
+
+// The ordinary words.
+fn words_in(alloc: Global, matches: &ArgMatches<'_>) -> Result<Vec<Word>, AllocError>
+    ensures { IfOk result (λ words. words.items ≡ values_in word_id (rows_of (found_of matches.now))) }
+{
+    match matches.get_raw("word") {
+        Some(texts) => copies_of(alloc, texts),
+        None => Ok(Vec::new(alloc)),
+    }
+}
+
+/// The ordinary words and the options with their numbers. `Usage` exactly where the value of an option is no number.
+pub fn parted_of(alloc: Global, matches: &ArgMatches<'_>) -> Result<Parted, WordFault>
+    ensures plain { IfOk result (λ p. p.plain.items ≡ values_in word_id (rows_of (found_of matches.now))) }
+    ensures given { IfOk result (λ p. HasNumbers (rows_of (found_of matches.now)) p.given.items) }
+    ensures usage { IsErrOf result WordFault.Usage → ((s : Setting) → AreAll (values_in (name_of s) (rows_of (found_of matches.now)))) → ⊥ }
+{
+    let given = numbers_in(alloc, matches)?;
+    let plain = words_in(alloc, matches)?;
+    Ok(Parted { plain, given })
 }

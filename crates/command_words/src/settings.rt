@@ -1,10 +1,6 @@
 // The options and what they are set to.
-ghost use Rattle.std.specs.Prelude.{◌≡◌, ◌++◌, ◌∷◌, ℕ, List, ◌≤◌, ◌↔◌, [], IsTrue, IfSome, MatchOption};
-ghost use Rattle.command_words.specs.declared.settings.Setting.{Setting};
-ghost use Rattle.command_words.specs.declared.settings.Given.{Given};
-ghost use Rattle.command_words.specs.Settings.{name_of, place_of, setting_of, numbers_for, IsSetBy, HasFound, IsJoinedOption};
-
-use crate::numbers::number_of;
+ghost use Rattle.std.specs.Prelude.{◌≡◌, ℕ, ◌<◌, ◌≤◌, ◌↔◌, [], IsTrue, IfSome, MatchOption};
+ghost use Rattle.command_words.specs.Settings.{name_of, place_of, numbers_for, IsSetBy, HasFound};
 
 /// A number that a job can be asked to use.
 #[derive(Clone, Copy, Debug)]
@@ -28,19 +24,38 @@ pub struct Given {
 }
 
 impl Setting {
-    fn name(self) -> &'static [u8]
+    /// The option's name.
+    pub fn name(self) -> &'static str
         ensures { result.now ≡ name_of self }
     {
         match self {
-            Setting::Ratio => b"ratio",
-            Setting::Budget => b"budget",
-            Setting::Mask => b"mask",
-            Setting::Gap => b"gap",
-            Setting::Jump => b"jump",
-            Setting::Arc => b"arc",
-            Setting::Step => b"step",
-            Setting::First => b"first",
-            Setting::Count => b"count",
+            Setting::Ratio => "ratio",
+            Setting::Budget => "budget",
+            Setting::Mask => "mask",
+            Setting::Gap => "gap",
+            Setting::Jump => "jump",
+            Setting::Arc => "arc",
+            Setting::Step => "step",
+            Setting::First => "first",
+            Setting::Count => "count",
+        }
+    }
+
+    /// The setting at a place of the table.
+    pub fn at(place: usize) -> Setting
+        requires { place < 9 }
+        ensures { place_of result ≡ place }
+    {
+        match place {
+            0 => Setting::Ratio,
+            1 => Setting::Budget,
+            2 => Setting::Mask,
+            3 => Setting::Gap,
+            4 => Setting::Jump,
+            5 => Setting::Arc,
+            6 => Setting::Step,
+            7 => Setting::First,
+            _ => Setting::Count,
         }
     }
 
@@ -59,65 +74,6 @@ impl Setting {
             Setting::Count => 8,
         }
     }
-}
-
-// The only setting whose name may begin so. No two names have one first letter.
-fn setting_by(text: &[u8]) -> Option<Setting>
-    ensures { result ≡ setting_of text.now }
-{
-    let [letter, ..] = text else {
-        return None;
-    };
-    match *letter {
-        b'r' => Some(Setting::Ratio),
-        b'b' => Some(Setting::Budget),
-        b'm' => Some(Setting::Mask),
-        b'g' => Some(Setting::Gap),
-        b'j' => Some(Setting::Jump),
-        b'a' => Some(Setting::Arc),
-        b's' => Some(Setting::Step),
-        b'f' => Some(Setting::First),
-        b'c' => Some(Setting::Count),
-        _ => None,
-    }
-}
-
-/// The setting with that name.
-pub fn named(text: &[u8]) -> Option<Setting>
-    ensures { MatchOption result ((s : Setting) → text.now ≡ name_of s → ⊥) (λ s. text.now ≡ name_of s) }
-{
-    let setting = setting_by(text)?;
-    if text == setting.name() {
-        Some(setting)
-    } else {
-        None
-    }
-}
-
-// The digits behind a name and `=`.
-fn digits_behind<'a>(text: &'a [u8], name: &[u8]) -> Option<&'a [u8]>
-    ensures { MatchOption result ((digits : List ℕ) → text.now ≡ name.now ++ 61 ∷ digits → ⊥) (λ digits. text.now ≡ name.now ++ 61 ∷ digits.now) }
-{
-    if text.len() <= name.len() {
-        return None;
-    }
-    if &text[..name.len()] != name {
-        return None;
-    }
-    match &text[name.len()..] {
-        [b'=', digits @ ..] => Some(digits),
-        _ => None,
-    }
-}
-
-/// The setting and its number in `name=number`.
-pub fn joined(text: &[u8]) -> Option<Given>
-    ensures { MatchOption result ((g : Given) → IsJoinedOption text.now g → ⊥) (λ g. IsJoinedOption text.now g) }
-{
-    let setting = setting_by(text)?;
-    let digits = digits_behind(text, setting.name())?;
-    let number = number_of(digits)?;
-    Some(Given { setting, number })
 }
 
 /// What a setting may be set to, and what it is where it isn't given.

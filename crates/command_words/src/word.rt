@@ -1,6 +1,5 @@
 // A word of the command line.
-ghost use Rattle.std.specs.Prelude.{◌≡◌, ◌++◌, IfOk, string_bytes};
-ghost use Rattle.command_words.specs.Words.{texts_of};
+ghost use Rattle.std.specs.Prelude.{◌≡◌, IfOk, string_bytes};
 
 use std::alloc::{AllocError, Global};
 use std::marker::Model;
@@ -41,15 +40,4 @@ impl Word {
     {
         self.text.as_bytes()
     }
-}
-
-/// The words of the command line.
-pub fn copy_words(alloc: Global, words: &[String]) -> Result<Vec<Word>, AllocError>
-    ensures { IfOk result (λ copies. copies.items ≡ texts_of words.now) }
-{
-    let mut copies = Vec::new(alloc);
-    for word in words {
-        copies.push(Word::copy_of(alloc, word.as_str())?)?;
-    }
-    Ok(copies)
 }

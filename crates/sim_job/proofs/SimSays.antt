@@ -1,5 +1,5 @@
 -- What the ending of `sim` says, and its status.
-use Rattle.std.proofs.Common.{◌≡◌, ◌≢◌, ℕ, List, refl, sym, subst}
+use Rattle.std.proofs.Common.{◌≢◌, ℕ, refl, sym, subst}
 use Rattle.std.specs.Io.KnownBytes.{Appends}
 use Rattle.command_words.specs.declared.sims.Part.{Part}
 use Rattle.job_answers.specs.Statuses.{IsVerdictStatus, IsJobStatus}

@@ -1,5 +1,5 @@
 -- What is told of three files under the names of the parts.
-use Rattle.std.proofs.Common.{◌≡◌, ℕ, List, [], ◌∷◌, Option, None, Some, codes, if◌then◌else◌, refl, ap, ◌∙◌}
+use Rattle.std.proofs.Common.{◌≡◌, ℕ, List, [], ◌∷◌, Option, Some, codes, if◌then◌else◌, ap, ◌∙◌}
 use Rattle.std.specs.Prelude.{string_bytes, unwrap_or}
 use Rattle.std.specs.Str.{bytes_eq}
 use Rattle.line_source.specs.declared.memory.Named.{Named}

@@ -1,5 +1,5 @@
 -- The arcs of the session in which a run ends are in order, and just the first of each linked set is a datum.
-use Rattle.std.proofs.Common.{◌≡◌, ◌⊎◌, inl, inr, ℕ, ◌<◌, ◌≤◌, Some, List, filter, get_or, AllPairs, All, sym, ap, ◌∙◌, refl, subst, arith}
+use Rattle.std.proofs.Common.{◌≡◌, inl, inr, ℕ, ◌<◌, ◌≤◌, Some, List, filter, get_or, AllPairs, sym, ap, ◌∙◌, refl, subst, arith}
 use Rattle.std.specs.Prelude.{Option, slice_get}
 use Rattle.std.specs.Option.{option_map}
 use Rattle.std.proofs.lemmas.List.Kept.{AllPairs-filter}
@@ -10,14 +10,13 @@ use Rattle.obs_rows.specs.declared.arcs.Arc.{Arc}
 use Rattle.slip_arcs.specs.declared.used.UsedPair.{UsedPair}
 use Rattle.slip_arcs.specs.Runs.{Run, Precedes, is_long, run_of, AreKept}
 use Rattle.slip_arcs.proofs.Kept.{kept_each}
-use Rattle.cert_data.specs.declared.certs.Cert.{Cert}
 use Rattle.cert_data.specs.declared.outcomes.Outcome.{Outcome}
 use Rattle.cert_data.specs.declared.outcomes.Answer.{Answer}
 use Rattle.cert_data.specs.declared.outcomes.Answer.TheVariants.{Few, Arcs, Early, Full}
 use Rattle.run_options.specs.declared.options.Options.{Options}
 use Rattle.session.specs.Outcomes.{IsOutcome}
 use Rattle.fix_job.proofs.Runs.{stands_for}
-use Rattle.sim_match.specs.Matches.{AreInOrder, AreMarked, HasMarkedArcs}
+use Rattle.sim_match.specs.Matches.{AreInOrder, HasMarkedArcs}
 
 -- kept arcs begin in order
 kept_at : (jump least : ℕ) (used : List UsedPair) (kept : List Arc) (short k : ℕ) (a : Arc) → (are : AreKept jump least used kept short) → slice_get kept k ≡ Some a → slice_get (filter (is_long least) are.runs) k ≡ Some (run_of a)

@@ -1,11 +1,6 @@
 -- What the ending of `sim run` says of the session that it made, and its statuses.
-use Rattle.std.proofs.Common.{◌≡◌, ◌≢◌, ◌↔◌, inl, inr, ℕ, List, Option, Bool, true, false, IsTrue, codes, if◌then◌else◌, refl, sym, subst}
+use Rattle.std.proofs.Common.{◌≡◌, ◌≢◌, inl, inr, ℕ, List, Option, Bool, true, false, codes, if◌then◌else◌, refl, sym, subst}
 use Rattle.std.specs.Io.KnownBytes.{Appends}
-use Rattle.obs_store.specs.declared.file.ObsFile.{ObsFile}
-use Rattle.cert_data.specs.declared.outcomes.Outcome.{Outcome}
-use Rattle.run_options.specs.declared.options.Options.{Options}
-use Rattle.run_options.specs.Defaults.{AreDefaults}
-use Rattle.session.specs.Answers.{IsBestAnswer}
 use Rattle.outcome_report.specs.OutcomeText.{is_fixed}
 use Rattle.job_answers.specs.declared.status.Status.TheVariants.{Done, Declined, ReadFault}
 use Rattle.job_answers.specs.Statuses.{IsVerdictStatus, IsJobStatus}
@@ -18,8 +13,7 @@ use Rattle.arcs_job.specs.ArcJobs.{ArcsEnds}
 use Rattle.arcs_job.specs.ArcRuns.{AreAdmitted}
 use Rattle.arcs_job.proofs.ArcSays.{arcs_verdict}
 use Rattle.fix_job.specs.FixRuns.{HaveOutcome}
-use Rattle.sim_match.specs.Matches.{IsMatched}
-use Rattle.sim_run_job.specs.SimRunJobs.{AreMadeFiles, truth_in, run_text, SimRunEnds}
+use Rattle.sim_run_job.specs.SimRunJobs.{run_text, SimRunEnds}
 use Rattle.sim_run_job.specs.SimRunSays.{SaysMatch, SaysOfSimRun, AreMadeAdmitted}
 
 -- ---- statuses

@@ -1,4 +1,4 @@
-use Rattle.std.proofs.Common.{◌≡◌, ℕ, List, ap₂}
+use Rattle.std.proofs.Common.{ℕ, List, ap₂}
 use Rattle.job_answers.specs.declared.status.Status.TheVariants.{Done}
 use Rattle.job_answers.specs.Endings.{ending}
 use Rattle.sim_job.specs.Sims.{text_in}

@@ -1,4 +1,4 @@
-use Rattle.std.proofs.Common.{◌≡◌, ℕ, List, [], ◌∷◌, sym, ap, ◌∙◌, subst}
+use Rattle.std.proofs.Common.{ℕ, List, subst}
 use Rattle.command_words.specs.Numbers.{IsSatellite}
 use Rattle.command_words.proofs.OneJob.{no_satellite}
 use Rattle.command_words.proofs.jobs.orbit_job.Goals as goal

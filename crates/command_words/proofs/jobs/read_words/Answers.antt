@@ -1,12 +1,39 @@
-use Rattle.std.proofs.Common.{◌≡◌, ℕ, List, ◌∙◌, subst}
+use Rattle.std.proofs.Common.{◌≡◌, List, subst}
+use Rattle.std.proofs.lemmas.Result.{IfOk-weaker, err_from_is_err_and}
+use Rattle.clap.specs.Matches.{found_of}
+use Rattle.clap.specs.Walk.{Text, rows_of}
 use Rattle.command_words.specs.declared.jobs.Job.{Job}
-use Rattle.std.proofs.lemmas.Result.{IfOk-weaker}
-use Rattle.command_words.specs.Words.{IsJob, IsInRange}
-use Rattle.command_words.proofs.OneJob.{job_range}
+use Rattle.command_words.specs.declared.fault.WordFault.TheVariants.{Usage}
+use Rattle.command_words.specs.Commands.{values_in, word_id}
+use Rattle.command_words.specs.Words.{IsJobOf, texts_of}
+use Rattle.command_words.proofs.ReadLaws.{err_is, is_job, no_numbers, not_asked_so, not_split}
 use Rattle.command_words.proofs.jobs.read_words.Goals as goal
 
-pub returns-clause-usage : goal.returns-clause-usage
-returns-clause-usage c = λ is. subst (λ (ws : List (List ℕ)). (job : Job) → IsJob ws job → ⊥) (c.deref.ensures.value ∙ c.in_ok-words.ensures) (c.job_in.ensures.usage is)
+pub returns-in_err-line-clause-usage : goal.returns-in_err-line-clause-usage
+returns-in_err-line-clause-usage c = λ is.
+    let p = err_from_is_err_and c.from_residual.result c.from_residual.ensures.1 in
+    let fault : c.in_err-line.field-0.0 ≡ Usage = cc (is, p.1, p.2) in
+    not_split (texts_of c.args.words.now) (c.in_err-line.ensures.usage (err_is c.in_err-line.field-0.0 Usage fault))
 
-pub returns-clause-range : goal.returns-clause-range
-returns-clause-range c = IfOk-weaker c.job_in.result (λ job. IsJob c.deref.result.now job) IsInRange (λ job asked. job_range c.deref.result.now job asked) c.job_in.ensures.job
+pub returns-in-Ok-clause-job : goal.returns-in-Ok-clause-job
+returns-in-Ok-clause-job c =
+    let command = c.in_ok-line.line.command.now in
+    let rows = rows_of (found_of c.in_ok-line.line.matches) in
+    let given = c.in-Ok.parted.given.items in
+    IfOk-weaker c.job_of.result _ _ (λ j asked. is_job (texts_of c.args.words.now) command rows given c.in_ok-line.ensures.ok c.in-Ok.ensures.given j
+    (subst (λ (name : Text). IsJobOf name (values_in word_id rows) given j) c.as_bytes.ensures.value (subst (λ (ws : List Text). IsJobOf c.as_bytes.result.now ws given j) c.in-Ok.ensures.plain asked))) c.job_of.ensures.job
+
+pub returns-in-Ok-clause-usage : goal.returns-in-Ok-clause-usage
+returns-in-Ok-clause-usage c = λ is.
+    let command = c.in_ok-line.line.command.now in
+    let rows = rows_of (found_of c.in_ok-line.line.matches) in
+    let given = c.in-Ok.parted.given.items in
+    not_asked_so (texts_of c.args.words.now) command rows given c.in_ok-line.ensures.ok c.in-Ok.ensures.given
+    (subst (λ (name : Text). (j : Job) → IsJobOf name (values_in word_id rows) given j → ⊥) c.as_bytes.ensures.value
+    (subst (λ (ws : List Text). (j : Job) → IsJobOf c.as_bytes.result.now ws given j → ⊥) c.in-Ok.ensures.plain (c.job_of.ensures.usage is)))
+
+pub returns-clause-usage : goal.returns-clause-usage
+returns-clause-usage c = λ is.
+    let same : c.in-Err.fault ≡ Usage = cc is in
+    no_numbers (texts_of c.args.words.now) c.in_ok-line.line.command.now (rows_of (found_of c.in_ok-line.line.matches)) c.in_ok-line.ensures.ok
+    (c.in-Err.ensures.usage (err_is c.in-Err.fault Usage same))

@@ -1,4 +1,4 @@
-use Rattle.std.proofs.Common.{rules, ◌≡◌, ◌∙◌, arith}
+use Rattle.std.proofs.Common.{rules, ◌∙◌, arith}
 use Rattle.decimal_text.proofs.Numbers.{digits_are}
 use Rattle.command_words.proofs.numbers.number_of.Goals as goal
 

@@ -31,7 +31,7 @@ pub outcome-requires-clause-few_arcs : goal.outcome-requires-clause-few_arcs
 outcome-requires-clause-few_arcs c =
     let f = c.in-Ok-screened.rounds in
     subst (λ (l : List Arc). length l ≤ 54000) (sym c.as_slice.ensures)
-    (few_kept c.args.options.now.jump c.args.options.now.arc c.in-Ok-screened.ensures.short f c.in-Ok-screened.ensures.kept_are c.in-Ok-screened.ensures.datums)
+    (few_kept c.args.options.now.jump c.args.options.now.arc c.in-Ok-screened.ensures.screened.short f c.in-Ok-screened.ensures.screened.kept_are c.in-Ok-screened.ensures.screened.datums)
 
 pub outcome-requires-clause-shifts : goal.outcome-requires-clause-shifts
 outcome-requires-clause-shifts c = subst (AreShiftsBelow (2 ^ 40)) (sym c.as_slice.ensures) (no_shifts c.in-Ok-screened.rounds.kept c.in-Ok-screened.ensures.screened.shifts)
@@ -51,7 +51,7 @@ returns-in-Ok-outcome-clause-outcome c = record {
   taken_is = c.in-Ok-outcome.ensures.taken;
   all_is = c.in-Ok-outcome.ensures.all ∙ c.in-Ok.ensures.all;
   kept_is = c.in-Ok-outcome.ensures.kept ∙ ap (λ (l : List Arc). length l) c.as_slice.ensures;
-  kept_few = subst (λ (n : ℕ). n ≤ 54000) (sym (c.in-Ok-outcome.ensures.kept ∙ ap (λ (l : List Arc). length l) c.as_slice.ensures)) (few_kept c.args.options.now.jump c.args.options.now.arc c.in-Ok-screened.ensures.short c.in-Ok-screened.rounds c.in-Ok-screened.ensures.kept_are c.in-Ok-screened.ensures.datums);
+  kept_few = subst (λ (n : ℕ). n ≤ 54000) (sym (c.in-Ok-outcome.ensures.kept ∙ ap (λ (l : List Arc). length l) c.as_slice.ensures)) (few_kept c.args.options.now.jump c.args.options.now.arc c.in-Ok-screened.ensures.screened.short c.in-Ok-screened.rounds c.in-Ok-screened.ensures.screened.kept_are c.in-Ok-screened.ensures.screened.datums);
   delta_is = subst (λ (b : Bool). (IsTrue b → HasDelta c.args.base.now ⊎ HasDelta c.args.rover.now) × (HasDelta c.args.base.now ⊎ HasDelta c.args.rover.now → IsTrue b)) (sym c.in-Ok-outcome.ensures.delta) c.have_delta-delta.ensures;
   answer_is = c.in-Ok-outcome.ensures.answer;
 }

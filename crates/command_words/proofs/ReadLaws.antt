@@ -1,0 +1,64 @@
+-- Words as clap splits them, and the job that they ask for.
+use Rattle.std.proofs.Common.{◌≡◌, List, [], Err, IsErrOf, refl, sym, ap, ◌∙◌, subst}
+use Rattle.std.proofs.lemmas.Option.{same_Some}
+use Rattle.clap.specs.Walk.{Row, Text}
+use Rattle.command_words.specs.Commands.{word_id, values_in}
+use Rattle.command_words.specs.Split.{IsSplit, AreNumbers, AreAll, HasNumbers}
+use Rattle.command_words.specs.declared.settings.Setting.{Setting}
+use Rattle.command_words.specs.declared.settings.Given.{Given}
+use Rattle.command_words.specs.declared.jobs.Job.{Job}
+use Rattle.command_words.specs.Settings.{name_of, numbers_for}
+use Rattle.command_words.specs.Words.{IsJobOf, IsJob}
+use Rattle.command_words.proofs.SplitLaws.{Adds}
+use Rattle.command_words.proofs.JobLaws.{job_split, split_account, split_parted}
+use Rattle.command_words.proofs.GivenLaws.{one_numbers, all_numbers, same_job}
+
+-- what a walk adds to nothing is what stands there
+added_numbers : (rows : List Row) (plain : List Text) (given : List Given) → Adds [] rows plain given → HasNumbers rows given
+added_numbers rows plain given adds s = subst (λ (texts : List Text). AreNumbers texts (numbers_for s given)) (sym (adds.texts_are s)) (adds.numbers s)
+
+-- words are split in one way
+record IsSame (c d : Text) (rows more : List Row) : Type 0 where
+  command : c ≡ d
+  rows_are : rows ≡ more
+
+one_split : (words : List Text) (c d : Text) (rows more : List Row) → IsSplit words c rows → IsSplit words d more → IsSame c d rows more
+one_split words c d rows more first second =
+    let both : (c, rows) ≡ (d, more) = same_Some (c, rows) (d, more) (sym (split_account words c rows first).1 ∙ (split_account words d more second).1) in
+    record { command = ap (λ (p : Text × List Row). p.0) both; rows_are = ap (λ (p : Text × List Row). p.1) both }
+
+pub not_split : (words : List Text) → ((command : Text) (rows : List Row) → IsSplit words command rows → ⊥) → (j : Job) → IsJob words j → ⊥
+not_split words none j is = let so = job_split words j is in none is.command so.rows so.split
+
+pub no_numbers : (words : List Text) (command : Text) (rows : List Row) → IsSplit words command rows → (((s : Setting) → AreAll (values_in (name_of s) rows)) → ⊥) → (j : Job) → IsJob words j → ⊥
+no_numbers words command rows split none j is =
+    let so = job_split words j is in
+    let same = one_split words command is.command rows so.rows split so.split in
+    none (λ s. subst (λ (rs : List Row). AreAll (values_in (name_of s) rs)) (sym same.rows_are) (all_numbers (values_in (name_of s) so.rows) (numbers_for s is.given) (added_numbers so.rows is.plain is.given so.adds s)))
+
+pub is_job : (words : List Text) (command : Text) (rows : List Row) (given : List Given) → IsSplit words command rows → HasNumbers rows given → (j : Job) → IsJobOf command (values_in word_id rows) given j → IsJob words j
+is_job words command rows given split has j asked =
+    let f = split_parted words command rows split (λ s. all_numbers (values_in (name_of s) rows) (numbers_for s given) (has s)) in
+    let same : (s : Setting) → numbers_for s given ≡ numbers_for s f.given = λ s. one_numbers (values_in (name_of s) rows) (numbers_for s given) (numbers_for s f.given) (has s) (added_numbers rows f.plain f.given f.adds s) in
+    record {
+      command = command;
+      behind = split.rest;
+      plain = f.plain;
+      given = f.given;
+      words_are = split.words_are;
+      parted = f.parted;
+      asked = same_job given f.given same command f.plain j (subst (λ (ws : List Text). IsJobOf command ws given j) f.adds.plain_are asked);
+    }
+
+pub not_asked_so : (words : List Text) (command : Text) (rows : List Row) (given : List Given) → IsSplit words command rows → HasNumbers rows given → ((j : Job) → IsJobOf command (values_in word_id rows) given j → ⊥) → (j : Job) → IsJob words j → ⊥
+not_asked_so words command rows given split has none j is =
+    let so = job_split words j is in
+    let same = one_split words is.command command so.rows rows so.split split in
+    let numbers : (s : Setting) → numbers_for s is.given ≡ numbers_for s given = λ s. one_numbers (values_in (name_of s) so.rows) (numbers_for s is.given) (numbers_for s given)
+    (added_numbers so.rows is.plain is.given so.adds s) (subst (λ (rs : List Row). AreNumbers (values_in (name_of s) rs) (numbers_for s given)) (sym same.rows_are) (has s)) in
+    let plain : is.plain ≡ values_in word_id rows = sym so.adds.plain_are ∙ ap (λ (rs : List Row). values_in word_id rs) same.rows_are in
+    none j (subst (λ (c : Text). IsJobOf c (values_in word_id rows) given j) same.command
+    (subst (λ (ws : List Text). IsJobOf is.command ws given j) plain (same_job is.given given numbers is.command is.plain j is.asked)))
+
+pub err_is : {A E : Type 0} (e f : E) → e ≡ f → IsErrOf {T = A} {E = E} (Err e) f
+err_is {A} {E} e f same = subst (λ (x : E). IsErrOf {T = A} {E = E} (Err e) x) same refl

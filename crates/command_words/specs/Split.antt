@@ -1,0 +1,55 @@
+-- The commands with their options, and how words are split.
+use Rattle.std.specs.Prelude.{◌≡◌, ℕ, false, List, [], ◌∷◌, ◌++◌, map, Some, codes}
+use Rattle.clap.specs.Walk.{Row, Text}
+use Rattle.command_words.specs.declared.settings.Setting.{Setting}
+use Rattle.command_words.specs.declared.settings.Given.{Given}
+use Rattle.command_words.specs.Numbers.{IsNumber}
+use Rattle.command_words.specs.Settings.{name_of, numbers_for}
+use Rattle.command_words.specs.Commands.{Ends, built_shape, command_named, has_short, start, values_in}
+
+-- what chooses pairs and arcs
+abbrev pub pair_options : List Text
+pair_options = codes "mask" ∷ codes "gap" ∷ codes "jump" ∷ codes "arc" ∷ codes "step" ∷ codes "first" ∷ codes "count" ∷ []
+
+-- the same, and what the search and the decision are told
+abbrev pub all_options : List Text
+all_options = codes "ratio" ∷ codes "budget" ∷ pair_options
+
+abbrev pub commands : List (Text × List Text)
+commands =
+    (codes "fix", all_options) ∷ (codes "arcs", pair_options) ∷ (codes "check", []) ∷ (codes "residuals", []) ∷ (codes "zero", []) ∷ (codes "list", [])
+    ∷ (codes "orbit", []) ∷ (codes "sim", []) ∷ []
+
+-- the words are a command's name, and words that clap's walk over this command's rules passes with these rows
+pub record IsSplit (words : List Text) (command : Text) (rows : List Row) : Type 0 where
+  pub options : List Text
+  pub rest : List Text
+  pub words_are : words ≡ command ∷ rest
+  pub found : command_named command commands ≡ Some (command, options)
+  pub no_short : has_short words ≡ false
+  pub ends : Ends (built_shape (command, options)) start rest rows
+
+-- the texts are those of these numbers
+abbrev pub AreNumbers : List Text → List ℕ → Type 0
+AreNumbers [] [] = Unit {0}
+AreNumbers [] (n ∷ ns) = ⊥
+AreNumbers (t ∷ texts) [] = ⊥
+AreNumbers (t ∷ texts) (n ∷ ns) = IsNumber t n × AreNumbers texts ns
+
+-- each of the texts is a number
+abbrev pub AreAll : List Text → Type 0
+AreAll [] = Unit {0}
+AreAll (t ∷ texts) = ((n : ℕ) × IsNumber t n) × AreAll texts
+
+abbrev pub given_with : Setting → ℕ → Given
+given_with s n = record { setting = s; number = n }
+
+-- the numbers of a setting's texts are added to a list
+pub record TakesNumbers (s : Setting) (texts : List Text) (old new : List Given) : Type 0 where
+  pub numbers : List ℕ
+  pub are : AreNumbers texts numbers
+  pub new_are : new ≡ old ++ map (given_with s) numbers
+
+-- the list has the numbers of each setting
+abbrev pub HasNumbers : List Row → List Given → Type 0
+HasNumbers rows given = (s : Setting) → AreNumbers (values_in (name_of s) rows) (numbers_for s given)
