@@ -41,10 +41,10 @@ impl Files for Pieces {
 #[test]
 fn reads_the_same_in_pieces(rt: HostRuntime) -> Result<(), Fail> {
     let alloc = rt.alloc();
-    let made = make(alloc, 1, 4, 8)?;
+    let made = make(alloc, 1, 60, 8)?;
     assert!(rt; made.base.len() <= 67_108_864);
     let whole = read_whole(alloc, &made.base)?;
-    assert_eq!(rt; whole.epochs.len(), 4);
+    assert_eq!(rt; whole.epochs.len(), 60);
     let want = format!(in alloc; "{whole:?}")?;
     for most in [1, 7, 65_536] {
         let mut files = Pieces {
