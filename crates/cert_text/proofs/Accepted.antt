@@ -110,9 +110,6 @@ arc_length a is whole =
 free_more : (a : Arc) (arcs : List Arc) → free_count (a ∷ arcs) ≡ free_by a.datum + free_count arcs
 free_more a arcs = sum_by-append (λ (x : Arc). cond (is_free x) 1 0) (a ∷ []) arcs ∙ ap (λ (n : ℕ). n + free_count arcs) (free_push [] a ∙ (omega arith))
 
-free_append : (xs ys : List Arc) → free_count (xs ++ ys) ≡ free_count xs + free_count ys
-free_append xs ys = sum_by-append (λ (x : Arc). cond (is_free x) 1 0) xs ys
-
 stands : (free left more : ℕ) (datum : Bool) → 1 ≤ left → (free + free_by datum) + more ≤ 20 → 1 ≤ (free + free_by datum) + more → (left ≤ 1 → more ≡ 0) → may_stand free left datum ≡ true
 stands free left more true some few has last = by_left (nat_lt 1 left) refl
   where

@@ -32,9 +32,6 @@ use Rattle.cert_spelling.specs.Spelling.{head_lines, arc_lines, all_pair_lines, 
 
 -- ---- numbers in range are small
 
-pub natural_small : (n : ℕ) → n < 2 ^ 126 → size_of (pos n) < 2 ^ 126
-natural_small n h = h
-
 pub below_small : (m : ℕ) (z : ℤ) → m ≤ 2 ^ 126 → IsBelow m z → size_of z < 2 ^ 126
 below_small m z few h = rw (size_is z) (omega (arith, few, h))
 

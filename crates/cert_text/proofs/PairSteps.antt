@@ -21,12 +21,6 @@ rows_below rows r least below from = All-push (λ (q : Row). q.arc < r.arc + 1) 
     later : (q : Row) → q.arc < least → q.arc < r.arc + 1
     later q h = omega (arith, from)
 
-pub rows_under : (rows : List Row) (r : Row) (least : ℕ) → AreBelow rows least → least ≤ r.arc → AreBelow rows r.arc
-rows_under rows r least below from = λ k d inside. later (get_or rows k d) (below k d inside)
-  where
-    later : (q : Row) → q.arc < least → q.arc < r.arc
-    later q h = omega (arith, from)
-
 pub pairs_took : (pairs : List PairRows) (p : PairRows) (rest : List (List ℕ)) → all_pair_lines pairs ++ (pair_lines p ++ rest) ≡ all_pair_lines (pairs ++ p ∷ []) ++ rest
 pairs_took [] p rest = sym (append_assoc (pair_lines p) [] rest)
 pairs_took (q ∷ pairs) p rest =
@@ -37,12 +31,6 @@ pub pairs_below : (pairs : List PairRows) (p : PairRows) (least : ℕ) → All (
 pairs_below pairs p least below from = All-push (λ (q : PairRows). q.number < p.number + 1) pairs p (λ k d inside. later (get_or pairs k d) (below k d inside)) (omega arith)
   where
     later : (q : PairRows) → q.number < least → q.number < p.number + 1
-    later q h = omega (arith, from)
-
-pub pairs_under : (pairs : List PairRows) (p : PairRows) (least : ℕ) → All (λ q. q.number < least) pairs → least ≤ p.number → All (λ q. q.number < p.number) pairs
-pairs_under pairs p least below from = λ k d inside. later (get_or pairs k d) (below k d inside)
-  where
-    later : (q : PairRows) → q.number < least → q.number < p.number
     later q h = omega (arith, from)
 
 -- a part behind another

@@ -23,10 +23,6 @@ no_dashes word text is h = no (subst (λ (w : List ℕ). IsTrue (is_ordinary w))
 text_is : (s t : List ℕ) → 45 ∷ 45 ∷ s ≡ 45 ∷ 45 ∷ t → s ≡ t
 text_is s t h = ap (λ (w : List ℕ). drop 2 w) h
 
--- two names at the start of one text
-same_setting : (s r : Setting) (text : List ℕ) → setting_of text ≡ Some s → setting_of text ≡ Some r → s ≡ r
-same_setting s r text = one_name text s r
-
 -- what two pieces at the front of the same words have in common: all
 pub record ArePeeled (p q : Piece) (xs ys : List (List ℕ)) : Type 0 where
   pub same : p ≡ q

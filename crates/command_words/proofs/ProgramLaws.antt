@@ -18,7 +18,7 @@ use Rattle.clap.specs.Walk.{Row, Rule, Text, row_of, rows_of}
 use Rattle.clap.specs.Facts.{Entry}
 use Rattle.command_words.specs.declared.settings.Setting.{Setting}
 use Rattle.command_words.specs.declared.settings.Given.{Given}
-use Rattle.command_words.specs.Commands.{app_with, command_shape, has_short, option_rule, values_in, word_rule}
+use Rattle.command_words.specs.Commands.{app_with, has_short, option_rule, values_in}
 use Rattle.command_words.specs.Numbers.{IsNumber}
 use Rattle.command_words.specs.Split.{AreAll, IsSplit, TakesNumbers, commands, given_with}
 use Rattle.command_words.proofs.GivenLaws.{one_taken}
@@ -30,9 +30,6 @@ started name options = record { top = record (new_shape name) { rules = map opti
 
 pub one_more : (name : Text) (options : List Text) (option : Text) → with_rule (started name options) (option_rule option) ≡ started name (options ++ option ∷ [])
 one_more name options option = ap (λ (rules : List Rule). let a : App = record { top = record (new_shape name) { rules = rules }; subs = [] } in a) (sym (map_push option_rule options option))
-
-pub at_last : (name : Text) (options : List Text) → with_rule (started name options) word_rule ≡ record { top = command_shape name options; subs = [] }
-at_last name options = refl
 
 -- of tests that hold, the third is of what is not there
 pub third : (a b g r : Bool) → (a && (not b && (not g && r))) ≡ true → g ≡ false

@@ -9,15 +9,6 @@ use Rattle.decimal_text.specs.FixedForm.{IsFixed}
 use Rattle.decimal_text.specs.Exp.{is_mark, before_mark, behind_mark}
 use Rattle.decimal_text.proofs.FixedWalks.{walk-fixed}
 
--- a text without a mark stands before it as a whole
-pub before-unmarked : (text : List ℕ) → behind_mark text ≡ None → before_mark text ≡ text
-before-unmarked [] none = refl
-before-unmarked (b ∷ bs) none = by (is_mark b) refl (λ e. before-unmarked bs e)
-  where
-    by : (t : Bool) → is_mark b ≡ t → (behind_mark bs ≡ None → before_mark bs ≡ bs) → before_mark (b ∷ bs) ≡ b ∷ bs
-    by true is later = let found : behind_mark (b ∷ bs) ≡ Some bs = rw is refl in absurd (cc (found, none))
-    by false is later = let same : behind_mark (b ∷ bs) ≡ behind_mark bs = rw is refl in rw is (ap (λ t. b ∷ t) (later (sym same ∙ none)))
-
 -- behind a front without a mark
 pub before-append : (front rest : List ℕ) → behind_mark front ≡ None → before_mark (front ++ rest) ≡ front ++ before_mark rest
 before-append [] rest none = refl

@@ -23,9 +23,6 @@ second p b d = elim b as (λ x. Answer) [ false ↦ Err wide_factor | true ↦ l
 abbrev first : Refusal → Factor × List Column → Bool → Bool → Bool → Answer
 first e p b d g = elim b as (λ x. Answer) [ true ↦ Err e | false ↦ second p d g ]
 
-pub step_weak : (j : ℕ) (c : Column) (m : List Column) → int_lt c.own (pos (2 ^ 20)) ≡ true → step j c m ≡ Err (weak j c.own)
-step_weak j c m e = ap (λ (b : Bool). first (weak j c.own) (record { d = kept (unsigned_abs c.own); l = factors (unsigned_abs c.own) c.others }, next (unsigned_abs c.own) (len c.others) c.others m) b (all_small (factors (unsigned_abs c.own) c.others)) (form_small (next (unsigned_abs c.own) (len c.others) c.others m))) e
-
 pub step_tests : (j : ℕ) (c : Column) (m : List Column) (b d : Bool) → int_lt c.own (pos (2 ^ 20)) ≡ false → all_small (factors (unsigned_abs c.own) c.others) ≡ b → form_small (next (unsigned_abs c.own) (len c.others) c.others m) ≡ d →
     step j c m ≡ second (record { d = kept (unsigned_abs c.own); l = factors (unsigned_abs c.own) c.others }, next (unsigned_abs c.own) (len c.others) c.others m) b d
 step_tests j c m b d e f g = ap (λ (x : Bool). first (weak j c.own) (record { d = kept (unsigned_abs c.own); l = factors (unsigned_abs c.own) c.others }, next (unsigned_abs c.own) (len c.others) c.others m) x (all_small (factors (unsigned_abs c.own) c.others)) (form_small (next (unsigned_abs c.own) (len c.others) c.others m))) e

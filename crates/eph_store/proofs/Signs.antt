@@ -5,12 +5,8 @@ use Rattle.std.proofs.Math.Nat.{mul-pos, le_of_mul-le-mul_right}
 use Rattle.whole_math.proofs.IntLaws.{neg_mul_ℤ}
 use Rattle.rational.specs.Rational.{◌≤ʳ◌}
 use Rattle.decimal_text.specs.declared.exponent.Dec.{Dec}
-use Rattle.eph_store.specs.Decimals.{ten_to_pos, decimal, with_exponent, value_of, size_of, IsFromTo, IsWithin, IsWhole}
+use Rattle.eph_store.specs.Decimals.{ten_to_pos, decimal, size_of, IsFromTo, IsWithin, IsWhole}
 use Rattle.eph_store.proofs.Scales.{cut_power}
-
--- of a number that is not below 0 the size is the value
-pub size_is : (d : Dec) → pos 0 ≤ℤ d.mant → size_of d ≡ value_of d
-size_is d h = let e : pos (unsigned_abs d.mant) ≡ d.mant = omega (arith, ints) in ap (λ (m : ℤ). with_exponent m d.exp) e
 
 -- -c ≤ n ≤ c, with factors
 between : (n : ℤ) (p c : ℕ) → (unsigned_abs n * p) ≤ c → (neg_ℤ (pos c) ≤ℤ (n *ℤ pos p)) × ((n *ℤ pos p) ≤ℤ pos c)

@@ -56,8 +56,3 @@ best_from_bounds s h p ratio t z1 z2 m fine entries bounds least upper r k separ
       below (sum_of_squares s.arcs s.scale s.pairs z1 (moved m) observed) (sum_of_squares s.arcs s.scale s.pairs w b observed) h t (value p z2) (value p w) (room t ratio (value p z2) r k separated)
       (second_value p (len z1) z1 z2 w least (len_is w ∙ ap pos (e ∙ sym entries) ∙ sym (len_is z1)) n) (upper.above observed f) (bounds.below w b observed e f);
 }
-
--- where the second value is at most the upper sum nothing is separated
-pub not_separated : (ratio t q : ℤ) → pos 1000 ≤ℤ ratio → pos 0 ≤ℤ t → q ≤ℤ t → (pos 1000 *ℤ q) ≤ℤ (pos 64 *ℤ (ratio *ℤ t))
-not_separated ratio t q h g k = le_by (q ∷ ratio ∷ t ∷ []) (λ q r t. (nat 1000 ⊗ q, nat 64 ⊗ (r ⊗ t), nat 1000 ⊗ (t ⊖ q) ⊕ (nat 63 ⊗ nat 1000 ⊗ t ⊕ nat 64 ⊗ ((r ⊖ nat 1000) ⊗ t)))) refl
-    (both_nn (prod_nn (pos_nn 1000) (less_nn k)) (both_nn (prod_nn (pos_nn 63000) g) (prod_nn (pos_nn 64) (prod_nn (less_nn h) g))))

@@ -1,5 +1,5 @@
 -- The search in the form's own coordinates, where the map leaves every vector as it is.
-use Rattle.std.proofs.Common.{◌≡◌, ◌⊎◌, inl, inr, ⊎_elim, ℕ, ◌<◌, ◌≤◌, List, length, take, ℤ, pos, ◌<ℤ◌, arith, sym, ap, ◌∙◌, subst, Result, Ok, Err, IfOk, MatchResult}
+use Rattle.std.proofs.Common.{◌≡◌, ◌⊎◌, ⊎_elim, ℕ, ◌≤◌, List, length, take, ℤ, pos, ◌<ℤ◌, arith, sym, ap, ◌∙◌, subst, Result, Ok, Err, IfOk, MatchResult}
 use Rattle.whole_math.specs.Vectors.{len}
 use Rattle.whole_math.proofs.Vectors.{len_is}
 use Rattle.quadratic_form.specs.Rows.{value}
@@ -7,15 +7,13 @@ use Rattle.quadratic_form.specs.TwoLeast.{Before, Less}
 use Rattle.quadratic_form.proofs.VectorOrder.{less_never}
 use Rattle.integer_form.specs.declared.form.Form.{Form}
 use Rattle.integer_form.specs.Forms.{integers_of, columns_of, value_of}
-use Rattle.suffix_search.specs.PlainCount.{IsOver, IsWide, HasLarge}
 use Rattle.suffix_search.specs.Order.{IsLess}
-use Rattle.int_search.specs.Images.{image_of, IsMap}
+use Rattle.int_search.specs.Images.{image_of}
 use Rattle.int_search.specs.SearchedForm.{search_form}
-use Rattle.int_search.specs.Walk.{search_image, CanSearch, IsTooWide}
+use Rattle.int_search.specs.Walk.{search_image}
 use Rattle.int_search.specs.Answers.{IsAnswer, IsFault, IsTwoBest}
 use Rattle.int_search.specs.declared.answer.TwoBest.{TwoBest}
 use Rattle.int_search.specs.declared.answer.SearchFault.{SearchFault}
-use Rattle.int_search.specs.declared.answer.SearchFault.TheVariants.{Spent, Overwidth}
 use Rattle.int_search.proofs.SuffixArrays.{suffix-all}
 
 -- the map leaves every vector as it is
@@ -24,16 +22,6 @@ IsOwn map = (n : ℕ) (v : List ℤ) → n ≤ 40 → length v ≡ n → image_o
 
 own_image : (form : Form) (map : List (List ℤ)) (v : List ℤ) → IsOwn map → length v ≡ integers_of form → search_image form map v ≡ v
 own_image form map v o e = let m = form.columns_to in o (integers_of form) v (omega arith) e
-
-pub plain_can : (form : Form) (map : List (List ℤ)) → 4 < form.columns → IsMap map → IsOwn map → CanSearch form map
-plain_can form map h m o = record {
-  some = h;
-  map_in = m;
-  one_to_one = record {
-    entries = λ v e. ap length (own_image form map v o e) ∙ e;
-    apart = λ v w e g i. sym (own_image form map v o e) ∙ i ∙ own_image form map w o g;
-  };
-}
 
 -- the order by images is that by the vectors themselves
 own_less : (form : Form) (map : List (List ℤ)) (v w : List ℤ) → IsOwn map → length v ≡ integers_of form → length w ≡ integers_of form → IsLess (search_form form) (search_image form map) v w → Less (columns_of form) v w
@@ -78,17 +66,7 @@ plain_found form map b o a = record {
     others v e d f = ⊎_elim (λ (i : v ≡ a.one). absurd (d i)) (λ (t : (v ≡ a.two) ⊎ IsLess (search_form form) (search_image form map) a.two v).
         ⊎_elim (λ (i : v ≡ a.two). absurd (f i)) (λ (l : IsLess (search_form form) (search_image form map) a.two v). own_less form map a.two v o a.least.second_size e l) t) (a.least.others v e)
 
-pub plain_wide : (form : Form) (map : List (List ℤ)) → IsOwn map → IsTooWide (search_form form) (search_image form map) → IsWide (search_form form)
-plain_wide form map o (inl w) = w
-plain_wide form map o (inr w) = record { wide = inr (w.vector, (w.counted, subst HasLarge (own_image form map w.vector o w.full) w.large)) }
-
 -- ---- the answers of the search, in the form's own terms
 pub answer_found : (form : Form) (map : List (List ℤ)) (budget : ℕ) → IsOwn map → (r : Result TwoBest SearchFault) → MatchResult r (IsAnswer (search_form form) (search_image form map)) (IsFault (search_form form) (search_image form map) budget) → IfOk r (IsTwoBest form)
 answer_found form map budget o (Ok b) h = plain_found form map b o h
 answer_found form map budget o (Err e) h = tt
-
-pub answer_spent : (form : Form) (map : List (List ℤ)) (budget : ℕ) (r : Result TwoBest SearchFault) → MatchResult r (IsAnswer (search_form form) (search_image form map)) (IsFault (search_form form) (search_image form map) budget) → r ≡ Err Spent → IsOver (search_form form) budget
-answer_spent form map budget r h e = subst (λ (r : Result TwoBest SearchFault). MatchResult r (IsAnswer (search_form form) (search_image form map)) (IsFault (search_form form) (search_image form map) budget)) e h
-
-pub answer_wide : (form : Form) (map : List (List ℤ)) (budget : ℕ) → IsOwn map → (r : Result TwoBest SearchFault) → MatchResult r (IsAnswer (search_form form) (search_image form map)) (IsFault (search_form form) (search_image form map) budget) → r ≡ Err Overwidth → IsWide (search_form form)
-answer_wide form map budget o r h e = plain_wide form map o (subst (λ (r : Result TwoBest SearchFault). MatchResult r (IsAnswer (search_form form) (search_image form map)) (IsFault (search_form form) (search_image form map) budget)) e h)

@@ -9,10 +9,6 @@ use Rattle.int_search.specs.Vectors.{suffix}
 unfoldable cut : List ℤ → ℕ → ℕ → List ℤ
 cut z i n = drop i (take n z)
 
-cut_suc : (x : ℤ) (z : List ℤ) (i n : ℕ) → cut (x ∷ z) (suc i) (suc n) ≡ cut z i n
-unfolding cut
-cut_suc x z i n = refl
-
 cut_cons : (z : List ℤ) (i n : ℕ) → i < n → n ≤ length z → cut z i n ≡ get_or z i (pos 0) ∷ cut z (suc i) n
 unfolding cut
 cut_cons z i zero h k = absurd (omega arith)
@@ -48,10 +44,6 @@ drop_tail [] zero = refl
 drop_tail [] (suc i) = refl
 drop_tail (x ∷ l) zero = refl
 drop_tail (x ∷ l) (suc i) = drop_tail l i
-
-same : (z : List ℤ) (i n : ℕ) → suffix z i n ≡ cut z i n
-unfolding suffix cut
-same z i n = refl
 
 pub suffix-cons : (z : List ℤ) (i n : ℕ) → i < n → n ≤ length z → suffix z i n ≡ get_or z i (pos 0) ∷ suffix z (i + 1) n
 unfolding suffix cut

@@ -1,5 +1,5 @@
 -- What a turn does to the state.
-use Rattle.std.proofs.Common.{◌≡◌, inl, inr, ℕ, suc, ◌+◌, ◌-◌, ◌*◌, ◌<◌, ◌≤◌, ◌^◌, List, [], ◌∷◌, length, get_or, set, drop, ℤ, pos, ◌+ℤ◌, ◌-ℤ◌, ◌*ℤ◌, neg_ℤ, ◌<ℤ◌, ◌≤ℤ◌, Bool, true, false, arith, unsigned_abs, refl, ap, sym, ◌∙◌, subst, length-set}
+use Rattle.std.proofs.Common.{◌≡◌, ℕ, suc, ◌+◌, ◌-◌, ◌*◌, ◌<◌, ◌≤◌, ◌^◌, List, [], ◌∷◌, length, get_or, set, drop, ℤ, pos, ◌+ℤ◌, ◌-ℤ◌, ◌*ℤ◌, neg_ℤ, ◌<ℤ◌, ◌≤ℤ◌, Bool, true, false, arith, unsigned_abs, refl, ap, sym, ◌∙◌, subst, length-set}
 use Rattle.std.specs.Bool.{MatchBool}
 use Rattle.std.proofs.lemmas.Int.{ints}
 use Rattle.whole_math.proofs.Order.{polys}
@@ -12,7 +12,7 @@ use Rattle.suffix_search.specs.Search.{IsSearch, IsOffered}
 use Rattle.suffix_search.specs.LatestLevel.{IsLatest}
 use Rattle.suffix_search.specs.declared.stack.Level.{Level}
 use Rattle.suffix_search.proofs.SuffixLaws.{low-nil, low_from, value_from, weight_from, weight_to}
-use Rattle.suffix_search.proofs.SearchLaws.{search_pop, search_inner, search_leaf, search_over, search_wide, search_wide_image, search_start, search_done, offer_none}
+use Rattle.suffix_search.proofs.SearchLaws.{search_pop, search_inner, search_leaf, search_over, search_wide, search_wide_image, search_start, search_done}
 use Rattle.int_search.specs.Vectors.{IsSmall, Holds, suffix}
 use Rattle.int_search.specs.Steps.{IsFresh, Chooses, Moves, IsTermWithin}
 use Rattle.int_search.specs.Best.{HoldsBest, TakesOffer, KeepsBest}
@@ -284,18 +284,6 @@ walk_begins f b a size z st e g k es zr zs ss ee ge fr = record { begun = λ im 
         }
 
 -- ---- an offer
-pub offers_past : (f : SearchForm) (im : List ℤ → List ℤ) (w : Walk) (p : ℤ) → p ≡ value f.p (suffix w.z 0 f.size) → w.best.p2 <ℤ p → Offers f im w w
-offers_past f im w p e h = record {
-  size = refl;
-  z = refl;
-  stack = refl;
-  visits = refl;
-  taken = λ one two a b l k. record { new_one = one; new_two = two; best = k; offered = offer_none f im one two (suffix w.z 0 f.size) a b l (inr (inr (inl (step w.best.p2 (value f.p two) p (value f.p (suffix w.z 0 f.size)) k.p2 e h)))) };
-}
-  where
-    step : (a b c d : ℤ) → a ≡ b → c ≡ d → a <ℤ c → b <ℤ d
-    step a b c d e g h = omega (arith, ints)
-
 pub offers_best : (f : SearchForm) (im : List ℤ → List ℤ) (w : Walk) (p : ℤ) (y : List ℤ) (b : Best) → IsOneToOne f.size im → length (suffix w.z 0 f.size) ≡ f.size → p ≡ value f.p (suffix w.z 0 f.size) →
     KeepsBest f.size p y w.best b → Holds f.size y (im (suffix w.z 0 f.size)) → Offers f im w (record w { best = b })
 offers_best f im w p y b o l e k h = record {

@@ -22,10 +22,6 @@ pub ok_of : {T E : Type 0} → (r : Result T E) → (IsErr r → ⊥) → IsOk r
 ok_of (Ok x) h = refl
 ok_of (Err x) h = absurd (h refl)
 
-in_reach : (lo hi : ℤ) → neg_ℤ (pos (2 ^ 62)) ≤ℤ lo → hi ≤ℤ pos (2 ^ 62) → Past lo hi → ⊥
-in_reach lo hi h k (inl l) = omega (arith, ints)
-in_reach lo hi h k (inr l) = omega (arith, ints)
-
 corner_size : (e s : ℤ) → pos 0 ≤ℤ e → e ≤ℤ pos (2 ^ 55) → unsigned_abs s ≤ 2 ^ 61 → (neg_ℤ (pos (2 ^ 116)) ≤ℤ (e *ℤ s)) × ((e *ℤ s) ≤ℤ pos (2 ^ 116))
 corner_size e s h k l = go (e *ℤ s) (abs_mul_le e s (2 ^ 55) (2 ^ 61) (size e h k) l)
   where

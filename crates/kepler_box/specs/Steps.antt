@@ -17,10 +17,7 @@ IsAngle x = Within (pos (13 * 2 ^ 56)) x
 abbrev pub IsEccentricity : ℤ → Type 0
 IsEccentricity e = (pos 0 ≤ℤ e) × (e ≤ℤ pos (2 ^ 55))
 
--- how many rounds are made, and how far a further step leads at most
-abbrev pub rounds : ℕ
-rounds = 14
-
+-- how far a further step leads at most
 abbrev pub last_step : ℤ
 last_step = pos 3
 

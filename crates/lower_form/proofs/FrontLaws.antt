@@ -1,7 +1,7 @@
 -- The front of a normal matrix is that of its rows, so its form bounds the sum of squares over all data.
-use Rattle.std.proofs.Common.{◌≡◌, ℕ, ◌+◌, ◌-◌, ◌^◌, Bool, true, false, List, ℤ, pos, Result, Ok, Err, arith, sym, ap, ap₂, ◌∙◌, subst}
+use Rattle.std.proofs.Common.{◌≡◌, ℕ, ◌+◌, ◌-◌, ◌^◌, List, ℤ, pos, Ok, arith, sym, ap, ap₂, ◌∙◌, subst}
 use Rattle.quadratic_form.specs.Forms.{Column}
-use Rattle.quadratic_form.specs.Elimination.{Factor, Refusal, rounded, wide_entry, form_small, steps}
+use Rattle.quadratic_form.specs.Elimination.{Factor, rounded, steps}
 use Rattle.quadratic_form.specs.Rows.{SignalGroup, Radii, columns, matrix, bounding_form, first_rounding}
 use Rattle.quadratic_form.specs.Places.{form_from}
 use Rattle.quadratic_form.specs.MatrixEntries.{matrix_entry}
@@ -18,7 +18,7 @@ use Rattle.normal_sum.specs.declared.normal.Normal.{Normal}
 use Rattle.normal_sum.specs.Normals.{IsNormalOf}
 use Rattle.normal_sum.specs.Values.{form_of, radii_from}
 use Rattle.lower_form.specs.FirstRounding.{first_form}
-use Rattle.lower_form.specs.Fronts.{front_of, BoundsAllData}
+use Rattle.lower_form.specs.Fronts.{BoundsAllData}
 
 four_and : (n : ℕ) → columns n ≡ 4 + n
 four_and n = omega arith
@@ -45,14 +45,3 @@ bounds_all arcs scale pairs n h p k e = record {
 }
 
 -- ---- by the test of the first rounding
-abbrev Answer : Type 0
-Answer = Result (List Factor × List Column) Refusal
-
-abbrev tested : Answer → Bool → Answer
-tested r b = elim b as (λ x. Answer) [ true ↦ r | false ↦ Err wide_entry ]
-
-pub front_wide : (h : ℕ) (n : Normal) → form_small (first_form h n) ≡ false → front_of h n ≡ Err wide_entry
-front_wide h n e = ap (λ (b : Bool). tested (steps 0 3 (first_form h n)) b) e
-
-pub front_small : (h : ℕ) (n : Normal) → form_small (first_form h n) ≡ true → front_of h n ≡ steps 0 3 (first_form h n)
-front_small h n e = ap (λ (b : Bool). tested (steps 0 3 (first_form h n)) b) e

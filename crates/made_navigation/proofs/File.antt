@@ -48,9 +48,6 @@ ends_is : ends_header last_of_header ≡ true
 unfolding last_of_header trimmed
 ends_is = refl
 
-short_line : List ℕ → Type 0
-short_line line = length line ≤ 4096
-
 first_short : length first_of_header ≤ 4096
 unfolding first_of_header
 first_short = omega arith

@@ -19,11 +19,6 @@ last_at (e ∷ f ∷ es) (suc k) d is = last_at (f ∷ es) k d (omega arith)
 pub last_is : (xs ys : List Epoch) (k : ℕ) (e : Epoch) → ys ≡ xs → k + 1 ≡ length ys → e ≡ get_or ys k e → Some e.tag ≡ last_tag_of xs
 last_is xs ys k e same is there = rw (← same) (sym (last_at ys k e is ∙ ap (λ (x : Epoch). Some x.tag) (sym there)))
 
-pub last_tag_of-push : (xs : List Epoch) (e : Epoch) → last_tag_of (xs ++ e ∷ []) ≡ Some e.tag
-last_tag_of-push [] e = refl
-last_tag_of-push (x ∷ []) e = refl
-last_tag_of-push (x ∷ y ∷ xs) e = last_tag_of-push (y ∷ xs) e
-
 pub length-tags_of : (xs : List Epoch) → length (tags_of xs) ≡ length xs
 length-tags_of [] = refl
 length-tags_of (x ∷ xs) = ap suc (length-tags_of xs)

@@ -1,7 +1,7 @@
 -- What one more satellite adds to the counts.
 use Rattle.std.proofs.Common.{◌≡◌, ℕ, ◌+◌, ◌<◌, ◌≤◌, Bool, true, false, true≢false, not, ◌||◌, cond, nat_eq, List, [], ◌∷◌, ◌++◌, length, map, filter, refl, sym, ap, subst, ◌∙◌, arith, None, Some, unwrap_or, append_assoc, add-one, length-append, length-take, take, get_or, Option, inl, inr}
 use Rattle.std.specs.List.{list_any, IsDistinct, AllByRecursion}
-use Rattle.std.specs.Map.{lookup, keys_of}
+use Rattle.std.specs.Map.{lookup}
 use Rattle.std.proofs.lemmas.Bool.{eqb-true, eq-eqb}
 use Rattle.std.proofs.lemmas.Bool.Decides.{eqb_tells}
 use Rattle.std.proofs.lemmas.Grind.{flat_map-append}
@@ -70,10 +70,6 @@ any-first_seen n (x ∷ xs) =
 
 abbrev entries : (ℕ → ℕ) → List ℕ → List (ℕ × ℕ)
 entries f ns = map (λ n. (n, f n)) ns
-
-keys_of-entries : (f : ℕ → ℕ) (ns : List ℕ) → keys_of (entries f ns) ≡ ns
-keys_of-entries f [] = refl
-keys_of-entries f (x ∷ xs) = ap (λ l. x ∷ l) (keys_of-entries f xs)
 
 lookup-entries : (f : ℕ → ℕ) (n : ℕ) (ns : List ℕ) → lookup (nat_eq n) (entries f ns) ≡ cond (list_any (nat_eq n) ns) (Some (f n)) None
 lookup-entries f n [] = refl
@@ -178,16 +174,6 @@ seen_more es e ss s v fresh is =
     (first_seen-distinct (all_numbers before)) (omega arith)
     (λ m apart. epochs_with-push m es (with_sats e (ss ++ s ∷ [])) ∙ rw (has_same m ss s apart) (sym (epochs_with-push m es (with_sats e ss))))
     ∙ ap (λ l. entries (λ m. epochs_with m behind) l) (sym (first_seen-push (all_numbers before) s.number) ∙ ap first_seen (sym (numbers_more es e ss s)))
-
-entries-ext : (f g : ℕ → ℕ) → ((m : ℕ) → f m ≡ g m) → (ns : List ℕ) → entries f ns ≡ entries g ns
-entries-ext f g same [] = refl
-entries-ext f g same (x ∷ xs) = rw (same x) (ap (λ l. (x, g x) ∷ l) (entries-ext f g same xs))
-
--- an epoch without satellites counts for nothing
-pub seen_none : (es : List Epoch) (e : Epoch) → seen_in (es ++ with_sats e [] ∷ []) ≡ seen_in es
-seen_none es e =
-    rw (all_numbers-push es (with_sats e []) ∙ append-nil (all_numbers es))
-    (entries-ext (λ m. epochs_with m (es ++ with_sats e [] ∷ [])) (λ m. epochs_with m es) (λ m. omega (arith, epochs_with-push m es (with_sats e []))) (first_seen (all_numbers es)))
 
 -- a count that was looked up
 pub counted : (n r : ℕ) (found : Option ℕ) (es : List Epoch) (held : List (ℕ × ℕ)) → r ≡ unwrap_or found 0 → found ≡ lookup (nat_eq n) held → held ≡ seen_in es → r ≡ epochs_with n es

@@ -2,7 +2,7 @@
 use Rattle.std.proofs.Common.{◌≡◌, ℕ, zero, suc, ◌^◌, ◌-◌, ◌<◌, ◌≤◌, List, [], ◌∷◌, ◌++◌, drop, length, ℤ, pos, ◌+ℤ◌, ◌-ℤ◌, ◌*ℤ◌, ◌≤ℤ◌, ◌<ℤ◌, Ok, arith, sym, ap, ap₂, ◌∙◌, refl, subst}
 use Rattle.std.proofs.lemmas.Int.{by_lt_z, ints}
 use Rattle.whole_math.proofs.Ring.{◌⊕◌, ◌⊖◌, ◌⊗◌}
-use Rattle.whole_math.proofs.Order.{lins, square_nn, mul_le_cancel}
+use Rattle.whole_math.proofs.Order.{lins, mul_le_cancel}
 use Rattle.whole_math.specs.Rounding.{ceil_div}
 use Rattle.whole_math.proofs.Inequalities.{le_by, both_nn, prod_nn, less_nn, pos_nn, pos_one, later, strict, le_eq, same_by, nat}
 use Rattle.quadratic_form.proofs.StepsBelow.{steps_below}
@@ -11,23 +11,10 @@ use Rattle.quadratic_form.specs.Forms.{Column, Shaped, quad}
 use Rattle.quadratic_form.specs.Elimination.{kept, Factor, squares, steps}
 use Rattle.quadratic_form.specs.Rows.{value}
 use Rattle.quadratic_form.specs.TwoLeast.{TwoLeast}
-use Rattle.quadratic_form.specs.LowerSums.{offset, lower_sum, AllNonneg, Small, SmallList, SmallForm}
+use Rattle.quadratic_form.specs.LowerSums.{offset, lower_sum, Small, SmallList, SmallForm}
 use Rattle.whole_math.proofs.Rounding.{ceil_near, ceil_close}
 use Rattle.whole_math.proofs.Vectors.{len_nonneg, len_tail, len_apart}
 use Rattle.whole_math.specs.Vectors.{len, dot, zeros}
-
--- entries put before never lower the sum
-pub lower_sum_grows : (g : ℤ) (t s : List ℤ) (es fs : List Factor) → len es ≡ len t → AllNonneg es → lower_sum g fs s ≤ℤ lower_sum g (es ++ fs) (t ++ s)
-lower_sum_grows g [] s [] fs e h = same (lower_sum g fs s)
-  where
-    same : (a : ℤ) → a ≤ℤ a
-    same a = omega (arith, lins)
-lower_sum_grows g [] s (f ∷ es) fs e h = absurd (len_apart (len es) (len_nonneg es) (sym e))
-lower_sum_grows g (x ∷ t) s [] fs e h = absurd (len_apart (len t) (len_nonneg t) e)
-lower_sum_grows g (x ∷ t) s (f ∷ es) fs e h = step (lower_sum g fs s) (lower_sum g (es ++ fs) (t ++ s)) f.d (offset f x (t ++ s)) (lower_sum_grows g t s es fs (len_tail (len es) (len t) e) h.1) h.0
-  where
-    step : (a b d c : ℤ) → a ≤ℤ b → pos 0 ≤ℤ d → a ≤ℤ (b +ℤ d *ℤ (c *ℤ c))
-    step a b d c h k = le_by (a ∷ b ∷ d ∷ c ∷ []) (λ a b d c. (a, b ⊕ d ⊗ (c ⊗ c), b ⊖ a ⊕ d ⊗ (c ⊗ c))) refl (both_nn (less_nn h) (prod_nn k (square_nn c)))
 
 low_is : (g : ℤ) (fs : List Factor) (z : List ℤ) → len fs ≡ len z → lower_sum g fs z ≡ squares fs (z ++ (pos 1 ∷ [])) +ℤ pos (2 ^ 60) *ℤ g
 low_is g [] [] e = same_by (g ∷ []) (λ g. (nat (2 ^ 60) ⊗ g, nat 0 ⊕ nat (2 ^ 60) ⊗ g)) refl

@@ -93,11 +93,6 @@ pub len_apply : (rs : List (List ℤ)) (z : List ℤ) → len (apply rs z) ≡ l
 len_apply [] z = refl
 len_apply (r ∷ rs) z = ap (λ n. pos 1 +ℤ n) (len_apply rs z)
 
-len_more : (ks : List ℤ) (y : ℤ) (v : List ℤ) → len (more_each ks y v) ≡ len v
-len_more ks y [] = refl
-len_more [] y (x ∷ v) = refl
-len_more (k ∷ ks) y (x ∷ v) = ap (λ n. pos 1 +ℤ n) (len_more ks y v)
-
 len_less : (ks : List ℤ) (y : ℤ) (v : List ℤ) → len (less_each ks y v) ≡ len v
 len_less ks y [] = refl
 len_less [] y (x ∷ v) = refl

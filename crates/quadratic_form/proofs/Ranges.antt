@@ -3,20 +3,10 @@ use Rattle.std.proofs.Common.{◌≡◌, ℕ, zero, suc, ◌^◌, ◌-◌, ◌<�
 use Rattle.std.proofs.lemmas.Int.{ints}
 use borrow.Author.Tests.{ltb-true}
 use Rattle.quadratic_form.specs.Forms.{Column}
-use Rattle.quadratic_form.specs.Elimination.{kept, Factor, Refusal, wide_entry, all_small, form_small, step, with_factor, steps}
-use Rattle.quadratic_form.specs.Rows.{SignalGroup, first_rounding}
+use Rattle.quadratic_form.specs.Elimination.{kept, Factor, Refusal, all_small, form_small, step, with_factor, steps}
 use Rattle.quadratic_form.specs.LowerSums.{Small, SmallList, SmallForm}
-use Rattle.quadratic_form.specs.Lowering.{front}
 use Rattle.quadratic_form.proofs.LowerSums.{d_range}
 use Rattle.quadratic_form.proofs.StepsBelow.{Taken, step_taken}
-
--- an answer of the front is one of its three steps
-pub front_steps : (h i : ℕ) (gs : List SignalGroup) (p : List Factor × List Column) → front h i gs ≡ Ok p → steps 0 3 (first_rounding h i gs) ≡ Ok p
-front_steps h i gs p e = go (form_small (first_rounding h i gs)) e
-  where
-    go : (t : Bool) → elim t as (λ b. Result (List Factor × List Column) Refusal) [ true ↦ steps 0 3 (first_rounding h i gs) | false ↦ Err wide_entry ] ≡ Ok p → steps 0 3 (first_rounding h i gs) ≡ Ok p
-    go true e = e
-    go false e = absurd cc
 
 -- ---- the tests
 both : (a b : Bool) → (a && b) ≡ true → (a ≡ true) × (b ≡ true)

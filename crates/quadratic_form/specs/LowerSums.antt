@@ -1,8 +1,7 @@
 -- The lower sums of the search over integer vectors.
-use Rattle.std.specs.Prelude.{◌≡◌, ◌⊎◌, ◌^◌, List, [], ◌∷◌, ◌++◌, ℤ, pos, ◌+ℤ◌, ◌*ℤ◌, neg_ℤ, ◌≤ℤ◌, ◌<ℤ◌}
+use Rattle.std.specs.Prelude.{◌^◌, List, [], ◌∷◌, ◌++◌, ℤ, pos, ◌+ℤ◌, ◌*ℤ◌, neg_ℤ, ◌<ℤ◌}
 use Rattle.quadratic_form.specs.Forms.{Column}
 use Rattle.quadratic_form.specs.Elimination.{Factor}
-use Rattle.quadratic_form.specs.TwoLeast.{Less}
 use Rattle.whole_math.specs.Vectors.{dot}
 
 -- 2^30 times the distance of x from the centre that the later entries give
@@ -15,10 +14,6 @@ lower_sum g [] s = pos (2 ^ 60) *ℤ g
 lower_sum g (f ∷ fs) [] = pos (2 ^ 60) *ℤ g
 lower_sum g (f ∷ fs) (x ∷ s) = lower_sum g fs s +ℤ f.d *ℤ (offset f x s *ℤ offset f x s)
 
-abbrev pub AllNonneg : List Factor → Type 0
-AllNonneg [] = Unit {0}
-AllNonneg (f ∷ fs) = (pos 0 ≤ℤ f.d) × AllNonneg fs
-
 -- each entry is below 2^52 in size
 abbrev pub Small : ℤ → Type 0
 Small x = (neg_ℤ (pos (2 ^ 52)) <ℤ x) × (x <ℤ pos (2 ^ 52))
@@ -30,7 +25,3 @@ SmallList (x ∷ s) = Small x × SmallList s
 abbrev pub SmallForm : List Column → Type 0
 SmallForm [] = Unit {0}
 SmallForm (c ∷ a) = Small c.own × SmallList c.others × SmallForm a
-
--- a vector that can no longer change the two best
-abbrev pub Settled : List Column → List ℤ → List ℤ → List ℤ → Type 0
-Settled p first second v = (v ≡ first) ⊎ ((v ≡ second) ⊎ Less p second v)

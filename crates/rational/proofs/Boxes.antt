@@ -3,15 +3,8 @@ use Rattle.std.proofs.Common.{ℕ, ◌^◌, ℤ, pos, ◌+ℤ◌, ◌-ℤ◌, �
 use Rattle.whole_math.proofs.IntLaws.{neg_mul_ℤ}
 use Rattle.whole_math.proofs.Order.{lins, mul_le_right, mul_le_cancel}
 use Rattle.whole_math.proofs.Inequalities.{pos_nn}
-use Rattle.rational.specs.Rational.{Rational, ◌≈◌, ◌≤ʳ◌, of_whole, neg_r, InBox, Near, of_scale}
+use Rattle.rational.specs.Rational.{Rational, ◌≈◌, of_whole, neg_r, InBox, Near, of_scale}
 use Rattle.rational.proofs.Laws.{≈_sym, ≤ʳ_trans, ≤ʳ_from_same}
-
--- a box is an order with its two ends, by definition
-pub InBox-ends : (k : ℕ) (lo hi : ℤ) (q : Rational) → InBox k lo hi q → (of_scale k lo ≤ʳ q) × (q ≤ʳ of_scale k hi)
-InBox-ends k lo hi q h = h
-
-pub InBox-of_ends : (k : ℕ) (lo hi : ℤ) (q : Rational) → of_scale k lo ≤ʳ q → q ≤ʳ of_scale k hi → InBox k lo hi q
-InBox-of_ends k lo hi q h g = (h, g)
 
 -- ---- equal rationals lie in the same boxes
 pub InBox-along : (k : ℕ) (lo hi : ℤ) (p q : Rational) → p ≈ q → InBox k lo hi p → InBox k lo hi q

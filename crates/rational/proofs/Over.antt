@@ -1,9 +1,9 @@
 -- Rationals over one denominator: sums, products, orders and boxes are those of the numerators.
 use Rattle.std.proofs.Common.{◌≡◌, List, subst, lit<, ℕ, ◌*◌, ◌<◌, [], ◌∷◌, ℤ, pos, ◌+ℤ◌, ◌-ℤ◌, ◌*ℤ◌, neg_ℤ, ◌≤ℤ◌, ◌<ℤ◌, mul-pos, sym, ap, ap₂, ◌∙◌, refl}
 use Rattle.whole_math.proofs.Ring.{◌⊕◌, ◌⊖◌, ◌⊗◌, ng}
-use Rattle.whole_math.proofs.Order.{mul_le_cancel, mul_lt_cancel, mul_eq_cancel}
+use Rattle.whole_math.proofs.Order.{mul_le_cancel, mul_lt_cancel}
 use Rattle.whole_math.proofs.Inequalities.{le_by, both_nn, prod_nn, less_nn, pos_nn, le_eq, pos_one, one_nn, later, strict, same_by, nat}
-use Rattle.rational.specs.Rational.{Rational, ◌≈◌, ◌≤ʳ◌, ◌<ʳ◌, of_whole, Near, add_r, sub_r, mul_r}
+use Rattle.rational.specs.Rational.{Rational, ◌≤ʳ◌, ◌<ʳ◌, of_whole, Near, add_r, sub_r, mul_r}
 use Rattle.whole_math.specs.Bounds.{Within}
 use Rattle.whole_math.specs.Vectors.{scaled}
 use Rattle.rational.specs.Over.{AreOver, HasCommonDenominator}
@@ -97,16 +97,6 @@ over_box k n c r q h e i = step k n c r q.num q.den q.positive h e i.0 i.1
       mul_le_cancel (neg_ℤ (k *ℤ r)) (n -ℤ (k *ℤ c)) d h₀ (le_by (k ∷ r ∷ pos d ∷ n ∷ c ∷ a ∷ []) (λ k r d n c a. (ng (k ⊗ r) ⊗ d, (n ⊖ k ⊗ c) ⊗ d, n ⊗ d ⊖ a ⊗ k ⊕ k ⊗ (a ⊗ nat 1 ⊖ (c ⊖ r) ⊗ d))) refl (both_nn (less_nn (le_eq e)) (prod_nn h (less_nn i)))),
       mul_le_cancel (n -ℤ (k *ℤ c)) (k *ℤ r) d h₀ (le_by (n ∷ k ∷ c ∷ pos d ∷ r ∷ a ∷ []) (λ n k c d r a. ((n ⊖ k ⊗ c) ⊗ d, k ⊗ r ⊗ d, a ⊗ k ⊖ n ⊗ d ⊕ k ⊗ ((c ⊕ r) ⊗ d ⊖ a ⊗ nat 1))) refl (both_nn (less_nn (le_eq (sym e))) (prod_nn h (less_nn j)))),
     )
-
--- an equal rational is the same fraction
-pub over_along : (k n : ℤ) (p q : Rational) → p ≈ q → Over k n p → Over k n q
-over_along k n p q e h = mul_eq_cancel (q.num *ℤ k) (n *ℤ pos q.den) p.den p.positive (left ∙ ap (λ z. z *ℤ pos q.den) h ∙ right)
-  where
-    left : q.num *ℤ k *ℤ pos p.den ≡ p.num *ℤ k *ℤ pos q.den
-    left = same_by (q.num ∷ k ∷ pos p.den ∷ []) (λ a k d. (a ⊗ k ⊗ d, k ⊗ (a ⊗ d))) refl ∙ ap (λ z. k *ℤ z) (sym e) ∙ same_by (p.num ∷ k ∷ pos q.den ∷ []) (λ a k d. (k ⊗ (a ⊗ d), a ⊗ k ⊗ d)) refl
-
-    right : n *ℤ pos p.den *ℤ pos q.den ≡ n *ℤ pos q.den *ℤ pos p.den
-    right = same_by (n ∷ pos p.den ∷ pos q.den ∷ []) (λ n d e. (n ⊗ d ⊗ e, n ⊗ e ⊗ d)) refl
 
 -- ---- one denominator for a list: the product of all
 all_wide : (j k : ℤ) (ns : List ℤ) (qs : List Rational) → AreOver j ns qs → AreOver (j *ℤ k) (scaled k ns) qs

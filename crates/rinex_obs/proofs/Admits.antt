@@ -1,36 +1,13 @@
 -- What one line gives where the state is held open.
-use Rattle.std.proofs.Common.{◌≡◌, ◌<◌, ◌≤◌, ◌-◌, ℕ, zero, suc, Bool, List, [], ◌∷◌, ◌++◌, Result, Ok, Err, Option, Some, None, refl, sym, ap, ◌∙◌, arith}
+use Rattle.std.proofs.Common.{◌≡◌, ◌<◌, ◌≤◌, ◌-◌, ℕ, zero, suc, Bool, List, [], ◌∷◌, ◌++◌, refl, sym, ap, ◌∙◌, arith}
 use Rattle.gps_time.specs.declared.Tick.{Tick}
 use Rattle.obs_store.specs.declared.series.Epoch.{Epoch}
 use Rattle.obs_store.specs.declared.values.SatObs.{SatObs}
-use Rattle.rinex_head.specs.declared.place.Flaw.{Flaw}
 use Rattle.rinex_head.specs.declared.place.TextFault.{TextFault}
 use Rattle.rinex_head.specs.declared.place.TextFault.TheVariants.{Refused, NoMemory}
-use Rattle.rinex_head.specs.Places.{and_then, at_line, place}
 use Rattle.rinex_obs.specs.declared.header.Header.{Header}
-use Rattle.rinex_obs.specs.declared.types.TypeList.{TypeList}
-use Rattle.rinex_obs.specs.ObsRules.{HeaderSoFar, Expected, Head, More, Body, Sats, Skip, with_types, more_types, more_sats, more_lines, epoch_of}
-use Rattle.rinex_obs.specs.Opened.{in_header}
+use Rattle.rinex_obs.specs.ObsRules.{HeaderSoFar, Head, More, Body, Sats, Skip, with_types, more_types, more_sats, more_lines, epoch_of}
 use Rattle.rinex_obs.specs.Feeding.{Takes}
-
-pub then_ok : {A B E : Type 0} (part : Result A E) (f : A → Result B E) (x : A) (y : B) → Ok x ≡ part → f x ≡ Ok y → and_then part f ≡ Ok y
-then_ok part f x y is gives = rw (← is) gives
-
-pub then_fails : {A B E : Type 0} (part : Result A E) (f : A → Result B E) (x : A) (e : E) → Ok x ≡ part → f x ≡ Err e → and_then part f ≡ Err e
-then_fails part f x e is gives = rw (← is) gives
-
-pub part_fails : {A B E : Type 0} (part : Result A E) (f : A → Result B E) (e : E) → Err e ≡ part → and_then part f ≡ Err e
-part_fails part f e is = rw (← is) refl
-
--- a flaw at its line
-pub takes_flaw : (given : Result Expected Flaw) (number : ℕ) (flaw : Flaw) → given ≡ Err flaw → at_line number given ≡ Err (place number flaw.column flaw.what)
-takes_flaw given number flaw is = rw is refl
-
-pub in_list : (h : HeaderSoFar) (held : Option TypeList) (list : TypeList) → held ≡ Some list → in_header h held ≡ More h list.names list.left
-in_list h held list is = rw is refl
-
-pub in_no_list : (h : HeaderSoFar) (held : Option TypeList) → held ≡ None → in_header h held ≡ Head h
-in_no_list h held is = rw is refl
 
 pub types_due : (h : HeaderSoFar) (names : List (List ℕ)) (n : ℕ) → 0 < n → more_types h names n ≡ More h names n
 types_due h names zero some = absurd (omega arith)

@@ -1,8 +1,7 @@
 -- The lines of a text that is taken in pieces.
-use Rattle.std.proofs.Common.{◌≡◌, ◌<◌, ◌≤◌, ◌+◌, ◌-◌, ◌==◌, nat_lt, ℕ, zero, suc, Bool, true, false, List, [], ◌∷◌, ◌++◌, length, take, drop, get_or, slice_index, Result, Ok, Err, OnOk, IfErr, refl, sym, ap, ◌∙◌, arith, append_assoc, length-append, length-take, add-one, drop-cons}
+use Rattle.std.proofs.Common.{◌≡◌, ◌<◌, ◌≤◌, ◌+◌, ◌-◌, ◌==◌, nat_lt, ℕ, zero, Bool, true, false, List, [], ◌∷◌, ◌++◌, length, take, drop, slice_index, Result, Ok, Err, OnOk, IfErr, refl, sym, ap, ◌∙◌, arith, append_assoc, length-append, length-take, add-one}
 use Rattle.std.proofs.lemmas.Bool.Decides.{nat_tests}
 use Rattle.std.proofs.lemmas.List.{append-nil}
-use Rattle.std.proofs.Math.Seq.{take-suc}
 use Rattle.std.specs.Str.Lines.{strip_carriage_return}
 use Rattle.line_source.specs.Lines.{lines_from, lines_of}
 use Rattle.rinex_head.specs.declared.place.At.{At}
@@ -31,19 +30,6 @@ ends_byte b rest line feed = rw feed refl
 -- so many bytes belong to the line
 abbrev pub GoesSoFar : List ℕ → ℕ → Type 0
 GoesSoFar bytes i = (line more : List ℕ) → lines_from (bytes ++ more) line ≡ lines_from (drop i bytes ++ more) (line ++ take i bytes)
-
-pub goes_further : (bytes : List ℕ) (i : ℕ) → i < length bytes → (get_or bytes i 0 == 10) ≡ false → GoesSoFar bytes i → GoesSoFar bytes (suc i)
-goes_further bytes i less other so_far = λ line more.
-    so_far line more
-    ∙ ap (λ (l : List ℕ). lines_from (l ++ more) (line ++ take i bytes)) (drop-cons bytes i 0 less)
-    ∙ goes_byte (get_or bytes i 0) (drop (suc i) bytes ++ more) (line ++ take i bytes) other
-    ∙ ap (λ (l : List ℕ). lines_from (drop (suc i) bytes ++ more) l) (append_assoc line (take i bytes) (get_or bytes i 0 ∷ []) ∙ ap (λ (l : List ℕ). line ++ l) (sym (take-suc bytes i 0 less)))
-
-pub ends_there : (bytes : List ℕ) (i : ℕ) → i < length bytes → (get_or bytes i 0 == 10) ≡ true → GoesSoFar bytes i → EndsLine bytes (take i bytes) (drop (suc i) bytes)
-ends_there bytes i less feed so_far = λ line more.
-    so_far line more
-    ∙ ap (λ (l : List ℕ). lines_from (l ++ more) (line ++ take i bytes)) (drop-cons bytes i 0 less)
-    ∙ ends_byte (get_or bytes i 0) (drop (suc i) bytes ++ more) (line ++ take i bytes) feed
 
 -- ---- lines that are too long
 

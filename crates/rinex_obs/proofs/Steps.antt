@@ -1,5 +1,5 @@
 -- What one line gives in its place.
-use Rattle.std.proofs.Common.{◌≡◌, ◌<◌, ◌≤◌, ◌-◌, ℕ, zero, suc, Bool, true, false, List, [], ◌∷◌, ◌++◌, length, Result, Ok, Err, Option, Some, None, refl, sym, ap, ◌∙◌, arith, is_some}
+use Rattle.std.proofs.Common.{◌≡◌, ◌<◌, ◌-◌, ℕ, zero, suc, Bool, true, false, List, [], ◌∷◌, ◌++◌, length, Result, Ok, Err, Option, Some, None, refl, sym, ap, ◌∙◌, arith, is_some}
 use Rattle.gps_time.specs.declared.Tick.{Tick}
 use Rattle.obs_store.specs.declared.series.Epoch.{Epoch}
 use Rattle.obs_store.specs.declared.values.SatObs.{SatObs}
@@ -21,10 +21,6 @@ pub admit_more : (h : HeaderSoFar) (names : List (List ℕ)) (n : ℕ) (bytes : 
 admit_more h names zero bytes some = absurd (omega arith)
 admit_more h names (suc n) bytes some = refl
 
-pub none_more : (h : HeaderSoFar) (names : List (List ℕ)) (n : ℕ) → n ≤ 0 → more_types h names n ≡ more_types h names 0
-none_more h names zero none = refl
-none_more h names (suc n) none = absurd (omega arith)
-
 pub finish_sats : (h : Header) (epochs : List Epoch) (tag : Tick) (power : Bool) (sats : List SatObs) (n : ℕ) → 0 < n → finish (more_sats h epochs tag power sats n) ≡ flawed 1 Truncated
 finish_sats h epochs tag power sats zero some = absurd (omega arith)
 finish_sats h epochs tag power sats (suc n) some = refl
@@ -37,10 +33,6 @@ admit_sats h epochs tag power sats (suc n) bytes some = refl
 pub admit_kept : (kept : List KeptType) (h : Header) (epochs : List Epoch) (tag : Tick) (power : Bool) (sats : List SatObs) (n : ℕ) (bytes : List ℕ) → kept ≡ kept_from 0 h.types → 0 < n → admit (more_sats h epochs tag power sats n) bytes ≡ and_then (satellite_line_of kept sats bytes) (λ s. Ok (more_sats h epochs tag power (with_satellite sats s) (n - 1)))
 admit_kept kept h epochs tag power sats n bytes same some = rw same (admit_sats h epochs tag power sats n bytes some)
 
-pub none_sats : (h : Header) (epochs : List Epoch) (tag : Tick) (power : Bool) (sats : List SatObs) (n : ℕ) → n ≤ 0 → more_sats h epochs tag power sats n ≡ more_sats h epochs tag power sats 0
-none_sats h epochs tag power sats zero none = refl
-none_sats h epochs tag power sats (suc n) none = absurd (omega arith)
-
 pub finish_lines : (h : Header) (epochs : List Epoch) (changes : Bool) (n : ℕ) → 0 < n → finish (more_lines h epochs changes n) ≡ flawed 1 Truncated
 finish_lines h epochs changes zero some = absurd (omega arith)
 finish_lines h epochs changes (suc n) some = refl
@@ -48,10 +40,6 @@ finish_lines h epochs changes (suc n) some = refl
 pub admit_lines : (h : Header) (epochs : List Epoch) (changes : Bool) (n : ℕ) (bytes : List ℕ) → 0 < n → admit (more_lines h epochs changes n) bytes ≡ and_then (event_line_of changes bytes) (λ u. Ok (more_lines h epochs changes (n - 1)))
 admit_lines h epochs changes zero bytes some = absurd (omega arith)
 admit_lines h epochs changes (suc n) bytes some = refl
-
-pub none_lines : (h : Header) (epochs : List Epoch) (changes : Bool) (n : ℕ) → n ≤ 0 → more_lines h epochs changes n ≡ Body h epochs
-none_lines h epochs changes zero none = refl
-none_lines h epochs changes (suc n) none = absurd (omega arith)
 
 pub types_twice : (h : HeaderSoFar) (bytes : List ℕ) → is_some h.types ≡ true → after_header h bytes header.Types ≡ flawed 1 Types
 types_twice h bytes is = by_types h.types refl is

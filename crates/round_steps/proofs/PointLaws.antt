@@ -1,24 +1,12 @@
 -- Sizes of moves and of points.
-use Rattle.std.proofs.Common.{◌≡◌, ℕ, zero, suc, ◌*◌, ◌^◌, ◌<◌, ◌≤◌, List, [], ◌∷◌, length, get_or, refl, ℤ, pos, ◌+ℤ◌, ◌*ℤ◌, ◌≤ℤ◌, unsigned_abs, arith, to_z, of_z}
+use Rattle.std.proofs.Common.{◌≡◌, ℕ, zero, suc, ◌*◌, ◌^◌, ◌<◌, ◌≤◌, List, [], ◌∷◌, length, get_or, ℤ, pos, ◌+ℤ◌, ◌*ℤ◌, ◌≤ℤ◌, unsigned_abs, arith, to_z, of_z}
 use Rattle.std.proofs.lemmas.Int.{ints}
 use Rattle.std.specs.Int.{w64, w128}
-use Rattle.whole_math.specs.Rounding.{IsNearest}
 use Rattle.whole_math.specs.Vectors.{squared_norm}
 use Rattle.whole_math.proofs.Absolute.{abs_square}
 use Rattle.whole_math.proofs.Order.{square_nn, lins}
 use Rattle.obs_rows.specs.Ranges.{IsPoint}
 use Rattle.round_steps.specs.Points.{IsReceiverPoint}
-
--- a move is short
-pub short_move : (n q : ℤ) → unsigned_abs n ≤ 2 ^ 46 * (2 ^ 14 * 299792458) → IsNearest n 9679380480 q → unsigned_abs q < 2 ^ 58
-short_move n q h g = omega (arith, ints)
-
-pub three_is : {A : Type 0} (s : List A) (d : A) → length s ≡ 3 → s ≡ get_or s 0 d ∷ get_or s 1 d ∷ get_or s 2 d ∷ []
-three_is [] d h = absurd (omega arith)
-three_is (a ∷ []) d h = absurd (omega arith)
-three_is (a ∷ b ∷ []) d h = absurd (omega arith)
-three_is (a ∷ b ∷ c ∷ []) d h = refl
-three_is (a ∷ b ∷ c ∷ x ∷ s) d h = absurd (omega arith)
 
 -- a number whose square is at most that of m is at most m in size
 square_root : (m n : ℕ) → n * n ≤ m * m → n ≤ m

@@ -1,5 +1,5 @@
 -- Runs, round by round.
-use Rattle.std.proofs.Common.{◌≡◌, ℕ, ◌+◌, ◌-◌, ◌*◌, ◌^◌, ◌<◌, inl, inr, false, Bool, cond, nat_eq, Option, Some, List, [], ◌∷◌, ℤ, arith, sym, ap, ap₂, ◌∙◌, refl, subst}
+use Rattle.std.proofs.Common.{◌≡◌, ℕ, ◌+◌, ◌-◌, ◌*◌, ◌^◌, ◌<◌, inl, inr, false, Bool, cond, nat_eq, Option, Some, List, [], ◌∷◌, ℤ, arith, sym, ap, ◌∙◌, refl, subst}
 use Rattle.std.proofs.lemmas.Bool.Decides.{nat_tests}
 use Rattle.std.proofs.lemmas.List.Sums.{sum_by-cons}
 use Rattle.obs_rows.specs.declared.arcs.Arc.{Arc}
@@ -59,9 +59,6 @@ pub record CoarseSoFar (rules : Rules) (point : List ℤ) (arcs : List Arc) (lef
   pub none_fine : rounds_at 0 before ≡ 0
   pub in_reach : IsReceiverPoint point
 
-pub coarse_begins : (rules : Rules) (point : List ℤ) (arcs : List Arc) → point ≡ rules.base → arcs ≡ rules.arcs → IsReceiverPoint point → CoarseSoFar rules point arcs 9
-coarse_begins rules point arcs e g h = record { before = []; run = ap₂ coarse e g; count = refl; none_fine = refl; in_reach = h }
-
 coarse_reached : (rules : Rules) (point : List ℤ) (arcs : List Arc) (left : ℕ) (h : CoarseSoFar rules point arcs left) → Reaches rules h.before (coarse point arcs)
 coarse_reached rules point arcs left h = record { run = h.run; allowed = below (rounds_at 14 h.before) left h.count }
   where
@@ -73,9 +70,6 @@ coarse_session rules point arcs left h s k = subst (Reaches rules h.before) (sym
 
 coarse_last : (rules : Rules) (point : List ℤ) (arcs : List Arc) (left : ℕ) (h : CoarseSoFar rules point arcs left) (s : Session) → IsSessionOf rules (coarse point arcs) s → is_last s.scale h.before ≡ nat_eq left 0
 coarse_last rules point arcs left h s k = ap (λ (n : ℕ). is_last n h.before) (scale_is rules (coarse point arcs) s k) ∙ last_coarse (rounds_at 14 h.before) left h.count
-
-pub coarse_at_y : (rules : Rules) (point : List ℤ) (arcs : List Arc) (left : ℕ) → CoarseSoFar rules point arcs left → rules.may_be_wide (coarse point arcs) → EndsEarly rules Coarse (Tail.Overwidth Place.Y)
-coarse_at_y rules point arcs left h w = inl (refl, record { before = h.before; round = coarse point arcs; scale_is = refl; reached = coarse_reached rules point arcs left h; wide = w })
 
 pub coarse_declines : (rules : Rules) (point : List ℤ) (arcs : List Arc) (left : ℕ) (s : Session) (tail : Tail) → CoarseSoFar rules point arcs left → IsSessionOf rules (coarse point arcs) s → IsRoundDeclined (nat_eq left 0) s tail → EndsEarly rules Coarse tail
 coarse_declines rules point arcs left s tail h k d = inr (

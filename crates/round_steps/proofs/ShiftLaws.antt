@@ -46,9 +46,6 @@ last_push : (xs : List Arc) (y : Arc) → slice_get (xs ++ y ∷ []) (length xs)
 last_push [] y = refl
 last_push (x ∷ xs) y = last_push xs y
 
-pub none_grown : (arcs : List Arc) (x : List ℤ) → AreGrownTo 0 arcs x []
-none_grown arcs x = record { as_many = refl; each = λ j a h e. absurd (omega arith) }
-
 length_push : (xs : List Arc) (y : Arc) → length (xs ++ y ∷ []) ≡ length xs + 1
 length_push [] y = refl
 length_push (x ∷ xs) y = let e : length (xs ++ y ∷ []) ≡ length xs + 1 = length_push xs y in omega arith

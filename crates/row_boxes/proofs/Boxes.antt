@@ -73,12 +73,6 @@ pseudorange_holds rl rh tl th f g r t k l h i =
 whole_in : (a : ℤ) → InBox 0 a a (of_whole a)
 whole_in a = (le_refl_ℤ (a *ℤ pos 1), le_refl_ℤ (a *ℤ pos 1))
 
-pub observed_l1 : (a f g : ℤ) → IsFloor (a *ℤ pos 62914560) 1000 f → IsCeil (a *ℤ pos 62914560) 1000 g → InBox 20 f g (observed 0 a)
-observed_l1 a f g k l = scaled_box 0 20 a a (pos 62914560) f g 1000 (thousandth 0) (of_whole a) (lit< tt) (pos_nn 62914560) refl k l (whole_in a)
-
-pub observed_l2 : (a f g : ℤ) → IsFloor (a *ℤ pos 80740352) 1000 f → IsCeil (a *ℤ pos 80740352) 1000 g → InBox 20 f g (observed 1 a)
-observed_l2 a f g k l = scaled_box 0 20 a a (pos 80740352) f g 1000 (thousandth 1) (of_whole a) (lit< tt) (pos_nn 80740352) refl k l (whole_in a)
-
 pub observed_code : (s : ℕ) (a f g : ℤ) → 2 ≤ s → s < 4 → IsFloor (a *ℤ pos (47262600 * 2 ^ 20)) 149896229 f → IsCeil (a *ℤ pos (47262600 * 2 ^ 20)) 149896229 g → InBox 20 f g (observed s a)
 observed_code s a f g m n k l = ⊎_elim (λ (e : s ≡ 2). subst (λ (i : ℕ). InBox 20 f g (observed i a)) (sym e) (code2)) (λ (e : s ≡ 3). subst (λ (i : ℕ). InBox 20 f g (observed i a)) (sym e) (code3)) (which s m n)
   where

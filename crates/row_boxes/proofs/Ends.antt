@@ -8,9 +8,6 @@ use Rattle.whole_math.specs.Rounding.{IsFloor, IsCeil}
 use Rattle.obs_rows.specs.Ranges.{IsScale}
 
 -- ---- as the code reads them
-pub plain : (x : ℤ) → neg_ℤ (pos (2 ^ 100)) ≤ℤ x → x ≤ℤ pos (2 ^ 100) → to_z w128 (of_z w128 x) ≡ x
-plain x h k = omega (arith, ints)
-
 pub plain64 : (x : ℤ) → neg_ℤ (pos (2 ^ 62)) ≤ℤ x → x ≤ℤ pos (2 ^ 62) → to_z w64 (of_z w64 x) ≡ x
 plain64 x h k = omega (arith, ints)
 
@@ -19,10 +16,6 @@ plain_size x m h k = omega (arith, ints)
 
 pub read_small : (x : ℤ) → unsigned_abs x < 2 ^ 48 → to_z w64 (of_z w64 x) ≡ x
 read_small x h = omega (arith, ints)
-
--- a size by its two bounds
-pub size_of : (x : ℤ) (m : ℕ) → neg_ℤ (pos m) ≤ℤ x → x ≤ℤ pos m → unsigned_abs x ≤ m
-size_of x m h k = omega (arith, ints)
 
 pub through : (x y z : ℤ) → x ≤ℤ y → y ≤ℤ z → x ≤ℤ z
 through x y z h k = omega (arith, ints)
@@ -45,18 +38,6 @@ pseudorange_narrow f g v w h k l = step h k.1 l.1
   where
     step : (w -ℤ v) ≤ℤ pos (2 ^ 43 + 2 ^ 10 * 299792458) → (v *ℤ pos 47262600000) <ℤ (f *ℤ pos (149896229 * 2 ^ 40) +ℤ pos (149896229 * 2 ^ 40)) → (g *ℤ pos (149896229 * 2 ^ 40)) <ℤ (w *ℤ pos 47262600000 +ℤ pos (149896229 * 2 ^ 40)) → (g -ℤ f) ≤ℤ pos 2612
     step h k l = omega (arith, ints)
-
-pub pseudorange_low : (f v : ℤ) → unsigned_abs v ≤ 2 ^ 86 + 2 ^ 83 → IsFloor (v *ℤ pos 47262600000) (149896229 * 2 ^ 40) f → neg_ℤ (pos (2 ^ 55)) ≤ℤ f
-pseudorange_low f v h k = step h k.1
-  where
-    step : unsigned_abs v ≤ 2 ^ 86 + 2 ^ 83 → (v *ℤ pos 47262600000) <ℤ (f *ℤ pos (149896229 * 2 ^ 40) +ℤ pos (149896229 * 2 ^ 40)) → neg_ℤ (pos (2 ^ 55)) ≤ℤ f
-    step h k = omega (arith, ints)
-
-pub pseudorange_high : (g w : ℤ) → unsigned_abs w ≤ 2 ^ 86 + 2 ^ 83 → IsCeil (w *ℤ pos 47262600000) (149896229 * 2 ^ 40) g → g ≤ℤ pos (2 ^ 55)
-pseudorange_high g w h k = step h k.1
-  where
-    step : unsigned_abs w ≤ 2 ^ 86 + 2 ^ 83 → (g *ℤ pos (149896229 * 2 ^ 40)) <ℤ (w *ℤ pos 47262600000 +ℤ pos (149896229 * 2 ^ 40)) → g ≤ℤ pos (2 ^ 55)
-    step h k = omega (arith, ints)
 
 -- ---- prefits
 pub record ArePrefitEnds (hl hh bl bh rl rh : ℤ) : Type 0 where

@@ -1,5 +1,5 @@
 -- The observations of a row: in the order in which the boxes are made, and what follows from boxes that hold them.
-use Rattle.std.proofs.Common.{◌≡◌, ℕ, zero, suc, ◌-◌, ◌*◌, ◌^◌, ◌<◌, inl, inr, Option, Some, None, IfSome, All, List, [], ◌∷◌, get_or, ℤ, pos, ◌+ℤ◌, ◌-ℤ◌, ◌*ℤ◌, neg_ℤ, ◌≤ℤ◌, ◌<ℤ◌, unsigned_abs, arith, refl, sym, subst}
+use Rattle.std.proofs.Common.{◌≡◌, ℕ, zero, suc, ◌-◌, ◌*◌, ◌^◌, ◌<◌, inl, inr, Option, Some, None, IfSome, List, [], ◌∷◌, get_or, ℤ, pos, ◌+ℤ◌, ◌-ℤ◌, ◌*ℤ◌, neg_ℤ, ◌≤ℤ◌, ◌<ℤ◌, unsigned_abs, arith, refl, sym, subst}
 use Rattle.std.proofs.lemmas.Int.{ints, by_lt_z}
 use Rattle.whole_math.specs.Rounding.{IsNearest}
 use Rattle.whole_math.proofs.Ring.{va, ko, ng, ◌⊕◌, ◌⊖◌, ◌⊗◌}
@@ -10,7 +10,6 @@ use Rattle.rational.proofs.Boxes.{wider}
 use Rattle.rational_algebra.proofs.Orders.{equal_r, ◌≐◌}
 use Rattle.iv_core.proofs.SumLaws.{sub_holds}
 use Rattle.travel_model.specs.SeenPlaces.{range_of}
-use Rattle.obs_rows.specs.Ranges.{IsWithin}
 use Rattle.std.specs.Prelude.{slice_get}
 use Rattle.obs_rows.specs.Signals.{wavelength, counted}
 use Rattle.obs_rows.specs.Data.{number_at}
@@ -182,13 +181,3 @@ pub long_cycle : (s : ℕ) → s < 2 → pos 60 ≤ℤ wavelength s
 long_cycle zero h = omega (arith, ints)
 long_cycle (suc zero) h = omega (arith, ints)
 long_cycle (suc (suc s)) h = absurd (omega arith)
-
-pub four_within : (m : ℕ) (a b c d : ℤ) → IsWithin m a → IsWithin m b → IsWithin m c → IsWithin m d → All (IsWithin m) (a ∷ b ∷ c ∷ d ∷ [])
-four_within m a b c d h i j k = at
-  where
-    at : (n : ℕ) (e : ℤ) → n < 4 → IsWithin m (get_or (a ∷ b ∷ c ∷ d ∷ []) n e)
-    at zero e l = h
-    at (suc zero) e l = i
-    at (suc (suc zero)) e l = j
-    at (suc (suc (suc zero))) e l = k
-    at (suc (suc (suc (suc n)))) e l = absurd (omega arith)

@@ -35,9 +35,6 @@ length_push (x ∷ xs) y = let e : length (xs ++ y ∷ []) ≡ length xs + 1 = l
 some_inj : (a b : Arc) → Some a ≡ Some b → a ≡ b
 some_inj a b e = cc
 
-pub none_first : (boxes : List SvPair) (kept : List Arc) (position point : List ℤ) → AreFirstTo boxes kept position point 0 []
-none_first boxes kept position point = record { as_many = refl; each = λ k a b g h. absurd cc }
-
 pub more_first : (boxes : List SvPair) (kept : List Arc) (position point : List ℤ) (n : ℕ) (arcs after : List Arc) (x : Arc) → AreFirstTo boxes kept position point n arcs →
     ((a : Arc) → slice_get kept n ≡ Some a → IsFirst boxes kept position point a x) → after ≡ arcs ++ x ∷ [] → AreFirstTo boxes kept position point (n + 1) after
 more_first boxes kept position point n arcs after x h f e = record {

@@ -1,7 +1,6 @@
 -- What is told of files after others were read, and what files that are admitted end with.
 use Rattle.std.proofs.Common.{◌≡◌, ◌≢◌, inl, inr, ◌<◌, ℕ, List, Option, length, IfSome, Result, Ok, Err, subst}
 use Rattle.obs_store.specs.declared.file.ObsFile.{ObsFile}
-use Rattle.eph_store.specs.File.{Records}
 use Rattle.rinex_obs.specs.ObsForm.{HasObsFile}
 use Rattle.rinex_obs.specs.ObsRules.{obs_of}
 use Rattle.rinex_nav.specs.NavForm.{HasNavFile}
@@ -15,16 +14,13 @@ use Rattle.job_answers.specs.Answers.{ending_of, IfEnds, IfStopped}
 use Rattle.job_answers.specs.Statuses.{IsJobStatus}
 use Rattle.job_answers.specs.Endings.{Ending, IsTextOf, IsRefusal, EndsByFile, IsAdmitted}
 use Rattle.job_answers.proofs.EndingLaws.{admitted_ends, job_status_at, file_status}
-use Rattle.session_files.specs.SessionFiles.{IsObsOf, IsNavOf, StopsAtObs, StopsAtNav, StopsAtFiles}
+use Rattle.session_files.specs.SessionFiles.{IsObsOf, StopsAtObs, StopsAtNav, StopsAtFiles}
 
 text_along : (told later : List ℕ → Option (List ℕ)) (name text : List ℕ) → Same told later → IsTextOf later name text → IsTextOf told name text
 text_along told later name text same is = record { told_is = subst (λ (o : Option (List ℕ)). IfSome o (λ bytes. text ≡ bytes)) (same name) is.told_is; fits = is.fits }
 
 pub obs_along : (told later : List ℕ → Option (List ℕ)) (name : List ℕ) (file : ObsFile) → Same told later → IsObsOf later name file → IsObsOf told name file
 obs_along told later name file same is = record { text = is.text; is = text_along told later name is.text same is.is; is_file = is.is_file }
-
-pub nav_along : (told later : List ℕ → Option (List ℕ)) (name : List ℕ) (records : Records) → Same told later → IsNavOf later name records → IsNavOf told name records
-nav_along told later name records same is = record { text = is.text; is = text_along told later name is.text same is.is; is_file = is.is_file; are_fit = is.are_fit }
 
 pub file_along : (told later : List ℕ → Option (List ℕ)) (name : List ℕ) (ends : List ℕ → Ending → Type 0) (end : Ending) → Same told later → EndsByFile later name ends end → EndsByFile told name ends end
 file_along told later name ends end same (inl by_text) = inl (record { text = by_text.text; is = text_along told later name by_text.text same by_text.is; ends_so = by_text.ends_so })

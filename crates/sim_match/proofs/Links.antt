@@ -4,7 +4,7 @@ use Rattle.std.specs.Prelude.{slice_get}
 use Rattle.std.proofs.lemmas.Bool.{cases_lt, cases_eq}
 use Rattle.std.proofs.lemmas.Option.{none-some, same_Some}
 use Rattle.obs_rows.specs.declared.arcs.Arc.{Arc}
-use Rattle.slip_arcs.specs.Linked.{AreNeighbours, IsChain, AreLinked, IsFirstLinked, HaveDatums}
+use Rattle.slip_arcs.specs.Linked.{AreNeighbours, IsChain, AreLinked, HaveDatums}
 use Rattle.sim_match.specs.Matches.{IsDatumOf, AreInOrder, AreMarked}
 
 -- ---- links go both ways, and one behind another
@@ -140,18 +140,6 @@ linked_to (suc bound) arcs d k e a marked at datum is low high none =
     let before : m < k = r.before in
     linked_through arcs k m d (linked_next arcs k m near) (linked_to bound arcs d m e r.arc marked at datum r.is below (omega (arith, before)) (λ j b from to found. none j b from (omega (arith, before)) found)))
     (cases_eq d k)
-
-is_first : (arcs : List Arc) → IsFirstLinked arcs 0
-is_first arcs n linked = omega arith
-
--- the first arc is a datum
-first_is : (arcs : List Arc) (d : ℕ) (e : Arc) → HaveDatums arcs → d ≡ 0 → slice_get arcs d ≡ Some e → IsTrue e.datum
-first_is arcs d e datums zero_is at = (datums d e at).1 (subst (λ (n : ℕ). IsFirstLinked arcs n) (sym zero_is) (is_first arcs))
-
--- what stands in place 0 is one
-pub not_first : (arcs : List Arc) (d : ℕ) (e : Arc) → HaveDatums arcs → slice_get arcs d ≡ Some e → e.datum ≡ false → 1 ≤ d
-not_first arcs d e datums at free =
-    ⊎_elim (λ (none : d < 1). let on : IsTrue e.datum = first_is arcs d e datums (let z : d ≡ 0 = omega arith in z) at in absurd (cc (on, free))) (λ (some : 1 ≤ d). some) (cases_lt d 1)
 
 -- the last datum at or before arc k is the datum of its linked set
 pub last_datum : (arcs : List Arc) (d k : ℕ) (e : Arc) → AreMarked arcs → k < length arcs → d ≤ k → e.datum ≡ true → ((j : ℕ) (b : Arc) → d < j → j ≤ k → slice_get arcs j ≡ Some b → b.datum ≡ false)

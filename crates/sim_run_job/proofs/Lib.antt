@@ -1,4 +1,3 @@
 pub mod RunArcs
-pub mod MadeFiles
 pub mod RunEnds
 pub mod RunSays

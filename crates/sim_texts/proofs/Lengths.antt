@@ -1,11 +1,11 @@
 -- How long the lines of an observation file are.
-use Rattle.std.proofs.Common.{◌≡◌, ℕ, zero, suc, ◌+◌, ◌-◌, ◌*◌, ◌/◌, ◌%◌, ◌^◌, ◌<◌, ◌≤◌, List, [], ◌∷◌, length, ℤ, pos, negsuc, ◌<ℤ◌, All, arith, refl, length-append, lit<}
+use Rattle.std.proofs.Common.{◌≡◌, ℕ, ◌+◌, ◌-◌, ◌*◌, ◌/◌, ◌%◌, ◌^◌, ◌<◌, ◌≤◌, List, [], ◌∷◌, length, ℤ, pos, negsuc, ◌<ℤ◌, All, arith, refl, length-append, lit<}
 use Rattle.std.proofs.lemmas.Int.{ints}
 use Rattle.std.proofs.lemmas.List.{length-replicate}
 use Rattle.std.proofs.lemmas.List.Elements.{All-head, All-tail}
 use Rattle.std.specs.Prelude.{decimal, replicate}
 use Rattle.std.proofs.lemmas.Fmt.{length-decimal-le}
-use Rattle.decimal_text.specs.Write.{last_digits, part_text, fixed_text}
+use Rattle.decimal_text.specs.Write.{part_text, fixed_text}
 use Rattle.sim_texts.specs.declared.signals.Signals.{Signals}
 use Rattle.sim_texts.specs.Columns.{right_in, fixed_in}
 use Rattle.sim_texts.specs.Observations.{epoch_line, satellite_line, satellite_lines, AreInColumns, IsInColumns}
@@ -13,10 +13,6 @@ use Rattle.sim_texts.specs.Observations.{epoch_line, satellite_line, satellite_l
 pub length-right_in : (width : ℕ) (text : List ℕ) → length text ≤ width → length (right_in width text) ≡ width
 unfolding right_in
 length-right_in width text h = omega (arith, length-append (replicate (width - length text) 32) text, length-replicate {A = ℕ} (width - length text) 32)
-
-pub length-last_digits : (k n : ℕ) → length (last_digits k n) ≡ k
-length-last_digits zero n = refl
-length-last_digits (suc k) n = omega (arith, length-last_digits k n)
 
 -- a whole number of at most w digits, a point and three places
 pub length-thousandths : (z : ℤ) → IsInColumns z → length (fixed_in 14 z 3) ≡ 14

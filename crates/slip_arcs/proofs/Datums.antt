@@ -2,7 +2,7 @@
 use Rattle.std.proofs.Common.{◌≡◌, ℕ, zero, suc, ◌+◌, ◌<◌, ◌≤◌, ◌⊎◌, ◌↔◌, max, true, false, Some, List, [], ◌∷◌, ◌++◌, length, All, pos, IsTrue, arith, refl, sym, ◌∙◌, ap, subst, inl, inr, ⊎_elim}
 use Rattle.std.specs.Prelude.{slice_get, nat_le}
 use Rattle.std.proofs.lemmas.Bool.{cases_lt, cases_eq, cases_Bool, le-leb, leb-true}
-use Rattle.std.proofs.lemmas.List.Elements.{All-push, All-nil}
+use Rattle.std.proofs.lemmas.List.Elements.{All-push}
 use Rattle.std.proofs.lemmas.Option.{none-some, same_Some, slice_get_within}
 use Rattle.obs_rows.specs.declared.arcs.Arc.{Arc}
 use Rattle.slip_arcs.specs.Runs.{Run, is_long, IsAdded}
@@ -35,16 +35,6 @@ pub record Marked (at : ℕ) (arcs : List Arc) (reach : ℕ) : Type 0 where
   pub rising : (m k : ℕ) (b a : Arc) → m < k → slice_get arcs m ≡ Some b → slice_get arcs k ≡ Some a → b.first ≤ a.first
   pub datums : (k : ℕ) (a : Arc) → slice_get arcs k ≡ Some a → IsTrue a.datum ↔ IsFresh arcs k a
   pub reached : (reach ≡ 0) ⊎ ((m : ℕ) × (b : Arc) × (slice_get arcs m ≡ Some b) × (reach ≡ b.last + 1))
-
-pub marked_none : Marked 0 [] 0
-marked_none =
-    record {
-      shifts = All-nil (λ a. a.shift ≡ pos 0 ∷ pos 0 ∷ []);
-      order = λ k a is. absurd (none-some a is);
-      rising = λ m k b a before first second. absurd (none-some a second);
-      datums = λ k a is. absurd (none-some a is);
-      reached = inl refl;
-    }
 
 pub marked_next : (at : ℕ) (arcs : List Arc) (reach : ℕ) → Marked at arcs reach → Marked (at + 1) arcs reach
 marked_next at arcs reach marked =

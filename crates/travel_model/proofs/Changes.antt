@@ -25,14 +25,6 @@ pub before_square : (x y z a b c u v : Rational) → (add_r (add_r (mul_r x x) (
 before_square x y z a b c u v h0 h1 h2 h3 h4 h5 h6 h7 h8 =
     cancel_r (of_whole (pos 1152921504606846976000)) (mul_r (sub_r (mul_r (of_whole (pos 2)) u) (of_whole (pos 33))) (sub_r (mul_r (of_whole (pos 2)) u) (of_whole (pos 33)))) (mul_r (mul_r (of_whole (pos 2)) v) (mul_r (of_whole (pos 2)) v)) (omega (arith, ints)) (cert_r (x ∷ y ∷ z ∷ a ∷ b ∷ c ∷ u ∷ v ∷ []) ((((((va 0) ⊗ (va 0)) ⊕ ((va 1) ⊗ (va 1))) ⊕ ((va 2) ⊗ (va 2))) ≼ (ko (pos 2251799813685248))) ∷ (((((va 3) ⊗ (va 3)) ⊕ ((va 4) ⊗ (va 4))) ⊕ ((va 5) ⊗ (va 5))) ≼ (ko (pos 256))) ∷ (((ko (pos 1152921504606846976)) ⊗ (((va 6) ⊗ (va 6)) ⊖ ((((va 0) ⊗ (va 0)) ⊕ ((va 1) ⊗ (va 1))) ⊕ ((va 2) ⊗ (va 2))))) ≼ ((((va 0) ⊗ (va 0)) ⊕ ((va 1) ⊗ (va 1))) ⊕ ((va 2) ⊗ (va 2)))) ∷ (((ko (pos 1152921504606846976)) ⊗ (((((va 0) ⊗ (va 0)) ⊕ ((va 1) ⊗ (va 1))) ⊕ ((va 2) ⊗ (va 2))) ⊖ ((va 6) ⊗ (va 6)))) ≼ ((((va 0) ⊗ (va 0)) ⊕ ((va 1) ⊗ (va 1))) ⊕ ((va 2) ⊗ (va 2)))) ∷ (((ko (pos 1152921504606846976)) ⊗ (((va 7) ⊗ (va 7)) ⊖ (((((va 0) ⊖ (va 3)) ⊗ ((va 0) ⊖ (va 3))) ⊕ (((va 1) ⊖ (va 4)) ⊗ ((va 1) ⊖ (va 4)))) ⊕ (((va 2) ⊖ (va 5)) ⊗ ((va 2) ⊖ (va 5)))))) ≼ (((((va 0) ⊖ (va 3)) ⊗ ((va 0) ⊖ (va 3))) ⊕ (((va 1) ⊖ (va 4)) ⊗ ((va 1) ⊖ (va 4)))) ⊕ (((va 2) ⊖ (va 5)) ⊗ ((va 2) ⊖ (va 5))))) ∷ (((ko (pos 1152921504606846976)) ⊗ ((((((va 0) ⊖ (va 3)) ⊗ ((va 0) ⊖ (va 3))) ⊕ (((va 1) ⊖ (va 4)) ⊗ ((va 1) ⊖ (va 4)))) ⊕ (((va 2) ⊖ (va 5)) ⊗ ((va 2) ⊖ (va 5)))) ⊖ ((va 7) ⊗ (va 7)))) ≼ (((((va 0) ⊖ (va 3)) ⊗ ((va 0) ⊖ (va 3))) ⊕ (((va 1) ⊖ (va 4)) ⊗ ((va 1) ⊖ (va 4)))) ⊕ (((va 2) ⊖ (va 5)) ⊗ ((va 2) ⊖ (va 5))))) ∷ (((ko (pos 1000)) ⊗ ((((va 0) ⊗ (va 3)) ⊕ ((va 1) ⊗ (va 4))) ⊕ ((va 2) ⊗ (va 5)))) ≼ ((ko (pos 16001)) ⊗ (va 6))) ∷ ((ng ((ko (pos 1000)) ⊗ ((((va 0) ⊗ (va 3)) ⊕ ((va 1) ⊗ (va 4))) ⊕ ((va 2) ⊗ (va 5))))) ≼ ((ko (pos 16001)) ⊗ (va 6))) ∷ ((ko (pos 1000000)) ≼ (va 6)) ∷ []) ((ko (pos 1152921504606846976000)) ⊗ ((((ko (pos 2)) ⊗ (va 6)) ⊖ (ko (pos 33))) ⊗ (((ko (pos 2)) ⊗ (va 6)) ⊖ (ko (pos 33))))) ((ko (pos 1152921504606846976000)) ⊗ (((ko (pos 2)) ⊗ (va 7)) ⊗ ((ko (pos 2)) ⊗ (va 7)))) ((((((((nm 4000) ⊠ (hy 5)) ⊞ ((nm 4000) ⊠ (hy 2))) ⊞ ((nm 9223372036854775800) ⊠ (hy 6))) ⊞ ((nm 8000) ⊠ (hy 0))) ⊞ ((nm 4611686018427387900000) ⊠ (((sq (va 3)) ⊞ (sq (va 4))) ⊞ (sq (va 5))))) ⊞ ((nm 4602462646390533256200) ⊠ (hy 8))) ⊞ (nm 4601207096857617890361152000)) refl (h0, (h1, (h2, (h3, (h4, (h5, (h6, (h7, (h8, tt))))))))))
 
-pub after_at_most : (u v : Rational) → (mul_r (of_whole (pos 2)) v) ≤ʳ (add_r (mul_r (of_whole (pos 2)) u) (of_whole (pos 33))) → (mul_r (of_whole (pos 2)) (add_r u v)) ≤ʳ (add_r (mul_r (of_whole (pos 4)) u) (of_whole (pos 33)))
-after_at_most u v h0 =
-    cert_r (u ∷ v ∷ []) ((((ko (pos 2)) ⊗ (va 1)) ≼ (((ko (pos 2)) ⊗ (va 0)) ⊕ (ko (pos 33)))) ∷ []) ((ko (pos 2)) ⊗ ((va 0) ⊕ (va 1))) (((ko (pos 4)) ⊗ (va 0)) ⊕ (ko (pos 33))) (hy 0) refl (h0, tt)
-
-pub after_at_least : (u v : Rational) → (sub_r (mul_r (of_whole (pos 2)) u) (of_whole (pos 33))) ≤ʳ (mul_r (of_whole (pos 2)) v) → (sub_r (mul_r (of_whole (pos 4)) u) (of_whole (pos 33))) ≤ʳ (mul_r (of_whole (pos 2)) (add_r u v))
-after_at_least u v h0 =
-    cert_r (u ∷ v ∷ []) (((((ko (pos 2)) ⊗ (va 0)) ⊖ (ko (pos 33))) ≼ ((ko (pos 2)) ⊗ (va 1))) ∷ []) (((ko (pos 4)) ⊗ (va 0)) ⊖ (ko (pos 33))) ((ko (pos 2)) ⊗ ((va 0) ⊕ (va 1))) (hy 0) refl (h0, tt)
-
 pub times_nn : (u : Rational) → (of_whole (pos 0)) ≤ʳ u → (of_whole (pos 0)) ≤ʳ (mul_r (of_whole (pos 16001)) u)
 times_nn u h0 =
     cert_r (u ∷ []) (((ko (pos 0)) ≼ (va 0)) ∷ []) (ko (pos 0)) ((ko (pos 16001)) ⊗ (va 0)) ((nm 16001) ⊠ (hy 0)) refl (h0, tt)

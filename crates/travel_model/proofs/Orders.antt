@@ -5,8 +5,7 @@ use Rattle.whole_math.proofs.Ring.{Ex, ◌⊕◌, ◌⊖◌, ◌⊗◌, norm}
 use Rattle.whole_math.proofs.Order.{mul_nn}
 use Rattle.whole_math.proofs.Inequalities.{le_by, less_nn, pos_nn}
 use Rattle.whole_math.proofs.Certificates.{Hy, Ce, as_ex, square_root}
-use Rattle.rational.specs.Rational.{Rational, ◌≤ʳ◌, ◌<ʳ◌, of_whole, mul_r}
-use Rattle.rational.proofs.Laws.{<ʳ_weak}
+use Rattle.rational.specs.Rational.{Rational, ◌≤ʳ◌, of_whole, mul_r}
 use Rattle.rational_algebra.proofs.Identities.{ev_r, balanced}
 use Rattle.rational_algebra.proofs.Orders.{AreGiven, combined, order_r}
 pub use Rattle.rational_algebra.proofs.Orders.{cancel_r}
@@ -15,9 +14,6 @@ pub use Rattle.rational_algebra.proofs.Orders.{cancel_r}
 pub cert_r : (r : List Rational) (hs : List Hy) (l u : Ex) (d : Ce) → norm (balanced r (u ⊖ l) (as_ex hs d ⊕ combined [] [])) ≡ norm (balanced r (as_ex hs d ⊕ combined [] []) (u ⊖ l)) →
     AreGiven r hs → ev_r r l ≤ʳ ev_r r u
 cert_r r hs l u d e g = order_r r hs [] l u d [] e g tt
-
-pub weak_r : (p q : Rational) → p <ʳ q → p ≤ʳ q
-weak_r p q h = <ʳ_weak p q h
 
 -- of squares
 pub root_r : (p q : Rational) → of_whole (pos 0) ≤ʳ q → mul_r p p ≤ʳ mul_r q q → p ≤ʳ q

@@ -1,10 +1,9 @@
 -- The absolute value, as a bound on both sides, and of squares.
-use Rattle.std.proofs.Common.{◌≡◌, ℕ, ◌*◌, ◌≤◌, ◌<◌, [], ◌∷◌, ℤ, pos, negsuc, ◌*ℤ◌, neg_ℤ, ◌≤ℤ◌, ◌<ℤ◌, unsigned_abs, arith, refl}
+use Rattle.std.proofs.Common.{◌≡◌, ℕ, ◌*◌, ◌<◌, [], ◌∷◌, ℤ, pos, negsuc, ◌*ℤ◌, neg_ℤ, ◌≤ℤ◌, ◌<ℤ◌, unsigned_abs, arith, refl}
 use Rattle.std.proofs.lemmas.Int.{ints}
 use Rattle.whole_math.proofs.Ring.{ring, va, ◌⊗◌, ng}
 use Rattle.whole_math.proofs.Order.{lins, mul_le_right}
 use Rattle.whole_math.proofs.Inequalities.{pos_nn}
-use Rattle.whole_math.specs.Bounds.{Within}
 
 -- of a number that is not below 0 it is the number
 pub pos_abs : (a : ℤ) → pos 0 ≤ℤ a → pos (unsigned_abs a) ≡ a
@@ -12,16 +11,6 @@ pos_abs a h = omega (arith, ints)
 
 pub abs_pos : (a : ℤ) → pos 0 <ℤ a → 0 < unsigned_abs a
 abs_pos a h = omega (arith, ints)
-
--- |a| ≤ n is -n ≤ a ≤ n
-pub within_of_abs : (a : ℤ) (n : ℕ) → unsigned_abs a ≤ n → Within (pos n) a
-within_of_abs a n h = (omega (arith, ints), omega (arith, ints))
-
-pub abs_of_within : (a : ℤ) (n : ℕ) → Within (pos n) a → unsigned_abs a ≤ n
-abs_of_within a n (h, k) = omega (arith, ints)
-
-pub abs_neg : (a : ℤ) → unsigned_abs (neg_ℤ a) ≡ unsigned_abs a
-abs_neg a = omega (arith, ints)
 
 -- |a| s ≤ m gives a s ≤ m and -a s ≤ m
 pub abs_times_le : (a m : ℤ) (s : ℕ) → (pos (unsigned_abs a) *ℤ pos s) ≤ℤ m → ((a *ℤ pos s) ≤ℤ m) × ((neg_ℤ a *ℤ pos s) ≤ℤ m)

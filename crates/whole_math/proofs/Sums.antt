@@ -1,8 +1,8 @@
 -- Sums over lists: linear, monotone, and in either order.
-use Rattle.std.proofs.Common.{◌≡◌, suc, List, [], ◌∷◌, ◌++◌, All, ℤ, pos, ◌+ℤ◌, ◌*ℤ◌, ◌≤ℤ◌, arith, sym, ap, ◌∙◌, refl}
+use Rattle.std.proofs.Common.{◌≡◌, List, [], ◌∷◌, ◌++◌, ℤ, pos, ◌+ℤ◌, ◌*ℤ◌, arith, sym, ap, ◌∙◌, refl}
 use Rattle.std.proofs.lemmas.Int.{ints}
 use Rattle.whole_math.proofs.Ring.{ring, va, ◌⊕◌, ◌⊗◌}
-use Rattle.whole_math.proofs.Order.{lins, add_nn}
+use Rattle.whole_math.proofs.Order.{lins}
 use Rattle.whole_math.specs.Sums.{sum_of}
 
 pub sum_of-add : {A : Type 0} (f g : A → ℤ) (xs : List A) → sum_of (λ x. f x +ℤ g x) xs ≡ sum_of f xs +ℤ sum_of g xs
@@ -31,17 +31,6 @@ sum_of-append f (x ∷ xs) ys = ap (λ z. f x +ℤ z) (sum_of-append f xs ys) �
   where
     step : (a b c : ℤ) → a +ℤ (b +ℤ c) ≡ (a +ℤ b) +ℤ c
     step a b c = omega (arith, lins)
-
-pub sum_of-mono : {A : Type 0} (f g : A → ℤ) (xs : List A) → All (λ x. f x ≤ℤ g x) xs → sum_of f xs ≤ℤ sum_of g xs
-sum_of-mono f g [] h = omega (arith, lins)
-sum_of-mono f g (x ∷ xs) h = step (f x) (g x) (sum_of f xs) (sum_of g xs) (h 0 x (omega arith)) (sum_of-mono f g xs (λ k d p. h (suc k) d (omega arith)))
-  where
-    step : (a b c d : ℤ) → a ≤ℤ b → c ≤ℤ d → (a +ℤ c) ≤ℤ (b +ℤ d)
-    step a b c d p q = omega (arith, lins)
-
-pub sum_of-nn : {A : Type 0} (f : A → ℤ) (xs : List A) → ((x : A) → pos 0 ≤ℤ f x) → pos 0 ≤ℤ sum_of f xs
-sum_of-nn f [] h = omega (arith, lins)
-sum_of-nn f (x ∷ xs) h = add_nn (f x) (sum_of f xs) (h x) (sum_of-nn f xs h)
 
 pub sum_of-swap : {A B : Type 0} (f : A → B → ℤ) (xs : List A) (ys : List B) → sum_of (λ x. sum_of (λ y. f x y) ys) xs ≡ sum_of (λ y. sum_of (λ x. f x y) xs) ys
 sum_of-swap f [] ys = sym (none ys)

@@ -57,10 +57,6 @@ last_digits-value k n few =
     let whole = last_digits-sum k n in
     omega (arith, rw none at whole)
 
-pub digits-append : (xs ys : List ℕ) → are_digits xs ≡ true → are_digits ys ≡ true → are_digits (xs ++ ys) ≡ true
-digits-append [] ys p q = q
-digits-append (x ∷ xs) ys p q = rw (first_and (is_digit x) (are_digits xs) p) (digits-append xs ys (second_and (is_digit x) (are_digits xs) p) q)
-
 pub digits_printed : (ds : List ℕ) → are_digits ds ≡ true → are_printed ds ≡ true
 digits_printed [] is = refl
 digits_printed (d ∷ ds) is = rw (printed d (first_and (is_digit d) (are_digits ds) is)) (digits_printed ds (second_and (is_digit d) (are_digits ds) is))
