@@ -17,14 +17,12 @@ use std::test::Fail;
 const FINE: i128 = 262_144;
 
 // Seed 1, with the options that a run has by itself.
-fn plain(rt: &impl Abort, alloc: Global) -> Result<Files, Fail>
-{
+fn plain(rt: &impl Abort, alloc: Global) -> Result<Files, Fail> {
     files_of(rt, alloc, 1, 6, 4, &Options::defaults())
 }
 
 // Seed 77, with a higher mask and shorter arcs.
-fn high(rt: &impl Abort, alloc: Global) -> Result<Files, Fail>
-{
+fn high(rt: &impl Abort, alloc: Global) -> Result<Files, Fail> {
     let mut options = Options::defaults();
     options.mask = 500;
     options.arc = 2;
@@ -222,8 +220,7 @@ fn fine_rows_agree(
     alloc: Global,
     files: &Files,
     want: &Expected,
-) -> Result<(), Fail>
-{
+) -> Result<(), Fail> {
     let point = want.point;
     assert!(rt; is_receiver_point(&point));
     let arcs = with_shifts(alloc, files, &point)?;
@@ -254,8 +251,7 @@ fn coarse_rows_agree(
     alloc: Global,
     files: &Files,
     want: &Expected,
-) -> Result<(), Fail>
-{
+) -> Result<(), Fail> {
     let point = want.point;
     assert!(rt; is_receiver_point(&point));
     let arcs = files.rounds.kept.as_slice();
