@@ -70,14 +70,16 @@ pub fn refused(alloc: Global, name: &str, at: At) -> Result<Answer, AllocError>
     Ok(Answer::on_err(alloc, Status::Refused, err))
 }
 
-fn too_large(alloc: Global, name: &str) -> Result<Answer, AllocError>
+/// The end of a job whose file has more bytes than are read.
+pub fn too_large(alloc: Global, name: &str) -> Result<Answer, AllocError>
     ensures { IfOk result (λ a. ending_of a ≡ ending Status.Refused [] (too_large_line name.now)) }
 {
     let err = format!(in alloc; "refused: {name}: file too large\n")?;
     Ok(Answer::on_err(alloc, Status::Refused, err))
 }
 
-fn read_fault(alloc: Global, name: &str) -> Result<Answer, AllocError>
+/// The end of a job whose file could not be read.
+pub fn read_fault(alloc: Global, name: &str) -> Result<Answer, AllocError>
     ensures { IfOk result (λ a. ending_of a ≡ ending Status.ReadFault [] (read_fault_line name.now)) }
 {
     let err = format!(in alloc; "read fault: {name}\n")?;

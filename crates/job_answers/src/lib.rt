@@ -5,7 +5,7 @@ mod answer;
 mod delivery;
 mod status;
 
-pub use answer::{Answer, Stop, load_file, refused};
+pub use answer::{Answer, Stop, load_file, read_fault, refused, too_large};
 pub use delivery::deliver;
 pub use status::Status;
 

@@ -1,13 +1,10 @@
 -- What one line gives where the state is held open.
-use Rattle.std.proofs.Common.{◌≡◌, ◌<◌, ◌≤◌, ◌-◌, ℕ, zero, suc, Bool, List, [], ◌∷◌, ◌++◌, refl, sym, ap, ◌∙◌, arith}
+use Rattle.std.proofs.Common.{◌≡◌, ◌<◌, ℕ, zero, suc, Bool, List, [], ◌∷◌, ◌++◌, refl, arith}
 use Rattle.gps_time.specs.declared.Tick.{Tick}
 use Rattle.obs_store.specs.declared.series.Epoch.{Epoch}
 use Rattle.obs_store.specs.declared.values.SatObs.{SatObs}
-use Rattle.rinex_head.specs.declared.place.TextFault.{TextFault}
-use Rattle.rinex_head.specs.declared.place.TextFault.TheVariants.{Refused, NoMemory}
 use Rattle.rinex_obs.specs.declared.header.Header.{Header}
 use Rattle.rinex_obs.specs.ObsRules.{HeaderSoFar, Head, More, Body, Sats, Skip, with_types, more_types, more_sats, more_lines, epoch_of}
-use Rattle.rinex_obs.specs.Feeding.{Takes}
 
 pub types_due : (h : HeaderSoFar) (names : List (List ℕ)) (n : ℕ) → 0 < n → more_types h names n ≡ More h names n
 types_due h names zero some = absurd (omega arith)

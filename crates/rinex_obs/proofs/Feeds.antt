@@ -1,12 +1,12 @@
 -- The lines of a text that is taken in pieces.
-use Rattle.std.proofs.Common.{◌≡◌, ◌<◌, ◌≤◌, ◌+◌, ◌-◌, ◌==◌, nat_lt, ℕ, zero, Bool, true, false, List, [], ◌∷◌, ◌++◌, length, take, drop, slice_index, Result, Ok, Err, OnOk, IfErr, refl, sym, ap, ◌∙◌, arith, append_assoc, length-append, length-take, add-one}
+use Rattle.std.proofs.Common.{◌≡◌, ◌<◌, ◌≤◌, ◌+◌, ◌-◌, ◌==◌, nat_lt, ℕ, Bool, true, false, List, [], ◌∷◌, ◌++◌, length, take, drop, slice_index, Result, Ok, Err, OnOk, IfErr, refl, sym, ap, ◌∙◌, arith, append_assoc, length-append, length-take}
 use Rattle.std.proofs.lemmas.Bool.Decides.{nat_tests}
 use Rattle.std.proofs.lemmas.List.{append-nil}
 use Rattle.std.specs.Str.Lines.{strip_carriage_return}
 use Rattle.line_source.specs.Lines.{lines_from, lines_of}
 use Rattle.rinex_head.specs.declared.place.At.{At}
 use Rattle.rinex_head.specs.declared.place.What.TheVariants.{LongLine}
-use Rattle.rinex_head.specs.Places.{and_then, flawed, place, at_line}
+use Rattle.rinex_head.specs.Places.{flawed, place, at_line}
 use Rattle.rinex_head.specs.declared.place.TextFault.{TextFault}
 use Rattle.rinex_head.specs.declared.place.TextFault.TheVariants.{Refused, NoMemory}
 use Rattle.rinex_head.specs.Walk.{admitted, walk, Gives, FailsBy}
@@ -16,7 +16,7 @@ use Rattle.obs_store.specs.declared.file.ObsFile.{ObsFile}
 use Rattle.rinex_obs.specs.ObsRules.{Expected, obs_rules, obs_of, finish}
 use Rattle.rinex_obs.specs.ObsForm.{HasObsFile}
 use Rattle.rinex_obs.proofs.FormPlaces.{file_of_rules, rules_of_file, completed, ok_exit, only_exit}
-use Rattle.rinex_obs.specs.Started.{EndsLine, GoesOn}
+use Rattle.rinex_obs.specs.Started.{EndsLine}
 use Rattle.rinex_obs.specs.Feeding.{gives_with, Takes, TakesAll, IsFed, IsAnswerTo}
 
 -- ---- where a line ends

@@ -1,5 +1,5 @@
 -- What the lines give is what the grammar says.
-use Rattle.std.proofs.Common.{◌≡◌, ◌<◌, ◌≤◌, ◌+◌, ◌-◌, ℕ, ℤ, zero, suc, pos, Bool, true, false, List, [], ◌∷◌, ◌++◌, length, Result, Ok, Err, Option, Some, None, refl, sym, ap, ◌∙◌, subst, arith, append_assoc, add-zero}
+use Rattle.std.proofs.Common.{◌≡◌, ◌+◌, ◌-◌, ℕ, suc, pos, Bool, List, [], ◌∷◌, ◌++◌, length, Ok, Option, Some, None, refl, sym, ap, ◌∙◌, arith, append_assoc, add-zero}
 use Rattle.std.proofs.lemmas.List.{append-nil}
 use Rattle.gps_time.specs.declared.Tick.{Tick}
 use Rattle.obs_store.specs.declared.file.ObsFile.{ObsFile}
@@ -11,9 +11,9 @@ use Rattle.rinex_obs.specs.Types.{kept_from}
 use Rattle.rinex_obs.specs.declared.header.Header.{Header}
 use Rattle.rinex_obs.specs.declared.header_lines.HeaderLine.{HeaderLine}
 use Rattle.rinex_obs.specs.declared.header_lines.HeaderLine.TheVariants as header
-use Rattle.rinex_obs.specs.ObsRules.{HeaderSoFar, Expected, First, Head, More, Body, Sats, Skip, so_far, bare_header, with_types, whole_header, file_of, epoch_of, more_types, more_sats, more_lines, after_header, admit, obs_rules}
-use Rattle.rinex_obs.specs.ObsForm.{HeadPart, IsPlain, AreHeadParts, head_lines, position_by, delta_by, last_position, last_delta, AreFurther, IsTypeList, IsHeader, EpochPart, EventPart, Part, Blank, Event, Epoch_, satellites_of, AreSatLines, AreEventLines, IsEpochPart, IsEventPart, epoch_in_part, AreParts, epochs_of, lines_of_part, body_lines, IsObsFile}
-use Rattle.rinex_obs.proofs.Steps.{admit_more, admit_sats, admit_lines}
+use Rattle.rinex_obs.specs.ObsRules.{HeaderSoFar, First, Head, Body, Sats, Skip, so_far, bare_header, with_types, whole_header, file_of, epoch_of, more_types, more_sats, more_lines, after_header, admit, obs_rules}
+use Rattle.rinex_obs.specs.ObsForm.{HeadPart, IsPlain, AreHeadParts, head_lines, position_by, delta_by, last_position, last_delta, AreFurther, IsHeader, Part, Blank, Event, Epoch_, satellites_of, AreSatLines, AreEventLines, epoch_in_part, AreParts, epochs_of, body_lines, IsObsFile}
+use Rattle.rinex_obs.proofs.Steps.{admit_more}
 
 -- the lines of an event are taken
 lines_taken : (lines more : List (List ℕ)) (h : Header) (epochs : List Epoch) (changes : Bool) (n : ℕ) → AreEventLines changes lines

@@ -1,6 +1,5 @@
 -- The place of a refusal is the first failing line by the grammar: every state can be completed to a file.
-use Rattle.std.proofs.Common.{◌≡◌, ◌<◌, ◌≤◌, ◌+◌, ◌-◌, ◌*◌, ℕ, zero, suc, Bool, true, false, nat_lt, ◌==◌, min, List, [], ◌∷◌, ◌++◌, length, drop, take, codes, Result, Ok, Err, Option, Some, None, refl, sym, ap, ◌∙◌, subst, arith, lit≤, add-zero, IfOk}
-use Rattle.std.specs.Str.{bytes_eq}
+use Rattle.std.proofs.Common.{◌≡◌, ◌<◌, ◌≤◌, ◌+◌, ◌-◌, ◌*◌, ℕ, zero, suc, Bool, true, false, ◌==◌, min, List, [], ◌∷◌, ◌++◌, drop, codes, Result, Ok, Err, Option, Some, None, refl, sym, ap, ◌∙◌, subst, arith, lit≤, add-zero, IfOk}
 use Rattle.std.proofs.lemmas.Bool.Decides.{nat_tests}
 use Rattle.gps_time.specs.declared.Tick.{Tick}
 use Rattle.obs_store.specs.declared.file.ObsFile.{ObsFile}
@@ -8,25 +7,22 @@ use Rattle.obs_store.specs.declared.series.Epoch.{Epoch}
 use Rattle.obs_store.specs.declared.values.SatObs.{SatObs}
 use Rattle.rinex_head.specs.declared.place.TextFault.{TextFault}
 use Rattle.rinex_head.specs.declared.place.Flaw.{Flaw}
-use Rattle.rinex_head.specs.Places.{and_then}
-use Rattle.rinex_head.specs.Columns.{padded, columns, column}
+use Rattle.rinex_head.specs.Columns.{padded, columns}
 use Rattle.rinex_head.specs.Head.{trimmed}
 use Rattle.rinex_head.specs.Walk.{text_gives, Gives}
 use Rattle.rinex_head.specs.FirstFailing.{IsFileOf}
 use Rattle.rinex_head.proofs.Stops.{Completes, with_line, with_end}
-use Rattle.rinex_head.specs.Fields.{fixed_in}
 use Rattle.rinex_obs.specs.FirstLine.{first_line_of}
 use Rattle.rinex_obs.specs.HeaderLines.{label_in, header_line_of}
-use Rattle.rinex_obs.specs.Types.{is_listed, names_from, type_list, further_types_of}
+use Rattle.rinex_obs.specs.Types.{is_listed, names_from}
 use Rattle.rinex_obs.specs.EpochLines.{event_line_of}
 use Rattle.rinex_obs.specs.SatLines.{satellite_in, satellite_line_of}
 use Rattle.rinex_obs.specs.declared.header.Header.{Header}
-use Rattle.rinex_obs.specs.declared.types.TypeList.{TypeList}
 use Rattle.rinex_obs.specs.declared.header_lines.HeaderLine.TheVariants as header
 use Rattle.rinex_obs.specs.declared.header_lines.Label.TheVariants as label
-use Rattle.rinex_obs.specs.ObsRules.{HeaderSoFar, Expected, First, Head, More, Body, Sats, Skip, so_far, bare_header, with_types, whole_header, file_of, more_types, more_sats, more_lines, after_header, admit, obs_rules}
+use Rattle.rinex_obs.specs.ObsRules.{HeaderSoFar, Expected, First, Head, More, Body, Sats, Skip, bare_header, with_types, whole_header, file_of, more_types, more_sats, more_lines, admit, obs_rules}
 use Rattle.rinex_obs.specs.ObsForm.{IsObsFile, HasObsFile}
-use Rattle.rinex_obs.proofs.Steps.{types_there, types_once}
+use Rattle.rinex_obs.proofs.Steps.{types_there}
 use Rattle.rinex_obs.proofs.FormLaws.{file_given}
 use Rattle.rinex_obs.proofs.FormTook.{file_took}
 

@@ -1,5 +1,5 @@
 -- Lines that give a file are one of the grammar.
-use Rattle.std.proofs.Common.{◌≡◌, ◌<◌, ◌≤◌, ◌+◌, ◌-◌, ℕ, ℤ, zero, suc, pos, Bool, true, false, List, [], ◌∷◌, ◌++◌, length, Result, Ok, Err, Option, Some, None, refl, sym, ap, ◌∙◌, subst, arith, append_assoc, lit<}
+use Rattle.std.proofs.Common.{◌≡◌, ◌≤◌, ◌+◌, ◌-◌, ℕ, ℤ, zero, suc, pos, Bool, List, [], ◌∷◌, ◌++◌, length, Result, Ok, Err, Option, Some, None, refl, sym, ap, ◌∙◌, subst, arith, append_assoc}
 use Rattle.std.proofs.lemmas.List.{append-nil}
 use Rattle.gps_time.specs.declared.Tick.{Tick}
 use Rattle.obs_store.specs.declared.file.ObsFile.{ObsFile}
@@ -22,8 +22,8 @@ use Rattle.rinex_obs.specs.declared.header_lines.HeaderLine.{HeaderLine}
 use Rattle.rinex_obs.specs.declared.header_lines.HeaderLine.TheVariants as header
 use Rattle.rinex_obs.specs.declared.epoch_lines.EpochLine.{EpochLine}
 use Rattle.rinex_obs.specs.declared.epoch_lines.EpochLine.TheVariants as line
-use Rattle.rinex_obs.specs.ObsRules.{HeaderSoFar, Expected, First, Head, More, Body, Sats, Skip, so_far, bare_header, with_types, whole_header, file_of, epoch_of, more_types, more_sats, more_lines, begun_list, after_header, after_epoch, with_satellite, obs_rules}
-use Rattle.rinex_obs.specs.ObsForm.{HeadPart, AreHeadParts, head_lines, last_position, last_delta, AreFurther, IsTypeList, IsHeader, EpochPart, EventPart, Part, Blank, Event, Epoch_, satellites_of, AreSatLines, AreEventLines, epoch_in_part, AreParts, epochs_of, body_lines, IsObsFile}
+use Rattle.rinex_obs.specs.ObsRules.{HeaderSoFar, Expected, First, Head, More, Body, Sats, Skip, so_far, bare_header, whole_header, file_of, epoch_of, more_types, more_sats, more_lines, after_header, after_epoch, with_satellite, obs_rules}
+use Rattle.rinex_obs.specs.ObsForm.{HeadPart, AreHeadParts, head_lines, last_position, last_delta, AreFurther, IsTypeList, EpochPart, EventPart, Part, Blank, Event, Epoch_, satellites_of, AreSatLines, AreEventLines, AreParts, epochs_of, body_lines, IsObsFile}
 use Rattle.rinex_obs.proofs.FormLaws.{regroup}
 
 -- ---- the body

@@ -1,5 +1,5 @@
 -- The tag of an epoch's line.
-use Rattle.std.proofs.Common.{◌≡◌, ◌<◌, ◌≤◌, ◌<ℤ◌, ◌≤ℤ◌, ℕ, ℤ, pos, negsuc, Bool, true, false, Ok, Err, refl, sym, ap, ◌∙◌, arith, if◌then◌else◌, unsigned_abs, to_z, of_z, w64, SFits}
+use Rattle.std.proofs.Common.{◌≡◌, ◌<ℤ◌, ◌≤ℤ◌, ℕ, ℤ, pos, negsuc, Bool, true, false, Ok, refl, arith, unsigned_abs, to_z, of_z, w64, SFits}
 use Rattle.std.proofs.lemmas.Int.{ints, to_z-of_z}
 use Rattle.gps_time.specs.Ticks.{IsMoment, is_moment, ticks_since}
 use Rattle.gps_time.proofs.MomentTests.{is_moment-holds, is_moment-true}

@@ -1,5 +1,5 @@
 -- What one line gives in its place.
-use Rattle.std.proofs.Common.{◌≡◌, ◌<◌, ◌-◌, ℕ, zero, suc, Bool, true, false, List, [], ◌∷◌, ◌++◌, length, Result, Ok, Err, Option, Some, None, refl, sym, ap, ◌∙◌, arith, is_some}
+use Rattle.std.proofs.Common.{◌≡◌, ◌<◌, ◌-◌, ℕ, zero, suc, Bool, true, false, List, [], Ok, Option, Some, None, refl, arith, is_some}
 use Rattle.gps_time.specs.declared.Tick.{Tick}
 use Rattle.obs_store.specs.declared.series.Epoch.{Epoch}
 use Rattle.obs_store.specs.declared.values.SatObs.{SatObs}
@@ -11,7 +11,7 @@ use Rattle.rinex_obs.specs.SatLines.{satellite_line_of}
 use Rattle.rinex_obs.specs.declared.header.Header.{Header}
 use Rattle.rinex_obs.specs.declared.types.KeptType.{KeptType}
 use Rattle.rinex_obs.specs.declared.header_lines.HeaderLine.TheVariants as header
-use Rattle.rinex_obs.specs.ObsRules.{HeaderSoFar, Expected, Head, Body, more_types, more_sats, more_lines, with_satellite, whole_header, after_header, admit, finish}
+use Rattle.rinex_obs.specs.ObsRules.{HeaderSoFar, Body, more_types, more_sats, more_lines, with_satellite, whole_header, after_header, admit, finish}
 
 pub finish_more : (h : HeaderSoFar) (names : List (List ℕ)) (n : ℕ) → finish (more_types h names n) ≡ flawed 1 NoEnd
 finish_more h names zero = refl

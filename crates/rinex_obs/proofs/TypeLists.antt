@@ -1,12 +1,11 @@
 -- Lists of types, name by name.
-use Rattle.std.proofs.Common.{◌≡◌, ◌<◌, ◌≤◌, ◌+◌, ◌-◌, ℕ, zero, suc, Bool, true, false, List, [], ◌∷◌, ◌++◌, length, drop, map, Result, Ok, Err, refl, sym, ap, ◌∙◌, arith, append_assoc, get_or}
-use Rattle.std.proofs.lemmas.List.{append-nil, drop_more}
+use Rattle.std.proofs.Common.{◌≡◌, ◌<◌, ◌≤◌, ◌+◌, ◌-◌, ℕ, zero, suc, Bool, true, false, List, [], ◌∷◌, ◌++◌, length, drop, map, Ok, refl, sym, ◌∙◌, arith, get_or}
+use Rattle.std.proofs.lemmas.List.{drop_more}
 use Rattle.std.proofs.Math.ListN.{get_or-map}
-use Rattle.std.proofs.lemmas.List.{ext_get_or, length-map}
+use Rattle.std.proofs.lemmas.List.{ext_get_or}
 use Rattle.obs_store.specs.Kinds.{kept_types, name_of}
 use Rattle.obs_store.specs.declared.kinds.ObsType.{ObsType}
 use Rattle.obs_store.specs.declared.kinds.ObsType.TheVariants.{C1C}
-use Rattle.std.specs.declared.option.Option.{Option}
 use Rattle.obs_store.specs.Kinds.{kept_type_of}
 use Rattle.rinex_head.specs.declared.place.What.TheVariants.{Types}
 use Rattle.rinex_head.specs.Places.{flawed}

@@ -1,5 +1,5 @@
 -- The lines of the body: the line of an epoch or an event, and a line of an event.
-use Rattle.std.specs.Prelude.{ℕ, ℤ, pos, negsuc, ◌&&◌, ◌||◌, ◌==◌, nat_le, nat_lt, Bool, true, false, List, length, unwrap_or, Result, Ok, Err, None, Some, if◌then◌else◌}
+use Rattle.std.specs.Prelude.{ℕ, ℤ, pos, negsuc, ◌&&◌, ◌||◌, ◌==◌, nat_le, nat_lt, Bool, true, false, List, length, unwrap_or, Result, Ok, None, Some, if◌then◌else◌}
 use Rattle.std.specs.declared.option.Option.{Option}
 use Rattle.decimal_text.specs.Fixed.{are_blank}
 use Rattle.gps_time.specs.declared.Tick.{Tick}

@@ -1,5 +1,5 @@
 -- A text that is taken in pieces, and what stands between two of them.
-use Rattle.std.specs.Prelude.{◌≡◌, ℕ, ◌+◌, ◌≤◌, List, [], ◌∷◌, ◌++◌, length, Result, Ok, Err, IfOk}
+use Rattle.std.specs.Prelude.{◌≡◌, ℕ, List, ◌++◌, length, Result, Ok, Err, IfOk}
 use Rattle.line_source.specs.Lines.{lines_from, lines_of}
 use Rattle.obs_store.specs.declared.file.ObsFile.{ObsFile}
 use Rattle.rinex_head.specs.declared.place.At.{At}

@@ -1,5 +1,5 @@
 -- The first line: a version, the kind `O` and the system `G` or `M`.
-use Rattle.std.specs.Prelude.{ℕ, ◌||◌, ◌==◌, List, Result, Ok, Err, if◌then◌else◌}
+use Rattle.std.specs.Prelude.{ℕ, ◌||◌, ◌==◌, List, Result, Ok, if◌then◌else◌}
 use Rattle.rinex_head.specs.declared.head.Version.{Version}
 use Rattle.rinex_head.specs.declared.place.Flaw.{Flaw}
 use Rattle.rinex_head.specs.declared.place.What.TheVariants.{Kind}

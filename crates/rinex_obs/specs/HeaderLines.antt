@@ -1,9 +1,8 @@
 -- What stands in a line of the header.
-use Rattle.std.specs.Prelude.{ℕ, ℤ, pos, zero, suc, ◌-◌, ◌+◌, ◌&&◌, ◌||◌, not, ◌==◌, nat_le, min, Bool, List, [], ◌∷◌, ◌++◌, take, drop, codes, Result, Ok, Err, None, Some, if◌then◌else◌}
+use Rattle.std.specs.Prelude.{ℕ, ℤ, pos, ◌&&◌, ◌||◌, ◌==◌, Bool, List, [], ◌∷◌, codes, Result, Ok, Err, None, Some, if◌then◌else◌}
 use Rattle.std.specs.declared.option.Option.{Option}
 use Rattle.std.specs.Str.{bytes_eq}
 use Rattle.std.specs.Ordering.{int_eq}
-use Rattle.std.specs.List.{list_any, list_all}
 use Rattle.decimal_text.specs.declared.fixed.NumberFault.{NumberFault}
 use Rattle.decimal_text.specs.declared.fixed.NumberFault.TheVariants.{Blank, BadChar, TooManyPlaces, TooLong}
 use Rattle.decimal_text.specs.Fixed.{fixed_of}
@@ -12,7 +11,7 @@ use Rattle.rinex_head.specs.declared.place.What.TheVariants.{BadField, TimeSyste
 use Rattle.rinex_head.specs.Head.{label_of}
 use Rattle.rinex_head.specs.Places.{and_then, flawed}
 use Rattle.rinex_head.specs.Columns.{column, columns}
-use Rattle.rinex_head.specs.Fields.{fixed_in, readable}
+use Rattle.rinex_head.specs.Fields.{fixed_in}
 use Rattle.rinex_obs.specs.declared.header_lines.Label.{Label}
 use Rattle.rinex_obs.specs.declared.header_lines.Label.TheVariants as label
 use Rattle.rinex_obs.specs.declared.header_lines.HeaderLine.{HeaderLine}

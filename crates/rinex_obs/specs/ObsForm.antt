@@ -1,5 +1,5 @@
 -- An observation file as a grammar over the whole list of its lines: a header, then blank lines, epochs and events.
-use Rattle.std.specs.Prelude.{◌≡◌, ℕ, ℤ, pos, ◌<◌, ◌≤◌, List, [], ◌∷◌, ◌++◌, length, Bool, Result, Ok, None, Some}
+use Rattle.std.specs.Prelude.{◌≡◌, ℕ, ℤ, pos, ◌<◌, ◌≤◌, List, [], ◌∷◌, ◌++◌, length, Bool, Ok, None, Some}
 use Rattle.std.specs.declared.option.Option.{Option}
 use Rattle.gps_time.specs.declared.Tick.{Tick}
 use Rattle.obs_store.specs.declared.file.ObsFile.{ObsFile}
@@ -7,7 +7,7 @@ use Rattle.obs_store.specs.declared.series.Epoch.{Epoch}
 use Rattle.obs_store.specs.declared.values.SatObs.{SatObs}
 use Rattle.rinex_obs.specs.FirstLine.{first_line_of}
 use Rattle.rinex_obs.specs.HeaderLines.{header_line_of}
-use Rattle.rinex_obs.specs.Types.{type_list, first_types_of, further_types_of, kept_from}
+use Rattle.rinex_obs.specs.Types.{first_types_of, further_types_of, kept_from}
 use Rattle.rinex_obs.specs.EpochLines.{epoch_line_of, event_line_of}
 use Rattle.rinex_obs.specs.SatLines.{satellite_line_of}
 use Rattle.rinex_obs.specs.ObsRules.{file_of, epoch_of}

@@ -1,5 +1,5 @@
 -- What each line of an observation file must be in its place.
-use Rattle.std.specs.Prelude.{ℕ, ℤ, pos, zero, suc, ◌-◌, ◌==◌, Bool, List, [], ◌∷◌, ◌++◌, Result, Ok, Err, None, Some, if◌then◌else◌}
+use Rattle.std.specs.Prelude.{ℕ, ℤ, pos, zero, suc, ◌-◌, Bool, List, [], ◌∷◌, ◌++◌, Result, Ok, None, Some}
 use Rattle.std.specs.declared.option.Option.{Option}
 use Rattle.gps_time.specs.declared.Tick.{Tick}
 use Rattle.obs_store.specs.declared.file.ObsFile.{ObsFile}
@@ -7,7 +7,7 @@ use Rattle.obs_store.specs.declared.series.Epoch.{Epoch}
 use Rattle.obs_store.specs.declared.values.SatObs.{SatObs}
 use Rattle.rinex_head.specs.declared.place.At.{At}
 use Rattle.rinex_head.specs.declared.place.Flaw.{Flaw}
-use Rattle.rinex_head.specs.declared.place.What.TheVariants.{Version, Kind, NoEnd, Types, NoGps, Truncated}
+use Rattle.rinex_head.specs.declared.place.What.TheVariants.{Version, NoEnd, Types, NoGps, Truncated}
 use Rattle.rinex_head.specs.Places.{and_then, flawed}
 use Rattle.rinex_head.specs.Walk.{Rules, text_gives}
 use Rattle.rinex_obs.specs.FirstLine.{first_line_of}
@@ -15,7 +15,6 @@ use Rattle.rinex_obs.specs.HeaderLines.{header_line_of}
 use Rattle.rinex_obs.specs.Types.{first_types_of, further_types_of, kept_from, listed_of}
 use Rattle.rinex_obs.specs.EpochLines.{epoch_line_of, event_line_of}
 use Rattle.rinex_obs.specs.SatLines.{satellite_line_of}
-use Rattle.rinex_obs.specs.declared.types.TypeList.{TypeList}
 use Rattle.rinex_obs.specs.declared.header.Header.{Header}
 use Rattle.rinex_obs.specs.declared.header_lines.HeaderLine.{HeaderLine}
 use Rattle.rinex_obs.specs.declared.header_lines.HeaderLine.TheVariants as header

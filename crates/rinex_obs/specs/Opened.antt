@@ -1,5 +1,5 @@
 -- What is expected behind the lines that were read.
-use Rattle.std.specs.Prelude.{◌≡◌, ℕ, ℤ, List, [], Bool, None, Some}
+use Rattle.std.specs.Prelude.{List, [], None, Some}
 use Rattle.std.specs.declared.option.Option.{Option}
 use Rattle.obs_store.specs.declared.series.Epoch.{Epoch}
 use Rattle.rinex_obs.specs.declared.types.TypeList.{TypeList}

@@ -1,5 +1,5 @@
 -- The part of a body in which a line stands.
-use Rattle.std.specs.Prelude.{ℕ, ◌<◌, List, length, IfSome, Bool}
+use Rattle.std.specs.Prelude.{◌<◌, List, length, IfSome}
 use Rattle.std.proofs.Props.{props}
 use Rattle.obs_store.specs.declared.series.Epoch.{Epoch}
 use Rattle.obs_store.specs.Epochs.{last_tag_of}

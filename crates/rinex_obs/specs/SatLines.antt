@@ -1,5 +1,5 @@
 -- The line of a satellite in an epoch.
-use Rattle.std.specs.Prelude.{ℕ, ℤ, zero, suc, pos, negsuc, ◌+◌, ◌-◌, ◌*◌, ◌&&◌, ◌||◌, not, ◌==◌, nat_le, Bool, true, false, List, [], ◌∷◌, replicate, slice_set, Result, Ok, Err, None, Some, if◌then◌else◌}
+use Rattle.std.specs.Prelude.{ℕ, ℤ, zero, suc, pos, negsuc, ◌+◌, ◌-◌, ◌*◌, ◌&&◌, ◌||◌, not, ◌==◌, nat_le, Bool, List, [], ◌∷◌, replicate, slice_set, Result, Ok, Err, None, Some, if◌then◌else◌}
 use Rattle.std.specs.declared.option.Option.{Option}
 use Rattle.std.specs.List.{list_all}
 use Rattle.decimal_text.specs.Whole.{is_digit}

@@ -8,9 +8,10 @@ ghost use Rattle.rinex_obs.specs.Opened.{expected_in};
 ghost use Rattle.rinex_obs.specs.Feeding.{gives_with, Takes, TakesAll, IsAnswerTo};
 ghost use Rattle.rinex_obs.specs.Fed.{LinesWithin, LinesWithin-prop, gives_behind, StandsFor, HasNoMemory};
 
+use crate::header::flaw;
 use crate::open_file::OpenFile;
-use crate::started::{Overlong, StartedLine, split_line, without_return};
-use line_source::{Line, MAX_LINE, Taker};
+use crate::started::{Overlong, StartedLine, split_line};
+use line_source::{Line, MAX_LINE, Taker, without_return};
 use obs_store::ObsFile;
 use rinex_head::{At, TextFault, What};
 use std::alloc::{AllocError, Global};
@@ -35,11 +36,7 @@ pub enum FeedState {
 fn long_line(number: u32) -> At
     ensures { result ≡ place number 1 What.LongLine }
 {
-    At {
-        line: number,
-        column: 1,
-        what: What::LongLine,
-    }
+    flaw(1, What::LongLine).at(number)
 }
 
 // Reads a line, which may be too long.

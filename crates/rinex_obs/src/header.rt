@@ -23,7 +23,8 @@ pub struct Header {
     pub types: TypeNames,
 }
 
-fn flaw(column: u32, what: What) -> Flaw
+/// What is wrong, from that column on.
+pub fn flaw(column: u32, what: What) -> Flaw
     ensures { result ≡ record { column = column; what = what } }
 {
     Flaw { column, what }

@@ -5,7 +5,7 @@ ghost use Rattle.rinex_obs.specs.ObsRules.{Body, admit, finish};
 ghost use Rattle.rinex_obs.specs.Opened.{expected_in, expected_in_body};
 ghost use Rattle.rinex_obs.specs.Feeding.{Takes};
 
-use crate::header::{Header, first_line};
+use crate::header::{Header, first_line, flaw};
 use crate::open_body::OpenBody;
 use crate::open_header::OpenHeader;
 use crate::types::kept_types;
@@ -56,17 +56,11 @@ impl OpenFile {
         ensures { result ≡ finish (expected_in self) }
     {
         match self {
-            OpenFile::First => Err(first_column(What::Version)),
-            OpenFile::Header(_) => Err(first_column(What::NoEnd)),
+            OpenFile::First => Err(flaw(1, What::Version)),
+            OpenFile::Header(_) => Err(flaw(1, What::NoEnd)),
             OpenFile::Body(body) => body.finish(),
         }
     }
-}
-
-fn first_column(what: What) -> Flaw
-    ensures { result ≡ record { column = 1; what = what } }
-{
-    Flaw { column: 1, what }
 }
 
 fn begin_body(alloc: Global, header: Header) -> Result<OpenBody, AllocError>

@@ -3,7 +3,7 @@ ghost use Rattle.std.specs.Prelude.{◌≡◌, ◌+◌, ◌<◌, ◌≤◌, leng
 ghost use Rattle.std.proofs.Props.{props};
 ghost use Rattle.rinex_obs.specs.ObsRules.{Head, More, Body, bare_header, more_types, begun_list, ended_header, admit};
 
-use crate::header::Header;
+use crate::header::{Header, flaw};
 use crate::header_lines::{HeaderLine, header_line};
 use crate::types::{TypeList, TypeNames, first_types, further_types};
 use line_source::Line;
@@ -19,12 +19,6 @@ pub struct OpenHeader {
     // the list of types, while further lines of it are due
     list: Option<TypeList>,
     ghost due: { IfSome list (λ l. (0 < l.left) × (length l.names + l.left ≤ 200)) } by { Prim.hlevel props },
-}
-
-fn first_column(what: What) -> Flaw
-    ensures { result ≡ record { column = 1; what = what } }
-{
-    Flaw { column: 1, what }
 }
 
 impl OpenHeader {
@@ -107,7 +101,7 @@ impl OpenHeader {
         ensures err { IfErr result (λ flaw. begun_list (said_so_far self.old) line.now self.old.types ≡ Err flaw) }
     {
         if self.types.is_some() {
-            return Err(first_column(What::Types));
+            return Err(flaw(1, What::Types));
         }
         match first_types(line) {
             Ok(list) => {
@@ -143,7 +137,7 @@ impl OpenHeader {
                 delta: self.delta,
                 types,
             }),
-            None => Err(first_column(What::NoGps)),
+            None => Err(flaw(1, What::NoGps)),
         }
     }
 }

@@ -1,11 +1,9 @@
 // The bytes of a line that has begun, and where it ends.
 ghost use Rattle.std.specs.Prelude.{◌≡◌, ◌+◌, ◌≤◌, ◌<◌, ◌++◌, ◌∷◌, ℕ, List, [], length, IfSome, IfNone, OnOk, OnErr};
-ghost use Rattle.std.specs.Str.Lines.{strip_carriage_return};
 ghost use Rattle.line_source.specs.Lines.{lines_from};
 ghost use Rattle.rinex_obs.specs.Started.{EndsLine, GoesOn};
 
 use arrayvec::ArrayVec;
-use line_source::LongLine;
 use std::marker::Model;
 
 // one more than a line may have, since the last one may be a CR before its end
@@ -78,14 +76,4 @@ pub fn split_line(bytes: &[u8]) -> Option<(&[u8], &[u8])>
         }
     }
     None
-}
-
-/// The line without one carriage return at its end.
-pub fn without_return(line: &[u8]) -> &[u8]
-    ensures { result.now ≡ strip_carriage_return line.now }
-{
-    match line {
-        [front @ .., b'\r'] => front,
-        _ => line,
-    }
 }

@@ -10,18 +10,17 @@ ghost use Rattle.rinex_obs.specs.ObsRules.{obs_of};
 ghost use Rattle.rinex_nav.specs.NavForm.{IsNavFile, HasNavFile};
 ghost use Rattle.rinex_nav.specs.NavRules.{nav_of};
 ghost use Rattle.eph_store.specs.Records.{AreFit};
-ghost use Rattle.job_answers.specs.Answers.{ending_of, IfStopped};
-ghost use Rattle.job_answers.specs.Endings.{ending, IsRefusal};
-ghost use Rattle.job_answers.specs.Texts.{too_large_line, read_fault_line};
+ghost use Rattle.job_answers.specs.Answers.{IfStopped};
+ghost use Rattle.job_answers.specs.Endings.{IsRefusal};
 ghost use Rattle.session_files.specs.SessionFiles.{IsObsOf, IsNavOf, StopsAtObs, StopsAtNav, StopsAtFiles, AreFilesOf};
 
 use eph_store::NavFile;
-use job_answers::{Answer, Status, Stop, load_file, refused};
+use job_answers::{Status, Stop, load_file, read_fault, refused, too_large};
 use line_source::{Files, LoadFault, Taker, load_into};
 use obs_store::ObsFile;
 use rinex_nav::{NavFault, read_nav};
 use rinex_obs::{ObsFault, ObsFeed};
-use std::alloc::{AllocError, Global};
+use std::alloc::Global;
 
 /// The files of a base and of a rover, and that of the satellites.
 #[derive(Drop)]
@@ -29,20 +28,6 @@ pub struct SessionFiles {
     pub base: ObsFile,
     pub rover: ObsFile,
     pub nav: NavFile,
-}
-
-fn too_large(alloc: Global, name: &str) -> Result<Answer, AllocError>
-    ensures { IfOk result (λ a. ending_of a ≡ ending Status.Refused [] (too_large_line name.now)) }
-{
-    let err = format!(in alloc; "refused: {name}: file too large\n")?;
-    Ok(Answer::on_err(alloc, Status::Refused, err))
-}
-
-fn read_fault(alloc: Global, name: &str) -> Result<Answer, AllocError>
-    ensures { IfOk result (λ a. ending_of a ≡ ending Status.ReadFault [] (read_fault_line name.now)) }
-{
-    let err = format!(in alloc; "read fault: {name}\n")?;
-    Ok(Answer::on_err(alloc, Status::ReadFault, err))
 }
 
 // The file whose text was fed.

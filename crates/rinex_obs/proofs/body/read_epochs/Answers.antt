@@ -1,5 +1,5 @@
-use Rattle.std.proofs.Common.{◌≡◌, ◌<◌, ◌≤◌, ◌++◌, ◌∷◌, [], Some, None, Ok, Err, refl, sym, ap, ◌∙◌, length, arith, ℕ, List}
-use Rattle.rinex_head.proofs.Walks.{goes_on, stops, has_long, ends_well, gives_less, handed_on}
+use Rattle.std.proofs.Common.{[], Ok, refl, ◌∙◌}
+use Rattle.rinex_head.proofs.Walks.{goes_on, stops, has_long, ends_well, handed_on}
 use Rattle.rinex_obs.specs.EpochLines.{epoch_line_of}
 use Rattle.rinex_obs.specs.declared.epoch_lines.EpochLine.TheVariants as line
 use Rattle.rinex_obs.specs.ObsRules.{Body, file_of, more_sats, more_lines, after_epoch, obs_rules}

@@ -1,12 +1,8 @@
-use Rattle.std.proofs.Common.{◌≡◌, ◌<◌, ◌≤◌, ◌-◌, ◌++◌, ◌∷◌, [], Some, None, Ok, Err, refl, sym, ap, ◌∙◌, length, arith, ℕ, List}
-use Rattle.obs_store.specs.declared.values.SatObs.{SatObs}
+use Rattle.std.proofs.Common.{◌-◌, ◌++◌, ◌∷◌, [], Some, None, Ok, refl, ◌∙◌, arith}
 use Rattle.rinex_head.specs.declared.place.What.TheVariants.{Truncated}
-use Rattle.rinex_head.specs.Places.{and_then}
 use Rattle.rinex_head.proofs.Walks.{goes_on, stops, has_none, gives_less}
-use Rattle.rinex_obs.specs.Types.{kept_from}
 use Rattle.rinex_obs.specs.SatLines.{satellite_line_of}
-use Rattle.rinex_obs.specs.declared.types.KeptType.{KeptType}
-use Rattle.rinex_obs.specs.ObsRules.{more_sats, with_satellite, admit, obs_rules}
+use Rattle.rinex_obs.specs.ObsRules.{more_sats, with_satellite, obs_rules}
 use Rattle.rinex_obs.proofs.Steps.{finish_sats, admit_kept}
 use Rattle.rinex_obs.proofs.body.read_sats.Goals as goal
 

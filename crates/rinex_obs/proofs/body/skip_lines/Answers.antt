@@ -1,4 +1,4 @@
-use Rattle.std.proofs.Common.{◌≡◌, ◌<◌, ◌≤◌, ◌-◌, Ok, Err, refl, sym, ap, ◌∙◌, length, arith}
+use Rattle.std.proofs.Common.{◌-◌, Ok, refl, ◌∙◌, arith}
 use Rattle.rinex_head.specs.declared.place.What.TheVariants.{Truncated}
 use Rattle.rinex_head.proofs.Walks.{goes_on, stops, has_none, gives_less}
 use Rattle.rinex_obs.specs.EpochLines.{event_line_of}

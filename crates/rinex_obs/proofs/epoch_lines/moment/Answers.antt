@@ -1,4 +1,4 @@
-use Rattle.std.proofs.Common.{◌≡◌, ◌<◌, ◌≤◌, ◌<ℤ◌, ◌≤ℤ◌, ℕ, ℤ, pos, Ok, refl, sym, ap, ◌∙◌, arith, of_z, to_z, w64, unsigned_abs}
+use Rattle.std.proofs.Common.{◌≡◌, ℕ, ℤ, pos, Ok, refl, sym, ap, ◌∙◌, arith, of_z, to_z, w64, unsigned_abs}
 use Rattle.std.proofs.lemmas.Int.{ints}
 use Rattle.gps_time.specs.declared.Tick.{Tick}
 use Rattle.rinex_head.specs.declared.place.Flaw.{Flaw}

@@ -1,4 +1,4 @@
-use Rattle.std.proofs.Common.{refl, Ok}
+use Rattle.std.proofs.Common.{refl}
 use Rattle.rinex_head.proofs.Walks.{reads_line, has_none}
 use Rattle.rinex_head.specs.declared.place.What.TheVariants.{Version}
 use Rattle.rinex_obs.specs.FirstLine.{first_line_of}

@@ -1,10 +1,9 @@
-use Rattle.std.proofs.Common.{◌≡◌, ◌<◌, ◌≤◌, [], Some, None, Ok, Err, refl, sym, ap, ◌∙◌, length, arith, true, false, ℕ, List, Result}
+use Rattle.std.proofs.Common.{[], Ok, refl, sym, ap, ◌∙◌, Result}
 use Rattle.rinex_head.specs.declared.place.What.TheVariants.{NoEnd}
 use Rattle.rinex_head.specs.declared.place.Flaw.{Flaw}
 use Rattle.rinex_head.specs.Places.{and_then}
-use Rattle.rinex_head.proofs.Walks.{goes_on, stops_after, stops, has_none, gives_less}
+use Rattle.rinex_head.proofs.Walks.{goes_on, stops_after, stops, has_none}
 use Rattle.rinex_obs.specs.HeaderLines.{header_line_of}
-use Rattle.rinex_obs.specs.Types.{first_types_of}
 use Rattle.rinex_obs.specs.declared.types.TypeList.{TypeList}
 use Rattle.rinex_obs.specs.declared.header_lines.HeaderLine.TheVariants as header
 use Rattle.rinex_obs.specs.ObsRules.{Expected, Head, Body, so_far, with_position, with_delta, more_types, whole_header, after_header, obs_rules}

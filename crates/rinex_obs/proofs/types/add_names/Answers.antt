@@ -1,6 +1,6 @@
-use Rattle.std.proofs.Common.{refl, ◌≡◌, ◌+◌, length, true, false, [], ◌∷◌, sym, ap, ◌∙◌, arith, length-append, ℕ, List}
+use Rattle.std.proofs.Common.{refl, ◌≡◌, length, true, false, [], ◌∷◌, sym, ap, ◌∙◌, arith, length-append, ℕ, List}
 use Rattle.rinex_head.specs.Columns.{columns}
-use Rattle.rinex_obs.specs.Types.{is_listed, names_from}
+use Rattle.rinex_obs.specs.Types.{is_listed}
 use Rattle.rinex_obs.proofs.TypeLists.{names_again, names_more, names_done}
 use Rattle.rinex_obs.proofs.types.add_names.Goals as goal
 

@@ -1,4 +1,4 @@
-use Rattle.std.proofs.Common.{◌≡◌, ◌<◌, ◌≤◌, ◌+◌, ◌++◌, length, drop, get_or, [], ℕ, List, sym, ap, ◌∙◌, refl, arith, append_assoc, subst}
+use Rattle.std.proofs.Common.{◌<◌, ◌≤◌, ◌+◌, ◌++◌, length, drop, get_or, [], List, sym, ap, ◌∙◌, append_assoc}
 use Rattle.std.proofs.lemmas.List.{append-nil}
 use Rattle.obs_store.specs.Kinds.{kept_type_of}
 use Rattle.rinex_obs.specs.Types.{kept_at, kept_from}

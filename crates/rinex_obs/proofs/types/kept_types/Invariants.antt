@@ -1,4 +1,4 @@
-use Rattle.std.proofs.Common.{◌≡◌, ◌≤◌, ◌++◌, drop, length}
+use Rattle.std.proofs.Common.{◌≡◌, ◌++◌, drop}
 use Rattle.rinex_obs.specs.Types.{kept_from}
 use Rattle.rinex_obs.proofs.types.kept_types.Given as goal
 

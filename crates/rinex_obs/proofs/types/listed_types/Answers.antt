@@ -1,4 +1,4 @@
-use Rattle.std.proofs.Common.{◌≡◌, ◌≢◌, ◌<◌, length, false, ap, List, ℕ, arith, ◌∙◌, get_or-set_other, get_or-set_same, below_more, length-set}
+use Rattle.std.proofs.Common.{◌≢◌, ◌<◌, length, ap, List, ℕ, arith, ◌∙◌, get_or-set_other, get_or-set_same, below_more, length-set}
 use Rattle.rinex_obs.specs.Types.{is_listed}
 use Rattle.rinex_obs.proofs.TypeLists.{listed_is}
 use Rattle.rinex_obs.proofs.types.listed_types.Goals as goal

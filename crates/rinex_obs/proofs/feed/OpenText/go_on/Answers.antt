@@ -1,4 +1,4 @@
-use Rattle.std.proofs.Common.{◌≡◌, ◌<◌, ◌++◌, Result, Err, length, length-append, sym, ap, ◌∙◌, arith}
+use Rattle.std.proofs.Common.{◌<◌, ◌++◌, Result, Err, length, length-append, sym, ap, ◌∙◌, arith}
 use Rattle.obs_store.specs.declared.file.ObsFile.{ObsFile}
 use Rattle.rinex_head.specs.declared.place.At.{At}
 use Rattle.rinex_obs.specs.Opened.{expected_in}

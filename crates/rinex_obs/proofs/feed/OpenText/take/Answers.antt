@@ -1,4 +1,4 @@
-use Rattle.std.proofs.Common.{◌≡◌, ◌+◌, ◌++◌, ℕ, List, [], length, sym, ap, ◌∙◌, arith}
+use Rattle.std.proofs.Common.{◌≡◌, ◌++◌, ℕ, List, [], length, sym, ap, ◌∙◌, arith}
 use Rattle.rinex_obs.specs.Opened.{expected_in}
 use Rattle.rinex_obs.specs.Feeding.{gives_with}
 use Rattle.rinex_obs.specs.Fed.{gives_behind}
