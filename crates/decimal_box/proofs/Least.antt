@@ -29,6 +29,9 @@ power_high exponent most n h e =
 pub power_low : (n : ℕ) → 0 < 10 ^ n
 power_low n = let r : 1 ≤ 10 ^ n = one-le-pow n 10 (lit< tt) in omega (arith, r)
 
+pub own_word : (z : ℤ) (p : ℕ) → z ≡ pos p → p ≤ 10 ^ 38 → to_z w128 (of_z w128 z) ≡ pos p
+own_word z p is h = omega (arith, ints, is, h)
+
 -- ---- ends
 -- the ends lo and hi are those of the least box of the number
 pub record IsLeastOf (k : ℕ) (lo hi : ℤ) (value : Rational) : Type 0 where

@@ -1,7 +1,7 @@
 -- 10^38 fits, and powers of ten rise from 1.
-use Rattle.std.proofs.Common.{◌≡◌, ◌^◌, ℕ, pos, arith, ap, ◌∙◌}
+use Rattle.std.proofs.Common.{◌^◌, ℕ, pos, arith, ap, ◌∙◌}
 use Rattle.std.proofs.lemmas.Int.{ints}
-use Rattle.decimal_box.proofs.Least.{power_high, power_low}
+use Rattle.decimal_box.proofs.Least.{power_high, power_low, own_word}
 use Rattle.decimal_box.proofs.cut_power.Goals as goal
 
 pub pow-requires : goal.pow-requires
@@ -10,16 +10,19 @@ pow-requires c =
     omega (arith, ints, h.1)
 
 pub returns-clause-value : goal.returns-clause-value
-returns-clause-value c = c.pow.ensures ∙ ap (λ (n : ℕ). pos (10 ^ n)) c.min.ensures
+returns-clause-value c =
+    let h = power_high c.args.exponent c.args.most c.min.result c.requires c.min.ensures in
+    own_word c.pow.result (10 ^ c.min.result) c.pow.ensures h.1 ∙ ap (λ (n : ℕ). pos (10 ^ n)) c.min.ensures
 
 pub returns-clause-positive : goal.returns-clause-positive
 returns-clause-positive c =
-    let is : c.pow.result ≡ pos (10 ^ c.min.result) = c.pow.ensures in
+    let h = power_high c.args.exponent c.args.most c.min.result c.requires c.min.ensures in
+    let own = own_word c.pow.result (10 ^ c.min.result) c.pow.ensures h.1 in
     let low = power_low c.min.result in
-    omega (arith, ints, is, low)
+    omega (arith, ints, own, low)
 
 pub returns-clause-bound : goal.returns-clause-bound
 returns-clause-bound c =
     let h = power_high c.args.exponent c.args.most c.min.result c.requires c.min.ensures in
-    let is : c.pow.result ≡ pos (10 ^ c.min.result) = c.pow.ensures in
-    omega (arith, ints, is, h.0)
+    let own = own_word c.pow.result (10 ^ c.min.result) c.pow.ensures h.1 in
+    omega (arith, ints, own, h.0)

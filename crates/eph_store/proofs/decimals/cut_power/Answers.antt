@@ -10,8 +10,8 @@ pow-requires c =
     let small : 10 ^ c.args.exponent ≤ 10 ^ 20 = pow-le-pow_right (lit< tt) below in
     omega (arith, small)
 
-pub pow-else-exponent-most-requires : goal.pow-else-exponent-most-requires
-pow-else-exponent-most-requires c =
+pub pow-requires-else-exponent-most : goal.pow-requires-else-exponent-most
+pow-requires-else-exponent-most c =
     let small : 10 ^ c.args.most ≤ 10 ^ 20 = pow-le-pow_right (lit< tt) c.requires in
     omega (arith, small)
 
