@@ -19,18 +19,18 @@ use Rattle.rational.specs.Rational.{Rational, ◌≈◌, InBox, IsRatio, IsAtMos
 use Rattle.eph_store.specs.Decimals.{ten_to_pos, decimal}
 
 -- ---- a power that is cut
-pub power_high : (exponent most p n : ℕ) → most ≤ 38 → n ≡ min exponent most → p ≡ 10 ^ n → (p ≤ 10 ^ most) × (p ≤ 10 ^ 38)
-power_high exponent most p n h e f =
+pub power_high : (exponent most n : ℕ) → most ≤ 38 → n ≡ min exponent most → (10 ^ n ≤ 10 ^ most) × (10 ^ n ≤ 10 ^ 38)
+power_high exponent most n h e =
     let below : n ≤ most = omega (arith, e, min-le_right exponent most) in
     let r : 10 ^ n ≤ 10 ^ most = pow-le-pow_right (lit< tt) below in
     let s : 10 ^ most ≤ 10 ^ 38 = pow-le-pow_right (lit< tt) h in
-    (omega (arith, r, f), omega (arith, r, s, f))
+    (r, omega (arith, r, s))
 
-pub power_low : (p n : ℕ) → p ≡ 10 ^ n → 0 < p
-power_low p n f = let r : 1 ≤ 10 ^ n = one-le-pow n 10 (lit< tt) in omega (arith, r, f)
+pub power_low : (n : ℕ) → 0 < 10 ^ n
+power_low n = let r : 1 ≤ 10 ^ n = one-le-pow n 10 (lit< tt) in omega (arith, r)
 
-pub cast_is : (p : ℕ) → p ≤ 10 ^ 38 → to_z w128 p ≡ pos p
-cast_is p h = omega (arith, ints)
+pub own_word : (z : ℤ) (p : ℕ) → z ≡ pos p → p ≤ 10 ^ 38 → to_z w128 (of_z w128 z) ≡ pos p
+own_word z p is h = omega (arith, ints, is, h)
 
 -- ---- ends
 -- the ends lo and hi are those of the least box of the number

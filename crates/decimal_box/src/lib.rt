@@ -12,18 +12,6 @@ use decimal_text::Dec;
 use iv_core::Iv;
 use sized_box::SizedBox;
 
-// 10^places
-fn power_of_ten(places: u32) -> u128
-    requires { places ≤ 38 }
-    ensures { result ≡ 10 ^ places }
-{
-    let mut power: u128 = 1;
-    for _ in 0..places {
-        power *= 10;
-    }
-    power
-}
-
 // 10^exponent, or 10^most where the exponent is larger
 fn cut_power(exponent: u32, most: u32) -> i128
     requires { most ≤ 38 }
@@ -31,7 +19,7 @@ fn cut_power(exponent: u32, most: u32) -> i128
     ensures positive { pos 0 <ℤ result }
     ensures bound { result ≤ℤ pos (10 ^ most) }
 {
-    power_of_ten(exponent.min(most)) as i128
+    10i128.pow(exponent.min(most))
 }
 
 // mant · 10^power, or mant · 10^19 where the power is larger

@@ -1,42 +1,10 @@
 // Numbers with a point, written.
-ghost use Rattle.std.specs.Prelude.{◌≡◌, ◌++◌, ◌≤◌, ◌<◌, ◌^◌, OnOk, OnErr};
-ghost use Rattle.decimal_text.specs.Whole.{size_of};
-ghost use Rattle.decimal_text.specs.Write.{fixed_text, last_digits, part_text, sign_text};
+ghost use Rattle.std.specs.Prelude.{◌≡◌, ◌++◌, ◌≤◌, OnOk, OnErr};
+ghost use Rattle.decimal_text.specs.Write.{fixed_text, part_text, sign_text};
 
+use crate::digits::push_digits;
 use itoa::Buffer;
 use std::alloc::{AllocError, Global};
-
-fn power_of_ten(exponent: u32) -> u64
-    requires { exponent ≤ 9 }
-    ensures value { result ≡ 10 ^ exponent }
-    ensures positive { 0 < result }
-{
-    match exponent {
-        0 => 1,
-        1 => 10,
-        2 => 100,
-        3 => 1_000,
-        4 => 10_000,
-        5 => 100_000,
-        6 => 1_000_000,
-        7 => 10_000_000,
-        8 => 100_000_000,
-        _ => 1_000_000_000,
-    }
-}
-
-fn push_digits(text: &mut Vec<u8>, number: u64, count: u32) -> Result<(), AllocError>
-    requires { count ≤ 9 }
-    ensures { OnOk result (text.new.items ≡ text.old.items ++ last_digits count number) }
-{
-    let mut left = count;
-    while left > 0 {
-        left -= 1;
-        let digit = number / power_of_ten(left) % 10;
-        text.push(b'0' + digit as u8)?;
-    }
-    Ok(())
-}
 
 fn push_part(text: &mut Vec<u8>, number: u64, places: u32) -> Result<(), AllocError>
     requires { places ≤ 9 }
@@ -65,7 +33,7 @@ fn push_fixed(text: &mut Vec<u8>, value: i64, places: u32) -> Result<(), AllocEr
     let size = value.unsigned_abs();
     push_sign(text, value)?;
     let mut buffer = Buffer::new();
-    let whole = buffer.format(size / power_of_ten(places));
+    let whole = buffer.format(size / 10u64.pow(places));
     text.extend_from_slice(whole.as_bytes())?;
     push_part(text, size, places)
 }

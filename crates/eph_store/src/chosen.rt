@@ -7,8 +7,7 @@ use crate::{Eph, NavFile};
 use gps_time::Tick;
 
 impl NavFile {
-    /// Of the usable records of the satellite whose ephemeris' time is at most 7,200 s from the tag the nearest, and of
-    /// equally near ones the last in the file. It takes no memory.
+    /// The usable record of the satellite that is nearest to the tag, as `nearest` gives it of all usable ones.
     pub fn choose(&self, sat: u8, tag: Tick) -> Option<&Eph>
         ensures { MatchOption result (HasNoCandidate self.now.fit sat tag.0) (λ e. IsChosenRecord self.now.fit sat tag.0 e.now) }
     {
@@ -16,7 +15,9 @@ impl NavFile {
     }
 }
 
-fn nearest(fit: &[Eph], sat: u8, tag: Tick) -> Option<&Eph>
+/// Of the records of the satellite whose ephemeris' time is at most 7,200 s from the tag the nearest, and of equally near
+/// ones the last; none where there is no such record. It takes no memory.
+pub fn nearest(fit: &[Eph], sat: u8, tag: Tick) -> Option<&Eph>
     ensures { MatchOption result (HasNoCandidate fit.now sat tag.0) (λ e. IsChosenRecord fit.now sat tag.0 e.now) }
 {
     let mut best: Option<&Eph> = None;

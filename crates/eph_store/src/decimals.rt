@@ -5,18 +5,6 @@ ghost use Rattle.eph_store.specs.Decimals.{decimal, size_of, IsFromTo, IsWithin,
 
 use decimal_text::Dec;
 
-// 10^places.
-fn power_of_ten(places: u32) -> u128
-    requires { places ≤ 20 }
-    ensures { result ≡ 10 ^ places }
-{
-    let mut power: u128 = 1;
-    for _ in 0..places {
-        power *= 10;
-    }
-    power
-}
-
 // 10^exponent, or 10^most where the exponent is larger.
 fn cut_power(exponent: u64, most: u32) -> u128
     requires { most ≤ 20 }
@@ -26,9 +14,9 @@ fn cut_power(exponent: u64, most: u32) -> u128
     ensures bound { result ≤ 10 ^ most }
 {
     if exponent <= most as u64 {
-        power_of_ten(exponent as u32)
+        10u128.pow(exponent as u32)
     } else {
-        power_of_ten(most)
+        10u128.pow(most)
     }
 }
 

@@ -9,6 +9,7 @@ mod profile;
 mod record;
 mod records;
 
+pub use chosen::nearest;
 pub use ephemeris::Eph;
 pub use profile::Unfit;
 pub use record::Raw;

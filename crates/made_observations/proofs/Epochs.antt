@@ -25,12 +25,13 @@ use Rattle.rinex_obs.specs.declared.epoch_lines.EpochLine.TheVariants as line
 use Rattle.sim_texts.specs.declared.signals.Signals.{Signals}
 use Rattle.sim_texts.specs.Columns.{fixed_in}
 use Rattle.sim_texts.specs.Observations.{epoch_line, satellite_line, satellite_lines, epoch_text, epochs_text, AreInColumns}
+use Rattle.sim_texts.proofs.Lengths.{length-second, length-count}
 use Rattle.written_texts.specs.Printed.{are_printed}
 use Rattle.written_texts.proofs.Printed.{printed-append, line_first}
 use Rattle.written_texts.proofs.Fields.{drop-behind, padded-front, whole_digits}
 use Rattle.written_texts.proofs.Dates.{moment_is, ticks_are}
 use Rattle.made_observations.specs.Files.{values_of, satellites_of, tick_at, epochs_of, HaveRoom}
-use Rattle.made_observations.proofs.Texts.{length-second, length-count, printed_digits, printed_fixed, fixed_is, count_is}
+use Rattle.made_observations.proofs.Texts.{printed_digits, printed_fixed, fixed_is, count_is}
 use Rattle.made_observations.proofs.Satellites.{content, line_read, length-content, the_kept, AreBelow, none_below, more_below, read_as, get-behind, padded-whole}
 
 -- ---- an epoch's line

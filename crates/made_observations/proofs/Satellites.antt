@@ -17,11 +17,12 @@ use Rattle.rinex_obs.specs.declared.types.KeptType.{KeptType}
 use Rattle.sim_texts.specs.declared.signals.Signals.{Signals}
 use Rattle.sim_texts.specs.Columns.{fixed_in}
 use Rattle.sim_texts.specs.Observations.{satellite_line, IsInColumns, AreInColumns}
+use Rattle.sim_texts.proofs.Lengths.{length-thousandths}
 use Rattle.written_texts.specs.Printed.{are_printed}
 use Rattle.written_texts.proofs.Printed.{printed-append, line_first}
 use Rattle.written_texts.proofs.Fields.{drop-behind, padded-front}
 use Rattle.made_observations.specs.Files.{with_no_lock, value_of, values_of}
-use Rattle.made_observations.proofs.Texts.{length-thousandths, printed_digits, printed_fixed, fixed_is, size_in}
+use Rattle.made_observations.proofs.Texts.{printed_digits, printed_fixed, fixed_is, size_in}
 
 pub field : ℤ → List ℕ
 field z = fixed_in 14 z 3

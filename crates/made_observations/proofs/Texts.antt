@@ -1,8 +1,8 @@
--- Numbers in columns: how long they are, that they are printed, and what they are read as.
-use Rattle.std.proofs.Common.{◌≡◌, ℕ, ℤ, pos, negsuc, zero, suc, ◌+◌, ◌-◌, ◌*◌, ◌/◌, ◌%◌, ◌^◌, ◌≤◌, ◌<◌, ◌<ℤ◌, true, List, [], ◌∷◌, ◌++◌, length, Ok, Some, refl, ap, ◌∙◌, arith, length-append, lit<}
+-- Numbers in columns: that they are printed, and what they are read as.
+use Rattle.std.proofs.Common.{◌≡◌, ℕ, ℤ, pos, negsuc, zero, suc, ◌-◌, ◌/◌, ◌^◌, ◌≤◌, ◌<◌, true, List, [], ◌∷◌, ◌++◌, length, Ok, Some, refl, ap, ◌∙◌, arith}
 use Rattle.std.proofs.lemmas.Int.{ints}
-use Rattle.std.proofs.lemmas.List.{length-replicate, append-nil}
-use Rattle.std.proofs.lemmas.Fmt.{length-decimal-le, decimal_nonempty}
+use Rattle.std.proofs.lemmas.List.{append-nil}
+use Rattle.std.proofs.lemmas.Fmt.{decimal_nonempty}
 use Rattle.std.specs.Prelude.{decimal, replicate}
 use Rattle.decimal_text.specs.Whole.{size_of, are_digits, number_from}
 use Rattle.decimal_text.specs.Write.{last_digits, sign_text, part_text, fixed_text}
@@ -13,55 +13,9 @@ use Rattle.sim_texts.specs.Columns.{right_in, fixed_in}
 use Rattle.sim_texts.specs.Observations.{IsInColumns}
 use Rattle.written_texts.specs.Printed.{are_printed}
 use Rattle.written_texts.proofs.Printed.{printed-append}
-use Rattle.written_texts.proofs.Digits.{decimal_digits, decimal_value, digits_printed, last_digits-digits, length-last_digits}
+use Rattle.written_texts.proofs.Digits.{decimal_digits, decimal_value, digits_printed, last_digits-digits}
 use Rattle.written_texts.proofs.Fixed.{fixed_again}
 use Rattle.written_texts.proofs.Fields.{no_blanks}
-
--- ---- lengths
-pub length-right : (width : ℕ) (text : List ℕ) → length text ≤ width → length (right_in width text) ≡ width
-unfolding right_in
-length-right width text h = omega (arith, length-append (replicate (width - length text) 32) text, length-replicate {A = ℕ} (width - length text) 32)
-
-length-part : (k n : ℕ) → length (part_text (suc k) n) ≡ k + 2
-length-part k n = omega (arith, length-last_digits (suc k) n)
-
--- a number of at most so many digits before the point
-length-fixed : (whole k n : ℕ) → 0 < whole → n / 10 ^ suc k < 10 ^ whole → n / 10 ^ suc k < 2 ^ 64 → length (fixed_text (pos n) (suc k)) ≤ whole + (k + 2)
-length-fixed whole k n some few small = omega (arith, length-append (decimal (n / 10 ^ suc k)) (part_text (suc k) n), length-decimal-le whole (n / 10 ^ suc k) some few small, length-part k n)
-
-pub length-thousandths : (z : ℤ) → IsInColumns z → length (fixed_in 14 z 3) ≡ 14
-unfolding fixed_in
-length-thousandths (pos n) h = length-right 14 (fixed_text (pos n) 3) (omega (arith, length-fixed 10 2 n (lit< tt) (small n (under n h.1)) (tiny n (under n h.1))))
-  where
-    under : (n : ℕ) → pos n <ℤ pos (10 ^ 13) → n < 10 ^ 13
-    under n h = omega (arith, ints)
-
-    small : (n : ℕ) → n < 10 ^ 13 → n / 10 ^ 3 < 10 ^ 10
-    small n h = omega arith
-
-    tiny : (n : ℕ) → n < 10 ^ 13 → n / 10 ^ 3 < 2 ^ 64
-    tiny n h = omega arith
-length-thousandths (negsuc n) h = absurd (omega (arith, ints, h.0))
-
-pub length-second : (s : ℕ) → length (fixed_in 11 (pos (s % 60 * 10000000)) 7) ≡ 11
-unfolding fixed_in
-length-second s = length-right 11 (fixed_text (pos (s % 60 * 10000000)) 7) (omega (arith, length-fixed 2 6 (s % 60 * 10000000) (lit< tt) (small s) (tiny s)))
-  where
-    small : (s : ℕ) → s % 60 * 10000000 / 10 ^ 7 < 10 ^ 2
-    small s = omega arith
-
-    tiny : (s : ℕ) → s % 60 * 10000000 / 10 ^ 7 < 2 ^ 64
-    tiny s = omega arith
-
-count_below : (n : ℕ) → n ≤ 99 → n / 10 ^ 0 < 2 ^ 64
-count_below n h = omega arith
-
-pub length-count : (n : ℕ) → n ≤ 99 → length (fixed_in 3 (pos n) 0) ≡ 3
-unfolding fixed_in
-length-count n h = length-right 3 (fixed_text (pos n) 0) (omega (arith, length-append (decimal (n / 10 ^ 0)) [], length-decimal-le 2 (n / 10 ^ 0) (lit< tt) (small n h) (count_below n h)))
-  where
-    small : (n : ℕ) → n ≤ 99 → n / 10 ^ 0 < 10 ^ 2
-    small n h = omega arith
 
 -- ---- printed bytes
 printed_blanks : (k : ℕ) → are_printed (replicate k 32) ≡ true
@@ -87,6 +41,9 @@ printed_fixed width z places small =
     (printed-append (decimal (size_of z / 10 ^ places)) (part_text places (size_of z)) (digits_printed (decimal (size_of z / 10 ^ places)) (decimal_digits (size_of z / 10 ^ places) small)) (printed_part places (size_of z))))
 
 -- ---- read again
+count_below : (n : ℕ) → n ≤ 99 → n / 10 ^ 0 < 2 ^ 64
+count_below n h = omega arith
+
 pub fixed_is : (width : ℕ) (z : ℤ) (places : ℕ) → places ≤ 9 → size_of z < 10 ^ 18 → fixed_of (fixed_in width z places) places ≡ Ok z
 unfolding fixed_in right_in
 fixed_is width z places p small = fixed_again (width - length (fixed_text z places)) places z p small

@@ -3,9 +3,8 @@ ghost use Rattle.std.specs.Prelude.{◌≡◌, ◌+◌, ◌*◌, ◌≤◌, ◌+
 ghost use Rattle.sim_records.specs.Navigation.{navigation_header, first_line, further_line, record_text, record_texts, navigation_text};
 
 use crate::numbers::push_number;
-use decimal_text::Dec;
+use decimal_text::{Dec, push_digits};
 use eph_store::Eph;
-use sim_texts::push_digits;
 use std::alloc::AllocError;
 
 const ZERO: Dec = Dec { mant: 0, exp: -12 };

@@ -5,8 +5,7 @@ ghost use Rattle.rational.specs.Rational.{◌≈◌};
 ghost use Rattle.eph_store.specs.Decimals.{decimal, value_of};
 ghost use Rattle.sim_records.specs.Numbers.{IsNormal, sign_or, number_text};
 
-use decimal_text::Dec;
-use sim_texts::push_digits;
+use decimal_text::{Dec, push_digits};
 use std::alloc::AllocError;
 
 const TEN_TO_TWELVE: u64 = 1_000_000_000_000;

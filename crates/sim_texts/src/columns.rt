@@ -1,45 +1,9 @@
 // Texts in columns.
-ghost use Rattle.std.specs.Prelude.{◌≡◌, ◌-◌, ◌≤◌, ◌<◌, ◌^◌, ◌++◌, length, replicate, OnOk};
-ghost use Rattle.decimal_text.specs.Write.{last_digits};
+ghost use Rattle.std.specs.Prelude.{◌≡◌, ◌≤◌, ◌++◌, replicate, OnOk};
 ghost use Rattle.sim_texts.specs.Columns.{right_in, fixed_in};
 
 use decimal_text::write_fixed;
 use std::alloc::{AllocError, Global};
-
-fn power_of_ten(exponent: u32) -> u64
-    requires { exponent ≤ 11 }
-    ensures value { result ≡ 10 ^ exponent }
-    ensures positive { 0 < result }
-{
-    match exponent {
-        0 => 1,
-        1 => 10,
-        2 => 100,
-        3 => 1_000,
-        4 => 10_000,
-        5 => 100_000,
-        6 => 1_000_000,
-        7 => 10_000_000,
-        8 => 100_000_000,
-        9 => 1_000_000_000,
-        10 => 10_000_000_000,
-        _ => 100_000_000_000,
-    }
-}
-
-/// Appends the last digits of a number, so many of them.
-pub fn push_digits(text: &mut Vec<u8>, number: u64, count: u32) -> Result<(), AllocError>
-    requires { count ≤ 12 }
-    ensures { OnOk result (text.new.items ≡ text.old.items ++ last_digits count number) }
-{
-    let mut left = count;
-    while left > 0 {
-        left -= 1;
-        let digit = number / power_of_ten(left) % 10;
-        text.push(b'0' + digit as u8)?;
-    }
-    Ok(())
-}
 
 fn push_blanks(out: &mut Vec<u8>, count: usize) -> Result<(), AllocError>
     ensures { OnOk result (out.new.items ≡ out.old.items ++ replicate count 32) }

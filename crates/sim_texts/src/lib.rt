@@ -5,7 +5,6 @@ mod columns;
 mod observations;
 mod signals;
 
-pub use columns::push_digits;
 pub use observations::{write_epoch, write_header};
 pub use signals::Signals;
 

@@ -3,7 +3,8 @@ ghost use Rattle.std.specs.Prelude.{◌≡◌, ◌+◌, ◌*◌, ◌≤◌, ◌+
 ghost use Rattle.sim_texts.specs.Observations.{header_text, epoch_line, satellite_line, satellite_lines, epoch_text, AreInColumns};
 
 use crate::Signals;
-use crate::columns::{push_digits, push_fixed};
+use crate::columns::push_fixed;
+use decimal_text::push_digits;
 use std::alloc::{AllocError, Global};
 
 /// Appends the header: version 3.04, the base's position (6378137 m, 0, 0), no offset of the antenna, the types C1C L1C C2W L2W

@@ -1,6 +1,0 @@
--- the power so far
-use Rattle.std.proofs.Common.{◌≡◌, ◌^◌}
-use Rattle.eph_store.proofs.decimals.power_of_ten.Given as goal
-
-abbrev pub invariant-loop : goal.invariant-loop
-invariant-loop l = l.power ≡ 10 ^ l.counter
