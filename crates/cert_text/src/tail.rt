@@ -90,29 +90,6 @@ fn next_last(lines: &mut TextLines<'_>) -> Result<bool, At>
     }
 }
 
-// A tail with vectors.
-fn tail_of(fixed: bool, h: u32, moved: [i64; 3], best: TwoBest, top: i128) -> Tail
-    ensures lines { tail_lines result ≡ vectors_lines h moved best top ++ (if fixed then fixed_line else unseparated_line) ∷ [] }
-    ensures fits { (arcs : List Arc) (budget : ℕ) → AreVectors arcs h moved best top → IsTailOf arcs budget result }
-    ensures whole { AreWholeVectors moved best → IsWholeTail result }
-{
-    if fixed {
-        Tail::Fixed {
-            h,
-            moved,
-            best,
-            top,
-        }
-    } else {
-        Tail::Unseparated {
-            h,
-            moved,
-            best,
-            top,
-        }
-    }
-}
-
 // A tail with vectors, behind its first line.
 fn read_vectors(
     lines: &mut TextLines<'_>,
@@ -138,7 +115,7 @@ fn read_vectors(
         p2: values.p2,
         size: count,
     };
-    Ok(tail_of(fixed, values.h, moved, best, values.top))
+    Ok(Tail::of_vectors(fixed, values.h, moved, best, values.top))
 }
 
 /// Reads the tail of a certificate of so many integers.

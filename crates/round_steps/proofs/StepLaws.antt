@@ -8,7 +8,7 @@ use Rattle.integer_form.specs.declared.form.Form.{Form}
 use Rattle.integer_form.specs.declared.faults.Place.{Place}
 use Rattle.integer_form.specs.FloatPoint.{item, float_point, HasWide}
 use Rattle.int_search.specs.declared.answer.TwoBest.{TwoBest}
-use Rattle.int_search.specs.Answers.{IsTwoBest, IsSearchTooWide}
+use Rattle.int_search.specs.Answers.{IsTwoBest}
 use Rattle.fix_decide.specs.Widths.{AreWide}
 use Rattle.quadratic_form.specs.Forms.{Column}
 use Rattle.quadratic_form.specs.Rows.{value}
@@ -23,7 +23,7 @@ use Rattle.cert_data.specs.Tails.{IsTailOf, AreVectors}
 use Rattle.cert_data.specs.declared.tails.Tail.{Tail}
 use Rattle.cert_data.specs.declared.tails.Tail.TheVariants.{Fixed, Unseparated, Weak, Overwidth, Unsettled, Spent}
 use Rattle.round_steps.specs.Limits.{IsFirstOver}
-use Rattle.round_steps.specs.Steps.{AreFound, IsBaselineWide, IsSumWide, IsDecision, IsRoundDeclined, IsUnsettled, IsBestWhereFixed}
+use Rattle.round_steps.specs.Steps.{AreFound, IsTooWide, IsBaselineWide, IsSumWide, IsDecision, IsRoundDeclined, IsUnsettled, IsBestWhereFixed}
 use Rattle.round_steps.proofs.WeakLaws.{weak_fits}
 
 pub word : (x : ℤ) → unsigned_abs x < 2 ^ 46 → to_z w64 (of_z w64 x) ≡ x
@@ -47,12 +47,12 @@ told_decision s f ratio budget h m best top true t e found there back = subst (I
 told_decision s f ratio budget h m best top false t e found there back = subst (IsDecision s f ratio budget) (sym e) (found, λ x. false≢true (back x))
 
 -- a decision that is refused
-pub refused_decision : (s : Session) (f : Form) (best : TwoBest) (place : Place) → IsTwoBest f best → (place ≡ Place.Float) ⊎ (place ≡ Place.Sum) →
+pub refused_decision : (s : Session) (f : Form) (budget : ℕ) (best : TwoBest) (place : Place) → IsTwoBest f best → (place ≡ Place.Float) ⊎ (place ≡ Place.Sum) →
     (place ≡ Place.Float → HasWide (move_of f (first_of best))) →
     (place ≡ Place.Sum → (HasWide (move_of f (first_of best)) → ⊥) × AreWide s.arcs s.pairs (first_of best) (move_of f (first_of best))) →
-    ((place ≡ Place.Search) × IsSearchTooWide f) ⊎ (((place ≡ Place.Float) × IsBaselineWide f) ⊎ ((place ≡ Place.Sum) × IsSumWide s f))
-refused_decision s f best place two (inl e) wide sum = inr (inl (e, record { best = best; best_is = two; wide = wide e }))
-refused_decision s f best place two (inr e) wide sum = inr (inr (e, record { best = best; best_is = two; narrow = (sum e).0; wide = (sum e).1 }))
+    ((place ≡ Place.Search) × IsTooWide f budget) ⊎ (((place ≡ Place.Float) × IsBaselineWide f) ⊎ ((place ≡ Place.Sum) × IsSumWide s f))
+refused_decision s f budget best place two (inl e) wide sum = inr (inl (e, record { best = best; best_is = two; wide = wide e }))
+refused_decision s f budget best place two (inr e) wide sum = inr (inr (e, record { best = best; best_is = two; narrow = (sum e).0; wide = (sum e).1 }))
 
 -- ---- the ranges of tails
 below_narrow : (x : List ℤ) (f : Form) (e : ℤ) (j : ℕ) → e ≡ item x j → item x j ≡ item (float_point f) j → (HasWide (float_point f) → ⊥) → IsBelow (2 ^ 46) e
@@ -111,10 +111,6 @@ vectors_fit s f h m best top o fine found from l g =
   where
     small : (t : ℤ) → pos 0 ≤ℤ t → t ≤ℤ pos (2 ^ 118) → IsBelow (2 ^ 126) t
     small t l g = omega (arith, ints)
-
-pub told_fits : (arcs : List Arc) (budget h : ℕ) (m : List ℤ) (best : TwoBest) (top : ℤ) (fixed : Bool) (t : Tail) → t ≡ cond fixed (Fixed h m best top) (Unseparated h m best top) → AreVectors arcs h m best top → IsTailOf arcs budget t
-told_fits arcs budget h m best top true t e v = subst (IsTailOf arcs budget) (sym e) v
-told_fits arcs budget h m best top false t e v = subst (IsTailOf arcs budget) (sym e) v
 
 pub declined_best : (last : Bool) (s : Session) (t : Tail) → IsRoundDeclined last s t → IsBestWhereFixed s t
 declined_best last s (Fixed h m best top) d = absurd d

@@ -48,7 +48,7 @@ pub returns-clause-fits : goal.returns-clause-fits
 returns-clause-fits c = λ arcs budget is.
     let v = c.in_ok-values.values in
     let moved : All (IsBelow (2 ^ 46)) c.in_ok-moved.moved = search rules in
-    c.tail_of.ensures.fits arcs budget (record {
+    c.of_vectors.ensures.fits arcs budget (record {
       h_to = c.in_ok-values.ensures.h;
       moved_in = moved;
       size = is;
