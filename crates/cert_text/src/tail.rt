@@ -1,5 +1,5 @@
 //! The tail of a certificate.
-ghost use Rattle.std.specs.Prelude.{◌≡◌, ◌≤◌, ◌^◌, ◌++◌, ◌∷◌, [], ℕ, ℤ, List, All, pos, take, length, codes, Ok, Err, IfOk, MatchResult, if◌then◌else◌};
+ghost use Rattle.std.specs.Prelude.{◌≡◌, ◌≤◌, ◌^◌, ◌++◌, ◌∷◌, ℕ, ℤ, List, take, length, codes, Ok, Err, IfOk, MatchResult, if◌then◌else◌};
 ghost use Rattle.obs_rows.specs.declared.arcs.Arc.{Arc};
 ghost use Rattle.obs_rows.specs.Integers.{integer_count};
 ghost use Rattle.obs_rows.specs.Ranges.{IsBelow};
@@ -10,9 +10,9 @@ ghost use Rattle.cert_words.specs.Numbers.{IsIn};
 ghost use Rattle.cert_lines.specs.Lines.{vector_line, values_line};
 ghost use Rattle.cert_lines.specs.Forms.{vector_in};
 ghost use Rattle.cert_lines.specs.declared.ranges.TheConstants.{ENTRIES};
-ghost use Rattle.cert_data.specs.Tails.{AreVectors, IsTailOf};
-ghost use Rattle.cert_spelling.specs.Spelling.{vectors_lines, fixed_line, unseparated_line, tail_lines};
-ghost use Rattle.cert_text.specs.Lengths.{AreWholeVectors, IsWholeTail};
+ghost use Rattle.cert_data.specs.Tails.{IsTailOf};
+ghost use Rattle.cert_spelling.specs.Spelling.{fixed_line, unseparated_line, tail_lines};
+ghost use Rattle.cert_text.specs.Lengths.{IsWholeTail};
 ghost use Rattle.cert_text.specs.Rules.{Expected, cert_rules, Tail as TailStart, Second, Move, Values, Last, End};
 ghost use Rattle.cert_text.specs.LineParts.{TakesLine};
 
