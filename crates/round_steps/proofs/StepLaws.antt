@@ -2,7 +2,7 @@
 use Rattle.std.proofs.Common.{◌≡◌, ℕ, ◌^◌, ◌<◌, ◌≤◌, ◌⊎◌, inl, inr, ⊎_elim, true, false, Bool, cond, IsTrue, List, length, ℤ, pos, neg_ℤ, ◌≤ℤ◌, ◌<ℤ◌, unsigned_abs, to_z, of_z, arith, sym, ◌∙◌, subst, refl}
 use Rattle.std.proofs.lemmas.Int.{ints}
 use Rattle.std.proofs.lemmas.Bool.{false≢true}
-use Rattle.std.specs.Int.{w64}
+use Rattle.std.specs.Int.{w64, w128}
 use Rattle.obs_rows.specs.declared.sessions.Session.{Session}
 use Rattle.integer_form.specs.declared.form.Form.{Form}
 use Rattle.integer_form.specs.declared.faults.Place.{Place}
@@ -19,7 +19,8 @@ use Rattle.whole_math.proofs.Order.{lins}
 use Rattle.fix_decide.proofs.SessionForms.{integers_are, second_small, first_length, all_narrow}
 use Rattle.fix_decide.specs.Decisions.{IsFormOf, IsSeparated, first_of, second_of, move_of}
 use Rattle.obs_rows.specs.Ranges.{IsBelow}
-use Rattle.cert_data.specs.Tails.{IsTailOf, AreVectors}
+use Rattle.obs_rows.specs.Best.{IsStrictlyBest}
+use Rattle.cert_data.specs.Tails.{IsTailOf, AreVectors, tail_of_vectors}
 use Rattle.cert_data.specs.declared.tails.Tail.{Tail}
 use Rattle.cert_data.specs.declared.tails.Tail.TheVariants.{Fixed, Unseparated, Weak, Overwidth, Unsettled, Spent}
 use Rattle.round_steps.specs.Limits.{IsFirstOver}
@@ -40,11 +41,21 @@ narrow_numbers f x e h j = subst (λ (a : ℤ). unsigned_abs a < 2 ^ 46) (sym (e
 pub entry_word : (scale : ℕ) (x : List ℤ) (e : ℤ) → IsFirstOver scale x e → ((j : ℕ) → unsigned_abs (item x j) < 2 ^ 46) → to_z w64 (of_z w64 e) ≡ e
 entry_word scale x e h g = word e (subst (λ (a : ℤ). unsigned_abs a < 2 ^ 46) (sym h.entry_is) (g h.column))
 
+-- an upper sum fits its word
+pub top_word : (x : ℤ) → pos 0 ≤ℤ x → x ≤ℤ pos (2 ^ 118) → to_z w128 (of_z w128 x) ≡ x
+top_word x l g = omega (arith, ints)
+
 -- a decision told as a tail
 pub told_decision : (s : Session) (f : Form) (ratio budget h : ℕ) (m : List ℤ) (best : TwoBest) (top : ℤ) (fixed : Bool) (t : Tail) → t ≡ cond fixed (Fixed h m best top) (Unseparated h m best top) →
     AreFound s f h m best top → (IsTrue fixed → IsSeparated (pos ratio) top best.p2) → (IsSeparated (pos ratio) top best.p2 → IsTrue fixed) → IsDecision s f ratio budget t
 told_decision s f ratio budget h m best top true t e found there back = subst (IsDecision s f ratio budget) (sym e) (found, there refl)
 told_decision s f ratio budget h m best top false t e found there back = subst (IsDecision s f ratio budget) (sym e) (found, λ x. false≢true (back x))
+
+-- where a decision is told as fixed, its integers are strictly best
+pub told_best : (s : Session) (h : ℕ) (m : List ℤ) (best b : TwoBest) (top : ℤ) (fixed : Bool) (t : Tail) → t ≡ tail_of_vectors fixed h m best top → best ≡ b →
+    (IsTrue fixed → IsStrictlyBest s (first_of b) m) → IsBestWhereFixed s t
+told_best s h m best b top true t e same is = subst (IsBestWhereFixed s) (sym e) (subst (λ (x : TwoBest). IsStrictlyBest s (first_of x) m) (sym same) (is refl))
+told_best s h m best b top false t e same is = subst (IsBestWhereFixed s) (sym e) tt
 
 -- a decision that is refused
 pub refused_decision : (s : Session) (f : Form) (budget : ℕ) (best : TwoBest) (place : Place) → IsTwoBest f best → (place ≡ Place.Float) ⊎ (place ≡ Place.Sum) →
