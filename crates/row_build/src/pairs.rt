@@ -140,7 +140,10 @@ pub fn pair_rows_with(
 
 /// The rows of one pair: exactly one for each arc that holds it. There are none exactly where no arc does.
 ///
-/// They are refused only where, under a group that the first row allows and for some places and clocks, an observation is too far.
+/// The points are in units of 0.1 mm. Of the signals, those that `screened` was made of, nothing more is read.
+///
+/// They are refused only where, under a group that the first row allows and for some places and clocks, an observation is too far, or
+/// for want of memory.
 pub fn pair_rows(
     alloc: Global,
     screened: &Screened,

@@ -34,7 +34,7 @@ fn add_pair(session: &mut SessionBuilder, rows: Option<PairRows>) -> Result<(), 
 }
 
 /// The session of `rows_at`, with the base's halves that are kept, each in the place of its entry: `base_halves` makes them once for
-/// all points of a run. What is not kept is made, so the session is the same with none.
+/// all points of a run. What is not kept is made, so the session is the same with none. It is refused as that of `rows_at`.
 pub fn rows_with(
     alloc: Global,
     screened: &Screened,
@@ -79,7 +79,7 @@ pub fn rows_with(
     Ok(session.finish())
 }
 
-/// The session of these arcs at these points: the rows of `pair_rows` of every pair.
+/// The session of these arcs at these points, in units of 0.1 mm: the rows of `pair_rows` of every pair. It is refused where they are.
 pub fn rows_at(
     alloc: Global,
     screened: &Screened,

@@ -94,8 +94,9 @@ fn first_shifts(
     shifts_of(&entry, group_of(&first, point), point)
 }
 
-/// Shifts of an arc with which the observations of its phases in the pair lie from -λ to λ, in a fine session and for every group that
-/// the pair's first row allows. There are none exactly where the arc doesn't hold the pair.
+/// Shifts of an arc, in cycles, with which the observations of its phases in the pair lie from -λ to λ, in a fine session and for every
+/// group that the pair's first row allows. There are none exactly where the arc doesn't hold the pair. The points are in units of 0.1 mm;
+/// of the signals, those that `screened` was made of, nothing more is read.
 pub fn shift_at(
     screened: &Screened,
     arcs: &[Arc],

@@ -10,7 +10,7 @@ pub use answers::answer;
 pub use cert_data::{Answer, Cert, Outcome, Stage, Tail};
 pub use file_rounds::FileRounds;
 pub use outcomes::{have_delta, outcome};
-pub use runs::process;
+pub use runs::{process, screened};
 pub use session_begin::{Begun, Options, PairWhat, SessionFault, begin};
 
 #[cfg(test)]

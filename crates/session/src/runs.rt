@@ -2,6 +2,7 @@
 ghost use Rattle.std.specs.Prelude.{◌≡◌, ◌≤◌, All, AllPairs, length, IfOk, IfErr};
 ghost use Rattle.obs_store.specs.Epochs.{tags_of};
 ghost use Rattle.epoch_pair.specs.Pairs.{Follows, IsNearPair};
+ghost use Rattle.slip_arcs.specs.Linked.{IsCutOf};
 ghost use Rattle.row_build.specs.Halves.{AreBaseHalves};
 ghost use Rattle.session_begin.specs.Beginnings.{IsPosition, IsSessionFault};
 ghost use Rattle.session.specs.Answers.{IsBestAnswer};
@@ -17,7 +18,7 @@ use slip_arcs::cut;
 use std::alloc::{AllocError, Global};
 
 /// The used satellites of the taken pairs, and the arcs that are kept of them.
-fn screened(
+pub fn screened(
     alloc: Global,
     base: &ObsFile,
     rover: &ObsFile,
@@ -30,6 +31,7 @@ fn screened(
     requires rises { AllPairs Follows begun.now.taken.items }
     requires near { All (IsNearPair options.now.gap (tags_of base.now.epochs) (tags_of rover.now.epochs)) begun.now.taken.items }
     ensures screened { IfOk result (AreScreened base.now rover.now nav.now options.now begun.now.position begun.now.signals begun.now.taken.items) }
+    ensures cut { IfOk result (λ f. IsCutOf f.screened.used f.kept) }
     ensures halves { IfOk result (λ f. AreBaseHalves f.screened.boxes f.position f.halves.items) }
 {
     let taken = begun.taken.as_slice();

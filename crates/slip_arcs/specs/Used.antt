@@ -10,7 +10,7 @@ sats_at [] i = []
 sats_at (p ∷ ps) zero = p.sats.items
 sats_at (p ∷ ps) (suc i) = sats_at ps i
 
--- an epoch up to pair i has flag 1
+-- an epoch of pair i, or one since the pair before, has flag 1
 abbrev pub power_at : List UsedPair → ℕ → Bool
 power_at [] i = false
 power_at (p ∷ ps) zero = p.power

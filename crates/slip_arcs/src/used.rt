@@ -7,14 +7,14 @@ pub struct UsedSat {
     pub sat: u8,
     /// The rover's phase minus the base's on L1 and on L2, in thousandths of a cycle.
     pub phase: [i64; 2],
-    /// Whether a receiver lost lock on one of its phases in an epoch up to this pair.
+    /// Whether a receiver lost lock on one of its phases in one of the pair's epochs, or in one since the pair before.
     pub lost: bool,
 }
 
 /// A pair of epochs: the satellites that it uses, in rising number.
 #[derive(Debug, Drop)]
 pub struct UsedPair {
-    /// Whether an epoch up to this pair says that power failed.
+    /// Whether one of the pair's epochs, or one since the pair before, says that power failed.
     pub power: bool,
     pub sats: Vec<UsedSat>,
 }

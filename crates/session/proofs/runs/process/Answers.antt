@@ -2,8 +2,7 @@ use Rattle.std.proofs.Common.{◌≤◌, ◌^◌, ◌⊎◌, ℕ, Bool, IsTrue, 
 use Rattle.obs_rows.specs.declared.arcs.Arc.{Arc}
 use Rattle.round_steps.specs.Points.{IsReceiverPoint}
 use Rattle.round_steps.specs.Shifts.{AreShiftsBelow}
-use Rattle.slip_arcs.specs.Runs.{AreKept}
-use Rattle.slip_arcs.specs.Linked.{IsCutOf, HaveDatums}
+use Rattle.slip_arcs.specs.Linked.{IsCutOf}
 use Rattle.session.specs.declared.file_rounds.FileRounds.{FileRounds}
 use Rattle.session.specs.Answers.{HasDelta}
 use Rattle.session.proofs.StandsLaws.{rows_stand}
@@ -11,27 +10,23 @@ use Rattle.session.proofs.RangeLaws.{able, no_shifts}
 use Rattle.session.proofs.FewArcs.{kept_few}
 use Rattle.session.proofs.runs.process.Goals as goal
 
-few_kept : (jump least short : ℕ) (f : FileRounds) → AreKept jump least f.screened.used f.kept short → HaveDatums f.kept → length f.kept ≤ 54000
-few_kept jump least short f kept datums =
-    kept_few f.screened.used f.kept (record { jump = jump; least = least; short = short; kept = kept; datums = datums }) f.screened.ranges f.screened.numbered f.screened.few
-
 pub outcome-requires-clause-ready : goal.outcome-requires-clause-ready
 outcome-requires-clause-ready c = λ on.
     let f = c.in-Ok-screened.rounds in
-    let cut : IsCutOf f.screened.used f.kept = record { jump = c.args.options.now.jump; least = c.args.options.now.arc; short = c.in-Ok-screened.ensures.screened.short; kept = c.in-Ok-screened.ensures.screened.kept_are; datums = c.in-Ok-screened.ensures.screened.datums } in (
-      cut,
+    let s = c.in-Ok-screened.ensures in (
+      s.cut,
       (
-        able f.screened.used f.kept (length c.in-Ok.begun.taken.items) cut f.screened.few f.screened.numbered (no_shifts f.kept c.in-Ok-screened.ensures.screened.shifts) on.not_few on.not_many,
-        subst IsReceiverPoint (sym c.in-Ok-screened.ensures.screened.position_is) c.in-Ok.ensures.position.in_reach,
+        able f.screened.used f.kept (length c.in-Ok.begun.taken.items) s.cut f.screened.few f.screened.numbered (no_shifts f.kept s.screened.shifts) on.not_few on.not_many,
+        subst IsReceiverPoint (sym s.screened.position_is) c.in-Ok.ensures.position.in_reach,
       ),
-      c.in-Ok-screened.ensures.halves,
+      s.halves,
     )
 
+few_kept : (f : FileRounds) → IsCutOf f.screened.used f.kept → length f.kept ≤ 54000
+few_kept f cut = kept_few f.screened.used f.kept cut f.screened.ranges f.screened.numbered f.screened.few
+
 pub outcome-requires-clause-few_arcs : goal.outcome-requires-clause-few_arcs
-outcome-requires-clause-few_arcs c =
-    let f = c.in-Ok-screened.rounds in
-    subst (λ (l : List Arc). length l ≤ 54000) (sym c.as_slice.ensures)
-    (few_kept c.args.options.now.jump c.args.options.now.arc c.in-Ok-screened.ensures.screened.short f c.in-Ok-screened.ensures.screened.kept_are c.in-Ok-screened.ensures.screened.datums)
+outcome-requires-clause-few_arcs c = subst (λ (l : List Arc). length l ≤ 54000) (sym c.as_slice.ensures) (few_kept c.in-Ok-screened.rounds c.in-Ok-screened.ensures.cut)
 
 pub outcome-requires-clause-shifts : goal.outcome-requires-clause-shifts
 outcome-requires-clause-shifts c = subst (AreShiftsBelow (2 ^ 40)) (sym c.as_slice.ensures) (no_shifts c.in-Ok-screened.rounds.kept c.in-Ok-screened.ensures.screened.shifts)
@@ -51,7 +46,7 @@ returns-in-Ok-outcome-clause-outcome c = record {
   taken_is = c.in-Ok-outcome.ensures.taken;
   all_is = c.in-Ok-outcome.ensures.all ∙ c.in-Ok.ensures.all;
   kept_is = c.in-Ok-outcome.ensures.kept ∙ ap (λ (l : List Arc). length l) c.as_slice.ensures;
-  kept_few = subst (λ (n : ℕ). n ≤ 54000) (sym (c.in-Ok-outcome.ensures.kept ∙ ap (λ (l : List Arc). length l) c.as_slice.ensures)) (few_kept c.args.options.now.jump c.args.options.now.arc c.in-Ok-screened.ensures.screened.short c.in-Ok-screened.rounds c.in-Ok-screened.ensures.screened.kept_are c.in-Ok-screened.ensures.screened.datums);
+  kept_few = subst (λ (n : ℕ). n ≤ 54000) (sym (c.in-Ok-outcome.ensures.kept ∙ ap (λ (l : List Arc). length l) c.as_slice.ensures)) (few_kept c.in-Ok-screened.rounds c.in-Ok-screened.ensures.cut);
   delta_is = subst (λ (b : Bool). (IsTrue b → HasDelta c.args.base.now ⊎ HasDelta c.args.rover.now) × (HasDelta c.args.base.now ⊎ HasDelta c.args.rover.now → IsTrue b)) (sym c.in-Ok-outcome.ensures.delta) c.have_delta-delta.ensures;
   answer_is = c.in-Ok-outcome.ensures.answer;
 }

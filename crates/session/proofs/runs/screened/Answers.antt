@@ -2,6 +2,7 @@ use Rattle.std.proofs.Common.{List, All, refl, subst}
 use Rattle.epoch_pair.specs.declared.pairs.PairOf.{PairOf}
 use Rattle.slip_arcs.specs.declared.used.UsedPair.{UsedPair}
 use Rattle.slip_arcs.specs.Runs.{AreKept}
+use Rattle.slip_arcs.specs.Linked.{IsCutOf}
 use Rattle.screening.specs.Screening.{setting_of, AreUsedPairs, IsSvPair}
 use Rattle.sv_orbit.specs.Solutions.{gps}
 use Rattle.session.proofs.runs.screened.Goals as goal
@@ -25,3 +26,9 @@ returns-in-Ok-cut-clause-screened c =
       datums = c.in-Ok-cut.ensures.datums;
       shifts = c.in-Ok-cut.ensures.shifts;
     }
+
+pub returns-in-Ok-cut-clause-cut : goal.returns-in-Ok-cut-clause-cut
+returns-in-Ok-cut-clause-cut c =
+    let o = c.args.options.now in
+    subst (λ (u : List UsedPair). IsCutOf u c.in-Ok-cut.arcs.kept) c.as_slice.ensures
+    (record { jump = o.jump; least = o.arc; short = c.in-Ok-cut.arcs.short; kept = c.in-Ok-cut.ensures.kept; datums = c.in-Ok-cut.ensures.datums })
