@@ -1,5 +1,5 @@
 -- What a tail may hold: the ranges of its numbers, with an entry for each integer of the arcs.
-use Rattle.std.specs.Prelude.{◌≡◌, ◌^◌, ◌≤◌, ℕ, ℤ, List, All}
+use Rattle.std.specs.Prelude.{◌≡◌, ◌^◌, ◌≤◌, ℕ, ℤ, Bool, List, All, if◌then◌else◌}
 use Rattle.std.proofs.Props.{props}
 use Rattle.obs_rows.specs.declared.arcs.Arc.{Arc}
 use Rattle.obs_rows.specs.Ranges.{IsBelow}
@@ -9,7 +9,11 @@ use Rattle.int_search.specs.Vectors.{IsSmall}
 use Rattle.cert_data.specs.declared.tails.Tail.{Tail}
 use Rattle.cert_data.specs.declared.tails.Tail.TheVariants.{Fixed, Unseparated, Weak, Overwidth, Unsettled, Spent}
 
--- a tail with vectors
+-- two vectors as a tail: the first is fixed, or the second isn't far enough from it
+abbrev pub tail_of_vectors : Bool → ℕ → List ℤ → TwoBest → ℤ → Tail
+tail_of_vectors fixed h moved best top = if fixed then Fixed h moved best top else Unseparated h moved best top
+
+-- the ranges of a tail with vectors
 pub record AreVectors (arcs : List Arc) (h : ℕ) (moved : List ℤ) (best : TwoBest) (top : ℤ) : Type 0 where
   pub h_to : h ≤ 127
   pub moved_in : All (IsBelow (2 ^ 46)) moved

@@ -1,4 +1,7 @@
 //! How a certificate ends.
+ghost use Rattle.std.specs.Prelude.{◌≡◌, ℕ, List};
+ghost use Rattle.obs_rows.specs.declared.arcs.Arc.{Arc};
+ghost use Rattle.cert_data.specs.Tails.{AreVectors, IsTailOf, tail_of_vectors};
 
 use int_search::TwoBest;
 use integer_form::Place;
@@ -41,4 +44,28 @@ pub enum Tail {
     Spent {
         budget: u64,
     },
+}
+
+impl Tail {
+    /// Tells two vectors with their values, the move and the upper sum of the first, as fixed or as unseparated.
+    pub fn of_vectors(fixed: bool, h: u32, moved: [i64; 3], best: TwoBest, top: i128) -> Tail
+        ensures value { result ≡ tail_of_vectors fixed h moved best top }
+        ensures fits { (arcs : List Arc) (budget : ℕ) → AreVectors arcs h moved best top → IsTailOf arcs budget result }
+    {
+        if fixed {
+            Tail::Fixed {
+                h,
+                moved,
+                best,
+                top,
+            }
+        } else {
+            Tail::Unseparated {
+                h,
+                moved,
+                best,
+                top,
+            }
+        }
+    }
 }

@@ -13,7 +13,12 @@ use Rattle.cert_words.specs.Numbers.{numbers_behind, number_at}
 use Rattle.cert_words.proofs.NumberLaws.{AreSmall, values, line_read}
 use Rattle.cert_lines.specs.Lines.{values_line, weak_line, overwidth_line}
 use Rattle.cert_lines.proofs.Values.{size_is, four_values}
+use Rattle.int_search.specs.declared.answer.TwoBest.{TwoBest}
 use Rattle.cert_data.specs.Places.{name_of_place, place_of_name, places}
+use Rattle.cert_data.specs.Tails.{tail_of_vectors}
+use Rattle.cert_data.specs.declared.tails.Tail.{Tail}
+use Rattle.cert_spelling.specs.Spelling.{vectors_lines, fixed_line, unseparated_line, tail_lines}
+use Rattle.cert_text.specs.Lengths.{AreWholeVectors, IsWholeTail}
 
 two_values : (ns : List Number) → length ns ≡ 2 → values ns ≡ (number_at ns 0).value ∷ (number_at ns 1).value ∷ []
 two_values [] e = absurd (omega (arith, e))
@@ -49,6 +54,17 @@ values_read line ns s w x y z h p1 p2 top read many same aw vw sw ax vx sx ay vy
     let whole : values ns ≡ pos h ∷ p1 ∷ p2 ∷ top ∷ [] = ap values (sym same) ∙ four_values s four ∙ (λ i. e0 i ∷ e1 i ∷ e2 i ∷ e3 i ∷ []) in
     let fits : AreSmall (pos h ∷ p1 ∷ p2 ∷ top ∷ []) = (omega arith, (below_small p1 sx, (below_small p2 sy, (below_small top sz, tt)))) in
     line_read (codes "values") 4 line ns (sym read) (subst AreSmall (sym whole) fits) ∙ ap (λ (zs : List ℤ). codes "values" ++ behind_blanks zs) whole
+
+-- the lines of two vectors as a tail
+pub vectors_told : (fixed : Bool) (h : ℕ) (m : List ℤ) (best : TwoBest) (top : ℤ) (t : Tail) → t ≡ tail_of_vectors fixed h m best top →
+    tail_lines t ≡ vectors_lines h m best top ++ cond fixed fixed_line unseparated_line ∷ []
+vectors_told true h m best top t e = ap tail_lines e
+vectors_told false h m best top t e = ap tail_lines e
+
+-- a tail of arrays that have their lengths
+pub vectors_whole : (fixed : Bool) (h : ℕ) (m : List ℤ) (best : TwoBest) (top : ℤ) (t : Tail) → t ≡ tail_of_vectors fixed h m best top → AreWholeVectors m best → IsWholeTail t
+vectors_whole true h m best top t e w = subst IsWholeTail (sym e) w
+vectors_whole false h m best top t e w = subst IsWholeTail (sym e) w
 
 pub word126 : (x : ℤ) → IsBelow (2 ^ 126) x → to_z w128 (of_z w128 x) ≡ x
 word126 x h = omega (arith, ints)

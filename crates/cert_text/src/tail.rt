@@ -1,5 +1,5 @@
 //! The tail of a certificate.
-ghost use Rattle.std.specs.Prelude.{◌≡◌, ◌≤◌, ◌^◌, ◌++◌, ◌∷◌, [], ℕ, ℤ, List, All, pos, take, length, codes, Ok, Err, IfOk, MatchResult, if◌then◌else◌};
+ghost use Rattle.std.specs.Prelude.{◌≡◌, ◌≤◌, ◌^◌, ◌++◌, ◌∷◌, ℕ, ℤ, List, take, length, codes, Ok, Err, IfOk, MatchResult, if◌then◌else◌};
 ghost use Rattle.obs_rows.specs.declared.arcs.Arc.{Arc};
 ghost use Rattle.obs_rows.specs.Integers.{integer_count};
 ghost use Rattle.obs_rows.specs.Ranges.{IsBelow};
@@ -10,9 +10,9 @@ ghost use Rattle.cert_words.specs.Numbers.{IsIn};
 ghost use Rattle.cert_lines.specs.Lines.{vector_line, values_line};
 ghost use Rattle.cert_lines.specs.Forms.{vector_in};
 ghost use Rattle.cert_lines.specs.declared.ranges.TheConstants.{ENTRIES};
-ghost use Rattle.cert_data.specs.Tails.{AreVectors, IsTailOf};
-ghost use Rattle.cert_spelling.specs.Spelling.{vectors_lines, fixed_line, unseparated_line, tail_lines};
-ghost use Rattle.cert_text.specs.Lengths.{AreWholeVectors, IsWholeTail};
+ghost use Rattle.cert_data.specs.Tails.{IsTailOf};
+ghost use Rattle.cert_spelling.specs.Spelling.{fixed_line, unseparated_line, tail_lines};
+ghost use Rattle.cert_text.specs.Lengths.{IsWholeTail};
 ghost use Rattle.cert_text.specs.Rules.{Expected, cert_rules, Tail as TailStart, Second, Move, Values, Last, End};
 ghost use Rattle.cert_text.specs.LineParts.{TakesLine};
 
@@ -90,29 +90,6 @@ fn next_last(lines: &mut TextLines<'_>) -> Result<bool, At>
     }
 }
 
-// A tail with vectors.
-fn tail_of(fixed: bool, h: u32, moved: [i64; 3], best: TwoBest, top: i128) -> Tail
-    ensures lines { tail_lines result ≡ vectors_lines h moved best top ++ (if fixed then fixed_line else unseparated_line) ∷ [] }
-    ensures fits { (arcs : List Arc) (budget : ℕ) → AreVectors arcs h moved best top → IsTailOf arcs budget result }
-    ensures whole { AreWholeVectors moved best → IsWholeTail result }
-{
-    if fixed {
-        Tail::Fixed {
-            h,
-            moved,
-            best,
-            top,
-        }
-    } else {
-        Tail::Unseparated {
-            h,
-            moved,
-            best,
-            top,
-        }
-    }
-}
-
 // A tail with vectors, behind its first line.
 fn read_vectors(
     lines: &mut TextLines<'_>,
@@ -138,7 +115,7 @@ fn read_vectors(
         p2: values.p2,
         size: count,
     };
-    Ok(tail_of(fixed, values.h, moved, best, values.top))
+    Ok(Tail::of_vectors(fixed, values.h, moved, best, values.top))
 }
 
 /// Reads the tail of a certificate of so many integers.

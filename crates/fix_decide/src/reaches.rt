@@ -136,7 +136,8 @@ fn finer(y: i64, advance: i128) -> i128
     y as i128 * (1 << FINER) - advance
 }
 
-/// The residual of the centres of the boxes, rounded down.
+/// The residual of the centres of the boxes, rounded down, in the unit of the rows, at the integers z and a move in
+/// 2^-10 κ.
 pub fn centre_of(arcs: &[Arc], z: &[i64], moved: &[i64; 3], row: &Row, signal: usize) -> i64
     requires arc { row.now.arc < length arcs.now }
     requires signal { signal < SIGNALS }

@@ -1,7 +1,6 @@
-//! The integer form of a normal matrix, by an elimination in whole numbers whose every rounding is covered.
-//!
-//! So far it stands on tables: the first rounding and the front with its bound. The public types are those of
-//! integer_form.
+//! The integer form of a normal matrix, by an elimination in whole numbers whose every rounding is covered: the first
+//! rounding and the steps of the baseline's columns (`front`), then those of the integer columns (`finish`). The public
+//! types are those of integer_form.
 #![tactic(auto)]
 
 mod first_entries;

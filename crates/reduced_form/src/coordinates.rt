@@ -1,5 +1,5 @@
 //! The form in the coordinates of a map.
-ghost use Rattle.std.specs.Prelude.{◌≡◌, ◌≢◌, ◌⊎◌, ℕ, ◌+◌, ◌-◌, ◌*◌, ◌^◌, ◌<◌, ◌≤◌, unsigned_abs, true, false, MatchOption};
+ghost use Rattle.std.specs.Prelude.{◌≡◌, ◌≢◌, ◌⊎◌, ℕ, ◌+◌, ◌-◌, ◌*◌, ◌^◌, ◌<◌, ◌≤◌, unsigned_abs, true, false, IfSome, MatchOption};
 ghost use Rattle.obs_rows.specs.Tables.{entry, IsZeroOutside};
 ghost use Rattle.obs_rows.specs.declared.units.TheConstants.{MOST_INTEGERS};
 ghost use Rattle.normal_sum.specs.Matrices.{EntriesBelow};
@@ -68,10 +68,12 @@ fn wholes(halves: &NormalTable, map: &MapTable, n: usize) -> Option<FormTable>
     Some(p)
 }
 
-/// The form in the coordinates of the map, before any step; None where an entry of its matrix is too large.
+/// The form in the coordinates of the map, before any step, in the same units of 2^h; None where an entry of its matrix is
+/// 2^52 or more in size.
 pub fn transformed(form: &Form, change: &Unimodular) -> Option<FrontForm>
     requires { change.now.size ≡ integers_of form.now }
-    ensures { MatchOption result (IsTransformedSmall (integers_of form.now) change.now.map form.now.p → ⊥) (IsTransformed (integers_of form.now) change.now.map form.now.p) }
+    ensures form { MatchOption result (IsTransformedSmall (integers_of form.now) change.now.map form.now.p → ⊥) (IsTransformed (integers_of form.now) change.now.map form.now.p) }
+    ensures h { IfSome result (λ r. r.h ≡ form.now.h) }
 {
     let n = change.size;
     let halves = halves(&form.p, &change.map, n);

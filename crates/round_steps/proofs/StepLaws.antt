@@ -2,13 +2,13 @@
 use Rattle.std.proofs.Common.{◌≡◌, ℕ, ◌^◌, ◌<◌, ◌≤◌, ◌⊎◌, inl, inr, ⊎_elim, true, false, Bool, cond, IsTrue, List, length, ℤ, pos, neg_ℤ, ◌≤ℤ◌, ◌<ℤ◌, unsigned_abs, to_z, of_z, arith, sym, ◌∙◌, subst, refl}
 use Rattle.std.proofs.lemmas.Int.{ints}
 use Rattle.std.proofs.lemmas.Bool.{false≢true}
-use Rattle.std.specs.Int.{w64}
+use Rattle.std.specs.Int.{w64, w128}
 use Rattle.obs_rows.specs.declared.sessions.Session.{Session}
 use Rattle.integer_form.specs.declared.form.Form.{Form}
 use Rattle.integer_form.specs.declared.faults.Place.{Place}
 use Rattle.integer_form.specs.FloatPoint.{item, float_point, HasWide}
 use Rattle.int_search.specs.declared.answer.TwoBest.{TwoBest}
-use Rattle.int_search.specs.Answers.{IsTwoBest, IsSearchTooWide}
+use Rattle.int_search.specs.Answers.{IsTwoBest}
 use Rattle.fix_decide.specs.Widths.{AreWide}
 use Rattle.quadratic_form.specs.Forms.{Column}
 use Rattle.quadratic_form.specs.Rows.{value}
@@ -19,11 +19,12 @@ use Rattle.whole_math.proofs.Order.{lins}
 use Rattle.fix_decide.proofs.SessionForms.{integers_are, second_small, first_length, all_narrow}
 use Rattle.fix_decide.specs.Decisions.{IsFormOf, IsSeparated, first_of, second_of, move_of}
 use Rattle.obs_rows.specs.Ranges.{IsBelow}
-use Rattle.cert_data.specs.Tails.{IsTailOf, AreVectors}
+use Rattle.obs_rows.specs.Best.{IsStrictlyBest}
+use Rattle.cert_data.specs.Tails.{IsTailOf, AreVectors, tail_of_vectors}
 use Rattle.cert_data.specs.declared.tails.Tail.{Tail}
 use Rattle.cert_data.specs.declared.tails.Tail.TheVariants.{Fixed, Unseparated, Weak, Overwidth, Unsettled, Spent}
 use Rattle.round_steps.specs.Limits.{IsFirstOver}
-use Rattle.round_steps.specs.Steps.{AreFound, IsBaselineWide, IsSumWide, IsDecision, IsRoundDeclined, IsUnsettled, IsBestWhereFixed}
+use Rattle.round_steps.specs.Steps.{AreFound, IsTooWide, IsBaselineWide, IsSumWide, IsDecision, IsRoundDeclined, IsUnsettled, IsBestWhereFixed}
 use Rattle.round_steps.proofs.WeakLaws.{weak_fits}
 
 pub word : (x : ℤ) → unsigned_abs x < 2 ^ 46 → to_z w64 (of_z w64 x) ≡ x
@@ -40,19 +41,29 @@ narrow_numbers f x e h j = subst (λ (a : ℤ). unsigned_abs a < 2 ^ 46) (sym (e
 pub entry_word : (scale : ℕ) (x : List ℤ) (e : ℤ) → IsFirstOver scale x e → ((j : ℕ) → unsigned_abs (item x j) < 2 ^ 46) → to_z w64 (of_z w64 e) ≡ e
 entry_word scale x e h g = word e (subst (λ (a : ℤ). unsigned_abs a < 2 ^ 46) (sym h.entry_is) (g h.column))
 
+-- an upper sum fits its word
+pub top_word : (x : ℤ) → pos 0 ≤ℤ x → x ≤ℤ pos (2 ^ 118) → to_z w128 (of_z w128 x) ≡ x
+top_word x l g = omega (arith, ints)
+
 -- a decision told as a tail
 pub told_decision : (s : Session) (f : Form) (ratio budget h : ℕ) (m : List ℤ) (best : TwoBest) (top : ℤ) (fixed : Bool) (t : Tail) → t ≡ cond fixed (Fixed h m best top) (Unseparated h m best top) →
     AreFound s f h m best top → (IsTrue fixed → IsSeparated (pos ratio) top best.p2) → (IsSeparated (pos ratio) top best.p2 → IsTrue fixed) → IsDecision s f ratio budget t
 told_decision s f ratio budget h m best top true t e found there back = subst (IsDecision s f ratio budget) (sym e) (found, there refl)
 told_decision s f ratio budget h m best top false t e found there back = subst (IsDecision s f ratio budget) (sym e) (found, λ x. false≢true (back x))
 
+-- where a decision is told as fixed, its integers are strictly best
+pub told_best : (s : Session) (h : ℕ) (m : List ℤ) (best b : TwoBest) (top : ℤ) (fixed : Bool) (t : Tail) → t ≡ tail_of_vectors fixed h m best top → best ≡ b →
+    (IsTrue fixed → IsStrictlyBest s (first_of b) m) → IsBestWhereFixed s t
+told_best s h m best b top true t e same is = subst (IsBestWhereFixed s) (sym e) (subst (λ (x : TwoBest). IsStrictlyBest s (first_of x) m) (sym same) (is refl))
+told_best s h m best b top false t e same is = subst (IsBestWhereFixed s) (sym e) tt
+
 -- a decision that is refused
-pub refused_decision : (s : Session) (f : Form) (best : TwoBest) (place : Place) → IsTwoBest f best → (place ≡ Place.Float) ⊎ (place ≡ Place.Sum) →
+pub refused_decision : (s : Session) (f : Form) (budget : ℕ) (best : TwoBest) (place : Place) → IsTwoBest f best → (place ≡ Place.Float) ⊎ (place ≡ Place.Sum) →
     (place ≡ Place.Float → HasWide (move_of f (first_of best))) →
     (place ≡ Place.Sum → (HasWide (move_of f (first_of best)) → ⊥) × AreWide s.arcs s.pairs (first_of best) (move_of f (first_of best))) →
-    ((place ≡ Place.Search) × IsSearchTooWide f) ⊎ (((place ≡ Place.Float) × IsBaselineWide f) ⊎ ((place ≡ Place.Sum) × IsSumWide s f))
-refused_decision s f best place two (inl e) wide sum = inr (inl (e, record { best = best; best_is = two; wide = wide e }))
-refused_decision s f best place two (inr e) wide sum = inr (inr (e, record { best = best; best_is = two; narrow = (sum e).0; wide = (sum e).1 }))
+    ((place ≡ Place.Search) × IsTooWide f budget) ⊎ (((place ≡ Place.Float) × IsBaselineWide f) ⊎ ((place ≡ Place.Sum) × IsSumWide s f))
+refused_decision s f budget best place two (inl e) wide sum = inr (inl (e, record { best = best; best_is = two; wide = wide e }))
+refused_decision s f budget best place two (inr e) wide sum = inr (inr (e, record { best = best; best_is = two; narrow = (sum e).0; wide = (sum e).1 }))
 
 -- ---- the ranges of tails
 below_narrow : (x : List ℤ) (f : Form) (e : ℤ) (j : ℕ) → e ≡ item x j → item x j ≡ item (float_point f) j → (HasWide (float_point f) → ⊥) → IsBelow (2 ^ 46) e
@@ -111,10 +122,6 @@ vectors_fit s f h m best top o fine found from l g =
   where
     small : (t : ℤ) → pos 0 ≤ℤ t → t ≤ℤ pos (2 ^ 118) → IsBelow (2 ^ 126) t
     small t l g = omega (arith, ints)
-
-pub told_fits : (arcs : List Arc) (budget h : ℕ) (m : List ℤ) (best : TwoBest) (top : ℤ) (fixed : Bool) (t : Tail) → t ≡ cond fixed (Fixed h m best top) (Unseparated h m best top) → AreVectors arcs h m best top → IsTailOf arcs budget t
-told_fits arcs budget h m best top true t e v = subst (IsTailOf arcs budget) (sym e) v
-told_fits arcs budget h m best top false t e v = subst (IsTailOf arcs budget) (sym e) v
 
 pub declined_best : (last : Bool) (s : Session) (t : Tail) → IsRoundDeclined last s t → IsBestWhereFixed s t
 declined_best last s (Fixed h m best top) d = absurd d

@@ -3,5 +3,4 @@ pub mod Limits
 pub mod Shifts
 pub mod Counts
 pub mod Steps
-pub mod Decided
 pub mod Runs

@@ -14,6 +14,7 @@ use Rattle.integer_form.specs.Told.{IsToldAs}
 use Rattle.lower_form.specs.Forms.{elimination_of}
 use Rattle.int_search.specs.declared.answer.TwoBest.{TwoBest}
 use Rattle.int_search.specs.Answers.{IsTwoBest, IsPlainCountOver, IsSearchTooWide}
+use Rattle.int_search.specs.ReducedCounts.{HasReducedCount}
 use Rattle.fix_decide.specs.UpperSums.{top as top_of}
 use Rattle.fix_decide.specs.Widths.{AreWide}
 use Rattle.fix_decide.specs.Decisions.{IsFormOf, IsSeparated, first_of, move_of}
@@ -110,6 +111,14 @@ pub record IsSumWide (s : Session) (form : Form) : Type 0 where
   pub narrow : HasWide (move_of form (first_of best)) → ⊥
   pub wide : AreWide s.arcs s.pairs (first_of best) (move_of form (first_of best))
 
+-- the search ends without an answer, which it never does where the form has a reduced count within the budget: the plain
+-- count is over the budget, or has something too wide
+abbrev pub IsSpent : Form → ℕ → Type 0
+IsSpent form budget = IsPlainCountOver form budget × (HasReducedCount form budget → ⊥)
+
+abbrev pub IsTooWide : Form → ℕ → Type 0
+IsTooWide form budget = IsSearchTooWide form × (HasReducedCount form budget → ⊥)
+
 -- What a settled fine round with this form decides: the search is spent or too wide, or else the baseline is too wide, or
 -- else the upper sum, or else the second value is far enough above it or it isn't
 abbrev pub IsDecision : Session → Form → ℕ → ℕ → Tail → Type 0
@@ -117,9 +126,9 @@ IsDecision s form ratio budget (Fixed h moved best top) = AreFound s form h move
 IsDecision s form ratio budget (Unseparated h moved best top) = AreFound s form h moved best top × (IsSeparated (pos ratio) top best.p2 → ⊥)
 IsDecision s form ratio budget (Weak column pivot) = ⊥
 IsDecision s form ratio budget (Overwidth place) =
-    ((place ≡ Place.Search) × IsSearchTooWide form) ⊎ (((place ≡ Place.Float) × IsBaselineWide form) ⊎ ((place ≡ Place.Sum) × IsSumWide s form))
+    ((place ≡ Place.Search) × IsTooWide form budget) ⊎ (((place ≡ Place.Float) × IsBaselineWide form) ⊎ ((place ≡ Place.Sum) × IsSumWide s form))
 IsDecision s form ratio budget (Unsettled entry) = ⊥
-IsDecision s form ratio budget (Spent spent) = (spent ≡ budget) × IsPlainCountOver form budget
+IsDecision s form ratio budget (Spent spent) = (spent ≡ budget) × IsSpent form budget
 
 -- where the integers are fixed, they are with their move strictly best for all data in the boxes
 abbrev pub IsBestWhereFixed : Session → Tail → Type 0

@@ -3,11 +3,10 @@ ghost use Rattle.std.specs.Prelude.{◌≡◌, ◌^◌, ◌≤◌, List, ℤ, le
 ghost use Rattle.integer_form.specs.Forms.{integers_of, value_of};
 ghost use Rattle.cert_data.specs.Tails.{IsTailOf};
 ghost use Rattle.fix_decide.specs.Decisions.{IsFormOf};
-ghost use Rattle.round_steps.specs.Decided.{told};
 ghost use Rattle.round_steps.specs.Steps.{IsDecision, IsBestWhereFixed};
 
 use cert_data::Tail;
-use fix_decide::{Decision, decide};
+use fix_decide::decide;
 use int_search::{SearchFault, two_best};
 use integer_form::{Form, Place, lower_sum_law};
 use obs_rows::Session;
@@ -34,7 +33,13 @@ pub fn decide_settled(session: &Session, form: &Form, ratio: u32, budget: u64) -
         }
     };
     match decide(session, form, &best, ratio) {
-        Ok(decision) => told(form.h, decision),
+        Ok(decision) => Tail::of_vectors(
+            decision.fixed,
+            form.h,
+            decision.moved,
+            decision.best,
+            decision.top,
+        ),
         Err(fault) => Tail::Overwidth { place: fault.place },
     }
 }
@@ -45,31 +50,4 @@ fn values_from(form: &Form)
 {
     lower_sum_law(form);
     let _last = form.g;
-}
-
-/// A decision as a tail.
-fn told(h: u32, decision: Decision) -> Tail
-    ensures { result ≡ told h decision }
-{
-    let Decision {
-        fixed,
-        best,
-        moved,
-        top,
-    } = decision;
-    if fixed {
-        Tail::Fixed {
-            h,
-            moved,
-            best,
-            top,
-        }
-    } else {
-        Tail::Unseparated {
-            h,
-            moved,
-            best,
-            top,
-        }
-    }
 }

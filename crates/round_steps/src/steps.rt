@@ -63,7 +63,9 @@ fn solve(session: &Session) -> Result<Solved, Tail>
     }
 }
 
-/// What a round makes of its session, which has a last round where it isn't settled in it.
+/// What a round makes of its session, or the tail with which it ends the run.
+///
+/// `last` says that no further round at its scale is allowed, so that one that isn't settled ends the run.
 pub fn round_step(session: &Session, last: bool) -> Result<Step, Tail>
     ensures step { IfOk result (IsStep last session.now) }
     ensures declined { IfErr result (IsRoundDeclined last session.now) }

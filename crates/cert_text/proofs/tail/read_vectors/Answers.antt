@@ -1,9 +1,10 @@
-use Rattle.std.proofs.Common.{◌∙◌, refl}
+use Rattle.std.proofs.Common.{◌∙◌, refl, arith}
+use Rattle.std.proofs.lemmas.Grind.{common_steps}
 use Rattle.std.proofs.lemmas.Result.{err_from_is_err_and}
 use Rattle.std.proofs.Common.{All, ◌^◌, rules}
 use Rattle.obs_rows.specs.Ranges.{IsBelow}
 use Rattle.cert_text.specs.Rules.{Second, Move, Values}
-use Rattle.cert_text.proofs.TailLaws.{word126}
+use Rattle.cert_text.proofs.TailLaws.{word126, vectors_told, vectors_whole}
 use Rattle.cert_text.proofs.tail.read_vectors.Goals as goal
 
 pub returns-in_err-second-clause-reads : goal.returns-in_err-second-clause-reads
@@ -48,7 +49,7 @@ pub returns-clause-fits : goal.returns-clause-fits
 returns-clause-fits c = λ arcs budget is.
     let v = c.in_ok-values.values in
     let moved : All (IsBelow (2 ^ 46)) c.in_ok-moved.moved = search rules in
-    c.tail_of.ensures.fits arcs budget (record {
+    c.of_vectors.ensures.fits arcs budget (record {
       h_to = c.in_ok-values.ensures.h;
       moved_in = moved;
       size = is;
@@ -58,3 +59,10 @@ returns-clause-fits c = λ arcs budget is.
       p2_in = rw (word126 v.p2 c.in_ok-values.ensures.p2) c.in_ok-values.ensures.p2;
       top_in = rw (word126 v.top c.in_ok-values.ensures.top) c.in_ok-values.ensures.top;
     })
+
+pub returns-clause-took : goal.returns-clause-took
+returns-clause-took c =
+    rw (vectors_told c.in_ok-fixed.fixed _ _ _ _ c.of_vectors.result c.of_vectors.ensures.value) (first_of (search rules, grind (arith, common_steps)))
+
+pub returns-clause-whole : goal.returns-clause-whole
+returns-clause-whole c = vectors_whole c.in_ok-fixed.fixed _ _ _ _ c.of_vectors.result c.of_vectors.ensures.value (first_of (search rules, grind (arith, common_steps)))

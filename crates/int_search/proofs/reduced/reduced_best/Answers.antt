@@ -51,7 +51,7 @@ returns-in_default c =
     let e : (f.columns - 3) - 1 ≡ integers_of f = integers f c.requires in
     let size : u.size ≡ integers_of f = c.reduce-change.ensures.size ∙ e in
     let red : IsReduced (integers_of f) f.d f.l u = subst (λ (k : ℕ). IsReduced k f.d f.l u) e c.reduce-change.ensures.reduced in
-    λ h. c.in_default.ensures (count f c.args.budget u red h).small
+    λ h. c.in_default.ensures.form (count f c.args.budget u red h).small
 
 pub returns-in_default-finish : goal.returns-in_default-finish
 returns-in_default-finish c =
@@ -60,7 +60,7 @@ returns-in_default-finish c =
     let e : (f.columns - 3) - 1 ≡ integers_of f = integers f c.requires in
     let size : u.size ≡ integers_of f = c.reduce-change.ensures.size ∙ e in
     let red : IsReduced (integers_of f) f.d f.l u = subst (λ (k : ℕ). IsReduced k f.d f.l u) e c.reduce-change.ensures.reduced in
-    let t : IsTransformed (integers_of f) u.map f.p c.in-Some.front = c.in-Some.ensures in
+    let t : IsTransformed (integers_of f) u.map f.p c.in-Some.front = c.in-Some.ensures.form in
     λ h.
     let k : HasCountIn f c.args.budget u.map = count f c.args.budget u red h in
     let w = c.in_default-finish.ensures.refused in
@@ -73,7 +73,7 @@ search-requires c =
     let e : (f.columns - 3) - 1 ≡ integers_of f = integers f c.requires in
     let size : u.size ≡ integers_of f = c.reduce-change.ensures.size ∙ e in
     let red : IsReduced (integers_of f) f.d f.l u = subst (λ (k : ℕ). IsReduced k f.d f.l u) e c.reduce-change.ensures.reduced in
-    let t : IsTransformed (integers_of f) u.map f.p c.in-Some.front = c.in-Some.ensures in
+    let t : IsTransformed (integers_of f) u.map f.p c.in-Some.front = c.in-Some.ensures.form in
     let fin : IsFinishOf c.in-Some.front c.in-Ok.reduced = c.in-Ok.ensures.finished in
     let d : IsDecorrelated f c.in-Ok.reduced u = decorrelated_is f c.in-Ok.reduced c.in-Some.front u c.requires size c.at.ensures.shape.rows t fin in
     reduced_can c.in-Ok.reduced u.map u.back (more f c.in-Ok.reduced.columns c.in-Some.front.columns c.requires fin.columns t.columns) (record { shape = c.at.ensures.shape; entries = u.map_small })
@@ -86,7 +86,7 @@ returns-in-Ok-search c =
     let e : (f.columns - 3) - 1 ≡ integers_of f = integers f c.requires in
     let size : u.size ≡ integers_of f = c.reduce-change.ensures.size ∙ e in
     let red : IsReduced (integers_of f) f.d f.l u = subst (λ (k : ℕ). IsReduced k f.d f.l u) e c.reduce-change.ensures.reduced in
-    let t : IsTransformed (integers_of f) u.map f.p c.in-Some.front = c.in-Some.ensures in
+    let t : IsTransformed (integers_of f) u.map f.p c.in-Some.front = c.in-Some.ensures.form in
     let fin : IsFinishOf c.in-Some.front c.in-Ok.reduced = c.in-Ok.ensures.finished in
     let d : IsDecorrelated f c.in-Ok.reduced u = decorrelated_is f c.in-Ok.reduced c.in-Some.front u c.requires size c.at.ensures.shape.rows t fin in
     reduced_found f c.in-Ok.reduced u c.in-Ok-search.best d c.in-Ok-search.ensures
@@ -98,7 +98,7 @@ returns-in-Err c =
     let e : (f.columns - 3) - 1 ≡ integers_of f = integers f c.requires in
     let size : u.size ≡ integers_of f = c.reduce-change.ensures.size ∙ e in
     let red : IsReduced (integers_of f) f.d f.l u = subst (λ (k : ℕ). IsReduced k f.d f.l u) e c.reduce-change.ensures.reduced in
-    let t : IsTransformed (integers_of f) u.map f.p c.in-Some.front = c.in-Some.ensures in
+    let t : IsTransformed (integers_of f) u.map f.p c.in-Some.front = c.in-Some.ensures.form in
     let fin : IsFinishOf c.in-Some.front c.in-Ok.reduced = c.in-Ok.ensures.finished in
     let d : IsDecorrelated f c.in-Ok.reduced u = decorrelated_is f c.in-Ok.reduced c.in-Some.front u c.requires size c.at.ensures.shape.rows t fin in
     λ h.

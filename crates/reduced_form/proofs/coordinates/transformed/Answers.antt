@@ -6,8 +6,8 @@ use Rattle.reduced_form.specs.Transformed.{half_entry, IsTransformedSmall, IsTra
 use Rattle.reduced_form.proofs.TransformedLaws.{wholes_as, table_symmetric, table_form}
 use Rattle.reduced_form.proofs.coordinates.transformed.Goals as goal
 
-pub returns-in_default : goal.returns-in_default
-returns-in_default c =
+pub returns-in_default-clause-form : goal.returns-in_default-clause-form
+returns-in_default-clause-form c =
     let n : ℕ = c.args.change.now.size in
     let m : ℕ → ℕ → ℤ = entry c.args.change.now.map in
     let p : ℕ → ℕ → ℤ = entry c.args.form.now.p in
@@ -21,8 +21,8 @@ of-requires-clause-symmetric c =
     let p : ℕ → ℕ → ℤ = entry c.args.form.now.p in
     table_symmetric n m p c.in-Some.p c.args.form.now.symmetric (λ i j h g. c.in-Some.ensures.same i j h g ∙ wholes_as n m (entry c.halves-halves.result) (half_entry n m p) c.halves-halves.ensures.value i j g) c.in-Some.ensures.outside
 
-pub returns : goal.returns
-returns c =
+pub returns-clause-form : goal.returns-clause-form
+returns-clause-form c =
     let n : ℕ = c.args.change.now.size in
     let m : ℕ → ℕ → ℤ = entry c.args.change.now.map in
     let p : ℕ → ℕ → ℤ = entry c.args.form.now.p in

@@ -1,4 +1,5 @@
-use Rattle.std.proofs.Common.{◌≡◌, List, ℤ, pos, refl, sym, ap, ◌∙◌, subst}
+use Rattle.std.proofs.Common.{◌≡◌, List, ℤ, pos, to_z, of_z, refl, sym, ap, ◌∙◌, subst}
+use Rattle.std.specs.Int.{w128}
 use Rattle.obs_rows.specs.declared.sessions.Session.{Session}
 use Rattle.integer_form.specs.declared.form.Form.{Form}
 use Rattle.fix_decide.specs.declared.decision.Decision.{Decision}
@@ -8,8 +9,9 @@ use Rattle.int_search.specs.Answers.{IsTwoBest}
 use Rattle.fix_decide.specs.UpperSums.{top}
 use Rattle.fix_decide.specs.Widths.{AreWide}
 use Rattle.fix_decide.specs.Decisions.{IsSeparated, first_of, move_of}
+use Rattle.cert_data.specs.Tails.{AreVectors, tail_of_vectors}
 use Rattle.round_steps.specs.Steps.{AreFound}
-use Rattle.round_steps.proofs.StepLaws.{told_decision, refused_decision, told_fits, vectors_fit}
+use Rattle.round_steps.proofs.StepLaws.{told_decision, refused_decision, vectors_fit, top_word, told_best}
 use Rattle.round_steps.proofs.decided.decide_settled.Goals as goal
 
 found_of : (s : Session) (f : Form) (d : Decision) (b : TwoBest) → d.best ≡ b → d.moved ≡ move_of f (first_of b) → (HasWide (move_of f (first_of b)) → ⊥) → IsTwoBest f b → d.top ≡ top f.h s.arcs s.pairs (first_of b) d.moved →
@@ -32,9 +34,15 @@ returns-in-Ok-decide-clause-decision c =
     let same : d.best ≡ b = c.in-Ok-decide.ensures.best in
     let narrow : HasWide (move_of f (first_of b)) → ⊥ = c.in-Ok-decide.ensures.float.1 in
     let found : AreFound s f f.h d.moved d.best d.top = found_of s f d b same c.in-Ok-decide.ensures.moved narrow c.in-Ok.ensures.found c.in-Ok-decide.ensures.top (λ w. c.in-Ok-decide.ensures.sum.1 (narrow, w)) in
-    told_decision s f c.args.ratio c.args.budget f.h d.moved d.best d.top d.fixed c.told.result c.told.ensures found
+    let word : to_z w128 (of_z w128 d.top) ≡ d.top = top_word d.top c.in-Ok-decide.ensures.top_from c.in-Ok-decide.ensures.top_to in
+    told_decision s f c.args.ratio c.args.budget f.h d.moved d.best d.top d.fixed c.of_vectors.result (subst (λ (t : ℤ). c.of_vectors.result ≡ tail_of_vectors d.fixed f.h d.moved d.best t) word c.of_vectors.ensures.value) found
     (λ h. subst (λ (x : TwoBest). IsSeparated (pos c.args.ratio) d.top x.p2) (sym same) (c.in-Ok-decide.ensures.fixed.0 h))
     (λ h. c.in-Ok-decide.ensures.fixed.1 (subst (λ (x : TwoBest). IsSeparated (pos c.args.ratio) d.top x.p2) same h))
+
+pub returns-in-Ok-decide-clause-strictly_best : goal.returns-in-Ok-decide-clause-strictly_best
+returns-in-Ok-decide-clause-strictly_best c =
+    let d = c.in-Ok-decide.decision in
+    told_best c.args.session.now c.args.form.now.h d.moved d.best c.in-Ok.best (to_z w128 (of_z w128 d.top)) d.fixed c.of_vectors.result c.of_vectors.ensures.value c.in-Ok-decide.ensures.best c.in-Ok-decide.ensures.strictly_best
 
 pub returns-in-Ok-decide-clause-fits : goal.returns-in-Ok-decide-clause-fits
 returns-in-Ok-decide-clause-fits c =
@@ -44,8 +52,10 @@ returns-in-Ok-decide-clause-fits c =
     let b = c.in-Ok.best in
     let narrow : HasWide (move_of f (first_of b)) → ⊥ = c.in-Ok-decide.ensures.float.1 in
     let found : AreFound s f f.h d.moved d.best d.top = found_of s f d b c.in-Ok-decide.ensures.best c.in-Ok-decide.ensures.moved narrow c.in-Ok.ensures.found c.in-Ok-decide.ensures.top (λ w. c.in-Ok-decide.ensures.sum.1 (narrow, w)) in
-    told_fits s.arcs c.args.budget f.h d.moved d.best d.top d.fixed c.told.result c.told.ensures
-    (vectors_fit s f f.h d.moved d.best d.top c.requires.form c.requires.fine found c.values_from.ensures c.in-Ok-decide.ensures.top_from c.in-Ok-decide.ensures.top_to)
+    let word : to_z w128 (of_z w128 d.top) ≡ d.top = top_word d.top c.in-Ok-decide.ensures.top_from c.in-Ok-decide.ensures.top_to in
+    c.of_vectors.ensures.fits s.arcs c.args.budget
+    (subst (λ (t : ℤ). AreVectors s.arcs f.h d.moved d.best t) (sym word)
+    (vectors_fit s f f.h d.moved d.best d.top c.requires.form c.requires.fine found c.values_from.ensures c.in-Ok-decide.ensures.top_from c.in-Ok-decide.ensures.top_to))
 
 pub returns-in-Err-clause-decision : goal.returns-in-Err-clause-decision
-returns-in-Err-clause-decision c = refused_decision c.args.session.now c.args.form.now c.in-Ok.best c.in-Err.fault.place c.in-Ok.ensures.found c.in-Err.ensures.only c.in-Err.ensures.float.0 c.in-Err.ensures.sum.0
+returns-in-Err-clause-decision c = refused_decision c.args.session.now c.args.form.now c.args.budget c.in-Ok.best c.in-Err.fault.place c.in-Ok.ensures.found c.in-Err.ensures.only c.in-Err.ensures.float.0 c.in-Err.ensures.sum.0
