@@ -1,5 +1,5 @@
 // Made-up files, screened, with their arcs.
-ghost use Rattle.std.specs.Prelude.{◌≤◌, IfOk};
+ghost use Rattle.std.specs.Prelude.{◌≤◌, IfOk, IfSome};
 ghost use Rattle.obs_rows.specs.Arcs.{AreArcs};
 ghost use Rattle.row_build.specs.Halves.{AreBaseHalves};
 ghost use Rattle.signal_travel.specs.Boxes.{IsPoint};
@@ -18,19 +18,19 @@ use std::alloc::{AllocError, Global};
 use std::process::Abort;
 use std::test::Fail;
 
-/// What was screened of two files and the arcs that are kept, with what the calls on them rest on.
+/// What was screened of two files, with the arcs that are kept.
 #[derive(Debug, Drop)]
 pub struct Files {
     pub rounds: FileRounds,
-    pub ghost cut: { IsCutOf rounds.screened.used rounds.kept },
     pub ghost arcs_in: { AreArcs rounds.kept },
     pub ghost base_in: { IsPoint rounds.position },
-    pub ghost halves: { AreBaseHalves rounds.screened.boxes rounds.position rounds.halves.items },
 }
 
 fn checked(rounds: FileRounds) -> Option<Files>
     requires cut { IsCutOf rounds.screened.used rounds.kept }
     requires halves { AreBaseHalves rounds.screened.boxes rounds.position rounds.halves.items }
+    ensures cut { IfSome result (λ f. IsCutOf f.rounds.screened.used f.rounds.kept) }
+    ensures halves { IfSome result (λ f. AreBaseHalves f.rounds.screened.boxes f.rounds.position f.rounds.halves.items) }
 {
     if !are_arcs(rounds.kept.as_slice()) {
         return None;
@@ -52,6 +52,8 @@ pub fn files_of(
 ) -> Result<Files, Fail>
     requires epochs { epochs ≤ 3600 }
     requires sats { sats ≤ 15 }
+    ensures cut { IfOk result (λ f. IsCutOf f.rounds.screened.used f.rounds.kept) }
+    ensures halves { IfOk result (λ f. AreBaseHalves f.rounds.screened.boxes f.rounds.position f.rounds.halves.items) }
 {
     let made = make(alloc, seed, epochs, sats)?;
     assert!(rt; made.base.len() <= 67_108_864);
@@ -67,7 +69,9 @@ pub fn files_of(
 
 /// The kept arcs with the shifts of their first pairs.
 pub fn with_shifts(alloc: Global, files: &Files, point: &[i64; 3]) -> Result<Vec<Arc>, AllocError>
-    requires { IsPoint point.now }
+    requires cut { IsCutOf files.now.rounds.screened.used files.now.rounds.kept }
+    requires halves { AreBaseHalves files.now.rounds.screened.boxes files.now.rounds.position files.now.rounds.halves.items }
+    requires point { IsPoint point.now }
     ensures { IfOk result (λ arcs. IsCutOf files.now.rounds.screened.used arcs.items) }
 {
     files.rounds.first_shifts(alloc, point)

@@ -1,5 +1,6 @@
 // The boxes of the rows hold the values of the independent model, whatever groups and shifts are chosen.
-ghost use Rattle.std.specs.Prelude.{◌≤◌, ◌^◌, unsigned_abs};
+ghost use Rattle.std.specs.Prelude.{◌≤◌, ◌^◌, unsigned_abs, IfOk};
+ghost use Rattle.row_build.specs.Halves.{AreBaseHalves};
 ghost use Rattle.signal_travel.specs.Boxes.{IsPoint};
 ghost use Rattle.slip_arcs.specs.Linked.{IsCutOf};
 
@@ -17,12 +18,18 @@ use std::test::Fail;
 const FINE: i128 = 262_144;
 
 // Seed 1, with the options that a run has by itself.
-fn plain(rt: &impl Abort, alloc: Global) -> Result<Files, Fail> {
+fn plain(rt: &impl Abort, alloc: Global) -> Result<Files, Fail>
+    ensures cut { IfOk result (λ f. IsCutOf f.rounds.screened.used f.rounds.kept) }
+    ensures halves { IfOk result (λ f. AreBaseHalves f.rounds.screened.boxes f.rounds.position f.rounds.halves.items) }
+{
     files_of(rt, alloc, 1, 6, 4, &Options::defaults())
 }
 
 // Seed 77, with a higher mask and shorter arcs.
-fn high(rt: &impl Abort, alloc: Global) -> Result<Files, Fail> {
+fn high(rt: &impl Abort, alloc: Global) -> Result<Files, Fail>
+    ensures cut { IfOk result (λ f. IsCutOf f.rounds.screened.used f.rounds.kept) }
+    ensures halves { IfOk result (λ f. AreBaseHalves f.rounds.screened.boxes f.rounds.position f.rounds.halves.items) }
+{
     let mut options = Options::defaults();
     options.mask = 500;
     options.arc = 2;
@@ -146,6 +153,7 @@ fn shifts_agree(
     point: &[i64; 3],
     want: &ExpectedPair,
 )
+    requires cut { IsCutOf files.now.rounds.screened.used files.now.rounds.kept }
     requires point { IsPoint point.now }
 {
     let (number, _tag, rows) = *want;
@@ -220,7 +228,10 @@ fn fine_rows_agree(
     alloc: Global,
     files: &Files,
     want: &Expected,
-) -> Result<(), Fail> {
+) -> Result<(), Fail>
+    requires cut { IsCutOf files.now.rounds.screened.used files.now.rounds.kept }
+    requires halves { AreBaseHalves files.now.rounds.screened.boxes files.now.rounds.position files.now.rounds.halves.items }
+{
     let point = want.point;
     assert!(rt; is_receiver_point(&point));
     let arcs = with_shifts(alloc, files, &point)?;
@@ -251,7 +262,9 @@ fn coarse_rows_agree(
     alloc: Global,
     files: &Files,
     want: &Expected,
-) -> Result<(), Fail> {
+) -> Result<(), Fail>
+    requires cut { IsCutOf files.now.rounds.screened.used files.now.rounds.kept }
+{
     let point = want.point;
     assert!(rt; is_receiver_point(&point));
     let arcs = files.rounds.kept.as_slice();

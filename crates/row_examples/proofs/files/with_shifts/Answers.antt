@@ -1,5 +1,8 @@
+use Rattle.std.proofs.lemmas.Result.{IfOk-weaker}
 use Rattle.session.proofs.CutLaws.{cut_along}
 use Rattle.row_examples.proofs.files.with_shifts.Goals as goal
 
-pub returns-in-Ok : goal.returns-in-Ok
-returns-in-Ok c = cut_along c.args.files.now.rounds.screened.used c.args.files.now.rounds.kept c.in-Ok.arcs.items c.in-Ok.ensures.arcs c.args.files.now.cut
+pub returns : goal.returns
+returns c =
+    let f = c.args.files.now.rounds in
+    IfOk-weaker c.first_shifts.result _ _ (λ arcs same. cut_along f.screened.used f.kept arcs.items same c.requires.cut) c.first_shifts.ensures.arcs
