@@ -1,5 +1,6 @@
 // The boxes of the rows hold the values of the independent model, whatever groups and shifts are chosen.
 ghost use Rattle.std.specs.Prelude.{◌≤◌, ◌^◌, unsigned_abs, IfOk};
+ghost use Rattle.row_build.specs.Halves.{AreBaseHalves};
 ghost use Rattle.signal_travel.specs.Boxes.{IsPoint};
 ghost use Rattle.slip_arcs.specs.Linked.{IsCutOf};
 
@@ -18,14 +19,16 @@ const FINE: i128 = 262_144;
 
 // Seed 1, with the options that a run has by itself.
 fn plain(rt: &impl Abort, alloc: Global) -> Result<Files, Fail>
-    ensures { IfOk result (λ f. IsCutOf f.screened.used f.kept) }
+    ensures cut { IfOk result (λ f. IsCutOf f.rounds.screened.used f.rounds.kept) }
+    ensures halves { IfOk result (λ f. AreBaseHalves f.rounds.screened.boxes f.rounds.position f.rounds.halves.items) }
 {
     files_of(rt, alloc, 1, 6, 4, &Options::defaults())
 }
 
 // Seed 77, with a higher mask and shorter arcs.
 fn high(rt: &impl Abort, alloc: Global) -> Result<Files, Fail>
-    ensures { IfOk result (λ f. IsCutOf f.screened.used f.kept) }
+    ensures cut { IfOk result (λ f. IsCutOf f.rounds.screened.used f.rounds.kept) }
+    ensures halves { IfOk result (λ f. AreBaseHalves f.rounds.screened.boxes f.rounds.position f.rounds.halves.items) }
 {
     let mut options = Options::defaults();
     options.mask = 500;
@@ -34,10 +37,14 @@ fn high(rt: &impl Abort, alloc: Global) -> Result<Files, Fail>
 }
 
 fn arcs_agree(rt: &impl Abort, files: &Files, want: &Expected) {
-    assert_eq!(rt; files.base, want.base);
-    assert_eq!(rt; files.screened.used.len(), want.taken);
-    assert_eq!(rt; files.short, 0);
-    let kept = files.kept.as_slice();
+    let rounds = &files.rounds;
+    assert_eq!(rt; rounds.position, want.base);
+    assert_eq!(rt; rounds.screened.used.len(), want.taken);
+    // Each arc holds every pair, so no run was too short to be kept.
+    for pair in rounds.screened.used.as_slice() {
+        assert_eq!(rt; pair.sats.len(), want.arcs.len());
+    }
+    let kept = rounds.kept.as_slice();
     assert_eq!(rt; kept.len(), want.arcs.len());
     for (arc, (sat, first, last, datum)) in kept.iter().zip(want.arcs) {
         assert_eq!(rt;
@@ -146,22 +153,22 @@ fn shifts_agree(
     point: &[i64; 3],
     want: &ExpectedPair,
 )
-    requires cut { IsCutOf files.now.screened.used files.now.kept }
+    requires cut { IsCutOf files.now.rounds.screened.used files.now.rounds.kept }
     requires point { IsPoint point.now }
 {
     let (number, _tag, rows) = *want;
-    assert!(rt; number < files.screened.used.len());
-    let kept = files.kept.as_slice();
+    assert!(rt; number < files.rounds.screened.used.len());
+    let kept = files.rounds.kept.as_slice();
     for (arc, exact, _coarse, _direction) in rows {
         assert!(rt; (arc as usize) < kept.len());
         let found = shift_at(
-            &files.screened,
+            &files.rounds.screened,
             kept,
             arc,
             number as u32,
-            &files.base,
+            &files.rounds.position,
             point,
-            files.signals,
+            files.rounds.signals,
         );
         let shift = found.expect(rt, "the arc doesn't hold the pair");
         assert!(rt;
@@ -184,14 +191,14 @@ fn alone_agrees(
     session: &Session,
     number: usize,
 ) -> Result<(), Fail>
-    requires cut { IsCutOf files.now.screened.used session.now.arcs }
+    requires cut { IsCutOf files.now.rounds.screened.used session.now.arcs }
     requires base { IsPoint session.now.base }
     requires point { IsPoint session.now.point }
 {
-    assert!(rt; number < session.pairs.len() && number < files.screened.used.len());
+    assert!(rt; number < session.pairs.len() && number < files.rounds.screened.used.len());
     let alone = pair_rows(
         alloc,
-        &files.screened,
+        &files.rounds.screened,
         session.arcs.as_slice(),
         number as u32,
         &session.base,
@@ -222,7 +229,8 @@ fn fine_rows_agree(
     files: &Files,
     want: &Expected,
 ) -> Result<(), Fail>
-    requires cut { IsCutOf files.now.screened.used files.now.kept }
+    requires cut { IsCutOf files.now.rounds.screened.used files.now.rounds.kept }
+    requires halves { AreBaseHalves files.now.rounds.screened.boxes files.now.rounds.position files.now.rounds.halves.items }
 {
     let point = want.point;
     assert!(rt; is_receiver_point(&point));
@@ -230,11 +238,11 @@ fn fine_rows_agree(
     assert!(rt; are_arcs(&arcs));
     let session = rows_at(
         alloc,
-        &files.screened,
+        &files.rounds.screened,
         &arcs,
-        &files.base,
+        &files.rounds.position,
         &point,
-        files.signals,
+        files.rounds.signals,
         0,
     )?;
     assert_eq!(rt; session.pairs.len(), want.taken);
@@ -255,18 +263,18 @@ fn coarse_rows_agree(
     files: &Files,
     want: &Expected,
 ) -> Result<(), Fail>
-    requires cut { IsCutOf files.now.screened.used files.now.kept }
+    requires cut { IsCutOf files.now.rounds.screened.used files.now.rounds.kept }
 {
     let point = want.point;
     assert!(rt; is_receiver_point(&point));
-    let arcs = files.kept.as_slice();
+    let arcs = files.rounds.kept.as_slice();
     let session = rows_at(
         alloc,
-        &files.screened,
+        &files.rounds.screened,
         arcs,
-        &files.base,
+        &files.rounds.position,
         &point,
-        files.signals,
+        files.rounds.signals,
         14,
     )?;
     assert_eq!(rt; session.pairs.len(), want.taken);
