@@ -1,5 +1,5 @@
 -- What the steps of a check say.
-use Rattle.std.proofs.Common.{◌≡◌, ◌⊎◌, inl, inr, ℤ, List, FitsSigned, to_z, of_z, w64, sym, subst, arith}
+use Rattle.std.proofs.Common.{◌≡◌, ◌⊎◌, inl, inr, ℕ, ℤ, List, FitsSigned, to_z, of_z, w64, sym, subst, arith}
 use Rattle.std.specs.Int.{w128}
 use Rattle.std.proofs.lemmas.Int.{ints}
 use Rattle.obs_rows.specs.declared.sessions.Session.{Session}
@@ -27,13 +27,13 @@ best_said s (Unsettled entry) d said is = absurd said
 best_said s (Spent budget) d said is = absurd said
 
 -- a decision that is refused
-pub wide_decision : (s : Session) (f : Form) (b : TwoBest) (place : Place) → IsFormOf s f → IsTwoBest f b → (place ≡ Float → HasWide (move_of f (first_of b)))
-    → (place ≡ Sum → (HasWide (move_of f (first_of b)) → ⊥) × AreWide s.arcs s.pairs (first_of b) (move_of f (first_of b))) → (place ≡ Float) ⊎ (place ≡ Sum) → IsWideAt s place
-wide_decision s f b place of_rows best move sum (inl is) =
-    subst (IsWideAt s) (sym is) (record { form = f; best = b; has = record { of_rows = of_rows; best_is = best }; wide = move is })
-wide_decision s f b place of_rows best move sum (inr is) =
+pub wide_decision : (s : Session) (budget : ℕ) (f : Form) (b : TwoBest) (place : Place) → IsFormOf s f → IsTwoBest f b → (place ≡ Float → HasWide (move_of f (first_of b)))
+    → (place ≡ Sum → (HasWide (move_of f (first_of b)) → ⊥) × AreWide s.arcs s.pairs (first_of b) (move_of f (first_of b))) → (place ≡ Float) ⊎ (place ≡ Sum) → IsWideAt s budget place
+wide_decision s budget f b place of_rows best move sum (inl is) =
+    subst (IsWideAt s budget) (sym is) (record { form = f; best = b; has = record { of_rows = of_rows; best_is = best }; wide = move is })
+wide_decision s budget f b place of_rows best move sum (inr is) =
     let both = sum is in
-    subst (IsWideAt s) (sym is) (record { form = f; best = b; has = record { of_rows = of_rows; best_is = best }; narrow = both.0; wide = both.1 })
+    subst (IsWideAt s budget) (sym is) (record { form = f; best = b; has = record { of_rows = of_rows; best_is = best }; narrow = both.0; wide = both.1 })
 
 pub own_word64 : (x : ℤ) → FitsSigned w64 x → to_z w64 (of_z w64 x) ≡ x
 own_word64 x h = omega (arith, ints)

@@ -72,14 +72,14 @@ same_refusal s why too a b =
     one.1.1 ∙ ap told same ∙ sym two.1.1
 
 -- no form is refused for another place
-pub wide_refused : (s : Session) (place : Place) → IsRefused s (fault.Overwidth place) → IsWideAt s place
-wide_refused s Y a = a
-wide_refused s FactorPlace a = a
-wide_refused s Entry a = a
-wide_refused s Float a = let some = has_exponent (form_of a.normal) in let one = a.told some.0 some.1 in absurd (other_place Float one.0 one.1.1 (λ e. absurd cc) (λ e. absurd cc))
-wide_refused s Point a = a
-wide_refused s Search a = let some = has_exponent (form_of a.normal) in let one = a.told some.0 some.1 in absurd (other_place Search one.0 one.1.1 (λ e. absurd cc) (λ e. absurd cc))
-wide_refused s Sum a = let some = has_exponent (form_of a.normal) in let one = a.told some.0 some.1 in absurd (other_place Sum one.0 one.1.1 (λ e. absurd cc) (λ e. absurd cc))
+pub wide_refused : (s : Session) (budget : ℕ) (place : Place) → IsRefused s (fault.Overwidth place) → IsWideAt s budget place
+wide_refused s budget Y a = a
+wide_refused s budget FactorPlace a = a
+wide_refused s budget Entry a = a
+wide_refused s budget Float a = let some = has_exponent (form_of a.normal) in let one = a.told some.0 some.1 in absurd (other_place Float one.0 one.1.1 (λ e. absurd cc) (λ e. absurd cc))
+wide_refused s budget Point a = a
+wide_refused s budget Search a = let some = has_exponent (form_of a.normal) in let one = a.told some.0 some.1 in absurd (other_place Search one.0 one.1.1 (λ e. absurd cc) (λ e. absurd cc))
+wide_refused s budget Sum a = let some = has_exponent (form_of a.normal) in let one = a.told some.0 some.1 in absurd (other_place Sum one.0 one.1.1 (λ e. absurd cc) (λ e. absurd cc))
 
 -- a form that is refused is none
 no_form : (s : Session) (why : LowerFault) (f : Form) → IsRefused s why → IsFormOf s f → ⊥

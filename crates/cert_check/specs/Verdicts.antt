@@ -15,6 +15,7 @@ use Rattle.integer_form.specs.Told.{IsToldAs}
 use Rattle.lower_form.specs.Forms.{elimination_of}
 use Rattle.int_search.specs.declared.answer.TwoBest.{TwoBest}
 use Rattle.int_search.specs.Answers.{IsTwoBest, IsPlainCountOver, IsSearchTooWide}
+use Rattle.int_search.specs.ReducedCounts.{HasReducedCount}
 use Rattle.fix_decide.specs.Widths.{AreWide}
 use Rattle.fix_decide.specs.Decisions.{IsFormOf, IsSeparated, first_of, move_of}
 use Rattle.cert_data.specs.declared.tails.Tail.{Tail}
@@ -29,17 +30,19 @@ pub record IsRefused (s : Session) (why : LowerFault) : Type 0 where
   pub of_rows : IsNormalOf s.arcs s.scale s.pairs normal
   pub told : (h : ℕ) → IsExponent h (form_of normal) → IsToldAs why (elimination_of h normal)
 
--- the plain count of the rows' form is over the budget
+-- the plain count of the rows' form is over the budget, and no reduced count is within it
 pub record IsSpent (s : Session) (budget : ℕ) : Type 0 where
   pub form : Form
   pub of_rows : IsFormOf s form
   pub over : IsPlainCountOver form budget
+  pub not_reduced : HasReducedCount form budget → ⊥
 
--- a vector of its plain count, or a value, is too large
-pub record IsSearchWide (s : Session) : Type 0 where
+-- a vector of its plain count, or a value, is too large, and no reduced count is within the budget
+pub record IsSearchWide (s : Session) (budget : ℕ) : Type 0 where
   pub form : Form
   pub of_rows : IsFormOf s form
   pub wide : IsSearchTooWide form
+  pub not_reduced : HasReducedCount form budget → ⊥
 
 -- the form of the rows and its two best vectors
 pub record HasBest (s : Session) (form : Form) (best : TwoBest) : Type 0 where
@@ -62,11 +65,11 @@ pub record IsSumWide (s : Session) : Type 0 where
   pub wide : AreWide s.arcs s.pairs (first_of best) (move_of form (first_of best))
 
 -- the decision ends with a number that is too large there
-abbrev pub IsWideAt : Session → Place → Type 0
-IsWideAt s Float = IsMoveWide s
-IsWideAt s Search = IsSearchWide s
-IsWideAt s Sum = IsSumWide s
-IsWideAt s place = IsRefused s (fault.Overwidth place)
+abbrev pub IsWideAt : Session → ℕ → Place → Type 0
+IsWideAt s budget Float = IsMoveWide s
+IsWideAt s budget Search = IsSearchWide s budget
+IsWideAt s budget Sum = IsSumWide s
+IsWideAt s budget place = IsRefused s (fault.Overwidth place)
 
 -- the rows aren't fixed
 pub record IsUnseparated (s : Session) (ratio : ℕ) (d : Numbers) : Type 0 where
@@ -78,7 +81,7 @@ pub record IsUnseparated (s : Session) (ratio : ℕ) (d : Numbers) : Type 0 wher
 abbrev pub IsVerdictOf : Session → ℕ → ℕ → Tail → Verdict → Type 0
 IsVerdictOf s ratio budget t Certified = (d : Numbers) × (IsFixed s ratio d × Says t d)
 IsVerdictOf s ratio budget t (Not (cause.Weak column pivot)) = IsRefused s (fault.Weak column pivot)
-IsVerdictOf s ratio budget t (Not (cause.Overwidth place)) = IsWideAt s place
+IsVerdictOf s ratio budget t (Not (cause.Overwidth place)) = IsWideAt s budget place
 IsVerdictOf s ratio budget t (Not cause.Spent) = IsSpent s budget
 IsVerdictOf s ratio budget t (Not cause.Unseparated) = (d : Numbers) × IsUnseparated s ratio d
 IsVerdictOf s ratio budget t (Not cause.Tail) = (d : Numbers) × (IsFixed s ratio d × (Says t d → ⊥))

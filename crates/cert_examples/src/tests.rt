@@ -124,7 +124,7 @@ fn shows_residuals(rt: HostRuntime) -> Result<(), Fail> {
     Ok(())
 }
 
-// What is printed of a run that ends with this certificate: the certificate's text, and these lines.
+// What is printed of a run that ends with this certificate: the text that it was read from, and these lines.
 fn outcome_is(
     rt: &impl Abort,
     alloc: Global,
@@ -154,7 +154,7 @@ fn outcome_is(
 #[test]
 fn tells_outcomes(rt: HostRuntime) -> Result<(), Fail> {
     let alloc = rt.alloc();
-    let budget = "budget 1000";
+    let budget = "budget 1000000";
     let fixed = cert_of(&rt, alloc, budget, &SESSION, &[VALUES, "fixed"])?;
     let text = text_of(alloc, budget, &SESSION, &[VALUES, "fixed"])?;
     let told = "pairs 6 of 11\narcs 5\nbaseline -165.6800 943.6070 -659.5000\nverdict fixed\n";

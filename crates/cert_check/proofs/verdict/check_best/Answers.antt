@@ -67,4 +67,4 @@ returns-else-says-clause-verdict c =
 
 pub returns-in-Err-clause-verdict : goal.returns-in-Err-clause-verdict
 returns-in-Err-clause-verdict c =
-    wide_decision c.args.cert.now.session c.args.form.now c.args.best.now c.in-Err.wide.place c.requires.form c.requires.best c.in-Err.ensures.float.0 c.in-Err.ensures.sum.0 c.in-Err.ensures.only
+    wide_decision c.args.cert.now.session c.args.cert.now.budget c.args.form.now c.args.best.now c.in-Err.wide.place c.requires.form c.requires.best c.in-Err.ensures.float.0 c.in-Err.ensures.sum.0 c.in-Err.ensures.only

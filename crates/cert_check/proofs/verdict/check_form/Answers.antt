@@ -2,7 +2,7 @@ use Rattle.std.proofs.Common.{Err, ap}
 use Rattle.cert_check.proofs.verdict.check_form.Goals as goal
 
 pub returns-in-Err-Spent-clause-verdict : goal.returns-in-Err-Spent-clause-verdict
-returns-in-Err-Spent-clause-verdict c = record { form = c.args.form.now; of_rows = c.requires; over = c.in-Err-Spent.ensures.spent (ap Err c.in-Err-Spent.field-0-is) }
+returns-in-Err-Spent-clause-verdict c = record { form = c.args.form.now; of_rows = c.requires; over = c.in-Err-Spent.ensures.spent (ap Err c.in-Err-Spent.field-0-is); not_reduced = c.in-Err-Spent.ensures.reduced }
 
 pub returns-in-Err-Overwidth-clause-verdict : goal.returns-in-Err-Overwidth-clause-verdict
-returns-in-Err-Overwidth-clause-verdict c = record { form = c.args.form.now; of_rows = c.requires; wide = c.in-Err-Overwidth.ensures.overwidth (ap Err c.in-Err-Overwidth.field-0-is) }
+returns-in-Err-Overwidth-clause-verdict c = record { form = c.args.form.now; of_rows = c.requires; wide = c.in-Err-Overwidth.ensures.overwidth (ap Err c.in-Err-Overwidth.field-0-is); not_reduced = c.in-Err-Overwidth.ensures.reduced }
