@@ -9,9 +9,12 @@ mod reader;
 mod tail;
 mod tail_lines;
 
-pub use cert_data::{Cert, Tail, TwoBest};
+pub use cert_data::{
+    Answer, Cause, Cert, Outcome, Place, Stage, Tail, TwoBest, Verdict, name_of_place,
+};
 pub use cert_spelling::write_cert;
 pub use reader::read_cert;
+pub use rinex_head::TextFault as CertFault;
 
 #[cfg(test)]
 mod tests;

@@ -1,6 +1,6 @@
 //! Certificates that are written and read, and lines that are refused.
-use crate::{read_cert, write_cert};
-use rinex_head::{At, TextFault, What};
+use crate::{CertFault, read_cert, write_cert};
+use rinex_head::{At, What};
 use std::alloc::{AllocError, Global};
 use std::process::Abort;
 use std::test::Fail;
@@ -152,8 +152,8 @@ fn refusal(rt: &impl Abort, alloc: Global, text: &str) -> Option<At> {
     assert!(rt; text.len() <= 67_108_864);
     match read_cert(alloc, text.as_bytes()) {
         Ok(_) => None,
-        Err(TextFault::Refused(at)) => Some(at),
-        Err(TextFault::NoMemory) => panic!(rt; "no memory"),
+        Err(CertFault::Refused(at)) => Some(at),
+        Err(CertFault::NoMemory) => panic!(rt; "no memory"),
     }
 }
 
