@@ -105,6 +105,7 @@ fn do_job<F: Files>(alloc: Global, job: &Job, files: &mut F) -> Result<Answer, S
     ensures ends { IfEnded result (λ end. JobEnds job.now (F.text_of files.old) end) }
     ensures fault { IfEnded result (λ end. end.status ≡ Status.ReadFault → Rose (F.faults files.old) (F.faults files.new)) }
     ensures sure { All (F.is_sure_name files.old) (file_words job.now) → IfEnded result (λ end. end.status ≢ Status.ReadFault) }
+    ensures untouched { file_words job.now ≡ [] → files.new ≡ files.old }
 {
     match job {
         Job::Zero { rows } => zero(alloc, files, rows.as_str()),
@@ -139,6 +140,7 @@ fn answer_of<F: Files>(alloc: Global, words: &[String], files: &mut F) -> Result
     ensures fault { IfOk result (λ a. a.status ≡ Status.ReadFault → Rose (F.faults files.old) (F.faults files.new)) }
     ensures sure { (job : Job) → IsJob (texts_of words.now) job → All (F.is_sure_name files.old) (file_words job)
         → IfOk result (λ a. a.status ≢ Status.ReadFault) }
+    ensures untouched { ((job : Job) → IsJob (texts_of words.now) job → file_words job ≡ []) → files.new ≡ files.old }
 {
     let job = match read_words(alloc, words) {
         Ok(job) => job,
@@ -156,6 +158,7 @@ fn answer_of<F: Files>(alloc: Global, words: &[String], files: &mut F) -> Result
 }
 
 /// Does what the words after the program's name ask for, and writes its two texts, `out` first.
+/// Words that ask for no job, or for one without files, leave the files as they are.
 pub fn run<F: Files, O: Sink, E: Sink>(
     alloc: Global,
     words: &[String],
@@ -169,6 +172,7 @@ pub fn run<F: Files, O: Sink, E: Sink>(
     ensures read { result ≡ Status.ReadFault → Rose (F.faults files.old) (F.faults files.new) }
     ensures sure { (job : Job) → IsJob (texts_of words.now) job → All (F.is_sure_name files.old) (file_words job)
         → result ≢ Status.ReadFault }
+    ensures untouched { ((job : Job) → IsJob (texts_of words.now) job → file_words job ≡ []) → files.new ≡ files.old }
     ensures write { result ≡ Status.WriteFault → Rose (O.faults out.old) (O.faults out.new) ⊎ Rose (E.faults err.old) (E.faults err.new) }
     ensures zero { (rows : List ℕ) → IsJob (texts_of words.now) (Job.Zero rows) → SaysOfZero (F.text_of files.old) rows result
         (sink_change (O.contents out.old) (O.contents out.new) (O.faults out.old) (O.faults out.new)) }
@@ -217,6 +221,7 @@ fn write_answer<F: Files, O: Sink, E: Sink>(
     ensures read { result ≡ Status.ReadFault → Rose (F.faults files.old) (F.faults files.new) }
     ensures sure { (job : Job) → IsJob (texts_of words.now) job → All (F.is_sure_name files.old) (file_words job)
         → result ≢ Status.ReadFault }
+    ensures untouched { ((job : Job) → IsJob (texts_of words.now) job → file_words job ≡ []) → files.new ≡ files.old }
 {
     match answer_of(alloc, words, files) {
         Ok(answer) => deliver(answer.status, &answer.out, &answer.err, out, err),
