@@ -20,15 +20,15 @@ use Rattle.cert_jobs.proofs.CertSays.{check_status, check_verdict, residuals_sta
 use Rattle.arcs_job.proofs.ArcSays.{arcs_status, arcs_verdict}
 use Rattle.fix_job.proofs.FixSays.{fix_status, fix_verdict}
 use Rattle.sim_run_job.proofs.RunSays.{sim_run_status, sim_run_verdict}
-use Rattle.baseline_app.specs.Jobs.{PartEnds, IsPartReadable, JobEnds, IsReadable, IsAnswer}
+use Rattle.baseline_app.specs.Jobs.{PartEnds, JobEnds, IsReadable, IsAnswer}
 use Rattle.baseline_app.specs.Runs.{IsRun, IsComplete}
 
 -- the parts of a made-up session
-part_verdict : (p : Part) (seed epochs sats : ℕ) (end : Ending) → IsPartReadable p seed epochs sats → end.status ≢ ReadFault → PartEnds p seed epochs sats end → IsVerdictStatus end.status
-part_verdict part.Base seed epochs sats end readable no_fault ends = sim_verdict part.Base seed epochs sats end ends
-part_verdict part.Rover seed epochs sats end readable no_fault ends = sim_verdict part.Rover seed epochs sats end ends
-part_verdict part.Nav seed epochs sats end readable no_fault ends = sim_verdict part.Nav seed epochs sats end ends
-part_verdict part.Run seed epochs sats end readable no_fault ends = sim_run_verdict seed epochs sats end readable no_fault ends
+part_verdict : (p : Part) (seed epochs sats : ℕ) (end : Ending) → PartEnds p seed epochs sats end → IsVerdictStatus end.status
+part_verdict part.Base seed epochs sats end ends = sim_verdict part.Base seed epochs sats end ends
+part_verdict part.Rover seed epochs sats end ends = sim_verdict part.Rover seed epochs sats end ends
+part_verdict part.Nav seed epochs sats end ends = sim_verdict part.Nav seed epochs sats end ends
+part_verdict part.Run seed epochs sats end ends = sim_run_verdict seed epochs sats end ends
 
 part_status : (p : Part) (seed epochs sats : ℕ) (end : Ending) → PartEnds p seed epochs sats end → IsJobStatus end.status
 part_status part.Base seed epochs sats end ends = sim_status part.Base seed epochs sats end ends
@@ -45,7 +45,7 @@ readable_ends (job.Check cert) told end = check_verdict told cert end
 readable_ends (job.Residuals cert) told end = residuals_verdict told cert end
 readable_ends (job.Fix base rover nav options) told end = fix_verdict told base rover nav options end
 readable_ends (job.Arcs base rover nav options) told end = arcs_verdict told base rover nav options end
-readable_ends (job.Sim part seed epochs sats) told end = part_verdict part seed epochs sats end
+readable_ends (job.Sim part seed epochs sats) told end = λ readable no_fault ends. part_verdict part seed epochs sats end ends
 
 job_status : (job : Job) (told : List ℕ → Option (List ℕ)) (end : Ending) → JobEnds job told end → IsJobStatus end.status
 job_status (job.Zero rows) told end = zero_status told rows end

@@ -22,7 +22,6 @@ use Rattle.arcs_job.specs.ArcJobs.{ArcsEnds}
 use Rattle.arcs_job.specs.ArcRuns.{AreAdmitted}
 use Rattle.fix_job.specs.FixJobs.{FixEnds}
 use Rattle.sim_run_job.specs.SimRunJobs.{SimRunEnds}
-use Rattle.sim_run_job.specs.SimRunSays.{AreMadeAdmitted}
 
 -- of a made-up session one of its files, or what the three are found to say
 abbrev pub PartEnds : Part → ℕ → ℕ → ℕ → Ending → Type 0
@@ -30,13 +29,6 @@ PartEnds part.Base seed epochs sats end = SimEnds part.Base seed epochs sats end
 PartEnds part.Rover seed epochs sats end = SimEnds part.Rover seed epochs sats end
 PartEnds part.Nav seed epochs sats end = SimEnds part.Nav seed epochs sats end
 PartEnds part.Run seed epochs sats end = SimRunEnds seed epochs sats end
-
--- a file is made whatever the numbers; a run reads what was made
-abbrev pub IsPartReadable : Part → ℕ → ℕ → ℕ → Type 0
-IsPartReadable part.Base seed epochs sats = Unit {0}
-IsPartReadable part.Rover seed epochs sats = Unit {0}
-IsPartReadable part.Nav seed epochs sats = Unit {0}
-IsPartReadable part.Run seed epochs sats = AreMadeAdmitted seed epochs sats
 
 abbrev pub JobEnds : Job → (List ℕ → Option (List ℕ)) → Ending → Type 0
 JobEnds (job.Zero rows) told end = EndsByFile told rows (ZeroEnds rows) end
@@ -57,7 +49,7 @@ IsReadable (job.Check cert) told = IsCertAdmitted told cert
 IsReadable (job.Residuals cert) told = IsCertAdmitted told cert
 IsReadable (job.Fix base rover nav options) told = AreAdmitted told base rover nav options
 IsReadable (job.Arcs base rover nav options) told = AreAdmitted told base rover nav options
-IsReadable (job.Sim part seed epochs sats) told = IsPartReadable part seed epochs sats
+IsReadable (job.Sim part seed epochs sats) told = Unit {0}
 
 -- the words ask for a job, which ends so
 pub record AnswersJob (words : List (List ℕ)) (told : List ℕ → Option (List ℕ)) (end : Ending) : Type 0 where

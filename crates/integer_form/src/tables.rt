@@ -41,6 +41,7 @@ fn is_form_row(p: &FormTable, r: usize, n: usize) -> bool
     ensures symmetric { result ≡ true → (c : ℕ) → c < MOST_FORM_COLUMNS → entry p.now r c ≡ entry p.now c r }
     ensures small { result ≡ true → (c : ℕ) → c < MOST_FORM_COLUMNS → unsigned_abs (entry p.now r c) < 2 ^ 52 }
     ensures outside { result ≡ true → (c : ℕ) → c < MOST_FORM_COLUMNS → (n ≤ r) ⊎ (n ≤ c) → entry p.now r c ≡ pos 0 }
+    ensures only { IsSymmetric p.now → EntriesBelow (2 ^ 52) p.now → IsZeroOutside n n p.now → result ≡ true }
 {
     for c in 0..MOST_FORM_COLUMNS {
         let entry = p.at(r, c);
@@ -58,6 +59,7 @@ pub fn is_form_table(p: &FormTable, n: usize) -> bool
     ensures symmetric { result ≡ true → IsSymmetric p.now }
     ensures entries { result ≡ true → EntriesBelow (2 ^ 52) p.now }
     ensures outside { result ≡ true → IsZeroOutside n n p.now }
+    ensures only { IsSymmetric p.now → EntriesBelow (2 ^ 52) p.now → IsZeroOutside n n p.now → result ≡ true }
 {
     // A read tells the shape of the table, so that nothing stands behind its ends.
     let _first = p.at(0, 0);

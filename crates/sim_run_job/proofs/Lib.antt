@@ -1,3 +1,4 @@
+pub mod MadeFiles
 pub mod RunArcs
 pub mod RunEnds
 pub mod RunSays

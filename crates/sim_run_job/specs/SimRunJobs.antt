@@ -16,7 +16,7 @@ use Rattle.session.specs.Answers.{IsBestAnswer}
 use Rattle.session.specs.Outcomes.{IsOutcome}
 use Rattle.outcome_report.specs.OutcomeText.{is_fixed}
 use Rattle.job_answers.specs.Endings.{Ending, ending}
-use Rattle.session_files.specs.SessionFiles.{EndsBySession}
+use Rattle.session_files.specs.SessionFiles.{AreFilesOf}
 use Rattle.arcs_job.specs.ArcJobs.{IsPairRefused}
 use Rattle.fix_job.specs.FixJobs.{status_of}
 use Rattle.sim_match.specs.Matches.{IsMatched}
@@ -68,15 +68,18 @@ pub record EndsWithMatch (o : Options) (seed epochs sats : ℕ) (b r : ObsFile) 
   pub matched_is : IsTrue matched ↔ IsMatched (truth_in seed sats) outcome.answer
   pub end_is : end ≡ ending (status_of outcome.answer) (run_text seed epochs sats outcome.answer matched) []
 
--- what the three files end with
+-- what any three files end with
 abbrev pub SimRunEnd : Options → ℕ → ℕ → ℕ → ObsFile → ObsFile → Records → Ending → Type 0
 SimRunEnd o seed epochs sats b r n end = EndsWithMatch o seed epochs sats b r n end ⊎ IsPairRefused b r o end
 
--- what the made texts end with, read one after the other and processed with no option given. A text that isn't read, or two
--- that are refused together, end it as they end `fix`
+-- what the made texts end with, processed with no option given: they stand for a session, and aren't refused together
 pub record SimRunEnds (seed epochs sats : ℕ) (end : Ending) : Type 0 where
   pub told : List ℕ → Option (List ℕ)
   pub made : AreMadeFiles seed epochs sats told
   pub options : Options
   pub defaults : AreDefaults options
-  pub ends : EndsBySession told (codes "base") (codes "rover") (codes "nav") (SimRunEnd options seed epochs sats) end
+  pub base_file : ObsFile
+  pub rover_file : ObsFile
+  pub records : Records
+  pub are_files : AreFilesOf told (codes "base") (codes "rover") (codes "nav") base_file rover_file records
+  pub ends : EndsWithMatch options seed epochs sats base_file rover_file records end

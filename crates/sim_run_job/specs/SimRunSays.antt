@@ -10,7 +10,6 @@ use Rattle.outcome_report.specs.OutcomeText.{is_fixed}
 use Rattle.job_answers.specs.declared.status.Status.{Status}
 use Rattle.job_answers.specs.declared.status.Status.TheVariants.{Done, Declined}
 use Rattle.job_answers.specs.Delivered.{SinkChange}
-use Rattle.arcs_job.specs.ArcRuns.{AreAdmitted}
 use Rattle.fix_job.specs.FixRuns.{HaveOutcome}
 use Rattle.sim_match.specs.Matches.{IsMatched}
 use Rattle.sim_run_job.specs.SimRunJobs.{AreMadeFiles, truth_in, run_text}
@@ -35,8 +34,3 @@ abbrev pub SaysOfSimRun : ℕ → ℕ → ℕ → Status → SinkChange → Type
 SaysOfSimRun seed epochs sats Done out = SaysMatch seed epochs sats true out
 SaysOfSimRun seed epochs sats Declined out = SaysMatch seed epochs sats false out
 SaysOfSimRun seed epochs sats _ out = Unit {0}
-
--- The texts that are made are files, and the two aren't refused together
-abbrev pub AreMadeAdmitted : ℕ → ℕ → ℕ → Type 0
-AreMadeAdmitted seed epochs sats =
-    (told : List ℕ → Option (List ℕ)) (o : Options) → AreMadeFiles seed epochs sats told → AreDefaults o → AreAdmitted told (codes "base") (codes "rover") (codes "nav") o

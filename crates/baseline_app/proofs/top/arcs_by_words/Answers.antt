@@ -1,5 +1,4 @@
-use Rattle.std.proofs.Common.{◌≢◌, ℕ, List, [], ◌∷◌, All, sym, subst}
-use Rattle.job_answers.specs.declared.status.Status.TheVariants.{ReadFault}
+use Rattle.std.proofs.Common.{ℕ, List, [], ◌∷◌, All, sym, subst}
 use Rattle.job_answers.specs.Answers.{IfEnded}
 use Rattle.arcs_job.specs.ArcJobs.{ArcsEnds}
 use Rattle.baseline_app.proofs.top.arcs_by_words.Goals as goal

@@ -1,5 +1,4 @@
-use Rattle.std.proofs.Common.{◌≢◌, ℕ, List, [], ◌∷◌, All, sym, subst}
-use Rattle.job_answers.specs.declared.status.Status.TheVariants.{ReadFault}
+use Rattle.std.proofs.Common.{ℕ, List, [], ◌∷◌, All, sym, subst}
 use Rattle.job_answers.specs.Answers.{IfEnded}
 use Rattle.fix_job.specs.FixJobs.{FixEnds}
 use Rattle.baseline_app.proofs.top.fix_by_words.Goals as goal

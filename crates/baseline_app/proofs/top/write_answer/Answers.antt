@@ -1,4 +1,3 @@
-use Rattle.std.proofs.Common.{◌≡◌}
 use Rattle.job_answers.specs.declared.status.Status.TheVariants.{ReadFault}
 use Rattle.job_answers.proofs.EndingLaws.{delivered_status}
 use Rattle.baseline_app.proofs.top.write_answer.Goals as goal
