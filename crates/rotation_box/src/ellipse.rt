@@ -22,7 +22,7 @@ const PULL: u64 = 1025 << 45;
 
 const PULL_WIDTH: u64 = 53;
 
-/// 1 + 1/31 at 2^-60, and a little less than its inverse: the radius over the semi-major axis.
+/// The greatest radius over the semi-major axis at 2^-60, 1 + 1025/2^15; 1 - 1025/2^15 is the least.
 pub const RADIUS: u64 = (1 << 60) + (1025 << 45);
 
 pub const LEAST_RADIUS: u64 = (1 << 60) - (1025 << 45);
