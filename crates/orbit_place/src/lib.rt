@@ -42,6 +42,3 @@ pub fn place_of(orbit: &Orbit) -> [Iv<36>; 3]
     let z: SizedBox<36, PLACE, PLACE_WIDTH> = plane.radius.mul(&direction.z);
     [x.held, y.held, z.held]
 }
-
-#[cfg(test)]
-mod tests;

@@ -162,6 +162,3 @@ pub fn eccentric_pair(mean: &Iv<56>, eccentricity: &Iv<60>) -> Rotation<1, ANOMA
     let found = anomaly_box(mean, eccentricity);
     Rotation::new(found.cos, found.sin)
 }
-
-#[cfg(test)]
-mod tests;

@@ -1,5 +1,7 @@
 // Sums, doubles and true anomalies as mpmath gives them.
-use super::*;
+use iv_core::Iv;
+use rotation_box::{Rotation, eccentric_pair, on_ellipse, rotation_of, wide_rotation_of};
+use sized_box::SizedBox;
 
 const LIMIT: u64 = 1 << 60;
 

@@ -1,8 +1,10 @@
 // Places as mpmath gives them, at the ends of the ranges and between.
 ghost use Rattle.std.specs.Prelude.{◌*◌, ◌^◌, ◌≤◌, pos, ◌≤ℤ◌};
 
-use super::*;
+use iv_core::Iv;
+use orbit_place::{AXIS, Orbit, place_of};
 use rotation_box::eccentric_pair;
+use sized_box::SizedBox;
 use std::process::Abort;
 
 // The numbers of an orbit, each in the unit of its box, M in units of 2^-56, and the place in units of 2^-36 m, rounded down.
