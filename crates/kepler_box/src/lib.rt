@@ -12,7 +12,7 @@ ghost use Rattle.kepler_box.specs.Kepler.{SolvesKepler, HoldsAnomaly, IsNearAnom
 ghost use Rattle.kepler_box.specs.Steps.{IsMeanAnomaly, IsAngle, IsEccentricity, IsStep, AreNear, last_step, residual_limit, radius_limit, angle_width_limit, pair_width_limit};
 
 use iv_core::Iv;
-use trig_box::pair_box;
+use trig_box::{PairBox, pair_box};
 
 // After these many a further step leads at most 3 units away, wherever the first began.
 const ROUNDS: u32 = 14;
@@ -93,14 +93,69 @@ fn step(m: i64, e: i64, angle: i64) -> i64
     m + pull_of(e, middle_of(sine.lo(), sine.hi()))
 }
 
-// The angle from which a further step leads at most 3 units away
+// How far from the mean anomaly the steps may begin, in units of 2^-56: as far as a step leads at most
+const REACH: i64 = 1 << 52;
+
+// The box of the pair of angle / 2^56
+fn pair_at(angle: i64) -> PairBox
+    requires angle { IsAngle angle }
+    ensures cos { unsigned_abs result.cos.lo ≤ 2 ^ 61 }
+    ensures sin { unsigned_abs result.sin.lo ≤ 2 ^ 61 }
+{
+    let point: Iv<56> = Iv {
+        lo: angle,
+        hi: angle,
+    };
+    pair_box(&point, 5)
+}
+
+// One term more of change (1 + pull + pull² ..), in units of 2^-56
+fn drawn_out(change: i64, pull: i64, sum: i64) -> i64
+    requires change { Within (pos (2 ^ 54)) change }
+    requires pull { Within (pos (2 ^ 52)) pull }
+    requires sum { Within (pos (2 ^ 55)) sum }
+    ensures { Within (pos (2 ^ 55)) result }
+{
+    change + coarse(product(8 * pull, 32 * sum))
+}
+
+// The nearest angle that is in reach of m
+fn in_reach(m: i64, angle: i64) -> i64
+    requires mean { IsMeanAnomaly m }
+    ensures { AreNear (pos (2 ^ 52)) result m }
+{
+    if angle > m + REACH {
+        m + REACH
+    } else if angle < m - REACH {
+        m - REACH
+    } else {
+        angle
+    }
+}
+
+// An angle that is nearer to the solution, as Newton's rule finds it. That it is nearer isn't proved, nor needed.
+fn nearer(m: i64, e: i64, angle: i64) -> i64
+    requires mean { IsMeanAnomaly m }
+    requires eccentricity { IsEccentricity e }
+    requires near { AreNear (pos (2 ^ 52)) angle m }
+    ensures { AreNear (pos (2 ^ 52)) result m }
+{
+    let pair = pair_at(angle);
+    let change = m + pull_of(e, pair.sin.lo) - angle;
+    let pull = pull_of(e, pair.cos.lo);
+    let first = drawn_out(change, pull, change);
+    let second = drawn_out(change, pull, first);
+    in_reach(m, angle + drawn_out(change, pull, second))
+}
+
+// The angle from which a further step leads at most 3 units away. Newton's rule leads near it.
 fn settle(m: i64, e: i64) -> i64
     requires mean { IsMeanAnomaly m }
     requires eccentricity { IsEccentricity e }
     ensures settled { (next : ℤ) → IsStep m e result next → AreNear last_step next result }
     ensures angle { IsAngle result }
 {
-    let mut angle = m;
+    let mut angle = nearer(m, e, nearer(m, e, nearer(m, e, m)));
     for _round in 0..ROUNDS {
         let next = step(m, e, angle);
         if next == angle {

@@ -4,10 +4,12 @@
 
 mod correction;
 mod quotient;
+mod record;
 mod shape;
 mod timing;
 mod world;
 
+pub use record::ClockRecord;
 pub use shape::{AXIS, ECCENTRICITY, axis, eccentricity};
-pub use timing::{CLOCK_WIDTH, EPOCH_TIME, MEAN, Timing, timing_of};
+pub use timing::{CLOCK_WIDTH, EPOCH_TIME, MEAN, Timing, timing_at, timing_of};
 pub use world::World;

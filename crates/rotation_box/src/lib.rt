@@ -1,5 +1,6 @@
 //! Boxes of the cosine and the sine of an angle that know that they hold a pair near the circle of radius 1. So the boxes of
-//! sums of angles have ends of at most a little over 1 again, however many angles are added.
+//! a sum of angles have ends of at most a little over 1 again. How near that pair is stands in the type, in 2^-16, and is at
+//! most 32 of them: a sum counts those of both its angles and one more.
 #![tactic(auto)]
 
 ghost use Rattle.std.specs.Prelude.{◌≡◌, ◌+◌, ◌*◌, ◌^◌, ◌≤◌, pos, ◌≤ℤ◌};

@@ -6,4 +6,4 @@ mod record;
 
 pub use orbit_clock::World;
 pub use place::SvBox;
-pub use record::{sv_at, sv_with};
+pub use record::{SvRecord, sv_at, sv_from, sv_with};

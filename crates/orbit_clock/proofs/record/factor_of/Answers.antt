@@ -5,7 +5,7 @@ use Rattle.rational.specs.Rational.{times}
 use Rattle.eph_store.specs.Decimals.{decimal}
 use Rattle.orbit_clock.proofs.Values.{factor_ratio}
 use Rattle.orbit_clock.proofs.RootOfMu.{bounded}
-use Rattle.orbit_clock.proofs.timing.factor_of.Goals as goal
+use Rattle.orbit_clock.proofs.record.factor_of.Goals as goal
 
 pub returns : goal.returns
 returns c =

@@ -2,7 +2,7 @@ use Rattle.std.proofs.Common.{◌^◌, pos}
 use Rattle.rational.specs.Rational.{Rational, mul_r, times, of_whole}
 use Rattle.eph_store.specs.Decimals.{decimal, value_of}
 use Rattle.orbit_clock.proofs.Values.{relativity_is}
-use Rattle.orbit_clock.proofs.timing.relativity.Goals as goal
+use Rattle.orbit_clock.proofs.record.relativity.Goals as goal
 
 pub returns : goal.returns
 returns c =
