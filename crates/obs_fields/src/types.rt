@@ -4,7 +4,7 @@ ghost use Rattle.decimal_text.specs.Fixed.{are_blank};
 ghost use Rattle.rinex_head.specs.Columns.{columns};
 ghost use Rattle.rinex_head.specs.Fields.{whole_of};
 ghost use Rattle.obs_fields.specs.Layouts.{first_name_of, name_step_of, names_in_line_of, name_in, types_column_of, types_count_in, further_mark_in};
-ghost use Rattle.obs_fields.specs.Types.{is_listed, names_from, with_line, count_from, first_types_of, further_types_of, keeps, kept_type_in, kept_at, kept_from, listed_of};
+ghost use Rattle.obs_fields.specs.Types.{is_listed, names_from, with_line, count_from, first_types_of, further_types_of, keeps, kept_type_in, kept_at, kept_from, is_kept_name, listed_of};
 ghost use Rattle.obs_store.specs.Kinds.{kept_type_of};
 
 use crate::{Label, Layout, label_of_line};
@@ -285,13 +285,19 @@ pub fn kept_types(
     Ok(kept)
 }
 
+fn is_listed_kept(system: System, names: &TypeNames, kind: ObsType) -> bool
+    ensures { result ≡ is_kept_name system names.now kind }
+{
+    is_kept(system, kind) && names.has(kind.name())
+}
+
 /// Whether each type is listed and kept, in the order of the slots.
 pub fn listed_types(system: System, names: &TypeNames) -> [bool; SLOTS]
     ensures { result ≡ listed_of system names.now }
 {
     let mut listed = [false; SLOTS];
     for (slot, kind) in ObsType::ALL.iter().enumerate() {
-        listed[slot] = is_kept(system, *kind) && names.has(kind.name());
+        listed[slot] = is_listed_kept(system, names, *kind);
     }
     listed
 }

@@ -8,10 +8,10 @@ use Rattle.obs_fields.proofs.Moments.{same_part, no_moment, a_moment, below_zero
 use Rattle.obs_fields.proofs.epoch_fields.moment.Goals as goal
 
 pub returns-then-part-lt0 : goal.returns-then-part-lt0
-returns-then-part-lt0 c = sym (below_zero c.args.layout c.args.year c.args.month c.args.day c.args.hour c.args.minute c.args.part (omega (arith, ints)))
+returns-then-part-lt0 c = rw c.date_column.ensures (sym (below_zero c.args.layout c.args.year c.args.month c.args.day c.args.hour c.args.minute c.args.part (omega (arith, ints))))
 
 pub returns-then-part-gt599999999 : goal.returns-then-part-gt599999999
-returns-then-part-gt599999999 c = sym (too_late c.args.layout c.args.year c.args.month c.args.day c.args.hour c.args.minute c.args.part (omega (arith, ints)))
+returns-then-part-gt599999999 c = rw c.date_column.ensures (sym (too_late c.args.layout c.args.year c.args.month c.args.day c.args.hour c.args.minute c.args.part (omega (arith, ints))))
 
 pub returns-in-Ok : goal.returns-in-Ok
 returns-in-Ok c =
@@ -26,5 +26,5 @@ pub returns-in-Err : goal.returns-in-Err
 returns-in-Err c =
     let n = unsigned_abs (to_z w64 (of_z w64 c.args.part)) in
     let is : c.args.part ≡ pos n = same_part c.args.part c.ranges.part (omega (arith, ints)) in
-    sym (ap (λ (z : ℤ). moment_of c.args.layout c.args.year c.args.month c.args.day c.args.hour c.args.minute z) is
-    ∙ no_moment c.args.layout c.args.year c.args.month c.args.day c.args.hour c.args.minute n (λ are. absurd (cc (c.in-Err.ensures.exact.1 are))))
+    rw c.date_column.ensures (sym (ap (λ (z : ℤ). moment_of c.args.layout c.args.year c.args.month c.args.day c.args.hour c.args.minute z) is
+    ∙ no_moment c.args.layout c.args.year c.args.month c.args.day c.args.hour c.args.minute n (λ are. absurd (cc (c.in-Err.ensures.exact.1 are)))))

@@ -7,7 +7,7 @@ pub loop-slot-preserved : goal.loop-slot-preserved
 loop-slot-preserved c = record {
   so_far = below_more _ _
       (λ i lt. let other : i ≢ c.loop-slot.slot = omega arith in rw get_or-set_other (c.loop-slot.invariant.so_far i lt))
-      (let less : c.loop-slot.slot < length c.loop-slot.listed = omega (arith, c.loop-slot.invariant.as_many, c.loop-slot-test.true) in rw get_or-set_same (c.has.ensures ∙ ap (λ (n : List ℕ). is_listed c.args.names.now n) c.name.ensures));
+      (let less : c.loop-slot.slot < length c.loop-slot.listed = omega (arith, c.loop-slot.invariant.as_many, c.loop-slot-test.true) in rw get_or-set_same (c.is_listed_kept.ensures));
   as_many = length-set _ _ _ ∙ c.loop-slot.invariant.as_many;
 }
 
