@@ -10,6 +10,7 @@ use Rattle.rinex_head.specs.Walk.{walk}
 use Rattle.rinex_head.proofs.Walks.{walk-takes, walk-end}
 use Rattle.rinex_head.proofs.TakenLines.{All-behind}
 use Rattle.rinex_head.specs.declared.system.System.{System}
+use Rattle.rinex_head.specs.declared.system.System.TheVariants.{Gps, Galileo}
 use Rattle.rinex_head.specs.Systems.{letter_of}
 use Rattle.nav_records.specs.FirstLine.{ends_header}
 use Rattle.nav_records.specs.RecordLines.{start_in, body_line_of, quad_in, continuation_of}
@@ -29,6 +30,15 @@ AreShort lines = All IsShort lines
 blank_column : (line : List ℕ) → are_blank line ≡ true → column line 1 ≡ 32
 blank_column [] is = refl
 blank_column (b ∷ bs) is = grind (arith, nat_tests)
+
+-- a system's letter is no blank, and itself
+letter_there : (of : System) → (letter_of of == 32) ≡ false
+letter_there Gps = refl
+letter_there Galileo = refl
+
+own_letter : (of : System) → (letter_of of == letter_of of) ≡ true
+own_letter Gps = refl
+own_letter Galileo = refl
 
 module _ (system : System) where
   -- ---- where a record may begin
@@ -61,7 +71,7 @@ module _ (system : System) where
   unfolding body_line_of
   takes_first raws skipping l r room is =
       let fits : nat_le 4096 (length raws) ≡ false = grind (arith, nat_tests) in
-      rw (is.letter, fits, starts l r is) refl
+      rw (is.letter, letter_there system, own_letter system, fits, starts l r is) refl
 
   -- ---- the further lines of a record
 
