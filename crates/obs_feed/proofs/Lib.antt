@@ -1,5 +1,3 @@
-pub mod TypeLists
-pub mod Moments
 pub mod Steps
 pub mod FormLaws
 pub mod FormTook

@@ -1,6 +1,5 @@
 pub mod FirstLine
 pub mod HeaderLines
-pub mod Types
 pub mod EpochTag
 pub mod EpochLines
 pub mod SatLines
