@@ -1,4 +1,4 @@
-//! What the readers of all texts share: the place of a refusal, the closed list of reasons, and the walk over
+//! What the readers of all texts share: the place of a refusal, the closed list of reasons, the systems, and the walk over
 //! the lines of a text, in which a reader's contract names the first line that no rule admits.
 //!
 //! # How a reader uses the walk
@@ -24,15 +24,17 @@ mod columns;
 mod fields;
 mod head;
 mod place;
+mod system;
 mod walk;
 
 pub use columns::{byte_in, field};
 pub use fields::{
     bad_field, exponent_number, filled_number, fixed, fixed_number, is_blank_line, two_digits,
-    whole_number,
+    whole_number, wide_number,
 };
 pub use head::{HeadLine, Version, head_line, version_of};
 pub use place::{At, Flaw, TextFault, What};
+pub use system::System;
 pub use walk::{line_or_end, next_line};
 
 #[cfg(test)]

@@ -1,10 +1,7 @@
-//! The reader of navigation files (RINEX 3).
+//! The reader of the navigation files of GPS (RINEX 3): that of nav_records for this system.
 #![tactic(auto)]
 
-mod body;
-mod header;
 mod reader;
-mod record_lines;
 
 pub use reader::read_nav;
 pub use rinex_head::TextFault as NavFault;
