@@ -3,6 +3,7 @@
 
 mod arcs;
 mod bands;
+mod constants;
 mod laws;
 mod pair_builder;
 mod pair_list;
@@ -18,6 +19,7 @@ mod units;
 
 pub use arcs::{Arc, ArcList};
 pub use bands::{L1_LETTERS, L2_LETTERS, Signals};
+pub use constants::{letters_law, signals_law, sizes_law};
 pub use laws::{best_law, bound_law, centres_law, groups_law};
 pub use pair_builder::PairBuilder;
 pub use pair_list::PairList;
