@@ -12,8 +12,8 @@ returns-in-Ok-Settled g c =
     let t : IsSettledForm s c.in-Ok-Settled.field-0-0 = subst (IsStep (nat_eq c.rounds.made (most_rounds 14)) s) c.in-Ok-Settled.field-0-is c.in-Ok-Settled.ensures.step in
     coarse_settles rules c.rounds.point c.args.arcs.now c.rounds.made s c.in-Ok-Settled.field-0-0 c.rounds.invariant k t
 
-pub overflow_add-made-in-Ok-Moved : goal.overflow_add-made-in-Ok-Moved
-overflow_add-made-in-Ok-Moved g c = few c.rounds.made c.rounds.invariant.few
+pub overflow_add-made : goal.overflow_add-made
+overflow_add-made g c = few c.rounds.made c.rounds.invariant.few
   where
     few : (n : ℕ) → n ≤ most_rounds 14 → n + 1 < 2 ^ 32
     few n h = omega arith
