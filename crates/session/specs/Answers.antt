@@ -1,5 +1,5 @@
 -- The answers of a run over the arcs that were kept.
-use Rattle.std.specs.Prelude.{◌≡◌, ◌≢◌, ℕ, Any, pos}
+use Rattle.std.specs.Prelude.{◌≡◌, ◌≢◌, ◌≤◌, ℕ, Any, pos}
 use Rattle.obs_store.specs.declared.file.ObsFile.{ObsFile}
 use Rattle.obs_rows.specs.Arcs.{free_count}
 use Rattle.cert_data.specs.declared.certs.Cert.{Cert}
@@ -8,7 +8,7 @@ use Rattle.cert_data.specs.declared.outcomes.Answer.{Answer}
 use Rattle.cert_data.specs.declared.outcomes.Answer.TheVariants.{Few, Arcs, Early, Full}
 use Rattle.run_options.specs.declared.options.Options.{Options}
 use Rattle.round_steps.specs.Counts.{AreFew, AreMany}
-use Rattle.round_steps.specs.Runs.{Rules, EndsEarly, EndsFull}
+use Rattle.round_steps.specs.Runs.{Rules, most_rounds, EndsEarly, EndsFull}
 use Rattle.round_steps.specs.Steps.{IsBestWhereFixed}
 
 -- four satellites are in kept arcs in some pair, and the arcs aren't too many
@@ -21,6 +21,10 @@ pub record IsEndCert (rules : Rules) (o : Options) (rounds : RoundCounts) (cert 
   pub ratio : cert.ratio ≡ o.ratio
   pub budget : cert.budget ≡ o.budget
   pub ends : EndsFull rules o.ratio o.budget rounds cert.session cert.tail
+
+-- at most ten coarse rounds and at most six fine ones
+abbrev pub AreAllowed : RoundCounts → Type 0
+AreAllowed rounds = (rounds.coarse ≤ most_rounds 14) × (rounds.fine ≤ most_rounds 0)
 
 -- no round was made
 abbrev pub AreNone : RoundCounts → Type 0

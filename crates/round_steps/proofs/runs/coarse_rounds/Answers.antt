@@ -1,4 +1,4 @@
-use Rattle.std.proofs.Common.{◌≡◌, ◌<◌, ◌≤◌, ◌+◌, ◌-◌, ◌^◌, false, nat_eq, ℕ, arith, subst}
+use Rattle.std.proofs.Common.{◌≡◌, ◌<◌, ◌≤◌, ◌+◌, ◌-◌, false, nat_eq, ℕ, arith, subst}
 use Rattle.round_steps.specs.Steps.{IsStep, IsSettledForm, IsMoved}
 use Rattle.round_steps.specs.Runs.{Rules, IsSessionOf, coarse, most_rounds}
 use Rattle.round_steps.proofs.RunLaws.{session_at, one_more, coarse_settles, coarse_declines, coarse_moves}
@@ -11,12 +11,6 @@ returns-in-Ok-Settled g c =
     let k : IsSessionOf rules (coarse c.rounds.point c.args.arcs.now) s = session_at rules (coarse c.rounds.point c.args.arcs.now) c.in_ok-session.field-0 s c.in-Some.is c.in_ok-session.ensures in
     let t : IsSettledForm s c.in-Ok-Settled.field-0-0 = subst (IsStep (nat_eq c.rounds.made (most_rounds 14)) s) c.in-Ok-Settled.field-0-is c.in-Ok-Settled.ensures.step in
     coarse_settles rules c.rounds.point c.args.arcs.now c.rounds.made s c.in-Ok-Settled.field-0-0 c.rounds.invariant k t
-
-pub overflow_add-made : goal.overflow_add-made
-overflow_add-made g c = few c.rounds.made c.rounds.invariant.few
-  where
-    few : (n : ℕ) → n ≤ most_rounds 14 → n + 1 < 2 ^ 32
-    few n h = omega arith
 
 pub rounds-smaller : goal.rounds-smaller
 rounds-smaller g c =
