@@ -19,6 +19,8 @@ mod forged_tests;
 #[cfg(test)]
 mod malformed_tests;
 #[cfg(test)]
+mod sim_run_tests;
+#[cfg(test)]
 mod tests;
 mod top;
 

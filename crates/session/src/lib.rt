@@ -6,8 +6,8 @@ mod file_rounds;
 mod outcomes;
 mod runs;
 
-pub use answers::answer;
-pub use cert_data::{Answer, Cert, Outcome, Stage, Tail};
+pub use answers::{Answered, answer};
+pub use cert_data::{Answer, Cert, Outcome, RoundCounts, Stage, Tail};
 pub use file_rounds::FileRounds;
 pub use outcomes::{have_delta, outcome};
 pub use runs::{process, screened};

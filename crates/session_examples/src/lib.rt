@@ -5,4 +5,6 @@
 #[cfg(test)]
 mod cases;
 #[cfg(test)]
+mod round_tests;
+#[cfg(test)]
 mod tests;
