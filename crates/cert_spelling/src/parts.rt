@@ -27,7 +27,9 @@ fn push_head(
     point: &[i64; 3],
     signals: Signals,
 ) -> Result<(), AllocError>
-    ensures { OnOk result (out.new.items ≡ out.old.items ++ text_of_lines (head_lines ratio budget base.now point.now signals)) }
+    ensures text { OnOk result (out.new.items ≡ out.old.items ++ text_of_lines (head_lines ratio budget base.now point.now signals)) }
+    ensures base { length base.now ≡ 3 }
+    ensures point { length point.now ≡ 3 }
 {
     push_form(out)?;
     push_count_line(out, b"ratio", ratio as u64)?;
