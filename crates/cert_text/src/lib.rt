@@ -3,6 +3,7 @@
 
 mod arcs;
 mod head;
+mod laws;
 mod lines;
 mod pairs;
 mod reader;
@@ -13,6 +14,7 @@ pub use cert_data::{
     Answer, Cause, Cert, Outcome, Place, Stage, Tail, TwoBest, Verdict, name_of_place,
 };
 pub use cert_spelling::write_cert;
+pub use laws::one_spelling_law;
 pub use reader::read_cert;
 pub use rinex_head::TextFault as CertFault;
 

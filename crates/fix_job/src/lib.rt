@@ -6,7 +6,7 @@ ghost use Rattle.line_source.specs.Causes.{Rose, OpensAtMost};
 ghost use Rattle.job_answers.specs.Statuses.{IsVerdictStatus};
 ghost use Rattle.job_answers.specs.Answers.{ending_of, IfEnded};
 ghost use Rattle.job_answers.specs.Endings.{ending, IsRefusedWhole};
-ghost use Rattle.outcome_report.specs.OutcomeText.{answer_text, outcome_text};
+ghost use Rattle.outcome_report.specs.OutcomeText.{answer_text, outcome_text, IsWholeAnswer};
 ghost use Rattle.fix_job.specs.FixJobs.{status_of, FixEnd, FixEnds};
 
 use arcs_job::refused_pair;
@@ -34,7 +34,8 @@ fn status_of(answer: &session::Answer) -> Status
 
 // The texts of an outcome.
 fn answer_outcome(alloc: Global, outcome: &Outcome) -> Result<Answer, AllocError>
-    ensures { IfOk result (λ a. ending_of a ≡ ending (status_of outcome.now.answer) (answer_text outcome.now.answer) (outcome_text outcome.now)) }
+    ensures ending { IfOk result (λ a. ending_of a ≡ ending (status_of outcome.now.answer) (answer_text outcome.now.answer) (outcome_text outcome.now)) }
+    ensures whole { IfOk result (λ a. IsWholeAnswer outcome.now.answer) }
 {
     let mut out = Vec::new(alloc);
     let mut err = Vec::new(alloc);

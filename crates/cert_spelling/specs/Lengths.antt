@@ -1,26 +1,14 @@
 -- Certificates whose arrays have their lengths, as those of every value in a program have. In a definition an array is a
 -- list of any length.
 use Rattle.std.specs.Prelude.{◌≡◌, ℕ, ℤ, List, length, All}
-use Rattle.obs_rows.specs.declared.arcs.Arc.{Arc}
-use Rattle.obs_rows.specs.declared.rows.Row.{Row}
-use Rattle.obs_rows.specs.declared.pair_rows.PairRows.{PairRows}
-use Rattle.obs_rows.specs.declared.units.TheConstants.{MOST_INTEGERS, SIGNALS, PHASES}
+use Rattle.obs_rows.specs.declared.sessions.Session.{Session}
+use Rattle.obs_rows.specs.declared.units.TheConstants.{MOST_INTEGERS}
 use Rattle.int_search.specs.declared.answer.TwoBest.{TwoBest}
 use Rattle.cert_data.specs.declared.certs.Cert.{Cert}
 use Rattle.cert_data.specs.declared.tails.Tail.{Tail}
 use Rattle.cert_data.specs.declared.tails.Tail.TheVariants.{Fixed, Unseparated}
+use Rattle.cert_lines.specs.Lengths.{IsWholeArc, IsWholePair}
 use Rattle.cert_spelling.specs.Spelling.{spelling}
-
-abbrev pub IsWholeArc : Arc → Type 0
-IsWholeArc a = length a.shift ≡ PHASES
-
-pub record IsWholeRow (r : Row) : Type 0 where
-  pub y : length r.y ≡ SIGNALS
-  pub u : length r.u ≡ 3
-  pub ru : length r.ru ≡ 3
-
-abbrev pub IsWholePair : PairRows → Type 0
-IsWholePair p = All IsWholeRow p.rows
 
 pub record AreWholeVectors (moved : List ℤ) (best : TwoBest) : Type 0 where
   pub move : length moved ≡ 3
@@ -32,11 +20,14 @@ IsWholeTail (Fixed h moved best top) = AreWholeVectors moved best
 IsWholeTail (Unseparated h moved best top) = AreWholeVectors moved best
 IsWholeTail _ = Unit {0}
 
+pub record IsWholeSession (s : Session) : Type 0 where
+  pub base : length s.base ≡ 3
+  pub point : length s.point ≡ 3
+  pub arcs : All IsWholeArc s.arcs
+  pub pairs : All IsWholePair s.pairs
+
 pub record IsWhole (c : Cert) : Type 0 where
-  pub base : length c.session.base ≡ 3
-  pub point : length c.session.point ≡ 3
-  pub arcs : All IsWholeArc c.session.arcs
-  pub pairs : All IsWholePair c.session.pairs
+  pub session : IsWholeSession c.session
   pub tail : IsWholeTail c.tail
 
 -- the text is the spelling of a certificate
