@@ -13,6 +13,8 @@
 #[cfg(test)]
 mod failing_tests;
 #[cfg(test)]
+mod fault_order_tests;
+#[cfg(test)]
 mod fix_tests;
 #[cfg(test)]
 mod forged_tests;
