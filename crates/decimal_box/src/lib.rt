@@ -1,4 +1,7 @@
 //! Boxes of decimal numbers.
+//!
+//! `decimal_box` gives the least box of a decimal number times a power of ten at its scale, at any exponent; the
+//! limit of its size is compared with that of the number when the program is checked.
 #![tactic(auto)]
 
 ghost use Rattle.std.specs.Prelude.{◌≡◌, ◌+◌, ◌*◌, ◌^◌, ◌<◌, ◌≤◌, pos, ◌+ℤ◌, ◌*ℤ◌, ◌≤ℤ◌, ◌<ℤ◌, min, unsigned_abs};

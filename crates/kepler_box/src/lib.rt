@@ -1,4 +1,8 @@
 //! The eccentric anomaly: boxes of all solutions of Kepler's equation M = E − e·sin E (IS-GPS-200, table 20-IV).
+//!
+//! `anomaly_box` holds every solution of Kepler's equation for every mean anomaly and eccentricity of its boxes
+//! (`holds`), and says how near its boxes the solutions are whose mean anomaly lies outside (`near`). It takes no
+//! memory and is never refused.
 #![tactic(auto)]
 
 ghost use Rattle.std.specs.Prelude.{◌≡◌, ℕ, ◌+◌, ◌-◌, ◌*◌, ◌^◌, ◌<◌, ◌≤◌, pos, ◌+ℤ◌, ◌-ℤ◌, ◌*ℤ◌, neg_ℤ, ℤ, ◌≤ℤ◌, unsigned_abs};

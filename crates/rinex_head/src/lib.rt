@@ -18,6 +18,16 @@
 //! That the place of a refusal is the first failing line by the form alone, which mentions no rules
 //! (specs/FirstFailing.antt), is `first_failing` of proofs/Stops.antt: it asks for a rest of a text behind every
 //! state (`with_line`, one line more), and for a law between the form and the rules.
+//!
+//! `head_line` gives content and label of a header line and `version_of` the version, kind and system of a first
+//! line, both exactly, with columns past the end of a line blank; `version_of` refuses exactly the lines that lack
+//! the label or a version from 3.00 to 3.05. What the formats say of GPS and of Galileo is by cases of `System`. The
+//! numbers in fixed columns, which both readers of RINEX take (`whole_number`, `filled_number`, `two_digits`,
+//! `fixed_number`, `exponent_number`), are exactly those that the bytes spell, or a bad field at its first column.
+//!
+//! The closed list of reasons with their texts, the place of a refusal, and the walk over lines that every reader of
+//! a text has in its contract (`Reads`, `Gives`). Its proofs are generic: a reader states two tables, and gets that a
+//! text is refused at the first line that no rule admits, by the form alone (`first_failing`).
 #![tactic(auto)]
 
 mod columns;

@@ -1,4 +1,4 @@
-//! Whole runs over made-up sessions and over what is left of them after a change, against an independent model. There is nothing
+//! Whole runs over simulated sessions and over what is left of them after a change, against an independent model. There is nothing
 //! here but tests.
 #![tactic(auto)]
 

@@ -1,5 +1,9 @@
 //! Boxes whose type says how far their ends are from 0 and how wide they are, so that sums, products and
 //! quotients are never refused: the sizes are compared when the program is checked.
+//!
+//! A `SizedBox` has in its type how far its ends are from 0 and how wide it is. Its sums, differences, products,
+//! squares and quotients hold every exact result and are never refused; the limits of the answer are compared with
+//! those of the operands when the program is checked.
 #![tactic(auto)]
 
 ghost use Rattle.std.specs.Prelude.{◌≡◌, ◌+◌, ◌-◌, ◌*◌, ◌^◌, ◌<◌, ◌≤◌, pos, ◌≤ℤ◌};

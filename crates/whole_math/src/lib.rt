@@ -2,6 +2,10 @@
 //! cites: polynomial identities, orders and products, roundings, sums and vectors of whole numbers.
 //!
 //! `specs/` has the definitions, `proofs/` the laws; `laws` names those that a newcomer should see.
+//!
+//! `floor`, `ceil` and `nearest` answer ⌊n/m⌋, ⌈n/m⌉ and ⌊n/m + 1/2⌋ for every 128-bit n and every m above 0, without
+//! overflow; `floor_shift` and `ceil_shift` the same by powers of two. `laws` names the laws of roundings, products,
+//! powers, sums and vectors.
 #![tactic(auto)]
 
 pub mod laws;
