@@ -5,6 +5,10 @@
 #[cfg(test)]
 mod cases;
 #[cfg(test)]
+mod round_steps_tests;
+#[cfg(test)]
 mod round_tests;
+#[cfg(test)]
+mod session_tests;
 #[cfg(test)]
 mod tests;
