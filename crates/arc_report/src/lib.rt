@@ -57,38 +57,3 @@ pub fn write_arcs(alloc: Global, out: &mut Vec<u8>, arcs: &Arcs) -> Result<(), A
     write_short(alloc, out, arcs.short)?;
     Ok(())
 }
-
-#[cfg(test)]
-mod tests {
-    use super::*;
-    use obs_rows::ArcList;
-    use std::test::Fail;
-
-    #[test]
-    fn prints_arcs(rt: HostRuntime) -> Result<(), Fail> {
-        let alloc = rt.alloc();
-        let datum = Arc {
-            sat: 3,
-            first: 0,
-            last: 19,
-            datum: true,
-            shift: [0, 0],
-        };
-        let free = Arc {
-            sat: 12,
-            first: 5,
-            last: 9,
-            datum: false,
-            shift: [0, 0],
-        };
-        let arcs = Arcs {
-            kept: ArcList::new(vec![in alloc; datum, free]?),
-            short: 2,
-        };
-        let mut out = Vec::new(alloc);
-        write_arcs(alloc, &mut out, &arcs)?;
-        let want = "arc G03 0 19 datum\narc G12 5 9 free\nshort 2\n";
-        assert_eq!(rt; out.as_slice(), want.as_bytes());
-        Ok(())
-    }
-}

@@ -22,6 +22,3 @@ pub use cert_spelling::write_cert;
 pub use laws::one_spelling_law;
 pub use reader::read_cert;
 pub use rinex_head::TextFault as CertFault;
-
-#[cfg(test)]
-mod tests;

@@ -24,8 +24,3 @@ pub use jobs::{Job, read_words};
 pub use settings::{Given, Setting};
 pub use sims::{Part, Sim};
 pub use word::Word;
-
-#[cfg(test)]
-mod option_tests;
-#[cfg(test)]
-mod tests;

@@ -11,6 +11,3 @@ mod steps;
 pub use entries::is_small;
 pub use step::Stop;
 pub use steps::{Stopped, take_steps};
-
-#[cfg(test)]
-mod tests;

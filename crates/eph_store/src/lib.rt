@@ -21,6 +21,3 @@ pub use ephemeris::Eph;
 pub use profile::Unfit;
 pub use record::Raw;
 pub use records::NavFile;
-
-#[cfg(test)]
-mod tests;

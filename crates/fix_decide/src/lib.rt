@@ -22,6 +22,3 @@ pub use decision::{Decision, decide};
 pub use pairs::pair_upper;
 pub use reaches::centre_of;
 pub use upper_sums::upper_sum;
-
-#[cfg(test)]
-mod tests;

@@ -35,12 +35,3 @@ mod walk;
 pub use answer::{SearchFault, TwoBest};
 pub use reduced::two_best;
 pub use search::plain_best;
-
-#[cfg(test)]
-mod cases;
-#[cfg(test)]
-mod reduced_case;
-#[cfg(test)]
-mod session_cases;
-#[cfg(test)]
-mod tests;

@@ -23,6 +23,3 @@ pub use form::Form;
 pub use front_form::FrontForm;
 pub use laws::lower_sum_law;
 pub use tables::{factor_table, is_form_table};
-
-#[cfg(test)]
-mod tests;

@@ -20,6 +20,3 @@ mod tables;
 pub use forms::{finish, lower};
 pub use fronts::front;
 pub use integer_form::{Form, FrontForm, LowerFault, Overwidth, Place};
-
-#[cfg(test)]
-mod tests;

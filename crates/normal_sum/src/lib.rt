@@ -18,6 +18,3 @@ mod sums;
 
 pub use normal::Normal;
 pub use sums::{sum, sum_pair};
-
-#[cfg(test)]
-mod tests;

@@ -10,6 +10,3 @@ mod declines;
 mod outcomes;
 
 pub use outcomes::{is_fixed, write_outcome};
-
-#[cfg(test)]
-mod tests;

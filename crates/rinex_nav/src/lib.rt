@@ -12,6 +12,3 @@ mod reader;
 
 pub use reader::read_nav;
 pub use rinex_head::TextFault as NavFault;
-
-#[cfg(test)]
-mod tests;

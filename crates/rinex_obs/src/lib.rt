@@ -17,8 +17,3 @@ mod reader;
 pub use feed::ObsFeed;
 pub use reader::read_obs;
 pub use rinex_head::TextFault as ObsFault;
-
-#[cfg(test)]
-mod feed_tests;
-#[cfg(test)]
-mod tests;

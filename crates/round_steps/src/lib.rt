@@ -25,6 +25,3 @@ pub use points::is_receiver_point;
 pub use runs::{End, Rounds, run};
 pub use shifts::grown;
 pub use steps::{Step, round_step};
-
-#[cfg(test)]
-mod tests;

@@ -27,19 +27,3 @@ impl Options {
         }
     }
 }
-
-#[cfg(test)]
-mod tests {
-    use super::*;
-
-    #[test]
-    fn has_defaults(rt: HostRuntime) {
-        let plain = Options::defaults();
-        assert_eq!(rt;
-            (plain.ratio, plain.budget, plain.mask),
-            (2000, 1_000_000, 200)
-        );
-        assert_eq!(rt; (plain.gap, plain.jump, plain.arc), (100_000, 12, 5));
-        assert_eq!(rt; (plain.step, plain.first, plain.count), (1, 0, 3600));
-    }
-}

@@ -23,6 +23,3 @@ pub use file_rounds::FileRounds;
 pub use outcomes::{have_delta, outcome};
 pub use runs::{process, screened};
 pub use session_begin::{Begun, Options, PairWhat, SessionFault, begin};
-
-#[cfg(test)]
-mod tests;

@@ -17,8 +17,6 @@ ghost use Rattle.sim_session.specs.Texts.{IsBaseText, IsRoverText, IsNavigationT
 
 mod observations;
 mod receivers;
-#[cfg(test)]
-mod tests;
 
 use observations::observation_file;
 use receivers::{base_receiver, rover_receiver};

@@ -14,19 +14,3 @@ mod rows;
 
 pub use best::{Verdict, decide};
 pub use rows::{MAX_DIFFS, ZeroRows, read_rows};
-
-#[cfg(test)]
-mod tests {
-    use super::*;
-    use std::test::Fail;
-
-    #[test]
-    fn reads_and_decides(rt: HostRuntime) -> Result<(), Fail> {
-        let text = b"zero 1\nz 1\ndiff 61\ndiff 59\ndiff 63\n";
-        let rows = read_rows(rt.alloc(), text)?;
-        assert_eq!(rt; rows.claim(), 1);
-        assert_eq!(rt; rows.diffs(), [61, 59, 63].as_slice());
-        assert_eq!(rt; decide(&rows), Verdict::Optimal { sum: 11 });
-        Ok(())
-    }
-}
