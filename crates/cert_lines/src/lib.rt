@@ -1,4 +1,10 @@
 //! The lines of a certificate, each by itself: how it is spelled, and what it says where it stands in its place.
+//!
+//! Each line of a certificate by itself. A reader of a line (`count_in`, `triple_in`, `vector_in`, `letters_in`,
+//! `arc_in`, `pair_in`, `row_in`) answers exactly what the form of that line gives in its place, its first flaw
+//! included (`value`), and where it answers a value, the line is that value's spelling (`spelled`), with all ranges
+//! (`in_range`, `of_pair` and others). A writer (`push_arc_line`, `push_pair_lines` and others) appends exactly the
+//! spelling.
 #![tactic(auto)]
 
 mod arcs;

@@ -1,13 +1,19 @@
 //! What a job of the program ends with, a status and a text for each of its two sinks, and how the two are written.
+//!
+//! What any job ends with: a status and two texts. `load_file` gives a file's bytes or the job's end where they can't
+//! be had; `deliver` writes the two texts, out first, each whole unless its sink's count of faults rose, and tells
+//! err once of a fault of out.
 #![tactic(auto)]
 
 mod answer;
 mod delivery;
 mod status;
+mod stop;
 
-pub use answer::{Answer, Stop, load_file, read_fault, refused, too_large};
+pub use answer::Answer;
 pub use delivery::deliver;
 pub use status::Status;
+pub use stop::{Stop, load_file, read_fault, refused, too_large};
 
 #[cfg(test)]
 mod tests {
@@ -24,6 +30,24 @@ mod tests {
         assert_eq!(rt; status, Status::Done);
         assert_eq!(rt; out.bytes(), b"to out".as_slice());
         assert_eq!(rt; err.bytes(), b"to err".as_slice());
+        Ok(())
+    }
+
+    // An empty text for out is written without a call, so out can't fail beside it.
+    #[test]
+    fn leaves_out_alone(rt: HostRuntime) -> Result<(), Fail> {
+        let alloc = rt.alloc();
+        for status in [
+            Status::Usage,
+            Status::Refused,
+            Status::ReadFault,
+            Status::NoMemory,
+        ] {
+            let mut out = MemSink::new(alloc, 100, 3, vec![in alloc; 0u64]?)?;
+            let mut err = MemSink::new(alloc, 100, 3, Vec::new(alloc))?;
+            assert_eq!(rt; deliver(status, b"", b"to err", &mut out, &mut err), status);
+            assert_eq!(rt; err.bytes(), b"to err".as_slice());
+        }
         Ok(())
     }
 

@@ -1,7 +1,7 @@
 // Files that are handed on in pieces.
-ghost use Rattle.std.specs.Prelude.{◌≡◌, ◌≢◌, ◌+◌, ◌≤◌, ◌<◌, ◌++◌, ℕ, List, [], length, IfSome, OnOk, IsErrOf, None, ⊤};
-ghost use Rattle.line_source.specs.Causes.{Rose};
-ghost use Rattle.line_source.specs.Told.{Same, Stays};
+ghost use Rattle.std.specs.Prelude.{◌≡◌, ◌≢◌, ◌+◌, ◌≤◌, ◌<◌, ◌++◌, ℕ, List, [], length, IfSome, OnOk, OnErr, IsErrOf, None, ⊤};
+ghost use Rattle.line_source.specs.Causes.{Rose, OpensOne, OpensAtMost};
+ghost use Rattle.line_source.specs.Told.{Same, Stays, IsReadToEnd};
 ghost use Rattle.line_source.specs.Pieces.{IsTakenWhole};
 
 use crate::{Failed, FileId, Files, LoadFault, MAX_FILE};
@@ -15,9 +15,13 @@ pub trait Taker {
     /// For which texts it stands.
     ghost stands_for: { Self → List ℕ → Type 0 };
 
+    /// What holds where it was refused memory.
+    ghost is_refused: { Self → Type 0 } = { λ _. ⊤ };
+
     /// Takes the next piece. Where it stood for a text, it stands for that text followed by the piece then.
     fn take(&mut self, piece: &[u8]) -> Result<(), AllocError>
         requires { taken self.old + length piece.now ≤ 67108864 }
+        ensures refused { OnErr result (is_refused self.new) }
         ensures counted { OnOk result (taken self.new ≡ taken self.old + length piece.now) }
         ensures stands { OnOk result ((text : List ℕ) → stands_for self.old text → stands_for self.new (text ++ piece.now)) };
 }
@@ -28,8 +32,8 @@ pub const MAX_PIECE: usize = 65_536;
 /// Hands the whole file under a name to a taker that has taken nothing, in pieces of at most [`MAX_PIECE`] bytes.
 ///
 /// `ReadFault` comes only where the count of faults rose, and never for a sure name; `BigFile` exactly where the file has
-/// more than [`MAX_FILE`] bytes, of which no more than that many are handed on; `NoMemory` where the taker was refused
-/// memory.
+/// more than [`MAX_FILE`] bytes, of which no more than that many are handed on; `NoMemory` only where the taker was
+/// refused memory. The file is opened once at most, and read to its end where it is all handed on.
 pub fn load_into<F: Files, T: Taker>(
     files: &mut F,
     name: &str,
@@ -38,8 +42,12 @@ pub fn load_into<F: Files, T: Taker>(
     requires none_taken { T.taken taker.old ≡ 0 }
     requires stands_for_none { T.stands_for taker.old [] }
     ensures whole { OnOk result (IsTakenWhole (F.text_of files.old name.now) (T.taken taker.new) (T.stands_for taker.new)) }
+    ensures ended { OnOk result (IsReadToEnd (F.text_of files.old) (F.unread files.new) name.now) }
     ensures big { IfSome (F.text_of files.old name.now) (λ text. IsErrOf result LoadFault.BigFile → MAX_FILE < length text) }
     ensures big_taken { IsErrOf result LoadFault.BigFile → T.taken taker.new ≤ MAX_FILE }
+    ensures opened { OpensAtMost 1 (F.opened files.old) (F.opened files.new) }
+    ensures memory { IsErrOf result LoadFault.NoMemory → T.is_refused taker.new }
+    ensures memory_opened { IsErrOf result LoadFault.NoMemory → OpensOne (F.opened files.old) (F.opened files.new) }
     ensures cause { F.faults files.old ≤ F.faults files.new }
     ensures fault { IsErrOf result LoadFault.ReadFault → Rose (F.faults files.old) (F.faults files.new) }
     ensures sure { F.is_sure_name files.old name.now → result ≢ Err LoadFault.ReadFault }

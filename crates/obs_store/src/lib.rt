@@ -1,4 +1,9 @@
-//! An observation file as data: what its header says of GPS, and its epochs in order.
+//! An observation file as data: what its header says of one system, and its epochs in order.
+//!
+//! An observation file as data. `Epochs` holds at most 20,000 epochs, each tag later than the one before, and in each
+//! of them `Satellites` of numbers 1 to 36, each at most once: facts of the types, so of every file (`kept` of
+//! `as_slice`). `ObsFile::seen` gives each satellite in first-seen order with its number of epochs. The twenty-six
+//! kept observation types are the enum `ObsType`, with their names and slots.
 #![tactic(auto)]
 
 mod file;
@@ -29,12 +34,14 @@ mod tests {
             ("C2C", 14),
             ("L2W", 15),
             ("L2C", 19),
+            ("C5Q", 20),
+            ("L5I", 25),
         ];
         for (name, slot) in slots {
             let found = ObsType::named(name.as_bytes()).map(|kind| kind.slot());
             assert_eq!(rt; found, Some(slot), "at {name}");
         }
-        for name in ["C1P", "L5X", "c1c", "C1C ", ""] {
+        for name in ["C1P", "L5P", "c1c", "C1C ", ""] {
             assert_eq!(rt; ObsType::named(name.as_bytes()), None, "at {name}");
         }
     }

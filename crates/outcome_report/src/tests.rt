@@ -1,6 +1,6 @@
 //! What is printed of ends without a session.
 use super::*;
-use cert_data::{Answer, Outcome, Stage, Tail};
+use cert_data::{Answer, Outcome, RoundCounts, Stage, Tail};
 use integer_form::Place;
 use std::alloc::{AllocError, Global};
 use std::process::Abort;
@@ -13,6 +13,10 @@ fn prints(rt: &impl Abort, alloc: Global, answer: Answer, want: &str) -> Result<
         all: 60,
         kept: 22,
         delta: true,
+        rounds: RoundCounts {
+            coarse: 10,
+            fine: 6,
+        },
         answer,
     };
     let mut out = Vec::new(alloc);

@@ -1,4 +1,4 @@
-//! What the readers of all texts share: the place of a refusal, the closed list of reasons, and the walk over
+//! What the readers of all texts share: the place of a refusal, the closed list of reasons, the systems, and the walk over
 //! the lines of a text, in which a reader's contract names the first line that no rule admits.
 //!
 //! # How a reader uses the walk
@@ -18,21 +18,33 @@
 //! That the place of a refusal is the first failing line by the form alone, which mentions no rules
 //! (specs/FirstFailing.antt), is `first_failing` of proofs/Stops.antt: it asks for a rest of a text behind every
 //! state (`with_line`, one line more), and for a law between the form and the rules.
+//!
+//! `head_line` gives content and label of a header line and `version_of` the version, kind and system of a first
+//! line, both exactly, with columns past the end of a line blank; `version_of` refuses exactly the lines that lack
+//! the label or a version from 3.00 to 3.05. What the formats say of GPS and of Galileo is by cases of `System`. The
+//! numbers in fixed columns, which both readers of RINEX take (`whole_number`, `filled_number`, `two_digits`,
+//! `fixed_number`, `exponent_number`), are exactly those that the bytes spell, or a bad field at its first column.
+//!
+//! The closed list of reasons with their texts, the place of a refusal, and the walk over lines that every reader of
+//! a text has in its contract (`Reads`, `Gives`). Its proofs are generic: a reader states two tables, and gets that a
+//! text is refused at the first line that no rule admits, by the form alone (`first_failing`).
 #![tactic(auto)]
 
 mod columns;
 mod fields;
 mod head;
 mod place;
+mod system;
 mod walk;
 
 pub use columns::{byte_in, field};
 pub use fields::{
     bad_field, exponent_number, filled_number, fixed, fixed_number, is_blank_line, two_digits,
-    whole_number,
+    whole_number, wide_number,
 };
 pub use head::{HeadLine, Version, head_line, version_of};
 pub use place::{At, Flaw, TextFault, What};
+pub use system::System;
 pub use walk::{line_or_end, next_line};
 
 #[cfg(test)]

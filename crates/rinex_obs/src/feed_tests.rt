@@ -1,7 +1,7 @@
 // Texts in pieces: the answer is that of the whole text, however it is cut.
 ghost use Rattle.std.specs.Prelude.{None};
 
-use crate::{ObsFault, ObsFeed, read_whole};
+use crate::{ObsFault, ObsFeed, read_obs};
 use line_source::{Failed, FileId, Files, LoadFault, load_into};
 use obs_store::ObsFile;
 use rinex_head::{At, What};
@@ -103,7 +103,7 @@ fn gives_the_same_in_pieces(rt: HostRuntime) -> Result<(), Fail> {
     let returns = with_returns(alloc, TEXT)?;
     for text in [TEXT, returns.as_str()] {
         assert!(rt; text.len() <= 67_108_864);
-        let Ok(whole) = read_whole(alloc, text.as_bytes()) else {
+        let Ok(whole) = read_obs(alloc, text.as_bytes()) else {
             panic!(rt; "not read");
         };
         let want = format!(in alloc; "{whole:?}")?;

@@ -1,4 +1,6 @@
 //! What a run is asked to do: its options, each with its range and its default.
+//!
+//! The options of a run with their ranges in the type, and their defaults.
 #![tactic(auto)]
 
 mod options;

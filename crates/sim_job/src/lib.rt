@@ -1,4 +1,4 @@
-//! The command `sim`: a made-up session to try the program on.
+//! The command `sim`: a simulated session to try the program on.
 #![tactic(auto)]
 
 ghost use Rattle.std.specs.Prelude.{◌≡◌, ◌≢◌, ◌≤◌, IfOk};

@@ -1,4 +1,4 @@
-//! Made-up sessions are read by the readers of observation files and of navigation files. There is no code to run: tests alone.
+//! Simulated sessions are read by the readers of observation files and of navigation files. There is no code to run: tests alone.
 #![tactic(auto)]
 
 #[cfg(test)]

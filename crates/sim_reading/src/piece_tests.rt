@@ -2,7 +2,7 @@
 ghost use Rattle.std.specs.Prelude.{None};
 
 use line_source::{Failed, FileId, Files, load_into};
-use rinex_obs::{ObsFeed, read_whole};
+use rinex_obs::{ObsFeed, read_obs};
 use sim_session::make;
 use std::test::Fail;
 
@@ -43,7 +43,7 @@ fn reads_the_same_in_pieces(rt: HostRuntime) -> Result<(), Fail> {
     let alloc = rt.alloc();
     let made = make(alloc, 1, 60, 8)?;
     assert!(rt; made.base.len() <= 67_108_864);
-    let whole = read_whole(alloc, &made.base)?;
+    let whole = read_obs(alloc, &made.base)?;
     assert_eq!(rt; whole.epochs.len(), 60);
     let want = format!(in alloc; "{whole:?}")?;
     for most in [1, 7, 65_536] {

@@ -1,4 +1,4 @@
-//! The satellites of a made-up session: their records, and the navigation file that gives them.
+//! The satellites of a simulated session: their records, and the navigation file that gives them.
 #![tactic(auto)]
 
 mod navigation;

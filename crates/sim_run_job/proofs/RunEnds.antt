@@ -7,8 +7,8 @@ use Rattle.run_options.specs.Defaults.{AreDefaults}
 use Rattle.outcome_report.specs.OutcomeText.{is_fixed}
 use Rattle.job_answers.specs.declared.status.Status.TheVariants.{Done, Declined, Refused, ReadFault}
 use Rattle.job_answers.specs.declared.answer.Answer.{Answer}
-use Rattle.job_answers.specs.declared.answer.Stop.{Stop}
-use Rattle.job_answers.specs.declared.answer.Stop.TheVariants.{Ended, NoMemory}
+use Rattle.job_answers.specs.declared.stop.Stop.{Stop}
+use Rattle.job_answers.specs.declared.stop.Stop.TheVariants.{Ended, NoMemory}
 use Rattle.job_answers.specs.Answers.{ending_of, IfEnds, IfEnded}
 use Rattle.job_answers.specs.Statuses.{IsVerdictStatus}
 use Rattle.job_answers.specs.Endings.{Ending}
