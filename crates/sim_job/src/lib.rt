@@ -3,7 +3,7 @@
 
 ghost use Rattle.std.specs.Prelude.{◌≡◌, ◌≢◌, ◌≤◌, IfOk};
 ghost use Rattle.job_answers.specs.Answers.{ending_of};
-ghost use Rattle.sim_job.specs.Sims.{text_in, SimEnds};
+ghost use Rattle.sim_job.specs.Sims.{IsFileOf, SimEnds};
 
 use command_words::Part;
 use job_answers::{Answer, Status};
@@ -12,7 +12,7 @@ use std::alloc::{AllocError, Global};
 
 fn text_of(part: Part, made: Made) -> Vec<u8>
     requires { part ≢ Part.Run }
-    ensures { result.items ≡ text_in part made }
+    ensures { IsFileOf part made result.items }
 {
     match part {
         Part::Base => made.base,
