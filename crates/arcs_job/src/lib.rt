@@ -2,9 +2,9 @@
 #![tactic(auto)]
 
 ghost use Rattle.std.specs.Prelude.{◌≡◌, ◌≢◌, [], ◌∷◌, IfOk, All, string_bytes};
-ghost use Rattle.line_source.specs.Causes.{Rose};
+ghost use Rattle.line_source.specs.Causes.{Rose, OpensAtMost};
 ghost use Rattle.job_answers.specs.Answers.{ending_of, IfEnded};
-ghost use Rattle.job_answers.specs.Endings.{ending};
+ghost use Rattle.job_answers.specs.Endings.{ending, IsRefusedWhole};
 ghost use Rattle.session_begin.specs.Beginnings.{IsPosition, AreSignals, AreSparse, AreTaken};
 ghost use Rattle.screening.specs.Screening.{ArePairsOf};
 ghost use Rattle.arc_report.specs.ArcLines.{arcs_text};
@@ -118,6 +118,8 @@ pub fn arcs<F: Files>(
     options: &Options,
 ) -> Result<Answer, Stop>
     ensures ends { IfEnded result (λ end. ArcsEnds (F.text_of files.old) base.now rover.now nav.now options.now end) }
+    ensures refused { IfEnded result (λ end. IsRefusedWhole (F.text_of files.old) (F.unread files.new) (base.now ∷ rover.now ∷ nav.now ∷ []) end.status) }
+    ensures opened { OpensAtMost 3 (F.opened files.old) (F.opened files.new) }
     ensures fault { IfEnded result (λ end. end.status ≡ Status.ReadFault → Rose (F.faults files.old) (F.faults files.new)) }
     ensures sure { All (F.is_sure_name files.old) (base.now ∷ rover.now ∷ nav.now ∷ []) → IfEnded result (λ end. end.status ≢ Status.ReadFault) }
 {

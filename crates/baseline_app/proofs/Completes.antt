@@ -1,10 +1,10 @@
 -- A job whose files are told and admitted ends with status 0 or 1, and the other statuses come with their causes.
-use Rattle.std.proofs.Common.{◌≡◌, ◌≢◌, ◌⊎◌, inl, inr, ℕ, List, Option, sym, ap, ◌∙◌, subst}
+use Rattle.std.proofs.Common.{◌≡◌, ◌≢◌, ◌⊎◌, inl, inr, ℕ, List, [], Option, sym, ap, ◌∙◌, subst}
 use Rattle.line_source.specs.Causes.{Rose}
 use Rattle.job_answers.specs.declared.status.Status.{Status}
-use Rattle.job_answers.specs.declared.status.Status.TheVariants.{Usage, ReadFault, WriteFault, NoMemory}
+use Rattle.job_answers.specs.declared.status.Status.TheVariants.{Usage, Refused, ReadFault, WriteFault, NoMemory}
 use Rattle.job_answers.specs.Statuses.{IsVerdictStatus, IsJobStatus}
-use Rattle.job_answers.specs.Endings.{Ending}
+use Rattle.job_answers.specs.Endings.{Ending, IsRefusedWhole}
 use Rattle.job_answers.specs.Delivered.{SinkChange}
 use Rattle.command_words.specs.declared.jobs.Job.{Job}
 use Rattle.command_words.specs.declared.jobs.Job.TheVariants as job
@@ -35,6 +35,10 @@ part_status part.Base seed epochs sats end ends = sim_status part.Base seed epoc
 part_status part.Rover seed epochs sats end ends = sim_status part.Rover seed epochs sats end ends
 part_status part.Nav seed epochs sats end ends = sim_status part.Nav seed epochs sats end ends
 part_status part.Run seed epochs sats end ends = sim_run_status seed epochs sats end ends
+
+-- none of them is refused
+pub part_whole : (told : List ℕ → Option (List ℕ)) (left : ℕ → Option (List ℕ)) (p : Part) (seed epochs sats : ℕ) (end : Ending) → PartEnds p seed epochs sats end → IsRefusedWhole told left [] end.status
+part_whole told left p seed epochs sats end ends = λ refused. absurd (subst IsVerdictStatus refused (part_verdict p seed epochs sats end ends))
 
 -- each command's own part
 readable_ends : (job : Job) (told : List ℕ → Option (List ℕ)) (end : Ending) → IsReadable job told → end.status ≢ ReadFault → JobEnds job told end → IsVerdictStatus end.status

@@ -1,8 +1,9 @@
 // The program over any files and sinks.
-ghost use Rattle.std.specs.Prelude.{◌≡◌, ◌≢◌, ◌⊎◌, ◌≤◌, [], ◌∷◌, ℕ, List, IfOk, All};
-ghost use Rattle.line_source.specs.Causes.{Rose};
+ghost use Rattle.std.specs.Prelude.{◌≡◌, ◌≢◌, ◌⊎◌, ◌≤◌, [], ◌∷◌, ℕ, List, length, IfOk, All};
+ghost use Rattle.line_source.specs.Causes.{Rose, OpensAtMost};
 ghost use Rattle.gps_time.specs.declared.Tick.{Tick};
 ghost use Rattle.job_answers.specs.Answers.{ending_of, IfEnded};
+ghost use Rattle.job_answers.specs.Endings.{IsRefusedWhole};
 ghost use Rattle.job_answers.specs.Delivered.{sink_change};
 ghost use Rattle.command_words.specs.declared.sims.Part.{Part};
 ghost use Rattle.command_words.specs.declared.jobs.Job.{Job};
@@ -47,6 +48,8 @@ fn fix_by_words<F: Files>(
     options: &Options,
 ) -> Result<Answer, Stop>
     ensures ends { IfEnded result (λ end. FixEnds (F.text_of files.old) base.now rover.now nav.now options.now end) }
+    ensures refused { IfEnded result (λ end. IsRefusedWhole (F.text_of files.old) (F.unread files.new) (base.now ∷ rover.now ∷ nav.now ∷ []) end.status) }
+    ensures opened { OpensAtMost 3 (F.opened files.old) (F.opened files.new) }
     ensures fault { IfEnded result (λ end. end.status ≡ Status.ReadFault → Rose (F.faults files.old) (F.faults files.new)) }
     ensures sure { All (F.is_sure_name files.old) (base.now ∷ rover.now ∷ nav.now ∷ []) → IfEnded result (λ end. end.status ≢ Status.ReadFault) }
 {
@@ -70,6 +73,8 @@ fn arcs_by_words<F: Files>(
     options: &Options,
 ) -> Result<Answer, Stop>
     ensures ends { IfEnded result (λ end. ArcsEnds (F.text_of files.old) base.now rover.now nav.now options.now end) }
+    ensures refused { IfEnded result (λ end. IsRefusedWhole (F.text_of files.old) (F.unread files.new) (base.now ∷ rover.now ∷ nav.now ∷ []) end.status) }
+    ensures opened { OpensAtMost 3 (F.opened files.old) (F.opened files.new) }
     ensures fault { IfEnded result (λ end. end.status ≡ Status.ReadFault → Rose (F.faults files.old) (F.faults files.new)) }
     ensures sure { All (F.is_sure_name files.old) (base.now ∷ rover.now ∷ nav.now ∷ []) → IfEnded result (λ end. end.status ≢ Status.ReadFault) }
 {
@@ -103,6 +108,8 @@ fn sim_part(alloc: Global, part: Part, seed: u32, epochs: u32, sats: u32) -> Res
 fn do_job<F: Files>(alloc: Global, job: &Job, files: &mut F) -> Result<Answer, Stop>
     requires { IsInRange job.now }
     ensures ends { IfEnded result (λ end. JobEnds job.now (F.text_of files.old) end) }
+    ensures refused { IfEnded result (λ end. IsRefusedWhole (F.text_of files.old) (F.unread files.new) (file_words job.now) end.status) }
+    ensures opened { OpensAtMost (length (file_words job.now)) (F.opened files.old) (F.opened files.new) }
     ensures fault { IfEnded result (λ end. end.status ≡ Status.ReadFault → Rose (F.faults files.old) (F.faults files.new)) }
     ensures sure { All (F.is_sure_name files.old) (file_words job.now) → IfEnded result (λ end. end.status ≢ Status.ReadFault) }
     ensures untouched { file_words job.now ≡ [] → files.new ≡ files.old }
@@ -137,6 +144,9 @@ fn do_job<F: Files>(alloc: Global, job: &Job, files: &mut F) -> Result<Answer, S
 // What the words ask for, as far as memory goes.
 fn answer_of<F: Files>(alloc: Global, words: &[String], files: &mut F) -> Result<Answer, AllocError>
     ensures answer { IfOk result (λ a. IsAnswer (texts_of words.now) (F.text_of files.old) (ending_of a)) }
+    ensures refused { (job : Job) → IsJob (texts_of words.now) job
+        → IfOk result (λ a. IsRefusedWhole (F.text_of files.old) (F.unread files.new) (file_words job) a.status) }
+    ensures opened { (job : Job) → IsJob (texts_of words.now) job → OpensAtMost (length (file_words job)) (F.opened files.old) (F.opened files.new) }
     ensures fault { IfOk result (λ a. a.status ≡ Status.ReadFault → Rose (F.faults files.old) (F.faults files.new)) }
     ensures sure { (job : Job) → IsJob (texts_of words.now) job → All (F.is_sure_name files.old) (file_words job)
         → IfOk result (λ a. a.status ≢ Status.ReadFault) }
@@ -158,7 +168,8 @@ fn answer_of<F: Files>(alloc: Global, words: &[String], files: &mut F) -> Result
 }
 
 /// Does what the words after the program's name ask for, and writes its two texts, `out` first.
-/// Words that ask for no job, or for one without files, leave the files as they are.
+/// Words that ask for no job, or for one without files, leave the files as they are. Each file word of a job is opened once
+/// at most, and a file is refused only after it was read to its end, or as one that is too large.
 pub fn run<F: Files, O: Sink, E: Sink>(
     alloc: Global,
     words: &[String],
@@ -170,6 +181,9 @@ pub fn run<F: Files, O: Sink, E: Sink>(
         (sink_change (O.contents out.old) (O.contents out.new) (O.faults out.old) (O.faults out.new))
         (sink_change (E.contents err.old) (E.contents err.new) (E.faults err.old) (E.faults err.new)) }
     ensures read { result ≡ Status.ReadFault → Rose (F.faults files.old) (F.faults files.new) }
+    ensures refused { (job : Job) → IsJob (texts_of words.now) job
+        → IsRefusedWhole (F.text_of files.old) (F.unread files.new) (file_words job) result }
+    ensures opened { (job : Job) → IsJob (texts_of words.now) job → OpensAtMost (length (file_words job)) (F.opened files.old) (F.opened files.new) }
     ensures sure { (job : Job) → IsJob (texts_of words.now) job → All (F.is_sure_name files.old) (file_words job)
         → result ≢ Status.ReadFault }
     ensures untouched { ((job : Job) → IsJob (texts_of words.now) job → file_words job ≡ []) → files.new ≡ files.old }
@@ -219,6 +233,9 @@ fn write_answer<F: Files, O: Sink, E: Sink>(
         (sink_change (O.contents out.old) (O.contents out.new) (O.faults out.old) (O.faults out.new))
         (sink_change (E.contents err.old) (E.contents err.new) (E.faults err.old) (E.faults err.new)) }
     ensures read { result ≡ Status.ReadFault → Rose (F.faults files.old) (F.faults files.new) }
+    ensures refused { (job : Job) → IsJob (texts_of words.now) job
+        → IsRefusedWhole (F.text_of files.old) (F.unread files.new) (file_words job) result }
+    ensures opened { (job : Job) → IsJob (texts_of words.now) job → OpensAtMost (length (file_words job)) (F.opened files.old) (F.opened files.new) }
     ensures sure { (job : Job) → IsJob (texts_of words.now) job → All (F.is_sure_name files.old) (file_words job)
         → result ≢ Status.ReadFault }
     ensures untouched { ((job : Job) → IsJob (texts_of words.now) job → file_words job ≡ []) → files.new ≡ files.old }

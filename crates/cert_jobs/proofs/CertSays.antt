@@ -1,20 +1,21 @@
 -- What the endings of `check` and `residuals` say of their files, and their statuses.
-use Rattle.std.proofs.Common.{◌≡◌, ◌≢◌, inl, inr, ℕ, Bool, true, false, List, Option, refl, sym, ap, subst}
+use Rattle.std.proofs.Common.{◌≡◌, ◌≢◌, inl, inr, ℕ, Bool, true, false, List, Option, refl, sym, subst}
 use Rattle.std.specs.Io.KnownBytes.{Appends}
 use Rattle.cert_data.specs.declared.certs.Cert.{Cert}
 use Rattle.cert_data.specs.declared.verdicts.Verdict.{Verdict}
 use Rattle.cert_data.specs.declared.verdicts.Verdict.TheVariants.{Certified, Not}
 use Rattle.cert_spelling.specs.Spelling.{spelling}
+use Rattle.cert_spelling.specs.Lengths.{IsWhole}
 use Rattle.cert_check.specs.Decided.{IsBestIn}
-use Rattle.cert_check.specs.Verdicts.{IsVerdictOf}
+use Rattle.cert_check.specs.Verdicts.{IsVerdictOf, IsSameVerdict}
 use Rattle.cert_report.specs.VerdictText.{verdict_text}
 use Rattle.cert_report.specs.Residuals.{has_vectors, residuals_text}
 use Rattle.job_answers.specs.declared.status.Status.TheVariants.{ReadFault}
 use Rattle.job_answers.specs.Statuses.{IsVerdictStatus, IsJobStatus}
-use Rattle.job_answers.specs.Endings.{Ending, ending, IsTextOf, EndsByFile, IsAdmitted}
+use Rattle.job_answers.specs.Endings.{Ending, IsTextOf, EndsByFile, IsAdmitted}
 use Rattle.job_answers.specs.Delivered.{SinkChange}
 use Rattle.job_answers.proofs.EndingLaws.{admitted_ends, verdict_at, job_status_at, file_status}
-use Rattle.cert_jobs.specs.CertJobs.{status_of, shown_status, CheckEnd, ResidualsEnd, CheckEnds, ResidualsEnds}
+use Rattle.cert_jobs.specs.CertJobs.{status_of, shown_status, CheckEnds, ResidualsEnds}
 use Rattle.cert_jobs.specs.CertRuns.{SaysOfCheck, SaysOfResiduals, IsCertAdmitted}
 
 verdict_status : (v : Verdict) → IsVerdictStatus (status_of v)
@@ -53,17 +54,17 @@ check_verdict told cert end file no_fault ends = elim (admitted_ends told cert (
 says_at : (told : List ℕ → Option (List ℕ)) (cert : List ℕ) (end t : Ending) (out : SinkChange) → end ≡ t → SaysOfCheck told cert t.status out → SaysOfCheck told cert end.status out
 says_at told cert end t out same says = subst (λ (e : Ending). SaysOfCheck told cert e.status out) (sym same) says
 
-verdict_says : (told : List ℕ → Option (List ℕ)) (name text : List ℕ) (c : Cert) (v : Verdict) (out : SinkChange) → IsTextOf told name text → text ≡ spelling c → IsVerdictOf c.session c.ratio c.budget c.tail v → (v ≡ Certified → IsBestIn c.session c.tail)
-    → Appends out.old out.new (verdict_text v) → SaysOfCheck told name (status_of v) out
-verdict_says told name text c Certified out is spelled verdict best written = record { text = text; is = is; cert = c; spelled = spelled; certified = verdict; best = best refl; printed = written }
-verdict_says told name text c (Not cause) out is spelled verdict best written = record { text = text; is = is; cert = c; spelled = spelled; cause = cause; not_certified = verdict; printed = written }
+verdict_says : (told : List ℕ → Option (List ℕ)) (name text : List ℕ) (c : Cert) (v : Verdict) (out : SinkChange) → IsTextOf told name text → IsWhole c → text ≡ spelling c → IsVerdictOf c.session c.ratio c.budget c.tail v
+    → ((w : Verdict) → IsVerdictOf c.session c.ratio c.budget c.tail w → IsSameVerdict w v) → (v ≡ Certified → IsBestIn c.session c.tail) → Appends out.old out.new (verdict_text v) → SaysOfCheck told name (status_of v) out
+verdict_says told name text c Certified out is whole spelled verdict only best written = record { text = text; is = is; cert = c; whole = whole; spelled = spelled; certified = verdict; only = only; best = best refl; printed = written }
+verdict_says told name text c (Not cause) out is whole spelled verdict only best written = record { text = text; is = is; cert = c; whole = whole; spelled = spelled; cause = cause; not_certified = verdict; only = only; printed = written }
 
 -- what is written of an ending is what it says of the file
 pub check_says : (told : List ℕ → Option (List ℕ)) (cert : List ℕ) (end : Ending) (out : SinkChange) → EndsByFile told cert (CheckEnds cert) end → Appends out.old out.new end.out → SaysOfCheck told cert end.status out
 check_says told cert end out (inl by_text) written = elim (by_text.ends_so) [
   | inl by_cert ↦
       let e = by_cert.ends_so in
-      says_at told cert end _ out e.end_is (verdict_says told cert by_text.text by_cert.cert e.verdict out by_text.is by_cert.spelled e.is e.best (subst (λ (t : Ending). Appends out.old out.new t.out) e.end_is written))
+      says_at told cert end _ out e.end_is (verdict_says told cert by_text.text by_cert.cert e.verdict out by_text.is by_cert.whole by_cert.spelled e.is e.only e.best (subst (λ (t : Ending). Appends out.old out.new t.out) e.end_is written))
   | inr refused ↦ says_at told cert end _ out refused.end_is tt
 ]
 check_says told cert end out (inr (inl large)) written = says_at told cert end _ out large.end_is tt
@@ -86,14 +87,14 @@ residuals_verdict told cert end file no_fault ends = elim (admitted_ends told ce
 left_at : (told : List ℕ → Option (List ℕ)) (cert : List ℕ) (end t : Ending) (out : SinkChange) → end ≡ t → SaysOfResiduals told cert t.status out → SaysOfResiduals told cert end.status out
 left_at told cert end t out same says = subst (λ (e : Ending). SaysOfResiduals told cert e.status out) (sym same) says
 
-left_says : (told : List ℕ → Option (List ℕ)) (name text : List ℕ) (c : Cert) (shown : Bool) (out : SinkChange) → IsTextOf told name text → text ≡ spelling c → has_vectors c.tail ≡ shown → Appends out.old out.new (residuals_text c) → SaysOfResiduals told name (shown_status shown) out
-left_says told name text c true out is spelled vectors written = record { text = text; is = is; cert = c; spelled = spelled; vectors = vectors; printed = written }
-left_says told name text c false out is spelled vectors written = record { text = text; is = is; cert = c; spelled = spelled; vectors = vectors; printed = written }
+left_says : (told : List ℕ → Option (List ℕ)) (name text : List ℕ) (c : Cert) (shown : Bool) (out : SinkChange) → IsTextOf told name text → IsWhole c → text ≡ spelling c → has_vectors c.tail ≡ shown → Appends out.old out.new (residuals_text c) → SaysOfResiduals told name (shown_status shown) out
+left_says told name text c true out is whole spelled vectors written = record { text = text; is = is; cert = c; whole = whole; spelled = spelled; vectors = vectors; printed = written }
+left_says told name text c false out is whole spelled vectors written = record { text = text; is = is; cert = c; whole = whole; spelled = spelled; vectors = vectors; printed = written }
 
 pub residuals_says : (told : List ℕ → Option (List ℕ)) (cert : List ℕ) (end : Ending) (out : SinkChange) → EndsByFile told cert (ResidualsEnds cert) end → Appends out.old out.new end.out → SaysOfResiduals told cert end.status out
 residuals_says told cert end out (inl by_text) written = elim (by_text.ends_so) [
   | inl by_cert ↦ left_at told cert end _ out by_cert.ends_so
-      (left_says told cert by_text.text by_cert.cert (has_vectors by_cert.cert.tail) out by_text.is by_cert.spelled refl (subst (λ (t : Ending). Appends out.old out.new t.out) by_cert.ends_so written))
+      (left_says told cert by_text.text by_cert.cert (has_vectors by_cert.cert.tail) out by_text.is by_cert.whole by_cert.spelled refl (subst (λ (t : Ending). Appends out.old out.new t.out) by_cert.ends_so written))
   | inr refused ↦ left_at told cert end _ out refused.end_is tt
 ]
 residuals_says told cert end out (inr (inl large)) written = left_at told cert end _ out large.end_is tt

@@ -6,9 +6,9 @@ use Rattle.cert_data.specs.declared.verdicts.Verdict.{Verdict}
 use Rattle.cert_data.specs.declared.verdicts.Verdict.TheVariants.{Certified, Not}
 use Rattle.cert_spelling.specs.Spelling.{spelling}
 use Rattle.cert_text.specs.Rules.{reading_of}
-use Rattle.cert_text.specs.Lengths.{IsCertificate}
+use Rattle.cert_spelling.specs.Lengths.{IsWhole, IsCertificate}
 use Rattle.cert_check.specs.Decided.{IsBestIn}
-use Rattle.cert_check.specs.Verdicts.{IsVerdictOf}
+use Rattle.cert_check.specs.Verdicts.{IsVerdictOf, IsSameVerdict}
 use Rattle.cert_report.specs.VerdictText.{verdict_text}
 use Rattle.cert_report.specs.Residuals.{has_vectors, residuals_text}
 use Rattle.job_answers.specs.declared.status.Status.{Status}
@@ -26,6 +26,7 @@ pub record IsCertRefused (name text : List ℕ) (end : Ending) : Type 0 where
 -- the text spells a certificate, which ends so
 pub record EndsByCert (ends : Cert → Ending → Type 0) (text : List ℕ) (end : Ending) : Type 0 where
   pub cert : Cert
+  pub whole : IsWhole cert
   pub spelled : text ≡ spelling cert
   pub ends_so : ends cert end
 
@@ -36,10 +37,12 @@ abbrev pub status_of : Verdict → Status
 status_of Certified = Done
 status_of (Not cause) = Declined
 
--- the rows are decided again, and the tail is compared with what they say
+-- The rows are decided again, and the tail is compared with what they say. No other verdict holds of them, but where a
+-- search gave up.
 pub record CheckEnd (cert : Cert) (end : Ending) : Type 0 where
   pub verdict : Verdict
   pub is : IsVerdictOf cert.session cert.ratio cert.budget cert.tail verdict
+  pub only : (v : Verdict) → IsVerdictOf cert.session cert.ratio cert.budget cert.tail v → IsSameVerdict v verdict
   pub best : verdict ≡ Certified → IsBestIn cert.session cert.tail
   pub end_is : end ≡ ending (status_of verdict) (verdict_text verdict) []
 

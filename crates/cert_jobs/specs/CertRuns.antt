@@ -3,12 +3,13 @@ use Rattle.std.specs.Prelude.{◌≡◌, ◌≤◌, ℕ, Bool, true, false, List
 use Rattle.std.specs.declared.option.Option.{Option}
 use Rattle.std.specs.Io.KnownBytes.{Appends}
 use Rattle.cert_data.specs.declared.certs.Cert.{Cert}
+use Rattle.cert_data.specs.declared.verdicts.Verdict.{Verdict}
 use Rattle.cert_data.specs.declared.verdicts.Verdict.TheVariants.{Certified, Not}
 use Rattle.cert_data.specs.declared.verdicts.Cause.{Cause}
 use Rattle.cert_spelling.specs.Spelling.{spelling}
-use Rattle.cert_text.specs.Lengths.{IsCertificate}
+use Rattle.cert_spelling.specs.Lengths.{IsWhole, IsCertificate}
 use Rattle.cert_check.specs.Decided.{IsBestIn}
-use Rattle.cert_check.specs.Verdicts.{IsVerdictOf}
+use Rattle.cert_check.specs.Verdicts.{IsVerdictOf, IsSameVerdict}
 use Rattle.cert_report.specs.VerdictText.{verdict_text}
 use Rattle.cert_report.specs.Residuals.{has_vectors, residuals_text}
 use Rattle.job_answers.specs.declared.status.Status.{Status}
@@ -16,25 +17,30 @@ use Rattle.job_answers.specs.declared.status.Status.TheVariants.{Done, Declined}
 use Rattle.job_answers.specs.Endings.{IsTextOf}
 use Rattle.job_answers.specs.Delivered.{SinkChange}
 
--- The text spells a certificate, its rows are fixed and its tail says so, and out tells it. Whoever wrote it: each other
--- integer vector, with any baseline, has a greater sum of squares for all data in the boxes of the rows.
+-- The text spells a certificate, its rows are fixed and its tail says so, and out tells it. No other verdict holds of it,
+-- but where a search gives up. Whoever wrote it: each other integer vector, with any baseline, has a greater sum of squares
+-- for all data in the boxes of the rows.
 pub record SaysCertified (told : List ℕ → Option (List ℕ)) (name : List ℕ) (out : SinkChange) : Type 0 where
   pub text : List ℕ
   pub is : IsTextOf told name text
   pub cert : Cert
+  pub whole : IsWhole cert
   pub spelled : text ≡ spelling cert
   pub certified : IsVerdictOf cert.session cert.ratio cert.budget cert.tail Certified
+  pub only : (v : Verdict) → IsVerdictOf cert.session cert.ratio cert.budget cert.tail v → IsSameVerdict v Certified
   pub best : IsBestIn cert.session cert.tail
   pub printed : Appends out.old out.new (codes "certified\n")
 
--- it isn't, for this cause
+-- it isn't, for this cause and no other, but where a search gave up
 pub record SaysNotCertified (told : List ℕ → Option (List ℕ)) (name : List ℕ) (out : SinkChange) : Type 0 where
   pub text : List ℕ
   pub is : IsTextOf told name text
   pub cert : Cert
+  pub whole : IsWhole cert
   pub spelled : text ≡ spelling cert
   pub cause : Cause
   pub not_certified : IsVerdictOf cert.session cert.ratio cert.budget cert.tail (Not cause)
+  pub only : (v : Verdict) → IsVerdictOf cert.session cert.ratio cert.budget cert.tail v → IsSameVerdict v (Not cause)
   pub printed : Appends out.old out.new (verdict_text (Not cause))
 
 abbrev pub SaysOfCheck : (List ℕ → Option (List ℕ)) → List ℕ → Status → SinkChange → Type 0
@@ -47,6 +53,7 @@ pub record SaysLeft (told : List ℕ → Option (List ℕ)) (name : List ℕ) (s
   pub text : List ℕ
   pub is : IsTextOf told name text
   pub cert : Cert
+  pub whole : IsWhole cert
   pub spelled : text ≡ spelling cert
   pub vectors : has_vectors cert.tail ≡ shown
   pub printed : Appends out.old out.new (residuals_text cert)

@@ -1,10 +1,22 @@
 //! The commands on a certificate: `check` decides its rows again, `residuals` shows what is left of its observations.
+//!
+//! Of zero_job, list_job, orbit_job, sim_job, arcs_job, cert_jobs: A command each, and in cert_jobs `check` and
+//! `residuals`: what it ends with on the bytes of its file, and what a run with status 0 or 1 says of the file.
+//! `orbit`: the record is the one that is chosen at the tick, by comparison with all usable records of the file, and
+//! every solution of the user algorithm for it lies between the printed numbers; `no record` comes exactly where no
+//! record is chosen. `arcs`: the kept arcs are exactly those of the used satellites of the taken pairs, with their
+//! datums and the number of shorter ones; the two files are refused exactly where the base has no position, a band
+//! has no common code or epochs are too dense. `check`: `certified` comes only where the rows are fixed, the tail
+//! says so with the same numbers, and the integers with the move are strictly best; each other answer has its cause;
+//! and no other verdict's condition holds, but where a search gave up. The text is the spelling of that certificate
+//! alone. `residuals`: the printed numbers are those of the rows at the tail's first integers, or there are none.
 #![tactic(auto)]
 
-ghost use Rattle.std.specs.Prelude.{◌≡◌, ◌≢◌, ◌≤◌, [], length, IfOk};
-ghost use Rattle.line_source.specs.Causes.{Rose};
+ghost use Rattle.std.specs.Prelude.{◌≡◌, ◌≢◌, ◌≤◌, [], length, IfOk, ◌∷◌};
+ghost use Rattle.line_source.specs.Causes.{Rose, OpensAtMost};
+ghost use Rattle.job_answers.specs.Statuses.{IsVerdictStatus};
 ghost use Rattle.job_answers.specs.Answers.{ending_of, IfEnded};
-ghost use Rattle.job_answers.specs.Endings.{EndsByFile};
+ghost use Rattle.job_answers.specs.Endings.{EndsByFile, IsRefusedWhole};
 ghost use Rattle.cert_jobs.specs.CertJobs.{status_of, shown_status, CheckEnd, ResidualsEnd, CheckEnds, ResidualsEnds};
 
 use cert_check::check;
@@ -17,7 +29,8 @@ use rinex_head::TextFault;
 use std::alloc::{AllocError, Global};
 
 fn status_of(verdict: &Verdict) -> Status
-    ensures { result ≡ status_of verdict.now }
+    ensures value { result ≡ status_of verdict.now }
+    ensures verdict { IsVerdictStatus result }
 {
     match verdict {
         Verdict::Certified => Status::Done,
@@ -26,7 +39,8 @@ fn status_of(verdict: &Verdict) -> Status
 }
 
 fn shown_status(shown: bool) -> Status
-    ensures { result ≡ shown_status shown }
+    ensures value { result ≡ shown_status shown }
+    ensures verdict { IsVerdictStatus result }
 {
     if shown {
         Status::Done
@@ -88,6 +102,8 @@ fn residuals_text(alloc: Global, name: &str, text: &[u8]) -> Result<Answer, Stop
 /// Whether the rows of the certificate say what its tail says of a fix.
 pub fn check_file<F: Files>(alloc: Global, files: &mut F, name: &str) -> Result<Answer, Stop>
     ensures ends { IfEnded result (λ end. EndsByFile (F.text_of files.old) name.now (CheckEnds name.now) end) }
+    ensures refused { IfEnded result (λ end. IsRefusedWhole (F.text_of files.old) (F.unread files.new) (name.now ∷ []) end.status) }
+    ensures opened { OpensAtMost 1 (F.opened files.old) (F.opened files.new) }
     ensures cause { F.faults files.old ≤ F.faults files.new }
     ensures fault { IfEnded result (λ end. end.status ≡ Status.ReadFault → Rose (F.faults files.old) (F.faults files.new)) }
     ensures sure { F.is_sure_name files.old name.now → IfEnded result (λ end. end.status ≢ Status.ReadFault) }
@@ -101,6 +117,8 @@ pub fn check_file<F: Files>(alloc: Global, files: &mut F, name: &str) -> Result<
 /// What is left of the observations of the certificate's rows, at its tail's first integers.
 pub fn residuals<F: Files>(alloc: Global, files: &mut F, name: &str) -> Result<Answer, Stop>
     ensures ends { IfEnded result (λ end. EndsByFile (F.text_of files.old) name.now (ResidualsEnds name.now) end) }
+    ensures refused { IfEnded result (λ end. IsRefusedWhole (F.text_of files.old) (F.unread files.new) (name.now ∷ []) end.status) }
+    ensures opened { OpensAtMost 1 (F.opened files.old) (F.opened files.new) }
     ensures cause { F.faults files.old ≤ F.faults files.new }
     ensures fault { IfEnded result (λ end. end.status ≡ Status.ReadFault → Rose (F.faults files.old) (F.faults files.new)) }
     ensures sure { F.is_sure_name files.old name.now → IfEnded result (λ end. end.status ≢ Status.ReadFault) }

@@ -1,7 +1,8 @@
 // The lines, written.
-ghost use Rattle.std.specs.Prelude.{◌≡◌, ◌++◌, ◌∷◌, [], OnOk};
+ghost use Rattle.std.specs.Prelude.{◌≡◌, ◌++◌, ◌∷◌, [], OnOk, All};
 ghost use Rattle.cert_words.specs.Spelling.{text_of_lines};
 ghost use Rattle.cert_lines.specs.Lines.{count_line, vector_line, signals_line, arc_line, kind_text, row_line, row_lines, pair_lines};
+ghost use Rattle.cert_lines.specs.Lengths.{IsWholeArc, IsWholeRow, IsWholePair};
 
 use cert_words::{push_number, push_numbers};
 use obs_rows::{Arc, PairRows, Row, Signals};
@@ -35,9 +36,10 @@ pub fn push_signals_line(out: &mut Vec<u8>, signals: Signals) -> Result<(), Allo
     out.extend_from_slice(&[b' ', signals.l1, b' ', signals.l2, b'\n'])
 }
 
-/// Appends the line of an arc.
+/// Appends the line of an arc, whose shifts are as many as there are phases.
 pub fn push_arc_line(out: &mut Vec<u8>, arc: &Arc) -> Result<(), AllocError>
-    ensures { OnOk result (out.new.items ≡ out.old.items ++ text_of_lines (arc_line arc.now ∷ [])) }
+    ensures text { OnOk result (out.new.items ≡ out.old.items ++ text_of_lines (arc_line arc.now ∷ [])) }
+    ensures whole { OnOk result (IsWholeArc arc.now) }
 {
     out.extend_from_slice(b"arc")?;
     push_number(out, arc.sat)?;
@@ -55,9 +57,10 @@ fn kind_text(datum: bool) -> &'static [u8]
     if datum { b" datum" } else { b" free" }
 }
 
-/// Appends the line of a row.
+/// Appends the line of a row, whose arrays have their lengths.
 pub fn push_row_line(out: &mut Vec<u8>, row: &Row) -> Result<(), AllocError>
-    ensures { OnOk result (out.new.items ≡ out.old.items ++ text_of_lines (row_line row.now ∷ [])) }
+    ensures text { OnOk result (out.new.items ≡ out.old.items ++ text_of_lines (row_line row.now ∷ [])) }
+    ensures whole { OnOk result (IsWholeRow row.now) }
 {
     out.extend_from_slice(b"row")?;
     push_number(out, row.arc)?;
@@ -70,7 +73,8 @@ pub fn push_row_line(out: &mut Vec<u8>, row: &Row) -> Result<(), AllocError>
 }
 
 fn push_row_lines(out: &mut Vec<u8>, rows: &[Row]) -> Result<(), AllocError>
-    ensures { OnOk result (out.new.items ≡ out.old.items ++ text_of_lines (row_lines rows.now)) }
+    ensures text { OnOk result (out.new.items ≡ out.old.items ++ text_of_lines (row_lines rows.now)) }
+    ensures whole { OnOk result (All IsWholeRow rows.now) }
 {
     for row in rows {
         push_row_line(out, row)?;
@@ -80,7 +84,8 @@ fn push_row_lines(out: &mut Vec<u8>, rows: &[Row]) -> Result<(), AllocError>
 
 /// Appends the lines of a pair: its own, and one for each row.
 pub fn push_pair_lines(out: &mut Vec<u8>, pair: &PairRows) -> Result<(), AllocError>
-    ensures { OnOk result (out.new.items ≡ out.old.items ++ text_of_lines (pair_lines pair.now)) }
+    ensures text { OnOk result (out.new.items ≡ out.old.items ++ text_of_lines (pair_lines pair.now)) }
+    ensures whole { OnOk result (IsWholePair pair.now) }
 {
     let rows = pair.rows.as_slice();
     out.extend_from_slice(b"pair")?;

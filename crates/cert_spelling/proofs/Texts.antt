@@ -46,3 +46,8 @@ pair_pushed a b whole pairs i p inside is pushed so_far =
     let rest = text_of_lines (all_pair_lines (drop (i + 1) pairs)) in
     ap (λ (l : List ℕ). l ++ rest) pushed ∙ append_assoc a (text_of_lines (pair_lines p)) rest ∙ ap (λ (l : List ℕ). a ++ l) (sym (text_append (pair_lines p) (all_pair_lines (drop (i + 1) pairs))))
     ∙ ap (λ (ps : List PairRows). a ++ text_of_lines (all_pair_lines ps)) (sym split) ∙ so_far
+
+-- what holds anyway
+pub anyway : {T E P : Type 0} (r : Result T E) → P → OnOk r P
+anyway (Ok x) holds = holds
+anyway (Err e) holds = tt

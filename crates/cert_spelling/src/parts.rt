@@ -1,6 +1,8 @@
 //! The parts of a certificate before its tail, written.
-ghost use Rattle.std.specs.Prelude.{◌≡◌, ◌++◌, ◌∷◌, [], OnOk};
+ghost use Rattle.std.specs.Prelude.{◌≡◌, ◌++◌, ◌∷◌, [], OnOk, All, length};
 ghost use Rattle.cert_words.specs.Spelling.{text_of_lines};
+ghost use Rattle.cert_lines.specs.Lengths.{IsWholeArc, IsWholePair};
+ghost use Rattle.cert_spelling.specs.Lengths.{IsWholeSession};
 ghost use Rattle.cert_spelling.specs.Spelling.{head_lines, form_line, arc_lines, counted_arcs, all_pair_lines, counted_pairs, session_lines};
 
 use cert_lines::{
@@ -25,7 +27,9 @@ fn push_head(
     point: &[i64; 3],
     signals: Signals,
 ) -> Result<(), AllocError>
-    ensures { OnOk result (out.new.items ≡ out.old.items ++ text_of_lines (head_lines ratio budget base.now point.now signals)) }
+    ensures text { OnOk result (out.new.items ≡ out.old.items ++ text_of_lines (head_lines ratio budget base.now point.now signals)) }
+    ensures base { length base.now ≡ 3 }
+    ensures point { length point.now ≡ 3 }
 {
     push_form(out)?;
     push_count_line(out, b"ratio", ratio as u64)?;
@@ -36,7 +40,8 @@ fn push_head(
 }
 
 fn push_arc_lines(out: &mut Vec<u8>, arcs: &[Arc]) -> Result<(), AllocError>
-    ensures { OnOk result (out.new.items ≡ out.old.items ++ text_of_lines (arc_lines arcs.now)) }
+    ensures text { OnOk result (out.new.items ≡ out.old.items ++ text_of_lines (arc_lines arcs.now)) }
+    ensures whole { OnOk result (All IsWholeArc arcs.now) }
 {
     for arc in arcs {
         push_arc_line(out, arc)?;
@@ -46,14 +51,16 @@ fn push_arc_lines(out: &mut Vec<u8>, arcs: &[Arc]) -> Result<(), AllocError>
 
 // Appends the number of arcs, and the arcs.
 fn push_arcs(out: &mut Vec<u8>, arcs: &[Arc]) -> Result<(), AllocError>
-    ensures { OnOk result (out.new.items ≡ out.old.items ++ text_of_lines (counted_arcs arcs.now)) }
+    ensures text { OnOk result (out.new.items ≡ out.old.items ++ text_of_lines (counted_arcs arcs.now)) }
+    ensures whole { OnOk result (All IsWholeArc arcs.now) }
 {
     push_count_line(out, b"arcs", arcs.len() as u64)?;
     push_arc_lines(out, arcs)
 }
 
 fn push_all_pair_lines(out: &mut Vec<u8>, pairs: &[PairRows]) -> Result<(), AllocError>
-    ensures { OnOk result (out.new.items ≡ out.old.items ++ text_of_lines (all_pair_lines pairs.now)) }
+    ensures text { OnOk result (out.new.items ≡ out.old.items ++ text_of_lines (all_pair_lines pairs.now)) }
+    ensures whole { OnOk result (All IsWholePair pairs.now) }
 {
     for pair in pairs {
         push_pair_lines(out, pair)?;
@@ -63,7 +70,8 @@ fn push_all_pair_lines(out: &mut Vec<u8>, pairs: &[PairRows]) -> Result<(), Allo
 
 // Appends the number of pairs, and the pairs with their rows.
 fn push_pairs(out: &mut Vec<u8>, pairs: &[PairRows]) -> Result<(), AllocError>
-    ensures { OnOk result (out.new.items ≡ out.old.items ++ text_of_lines (counted_pairs pairs.now)) }
+    ensures text { OnOk result (out.new.items ≡ out.old.items ++ text_of_lines (counted_pairs pairs.now)) }
+    ensures whole { OnOk result (All IsWholePair pairs.now) }
 {
     push_count_line(out, b"pairs", pairs.len() as u64)?;
     push_all_pair_lines(out, pairs)
@@ -76,7 +84,8 @@ pub(crate) fn push_session(
     budget: u64,
     session: &Session,
 ) -> Result<(), AllocError>
-    ensures { OnOk result (out.new.items ≡ out.old.items ++ text_of_lines (session_lines ratio budget session.now)) }
+    ensures text { OnOk result (out.new.items ≡ out.old.items ++ text_of_lines (session_lines ratio budget session.now)) }
+    ensures whole { OnOk result (IsWholeSession session.now) }
 {
     push_head(
         out,

@@ -30,7 +30,8 @@ use Rattle.cert_lines.specs.Forms.{vector_in, letters_in, may_stand}
 use Rattle.cert_data.specs.declared.certs.Cert.{Cert}
 use Rattle.cert_spelling.specs.Spelling.{form_line, head_lines, arc_lines, counted_arcs, all_pair_lines, counted_pairs, session_lines, tail_lines, lines_of_cert, spelling}
 use Rattle.cert_text.specs.Rules.{Form, Ratio, Budget, Base, Point, Letters, ArcCount, NextArc, PairCount, NextPair, NextRow, Tail, cert_rules, admit, before_arcs, before_pairs, before_rows, free_by, reading_of}
-use Rattle.cert_text.specs.Lengths.{IsWholeArc, IsWholeRow, IsWholePair, IsWhole, IsCertificate}
+use Rattle.cert_lines.specs.Lengths.{IsWholeArc, IsWholeRow, IsWholePair}
+use Rattle.cert_spelling.specs.Lengths.{IsWhole, IsCertificate}
 use Rattle.cert_text.proofs.ArcSteps.{free_push}
 use Rattle.cert_text.proofs.FeedLaws.{each_small, within_small, below_small, row_small, cert_feed}
 use Rattle.cert_text.proofs.LineSpells.{numbers_length, line_length, count_spells, vector_spells, pair_spells, row_spells, arc_spells, are_in, within_is}
@@ -194,7 +195,7 @@ session_accepted ratio budget s rest r1 r2 b1 b2 base point arcs pairs behind =
 
 cert_accepted : (c : Cert) → IsWhole c → Accepted Form (lines_of_cert c)
 cert_accepted c whole =
-    session_accepted c.ratio c.budget c.session (tail_lines c.tail) c.ratio_from c.ratio_to c.budget_from c.budget_to whole.base whole.point whole.arcs whole.pairs
+    session_accepted c.ratio c.budget c.session (tail_lines c.tail) c.ratio_from c.ratio_to c.budget_from c.budget_to whole.session.base whole.session.point whole.session.arcs whole.session.pairs
     (tail_accepted c.session.arcs c.budget c.tail c.budget_to c.tail_fits whole.tail)
 
 -- the text of a certificate is none that is refused

@@ -22,7 +22,7 @@ use Rattle.cert_words.proofs.RangeLaws.{AreIn, natural_holds, within_holds, plac
 use Rattle.cert_lines.specs.declared.ranges.TheConstants.{SHIFTS, GROUPS, OBSERVATIONS, DIRECTIONS, RADII}
 use Rattle.cert_lines.specs.Lines.{count_line, vector_line, kind_text, arc_line, pair_line, row_line, row_numbers}
 use Rattle.cert_lines.specs.Forms.{count_in, vector_in, kind_in, with_shifts, words_of_arc, arc_words, arc_of, arc_numbers, may_stand, arc_in, pair_head, pair_in, arc_at, row_in}
-use Rattle.cert_text.specs.Lengths.{IsWholeArc, IsWholeRow}
+use Rattle.cert_lines.specs.Lengths.{IsWholeArc, IsWholeRow}
 use Rattle.cert_text.proofs.FeedLaws.{below_small, each_small, row_small}
 
 -- ---- lengths

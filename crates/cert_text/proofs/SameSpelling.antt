@@ -25,7 +25,8 @@ use Rattle.cert_data.specs.Places.{name_of_place}
 use Rattle.cert_data.specs.Tails.{AreVectors, IsTailOf}
 use Rattle.cert_spelling.specs.Spelling.{head_lines, arc_lines, counted_arcs, all_pair_lines, counted_pairs, vectors_lines, fixed_line, unseparated_line, spent_line, tail_lines, lines_of_cert, spelling}
 use Rattle.cert_text.specs.TailForms.{declined_in, last_in}
-use Rattle.cert_text.specs.Lengths.{IsWholeArc, IsWholeRow, IsWholePair, AreWholeVectors, IsWholeTail, IsWhole}
+use Rattle.cert_lines.specs.Lengths.{IsWholeArc, IsWholeRow, IsWholePair}
+use Rattle.cert_spelling.specs.Lengths.{AreWholeVectors, IsWholeTail, IsWhole}
 use Rattle.cert_text.proofs.FeedLaws.{each_small, below_small, entries_small, row_small, cert_feed}
 use Rattle.cert_text.proofs.LineSpells.{pair_spells, arc_spells}
 use Rattle.cert_text.proofs.TailSpells.{values_small, weak_read, place_read, unsettled_read, spent_read}
@@ -225,16 +226,16 @@ lines_same c d w v e =
     let l6 = cons_same _ _ _ _ l5.1 in
     let ratio = count_same (codes "ratio") c.ratio d.ratio (omega (arith, c.ratio_to)) (omega (arith, d.ratio_to)) l1.0 in
     let budget = count_same (codes "budget") c.budget d.budget (omega (arith, c.budget_to)) (omega (arith, d.budget_to)) l2.0 in
-    let base = numbers_same (codes "base") 3 s.base t.base w.base v.base (point_small s.base s.base_in) (point_small t.base t.base_in) l3.0 in
-    let point = numbers_same (codes "point") 3 s.point t.point w.point v.point (point_small s.point s.point_in) (point_small t.point t.point_in) l4.0 in
+    let base = numbers_same (codes "base") 3 s.base t.base w.session.base v.session.base (point_small s.base s.base_in) (point_small t.base t.base_in) l3.0 in
+    let point = numbers_same (codes "point") 3 s.point t.point w.session.point v.session.point (point_small s.point s.point_in) (point_small t.point t.point_in) l4.0 in
     let letters : Ok (s.signals.l1, s.signals.l2) ≡ Ok (t.signals.l1, t.signals.l2) = sym (letters_spell s.signals) ∙ ap letters_in l5.0 ∙ letters_spell t.signals in
     let pair : (s.signals.l1, s.signals.l2) ≡ (t.signals.l1, t.signals.l2) = cc in
     let signals = signals_same s.signals t.signals (ap (λ (p : ℕ × ℕ). p.0) pair) (ap (λ (p : ℕ × ℕ). p.1) pair) in
     let arc_count = count_same (codes "arcs") (length s.arcs) (length t.arcs) (omega (arith, s.arcs_in.few)) (omega (arith, t.arcs_in.few)) l6.0 in
-    let arcs = arcs_same s.arcs t.arcs (rest c) (rest d) s.arcs_in.ranges t.arcs_in.ranges w.arcs v.arcs arc_count l6.1 in
+    let arcs = arcs_same s.arcs t.arcs (rest c) (rest d) s.arcs_in.ranges t.arcs_in.ranges w.session.arcs v.session.arcs arc_count l6.1 in
     let l7 = cons_same _ _ _ _ arcs.1 in
     let pair_count = count_same (codes "pairs") (length s.pairs) (length t.pairs) (omega (arith, s.pairs_in.few)) (omega (arith, t.pairs_in.few)) l7.0 in
-    let pairs = pairs_same s.arcs t.arcs s.pairs t.pairs (tail_lines c.tail) (tail_lines d.tail) s.arcs_in.few t.arcs_in.few s.pairs_in.rows_have_arcs t.pairs_in.rows_have_arcs w.pairs v.pairs pair_count l7.1 in
+    let pairs = pairs_same s.arcs t.arcs s.pairs t.pairs (tail_lines c.tail) (tail_lines d.tail) s.arcs_in.few t.arcs_in.few s.pairs_in.rows_have_arcs t.pairs_in.rows_have_arcs w.session.pairs v.session.pairs pair_count l7.1 in
     let session = session_same s t (c.fine ∙ sym d.fine) base point signals arcs.0 pairs.0 in
     let fits = subst (λ (b : ℕ). IsTailOf s.arcs b d.tail) (sym budget) (subst (λ (a : List Arc). IsTailOf a d.budget d.tail) (sym arcs.0) d.tail_fits) in
     let tail = tails_same s.arcs c.budget c.tail d.tail (shape s.arcs c.budget c.tail c.budget_to c.tail_fits w.tail) (shape s.arcs c.budget d.tail c.budget_to fits v.tail) pairs.1 in

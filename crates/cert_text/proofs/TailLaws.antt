@@ -18,7 +18,7 @@ use Rattle.cert_data.specs.Places.{name_of_place, place_of_name, places}
 use Rattle.cert_data.specs.Tails.{tail_of_vectors}
 use Rattle.cert_data.specs.declared.tails.Tail.{Tail}
 use Rattle.cert_spelling.specs.Spelling.{vectors_lines, fixed_line, unseparated_line, tail_lines}
-use Rattle.cert_text.specs.Lengths.{AreWholeVectors, IsWholeTail}
+use Rattle.cert_spelling.specs.Lengths.{AreWholeVectors, IsWholeTail}
 
 two_values : (ns : List Number) → length ns ≡ 2 → values ns ≡ (number_at ns 0).value ∷ (number_at ns 1).value ∷ []
 two_values [] e = absurd (omega (arith, e))

@@ -23,7 +23,7 @@ use Rattle.cert_data.specs.Places.{name_of_place}
 use Rattle.cert_spelling.specs.Spelling.{vectors_lines, fixed_line, unseparated_line, spent_line, tail_lines}
 use Rattle.cert_text.specs.TailForms.{declined_in, weak_in, unsettled_in, spent_in, form_values, value_within, values_in, last_in}
 use Rattle.cert_text.specs.Rules.{Expected, Tail, Second, Move, Values, Last, End, cert_rules, admit}
-use Rattle.cert_text.specs.Lengths.{AreWholeVectors, IsWholeTail}
+use Rattle.cert_spelling.specs.Lengths.{AreWholeVectors, IsWholeTail}
 use Rattle.cert_text.proofs.FeedLaws.{below_small, each_small, entries_small}
 use Rattle.cert_text.proofs.LineLaws.{admits_vectors, admits_declined}
 use Rattle.cert_text.proofs.LineSpells.{HaveValues, placed_values, natural_at, range_at, line_length, count_spells, vector_spells, are_in, below_is}

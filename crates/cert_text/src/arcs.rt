@@ -6,7 +6,7 @@ ghost use Rattle.rinex_head.specs.Walk.{Reads, ReadsFree};
 ghost use Rattle.cert_lines.specs.Lines.{arc_line};
 ghost use Rattle.cert_lines.specs.Forms.{may_stand};
 ghost use Rattle.cert_spelling.specs.Spelling.{arc_lines, counted_arcs};
-ghost use Rattle.cert_text.specs.Lengths.{IsWholeArc};
+ghost use Rattle.cert_lines.specs.Lengths.{IsWholeArc};
 ghost use Rattle.cert_text.specs.Rules.{cert_rules, before_arcs, free_by, ArcCount, PairCount};
 
 use crate::lines::next_count;

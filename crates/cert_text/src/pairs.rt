@@ -6,7 +6,7 @@ ghost use Rattle.obs_rows.specs.Pairs.{HasItsArcs};
 ghost use Rattle.rinex_head.specs.Walk.{Reads, ReadsFree};
 ghost use Rattle.cert_lines.specs.Lines.{pair_line, row_line, row_lines, pair_lines};
 ghost use Rattle.cert_spelling.specs.Spelling.{all_pair_lines, counted_pairs};
-ghost use Rattle.cert_text.specs.Lengths.{IsWholeRow, IsWholePair};
+ghost use Rattle.cert_lines.specs.Lengths.{IsWholeRow, IsWholePair};
 ghost use Rattle.cert_text.specs.Rules.{cert_rules, before_pairs, before_rows, PairCount, Tail};
 
 use crate::lines::next_count;

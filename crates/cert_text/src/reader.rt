@@ -3,7 +3,7 @@ ghost use Rattle.std.specs.Prelude.{◌≡◌, ◌≤◌, ◌++◌, [], length, 
 ghost use Rattle.rinex_head.specs.Walk.{rest_gives, Gives, OnRefusal};
 ghost use Rattle.cert_data.specs.declared.certs.Cert.{Cert};
 ghost use Rattle.cert_spelling.specs.Spelling.{lines_of_cert, spelling};
-ghost use Rattle.cert_text.specs.Lengths.{IsWhole, IsCertificate};
+ghost use Rattle.cert_spelling.specs.Lengths.{IsWhole, IsCertificate};
 ghost use Rattle.cert_text.specs.Rules.{cert_rules, reading_of, Form, End};
 
 use crate::arcs::read_arcs;

@@ -12,7 +12,7 @@ ghost use Rattle.cert_lines.specs.Forms.{vector_in};
 ghost use Rattle.cert_lines.specs.declared.ranges.TheConstants.{ENTRIES};
 ghost use Rattle.cert_data.specs.Tails.{IsTailOf};
 ghost use Rattle.cert_spelling.specs.Spelling.{fixed_line, unseparated_line, tail_lines};
-ghost use Rattle.cert_text.specs.Lengths.{IsWholeTail};
+ghost use Rattle.cert_spelling.specs.Lengths.{IsWholeTail};
 ghost use Rattle.cert_text.specs.Rules.{Expected, cert_rules, Tail as TailStart, Second, Move, Values, Last, End};
 ghost use Rattle.cert_text.specs.LineParts.{TakesLine};
 

@@ -5,7 +5,7 @@ ghost use Rattle.obs_rows.specs.Ranges.{IsBelow};
 ghost use Rattle.cert_lines.specs.Lines.{values_line};
 ghost use Rattle.cert_data.specs.Tails.{IsTailOf};
 ghost use Rattle.cert_spelling.specs.Spelling.{fixed_line, unseparated_line, tail_lines};
-ghost use Rattle.cert_text.specs.Lengths.{IsWholeTail};
+ghost use Rattle.cert_spelling.specs.Lengths.{IsWholeTail};
 ghost use Rattle.cert_text.specs.TailForms.{weak_in, unsettled_in, spent_in, overwidth_in, declined_in, value_within, values_in, last_in, begins};
 
 use cert_data::{Tail, place_named};

@@ -11,7 +11,7 @@ use Rattle.cert_data.specs.declared.tails.Tail.TheVariants as tail
 use Rattle.run_options.specs.declared.options.Options.{Options}
 use Rattle.round_steps.specs.Steps.{IsBestWhereFixed}
 use Rattle.session.specs.Answers.{IsBestAnswer}
-use Rattle.outcome_report.specs.OutcomeText.{answer_text, is_fixed, is_fixed_tail}
+use Rattle.outcome_report.specs.OutcomeText.{answer_text, IsWholeAnswer, is_fixed, is_fixed_tail}
 use Rattle.job_answers.specs.declared.status.Status.TheVariants.{Done, Declined, ReadFault}
 use Rattle.job_answers.specs.Statuses.{IsVerdictStatus, IsJobStatus}
 use Rattle.job_answers.specs.Endings.{Ending, EndsByFile}
@@ -24,6 +24,7 @@ use Rattle.arcs_job.proofs.ArcSays.{arcs_status, arcs_verdict}
 use Rattle.fix_job.specs.FixJobs.{FixEnds}
 use Rattle.fix_job.specs.FixRuns.{IsFix, HaveOutcome, SaysOfFix}
 use Rattle.fix_job.proofs.Runs.{stands_for}
+use Rattle.fix_job.proofs.Certified.{certified_again, no_other}
 
 -- ---- statuses
 verdict_of : (fixed : Bool) → IsVerdictStatus (if fixed then Done else Declined)
@@ -75,19 +76,23 @@ fixed_cert (Early stage why) fixed best = absurd (false≢true fixed)
 fixed_cert (Full cert) fixed best = record { cert = cert; is = refl; fix = fixed_tail cert cert.tail refl fixed best }
 
 outcome_says : (told : List ℕ → Option (List ℕ)) (base rover nav : List ℕ) (o : Options) (outcome : Outcome) (out : SinkChange) (fixed : Bool) → is_fixed outcome.answer ≡ fixed → HaveOutcome told base rover nav o outcome → IsBestAnswer outcome.answer
-    → Appends out.old out.new (answer_text outcome.answer) → SaysOfFix told base rover nav o (if fixed then Done else Declined) out
-outcome_says told base rover nav o outcome out true is have best printed =
+    → IsWholeAnswer outcome.answer → Appends out.old out.new (answer_text outcome.answer) → SaysOfFix told base rover nav o (if fixed then Done else Declined) out
+outcome_says told base rover nav o outcome out true is have best whole printed =
     let c : IsFixedCert outcome.answer = fixed_cert outcome.answer is best in
+    let certified = certified_again have.base_file have.rover_file have.records o outcome c.cert have.is c.is c.fix in
     record {
       outcome = outcome;
       have = have;
       cert = c.cert;
       answer_is = c.is;
+      whole = subst IsWholeAnswer c.is whole;
       fix = c.fix;
+      certified = certified;
+      only = no_other c.cert certified;
       stands = stands_for have.base_file have.rover_file have.records o outcome c.cert have.is c.is;
       printed = subst (λ (a : Answer). Appends out.old out.new (answer_text a)) c.is printed;
     }
-outcome_says told base rover nav o outcome out false is have best printed = record { outcome = outcome; have = have; none = is; printed = printed }
+outcome_says told base rover nav o outcome out false is have best whole printed = record { outcome = outcome; have = have; none = is; whole = whole; printed = printed }
 
 -- what is written of an ending is what it says of the files
 pub fix_says : (told : List ℕ → Option (List ℕ)) (base rover nav : List ℕ) (o : Options) (end : Ending) (out : SinkChange) → FixEnds told base rover nav o end → Appends out.old out.new end.out → SaysOfFix told base rover nav o end.status out
@@ -95,7 +100,7 @@ fix_says told base rover nav o end out (inl session) written = elim (session.end
   | inl outcome ↦
       let printed : Appends out.old out.new (answer_text outcome.outcome.answer) = subst (λ (e : Ending). Appends out.old out.new e.out) outcome.end_is written in
       let have : HaveOutcome told base rover nav o outcome.outcome = record { base_file = session.base_file; rover_file = session.rover_file; records = session.records; are_files = session.are; is = outcome.is } in
-      says_at told base rover nav o end _ out outcome.end_is (outcome_says told base rover nav o outcome.outcome out (is_fixed outcome.outcome.answer) refl have outcome.best printed)
+      says_at told base rover nav o end _ out outcome.end_is (outcome_says told base rover nav o outcome.outcome out (is_fixed outcome.outcome.answer) refl have outcome.best outcome.whole printed)
   | inr refused ↦ says_at told base rover nav o end _ out refused.end_is tt
 ]
 fix_says told base rover nav o end out (inr stops) written = stops_say stops

@@ -8,7 +8,7 @@ use Rattle.cert_data.specs.declared.outcomes.Answer.{Answer}
 use Rattle.run_options.specs.declared.options.Options.{Options}
 use Rattle.session.specs.Answers.{IsBestAnswer}
 use Rattle.session.specs.Outcomes.{IsOutcome}
-use Rattle.outcome_report.specs.OutcomeText.{answer_text, outcome_text, is_fixed}
+use Rattle.outcome_report.specs.OutcomeText.{answer_text, IsWholeAnswer, outcome_text, is_fixed}
 use Rattle.job_answers.specs.declared.status.Status.{Status}
 use Rattle.job_answers.specs.declared.status.Status.TheVariants.{Done, Declined}
 use Rattle.job_answers.specs.Endings.{Ending, ending}
@@ -24,6 +24,7 @@ pub record EndsWithOutcome (b r : ObsFile) (n : Records) (o : Options) (end : En
   pub outcome : Outcome
   pub is : IsOutcome b r n o outcome
   pub best : IsBestAnswer outcome.answer
+  pub whole : IsWholeAnswer outcome.answer
   pub end_is : end ≡ ending (status_of outcome.answer) (answer_text outcome.answer) (outcome_text outcome)
 
 -- what the three files end with

@@ -1,5 +1,5 @@
 -- What a run of `fix` with status 0 or 1 says of its files.
-use Rattle.std.specs.Prelude.{◌≡◌, ℕ, false, List, map, ℤ}
+use Rattle.std.specs.Prelude.{◌≡◌, ◌⊎◌, ℕ, false, List, map, ℤ}
 use Rattle.std.specs.declared.option.Option.{Option}
 use Rattle.std.specs.Io.KnownBytes.{Appends}
 use Rattle.obs_store.specs.declared.file.ObsFile.{ObsFile}
@@ -17,11 +17,15 @@ use Rattle.cert_data.specs.declared.certs.Cert.{Cert}
 use Rattle.cert_data.specs.declared.outcomes.Outcome.{Outcome}
 use Rattle.cert_data.specs.declared.outcomes.Answer.TheVariants.{Full}
 use Rattle.cert_data.specs.declared.tails.Tail.TheVariants.{Fixed}
+use Rattle.cert_data.specs.declared.verdicts.Verdict.{Verdict}
+use Rattle.cert_data.specs.declared.verdicts.Verdict.TheVariants.{Certified}
 use Rattle.cert_spelling.specs.Spelling.{spelling}
+use Rattle.cert_spelling.specs.Lengths.{IsWhole}
+use Rattle.cert_check.specs.Verdicts.{IsVerdictOf, IsGivenUp}
 use Rattle.run_options.specs.declared.options.Options.{Options}
 use Rattle.session_begin.specs.Beginnings.{IsPosition, AreSignals, AreTaken}
 use Rattle.session.specs.Outcomes.{IsOutcome}
-use Rattle.outcome_report.specs.OutcomeText.{answer_text, is_fixed}
+use Rattle.outcome_report.specs.OutcomeText.{answer_text, IsWholeAnswer, is_fixed}
 use Rattle.job_answers.specs.declared.status.Status.{Status}
 use Rattle.job_answers.specs.declared.status.Status.TheVariants.{Done, Declined}
 use Rattle.job_answers.specs.Delivered.{SinkChange}
@@ -58,13 +62,17 @@ pub record HaveOutcome (told : List ℕ → Option (List ℕ)) (base rover nav :
   pub are_files : AreFilesOf told base rover nav base_file rover_file records
   pub is : IsOutcome base_file rover_file records o outcome
 
--- out has gained a certificate that says `fixed`, of a session that stands for the files
+-- Out has gained a certificate that says `fixed`, of a session that stands for the files. Its text is no other's, and a check
+-- of it says that it is certified, or its search gives up.
 pub record SaysFixed (told : List ℕ → Option (List ℕ)) (base rover nav : List ℕ) (o : Options) (out : SinkChange) : Type 0 where
   pub outcome : Outcome
   pub have : HaveOutcome told base rover nav o outcome
   pub cert : Cert
   pub answer_is : outcome.answer ≡ Full cert
+  pub whole : IsWhole cert
   pub fix : IsFix cert
+  pub certified : IsVerdictOf cert.session cert.ratio cert.budget cert.tail Certified
+  pub only : (v : Verdict) → IsVerdictOf cert.session cert.ratio cert.budget cert.tail v → (v ≡ Certified) ⊎ IsGivenUp v
   pub stands : StandsForIts have.base_file have.rover_file have.records o cert
   pub printed : Appends out.old out.new (spelling cert)
 
@@ -73,6 +81,7 @@ pub record SaysDeclined (told : List ℕ → Option (List ℕ)) (base rover nav 
   pub outcome : Outcome
   pub have : HaveOutcome told base rover nav o outcome
   pub none : is_fixed outcome.answer ≡ false
+  pub whole : IsWholeAnswer outcome.answer
   pub printed : Appends out.old out.new (answer_text outcome.answer)
 
 abbrev pub SaysOfFix : (List ℕ → Option (List ℕ)) → List ℕ → List ℕ → List ℕ → Options → Status → SinkChange → Type 0

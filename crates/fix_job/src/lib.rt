@@ -1,11 +1,19 @@
 //! The command `fix`: the baseline of two receivers, with the certificate of its integers.
+//!
+//! `fix` reads the three files of a session, each whole before the next, and ends with the first that can't be had or
+//! is refused, with the refusal of the two files, or with the texts of the outcome, done for a fix and else declined
+//! (`ends`). `SaysOfFix` is what a run of it says: of a fix, that its integers with its move are strictly best for
+//! all data in the printed boxes, that its session stands for the files, and that a check of it answers `Certified`
+//! or its search gives up (`certified`, `only`). The printed certificate is the only one with its text (`whole`, with
+//! `one_spelling_law` of cert_text).
 #![tactic(auto)]
 
 ghost use Rattle.std.specs.Prelude.{◌≡◌, ◌≢◌, [], ◌∷◌, IfOk, All};
-ghost use Rattle.line_source.specs.Causes.{Rose};
+ghost use Rattle.line_source.specs.Causes.{Rose, OpensAtMost};
+ghost use Rattle.job_answers.specs.Statuses.{IsVerdictStatus};
 ghost use Rattle.job_answers.specs.Answers.{ending_of, IfEnded};
-ghost use Rattle.job_answers.specs.Endings.{ending};
-ghost use Rattle.outcome_report.specs.OutcomeText.{answer_text, outcome_text};
+ghost use Rattle.job_answers.specs.Endings.{ending, IsRefusedWhole};
+ghost use Rattle.outcome_report.specs.OutcomeText.{answer_text, outcome_text, IsWholeAnswer};
 ghost use Rattle.fix_job.specs.FixJobs.{status_of, FixEnd, FixEnds};
 
 use arcs_job::refused_pair;
@@ -21,7 +29,8 @@ use std::alloc::{AllocError, Global};
 
 // Done for a fix, else declined.
 fn status_of(answer: &session::Answer) -> Status
-    ensures { result ≡ status_of answer.now }
+    ensures value { result ≡ status_of answer.now }
+    ensures verdict { IsVerdictStatus result }
 {
     if is_fixed(answer) {
         Status::Done
@@ -32,7 +41,8 @@ fn status_of(answer: &session::Answer) -> Status
 
 // The texts of an outcome.
 fn answer_outcome(alloc: Global, outcome: &Outcome) -> Result<Answer, AllocError>
-    ensures { IfOk result (λ a. ending_of a ≡ ending (status_of outcome.now.answer) (answer_text outcome.now.answer) (outcome_text outcome.now)) }
+    ensures ending { IfOk result (λ a. ending_of a ≡ ending (status_of outcome.now.answer) (answer_text outcome.now.answer) (outcome_text outcome.now)) }
+    ensures whole { IfOk result (λ a. IsWholeAnswer outcome.now.answer) }
 {
     let mut out = Vec::new(alloc);
     let mut err = Vec::new(alloc);
@@ -71,6 +81,8 @@ pub fn fix<F: Files>(
     options: &Options,
 ) -> Result<Answer, Stop>
     ensures ends { IfEnded result (λ end. FixEnds (F.text_of files.old) base.now rover.now nav.now options.now end) }
+    ensures refused { IfEnded result (λ end. IsRefusedWhole (F.text_of files.old) (F.unread files.new) (base.now ∷ rover.now ∷ nav.now ∷ []) end.status) }
+    ensures opened { OpensAtMost 3 (F.opened files.old) (F.opened files.new) }
     ensures fault { IfEnded result (λ end. end.status ≡ Status.ReadFault → Rose (F.faults files.old) (F.faults files.new)) }
     ensures sure { All (F.is_sure_name files.old) (base.now ∷ rover.now ∷ nav.now ∷ []) → IfEnded result (λ end. end.status ≢ Status.ReadFault) }
 {

@@ -1,8 +1,8 @@
 -- What the program's own answers stand for.
 use Rattle.std.specs.Prelude.{Result, Ok, Err}
 use Rattle.job_answers.specs.declared.answer.Answer.{Answer}
-use Rattle.job_answers.specs.declared.answer.Stop.{Stop}
-use Rattle.job_answers.specs.declared.answer.Stop.TheVariants.{Ended, NoMemory}
+use Rattle.job_answers.specs.declared.stop.Stop.{Stop}
+use Rattle.job_answers.specs.declared.stop.Stop.TheVariants.{Ended, NoMemory}
 use Rattle.job_answers.specs.Endings.{Ending, ending}
 
 abbrev pub ending_of : Answer → Ending

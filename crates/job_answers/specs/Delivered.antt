@@ -32,10 +32,11 @@ pub record EndsWritten (end : Ending) (result : Status) (out err : SinkChange) :
   pub err_gains : GainsUnlessFault err end.err
   pub err_whole : IsVerdictStatus end.status → Appends err.old err.new end.err
 
--- out had a fault, and err was told of it, once
+-- out had a fault, where a verdict's text was wanted whole, and err was told of it, once
 pub record EndsByOut (end : Ending) (result : Status) (out err : SinkChange) : Type 0 where
   pub fault : result ≡ WriteFault
   pub rose : Rose out.before out.now
+  pub verdict : IsVerdictStatus end.status
   pub out_prefix : AppendsPrefix out.old out.new end.out
   pub err_gains : GainsUnlessFault err write_fault_line
 

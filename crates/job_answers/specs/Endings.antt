@@ -1,7 +1,8 @@
 -- What a job may end with: a status and two texts. These parts are those of every command.
-use Rattle.std.specs.Prelude.{◌≡◌, ◌⊎◌, ℕ, ◌<◌, ◌≤◌, List, [], length, IfSome, Result, Err, Some}
+use Rattle.std.specs.Prelude.{◌≡◌, ◌⊎◌, ℕ, ◌<◌, ◌≤◌, List, [], length, IfSome, Result, Err, Some, Any}
 use Rattle.std.specs.declared.option.Option.{Option}
 use Rattle.line_source.specs.Lines.{lines_of}
+use Rattle.line_source.specs.Told.{IsReadToEnd}
 use Rattle.rinex_head.specs.declared.place.At.{At}
 use Rattle.rinex_head.specs.FirstFailing.{IsFirstFailing}
 use Rattle.job_answers.specs.declared.status.Status.{Status}
@@ -21,9 +22,12 @@ pub record IsTextOf (told : List ℕ → Option (List ℕ)) (name text : List �
   pub told_is : IfSome (told name) (λ bytes. text ≡ bytes)
   pub fits : length text ≤ 67108864
 
+abbrev pub HasTooManyBytes : (List ℕ → Option (List ℕ)) → List ℕ → Type 0
+HasTooManyBytes told name = IfSome (told name) (λ bytes. 67108864 < length bytes)
+
 -- the file has more bytes than a file may have
 pub record IsTooLarge (told : List ℕ → Option (List ℕ)) (name : List ℕ) (end : Ending) : Type 0 where
-  pub large : IfSome (told name) (λ bytes. 67108864 < length bytes)
+  pub large : HasTooManyBytes told name
   pub end_is : end ≡ ending Refused [] (too_large_line name)
 
 abbrev pub IsReadFault : List ℕ → Ending → Type 0
@@ -57,3 +61,7 @@ pub record IsAdmitted (told : List ℕ → Option (List ℕ)) (name : List ℕ) 
   pub told_is : told name ≡ Some text
   pub fits : length text ≤ 67108864
   pub file : IsFile (lines_of text)
+
+-- A refusal comes after one of the files was read to its end, or of one that is too large.
+abbrev pub IsRefusedWhole : (List ℕ → Option (List ℕ)) → (ℕ → Option (List ℕ)) → List (List ℕ) → Status → Type 0
+IsRefusedWhole told left names status = status ≡ Refused → Any (λ name. IsReadToEnd told left name ⊎ HasTooManyBytes told name) names

@@ -1,105 +1,14 @@
 // What a job ends with, before its texts are written.
-ghost use Rattle.std.specs.Prelude.{◌≡◌, ◌≢◌, ◌≤◌, [], length, vec_len, IfOk, string_bytes};
-ghost use Rattle.line_source.specs.Causes.{Rose};
-ghost use Rattle.line_source.specs.Told.{Same, Stays};
-ghost use Rattle.job_answers.specs.declared.answer.Stop.TheVariants.{NoMemory};
-ghost use Rattle.job_answers.specs.Texts.{refusal_line, too_large_line, read_fault_line};
-ghost use Rattle.job_answers.specs.Endings.{ending, IsTextOf, EndsUnloaded};
-ghost use Rattle.job_answers.specs.Answers.{ending_of, IfEnds, IfStopped};
+ghost use Rattle.std.specs.Prelude.{◌≡◌, vec_len};
+ghost use Rattle.job_answers.specs.Statuses.{IsVerdictStatus};
 
 use crate::Status;
-use line_source::{Files, LoadFault, load};
-use rinex_head::At;
-use std::alloc::{AllocError, Global};
 
-/// What is to be written to out and to err, and how the program ends then.
+/// What is to be written to out and to err, and how the program ends then. Only a verdict has a text for out.
 #[derive(Drop)]
 pub struct Answer {
     pub status: Status,
     pub out: Vec<u8>,
     pub err: Vec<u8>,
-}
-
-/// Why a job is not done to its end: it ends before, or memory was refused.
-#[derive(Drop)]
-pub enum Stop {
-    Ended(Answer),
-    NoMemory,
-}
-
-impl From<AllocError> for Stop {
-    ghost from_gives = { λ _ stop. stop ≡ NoMemory };
-
-    fn from(_: AllocError) -> Stop {
-        Stop::NoMemory
-    }
-}
-
-impl Answer {
-    /// A text for out alone.
-    pub fn on_out(alloc: Global, status: Status, out: String) -> Answer
-        ensures { ending_of result ≡ ending status (string_bytes out) [] }
-    {
-        Answer {
-            status,
-            out: out.into_bytes(),
-            err: Vec::new(alloc),
-        }
-    }
-
-    /// A text for err alone.
-    pub fn on_err(alloc: Global, status: Status, err: String) -> Answer
-        ensures { ending_of result ≡ ending status [] (string_bytes err) }
-    {
-        Answer {
-            status,
-            out: Vec::new(alloc),
-            err: err.into_bytes(),
-        }
-    }
-}
-
-/// The end of a job whose file is refused at that place.
-pub fn refused(alloc: Global, name: &str, at: At) -> Result<Answer, AllocError>
-    ensures { IfOk result (λ a. ending_of a ≡ ending Status.Refused [] (refusal_line name.now at)) }
-{
-    let line = at.line;
-    let column = at.column;
-    let text = at.what.text();
-    let err = format!(in alloc; "refused: {name} line {line} column {column}: {text}\n")?;
-    Ok(Answer::on_err(alloc, Status::Refused, err))
-}
-
-/// The end of a job whose file has more bytes than are read.
-pub fn too_large(alloc: Global, name: &str) -> Result<Answer, AllocError>
-    ensures { IfOk result (λ a. ending_of a ≡ ending Status.Refused [] (too_large_line name.now)) }
-{
-    let err = format!(in alloc; "refused: {name}: file too large\n")?;
-    Ok(Answer::on_err(alloc, Status::Refused, err))
-}
-
-/// The end of a job whose file could not be read.
-pub fn read_fault(alloc: Global, name: &str) -> Result<Answer, AllocError>
-    ensures { IfOk result (λ a. ending_of a ≡ ending Status.ReadFault [] (read_fault_line name.now)) }
-{
-    let err = format!(in alloc; "read fault: {name}\n")?;
-    Ok(Answer::on_err(alloc, Status::ReadFault, err))
-}
-
-/// The whole file of a job, or the job's end where it can't be had.
-pub fn load_file<F: Files>(alloc: Global, files: &mut F, name: &str) -> Result<Vec<u8>, Stop>
-    ensures text { IfOk result (λ v. IsTextOf (F.text_of files.old) name.now v.items) }
-    ensures stopped { IfStopped result (λ end. EndsUnloaded (F.text_of files.old) name.now end) }
-    ensures cause { F.faults files.old ≤ F.faults files.new }
-    ensures fault { IfStopped result (λ end. end.status ≡ Status.ReadFault → Rose (F.faults files.old) (F.faults files.new)) }
-    ensures sure { F.is_sure_name files.old name.now → IfStopped result (λ end. end.status ≢ Status.ReadFault) }
-    ensures texts { Same (F.text_of files.old) (F.text_of files.new) }
-    ensures sure_names { Stays (F.is_sure_name files.old) (F.is_sure_name files.new) }
-{
-    match load(alloc, files, name) {
-        Ok(text) => Ok(text),
-        Err(LoadFault::BigFile) => Err(Stop::Ended(too_large(alloc, name)?)),
-        Err(LoadFault::ReadFault) => Err(Stop::Ended(read_fault(alloc, name)?)),
-        Err(LoadFault::NoMemory) => Err(Stop::NoMemory),
-    }
+    ghost quiet: { (IsVerdictStatus status → ⊥) → vec_len out ≡ 0 },
 }

@@ -1,8 +1,9 @@
 // How an answer is written.
-ghost use Rattle.std.specs.Prelude.{◌≡◌, ◌⊎◌, ◌≤◌};
+ghost use Rattle.std.specs.Prelude.{◌≡◌, ◌⊎◌, ◌≤◌, length};
 ghost use Rattle.std.specs.Io.KnownBytes.{Appends};
 ghost use Rattle.line_source.specs.Causes.{Rose};
 ghost use Rattle.line_source.specs.Told.{AppendsPrefix};
+ghost use Rattle.job_answers.specs.Statuses.{IsVerdictStatus};
 ghost use Rattle.job_answers.specs.Endings.{ending};
 ghost use Rattle.job_answers.specs.Delivered.{sink_change, IsDelivered};
 
@@ -18,7 +19,7 @@ fn tell<E: Sink>(err: &mut E, line: &[u8])
     let _ = put_all(err, line);
 }
 
-/// Writes the two texts, out first. Where out has a fault, err is told of it, once.
+/// Writes the two texts, out first. Only a verdict has a text for out; where out has a fault, err is told of it, once.
 pub fn deliver<O: Sink, E: Sink>(
     status: Status,
     out_text: &[u8],
@@ -26,6 +27,7 @@ pub fn deliver<O: Sink, E: Sink>(
     out: &mut O,
     err: &mut E,
 ) -> Status
+    requires { (IsVerdictStatus status → ⊥) → length out_text.now ≡ 0 }
     ensures { IsDelivered (ending status out_text.now err_text.now) result
         (sink_change (O.contents out.old) (O.contents out.new) (O.faults out.old) (O.faults out.new))
         (sink_change (E.contents err.old) (E.contents err.new) (E.faults err.old) (E.faults err.new)) }

@@ -1,11 +1,11 @@
 //! The command `list`: what an observation file holds.
 #![tactic(auto)]
 
-ghost use Rattle.std.specs.Prelude.{◌≡◌, ◌≢◌, ◌≤◌, [], IfOk};
-ghost use Rattle.line_source.specs.Causes.{Rose};
+ghost use Rattle.std.specs.Prelude.{◌≡◌, ◌≢◌, ◌≤◌, [], IfOk, ◌∷◌};
+ghost use Rattle.line_source.specs.Causes.{Rose, OpensAtMost};
 ghost use Rattle.report_text.specs.List.{list_text};
 ghost use Rattle.job_answers.specs.Answers.{ending_of, IfEnded};
-ghost use Rattle.job_answers.specs.Endings.{ending, EndsByFile};
+ghost use Rattle.job_answers.specs.Endings.{ending, EndsByFile, IsRefusedWhole};
 ghost use Rattle.list_job.specs.Listing.{ListEnds};
 
 use job_answers::{Answer, Status, Stop};
@@ -31,6 +31,8 @@ fn answer_file(alloc: Global, file: &ObsFile) -> Result<Answer, AllocError>
 /// What an observation file holds: its version, its epochs and its satellites.
 pub fn list<F: Files>(alloc: Global, files: &mut F, name: &str) -> Result<Answer, Stop>
     ensures ends { IfEnded result (λ end. EndsByFile (F.text_of files.old) name.now (ListEnds name.now) end) }
+    ensures refused { IfEnded result (λ end. IsRefusedWhole (F.text_of files.old) (F.unread files.new) (name.now ∷ []) end.status) }
+    ensures opened { OpensAtMost 1 (F.opened files.old) (F.opened files.new) }
     ensures cause { F.faults files.old ≤ F.faults files.new }
     ensures fault { IfEnded result (λ end. end.status ≡ Status.ReadFault → Rose (F.faults files.old) (F.faults files.new)) }
     ensures sure { F.is_sure_name files.old name.now → IfEnded result (λ end. end.status ≢ Status.ReadFault) }

@@ -8,15 +8,16 @@ use Rattle.eph_store.specs.declared.ephemeris.Eph.{Eph}
 use Rattle.eph_store.specs.Records.{AreFit}
 use Rattle.eph_store.specs.Chosen.{IsChosenRecord, HasNoCandidate}
 use Rattle.rinex_nav.specs.NavForm.{IsNavFile}
-use Rattle.report_text.specs.Orbit.{OrbitNumbers, AreNarrow, orbit_lines, no_record_line}
+use Rattle.sv_orbit.specs.declared.place.SvBox.{SvBox}
+use Rattle.report_text.specs.Orbit.{OrbitNumbers, AreNarrow, AreNumbersOf, orbit_lines, no_record_line}
 use Rattle.job_answers.specs.declared.status.Status.{Status}
 use Rattle.job_answers.specs.declared.status.Status.TheVariants.{Done, Declined}
 use Rattle.job_answers.specs.Endings.{IsTextOf}
 use Rattle.job_answers.specs.Delivered.{SinkChange}
-use Rattle.orbit_job.specs.Orbits.{HoldsSatellite}
+use Rattle.orbit_job.specs.Orbits.{HoldsSatellite, IsBoxOf}
 
 -- The text stands for a navigation file, one of its usable records is the chosen one at that tag, and out has gained the
--- lines of numbers that hold every solution of the equations for it.
+-- numbers of a box of it, each end rounded outward by less than a unit. They hold every solution of the equations.
 pub record SaysPlaced (told : List ℕ → Option (List ℕ)) (name : List ℕ) (sat tag : ℕ) (out : SinkChange) : Type 0 where
   pub text : List ℕ
   pub is : IsTextOf told name text
@@ -26,7 +27,10 @@ pub record SaysPlaced (told : List ℕ → Option (List ℕ)) (name : List ℕ) 
   pub are_fit : AreFit records fit
   pub eph : Eph
   pub chosen : IsChosenRecord fit sat tag eph
+  pub box : SvBox
+  pub of_record : IsBoxOf eph tag box
   pub numbers : OrbitNumbers
+  pub are : AreNumbersOf box numbers
   pub holds : HoldsSatellite eph tag numbers
   pub narrow : AreNarrow numbers
   pub printed : Appends out.old out.new (orbit_lines numbers)

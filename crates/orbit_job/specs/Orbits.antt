@@ -8,10 +8,11 @@ use Rattle.eph_store.specs.declared.record.Raw.{Raw}
 use Rattle.eph_store.specs.declared.ephemeris.Eph.{Eph}
 use Rattle.eph_store.specs.Records.{AreFit}
 use Rattle.eph_store.specs.Chosen.{IsChosenRecord, HasNoCandidate}
-use Rattle.sv_orbit.specs.Solutions.{gps}
+use Rattle.sv_orbit.specs.declared.place.SvBox.{SvBox}
+use Rattle.sv_orbit.specs.Solutions.{gps, HoldsSolution}
 use Rattle.rinex_nav.specs.NavForm.{IsNavFile, HasNavFile}
 use Rattle.rinex_nav.specs.NavRules.{nav_of}
-use Rattle.report_text.specs.Orbit.{OrbitNumbers, HoldsQuantities, AreNarrow, orbit_lines, no_record_line}
+use Rattle.report_text.specs.Orbit.{OrbitNumbers, HoldsQuantities, AreNarrow, AreNumbersOf, orbit_lines, no_record_line}
 use Rattle.job_answers.specs.declared.status.Status.TheVariants.{Done, Declined}
 use Rattle.job_answers.specs.Endings.{Ending, ending, IsRefusal}
 
@@ -20,9 +21,18 @@ use Rattle.job_answers.specs.Endings.{Ending, ending, IsRefusal}
 abbrev pub HoldsSatellite : Eph → ℕ → OrbitNumbers → Type 0
 HoldsSatellite eph tag n = (q : Quantities) → IsSatelliteSolution gps (elements_of eph) (sent_at tag (pos 0)) q → HoldsQuantities n q
 
--- such numbers of the record are printed, and lie near each other
+-- The box holds the satellite of the record at that tag: every solution of the equations. By its type it is narrow, and as
+-- far from the Earth's centre as the satellites are, also where the equations have no solution in rationals.
+abbrev pub IsBoxOf : Eph → ℕ → SvBox → Type 0
+IsBoxOf eph tag box = (q : Quantities) → IsSatelliteSolution gps (elements_of eph) (sent_at tag (pos 0)) q → HoldsSolution box q
+
+-- The numbers of such a box of the record are printed, each end rounded outward by less than a unit. They hold each
+-- solution, and lie near each other.
 pub record IsPlacedBy (eph : Eph) (tag : ℕ) (end : Ending) : Type 0 where
+  pub box : SvBox
+  pub of_record : IsBoxOf eph tag box
   pub numbers : OrbitNumbers
+  pub are : AreNumbersOf box numbers
   pub holds : HoldsSatellite eph tag numbers
   pub narrow : AreNarrow numbers
   pub end_is : end ≡ ending Done (orbit_lines numbers) []

@@ -1,12 +1,12 @@
 //! The command `orbit`: where a satellite of a navigation file is at a time, and what its clock is ahead.
 #![tactic(auto)]
 
-ghost use Rattle.std.specs.Prelude.{◌≡◌, ◌≢◌, ◌≤◌, [], length, IfOk};
-ghost use Rattle.line_source.specs.Causes.{Rose};
+ghost use Rattle.std.specs.Prelude.{◌≡◌, ◌≢◌, ◌≤◌, [], length, IfOk, ◌∷◌};
+ghost use Rattle.line_source.specs.Causes.{Rose, OpensAtMost};
 ghost use Rattle.eph_store.specs.Chosen.{distance};
 ghost use Rattle.report_text.specs.Orbit.{no_record_line};
 ghost use Rattle.job_answers.specs.Answers.{ending_of, IfEnded};
-ghost use Rattle.job_answers.specs.Endings.{ending, EndsByFile};
+ghost use Rattle.job_answers.specs.Endings.{ending, EndsByFile, IsRefusedWhole};
 ghost use Rattle.orbit_job.specs.Orbits.{IsPlacedBy, IsFound, OrbitEnds};
 
 use eph_store::{Eph, NavFile};
@@ -76,6 +76,8 @@ pub fn orbit<F: Files>(
     tag: Tick,
 ) -> Result<Answer, Stop>
     ensures ends { IfEnded result (λ end. EndsByFile (F.text_of files.old) name.now (OrbitEnds name.now sat tag.0) end) }
+    ensures refused { IfEnded result (λ end. IsRefusedWhole (F.text_of files.old) (F.unread files.new) (name.now ∷ []) end.status) }
+    ensures opened { OpensAtMost 1 (F.opened files.old) (F.opened files.new) }
     ensures cause { F.faults files.old ≤ F.faults files.new }
     ensures fault { IfEnded result (λ end. end.status ≡ Status.ReadFault → Rose (F.faults files.old) (F.faults files.new)) }
     ensures sure { F.is_sure_name files.old name.now → IfEnded result (λ end. end.status ≢ Status.ReadFault) }

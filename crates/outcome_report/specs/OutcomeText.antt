@@ -12,6 +12,7 @@ use Rattle.cert_data.specs.declared.outcomes.Stage.TheVariants.{Coarse, Fine}
 use Rattle.cert_data.specs.declared.tails.Tail.{Tail}
 use Rattle.cert_data.specs.declared.tails.Tail.TheVariants as tail
 use Rattle.cert_spelling.specs.Spelling.{spelling}
+use Rattle.cert_spelling.specs.Lengths.{IsWhole}
 use Rattle.outcome_report.specs.Baselines.{baseline_of, baseline_line}
 
 abbrev pub stage_word : Stage → List ℕ
@@ -34,6 +35,11 @@ answer_text (Few pairs) = codes "declined few " ++ (decimal pairs ++ codes "\n")
 answer_text (Arcs free) = codes "declined arcs " ++ (decimal free ++ codes "\n")
 answer_text (Early stage why) = codes "declined " ++ (early_text stage why ++ codes "\n")
 answer_text (Full cert) = spelling cert
+
+-- the arrays of a certificate that is printed have their lengths, so that its text is no other's
+abbrev pub IsWholeAnswer : Answer → Type 0
+IsWholeAnswer (Full cert) = IsWhole cert
+IsWholeAnswer _ = Unit {0}
 
 -- how many pairs were taken of how many, and how many arcs were kept
 abbrev pub counts_text : ℕ → ℕ → ℕ → List ℕ

@@ -1,7 +1,7 @@
 //! The two texts of the end of a run.
 ghost use Rattle.std.specs.Prelude.{◌≡◌, ◌^◌, ◌++◌, OnOk, All, codes};
 ghost use Rattle.obs_rows.specs.Ranges.{IsBelow};
-ghost use Rattle.outcome_report.specs.OutcomeText.{answer_text, counts_text, delta_text, fixed_text, tail_text, verdict_text, outcome_text, is_fixed};
+ghost use Rattle.outcome_report.specs.OutcomeText.{answer_text, IsWholeAnswer, counts_text, delta_text, fixed_text, tail_text, verdict_text, outcome_text, is_fixed};
 
 use crate::baselines::push_baseline;
 use crate::declines::push_early;
@@ -26,7 +26,8 @@ fn push_early_line(
 
 // Appends the certificate, or why there is none.
 fn write_answer(alloc: Global, out: &mut Vec<u8>, answer: &Answer) -> Result<(), AllocError>
-    ensures { OnOk result (out.new.items ≡ out.old.items ++ answer_text answer.now) }
+    ensures text { OnOk result (out.new.items ≡ out.old.items ++ answer_text answer.now) }
+    ensures whole { OnOk result (IsWholeAnswer answer.now) }
 {
     match answer {
         Answer::Few { pairs } => {
@@ -121,6 +122,7 @@ pub fn write_outcome(
 ) -> Result<(), AllocError>
     ensures out { OnOk result (out.new.items ≡ out.old.items ++ answer_text outcome.now.answer) }
     ensures err { OnOk result (err.new.items ≡ err.old.items ++ outcome_text outcome.now) }
+    ensures whole { OnOk result (IsWholeAnswer outcome.now.answer) }
 {
     write_answer(alloc, out, &outcome.answer)?;
     push_counts(alloc, err, outcome.taken, outcome.all, outcome.kept)?;

@@ -1,18 +1,20 @@
 -- What is told of files after others were read, and what files that are admitted end with.
-use Rattle.std.proofs.Common.{◌≡◌, ◌≢◌, inl, inr, ◌<◌, ℕ, List, Option, length, IfSome, Result, Ok, Err, subst}
+use Rattle.std.proofs.Common.{◌≡◌, ◌≢◌, ◌⊎◌, inl, inr, zero, suc, ◌<◌, ℕ, List, [], ◌∷◌, Option, length, IfSome, Result, Ok, Err, refl, sym, subst, ◌∙◌, arith}
+use Rattle.std.specs.Prelude.{slice_index_or, Some}
 use Rattle.obs_store.specs.declared.file.ObsFile.{ObsFile}
 use Rattle.rinex_obs.specs.ObsForm.{HasObsFile}
 use Rattle.rinex_obs.specs.ObsRules.{obs_of}
 use Rattle.rinex_nav.specs.NavForm.{HasNavFile}
 use Rattle.rinex_nav.specs.NavRules.{nav_of}
-use Rattle.line_source.specs.Told.{Same}
+use Rattle.line_source.specs.Told.{Same, IsReadToEnd}
 use Rattle.line_source.specs.Pieces.{IsTakenWhole}
+use Rattle.job_answers.specs.declared.status.Status.{Status}
 use Rattle.job_answers.specs.declared.status.Status.TheVariants.{ReadFault}
-use Rattle.job_answers.specs.declared.answer.Stop.{Stop}
-use Rattle.job_answers.specs.declared.answer.Stop.TheVariants.{Ended, NoMemory}
+use Rattle.job_answers.specs.declared.stop.Stop.{Stop}
+use Rattle.job_answers.specs.declared.stop.Stop.TheVariants.{Ended, NoMemory}
 use Rattle.job_answers.specs.Answers.{ending_of, IfEnds, IfStopped}
 use Rattle.job_answers.specs.Statuses.{IsJobStatus}
-use Rattle.job_answers.specs.Endings.{Ending, IsTextOf, IsRefusal, EndsByFile, IsAdmitted}
+use Rattle.job_answers.specs.Endings.{Ending, IsTextOf, IsRefusal, EndsByFile, IsAdmitted, HasTooManyBytes, IsRefusedWhole}
 use Rattle.job_answers.proofs.EndingLaws.{admitted_ends, job_status_at, file_status}
 use Rattle.session_files.specs.SessionFiles.{IsObsOf, StopsAtObs, StopsAtNav, StopsAtFiles}
 
@@ -71,3 +73,33 @@ at_third told later last base rover nav b r end same again is also stops = inr (
   rover_is = obs_along told later rover r same also;
   stops = file_along told later nav _ end same (file_along later last nav _ end again stops);
 }))
+
+-- ---- a refusal among the files
+one_whole : (told later : List ℕ → Option (List ℕ)) (left : ℕ → Option (List ℕ)) (name other : List ℕ) → Same told later → other ≡ name → IsReadToEnd later left other ⊎ HasTooManyBytes later other → IsReadToEnd told left name ⊎ HasTooManyBytes told name
+one_whole told later left name other same is (inl whole) =
+    let here : IsReadToEnd later left name = subst (λ (n : List ℕ). IsReadToEnd later left n) is whole in
+    inl (subst (λ (o : Option (List ℕ)). IfSome o (λ text. (id : ℕ) × (left id ≡ Some []))) (same name) here)
+one_whole told later left name other same is (inr large) =
+    let here : HasTooManyBytes later name = subst (λ (n : List ℕ). HasTooManyBytes later n) is large in
+    inr (subst (λ (o : Option (List ℕ)). IfSome o (λ bytes. 67108864 < length bytes)) (same name) here)
+
+the_one : (name x : List ℕ) (k : ℕ) → k < length (name ∷ []) → slice_index_or (name ∷ []) k x ≡ x → x ≡ name
+the_one name x zero inside at = sym at
+the_one name x (suc k) inside at = absurd (omega arith)
+
+-- what holds of the file at a place, after others were read, holds among all
+pub refused_at : (told later : List ℕ → Option (List ℕ)) (left : ℕ → Option (List ℕ)) (name : List ℕ) (names : List (List ℕ)) (k : ℕ) (s : Status) → k < length names → slice_index_or names k name ≡ name → Same told later
+    → IsRefusedWhole later left (name ∷ []) s → IsRefusedWhole told left names s
+refused_at told later left name names k s inside at same refused = λ is.
+    let found = refused is in
+    (k, name, inside, at, one_whole told later left name found.1 same (the_one name found.1 found.0 found.2 found.3) found.4)
+
+pub read_along : (told later : List ℕ → Option (List ℕ)) (left : ℕ → Option (List ℕ)) (name : List ℕ) → Same told later → IsReadToEnd later left name → IsReadToEnd told left name
+read_along told later left name same whole = subst (λ (o : Option (List ℕ)). IfSome o (λ text. (id : ℕ) × (left id ≡ Some []))) (same name) whole
+
+pub same_twice : (told later last : List ℕ → Option (List ℕ)) → Same told later → Same later last → Same told last
+same_twice told later last same again = λ name. again name ∙ same name
+
+-- a refusal after all three were read
+pub third_whole : (told : List ℕ → Option (List ℕ)) (left : ℕ → Option (List ℕ)) (base rover nav : List ℕ) (s : Status) → IsReadToEnd told left nav → IsRefusedWhole told left (base ∷ rover ∷ nav ∷ []) s
+third_whole told left base rover nav s whole = λ is. (2, nav, omega arith, refl, inl whole)

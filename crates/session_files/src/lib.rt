@@ -1,9 +1,9 @@
 //! The three files of a session, read one after the other.
 #![tactic(auto)]
 
-ghost use Rattle.std.specs.Prelude.{◌≡◌, ◌≢◌, ◌≤◌, ℕ, List, [], ◌∷◌, length, IfOk, All};
-ghost use Rattle.line_source.specs.Causes.{Rose};
-ghost use Rattle.line_source.specs.Told.{Same, Stays};
+ghost use Rattle.std.specs.Prelude.{◌≡◌, ◌≢◌, ◌≤◌, ℕ, List, [], ◌∷◌, length, IfOk, OnOk, All};
+ghost use Rattle.line_source.specs.Causes.{Rose, OpensAtMost};
+ghost use Rattle.line_source.specs.Told.{Same, Stays, IsReadToEnd};
 ghost use Rattle.line_source.specs.Lines.{lines_of};
 ghost use Rattle.rinex_obs.specs.ObsForm.{IsObsFile, HasObsFile};
 ghost use Rattle.rinex_obs.specs.ObsRules.{obs_of};
@@ -11,7 +11,7 @@ ghost use Rattle.rinex_nav.specs.NavForm.{IsNavFile, HasNavFile};
 ghost use Rattle.rinex_nav.specs.NavRules.{nav_of};
 ghost use Rattle.eph_store.specs.Records.{AreFit};
 ghost use Rattle.job_answers.specs.Answers.{IfStopped};
-ghost use Rattle.job_answers.specs.Endings.{IsRefusal};
+ghost use Rattle.job_answers.specs.Endings.{IsRefusal, IsRefusedWhole};
 ghost use Rattle.session_files.specs.SessionFiles.{IsObsOf, IsNavOf, StopsAtObs, StopsAtNav, StopsAtFiles, AreFilesOf};
 
 use eph_store::NavFile;
@@ -58,10 +58,14 @@ fn nav_in(alloc: Global, name: &str, text: &[u8]) -> Result<NavFile, Stop>
     }
 }
 
-/// The observation file of a job, or the job's end where it can't be had or is none. Its text is not kept.
+/// The observation file of a job, or the job's end where it can't be had or is none. Its text is not kept. It is opened
+/// once, and refused only after it was read to its end.
 pub fn obs_file<F: Files>(alloc: Global, files: &mut F, name: &str) -> Result<ObsFile, Stop>
     ensures read { IfOk result (λ file. IsObsOf (F.text_of files.old) name.now file) }
     ensures stopped { IfStopped result (λ end. StopsAtObs (F.text_of files.old) name.now end) }
+    ensures whole { OnOk result (IsReadToEnd (F.text_of files.old) (F.unread files.new) name.now) }
+    ensures refused { IfStopped result (λ end. IsRefusedWhole (F.text_of files.old) (F.unread files.new) (name.now ∷ []) end.status) }
+    ensures opened { OpensAtMost 1 (F.opened files.old) (F.opened files.new) }
     ensures cause { F.faults files.old ≤ F.faults files.new }
     ensures fault { IfStopped result (λ end. end.status ≡ Status.ReadFault → Rose (F.faults files.old) (F.faults files.new)) }
     ensures sure { F.is_sure_name files.old name.now → IfStopped result (λ end. end.status ≢ Status.ReadFault) }
@@ -80,6 +84,9 @@ pub fn obs_file<F: Files>(alloc: Global, files: &mut F, name: &str) -> Result<Ob
 fn nav_file<F: Files>(alloc: Global, files: &mut F, name: &str) -> Result<NavFile, Stop>
     ensures read { IfOk result (λ file. IsNavOf (F.text_of files.old) name.now file) }
     ensures stopped { IfStopped result (λ end. StopsAtNav (F.text_of files.old) name.now end) }
+    ensures whole { OnOk result (IsReadToEnd (F.text_of files.old) (F.unread files.new) name.now) }
+    ensures refused { IfStopped result (λ end. IsRefusedWhole (F.text_of files.old) (F.unread files.new) (name.now ∷ []) end.status) }
+    ensures opened { OpensAtMost 1 (F.opened files.old) (F.opened files.new) }
     ensures cause { F.faults files.old ≤ F.faults files.new }
     ensures fault { IfStopped result (λ end. end.status ≡ Status.ReadFault → Rose (F.faults files.old) (F.faults files.new)) }
     ensures sure { F.is_sure_name files.old name.now → IfStopped result (λ end. end.status ≢ Status.ReadFault) }
@@ -90,8 +97,8 @@ fn nav_file<F: Files>(alloc: Global, files: &mut F, name: &str) -> Result<NavFil
     }
 }
 
-/// Reads the three files in this order, each whole before the next, or stops at the first that can't be had or is none of
-/// its form.
+/// Reads the three files in this order, each whole before the next and opened once, or stops at the first that can't be had
+/// or is none of its form.
 pub fn read_session<F: Files>(
     alloc: Global,
     files: &mut F,
@@ -101,6 +108,9 @@ pub fn read_session<F: Files>(
 ) -> Result<SessionFiles, Stop>
     ensures read { IfOk result (λ s. AreFilesOf (F.text_of files.old) base.now rover.now nav.now s.base s.rover s.nav) }
     ensures stopped { IfStopped result (λ end. StopsAtFiles (F.text_of files.old) base.now rover.now nav.now end) }
+    ensures whole { OnOk result (IsReadToEnd (F.text_of files.old) (F.unread files.new) nav.now) }
+    ensures refused { IfStopped result (λ end. IsRefusedWhole (F.text_of files.old) (F.unread files.new) (base.now ∷ rover.now ∷ nav.now ∷ []) end.status) }
+    ensures opened { OpensAtMost 3 (F.opened files.old) (F.opened files.new) }
     ensures fault { IfStopped result (λ end. end.status ≡ Status.ReadFault → Rose (F.faults files.old) (F.faults files.new)) }
     ensures sure { All (F.is_sure_name files.old) (base.now ∷ rover.now ∷ nav.now ∷ []) → IfStopped result (λ end. end.status ≢ Status.ReadFault) }
 {

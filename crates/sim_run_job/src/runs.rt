@@ -1,5 +1,6 @@
-//! A made-up session from its texts to its answer.
+//! A simulated session from its texts to its answer.
 ghost use Rattle.std.specs.Prelude.{◌≡◌, ◌≢◌, ◌≤◌, ℕ, List, [], Some, IfOk, codes, string_bytes};
+ghost use Rattle.job_answers.specs.Statuses.{IsVerdictStatus};
 ghost use Rattle.job_answers.specs.Answers.{ending_of, IfEnded};
 ghost use Rattle.job_answers.specs.Endings.{ending};
 ghost use Rattle.run_options.specs.Defaults.{AreDefaults};
@@ -61,7 +62,8 @@ fn files_of(
 
 // Done for a fix, else declined.
 fn status_of(answer: &Found) -> Status
-    ensures { result ≡ status_of answer.now }
+    ensures value { result ≡ status_of answer.now }
+    ensures verdict { IsVerdictStatus result }
 {
     if is_fixed(answer) {
         Status::Done

@@ -1,10 +1,10 @@
 //! The command `zero`: whether the number that a file claims is strictly best for its differences.
 #![tactic(auto)]
 
-ghost use Rattle.std.specs.Prelude.{◌≡◌, ◌≢◌, ◌≤◌, length, IfOk};
-ghost use Rattle.line_source.specs.Causes.{Rose};
+ghost use Rattle.std.specs.Prelude.{◌≡◌, ◌≢◌, ◌≤◌, length, IfOk, ◌∷◌, []};
+ghost use Rattle.line_source.specs.Causes.{Rose, OpensAtMost};
 ghost use Rattle.job_answers.specs.Answers.{ending_of, IfEnded};
-ghost use Rattle.job_answers.specs.Endings.{EndsByFile};
+ghost use Rattle.job_answers.specs.Endings.{EndsByFile, IsRefusedWhole};
 ghost use Rattle.zero_job.specs.Zero.{ZeroEnds, IsVerdictOf};
 
 use job_answers::{Answer, Status, Stop, load_file, refused};
@@ -45,6 +45,8 @@ fn answer_text(alloc: Global, name: &str, text: &[u8]) -> Result<Answer, Stop>
 /// Whether the number that the file claims is strictly best for its differences.
 pub fn zero<F: Files>(alloc: Global, files: &mut F, name: &str) -> Result<Answer, Stop>
     ensures ends { IfEnded result (λ end. EndsByFile (F.text_of files.old) name.now (ZeroEnds name.now) end) }
+    ensures refused { IfEnded result (λ end. IsRefusedWhole (F.text_of files.old) (F.unread files.new) (name.now ∷ []) end.status) }
+    ensures opened { OpensAtMost 1 (F.opened files.old) (F.opened files.new) }
     ensures cause { F.faults files.old ≤ F.faults files.new }
     ensures fault { IfEnded result (λ end. end.status ≡ Status.ReadFault → Rose (F.faults files.old) (F.faults files.new)) }
     ensures sure { F.is_sure_name files.old name.now → IfEnded result (λ end. end.status ≢ Status.ReadFault) }

@@ -1,5 +1,5 @@
-use Rattle.std.proofs.Common.{arith}
-use Rattle.session_files.proofs.FileLaws.{ends_weaker, at_rover, at_third}
+use Rattle.std.proofs.Common.{arith, refl, [], ◌∷◌, ℕ, Option, sym, subst}
+use Rattle.session_files.proofs.FileLaws.{ends_weaker, at_rover, at_third, refused_at, same_twice, read_along}
 use Rattle.session_files.proofs.read_session.Goals as goal
 
 pub returns-in-Err-obs_file-clause-stopped : goal.returns-in-Err-obs_file-clause-stopped
@@ -13,3 +13,15 @@ returns-in-Err-nav_file-clause-stopped g c = ends_weaker c.in-Err-nav_file.stop 
 pub returns-in-Err-nav_file-clause-sure : goal.returns-in-Err-nav_file-clause-sure
 returns-in-Err-nav_file-clause-sure g c = λ all.
     c.in-Err-nav_file.ensures.sure (c.in-Ok-obs_file.ensures.sure_names _ (c.in-Ok.ensures.sure_names _ (all 2 c.args.nav.now (omega arith))))
+
+pub returns-in-Err-clause-refused : goal.returns-in-Err-clause-refused
+returns-in-Err-clause-refused g c = ends_weaker c.in-Err.stop _ _
+    (λ end refused. refused_at _ _ _ c.args.base.now (c.args.base.now ∷ c.args.rover.now ∷ c.args.nav.now ∷ []) 0 end.status (omega arith) refl (λ name. refl) refused) c.in-Err.ensures.refused
+
+pub returns-in-Err-obs_file-clause-refused : goal.returns-in-Err-obs_file-clause-refused
+returns-in-Err-obs_file-clause-refused g c = ends_weaker c.in-Err-obs_file.stop _ _
+    (λ end refused. refused_at _ _ _ c.args.rover.now (c.args.base.now ∷ c.args.rover.now ∷ c.args.nav.now ∷ []) 1 end.status (omega arith) refl c.in-Ok.ensures.texts refused) c.in-Err-obs_file.ensures.refused
+
+pub returns-in-Err-nav_file-clause-refused : goal.returns-in-Err-nav_file-clause-refused
+returns-in-Err-nav_file-clause-refused g c = ends_weaker c.in-Err-nav_file.stop _ _
+    (λ end refused. refused_at _ _ _ c.args.nav.now (c.args.base.now ∷ c.args.rover.now ∷ c.args.nav.now ∷ []) 2 end.status (omega arith) refl (same_twice _ _ _ c.in-Ok.ensures.texts c.in-Ok-obs_file.ensures.texts) refused) c.in-Err-nav_file.ensures.refused

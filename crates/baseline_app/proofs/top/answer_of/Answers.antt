@@ -1,8 +1,10 @@
-use Rattle.std.proofs.Common.{rules, ◌≡◌, ◌≢◌, inl, inr, [], All, subst}
+use Rattle.std.proofs.Common.{rules, ◌≡◌, ◌≢◌, inl, inr, [], All, length, ap, sym, subst}
+use Rattle.line_source.specs.Causes.{OpensAtMost}
+use Rattle.line_source.proofs.Openings.{none_at_most}
 use Rattle.job_answers.specs.declared.status.Status.TheVariants.{Usage, ReadFault}
 use Rattle.job_answers.specs.Texts.{usage_line}
-use Rattle.job_answers.specs.Endings.{ending}
-use Rattle.job_answers.specs.declared.answer.Stop.{Stop}
+use Rattle.job_answers.specs.Endings.{ending, IsRefusedWhole}
+use Rattle.job_answers.specs.declared.stop.Stop.{Stop}
 use Rattle.job_answers.specs.Answers.{ending_of, IfEnds}
 use Rattle.command_words.specs.declared.jobs.Job.{Job}
 use Rattle.command_words.specs.Words.{texts_of, file_words, IsJob}
@@ -22,3 +24,15 @@ returns-in-Ok-do_job-clause-sure g c = λ job asked sure.
 pub returns-in-Err-Ended-clause-sure : goal.returns-in-Err-Ended-clause-sure
 returns-in-Err-Ended-clause-sure g c = λ job asked sure.
     subst (λ (s : Stop). IfEnds s (λ end. end.status ≢ ReadFault)) c.in-Err-Ended.field-0-is (c.in-Err-Ended.ensures.sure (subst (λ (j : Job). All (g.F.Files.is_sure_name c.args.files.now) (file_words j)) (one_job (texts_of c.args.words.now) job c.in-Ok.job asked c.in-Ok.ensures.job) sure))
+
+pub returns-in-Err-Usage-clause-refused : goal.returns-in-Err-Usage-clause-refused
+returns-in-Err-Usage-clause-refused g c = λ job asked. absurd (c.read_words.ensures.usage (search rules) job asked)
+
+pub returns-in-Ok-do_job-clause-refused : goal.returns-in-Ok-do_job-clause-refused
+returns-in-Ok-do_job-clause-refused g c = λ job asked.
+    subst (λ (j : Job). IsRefusedWhole (g.F.Files.text_of c.args.files.now) (g.F.Files.unread c.do_job.new.files) (file_words j) c.in-Ok-do_job.answer.status) (one_job (texts_of c.args.words.now) c.in-Ok.job job c.in-Ok.ensures.job asked) c.in-Ok-do_job.ensures.refused
+
+pub returns-in-Err-Ended-clause-refused : goal.returns-in-Err-Ended-clause-refused
+returns-in-Err-Ended-clause-refused g c = λ job asked.
+    subst (λ (j : Job). IsRefusedWhole (g.F.Files.text_of c.args.files.now) (g.F.Files.unread c.do_job.new.files) (file_words j) c.in-Err-Ended.answer.status) (one_job (texts_of c.args.words.now) c.in-Ok.job job c.in-Ok.ensures.job asked)
+    (subst (λ (s : Stop). IfEnds s (λ end. IsRefusedWhole (g.F.Files.text_of c.args.files.now) (g.F.Files.unread c.do_job.new.files) (file_words c.in-Ok.job) end.status)) c.in-Err-Ended.field-0-is c.in-Err-Ended.ensures.refused)

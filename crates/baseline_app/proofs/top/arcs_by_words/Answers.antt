@@ -1,5 +1,6 @@
 use Rattle.std.proofs.Common.{ℕ, List, [], ◌∷◌, All, sym, subst}
 use Rattle.job_answers.specs.Answers.{IfEnded}
+use Rattle.job_answers.specs.Endings.{IsRefusedWhole}
 use Rattle.arcs_job.specs.ArcJobs.{ArcsEnds}
 use Rattle.baseline_app.proofs.top.arcs_by_words.Goals as goal
 
@@ -14,3 +15,9 @@ returns-clause-sure g c = λ all. c.arcs.ensures.sure
     (subst (λ (b : List ℕ). All (g.F.Files.is_sure_name c.args.files.now) (b ∷ c.as_str-2.result.now ∷ c.as_str-3.result.now ∷ [])) (sym c.as_str.ensures)
     (subst (λ (r : List ℕ). All (g.F.Files.is_sure_name c.args.files.now) (c.args.base.now ∷ r ∷ c.as_str-3.result.now ∷ [])) (sym c.as_str-2.ensures)
     (subst (λ (n : List ℕ). All (g.F.Files.is_sure_name c.args.files.now) (c.args.base.now ∷ c.args.rover.now ∷ n ∷ [])) (sym c.as_str-3.ensures) all)))
+
+pub returns-clause-refused : goal.returns-clause-refused
+returns-clause-refused g c =
+    subst (λ (b : List ℕ). IfEnded c.arcs.result (λ end. IsRefusedWhole (g.F.Files.text_of c.args.files.now) (g.F.Files.unread c.arcs.new.files) (b ∷ c.args.rover.now ∷ c.args.nav.now ∷ []) end.status)) c.as_str.ensures
+    (subst (λ (r : List ℕ). IfEnded c.arcs.result (λ end. IsRefusedWhole (g.F.Files.text_of c.args.files.now) (g.F.Files.unread c.arcs.new.files) (c.as_str.result.now ∷ r ∷ c.args.nav.now ∷ []) end.status)) c.as_str-2.ensures
+    (subst (λ (n : List ℕ). IfEnded c.arcs.result (λ end. IsRefusedWhole (g.F.Files.text_of c.args.files.now) (g.F.Files.unread c.arcs.new.files) (c.as_str.result.now ∷ c.as_str-2.result.now ∷ n ∷ []) end.status)) c.as_str-3.ensures c.arcs.ensures.refused))

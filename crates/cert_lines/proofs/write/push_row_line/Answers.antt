@@ -1,10 +1,10 @@
-use Rattle.std.proofs.Common.{◌≡◌, ℤ, w64, to_z, of_z, arith}
+use Rattle.std.proofs.Common.{◌≡◌, w64, to_z, of_z, arith}
 use Rattle.std.proofs.lemmas.Int.{ints}
 use Rattle.cert_lines.proofs.Appends.{row_appended}
 use Rattle.cert_lines.proofs.write.push_row_line.Goals as goal
 
-pub returns : goal.returns
-returns c =
+pub returns-clause-text : goal.returns-clause-text
+returns-clause-text c =
     let r = c.args.row.now in
     let low = r.ry_in.0 in
     let high = r.ry_in.1 in

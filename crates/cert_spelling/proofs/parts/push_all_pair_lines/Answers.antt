@@ -1,5 +1,20 @@
+use Rattle.std.proofs.Common.{List, All, subst}
+use Rattle.std.proofs.lemmas.List.{take_all}
+use Rattle.std.proofs.lemmas.List.Elements.{All-more}
+use Rattle.obs_rows.specs.declared.pair_rows.PairRows.{PairRows}
+use Rattle.cert_lines.specs.Lengths.{IsWholePair}
 use Rattle.cert_spelling.proofs.Texts.{pair_pushed}
 use Rattle.cert_spelling.proofs.parts.push_all_pair_lines.Goals as goal
 
 pub loop-pair-preserved : goal.loop-pair-preserved
-loop-pair-preserved c = pair_pushed c.loop-pair.out.items c.push_pair_lines.new.out.items _ c.args.pairs.now c.loop-pair.pair-index c.pair-item.result c.loop-pair-test.true c.pair-item.is c.in_ok-push_pair_lines.ensures c.loop-pair.invariant
+loop-pair-preserved c =
+    let pairs = c.args.pairs.now in
+    let i = c.loop-pair.pair-index in
+    let p = c.pair-item.result in
+    record {
+      text = pair_pushed c.loop-pair.out.items c.push_pair_lines.new.out.items _ pairs i p c.loop-pair-test.true c.pair-item.is c.in_ok-push_pair_lines.ensures.text c.loop-pair.invariant.text;
+      whole = All-more IsWholePair pairs i p c.loop-pair-test.true c.loop-pair.invariant.whole (subst IsWholePair c.pair-item.is c.in_ok-push_pair_lines.ensures.whole);
+    }
+
+pub returns-clause-whole : goal.returns-clause-whole
+returns-clause-whole c = subst (λ (pairs : List PairRows). All IsWholePair pairs) (take_all c.loop-pair.pair-index c.args.pairs.now c.loop-pair-test.false) c.loop-pair.invariant.whole

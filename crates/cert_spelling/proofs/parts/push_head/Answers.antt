@@ -4,8 +4,8 @@ use Rattle.cert_spelling.specs.Spelling.{form_line}
 use Rattle.cert_spelling.proofs.Texts.{then_lines, then_written}
 use Rattle.cert_spelling.proofs.parts.push_head.Goals as goal
 
-pub returns : goal.returns
-returns c =
+pub returns-clause-text : goal.returns-clause-text
+returns-clause-text c =
     let o = c.args.out.now.items in
     let ratio = count_line (codes "ratio") c.args.ratio in
     let budget = count_line (codes "budget") c.args.budget in

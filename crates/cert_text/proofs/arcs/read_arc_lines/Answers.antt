@@ -6,7 +6,7 @@ use Rattle.obs_rows.specs.declared.arcs.Arc.{Arc}
 use Rattle.obs_rows.specs.Arcs.{IsArcInRange, free_count}
 use Rattle.rinex_head.specs.Walk.{rest_gives}
 use Rattle.cert_spelling.specs.Spelling.{arc_lines}
-use Rattle.cert_text.specs.Lengths.{IsWholeArc}
+use Rattle.cert_lines.specs.Lengths.{IsWholeArc}
 use Rattle.cert_text.specs.Rules.{cert_rules, before_arcs, free_by}
 use Rattle.cert_text.proofs.ArcSteps.{arcs_took, free_push, few_stand, some_stand}
 use Rattle.cert_text.proofs.arcs.read_arc_lines.Goals as goal

@@ -2,7 +2,7 @@ use Rattle.std.proofs.Common.{◌≡◌, ◌+◌, ◌≤◌, ◌⊎◌, ◌++◌
 use Rattle.rinex_head.specs.Walk.{rest_gives}
 use Rattle.obs_rows.specs.Arcs.{IsArcInRange, free_count}
 use Rattle.cert_spelling.specs.Spelling.{arc_lines}
-use Rattle.cert_text.specs.Lengths.{IsWholeArc}
+use Rattle.cert_lines.specs.Lengths.{IsWholeArc}
 use Rattle.cert_text.specs.Rules.{cert_rules, before_arcs}
 use Rattle.cert_text.proofs.arcs.read_arc_lines.Given as goal
 

@@ -6,7 +6,7 @@ use Rattle.obs_rows.specs.declared.pair_rows.PairRows.{PairRows}
 use Rattle.rinex_head.proofs.Walks.{handed_on}
 use Rattle.cert_spelling.specs.Spelling.{all_pair_lines}
 use Rattle.std.proofs.lemmas.List.Elements.{All-push}
-use Rattle.cert_text.specs.Lengths.{IsWholePair}
+use Rattle.cert_lines.specs.Lengths.{IsWholePair}
 use Rattle.cert_text.proofs.PairSteps.{pairs_took, pairs_below}
 use Rattle.cert_text.proofs.pairs.read_all_pairs.Goals as goal
 

@@ -1,7 +1,7 @@
 use Rattle.std.proofs.Common.{◌≡◌, ◌+◌, ◌<◌, ◌++◌, ℕ, length, All}
 use Rattle.rinex_head.specs.Walk.{rest_gives}
 use Rattle.cert_spelling.specs.Spelling.{all_pair_lines}
-use Rattle.cert_text.specs.Lengths.{IsWholePair}
+use Rattle.cert_lines.specs.Lengths.{IsWholePair}
 use Rattle.cert_text.specs.Rules.{cert_rules, before_pairs}
 use Rattle.cert_text.proofs.pairs.read_all_pairs.Given as goal
 

@@ -5,7 +5,7 @@ use Rattle.std.proofs.lemmas.List.Elements.{All-push}
 use Rattle.obs_rows.specs.declared.rows.Row.{Row}
 use Rattle.obs_rows.specs.Arcs.{IsOfPair}
 use Rattle.cert_lines.specs.Lines.{row_lines}
-use Rattle.cert_text.specs.Lengths.{IsWholeRow}
+use Rattle.cert_lines.specs.Lengths.{IsWholeRow}
 use Rattle.cert_text.proofs.PairSteps.{rows_took, rows_below}
 use Rattle.cert_text.proofs.pairs.read_rows.Goals as goal
 

@@ -3,7 +3,7 @@ use Rattle.rinex_head.specs.Walk.{rest_gives}
 use Rattle.obs_rows.specs.Arcs.{IsOfPair}
 use Rattle.obs_rows.specs.Rows.{AreBelow}
 use Rattle.cert_lines.specs.Lines.{row_lines}
-use Rattle.cert_text.specs.Lengths.{IsWholeRow}
+use Rattle.cert_lines.specs.Lengths.{IsWholeRow}
 use Rattle.cert_text.specs.Rules.{cert_rules, before_rows}
 use Rattle.cert_text.proofs.pairs.read_rows.Given as goal
 

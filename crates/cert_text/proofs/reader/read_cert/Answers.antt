@@ -10,7 +10,7 @@ use Rattle.rinex_head.specs.Walk.{rest_gives}
 use Rattle.rinex_head.proofs.Walks.{gives_same}
 use Rattle.cert_text.specs.Rules.{cert_rules, Form}
 use Rattle.cert_text.proofs.Accepted.{refused_text}
-use Rattle.cert_text.specs.Lengths.{IsWhole}
+use Rattle.cert_spelling.specs.Lengths.{IsWhole}
 use Rattle.cert_text.proofs.SameSpelling.{spelling_same}
 use Rattle.cert_text.proofs.FeedLaws.{cert_feed}
 use Rattle.cert_text.proofs.reader.read_cert.Goals as goal

@@ -1,0 +1,102 @@
+// How a job stops, and the ends of all jobs whose file isn't read.
+ghost use Rattle.std.specs.Prelude.{◌≡◌, ◌≢◌, ◌≤◌, [], ◌∷◌, length, vec_len, IfOk, OnOk, string_bytes};
+ghost use Rattle.line_source.specs.Causes.{Rose, OpensAtMost};
+ghost use Rattle.line_source.specs.Told.{Same, Stays, IsReadToEnd};
+ghost use Rattle.job_answers.specs.Statuses.{IsVerdictStatus};
+ghost use Rattle.job_answers.specs.declared.stop.Stop.TheVariants.{NoMemory};
+ghost use Rattle.job_answers.specs.Texts.{refusal_line, too_large_line, read_fault_line};
+ghost use Rattle.job_answers.specs.Endings.{ending, IsTextOf, EndsUnloaded, IsRefusedWhole};
+ghost use Rattle.job_answers.specs.Answers.{ending_of, IfEnds, IfStopped};
+
+use crate::{Answer, Status};
+use line_source::{Files, LoadFault, load};
+use rinex_head::At;
+use std::alloc::{AllocError, Global};
+
+/// Why a job is not done to its end: it ends before, or memory was refused.
+#[derive(Drop)]
+pub enum Stop {
+    Ended(Answer),
+    NoMemory,
+}
+
+impl From<AllocError> for Stop {
+    ghost from_gives = { λ _ stop. stop ≡ NoMemory };
+
+    fn from(_: AllocError) -> Stop {
+        Stop::NoMemory
+    }
+}
+
+impl Answer {
+    /// A text for out alone, of a verdict.
+    pub fn on_out(alloc: Global, status: Status, out: String) -> Answer
+        requires { IsVerdictStatus status }
+        ensures { ending_of result ≡ ending status (string_bytes out) [] }
+    {
+        Answer {
+            status,
+            out: out.into_bytes(),
+            err: Vec::new(alloc),
+        }
+    }
+
+    /// A text for err alone.
+    pub fn on_err(alloc: Global, status: Status, err: String) -> Answer
+        ensures { ending_of result ≡ ending status [] (string_bytes err) }
+    {
+        Answer {
+            status,
+            out: Vec::new(alloc),
+            err: err.into_bytes(),
+        }
+    }
+}
+
+/// The end of a job whose file is refused at that place.
+pub fn refused(alloc: Global, name: &str, at: At) -> Result<Answer, AllocError>
+    ensures { IfOk result (λ a. ending_of a ≡ ending Status.Refused [] (refusal_line name.now at)) }
+{
+    let line = at.line;
+    let column = at.column;
+    let text = at.what.text();
+    let err = format!(in alloc; "refused: {name} line {line} column {column}: {text}\n")?;
+    Ok(Answer::on_err(alloc, Status::Refused, err))
+}
+
+/// The end of a job whose file has more bytes than are read.
+pub fn too_large(alloc: Global, name: &str) -> Result<Answer, AllocError>
+    ensures { IfOk result (λ a. ending_of a ≡ ending Status.Refused [] (too_large_line name.now)) }
+{
+    let err = format!(in alloc; "refused: {name}: file too large\n")?;
+    Ok(Answer::on_err(alloc, Status::Refused, err))
+}
+
+/// The end of a job whose file could not be read.
+pub fn read_fault(alloc: Global, name: &str) -> Result<Answer, AllocError>
+    ensures { IfOk result (λ a. ending_of a ≡ ending Status.ReadFault [] (read_fault_line name.now)) }
+{
+    let err = format!(in alloc; "read fault: {name}\n")?;
+    Ok(Answer::on_err(alloc, Status::ReadFault, err))
+}
+
+/// The whole file of a job, which is opened once, or the job's end where it can't be had.
+pub fn load_file<F: Files>(alloc: Global, files: &mut F, name: &str) -> Result<Vec<u8>, Stop>
+    ensures text { IfOk result (λ v. IsTextOf (F.text_of files.old) name.now v.items) }
+    ensures stopped { IfStopped result (λ end. EndsUnloaded (F.text_of files.old) name.now end) }
+    ensures whole { OnOk result (IsReadToEnd (F.text_of files.old) (F.unread files.new) name.now) }
+    ensures refused { IfStopped result (λ end. IsRefusedWhole (F.text_of files.old) (F.unread files.new) (name.now ∷ []) end.status) }
+    ensures opened { OpensAtMost 1 (F.opened files.old) (F.opened files.new) }
+    ensures cause { F.faults files.old ≤ F.faults files.new }
+    ensures fault { IfStopped result (λ end. end.status ≡ Status.ReadFault → Rose (F.faults files.old) (F.faults files.new)) }
+    ensures sure { F.is_sure_name files.old name.now → IfStopped result (λ end. end.status ≢ Status.ReadFault) }
+    ensures texts { Same (F.text_of files.old) (F.text_of files.new) }
+    ensures sure_names { Stays (F.is_sure_name files.old) (F.is_sure_name files.new) }
+{
+    match load(alloc, files, name) {
+        Ok(text) => Ok(text),
+        Err(LoadFault::BigFile) => Err(Stop::Ended(too_large(alloc, name)?)),
+        Err(LoadFault::ReadFault) => Err(Stop::Ended(read_fault(alloc, name)?)),
+        Err(LoadFault::NoMemory) => Err(Stop::NoMemory),
+    }
+}
