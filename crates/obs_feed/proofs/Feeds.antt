@@ -61,7 +61,7 @@ module _ (system : System) where
 
   -- ---- one more line
 
-  pub gives_step : (n : ℕ) (line bytes front behind : List ℕ) (s next : Expected) → EndsLine bytes front behind → admitted (obs_rules system) s (strip_carriage_return (line ++ front)) ≡ Ok next → (more : List ℕ) → gives_with system n line s (bytes ++ more) ≡ gives_with (n + 1) [] next (behind ++ more)
+  pub gives_step : (n : ℕ) (line bytes front behind : List ℕ) (s next : Expected) → EndsLine bytes front behind → admitted (obs_rules system) s (strip_carriage_return (line ++ front)) ≡ Ok next → (more : List ℕ) → gives_with system n line s (bytes ++ more) ≡ gives_with system (n + 1) [] next (behind ++ more)
   unfolding walk
   gives_step n line bytes front behind s next ends is more = rw (ends line more, is) refl
 

@@ -213,7 +213,7 @@ module _ (system : System) where
     lines_are : lines ≡ head_lines after ++ (last ∷ rest)
     are : AreHeadParts system after
     last_short : length last ≤ 4096
-    ends : header_line_of last ≡ Ok header.End
+    ends : header_line_of system last ≡ Ok header.End
     number : ℕ
     gives : walk (obs_rules system) rest number (Body (whole_header (so_far system hundredths (last_position position after) (last_delta delta after) (Some types)) types) []) ≡ Ok whole
 

@@ -193,7 +193,6 @@ impl Taker for Feed {
 
     /// Takes the next piece. Behind a line that is refused it drops what follows. After a want of memory it answers so
     /// again, and so does `finish`.
-    #[tactic(auto, using(crate::proofs::Feeds::fed_more))]
     fn take(&mut self, piece: &[u8]) -> Result<(), AllocError>
         requires { self.old.taken + length piece.now ≤ 67108864 }
         ensures counted { OnOk result (self.new.taken ≡ self.old.taken + length piece.now) }

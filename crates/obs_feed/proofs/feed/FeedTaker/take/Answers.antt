@@ -1,0 +1,17 @@
+use Rattle.std.proofs.Common.{subst}
+use Rattle.obs_feed.specs.declared.feed.FeedState.{FeedState}
+use Rattle.obs_feed.specs.Fed.{StandsFor, gives_behind}
+use Rattle.obs_feed.proofs.Feeds.{fed_more}
+use Rattle.obs_feed.proofs.feed.FeedTaker.take.Goals as goal
+
+pub returns-in-Ok-clause-stands : goal.returns-in-Ok-clause-stands
+returns-in-Ok-clause-stands c = λ text stands.
+    let system = c.args.self.now.system in
+    let taken = c.args.self.now.taken in
+    fed_more system (gives_behind system c.in-Open.text) (gives_behind system c.take.new.self) taken text c.args.piece.now (c.in-Ok.ensures.takes system) (subst (λ (s : FeedState). StandsFor system s taken text) c.in-Open.is stands)
+
+pub returns-in-Err-Refused-clause-stands : goal.returns-in-Err-Refused-clause-stands
+returns-in-Err-Refused-clause-stands c = λ text stands.
+    let system = c.args.self.now.system in
+    let taken = c.args.self.now.taken in
+    fed_more system (gives_behind system c.in-Open.text) _ taken text c.args.piece.now (c.in-Err-Refused.ensures.takes system) (subst (λ (s : FeedState). StandsFor system s taken text) c.in-Open.is stands)
