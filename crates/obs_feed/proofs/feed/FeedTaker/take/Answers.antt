@@ -1,5 +1,7 @@
-use Rattle.std.proofs.Common.{subst}
+use Rattle.std.proofs.Common.{subst, Err}
+use Rattle.rinex_head.specs.declared.place.TextFault.{TextFault}
 use Rattle.obs_feed.specs.declared.feed.FeedState.{FeedState}
+use Rattle.obs_feed.specs.Feeding.{TakesAll}
 use Rattle.obs_feed.specs.Fed.{StandsFor, gives_behind}
 use Rattle.obs_feed.proofs.Feeds.{fed_more}
 use Rattle.obs_feed.proofs.feed.FeedTaker.take.Goals as goal
@@ -14,4 +16,5 @@ pub returns-in-Err-Refused-clause-stands : goal.returns-in-Err-Refused-clause-st
 returns-in-Err-Refused-clause-stands c = λ text stands.
     let system = c.args.self.now.system in
     let taken = c.args.self.now.taken in
-    fed_more system (gives_behind system c.in-Open.text) _ taken text c.args.piece.now (c.in-Err-Refused.ensures.takes system) (subst (λ (s : FeedState). StandsFor system s taken text) c.in-Open.is stands)
+    let refused = subst (λ (fault : TextFault). TakesAll c.args.piece.now (gives_behind system c.in-Open.text) (gives_behind system c.take.new.self) (Err fault)) c.in-Err-Refused.field-0-is (c.in-Err-Refused.ensures.takes system) in
+    fed_more system (gives_behind system c.in-Open.text) _ taken text c.args.piece.now refused (subst (λ (s : FeedState). StandsFor system s taken text) c.in-Open.is stands)
