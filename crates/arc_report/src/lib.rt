@@ -1,4 +1,10 @@
 //! What is printed of the arcs of a session.
+//!
+//! Of session_begin, session_files, arc_report: What two files have in common before a run: the base's position, the
+//! codes, the pairs that are taken; or why they are refused, each exactly where it is so (`begin`). An observation
+//! file, read in pieces, or the end of a job where it can't be had or is refused (`obs_file`): a read fault or a file
+//! that is too large comes before a refusal of a line, and the text is not kept. The three files of a session, read
+//! one after the other (`read_session`). The lines of arcs (`write_arcs`).
 #![tactic(auto)]
 
 ghost use Rattle.std.specs.Prelude.{◌≡◌, ◌++◌, OnOk};
@@ -50,39 +56,4 @@ pub fn write_arcs(alloc: Global, out: &mut Vec<u8>, arcs: &Arcs) -> Result<(), A
     write_kept(alloc, out, arcs.kept.as_slice())?;
     write_short(alloc, out, arcs.short)?;
     Ok(())
-}
-
-#[cfg(test)]
-mod tests {
-    use super::*;
-    use obs_rows::ArcList;
-    use std::test::Fail;
-
-    #[test]
-    fn prints_arcs(rt: HostRuntime) -> Result<(), Fail> {
-        let alloc = rt.alloc();
-        let datum = Arc {
-            sat: 3,
-            first: 0,
-            last: 19,
-            datum: true,
-            shift: [0, 0],
-        };
-        let free = Arc {
-            sat: 12,
-            first: 5,
-            last: 9,
-            datum: false,
-            shift: [0, 0],
-        };
-        let arcs = Arcs {
-            kept: ArcList::new(vec![in alloc; datum, free]?),
-            short: 2,
-        };
-        let mut out = Vec::new(alloc);
-        write_arcs(alloc, &mut out, &arcs)?;
-        let want = "arc G03 0 19 datum\narc G12 5 9 free\nshort 2\n";
-        assert_eq!(rt; out.as_slice(), want.as_bytes());
-        Ok(())
-    }
 }

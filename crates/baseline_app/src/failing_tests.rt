@@ -1,9 +1,7 @@
 // A run of `fix` on a made-up session, each of whose calls on the world fails once.
-use crate::fix_tests::named;
-use crate::tests::{Fails, Ran, expect_run, words_of};
-use crate::top::run;
+use crate::tests::{Fails, Ran, expect_run, named, run_over};
 use job_answers::Status;
-use line_source::{MemFiles, MemSink};
+use line_source::MemFiles;
 use sim_session::{Made, make};
 use std::alloc::{AllocError, Global};
 use std::process::Abort;
@@ -13,17 +11,14 @@ const ROOM: usize = 8_000_000;
 
 // A run of `fix` on the three texts, by sinks that take 4,096 bytes a call.
 fn run_fix(alloc: Global, made: &Made, room: usize, fails: Fails) -> Result<Ran, AllocError> {
-    let words = words_of(alloc, &["fix", "B", "R", "N"])?;
+    let words = ["fix", "B", "R", "N"];
     let list = vec![in alloc;
         named(alloc, "B", &made.base)?,
         named(alloc, "R", &made.rover)?,
         named(alloc, "N", &made.nav)?,
     ]?;
     let mut files = MemFiles::new(list, fails.files);
-    let mut out = MemSink::new(alloc, room, 4096, fails.out)?;
-    let mut err = MemSink::new(alloc, 1000, 4096, fails.err)?;
-    let status = run(alloc, &words, &mut files, &mut out, &mut err);
-    Ok(Ran { status, out, err })
+    run_over(alloc, &words, &mut files, room, 4096, fails.out, fails.err)
 }
 
 // The name in the line that tells of a fault of reading, as its place in the words, or 3 for any other text.

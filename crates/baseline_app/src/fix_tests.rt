@@ -1,22 +1,12 @@
 // Runs of `fix` over made-up sessions in memory.
-use crate::tests::{Ran, expect_run, words_of};
-use crate::top::run;
+use crate::tests::{Ran, expect_run, named, run_over};
 use decimal_text::read_fixed;
 use job_answers::Status;
-use line_source::{MemFiles, MemSink, Named};
+use line_source::MemFiles;
 use sim_session::{Made, make};
 use std::alloc::{AllocError, Global};
 use std::process::Abort;
 use std::test::Fail;
-
-// A file of this name.
-pub(crate) fn named(alloc: Global, name: &str, text: &[u8]) -> Result<Named, AllocError> {
-    Ok(Named {
-        name: String::from_str(alloc, name)?,
-        bytes: text.to_vec(alloc)?,
-        at: 0,
-    })
-}
 
 // A run on these files, with room for so many bytes of out.
 fn run_on_files(
@@ -25,11 +15,15 @@ fn run_on_files(
     mut files: MemFiles,
     room: usize,
 ) -> Result<Ran, AllocError> {
-    let words = words_of(alloc, words)?;
-    let mut out = MemSink::new(alloc, room, 4096, Vec::new(alloc))?;
-    let mut err = MemSink::new(alloc, 1000, 7, Vec::new(alloc))?;
-    let status = run(alloc, &words, &mut files, &mut out, &mut err);
-    Ok(Ran { status, out, err })
+    run_over(
+        alloc,
+        words,
+        &mut files,
+        room,
+        4096,
+        Vec::new(alloc),
+        Vec::new(alloc),
+    )
 }
 
 // A run of `fix` on three texts.

@@ -1,8 +1,9 @@
 // Texts that nothing admits, at the place of the first flaw. The texts are written by hand from the forms.
-use crate::tests::{Fails, NAV, Ran, expect_run, run_on, words_of};
-use crate::top::run;
+ghost use Rattle.std.specs.Prelude.{None};
+
+use crate::tests::{Fails, NAV, Ran, expect_run, run_on, run_plainly};
 use job_answers::Status;
-use line_source::{MemFiles, MemSink, Named};
+use line_source::{Failed, FileId, Files};
 use std::alloc::{AllocError, Global};
 use std::process::Abort;
 use std::test::Fail;
@@ -85,69 +86,55 @@ fn empty_epochs(alloc: Global, count: u32) -> Result<String, AllocError> {
     Ok(text)
 }
 
-// One satellite on a line of that many bytes, blank past its name.
-fn wide_line(alloc: Global, width: usize) -> Result<String, AllocError> {
-    let mut text = format!(in alloc; "{HEADER}> 2024 01 01 00 00  0.0000000  0  1\nG05")?;
-    for _ in 3..width {
-        text.push(' ')?;
-    }
-    text.push('\n')?;
-    Ok(text)
-}
-
 #[test]
-fn admits_to_the_limits(rt: HostRuntime) -> Result<(), Fail> {
+fn refuses_too_many_epochs(rt: HostRuntime) -> Result<(), Fail> {
     let alloc = rt.alloc();
-    let one = "version 3.04\nepochs 1\nfirst 13881024000000000\nlast 13881024000000000\n";
-    let ran = list(alloc, &empty_epochs(alloc, 1)?)?;
-    expect_run(&rt, &ran, Status::Done, one, "");
-    let most = "version 3.04\nepochs 20000\nfirst 13881024000000000\nlast 13881223990000000\n";
-    let ran = list(alloc, &empty_epochs(alloc, 20_000)?)?;
-    expect_run(&rt, &ran, Status::Done, most, "");
     let ran = list(alloc, &empty_epochs(alloc, 20_001)?)?;
     let place = "line 20005 column 1: too many epochs or records";
     refused_at(&rt, alloc, &ran, place)?;
-    let wide = "version 3.04\nepochs 1\nfirst 13881024000000000\nlast 13881024000000000\nG05 1\n";
-    let ran = list(alloc, &wide_line(alloc, 4096)?)?;
-    expect_run(&rt, &ran, Status::Done, wide, "");
-    let ran = list(alloc, &wide_line(alloc, 4097)?)?;
-    refused_at(&rt, alloc, &ran, "line 6 column 1: line too long")?;
     Ok(())
 }
 
-// A run of `list` on so many line ends.
-fn list_line_ends(alloc: Global, count: usize) -> Result<Ran, AllocError> {
-    let words = words_of(alloc, &["list", "F"])?;
-    let file = Named {
-        name: String::from_str(alloc, "F")?,
-        bytes: vec![in alloc; b'\n'; count]?,
-        at: 0,
-    };
-    let mut files = MemFiles::new(vec![in alloc; file]?, Vec::new(alloc));
-    let mut out = MemSink::new(alloc, 1000, 7, Vec::new(alloc))?;
-    let mut err = MemSink::new(alloc, 1000, 7, Vec::new(alloc))?;
-    let status = run(alloc, &words, &mut files, &mut out, &mut err);
-    Ok(Ran { status, out, err })
+// One file of so many bytes, which takes no memory.
+#[derive(Drop)]
+struct LongFile {
+    left: usize,
+}
+
+impl Files for LongFile {
+    ghost text_of = { λ _ _. None };
+
+    ghost unread = { λ _ _. None };
+
+    ghost faults = { λ _. 0 };
+
+    ghost is_sure_name = { λ _ _. ⊥ };
+
+    ghost is_sure_id = { λ _ _. ⊥ };
+
+    fn open_file(&mut self, _name: &str) -> Result<FileId, Failed> {
+        Ok(FileId(0))
+    }
+
+    fn read(&mut self, _id: FileId, into: &mut [u8]) -> Result<usize, Failed> {
+        let count = into.len().min(self.left);
+        into[..count].fill(b'\n');
+        self.left -= count;
+        Ok(count)
+    }
 }
 
 #[test]
 fn largest_file(rt: HostRuntime) -> Result<(), Fail> {
     let alloc = rt.alloc();
-    let ran = list_line_ends(alloc, 67_108_864)?;
-    refused_at(
-        &rt,
-        alloc,
-        &ran,
-        "line 1 column 1: version not 3.00 to 3.05",
-    )?;
-    let ran = list_line_ends(alloc, 67_108_865)?;
-    expect_run(
-        &rt,
-        &ran,
-        Status::Refused,
-        "",
-        "refused: F: file too large\n",
-    );
+    let mut most = LongFile { left: 67_108_864 };
+    let ran = run_plainly(alloc, &["list", "F"], &mut most)?;
+    let place = "line 1 column 1: version not 3.00 to 3.05";
+    refused_at(&rt, alloc, &ran, place)?;
+    let mut more = LongFile { left: 67_108_865 };
+    let ran = run_plainly(alloc, &["list", "F"], &mut more)?;
+    let told = "refused: F: file too large\n";
+    expect_run(&rt, &ran, Status::Refused, "", told);
     Ok(())
 }
 

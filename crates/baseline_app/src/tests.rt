@@ -1,7 +1,9 @@
 // Runs over files and sinks in memory. Expected texts are worked out by hand from the form and the sums.
+ghost use Rattle.std.specs.Prelude.{◌<◌};
+
 use crate::top::run;
 use job_answers::Status;
-use line_source::{MemFiles, MemSink, Named, load};
+use line_source::{Files, MemFiles, MemSink, Named, load};
 use sim_session::make;
 use std::alloc::{AllocError, Global};
 use std::process::Abort;
@@ -34,12 +36,21 @@ impl Fails {
     }
 }
 
-pub(crate) fn words_of(alloc: Global, words: &[&str]) -> Result<Vec<String>, AllocError> {
+fn words_of(alloc: Global, words: &[&str]) -> Result<Vec<String>, AllocError> {
     let mut list = Vec::new(alloc);
     for word in words {
         list.push(String::from_str(alloc, *word)?)?;
     }
     Ok(list)
+}
+
+// A file of this name.
+pub(crate) fn named(alloc: Global, name: &str, text: &[u8]) -> Result<Named, AllocError> {
+    Ok(Named {
+        name: String::from_str(alloc, name)?,
+        bytes: text.to_vec(alloc)?,
+        at: 0,
+    })
 }
 
 // One file.
@@ -49,13 +60,44 @@ fn files_of(
     text: &[u8],
     fails: Vec<u64>,
 ) -> Result<MemFiles, AllocError> {
-    let file = Named {
-        name: String::from_str(alloc, name)?,
-        bytes: text.to_vec(alloc)?,
-        at: 0,
-    };
-    let list = vec![in alloc; file]?;
+    let list = vec![in alloc; named(alloc, name, text)?]?;
     Ok(MemFiles::new(list, fails))
+}
+
+// The run of each test, with room for so many bytes of out, by sinks that take so many bytes a call.
+pub(crate) fn run_over<F: Files>(
+    alloc: Global,
+    words: &[&str],
+    files: &mut F,
+    room: usize,
+    most: usize,
+    out_fails: Vec<u64>,
+    err_fails: Vec<u64>,
+) -> Result<Ran, AllocError>
+    requires { 0 < most }
+{
+    let words = words_of(alloc, words)?;
+    let mut out = MemSink::new(alloc, room, most, out_fails)?;
+    let mut err = MemSink::new(alloc, 1000, most, err_fails)?;
+    let status = run(alloc, &words, files, &mut out, &mut err);
+    Ok(Ran { status, out, err })
+}
+
+// A run whose sinks don't fail.
+pub(crate) fn run_plainly<F: Files>(
+    alloc: Global,
+    words: &[&str],
+    files: &mut F,
+) -> Result<Ran, AllocError> {
+    run_over(
+        alloc,
+        words,
+        files,
+        1000,
+        7,
+        Vec::new(alloc),
+        Vec::new(alloc),
+    )
 }
 
 // A run on the file F, by sinks that take 7 bytes a call.
@@ -66,12 +108,8 @@ pub(crate) fn run_on(
     room: usize,
     fails: Fails,
 ) -> Result<Ran, AllocError> {
-    let words = words_of(alloc, words)?;
     let mut files = files_of(alloc, "F", text, fails.files)?;
-    let mut out = MemSink::new(alloc, room, 7, fails.out)?;
-    let mut err = MemSink::new(alloc, 1000, 7, fails.err)?;
-    let status = run(alloc, &words, &mut files, &mut out, &mut err);
-    Ok(Ran { status, out, err })
+    run_over(alloc, words, &mut files, room, 7, fails.out, fails.err)
 }
 
 pub(crate) fn expect_run(rt: &impl Abort, ran: &Ran, status: Status, out: &str, err: &str) {
@@ -224,12 +262,9 @@ fn wrong_words_open_no_file(rt: HostRuntime) -> Result<(), Fail> {
         &["orbit", "F", "G01", "1000000000000000000"],
     ];
     for row in rows {
-        let words = words_of(alloc, row)?;
         let mut files = files_of(alloc, "F", b"", vec![in alloc; 0]?)?;
-        let mut out = MemSink::new(alloc, 1000, 7, Vec::new(alloc))?;
-        let mut err = MemSink::new(alloc, 1000, 7, Vec::new(alloc))?;
-        let status = run(alloc, &words, &mut files, &mut out, &mut err);
-        expect_run(&rt, &Ran { status, out, err }, Status::Usage, "", USAGE);
+        let ran = run_plainly(alloc, row, &mut files)?;
+        expect_run(&rt, &ran, Status::Usage, "", USAGE);
         // the first call on the files is the one that fails, and it is still to come
         assert!(rt; load(alloc, &mut files, "F").is_err());
     }
@@ -240,13 +275,10 @@ fn wrong_words_open_no_file(rt: HostRuntime) -> Result<(), Fail> {
 fn any_name_is_told(rt: HostRuntime) -> Result<(), Fail> {
     let alloc = rt.alloc();
     for name in ["-", "", "a file"] {
-        let words = words_of(alloc, &["zero", name])?;
         let mut files = files_of(alloc, name, b"zero 1\nz 2\ndiff 05\n", Vec::new(alloc))?;
-        let mut out = MemSink::new(alloc, 1000, 7, Vec::new(alloc))?;
-        let mut err = MemSink::new(alloc, 1000, 7, Vec::new(alloc))?;
-        let status = run(alloc, &words, &mut files, &mut out, &mut err);
+        let ran = run_plainly(alloc, &["zero", name], &mut files)?;
         let line = format!(in alloc; "refused: {name} line 3 column 1: bad line\n")?;
-        expect_run(&rt, &Ran { status, out, err }, Status::Refused, "", &line);
+        expect_run(&rt, &ran, Status::Refused, "", &line);
     }
     Ok(())
 }
@@ -492,28 +524,13 @@ fn run_arcs(
     nav: &[u8],
     option: &str,
 ) -> Result<Ran, AllocError> {
-    let words = words_of(alloc, &["arcs", "B", option, "R", "N"])?;
-    let base = Named {
-        name: String::from_str(alloc, "B")?,
-        bytes: base.to_vec(alloc)?,
-        at: 0,
-    };
-    let rover = Named {
-        name: String::from_str(alloc, "R")?,
-        bytes: rover.to_vec(alloc)?,
-        at: 0,
-    };
-    let nav = Named {
-        name: String::from_str(alloc, "N")?,
-        bytes: nav.to_vec(alloc)?,
-        at: 0,
-    };
-    let list = vec![in alloc; base, rover, nav]?;
+    let list = vec![in alloc;
+        named(alloc, "B", base)?,
+        named(alloc, "R", rover)?,
+        named(alloc, "N", nav)?,
+    ]?;
     let mut files = MemFiles::new(list, Vec::new(alloc));
-    let mut out = MemSink::new(alloc, 1000, 7, Vec::new(alloc))?;
-    let mut err = MemSink::new(alloc, 1000, 7, Vec::new(alloc))?;
-    let status = run(alloc, &words, &mut files, &mut out, &mut err);
-    Ok(Ran { status, out, err })
+    run_plainly(alloc, &["arcs", "B", option, "R", "N"], &mut files)
 }
 
 #[test]

@@ -1,4 +1,10 @@
 //! The check of a certificate: its rows are decided again, and its tail is compared with what they say.
+//!
+//! `check` decides the rows of a certificate again and reads nothing of its tail before. Each verdict has its
+//! condition on the rows (`verdict`), and no other verdict's condition holds, but where a search gave up (`only`); it
+//! gives up only where the form of the rows has no reduced count within the budget. So `Certified` comes exactly
+//! where the rows are fixed and the tail says their numbers; and then the tail's first integers with its move are
+//! strictly best for the rows, whoever wrote the text (`strictly_best`).
 #![tactic(auto)]
 
 mod tails;

@@ -1,6 +1,12 @@
-//! Certificates that are checked and shown, against an independent model. There is nothing here but tests.
+//! Certificates that are read, written, checked and shown, against an independent model. There is nothing here but tests.
 #![tactic(auto)]
 
+#[cfg(test)]
+mod cert_lines_tests;
+#[cfg(test)]
+mod cert_text_tests;
+#[cfg(test)]
+mod cert_words_tests;
 #[cfg(test)]
 mod tests;
 #[cfg(test)]

@@ -1,7 +1,7 @@
 // What an independent model says of the same certificates.
 use crate::texts::{MADE_UP, NOTHING, RESIDUALS, SESSION, SMALL, WIDEST};
 use cert_check::check;
-use cert_data::{Answer, Outcome};
+use cert_data::{Answer, Outcome, RoundCounts};
 use cert_report::{write_residuals, write_verdict};
 use cert_text::{Cert, read_cert};
 use outcome_report::{is_fixed, write_outcome};
@@ -140,6 +140,7 @@ fn outcome_is(
         all: 11,
         kept: 5,
         delta: false,
+        rounds: RoundCounts { coarse: 3, fine: 2 },
         answer,
     };
     let mut out = Vec::new(alloc);

@@ -1,4 +1,9 @@
 //! Certificates as text: read by rules, a line at a time, and written.
+//!
+//! `read_cert` answers the certificate whose spelling the text is (`ok`), the only one with that spelling (`only`),
+//! or refuses a text that is the spelling of none (`refused`), at the first line and check that fails (`exact`); want
+//! of memory is told as that alone. So what `write_cert` wrote is read again, and no other text gives it. Two
+//! certificates with one spelling are the same (`one_spelling_law`).
 #![tactic(auto)]
 
 mod arcs;
@@ -17,6 +22,3 @@ pub use cert_spelling::write_cert;
 pub use laws::one_spelling_law;
 pub use reader::read_cert;
 pub use rinex_head::TextFault as CertFault;
-
-#[cfg(test)]
-mod tests;

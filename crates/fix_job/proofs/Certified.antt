@@ -1,5 +1,5 @@
 -- What a run decides as fixed, the rows say again: a check certifies it, or its search gives up.
-use Rattle.std.proofs.Common.{◌≡◌, ◌⊎◌, inl, inr, ℕ, pos, length, ℤ, refl, sym, subst}
+use Rattle.std.proofs.Common.{◌≡◌, ◌⊎◌, inl, inr, ℕ, length, refl, sym, subst}
 use Rattle.obs_store.specs.declared.file.ObsFile.{ObsFile}
 use Rattle.eph_store.specs.File.{Records}
 use Rattle.obs_rows.specs.declared.sessions.Session.{Session}
@@ -7,10 +7,10 @@ use Rattle.cert_data.specs.declared.certs.Cert.{Cert}
 use Rattle.cert_data.specs.declared.tails.Tail.{Tail}
 use Rattle.cert_data.specs.declared.tails.Tail.TheVariants.{Fixed}
 use Rattle.cert_data.specs.declared.outcomes.Outcome.{Outcome}
+use Rattle.cert_data.specs.declared.outcomes.RoundCounts.{RoundCounts}
 use Rattle.cert_data.specs.declared.outcomes.Answer.TheVariants.{Full}
 use Rattle.cert_data.specs.declared.verdicts.Verdict.{Verdict}
 use Rattle.cert_data.specs.declared.verdicts.Verdict.TheVariants.{Certified}
-use Rattle.fix_decide.specs.Decisions.{IsSeparated}
 use Rattle.cert_check.specs.Decided.{Numbers, IsFixed, Says, numbers}
 use Rattle.cert_check.specs.Verdicts.{IsVerdictOf, IsGivenUp}
 use Rattle.cert_check.proofs.OneVerdict.{one_verdict}
@@ -23,8 +23,8 @@ use Rattle.session.specs.Outcomes.{IsOutcome}
 use Rattle.fix_job.specs.FixRuns.{IsFix}
 
 -- the numbers of a decided tail are those of the rows
-decided_again : (rules : Rules) (ratio budget : ℕ) (s : Session) (tail : Tail) (cert : Cert) (fix : IsFix cert) → tail ≡ Fixed fix.h fix.moved fix.best fix.top → EndsFull rules ratio budget s tail → IsFixed s ratio (numbers fix.h fix.moved fix.best fix.top)
-decided_again rules ratio budget s tail cert fix tail_is full = elim (full.1) [
+decided_again : (rules : Rules) (ratio budget : ℕ) (made : RoundCounts) (s : Session) (tail : Tail) (cert : Cert) (fix : IsFix cert) → tail ≡ Fixed fix.h fix.moved fix.best fix.top → EndsFull rules ratio budget made s tail → IsFixed s ratio (numbers fix.h fix.moved fix.best fix.top)
+decided_again rules ratio budget made s tail cert fix tail_is full = elim (full.1) [
   | inl ends ↦ absurd (subst (IsRoundDeclined (is_last s.scale ends.before) s) tail_is ends.declined)
   | inr decides ↦
       let decision = subst (IsDecision s decides.form ratio budget) tail_is decides.decision in
@@ -48,9 +48,9 @@ pub certified_again : (base rover : ObsFile) (nav : Records) (options : Options)
 certified_again base rover nav options outcome cert is full fix =
     let f = is.rounds in
     let rules : Rules = rules_of f.screened.boxes (length f.screened.used) f.kept f.position f.signals in
-    let ends = (subst (IsAnswer rules outcome.taken options) full is.answer_is).1 in
+    let ends = (subst (IsAnswer rules outcome.taken options outcome.rounds) full is.answer_is).1 in
     let d : Numbers = numbers fix.h fix.moved fix.best fix.top in
-    let again : IsFixed cert.session options.ratio d = decided_again rules options.ratio options.budget cert.session cert.tail cert fix fix.tail_is ends.ends in
+    let again : IsFixed cert.session options.ratio d = decided_again rules options.ratio options.budget outcome.rounds cert.session cert.tail cert fix fix.tail_is ends.ends in
     let says : Says cert.tail d = subst (λ (t : Tail). Says t d) (sym fix.tail_is) (record { h_is = refl; moved_is = refl; best_is = record { first_is = refl; second_is = refl; p1_is = refl; p2_is = refl }; top_is = refl }) in
     (d, (subst (λ (n : ℕ). IsFixed cert.session n d) (sym ends.ratio) again, says))
 

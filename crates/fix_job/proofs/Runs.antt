@@ -1,5 +1,5 @@
 -- The session in which a run ends stands for the files.
-use Rattle.std.proofs.Common.{◌≡◌, ◌⊎◌, inl, inr, ℕ, List, length, map, ℤ, subst}
+use Rattle.std.proofs.Common.{◌≡◌, inl, inr, ℕ, length, map, subst}
 use Rattle.obs_store.specs.declared.file.ObsFile.{ObsFile}
 use Rattle.eph_store.specs.File.{Records}
 use Rattle.sv_orbit.specs.Solutions.{gps}
@@ -10,6 +10,7 @@ use Rattle.row_build.specs.Stands.{StandsForFiles}
 use Rattle.cert_data.specs.declared.certs.Cert.{Cert}
 use Rattle.cert_data.specs.declared.tails.Tail.{Tail}
 use Rattle.cert_data.specs.declared.outcomes.Outcome.{Outcome}
+use Rattle.cert_data.specs.declared.outcomes.RoundCounts.{RoundCounts}
 use Rattle.cert_data.specs.declared.outcomes.Answer.TheVariants.{Full}
 use Rattle.round_steps.specs.Runs.{Rules, EndsFull}
 use Rattle.run_options.specs.declared.options.Options.{Options}
@@ -19,8 +20,8 @@ use Rattle.session.specs.Outcomes.{IsOutcome}
 use Rattle.fix_job.specs.FixRuns.{StandsForIts}
 
 -- a run ends in a session that its rules have
-full_stands : (rules : Rules) (ratio budget : ℕ) (s : Session) (tail : Tail) → EndsFull rules ratio budget s tail → rules.stands s
-full_stands rules ratio budget s tail full = elim (full.1) [
+full_stands : (rules : Rules) (ratio budget : ℕ) (made : RoundCounts) (s : Session) (tail : Tail) → EndsFull rules ratio budget made s tail → rules.stands s
+full_stands rules ratio budget made s tail full = elim (full.1) [
   | inl ends ↦ ends.stands
   | inr decides ↦ decides.stands
 ]
@@ -30,8 +31,8 @@ stands_for b r n o outcome cert is full =
     let f = is.rounds in
     let s : Session = cert.session in
     let rules : Rules = rules_of f.screened.boxes (length f.screened.used) f.kept f.position f.signals in
-    let ends = (subst (IsAnswer rules outcome.taken o) full is.answer_is).1 in
-    let stands = is.stands s (full_stands rules o.ratio o.budget s cert.tail ends.ends) in
+    let ends = (subst (IsAnswer rules outcome.taken o outcome.rounds) full is.answer_is).1 in
+    let stands = is.stands s (full_stands rules o.ratio o.budget outcome.rounds s cert.tail ends.ends) in
     record {
       ratio_is = ends.ratio;
       budget_is = ends.budget;

@@ -1,4 +1,11 @@
 //! The command `fix`: the baseline of two receivers, with the certificate of its integers.
+//!
+//! `fix` reads the three files of a session, each whole before the next, and ends with the first that can't be had or
+//! is refused, with the refusal of the two files, or with the texts of the outcome, done for a fix and else declined
+//! (`ends`). `SaysOfFix` is what a run of it says: of a fix, that its integers with its move are strictly best for
+//! all data in the printed boxes, that its session stands for the files, and that a check of it answers `Certified`
+//! or its search gives up (`certified`, `only`). The printed certificate is the only one with its text (`whole`, with
+//! `one_spelling_law` of cert_text).
 #![tactic(auto)]
 
 ghost use Rattle.std.specs.Prelude.{◌≡◌, ◌≢◌, [], ◌∷◌, IfOk, All};

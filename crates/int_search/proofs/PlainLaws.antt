@@ -11,7 +11,7 @@ use Rattle.suffix_search.specs.Order.{IsLess}
 use Rattle.int_search.specs.Images.{image_of}
 use Rattle.int_search.specs.SearchedForm.{search_form}
 use Rattle.int_search.specs.Walk.{search_image}
-use Rattle.int_search.specs.Answers.{IsAnswer, IsFault, IsTwoBest}
+use Rattle.int_search.specs.Answers.{IsAnswer, IsFault, IsTwoBest, IsVisitedIn}
 use Rattle.int_search.specs.declared.answer.TwoBest.{TwoBest}
 use Rattle.int_search.specs.declared.answer.SearchFault.{SearchFault}
 use Rattle.int_search.proofs.SuffixArrays.{suffix-all}
@@ -34,8 +34,8 @@ length_of v n e = pos_same (length v) n (sym (len_is v) ∙ e)
     pos_same : (a b : ℕ) → pos a ≡ pos b → a ≡ b
     pos_same a b e = cc
 
-pub plain_found : (form : Form) (map : List (List ℤ)) (b : TwoBest) → IsOwn map → IsAnswer (search_form form) (search_image form map) b → IsTwoBest form b
-plain_found form map b o a = record {
+pub plain_found : (form : Form) (map : List (List ℤ)) (budget : ℕ) (b : TwoBest) → IsOwn map → IsAnswer (search_form form) (search_image form map) budget b → IsTwoBest form b
+plain_found form map budget b o a = record {
   size = a.size;
   least = record {
     first = ap len one ∙ count a.one a.least.first_size;
@@ -67,6 +67,10 @@ plain_found form map b o a = record {
         ⊎_elim (λ (i : v ≡ a.two). absurd (f i)) (λ (l : IsLess (search_form form) (search_image form map) a.two v). own_less form map a.two v o a.least.second_size e l) t) (a.least.others v e)
 
 -- ---- the answers of the search, in the form's own terms
-pub answer_found : (form : Form) (map : List (List ℤ)) (budget : ℕ) → IsOwn map → (r : Result TwoBest SearchFault) → MatchResult r (IsAnswer (search_form form) (search_image form map)) (IsFault (search_form form) (search_image form map) budget) → IfOk r (IsTwoBest form)
-answer_found form map budget o (Ok b) h = plain_found form map b o h
+pub answer_found : (form : Form) (map : List (List ℤ)) (budget : ℕ) → IsOwn map → (r : Result TwoBest SearchFault) → MatchResult r (IsAnswer (search_form form) (search_image form map) budget) (IsFault (search_form form) (search_image form map) budget) → IfOk r (IsTwoBest form)
+answer_found form map budget o (Ok b) h = plain_found form map budget b o h
 answer_found form map budget o (Err e) h = tt
+
+pub answer_visits : (form : Form) (map : List (List ℤ)) (budget : ℕ) → (r : Result TwoBest SearchFault) → MatchResult r (IsAnswer (search_form form) (search_image form map) budget) (IsFault (search_form form) (search_image form map) budget) → IfOk r (IsVisitedIn form budget)
+answer_visits form map budget (Ok b) h = h.visits
+answer_visits form map budget (Err e) h = tt

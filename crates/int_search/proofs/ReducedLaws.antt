@@ -22,13 +22,13 @@ use Rattle.reduced_form.specs.Transformed.{transformed_form}
 use Rattle.reduced_form.proofs.ImageLaws.{image_block, reduced_value}
 use Rattle.reduced_form.proofs.SameMaps.{AreSameInside, form_as, small_as, block_as}
 use Rattle.suffix_search.specs.Suffixes.{SearchForm}
-use Rattle.suffix_search.specs.PlainCount.{Counts, HasLarge, IsOver, top}
+use Rattle.suffix_search.specs.PlainCount.{AreAtMost, Counts, HasLarge, IsOver, top}
 use Rattle.suffix_search.specs.Order.{IsLess}
 use Rattle.int_search.specs.Images.{image_of, IsMap}
 use Rattle.int_search.specs.SearchedForm.{search_form}
 use Rattle.int_search.specs.Walk.{CanSearch, search_image, IsTooWide}
 use Rattle.int_search.specs.Answers.{IsAnswer, IsFault, IsTwoBest}
-use Rattle.int_search.specs.ReducedCounts.{decorrelated, HasCountIn}
+use Rattle.int_search.specs.ReducedCounts.{decorrelated, HasCountIn, IsVisitedInMap}
 use Rattle.int_search.specs.declared.answer.TwoBest.{TwoBest}
 use Rattle.int_search.specs.declared.answer.SearchFault.{SearchFault}
 use Rattle.int_search.specs.declared.answer.SearchFault.TheVariants.{Spent, Overwidth}
@@ -84,8 +84,8 @@ image_less f r u v w d e g h = ⊎_elim
     (λ (l : (value (columns_of r) v ≡ value (columns_of r) w) × Before (search_image r u.map v) (search_image r u.map w)).
     inr (sym (value_is f r u v d e) ∙ l.0 ∙ value_is f r u w d g, subst (λ (x : List ℤ). Before x (apply (block (integers_of f) u.map) w)) (image_is f r u v d e) (subst (λ (y : List ℤ). Before (search_image r u.map v) y) (image_is f r u w d g) l.1))) h
 
-pub reduced_found : (f r : Form) (u : Unimodular) (b : TwoBest) → IsDecorrelated f r u → IsAnswer (search_form r) (search_image r u.map) b → IsTwoBest f b
-reduced_found f r u b d a = record {
+pub reduced_found : (f r : Form) (u : Unimodular) (budget : ℕ) (b : TwoBest) → IsDecorrelated f r u → IsAnswer (search_form r) (search_image r u.map) budget b → IsTwoBest f b
+reduced_found f r u budget b d a = record {
   size = a.size ∙ d.integers;
   least = subst (λ (v : List ℤ). TwoLeast (columns_of f) (pos n) v (take b.size b.second)) (sym one) (subst (λ (w : List ℤ). TwoLeast (columns_of f) (pos n) (apply (block n u.map) a.one) w) (sym two)
       (carried (columns_of f) (pos n) (block n u.map) (block n u.back) a.one a.two inverse under));
@@ -149,6 +149,17 @@ unfolding own_of
 search_same f r u n c d e =
     let i : (c.factors, constant_form c.g) ≡ (factors_of r, constant_form r.g) = ok_same (c.factors, constant_form c.g) (factors_of r, constant_form r.g) e in
     forms_same (integers_of r) (integers_of f) (factors_of r) c.factors r.g c.g (columns_of r) (transformed_form (integers_of f) u.map f.p) d.integers (sym (ap (λ (p : List Factor × List Column). p.0) i)) (sym (ap (λ (p : List Factor × List Column). own_of p.1) i)) d.form
+
+-- ---- what the search has visited there
+pub reduced_visits : (f r : Form) (u : Unimodular) (budget : ℕ) (b : TwoBest) → IsDecorrelated f r u → steps 3 (integers_of f) (transformed_form (integers_of f) u.map f.p) ≡ Ok (factors_of r, constant_form r.g) →
+    IsAnswer (search_form r) (search_image r u.map) budget b → IsVisitedInMap f budget b u.map
+reduced_visits f r u budget b d t a = record {
+  factors = factors_of r;
+  g = r.g;
+  taken = t;
+  few = subst (λ (s : SearchForm). AreAtMost s b.p2 budget)
+      (forms_same (integers_of r) (integers_of f) (factors_of r) (factors_of r) r.g r.g (columns_of r) (transformed_form (integers_of f) u.map f.p) d.integers refl refl d.form) a.visits;
+}
 
 apart : (x y : ℤ) → x <ℤ y → y ≤ℤ x → ⊥
 apart x y h g = omega (arith, lins)

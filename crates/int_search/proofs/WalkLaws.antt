@@ -5,14 +5,14 @@ use Rattle.std.proofs.lemmas.Int.{ints}
 use Rattle.whole_math.proofs.Order.{polys}
 use Rattle.quadratic_form.specs.Rows.{value}
 use Rattle.suffix_search.specs.Suffixes.{SearchForm, IsSearchable, rest, low, weight}
-use Rattle.suffix_search.specs.PlainCount.{top, IsOver, IsWide, IsWideIn, HasLarge}
+use Rattle.suffix_search.specs.PlainCount.{AreAtMost, top, IsOver, IsWide, IsWideIn, HasLarge}
 use Rattle.suffix_search.specs.Order.{IsLess, IsOneToOne}
 use Rattle.suffix_search.specs.Levels.{tail_of, IsLevel, Takes}
 use Rattle.suffix_search.specs.Search.{IsSearch, IsOffered}
 use Rattle.suffix_search.specs.LatestLevel.{IsLatest}
 use Rattle.suffix_search.specs.declared.stack.Level.{Level}
 use Rattle.suffix_search.proofs.SuffixLaws.{low-nil, low_from, value_from, weight_from, weight_to}
-use Rattle.suffix_search.proofs.SearchLaws.{search_pop, search_inner, search_leaf, search_over, search_wide, search_wide_image, search_start, search_done}
+use Rattle.suffix_search.proofs.SearchLaws.{search_pop, search_inner, search_leaf, search_over, search_wide, search_wide_image, search_start, search_done, search_visits}
 use Rattle.int_search.specs.Vectors.{IsSmall, Holds, suffix}
 use Rattle.int_search.specs.Steps.{IsFresh, Chooses, Moves, IsTermWithin}
 use Rattle.int_search.specs.Best.{HoldsBest, TakesOffer, KeepsBest}
@@ -239,8 +239,15 @@ walk_over f im w r h v = search_over f im r.level (drop 1 w.stack) r.choice.entr
 pub walk_wide : (f : SearchForm) (im : List ℤ → List ℤ) (w : Walk) (r : Reach) → IsWalk f im w → IsReach f w r → 2 ^ 30 ≤ unsigned_abs r.choice.entry → IsWide f
 walk_wide f im w r h v s = search_wide f im r.level (drop 1 w.stack) r.choice.entry (here f w) h.one h.two w.visits (focus f im w r.level h v.latest) (reach_within f im w r h v) s
 
-pub walk_end : (f : SearchForm) (im : List ℤ → List ℤ) (w : Walk) → IsWalk f im w → length w.stack ≡ 0 → HasFound f im w
-walk_end f im w h n = record { size = h.size; one = h.one; two = h.two; best = h.best; least = search_done f im w.stack (here f w) h.one h.two w.visits n h.search }
+pub walk_end : (f : SearchForm) (im : List ℤ → List ℤ) (w : Walk) (budget : ℕ) → IsWalk f im w → length w.stack ≡ 0 → w.visits ≤ budget → HasFound f im budget w
+walk_end f im w budget h n v = record {
+  size = h.size;
+  one = h.one;
+  two = h.two;
+  best = h.best;
+  least = search_done f im w.stack (here f w) h.one h.two w.visits n h.search;
+  visits = subst (λ (p : ℤ). AreAtMost f p budget) (sym h.best.p2) (search_visits f im w.stack (here f w) h.one h.two w.visits budget n v h.search);
+}
 
 pub left_less : (budget v v' m a b : ℕ) → v' ≡ v + 1 → v < budget → a ≤ b + 1 → 2 ≤ m → (budget - v') * m + a < (budget - v) * m + b
 left_less budget v v' m a b e h k n =

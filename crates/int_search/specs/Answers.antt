@@ -5,7 +5,7 @@ use Rattle.quadratic_form.specs.TwoLeast.{TwoLeast}
 use Rattle.integer_form.specs.declared.form.Form.{Form}
 use Rattle.integer_form.specs.Forms.{integers_of, columns_of, value_of}
 use Rattle.suffix_search.specs.Suffixes.{SearchForm}
-use Rattle.suffix_search.specs.PlainCount.{IsOver, IsWide}
+use Rattle.suffix_search.specs.PlainCount.{AreAtMost, IsOver, IsWide}
 use Rattle.suffix_search.specs.Order.{AreTwoLeast}
 use Rattle.int_search.specs.Vectors.{IsSmall, Holds}
 use Rattle.int_search.specs.SearchedForm.{search_form}
@@ -14,8 +14,8 @@ use Rattle.int_search.specs.declared.answer.TwoBest.{TwoBest}
 use Rattle.int_search.specs.declared.answer.SearchFault.{SearchFault}
 use Rattle.int_search.specs.declared.answer.SearchFault.TheVariants.{Spent, Overwidth}
 
--- b has the images of the two least vectors, and their values
-pub record IsAnswer (f : SearchForm) (image : List ℤ → List ℤ) (b : TwoBest) : Type 0 where
+-- b has the images of the two least vectors, and their values; no more suffixes than the budget are within the second
+pub record IsAnswer (f : SearchForm) (image : List ℤ → List ℤ) (budget : ℕ) (b : TwoBest) : Type 0 where
   pub size : b.size ≡ f.size
   pub one : List ℤ
   pub two : List ℤ
@@ -24,6 +24,7 @@ pub record IsAnswer (f : SearchForm) (image : List ℤ → List ℤ) (b : TwoBes
   pub p1 : b.p1 ≡ value f.p one
   pub p2 : b.p2 ≡ value f.p two
   pub least : AreTwoLeast f image one two
+  pub visits : AreAtMost f b.p2 budget
 
 -- spent only where the plain count is over the budget, overwidth only where it has something too wide
 abbrev pub IsFault : SearchForm → (List ℤ → List ℤ) → ℕ → SearchFault → Type 0
@@ -46,3 +47,8 @@ IsPlainCountOver f n = IsOver (search_form f) n
 -- the greater value of the rounded point and its neighbour is 2^62 or more, or a suffix of the plain count has an entry of 2^30 or more in size
 abbrev pub IsSearchTooWide : Form → Type 0
 IsSearchTooWide f = IsWide (search_form f)
+
+-- At most n suffixes have a lower sum of at most 2^60 times the second best value. A search whose bound never falls below
+-- that value visits each of them, so one that ends with n visits keeps this.
+abbrev pub IsVisitedIn : Form → ℕ → TwoBest → Type 0
+IsVisitedIn f n b = AreAtMost (search_form f) b.p2 n

@@ -1,5 +1,5 @@
 -- The reduced count of a form: the count of suffixes in decorrelated coordinates.
-use Rattle.std.specs.Prelude.{◌≡◌, ℕ, ◌^◌, List, length, ℤ, pos, ◌<ℤ◌, Ok}
+use Rattle.std.specs.Prelude.{◌≡◌, ◌⊎◌, ℕ, ◌^◌, List, length, ℤ, pos, ◌<ℤ◌, Ok}
 use Rattle.quadratic_form.specs.Elimination.{Factor, steps}
 use Rattle.quadratic_form.specs.Maps.{apply}
 use Rattle.decorrelate.specs.declared.unimodular.Unimodular.{Unimodular}
@@ -10,7 +10,9 @@ use Rattle.integer_form.specs.Forms.{integers_of}
 use Rattle.integer_form.specs.Kept.{constant_form}
 use Rattle.reduced_form.specs.Transformed.{transformed_form, IsTransformedSmall}
 use Rattle.suffix_search.specs.Suffixes.{SearchForm}
-use Rattle.suffix_search.specs.PlainCount.{Counts, HasLarge, IsOver, top}
+use Rattle.suffix_search.specs.PlainCount.{AreAtMost, Counts, HasLarge, IsOver, top}
+use Rattle.int_search.specs.Answers.{IsVisitedIn}
+use Rattle.int_search.specs.declared.answer.TwoBest.{TwoBest}
 
 -- the form in the coordinates of a map, with these factors and this last entry
 abbrev pub decorrelated : Form → List (List ℤ) → List Factor → ℤ → SearchForm
@@ -36,3 +38,20 @@ pub record HasReducedCount (f : Form) (n : ℕ) : Type 0 where
   pub change : Unimodular
   pub reduced : IsReduced (integers_of f) f.d f.l change
   pub count : HasCountIn f n change.map
+
+-- at most n suffixes in the coordinates of the map have a lower sum of at most 2^60 times the second best value
+pub record IsVisitedInMap (f : Form) (n : ℕ) (b : TwoBest) (map : List (List ℤ)) : Type 0 where
+  pub factors : List Factor
+  pub g : ℤ
+  pub taken : steps 3 (integers_of f) (transformed_form (integers_of f) map f.p) ≡ Ok (factors, constant_form g)
+  pub few : AreAtMost (decorrelated f map factors g) b.p2 n
+
+-- the same in the coordinates that the reduction leaves
+pub record IsVisitedReducedIn (f : Form) (n : ℕ) (b : TwoBest) : Type 0 where
+  pub change : Unimodular
+  pub reduced : IsReduced (integers_of f) f.d f.l change
+  pub visits : IsVisitedInMap f n b change.map
+
+-- the search keeps to n visits, in the form's own coordinates or in those of the reduction
+abbrev pub KeepsBudget : Form → ℕ → TwoBest → Type 0
+KeepsBudget f n b = IsVisitedIn f n b ⊎ IsVisitedReducedIn f n b

@@ -5,7 +5,7 @@ use Rattle.obs_rows.specs.declared.units.TheConstants.{MOST_INTEGERS}
 use Rattle.integer_form.specs.declared.form.Form.{Form}
 use Rattle.integer_form.specs.Forms.{integers_of}
 use Rattle.suffix_search.specs.Suffixes.{SearchForm, low}
-use Rattle.suffix_search.specs.PlainCount.{top, IsOver, IsWide, IsWideIn}
+use Rattle.suffix_search.specs.PlainCount.{top, AreAtMost, IsOver, IsWide, IsWideIn}
 use Rattle.suffix_search.specs.Order.{AreTwoLeast, IsLess, IsOneToOne}
 use Rattle.suffix_search.specs.Levels.{IsLevel}
 use Rattle.suffix_search.specs.Search.{IsSearch}
@@ -96,17 +96,18 @@ IsTooWide f image = IsWide f ⊎ IsWideIn f image
 abbrev pub left_of : ℕ → Walk → ℕ
 left_of budget w = (budget - w.visits) * (w.size + 2) + length w.stack
 
--- w has the two least vectors
-pub record HasFound (f : SearchForm) (image : List ℤ → List ℤ) (w : Walk) : Type 0 where
+-- w has the two least vectors, and no more suffixes than the budget are within the second
+pub record HasFound (f : SearchForm) (image : List ℤ → List ℤ) (budget : ℕ) (w : Walk) : Type 0 where
   pub size : w.size ≡ f.size
   pub one : List ℤ
   pub two : List ℤ
   pub best : HoldsBest f image w.best one two
   pub least : AreTwoLeast f image one two
+  pub visits : AreAtMost f w.best.p2 budget
 
 -- what a turn gives, from one state to the next
 abbrev pub Gives : SearchForm → (List ℤ → List ℤ) → ℕ → Walk → Walk → Turn → Type 0
 Gives f image budget old new Going = IsWalk f image new × (new.visits ≤ budget) × (left_of budget new < left_of budget old)
-Gives f image budget old new Done = HasFound f image new
+Gives f image budget old new Done = HasFound f image budget new
 Gives f image budget old new Spent = IsOver f budget
 Gives f image budget old new Wide = IsTooWide f image

@@ -4,6 +4,20 @@
 //! the second best value so far (`suffix_search`). It answers in the form's own coordinates. `plain_best` searches in them as
 //! well, and `two_best` first in decorrelated ones (`decorrelate`, `reduced_form`), where a map gives the vectors of the
 //! answer.
+//!
+//! Of suffix_search, int_search: `two_best` finds the two integer vectors at which an integer form is least. An
+//! answer has the least of all integer vectors, of whole numbers of any size, by the form's value and then by entries
+//! in order, the least of all others, their values, and only entries below 2^30 in size (clause `found`). An answer
+//! keeps the budget (`visits`): at most so many suffixes have a lower sum of at most 2^60 times the second value, in
+//! the form's own coordinates or in those of the reduction, and each depth-first search visits all of these, so a
+//! search that never gives up is refused. The search says that its budget is spent only where the plain count of the
+//! form is over it (`spent`), and that something is too wide only where a suffix of that count has an entry of 2^30
+//! or more in size or the greater value of the rounded point and its neighbour is 2^62 or more (`overwidth`). Where
+//! the form has a reduced count that is at most the budget, it answers (`reduced`): it searches in the coordinates of
+//! `reduce` first, and where that ends without an answer, in the form's own ones with the same budget. `plain_best`
+//! is the second search alone, with the first four clauses, `visits` in the form's own coordinates. No call takes
+//! memory. suffix_search has the definitions and the theory, over any form whose lower sums stay below its values;
+//! the engine takes a map to the coordinates of the answer, and `plain_best` gives it the identity.
 #![tactic(auto)]
 
 mod answer;
@@ -21,12 +35,3 @@ mod walk;
 pub use answer::{SearchFault, TwoBest};
 pub use reduced::two_best;
 pub use search::plain_best;
-
-#[cfg(test)]
-mod cases;
-#[cfg(test)]
-mod reduced_case;
-#[cfg(test)]
-mod session_cases;
-#[cfg(test)]
-mod tests;

@@ -1,7 +1,7 @@
 //! The search in decorrelated coordinates.
-ghost use Rattle.std.specs.Prelude.{◌≡◌, ◌<◌, IfOk, IfErr, MatchOption, Err};
+ghost use Rattle.std.specs.Prelude.{◌≡◌, ◌<◌, IfOk, IfErr, IfSome, MatchOption, Err};
 ghost use Rattle.int_search.specs.Answers.{IsTwoBest, IsPlainCountOver, IsSearchTooWide};
-ghost use Rattle.int_search.specs.ReducedCounts.{HasReducedCount};
+ghost use Rattle.int_search.specs.ReducedCounts.{HasReducedCount, IsVisitedReducedIn, KeepsBudget};
 ghost use Rattle.int_search.specs.declared.answer.SearchFault.TheVariants as SearchFault;
 
 use crate::answer::{SearchFault, TwoBest};
@@ -15,7 +15,8 @@ use reduced_form::transformed;
 // The two least vectors, searched in the coordinates of the reduction; None where this attempt ends without an answer.
 fn reduced_best(form: &Form, budget: u64) -> Option<TwoBest>
     requires { 4 < form.now.columns }
-    ensures { MatchOption result (HasReducedCount form.now budget → ⊥) (IsTwoBest form.now) }
+    ensures found { MatchOption result (HasReducedCount form.now budget → ⊥) (IsTwoBest form.now) }
+    ensures visits { IfSome result (IsVisitedReducedIn form.now budget) }
 {
     let change = reduce(form.columns - BASELINE_COLUMNS - 1, &form.d, &form.l);
     let Some(front) = transformed(form, &change) else {
@@ -39,6 +40,7 @@ fn reduced_best(form: &Form, budget: u64) -> Option<TwoBest>
 pub fn two_best(form: &Form, budget: u64) -> Result<TwoBest, SearchFault>
     requires { 4 < form.now.columns }
     ensures found { IfOk result (IsTwoBest form.now) }
+    ensures visits { IfOk result (KeepsBudget form.now budget) }
     ensures spent { result ≡ Err SearchFault.Spent → IsPlainCountOver form.now budget }
     ensures overwidth { result ≡ Err SearchFault.Overwidth → IsSearchTooWide form.now }
     ensures reduced { HasReducedCount form.now budget → IfErr result (λ e. ⊥) }

@@ -2,7 +2,7 @@
 ghost use Rattle.std.specs.Prelude.{◌≡◌, ◌<◌, IfOk, MatchResult, Err};
 ghost use Rattle.int_search.specs.SearchedForm.{search_form};
 ghost use Rattle.int_search.specs.Walk.{CanSearch, search_image};
-ghost use Rattle.int_search.specs.Answers.{IsAnswer, IsFault, IsTwoBest, IsPlainCountOver, IsSearchTooWide};
+ghost use Rattle.int_search.specs.Answers.{IsAnswer, IsFault, IsTwoBest, IsVisitedIn, IsPlainCountOver, IsSearchTooWide};
 ghost use Rattle.int_search.specs.declared.answer.SearchFault.TheVariants as SearchFault;
 
 use crate::answer::{SearchFault, TwoBest};
@@ -14,7 +14,7 @@ use obs_rows::MapTable;
 /// The two least vectors in the coordinates that the map gives, among all integer vectors of the form.
 pub(crate) fn search(form: &Form, map: &MapTable, budget: u64) -> Result<TwoBest, SearchFault>
     requires { CanSearch form.now map.now }
-    ensures { MatchResult result (IsAnswer (search_form form.now) (search_image form.now map.now)) (IsFault (search_form form.now) (search_image form.now map.now) budget) }
+    ensures { MatchResult result (IsAnswer (search_form form.now) (search_image form.now map.now) budget) (IsFault (search_form form.now) (search_image form.now map.now) budget) }
 {
     let Some(mut walk) = Walk::start(form, map) else {
         return Err(SearchFault::Overwidth);
@@ -43,6 +43,7 @@ pub(crate) fn search(form: &Form, map: &MapTable, budget: u64) -> Result<TwoBest
 pub fn plain_best(form: &Form, budget: u64) -> Result<TwoBest, SearchFault>
     requires { 4 < form.now.columns }
     ensures found { IfOk result (IsTwoBest form.now) }
+    ensures visits { IfOk result (IsVisitedIn form.now budget) }
     ensures spent { result ≡ Err SearchFault.Spent → IsPlainCountOver form.now budget }
     ensures overwidth { result ≡ Err SearchFault.Overwidth → IsSearchTooWide form.now }
 {

@@ -1,4 +1,8 @@
 //! What a job of the program ends with, a status and a text for each of its two sinks, and how the two are written.
+//!
+//! What any job ends with: a status and two texts. `load_file` gives a file's bytes or the job's end where they can't
+//! be had; `deliver` writes the two texts, out first, each whole unless its sink's count of faults rose, and tells
+//! err once of a fault of out.
 #![tactic(auto)]
 
 mod answer;
@@ -10,49 +14,3 @@ pub use answer::Answer;
 pub use delivery::deliver;
 pub use status::Status;
 pub use stop::{Stop, load_file, read_fault, refused, too_large};
-
-#[cfg(test)]
-mod tests {
-    use super::*;
-    use line_source::{MemSink, SureFiles};
-    use std::test::Fail;
-
-    #[test]
-    fn writes_both_texts(rt: HostRuntime) -> Result<(), Fail> {
-        let alloc = rt.alloc();
-        let mut out = MemSink::new(alloc, 100, 3, Vec::new(alloc))?;
-        let mut err = MemSink::new(alloc, 100, 3, Vec::new(alloc))?;
-        let status = deliver(Status::Done, b"to out", b"to err", &mut out, &mut err);
-        assert_eq!(rt; status, Status::Done);
-        assert_eq!(rt; out.bytes(), b"to out".as_slice());
-        assert_eq!(rt; err.bytes(), b"to err".as_slice());
-        Ok(())
-    }
-
-    // An empty text for out is written without a call, so out can't fail beside it.
-    #[test]
-    fn leaves_out_alone(rt: HostRuntime) -> Result<(), Fail> {
-        let alloc = rt.alloc();
-        for status in [
-            Status::Usage,
-            Status::Refused,
-            Status::ReadFault,
-            Status::NoMemory,
-        ] {
-            let mut out = MemSink::new(alloc, 100, 3, vec![in alloc; 0u64]?)?;
-            let mut err = MemSink::new(alloc, 100, 3, Vec::new(alloc))?;
-            assert_eq!(rt; deliver(status, b"", b"to err", &mut out, &mut err), status);
-            assert_eq!(rt; err.bytes(), b"to err".as_slice());
-        }
-        Ok(())
-    }
-
-    #[test]
-    fn loads_a_file(rt: HostRuntime) -> Result<(), Fail> {
-        let alloc = rt.alloc();
-        let mut files = SureFiles::new(Vec::new(alloc));
-        let text = load_file(alloc, &mut files, "F").ok();
-        assert_eq!(rt; text.map(|t| t.len()), Some(0));
-        Ok(())
-    }
-}

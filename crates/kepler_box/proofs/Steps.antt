@@ -75,15 +75,18 @@ step_near m e x a e0 e1 p = let q = pull_size e p.sine e0 e1 p.size in go m a (f
     go m a f e h k = (omega (arith, ints), omega (arith, ints))
 
 -- ---- the rounds
-pub settled_start : (m e : ℤ) → pos 0 ≤ℤ e → e ≤ℤ pos (2 ^ 55) → Settled 0 m e m
-settled_start m e e0 e1 a p = let q = step_near m e m a e0 e1 p in (go (a -ℤ m) q.0, go (m -ℤ a) q.1)
+pub settled_start : (m e x : ℤ) → pos 0 ≤ℤ e → e ≤ℤ pos (2 ^ 55) → AreNear (pos (2 ^ 52)) x m → Settled 0 m e x
+settled_start m e x e0 e1 n a p = let q = step_near m e x a e0 e1 p in (go a x m q.0 n.1, back a x m q.1 n.0)
   where
-    go : (z : ℤ) → z ≤ℤ pos (2 ^ 52) → (z *ℤ pos 1) ≤ℤ (pos (2 ^ 52) +ℤ (pos 3 *ℤ pos 1))
-    go z h = omega (arith, ints)
+    go : (a x m : ℤ) → (a -ℤ m) ≤ℤ pos (2 ^ 52) → (m -ℤ x) ≤ℤ pos (2 ^ 52) → ((a -ℤ x) *ℤ pos 1) ≤ℤ (pos (2 ^ 53) +ℤ (pos 3 *ℤ pos 1))
+    go a x m h k = omega (arith, ints)
 
-pub round : (z d w : ℤ) → ((pos 16) *ℤ z) ≤ℤ (d +ℤ (pos 32)) → (d *ℤ w) ≤ℤ ((pos 4503599627370496) +ℤ ((pos 3) *ℤ w)) → (pos 0) ≤ℤ w → (z *ℤ (w *ℤ (pos 16))) ≤ℤ ((pos 4503599627370496) +ℤ ((pos 3) *ℤ (w *ℤ (pos 16))))
+    back : (a x m : ℤ) → (m -ℤ a) ≤ℤ pos (2 ^ 52) → (x -ℤ m) ≤ℤ pos (2 ^ 52) → ((x -ℤ a) *ℤ pos 1) ≤ℤ (pos (2 ^ 53) +ℤ (pos 3 *ℤ pos 1))
+    back a x m h k = omega (arith, ints)
+
+pub round : (z d w : ℤ) → ((pos 16) *ℤ z) ≤ℤ (d +ℤ (pos 32)) → (d *ℤ w) ≤ℤ ((pos 9007199254740992) +ℤ ((pos 3) *ℤ w)) → (pos 0) ≤ℤ w → (z *ℤ (w *ℤ (pos 16))) ≤ℤ ((pos 9007199254740992) +ℤ ((pos 3) *ℤ (w *ℤ (pos 16))))
 round z d w h0 h1 h2 =
-    cert (z ∷ d ∷ w ∷ []) ((((ko (pos 16)) ⊗ (va 0)) ≼ ((va 1) ⊕ (ko (pos 32)))) ∷ (((va 1) ⊗ (va 2)) ≼ ((ko (pos 4503599627370496)) ⊕ ((ko (pos 3)) ⊗ (va 2)))) ∷ ((ko (pos 0)) ≼ (va 2)) ∷ []) ((va 0) ⊗ ((va 2) ⊗ (ko (pos 16)))) ((ko (pos 4503599627370496)) ⊕ ((ko (pos 3)) ⊗ ((va 2) ⊗ (ko (pos 16))))) ((((hy 2) ⊠ (hy 0)) ⊞ (hy 1)) ⊞ ((nm 13) ⊠ (hy 2))) refl (h0, (h1, (h2, tt)))
+    cert (z ∷ d ∷ w ∷ []) ((((ko (pos 16)) ⊗ (va 0)) ≼ ((va 1) ⊕ (ko (pos 32)))) ∷ (((va 1) ⊗ (va 2)) ≼ ((ko (pos 9007199254740992)) ⊕ ((ko (pos 3)) ⊗ (va 2)))) ∷ ((ko (pos 0)) ≼ (va 2)) ∷ []) ((va 0) ⊗ ((va 2) ⊗ (ko (pos 16)))) ((ko (pos 9007199254740992)) ⊕ ((ko (pos 3)) ⊗ ((va 2) ⊗ (ko (pos 16))))) ((((hy 2) ⊠ (hy 0)) ⊞ (hy 1)) ⊞ ((nm 13) ⊠ (hy 2))) refl (h0, (h1, (h2, tt)))
 
 record IsMagnitude (x y d : ℤ) : Type 0 where
   pub nn : pos 0 ≤ℤ d
@@ -119,17 +122,17 @@ settled_step j i m e x y ij e0 e1 rx ry h p z q =
     let d = magnitude y x in
     let s = steps_shrink m e y x z y d.0 ry rx e0 e1 d.1.nn d.1.within q p in
     let old = h y p in
-    let b : (d.0 *ℤ pos (16 ^ j)) ≤ℤ (pos (2 ^ 52) +ℤ (pos 3 *ℤ pos (16 ^ j))) = choose (λ (d : ℤ). (d *ℤ pos (16 ^ j)) ≤ℤ (pos (2 ^ 52) +ℤ (pos 3 *ℤ pos (16 ^ j)))) d.0 (y -ℤ x) (x -ℤ y) old.0 old.1 d.1.either in
+    let b : (d.0 *ℤ pos (16 ^ j)) ≤ℤ (pos (2 ^ 53) +ℤ (pos 3 *ℤ pos (16 ^ j))) = choose (λ (d : ℤ). (d *ℤ pos (16 ^ j)) ≤ℤ (pos (2 ^ 53) +ℤ (pos 3 *ℤ pos (16 ^ j)))) d.0 (y -ℤ x) (x -ℤ y) old.0 old.1 d.1.either in
     let w0 : pos 0 ≤ℤ pos (16 ^ j) = le_pos 0 (16 ^ j) (omega arith) in
     let k : 16 ^ j * 16 ≡ 16 ^ i = sym (ap (λ (n : ℕ). 16 ^ n) (ij ∙ add-one j) ∙ pow-suc 16 j) in (
-      subst (λ (n : ℕ). ((z -ℤ y) *ℤ pos n) ≤ℤ (pos (2 ^ 52) +ℤ (pos 3 *ℤ pos n))) k (round (z -ℤ y) d.0 (pos (16 ^ j)) s.0 b w0),
-      subst (λ (n : ℕ). ((y -ℤ z) *ℤ pos n) ≤ℤ (pos (2 ^ 52) +ℤ (pos 3 *ℤ pos n))) k (round (y -ℤ z) d.0 (pos (16 ^ j)) s.1 b w0),
+      subst (λ (n : ℕ). ((z -ℤ y) *ℤ pos n) ≤ℤ (pos (2 ^ 53) +ℤ (pos 3 *ℤ pos n))) k (round (z -ℤ y) d.0 (pos (16 ^ j)) s.0 b w0),
+      subst (λ (n : ℕ). ((y -ℤ z) *ℤ pos n) ≤ℤ (pos (2 ^ 53) +ℤ (pos 3 *ℤ pos n))) k (round (y -ℤ z) d.0 (pos (16 ^ j)) s.1 b w0),
     )
 
 pub settled_end : (m e x : ℤ) → Settled 14 m e x → (next : ℤ) → IsStep m e x next → AreNear (pos 3) next x
 settled_end m e x h z q = let p = h z q in (go (z -ℤ x) p.0, go (x -ℤ z) p.1)
   where
-    go : (z : ℤ) → (z *ℤ pos 72057594037927936) ≤ℤ (pos 4503599627370496 +ℤ (pos 3 *ℤ pos 72057594037927936)) → z ≤ℤ pos 3
+    go : (z : ℤ) → (z *ℤ pos 72057594037927936) ≤ℤ (pos 9007199254740992 +ℤ (pos 3 *ℤ pos 72057594037927936)) → z ≤ℤ pos 3
     go z h = omega (arith, ints)
 
 -- where a step changes nothing, each further step leads at most 2 units away

@@ -47,7 +47,7 @@ pub record IsStep (m e angle next : ℤ) : Type 0 where
   pub near : (c s : Rational) → IsCanonicalPair 5 (of_scale 56 angle) c s → InBox 60 (sine -ℤ pos 256) (sine +ℤ pos 256) s
   pub next_is : next ≡ m +ℤ floor_div (e *ℤ sine) (2 ^ 64)
 
--- after j rounds a step changes the angle by at most 2^52 / 16^j + 3
+-- after j rounds a step changes the angle by at most 2^53 / 16^j + 3
 abbrev pub Settled : ℕ → ℤ → ℤ → ℤ → Type 0
 Settled j m e angle = (next : ℤ) → IsStep m e angle next →
-    (((next -ℤ angle) *ℤ pos (16 ^ j)) ≤ℤ (pos (2 ^ 52) +ℤ (last_step *ℤ pos (16 ^ j)))) × (((angle -ℤ next) *ℤ pos (16 ^ j)) ≤ℤ (pos (2 ^ 52) +ℤ (last_step *ℤ pos (16 ^ j))))
+    (((next -ℤ angle) *ℤ pos (16 ^ j)) ≤ℤ (pos (2 ^ 53) +ℤ (last_step *ℤ pos (16 ^ j)))) × (((angle -ℤ next) *ℤ pos (16 ^ j)) ≤ℤ (pos (2 ^ 53) +ℤ (last_step *ℤ pos (16 ^ j))))

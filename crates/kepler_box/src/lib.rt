@@ -1,4 +1,8 @@
 //! The eccentric anomaly: boxes of all solutions of Kepler's equation M = E − e·sin E (IS-GPS-200, table 20-IV).
+//!
+//! `anomaly_box` holds every solution of Kepler's equation for every mean anomaly and eccentricity of its boxes
+//! (`holds`), and says how near its boxes the solutions are whose mean anomaly lies outside (`near`). It takes no
+//! memory and is never refused.
 #![tactic(auto)]
 
 ghost use Rattle.std.specs.Prelude.{◌≡◌, ℕ, ◌+◌, ◌-◌, ◌*◌, ◌^◌, ◌<◌, ◌≤◌, pos, ◌+ℤ◌, ◌-ℤ◌, ◌*ℤ◌, neg_ℤ, ℤ, ◌≤ℤ◌, unsigned_abs};
@@ -12,7 +16,7 @@ ghost use Rattle.kepler_box.specs.Kepler.{SolvesKepler, HoldsAnomaly, IsNearAnom
 ghost use Rattle.kepler_box.specs.Steps.{IsMeanAnomaly, IsAngle, IsEccentricity, IsStep, AreNear, last_step, residual_limit, radius_limit, angle_width_limit, pair_width_limit};
 
 use iv_core::Iv;
-use trig_box::pair_box;
+use trig_box::{PairBox, pair_box};
 
 // After these many a further step leads at most 3 units away, wherever the first began.
 const ROUNDS: u32 = 14;
@@ -93,14 +97,69 @@ fn step(m: i64, e: i64, angle: i64) -> i64
     m + pull_of(e, middle_of(sine.lo(), sine.hi()))
 }
 
-// The angle from which a further step leads at most 3 units away
+// How far from the mean anomaly the steps may begin, in units of 2^-56: as far as a step leads at most
+const REACH: i64 = 1 << 52;
+
+// The box of the pair of angle / 2^56
+fn pair_at(angle: i64) -> PairBox
+    requires angle { IsAngle angle }
+    ensures cos { unsigned_abs result.cos.lo ≤ 2 ^ 61 }
+    ensures sin { unsigned_abs result.sin.lo ≤ 2 ^ 61 }
+{
+    let point: Iv<56> = Iv {
+        lo: angle,
+        hi: angle,
+    };
+    pair_box(&point, 5)
+}
+
+// One term more of change (1 + pull + pull² ..), in units of 2^-56
+fn drawn_out(change: i64, pull: i64, sum: i64) -> i64
+    requires change { Within (pos (2 ^ 54)) change }
+    requires pull { Within (pos (2 ^ 52)) pull }
+    requires sum { Within (pos (2 ^ 55)) sum }
+    ensures { Within (pos (2 ^ 55)) result }
+{
+    change + coarse(product(8 * pull, 32 * sum))
+}
+
+// The nearest angle that is in reach of m
+fn in_reach(m: i64, angle: i64) -> i64
+    requires mean { IsMeanAnomaly m }
+    ensures { AreNear (pos (2 ^ 52)) result m }
+{
+    if angle > m + REACH {
+        m + REACH
+    } else if angle < m - REACH {
+        m - REACH
+    } else {
+        angle
+    }
+}
+
+// An angle that is nearer to the solution, as Newton's rule finds it. That it is nearer isn't proved, nor needed.
+fn nearer(m: i64, e: i64, angle: i64) -> i64
+    requires mean { IsMeanAnomaly m }
+    requires eccentricity { IsEccentricity e }
+    requires near { AreNear (pos (2 ^ 52)) angle m }
+    ensures { AreNear (pos (2 ^ 52)) result m }
+{
+    let pair = pair_at(angle);
+    let change = m + pull_of(e, pair.sin.lo) - angle;
+    let pull = pull_of(e, pair.cos.lo);
+    let first = drawn_out(change, pull, change);
+    let second = drawn_out(change, pull, first);
+    in_reach(m, angle + drawn_out(change, pull, second))
+}
+
+// The angle from which a further step leads at most 3 units away. Newton's rule leads near it.
 fn settle(m: i64, e: i64) -> i64
     requires mean { IsMeanAnomaly m }
     requires eccentricity { IsEccentricity e }
     ensures settled { (next : ℤ) → IsStep m e result next → AreNear last_step next result }
     ensures angle { IsAngle result }
 {
-    let mut angle = m;
+    let mut angle = nearer(m, e, nearer(m, e, nearer(m, e, m)));
     for _round in 0..ROUNDS {
         let next = step(m, e, angle);
         if next == angle {
@@ -239,238 +298,4 @@ pub fn anomaly_box(m: &Iv<56>, e: &Iv<60>) -> Anomaly
     let right = right_side(m, e, &sine);
     let radius = widened(residual_of(angle, right.lo(), right.hi()));
     pairs_around(angle, radius)
-}
-
-#[cfg(test)]
-mod tests {
-    use super::*;
-    use std::test::Fail;
-
-    // A mean anomaly in units of 2^-56 and an eccentricity in units of 2^-60; then the solution as mpmath gives it, rounded
-    // down: the angle in units of 2^-56, its cosine and its sine in units of 2^-60.
-    const SOLUTIONS: [(i64, i64, i64, i64, i64); 27] = [
-        (0, 0, 0, 1152921504606846976, 0),
-        (0, 36028797018963968, 0, 1152921504606846976, 0),
-        (1, 36028797018963968, 1, 1152921504606846975, 16),
-        (-1, 36028797018963968, -2, 1152921504606846975, -17),
-        (
-            72057594037927936,
-            0,
-            72057594037927936,
-            622926147424044489,
-            970149993887725314,
-        ),
-        (
-            72057594037927936,
-            36028797018963968,
-            73984267909044733,
-            596766737937467854,
-            986457022011800287,
-        ),
-        (
-            -72057594037927936,
-            36028797018963968,
-            -73984267909044734,
-            596766737937467854,
-            -986457022011800288,
-        ),
-        (
-            36028797018963968,
-            18014398509481984,
-            36576070891721424,
-            1007556633529327445,
-            560408445703635364,
-        ),
-        (
-            113187804032455044,
-            36028797018963968,
-            115438505496159459,
-            -36005368219557185,
-            1152359149416660801,
-        ),
-        (
-            -113187804032455044,
-            36028797018963968,
-            -115438505496159460,
-            -36005368219557185,
-            -1152359149416660802,
-        ),
-        (
-            226375608064910088,
-            36028797018963968,
-            226375608064910088,
-            -1152921504606846976,
-            12,
-        ),
-        (
-            -226375608064910088,
-            1,
-            -226375608064910089,
-            -1152921504606846976,
-            -14,
-        ),
-        (
-            180143985094819840,
-            11529215046068469,
-            180571794772702977,
-            -927735914648830435,
-            684495484613020573,
-        ),
-        (
-            -237790060325162189,
-            36028797018963968,
-            -237445485759151912,
-            -1139343324448862974,
-            176422177797262305,
-        ),
-        (
-            288230376151711744,
-            36028797018963967,
-            286560766866761542,
-            -773612725470929508,
-            -854839953894503067,
-        ),
-        (
-            410728286016189235,
-            9223372036854775,
-            410408706486119644,
-            959533059163108617,
-            -639159060139181765,
-        ),
-        (
-            -432345564227567616,
-            36028797018963968,
-            -431696940036499267,
-            1104056392427099288,
-            332095585826994709,
-        ),
-        (
-            452751216129820177,
-            36028797018963968,
-            452751216129820176,
-            1152921504606846975,
-            -11,
-        ),
-        (
-            -504403158265495552,
-            20000000000000000,
-            -505235218302911476,
-            860385932228112836,
-            -767439928208636470,
-        ),
-        (
-            594475150812905472,
-            36028797018963968,
-            596527096430571557,
-            -474842829016162407,
-            1050596156245035681,
-        ),
-        (
-            -713370180975486567,
-            3000000000000000,
-            -713284591089571758,
-            -1025793445353469637,
-            526284906922832222,
-        ),
-        (
-            727781699783072153,
-            36028797018963968,
-            726407929612945846,
-            -913508718477052635,
-            -703370327104668859,
-        ),
-        (
-            792633534417207296,
-            36028797018963968,
-            790382544009402642,
-            -30909643477808198,
-            -1152507088795982488,
-        ),
-        (
-            864691128455135232,
-            0,
-            864691128455135232,
-            972897375770308954,
-            -618626455952347813,
-        ),
-        (
-            864691128455135232,
-            36028797018963968,
-            863450334112961767,
-            962101242349952172,
-            -635286703192813936,
-        ),
-        (
-            -864691128455135232,
-            36028797018963968,
-            -863450334112961768,
-            962101242349952172,
-            635286703192813935,
-        ),
-        (
-            -864691128455135232,
-            0,
-            -864691128455135232,
-            972897375770308954,
-            618626455952347812,
-        ),
-    ];
-
-    // The value rounded down, and the next one: the true one lies between them.
-    fn is_around<const K: u32>(b: &Iv<K>, value: i64) -> bool {
-        b.lo() <= value && value < b.hi()
-    }
-
-    #[test]
-    fn solutions(rt: HostRuntime) -> Result<(), Fail> {
-        for (m, e, angle, cos, sin) in SOLUTIONS {
-            assert!(rt; -(12 << 56) <= m && m <= 12 << 56);
-            assert!(rt; 0 <= e && e <= 1 << 55);
-            let found = anomaly_box(&Iv::point(m)?, &Iv::point(e)?);
-            assert!(rt; is_around(&found.angle, angle), "the angle at {m} and {e}");
-            assert!(rt; is_around(&found.cos, cos), "the cosine at {m} and {e}");
-            assert!(rt; is_around(&found.sin, sin), "the sine at {m} and {e}");
-        }
-        Ok(())
-    }
-
-    #[test]
-    fn at_perigee(rt: HostRuntime) -> Result<(), Fail> {
-        for e in [0, 1 << 55] {
-            assert!(rt; 0 <= e && e <= 1 << 55);
-            let found = anomaly_box(&Iv::point(0)?, &Iv::point(e)?);
-            assert!(rt; is_around(&found.angle, 0));
-            assert!(rt; is_around(&found.cos, 1 << 60));
-            assert!(rt; is_around(&found.sin, 0));
-            assert!(rt; found.angle.width() <= 1 << 6);
-            assert!(rt; found.cos.width() <= 1 << 11);
-            assert!(rt; found.sin.width() <= 1 << 11);
-        }
-        Ok(())
-    }
-
-    // The solutions at the corners of boxes that are as wide as they may be.
-    #[test]
-    fn widest(rt: HostRuntime) -> Result<(), Fail> {
-        let m = Iv {
-            lo: (12 << 56) - 16,
-            hi: 12 << 56,
-        };
-        let e = Iv {
-            lo: (1 << 55) - 2,
-            hi: 1 << 55,
-        };
-        let found = anomaly_box(&m, &e);
-        for (angle, cos, sin) in [
-            (863450334112961750, 962101242349952028, -635286703192814155),
-            (863450334112961750, 962101242349952028, -635286703192814156),
-            (863450334112961767, 962101242349952172, -635286703192813936),
-            (863450334112961767, 962101242349952173, -635286703192813935),
-        ] {
-            assert!(rt; is_around(&found.angle, angle));
-            assert!(rt; is_around(&found.cos, cos));
-            assert!(rt; is_around(&found.sin, sin));
-        }
-        Ok(())
-    }
 }

@@ -1,4 +1,14 @@
-//! Made-up sessions as files: what `make` writes is read as what it was made of.
+//! Simulated sessions as files: what `make` writes is read as what it was made of.
+//!
+//! Of written_texts, made_navigation, made_observations, made_files: What is written is read. A number of at most 18
+//! digits that `fixed_text` gives, behind any blanks, is read by the form of a number with a point as that number
+//! (`fixed_law`); digits are read as their number (`digits_law`); a text without control bytes and a line feed are a
+//! line (`line_law`); each time of 2024-01-01 is a moment with its ticks (`new_year_law`). The text of made
+//! satellites is a navigation file by the reader's own form, whose records are theirs, each number as it was kept
+//! (`navigation_law`). The text of signals at epochs is an observation file by the reader's own form: its header's
+//! numbers, its tags, its satellites in order and each number in its slot (`observation_law`). So the three texts of
+//! every simulated session are files, with the values that they were made of (`reading_law` of made_files, over the
+//! clauses of `make`).
 #![tactic(auto)]
 
 ghost use Rattle.std.specs.Prelude.{ℕ, ◌≤◌, List, IfOk};

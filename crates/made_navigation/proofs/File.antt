@@ -9,8 +9,10 @@ use Rattle.decimal_text.specs.declared.exponent.Dec.{Dec}
 use Rattle.line_source.specs.Lines.{lines_of}
 use Rattle.rinex_head.specs.Columns.{padded}
 use Rattle.rinex_head.specs.Head.{trimmed}
-use Rattle.rinex_nav.specs.FirstLine.{first_line_of, ends_header}
-use Rattle.rinex_nav.specs.NavForm.{Part, Gps, IsPart, IsHeader, IsNavFile, further_of, body_lines, records_of}
+use Rattle.rinex_head.specs.declared.system.System.TheVariants.{Gps}
+use Rattle.nav_records.specs.FirstLine.{first_line_of, ends_header}
+use Rattle.nav_records.specs.NavForm.{Part, Read, IsPart, IsHeader, further_of, body_lines, records_of}
+use Rattle.rinex_nav.specs.NavForm.{IsNavFile}
 use Rattle.sim_records.specs.Satellites.{AreSatellites}
 use Rattle.sim_records.specs.Navigation.{zero_number, second_number, week_number, navigation_header, record_texts, navigation_text}
 use Rattle.written_texts.proofs.Printed.{line_first}
@@ -40,7 +42,7 @@ header_text rest = refl
 header_read : (rest : List ℕ) → lines_of (navigation_header ++ rest) ≡ first_of_header ∷ last_of_header ∷ lines_of rest
 header_read rest = ap lines_of (header_text rest) ∙ first_ends (last_of_header ++ 10 ∷ rest) ∙ ap (λ (l : List (List ℕ)). first_of_header ∷ l) (last_ends rest)
 
-version_is : first_line_of first_of_header ≡ Ok tt
+version_is : first_line_of Gps first_of_header ≡ Ok tt
 unfolding first_line_of first_of_header padded trimmed
 version_is = refl
 
@@ -56,7 +58,7 @@ last_short : length last_of_header ≤ 4096
 unfolding last_of_header
 last_short = omega arith
 
-header_is : IsHeader (first_of_header ∷ last_of_header ∷ [])
+header_is : IsHeader Gps (first_of_header ∷ last_of_header ∷ [])
 header_is = record {
   first = first_of_header;
   between = [];
@@ -70,7 +72,7 @@ header_is = record {
 -- ---- the body
 parts_of : List Eph → List Part
 parts_of [] = []
-parts_of (e ∷ es) = Gps (lines_for e) (raw_of e) ∷ parts_of es
+parts_of (e ∷ es) = Read (lines_for e) (raw_of e) ∷ parts_of es
 
 body_read : (es : List Eph) → lines_of (record_texts es) ≡ body_lines (parts_of es)
 unfolding parts_of
@@ -106,7 +108,7 @@ body_short (e ∷ es) = (
   ),
 )
 
-parts_are : (k : ℕ) (es : List Eph) → AreSatellites k es → k + length es ≤ 32 → AllByRecursion IsPart (parts_of es)
+parts_are : (k : ℕ) (es : List Eph) → AreSatellites k es → k + length es ≤ 32 → AllByRecursion (IsPart Gps) (parts_of es)
 unfolding parts_of
 parts_are k [] are few = tt
 parts_are k (e ∷ es) are few = (record_is k e are.0 are.1 (omega arith), parts_are (k + 1) es are.2 (omega arith))
@@ -130,7 +132,7 @@ file_is es are few =
       short = subst (λ (l : List (List ℕ)). All (λ line. length line ≤ 4096) l) (sym lines) (All-from_recursion (λ line. length line ≤ 4096) (first_of_header ∷ last_of_header ∷ body_lines (parts_of es)) (first_short, (last_short, body_short es)));
       lines_are = lines;
       is_header = header_is;
-      are_parts = All-from_recursion IsPart (parts_of es) (parts_are 0 es are (omega arith));
+      are_parts = All-from_recursion (IsPart Gps) (parts_of es) (parts_are 0 es are (omega arith));
       records_are = records_are es;
       few = omega (arith, length-raws es);
     }

@@ -11,8 +11,9 @@ use Rattle.eph_store.specs.declared.ephemeris.Eph.{Eph}
 use Rattle.line_source.specs.Lines.{lines_of}
 use Rattle.rinex_head.specs.Columns.{padded}
 use Rattle.rinex_head.specs.Fields.{whole_of}
-use Rattle.rinex_nav.specs.RecordLines.{satellite_of, satellite_in, moment_of, toc_in}
-use Rattle.rinex_nav.specs.NavForm.{EightLines, further_of, IsFurther, IsGpsRecord}
+use Rattle.rinex_head.specs.declared.system.System.TheVariants.{Gps}
+use Rattle.nav_records.specs.RecordLines.{satellite_of, satellite_in, moment_of, toc_in}
+use Rattle.nav_records.specs.NavForm.{EightLines, further_of, IsFurther, IsRecord}
 use Rattle.sim_records.specs.Satellites.{IsSatellite, AreNormal, anomalies, longitudes, anomaly, node}
 use Rattle.sim_records.specs.Navigation.{zero_number, second_number, week_number, first_line, further_line, record_text}
 use Rattle.written_texts.proofs.Printed.{first_and, second_and}
@@ -52,13 +53,13 @@ unfolding lines_for
 record_read e rest = ap lines_of (text_is e rest) ∙ simp (first_read, further_read) refl
 
 -- ---- the first line
-sat_is : (sat : ℕ) (a b c : Dec) → 1 ≤ sat → sat ≤ 32 → satellite_in (first_content sat a b c) ≡ Ok sat
+sat_is : (sat : ℕ) (a b c : Dec) → 1 ≤ sat → sat ≤ 32 → satellite_in Gps (first_content sat a b c) ≡ Ok sat
 unfolding satellite_in
 sat_is sat a b c low high =
     let few : sat < 10 ^ 2 = omega arith in
     let above : nat_le 1 sat ≡ true = grind (arith, nat_tests) in
     let below : nat_le sat 32 ≡ true = grind (arith, nat_tests) in
-    ap (λ (field : List ℕ). satellite_of (whole_of 2 field)) (first_sat sat a b c) ∙ ap satellite_of (whole_digits 2 1 sat few) ∙ rw (above, below) refl
+    ap (λ (field : List ℕ). satellite_of Gps (whole_of 2 field)) (first_sat sat a b c) ∙ ap (satellite_of Gps) (whole_digits 2 1 sat few) ∙ rw (above, below) refl
 
 moment : moment_of 2024 1 1 0 0 0 ≡ Ok (record { 0 = 13_881_024_000_000_000 })
 unfolding moment_of
@@ -135,7 +136,7 @@ small_node l a p q =
     let a2 = high a q in
     sized ((pos 10 *ℤ l) -ℤ (pos 6 *ℤ a)) (omega (arith, ints)) (omega (arith, ints))
 
-pub record_is : (k : ℕ) (e : Eph) → IsSatellite k e → AreNormal e → k < 32 → IsGpsRecord (lines_for e) (raw_of e)
+pub record_is : (k : ℕ) (e : Eph) → IsSatellite k e → AreNormal e → k < 32 → IsRecord Gps (lines_for e) (raw_of e)
 unfolding lines_for
 record_is k e is normal few =
     let number : e.sat ≡ k + 1 = is.sat in

@@ -17,11 +17,14 @@ use Rattle.rinex_head.specs.declared.place.Flaw.{Flaw}
 use Rattle.rinex_head.specs.Columns.{column, columns, padded}
 use Rattle.rinex_head.specs.Places.{and_then}
 use Rattle.rinex_head.specs.Fields.{filled_of, fixed_in as fixed_field, readable, required}
-use Rattle.rinex_obs.specs.EpochLines.{count_in, moment_of, tag_in, is_later, epoch_in, epoch_line_of}
-use Rattle.rinex_obs.specs.ObsForm.{EpochPart, Part, Epoch_, IsEpochPart, AreSatLines, AreParts, epoch_in_part, lines_of_part, body_lines}
-use Rattle.rinex_obs.specs.ObsForm.{satellites_of as satellites_in, epochs_of as epochs_in}
-use Rattle.rinex_obs.specs.SatLines.{satellite_of}
-use Rattle.rinex_obs.specs.declared.epoch_lines.EpochLine.TheVariants as line
+use Rattle.rinex_head.specs.declared.system.System.TheVariants.{Gps}
+use Rattle.obs_fields.specs.declared.layout.Layout.TheVariants.{Rinex3}
+use Rattle.obs_fields.specs.EpochFields.{count_in, moment_of, is_later}
+use Rattle.obs_feed.specs.EpochLines.{tag_in, epoch_in, epoch_line_of}
+use Rattle.obs_feed.specs.ObsForm.{EpochPart, Part, Epoch_, IsEpochPart, AreSatLines, AreParts, epoch_in_part, lines_of_part, body_lines}
+use Rattle.obs_feed.specs.ObsForm.{satellites_of as satellites_in, epochs_of as epochs_in}
+use Rattle.obs_feed.specs.SatLines.{satellite_of}
+use Rattle.obs_feed.specs.declared.epoch_lines.EpochLine.TheVariants as line
 use Rattle.sim_texts.specs.declared.signals.Signals.{Signals}
 use Rattle.sim_texts.specs.Columns.{fixed_in}
 use Rattle.sim_texts.specs.Observations.{epoch_line, satellite_line, satellite_lines, epoch_text, epochs_text, AreInColumns}
@@ -151,7 +154,7 @@ part_is seconds sats =
     ap (λ (text : List ℕ). readable 19 (fixed_of text 7)) (second_columns seconds sats)
     ∙ ap (readable 19) (fixed_is 11 (pos (seconds % 60 * 10000000)) 7 (omega arith) small)
 
-moment : (seconds : ℕ) → seconds < 86400 → moment_of 2024 1 1 (seconds / 3600) (seconds / 60 % 60) (pos (seconds % 60 * 10000000)) ≡ Ok (tick_at seconds)
+moment : (seconds : ℕ) → seconds < 86400 → moment_of Rinex3 2024 1 1 (seconds / 3600) (seconds / 60 % 60) (pos (seconds % 60 * 10000000)) ≡ Ok (tick_at seconds)
 unfolding moment_of
 moment seconds day =
     rw (moment_is (seconds / 3600) (seconds / 60 % 60) (seconds % 60 * 10000000) (omega arith) (omega arith) (omega arith))
@@ -173,7 +176,7 @@ count_columns : (seconds sats : ℕ) → sats ≤ 99 → columns (epoch_content 
 unfolding epoch_content
 count_columns seconds sats few = at_count (second_text seconds) (count_text sats) (long_second seconds) (long_count sats few)
 
-counted : (seconds sats : ℕ) → sats ≤ 99 → count_in (epoch_content seconds sats) ≡ Ok sats
+counted : (seconds sats : ℕ) → sats ≤ 99 → count_in Rinex3 (epoch_content seconds sats) ≡ Ok sats
 unfolding count_in count_text
 counted seconds sats few = rw (count_columns seconds sats few, count_is sats few) refl
 
@@ -219,7 +222,7 @@ satellites_read n (s ∷ sats) rest h =
     ap lines_of (append_assoc (satellite_line (n + 1) s) (satellite_lines (n + 1) sats) rest) ∙ line_read (n + 1) s (satellite_lines (n + 1) sats ++ rest) (All-head AreInColumns s sats h)
     ∙ ap (λ (l : List (List ℕ)). content (n + 1) s ∷ l) (satellites_read (n + 1) sats rest (All-tail AreInColumns s sats h))
 
-satellites_say : (n : ℕ) (sats : List Signals) (before : List SatObs) → All AreInColumns sats → n + length sats ≤ 32 → AreBelow n before → AreSatLines the_kept before (contents n sats) (found n sats)
+satellites_say : (n : ℕ) (sats : List Signals) (before : List SatObs) → All AreInColumns sats → n + length sats ≤ 32 → AreBelow n before → AreSatLines Gps the_kept before (contents n sats) (found n sats)
 unfolding contents found
 satellites_say n [] before h few below = tt
 satellites_say n (s ∷ sats) before h few below =
@@ -234,7 +237,7 @@ part_of : ℕ → List Signals → EpochPart
 part_of seconds sats = record { bytes = epoch_content seconds (length sats); tag = tick_at seconds; power = false; sat_lines = contents 0 sats; found = found 0 sats }
 
 part_is_epoch : (epochs : List Epoch) (seconds : ℕ) (sats : List Signals) → length epochs < 20000 → seconds < 86400 → HaveRoom sats → is_later (last_tag_of epochs) (tick_at seconds) ≡ true →
-    IsEpochPart the_kept epochs (part_of seconds sats)
+    IsEpochPart Gps the_kept epochs (part_of seconds sats)
 unfolding part_of
 part_is_epoch epochs seconds sats few day room later = record {
   short = omega (arith, length-epoch seconds (length sats) (omega (arith, room.few)));
@@ -299,7 +302,7 @@ unfolding part_of
 follows step i sats some = later step i some
 
 pub parts_are : (step i : ℕ) (epochs : List (List Signals)) (before : List Epoch) → 0 < step → step * (i + length epochs) ≤ 86400 → length before + length epochs ≤ 20000 → All HaveRoom epochs →
-    is_later (last_tag_of before) (tick_at (step * i)) ≡ true → AreParts the_kept before (parts_of step i epochs)
+    is_later (last_tag_of before) (tick_at (step * i)) ≡ true → AreParts Gps the_kept before (parts_of step i epochs)
 unfolding parts_of
 parts_are step i [] before some day few rooms late = tt
 parts_are step i (sats ∷ epochs) before some day few rooms late = (

@@ -3,15 +3,17 @@ use Rattle.std.proofs.Common.{◌≡◌, ℕ, ◌+◌, ◌*◌, ◌≤◌, ◌<�
 use Rattle.std.specs.List.{All}
 use Rattle.line_source.specs.Lines.{lines_of}
 use Rattle.obs_store.specs.declared.series.Epoch.{Epoch}
-use Rattle.rinex_obs.specs.Types.{listed_of, is_listed}
-use Rattle.rinex_obs.specs.ObsRules.{file_of as file_with}
-use Rattle.rinex_obs.specs.ObsForm.{IsObsFile, AreParts}
-use Rattle.rinex_obs.specs.ObsForm.{epochs_of as epochs_in}
-use Rattle.rinex_obs.specs.declared.types.KeptType.{KeptType}
+use Rattle.rinex_head.specs.declared.system.System.TheVariants.{Gps}
+use Rattle.obs_fields.specs.Types.{listed_of, is_listed}
+use Rattle.obs_fields.specs.declared.types.KeptType.{KeptType}
+use Rattle.obs_feed.specs.ObsRules.{file_of as file_with}
+use Rattle.obs_feed.specs.ObsForm.{AreParts}
+use Rattle.obs_feed.specs.ObsForm.{epochs_of as epochs_in}
+use Rattle.rinex_obs.specs.ObsForm.{IsObsFile}
 use Rattle.sim_texts.specs.declared.signals.Signals.{Signals}
 use Rattle.sim_texts.specs.Observations.{epochs_text, observation_text}
 use Rattle.made_observations.specs.Files.{file_of, epochs_of, HaveRoom}
-use Rattle.made_observations.proofs.Header.{lines, names, the_header, header_read, header_is, kept_are}
+use Rattle.made_observations.proofs.Header.{lines, names, the_header, header_read, header_is, system_is, kept_are}
 use Rattle.made_observations.proofs.Epochs.{parts_of, epochs_read, epochs_are, parts_are}
 
 gives : (step : ℕ) (epochs : List (List Signals)) (read : List Epoch) → read ≡ epochs_of step 0 epochs → file_of step epochs ≡ file_with the_header read
@@ -25,7 +27,8 @@ file_is step epochs some day few rooms = record {
   parts = parts_of step 0 epochs;
   lines_are = header_read (epochs_text step 0 epochs) ∙ ap (λ (l : List (List ℕ)). lines ++ l) (epochs_read step 0 epochs rooms);
   is_header = header_is;
-  are_parts = subst (λ (kept : List KeptType). AreParts kept [] (parts_of step 0 epochs)) (sym kept_are) (parts_are step 0 epochs [] some (from_none step (length epochs) day) (omega arith) rooms refl);
+  of_system = system_is;
+  are_parts = subst (λ (kept : List KeptType). AreParts Gps kept [] (parts_of step 0 epochs)) (sym kept_are) (parts_are step 0 epochs [] some (from_none step (length epochs) day) (omega arith) rooms refl);
   file_is = gives step epochs (epochs_in (parts_of step 0 epochs)) (epochs_are step 0 epochs);
 }
   where

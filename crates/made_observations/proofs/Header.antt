@@ -5,12 +5,16 @@ use Rattle.line_source.specs.Lines.{lines_of}
 use Rattle.rinex_head.specs.Columns.{padded}
 use Rattle.rinex_head.specs.Head.{trimmed}
 use Rattle.rinex_head.specs.Fields.{fixed_in}
-use Rattle.rinex_obs.specs.FirstLine.{first_line_of}
-use Rattle.rinex_obs.specs.HeaderLines.{label_in, position_in, offset_in, delta_in, header_line_of}
-use Rattle.rinex_obs.specs.Types.{is_listed, names_from, first_types_of, type_list, kept_from}
-use Rattle.rinex_obs.specs.ObsForm.{IsHeader}
-use Rattle.rinex_obs.specs.declared.header.Header.{Header}
-use Rattle.rinex_obs.specs.declared.header_lines.HeaderLine.TheVariants as header
+use Rattle.rinex_head.specs.declared.system.System.TheVariants.{Gps}
+use Rattle.obs_fields.specs.declared.layout.Layout.TheVariants.{Rinex3}
+use Rattle.obs_fields.specs.Labels.{label_in}
+use Rattle.obs_fields.specs.Offsets.{position_in, offset_in, delta_in}
+use Rattle.obs_fields.specs.Types.{is_listed, names_from, first_types_of, type_list, kept_from}
+use Rattle.obs_feed.specs.FirstLine.{first_line_of}
+use Rattle.obs_feed.specs.HeaderLines.{header_line_of}
+use Rattle.obs_feed.specs.ObsForm.{IsHeader}
+use Rattle.obs_feed.specs.declared.header.Header.{Header}
+use Rattle.obs_feed.specs.declared.header_lines.HeaderLine.TheVariants as header
 use Rattle.sim_texts.specs.Observations.{header_text}
 use Rattle.written_texts.proofs.Printed.{line_first}
 use Rattle.made_observations.proofs.Satellites.{the_kept}
@@ -79,37 +83,41 @@ unfoldable pub names : List (List ℕ)
 names = codes "C1C" ∷ codes "L1C" ∷ codes "C2W" ∷ codes "L2W" ∷ []
 
 unfoldable pub the_header : Header
-the_header = record { hundredths = 304; position = Some (pos 63781370000 ∷ pos 0 ∷ pos 0 ∷ []); delta = pos 0 ∷ pos 0 ∷ pos 0 ∷ []; types = names }
+the_header = record { system = Gps; hundredths = 304; position = Some (pos 63781370000 ∷ pos 0 ∷ pos 0 ∷ []); delta = pos 0 ∷ pos 0 ∷ pos 0 ∷ []; types = names }
 
-pub kept_are : kept_from 0 the_header.types ≡ the_kept
+pub system_is : the_header.system ≡ Gps
+unfolding the_header
+system_is = refl
+
+pub kept_are : kept_from Gps 0 the_header.types ≡ the_kept
 unfolding the_header names the_kept kept_from
 kept_are = refl
 
-version_is : first_line_of line_1 ≡ Ok 304
+version_is : first_line_of Gps line_1 ≡ Ok 304
 unfolding line_1 first_line_of padded trimmed
 version_is = refl
 
-position_is : header_line_of line_2 ≡ Ok (header.Position (Some (pos 63781370000 ∷ pos 0 ∷ pos 0 ∷ [])))
+position_is : header_line_of Gps line_2 ≡ Ok (header.Position (Some (pos 63781370000 ∷ pos 0 ∷ pos 0 ∷ [])))
 unfolding line_2 header_line_of label_in position_in fixed_in padded trimmed
 position_is = refl
 
-delta_is : header_line_of line_3 ≡ Ok (header.Delta (pos 0 ∷ pos 0 ∷ pos 0 ∷ []))
+delta_is : header_line_of Gps line_3 ≡ Ok (header.Delta (pos 0 ∷ pos 0 ∷ pos 0 ∷ []))
 unfolding line_3 header_line_of label_in delta_in offset_in padded trimmed
 delta_is = refl
 
-types_are : header_line_of line_4 ≡ Ok header.Types
+types_are : header_line_of Gps line_4 ≡ Ok header.Types
 unfolding line_4 header_line_of label_in padded trimmed
 types_are = refl
 
-names_are : first_types_of line_4 ≡ Ok (type_list names 0)
+names_are : first_types_of Rinex3 line_4 ≡ Ok (type_list names 0)
 unfolding line_4 names names_from is_listed padded
 names_are = refl
 
-time_is : header_line_of line_5 ≡ Ok header.Skipped
+time_is : header_line_of Gps line_5 ≡ Ok header.Skipped
 unfolding line_5 header_line_of label_in padded trimmed
 time_is = refl
 
-ends_is : header_line_of line_6 ≡ Ok header.End
+ends_is : header_line_of Gps line_6 ≡ Ok header.End
 unfolding line_6 header_line_of label_in padded trimmed
 ends_is = refl
 

@@ -2,7 +2,7 @@
 use Rattle.std.proofs.Common.{◌≡◌, ℕ, ℤ, zero, suc, ◌+◌, ◌-◌, ◌/◌, ◌%◌, ◌^◌, ◌≤◌, ◌<◌, true, false, ◌==◌, nat_le, List, [], ◌∷◌, ◌++◌, length, drop, get_or, Ok, Some, None, Option, refl, sym, ap, subst, ◌∙◌, arith, length-append}
 use Rattle.std.proofs.lemmas.Bool.Decides.{nat_tests}
 use Rattle.std.proofs.lemmas.List.{append_assoc, append-nil}
-use Rattle.std.specs.Prelude.{codes, replicate}
+use Rattle.std.specs.Prelude.{codes}
 use Rattle.std.specs.List.{AllByRecursion}
 use Rattle.decimal_text.specs.Whole.{is_digit, size_of}
 use Rattle.decimal_text.specs.Write.{last_digits}
@@ -10,10 +10,14 @@ use Rattle.decimal_text.specs.Fixed.{fixed_of}
 use Rattle.line_source.specs.Lines.{lines_of}
 use Rattle.obs_store.specs.declared.values.SatObs.{SatObs}
 use Rattle.obs_store.specs.declared.kinds.ObsType.TheVariants.{C1C, L1C, C2W, L2W}
+use Rattle.obs_store.specs.Missing.{missing_values}
 use Rattle.obs_store.specs.Satellites.{has_satellite}
 use Rattle.rinex_head.specs.Columns.{column, columns, padded}
-use Rattle.rinex_obs.specs.SatLines.{unless_zero, amount_in, with_lock, value_in, values_from, digit_of, number_in, satellite_in, satellite_line_of, satellite_of}
-use Rattle.rinex_obs.specs.declared.types.KeptType.{KeptType}
+use Rattle.rinex_head.specs.declared.system.System.TheVariants.{Gps}
+use Rattle.obs_fields.specs.declared.layout.Layout.TheVariants.{Rinex3}
+use Rattle.obs_fields.specs.declared.types.KeptType.{KeptType}
+use Rattle.obs_fields.specs.SatFields.{unless_zero, amount_in, with_lock, value_in, values_in, digit_of, number_at, satellite_at}
+use Rattle.obs_feed.specs.SatLines.{satellite_line_of, satellite_of}
 use Rattle.sim_texts.specs.declared.signals.Signals.{Signals}
 use Rattle.sim_texts.specs.Columns.{fixed_in}
 use Rattle.sim_texts.specs.Observations.{satellite_line, IsInColumns, AreInColumns}
@@ -186,8 +190,8 @@ value_52 n s h = let long = long_of s h in value_at (content n s) 52 s.l2 (at_fo
 unfoldable pub the_kept : List KeptType
 the_kept = record { number = 0; kind = C1C } ∷ record { number = 1; kind = L1C } ∷ record { number = 2; kind = C2W } ∷ record { number = 3; kind = L2W } ∷ []
 
-values_read : (n : ℕ) (s : Signals) → AreInColumns s → values_from the_kept (content n s) (replicate 20 None) ≡ Ok (values_of s)
-unfolding values_from the_kept
+values_read : (n : ℕ) (s : Signals) → AreInColumns s → values_in Rinex3 0 the_kept (content n s) missing_values ≡ Ok (values_of s)
+unfolding values_in the_kept
 values_read n s h = rw (value_4 n s h, value_20 n s h, value_36 n s h, value_52 n s h) refl
 
 -- ---- the satellite's number
@@ -198,7 +202,7 @@ digit_is d h =
     let back : 48 + d - 48 ≡ d = omega arith in
     rw (blank, digit, back) refl
 
-pub number_is : (n : ℕ) (s : Signals) → n < 100 → number_in (content n s) ≡ n
+pub number_is : (n : ℕ) (s : Signals) → n < 100 → number_at (content n s) 1 ≡ n
 unfolding content
 number_is n s few =
     let tens : n / 10 ^ 1 % 10 < 10 = omega arith in
@@ -209,10 +213,10 @@ letter_is : (n : ℕ) (s : Signals) → column (content n s) 1 ≡ 71
 unfolding content
 letter_is n s = refl
 
-sat_is : (n : ℕ) (s : Signals) → 1 ≤ n → n ≤ 32 → satellite_in (content n s) ≡ Ok (Some n)
-unfolding satellite_in
+sat_is : (n : ℕ) (s : Signals) → 1 ≤ n → n ≤ 32 → satellite_at Gps false (content n s) 1 ≡ Ok (Some n)
+unfolding satellite_at
 sat_is n s low high =
-    let number : number_in (content n s) ≡ n = number_is n s (omega arith) in
+    let number : number_at (content n s) 1 ≡ n = number_is n s (omega arith) in
     let above : nat_le 1 n ≡ true = grind (arith, nat_tests) in
     let below : nat_le n 32 ≡ true = grind (arith, nat_tests) in
     rw (letter_is n s, number, above, below) refl
@@ -239,8 +243,8 @@ more_below n [] s h is = (omega (arith, is), tt)
 more_below n (x ∷ sats) s h is = (omega (arith, h.0), more_below n sats s h.1 is)
 
 pub read_as : (n : ℕ) (s : Signals) (before : List SatObs) → AreInColumns s → n + 1 ≤ 32 → AreBelow n before →
-    satellite_line_of the_kept before (content (n + 1) s) ≡ Ok (Some (satellite_of (n + 1) (values_of s)))
+    satellite_line_of Gps the_kept before (content (n + 1) s) ≡ Ok (Some (satellite_of (n + 1) (values_of s)))
 unfolding satellite_line_of
 read_as n s before h few below =
-    let number : satellite_in (content (n + 1) s) ≡ Ok (Some (n + 1)) = sat_is (n + 1) s (omega arith) few in
+    let number : satellite_at Gps false (content (n + 1) s) 1 ≡ Ok (Some (n + 1)) = sat_is (n + 1) s (omega arith) few in
     rw (number, no_twin n before below, values_read (n + 1) s h) refl

@@ -7,7 +7,7 @@ use Rattle.obs_store.specs.declared.file.ObsFile.{ObsFile}
 use Rattle.obs_store.specs.declared.series.Epoch.{Epoch}
 use Rattle.obs_store.specs.declared.values.Value.{Value}
 use Rattle.obs_store.specs.declared.values.SatObs.{SatObs}
-use Rattle.rinex_obs.specs.SatLines.{unless_zero}
+use Rattle.obs_fields.specs.SatFields.{unless_zero}
 use Rattle.sim_texts.specs.declared.signals.Signals.{Signals}
 use Rattle.sim_texts.specs.Observations.{AreInColumns}
 
@@ -23,7 +23,8 @@ value_of z = with_no_lock (unless_zero z)
 abbrev pub values_of : Signals → List (Option Value)
 values_of s =
     value_of s.code ∷ None ∷ None ∷ None ∷ None ∷ value_of s.l1 ∷ None ∷ None ∷ None ∷ None
-    ∷ value_of s.code ∷ None ∷ None ∷ None ∷ None ∷ value_of s.l2 ∷ None ∷ None ∷ None ∷ None ∷ []
+    ∷ value_of s.code ∷ None ∷ None ∷ None ∷ None ∷ value_of s.l2 ∷ None ∷ None ∷ None ∷ None
+    ∷ None ∷ None ∷ None ∷ None ∷ None ∷ None ∷ []
 
 -- the satellites that follow number n
 abbrev pub satellites_of : ℕ → List Signals → List SatObs
@@ -45,7 +46,7 @@ file_of step epochs = record {
   hundredths = 304;
   position = Some (pos 63781370000 ∷ pos 0 ∷ pos 0 ∷ []);
   delta = pos 0 ∷ pos 0 ∷ pos 0 ∷ [];
-  listed = true ∷ false ∷ false ∷ false ∷ false ∷ true ∷ false ∷ false ∷ false ∷ false ∷ true ∷ false ∷ false ∷ false ∷ false ∷ true ∷ false ∷ false ∷ false ∷ false ∷ [];
+  listed = true ∷ false ∷ false ∷ false ∷ false ∷ true ∷ false ∷ false ∷ false ∷ false ∷ true ∷ false ∷ false ∷ false ∷ false ∷ true ∷ false ∷ false ∷ false ∷ false ∷ false ∷ false ∷ false ∷ false ∷ false ∷ false ∷ [];
   epochs = epochs_of step 0 epochs;
 }
 

@@ -1,4 +1,11 @@
 //! The normal matrix: the weighted sum of squares at the centres of the rows as a whole-number matrix.
+//!
+//! `sum_pair` and `sum` give exactly the normal matrix of the rows of a pair and of a session, entry by entry, and
+//! the sums of the squares of their radii (clause `normal`). For every integer vector and every rational baseline the
+//! matrix gives the weighted sum of squares at the centres of the boxes (`centres`), and 63 times it, less the radii,
+//! is at most 64 times the sum of squares at any data in the boxes (`below`). The calls take no memory and never
+//! refuse; the type `Normal` keeps symmetry, and that each entry is below 2^120 in size and each sum of radii below
+//! 2^100.
 #![tactic(auto)]
 
 mod coefficients;
@@ -11,6 +18,3 @@ mod sums;
 
 pub use normal::Normal;
 pub use sums::{sum, sum_pair};
-
-#[cfg(test)]
-mod tests;

@@ -1,4 +1,4 @@
-//! The numbers that another unit, another band or another count of integers would change. Each stands here alone.
+//! The numbers that another unit, another band or another count of integers would change. `constants.rt` says what each is.
 
 /// How many signals a row has: phase on L1, phase on L2, code on L1, code on L2, numbered from 0 in this order.
 pub const SIGNALS: usize = 4;

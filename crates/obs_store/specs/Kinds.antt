@@ -1,13 +1,17 @@
--- The kept observation types of GPS: their names, and the slots of their values.
+-- The kept observation types: their names, and the slots of their values.
 use Rattle.std.specs.Prelude.{ℕ, List, [], ◌∷◌, codes, find}
 use Rattle.std.specs.Str.{bytes_eq}
 use Rattle.std.specs.declared.option.Option.{Option}
 use Rattle.obs_store.specs.declared.kinds.ObsType.{ObsType}
-use Rattle.obs_store.specs.declared.kinds.ObsType.TheVariants.{C1C, C1W, C1X, C1S, C1L, L1C, L1W, L1X, L1S, L1L, C2W, C2X, C2L, C2S, C2C, L2W, L2X, L2L, L2S, L2C}
+use Rattle.obs_store.specs.declared.kinds.ObsType.TheVariants.{C1C, C1W, C1X, C1S, C1L, L1C, L1W, L1X, L1S, L1L, C2W, C2X, C2L, C2S, C2C, L2W, L2X, L2L, L2S, L2C, C5Q, C5X, C5I, L5Q, L5X, L5I}
+
+-- how many there are
+abbrev pub slot_count : ℕ
+slot_count = 26
 
 -- the kept types in the order of their slots
 abbrev pub kept_types : List ObsType
-kept_types = C1C ∷ C1W ∷ C1X ∷ C1S ∷ C1L ∷ L1C ∷ L1W ∷ L1X ∷ L1S ∷ L1L ∷ C2W ∷ C2X ∷ C2L ∷ C2S ∷ C2C ∷ L2W ∷ L2X ∷ L2L ∷ L2S ∷ L2C ∷ []
+kept_types = C1C ∷ C1W ∷ C1X ∷ C1S ∷ C1L ∷ L1C ∷ L1W ∷ L1X ∷ L1S ∷ L1L ∷ C2W ∷ C2X ∷ C2L ∷ C2S ∷ C2C ∷ L2W ∷ L2X ∷ L2L ∷ L2S ∷ L2C ∷ C5Q ∷ C5X ∷ C5I ∷ L5Q ∷ L5X ∷ L5I ∷ []
 
 abbrev pub name_of : ObsType → List ℕ
 name_of C1C = codes "C1C"
@@ -30,6 +34,12 @@ name_of L2X = codes "L2X"
 name_of L2L = codes "L2L"
 name_of L2S = codes "L2S"
 name_of L2C = codes "L2C"
+name_of C5Q = codes "C5Q"
+name_of C5X = codes "C5X"
+name_of C5I = codes "C5I"
+name_of L5Q = codes "L5Q"
+name_of L5X = codes "L5X"
+name_of L5I = codes "L5I"
 
 -- the kept type of that name
 abbrev pub kept_type_of : List ℕ → Option ObsType
@@ -57,3 +67,9 @@ slot_of L2X = 16
 slot_of L2L = 17
 slot_of L2S = 18
 slot_of L2C = 19
+slot_of C5Q = 20
+slot_of C5X = 21
+slot_of C5I = 22
+slot_of L5Q = 23
+slot_of L5X = 24
+slot_of L5I = 25

@@ -1,4 +1,5 @@
 pub mod Kinds
+pub mod Missing
 pub mod Satellites
 pub mod Epochs
 pub mod Seen

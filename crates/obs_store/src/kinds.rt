@@ -1,11 +1,11 @@
 // The observation types that are kept.
 ghost use Rattle.std.specs.Prelude.{◌≡◌, ◌<◌, codes};
-ghost use Rattle.obs_store.specs.Kinds.{name_of, slot_of, kept_type_of};
+ghost use Rattle.obs_store.specs.Kinds.{name_of, slot_count, slot_of, kept_type_of};
 
 /// How many observation types are kept of each satellite.
-pub const SLOTS: usize = 20;
+pub const SLOTS: usize = 26;
 
-/// The kept observation types of GPS, by their names in RINEX 3 (its table of GPS observation codes).
+/// The kept observation types, by their names in RINEX 3 (its tables of observation codes).
 ///
 /// `C` is a code in metres, `L` a phase in cycles; the digit is the frequency, the last letter the tracking.
 #[derive(Clone, Copy, Debug, PartialEq, Eq)]
@@ -30,6 +30,12 @@ pub enum ObsType {
     L2L,
     L2S,
     L2C,
+    C5Q,
+    C5X,
+    C5I,
+    L5Q,
+    L5X,
+    L5I,
 }
 
 impl ObsType {
@@ -55,6 +61,12 @@ impl ObsType {
         ObsType::L2L,
         ObsType::L2S,
         ObsType::L2C,
+        ObsType::C5Q,
+        ObsType::C5X,
+        ObsType::C5I,
+        ObsType::L5Q,
+        ObsType::L5X,
+        ObsType::L5I,
     ];
 
     /// The type of this name, if it is kept.
@@ -89,13 +101,19 @@ impl ObsType {
             ObsType::L2L => b"L2L",
             ObsType::L2S => b"L2S",
             ObsType::L2C => b"L2C",
+            ObsType::C5Q => b"C5Q",
+            ObsType::C5X => b"C5X",
+            ObsType::C5I => b"C5I",
+            ObsType::L5Q => b"L5Q",
+            ObsType::L5X => b"L5X",
+            ObsType::L5I => b"L5I",
         }
     }
 
     /// The place of the type's value among the values of a satellite.
     pub fn slot(self) -> usize
         ensures value { result ≡ slot_of self }
-        ensures bound { result < 20 }
+        ensures bound { result < slot_count }
     {
         self as usize
     }

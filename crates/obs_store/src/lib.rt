@@ -1,4 +1,9 @@
-//! An observation file as data: what its header says of GPS, and its epochs in order.
+//! An observation file as data: what its header says of one system, and its epochs in order.
+//!
+//! An observation file as data. `Epochs` holds at most 20,000 epochs, each tag later than the one before, and in each
+//! of them `Satellites` of numbers 1 to 36, each at most once: facts of the types, so of every file (`kept` of
+//! `as_slice`). `ObsFile::seen` gives each satellite in first-seen order with its number of epochs. The twenty-six
+//! kept observation types are the enum `ObsType`, with their names and slots.
 #![tactic(auto)]
 
 mod file;
@@ -13,83 +18,3 @@ pub use kinds::{ObsType, SLOTS};
 pub use sats::Satellites;
 pub use series::{Epoch, Epochs};
 pub use values::{SatObs, Value};
-
-#[cfg(test)]
-mod tests {
-    use super::*;
-    use gps_time::Tick;
-    use std::test::Fail;
-
-    #[test]
-    fn names_and_slots(rt: HostRuntime) {
-        let slots = [
-            ("C1C", 0),
-            ("L1L", 9),
-            ("C2W", 10),
-            ("C2C", 14),
-            ("L2W", 15),
-            ("L2C", 19),
-        ];
-        for (name, slot) in slots {
-            let found = ObsType::named(name.as_bytes()).map(|kind| kind.slot());
-            assert_eq!(rt; found, Some(slot), "at {name}");
-        }
-        for name in ["C1P", "L5X", "c1c", "C1C ", ""] {
-            assert_eq!(rt; ObsType::named(name.as_bytes()), None, "at {name}");
-        }
-    }
-
-    #[test]
-    fn holds_epochs(rt: HostRuntime) -> Result<(), Fail> {
-        let mut sats = Satellites::new(rt.alloc());
-        sats.push(SatObs::missing(5))?;
-        assert!(rt; sats.has(5) && !sats.has(6));
-        let mut epochs = Epochs::new(rt.alloc());
-        assert_eq!(rt; epochs.last_tag(), None);
-        assert_eq!(rt; epochs.len(), 0);
-        epochs.push(Epoch {
-            tag: Tick(13881024000000000),
-            power: false,
-            sats,
-        })?;
-        assert_eq!(rt; epochs.len(), 1);
-        assert_eq!(rt; epochs.tag_at(0), Tick(13881024000000000));
-        assert_eq!(rt; epochs.last_tag(), Some(Tick(13881024000000000)));
-        Ok(())
-    }
-
-    #[test]
-    fn counts_satellites(rt: HostRuntime) -> Result<(), Fail> {
-        let mut epochs = Epochs::new(rt.alloc());
-        let mut first = Satellites::new(rt.alloc());
-        first.push(SatObs::missing(5))?;
-        first.push(SatObs::missing(32))?;
-        epochs.push(Epoch {
-            tag: Tick(13881024000000000),
-            power: false,
-            sats: first,
-        })?;
-        let mut second = Satellites::new(rt.alloc());
-        second.push(SatObs::missing(12))?;
-        second.push(SatObs::missing(5))?;
-        epochs.push(Epoch {
-            tag: Tick(13881024300000000),
-            power: true,
-            sats: second,
-        })?;
-        let file = ObsFile {
-            hundredths: 304,
-            position: None,
-            delta: [0, 0, 0],
-            listed: [false; SLOTS],
-            epochs,
-        };
-        let seen = file.seen(rt.alloc())?;
-        assert_eq!(rt; seen.len(), 3);
-        for (at, number, count) in [(0, 5, 2), (1, 32, 1), (2, 12, 1)] {
-            let entry = seen.get_index(at).map(|(n, c)| (*n, *c));
-            assert_eq!(rt; entry, Some((number, count)), "at {at}");
-        }
-        Ok(())
-    }
-}

@@ -1,5 +1,6 @@
 // What is kept of a satellite in an epoch.
-ghost use Rattle.std.specs.Prelude.{◌≡◌, ◌∷◌, [], replicate, None, slice_get};
+ghost use Rattle.std.specs.Prelude.{◌≡◌};
+ghost use Rattle.obs_store.specs.Missing.{missing_values};
 
 use crate::SLOTS;
 
@@ -12,7 +13,7 @@ pub struct Value {
     pub lock: u8,
 }
 
-/// The kept values of a GPS satellite in an epoch.
+/// The kept values of a satellite in an epoch.
 #[derive(Clone, Copy, Debug, PartialEq, Eq)]
 pub struct SatObs {
     /// The satellite's number.
@@ -25,7 +26,7 @@ impl SatObs {
     /// The satellite, with all values missing.
     pub fn missing(number: u8) -> SatObs
         ensures number { result.number ≡ number }
-        ensures values { result.values ≡ replicate 20 None }
+        ensures values { result.values ≡ missing_values }
     {
         SatObs {
             number,

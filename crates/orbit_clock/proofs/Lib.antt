@@ -3,3 +3,4 @@ pub mod RootOfMu
 pub mod Quotients
 pub mod FirstBounds
 pub mod NearMean
+pub mod Shares

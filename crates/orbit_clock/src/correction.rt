@@ -1,5 +1,5 @@
 // The clock's correction: IS-GPS-200, 20.3.3.3.3.1. Times are over 10^4 s, so the drift is times 10^4 and the aging times 10^8.
-ghost use Rattle.std.specs.Prelude.{◌≡◌, ◌+◌, ◌*◌, ◌^◌, ◌<◌, ◌≤◌, pos, ◌-ℤ◌, ◌*ℤ◌, ◌≤ℤ◌};
+ghost use Rattle.std.specs.Prelude.{◌≡◌, ◌+◌, ◌*◌, ◌^◌, ◌<◌, ◌≤◌, pos, ◌+ℤ◌, ◌-ℤ◌, ◌*ℤ◌, ◌≤ℤ◌, ◌<ℤ◌, unsigned_abs};
 ghost use Rattle.std.specs.Int.{abs_diff};
 ghost use Rattle.rational.specs.Rational.{Rational, sub_r};
 ghost use Rattle.iv_core.specs.Intervals.{Holds};
@@ -8,9 +8,7 @@ ghost use Rattle.orbit_clock.specs.Records.{elements_of, seconds};
 ghost use Rattle.orbit_clock.specs.Terms.{HoldsTerms, part, correction};
 
 use crate::quotient::quotient;
-use crate::shape::{TEN_THOUSAND, ten_thousand};
-use decimal_box::decimal_box;
-use eph_store::Eph;
+use crate::record::ClockRecord;
 use gps_time::Tick;
 use iv_core::Iv;
 use sized_box::SizedBox;
@@ -18,11 +16,11 @@ use sized_box::SizedBox;
 const ONE: u64 = 1 << 60;
 
 // Limits of size, at 2^-60: 0.01, 10^-3, 10^-4 and 1.4402 for the terms
-const BIAS: u64 = ONE / 100 + 1;
+pub const BIAS: u64 = ONE / 100 + 1;
 
-const DRIFT: u64 = ONE / 1_000 + 1;
+pub const DRIFT: u64 = ONE / 1_000 + 1;
 
-const AGING: u64 = ONE / 10_000 + 1;
+pub const AGING: u64 = ONE / 10_000 + 1;
 
 const OFFSET: u64 = ONE / 10_000 * 14_402;
 
@@ -83,6 +81,29 @@ pub fn time_since<const TICKS: u64, const SIZE: u64>(
     quotient(sent_since(epoch, tag, code), 14_989_622_900_000_000_000)
 }
 
+// 10^4 · 2^41, which makes a clock positive
+const RAISED: i64 = 21_990_232_555_520_000;
+
+const RAISED_BY: i64 = 1 << 41;
+
+// ⌊clock / 10^4⌋. The divisor is known when the program is built, which then multiplies in place of dividing.
+fn share_below(clock: i64) -> i64
+    requires { unsigned_abs clock ≤ 2 ^ 54 }
+    ensures low { (result *ℤ pos 10000) ≤ℤ clock }
+    ensures high { clock <ℤ ((result *ℤ pos 10000) +ℤ pos 10000) }
+{
+    ((clock + RAISED) as u64 / 10_000) as i64 - RAISED_BY
+}
+
+// ⌈clock / 10^4⌉
+fn share_above(clock: i64) -> i64
+    requires { unsigned_abs clock ≤ 2 ^ 54 }
+    ensures low { clock ≤ℤ (result *ℤ pos 10000) }
+    ensures high { (result *ℤ pos 10000) <ℤ (clock +ℤ pos 10000) }
+{
+    -share_below(-clock)
+}
+
 // A clock over 10^4
 pub fn share_of<const WIDTH: u64, const TO: u64>(
     clock: &SizedBox<60, CLOCK, WIDTH>,
@@ -90,22 +111,24 @@ pub fn share_of<const WIDTH: u64, const TO: u64>(
     requires width { WIDTH + 20000 ≤ (TO + 1) * 10000 }
     ensures { (x : Rational) → Holds clock.now.held x → Holds result.held (part x) }
 {
-    clock.div::<0, TEN_THOUSAND, 0, TEN_THOUSAND, 60, SHARE, TO>(&ten_thousand())
+    let low = share_below(clock.held.lo);
+    let high = share_above(clock.held.hi);
+    SizedBox::new(Iv::from_ends(low, high))
 }
 
 impl Terms {
     /// The terms of a record, with the time of sending that a tag and a code say.
-    pub fn of(eph: &Eph, tag: Tick, code: i64) -> Terms
-        requires near { abs_diff tag.0 eph.now.toe.0 ≤ 72010000000 }
+    pub fn of(made: &ClockRecord, tag: Tick, code: i64) -> Terms
+        requires near { abs_diff tag.0 made.now.eph.toe.0 ≤ 72010000000 }
         requires code_low { pos 0 ≤ℤ code }
         requires code_high { code ≤ℤ pos (10 ^ 11) }
-        ensures { HoldsTerms result (elements_of eph.now) (sent_at tag.0 code) }
+        ensures { HoldsTerms result (elements_of made.now.eph) (sent_at tag.0 code) }
     {
         Terms {
-            bias: decimal_box::<60, 1, 2, 0, BIAS>(eph.af0),
-            drift: decimal_box::<60, 1, 7, 4, DRIFT>(eph.af1),
-            aging: decimal_box::<60, 1, 12, 8, AGING>(eph.af2),
-            offset: time_since::<144_010_000_000, OFFSET>(eph.toc, tag, code),
+            bias: made.bias,
+            drift: made.drift,
+            aging: made.aging,
+            offset: time_since::<144_010_000_000, OFFSET>(made.eph.toc, tag, code),
         }
     }
 }

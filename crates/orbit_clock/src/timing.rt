@@ -12,12 +12,8 @@ ghost use Rattle.orbit_clock.specs.Timings.{HoldsTiming};
 
 use crate::World;
 use crate::correction::{CLOCK, EFFECT, SHARE, Terms, pass, share_of, time_since};
-use crate::quotient::quotient;
-use crate::shape::{
-    ECCENTRICITY, MOTION, MOTION_WIDTH, TEN_THOUSAND, eccentricity, mean_motion, root_of_axis,
-    ten_thousand,
-};
-use decimal_box::decimal_box;
+use crate::record::ClockRecord;
+use crate::shape::ECCENTRICITY;
 use eph_store::Eph;
 use gps_time::Tick;
 use iv_core::Iv;
@@ -30,22 +26,10 @@ const SENT: u64 = (1 << 60) / 10_000 * 7_202;
 /// The greatest time since the reference epoch, at 2^-60 of 10^4 s.
 pub const EPOCH_TIME: u64 = (1 << 60) / 10_000 * 7_203;
 
-// 6.5 at 2^-56
-const ANGLE: u64 = 13 << 55;
-
 const TURNED: u64 = (1 << 56) / 100 * 158;
 
 /// The greatest mean anomaly, at 2^-56.
 pub const MEAN: u64 = 12 << 56;
-
-// F at 2^-60 of 10^-4 s/√m, and with √A, with e, and in s
-const FACTOR: u64 = 5_123_000_000_000;
-
-const BY_ROOT: u64 = 30_738_000_000_000_000;
-
-const BY_ECCENTRICITY: u64 = 960_600_000_000_000;
-
-const RELATIVITY: u64 = 96_100_000_000;
 
 // How much the sine of an approximate solution is widened
 const PAD: i64 = (1 << 27) + 1;
@@ -74,23 +58,6 @@ pub struct Timing {
     pub mean: SizedBox<56, MEAN, 4>,
 }
 
-// F e √A, in s
-fn relativity(eph: &Eph, world: &World) -> SizedBox<60, RELATIVITY, 2>
-    ensures { Holds result.held (mul_r (mul_r (constants_of world.now).relativity (elements_of eph.now).ecc) (elements_of eph.now).root_a) }
-{
-    let factor: SizedBox<60, FACTOR, 1> = factor_of(world);
-    let by_root: SizedBox<60, BY_ROOT, 6_002> = factor.mul(&root_of_axis(eph));
-    let both: SizedBox<60, BY_ECCENTRICITY, 189> = by_root.mul(&eccentricity(eph));
-    both.div::<0, TEN_THOUSAND, 0, TEN_THOUSAND, 60, RELATIVITY, 2>(&ten_thousand())
-}
-
-// F in 10^-4 s/√m
-fn factor_of(world: &World) -> SizedBox<60, FACTOR, 1>
-    ensures { Holds result.held (times (10 ^ 4) (constants_of world.now).relativity) }
-{
-    quotient(world.rel as i128, 1_000_000_000_000_000)
-}
-
 // tk over 10^4, at a clock
 fn time_at<const WIDTH: u64>(
     sent: &SizedBox<60, SENT, 1>,
@@ -104,17 +71,12 @@ fn time_at<const WIDTH: u64>(
 }
 
 // M0 + n tk
-fn mean_anomaly(
-    eph: &Eph,
-    motion: &SizedBox<60, MOTION, MOTION_WIDTH>,
-    time: &SizedBox<60, EPOCH_TIME, 3>,
-) -> SizedBox<56, MEAN, 4>
-    ensures { (n t : Rational) → Holds motion.now.held n → Holds time.now.held t →
-        Holds result.held (add_r (elements_of eph.now).m0 (mul_r n t)) }
+fn mean_anomaly(made: &ClockRecord, time: &SizedBox<60, EPOCH_TIME, 3>) -> SizedBox<56, MEAN, 4>
+    ensures { (n t : Rational) → Holds made.now.motion.held n → Holds time.now.held t →
+        Holds result.held (add_r (elements_of made.now.eph).m0 (mul_r n t)) }
 {
-    let start: SizedBox<56, ANGLE, 1> = decimal_box::<56, 65, 1, 0, ANGLE>(eph.m0);
-    let turned: SizedBox<56, TURNED, 3> = motion.mul(time);
-    start.add(&turned)
+    let turned: SizedBox<56, TURNED, 3> = made.motion.mul(time);
+    made.start.add(&turned)
 }
 
 // The sines of the solutions whose mean anomaly is within 2^-35 of the box
@@ -176,34 +138,30 @@ fn any_effect() -> SizedBox<60, EFFECT, 220_000_000_000>
 
 // The relativistic term, from an approximate clock
 fn effect_of(
-    eph: &Eph,
-    world: &World,
-    motion: &SizedBox<60, MOTION, MOTION_WIDTH>,
+    made: &ClockRecord,
     sent: &SizedBox<60, SENT, 1>,
     first: &SizedBox<60, CLOCK, FIRST_WIDTH>,
 ) -> SizedBox<60, EFFECT, EFFECT_WIDTH>
-    ensures { (s : Rational) (q : Quantities) → IsSatelliteSolution (constants_of world.now) (elements_of eph.now) s q →
-        Holds motion.now.held (times 10000 q.motion) → Holds sent.now.held (part (sub_r s (elements_of eph.now).toe)) →
-        Holds first.now.held q.clock →
-        Holds result.held (mul_r (mul_r (mul_r (constants_of world.now).relativity (elements_of eph.now).ecc) (elements_of eph.now).root_a) q.eccentric_pair.sin) }
+    ensures { (s : Rational) (q : Quantities) → IsSatelliteSolution (constants_of made.now.world) (elements_of made.now.eph) s q →
+        Holds sent.now.held (part (sub_r s (elements_of made.now.eph).toe)) → Holds first.now.held q.clock →
+        Holds result.held (mul_r (mul_r (mul_r (constants_of made.now.world).relativity (elements_of made.now.eph).ecc) (elements_of made.now.eph).root_a) q.eccentric_pair.sin) }
 {
     let time = time_at(sent, &clock_at(middle_of(first)));
-    let mean = mean_anomaly(eph, motion, &time);
-    let sine = sine_near(&mean, &eccentricity(eph));
-    relativity(eph, world).mul(&sine)
+    let mean = mean_anomaly(made, &time);
+    let sine = sine_near(&mean, &made.eccentricity);
+    made.relativity.mul(&sine)
 }
 
 /// When a satellite sent what was received at a tag with a code, in mm, and what Kepler's equation is asked with: boxes of
 /// every solution. The tag is at most 7201 s from the ephemeris' time.
-pub fn timing_of(eph: &Eph, tag: Tick, code: i64, world: &World) -> Timing
-    requires near { abs_diff tag.0 eph.now.toe.0 ≤ 72010000000 }
+pub fn timing_at(made: &ClockRecord, tag: Tick, code: i64) -> Timing
+    requires near { abs_diff tag.0 made.now.eph.toe.0 ≤ 72010000000 }
     requires code_low { pos 0 ≤ℤ code }
     requires code_high { code ≤ℤ pos (10 ^ 11) }
-    ensures { (q : Quantities) → IsSatelliteSolution (constants_of world.now) (elements_of eph.now) (sent_at tag.0 code) q → HoldsTiming result q }
+    ensures { (q : Quantities) → IsSatelliteSolution (constants_of made.now.world) (elements_of made.now.eph) (sent_at tag.0 code) q → HoldsTiming result q }
 {
-    let motion = mean_motion(eph, world);
-    let sent = time_since::<72_010_000_000, SENT>(eph.toe, tag, code);
-    let terms = Terms::of(eph, tag, code);
+    let sent = time_since::<72_010_000_000, SENT>(made.eph.toe, tag, code);
+    let terms = Terms::of(made, tag, code);
     let first: SizedBox<60, CLOCK, FIRST_WIDTH> = pass::<
         36_028_797_018_963_968,
         3_602_879_701_898,
@@ -215,7 +173,7 @@ pub fn timing_of(eph: &Eph, tag: Tick, code: i64, world: &World) -> Timing
         220_000_000_000,
         FIRST_WIDTH,
     >(&terms, &any_clock(), &any_effect());
-    let effect = effect_of(eph, world, &motion, &sent, &first);
+    let effect = effect_of(made, &sent, &first);
     let second = pass::<
         FIRST_WIDTH,
         22_469_828,
@@ -231,10 +189,20 @@ pub fn timing_of(eph: &Eph, tag: Tick, code: i64, world: &World) -> Timing
         &terms, &second, &effect,
     );
     let epoch_time = time_at(&sent, &clock);
-    let mean = mean_anomaly(eph, &motion, &epoch_time);
+    let mean = mean_anomaly(made, &epoch_time);
     Timing {
         clock,
         epoch_time,
         mean,
     }
+}
+
+/// The same from the record itself and the constants of its system.
+pub fn timing_of(eph: &Eph, tag: Tick, code: i64, world: &World) -> Timing
+    requires near { abs_diff tag.0 eph.now.toe.0 ≤ 72010000000 }
+    requires code_low { pos 0 ≤ℤ code }
+    requires code_high { code ≤ℤ pos (10 ^ 11) }
+    ensures { (q : Quantities) → IsSatelliteSolution (constants_of world.now) (elements_of eph.now) (sent_at tag.0 code) q → HoldsTiming result q }
+{
+    timing_at(&ClockRecord::of(eph, world), tag, code)
 }

@@ -1,5 +1,10 @@
 //! Boxes of a satellite's Earth-fixed place, from boxes of the numbers of its orbit: the user algorithm of IS-GPS-200 (table
 //! 20-IV) from the true anomaly on.
+//!
+//! `place_of` takes boxes of the numbers of an orbit, of the time since the reference epoch, of the axis and of the
+//! pair of the eccentric anomaly. Its three boxes hold the place of every solution of the user algorithm whose
+//! numbers lie in the boxes (`holds`). Each is at most 2^-18 m wide (`narrow`), and every place in them is from
+//! 19,000 km to 38,000 km from the Earth's centre (`away`). It takes no memory and is never refused.
 #![tactic(auto)]
 
 ghost use Rattle.std.specs.Prelude.{◌≡◌, ◌^◌, pos, ◌≤ℤ◌, [], ◌∷◌, All};
@@ -42,6 +47,3 @@ pub fn place_of(orbit: &Orbit) -> [Iv<36>; 3]
     let z: SizedBox<36, PLACE, PLACE_WIDTH> = plane.radius.mul(&direction.z);
     [x.held, y.held, z.held]
 }
-
-#[cfg(test)]
-mod tests;

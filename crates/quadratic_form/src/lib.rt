@@ -1,6 +1,14 @@
 //! Quadratic forms over whole numbers, their elimination column by column, and what it says for all
 //! data of the rows. Definitions stand in `specs/`, proofs in `proofs/`; there is no code to run.
 //! The functions below have empty bodies: their contracts name the laws that the crates above cite.
+//!
+//! For all rational data in the boxes of the rows, every integer vector and every rational baseline, 64 times the
+//! weighted sum of squares is at least 2^h times the value of the integer form that the elimination leaves
+//! (`rational_bound_law`; over whole numbers `bound_law`). Its parts are that the matrix at the centres, lessened by
+//! the squares of the radii, bounds the sum (`bounding_law`), and that a step loses only what its square covers
+//! (`step_law`). At given integers and a given move the sum of squares is at most the upper sum (`upper_law`). Where
+//! the second least value is large enough against the upper sum of the first, the first vector is strictly best for
+//! all data (`decision_law`).
 #![tactic(auto)]
 
 ghost use Rattle.std.specs.Prelude.{◌≡◌, ℕ, ◌^◌, ◌<◌, List, [], ◌∷◌, ◌++◌, length, ℤ, pos, ◌+ℤ◌, ◌*ℤ◌, ◌≤ℤ◌, ◌<ℤ◌, Ok};

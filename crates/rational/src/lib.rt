@@ -4,6 +4,10 @@
 //! A rational exists in contracts and proofs alone, so there is no code to run. Definitions stand in
 //! `specs/`, laws in `proofs/`; each function below has an empty body, and its contract names the laws
 //! that a newcomer should see.
+//!
+//! Rationals have no code. Their order is total, sums and products obey the laws of a ring, equal rationals may stand
+//! for each other in every operation, order and box, a box holds exactly what lies between its ends, and every list
+//! has a common denominator (the contracts of `crates/rational/src/lib.rt`).
 #![tactic(auto)]
 
 ghost use Rattle.std.specs.Prelude.{◌↔◌, ◌⊎◌, ℕ, List, ℤ, pos, ◌+ℤ◌, ◌*ℤ◌, ◌≤ℤ◌};

@@ -1,4 +1,5 @@
 pub mod Reasons
+pub mod Systems
 pub mod Places
 pub mod Walk
 pub mod FirstFailing

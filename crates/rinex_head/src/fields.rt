@@ -37,27 +37,28 @@ fn all_digits(text: &[u8]) -> bool
     true
 }
 
-fn number_of(digits: &[u8]) -> u16
-    requires few { length digits.now ≤ 4 }
+fn number_of(digits: &[u8]) -> u32
+    requires few { length digits.now ≤ 6 }
     requires digits { are_digits digits.now ≡ true }
     ensures value { result ≡ number_from 0 digits.now }
-    ensures small { result ≤ 9999 }
+    ensures small { result ≤ 999_999 }
+    ensures of_four { length digits.now ≤ 4 → result ≤ 9999 }
     ensures of_two { length digits.now ≤ 2 → result ≤ 99 }
 {
-    let mut number: u16 = 0;
+    let mut number: u32 = 0;
     let mut rest = digits;
     while let [b, after @ ..] = rest {
-        number = 10 * number + (*b - b'0') as u16;
+        number = 10 * number + (*b - b'0') as u32;
         rest = after;
     }
     number
 }
 
-/// The whole number in a field of at most four columns that begins at this one, if they aren't all blank.
-pub fn whole_number(field: &[u8], first: u32) -> Result<Option<u16>, Flaw>
-    requires { length field.now ≤ 4 }
+/// The whole number in a field of at most six columns that begins at this one, if they aren't all blank.
+pub fn wide_number(field: &[u8], first: u32) -> Result<Option<u32>, Flaw>
+    requires { length field.now ≤ 6 }
     ensures value { result ≡ whole_of first field.now }
-    ensures small { IfOk result (λ found. IfSome found (λ n. n ≤ 9999)) }
+    ensures of_four { length field.now ≤ 4 → IfOk result (λ found. IfSome found (λ n. n ≤ 9999)) }
     ensures of_two { length field.now ≤ 2 → IfOk result (λ found. IfSome found (λ n. n ≤ 99)) }
 {
     let digits = skip_blanks(field);
@@ -68,6 +69,20 @@ pub fn whole_number(field: &[u8], first: u32) -> Result<Option<u16>, Flaw>
         return Err(bad_field(first));
     }
     Ok(Some(number_of(digits)))
+}
+
+/// The same of at most four columns.
+pub fn whole_number(field: &[u8], first: u32) -> Result<Option<u16>, Flaw>
+    requires { length field.now ≤ 4 }
+    ensures value { result ≡ whole_of first field.now }
+    ensures small { IfOk result (λ found. IfSome found (λ n. n ≤ 9999)) }
+    ensures of_two { length field.now ≤ 2 → IfOk result (λ found. IfSome found (λ n. n ≤ 99)) }
+{
+    match wide_number(field, first) {
+        Ok(Some(number)) => Ok(Some(number as u16)),
+        Ok(None) => Ok(None),
+        Err(flaw) => Err(flaw),
+    }
 }
 
 /// The same, where the number must be there.

@@ -1,4 +1,4 @@
-//! What the readers of all texts share: the place of a refusal, the closed list of reasons, and the walk over
+//! What the readers of all texts share: the place of a refusal, the closed list of reasons, the systems, and the walk over
 //! the lines of a text, in which a reader's contract names the first line that no rule admits.
 //!
 //! # How a reader uses the walk
@@ -18,94 +18,31 @@
 //! That the place of a refusal is the first failing line by the form alone, which mentions no rules
 //! (specs/FirstFailing.antt), is `first_failing` of proofs/Stops.antt: it asks for a rest of a text behind every
 //! state (`with_line`, one line more), and for a law between the form and the rules.
+//!
+//! `head_line` gives content and label of a header line and `version_of` the version, kind and system of a first
+//! line, both exactly, with columns past the end of a line blank; `version_of` refuses exactly the lines that lack
+//! the label or a version from 3.00 to 3.05. What the formats say of GPS and of Galileo is by cases of `System`. The
+//! numbers in fixed columns, which both readers of RINEX take (`whole_number`, `filled_number`, `two_digits`,
+//! `fixed_number`, `exponent_number`), are exactly those that the bytes spell, or a bad field at its first column.
+//!
+//! The closed list of reasons with their texts, the place of a refusal, and the walk over lines that every reader of
+//! a text has in its contract (`Reads`, `Gives`). Its proofs are generic: a reader states two tables, and gets that a
+//! text is refused at the first line that no rule admits, by the form alone (`first_failing`).
 #![tactic(auto)]
 
 mod columns;
 mod fields;
 mod head;
 mod place;
+mod system;
 mod walk;
 
 pub use columns::{byte_in, field};
 pub use fields::{
     bad_field, exponent_number, filled_number, fixed, fixed_number, is_blank_line, two_digits,
-    whole_number,
+    whole_number, wide_number,
 };
 pub use head::{HeadLine, Version, head_line, version_of};
 pub use place::{At, Flaw, TextFault, What};
+pub use system::System;
 pub use walk::{line_or_end, next_line};
-
-#[cfg(test)]
-mod tests {
-    use super::*;
-    use line_source::Line;
-
-    fn line(bytes: &[u8]) -> Line<'_> {
-        Line { number: 1, bytes }
-    }
-
-    #[test]
-    fn splits_header_lines(rt: HostRuntime) {
-        let whole = head_line(&line(
-            b" -3957199.2407  3310199.5412  3737711.7114                  APPROX POSITION XYZ ",
-        ));
-        assert_eq!(rt; whole.content.len(), 60);
-        assert!(rt; whole.label == b"APPROX POSITION XYZ".as_slice());
-        let short = head_line(&line(b"G    8 C1C"));
-        assert!(rt; short.content == b"G    8 C1C".as_slice());
-        assert!(rt; short.label.is_empty());
-        let past = head_line(&line(
-            b"                                                            END OF HEADER       past",
-        ));
-        assert!(rt; past.label == b"END OF HEADER".as_slice());
-    }
-
-    #[test]
-    fn reads_versions(rt: HostRuntime) {
-        let good: [(&[u8], u16, u8, u8); 3] = [
-            (
-                b"     3.04           OBSERVATION DATA    M                   RINEX VERSION / TYPE",
-                304,
-                b'O',
-                b'M',
-            ),
-            (
-                b"     3.00           N: GNSS NAV DATA    G                   RINEX VERSION / TYPE ",
-                300,
-                b'N',
-                b'G',
-            ),
-            (
-                b"3.05                                                        RINEX VERSION / TYPEpast",
-                305,
-                b' ',
-                b' ',
-            ),
-        ];
-        for (bytes, hundredths, kind, system) in good {
-            let want = Version {
-                hundredths,
-                kind,
-                system,
-            };
-            assert_eq!(rt; version_of(&line(bytes)), Ok(want), "at {hundredths}");
-        }
-        let refused = At {
-            line: 1,
-            column: 1,
-            what: What::Version,
-        };
-        let bad: [&[u8]; 7] = [
-            b"",
-            b"     3.06           OBSERVATION DATA    M                   RINEX VERSION / TYPE",
-            b"     2.11           OBSERVATION DATA    M                   RINEX VERSION / TYPE",
-            b"     4.00           OBSERVATION DATA    M                   RINEX VERSION / TYPE",
-            b"    3.041           OBSERVATION DATA    M                   RINEX VERSION / TYPE",
-            b"     3.04           OBSERVATION DATA    M                  RINEX VERSION / TYPE",
-            b"     3.04           OBSERVATION DATA    M                   COMMENT",
-        ];
-        for bytes in bad {
-            assert_eq!(rt; version_of(&line(bytes)), Err(refused));
-        }
-    }
-}

@@ -12,13 +12,19 @@ use thiserror::Error;
 pub enum What {
     /// The first line is missing, has another label or another version.
     Version,
+    /// The same of an observation file, where those of RINEX 2 are read too.
+    ObsVersion,
     /// Column 21 or 41 of the first line.
     Kind,
     /// The text ends inside the header.
     NoEnd,
     Types,
     NoGps,
+    NoGal,
     Scale,
+    GalScale,
+    /// A wavelength factor of RINEX 2 other than 1, of half cycles or of none.
+    HalfCycle,
     TimeSystem,
     BadField,
     BadDate,
@@ -46,11 +52,15 @@ impl What {
     {
         match self {
             What::Version => "version not 3.00 to 3.05",
+            What::ObsVersion => "version not 2.10 to 2.11 or 3.00 to 3.05",
             What::Kind => "not this kind of file",
             What::NoEnd => "no end of header",
             What::Types => "bad list of observation types",
             What::NoGps => "no GPS observation types",
+            What::NoGal => "no Galileo observation types",
             What::Scale => "GPS scale factor",
+            What::GalScale => "Galileo scale factor",
+            What::HalfCycle => "wavelength factor not 1",
             What::TimeSystem => "time system not GPS",
             What::BadField => "bad field",
             What::BadDate => "bad date",

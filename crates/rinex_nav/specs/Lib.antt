@@ -1,4 +1,2 @@
-pub mod FirstLine
-pub mod RecordLines
-pub mod NavRules
 pub mod NavForm
+pub mod NavRules

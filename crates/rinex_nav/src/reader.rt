@@ -3,15 +3,13 @@ ghost use Rattle.std.specs.Prelude.{◌≡◌, ◌≤◌, List, length, IfOk};
 ghost use Rattle.eph_store.specs.declared.record.Raw.{Raw};
 ghost use Rattle.line_source.specs.Lines.{lines_of};
 ghost use Rattle.rinex_head.specs.FirstFailing.{IsFirstFailing};
-ghost use Rattle.rinex_head.specs.Walk.{rest_gives, Gives, OnRefusal, IfRefused};
+ghost use Rattle.rinex_head.specs.Walk.{Gives, OnRefusal, IfRefused};
 ghost use Rattle.rinex_nav.specs.NavForm.{IsNavFile, HasNavFile};
-ghost use Rattle.rinex_nav.specs.NavRules.{First, nav_rules, nav_of};
+ghost use Rattle.rinex_nav.specs.NavRules.{nav_of};
 
-use crate::body::read_records;
-use crate::header::read_header;
 use eph_store::NavFile;
-use line_source::Lines;
-use rinex_head::TextFault;
+use nav_records::read_records_of;
+use rinex_head::{System, TextFault};
 use std::alloc::Global;
 
 /// The GPS records of a navigation file (RINEX 3.00 to 3.05), or the first place at which the text is none.
@@ -25,14 +23,5 @@ pub fn read_nav(alloc: Global, text: &[u8]) -> Result<NavFile, TextFault>
     ensures first { IfRefused result (λ at. IsFirstFailing HasNavFile (lines_of text.now) at.line) }
     ensures exact { Gives (nav_of (lines_of text.now)) (λ file. file.all) result }
 {
-    read_lines(alloc, Lines::new(text))
-}
-
-fn read_lines(alloc: Global, mut lines: Lines<'_>) -> Result<NavFile, TextFault>
-    ensures { Gives (rest_gives nav_rules lines.entry First) (λ file. file.all) result }
-{
-    match read_header(&mut lines) {
-        Ok(()) => read_records(alloc, &mut lines),
-        Err(at) => Err(TextFault::Refused(at)),
-    }
+    read_records_of(alloc, System::Gps, text)
 }

@@ -1,8 +1,1 @@
-pub mod TypeLists
-pub mod Moments
-pub mod Steps
 pub mod FormLaws
-pub mod FormTook
-pub mod FormPlaces
-pub mod Feeds
-pub mod Admits

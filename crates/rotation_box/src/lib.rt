@@ -1,5 +1,12 @@
 //! Boxes of the cosine and the sine of an angle that know that they hold a pair near the circle of radius 1. So the boxes of
-//! sums of angles have ends of at most a little over 1 again, however many angles are added.
+//! a sum of angles have ends of at most a little over 1 again. How near that pair is stands in the type, in 2^-16, and is at
+//! most 32 of them: a sum counts those of both its angles and one more.
+//!
+//! A `Rotation` is a box of a cosine and one of a sine that hold a pair near the circle of radius 1, and its type
+//! says how near and how wide. `rotation_of` and `wide_rotation_of` hold every pair of every angle in a box, `turn`
+//! that of every sum of two angles, `double` that of every double, `eccentric_pair` that of every solution of
+//! Kepler's equation, and `on_ellipse` every true anomaly and the radius 1 − e·cos E. No end of such a box is over 1
+//! + 2^-10, for up to 32 turns, which the type counts; the calls take no memory and are never refused.
 #![tactic(auto)]
 
 ghost use Rattle.std.specs.Prelude.{◌≡◌, ◌+◌, ◌*◌, ◌^◌, ◌≤◌, pos, ◌≤ℤ◌};
@@ -162,6 +169,3 @@ pub fn eccentric_pair(mean: &Iv<56>, eccentricity: &Iv<60>) -> Rotation<1, ANOMA
     let found = anomaly_box(mean, eccentricity);
     Rotation::new(found.cos, found.sin)
 }
-
-#[cfg(test)]
-mod tests;

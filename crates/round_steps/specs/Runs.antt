@@ -1,12 +1,13 @@
 -- Runs of rounds, from the first coarse round to the end. What a session has to stand for is given by the files; here it
 -- is a part of the rules.
-use Rattle.std.specs.Prelude.{◌≡◌, ℕ, Option, Some, None, ◌+◌, ◌<◌, ◌⊎◌, ◌==◌, Bool, if◌then◌else◌, List, [], ◌∷◌, count_by, ℤ}
+use Rattle.std.specs.Prelude.{◌≡◌, ℕ, Option, Some, None, ◌+◌, ◌≤◌, ◌⊎◌, ◌==◌, Bool, if◌then◌else◌, List, [], ◌∷◌, count_by, ℤ}
 use Rattle.obs_rows.specs.declared.arcs.Arc.{Arc}
 use Rattle.obs_rows.specs.declared.sessions.Session.{Session}
 use Rattle.integer_form.specs.declared.form.Form.{Form}
 use Rattle.integer_form.specs.declared.faults.Place.TheVariants as Place
 use Rattle.cert_data.specs.Tails.{IsTailOf}
 use Rattle.cert_data.specs.declared.tails.Tail.{Tail}
+use Rattle.cert_data.specs.declared.outcomes.RoundCounts.{RoundCounts}
 use Rattle.cert_data.specs.declared.outcomes.Stage.{Stage}
 use Rattle.cert_data.specs.declared.outcomes.Stage.TheVariants.{Coarse, Fine}
 use Rattle.round_steps.specs.declared.runs.End.{End}
@@ -88,9 +89,13 @@ abbrev pub IsRunTo : Rules → List Session → Round → Type 0
 IsRunTo rules [] r = r ≡ coarse rules.base rules.arcs
 IsRunTo rules (s ∷ before) r = IsRunTo rules before (round_of s) × (rules.stands s × LeadsTo rules s r)
 
--- how many of the rounds are at a scale
+-- how many of these rounds are at a scale
 abbrev pub rounds_at : ℕ → List Session → ℕ
 rounds_at scale before = count_by (λ s. s.scale == scale) before
+
+-- how many rounds are at a scale in a run up to this round
+abbrev pub rounds_with : ℕ → List Session → Round → ℕ
+rounds_with scale before r = rounds_at scale before + (if r.scale == scale then 1 else 0)
 
 -- at most ten rounds are coarse and at most six fine
 abbrev pub most_rounds : ℕ → ℕ
@@ -100,30 +105,34 @@ most_rounds scale = if scale == 0 then 6 else 10
 abbrev pub is_last : ℕ → List Session → Bool
 is_last scale before = (rounds_at scale before + 1) == most_rounds scale
 
--- a run reaches this round, and so many rounds are allowed
-pub record Reaches (rules : Rules) (before : List Session) (r : Round) : Type 0 where
+-- a run reaches this round after these others: with it so many rounds are coarse and so many fine, and no more than are
+-- allowed
+pub record Reaches (rules : Rules) (made : RoundCounts) (before : List Session) (r : Round) : Type 0 where
   pub run : IsRunTo rules before r
-  pub allowed : rounds_at r.scale before < most_rounds r.scale
+  pub coarse_made : made.coarse ≡ rounds_with 14 before r
+  pub fine_made : made.fine ≡ rounds_with 0 before r
+  pub few_coarse : made.coarse ≤ most_rounds 14
+  pub few_fine : made.fine ≤ most_rounds 0
 
 -- the run ends in a round without a session, since a centre of y may be out of range
-pub record EndsAtY (rules : Rules) (scale : ℕ) : Type 0 where
+pub record EndsAtY (rules : Rules) (made : RoundCounts) (scale : ℕ) : Type 0 where
   pub before : List Session
   pub round : Round
   pub scale_is : round.scale ≡ scale
-  pub reached : Reaches rules before round
+  pub reached : Reaches rules made before round
   pub wide : rules.may_be_wide round
 
 -- the run ends in the round of this session
-pub record EndsAt (rules : Rules) (s : Session) (tail : Tail) : Type 0 where
+pub record EndsAt (rules : Rules) (made : RoundCounts) (s : Session) (tail : Tail) : Type 0 where
   pub before : List Session
-  pub reached : Reaches rules before (round_of s)
+  pub reached : Reaches rules made before (round_of s)
   pub stands : rules.stands s
   pub declined : IsRoundDeclined (is_last s.scale before) s tail
 
 -- the run is decided in the round of this session
-pub record DecidesAt (rules : Rules) (ratio budget : ℕ) (s : Session) (tail : Tail) : Type 0 where
+pub record DecidesAt (rules : Rules) (ratio budget : ℕ) (made : RoundCounts) (s : Session) (tail : Tail) : Type 0 where
   pub before : List Session
-  pub reached : Reaches rules before (round_of s)
+  pub reached : Reaches rules made before (round_of s)
   pub stands : rules.stands s
   pub form : Form
   pub settled : IsSettledForm s form
@@ -134,48 +143,51 @@ scale_of Coarse = 14
 scale_of Fine = 0
 
 -- a coarse round that is declined
-pub record EndsCoarse (rules : Rules) (tail : Tail) : Type 0 where
+pub record EndsCoarse (rules : Rules) (made : RoundCounts) (tail : Tail) : Type 0 where
   pub session : Session
   pub is_coarse : session.scale ≡ 14
-  pub ends : EndsAt rules session tail
+  pub ends : EndsAt rules made session tail
 
 -- the run ends without a session to print: at a centre of y, or in a coarse round
-abbrev pub EndsEarly : Rules → Stage → Tail → Type 0
-EndsEarly rules stage tail = ((tail ≡ Tail.Overwidth Place.Y) × EndsAtY rules (scale_of stage)) ⊎ ((stage ≡ Coarse) × EndsCoarse rules tail)
+abbrev pub EndsEarly : Rules → RoundCounts → Stage → Tail → Type 0
+EndsEarly rules made stage tail = ((tail ≡ Tail.Overwidth Place.Y) × EndsAtY rules made (scale_of stage)) ⊎ ((stage ≡ Coarse) × EndsCoarse rules made tail)
 
 -- the run ends on a fine session
-abbrev pub EndsFull : Rules → ℕ → ℕ → Session → Tail → Type 0
-EndsFull rules ratio budget s tail = (s.scale ≡ 0) × (EndsAt rules s tail ⊎ DecidesAt rules ratio budget s tail)
+abbrev pub EndsFull : Rules → ℕ → ℕ → RoundCounts → Session → Tail → Type 0
+EndsFull rules ratio budget made s tail = (s.scale ≡ 0) × (EndsAt rules made s tail ⊎ DecidesAt rules ratio budget made s tail)
 
--- the end of a run
+-- the end of a run, with how many rounds it had
 abbrev pub IsEnd : Rules → ℕ → ℕ → End → Type 0
-IsEnd rules ratio budget (End.Early stage tail) = EndsEarly rules stage tail
-IsEnd rules ratio budget (End.Full s tail) = EndsFull rules ratio budget s tail
+IsEnd rules ratio budget (End.Early made stage tail) = EndsEarly rules made stage tail
+IsEnd rules ratio budget (End.Full made s tail) = EndsFull rules ratio budget made s tail
 
 -- the tail is one of a certificate of this budget
 abbrev pub FitsEnd : ℕ → End → Type 0
-FitsEnd budget (End.Early stage tail) = Unit {0}
-FitsEnd budget (End.Full s tail) = IsTailOf s.arcs budget tail
+FitsEnd budget (End.Early made stage tail) = Unit {0}
+FitsEnd budget (End.Full made s tail) = IsTailOf s.arcs budget tail
 
 -- where the integers are fixed, they are with their move strictly best
 abbrev pub IsBestEnd : End → Type 0
-IsBestEnd (End.Early stage tail) = Unit {0}
-IsBestEnd (End.Full s tail) = IsBestWhereFixed s tail
+IsBestEnd (End.Early made stage tail) = Unit {0}
+IsBestEnd (End.Full made s tail) = IsBestWhereFixed s tail
 
--- a run reaches a coarse round that is settled at this point
-pub record SettlesAt (rules : Rules) (point : List ℤ) : Type 0 where
+-- so many coarse rounds, and no fine one
+abbrev pub coarse_alone : ℕ → RoundCounts
+coarse_alone made = record { coarse = made; fine = 0 }
+
+-- a run reaches a coarse round that is settled at this point, after so many coarse rounds with it
+pub record SettlesAt (rules : Rules) (made : ℕ) (point : List ℤ) : Type 0 where
   pub before : List Session
   pub session : Session
   pub is_coarse : session.scale ≡ 14
   pub point_is : session.point ≡ point
-  pub reached : Reaches rules before (round_of session)
+  pub reached : Reaches rules (coarse_alone made) before (round_of session)
   pub stands : rules.stands session
   pub form : Form
   pub settled : IsSettledForm session form
-  pub none_fine : rounds_at 0 before ≡ 0
   pub in_reach : IsReceiverPoint point
 
--- the end of the coarse rounds
+-- the end of the coarse rounds, with how many there were
 abbrev pub IsCoarseEnd : Rules → CoarseEnd → Type 0
-IsCoarseEnd rules (CoarseEnd.Settled point) = SettlesAt rules point
-IsCoarseEnd rules (CoarseEnd.Declined tail) = EndsEarly rules Coarse tail
+IsCoarseEnd rules (CoarseEnd.Settled made point) = SettlesAt rules made point
+IsCoarseEnd rules (CoarseEnd.Declined made tail) = EndsEarly rules (coarse_alone made) Coarse tail

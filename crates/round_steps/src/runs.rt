@@ -7,7 +7,7 @@ ghost use Rattle.round_steps.specs.Shifts.{AreSameArcs, AreShiftsBelow};
 ghost use Rattle.round_steps.specs.Runs.{Rules, IsSessionAt, SettlesAt, IsCoarseEnd, IsEnd, FitsEnd, IsBestEnd, round_at};
 
 use crate::{Step, decide_settled, grown, round_step};
-use cert_data::{Stage, Tail};
+use cert_data::{RoundCounts, Stage, Tail};
 use integer_form::Place;
 use obs_rows::{Arc, COARSE_SCALE, Session};
 use std::alloc::{AllocError, Global};
@@ -44,21 +44,29 @@ pub trait Rounds {
         ensures shifts { IfOk result (λ v. AreShiftsBelow (2 ^ 39) v.items) };
 }
 
-/// How a run ends.
+/// How a run ends, and after how many rounds.
 #[derive(Debug, Drop)]
 pub enum End {
     /// At a centre of y, or in a coarse round.
-    Early { stage: Stage, tail: Tail },
+    Early {
+        made: RoundCounts,
+        stage: Stage,
+        tail: Tail,
+    },
     /// On the session of a fine round.
-    Full { session: Session, tail: Tail },
+    Full {
+        made: RoundCounts,
+        session: Session,
+        tail: Tail,
+    },
 }
 
-/// How the coarse rounds end.
+/// How the coarse rounds end, and after how many.
 #[derive(Clone, Copy, Debug)]
 pub(crate) enum CoarseEnd {
     /// Settled at this point.
-    Settled { point: [i64; 3] },
-    Declined { tail: Tail },
+    Settled { made: u32, point: [i64; 3] },
+    Declined { made: u32, tail: Tail },
 }
 
 /// At most ten rounds are coarse.
@@ -84,31 +92,33 @@ fn coarse_rounds<R: Rounds>(
     ensures { IfOk result (IsCoarseEnd (R.rules rounds.now)) }
 {
     let mut point = *base;
-    let mut left = COARSE_ROUNDS - 1;
+    let mut made = 1;
     'rounds: loop {
         let Some(session) = rounds.session(alloc, arcs, &point, COARSE_SCALE)? else {
-            return Ok(CoarseEnd::Declined { tail: AT_Y });
+            return Ok(CoarseEnd::Declined { made, tail: AT_Y });
         };
-        match round_step(&session, left == 0) {
-            Ok(Step::Settled { .. }) => return Ok(CoarseEnd::Settled { point }),
+        match round_step(&session, made == COARSE_ROUNDS) {
+            Ok(Step::Settled { .. }) => return Ok(CoarseEnd::Settled { made, point }),
             Ok(Step::Moved { point: moved, .. }) => {
                 point = moved;
-                left -= 1;
+                made += 1;
             }
-            Err(tail) => return Ok(CoarseEnd::Declined { tail }),
+            Err(tail) => return Ok(CoarseEnd::Declined { made, tail }),
         }
     }
 }
 
+/// The fine rounds, after so many coarse ones that settled at this point.
 fn fine_rounds<R: Rounds>(
     alloc: Global,
     rounds: &R,
+    coarse: u32,
     first: &[i64; 3],
     ratio: u32,
     budget: u64,
 ) -> Result<End, AllocError>
     requires ready { R.ready rounds.now }
-    requires first { SettlesAt (R.rules rounds.now) first.now }
+    requires first { SettlesAt (R.rules rounds.now) coarse first.now }
     requires few { length (R.rules rounds.now).arcs ≤ 200 }
     requires free { free_count (R.rules rounds.now).arcs ≤ 20 }
     requires ratio_from { 1000 ≤ ratio }
@@ -119,18 +129,24 @@ fn fine_rounds<R: Rounds>(
 {
     let mut point = *first;
     let mut arcs = rounds.first_shifts(alloc, first)?;
-    let mut left = FINE_ROUNDS - 1;
+    let mut fine = 1;
     'rounds: loop {
+        let made = RoundCounts { coarse, fine };
         let Some(session) = rounds.session(alloc, arcs.as_slice(), &point, 0)? else {
             return Ok(End::Early {
+                made,
                 stage: Stage::Fine,
                 tail: AT_Y,
             });
         };
-        match round_step(&session, left == 0) {
+        match round_step(&session, fine == FINE_ROUNDS) {
             Ok(Step::Settled { form }) => {
                 let tail = decide_settled(&session, &form, ratio, budget);
-                return Ok(End::Full { session, tail });
+                return Ok(End::Full {
+                    made,
+                    session,
+                    tail,
+                });
             }
             Ok(
                 Step::Moved {
@@ -140,9 +156,15 @@ fn fine_rounds<R: Rounds>(
             ) => {
                 arcs = grown(alloc, arcs.as_slice(), &numbers)?;
                 point = moved;
-                left -= 1;
+                fine += 1;
             }
-            Err(tail) => return Ok(End::Full { session, tail }),
+            Err(tail) => {
+                return Ok(End::Full {
+                    made,
+                    session,
+                    tail,
+                });
+            }
         }
     }
 }
@@ -170,8 +192,14 @@ pub fn run<R: Rounds>(
     ensures strictly_best { IfOk result IsBestEnd }
 {
     match coarse_rounds(alloc, rounds, arcs, base)? {
-        CoarseEnd::Settled { point } => fine_rounds(alloc, rounds, &point, ratio, budget),
-        CoarseEnd::Declined { tail } => Ok(End::Early {
+        CoarseEnd::Settled { made, point } => {
+            fine_rounds(alloc, rounds, made, &point, ratio, budget)
+        }
+        CoarseEnd::Declined { made, tail } => Ok(End::Early {
+            made: RoundCounts {
+                coarse: made,
+                fine: 0,
+            },
             stage: Stage::Coarse,
             tail,
         }),

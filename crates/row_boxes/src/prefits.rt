@@ -1,12 +1,12 @@
 // Observed less computed.
-ghost use Rattle.std.specs.Prelude.{◌≡◌, ◌+◌, ◌*◌, ◌^◌, ◌<◌, ◌≤◌, ℤ, pos, ◌-ℤ◌, ◌*ℤ◌, ◌≤ℤ◌, ◌<ℤ◌, unsigned_abs};
-ghost use Rattle.whole_math.specs.Rounding.{IsFloor, IsCeil};
+ghost use Rattle.std.specs.Prelude.{◌≡◌, ◌+◌, ◌*◌, ◌^◌, ◌<◌, ◌≤◌, ℤ, pos, ◌+ℤ◌, ◌-ℤ◌, ◌*ℤ◌, neg_ℤ, ◌≤ℤ◌, unsigned_abs};
+ghost use Rattle.whole_math.specs.Rounding.{IsFloor};
 ghost use Rattle.rational.specs.Rational.{Rational, InBox, sub_r};
 ghost use Rattle.obs_rows.specs.Signals.{wavelength};
 ghost use Rattle.row_boxes.specs.Terms.{observed};
 
 use crate::Pseudorange;
-use whole_math::{ceil, floor};
+use crate::pseudoranges::{PARTS, over_parts};
 
 /// Observed less computed of one signal, the rover's less the base's, in 2^-20 κ, from `lo` to `hi`.
 #[derive(Clone, Copy, Debug)]
@@ -27,7 +27,10 @@ const L2_CYCLE: i128 = 77 << 20;
 // One millimetre is UNITS / PARTS units of 2^-20 κ: a metre is 94525200000 / 299792458 κ.
 const UNITS: i128 = 47_262_600 << 20;
 
-const PARTS: i128 = 149_896_229;
+// 2^40 cycles in thousandths, and PARTS · 2^21 mm, which make an amount positive
+const RAISED: i64 = 1000 << 40;
+
+const RAISED_CODE: i64 = 149_896_229 << 21;
 
 // A box of one number, in 2^-20 κ.
 #[derive(Clone, Copy)]
@@ -38,15 +41,49 @@ struct Observed {
     ghost narrow: { (hi -ℤ lo) ≤ℤ pos 1 },
 }
 
-// The least box of `units` / `parts`.
-fn fraction(units: i128, parts: i128) -> Observed
-    requires parts { pos 0 <ℤ parts }
-    ensures low { IsFloor units (unsigned_abs parts) result.lo }
-    ensures high { IsCeil units (unsigned_abs parts) result.hi }
+// ⌊amount · 60 · 2^20 / 1000⌋. Here and below the divisor is known when the program is built, which then multiplies in place of
+// dividing 128 bits.
+fn l1_below(amount: i64) -> i128
+    requires { unsigned_abs amount < 2 ^ 48 }
+    ensures { IsFloor (amount *ℤ pos (60 * 2 ^ 20)) 1000 result }
+{
+    let raised = (amount + RAISED) as u64;
+    (raised / 1000) as i128 * L1_CYCLE + (raised % 1000 * 62_914_560 / 1000) as i128
+        - (L1_CYCLE << 40)
+}
+
+// ⌊amount · 77 · 2^20 / 1000⌋
+fn l2_below(amount: i64) -> i128
+    requires { unsigned_abs amount < 2 ^ 48 }
+    ensures { IsFloor (amount *ℤ pos (77 * 2 ^ 20)) 1000 result }
+{
+    let raised = (amount + RAISED) as u64;
+    (raised / 1000) as i128 * L2_CYCLE + (raised % 1000 * 80_740_352 / 1000) as i128
+        - (L2_CYCLE << 40)
+}
+
+// ⌊amount · UNITS / PARTS⌋
+fn code_below(amount: i64) -> i128
+    requires { unsigned_abs amount < 2 ^ 48 }
+    ensures { IsFloor (amount *ℤ pos (47262600 * 2 ^ 20)) 149896229 result }
+{
+    let raised = (amount + RAISED_CODE) as u64;
+    let rest = over_parts((raised % PARTS) as u128 * 49_558_428_057_600);
+    (raised / PARTS) as i128 * UNITS + rest as i128 - (UNITS << 21)
+}
+
+// The least box of a number, from what it is at least and what its opposite is at least
+fn between(low: i128, opposite: i128) -> Observed
+    requires low_size { unsigned_abs low ≤ 2 ^ 67 }
+    requires opposite_size { unsigned_abs opposite ≤ 2 ^ 67 }
+    requires ordered { (low +ℤ opposite) ≤ℤ pos 0 }
+    requires narrow { neg_ℤ (pos 1) ≤ℤ (low +ℤ opposite) }
+    ensures low { result.lo ≡ low }
+    ensures high { result.hi ≡ neg_ℤ opposite }
 {
     Observed {
-        lo: floor(units, parts),
-        hi: ceil(units, parts),
+        lo: low,
+        hi: -opposite,
     }
 }
 
@@ -61,9 +98,9 @@ fn observed_box(signal: usize, amount: i64) -> Observed
     ensures code { 2 ≤ signal → unsigned_abs amount < 2 ^ 37 → unsigned_abs result.lo ≤ 2 ^ 56 }
 {
     match signal {
-        0 => fraction(amount as i128 * L1_CYCLE, 1000),
-        1 => fraction(amount as i128 * L2_CYCLE, 1000),
-        _ => fraction(amount as i128 * UNITS, PARTS),
+        0 => between(l1_below(amount), l1_below(-amount)),
+        1 => between(l2_below(amount), l2_below(-amount)),
+        _ => between(code_below(amount), code_below(-amount)),
     }
 }
 

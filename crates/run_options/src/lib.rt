@@ -1,4 +1,6 @@
 //! What a run is asked to do: its options, each with its range and its default.
+//!
+//! The options of a run with their ranges in the type, and their defaults.
 #![tactic(auto)]
 
 mod options;
@@ -23,21 +25,5 @@ impl Options {
             first: 0,
             count: 3600,
         }
-    }
-}
-
-#[cfg(test)]
-mod tests {
-    use super::*;
-
-    #[test]
-    fn has_defaults(rt: HostRuntime) {
-        let plain = Options::defaults();
-        assert_eq!(rt;
-            (plain.ratio, plain.budget, plain.mask),
-            (2000, 1_000_000, 200)
-        );
-        assert_eq!(rt; (plain.gap, plain.jump, plain.arc), (100_000, 12, 5));
-        assert_eq!(rt; (plain.step, plain.first, plain.count), (1, 0, 3600));
     }
 }

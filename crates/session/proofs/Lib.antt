@@ -3,3 +3,4 @@ pub mod RangeLaws
 pub mod FewArcs
 pub mod FirstArcs
 pub mod StandsLaws
+pub mod RoundLaws

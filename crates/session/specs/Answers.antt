@@ -1,13 +1,14 @@
 -- The answers of a run over the arcs that were kept.
-use Rattle.std.specs.Prelude.{◌≡◌, ◌≢◌, ℕ, Any, pos}
+use Rattle.std.specs.Prelude.{◌≡◌, ◌≢◌, ◌≤◌, ℕ, Any, pos}
 use Rattle.obs_store.specs.declared.file.ObsFile.{ObsFile}
 use Rattle.obs_rows.specs.Arcs.{free_count}
 use Rattle.cert_data.specs.declared.certs.Cert.{Cert}
+use Rattle.cert_data.specs.declared.outcomes.RoundCounts.{RoundCounts}
 use Rattle.cert_data.specs.declared.outcomes.Answer.{Answer}
 use Rattle.cert_data.specs.declared.outcomes.Answer.TheVariants.{Few, Arcs, Early, Full}
 use Rattle.run_options.specs.declared.options.Options.{Options}
 use Rattle.round_steps.specs.Counts.{AreFew, AreMany}
-use Rattle.round_steps.specs.Runs.{Rules, EndsEarly, EndsFull}
+use Rattle.round_steps.specs.Runs.{Rules, most_rounds, EndsEarly, EndsFull}
 use Rattle.round_steps.specs.Steps.{IsBestWhereFixed}
 
 -- four satellites are in kept arcs in some pair, and the arcs aren't too many
@@ -16,18 +17,26 @@ pub record GoesOn (rules : Rules) (taken : ℕ) : Type 0 where
   pub not_many : AreMany rules.arcs → ⊥
 
 -- a certificate of the session in which the run ends, with the ratio and the budget of the options
-pub record IsEndCert (rules : Rules) (o : Options) (cert : Cert) : Type 0 where
+pub record IsEndCert (rules : Rules) (o : Options) (rounds : RoundCounts) (cert : Cert) : Type 0 where
   pub ratio : cert.ratio ≡ o.ratio
   pub budget : cert.budget ≡ o.budget
-  pub ends : EndsFull rules o.ratio o.budget cert.session cert.tail
+  pub ends : EndsFull rules o.ratio o.budget rounds cert.session cert.tail
 
--- Few exactly where no taken pair has four satellites in kept arcs, else Arcs exactly where the arcs are too many, else
--- the end of a run
-abbrev pub IsAnswer : Rules → ℕ → Options → Answer → Type 0
-IsAnswer rules taken o (Few pairs) = (pairs ≡ taken) × AreFew taken rules.arcs
-IsAnswer rules taken o (Arcs free) = (free ≡ free_count rules.arcs) × ((AreFew taken rules.arcs → ⊥) × AreMany rules.arcs)
-IsAnswer rules taken o (Early stage tail) = GoesOn rules taken × EndsEarly rules stage tail
-IsAnswer rules taken o (Full cert) = GoesOn rules taken × IsEndCert rules o cert
+-- at most ten coarse rounds and at most six fine ones
+abbrev pub AreAllowed : RoundCounts → Type 0
+AreAllowed rounds = (rounds.coarse ≤ most_rounds 14) × (rounds.fine ≤ most_rounds 0)
+
+-- no round was made
+abbrev pub AreNone : RoundCounts → Type 0
+AreNone rounds = (rounds.coarse ≡ 0) × (rounds.fine ≡ 0)
+
+-- Few exactly where no taken pair has four satellites in kept arcs, else Arcs exactly where the arcs are too many, both
+-- before any round; else the end of a run of so many rounds
+abbrev pub IsAnswer : Rules → ℕ → Options → RoundCounts → Answer → Type 0
+IsAnswer rules taken o rounds (Few pairs) = (pairs ≡ taken) × (AreFew taken rules.arcs × AreNone rounds)
+IsAnswer rules taken o rounds (Arcs free) = (free ≡ free_count rules.arcs) × ((AreFew taken rules.arcs → ⊥) × (AreMany rules.arcs × AreNone rounds))
+IsAnswer rules taken o rounds (Early stage tail) = GoesOn rules taken × EndsEarly rules rounds stage tail
+IsAnswer rules taken o rounds (Full cert) = GoesOn rules taken × IsEndCert rules o rounds cert
 
 -- where the integers of an answer are fixed, they are with their move strictly best
 abbrev pub IsBestAnswer : Answer → Type 0

@@ -33,7 +33,7 @@ abbrev pub StandsAsItIs : ObsFile → ObsFile → Records → Options → List �
 StandsAsItIs base rover nav o position signals taken s =
     StandsForFiles (setting_of base nav signals o.mask gps) base.epochs rover.epochs taken o.jump o.arc position signals s.point (map (λ a. a.shift) s.arcs) s.scale s
 
--- The counts, and the answer of a run over the kept arcs. Each session that a round of the run may have stands for the files
+-- The counts, and the answer of a run over the kept arcs with its rounds. Each session that a round of the run may have stands for the files
 pub record IsOutcome (base rover : ObsFile) (nav : Records) (o : Options) (out : Outcome) : Type 0 where
   pub position : List ℤ
   pub position_is : IsPosition base position
@@ -50,4 +50,4 @@ pub record IsOutcome (base rover : ObsFile) (nav : Records) (o : Options) (out :
   pub kept_is : out.kept ≡ length rounds.kept
   pub kept_few : out.kept ≤ 54000
   pub delta_is : IsTrue out.delta ↔ (HasDelta base ⊎ HasDelta rover)
-  pub answer_is : IsAnswer (rules_of rounds.screened.boxes (length rounds.screened.used) rounds.kept rounds.position rounds.signals) out.taken o out.answer
+  pub answer_is : IsAnswer (rules_of rounds.screened.boxes (length rounds.screened.used) rounds.kept rounds.position rounds.signals) out.taken o out.rounds out.answer

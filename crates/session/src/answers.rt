@@ -5,11 +5,21 @@ ghost use Rattle.round_steps.specs.Points.{IsReceiverPoint};
 ghost use Rattle.round_steps.specs.Shifts.{AreShiftsBelow};
 ghost use Rattle.session.specs.Answers.{GoesOn, IsAnswer, IsBestAnswer};
 
-use cert_data::{Answer, Cert};
+use cert_data::{Answer, Cert, RoundCounts};
 use obs_rows::{Arc, free_arcs};
 use round_steps::{End, Rounds, are_few, are_many, run};
 use session_begin::Options;
 use std::alloc::{AllocError, Global};
+
+/// An answer, with the rounds that were made for it.
+#[derive(Debug, Drop)]
+pub struct Answered {
+    pub rounds: RoundCounts,
+    pub answer: Answer,
+}
+
+/// No round is made where the arcs are too few or too many.
+const NO_ROUNDS: RoundCounts = RoundCounts { coarse: 0, fine: 0 };
 
 /// How many of the arcs are free.
 fn free_count(arcs: &[Arc]) -> u32
@@ -27,32 +37,50 @@ pub fn answer<R: Rounds>(
     taken: u32,
     base: &[i64; 3],
     options: &Options,
-) -> Result<Answer, AllocError>
+) -> Result<Answered, AllocError>
     requires ready { GoesOn (R.rules rounds.now) taken → R.ready rounds.now }
     requires base { base.now ≡ (R.rules rounds.now).base }
     requires arcs { kept.now ≡ (R.rules rounds.now).arcs }
     requires point { IsReceiverPoint base.now }
     requires shifts { AreShiftsBelow (2 ^ 40) kept.now }
     requires few { length kept.now ≤ 54_000 }
-    ensures answer { IfOk result (IsAnswer (R.rules rounds.now) taken options.now) }
-    ensures strictly_best { IfOk result IsBestAnswer }
+    ensures answer { IfOk result (λ a. IsAnswer (R.rules rounds.now) taken options.now a.rounds a.answer) }
+    ensures strictly_best { IfOk result (λ a. IsBestAnswer a.answer) }
 {
     if are_few(taken, kept) {
-        return Ok(Answer::Few { pairs: taken });
+        return Ok(Answered {
+            rounds: NO_ROUNDS,
+            answer: Answer::Few { pairs: taken },
+        });
     }
     if are_many(kept) {
-        return Ok(Answer::Arcs {
-            free: free_count(kept),
+        return Ok(Answered {
+            rounds: NO_ROUNDS,
+            answer: Answer::Arcs {
+                free: free_count(kept),
+            },
         });
     }
     match run(alloc, rounds, kept, base, options.ratio, options.budget) {
-        Ok(End::Early { stage, tail }) => Ok(Answer::Early { stage, tail }),
-        Ok(End::Full { session, tail }) => Ok(Answer::Full(Cert {
-            ratio: options.ratio,
-            budget: options.budget,
-            session,
-            tail,
-        })),
+        Ok(End::Early { made, stage, tail }) => Ok(Answered {
+            rounds: made,
+            answer: Answer::Early { stage, tail },
+        }),
+        Ok(
+            End::Full {
+                made,
+                session,
+                tail,
+            },
+        ) => Ok(Answered {
+            rounds: made,
+            answer: Answer::Full(Cert {
+                ratio: options.ratio,
+                budget: options.budget,
+                session,
+                tail,
+            }),
+        }),
         Err(fault) => Err(fault),
     }
 }

@@ -45,16 +45,17 @@ pub fn outcome<R: Rounds>(
     ensures all { IfOk result (λ o. o.all ≡ begun.now.all) }
     ensures kept { IfOk result (λ o. o.kept ≡ length kept.now) }
     ensures delta { IfOk result (λ o. o.delta ≡ delta) }
-    ensures answer { IfOk result (λ o. IsAnswer (R.rules rounds.now) o.taken options.now o.answer) }
+    ensures answer { IfOk result (λ o. IsAnswer (R.rules rounds.now) o.taken options.now o.rounds o.answer) }
     ensures strictly_best { IfOk result (λ o. IsBestAnswer o.answer) }
 {
     let taken = begun.taken.len() as u32;
-    let answer = answer(alloc, rounds, kept, taken, &begun.position, options)?;
+    let answered = answer(alloc, rounds, kept, taken, &begun.position, options)?;
     Ok(Outcome {
         taken,
         all: begun.all,
         kept: kept.len() as u32,
         delta,
-        answer,
+        rounds: answered.rounds,
+        answer: answered.answer,
     })
 }

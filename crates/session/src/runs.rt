@@ -5,7 +5,7 @@ ghost use Rattle.epoch_pair.specs.Pairs.{Follows, IsNearPair};
 ghost use Rattle.slip_arcs.specs.Linked.{IsCutOf};
 ghost use Rattle.row_build.specs.Halves.{AreBaseHalves};
 ghost use Rattle.session_begin.specs.Beginnings.{IsPosition, IsSessionFault};
-ghost use Rattle.session.specs.Answers.{IsBestAnswer};
+ghost use Rattle.session.specs.Answers.{AreAllowed, IsBestAnswer};
 ghost use Rattle.session.specs.Outcomes.{AreScreened, IsOutcome};
 
 use crate::{FileRounds, have_delta, outcome};
@@ -65,6 +65,7 @@ pub fn process(
 ) -> Result<Outcome, SessionFault>
     ensures refused { IfErr result (IsSessionFault base.now rover.now options.now) }
     ensures outcome { IfOk result (IsOutcome base.now rover.now nav.now options.now) }
+    ensures rounds { IfOk result (λ o. AreAllowed o.rounds) }
     ensures strictly_best { IfOk result (λ o. IsBestAnswer o.answer) }
 {
     let begun = match begin(alloc, base, rover, options) {

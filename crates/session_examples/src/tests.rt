@@ -48,7 +48,7 @@ fn edited(rt: &impl Abort, alloc: Global, text: &[u8], edits: &[Edit]) -> Result
     Ok(out)
 }
 
-fn options_of(rt: &impl Abort, arc: u32, budget: u64) -> Options {
+pub fn options_of(rt: &impl Abort, arc: u32, budget: u64) -> Options {
     assert!(rt; 2 <= arc && arc <= 3600);
     assert!(rt; 1 <= budget && budget <= 100_000_000);
     let mut options = Options::defaults();
@@ -58,7 +58,7 @@ fn options_of(rt: &impl Abort, arc: u32, budget: u64) -> Options {
 }
 
 // The run over the files of a session after these changes.
-fn run(
+pub fn run(
     rt: &impl Abort,
     alloc: Global,
     made: &Made,

@@ -1,30 +1,10 @@
 -- The time over a range, and the widths of a pass.
-use Rattle.std.proofs.Common.{ℕ, ◌+◌, ◌-◌, ◌*◌, ◌^◌, ◌<◌, ℤ, pos, ◌+ℤ◌, ◌-ℤ◌, ◌*ℤ◌, ◌≤ℤ◌, ◌<ℤ◌, unsigned_abs, arith, lit<}
+use Rattle.std.proofs.Common.{◌+◌, ◌-◌, ◌*◌, ◌^◌, [], ◌∷◌, refl, ℤ, pos, ◌+ℤ◌, ◌-ℤ◌, ◌*ℤ◌, ◌≤ℤ◌, ◌<ℤ◌, arith, lit<}
 use Rattle.std.proofs.lemmas.Int.{ints}
 use Rattle.whole_math.specs.Rounding.{floor_div}
-use Rattle.whole_math.proofs.Order.{mul_nn}
-use Rattle.whole_math.proofs.Inequalities.{pos_nn}
-use Rattle.whole_math.proofs.Rounding.{floor_le, lt_floor, floor_greatest}
-use Rattle.whole_math.proofs.Extremes.{min_case}
-use Rattle.iv_core.specs.Boxes.{least_ratio}
-use Rattle.iv_core.proofs.QuotientLaws.{positive_is}
-
--- what is not negative, over what is above 0
-pub least_nn : (a b c d : ℤ) (p : ℕ) → pos 0 ≤ℤ a → pos 0 <ℤ c → c ≤ℤ d → pos 0 ≤ℤ least_ratio a b c d p
-least_nn a b c d p h k l =
-    rw (positive_is c k) (min_case (λ z. pos 0 ≤ℤ z) (floor_div (a *ℤ pos p) (unsigned_abs c)) (floor_div (a *ℤ pos p) (unsigned_abs d)) (over c k) (over d (through c d k l)))
-  where
-    through : (c d : ℤ) → pos 0 <ℤ c → c ≤ℤ d → pos 0 <ℤ d
-    through c d h k = omega (arith, ints)
-
-    above : (c : ℤ) → pos 0 <ℤ c → 0 < unsigned_abs c
-    above c h = omega (arith, ints)
-
-    none : (z n : ℤ) → pos 0 ≤ℤ z → (pos 0 *ℤ n) ≤ℤ z
-    none z n h = omega (arith, ints)
-
-    over : (c : ℤ) → pos 0 <ℤ c → pos 0 ≤ℤ floor_div (a *ℤ pos p) (unsigned_abs c)
-    over c k = floor_greatest (a *ℤ pos p) (pos 0) (unsigned_abs c) (above c k) (none (a *ℤ pos p) (pos (unsigned_abs c)) (mul_nn a (pos p) h (pos_nn p)))
+use Rattle.whole_math.proofs.Ring.{va, ko, ◌⊗◌}
+use Rattle.whole_math.proofs.Certificates.{cert, cancel, ◌≼◌, hy, nm, ◌⊞◌, ◌⊠◌}
+use Rattle.whole_math.proofs.Rounding.{floor_le, lt_floor}
 
 -- ---- a pass: from the width t of the box of times to that of the pair
 pub pair_width : ℤ → ℤ
@@ -61,3 +41,12 @@ third_time r t h k = omega (arith, ints)
 
 pub last_range : (r : ℤ) → (pos 4 *ℤ r) ≤ℤ ((pos 7 *ℤ pos 265112) +ℤ pos 807) → r ≤ℤ pos (2 ^ 19)
 last_range r h = omega (arith, ints)
+
+-- ---- a box of times, from the ends of the range's over the speed of light
+pub time_low : (n d l a : ℤ) → (a *ℤ d) ≤ℤ ((pos 299792458 *ℤ n) *ℤ pos 68719476736) → (l *ℤ pos 299792458) ≤ℤ (a *ℤ pos 16777216) → pos 0 ≤ℤ d → (l *ℤ d) ≤ℤ (n *ℤ pos 1152921504606846976)
+time_low n d l a h0 h1 h2 =
+    cancel (pos 299792458) (l *ℤ d) (n *ℤ pos 1152921504606846976) (omega (arith, ints)) (cert (n ∷ d ∷ l ∷ a ∷ []) (((va 3 ⊗ va 1) ≼ ((ko (pos 299792458) ⊗ va 0) ⊗ ko (pos 68719476736))) ∷ ((va 2 ⊗ ko (pos 299792458)) ≼ (va 3 ⊗ ko (pos 16777216))) ∷ (ko (pos 0) ≼ va 1) ∷ []) (ko (pos 299792458) ⊗ (va 2 ⊗ va 1)) (ko (pos 299792458) ⊗ (va 0 ⊗ ko (pos 1152921504606846976))) (((nm 16777216) ⊠ (hy 0)) ⊞ ((hy 2) ⊠ (hy 1))) refl (h0, (h1, (h2, tt))))
+
+pub time_high : (n d u b : ℤ) → ((pos 299792458 *ℤ n) *ℤ pos 68719476736) ≤ℤ (b *ℤ d) → (b *ℤ pos 16777216) ≤ℤ (u *ℤ pos 299792458) → pos 0 ≤ℤ d → (n *ℤ pos 1152921504606846976) ≤ℤ (u *ℤ d)
+time_high n d u b h0 h1 h2 =
+    cancel (pos 299792458) (n *ℤ pos 1152921504606846976) (u *ℤ d) (omega (arith, ints)) (cert (n ∷ d ∷ u ∷ b ∷ []) ((((ko (pos 299792458) ⊗ va 0) ⊗ ko (pos 68719476736)) ≼ (va 3 ⊗ va 1)) ∷ ((va 3 ⊗ ko (pos 16777216)) ≼ (va 2 ⊗ ko (pos 299792458))) ∷ (ko (pos 0) ≼ va 1) ∷ []) (ko (pos 299792458) ⊗ (va 0 ⊗ ko (pos 1152921504606846976))) (ko (pos 299792458) ⊗ (va 2 ⊗ va 1)) (((nm 16777216) ⊠ (hy 0)) ⊞ ((hy 2) ⊠ (hy 1))) refl (h0, (h1, (h2, tt))))

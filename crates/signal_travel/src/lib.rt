@@ -1,4 +1,14 @@
 //! Travel time of a signal, the place where a receiver sees the satellite, the mean direction to it, and the mask.
+//!
+//! `seen_from` holds every seen place, range and travel time of every place in its box, for every solution of the
+//! equations (`place`, `range`, `time`), and every place of the box has one (`exists`). The type `SeenBox` keeps the
+//! widths, at most 2^-17 m for each coordinate and the range, a range of at least 10,000 km, and the distance from
+//! the Earth's centre; the call takes no memory and is never refused. `above` says whether a satellite is high
+//! enough, exactly, at a place within 2^-17 m of every place in its box (`kept`, `left_out`; a mask of 1000
+//! included). `mean_direction` holds the mean direction from a point, which may be another one than the box was made
+//! with, for every place of the box and every displacement of at most 16 m; its type `Spread` keeps each centre at
+//! most 1 in size and each radius at most 32 units of 2^-24. `is_receiver_point` tests exactly what these calls ask
+//! of a point.
 #![tactic(auto)]
 
 ghost use Rattle.std.specs.Prelude.{◌≡◌, ℕ, ◌*◌, ◌^◌, ◌≤◌, ℤ, pos, ◌≤ℤ◌, [], ◌∷◌, All, IsTrue, false};

@@ -110,34 +110,3 @@ pub fn is_above(mask: u32, a: i64, b: i64, c: i64, p: i64, q: i64, r: i64) -> bo
         square_of(p, q, r) as u128,
     )
 }
-
-#[cfg(test)]
-mod tests {
-    use super::*;
-
-    // A point on the first axis, and places above it, on the horizon and below: by hand.
-    #[test]
-    fn above_and_below(rt: HostRuntime) {
-        let point = 63_710_000_000;
-        let far = 2_000_000_000_000_000;
-        for (mask, a, b, kept) in [
-            (1000, far, 0, true),
-            (1000, far, 1, false),
-            (999, far, 1, true),
-            (0, 0, far, true),
-            (1, 0, far, false),
-            (0, -1, far, false),
-            (707, far, far, true),
-            (708, far, far, false),
-        ] {
-            assert!(rt; mask <= 1000);
-            assert!(rt; -6_100_000_000_000_000 <= a && a <= 6_100_000_000_000_000);
-            assert!(rt; 0 <= b && b <= 6_100_000_000_000_000);
-            assert_eq!(rt;
-                is_above(mask, a, b, 0, point, 0, 0),
-                kept,
-                "mask {mask}, {a} and {b}"
-            );
-        }
-    }
-}

@@ -1,5 +1,5 @@
 // The travel time, from a box of it to a narrower one.
-ghost use Rattle.std.specs.Prelude.{◌≡◌, ◌+◌, ◌*◌, ◌^◌, ℤ, pos, ◌+ℤ◌, ◌*ℤ◌, ◌≤ℤ◌};
+ghost use Rattle.std.specs.Prelude.{◌≡◌, ◌+◌, ◌*◌, ◌^◌, ◌<◌, ◌≤◌, ℤ, pos, ◌+ℤ◌, ◌*ℤ◌, ◌≤ℤ◌};
 ghost use Rattle.rational.specs.Rational.{Rational};
 ghost use Rattle.iv_core.specs.Intervals.{Holds, width_of, IsWithin};
 ghost use Rattle.orbit_model.specs.Places.{IsBetweenDistances};
@@ -12,7 +12,29 @@ use crate::turns::{turn_in, turned_box};
 use crate::vectors::{length_of, vector_from};
 use iv_core::Iv;
 
-const LIGHT_SPEED: i64 = 299_792_458;
+// In m/s. It is divided by in two digits at 2^24: the divisor is known when the program is built, which then multiplies in place
+// of dividing 128 bits.
+const LIGHT_SPEED: u64 = 299_792_458;
+
+const DIGIT: u64 = 1 << 24;
+
+// ⌊range · 2^24 / c⌋
+fn time_below(range: u64) -> u64
+    requires { range ≤ 45200000 * 2 ^ 36 }
+    ensures low { result * 299792458 ≤ range * 2 ^ 24 }
+    ensures high { range * 2 ^ 24 < result * 299792458 + 299792458 }
+{
+    range / LIGHT_SPEED * DIGIT + range % LIGHT_SPEED * DIGIT / LIGHT_SPEED
+}
+
+// ⌈range · 2^24 / c⌉
+fn time_above(range: u64) -> u64
+    requires { range ≤ 45200000 * 2 ^ 36 }
+    ensures low { range * 2 ^ 24 ≤ result * 299792458 }
+    ensures high { result * 299792458 < range * 2 ^ 24 + 299792458 }
+{
+    range / LIGHT_SPEED * DIGIT + (range % LIGHT_SPEED * DIGIT + LIGHT_SPEED - 1) / LIGHT_SPEED
+}
 
 // The time in which light goes so far
 fn time_over(range: &Iv<36>) -> Iv<60>
@@ -22,8 +44,9 @@ fn time_over(range: &Iv<36>) -> Iv<60>
     ensures travel { IsTravel result }
     ensures width { (pos 299792458 *ℤ width_of result) ≤ℤ ((pos (2 ^ 24) *ℤ width_of range.now) +ℤ pos (2 * 299792458)) }
 {
-    let speed: Iv<0> = Iv::from_ends(LIGHT_SPEED, LIGHT_SPEED);
-    range.div_to::<0, 60>(&speed).unwrap()
+    let low = time_below(range.lo as u64);
+    let high = time_above(range.hi as u64);
+    Iv::from_ends(low as i64, high as i64)
 }
 
 /// Where a receiver sees what was sent from a place, after which time.

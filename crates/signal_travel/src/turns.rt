@@ -1,5 +1,5 @@
 // The Earth's turn while a signal travels.
-ghost use Rattle.std.specs.Prelude.{◌≡◌, ◌+◌, ◌*◌, ◌^◌, ◌≤◌, pos, ◌+ℤ◌, ◌-ℤ◌, ◌*ℤ◌, ◌≤ℤ◌, ℤ};
+ghost use Rattle.std.specs.Prelude.{◌≡◌, ◌+◌, ◌*◌, ◌/◌, ◌^◌, ◌<◌, ◌≤◌, pos, ◌+ℤ◌, ◌-ℤ◌, ◌*ℤ◌, ◌≤ℤ◌, ℤ};
 ghost use Rattle.whole_math.specs.Rounding.{floor_div};
 ghost use Rattle.rational.specs.Rational.{Rational, of_scale, mul_r};
 ghost use Rattle.iv_core.specs.Intervals.{Holds, width_of, IsWithin};
@@ -13,10 +13,9 @@ use crate::places::VectorBox;
 use crate::sent::SentBox;
 use iv_core::Iv;
 use trig_box::{PairBox, pair_box};
-use whole_math::floor;
 
 // The Earth's rate of turn in 10^-15 rad/s (IS-GPS-200, table 20-IV)
-const EARTH_RATE: i128 = 72_921_151_467;
+const EARTH_RATE: u128 = 72_921_151_467;
 
 // The middle of the box, rounded down
 fn middle_of(travel: &Iv<60>) -> i64
@@ -29,6 +28,28 @@ fn middle_of(travel: &Iv<60>) -> i64
     (travel.lo + travel.hi) >> 1
 }
 
+// ⌊(high · 2^28 + low) / 5^15⌋, in two digits. The divisor is known when the program is built, which then multiplies in place of
+// dividing 128 bits.
+fn over_power(high: u64, low: u64) -> u64
+    requires high { high ≤ 2 ^ 47 }
+    requires low { low < 2 ^ 28 }
+    ensures { result ≡ (high * 2 ^ 28 + low) / 30517578125 }
+{
+    let rest = high % 30_517_578_125 * 268_435_456 + low;
+    high / 30_517_578_125 * 268_435_456 + rest / 30_517_578_125
+}
+
+// ⌊turn / (16 · 10^15)⌋, which is over 2^19 and then over 5^15
+fn over_scale(turn: u128) -> u64
+    requires { turn < 2 ^ 94 }
+    ensures { result ≡ turn / 16000000000000000 }
+{
+    over_power(
+        (turn / 140_737_488_355_328) as u64,
+        (turn / 524_288 % 268_435_456) as u64,
+    )
+}
+
 // The angle by which the Earth turns in the time, from units of 2^-60 s to units of 2^-56 rad, rounded down
 fn angle_in(time: i64) -> i64
     requires low { pos 0 ≤ℤ time }
@@ -37,7 +58,7 @@ fn angle_in(time: i64) -> i64
     ensures low { pos 0 ≤ℤ result }
     ensures high { result ≤ℤ pos 875753788197 }
 {
-    floor(EARTH_RATE * time as i128, 16_000_000_000_000_000) as i64
+    over_scale(EARTH_RATE * time as u128) as i64
 }
 
 // Boxes of every pair of the angle, in units of 2^-56 rad

@@ -1,5 +1,5 @@
 // The vector from a point to a place, and its length.
-ghost use Rattle.std.specs.Prelude.{◌≡◌, ℕ, ◌+◌, ◌*◌, ◌^◌, ◌≤◌, ℤ, pos, ◌+ℤ◌, ◌-ℤ◌, ◌*ℤ◌, ◌≤ℤ◌, unsigned_abs};
+ghost use Rattle.std.specs.Prelude.{◌≡◌, ℕ, ◌+◌, ◌*◌, ◌^◌, ◌<◌, ◌≤◌, ℤ, pos, ◌+ℤ◌, ◌-ℤ◌, ◌*ℤ◌, ◌≤ℤ◌, ◌<ℤ◌, unsigned_abs};
 ghost use Rattle.whole_math.specs.Rounding.{floor_div, ceil_div};
 ghost use Rattle.rational.specs.Rational.{Rational, sub_r, mul_r, IsNearRoot};
 ghost use Rattle.iv_core.specs.Boxes.{near_end, far_end};
@@ -10,6 +10,28 @@ ghost use Rattle.signal_travel.specs.VectorBoxes.{coordinate_of, HoldsVector, Is
 use crate::places::{Point, VectorBox};
 use iv_core::Iv;
 
+// 625 · 2^27, which makes a coordinate positive
+const RAISED: i64 = 83_886_080_000;
+
+// ⌊raised · 2^32 / 625⌋, in two digits at 2^32. The divisor is known when the program is built, which then multiplies in place of
+// dividing 128 bits.
+fn raised_units(raised: u64) -> u64
+    requires { raised ≤ 153886080000 }
+    ensures low { result * 625 ≤ raised * 2 ^ 32 }
+    ensures high { raised * 2 ^ 32 < result * 625 + 625 }
+{
+    raised / 625 * 4_294_967_296 + raised % 625 * 4_294_967_296 / 625
+}
+
+// ⌊coordinate · 2^36 / 10^4⌋, which is ⌊coordinate · 2^32 / 625⌋
+fn units_of(coordinate: i64) -> i64
+    requires { unsigned_abs coordinate ≤ 70000000000 }
+    ensures low { (result *ℤ pos 10000) ≤ℤ (coordinate *ℤ pos (2 ^ 36)) }
+    ensures high { (coordinate *ℤ pos (2 ^ 36)) <ℤ ((result *ℤ pos 10000) +ℤ pos 10000) }
+{
+    raised_units((coordinate + RAISED) as u64) as i64 - (1 << 59)
+}
+
 // A coordinate in units of 0.1 mm
 fn coordinate_box(coordinate: i64) -> Iv<36>
     requires { unsigned_abs coordinate ≤ 70000000000 }
@@ -17,7 +39,7 @@ fn coordinate_box(coordinate: i64) -> Iv<36>
     ensures size { IsWithin (7000001 * 2 ^ 36) result }
     ensures width { width_of result ≤ℤ pos 1 }
 {
-    Iv::ratio(coordinate as i128, 10_000).unwrap()
+    Iv::from_ends(units_of(coordinate), -units_of(-coordinate))
 }
 
 // x less a coordinate in units of 0.1 mm

@@ -5,12 +5,16 @@ use Rattle.command_words.specs.declared.sims.Part.{Part}
 use Rattle.job_answers.specs.declared.status.Status.{Status}
 use Rattle.job_answers.specs.declared.status.Status.TheVariants.{Done, Declined}
 use Rattle.job_answers.specs.Delivered.{SinkChange}
-use Rattle.sim_job.specs.Sims.{IsMadeText}
+use Rattle.sim_session.specs.Texts.{IsMade}
+use Rattle.sim_session.specs.declared.Made.{Made}
+use Rattle.sim_job.specs.Sims.{IsFileOf}
 
--- out has gained that part of the session
+-- out has gained that file of a session of the seed, which has all three
 pub record SaysMade (part : Part) (seed epochs sats : ℕ) (out : SinkChange) : Type 0 where
+  pub session : Made
+  pub made : IsMade seed epochs sats session
   pub text : List ℕ
-  pub made : IsMadeText part seed epochs sats text
+  pub is_file : IsFileOf part session text
   pub printed : Appends out.old out.new text
 
 -- `sim` is never declined

@@ -1,9 +1,9 @@
-//! The command `sim`: a made-up session to try the program on.
+//! The command `sim`: a simulated session to try the program on.
 #![tactic(auto)]
 
 ghost use Rattle.std.specs.Prelude.{◌≡◌, ◌≢◌, ◌≤◌, IfOk};
 ghost use Rattle.job_answers.specs.Answers.{ending_of};
-ghost use Rattle.sim_job.specs.Sims.{text_in, SimEnds};
+ghost use Rattle.sim_job.specs.Sims.{IsFileOf, SimEnds};
 
 use command_words::Part;
 use job_answers::{Answer, Status};
@@ -12,7 +12,7 @@ use std::alloc::{AllocError, Global};
 
 fn text_of(part: Part, made: Made) -> Vec<u8>
     requires { part ≢ Part.Run }
-    ensures { result.items ≡ text_in part made }
+    ensures { IsFileOf part made result.items }
 {
     match part {
         Part::Base => made.base,
@@ -43,20 +43,4 @@ pub fn sim(
         out,
         err: Vec::new(alloc),
     })
-}
-
-#[cfg(test)]
-mod tests {
-    use super::*;
-    use std::test::Fail;
-
-    #[test]
-    fn makes_a_file(rt: HostRuntime) -> Result<(), Fail> {
-        let made = sim(rt.alloc(), Part::Nav, 1, 60, 8)?;
-        assert_eq!(rt; made.status, Status::Done);
-        let first = b"     3.04           N: GNSS NAV DATA";
-        assert!(rt; made.out.starts_with(first.as_slice()));
-        assert!(rt; made.err.is_empty());
-        Ok(())
-    }
 }

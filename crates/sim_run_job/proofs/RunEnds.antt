@@ -17,7 +17,6 @@ use Rattle.session_files.proofs.FileLaws.{ends_weaker, no_stop}
 use Rattle.arcs_job.specs.ArcJobs.{IsPairRefused, ArcsEnds}
 use Rattle.arcs_job.specs.ArcRuns.{AreAdmitted}
 use Rattle.arcs_job.proofs.ArcSays.{arcs_verdict}
-use Rattle.sim_session.specs.Texts.{IsBaseText, IsRoverText, IsNavigationText}
 use Rattle.sim_run_job.specs.SimRunJobs.{AreMadeFiles, SimRunEnd, SimRunEnds}
 
 no_read_fault : (fixed : Bool) → (if fixed then Done else Declined) ≢ ReadFault
@@ -55,10 +54,6 @@ ends_found seed epochs sats told o b r n end made defaults admitted are (inr ref
 pub never_stops : (told : List ℕ → Option (List ℕ)) (base rover nav : List ℕ) (o : Options) (stop : Stop) (P : Ending → Type 0) → AreAdmitted told base rover nav o → IfEnds stop (λ end. StopsAtFiles told base rover nav end) → IfEnds stop (λ end. end.status ≢ ReadFault) → IfEnds stop P
 never_stops told base rover nav o (Ended answer) P admitted stops no_fault = absurd (no_stop told base rover nav (ending_of answer) admitted.base_is admitted.rover_is admitted.nav_is no_fault stops)
 never_stops told base rover nav o NoMemory P admitted stops no_fault = tt
-
-pub made_files : (seed epochs sats : ℕ) (told : List ℕ → Option (List ℕ)) (base rover nav : List ℕ) → told (codes "base") ≡ Some base → told (codes "rover") ≡ Some rover → told (codes "nav") ≡ Some nav
-    → IsBaseText seed epochs sats base → IsRoverText seed epochs sats rover → IsNavigationText sats nav → AreMadeFiles seed epochs sats told
-made_files seed epochs sats told base rover nav b r n base_is rover_is nav_is = record { base = base; rover = rover; nav = nav; base_told = b; rover_told = r; nav_told = n; base_is = base_is; rover_is = rover_is; nav_is = nav_is }
 
 -- what holds of an ending, of a job that ends or stops
 pub ended_weaker : (r : Result Answer Stop) (P Q : Ending → Type 0) → ((end : Ending) → P end → Q end) → IfEnded r P → IfEnded r Q

@@ -6,7 +6,8 @@ use Rattle.obs_store.specs.declared.file.ObsFile.{ObsFile}
 use Rattle.eph_store.specs.File.{Records}
 use Rattle.obs_rows.specs.Arcs.{free_count}
 use Rattle.sim_draws.specs.Values.{truth_of, first_of}
-use Rattle.sim_session.specs.Texts.{IsBaseText, IsRoverText, IsNavigationText}
+use Rattle.sim_session.specs.Texts.{IsMade}
+use Rattle.sim_session.specs.declared.Made.{Made}
 use Rattle.cert_data.specs.declared.outcomes.Outcome.{Outcome}
 use Rattle.cert_data.specs.declared.outcomes.Answer.{Answer}
 use Rattle.cert_data.specs.declared.outcomes.Answer.TheVariants.{Full}
@@ -21,17 +22,13 @@ use Rattle.arcs_job.specs.ArcJobs.{IsPairRefused}
 use Rattle.fix_job.specs.FixJobs.{status_of}
 use Rattle.sim_match.specs.Matches.{IsMatched}
 
--- under these three names the texts of the session of the seed are told
+-- under these three names the files of a session of the seed are told
 pub record AreMadeFiles (seed epochs sats : ℕ) (told : List ℕ → Option (List ℕ)) : Type 0 where
-  pub base : List ℕ
-  pub rover : List ℕ
-  pub nav : List ℕ
-  pub base_told : told (codes "base") ≡ Some base
-  pub rover_told : told (codes "rover") ≡ Some rover
-  pub nav_told : told (codes "nav") ≡ Some nav
-  pub base_is : IsBaseText seed epochs sats base
-  pub rover_is : IsRoverText seed epochs sats rover
-  pub nav_is : IsNavigationText sats nav
+  pub session : Made
+  pub made : IsMade seed epochs sats session
+  pub base_told : told (codes "base") ≡ Some session.base.items
+  pub rover_told : told (codes "rover") ≡ Some session.rover.items
+  pub nav_told : told (codes "nav") ≡ Some session.nav.items
 
 -- the cycles of each satellite with which the session was made: the rover's less the base's
 abbrev pub truth_in : ℕ → ℕ → List (List ℤ)

@@ -1,40 +1,14 @@
-//! The command `sim run`: a made-up session is processed, and its integers are compared with those that it was made with.
+//! The command `sim run`: a simulated session is processed, and its integers are compared with those that it was made with.
+//!
+//! Of sim_match, sim_run_job: `sim run` ends with the outcome of the simulated texts, which is that of `fix` on them
+//! with no option given: the three are read, whatever the seed, and the two are never refused together (`ends`).
+//! `is_matched`, and so the line `match yes`, is exact: the answer is a fix, and each free arc has on both
+//! frequencies, against the datum of its linked set, the cycles that its satellite was made with. That datum is found
+//! as the last one at or before the arc, and proved to be the one that a chain of arcs leads to, each of which shares
+//! a pair with the next; a linked set has no other.
 #![tactic(auto)]
 
 mod report;
 mod runs;
 
 pub use runs::sim_run;
-
-#[cfg(test)]
-mod tests {
-    use super::*;
-    use job_answers::Status;
-    use std::test::Fail;
-
-    // The texts are those of an independent model.
-    #[test]
-    fn finds_what_was_made(rt: HostRuntime) -> Result<(), Fail> {
-        let rows = [
-            (
-                (3, 6, 4),
-                Status::Done,
-                "sim seed 3 epochs 6 sats 4\nverdict fixed\nintegers 6\nmatch yes\n",
-            ),
-            (
-                (1, 2, 8),
-                Status::Declined,
-                "sim seed 1 epochs 2 sats 8\nverdict declined\nintegers 0\nmatch no\n",
-            ),
-        ];
-        for ((seed, epochs, sats), status, text) in rows {
-            let Ok(answer) = sim_run(rt.alloc(), seed, epochs, sats) else {
-                panic!(&rt; "no answer");
-            };
-            assert_eq!(rt; answer.status, status);
-            assert_eq!(rt; answer.out.as_slice(), text.as_bytes());
-            assert!(rt; answer.err.is_empty());
-        }
-        Ok(())
-    }
-}

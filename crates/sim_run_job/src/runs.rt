@@ -1,4 +1,4 @@
-//! A made-up session from its texts to its answer.
+//! A simulated session from its texts to its answer.
 ghost use Rattle.std.specs.Prelude.{◌≡◌, ◌≢◌, ◌≤◌, ℕ, List, [], Some, IfOk, codes, string_bytes};
 ghost use Rattle.job_answers.specs.Statuses.{IsVerdictStatus};
 ghost use Rattle.job_answers.specs.Answers.{ending_of, IfEnded};

@@ -2,10 +2,11 @@
 use Rattle.std.specs.Prelude.{◌≡◌, ℕ, List, [], ◌∷◌, length, ℤ, pos, ◌+ℤ◌, ◌*ℤ◌}
 use Rattle.eph_store.specs.declared.ephemeris.Eph.{Eph}
 use Rattle.sim_draws.specs.Sequence.{drawn_within}
-use Rattle.sim_draws.specs.Values.{base_clock_of, rover_clock_of, base_cycles, rover_cycles, first_of}
+use Rattle.sim_draws.specs.Values.{base_clock_of, rover_clock_of, base_cycles, rover_cycles, first_of, offset_of, truth_of}
 use Rattle.sim_records.specs.Satellites.{AreSatellites}
 use Rattle.sim_records.specs.Navigation.{navigation_text}
 use Rattle.sim_session.specs.Observations.{IsObservationText}
+use Rattle.sim_session.specs.declared.Made.{Made}
 
 -- the base's point (6378137 m, 0, 0), and the rover's with the offset that is drawn, in units of 0.1 mm
 abbrev pub base_point : List ℤ
@@ -30,3 +31,11 @@ IsRoverText seed epochs sats text = HasRecords sats (λ es. IsObservationText ep
 
 abbrev pub IsNavigationText : ℕ → List ℕ → Type 0
 IsNavigationText sats text = HasRecords sats (λ es. text ≡ navigation_text es)
+
+-- a session of the seed: its three texts, the whole cycles by which its receivers differ, and how far the rover lies off the base
+pub record IsMade (seed epochs sats : ℕ) (m : Made) : Type 0 where
+  pub base : IsBaseText seed epochs sats m.base.items
+  pub rover : IsRoverText seed epochs sats m.rover.items
+  pub nav : IsNavigationText sats m.nav.items
+  pub truth : m.truth.items ≡ first_of (truth_of seed) sats
+  pub offset : m.offset ≡ offset_of seed

@@ -1,5 +1,14 @@
-//! Made-up sessions: from a seed the observation files of a base and of a rover, and the navigation file of the satellites that both
+//! Simulated sessions: from a seed the observation files of a base and of a rover, and the navigation file of the satellites that both
 //! see, with what a processor should find.
+//!
+//! Of sim_draws, sim_texts, sim_records, sim_signals, sim_session: `make` answers the three texts of a seed and the
+//! truth that they were made of (`base`, `rover`, `nav`, `truth`, `offset`), exactly but for the codes and phases of
+//! the two receivers, which are a choice within 2 mm and 2 thousandths of a cycle of the exact value: the draws of
+//! the seed (`draw_all`), the satellites' records, each number with the 13 digits that its columns hold, and the
+//! lines of both kinds of file to the byte (`write_header`, `write_epoch`, `write_navigation`). Each code that
+//! `observe` gives is within 2 mm of what is measured at it in every solution of the satellite's place and clock and
+//! of its seen place, and each phase within 2 thousandths of a cycle (`code`, `l1`, `l2`); every number has room in
+//! its columns.
 #![tactic(auto)]
 
 ghost use Rattle.std.specs.Prelude.{◌≡◌, ◌^◌, ◌<◌, ◌≤◌, vec_len, IfOk};
@@ -8,8 +17,6 @@ ghost use Rattle.sim_session.specs.Texts.{IsBaseText, IsRoverText, IsNavigationT
 
 mod observations;
 mod receivers;
-#[cfg(test)]
-mod tests;
 
 use observations::observation_file;
 use receivers::{base_receiver, rover_receiver};

@@ -1,4 +1,4 @@
-//! What a receiver of a made-up session observes of a satellite: codes and phases that agree with every solution of the satellite's
+//! What a receiver of a simulated session observes of a satellite: codes and phases that agree with every solution of the satellite's
 //! place and clock.
 #![tactic(auto)]
 

@@ -1,5 +1,9 @@
 //! Boxes whose type says how far their ends are from 0 and how wide they are, so that sums, products and
 //! quotients are never refused: the sizes are compared when the program is checked.
+//!
+//! A `SizedBox` has in its type how far its ends are from 0 and how wide it is. Its sums, differences, products,
+//! squares and quotients hold every exact result and are never refused; the limits of the answer are compared with
+//! those of the operands when the program is checked.
 #![tactic(auto)]
 
 ghost use Rattle.std.specs.Prelude.{◌≡◌, ◌+◌, ◌-◌, ◌*◌, ◌^◌, ◌<◌, ◌≤◌, pos, ◌≤ℤ◌};
@@ -123,29 +127,5 @@ impl<const K: u32, const SIZE: u64, const WIDTH: u64> SizedBox<K, SIZE, WIDTH> {
             Holds self.now.held x → Holds other.now.held y → mul_r z y ≈ x → Holds result.held z }
     {
         SizedBox::new(self.held.div_to::<A, TO>(&other.held).unwrap())
-    }
-}
-
-#[cfg(test)]
-mod tests {
-    use super::*;
-
-    const ONE: u64 = 1 << 60;
-
-    const TWO: u64 = 1 << 61;
-
-    #[test]
-    fn keeps_limits(rt: HostRuntime) {
-        let half: SizedBox<60, ONE, 1> = SizedBox::new(Iv::from_ends(1 << 59, (1 << 59) + 1));
-        let three: SizedBox<0, 3, 1> = SizedBox::new(Iv::from_ends(2, 3));
-        let product: SizedBox<56, ONE, ONE> = half.mul(&three);
-        assert_eq!(rt;
-            (product.held.lo, product.held.hi),
-            (1 << 56, (3 << 55) + 1)
-        );
-        let sum: SizedBox<60, TWO, 2> = half.add(&half);
-        assert_eq!(rt; (sum.held.lo, sum.held.hi), (1 << 60, (1 << 60) + 2));
-        let square: SizedBox<60, ONE, 4> = half.square();
-        assert_eq!(rt; (square.held.lo, square.held.hi), (1 << 58, (1 << 58) + 2));
     }
 }

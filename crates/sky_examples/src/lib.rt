@@ -8,4 +8,6 @@ mod records;
 #[cfg(test)]
 mod sightings;
 #[cfg(test)]
+mod sv_orbit_tests;
+#[cfg(test)]
 mod tests;

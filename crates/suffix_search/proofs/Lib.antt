@@ -1,4 +1,5 @@
 pub mod SuffixLaws
 pub mod OrderLaws
 pub mod OpenLaws
+pub mod Counting
 pub mod SearchLaws

@@ -1,4 +1,4 @@
--- The plain count of a form: how many suffixes have a lower sum of at most 2^60 times the greater value of the rounded point and its neighbour.
+-- How many suffixes have a lower sum of at most 2^60 times a value. For the greater value of the rounded point and its neighbour that is the plain count of a form.
 use Rattle.std.specs.Prelude.{◌≡◌, ◌≢◌, ◌⊎◌, ℕ, zero, suc, ◌+◌, ◌<◌, ◌≤◌, ◌^◌, List, [], ◌∷◌, length, ℤ, pos, negsuc, ◌+ℤ◌, ◌*ℤ◌, ◌≤ℤ◌, neg_ℤ, unsigned_abs, slice_index_or, All, AllPairs}
 use Rattle.std.specs.Int.{int_max}
 use Rattle.whole_math.specs.Rounding.{nearest_div}
@@ -28,11 +28,19 @@ neighbour f = first_moved f (rounded f f.size)
 unfoldable pub top : SearchForm → ℤ
 top f = int_max (value f.p (rounded f f.size)) (value f.p (neighbour f))
 
--- s is one of the suffixes of the plain count
-pub record Counts (f : SearchForm) (s : List ℤ) : Type 0 where
+-- the lower sum of the suffix s is at most 2^60 times p
+pub record IsWithin (f : SearchForm) (p : ℤ) (s : List ℤ) : Type 0 where
   pub some : 0 < length s
   pub most : length s ≤ f.size
-  pub within : low f s ≤ℤ (pos (2 ^ 60) *ℤ top f)
+  pub within : low f s ≤ℤ (pos (2 ^ 60) *ℤ p)
+
+-- there are at most n such suffixes
+pub record AreAtMost (f : SearchForm) (p : ℤ) (n : ℕ) : Type 0 where
+  pub each : (suffixes : List (List ℤ)) → AllPairs (λ s t. s ≢ t) suffixes → All (IsWithin f p) suffixes → length suffixes ≤ n
+
+-- s is one of the suffixes of the plain count
+abbrev pub Counts : SearchForm → List ℤ → Type 0
+Counts f s = IsWithin f (top f) s
 
 -- the plain count is over n: there are n + 1 different suffixes that count
 pub record IsOver (f : SearchForm) (n : ℕ) : Type 0 where

@@ -1,19 +1,25 @@
 -- What a search keeps from turn to turn.
-use Rattle.std.specs.Prelude.{◌≡◌, ◌≢◌, ◌⊎◌, ℕ, List, length, ℤ, ◌≤ℤ◌, All, AllPairs}
+use Rattle.std.specs.Prelude.{◌≡◌, ◌≢◌, ◌⊎◌, ℕ, ◌<◌, ◌≤◌, ◌^◌, List, length, ℤ, pos, ◌*ℤ◌, ◌<ℤ◌, ◌≤ℤ◌, All, AllPairs}
+use Rattle.std.specs.List.{Contains}
 use Rattle.quadratic_form.specs.Rows.{value}
-use Rattle.suffix_search.specs.Suffixes.{SearchForm}
+use Rattle.suffix_search.specs.Suffixes.{SearchForm, low}
 use Rattle.suffix_search.specs.PlainCount.{top, Counts}
 use Rattle.suffix_search.specs.Order.{IsLess}
 use Rattle.suffix_search.specs.Levels.{IsOpen, AreLevels}
 use Rattle.suffix_search.specs.declared.stack.Level.{Level}
 
--- n different suffixes that count, none of them open
-pub record HasVisited (f : SearchForm) (stack : List Level) (s : List ℤ) (n : ℕ) : Type 0 where
+-- q is one of the suffixes, or open, or its lower sum is past 2^60 times p
+abbrev pub IsMet : SearchForm → ℤ → List Level → List ℤ → List (List ℤ) → List ℤ → Type 0
+IsMet f p stack s suffixes q = Contains suffixes q ⊎ (((pos (2 ^ 60) *ℤ p) <ℤ low f q) ⊎ IsOpen stack s q)
+
+-- n different suffixes that count, none of them open; all others whose lower sums are at most 2^60 times p are still open
+pub record HasVisited (f : SearchForm) (p : ℤ) (stack : List Level) (s : List ℤ) (n : ℕ) : Type 0 where
   pub suffixes : List (List ℤ)
   pub many : length suffixes ≡ n
   pub different : AllPairs (λ q r. q ≢ r) suffixes
   pub counted : All (Counts f) suffixes
   pub closed : All (λ q. IsOpen stack s q → ⊥) suffixes
+  pub met : (q : List ℤ) → 0 < length q → length q ≤ f.size → IsMet f p stack s suffixes q
 
 -- v can no longer change the two best
 abbrev pub IsSettled : SearchForm → (List ℤ → List ℤ) → List ℤ → List ℤ → List ℤ → Type 0
@@ -31,7 +37,7 @@ pub record IsSearch (f : SearchForm) (image : List ℤ → List ℤ) (stack : Li
   pub bound : value f.p two ≤ℤ top f
   pub levels : AreLevels f stack s
   pub covered : IsCovered f image stack s one two
-  pub visited : HasVisited f stack s visits
+  pub visited : HasVisited f (value f.p two) stack s visits
 
 -- the two best after z is offered
 pub record IsOffered (f : SearchForm) (image : List ℤ → List ℤ) (one two z new_one new_two : List ℤ) : Type 0 where

@@ -1,7 +1,8 @@
 // The place and the clock of a record's satellite.
 ghost use Rattle.std.specs.Prelude.{◌≡◌, ◌*◌, ◌^◌, ◌<◌, ◌≤◌, pos, neg_ℤ, ◌≤ℤ◌};
 ghost use Rattle.std.specs.Int.{abs_diff};
-ghost use Rattle.rational.specs.Rational.{Rational};
+ghost use Rattle.rational.specs.Rational.{Rational, ◌≈◌, mul_r, times};
+ghost use Rattle.iv_core.specs.Intervals.{Holds};
 ghost use Rattle.orbit_model.specs.Elements.{Constants, sent_at};
 ghost use Rattle.orbit_model.specs.Solution.{Quantities, IsSatelliteSolution};
 ghost use Rattle.orbit_clock.specs.Records.{elements_of, constants_of};
@@ -13,40 +14,118 @@ use crate::SvBox;
 use decimal_box::decimal_box;
 use eph_store::Eph;
 use gps_time::Tick;
-use orbit_clock::{Timing, World, axis, eccentricity, timing_of};
+use orbit_clock::{AXIS, ClockRecord, Timing, World, axis, timing_at};
 use orbit_place::{ANGLE, Orbit, RADIUS_CHANGE, SMALL, TINY, place_of};
 use rotation_box::eccentric_pair;
+use sized_box::SizedBox;
+
+/// A record with the constants of its system, and boxes of all that its satellite's place and clock are made from: what does not
+/// depend on the time, made once for the record.
+#[derive(Clone, Copy, Debug)]
+pub struct SvRecord {
+    /// What the clock's correction and Kepler's equation take.
+    pub clock: ClockRecord,
+    /// A, in metres
+    pub axis: SizedBox<36, AXIS, 4>,
+    /// ω, i0 and Ω0, in radians
+    pub perigee: SizedBox<56, ANGLE, 1>,
+    pub inclination: SizedBox<56, ANGLE, 1>,
+    pub node: SizedBox<56, ANGLE, 1>,
+    /// The rates of i and Ω, in 10^-4 rad/s
+    pub inclination_rate: SizedBox<60, TINY, 1>,
+    pub node_rate: SizedBox<60, SMALL, 1>,
+    /// The amplitudes of the corrections of u and i, in radians, and of r, in metres
+    pub cuc: SizedBox<60, SMALL, 1>,
+    pub cus: SizedBox<60, SMALL, 1>,
+    pub cic: SizedBox<60, SMALL, 1>,
+    pub cis: SizedBox<60, SMALL, 1>,
+    pub crc: SizedBox<40, RADIUS_CHANGE, 1>,
+    pub crs: SizedBox<40, RADIUS_CHANGE, 1>,
+    pub ghost axis_in: { (x : Rational) → x ≈ mul_r (elements_of clock.eph).root_a (elements_of clock.eph).root_a → Holds axis.held x },
+    pub ghost axis_least: { pos (20249999 * 2 ^ 36) ≤ℤ axis.held.lo },
+    pub ghost perigee_in: { Holds perigee.held (elements_of clock.eph).peri },
+    pub ghost inclination_in: { Holds inclination.held (elements_of clock.eph).incl },
+    pub ghost node_in: { Holds node.held (elements_of clock.eph).node },
+    pub ghost inclination_rate_in: { Holds inclination_rate.held (times (10 ^ 4) (elements_of clock.eph).incl_rate) },
+    pub ghost node_rate_in: { Holds node_rate.held (times (10 ^ 4) (elements_of clock.eph).node_rate) },
+    pub ghost cuc_in: { Holds cuc.held (elements_of clock.eph).cuc },
+    pub ghost cus_in: { Holds cus.held (elements_of clock.eph).cus },
+    pub ghost cic_in: { Holds cic.held (elements_of clock.eph).cic },
+    pub ghost cis_in: { Holds cis.held (elements_of clock.eph).cis },
+    pub ghost crc_in: { Holds crc.held (elements_of clock.eph).crc },
+    pub ghost crs_in: { Holds crs.held (elements_of clock.eph).crs },
+}
+
+impl SvRecord {
+    /// The boxes of a record, with the constants of its system.
+    pub fn of(eph: &Eph, world: &World) -> SvRecord
+        ensures eph { result.clock.eph ≡ eph.now }
+        ensures world { result.clock.world ≡ world.now }
+    {
+        SvRecord {
+            clock: ClockRecord::of(eph, world),
+            axis: axis(eph),
+            perigee: decimal_box::<56, 65, 1, 0, ANGLE>(eph.peri),
+            inclination: decimal_box::<56, 65, 1, 0, ANGLE>(eph.incl),
+            node: decimal_box::<56, 65, 1, 0, ANGLE>(eph.node),
+            inclination_rate: decimal_box::<60, 1, 8, 4, TINY>(eph.incl_rate),
+            node_rate: decimal_box::<60, 1, 7, 4, SMALL>(eph.node_rate),
+            cuc: decimal_box::<60, 1, 3, 0, SMALL>(eph.cuc),
+            cus: decimal_box::<60, 1, 3, 0, SMALL>(eph.cus),
+            cic: decimal_box::<60, 1, 3, 0, SMALL>(eph.cic),
+            cis: decimal_box::<60, 1, 3, 0, SMALL>(eph.cis),
+            crc: decimal_box::<40, 10_000, 0, 0, RADIUS_CHANGE>(eph.crc),
+            crs: decimal_box::<40, 10_000, 0, 0, RADIUS_CHANGE>(eph.crs),
+        }
+    }
+}
 
 // What the place is made from
-fn orbit_of(eph: &Eph, timing: &Timing) -> Orbit
-    ensures { (sent : Rational) (world : Constants) (q : Quantities) → IsSatelliteSolution world (elements_of eph.now) sent q →
-        HoldsTiming timing.now q → HoldsOrbit result (elements_of eph.now) q }
+fn orbit_of(made: &SvRecord, timing: &Timing) -> Orbit
+    ensures { (sent : Rational) (world : Constants) (q : Quantities) → IsSatelliteSolution world (elements_of made.now.clock.eph) sent q →
+        HoldsTiming timing.now q → HoldsOrbit result (elements_of made.now.clock.eph) q }
 {
-    let shape = eccentricity(eph);
+    let shape = made.clock.eccentricity;
     Orbit {
         eccentricity: shape,
         anomaly: eccentric_pair(&timing.mean.held, &shape.held),
-        axis: axis(eph),
+        axis: made.axis,
         epoch_time: timing.epoch_time.loose(),
-        perigee: decimal_box::<56, 65, 1, 0, ANGLE>(eph.peri),
-        inclination: decimal_box::<56, 65, 1, 0, ANGLE>(eph.incl),
-        node: decimal_box::<56, 65, 1, 0, ANGLE>(eph.node),
-        inclination_rate: decimal_box::<60, 1, 8, 4, TINY>(eph.incl_rate),
-        node_rate: decimal_box::<60, 1, 7, 4, SMALL>(eph.node_rate),
-        cuc: decimal_box::<60, 1, 3, 0, SMALL>(eph.cuc),
-        cus: decimal_box::<60, 1, 3, 0, SMALL>(eph.cus),
-        cic: decimal_box::<60, 1, 3, 0, SMALL>(eph.cic),
-        cis: decimal_box::<60, 1, 3, 0, SMALL>(eph.cis),
-        crc: decimal_box::<40, 10_000, 0, 0, RADIUS_CHANGE>(eph.crc),
-        crs: decimal_box::<40, 10_000, 0, 0, RADIUS_CHANGE>(eph.crs),
-        toe_second: eph.toe_second,
+        perigee: made.perigee,
+        inclination: made.inclination,
+        node: made.node,
+        inclination_rate: made.inclination_rate,
+        node_rate: made.node_rate,
+        cuc: made.cuc,
+        cus: made.cus,
+        cic: made.cic,
+        cis: made.cis,
+        crc: made.crc,
+        crs: made.crs,
+        toe_second: made.clock.eph.toe_second,
     }
 }
 
 /// The place and the clock of the record's satellite when it sent what was received at the tag with a code of so many mm:
-/// tag less code over c, by the satellite's own clock. The boxes hold every solution with that system's constants.
+/// tag less code over c, by the satellite's own clock. The boxes hold every solution with the constants of its system.
 ///
 /// The tag is at most 7201 s from the ephemeris' time.
+pub fn sv_from(made: &SvRecord, tag: Tick, code: i64) -> SvBox
+    requires near { abs_diff tag.0 made.now.clock.eph.toe.0 ≤ 72010000000 }
+    requires code_low { pos 0 ≤ℤ code }
+    requires code_high { code ≤ℤ pos (10 ^ 11) }
+    ensures { (q : Quantities) → IsSatelliteSolution (constants_of made.now.clock.world) (elements_of made.now.clock.eph) (sent_at tag.0 code) q →
+        HoldsSolution result q }
+{
+    let timing = timing_at(&made.clock, tag, code);
+    let orbit = orbit_of(made, &timing);
+    SvBox {
+        place: place_of(&orbit),
+        clock: timing.clock.held,
+    }
+}
+
+/// The same from the record itself, with the constants of that system.
 pub fn sv_with(eph: &Eph, tag: Tick, code: i64, world: &World) -> SvBox
     requires near { abs_diff tag.0 eph.now.toe.0 ≤ 72010000000 }
     requires code_low { pos 0 ≤ℤ code }
@@ -54,12 +133,7 @@ pub fn sv_with(eph: &Eph, tag: Tick, code: i64, world: &World) -> SvBox
     ensures { (q : Quantities) → IsSatelliteSolution (constants_of world.now) (elements_of eph.now) (sent_at tag.0 code) q →
         HoldsSolution result q }
 {
-    let timing = timing_of(eph, tag, code, world);
-    let orbit = orbit_of(eph, &timing);
-    SvBox {
-        place: place_of(&orbit),
-        clock: timing.clock.held,
-    }
+    sv_from(&SvRecord::of(eph, world), tag, code)
 }
 
 /// The same with the constants of IS-GPS-200.
@@ -70,58 +144,4 @@ pub fn sv_at(eph: &Eph, tag: Tick, code: i64) -> SvBox
     ensures { (q : Quantities) → IsSatelliteSolution gps (elements_of eph.now) (sent_at tag.0 code) q → HoldsSolution result q }
 {
     sv_with(eph, tag, code, &World::gps())
-}
-
-#[cfg(test)]
-mod tests {
-    use super::*;
-    use decimal_text::Dec;
-    use eph_store::Raw;
-    use std::test::Fail;
-
-    const ZERO: Dec = Dec { mant: 0, exp: 0 };
-
-    // A satellite at perigee of a circle of 25,000 km, over the equator, on the meridian of Greenwich.
-    fn plain() -> Raw {
-        Raw {
-            sat: 7,
-            toc: Tick(0),
-            af0: ZERO,
-            af1: ZERO,
-            af2: ZERO,
-            crs: ZERO,
-            dn: ZERO,
-            m0: ZERO,
-            cuc: ZERO,
-            ecc: ZERO,
-            cus: ZERO,
-            root_a: Dec { mant: 5000, exp: 0 },
-            cic: ZERO,
-            node: ZERO,
-            cis: ZERO,
-            incl: ZERO,
-            crc: ZERO,
-            peri: ZERO,
-            node_rate: ZERO,
-            incl_rate: ZERO,
-            week: ZERO,
-            toe_s: ZERO,
-            health: ZERO,
-        }
-    }
-
-    #[test]
-    fn on_the_axis(rt: HostRuntime) -> Result<(), Fail> {
-        let eph = Eph::of(&plain())?;
-        let tag = Tick(0);
-        assert!(rt; tag.0.abs_diff(eph.toe.0) <= 72_010_000_000);
-        let found = sv_at(&eph, tag, 0);
-        let want: [i64; 3] = [25_000_000 << 36, 0, 0];
-        for (held, want) in found.place.iter().zip(want) {
-            assert!(rt; held.lo() <= want && want <= held.hi());
-            assert!(rt; held.width() <= 1 << 18);
-        }
-        assert!(rt; found.clock.lo() <= 0 && 0 <= found.clock.hi());
-        Ok(())
-    }
 }

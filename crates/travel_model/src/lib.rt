@@ -1,5 +1,10 @@
 //! Where a receiver sees a satellite, the mean direction to it and the mask, over rationals (`specs/SeenPlaces.antt`), and the laws of
 //! these notions. There is no code to run: the functions below have empty bodies, and their contracts are the laws.
+//!
+//! Every satellite from 19,000 km to 38,000 km is seen from every point near the ground: a travel time and a place
+//! solve the equation (`seen_place_exists`). Each solution keeps its distances and travels at most 1/6 s
+//! (`seen_places`), and over a displacement of at most 16 m the range changes by at most 33/2 m, whichever near-roots
+//! stand for it (`range_change`).
 #![tactic(auto)]
 
 ghost use Rattle.std.specs.Prelude.{pos};

@@ -2,6 +2,10 @@
 //! cites: polynomial identities, orders and products, roundings, sums and vectors of whole numbers.
 //!
 //! `specs/` has the definitions, `proofs/` the laws; `laws` names those that a newcomer should see.
+//!
+//! `floor`, `ceil` and `nearest` answer ⌊n/m⌋, ⌈n/m⌉ and ⌊n/m + 1/2⌋ for every 128-bit n and every m above 0, without
+//! overflow; `floor_shift` and `ceil_shift` the same by powers of two. `laws` names the laws of roundings, products,
+//! powers, sums and vectors.
 #![tactic(auto)]
 
 pub mod laws;
@@ -71,22 +75,4 @@ pub fn ceil_shift(n: i128, shift: u32) -> i128
     ensures size { unsigned_abs result ≤ unsigned_abs n }
 {
     -floor_shift(-n, shift)
-}
-
-#[cfg(test)]
-mod tests {
-    use super::*;
-
-    #[test]
-    fn rounds(rt: HostRuntime) {
-        assert_eq!(rt; (floor(7, 2), ceil(7, 2), nearest(7, 2)), (3, 4, 4));
-        assert_eq!(rt; (floor(-7, 2), ceil(-7, 2), nearest(-7, 2)), (-4, -3, -3));
-        assert_eq!(rt; (floor(5, 3), ceil(5, 3), nearest(5, 3)), (1, 2, 2));
-        assert_eq!(rt; (floor(-5, 3), remainder(-5, 3)), (-2, 1));
-        assert_eq!(rt;
-            nearest(i128::MAX, 2),
-            85070591730234615865843651857942052864
-        );
-        assert_eq!(rt; (floor_shift(-7, 1), ceil_shift(-7, 1)), (-4, -3));
-    }
 }

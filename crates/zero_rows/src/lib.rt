@@ -2,6 +2,11 @@
 //! by rules, a line at a time, and the claim is decided over all whole numbers.
 //!
 //! The differences are in units of kappa, of which one cycle of L1 has 60, so each is to be near 60 times the number.
+//!
+//! `read_rows` gives exactly the claim and the differences that a `zero` file's text spells (`ok`, `only`), or
+//! refuses it exactly where it is none, at the first failing line (`refused`, `first`), and at the column and for the
+//! reason that the rules say (`exact`). `decide` says that the claimed number is strictly best exactly where every
+//! other whole number has a greater sum, and else names the other number of least sum, the lesser of two equals.
 #![tactic(auto)]
 
 mod best;
@@ -9,19 +14,3 @@ mod rows;
 
 pub use best::{Verdict, decide};
 pub use rows::{MAX_DIFFS, ZeroRows, read_rows};
-
-#[cfg(test)]
-mod tests {
-    use super::*;
-    use std::test::Fail;
-
-    #[test]
-    fn reads_and_decides(rt: HostRuntime) -> Result<(), Fail> {
-        let text = b"zero 1\nz 1\ndiff 61\ndiff 59\ndiff 63\n";
-        let rows = read_rows(rt.alloc(), text)?;
-        assert_eq!(rt; rows.claim(), 1);
-        assert_eq!(rt; rows.diffs(), [61, 59, 63].as_slice());
-        assert_eq!(rt; decide(&rows), Verdict::Optimal { sum: 11 });
-        Ok(())
-    }
-}

@@ -12,7 +12,7 @@ use Rattle.integer_form.specs.Kept.{form_of_table, constant_form}
 use Rattle.lower_form.specs.Forms.{finish_of, IsFinishOf}
 use Rattle.reduced_form.specs.Transformed.{transformed_form, IsTransformed}
 use Rattle.int_search.specs.ReducedCounts.{HasCountIn, HasReducedCount}
-use Rattle.int_search.proofs.ReducedLaws.{IsDecorrelated, reduced_can, reduced_found, reduced_fault, count_as}
+use Rattle.int_search.proofs.ReducedLaws.{IsDecorrelated, reduced_can, reduced_found, reduced_visits, reduced_fault, count_as}
 use Rattle.int_search.proofs.reduced.reduced_best.Goals as goal
 
 integers : (f : Form) → 4 < f.columns → (f.columns - 3) - 1 ≡ integers_of f
@@ -44,8 +44,8 @@ decorrelated_is f r front u h s m t e = record {
 count : (f : Form) (n : ℕ) (u : Unimodular) → IsReduced (integers_of f) f.d f.l u → HasReducedCount f n → HasCountIn f n u.map
 count f n u r h = count_as f n h.change.map u.map (λ i k a b. (reduced_same (integers_of f) f.d f.l h.change u h.reduced r i k a b).0) h.count
 
-pub returns-in_default : goal.returns-in_default
-returns-in_default c =
+pub returns-in_default-clause-found : goal.returns-in_default-clause-found
+returns-in_default-clause-found c =
     let f : Form = c.args.form.now in
     let u : Unimodular = c.reduce-change.result in
     let e : (f.columns - 3) - 1 ≡ integers_of f = integers f c.requires in
@@ -53,8 +53,8 @@ returns-in_default c =
     let red : IsReduced (integers_of f) f.d f.l u = subst (λ (k : ℕ). IsReduced k f.d f.l u) e c.reduce-change.ensures.reduced in
     λ h. c.in_default.ensures.form (count f c.args.budget u red h).small
 
-pub returns-in_default-finish : goal.returns-in_default-finish
-returns-in_default-finish c =
+pub returns-in_default-finish-clause-found : goal.returns-in_default-finish-clause-found
+returns-in_default-finish-clause-found c =
     let f : Form = c.args.form.now in
     let u : Unimodular = c.reduce-change.result in
     let e : (f.columns - 3) - 1 ≡ integers_of f = integers f c.requires in
@@ -79,8 +79,8 @@ search-requires c =
     reduced_can c.in-Ok.reduced u.map u.back (more f c.in-Ok.reduced.columns c.in-Some.front.columns c.requires fin.columns t.columns) (record { shape = c.at.ensures.shape; entries = u.map_small })
     (subst (λ (k : ℕ). Undoes k u.back u.map) (size ∙ sym d.integers) u.one_to_one)
 
-pub returns-in-Ok-search : goal.returns-in-Ok-search
-returns-in-Ok-search c =
+pub returns-in-Ok-search-clause-found : goal.returns-in-Ok-search-clause-found
+returns-in-Ok-search-clause-found c =
     let f : Form = c.args.form.now in
     let u : Unimodular = c.reduce-change.result in
     let e : (f.columns - 3) - 1 ≡ integers_of f = integers f c.requires in
@@ -89,10 +89,26 @@ returns-in-Ok-search c =
     let t : IsTransformed (integers_of f) u.map f.p c.in-Some.front = c.in-Some.ensures.form in
     let fin : IsFinishOf c.in-Some.front c.in-Ok.reduced = c.in-Ok.ensures.finished in
     let d : IsDecorrelated f c.in-Ok.reduced u = decorrelated_is f c.in-Ok.reduced c.in-Some.front u c.requires size c.at.ensures.shape.rows t fin in
-    reduced_found f c.in-Ok.reduced u c.in-Ok-search.best d c.in-Ok-search.ensures
+    reduced_found f c.in-Ok.reduced u c.args.budget c.in-Ok-search.best d c.in-Ok-search.ensures
 
-pub returns-in-Err : goal.returns-in-Err
-returns-in-Err c =
+pub returns-in-Ok-search-clause-visits : goal.returns-in-Ok-search-clause-visits
+returns-in-Ok-search-clause-visits c =
+    let f : Form = c.args.form.now in
+    let u : Unimodular = c.reduce-change.result in
+    let e : (f.columns - 3) - 1 ≡ integers_of f = integers f c.requires in
+    let size : u.size ≡ integers_of f = c.reduce-change.ensures.size ∙ e in
+    let red : IsReduced (integers_of f) f.d f.l u = subst (λ (k : ℕ). IsReduced k f.d f.l u) e c.reduce-change.ensures.reduced in
+    let t : IsTransformed (integers_of f) u.map f.p c.in-Some.front = c.in-Some.ensures.form in
+    let fin : IsFinishOf c.in-Some.front c.in-Ok.reduced = c.in-Ok.ensures.finished in
+    let d : IsDecorrelated f c.in-Ok.reduced u = decorrelated_is f c.in-Ok.reduced c.in-Some.front u c.requires size c.at.ensures.shape.rows t fin in
+    record {
+      change = u;
+      reduced = red;
+      visits = reduced_visits f c.in-Ok.reduced u c.args.budget c.in-Ok-search.best d (sym (same_steps (integers_of f) u.map f.p c.in-Some.front t) ∙ fin.taken) c.in-Ok-search.ensures;
+    }
+
+pub returns-in-Err-clause-found : goal.returns-in-Err-clause-found
+returns-in-Err-clause-found c =
     let f : Form = c.args.form.now in
     let u : Unimodular = c.reduce-change.result in
     let e : (f.columns - 3) - 1 ≡ integers_of f = integers f c.requires in

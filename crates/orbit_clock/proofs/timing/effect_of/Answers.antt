@@ -1,6 +1,6 @@
 -- The mean anomaly of a solution is near that at the middle of the first box.
-use Rattle.std.proofs.Common.{◌≡◌, ℤ, pos, ◌+ℤ◌, ◌-ℤ◌, ◌≤ℤ◌, subst, sym, to_z, of_z, arith}
-use Rattle.std.proofs.lemmas.Int.{ints, to_z-of_z}
+use Rattle.std.proofs.Common.{ℤ, subst}
+use Rattle.std.proofs.lemmas.Int.{to_z-of_z}
 use Rattle.std.specs.Int.{w64}
 use Rattle.rational.specs.Rational.{Rational, mul_r, sub_r, times, of_scale, two_to_minus, IsNearBox}
 use Rattle.iv_core.specs.Intervals.{Holds}
@@ -11,16 +11,18 @@ use Rattle.orbit_clock.proofs.NearMean.{mean_at, mean_near}
 use Rattle.orbit_clock.proofs.timing.effect_of.Goals as goal
 
 pub returns : goal.returns
-returns c = λ s q sol hm hs hf.
+returns c = λ s q sol hs hf.
+    let r = c.args.made.now in
+    let hm = r.motion_in s q sol in
     let p : ℤ = c.middle_of.result in
-    let toe : Rational = seconds c.args.eph.now.toe.0 in
-    let m0 : Rational = value_of c.args.eph.now.m0 in
-    let e : Rational = value_of c.args.eph.now.ecc in
+    let toe : Rational = seconds r.eph.toe.0 in
+    let m0 : Rational = value_of r.eph.m0 in
+    let e : Rational = value_of r.eph.ecc in
     let point : Holds c.clock_at.result.held (of_scale 60 p) = subst (λ (z : ℤ). Holds c.clock_at.result.held (of_scale 60 z)) (to_z-of_z w64 p (record { sfits = c.middle_of.type_inv })) c.clock_at.ensures in
     let time = c.time_at-time.ensures (part (sub_r s toe)) (of_scale 60 p) hs point in
     let mean = c.mean_anomaly-mean.ensures (times 10000 q.motion) (sub_r (part (sub_r s toe)) (part (of_scale 60 p))) hm time in
-    let near = mean_near q.mean m0 q.motion s toe q.clock q.t q.tk c.args.first.now.held.lo c.args.first.now.held.hi p c.args.motion.now.held.lo c.args.motion.now.held.hi
-    sol.mean_anomaly sol.time_from_epoch sol.time_of_sending hf c.middle_of.ensures.above c.middle_of.ensures.below hm c.args.motion.now.within.0 c.args.motion.now.within.1 in
+    let near = mean_near q.mean m0 q.motion s toe q.clock q.t q.tk c.args.first.now.held.lo c.args.first.now.held.hi p r.motion.held.lo r.motion.held.hi
+    sol.mean_anomaly sol.time_from_epoch sol.time_of_sending hf c.middle_of.ensures.above c.middle_of.ensures.below hm r.motion.within.0 r.motion.within.1 in
     let close : IsNearBox 56 c.mean_anomaly-mean.result.held.lo c.mean_anomaly-mean.result.held.hi (two_to_minus 35) q.mean = record { inside = mean_at m0 q.motion s toe (of_scale 60 p); held = mean; near = near } in
-    let sine = c.sine_near-sine.ensures q.mean e q.eccentric q.eccentric_pair.cos q.eccentric_pair.sin close c.eccentricity.ensures.holds sol.kepler in
-    c.mul.ensures.holds (mul_r (mul_r (decimal c.args.world.now.rel 19) e) (value_of c.args.eph.now.root_a)) q.eccentric_pair.sin c.relativity.ensures sine
+    let sine = c.sine_near-sine.ensures q.mean e q.eccentric q.eccentric_pair.cos q.eccentric_pair.sin close r.eccentricity_in sol.kepler in
+    c.mul.ensures.holds (mul_r (mul_r (decimal r.world.rel 19) e) (value_of r.eph.root_a)) q.eccentric_pair.sin r.relativity_in sine

@@ -1,8 +1,10 @@
+use Rattle.std.proofs.Common.{◌-◌}
+use Rattle.round_steps.specs.Runs.{most_rounds}
 use Rattle.round_steps.proofs.RunLaws.{CoarseSoFar}
 use Rattle.round_steps.proofs.runs.coarse_rounds.Given as goal
 
 abbrev pub invariant-rounds : goal.invariant-rounds
-invariant-rounds g l = CoarseSoFar (g.R.Rounds.rules l.rounds) l.point l.arcs l.left
+invariant-rounds g l = CoarseSoFar (g.R.Rounds.rules l.rounds) l.point l.arcs l.made
 
 abbrev pub decreases-rounds : goal.decreases-rounds
-decreases-rounds g l = l.left
+decreases-rounds g l = most_rounds 14 - l.made

@@ -1,26 +1,26 @@
-use Rattle.std.proofs.Common.{◌≡◌, ◌-◌, ◌+◌, ◌*◌, ◌^◌, false, nat_eq, ℕ, List, arith, subst, sym}
+use Rattle.std.proofs.Common.{◌≡◌, ◌≤◌, ◌-◌, ◌+◌, ◌*◌, ◌^◌, false, nat_eq, ℕ, List, arith, subst, sym}
 use Rattle.obs_rows.specs.declared.arcs.Arc.{Arc}
 use Rattle.round_steps.specs.Shifts.{AreGrown, AreShiftsBelow}
 use Rattle.round_steps.specs.Steps.{IsStep, IsSettledForm, IsMoved}
-use Rattle.round_steps.specs.Runs.{Rules, IsSessionOf, IsSessionAt, fine}
+use Rattle.round_steps.specs.Runs.{Rules, IsSessionOf, IsSessionAt, fine, most_rounds}
 use Rattle.round_steps.proofs.StepLaws.{narrow_numbers}
 use Rattle.round_steps.proofs.ShiftLaws.{wider_shifts}
 use Rattle.round_steps.proofs.RunLaws.{session_at, fine_begins, fine_at_y, fine_decides, fine_declines, fine_moves}
 use Rattle.round_steps.proofs.runs.fine_rounds.Goals as goal
 
-narrow_shifts : (left : ℕ) (arcs given : List Arc) → given ≡ arcs → AreShiftsBelow (2 ^ 39 + 2 ^ 30 * (5 - left)) arcs → AreShiftsBelow (2 ^ 40) given
-narrow_shifts left arcs given e h = wider_shifts (2 ^ 39 + 2 ^ 30 * (5 - left)) (2 ^ 40) given (omega arith) (subst (AreShiftsBelow (2 ^ 39 + 2 ^ 30 * (5 - left))) (sym e) h)
+narrow_shifts : (made : ℕ) (arcs given : List Arc) → made ≤ most_rounds 0 → given ≡ arcs → AreShiftsBelow (2 ^ 39 + 2 ^ 30 * (made - 1)) arcs → AreShiftsBelow (2 ^ 40) given
+narrow_shifts made arcs given few e h = wider_shifts (2 ^ 39 + 2 ^ 30 * (made - 1)) (2 ^ 40) given (omega arith) (subst (AreShiftsBelow (2 ^ 39 + 2 ^ 30 * (made - 1))) (sym e) h)
 
 pub rounds-init : goal.rounds-init
-rounds-init g c = fine_begins (g.R.Rounds.rules c.args.rounds.now) c.args.first.now c.in_ok-arcs.arcs.items c.requires.first c.in_ok-arcs.ensures.begins c.in_ok-arcs.ensures.arcs c.in_ok-arcs.ensures.shifts
+rounds-init g c = fine_begins (g.R.Rounds.rules c.args.rounds.now) c.args.first.now c.in_ok-arcs.arcs.items c.args.coarse c.requires.first c.in_ok-arcs.ensures.begins c.in_ok-arcs.ensures.arcs c.in_ok-arcs.ensures.shifts
 
 pub session-requires-clause-shifts : goal.session-requires-clause-shifts
-session-requires-clause-shifts g c = narrow_shifts c.rounds.left c.rounds.arcs.items c.as_slice.result.now c.as_slice.ensures.value c.rounds.invariant.below
+session-requires-clause-shifts g c = narrow_shifts c.rounds.fine c.rounds.arcs.items c.as_slice.result.now c.rounds.invariant.few c.as_slice.ensures.value c.rounds.invariant.below
 
 pub returns-in_default-clause-end : goal.returns-in_default-clause-end
 returns-in_default-clause-end g c =
     let rules : Rules = g.R.Rounds.rules c.args.rounds.now in
-    fine_at_y rules c.rounds.point c.rounds.arcs.items c.rounds.left c.rounds.invariant
+    fine_at_y rules c.rounds.point c.rounds.arcs.items c.args.coarse c.rounds.fine c.rounds.invariant
     (subst (IsSessionAt rules (fine c.rounds.point c.rounds.arcs.items)) c.in_default.is (subst (λ (a : List Arc). IsSessionAt rules (fine c.rounds.point a) c.in_ok-session.field-0) c.as_slice.ensures.value c.in_ok-session.ensures))
 
 pub returns-in-Ok-Settled-clause-end : goal.returns-in-Ok-Settled-clause-end
@@ -29,17 +29,17 @@ returns-in-Ok-Settled-clause-end g c =
     let s = c.in-Some.session in
     let a : List Arc = c.rounds.arcs.items in
     let k : IsSessionOf rules (fine c.rounds.point a) s = session_at rules (fine c.rounds.point a) c.in_ok-session.field-0 s c.in-Some.is (subst (λ (a : List Arc). IsSessionAt rules (fine c.rounds.point a) c.in_ok-session.field-0) c.as_slice.ensures.value c.in_ok-session.ensures) in
-    let t : IsSettledForm s c.in-Ok-Settled.form = subst (IsStep (nat_eq c.rounds.left 0) s) c.in-Ok-Settled.field-0-is c.in-Ok-Settled.ensures.step in
-    fine_decides rules c.rounds.point a c.rounds.left c.args.ratio c.args.budget s c.in-Ok-Settled.form c.decide_settled-tail.result c.rounds.invariant k t c.decide_settled-tail.ensures.decision
+    let t : IsSettledForm s c.in-Ok-Settled.form = subst (IsStep (nat_eq c.rounds.fine (most_rounds 0)) s) c.in-Ok-Settled.field-0-is c.in-Ok-Settled.ensures.step in
+    fine_decides rules c.rounds.point a c.args.coarse c.rounds.fine c.args.ratio c.args.budget s c.in-Ok-Settled.form c.decide_settled-tail.result c.rounds.invariant k t c.decide_settled-tail.ensures.decision
 
 pub grown-requires-clause-numbers : goal.grown-requires-clause-numbers
 grown-requires-clause-numbers g c =
-    let m : (nat_eq c.rounds.left 0 ≡ false) × IsMoved c.in-Some.session c.in-Ok-Moved.numbers c.in-Ok-Moved.moved = subst (IsStep (nat_eq c.rounds.left 0) c.in-Some.session) c.in-Ok-Moved.field-0-is c.in-Ok-Moved.ensures.step in
+    let m : (nat_eq c.rounds.fine (most_rounds 0) ≡ false) × IsMoved c.in-Some.session c.in-Ok-Moved.numbers c.in-Ok-Moved.moved = subst (IsStep (nat_eq c.rounds.fine (most_rounds 0)) c.in-Some.session) c.in-Ok-Moved.field-0-is c.in-Ok-Moved.ensures.step in
     let f = m.1.unsettled.float in
     narrow_numbers f.form c.in-Ok-Moved.numbers f.numbers f.narrow
 
 pub grown-requires-clause-shifts : goal.grown-requires-clause-shifts
-grown-requires-clause-shifts g c = narrow_shifts c.rounds.left c.rounds.arcs.items c.as_slice-in-Ok-Moved.result.now c.as_slice-in-Ok-Moved.ensures.value c.rounds.invariant.below
+grown-requires-clause-shifts g c = narrow_shifts c.rounds.fine c.rounds.arcs.items c.as_slice-in-Ok-Moved.result.now c.rounds.invariant.few c.as_slice-in-Ok-Moved.ensures.value c.rounds.invariant.below
 
 pub returns-in-Err-clause-end : goal.returns-in-Err-clause-end
 returns-in-Err-clause-end g c =
@@ -47,7 +47,7 @@ returns-in-Err-clause-end g c =
     let s = c.in-Some.session in
     let a : List Arc = c.rounds.arcs.items in
     let k : IsSessionOf rules (fine c.rounds.point a) s = session_at rules (fine c.rounds.point a) c.in_ok-session.field-0 s c.in-Some.is (subst (λ (a : List Arc). IsSessionAt rules (fine c.rounds.point a) c.in_ok-session.field-0) c.as_slice.ensures.value c.in_ok-session.ensures) in
-    fine_declines rules c.rounds.point a c.rounds.left c.args.ratio c.args.budget s c.in-Err.tail c.rounds.invariant k c.in-Err.ensures.declined
+    fine_declines rules c.rounds.point a c.args.coarse c.rounds.fine c.args.ratio c.args.budget s c.in-Err.tail c.rounds.invariant k c.in-Err.ensures.declined
 
 pub rounds-preserved : goal.rounds-preserved
 rounds-preserved g c =
@@ -55,9 +55,9 @@ rounds-preserved g c =
     let s = c.in-Some.session in
     let a : List Arc = c.rounds.arcs.items in
     let k : IsSessionOf rules (fine c.rounds.point a) s = session_at rules (fine c.rounds.point a) c.in_ok-session.field-0 s c.in-Some.is (subst (λ (a : List Arc). IsSessionAt rules (fine c.rounds.point a) c.in_ok-session.field-0) c.as_slice.ensures.value c.in_ok-session.ensures) in
-    let m : (nat_eq c.rounds.left 0 ≡ false) × IsMoved s c.in-Ok-Moved.numbers c.in-Ok-Moved.moved = subst (IsStep (nat_eq c.rounds.left 0) s) c.in-Ok-Moved.field-0-is c.in-Ok-Moved.ensures.step in
+    let m : (nat_eq c.rounds.fine (most_rounds 0) ≡ false) × IsMoved s c.in-Ok-Moved.numbers c.in-Ok-Moved.moved = subst (IsStep (nat_eq c.rounds.fine (most_rounds 0)) s) c.in-Ok-Moved.field-0-is c.in-Ok-Moved.ensures.step in
     let v = c.as_slice-in-Ok-Moved.ensures.value in
-    fine_moves rules c.rounds.point a c.rounds.left s c.in-Ok-Moved.numbers c.in-Ok-Moved.moved c.in_ok-arcs-in-Ok-Moved.arcs.items c.rounds.invariant k m.0 m.1
+    fine_moves rules c.rounds.point a c.args.coarse c.rounds.fine s c.in-Ok-Moved.numbers c.in-Ok-Moved.moved c.in_ok-arcs-in-Ok-Moved.arcs.items c.rounds.invariant k m.0 m.1
     (subst (λ (b : List Arc). AreGrown b c.in-Ok-Moved.numbers c.in_ok-arcs-in-Ok-Moved.arcs.items) v c.in_ok-arcs-in-Ok-Moved.ensures.grown)
     (λ n h z. c.in_ok-arcs-in-Ok-Moved.ensures.below n (subst (AreShiftsBelow n) (sym v) h) z)
 

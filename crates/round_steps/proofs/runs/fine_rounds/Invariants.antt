@@ -1,8 +1,10 @@
+use Rattle.std.proofs.Common.{◌-◌}
+use Rattle.round_steps.specs.Runs.{most_rounds}
 use Rattle.round_steps.proofs.RunLaws.{FineSoFar}
 use Rattle.round_steps.proofs.runs.fine_rounds.Given as goal
 
 abbrev pub invariant-rounds : goal.invariant-rounds
-invariant-rounds g l = FineSoFar (g.R.Rounds.rules l.rounds) l.point l.arcs.items l.left
+invariant-rounds g l = FineSoFar (g.R.Rounds.rules l.rounds) l.point l.arcs.items l.coarse l.fine
 
 abbrev pub decreases-rounds : goal.decreases-rounds
-decreases-rounds g l = l.left
+decreases-rounds g l = most_rounds 0 - l.fine

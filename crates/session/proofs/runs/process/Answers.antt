@@ -5,7 +5,9 @@ use Rattle.round_steps.specs.Shifts.{AreShiftsBelow}
 use Rattle.slip_arcs.specs.Linked.{IsCutOf}
 use Rattle.session.specs.declared.file_rounds.FileRounds.{FileRounds}
 use Rattle.session.specs.Answers.{HasDelta}
+use Rattle.session.specs.FileRules.{rules_of}
 use Rattle.session.proofs.StandsLaws.{rows_stand}
+use Rattle.session.proofs.RoundLaws.{answer_allowed}
 use Rattle.session.proofs.RangeLaws.{able, no_shifts}
 use Rattle.session.proofs.FewArcs.{kept_few}
 use Rattle.session.proofs.runs.process.Goals as goal
@@ -50,3 +52,9 @@ returns-in-Ok-outcome-clause-outcome c = record {
   delta_is = subst (λ (b : Bool). (IsTrue b → HasDelta c.args.base.now ⊎ HasDelta c.args.rover.now) × (HasDelta c.args.base.now ⊎ HasDelta c.args.rover.now → IsTrue b)) (sym c.in-Ok-outcome.ensures.delta) c.have_delta-delta.ensures;
   answer_is = c.in-Ok-outcome.ensures.answer;
 }
+
+pub returns-in-Ok-outcome-clause-rounds : goal.returns-in-Ok-outcome-clause-rounds
+returns-in-Ok-outcome-clause-rounds c =
+    let f = c.in-Ok-screened.rounds in
+    let found = c.in-Ok-outcome.outcome in
+    answer_allowed (rules_of f.screened.boxes (length f.screened.used) f.kept f.position f.signals) found.taken c.args.options.now found.rounds found.answer c.in-Ok-outcome.ensures.answer

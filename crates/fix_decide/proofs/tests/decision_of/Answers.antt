@@ -1,4 +1,0 @@
-use Rattle.fix_decide.proofs.tests.decision_of.Goals as goal
-
-pub decide-requires-clause-form : goal.decide-requires-clause-form
-decide-requires-clause-form c = record { normal = c.sum-normal.result; of_rows = c.sum-normal.ensures.normal; lowered = c.in-Ok.ensures.lower }

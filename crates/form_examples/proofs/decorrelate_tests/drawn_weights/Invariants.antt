@@ -1,0 +1,7 @@
+use Rattle.std.proofs.Common.{◌≡◌, ℕ, ◌+◌, ◌<◌, length}
+use Rattle.obs_rows.specs.declared.units.TheConstants.{MOST_FACTORS}
+use Rattle.decorrelate.specs.States.{item, IsWeight}
+use Rattle.form_examples.proofs.decorrelate_tests.drawn_weights.Given as goal
+
+abbrev pub invariant-loop-i : goal.invariant-loop-i
+invariant-loop-i l = record { full : length l.d ≡ MOST_FACTORS; done : (k : ℕ) → k < l.i → IsWeight (item l.d (3 + k)) }

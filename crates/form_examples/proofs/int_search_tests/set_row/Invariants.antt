@@ -1,0 +1,7 @@
+use Rattle.std.proofs.Common.{◌^◌}
+use Rattle.obs_rows.specs.Tables.{IsZeroOutside}
+use Rattle.normal_sum.specs.Matrices.{IsSymmetric, EntriesBelow}
+use Rattle.form_examples.proofs.int_search_tests.set_row.Given as goal
+
+abbrev pub invariant-loop-c : goal.invariant-loop-c
+invariant-loop-c l = record { symmetric : IsSymmetric l.p; entries : EntriesBelow (2 ^ 52) l.p; outside : IsZeroOutside l.n l.n l.p }

@@ -1,0 +1,164 @@
+// The two best vectors of forms.
+ghost use Rattle.std.specs.Prelude.{◌^◌, ◌+◌, ◌<◌, ◌≤◌, unsigned_abs, IfSome};
+ghost use Rattle.obs_rows.specs.declared.units.TheConstants.{MOST_INTEGERS, MOST_FORM_COLUMNS};
+ghost use Rattle.obs_rows.specs.Tables.{IsZeroOutside};
+ghost use Rattle.normal_sum.specs.Matrices.{IsSymmetric, EntriesBelow};
+
+use crate::search_cases::{Case, SMALL};
+use crate::search_reduced_case::FIVE_EPOCHS;
+use crate::search_session_cases::SESSIONS;
+use int_search::{SearchFault, TwoBest, plain_best, two_best};
+use integer_form::{Form, FrontForm};
+use lower_form::finish;
+use obs_rows::{FormTable, MOST_FORM_COLUMNS, MOST_INTEGERS};
+use std::test::Fail;
+
+// Writes an entry of a form of n columns at its place and across the diagonal.
+fn set_both(p: &mut FormTable, r: usize, c: usize, n: usize, value: i64)
+    requires row_in { r < n }
+    requires column_in { c < n }
+    requires columns_in { n ≤ MOST_FORM_COLUMNS }
+    requires small { unsigned_abs value < 2 ^ 52 }
+    requires symmetric { IsSymmetric p.old }
+    requires entries { EntriesBelow (2 ^ 52) p.old }
+    requires outside { IsZeroOutside n n p.old }
+    ensures symmetric { IsSymmetric p.new }
+    ensures entries { EntriesBelow (2 ^ 52) p.new }
+    ensures outside { IsZeroOutside n n p.new }
+{
+    p.set(r, c, value);
+    p.set(c, r, value);
+}
+
+// Writes row r of a form of n columns, from the diagonal on; false where an entry is missing or too large.
+fn set_row(p: &mut FormTable, r: usize, n: usize, entries: &[i64]) -> bool
+    requires row_in { r < n }
+    requires columns_in { n ≤ MOST_FORM_COLUMNS }
+    requires symmetric { IsSymmetric p.old }
+    requires entries { EntriesBelow (2 ^ 52) p.old }
+    requires outside { IsZeroOutside n n p.old }
+    ensures symmetric { IsSymmetric p.new }
+    ensures entries { EntriesBelow (2 ^ 52) p.new }
+    ensures outside { IsZeroOutside n n p.new }
+{
+    for c in r..n {
+        match entries.get(c - r) {
+            Some(&value) if value.unsigned_abs() < 1 << 52 => set_both(p, r, c, n, value),
+            _ => return false,
+        }
+    }
+    true
+}
+
+// The matrix of a form of n columns.
+fn table(n: usize, entries: &[i64]) -> Option<FormTable>
+    requires { n ≤ MOST_FORM_COLUMNS }
+    ensures symmetric { IfSome result IsSymmetric }
+    ensures entries { IfSome result (EntriesBelow (2 ^ 52)) }
+    ensures outside { IfSome result (IsZeroOutside n n) }
+{
+    let mut p = FormTable::zeros();
+    let mut left = entries;
+    for r in 0..n {
+        if !set_row(&mut p, r, n, left) {
+            return None;
+        }
+        left = left.get(n - r..)?;
+    }
+    Some(p)
+}
+
+fn form(integers: usize, entries: &[i64]) -> Option<Form>
+    requires { integers ≤ MOST_INTEGERS }
+{
+    let p = table(integers + 1, entries)?;
+    finish(&FrontForm::of(integers + 4, 0, &p)).ok()
+}
+
+// The form of a case, where it has integers.
+fn case_form(case: &Case) -> Option<Form>
+    ensures { IfSome result (λ f. 4 < f.columns) }
+{
+    if case.integers > MOST_INTEGERS {
+        return None;
+    }
+    let form = form(case.integers, case.entries)?;
+    if form.columns > 4 { Some(form) } else { None }
+}
+
+// Whether these are the two best of a case.
+fn is_answer(case: &Case, best: &TwoBest) -> bool {
+    let first = best.first;
+    let second = best.second;
+    best.size == case.integers
+        && first.iter().zip(case.first).all(|(a, b)| a == b)
+        && second.iter().zip(case.second).all(|(a, b)| a == b)
+        && (best.p1, best.p2) == case.values
+}
+
+// Whether the plain search gives this answer with this budget and none with one visit less, and the other search the same
+// answer with a budget of the reduced count.
+fn answers(case: &Case) -> bool {
+    let Some(form) = case_form(case) else {
+        return false;
+    };
+    let Ok(plain) = plain_best(&form, case.visits) else {
+        return false;
+    };
+    let Ok(best) = two_best(&form, case.reduced_count) else {
+        return false;
+    };
+    let spent = plain_best(&form, case.visits.saturating_sub(1)).is_err_and(|e| e
+        == SearchFault::Spent);
+    spent && is_answer(case, &plain) && is_answer(case, &best)
+}
+
+// Whether the search gives this answer with this budget and none with one visit less, and the plain search none with the
+// greater budget.
+fn answers_decorrelated(case: &Case, greater: u64) -> bool {
+    let Some(form) = case_form(case) else {
+        return false;
+    };
+    let Ok(best) = two_best(&form, case.visits) else {
+        return false;
+    };
+    let spent = two_best(&form, case.visits.saturating_sub(1)).is_err_and(|e| e
+        == SearchFault::Spent);
+    let plain = plain_best(&form, greater).is_err_and(|e| e == SearchFault::Spent);
+    spent && plain && is_answer(case, &best)
+}
+
+#[test]
+fn two_integers(rt: HostRuntime) -> Result<(), Fail> {
+    let entries = [10000 << 30, -(9900 << 30), 0, 9802 << 30, 0, 0];
+    let form = form(2, &entries).ok_or("a form")?;
+    if form.columns != 6 {
+        return Err("two integers".into());
+    }
+    let best = two_best(&form, 1000)?;
+    let first = best.first;
+    let second = best.second;
+    assert_eq!(rt; (first[0], first[1]), (0, 0));
+    assert_eq!(rt; (second[0], second[1]), (-1, -1));
+    assert_eq!(rt; (best.p1, best.p2), (0, 2_147_483_648));
+    Ok(())
+}
+
+#[test]
+fn small_forms_with_ties(rt: HostRuntime) {
+    for case in &SMALL {
+        assert!(rt; answers(case));
+    }
+}
+
+#[test]
+fn forms_of_sessions(rt: HostRuntime) {
+    for case in &SESSIONS {
+        assert!(rt; answers(case));
+    }
+}
+
+#[test]
+fn form_of_five_epochs(rt: HostRuntime) {
+    assert!(rt; answers_decorrelated(&FIVE_EPOCHS, 1000));
+}

@@ -1,7 +1,0 @@
-use Rattle.std.proofs.Common.{◌^◌}
-use Rattle.obs_rows.specs.Tables.{IsZeroOutside}
-use Rattle.normal_sum.specs.Matrices.{IsSymmetric, EntriesBelow}
-use Rattle.int_search.proofs.tests.set_row.Given as goal
-
-abbrev pub invariant-loop-c : goal.invariant-loop-c
-invariant-loop-c l = record { symmetric : IsSymmetric l.p; entries : EntriesBelow (2 ^ 52) l.p; outside : IsZeroOutside l.n l.n l.p }

@@ -1,0 +1,4 @@
+pub mod FirstLine
+pub mod RecordLines
+pub mod NavRules
+pub mod NavForm

@@ -1,0 +1,6 @@
+pub mod Layouts
+pub mod Labels
+pub mod Offsets
+pub mod Types
+pub mod EpochFields
+pub mod SatFields

@@ -1,0 +1,19 @@
+//! What one line of an observation file says, whichever format of RINEX and satellite system it is of: labels, offsets,
+//! lists of types, and the fields of epochs and satellites. What the formats place differently is in [`Layout`].
+#![tactic(auto)]
+
+mod epoch_fields;
+mod labels;
+mod layout;
+mod offsets;
+mod sat_fields;
+mod types;
+
+pub use epoch_fields::{comes_later, count, moment};
+pub use labels::{Label, event_line, label_of_line};
+pub use layout::Layout;
+pub use offsets::{delta, position};
+pub use sat_fields::{satellite, set_values, value};
+pub use types::{
+    KeptType, MOST_TYPES, TypeList, TypeNames, first_types, further_types, kept_types, listed_types,
+};

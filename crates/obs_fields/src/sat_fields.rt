@@ -1,0 +1,157 @@
+// Fields of the lines of satellites: names, values and their loss-of-lock digits.
+ghost use Rattle.std.specs.Prelude.{◌≡◌, ◌+◌, ◌≤◌, IfOk, IfSome, true};
+ghost use Rattle.obs_store.specs.Missing.{missing_values};
+ghost use Rattle.rinex_head.specs.Systems.{letter_of, last_number_of};
+ghost use Rattle.obs_fields.specs.SatFields.{is_letter, digit_of, number_at, letter_at, satellite_at, has_no_digit_above_0, amount_in, lock_of, value_in, values_in};
+
+use crate::{KeptType, Layout};
+use decimal_text::NumberFault;
+use obs_store::{SLOTS, Value};
+use rinex_head::{Flaw, System, What, bad_field, byte_in, field, fixed};
+
+fn bad_satellite(column: u32) -> Flaw
+    ensures { result ≡ record { column = column; what = What.BadSat } }
+{
+    Flaw {
+        column,
+        what: What::BadSat,
+    }
+}
+
+fn is_letter_byte(b: u8) -> bool
+    ensures { result ≡ is_letter b }
+{
+    (b >= b'A' && b <= b'Z') || (b >= b'a' && b <= b'z')
+}
+
+fn digit(b: u8) -> Option<u8>
+    ensures value { result ≡ digit_of b }
+    ensures small { IfSome result (λ d. d ≤ 9) }
+{
+    if b == b' ' {
+        return Some(0);
+    }
+    if b >= b'0' && b <= b'9' {
+        return Some(b - b'0');
+    }
+    None
+}
+
+// The number in the two columns behind this one, or 0 where there is none.
+fn number(line: &[u8], first: u32) -> u8
+    requires from_one { 1 ≤ first }
+    requires near { first ≤ 4900 }
+    ensures value { result ≡ number_at line.now first }
+    ensures small { result ≤ 99 }
+{
+    let at = first as usize;
+    match (digit(byte_in(line, at + 1)), digit(byte_in(line, at + 2))) {
+        (Some(tens), Some(ones)) => 10 * tens + ones,
+        _ => 0,
+    }
+}
+
+fn letter(system: System, blank: bool, line: &[u8], first: u32) -> u8
+    requires { 1 ≤ first }
+    ensures { result ≡ letter_at system blank line.now first }
+{
+    let letter = byte_in(line, first as usize);
+    if blank && letter == b' ' {
+        return system.letter();
+    }
+    letter
+}
+
+/// The number of a satellite of the system whose name begins at this column, or nothing at one of another system. Where a
+/// letter may be blank, it stands for the system's.
+#[tactic(auto, unfolding(crate::specs::SatFields::satellite_at))]
+pub fn satellite(system: System, blank: bool, line: &[u8], first: u32) -> Result<Option<u8>, Flaw>
+    requires from_one { 1 ≤ first }
+    requires near { first ≤ 4900 }
+    ensures value { result ≡ satellite_at system blank line.now first }
+    ensures from_one { IfOk result (λ found. IfSome found (λ n. 1 ≤ n)) }
+    ensures to_last { IfOk result (λ found. IfSome found (λ n. n ≤ last_number_of system)) }
+{
+    let letter = letter(system, blank, line, first);
+    let number = number(line, first);
+    if !is_letter_byte(letter) || number < 1 {
+        return Err(bad_satellite(first));
+    }
+    if letter != system.letter() {
+        return Ok(None);
+    }
+    if number > system.last_number() {
+        return Err(bad_satellite(first));
+    }
+    Ok(Some(number))
+}
+
+fn is_all_zero(text: &[u8]) -> bool
+    ensures { result ≡ has_no_digit_above_0 text.now }
+{
+    text.iter().all(|b| !(*b >= b'1' && *b <= b'9'))
+}
+
+#[tactic(auto, unfolding(crate::specs::SatFields::amount_in))]
+fn amount(line: &[u8], first: u32) -> Result<Option<i64>, Flaw>
+    requires from_one { 1 ≤ first }
+    requires near { first ≤ 4900 }
+    ensures { result ≡ amount_in line.now first }
+{
+    let text = field::<14>(line, first as usize);
+    match fixed(&text, 3) {
+        Ok(0) => Ok(None),
+        Ok(amount) => Ok(Some(amount)),
+        Err(NumberFault::Blank) => Ok(None),
+        Err(NumberFault::TooManyPlaces) if is_all_zero(&text) => Ok(None),
+        Err(_) => Err(bad_field(first)),
+    }
+}
+
+fn lock_digit(b: u8, at: u32) -> Result<u8, Flaw>
+    ensures { result ≡ lock_of at b }
+{
+    match b {
+        b' ' => Ok(0),
+        b'0'..=b'7' => Ok(b - b'0'),
+        _ => Err(bad_field(at)),
+    }
+}
+
+/// The value in the 14 columns from this one on, and the digit behind it.
+#[tactic(auto, unfolding(crate::specs::SatFields::value_in))]
+pub fn value(line: &[u8], first: u32) -> Result<Option<Value>, Flaw>
+    requires from_one { 1 ≤ first }
+    requires near { first ≤ 4900 }
+    ensures { result ≡ value_in line.now first }
+{
+    match amount(line, first)? {
+        None => Ok(None),
+        Some(amount) => {
+            let at = first + 14;
+            let lock = lock_digit(byte_in(line, at as usize), at)?;
+            Ok(Some(Value { amount, lock }))
+        }
+    }
+}
+
+/// Sets the values of the kept types that line number `at` of a satellite has, from 0.
+#[tactic(auto, unfolding(crate::specs::SatFields::values_in))]
+pub fn set_values(
+    layout: Layout,
+    at: u8,
+    line: &[u8],
+    kept: &[KeptType],
+    before: [Option<Value>; SLOTS],
+) -> Result<[Option<Value>; SLOTS], Flaw>
+    ensures { result ≡ values_in layout at kept.now line.now before }
+{
+    let mut values = before;
+    for one in kept {
+        match layout.value_column(at, one.number) {
+            Some(column) => values[one.kind.slot()] = value(line, column)?,
+            None => {}
+        }
+    }
+    Ok(values)
+}

@@ -1,0 +1,248 @@
+// Which satellites are used of what two receivers on the equator observe.
+ghost use Rattle.std.specs.Prelude.{◌<◌, IfOk};
+ghost use Rattle.screening.specs.Screening.{ArePairsOf, HasPosition};
+
+use decimal_text::Dec;
+use eph_store::{NavFile, Raw};
+use epoch_pair::{PairOf, pair, take};
+use gps_time::Tick;
+use obs_rows::{Arc, Signals};
+use obs_store::{Epoch, Epochs, ObsFile, ObsType, SatObs, Satellites, Value};
+use screening::{Screened, screen};
+use slip_arcs::cut;
+use std::alloc::{AllocError, Global};
+use std::test::Fail;
+
+const ZERO: Dec = Dec { mant: 0, exp: 0 };
+
+const CODE: i64 = 25_000_000_000;
+
+// A satellite on a circle of 25,000 km over the equator, which at time 0 is so many hundredths of a radian east of Greenwich.
+fn record(sat: u8, hundredths: i64) -> Raw {
+    Raw {
+        sat,
+        toc: Tick(0),
+        af0: ZERO,
+        af1: ZERO,
+        af2: ZERO,
+        crs: ZERO,
+        dn: ZERO,
+        m0: Dec {
+            mant: hundredths,
+            exp: -2,
+        },
+        cuc: ZERO,
+        ecc: ZERO,
+        cus: ZERO,
+        root_a: Dec { mant: 5000, exp: 0 },
+        cic: ZERO,
+        node: ZERO,
+        cis: ZERO,
+        incl: ZERO,
+        crc: ZERO,
+        peri: ZERO,
+        node_rate: ZERO,
+        incl_rate: ZERO,
+        week: ZERO,
+        toe_s: ZERO,
+        health: ZERO,
+    }
+}
+
+// Satellites 1, 2 and so on, all high above the receivers.
+fn records(alloc: Global, count: u8) -> Result<NavFile, AllocError> {
+    let mut nav = NavFile::new(alloc);
+    for sat in 0..count {
+        nav.push(record(sat + 1, 0))?;
+    }
+    Ok(nav)
+}
+
+// The phase on L2 with its digit, and both codes.
+fn observed(number: u8, phase: i64, lock: u8, code: i64) -> SatObs {
+    let mut sat = SatObs::missing(number);
+    let free = |amount| Some(Value { amount, lock: 0 });
+    sat.values[ObsType::L1C.slot()] = free(0);
+    sat.values[ObsType::L2W.slot()] = Some(Value {
+        amount: phase,
+        lock,
+    });
+    sat.values[ObsType::C1C.slot()] = free(code);
+    sat.values[ObsType::C2W.slot()] = free(code);
+    sat
+}
+
+fn sats_of(alloc: Global, all: &[SatObs]) -> Result<Satellites, AllocError> {
+    let mut sats = Satellites::new(alloc);
+    for sat in all {
+        if 1 <= sat.number && sat.number <= 36 && !sats.has(sat.number) {
+            sats.push(*sat)?;
+        }
+    }
+    Ok(sats)
+}
+
+// Adds an epoch, where it is later than the last.
+fn add(alloc: Global, epochs: &mut Epochs, tag: u64, all: &[SatObs]) -> Result<(), AllocError> {
+    if epochs.len() >= Epochs::MOST {
+        return Ok(());
+    }
+    if let Some(last) = epochs.last_tag()
+        && last.0 >= tag
+    {
+        return Ok(());
+    }
+    epochs.push(Epoch {
+        tag: Tick(tag),
+        power: false,
+        sats: sats_of(alloc, all)?,
+    })
+}
+
+// A receiver on the equator, on the meridian of Greenwich.
+fn receiver(epochs: Epochs) -> ObsFile
+    ensures { HasPosition result.position }
+{
+    ObsFile {
+        hundredths: 304,
+        position: Some([63_710_000_000, 0, 0]),
+        delta: [0, 0, 0],
+        listed: [false; 20],
+        epochs,
+    }
+}
+
+fn alone(alloc: Global, sat: SatObs) -> Result<ObsFile, AllocError>
+    ensures { IfOk result (λ file. HasPosition file.position) }
+{
+    let mut epochs = Epochs::new(alloc);
+    add(alloc, &mut epochs, 0, &[sat])?;
+    Ok(receiver(epochs))
+}
+
+// Twenty epochs of two satellites, half a minute apart; in one the first satellite's phase on L2 lost lock.
+fn series(alloc: Global, lost: u64) -> Result<ObsFile, AllocError>
+    ensures { IfOk result (λ file. HasPosition file.position) }
+{
+    let mut epochs = Epochs::new(alloc);
+    for k in 0..20u64 {
+        let lock = if k == lost { 1 } else { 0 };
+        let all = [observed(1, 0, lock, CODE), observed(2, 0, 0, CODE)];
+        add(alloc, &mut epochs, 300_000_000 * k, &all)?;
+    }
+    Ok(receiver(epochs))
+}
+
+fn taken(
+    alloc: Global,
+    base: &ObsFile,
+    rover: &ObsFile,
+    step: u32,
+) -> Result<Vec<PairOf>, AllocError>
+    requires { 0 < step }
+    ensures { IfOk result (λ taken. ArePairsOf base.now.epochs rover.now.epochs taken.items) }
+{
+    let Ok(all) = pair(alloc, base, rover, 100_000) else {
+        return Ok(Vec::new(alloc));
+    };
+    take(alloc, &all, 0, step, 3600)
+}
+
+fn screened(
+    alloc: Global,
+    base: &ObsFile,
+    rover: &ObsFile,
+    nav: &NavFile,
+    step: u32,
+) -> Result<Screened, AllocError>
+    requires position { HasPosition base.now.position }
+    requires step { 0 < step }
+{
+    let signals = Signals { l1: b'C', l2: b'W' };
+    let pairs = taken(alloc, base, rover, step)?;
+    screen(alloc, base, rover, nav, signals, &pairs, 200)
+}
+
+fn is_arc(arc: &Arc, sat: u8, first: u32, last: u32) -> bool {
+    (arc.sat, arc.first, arc.last) == (sat, first, last)
+}
+
+// Lock is lost in epoch 6, which with each fourth pair isn't taken.
+#[test]
+fn lost_lock_cuts_one_satellite(rt: HostRuntime) -> Result<(), Fail> {
+    let base = series(rt.alloc(), 6)?;
+    let rover = series(rt.alloc(), 20)?;
+    let nav = records(rt.alloc(), 2)?;
+    let all = screened(rt.alloc(), &base, &rover, &nav, 1)?;
+    let arcs = cut(rt.alloc(), all.used.as_slice(), 12, 5)?;
+    assert_eq!(rt; arcs.kept.len(), 3);
+    assert!(rt; is_arc(&arcs.kept.as_slice()[0], 1, 0, 5));
+    assert!(rt; is_arc(&arcs.kept.as_slice()[1], 2, 0, 19));
+    assert!(rt; is_arc(&arcs.kept.as_slice()[2], 1, 6, 19));
+    let some = screened(rt.alloc(), &base, &rover, &nav, 4)?;
+    let arcs = cut(rt.alloc(), some.used.as_slice(), 12, 2)?;
+    assert_eq!(rt; arcs.kept.len(), 3);
+    assert!(rt; is_arc(&arcs.kept.as_slice()[0], 1, 0, 1));
+    assert!(rt; is_arc(&arcs.kept.as_slice()[1], 2, 0, 4));
+    assert!(rt; is_arc(&arcs.kept.as_slice()[2], 1, 2, 4));
+    Ok(())
+}
+
+// How many satellites are used of one that the first receiver and then the second observes so.
+fn used_with(alloc: Global, nav: &NavFile, odd: SatObs) -> Result<(usize, usize), AllocError> {
+    let plain = alone(alloc, observed(1, 0, 0, CODE))?;
+    let odd = alone(alloc, odd)?;
+    let at_base = screened(alloc, &odd, &plain, nav, 1)?;
+    let at_rover = screened(alloc, &plain, &odd, nav, 1)?;
+    Ok((at_base.boxes.len(), at_rover.boxes.len()))
+}
+
+#[test]
+fn ends_of_the_ranges(rt: HostRuntime) -> Result<(), Fail> {
+    let nav = records(rt.alloc(), 1)?;
+    for (phase, lock, code, used) in [
+        (100_000_000_000_000, 0, CODE, 1),
+        (100_000_000_000_001, 0, CODE, 0),
+        (-100_000_000_000_000, 0, CODE, 1),
+        (-100_000_000_000_001, 0, CODE, 0),
+        (0, 1, CODE, 1),
+        (0, 2, CODE, 0),
+        (0, 3, CODE, 0),
+        (0, 4, CODE, 1),
+        (0, 0, 10_000_000_000, 1),
+        (0, 0, 9_999_999_999, 0),
+        (0, 0, 100_000_000_000, 1),
+        (0, 0, 100_000_000_001, 0),
+    ] {
+        let found = used_with(rt.alloc(), &nav, observed(1, phase, lock, code))?;
+        assert_eq!(rt;
+            found,
+            (used, used),
+            "phase {phase}, lock {lock}, code {code}"
+        );
+    }
+    Ok(())
+}
+
+// Of sixteen satellites the last isn't used, and of two on both sides of the Earth the one behind it isn't.
+#[test]
+fn fifteen_above_the_mask(rt: HostRuntime) -> Result<(), Fail> {
+    let mut all: Vec<SatObs> = Vec::new(rt.alloc());
+    for number in 1..17u8 {
+        all.push(observed(number, 0, 0, CODE))?;
+    }
+    let mut epochs = Epochs::new(rt.alloc());
+    add(rt.alloc(), &mut epochs, 0, &all)?;
+    let file = receiver(epochs);
+    let high = screened(rt.alloc(), &file, &file, &records(rt.alloc(), 16)?, 1)?;
+    assert_eq!(rt; high.boxes.len(), 15);
+    assert_eq!(rt; high.boxes.as_slice()[14].sat, 15);
+    let mut nav = NavFile::new(rt.alloc());
+    nav.push(record(1, 314))?;
+    nav.push(record(2, 0))?;
+    let one = screened(rt.alloc(), &file, &file, &nav, 1)?;
+    assert_eq!(rt; one.boxes.len(), 1);
+    assert_eq!(rt; one.boxes.as_slice()[0].sat, 2);
+    assert_eq!(rt; one.boxes.as_slice()[0].observed, [0, 0, 0, 0]);
+    Ok(())
+}

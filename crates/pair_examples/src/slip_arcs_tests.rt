@@ -1,0 +1,108 @@
+// Arcs that are cut at jumps and where power failed, and what links them.
+ghost use Rattle.std.specs.Prelude.{◌≡◌, ◌+◌, ◌<◌, ◌≤◌, ◌^◌, unsigned_abs, vec_len, All, IfOk, OnOk};
+ghost use Rattle.slip_arcs.specs.Used.{IsInRange};
+
+use obs_rows::Arc;
+use slip_arcs::{UsedPair, UsedSat, cut};
+use std::alloc::{AllocError, Global};
+use std::test::Fail;
+
+// A pair that uses one satellite.
+fn alone(alloc: Global, sat: u8, first: i64, second: i64) -> Result<UsedPair, AllocError>
+    requires first { unsigned_abs first < 2 ^ 50 }
+    requires second { unsigned_abs second < 2 ^ 50 }
+    ensures { IfOk result IsInRange }
+{
+    let mut sats: Vec<UsedSat> = Vec::new(alloc);
+    sats.push(UsedSat {
+        sat,
+        phase: [first, second],
+        lost: false,
+    })?;
+    Ok(UsedPair { power: false, sats })
+}
+
+// A pair that uses satellites 3 and 7.
+fn both(alloc: Global) -> Result<UsedPair, AllocError>
+    ensures { IfOk result IsInRange }
+{
+    let mut sats: Vec<UsedSat> = Vec::new(alloc);
+    sats.push(UsedSat {
+        sat: 3,
+        phase: [0, 0],
+        lost: false,
+    })?;
+    sats.push(UsedSat {
+        sat: 7,
+        phase: [0, 0],
+        lost: false,
+    })?;
+    Ok(UsedPair { power: false, sats })
+}
+
+fn add(used: &mut Vec<UsedPair>, pair: UsedPair) -> Result<(), AllocError>
+    requires earlier { All IsInRange used.old.items }
+    requires pair { IsInRange pair }
+    ensures ranges { OnOk result (All IsInRange used.new.items) }
+    ensures longer { OnOk result (vec_len used.new ≡ vec_len used.old + 1) }
+{
+    used.push(pair)?;
+    Ok(())
+}
+
+fn is_arc(arc: &Arc, sat: u8, first: u32, last: u32, datum: bool) -> bool {
+    (arc.sat, arc.first, arc.last, arc.datum) == (sat, first, last, datum)
+}
+
+// Rises of 1000 and 1000 thousandths of a cycle are 17 κ apart, rises of 9000 and 7000 are 1 κ apart.
+#[test]
+fn cuts_at_a_jump(rt: HostRuntime) -> Result<(), Fail> {
+    let mut used: Vec<UsedPair> = Vec::new(rt.alloc());
+    add(&mut used, alone(rt.alloc(), 7, 0, 0)?)?;
+    add(&mut used, alone(rt.alloc(), 7, 1000, 1000)?)?;
+    add(&mut used, alone(rt.alloc(), 7, 10000, 8000)?)?;
+    let arcs = cut(rt.alloc(), &used, 12, 2)?;
+    assert_eq!(rt; arcs.kept.len(), 1);
+    assert!(rt; is_arc(&arcs.kept.as_slice()[0], 7, 1, 2, true));
+    assert_eq!(rt; arcs.short, 1);
+    let none = cut(rt.alloc(), &used, 12, 3)?;
+    assert_eq!(rt; none.kept.len(), 0);
+    assert_eq!(rt; none.short, 2);
+    let whole = cut(rt.alloc(), &used, 17, 3)?;
+    assert_eq!(rt; whole.kept.len(), 1);
+    assert!(rt; is_arc(&whole.kept.as_slice()[0], 7, 0, 2, true));
+    Ok(())
+}
+
+// The second arc of satellite 3 shares no pair with the first, but satellite 7 links both.
+#[test]
+fn links_arcs_that_join_late(rt: HostRuntime) -> Result<(), Fail> {
+    let mut used: Vec<UsedPair> = Vec::new(rt.alloc());
+    add(&mut used, alone(rt.alloc(), 3, 0, 0)?)?;
+    add(&mut used, both(rt.alloc())?)?;
+    add(&mut used, alone(rt.alloc(), 7, 0, 0)?)?;
+    add(&mut used, both(rt.alloc())?)?;
+    add(&mut used, alone(rt.alloc(), 3, 0, 0)?)?;
+    let arcs = cut(rt.alloc(), &used, 12, 2)?;
+    assert_eq!(rt; arcs.kept.len(), 3);
+    assert!(rt; is_arc(&arcs.kept.as_slice()[0], 3, 0, 1, true));
+    assert!(rt; is_arc(&arcs.kept.as_slice()[1], 7, 1, 3, false));
+    assert!(rt; is_arc(&arcs.kept.as_slice()[2], 3, 3, 4, false));
+    Ok(())
+}
+
+// Where power failed up to the last pair, that pair stands alone, and its arc is a datum of its own.
+#[test]
+fn cuts_where_power_failed(rt: HostRuntime) -> Result<(), Fail> {
+    let mut used: Vec<UsedPair> = Vec::new(rt.alloc());
+    add(&mut used, alone(rt.alloc(), 7, 0, 0)?)?;
+    add(&mut used, alone(rt.alloc(), 7, 0, 0)?)?;
+    let mut last = alone(rt.alloc(), 7, 0, 0)?;
+    last.power = true;
+    add(&mut used, last)?;
+    let arcs = cut(rt.alloc(), &used, 12, 1)?;
+    assert_eq!(rt; arcs.kept.len(), 2);
+    assert!(rt; is_arc(&arcs.kept.as_slice()[0], 7, 0, 1, true));
+    assert!(rt; is_arc(&arcs.kept.as_slice()[1], 7, 2, 2, true));
+    Ok(())
+}

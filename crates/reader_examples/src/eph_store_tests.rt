@@ -1,0 +1,223 @@
+// Values of the public standard and of hand calculation.
+use decimal_text::Dec;
+use eph_store::{Eph, NavFile, Raw, Unfit};
+use gps_time::Tick;
+use std::alloc::{AllocError, Global};
+use std::test::Fail;
+
+const ZERO: Dec = Dec { mant: 0, exp: 0 };
+
+// Week 2295, second 86,400: 2024-01-01 00:00 is its tick 13,881,024,000,000,000.
+fn record(sat: u8) -> Raw {
+    Raw {
+        sat,
+        toc: Tick(13_881_024_000_000_000),
+        af0: ZERO,
+        af1: ZERO,
+        af2: ZERO,
+        crs: ZERO,
+        dn: ZERO,
+        m0: ZERO,
+        cuc: ZERO,
+        ecc: ZERO,
+        cus: ZERO,
+        root_a: Dec {
+            mant: 51_536,
+            exp: -1,
+        },
+        cic: ZERO,
+        node: ZERO,
+        cis: ZERO,
+        incl: ZERO,
+        crc: ZERO,
+        peri: ZERO,
+        node_rate: ZERO,
+        incl_rate: ZERO,
+        week: Dec {
+            mant: 2_295,
+            exp: 0,
+        },
+        toe_s: Dec { mant: 864, exp: 2 },
+        health: ZERO,
+    }
+}
+
+fn unfit(raw: &Raw) -> Option<Unfit> {
+    Eph::of(raw).err()
+}
+
+#[test]
+fn takes_usable_records(rt: HostRuntime) {
+    let found = Eph::of(&record(5)).map(|e| (e.sat, e.toe, e.toe_second, e.root_a));
+    let want = (
+        5,
+        Tick(13_881_024_000_000_000),
+        86_400,
+        Dec {
+            mant: 51_536,
+            exp: -1,
+        },
+    );
+    assert_eq!(rt; found, Ok(want));
+}
+
+#[test]
+fn tells_what_is_out(rt: HostRuntime) {
+    let mut raw = record(5);
+    raw.root_a = Dec {
+        mant: 6_000_000_000_001,
+        exp: -9,
+    };
+    assert_eq!(rt; unfit(&raw), Some(Unfit::Range { field: 4 }));
+    raw.root_a = Dec {
+        mant: 6_000_000_000_000,
+        exp: -9,
+    };
+    assert_eq!(rt; unfit(&raw), None);
+    raw.af2 = Dec { mant: 1, exp: -11 };
+    assert_eq!(rt; unfit(&raw), Some(Unfit::Range { field: 21 }));
+    raw.week = Dec {
+        mant: 22_955,
+        exp: -1,
+    };
+    assert_eq!(rt; unfit(&raw), Some(Unfit::Range { field: 1 }));
+    raw.health = Dec { mant: 1, exp: 0 };
+    assert_eq!(rt; unfit(&raw), Some(Unfit::Unhealthy));
+}
+
+#[test]
+fn holds_the_ends(rt: HostRuntime) {
+    let rows: [(Dec, Option<Unfit>); 8] = [
+        (
+            Dec {
+                mant: 3_125,
+                exp: -5,
+            },
+            None,
+        ),
+        (
+            Dec {
+                mant: 31_250_000_000_001,
+                exp: -15,
+            },
+            Some(Unfit::Range { field: 5 }),
+        ),
+        (
+            Dec {
+                mant: -1,
+                exp: -999,
+            },
+            Some(Unfit::Range { field: 5 }),
+        ),
+        (
+            Dec {
+                mant: 999_999_999_999_999_999,
+                exp: -999,
+            },
+            None,
+        ),
+        (Dec { mant: 1, exp: 999 }, Some(Unfit::Range { field: 5 })),
+        (Dec { mant: 0, exp: 999 }, None),
+        (
+            Dec {
+                mant: i64::MIN,
+                exp: i32::MIN,
+            },
+            Some(Unfit::Range { field: 5 }),
+        ),
+        (
+            Dec {
+                mant: i64::MAX,
+                exp: i32::MIN,
+            },
+            None,
+        ),
+    ];
+    for (ecc, want) in rows {
+        let mut raw = record(5);
+        raw.ecc = ecc;
+        assert_eq!(rt; unfit(&raw), want, "at {ecc:?}");
+    }
+}
+
+// Records of one satellite with these times.
+fn file_of(alloc: Global, times: &[(i64, i64)]) -> Result<NavFile, AllocError> {
+    let mut file = NavFile::new(alloc);
+    for (week, second) in times {
+        let mut raw = record(5);
+        raw.week = Dec {
+            mant: *week,
+            exp: 0,
+        };
+        raw.toe_s = Dec {
+            mant: *second,
+            exp: 0,
+        };
+        raw.toc = Tick(tick(*week, *second));
+        file.push(raw)?;
+    }
+    Ok(file)
+}
+
+fn tick(week: i64, second: i64) -> u64 {
+    if (0..10_000).contains(&week) && (0..604_800).contains(&second) {
+        (week as u64 * 604_800 + second as u64) * 10_000_000
+    } else {
+        0
+    }
+}
+
+#[test]
+fn chooses_the_nearest(rt: HostRuntime) -> Result<(), Fail> {
+    let toe = 13_881_024_000_000_000;
+    let two_hours = 72_000_000_000;
+    let one = file_of(rt.alloc(), &[(2_295, 86_400)])?;
+    assert_eq!(rt; one.all().len(), 1);
+    assert_eq!(rt; one.fit().len(), 1);
+    assert_eq!(rt; toe_of(one.choose(5, Tick(toe + two_hours))), Some(toe));
+    assert_eq!(rt; toe_of(one.choose(5, Tick(toe + two_hours + 1))), None);
+    assert_eq!(rt; toe_of(one.choose(5, Tick(toe - two_hours))), Some(toe));
+    assert_eq!(rt; toe_of(one.choose(5, Tick(toe - two_hours - 1))), None);
+    assert_eq!(rt; toe_of(one.choose(6, Tick(toe))), None);
+    // The tag is 3,600 s past the first record's time and 3,600 s before the second's.
+    let two = file_of(rt.alloc(), &[(2_295, 86_400), (2_295, 93_600)])?;
+    let later = toe + 2 * 36_000_000_000;
+    assert_eq!(rt;
+        toe_of(two.choose(5, Tick(toe + 36_000_000_000))),
+        Some(later)
+    );
+    let turned = file_of(rt.alloc(), &[(2_295, 93_600), (2_295, 86_400)])?;
+    assert_eq!(rt;
+        toe_of(turned.choose(5, Tick(toe + 36_000_000_000))),
+        Some(toe)
+    );
+    assert_eq!(rt;
+        toe_of(turned.choose(5, Tick(toe + 36_000_000_001))),
+        Some(later)
+    );
+    Ok(())
+}
+
+#[test]
+fn weeks_count_on(rt: HostRuntime) -> Result<(), Fail> {
+    // Second 0 of week 2296 is 3,600 s after second 601,200 of week 2295.
+    let file = file_of(rt.alloc(), &[(2_295, 601_200)])?;
+    let toe = toe_of(file.choose(5, Tick(13_886_208_000_000_000)));
+    assert_eq!(rt; toe, Some(13_886_172_000_000_000));
+    Ok(())
+}
+
+#[test]
+fn leaves_out_what_is_unfit(rt: HostRuntime) -> Result<(), Fail> {
+    let mut file = file_of(rt.alloc(), &[(2_295, 86_400)])?;
+    let mut ill = record(5);
+    ill.health = Dec { mant: 63, exp: 0 };
+    file.push(ill)?;
+    assert_eq!(rt; file.all().len(), 2);
+    assert_eq!(rt; file.fit().len(), 1);
+    Ok(())
+}
+
+fn toe_of(found: Option<&Eph>) -> Option<u64> {
+    found.map(|eph| eph.toe.0)
+}

@@ -1,0 +1,21 @@
+//! What the readers of files take and refuse, a module for each crate below. There is nothing here but tests.
+#![tactic(auto)]
+
+#[cfg(test)]
+mod eph_store_tests;
+#[cfg(test)]
+mod line_source_piece_tests;
+#[cfg(test)]
+mod line_source_tests;
+#[cfg(test)]
+mod obs_store_tests;
+#[cfg(test)]
+mod rinex_head_tests;
+#[cfg(test)]
+mod rinex_nav_tests;
+#[cfg(test)]
+mod rinex_obs_feed_tests;
+#[cfg(test)]
+mod rinex_obs_tests;
+#[cfg(test)]
+mod zero_rows_tests;

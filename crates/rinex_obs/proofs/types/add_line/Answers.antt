@@ -1,5 +1,0 @@
-use Rattle.std.proofs.Common.{arith}
-use Rattle.rinex_obs.proofs.types.add_line.Goals as goal
-
-pub returns-in-Ok-clause-room : goal.returns-in-Ok-clause-room
-returns-in-Ok-clause-room c = omega (arith, c.in-Ok.ensures.longer, c.min-count.ensures)

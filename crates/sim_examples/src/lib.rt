@@ -1,0 +1,17 @@
+//! Made-up sessions: their draws, their texts, and that the readers of files read them. There is nothing here but tests.
+#![tactic(auto)]
+
+#[cfg(test)]
+mod piece_tests;
+#[cfg(test)]
+mod reading_tests;
+#[cfg(test)]
+mod sim_draws_tests;
+#[cfg(test)]
+mod sim_job_tests;
+#[cfg(test)]
+mod sim_records_tests;
+#[cfg(test)]
+mod sim_session_tests;
+#[cfg(test)]
+mod sim_texts_tests;

@@ -1,0 +1,62 @@
+// A made-up observation file is read the same however it is cut.
+ghost use Rattle.std.specs.Prelude.{None};
+
+use line_source::{Failed, FileId, Files, load_into};
+use rinex_obs::{ObsFeed, read_obs};
+use sim_session::make;
+use std::test::Fail;
+
+// A file that gives at most so many bytes a call.
+#[derive(Drop)]
+struct Pieces {
+    text: Vec<u8>,
+    at: usize,
+    most: usize,
+}
+
+impl Files for Pieces {
+    ghost text_of = { λ _ _. None };
+
+    ghost unread = { λ _ _. None };
+
+    ghost faults = { λ _. 0 };
+
+    ghost is_sure_name = { λ _ _. ⊥ };
+
+    ghost is_sure_id = { λ _ _. ⊥ };
+
+    fn open_file(&mut self, _name: &str) -> Result<FileId, Failed> {
+        Ok(FileId(0))
+    }
+
+    fn read(&mut self, _id: FileId, into: &mut [u8]) -> Result<usize, Failed> {
+        let at = self.at.min(self.text.len());
+        let count = into.len().min(self.most).min(self.text.len() - at);
+        into[..count].copy_from_slice(&self.text[at..at + count]);
+        self.at = at + count;
+        Ok(count)
+    }
+}
+
+#[test]
+fn reads_the_same_in_pieces(rt: HostRuntime) -> Result<(), Fail> {
+    let alloc = rt.alloc();
+    let made = make(alloc, 1, 60, 8)?;
+    assert!(rt; made.base.len() <= 67_108_864);
+    let whole = read_obs(alloc, &made.base)?;
+    assert_eq!(rt; whole.epochs.len(), 60);
+    let want = format!(in alloc; "{whole:?}")?;
+    for most in [1, 7, 65_536] {
+        let mut files = Pieces {
+            text: made.base.as_slice().to_vec(alloc)?,
+            at: 0,
+            most,
+        };
+        let mut feed = ObsFeed::new(alloc);
+        load_into(&mut files, "", &mut feed)?;
+        let file = feed.finish()?;
+        let found = format!(in alloc; "{file:?}")?;
+        assert_eq!(rt; found.as_str(), want.as_str());
+    }
+    Ok(())
+}

@@ -1,0 +1,56 @@
+// Made-up files are read.
+use gps_time::Tick;
+use obs_store::{ObsType, Value};
+use rinex_nav::read_nav;
+use rinex_obs::read_obs;
+use sim_session::make;
+use std::test::Fail;
+
+// The values are those of an independent model.
+#[test]
+fn reads_observations(rt: HostRuntime) -> Result<(), Fail> {
+    let alloc = rt.alloc();
+    let made = make(alloc, 1, 2, 4)?;
+    assert!(rt; made.base.len() <= 67_108_864);
+    let file = read_obs(alloc, &made.base)?;
+    assert_eq!(rt; file.hundredths, 304);
+    assert_eq!(rt; file.position, Some([63_781_370_000, 0, 0]));
+    assert_eq!(rt; file.delta, [0, 0, 0]);
+    assert_eq!(rt; file.epochs.len(), 2);
+    let epoch = &file.epochs.as_slice()[1];
+    assert_eq!(rt; epoch.tag, Tick(13_881_024_300_000_000));
+    assert!(rt; !epoch.power);
+    let sats = epoch.sats.as_slice();
+    assert_eq!(rt; sats.len(), 4);
+    assert_eq!(rt; sats[3].number, 4);
+    let wanted = [
+        (ObsType::C1C, 22_601_373_001),
+        (ObsType::L1C, 118_440_897_761),
+        (ObsType::C2W, 22_601_373_001),
+        (ObsType::L2W, 92_641_508_229),
+    ];
+    for (kind, amount) in wanted {
+        assert_eq!(rt;
+            sats[3].values[kind.slot()],
+            Some(Value { amount, lock: 0 })
+        );
+    }
+    Ok(())
+}
+
+// Each record is usable.
+#[test]
+fn reads_records(rt: HostRuntime) -> Result<(), Fail> {
+    let alloc = rt.alloc();
+    let made = make(alloc, 1, 1, 15)?;
+    assert!(rt; made.nav.len() <= 67_108_864);
+    let file = read_nav(alloc, &made.nav)?;
+    assert_eq!(rt; file.all().len(), 15);
+    assert_eq!(rt; file.fit().len(), 15);
+    let last = &file.fit()[14];
+    assert_eq!(rt; last.sat, 15);
+    assert_eq!(rt; (last.ecc.mant, last.ecc.exp), (1_500_000_000_000, -14));
+    assert_eq!(rt; (last.node.mant, last.node.exp), (-3_600_000_000_000, -13));
+    assert_eq!(rt; last.toe, Tick(13_881_024_000_000_000));
+    Ok(())
+}

@@ -1,0 +1,33 @@
+// Lists of arcs.
+use arc_report::write_arcs;
+use obs_rows::{Arc, ArcList};
+use slip_arcs::Arcs;
+use std::test::Fail;
+
+#[test]
+fn prints_arcs(rt: HostRuntime) -> Result<(), Fail> {
+    let alloc = rt.alloc();
+    let datum = Arc {
+        sat: 3,
+        first: 0,
+        last: 19,
+        datum: true,
+        shift: [0, 0],
+    };
+    let free = Arc {
+        sat: 12,
+        first: 5,
+        last: 9,
+        datum: false,
+        shift: [0, 0],
+    };
+    let arcs = Arcs {
+        kept: ArcList::new(vec![in alloc; datum, free]?),
+        short: 2,
+    };
+    let mut out = Vec::new(alloc);
+    write_arcs(alloc, &mut out, &arcs)?;
+    let want = "arc G03 0 19 datum\narc G12 5 9 free\nshort 2\n";
+    assert_eq!(rt; out.as_slice(), want.as_bytes());
+    Ok(())
+}

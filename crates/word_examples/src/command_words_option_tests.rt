@@ -1,0 +1,152 @@
+// Each option of `fix` in both forms and in each place, and what is refused of them.
+use crate::command_words_tests::words_of;
+use command_words::{Job, WordFault, read_words};
+use std::alloc::{AllocError, Global};
+use std::test::Fail;
+
+// `fix`, three files and these words.
+fn fix_with(alloc: Global, options: &[&str]) -> Result<Vec<String>, AllocError> {
+    let mut list = words_of(alloc, ["fix", "B", "R", "N"].as_slice())?;
+    for word in options {
+        list.push(String::from_str(alloc, *word)?)?;
+    }
+    Ok(list)
+}
+
+// The numbers of a job with options, in the order of their table.
+fn numbers_of(job: &Job) -> [u64; 9] {
+    match job {
+        Job::Fix { options, .. } | Job::Arcs { options, .. } => [
+            options.ratio as u64,
+            options.budget,
+            options.mask as u64,
+            options.gap,
+            options.jump as u64,
+            options.arc as u64,
+            options.step as u64,
+            options.first as u64,
+            options.count as u64,
+        ],
+        _ => [0; 9],
+    }
+}
+
+// The numbers of the table with the one at this place set.
+fn with(place: usize, number: u64) -> [u64; 9] {
+    let mut numbers = [2_000, 1_000_000, 200, 100_000, 12, 5, 1, 0, 3_600];
+    if place < 9 {
+        numbers[place] = number;
+    }
+    numbers
+}
+
+#[test]
+fn reads_each_option(rt: HostRuntime) -> Result<(), Fail> {
+    let alloc = rt.alloc();
+    let rows = [
+        (["fix", "B", "R", "N"].as_slice(), with(9, 0)),
+        (&["arcs", "B", "R", "N"], with(9, 0)),
+        (&["fix", "--ratio", "1000", "B", "R", "N"], with(0, 1_000)),
+        (&["fix", "B", "--ratio", "1000", "R", "N"], with(0, 1_000)),
+        (&["fix", "B", "R", "--ratio", "1000", "N"], with(0, 1_000)),
+        (&["fix", "B", "R", "N", "--ratio", "1000"], with(0, 1_000)),
+        (&["fix", "--ratio=100000", "B", "R", "N"], with(0, 100_000)),
+        (&["fix", "B", "--ratio=100000", "R", "N"], with(0, 100_000)),
+        (&["fix", "B", "R", "--ratio=100000", "N"], with(0, 100_000)),
+        (&["fix", "B", "R", "N", "--ratio=100000"], with(0, 100_000)),
+        (
+            &["fix", "B", "R", "N", "--ratio", "0002000"],
+            with(0, 2_000),
+        ),
+        (&["fix", "--budget", "1", "B", "R", "N"], with(1, 1)),
+        (
+            &["fix", "B", "R", "N", "--budget=100000000"],
+            with(1, 100_000_000),
+        ),
+        (&["fix", "B", "--mask", "0", "R", "N"], with(2, 0)),
+        (&["arcs", "B", "R", "N", "--mask=900"], with(2, 900)),
+        (&["fix", "--gap", "0", "B", "R", "N"], with(3, 0)),
+        (
+            &["arcs", "B", "R", "--gap=5000000", "N"],
+            with(3, 5_000_000),
+        ),
+        (&["fix", "B", "R", "--jump", "1", "N"], with(4, 1)),
+        (&["arcs", "--jump=1000", "B", "R", "N"], with(4, 1_000)),
+        (&["fix", "B", "R", "N", "--arc", "2"], with(5, 2)),
+        (&["arcs", "B", "--arc=3600", "R", "N"], with(5, 3_600)),
+        (&["fix", "--step", "1000", "B", "R", "N"], with(6, 1_000)),
+        (&["arcs", "B", "R", "N", "--step=1"], with(6, 1)),
+        (&["fix", "B", "--first", "19999", "R", "N"], with(7, 19_999)),
+        (&["arcs", "B", "R", "--first=0", "N"], with(7, 0)),
+        (&["fix", "B", "R", "--count", "1", "N"], with(8, 1)),
+        (&["arcs", "--count=3600", "B", "R", "N"], with(8, 3_600)),
+        (
+            &["fix", "--ratio=1000", "--", "-1", "--ratio", "-"],
+            with(0, 1_000),
+        ),
+        (&["fix", "-", "fix", "arcs"], with(9, 0)),
+    ];
+    for (words, want) in rows {
+        let list = words_of(alloc, words)?;
+        match read_words(alloc, &list) {
+            Ok(job) => assert_eq!(rt; numbers_of(&job), want, "at {words:?}"),
+            Err(_) => panic!(&rt; "no job: {words:?}"),
+        }
+    }
+    Ok(())
+}
+
+#[test]
+fn refuses_options(rt: HostRuntime) -> Result<(), Fail> {
+    let alloc = rt.alloc();
+    let rows = [
+        ["--ratio="].as_slice(),
+        &["--ratio"],
+        &["--ratio", "1000", "--ratio", "1000"],
+        &["--ratio=1000", "--ratio=1000"],
+        &["--ratio=1000", "--ratio", "1000"],
+        &["--rati", "1000"],
+        &["--rati=1000"],
+        &["--ratio", "999"],
+        &["--ratio", "100001"],
+        &["--ratio=999"],
+        &["--ratio", "0000000000000001000"],
+        &["--ratio", "+5"],
+        &["--ratio=+5"],
+        &["--ratio", "-1"],
+        &["--ratio=-1"],
+        &["--ratio", "-"],
+        &["--ratio", "--"],
+        &["--ratio", "--mask", "0"],
+        &["--ratio", ""],
+        &["--ratio", "1e3"],
+        &["--budget", "0"],
+        &["--budget", "100000001"],
+        &["--mask", "901"],
+        &["--gap", "5000001"],
+        &["--jump", "0"],
+        &["--jump", "1001"],
+        &["--arc", "1"],
+        &["--arc", "3601"],
+        &["--step", "0"],
+        &["--step", "1001"],
+        &["--first", "20000"],
+        &["--count", "0"],
+        &["--count", "3601"],
+        &["--=1000"],
+        &["-ratio", "1000"],
+        &["--Ratio", "1000"],
+        &["--help"],
+        &["-h"],
+        &["--version"],
+        &["-V"],
+        &["help"],
+        &[""],
+    ];
+    for options in rows {
+        let list = fix_with(alloc, options)?;
+        let found = read_words(alloc, &list).err();
+        assert_eq!(rt; found, Some(WordFault::Usage), "at {options:?}");
+    }
+    Ok(())
+}

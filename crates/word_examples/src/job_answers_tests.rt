@@ -1,0 +1,25 @@
+// Answers that are written, and files that are loaded.
+use job_answers::{Status, deliver, load_file};
+use line_source::{MemSink, SureFiles};
+use std::test::Fail;
+
+#[test]
+fn writes_both_texts(rt: HostRuntime) -> Result<(), Fail> {
+    let alloc = rt.alloc();
+    let mut out = MemSink::new(alloc, 100, 3, Vec::new(alloc))?;
+    let mut err = MemSink::new(alloc, 100, 3, Vec::new(alloc))?;
+    let status = deliver(Status::Done, b"to out", b"to err", &mut out, &mut err);
+    assert_eq!(rt; status, Status::Done);
+    assert_eq!(rt; out.bytes(), b"to out".as_slice());
+    assert_eq!(rt; err.bytes(), b"to err".as_slice());
+    Ok(())
+}
+
+#[test]
+fn loads_a_file(rt: HostRuntime) -> Result<(), Fail> {
+    let alloc = rt.alloc();
+    let mut files = SureFiles::new(Vec::new(alloc));
+    let text = load_file(alloc, &mut files, "F").ok();
+    assert_eq!(rt; text.map(|t| t.len()), Some(0));
+    Ok(())
+}

@@ -1,0 +1,55 @@
+// What is printed of ends without a session.
+use cert_data::{Answer, Outcome, RoundCounts, Stage, Tail};
+use integer_form::Place;
+use outcome_report::{is_fixed, write_outcome};
+use std::alloc::{AllocError, Global};
+use std::process::Abort;
+use std::test::Fail;
+
+fn prints(rt: &impl Abort, alloc: Global, answer: Answer, want: &str) -> Result<(), AllocError> {
+    assert!(rt; !is_fixed(&answer));
+    let outcome = Outcome {
+        taken: 20,
+        all: 60,
+        kept: 22,
+        delta: true,
+        rounds: RoundCounts {
+            coarse: 10,
+            fine: 6,
+        },
+        answer,
+    };
+    let mut out = Vec::new(alloc);
+    let mut err = Vec::new(alloc);
+    write_outcome(alloc, &mut out, &mut err, &outcome)?;
+    assert!(rt; out.as_slice() == want.as_bytes());
+    let told = "pairs 20 of 60\narcs 22\nnote antenna delta not applied\nverdict declined\n";
+    assert!(rt; err.as_slice() == told.as_bytes());
+    Ok(())
+}
+
+#[test]
+fn prints_declines(rt: HostRuntime) -> Result<(), Fail> {
+    let alloc = rt.alloc();
+    prints(&rt, alloc, Answer::Few { pairs: 2 }, "declined few 2\n")?;
+    prints(&rt, alloc, Answer::Arcs { free: 21 }, "declined arcs 21\n")?;
+    let weak = Answer::Early {
+        stage: Stage::Coarse,
+        tail: Tail::Weak {
+            column: 2,
+            pivot: -6,
+        },
+    };
+    prints(&rt, alloc, weak, "declined weak coarse 2 -6\n")?;
+    let wide = Answer::Early {
+        stage: Stage::Fine,
+        tail: Tail::Overwidth { place: Place::Y },
+    };
+    prints(&rt, alloc, wide, "declined overwidth fine y\n")?;
+    let unsettled = Answer::Early {
+        stage: Stage::Coarse,
+        tail: Tail::Unsettled { entry: -65 },
+    };
+    prints(&rt, alloc, unsettled, "declined unsettled coarse -65\n")?;
+    Ok(())
+}
