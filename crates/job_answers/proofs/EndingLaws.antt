@@ -5,10 +5,10 @@ use Rattle.job_answers.specs.declared.answer.Answer.{Answer}
 use Rattle.job_answers.specs.declared.stop.Stop.{Stop}
 use Rattle.job_answers.specs.declared.stop.Stop.TheVariants as stop
 use Rattle.job_answers.specs.declared.status.Status.{Status}
-use Rattle.job_answers.specs.declared.status.Status.TheVariants.{Done, Declined, Usage, Refused, ReadFault, WriteFault, NoMemory}
-use Rattle.job_answers.specs.Answers.{ending_of, IfEnds, IfStopped, IfEnded}
+use Rattle.job_answers.specs.declared.status.Status.TheVariants.{ReadFault, WriteFault}
+use Rattle.job_answers.specs.Answers.{ending_of, IfStopped, IfEnded}
 use Rattle.job_answers.specs.Statuses.{IsVerdictStatus, IsJobStatus}
-use Rattle.job_answers.specs.Endings.{Ending, EndsByFile, EndsUnloaded, IsAdmitted, IsRefusedWhole}
+use Rattle.job_answers.specs.Endings.{Ending, EndsByFile, IsAdmitted, IsRefusedWhole}
 use Rattle.job_answers.specs.Delivered.{SinkChange, IsDelivered}
 
 told_at : (told : List ℕ → Option (List ℕ)) (name bytes : List ℕ) (P : List ℕ → Type 0) → told name ≡ Some bytes → IfSome (told name) P → P bytes
@@ -43,27 +43,9 @@ delivered_status end result status out err (inl written) is other = sym written.
 delivered_status end result status out err (inr (inl by_out)) is other = absurd (other (sym is ∙ by_out.fault))
 delivered_status end result status out err (inr (inr by_err)) is other = absurd (other (sym is ∙ by_err.fault))
 
--- a text for out comes of a verdict alone
-pub text_of_verdict : (s : Status) (out : List ℕ) → ((IsVerdictStatus s → ⊥) → length out ≡ 0) → (out ≡ [] → ⊥) → IsVerdictStatus s
-text_of_verdict Done out quiet some = tt
-text_of_verdict Declined out quiet some = tt
-text_of_verdict Usage out quiet some = absurd (some (none out (quiet (λ v. v))))
-text_of_verdict Refused out quiet some = absurd (some (none out (quiet (λ v. v))))
-text_of_verdict ReadFault out quiet some = absurd (some (none out (quiet (λ v. v))))
-text_of_verdict WriteFault out quiet some = absurd (some (none out (quiet (λ v. v))))
-text_of_verdict NoMemory out quiet some = absurd (some (none out (quiet (λ v. v))))
-
-none : (xs : List ℕ) → length xs ≡ 0 → xs ≡ []
-none [] long = refl
-none (x ∷ xs) long = absurd (omega arith)
-
--- ---- a refusal comes after the file was read to its end, or of one that is too large
+-- a file that was read to its end may be refused
 pub read_whole : (told : List ℕ → Option (List ℕ)) (left : ℕ → Option (List ℕ)) (name : List ℕ) (s : Status) → IsReadToEnd told left name → IsRefusedWhole told left (name ∷ []) s
 read_whole told left name s whole = λ refused. (0, name, omega arith, refl, inl whole)
-
-pub unloaded_whole : (told : List ℕ → Option (List ℕ)) (left : ℕ → Option (List ℕ)) (name : List ℕ) (end : Ending) → EndsUnloaded told name end → IsRefusedWhole told left (name ∷ []) end.status
-unloaded_whole told left name end (inl large) = λ refused. (0, name, omega arith, refl, inr large.large)
-unloaded_whole told left name end (inr fault) = λ refused. let s = ap (λ (e : Ending). e.status) fault in absurd (cc (s, refused))
 
 -- ---- what holds of each ending holds of that of a job
 pub ended_so : (r : Result Answer Stop) (P : Ending → Type 0) → ((end : Ending) → P end) → IfEnded r P
