@@ -15,6 +15,24 @@ fn writes_both_texts(rt: HostRuntime) -> Result<(), Fail> {
     Ok(())
 }
 
+// An empty text for out is written without a call, so out can't fail beside it.
+#[test]
+fn leaves_out_alone(rt: HostRuntime) -> Result<(), Fail> {
+    let alloc = rt.alloc();
+    for status in [
+        Status::Usage,
+        Status::Refused,
+        Status::ReadFault,
+        Status::NoMemory,
+    ] {
+        let mut out = MemSink::new(alloc, 100, 3, vec![in alloc; 0u64]?)?;
+        let mut err = MemSink::new(alloc, 100, 3, Vec::new(alloc))?;
+        assert_eq!(rt; deliver(status, b"", b"to err", &mut out, &mut err), status);
+        assert_eq!(rt; err.bytes(), b"to err".as_slice());
+    }
+    Ok(())
+}
+
 #[test]
 fn loads_a_file(rt: HostRuntime) -> Result<(), Fail> {
     let alloc = rt.alloc();
