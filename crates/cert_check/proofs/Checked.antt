@@ -15,7 +15,11 @@ use Rattle.fix_decide.specs.Decisions.{IsFormOf, first_of, move_of}
 use Rattle.cert_data.specs.declared.tails.Tail.{Tail}
 use Rattle.cert_data.specs.declared.tails.Tail.TheVariants.{Fixed, Unseparated, Weak, Overwidth, Unsettled, Spent}
 use Rattle.cert_check.specs.Decided.{Numbers, Says, IsBestIn}
+use Rattle.cert_data.specs.declared.verdicts.Verdict.{Verdict}
+use Rattle.cert_data.specs.declared.verdicts.Verdict.TheVariants.{Certified, Not}
+use Rattle.cert_data.specs.declared.verdicts.Cause.TheVariants as cause
 use Rattle.cert_check.specs.Verdicts.{IsWideAt}
+use Rattle.cert_check.specs.Visits.{IsSearchedWithin, RestsWithin}
 
 -- what is strictly best is so in a tail that says it
 pub best_said : (s : Session) (t : Tail) (d : Numbers) → Says t d → IsStrictlyBest s (first_of d.best) d.moved → IsBestIn s t
@@ -40,3 +44,12 @@ own_word64 x h = omega (arith, ints)
 
 pub own_word128 : (x : ℤ) → FitsSigned w128 x → to_z w128 (of_z w128 x) ≡ x
 own_word128 x h = omega (arith, ints)
+
+-- whatever the verdict on two best vectors is, it rests on a search within the budget
+pub rests : (s : Session) (budget : ℕ) (v : Verdict) → IsSearchedWithin s budget → RestsWithin s budget v
+rests s budget Certified h = h
+rests s budget (Not (cause.Weak column pivot)) h = tt
+rests s budget (Not (cause.Overwidth place)) h = tt
+rests s budget (Not cause.Spent) h = tt
+rests s budget (Not cause.Unseparated) h = h
+rests s budget (Not cause.Tail) h = h

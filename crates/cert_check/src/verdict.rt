@@ -6,6 +6,7 @@ ghost use Rattle.cert_data.specs.declared.verdicts.Verdict.{Verdict};
 ghost use Rattle.cert_data.specs.declared.verdicts.Verdict.TheVariants.{Certified};
 ghost use Rattle.cert_check.specs.Decided.{IsBestIn};
 ghost use Rattle.cert_check.specs.Verdicts.{IsVerdictOf, IsSameVerdict};
+ghost use Rattle.cert_check.specs.Visits.{RestsWithin};
 
 use crate::tails::says;
 use cert_data::{Cause, Cert, Place, TwoBest, Verdict};
@@ -39,6 +40,7 @@ fn check_best(cert: &Cert, form: &Form, best: &TwoBest) -> Verdict
 fn check_form(cert: &Cert, form: &Form) -> Verdict
     requires { IsFormOf cert.now.session form.now }
     ensures verdict { IsVerdictOf cert.now.session cert.now.ratio cert.now.budget cert.now.tail result }
+    ensures visits { RestsWithin cert.now.session cert.now.budget result }
     ensures strictly_best { result ≡ Certified → IsBestIn cert.now.session cert.now.tail }
 {
     match two_best(form, cert.budget) {
@@ -57,6 +59,7 @@ fn check_form(cert: &Cert, form: &Form) -> Verdict
 /// before the rows are decided.
 pub fn check(cert: &Cert) -> Verdict
     ensures verdict { IsVerdictOf cert.now.session cert.now.ratio cert.now.budget cert.now.tail result }
+    ensures visits { RestsWithin cert.now.session cert.now.budget result }
     ensures strictly_best { result ≡ Certified → IsBestIn cert.now.session cert.now.tail }
     ensures only { (v : Verdict) → IsVerdictOf cert.now.session cert.now.ratio cert.now.budget cert.now.tail v → IsSameVerdict v result }
 {

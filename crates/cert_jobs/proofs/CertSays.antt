@@ -1,5 +1,5 @@
 -- What the endings of `check` and `residuals` say of their files, and their statuses.
-use Rattle.std.proofs.Common.{◌≡◌, ◌≢◌, inl, inr, ℕ, Bool, true, false, List, Option, refl, sym, ap, subst}
+use Rattle.std.proofs.Common.{◌≡◌, ◌≢◌, inl, inr, ℕ, Bool, true, false, List, Option, refl, sym, subst}
 use Rattle.std.specs.Io.KnownBytes.{Appends}
 use Rattle.cert_data.specs.declared.certs.Cert.{Cert}
 use Rattle.cert_data.specs.declared.verdicts.Verdict.{Verdict}
@@ -12,10 +12,10 @@ use Rattle.cert_report.specs.VerdictText.{verdict_text}
 use Rattle.cert_report.specs.Residuals.{has_vectors, residuals_text}
 use Rattle.job_answers.specs.declared.status.Status.TheVariants.{ReadFault}
 use Rattle.job_answers.specs.Statuses.{IsVerdictStatus, IsJobStatus}
-use Rattle.job_answers.specs.Endings.{Ending, ending, IsTextOf, EndsByFile, IsAdmitted}
+use Rattle.job_answers.specs.Endings.{Ending, IsTextOf, EndsByFile, IsAdmitted}
 use Rattle.job_answers.specs.Delivered.{SinkChange}
 use Rattle.job_answers.proofs.EndingLaws.{admitted_ends, verdict_at, job_status_at, file_status}
-use Rattle.cert_jobs.specs.CertJobs.{status_of, shown_status, CheckEnd, ResidualsEnd, CheckEnds, ResidualsEnds}
+use Rattle.cert_jobs.specs.CertJobs.{status_of, shown_status, CheckEnds, ResidualsEnds}
 use Rattle.cert_jobs.specs.CertRuns.{SaysOfCheck, SaysOfResiduals, IsCertAdmitted}
 
 verdict_status : (v : Verdict) → IsVerdictStatus (status_of v)

@@ -1,15 +1,14 @@
 -- The line of an arc: what is read was written so, and what is written is read.
-use Rattle.std.proofs.Common.{◌≡◌, ◌+◌, ◌^◌, ◌<◌, ◌≤◌, ℕ, ℤ, suc, pos, Bool, true, false, if◌then◌else◌, List, [], ◌∷◌, ◌++◌, length, map, take, drop, codes, Result, Ok, Err, IfOk, Option, None, Some, refl, sym, ap, ◌∙◌, subst, lit<, arith}
+use Rattle.std.proofs.Common.{◌≡◌, ℕ, ℤ, suc, pos, Bool, true, false, List, [], ◌∷◌, ◌++◌, length, map, take, drop, codes, Result, Ok, Err, IfOk, Option, None, Some, refl, sym, ap, ◌∙◌, subst, lit<, arith}
 use Rattle.std.proofs.lemmas.Int.{ints}
 use Rattle.std.proofs.lemmas.List.{append-nil}
 use Rattle.obs_rows.specs.declared.arcs.Arc.{Arc}
-use Rattle.decimal_text.specs.Whole.{size_of}
 use Rattle.rinex_head.specs.declared.place.Flaw.{Flaw}
 use Rattle.cert_words.specs.declared.numbers.Number.{Number}
 use Rattle.cert_words.specs.Spelling.{behind_blanks}
 use Rattle.cert_words.specs.Numbers.{capped, Part, part, some_then, behind_text, more_numbers, at_end, number_at, natural_within, all_within}
 use Rattle.cert_words.proofs.NumberLaws.{AreSmall, values, took_more, took_text, took_end, some_took, were_small}
-use Rattle.cert_words.proofs.RangeLaws.{took_both, natural_passed, all_passed, passed_in, AreIn, in_small, natural_holds, placed_within}
+use Rattle.cert_words.proofs.RangeLaws.{took_both, natural_passed, all_passed, passed_in, AreIn, in_small}
 use Rattle.cert_lines.specs.declared.arcs.ArcWords.{ArcWords}
 use Rattle.cert_lines.specs.declared.ranges.TheConstants.{SHIFTS}
 use Rattle.cert_lines.specs.Lines.{kind_text, arc_line}

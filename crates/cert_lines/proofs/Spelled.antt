@@ -1,10 +1,9 @@
 -- Where the numbers of a line were read, the line is their spelling.
-use Rattle.std.proofs.Common.{◌≡◌, ◌+◌, ◌^◌, ◌<◌, ◌≤◌, ℕ, ℤ, pos, List, [], ◌∷◌, ◌++◌, length, take, drop, get_or, codes, All, Ok, true, refl, sym, ap, ◌∙◌, subst, arith}
+use Rattle.std.proofs.Common.{◌≡◌, ◌^◌, ◌<◌, ℕ, ℤ, pos, List, [], ◌∷◌, ◌++◌, length, take, drop, get_or, codes, All, Ok, true, sym, ap, ◌∙◌, subst, arith}
 use Rattle.std.proofs.lemmas.List.{take-append-drop}
 use Rattle.std.proofs.lemmas.Slice.Eq.{bytes_eq-Decides}
 use Rattle.std.specs.Str.{bytes_eq}
 use Rattle.decimal_text.specs.Whole.{size_of}
-use Rattle.obs_rows.specs.declared.rows.Row.{Row}
 use Rattle.cert_words.specs.declared.numbers.Number.{Number}
 use Rattle.cert_words.specs.Spelling.{behind_blanks}
 use Rattle.cert_words.specs.Numbers.{numbers_behind, number_at, all_within}

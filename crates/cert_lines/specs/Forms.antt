@@ -1,5 +1,5 @@
 -- What each line of a certificate must be in its place: first its shape, then its numbers from left to right.
-use Rattle.std.specs.Prelude.{ℕ, ℤ, pos, ◌+◌, ◌-◌, ◌^◌, ◌<◌, ◌≤◌, Bool, true, false, ◌&&◌, ◌||◌, ◌==◌, nat_le, nat_lt, unsigned_abs, if◌then◌else◌, List, [], ◌∷◌, length, take, drop, slice_get, codes, Result, Ok, Err, None, Some}
+use Rattle.std.specs.Prelude.{ℕ, ℤ, ◌-◌, Bool, true, false, ◌&&◌, ◌||◌, ◌==◌, nat_le, nat_lt, if◌then◌else◌, List, [], ◌∷◌, length, take, drop, slice_get, codes, Result, Ok, None, Some}
 use Rattle.std.specs.declared.option.Option.{Option}
 use Rattle.std.specs.Str.{bytes_eq}
 use Rattle.obs_rows.specs.declared.arcs.Arc.{Arc}
@@ -11,7 +11,7 @@ use Rattle.rinex_head.specs.declared.place.What.TheVariants.{BadLine, BadRange}
 use Rattle.rinex_head.specs.Places.{and_then, flawed}
 use Rattle.cert_words.specs.declared.numbers.Number.{Number}
 use Rattle.cert_words.specs.declared.ranges.Range.{Range}
-use Rattle.cert_words.specs.Numbers.{Part, part, some_then, behind_text, more_numbers, at_end, numbers_behind, number_at, within, natural_within, within_range, all_within}
+use Rattle.cert_words.specs.Numbers.{Part, part, some_then, behind_text, more_numbers, at_end, numbers_behind, number_at, natural_within, within_range, all_within}
 use Rattle.cert_lines.specs.declared.arcs.ArcWords.{ArcWords}
 use Rattle.cert_lines.specs.declared.pairs.PairHead.{PairHead}
 use Rattle.cert_lines.specs.declared.ranges.TheConstants.{SHIFTS, GROUPS, OBSERVATIONS, DIRECTIONS, RADII}

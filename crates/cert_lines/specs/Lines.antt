@@ -1,7 +1,6 @@
 -- How the lines of a certificate are spelled: a word, and numbers as `itoa` writes them, each behind one blank.
 use Rattle.std.specs.Prelude.{ℕ, ℤ, pos, Bool, if◌then◌else◌, List, [], ◌∷◌, ◌++◌, length, codes}
 use Rattle.obs_rows.specs.declared.arcs.Arc.{Arc}
-use Rattle.obs_rows.specs.declared.bands.Signals.{Signals}
 use Rattle.obs_rows.specs.declared.pair_rows.PairRows.{PairRows}
 use Rattle.obs_rows.specs.declared.rows.Row.{Row}
 use Rattle.cert_words.specs.Spelling.{behind_blanks}

@@ -8,6 +8,7 @@
 #![tactic(auto)]
 
 mod arcs;
+mod constants;
 mod counts;
 mod pairs;
 mod ranges;
@@ -15,6 +16,7 @@ mod signals;
 mod write;
 
 pub use arcs::{ArcWords, arc_in};
+pub use constants::ranges_law;
 pub use counts::{count_in, triple_in, vector_in};
 pub use pairs::{PairHead, pair_in, row_in};
 pub use ranges::{

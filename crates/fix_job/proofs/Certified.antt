@@ -1,5 +1,5 @@
 -- What a run decides as fixed, the rows say again: a check certifies it, or its search gives up.
-use Rattle.std.proofs.Common.{◌≡◌, ◌⊎◌, inl, inr, ℕ, pos, length, ℤ, refl, sym, subst}
+use Rattle.std.proofs.Common.{◌≡◌, ◌⊎◌, inl, inr, ℕ, length, refl, sym, subst}
 use Rattle.obs_store.specs.declared.file.ObsFile.{ObsFile}
 use Rattle.eph_store.specs.File.{Records}
 use Rattle.obs_rows.specs.declared.sessions.Session.{Session}
@@ -11,7 +11,6 @@ use Rattle.cert_data.specs.declared.outcomes.RoundCounts.{RoundCounts}
 use Rattle.cert_data.specs.declared.outcomes.Answer.TheVariants.{Full}
 use Rattle.cert_data.specs.declared.verdicts.Verdict.{Verdict}
 use Rattle.cert_data.specs.declared.verdicts.Verdict.TheVariants.{Certified}
-use Rattle.fix_decide.specs.Decisions.{IsSeparated}
 use Rattle.cert_check.specs.Decided.{Numbers, IsFixed, Says, numbers}
 use Rattle.cert_check.specs.Verdicts.{IsVerdictOf, IsGivenUp}
 use Rattle.cert_check.proofs.OneVerdict.{one_verdict}

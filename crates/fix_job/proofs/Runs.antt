@@ -1,5 +1,5 @@
 -- The session in which a run ends stands for the files.
-use Rattle.std.proofs.Common.{◌≡◌, ◌⊎◌, inl, inr, ℕ, List, length, map, ℤ, subst}
+use Rattle.std.proofs.Common.{◌≡◌, inl, inr, ℕ, length, map, subst}
 use Rattle.obs_store.specs.declared.file.ObsFile.{ObsFile}
 use Rattle.eph_store.specs.File.{Records}
 use Rattle.sv_orbit.specs.Solutions.{gps}

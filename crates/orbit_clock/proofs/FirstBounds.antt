@@ -1,23 +1,22 @@
 -- The first bounds of any solution: from |E| ≤ 16 to the time since the reference epoch, to the clock, to the time again, to the clock.
-use Rattle.std.proofs.Common.{◌≡◌, ℕ, ◌+◌, ◌*◌, ◌^◌, ◌≤◌, ◌<◌, List, [], ◌∷◌, ℤ, pos, ◌+ℤ◌, ◌-ℤ◌, ◌*ℤ◌, neg_ℤ, ◌≤ℤ◌, ◌<ℤ◌, unsigned_abs, arith, refl, sym, lit≤, lit<}
+use Rattle.std.proofs.Common.{◌≡◌, ℕ, ◌+◌, ◌*◌, ◌^◌, ◌≤◌, ◌<◌, [], ◌∷◌, ℤ, pos, ◌-ℤ◌, ◌*ℤ◌, neg_ℤ, ◌≤ℤ◌, ◌<ℤ◌, unsigned_abs, arith, refl, lit≤, lit<}
 use Rattle.std.proofs.lemmas.Int.{ints}
 use Rattle.std.specs.Int.{abs_diff}
 use Rattle.whole_math.proofs.IntLaws.{neg_mul_ℤ}
-use Rattle.whole_math.proofs.Ring.{Ex, va, ko, ◌⊕◌, ◌⊖◌, ◌⊗◌, ng}
-use Rattle.whole_math.proofs.Order.{lins, le_pos, lt_pos, mul_le_left, mul_le_right, square_nn}
+use Rattle.whole_math.proofs.Ring.{va, ko, ◌⊕◌, ◌⊖◌, ◌⊗◌, ng}
+use Rattle.whole_math.proofs.Order.{lins, le_pos, mul_le_right, square_nn}
 use Rattle.whole_math.proofs.Inequalities.{same_by, nat, pos_nn, le_eq, le_trans_ℤ}
 use Rattle.whole_math.proofs.Certificates.{cert, cancel, square_root, mul_positive, ◌≼◌, hy, nm, ◌⊞◌, ◌⊠◌}
 use Rattle.decimal_text.specs.declared.exponent.Dec.{Dec}
-use Rattle.rational.specs.Rational.{Rational, ◌≈◌, ◌≤ʳ◌, of_whole, of_scale, two_to_minus, add_r, sub_r, mul_r, neg_r, IsAtMostInSize, IsNearRoot}
-use Rattle.rational.proofs.Laws.{≤ʳ_trans, ≤ʳ_from_same, ≈_sym, ≈_trans}
-use Rattle.rational_algebra.proofs.Identities.{ring_r}
+use Rattle.rational.specs.Rational.{Rational, ◌≈◌, ◌≤ʳ◌, of_whole, of_scale, two_to_minus, add_r, sub_r, mul_r, IsAtMostInSize, IsNearRoot}
+use Rattle.rational.proofs.Laws.{≈_sym}
 use Rattle.rational_algebra.proofs.Orders.{order_r, equal_r, cancel_r, ◌≐◌}
 use Rattle.rational_algebra.proofs.Sizes.{positive_above, size_add, size_sub, size_mul, size_along, size_looser, size_over}
 use Rattle.trig_box.specs.AnglePairs.{IsAnglePair, InRange}
 use Rattle.trig_box.proofs.PairLaws.{size_law_5}
-use Rattle.eph_store.specs.Decimals.{decimal, value_of, IsFromTo, IsWithin}
+use Rattle.eph_store.specs.Decimals.{decimal, value_of, IsWithin}
 use Rattle.eph_store.specs.declared.ephemeris.Eph.{Eph}
-use Rattle.orbit_model.specs.Elements.{Elements, Constants, sent_at}
+use Rattle.orbit_model.specs.Elements.{Elements, sent_at}
 use Rattle.orbit_model.specs.Solution.{Quantities, IsSatelliteSolution}
 use Rattle.orbit_clock.specs.declared.world.World.{World}
 use Rattle.orbit_clock.specs.Records.{elements_of, constants_of, seconds}

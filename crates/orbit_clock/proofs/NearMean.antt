@@ -1,12 +1,12 @@
 -- The quantities of a solution from those that the boxes hold, and a mean anomaly at an approximate clock.
-use Rattle.std.proofs.Common.{◌≡◌, ℕ, ◌*◌, ◌^◌, List, [], ◌∷◌, ℤ, pos, ◌+ℤ◌, ◌-ℤ◌, ◌*ℤ◌, neg_ℤ, ◌≤ℤ◌, ◌<ℤ◌, arith, refl, lit≤, lit<}
+use Rattle.std.proofs.Common.{◌*◌, ◌^◌, List, [], ◌∷◌, ℤ, pos, ◌+ℤ◌, ◌-ℤ◌, ◌*ℤ◌, neg_ℤ, ◌≤ℤ◌, ◌<ℤ◌, arith, refl, lit≤, lit<}
 use Rattle.std.proofs.lemmas.Int.{ints}
 use Rattle.whole_math.proofs.Ring.{Ex, va, ko, ◌⊕◌, ◌⊖◌, ◌⊗◌, ng}
 use Rattle.whole_math.proofs.Order.{le_pos}
 use Rattle.whole_math.proofs.Inequalities.{same_by, nat}
 use Rattle.whole_math.proofs.Certificates.{cert, ◌≼◌, hy, nm, ◌⊞◌, ◌⊠◌}
-use Rattle.rational.specs.Rational.{Rational, ◌≈◌, ◌≤ʳ◌, of_whole, of_scale, two_to_minus, add_r, sub_r, mul_r, neg_r, times, IsAtMostInSize, AreWithin, InBox}
-use Rattle.rational.proofs.Laws.{≤ʳ_trans, ≤ʳ_from_same, ≤ʳ_antisym, ≈_sym}
+use Rattle.rational.specs.Rational.{Rational, ◌≈◌, ◌≤ʳ◌, of_whole, of_scale, two_to_minus, add_r, sub_r, mul_r, times, IsAtMostInSize, AreWithin, InBox}
+use Rattle.rational.proofs.Laws.{≤ʳ_from_same, ≤ʳ_antisym, ≈_sym}
 use Rattle.rational_algebra.proofs.Orders.{order_r, equal_r, cancel_r, ◌≐◌}
 use Rattle.rational_algebra.proofs.Sizes.{size_mul, size_along, size_looser}
 use Rattle.rational_algebra.proofs.Ends.{size_of_box}

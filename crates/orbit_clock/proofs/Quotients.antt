@@ -5,8 +5,8 @@ use Rattle.std.proofs.lemmas.Nat.{pow-add}
 use Rattle.whole_math.specs.Rounding.{floor_div, ceil_div}
 use Rattle.whole_math.specs.Bounds.{Within}
 use Rattle.whole_math.proofs.Ring.{◌⊗◌, ng}
-use Rattle.whole_math.proofs.Order.{lins, mul_lt_cancel, mul_le_left, le_pos}
-use Rattle.whole_math.proofs.Inequalities.{same_by, weak, pos_nn, le_trans_ℤ}
+use Rattle.whole_math.proofs.Order.{lins, mul_lt_cancel, mul_le_left}
+use Rattle.whole_math.proofs.Inequalities.{same_by, weak, pos_nn}
 use Rattle.whole_math.proofs.Rounding.{floor_greatest, ceil_least}
 use Rattle.whole_math.proofs.Absolute.{abs_pos, pos_abs}
 use Rattle.iv_core.specs.Boxes.{Past}

@@ -1,12 +1,11 @@
 -- The box of the near-roots of μ: how far it reaches and how wide it is.
-use Rattle.std.proofs.Common.{◌≡◌, ℕ, ◌-◌, ◌*◌, ◌^◌, [], ◌∷◌, ℤ, pos, ◌+ℤ◌, ◌-ℤ◌, ◌*ℤ◌, neg_ℤ, ◌≤ℤ◌, ◌<ℤ◌, ◌⊎◌, inl, inr, arith, refl, sym, ap, subst, ◌∙◌, to_z, of_z}
+use Rattle.std.proofs.Common.{◌≡◌, ◌-◌, ◌*◌, ◌^◌, [], ◌∷◌, ℤ, pos, ◌+ℤ◌, ◌-ℤ◌, ◌*ℤ◌, neg_ℤ, ◌≤ℤ◌, ◌<ℤ◌, inl, inr, arith, refl, subst, to_z, of_z}
 use Rattle.std.proofs.Math.Logic.{∥∥₁_elim}
 use Rattle.std.proofs.Props.{props}
 use Rattle.std.specs.Int.{w64}
 use Rattle.std.proofs.lemmas.Int.{ints, by_lt_z}
 use Rattle.whole_math.proofs.Order.{lins, mul_le_right}
-use Rattle.whole_math.proofs.Ring.{va, ko, ◌⊕◌, ◌⊖◌, ◌⊗◌}
-use Rattle.whole_math.proofs.Inequalities.{nat}
+use Rattle.whole_math.proofs.Ring.{va, ko, ◌⊕◌, ◌⊗◌}
 use Rattle.whole_math.proofs.Certificates.{cert, cancel, weak, square_root, ◌≼◌, hy, nm, ◌⊞◌, ◌⊠◌}
 use Rattle.rational.specs.Rational.{InBox, of_whole}
 use Rattle.orbit_clock.specs.Worlds.{IsWorld}

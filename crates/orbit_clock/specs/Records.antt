@@ -1,5 +1,5 @@
 -- The numbers of a usable record, and those of a system, as the equations take them.
-use Rattle.std.specs.Prelude.{ℕ, ◌^◌, pos}
+use Rattle.std.specs.Prelude.{ℕ, pos}
 use Rattle.std.proofs.Common.{lit<}
 use Rattle.rational.specs.Rational.{Rational, of_whole}
 use Rattle.eph_store.specs.Decimals.{decimal, value_of}

@@ -1,5 +1,5 @@
 -- The terms of the clock's correction, and the correction that they give at a clock.
-use Rattle.std.specs.Prelude.{ℕ, ◌^◌}
+use Rattle.std.specs.Prelude.{◌^◌}
 use Rattle.std.proofs.Common.{lit<}
 use Rattle.rational.specs.Rational.{Rational, add_r, sub_r, mul_r, times, divided}
 use Rattle.iv_core.specs.Intervals.{Holds}

@@ -1,5 +1,4 @@
 -- What the boxes of a satellite's timing hold.
-use Rattle.rational.specs.Rational.{Rational, mul_r}
 use Rattle.iv_core.specs.Intervals.{Holds}
 use Rattle.orbit_model.specs.Solution.{Quantities}
 use Rattle.orbit_clock.specs.Terms.{part}

@@ -47,7 +47,7 @@ top_word x l g = omega (arith, ints)
 
 -- a decision told as a tail
 pub told_decision : (s : Session) (f : Form) (ratio budget h : ℕ) (m : List ℤ) (best : TwoBest) (top : ℤ) (fixed : Bool) (t : Tail) → t ≡ cond fixed (Fixed h m best top) (Unseparated h m best top) →
-    AreFound s f h m best top → (IsTrue fixed → IsSeparated (pos ratio) top best.p2) → (IsSeparated (pos ratio) top best.p2 → IsTrue fixed) → IsDecision s f ratio budget t
+    AreFound s f budget h m best top → (IsTrue fixed → IsSeparated (pos ratio) top best.p2) → (IsSeparated (pos ratio) top best.p2 → IsTrue fixed) → IsDecision s f ratio budget t
 told_decision s f ratio budget h m best top true t e found there back = subst (IsDecision s f ratio budget) (sym e) (found, there refl)
 told_decision s f ratio budget h m best top false t e found there back = subst (IsDecision s f ratio budget) (sym e) (found, λ x. false≢true (back x))
 
@@ -105,9 +105,9 @@ values_in_range s f best h fine two from = in_range best.p1 best.p2
     (subst (λ (x : ℤ). x ≤ℤ best.p2) (sym two.p1) (subst (λ (x : ℤ). value_of f (first_of best) ≤ℤ x) (sym two.p2) (first_least (columns_of f) (first_of best) (second_of best) two.least.order)))
     (second_small s f best h fine two)
 
-pub vectors_fit : (s : Session) (f : Form) (h : ℕ) (m : List ℤ) (best : TwoBest) (top : ℤ) → IsFormOf s f → s.scale ≡ 0 → AreFound s f h m best top →
+pub vectors_fit : (s : Session) (f : Form) (budget h : ℕ) (m : List ℤ) (best : TwoBest) (top : ℤ) → IsFormOf s f → s.scale ≡ 0 → AreFound s f budget h m best top →
     ((z : List ℤ) → length z ≡ integers_of f → neg_ℤ (pos (2 ^ 63)) ≤ℤ value_of f z) → pos 0 ≤ℤ top → top ≤ℤ pos (2 ^ 118) → AreVectors s.arcs h m best top
-vectors_fit s f h m best top o fine found from l g =
+vectors_fit s f budget h m best top o fine found from l g =
     let r : InRange best.p1 best.p2 = values_in_range s f best o fine found.best_is from in
     record {
       h_to = subst (λ (n : ℕ). n ≤ 127) (sym found.h_is) f.h_in;

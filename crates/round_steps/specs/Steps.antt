@@ -14,7 +14,7 @@ use Rattle.integer_form.specs.Told.{IsToldAs}
 use Rattle.lower_form.specs.Forms.{elimination_of}
 use Rattle.int_search.specs.declared.answer.TwoBest.{TwoBest}
 use Rattle.int_search.specs.Answers.{IsTwoBest, IsPlainCountOver, IsSearchTooWide}
-use Rattle.int_search.specs.ReducedCounts.{HasReducedCount}
+use Rattle.int_search.specs.ReducedCounts.{HasReducedCount, KeepsBudget}
 use Rattle.fix_decide.specs.UpperSums.{top as top_of}
 use Rattle.fix_decide.specs.Widths.{AreWide}
 use Rattle.fix_decide.specs.Decisions.{IsFormOf, IsSeparated, first_of, move_of}
@@ -89,10 +89,11 @@ IsRoundDeclined last s (Overwidth place) =
 IsRoundDeclined last s (Unsettled entry) = (last ≡ true) × ((x : List ℤ) × IsUnsettled s x entry)
 IsRoundDeclined last s (Spent budget) = ⊥
 
--- the two least vectors of a session's form, the baseline of the first, and its upper sum
-pub record AreFound (s : Session) (form : Form) (h : ℕ) (moved : List ℤ) (best : TwoBest) (top : ℤ) : Type 0 where
+-- the two least vectors of a session's form, found within the budget, the baseline of the first, and its upper sum
+pub record AreFound (s : Session) (form : Form) (budget h : ℕ) (moved : List ℤ) (best : TwoBest) (top : ℤ) : Type 0 where
   pub h_is : h ≡ form.h
   pub best_is : IsTwoBest form best
+  pub visits : KeepsBudget form budget best
   pub moved_is : moved ≡ move_of form (first_of best)
   pub narrow : HasWide moved → ⊥
   pub top_is : top ≡ top_of form.h s.arcs s.pairs (first_of best) moved
@@ -122,8 +123,8 @@ IsTooWide form budget = IsSearchTooWide form × (HasReducedCount form budget →
 -- What a settled fine round with this form decides: the search is spent or too wide, or else the baseline is too wide, or
 -- else the upper sum, or else the second value is far enough above it or it isn't
 abbrev pub IsDecision : Session → Form → ℕ → ℕ → Tail → Type 0
-IsDecision s form ratio budget (Fixed h moved best top) = AreFound s form h moved best top × IsSeparated (pos ratio) top best.p2
-IsDecision s form ratio budget (Unseparated h moved best top) = AreFound s form h moved best top × (IsSeparated (pos ratio) top best.p2 → ⊥)
+IsDecision s form ratio budget (Fixed h moved best top) = AreFound s form budget h moved best top × IsSeparated (pos ratio) top best.p2
+IsDecision s form ratio budget (Unseparated h moved best top) = AreFound s form budget h moved best top × (IsSeparated (pos ratio) top best.p2 → ⊥)
 IsDecision s form ratio budget (Weak column pivot) = ⊥
 IsDecision s form ratio budget (Overwidth place) =
     ((place ≡ Place.Search) × IsTooWide form budget) ⊎ (((place ≡ Place.Float) × IsBaselineWide form) ⊎ ((place ≡ Place.Sum) × IsSumWide s form))

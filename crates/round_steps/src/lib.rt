@@ -11,6 +11,7 @@
 //! `Rounds` brings.
 #![tactic(auto)]
 
+mod constants;
 mod counts;
 mod decided;
 mod limits;
@@ -19,6 +20,7 @@ mod runs;
 mod shifts;
 mod steps;
 
+pub use constants::limits_law;
 pub use counts::{are_few, are_many};
 pub use decided::decide_settled;
 pub use points::is_receiver_point;

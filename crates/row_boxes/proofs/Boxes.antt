@@ -116,7 +116,7 @@ pub record AreYEnds (s : ℕ) (lo hi w c r : ℤ) : Type 0 where
   pub narrow : (hi -ℤ lo) ≤ℤ pos 5225
   pub top : c +ℤ r ≡ ceil_div (hi -ℤ (w *ℤ pos 1048576)) (2 ^ (s + 2))
   pub bottom : (c -ℤ r) ≤ℤ floor_div (lo -ℤ (w *ℤ pos 1048576)) (2 ^ (s + 2))
-  pub radius : r ≤ℤ (ceil_div (hi -ℤ (w *ℤ pos 1048576)) (2 ^ (s + 2)) -ℤ floor_div (lo -ℤ (w *ℤ pos 1048576)) (2 ^ (s + 2)))
+  pub half : (pos 2 *ℤ r) ≤ℤ ((ceil_div (hi -ℤ (w *ℤ pos 1048576)) (2 ^ (s + 2)) -ℤ floor_div (lo -ℤ (w *ℤ pos 1048576)) (2 ^ (s + 2))) +ℤ pos 1)
 
 pub y_holds : (s : ℕ) (lo hi w c r : ℤ) (q : Rational) → AreYEnds s lo hi w c r → InBox 20 lo hi q → Near c r (in_row_unit s (sub_r q (of_whole w)))
 y_holds s lo hi w c r q a h =
@@ -165,34 +165,41 @@ pub y_radius : (s : ℕ) (lo hi w c r : ℤ) → AreYEnds s lo hi w c r → r �
 y_radius s lo hi w c r a = ⊎_elim (λ (e : s ≡ 0). subst (λ (i : ℕ). r ≤ℤ most_radius i) (sym e) (fine (subst (λ (i : ℕ). AreYEnds i lo hi w c r) e a)))
     (λ (e : s ≡ 14). subst (λ (i : ℕ). r ≤ℤ most_radius i) (sym e) (coarse (subst (λ (i : ℕ). AreYEnds i lo hi w c r) e a))) (scale_cases s a.scale)
   where
-    four : (l u f g r : ℤ) → Rounded 4 l u f g → (u -ℤ l) ≤ℤ pos 5225 → r ≤ℤ (g -ℤ f) → r ≤ℤ pos 2048
+    four : (l u f g r : ℤ) → Rounded 4 l u f g → (u -ℤ l) ≤ℤ pos 5225 → (pos 2 *ℤ r) ≤ℤ ((g -ℤ f) +ℤ pos 1) → r ≤ℤ pos 654
     four l u f g r k h i = omega (arith, ints)
 
-    many : (l u f g r : ℤ) → Rounded 65536 l u f g → (u -ℤ l) ≤ℤ pos 5225 → r ≤ℤ (g -ℤ f) → r ≤ℤ pos 2
+    many : (l u f g r : ℤ) → Rounded 65536 l u f g → (u -ℤ l) ≤ℤ pos 5225 → (pos 2 *ℤ r) ≤ℤ ((g -ℤ f) +ℤ pos 1) → r ≤ℤ pos 1
     many l u f g r k h i = omega (arith, ints)
 
     same : (lo hi x : ℤ) → (hi -ℤ lo) ≤ℤ pos 5225 → ((hi -ℤ x) -ℤ (lo -ℤ x)) ≤ℤ pos 5225
     same lo hi x h = omega (arith, lins)
 
-    fine : AreYEnds 0 lo hi w c r → r ≤ℤ pos 2048
-    fine a = four _ _ _ _ r (rounded 4 (lo -ℤ (w *ℤ pos 1048576)) (hi -ℤ (w *ℤ pos 1048576)) (lit< tt)) (same lo hi (w *ℤ pos 1048576) a.narrow) a.radius
+    fine : AreYEnds 0 lo hi w c r → r ≤ℤ pos 654
+    fine a = four _ _ _ _ r (rounded 4 (lo -ℤ (w *ℤ pos 1048576)) (hi -ℤ (w *ℤ pos 1048576)) (lit< tt)) (same lo hi (w *ℤ pos 1048576) a.narrow) a.half
 
-    coarse : AreYEnds 14 lo hi w c r → r ≤ℤ pos 2
-    coarse a = many _ _ _ _ r (rounded 65536 (lo -ℤ (w *ℤ pos 1048576)) (hi -ℤ (w *ℤ pos 1048576)) (lit< tt)) (same lo hi (w *ℤ pos 1048576) a.narrow) a.radius
+    coarse : AreYEnds 14 lo hi w c r → r ≤ℤ pos 1
+    coarse a = many _ _ _ _ r (rounded 65536 (lo -ℤ (w *ℤ pos 1048576)) (hi -ℤ (w *ℤ pos 1048576)) (lit< tt)) (same lo hi (w *ℤ pos 1048576) a.narrow) a.half
 
--- the ends themselves
-pub plain_ends : (s : ℕ) (lo hi w : ℤ) → IsScale s → lo ≤ℤ hi → (hi -ℤ lo) ≤ℤ pos 5225 →
-    AreYEnds s lo hi w (floor_div (lo -ℤ (w *ℤ pos 1048576)) (2 ^ (s + 2))) (ceil_div (hi -ℤ (w *ℤ pos 1048576)) (2 ^ (s + 2)) -ℤ floor_div (lo -ℤ (w *ℤ pos 1048576)) (2 ^ (s + 2)))
-plain_ends s lo hi w t h k =
+-- the box around the middle of the ends
+pub middle_ends : (s : ℕ) (lo hi w : ℤ) → IsScale s → lo ≤ℤ hi → (hi -ℤ lo) ≤ℤ pos 5225 →
     let f : ℤ = floor_div (lo -ℤ (w *ℤ pos 1048576)) (2 ^ (s + 2)) in
     let g : ℤ = ceil_div (hi -ℤ (w *ℤ pos 1048576)) (2 ^ (s + 2)) in
-    record { scale = t; ordered = h; narrow = k; top = sum f g; bottom = below f g (y_ordered s lo hi (w *ℤ pos 1048576) h); radius = le_refl_ℤ (g -ℤ f) }
+    AreYEnds s lo hi w (floor_div (f +ℤ g) 2) (g -ℤ floor_div (f +ℤ g) 2)
+middle_ends s lo hi w t h k =
+    let f : ℤ = floor_div (lo -ℤ (w *ℤ pos 1048576)) (2 ^ (s + 2)) in
+    let g : ℤ = ceil_div (hi -ℤ (w *ℤ pos 1048576)) (2 ^ (s + 2)) in
+    let c : ℤ = floor_div (f +ℤ g) 2 in
+    let m = floor_is (f +ℤ g) 2 (lit< tt) in
+    record { scale = t; ordered = h; narrow = k; top = sum c g; bottom = below f g c m.0; half = half f g c m.1 }
   where
-    sum : (f g : ℤ) → f +ℤ (g -ℤ f) ≡ g
-    sum f g = omega (arith, lins)
+    sum : (c g : ℤ) → c +ℤ (g -ℤ c) ≡ g
+    sum c g = omega (arith, lins)
 
-    below : (f g : ℤ) → f ≤ℤ g → (f -ℤ (g -ℤ f)) ≤ℤ f
-    below f g h = omega (arith, lins)
+    below : (f g c : ℤ) → (c *ℤ pos 2) ≤ℤ (f +ℤ g) → (c -ℤ (g -ℤ c)) ≤ℤ f
+    below f g c h = omega (arith, ints)
+
+    half : (f g c : ℤ) → (f +ℤ g) <ℤ ((c *ℤ pos 2) +ℤ pos 2) → (pos 2 *ℤ (g -ℤ c)) ≤ℤ ((g -ℤ f) +ℤ pos 1)
+    half f g c h = omega (arith, ints)
 
 pub y_meets : (s : ℕ) (lo hi w c r : ℤ) → AreYEnds s lo hi w c r → neg_ℤ (pos (2 ^ 19)) ≤ℤ (lo -ℤ (w *ℤ pos 1048576)) → (hi -ℤ (w *ℤ pos 1048576)) ≤ℤ (pos (2 ^ 19) +ℤ pos (2 ^ 13)) → MeetsOne s c r
 y_meets s lo hi w c r a h k = ⊎_elim (λ (e : s ≡ 0). subst (λ (i : ℕ). MeetsOne i c r) (sym e) (fine (subst (λ (i : ℕ). AreYEnds i lo hi w c r) e a)))

@@ -57,7 +57,7 @@ moved_in_rows scale s amount group other shift base rover =
     sum : (a b : ℤ) → a ≡ b +ℤ (a -ℤ b)
     sum a b = omega (arith, ints)
 
-close : (c r n k : ℤ) (d : ℕ) → 0 < d → r ≤ℤ pos 2048 → (c -ℤ r) ≤ℤ pos 262144 → neg_ℤ (pos 262144) ≤ℤ (c +ℤ r) →
+close : (c r n k : ℤ) (d : ℕ) → 0 < d → r ≤ℤ pos 654 → (c -ℤ r) ≤ℤ pos 262144 → neg_ℤ (pos 262144) ≤ℤ (c +ℤ r) →
     ((c -ℤ r) *ℤ pos (1 * (d * 1))) ≤ℤ ((pos 262144 *ℤ ((n *ℤ pos 1) -ℤ (k *ℤ pos d))) *ℤ pos 1) → ((pos 262144 *ℤ ((n *ℤ pos 1) -ℤ (k *ℤ pos d))) *ℤ pos 1) ≤ℤ ((c +ℤ r) *ℤ pos (1 * (d * 1))) →
     (neg_ℤ (pos 524288) *ℤ pos d) ≤ℤ (n *ℤ pos 1048576) → (n *ℤ pos 1048576) ≤ℤ (pos 532480 *ℤ pos d) → (neg_ℤ (pos 1) ≤ℤ k) × (k ≤ℤ pos 1)
 close c r n k d h small low high l u nl nu =
@@ -70,10 +70,10 @@ close c r n k d h small low high l u nl nu =
     one : (d : ℕ) → 1 * (d * 1) ≡ d
     one d = omega arith
 
-    top : (c r : ℤ) → r ≤ℤ pos 2048 → (c -ℤ r) ≤ℤ pos 262144 → (c +ℤ r) ≤ℤ pos 266240
+    top : (c r : ℤ) → r ≤ℤ pos 654 → (c -ℤ r) ≤ℤ pos 262144 → (c +ℤ r) ≤ℤ pos 266240
     top c r h k = omega (arith, ints)
 
-    bottom : (c r : ℤ) → r ≤ℤ pos 2048 → neg_ℤ (pos 262144) ≤ℤ (c +ℤ r) → neg_ℤ (pos 266240) ≤ℤ (c -ℤ r)
+    bottom : (c r : ℤ) → r ≤ℤ pos 654 → neg_ℤ (pos 262144) ≤ℤ (c +ℤ r) → neg_ℤ (pos 266240) ≤ℤ (c -ℤ r)
     bottom c r h k = omega (arith, ints)
 
     product : (k d : ℤ) → (pos 1048576 *ℤ k) *ℤ d ≡ pos 1048576 *ℤ (k *ℤ d)

@@ -44,9 +44,9 @@ HoldsY p scale s amount group shift centre radius = (base rover : Sighting) → 
 abbrev pub HoldsYs : Pairing → ℕ → List ℤ → ℤ → List ℤ → List ℤ → ℤ → Type 0
 HoldsYs p scale amounts group shift y ry = All (λ s. HoldsY p scale s (number_at amounts s) group (number_at shift s) (number_at y s) ry) (counted scale)
 
--- the greatest radius of a y box
+-- the greatest radius of a y box: half of the greatest width, which is 1307 of the fine unit and 2 of the coarse one, rounded up
 abbrev pub most_radius : ℕ → ℤ
-most_radius scale = if scale == 0 then pos (2 ^ 11) else pos 2
+most_radius scale = if scale == 0 then pos 654 else pos 1
 
 -- ---- groups
 -- the box meets that from -1 to 1 κ

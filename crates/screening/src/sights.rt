@@ -16,7 +16,7 @@ use crate::rules::Rules;
 use obs_rows::SIGNALS;
 use obs_store::Epoch;
 use signal_travel::{above, seen_from};
-use sv_orbit::{SvBox, sv_with};
+use sv_orbit::{SvBox, SvRecord, sv_from};
 
 // Whether the base sees the satellite high enough. The mask needs the base's boxes alone.
 fn is_high(rules: &Rules, sv: &SvBox) -> bool
@@ -60,7 +60,7 @@ fn differences(base: Amounts, rover: Amounts) -> [i64; SIGNALS]
     [l1_phase, l2_phase, l1_code, l2_code]
 }
 
-/// What a pair of epochs says of a satellite that it may use. The boxes of a receiver are made once.
+/// What a pair of epochs says of a satellite that it may use. The boxes of the record and of a receiver are made once.
 pub fn entry_of(
     rules: &Rules,
     table: &RecordTable<'_>,
@@ -78,7 +78,8 @@ pub fn entry_of(
     let at_base = amounts_at(&rules.types, base, number)?;
     let at_rover = amounts_at(&rules.types, rover, number)?;
     let eph = chosen(table, number, base.tag)?;
-    let from_base = sv_with(eph, base.tag, at_base.l1_code, &rules.world);
+    let record = SvRecord::of(eph, &rules.world);
+    let from_base = sv_from(&record, base.tag, at_base.l1_code);
     if !is_high(rules, &from_base) {
         return None;
     }
@@ -86,7 +87,7 @@ pub fn entry_of(
         pair,
         sat: number,
         base: from_base,
-        rover: sv_with(eph, rover.tag, at_rover.l1_code, &rules.world),
+        rover: sv_from(&record, rover.tag, at_rover.l1_code),
         observed: differences(at_base, at_rover),
         tag: base.tag,
     })

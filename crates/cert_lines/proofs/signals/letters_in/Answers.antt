@@ -1,4 +1,4 @@
-use Rattle.std.proofs.Common.{◌≡◌, get_or, length, arith, rules}
+use Rattle.std.proofs.Common.{◌≡◌, length, arith}
 use Rattle.cert_lines.proofs.Spelled.{letters_spelled}
 use Rattle.cert_lines.proofs.signals.letters_in.Goals as goal
 

@@ -1,4 +1,4 @@
-use Rattle.std.proofs.Common.{◌≡◌, ℤ, w64, to_z, of_z, arith}
+use Rattle.std.proofs.Common.{◌≡◌, w64, to_z, of_z, arith}
 use Rattle.std.proofs.lemmas.Int.{ints}
 use Rattle.cert_lines.proofs.Appends.{row_appended}
 use Rattle.cert_lines.proofs.write.push_row_line.Goals as goal

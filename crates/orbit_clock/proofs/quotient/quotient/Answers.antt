@@ -1,5 +1,5 @@
 -- The size of the quotient keeps the ends of its box.
-use Rattle.std.proofs.Common.{◌≡◌, ◌^◌, ℤ, pos, ◌*ℤ◌, unsigned_abs, lit<, arith, subst, subst₂, sym, ◌≤ℤ◌, to_z, of_z}
+use Rattle.std.proofs.Common.{◌≡◌, ◌^◌, ℤ, pos, ◌*ℤ◌, unsigned_abs, lit<, subst, subst₂, sym, ◌≤ℤ◌, to_z, of_z}
 use Rattle.std.proofs.lemmas.Int.{to_z-of_z}
 use Rattle.std.proofs.lemmas.Result.{IfOk-at_ok}
 use Rattle.std.specs.Int.{w128}
@@ -8,7 +8,7 @@ use Rattle.rational.specs.Rational.{Rational, IsRatio}
 use Rattle.iv_core.specs.declared.Iv.{Iv}
 use Rattle.iv_core.specs.Intervals.{Holds, width_of}
 use Rattle.sized_box.proofs.Bounds.{ok_of, same_within}
-use Rattle.orbit_clock.proofs.Quotients.{quotient_ends, quotient_room, not_past, same_ends}
+use Rattle.orbit_clock.proofs.Quotients.{quotient_room, not_past, same_ends}
 use Rattle.orbit_clock.proofs.quotient.quotient.Goals as goal
 
 pub ratio-requires : goal.ratio-requires

@@ -1,4 +1,3 @@
-use Rattle.std.proofs.Common.{sym}
 use Rattle.rational.specs.Rational.{Rational, mul_r}
 use Rattle.rational.proofs.Laws.{≈_sym}
 use Rattle.rational.proofs.Boxes.{InBox-along}

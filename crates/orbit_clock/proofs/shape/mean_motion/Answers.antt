@@ -1,8 +1,7 @@
 -- Each quantity of a solution lies in the box of its step.
 use Rattle.std.proofs.Common.{pos, refl}
-use Rattle.rational.specs.Rational.{Rational, ◌≈◌, of_whole, mul_r, add_r, times}
+use Rattle.rational.specs.Rational.{Rational, of_whole, mul_r, add_r, times}
 use Rattle.rational.proofs.Boxes.{InBox-along}
-use Rattle.iv_core.specs.Intervals.{Holds}
 use Rattle.eph_store.specs.Decimals.{value_of}
 use Rattle.orbit_clock.proofs.Values.{scaled_motion, scaled_sum}
 use Rattle.orbit_clock.proofs.shape.mean_motion.Goals as goal

@@ -1,5 +1,5 @@
 -- The ends of the box of a point, and those of its root.
-use Rattle.std.proofs.Common.{◌≡◌, ℤ, ◌∙◌, arith, subst, sym, lit<, to_z, of_z}
+use Rattle.std.proofs.Common.{ℤ, ◌∙◌, subst, sym, lit<}
 use Rattle.std.proofs.lemmas.Int.{to_z-of_z}
 use Rattle.std.specs.Int.{w64}
 use Rattle.iv_core.specs.declared.Iv.{Iv}

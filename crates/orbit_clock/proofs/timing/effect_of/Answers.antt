@@ -1,6 +1,6 @@
 -- The mean anomaly of a solution is near that at the middle of the first box.
-use Rattle.std.proofs.Common.{◌≡◌, ℤ, pos, ◌+ℤ◌, ◌-ℤ◌, ◌≤ℤ◌, subst, sym, to_z, of_z, arith}
-use Rattle.std.proofs.lemmas.Int.{ints, to_z-of_z}
+use Rattle.std.proofs.Common.{ℤ, subst}
+use Rattle.std.proofs.lemmas.Int.{to_z-of_z}
 use Rattle.std.specs.Int.{w64}
 use Rattle.rational.specs.Rational.{Rational, mul_r, sub_r, times, of_scale, two_to_minus, IsNearBox}
 use Rattle.iv_core.specs.Intervals.{Holds}

@@ -1,6 +1,6 @@
 use Rattle.std.proofs.Common.{◌≡◌, ◌+◌, ◌^◌, ℤ, pos, ◌+ℤ◌, ◌-ℤ◌, arith, sym, subst, subst₂, lit≤}
 use Rattle.std.proofs.lemmas.Int.{ints}
-use Rattle.rational.specs.Rational.{Rational, InBox, two_to_minus, add_r, times}
+use Rattle.rational.specs.Rational.{InBox, two_to_minus, add_r, times}
 use Rattle.iv_core.specs.declared.Iv.{Iv}
 use Rattle.iv_core.specs.Intervals.{Holds}
 use Rattle.rational_algebra.proofs.Ends.{box_of_near}

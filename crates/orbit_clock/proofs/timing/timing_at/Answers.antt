@@ -1,5 +1,5 @@
 -- The first bounds put the clock into the first box; each pass keeps it.
-use Rattle.std.proofs.Common.{◌≡◌, ◌^◌, ℤ, pos, subst, lit≤}
+use Rattle.std.proofs.Common.{ℤ, pos, subst, lit≤}
 use Rattle.std.proofs.lemmas.Int.{to_z-of_z}
 use Rattle.std.specs.Int.{w64}
 use Rattle.whole_math.proofs.Order.{le_pos}
@@ -9,7 +9,7 @@ use Rattle.rational_algebra.proofs.Sizes.{size_looser}
 use Rattle.iv_core.specs.Intervals.{Holds}
 use Rattle.eph_store.specs.Decimals.{decimal}
 use Rattle.orbit_model.specs.Elements.{Elements, sent_at}
-use Rattle.orbit_clock.specs.Records.{elements_of, constants_of, seconds}
+use Rattle.orbit_clock.specs.Records.{elements_of, constants_of}
 use Rattle.orbit_clock.specs.Terms.{part, HoldsTerms, correction}
 use Rattle.orbit_clock.proofs.FirstBounds.{clock_small, sent_size, effect_size}
 use Rattle.orbit_clock.proofs.NearMean.{clock_is, epoch_time_is, mean_is}

@@ -10,7 +10,7 @@ use Rattle.row_boxes.specs.Terms.{pseudorange, in_row_unit}
 use Rattle.row_boxes.specs.Sightings.{Sighting, y_of, y_in_rows}
 use Rattle.row_boxes.specs.YBoxes.{Pairing, AreSightings, HoldsBoth, IsWithinHalf, IsAllowedGroup}
 use Rattle.row_boxes.proofs.Ends.{plain_size}
-use Rattle.row_boxes.proofs.Boxes.{AreYEnds, plain_ends, y_holds, y_radius, y_meets}
+use Rattle.row_boxes.proofs.Boxes.{AreYEnds, middle_ends, y_holds, y_radius, y_meets}
 use Rattle.row_boxes.proofs.Ys.{less_pseudoranges, y_is, y_in_rows_is, half_group, within_half}
 use Rattle.row_boxes.proofs.choices.first_group.Goals as goal
 
@@ -36,19 +36,21 @@ returns-clause-near c = λ p h b r a.
     subst (λ (z : ℤ). IsWithinHalf (pos 1) (y_of 2 c.args.amount z (pos 0) b r)) (sym (result_is c)) y
 
 pub returns-clause-allowed : goal.returns-clause-allowed
-returns-clause-allowed c = λ scale p t h.
+returns-clause-allowed c = λ scale p t both.
     let x = c.prefit_of-prefit.result in
     let g : ℤ = c.nearest_kappa.result in
     let k = half_group x.lo x.hi g x.narrow (nearest c) in
     let f : ℤ = floor_div (x.lo -ℤ (g *ℤ pos 1048576)) (2 ^ (scale + 2)) in
-    let u : ℤ = ceil_div (x.hi -ℤ (g *ℤ pos 1048576)) (2 ^ (scale + 2)) -ℤ f in
-    let e : AreYEnds scale x.lo x.hi g f u = plain_ends scale x.lo x.hi g t x.ordered x.narrow in
+    let h : ℤ = ceil_div (x.hi -ℤ (g *ℤ pos 1048576)) (2 ^ (scale + 2)) in
+    let m : ℤ = floor_div (f +ℤ h) 2 in
+    let u : ℤ = h -ℤ m in
+    let e : AreYEnds scale x.lo x.hi g m u = middle_ends scale x.lo x.hi g t x.ordered x.narrow in
     let y : IsAllowedGroup p scale c.args.amount g = record {
-      centre = f;
+      centre = m;
       radius = u;
-      narrow = y_radius scale x.lo x.hi g f u e;
-      holds = λ b r a. Near-along f u (in_row_unit scale (sub_r (less_pseudoranges 2 c.args.amount b r) (of_whole g))) (y_in_rows scale 2 c.args.amount g (pos 0) b r)
-          (y_in_rows_is scale 2 c.args.amount g (pos 0) g b r (no_shift g)) (y_holds scale x.lo x.hi g f u (less_pseudoranges 2 c.args.amount b r) e (held c p h b r a));
-      meets = y_meets scale x.lo x.hi g f u e k.0 k.1;
+      narrow = y_radius scale x.lo x.hi g m u e;
+      holds = λ b r a. Near-along m u (in_row_unit scale (sub_r (less_pseudoranges 2 c.args.amount b r) (of_whole g))) (y_in_rows scale 2 c.args.amount g (pos 0) b r)
+          (y_in_rows_is scale 2 c.args.amount g (pos 0) g b r (no_shift g)) (y_holds scale x.lo x.hi g m u (less_pseudoranges 2 c.args.amount b r) e (held c p both b r a));
+      meets = y_meets scale x.lo x.hi g m u e k.0 k.1;
     } in
     subst (λ (z : ℤ). IsAllowedGroup p scale c.args.amount z) (sym (result_is c)) y

@@ -40,8 +40,8 @@ ends c = record {
   narrow = c.args.prefit.now.narrow;
   top = c.around.ensures.top ∙ hi_is c.before;
   bottom = subst (λ (z : ℤ). (c.around.result.centre -ℤ c.around.result.radius) ≤ℤ z) (lo_is c.before) c.around.ensures.bottom;
-  radius = subst (λ (z : ℤ). c.around.result.radius ≤ℤ (z -ℤ floor_div (less c.args.prefit.now.lo c.args.whole) (2 ^ (c.args.scale + 2)))) (hi_is c.before)
-      (subst (λ (z : ℤ). c.around.result.radius ≤ℤ (to_z w128 (of_z w128 c.ceil_shift-hi.result) -ℤ z)) (lo_is c.before) c.around.ensures.radius);
+  half = subst (λ (z : ℤ). (pos 2 *ℤ c.around.result.radius) ≤ℤ ((z -ℤ floor_div (less c.args.prefit.now.lo c.args.whole) (2 ^ (c.args.scale + 2))) +ℤ pos 1)) (hi_is c.before)
+      (subst (λ (z : ℤ). (pos 2 *ℤ c.around.result.radius) ≤ℤ ((to_z w128 (of_z w128 c.ceil_shift-hi.result) -ℤ z) +ℤ pos 1)) (lo_is c.before) c.around.ensures.half);
 }
 
 pub returns-clause-holds : goal.returns-clause-holds
