@@ -1,7 +1,7 @@
 // Pairs of epochs by their tags, and the signals that both files have.
 use epoch_pair::{PairFault, PairOf, pair, signals, take};
 use gps_time::Tick;
-use obs_store::{Epoch, Epochs, ObsFile, ObsType, Satellites};
+use obs_store::{Epoch, Epochs, ObsFile, ObsType, SLOTS, Satellites};
 use std::alloc::{AllocError, Global};
 use std::test::Fail;
 
@@ -31,7 +31,7 @@ fn file_of(alloc: Global, tags: &[u64]) -> Result<ObsFile, AllocError> {
         hundredths: 304,
         position: None,
         delta: [0, 0, 0],
-        listed: [false; 20],
+        listed: [false; SLOTS],
         epochs,
     })
 }

@@ -7,7 +7,7 @@ use eph_store::{NavFile, Raw};
 use epoch_pair::{PairOf, pair, take};
 use gps_time::Tick;
 use obs_rows::{Arc, Signals};
-use obs_store::{Epoch, Epochs, ObsFile, ObsType, SatObs, Satellites, Value};
+use obs_store::{Epoch, Epochs, ObsFile, ObsType, SLOTS, SatObs, Satellites, Value};
 use screening::{Screened, screen};
 use slip_arcs::cut;
 use std::alloc::{AllocError, Global};
@@ -107,7 +107,7 @@ fn receiver(epochs: Epochs) -> ObsFile
         hundredths: 304,
         position: Some([63_710_000_000, 0, 0]),
         delta: [0, 0, 0],
-        listed: [false; 20],
+        listed: [false; SLOTS],
         epochs,
     }
 }

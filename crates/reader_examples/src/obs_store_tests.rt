@@ -12,12 +12,14 @@ fn names_and_slots(rt: HostRuntime) {
         ("C2C", 14),
         ("L2W", 15),
         ("L2C", 19),
+        ("C5Q", 20),
+        ("L5I", 25),
     ];
     for (name, slot) in slots {
         let found = ObsType::named(name.as_bytes()).map(|kind| kind.slot());
         assert_eq!(rt; found, Some(slot), "at {name}");
     }
-    for name in ["C1P", "L5X", "c1c", "C1C ", ""] {
+    for name in ["C1P", "L5P", "c1c", "C1C ", ""] {
         assert_eq!(rt; ObsType::named(name.as_bytes()), None, "at {name}");
     }
 }

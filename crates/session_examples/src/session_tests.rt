@@ -1,7 +1,7 @@
 // What two files begin with, and the answer over arcs.
 use eph_store::NavFile;
 use gps_time::Tick;
-use obs_store::{Epoch, Epochs, ObsFile, ObsType, Satellites};
+use obs_store::{Epoch, Epochs, ObsFile, ObsType, SLOTS, Satellites};
 use session::{Answer, Options, PairWhat, SessionFault, begin, process};
 use std::alloc::{AllocError, Global};
 use std::test::Fail;
@@ -35,7 +35,7 @@ fn file_of(
     for &tag in tags {
         add(alloc, &mut epochs, tag)?;
     }
-    let mut listed = [false; 20];
+    let mut listed = [false; SLOTS];
     for name in types {
         if let Some(kind) = ObsType::named(name.as_bytes()) {
             listed[kind.slot()] = true;
