@@ -115,6 +115,7 @@ fn fine(
     requires group { unsigned_abs group ≤ 2 ^ 38 }
     requires shift { All (IsBelow (2 ^ 40)) shift.now }
     ensures holds { IfSome result (λ o. (p : Pairing) → HoldsBoth p base.now rover.now → HoldsYs p 0 amounts.now group shift.now o.y o.ry) }
+    ensures radius { IfSome result (λ o. o.ry ≤ℤ most_radius 0) }
     ensures far { result ≡ None → (p : Pairing) → HoldsBoth p base.now rover.now → HasSightings p → HasFarSignal p 0 amounts.now group shift.now }
 {
     let l1 = y_of_signal(0, amounts, group, shift, base, rover, 0);
@@ -137,7 +138,7 @@ fn coarse(
     requires shift { All (IsBelow (2 ^ 40)) shift.now }
     ensures holds { IfSome result (λ o. (p : Pairing) → HoldsBoth p base.now rover.now → HoldsYs p 14 amounts.now group shift.now o.y o.ry) }
     ensures others { IfSome result (λ o. o.y ≡ pos 0 ∷ pos 0 ∷ number_at o.y 2 ∷ pos 0 ∷ []) }
-    ensures radius { IfSome result (λ o. o.ry ≤ℤ pos 2) }
+    ensures radius { IfSome result (λ o. o.ry ≤ℤ most_radius 14) }
     ensures far { result ≡ None → (p : Pairing) → HoldsBoth p base.now rover.now → HasSightings p → HasFarSignal p 14 amounts.now group shift.now }
 {
     let c1 = y_of_signal(2, amounts, group, shift, base, rover, COARSE_SCALE);

@@ -1,6 +1,5 @@
 // The y boxes of rows, and the group of a pair.
 ghost use Rattle.std.specs.Prelude.{◌≡◌, ◌+◌, ◌*◌, ◌^◌, ◌<◌, ◌≤◌, ℤ, pos, ◌+ℤ◌, ◌-ℤ◌, ◌*ℤ◌, ◌≤ℤ◌, unsigned_abs, IfSome, None};
-ghost use Rattle.whole_math.specs.Rounding.{floor_div};
 ghost use Rattle.rational.specs.Rational.{Rational, InBox, Near, of_whole, sub_r};
 ghost use Rattle.obs_rows.specs.Ranges.{IsScale};
 ghost use Rattle.row_boxes.specs.Terms.{in_row_unit};
@@ -45,7 +44,9 @@ fn middle(lo: i128, hi: i128) -> i128
     requires ordered { lo ≤ℤ hi }
     requires narrow { (hi -ℤ lo) ≤ℤ pos 1308 }
     requires size { unsigned_abs lo ≤ 2 ^ 71 }
-    ensures { result ≡ floor_div (lo +ℤ hi) 2 }
+    ensures low { lo ≤ℤ result }
+    ensures most { (pos 2 *ℤ result) ≤ℤ (lo +ℤ hi) }
+    ensures least { (lo +ℤ hi) ≤ℤ ((pos 2 *ℤ result) +ℤ pos 1) }
 {
     lo + floor(hi - lo, 2)
 }

@@ -3,7 +3,7 @@ use Rattle.std.proofs.lemmas.Int.{to_z-of_z}
 use Rattle.std.specs.Int.{w64}
 use Rattle.obs_rows.specs.Data.{number_at}
 use Rattle.row_boxes.specs.declared.terms.Observations.{Observations}
-use Rattle.row_boxes.specs.YBoxes.{Pairing, HoldsBoth, HoldsY, HoldsYs}
+use Rattle.row_boxes.specs.YBoxes.{Pairing, HoldsBoth, HoldsY, HoldsYs, most_radius}
 use Rattle.row_boxes.proofs.Ys.{both_some, four_ys, far_signal}
 use Rattle.row_boxes.proofs.terms.fine.Goals as goal
 
@@ -20,6 +20,18 @@ returns-clause-holds c =
     (four_ys p c.args.amounts.now c.args.shift.now c.args.group l1.result.centre l2.result.centre c1.result.centre c2.result.centre l1.result.radius l2.result.radius c1.result.radius c2.result.radius o.ry
     (record { l1 = subst (λ (g : ℤ). HoldsY p 0 0 (number_at c.args.amounts.now 0) g (number_at c.args.shift.now 0) l1.result.centre l1.result.radius) (to_z-of_z w64 c.args.group c.ranges.group) (l1.ensures.holds p h); l2 = subst (λ (g : ℤ). HoldsY p 0 1 (number_at c.args.amounts.now 1) g (number_at c.args.shift.now 1) l2.result.centre l2.result.radius) (to_z-of_z w64 c.args.group c.ranges.group) (l2.ensures.holds p h); c1 = subst (λ (g : ℤ). HoldsY p 0 2 (number_at c.args.amounts.now 2) g (number_at c.args.shift.now 2) c1.result.centre c1.result.radius) (to_z-of_z w64 c.args.group c.ranges.group) (c1.ensures.holds p h); c2 = subst (λ (g : ℤ). HoldsY p 0 3 (number_at c.args.amounts.now 3) g (number_at c.args.shift.now 3) c2.result.centre c2.result.radius) (to_z-of_z w64 c.args.group c.ranges.group) (c2.ensures.holds p h); radii = r })))
     c.gathered.ensures.centres c.gathered.ensures.radii
+
+pub returns-clause-radius : goal.returns-clause-radius
+returns-clause-radius c =
+    let l1 = c.y_of_signal-l1 in
+    let l2 = c.y_of_signal-l2 in
+    let c1 = c.y_of_signal-c1 in
+    let c2 = c.y_of_signal-c2 in
+    both_some c.gathered.result (λ (o : Observations). o.y ≡ l1.result.centre ∷ l2.result.centre ∷ c1.result.centre ∷ c2.result.centre ∷ [])
+    (λ (o : Observations). (m : ℤ) → l1.result.radius ≤ℤ m → l2.result.radius ≤ℤ m → c1.result.radius ≤ℤ m → c2.result.radius ≤ℤ m → o.ry ≤ℤ m)
+    (λ (o : Observations). o.ry ≤ℤ most_radius 0)
+    (λ o e least. least (most_radius 0) l1.ensures.radius l2.ensures.radius c1.ensures.radius c2.ensures.radius)
+    c.gathered.ensures.centres c.gathered.ensures.least
 
 pub returns-clause-far : goal.returns-clause-far
 returns-clause-far c = λ e p h s.
