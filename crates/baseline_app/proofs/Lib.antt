@@ -1,3 +1,4 @@
 pub mod Parts
 pub mod Completes
 pub mod Says
+pub mod Openings

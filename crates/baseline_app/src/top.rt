@@ -105,6 +105,7 @@ fn sim_part(alloc: Global, part: Part, seed: u32, epochs: u32, sats: u32) -> Res
 }
 
 // What the job ends with.
+#[tactic(auto, using(crate::proofs::Openings::none_opened))]
 fn do_job<F: Files>(alloc: Global, job: &Job, files: &mut F) -> Result<Answer, Stop>
     requires { IsInRange job.now }
     ensures ends { IfEnded result (λ end. JobEnds job.now (F.text_of files.old) end) }
@@ -142,6 +143,7 @@ fn do_job<F: Files>(alloc: Global, job: &Job, files: &mut F) -> Result<Answer, S
 }
 
 // What the words ask for, as far as memory goes.
+#[tactic(auto, using(crate::proofs::Openings::one_opened, crate::proofs::Openings::no_job_opened, crate::proofs::Openings::none_opened))]
 fn answer_of<F: Files>(alloc: Global, words: &[String], files: &mut F) -> Result<Answer, AllocError>
     ensures answer { IfOk result (λ a. IsAnswer (texts_of words.now) (F.text_of files.old) (ending_of a)) }
     ensures refused { (job : Job) → IsJob (texts_of words.now) job

@@ -1,5 +1,6 @@
-use Rattle.std.proofs.Common.{arith, refl, [], ◌∷◌, ℕ, Option, sym, subst}
+use Rattle.std.proofs.Common.{arith, refl, [], ◌∷◌}
 use Rattle.session_files.proofs.FileLaws.{ends_weaker, at_rover, at_third, refused_at, same_twice, read_along}
+use Rattle.line_source.proofs.Openings.{fewer_at_most, more_at_most}
 use Rattle.session_files.proofs.read_session.Goals as goal
 
 pub returns-in-Err-obs_file-clause-stopped : goal.returns-in-Err-obs_file-clause-stopped
@@ -25,3 +26,18 @@ returns-in-Err-obs_file-clause-refused g c = ends_weaker c.in-Err-obs_file.stop 
 pub returns-in-Err-nav_file-clause-refused : goal.returns-in-Err-nav_file-clause-refused
 returns-in-Err-nav_file-clause-refused g c = ends_weaker c.in-Err-nav_file.stop _ _
     (λ end refused. refused_at _ _ _ c.args.nav.now (c.args.base.now ∷ c.args.rover.now ∷ c.args.nav.now ∷ []) 2 end.status (omega arith) refl (same_twice _ _ _ c.in-Ok.ensures.texts c.in-Ok-obs_file.ensures.texts) refused) c.in-Err-nav_file.ensures.refused
+
+pub returns-in-Err-clause-opened : goal.returns-in-Err-clause-opened
+returns-in-Err-clause-opened g c = fewer_at_most 1 3 _ _ (omega arith) c.in-Err.ensures.opened
+
+pub returns-in-Err-obs_file-clause-opened : goal.returns-in-Err-obs_file-clause-opened
+returns-in-Err-obs_file-clause-opened g c = fewer_at_most 2 3 _ _ (omega arith) (more_at_most 1 1 _ _ _ c.in-Ok.ensures.opened c.in-Err-obs_file.ensures.opened)
+
+pub returns-in-Err-nav_file-clause-opened : goal.returns-in-Err-nav_file-clause-opened
+returns-in-Err-nav_file-clause-opened g c = more_at_most 2 1 _ _ _ (more_at_most 1 1 _ _ _ c.in-Ok.ensures.opened c.in-Ok-obs_file.ensures.opened) c.in-Err-nav_file.ensures.opened
+
+pub returns-in-Ok-nav_file-clause-opened : goal.returns-in-Ok-nav_file-clause-opened
+returns-in-Ok-nav_file-clause-opened g c = more_at_most 2 1 _ _ _ (more_at_most 1 1 _ _ _ c.in-Ok.ensures.opened c.in-Ok-obs_file.ensures.opened) c.in-Ok-nav_file.ensures.opened
+
+pub returns-in-Ok-nav_file-clause-whole : goal.returns-in-Ok-nav_file-clause-whole
+returns-in-Ok-nav_file-clause-whole g c = read_along _ _ _ c.args.nav.now (same_twice _ _ _ c.in-Ok.ensures.texts c.in-Ok-obs_file.ensures.texts) c.in-Ok-nav_file.ensures.whole

@@ -1,6 +1,4 @@
-use Rattle.std.proofs.Common.{rules, ◌≡◌, ◌≢◌, inl, inr, [], All, length, ap, sym, subst}
-use Rattle.line_source.specs.Causes.{OpensAtMost}
-use Rattle.line_source.proofs.Openings.{none_at_most}
+use Rattle.std.proofs.Common.{rules, ◌≡◌, ◌≢◌, inl, inr, [], All, subst}
 use Rattle.job_answers.specs.declared.status.Status.TheVariants.{Usage, ReadFault}
 use Rattle.job_answers.specs.Texts.{usage_line}
 use Rattle.job_answers.specs.Endings.{ending, IsRefusedWhole}
