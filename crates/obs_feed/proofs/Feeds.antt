@@ -1,5 +1,5 @@
 -- The lines of a text that is taken in pieces.
-use Rattle.std.proofs.Common.{◌≡◌, ◌<◌, ◌≤◌, ◌+◌, ◌-◌, ◌==◌, nat_lt, ℕ, Bool, true, false, List, [], ◌∷◌, ◌++◌, length, take, drop, slice_index, Result, Ok, Err, OnOk, IfErr, refl, sym, ap, ◌∙◌, arith, append_assoc, length-append, length-take}
+use Rattle.std.proofs.Common.{◌≡◌, ◌<◌, ◌≤◌, ◌+◌, ◌-◌, ◌==◌, nat_lt, ℕ, Bool, true, false, List, [], ◌∷◌, ◌++◌, length, take, drop, slice_index, Result, Ok, Err, OnOk, IfErr, refl, sym, ap, subst, ◌∙◌, arith, append_assoc, length-append, length-take}
 use Rattle.std.proofs.lemmas.Bool.Decides.{nat_tests}
 use Rattle.std.proofs.lemmas.List.{append-nil}
 use Rattle.std.specs.Str.Lines.{strip_carriage_return}
@@ -129,3 +129,8 @@ last_line n line s next (Err fault) some is = tt
 pub last_line_fails : (n : ℕ) (line : List ℕ) (s next : Expected) (r : Result (Unit {0}) TextFault) → 0 < length line → Takes (line_gives s line) (n + 1) next r → IfErr r (λ fault. (system : System) → FailsBy (gives_with system n line s []) fault)
 last_line_fails n line s next (Ok u) some is = tt
 last_line_fails n line s next (Err fault) some is = λ system. last_fails system n line s next fault some is
+
+-- a piece in which a line is refused
+pub fed_refused : (system : System) (old new : List ℕ → Result ObsFile At) (taken : ℕ) (text piece : List ℕ) (fault : TextFault) (at : At) → fault ≡ Refused at → TakesAll piece old new (Err fault) → IsFed system old taken text → IsFed system (λ more. Err at) (taken + length piece) (text ++ piece)
+fed_refused system old new taken text piece fault at is takes fed =
+    fed_more system old (λ more. Err at) taken text piece (subst (λ (f : TextFault). TakesAll piece old new (Err f)) is takes) fed
