@@ -1,6 +1,13 @@
--- How many files were opened, at most.
-use Rattle.std.proofs.Common.{◌≡◌, ℕ, ◌+◌, ◌≤◌, Option, Some, None, arith}
-use Rattle.line_source.specs.Causes.{OpensAtMost}
+-- How many files were opened.
+use Rattle.std.proofs.Common.{◌≡◌, ℕ, ◌+◌, Option, Some, None, arith}
+use Rattle.line_source.specs.Causes.{next_count, OpensOne, OpensAtMost}
+
+pub one_at_most : (before now : Option ℕ) → OpensOne before now → OpensAtMost 1 before now
+one_at_most None now one = tt
+one_at_most (Some n) None one = absurd (cc (one))
+one_at_most (Some n) (Some m) one =
+    let is : m ≡ next_count n = cc (one) in
+    omega (arith, is)
 
 pub none_at_most : (n : ℕ) (before now : Option ℕ) → now ≡ before → OpensAtMost n before now
 none_at_most n None now same = tt
@@ -8,11 +15,6 @@ none_at_most n (Some k) None same = absurd (cc (same))
 none_at_most n (Some k) (Some m) same =
     let is : m ≡ k = cc (same) in
     omega (arith, is)
-
-pub fewer_at_most : (n m : ℕ) (before now : Option ℕ) → n ≤ m → OpensAtMost n before now → OpensAtMost m before now
-fewer_at_most n m None now fewer opens = tt
-fewer_at_most n m (Some a) None fewer opens = absurd opens
-fewer_at_most n m (Some a) (Some b) fewer opens = omega (arith, fewer, opens)
 
 -- at most so many, and then at most so many more
 pub more_at_most : (n k : ℕ) (before mid now : Option ℕ) → OpensAtMost n before mid → OpensAtMost k mid now → OpensAtMost (n + k) before now

@@ -1,6 +1,7 @@
 use Rattle.std.proofs.Common.{arith, refl, [], ◌∷◌}
 use Rattle.session_files.proofs.FileLaws.{ends_weaker, at_rover, at_third, refused_at, same_twice, read_along}
-use Rattle.line_source.proofs.Openings.{fewer_at_most, more_at_most}
+use Rattle.line_source.proofs.Openings.{more_at_most}
+use Rattle.session_files.proofs.Openings.{fewer_at_most}
 use Rattle.session_files.proofs.read_session.Goals as goal
 
 pub returns-in-Err-obs_file-clause-stopped : goal.returns-in-Err-obs_file-clause-stopped
