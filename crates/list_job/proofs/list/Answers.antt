@@ -1,10 +1,6 @@
-use Rattle.job_answers.proofs.EndingLaws.{ended_so, read_whole}
 use Rattle.session_files.proofs.FileLaws.{ends_weaker}
 use Rattle.list_job.proofs.ListEndings.{not_listed}
 use Rattle.list_job.proofs.list.Goals as goal
 
 pub returns-in-Err-clause-ends : goal.returns-in-Err-clause-ends
 returns-in-Err-clause-ends g c = ends_weaker c.in-Err.stop _ _ (λ end stops. not_listed (g.F.Files.text_of c.args.files.now) c.args.name.now end stops) c.in-Err.ensures.stopped
-
-pub returns-in-Ok-clause-refused : goal.returns-in-Ok-clause-refused
-returns-in-Ok-clause-refused g c = ended_so _ _ (λ end. read_whole _ _ c.args.name.now end.status c.in-Ok.ensures.whole)
