@@ -37,8 +37,8 @@ part_status part.Nav seed epochs sats end ends = sim_status part.Nav seed epochs
 part_status part.Run seed epochs sats end ends = sim_run_status seed epochs sats end ends
 
 -- none of them is refused
-pub part_whole : (told : List ℕ → Option (List ℕ)) (left : ℕ → Option (List ℕ)) (p : Part) (seed epochs sats : ℕ) (end : Ending) → PartEnds p seed epochs sats end → IsRefusedWhole told left [] end.status
-part_whole told left p seed epochs sats end ends = λ refused. absurd (subst IsVerdictStatus refused (part_verdict p seed epochs sats end ends))
+pub part_whole : (told : List ℕ → Option (List ℕ)) (left : ℕ → Option (List ℕ)) (names : List (List ℕ)) (p : Part) (seed epochs sats : ℕ) (end : Ending) → PartEnds p seed epochs sats end → IsRefusedWhole told left names end.status
+part_whole told left names p seed epochs sats end ends = λ refused. absurd (subst IsVerdictStatus refused (part_verdict p seed epochs sats end ends))
 
 -- each command's own part
 readable_ends : (job : Job) (told : List ℕ → Option (List ℕ)) (end : Ending) → IsReadable job told → end.status ≢ ReadFault → JobEnds job told end → IsVerdictStatus end.status
