@@ -48,7 +48,8 @@ fn edited(rt: &impl Abort, alloc: Global, text: &[u8], edits: &[Edit]) -> Result
     Ok(out)
 }
 
-pub fn options_of(rt: &impl Abort, arc: u32, budget: u64) -> Options {
+/// The defaults but for two options. It states nothing: it is a helper of tests, whose outcomes are compared.
+pub(crate) fn options_of(rt: &impl Abort, arc: u32, budget: u64) -> Options {
     assert!(rt; 2 <= arc && arc <= 3600);
     assert!(rt; 1 <= budget && budget <= 100_000_000);
     let mut options = Options::defaults();
@@ -57,8 +58,8 @@ pub fn options_of(rt: &impl Abort, arc: u32, budget: u64) -> Options {
     options
 }
 
-// The run over the files of a session after these changes.
-pub fn run(
+/// The run over the files of a session after these changes. It states nothing, as `options_of`.
+pub(crate) fn run(
     rt: &impl Abort,
     alloc: Global,
     made: &Made,
