@@ -9,7 +9,8 @@ kind_word true = codes "datum"
 kind_word false = codes "free"
 
 abbrev pub arc_line : Arc → List ℕ
-arc_line a = codes "arc G" ++ (decimal (a.sat / 10) ++ (decimal (a.sat % 10) ++ (codes " " ++ (decimal a.first ++ (codes " " ++ (decimal a.last ++ (codes " " ++ (kind_word a.datum ++ codes "\n"))))))))
+arc_line a = codes "arc G" ++ (decimal (a.sat / 10) ++
+    (decimal (a.sat % 10) ++ (codes " " ++ (decimal a.first ++ (codes " " ++ (decimal a.last ++ (codes " " ++ (kind_word a.datum ++ codes "\n"))))))))
 
 abbrev pub arc_lines : List Arc → List ℕ
 arc_lines [] = []

@@ -1,10 +1,6 @@
 //! What is printed of the arcs of a session.
 //!
-//! Of session_begin, session_files, arc_report: What two files have in common before a run: the base's position, the
-//! codes, the pairs that are taken; or why they are refused, each exactly where it is so (`begin`). An observation
-//! file, read in pieces, or the end of a job where it can't be had or is refused (`obs_file`): a read fault or a file
-//! that is too large comes before a refusal of a line, and the text is not kept. The three files of a session, read
-//! one after the other (`read_session`). The lines of arcs (`write_arcs`).
+//! `write_arcs` writes a line for each kept arc, in order, and then how many arcs were too short (`arcs_text`).
 #![tactic(auto)]
 
 ghost use Rattle.std.specs.Prelude.{◌≡◌, ◌++◌, OnOk};

@@ -1,51 +1,28 @@
 //! The command `arcs`: the arcs of continuous phase of two receivers.
 #![tactic(auto)]
 
-ghost use Rattle.std.specs.Prelude.{◌≡◌, ◌≢◌, [], ◌∷◌, IfOk, All, string_bytes};
+ghost use Rattle.std.specs.Prelude.{◌≡◌, ◌≢◌, [], ◌∷◌, IfOk, All};
 ghost use Rattle.line_source.specs.Causes.{Rose, OpensAtMost};
 ghost use Rattle.job_answers.specs.Answers.{ending_of, IfEnded};
-ghost use Rattle.job_answers.specs.Endings.{ending, IsRefusedWhole};
-ghost use Rattle.session_begin.specs.Beginnings.{IsPosition, AreSignals, AreSparse, AreTaken};
+ghost use Rattle.job_answers.specs.Endings.{ending};
+ghost use Rattle.session_begin.specs.Beginnings.{IsPosition, bands_of, AreSignals, AreSparse, AreTaken};
 ghost use Rattle.screening.specs.Screening.{ArePairsOf};
 ghost use Rattle.arc_report.specs.ArcLines.{arcs_text};
-ghost use Rattle.arcs_job.specs.ArcJobs.{pair_line, AreArcsOf, ArcsEnd, ArcsEnds};
+ghost use Rattle.pair_refusals.specs.Refusals.{AreRefusedWhole};
+ghost use Rattle.arcs_job.specs.ArcJobs.{AreArcsOf, ArcsEnd, ArcsEnds};
 
 use arc_report::write_arcs;
 use eph_store::NavFile;
 use job_answers::{Answer, Status, Stop};
 use line_source::Files;
 use obs_store::ObsFile;
+use pair_refusals::refused_pair;
 use run_options::Options;
-use screening::screen;
-use session_begin::{Begun, PairWhat, SessionFault, begin};
+use screening::{screen_in, world_of};
+use session_begin::{Begun, SessionFault, begin};
 use session_files::read_session;
 use slip_arcs::{Arcs, cut};
 use std::alloc::{AllocError, Global};
-
-// The line about two files that are refused.
-fn line_of(alloc: Global, what: PairWhat) -> Result<String, AllocError>
-    ensures { IfOk result (λ line. string_bytes line ≡ pair_line what) }
-{
-    match what {
-        PairWhat::NoBasePosition => String::from_str(alloc, "refused: no base position\n"),
-        PairWhat::NoSignal => String::from_str(alloc, "refused: no common signals\n"),
-        PairWhat::Dense { rover: true, epoch } => {
-            format!(in alloc; "refused: rover epochs too dense at {epoch}\n")
-        }
-        PairWhat::Dense {
-            rover: false,
-            epoch,
-        } => { format!(in alloc; "refused: base epochs too dense at {epoch}\n") }
-    }
-}
-
-/// The end of a job whose two files are refused.
-pub fn refused_pair(alloc: Global, what: PairWhat) -> Result<Answer, AllocError>
-    ensures { IfOk result (λ a. ending_of a ≡ ending Status.Refused [] (pair_line what)) }
-{
-    let line = line_of(alloc, what)?;
-    Ok(Answer::on_err(alloc, Status::Refused, line))
-}
 
 // The arcs of the pairs that are taken.
 fn arcs_of(
@@ -57,13 +34,13 @@ fn arcs_of(
     options: &Options,
 ) -> Result<Arcs, AllocError>
     requires position { IsPosition base.now begun.now.position }
-    requires signals { AreSignals base.now rover.now begun.now.signals }
+    requires signals { AreSignals (bands_of options.now) base.now rover.now begun.now.signals }
     requires sparse { AreSparse options.now.gap base.now rover.now }
     requires taken { AreTaken base.now rover.now options.now begun.now.taken.items }
     requires pairs { ArePairsOf base.now.epochs rover.now.epochs begun.now.taken.items }
     ensures { IfOk result (λ arcs. AreArcsOf base.now rover.now nav.now options.now arcs.kept arcs.short) }
 {
-    let screened = screen(
+    let screened = screen_in(
         alloc,
         base,
         rover,
@@ -71,6 +48,7 @@ fn arcs_of(
         begun.signals,
         &begun.taken,
         options.mask,
+        &world_of(options.system),
     )?;
     let arcs = cut(alloc, screened.used.as_slice(), options.jump, options.arc)?;
     Ok(arcs)
@@ -118,7 +96,7 @@ pub fn arcs<F: Files>(
     options: &Options,
 ) -> Result<Answer, Stop>
     ensures ends { IfEnded result (λ end. ArcsEnds (F.text_of files.old) base.now rover.now nav.now options.now end) }
-    ensures refused { IfEnded result (λ end. IsRefusedWhole (F.text_of files.old) (F.unread files.new) (base.now ∷ rover.now ∷ nav.now ∷ []) end.status) }
+    ensures refused { IfEnded result (AreRefusedWhole (F.text_of files.old) (F.unread files.new) (base.now ∷ rover.now ∷ nav.now ∷ [])) }
     ensures opened { OpensAtMost 3 (F.opened files.old) (F.opened files.new) }
     ensures fault { IfEnded result (λ end. end.status ≡ Status.ReadFault → Rose (F.faults files.old) (F.faults files.new)) }
     ensures sure { All (F.is_sure_name files.old) (base.now ∷ rover.now ∷ nav.now ∷ []) → IfEnded result (λ end. end.status ≢ Status.ReadFault) }

@@ -1,22 +1,29 @@
 -- A job whose files are told and admitted ends with status 0 or 1, and the other statuses come with their causes.
-use Rattle.std.proofs.Common.{◌≡◌, ◌≢◌, ◌⊎◌, inl, inr, ℕ, List, [], Option, sym, ap, ◌∙◌, subst}
+use Rattle.std.proofs.Common.{◌≡◌, ◌≢◌, ◌⊎◌, inl, inr, ℕ, List, [], ◌∷◌, Option, Result, Any, sym, ap, ◌∙◌, subst}
 use Rattle.line_source.specs.Causes.{Rose}
 use Rattle.job_answers.specs.declared.status.Status.{Status}
 use Rattle.job_answers.specs.declared.status.Status.TheVariants.{Usage, Refused, ReadFault, WriteFault, NoMemory}
 use Rattle.job_answers.specs.Statuses.{IsVerdictStatus, IsJobStatus}
-use Rattle.job_answers.specs.Endings.{Ending, IsRefusedWhole}
-use Rattle.job_answers.specs.Delivered.{SinkChange}
+use Rattle.job_answers.specs.Endings.{Ending, IsRefusedFile, IsRefusedWhole}
+use Rattle.job_answers.specs.declared.answer.Answer.{Answer}
+use Rattle.job_answers.specs.declared.stop.Stop.{Stop}
+use Rattle.job_answers.specs.Answers.{IfEnded}
+use Rattle.job_answers.specs.Delivered.{SinkChange, GainsUnlessFault, IsDelivered}
+use Rattle.job_answers.proofs.EndingLaws.{verdict_whole, ended_weaker}
 use Rattle.command_words.specs.declared.jobs.Job.{Job}
 use Rattle.command_words.specs.declared.jobs.Job.TheVariants as job
 use Rattle.command_words.specs.declared.sims.Part.{Part}
 use Rattle.command_words.specs.declared.sims.Part.TheVariants as part
-use Rattle.command_words.specs.Words.{IsJob}
+use Rattle.command_words.specs.Words.{file_words, IsJob}
 use Rattle.command_words.proofs.OneJob.{one_job}
 use Rattle.zero_job.proofs.ZeroSays.{zero_status, zero_verdict}
 use Rattle.list_job.proofs.ListSays.{list_status, list_verdict}
 use Rattle.orbit_job.proofs.OrbitSays.{orbit_status, orbit_verdict}
 use Rattle.sim_job.proofs.SimSays.{sim_status, sim_verdict}
 use Rattle.cert_jobs.proofs.CertSays.{check_status, check_verdict, residuals_status, residuals_verdict}
+use Rattle.session_begin.specs.declared.faults.PairWhat.{PairWhat}
+use Rattle.pair_refusals.specs.Refusals.{pair_line, HaveRefused, AreRefusedWhole}
+use Rattle.pair_refusals.proofs.RefusalLaws.{stop_whole}
 use Rattle.arcs_job.proofs.ArcSays.{arcs_status, arcs_verdict}
 use Rattle.fix_job.proofs.FixSays.{fix_status, fix_verdict}
 use Rattle.sim_run_job.proofs.RunSays.{sim_run_status, sim_run_verdict}
@@ -37,8 +44,8 @@ part_status part.Nav seed epochs sats end ends = sim_status part.Nav seed epochs
 part_status part.Run seed epochs sats end ends = sim_run_status seed epochs sats end ends
 
 -- none of them is refused
-pub part_whole : (told : List ℕ → Option (List ℕ)) (left : ℕ → Option (List ℕ)) (names : List (List ℕ)) (p : Part) (seed epochs sats : ℕ) (end : Ending) → PartEnds p seed epochs sats end → IsRefusedWhole told left names end.status
-part_whole told left names p seed epochs sats end ends = λ refused. absurd (subst IsVerdictStatus refused (part_verdict p seed epochs sats end ends))
+pub part_whole : (told : List ℕ → Option (List ℕ)) (left : ℕ → Option (List ℕ)) (names : List (List ℕ)) (p : Part) (seed epochs sats : ℕ) (end : Ending) → PartEnds p seed epochs sats end → AreRefusedWhole told left names end
+part_whole told left names p seed epochs sats end ends = stop_whole told left names end (verdict_whole told left names end (part_verdict p seed epochs sats end ends))
 
 -- each command's own part
 readable_ends : (job : Job) (told : List ℕ → Option (List ℕ)) (end : Ending) → IsReadable job told → end.status ≢ ReadFault → JobEnds job told end → IsVerdictStatus end.status
@@ -109,3 +116,28 @@ run_write words told result out err run is = elim (run.written) [
   | inr (inl by_out) ↦ inl by_out.rose
   | inr (inr by_err) ↦ inr by_err.rose
 ]
+
+-- that of a job with one file, of which the words tell the name
+pub asked_whole : (r : Result Answer Stop) (told : List ℕ → Option (List ℕ)) (left : ℕ → Option (List ℕ)) (job asked : Job) (name word : List ℕ) → job ≡ asked → name ≡ word → file_words asked ≡ word ∷ []
+    → IfEnded r (IsRefusedWhole told left (name ∷ [])) → IfEnded r (AreRefusedWhole told left (file_words job))
+asked_whole r told left job asked name word is same words refused =
+    let names : name ∷ [] ≡ file_words job = ap (λ (n : List ℕ). n ∷ []) same ∙ (sym words ∙ ap file_words (sym is)) in
+    ended_weaker r _ _ (λ end whole. stop_whole told left (file_words job) end (subst (λ (ns : List (List ℕ)). IsRefusedWhole told left ns end) names whole)) refused
+
+-- ---- the refusal that is told
+told_file : (told : List ℕ → Option (List ℕ)) (left : ℕ → Option (List ℕ)) (P Q : List ℕ → Type 0) (name : List ℕ) → ((text : List ℕ) → P text → Q text) → IsRefusedFile told left P name → IsRefusedFile told left Q name
+told_file told left P Q name more (inl refused) = inl (record { at = refused.at; line = more _ refused.line; read = refused.read })
+told_file told left P Q name more (inr large) = inr (record { line = more _ large.line; large = large.large })
+
+told_any : (told : List ℕ → Option (List ℕ)) (left : ℕ → Option (List ℕ)) (P Q : List ℕ → Type 0) (names : List (List ℕ)) → ((text : List ℕ) → P text → Q text) → Any (IsRefusedFile told left P) names ⊎ ((what : PairWhat) × P (pair_line what))
+    → Any (IsRefusedFile told left Q) names ⊎ ((what : PairWhat) × Q (pair_line what))
+told_any told left P Q names more (inl found) = inl (found.0, found.1, found.2, found.3, told_file told left P Q found.1 more found.4)
+told_any told left P Q names more (inr pair) = inr (pair.0, more _ pair.1)
+
+-- a refusal that is written is that of the ending, whose status and text for err are these
+pub refused_told : (told : List ℕ → Option (List ℕ)) (left : ℕ → Option (List ℕ)) (names : List (List ℕ)) (given end : Ending) (result : Status) (out err : SinkChange) → end.status ≡ given.status → end.err ≡ given.err
+    → IsDelivered end result out err → AreRefusedWhole told left names given → HaveRefused told left names result (GainsUnlessFault err)
+refused_told told left names given end result out err same_status same_err (inl written) refused = λ is.
+    told_any told left (λ text. given.err ≡ text) (GainsUnlessFault err) names (λ text same. subst (GainsUnlessFault err) (same_err ∙ same) written.err_gains) (refused (sym same_status ∙ (sym written.same ∙ is)))
+refused_told told left names given end result out err same_status same_err (inr (inl by_out)) refused = λ is. absurd (cc (by_out.fault, is))
+refused_told told left names given end result out err same_status same_err (inr (inr by_err)) refused = λ is. absurd (cc (by_err.fault, is))

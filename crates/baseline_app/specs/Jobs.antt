@@ -19,7 +19,7 @@ use Rattle.sim_job.specs.Sims.{SimEnds}
 use Rattle.cert_jobs.specs.CertJobs.{CheckEnds, ResidualsEnds}
 use Rattle.cert_jobs.specs.CertRuns.{IsCertAdmitted}
 use Rattle.arcs_job.specs.ArcJobs.{ArcsEnds}
-use Rattle.arcs_job.specs.ArcRuns.{AreAdmitted}
+use Rattle.pair_refusals.specs.Admitted.{AreAdmitted}
 use Rattle.fix_job.specs.FixJobs.{FixEnds}
 use Rattle.sim_run_job.specs.SimRunJobs.{SimRunEnds}
 

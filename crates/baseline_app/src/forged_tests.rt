@@ -35,14 +35,14 @@ fn not_certified(
     Ok(())
 }
 
-// The certificate of a session of 60 pairs with eight satellites. The line of pair k has number 17 + 9k, the five last
-// lines have numbers 557 to 561.
+// The certificate of a session of 60 pairs with eight satellites. The line of pair k has number 18 + 9k, the five last
+// lines have numbers 558 to 562.
 fn certificate(rt: &impl Abort, alloc: Global) -> Result<String, Fail> {
     let made = make(alloc, 1, 60, 8)?;
     let ran = run_fix(alloc, &made.base, &made, "--", 8_000_000)?;
     assert_eq!(rt; ran.status, Status::Done);
     let text = String::from_str(alloc, str::from_utf8(ran.out.bytes())?)?;
-    assert_eq!(rt; text.lines().count(), 561);
+    assert_eq!(rt; text.lines().count(), 562);
     Ok(text)
 }
 
@@ -71,8 +71,8 @@ fn tampered_lines(rt: HostRuntime) -> Result<(), Fail> {
     expect_run(&rt, &check(alloc, &text)?, Status::Done, "certified\n", "");
     let rows = [
         // sums that agree with nothing, and another verdict
-        (560, "values 0 0 0 0", "tail"),
-        (561, "declined unseparated", "tail"),
+        (561, "values 0 0 0 0", "tail"),
+        (562, "declined unseparated", "tail"),
         // the claim of another ratio and budget is that of the rows
         (3, "budget 1", "spent"),
     ];
@@ -82,11 +82,11 @@ fn tampered_lines(rt: HostRuntime) -> Result<(), Fail> {
     }
     let other = with_lines(alloc, &text, &[(2, "ratio 100000")])?;
     expect_run(&rt, &check(alloc, &other)?, Status::Done, "certified\n", "");
-    let second = format!(in alloc; "z1{}", line_of(&text, 558).trim_start_matches("z2"))?;
-    let first = format!(in alloc; "z2{}", line_of(&text, 557).trim_start_matches("z1"))?;
-    let swapped = with_lines(alloc, &text, &[(557, &second), (558, &first)])?;
+    let second = format!(in alloc; "z1{}", line_of(&text, 559).trim_start_matches("z2"))?;
+    let first = format!(in alloc; "z2{}", line_of(&text, 558).trim_start_matches("z1"))?;
+    let swapped = with_lines(alloc, &text, &[(558, &second), (559, &first)])?;
     not_certified(&rt, alloc, &swapped, "tail")?;
-    let mut words = line_of(&text, 560).split(' ');
+    let mut words = line_of(&text, 561).split(' ');
     let (Some(_), Some(h), Some(best), Some(next), Some(top)) = (
         words.next(),
         words.next(),
@@ -98,7 +98,7 @@ fn tampered_lines(rt: HostRuntime) -> Result<(), Fail> {
     };
     let greater = next.parse::<i64>()?.saturating_add(1);
     let values = format!(in alloc; "values {h} {best} {greater} {top}")?;
-    let greater = with_lines(alloc, &text, &[(560, &values)])?;
+    let greater = with_lines(alloc, &text, &[(561, &values)])?;
     not_certified(&rt, alloc, &greater, "tail")?;
     Ok(())
 }
@@ -109,45 +109,49 @@ fn tampered_shapes(rt: HostRuntime) -> Result<(), Fail> {
     let text = certificate(&rt, alloc)?;
     let rows = [
         (
-            18,
+            19,
             "row 0 17179869185 0 0 0 0 0 0 0 0 0 0",
-            "line 18 column 7: number out of range",
+            "line 19 column 7: number out of range",
         ),
         (
-            18,
+            19,
             "row 0 0 0 0 0 1048577 0 0 0 0 0 0",
-            "line 18 column 15: number out of range",
+            "line 19 column 15: number out of range",
         ),
         (
-            18,
+            19,
             "row 0 0 0 0 0 0 0 0 0 0 0 1048577",
-            "line 18 column 27: number out of range",
+            "line 19 column 27: number out of range",
         ),
         // a free arc called a datum, and the other way round: the vectors have another length then
-        (9, "arc 2 0 59 datum 0 0", "line 557 column 1: bad line"),
-        (8, "arc 1 0 59 free 0 0", "line 557 column 1: bad line"),
+        (10, "arc 2 0 59 datum 0 0", "line 558 column 1: bad line"),
+        (9, "arc 1 0 59 free 0 0", "line 558 column 1: bad line"),
         // pairs and rows out of order
         (
-            26,
+            27,
             "pair 2 13881024300000000 0 8",
-            "line 35 column 6: number out of range",
+            "line 36 column 6: number out of range",
+        ),
+        (
+            19,
+            "row 1 0 0 0 0 0 0 0 0 0 0 0",
+            "line 20 column 5: number out of range",
         ),
         (
             18,
-            "row 1 0 0 0 0 0 0 0 0 0 0 0",
-            "line 19 column 5: number out of range",
-        ),
-        (
-            17,
             "pair 0 13881024000000000 0 9",
-            "line 26 column 1: bad line",
+            "line 27 column 1: bad line",
         ),
         (
-            17,
+            18,
             "pair 0 13881024000000000 0 16",
-            "line 17 column 28: number out of range",
+            "line 18 column 28: number out of range",
         ),
-        (561, "fixed\n", "line 562 column 1: bad line"),
+        (562, "fixed\n", "line 563 column 1: bad line"),
+        // the form with the coarser unit
+        (1, "baseline-cert 1", "line 1 column 1: bad line"),
+        (7, "signals C W", "line 7 column 1: bad line"),
+        (4, "system R", "line 4 column 1: bad line"),
     ];
     for (number, line, place) in rows {
         let other = with_lines(alloc, &text, &[(number, line)])?;
@@ -188,8 +192,8 @@ fn widest_radii(rt: HostRuntime) -> Result<(), Fail> {
 fn most_rows(alloc: Global) -> Result<String, AllocError> {
     let mut text = String::from_str(
         alloc,
-        "baseline-cert 1\nratio 2000\nbudget 1000\nbase 63781370000 0 0\npoint 63781370000 0 0\n\
-signals C W\narcs 15\n",
+        "baseline-cert 2\nratio 2000\nbudget 1000\nsystem G\nbase 63781370000 0 0\npoint 63781370000 0 0\n\
+signals 12 C W\narcs 15\n",
     )?;
     for sat in 1..16 {
         let kind = if sat == 1 { "datum" } else { "free" };
@@ -218,6 +222,6 @@ fn checks_the_most_rows(rt: HostRuntime) -> Result<(), Fail> {
     not_certified(&rt, alloc, &text, "weak 0 -32")?;
     // a row more than there may be
     let more = text.replace(alloc, "pairs 3600\n", "pairs 3601\n")?;
-    refused_at(&rt, alloc, &more, "line 23 column 7: number out of range")?;
+    refused_at(&rt, alloc, &more, "line 24 column 7: number out of range")?;
     Ok(())
 }

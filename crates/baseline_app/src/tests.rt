@@ -471,15 +471,15 @@ fn finds_what_was_made(rt: HostRuntime) -> Result<(), Fail> {
 }
 
 const CERT: &str =
-    "baseline-cert 1\nratio 2000\nbudget 1000\nbase 63781370000 0 0\npoint 63781370000 0 0\n\
-signals C W\narcs 2\narc 3 0 0 datum 0 0\narc 5 0 0 free 0 0\npairs 1\npair 0 13881024000000000 0 2\n\
+    "baseline-cert 2\nratio 2000\nbudget 1000\nsystem G\nbase 63781370000 0 0\npoint 63781370000 0 0\n\
+signals 12 C W\narcs 2\narc 3 0 0 datum 0 0\narc 5 0 0 free 0 0\npairs 1\npair 0 13881024000000000 0 2\n\
 row 0 0 0 0 0 0 0 0 0 0 0 0\nrow 1 0 0 0 0 0 0 0 0 0 0 0\n";
 
 #[test]
 fn checks_and_shows_a_certificate(rt: HostRuntime) -> Result<(), Fail> {
     let alloc = rt.alloc();
     let weak = "declined weak fine 0 -6\n";
-    let fixed = "z1 0 0\nz2 0 1\nmove 0 0 0\nvalues 36 0 0 0\nfixed\n";
+    let fixed = "z1 0 0\nz2 0 1\nmove 0 0 0\nvalues 35 0 0 0\nfixed\n";
     let not = "not certified weak 0 -6\n";
     let left = "0 0 0 0 0 0\n0 1 0 0 0 0\n";
     let rows = [
@@ -492,14 +492,14 @@ fn checks_and_shows_a_certificate(rt: HostRuntime) -> Result<(), Fail> {
             "fixed\n",
             Status::Refused,
             "",
-            "refused: F line 14 column 1: bad line\n",
+            "refused: F line 15 column 1: bad line\n",
         ),
         (
             "residuals",
             "",
             Status::Refused,
             "",
-            "refused: F line 14 column 1: bad line\n",
+            "refused: F line 15 column 1: bad line\n",
         ),
     ];
     for (command, tail, status, out, err) in rows {

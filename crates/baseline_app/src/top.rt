@@ -3,8 +3,7 @@ ghost use Rattle.std.specs.Prelude.{◌≡◌, ◌≢◌, ◌⊎◌, ◌≤◌, 
 ghost use Rattle.line_source.specs.Causes.{Rose, OpensAtMost};
 ghost use Rattle.gps_time.specs.declared.Tick.{Tick};
 ghost use Rattle.job_answers.specs.Answers.{ending_of, IfEnded};
-ghost use Rattle.job_answers.specs.Endings.{IsRefusedWhole};
-ghost use Rattle.job_answers.specs.Delivered.{sink_change};
+ghost use Rattle.job_answers.specs.Delivered.{sink_change, GainsUnlessFault};
 ghost use Rattle.command_words.specs.declared.sims.Part.{Part};
 ghost use Rattle.command_words.specs.declared.jobs.Job.{Job};
 ghost use Rattle.command_words.specs.Words.{texts_of, file_words, IsJob, IsInRange};
@@ -15,6 +14,7 @@ ghost use Rattle.sim_job.specs.SimRuns.{SaysOfSim};
 ghost use Rattle.sim_run_job.specs.SimRunSays.{SaysOfSimRun};
 ghost use Rattle.run_options.specs.declared.options.Options.{Options};
 ghost use Rattle.cert_jobs.specs.CertRuns.{SaysOfCheck, SaysOfResiduals};
+ghost use Rattle.pair_refusals.specs.Refusals.{HaveRefused, AreRefusedWhole};
 ghost use Rattle.arcs_job.specs.ArcJobs.{ArcsEnds};
 ghost use Rattle.arcs_job.specs.ArcRuns.{SaysOfArcs};
 ghost use Rattle.fix_job.specs.FixJobs.{FixEnds};
@@ -26,7 +26,7 @@ use arcs_job::arcs;
 use cert_jobs::{check_file, residuals};
 use command_words::{Job, Part, Word, WordFault, read_words};
 use fix_job::fix;
-use job_answers::{Answer, Status, Stop, deliver};
+use job_answers::{Answer, Status, Stop, deliver, usage};
 use line_source::{Files, Sink};
 use list_job::list;
 use orbit_job::orbit;
@@ -35,8 +35,6 @@ use sim_job::sim;
 use sim_run_job::sim_run;
 use std::alloc::{AllocError, Global};
 use zero_job::zero;
-
-const USAGE: &str = "usage: baseline fix|check|residuals|zero|list|orbit|arcs|sim WORDS\n";
 
 // The command `fix` by its words.
 fn fix_by_words<F: Files>(
@@ -48,7 +46,7 @@ fn fix_by_words<F: Files>(
     options: &Options,
 ) -> Result<Answer, Stop>
     ensures ends { IfEnded result (λ end. FixEnds (F.text_of files.old) base.now rover.now nav.now options.now end) }
-    ensures refused { IfEnded result (λ end. IsRefusedWhole (F.text_of files.old) (F.unread files.new) (base.now ∷ rover.now ∷ nav.now ∷ []) end.status) }
+    ensures refused { IfEnded result (AreRefusedWhole (F.text_of files.old) (F.unread files.new) (base.now ∷ rover.now ∷ nav.now ∷ [])) }
     ensures opened { OpensAtMost 3 (F.opened files.old) (F.opened files.new) }
     ensures fault { IfEnded result (λ end. end.status ≡ Status.ReadFault → Rose (F.faults files.old) (F.faults files.new)) }
     ensures sure { All (F.is_sure_name files.old) (base.now ∷ rover.now ∷ nav.now ∷ []) → IfEnded result (λ end. end.status ≢ Status.ReadFault) }
@@ -73,7 +71,7 @@ fn arcs_by_words<F: Files>(
     options: &Options,
 ) -> Result<Answer, Stop>
     ensures ends { IfEnded result (λ end. ArcsEnds (F.text_of files.old) base.now rover.now nav.now options.now end) }
-    ensures refused { IfEnded result (λ end. IsRefusedWhole (F.text_of files.old) (F.unread files.new) (base.now ∷ rover.now ∷ nav.now ∷ []) end.status) }
+    ensures refused { IfEnded result (AreRefusedWhole (F.text_of files.old) (F.unread files.new) (base.now ∷ rover.now ∷ nav.now ∷ [])) }
     ensures opened { OpensAtMost 3 (F.opened files.old) (F.opened files.new) }
     ensures fault { IfEnded result (λ end. end.status ≡ Status.ReadFault → Rose (F.faults files.old) (F.faults files.new)) }
     ensures sure { All (F.is_sure_name files.old) (base.now ∷ rover.now ∷ nav.now ∷ []) → IfEnded result (λ end. end.status ≢ Status.ReadFault) }
@@ -109,7 +107,7 @@ fn sim_part(alloc: Global, part: Part, seed: u32, epochs: u32, sats: u32) -> Res
 fn do_job<F: Files>(alloc: Global, job: &Job, files: &mut F) -> Result<Answer, Stop>
     requires { IsInRange job.now }
     ensures ends { IfEnded result (λ end. JobEnds job.now (F.text_of files.old) end) }
-    ensures refused { IfEnded result (λ end. IsRefusedWhole (F.text_of files.old) (F.unread files.new) (file_words job.now) end.status) }
+    ensures refused { IfEnded result (AreRefusedWhole (F.text_of files.old) (F.unread files.new) (file_words job.now)) }
     ensures opened { OpensAtMost (length (file_words job.now)) (F.opened files.old) (F.opened files.new) }
     ensures fault { IfEnded result (λ end. end.status ≡ Status.ReadFault → Rose (F.faults files.old) (F.faults files.new)) }
     ensures sure { All (F.is_sure_name files.old) (file_words job.now) → IfEnded result (λ end. end.status ≢ Status.ReadFault) }
@@ -147,7 +145,7 @@ fn do_job<F: Files>(alloc: Global, job: &Job, files: &mut F) -> Result<Answer, S
 fn answer_of<F: Files>(alloc: Global, words: &[String], files: &mut F) -> Result<Answer, AllocError>
     ensures answer { IfOk result (λ a. IsAnswer (texts_of words.now) (F.text_of files.old) (ending_of a)) }
     ensures refused { (job : Job) → IsJob (texts_of words.now) job
-        → IfOk result (λ a. IsRefusedWhole (F.text_of files.old) (F.unread files.new) (file_words job) a.status) }
+        → IfOk result (λ a. AreRefusedWhole (F.text_of files.old) (F.unread files.new) (file_words job) (ending_of a)) }
     ensures opened { (job : Job) → IsJob (texts_of words.now) job → OpensAtMost (length (file_words job)) (F.opened files.old) (F.opened files.new) }
     ensures fault { IfOk result (λ a. a.status ≡ Status.ReadFault → Rose (F.faults files.old) (F.faults files.new)) }
     ensures sure { (job : Job) → IsJob (texts_of words.now) job → All (F.is_sure_name files.old) (file_words job)
@@ -158,8 +156,8 @@ fn answer_of<F: Files>(alloc: Global, words: &[String], files: &mut F) -> Result
         Ok(job) => job,
         Err(WordFault::NoMemory) => return Err(AllocError),
         Err(WordFault::Usage) => {
-            let err = String::from_str(alloc, USAGE)?;
-            return Ok(Answer::on_err(alloc, Status::Usage, err));
+            let answer = usage(alloc)?;
+            return Ok(answer);
         }
     };
     match do_job(alloc, &job, files) {
@@ -171,7 +169,7 @@ fn answer_of<F: Files>(alloc: Global, words: &[String], files: &mut F) -> Result
 
 /// Does what the words after the program's name ask for, and writes its two texts, `out` first.
 /// Words that ask for no job, or for one without files, leave the files as they are. Each file word of a job is opened once
-/// at most, and a file is refused only after it was read to its end, or as one that is too large.
+/// at most. The file whose refusal is told was read to its end, or is too large.
 pub fn run<F: Files, O: Sink, E: Sink>(
     alloc: Global,
     words: &[String],
@@ -184,7 +182,8 @@ pub fn run<F: Files, O: Sink, E: Sink>(
         (sink_change (E.contents err.old) (E.contents err.new) (E.faults err.old) (E.faults err.new)) }
     ensures read { result ≡ Status.ReadFault → Rose (F.faults files.old) (F.faults files.new) }
     ensures refused { (job : Job) → IsJob (texts_of words.now) job
-        → IsRefusedWhole (F.text_of files.old) (F.unread files.new) (file_words job) result }
+        → HaveRefused (F.text_of files.old) (F.unread files.new) (file_words job) result
+        (GainsUnlessFault (sink_change (E.contents err.old) (E.contents err.new) (E.faults err.old) (E.faults err.new))) }
     ensures opened { (job : Job) → IsJob (texts_of words.now) job → OpensAtMost (length (file_words job)) (F.opened files.old) (F.opened files.new) }
     ensures sure { (job : Job) → IsJob (texts_of words.now) job → All (F.is_sure_name files.old) (file_words job)
         → result ≢ Status.ReadFault }
@@ -236,7 +235,8 @@ fn write_answer<F: Files, O: Sink, E: Sink>(
         (sink_change (E.contents err.old) (E.contents err.new) (E.faults err.old) (E.faults err.new)) }
     ensures read { result ≡ Status.ReadFault → Rose (F.faults files.old) (F.faults files.new) }
     ensures refused { (job : Job) → IsJob (texts_of words.now) job
-        → IsRefusedWhole (F.text_of files.old) (F.unread files.new) (file_words job) result }
+        → HaveRefused (F.text_of files.old) (F.unread files.new) (file_words job) result
+        (GainsUnlessFault (sink_change (E.contents err.old) (E.contents err.new) (E.faults err.old) (E.faults err.new))) }
     ensures opened { (job : Job) → IsJob (texts_of words.now) job → OpensAtMost (length (file_words job)) (F.opened files.old) (F.opened files.new) }
     ensures sure { (job : Job) → IsJob (texts_of words.now) job → All (F.is_sure_name files.old) (file_words job)
         → result ≢ Status.ReadFault }

@@ -1,8 +1,9 @@
 -- What the steps of a check say.
-use Rattle.std.proofs.Common.{◌≡◌, ◌⊎◌, inl, inr, ℕ, ℤ, List, FitsSigned, to_z, of_z, w64, sym, subst, arith}
+use Rattle.std.proofs.Common.{◌≡◌, ◌⊎◌, inl, inr, ℕ, ℤ, List, FitsSigned, to_z, of_z, w64, refl, sym, subst, arith}
 use Rattle.std.specs.Int.{w128}
 use Rattle.std.proofs.lemmas.Int.{ints}
 use Rattle.obs_rows.specs.declared.sessions.Session.{Session}
+use Rattle.obs_rows.specs.Signals.{fine_signals}
 use Rattle.obs_rows.specs.Best.{IsStrictlyBest}
 use Rattle.integer_form.specs.declared.faults.Place.{Place}
 use Rattle.integer_form.specs.declared.faults.Place.TheVariants.{Float, Sum}
@@ -10,11 +11,12 @@ use Rattle.integer_form.specs.declared.form.Form.{Form}
 use Rattle.integer_form.specs.FloatPoint.{HasWide}
 use Rattle.int_search.specs.declared.answer.TwoBest.{TwoBest}
 use Rattle.int_search.specs.Answers.{IsTwoBest}
+use Rattle.fix_decide.specs.UpperSums.{top}
 use Rattle.fix_decide.specs.Widths.{AreWide}
 use Rattle.fix_decide.specs.Decisions.{IsFormOf, first_of, move_of}
 use Rattle.cert_data.specs.declared.tails.Tail.{Tail}
 use Rattle.cert_data.specs.declared.tails.Tail.TheVariants.{Fixed, Unseparated, Weak, Overwidth, Unsettled, Spent}
-use Rattle.cert_check.specs.Decided.{Numbers, Says, IsBestIn}
+use Rattle.cert_check.specs.Decided.{Numbers, IsDecided, numbers, Says, IsBestIn}
 use Rattle.cert_data.specs.declared.verdicts.Verdict.{Verdict}
 use Rattle.cert_data.specs.declared.verdicts.Verdict.TheVariants.{Certified, Not}
 use Rattle.cert_data.specs.declared.verdicts.Cause.TheVariants as cause
@@ -30,9 +32,24 @@ best_said s (Overwidth place) d said is = absurd said
 best_said s (Unsettled entry) d said is = absurd said
 best_said s (Spent budget) d said is = absurd said
 
+-- what a decision that isn't refused says
+pub decided_by : (s : Session) (f : Form) (b : TwoBest) (m : List ℤ) (t : ℤ) → IsFormOf s f → IsTwoBest f b → m ≡ move_of f (first_of b) → (HasWide (move_of f (first_of b)) → ⊥) →
+    ((HasWide (move_of f (first_of b)) → ⊥) × AreWide s.arcs (fine_signals s.signals) s.pairs (first_of b) (move_of f (first_of b)) → ⊥) →
+    t ≡ top f.h s.arcs (fine_signals s.signals) s.pairs (first_of b) m → IsDecided s (numbers f.h m b t)
+decided_by s f b m t of_rows best moved narrow low upper = record {
+  form = f;
+  of_rows = of_rows;
+  h_is = refl;
+  best_is = best;
+  moved_is = moved;
+  narrow = λ w. narrow (subst HasWide moved w);
+  low = λ w. low (narrow, subst (AreWide s.arcs (fine_signals s.signals) s.pairs (first_of b)) moved w);
+  top_is = upper;
+}
+
 -- a decision that is refused
 pub wide_decision : (s : Session) (budget : ℕ) (f : Form) (b : TwoBest) (place : Place) → IsFormOf s f → IsTwoBest f b → (place ≡ Float → HasWide (move_of f (first_of b)))
-    → (place ≡ Sum → (HasWide (move_of f (first_of b)) → ⊥) × AreWide s.arcs s.pairs (first_of b) (move_of f (first_of b))) → (place ≡ Float) ⊎ (place ≡ Sum) → IsWideAt s budget place
+    → (place ≡ Sum → (HasWide (move_of f (first_of b)) → ⊥) × AreWide s.arcs (fine_signals s.signals) s.pairs (first_of b) (move_of f (first_of b))) → (place ≡ Float) ⊎ (place ≡ Sum) → IsWideAt s budget place
 wide_decision s budget f b place of_rows best move sum (inl is) =
     subst (IsWideAt s budget) (sym is) (record { form = f; best = b; has = record { of_rows = of_rows; best_is = best }; wide = move is })
 wide_decision s budget f b place of_rows best move sum (inr is) =

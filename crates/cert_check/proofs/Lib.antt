@@ -1,4 +1,3 @@
 pub mod SameForms
-pub mod Exponents
 pub mod OneVerdict
 pub mod Checked

@@ -1,6 +1,7 @@
 -- The rows of a session and a tail have one verdict, but where a search gave up.
 use Rattle.std.proofs.Common.{◌≡◌, inl, inr, ℕ, ℤ, pos, List, refl, sym, ap, ◌∙◌, subst}
 use Rattle.quadratic_form.specs.Elimination.{Refusal, weak, wide_factor, wide_entry}
+use Rattle.obs_rows.specs.Signals.{fine_signals, counted}
 use Rattle.obs_rows.specs.declared.sessions.Session.{Session}
 use Rattle.normal_sum.specs.Values.{form_of}
 use Rattle.integer_form.specs.declared.faults.LowerFault.{LowerFault}
@@ -18,9 +19,11 @@ use Rattle.cert_data.specs.declared.verdicts.Verdict.{Verdict}
 use Rattle.cert_data.specs.declared.verdicts.Verdict.TheVariants.{Certified, Not}
 use Rattle.cert_data.specs.declared.verdicts.Cause.TheVariants as cause
 use Rattle.cert_check.specs.Decided.{Numbers, IsDecided, AreSame, Says}
-use Rattle.cert_check.specs.Verdicts.{IsRefused, HasBest, IsMoveWide, IsSumWide, IsWideAt, IsVerdictOf, IsGivenUp, IsSameVerdict}
-use Rattle.cert_check.proofs.Exponents.{has_exponent}
-use Rattle.cert_check.proofs.SameForms.{one_elimination, one_exponent, same_form, same_best, same_move, one_decision, says_too}
+use Rattle.settled_decision.specs.Decided.{IsRefused}
+use Rattle.cert_check.specs.Verdicts.{HasBest, IsMoveWide, IsSumWide, IsWideAt, IsVerdictOf, IsGivenUp, IsSameVerdict}
+use Rattle.lower_form.proofs.Exponents.{has_exponent}
+use Rattle.lower_form.proofs.OneForm.{one_elimination, one_exponent}
+use Rattle.cert_check.proofs.SameForms.{same_form, same_best, same_move, one_decision, says_too}
 
 -- the verdict of a form that is refused
 abbrev of_fault : LowerFault → Verdict
@@ -64,10 +67,10 @@ other_place place wide_entry e f g = g cc
 same_refusal : (s : Session) (why too : LowerFault) → IsRefused s why → IsRefused s too → why ≡ too
 same_refusal s why too a b =
     let some = has_exponent (form_of a.normal) in
-    let serves = one_exponent s a.normal b.normal some.0 a.of_rows b.of_rows some.1 in
+    let serves = one_exponent s.arcs (counted s.signals s.scale) s.pairs a.normal b.normal some.0 a.of_rows b.of_rows some.1 in
     let one = a.told some.0 some.1 in
     let two = b.told some.0 serves in
-    let whole = one_elimination s a.normal b.normal some.0 some.0 a.of_rows b.of_rows some.1 serves in
+    let whole = one_elimination s.arcs (counted s.signals s.scale) s.pairs a.normal b.normal some.0 some.0 a.of_rows b.of_rows some.1 serves in
     let same : one.0 ≡ two.0 = cc (one.1.0, two.1.0, whole) in
     one.1.1 ∙ ap told same ∙ sym two.1.1
 
@@ -84,9 +87,9 @@ wide_refused s budget Sum a = let some = has_exponent (form_of a.normal) in let 
 -- a form that is refused is none
 no_form : (s : Session) (why : LowerFault) (f : Form) → IsRefused s why → IsFormOf s f → ⊥
 no_form s why f a b =
-    let serves = one_exponent s b.normal a.normal f.h b.of_rows a.of_rows b.lowered.exponent in
+    let serves = one_exponent s.arcs (counted s.signals s.scale) s.pairs b.normal a.normal f.h b.of_rows a.of_rows b.lowered.exponent in
     let is = a.told f.h serves in
-    let whole = one_elimination s b.normal a.normal f.h f.h b.of_rows a.of_rows b.lowered.exponent serves in
+    let whole = one_elimination s.arcs (counted s.signals s.scale) s.pairs b.normal a.normal f.h f.h b.of_rows a.of_rows b.lowered.exponent serves in
     absurd (cc (is.1.0, whole, b.lowered.taken))
 
 -- a move that is too large isn't another time narrow
@@ -102,7 +105,7 @@ no_sum s d a is =
     let form = same_form s a.form is.form a.has.of_rows is.of_rows in
     let best = same_best a.form is.form a.best d.best form a.has.best_is is.best_is in
     let moved = same_move a.form is.form (first_of a.best) (first_of d.best) form best.first_is ∙ sym is.moved_is in
-    is.low (subst (λ (m : List _). AreWide s.arcs s.pairs (first_of d.best) m) moved (subst (λ (z : List _). AreWide s.arcs s.pairs z (move_of a.form (first_of a.best))) best.first_is a.wide))
+    is.low (subst (λ (m : List _). AreWide s.arcs (fine_signals s.signals) s.pairs (first_of d.best) m) moved (subst (λ (z : List _). AreWide s.arcs (fine_signals s.signals) s.pairs z (move_of a.form (first_of a.best))) best.first_is a.wide))
 
 not_wide : (s : Session) (d : Numbers) → (is : IsDecided s d) → HasWide (move_of is.form (first_of d.best)) → ⊥
 not_wide s d is wide = is.narrow (subst HasWide (sym is.moved_is) wide)

@@ -1,25 +1,23 @@
 -- The rows of a session have one form, and one decision.
-use Rattle.std.proofs.Common.{◌≡◌, ◌-◌, ◌^◌, ◌≤◌, ℕ, ℤ, pos, true, false, List, take, Result, Ok, Err, sym, ap, ◌∙◌, subst, arith}
+use Rattle.std.proofs.Common.{◌≡◌, ◌-◌, ◌^◌, ℕ, ℤ, pos, List, take, Ok, sym, ap, ◌∙◌, subst}
 use Rattle.whole_math.specs.Vectors.{scaled}
 use Rattle.quadratic_form.specs.Forms.{Column}
-use Rattle.quadratic_form.specs.Elimination.{Factor, Refusal, wide_entry, form_small, steps, rounded}
-use Rattle.quadratic_form.specs.Rows.{value, bounding_form}
+use Rattle.quadratic_form.specs.Elimination.{Factor}
+use Rattle.quadratic_form.specs.Rows.{value}
 use Rattle.quadratic_form.specs.Lowering.{IsExponent}
 use Rattle.quadratic_form.specs.TwoLeast.{TwoLeast}
-use Rattle.quadratic_form.specs.Places.{form_from}
 use Rattle.quadratic_form.proofs.VectorOrder.{first_unique, second_unique}
+use Rattle.obs_rows.specs.Signals.{fine_signals, counted}
 use Rattle.obs_rows.specs.declared.sessions.Session.{Session}
-use Rattle.obs_rows.specs.Tables.{entry}
-use Rattle.normal_sum.specs.declared.normal.Normal.{Normal}
-use Rattle.normal_sum.specs.Normals.{IsNormalOf}
-use Rattle.normal_sum.specs.Values.{form_of, radii_from}
+use Rattle.normal_sum.specs.Values.{form_of}
 use Rattle.integer_form.specs.declared.form.Form.{Form}
 use Rattle.integer_form.specs.Factors.{stored}
 use Rattle.integer_form.specs.Forms.{integers_of, columns_of}
 use Rattle.integer_form.specs.Kept.{form_of_table}
 use Rattle.integer_form.specs.FloatPoint.{solved}
-use Rattle.lower_form.specs.Forms.{elimination_of}
 use Rattle.lower_form.specs.Fronts.{front_of}
+use Rattle.lower_form.proofs.Exponents.{exponent_unique}
+use Rattle.lower_form.proofs.OneForm.{same_normal, same_front}
 use Rattle.int_search.specs.declared.answer.TwoBest.{TwoBest}
 use Rattle.int_search.specs.Answers.{IsTwoBest}
 use Rattle.fix_decide.specs.UpperSums.{top}
@@ -27,48 +25,6 @@ use Rattle.fix_decide.specs.Decisions.{IsFormOf, first_of, second_of, move_of}
 use Rattle.cert_data.specs.declared.tails.Tail.{Tail}
 use Rattle.cert_data.specs.declared.tails.Tail.TheVariants.{Fixed, Unseparated, Weak, Overwidth, Unsettled, Spent}
 use Rattle.cert_check.specs.Decided.{Numbers, IsDecided, AreSameBest, AreSame, Says}
-
-exponent_unique : (h k : ℕ) (c : List Column) → IsExponent h c → IsExponent k c → h ≡ k
-exponent_unique h k c a b = let x : h ≤ k = a.least k b.enough in let y : k ≤ h = b.least h a.enough in omega (arith, x, y)
-
--- ---- one normal matrix
-
-record SameNormal (n m : Normal) : Type 0 where
-  columns : n.columns ≡ m.columns
-  form : form_of n ≡ form_of m
-  radii : n.r ≡ m.r
-
-same_normal : (s : Session) (n m : Normal) → IsNormalOf s.arcs s.scale s.pairs n → IsNormalOf s.arcs s.scale s.pairs m → SameNormal n m
-same_normal s n m a b =
-    let columns = a.columns ∙ sym b.columns in
-    let each : (i j : ℕ) → entry n.c i j ≡ entry m.c i j = λ i j. a.entries i j ∙ sym (b.entries i j) in
-    record { columns = columns; form = (λ t. form_from (λ i j. each i j t) 0 (columns t)); radii = a.radii ∙ sym b.radii }
-
-abbrev elimination_by : ℕ → ℕ → List Column → List ℤ → Result (List Factor × List Column) Refusal
-elimination_by h columns form r =
-    let a : List Column = rounded (2 ^ h) (pos columns) (bounding_form (columns - 4) form (radii_from r)) in
-    elim (form_small a) [ true ↦ steps 0 (columns - 1) a | false ↦ Err wide_entry ]
-
-abbrev front_by : ℕ → ℕ → List Column → List ℤ → Result (List Factor × List Column) Refusal
-front_by h columns form r =
-    let a : List Column = rounded (2 ^ h) (pos columns) (bounding_form (columns - 4) form (radii_from r)) in
-    elim (form_small a) [ true ↦ steps 0 3 a | false ↦ Err wide_entry ]
-
-same_elimination : (h : ℕ) (n m : Normal) → SameNormal n m → elimination_of h n ≡ elimination_of h m
-same_elimination h n m same = λ t. elimination_by h (same.columns t) (same.form t) (same.radii t)
-
-same_front : (h : ℕ) (n m : Normal) → SameNormal n m → front_of h n ≡ front_of h m
-same_front h n m same = λ t. front_by h (same.columns t) (same.form t) (same.radii t)
-
--- two eliminations of the rows, over the powers of 2 that serve
-pub one_elimination : (s : Session) (n m : Normal) (h k : ℕ) → IsNormalOf s.arcs s.scale s.pairs n → IsNormalOf s.arcs s.scale s.pairs m → IsExponent h (form_of n) → IsExponent k (form_of m) → elimination_of h n ≡ elimination_of k m
-one_elimination s n m h k a b serves serves_too =
-    let same = same_normal s n m a b in
-    let exponent : h ≡ k = exponent_unique h k (form_of n) serves (subst (λ (f : List Column). IsExponent k f) (sym same.form) serves_too) in
-    same_elimination h n m same ∙ ap (λ (e : ℕ). elimination_of e m) exponent
-
-pub one_exponent : (s : Session) (n m : Normal) (h : ℕ) → IsNormalOf s.arcs s.scale s.pairs n → IsNormalOf s.arcs s.scale s.pairs m → IsExponent h (form_of n) → IsExponent h (form_of m)
-one_exponent s n m h a b serves = subst (λ (f : List Column). IsExponent h f) ((same_normal s n m a b).form) serves
 
 -- ---- one form
 
@@ -82,7 +38,7 @@ pub same_form : (s : Session) (f g : Form) → IsFormOf s f → IsFormOf s g →
 same_form s f g a b =
     let n = a.normal in
     let m = b.normal in
-    let same = same_normal s n m a.of_rows b.of_rows in
+    let same = same_normal s.arcs (counted s.signals s.scale) s.pairs n m a.of_rows b.of_rows in
     let h : f.h ≡ g.h = exponent_unique f.h g.h (form_of n) a.lowered.exponent (subst (λ (c : List Column). IsExponent g.h c) (sym same.form) b.lowered.exponent) in
     let taken : Ok (stored f.d f.l f.columns 0 3, form_of_table f.p (f.columns - 3)) ≡ Ok (stored g.d g.l g.columns 0 3, form_of_table g.p (g.columns - 3)) =
     sym a.lowered.front ∙ same_front f.h n m same ∙ ap (λ (e : ℕ). front_of e m) h ∙ b.lowered.front in
@@ -117,7 +73,7 @@ one_decision s d e a b =
       h_is = a.h_is ∙ form.h ∙ sym b.h_is;
       moved_is = moved;
       best_is = best;
-      top_is = a.top_is ∙ (λ t. top (form.h t) s.arcs s.pairs (best.first_is t) (moved t)) ∙ sym b.top_is;
+      top_is = a.top_is ∙ (λ t. top (form.h t) s.arcs (fine_signals s.signals) s.pairs (best.first_is t) (moved t)) ∙ sym b.top_is;
     }
 
 -- so a tail that says the numbers of one says those of the other

@@ -1,6 +1,7 @@
 -- The decision from the rows of a session: its numbers, and what a tail says of them.
 use Rattle.std.specs.Prelude.{◌≡◌, ℕ, ℤ, pos, List}
 use Rattle.obs_rows.specs.declared.sessions.Session.{Session}
+use Rattle.obs_rows.specs.Signals.{fine_signals}
 use Rattle.obs_rows.specs.Best.{IsStrictlyBest}
 use Rattle.integer_form.specs.declared.form.Form.{Form}
 use Rattle.integer_form.specs.FloatPoint.{HasWide}
@@ -12,7 +13,7 @@ use Rattle.fix_decide.specs.Decisions.{IsFormOf, IsSeparated, first_of, second_o
 use Rattle.cert_data.specs.declared.tails.Tail.{Tail}
 use Rattle.cert_data.specs.declared.tails.Tail.TheVariants.{Fixed}
 
--- the numbers of a decision: of the two best vectors of the form the first is seen with a move, in 2^-10 κ, and its
+-- the numbers of a decision: of the two best vectors of the form the first is seen with a move, in 2^-5 ι, and its
 -- upper sum, like the values, in units of 2^h
 pub record Numbers : Type 0 where
   pub h : ℕ
@@ -28,8 +29,8 @@ pub record IsDecided (s : Session) (d : Numbers) : Type 0 where
   pub best_is : IsTwoBest form d.best
   pub moved_is : d.moved ≡ move_of form (first_of d.best)
   pub narrow : HasWide d.moved → ⊥
-  pub low : AreWide s.arcs s.pairs (first_of d.best) d.moved → ⊥
-  pub top_is : d.top ≡ top form.h s.arcs s.pairs (first_of d.best) d.moved
+  pub low : AreWide s.arcs (fine_signals s.signals) s.pairs (first_of d.best) d.moved → ⊥
+  pub top_is : d.top ≡ top form.h s.arcs (fine_signals s.signals) s.pairs (first_of d.best) d.moved
 
 -- the rows are fixed at a ratio in thousandths, with these numbers
 pub record IsFixed (s : Session) (ratio : ℕ) (d : Numbers) : Type 0 where

@@ -1,18 +1,12 @@
 -- What a check says of the rows of a session and a tail.
 use Rattle.std.specs.Prelude.{◌≡◌, ◌⊎◌, ℕ, pos}
-use Rattle.quadratic_form.specs.Lowering.{IsExponent}
 use Rattle.obs_rows.specs.declared.sessions.Session.{Session}
-use Rattle.normal_sum.specs.declared.normal.Normal.{Normal}
-use Rattle.normal_sum.specs.Normals.{IsNormalOf}
-use Rattle.normal_sum.specs.Values.{form_of}
-use Rattle.integer_form.specs.declared.faults.LowerFault.{LowerFault}
+use Rattle.obs_rows.specs.Signals.{fine_signals}
 use Rattle.integer_form.specs.declared.faults.LowerFault.TheVariants as fault
 use Rattle.integer_form.specs.declared.faults.Place.{Place}
 use Rattle.integer_form.specs.declared.faults.Place.TheVariants.{Float, Search, Sum}
 use Rattle.integer_form.specs.declared.form.Form.{Form}
 use Rattle.integer_form.specs.FloatPoint.{HasWide}
-use Rattle.integer_form.specs.Told.{IsToldAs}
-use Rattle.lower_form.specs.Forms.{elimination_of}
 use Rattle.int_search.specs.declared.answer.TwoBest.{TwoBest}
 use Rattle.int_search.specs.Answers.{IsTwoBest, IsPlainCountOver, IsSearchTooWide}
 use Rattle.int_search.specs.ReducedCounts.{HasReducedCount}
@@ -22,13 +16,8 @@ use Rattle.cert_data.specs.declared.tails.Tail.{Tail}
 use Rattle.cert_data.specs.declared.verdicts.Verdict.{Verdict}
 use Rattle.cert_data.specs.declared.verdicts.Verdict.TheVariants.{Certified, Not}
 use Rattle.cert_data.specs.declared.verdicts.Cause.TheVariants as cause
+use Rattle.settled_decision.specs.Decided.{IsRefused}
 use Rattle.cert_check.specs.Decided.{Numbers, IsDecided, IsFixed, Says}
-
--- the elimination of the rows' normal matrix is refused, for this reason
-pub record IsRefused (s : Session) (why : LowerFault) : Type 0 where
-  pub normal : Normal
-  pub of_rows : IsNormalOf s.arcs s.scale s.pairs normal
-  pub told : (h : ℕ) → IsExponent h (form_of normal) → IsToldAs why (elimination_of h normal)
 
 -- the plain count of the rows' form is over the budget, and no reduced count is within it
 pub record IsSpent (s : Session) (budget : ℕ) : Type 0 where
@@ -62,7 +51,7 @@ pub record IsSumWide (s : Session) : Type 0 where
   pub best : TwoBest
   pub has : HasBest s form best
   pub narrow : HasWide (move_of form (first_of best)) → ⊥
-  pub wide : AreWide s.arcs s.pairs (first_of best) (move_of form (first_of best))
+  pub wide : AreWide s.arcs (fine_signals s.signals) s.pairs (first_of best) (move_of form (first_of best))
 
 -- the decision ends with a number that is too large there
 abbrev pub IsWideAt : Session → ℕ → Place → Type 0

@@ -10,8 +10,8 @@ fn are_same(numbers: &[i64], others: &[i64]) -> bool
     numbers == others
 }
 
-// Whether these are the same integer vectors, with the same values.
-fn are_same_best(best: &TwoBest, other: &TwoBest) -> bool
+/// Whether these are the same integer vectors, with the same values.
+pub fn are_same_best(best: &TwoBest, other: &TwoBest) -> bool
     ensures { IsTrue result ↔ AreSameBest best.now other.now }
 {
     if !are_same(&best.first[..best.size], &other.first[..other.size]) {

@@ -1,9 +1,10 @@
--- What a tail may hold: the ranges of its numbers, with an entry for each integer of the arcs.
-use Rattle.std.specs.Prelude.{◌≡◌, ◌^◌, ◌≤◌, ℕ, ℤ, Bool, List, All, if◌then◌else◌}
+-- What a tail may hold: the ranges of its numbers, with an entry for each integer of the arcs and the phases that count.
+use Rattle.std.specs.Prelude.{◌≡◌, ◌^◌, ◌<◌, ◌≤◌, ℕ, ℤ, Bool, List, All, if◌then◌else◌}
 use Rattle.std.proofs.Props.{props}
 use Rattle.obs_rows.specs.declared.arcs.Arc.{Arc}
 use Rattle.obs_rows.specs.Ranges.{IsBelow}
 use Rattle.obs_rows.specs.Integers.{integer_count}
+use Rattle.form_tables.specs.declared.sizes.TheConstants.{MOST_FACTORS}
 use Rattle.int_search.specs.declared.answer.TwoBest.{TwoBest}
 use Rattle.int_search.specs.Vectors.{IsSmall}
 use Rattle.cert_data.specs.declared.tails.Tail.{Tail}
@@ -13,34 +14,42 @@ use Rattle.cert_data.specs.declared.tails.Tail.TheVariants.{Fixed, Unseparated, 
 abbrev pub tail_of_vectors : Bool → ℕ → List ℤ → TwoBest → ℤ → Tail
 tail_of_vectors fixed h moved best top = if fixed then Fixed h moved best top else Unseparated h moved best top
 
--- the ranges of a tail with vectors
-pub record AreVectors (arcs : List Arc) (h : ℕ) (moved : List ℤ) (best : TwoBest) (top : ℤ) : Type 0 where
+-- a move is below 2^46 in size
+abbrev pub IsMove : List ℤ → Type 0
+IsMove moved = All (IsBelow (2 ^ 46)) moved
+
+-- the ranges of two vectors, the values at them, and the upper sum
+pub record AreValues (ss : List ℕ) (arcs : List Arc) (h : ℕ) (best : TwoBest) (top : ℤ) : Type 0 where
   pub h_to : h ≤ 127
-  pub moved_in : All (IsBelow (2 ^ 46)) moved
-  pub size : best.size ≡ integer_count arcs 0
+  pub size : best.size ≡ integer_count arcs ss
   pub first_in : IsSmall best.first
   pub second_in : IsSmall best.second
   pub p1_in : IsBelow (2 ^ 126) best.p1
   pub p2_in : IsBelow (2 ^ 126) best.p2
   pub top_in : IsBelow (2 ^ 126) top
 
+-- the ranges of a tail with vectors
+pub record AreVectors (ss : List ℕ) (arcs : List Arc) (h : ℕ) (moved : List ℤ) (best : TwoBest) (top : ℤ) : Type 0 where
+  pub moved_in : IsMove moved
+  pub values : AreValues ss arcs h best top
+
 pub record IsWeak (column : ℕ) (pivot : ℤ) : Type 0 where
-  pub column_to : column ≤ 42
+  pub column_to : column < MOST_FACTORS
   pub pivot_in : IsBelow (2 ^ 52) pivot
 
--- a tail of a certificate of these arcs and this budget
-abbrev pub IsTailOf : List Arc → ℕ → Tail → Type 0
-IsTailOf arcs budget (Fixed h moved best top) = AreVectors arcs h moved best top
-IsTailOf arcs budget (Unseparated h moved best top) = AreVectors arcs h moved best top
-IsTailOf arcs budget (Weak column pivot) = IsWeak column pivot
-IsTailOf arcs budget (Overwidth place) = Unit {0}
-IsTailOf arcs budget (Unsettled entry) = IsBelow (2 ^ 46) entry
-IsTailOf arcs budget (Spent spent) = spent ≡ budget
+-- a tail of a certificate of these signals, these arcs and this budget
+abbrev pub IsTailOf : List ℕ → List Arc → ℕ → Tail → Type 0
+IsTailOf ss arcs budget (Fixed h moved best top) = AreVectors ss arcs h moved best top
+IsTailOf ss arcs budget (Unseparated h moved best top) = AreVectors ss arcs h moved best top
+IsTailOf ss arcs budget (Weak column pivot) = IsWeak column pivot
+IsTailOf ss arcs budget (Overwidth place) = Unit {0}
+IsTailOf ss arcs budget (Unsettled entry) = IsBelow (2 ^ 46) entry
+IsTailOf ss arcs budget (Spent spent) = spent ≡ budget
 
-pub IsTailOf-prop : (arcs : List Arc) (budget : ℕ) (tail : Tail) → IsProp (IsTailOf arcs budget tail)
-IsTailOf-prop arcs budget (Fixed h moved best top) = Prim.hlevel props
-IsTailOf-prop arcs budget (Unseparated h moved best top) = Prim.hlevel props
-IsTailOf-prop arcs budget (Weak column pivot) = Prim.hlevel props
-IsTailOf-prop arcs budget (Overwidth place) = Prim.hlevel props
-IsTailOf-prop arcs budget (Unsettled entry) = Prim.hlevel props
-IsTailOf-prop arcs budget (Spent spent) = Prim.hlevel props
+pub IsTailOf-prop : (ss : List ℕ) (arcs : List Arc) (budget : ℕ) (tail : Tail) → IsProp (IsTailOf ss arcs budget tail)
+IsTailOf-prop ss arcs budget (Fixed h moved best top) = Prim.hlevel props
+IsTailOf-prop ss arcs budget (Unseparated h moved best top) = Prim.hlevel props
+IsTailOf-prop ss arcs budget (Weak column pivot) = Prim.hlevel props
+IsTailOf-prop ss arcs budget (Overwidth place) = Prim.hlevel props
+IsTailOf-prop ss arcs budget (Unsettled entry) = Prim.hlevel props
+IsTailOf-prop ss arcs budget (Spent spent) = Prim.hlevel props

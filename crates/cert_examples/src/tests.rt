@@ -9,7 +9,7 @@ use std::alloc::{AllocError, Global};
 use std::process::Abort;
 use std::test::Fail;
 
-const VALUES: &str = "values 41 208189931 4449474431825 3308284";
+const VALUES: &str = "values 41 107551584 2298605384680 1709993";
 
 fn push_lines(text: &mut String, lines: &[&str]) -> Result<(), AllocError> {
     for line in lines {
@@ -27,7 +27,7 @@ fn text_of(
     back: &[&str],
 ) -> Result<String, AllocError> {
     let mut text = String::new(alloc);
-    push_lines(&mut text, &["baseline-cert 1", "ratio 2000", budget])?;
+    push_lines(&mut text, &["baseline-cert 2", "ratio 2000", budget])?;
     push_lines(&mut text, front)?;
     push_lines(&mut text, back)?;
     Ok(text)
@@ -70,7 +70,7 @@ fn checks_sessions(rt: HostRuntime) -> Result<(), Fail> {
         &[VALUES, "declined unseparated"],
     )?;
     verdict_is(&rt, alloc, &near, b"not certified tail\n")?;
-    let other = "values 41 208189931 4449474431826 3308284";
+    let other = "values 41 107551584 2298605384681 1709993";
     let greater = cert_of(&rt, alloc, budget, &SESSION, &[other, "fixed"])?;
     verdict_is(&rt, alloc, &greater, b"not certified tail\n")?;
     let short = cert_of(&rt, alloc, "budget 1", &SESSION, &[VALUES, "fixed"])?;
@@ -87,12 +87,7 @@ fn checks_declines(rt: HostRuntime) -> Result<(), Fail> {
     let made_up = cert_of(&rt, alloc, budget, &SMALL, &MADE_UP)?;
     verdict_is(&rt, alloc, &made_up, b"not certified weak 0 -6\n")?;
     let widest = cert_of(&rt, alloc, budget, &SMALL, &WIDEST)?;
-    verdict_is(
-        &rt,
-        alloc,
-        &widest,
-        b"not certified weak 0 -3719979051909126\n",
-    )?;
+    verdict_is(&rt, alloc, &widest, b"not certified overwidth entry\n")?;
     Ok(())
 }
 

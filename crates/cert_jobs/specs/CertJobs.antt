@@ -8,6 +8,7 @@ use Rattle.cert_spelling.specs.Spelling.{spelling}
 use Rattle.cert_text.specs.Rules.{reading_of}
 use Rattle.cert_spelling.specs.Lengths.{IsWhole, IsCertificate}
 use Rattle.cert_check.specs.Decided.{IsBestIn}
+use Rattle.cert_check.specs.Visits.{RestsWithin}
 use Rattle.cert_check.specs.Verdicts.{IsVerdictOf, IsSameVerdict}
 use Rattle.cert_report.specs.VerdictText.{verdict_text}
 use Rattle.cert_report.specs.Residuals.{has_vectors, residuals_text}
@@ -38,11 +39,12 @@ status_of Certified = Done
 status_of (Not cause) = Declined
 
 -- The rows are decided again, and the tail is compared with what they say. No other verdict holds of them, but where a
--- search gave up.
+-- search gave up. A search that the verdict rests on kept the certificate's budget.
 pub record CheckEnd (cert : Cert) (end : Ending) : Type 0 where
   pub verdict : Verdict
   pub is : IsVerdictOf cert.session cert.ratio cert.budget cert.tail verdict
   pub only : (v : Verdict) → IsVerdictOf cert.session cert.ratio cert.budget cert.tail v → IsSameVerdict v verdict
+  pub visits : RestsWithin cert.session cert.budget verdict
   pub best : verdict ≡ Certified → IsBestIn cert.session cert.tail
   pub end_is : end ≡ ending (status_of verdict) (verdict_text verdict) []
 

@@ -9,6 +9,7 @@ use Rattle.cert_data.specs.declared.verdicts.Cause.{Cause}
 use Rattle.cert_spelling.specs.Spelling.{spelling}
 use Rattle.cert_spelling.specs.Lengths.{IsWhole, IsCertificate}
 use Rattle.cert_check.specs.Decided.{IsBestIn}
+use Rattle.cert_check.specs.Visits.{RestsWithin}
 use Rattle.cert_check.specs.Verdicts.{IsVerdictOf, IsSameVerdict}
 use Rattle.cert_report.specs.VerdictText.{verdict_text}
 use Rattle.cert_report.specs.Residuals.{has_vectors, residuals_text}
@@ -18,7 +19,7 @@ use Rattle.job_answers.specs.Endings.{IsTextOf}
 use Rattle.job_answers.specs.Delivered.{SinkChange}
 
 -- The text spells a certificate, its rows are fixed and its tail says so, and out tells it. No other verdict holds of it,
--- but where a search gives up. Whoever wrote it: each other integer vector, with any baseline, has a greater sum of squares
+-- but where a search gives up, and the search kept the certificate's budget. Whoever wrote it: each other integer vector, with any baseline, has a greater sum of squares
 -- for all data in the boxes of the rows.
 pub record SaysCertified (told : List ℕ → Option (List ℕ)) (name : List ℕ) (out : SinkChange) : Type 0 where
   pub text : List ℕ
@@ -28,10 +29,11 @@ pub record SaysCertified (told : List ℕ → Option (List ℕ)) (name : List �
   pub spelled : text ≡ spelling cert
   pub certified : IsVerdictOf cert.session cert.ratio cert.budget cert.tail Certified
   pub only : (v : Verdict) → IsVerdictOf cert.session cert.ratio cert.budget cert.tail v → IsSameVerdict v Certified
+  pub visits : RestsWithin cert.session cert.budget Certified
   pub best : IsBestIn cert.session cert.tail
   pub printed : Appends out.old out.new (codes "certified\n")
 
--- it isn't, for this cause and no other, but where a search gave up
+-- It isn't, for this cause and no other, but where a search gave up. A search that the cause rests on kept the budget.
 pub record SaysNotCertified (told : List ℕ → Option (List ℕ)) (name : List ℕ) (out : SinkChange) : Type 0 where
   pub text : List ℕ
   pub is : IsTextOf told name text
@@ -41,6 +43,7 @@ pub record SaysNotCertified (told : List ℕ → Option (List ℕ)) (name : List
   pub cause : Cause
   pub not_certified : IsVerdictOf cert.session cert.ratio cert.budget cert.tail (Not cause)
   pub only : (v : Verdict) → IsVerdictOf cert.session cert.ratio cert.budget cert.tail v → IsSameVerdict v (Not cause)
+  pub visits : RestsWithin cert.session cert.budget (Not cause)
   pub printed : Appends out.old out.new (verdict_text (Not cause))
 
 abbrev pub SaysOfCheck : (List ℕ → Option (List ℕ)) → List ℕ → Status → SinkChange → Type 0

@@ -102,7 +102,7 @@ fn residuals_text(alloc: Global, name: &str, text: &[u8]) -> Result<Answer, Stop
 /// Whether the rows of the certificate say what its tail says of a fix.
 pub fn check_file<F: Files>(alloc: Global, files: &mut F, name: &str) -> Result<Answer, Stop>
     ensures ends { IfEnded result (λ end. EndsByFile (F.text_of files.old) name.now (CheckEnds name.now) end) }
-    ensures refused { IfEnded result (λ end. IsRefusedWhole (F.text_of files.old) (F.unread files.new) (name.now ∷ []) end.status) }
+    ensures refused { IfEnded result (IsRefusedWhole (F.text_of files.old) (F.unread files.new) (name.now ∷ [])) }
     ensures opened { OpensAtMost 1 (F.opened files.old) (F.opened files.new) }
     ensures cause { F.faults files.old ≤ F.faults files.new }
     ensures fault { IfEnded result (λ end. end.status ≡ Status.ReadFault → Rose (F.faults files.old) (F.faults files.new)) }
@@ -117,7 +117,7 @@ pub fn check_file<F: Files>(alloc: Global, files: &mut F, name: &str) -> Result<
 /// What is left of the observations of the certificate's rows, at its tail's first integers.
 pub fn residuals<F: Files>(alloc: Global, files: &mut F, name: &str) -> Result<Answer, Stop>
     ensures ends { IfEnded result (λ end. EndsByFile (F.text_of files.old) name.now (ResidualsEnds name.now) end) }
-    ensures refused { IfEnded result (λ end. IsRefusedWhole (F.text_of files.old) (F.unread files.new) (name.now ∷ []) end.status) }
+    ensures refused { IfEnded result (IsRefusedWhole (F.text_of files.old) (F.unread files.new) (name.now ∷ [])) }
     ensures opened { OpensAtMost 1 (F.opened files.old) (F.opened files.new) }
     ensures cause { F.faults files.old ≤ F.faults files.new }
     ensures fault { IfEnded result (λ end. end.status ≡ Status.ReadFault → Rose (F.faults files.old) (F.faults files.new)) }

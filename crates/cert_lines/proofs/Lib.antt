@@ -1,4 +1,6 @@
+pub mod Spreading
 pub mod Values
 pub mod Spelled
 pub mod ArcLaws
 pub mod Appends
+pub mod TailLaws

@@ -31,6 +31,12 @@ one_value [] e = absurd (omega (arith, e))
 one_value (a ∷ []) e = refl
 one_value (a ∷ b ∷ ns) e = absurd (omega (arith, e))
 
+pub two_values : (ns : List Number) → length ns ≡ 2 → values ns ≡ (number_at ns 0).value ∷ (number_at ns 1).value ∷ []
+two_values [] e = absurd (omega (arith, e))
+two_values (a ∷ []) e = absurd (omega (arith, e))
+two_values (a ∷ b ∷ []) e = refl
+two_values (a ∷ b ∷ c ∷ ns) e = absurd (omega (arith, e))
+
 pub four_values : (ns : List Number) → length ns ≡ 4 → values ns ≡ (number_at ns 0).value ∷ (number_at ns 1).value ∷ (number_at ns 2).value ∷ (number_at ns 3).value ∷ []
 four_values [] e = absurd (omega (arith, e))
 four_values (a ∷ []) e = absurd (omega (arith, e))
@@ -47,7 +53,8 @@ count_read word line ns n read one value small =
     let fits : AreSmall (pos n ∷ []) = (omega arith, tt) in
     line_read word 1 line ns (sym read) (subst AreSmall (sym are) fits) ∙ ap (λ (zs : List ℤ). word ++ behind_blanks zs) are
 
-pub count_spelled : (word line : List ℕ) (ns s : List Number) (x : Number) (low high : ℕ) (r : Result ℕ Flaw) → Ok ns ≡ numbers_behind word 1 line → length ns ≡ 1 → s ≡ ns → x ≡ number_at s 0 → high < 2 ^ 64
+pub count_spelled : (word line : List ℕ) (ns s : List Number) (x : Number) (low high : ℕ) (r : Result ℕ Flaw) → Ok ns ≡ numbers_behind word 1 line → length ns ≡ 1 → s ≡ ns
+    → x ≡ number_at s 0 → high < 2 ^ 64
     → IfOk r (λ n. (low ≤ n) × (n ≤ high)) → IfOk r (λ n. x.value ≡ pos n) → IfOk r (λ n. line ≡ count_line word n)
 count_spelled word line ns s x low high (Ok n) read one same at few in_range exact =
     let place : x ≡ number_at ns 0 = at ∙ ap (λ (l : List Number). number_at l 0) same in
@@ -78,20 +85,25 @@ triple_spelled word line count ns s range (Err flaw) read same within small = tt
 
 -- ---- the numbers of a row, part by part
 
-pub row_values : (ns : List Number) → length ns ≡ 12 →
-    values ns ≡ (number_at ns 0).value ∷ (values (take 4 (drop 1 ns)) ++ ((number_at ns 5).value ∷ (values (take 3 (drop 6 ns)) ++ values (take 3 (drop 9 ns)))))
-row_values ns e =
+pub row_values : (ns : List Number) (n : ℕ) → length ns ≡ 1 + n + 7 →
+    values ns ≡ (number_at ns 0).value ∷ (values (take n (drop 1 ns)) ++ ((number_at ns (1 + n)).value ∷ (values (take 3 (drop (1 + n + 1) ns)) ++ values (take 3 (drop (1 + n + 4) ns)))))
+row_values ns n e =
     let none : Number = record { column = 0; value = pos 0 } in
+    let three_on : 1 + n + 1 + 3 ≡ 1 + n + 4 = omega arith in
     let first : values ns ≡ (number_at ns 0).value ∷ values (drop 1 ns) = ap values (drop_more ns 0 none (omega (arith, e))) in
-    let fifth : values (drop 5 ns) ≡ (number_at ns 5).value ∷ values (drop 6 ns) = ap values (drop_more ns 5 none (omega (arith, e))) in
-    let y : values (drop 1 ns) ≡ values (take 4 (drop 1 ns)) ++ values (drop 5 ns) = split 4 1 ns in
-    let u : values (drop 6 ns) ≡ values (take 3 (drop 6 ns)) ++ values (drop 9 ns) = split 3 6 ns in
-    let ru : drop 9 ns ≡ take 3 (drop 9 ns) = sym (take_all 3 (drop 9 ns) (omega (arith, length-drop 9 ns, e))) in
-    first ∙ ap (λ (zs : List ℤ). (number_at ns 0).value ∷ zs) (y ∙ ap (λ (zs : List ℤ). values (take 4 (drop 1 ns)) ++ zs) (fifth ∙ ap (λ (zs : List ℤ). (number_at ns 5).value ∷ zs) (u ∙ ap (λ (l : List Number). values (take 3 (drop 6 ns)) ++ values l) ru)))
+    let middle : values (drop (1 + n) ns) ≡ (number_at ns (1 + n)).value ∷ values (drop (1 + n + 1) ns) = ap values (drop_more ns (1 + n) none (omega (arith, e))) in
+    let y : values (drop 1 ns) ≡ values (take n (drop 1 ns)) ++ values (drop (1 + n) ns) = split n 1 ns in
+    let u : values (drop (1 + n + 1) ns) ≡ values (take 3 (drop (1 + n + 1) ns)) ++ values (drop (1 + n + 4) ns) = split 3 (1 + n + 1) ns
+    ∙ ap (λ (k : ℕ). values (take 3 (drop (1 + n + 1) ns)) ++ values (drop k ns)) three_on in
+    let ru : drop (1 + n + 4) ns ≡ take 3 (drop (1 + n + 4) ns) = sym (take_all 3 (drop (1 + n + 4) ns) (omega (arith, length-drop (1 + n + 4) ns, e))) in
+    first ∙ ap (λ (zs : List ℤ). (number_at ns 0).value ∷ zs) (y ∙ ap (λ (zs : List ℤ). values (take n (drop 1 ns)) ++ zs)
+    (middle ∙ ap (λ (zs : List ℤ). (number_at ns (1 + n)).value ∷ zs) (u ∙ ap (λ (l : List Number). values (take 3 (drop (1 + n + 1) ns)) ++ values l) ru)))
   where
     values_append : (ms ns : List Number) → values (ms ++ ns) ≡ values ms ++ values ns
     values_append [] ns = refl
     values_append (m ∷ ms) ns = ap (λ (zs : List ℤ). m.value ∷ zs) (values_append ms ns)
 
     split : (k n : ℕ) (ns : List Number) → values (drop n ns) ≡ values (take k (drop n ns)) ++ values (drop (n + k) ns)
-    split k n ns = ap values (sym (take-append-drop k (drop n ns))) ∙ values_append (take k (drop n ns)) (drop k (drop n ns)) ∙ ap (λ (l : List Number). values (take k (drop n ns)) ++ values l) (drop-drop k n ns)
+    split k n ns =
+        ap values (sym (take-append-drop k (drop n ns))) ∙ values_append (take k (drop n ns)) (drop k (drop n ns))
+        ∙ ap (λ (l : List Number). values (take k (drop n ns)) ++ values l) (drop-drop k n ns)

@@ -1,4 +1,7 @@
+pub mod Versions
+pub mod Places
 pub mod Lines
 pub mod Forms
 pub mod Lengths
 pub mod Limits
+pub mod TailForms

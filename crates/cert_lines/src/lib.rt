@@ -1,7 +1,7 @@
 //! The lines of a certificate, each by itself: how it is spelled, and what it says where it stands in its place.
 //!
 //! Each line of a certificate by itself. A reader of a line (`count_in`, `triple_in`, `vector_in`, `letters_in`,
-//! `arc_in`, `pair_in`, `row_in`) answers exactly what the form of that line gives in its place, its first flaw
+//! `arc_in`, `pair_in`, `row_in`, `weak_in`, `values_in` and others) answers exactly what the form of that line gives in its place, its first flaw
 //! included (`value`), and where it answers a value, the line is that value's spelling (`spelled`), with all ranges
 //! (`in_range`, `of_pair` and others). A writer (`push_arc_line`, `push_pair_lines` and others) appends exactly the
 //! spelling.
@@ -11,8 +11,11 @@ mod arcs;
 mod constants;
 mod counts;
 mod pairs;
+mod places;
 mod ranges;
 mod signals;
+mod tails;
+mod version;
 mod write;
 
 pub use arcs::{ArcWords, arc_in};
@@ -20,11 +23,16 @@ pub use constants::ranges_law;
 pub use counts::{count_in, triple_in, vector_in};
 pub use pairs::{PairHead, pair_in, row_in};
 pub use ranges::{
-    COORDINATES, DIRECTIONS, ENTRIES, GROUPS, MOVES, OBSERVATIONS, PIVOTS, RADII, SHIFTS,
-    VALUE_LIMIT,
+    COORDINATES, DIRECTIONS, ENTRIES, GROUPS, MOVES, OBSERVATIONS, OLD_GROUPS, PIVOTS, RADII,
+    SHIFTS, VALUE_LIMIT,
 };
-pub use signals::letters_in;
+pub use signals::{signals_in, system_in};
+pub use tails::{
+    FormValues, WeakPivot, begins, last_in, name_in, push_last_line, push_named_line,
+    push_values_line, push_weak_line, values_in, weak_in,
+};
+pub use version::Version;
 pub use write::{
     push_arc_line, push_count_line, push_pair_lines, push_row_line, push_signals_line,
-    push_vector_line,
+    push_system_line, push_vector_line,
 };

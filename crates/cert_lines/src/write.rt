@@ -1,11 +1,14 @@
 // The lines, written.
 ghost use Rattle.std.specs.Prelude.{◌≡◌, ◌++◌, ◌∷◌, [], OnOk, All};
 ghost use Rattle.cert_words.specs.Spelling.{text_of_lines};
-ghost use Rattle.cert_lines.specs.Lines.{count_line, vector_line, signals_line, arc_line, kind_text, row_line, row_lines, pair_lines};
+ghost use Rattle.obs_rows.specs.Signals.{fine_signals};
+ghost use Rattle.cert_lines.specs.declared.version.Version.TheVariants.{Two};
+ghost use Rattle.cert_lines.specs.Lines.{count_line, vector_line, system_line, signals_line, arc_line, kind_text, row_line, row_lines, pair_lines};
 ghost use Rattle.cert_lines.specs.Lengths.{IsWholeArc, IsWholeRow, IsWholePair};
 
+use crate::places::push_selected;
 use cert_words::{push_number, push_numbers};
-use obs_rows::{Arc, PairRows, Row, Signals};
+use obs_rows::{Arc, PairRows, Row, Signals, fine_signals, phase_bands};
 use std::alloc::AllocError;
 
 /// Appends a line of a word and one number that isn't below 0.
@@ -28,17 +31,34 @@ pub fn push_vector_line(out: &mut Vec<u8>, word: &[u8], numbers: &[i64]) -> Resu
     Ok(())
 }
 
-/// Appends the line of the signals' letters.
-pub fn push_signals_line(out: &mut Vec<u8>, signals: Signals) -> Result<(), AllocError>
-    ensures { OnOk result (out.new.items ≡ out.old.items ++ text_of_lines (signals_line signals.l1 signals.l2 ∷ [])) }
+/// Appends the line of the system.
+pub fn push_system_line(out: &mut Vec<u8>, system: u8) -> Result<(), AllocError>
+    ensures { OnOk result (out.new.items ≡ out.old.items ++ text_of_lines (system_line system ∷ [])) }
 {
-    out.extend_from_slice(b"signals")?;
-    out.extend_from_slice(&[b' ', signals.l1, b' ', signals.l2, b'\n'])
+    out.extend_from_slice(b"system")?;
+    out.extend_from_slice(&[b' ', system, b'\n'])
 }
 
-/// Appends the line of an arc, whose shifts are as many as there are phases.
-pub fn push_arc_line(out: &mut Vec<u8>, arc: &Arc) -> Result<(), AllocError>
-    ensures text { OnOk result (out.new.items ≡ out.old.items ++ text_of_lines (arc_line arc.now ∷ [])) }
+/// Appends the line of the signals' letters.
+pub fn push_signals_line(out: &mut Vec<u8>, signals: Signals) -> Result<(), AllocError>
+    ensures { OnOk result (out.new.items ≡ out.old.items ++ text_of_lines (signals_line Two signals.l1 signals.l2 signals.l5 ∷ [])) }
+{
+    let Signals { l1, l2, l5 } = signals;
+    if l5 == 0 {
+        out.extend_from_slice(b"signals 12")?;
+        return out.extend_from_slice(&[b' ', l1, b' ', l2, b'\n']);
+    }
+    if l2 == 0 {
+        out.extend_from_slice(b"signals 15")?;
+        return out.extend_from_slice(&[b' ', l1, b' ', l5, b'\n']);
+    }
+    out.extend_from_slice(b"signals 125")?;
+    out.extend_from_slice(&[b' ', l1, b' ', l2, b' ', l5, b'\n'])
+}
+
+/// Appends the line of an arc, whose shifts are as many as there are bands, with the shift of each band that is used.
+pub fn push_arc_line(out: &mut Vec<u8>, signals: Signals, arc: &Arc) -> Result<(), AllocError>
+    ensures text { OnOk result (out.new.items ≡ out.old.items ++ text_of_lines (arc_line (fine_signals signals) arc.now ∷ [])) }
     ensures whole { OnOk result (IsWholeArc arc.now) }
 {
     out.extend_from_slice(b"arc")?;
@@ -46,7 +66,7 @@ pub fn push_arc_line(out: &mut Vec<u8>, arc: &Arc) -> Result<(), AllocError>
     push_number(out, arc.first)?;
     push_number(out, arc.last)?;
     out.extend_from_slice(kind_text(arc.datum))?;
-    push_numbers(out, &arc.shift)?;
+    push_selected(out, phase_bands(signals), &arc.shift)?;
     out.push(b'\n')?;
     Ok(())
 }
@@ -57,14 +77,15 @@ fn kind_text(datum: bool) -> &'static [u8]
     if datum { b" datum" } else { b" free" }
 }
 
-/// Appends the line of a row, whose arrays have their lengths.
-pub fn push_row_line(out: &mut Vec<u8>, row: &Row) -> Result<(), AllocError>
-    ensures text { OnOk result (out.new.items ≡ out.old.items ++ text_of_lines (row_line row.now ∷ [])) }
+/// Appends the line of a row, whose arrays have their lengths, with the observation of each signal of the bands that are
+/// used.
+pub fn push_row_line(out: &mut Vec<u8>, signals: Signals, row: &Row) -> Result<(), AllocError>
+    ensures text { OnOk result (out.new.items ≡ out.old.items ++ text_of_lines (row_line (fine_signals signals) row.now ∷ [])) }
     ensures whole { OnOk result (IsWholeRow row.now) }
 {
     out.extend_from_slice(b"row")?;
     push_number(out, row.arc)?;
-    push_numbers(out, &row.y)?;
+    push_selected(out, fine_signals(signals), &row.y)?;
     push_number(out, row.ry)?;
     push_numbers(out, &row.u)?;
     push_numbers(out, &row.ru)?;
@@ -72,19 +93,23 @@ pub fn push_row_line(out: &mut Vec<u8>, row: &Row) -> Result<(), AllocError>
     Ok(())
 }
 
-fn push_row_lines(out: &mut Vec<u8>, rows: &[Row]) -> Result<(), AllocError>
-    ensures text { OnOk result (out.new.items ≡ out.old.items ++ text_of_lines (row_lines rows.now)) }
+fn push_row_lines(out: &mut Vec<u8>, signals: Signals, rows: &[Row]) -> Result<(), AllocError>
+    ensures text { OnOk result (out.new.items ≡ out.old.items ++ text_of_lines (row_lines (fine_signals signals) rows.now)) }
     ensures whole { OnOk result (All IsWholeRow rows.now) }
 {
     for row in rows {
-        push_row_line(out, row)?;
+        push_row_line(out, signals, row)?;
     }
     Ok(())
 }
 
 /// Appends the lines of a pair: its own, and one for each row.
-pub fn push_pair_lines(out: &mut Vec<u8>, pair: &PairRows) -> Result<(), AllocError>
-    ensures text { OnOk result (out.new.items ≡ out.old.items ++ text_of_lines (pair_lines pair.now)) }
+pub fn push_pair_lines(
+    out: &mut Vec<u8>,
+    signals: Signals,
+    pair: &PairRows,
+) -> Result<(), AllocError>
+    ensures text { OnOk result (out.new.items ≡ out.old.items ++ text_of_lines (pair_lines (fine_signals signals) pair.now)) }
     ensures whole { OnOk result (IsWholePair pair.now) }
 {
     let rows = pair.rows.as_slice();
@@ -94,5 +119,5 @@ pub fn push_pair_lines(out: &mut Vec<u8>, pair: &PairRows) -> Result<(), AllocEr
     push_number(out, pair.group)?;
     push_number(out, rows.len())?;
     out.push(b'\n')?;
-    push_row_lines(out, rows)
+    push_row_lines(out, signals, rows)
 }

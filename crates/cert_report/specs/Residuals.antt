@@ -1,6 +1,6 @@
 -- What is printed of a certificate's residuals: of each row how far each of its observations lies from the mean of its
 -- pair, at the tail's first integers with its move, in micrometres.
-use Rattle.std.specs.Prelude.{◌≡◌, ℕ, ℤ, pos, ◌≤◌, ◌^◌, ◌*◌, ◌-ℤ◌, ◌*ℤ◌, Bool, true, false, List, [], ◌∷◌, ◌++◌, length, map, codes, All}
+use Rattle.std.specs.Prelude.{◌≡◌, ℕ, ℤ, pos, ◌≤◌, ◌^◌, ◌*◌, ◌/◌, ◌-ℤ◌, ◌*ℤ◌, unsigned_abs, Bool, true, false, List, [], ◌∷◌, ◌++◌, length, map, codes, All}
 use Rattle.std.specs.Fmt.{decimal}
 use Rattle.whole_math.specs.Rounding.{nearest_div}
 use Rattle.whole_math.specs.Vectors.{sum}
@@ -8,8 +8,9 @@ use Rattle.obs_rows.specs.declared.arcs.Arc.{Arc}
 use Rattle.obs_rows.specs.declared.rows.Row.{Row}
 use Rattle.obs_rows.specs.declared.pair_rows.PairRows.{PairRows}
 use Rattle.obs_rows.specs.declared.sessions.Session.{Session}
-use Rattle.obs_rows.specs.declared.units.TheConstants.{MOST_FREE_ARCS}
+use Rattle.obs_rows.specs.declared.units.TheConstants.{UNIT_FREQUENCY, LIGHT_SPEED, ROW_EXPONENT, MOST_FREE_ARCS}
 use Rattle.obs_rows.specs.Arcs.{free_count}
+use Rattle.obs_rows.specs.Signals.{fine_signals, AreCounted}
 use Rattle.obs_rows.specs.Ranges.{IsBelow, IsWithin}
 use Rattle.obs_rows.specs.Integers.{integer_count}
 use Rattle.cert_words.specs.Spelling.{behind_blanks}
@@ -19,39 +20,45 @@ use Rattle.cert_data.specs.declared.certs.Cert.{Cert}
 use Rattle.cert_data.specs.declared.tails.Tail.{Tail}
 use Rattle.cert_data.specs.declared.tails.Tail.TheVariants.{Fixed, Unseparated}
 
--- integers and a move at which residuals of these arcs' rows can be computed
-pub record CanShow (arcs : List Arc) (z m : List ℤ) : Type 0 where
+-- integers and a move at which residuals of these arcs' rows, over these signals, can be computed
+pub record CanShow (arcs : List Arc) (ss : List ℕ) (z m : List ℤ) : Type 0 where
   pub free : free_count arcs ≤ MOST_FREE_ARCS
-  pub entries : length z ≡ integer_count arcs 0
+  pub counted : AreCounted ss
+  pub entries : length z ≡ integer_count arcs ss
   pub z_size : All (IsBelow (2 ^ 30)) z
   pub m_size : All (IsWithin (2 ^ 46)) m
 
--- a length in the unit of the rows, n times, over n, in micrometres: a row's unit is 2^-18 of the distance that light
--- travels in a period of 94,525,200,000 Hz
+-- so many of a row's units of 2^-13 ι are ten times the speed of light in micrometres, since ι is that speed over the unit's
+-- frequency
+abbrev pub units : ℕ
+units = (unsigned_abs UNIT_FREQUENCY / 10 ^ 5) * 2 ^ ROW_EXPONENT
+
+-- a length in the unit of the rows, n times, over n, in micrometres
 abbrev pub micrometres : ℤ → ℕ → ℤ
-micrometres length_times n = nearest_div (length_times *ℤ pos 2_997_924_580) (n * 247_792_140_288)
+micrometres length_times n = nearest_div (length_times *ℤ pos (10 * unsigned_abs LIGHT_SPEED)) (n * units)
 
 -- of one row of a pair, as a signal sees it
-abbrev pub residual : List Arc → List ℤ → List ℤ → List Row → Row → ℕ → ℤ
-residual arcs z m rows r s = micrometres ((pos (length rows) *ℤ centre arcs z m s r) -ℤ sum (map (centre arcs z m s) rows)) (length rows)
+abbrev pub residual : List Arc → List ℕ → List ℤ → List ℤ → List Row → Row → ℕ → ℤ
+residual arcs ss z m rows r s = micrometres ((pos (length rows) *ℤ centre arcs ss z m s r) -ℤ sum (map (centre arcs ss z m s) rows)) (length rows)
 
-abbrev pub residuals : List Arc → List ℤ → List ℤ → List Row → Row → List ℤ
-residuals arcs z m rows r = residual arcs z m rows r 0 ∷ residual arcs z m rows r 1 ∷ residual arcs z m rows r 2 ∷ residual arcs z m rows r 3 ∷ []
+-- as each signal that counts sees it
+abbrev pub residuals : List Arc → List ℕ → List ℤ → List ℤ → List Row → Row → List ℤ
+residuals arcs ss z m rows r = map (residual arcs ss z m rows r) ss
 
 abbrev pub row_line : ℕ → ℕ → List ℤ → List ℕ
 row_line number arc rs = decimal number ++ (codes " " ++ (decimal arc ++ (behind_blanks rs ++ 10 ∷ [])))
 
 -- each row of a pair on a line of its own
-abbrev pub rows_text : List Arc → List ℤ → List ℤ → ℕ → List Row → List Row → List ℕ
-rows_text arcs z m number rows [] = []
-rows_text arcs z m number rows (r ∷ rest) = row_line number r.arc (residuals arcs z m rows r) ++ rows_text arcs z m number rows rest
+abbrev pub rows_text : List Arc → List ℕ → List ℤ → List ℤ → ℕ → List Row → List Row → List ℕ
+rows_text arcs ss z m number rows [] = []
+rows_text arcs ss z m number rows (r ∷ rest) = row_line number r.arc (residuals arcs ss z m rows r) ++ rows_text arcs ss z m number rows rest
 
-abbrev pub pairs_text : List Arc → List ℤ → List ℤ → List PairRows → List ℕ
-pairs_text arcs z m [] = []
-pairs_text arcs z m (p ∷ pairs) = rows_text arcs z m p.number p.rows p.rows ++ pairs_text arcs z m pairs
+abbrev pub pairs_text : List Arc → List ℕ → List ℤ → List ℤ → List PairRows → List ℕ
+pairs_text arcs ss z m [] = []
+pairs_text arcs ss z m (p ∷ pairs) = rows_text arcs ss z m p.number p.rows p.rows ++ pairs_text arcs ss z m pairs
 
 abbrev pub session_text : Session → List ℤ → List ℤ → List ℕ
-session_text s z m = pairs_text s.arcs z m s.pairs
+session_text s z m = pairs_text s.arcs (fine_signals s.signals) z m s.pairs
 
 -- whether a tail has vectors
 abbrev pub has_vectors : Tail → Bool

@@ -2,6 +2,7 @@
 ghost use Rattle.std.specs.Prelude.{◌≡◌, ◌≤◌, ◌<◌, ◌^◌, ◌*◌, ◌++◌, ◌+◌, pos, ◌+ℤ◌, ◌-ℤ◌, ◌*ℤ◌, map, length, All, unsigned_abs, codes, true, false, OnOk, IfOk};
 ghost use Rattle.whole_math.specs.Vectors.{sum};
 ghost use Rattle.obs_rows.specs.Ranges.{IsBelow};
+ghost use Rattle.obs_rows.specs.Signals.{fine_signals};
 ghost use Rattle.obs_rows.specs.Integers.{integer_count};
 ghost use Rattle.obs_rows.specs.Pairs.{HasItsArcs};
 ghost use Rattle.int_search.specs.Vectors.{IsSmall};
@@ -10,18 +11,21 @@ ghost use Rattle.fix_decide.specs.Decisions.{first_of};
 ghost use Rattle.cert_words.specs.Spelling.{behind_blanks};
 ghost use Rattle.cert_report.specs.Residuals.{CanShow, micrometres, residual, residuals, row_line, rows_text, session_text, has_vectors, residuals_text};
 
+use arrayvec::ArrayVec;
 use cert_data::{Cert, Tail, TwoBest};
 use cert_words::push_number;
 use fix_decide::centre_of;
-use obs_rows::{Arc, PairRows, Row, SIGNALS, Session};
+use obs_rows::{
+    Arc, LIGHT_SPEED, PairRows, ROW_EXPONENT, Row, SIGNALS, Session, UNIT_FREQUENCY, fine_signals,
+};
 use std::alloc::{AllocError, Global};
 use whole_math::nearest;
 
-/// A row's unit is 2^-18 of the distance that light travels in a period of 94,525,200,000 Hz: so many micrometres ..
-const MICROMETRES: i128 = 2_997_924_580;
+/// So many micrometres ..
+const MICROMETRES: i128 = (10 * LIGHT_SPEED) as i128;
 
-/// .. are so many units.
-const UNITS: i128 = 247_792_140_288;
+/// .. are so many units of a row.
+const UNITS: i128 = (UNIT_FREQUENCY / 100_000 * (1 << ROW_EXPONENT)) as i128;
 
 // A length in the unit of the rows, so many times, over that count, in micrometres.
 fn micrometres(times: i128, count: usize) -> i128
@@ -54,17 +58,24 @@ fn apart(count: usize, own: i64, all: i128) -> i128
 }
 
 // The sum over the rows of a pair, as a signal sees them.
-fn sum_of(arcs: &[Arc], z: &[i64], moved: &[i64; 3], rows: &[Row], signal: usize) -> i128
-    requires shown { CanShow arcs.now z.now moved.now }
+fn sum_of(
+    arcs: &[Arc],
+    signals: &[usize],
+    z: &[i64],
+    moved: &[i64; 3],
+    rows: &[Row],
+    signal: usize,
+) -> i128
+    requires shown { CanShow arcs.now signals.now z.now moved.now }
     requires arcs { All (λ r. r.arc < length arcs.now) rows.now }
     requires few { length rows.now ≤ 15 }
     requires signal { signal < SIGNALS }
-    ensures value { result ≡ sum (map (centre arcs.now z.now moved.now signal) rows.now) }
+    ensures value { result ≡ sum (map (centre arcs.now signals.now z.now moved.now signal) rows.now) }
     ensures size { unsigned_abs result ≤ 15 * 2 ^ 57 }
 {
     let mut sum: i128 = 0;
     for row in rows {
-        sum = plus(sum, centre_of(arcs, z, moved, row, signal));
+        sum = plus(sum, centre_of(arcs, signals, z, moved, row, signal));
     }
     sum
 }
@@ -72,22 +83,23 @@ fn sum_of(arcs: &[Arc], z: &[i64], moved: &[i64; 3], rows: &[Row], signal: usize
 // How far a row's observation lies from the mean of its pair.
 fn residual_of(
     arcs: &[Arc],
+    signals: &[usize],
     z: &[i64],
     moved: &[i64; 3],
     rows: &[Row],
     row: &Row,
     signal: usize,
 ) -> i128
-    requires shown { CanShow arcs.now z.now moved.now }
+    requires shown { CanShow arcs.now signals.now z.now moved.now }
     requires arcs { All (λ r. r.arc < length arcs.now) rows.now }
     requires arc { row.now.arc < length arcs.now }
     requires some { 1 ≤ length rows.now }
     requires few { length rows.now ≤ 15 }
     requires signal { signal < SIGNALS }
-    ensures { result ≡ residual arcs.now z.now moved.now rows.now row.now signal }
+    ensures { result ≡ residual arcs.now signals.now z.now moved.now rows.now row.now signal }
 {
-    let all = sum_of(arcs, z, moved, rows, signal);
-    let own = centre_of(arcs, z, moved, row, signal);
+    let all = sum_of(arcs, signals, z, moved, rows, signal);
+    let own = centre_of(arcs, signals, z, moved, row, signal);
     micrometres(apart(rows.len(), own, all), rows.len())
 }
 
@@ -107,7 +119,7 @@ fn write_row(
     out: &mut Vec<u8>,
     number: u32,
     arc: u16,
-    all: &[i128; SIGNALS],
+    all: &[i128],
 ) -> Result<(), AllocError>
     ensures { OnOk result (out.new.items ≡ out.old.items ++ row_line number arc all.now) }
 {
@@ -121,24 +133,24 @@ fn write_row(
 // The residuals of a row.
 fn residuals_of(
     arcs: &[Arc],
+    signals: &[usize],
     z: &[i64],
     moved: &[i64; 3],
     rows: &[Row],
     row: &Row,
-) -> [i128; SIGNALS]
-    requires shown { CanShow arcs.now z.now moved.now }
+) -> ArrayVec<i128, SIGNALS>
+    requires shown { CanShow arcs.now signals.now z.now moved.now }
     requires arcs { All (λ r. r.arc < length arcs.now) rows.now }
     requires arc { row.now.arc < length arcs.now }
     requires some { 1 ≤ length rows.now }
     requires few { length rows.now ≤ 15 }
-    ensures { result ≡ residuals arcs.now z.now moved.now rows.now row.now }
+    ensures { result.items ≡ residuals arcs.now signals.now z.now moved.now rows.now row.now }
 {
-    [
-        residual_of(arcs, z, moved, rows, row, 0),
-        residual_of(arcs, z, moved, rows, row, 1),
-        residual_of(arcs, z, moved, rows, row, 2),
-        residual_of(arcs, z, moved, rows, row, 3),
-    ]
+    let mut all = ArrayVec::new();
+    for signal in signals {
+        all.push(residual_of(arcs, signals, z, moved, rows, row, *signal));
+    }
+    all
 }
 
 // The rows of a pair.
@@ -146,18 +158,19 @@ fn write_rows(
     alloc: Global,
     out: &mut Vec<u8>,
     arcs: &[Arc],
+    signals: &[usize],
     z: &[i64],
     moved: &[i64; 3],
     pair: &PairRows,
 ) -> Result<(), AllocError>
-    requires shown { CanShow arcs.now z.now moved.now }
+    requires shown { CanShow arcs.now signals.now z.now moved.now }
     requires arcs { HasItsArcs arcs.now pair.now }
-    ensures { OnOk result (out.new.items ≡ out.old.items ++ rows_text arcs.now z.now moved.now pair.now.number pair.now.rows pair.now.rows) }
+    ensures { OnOk result (out.new.items ≡ out.old.items ++ rows_text arcs.now signals.now z.now moved.now pair.now.number pair.now.rows pair.now.rows) }
 {
     let rows = pair.rows.as_slice();
     for row in rows {
-        let all = residuals_of(arcs, z, moved, rows, row);
-        write_row(alloc, out, pair.number, row.arc, &all)?;
+        let all = residuals_of(arcs, signals, z, moved, rows, row);
+        write_row(alloc, out, pair.number, row.arc, all.as_slice())?;
     }
     Ok(())
 }
@@ -170,12 +183,13 @@ fn write_session(
     z: &[i64],
     moved: &[i64; 3],
 ) -> Result<(), AllocError>
-    requires { CanShow session.now.arcs z.now moved.now }
+    requires { CanShow session.now.arcs (fine_signals session.now.signals) z.now moved.now }
     ensures { OnOk result (out.new.items ≡ out.old.items ++ session_text session.now z.now moved.now) }
 {
     let arcs = session.arcs.as_slice();
+    let signals = fine_signals(session.signals);
     for pair in session.pairs.as_slice() {
-        write_rows(alloc, out, arcs, z, moved, pair)?;
+        write_rows(alloc, out, arcs, signals, z, moved, pair)?;
     }
     Ok(())
 }
@@ -188,7 +202,7 @@ fn write_shown(
     best: &TwoBest,
     moved: &[i64; 3],
 ) -> Result<bool, AllocError>
-    requires size { best.now.size ≡ integer_count session.now.arcs 0 }
+    requires size { best.now.size ≡ integer_count session.now.arcs (fine_signals session.now.signals) }
     requires small { IsSmall best.now.first }
     requires moved { All (IsBelow (2 ^ 46)) moved.now }
     ensures text { OnOk result (out.new.items ≡ out.old.items ++ session_text session.now (first_of best.now) moved.now) }

@@ -1,11 +1,8 @@
 -- Lines behind lines.
-use Rattle.std.proofs.Common.{◌≡◌, ◌+◌, ◌<◌, ℕ, ℤ, pos, FitsSigned, to_z, of_z, arith, List, [], ◌∷◌, ◌++◌, length, drop, get_or, codes, Result, Ok, Err, OnOk, refl, sym, ap, ◌∙◌, append_assoc}
-use Rattle.std.specs.Int.{w128}
-use Rattle.std.specs.Fmt.{signed_decimal}
-use Rattle.std.proofs.lemmas.Int.{ints}
-use Rattle.std.proofs.lemmas.List.{append-nil, drop_more}
+use Rattle.std.proofs.Common.{◌≡◌, ◌+◌, ◌<◌, ℕ, List, [], ◌∷◌, ◌++◌, length, drop, get_or, Result, Ok, Err, OnOk, refl, sym, ap, ◌∙◌, append_assoc}
+use Rattle.std.proofs.lemmas.List.{drop_more}
 use Rattle.obs_rows.specs.declared.pair_rows.PairRows.{PairRows}
-use Rattle.cert_lines.specs.Lines.{pair_lines, values_line}
+use Rattle.cert_lines.specs.Lines.{pair_lines}
 use Rattle.cert_spelling.specs.Spelling.{all_pair_lines}
 use Rattle.cert_words.specs.Spelling.{text_of_lines}
 
@@ -19,33 +16,20 @@ then_lines o a b xs ys first second =
     second ∙ ap (λ (l : List ℕ). l ++ text_of_lines ys) first ∙ append_assoc o (text_of_lines xs) (text_of_lines ys) ∙ ap (λ (l : List ℕ). o ++ l) (sym (text_append xs ys))
 
 -- the same, where the memory for the last may be wanting
-pub then_written : {E : Type 0} → (o a b : List ℕ) (xs ys : List (List ℕ)) (r : Result (Unit {0}) E) → a ≡ o ++ text_of_lines xs → OnOk r (b ≡ a ++ text_of_lines ys) → OnOk r (b ≡ o ++ text_of_lines (xs ++ ys))
+pub then_written : {E : Type 0} → (o a b : List ℕ) (xs ys : List (List ℕ)) (r : Result (Unit {0}) E) → a ≡ o ++ text_of_lines xs → OnOk r (b ≡ a ++ text_of_lines ys)
+    → OnOk r (b ≡ o ++ text_of_lines (xs ++ ys))
 then_written o a b xs ys (Ok u) first second = then_lines o a b xs ys first second
 then_written o a b xs ys (Err e) first second = tt
 
--- a number that fits its word is written as it is
-pub own_word : (x : ℤ) → FitsSigned w128 x → to_z w128 (of_z w128 x) ≡ x
-own_word x h = omega (arith, ints)
-
--- six parts that were appended in turn
-appended : (o v w x y z n : List ℕ) → (((((o ++ v) ++ w) ++ x) ++ y) ++ z) ++ n ≡ o ++ ((v ++ (w ++ (x ++ (y ++ z)))) ++ n)
-appended o v w x y z n = simp append_assoc
-
--- the values are written part by part
-pub values_appended : (o a b c d e g : List ℕ) (h : ℕ) (p1 p2 top : ℤ) → a ≡ o ++ codes "values" → b ≡ a ++ 32 ∷ signed_decimal (pos h) → c ≡ b ++ 32 ∷ signed_decimal p1 → d ≡ c ++ 32 ∷ signed_decimal p2 → e ≡ d ++ 32 ∷ signed_decimal top
-    → g ≡ e ++ 10 ∷ [] → g ≡ o ++ text_of_lines (values_line h p1 p2 top ∷ [])
-values_appended o a b c d e g h p1 p2 top ea eb ec ed ee eg =
-    let last : e ≡ d ++ 32 ∷ (signed_decimal top ++ []) = ee ∙ ap (λ (l : List ℕ). d ++ 32 ∷ l) (sym (append-nil (signed_decimal top))) in
-    rw (eg, last, ed, ec, eb, ea) (appended o (codes "values") (32 ∷ signed_decimal (pos h)) (32 ∷ signed_decimal p1) (32 ∷ signed_decimal p2) (32 ∷ (signed_decimal top ++ [])) (10 ∷ []))
-
 -- a pair and those behind it
-pub pair_pushed : (a b whole : List ℕ) (pairs : List PairRows) (i : ℕ) (p : PairRows) → i < length pairs → p ≡ get_or pairs i p → b ≡ a ++ text_of_lines (pair_lines p)
-    → a ++ text_of_lines (all_pair_lines (drop i pairs)) ≡ whole → b ++ text_of_lines (all_pair_lines (drop (i + 1) pairs)) ≡ whole
-pair_pushed a b whole pairs i p inside is pushed so_far =
+pub pair_pushed : (ss : List ℕ) (a b whole : List ℕ) (pairs : List PairRows) (i : ℕ) (p : PairRows) → i < length pairs → p ≡ get_or pairs i p → b ≡ a ++ text_of_lines (pair_lines ss p)
+    → a ++ text_of_lines (all_pair_lines ss (drop i pairs)) ≡ whole → b ++ text_of_lines (all_pair_lines ss (drop (i + 1) pairs)) ≡ whole
+pair_pushed ss a b whole pairs i p inside is pushed so_far =
     let split : drop i pairs ≡ p ∷ drop (i + 1) pairs = drop_more pairs i p inside ∙ ap (λ (q : PairRows). q ∷ drop (i + 1) pairs) (sym is) in
-    let rest = text_of_lines (all_pair_lines (drop (i + 1) pairs)) in
-    ap (λ (l : List ℕ). l ++ rest) pushed ∙ append_assoc a (text_of_lines (pair_lines p)) rest ∙ ap (λ (l : List ℕ). a ++ l) (sym (text_append (pair_lines p) (all_pair_lines (drop (i + 1) pairs))))
-    ∙ ap (λ (ps : List PairRows). a ++ text_of_lines (all_pair_lines ps)) (sym split) ∙ so_far
+    let rest = text_of_lines (all_pair_lines ss (drop (i + 1) pairs)) in
+    ap (λ (l : List ℕ). l ++ rest) pushed ∙ append_assoc a (text_of_lines (pair_lines ss p)) rest
+    ∙ ap (λ (l : List ℕ). a ++ l) (sym (text_append (pair_lines ss p) (all_pair_lines ss (drop (i + 1) pairs))))
+    ∙ ap (λ (ps : List PairRows). a ++ text_of_lines (all_pair_lines ss ps)) (sym split) ∙ so_far
 
 -- what holds anyway
 pub anyway : {T E P : Type 0} (r : Result T E) → P → OnOk r P

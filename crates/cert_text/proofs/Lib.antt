@@ -1,6 +1,5 @@
 pub mod LineLaws
 pub mod TailLaws
-pub mod ArcSteps
 pub mod PairSteps
 pub mod FeedLaws
 pub mod LineSpells
@@ -8,3 +7,4 @@ pub mod TailSpells
 pub mod Accepted
 pub mod SameStructs
 pub mod SameSpelling
+pub mod Versions

@@ -1,73 +1,92 @@
--- A line of a certificate that is read by itself.
-use Rattle.std.proofs.Common.{◌≡◌, ◌+◌, ◌-◌, ◌≤◌, ℕ, zero, suc, Bool, true, false, not, List, [], ◌∷◌, ◌++◌, codes, Result, Ok, Err, MatchResult, refl, sym, ap, ◌∙◌, arith}
-use Rattle.line_source.specs.Lines.{Reading, GivesLine}
+-- What is expected takes lines of its form.
+use Rattle.std.proofs.Common.{◌≡◌, ◌+◌, ◌-◌, ◌≤◌, ℕ, zero, suc, true, false, List, [], ◌∷◌, ◌++◌, codes, Ok, refl, sym, ap, arith}
 use Rattle.obs_rows.specs.declared.arcs.Arc.{Arc}
 use Rattle.obs_rows.specs.Arcs.{free_count}
-use Rattle.rinex_head.specs.declared.place.Flaw.{Flaw}
-use Rattle.rinex_head.specs.declared.place.At.{At}
-use Rattle.rinex_head.specs.declared.place.What.TheVariants.{BadLine}
-use Rattle.rinex_head.specs.Places.{place, and_then, at_line}
-use Rattle.rinex_head.specs.Walk.{rest_gives, HasNoLine, ReadsFree}
-use Rattle.rinex_head.proofs.Walks.{goes_on, stops, has_none}
-use Rattle.cert_lines.specs.Forms.{vector_in, arc_in, pair_in, row_in}
-use Rattle.cert_lines.specs.declared.ranges.TheConstants.{ENTRIES}
 use Rattle.obs_rows.specs.Integers.{integer_count}
-use Rattle.cert_text.specs.TailForms.{begins, declined_in}
-use Rattle.cert_text.specs.Rules.{Expected, Tail, Second, End, cert_rules, admit, before_arcs, before_pairs, before_rows}
-use Rattle.cert_text.specs.LineParts.{TakesLine}
+use Rattle.rinex_head.specs.Places.{and_then}
+use Rattle.cert_lines.specs.Forms.{count_in, vector_in, Letters as LettersOf, signals_in, signals_of, arc_in, pair_in, row_in}
+use Rattle.cert_lines.specs.TailForms.{begins, values_in, last_in}
+use Rattle.cert_lines.specs.declared.ranges.TheConstants.{COORDINATES, ENTRIES, MOVES}
+use Rattle.cert_lines.specs.declared.version.Version.{Version}
+use Rattle.cert_lines.specs.Versions.{form_line}
+use Rattle.grammar_lines.specs.LineParts.{word_in, TakesLine}
+use Rattle.grammar_lines.specs.Parts.{ArcsAreTaken, RowsAreTaken}
+use Rattle.cert_text.specs.TailForms.{declined_in}
+use Rattle.cert_text.specs.Rules.{Expected, Frame, frame, behind_budget, Form, Ratio, Budget, Base, Point, Letters, ArcCount, PairCount, Tail, Second, Move, Values, Last, End}
+use Rattle.cert_text.specs.Rules.{cert_rules, admit, before_arcs, before_pairs, before_rows}
 
--- it says x
-pub line_goes : {X : Type 0} (s : Expected) (form : List ℕ → Result X Flaw) (next : X → Expected) (x : X) (old new : Reading) (number : ℕ) (line : List ℕ) → TakesLine s form next → GivesLine old new number line → Ok x ≡ form line
-    → rest_gives cert_rules old s ≡ rest_gives cert_rules new (next x)
-line_goes s form next x old new number line takes gives answer = goes_on cert_rules s (next x) (form line) (λ y. Ok (next y)) x old new number line gives (takes.admits line) answer refl
+-- ---- where a line of the head is expected
 
--- it has a flaw
-pub line_stops : {X : Type 0} (s : Expected) (form : List ℕ → Result X Flaw) (next : X → Expected) (flaw : Flaw) (old new : Reading) (number : ℕ) (line : List ℕ) → TakesLine s form next → GivesLine old new number line → Err flaw ≡ form line
-    → rest_gives cert_rules old s ≡ Err (place number flaw.column flaw.what)
-line_stops s form next flaw old new number line takes gives answer = stops cert_rules s (form line) (λ y. Ok (next y)) flaw old new number line gives (takes.admits line) answer
+pub form_taken : (version : Version) (word : List ℕ) → word ≡ form_line version → TakesLine cert_rules (Form version) (word_in word) (λ u. Ratio version)
+form_taken version word is = record { admits = λ line. ap (λ (w : List ℕ). and_then (word_in w line) (λ u. Ok (Ratio version))) (sym is); ends = refl }
 
--- there is none, or it is too long
-pub line_wants : {X : Type 0} (s : Expected) (form : List ℕ → Result X Flaw) (next : X → Expected) (old new : Reading) (at : At) → TakesLine s form next → HasNoLine old new BadLine at → rest_gives cert_rules old s ≡ Err at
-line_wants s form next old new at takes none = has_none cert_rules s old new BadLine at takes.ends none
+pub ratio_taken : (version : Version) → TakesLine cert_rules (Ratio version) (count_in (codes "ratio") 1000 100_000) (λ n. Budget version)
+ratio_taken version = record { admits = λ line. refl; ends = refl }
+
+pub budget_taken : (version : Version) → TakesLine cert_rules (Budget version) (count_in (codes "budget") 1 100_000_000) (behind_budget version)
+budget_taken version = record { admits = λ line. refl; ends = refl }
+
+pub base_taken : (version : Version) (budget : ℕ) → TakesLine cert_rules (Base version budget) (vector_in (codes "base") 3 COORDINATES) (λ p. Point version budget)
+base_taken version budget = record { admits = λ line. refl; ends = refl }
+
+pub point_taken : (version : Version) (budget : ℕ) → TakesLine cert_rules (Point version budget) (vector_in (codes "point") 3 COORDINATES) (λ p. Letters version budget)
+point_taken version budget = record { admits = λ line. refl; ends = refl }
+
+-- the signals that count, by the letters
+abbrev pub behind_letters : Version → ℕ → LettersOf → Expected
+behind_letters version budget s = ArcCount (frame version budget (signals_of s))
+
+pub letters_taken : (version : Version) (budget : ℕ) → TakesLine cert_rules (Letters version budget) (signals_in version) (behind_letters version budget)
+letters_taken version budget = record { admits = λ line. refl; ends = refl }
 
 -- ---- where arcs, pairs and rows are expected
 
-pub arc_taken : (budget left free : ℕ) (arcs : List Arc) → free ≡ free_count arcs → 1 ≤ left → TakesLine (before_arcs budget left arcs) (arc_in free left) (λ a. before_arcs budget (left - 1) (arcs ++ a ∷ []))
-arc_taken budget zero free arcs is some = absurd (omega arith)
-arc_taken budget (suc left) free arcs is some = rw is (record { admits = λ line. refl; ends = refl })
+pub arc_taken : (f : Frame) (left free : ℕ) (arcs : List Arc) → free ≡ free_count arcs → 1 ≤ left
+    → TakesLine cert_rules (before_arcs f left arcs) (arc_in f.version f.ss free left) (λ a. before_arcs f (left - 1) (arcs ++ a ∷ []))
+arc_taken f zero free arcs is some = absurd (omega arith)
+arc_taken f (suc left) free arcs is some = rw is (record { admits = λ line. refl; ends = refl })
 
-pub pair_taken : (budget : ℕ) (arcs : List Arc) (left least : ℕ) → 1 ≤ left → TakesLine (before_pairs budget arcs left least) (pair_in least) (λ p. before_rows budget arcs (left - 1) p.number p.count 0)
-pair_taken budget arcs zero least some = absurd (omega arith)
-pair_taken budget arcs (suc left) least some = record { admits = λ line. refl; ends = refl }
+pub pair_taken : (f : Frame) (arcs : List Arc) (left least : ℕ) → 1 ≤ left
+    → TakesLine cert_rules (before_pairs f arcs left least) (pair_in f.version least) (λ p. before_rows f arcs (left - 1) p.number p.count 0)
+pair_taken f arcs zero least some = absurd (omega arith)
+pair_taken f arcs (suc left) least some = record { admits = λ line. refl; ends = refl }
 
-pub row_taken : (budget : ℕ) (arcs : List Arc) (pairs number left least : ℕ) → 1 ≤ left → TakesLine (before_rows budget arcs pairs number left least) (row_in arcs number least) (λ k. before_rows budget arcs pairs number (left - 1) (k + 1))
-row_taken budget arcs pairs number zero least some = absurd (omega arith)
-row_taken budget arcs pairs number (suc left) least some = record { admits = λ line. refl; ends = refl }
+pub row_taken : (f : Frame) (arcs : List Arc) (pairs number left least : ℕ) → 1 ≤ left
+    → TakesLine cert_rules (before_rows f arcs pairs number left least) (row_in f.ss arcs number least) (λ k. before_rows f arcs pairs number (left - 1) (k + 1))
+row_taken f arcs pairs number zero least some = absurd (omega arith)
+row_taken f arcs pairs number (suc left) least some = record { admits = λ line. refl; ends = refl }
 
--- ---- a line that is read elsewhere
+pub arcs_taken : (f : Frame) → ArcsAreTaken cert_rules f.version f.ss (before_arcs f)
+arcs_taken f = record { takes = λ left arcs some. arc_taken f left (free_count arcs) arcs refl some }
 
-pub line_read_by : {X : Type 0} (s : Expected) (part : Result X Flaw) (next : X → Expected) (view : X → X) (old new : Reading) (number : ℕ) (line : List ℕ) (r : Result X At) → GivesLine old new number line
-    → admit s line ≡ and_then part (λ x. Ok (next x)) → MatchResult r (λ z. part ≡ Ok (view z)) (λ at. at_line number part ≡ Err at) → ReadsFree cert_rules old new s (λ z. next (view z)) r
-line_read_by s part next view old new number line (Ok z) gives admits answer = goes_on cert_rules s (next (view z)) part (λ x. Ok (next x)) (view z) old new number line gives admits (sym answer) refl
-line_read_by {X} s part next view old new number line (Err at) gives admits answer = by_part part refl answer
-  where
-    by_part : (p : Result X Flaw) → part ≡ p → at_line number p ≡ Err at → rest_gives cert_rules old s ≡ Err at
-    by_part (Ok x) is e = absurd cc
-    by_part (Err flaw) is e = let same : place number flaw.column flaw.what ≡ at = cc in stops cert_rules s part (λ x. Ok (next x)) flaw old new number line gives admits (sym is) ∙ ap Err same
+pub rows_taken : (f : Frame) (arcs : List Arc) (pairs number : ℕ)
+    → RowsAreTaken cert_rules f.ss arcs number (λ left least. before_rows f arcs pairs number left least) (before_pairs f arcs pairs (number + 1))
+rows_taken f arcs pairs number = record { takes = λ left least some. row_taken f arcs pairs number left least some; ends = λ least. refl }
 
--- a test that failed
-pub differs : (t u : Bool) → u ≡ not t → u ≡ true → t ≡ false
-differs true u is holds = absurd (cc (is, holds))
-differs false u is holds = refl
+-- ---- where the number of pairs is expected
 
-pub agrees : (t u : Bool) → u ≡ not t → u ≡ false → t ≡ true
-agrees true u is fails = refl
-agrees false u is fails = absurd (cc (is, fails))
+pub pair_count_taken : (f : Frame) (arcs : List Arc) → TakesLine cert_rules (PairCount f arcs) (count_in (codes "pairs") 1 3600) (λ n. before_pairs f arcs n 0)
+pair_count_taken f arcs = record { admits = λ line. refl; ends = refl }
+
+-- ---- where a line of a tail behind its first is expected
+
+pub second_taken : (n : ℕ) → TakesLine cert_rules (Second n) (vector_in (codes "z2") n ENTRIES) (λ z. Move)
+second_taken n = record { admits = λ line. refl; ends = refl }
+
+pub move_taken : TakesLine cert_rules Move (vector_in (codes "move") 3 MOVES) (λ m. Values)
+move_taken = record { admits = λ line. refl; ends = refl }
+
+pub values_taken : TakesLine cert_rules Values values_in (λ v. Last)
+values_taken = record { admits = λ line. refl; ends = refl }
+
+pub last_taken : TakesLine cert_rules Last last_in (λ f. End)
+last_taken = record { admits = λ line. refl; ends = refl }
 
 -- ---- the first line of a tail
 
-pub admits_vectors : (budget n : ℕ) (arcs : List Arc) (line : List ℕ) → n ≡ integer_count arcs 0 → begins (codes "z1") line ≡ true → admit (Tail budget arcs) line ≡ and_then (vector_in (codes "z1") n ENTRIES line) (λ z. Ok (Second n))
-admits_vectors budget n arcs line is starts = rw (starts, is) refl
+pub admits_vectors : (f : Frame) (n : ℕ) (arcs : List Arc) (line : List ℕ) → n ≡ integer_count arcs f.ss → begins (codes "z1") line ≡ true
+    → admit (Tail f arcs) line ≡ and_then (vector_in (codes "z1") n ENTRIES line) (λ z. Ok (Second n))
+admits_vectors f n arcs line is starts = rw (starts, is) refl
 
-pub admits_declined : (budget : ℕ) (arcs : List Arc) (line : List ℕ) → begins (codes "z1") line ≡ false → admit (Tail budget arcs) line ≡ and_then (declined_in budget line) (λ t. Ok End)
-admits_declined budget arcs line starts = rw starts refl
+pub admits_declined : (f : Frame) (arcs : List Arc) (line : List ℕ) → begins (codes "z1") line ≡ false → admit (Tail f arcs) line ≡ and_then (declined_in f.version f.budget line) (λ t. Ok End)
+admits_declined f arcs line starts = rw starts refl

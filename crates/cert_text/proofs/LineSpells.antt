@@ -1,9 +1,9 @@
 -- What each line of a certificate gives where it is spelled, and that it isn't too long.
-use Rattle.std.proofs.Common.{◌≡◌, ◌+◌, ◌-◌, ◌*◌, ◌^◌, ◌<◌, ◌≤◌, ℕ, ℤ, suc, pos, negsuc, neg_ℤ, nat_le, slice_get, Bool, true, false, List, [], ◌∷◌, ◌++◌, length, take, drop, codes, All, Ok, Some, None, Option, refl, sym, ap, ◌∙◌, subst, arith, length-append}
+use Rattle.std.proofs.Common.{◌≡◌, ◌+◌, ◌-◌, ◌*◌, ◌^◌, ◌<◌, ◌≤◌, ℕ, ℤ, suc, pos, negsuc, neg_ℤ, nat_le, slice_get, Bool, true, false, List, [], ◌∷◌, ◌++◌, length, take, drop, get_or, unsigned_abs, codes, All, Result, Ok, Some, None, Option, refl, sym, ap, ◌∙◌, subst, arith, length-append}
 use Rattle.std.specs.Fmt.{signed_decimal}
 use Rattle.std.proofs.lemmas.Fmt.{length-decimal-le_wide}
 use Rattle.std.proofs.lemmas.Int.{ints}
-use Rattle.std.proofs.lemmas.List.{append-nil, drop-drop, get_or-drop}
+use Rattle.std.proofs.lemmas.List.{append-nil, drop-drop, get_or-drop, length-map}
 use Rattle.std.proofs.lemmas.Option.{slice_get-get_or}
 use Rattle.std.proofs.lemmas.Bool.Decides.{nat_tests}
 use Rattle.std.proofs.lemmas.List.Elements.{All-head, All-tail}
@@ -19,11 +19,20 @@ use Rattle.cert_words.specs.Spelling.{behind_blanks}
 use Rattle.cert_words.specs.Numbers.{Part, part, some_then, behind_text, at_end, more_numbers, number_in, number_at, numbers_behind, natural_within, within_range, all_within, IsBetween, IsIn}
 use Rattle.cert_words.proofs.NumberLaws.{AreSmall, IsWordEnd, placed, past, line_written, text_written, more_written, capped_small, values_placed}
 use Rattle.cert_words.proofs.RangeLaws.{AreIn, natural_holds, within_holds, placed_within}
-use Rattle.cert_lines.specs.declared.ranges.TheConstants.{SHIFTS, GROUPS, OBSERVATIONS, DIRECTIONS, RADII}
+use Rattle.cert_lines.specs.declared.ranges.TheConstants.{SHIFTS, OBSERVATIONS, DIRECTIONS, RADII}
 use Rattle.cert_lines.specs.Lines.{count_line, vector_line, kind_text, arc_line, pair_line, row_line, row_numbers}
-use Rattle.cert_lines.specs.Forms.{count_in, vector_in, kind_in, with_shifts, words_of_arc, arc_words, arc_of, arc_numbers, may_stand, arc_in, pair_head, pair_in, arc_at, row_in}
+use Rattle.cert_lines.specs.Forms.{count_in, vector_in, kind_in, with_shifts, words_of_arc, arc_words, arc_of, arc_numbers, may_stand, arc_in, pair_head, pair_in, arc_at, behind_y, row_in}
+use Rattle.cert_lines.specs.declared.version.Version.{Version}
+use Rattle.cert_lines.specs.declared.version.Version.TheVariants.{One, Two}
+use Rattle.cert_lines.specs.Versions.{most_sat, group_limit, groups}
+use Rattle.cert_lines.specs.Places.{select, spread, put_within}
+use Rattle.cert_lines.proofs.Spreading.{bands_good}
+use Rattle.obs_rows.specs.declared.units.TheConstants.{SIGNALS, PHASES}
+use Rattle.obs_rows.specs.Signals.{used_signals, phase_bands}
+use Rattle.obs_rows.specs.Unused.{HasUsedShifts}
+use Rattle.rinex_head.specs.declared.place.Flaw.{Flaw}
 use Rattle.cert_lines.specs.Lengths.{IsWholeArc, IsWholeRow}
-use Rattle.cert_text.proofs.FeedLaws.{below_small, each_small, row_small}
+use Rattle.cert_text.proofs.FeedLaws.{below_small, row_small, shifts_small, select_in}
 
 -- ---- lengths
 
@@ -43,7 +52,7 @@ numbers_length (z ∷ zs) small =
     let both = length-append (signed_decimal z) (behind_blanks zs) in
     omega (arith, one, rest, both)
 
-pub line_length : (word : List ℕ) (zs : List ℤ) → length word ≤ 100 → length zs ≤ 40 → AreSmall zs → length (word ++ behind_blanks zs) ≤ 4096
+pub line_length : (word : List ℕ) (zs : List ℤ) → length word ≤ 100 → length zs ≤ 60 → AreSmall zs → length (word ++ behind_blanks zs) ≤ 4096
 line_length word zs short few small =
     let numbers = numbers_length zs small in
     let both = length-append word (behind_blanks zs) in
@@ -59,7 +68,8 @@ count_spells word low high n from to small =
 
 pub vector_spells : (word : List ℕ) (n : ℕ) (range : Range) (zs : List ℤ) → length zs ≡ n → AreSmall zs → AreIn range zs → vector_in word n range (vector_line word zs) ≡ Ok zs
 vector_spells word n range zs many small inside =
-    let written : numbers_behind word n (word ++ behind_blanks zs) ≡ Ok (placed (1 + length word) zs) = subst (λ (k : ℕ). numbers_behind word k (word ++ behind_blanks zs) ≡ Ok (placed (1 + length word) zs)) many (line_written word zs small) in
+    let written : numbers_behind word n (word ++ behind_blanks zs) ≡ Ok (placed (1 + length word) zs) = subst
+    (λ (k : ℕ). numbers_behind word k (word ++ behind_blanks zs) ≡ Ok (placed (1 + length word) zs)) many (line_written word zs small) in
     rw written (placed_within range (placed (1 + length word) zs) zs (values_placed (1 + length word) zs small) inside)
 
 -- what holds of each is a range of each
@@ -96,25 +106,42 @@ range_at range n z is inside = within_holds range.low range.high n (rw is inside
 
 -- ---- a pair's line
 
-pair_numbers : (least number tag count : ℕ) (group : ℤ) (ns : List Number) → HaveValues ns (pos number ∷ pos tag ∷ group ∷ pos count ∷ []) → least ≤ number → number ≤ 3599 → tag ≤ 9_223_372_036_854_775_807 → IsIn GROUPS group → 1 ≤ count → count ≤ 15
+pair_numbers : (version : Version) (least number tag count : ℕ) (group : ℤ) (ns : List Number) → HaveValues ns (pos number ∷ pos tag ∷ group ∷ pos count ∷ []) → least ≤ number
+    → number ≤ 3599 → tag ≤ 9_223_372_036_854_775_807 → IsIn (groups version) group → 1 ≤ count → count ≤ 15
     → and_then (natural_within least 3599 (number_at ns 0)) (λ number.
     and_then (natural_within 0 9_223_372_036_854_775_807 (number_at ns 1)) (λ tag.
-    and_then (within_range GROUPS (number_at ns 2)) (λ group.
+    and_then (within_range (groups version) (number_at ns 2)) (λ group.
     and_then (natural_within 1 15 (number_at ns 3)) (λ count. Ok (pair_head number tag group count))))) ≡ Ok (pair_head number tag group count)
-pair_numbers least number tag count group [] have from to tag_to inside count_from count_to = absurd have
-pair_numbers least number tag count group (a ∷ []) have from to tag_to inside count_from count_to = absurd have.1
-pair_numbers least number tag count group (a ∷ b ∷ []) have from to tag_to inside count_from count_to = absurd have.1.1
-pair_numbers least number tag count group (a ∷ b ∷ c ∷ []) have from to tag_to inside count_from count_to = absurd have.1.1.1
-pair_numbers least number tag count group (a ∷ b ∷ c ∷ d ∷ []) have from to tag_to inside count_from count_to =
-    rw (natural_at least 3599 number a have.0 from to, natural_at 0 9_223_372_036_854_775_807 tag b have.1.0 (omega arith) tag_to, range_at GROUPS c group have.1.1.0 inside, natural_at 1 15 count d have.1.1.1.0 count_from count_to) refl
-pair_numbers least number tag count group (a ∷ b ∷ c ∷ d ∷ e ∷ ns) have from to tag_to inside count_from count_to = absurd have.1.1.1.1
+pair_numbers version least number tag count group [] have from to tag_to inside count_from count_to = absurd have
+pair_numbers version least number tag count group (a ∷ []) have from to tag_to inside count_from count_to = absurd have.1
+pair_numbers version least number tag count group (a ∷ b ∷ []) have from to tag_to inside count_from count_to = absurd have.1.1
+pair_numbers version least number tag count group (a ∷ b ∷ c ∷ []) have from to tag_to inside count_from count_to = absurd have.1.1.1
+pair_numbers version least number tag count group (a ∷ b ∷ c ∷ d ∷ []) have from to tag_to inside count_from count_to =
+    rw (
+      natural_at least 3599 number a have.0 from to,
+      natural_at 0 9_223_372_036_854_775_807 tag b have.1.0 (omega arith) tag_to,
+      range_at
+          (groups version) c group have.1.1.0 inside,
+      natural_at 1 15 count d have.1.1.1.0 count_from count_to,
+    ) refl
+pair_numbers version least number tag count group (a ∷ b ∷ c ∷ d ∷ e ∷ ns) have from to tag_to inside count_from count_to = absurd have.1.1.1.1
 
-pub pair_spells : (least number tag count : ℕ) (group : ℤ) → least ≤ number → number < 3600 → tag < 2 ^ 63 → IsBelow (2 ^ 50) group → 1 ≤ count → count ≤ 15 → pair_in least (pair_line number tag group count) ≡ Ok (pair_head number tag group count)
-pair_spells least number tag count group from to tag_to group_in count_from count_to =
+group_is : (version : Version) (z : ℤ) → unsigned_abs z < group_limit version → IsIn (groups version) z
+group_is One z h = below_is (2 ^ 50) 1_125_899_906_842_623 z refl h
+group_is Two z h = below_is (2 ^ 55) 36_028_797_018_963_967 z refl h
+
+group_small : (version : Version) (z : ℤ) → unsigned_abs z < group_limit version → size_of z < 2 ^ 126
+group_small One z h = below_small (2 ^ 50) z (omega arith) h
+group_small Two z h = below_small (2 ^ 55) z (omega arith) h
+
+pub pair_spells : (version : Version) (least number tag count : ℕ) (group : ℤ) → least ≤ number → number < 3600 → tag < 2 ^ 63 → unsigned_abs group < group_limit version → 1 ≤ count
+    → count ≤ 15 → pair_in version least (pair_line number tag group count) ≡ Ok (pair_head number tag group count)
+pair_spells version least number tag count group from to tag_to group_in count_from count_to =
     let zs : List ℤ = pos number ∷ pos tag ∷ group ∷ pos count ∷ [] in
-    let small : AreSmall zs = (omega (arith, to), (omega (arith, tag_to), (below_small (2 ^ 50) group (omega arith) group_in, (omega (arith, count_to), tt)))) in
-    let inside : IsIn GROUPS group = below_is (2 ^ 50) 1_125_899_906_842_623 group refl group_in in
-    rw (line_written (codes "pair") zs small) (pair_numbers least number tag count group (placed (1 + 4) zs) (placed_values (1 + 4) zs small) from (omega (arith, to)) (omega (arith, tag_to)) inside count_from count_to)
+    let small : AreSmall zs = (omega (arith, to), (omega (arith, tag_to), (group_small version group group_in, (omega (arith, count_to), tt)))) in
+    let inside : IsIn (groups version) group = group_is version group group_in in
+    rw (line_written (codes "pair") zs small) (pair_numbers version least number tag count group (placed (1 + 4) zs) (placed_values (1 + 4) zs small) from (omega (arith, to))
+    (omega (arith, tag_to)) inside count_from count_to)
 
 -- ---- a row's line
 
@@ -141,33 +168,37 @@ tail_at [] z zs have = absurd have
 tail_at (n ∷ ns) z zs have = have.1
 
 -- the parts of a row's numbers
-record RowParts (ns : List Number) (arc : ℕ) (y : List ℤ) (ry : ℤ) (u ru : List ℤ) : Type 0 where
+record RowParts (ns : List Number) (n arc : ℕ) (y : List ℤ) (ry : ℤ) (u ru : List ℤ) : Type 0 where
   pub arc_is : (number_at ns 0).value ≡ pos arc
-  pub y_is : HaveValues (take 4 (drop 1 ns)) y
-  pub ry_is : (number_at ns 5).value ≡ ry
-  pub u_is : HaveValues (take 3 (drop 6 ns)) u
-  pub ru_is : HaveValues (take 3 (drop 9 ns)) ru
+  pub y_is : HaveValues (take n (drop 1 ns)) y
+  pub ry_is : (number_at ns (1 + n)).value ≡ ry
+  pub u_is : HaveValues (take 3 (drop (1 + n + 1) ns)) u
+  pub ru_is : HaveValues (take 3 (drop (1 + n + 4) ns)) ru
 
-row_parts : (ns : List Number) (arc : ℕ) (y : List ℤ) (ry : ℤ) (u ru : List ℤ) → length y ≡ 4 → length u ≡ 3 → length ru ≡ 3 → HaveValues ns (pos arc ∷ (y ++ (ry ∷ (u ++ ru)))) → RowParts ns arc y ry u ru
-row_parts ns arc y ry u ru four three three_too have =
+row_parts : (ns : List Number) (n arc : ℕ) (y : List ℤ) (ry : ℤ) (u ru : List ℤ) → length y ≡ n → length u ≡ 3 → length ru ≡ 3 → HaveValues ns (pos arc ∷ (y ++ (ry ∷ (u ++ ru))))
+    → RowParts ns n arc y ry u ru
+row_parts ns n arc y ry u ru many three three_too have =
     let first = tail_at ns (pos arc) (y ++ (ry ∷ (u ++ ru))) have in
     let ys = split_values (drop 1 ns) y (ry ∷ (u ++ ru)) first in
-    let y_is = subst (λ (k : ℕ). HaveValues (take k (drop 1 ns)) y) four ys.0 in
-    let behind_y = subst (λ (l : List Number). HaveValues l (ry ∷ (u ++ ru))) (drop-drop 4 1 ns) (subst (λ (k : ℕ). HaveValues (drop k (drop 1 ns)) (ry ∷ (u ++ ru))) four ys.1) in
-    let ry_is : (number_at (drop 5 ns) 0).value ≡ ry = head_at (drop 5 ns) ry (u ++ ru) behind_y in
+    let y_is = subst (λ (k : ℕ). HaveValues (take k (drop 1 ns)) y) many ys.0 in
+    let behind_y = subst (λ (l : List Number). HaveValues l (ry ∷ (u ++ ru))) (drop-drop n 1 ns) (subst (λ (k : ℕ). HaveValues (drop k (drop 1 ns)) (ry ∷ (u ++ ru))) many ys.1) in
+    let ry_is : (number_at (drop (1 + n) ns) 0).value ≡ ry = head_at (drop (1 + n) ns) ry (u ++ ru) behind_y in
     let none : Number = record { column = 0; value = pos 0 } in
-    let fifth : number_at (drop 5 ns) 0 ≡ number_at ns 5 = get_or-drop 5 ns 0 none in
-    let behind_ry = subst (λ (l : List Number). HaveValues l (u ++ ru)) (drop-drop 1 5 ns) (tail_at (drop 5 ns) ry (u ++ ru) behind_y) in
-    let us = split_values (drop 6 ns) u ru behind_ry in
-    let u_is = subst (λ (k : ℕ). HaveValues (take k (drop 6 ns)) u) three us.0 in
-    let behind_u = subst (λ (l : List Number). HaveValues l ru) (drop-drop 3 6 ns) (subst (λ (k : ℕ). HaveValues (drop k (drop 6 ns)) ru) three us.1) in
-    let rus = split_values (drop 9 ns) ru [] (subst (λ (l : List ℤ). HaveValues (drop 9 ns) l) (sym (append-nil ru)) behind_u) in
+    let same : 1 + n + 0 ≡ 1 + n = omega arith in
+    let there : number_at (drop (1 + n) ns) 0 ≡ number_at ns (1 + n) = get_or-drop (1 + n) ns 0 none ∙ ap (λ (k : ℕ). number_at ns k) same in
+    let behind_ry = subst (λ (l : List Number). HaveValues l (u ++ ru)) (drop-drop 1 (1 + n) ns) (tail_at (drop (1 + n) ns) ry (u ++ ru) behind_y) in
+    let us = split_values (drop (1 + n + 1) ns) u ru behind_ry in
+    let u_is = subst (λ (k : ℕ). HaveValues (take k (drop (1 + n + 1) ns)) u) three us.0 in
+    let four_on : 1 + n + 1 + 3 ≡ 1 + n + 4 = omega arith in
+    let behind_u = subst (λ (k : ℕ). HaveValues (drop k ns) ru) four_on
+    (subst (λ (l : List Number). HaveValues l ru) (drop-drop 3 (1 + n + 1) ns) (subst (λ (k : ℕ). HaveValues (drop k (drop (1 + n + 1) ns)) ru) three us.1)) in
+    let rus = split_values (drop (1 + n + 4) ns) ru [] (subst (λ (l : List ℤ). HaveValues (drop (1 + n + 4) ns) l) (sym (append-nil ru)) behind_u) in
     record {
       arc_is = head_at ns (pos arc) (y ++ (ry ∷ (u ++ ru))) have;
       y_is = y_is;
-      ry_is = ap (λ (n : Number). n.value) (sym fifth) ∙ ry_is;
+      ry_is = ap (λ (n : Number). n.value) (sym there) ∙ ry_is;
       u_is = u_is;
-      ru_is = subst (λ (k : ℕ). HaveValues (take k (drop 9 ns)) ru) three_too rus.0;
+      ru_is = subst (λ (k : ℕ). HaveValues (take k (drop (1 + n + 4) ns)) ru) three_too rus.0;
     }
 
 -- the arc of a row is found
@@ -187,18 +218,30 @@ arc_at_spelled arcs number least r n is of_pair from = by_get (slice_get arcs r.
         let to_last : nat_le number a.last ≡ true = grind (arith, nat_tests, of_pair.to_last a e) in
         rw (found, e, from_first, to_last) refl
 
-pub row_spells : (arcs : List Arc) (number least : ℕ) (r : Row) → length arcs ≤ 200 → IsOfPair arcs number r → IsWholeRow r → least ≤ r.arc → row_in arcs number least (row_line r) ≡ Ok r.arc
-row_spells arcs number least r few of_pair whole from =
-    let zs = row_numbers r in
-    let small = row_small arcs number r few of_pair in
-    let twelve : length zs ≡ 12 = omega (arith, length-append r.y (r.ry ∷ (r.u ++ r.ru)), length-append r.u r.ru, whole.y, whole.u, whole.ru) in
+-- so many numbers stand in a row's line
+pub row_count : (ss : List ℕ) (r : Row) → IsWholeRow r → length (row_numbers ss r) ≡ behind_y ss + 7
+row_count ss r whole =
+    let y = select ss r.y in
+    let many : length y ≡ length ss = length-map ss (λ p. get_or r.y p (pos 0)) in
+    omega (arith, length-append y (r.ry ∷ (r.u ++ r.ru)), length-append r.u r.ru, many, whole.u, whole.ru)
+
+pub row_spells : (ss : List ℕ) (arcs : List Arc) (number least : ℕ) (r : Row) → length arcs ≤ 200 → IsOfPair arcs number r → IsWholeRow r → least ≤ r.arc
+    → row_in ss arcs number least (row_line ss r) ≡ Ok r.arc
+row_spells ss arcs number least r few of_pair whole from =
+    let zs = row_numbers ss r in
+    let own = select ss r.y in
+    let small = row_small ss arcs number r few of_pair in
+    let count = row_count ss r whole in
+    let many : length own ≡ length ss = length-map ss (λ p. get_or r.y p (pos 0)) in
     let ns = placed (1 + 3) zs in
-    let written : numbers_behind (codes "row") 12 (row_line r) ≡ Ok ns = subst (λ (k : ℕ). numbers_behind (codes "row") k (row_line r) ≡ Ok ns) twelve (line_written (codes "row") zs small) in
-    let parts = row_parts ns r.arc r.y r.ry r.u r.ru whole.y whole.u whole.ru (placed_values (1 + 3) zs small) in
-    let y = values_at OBSERVATIONS (take 4 (drop 1 ns)) r.y parts.y_is (are_in (IsWithin (2 ^ 34)) OBSERVATIONS r.y (λ z h. within_is (2 ^ 34) z h) r.y_in) in
-    let ry = range_at RADII (number_at ns 5) r.ry parts.ry_is r.ry_in in
-    let u = values_at DIRECTIONS (take 3 (drop 6 ns)) r.u parts.u_is (are_in (IsWithin (2 ^ 24)) DIRECTIONS r.u (λ z h. within_is (2 ^ 24) z h) r.u_in) in
-    let ru = values_at RADII (take 3 (drop 9 ns)) r.ru parts.ru_is (are_in IsRadius RADII r.ru (λ z h. h) r.ru_in) in
+    let written : numbers_behind (codes "row") (behind_y ss + 7) (row_line ss r) ≡ Ok ns = subst (λ (k : ℕ). numbers_behind (codes "row") k (row_line ss r) ≡ Ok ns) count
+    (line_written (codes "row") zs small) in
+    let parts = row_parts ns (length ss) r.arc own r.ry r.u r.ru many whole.u whole.ru (placed_values (1 + 3) zs small) in
+    let y = ap (λ (v : Result (List ℤ) Flaw). and_then v (λ vs. Ok (spread SIGNALS ss vs)))
+    (values_at OBSERVATIONS (take (length ss) (drop 1 ns)) own parts.y_is (select_in (IsWithin (2 ^ 34)) OBSERVATIONS ss r.y (omega arith) (λ z h. within_is (2 ^ 34) z h) r.y_in)) in
+    let ry = range_at RADII (number_at ns (behind_y ss)) r.ry parts.ry_is r.ry_in in
+    let u = values_at DIRECTIONS (take 3 (drop (behind_y ss + 1) ns)) r.u parts.u_is (are_in (IsWithin (2 ^ 24)) DIRECTIONS r.u (λ z h. within_is (2 ^ 24) z h) r.u_in) in
+    let ru = values_at RADII (take 3 (drop (behind_y ss + 4) ns)) r.ru parts.ru_is (are_in IsRadius RADII r.ru (λ z h. h) r.ru_in) in
     rw (written, arc_at_spelled arcs number least r (number_at ns 0) parts.arc_is of_pair from, y, ry, u, ru) refl
 
 -- ---- an arc's line
@@ -213,9 +256,9 @@ kind_written : (datum : Bool) (ns : List Number) (column : ℕ) (rest : List ℕ
 kind_written true ns column rest = refl
 kind_written false ns column rest = refl
 
-words_written : (datum : Bool) (three shifts : List ℤ) → length three ≡ 3 → length shifts ≡ 2 → AreSmall three → AreSmall shifts
-    → (ns : List Number) × ((arc_words (codes "arc" ++ (behind_blanks three ++ (kind_text datum ++ behind_blanks shifts))) ≡ Ok (words_of_arc datum ns)) × HaveValues ns (three ++ shifts))
-words_written datum three shifts is_three is_two small small_too =
+words_written : (n : ℕ) (datum : Bool) (three shifts : List ℤ) → length three ≡ 3 → length shifts ≡ n → AreSmall three → AreSmall shifts
+    → (ns : List Number) × ((arc_words n (codes "arc" ++ (behind_blanks three ++ (kind_text datum ++ behind_blanks shifts))) ≡ Ok (words_of_arc datum ns)) × HaveValues ns (three ++ shifts))
+words_written n datum three shifts is_three is_two small small_too =
     let behind = kind_text datum ++ behind_blanks shifts in
     let column = past 4 three in
     let later = column + length (kind_text datum) in
@@ -226,34 +269,55 @@ words_written datum three shifts is_three is_two small small_too =
     let first = subst (λ (k : ℕ). more_numbers k (part [] 4 (behind_blanks three ++ behind)) ≡ Some (part front column behind)) is_three (more_written three [] 4 behind small end) in
     let kind = kind_written datum front column (behind_blanks shifts) in
     let whole : behind_blanks shifts ≡ behind_blanks shifts ++ [] = sym (append-nil (behind_blanks shifts)) in
-    let second = subst (λ (l : List ℕ). more_numbers 2 (part front later l) ≡ Some (part (front ++ back) (past later shifts) [])) (sym whole)
+    let second = subst (λ (l : List ℕ). more_numbers n (part front later l) ≡ Some (part (front ++ back) (past later shifts) [])) (sym whole)
     (subst (λ (k : ℕ). more_numbers k (part front later (behind_blanks shifts ++ [])) ≡ Some (part (front ++ back) (past later shifts) [])) is_two (more_written shifts front later [] small_too tt)) in
-    let one : some_then (behind_text (codes "arc") (part [] 1 (codes "arc" ++ (behind_blanks three ++ behind)))) (λ p. more_numbers 3 p) ≡ Some (part front column behind) = ap (λ (o : Option Part). some_then o (λ p. more_numbers 3 p)) text ∙ first in
-    let two : some_then (some_then (behind_text (codes "arc") (part [] 1 (codes "arc" ++ (behind_blanks three ++ behind)))) (λ p. more_numbers 3 p)) (λ p. kind_in p) ≡ Some (datum, part front later (behind_blanks shifts)) =
+    let one : some_then (behind_text (codes "arc") (part [] 1 (codes "arc" ++ (behind_blanks three ++ behind)))) (λ p. more_numbers 3 p) ≡ Some (part front column behind) = ap
+    (λ (o : Option Part). some_then o (λ p. more_numbers 3 p)) text ∙ first in
+    let two : some_then (some_then (behind_text (codes "arc") (part [] 1 (codes "arc" ++ (behind_blanks three ++ behind)))) (λ p. more_numbers 3 p)) (λ p. kind_in p) ≡ Some
+    (datum, part front later (behind_blanks shifts)) =
     ap (λ (o : Option Part). some_then o (λ p. kind_in p)) one ∙ kind in
-    let words : arc_words (codes "arc" ++ (behind_blanks three ++ behind)) ≡ Ok (words_of_arc datum (front ++ back)) =
-    ap with_shifts two ∙ ap (λ (o : Option Part). and_then (at_end o) (λ (ns : List Number). Ok (words_of_arc datum ns))) second in
+    let words : arc_words n (codes "arc" ++ (behind_blanks three ++ behind)) ≡ Ok (words_of_arc datum (front ++ back)) =
+    ap (λ (o : Option (Bool × Part)). with_shifts n o) two ∙ ap (λ (o : Option Part). and_then (at_end o) (λ (ns : List Number). Ok (words_of_arc datum ns))) second in
     (front ++ back, (words, have_append front back three shifts (placed_values 4 three small) (placed_values later shifts small_too)))
   where
     word_end : (datum : Bool) → IsWordEnd (kind_text datum ++ behind_blanks shifts)
     word_end true = refl
     word_end false = refl
 
-arc_read : (datum : Bool) (sat first last : ℕ) (shift : List ℤ) (ns : List Number) → HaveValues ns (pos sat ∷ pos first ∷ pos last ∷ shift) → length shift ≡ 2 → 1 ≤ sat → sat ≤ 32 → first ≤ last → last < 3600 → AreIn SHIFTS shift
-    → arc_numbers datum ns ≡ Ok (arc_of datum sat first last shift)
-arc_read datum sat first last shift [] have two from to order below inside = absurd have
-arc_read datum sat first last shift (a ∷ []) have two from to order below inside = absurd have.1
-arc_read datum sat first last shift (a ∷ b ∷ []) have two from to order below inside = absurd have.1.1
-arc_read datum sat first last shift (a ∷ b ∷ c ∷ ns) have two from to order below inside =
-    let all = split_values ns shift [] (subst (λ (l : List ℤ). HaveValues ns l) (sym (append-nil shift)) have.1.1.1) in
-    let shifts = values_at SHIFTS (take 2 ns) shift (subst (λ (k : ℕ). HaveValues (take k ns) shift) two all.0) inside in
-    rw (natural_at 1 32 sat a have.0 from to, natural_at 0 3599 first b have.1.0 (omega arith) (omega (arith, order, below)), natural_at first 3599 last c have.1.1.0 order (omega (arith, below)), shifts) refl
+sat_from : (version : Version) (sat : ℕ) (n : Number) → n.value ≡ pos sat → 1 ≤ sat → sat ≤ most_sat version → natural_within 1 (most_sat version) n ≡ Ok sat
+sat_from version sat n is from to = natural_at 1 (most_sat version) sat n is from to
 
-pub arc_spells : (free left : ℕ) (a : Arc) → IsArcInRange a → IsWholeArc a → may_stand free left a.datum ≡ true → arc_in free left (arc_line a) ≡ Ok a
-arc_spells free left a is whole stands =
-    let shifts : AreSmall a.shift = each_small (IsBelow (2 ^ 40)) a.shift (λ z h. below_small (2 ^ 40) z (omega arith) h) is.shifts_in in
+arc_read : (version : Version) (bands : List ℕ) (datum : Bool) (sat first last : ℕ) (shift : List ℤ) (ns : List Number) → HaveValues ns (pos sat ∷ pos first ∷ pos last ∷ select bands shift)
+    → spread PHASES bands (select bands shift) ≡ shift → 1 ≤ sat → sat ≤ most_sat version
+    → first ≤ last → last < 3600 → AreIn SHIFTS (select bands shift) → arc_numbers version bands datum ns ≡ Ok (arc_of datum sat first last shift)
+arc_read version bands datum sat first last shift [] have whole from to order below inside = absurd have
+arc_read version bands datum sat first last shift (a ∷ []) have whole from to order below inside = absurd have.1
+arc_read version bands datum sat first last shift (a ∷ b ∷ []) have whole from to order below inside = absurd have.1.1
+arc_read version bands datum sat first last shift (a ∷ b ∷ c ∷ ns) have whole from to order below inside =
+    let own = select bands shift in
+    let many : length own ≡ length bands = length-map bands (λ p. get_or shift p (pos 0)) in
+    let all = split_values ns own [] (subst (λ (l : List ℤ). HaveValues ns l) (sym (append-nil own)) have.1.1.1) in
+    let values = values_at SHIFTS (take (length bands) ns) own (subst (λ (k : ℕ). HaveValues (take k ns) own) many all.0) inside in
+    let shifts : put_within PHASES SHIFTS bands (take (length bands) ns) ≡ Ok shift = ap (λ (v : Result (List ℤ) Flaw). and_then v (λ vs. Ok (spread PHASES bands vs))) values ∙ ap Ok whole in
+    rw (
+      sat_from version sat a have.0 from to,
+      natural_at 0 3599 first b have.1.0 (omega arith) (omega (arith, order, below)),
+      natural_at first 3599 last c have.1.1.0 order
+          (omega (arith, below)),
+      shifts,
+    ) refl
+
+pub arc_spells : (version : Version) (l2 l5 : ℕ) (free left : ℕ) (a : Arc) → IsArcInRange a → a.sat ≤ most_sat version → HasUsedShifts (used_signals l2 l5) a → IsWholeArc a
+    → may_stand free left a.datum ≡ true
+    → arc_in version (used_signals l2 l5) free left (arc_line (used_signals l2 l5) a) ≡ Ok a
+arc_spells version l2 l5 free left a is sat_to used whole stands =
+    let bands = phase_bands (used_signals l2 l5) in
+    let own = select bands a.shift in
+    let shifts : AreSmall own = shifts_small bands a is in
+    let many : length own ≡ length bands = length-map bands (λ p. get_or a.shift p (pos 0)) in
     let three : List ℤ = pos a.sat ∷ pos a.first ∷ pos a.last ∷ [] in
     let small : AreSmall three = (omega (arith, is.sat_to), (omega (arith, is.order, is.last_in), (omega (arith, is.last_in), tt))) in
-    let words = words_written a.datum three a.shift refl whole small shifts in
-    let inside = are_in (IsBelow (2 ^ 40)) SHIFTS a.shift (λ z h. below_is (2 ^ 40) 1_099_511_627_775 z refl h) is.shifts_in in
-    rw (words.1.0, stands) (arc_read a.datum a.sat a.first a.last a.shift words.0 words.1.1 whole is.sat_from is.sat_to is.order is.last_in inside)
+    let words = words_written (length bands) a.datum three own refl many small shifts in
+    let inside = select_in (IsBelow (2 ^ 40)) SHIFTS bands a.shift (omega arith) (λ z h. below_is (2 ^ 40) 1_099_511_627_775 z refl h) is.shifts_in in
+    let back : spread PHASES bands own ≡ a.shift = (bands_good l2 l5).whole a.shift whole used in
+    rw (words.1.0, stands) (arc_read version bands a.datum a.sat a.first a.last a.shift words.0 words.1.1 back is.sat_from sat_to is.order is.last_in inside)

@@ -1,31 +1,19 @@
--- One more row of a pair, and one more pair of a certificate.
-use Rattle.std.proofs.Common.{◌≡◌, ◌+◌, ◌<◌, ◌≤◌, ℕ, List, [], ◌∷◌, ◌++◌, get_or, All, Result, Ok, Err, IfOk, refl, sym, ap, ◌∙◌, arith, append_assoc}
+-- One more pair of a certificate.
+use Rattle.std.proofs.Common.{◌≡◌, ◌+◌, ◌<◌, ◌≤◌, ℕ, List, [], ◌∷◌, ◌++◌, get_or, All, Result, Ok, Err, IfOk, sym, ap, ◌∙◌, arith, append_assoc}
 use Rattle.std.proofs.lemmas.List.Elements.{All-push}
 use Rattle.line_source.specs.Lines.{Reading}
-use Rattle.obs_rows.specs.declared.rows.Row.{Row}
 use Rattle.obs_rows.specs.declared.pair_rows.PairRows.{PairRows}
-use Rattle.obs_rows.specs.Rows.{AreBelow}
 use Rattle.rinex_head.specs.declared.place.TextFault.{TextFault}
 use Rattle.rinex_head.specs.Walk.{Rules, rest_gives, Reads}
 use Rattle.rinex_head.proofs.Walks.{handed_on}
-use Rattle.cert_lines.specs.Lines.{row_line, row_lines, pair_lines}
+use Rattle.cert_lines.specs.Lines.{pair_lines}
 use Rattle.cert_spelling.specs.Spelling.{all_pair_lines}
 
-pub rows_took : (rows : List Row) (r : Row) (rest : List (List ℕ)) → row_lines rows ++ row_line r ∷ rest ≡ row_lines (rows ++ r ∷ []) ++ rest
-rows_took [] r rest = refl
-rows_took (q ∷ rows) r rest = ap (λ (l : List (List ℕ)). row_line q ∷ l) (rows_took rows r rest)
-
-pub rows_below : (rows : List Row) (r : Row) (least : ℕ) → AreBelow rows least → least ≤ r.arc → AreBelow (rows ++ r ∷ []) (r.arc + 1)
-rows_below rows r least below from = All-push (λ (q : Row). q.arc < r.arc + 1) rows r (λ k d inside. later (get_or rows k d) (below k d inside)) (omega arith)
-  where
-    later : (q : Row) → q.arc < least → q.arc < r.arc + 1
-    later q h = omega (arith, from)
-
-pub pairs_took : (pairs : List PairRows) (p : PairRows) (rest : List (List ℕ)) → all_pair_lines pairs ++ (pair_lines p ++ rest) ≡ all_pair_lines (pairs ++ p ∷ []) ++ rest
-pairs_took [] p rest = sym (append_assoc (pair_lines p) [] rest)
-pairs_took (q ∷ pairs) p rest =
-    append_assoc (pair_lines q) (all_pair_lines pairs) (pair_lines p ++ rest) ∙ ap (λ (l : List (List ℕ)). pair_lines q ++ l) (pairs_took pairs p rest)
-    ∙ sym (append_assoc (pair_lines q) (all_pair_lines (pairs ++ p ∷ [])) rest)
+pub pairs_took : (ss : List ℕ) (pairs : List PairRows) (p : PairRows) (rest : List (List ℕ)) → all_pair_lines ss pairs ++ (pair_lines ss p ++ rest) ≡ all_pair_lines ss (pairs ++ p ∷ []) ++ rest
+pairs_took ss [] p rest = sym (append_assoc (pair_lines ss p) [] rest)
+pairs_took ss (q ∷ pairs) p rest =
+    append_assoc (pair_lines ss q) (all_pair_lines ss pairs) (pair_lines ss p ++ rest) ∙ ap (λ (l : List (List ℕ)). pair_lines ss q ++ l) (pairs_took ss pairs p rest)
+    ∙ sym (append_assoc (pair_lines ss q) (all_pair_lines ss (pairs ++ p ∷ [])) rest)
 
 pub pairs_below : (pairs : List PairRows) (p : PairRows) (least : ℕ) → All (λ q. q.number < least) pairs → least ≤ p.number → All (λ q. q.number < p.number + 1) (pairs ++ p ∷ [])
 pairs_below pairs p least below from = All-push (λ (q : PairRows). q.number < p.number + 1) pairs p (λ k d inside. later (get_or pairs k d) (below k d inside)) (omega arith)

@@ -1,20 +1,22 @@
 -- Two values with the same ordinary fields are the same.
 use mathlib.Core.HLevel.{is_prop→PathP}
 use Rattle.std.proofs.Props.{props}
-use Rattle.std.proofs.Common.{◌≡◌, ◌^◌, ◌<◌, ◌≤◌, ℕ, ℤ, List, length, unsigned_abs, All, AllPairs, IsTrue}
+use Rattle.std.proofs.Common.{◌≡◌, ◌^◌, ◌<◌, ◌≤◌, ◌==◌, ◌||◌, ◌&&◌, not, Bool, ℕ, ℤ, List, length, unsigned_abs, All, AllPairs, IsTrue}
 use Rattle.obs_rows.specs.declared.arcs.Arc.{Arc}
 use Rattle.obs_rows.specs.declared.rows.Row.{Row}
 use Rattle.obs_rows.specs.declared.bands.Signals.{Signals}
-use Rattle.obs_rows.specs.declared.bands.TheConstants.{L1_LETTERS, L2_LETTERS}
+use Rattle.obs_rows.specs.declared.bands.TheConstants.{L1_LETTERS, L2_LETTERS, L5_LETTERS}
 use Rattle.obs_rows.specs.declared.pair_rows.PairRows.{PairRows}
 use Rattle.obs_rows.specs.declared.sessions.Session.{Session}
-use Rattle.obs_rows.specs.declared.units.TheConstants.{MOST_INTEGERS}
+use Rattle.form_tables.specs.declared.sizes.TheConstants.{MOST_INTEGERS}
 use Rattle.obs_rows.specs.Letters.{is_letter}
-use Rattle.obs_rows.specs.Ranges.{IsWithin, IsRadius, IsScale, IsPoint}
+use Rattle.obs_rows.specs.Ranges.{IsWithin, IsRadius, IsScale, IsSystem, IsPoint}
 use Rattle.obs_rows.specs.Arcs.{AreArcs}
 use Rattle.obs_rows.specs.Pairs.{ArePairs}
 use Rattle.int_search.specs.declared.answer.TwoBest.{TwoBest}
 use Rattle.int_search.specs.Vectors.{IsZeroFrom}
+use Rattle.obs_rows.specs.Signals.{fine_signals}
+use Rattle.obs_rows.specs.Unused.{HasUsedRows, HasUsedShifts}
 use Rattle.cert_data.specs.declared.certs.Cert.{Cert}
 use Rattle.cert_data.specs.Tails.{IsTailOf, IsTailOf-prop}
 
@@ -33,8 +35,17 @@ le_prop m n = Prim.hlevel props
 lt_prop : (m n : ℕ) → IsProp (m < n)
 lt_prop m n = Prim.hlevel props
 
-letter_prop : (letters : List ℕ) (x : ℕ) → IsProp (IsTrue (is_letter letters x))
-letter_prop letters x = Prim.hlevel props
+true_prop : (t : Bool) → IsProp (IsTrue t)
+true_prop t = Prim.hlevel props
+
+system_prop : (n : ℕ) → IsProp (IsSystem n)
+system_prop n = Prim.hlevel props
+
+rows_prop : (ss : List ℕ) (pairs : List PairRows) → IsProp (All (HasUsedRows ss) pairs)
+rows_prop ss pairs = Prim.hlevel props
+
+shifts_prop : (ss : List ℕ) (arcs : List Arc) → IsProp (All (HasUsedShifts ss) arcs)
+shifts_prop ss arcs = Prim.hlevel props
 
 rise_prop : (rows : List Row) → IsProp (AllPairs (λ r s. r.arc < s.arc) rows)
 rise_prop rows = Prim.hlevel props
@@ -70,12 +81,15 @@ row_same r s arc y ry u ru = λ i. record {
   ru_in = is_prop→PathP (λ j. All IsRadius (ru j)) (λ j. radii_prop (ru j)) r.ru_in s.ru_in i;
 }
 
-pub signals_same : (a b : Signals) → a.l1 ≡ b.l1 → a.l2 ≡ b.l2 → a ≡ b
-signals_same a b l1 l2 = λ i. record {
+pub signals_same : (a b : Signals) → a.l1 ≡ b.l1 → a.l2 ≡ b.l2 → a.l5 ≡ b.l5 → a ≡ b
+signals_same a b l1 l2 l5 = λ i. record {
   l1 = l1 i;
   l2 = l2 i;
-  on_l1 = is_prop→PathP (λ j. IsTrue (is_letter L1_LETTERS (l1 j))) (λ j. letter_prop L1_LETTERS (l1 j)) a.on_l1 b.on_l1 i;
-  on_l2 = is_prop→PathP (λ j. IsTrue (is_letter L2_LETTERS (l2 j))) (λ j. letter_prop L2_LETTERS (l2 j)) a.on_l2 b.on_l2 i;
+  l5 = l5 i;
+  on_l1 = is_prop→PathP (λ j. IsTrue (is_letter L1_LETTERS (l1 j))) (λ j. true_prop (is_letter L1_LETTERS (l1 j))) a.on_l1 b.on_l1 i;
+  on_l2 = is_prop→PathP (λ j. IsTrue ((l2 j == 0) || is_letter L2_LETTERS (l2 j))) (λ j. true_prop ((l2 j == 0) || is_letter L2_LETTERS (l2 j))) a.on_l2 b.on_l2 i;
+  on_l5 = is_prop→PathP (λ j. IsTrue ((l5 j == 0) || is_letter L5_LETTERS (l5 j))) (λ j. true_prop ((l5 j == 0) || is_letter L5_LETTERS (l5 j))) a.on_l5 b.on_l5 i;
+  two_bands = is_prop→PathP (λ j. IsTrue (not ((l2 j == 0) && (l5 j == 0)))) (λ j. true_prop (not ((l2 j == 0) && (l5 j == 0)))) a.two_bands b.two_bands i;
 }
 
 pub pair_same : (p q : PairRows) → p.number ≡ q.number → p.tag.0 ≡ q.tag.0 → p.group ≡ q.group → p.rows ≡ q.rows → p ≡ q
@@ -86,26 +100,30 @@ pair_same p q number tag group rows = λ i. record {
   rows = rows i;
   number_in = is_prop→PathP (λ j. number j < 3600) (λ j. lt_prop (number j) 3600) p.number_in q.number_in i;
   tag_in = is_prop→PathP (λ j. tag j < 2 ^ 63) (λ j. lt_prop (tag j) (2 ^ 63)) p.tag_in q.tag_in i;
-  group_in = is_prop→PathP (λ j. unsigned_abs (group j) < 2 ^ 50) (λ j. lt_prop (unsigned_abs (group j)) (2 ^ 50)) p.group_in q.group_in i;
+  group_in = is_prop→PathP (λ j. unsigned_abs (group j) < 2 ^ 55) (λ j. lt_prop (unsigned_abs (group j)) (2 ^ 55)) p.group_in q.group_in i;
   some_rows = is_prop→PathP (λ j. 1 ≤ length (rows j)) (λ j. le_prop 1 (length (rows j))) p.some_rows q.some_rows i;
   few_rows = is_prop→PathP (λ j. length (rows j) ≤ 15) (λ j. le_prop (length (rows j)) 15) p.few_rows q.few_rows i;
   arcs_rise = is_prop→PathP (λ j. AllPairs (λ r s. r.arc < s.arc) (rows j)) (λ j. rise_prop (rows j)) p.arcs_rise q.arcs_rise i;
 }
 
-pub session_same : (s t : Session) → s.scale ≡ t.scale → s.base ≡ t.base → s.point ≡ t.point → s.signals ≡ t.signals → s.arcs ≡ t.arcs → s.pairs ≡ t.pairs → s ≡ t
-session_same s t scale base point signals arcs pairs = λ i. record {
+pub session_same : (s t : Session) → s.scale ≡ t.scale → s.system ≡ t.system → s.base ≡ t.base → s.point ≡ t.point → s.signals ≡ t.signals → s.arcs ≡ t.arcs → s.pairs ≡ t.pairs → s ≡ t
+session_same s t scale system base point signals arcs pairs = λ i. record {
   scale = scale i;
+  system = system i;
   base = base i;
   point = point i;
   signals = signals i;
   arcs = arcs i;
   pairs = pairs i;
   scale_is = is_prop→PathP (λ j. IsScale (scale j)) (λ j. scale_prop (scale j)) s.scale_is t.scale_is i;
+  system_is = is_prop→PathP (λ j. IsSystem (system j)) (λ j. system_prop (system j)) s.system_is t.system_is i;
   base_in = is_prop→PathP (λ j. IsPoint (base j)) (λ j. point_prop (base j)) s.base_in t.base_in i;
   point_in = is_prop→PathP (λ j. IsPoint (point j)) (λ j. point_prop (point j)) s.point_in t.point_in i;
   arcs_in = is_prop→PathP (λ j. AreArcs (arcs j)) (λ j. arcs_prop (arcs j)) s.arcs_in t.arcs_in i;
   some_pairs = is_prop→PathP (λ j. 1 ≤ length (pairs j)) (λ j. le_prop 1 (length (pairs j))) s.some_pairs t.some_pairs i;
   pairs_in = is_prop→PathP (λ j. ArePairs (arcs j) (pairs j)) (λ j. pairs_prop (arcs j) (pairs j)) s.pairs_in t.pairs_in i;
+  rows_used = is_prop→PathP (λ j. All (HasUsedRows (fine_signals (signals j))) (pairs j)) (λ j. rows_prop (fine_signals (signals j)) (pairs j)) s.rows_used t.rows_used i;
+  shifts_used = is_prop→PathP (λ j. All (HasUsedShifts (fine_signals (signals j))) (arcs j)) (λ j. shifts_prop (fine_signals (signals j)) (arcs j)) s.shifts_used t.shifts_used i;
 }
 
 pub best_same : (a b : TwoBest) → a.first ≡ b.first → a.second ≡ b.second → a.p1 ≡ b.p1 → a.p2 ≡ b.p2 → a.size ≡ b.size → a ≡ b
@@ -131,5 +149,7 @@ certs_same c d ratio budget session tail = λ i. record {
   budget_from = is_prop→PathP (λ j. 1 ≤ budget j) (λ j. le_prop 1 (budget j)) c.budget_from d.budget_from i;
   budget_to = is_prop→PathP (λ j. budget j ≤ 100_000_000) (λ j. le_prop (budget j) 100_000_000) c.budget_to d.budget_to i;
   fine = is_prop→PathP (λ j. (session j).scale ≡ 0) (λ j. fine_prop (session j).scale) c.fine d.fine i;
-  tail_fits = is_prop→PathP (λ j. IsTailOf (session j).arcs (budget j) (tail j)) (λ j. IsTailOf-prop (session j).arcs (budget j) (tail j)) c.tail_fits d.tail_fits i;
+  tail_fits =
+      is_prop→PathP (λ j. IsTailOf (fine_signals (session j).signals) (session j).arcs (budget j) (tail j))
+      (λ j. IsTailOf-prop (fine_signals (session j).signals) (session j).arcs (budget j) (tail j)) c.tail_fits d.tail_fits i;
 }

@@ -15,15 +15,20 @@ use Rattle.cert_words.specs.Numbers.{number_at, natural_within, within_range, Is
 use Rattle.cert_words.proofs.NumberLaws.{AreSmall, placed, line_written}
 use Rattle.cert_words.proofs.RangeLaws.{AreIn, within_holds}
 use Rattle.cert_lines.specs.declared.ranges.TheConstants.{ENTRIES, MOVES, PIVOTS, VALUE_LIMIT}
-use Rattle.cert_lines.specs.Lines.{vector_line, values_line, weak_line, unsettled_line, overwidth_line}
+use Rattle.cert_lines.specs.Lines.{vector_line, values_line, weak_line, named_line, last_line}
+use Rattle.cert_lines.specs.TailForms.{begins, weak_pivot, weak_in, form_values, value_within, values_in, last_in}
+use Rattle.cert_lines.specs.declared.tails.WeakPivot.{WeakPivot}
+use Rattle.cert_lines.specs.declared.version.Version.{Version}
+use Rattle.cert_lines.specs.Versions.{last_column}
 use Rattle.cert_data.specs.declared.tails.Tail.{Tail as CertTail}
 use Rattle.cert_data.specs.declared.tails.Tail.TheVariants.{Fixed, Unseparated, Weak, Overwidth, Unsettled, Spent}
 use Rattle.cert_data.specs.Tails.{AreVectors, IsWeak, IsTailOf}
 use Rattle.cert_data.specs.Places.{name_of_place}
-use Rattle.cert_spelling.specs.Spelling.{vectors_lines, fixed_line, unseparated_line, spent_line, tail_lines}
-use Rattle.cert_text.specs.TailForms.{declined_in, weak_in, unsettled_in, spent_in, form_values, value_within, values_in, last_in}
-use Rattle.cert_text.specs.Rules.{Expected, Tail, Second, Move, Values, Last, End, cert_rules, admit}
+use Rattle.cert_spelling.specs.Spelling.{vectors_lines, unsettled_line, spent_line, tail_lines}
+use Rattle.cert_text.specs.TailForms.{declined_in}
+use Rattle.cert_text.specs.Rules.{Expected, Frame, Tail, Second, Move, Values, Last, End, cert_rules, admit}
 use Rattle.cert_spelling.specs.Lengths.{AreWholeVectors, IsWholeTail}
+use Rattle.cert_spelling.specs.Editions.{IsColumnOf}
 use Rattle.cert_text.proofs.FeedLaws.{below_small, each_small, entries_small}
 use Rattle.cert_text.proofs.LineLaws.{admits_vectors, admits_declined}
 use Rattle.cert_text.proofs.LineSpells.{HaveValues, placed_values, natural_at, range_at, line_length, count_spells, vector_spells, are_in, below_is}
@@ -75,100 +80,118 @@ values_spell h p1 p2 top to b1 b2 b3 =
     let small = values_small h p1 p2 top to b1 b2 b3 in
     rw (line_written (codes "values") zs small) (value_numbers h p1 p2 top (placed (1 + 6) zs) (placed_values (1 + 6) zs small) to b1 b2 b3)
 
-weak_numbers : (column : ℕ) (pivot : ℤ) (ns : List Number) → HaveValues ns (pos column ∷ pivot ∷ []) → column ≤ 42 → IsIn PIVOTS pivot
-    → and_then (natural_within 0 42 (number_at ns 0)) (λ column. and_then (within_range PIVOTS (number_at ns 1)) (λ pivot. Ok (Weak column pivot))) ≡ Ok (Weak column pivot)
-weak_numbers column pivot [] have to inside = absurd have
-weak_numbers column pivot (a ∷ []) have to inside = absurd have.1
-weak_numbers column pivot (a ∷ b ∷ []) have to inside = rw (natural_at 0 42 column a have.0 (omega arith) to, range_at PIVOTS b pivot have.1.0 inside) refl
-weak_numbers column pivot (a ∷ b ∷ c ∷ ns) have to inside = absurd have.1.1
+weak_numbers : (last column : ℕ) (pivot : ℤ) (ns : List Number) → HaveValues ns (pos column ∷ pivot ∷ []) → column ≤ last → IsIn PIVOTS pivot
+    → and_then (natural_within 0 last (number_at ns 0)) (λ column. and_then (within_range PIVOTS (number_at ns 1)) (λ pivot. Ok (weak_pivot column pivot))) ≡ Ok (weak_pivot column pivot)
+weak_numbers last column pivot [] have to inside = absurd have
+weak_numbers last column pivot (a ∷ []) have to inside = absurd have.1
+weak_numbers last column pivot (a ∷ b ∷ []) have to inside = rw (natural_at 0 last column a have.0 (omega arith) to, range_at PIVOTS b pivot have.1.0 inside) refl
+weak_numbers last column pivot (a ∷ b ∷ c ∷ ns) have to inside = absurd have.1.1
+
+weak_small : (column : ℕ) (pivot : ℤ) → IsWeak column pivot → AreSmall (pos column ∷ pivot ∷ [])
+weak_small column pivot fits = (omega (arith, fits.column_to), (below_small (2 ^ 52) pivot (omega arith) fits.pivot_in, tt))
+
+pub weak_spells : (words : List ℕ) (last column : ℕ) (pivot : ℤ) → IsWeak column pivot → column ≤ last → weak_in words last (weak_line words column pivot) ≡ Ok (weak_pivot column pivot)
+weak_spells words last column pivot fits to =
+    let zs : List ℤ = pos column ∷ pivot ∷ [] in
+    let small = weak_small column pivot fits in
+    let inside = below_is (2 ^ 52) 4_503_599_627_370_495 pivot refl fits.pivot_in in
+    rw (line_written words zs small) (weak_numbers last column pivot (placed (1 + length words) zs) (placed_values (1 + length words) zs small) to inside)
 
 -- ---- tails
 
--- the lines of a tail with vectors, before its last
-vectors_accepted : (budget : ℕ) (arcs : List Arc) (h : ℕ) (moved : List ℤ) (best : TwoBest) (top : ℤ) (last : List ℕ) (fixed : Bool) → AreVectors arcs h moved best top → AreWholeVectors moved best
-    → length last ≤ 4096 → last_in last ≡ Ok fixed → Accepted (Tail budget arcs) (vectors_lines h moved best top ++ last ∷ [])
-vectors_accepted budget arcs h moved best top last fixed are whole short ends =
+-- the lines of a tail with vectors, and the last one
+vectors_accepted : (f : Frame) (arcs : List Arc) (h : ℕ) (moved : List ℤ) (best : TwoBest) (top : ℤ) (fixed : Bool) → AreVectors f.ss arcs h moved best top → AreWholeVectors moved best
+    → length (last_line fixed) ≤ 4096 → last_in (last_line fixed) ≡ Ok fixed → Accepted (Tail f arcs) (vectors_lines h moved best top ++ last_line fixed ∷ [])
+vectors_accepted f arcs h moved best top fixed are whole short ends =
     let n = best.size in
+    let v = are.values in
     let first = take n best.first in
     let second = take n best.second in
     let first_long : length first ≡ n = length-take-le n best.first (omega (arith, best.size_to, whole.first)) in
     let second_long : length second ≡ n = length-take-le n best.second (omega (arith, best.size_to, whole.second)) in
-    let few : n ≤ 40 = best.size_to in
-    let s1 = entries_small n best.first are.first_in in
-    let s2 = entries_small n best.second are.second_in in
+    let s1 = entries_small n best.first v.first_in in
+    let s2 = entries_small n best.second v.second_in in
     let s3 = each_small (IsBelow (2 ^ 46)) moved (λ z b. below_small (2 ^ 46) z (omega arith) b) are.moved_in in
-    let s4 = values_small h best.p1 best.p2 top are.h_to are.p1_in are.p2_in are.top_in in
-    let z1 : admit (Tail budget arcs) (vector_line (codes "z1") first) ≡ Ok (Second n) =
-    admits_vectors budget n arcs (vector_line (codes "z1") first) are.size refl ∙ ap (λ (r : Result (List ℤ) Flaw). and_then r (λ z. Ok (Second n))) (vector_spells (codes "z1") n ENTRIES first first_long s1 (entries_in n best.first are.first_in)) in
-    let z2 : admit (Second n) (vector_line (codes "z2") second) ≡ Ok Move =
-    ap (λ (r : Result (List ℤ) Flaw). and_then r (λ z. Ok Move)) (vector_spells (codes "z2") n ENTRIES second second_long s2 (entries_in n best.second are.second_in)) in
-    let move : admit Move (vector_line (codes "move") moved) ≡ Ok Values =
-    ap (λ (r : Result (List ℤ) Flaw). and_then r (λ m. Ok Values)) (vector_spells (codes "move") 3 MOVES moved whole.move s3 (are_in (IsBelow (2 ^ 46)) MOVES moved (λ z b. below_is (2 ^ 46) 70_368_744_177_663 z refl b) are.moved_in)) in
-    let values : admit Values (values_line h best.p1 best.p2 top) ≡ Ok Last = ap (λ r. and_then r (λ v. Ok Last)) (values_spell h best.p1 best.p2 top are.h_to are.p1_in are.p2_in are.top_in) in
-    let final : admit Last last ≡ Ok End = ap (λ (r : Result Bool Flaw). and_then r (λ f. Ok End)) ends in
-    step (Tail budget arcs) (Second n) _ _ (line_length (codes "z1") first (lit≤ tt) (omega (arith, first_long, few)) s1) z1
-    (step (Second n) Move _ _ (line_length (codes "z2") second (lit≤ tt) (omega (arith, second_long, few)) s2) z2
+    let s4 = values_small h best.p1 best.p2 top v.h_to v.p1_in v.p2_in v.top_in in
+    let z1_read = vector_spells (codes "z1") n ENTRIES first first_long s1 (entries_in n best.first v.first_in) in
+    let z1 : admit (Tail f arcs) (vector_line (codes "z1") first) ≡ Ok (Second n) =
+    admits_vectors f n arcs (vector_line (codes "z1") first) v.size refl ∙ ap (λ (r : Result (List ℤ) Flaw). and_then r (λ z. Ok (Second n))) z1_read in
+    let z2_read = vector_spells (codes "z2") n ENTRIES second second_long s2 (entries_in n best.second v.second_in) in
+    let z2 : admit (Second n) (vector_line (codes "z2") second) ≡ Ok Move = ap (λ (r : Result (List ℤ) Flaw). and_then r (λ z. Ok Move)) z2_read in
+    let moved_in = are_in (IsBelow (2 ^ 46)) MOVES moved (λ z b. below_is (2 ^ 46) 70_368_744_177_663 z refl b) are.moved_in in
+    let move_read = vector_spells (codes "move") 3 MOVES moved whole.move s3 moved_in in
+    let move : admit Move (vector_line (codes "move") moved) ≡ Ok Values = ap (λ (r : Result (List ℤ) Flaw). and_then r (λ m. Ok Values)) move_read in
+    let values_read = values_spell h best.p1 best.p2 top v.h_to v.p1_in v.p2_in v.top_in in
+    let values : admit Values (values_line h best.p1 best.p2 top) ≡ Ok Last = ap (λ r. and_then r (λ v. Ok Last)) values_read in
+    let final : admit Last (last_line fixed) ≡ Ok End = ap (λ (r : Result Bool Flaw). and_then r (λ f. Ok End)) ends in
+    step (Tail f arcs) (Second n) _ _ (line_length (codes "z1") first (lit≤ tt) (omega (arith, first_long, best.size_to)) s1) z1
+    (step (Second n) Move _ _ (line_length (codes "z2") second (lit≤ tt) (omega (arith, second_long, best.size_to)) s2) z2
     (step Move Values _ _ (line_length (codes "move") moved (lit≤ tt) (omega (arith, whole.move)) s3) move
     (step Values Last _ _ (line_length (codes "values") (pos h ∷ best.p1 ∷ best.p2 ∷ top ∷ []) (lit≤ tt) (lit≤ tt) s4) values
-    (step Last End last [] short final at_last))))
+    (step Last End (last_line fixed) [] short final at_last))))
 
 -- ---- tails of one line
 
-pub weak_read : (budget column : ℕ) (pivot : ℤ) → IsWeak column pivot → declined_in budget (weak_line column pivot) ≡ Ok (Weak column pivot)
-weak_read budget column pivot fits =
-    let zs : List ℤ = pos column ∷ pivot ∷ [] in
-    let small : AreSmall zs = (omega (arith, fits.column_to), (below_small (2 ^ 52) pivot (omega arith) fits.pivot_in, tt)) in
-    let read : weak_in (weak_line column pivot) ≡ Ok (Weak column pivot) =
-    rw (line_written (codes "declined weak fine") zs small) (weak_numbers column pivot (placed (1 + 18) zs) (placed_values (1 + 18) zs small) fits.column_to (below_is (2 ^ 52) 4_503_599_627_370_495 pivot refl fits.pivot_in)) in
-    read
+-- a line that is no vector, and what it says
+declined_accepted : (f : Frame) (arcs : List Arc) (line : List ℕ) (t : CertTail) → length line ≤ 4096 → begins (codes "z1") line ≡ false → declined_in f.version f.budget line ≡ Ok t
+    → Accepted (Tail f arcs) (line ∷ [])
+declined_accepted f arcs line t short other read =
+    step (Tail f arcs) End line [] short (admits_declined f arcs line other ∙ ap (λ (r : Result CertTail Flaw). and_then r (λ t. Ok End)) read) at_last
 
-pub unsettled_read : (budget : ℕ) (entry : ℤ) → IsBelow (2 ^ 46) entry → declined_in budget (unsettled_line entry) ≡ Ok (Unsettled entry)
-unsettled_read budget entry fits =
-    let small : AreSmall (entry ∷ []) = (below_small (2 ^ 46) entry (omega arith) fits, tt) in
-    ap (λ (r : Result (List ℤ) Flaw). and_then r (λ zs. Ok (Unsettled (get_or zs 0 (pos 0))))) (vector_spells (codes "declined unsettled fine") 1 MOVES (entry ∷ []) refl small (below_is (2 ^ 46) 70_368_744_177_663 entry refl fits, tt))
+pub weak_read : (version : Version) (budget column : ℕ) (pivot : ℤ) → IsWeak column pivot → column ≤ last_column version
+    → declined_in version budget (weak_line (codes "declined weak fine") column pivot) ≡ Ok (Weak column pivot)
+weak_read version budget column pivot fits to =
+    ap (λ (r : Result WeakPivot Flaw). and_then r (λ w. Ok (Weak w.column w.pivot))) (weak_spells (codes "declined weak fine") (last_column version) column pivot fits to)
 
-pub spent_read : (budget spent : ℕ) → budget ≤ 100_000_000 → spent ≡ budget → declined_in budget (spent_line spent) ≡ Ok (Spent spent)
-spent_read budget spent few is =
+unsettled_small : (entry : ℤ) → IsBelow (2 ^ 46) entry → AreSmall (entry ∷ [])
+unsettled_small entry fits = (below_small (2 ^ 46) entry (omega arith) fits, tt)
+
+pub unsettled_read : (version : Version) (budget : ℕ) (entry : ℤ) → IsBelow (2 ^ 46) entry → declined_in version budget (unsettled_line entry) ≡ Ok (Unsettled entry)
+unsettled_read version budget entry fits =
+    let inside : AreIn MOVES (entry ∷ []) = (below_is (2 ^ 46) 70_368_744_177_663 entry refl fits, tt) in
+    let read = vector_spells (codes "declined unsettled fine") 1 MOVES (entry ∷ []) refl (unsettled_small entry fits) inside in
+    ap (λ (r : Result (List ℤ) Flaw). and_then r (λ zs. Ok (Unsettled (get_or zs 0 (pos 0))))) read
+
+pub spent_read : (version : Version) (budget spent : ℕ) → budget ≤ 100_000_000 → spent ≡ budget → declined_in version budget (spent_line spent) ≡ Ok (Spent spent)
+spent_read version budget spent few is =
     ap (λ (r : Result ℕ Flaw). and_then r (λ b. Ok (Spent b))) (count_spells (codes "declined spent") budget budget spent (omega (arith, is)) (omega (arith, is)) (omega arith))
 
-pub place_read : (budget : ℕ) (p : Place) → declined_in budget (overwidth_line (name_of_place p)) ≡ Ok (Overwidth p)
-place_read budget Y = refl
-place_read budget Factor = refl
-place_read budget Entry = refl
-place_read budget Float = refl
-place_read budget Point = refl
-place_read budget Search = refl
-place_read budget Sum = refl
+-- the line of a place
+abbrev pub place_line : Place → List ℕ
+place_line p = named_line (codes "declined overwidth fine ") (name_of_place p)
 
-place_accepted : (budget : ℕ) (arcs : List Arc) (p : Place) → Accepted (Tail budget arcs) (overwidth_line (name_of_place p) ∷ [])
-place_accepted budget arcs Y = step (Tail budget arcs) End _ [] (lit≤ tt) (admits_declined budget arcs (overwidth_line (codes "y")) refl ∙ refl) at_last
-place_accepted budget arcs Factor = step (Tail budget arcs) End _ [] (lit≤ tt) (admits_declined budget arcs (overwidth_line (codes "factor")) refl ∙ refl) at_last
-place_accepted budget arcs Entry = step (Tail budget arcs) End _ [] (lit≤ tt) (admits_declined budget arcs (overwidth_line (codes "entry")) refl ∙ refl) at_last
-place_accepted budget arcs Float = step (Tail budget arcs) End _ [] (lit≤ tt) (admits_declined budget arcs (overwidth_line (codes "float")) refl ∙ refl) at_last
-place_accepted budget arcs Point = step (Tail budget arcs) End _ [] (lit≤ tt) (admits_declined budget arcs (overwidth_line (codes "point")) refl ∙ refl) at_last
-place_accepted budget arcs Search = step (Tail budget arcs) End _ [] (lit≤ tt) (admits_declined budget arcs (overwidth_line (codes "search")) refl ∙ refl) at_last
-place_accepted budget arcs Sum = step (Tail budget arcs) End _ [] (lit≤ tt) (admits_declined budget arcs (overwidth_line (codes "sum")) refl ∙ refl) at_last
+pub place_read : (version : Version) (budget : ℕ) (p : Place) → declined_in version budget (place_line p) ≡ Ok (Overwidth p)
+place_read version budget Y = refl
+place_read version budget Factor = refl
+place_read version budget Entry = refl
+place_read version budget Float = refl
+place_read version budget Point = refl
+place_read version budget Search = refl
+place_read version budget Sum = refl
 
-pub tail_accepted : (arcs : List Arc) (budget : ℕ) (t : CertTail) → budget ≤ 100_000_000 → IsTailOf arcs budget t → IsWholeTail t → Accepted (Tail budget arcs) (tail_lines t)
-tail_accepted arcs budget (Fixed h moved best top) few fits whole = vectors_accepted budget arcs h moved best top fixed_line true fits whole (lit≤ tt) refl
-tail_accepted arcs budget (Unseparated h moved best top) few fits whole = vectors_accepted budget arcs h moved best top unseparated_line false fits whole (lit≤ tt) refl
-tail_accepted arcs budget (Weak column pivot) few fits whole =
-    let zs : List ℤ = pos column ∷ pivot ∷ [] in
-    let small : AreSmall zs = (omega (arith, fits.column_to), (below_small (2 ^ 52) pivot (omega arith) fits.pivot_in, tt)) in
-    let word = codes "declined weak fine" in
-    let read : weak_in (weak_line column pivot) ≡ Ok (Weak column pivot) =
-    rw (line_written word zs small) (weak_numbers column pivot (placed (1 + 18) zs) (placed_values (1 + 18) zs small) fits.column_to (below_is (2 ^ 52) 4_503_599_627_370_495 pivot refl fits.pivot_in)) in
-    step (Tail budget arcs) End _ [] (line_length word zs (lit≤ tt) (lit≤ tt) small) (admits_declined budget arcs (weak_line column pivot) refl ∙ ap (λ (r : Result CertTail Flaw). and_then r (λ t. Ok End)) read) at_last
-tail_accepted arcs budget (Overwidth place) few fits whole = place_accepted budget arcs place
-tail_accepted arcs budget (Unsettled entry) few fits whole =
-    let small : AreSmall (entry ∷ []) = (below_small (2 ^ 46) entry (omega arith) fits, tt) in
-    let word = codes "declined unsettled fine" in
-    let read : unsettled_in (unsettled_line entry) ≡ Ok (Unsettled entry) =
-    ap (λ (r : Result (List ℤ) Flaw). and_then r (λ zs. Ok (Unsettled (get_or zs 0 (pos 0))))) (vector_spells word 1 MOVES (entry ∷ []) refl small (below_is (2 ^ 46) 70_368_744_177_663 entry refl fits, tt)) in
-    step (Tail budget arcs) End _ [] (line_length word (entry ∷ []) (lit≤ tt) (lit≤ tt) small) (admits_declined budget arcs (unsettled_line entry) refl ∙ ap (λ (r : Result CertTail Flaw). and_then r (λ t. Ok End)) read) at_last
-tail_accepted arcs budget (Spent spent) few fits whole =
+place_length : (p : Place) → length (place_line p) ≤ 4096
+place_length Y = lit≤ tt
+place_length Factor = lit≤ tt
+place_length Entry = lit≤ tt
+place_length Float = lit≤ tt
+place_length Point = lit≤ tt
+place_length Search = lit≤ tt
+place_length Sum = lit≤ tt
+
+pub tail_accepted : (f : Frame) (arcs : List Arc) (t : CertTail) → f.budget ≤ 100_000_000 → IsTailOf f.ss arcs f.budget t → IsColumnOf f.version t → IsWholeTail t
+    → Accepted (Tail f arcs) (tail_lines t)
+tail_accepted f arcs (Fixed h moved best top) few fits column_to whole = vectors_accepted f arcs h moved best top true fits whole (lit≤ tt) refl
+tail_accepted f arcs (Unseparated h moved best top) few fits column_to whole = vectors_accepted f arcs h moved best top false fits whole (lit≤ tt) refl
+tail_accepted f arcs (Weak column pivot) few fits column_to whole =
+    let words = codes "declined weak fine" in
+    let short = line_length words (pos column ∷ pivot ∷ []) (lit≤ tt) (lit≤ tt) (weak_small column pivot fits) in
+    declined_accepted f arcs (weak_line words column pivot) (Weak column pivot) short refl (weak_read f.version f.budget column pivot fits column_to)
+tail_accepted f arcs (Overwidth place) few fits column_to whole =
+    declined_accepted f arcs (place_line place) (Overwidth place) (place_length place) refl (place_read f.version f.budget place)
+tail_accepted f arcs (Unsettled entry) few fits column_to whole =
+    let short = line_length (codes "declined unsettled fine") (entry ∷ []) (lit≤ tt) (lit≤ tt) (unsettled_small entry fits) in
+    declined_accepted f arcs (unsettled_line entry) (Unsettled entry) short refl (unsettled_read f.version f.budget entry fits)
+tail_accepted f arcs (Spent spent) few fits column_to whole =
     let small : AreSmall (pos spent ∷ []) = (omega (arith, fits), tt) in
-    let word = codes "declined spent" in
-    let read : spent_in budget (spent_line spent) ≡ Ok (Spent spent) =
-    ap (λ (r : Result ℕ Flaw). and_then r (λ b. Ok (Spent b))) (count_spells word budget budget spent (omega (arith, fits)) (omega (arith, fits)) (omega arith)) in
-    step (Tail budget arcs) End _ [] (line_length word (pos spent ∷ []) (lit≤ tt) (lit≤ tt) small) (admits_declined budget arcs (spent_line spent) refl ∙ ap (λ (r : Result CertTail Flaw). and_then r (λ t. Ok End)) read) at_last
+    let short = line_length (codes "declined spent") (pos spent ∷ []) (lit≤ tt) (lit≤ tt) small in
+    declined_accepted f arcs (spent_line spent) (Spent spent) short refl (spent_read f.version f.budget spent few fits)

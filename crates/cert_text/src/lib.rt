@@ -3,13 +3,14 @@
 //! `read_cert` answers the certificate whose spelling the text is (`ok`), the only one with that spelling (`only`),
 //! or refuses a text that is the spelling of none (`refused`), at the first line and check that fails (`exact`); want
 //! of memory is told as that alone. So what `write_cert` wrote is read again, and no other text gives it. Two
-//! certificates with one spelling are the same (`one_spelling_law`).
+//! certificates with one spelling are the same (`one_spelling_law`). `read_as` says the same of a text in the form of
+//! either version, and of the certificates that this form can say.
 #![tactic(auto)]
 
 mod arcs;
+mod grammar;
 mod head;
 mod laws;
-mod lines;
 mod pairs;
 mod reader;
 mod tail;
@@ -18,7 +19,8 @@ mod tail_lines;
 pub use cert_data::{
     Answer, Cause, Cert, Outcome, Place, Stage, Tail, TwoBest, Verdict, name_of_place,
 };
+pub use cert_lines::Version;
 pub use cert_spelling::write_cert;
 pub use laws::one_spelling_law;
-pub use reader::read_cert;
+pub use reader::{read_as, read_cert};
 pub use rinex_head::TextFault as CertFault;

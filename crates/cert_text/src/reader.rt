@@ -2,17 +2,19 @@
 ghost use Rattle.std.specs.Prelude.{◌≡◌, ◌≤◌, ◌++◌, [], length, Ok, Err, IfOk, MatchResult};
 ghost use Rattle.rinex_head.specs.Walk.{rest_gives, Gives, OnRefusal};
 ghost use Rattle.cert_data.specs.declared.certs.Cert.{Cert};
-ghost use Rattle.cert_spelling.specs.Spelling.{lines_of_cert, spelling};
+ghost use Rattle.cert_spelling.specs.Spelling.{lines_of_cert, spelling_as, spelling};
 ghost use Rattle.cert_spelling.specs.Lengths.{IsWhole, IsCertificate};
-ghost use Rattle.cert_text.specs.Rules.{cert_rules, reading_of, Form, End};
+ghost use Rattle.cert_spelling.specs.Editions.{IsOfVersion, IsCertificateAs};
+ghost use Rattle.cert_text.specs.Rules.{cert_rules, reading_as, reading_of, Form, End};
 
 use crate::arcs::read_arcs;
 use crate::head::read_head;
 use crate::pairs::read_pairs;
 use crate::tail::read_tail;
 use cert_data::Cert;
+use cert_lines::Version;
 use cert_words::{BAD_LINE, TextLines, line_or_end};
-use obs_rows::{SessionBuilder, integer_count};
+use obs_rows::{SessionBuilder, fine_signals, integer_count};
 use rinex_head::{At, TextFault};
 use std::alloc::Global;
 
@@ -28,17 +30,26 @@ fn read_end(lines: &mut TextLines<'_>) -> Result<(), At>
     }
 }
 
-fn read_lines(alloc: Global, mut lines: TextLines<'_>) -> Result<Cert, TextFault>
-    ensures reads { Gives (rest_gives cert_rules lines.entry Form) (λ c. tt) result }
-    ensures took { IfOk result (λ c. lines.entry.left ≡ lines_of_cert c) }
+fn read_lines(alloc: Global, version: Version, mut lines: TextLines<'_>) -> Result<Cert, TextFault>
+    ensures reads { Gives (rest_gives cert_rules lines.entry (Form version)) (λ c. tt) result }
+    ensures took { IfOk result (λ c. lines.entry.left ≡ lines_of_cert version c) }
     ensures whole { IfOk result IsWhole }
+    ensures of_version { IfOk result (IsOfVersion version) }
 {
-    let head = read_head(&mut lines)?;
-    let arcs = read_arcs(alloc, &mut lines)?;
-    let builder = SessionBuilder::new(alloc, 0, head.base, head.point, head.signals, arcs);
-    let session = read_pairs(alloc, &mut lines, builder)?;
-    let integers = integer_count(session.arcs.as_slice(), 0);
-    let tail = read_tail(&mut lines, head.budget, integers)?;
+    let head = read_head(&mut lines, version)?;
+    let arcs = read_arcs(alloc, &mut lines, version, head.signals)?;
+    let builder = SessionBuilder::new(
+        alloc,
+        0,
+        head.system,
+        head.base,
+        head.point,
+        head.signals,
+        arcs,
+    );
+    let session = read_pairs(alloc, &mut lines, version, builder)?;
+    let integers = integer_count(session.arcs.as_slice(), fine_signals(session.signals));
+    let tail = read_tail(&mut lines, version, head.budget, integers)?;
     read_end(&mut lines)?;
     Ok(Cert {
         ratio: head.ratio,
@@ -46,6 +57,19 @@ fn read_lines(alloc: Global, mut lines: TextLines<'_>) -> Result<Cert, TextFault
         session,
         tail,
     })
+}
+
+/// The certificate that a text spells in the form of a version, or the first place at which it is none.
+pub fn read_as(alloc: Global, version: Version, text: &[u8]) -> Result<Cert, TextFault>
+    requires { length text.now ≤ 67108864 }
+    ensures ok { IfOk result (λ c. text.now ≡ spelling_as version c) }
+    ensures whole { IfOk result IsWhole }
+    ensures of_version { IfOk result (IsOfVersion version) }
+    ensures only { IfOk result (λ c. (d : Cert) → IsWhole d → IsOfVersion version d → text.now ≡ spelling_as version d → d ≡ c) }
+    ensures refused { OnRefusal result (IsCertificateAs version text.now → ⊥) }
+    ensures exact { Gives (reading_as version text.now) (λ c. tt) result }
+{
+    read_lines(alloc, version, TextLines::new(text))
 }
 
 /// The certificate that a text spells, or the first place at which it is none.
@@ -57,5 +81,5 @@ pub fn read_cert(alloc: Global, text: &[u8]) -> Result<Cert, TextFault>
     ensures refused { OnRefusal result (IsCertificate text.now → ⊥) }
     ensures exact { Gives (reading_of text.now) (λ c. tt) result }
 {
-    read_lines(alloc, TextLines::new(text))
+    read_as(alloc, Version::Two, text)
 }

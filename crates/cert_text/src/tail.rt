@@ -1,27 +1,29 @@
 //! The tail of a certificate.
-ghost use Rattle.std.specs.Prelude.{◌≡◌, ◌≤◌, ◌^◌, ◌++◌, ◌∷◌, ℕ, ℤ, List, take, length, codes, Ok, Err, IfOk, MatchResult, if◌then◌else◌};
+ghost use Rattle.std.specs.Prelude.{◌≡◌, ◌≤◌, ◌++◌, ◌∷◌, ℕ, ℤ, List, take, length, codes, Ok, Err, IfOk, MatchResult};
 ghost use Rattle.obs_rows.specs.declared.arcs.Arc.{Arc};
 ghost use Rattle.obs_rows.specs.Integers.{integer_count};
-ghost use Rattle.obs_rows.specs.Ranges.{IsBelow};
 ghost use Rattle.int_search.specs.Vectors.{IsSmall, IsZeroFrom};
 ghost use Rattle.rinex_head.specs.Places.{at_line};
 ghost use Rattle.rinex_head.specs.Walk.{ReadsFree};
 ghost use Rattle.cert_words.specs.Numbers.{IsIn};
-ghost use Rattle.cert_lines.specs.Lines.{vector_line, values_line};
+ghost use Rattle.cert_lines.specs.Lines.{vector_line};
 ghost use Rattle.cert_lines.specs.Forms.{vector_in};
 ghost use Rattle.cert_lines.specs.declared.ranges.TheConstants.{ENTRIES};
 ghost use Rattle.cert_data.specs.Tails.{IsTailOf};
-ghost use Rattle.cert_spelling.specs.Spelling.{fixed_line, unseparated_line, tail_lines};
+ghost use Rattle.cert_spelling.specs.Spelling.{tail_lines};
 ghost use Rattle.cert_spelling.specs.Lengths.{IsWholeTail};
-ghost use Rattle.cert_text.specs.Rules.{Expected, cert_rules, Tail as TailStart, Second, Move, Values, Last, End};
-ghost use Rattle.cert_text.specs.LineParts.{TakesLine};
+ghost use Rattle.cert_spelling.specs.Editions.{IsColumnOf};
+ghost use Rattle.cert_lines.specs.declared.version.Version.{Version};
+ghost use Rattle.cert_text.specs.Rules.{Expected, cert_rules, frame, Tail as TailStart, Second, End};
+ghost use Rattle.grammar_lines.specs.LineParts.{TakesLine};
 
-use crate::lines::next_triple;
-use crate::tail_lines::{FormValues, begins, declined_in, last_in, values_in};
+use crate::grammar::CertText;
+use crate::tail_lines::declined_in;
 use cert_data::{Tail, TwoBest};
-use cert_lines::{ENTRIES, MOVES, vector_in};
+use cert_lines::{ENTRIES, MOVES, Version, begins, vector_in};
 use cert_words::{TextLines, next_line};
-use obs_rows::MOST_INTEGERS;
+use form_tables::MOST_INTEGERS;
+use grammar_lines::{next_last, next_triple, next_values};
 use rinex_head::At;
 
 // The integers of a line of a word, and 0 behind them.
@@ -31,7 +33,7 @@ fn next_integers(
     count: usize,
 ) -> Result<[i64; MOST_INTEGERS], At>
     requires { count ≤ MOST_INTEGERS }
-    ensures reads { (s : Expected) (next : List ℤ → Expected) → TakesLine s (vector_in word.now count ENTRIES) next → ReadsFree cert_rules lines.old lines.new s (λ z. next (take count z)) result }
+    ensures reads { (s : Expected) (next : List ℤ → Expected) → TakesLine cert_rules s (vector_in word.now count ENTRIES) next → ReadsFree cert_rules lines.old lines.new s (λ z. next (take count z)) result }
     ensures took { IfOk result (λ z. lines.old.left ≡ vector_line word.now (take count z) ∷ lines.new.left) }
     ensures small { IfOk result IsSmall }
     ensures rest { IfOk result (IsZeroFrom count) }
@@ -62,34 +64,6 @@ fn integers_in(
     }
 }
 
-// The line of the values.
-fn next_values(lines: &mut TextLines<'_>) -> Result<FormValues, At>
-    ensures reads { ReadsFree cert_rules lines.old lines.new Values (λ v. Last) result }
-    ensures took { IfOk result (λ v. lines.old.left ≡ values_line v.h v.p1 v.p2 v.top ∷ lines.new.left) }
-    ensures h { IfOk result (λ v. v.h ≤ 127) }
-    ensures p1 { IfOk result (λ v. IsBelow (2 ^ 126) v.p1) }
-    ensures p2 { IfOk result (λ v. IsBelow (2 ^ 126) v.p2) }
-    ensures top { IfOk result (λ v. IsBelow (2 ^ 126) v.top) }
-{
-    let line = next_line(lines)?;
-    match values_in(line.bytes) {
-        Ok(values) => Ok(values),
-        Err(flaw) => Err(flaw.at(line.number)),
-    }
-}
-
-// The last line of a tail with vectors: whether the integers are fixed.
-fn next_last(lines: &mut TextLines<'_>) -> Result<bool, At>
-    ensures reads { ReadsFree cert_rules lines.old lines.new Last (λ fixed. End) result }
-    ensures took { IfOk result (λ fixed. lines.old.left ≡ (if fixed then fixed_line else unseparated_line) ∷ lines.new.left) }
-{
-    let line = next_line(lines)?;
-    match last_in(line.bytes) {
-        Ok(fixed) => Ok(fixed),
-        Err(flaw) => Err(flaw.at(line.number)),
-    }
-}
-
 // A tail with vectors, behind its first line.
 fn read_vectors(
     lines: &mut TextLines<'_>,
@@ -101,13 +75,14 @@ fn read_vectors(
     requires rest { IsZeroFrom count first }
     ensures reads { ReadsFree cert_rules lines.old lines.new (Second count) (λ t. End) result }
     ensures took { IfOk result (λ t. vector_line (codes "z1") (take count first) ∷ lines.old.left ≡ tail_lines t ++ lines.new.left) }
-    ensures fits { IfOk result (λ t. (arcs : List Arc) (budget : ℕ) → count ≡ integer_count arcs 0 → IsTailOf arcs budget t) }
+    ensures fits { IfOk result (λ t. (ss : List ℕ) (arcs : List Arc) (budget : ℕ) → count ≡ integer_count arcs ss → IsTailOf ss arcs budget t) }
+    ensures column { (version : Version) → IfOk result (IsColumnOf version) }
     ensures whole { IfOk result IsWholeTail }
 {
     let second = next_integers(lines, b"z2", count)?;
-    let moved = next_triple(lines, b"move", &MOVES)?;
-    let values = next_values(lines)?;
-    let fixed = next_last(lines)?;
+    let moved = next_triple::<CertText>(lines, b"move", &MOVES)?;
+    let values = next_values::<CertText>(lines)?;
+    let fixed = next_last::<CertText>(lines)?;
     let best = TwoBest {
         first,
         second,
@@ -119,11 +94,17 @@ fn read_vectors(
 }
 
 /// Reads the tail of a certificate of so many integers.
-pub(crate) fn read_tail(lines: &mut TextLines<'_>, budget: u64, count: usize) -> Result<Tail, At>
+pub(crate) fn read_tail(
+    lines: &mut TextLines<'_>,
+    version: Version,
+    budget: u64,
+    count: usize,
+) -> Result<Tail, At>
     requires { count ≤ MOST_INTEGERS }
-    ensures reads { (arcs : List Arc) → count ≡ integer_count arcs 0 → ReadsFree cert_rules lines.old lines.new (TailStart budget arcs) (λ t. End) result }
+    ensures reads { (ss : List ℕ) (arcs : List Arc) → count ≡ integer_count arcs ss → ReadsFree cert_rules lines.old lines.new (TailStart (frame version budget ss) arcs) (λ t. End) result }
     ensures took { IfOk result (λ t. lines.old.left ≡ tail_lines t ++ lines.new.left) }
-    ensures fits { IfOk result (λ t. (arcs : List Arc) → count ≡ integer_count arcs 0 → IsTailOf arcs budget t) }
+    ensures fits { IfOk result (λ t. (ss : List ℕ) (arcs : List Arc) → count ≡ integer_count arcs ss → IsTailOf ss arcs budget t) }
+    ensures column { IfOk result (IsColumnOf version) }
     ensures whole { IfOk result IsWholeTail }
 {
     let line = next_line(lines)?;
@@ -131,7 +112,7 @@ pub(crate) fn read_tail(lines: &mut TextLines<'_>, budget: u64, count: usize) ->
         let first = integers_in(b"z1", count, line.bytes, line.number)?;
         return read_vectors(lines, count, first);
     }
-    match declined_in(budget, line.bytes) {
+    match declined_in(version, budget, line.bytes) {
         Ok(tail) => Ok(tail),
         Err(flaw) => Err(flaw.at(line.number)),
     }

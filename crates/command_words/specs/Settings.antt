@@ -1,6 +1,7 @@
 -- The options: how they are spelled, and what is set by those that are given.
 use Rattle.std.specs.Prelude.{◌≡◌, ℕ, ◌==◌, ◌≤◌, Bool, List, [], ◌∷◌, codes, if◌then◌else◌, None, Some}
 use Rattle.std.specs.declared.option.Option.{Option}
+use Rattle.run_options.specs.declared.defaults.TheConstants.{DEFAULT_RATIO, DEFAULT_BUDGET, DEFAULT_MASK, DEFAULT_GAP, DEFAULT_JUMP, DEFAULT_ARC, DEFAULT_STEP, DEFAULT_FIRST, DEFAULT_COUNT}
 use Rattle.run_options.specs.declared.options.Options.{Options}
 use Rattle.command_words.specs.declared.settings.Setting.{Setting}
 use Rattle.command_words.specs.declared.settings.Setting.TheVariants.{Ratio, Budget, Mask, Gap, Jump, Arc, Step, First, Count}
@@ -49,15 +50,15 @@ IsSet given s = IsSetBy (numbers_for s given)
 
 -- the options with their ranges and defaults
 pub record AreOptions (given : List Given) (o : Options) : Type 0 where
-  pub ratio : IsSet given Ratio 1000 100000 2000 o.ratio
-  pub budget : IsSet given Budget 1 100000000 1000000 o.budget
-  pub mask : IsSet given Mask 0 900 200 o.mask
-  pub gap : IsSet given Gap 0 5000000 100000 o.gap
-  pub jump : IsSet given Jump 1 1000 12 o.jump
-  pub arc : IsSet given Arc 2 3600 5 o.arc
-  pub step : IsSet given Step 1 1000 1 o.step
-  pub first : IsSet given First 0 19999 0 o.first
-  pub count : IsSet given Count 1 3600 3600 o.count
+  pub ratio : IsSet given Ratio 1000 100000 DEFAULT_RATIO o.ratio
+  pub budget : IsSet given Budget 1 100000000 DEFAULT_BUDGET o.budget
+  pub mask : IsSet given Mask 0 900 DEFAULT_MASK o.mask
+  pub gap : IsSet given Gap 0 5000000 DEFAULT_GAP o.gap
+  pub jump : IsSet given Jump 1 1000 DEFAULT_JUMP o.jump
+  pub arc : IsSet given Arc 2 3600 DEFAULT_ARC o.arc
+  pub step : IsSet given Step 1 1000 DEFAULT_STEP o.step
+  pub first : IsSet given First 0 19999 DEFAULT_FIRST o.first
+  pub count : IsSet given Count 1 3600 DEFAULT_COUNT o.count
 
 -- of a command that searches nothing: no ratio and no budget is given
 pub record ArePairOptions (given : List Given) (o : Options) : Type 0 where

@@ -4,60 +4,63 @@ ghost use Rattle.run_options.specs.declared.options.Options.{Options};
 ghost use Rattle.command_words.specs.Settings.{AreOptions, ArePairOptions};
 
 use crate::settings::{Given, Limits, Setting, is_left_out, number_for};
-use run_options::Options;
+use run_options::{
+    BANDS_L1_L2, DEFAULT_ARC, DEFAULT_BUDGET, DEFAULT_COUNT, DEFAULT_FIRST, DEFAULT_GAP,
+    DEFAULT_JUMP, DEFAULT_MASK, DEFAULT_RATIO, DEFAULT_STEP, GPS, Options,
+};
 
 const RATIO: Limits = Limits {
     least: 1_000,
     most: 100_000,
-    plain: 2_000,
+    plain: DEFAULT_RATIO as u64,
 };
 
 const BUDGET: Limits = Limits {
     least: 1,
     most: 100_000_000,
-    plain: 1_000_000,
+    plain: DEFAULT_BUDGET,
 };
 
 const MASK: Limits = Limits {
     least: 0,
     most: 900,
-    plain: 200,
+    plain: DEFAULT_MASK as u64,
 };
 
 const GAP: Limits = Limits {
     least: 0,
     most: 5_000_000,
-    plain: 100_000,
+    plain: DEFAULT_GAP,
 };
 
 const JUMP: Limits = Limits {
     least: 1,
     most: 1_000,
-    plain: 12,
+    plain: DEFAULT_JUMP as u64,
 };
 
 const ARC: Limits = Limits {
     least: 2,
     most: 3_600,
-    plain: 5,
+    plain: DEFAULT_ARC as u64,
 };
 
 const STEP: Limits = Limits {
     least: 1,
     most: 1_000,
-    plain: 1,
+    plain: DEFAULT_STEP as u64,
 };
 
 const FIRST: Limits = Limits {
     least: 0,
     most: 19_999,
-    plain: 0,
+    plain: DEFAULT_FIRST as u64,
 };
 
 const COUNT: Limits = Limits {
     least: 1,
     most: 3_600,
-    plain: 3_600,
+    plain: DEFAULT_COUNT as u64,
 };
 
 /// The options with the numbers that are given, and the defaults of the others.
@@ -74,6 +77,8 @@ pub fn options_of(given: &[Given]) -> Option<Options>
     let first = number_for(given, Setting::First, &FIRST)?;
     let count = number_for(given, Setting::Count, &COUNT)?;
     Some(Options {
+        bands: BANDS_L1_L2,
+        system: GPS,
         ratio: ratio as u32,
         budget,
         mask: mask as u32,

@@ -3,3 +3,6 @@ pub mod SmallEntries
 pub mod NewEntries
 pub mod StepLaws
 pub mod StoredLaws
+pub mod TableLaws
+pub mod KeptLaws
+pub mod FinishLaws

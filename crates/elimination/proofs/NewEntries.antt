@@ -4,7 +4,8 @@ use Rattle.std.proofs.lemmas.Bool.Decides.{nat_tests}
 use Rattle.std.proofs.lemmas.Int.{ints}
 use Rattle.std.specs.Int.{w128}
 use Rattle.whole_math.specs.Rounding.{nearest_div, ceil_div}
-use Rattle.obs_rows.specs.Tables.{entry}
+use Rattle.form_tables.specs.declared.sizes.TheConstants.{MOST_COLUMNS}
+use Rattle.form_tables.specs.Tables.{entry}
 use Rattle.elimination.specs.StepEntries.{own_entry, other_entry, new_entry}
 
 same : (r : ℕ) → nat_eq r r ≡ true
@@ -23,7 +24,8 @@ pub from_own : (r c : ℕ) → r ≤ c → (r ≡ c) ⊎ (r < c)
 from_own r c h = grind arith
 
 pub other_same : (t u : List (List ℤ)) (j a r c : ℕ) → entry u r c ≡ entry t r c → entry u j r ≡ entry t j r → entry u j c ≡ entry t j c → other_entry u j a r c ≡ other_entry t j a r c
-other_same t u j a r c x p q = ap (λ z. z -ℤ nearest_div (entry u j r *ℤ entry u j c) a) x ∙ ap (λ z. entry t r c -ℤ nearest_div (z *ℤ entry u j c) a) p ∙ ap (λ z. entry t r c -ℤ nearest_div (entry t j r *ℤ z) a) q
+other_same t u j a r c x p q = ap (λ z. z -ℤ nearest_div (entry u j r *ℤ entry u j c) a) x ∙ ap (λ z. entry t r c -ℤ nearest_div (z *ℤ entry u j c) a) p
+    ∙ ap (λ z. entry t r c -ℤ nearest_div (entry t j r *ℤ z) a) q
 
 pub own_is : (e p n a : ℤ) (t : List (List ℤ)) (j r m : ℕ) (f : ℤ) → e ≡ entry t r r → p ≡ entry t j r → n ≡ pos m → a ≡ pos (unsigned_abs a) →
     f ≡ ((e -ℤ ceil_div (p *ℤ p) (unsigned_abs a)) -ℤ n) -ℤ ceil_div (n *ℤ a) (2 ^ 42) → f ≡ own_entry t j (unsigned_abs a) (pos m) r
@@ -35,11 +37,12 @@ own_is e p n a t j r m f x y z w h = h ∙ ap (λ v. ((v -ℤ ceil_div (p *ℤ p
 pub positive_is : (a : ℤ) → pos 0 <ℤ a → a ≡ pos (unsigned_abs a)
 positive_is a h = omega (arith, ints)
 
-pub count_word : (n : ℕ) → n ≤ 44 → to_z w128 n ≡ pos n
+pub count_word : (n : ℕ) → n ≤ MOST_COLUMNS → to_z w128 n ≡ pos n
 count_word n h = omega (arith, ints)
 
 pub new_same : (t u : List (List ℤ)) (j a : ℕ) (n : ℤ) (r c : ℕ) → ((k : ℕ) → entry u r k ≡ entry t r k) → ((k : ℕ) → entry u j k ≡ entry t j k) → new_entry u j a n r c ≡ new_entry t j a n r c
 new_same t u j a n r c h g = ap (λ z. cond (nat_eq r c) z (other_entry u j a r c)) own ∙ ap (λ z. cond (nat_eq r c) (own_entry t j a n r) z) (other_same t u j a r c (h c) (g r) (g c))
   where
     own : own_entry u j a n r ≡ own_entry t j a n r
-    own = ap (λ z. ((z -ℤ ceil_div (entry u j r *ℤ entry u j r) a) -ℤ n) -ℤ ceil_div (n *ℤ pos a) (2 ^ 42)) (h r) ∙ ap (λ z. ((entry t r r -ℤ ceil_div (z *ℤ z) a) -ℤ n) -ℤ ceil_div (n *ℤ pos a) (2 ^ 42)) (g r)
+    own = ap (λ z. ((z -ℤ ceil_div (entry u j r *ℤ entry u j r) a) -ℤ n) -ℤ ceil_div (n *ℤ pos a) (2 ^ 42)) (h r)
+        ∙ ap (λ z. ((entry t r r -ℤ ceil_div (z *ℤ z) a) -ℤ n) -ℤ ceil_div (n *ℤ pos a) (2 ^ 42)) (g r)

@@ -6,7 +6,7 @@ use Rattle.quadratic_form.specs.Forms.{Column}
 use Rattle.quadratic_form.specs.Elimination.{factors, kept, next, Factor, Refusal, weak, wide_factor, wide_entry, all_small, form_small, step}
 use Rattle.quadratic_form.specs.Places.{list_from, form_from}
 use Rattle.quadratic_form.proofs.Places.{list_factors, form_next, len_list}
-use Rattle.obs_rows.specs.Tables.{entry}
+use Rattle.form_tables.specs.Tables.{entry}
 use Rattle.elimination.specs.StepEntries.{factor_entry, new_entry}
 use Rattle.elimination.specs.Stops.{form_after}
 use Rattle.elimination.proofs.NewEntries.{new_own, new_other}
@@ -23,9 +23,12 @@ second p b d = elim b as (λ x. Answer) [ false ↦ Err wide_factor | true ↦ l
 abbrev first : Refusal → Factor × List Column → Bool → Bool → Bool → Answer
 first e p b d g = elim b as (λ x. Answer) [ true ↦ Err e | false ↦ second p d g ]
 
-pub step_tests : (j : ℕ) (c : Column) (m : List Column) (b d : Bool) → int_lt c.own (pos (2 ^ 20)) ≡ false → all_small (factors (unsigned_abs c.own) c.others) ≡ b → form_small (next (unsigned_abs c.own) (len c.others) c.others m) ≡ d →
+pub step_tests : (j : ℕ) (c : Column) (m : List Column) (b d : Bool) → int_lt c.own (pos (2 ^ 20)) ≡ false → all_small (factors (unsigned_abs c.own) c.others) ≡ b →
+    form_small (next (unsigned_abs c.own) (len c.others) c.others m) ≡ d →
     step j c m ≡ second (record { d = kept (unsigned_abs c.own); l = factors (unsigned_abs c.own) c.others }, next (unsigned_abs c.own) (len c.others) c.others m) b d
-step_tests j c m b d e f g = ap (λ (x : Bool). first (weak j c.own) (record { d = kept (unsigned_abs c.own); l = factors (unsigned_abs c.own) c.others }, next (unsigned_abs c.own) (len c.others) c.others m) x (all_small (factors (unsigned_abs c.own) c.others)) (form_small (next (unsigned_abs c.own) (len c.others) c.others m))) e
+step_tests j c m b d e f g = ap (λ (x : Bool). first (weak j c.own)
+    (record { d = kept (unsigned_abs c.own); l = factors (unsigned_abs c.own) c.others }, next (unsigned_abs c.own) (len c.others) c.others m) x
+    (all_small (factors (unsigned_abs c.own) c.others)) (form_small (next (unsigned_abs c.own) (len c.others) c.others m))) e
     ∙ ap₂ (λ (x y : Bool). second (record { d = kept (unsigned_abs c.own); l = factors (unsigned_abs c.own) c.others }, next (unsigned_abs c.own) (len c.others) c.others m) x y) f g
 
 -- ---- by places

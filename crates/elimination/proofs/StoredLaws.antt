@@ -22,7 +22,8 @@ before_err [] e = refl
 before_err (f ∷ fs) e = ap (λ (x : Answer). with_factor f x) (before_err fs e)
 
 -- one more column
-pub stored_last : (d : List ℤ) (f : List (List ℤ)) (columns j count : ℕ) → stored d f columns j (suc count) ≡ stored d f columns j count ++ (factor_at (slice_index_or d (j + count) (pos 0)) f (j + count) (columns - (j + count) - 1) ∷ [])
+pub stored_last : (d : List ℤ) (f : List (List ℤ)) (columns j count : ℕ) →
+    stored d f columns j (suc count) ≡ stored d f columns j count ++ (factor_at (slice_index_or d (j + count) (pos 0)) f (j + count) (columns - (j + count) - 1) ∷ [])
 stored_last d f columns j zero = rw (add_nothing j) refl
   where
     add_nothing : (j : ℕ) → j + 0 ≡ j

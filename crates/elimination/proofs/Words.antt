@@ -3,11 +3,5 @@ use Rattle.std.proofs.Common.{◌≡◌, ◌+◌, ◌^◌, ◌<◌, ◌≤◌, �
 use Rattle.std.proofs.lemmas.Int.{ints}
 use Rattle.std.specs.Int.{w64, w128}
 
-pub as_w64 : (x : ℤ) → unsigned_abs x ≤ 2 ^ 62 → to_z w64 (of_z w64 x) ≡ x
-as_w64 x h = omega (arith, ints)
-
-pub as_w128 : (x : ℤ) → unsigned_abs x ≤ 2 ^ 126 → to_z w128 (of_z w128 x) ≡ x
-as_w128 x h = omega (arith, ints)
-
 pub wide_w128 : (x : ℤ) → unsigned_abs x < 2 ^ 126 + 2 ^ 115 → to_z w128 (of_z w128 x) ≡ x
 wide_w128 x h = omega (arith, ints)

@@ -1,3 +1,4 @@
 pub mod StepEntries
 pub mod Stops
 pub mod Taken
+pub mod Finish

@@ -1,7 +1,7 @@
 -- The entries of one step, by their places in a table.
 use Rattle.std.specs.Prelude.{ℕ, ◌^◌, Bool, nat_lt, nat_eq, cond, List, ℤ, pos, ◌-ℤ◌, ◌*ℤ◌, unsigned_abs}
 use Rattle.whole_math.specs.Rounding.{nearest_div, ceil_div}
-use Rattle.obs_rows.specs.Tables.{entry}
+use Rattle.form_tables.specs.Tables.{entry}
 
 -- below 2^52 in size
 abbrev pub is_small : ℤ → Bool

@@ -3,7 +3,7 @@ use Rattle.std.specs.Prelude.{ℕ, suc, List, ℤ}
 use Rattle.quadratic_form.specs.Forms.{Column}
 use Rattle.quadratic_form.specs.Elimination.{Refusal, weak, wide_factor, wide_entry}
 use Rattle.quadratic_form.specs.Places.{list_from, form_from}
-use Rattle.obs_rows.specs.Tables.{entry}
+use Rattle.form_tables.specs.Tables.{entry}
 use Rattle.elimination.specs.declared.step.Stop.{Stop}
 use Rattle.elimination.specs.declared.step.Stop.TheVariants.{Weak, WideFactor, WideEntry}
 

@@ -1,6 +1,7 @@
 //! The new entries of one step of the elimination.
 ghost use Rattle.std.specs.Prelude.{◌≡◌, ◌^◌, ◌≤◌, pos, ◌-ℤ◌, ◌*ℤ◌, ◌<ℤ◌, ◌≤ℤ◌, unsigned_abs, nat_lt};
 ghost use Rattle.whole_math.specs.Rounding.{nearest_div, ceil_div};
+ghost use Rattle.form_tables.specs.declared.sizes.TheConstants.{MOST_COLUMNS};
 
 use whole_math::{ceil, nearest};
 
@@ -76,7 +77,7 @@ pub(crate) fn other_after(entry: i128, p: i128, q: i128, a: i128) -> i128
 /// n · a / 2^42 upward: what the rounding of the factors may take from an own entry.
 fn factor_loss(count: i128, a: i128) -> i128
     requires count_from { pos 0 ≤ℤ count }
-    requires count_to { count ≤ℤ pos 44 }
+    requires count_to { count ≤ℤ pos MOST_COLUMNS }
     requires a_size { unsigned_abs a ≤ 2 ^ 52 }
     ensures value { result ≡ ceil_div (count *ℤ a) (2 ^ 42) }
     ensures size { unsigned_abs result ≤ 2 ^ 104 }
@@ -91,7 +92,7 @@ pub(crate) fn own_after(entry: i128, p: i128, a: i128, count: i128) -> i128
     requires a_size { unsigned_abs a ≤ 2 ^ 52 }
     requires positive { pos 0 <ℤ a }
     requires count_from { pos 0 ≤ℤ count }
-    requires count_to { count ≤ℤ pos 44 }
+    requires count_to { count ≤ℤ pos MOST_COLUMNS }
     ensures value { result ≡ ((entry -ℤ ceil_div (p *ℤ p) (unsigned_abs a)) -ℤ count) -ℤ ceil_div (count *ℤ a) (2 ^ 42) }
     ensures size { unsigned_abs result ≤ 2 ^ 107 }
 {

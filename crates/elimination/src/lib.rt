@@ -1,13 +1,18 @@
 //! The elimination of the columns of a form in whole numbers, in place on a table, whose every rounding is covered.
 //!
 //! On a table, in place, a row of steps (`take_steps`) is exactly that of the definition, and stops exactly where
-//! that does, for the same reason; it leaves all other factors as they were.
+//! that does, for the same reason; it leaves all other factors as they were. `finish` takes the steps of the integer
+//! columns from the form that those of the baseline left, entry by entry (`IsFinishOf`).
 #![tactic(auto)]
 
 mod entries;
+mod finished;
 mod step;
 mod steps;
+mod tables;
 
 pub use entries::is_small;
+pub use finished::finish;
 pub use step::Stop;
 pub use steps::{Stopped, take_steps};
+pub use tables::{first_kept, form_table, front_factors};

@@ -2,13 +2,13 @@
 //! Of a table only the entries on the diagonal and after it are read and written.
 ghost use Rattle.std.specs.Prelude.{◌≡◌, ◌≢◌, ◌⊎◌, ℕ, ◌+◌, ◌-◌, ◌^◌, ◌<◌, ◌≤◌, pos, ◌*ℤ◌, ◌<ℤ◌, unsigned_abs, true, false, IfOk, IfErr, Ok, Err};
 ghost use Rattle.quadratic_form.specs.Elimination.{step as elimination};
-ghost use Rattle.obs_rows.specs.Tables.{entry};
+ghost use Rattle.form_tables.specs.Tables.{entry};
 ghost use Rattle.elimination.specs.StepEntries.{is_small, factor_entry, other_entry, new_entry};
 ghost use Rattle.elimination.specs.Stops.{refusal_of, column_at, form_after};
 ghost use Rattle.integer_form.specs.Factors.{factor_at};
 
 use crate::entries::{factor_of, is_small, kept_of, other_after, own_after};
-use obs_rows::{FactorTable, MOST_COLUMNS, MOST_FACTORS, NormalTable};
+use form_tables::{FactorTable, MOST_COLUMNS, MOST_FACTORS, NormalTable};
 
 /// Why a step stops.
 #[derive(Clone, Copy, Debug, PartialEq, Eq)]

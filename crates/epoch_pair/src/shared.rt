@@ -1,48 +1,97 @@
 //! Which tracking code of each band both receivers observe.
-ghost use Rattle.std.specs.Prelude.{◌≡◌, ◌⊎◌, None, Some, MatchOption};
-ghost use Rattle.obs_rows.specs.declared.bands.TheConstants.{L1_LETTERS, L2_LETTERS};
-ghost use Rattle.epoch_pair.specs.Signals.{is_listed, is_common, common_letter};
+ghost use Rattle.std.specs.Prelude.{◌≡◌, ◌<◌, ◌⊎◌, ℕ, true, None, All, MatchOption, slice_index_or};
+ghost use Rattle.obs_rows.specs.declared.units.TheConstants.{PHASES, BANDS_12, BANDS_15, BANDS_125};
+ghost use Rattle.epoch_pair.specs.declared.shared.TheConstants.{BAND_DIGITS};
+ghost use Rattle.epoch_pair.specs.Signals.{is_listed, is_common, common_letter, letters_on, letter_on, is_among, IsLetterFor, AreLettersOf, LacksLetter, IsKeptLetter};
 
-use obs_rows::{L1_LETTERS, L2_LETTERS, Signals};
+use obs_rows::{BANDS_12, L1_LETTERS, L2_LETTERS, L5_LETTERS, PHASES, Signals};
 use obs_store::{ObsFile, ObsType};
 
-// Whether the header lists the type of this kind (`C` a code, `L` a phase), band and letter.
-fn lists(file: &ObsFile, kind: u8, band: u8, letter: u8) -> bool
-    ensures { result ≡ is_listed file.now.listed kind band letter }
+/// The digit of each band in the name of an observation type.
+pub const BAND_DIGITS: [u8; PHASES] = [b'1', b'2', b'5'];
+
+// Whether the header lists the type of this kind (`C` a code, `L` a phase), digit and letter.
+fn lists(file: &ObsFile, kind: u8, digit: u8, letter: u8) -> bool
+    ensures { result ≡ is_listed file.now.listed kind digit letter }
 {
-    match ObsType::named(&[kind, band, letter]) {
+    match ObsType::named(&[kind, digit, letter]) {
         Some(kept) => file.listed[kept.slot()],
         None => false,
     }
 }
 
 // Whether both headers list code and phase of the letter.
-fn is_shared(base: &ObsFile, rover: &ObsFile, band: u8, letter: u8) -> bool
-    ensures { result ≡ is_common base.now.listed rover.now.listed band letter }
+fn is_shared(base: &ObsFile, rover: &ObsFile, digit: u8, letter: u8) -> bool
+    ensures { result ≡ is_common base.now.listed rover.now.listed digit letter }
 {
-    lists(base, b'C', band, letter)
-        && lists(base, b'L', band, letter)
-        && lists(rover, b'C', band, letter)
-        && lists(rover, b'L', band, letter)
+    lists(base, b'C', digit, letter)
+        && lists(base, b'L', digit, letter)
+        && lists(rover, b'C', digit, letter)
+        && lists(rover, b'L', digit, letter)
 }
 
-fn first_shared(base: &ObsFile, rover: &ObsFile, band: u8, letters: &[u8]) -> Option<u8>
-    ensures { result ≡ common_letter base.now.listed rover.now.listed band letters.now }
+fn first_shared(base: &ObsFile, rover: &ObsFile, digit: u8, letters: &[u8]) -> Option<u8>
+    ensures { result ≡ common_letter base.now.listed rover.now.listed digit letters.now }
 {
     letters
         .iter()
         .copied()
-        .find(|&letter| is_shared(base, rover, band, letter))
+        .find(|&letter| is_shared(base, rover, digit, letter))
 }
 
-/// On each band the first letter, in the order of `L1_LETTERS` and `L2_LETTERS`, for which both headers list the
-/// code and its phase (RINEX 3, observation codes). `None` where a band has no such letter.
-pub fn signals(base: &ObsFile, rover: &ObsFile) -> Option<Signals>
-    ensures signals { MatchOption result
-        ((common_letter base.now.listed rover.now.listed 49 L1_LETTERS ≡ None) ⊎ (common_letter base.now.listed rover.now.listed 50 L2_LETTERS ≡ None))
-        (λ s. (common_letter base.now.listed rover.now.listed 49 L1_LETTERS ≡ Some s.l1) × (common_letter base.now.listed rover.now.listed 50 L2_LETTERS ≡ Some s.l2)) }
+fn letters_on(band: usize) -> &'static [u8]
+    ensures { result.now ≡ letters_on band }
 {
-    let l1 = first_shared(base, rover, b'1', &L1_LETTERS)?;
-    let l2 = first_shared(base, rover, b'2', &L2_LETTERS)?;
-    Some(Signals { l1, l2 })
+    match band {
+        0 => &L1_LETTERS,
+        1 => &L2_LETTERS,
+        _ => &L5_LETTERS,
+    }
 }
+
+fn is_among(bands: &[usize], band: usize) -> bool
+    ensures { result ≡ is_among bands.now band }
+{
+    bands.iter().any(|b| *b == band)
+}
+
+// The letter of a band, and 0 for one that is not among these. `None` where it is among them and has no letter.
+fn letter_for(base: &ObsFile, rover: &ObsFile, bands: &[usize], band: usize) -> Option<u8>
+    requires { band < PHASES }
+    ensures { MatchOption result
+        ((is_among bands.now band ≡ true) × (letter_on base.now.listed rover.now.listed band ≡ None))
+        (λ letter. IsLetterFor (is_among bands.now band) (letter_on base.now.listed rover.now.listed band) letter) }
+{
+    if !is_among(bands, band) {
+        return Some(0);
+    }
+    first_shared(base, rover, BAND_DIGITS[band], letters_on(band))
+}
+
+// L1 is used, and one more band at least.
+fn signals_on(base: &ObsFile, rover: &ObsFile, bands: &[usize]) -> Option<Signals>
+    requires { (bands.now ≡ BANDS_12) ⊎ ((bands.now ≡ BANDS_15) ⊎ (bands.now ≡ BANDS_125)) }
+    ensures { MatchOption result
+        (LacksLetter bands.now base.now.listed rover.now.listed)
+        (AreLettersOf bands.now base.now.listed rover.now.listed) }
+{
+    let l1 = letter_for(base, rover, bands, 0)?;
+    let l2 = letter_for(base, rover, bands, 1)?;
+    let l5 = letter_for(base, rover, bands, 2)?;
+    Some(Signals { l1, l2, l5 })
+}
+
+/// On L1 and on L2 the first letter, in the order of `L1_LETTERS` and `L2_LETTERS`, for which both headers list the
+/// code and its phase (RINEX 3, observation codes), and 0 on L5. `None` where L1 or L2 has no such letter.
+pub fn signals(base: &ObsFile, rover: &ObsFile) -> Option<Signals>
+    ensures { MatchOption result
+        (LacksLetter BANDS_12 base.now.listed rover.now.listed)
+        (AreLettersOf BANDS_12 base.now.listed rover.now.listed) }
+{
+    signals_on(base, rover, &BANDS_12)
+}
+
+/// Each letter that is tried on a band names a code and a phase that are kept, so none of them is passed over unread.
+pub fn kept_letters_law()
+    ensures { (band : ℕ) → band < PHASES → All (IsKeptLetter (slice_index_or BAND_DIGITS band 0)) (letters_on band) }
+{}

@@ -1,5 +1,6 @@
 -- What is known of the form of a session and of its two least vectors.
-use Rattle.std.proofs.Common.{◌≡◌, ℕ, suc, ◌+◌, ◌-◌, ◌*◌, ◌^◌, ◌<◌, ◌≤◌, true, false, Bool, List, length, ℤ, pos, ◌<ℤ◌, Result, Ok, Err, arith, sym, ap, ◌∙◌, subst, unsigned_abs, All, take, min}
+use Rattle.std.proofs.Common.{◌≡◌, ℕ, suc, ◌+◌, ◌-◌, ◌*◌, ◌^◌, ◌<◌, ◌≤◌, true, false, Bool, cond, lit≤, List, length, ℤ, pos, ◌<ℤ◌, Result, Ok, Err, arith, sym, ap, ◌∙◌, subst, unsigned_abs, All, take, min}
+use Rattle.std.specs.Prelude.{◌==◌}
 use Rattle.std.proofs.lemmas.List.{get_or_default, get_or-take, length-take}
 use Rattle.whole_math.specs.Vectors.{len, zeros}
 use Rattle.whole_math.proofs.Vectors.{len_is}
@@ -8,10 +9,13 @@ use Rattle.quadratic_form.specs.Forms.{Column}
 use Rattle.quadratic_form.specs.Elimination.{Factor, Refusal, wide_entry, form_small, steps}
 use Rattle.quadratic_form.specs.TwoLeast.{TwoLeast}
 use Rattle.quadratic_form.proofs.LowerSums.{small_second}
+use Rattle.obs_rows.specs.declared.bands.Signals.{Signals}
 use Rattle.obs_rows.specs.declared.sessions.Session.{Session}
+use Rattle.obs_rows.specs.declared.units.TheConstants.{SIGNALS_12, SIGNALS_15, SIGNALS_125}
 use Rattle.obs_rows.specs.Arcs.{free_count}
 use Rattle.obs_rows.specs.Ranges.{IsBelow}
-use Rattle.obs_rows.specs.Tables.{entry}
+use Rattle.form_tables.specs.Tables.{entry}
+use Rattle.obs_rows.specs.Signals.{fine_signals, counted, phases}
 use Rattle.obs_rows.specs.Integers.{integer_count}
 use Rattle.obs_rows.proofs.IntegerPlaces.{length_zeros}
 use Rattle.integer_form.specs.declared.form.Form.{Form}
@@ -22,7 +26,7 @@ use Rattle.integer_form.proofs.FormShapes.{len_form, shaped_form, len_with_one, 
 use Rattle.lower_form.specs.FirstRounding.{first_form}
 use Rattle.lower_form.specs.Fronts.{BoundsAllData}
 use Rattle.lower_form.proofs.FrontLaws.{bounds_all}
-use Rattle.lower_form.proofs.FinishLaws.{small_form}
+use Rattle.elimination.proofs.FinishLaws.{small_form}
 use Rattle.int_search.specs.declared.answer.TwoBest.{TwoBest}
 use Rattle.int_search.specs.Vectors.{IsSmall}
 use Rattle.int_search.specs.Answers.{IsTwoBest}
@@ -40,28 +44,42 @@ taken r false p e = absurd (apart e)
     apart : Err wide_entry ≡ Ok p → ⊥
     apart e = cc
 
-pub bounds_of : (s : Session) (f : Form) → IsFormOf s f → BoundsAllData s.arcs s.scale s.pairs f.h (columns_of f)
-bounds_of s f h = bounds_all s.arcs s.scale s.pairs h.normal f.h (stored f.d f.l f.columns 0 3, columns_of f) h.of_rows
+pub bounds_of : (s : Session) (f : Form) → IsFormOf s f → BoundsAllData s.arcs (counted s.signals s.scale) s.pairs f.h (columns_of f)
+bounds_of s f h = bounds_all s.arcs (counted s.signals s.scale) s.pairs h.normal f.h (stored f.d f.l f.columns 0 3, columns_of f) h.of_rows
     (taken (steps 0 3 (first_form f.h h.normal)) (form_small (first_form f.h h.normal)) (stored f.d f.l f.columns 0 3, columns_of f) h.lowered.front)
 
 -- ---- the number of integers
-pub integers_are : (s : Session) (f : Form) → IsFormOf s f → s.scale ≡ 0 → integers_of f ≡ integer_count s.arcs 0
-integers_are s f h fine = fewer f.columns h.normal.columns (integer_count s.arcs s.scale) (integer_count s.arcs 0) h.lowered.columns h.of_rows.columns (ap (integer_count s.arcs) fine)
+pub integers_are : (s : Session) (f : Form) → IsFormOf s f → s.scale ≡ 0 → integers_of f ≡ integer_count s.arcs (fine_signals s.signals)
+integers_are s f h fine = fewer f.columns h.normal.columns (integer_count s.arcs (counted s.signals s.scale)) (integer_count s.arcs (fine_signals s.signals)) h.lowered.columns h.of_rows.columns
+    (ap (λ (k : ℕ). integer_count s.arcs (counted s.signals k)) fine)
   where
     fewer : (a b c d : ℕ) → a ≡ b → b ≡ 4 + c → c ≡ d → a - 4 ≡ d
     fewer a b c d e f g = omega arith
 
-some_integers : (s : Session) → 1 ≤ integer_count s.arcs 0
-some_integers s = twice (free_count s.arcs) s.arcs_in.some_free
+-- a fine session has two phases or three
+some_phases : (signals : Signals) → 1 ≤ length (phases (fine_signals signals))
+some_phases signals = by_l5 (signals.l5 == 0)
   where
-    twice : (n : ℕ) → 1 ≤ n → 1 ≤ 2 * n
-    twice n h = omega arith
+    by_l2 : (unused : Bool) → 1 ≤ length (phases (cond unused SIGNALS_15 SIGNALS_125))
+    by_l2 true = lit≤ tt
+    by_l2 false = lit≤ tt
+
+    by_l5 : (unused : Bool) → 1 ≤ length (phases (cond unused SIGNALS_12 (cond (signals.l2 == 0) SIGNALS_15 SIGNALS_125)))
+    by_l5 true = lit≤ tt
+    by_l5 false = by_l2 (signals.l2 == 0)
+
+some_integers : (s : Session) → 1 ≤ integer_count s.arcs (fine_signals s.signals)
+some_integers s = product (length (phases (fine_signals s.signals))) (free_count s.arcs) (some_phases s.signals) s.arcs_in.some_free
+  where
+    product : (m n : ℕ) → 1 ≤ m → 1 ≤ n → 1 ≤ m * n
+    product m n h g = grind arith
 
 -- ---- the second value is below 2^54
 one_less : (n : ℕ) → 1 ≤ n → n ≡ suc (n - 1)
 one_less n h = omega arith
 
-small_value : (f : Form) (n : ℕ) (z1 z2 : List ℤ) → integers_of f ≡ suc n → TwoLeast (columns_of f) (pos (integers_of f)) z1 z2 → value_of f z2 <ℤ pos (2 ^ 54)
+-- a form that has integers
+pub small_value : (f : Form) (n : ℕ) (z1 z2 : List ℤ) → integers_of f ≡ suc n → TwoLeast (columns_of f) (pos (integers_of f)) z1 z2 → value_of f z2 <ℤ pos (2 ^ 54)
 small_value f n z1 z2 e t = small_second n (columns_of f) z1 z2 (small_form (entry f.p) 0 (f.columns - 3) f.entries_in) (shaped_form (entry f.p) 0 (f.columns - 3))
     (len_form (entry f.p) 0 (f.columns - 3) ∙ ap pos (columns_left f.columns f.columns_from ∙ ap suc e) ∙ sym (len_with_one (zeros (suc n)) (suc n) (length_zeros (suc n))))
     (subst (λ (k : ℤ). TwoLeast (columns_of f) k z1 z2) (ap pos e ∙ sym (len_is (zeros (suc n)) ∙ ap pos (length_zeros (suc n)))) t)

@@ -7,6 +7,6 @@ use Rattle.obs_rows.specs.Data.{Observed, AreData}
 use Rattle.obs_rows.specs.SumOfSquares.{sum_of_squares}
 use Rattle.obs_rows.specs.Best.{moved}
 
--- for all data in the boxes, the sum of squares of these pairs at the integers z and the move m is at most u
-pub record StaysAtMost (arcs : List Arc) (scale : ℕ) (pairs : List PairRows) (z m : List ℤ) (u : ℤ) : Type 0 where
-  pub above : (observed : List (List Observed)) → AreData scale pairs observed → sum_of_squares arcs scale pairs z (moved m) observed ≤ʳ of_whole u
+-- for all data in the boxes, the sum of squares of these pairs, over these signals, at the integers z and the move m is at most u
+pub record StaysAtMost (arcs : List Arc) (ss : List ℕ) (pairs : List PairRows) (z m : List ℤ) (u : ℤ) : Type 0 where
+  pub above : (observed : List (List Observed)) → AreData ss pairs observed → sum_of_squares arcs ss pairs z (moved m) observed ≤ʳ of_whole u

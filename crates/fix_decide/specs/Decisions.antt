@@ -1,6 +1,7 @@
 -- The decision whether the least integers of a session's form are fixed.
 use Rattle.std.specs.Prelude.{List, take, ℤ, pos, ◌*ℤ◌, ◌<ℤ◌}
 use Rattle.obs_rows.specs.declared.sessions.Session.{Session}
+use Rattle.obs_rows.specs.Signals.{counted}
 use Rattle.normal_sum.specs.declared.normal.Normal.{Normal}
 use Rattle.normal_sum.specs.Normals.{IsNormalOf}
 use Rattle.integer_form.specs.declared.form.Form.{Form}
@@ -11,7 +12,7 @@ use Rattle.int_search.specs.declared.answer.TwoBest.{TwoBest}
 -- the form is that of the normal matrix of the session's rows
 pub record IsFormOf (s : Session) (f : Form) : Type 0 where
   pub normal : Normal
-  pub of_rows : IsNormalOf s.arcs s.scale s.pairs normal
+  pub of_rows : IsNormalOf s.arcs (counted s.signals s.scale) s.pairs normal
   pub lowered : IsLowerOf normal f
 
 -- z1 and z2
@@ -21,7 +22,7 @@ first_of b = take b.size b.first
 abbrev pub second_of : TwoBest → List ℤ
 second_of b = take b.size b.second
 
--- the baseline of the integers z, as a move in 2^-10 κ
+-- the baseline of the integers z, as a move in 2^-5 ι
 abbrev pub move_of : Form → List ℤ → List ℤ
 move_of f z = baseline_at f.d f.l f.columns z
 

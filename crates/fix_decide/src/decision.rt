@@ -2,6 +2,7 @@
 ghost use Rattle.std.specs.Prelude.{◌≡◌, ◌⊎◌, ◌↔◌, ◌^◌, ◌≤◌, pos, ◌*ℤ◌, ◌≤ℤ◌, IsTrue, IfOk, IfErr, IsErrAnd};
 ghost use Rattle.integer_form.specs.declared.faults.Place.TheVariants.{Float, Sum};
 ghost use Rattle.integer_form.specs.FloatPoint.{HasWide};
+ghost use Rattle.obs_rows.specs.Signals.{fine_signals};
 ghost use Rattle.obs_rows.specs.Best.{IsStrictlyBest};
 ghost use Rattle.fix_decide.specs.UpperSums.{top};
 ghost use Rattle.fix_decide.specs.Widths.{AreWide};
@@ -20,7 +21,7 @@ pub struct Decision {
     pub fixed: bool,
     /// The two least vectors of the form, with its values there.
     pub best: TwoBest,
-    /// The baseline of the first, as a move in 2^-10 κ.
+    /// The baseline of the first, as a move in 2^-5 ι.
     pub moved: [i64; 3],
     /// The upper sum at the first with this move, in units of 2^h.
     pub top: i128,
@@ -40,7 +41,7 @@ fn times_ratio(ratio: u32, top: i128) -> i128
 }
 
 /// Whether 1000 · p2 > 64 · ratio · top.
-pub(crate) fn is_separated(ratio: u32, top: i128, p2: i128) -> bool
+pub fn is_separated(ratio: u32, top: i128, p2: i128) -> bool
     requires ratio_from { 1000 ≤ ratio }
     requires ratio_to { ratio ≤ 100_000 }
     requires top_from { pos 0 ≤ℤ top }
@@ -74,14 +75,14 @@ pub fn decide(
 
     ensures best { IfOk result (λ d. d.best ≡ best.now) }
     ensures moved { IfOk result (λ d. d.moved ≡ move_of form.now (first_of best.now)) }
-    ensures top { IfOk result (λ d. d.top ≡ top form.now.h session.now.arcs session.now.pairs (first_of best.now) d.moved) }
+    ensures top { IfOk result (λ d. d.top ≡ top form.now.h session.now.arcs (fine_signals session.now.signals) session.now.pairs (first_of best.now) d.moved) }
     ensures top_from { IfOk result (λ d. pos 0 ≤ℤ d.top) }
-    ensures top_to { IfOk result (λ d. d.top ≤ℤ pos (2 ^ 118)) }
+    ensures top_to { IfOk result (λ d. d.top ≤ℤ pos (2 ^ 119)) }
     ensures fixed { IfOk result (λ d. IsTrue d.fixed ↔ IsSeparated (pos ratio) d.top best.now.p2) }
     ensures strictly_best { IfOk result (λ d. IsTrue d.fixed → IsStrictlyBest session.now (first_of best.now) d.moved) }
 
     ensures float { IsErrAnd result (λ e. e.place ≡ Float) ↔ HasWide (move_of form.now (first_of best.now)) }
-    ensures sum { IsErrAnd result (λ e. e.place ≡ Sum) ↔ ((HasWide (move_of form.now (first_of best.now)) → ⊥) × AreWide session.now.arcs session.now.pairs (first_of best.now) (move_of form.now (first_of best.now))) }
+    ensures sum { IsErrAnd result (λ e. e.place ≡ Sum) ↔ ((HasWide (move_of form.now (first_of best.now)) → ⊥) × AreWide session.now.arcs (fine_signals session.now.signals) session.now.pairs (first_of best.now) (move_of form.now (first_of best.now))) }
     ensures only { IfErr result (λ e. (e.place ≡ Float) ⊎ (e.place ≡ Sum)) }
 {
     let first = &best.first[..best.size];

@@ -9,16 +9,19 @@
 //! `place`). `decide` gives the two least vectors as it got them, the baseline of the first as its move, their upper
 //! sum, and fixes exactly where 1000·P(z2) > 64·ratio·T (`best`, `moved`, `top`, `fixed`); it is refused by `Float`
 //! exactly where the baseline is too large and by `Sum` exactly where the upper sum is refused (`float`, `sum`,
-//! `only`). None of them takes memory.
+//! `only`). `is_separated` is that inequality alone, and `integer_of` and `centre_of` the integer and the residual of one
+//! arc and signal. None of them takes memory.
 #![tactic(auto)]
 
 mod decision;
 mod gaps;
+mod integers;
 mod pairs;
 mod reaches;
 mod upper_sums;
 
-pub use decision::{Decision, decide};
+pub use decision::{Decision, decide, is_separated};
+pub use integers::integer_of;
 pub use pairs::pair_upper;
 pub use reaches::centre_of;
 pub use upper_sums::upper_sum;

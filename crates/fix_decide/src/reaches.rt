@@ -1,20 +1,19 @@
 //! Where the residual of a row may lie, whatever the data in its boxes are.
 ghost use Rattle.std.specs.Prelude.{◌≡◌, ◌+◌, ◌*◌, ◌^◌, ◌<◌, ◌≤◌, map, length, All, pos, ◌+ℤ◌, ◌-ℤ◌, ◌*ℤ◌, ◌≤ℤ◌, unsigned_abs, IfOk, IfErr, OnErr};
 ghost use Rattle.whole_math.specs.Rounding.{floor_div, ceil_div};
-ghost use Rattle.obs_rows.specs.Ranges.{IsWithin, IsBelow, IsRadius};
+ghost use Rattle.obs_rows.specs.declared.units.TheConstants.{MOST_FREE_ARCS};
 ghost use Rattle.obs_rows.specs.Arcs.{free_count};
-ghost use Rattle.obs_rows.specs.Signals.{cycle};
-ghost use Rattle.obs_rows.specs.Integers.{integer_count, integer};
+ghost use Rattle.obs_rows.specs.Ranges.{IsWithin, IsBelow, IsRadius};
+ghost use Rattle.obs_rows.specs.Signals.{cycle, AreCounted};
+ghost use Rattle.obs_rows.specs.Integers.{integer_count};
 ghost use Rattle.obs_rows.specs.Best.{move_exponent};
 ghost use Rattle.quadratic_form.specs.UpperSum.{size};
 ghost use Rattle.fix_decide.specs.Reaches.{IsNarrow, extent};
 ghost use Rattle.fix_decide.specs.UpperSums.{scalar_product, centre, rad, reach_of};
 
+use crate::integers::integer_of;
 use integer_form::{Overwidth, Place};
-use obs_rows::{
-    Arc, DIRECTION_EXPONENT, MOST_FREE_ARCS, MOVE_EXPONENT, PHASES, ROW_EXPONENT, Row, SIGNALS,
-    WAVELENGTHS, free_arcs,
-};
+use obs_rows::{Arc, DIRECTION_EXPONENT, MOVE_EXPONENT, ROW_EXPONENT, Row, SIGNALS, WAVELENGTHS};
 use whole_math::{ceil_shift, floor_shift};
 
 /// The most rows of a pair.
@@ -100,22 +99,6 @@ fn sizes(m: &[i64; 3]) -> [i64; 3]
     [size(m[0]), size(m[1]), size(m[2])]
 }
 
-/// The integer of an arc and a signal: 0 for a datum and for a code.
-fn integer_of(arcs: &[Arc], z: &[i64], arc: usize, signal: usize) -> i64
-    requires arc { arc < length arcs.now }
-    requires signal { signal < SIGNALS }
-    requires free { free_count arcs.now ≤ MOST_FREE_ARCS }
-    requires entries { length z.now ≡ integer_count arcs.now 0 }
-    requires z_size { All (IsBelow (2 ^ 30)) z.now }
-    ensures value { result ≡ integer arcs.now 0 z.now arc signal }
-    ensures size { unsigned_abs result ≤ 2 ^ 30 }
-{
-    if signal >= PHASES || arcs[arc].datum {
-        return 0;
-    }
-    z[PHASES * free_arcs(&arcs[..arc]) + signal]
-}
-
 /// λ · N in the unit of the rows.
 fn cycles(signal: usize, integer: i64) -> i64
     requires signal { signal < SIGNALS }
@@ -136,19 +119,27 @@ fn finer(y: i64, advance: i128) -> i128
     y as i128 * (1 << FINER) - advance
 }
 
-/// The residual of the centres of the boxes, rounded down, in the unit of the rows, at the integers z and a move in
-/// 2^-10 κ.
-pub fn centre_of(arcs: &[Arc], z: &[i64], moved: &[i64; 3], row: &Row, signal: usize) -> i64
+/// The residual of the centres of the boxes, rounded down, in the unit of the rows, at the integers z of these signals and a
+/// move in 2^-5 ι.
+pub fn centre_of(
+    arcs: &[Arc],
+    signals: &[usize],
+    z: &[i64],
+    moved: &[i64; 3],
+    row: &Row,
+    signal: usize,
+) -> i64
     requires arc { row.now.arc < length arcs.now }
     requires signal { signal < SIGNALS }
     requires free { free_count arcs.now ≤ MOST_FREE_ARCS }
-    requires entries { length z.now ≡ integer_count arcs.now 0 }
+    requires counted { AreCounted signals.now }
+    requires entries { length z.now ≡ integer_count arcs.now signals.now }
     requires z_size { All (IsBelow (2 ^ 30)) z.now }
     requires moved_size { All (IsWithin (2 ^ 46)) moved.now }
-    ensures value { result ≡ centre arcs.now z.now moved.now signal row.now }
+    ensures value { result ≡ centre arcs.now signals.now z.now moved.now signal row.now }
     ensures size { unsigned_abs result ≤ 2 ^ 57 }
 {
-    let integer = integer_of(arcs, z, row.arc as usize, signal);
+    let integer = integer_of(arcs, signals, z, row.arc as usize, signal);
     let residual = finer(row.y[signal], scalar_product(&row.u, moved));
     rounded_down(residual) - cycles(signal, integer)
 }
@@ -167,6 +158,7 @@ fn radius_of(moved: &[i64; 3], row: &Row) -> i64
 /// Where the residual of a row may lie, as a signal sees it.
 pub(crate) fn reach_of(
     arcs: &[Arc],
+    signals: &[usize],
     z: &[i64],
     moved: &[i64; 3],
     row: &Row,
@@ -175,15 +167,16 @@ pub(crate) fn reach_of(
     requires arc { row.now.arc < length arcs.now }
     requires signal { signal < SIGNALS }
     requires free { free_count arcs.now ≤ MOST_FREE_ARCS }
-    requires entries { length z.now ≡ integer_count arcs.now 0 }
+    requires counted { AreCounted signals.now }
+    requires entries { length z.now ≡ integer_count arcs.now signals.now }
     requires z_size { All (IsBelow (2 ^ 30)) z.now }
     requires moved_size { All (IsWithin (2 ^ 46)) moved.now }
-    ensures value { IfOk result (λ p. p ≡ reach_of arcs.now z.now moved.now signal row.now) }
+    ensures value { IfOk result (λ p. p ≡ reach_of arcs.now signals.now z.now moved.now signal row.now) }
     ensures narrow { IfOk result IsNarrow }
     ensures place { IfErr result (λ e. e.place ≡ Place.Sum) }
-    ensures wide { OnErr result (pos (2 ^ 33) ≤ℤ extent (reach_of arcs.now z.now moved.now signal row.now)) }
+    ensures wide { OnErr result (pos (2 ^ 33) ≤ℤ extent (reach_of arcs.now signals.now z.now moved.now signal row.now)) }
 {
-    let centre = centre_of(arcs, z, moved, row, signal);
+    let centre = centre_of(arcs, signals, z, moved, row, signal);
     let rad = radius_of(moved, row);
     if size(centre) + rad >= WIDE {
         return Err(Overwidth { place: Place::Sum });

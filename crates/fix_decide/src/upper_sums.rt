@@ -1,21 +1,24 @@
 //! The upper sum of a session.
 ghost use Rattle.std.specs.Prelude.{◌≡◌, ◌^◌, ◌<◌, ◌≤◌, ◌↔◌, length, All, pos, ◌*ℤ◌, ◌≤ℤ◌, IsErr, IfOk, IfErr};
-ghost use Rattle.obs_rows.specs.Ranges.{IsBelow};
+ghost use Rattle.obs_rows.specs.declared.units.TheConstants.{MOST_FREE_ARCS};
 ghost use Rattle.obs_rows.specs.Arcs.{free_count};
+ghost use Rattle.obs_rows.specs.Ranges.{IsBelow};
 ghost use Rattle.obs_rows.specs.Pairs.{HasItsArcs};
 ghost use Rattle.obs_rows.specs.Integers.{integer_count};
+ghost use Rattle.obs_rows.specs.Signals.{fine_signals, AreCounted};
 ghost use Rattle.fix_decide.specs.UpperSums.{upper_sum as upper_sum_of, top};
 ghost use Rattle.fix_decide.specs.Bounds.{StaysAtMost};
 ghost use Rattle.fix_decide.specs.Widths.{AreWide};
 
 use crate::pairs::pair_upper;
 use integer_form::{Form, Overwidth, Place};
-use obs_rows::{Arc, MOST_FREE_ARCS, PairRows, Session};
+use obs_rows::{Arc, PairRows, Session, fine_signals};
 use whole_math::ceil_shift;
 
 /// U of all these pairs.
 fn sum_of_pairs(
     arcs: &[Arc],
+    signals: &[usize],
     pairs: &[PairRows],
     z: &[i64],
     moved: &[i64; 3],
@@ -23,26 +26,27 @@ fn sum_of_pairs(
     requires arcs { All (HasItsArcs arcs.now) pairs.now }
     requires few { length pairs.now ≤ 3600 }
     requires free { free_count arcs.now ≤ MOST_FREE_ARCS }
-    requires entries { length z.now ≡ integer_count arcs.now 0 }
+    requires counted { AreCounted signals.now }
+    requires entries { length z.now ≡ integer_count arcs.now signals.now }
     requires z_size { All (IsBelow (2 ^ 30)) z.now }
     requires moved_size { All (IsBelow (2 ^ 46)) moved.now }
-    ensures value { IfOk result (λ u. u ≡ upper_sum_of arcs.now pairs.now z.now moved.now) }
+    ensures value { IfOk result (λ u. u ≡ upper_sum_of arcs.now signals.now pairs.now z.now moved.now) }
     ensures from { IfOk result (λ u. pos 0 ≤ℤ u) }
-    ensures to { IfOk result (λ u. u ≤ℤ pos (2 ^ 118)) }
-    ensures refused { IsErr result ↔ AreWide arcs.now pairs.now z.now moved.now }
+    ensures to { IfOk result (λ u. u ≤ℤ pos (2 ^ 119)) }
+    ensures refused { IsErr result ↔ AreWide arcs.now signals.now pairs.now z.now moved.now }
     ensures place { IfErr result (λ e. e.place ≡ Place.Sum) }
 {
     let mut sum = 0;
     for pair in pairs {
-        sum += pair_upper(arcs, pair, z, moved)?;
+        sum += pair_upper(arcs, signals, pair, z, moved)?;
     }
     Ok(sum)
 }
 
 /// T: what the weighted sum of squares of a fine session is at most, in units of 2^h, at the integers z and a move in
-/// 2^-10 κ.
+/// 2^-5 ι.
 ///
-/// z has two entries for each free arc. Refused by the place `Sum` exactly where the residual of some row may lie 2^33 or
+/// z has an entry for each free arc and each phase. Refused by the place `Sum` exactly where the residual of some row may lie 2^33 or
 /// more from 0, as some signal sees it.
 pub fn upper_sum(
     session: &Session,
@@ -51,16 +55,22 @@ pub fn upper_sum(
     moved: &[i64; 3],
 ) -> Result<i128, Overwidth>
     requires fine { session.now.scale ≡ 0 }
-    requires entries { length z.now ≡ integer_count session.now.arcs 0 }
+    requires entries { length z.now ≡ integer_count session.now.arcs (fine_signals session.now.signals) }
     requires z_size { All (IsBelow (2 ^ 30)) z.now }
     requires moved_size { All (IsBelow (2 ^ 46)) moved.now }
-    ensures value { IfOk result (λ t. t ≡ top form.now.h session.now.arcs session.now.pairs z.now moved.now) }
-    ensures above { IfOk result (λ t. StaysAtMost session.now.arcs session.now.scale session.now.pairs z.now moved.now (pos (2 ^ form.now.h) *ℤ t)) }
+    ensures value { IfOk result (λ t. t ≡ top form.now.h session.now.arcs (fine_signals session.now.signals) session.now.pairs z.now moved.now) }
+    ensures above { IfOk result (λ t. StaysAtMost session.now.arcs (fine_signals session.now.signals) session.now.pairs z.now moved.now (pos (2 ^ form.now.h) *ℤ t)) }
     ensures from { IfOk result (λ t. pos 0 ≤ℤ t) }
-    ensures to { IfOk result (λ t. t ≤ℤ pos (2 ^ 118)) }
-    ensures refused { IsErr result ↔ AreWide session.now.arcs session.now.pairs z.now moved.now }
+    ensures to { IfOk result (λ t. t ≤ℤ pos (2 ^ 119)) }
+    ensures refused { IsErr result ↔ AreWide session.now.arcs (fine_signals session.now.signals) session.now.pairs z.now moved.now }
     ensures place { IfErr result (λ e. e.place ≡ Place.Sum) }
 {
-    let sum = sum_of_pairs(session.arcs.as_slice(), session.pairs.as_slice(), z, moved)?;
+    let sum = sum_of_pairs(
+        session.arcs.as_slice(),
+        fine_signals(session.signals),
+        session.pairs.as_slice(),
+        z,
+        moved,
+    )?;
     Ok(ceil_shift(sum, form.h))
 }

@@ -14,7 +14,8 @@ use Rattle.cert_data.specs.declared.verdicts.Verdict.TheVariants.{Certified}
 use Rattle.cert_check.specs.Decided.{Numbers, IsFixed, Says, numbers}
 use Rattle.cert_check.specs.Verdicts.{IsVerdictOf, IsGivenUp}
 use Rattle.cert_check.proofs.OneVerdict.{one_verdict}
-use Rattle.round_steps.specs.Steps.{IsRoundDeclined, IsDecision}
+use Rattle.settled_decision.specs.Decided.{IsDecision}
+use Rattle.round_steps.specs.Steps.{IsRoundDeclined}
 use Rattle.round_steps.specs.Runs.{Rules, EndsFull, is_last}
 use Rattle.run_options.specs.declared.options.Options.{Options}
 use Rattle.session.specs.FileRules.{rules_of}
@@ -47,7 +48,7 @@ decided_again rules ratio budget made s tail cert fix tail_is full = elim (full.
 pub certified_again : (base rover : ObsFile) (nav : Records) (options : Options) (outcome : Outcome) (cert : Cert) → IsOutcome base rover nav options outcome → outcome.answer ≡ Full cert → IsFix cert → IsVerdictOf cert.session cert.ratio cert.budget cert.tail Certified
 certified_again base rover nav options outcome cert is full fix =
     let f = is.rounds in
-    let rules : Rules = rules_of f.screened.boxes (length f.screened.used) f.kept f.position f.signals in
+    let rules : Rules = rules_of f.screened.boxes (length f.screened.used) f.kept f.position f.signals f.system in
     let ends = (subst (IsAnswer rules outcome.taken options outcome.rounds) full is.answer_is).1 in
     let d : Numbers = numbers fix.h fix.moved fix.best fix.top in
     let again : IsFixed cert.session options.ratio d = decided_again rules options.ratio options.budget outcome.rounds cert.session cert.tail cert fix fix.tail_is ends.ends in

@@ -8,20 +8,23 @@ use Rattle.cert_data.specs.declared.outcomes.Answer.{Answer}
 use Rattle.cert_data.specs.declared.outcomes.Answer.TheVariants.{Few, Arcs, Early, Full}
 use Rattle.cert_data.specs.declared.tails.Tail.{Tail}
 use Rattle.cert_data.specs.declared.tails.Tail.TheVariants as tail
+use Rattle.eph_store.specs.File.{Records}
+use Rattle.obs_store.specs.declared.file.ObsFile.{ObsFile}
 use Rattle.run_options.specs.declared.options.Options.{Options}
-use Rattle.round_steps.specs.Steps.{IsBestWhereFixed}
+use Rattle.settled_decision.specs.Decided.{IsBestWhereFixed}
 use Rattle.session.specs.Answers.{IsBestAnswer}
 use Rattle.outcome_report.specs.OutcomeText.{answer_text, IsWholeAnswer, is_fixed, is_fixed_tail}
 use Rattle.job_answers.specs.declared.status.Status.TheVariants.{Done, Declined, ReadFault}
 use Rattle.job_answers.specs.Statuses.{IsVerdictStatus, IsJobStatus}
 use Rattle.job_answers.specs.Endings.{Ending, EndsByFile}
 use Rattle.job_answers.specs.Delivered.{SinkChange}
-use Rattle.job_answers.proofs.EndingLaws.{verdict_at, job_status_at}
+use Rattle.job_answers.proofs.EndingLaws.{verdict_at, job_status_at, verdict_whole}
 use Rattle.session_files.specs.SessionFiles.{StopsAtFiles}
-use Rattle.arcs_job.specs.ArcJobs.{ArcsEnds}
-use Rattle.arcs_job.specs.ArcRuns.{AreAdmitted}
-use Rattle.arcs_job.proofs.ArcSays.{arcs_status, arcs_verdict}
-use Rattle.fix_job.specs.FixJobs.{FixEnds}
+use Rattle.session_files.proofs.FileLaws.{files_status, no_stop}
+use Rattle.pair_refusals.specs.Refusals.{AreRefusedWhole}
+use Rattle.pair_refusals.specs.Admitted.{AreAdmitted}
+use Rattle.pair_refusals.proofs.RefusalLaws.{never_refused, stop_whole, pair_whole}
+use Rattle.fix_job.specs.FixJobs.{FixEnd, FixEnds}
 use Rattle.fix_job.specs.FixRuns.{IsFix, HaveOutcome, SaysOfFix}
 use Rattle.fix_job.proofs.Runs.{stands_for}
 use Rattle.fix_job.proofs.Certified.{certified_again, no_other}
@@ -40,16 +43,19 @@ fix_status told base rover nav o end (inl session) = elim (session.ends_so) [
   | inl outcome ↦ job_status_at end _ outcome.end_is (job_of (is_fixed outcome.outcome.answer))
   | inr refused ↦ job_status_at end _ refused.end_is tt
 ]
-fix_status told base rover nav o end (inr stops) = arcs_status told base rover nav o end (inr stops)
+fix_status told base rover nav o end (inr stops) = files_status told base rover nav end stops
 
 pub fix_verdict : (told : List ℕ → Option (List ℕ)) (base rover nav : List ℕ) (o : Options) (end : Ending) → AreAdmitted told base rover nav o → end.status ≢ ReadFault → FixEnds told base rover nav o end → IsVerdictStatus end.status
 fix_verdict told base rover nav o end admitted no_fault (inl session) = elim (session.ends_so) [
   | inl outcome ↦ verdict_at end _ outcome.end_is (verdict_of (is_fixed outcome.outcome.answer))
-  | inr refused ↦
-      let ends : ArcsEnds told base rover nav o end = inl (record { base_file = session.base_file; rover_file = session.rover_file; records = session.records; are = session.are; ends_so = inr refused }) in
-      arcs_verdict told base rover nav o end admitted no_fault ends
+  | inr refused ↦ absurd (never_refused told base rover nav o session.base_file session.rover_file session.records end admitted session.are refused)
 ]
-fix_verdict told base rover nav o end admitted no_fault (inr stops) = arcs_verdict told base rover nav o end admitted no_fault (inr stops)
+fix_verdict told base rover nav o end admitted no_fault (inr stops) = absurd (no_stop told base rover nav end admitted.base_is admitted.rover_is admitted.nav_is no_fault stops)
+
+-- ---- refusals
+pub fix_whole : (told : List ℕ → Option (List ℕ)) (left : ℕ → Option (List ℕ)) (names : List (List ℕ)) (o : Options) (b r : ObsFile) (n : Records) (end : Ending) → FixEnd o b r n end → AreRefusedWhole told left names end
+fix_whole told left names o b r n end (inl outcome) = stop_whole told left names end (verdict_whole told left names end (verdict_at end _ outcome.end_is (verdict_of (is_fixed outcome.outcome.answer))))
+fix_whole told left names o b r n end (inr refused) = pair_whole told left names b r o end refused
 
 -- ---- what is said
 says_at : (told : List ℕ → Option (List ℕ)) (base rover nav : List ℕ) (o : Options) (end t : Ending) (out : SinkChange) → end ≡ t → SaysOfFix told base rover nav o t.status out → SaysOfFix told base rover nav o end.status out

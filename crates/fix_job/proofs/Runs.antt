@@ -2,9 +2,9 @@
 use Rattle.std.proofs.Common.{◌≡◌, inl, inr, ℕ, length, map, subst}
 use Rattle.obs_store.specs.declared.file.ObsFile.{ObsFile}
 use Rattle.eph_store.specs.File.{Records}
-use Rattle.sv_orbit.specs.Solutions.{gps}
 use Rattle.obs_rows.specs.declared.arcs.Arc.{Arc}
 use Rattle.obs_rows.specs.declared.sessions.Session.{Session}
+use Rattle.screening.specs.Worlds.{world_of}
 use Rattle.screening.specs.Screening.{setting_of}
 use Rattle.row_build.specs.Stands.{StandsForFiles}
 use Rattle.cert_data.specs.declared.certs.Cert.{Cert}
@@ -30,7 +30,7 @@ pub stands_for : (b r : ObsFile) (n : Records) (o : Options) (outcome : Outcome)
 stands_for b r n o outcome cert is full =
     let f = is.rounds in
     let s : Session = cert.session in
-    let rules : Rules = rules_of f.screened.boxes (length f.screened.used) f.kept f.position f.signals in
+    let rules : Rules = rules_of f.screened.boxes (length f.screened.used) f.kept f.position f.signals f.system in
     let ends = (subst (IsAnswer rules outcome.taken o outcome.rounds) full is.answer_is).1 in
     let stands = is.stands s (full_stands rules o.ratio o.budget outcome.rounds s cert.tail ends.ends) in
     record {
@@ -42,5 +42,5 @@ stands_for b r n o outcome cert is full =
       signals_are = is.signals_are;
       taken = is.taken;
       taken_are = is.taken_are;
-      stands = subst (λ (k : ℕ). StandsForFiles (setting_of b n is.signals o.mask gps) b.epochs r.epochs is.taken o.jump o.arc is.position is.signals s.point (map (λ (a : Arc). a.shift) s.arcs) k s) cert.fine stands;
+      stands = subst (λ (k : ℕ). StandsForFiles (setting_of b n is.signals o.mask (world_of o.system)) b.epochs r.epochs is.taken o.jump o.arc o.system is.position is.signals s.point (map (λ (a : Arc). a.shift) s.arcs) k s) cert.fine stands;
     }

@@ -13,7 +13,7 @@ use Rattle.job_answers.specs.declared.status.Status.{Status}
 use Rattle.job_answers.specs.declared.status.Status.TheVariants.{Done, Declined}
 use Rattle.job_answers.specs.Endings.{Ending, ending}
 use Rattle.session_files.specs.SessionFiles.{EndsBySession}
-use Rattle.arcs_job.specs.ArcJobs.{IsPairRefused}
+use Rattle.pair_refusals.specs.Refusals.{IsPairRefused}
 
 -- done for a fix, else declined
 abbrev pub status_of : Answer → Status

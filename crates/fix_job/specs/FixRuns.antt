@@ -4,11 +4,11 @@ use Rattle.std.specs.declared.option.Option.{Option}
 use Rattle.std.specs.Io.KnownBytes.{Appends}
 use Rattle.obs_store.specs.declared.file.ObsFile.{ObsFile}
 use Rattle.eph_store.specs.File.{Records}
-use Rattle.sv_orbit.specs.Solutions.{gps}
 use Rattle.obs_rows.specs.declared.arcs.Arc.{Arc}
 use Rattle.obs_rows.specs.declared.bands.Signals.{Signals}
 use Rattle.obs_rows.specs.Best.{IsStrictlyBest}
 use Rattle.epoch_pair.specs.declared.pairs.PairOf.{PairOf}
+use Rattle.screening.specs.Worlds.{world_of}
 use Rattle.screening.specs.Screening.{setting_of}
 use Rattle.row_build.specs.Stands.{StandsForFiles}
 use Rattle.int_search.specs.declared.answer.TwoBest.{TwoBest}
@@ -23,7 +23,7 @@ use Rattle.cert_spelling.specs.Spelling.{spelling}
 use Rattle.cert_spelling.specs.Lengths.{IsWhole}
 use Rattle.cert_check.specs.Verdicts.{IsVerdictOf, IsGivenUp}
 use Rattle.run_options.specs.declared.options.Options.{Options}
-use Rattle.session_begin.specs.Beginnings.{IsPosition, AreSignals, AreTaken}
+use Rattle.session_begin.specs.Beginnings.{IsPosition, bands_of, AreSignals, AreTaken}
 use Rattle.session.specs.Outcomes.{IsOutcome}
 use Rattle.outcome_report.specs.OutcomeText.{answer_text, IsWholeAnswer, is_fixed}
 use Rattle.job_answers.specs.declared.status.Status.{Status}
@@ -49,10 +49,10 @@ pub record StandsForIts (b r : ObsFile) (n : Records) (o : Options) (cert : Cert
   pub position : List ℤ
   pub position_is : IsPosition b position
   pub signals : Signals
-  pub signals_are : AreSignals b r signals
+  pub signals_are : AreSignals (bands_of o) b r signals
   pub taken : List PairOf
   pub taken_are : AreTaken b r o taken
-  pub stands : StandsForFiles (setting_of b n signals o.mask gps) b.epochs r.epochs taken o.jump o.arc position signals cert.session.point (map (λ (a : Arc). a.shift) cert.session.arcs) 0 cert.session
+  pub stands : StandsForFiles (setting_of b n signals o.mask (world_of o.system)) b.epochs r.epochs taken o.jump o.arc o.system position signals cert.session.point (map (λ (a : Arc). a.shift) cert.session.arcs) 0 cert.session
 
 -- the three texts stand for a session, whose outcome is this
 pub record HaveOutcome (told : List ℕ → Option (List ℕ)) (base rover nav : List ℕ) (o : Options) (outcome : Outcome) : Type 0 where

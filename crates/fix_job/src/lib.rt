@@ -12,16 +12,17 @@ ghost use Rattle.std.specs.Prelude.{◌≡◌, ◌≢◌, [], ◌∷◌, IfOk, A
 ghost use Rattle.line_source.specs.Causes.{Rose, OpensAtMost};
 ghost use Rattle.job_answers.specs.Statuses.{IsVerdictStatus};
 ghost use Rattle.job_answers.specs.Answers.{ending_of, IfEnded};
-ghost use Rattle.job_answers.specs.Endings.{ending, IsRefusedWhole};
+ghost use Rattle.job_answers.specs.Endings.{ending};
 ghost use Rattle.outcome_report.specs.OutcomeText.{answer_text, outcome_text, IsWholeAnswer};
+ghost use Rattle.pair_refusals.specs.Refusals.{AreRefusedWhole};
 ghost use Rattle.fix_job.specs.FixJobs.{status_of, FixEnd, FixEnds};
 
-use arcs_job::refused_pair;
 use eph_store::NavFile;
 use job_answers::{Answer, Status, Stop};
 use line_source::Files;
 use obs_store::ObsFile;
 use outcome_report::{is_fixed, write_outcome};
+use pair_refusals::refused_pair;
 use run_options::Options;
 use session::{Outcome, SessionFault, process};
 use session_files::read_session;
@@ -81,7 +82,7 @@ pub fn fix<F: Files>(
     options: &Options,
 ) -> Result<Answer, Stop>
     ensures ends { IfEnded result (λ end. FixEnds (F.text_of files.old) base.now rover.now nav.now options.now end) }
-    ensures refused { IfEnded result (λ end. IsRefusedWhole (F.text_of files.old) (F.unread files.new) (base.now ∷ rover.now ∷ nav.now ∷ []) end.status) }
+    ensures refused { IfEnded result (AreRefusedWhole (F.text_of files.old) (F.unread files.new) (base.now ∷ rover.now ∷ nav.now ∷ [])) }
     ensures opened { OpensAtMost 3 (F.opened files.old) (F.opened files.new) }
     ensures fault { IfEnded result (λ end. end.status ≡ Status.ReadFault → Rose (F.faults files.old) (F.faults files.new)) }
     ensures sure { All (F.is_sure_name files.old) (base.now ∷ rover.now ∷ nav.now ∷ []) → IfEnded result (λ end. end.status ≢ Status.ReadFault) }

@@ -1,12 +1,12 @@
 // Maps of drawn forms.
 ghost use Rattle.std.specs.Prelude.{ℕ, ◌+◌, ◌-◌, ◌*◌, ◌^◌, ◌<◌, ◌≤◌, unsigned_abs};
-ghost use Rattle.obs_rows.specs.declared.units.TheConstants.{MOST_INTEGERS, MOST_COLUMNS, MOST_FACTORS};
+ghost use Rattle.form_tables.specs.declared.sizes.TheConstants.{MOST_INTEGERS, MOST_COLUMNS, MOST_FACTORS};
 ghost use Rattle.decorrelate.specs.Inverses.{EntriesBelow};
 ghost use Rattle.decorrelate.specs.Starts.{AreWeightsBehind};
 
 use crate::decorrelate_cases::{CASES, Case};
 use decorrelate::{Unimodular, reduce};
-use obs_rows::{BASELINE_COLUMNS, FactorTable, MOST_FACTORS, MOST_INTEGERS};
+use form_tables::{BASELINE_COLUMNS, FactorTable, MOST_FACTORS, MOST_INTEGERS};
 
 // The next number of a linear congruential generator.
 fn next(state: u64) -> u64 {

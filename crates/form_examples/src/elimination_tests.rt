@@ -1,6 +1,6 @@
 // Steps of the elimination, by hand.
 use elimination::{Stop, take_steps};
-use obs_rows::{FactorTable, MOST_FACTORS, NormalTable};
+use form_tables::{FactorTable, MOST_FACTORS, NormalTable};
 
 // Two columns whose own entries are 2^30, and 2^29 between them.
 #[test]

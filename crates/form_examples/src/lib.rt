@@ -7,6 +7,8 @@ mod decorrelate_cases;
 #[cfg(test)]
 mod decorrelate_tests;
 #[cfg(test)]
+mod drawn_sessions;
+#[cfg(test)]
 mod elimination_tests;
 #[cfg(test)]
 mod fix_decide_tests;

@@ -1,50 +1,40 @@
 // Forms of an independent model, and why there is none.
 ghost use Rattle.std.specs.Prelude.{◌≡◌, ◌⊎◌};
 
-use crate::row_numbers::{Numbers, push};
+use crate::row_numbers::{L1_AND_L2, Numbers, THREE_BANDS, arc, finished, push, session_with};
+use form_tables::{FormTable, MOST_COLUMNS, MOST_FACTORS, MOST_FORM_COLUMNS};
 use integer_form::{Form, FrontForm, LowerFault, Place, is_form_table};
 use lower_form::{finish, front, lower};
 use normal_sum::sum;
-use obs_rows::{Arc, ArcList, FormTable, Session, SessionBuilder, Signals, are_arcs, is_point};
+use obs_rows::{Arc, SIGNALS, Session, Signals};
 use std::alloc::{AllocError, Global};
-
-fn arc(sat: u8, datum: bool) -> Arc {
-    Arc {
-        sat,
-        first: 0,
-        last: 9,
-        datum,
-        shift: [0, 0],
-    }
-}
 
 // Pairs of three rows, of three arcs of which the first is the datum, each list of rows a pair.
 fn session_of(
     alloc: Global,
     scale: u32,
+    signals: Signals,
     pairs: &[[Numbers; 3]],
 ) -> Result<Option<Session>, AllocError>
     requires { (scale ≡ 0) ⊎ (scale ≡ 14) }
 {
-    let arcs = vec![in alloc; arc(3, true), arc(5, false), arc(9, false)]?;
-    session_over(alloc, scale, arcs, pairs)
+    let arcs = vec![in alloc; arc(3, true, 9), arc(5, false, 9), arc(9, false, 9)]?;
+    session_over(alloc, scale, signals, arcs, pairs)
 }
 
 // Pairs of so many rows, each list of rows a pair.
 fn session_over<const N: usize>(
     alloc: Global,
     scale: u32,
+    signals: Signals,
     arcs: Vec<Arc>,
     pairs: &[[Numbers; N]],
 ) -> Result<Option<Session>, AllocError>
     requires { (scale ≡ 0) ⊎ (scale ≡ 14) }
 {
-    let base = [63_781_370_000, 0, 0];
-    let signals = Signals { l1: b'C', l2: b'W' };
-    if !are_arcs(&arcs) || !is_point(&base) {
+    let Some(mut session) = session_with(alloc, scale, signals, arcs) else {
         return Ok(None);
-    }
-    let mut session = SessionBuilder::new(alloc, scale, base, base, signals, ArcList::new(arcs));
+    };
     let mut number = 0;
     for rows in pairs {
         if number >= 3600 || !push(alloc, &mut session, number, rows)? {
@@ -52,13 +42,10 @@ fn session_over<const N: usize>(
         }
         number += 1;
     }
-    if session.pairs.is_empty() {
-        return Ok(None);
-    }
-    Ok(Some(session.finish()))
+    Ok(finished(session))
 }
 
-fn radii_of(ry: i64, ru: i64, rows: &[(u16, [i64; 4], [i64; 3]); 3]) -> [Numbers; 3] {
+fn radii_of(ry: i64, ru: i64, rows: &[(u16, [i64; SIGNALS], [i64; 3]); 3]) -> [Numbers; 3] {
     let [(a, ya, ua), (b, yb, ub), (c, yc, uc)] = *rows;
     [
         (a, ya, ry, ua, [ru; 3]),
@@ -75,17 +62,17 @@ fn two_pairs() -> [[Numbers; 3]; 2] {
             &[
                 (
                     0,
-                    [586400, 766580, -1039743, 819513],
+                    [586400, 766580, -1039743, 819513, 0, 0],
                     [-3880093, -6271095, 170088],
                 ),
                 (
                     1,
-                    [282820, -920273, -954951, -941849],
+                    [282820, -920273, -954951, -941849, 0, 0],
                     [-4431913, 8235434, 6693809],
                 ),
                 (
                     2,
-                    [721909, -926771, -118734, 788057],
+                    [721909, -926771, -118734, 788057, 0, 0],
                     [7457312, 4349165, -1343694],
                 ),
             ],
@@ -96,17 +83,17 @@ fn two_pairs() -> [[Numbers; 3]; 2] {
             &[
                 (
                     0,
-                    [-80252, -130942, 879140, 166856],
+                    [-80252, -130942, 879140, 166856, 0, 0],
                     [-3622341, -6288833, 270437],
                 ),
                 (
                     1,
-                    [-268829, 194575, -541527, 346848],
+                    [-268829, 194575, -541527, 346848, 0, 0],
                     [-4671524, 8409686, 6536522],
                 ),
                 (
                     2,
-                    [143274, 1045900, 601268, -903765],
+                    [143274, 1045900, 601268, -903765, 0, 0],
                     [7637779, 4286092, -1287734],
                 ),
             ],
@@ -122,17 +109,17 @@ fn three_pairs() -> [[Numbers; 3]; 3] {
             &[
                 (
                     0,
-                    [-620865, -2808, -993572, -139546],
+                    [-620865, -2808, -993572, -139546, 411205, -96],
                     [182704, 3641847, -7415355],
                 ),
                 (
                     1,
-                    [584842, -379148, -746873, -466544],
+                    [584842, -379148, -746873, -466544, -27183, 8281],
                     [7235095, -31788, -6648702],
                 ),
                 (
                     2,
-                    [-1041132, -1026292, -170053, -144783],
+                    [-1041132, -1026292, -170053, -144783, 314159, -26535],
                     [-3125551, -4590047, 4086706],
                 ),
             ],
@@ -143,17 +130,17 @@ fn three_pairs() -> [[Numbers; 3]; 3] {
             &[
                 (
                     0,
-                    [266973, -214374, -189669, -286603],
+                    [266973, -214374, -189669, -286603, -57721, 56649],
                     [94473, 3554274, -7374141],
                 ),
                 (
                     1,
-                    [-958104, 466364, 691668, -352506],
+                    [-958104, 466364, 691668, -352506, 141421, -35623],
                     [7179393, 107906, -6597544],
                 ),
                 (
                     2,
-                    [343322, 215415, -1034387, 368666],
+                    [343322, 215415, -1034387, 368666, -173205, 80757],
                     [-3234916, -4575565, 3892865],
                 ),
             ],
@@ -164,17 +151,17 @@ fn three_pairs() -> [[Numbers; 3]; 3] {
             &[
                 (
                     0,
-                    [235150, 967815, 275956, -273581],
+                    [235150, 967815, 275956, -273581, 69314, -71805],
                     [-203126, 3767587, -7194419],
                 ),
                 (
                     1,
-                    [-809497, 25928, -952671, 451491],
+                    [-809497, 25928, -952671, 451491, -223606, 79775],
                     [7719995, 434908, -6803640],
                 ),
                 (
                     2,
-                    [487313, 530014, -1010499, 850698],
+                    [487313, 530014, -1010499, 850698, 264575, -13110],
                     [-2801973, -5076445, 4440762],
                 ),
             ],
@@ -184,14 +171,14 @@ fn three_pairs() -> [[Numbers; 3]; 3] {
 
 // The factors row by row, each those of a column with the columns before it.
 fn factors_agree(form: &Form, l: &[i64]) -> bool {
-    for r in 1..44 {
+    for r in 1..MOST_COLUMNS {
         for c in 0..r {
             let expected = if r < form.columns {
                 l.get(r * (r - 1) / 2 + c)
             } else {
                 None
             };
-            if c < 43 && expected.map_or(0, |e| *e) != form.l.at(r, c) {
+            if c < MOST_FACTORS && expected.map_or(0, |e| *e) != form.l.at(r, c) {
                 return false;
             }
         }
@@ -200,7 +187,7 @@ fn factors_agree(form: &Form, l: &[i64]) -> bool {
 }
 
 fn agrees(form: &Form, h: u32, g: i64, d: &[i64], l: &[i64]) -> bool {
-    for j in 0..43 {
+    for j in 0..MOST_FACTORS {
         if form.d[j] != d.get(j).map_or(0, |e| *e) {
             return false;
         }
@@ -212,7 +199,7 @@ fn float_agrees(form: &Form, point: &[i64]) -> bool {
     let Ok(numbers) = form.float_of() else {
         return false;
     };
-    for j in 0..43 {
+    for j in 0..MOST_FACTORS {
         if numbers[j] != point.get(j).map_or(0, |e| *e) {
             return false;
         }
@@ -223,7 +210,7 @@ fn float_agrees(form: &Form, point: &[i64]) -> bool {
 // A fine session: the form, its value at some integers, its float point and the baseline there, from an independent model.
 #[test]
 fn lowers_a_fine_session(rt: HostRuntime) -> Result<(), AllocError> {
-    let Some(session) = session_of(rt.alloc(), 0, &two_pairs())? else {
+    let Some(session) = session_of(rt.alloc(), 0, L1_AND_L2, &two_pairs())? else {
         assert!(rt; false, "the session is in range");
         return Ok(());
     };
@@ -235,51 +222,48 @@ fn lowers_a_fine_session(rt: HostRuntime) -> Result<(), AllocError> {
         605298613249643,
         724024172318711,
         351061624301,
-        272459645248269,
-        182759683461,
-        204345100162217,
-        139481887459,
+        140753078452494,
+        94413935499,
+        105564998031829,
+        72056557878,
     ];
     let l = [
         232664217,
         -462534273,
         439333416,
-        -396349937,
-        549770050,
-        627099824,
-        -508649086,
-        705538230,
-        804778108,
+        -284876517,
+        395147223,
+        450727999,
+        -365591531,
+        507105603,
+        578434265,
         -1377688032,
-        718912784,
-        39112313,
-        -568415779,
+        516718564,
+        28111975,
+        -408548841,
         -536868464,
-        9366242,
-        922604740,
-        50194135,
-        -729466916,
+        9366235,
+        663122157,
+        36077035,
+        -524304346,
         688847158,
-        -524850899,
+        -524850904,
         -1377683093,
         -19299101,
         32479430,
         893833693,
-        -14842444,
-        -447970406,
-        -30068139,
-        -687692216,
+        -20650357,
+        -623263190,
+        -41833933,
+        -956789223,
     ];
-    assert!(rt; agrees(&form, 37, 3268862079972, &d, &l));
+    assert!(rt; agrees(&form, 37, 3268862075364, &d, &l));
     let z: [i64; 4] = [-5, 2, 9, 16];
     if form.columns == 8 {
-        assert_eq!(rt; form.value(&z), 28234581880130266);
-        assert_eq!(rt;
-            form.baseline_of(&z).ok(),
-            Some([-803315, -425850, 1063191])
-        );
+        assert_eq!(rt; form.value(&z), 14616769852822992);
+        assert_eq!(rt; form.baseline_of(&z).ok(), Some([-584900, -300359, 748825]));
     }
-    let point = [-47285, -41075, -68630, 62606, 47373, 55689, 41973];
+    let point = [-47286, -41076, -68629, 87104, 65910, 77482, 58398];
     assert!(rt; float_agrees(&form, &point));
     Ok(())
 }
@@ -287,7 +271,7 @@ fn lowers_a_fine_session(rt: HostRuntime) -> Result<(), AllocError> {
 // The same rows by the code on L1 alone: the form, its value at some integers, its float point and the baseline there, from an independent model.
 #[test]
 fn lowers_a_coarse_session(rt: HostRuntime) -> Result<(), AllocError> {
-    let Some(session) = session_of(rt.alloc(), 14, &two_pairs())? else {
+    let Some(session) = session_of(rt.alloc(), 14, L1_AND_L2, &two_pairs())? else {
         assert!(rt; false, "the session is in range");
         return Ok(());
     };
@@ -315,10 +299,10 @@ fn lowers_a_coarse_session(rt: HostRuntime) -> Result<(), AllocError> {
     Ok(())
 }
 
-// A fine session with wider radii: the form, its value at some integers, its float point and the baseline there, from an independent model.
+// A fine session of three bands with wider radii: the form, its value at some integers, its float point and the baseline there, from an independent model.
 #[test]
-fn lowers_a_session_of_wide_rows(rt: HostRuntime) -> Result<(), AllocError> {
-    let Some(session) = session_of(rt.alloc(), 0, &three_pairs())? else {
+fn lowers_a_session_of_three_bands(rt: HostRuntime) -> Result<(), AllocError> {
+    let Some(session) = session_of(rt.alloc(), 0, THREE_BANDS, &three_pairs())? else {
         assert!(rt; false, "the session is in range");
         return Ok(());
     };
@@ -327,54 +311,73 @@ fn lowers_a_session_of_wide_rows(rt: HostRuntime) -> Result<(), AllocError> {
         return Ok(());
     };
     let d = [
-        285247798511192,
-        151727372793784,
-        211887876496,
-        204817678262889,
-        3244894487694,
-        153340567843998,
-        642715698230,
+        427871697766790,
+        227591059190487,
+        317831814183,
+        140908794400493,
+        174471048735851,
+        2731295397509,
+        105587680785599,
+        130505803394296,
+        541946334779,
     ];
     let l = [
         320350613,
         -892538343,
         -1276456599,
-        869718398,
-        -356042830,
-        95377061,
-        1116138611,
-        -456921632,
-        122400562,
-        -1371324947,
-        -660689719,
-        -853911573,
-        1203934385,
-        -535718594,
-        186234687,
-        -847885140,
-        -1095853186,
-        1545049127,
-        687141282,
-        -297869730,
-        -1376214112,
-        17111476,
-        -29815254,
-        3196723175,
-        19304549,
-        -176728192,
-        -22012968,
-        -384709220,
+        416740066,
+        -170603856,
+        45701508,
+        534816418,
+        -218941615,
+        58650269,
+        -686489933,
+        558069306,
+        -228460816,
+        61200281,
+        -716337321,
+        -1112342717,
+        -316580491,
+        -409165962,
+        576885227,
+        -536294058,
+        895751,
+        118983272,
+        -406278296,
+        -525096318,
+        740336041,
+        343985263,
+        -535721365,
+        152695200,
+        -688326167,
+        -423942570,
+        -547926593,
+        772524565,
+        358941144,
+        557370886,
+        -377536791,
+        -718253391,
+        -1118287661,
+        17763740,
+        -22322646,
+        2128378534,
+        21424860,
+        -10799908,
+        -117915725,
+        -13788184,
+        24855102,
+        -83311889,
     ];
-    assert!(rt; agrees(&form, 38, 1459905604514, &d, &l));
-    let z: [i64; 4] = [-5, 2, 9, 16];
-    if form.columns == 8 {
-        assert_eq!(rt; form.value(&z), 21193706215471259);
+    assert!(rt; agrees(&form, 38, 2388094234167, &d, &l));
+    let z: [i64; 6] = [-5, 2, 9, 16, -23, 30];
+    if form.columns == 10 {
+        assert_eq!(rt; form.value(&z), 507725031356452889);
         assert_eq!(rt;
             form.baseline_of(&z).ok(),
-            Some([-245396, -1306823, -2351125])
+            Some([-481573, -534893, -1095346])
         );
     }
-    let point = [-132559, -256496, -266800, 14612, 11848, 31439, 23481];
+    let point = [-78327, -154569, -141017, 9296, 7886, 7709, 6666, 3779, 5085];
     assert!(rt; float_agrees(&form, &point));
     Ok(())
 }
@@ -383,11 +386,11 @@ fn lowers_a_session_of_wide_rows(rt: HostRuntime) -> Result<(), AllocError> {
 #[test]
 fn refuses_a_weak_session(rt: HostRuntime) -> Result<(), AllocError> {
     let rows = [
-        (0, [262_144, 0, 0, 0], 0, [0, 0, 0], [0, 0, 0]),
-        (1, [0, 0, 0, 0], 0, [0, 0, 0], [0, 0, 0]),
-        (2, [0, 0, 0, 0], 0, [0, 0, 0], [0, 0, 0]),
+        (0, [262_144, 0, 0, 0, 0, 0], 0, [0; 3], [0; 3]),
+        (1, [0; SIGNALS], 0, [0; 3], [0; 3]),
+        (2, [0; SIGNALS], 0, [0; 3], [0; 3]),
     ];
-    let Some(session) = session_of(rt.alloc(), 0, &[rows])? else {
+    let Some(session) = session_of(rt.alloc(), 0, L1_AND_L2, &[rows])? else {
         assert!(rt; false, "the session is in range");
         return Ok(());
     };
@@ -403,9 +406,10 @@ fn refuses_a_weak_session(rt: HostRuntime) -> Result<(), AllocError> {
 // Two arcs of which nothing is known, as a certificate may have them: of six columns the first pivot is -6.
 #[test]
 fn refuses_the_weakest_session(rt: HostRuntime) -> Result<(), AllocError> {
-    let nothing = |arc| (arc, [0, 0, 0, 0], 0, [0, 0, 0], [0, 0, 0]);
-    let arcs = vec![in rt.alloc(); arc(3, true), arc(5, false)]?;
-    let Some(session) = session_over(rt.alloc(), 0, arcs, &[[nothing(0), nothing(1)]])? else {
+    let nothing = |arc| (arc, [0; SIGNALS], 0, [0; 3], [0; 3]);
+    let arcs = vec![in rt.alloc(); arc(3, true, 9), arc(5, false, 9)]?;
+    let pairs = [[nothing(0), nothing(1)]];
+    let Some(session) = session_over(rt.alloc(), 0, L1_AND_L2, arcs, &pairs)? else {
         assert!(rt; false, "the session is in range");
         return Ok(());
     };
@@ -420,8 +424,9 @@ fn refuses_the_weakest_session(rt: HostRuntime) -> Result<(), AllocError> {
 // The greatest radii, one pair: the entry of the constant is past 2^52 in size before the first pivot, which is weak, is seen.
 #[test]
 fn refuses_the_greatest_radii(rt: HostRuntime) -> Result<(), AllocError> {
-    let wide = |arc| (arc, [0, 0, 0, 0], 1 << 20, [0, 0, 0], [0, 0, 0]);
-    let Some(session) = session_of(rt.alloc(), 0, &[[wide(0), wide(1), wide(2)]])? else {
+    let wide = |arc| (arc, [0; SIGNALS], 1 << 20, [0; 3], [0; 3]);
+    let pairs = [[wide(0), wide(1), wide(2)]];
+    let Some(session) = session_of(rt.alloc(), 0, L1_AND_L2, &pairs)? else {
         assert!(rt; false, "the session is in range");
         return Ok(());
     };
@@ -436,12 +441,12 @@ fn refuses_the_greatest_radii(rt: HostRuntime) -> Result<(), AllocError> {
 fn form_of(columns: usize, entries: &[(usize, usize, i64)]) -> Option<FrontForm> {
     let mut p = FormTable::zeros();
     for (r, c, entry) in entries {
-        if *r < 41 && *c < 41 {
+        if *r < MOST_FORM_COLUMNS && *c < MOST_FORM_COLUMNS {
             p.set(*r, *c, *entry);
             p.set(*c, *r, *entry);
         }
     }
-    if columns < 4 || columns > 44 || !is_form_table(&p, columns - 3) {
+    if columns < 4 || columns > MOST_COLUMNS || !is_form_table(&p, columns - 3) {
         return None;
     }
     Some(FrontForm::of(columns, 0, &p))

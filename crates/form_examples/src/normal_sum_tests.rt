@@ -1,92 +1,104 @@
-// Normal matrices of an independent model.
+// Normal matrices of an independent model, which are also those of the definition by the differences of each two rows.
 ghost use Rattle.std.specs.Prelude.{◌<◌, ◌≡◌, ◌⊎◌};
 
-use crate::row_numbers::{Numbers, pair_of, push};
+use crate::row_numbers::{
+    L1_AND_L2, L1_AND_L5, Numbers, THREE_BANDS, arc, finished, pair_of, push, session_with,
+};
+use form_tables::MOST_COLUMNS;
 use normal_sum::{Normal, sum, sum_pair};
-use obs_rows::{Arc, ArcList, Session, SessionBuilder, Signals, are_arcs, has_its_arcs, is_point};
+use obs_rows::{SIGNALS, Session, Signals, fine_signals, has_its_arcs};
 use std::alloc::{AllocError, Global};
-
-fn arc(sat: u8, datum: bool) -> Arc {
-    Arc {
-        sat,
-        first: 0,
-        last: 1,
-        datum,
-        shift: [0, 0],
-    }
-}
 
 // Two satellites whose phases on L1 are 2^18 units apart: F = 180180 · 10000 · 2^36, the constant's own entry.
 #[test]
 fn sums_two_satellites(rt: HostRuntime) -> Result<(), AllocError> {
-    let arcs = [arc(3, true), arc(5, false)];
+    let arcs = [arc(3, true, 1), arc(5, false, 1)];
     let rows = [
-        (0, [262_144, 0, 0, 0], 0, [0, 0, 0], [0, 0, 0]),
-        (1, [0, 0, 0, 0], 0, [0, 0, 0], [0, 0, 0]),
+        (0, [262_144, 0, 0, 0, 0, 0], 0, [0; 3], [0; 3]),
+        (1, [0; 6], 0, [0; 3], [0; 3]),
     ];
     let Some(pair) = pair_of(rt.alloc(), 0, &rows)? else {
         assert!(rt; false, "the rows are in range");
         return Ok(());
     };
     assert!(rt; has_its_arcs(&arcs, &pair));
-    let normal = sum_pair(&arcs, 0, &pair);
+    let normal = sum_pair(&arcs, L1_AND_L2, 0, &pair);
     assert_eq!(rt; normal.columns, 6);
     assert_eq!(rt; normal.c.at(5, 5), 123_818_753_182_924_800_000);
     assert_eq!(rt; normal.c.at(0, 0), 0);
     Ok(())
 }
 
+// A row with 0 in the place of each signal of a band that isn't used.
+fn used_of(row: &Numbers, signals: Signals) -> Numbers {
+    let (arc, y, ry, u, ru) = *row;
+    let mut used = [0; SIGNALS];
+    for s in fine_signals(signals) {
+        used[*s] = y[*s];
+    }
+    (arc, used, ry, u, ru)
+}
+
 // Two pairs of three and two satellites, with numbers at the ends of their ranges.
-fn session_at(alloc: Global, scale: u32) -> Result<Option<Session>, AllocError>
+fn session_at(alloc: Global, scale: u32, signals: Signals) -> Result<Option<Session>, AllocError>
     requires { (scale ≡ 0) ⊎ (scale ≡ 14) }
 {
-    let arcs = vec![in alloc; arc(3, true), arc(5, false), arc(9, false)]?;
-    let base = [63_781_370_000, 0, 0];
-    let signals = Signals { l1: b'C', l2: b'W' };
-    if !are_arcs(&arcs) || !is_point(&base) {
-        return Ok(None);
-    }
+    let arcs = vec![in alloc; arc(3, true, 1), arc(5, false, 1), arc(9, false, 1)]?;
     let first = [
         (
             0,
-            [262_144, -77, 1_000_000, 5],
+            [262_144, -77, 1_000_000, 5, -1_000_001, 7000],
             1024,
             [9_000_000, -8_000_000, 1000],
             [32, 31, 30],
         ),
         (
             1,
-            [-12_345_678, 98_765_432, -55, 44],
+            [-12_345_678, 98_765_432, -55, 44, 33, -2_222_222],
             2048,
             [-7_000_000, 3_000_000, 14_000_000],
             [1, 2, 3],
         ),
         (
             2,
-            [17_179_869_184, -17_179_869_184, 3, -4],
+            [
+                17_179_869_184,
+                -17_179_869_184,
+                3,
+                -4,
+                17_179_869_184,
+                -17_179_869_184,
+            ],
             1_048_576,
             [16_777_216, -16_777_216, 5],
             [1_048_576, 0, 7],
         ),
     ];
     let second = [
-        (0, [1, 2, 3, 4], 5, [6, 7, 8], [9, 10, 11]),
+        (0, [1, 2, 3, 4, 5, 6], 5, [6, 7, 8], [9, 10, 11]),
         (
             2,
-            [-1, 20, -300, 4000],
+            [-1, 20, -300, 4000, -50_000, 600_000],
             50_000,
             [600_000, -7_000_000, 8_000_000],
             [0, 1, 2],
         ),
     ];
-    let mut session = SessionBuilder::new(alloc, scale, base, base, signals, ArcList::new(arcs));
-    if !push(alloc, &mut session, 0, &first)?
-        || !push(alloc, &mut session, 1, &second)?
-        || session.pairs.is_empty()
-    {
+    let [a, b, c] = first;
+    let [d, e] = second;
+    let first = [
+        used_of(&a, signals),
+        used_of(&b, signals),
+        used_of(&c, signals),
+    ];
+    let second = [used_of(&d, signals), used_of(&e, signals)];
+    let Some(mut session) = session_with(alloc, scale, signals, arcs) else {
+        return Ok(None);
+    };
+    if !push(alloc, &mut session, 0, &first)? || !push(alloc, &mut session, 1, &second)? {
         return Ok(None);
     }
-    Ok(Some(session.finish()))
+    Ok(finished(session))
 }
 
 // What an arc's row says where all numbers are at the ends of their ranges, with changing signs.
@@ -95,47 +107,38 @@ fn numbers_at_ends(arc: u16) -> Numbers {
     let u = if arc % 3 == 0 { 1 << 24 } else { -(1 << 24) };
     let w = if arc % 2 == 0 { 1 << 24 } else { -(1 << 24) };
     let radius = 1 << 20;
-    (arc, [y, -y, y, -y], radius, [u, -u, w], [radius; 3])
+    (arc, [y, -y, y, -y, y, -y], radius, [u, -u, w], [radius; 3])
 }
 
 fn rows_at_ends(first: u16) -> [Numbers; 15]
     requires { first < 7 }
 {
-    let mut rows = [(0, [0; 4], 0, [0; 3], [0; 3]); 15];
+    let mut rows = [(0, [0; SIGNALS], 0, [0; 3], [0; 3]); 15];
     for i in 0..15 {
         rows[i] = numbers_at_ends(first + i as u16);
     }
     rows
 }
 
-// 3600 pairs of 15 rows, with one datum and 20 free arcs.
+// 3600 pairs of 15 rows, with one datum and 20 free arcs, of three bands.
 fn greatest_session(alloc: Global) -> Result<Option<Session>, AllocError> {
     let mut arcs = Vec::new(alloc);
     for sat in 1..22u8 {
-        arcs.push(Arc {
-            last: 3599,
-            ..arc(sat, sat == 1)
-        })?;
+        arcs.push(arc(sat, sat == 1, 3599))?;
     }
-    let base = [63_781_370_000, 0, 0];
-    let signals = Signals { l1: b'C', l2: b'W' };
-    if !are_arcs(&arcs) || !is_point(&base) {
+    let Some(mut session) = session_with(alloc, 0, THREE_BANDS, arcs) else {
         return Ok(None);
-    }
-    let mut session = SessionBuilder::new(alloc, 0, base, base, signals, ArcList::new(arcs));
+    };
     for number in 0..3600u32 {
         let rows = rows_at_ends((number % 7) as u16);
         if !push(alloc, &mut session, number, &rows)? {
             return Ok(None);
         }
     }
-    if session.pairs.is_empty() {
-        return Ok(None);
-    }
-    Ok(Some(session.finish()))
+    Ok(finished(session))
 }
 
-// The entries on the diagonal and after it that are not 0, from an independent model; both halves are compared.
+// The entries on the diagonal and after it that are not 0; both halves are compared.
 fn agrees(normal: &Normal, expected: &[(usize, usize, i128)]) -> bool {
     for i in 0..normal.columns {
         for j in i..normal.columns {
@@ -143,7 +146,10 @@ fn agrees(normal: &Normal, expected: &[(usize, usize, i128)]) -> bool {
                 .iter()
                 .find(|e| e.0 == i && e.1 == j)
                 .map_or(0, |e| e.2);
-            if i < 44 && j < 44 && (normal.c.at(i, j) != entry || normal.c.at(j, i) != entry) {
+            if i < MOST_COLUMNS
+                && j < MOST_COLUMNS
+                && (normal.c.at(i, j) != entry || normal.c.at(j, i) != entry)
+            {
                 return false;
             }
         }
@@ -151,9 +157,10 @@ fn agrees(normal: &Normal, expected: &[(usize, usize, i128)]) -> bool {
     true
 }
 
+// Of the bands L1 and L2.
 #[test]
 fn sums_a_fine_session(rt: HostRuntime) -> Result<(), AllocError> {
-    let Some(session) = session_at(rt.alloc(), 0)? else {
+    let Some(session) = session_at(rt.alloc(), 0, L1_AND_L2)? else {
         assert!(rt; false, "the session is in range");
         return Ok(());
     };
@@ -162,34 +169,34 @@ fn sums_a_fine_session(rt: HostRuntime) -> Result<(), AllocError> {
         (0, 0, 2_120_044_286_510_297_675_367_840),
         (0, 1, -1_731_845_633_100_914_030_459_760),
         (0, 2, -1_320_665_802_254_276_182_024_320),
-        (0, 3, -751_520_582_612_287_488_000_000),
-        (0, 4, -964_451_414_352_435_609_600_000),
-        (0, 5, 613_169_279_652_593_664_000_000),
-        (0, 6, 786_900_575_554_161_868_800_000),
+        (0, 3, -540_155_418_752_581_632_000_000),
+        (0, 4, -693_199_454_065_813_094_400_000),
+        (0, 5, 440_715_419_750_301_696_000_000),
+        (0, 6, 565_584_788_679_553_843_200_000),
         (0, 7, 4_126_580_214_718_964_927_684_760),
         (1, 1, 1_592_176_685_816_743_358_852_520),
         (1, 2, 833_424_623_174_587_585_901_760),
-        (1, 3, 581_481_401_300_287_488_000_000),
-        (1, 4, 746_234_465_002_035_609_600_000),
-        (1, 5, -737_865_047_699_619_840_000_000),
-        (1, 6, -946_926_811_214_512_128_000_000),
+        (1, 3, 417_939_757_184_581_632_000_000),
+        (1, 4, 536_356_021_720_213_094_400_000),
+        (1, 5, -530_340_503_034_101_760_000_000),
+        (1, 6, -680_603_645_560_430_592_000_000),
         (1, 7, -3_194_202_839_430_006_287_023_140),
         (2, 2, 1_172_420_370_298_325_183_075_040),
-        (2, 3, 528_991_798_595_420_160_000_000),
-        (2, 4, 678_872_808_197_455_872_000_000),
-        (2, 5, -37_805_415_764_852_736_000_000),
-        (2, 6, -48_516_950_231_561_011_200_000),
+        (2, 3, 380_212_855_240_458_240_000_000),
+        (2, 4, 487_939_830_891_921_408_000_000),
+        (2, 5, -27_172_642_580_987_904_000_000),
+        (2, 6, -34_871_557_978_934_476_800_000),
         (2, 7, -2_902_095_165_848_359_405_404_480),
-        (3, 3, 594_330_015_278_039_040_000_000),
-        (3, 5, -297_165_007_639_019_520_000_000),
-        (3, 7, 325_054_884_867_276_275_712_000_000),
-        (4, 4, 978_828_516_828_748_185_600_000),
-        (4, 6, -489_414_258_414_374_092_800_000),
-        (4, 7, -421_338_138_102_084_403_200_000_000),
-        (5, 5, 1_040_077_526_736_568_320_000_000),
-        (5, 7, -649_395_161_767_537_016_832_000_000),
-        (6, 6, 1_712_949_904_450_309_324_800_000),
-        (6, 7, 835_492_172_857_844_799_897_600_000),
+        (3, 3, 307_031_814_533_283_840_000_000),
+        (3, 5, -153_515_907_266_641_920_000_000),
+        (3, 7, 233_633_198_498_354_823_168_000_000),
+        (4, 4, 505_664_341_213_288_857_600_000),
+        (4, 6, -252_832_170_606_644_428_800_000),
+        (4, 7, -302_836_786_760_873_164_800_000_000),
+        (5, 5, 537_305_675_433_246_720_000_000),
+        (5, 7, -466_752_772_520_417_230_848_000_000),
+        (6, 6, 884_912_597_123_255_500_800_000),
+        (6, 7, 600_509_999_241_575_949_926_400_000),
         (7, 7, 1_422_725_520_480_289_599_513_144_184_980),
     ];
     assert_eq!(rt; normal.columns, 8);
@@ -206,9 +213,133 @@ fn sums_a_fine_session(rt: HostRuntime) -> Result<(), AllocError> {
     Ok(())
 }
 
+// The integer of an arc on L5 stands behind that on L1.
+#[test]
+fn sums_a_session_of_l1_and_l5(rt: HostRuntime) -> Result<(), AllocError> {
+    let Some(session) = session_at(rt.alloc(), 0, L1_AND_L5)? else {
+        assert!(rt; false, "the session is in range");
+        return Ok(());
+    };
+    let normal = sum(&session);
+    let expected = [
+        (0, 0, 2_120_044_286_510_297_675_367_840),
+        (0, 1, -1_731_845_633_100_914_030_459_760),
+        (0, 2, -1_320_665_802_254_276_182_024_320),
+        (0, 3, -540_155_418_752_581_632_000_000),
+        (0, 4, -723_338_560_764_326_707_200_000),
+        (0, 5, 440_715_419_750_301_696_000_000),
+        (0, 6, 590_175_431_665_621_401_600_000),
+        (0, 7, -1_302_860_908_109_931_512_112_290_520),
+        (1, 1, 1_592_176_685_816_743_358_852_520),
+        (1, 2, 833_424_623_174_587_585_901_760),
+        (1, 3, 417_939_757_184_581_632_000_000),
+        (1, 4, 559_675_848_751_526_707_200_000),
+        (1, 5, -530_340_503_034_101_760_000_000),
+        (1, 6, -710_195_108_410_884_096_000_000),
+        (1, 7, 1_178_919_618_354_089_224_860_707_460),
+        (2, 2, 1_172_420_370_298_325_183_075_040),
+        (2, 3, 380_212_855_240_458_240_000_000),
+        (2, 4, 509_154_606_148_091_904_000_000),
+        (2, 5, -27_172_642_580_987_904_000_000),
+        (2, 6, -36_387_712_673_670_758_400_000),
+        (2, 7, 578_236_351_369_674_791_439_686_040),
+        (3, 3, 307_031_814_533_283_840_000_000),
+        (3, 5, -153_515_907_266_641_920_000_000),
+        (3, 7, 233_633_198_498_354_823_168_000_000),
+        (4, 4, 550_591_040_716_170_854_400_000),
+        (4, 6, -275_295_520_358_085_427_200_000),
+        (4, 7, 312_393_367_666_794_980_966_400_000),
+        (5, 5, 537_305_675_433_246_720_000_000),
+        (5, 7, -466_752_772_520_417_230_848_000_000),
+        (6, 6, 963_534_321_253_298_995_200_000),
+        (6, 7, -624_839_927_433_452_598_067_200_000),
+        (7, 7, 1_418_737_922_809_469_767_445_230_229_940),
+    ];
+    assert_eq!(rt; normal.columns, 8);
+    assert!(rt; agrees(&normal, &expected));
+    assert_eq!(rt;
+        normal.r,
+        [
+            7_925_192_651_699_518_235_040,
+            7_683_643_487_520,
+            7_806_178_139_760,
+            7_943_250_235_971_140_410_320
+        ]
+    );
+    Ok(())
+}
+
+// Three integers for each free arc: on L1, L2 and L5.
+#[test]
+fn sums_a_session_of_three_bands(rt: HostRuntime) -> Result<(), AllocError> {
+    let Some(session) = session_at(rt.alloc(), 0, THREE_BANDS)? else {
+        assert!(rt; false, "the session is in range");
+        return Ok(());
+    };
+    let normal = sum(&session);
+    let expected = [
+        (0, 0, 3_180_066_429_765_446_513_051_760),
+        (0, 1, -2_597_768_449_651_371_045_689_640),
+        (0, 2, -1_980_998_703_381_414_273_036_480),
+        (0, 3, -540_155_418_752_581_632_000_000),
+        (0, 4, -693_199_454_065_813_094_400_000),
+        (0, 5, -723_338_560_764_326_707_200_000),
+        (0, 6, 440_715_419_750_301_696_000_000),
+        (0, 7, 565_584_788_679_553_843_200_000),
+        (0, 8, 590_175_431_665_621_401_600_000),
+        (0, 9, -646_970_118_386_723_404_570_697_400),
+        (1, 1, 2_388_265_028_725_115_038_278_780),
+        (1, 2, 1_250_136_934_761_881_378_852_640),
+        (1, 3, 417_939_757_184_581_632_000_000),
+        (1, 4, 536_356_021_720_213_094_400_000),
+        (1, 5, 559_675_848_751_526_707_200_000),
+        (1, 6, -530_340_503_034_101_760_000_000),
+        (1, 7, -680_603_645_560_430_592_000_000),
+        (1, 8, -710_195_108_410_884_096_000_000),
+        (1, 9, 586_005_939_321_784_709_052_304_980),
+        (2, 2, 1_758_630_555_447_487_774_612_560),
+        (2, 3, 380_212_855_240_458_240_000_000),
+        (2, 4, 487_939_830_891_921_408_000_000),
+        (2, 5, 509_154_606_148_091_904_000_000),
+        (2, 6, -27_172_642_580_987_904_000_000),
+        (2, 7, -34_871_557_978_934_476_800_000),
+        (2, 8, -36_387_712_673_670_758_400_000),
+        (2, 9, 285_983_777_818_341_002_634_714_480),
+        (3, 3, 307_031_814_533_283_840_000_000),
+        (3, 6, -153_515_907_266_641_920_000_000),
+        (3, 9, 233_633_198_498_354_823_168_000_000),
+        (4, 4, 505_664_341_213_288_857_600_000),
+        (4, 7, -252_832_170_606_644_428_800_000),
+        (4, 9, -302_836_786_760_873_164_800_000_000),
+        (5, 5, 550_591_040_716_170_854_400_000),
+        (5, 8, -275_295_520_358_085_427_200_000),
+        (5, 9, 312_393_367_666_794_980_966_400_000),
+        (6, 6, 537_305_675_433_246_720_000_000),
+        (6, 9, -466_752_772_520_417_230_848_000_000),
+        (7, 7, 884_912_597_123_255_500_800_000),
+        (7, 9, 600_509_999_241_575_949_926_400_000),
+        (8, 8, 963_534_321_253_298_995_200_000),
+        (8, 9, -624_839_927_433_452_598_067_200_000),
+        (9, 9, 2_131_901_019_078_278_325_058_582_941_540),
+    ];
+    assert_eq!(rt; normal.columns, 10);
+    assert!(rt; agrees(&normal, &expected));
+    assert_eq!(rt;
+        normal.r,
+        [
+            11_887_788_977_549_277_352_560,
+            11_525_465_231_280,
+            11_709_267_209_640,
+            11_914_875_353_956_710_615_480
+        ]
+    );
+    Ok(())
+}
+
+// Of the code on L1 alone.
 #[test]
 fn sums_a_coarse_session(rt: HostRuntime) -> Result<(), AllocError> {
-    let Some(session) = session_at(rt.alloc(), 14)? else {
+    let Some(session) = session_at(rt.alloc(), 14, L1_AND_L2)? else {
         assert!(rt; false, "the session is in range");
         return Ok(());
     };
@@ -241,13 +372,13 @@ fn sums_a_coarse_session(rt: HostRuntime) -> Result<(), AllocError> {
 
 // Whether these entries, and those mirrored on the diagonal, stand in the matrix.
 fn has_entries(normal: &Normal, expected: &[(usize, usize, i128)]) -> bool {
-    expected.iter().all(|e| e.0 < 44
-        && e.1 < 44
+    expected.iter().all(|e| e.0 < MOST_COLUMNS
+        && e.1 < MOST_COLUMNS
         && normal.c.at(e.0, e.1) == e.2
         && normal.c.at(e.1, e.0) == e.2)
 }
 
-// Some entries of the greatest session, from the definition by differences of each two rows of a pair.
+// Some entries of the greatest session.
 #[test]
 fn sums_the_greatest_session(rt: HostRuntime) -> Result<(), AllocError> {
     let Some(session) = greatest_session(rt.alloc())? else {
@@ -255,20 +386,23 @@ fn sums_the_greatest_session(rt: HostRuntime) -> Result<(), AllocError> {
         return Ok(());
     };
     let normal = sum(&session);
-    assert_eq!(rt; normal.columns, 44);
+    assert_eq!(rt; normal.columns, 64);
     let expected = [
-        (0, 0, 97_384_767_206_124_231_705_231_360_000),
-        (0, 1, -97_384_767_206_124_231_705_231_360_000),
-        (0, 2, 1_390_438_065_109_662_641_569_136_640),
-        (0, 3, -652_970_576_785_472_225_280_000_000),
-        (3, 3, 857_023_882_030_932_295_680_000_000),
+        (0, 0, 146_077_150_809_186_347_557_847_040_000),
+        (0, 1, -146_077_150_809_186_347_557_847_040_000),
+        (0, 2, 2_085_657_097_664_493_962_353_704_960),
+        (0, 3, -469_322_602_064_558_161_920_000_000),
+        (0, 5, -628_484_180_156_017_016_832_000_000),
+        (3, 3, 442_739_876_556_995_297_280_000_000),
         (3, 4, 0),
-        (4, 6, -100_819_337_233_361_063_116_800_000),
-        (42, 42, 704_365_000_709_967_194_357_760_000),
-        (42, 43, 599_496_943_980_888_442_200_391_680_000),
-        (43, 43, 114_369_169_216_880_393_070_690_039_968_563_200),
+        (4, 7, -52_083_427_144_968_752_332_800_000),
+        (5, 5, 793_952_280_712_718_372_044_800_000),
+        (5, 8, -56_710_877_193_765_598_003_200_000),
+        (62, 62, 396_205_312_899_356_546_826_240_000),
+        (62, 63, -449_622_707_985_666_331_650_293_760_000),
+        (63, 63, 171_553_753_825_320_589_606_035_059_952_844_800),
     ];
     assert!(rt; has_entries(&normal, &expected));
-    assert_eq!(rt; normal.r, [427_960_402_761_288_127_610_880_000; 4]);
+    assert_eq!(rt; normal.r, [641_940_604_141_932_191_416_320_000; 4]);
     Ok(())
 }

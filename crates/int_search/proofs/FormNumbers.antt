@@ -6,7 +6,7 @@ use Rattle.quadratic_form.specs.Elimination.{Factor}
 use Rattle.quadratic_form.specs.Places.{list_from, form_from}
 use Rattle.quadratic_form.specs.LowerSums.{lower_sum, Small, SmallList, SmallForm}
 use Rattle.quadratic_form.proofs.Ranges.{steps_range}
-use Rattle.obs_rows.specs.Tables.{entry}
+use Rattle.form_tables.specs.Tables.{entry}
 use Rattle.integer_form.specs.declared.form.Form.{Form}
 use Rattle.integer_form.specs.Factors.{factor_at, stored}
 use Rattle.integer_form.specs.Kept.{constant_form}
@@ -22,7 +22,8 @@ length_stored : (d : List ℤ) (l : List (List ℤ)) (columns j n : ℕ) → len
 length_stored d l columns j zero = refl
 length_stored d l columns j (suc n) = ap (λ k. suc k) (length_stored d l columns (suc j) n)
 
-get_stored : (d : List ℤ) (l : List (List ℤ)) (columns j n i : ℕ) (other : Factor) → i < n → get_or (stored d l columns j n) i other ≡ factor_at (get_or d (j + i) (pos 0)) l (j + i) (columns - (j + i) - 1)
+get_stored : (d : List ℤ) (l : List (List ℤ)) (columns j n i : ℕ) (other : Factor) → i < n →
+    get_or (stored d l columns j n) i other ≡ factor_at (get_or d (j + i) (pos 0)) l (j + i) (columns - (j + i) - 1)
 get_stored d l columns j zero i other h = absurd (omega arith)
 get_stored d l columns j (suc n) zero other h = ap (λ k. factor_at (get_or d k (pos 0)) l k (columns - k - 1)) at
   where

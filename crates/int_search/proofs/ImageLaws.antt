@@ -1,10 +1,11 @@
 -- Vectors under a map, place by place.
-use Rattle.std.proofs.Common.{◌≡◌, ◌≢◌, ◌⊎◌, inl, inr, ◌^◌, lit<, unsigned_abs, subst, ℕ, zero, suc, ◌+◌, ◌<◌, ◌≤◌, List, [], ◌∷◌, length, get_or, drop, take, ℤ, pos, ◌+ℤ◌, ◌*ℤ◌, arith, refl, ap, ap₂, sym, ◌∙◌, add-one, length-take, replicate, set, below_more, get_or-set_same, get_or-set_other}
+use Rattle.std.proofs.Common.{◌≡◌, ◌≢◌, ◌⊎◌, inl, inr, ◌^◌, lit<, unsigned_abs, subst, ℕ, zero, suc, ◌+◌, ◌<◌, ◌≤◌, List, [], ◌∷◌, length, get_or, drop, take, ℤ, pos, ◌+ℤ◌, ◌*ℤ◌, arith}
+use Rattle.std.proofs.Common.{refl, ap, ap₂, sym, ◌∙◌, add-one, length-take, replicate, set, below_more, get_or-set_same, get_or-set_other}
 use Rattle.std.proofs.lemmas.Int.{ints}
 use Rattle.whole_math.specs.Vectors.{dot}
 use Rattle.quadratic_form.specs.Maps.{apply}
-use Rattle.normal_sum.specs.Matrices.{EntriesBelow}
-use Rattle.obs_rows.specs.Tables.{entry, HasShape}
+use Rattle.form_tables.specs.Matrices.{EntriesBelow}
+use Rattle.form_tables.specs.Tables.{entry, HasShape}
 use Rattle.int_search.specs.Vectors.{suffix}
 use Rattle.int_search.specs.Images.{image_of}
 use Rattle.int_search.proofs.SuffixArrays.{suffix-cons, suffix-none, suffix-length}
@@ -79,16 +80,6 @@ dot_unit (x ∷ r) (y ∷ v) (suc i) h g e o = step x y (dot r v) (get_or v i (p
     step : (x y d w : ℤ) → x ≡ pos 0 → d ≡ w → (x *ℤ y) +ℤ d ≡ w
     step x y d w e g = rw (e, g) (omega (arith, ints))
 
-zero_row : (n j : ℕ) → get_or (replicate n (pos 0)) j (pos 0) ≡ pos 0
-zero_row zero j = refl
-zero_row (suc n) zero = refl
-zero_row (suc n) (suc j) = zero_row n j
-
-pub zero_entries : (n m i j : ℕ) → entry (replicate n (replicate m (pos 0))) i j ≡ pos 0
-zero_entries zero m i j = refl
-zero_entries (suc n) m zero j = zero_row m j
-zero_entries (suc n) m (suc i) j = zero_entries n m i j
-
 -- 1 on the diagonal up to place n, and 0 elsewhere
 pub identity_entries : (m : List (List ℤ)) (n : ℕ) → ((k : ℕ) → k < n → entry m k k ≡ pos 1) → ((k j : ℕ) → (k ≢ j) ⊎ (n ≤ k) → entry m k j ≡ pos 0) → EntriesBelow (2 ^ 30) m
 identity_entries m n own others k j = by_cases (apart k j) (past n k)
@@ -110,7 +101,8 @@ identity_entries m n own others k j = by_cases (apart k j) (past n k)
     by_cases (inl e) (inr p) = zero_small (others k j (inr p))
     by_cases (inl e) (inl p) = one_small (subst (λ (i : ℕ). entry m k i ≡ pos 1) e (own k p))
 
-pub identity_is : (m : List (List ℤ)) (size n : ℕ) (v : List ℤ) → HasShape size size m → ((k : ℕ) → k < size → entry m k k ≡ pos 1) → ((k j : ℕ) → k ≢ j → entry m k j ≡ pos 0) → n ≤ size → length v ≡ n → image_of m n v ≡ v
+pub identity_is : (m : List (List ℤ)) (size n : ℕ) (v : List ℤ) → HasShape size size m → ((k : ℕ) → k < size → entry m k k ≡ pos 1) → ((k j : ℕ) → k ≢ j → entry m k j ≡ pos 0) → n ≤ size →
+    length v ≡ n → image_of m n v ≡ v
 identity_is m size n v s own others h e = same_entries (image_of m n v) v (l ∙ sym e) (λ k g. at k (rw (← l) g))
   where
     l : length (image_of m n v) ≡ n
@@ -121,7 +113,8 @@ identity_is m size n v s own others h e = same_entries (image_of m n v) v (l ∙
         ∙ dot_unit (get_or m k []) v k (omega arith) (let c = s.columns k (omega arith) in omega arith) (own k (omega arith)) (λ j d. others k j (λ i. d (sym i)))
 
 -- ---- the loop that writes an image
-pub done_set : (m : List (List ℤ)) (v y : List ℤ) (i : ℕ) (x : ℤ) → i < length y → ((k : ℕ) → k < i → get_or y k (pos 0) ≡ dot (get_or m k []) v) → x ≡ dot (get_or m i []) v → (k : ℕ) → k < i + 1 → get_or (set y i x) k (pos 0) ≡ dot (get_or m k []) v
+pub done_set : (m : List (List ℤ)) (v y : List ℤ) (i : ℕ) (x : ℤ) → i < length y → ((k : ℕ) → k < i → get_or y k (pos 0) ≡ dot (get_or m k []) v) → x ≡ dot (get_or m i []) v → (k : ℕ) →
+    k < i + 1 → get_or (set y i x) k (pos 0) ≡ dot (get_or m k []) v
 done_set m v y i x l h e = below_more _ _
     (λ k g. let ne : k ≢ i = omega arith in rw get_or-set_other (h k g))
     (rw get_or-set_same e)

@@ -69,7 +69,8 @@ next_offset f x y s e = offset-is f y s ∙ step x y (rest f s) e ∙ ap (λ c. 
 same_offset : (f : SearchForm) (x y : ℤ) (s : List ℤ) → y ≡ x → offset f y s ≡ offset f x s
 same_offset f x y s e = ap (λ z. offset f z s) e
 
-pub moved_level : (f : SearchForm) (a b : Level) (s : List ℤ) (x c : ℤ) (up : Bool) → IsLevel f a s → Chooses a x c up → Moves a up b → unsigned_abs x < 2 ^ 30 → unsigned_abs c ≤ 2 ^ 62 → IsLevel f b s
+pub moved_level : (f : SearchForm) (a b : Level) (s : List ℤ) (x c : ℤ) (up : Bool) → IsLevel f a s → Chooses a x c up → Moves a up b → unsigned_abs x < 2 ^ 30 → unsigned_abs c ≤ 2 ^ 62 →
+    IsLevel f b s
 moved_level f a b s x c true h k m p q =
     let n = next_offset f a.up b.up s m.0 in
     let d = same_offset f a.down b.down s m.2 in

@@ -21,13 +21,15 @@ less_of f image v w a b p q e g i j h = subst (λ (r : ℤ). IsRankLess (value f
 at_size : (f : SearchForm) (n : ℕ) (z v : List ℤ) → f.size ≡ n → Holds f.size z v → suffix z 0 n ≡ v
 at_size f n z v e h = ap (λ k. suffix z 0 k) (sym e) ∙ h.is
 
-pub keeps_less : (n : ℕ) (p q : ℤ) (y : List ℤ) (old : Best) → IsRankLess p (suffix y 0 n) old.p1 (suffix old.first 0 n) → q ≡ p → KeepsBest n p y old (record { first = y; second = old.first; p1 = q; p2 = old.p1 })
+pub keeps_less : (n : ℕ) (p q : ℤ) (y : List ℤ) (old : Best) → IsRankLess p (suffix y 0 n) old.p1 (suffix old.first 0 n) → q ≡ p →
+    KeepsBest n p y old (record { first = y; second = old.first; p1 = q; p2 = old.p1 })
 keeps_less n p q y old h m = record {
   kept = λ f image one two z s o a b c l hb hy e. record {
     new_one = z;
     new_two = one;
     best = record { first = hy; second = hb.first; p1 = m ∙ e; p2 = hb.p1 };
-    offered = offer_first f image one two z a c l (less_of f image z one (suffix y 0 n) (suffix old.first 0 n) p old.p1 e hb.p1 (at_size f n y (image z) s hy) (at_size f n old.first (image one) s hb.first) h);
+    offered = offer_first f image one two z a c l (less_of f image z one (suffix y 0 n) (suffix old.first 0 n) p old.p1 e hb.p1 (at_size f n y (image z) s hy)
+        (at_size f n old.first (image one) s hb.first) h);
   };
 }
 
@@ -45,7 +47,8 @@ keeps_second n p q y old h k m = record {
 }
 
 -- equal to the first or the second, or past the second
-pub keeps_none : (n : ℕ) (p : ℤ) (y : List ℤ) (old : Best) → (suffix y 0 n ≡ suffix old.first 0 n) ⊎ ((suffix y 0 n ≡ suffix old.second 0 n) ⊎ IsRankLess old.p2 (suffix old.second 0 n) p (suffix y 0 n)) → KeepsBest n p y old old
+pub keeps_none : (n : ℕ) (p : ℤ) (y : List ℤ) (old : Best) → (suffix y 0 n ≡ suffix old.first 0 n) ⊎
+    ((suffix y 0 n ≡ suffix old.second 0 n) ⊎ IsRankLess old.p2 (suffix old.second 0 n) p (suffix y 0 n)) → KeepsBest n p y old old
 keeps_none n p y old h = record {
   kept = λ f image one two z s o a b c l hb hy e. record {
     new_one = one;
@@ -60,7 +63,8 @@ keeps_none n p y old h = record {
         (suffix y 0 n ≡ suffix old.first 0 n) ⊎ ((suffix y 0 n ≡ suffix old.second 0 n) ⊎ IsRankLess old.p2 (suffix old.second 0 n) p (suffix y 0 n)) → (z ≡ one) ⊎ ((z ≡ two) ⊎ IsLess f image two z)
     settled f image one two z s o a b c hb hy e (inl i) = inl (o.apart z one c a (sym (at_size f n y (image z) s hy) ∙ i ∙ at_size f n old.first (image one) s hb.first))
     settled f image one two z s o a b c hb hy e (inr (inl i)) = inr (inl (o.apart z two c b (sym (at_size f n y (image z) s hy) ∙ i ∙ at_size f n old.second (image two) s hb.second)))
-    settled f image one two z s o a b c hb hy e (inr (inr i)) = inr (inr (less_of f image two z (suffix old.second 0 n) (suffix y 0 n) old.p2 p hb.p2 e (at_size f n old.second (image two) s hb.second) (at_size f n y (image z) s hy) i))
+    settled f image one two z s o a b c hb hy e (inr (inr i)) =
+        inr (inr (less_of f image two z (suffix old.second 0 n) (suffix y 0 n) old.p2 p hb.p2 e (at_size f n old.second (image two) s hb.second) (at_size f n y (image z) s hy) i))
 
 pub not_less : (o : Ordering) (p : ℤ) (v : List ℤ) (q : ℤ) (w : List ℤ) → (o ≡ Less → ⊥) → IsRankOrder p v q w o → (v ≡ w) ⊎ IsRankLess q w p v
 not_less Less p v q w n h = absurd (n refl)

@@ -5,6 +5,7 @@ use Rattle.whole_math.proofs.Vectors.{len_is}
 use Rattle.quadratic_form.specs.Rows.{value}
 use Rattle.quadratic_form.specs.TwoLeast.{Before, Less}
 use Rattle.quadratic_form.proofs.VectorOrder.{less_never}
+use Rattle.form_tables.specs.declared.sizes.TheConstants.{MOST_INTEGERS}
 use Rattle.integer_form.specs.declared.form.Form.{Form}
 use Rattle.integer_form.specs.Forms.{integers_of, columns_of, value_of}
 use Rattle.suffix_search.specs.Order.{IsLess}
@@ -18,15 +19,18 @@ use Rattle.int_search.proofs.SuffixArrays.{suffix-all}
 
 -- the map leaves every vector as it is
 abbrev pub IsOwn : List (List ℤ) → Type 0
-IsOwn map = (n : ℕ) (v : List ℤ) → n ≤ 40 → length v ≡ n → image_of map n v ≡ v
+IsOwn map = (n : ℕ) (v : List ℤ) → n ≤ MOST_INTEGERS → length v ≡ n → image_of map n v ≡ v
 
 own_image : (form : Form) (map : List (List ℤ)) (v : List ℤ) → IsOwn map → length v ≡ integers_of form → search_image form map v ≡ v
 own_image form map v o e = let m = form.columns_to in o (integers_of form) v (omega arith) e
 
 -- the order by images is that by the vectors themselves
-own_less : (form : Form) (map : List (List ℤ)) (v w : List ℤ) → IsOwn map → length v ≡ integers_of form → length w ≡ integers_of form → IsLess (search_form form) (search_image form map) v w → Less (columns_of form) v w
-own_less form map v w o a b h = subst (λ (x : List ℤ). (value (columns_of form) v <ℤ value (columns_of form) w) ⊎ ((value (columns_of form) v ≡ value (columns_of form) w) × Before x w)) (own_image form map v o a)
-    (subst (λ (x : List ℤ). (value (columns_of form) v <ℤ value (columns_of form) w) ⊎ ((value (columns_of form) v ≡ value (columns_of form) w) × Before (search_image form map v) x)) (own_image form map w o b) h)
+own_less : (form : Form) (map : List (List ℤ)) (v w : List ℤ) → IsOwn map → length v ≡ integers_of form → length w ≡ integers_of form →
+    IsLess (search_form form) (search_image form map) v w → Less (columns_of form) v w
+own_less form map v w o a b h = subst (λ (x : List ℤ). (value (columns_of form) v <ℤ value (columns_of form) w) ⊎ ((value (columns_of form) v ≡ value (columns_of form) w) × Before x w))
+    (own_image form map v o a)
+    (subst (λ (x : List ℤ). (value (columns_of form) v <ℤ value (columns_of form) w) ⊎ ((value (columns_of form) v ≡ value (columns_of form) w) × Before (search_image form map v) x))
+    (own_image form map w o b) h)
 
 length_of : (v : List ℤ) (n : ℕ) → len v ≡ pos n → length v ≡ n
 length_of v n e = pos_same (length v) n (sym (len_is v) ∙ e)
@@ -67,10 +71,12 @@ plain_found form map budget b o a = record {
         ⊎_elim (λ (i : v ≡ a.two). absurd (f i)) (λ (l : IsLess (search_form form) (search_image form map) a.two v). own_less form map a.two v o a.least.second_size e l) t) (a.least.others v e)
 
 -- ---- the answers of the search, in the form's own terms
-pub answer_found : (form : Form) (map : List (List ℤ)) (budget : ℕ) → IsOwn map → (r : Result TwoBest SearchFault) → MatchResult r (IsAnswer (search_form form) (search_image form map) budget) (IsFault (search_form form) (search_image form map) budget) → IfOk r (IsTwoBest form)
+pub answer_found : (form : Form) (map : List (List ℤ)) (budget : ℕ) → IsOwn map → (r : Result TwoBest SearchFault) →
+    MatchResult r (IsAnswer (search_form form) (search_image form map) budget) (IsFault (search_form form) (search_image form map) budget) → IfOk r (IsTwoBest form)
 answer_found form map budget o (Ok b) h = plain_found form map budget b o h
 answer_found form map budget o (Err e) h = tt
 
-pub answer_visits : (form : Form) (map : List (List ℤ)) (budget : ℕ) → (r : Result TwoBest SearchFault) → MatchResult r (IsAnswer (search_form form) (search_image form map) budget) (IsFault (search_form form) (search_image form map) budget) → IfOk r (IsVisitedIn form budget)
+pub answer_visits : (form : Form) (map : List (List ℤ)) (budget : ℕ) → (r : Result TwoBest SearchFault) →
+    MatchResult r (IsAnswer (search_form form) (search_image form map) budget) (IsFault (search_form form) (search_image form map) budget) → IfOk r (IsVisitedIn form budget)
 answer_visits form map budget (Ok b) h = h.visits
 answer_visits form map budget (Err e) h = tt

@@ -1,5 +1,6 @@
 -- The rounded point and its neighbour, and small arrays with zeros behind.
-use Rattle.std.proofs.Common.{◌≡◌, ◌⊎◌, inl, inr, ℕ, zero, suc, ◌+◌, ◌-◌, ◌<◌, ◌≤◌, ◌^◌, List, [], ◌∷◌, ◌++◌, length, get_or, set, ℤ, pos, negsuc, ◌+ℤ◌, ◌*ℤ◌, neg_ℤ, ◌<ℤ◌, ◌≤ℤ◌, arith, unsigned_abs, refl, ap, ap₂, sym, ◌∙◌, subst, replicate, length-append}
+use Rattle.std.proofs.Common.{◌≡◌, ◌⊎◌, inl, inr, ℕ, zero, suc, ◌+◌, ◌-◌, ◌<◌, ◌≤◌, ◌^◌, List, [], ◌∷◌, ◌++◌, length, get_or, set, ℤ, pos, negsuc, ◌+ℤ◌, ◌*ℤ◌, neg_ℤ, ◌<ℤ◌, ◌≤ℤ◌, arith}
+use Rattle.std.proofs.Common.{unsigned_abs, refl, ap, ap₂, sym, ◌∙◌, subst, replicate, length-append}
 use Rattle.std.proofs.lemmas.Int.{ints, clamps}
 use Rattle.whole_math.specs.Rounding.{nearest_div}
 use Rattle.whole_math.proofs.Order.{polys}
@@ -122,13 +123,15 @@ small_zero (suc n) zero = omega arith
 small_zero (suc n) (suc i) = small_zero n i
 
 -- ---- the loop that rounds
-pub rounded_next : (f : SearchForm) (z : List ℤ) (i : ℕ) (x : ℤ) → f.size ≤ length z → i < f.size → suffix z (i + 1) f.size ≡ rounded f (f.size - (i + 1)) → x ≡ nearest_div (neg_ℤ (rest f (suffix z (i + 1) f.size))) (2 ^ 30) →
+pub rounded_next : (f : SearchForm) (z : List ℤ) (i : ℕ) (x : ℤ) → f.size ≤ length z → i < f.size → suffix z (i + 1) f.size ≡ rounded f (f.size - (i + 1)) →
+    x ≡ nearest_div (neg_ℤ (rest f (suffix z (i + 1) f.size))) (2 ^ 30) →
     suffix (set z i x) i f.size ≡ rounded f (f.size - i)
 rounded_next f z i x k h e g =
     let n : f.size - i ≡ suc (f.size - (i + 1)) = omega arith in
     suffix-set z i f.size x h k ∙ ap₂ (λ u v. u ∷ v) (g ∙ ap (λ v. nearest_div (neg_ℤ (rest f v)) (2 ^ 30)) e) e ∙ sym (rounded-suc f (f.size - (i + 1))) ∙ ap (rounded f) (sym n)
 
-pub rounded_is_wide : (f : SearchForm) (z : List ℤ) (i : ℕ) (x : ℤ) → IsSearchable f → i < f.size → suffix z (i + 1) f.size ≡ rounded f (f.size - (i + 1)) → x ≡ nearest_div (neg_ℤ (rest f (suffix z (i + 1) f.size))) (2 ^ 30) →
+pub rounded_is_wide : (f : SearchForm) (z : List ℤ) (i : ℕ) (x : ℤ) → IsSearchable f → i < f.size → suffix z (i + 1) f.size ≡ rounded f (f.size - (i + 1)) →
+    x ≡ nearest_div (neg_ℤ (rest f (suffix z (i + 1) f.size))) (2 ^ 30) →
     2 ^ 30 ≤ unsigned_abs x → IsWide f
 rounded_is_wide f z i x k h e g w =
     let q : x ≡ nearest_div (neg_ℤ (rest f (rounded f (f.size - (i + 1))))) (2 ^ 30) = g ∙ ap (λ v. nearest_div (neg_ℤ (rest f v)) (2 ^ 30)) e in
@@ -141,7 +144,8 @@ rounded_first f z = let n : 0 ≡ f.size - f.size = omega arith in suffix-none z
 pub point_head : (f : SearchForm) (z : List ℤ) → f.size ≤ length z → 0 < f.size → suffix z 0 f.size ≡ rounded f f.size → rounded f f.size ≡ get_or z 0 (pos 0) ∷ suffix z 1 f.size
 point_head f z k h e = sym e ∙ suffix-cons z 0 f.size h k
 
-pub neighbour_set : (f : SearchForm) (z : List ℤ) (y : ℤ) → f.size ≤ length z → 0 < f.size → suffix z 0 f.size ≡ rounded f f.size → y ≡ get_or z 0 (pos 0) +ℤ side (offset f (get_or z 0 (pos 0)) (suffix z 1 f.size)) →
+pub neighbour_set : (f : SearchForm) (z : List ℤ) (y : ℤ) → f.size ≤ length z → 0 < f.size → suffix z 0 f.size ≡ rounded f f.size →
+    y ≡ get_or z 0 (pos 0) +ℤ side (offset f (get_or z 0 (pos 0)) (suffix z 1 f.size)) →
     suffix (set z 0 y) 0 f.size ≡ neighbour f
 neighbour_set f z y k h e g = suffix-set z 0 f.size y h k ∙ ap (λ x. x ∷ suffix z 1 f.size) g ∙ sym (neighbour_is f (get_or z 0 (pos 0)) (suffix z 1 f.size) (point_head f z k h e))
 

@@ -11,7 +11,8 @@ use Rattle.quadratic_form.specs.Places.{form_from}
 use Rattle.quadratic_form.specs.TwoLeast.{Before, Less, TwoLeast}
 use Rattle.quadratic_form.proofs.VectorOrder.{less_never}
 use Rattle.quadratic_form.proofs.CarriedSearch.{TwoLeastUnder, carried}
-use Rattle.obs_rows.specs.Tables.{entry}
+use Rattle.form_tables.specs.declared.sizes.TheConstants.{MOST_INTEGERS}
+use Rattle.form_tables.specs.Tables.{entry}
 use Rattle.decorrelate.specs.declared.unimodular.Unimodular.{Unimodular}
 use Rattle.decorrelate.specs.Inverses.{block, Undoes}
 use Rattle.decorrelate.proofs.InverseLaws.{inverse_of}
@@ -39,14 +40,15 @@ use Rattle.int_search.proofs.ImageLaws.{image_length}
 pub reduced_can : (f : Form) (map back : List (List ℤ)) → 4 < f.columns → IsMap map → Undoes (integers_of f) back map → CanSearch f map
 reduced_can f map back h m u =
     let t = f.columns_to in
-    let s : length map ≡ 40 = m.shape.rows in
+    let s : length map ≡ MOST_INTEGERS = m.shape.rows in
     let within : integers_of f ≤ length map = omega arith in
     record {
       some = h;
       map_in = m;
       one_to_one = record {
         entries = λ v e. image_length map (integers_of f) v within;
-        apart = λ v w e g i. sym (u v (len_is v ∙ ap pos e)) ∙ ap (apply (block (integers_of f) back)) (sym (image_block map (integers_of f) v within e) ∙ i ∙ image_block map (integers_of f) w within g) ∙ u w (len_is w ∙ ap pos g);
+        apart = λ v w e g i. sym (u v (len_is v ∙ ap pos e))
+            ∙ ap (apply (block (integers_of f) back)) (sym (image_block map (integers_of f) v within e) ∙ i ∙ image_block map (integers_of f) w within g) ∙ u w (len_is w ∙ ap pos g);
       };
     }
 
@@ -63,7 +65,7 @@ pub record IsDecorrelated (f r : Form) (u : Unimodular) : Type 0 where
   pub size : u.size ≡ integers_of f
   pub integers : integers_of r ≡ integers_of f
   pub form : columns_of r ≡ transformed_form (integers_of f) u.map f.p
-  pub rows : length u.map ≡ 40
+  pub rows : length u.map ≡ MOST_INTEGERS
 
 image_is : (f r : Form) (u : Unimodular) (v : List ℤ) → IsDecorrelated f r u → length v ≡ integers_of f → search_image r u.map v ≡ apply (block (integers_of f) u.map) v
 image_is f r u v d e =
@@ -80,9 +82,13 @@ value_is f r u v d e =
 image_less : (f r : Form) (u : Unimodular) (v w : List ℤ) → IsDecorrelated f r u → length v ≡ integers_of f → length w ≡ integers_of f → IsLess (search_form r) (search_image r u.map) v w →
     Less (columns_of f) (apply (block (integers_of f) u.map) v) (apply (block (integers_of f) u.map) w)
 image_less f r u v w d e g h = ⊎_elim
-    (λ (l : value (columns_of r) v <ℤ value (columns_of r) w). inl (subst (λ (x : ℤ). x <ℤ value_of f (apply (block (integers_of f) u.map) w)) (value_is f r u v d e) (subst (λ (y : ℤ). value (columns_of r) v <ℤ y) (value_is f r u w d g) l)))
+    (λ (l : value (columns_of r) v <ℤ value (columns_of r) w). inl
+    (subst (λ (x : ℤ). x <ℤ value_of f (apply (block (integers_of f) u.map) w)) (value_is f r u v d e) (subst (λ (y : ℤ). value (columns_of r) v <ℤ y) (value_is f r u w d g) l)))
     (λ (l : (value (columns_of r) v ≡ value (columns_of r) w) × Before (search_image r u.map v) (search_image r u.map w)).
-    inr (sym (value_is f r u v d e) ∙ l.0 ∙ value_is f r u w d g, subst (λ (x : List ℤ). Before x (apply (block (integers_of f) u.map) w)) (image_is f r u v d e) (subst (λ (y : List ℤ). Before (search_image r u.map v) y) (image_is f r u w d g) l.1))) h
+    inr (
+      sym (value_is f r u v d e) ∙ l.0 ∙ value_is f r u w d g,
+      subst (λ (x : List ℤ). Before x (apply (block (integers_of f) u.map) w)) (image_is f r u v d e) (subst (λ (y : List ℤ). Before (search_image r u.map v) y) (image_is f r u w d g) l.1),
+    )) h
 
 pub reduced_found : (f r : Form) (u : Unimodular) (budget : ℕ) (b : TwoBest) → IsDecorrelated f r u → IsAnswer (search_form r) (search_image r u.map) budget b → IsTwoBest f b
 reduced_found f r u budget b d a = record {
@@ -124,7 +130,8 @@ reduced_found f r u budget b d a = record {
     under = record {
       first = len_is a.one ∙ ap pos e1;
       second = len_is a.two ∙ ap pos e2;
-      differ = λ (i : a.one ≡ a.two). less_never (columns_of f) (apply (block (integers_of f) u.map) a.two) (subst (λ (v : List ℤ). Less (columns_of f) (apply (block (integers_of f) u.map) v) (apply (block (integers_of f) u.map) a.two)) i order);
+      differ = λ (i : a.one ≡ a.two). less_never (columns_of f) (apply (block (integers_of f) u.map) a.two)
+          (subst (λ (v : List ℤ). Less (columns_of f) (apply (block (integers_of f) u.map) v) (apply (block (integers_of f) u.map) a.two)) i order);
       order = order;
       rest = λ (v : List ℤ) (e : len v ≡ pos (integers_of f)) (g : v ≡ a.one → ⊥) (h : v ≡ a.two → ⊥). others v (length_of v (integers_of f) e) g h;
     }
@@ -137,21 +144,25 @@ own_of (c ∷ a) = c.own
 ok_same : (p q : List Factor × List Column) → (let x : Result (List Factor × List Column) Refusal = Ok p in x) ≡ Ok q → p ≡ q
 ok_same p q e = cc
 
-forms_same : (a b : ℕ) (x y : List Factor) (g h : ℤ) (p q : List Column) → a ≡ b → x ≡ y → g ≡ h → p ≡ q → (let s : SearchForm = record { size = a; factors = x; g = g; p = p } in s) ≡ record { size = b; factors = y; g = h; p = q }
+forms_same : (a b : ℕ) (x y : List Factor) (g h : ℤ) (p q : List Column) → a ≡ b → x ≡ y → g ≡ h → p ≡ q →
+    (let s : SearchForm = record { size = a; factors = x; g = g; p = p } in s) ≡ record { size = b; factors = y; g = h; p = q }
 forms_same a b x y g h p q i j k l = ap (λ (z : ℕ). let s : SearchForm = record { size = z; factors = x; g = g; p = p } in s) i
     ∙ ap (λ (z : List Factor). let s : SearchForm = record { size = b; factors = z; g = g; p = p } in s) j
     ∙ ap (λ (z : ℤ). let s : SearchForm = record { size = b; factors = y; g = z; p = p } in s) k
     ∙ ap (λ (z : List Column). let s : SearchForm = record { size = b; factors = y; g = h; p = z } in s) l
 
-search_same : (f r : Form) (u : Unimodular) (n : ℕ) (c : HasCountIn f n u.map) → IsDecorrelated f r u → (let x : Result (List Factor × List Column) Refusal = Ok (c.factors, constant_form c.g) in x) ≡ Ok (factors_of r, constant_form r.g) →
+search_same : (f r : Form) (u : Unimodular) (n : ℕ) (c : HasCountIn f n u.map) → IsDecorrelated f r u →
+    (let x : Result (List Factor × List Column) Refusal = Ok (c.factors, constant_form c.g) in x) ≡ Ok (factors_of r, constant_form r.g) →
     search_form r ≡ decorrelated f u.map c.factors c.g
 unfolding own_of
 search_same f r u n c d e =
     let i : (c.factors, constant_form c.g) ≡ (factors_of r, constant_form r.g) = ok_same (c.factors, constant_form c.g) (factors_of r, constant_form r.g) e in
-    forms_same (integers_of r) (integers_of f) (factors_of r) c.factors r.g c.g (columns_of r) (transformed_form (integers_of f) u.map f.p) d.integers (sym (ap (λ (p : List Factor × List Column). p.0) i)) (sym (ap (λ (p : List Factor × List Column). own_of p.1) i)) d.form
+    forms_same (integers_of r) (integers_of f) (factors_of r) c.factors r.g c.g (columns_of r) (transformed_form (integers_of f) u.map f.p) d.integers
+    (sym (ap (λ (p : List Factor × List Column). p.0) i)) (sym (ap (λ (p : List Factor × List Column). own_of p.1) i)) d.form
 
 -- ---- what the search has visited there
-pub reduced_visits : (f r : Form) (u : Unimodular) (budget : ℕ) (b : TwoBest) → IsDecorrelated f r u → steps 3 (integers_of f) (transformed_form (integers_of f) u.map f.p) ≡ Ok (factors_of r, constant_form r.g) →
+pub reduced_visits : (f r : Form) (u : Unimodular) (budget : ℕ) (b : TwoBest) → IsDecorrelated f r u →
+    steps 3 (integers_of f) (transformed_form (integers_of f) u.map f.p) ≡ Ok (factors_of r, constant_form r.g) →
     IsAnswer (search_form r) (search_image r u.map) budget b → IsVisitedInMap f budget b u.map
 reduced_visits f r u budget b d t a = record {
   factors = factors_of r;
@@ -164,7 +175,8 @@ reduced_visits f r u budget b d t a = record {
 apart : (x y : ℤ) → x <ℤ y → y ≤ℤ x → ⊥
 apart x y h g = omega (arith, lins)
 
-pub reduced_fault : (f r : Form) (u : Unimodular) (n : ℕ) (fault : SearchFault) (c : HasCountIn f n u.map) → IsDecorrelated f r u → (let x : Result (List Factor × List Column) Refusal = Ok (c.factors, constant_form c.g) in x) ≡ Ok (factors_of r, constant_form r.g) →
+pub reduced_fault : (f r : Form) (u : Unimodular) (n : ℕ) (fault : SearchFault) (c : HasCountIn f n u.map) → IsDecorrelated f r u →
+    (let x : Result (List Factor × List Column) Refusal = Ok (c.factors, constant_form c.g) in x) ≡ Ok (factors_of r, constant_form r.g) →
     IsFault (search_form r) (search_image r u.map) n fault → ⊥
 reduced_fault f r u n Spent c d e h = c.counted (subst (λ (s : SearchForm). IsOver s n) (search_same f r u n c d e) h)
 reduced_fault f r u n Overwidth c d e h = wide (subst (λ (s : SearchForm). IsTooWide s (search_image r u.map)) (search_same f r u n c d e) h)

@@ -18,7 +18,8 @@ pub record IsPoint (f : SearchForm) (im : List ℤ → List ℤ) (v y : List ℤ
   pub value_is : p ≡ value f.p v
   pub within : value f.p v ≤ℤ top f
 
-pub begins : (f : SearchForm) (im : List ℤ → List ℤ) (v u y x : List ℤ) (p q : ℤ) (w : Walk) → IsPoint f im v y p → IsPoint f im u x q → IsRankLess p (suffix y 0 f.size) q (suffix x 0 f.size) → top f <ℤ pos (2 ^ 62) →
+pub begins : (f : SearchForm) (im : List ℤ → List ℤ) (v u y x : List ℤ) (p q : ℤ) (w : Walk) → IsPoint f im v y p → IsPoint f im u x q →
+    IsRankLess p (suffix y 0 f.size) q (suffix x 0 f.size) → top f <ℤ pos (2 ^ 62) →
     BeginsWith f (record { first = y; second = x; p1 = p; p2 = q }) w → IsFresh f im w
 begins f im v u y x p q w a b l t g = g.begun im v u a.size b.size (less_of f im v u (suffix y 0 f.size) (suffix x 0 f.size) p q a.value_is b.value_is a.held.is b.held.is l) b.within t
     (record { first = a.held; second = b.held; p1 = a.value_is; p2 = b.value_is })
@@ -26,5 +27,6 @@ begins f im v u y x p q w a b l t g = g.begun im v u a.size b.size (less_of f im
 pub wide_point : (f : SearchForm) (im : List ℤ → List ℤ) (v : List ℤ) → IsSearchable f → length v ≡ f.size → value f.p v ≤ℤ top f → HasLarge (im v) → IsWideIn f im
 wide_point f im v k e t l = record { vector = v; full = e; counted = counts_end f [] v k e (let s = k.some in omega arith) t; large = l }
 
-pub points_differ : (f : SearchForm) (im : List ℤ → List ℤ) (v u y x : List ℤ) → IsSearchable f → IsOneToOne f.size im → v ≡ rounded f f.size → u ≡ neighbour f → Holds f.size y (im v) → Holds f.size x (im u) → suffix y 0 f.size ≡ suffix x 0 f.size → ⊥
+pub points_differ : (f : SearchForm) (im : List ℤ → List ℤ) (v u y x : List ℤ) → IsSearchable f → IsOneToOne f.size im → v ≡ rounded f f.size → u ≡ neighbour f → Holds f.size y (im v) →
+    Holds f.size x (im u) → suffix y 0 f.size ≡ suffix x 0 f.size → ⊥
 points_differ f im v u y x k o a b g h e = neighbour_differs f k.some (sym a ∙ o.apart v u (ap length a ∙ rounded_length f f.size) (ap length b ∙ neighbour_length f k.some) (sym g.is ∙ e ∙ h.is) ∙ b)

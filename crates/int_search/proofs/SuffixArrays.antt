@@ -1,5 +1,6 @@
 -- Suffixes of vectors in arrays, and sums over them.
-use Rattle.std.proofs.Common.{◌≡◌, ℕ, zero, suc, ◌+◌, ◌-◌, ◌<◌, ◌≤◌, List, [], ◌∷◌, ◌++◌, length, get_or, set, drop, take, ℤ, pos, ◌+ℤ◌, ◌*ℤ◌, arith, refl, ap, ap₂, ◌∙◌, add-one, length-drop, length-take}
+use Rattle.std.proofs.Common.{◌≡◌, ℕ, zero, suc, ◌+◌, ◌-◌, ◌<◌, ◌≤◌, List, [], ◌∷◌, ◌++◌, length, get_or, set, drop, take, ℤ, pos, ◌+ℤ◌, ◌*ℤ◌, arith, refl, ap, ap₂, ◌∙◌, add-one}
+use Rattle.std.proofs.Common.{length-drop, length-take}
 use Rattle.std.proofs.lemmas.Int.{ints}
 use Rattle.whole_math.specs.Vectors.{dot}
 use Rattle.quadratic_form.specs.Places.{list_from}

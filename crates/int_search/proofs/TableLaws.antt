@@ -1,7 +1,7 @@
 -- A value written at its place in a table and across the diagonal.
 use Rattle.std.proofs.Common.{◌≡◌, ◌≢◌, ◌⊎◌, inl, inr, ⊎_elim, ℕ, ◌<◌, List, ℤ, unsigned_abs, arith, sym, ◌∙◌, subst, ap₂}
-use Rattle.obs_rows.specs.Tables.{entry}
-use Rattle.normal_sum.specs.Matrices.{EntriesBelow}
+use Rattle.form_tables.specs.Tables.{entry}
+use Rattle.form_tables.specs.Matrices.{EntriesBelow}
 
 -- p with the value x at row r and column c, and at row c and column r
 pub record IsSetBoth (old p : List (List ℤ)) (r c : ℕ) (x : ℤ) : Type 0 where
@@ -12,7 +12,8 @@ pub record IsSetBoth (old p : List (List ℤ)) (r c : ℕ) (x : ℤ) : Type 0 wh
 decide : (a b : ℕ) → (a ≡ b) ⊎ (a ≢ b)
 decide a b = grind arith
 
-pub set_twice : (old mid new : List (List ℤ)) (r c : ℕ) (x : ℤ) → entry mid r c ≡ x → ((i j : ℕ) → (i ≢ r) ⊎ (j ≢ c) → entry mid i j ≡ entry old i j) → entry new c r ≡ x → ((i j : ℕ) → (i ≢ c) ⊎ (j ≢ r) → entry new i j ≡ entry mid i j) → IsSetBoth old new r c x
+pub set_twice : (old mid new : List (List ℤ)) (r c : ℕ) (x : ℤ) → entry mid r c ≡ x → ((i j : ℕ) → (i ≢ r) ⊎ (j ≢ c) → entry mid i j ≡ entry old i j) → entry new c r ≡ x →
+    ((i j : ℕ) → (i ≢ c) ⊎ (j ≢ r) → entry new i j ≡ entry mid i j) → IsSetBoth old new r c x
 set_twice old mid new r c x a o b q = record {
   there = ⊎_elim (λ (e : r ≡ c). subst (λ (k : ℕ). entry new r k ≡ x) e (subst (λ (k : ℕ). entry new k r ≡ x) (sym e) b)) (λ (d : r ≢ c). q r c (inl d) ∙ a) (decide r c);
   across = b;

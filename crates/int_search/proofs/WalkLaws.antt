@@ -1,9 +1,11 @@
 -- What a turn does to the state.
-use Rattle.std.proofs.Common.{◌≡◌, ℕ, suc, ◌+◌, ◌-◌, ◌*◌, ◌<◌, ◌≤◌, ◌^◌, List, [], ◌∷◌, length, get_or, set, drop, ℤ, pos, ◌+ℤ◌, ◌-ℤ◌, ◌*ℤ◌, neg_ℤ, ◌<ℤ◌, ◌≤ℤ◌, Bool, true, false, arith, unsigned_abs, refl, ap, sym, ◌∙◌, subst, length-set}
+use Rattle.std.proofs.Common.{◌≡◌, ℕ, suc, ◌+◌, ◌-◌, ◌*◌, ◌<◌, ◌≤◌, ◌^◌, List, [], ◌∷◌, length, get_or, set, drop, ℤ, pos, ◌+ℤ◌, ◌-ℤ◌, ◌*ℤ◌, neg_ℤ, ◌<ℤ◌, ◌≤ℤ◌, Bool, true, false, arith}
+use Rattle.std.proofs.Common.{unsigned_abs, refl, ap, sym, ◌∙◌, subst, length-set}
 use Rattle.std.specs.Bool.{MatchBool}
 use Rattle.std.proofs.lemmas.Int.{ints}
 use Rattle.whole_math.proofs.Order.{polys}
 use Rattle.quadratic_form.specs.Rows.{value}
+use Rattle.form_tables.specs.declared.sizes.TheConstants.{MOST_INTEGERS}
 use Rattle.suffix_search.specs.Suffixes.{SearchForm, IsSearchable, rest, low, weight}
 use Rattle.suffix_search.specs.PlainCount.{AreAtMost, top, IsOver, IsWide, IsWideIn, HasLarge}
 use Rattle.suffix_search.specs.Order.{IsLess, IsOneToOne}
@@ -46,7 +48,8 @@ pub record IsWeightHere (f : SearchForm) (w : Walk) (d : ℤ) : Type 0 where
   pub from : pos 1 ≤ℤ d
   pub to : d ≤ℤ pos (2 ^ 52)
 
-pub weight_here : (form : Form) (im : List ℤ → List ℤ) (w : Walk) (a : Level) (l : ℕ) → 4 < form.columns → IsWalk (search_form form) im w → IsLatest w.stack a → 0 < length w.stack → l ≡ length w.stack →
+pub weight_here : (form : Form) (im : List ℤ → List ℤ) (w : Walk) (a : Level) (l : ℕ) → 4 < form.columns → IsWalk (search_form form) im w → IsLatest w.stack a → 0 < length w.stack →
+    l ≡ length w.stack →
     IsWeightHere (search_form form) w (get_or form.d (3 + w.size - l) (pos 0))
 weight_here form im w a l k h t n e =
     let f : SearchForm = search_form form in
@@ -62,7 +65,8 @@ weight_here form im w a l k h t n e =
     record { is = d; from = rw d (weight_from f (here f w) (searchable form k) s.shorter); to = rw d (weight_to f (here f w) (searchable form k) s.shorter) }
 
 -- ---- a level is left: what is past the room is past the second
-pub walk_pop : (f : SearchForm) (im : List ℤ → List ℤ) (w : Walk) (a : Level) (x c d left : ℤ) (up : Bool) → IsSearchable f → f.size ≤ 40 → IsLatest w.stack a → 0 < length w.stack → Chooses a x c up →
+pub walk_pop : (f : SearchForm) (im : List ℤ → List ℤ) (w : Walk) (a : Level) (x c d left : ℤ) (up : Bool) → IsSearchable f → f.size ≤ MOST_INTEGERS → IsLatest w.stack a →
+    0 < length w.stack → Chooses a x c up →
     d ≡ weight f (here f w) → left ≡ (pos (2 ^ 60) *ℤ w.best.p2) -ℤ a.low → left <ℤ (d *ℤ (c *ℤ c)) → IsWalk f im w → IsWalk f im (record w { stack = drop 1 w.stack })
 walk_pop f im w a x c d left up k mo t n ch e l far h =
     let s = focus f im w a h t in
@@ -90,7 +94,8 @@ walk_pop f im w a x c d left up k mo t n ch e l far h =
     step p v l m q r a b c d = omega (arith, polys)
 
 -- ---- the suffix that is visited
-pub walk_reach : (f : SearchForm) (im : List ℤ → List ℤ) (w : Walk) (r : Reach) (d t left : ℤ) → IsSearchable f → IsWalk f im w → IsLatest w.stack r.level → 0 < length w.stack → Chooses r.level r.choice.entry r.choice.offset r.choice.is_up →
+pub walk_reach : (f : SearchForm) (im : List ℤ → List ℤ) (w : Walk) (r : Reach) (d t left : ℤ) → IsSearchable f → IsWalk f im w → IsLatest w.stack r.level → 0 < length w.stack →
+    Chooses r.level r.choice.entry r.choice.offset r.choice.is_up →
     d ≡ weight f (here f w) → left ≡ (pos (2 ^ 60) *ℤ w.best.p2) -ℤ r.level.low → IsTermWithin left d r.choice.offset t → r.low ≡ r.level.low +ℤ t → IsReach f w r
 walk_reach f im w r d t left k h l n ch e g i j =
     let s = latest_level f im w r.level h l in
@@ -99,7 +104,8 @@ walk_reach f im w r d t left k h l n ch e g i j =
       latest = l;
       level = s;
       chosen = ch;
-      low_is = j ∙ ap (λ v. r.level.low +ℤ v) (i.is ∙ ap (λ v. v *ℤ (r.choice.offset *ℤ r.choice.offset)) e) ∙ sym (low_chosen f r.level (here f w) r.choice.entry r.choice.offset r.choice.is_up k s ch);
+      low_is = j ∙ ap (λ v. r.level.low +ℤ v) (i.is ∙ ap (λ v. v *ℤ (r.choice.offset *ℤ r.choice.offset)) e)
+          ∙ sym (low_chosen f r.level (here f w) r.choice.entry r.choice.offset r.choice.is_up k s ch);
       within = step r.low r.level.low t left w.best.p2 j i.within g;
       offset_small = i.small;
     }
@@ -114,7 +120,8 @@ reach_within f im w r h v = step r.low (low f (r.choice.entry ∷ here f w)) w.b
     step a b p q e l g = subst (λ (t : ℤ). b ≤ℤ (pos (2 ^ 60) *ℤ t)) g (subst (λ (t : ℤ). t ≤ℤ (pos (2 ^ 60) *ℤ p)) e l)
 
 -- the entry at its place
-set_here : (f : SearchForm) (im : List ℤ → List ℤ) (w : Walk) (x : ℤ) → f.size ≤ 40 → IsWalk f im w → 0 < length w.stack → suffix (set w.z (f.size - length w.stack) x) (f.size - length w.stack) f.size ≡ x ∷ here f w
+set_here : (f : SearchForm) (im : List ℤ → List ℤ) (w : Walk) (x : ℤ) → f.size ≤ MOST_INTEGERS → IsWalk f im w → 0 < length w.stack →
+    suffix (set w.z (f.size - length w.stack) x) (f.size - length w.stack) f.size ≡ x ∷ here f w
 set_here f im w x m h n =
     let p = h.depth in
     let z = h.room in
@@ -122,7 +129,8 @@ set_here f im w x m h n =
     suffix-set w.z (f.size - length w.stack) f.size x (omega arith) (omega arith) ∙ ap (λ j. x ∷ suffix w.z j f.size) i
 
 -- a visit above the first integer
-pub walk_inner : (f : SearchForm) (im : List ℤ → List ℤ) (w : Walk) (r : Reach) (b c : Level) (z : List ℤ) (st : List Level) (e : ℤ) → IsSearchable f → f.size ≤ 40 → IsWalk f im w → IsReach f w r → unsigned_abs r.choice.entry < 2 ^ 30 →
+pub walk_inner : (f : SearchForm) (im : List ℤ → List ℤ) (w : Walk) (r : Reach) (b c : Level) (z : List ℤ) (st : List Level) (e : ℤ) → IsSearchable f → f.size ≤ MOST_INTEGERS →
+    IsWalk f im w → IsReach f w r → unsigned_abs r.choice.entry < 2 ^ 30 →
     Moves r.level r.choice.is_up b → 0 < f.size - length w.stack → z ≡ set w.z (f.size - length w.stack) r.choice.entry → st ≡ c ∷ (b ∷ drop 1 w.stack) → IsSmall z →
     e ≡ rest f (suffix z (f.size - length w.stack) f.size) → IsFresh e r.low c → IsWalk f im (record w { z = z; stack = st; visits = w.visits + 1 })
 walk_inner f im w r b c z st e k mo h v sm mv n ez es small ee fr =
@@ -161,8 +169,10 @@ walk_inner f im w r b c z st e k mo h v sm mv n ez es small ee fr =
     bound_top l v t a b = omega (arith, polys)
 
 -- a visit at the first integer, where the vector is offered
-pub walk_leaf : (f : SearchForm) (im : List ℤ → List ℤ) (w new : Walk) (r : Reach) (b : Level) (z : List ℤ) (st : List Level) → IsSearchable f → f.size ≤ 40 → IsWalk f im w → IsReach f w r → unsigned_abs r.choice.entry < 2 ^ 30 →
-    Moves r.level r.choice.is_up b → f.size - length w.stack ≡ 0 → z ≡ set w.z 0 r.choice.entry → st ≡ b ∷ drop 1 w.stack → IsSmall z → Offers f im (record w { z = z; stack = st; visits = w.visits + 1 }) new → IsWalk f im new
+pub walk_leaf : (f : SearchForm) (im : List ℤ → List ℤ) (w new : Walk) (r : Reach) (b : Level) (z : List ℤ) (st : List Level) → IsSearchable f → f.size ≤ MOST_INTEGERS → IsWalk f im w →
+    IsReach f w r → unsigned_abs r.choice.entry < 2 ^ 30 →
+    Moves r.level r.choice.is_up b → f.size - length w.stack ≡ 0 → z ≡ set w.z 0 r.choice.entry → st ≡ b ∷ drop 1 w.stack → IsSmall z →
+    Offers f im (record w { z = z; stack = st; visits = w.visits + 1 }) new → IsWalk f im new
 walk_leaf f im w new r b z st k mo h v sm mv n ez es small o =
     let s = focus f im w r.level h v.latest in
     let x : ℤ = r.choice.entry in
@@ -200,7 +210,8 @@ walk_leaf f im w new r b z st k mo h v sm mv n ez es small o =
     }
 
 -- the image of the visited vector is too wide
-pub walk_wide_image : (f : SearchForm) (im : List ℤ → List ℤ) (w : Walk) (r : Reach) (z : List ℤ) → f.size ≤ 40 → IsWalk f im w → IsReach f w r → f.size - length w.stack ≡ 0 → z ≡ set w.z 0 r.choice.entry →
+pub walk_wide_image : (f : SearchForm) (im : List ℤ → List ℤ) (w : Walk) (r : Reach) (z : List ℤ) → f.size ≤ MOST_INTEGERS → IsWalk f im w → IsReach f w r → f.size - length w.stack ≡ 0 →
+    z ≡ set w.z 0 r.choice.entry →
     HasLarge (im (suffix z 0 f.size)) → IsWideIn f im
 walk_wide_image f im w r z mo h v n ez large =
     let s = focus f im w r.level h v.latest in
@@ -234,7 +245,8 @@ chosen_sizes f a s x c false h k = let p = h.down_size in let q = h.down_offset_
 
 -- ---- the ends of a turn
 pub walk_over : (f : SearchForm) (im : List ℤ → List ℤ) (w : Walk) (r : Reach) → IsWalk f im w → IsReach f w r → IsOver f w.visits
-walk_over f im w r h v = search_over f im r.level (drop 1 w.stack) r.choice.entry (here f w) h.one h.two w.visits (focus f im w r.level h v.latest) (chosen_free r.level r.choice.entry r.choice.offset r.choice.is_up v.chosen) (reach_within f im w r h v)
+walk_over f im w r h v = search_over f im r.level (drop 1 w.stack) r.choice.entry (here f w) h.one h.two w.visits (focus f im w r.level h v.latest)
+    (chosen_free r.level r.choice.entry r.choice.offset r.choice.is_up v.chosen) (reach_within f im w r h v)
 
 pub walk_wide : (f : SearchForm) (im : List ℤ → List ℤ) (w : Walk) (r : Reach) → IsWalk f im w → IsReach f w r → 2 ^ 30 ≤ unsigned_abs r.choice.entry → IsWide f
 walk_wide f im w r h v s = search_wide f im r.level (drop 1 w.stack) r.choice.entry (here f w) h.one h.two w.visits (focus f im w r.level h v.latest) (reach_within f im w r h v) s
@@ -259,7 +271,7 @@ left_less budget v v' m a b e h k n =
     step x m = omega arith
 
 -- ---- the first state
-pub walk_begins : (f : SearchForm) (b : Best) (a : Level) (size : ℕ) (z : List ℤ) (st : List Level) (e g : ℤ) → IsSearchable f → size ≡ f.size → length z ≡ 40 → IsSmall z → st ≡ a ∷ [] →
+pub walk_begins : (f : SearchForm) (b : Best) (a : Level) (size : ℕ) (z : List ℤ) (st : List Level) (e g : ℤ) → IsSearchable f → size ≡ f.size → length z ≡ MOST_INTEGERS → IsSmall z → st ≡ a ∷ [] →
     e ≡ rest f (suffix z (f.size - 1 + 1) f.size) → g ≡ pos (2 ^ 60) *ℤ f.g → IsFresh e g a → BeginsWith f b (record { size = size; z = z; stack = st; visits = 0; best = b })
 walk_begins f b a size z st e g k es zr zs ss ee ge fr = record { begun = λ im one two p q o bd tp hb. (begun im one two p q o bd tp hb, refl) }
   where
@@ -273,7 +285,8 @@ walk_begins f b a size z st e g k es zr zs ss ee ge fr = record { begun = λ im 
         let nothing : suffix z (f.size - 1 + 1) f.size ≡ [] = suffix-none z (f.size - 1 + 1) f.size (omega arith) in
         let fr2 : IsFresh (rest f []) (low f []) a =
         subst (λ (u : ℤ). IsFresh (rest f []) u a) (ge ∙ sym (low-nil f k.each)) (subst (λ (u : ℤ). IsFresh u g a) (ee ∙ ap (rest f) nothing) fr) in
-        let w : low f [] ≤ℤ (pos (2 ^ 60) *ℤ top f) = last (low f []) (low f two) (value f.p two) (top f) (subst (λ (m : ℤ). m ≤ℤ low f two) (sym (low-nil f k.each)) (low_from f two k (omega arith))) (k.below two q) bd in
+        let w : low f [] ≤ℤ (pos (2 ^ 60) *ℤ top f) = last (low f []) (low f two) (value f.p two) (top f)
+        (subst (λ (m : ℤ). m ≤ℤ low f two) (sym (low-nil f k.each)) (low_from f two k (omega arith))) (k.below two q) bd in
         let fa : IsLevel f a [] = level_fresh f [] a (omega arith) fr2 w in
         let r = search_start f im a one two k p q o bd fa (fresh_free (rest f []) (low f []) a fr2) in
         let l : length st ≡ 1 = ap length ss in
@@ -291,7 +304,8 @@ walk_begins f b a size z st e g k es zr zs ss ee ge fr = record { begun = λ im 
         }
 
 -- ---- an offer
-pub offers_best : (f : SearchForm) (im : List ℤ → List ℤ) (w : Walk) (p : ℤ) (y : List ℤ) (b : Best) → IsOneToOne f.size im → length (suffix w.z 0 f.size) ≡ f.size → p ≡ value f.p (suffix w.z 0 f.size) →
+pub offers_best : (f : SearchForm) (im : List ℤ → List ℤ) (w : Walk) (p : ℤ) (y : List ℤ) (b : Best) → IsOneToOne f.size im → length (suffix w.z 0 f.size) ≡ f.size →
+    p ≡ value f.p (suffix w.z 0 f.size) →
     KeepsBest f.size p y w.best b → Holds f.size y (im (suffix w.z 0 f.size)) → Offers f im w (record w { best = b })
 offers_best f im w p y b o l e k h = record {
   size = refl;
@@ -302,7 +316,8 @@ offers_best f im w p y b o l e k h = record {
 }
 
 -- a visit at the first integer, by what the offer answers
-pub leaf_visit : (f : SearchForm) (im : List ℤ → List ℤ) (w new : Walk) (r : Reach) (b : Level) (z : List ℤ) (st : List Level) (o : Bool) → IsSearchable f → f.size ≤ 40 → IsWalk f im w → IsReach f w r → unsigned_abs r.choice.entry < 2 ^ 30 →
+pub leaf_visit : (f : SearchForm) (im : List ℤ → List ℤ) (w new : Walk) (r : Reach) (b : Level) (z : List ℤ) (st : List Level) (o : Bool) → IsSearchable f → f.size ≤ MOST_INTEGERS →
+    IsWalk f im w → IsReach f w r → unsigned_abs r.choice.entry < 2 ^ 30 →
     Moves r.level r.choice.is_up b → f.size - length w.stack ≡ 0 → z ≡ set w.z 0 r.choice.entry → st ≡ b ∷ drop 1 w.stack → IsSmall z →
     MatchBool o (Offers f im (record w { z = z; stack = st; visits = w.visits + 1 }) new) (HasLarge (im (suffix z 0 f.size))) → MatchBool o (Visits f im w new) (IsWideIn f im)
 leaf_visit f im w new r b z st true k mo h v sm mv n ez es small o = record {

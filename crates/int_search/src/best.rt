@@ -1,10 +1,10 @@
 //! The two best vectors so far.
 ghost use Rattle.std.specs.Prelude.{◌≤◌};
-ghost use Rattle.obs_rows.specs.declared.units.TheConstants.{MOST_INTEGERS};
+ghost use Rattle.form_tables.specs.declared.sizes.TheConstants.{MOST_INTEGERS};
 ghost use Rattle.int_search.specs.Best.{KeepsBest};
 
 use crate::orders::order;
-use obs_rows::MOST_INTEGERS;
+use form_tables::MOST_INTEGERS;
 use std::cmp::Ordering;
 
 /// Two vectors in the coordinates of the answer, and the form's values at them.

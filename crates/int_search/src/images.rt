@@ -1,13 +1,13 @@
 //! Vectors in other coordinates.
 ghost use Rattle.std.specs.Prelude.{◌≡◌, ℕ, ◌^◌, ◌<◌, ◌≤◌, List, [], ℤ, pos, ◌*ℤ◌, unsigned_abs, slice_index_or, length, MatchOption};
 ghost use Rattle.whole_math.specs.Vectors.{dot};
-ghost use Rattle.obs_rows.specs.declared.units.TheConstants.{MOST_INTEGERS};
+ghost use Rattle.form_tables.specs.declared.sizes.TheConstants.{MOST_INTEGERS};
 ghost use Rattle.suffix_search.specs.PlainCount.{HasLarge};
 ghost use Rattle.int_search.specs.Vectors.{IsSmall, suffix, Holds};
 ghost use Rattle.int_search.specs.Images.{image_of, IsMap};
 
 use crate::steps::is_large;
-use obs_rows::{MOST_INTEGERS, MapTable};
+use form_tables::{MOST_INTEGERS, MapTable};
 
 fn small_product(factor: i64, entry: i64) -> i128
     requires factor_size { unsigned_abs factor ≤ 2 ^ 30 }

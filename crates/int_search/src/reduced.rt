@@ -7,9 +7,9 @@ ghost use Rattle.int_search.specs.declared.answer.SearchFault.TheVariants as Sea
 use crate::answer::{SearchFault, TwoBest};
 use crate::search::{plain_best, search};
 use decorrelate::reduce;
+use elimination::finish;
+use form_tables::BASELINE_COLUMNS;
 use integer_form::Form;
-use lower_form::finish;
-use obs_rows::BASELINE_COLUMNS;
 use reduced_form::transformed;
 
 // The two least vectors, searched in the coordinates of the reduction; None where this attempt ends without an answer.

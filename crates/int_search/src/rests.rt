@@ -5,8 +5,8 @@ ghost use Rattle.integer_form.specs.Forms.{integers_of};
 ghost use Rattle.int_search.specs.Vectors.{IsSmall, suffix};
 ghost use Rattle.int_search.specs.SearchedForm.{search_form};
 
+use form_tables::{BASELINE_COLUMNS, MOST_INTEGERS};
 use integer_form::Form;
-use obs_rows::{BASELINE_COLUMNS, MOST_INTEGERS};
 
 fn product(factor: i64, entry: i64) -> i128
     requires factor_size { unsigned_abs factor ≤ 2 ^ 52 }

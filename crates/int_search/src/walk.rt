@@ -15,8 +15,8 @@ use crate::steps::{
     Choice, first_low, fresh, is_large, low_with, moved, nearest, room, term_within,
 };
 use crate::values::value_at;
+use form_tables::{BASELINE_COLUMNS, MOST_INTEGERS, MapTable};
 use integer_form::Form;
-use obs_rows::{BASELINE_COLUMNS, MOST_INTEGERS, MapTable};
 use std::cmp::Ordering;
 use suffix_search::{Level, Stack};
 

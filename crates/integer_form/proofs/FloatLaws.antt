@@ -4,7 +4,7 @@ use Rattle.whole_math.specs.Vectors.{dot, scaled}
 use Rattle.whole_math.proofs.Vectors.{dot_last}
 use Rattle.quadratic_form.specs.Places.{list_from}
 use Rattle.quadratic_form.proofs.Places.{list_same, len_list}
-use Rattle.obs_rows.specs.Tables.{entry}
+use Rattle.form_tables.specs.Tables.{entry}
 use Rattle.integer_form.specs.Factors.{stored}
 use Rattle.integer_form.specs.FloatPoint.{item, next_number, solved, baseline_at, HasWide, HasWideBefore}
 use Rattle.integer_form.proofs.PlaceLaws.{list_last, list_whole}
@@ -42,11 +42,13 @@ item_scaled k (x ∷ z) zero h = refl
 item_scaled k (x ∷ z) (suc i) h = item_scaled k z i (omega arith)
 
 pub list_scaled : (f : ℕ → ℤ) (k : ℤ) (z : List ℤ) (j : ℕ) → ((i : ℕ) → i < length z → f (j + i) ≡ k *ℤ item z i) → list_from f j (length z) ≡ scaled k z
-list_scaled f k z j h = ap (λ (n : ℕ). list_from f j n) (sym (length_scaled k z)) ∙ list_whole f (scaled k z) j (λ i l. h i (subst (λ (n : ℕ). i < n) (length_scaled k z) l) ∙ sym (item_scaled k z i (subst (λ (n : ℕ). i < n) (length_scaled k z) l)))
+list_scaled f k z j h = ap (λ (n : ℕ). list_from f j n) (sym (length_scaled k z))
+    ∙ list_whole f (scaled k z) j (λ i l. h i (subst (λ (n : ℕ). i < n) (length_scaled k z) l) ∙ sym (item_scaled k z i (subst (λ (n : ℕ). i < n) (length_scaled k z) l)))
 
 -- ---- a sum with the constant at its end
 pub sum_with_constant : (a b : ℕ → ℤ) (u : ℤ) (j n : ℕ) → dot (list_from a j (suc n)) (list_from b j n ++ (u ∷ [])) ≡ dot (list_from a j n) (list_from b j n) +ℤ a (j + n) *ℤ u
-sum_with_constant a b u j n = ap (λ (s : List ℤ). dot s (list_from b j n ++ (u ∷ []))) (list_last a j n) ∙ dot_last (a (j + n)) u (list_from a j n) (list_from b j n) (len_list a j n ∙ sym (len_list b j n))
+sum_with_constant a b u j n = ap (λ (s : List ℤ). dot s (list_from b j n ++ (u ∷ []))) (list_last a j n)
+    ∙ dot_last (a (j + n)) u (list_from a j n) (list_from b j n) (len_list a j n ∙ sym (len_list b j n))
 
 -- ---- one more column at the front
 pub solved_more : (d : List ℤ) (l : List (List ℤ)) (n j k : ℕ) (x y s : List ℤ) (v : ℤ) → suc j < n → list_from (item x) (suc j) (n - 1 - suc j) ≡ solved (stored d l n (suc j) k) s →
@@ -61,7 +63,8 @@ solved_more d l n j k x y s v h e f g o =
 -- ---- the numbers of the columns before
 climb : (d : List ℤ) (l : List (List ℤ)) (n m j k i : ℕ) (s : List ℤ) → item (solved (stored d l n j (m + k)) s) (m + i) ≡ item (solved (stored d l n (j + m) k) s) i
 climb d l n zero j k i s = ap₂ (λ (a b : ℕ). item (solved (stored d l n j a) s) b) (none k) (none i) ∙ ap (λ (a : ℕ). item (solved (stored d l n a k) s) i) (sym (nothing j))
-climb d l n (suc m) j k i s = ap₂ (λ (a b : ℕ). item (solved (stored d l n j a) s) b) (more m k) (more m i) ∙ climb d l n m (suc j) k i s ∙ ap (λ (a : ℕ). item (solved (stored d l n a k) s) i) (later j m)
+climb d l n (suc m) j k i s = ap₂ (λ (a b : ℕ). item (solved (stored d l n j a) s) b) (more m k) (more m i) ∙ climb d l n m (suc j) k i s
+    ∙ ap (λ (a : ℕ). item (solved (stored d l n a k) s) i) (later j m)
 
 -- a wide number of column j
 pub wide_column : (d : List ℤ) (l : List (List ℤ)) (n j k count : ℕ) (x s : List ℤ) (v : ℤ) → j + suc k ≡ count → list_from (item x) (suc j) (n - 1 - suc j) ≡ solved (stored d l n (suc j) k) s →

@@ -35,5 +35,6 @@ steps_from i j (suc k) (c ∷ m) p e = first (step i c m) refl (λ b q. steps_fr
         elim r as (λ t. Result (List Factor × List Column) Refusal) [ Ok u ↦ with_factor u.0 (steps (suc i) k u.1) | Err n ↦ Err n ] ≡ Ok p →
         elim (step j c m) as (λ t. Result (List Factor × List Column) Refusal) [ Ok u ↦ with_factor u.0 (steps (suc j) k u.1) | Err n ↦ Err n ] ≡ Ok p
     first (Err n) o ih e = absurd cc
-    first (Ok u) o ih e = ap (λ (x : Result (Factor × List Column) Refusal). elim x as (λ t. Result (List Factor × List Column) Refusal) [ Ok v ↦ with_factor v.0 (steps (suc j) k v.1) | Err n ↦ Err n ]) (step_from i j c m u o)
+    first (Ok u) o ih e = ap (λ (x : Result (Factor × List Column) Refusal). elim x as
+        (λ t. Result (List Factor × List Column) Refusal) [ Ok v ↦ with_factor v.0 (steps (suc j) k v.1) | Err n ↦ Err n ]) (step_from i j c m u o)
         ∙ second u.0 (steps (suc i) k u.1) (steps (suc j) k u.1) (λ q. ih u.1 q) e

@@ -3,8 +3,8 @@ ghost use Rattle.std.specs.Prelude.{◌≡◌, ◌↔◌, ℕ, suc, ◌+◌, ◌
 ghost use Rattle.whole_math.specs.Rounding.{nearest_div};
 ghost use Rattle.whole_math.specs.Vectors.{dot, scaled};
 ghost use Rattle.quadratic_form.specs.Places.{list_from};
-ghost use Rattle.obs_rows.specs.Tables.{entry};
-ghost use Rattle.normal_sum.specs.Matrices.{EntriesBelow};
+ghost use Rattle.form_tables.specs.Tables.{entry};
+ghost use Rattle.form_tables.specs.Matrices.{EntriesBelow};
 ghost use Rattle.integer_form.specs.Factors.{stored};
 ghost use Rattle.integer_form.specs.Forms.{integers_of};
 ghost use Rattle.integer_form.specs.declared.faults.Place.TheVariants.{Float};
@@ -13,7 +13,7 @@ ghost use Rattle.integer_form.specs.FloatPoint.{item, next_number, solved, float
 use crate::products::times;
 use crate::tables::factor_table;
 use crate::{Form, FrontForm, Overwidth, Place};
-use obs_rows::{BASELINE_COLUMNS, FactorTable, MOST_COLUMNS, MOST_FACTORS, MOST_INTEGERS};
+use form_tables::{BASELINE_COLUMNS, FactorTable, MOST_COLUMNS, MOST_FACTORS, MOST_INTEGERS};
 use whole_math::nearest;
 
 /// The number of the constant: 1 in units of 2^-16.

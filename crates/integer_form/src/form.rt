@@ -1,11 +1,11 @@
 //! The integer form: what the whole elimination gives.
 ghost use Rattle.std.specs.Prelude.{◌-◌, ◌^◌, ◌<◌, ◌≤◌};
-ghost use Rattle.obs_rows.specs.Tables.{IsZeroOutside};
-ghost use Rattle.obs_rows.specs.declared.units.TheConstants.{MOST_COLUMNS};
-ghost use Rattle.normal_sum.specs.Matrices.{IsSymmetric, EntriesBelow};
+ghost use Rattle.form_tables.specs.Tables.{IsZeroOutside};
+ghost use Rattle.form_tables.specs.declared.sizes.TheConstants.{MOST_COLUMNS};
+ghost use Rattle.form_tables.specs.Matrices.{IsSymmetric, EntriesBelow};
 ghost use Rattle.integer_form.specs.Kept.{IsEliminated, AreKept, IsZeroFrom, IsBelowDiagonal};
 
-use obs_rows::{FactorTable, FormTable, MOST_FACTORS};
+use form_tables::{FactorTable, FormTable, MOST_FACTORS};
 
 /// A form of the integers and the constant, with the factors of its columns.
 ///

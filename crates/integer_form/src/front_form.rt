@@ -1,11 +1,11 @@
 //! The form of the integers and the constant that the steps of the baseline's columns leave.
 ghost use Rattle.std.specs.Prelude.{◌≡◌, ◌-◌, ◌^◌, ◌<◌, ◌≤◌, pos, replicate};
-ghost use Rattle.obs_rows.specs.Tables.{IsZeroOutside, zero_rows};
-ghost use Rattle.obs_rows.specs.declared.units.TheConstants.{MOST_COLUMNS, BASELINE_COLUMNS};
-ghost use Rattle.normal_sum.specs.Matrices.{IsSymmetric, EntriesBelow};
+ghost use Rattle.form_tables.specs.Tables.{IsZeroOutside, zero_rows};
+ghost use Rattle.form_tables.specs.declared.sizes.TheConstants.{MOST_COLUMNS, BASELINE_COLUMNS};
+ghost use Rattle.form_tables.specs.Matrices.{IsSymmetric, EntriesBelow};
 ghost use Rattle.integer_form.specs.Kept.{IsBelowDiagonal};
 
-use obs_rows::{BASELINE_COLUMNS, FormTable, FrontTable, MOST_COLUMNS};
+use form_tables::{BASELINE_COLUMNS, FormTable, FrontTable, MOST_COLUMNS};
 
 /// A form of the integers and the constant, and what the steps of the baseline's columns kept. What stands outside the
 /// columns in use is 0.

@@ -2,14 +2,14 @@
 ghost use Rattle.std.specs.Prelude.{◌≡◌, ℕ, suc, ◌+◌, ◌-◌, ◌^◌, ◌<◌, ◌≤◌, length, pos, [], ◌∷◌, ◌++◌, unsigned_abs};
 ghost use Rattle.whole_math.specs.Vectors.{dot};
 ghost use Rattle.quadratic_form.specs.Places.{list_from};
-ghost use Rattle.obs_rows.specs.Tables.{entry};
-ghost use Rattle.normal_sum.specs.Matrices.{EntriesBelow};
+ghost use Rattle.form_tables.specs.Tables.{entry};
+ghost use Rattle.form_tables.specs.Matrices.{EntriesBelow};
 ghost use Rattle.integer_form.specs.FloatPoint.{item};
 ghost use Rattle.integer_form.specs.Forms.{integers_of, value_of};
 
 use crate::Form;
 use crate::products::{column_value, times};
-use obs_rows::{BASELINE_COLUMNS, FormTable, MOST_FORM_COLUMNS, MOST_INTEGERS};
+use form_tables::{BASELINE_COLUMNS, FormTable, MOST_FORM_COLUMNS, MOST_INTEGERS};
 
 /// The integers and 1 for the constant.
 fn with_one(z: &[i64]) -> [i64; MOST_FORM_COLUMNS]

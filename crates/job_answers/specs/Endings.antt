@@ -62,6 +62,20 @@ pub record IsAdmitted (told : List ℕ → Option (List ℕ)) (name : List ℕ) 
   pub fits : length text ≤ 67108864
   pub file : IsFile (lines_of text)
 
--- A refusal comes after one of the files was read to its end, or of one that is too large.
-abbrev pub IsRefusedWhole : (List ℕ → Option (List ℕ)) → (ℕ → Option (List ℕ)) → List (List ℕ) → Status → Type 0
-IsRefusedWhole told left names status = status ≡ Refused → Any (λ name. IsReadToEnd told left name ⊎ HasTooManyBytes told name) names
+-- The file's refusal is told, and the file was read to its end: a read fault would have come before.
+pub record IsReadAndRefused (told : List ℕ → Option (List ℕ)) (left : ℕ → Option (List ℕ)) (tells : List ℕ → Type 0) (name : List ℕ) : Type 0 where
+  pub at : At
+  pub line : tells (refusal_line name at)
+  pub read : IsReadToEnd told left name
+
+-- It is told that the file is too large, and it is.
+pub record IsRefusedAsLarge (told : List ℕ → Option (List ℕ)) (tells : List ℕ → Type 0) (name : List ℕ) : Type 0 where
+  pub line : tells (too_large_line name)
+  pub large : HasTooManyBytes told name
+
+abbrev pub IsRefusedFile : (List ℕ → Option (List ℕ)) → (ℕ → Option (List ℕ)) → (List ℕ → Type 0) → List ℕ → Type 0
+IsRefusedFile told left tells name = IsReadAndRefused told left tells name ⊎ IsRefusedAsLarge told tells name
+
+-- a refusal is that of one of the files
+abbrev pub IsRefusedWhole : (List ℕ → Option (List ℕ)) → (ℕ → Option (List ℕ)) → List (List ℕ) → Ending → Type 0
+IsRefusedWhole told left names end = end.status ≡ Refused → Any (IsRefusedFile told left (λ text. end.err ≡ text)) names

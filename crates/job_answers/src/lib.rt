@@ -13,4 +13,4 @@ mod stop;
 pub use answer::Answer;
 pub use delivery::deliver;
 pub use status::Status;
-pub use stop::{Stop, load_file, read_fault, refused, too_large};
+pub use stop::{Stop, load_file, read_fault, refused, too_large, usage};

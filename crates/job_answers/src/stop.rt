@@ -4,7 +4,7 @@ ghost use Rattle.line_source.specs.Causes.{Rose, OpensAtMost};
 ghost use Rattle.line_source.specs.Told.{Same, Stays, IsReadToEnd};
 ghost use Rattle.job_answers.specs.Statuses.{IsVerdictStatus};
 ghost use Rattle.job_answers.specs.declared.stop.Stop.TheVariants.{NoMemory};
-ghost use Rattle.job_answers.specs.Texts.{refusal_line, too_large_line, read_fault_line};
+ghost use Rattle.job_answers.specs.Texts.{refusal_line, too_large_line, read_fault_line, usage_line};
 ghost use Rattle.job_answers.specs.Endings.{ending, IsTextOf, EndsUnloaded, IsRefusedWhole};
 ghost use Rattle.job_answers.specs.Answers.{ending_of, IfEnds, IfStopped};
 
@@ -53,6 +53,17 @@ impl Answer {
     }
 }
 
+/// The end of a run whose words ask for no job.
+pub fn usage(alloc: Global) -> Result<Answer, AllocError>
+    ensures { IfOk result (λ a. ending_of a ≡ ending Status.Usage [] usage_line) }
+{
+    let err = String::from_str(
+        alloc,
+        "usage: baseline fix|check|residuals|zero|list|orbit|arcs|sim WORDS\n",
+    )?;
+    Ok(Answer::on_err(alloc, Status::Usage, err))
+}
+
 /// The end of a job whose file is refused at that place.
 pub fn refused(alloc: Global, name: &str, at: At) -> Result<Answer, AllocError>
     ensures { IfOk result (λ a. ending_of a ≡ ending Status.Refused [] (refusal_line name.now at)) }
@@ -85,7 +96,7 @@ pub fn load_file<F: Files>(alloc: Global, files: &mut F, name: &str) -> Result<V
     ensures text { IfOk result (λ v. IsTextOf (F.text_of files.old) name.now v.items) }
     ensures stopped { IfStopped result (λ end. EndsUnloaded (F.text_of files.old) name.now end) }
     ensures whole { OnOk result (IsReadToEnd (F.text_of files.old) (F.unread files.new) name.now) }
-    ensures refused { IfStopped result (λ end. IsRefusedWhole (F.text_of files.old) (F.unread files.new) (name.now ∷ []) end.status) }
+    ensures refused { IfStopped result (IsRefusedWhole (F.text_of files.old) (F.unread files.new) (name.now ∷ [])) }
     ensures opened { OpensAtMost 1 (F.opened files.old) (F.opened files.new) }
     ensures cause { F.faults files.old ≤ F.faults files.new }
     ensures fault { IfStopped result (λ end. end.status ≡ Status.ReadFault → Rose (F.faults files.old) (F.faults files.new)) }

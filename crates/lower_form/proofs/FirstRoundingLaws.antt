@@ -10,7 +10,7 @@ use Rattle.quadratic_form.specs.Elimination.{rounded}
 use Rattle.quadratic_form.specs.Rows.{diagonal, columns}
 use Rattle.quadratic_form.specs.Places.{list_from, form_from}
 use Rattle.quadratic_form.proofs.Places.{list_same, form_plus, form_times, form_rounded}
-use Rattle.obs_rows.specs.Tables.{entry}
+use Rattle.form_tables.specs.Tables.{entry}
 use Rattle.normal_sum.specs.declared.normal.Normal.{Normal}
 use Rattle.normal_sum.specs.Values.{bounding_of}
 use Rattle.lower_form.specs.FirstRounding.{radius_at, own_bound, first_entry, first_form}
@@ -62,9 +62,11 @@ nothing : negsuc 16127 *ℤ pos 0 ≡ pos 0
 nothing = refl
 
 losses : (n : Normal) (i : ℕ) → n.columns ≡ columns i →
-    list_from (loss_at n) 0 (columns i) ≡ (negsuc 16127 *ℤ slice_index_or n.r 0 (pos 0)) ∷ ((negsuc 16127 *ℤ slice_index_or n.r 1 (pos 0)) ∷ ((negsuc 16127 *ℤ slice_index_or n.r 2 (pos 0)) ∷ (zeros i ++ ((negsuc 16127 *ℤ slice_index_or n.r 3 (pos 0)) ∷ []))))
+    list_from (loss_at n) 0 (columns i) ≡ (negsuc 16127 *ℤ slice_index_or n.r 0 (pos 0)) ∷
+    ((negsuc 16127 *ℤ slice_index_or n.r 1 (pos 0)) ∷ ((negsuc 16127 *ℤ slice_index_or n.r 2 (pos 0)) ∷ (zeros i ++ ((negsuc 16127 *ℤ slice_index_or n.r 3 (pos 0)) ∷ []))))
 losses n i e = ap (λ s. loss_at n 0 ∷ (loss_at n 1 ∷ (loss_at n 2 ∷ s)))
-    (end_list (loss_at n) 3 i (negsuc 16127 *ℤ slice_index_or n.r 3 (pos 0)) (λ c h g. ap (λ z. negsuc 16127 *ℤ z) (of_integer n i c e h g) ∙ nothing) (ap (λ z. negsuc 16127 *ℤ z) (of_constant n i e)))
+    (end_list (loss_at n) 3 i (negsuc 16127 *ℤ slice_index_or n.r 3 (pos 0)) (λ c h g. ap (λ z. negsuc 16127 *ℤ z) (of_integer n i c e h g) ∙ nothing)
+    (ap (λ z. negsuc 16127 *ℤ z) (of_constant n i e)))
 
 abbrev bound_entry : Normal → ℕ → ℕ → ℤ
 bound_entry n r c = (pos 63 *ℤ entry n.c r c) +ℤ on_diagonal (loss_at n) r c

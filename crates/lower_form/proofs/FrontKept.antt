@@ -5,15 +5,16 @@ use Rattle.quadratic_form.specs.Elimination.{Factor, Refusal, wide_entry, form_s
 use Rattle.quadratic_form.specs.LowerSums.{SmallForm}
 use Rattle.quadratic_form.specs.Places.{form_from}
 use Rattle.quadratic_form.proofs.Ranges.{AllInRange, form_is, steps_range}
-use Rattle.obs_rows.specs.Tables.{entry, IsZeroOutside}
+use Rattle.form_tables.specs.declared.sizes.TheConstants.{MOST_COLUMNS}
+use Rattle.form_tables.specs.Tables.{entry, IsZeroOutside}
 use Rattle.normal_sum.specs.declared.normal.Normal.{Normal}
-use Rattle.normal_sum.specs.Matrices.{EntriesBelow}
+use Rattle.form_tables.specs.Matrices.{EntriesBelow}
 use Rattle.integer_form.specs.Factors.{stored}
 use Rattle.integer_form.specs.Kept.{form_of_table, IsBelowDiagonal}
 use Rattle.integer_form.proofs.StoredPlaces.{stored_same}
 use Rattle.lower_form.specs.FirstRounding.{first_form}
 use Rattle.lower_form.specs.Fronts.{front_of}
-use Rattle.lower_form.proofs.KeptLaws.{none, factors_below}
+use Rattle.elimination.proofs.KeptLaws.{none, factors_below}
 
 abbrev Answer : Type 0
 Answer = Result (List Factor × List Column) Refusal
@@ -22,12 +23,14 @@ Answer = Result (List Factor × List Column) Refusal
 pub front_answer : (h : ℕ) (n : Normal) (p : List Factor × List Column) → front_of h n ≡ Ok p → (form_small (first_form h n) ≡ true) × (steps 0 3 (first_form h n) ≡ Ok p)
 front_answer h n p e = go (form_small (first_form h n)) refl e
   where
-    go : (t : Bool) → form_small (first_form h n) ≡ t → elim t as (λ b. Answer) [ true ↦ steps 0 3 (first_form h n) | false ↦ Err wide_entry ] ≡ Ok p → (form_small (first_form h n) ≡ true) × (steps 0 3 (first_form h n) ≡ Ok p)
+    go : (t : Bool) → form_small (first_form h n) ≡ t → elim t as (λ b. Answer) [ true ↦ steps 0 3 (first_form h n) | false ↦ Err wide_entry ] ≡ Ok p → (form_small (first_form h n) ≡ true) ×
+        (steps 0 3 (first_form h n) ≡ Ok p)
     go true o e = (o, e)
     go false o e = absurd cc
 
 pub front_range : (h : ℕ) (n : Normal) (p : List Factor × List Column) → front_of h n ≡ Ok p → AllInRange p.0 × SmallForm p.1
-front_range h n p e = let a : (form_small (first_form h n) ≡ true) × (steps 0 3 (first_form h n) ≡ Ok p) = front_answer h n p e in steps_range 0 3 (first_form h n) p a.1 (form_is (first_form h n) a.0)
+front_range h n p e = let a : (form_small (first_form h n) ≡ true) × (steps 0 3 (first_form h n) ≡ Ok p) = front_answer h n p e in
+    steps_range 0 3 (first_form h n) p a.1 (form_is (first_form h n) a.0)
 
 -- what the front form keeps
 pub record Fronted (columns h : ℕ) (n : Normal) (d : List ℤ) (l p : List (List ℤ)) : Type 0 where
@@ -36,14 +39,15 @@ pub record Fronted (columns h : ℕ) (n : Normal) (d : List ℤ) (l p : List (Li
   pub taken : front_of h n ≡ Ok (stored d l columns 0 3, form_of_table p (columns - 3))
 
 -- from what the steps kept in the lists d' and l', and left of the table t
-pub fronted : (columns h : ℕ) (n : Normal) (d d' : List ℤ) (l l' t p : List (List ℤ)) → columns ≤ 44 → front_of h n ≡ Ok (stored d' l' columns 0 3, form_from (entry t) 3 (columns - 3)) →
+pub fronted : (columns h : ℕ) (n : Normal) (d d' : List ℤ) (l l' t p : List (List ℤ)) → columns ≤ MOST_COLUMNS → front_of h n ≡ Ok (stored d' l' columns 0 3, form_from (entry t) 3 (columns - 3)) →
     ((r i : ℕ) → (3 ≤ i) ⊎ ((r ≤ i) ⊎ (columns ≤ r)) → entry l' r i ≡ pos 0) →
     ((i : ℕ) → i < 3 → slice_index_or d i (pos 0) ≡ slice_index_or d' i (pos 0)) →
-    ((r c : ℕ) → r < 44 → c < 3 → entry l r c ≡ entry l' r c) → IsZeroOutside 44 3 l →
+    ((r c : ℕ) → r < MOST_COLUMNS → c < 3 → entry l r c ≡ entry l' r c) → IsZeroOutside MOST_COLUMNS 3 l →
     form_of_table p (columns - 3) ≡ form_from (entry t) 3 (columns - 3) → Fronted columns h n d l p
 fronted columns h n d d' l l' t p to e z kept factors outside form = record {
   factors_in = λ r c. subst (λ (x : ℤ). unsigned_abs x < 2 ^ 52) (sym (same r c))
-      (⊎_elim (λ (a : c < 3). factors_below d' l' columns 0 3 below range.0 r c (omega arith) a) (λ (a : 3 ≤ c). subst (λ (x : ℤ). unsigned_abs x < 2 ^ 52) (sym (z r c (inl a))) none) (either c 3));
+      (⊎_elim (λ (a : c < 3). factors_below d' l' columns 0 3 below range.0 r c (omega arith) a) (λ (a : 3 ≤ c). subst (λ (x : ℤ). unsigned_abs x < 2 ^ 52) (sym (z r c (inl a))) none)
+      (either c 3));
   factors_outside = λ r c a. same r c ∙ below r c a;
   taken = e ∙ ap₂ (λ (s : List Factor) (a : List Column). let x : Answer = Ok (s, a) in x) (sym (stored_same d d' l l' columns 0 3 (λ i a b. kept i b) (λ r i a b. same r i))) (sym form);
 }
@@ -57,9 +61,10 @@ fronted columns h n d d' l l' t p to e z kept factors outside form = record {
     below : IsBelowDiagonal columns l'
     below r c a = z r c (inr a)
 
-    past : (r : ℕ) → 44 ≤ r → columns ≤ r
+    past : (r : ℕ) → MOST_COLUMNS ≤ r → columns ≤ r
     past r a = omega arith
 
     same : (r c : ℕ) → entry l r c ≡ entry l' r c
-    same r c = ⊎_elim (λ (a : c < 3). ⊎_elim (λ (b : r < 44). factors r c b a) (λ (b : 44 ≤ r). outside r c (inl b) ∙ sym (z r c (inr (inr (past r b))))) (either r 44))
+    same r c = ⊎_elim (λ (a : c < 3). ⊎_elim (λ (b : r < MOST_COLUMNS). factors r c b a) (λ (b : MOST_COLUMNS ≤ r). outside r c (inl b) ∙ sym (z r c (inr (inr (past r b)))))
+        (either r MOST_COLUMNS))
         (λ (a : 3 ≤ c). outside r c (inr a) ∙ sym (z r c (inl a))) (either c 3)

@@ -1,8 +1,7 @@
 mod ExponentLaws
 pub mod FrontLaws
 mod FirstRoundingLaws
-mod TableLaws
-mod KeptLaws
-pub mod FinishLaws
 mod FrontKept
 mod LowerLaws
+pub mod Exponents
+pub mod OneForm

@@ -14,8 +14,9 @@ use Rattle.integer_form.specs.Told.{IsToldAs}
 use Rattle.elimination.specs.Taken.{before}
 use Rattle.lower_form.specs.FirstRounding.{first_form}
 use Rattle.lower_form.specs.Fronts.{front_of}
-use Rattle.lower_form.specs.Forms.{finish_of, elimination_of, IsFrontOf, IsFinishOf, IsLowerOf}
-use Rattle.lower_form.proofs.ExponentLaws.{exponent_unique}
+use Rattle.elimination.specs.Finish.{finish_of, IsFinishOf}
+use Rattle.lower_form.specs.Forms.{elimination_of, IsFrontOf, IsLowerOf}
+use Rattle.lower_form.proofs.Exponents.{exponent_unique}
 use Rattle.lower_form.proofs.FrontKept.{front_answer}
 
 abbrev Answer : Type 0
@@ -49,7 +50,8 @@ steps_after j (suc k) m [] p e =
     subst (λ (z : List Factor × List Column). steps j (suc k + m) [] ≡ before z.0 (steps (j + suc k) m z.1)) i (empty j (suc k + m) ∙ sym (empty (j + suc k) m))
 steps_after j (suc k) m (c ∷ a) p e = ap (λ (n : ℕ). steps j n (c ∷ a)) (more k m) ∙ first (step j c a) refl (λ b q. steps_after (suc j) k m b q) e
   where
-    second : (u : Factor × List Column) (r : Answer) → ((q : List Factor × List Column) → r ≡ Ok q → steps (suc j) (k + m) u.1 ≡ before q.0 (steps (suc j + k) m q.1)) → with_factor u.0 r ≡ Ok p → with_factor u.0 (steps (suc j) (k + m) u.1) ≡ before p.0 (steps (j + suc k) m p.1)
+    second : (u : Factor × List Column) (r : Answer) → ((q : List Factor × List Column) → r ≡ Ok q → steps (suc j) (k + m) u.1 ≡ before q.0 (steps (suc j + k) m q.1)) → with_factor u.0 r
+        ≡ Ok p → with_factor u.0 (steps (suc j) (k + m) u.1) ≡ before p.0 (steps (j + suc k) m p.1)
     second u (Err n) ih e = absurd cc
     second u (Ok q) ih e =
         let w : (List Factor × List Column) = (u.0 ∷ q.0, q.1) in
@@ -57,18 +59,21 @@ steps_after j (suc k) m (c ∷ a) p e = ap (λ (n : ℕ). steps j n (c ∷ a)) (
         ap (λ (x : Answer). with_factor u.0 x) (ih q refl ∙ ap (λ (n : ℕ). before q.0 (steps n m q.1)) (later j k))
         ∙ subst (λ (z : List Factor × List Column). with_factor u.0 (before q.0 (steps (j + suc k) m q.1)) ≡ before z.0 (steps (j + suc k) m z.1)) i refl
 
-    first : (r : Result (Factor × List Column) Refusal) → step j c a ≡ r → ((b : List Column) (q : List Factor × List Column) → steps (suc j) k b ≡ Ok q → steps (suc j) (k + m) b ≡ before q.0 (steps (suc j + k) m q.1)) →
+    first : (r : Result (Factor × List Column) Refusal) → step j c a ≡ r → ((b : List Column) (q : List Factor × List Column) → steps (suc j) k b ≡ Ok q → steps (suc j) (k + m) b ≡ before q.0
+        (steps (suc j + k) m q.1)) →
         elim r as (λ t. Answer) [ Ok u ↦ with_factor u.0 (steps (suc j) k u.1) | Err n ↦ Err n ] ≡ Ok p →
         elim (step j c a) as (λ t. Answer) [ Ok u ↦ with_factor u.0 (steps (suc j) (k + m) u.1) | Err n ↦ Err n ] ≡ before p.0 (steps (j + suc k) m p.1)
     first (Err n) o ih e = absurd cc
-    first (Ok u) o ih e = ap (λ (x : Result (Factor × List Column) Refusal). elim x as (λ t. Answer) [ Ok v ↦ with_factor v.0 (steps (suc j) (k + m) v.1) | Err n ↦ Err n ]) o ∙ second u (steps (suc j) k u.1) (λ q. ih u.1 q) e
+    first (Ok u) o ih e = ap (λ (x : Result (Factor × List Column) Refusal). elim x as (λ t. Answer) [ Ok v ↦ with_factor v.0 (steps (suc j) (k + m) v.1) | Err n ↦ Err n ]) o
+        ∙ second u (steps (suc j) k u.1) (λ q. ih u.1 q) e
 
 pub steps_stop : (j k m : ℕ) (a : List Column) (i : Refusal) → steps j k a ≡ Err i → steps j (k + m) a ≡ Err i
 steps_stop j zero m a i e = absurd cc
 steps_stop j (suc k) m [] i e = absurd cc
 steps_stop j (suc k) m (c ∷ a) i e = ap (λ (n : ℕ). steps j n (c ∷ a)) (more k m) ∙ first (step j c a) refl (λ b n. steps_stop (suc j) k m b n) e
   where
-    second : (u : Factor × List Column) (r : Answer) → ((n : Refusal) → r ≡ Err n → steps (suc j) (k + m) u.1 ≡ Err n) → with_factor u.0 r ≡ Err i → with_factor u.0 (steps (suc j) (k + m) u.1) ≡ Err i
+    second : (u : Factor × List Column) (r : Answer) → ((n : Refusal) → r ≡ Err n → steps (suc j) (k + m) u.1 ≡ Err n) → with_factor u.0 r ≡ Err i → with_factor u.0 (steps (suc j) (k + m) u.1)
+        ≡ Err i
     second u (Ok q) ih e = absurd cc
     second u (Err n) ih e = ap (λ (x : Answer). with_factor u.0 x) (ih n refl) ∙ e
 
@@ -76,7 +81,8 @@ steps_stop j (suc k) m (c ∷ a) i e = ap (λ (n : ℕ). steps j n (c ∷ a)) (m
         elim r as (λ t. Answer) [ Ok u ↦ with_factor u.0 (steps (suc j) k u.1) | Err n ↦ Err n ] ≡ Err i →
         elim (step j c a) as (λ t. Answer) [ Ok u ↦ with_factor u.0 (steps (suc j) (k + m) u.1) | Err n ↦ Err n ] ≡ Err i
     first (Err n) o ih e = ap (λ (x : Result (Factor × List Column) Refusal). elim x as (λ t. Answer) [ Ok v ↦ with_factor v.0 (steps (suc j) (k + m) v.1) | Err n ↦ Err n ]) o ∙ e
-    first (Ok u) o ih e = ap (λ (x : Result (Factor × List Column) Refusal). elim x as (λ t. Answer) [ Ok v ↦ with_factor v.0 (steps (suc j) (k + m) v.1) | Err n ↦ Err n ]) o ∙ second u (steps (suc j) k u.1) (λ n. ih u.1 n) e
+    first (Ok u) o ih e = ap (λ (x : Result (Factor × List Column) Refusal). elim x as (λ t. Answer) [ Ok v ↦ with_factor v.0 (steps (suc j) (k + m) v.1) | Err n ↦ Err n ]) o
+        ∙ second u (steps (suc j) k u.1) (λ n. ih u.1 n) e
 
 -- ---- a normal matrix
 abbrev tested : Answer → Bool → Answer
@@ -111,7 +117,8 @@ lower_is n r f a b = record {
   exponent = subst (λ (h : ℕ). IsExponent h (form_of n)) (sym b.h) a.exponent;
   front = front;
   taken = front_then f.h n (stored f.d f.l f.columns 0 3, form_of_table f.p (f.columns - 3)) front
-      ∙ ap (λ (x : Answer). before (stored f.d f.l f.columns 0 3) x) rest ∙ together ∙ ap (λ (k : ℕ). let x : Answer = Ok (stored f.d f.l f.columns 0 k, constant_form f.g) in x) (sym (integers_count f.columns f.columns_from));
+      ∙ ap (λ (x : Answer). before (stored f.d f.l f.columns 0 3) x) rest ∙ together ∙ ap (λ (k : ℕ). let x : Answer = Ok (stored f.d f.l f.columns 0 k, constant_form f.g) in x)
+      (sym (integers_count f.columns f.columns_from));
 }
   where
     front : front_of f.h n ≡ Ok (stored f.d f.l f.columns 0 3, form_of_table f.p (f.columns - 3))
@@ -122,7 +129,8 @@ lower_is n r f a b = record {
     rest : steps 3 (n.columns - 4) (form_of_table f.p (f.columns - 3)) ≡ Ok (stored f.d f.l f.columns 3 (f.columns - 4), constant_form f.g)
     rest = ap (λ (k : ℕ). steps 3 (k - 4) (form_of_table f.p (f.columns - 3))) (sym (b.columns ∙ a.columns)) ∙ f.eliminated
 
-    together : before (stored f.d f.l f.columns 0 3) (Ok (stored f.d f.l f.columns 3 (f.columns - 4), constant_form f.g)) ≡ Ok (stored f.d f.l f.columns 0 (suc (suc (suc (f.columns - 4)))), constant_form f.g)
+    together : before (stored f.d f.l f.columns 0 3) (Ok (stored f.d f.l f.columns 3 (f.columns - 4), constant_form f.g))
+        ≡ Ok (stored f.d f.l f.columns 0 (suc (suc (suc (f.columns - 4)))), constant_form f.g)
     together = refl
 
 -- a refusal of the front, and of the finish, is that of the whole

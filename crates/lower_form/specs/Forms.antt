@@ -1,4 +1,4 @@
--- The two halves of the elimination, and both: what a form of each is of.
+-- The first half of the elimination, and the whole: what a form of each is of.
 use Rattle.std.specs.Prelude.{◌≡◌, ℕ, ◌-◌, true, false, List, Result, Ok, Err}
 use Rattle.quadratic_form.specs.Forms.{Column}
 use Rattle.quadratic_form.specs.Elimination.{Factor, Refusal, wide_entry, form_small, steps}
@@ -9,13 +9,8 @@ use Rattle.integer_form.specs.declared.front_form.FrontForm.{FrontForm}
 use Rattle.integer_form.specs.declared.form.Form.{Form}
 use Rattle.integer_form.specs.Factors.{stored}
 use Rattle.integer_form.specs.Kept.{form_of_table, constant_form}
-use Rattle.integer_form.specs.Forms.{factors_of}
 use Rattle.lower_form.specs.FirstRounding.{first_form}
 use Rattle.lower_form.specs.Fronts.{front_of}
-
--- the steps of the integer columns, from the form that a front left
-abbrev pub finish_of : FrontForm → Result (List Factor × List Column) Refusal
-finish_of r = steps 3 (r.columns - 4) (form_of_table r.p (r.columns - 3))
 
 -- the first rounding over 2^h, refused where an entry is too large, and the steps of all columns but the constant
 abbrev pub elimination_of : ℕ → Normal → Result (List Factor × List Column) Refusal
@@ -26,14 +21,6 @@ pub record IsFrontOf (n : Normal) (r : FrontForm) : Type 0 where
   pub columns : r.columns ≡ n.columns
   pub exponent : IsExponent r.h (form_of n)
   pub taken : front_of r.h n ≡ Ok (stored r.d r.l r.columns 0 3, form_of_table r.p (r.columns - 3))
-
--- the front as it is, with the factors of the integer columns and the last entry
-pub record IsFinishOf (r : FrontForm) (f : Form) : Type 0 where
-  pub columns : f.columns ≡ r.columns
-  pub h : f.h ≡ r.h
-  pub p : f.p ≡ r.p
-  pub baseline : stored f.d f.l f.columns 0 3 ≡ stored r.d r.l r.columns 0 3
-  pub taken : finish_of r ≡ Ok (factors_of f, constant_form f.g)
 
 -- over the least power of 2 that serves: the form after the baseline's columns, the factors of all columns but the constant, and the last entry
 pub record IsLowerOf (n : Normal) (f : Form) : Type 0 where

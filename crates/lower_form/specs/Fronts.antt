@@ -18,6 +18,6 @@ abbrev pub front_of : ℕ → Normal → Result (List Factor × List Column) Ref
 front_of h n = elim (form_small (first_form h n)) [ true ↦ steps 0 3 (first_form h n) | false ↦ Err wide_entry ]
 
 -- for all data in the boxes, all integer vectors and all rational baselines: 64 times the sum of squares is at least 2^h times the form's value
-pub record BoundsAllData (arcs : List Arc) (scale : ℕ) (pairs : List PairRows) (h : ℕ) (p : List Column) : Type 0 where
-  pub below : (z : List ℤ) (b : Baseline) (observed : List (List Observed)) → length z ≡ integer_count arcs scale → AreData scale pairs observed →
-      of_whole (pos (2 ^ h) *ℤ value p z) ≤ʳ mul_r (of_whole (pos 64)) (sum_of_squares arcs scale pairs z b observed)
+pub record BoundsAllData (arcs : List Arc) (ss : List ℕ) (pairs : List PairRows) (h : ℕ) (p : List Column) : Type 0 where
+  pub below : (z : List ℤ) (b : Baseline) (observed : List (List Observed)) → length z ≡ integer_count arcs ss → AreData ss pairs observed →
+      of_whole (pos (2 ^ h) *ℤ value p z) ≤ʳ mul_r (of_whole (pos 64)) (sum_of_squares arcs ss pairs z b observed)

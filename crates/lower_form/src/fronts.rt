@@ -4,7 +4,7 @@ ghost use Rattle.quadratic_form.specs.Places.{form_from};
 ghost use Rattle.quadratic_form.specs.Lowering.{IsExponent};
 ghost use Rattle.obs_rows.specs.declared.arcs.Arc.{Arc};
 ghost use Rattle.obs_rows.specs.declared.pair_rows.PairRows.{PairRows};
-ghost use Rattle.obs_rows.specs.Tables.{entry};
+ghost use Rattle.form_tables.specs.Tables.{entry};
 ghost use Rattle.normal_sum.specs.Normals.{IsNormalOf};
 ghost use Rattle.normal_sum.specs.Values.{form_of};
 ghost use Rattle.elimination.specs.Stops.{refusal_of};
@@ -15,11 +15,10 @@ ghost use Rattle.lower_form.specs.Fronts.{front_of, BoundsAllData};
 ghost use Rattle.lower_form.specs.Forms.{IsFrontOf};
 
 use crate::rounding::{exponent, round};
-use crate::tables::{first_kept, form_table, front_factors};
-use elimination::{Stop, Stopped, take_steps};
+use elimination::{Stop, Stopped, first_kept, form_table, front_factors, take_steps};
+use form_tables::{BASELINE_COLUMNS, FactorTable, MOST_COLUMNS, MOST_FACTORS, NormalTable};
 use integer_form::{FrontForm, LowerFault};
 use normal_sum::Normal;
-use obs_rows::{BASELINE_COLUMNS, FactorTable, MOST_COLUMNS, MOST_FACTORS, NormalTable};
 
 /// The first rounding over 2^h and the steps of the baseline's columns. What they leave stands in the table, on the
 /// diagonal and after it.
@@ -36,7 +35,8 @@ pub(crate) fn take_front(
     ensures column { IfErr result (λ e. e.column < MOST_COLUMNS) }
     ensures pivot { IfErr result (λ e. unsigned_abs e.pivot ≤ 2 ^ 52) }
     ensures refused { IfErr result (λ e. front_of h normal.now ≡ Err (refusal_of e.column e.pivot e.stop)) }
-    ensures bound { OnOk result ((arcs : List Arc) (scale : ℕ) (pairs : List PairRows) → IsNormalOf arcs scale pairs normal.now → BoundsAllData arcs scale pairs h (form_from (entry table.new) 3 (normal.now.columns - 3))) }
+    ensures bound { OnOk result ((arcs : List Arc) (ss : List ℕ) (pairs : List PairRows) →
+        IsNormalOf arcs ss pairs normal.now → BoundsAllData arcs ss pairs h (form_from (entry table.new) 3 (normal.now.columns - 3))) }
 {
     if !round(normal, table, h) {
         return Err(Stopped {
@@ -60,7 +60,8 @@ pub(crate) fn lower_front(
     ensures taken { IfOk result (λ h. front_of h normal.now ≡ Ok (stored kept.new factors.new normal.now.columns 0 3, form_from (entry table.new) 3 (normal.now.columns - 3))) }
     ensures outside { (r i : ℕ) → (3 ≤ i) ⊎ ((r ≤ i) ⊎ (normal.now.columns ≤ r)) → entry factors.new r i ≡ entry factors.old r i }
     ensures refused { IfErr result (λ e. (h : ℕ) → IsExponent h (form_of normal.now) → IsToldAs e (front_of h normal.now)) }
-    ensures bound { IfOk result (λ h. (arcs : List Arc) (scale : ℕ) (pairs : List PairRows) → IsNormalOf arcs scale pairs normal.now → BoundsAllData arcs scale pairs h (form_from (entry table.new) 3 (normal.now.columns - 3))) }
+    ensures bound { IfOk result (λ h. (arcs : List Arc) (ss : List ℕ) (pairs : List PairRows) →
+        IsNormalOf arcs ss pairs normal.now → BoundsAllData arcs ss pairs h (form_from (entry table.new) 3 (normal.now.columns - 3))) }
 {
     let h = exponent(normal);
     match take_front(normal, h, table, factors, kept) {
@@ -78,7 +79,8 @@ pub fn front(normal: &Normal) -> Result<FrontForm, LowerFault>
     ensures front { IfOk result (λ r. IsFrontOf normal.now r) }
     ensures few { IfOk result (λ r. r.h ≤ 77) }
     ensures refused { IfErr result (λ e. (h : ℕ) → IsExponent h (form_of normal.now) → IsToldAs e (front_of h normal.now)) }
-    ensures bound { IfOk result (λ r. (arcs : List Arc) (scale : ℕ) (pairs : List PairRows) → IsNormalOf arcs scale pairs normal.now → BoundsAllData arcs scale pairs r.h (form_of_table r.p (r.columns - 3))) }
+    ensures bound { IfOk result (λ r. (arcs : List Arc) (ss : List ℕ) (pairs : List PairRows) →
+        IsNormalOf arcs ss pairs normal.now → BoundsAllData arcs ss pairs r.h (form_of_table r.p (r.columns - 3))) }
 {
     let mut table = NormalTable::zeros();
     let mut factors = FactorTable::zeros();

@@ -15,8 +15,8 @@ mod first_entries;
 mod forms;
 mod fronts;
 mod rounding;
-mod tables;
 
-pub use forms::{finish, lower};
+pub use elimination::finish;
+pub use forms::lower;
 pub use fronts::front;
 pub use integer_form::{Form, FrontForm, LowerFault, Overwidth, Place};

@@ -10,16 +10,14 @@ use Rattle.obs_rows.specs.Signals.{cycle}
 use Rattle.obs_rows.specs.Integers.{integer_count, integer_place}
 use Rattle.obs_rows.specs.Data.{number_at}
 use Rattle.obs_rows.specs.SignalGroups.{only_at, signal_row}
+use Rattle.form_tables.specs.declared.sizes.TheConstants.{MOST_COLUMNS, MOST_FORM_COLUMNS, MOST_INTEGERS}
+use Rattle.form_tables.proofs.TableLaws.{zero_item}
 use Rattle.normal_sum.specs.Places.{put_at}
 
 abbrev item : List ℤ → ℕ → ℤ
 item s j = slice_index_or s j (pos 0)
 
 -- ---- zeros
-pub item_replicate : (m k : ℕ) → item (replicate m (pos 0)) k ≡ pos 0
-item_replicate zero k = refl
-item_replicate (suc m) zero = refl
-item_replicate (suc m) (suc k) = item_replicate m k
 
 item_zeros : (n k : ℕ) → item (zeros n) k ≡ pos 0
 item_zeros zero k = refl
@@ -57,24 +55,25 @@ one_set t s i n v h l m f g k b = ⊎_elim
     (cases_eq k i)
 
 -- behind the columns of the baseline
-behind : (n : ℕ) (p : Option ℕ) (v y : ℤ) → n ≤ 40 → IfSome p (λ i. i < n) → (k : ℕ) →
-    item (set (elim p as (λ q. List ℤ) [ Some i ↦ set (replicate 41 (pos 0)) i v | None ↦ replicate 41 (pos 0) ]) n y) k ≡ item (only_at n p v ++ (y ∷ [])) k
-behind n None v y h i k = written_last (replicate 41 (pos 0)) (zeros n) n y (omega (arith, length-replicate 41 (pos 0))) (length_zeros n)
-    (λ j g. item_replicate 41 j ∙ sym (item_zeros n j)) (λ j g. item_replicate 41 j) k
-behind n (Some i) v y h g k = written_last (set (replicate 41 (pos 0)) i v) (set (zeros n) i v) n y (omega (arith, length-set (replicate 41 (pos 0)) i v, length-replicate 41 (pos 0))) (length-set (zeros n) i v ∙ length_zeros n)
-    (one_set (replicate 41 (pos 0)) (zeros n) i n v g (omega (arith, length-replicate 41 (pos 0))) (length_zeros n) (item_replicate 41) (item_zeros n))
-    (λ j l. item_set_zero (replicate 41 (pos 0)) i j v (omega arith) (item_replicate 41 j)) k
+behind : (n : ℕ) (p : Option ℕ) (v y : ℤ) → n ≤ MOST_INTEGERS → IfSome p (λ i. i < n) → (k : ℕ) →
+    item (set (elim p as (λ q. List ℤ) [ Some i ↦ set (replicate MOST_FORM_COLUMNS (pos 0)) i v | None ↦ replicate MOST_FORM_COLUMNS (pos 0) ]) n y) k ≡ item (only_at n p v ++ (y ∷ [])) k
+behind n None v y h i k = written_last (replicate MOST_FORM_COLUMNS (pos 0)) (zeros n) n y (omega (arith, length-replicate MOST_FORM_COLUMNS (pos 0))) (length_zeros n)
+    (λ j g. zero_item MOST_FORM_COLUMNS j ∙ sym (item_zeros n j)) (λ j g. zero_item MOST_FORM_COLUMNS j) k
+behind n (Some i) v y h g k = written_last (set (replicate MOST_FORM_COLUMNS (pos 0)) i v) (set (zeros n) i v) n y
+    (omega (arith, length-set (replicate MOST_FORM_COLUMNS (pos 0)) i v, length-replicate MOST_FORM_COLUMNS (pos 0))) (length-set (zeros n) i v ∙ length_zeros n)
+    (one_set (replicate MOST_FORM_COLUMNS (pos 0)) (zeros n) i n v g (omega (arith, length-replicate MOST_FORM_COLUMNS (pos 0))) (length_zeros n) (zero_item MOST_FORM_COLUMNS) (item_zeros n))
+    (λ j l. item_set_zero (replicate MOST_FORM_COLUMNS (pos 0)) i j v (omega arith) (zero_item MOST_FORM_COLUMNS j)) k
 
 -- the whole array
-all_places : (n : ℕ) (p : Option ℕ) (a b d v y : ℤ) → n ≤ 40 → IfSome p (λ i. i < n) → (j : ℕ) →
-    item (set (put_at (set (set (set (replicate 44 (pos 0)) 0 a) 1 b) 2 d) p v) (3 + n) y) j ≡ item (a ∷ (b ∷ (d ∷ (only_at n p v ++ (y ∷ []))))) j
+all_places : (n : ℕ) (p : Option ℕ) (a b d v y : ℤ) → n ≤ MOST_INTEGERS → IfSome p (λ i. i < n) → (j : ℕ) →
+    item (set (put_at (set (set (set (replicate MOST_COLUMNS (pos 0)) 0 a) 1 b) 2 d) p v) (3 + n) y) j ≡ item (a ∷ (b ∷ (d ∷ (only_at n p v ++ (y ∷ []))))) j
 all_places n p a b d v y h i j = rw (three_more n) (opened p i j)
   where
     three_more : (n : ℕ) → 3 + n ≡ suc (suc (suc n))
     three_more n = omega arith
 
     opened : (p : Option ℕ) → IfSome p (λ i. i < n) → (j : ℕ) →
-        item (set (put_at (set (set (set (replicate 44 (pos 0)) 0 a) 1 b) 2 d) p v) (suc (suc (suc n))) y) j ≡ item (a ∷ (b ∷ (d ∷ (only_at n p v ++ (y ∷ []))))) j
+        item (set (put_at (set (set (set (replicate MOST_COLUMNS (pos 0)) 0 a) 1 b) 2 d) p v) (suc (suc (suc n))) y) j ≡ item (a ∷ (b ∷ (d ∷ (only_at n p v ++ (y ∷ []))))) j
     opened None i zero = refl
     opened None i (suc zero) = refl
     opened None i (suc (suc zero)) = refl
@@ -84,20 +83,20 @@ all_places n p a b d v y h i j = rw (three_more n) (opened p i j)
     opened (Some q) i (suc (suc zero)) = rw (three_more q) refl
     opened (Some q) i (suc (suc (suc k))) = rw (three_more q) (behind n (Some q) v y h i k)
 
-pub coefficients_are : (arcs : List Arc) (scale s : ℕ) (r : Row) (w : List ℤ) (n : ℕ) (p : Option ℕ) (a b d v y : ℤ) →
-    w ≡ put_at (set (set (set (replicate 44 (pos 0)) 0 a) 1 b) 2 d) p v → n ≤ 40 → IfSome p (λ i. i < integer_count arcs scale) →
-    n ≡ integer_count arcs scale → p ≡ integer_place arcs scale r.arc s → v ≡ neg_ℤ (cycle s) →
+pub coefficients_are : (arcs : List Arc) (ss : List ℕ) (s : ℕ) (r : Row) (w : List ℤ) (n : ℕ) (p : Option ℕ) (a b d v y : ℤ) →
+    w ≡ put_at (set (set (set (replicate MOST_COLUMNS (pos 0)) 0 a) 1 b) 2 d) p v → n ≤ MOST_INTEGERS → IfSome p (λ i. i < n) →
+    n ≡ integer_count arcs ss → p ≡ integer_place arcs ss r.arc s → v ≡ neg_ℤ (cycle s) →
     a ≡ neg_ℤ (number_at r.u 0) → b ≡ neg_ℤ (number_at r.u 1) → d ≡ neg_ℤ (number_at r.u 2) → y ≡ number_at r.y s →
-    (j : ℕ) → item (set w (3 + n) y) j ≡ coefficient (signal_row arcs scale s r) j
-coefficients_are arcs scale s r w n p a b d v y e h i en ep ev ea eb ed ey j =
-    ap (λ (t : List ℤ). item (set t (3 + n) y) j) e ∙ all_places n p a b d v y h (subst (λ (m : ℕ). IfSome p (λ i. i < m)) (sym en) i) j
+    (j : ℕ) → item (set w (3 + n) y) j ≡ coefficient (signal_row arcs ss s r) j
+coefficients_are arcs ss s r w n p a b d v y e h i en ep ev ea eb ed ey j =
+    ap (λ (t : List ℤ). item (set t (3 + n) y) j) e ∙ all_places n p a b d v y h i j
     ∙ ap (λ (t : List ℤ). item t j) (ap (λ x. x ∷ (b ∷ (d ∷ (only_at n p v ++ (y ∷ []))))) ea
     ∙ ap (λ x. neg_ℤ (number_at r.u 0) ∷ (x ∷ (d ∷ (only_at n p v ++ (y ∷ []))))) eb
     ∙ ap (λ x. neg_ℤ (number_at r.u 0) ∷ (neg_ℤ (number_at r.u 1) ∷ (x ∷ (only_at n p v ++ (y ∷ []))))) ed
     ∙ ap (λ x. first (only_at x p v ++ (y ∷ []))) en
-    ∙ ap (λ (x : Option ℕ). first (only_at (integer_count arcs scale) x v ++ (y ∷ []))) ep
-    ∙ ap (λ x. first (only_at (integer_count arcs scale) (integer_place arcs scale r.arc s) x ++ (y ∷ []))) ev
-    ∙ ap (λ x. first (only_at (integer_count arcs scale) (integer_place arcs scale r.arc s) (neg_ℤ (cycle s)) ++ (x ∷ []))) ey)
+    ∙ ap (λ (x : Option ℕ). first (only_at (integer_count arcs ss) x v ++ (y ∷ []))) ep
+    ∙ ap (λ x. first (only_at (integer_count arcs ss) (integer_place arcs ss r.arc s) x ++ (y ∷ []))) ev
+    ∙ ap (λ x. first (only_at (integer_count arcs ss) (integer_place arcs ss r.arc s) (neg_ℤ (cycle s)) ++ (x ∷ []))) ey)
   where
     first : List ℤ → List ℤ
     first t = neg_ℤ (number_at r.u 0) ∷ (neg_ℤ (number_at r.u 1) ∷ (neg_ℤ (number_at r.u 2) ∷ t))
@@ -115,15 +114,15 @@ bounded_put m t None v h g j = h j
 bounded_put m t (Some i) v h g j = bounded_set m t (3 + i) v h g j
 
 bounded_zeros : (m n j : ℕ) → unsigned_abs (item (replicate n (pos 0)) j) ≤ m
-bounded_zeros m n j = rw (item_replicate n j) (omega arith)
+bounded_zeros m n j = rw (zero_item n j) (omega arith)
 
-pub coefficients_within : (m : ℕ) (w : List ℤ) (n : ℕ) (p : Option ℕ) (a b d v y : ℤ) → w ≡ put_at (set (set (set (replicate 44 (pos 0)) 0 a) 1 b) 2 d) p v →
+pub coefficients_within : (m : ℕ) (w : List ℤ) (n : ℕ) (p : Option ℕ) (a b d v y : ℤ) → w ≡ put_at (set (set (set (replicate MOST_COLUMNS (pos 0)) 0 a) 1 b) 2 d) p v →
     unsigned_abs a ≤ m → unsigned_abs b ≤ m → unsigned_abs d ≤ m → unsigned_abs v ≤ m → unsigned_abs y ≤ m → (j : ℕ) → unsigned_abs (item (set w n y) j) ≤ m
 coefficients_within m w n p a b d v y e ha hb hd hv hy j = subst (λ (t : List ℤ). unsigned_abs (item (set t n y) j) ≤ m) (sym e)
-    (bounded_set m (put_at w3 p v) n y (bounded_put m w3 p v (bounded_set m w2 2 d (bounded_set m w1 1 b (bounded_set m w0 0 a (bounded_zeros m 44) ha) hb) hd) hv) hy j)
+    (bounded_set m (put_at w3 p v) n y (bounded_put m w3 p v (bounded_set m w2 2 d (bounded_set m w1 1 b (bounded_set m w0 0 a (bounded_zeros m MOST_COLUMNS) ha) hb) hd) hv) hy j)
   where
     w0 : List ℤ
-    w0 = replicate 44 (pos 0)
+    w0 = replicate MOST_COLUMNS (pos 0)
 
     w1 : List ℤ
     w1 = set w0 0 a
@@ -133,3 +132,17 @@ coefficients_within m w n p a b d v y e ha hb hd hv hy j = subst (λ (t : List �
 
     w3 : List ℤ
     w3 = set w2 2 d
+
+-- ---- 0 behind the baseline, but at the integer and the constant
+put_elsewhere : (t : List ℤ) (p : Option ℕ) (v : ℤ) (j : ℕ) → IfSome p (λ i. j ≢ 3 + i) → item (put_at t p v) j ≡ item t j
+put_elsewhere t None v j h = refl
+put_elsewhere t (Some i) v j h = get_or-set_other t (3 + i) j v (pos 0) h
+
+pub nothing_elsewhere : (w : List ℤ) (n : ℕ) (p : Option ℕ) (a b d v y : ℤ) → w ≡ put_at (set (set (set (replicate MOST_COLUMNS (pos 0)) 0 a) 1 b) 2 d) p v →
+    (j : ℕ) → 3 ≤ j → j ≢ 3 + n → IfSome p (λ i. j ≢ 3 + i) → item (set w (3 + n) y) j ≡ pos 0
+nothing_elsewhere w n p a b d v y e j h f g =
+    get_or-set_other w (3 + n) j y (pos 0) f
+    ∙ ap (λ (t : List ℤ). item t j) e
+    ∙ put_elsewhere (set (set (set (replicate MOST_COLUMNS (pos 0)) 0 a) 1 b) 2 d) p v j g
+    ∙ item_set_zero (set (set (replicate MOST_COLUMNS (pos 0)) 0 a) 1 b) 2 j d (omega arith)
+    (item_set_zero (set (replicate MOST_COLUMNS (pos 0)) 0 a) 1 j b (omega arith) (item_set_zero (replicate MOST_COLUMNS (pos 0)) 0 j a (omega arith) (zero_item MOST_COLUMNS j)))

@@ -1,3 +1,5 @@
+pub mod ColumnLaws
+pub mod PlaceLaws
 pub mod Words
 pub mod CoefficientPlaces
 pub mod RowSums

@@ -6,43 +6,47 @@ use Rattle.whole_math.proofs.Order.{lins}
 use Rattle.quadratic_form.specs.Rows.{SignalGroup, columns, GroupsOf, Radii, add_radii, row_radii, no_radii, radii}
 use Rattle.quadratic_form.specs.MatrixEntries.{matrix_entry}
 use Rattle.quadratic_form.proofs.MatrixEntries.{matrix_past, matrix_turned}
-use Rattle.obs_rows.specs.Tables.{entry, HasShape, IsZeroOutside}
+use Rattle.form_tables.specs.declared.sizes.TheConstants.{MOST_COLUMNS}
+use Rattle.form_tables.specs.Tables.{entry, HasShape, IsZeroOutside}
 use Rattle.normal_sum.specs.declared.radii.RadiusSums.{RadiusSums}
 use Rattle.normal_sum.specs.RadiusSums.{IsAtMost}
-use Rattle.normal_sum.specs.Matrices.{IsSymmetric, EntriesBelow, IsRadiusSum}
+use Rattle.form_tables.specs.Matrices.{IsSymmetric, EntriesBelow}
+use Rattle.normal_sum.specs.Matrices.{IsRadiusSum}
 use Rattle.normal_sum.proofs.Words.{small_w128}
 use Rattle.normal_sum.proofs.RadiusLaws.{radii_assoc, radii_same}
 
 side : (i n : ℕ) → (i < n) ⊎ (n ≤ i)
 side i n = grind arith
 
-entry_past_row : (t : List (List ℤ)) (i j : ℕ) → HasShape 44 44 t → 44 ≤ i → entry t i j ≡ pos 0
+entry_past_row : (t : List (List ℤ)) (i j : ℕ) → HasShape MOST_COLUMNS MOST_COLUMNS t → MOST_COLUMNS ≤ i → entry t i j ≡ pos 0
 entry_past_row t i j s h = ap (λ (r : List ℤ). slice_index_or r j (pos 0)) (get_or_past t i [] (omega (arith, s.rows)))
 
-entry_past_column : (t : List (List ℤ)) (i j : ℕ) → HasShape 44 44 t → i < 44 → 44 ≤ j → entry t i j ≡ pos 0
+entry_past_column : (t : List (List ℤ)) (i j : ℕ) → HasShape MOST_COLUMNS MOST_COLUMNS t → i < MOST_COLUMNS → MOST_COLUMNS ≤ j → entry t i j ≡ pos 0
 entry_past_column t i j s h g = get_or_past (slice_index_or t i []) j (pos 0) (omega (arith, s.columns i h))
 
 pub matrix_past_row : (n : ℕ) (gs : List SignalGroup) (i j : ℕ) → GroupsOf (pos n) gs → columns n ≤ i → matrix_entry gs i j ≡ pos 0
 matrix_past_row n gs i j h g = matrix_turned gs i j ∙ matrix_past n gs j i h g
 
-pub entries_everywhere : (n : ℕ) (gs : List SignalGroup) (t : List (List ℤ)) → HasShape 44 44 t → columns n ≤ 44 → GroupsOf (pos n) gs →
-    ((i j : ℕ) → i < 44 → j < 44 → entry t i j ≡ matrix_entry gs i j) → (i j : ℕ) → entry t i j ≡ matrix_entry gs i j
+pub entries_everywhere : (n : ℕ) (gs : List SignalGroup) (t : List (List ℤ)) → HasShape MOST_COLUMNS MOST_COLUMNS t → columns n ≤ MOST_COLUMNS → GroupsOf (pos n) gs →
+    ((i j : ℕ) → i < MOST_COLUMNS → j < MOST_COLUMNS → entry t i j ≡ matrix_entry gs i j) → (i j : ℕ) → entry t i j ≡ matrix_entry gs i j
 entries_everywhere n gs t s c h e i j = ⊎_elim
-    (λ (hi : i < 44). ⊎_elim (λ (hj : j < 44). e i j hi hj) (λ (gj : 44 ≤ j). entry_past_column t i j s hi gj ∙ sym (matrix_past n gs i j h (omega arith))) (side j 44))
-    (λ (gi : 44 ≤ i). entry_past_row t i j s gi ∙ sym (matrix_past_row n gs i j h (omega arith)))
-    (side i 44)
+    (λ (hi : i < MOST_COLUMNS). ⊎_elim (λ (hj : j < MOST_COLUMNS). e i j hi hj) (λ (gj : MOST_COLUMNS ≤ j). entry_past_column t i j s hi gj ∙ sym (matrix_past n gs i j h (omega arith)))
+    (side j MOST_COLUMNS))
+    (λ (gi : MOST_COLUMNS ≤ i). entry_past_row t i j s gi ∙ sym (matrix_past_row n gs i j h (omega arith)))
+    (side i MOST_COLUMNS)
 
 pub symmetric_is : (gs : List SignalGroup) (t : List (List ℤ)) → ((i j : ℕ) → entry t i j ≡ matrix_entry gs i j) → IsSymmetric t
 symmetric_is gs t e = λ i j. e i j ∙ matrix_turned gs i j ∙ sym (e j i)
 
 pub outside_is : (n m : ℕ) (gs : List SignalGroup) (t : List (List ℤ)) → m ≡ columns n → GroupsOf (pos n) gs → ((i j : ℕ) → entry t i j ≡ matrix_entry gs i j) → IsZeroOutside m m t
-outside_is n m gs t c h e = λ i j w. e i j ∙ ⊎_elim (λ (g : m ≤ i). matrix_past_row n gs i j h (subst (λ (k : ℕ). k ≤ i) c g)) (λ (g : m ≤ j). matrix_past n gs i j h (subst (λ (k : ℕ). k ≤ j) c g)) w
+outside_is n m gs t c h e = λ i j w. e i j ∙ ⊎_elim (λ (g : m ≤ i). matrix_past_row n gs i j h (subst (λ (k : ℕ). k ≤ i) c g))
+    (λ (g : m ≤ j). matrix_past n gs i j h (subst (λ (k : ℕ). k ≤ j) c g)) w
 
-pub below_is : (m : ℕ) (t : List (List ℤ)) → HasShape 44 44 t → 0 < m → ((i j : ℕ) → i < 44 → j < 44 → unsigned_abs (entry t i j) < m) → EntriesBelow m t
+pub below_is : (m : ℕ) (t : List (List ℤ)) → HasShape MOST_COLUMNS MOST_COLUMNS t → 0 < m → ((i j : ℕ) → i < MOST_COLUMNS → j < MOST_COLUMNS → unsigned_abs (entry t i j) < m) → EntriesBelow m t
 below_is m t s h e = λ i j. ⊎_elim
-    (λ (hi : i < 44). ⊎_elim (λ (hj : j < 44). e i j hi hj) (λ (gj : 44 ≤ j). nothing (entry t i j) (entry_past_column t i j s hi gj)) (side j 44))
-    (λ (gi : 44 ≤ i). nothing (entry t i j) (entry_past_row t i j s gi))
-    (side i 44)
+    (λ (hi : i < MOST_COLUMNS). ⊎_elim (λ (hj : j < MOST_COLUMNS). e i j hi hj) (λ (gj : MOST_COLUMNS ≤ j). nothing (entry t i j) (entry_past_column t i j s hi gj)) (side j MOST_COLUMNS))
+    (λ (gi : MOST_COLUMNS ≤ i). nothing (entry t i j) (entry_past_row t i j s gi))
+    (side i MOST_COLUMNS)
   where
     nothing : (x : ℤ) → x ≡ pos 0 → unsigned_abs x < m
     nothing x e = subst (λ (z : ℤ). unsigned_abs z < m) (sym e) h

@@ -17,8 +17,7 @@ use Rattle.quadratic_form.proofs.RationalData.{OverBase, OverRows, OverAll, boun
 use Rattle.obs_rows.specs.declared.arcs.Arc.{Arc}
 use Rattle.obs_rows.specs.declared.rows.Row.{Row}
 use Rattle.obs_rows.specs.declared.pair_rows.PairRows.{PairRows}
-use Rattle.obs_rows.specs.Tables.{entry}
-use Rattle.obs_rows.specs.Signals.{counted}
+use Rattle.form_tables.specs.Tables.{entry}
 use Rattle.obs_rows.specs.Integers.{integer_count}
 use Rattle.obs_rows.specs.Data.{Observed, AreData, centre_of, centres}
 use Rattle.obs_rows.specs.SumOfSquares.{sum_of_squares}
@@ -33,34 +32,35 @@ use Rattle.normal_sum.specs.Values.{form_of, radii_from, bounding_of, baseline_o
 use Rattle.normal_sum.proofs.NormalLaws.{four_and}
 
 -- ---- the form of the entries
-form_is : (arcs : List Arc) (scale : ℕ) (pairs : List PairRows) (n : Normal) → IsNormalOf arcs scale pairs n → form_of n ≡ matrix (integer_count arcs scale) (signal_groups arcs scale pairs)
-form_is arcs scale pairs n h = ap (λ (k : ℕ). form_from (entry n.c) 0 k) (h.columns ∙ sym (four_and i))
-    ∙ form_same (entry n.c) (matrix_entry (signal_groups arcs scale pairs)) 0 (columns i) (λ r c a b d. h.entries r c)
-    ∙ matrix_form i (signal_groups arcs scale pairs) (groups_of arcs scale pairs)
+pub form_is : (arcs : List Arc) (ss : List ℕ) (pairs : List PairRows) (n : Normal) → IsNormalOf arcs ss pairs n → form_of n ≡ matrix (integer_count arcs ss) (signal_groups arcs ss pairs)
+form_is arcs ss pairs n h = ap (λ (k : ℕ). form_from (entry n.c) 0 k) (h.columns ∙ sym (four_and i))
+    ∙ form_same (entry n.c) (matrix_entry (signal_groups arcs ss pairs)) 0 (columns i) (λ r c a b d. h.entries r c)
+    ∙ matrix_form i (signal_groups arcs ss pairs) (groups_of arcs ss pairs)
   where
     i : ℕ
-    i = integer_count arcs scale
+    i = integer_count arcs ss
 
-radii_are : (arcs : List Arc) (scale : ℕ) (pairs : List PairRows) (n : Normal) → IsNormalOf arcs scale pairs n → radii_from n.r ≡ radii (signal_groups arcs scale pairs)
-radii_are arcs scale pairs n h = ap (λ (r : List ℤ). radii_from r) h.radii
+radii_are : (arcs : List Arc) (ss : List ℕ) (pairs : List PairRows) (n : Normal) → IsNormalOf arcs ss pairs n → radii_from n.r ≡ radii (signal_groups arcs ss pairs)
+radii_are arcs ss pairs n h = ap (λ (r : List ℤ). radii_from r) h.radii
 
 over_base : (e : ℕ) (h : 0 < e) (c : WholeBaseline) → OverBase (pos e) c (baseline_over e h c)
 over_base e h c = record { b1 = refl; b2 = refl; b3 = refl }
 
-pub stays_below : (arcs : List Arc) (scale : ℕ) (pairs : List PairRows) (n : Normal) → IsNormalOf arcs scale pairs n → StaysBelow arcs scale pairs n
-stays_below arcs scale pairs n h = record { below = λ observed d z l e p c. go observed d z l e p c }
+pub stays_below : (arcs : List Arc) (ss : List ℕ) (pairs : List PairRows) (n : Normal) → IsNormalOf arcs ss pairs n → StaysBelow arcs ss pairs n
+stays_below arcs ss pairs n h = record { below = λ observed d z l e p c. go observed d z l e p c }
   where
     gs : List SignalGroup
-    gs = signal_groups arcs scale pairs
+    gs = signal_groups arcs ss pairs
 
-    bounding_is : (z : List ℤ) → length z ≡ integer_count arcs scale → bounding_of n (length z) ≡ bounding_form (length z) (matrix (length z) gs) (radii gs)
-    bounding_is z l = ap (λ (a : List Column). bounding_form (length z) a (radii_from n.r)) (form_is arcs scale pairs n h ∙ ap (λ (k : ℕ). matrix k gs) (sym l))
-        ∙ ap (λ (r : Radii). bounding_form (length z) (matrix (length z) gs) r) (radii_are arcs scale pairs n h)
+    bounding_is : (z : List ℤ) → length z ≡ integer_count arcs ss → bounding_of n (length z) ≡ bounding_form (length z) (matrix (length z) gs) (radii gs)
+    bounding_is z l = ap (λ (a : List Column). bounding_form (length z) a (radii_from n.r)) (form_is arcs ss pairs n h ∙ ap (λ (k : ℕ). matrix k gs) (sym l))
+        ∙ ap (λ (r : Radii). bounding_form (length z) (matrix (length z) gs) r) (radii_are arcs ss pairs n h)
 
-    go : (observed : List (List Observed)) → AreData scale pairs observed → (z : List ℤ) → length z ≡ integer_count arcs scale → (e : ℕ) (p : 0 < e) (c : WholeBaseline) →
-        value_over e p (bounding_of n (length z)) z c ≤ʳ mul_r (of_whole (pos 64)) (sum_of_squares arcs scale pairs z (baseline_over e p c) observed)
-    go observed d z l e p c = subst (λ (f : Rational). value_over e p (bounding_of n (length z)) z c ≤ʳ mul_r (of_whole (pos 64)) f) (sym (sum_is arcs scale pairs z (baseline_over e p c) observed d))
-        (bounding_over_rationals e z c (baseline_over e p c) gs (group_data scale observed) (value_over e p (bounding_of n (length z)) z c) p (over_base e p c) (groups_of_vector arcs scale pairs z l) (data_fit arcs scale pairs observed d)
+    go : (observed : List (List Observed)) → AreData ss pairs observed → (z : List ℤ) → length z ≡ integer_count arcs ss → (e : ℕ) (p : 0 < e) (c : WholeBaseline) →
+        value_over e p (bounding_of n (length z)) z c ≤ʳ mul_r (of_whole (pos 64)) (sum_of_squares arcs ss pairs z (baseline_over e p c) observed)
+    go observed d z l e p c = subst (λ (f : Rational). value_over e p (bounding_of n (length z)) z c ≤ʳ mul_r (of_whole (pos 64)) f) (sym (sum_is arcs ss pairs z (baseline_over e p c) observed d))
+        (bounding_over_rationals e z c (baseline_over e p c) gs (group_data ss observed) (value_over e p (bounding_of n (length z)) z c) p (over_base e p c)
+        (groups_of_vector arcs ss pairs z l) (data_fit arcs ss pairs observed d)
         (ap (λ (f : List Column). quad f (columns_at (pos e) z c) *ℤ pos (e * e)) (bounding_is z l)))
 
 -- ---- at the centres
@@ -79,7 +79,8 @@ residual_at : (e : ℤ) (z : List ℤ) (c : WholeBaseline) (r : SignalRow) → l
 residual_at e z c r h = split (pos 1) e z c r (centre_row r) h ∙ nothing (dot (coefficients r) (columns_at e z c)) e r.y r.u1 r.u2 r.u3 c.b1 c.b2 c.b3
   where
     nothing : (k e y p q s i j m : ℤ) → pos 1 *ℤ k +ℤ ((y -ℤ pos 1 *ℤ y) *ℤ e -ℤ ((p -ℤ pos 1 *ℤ p) *ℤ i +ℤ ((q -ℤ pos 1 *ℤ q) *ℤ j +ℤ (s -ℤ pos 1 *ℤ s) *ℤ m))) ≡ k
-    nothing k e y p q s i j m = same_by (k ∷ e ∷ y ∷ p ∷ q ∷ s ∷ i ∷ j ∷ m ∷ []) (λ k e y p q s i j m. (nat 1 ⊗ k ⊕ ((y ⊖ nat 1 ⊗ y) ⊗ e ⊖ ((p ⊖ nat 1 ⊗ p) ⊗ i ⊕ ((q ⊖ nat 1 ⊗ q) ⊗ j ⊕ (s ⊖ nat 1 ⊗ s) ⊗ m))), k)) refl
+    nothing k e y p q s i j m = same_by (k ∷ e ∷ y ∷ p ∷ q ∷ s ∷ i ∷ j ∷ m ∷ [])
+        (λ k e y p q s i j m. (nat 1 ⊗ k ⊕ ((y ⊖ nat 1 ⊗ y) ⊗ e ⊖ ((p ⊖ nat 1 ⊗ p) ⊗ i ⊕ ((q ⊖ nat 1 ⊗ q) ⊗ j ⊕ (s ⊖ nat 1 ⊗ s) ⊗ m))), k)) refl
 
 residuals_at : (e : ℤ) (z : List ℤ) (c : WholeBaseline) (rs : List SignalRow) → RowsOf (len z) rs → whole_residuals (pos 1) e z c rs (centre_rows rs) ≡ values (columns_at e z c) rs
 residuals_at e z c [] h = refl
@@ -89,32 +90,36 @@ sum_at : (e : ℤ) (z : List ℤ) (c : WholeBaseline) (gs : List SignalGroup) �
 sum_at e z c [] h = refl
 sum_at e z c (g ∷ gs) h = ap₂ (λ s t. (share g *ℤ spread s) +ℤ t) (residuals_at e z c g.rows h.3) (sum_at e z c gs h.4)
 
-rows_over : (arcs : List Arc) (scale s : ℕ) (rows : List Row) → OverRows (pos 1) (centre_rows (map (signal_row arcs scale s) rows)) (map (signal_data s) (map centre_of rows))
-rows_over arcs scale s [] = tt
-rows_over arcs scale s (r ∷ rows) = (record { u1 = refl; u2 = refl; u3 = refl; y = refl }, rows_over arcs scale s rows)
+rows_over : (arcs : List Arc) (ss : List ℕ) (s : ℕ) (rows : List Row) → OverRows (pos 1) (centre_rows (map (signal_row arcs ss s) rows)) (map (signal_data s) (map centre_of rows))
+rows_over arcs ss s [] = tt
+rows_over arcs ss s (r ∷ rows) = (record { u1 = refl; u2 = refl; u3 = refl; y = refl }, rows_over arcs ss s rows)
 
-signals_over : (arcs : List Arc) (scale : ℕ) (p : PairRows) (signals : List ℕ) (gs : List SignalGroup) (qs : List (List RowData)) → OverAll (pos 1) (centre_groups gs) qs →
-    OverAll (pos 1) (centre_groups (map (signal_group arcs scale p) signals ++ gs)) (map (λ s. map (signal_data s) (map centre_of p.rows)) signals ++ qs)
-signals_over arcs scale p [] gs qs h = h
-signals_over arcs scale p (s ∷ signals) gs qs h = (rows_over arcs scale s p.rows, signals_over arcs scale p signals gs qs h)
+signals_over : (arcs : List Arc) (ss : List ℕ) (p : PairRows) (signals : List ℕ) (gs : List SignalGroup) (qs : List (List RowData)) → OverAll (pos 1) (centre_groups gs) qs →
+    OverAll (pos 1) (centre_groups (map (signal_group arcs ss p) signals ++ gs)) (map (λ s. map (signal_data s) (map centre_of p.rows)) signals ++ qs)
+signals_over arcs ss p [] gs qs h = h
+signals_over arcs ss p (s ∷ signals) gs qs h = (rows_over arcs ss s p.rows, signals_over arcs ss p signals gs qs h)
 
-pairs_over : (arcs : List Arc) (scale : ℕ) (pairs : List PairRows) → OverAll (pos 1) (centre_groups (signal_groups arcs scale pairs)) (group_data scale (centres pairs))
-pairs_over arcs scale [] = tt
-pairs_over arcs scale (p ∷ ps) = signals_over arcs scale p (counted scale) (signal_groups arcs scale ps) (group_data scale (centres ps)) (pairs_over arcs scale ps)
+pairs_over : (arcs : List Arc) (ss : List ℕ) (pairs : List PairRows) → OverAll (pos 1) (centre_groups (signal_groups arcs ss pairs)) (group_data ss (centres pairs))
+pairs_over arcs ss [] = tt
+pairs_over arcs ss (p ∷ ps) = signals_over arcs ss p ss (signal_groups arcs ss ps) (group_data ss (centres ps)) (pairs_over arcs ss ps)
 
-pub is_sum_at_centres : (arcs : List Arc) (scale : ℕ) (pairs : List PairRows) (n : Normal) → IsNormalOf arcs scale pairs n → IsSumAtCentres arcs scale pairs n
-is_sum_at_centres arcs scale pairs n h = record { value = λ z l e p c. go z l e p c }
+pub is_sum_at_centres : (arcs : List Arc) (ss : List ℕ) (pairs : List PairRows) (n : Normal) → IsNormalOf arcs ss pairs n → IsSumAtCentres arcs ss pairs n
+is_sum_at_centres arcs ss pairs n h = record { value = λ z l e p c. go z l e p c }
   where
     gs : List SignalGroup
-    gs = signal_groups arcs scale pairs
+    gs = signal_groups arcs ss pairs
 
-    value_is : (z : List ℤ) → length z ≡ integer_count arcs scale → (e : ℕ) (c : WholeBaseline) → quad (form_of n) (columns_at (pos e) z c) ≡ whole_sum_of_squares (pos 1) (pos e) z c gs (centre_groups gs)
-    value_is z l e c = ap (λ (a : List Column). quad a (columns_at (pos e) z c)) (form_is arcs scale pairs n h) ∙ matrix_at_centres (integer_count arcs scale) (columns_at (pos e) z c) gs ∙ sym (sum_at (pos e) z c gs (groups_of_vector arcs scale pairs z l))
+    value_is : (z : List ℤ) → length z ≡ integer_count arcs ss → (e : ℕ) (c : WholeBaseline) → quad (form_of n) (columns_at (pos e) z c) ≡ whole_sum_of_squares (pos 1) (pos e) z c gs
+        (centre_groups gs)
+    value_is z l e c = ap (λ (a : List Column). quad a (columns_at (pos e) z c)) (form_is arcs ss pairs n h) ∙ matrix_at_centres (integer_count arcs ss) (columns_at (pos e) z c) gs
+        ∙ sym (sum_at (pos e) z c gs (groups_of_vector arcs ss pairs z l))
 
     turned : (v w a b e : ℤ) → v ≡ w → a *ℤ ((pos 1 *ℤ e) *ℤ (pos 1 *ℤ e)) ≡ w *ℤ b → v *ℤ b ≡ a *ℤ (e *ℤ e)
     turned v w a b e i k = ap (λ z. z *ℤ b) i ∙ sym k ∙ same_by (a ∷ e ∷ []) (λ a e. (a ⊗ ((nat 1 ⊗ e) ⊗ (nat 1 ⊗ e)), a ⊗ (e ⊗ e))) refl
 
-    go : (z : List ℤ) → length z ≡ integer_count arcs scale → (e : ℕ) (p : 0 < e) (c : WholeBaseline) → value_over e p (form_of n) z c ≈ sum_of_squares arcs scale pairs z (baseline_over e p c) (centres pairs)
-    go z l e p c = turned (quad (form_of n) (columns_at (pos e) z c)) (whole_sum_of_squares (pos 1) (pos e) z c gs (centre_groups gs)) (sum_of_squares arcs scale pairs z (baseline_over e p c) (centres pairs)).num
-        (pos (sum_of_squares arcs scale pairs z (baseline_over e p c) (centres pairs)).den) (pos e) (value_is z l e c)
-        (sum_over arcs scale pairs (pos 1) (pos e) z c (baseline_over e p c) (centre_groups gs) (centres pairs) (centres_are_data scale pairs) (pairs_over arcs scale pairs) (over_base e p c))
+    go : (z : List ℤ) → length z ≡ integer_count arcs ss → (e : ℕ) (p : 0 < e) (c : WholeBaseline) → value_over e p (form_of n) z c ≈ sum_of_squares arcs ss pairs z (baseline_over e p c)
+        (centres pairs)
+    go z l e p c = turned (quad (form_of n) (columns_at (pos e) z c)) (whole_sum_of_squares (pos 1) (pos e) z c gs (centre_groups gs))
+        (sum_of_squares arcs ss pairs z (baseline_over e p c) (centres pairs)).num
+        (pos (sum_of_squares arcs ss pairs z (baseline_over e p c) (centres pairs)).den) (pos e) (value_is z l e c)
+        (sum_over arcs ss pairs (pos 1) (pos e) z c (baseline_over e p c) (centre_groups gs) (centres pairs) (centres_are_data ss pairs) (pairs_over arcs ss pairs) (over_base e p c))

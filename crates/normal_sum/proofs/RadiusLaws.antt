@@ -54,7 +54,8 @@ added_is x s w r s0 s1 w0 w1 r0 r1 e x0 x1 =
     let y1 : x ≤ℤ (s +ℤ pos (2 ^ 72)) = subst (λ (z : ℤ). x ≤ℤ (z +ℤ pos (2 ^ 72))) es x1 in
     let ex : to_z w128 (of_z w128 x) ≡ x = small_w128 x x0 (both x s y1 s1) in
     record {
-      value = ex ∙ e ∙ ap (λ z. z +ℤ (to_z w64 (of_z w64 w) *ℤ (to_z w64 (of_z w64 r) *ℤ to_z w64 (of_z w64 r)))) es ∙ ap (λ z. s +ℤ (z *ℤ (to_z w64 (of_z w64 r) *ℤ to_z w64 (of_z w64 r)))) ew ∙ ap (λ z. s +ℤ (w *ℤ (z *ℤ z))) er;
+      value = ex ∙ e ∙ ap (λ z. z +ℤ (to_z w64 (of_z w64 w) *ℤ (to_z w64 (of_z w64 r) *ℤ to_z w64 (of_z w64 r)))) es ∙ ap (λ z. s +ℤ (z *ℤ (to_z w64 (of_z w64 r) *ℤ to_z w64 (of_z w64 r)))) ew
+          ∙ ap (λ z. s +ℤ (w *ℤ (z *ℤ z))) er;
       from = subst (λ (z : ℤ). pos 0 ≤ℤ z) (sym ex) x0;
       to = subst (λ (z : ℤ). z ≤ℤ (s +ℤ pos (2 ^ 72))) (sym ex) y1;
     }

@@ -4,7 +4,13 @@ use Rattle.std.proofs.lemmas.Int.{ints}
 use Rattle.whole_math.proofs.Ring.{◌⊕◌, ◌⊖◌, ◌⊗◌}
 use Rattle.whole_math.proofs.Order.{abs_mul_le}
 use Rattle.whole_math.proofs.Inequalities.{same_by, nat}
-use Rattle.normal_sum.proofs.Words.{size_add}
+use Rattle.form_tables.proofs.Words.{size_add}
+
+pub times_nothing : (w x : ℤ) → x ≡ pos 0 → w *ℤ x ≡ pos 0
+times_nothing w x e = ap (λ z. w *ℤ z) e ∙ same_by (w ∷ []) (λ w. (w ⊗ nat 0, nat 0)) refl
+
+pub product_nothing : (w x y : ℤ) → x ≡ pos 0 → (w *ℤ x) *ℤ y ≡ pos 0
+product_nothing w x y e = ap (λ z. (w *ℤ z) *ℤ y) e ∙ same_by (w ∷ y ∷ []) (λ w y. ((w ⊗ nat 0) ⊗ y, nat 0)) refl
 
 pub next_product : (t t' t0 k c d r a : ℤ) → t +ℤ (k *ℤ ((c *ℤ d) +ℤ r)) ≡ t0 +ℤ (k *ℤ a) → t' ≡ t +ℤ ((k *ℤ c) *ℤ d) → t' +ℤ (k *ℤ r) ≡ t0 +ℤ (k *ℤ a)
 next_product t t' t0 k c d r a h e = ap (λ z. z +ℤ (k *ℤ r)) e ∙ same_by (t ∷ k ∷ c ∷ d ∷ r ∷ []) (λ t k c d r. ((t ⊕ (k ⊗ c) ⊗ d) ⊕ k ⊗ r, t ⊕ k ⊗ (c ⊗ d ⊕ r))) refl ∙ h
@@ -31,7 +37,8 @@ group_is t1 t2 t0 k f n p s t w e1 e2 ef ew = e2 ∙ ap (λ z. z +ℤ ((w *ℤ s
 product_of : (a n : ℕ) → a * n ≤ 2 ^ 32 → n ≤ 15 → (a * (n * 2 ^ 34)) * (n * 2 ^ 34) ≤ 15 * 2 ^ 100
 product_of a n h g = grind arith
 
-pub group_size : (t1 t2 t0 w s t : ℤ) (n : ℕ) → n ≤ 15 → t2 ≡ t1 +ℤ ((w *ℤ s) *ℤ t) → unsigned_abs t1 ≤ unsigned_abs t0 + (n * 2 ^ 100) → unsigned_abs w * n ≤ 2 ^ 32 → unsigned_abs s ≤ n * 2 ^ 34 → unsigned_abs t ≤ n * 2 ^ 34 →
+pub group_size : (t1 t2 t0 w s t : ℤ) (n : ℕ) → n ≤ 15 → t2 ≡ t1 +ℤ ((w *ℤ s) *ℤ t) → unsigned_abs t1 ≤ unsigned_abs t0 + (n * 2 ^ 100) → unsigned_abs w * n ≤ 2 ^ 32 → unsigned_abs s
+    ≤ n * 2 ^ 34 → unsigned_abs t ≤ n * 2 ^ 34 →
     unsigned_abs t2 ≤ unsigned_abs t0 + 2 ^ 105
 group_size t1 t2 t0 w s t n g e h1 hw hs ht =
     let p : unsigned_abs (w *ℤ s) ≤ unsigned_abs w * (n * 2 ^ 34) = abs_mul_le w s (unsigned_abs w) (n * 2 ^ 34) (omega arith) hs in
@@ -39,7 +46,8 @@ group_size t1 t2 t0 w s t n g e h1 hw hs ht =
     let o : (unsigned_abs w * (n * 2 ^ 34)) * (n * 2 ^ 34) ≤ 15 * 2 ^ 100 = product_of (unsigned_abs w) n hw g in
     let a : unsigned_abs (t1 +ℤ ((w *ℤ s) *ℤ t)) ≤ unsigned_abs t1 + unsigned_abs ((w *ℤ s) *ℤ t) = size_add t1 ((w *ℤ s) *ℤ t) in
     let b : unsigned_abs ((w *ℤ s) *ℤ t) ≤ 15 * 2 ^ 100 = chain q o in
-    subst (λ (z : ℤ). unsigned_abs z ≤ unsigned_abs t0 + 2 ^ 105) (sym e) (last (unsigned_abs (t1 +ℤ ((w *ℤ s) *ℤ t))) (unsigned_abs t1) (unsigned_abs ((w *ℤ s) *ℤ t)) (unsigned_abs t0) n a b h1 g)
+    subst (λ (z : ℤ). unsigned_abs z ≤ unsigned_abs t0 + 2 ^ 105) (sym e) (last (unsigned_abs (t1 +ℤ ((w *ℤ s) *ℤ t))) (unsigned_abs t1) (unsigned_abs ((w *ℤ s) *ℤ t))
+    (unsigned_abs t0) n a b h1 g)
   where
     chain : {a b c : ℕ} → a ≤ b → b ≤ c → a ≤ c
     chain h g = omega arith

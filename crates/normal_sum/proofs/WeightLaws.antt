@@ -1,26 +1,36 @@
 -- The weights of the signals.
-use Rattle.std.proofs.Common.{◌≡◌, ℕ, zero, suc, ◌*◌, ◌/◌, ◌^◌, ◌<◌, ◌≤◌, ◌+ℤ◌, ◌*ℤ◌, pos, ℤ, unsigned_abs, arith, refl, ap}
+use Rattle.std.proofs.Common.{◌≡◌, ℕ, zero, suc, ◌*◌, ◌/◌, ◌^◌, ◌≤◌, ◌+ℤ◌, ◌*ℤ◌, List, [], ◌∷◌, pos, ℤ, slice_index_or, unsigned_abs, arith, refl, ap, sym, subst}
+use Rattle.std.specs.List.{AllByRecursion}
 use Rattle.std.proofs.Math.Nat.{div-mul-le_self}
+use Rattle.obs_rows.specs.declared.units.TheConstants.{WEIGHTS}
 use Rattle.obs_rows.specs.Signals.{weight}
+use Rattle.obs_rows.specs.SumOfSquares.{share}
 use Rattle.normal_sum.proofs.RowSums.{turned_size}
 
-record Weight (s : ℕ) : Type 0 where
+record Weight (x : ℤ) : Type 0 where
   w : ℕ
-  is : weight s ≡ pos w
+  is : x ≡ pos w
   small : w ≤ 10000
 
-weight_of : (s : ℕ) → s < 4 → Weight s
-weight_of zero h = record { w = 10000; is = refl; small = omega arith }
-weight_of (suc zero) h = record { w = 10000; is = refl; small = omega arith }
-weight_of (suc (suc zero)) h = record { w = 1; is = refl; small = omega arith }
-weight_of (suc (suc (suc zero))) h = record { w = 1; is = refl; small = omega arith }
-weight_of (suc (suc (suc (suc s)))) h = absurd (omega arith)
+of_phase : Weight (pos 10000)
+of_phase = record { w = 10000; is = refl; small = omega arith }
+
+of_code : Weight (pos 1)
+of_code = record { w = 1; is = refl; small = omega arith }
+
+in_list : (ws : List ℤ) → AllByRecursion Weight ws → (s : ℕ) → Weight (slice_index_or ws s (pos 0))
+in_list [] h s = record { w = 0; is = refl; small = omega arith }
+in_list (w ∷ ws) h zero = h.0
+in_list (w ∷ ws) h (suc s) = in_list ws h.1 s
+
+weight_of : (s : ℕ) → Weight (weight s)
+weight_of = in_list WEIGHTS (of_phase, (of_phase, (of_code, (of_code, (of_phase, (of_code, tt))))))
 
 -- the turned share of a group of n rows
-pub share_size : (n s : ℕ) (x : ℤ) → s < 4 → pos 0 ≡ x +ℤ (pos (360360 / n) *ℤ weight s) → unsigned_abs x * n ≤ 2 ^ 32
-share_size n s x h e = go (weight_of s h)
+pub share_size : (n s : ℕ) (x : ℤ) → pos 0 ≡ x +ℤ (pos (360360 / n) *ℤ weight s) → unsigned_abs x * n ≤ 2 ^ 32
+share_size n s x e = go (weight_of s)
   where
-    go : Weight s → unsigned_abs x * n ≤ 2 ^ 32
+    go : Weight (weight s) → unsigned_abs x * n ≤ 2 ^ 32
     go k = turned_size (360360 / n) k.w n x (pos (360360 / n) *ℤ weight s) (ap (λ z. pos (360360 / n) *ℤ z) k.is) e (div-mul-le_self 360360 n) k.small
 
 factor_within : (a n : ℕ) → 1 ≤ n → a * n ≤ 2 ^ 32 → a ≤ 2 ^ 32
@@ -28,5 +38,20 @@ factor_within zero n h g = omega arith
 factor_within (suc a) zero h g = absurd (omega arith)
 factor_within (suc a) (suc n) h g = grind arith
 
-pub share_within : (n s : ℕ) (x : ℤ) → s < 4 → 1 ≤ n → pos 0 ≡ x +ℤ (pos (360360 / n) *ℤ weight s) → unsigned_abs x ≤ 2 ^ 32
-share_within n s x h g e = factor_within (unsigned_abs x) n g (share_size n s x h e)
+pub share_within : (n s : ℕ) (x : ℤ) → 1 ≤ n → pos 0 ≡ x +ℤ (pos (360360 / n) *ℤ weight s) → unsigned_abs x ≤ 2 ^ 32
+share_within n s x g e = factor_within (unsigned_abs x) n g (share_size n s x e)
+
+-- over at most all rows it is no more than over one
+pub share_small : (n s : ℕ) → 1 ≤ n → unsigned_abs (share n s) ≤ 2 ^ 32
+share_small n s h = go (weight_of s)
+  where
+    product : (q w : ℕ) → q ≤ 360360 → w ≤ 10000 → q * w ≤ 2 ^ 32
+    product q w h g = grind arith
+
+    one : (q n : ℕ) → 1 ≤ n → q * n ≤ 360360 → q ≤ 360360
+    one zero n h g = omega arith
+    one (suc q) zero h g = absurd (omega arith)
+    one (suc q) (suc n) h g = grind arith
+
+    go : Weight (weight s) → unsigned_abs (share n s) ≤ 2 ^ 32
+    go k = subst (λ (x : ℤ). unsigned_abs (pos (360360 / n) *ℤ x) ≤ 2 ^ 32) (sym k.is) (product (360360 / n) k.w (one (360360 / n) n h (div-mul-le_self 360360 n)) k.small)

@@ -1,4 +1,5 @@
 pub mod Places
+pub mod Columns
 pub mod Pairs
 pub mod RadiusSums
 pub mod Matrices

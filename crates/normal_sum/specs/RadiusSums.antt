@@ -21,4 +21,10 @@ pub record IsAtMost (m : ℕ) (s : RadiusSums) : Type 0 where
 
 -- the weighted squares of the radii of one row
 abbrev pub squares_of : ℤ → Row → Radii
-squares_of w r = record { r1 = w *ℤ (number_at r.ru 0 *ℤ number_at r.ru 0); r2 = w *ℤ (number_at r.ru 1 *ℤ number_at r.ru 1); r3 = w *ℤ (number_at r.ru 2 *ℤ number_at r.ru 2); ry = w *ℤ (r.ry *ℤ r.ry) }
+squares_of w r = record {
+  r1 = w *ℤ (number_at r.ru 0 *ℤ number_at r.ru 0);
+  r2 = w *ℤ (number_at r.ru 1 *ℤ number_at r.ru 1);
+  r3 = w *ℤ (number_at r.ru 2 *ℤ number_at r.ru 2);
+  ry =
+      w *ℤ (r.ry *ℤ r.ry);
+}

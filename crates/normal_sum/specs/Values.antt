@@ -8,7 +8,7 @@ use Rattle.quadratic_form.specs.RationalData.{Baseline}
 use Rattle.quadratic_form.specs.Places.{form_from}
 use Rattle.obs_rows.specs.declared.arcs.Arc.{Arc}
 use Rattle.obs_rows.specs.declared.pair_rows.PairRows.{PairRows}
-use Rattle.obs_rows.specs.Tables.{entry}
+use Rattle.form_tables.specs.Tables.{entry}
 use Rattle.obs_rows.specs.Integers.{integer_count}
 use Rattle.obs_rows.specs.Data.{Observed, AreData, centres}
 use Rattle.obs_rows.specs.SumOfSquares.{sum_of_squares}
@@ -34,11 +34,11 @@ abbrev pub value_over : (e : ℕ) → 0 < e → List Column → List ℤ → Who
 value_over e h a z c = record { num = quad a (columns_at (pos e) z c); den = e * e; positive = mul-pos h h }
 
 -- for every integer vector and every rational baseline c / e, C's value is the sum of squares at the centres of the boxes
-pub record IsSumAtCentres (arcs : List Arc) (scale : ℕ) (pairs : List PairRows) (n : Normal) : Type 0 where
-  pub value : (z : List ℤ) → length z ≡ integer_count arcs scale → (e : ℕ) (h : 0 < e) (c : WholeBaseline) →
-      value_over e h (form_of n) z c ≈ sum_of_squares arcs scale pairs z (baseline_over e h c) (centres pairs)
+pub record IsSumAtCentres (arcs : List Arc) (ss : List ℕ) (pairs : List PairRows) (n : Normal) : Type 0 where
+  pub value : (z : List ℤ) → length z ≡ integer_count arcs ss → (e : ℕ) (h : 0 < e) (c : WholeBaseline) →
+      value_over e h (form_of n) z c ≈ sum_of_squares arcs ss pairs z (baseline_over e h c) (centres pairs)
 
 -- for all data in the boxes, every integer vector and every rational baseline c / e, B's value is at most 64 times the sum of squares
-pub record StaysBelow (arcs : List Arc) (scale : ℕ) (pairs : List PairRows) (n : Normal) : Type 0 where
-  pub below : (observed : List (List Observed)) → AreData scale pairs observed → (z : List ℤ) → length z ≡ integer_count arcs scale → (e : ℕ) (h : 0 < e) (c : WholeBaseline) →
-      value_over e h (bounding_of n (length z)) z c ≤ʳ mul_r (of_whole (pos 64)) (sum_of_squares arcs scale pairs z (baseline_over e h c) observed)
+pub record StaysBelow (arcs : List Arc) (ss : List ℕ) (pairs : List PairRows) (n : Normal) : Type 0 where
+  pub below : (observed : List (List Observed)) → AreData ss pairs observed → (z : List ℤ) → length z ≡ integer_count arcs ss → (e : ℕ) (h : 0 < e) (c : WholeBaseline) →
+      value_over e h (bounding_of n (length z)) z c ≤ʳ mul_r (of_whole (pos 64)) (sum_of_squares arcs ss pairs z (baseline_over e h c) observed)

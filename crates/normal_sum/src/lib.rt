@@ -9,8 +9,10 @@
 #![tactic(auto)]
 
 mod coefficients;
+mod columns;
 mod normal;
 mod pairs;
+mod places;
 mod products;
 mod radii;
 mod signals;

@@ -1,15 +1,16 @@
 //! The normal matrix of rows.
 ghost use Rattle.std.specs.Prelude.{◌^◌, ◌≤◌, All};
-ghost use Rattle.obs_rows.specs.Tables.{IsZeroOutside};
-ghost use Rattle.obs_rows.specs.declared.units.TheConstants.{MOST_COLUMNS};
-ghost use Rattle.normal_sum.specs.Matrices.{IsSymmetric, EntriesBelow, IsRadiusSum};
+ghost use Rattle.form_tables.specs.Tables.{IsZeroOutside};
+ghost use Rattle.form_tables.specs.declared.sizes.TheConstants.{MOST_COLUMNS};
+ghost use Rattle.form_tables.specs.Matrices.{IsSymmetric, EntriesBelow};
+ghost use Rattle.normal_sum.specs.Matrices.{IsRadiusSum};
 
-use obs_rows::NormalTable;
+use form_tables::NormalTable;
 
 /// The weighted sum of squares at the centres of the rows as a matrix, and what the radii of the rows may take from it.
 ///
-/// The columns are the three of the baseline, in units of 64 · 2^scale κ, the integers, two for each free arc, and the
-/// constant.
+/// The columns are the three of the baseline, in units of 2^(11 + scale) ι, the integers, one for each free arc and
+/// each phase that counts, and the constant.
 #[derive(Clone, Copy, Debug)]
 pub struct Normal {
     /// The number of columns.

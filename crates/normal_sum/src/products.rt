@@ -1,9 +1,9 @@
-//! Weighted products of the coefficients of a row, added to a table. A place where a coefficient is 0 is left alone,
-//! so a row touches only the columns that it has.
+//! Weighted products of the coefficients of a row, added to a table in the columns that the row has.
 ghost use Rattle.std.specs.Prelude.{◌≡◌, ◌≢◌, ◌⊎◌, ℕ, ◌^◌, ◌<◌, ◌≤◌, pos, ◌+ℤ◌, ◌*ℤ◌, unsigned_abs, slice_index_or};
-ghost use Rattle.obs_rows.specs.Tables.{entry};
+ghost use Rattle.form_tables.specs.Tables.{entry};
+ghost use Rattle.normal_sum.specs.Columns.{AreColumnsOf};
 
-use obs_rows::{MOST_COLUMNS, NormalTable};
+use form_tables::{MOST_COLUMNS, NormalTable};
 
 /// weight · value
 pub(crate) fn times(weight: i64, value: i64) -> i128
@@ -35,49 +35,64 @@ fn add_to_entry(table: &mut NormalTable, row: usize, column: usize, factor: i128
     ensures there { entry table.new row column ≡ entry table.old row column +ℤ (factor *ℤ value) }
     ensures others { (i j : ℕ) → (i ≢ row) ⊎ (j ≢ column) → entry table.new i j ≡ entry table.old i j }
 {
-    if value != 0 {
-        let sum = plus_times(table.at(row, column), factor, value);
-        table.set(row, column, sum);
-    }
+    let sum = plus_times(table.at(row, column), factor, value);
+    table.set(row, column, sum);
 }
 
 /// Adds factor times the values to a row.
-fn add_to_row(table: &mut NormalTable, row: usize, factor: i128, values: &[i64; MOST_COLUMNS])
+fn add_to_row(
+    table: &mut NormalTable,
+    row: usize,
+    factor: i128,
+    values: &[i64; MOST_COLUMNS],
+    columns: &[usize],
+)
     requires row_in { row < MOST_COLUMNS }
+    requires columns { AreColumnsOf values.now columns.now }
     requires factor_size { unsigned_abs factor ≤ 2 ^ 72 }
     requires value_size { (j : ℕ) → j < MOST_COLUMNS → unsigned_abs (slice_index_or values.now j (pos 0)) ≤ 2 ^ 38 }
     requires entry_size { (j : ℕ) → j < MOST_COLUMNS → unsigned_abs (entry table.old row j) ≤ 2 ^ 120 }
     ensures added { (j : ℕ) → j < MOST_COLUMNS → entry table.new row j ≡ entry table.old row j +ℤ (factor *ℤ slice_index_or values.now j (pos 0)) }
     ensures others { (i j : ℕ) → i ≢ row → entry table.new i j ≡ entry table.old i j }
 {
-    for j in 0..MOST_COLUMNS {
-        add_to_entry(table, row, j, factor, values[j]);
+    for column in columns {
+        add_to_entry(table, row, *column, factor, values[*column]);
     }
 }
 
 /// Adds weight · `values[row]` times the values to a row.
-fn add_product_row(table: &mut NormalTable, row: usize, values: &[i64; MOST_COLUMNS], weight: i64)
+fn add_product_row(
+    table: &mut NormalTable,
+    row: usize,
+    values: &[i64; MOST_COLUMNS],
+    columns: &[usize],
+    weight: i64,
+)
     requires row_in { row < MOST_COLUMNS }
+    requires columns { AreColumnsOf values.now columns.now }
     requires weight_size { unsigned_abs weight ≤ 2 ^ 32 }
     requires value_size { (j : ℕ) → j < MOST_COLUMNS → unsigned_abs (slice_index_or values.now j (pos 0)) ≤ 2 ^ 38 }
     requires entry_size { (j : ℕ) → j < MOST_COLUMNS → unsigned_abs (entry table.old row j) ≤ 2 ^ 120 }
     ensures added { (j : ℕ) → j < MOST_COLUMNS → entry table.new row j ≡ entry table.old row j +ℤ ((weight *ℤ slice_index_or values.now row (pos 0)) *ℤ slice_index_or values.now j (pos 0)) }
     ensures others { (i j : ℕ) → i ≢ row → entry table.new i j ≡ entry table.old i j }
 {
-    let value = values[row];
-    if value != 0 {
-        add_to_row(table, row, times(weight, value), values);
-    }
+    add_to_row(table, row, times(weight, values[row]), values, columns);
 }
 
-/// Adds weight · values · valuesᵀ.
-pub(crate) fn add_product(table: &mut NormalTable, values: &[i64; MOST_COLUMNS], weight: i64)
+/// Adds weight · values · valuesᵀ, in the columns of the values.
+pub(crate) fn add_product(
+    table: &mut NormalTable,
+    values: &[i64; MOST_COLUMNS],
+    columns: &[usize],
+    weight: i64,
+)
+    requires columns { AreColumnsOf values.now columns.now }
     requires weight_size { unsigned_abs weight ≤ 2 ^ 32 }
     requires value_size { (j : ℕ) → j < MOST_COLUMNS → unsigned_abs (slice_index_or values.now j (pos 0)) ≤ 2 ^ 38 }
     requires entry_size { (i j : ℕ) → i < MOST_COLUMNS → j < MOST_COLUMNS → unsigned_abs (entry table.old i j) ≤ 2 ^ 120 }
     ensures { (i j : ℕ) → i < MOST_COLUMNS → j < MOST_COLUMNS → entry table.new i j ≡ entry table.old i j +ℤ ((weight *ℤ slice_index_or values.now i (pos 0)) *ℤ slice_index_or values.now j (pos 0)) }
 {
-    for i in 0..MOST_COLUMNS {
-        add_product_row(table, i, values, weight);
+    for row in columns {
+        add_product_row(table, *row, values, columns, weight);
     }
 }

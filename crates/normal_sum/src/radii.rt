@@ -7,6 +7,7 @@ ghost use Rattle.obs_rows.specs.Signals.{weight};
 ghost use Rattle.obs_rows.specs.SignalGroups.{signal_row};
 ghost use Rattle.normal_sum.specs.RadiusSums.{radii_of, IsAtMost, squares_of};
 
+use crate::places::MOST_ROWS;
 use crate::products::times;
 use crate::signals::row_weight;
 use obs_rows::{Row, SIGNALS};
@@ -77,11 +78,11 @@ fn add_row(sums: RadiusSums, row: &Row, weight: i64) -> RadiusSums
 
 /// The sums with the rows of a pair more, as one signal weighs them.
 pub(crate) fn add_radii_of(start: RadiusSums, rows: &[Row], signal: usize) -> RadiusSums
-    requires few_rows { length rows.now ≤ 15 }
+    requires few_rows { length rows.now ≤ MOST_ROWS }
     requires signal { signal < SIGNALS }
     requires sums { IsAtMost (2 ^ 100) start }
-    ensures value { (arcs : List Arc) (scale : ℕ) → radii_of result ≡ add_radii (radii_of start) (row_radii (weight signal) (map (signal_row arcs scale signal) rows.now)) }
-    ensures size { (m : ℕ) → IsAtMost m start → IsAtMost (m + (15 * 2 ^ 72)) result }
+    ensures value { (arcs : List Arc) (ss : List ℕ) → radii_of result ≡ add_radii (radii_of start) (row_radii (weight signal) (map (signal_row arcs ss signal) rows.now)) }
+    ensures size { (m : ℕ) → IsAtMost m start → IsAtMost (m + (MOST_ROWS * 2 ^ 72)) result }
 {
     let mut sums = start;
     for row in rows {

@@ -1,5 +1,5 @@
 -- The lines of a text that is taken in pieces.
-use Rattle.std.proofs.Common.{◌≡◌, ◌<◌, ◌≤◌, ◌+◌, ◌-◌, ◌==◌, nat_lt, ℕ, Bool, true, false, List, [], ◌∷◌, ◌++◌, length, take, drop, slice_index, Result, Ok, Err, OnOk, IfErr, refl, sym, ap, ◌∙◌, arith, append_assoc, length-append, length-take}
+use Rattle.std.proofs.Common.{◌≡◌, ◌<◌, ◌≤◌, ◌+◌, ◌-◌, ◌==◌, nat_lt, ℕ, zero, suc, Bool, true, false, List, [], ◌∷◌, ◌++◌, length, take, drop, slice_index, Result, Ok, Err, OnOk, IfErr, refl, sym, ap, subst, ◌∙◌, arith, append_assoc, length-append, length-take}
 use Rattle.std.proofs.lemmas.Bool.Decides.{nat_tests}
 use Rattle.std.proofs.lemmas.List.{append-nil}
 use Rattle.std.specs.Str.Lines.{strip_carriage_return}
@@ -14,10 +14,12 @@ use Rattle.rinex_head.specs.Walk.{admitted, walk, Gives, FailsBy}
 use Rattle.rinex_head.proofs.Walks.{gives_same}
 use Rattle.rinex_head.proofs.Stops.{refused_exit, first_exit}
 use Rattle.obs_store.specs.declared.file.ObsFile.{ObsFile}
+use Rattle.obs_fields.proofs.AmountLaws.{tail_is}
 use Rattle.obs_feed.specs.ObsRules.{Expected, obs_rules, obs_of, finish}
 use Rattle.obs_feed.specs.ObsForm.{HasObsFile}
 use Rattle.obs_feed.proofs.FormPlaces.{file_of_rules, rules_of_file, completed, ok_exit, only_exit}
-use Rattle.obs_feed.specs.Started.{EndsLine}
+use Rattle.memchr.specs.Find.{is_byte, Passes, Nowhere, NoneBefore}
+use Rattle.obs_feed.specs.Started.{EndsLine, GoesOn}
 use Rattle.obs_feed.specs.Feeding.{line_gives, gives_with, Takes, TakesAll, IsFed, IsAnswerTo}
 
 -- ---- where a line ends
@@ -28,9 +30,33 @@ goes_byte b rest line other = rw other refl
 ends_byte : (b : ℕ) (rest line : List ℕ) → (b == 10) ≡ true → lines_from (b ∷ rest) line ≡ strip_carriage_return line ∷ lines_from rest []
 ends_byte b rest line feed = rw feed refl
 
--- so many bytes belong to the line
-abbrev pub GoesSoFar : List ℕ → ℕ → Type 0
-GoesSoFar bytes i = (line more : List ℕ) → lines_from (bytes ++ more) line ≡ lines_from (drop i bytes ++ more) (line ++ take i bytes)
+unless_true : (t : Bool) → (t ≡ true → ⊥) → t ≡ false
+unless_true true never = absurd (never refl)
+unless_true false never = refl
+
+-- bytes without a line feed belong to the line
+pub goes_on : (bytes : List ℕ) → Nowhere (Passes (is_byte 10) bytes) 0 (length bytes) → GoesOn bytes
+goes_on [] none line more = ap (λ l. lines_from more l) (sym (append-nil line))
+goes_on (b ∷ bs) none line more =
+    goes_byte b (bs ++ more) line (unless_true (b == 10) (none 0 (omega arith) (omega arith)))
+    ∙ goes_on bs (λ k from inside. none (suc k) (omega arith) (omega arith)) (line ++ b ∷ []) more
+    ∙ ap (λ l. lines_from more l) (append_assoc line (b ∷ []) bs)
+
+-- the first line feed ends it
+pub ends_at : (bytes : List ℕ) (k : ℕ) → k < length bytes → Nowhere (Passes (is_byte 10) bytes) 0 k → Passes (is_byte 10) bytes k → EndsLine bytes (take k bytes) (drop (suc k) bytes)
+ends_at [] k inside none is line more = absurd (omega arith)
+ends_at (b ∷ bs) zero inside none is line more = ends_byte b (bs ++ more) line is ∙ ap (λ l. strip_carriage_return l ∷ lines_from (bs ++ more) []) (sym (append-nil line))
+ends_at (b ∷ bs) (suc k) inside none is line more =
+    goes_byte b (bs ++ more) line (unless_true (b == 10) (none 0 (omega arith) (omega arith)))
+    ∙ ends_at bs k (omega arith) (λ j from lt. none (suc j) (omega arith) (omega arith)) is (line ++ b ∷ []) more
+    ∙ ap (λ l. strip_carriage_return l ∷ lines_from (drop (suc k) bs ++ more) []) (append_assoc line (b ∷ []) (take k bs))
+
+pub ends_slices : (bytes : List ℕ) (k : ℕ) → NoneBefore (Passes (is_byte 10) bytes) 0 (length bytes) k × Passes (is_byte 10) bytes k
+    → EndsLine bytes (take k bytes) (take (length bytes - (k + 1)) (drop (k + 1) bytes))
+ends_slices bytes k found =
+    let next : suc k ≡ k + 1 = omega arith in
+    let behind : drop (suc k) bytes ≡ take (length bytes - (k + 1)) (drop (k + 1) bytes) = ap (λ j. drop j bytes) next ∙ sym (tail_is (k + 1) bytes) in
+    subst (λ l. EndsLine bytes (take k bytes) l) behind (ends_at bytes k found.0.high found.0.before found.1)
 
 module _ (system : System) where
   -- ---- lines that are too long

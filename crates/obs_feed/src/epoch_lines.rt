@@ -4,6 +4,7 @@ ghost use Rattle.obs_store.specs.Epochs.{last_tag_of};
 ghost use Rattle.obs_feed.specs.EpochTag.{IfEpoch, IsNoEpoch};
 ghost use Rattle.obs_feed.specs.EpochLines.{tag_in, event_in, epoch_in, by_flag, epoch_line_of};
 
+use crate::header::flaw;
 use gps_time::Tick;
 use obs_fields::{Layout, comes_later, count, moment};
 use obs_store::Epochs;
@@ -49,17 +50,11 @@ fn epoch(line: &[u8], power: bool, epochs: &Epochs) -> Result<EpochLine, Flaw>
     ensures later { IfOk result (λ l. IfEpoch l (λ tag. IfSome (last_tag_of epochs.now) (λ last. last.0 < tag.0))) }
 {
     if epochs.len() >= Epochs::MOST {
-        return Err(Flaw {
-            column: 1,
-            what: What::TooMany,
-        });
+        return Err(flaw(1, What::TooMany));
     }
     let tag = tag(line)?;
     if !comes_later(epochs.last_tag(), tag) {
-        return Err(Flaw {
-            column: 3,
-            what: What::Order,
-        });
+        return Err(flaw(3, What::Order));
     }
     let count = count(Layout::Rinex3, line)?;
     Ok(EpochLine::Epoch { tag, power, count })
@@ -73,16 +68,10 @@ fn flagged(line: &[u8], flag: u8, epochs: &Epochs) -> Result<EpochLine, Flaw>
     match flag {
         b'0' => epoch(line, false, epochs),
         b'1' => epoch(line, true, epochs),
-        b'2' | b'3' => Err(Flaw {
-            column: 32,
-            what: What::Moving,
-        }),
+        b'2' | b'3' => Err(flaw(32, What::Moving)),
         b'4' => event(line, true),
         b'5' | b'6' => event(line, false),
-        _ => Err(Flaw {
-            column: 32,
-            what: What::Flag,
-        }),
+        _ => Err(flaw(32, What::Flag)),
     }
 }
 

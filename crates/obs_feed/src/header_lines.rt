@@ -2,6 +2,7 @@
 ghost use Rattle.std.specs.Prelude.{◌≡◌};
 ghost use Rattle.obs_feed.specs.HeaderLines.{line_of_label, header_line_of};
 
+use crate::header::flaw;
 use line_source::Line;
 use obs_fields::{Label, Layout, delta, label_of_line, position};
 use rinex_head::{Flaw, System, What, byte_in, field};
@@ -39,19 +40,13 @@ pub fn header_line(system: System, line: &Line<'_>) -> Result<HeaderLine, Flaw>
         }
         Label::Factor => {
             if byte_in(bytes, 1) == system.letter() {
-                return Err(Flaw {
-                    column: 1,
-                    what: system.scaled(),
-                });
+                return Err(flaw(1, system.scaled()));
             }
             Ok(HeaderLine::Skipped)
         }
         Label::FirstObs => {
             if !system.names_time(&field::<3>(bytes, 49)) {
-                return Err(Flaw {
-                    column: 49,
-                    what: What::TimeSystem,
-                });
+                return Err(flaw(49, What::TimeSystem));
             }
             Ok(HeaderLine::Skipped)
         }

@@ -8,7 +8,7 @@ ghost use Rattle.obs_feed.specs.Parts.{FitsBehind, FitsBehind-prop};
 ghost use Rattle.obs_feed.specs.ObsRules.{Body, Sats, Skip, more_sats, more_lines, with_satellite, admit, finish};
 
 use crate::epoch_lines::{EpochLine, epoch_line};
-use crate::header::Header;
+use crate::header::{Header, flaw};
 use crate::sat_lines::satellite_line;
 use gps_time::Tick;
 use line_source::Line;
@@ -41,10 +41,7 @@ impl OpenEpoch {
     {
         self.left -= 1;
         match found {
-            Some(sat) => match self.sats.push(sat) {
-                Ok(()) => Ok(()),
-                Err(_) => Err(AllocError),
-            },
+            Some(sat) => self.sats.push(sat),
             None => Ok(()),
         }
     }
@@ -100,6 +97,7 @@ impl OpenBody {
     }
 
     // A blank line, or the first line of an epoch or of an event.
+    #[inline(never)]
     fn begin_part(&mut self, alloc: Global, line: &Line<'_>) -> Result<(), TextFault>
         requires { self.old.part ≡ Part.Between }
         ensures { Takes (admit (Body self.old.header self.old.epochs) line.now.bytes.now) line.now.number (expected_in_body self.new) result }
@@ -126,6 +124,7 @@ impl OpenBody {
         }
     }
 
+    #[inline(never)]
     fn take_satellite(&mut self, line: &Line<'_>, mut epoch: OpenEpoch) -> Result<(), TextFault>
         requires between { self.old.part ≡ Part.Between }
         requires due { 0 < epoch.left }
@@ -183,10 +182,7 @@ impl OpenBody {
             power: epoch.power,
             sats: epoch.sats,
         };
-        match self.epochs.push(whole) {
-            Ok(()) => Ok(()),
-            Err(_) => Err(AllocError),
-        }
+        self.epochs.push(whole)
     }
 
     // Where no line of it is due, the event is read.
@@ -205,10 +201,7 @@ impl OpenBody {
         ensures { result ≡ finish (expected_in_body self) }
     {
         if !matches!(self.part, Part::Between) {
-            return Err(Flaw {
-                column: 1,
-                what: What::Truncated,
-            });
+            return Err(flaw(1, What::Truncated));
         }
         Ok(ObsFile {
             hundredths: self.header.hundredths,

@@ -29,6 +29,17 @@ impl OpenFile {
         ensures { Takes (admit (expected_in self.old) line.now.bytes.now) line.now.number (expected_in self.new) result }
     {
         match self {
+            OpenFile::Body(body) => body.take_line(alloc, line),
+            _ => self.take_any_line(alloc, line),
+        }
+    }
+
+    // The same. It stands apart, since its large locals are cleared at each call.
+    #[inline(never)]
+    fn take_any_line(&mut self, alloc: Global, line: &Line<'_>) -> Result<(), TextFault>
+        ensures { Takes (admit (expected_in self.old) line.now.bytes.now) line.now.number (expected_in self.new) result }
+    {
+        match self {
             OpenFile::First(system) => match first_line(*system, line) {
                 Ok(hundredths) => {
                     *self = OpenFile::Header(OpenHeader::new(*system, hundredths));

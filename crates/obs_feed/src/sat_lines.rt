@@ -3,8 +3,9 @@ ghost use Rattle.std.specs.Prelude.{◌≡◌, ◌≤◌, IfOk, IfSome, false};
 ghost use Rattle.obs_store.specs.Satellites.{has_satellite};
 ghost use Rattle.obs_feed.specs.SatLines.{satellite_line_of};
 
+use crate::header::flaw;
 use obs_fields::{KeptType, Layout, satellite, set_values};
-use obs_store::{SLOTS, SatObs, Satellites};
+use obs_store::{SatObs, Satellites};
 use rinex_head::{Flaw, System, What};
 
 /// The satellite of the system in a line behind these ones of its epoch, or nothing at one of another system.
@@ -24,11 +25,9 @@ pub fn satellite_line(
         return Ok(None);
     };
     if sats.has(number) {
-        return Err(Flaw {
-            column: 1,
-            what: What::Twice,
-        });
+        return Err(flaw(1, What::Twice));
     }
-    let values = set_values(Layout::Rinex3, 0, line, kept, [None; SLOTS])?;
-    Ok(Some(SatObs { number, values }))
+    let mut sat = SatObs::missing(number);
+    set_values(Layout::Rinex3, 0, line, kept, &mut sat.values)?;
+    Ok(Some(sat))
 }

@@ -4,6 +4,7 @@ ghost use Rattle.line_source.specs.Lines.{lines_from};
 ghost use Rattle.obs_feed.specs.Started.{EndsLine, GoesOn};
 
 use arrayvec::ArrayVec;
+use memchr::memchr;
 use std::marker::Model;
 
 // one more than a line may have, since the last one may be a CR before its end
@@ -65,15 +66,14 @@ impl StartedLine {
 }
 
 /// The bytes before the first line feed and those behind it, if there is one.
+#[tactic(auto, using(crate::proofs::Feeds::ends_slices, crate::proofs::Feeds::goes_on))]
 pub fn split_line(bytes: &[u8]) -> Option<(&[u8], &[u8])>
     ensures ends { IfSome result (λ parts. EndsLine bytes.now parts.0.now parts.1.now) }
     ensures long { IfSome result (λ parts. length parts.0.now + length parts.1.now + 1 ≡ length bytes.now) }
     ensures none { IfNone result (GoesOn bytes.now) }
 {
-    for (i, b) in bytes.iter().enumerate() {
-        if *b == b'\n' {
-            return Some((&bytes[..i], &bytes[i + 1..]));
-        }
+    match memchr(b'\n', bytes) {
+        Some(at) => Some((&bytes[..at], &bytes[at + 1..])),
+        None => None,
     }
-    None
 }

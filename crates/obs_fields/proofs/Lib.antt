@@ -1,2 +1,3 @@
 pub mod TypeLists
 pub mod Moments
+pub mod AmountLaws

@@ -3,4 +3,5 @@ pub mod Labels
 pub mod Offsets
 pub mod Types
 pub mod EpochFields
+pub mod Amounts
 pub mod SatFields

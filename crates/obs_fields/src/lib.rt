@@ -2,6 +2,7 @@
 //! lists of types, and the fields of epochs and satellites. What the formats place differently is in [`Layout`].
 #![tactic(auto)]
 
+mod amounts;
 mod epoch_fields;
 mod labels;
 mod layout;

@@ -1,9 +1,11 @@
 // Fields of the lines of satellites: names, values and their loss-of-lock digits.
-ghost use Rattle.std.specs.Prelude.{◌≡◌, ◌+◌, ◌≤◌, IfOk, IfSome, true};
-ghost use Rattle.obs_store.specs.Missing.{missing_values};
+ghost use Rattle.std.specs.Prelude.{◌≡◌, ◌+◌, ◌≤◌, IfOk, IfSome, IfErr, OnOk, Ok, Err, true};
+ghost use Rattle.decimal_text.specs.Fixed.{fixed_of};
+ghost use Rattle.rinex_head.specs.Columns.{columns};
 ghost use Rattle.rinex_head.specs.Systems.{letter_of, last_number_of};
 ghost use Rattle.obs_fields.specs.SatFields.{is_letter, digit_of, number_at, letter_at, satellite_at, has_no_digit_above_0, amount_in, lock_of, value_in, values_in};
 
+use crate::amounts::usual_amount;
 use crate::{KeptType, Layout};
 use decimal_text::NumberFault;
 use obs_store::{SLOTS, Value};
@@ -92,12 +94,27 @@ fn is_all_zero(text: &[u8]) -> bool
     text.iter().all(|b| !(*b >= b'1' && *b <= b'9'))
 }
 
+// The amount in these columns, where the line has them all and it is spelled in the usual way.
+fn usual_amount_at(line: &[u8], first: usize) -> Option<i64>
+    requires from_one { 1 ≤ first }
+    requires near { first ≤ 4900 }
+    ensures { IfSome result (λ z. fixed_of (columns line.now first 14) 3 ≡ Ok z) }
+{
+    if line.len() < first + 13 {
+        return None;
+    }
+    usual_amount(&line[first - 1..first + 13])
+}
+
 #[tactic(auto, unfolding(crate::specs::SatFields::amount_in))]
 fn amount(line: &[u8], first: u32) -> Result<Option<i64>, Flaw>
     requires from_one { 1 ≤ first }
     requires near { first ≤ 4900 }
     ensures { result ≡ amount_in line.now first }
 {
+    if let Some(amount) = usual_amount_at(line, first as usize) {
+        return Ok(if amount == 0 { None } else { Some(amount) });
+    }
     let text = field::<14>(line, first as usize);
     match fixed(&text, 3) {
         Ok(0) => Ok(None),
@@ -135,23 +152,23 @@ pub fn value(line: &[u8], first: u32) -> Result<Option<Value>, Flaw>
     }
 }
 
-/// Sets the values of the kept types that line number `at` of a satellite has, from 0.
+/// Sets the values of the kept types that line number `at` of a satellite has, from 0. After an `Err` some of them may be set.
 #[tactic(auto, unfolding(crate::specs::SatFields::values_in))]
 pub fn set_values(
     layout: Layout,
     at: u8,
     line: &[u8],
     kept: &[KeptType],
-    before: [Option<Value>; SLOTS],
-) -> Result<[Option<Value>; SLOTS], Flaw>
-    ensures { result ≡ values_in layout at kept.now line.now before }
+    values: &mut [Option<Value>; SLOTS],
+) -> Result<(), Flaw>
+    ensures ok { OnOk result (values_in layout at kept.now line.now values.old ≡ Ok values.new) }
+    ensures err { IfErr result (λ flaw. values_in layout at kept.now line.now values.old ≡ Err flaw) }
 {
-    let mut values = before;
     for one in kept {
         match layout.value_column(at, one.number) {
             Some(column) => values[one.kind.slot()] = value(line, column)?,
             None => {}
         }
     }
-    Ok(values)
+    Ok(())
 }

@@ -1,8 +1,10 @@
 -- The places of the integers, and what the coefficients there give.
-use Rattle.std.proofs.Common.{◌≡◌, ℕ, zero, suc, ◌+◌, ◌*◌, ◌<◌, ◌≤◌, Bool, true, false, cond, Option, Some, None, List, [], ◌∷◌, length, take, set, count_by, ℤ, pos, ◌+ℤ◌, ◌*ℤ◌, arith, ◌∙◌, ap, refl, length-set, get_or}
-use Rattle.std.specs.Prelude.{slice_get, position, ◌==◌, filter}
+use Rattle.std.proofs.Common.{◌≡◌, ℕ, zero, suc, ◌+◌, ◌*◌, ◌<◌, ◌≤◌, Bool, true, false, cond, Option, Some, None, List, [], ◌∷◌, length, take, set, count_by, ℤ, pos, ◌+ℤ◌, ◌*ℤ◌, arith}
+use Rattle.std.proofs.Common.{◌∙◌, ap, refl, length-set, get_or, lit≤, lit<, not, sym, ap₂}
+use Rattle.std.specs.Prelude.{slice_get, position, ◌==◌}
 use Rattle.std.specs.Option.{option_map}
-use Rattle.std.proofs.lemmas.Option.{slice_get_within, get_or_from_slice_get, none-some, same_Some}
+use Rattle.std.proofs.lemmas.List.Elements.{All-from_recursion}
+use Rattle.std.proofs.lemmas.Option.{slice_get-get_or, slice_get_within, get_or_from_slice_get, none-some, same_Some}
 use Rattle.std.proofs.lemmas.List.Quantifiers.{position-Some}
 use Rattle.std.proofs.lemmas.List.Sums.{count_by_more_yes, sum_by-take-le, count_by-le-length}
 use Rattle.std.proofs.lemmas.Bool.{false≢true}
@@ -13,12 +15,16 @@ use Rattle.whole_math.proofs.Ring.{◌⊕◌, ◌⊗◌}
 use Rattle.whole_math.proofs.Inequalities.{same_by, nat}
 use Rattle.obs_rows.specs.declared.arcs.Arc.{Arc}
 use Rattle.obs_rows.specs.Arcs.{is_free, free_count, free_before}
-use Rattle.obs_rows.specs.declared.units.TheConstants.{PHASES, FINE_SIGNALS, COARSE_SIGNALS}
-use Rattle.obs_rows.specs.Signals.{phases, is_phase}
+use Rattle.obs_rows.specs.declared.units.TheConstants.{SIGNALS, SIGNALS_12, SIGNALS_15, SIGNALS_125, COARSE_SIGNALS}
+use Rattle.obs_rows.specs.declared.bands.Signals.{Signals}
+use Rattle.obs_rows.specs.Signals.{phases, fine_signals, counted, AreCounted}
 use Rattle.obs_rows.specs.Integers.{integer_count, integer_place, is_some_free, entry_at}
 use Rattle.obs_rows.specs.SignalGroups.{only_at}
 
 -- ---- the places
+pub free_before_le : (arcs : List Arc) (k : ℕ) → free_count (take k arcs) ≤ free_count arcs
+free_before_le arcs k = sum_by-take-le (λ (x : Arc). cond (is_free x) 1 0) arcs k
+
 pub free_before_below : (arcs : List Arc) (k : ℕ) (a : Arc) → slice_get arcs k ≡ Some a → is_free a ≡ true → free_before arcs k + 1 ≤ free_count arcs
 free_before_below arcs k a e f =
     let inside : k < length arcs = slice_get_within arcs k a e in
@@ -40,18 +46,29 @@ some_free (Some a) e = (a, refl, e)
 some_free None e = absurd (false≢true e)
 
 -- each place is one of the vector's
-pub place_below : (arcs : List Arc) (scale k s i : ℕ) → integer_place arcs scale k s ≡ Some i → i < integer_count arcs scale
-place_below arcs scale k s i e =
-    let q = from_cond (is_some_free (slice_get arcs k)) (option_map (λ (j : ℕ). (length (phases scale) * free_before arcs k) + j) (position (λ (t : ℕ). t == s) (phases scale))) i e in
+pub place_below : (arcs : List Arc) (ss : List ℕ) (k s i : ℕ) → integer_place arcs ss k s ≡ Some i → i < integer_count arcs ss
+place_below arcs ss k s i e =
+    let q = from_cond (is_some_free (slice_get arcs k)) (option_map (λ (j : ℕ). (length (phases ss) * free_before arcs k) + j) (position (λ (t : ℕ). t == s) (phases ss))) i e in
     let a = some_free (slice_get arcs k) q.0 in
-    let j = from_map (λ (j : ℕ). (length (phases scale) * free_before arcs k) + j) (position (λ (t : ℕ). t == s) (phases scale)) i q.1 in
-    let inside : j.0 < length (phases scale) = (position-Some (λ (t : ℕ). t == s) (phases scale) j.0 0 j.1).0 in
+    let j = from_map (λ (j : ℕ). (length (phases ss) * free_before arcs k) + j) (position (λ (t : ℕ). t == s) (phases ss)) i q.1 in
+    let inside : j.0 < length (phases ss) = (position-Some (λ (t : ℕ). t == s) (phases ss) j.0 0 j.1).0 in
     let free : free_before arcs k + 1 ≤ free_count arcs = free_before_below arcs k a.0 a.1 a.2 in
-    let all : (length (phases scale) * (free_before arcs k + 1)) ≤ (length (phases scale) * free_count arcs) = mul-le-mul_left (length (phases scale)) free in
-    below (length (phases scale)) (free_before arcs k) (free_count arcs) j.0 i inside all j.2
+    let all : (length (phases ss) * (free_before arcs k + 1)) ≤ (length (phases ss) * free_count arcs) = mul-le-mul_left (length (phases ss)) free in
+    below (length (phases ss)) (free_before arcs k) (free_count arcs) j.0 i inside all j.2
   where
     below : (m f n j i : ℕ) → j < m → (m * (f + 1)) ≤ (m * n) → (m * f) + j ≡ i → i < m * n
     below m f n j i h g e = omega arith
+
+pub place_within : (arcs : List Arc) (ss : List ℕ) (k s j m f : ℕ) (d : Arc) → k < length arcs → (get_or arcs k d).datum ≡ false → position (λ t. t == s) (phases ss) ≡ Some j →
+    m ≡ length (phases ss) → f ≡ free_before arcs k → (m * f) + j < integer_count arcs ss
+place_within arcs ss k s j m f d inside free at em ef =
+    let there : slice_get arcs k ≡ Some (get_or arcs k d) = slice_get-get_or arcs k d inside in
+    let e : integer_place arcs ss k s ≡ Some ((m * f) + j) =
+    ap (λ (o : Option Arc). cond (is_some_free o) (option_map (λ i. (length (phases ss) * free_before arcs k) + i) (position (λ t. t == s) (phases ss))) None) there
+    ∙ ap (λ (b : Bool). cond (not b) (option_map (λ i. (length (phases ss) * free_before arcs k) + i) (position (λ t. t == s) (phases ss))) None) free
+    ∙ ap (λ (o : Option ℕ). option_map (λ i. (length (phases ss) * free_before arcs k) + i) o) at
+    ∙ ap₂ (λ (x y : ℕ). Some ((x * y) + j)) (sym em) (sym ef) in
+    place_below arcs ss k s ((m * f) + j) e
 
 -- ---- coefficients that are 0 but at one place
 pub length_zeros : (n : ℕ) → length (zeros n) ≡ n
@@ -77,12 +94,28 @@ dot_only_at n (Some i) c z h = dot_set n i c z (h i refl)
 dot_only_at n None c z h = dot_zeros n z ∙ times_zero c
 
 -- ---- sizes
-pub phases_few : (scale : ℕ) → length (phases scale) ≤ PHASES
-phases_few scale = few (scale == 0)
+three_lists : (P : List ℕ → Type 0) → P SIGNALS_12 → P SIGNALS_15 → P SIGNALS_125 → P COARSE_SIGNALS → (signals : Signals) (scale : ℕ) → P (counted signals scale)
+three_lists P a b d c signals scale = by_scale (scale == 0)
   where
-    few : (fine : Bool) → length (filter is_phase (cond fine FINE_SIGNALS COARSE_SIGNALS)) ≤ PHASES
-    few true = omega arith
-    few false = omega arith
+    by_l2 : (unused : Bool) → P (cond unused SIGNALS_15 SIGNALS_125)
+    by_l2 true = b
+    by_l2 false = d
+
+    by_l5 : (unused : Bool) → P (cond unused SIGNALS_12 (cond (signals.l2 == 0) SIGNALS_15 SIGNALS_125))
+    by_l5 true = a
+    by_l5 false = by_l2 (signals.l2 == 0)
+
+    by_scale : (fine : Bool) → P (cond fine (fine_signals signals) COARSE_SIGNALS)
+    by_scale true = by_l5 (signals.l5 == 0)
+    by_scale false = c
+
+-- what counts are some of the six signals, at most three of them phases
+pub counted_are : (signals : Signals) (scale : ℕ) → AreCounted (counted signals scale)
+counted_are = three_lists AreCounted
+    (record { few = lit≤ tt; small = All-from_recursion (λ s. s < SIGNALS) SIGNALS_12 (lit< tt, (lit< tt, (lit< tt, (lit< tt, tt)))); phases_few = lit≤ tt })
+    (record { few = lit≤ tt; small = All-from_recursion (λ s. s < SIGNALS) SIGNALS_15 (lit< tt, (lit< tt, (lit< tt, (lit< tt, tt)))); phases_few = lit≤ tt })
+    (record { few = lit≤ tt; small = All-from_recursion (λ s. s < SIGNALS) SIGNALS_125 (lit< tt, (lit< tt, (lit< tt, (lit< tt, (lit< tt, (lit< tt, tt)))))); phases_few = lit≤ tt })
+    (record { few = lit≤ tt; small = All-from_recursion (λ s. s < SIGNALS) COARSE_SIGNALS (lit< tt, tt); phases_few = lit≤ tt })
 
 pub free_le_length : (arcs : List Arc) → free_count arcs ≤ length arcs
 free_le_length arcs = count_by-le-length is_free arcs

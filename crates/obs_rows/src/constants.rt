@@ -1,24 +1,35 @@
 //! What the constants are. Definitions cite them by their names, so a slip in one would change a body and its meaning
 //! together, and no other contract would see it.
-ghost use Rattle.std.specs.Prelude.{◌≡◌, [], ◌∷◌, pos, ◌*ℤ◌, codes};
+ghost use Rattle.std.specs.Prelude.{◌≡◌, [], ◌∷◌, pos, ◌*◌, ◌*ℤ◌, codes};
+ghost use Rattle.form_tables.specs.declared.sizes.TheConstants.{MOST_INTEGERS};
 ghost use Rattle.obs_rows.specs.Signals.{wavelength};
-ghost use Rattle.obs_rows.specs.declared.bands.TheConstants.{L1_LETTERS, L2_LETTERS};
-ghost use Rattle.obs_rows.specs.declared.units.TheConstants.{SIGNALS, PHASES, WAVELENGTHS, WEIGHTS, FINE_SIGNALS, COARSE_SIGNALS, COARSE_SCALE, UNIT_FREQUENCY, LIGHT_SPEED, ROW_EXPONENT, DIRECTION_EXPONENT, MOVE_EXPONENT, BASELINE_COLUMNS, MOST_FREE_ARCS, MOST_INTEGERS, MOST_FORM_COLUMNS, MOST_FACTORS, MOST_COLUMNS};
+ghost use Rattle.obs_rows.specs.declared.bands.TheConstants.{L1_LETTERS, L2_LETTERS, L5_LETTERS};
+ghost use Rattle.obs_rows.specs.declared.units.TheConstants.{SIGNALS, PHASES, BANDS, WAVELENGTHS, WEIGHTS};
+ghost use Rattle.obs_rows.specs.declared.units.TheConstants.{SIGNALS_12, SIGNALS_15, SIGNALS_125, BANDS_12, BANDS_15, BANDS_125, COARSE_SIGNALS, COARSE_SCALE};
+ghost use Rattle.obs_rows.specs.declared.units.TheConstants.{UNIT_FREQUENCY, LIGHT_SPEED, ROW_EXPONENT, DIRECTION_EXPONENT, MOVE_EXPONENT, MOST_FREE_ARCS};
 
-/// The unit κ, and the signals by their numbers: phase on L1, phase on L2, code on L1, code on L2.
+/// The unit ι, and the signals by their numbers: phase on L1, phase on L2, code on L1, code on L2, phase on L5, code on L5.
 pub fn signals_law()
-    // the carriers are 154 and 120 times 10.23 MHz (IS-GPS-200, 3.3.1.1), so 60 κ and 77 κ are their wavelengths
+    // the carriers are 154, 120 and 115 times 10.23 MHz (IS-GPS-200, 3.3.1.1, and IS-GPS-705, 3.3.1.1), so 1380 ι, 1771 ι
+    // and 1848 ι are their wavelengths
     ensures l1 { (wavelength 0 *ℤ pos 154) *ℤ pos 10_230_000 ≡ UNIT_FREQUENCY }
     ensures l2 { (wavelength 1 *ℤ pos 120) *ℤ pos 10_230_000 ≡ UNIT_FREQUENCY }
-    ensures unit { UNIT_FREQUENCY ≡ pos 94_525_200_000 }
+    ensures l5 { (wavelength 4 *ℤ pos 115) *ℤ pos 10_230_000 ≡ UNIT_FREQUENCY }
+    ensures unit { UNIT_FREQUENCY ≡ pos 2_174_079_600_000 }
     // in m/s (IS-GPS-200, 20.3.4.3)
     ensures light_speed { LIGHT_SPEED ≡ pos 299_792_458 }
-    ensures signals { SIGNALS ≡ 4 }
-    ensures phases { PHASES ≡ 2 }
-    ensures wavelengths { WAVELENGTHS ≡ pos 60 ∷ pos 77 ∷ pos 0 ∷ pos 0 ∷ [] }
-    // this project's choice, as are the two that follow
-    ensures weights { WEIGHTS ≡ pos 10_000 ∷ pos 10_000 ∷ pos 1 ∷ pos 1 ∷ [] }
-    ensures fine { FINE_SIGNALS ≡ 0 ∷ 1 ∷ 2 ∷ 3 ∷ [] }
+    ensures signals { SIGNALS ≡ 6 }
+    ensures phases { PHASES ≡ 3 }
+    ensures bands { BANDS ≡ 0 ∷ 1 ∷ 0 ∷ 1 ∷ 2 ∷ 2 ∷ [] }
+    ensures wavelengths { WAVELENGTHS ≡ pos 1380 ∷ pos 1771 ∷ pos 0 ∷ pos 0 ∷ pos 1848 ∷ pos 0 ∷ [] }
+    // this project's choice, as is all that follows
+    ensures weights { WEIGHTS ≡ pos 10_000 ∷ pos 10_000 ∷ pos 1 ∷ pos 1 ∷ pos 10_000 ∷ pos 1 ∷ [] }
+    ensures of_l1_l2 { SIGNALS_12 ≡ 0 ∷ 1 ∷ 2 ∷ 3 ∷ [] }
+    ensures of_l1_l5 { SIGNALS_15 ≡ 0 ∷ 2 ∷ 4 ∷ 5 ∷ [] }
+    ensures of_all { SIGNALS_125 ≡ 0 ∷ 1 ∷ 2 ∷ 3 ∷ 4 ∷ 5 ∷ [] }
+    ensures bands_of_l1_l2 { BANDS_12 ≡ 0 ∷ 1 ∷ [] }
+    ensures bands_of_l1_l5 { BANDS_15 ≡ 0 ∷ 2 ∷ [] }
+    ensures bands_of_all { BANDS_125 ≡ 0 ∷ 1 ∷ 2 ∷ [] }
     ensures coarse { COARSE_SIGNALS ≡ 2 ∷ [] }
 {}
 
@@ -27,18 +38,16 @@ pub fn signals_law()
 pub fn letters_law()
     ensures l1 { L1_LETTERS ≡ codes "CWXSL" }
     ensures l2 { L2_LETTERS ≡ codes "WXLSC" }
+    ensures l5 { L5_LETTERS ≡ codes "QXI" }
 {}
 
-/// The units and sizes of this project's rows and forms.
+/// The units of this project's rows, and that its forms have room for the integers of all free arcs.
 pub fn sizes_law()
     ensures coarse_scale { COARSE_SCALE ≡ 14 }
-    ensures rows { ROW_EXPONENT ≡ 18 }
+    ensures rows { ROW_EXPONENT ≡ 13 }
     ensures directions { DIRECTION_EXPONENT ≡ 24 }
-    ensures moves { MOVE_EXPONENT ≡ 10 }
-    ensures baseline { BASELINE_COLUMNS ≡ 3 }
+    ensures moves { MOVE_EXPONENT ≡ 5 }
     ensures free_arcs { MOST_FREE_ARCS ≡ 20 }
-    ensures integers { MOST_INTEGERS ≡ 40 }
-    ensures form_columns { MOST_FORM_COLUMNS ≡ 41 }
-    ensures factors { MOST_FACTORS ≡ 43 }
-    ensures columns { MOST_COLUMNS ≡ 44 }
+    // one for each free arc and phase
+    ensures integers { MOST_INTEGERS ≡ PHASES * MOST_FREE_ARCS }
 {}

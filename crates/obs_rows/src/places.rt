@@ -1,18 +1,37 @@
 //! Which signals count, and where the integers of an arc stand.
-ghost use Rattle.std.specs.Prelude.{◌≡◌, ◌<◌, ◌≤◌, ℕ, IsTrue, ◌↔◌, length, take, position, ◌==◌, IfSome};
+ghost use Rattle.std.specs.Prelude.{◌≡◌, ◌<◌, ◌≤◌, ℕ, All, IsTrue, ◌↔◌, length, take, position, ◌==◌, IfSome};
 ghost use Rattle.obs_rows.specs.Arcs.{IsOfPair, free_count, free_before};
 ghost use Rattle.obs_rows.specs.Pairs.{HasItsArcs};
-ghost use Rattle.obs_rows.specs.Signals.{counted, phases};
+ghost use Rattle.obs_rows.specs.declared.units.TheConstants.{SIGNALS};
+ghost use Rattle.obs_rows.specs.Signals.{fine_signals, counted, phases, AreCounted};
 ghost use Rattle.obs_rows.specs.Integers.{integer_count, integer_place};
 
-use crate::{Arc, COARSE_SIGNALS, FINE_SIGNALS, PairRows, Row, WAVELENGTHS};
+use crate::{
+    Arc, COARSE_SIGNALS, PairRows, Row, SIGNALS_12, SIGNALS_15, SIGNALS_125, Signals, WAVELENGTHS,
+};
+
+/// The signals of the bands that are used.
+pub fn fine_signals(signals: Signals) -> &'static [usize]
+    ensures value { result.now ≡ fine_signals signals }
+    ensures are { AreCounted result.now }
+{
+    if signals.l5 == 0 {
+        &SIGNALS_12
+    } else if signals.l2 == 0 {
+        &SIGNALS_15
+    } else {
+        &SIGNALS_125
+    }
+}
 
 /// The signals that count at a scale: all at scale 0, else the code on L1 alone.
-pub fn counted_signals(scale: u32) -> &'static [usize]
-    ensures { result.now ≡ counted scale }
+#[tactic(auto, using(crate::proofs::IntegerPlaces::counted_are))]
+pub fn counted_signals(signals: Signals, scale: u32) -> &'static [usize]
+    ensures value { result.now ≡ counted signals scale }
+    ensures are { AreCounted result.now }
 {
     if scale == 0 {
-        &FINE_SIGNALS
+        fine_signals(signals)
     } else {
         &COARSE_SIGNALS
     }
@@ -46,30 +65,29 @@ pub fn free_arcs(arcs: &[Arc]) -> usize
     arcs.iter().filter(|a| !a.datum).count()
 }
 
-/// The number of phases that count at a scale.
-pub fn phase_count(scale: u32) -> usize
-    ensures { result ≡ length (phases scale) }
+/// The number of phases among these signals.
+pub fn phase_count(signals: &[usize]) -> usize
+    requires { All (λ s. s < SIGNALS) signals.now }
+    ensures { result ≡ length (phases signals.now) }
 {
-    counted_signals(scale)
-        .iter()
-        .filter(|s| WAVELENGTHS[**s] > 0)
-        .count()
+    signals.iter().filter(|s| WAVELENGTHS[**s] > 0).count()
 }
 
 /// The number of integers: one for each free arc and each phase that counts.
-#[tactic(auto, using(crate::proofs::IntegerPlaces::phases_few, crate::proofs::IntegerPlaces::free_le_length))]
-pub fn integer_count(arcs: &[Arc], scale: u32) -> usize
-    requires { length arcs.now ≤ 200 }
-    ensures { result ≡ integer_count arcs.now scale }
+pub fn integer_count(arcs: &[Arc], signals: &[usize]) -> usize
+    requires few { free_count arcs.now ≤ 200 }
+    requires counted { AreCounted signals.now }
+    ensures { result ≡ integer_count arcs.now signals.now }
 {
-    phase_count(scale) * free_arcs(arcs)
+    phase_count(signals) * free_arcs(arcs)
 }
 
-// The place of a signal among the phases that count.
-fn phase_place(scale: u32, signal: usize) -> Option<usize>
-    ensures { result ≡ position (λ t. t == signal) (phases scale) }
+/// The place of a signal among the phases that count. A code has none.
+pub fn phase_place(signals: &[usize], signal: usize) -> Option<usize>
+    requires { All (λ s. s < SIGNALS) signals.now }
+    ensures { result ≡ position (λ t. t == signal) (phases signals.now) }
 {
-    counted_signals(scale)
+    signals
         .iter()
         .filter(|s| WAVELENGTHS[**s] > 0)
         .position(|s| *s == signal)
@@ -77,16 +95,17 @@ fn phase_place(scale: u32, signal: usize) -> Option<usize>
 
 /// The place of the integer of an arc and a signal among all: behind those of the free arcs before it, in the order
 /// of the phases. A datum and a code have none.
-#[tactic(auto, using(crate::proofs::IntegerPlaces::phases_few, crate::proofs::IntegerPlaces::free_le_length, crate::proofs::IntegerPlaces::place_below))]
-pub fn integer_place(arcs: &[Arc], scale: u32, arc: usize, signal: usize) -> Option<usize>
-    requires few { length arcs.now ≤ 200 }
+#[tactic(auto, using(crate::proofs::IntegerPlaces::free_before_le, crate::proofs::IntegerPlaces::place_below))]
+pub fn integer_place(arcs: &[Arc], signals: &[usize], arc: usize, signal: usize) -> Option<usize>
+    requires few { free_count arcs.now ≤ 200 }
+    requires counted { AreCounted signals.now }
     requires arc_in { arc < length arcs.now }
-    ensures place { result ≡ integer_place arcs.now scale arc signal }
-    ensures within { IfSome result (λ i. i < integer_count arcs.now scale) }
+    ensures place { result ≡ integer_place arcs.now signals.now arc signal }
+    ensures within { IfSome result (λ i. i < integer_count arcs.now signals.now) }
 {
     if arcs[arc].datum {
         return None;
     }
-    let phase = phase_place(scale, signal)?;
-    Some(phase_count(scale) * free_arcs(&arcs[..arc]) + phase)
+    let phase = phase_place(signals, signal)?;
+    Some(phase_count(signals) * free_arcs(&arcs[..arc]) + phase)
 }

@@ -1,9 +1,9 @@
 //! Tests of the ranges that rows, arcs and sessions keep.
 ghost use Rattle.std.specs.Prelude.{◌≡◌, ◌↔◌, ◌^◌, ◌≤◌, All, IsTrue, IsSome, IfSome};
-ghost use Rattle.obs_rows.specs.Ranges.{IsWithin, IsBelow, IsRadius, IsScale, IsPoint};
+ghost use Rattle.obs_rows.specs.Ranges.{IsWithin, IsBelow, IsRadius, IsSystem, IsPoint};
 ghost use Rattle.obs_rows.specs.Arcs.{IsArcInRange, AreArcs};
 
-use crate::{Arc, COARSE_SCALE, MOST_FREE_ARCS, free_arcs};
+use crate::{Arc, MOST_FREE_ARCS, free_arcs};
 
 /// Whether each number is at most so great in size.
 pub fn are_within(numbers: &[i64], most: u64) -> bool
@@ -26,11 +26,11 @@ pub fn are_radii(numbers: &[i64]) -> bool
     numbers.iter().all(|n| 0 <= *n && *n <= 1 << 20)
 }
 
-/// Whether this is the scale of a fine or a coarse session.
-pub fn is_scale(scale: u32) -> bool
-    ensures { IsTrue result ↔ IsScale scale }
+/// Whether this is the letter of a system.
+pub fn is_system(system: u8) -> bool
+    ensures { IsTrue result ↔ IsSystem system }
 {
-    scale == 0 || scale == COARSE_SCALE
+    system == b'G' || system == b'E'
 }
 
 /// Whether each coordinate, in 0.1 mm, is at most 7,000 km in size.
@@ -45,7 +45,7 @@ pub fn is_arc_in_range(arc: &Arc) -> bool
     ensures { IsTrue result ↔ IsArcInRange arc.now }
 {
     let shifts = arc.shift.iter().all(|n| n.unsigned_abs() < 1 << 40);
-    1 <= arc.sat && arc.sat <= 32 && arc.first <= arc.last && arc.last < 3600 && shifts
+    1 <= arc.sat && arc.sat <= 36 && arc.first <= arc.last && arc.last < 3600 && shifts
 }
 
 /// Whether these are the arcs of a session: 2 to 200, of which 1 to 20 are free, with their numbers in range.

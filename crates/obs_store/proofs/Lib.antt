@@ -1,2 +1,3 @@
 pub mod EpochsLaws
 pub mod SeenLaws
+pub mod StoredLaws

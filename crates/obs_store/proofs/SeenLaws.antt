@@ -1,5 +1,5 @@
 -- What one more satellite adds to the counts.
-use Rattle.std.proofs.Common.{◌≡◌, ℕ, ◌+◌, ◌<◌, ◌≤◌, Bool, true, false, true≢false, not, ◌||◌, cond, nat_eq, List, [], ◌∷◌, ◌++◌, length, map, filter, refl, sym, ap, subst, ◌∙◌, arith, None, Some, unwrap_or, append_assoc, add-one, length-append, length-take, take, get_or, Option, inl, inr}
+use Rattle.std.proofs.Common.{◌≡◌, ℕ, ◌+◌, ◌<◌, ◌≤◌, Bool, true, false, true≢false, not, ◌||◌, cond, nat_eq, List, [], ◌∷◌, ◌++◌, length, map, filter, refl, sym, ap, subst, ◌∙◌, arith, None, Some, unwrap_or, append_assoc, add-one, length-append, length-take, take, get_or, slice_index, zero, suc, Option, inl, inr}
 use Rattle.std.specs.List.{list_any, IsDistinct, AllByRecursion}
 use Rattle.std.specs.Map.{lookup}
 use Rattle.std.proofs.lemmas.Bool.{eqb-true, eq-eqb}
@@ -27,7 +27,7 @@ or_false : (b : Bool) → (b || false) ≡ b
 or_false true = refl
 or_false false = refl
 
-neither : (a b : Bool) → (a || b) ≡ false → (a ≡ false) × (b ≡ false)
+pub neither : (a b : Bool) → (a || b) ≡ false → (a ≡ false) × (b ≡ false)
 neither true b h = absurd (true≢false h)
 neither false b h = (refl, h)
 
@@ -196,6 +196,12 @@ fresh_at ss k z are inside =
     apart : (j : ℕ) (d : SatObs) → j < k → nat_eq (get_or ss k z).number (get_or (take k ss) j d).number ≡ false
     apart j d short =
         rw get_or-take (elim (eqb_tells (get_or ss k z).number (get_or ss j d).number) [ inl p ↦ absurd (are.once j k d short inside (sym p.1 ∙ ap (λ (t : SatObs). t.number) (get_or_default ss k z d inside))) | inr p ↦ p.0 ])
+
+-- the number of a satellite in its place
+pub number_in : (ss : List SatObs) (k : ℕ) (z : SatObs) → k < length ss → slice_index (numbers_of ss) k ≡ (get_or ss k z).number
+number_in [] k z inside = absurd (omega arith)
+number_in (s ∷ ss) zero z inside = refl
+number_in (s ∷ ss) (suc k) z inside = number_in ss k z (omega arith)
 
 -- one more satellite of an epoch
 pub seen_step : (es : List Epoch) (e : Epoch) (ss : List SatObs) (k : ℕ) (z : SatObs) (count : ℕ) (held new : List (ℕ × ℕ))

@@ -1,5 +1,6 @@
 pub mod Kinds
 pub mod Missing
 pub mod Satellites
+pub mod Stored
 pub mod Epochs
 pub mod Seen

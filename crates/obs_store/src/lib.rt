@@ -2,7 +2,7 @@
 //!
 //! An observation file as data. `Epochs` holds at most 20,000 epochs, each tag later than the one before, and in each
 //! of them `Satellites` of numbers 1 to 36, each at most once: facts of the types, so of every file (`kept` of
-//! `as_slice`). `ObsFile::seen` gives each satellite in first-seen order with its number of epochs. The twenty-six
+//! `as_slice`). The values that are missing take no memory. `ObsFile::seen` gives each satellite in first-seen order with its number of epochs. The twenty-six
 //! kept observation types are the enum `ObsType`, with their names and slots.
 #![tactic(auto)]
 
@@ -10,6 +10,7 @@ mod file;
 mod kinds;
 mod sats;
 mod series;
+mod stored;
 mod tally;
 mod values;
 

@@ -1,27 +1,31 @@
 // The satellites of an epoch.
-ghost use Rattle.std.specs.Prelude.{◌≡◌, ◌≤◌, ◌<◌, [], ◌∷◌, ◌++◌, length, false, slice_get, OnOk, OnErr};
+ghost use Rattle.std.specs.Prelude.{◌≡◌, ◌≤◌, ◌<◌, ◌==◌, [], ◌∷◌, ◌++◌, length, false, find, slice_get, slice_index, Some, OnOk, OnErr};
 ghost use Rattle.obs_store.specs.Satellites.{AreSatellites, has_satellite};
+ghost use Rattle.obs_store.specs.Seen.{numbers_of};
 
-use crate::SatObs;
+use crate::stored::{StoredSat, StoredValue, find_sat, has_number, sat_at, store_values};
+use crate::{SLOTS, SatObs};
 use std::alloc::{AllocError, Global};
 use std::marker::Model;
 
-/// The satellites of an epoch in the order of its lines: numbers 1 to 36, each at most once. Contracts see the list of them.
+/// The satellites of an epoch in the order of its lines: numbers 1 to 36, each at most once. Contracts see the list of
+/// them. A value that is missing takes no memory.
 #[derive(Debug, Drop)]
 pub struct Satellites {
-    items: Vec<SatObs>,
+    sats: Vec<StoredSat>,
+    values: Vec<StoredValue>,
 }
 
 impl Model for Satellites {
     ghost use Rattle.std.specs.Prelude.{List};
     ghost use Rattle.obs_store.specs.declared.values.SatObs.{SatObs};
-    ghost use Rattle.obs_store.specs.Satellites.{AreSatellites};
+    ghost use Rattle.obs_store.specs.Stored.{satellites_in, AreStored};
 
     ghost Value = { List SatObs };
 
-    ghost view = { λ s. s.items.items };
+    ghost view = { λ s. satellites_in s.sats.items s.values.items };
 
-    ghost invariant = { λ s. AreSatellites s.items.items };
+    ghost invariant = { λ s. AreStored s.sats.items s.values.items };
 }
 
 impl Satellites {
@@ -30,23 +34,51 @@ impl Satellites {
         ensures { result ≡ [] }
     {
         Satellites {
-            items: Vec::new(alloc),
+            sats: Vec::new(alloc),
+            values: Vec::new(alloc),
         }
     }
 
-    /// The satellites, in order.
-    pub fn as_slice(&self) -> &[SatObs]
-        ensures value { result.now ≡ self.now }
+    /// How many satellites there are.
+    #[tactic(auto, using(crate::proofs::StoredLaws::as_many_stored))]
+    pub fn len(&self) -> usize
+        ensures value { result ≡ length self.now }
         ensures kept { AreSatellites self.now }
     {
-        self.items.as_slice()
+        self.sats.len()
+    }
+
+    /// The satellite in that place, from 0.
+    #[tactic(auto, using(crate::proofs::StoredLaws::as_many_stored))]
+    pub fn at(&self, place: usize) -> SatObs
+        requires { place < length self.now }
+        ensures { slice_get self.now place ≡ Some result }
+    {
+        sat_at(&self.sats, &self.values, place)
+    }
+
+    /// The number of the satellite in that place, from 0.
+    #[tactic(auto, using(crate::proofs::StoredLaws::as_many_stored, crate::proofs::StoredLaws::number_stored))]
+    pub fn number_at(&self, place: usize) -> u8
+        requires { place < length self.now }
+        ensures { result ≡ slice_index (numbers_of self.now) place }
+    {
+        self.sats[place].number
+    }
+
+    /// The satellite of that number, if it is there.
+    pub fn find(&self, number: u8) -> Option<SatObs>
+        ensures { result ≡ find (λ s. s.number == number) self.now }
+    {
+        find_sat(&self.sats, &self.values, number)
     }
 
     /// Whether a satellite of this number is there.
+    #[tactic(auto, using(crate::proofs::StoredLaws::has_stored))]
     pub fn has(&self, number: u8) -> bool
         ensures { result ≡ has_satellite number self.now }
     {
-        self.items.iter().any(|sat| number == sat.number)
+        has_number(&self.sats, number)
     }
 
     /// Adds a satellite that isn't there yet; after an `Err` the satellites are as before.
@@ -57,7 +89,21 @@ impl Satellites {
         ensures added { OnOk result (self.new ≡ self.old ++ sat ∷ []) }
         ensures unchanged { OnErr result (self.new ≡ self.old) }
     {
-        self.items.push(sat)?;
+        self.sats.reserve(1)?;
+        self.values.reserve(SLOTS)?;
+        let count = store_values(&mut self.values, &sat.values);
+        self.sats.push_reserved(StoredSat {
+            number: sat.number,
+            count,
+        });
         Ok(())
+    }
+
+    /// Gives back the memory that was taken for more satellites than there are.
+    pub fn shrink(&mut self)
+        ensures { self.new ≡ self.old }
+    {
+        self.sats.shrink_to_fit();
+        self.values.shrink_to_fit();
     }
 }

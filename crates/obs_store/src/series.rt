@@ -89,8 +89,10 @@ impl Epochs {
         ensures added { OnOk result (self.new ≡ self.old ++ epoch ∷ []) }
         ensures unchanged { OnErr result (self.new ≡ self.old) }
     {
+        let mut epoch = epoch;
+        epoch.sats.shrink();
         // It opens the promise of the satellites, which goes into that of the epochs.
-        let _satellites = epoch.sats.as_slice();
+        let _count = epoch.sats.len();
         self.items.push(epoch)?;
         Ok(())
     }

@@ -28,9 +28,11 @@ fn count_epoch(seen: &mut IndexMap<u8, u32>, epochs: &[Epoch], at: usize) -> Res
     requires before { seen.old.entries ≡ seen_in (take at epochs.now) }
     ensures { OnOk result (seen.new.entries ≡ seen_in (take (at + 1) epochs.now)) }
 {
-    for sat in epochs[at].sats.as_slice() {
-        let count = seen.get(&sat.number).copied().unwrap_or(0);
-        seen.insert(sat.number, count + 1)?;
+    let sats = &epochs[at].sats;
+    for place in 0..sats.len() {
+        let number = sats.number_at(place);
+        let count = seen.get(&number).copied().unwrap_or(0);
+        seen.insert(number, count + 1)?;
     }
     Ok(())
 }

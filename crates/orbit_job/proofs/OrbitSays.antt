@@ -1,12 +1,13 @@
 -- What the ending of `orbit` says of its file, and its statuses.
-use Rattle.std.proofs.Common.{◌≡◌, ◌≢◌, inl, inr, ℕ, List, Option, sym, subst}
+use Rattle.std.proofs.Common.{◌≡◌, ◌≢◌, inl, inr, ℕ, List, [], ◌∷◌, Option, sym, subst}
 use Rattle.std.specs.Io.KnownBytes.{Appends}
+use Rattle.line_source.specs.Told.{IsReadToEnd}
 use Rattle.rinex_nav.specs.NavForm.{HasNavFile}
 use Rattle.job_answers.specs.declared.status.Status.TheVariants.{ReadFault}
 use Rattle.job_answers.specs.Statuses.{IsVerdictStatus, IsJobStatus}
-use Rattle.job_answers.specs.Endings.{Ending, EndsByFile, IsAdmitted}
+use Rattle.job_answers.specs.Endings.{Ending, EndsByFile, IsAdmitted, IsRefusedWhole}
 use Rattle.job_answers.specs.Delivered.{SinkChange}
-use Rattle.job_answers.proofs.EndingLaws.{admitted_ends, verdict_at, job_status_at, file_status}
+use Rattle.job_answers.proofs.EndingLaws.{admitted_ends, verdict_at, job_status_at, file_status, verdict_whole, refusal_whole}
 use Rattle.orbit_job.specs.Orbits.{OrbitEnds}
 use Rattle.orbit_job.specs.OrbitRuns.{SaysOfOrbit}
 
@@ -19,6 +20,14 @@ text_status name sat tag end text (inr refusal) = job_status_at end _ refusal.en
 
 pub orbit_status : (told : List ℕ → Option (List ℕ)) (nav : List ℕ) (sat tag : ℕ) (end : Ending) → EndsByFile told nav (OrbitEnds nav sat tag) end → IsJobStatus end.status
 orbit_status told nav sat tag end ends = file_status told nav (OrbitEnds nav sat tag) end (text_status nav sat tag end) ends
+
+-- a file that was read to its end
+pub orbit_whole : (told : List ℕ → Option (List ℕ)) (left : ℕ → Option (List ℕ)) (name text : List ℕ) (sat tag : ℕ) (end : Ending) → IsReadToEnd told left name → OrbitEnds name sat tag text end → IsRefusedWhole told left (name ∷ []) end
+orbit_whole told left name text sat tag end read (inl by_records) = elim (by_records.found) [
+  | inl placed ↦ verdict_whole told left (name ∷ []) end (verdict_at end _ placed.placed.end_is tt)
+  | inr without ↦ verdict_whole told left (name ∷ []) end (verdict_at end _ without.end_is tt)
+]
+orbit_whole told left name text sat tag end read (inr refusal) = refusal_whole told left name text end read refusal
 
 -- a file that is told and admitted has a verdict
 pub orbit_verdict : (told : List ℕ → Option (List ℕ)) (nav : List ℕ) (sat tag : ℕ) (end : Ending) → IsAdmitted told nav HasNavFile → end.status ≢ ReadFault → EndsByFile told nav (OrbitEnds nav sat tag) end → IsVerdictStatus end.status

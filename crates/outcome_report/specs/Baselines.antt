@@ -1,13 +1,17 @@
 -- The baseline of a fix in 0.1 mm, and how it is printed.
-use Rattle.std.specs.Prelude.{ℕ, ℤ, pos, ◌+ℤ◌, ◌-ℤ◌, ◌*ℤ◌, List, [], ◌∷◌, ◌++◌, codes}
+use Rattle.std.specs.Prelude.{ℕ, ◌*◌, ◌/◌, ◌^◌, ℤ, ◌+ℤ◌, ◌-ℤ◌, ◌*ℤ◌, unsigned_abs, List, [], ◌∷◌, ◌++◌, codes}
 use Rattle.whole_math.specs.Rounding.{nearest_div}
+use Rattle.obs_rows.specs.declared.units.TheConstants.{UNIT_FREQUENCY, LIGHT_SPEED, MOVE_EXPONENT}
 use Rattle.integer_form.specs.FloatPoint.{item}
 use Rattle.decimal_text.specs.Write.{fixed_text}
 
--- A number m of a move is in 2^-10 κ, and κ is 299792458 / 94525200000 m. So in 0.1 mm it is m · 299792458 / 9679380480,
--- where 9679380480 is 94525200000 / 10^4 · 2^10
+-- A number of a move is in 2^-5 ι, and ι is the speed of light over the unit's frequency. So in 0.1 mm it is so many times the
+-- speed of light over this
+abbrev pub parts : ℕ
+parts = (unsigned_abs UNIT_FREQUENCY / 10 ^ 4) * 2 ^ MOVE_EXPONENT
+
 abbrev pub in_tenths : ℤ → ℤ
-in_tenths m = nearest_div (m *ℤ pos 299792458) 9679380480
+in_tenths m = nearest_div (m *ℤ LIGHT_SPEED) parts
 
 -- how far a coordinate of the moved point lies from the base's
 abbrev pub from_base : ℤ → ℤ → ℤ → ℤ
@@ -23,5 +27,9 @@ abbrev pub metres_behind_blanks : List ℤ → List ℕ
 metres_behind_blanks [] = []
 metres_behind_blanks (n ∷ ns) = 32 ∷ (fixed_text n 4 ++ metres_behind_blanks ns)
 
+-- a line of these words and lengths
+abbrev pub place_line : List ℕ → List ℤ → List ℕ
+place_line words ns = words ++ (metres_behind_blanks ns ++ 10 ∷ [])
+
 abbrev pub baseline_line : List ℤ → List ℕ
-baseline_line ns = codes "baseline" ++ (metres_behind_blanks ns ++ 10 ∷ [])
+baseline_line ns = place_line (codes "baseline") ns

@@ -1,16 +1,16 @@
 //! The baseline of a fix.
 ghost use Rattle.std.specs.Prelude.{◌≡◌, ◌^◌, ◌<◌, ◌≤◌, ◌-ℤ◌, ◌++◌, unsigned_abs, All, OnOk};
 ghost use Rattle.obs_rows.specs.Ranges.{IsPoint, IsBelow, IsWithin};
-ghost use Rattle.outcome_report.specs.Baselines.{in_tenths, from_base, baseline_of, metres_behind_blanks, baseline_line};
+ghost use Rattle.outcome_report.specs.Baselines.{in_tenths, from_base, baseline_of, metres_behind_blanks, place_line};
 
 use decimal_text::write_fixed;
-use obs_rows::LIGHT_SPEED;
+use obs_rows::{LIGHT_SPEED, MOVE_EXPONENT, UNIT_FREQUENCY};
 use std::alloc::{AllocError, Global};
 use whole_math::nearest;
 
-/// A number of a move is 2^-10 κ; in 0.1 mm it is the speed of light over this, which is the frequency of κ
-/// (94,525,200,000 Hz) over 10^4, times 2^10.
-const PARTS: i128 = 9_679_380_480;
+/// A number of a move is 2^-5 ι, and ι is the speed of light over the unit's frequency; in 0.1 mm it is the speed of light
+/// over this.
+const PARTS: i128 = (UNIT_FREQUENCY / 10_000 * (1 << MOVE_EXPONENT)) as i128;
 
 // A number of a move in 0.1 mm.
 fn in_tenths(number: i64) -> i64
@@ -63,10 +63,12 @@ fn push_metres(alloc: Global, text: &mut Vec<u8>, lengths: &[i64]) -> Result<(),
     Ok(())
 }
 
-/// Appends the line of the baseline from the base to the moved point.
-pub(crate) fn push_baseline(
+/// Appends a line: these words, and how far the moved point lies from the base along x, y and z, in metres with four
+/// places. The points are in 0.1 mm, the move in 2^-5 ι. After an `Err` a part of the line may have been appended.
+pub fn push_place(
     alloc: Global,
     text: &mut Vec<u8>,
+    words: &str,
     point: &[i64; 3],
     base: &[i64; 3],
     moved: &[i64; 3],
@@ -74,10 +76,10 @@ pub(crate) fn push_baseline(
     requires point { IsPoint point.now }
     requires base { IsPoint base.now }
     requires moved { All (IsBelow (2 ^ 46)) moved.now }
-    ensures { OnOk result (text.new.items ≡ text.old.items ++ baseline_line (baseline_of point.now base.now moved.now)) }
+    ensures { OnOk result (text.new.items ≡ text.old.items ++ place_line words.now (baseline_of point.now base.now moved.now)) }
 {
     let lengths = baseline_of(point, base, moved);
-    text.extend_from_slice(b"baseline")?;
+    text.extend_from_slice(words.as_bytes())?;
     push_metres(alloc, text, &lengths)?;
     text.push(b'\n')?;
     Ok(())

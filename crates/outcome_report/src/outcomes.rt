@@ -3,7 +3,7 @@ ghost use Rattle.std.specs.Prelude.{◌≡◌, ◌^◌, ◌++◌, OnOk, All, cod
 ghost use Rattle.obs_rows.specs.Ranges.{IsBelow};
 ghost use Rattle.outcome_report.specs.OutcomeText.{answer_text, IsWholeAnswer, counts_text, delta_text, fixed_text, tail_text, verdict_text, outcome_text, is_fixed};
 
-use crate::baselines::push_baseline;
+use crate::baselines::push_place;
 use crate::declines::push_early;
 use cert_data::{Answer, Cert, Outcome, Stage, Tail};
 use cert_spelling::write_cert;
@@ -43,7 +43,8 @@ fn write_answer(alloc: Global, out: &mut Vec<u8>, answer: &Answer) -> Result<(),
     }
 }
 
-fn push_counts(
+/// Appends how many pairs were taken of how many, and how many arcs were kept.
+pub fn push_counts(
     alloc: Global,
     text: &mut Vec<u8>,
     taken: u32,
@@ -56,7 +57,8 @@ fn push_counts(
     text.extend_from_slice(lines.as_bytes())
 }
 
-fn push_delta(text: &mut Vec<u8>, delta: bool) -> Result<(), AllocError>
+/// Appends that the antennas' deltas are not applied, where there are any.
+pub fn push_delta(text: &mut Vec<u8>, delta: bool) -> Result<(), AllocError>
     ensures { OnOk result (text.new.items ≡ text.old.items ++ delta_text delta) }
 {
     if delta {
@@ -81,7 +83,14 @@ fn push_fixed(
     requires { All (IsBelow (2 ^ 46)) moved.now }
     ensures { OnOk result (text.new.items ≡ text.old.items ++ fixed_text session.now moved.now) }
 {
-    push_baseline(alloc, text, &session.point, &session.base, moved)?;
+    push_place(
+        alloc,
+        text,
+        "baseline",
+        &session.point,
+        &session.base,
+        moved,
+    )?;
     text.extend_from_slice(b"verdict fixed\n")?;
     Ok(())
 }

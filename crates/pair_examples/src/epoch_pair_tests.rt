@@ -135,11 +135,11 @@ fn listing(alloc: Global, names: &[&str]) -> Result<ObsFile, AllocError> {
     Ok(file)
 }
 
-// L1 C is listed first but without a phase at the rover, and L2 X comes before L2 L whatever the order of listing.
+// L1 C is listed first but without a phase at the rover, and L2 X comes before L2 L whatever the order of listing. L5 isn't used.
 #[test]
 fn takes_the_first_common_letters(rt: HostRuntime) -> Result<(), Fail> {
     let names = [
-        "C1C", "L1C", "C1W", "L1W", "C2L", "L2L", "C2X", "L2X", "C2W",
+        "C1C", "L1C", "C1W", "L1W", "C2L", "L2L", "C2X", "L2X", "C2W", "C5Q", "L5Q",
     ];
     let base = listing(rt.alloc(), &names)?;
     let rover = listing(rt.alloc(), &names[2..])?;
@@ -147,7 +147,7 @@ fn takes_the_first_common_letters(rt: HostRuntime) -> Result<(), Fail> {
         assert!(rt; false);
         return Ok(());
     };
-    assert_eq!(rt; (found.l1, found.l2), (b'W', b'X'));
+    assert_eq!(rt; (found.l1, found.l2, found.l5), (b'W', b'X', 0));
     assert!(rt; signals(&base, &listing(rt.alloc(), &names[..4])?).is_none());
     Ok(())
 }

@@ -5,11 +5,18 @@ use iv_core::Iv;
 use row_boxes::{Pseudorange, first_group, first_shift, observations_of, pseudorange_of};
 
 // What the two receivers show of one satellite: thousandths of a cycle, and millimetres.
-const AMOUNTS: [i64; 4] = [1_263_761_757, -7_631_571_843, 5_555_256, 5_555_827];
+const AMOUNTS: [i64; 6] = [
+    1_263_761_757,
+    -7_631_571_843,
+    5_555_256,
+    5_555_827,
+    -5_000_123_456,
+    5_555_640,
+];
 
-const GROUP: i64 = 389_160;
+const GROUP: i64 = 8_950_690;
 
-const SHIFT: [i64; 2] = [1_234_569, -7_654_320];
+const SHIFT: [i64; 3] = [1_234_569, -7_654_320, -5_021_923];
 
 // At scales of 2^-36 m and 2^-60 s, without width.
 fn pseudorange(range: i64, clock: i64) -> Pseudorange
@@ -33,32 +40,59 @@ fn group_and_shifts(rt: HostRuntime) {
     assert_eq!(rt; first_group(AMOUNTS[2], &base, &rover), GROUP);
     assert_eq!(rt; first_shift(0, AMOUNTS[0], GROUP, &base, &rover), SHIFT[0]);
     assert_eq!(rt; first_shift(1, AMOUNTS[1], GROUP, &base, &rover), SHIFT[1]);
+    assert_eq!(rt; first_shift(4, AMOUNTS[4], GROUP, &base, &rover), SHIFT[2]);
+}
+
+// Whether the centres are these, to the radius that boxes have.
+fn are_near(found: &[i64; 6], want: [i64; 6], radius: u64) -> bool {
+    found
+        .iter()
+        .zip(want)
+        .all(|(got, want)| got.abs_diff(want) <= radius)
 }
 
 #[test]
-fn fine_observations(rt: HostRuntime) {
-    let found = observations_of(&AMOUNTS, GROUP, &SHIFT, &base(), &rover(), 0);
+fn all_signals(rt: HostRuntime) {
+    let found = observations_of(
+        &[0, 1, 2, 3, 4, 5],
+        &AMOUNTS,
+        GROUP,
+        &SHIFT,
+        &base(),
+        &rover(),
+        0,
+    );
     let Some(found) = found else {
         assert!(rt; false);
         return;
     };
-    let want: [i64; 4] = [-4_768_510, 6_416_913, 112_355, 47_308_109];
-    for (got, want) in found.y.iter().zip(want) {
-        assert!(rt; got.abs_diff(want) <= 654);
-    }
-    assert!(rt; found.ry <= 654);
+    let want: [i64; 6] = [
+        -3_509_286, 4_530_236, -1_165, 33_920_783, -7_173_961, 22_811_494,
+    ];
+    assert!(rt; are_near(&found.y, want, 470));
+    assert!(rt; found.ry <= 470);
+}
+
+#[test]
+fn without_l2(rt: HostRuntime) {
+    let found = observations_of(&[0, 2, 4, 5], &AMOUNTS, GROUP, &SHIFT, &base(), &rover(), 0);
+    let Some(found) = found else {
+        assert!(rt; false);
+        return;
+    };
+    let want: [i64; 6] = [-3_509_286, 0, -1_165, 0, -7_173_961, 22_811_494];
+    assert!(rt; are_near(&found.y, want, 470));
+    let y = found.y;
+    assert!(rt; y[1] == 0 && y[3] == 0);
 }
 
 #[test]
 fn coarse_observations(rt: HostRuntime) {
-    let found = observations_of(&AMOUNTS, GROUP, &SHIFT, &base(), &rover(), 14);
+    let found = observations_of(&[2], &AMOUNTS, GROUP - 10, &SHIFT, &base(), &rover(), 14);
     let Some(found) = found else {
         assert!(rt; false);
         return;
     };
-    let want: [i64; 4] = [0, 0, 7, 0];
-    for (got, want) in found.y.iter().zip(want) {
-        assert!(rt; got.abs_diff(want) <= 1);
-    }
+    assert!(rt; are_near(&found.y, [0, 0, 5, 0, 0, 0], 1));
     assert!(rt; found.ry <= 1);
 }

@@ -158,7 +158,11 @@ fn screened(
     requires position { HasPosition base.now.position }
     requires step { 0 < step }
 {
-    let signals = Signals { l1: b'C', l2: b'W' };
+    let signals = Signals {
+        l1: b'C',
+        l2: b'W',
+        l5: 0,
+    };
     let pairs = taken(alloc, base, rover, step)?;
     screen(alloc, base, rover, nav, signals, &pairs, 200)
 }
@@ -243,6 +247,6 @@ fn fifteen_above_the_mask(rt: HostRuntime) -> Result<(), Fail> {
     let one = screened(rt.alloc(), &file, &file, &nav, 1)?;
     assert_eq!(rt; one.boxes.len(), 1);
     assert_eq!(rt; one.boxes.as_slice()[0].sat, 2);
-    assert_eq!(rt; one.boxes.as_slice()[0].observed, [0, 0, 0, 0]);
+    assert_eq!(rt; one.boxes.as_slice()[0].observed, [0, 0, 0, 0, 0, 0]);
     Ok(())
 }

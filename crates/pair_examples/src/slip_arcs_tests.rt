@@ -1,6 +1,6 @@
 // Arcs that are cut at jumps and where power failed, and what links them.
 ghost use Rattle.std.specs.Prelude.{◌≡◌, ◌+◌, ◌<◌, ◌≤◌, ◌^◌, unsigned_abs, vec_len, All, IfOk, OnOk};
-ghost use Rattle.slip_arcs.specs.Used.{IsInRange};
+ghost use Rattle.used_svs.specs.Ranges.{IsInRange};
 
 use obs_rows::Arc;
 use slip_arcs::{UsedPair, UsedSat, cut};
@@ -16,7 +16,7 @@ fn alone(alloc: Global, sat: u8, first: i64, second: i64) -> Result<UsedPair, Al
     let mut sats: Vec<UsedSat> = Vec::new(alloc);
     sats.push(UsedSat {
         sat,
-        phase: [first, second],
+        phase: [first, second, 0],
         lost: false,
     })?;
     Ok(UsedPair { power: false, sats })
@@ -29,12 +29,12 @@ fn both(alloc: Global) -> Result<UsedPair, AllocError>
     let mut sats: Vec<UsedSat> = Vec::new(alloc);
     sats.push(UsedSat {
         sat: 3,
-        phase: [0, 0],
+        phase: [0, 0, 0],
         lost: false,
     })?;
     sats.push(UsedSat {
         sat: 7,
-        phase: [0, 0],
+        phase: [0, 0, 0],
         lost: false,
     })?;
     Ok(UsedPair { power: false, sats })

@@ -56,9 +56,9 @@ fn read_well(rt: &impl Abort, alloc: Global, parts: &[&str]) -> Result<ObsFile, 
 fn value_of(rt: &impl Abort, file: &ObsFile, epoch: usize, kind: ObsType) -> Option<Value> {
     let epochs = file.epochs.as_slice();
     assert!(rt; epoch < epochs.len());
-    let sats = epochs[epoch].sats.as_slice();
+    let sats = &epochs[epoch].sats;
     assert_eq!(rt; sats.len(), 1);
-    sats[0].values[kind.slot()]
+    sats.at(0).values[kind.slot()]
 }
 
 #[test]
@@ -117,9 +117,9 @@ fn skips_other_systems_and_events(rt: HostRuntime) -> Result<(), Fail> {
     let epochs = file.epochs.as_slice();
     assert_eq!(rt; epochs.len(), 2);
     for (epoch, number) in [(0, 7), (1, 8)] {
-        let sats = epochs[epoch].sats.as_slice();
+        let sats = &epochs[epoch].sats;
         assert_eq!(rt; sats.len(), 1);
-        assert_eq!(rt; sats[0].number, number);
+        assert_eq!(rt; sats.at(0).number, number);
     }
     Ok(())
 }

@@ -20,7 +20,8 @@ quad_sums e w a (suc k) s =
     ∙ same_by (e a a ∷ w a ∷ t ∷ both_sums e w (suc a) k ∷ []) (λ e w t b. (e ⊗ (w ⊗ w) ⊕ nat 2 ⊗ (w ⊗ t) ⊕ b, w ⊗ (e ⊗ w ⊕ t) ⊕ (w ⊗ t ⊕ b))) refl
     ∙ ap (λ z. (w a *ℤ ((e a a *ℤ w a) +ℤ t)) +ℤ z)
     (ap (λ z. z +ℤ both_sums e w (suc a) k) (sym (total_times (w a) (λ j. e a j *ℤ w j) (suc a) k)
-    ∙ total_same (λ j. w a *ℤ (e a j *ℤ w j)) (λ i. w i *ℤ (e i a *ℤ w a)) (suc a) k (λ i h g. ap (λ z. w a *ℤ (z *ℤ w i)) (s a i) ∙ same_by (w a ∷ e i a ∷ w i ∷ []) (λ x e y. (x ⊗ (e ⊗ y), y ⊗ (e ⊗ x))) refl))
+    ∙ total_same (λ j. w a *ℤ (e a j *ℤ w j)) (λ i. w i *ℤ (e i a *ℤ w a)) (suc a) k
+    (λ i h g. ap (λ z. w a *ℤ (z *ℤ w i)) (s a i) ∙ same_by (w a ∷ e i a ∷ w i ∷ []) (λ x e y. (x ⊗ (e ⊗ y), y ⊗ (e ⊗ x))) refl))
     ∙ sym (total_add (λ i. w i *ℤ (e i a *ℤ w a)) (λ i. w i *ℤ total (λ j. e i j *ℤ w j) (suc a) k) (suc a) k)
     ∙ total_same (λ i. (w i *ℤ (e i a *ℤ w a)) +ℤ (w i *ℤ total (λ j. e i j *ℤ w j) (suc a) k)) (λ i. w i *ℤ total (λ j. e i j *ℤ w j) a (suc k)) (suc a) k
     (λ i h g. same_by (w i ∷ e i a ∷ w a ∷ total (λ j. e i j *ℤ w j) (suc a) k ∷ []) (λ x e y t. (x ⊗ (e ⊗ y) ⊕ x ⊗ t, x ⊗ (e ⊗ y ⊕ t))) refl))

@@ -7,8 +7,8 @@ use Rattle.quadratic_form.specs.Rows.{value}
 use Rattle.quadratic_form.specs.Maps.{apply}
 use Rattle.quadratic_form.specs.Places.{list_from, form_from}
 use Rattle.quadratic_form.proofs.MatrixEntries.{list_items}
-use Rattle.obs_rows.specs.Tables.{entry}
-use Rattle.normal_sum.specs.Matrices.{IsSymmetric}
+use Rattle.form_tables.specs.Tables.{entry}
+use Rattle.form_tables.specs.Matrices.{IsSymmetric}
 use Rattle.decorrelate.specs.Inverses.{rows_from, block}
 use Rattle.reduced_form.specs.Sums.{total}
 use Rattle.reduced_form.specs.Transformed.{transformed_form}

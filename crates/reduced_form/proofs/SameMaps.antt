@@ -1,7 +1,7 @@
 -- Two maps with the same entries inside give the same form and the same images.
 use Rattle.std.proofs.Common.{ℕ, zero, suc, nat_lt, nat_eq, true, false, ◌≡◌, ◌⊎◌, ⊎_elim, ◌+◌, ◌<◌, ◌≤◌, ◌^◌, List, ◌∷◌, ℤ, pos, ◌*ℤ◌, unsigned_abs, arith, sym, ap, ap₂, ◌∙◌, refl, subst}
 use Rattle.quadratic_form.proofs.Places.{list_same, form_same}
-use Rattle.obs_rows.specs.Tables.{entry}
+use Rattle.form_tables.specs.Tables.{entry}
 use Rattle.decorrelate.specs.Inverses.{rows_from, block}
 use Rattle.reduced_form.specs.Transformed.{with_constant, half_entry, transformed_entry, transformed_form, IsTransformedSmall}
 use Rattle.reduced_form.proofs.TotalLaws.{total_same}

@@ -1,5 +1,6 @@
 -- The form in the coordinates of a map has at each vector the value that the form has at its image.
-use Rattle.std.proofs.Common.{ℕ, zero, suc, nat_lt, nat_eq, true, false, ◌≡◌, ◌⊎◌, inl, inr, ⊎_elim, ◌+◌, ◌<◌, ◌≤◌, List, [], ◌∷◌, ◌++◌, length, get_or, ℤ, pos, ◌+ℤ◌, ◌*ℤ◌, arith, sym, ap, ap₂, ◌∙◌, refl, length-append}
+use Rattle.std.proofs.Common.{ℕ, zero, suc, nat_lt, nat_eq, true, false, ◌≡◌, ◌⊎◌, inl, inr, ⊎_elim, ◌+◌, ◌<◌, ◌≤◌, List, [], ◌∷◌, ◌++◌, length, get_or, ℤ, pos, ◌+ℤ◌, ◌*ℤ◌, arith, sym}
+use Rattle.std.proofs.Common.{ap, ap₂, ◌∙◌, refl, length-append}
 use Rattle.whole_math.proofs.Inequalities.{same_by, nat}
 use Rattle.whole_math.proofs.Ring.{◌⊕◌, ◌⊗◌}
 use Rattle.whole_math.proofs.IntLaws.{mul_comm_ℤ}
@@ -8,8 +9,8 @@ use Rattle.quadratic_form.specs.Rows.{value}
 use Rattle.quadratic_form.specs.Places.{list_from, form_from}
 use Rattle.quadratic_form.proofs.Places.{form_same}
 use Rattle.quadratic_form.proofs.MatrixEntries.{list_items}
-use Rattle.obs_rows.specs.Tables.{entry, IsZeroOutside}
-use Rattle.normal_sum.specs.Matrices.{IsSymmetric}
+use Rattle.form_tables.specs.Tables.{entry, IsZeroOutside}
+use Rattle.form_tables.specs.Matrices.{IsSymmetric}
 use Rattle.reduced_form.specs.Sums.{total}
 use Rattle.reduced_form.specs.Transformed.{with_constant, half_entry, whole_entry, transformed_entry, transformed_form}
 use Rattle.reduced_form.proofs.TotalLaws.{total_same, total_zero, total_last, exchange}
@@ -24,7 +25,8 @@ transformed_symmetric n m p s i j =
     (λ a h g. ap (λ z. z *ℤ c a i) (total_same (λ b. c b j *ℤ p a b) (λ b. p a b *ℤ c b j) 0 k (λ b x y. mul_comm_ℤ (c b j) (p a b))))
     ∙ sym (exchange (λ b. c b j) (λ a. c a i) p 0 k 0 k)
     ∙ total_same (λ b. c b j *ℤ total (λ a. p a b *ℤ c a i) 0 k) (λ b. half_entry n m p b i *ℤ c b j) 0 k
-    (λ b h g. ap (λ z. c b j *ℤ z) (total_same (λ a. p a b *ℤ c a i) (λ a. c a i *ℤ p b a) 0 k (λ a x y. mul_comm_ℤ (p a b) (c a i) ∙ ap (λ z. c a i *ℤ z) (s a b))) ∙ mul_comm_ℤ (c b j) (half_entry n m p b i))
+    (λ b h g. ap (λ z. c b j *ℤ z) (total_same (λ a. p a b *ℤ c a i) (λ a. c a i *ℤ p b a) 0 k (λ a x y. mul_comm_ℤ (p a b) (c a i) ∙ ap (λ z. c a i *ℤ z) (s a b)))
+    ∙ mul_comm_ℤ (c b j) (half_entry n m p b i))
 
 -- ---- values
 -- the image of w under the map with the constant
@@ -93,7 +95,8 @@ corner n m = rw (not_less n, equal n, with_constant) refl
 
 image_before : (n : ℕ) (m : ℕ → ℕ → ℤ) (z : List ℤ) (b : ℕ) → length z ≡ n → b < n → image n m (with_one z) b ≡ total (λ j. m b j *ℤ get_or z j (pos 0)) 0 n
 image_before n m z b e h = total_last (λ j. with_constant n m b j *ℤ with_one z j) 0 n
-    ∙ ap₂ (λ x y. x +ℤ y) (total_same (λ j. with_constant n m b j *ℤ with_one z j) (λ j. m b j *ℤ get_or z j (pos 0)) 0 n (λ j i g. ap₂ (λ x y. x *ℤ y) (inside n m b j h (omega arith)) (one_before n z j e (omega arith))))
+    ∙ ap₂ (λ x y. x +ℤ y) (total_same (λ j. with_constant n m b j *ℤ with_one z j) (λ j. m b j *ℤ get_or z j (pos 0)) 0 n
+    (λ j i g. ap₂ (λ x y. x *ℤ y) (inside n m b j h (omega arith)) (one_before n z j e (omega arith))))
     (ap (λ c. with_constant n m b c *ℤ with_one z c) (plain n) ∙ ap (λ x. x *ℤ with_one z n) (beside n m b h))
     ∙ same_by (total (λ j. m b j *ℤ get_or z j (pos 0)) 0 n ∷ with_one z n ∷ []) (λ s x. (s ⊕ nat 0 ⊗ x, s)) refl
   where
@@ -102,7 +105,8 @@ image_before n m z b e h = total_last (λ j. with_constant n m b j *ℤ with_one
 
 image_last : (n : ℕ) (m : ℕ → ℕ → ℤ) (z : List ℤ) → length z ≡ n → image n m (with_one z) n ≡ pos 1
 image_last n m z e = total_last (λ j. with_constant n m n j *ℤ with_one z j) 0 n
-    ∙ ap₂ (λ x y. x +ℤ y) (total_zero (λ j. with_constant n m n j *ℤ with_one z j) 0 n (λ j i g. ap (λ x. x *ℤ with_one z j) (below n m j (omega arith)) ∙ same_by (with_one z j ∷ []) (λ x. (nat 0 ⊗ x, nat 0)) refl))
+    ∙ ap₂ (λ x y. x +ℤ y) (total_zero (λ j. with_constant n m n j *ℤ with_one z j) 0 n
+    (λ j i g. ap (λ x. x *ℤ with_one z j) (below n m j (omega arith)) ∙ same_by (with_one z j ∷ []) (λ x. (nat 0 ⊗ x, nat 0)) refl))
     (ap (λ c. with_constant n m n c *ℤ with_one z c) (plain n) ∙ ap₂ (λ x y. x *ℤ y) (corner n m) (one_last n z e))
     ∙ same_by [] (nat 0 ⊕ nat 1 ⊗ nat 1, nat 1) refl
   where
@@ -111,7 +115,8 @@ image_last n m z e = total_last (λ j. with_constant n m n j *ℤ with_one z j) 
 
 images : (n : ℕ) (m : ℕ → ℕ → ℤ) (z v : List ℤ) → length z ≡ n → length v ≡ n → ((b : ℕ) → b < n → get_or v b (pos 0) ≡ total (λ j. m b j *ℤ get_or z j (pos 0)) 0 n) →
     (b : ℕ) → b < n + 1 → image n m (with_one z) b ≡ with_one v b
-images n m z v e f h b g = ⊎_elim (λ (i : b < n). image_before n m z b e i ∙ sym (one_before n v b f i ∙ h b i)) (λ (i : b ≡ n). ap (image n m (with_one z)) i ∙ image_last n m z e ∙ sym (ap (with_one v) i ∙ one_last n v f)) (cases b n g)
+images n m z v e f h b g = ⊎_elim (λ (i : b < n). image_before n m z b e i ∙ sym (one_before n v b f i ∙ h b i))
+    (λ (i : b ≡ n). ap (image n m (with_one z)) i ∙ image_last n m z e ∙ sym (ap (with_one v) i ∙ one_last n v f)) (cases b n g)
   where
     cases : (b n : ℕ) → b < n + 1 → (b < n) ⊎ (b ≡ n)
     cases b n g = grind arith
@@ -137,7 +142,8 @@ pub wholes_as : (n : ℕ) (m h g : ℕ → ℕ → ℤ) → ((a j : ℕ) → a <
 wholes_as n m h g e i j l = total_same (λ a. h a j *ℤ with_constant n m a i) (λ a. g a j *ℤ with_constant n m a i) 0 (n + 1) (λ a x y. ap (λ z. z *ℤ with_constant n m a i) (e a j (omega arith) l))
 
 -- the table with all entries of the matrix in the coordinates of the map is symmetric
-pub table_symmetric : (n : ℕ) (m p : ℕ → ℕ → ℤ) (t : List (List ℤ)) → ((i j : ℕ) → p i j ≡ p j i) → ((i j : ℕ) → i < n + 1 → j < n + 1 → entry t i j ≡ transformed_entry n m p i j) → IsZeroOutside (n + 1) (n + 1) t → IsSymmetric t
+pub table_symmetric : (n : ℕ) (m p : ℕ → ℕ → ℤ) (t : List (List ℤ)) → ((i j : ℕ) → p i j ≡ p j i) → ((i j : ℕ) → i < n + 1 → j < n + 1 → entry t i j ≡ transformed_entry n m p i j) →
+    IsZeroOutside (n + 1) (n + 1) t → IsSymmetric t
 table_symmetric n m p t s e z i j = cases (side i j)
   where
     side : (i j : ℕ) → ((i < n + 1) × (j < n + 1)) ⊎ ((n + 1 ≤ i) ⊎ (n + 1 ≤ j))
@@ -151,5 +157,6 @@ table_symmetric n m p t s e z i j = cases (side i j)
     cases (inl h) = e i j h.0 h.1 ∙ transformed_symmetric n m p s i j ∙ sym (e j i h.1 h.0)
     cases (inr h) = z i j h ∙ sym (z j i (turn h))
 
-pub table_form : (n k : ℕ) (map p t : List (List ℤ)) → k ≡ n + 1 → ((i j : ℕ) → i < n + 1 → j < n + 1 → entry t i j ≡ transformed_entry n (entry map) (entry p) i j) → form_from (entry t) 0 k ≡ transformed_form n map p
+pub table_form : (n k : ℕ) (map p t : List (List ℤ)) → k ≡ n + 1 → ((i j : ℕ) → i < n + 1 → j < n + 1 → entry t i j ≡ transformed_entry n (entry map) (entry p) i j) →
+    form_from (entry t) 0 k ≡ transformed_form n map p
 table_form n k map p t q e = ap (form_from (entry t) 0) q ∙ form_same (entry t) (transformed_entry n (entry map) (entry p)) 0 (n + 1) (λ r c a b d. e r c (omega arith) (omega arith))

@@ -1,12 +1,12 @@
 //! The matrix of a form times a map.
 ghost use Rattle.std.specs.Prelude.{◌≡◌, ◌≢◌, ℕ, ◌+◌, ◌*◌, ◌^◌, ◌<◌, ◌≤◌, unsigned_abs};
-ghost use Rattle.obs_rows.specs.Tables.{entry};
-ghost use Rattle.obs_rows.specs.declared.units.TheConstants.{MOST_INTEGERS};
-ghost use Rattle.normal_sum.specs.Matrices.{EntriesBelow};
+ghost use Rattle.form_tables.specs.Tables.{entry};
+ghost use Rattle.form_tables.specs.declared.sizes.TheConstants.{MOST_INTEGERS};
+ghost use Rattle.form_tables.specs.Matrices.{EntriesBelow};
 ghost use Rattle.reduced_form.specs.Transformed.{with_constant, half_entry};
 
 use crate::products::entry_product;
-use obs_rows::{FormTable, MOST_INTEGERS, MapTable, NormalTable};
+use form_tables::{FormTable, MOST_INTEGERS, MapTable, NormalTable};
 
 /// The entry of the map of n integers, with 1 for the constant.
 pub(crate) fn map_entry(map: &MapTable, n: usize, i: usize, j: usize) -> i64

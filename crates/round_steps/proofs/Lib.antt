@@ -1,5 +1,5 @@
-pub mod PointLaws
 pub mod WeakLaws
 pub mod StepLaws
 pub mod ShiftLaws
 pub mod RunLaws
+pub mod UsedShifts

@@ -1,19 +1,24 @@
 -- Runs, round by round.
-use Rattle.std.proofs.Common.{◌≡◌, ℕ, ◌+◌, ◌-◌, ◌*◌, ◌^◌, ◌<◌, ◌≤◌, inl, inr, true, false, Bool, cond, nat_eq, Option, Some, List, [], ◌∷◌, ℤ, arith, sym, ap, ◌∙◌, refl, subst}
+use Rattle.std.proofs.Common.{◌≡◌, ℕ, ◌+◌, ◌-◌, ◌*◌, ◌^◌, ◌<◌, ◌≤◌, inl, inr, true, false, Bool, cond, nat_eq, Option, Some, List, [], ◌∷◌, All, ℤ, arith, sym, ap, ◌∙◌, refl, subst}
 use Rattle.std.proofs.lemmas.Bool.Decides.{nat_tests}
 use Rattle.std.proofs.lemmas.List.Sums.{sum_by-cons}
 use Rattle.obs_rows.specs.declared.arcs.Arc.{Arc}
 use Rattle.obs_rows.specs.declared.sessions.Session.{Session}
+use Rattle.obs_rows.specs.declared.bands.Signals.{Signals}
+use Rattle.obs_rows.specs.Signals.{fine_signals}
+use Rattle.obs_rows.specs.Unused.{HasUsedShifts}
 use Rattle.integer_form.specs.declared.form.Form.{Form}
 use Rattle.integer_form.specs.declared.faults.Place.TheVariants as Place
 use Rattle.cert_data.specs.declared.tails.Tail.{Tail}
 use Rattle.cert_data.specs.declared.outcomes.RoundCounts.{RoundCounts}
 use Rattle.cert_data.specs.declared.outcomes.Stage.TheVariants.{Coarse, Fine}
-use Rattle.round_steps.specs.Points.{IsReceiverPoint}
+use Rattle.obs_rows.specs.ReceiverPoints.{IsReceiverPoint}
 use Rattle.round_steps.specs.Shifts.{AreGrown, AreSameArcs, AreShiftsBelow}
-use Rattle.round_steps.specs.Steps.{IsSettledForm, IsMoved, IsRoundDeclined, IsDecision}
+use Rattle.settled_decision.specs.Decided.{IsDecision}
+use Rattle.round_steps.specs.Steps.{IsSettledForm, IsMoved, IsRoundDeclined}
 use Rattle.round_steps.specs.Runs.{Round, Rules, round_of, IsSessionOf, IsSessionAt, coarse, fine, IsRunTo, rounds_at, rounds_with, most_rounds, is_last, Reaches, EndsEarly, EndsFull, coarse_alone, SettlesAt}
 use Rattle.round_steps.proofs.ShiftLaws.{grown_same}
+use Rattle.round_steps.proofs.UsedShifts.{grown_used}
 
 -- ---- counts
 with_one : (scale : ℕ) (s : Session) (before : List Session) → rounds_at scale (s ∷ before) ≡ cond (nat_eq s.scale scale) 1 0 + rounds_at scale before
@@ -138,9 +143,11 @@ pub record FineSoFar (rules : Rules) (point : List ℤ) (arcs : List Arc) (coars
   pub in_reach : IsReceiverPoint point
   pub same : AreSameArcs rules.arcs arcs
   pub below : AreShiftsBelow (2 ^ 39 + 2 ^ 30 * (made - 1)) arcs
+  pub used : All (HasUsedShifts (fine_signals rules.signals)) arcs
 
-pub fine_begins : (rules : Rules) (point : List ℤ) (arcs : List Arc) (coarse_made : ℕ) → SettlesAt rules coarse_made point → rules.begins point arcs → AreSameArcs rules.arcs arcs → AreShiftsBelow (2 ^ 39) arcs → FineSoFar rules point arcs coarse_made 1
-fine_begins rules point arcs coarse_made h b same below = record {
+pub fine_begins : (rules : Rules) (point : List ℤ) (arcs : List Arc) (coarse_made : ℕ) → SettlesAt rules coarse_made point → rules.begins point arcs → AreSameArcs rules.arcs arcs → AreShiftsBelow (2 ^ 39) arcs →
+    All (HasUsedShifts (fine_signals rules.signals)) arcs → FineSoFar rules point arcs coarse_made 1
+fine_begins rules point arcs coarse_made h b same below used = record {
   before = h.session ∷ h.before;
   run = (
     h.reached.run,
@@ -163,6 +170,7 @@ fine_begins rules point arcs coarse_made h b same below = record {
   in_reach = h.in_reach;
   same = same;
   below = below;
+  used = used;
 }
 
 abbrev made_of : ℕ → ℕ → RoundCounts
@@ -205,7 +213,7 @@ fine_decides rules point arcs coarse_made made ratio budget s form tail h k g d 
 )
 
 pub fine_moves : (rules : Rules) (point : List ℤ) (arcs : List Arc) (coarse_made made : ℕ) (s : Session) (numbers next : List ℤ) (after : List Arc) → FineSoFar rules point arcs coarse_made made → IsSessionOf rules (fine point arcs) s → nat_eq made (most_rounds 0) ≡ false → IsMoved s numbers next →
-    AreGrown arcs numbers after → ((m : ℕ) → AreShiftsBelow m arcs → 0 < m → AreShiftsBelow (m + 2 ^ 30) after) → FineSoFar rules next after coarse_made (made + 1)
+    AreGrown arcs (fine_signals s.signals) numbers after → ((m : ℕ) → AreShiftsBelow m arcs → 0 < m → AreShiftsBelow (m + 2 ^ 30) after) → FineSoFar rules next after coarse_made (made + 1)
 fine_moves rules point arcs coarse_made made s numbers next after h k b m g below =
     let e : s.scale ≡ 0 = scale_is rules (fine point arcs) s k in
     record {
@@ -220,7 +228,7 @@ fine_moves rules point arcs coarse_made made s numbers next after h k b m g belo
             point = next;
             arcs = after;
             moved = m;
-            grown = subst (λ (a : List Arc). AreGrown a numbers after) (sym (arcs_are rules (fine point arcs) s k)) g;
+            grown = subst (λ (a : List Arc). AreGrown a (fine_signals s.signals) numbers after) (sym (arcs_are rules (fine point arcs) s k)) g;
             next_is = refl;
           })),
         ),
@@ -230,8 +238,10 @@ fine_moves rules point arcs coarse_made made s numbers next after h k b m g belo
       count = ap (λ (n : ℕ). n + 1) (more_at 0 s h.before e refl ∙ h.count);
       few = one_more made (most_rounds 0) h.few b;
       in_reach = m.in_reach;
-      same = grown_same arcs numbers after g ∙ h.same;
+      same = grown_same arcs (fine_signals s.signals) numbers after g ∙ h.same;
       below = subst (λ (n : ℕ). AreShiftsBelow n after) (one_wider made (rounds_at 0 h.before) h.count) (below (2 ^ 39 + 2 ^ 30 * (made - 1)) h.below (omega arith));
+      used = let e : fine_signals s.signals ≡ fine_signals rules.signals = ap fine_signals k.signals_are in
+          grown_used arcs (fine_signals rules.signals) numbers after (subst (λ (ss : List ℕ). AreGrown arcs ss numbers after) e g) h.used;
     }
   where
     one_wider : (m n : ℕ) → n + 1 ≡ m → 2 ^ 39 + 2 ^ 30 * (m - 1) + 2 ^ 30 ≡ 2 ^ 39 + 2 ^ 30 * (m + 1 - 1)

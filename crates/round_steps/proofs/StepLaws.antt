@@ -1,30 +1,17 @@
 -- What a session's float point says.
 use Rattle.std.proofs.Common.{◌≡◌, ℕ, ◌^◌, ◌<◌, ◌≤◌, ◌⊎◌, inl, inr, ⊎_elim, true, false, Bool, cond, IsTrue, List, length, ℤ, pos, neg_ℤ, ◌≤ℤ◌, ◌<ℤ◌, unsigned_abs, to_z, of_z, arith, sym, ◌∙◌, subst, refl}
 use Rattle.std.proofs.lemmas.Int.{ints}
-use Rattle.std.proofs.lemmas.Bool.{false≢true}
 use Rattle.std.specs.Int.{w64, w128}
 use Rattle.obs_rows.specs.declared.sessions.Session.{Session}
 use Rattle.integer_form.specs.declared.form.Form.{Form}
-use Rattle.integer_form.specs.declared.faults.Place.{Place}
 use Rattle.integer_form.specs.FloatPoint.{item, float_point, HasWide}
-use Rattle.int_search.specs.declared.answer.TwoBest.{TwoBest}
-use Rattle.int_search.specs.Answers.{IsTwoBest}
-use Rattle.fix_decide.specs.Widths.{AreWide}
-use Rattle.quadratic_form.specs.Forms.{Column}
-use Rattle.quadratic_form.specs.Rows.{value}
-use Rattle.quadratic_form.specs.TwoLeast.{Less}
-use Rattle.integer_form.specs.Forms.{integers_of, columns_of, value_of}
-use Rattle.obs_rows.specs.declared.arcs.Arc.{Arc}
-use Rattle.whole_math.proofs.Order.{lins}
-use Rattle.fix_decide.proofs.SessionForms.{integers_are, second_small, first_length, all_narrow}
-use Rattle.fix_decide.specs.Decisions.{IsFormOf, IsSeparated, first_of, second_of, move_of}
 use Rattle.obs_rows.specs.Ranges.{IsBelow}
-use Rattle.obs_rows.specs.Best.{IsStrictlyBest}
-use Rattle.cert_data.specs.Tails.{IsTailOf, AreVectors, tail_of_vectors}
+use Rattle.cert_data.specs.Tails.{IsTailOf}
 use Rattle.cert_data.specs.declared.tails.Tail.{Tail}
 use Rattle.cert_data.specs.declared.tails.Tail.TheVariants.{Fixed, Unseparated, Weak, Overwidth, Unsettled, Spent}
 use Rattle.round_steps.specs.Limits.{IsFirstOver}
-use Rattle.round_steps.specs.Steps.{AreFound, IsTooWide, IsBaselineWide, IsSumWide, IsDecision, IsRoundDeclined, IsUnsettled, IsBestWhereFixed}
+use Rattle.settled_decision.specs.Decided.{IsBestWhereFixed}
+use Rattle.round_steps.specs.Steps.{IsRoundDeclined, IsUnsettled}
 use Rattle.round_steps.proofs.WeakLaws.{weak_fits}
 
 pub word : (x : ℤ) → unsigned_abs x < 2 ^ 46 → to_z w64 (of_z w64 x) ≡ x
@@ -41,30 +28,6 @@ narrow_numbers f x e h j = subst (λ (a : ℤ). unsigned_abs a < 2 ^ 46) (sym (e
 pub entry_word : (scale : ℕ) (x : List ℤ) (e : ℤ) → IsFirstOver scale x e → ((j : ℕ) → unsigned_abs (item x j) < 2 ^ 46) → to_z w64 (of_z w64 e) ≡ e
 entry_word scale x e h g = word e (subst (λ (a : ℤ). unsigned_abs a < 2 ^ 46) (sym h.entry_is) (g h.column))
 
--- an upper sum fits its word
-pub top_word : (x : ℤ) → pos 0 ≤ℤ x → x ≤ℤ pos (2 ^ 118) → to_z w128 (of_z w128 x) ≡ x
-top_word x l g = omega (arith, ints)
-
--- a decision told as a tail
-pub told_decision : (s : Session) (f : Form) (ratio budget h : ℕ) (m : List ℤ) (best : TwoBest) (top : ℤ) (fixed : Bool) (t : Tail) → t ≡ cond fixed (Fixed h m best top) (Unseparated h m best top) →
-    AreFound s f budget h m best top → (IsTrue fixed → IsSeparated (pos ratio) top best.p2) → (IsSeparated (pos ratio) top best.p2 → IsTrue fixed) → IsDecision s f ratio budget t
-told_decision s f ratio budget h m best top true t e found there back = subst (IsDecision s f ratio budget) (sym e) (found, there refl)
-told_decision s f ratio budget h m best top false t e found there back = subst (IsDecision s f ratio budget) (sym e) (found, λ x. false≢true (back x))
-
--- where a decision is told as fixed, its integers are strictly best
-pub told_best : (s : Session) (h : ℕ) (m : List ℤ) (best b : TwoBest) (top : ℤ) (fixed : Bool) (t : Tail) → t ≡ tail_of_vectors fixed h m best top → best ≡ b →
-    (IsTrue fixed → IsStrictlyBest s (first_of b) m) → IsBestWhereFixed s t
-told_best s h m best b top true t e same is = subst (IsBestWhereFixed s) (sym e) (subst (λ (x : TwoBest). IsStrictlyBest s (first_of x) m) (sym same) (is refl))
-told_best s h m best b top false t e same is = subst (IsBestWhereFixed s) (sym e) tt
-
--- a decision that is refused
-pub refused_decision : (s : Session) (f : Form) (budget : ℕ) (best : TwoBest) (place : Place) → IsTwoBest f best → (place ≡ Place.Float) ⊎ (place ≡ Place.Sum) →
-    (place ≡ Place.Float → HasWide (move_of f (first_of best))) →
-    (place ≡ Place.Sum → (HasWide (move_of f (first_of best)) → ⊥) × AreWide s.arcs s.pairs (first_of best) (move_of f (first_of best))) →
-    ((place ≡ Place.Search) × IsTooWide f budget) ⊎ (((place ≡ Place.Float) × IsBaselineWide f) ⊎ ((place ≡ Place.Sum) × IsSumWide s f))
-refused_decision s f budget best place two (inl e) wide sum = inr (inl (e, record { best = best; best_is = two; wide = wide e }))
-refused_decision s f budget best place two (inr e) wide sum = inr (inr (e, record { best = best; best_is = two; narrow = (sum e).0; wide = (sum e).1 }))
-
 -- ---- the ranges of tails
 below_narrow : (x : List ℤ) (f : Form) (e : ℤ) (j : ℕ) → e ≡ item x j → item x j ≡ item (float_point f) j → (HasWide (float_point f) → ⊥) → IsBelow (2 ^ 46) e
 below_narrow x f e j p q h = subst (IsBelow (2 ^ 46)) (sym (p ∙ q)) (less (unsigned_abs (item (float_point f) j)) (λ w. h (j, w)))
@@ -72,56 +35,15 @@ below_narrow x f e j p q h = subst (IsBelow (2 ^ 46)) (sym (p ∙ q)) (less (uns
     less : (n : ℕ) → (2 ^ 46 ≤ n → ⊥) → n < 2 ^ 46
     less n g = omega arith
 
-pub declined_fits : (last : Bool) (s : Session) (t : Tail) → IsRoundDeclined last s t → (budget : ℕ) → IsTailOf s.arcs budget t
-declined_fits last s (Fixed h m best top) d budget = absurd d
-declined_fits last s (Unseparated h m best top) d budget = absurd d
-declined_fits last s (Weak column pivot) d budget = weak_fits s column pivot d
-declined_fits last s (Overwidth place) d budget = tt
-declined_fits last s (Unsettled entry) d budget =
+pub declined_fits : (last : Bool) (s : Session) (t : Tail) → IsRoundDeclined last s t → (ss : List ℕ) (budget : ℕ) → IsTailOf ss s.arcs budget t
+declined_fits last s (Fixed h m best top) d ss budget = absurd d
+declined_fits last s (Unseparated h m best top) d ss budget = absurd d
+declined_fits last s (Weak column pivot) d ss budget = weak_fits s column pivot d
+declined_fits last s (Overwidth place) d ss budget = tt
+declined_fits last s (Unsettled entry) d ss budget =
     let u : IsUnsettled s d.1.0 entry = d.1.1 in
     below_narrow d.1.0 u.float.form entry u.first.column u.first.entry_is (u.float.numbers u.first.column) u.float.narrow
-declined_fits last s (Spent b) d budget = absurd d
-
--- a value from -2^63 on, below one that is below 2^54
-record InRange (p1 p2 : ℤ) : Type 0 where
-  first : IsBelow (2 ^ 126) p1
-  second : IsBelow (2 ^ 126) p2
-
-in_range : (p1 p2 : ℤ) → neg_ℤ (pos (2 ^ 63)) ≤ℤ p1 → p1 ≤ℤ p2 → p2 <ℤ pos (2 ^ 54) → InRange p1 p2
-in_range p1 p2 h g k = record { first = omega (arith, ints); second = omega (arith, ints) }
-
-first_least : (p : List Column) (v w : List ℤ) → Less p v w → value p v ≤ℤ value p w
-first_least p v w h = ⊎_elim (λ (l : value p v <ℤ value p w). weaker (value p v) (value p w) l) (λ e. same (value p v) (value p w) e.0) h
-  where
-    weaker : (a b : ℤ) → a <ℤ b → a ≤ℤ b
-    weaker a b l = omega (arith, lins)
-
-    same : (a b : ℤ) → a ≡ b → a ≤ℤ b
-    same a b e = omega (arith, lins)
-
-values_in_range : (s : Session) (f : Form) (best : TwoBest) → IsFormOf s f → s.scale ≡ 0 → IsTwoBest f best → ((z : List ℤ) → length z ≡ integers_of f → neg_ℤ (pos (2 ^ 63)) ≤ℤ value_of f z) → InRange best.p1 best.p2
-values_in_range s f best h fine two from = in_range best.p1 best.p2
-    (subst (λ (x : ℤ). neg_ℤ (pos (2 ^ 63)) ≤ℤ x) (sym two.p1) (from (first_of best) (first_length f best two ∙ two.size)))
-    (subst (λ (x : ℤ). x ≤ℤ best.p2) (sym two.p1) (subst (λ (x : ℤ). value_of f (first_of best) ≤ℤ x) (sym two.p2) (first_least (columns_of f) (first_of best) (second_of best) two.least.order)))
-    (second_small s f best h fine two)
-
-pub vectors_fit : (s : Session) (f : Form) (budget h : ℕ) (m : List ℤ) (best : TwoBest) (top : ℤ) → IsFormOf s f → s.scale ≡ 0 → AreFound s f budget h m best top →
-    ((z : List ℤ) → length z ≡ integers_of f → neg_ℤ (pos (2 ^ 63)) ≤ℤ value_of f z) → pos 0 ≤ℤ top → top ≤ℤ pos (2 ^ 118) → AreVectors s.arcs h m best top
-vectors_fit s f budget h m best top o fine found from l g =
-    let r : InRange best.p1 best.p2 = values_in_range s f best o fine found.best_is from in
-    record {
-      h_to = subst (λ (n : ℕ). n ≤ 127) (sym found.h_is) f.h_in;
-      moved_in = all_narrow m found.narrow;
-      size = found.best_is.size ∙ integers_are s f o fine;
-      first_in = found.best_is.first_small;
-      second_in = found.best_is.second_small;
-      p1_in = r.first;
-      p2_in = r.second;
-      top_in = small top l g;
-    }
-  where
-    small : (t : ℤ) → pos 0 ≤ℤ t → t ≤ℤ pos (2 ^ 118) → IsBelow (2 ^ 126) t
-    small t l g = omega (arith, ints)
+declined_fits last s (Spent b) d ss budget = absurd d
 
 pub declined_best : (last : Bool) (s : Session) (t : Tail) → IsRoundDeclined last s t → IsBestWhereFixed s t
 declined_best last s (Fixed h m best top) d = absurd d

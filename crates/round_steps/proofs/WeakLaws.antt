@@ -1,22 +1,21 @@
 -- The ranges of a weak pivot.
-use Rattle.std.proofs.Common.{◌≡◌, ℕ, zero, suc, ◌+◌, ◌-◌, ◌^◌, ◌<◌, ◌≤◌, ◌⊎◌, inl, inr, ⊎_elim, Bool, true, false, ◌&&◌, nat_lt, int_lt, List, [], ◌∷◌, ℤ, pos, ◌*ℤ◌, ◌<ℤ◌, ◌≤ℤ◌, Result, Ok, Err, unsigned_abs, arith, refl, sym, ap, ◌∙◌, subst}
+use Rattle.std.proofs.Common.{◌≡◌, ℕ, zero, suc, ◌+◌, ◌-◌, ◌^◌, ◌<◌, ◌≤◌, Bool, true, false, ◌&&◌, nat_lt, int_lt, List, [], ◌∷◌, ℤ, pos, Result, Ok, Err, unsigned_abs, arith, refl, sym, ap, ◌∙◌, subst}
 use Rattle.std.proofs.lemmas.Bool.Decides.{nat_tests}
-use Rattle.std.proofs.lemmas.Int.{ints, by_lt_z}
-use Rattle.std.proofs.Math.Pow.{pow-lt, pow_mono}
 use Rattle.whole_math.specs.Vectors.{len}
-use Rattle.whole_math.proofs.Order.{lins}
 use Rattle.quadratic_form.specs.Forms.{Column}
 use Rattle.quadratic_form.specs.Elimination.{Factor, Refusal, weak, wide_factor, wide_entry, kept, factors, next, all_small, form_small, with_factor, steps}
-use Rattle.quadratic_form.specs.Lowering.{OwnBelow, IsExponent}
+use Rattle.quadratic_form.specs.Lowering.{IsExponent}
 use Rattle.normal_sum.specs.declared.normal.Normal.{Normal}
 use Rattle.normal_sum.specs.Values.{form_of}
 use Rattle.integer_form.specs.declared.faults.LowerFault.TheVariants.{Weak}
 use Rattle.integer_form.specs.Told.{told, IsToldAs}
 use Rattle.lower_form.specs.FirstRounding.{first_form}
 use Rattle.lower_form.specs.Forms.{elimination_of}
+use Rattle.lower_form.proofs.Exponents.{has_exponent}
 use Rattle.obs_rows.specs.declared.sessions.Session.{Session}
+use Rattle.form_tables.specs.declared.sizes.TheConstants.{MOST_COLUMNS, MOST_FACTORS}
 use Rattle.cert_data.specs.Tails.{IsWeak}
-use Rattle.round_steps.specs.Steps.{IsRefused}
+use Rattle.settled_decision.specs.Decided.{IsRefused}
 
 -- a pivot of one of k steps from the j-th on, below 2^52 in size
 record IsPivot (j k i : ℕ) (p : ℤ) : Type 0 where
@@ -87,65 +86,6 @@ weak_of : (b : Bool) (k : ℕ) (a : List Column) (i : ℕ) (p : ℤ) → b ≡ f
 weak_of true k a i p f e = weak_of_steps 0 k a i p (sym f) e
 weak_of false k a i p f e = absurd cc
 
--- ---- the exponent exists
-grow : (n : ℕ) → n < 2 ^ n
-grow zero = omega arith
-grow (suc n) =
-    let h : n < 2 ^ n = grow n in
-    let l : n < suc n = omega arith in
-    let g : 2 ^ n < 2 ^ suc n = pow-lt l in
-    omega arith
-
-below_own : (z : ℤ) (h : ℕ) → z <ℤ pos (2 ^ (50 + (unsigned_abs z + h)))
-below_own z h = less z (unsigned_abs z) (2 ^ unsigned_abs z) (2 ^ (50 + (unsigned_abs z + h))) refl (grow (unsigned_abs z)) (pow_mono (longer (unsigned_abs z) h))
-  where
-    longer : (n h : ℕ) → n ≤ 50 + (n + h)
-    longer n h = omega arith
-
-    less : (z : ℤ) (n p q : ℕ) → unsigned_abs z ≡ n → n < p → p ≤ q → z <ℤ pos q
-    less z n p q e h g = omega (arith, ints)
-
-wider : (h k : ℕ) (a : List Column) → h ≤ k → OwnBelow h a → OwnBelow k a
-wider h k [] l w = tt
-wider h k (c ∷ a) l w = (less (pos 63 *ℤ c.own) (2 ^ (50 + h)) (2 ^ (50 + k)) w.0 (pow_mono (longer h k l)), wider h k a l w.1)
-  where
-    longer : (h k : ℕ) → h ≤ k → 50 + h ≤ 50 + k
-    longer h k l = omega arith
-
-    less : (z : ℤ) (p q : ℕ) → z <ℤ pos p → p ≤ q → z <ℤ pos q
-    less z p q h g = omega (arith, lins)
-
-some_bound : (a : List Column) → (h : ℕ) × OwnBelow h a
-some_bound [] = (0, tt)
-some_bound (c ∷ a) =
-    let b : (h : ℕ) × OwnBelow h a = some_bound a in
-    let n : ℕ = unsigned_abs (pos 63 *ℤ c.own) in
-    (n + b.0, (below_own (pos 63 *ℤ c.own) b.0, wider b.0 (n + b.0) a (longer n b.0) b.1))
-  where
-    longer : (n h : ℕ) → h ≤ n + h
-    longer n h = omega arith
-
-decide_below : (h : ℕ) (a : List Column) → OwnBelow h a ⊎ (OwnBelow h a → ⊥)
-decide_below h [] = inl tt
-decide_below h (c ∷ a) = by_lt_z (pos 63 *ℤ c.own) (pos (2 ^ (50 + h)))
-    (λ (l : (pos 63 *ℤ c.own) <ℤ pos (2 ^ (50 + h))). ⊎_elim (λ (w : OwnBelow h a). inl (l, w)) (λ (n : OwnBelow h a → ⊥). inr (λ w. n w.1)) (decide_below h a))
-    (λ (l : pos (2 ^ (50 + h)) ≤ℤ (pos 63 *ℤ c.own)). inr (λ w. apart (pos 63 *ℤ c.own) (pos (2 ^ (50 + h))) w.0 l))
-  where
-    apart : (x y : ℤ) → x <ℤ y → y ≤ℤ x → ⊥
-    apart x y h g = omega (arith, lins)
-
-least_from : (a : List Column) (fuel i : ℕ) → OwnBelow (i + fuel) a → ((k : ℕ) → OwnBelow k a → i ≤ k) → (h : ℕ) × IsExponent h a
-least_from a zero i w b = let e : i + 0 ≡ i = omega arith in (i, record { enough = subst (λ (k : ℕ). OwnBelow k a) e w; least = b })
-least_from a (suc f) i w b = ⊎_elim (λ (o : OwnBelow i a). (i, record { enough = o; least = b }))
-    (λ (n : OwnBelow i a → ⊥). let e : i + suc f ≡ suc i + f = omega arith in least_from a f (suc i) (subst (λ (k : ℕ). OwnBelow k a) e w) (λ k o. above i k (b k o) (λ (q : k ≡ i). n (subst (λ (k : ℕ). OwnBelow k a) q o))))
-    (decide_below i a)
-  where
-    above : (i k : ℕ) → i ≤ k → (k ≡ i → ⊥) → suc i ≤ k
-    above i k h g = grind arith
-
-pub exponent_of : (a : List Column) → (h : ℕ) × IsExponent h a
-exponent_of a = let b : (h : ℕ) × OwnBelow h a = some_bound a in let e : b.0 ≡ 0 + b.0 = omega arith in least_from a b.0 0 (subst (λ (k : ℕ). OwnBelow k a) e b.1) (λ k o. omega arith)
-
 -- ---- a refusal by a weak pivot
 told_weak : (column : ℕ) (pivot : ℤ) (refusal : Refusal) → Weak column pivot ≡ told refusal → refusal ≡ weak column pivot
 told_weak column pivot (weak j a) e = cc
@@ -155,10 +95,10 @@ told_weak column pivot wide_entry e = absurd cc
 pub weak_fits : (s : Session) (column : ℕ) (pivot : ℤ) → IsRefused s (Weak column pivot) → IsWeak column pivot
 weak_fits s column pivot h =
     let n : Normal = h.normal in
-    let x : (h : ℕ) × IsExponent h (form_of n) = exponent_of (form_of n) in
+    let x : (h : ℕ) × IsExponent h (form_of n) = has_exponent (form_of n) in
     let t : IsToldAs (Weak column pivot) (elimination_of x.0 n) = h.told x.0 x.1 in
     let p : IsPivot 0 (n.columns - 1) column pivot = weak_of (form_small (first_form x.0 n)) (n.columns - 1) (first_form x.0 n) column pivot refl (t.1.0 ∙ ap Err (told_weak column pivot t.0 t.1.1)) in
     record { column_to = small n.columns column n.columns_to p.column; pivot_in = p.size }
   where
-    small : (c i : ℕ) → c ≤ 44 → i < 0 + (c - 1) → i ≤ 42
+    small : (c i : ℕ) → c ≤ MOST_COLUMNS → i < 0 + (c - 1) → i < MOST_FACTORS
     small c i h g = omega arith

@@ -1,11 +1,13 @@
 -- When a float point is settled.
 use Rattle.std.specs.Prelude.{◌≡◌, ℕ, ◌<◌, ◌≤◌, ◌==◌, if◌then◌else◌, nat_lt, List, ℤ, unsigned_abs}
+use Rattle.form_tables.specs.declared.sizes.TheConstants.{BASELINE_COLUMNS}
 use Rattle.integer_form.specs.FloatPoint.{item}
+use Rattle.round_steps.specs.declared.limits.TheConstants.{FINE_BASELINE, THREE_QUARTERS, COARSE_BASELINE}
 
--- The greatest size that a settled number of a column has. In a fine round it is 323 for the baseline, which is 1 mm, and
--- 49152 for an integer, which is three quarters of a cycle; in a coarse round it is 64
+-- The greatest size that a settled number of a column has. In a fine round it is 1 mm for the baseline and three quarters of
+-- a cycle for an integer, in a coarse round some 3 m
 abbrev pub limit : ℕ → ℕ → ℕ
-limit scale column = if scale == 0 then (if nat_lt column 3 then 323 else 49152) else 64
+limit scale column = if scale == 0 then (if nat_lt column BASELINE_COLUMNS then FINE_BASELINE else THREE_QUARTERS) else COARSE_BASELINE
 
 -- no number is over its limit
 abbrev pub IsSettled : ℕ → List ℤ → Type 0

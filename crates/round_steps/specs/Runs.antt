@@ -2,7 +2,9 @@
 -- is a part of the rules.
 use Rattle.std.specs.Prelude.{◌≡◌, ℕ, Option, Some, None, ◌+◌, ◌≤◌, ◌⊎◌, ◌==◌, Bool, if◌then◌else◌, List, [], ◌∷◌, count_by, ℤ}
 use Rattle.obs_rows.specs.declared.arcs.Arc.{Arc}
+use Rattle.obs_rows.specs.declared.bands.Signals.{Signals}
 use Rattle.obs_rows.specs.declared.sessions.Session.{Session}
+use Rattle.obs_rows.specs.Signals.{fine_signals}
 use Rattle.integer_form.specs.declared.form.Form.{Form}
 use Rattle.integer_form.specs.declared.faults.Place.TheVariants as Place
 use Rattle.cert_data.specs.Tails.{IsTailOf}
@@ -13,8 +15,9 @@ use Rattle.cert_data.specs.declared.outcomes.Stage.TheVariants.{Coarse, Fine}
 use Rattle.round_steps.specs.declared.runs.End.{End}
 use Rattle.round_steps.specs.declared.runs.CoarseEnd.{CoarseEnd}
 use Rattle.round_steps.specs.Shifts.{AreGrown}
-use Rattle.round_steps.specs.Points.{IsReceiverPoint}
-use Rattle.round_steps.specs.Steps.{IsSettledForm, IsMoved, IsRoundDeclined, IsDecision, IsBestWhereFixed}
+use Rattle.obs_rows.specs.ReceiverPoints.{IsReceiverPoint}
+use Rattle.settled_decision.specs.Decided.{IsDecision, IsBestWhereFixed}
+use Rattle.round_steps.specs.Steps.{IsSettledForm, IsMoved, IsRoundDeclined}
 
 -- a round: its scale, the rover's point, and the arcs with their shifts
 pub record Round : Type 0 where
@@ -22,11 +25,12 @@ pub record Round : Type 0 where
   pub point : List ℤ
   pub arcs : List Arc
 
--- what a run of these files and options keeps to: where it begins, which sessions stand for the files, which shifts its
--- first fine round may have at a point, and in which rounds a centre of y may be out of range
+-- what a run of these files and options keeps to: where it begins, which bands it uses, which sessions stand for the files,
+-- which shifts its first fine round may have at a point, and in which rounds a centre of y may be out of range
 pub record Rules : Type 1 where
   pub base : List ℤ
   pub arcs : List Arc
+  pub signals : Signals
   pub stands : Session → Type 0
   pub begins : List ℤ → List Arc → Type 0
   pub may_be_wide : Round → Type 0
@@ -37,6 +41,7 @@ round_of s = record { scale = s.scale; point = s.point; arcs = s.arcs }
 -- this session stands for the files in this round, or there is none, where a centre of y may be out of range
 pub record IsSessionOf (rules : Rules) (r : Round) (s : Session) : Type 0 where
   pub stands : rules.stands s
+  pub signals_are : s.signals ≡ rules.signals
   pub round_is : round_of s ≡ r
 
 abbrev pub IsSessionAt : Rules → Round → Option Session → Type 0
@@ -77,7 +82,7 @@ pub record MovesFine (s : Session) (next : Round) : Type 0 where
   pub point : List ℤ
   pub arcs : List Arc
   pub moved : IsMoved s numbers point
-  pub grown : AreGrown s.arcs numbers arcs
+  pub grown : AreGrown s.arcs (fine_signals s.signals) numbers arcs
   pub next_is : next ≡ fine point arcs
 
 abbrev pub LeadsTo : Rules → Session → Round → Type 0
@@ -164,7 +169,7 @@ IsEnd rules ratio budget (End.Full made s tail) = EndsFull rules ratio budget ma
 -- the tail is one of a certificate of this budget
 abbrev pub FitsEnd : ℕ → End → Type 0
 FitsEnd budget (End.Early made stage tail) = Unit {0}
-FitsEnd budget (End.Full made s tail) = IsTailOf s.arcs budget tail
+FitsEnd budget (End.Full made s tail) = IsTailOf (fine_signals s.signals) s.arcs budget tail
 
 -- where the integers are fixed, they are with their move strictly best
 abbrev pub IsBestEnd : End → Type 0

@@ -4,16 +4,15 @@
 //! rounds it had (`End`): the first round is coarse and at the base, each round leads to the next by the rules, in
 //! every run at most ten are coarse and at most six fine, and the last one ends the run as it has to (clause `end`).
 //! On a fine session its tail is one that a certificate may have (`fits`), and where it says fixed, the integers with
-//! their move are strictly best for all data (`strictly_best`). `round_step` says exactly what one round makes of its
-//! session, `decide_settled` what a settled fine round decides; where its form has a reduced count within the budget,
-//! that is never that the search is spent or too wide. `grown` gives exactly the grown shifts, and `are_few`,
-//! `are_many` and `is_receiver_point` their tests. That a session stands for the files is a part of the rules that a
+//! their move are strictly best for all data (`strictly_best`). `coarse_rounds` makes the coarse rounds alone.
+//! `round_step` says exactly what one round makes of its session; what a settled fine round decides is the crate
+//! settled_decision's. `grown` gives exactly the grown shifts, and `are_few`
+//! and `are_many` their tests. That a session stands for the files is a part of the rules that a
 //! `Rounds` brings.
 #![tactic(auto)]
 
 mod constants;
 mod counts;
-mod decided;
 mod limits;
 mod points;
 mod runs;
@@ -22,8 +21,7 @@ mod steps;
 
 pub use constants::limits_law;
 pub use counts::{are_few, are_many};
-pub use decided::decide_settled;
-pub use points::is_receiver_point;
-pub use runs::{End, Rounds, run};
+pub use obs_rows::is_receiver_point;
+pub use runs::{CoarseEnd, End, Rounds, coarse_rounds, run};
 pub use shifts::grown;
 pub use steps::{Step, round_step};

@@ -3,16 +3,20 @@ ghost use Rattle.std.specs.Prelude.{◌≡◌, ℕ, ◌^◌, ◌<◌, unsigned_a
 ghost use Rattle.integer_form.specs.FloatPoint.{item};
 ghost use Rattle.round_steps.specs.Limits.{limit, IsSettled, IsFirstOver};
 
-use obs_rows::{BASELINE_COLUMNS, MOST_FACTORS};
+use form_tables::{BASELINE_COLUMNS, MOST_FACTORS};
+use obs_rows::{LIGHT_SPEED, MOVE_EXPONENT, UNIT_FREQUENCY};
 
-/// 1 mm in 2^-10 κ, rounded.
-const FINE_BASELINE: u64 = 323;
+/// 1 m in 2^-5 ι is this over the speed of light.
+const METRE: i64 = UNIT_FREQUENCY * (1 << MOVE_EXPONENT);
+
+/// 1 mm in 2^-5 ι, rounded.
+pub const FINE_BASELINE: u64 = ((METRE + 500 * LIGHT_SPEED) / (1000 * LIGHT_SPEED)) as u64;
 
 /// Three quarters of a cycle in 2^-16 of it.
-pub(crate) const THREE_QUARTERS: u64 = 49_152;
+pub const THREE_QUARTERS: u64 = 49_152;
 
-/// Some 3 m in 2^4 κ.
-const COARSE_BASELINE: u64 = 64;
+/// Some 3 m in 2^9 ι.
+pub const COARSE_BASELINE: u64 = 46;
 
 /// The greatest size that a settled number of this column has.
 fn limit(scale: u32, column: usize) -> u64

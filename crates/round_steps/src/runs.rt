@@ -1,15 +1,19 @@
 //! The rounds of a run.
-ghost use Rattle.std.specs.Prelude.{◌≡◌, ◌^◌, ◌≤◌, length, IfOk};
+ghost use Rattle.std.specs.Prelude.{◌≡◌, ◌^◌, ◌≤◌, length, All, IfOk};
 ghost use Rattle.obs_rows.specs.Arcs.{free_count};
 ghost use Rattle.obs_rows.specs.Ranges.{IsScale};
-ghost use Rattle.round_steps.specs.Points.{IsReceiverPoint};
+ghost use Rattle.obs_rows.specs.Signals.{fine_signals};
+ghost use Rattle.obs_rows.specs.Unused.{HasUsedShifts};
+ghost use Rattle.obs_rows.specs.declared.units.TheConstants.{MOST_FREE_ARCS};
+ghost use Rattle.obs_rows.specs.ReceiverPoints.{IsReceiverPoint};
 ghost use Rattle.round_steps.specs.Shifts.{AreSameArcs, AreShiftsBelow};
 ghost use Rattle.round_steps.specs.Runs.{Rules, IsSessionAt, SettlesAt, IsCoarseEnd, IsEnd, FitsEnd, IsBestEnd, round_at};
 
-use crate::{Step, decide_settled, grown, round_step};
+use crate::{Step, grown, round_step};
 use cert_data::{RoundCounts, Stage, Tail};
 use integer_form::Place;
-use obs_rows::{Arc, COARSE_SCALE, Session};
+use obs_rows::{Arc, COARSE_SCALE, Session, fine_signals};
+use settled_decision::decide_settled;
 use std::alloc::{AllocError, Global};
 
 /// What gives a run its sessions.
@@ -33,6 +37,7 @@ pub trait Rounds {
         requires point { IsReceiverPoint point.now }
         requires arcs { AreSameArcs (rules self.now).arcs arcs.now }
         requires shifts { AreShiftsBelow (2 ^ 40) arcs.now }
+        requires used { All (HasUsedShifts (fine_signals (rules self.now).signals)) arcs.now }
         ensures { IfOk result (IsSessionAt (rules self.now) (round_at scale point.now arcs.now)) };
 
     /// The arcs with shifts that the first fine round may have at this point.
@@ -41,7 +46,8 @@ pub trait Rounds {
         requires point { IsReceiverPoint point.now }
         ensures begins { IfOk result (λ v. (rules self.now).begins point.now v.items) }
         ensures arcs { IfOk result (λ v. AreSameArcs (rules self.now).arcs v.items) }
-        ensures shifts { IfOk result (λ v. AreShiftsBelow (2 ^ 39) v.items) };
+        ensures shifts { IfOk result (λ v. AreShiftsBelow (2 ^ 39) v.items) }
+        ensures used { IfOk result (λ v. All (HasUsedShifts (fine_signals (rules self.now).signals)) v.items) };
 }
 
 /// How a run ends, and after how many rounds.
@@ -63,7 +69,7 @@ pub enum End {
 
 /// How the coarse rounds end, and after how many.
 #[derive(Clone, Copy, Debug)]
-pub(crate) enum CoarseEnd {
+pub enum CoarseEnd {
     /// Settled at this point.
     Settled { made: u32, point: [i64; 3] },
     Declined { made: u32, tail: Tail },
@@ -78,7 +84,8 @@ const FINE_ROUNDS: u32 = 6;
 /// No session, since a centre of y may be out of range.
 const AT_Y: Tail = Tail::Overwidth { place: Place::Y };
 
-fn coarse_rounds<R: Rounds>(
+/// The coarse rounds, of which the first is at the base.
+pub fn coarse_rounds<R: Rounds>(
     alloc: Global,
     rounds: &R,
     arcs: &[Arc],
@@ -89,6 +96,7 @@ fn coarse_rounds<R: Rounds>(
     requires arcs { arcs.now ≡ (R.rules rounds.now).arcs }
     requires point { IsReceiverPoint base.now }
     requires shifts { AreShiftsBelow (2 ^ 40) arcs.now }
+    requires used { All (HasUsedShifts (fine_signals (R.rules rounds.now).signals)) arcs.now }
     ensures { IfOk result (IsCoarseEnd (R.rules rounds.now)) }
 {
     let mut point = *base;
@@ -120,7 +128,7 @@ fn fine_rounds<R: Rounds>(
     requires ready { R.ready rounds.now }
     requires first { SettlesAt (R.rules rounds.now) coarse first.now }
     requires few { length (R.rules rounds.now).arcs ≤ 200 }
-    requires free { free_count (R.rules rounds.now).arcs ≤ 20 }
+    requires free { free_count (R.rules rounds.now).arcs ≤ MOST_FREE_ARCS }
     requires ratio_from { 1000 ≤ ratio }
     requires ratio_to { ratio ≤ 100_000 }
     ensures end { IfOk result (IsEnd (R.rules rounds.now) ratio budget) }
@@ -154,7 +162,12 @@ fn fine_rounds<R: Rounds>(
                     numbers,
                 },
             ) => {
-                arcs = grown(alloc, arcs.as_slice(), &numbers)?;
+                arcs = grown(
+                    alloc,
+                    arcs.as_slice(),
+                    fine_signals(session.signals),
+                    &numbers,
+                )?;
                 point = moved;
                 fine += 1;
             }
@@ -183,8 +196,9 @@ pub fn run<R: Rounds>(
     requires arcs { arcs.now ≡ (R.rules rounds.now).arcs }
     requires point { IsReceiverPoint base.now }
     requires shifts { AreShiftsBelow (2 ^ 40) arcs.now }
+    requires used { All (HasUsedShifts (fine_signals (R.rules rounds.now).signals)) arcs.now }
     requires few { length arcs.now ≤ 200 }
-    requires free { free_count arcs.now ≤ 20 }
+    requires free { free_count arcs.now ≤ MOST_FREE_ARCS }
     requires ratio_from { 1000 ≤ ratio }
     requires ratio_to { ratio ≤ 100_000 }
     ensures end { IfOk result (IsEnd (R.rules rounds.now) ratio budget) }

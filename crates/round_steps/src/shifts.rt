@@ -1,14 +1,17 @@
 //! The shifts of the arcs.
-ghost use Rattle.std.specs.Prelude.{◌≡◌, ◌∷◌, [], ℕ, ◌+◌, ◌^◌, ◌<◌, ◌≤◌, length, unsigned_abs, All, IfOk, Some, slice_get};
+ghost use Rattle.std.specs.Prelude.{◌≡◌, ℕ, ◌+◌, ◌^◌, ◌<◌, ◌≤◌, length, unsigned_abs, All, IfOk, IsTrue};
 ghost use Rattle.obs_rows.specs.Ranges.{IsBelow};
 ghost use Rattle.obs_rows.specs.Arcs.{free_count};
-ghost use Rattle.obs_rows.specs.Integers.{integer};
-ghost use Rattle.obs_rows.specs.declared.units.TheConstants.{MOST_FREE_ARCS};
+ghost use Rattle.obs_rows.specs.Signals.{is_phase, AreCounted};
+ghost use Rattle.obs_rows.specs.Unused.{HasUsedShifts};
+ghost use Rattle.obs_rows.specs.declared.units.TheConstants.{MOST_FREE_ARCS, SIGNALS};
 ghost use Rattle.integer_form.specs.FloatPoint.{item};
-ghost use Rattle.round_steps.specs.Shifts.{growth, integers, grown_shift, grown_arc, AreGrown, AreShiftsBelow};
+ghost use Rattle.round_steps.specs.Shifts.{growth, grown_shift, grown_arc, AreGrown, AreShiftsBelow};
 
 use crate::limits::THREE_QUARTERS;
-use obs_rows::{Arc, BASELINE_COLUMNS, MOST_FACTORS, integer_place};
+use fix_decide::integer_of;
+use form_tables::{BASELINE_COLUMNS, MOST_FACTORS};
+use obs_rows::{Arc, BANDS};
 use std::alloc::{AllocError, Global};
 use whole_math::nearest;
 
@@ -28,59 +31,76 @@ fn growth(number: i64) -> i64
     }
 }
 
-/// The number of an arc's integer, and 0 for a datum.
-fn number_of(arcs: &[Arc], k: usize, phase: usize, numbers: &[i64; MOST_FACTORS]) -> i64
-    requires few { length arcs.now ≤ 200 }
+/// The shift of a phase of arc k, which this is, grown by the number of its integer.
+fn grown_shift(
+    arcs: &[Arc],
+    signals: &[usize],
+    k: usize,
+    arc: &Arc,
+    phase: usize,
+    numbers: &[i64; MOST_FACTORS],
+) -> i64
     requires few_free { free_count arcs.now ≤ MOST_FREE_ARCS }
+    requires counted { AreCounted signals.now }
     requires arc { k < length arcs.now }
+    requires phase { phase < SIGNALS }
+    requires is_phase { IsTrue (is_phase phase) }
     requires numbers { (j : ℕ) → unsigned_abs (item numbers.now j) < 2 ^ 46 }
-    ensures value { result ≡ integer arcs.now 0 (integers numbers.now) k phase }
-    ensures size { unsigned_abs result < 2 ^ 46 }
+    requires shifts { All (IsBelow (2 ^ 40)) arc.now.shift }
+    ensures value { result ≡ grown_shift arcs.now signals.now numbers.now k arc.now phase }
+    ensures below { (m : ℕ) → All (IsBelow m) arc.now.shift → 0 < m → IsBelow (m + 2 ^ 30) result }
 {
-    match integer_place(arcs, 0, k, phase) {
-        Some(place) => numbers[BASELINE_COLUMNS + place],
-        None => 0,
-    }
+    let number = integer_of(arcs, signals, &numbers[BASELINE_COLUMNS..], k, phase);
+    arc.shift[BANDS[phase]] + growth(number)
 }
 
 /// Arc k, which this is, with its shifts grown.
-fn grown_arc(arcs: &[Arc], k: usize, arc: &Arc, numbers: &[i64; MOST_FACTORS]) -> Arc
-    requires few { length arcs.now ≤ 200 }
+fn grown_arc(
+    arcs: &[Arc],
+    signals: &[usize],
+    k: usize,
+    arc: &Arc,
+    numbers: &[i64; MOST_FACTORS],
+) -> Arc
     requires few_free { free_count arcs.now ≤ MOST_FREE_ARCS }
+    requires counted { AreCounted signals.now }
     requires arc { k < length arcs.now }
     requires numbers { (j : ℕ) → unsigned_abs (item numbers.now j) < 2 ^ 46 }
     requires shifts { All (IsBelow (2 ^ 40)) arc.now.shift }
-    ensures grown { result ≡ grown_arc arcs.now numbers.now k arc.now }
+    ensures grown { result ≡ grown_arc arcs.now signals.now numbers.now k arc.now }
     ensures below { (m : ℕ) → All (IsBelow m) arc.now.shift → 0 < m → All (IsBelow (m + 2 ^ 30)) result.shift }
 {
-    let first = growth(number_of(arcs, k, 0, numbers));
-    let second = growth(number_of(arcs, k, 1, numbers));
+    let l1 = grown_shift(arcs, signals, k, arc, 0, numbers);
+    let l2 = grown_shift(arcs, signals, k, arc, 1, numbers);
+    let l5 = grown_shift(arcs, signals, k, arc, 4, numbers);
     Arc {
         sat: arc.sat,
         first: arc.first,
         last: arc.last,
         datum: arc.datum,
-        shift: [arc.shift[0] + first, arc.shift[1] + second],
+        shift: [l1, l2, l5],
     }
 }
 
-/// The arcs with their shifts grown by a float point: that of each integer which is over three quarters of a cycle, by
-/// the nearest whole number of cycles.
+/// The arcs with their shifts grown by a float point over these signals: that of each integer which is over three quarters of
+/// a cycle, by the nearest whole number of cycles.
 pub fn grown(
     alloc: Global,
     arcs: &[Arc],
+    signals: &[usize],
     numbers: &[i64; MOST_FACTORS],
 ) -> Result<Vec<Arc>, AllocError>
     requires few { length arcs.now ≤ 200 }
     requires few_free { free_count arcs.now ≤ MOST_FREE_ARCS }
+    requires counted { AreCounted signals.now }
     requires numbers { (j : ℕ) → unsigned_abs (item numbers.now j) < 2 ^ 46 }
     requires shifts { AreShiftsBelow (2 ^ 40) arcs.now }
-    ensures grown { IfOk result (λ v. AreGrown arcs.now numbers.now v.items) }
+    ensures grown { IfOk result (λ v. AreGrown arcs.now signals.now numbers.now v.items) }
     ensures below { IfOk result (λ v. (m : ℕ) → AreShiftsBelow m arcs.now → 0 < m → AreShiftsBelow (m + 2 ^ 30) v.items) }
 {
     let mut after = Vec::new(alloc);
     for k in 0..arcs.len() {
-        after.push(grown_arc(arcs, k, &arcs[k], numbers))?;
+        after.push(grown_arc(arcs, signals, k, &arcs[k], numbers))?;
     }
     Ok(after)
 }

@@ -1,17 +1,20 @@
 //! What one round makes of its session.
-ghost use Rattle.std.specs.Prelude.{◌≡◌, ℕ, ◌^◌, ◌<◌, Bool, unsigned_abs, IfOk, IfErr};
+ghost use Rattle.std.specs.Prelude.{◌≡◌, ℕ, ◌^◌, ◌<◌, Bool, List, unsigned_abs, IfOk, IfErr};
 ghost use Rattle.integer_form.specs.FloatPoint.{item, float_point, HasWide};
 ghost use Rattle.fix_decide.specs.Decisions.{IsFormOf};
 ghost use Rattle.cert_data.specs.Tails.{IsTailOf};
-ghost use Rattle.round_steps.specs.Steps.{IsStep, IsRoundDeclined, IsBestWhereFixed, tail_of};
+ghost use Rattle.settled_decision.specs.Decided.{IsBestWhereFixed};
+ghost use Rattle.round_steps.specs.Steps.{IsStep, IsRoundDeclined};
 
 use crate::limits::first_over;
-use crate::points::{is_receiver_point, moved_point};
+use crate::points::moved_point;
 use cert_data::Tail;
-use integer_form::{Form, LowerFault, Place};
+use form_tables::MOST_FACTORS;
+use integer_form::{Form, Place};
 use lower_form::lower;
 use normal_sum::sum;
-use obs_rows::{MOST_FACTORS, Session};
+use obs_rows::{Session, is_receiver_point};
+use settled_decision::tail_of;
 
 /// A session's form and the numbers of its float point.
 #[derive(Clone, Copy, Debug)]
@@ -32,16 +35,6 @@ pub enum Step {
         point: [i64; 3],
         numbers: [i64; MOST_FACTORS],
     },
-}
-
-/// How a run ends with this fault.
-fn tail_of(fault: LowerFault) -> Tail
-    ensures { result ≡ tail_of fault }
-{
-    match fault {
-        LowerFault::Weak { column, pivot } => Tail::Weak { column, pivot },
-        LowerFault::Overwidth { place } => Tail::Overwidth { place },
-    }
 }
 
 /// The form of a session with its float point.
@@ -70,7 +63,7 @@ pub fn round_step(session: &Session, last: bool) -> Result<Step, Tail>
     ensures step { IfOk result (IsStep last session.now) }
     ensures declined { IfErr result (IsRoundDeclined last session.now) }
     ensures never_fixed { IfErr result (IsBestWhereFixed session.now) }
-    ensures fits { IfErr result (λ t. (budget : ℕ) → IsTailOf session.now.arcs budget t) }
+    ensures fits { IfErr result (λ t. (ss : List ℕ) (budget : ℕ) → IsTailOf ss session.now.arcs budget t) }
 {
     let solved = match solve(session) {
         Ok(solved) => solved,

@@ -1,18 +1,22 @@
 -- What the boxes hold, step by step.
-use Rattle.std.proofs.Common.{◌≡◌, ℕ, ◌+◌, ◌*◌, ◌^◌, ◌<◌, ◌≤◌, ◌⊎◌, [], ◌∷◌, ℤ, pos, ◌+ℤ◌, ◌-ℤ◌, ◌*ℤ◌, neg_ℤ, ◌≤ℤ◌, ◌<ℤ◌, arith, refl, sym, subst, lit<, pow_pos, inl, inr, ⊎_elim}
+use Rattle.std.proofs.Common.{◌≡◌, ℕ, Bool, true, false, not, IsTrue, cond, ◌+◌, ◌*◌, ◌^◌, ◌<◌, [], ◌∷◌, ℤ, pos, ◌+ℤ◌, ◌-ℤ◌, ◌*ℤ◌, neg_ℤ, ◌≤ℤ◌, ◌<ℤ◌, unsigned_abs, arith, refl, sym, subst, lit<, pow_pos, ⊎_elim}
 use Rattle.std.proofs.lemmas.Int.{ints}
-use Rattle.std.proofs.lemmas.Bool.{cases_lt}
+use Rattle.std.proofs.lemmas.Bool.{false≢true}
 use Rattle.whole_math.specs.Rounding.{floor_div, ceil_div, IsFloor, IsCeil}
 use Rattle.whole_math.proofs.Rounding.{floor_is, ceil_is, floor_le_ceil}
 use Rattle.whole_math.proofs.IntLaws.{mul_one_ℤ}
 use Rattle.whole_math.proofs.Ring.{◌⊗◌}
 use Rattle.whole_math.proofs.Order.{lins, mul_le_right}
 use Rattle.whole_math.proofs.Inequalities.{same_by, pos_nn, le_refl_ℤ}
-use Rattle.rational.specs.Rational.{Rational, of_whole, sub_r, mul_r, InBox, Near}
+use Rattle.rational.specs.Rational.{Rational, of_whole, sub_r, mul_r, divided, InBox, Near}
 use Rattle.rational.proofs.Boxes.{wider}
 use Rattle.iv_core.proofs.SumLaws.{sub_holds}
 use Rattle.obs_rows.specs.Ranges.{IsScale}
-use Rattle.row_boxes.specs.Terms.{metre, light_speed, pseudorange, thousandth, observed, row_unit, in_row_unit}
+use Rattle.obs_rows.specs.Signals.{wavelength, is_phase}
+use Rattle.obs_rows.specs.declared.units.TheConstants.{LIGHT_SPEED, ROW_EXPONENT}
+use Rattle.row_boxes.specs.declared.pseudoranges.TheConstants.{UNITS, PARTS}
+use Rattle.row_boxes.specs.declared.prefits.TheConstants.{UNITS as MM_UNITS}
+use Rattle.row_boxes.specs.Terms.{prefit_width, y_width, metre, light_speed, pseudorange, observed, row_unit, in_row_unit}
 use Rattle.row_boxes.specs.YBoxes.{most_radius, MeetsOne}
 use Rattle.row_boxes.proofs.Scaling.{scaled_box}
 use Rattle.row_boxes.proofs.Ends.{scale_cases}
@@ -33,8 +37,12 @@ times_high a x n k d n0 h = step ((x *ℤ k) *ℤ n) ((a *ℤ d) *ℤ n) ((n *�
     step : (p q r s : ℤ) → p ≤ℤ q → r ≡ p → s ≡ q → r ≤ℤ s
     step p q r s h e f = omega (arith, lins)
 
-of_light : (lo hi : ℤ) (t : Rational) → InBox 60 lo hi t → InBox 60 (lo *ℤ pos 299792458) (hi *ℤ pos 299792458) (mul_r light_speed t)
-of_light lo hi t h = (times_low lo t.num (pos 299792458) (pos (2 ^ 60)) (pos (1 * t.den)) (pos_nn 299792458) (rw (one t.den) h.0), times_high hi t.num (pos 299792458) (pos (2 ^ 60)) (pos (1 * t.den)) (pos_nn 299792458) (rw (one t.den) h.1))
+of_light : (lo hi : ℤ) (t : Rational) → InBox 60 lo hi t → InBox 60 (lo *ℤ LIGHT_SPEED) (hi *ℤ LIGHT_SPEED) (mul_r light_speed t)
+of_light lo hi t h = (
+  times_low lo t.num LIGHT_SPEED (pos (2 ^ 60)) (pos (1 * t.den)) (pos_nn (unsigned_abs LIGHT_SPEED)) (rw (one t.den) h.0),
+  times_high hi t.num LIGHT_SPEED (pos (2 ^ 60))
+      (pos (1 * t.den)) (pos_nn (unsigned_abs LIGHT_SPEED)) (rw (one t.den) h.1),
+)
   where
     one : (d : ℕ) → 1 * d ≡ d
     one d = omega arith
@@ -62,46 +70,35 @@ finer lo hi r h = (
     high l d x h = step' (l *ℤ d) x ((l *ℤ pos (2 ^ 24)) *ℤ d) h (same l d)
 
 pub pseudorange_holds : (rl rh tl th f g : ℤ) (r t : Rational) →
-    IsFloor (((rl *ℤ pos (2 ^ 24)) -ℤ (th *ℤ pos 299792458)) *ℤ pos 47262600000) (149896229 * 2 ^ 40) f →
-    IsCeil (((rh *ℤ pos (2 ^ 24)) -ℤ (tl *ℤ pos 299792458)) *ℤ pos 47262600000) (149896229 * 2 ^ 40) g →
-    InBox 36 rl rh r → InBox 60 tl th t → InBox 20 f g (pseudorange r t)
+    IsFloor (((rl *ℤ pos (2 ^ 24)) -ℤ (th *ℤ LIGHT_SPEED)) *ℤ pos UNITS) (PARTS * 2 ^ 39) f →
+    IsCeil (((rh *ℤ pos (2 ^ 24)) -ℤ (tl *ℤ LIGHT_SPEED)) *ℤ pos UNITS) (PARTS * 2 ^ 39) g →
+    InBox 36 rl rh r → InBox 60 tl th t → InBox 15 f g (pseudorange r t)
 pseudorange_holds rl rh tl th f g r t k l h i =
-    scaled_box 60 20 ((rl *ℤ pos (2 ^ 24)) -ℤ (th *ℤ pos 299792458)) ((rh *ℤ pos (2 ^ 24)) -ℤ (tl *ℤ pos 299792458)) (pos 47262600000) f g (149896229 * 2 ^ 40) metre (sub_r r (mul_r light_speed t))
-    (lit< tt) (pos_nn 47262600000) refl k l (sub_holds 60 (rl *ℤ pos (2 ^ 24)) (rh *ℤ pos (2 ^ 24)) (tl *ℤ pos 299792458) (th *ℤ pos 299792458) r (mul_r light_speed t) (finer rl rh r h) (of_light tl th t i))
+    scaled_box 60 15 ((rl *ℤ pos (2 ^ 24)) -ℤ (th *ℤ LIGHT_SPEED)) ((rh *ℤ pos (2 ^ 24)) -ℤ (tl *ℤ LIGHT_SPEED)) (pos UNITS) f g (PARTS * 2 ^ 39) metre (sub_r r (mul_r light_speed t))
+    (lit< tt) (pos_nn UNITS) refl k l (sub_holds 60 (rl *ℤ pos (2 ^ 24)) (rh *ℤ pos (2 ^ 24)) (tl *ℤ LIGHT_SPEED) (th *ℤ LIGHT_SPEED) r (mul_r light_speed t) (finer rl rh r h) (of_light tl th t i))
 
 -- ---- observed
 whole_in : (a : ℤ) → InBox 0 a a (of_whole a)
 whole_in a = (le_refl_ℤ (a *ℤ pos 1), le_refl_ℤ (a *ℤ pos 1))
 
-pub observed_code : (s : ℕ) (a f g : ℤ) → 2 ≤ s → s < 4 → IsFloor (a *ℤ pos (47262600 * 2 ^ 20)) 149896229 f → IsCeil (a *ℤ pos (47262600 * 2 ^ 20)) 149896229 g → InBox 20 f g (observed s a)
-observed_code s a f g m n k l = ⊎_elim (λ (e : s ≡ 2). subst (λ (i : ℕ). InBox 20 f g (observed i a)) (sym e) (code2)) (λ (e : s ≡ 3). subst (λ (i : ℕ). InBox 20 f g (observed i a)) (sym e) (code3)) (which s m n)
+pub observed_code : (s : ℕ) (a f g : ℤ) → IsTrue (not (is_phase s)) → IsFloor (a *ℤ MM_UNITS) PARTS f → IsCeil (a *ℤ MM_UNITS) PARTS g → InBox 15 f g (observed s a)
+observed_code s a f g c k l = by_kind (is_phase s) c
   where
-    code2 : InBox 20 f g (observed 2 a)
-    code2 = scaled_box 0 20 a a (pos (47262600 * 2 ^ 20)) f g 149896229 (thousandth 2) (of_whole a) (lit< tt) (pos_nn (47262600 * 2 ^ 20)) refl k l (whole_in a)
-
-    code3 : InBox 20 f g (observed 3 a)
-    code3 = scaled_box 0 20 a a (pos (47262600 * 2 ^ 20)) f g 149896229 (thousandth 3) (of_whole a) (lit< tt) (pos_nn (47262600 * 2 ^ 20)) refl k l (whole_in a)
-
-    last : (s : ℕ) → 2 ≤ s → s < 4 → 3 ≤ s → s ≡ 3
-    last s m n h = omega arith
-
-    first : (s : ℕ) → 2 ≤ s → s < 3 → s ≡ 2
-    first s m h = omega arith
-
-    which : (s : ℕ) → 2 ≤ s → s < 4 → (s ≡ 2) ⊎ (s ≡ 3)
-    which s m n = ⊎_elim (λ (h : s < 3). inl (first s m h)) (λ (h : 3 ≤ s). inr (last s m n h)) (cases_lt s 3)
+    by_kind : (b : Bool) → IsTrue (not b) → InBox 15 f g (mul_r (cond b (divided (of_whole (wavelength s)) 1000 (lit< tt)) (divided metre 1000 (lit< tt))) (of_whole a))
+    by_kind true h = absurd (false≢true h)
+    by_kind false h = scaled_box 0 15 a a MM_UNITS f g PARTS (divided metre 1000 (lit< tt)) (of_whole a) (lit< tt) (pos_nn 35620120166400) refl k l (whole_in a)
 
 -- ---- observed less computed
-pub prefit_holds : (hl hh bl bh rl rh : ℤ) (o b r : Rational) → InBox 20 hl hh o → InBox 20 bl bh b → InBox 20 rl rh r → InBox 20 (hl -ℤ (rh -ℤ bl)) (hh -ℤ (rl -ℤ bh)) (sub_r o (sub_r r b))
-prefit_holds hl hh bl bh rl rh o b r h i j = sub_holds 20 hl hh (rl -ℤ bh) (rh -ℤ bl) o (sub_r r b) h (sub_holds 20 rl rh bl bh r b j i)
+pub prefit_holds : (hl hh bl bh rl rh : ℤ) (o b r : Rational) → InBox 15 hl hh o → InBox 15 bl bh b → InBox 15 rl rh r → InBox 15 (hl -ℤ (rh -ℤ bl)) (hh -ℤ (rl -ℤ bh)) (sub_r o (sub_r r b))
+prefit_holds hl hh bl bh rl rh o b r h i j = sub_holds 15 hl hh (rl -ℤ bh) (rh -ℤ bl) o (sub_r r b) h (sub_holds 15 rl rh bl bh r b j i)
 
 -- ---- in the unit of a row
-unit_is : (s : ℕ) → IsScale s → (pos 1 *ℤ pos (2 ^ s)) *ℤ pos (2 ^ 20) ≡ (pos (2 ^ 18) *ℤ pos (2 ^ 0)) *ℤ pos (2 ^ (s + 2))
-unit_is s h = ⊎_elim (λ (e : s ≡ 0). subst (λ (i : ℕ). (pos 1 *ℤ pos (2 ^ i)) *ℤ pos (2 ^ 20) ≡ (pos (2 ^ 18) *ℤ pos (2 ^ 0)) *ℤ pos (2 ^ (i + 2))) (sym e) refl)
-    (λ (e : s ≡ 14). subst (λ (i : ℕ). (pos 1 *ℤ pos (2 ^ i)) *ℤ pos (2 ^ 20) ≡ (pos (2 ^ 18) *ℤ pos (2 ^ 0)) *ℤ pos (2 ^ (i + 2))) (sym e) refl) (scale_cases s h)
+unit_is : (s : ℕ) → IsScale s → (pos 1 *ℤ pos (2 ^ s)) *ℤ pos (2 ^ 15) ≡ (pos (2 ^ ROW_EXPONENT) *ℤ pos (2 ^ 0)) *ℤ pos (2 ^ (s + 2))
+unit_is s h = ⊎_elim (λ (e : s ≡ 0). subst (λ (i : ℕ). (pos 1 *ℤ pos (2 ^ i)) *ℤ pos (2 ^ 15) ≡ (pos (2 ^ ROW_EXPONENT) *ℤ pos (2 ^ 0)) *ℤ pos (2 ^ (i + 2))) (sym e) refl)
+    (λ (e : s ≡ 14). subst (λ (i : ℕ). (pos 1 *ℤ pos (2 ^ i)) *ℤ pos (2 ^ 15) ≡ (pos (2 ^ ROW_EXPONENT) *ℤ pos (2 ^ 0)) *ℤ pos (2 ^ (i + 2))) (sym e) refl) (scale_cases s h)
 
-pub whole_at : (w : ℤ) → InBox 20 (w *ℤ pos 1048576) (w *ℤ pos 1048576) (of_whole w)
-whole_at w = (same (w *ℤ pos 1048576), same' (w *ℤ pos 1048576))
+pub whole_at : (w : ℤ) → InBox 15 (w *ℤ pos 32768) (w *ℤ pos 32768) (of_whole w)
+whole_at w = (same (w *ℤ pos 32768), same' (w *ℤ pos 32768))
   where
     same : (x : ℤ) → (x *ℤ pos 1) ≤ℤ x
     same x = omega (arith, ints)
@@ -109,25 +106,25 @@ whole_at w = (same (w *ℤ pos 1048576), same' (w *ℤ pos 1048576))
     same' : (x : ℤ) → x ≤ℤ (x *ℤ pos 1)
     same' x = omega (arith, ints)
 
--- the ends after a whole number of κ is taken off, and the middle and radius of a box around them
+-- the ends after a whole number of ι is taken off, and the middle and radius of a box around them
 pub record AreYEnds (s : ℕ) (lo hi w c r : ℤ) : Type 0 where
   pub scale : IsScale s
   pub ordered : lo ≤ℤ hi
-  pub narrow : (hi -ℤ lo) ≤ℤ pos 5225
-  pub top : c +ℤ r ≡ ceil_div (hi -ℤ (w *ℤ pos 1048576)) (2 ^ (s + 2))
-  pub bottom : (c -ℤ r) ≤ℤ floor_div (lo -ℤ (w *ℤ pos 1048576)) (2 ^ (s + 2))
-  pub half : (pos 2 *ℤ r) ≤ℤ ((ceil_div (hi -ℤ (w *ℤ pos 1048576)) (2 ^ (s + 2)) -ℤ floor_div (lo -ℤ (w *ℤ pos 1048576)) (2 ^ (s + 2))) +ℤ pos 1)
+  pub narrow : (hi -ℤ lo) ≤ℤ prefit_width
+  pub top : c +ℤ r ≡ ceil_div (hi -ℤ (w *ℤ pos 32768)) (2 ^ (s + 2))
+  pub bottom : (c -ℤ r) ≤ℤ floor_div (lo -ℤ (w *ℤ pos 32768)) (2 ^ (s + 2))
+  pub half : (pos 2 *ℤ r) ≤ℤ ((ceil_div (hi -ℤ (w *ℤ pos 32768)) (2 ^ (s + 2)) -ℤ floor_div (lo -ℤ (w *ℤ pos 32768)) (2 ^ (s + 2))) +ℤ pos 1)
 
-pub y_holds : (s : ℕ) (lo hi w c r : ℤ) (q : Rational) → AreYEnds s lo hi w c r → InBox 20 lo hi q → Near c r (in_row_unit s (sub_r q (of_whole w)))
+pub y_holds : (s : ℕ) (lo hi w c r : ℤ) (q : Rational) → AreYEnds s lo hi w c r → InBox 15 lo hi q → Near c r (in_row_unit s (sub_r q (of_whole w)))
 y_holds s lo hi w c r q a h =
     let e : ℕ = 2 ^ (s + 2) in
-    let l : ℤ = lo -ℤ (w *ℤ pos 1048576) in
-    let u : ℤ = hi -ℤ (w *ℤ pos 1048576) in
+    let l : ℤ = lo -ℤ (w *ℤ pos 32768) in
+    let u : ℤ = hi -ℤ (w *ℤ pos 32768) in
     let x : Rational = sub_r q (of_whole w) in
     wider 0 (floor_div l e) (ceil_div u e) (c -ℤ r) (c +ℤ r) (in_row_unit s x) a.bottom (same_le _ _ (sym a.top))
-    (scaled_box 20 0 l u (pos 1) (floor_div l e) (ceil_div u e) e (row_unit s) x (pow_pos (s + 2)) (pos_nn 1) (unit_is s a.scale)
+    (scaled_box 15 0 l u (pos 1) (floor_div l e) (ceil_div u e) e (row_unit s) x (pow_pos (s + 2)) (pos_nn 1) (unit_is s a.scale)
     (rw (mul_one_ℤ l) (floor_is l e (pow_pos (s + 2)))) (rw (mul_one_ℤ u) (ceil_is u e (pow_pos (s + 2))))
-    (sub_holds 20 lo hi (w *ℤ pos 1048576) (w *ℤ pos 1048576) q (of_whole w) h (whole_at w)))
+    (sub_holds 15 lo hi (w *ℤ pos 32768) (w *ℤ pos 32768) q (of_whole w) h (whole_at w)))
   where
     same_le : (x y : ℤ) → x ≡ y → x ≤ℤ y
     same_le x y e = omega (arith, lins)
@@ -142,17 +139,19 @@ record Rounded (e : ℕ) (l u f g : ℤ) : Type 0 where
 rounded : (e : ℕ) (l u : ℤ) → 0 < e → Rounded e l u (floor_div l e) (ceil_div u e)
 rounded e l u h = let f = floor_is l e h in let g = ceil_is u e h in record { low = f.0; below = f.1; high = g.0; above = g.1 }
 
-pub y_narrow : (s : ℕ) (lo hi x : ℤ) → IsScale s → (hi -ℤ lo) ≤ℤ pos 5225 → (ceil_div (hi -ℤ x) (2 ^ (s + 2)) -ℤ floor_div (lo -ℤ x) (2 ^ (s + 2))) ≤ℤ pos 1308
-y_narrow s lo hi x t h = ⊎_elim (λ (e : s ≡ 0). subst (λ (i : ℕ). (ceil_div (hi -ℤ x) (2 ^ (i + 2)) -ℤ floor_div (lo -ℤ x) (2 ^ (i + 2))) ≤ℤ pos 1308) (sym e) (four (lo -ℤ x) (hi -ℤ x) _ _ (rounded 4 (lo -ℤ x) (hi -ℤ x) (lit< tt)) (same lo hi x h)))
-    (λ (e : s ≡ 14). subst (λ (i : ℕ). (ceil_div (hi -ℤ x) (2 ^ (i + 2)) -ℤ floor_div (lo -ℤ x) (2 ^ (i + 2))) ≤ℤ pos 1308) (sym e) (many (lo -ℤ x) (hi -ℤ x) _ _ (rounded 65536 (lo -ℤ x) (hi -ℤ x) (lit< tt)) (same lo hi x h))) (scale_cases s t)
+pub y_narrow : (s : ℕ) (lo hi x : ℤ) → IsScale s → (hi -ℤ lo) ≤ℤ prefit_width → (ceil_div (hi -ℤ x) (2 ^ (s + 2)) -ℤ floor_div (lo -ℤ x) (2 ^ (s + 2))) ≤ℤ y_width
+y_narrow s lo hi x t h = ⊎_elim (λ (e : s ≡ 0). subst (λ (i : ℕ). (ceil_div (hi -ℤ x) (2 ^ (i + 2)) -ℤ floor_div (lo -ℤ x) (2 ^ (i + 2))) ≤ℤ y_width) (sym e)
+    (four (lo -ℤ x) (hi -ℤ x) _ _ (rounded 4 (lo -ℤ x) (hi -ℤ x) (lit< tt)) (same lo hi x h)))
+    (λ (e : s ≡ 14). subst (λ (i : ℕ). (ceil_div (hi -ℤ x) (2 ^ (i + 2)) -ℤ floor_div (lo -ℤ x) (2 ^ (i + 2))) ≤ℤ y_width) (sym e)
+    (many (lo -ℤ x) (hi -ℤ x) _ _ (rounded 65536 (lo -ℤ x) (hi -ℤ x) (lit< tt)) (same lo hi x h))) (scale_cases s t)
   where
-    four : (l u f g : ℤ) → Rounded 4 l u f g → (u -ℤ l) ≤ℤ pos 5225 → (g -ℤ f) ≤ℤ pos 1308
+    four : (l u f g : ℤ) → Rounded 4 l u f g → (u -ℤ l) ≤ℤ prefit_width → (g -ℤ f) ≤ℤ y_width
     four l u f g k h = omega (arith, ints)
 
-    many : (l u f g : ℤ) → Rounded 65536 l u f g → (u -ℤ l) ≤ℤ pos 5225 → (g -ℤ f) ≤ℤ pos 1308
+    many : (l u f g : ℤ) → Rounded 65536 l u f g → (u -ℤ l) ≤ℤ prefit_width → (g -ℤ f) ≤ℤ y_width
     many l u f g k h = omega (arith, ints)
 
-    same : (lo hi x : ℤ) → (hi -ℤ lo) ≤ℤ pos 5225 → ((hi -ℤ x) -ℤ (lo -ℤ x)) ≤ℤ pos 5225
+    same : (lo hi x : ℤ) → (hi -ℤ lo) ≤ℤ prefit_width → ((hi -ℤ x) -ℤ (lo -ℤ x)) ≤ℤ prefit_width
     same lo hi x h = omega (arith, lins)
 
 pub y_ordered : (s : ℕ) (lo hi x : ℤ) → lo ≤ℤ hi → floor_div (lo -ℤ x) (2 ^ (s + 2)) ≤ℤ ceil_div (hi -ℤ x) (2 ^ (s + 2))
@@ -165,29 +164,29 @@ pub y_radius : (s : ℕ) (lo hi w c r : ℤ) → AreYEnds s lo hi w c r → r �
 y_radius s lo hi w c r a = ⊎_elim (λ (e : s ≡ 0). subst (λ (i : ℕ). r ≤ℤ most_radius i) (sym e) (fine (subst (λ (i : ℕ). AreYEnds i lo hi w c r) e a)))
     (λ (e : s ≡ 14). subst (λ (i : ℕ). r ≤ℤ most_radius i) (sym e) (coarse (subst (λ (i : ℕ). AreYEnds i lo hi w c r) e a))) (scale_cases s a.scale)
   where
-    four : (l u f g r : ℤ) → Rounded 4 l u f g → (u -ℤ l) ≤ℤ pos 5225 → (pos 2 *ℤ r) ≤ℤ ((g -ℤ f) +ℤ pos 1) → r ≤ℤ pos 654
+    four : (l u f g r : ℤ) → Rounded 4 l u f g → (u -ℤ l) ≤ℤ prefit_width → (pos 2 *ℤ r) ≤ℤ ((g -ℤ f) +ℤ pos 1) → r ≤ℤ most_radius 0
     four l u f g r k h i = omega (arith, ints)
 
-    many : (l u f g r : ℤ) → Rounded 65536 l u f g → (u -ℤ l) ≤ℤ pos 5225 → (pos 2 *ℤ r) ≤ℤ ((g -ℤ f) +ℤ pos 1) → r ≤ℤ pos 1
+    many : (l u f g r : ℤ) → Rounded 65536 l u f g → (u -ℤ l) ≤ℤ prefit_width → (pos 2 *ℤ r) ≤ℤ ((g -ℤ f) +ℤ pos 1) → r ≤ℤ most_radius 14
     many l u f g r k h i = omega (arith, ints)
 
-    same : (lo hi x : ℤ) → (hi -ℤ lo) ≤ℤ pos 5225 → ((hi -ℤ x) -ℤ (lo -ℤ x)) ≤ℤ pos 5225
+    same : (lo hi x : ℤ) → (hi -ℤ lo) ≤ℤ prefit_width → ((hi -ℤ x) -ℤ (lo -ℤ x)) ≤ℤ prefit_width
     same lo hi x h = omega (arith, lins)
 
-    fine : AreYEnds 0 lo hi w c r → r ≤ℤ pos 654
-    fine a = four _ _ _ _ r (rounded 4 (lo -ℤ (w *ℤ pos 1048576)) (hi -ℤ (w *ℤ pos 1048576)) (lit< tt)) (same lo hi (w *ℤ pos 1048576) a.narrow) a.half
+    fine : AreYEnds 0 lo hi w c r → r ≤ℤ most_radius 0
+    fine a = four _ _ _ _ r (rounded 4 (lo -ℤ (w *ℤ pos 32768)) (hi -ℤ (w *ℤ pos 32768)) (lit< tt)) (same lo hi (w *ℤ pos 32768) a.narrow) a.half
 
-    coarse : AreYEnds 14 lo hi w c r → r ≤ℤ pos 1
-    coarse a = many _ _ _ _ r (rounded 65536 (lo -ℤ (w *ℤ pos 1048576)) (hi -ℤ (w *ℤ pos 1048576)) (lit< tt)) (same lo hi (w *ℤ pos 1048576) a.narrow) a.half
+    coarse : AreYEnds 14 lo hi w c r → r ≤ℤ most_radius 14
+    coarse a = many _ _ _ _ r (rounded 65536 (lo -ℤ (w *ℤ pos 32768)) (hi -ℤ (w *ℤ pos 32768)) (lit< tt)) (same lo hi (w *ℤ pos 32768) a.narrow) a.half
 
 -- the box around the middle of the ends
-pub middle_ends : (s : ℕ) (lo hi w : ℤ) → IsScale s → lo ≤ℤ hi → (hi -ℤ lo) ≤ℤ pos 5225 →
-    let f : ℤ = floor_div (lo -ℤ (w *ℤ pos 1048576)) (2 ^ (s + 2)) in
-    let g : ℤ = ceil_div (hi -ℤ (w *ℤ pos 1048576)) (2 ^ (s + 2)) in
+pub middle_ends : (s : ℕ) (lo hi w : ℤ) → IsScale s → lo ≤ℤ hi → (hi -ℤ lo) ≤ℤ prefit_width →
+    let f : ℤ = floor_div (lo -ℤ (w *ℤ pos 32768)) (2 ^ (s + 2)) in
+    let g : ℤ = ceil_div (hi -ℤ (w *ℤ pos 32768)) (2 ^ (s + 2)) in
     AreYEnds s lo hi w (floor_div (f +ℤ g) 2) (g -ℤ floor_div (f +ℤ g) 2)
 middle_ends s lo hi w t h k =
-    let f : ℤ = floor_div (lo -ℤ (w *ℤ pos 1048576)) (2 ^ (s + 2)) in
-    let g : ℤ = ceil_div (hi -ℤ (w *ℤ pos 1048576)) (2 ^ (s + 2)) in
+    let f : ℤ = floor_div (lo -ℤ (w *ℤ pos 32768)) (2 ^ (s + 2)) in
+    let g : ℤ = ceil_div (hi -ℤ (w *ℤ pos 32768)) (2 ^ (s + 2)) in
     let c : ℤ = floor_div (f +ℤ g) 2 in
     let m = floor_is (f +ℤ g) 2 (lit< tt) in
     record { scale = t; ordered = h; narrow = k; top = sum c g; bottom = below f g c m.0; half = half f g c m.1 }
@@ -201,30 +200,26 @@ middle_ends s lo hi w t h k =
     half : (f g c : ℤ) → (f +ℤ g) <ℤ ((c *ℤ pos 2) +ℤ pos 2) → (pos 2 *ℤ (g -ℤ c)) ≤ℤ ((g -ℤ f) +ℤ pos 1)
     half f g c h = omega (arith, ints)
 
-pub y_meets : (s : ℕ) (lo hi w c r : ℤ) → AreYEnds s lo hi w c r → neg_ℤ (pos (2 ^ 19)) ≤ℤ (lo -ℤ (w *ℤ pos 1048576)) → (hi -ℤ (w *ℤ pos 1048576)) ≤ℤ (pos (2 ^ 19) +ℤ pos (2 ^ 13)) → MeetsOne s c r
+pub y_meets : (s : ℕ) (lo hi w c r : ℤ) → AreYEnds s lo hi w c r → neg_ℤ (pos (2 ^ 14)) ≤ℤ (lo -ℤ (w *ℤ pos 32768)) → (hi -ℤ (w *ℤ pos 32768)) ≤ℤ (pos (2 ^ 14) +ℤ prefit_width) → MeetsOne s c r
 y_meets s lo hi w c r a h k = ⊎_elim (λ (e : s ≡ 0). subst (λ (i : ℕ). MeetsOne i c r) (sym e) (fine (subst (λ (i : ℕ). AreYEnds i lo hi w c r) e a)))
     (λ (e : s ≡ 14). subst (λ (i : ℕ). MeetsOne i c r) (sym e) (coarse (subst (λ (i : ℕ). AreYEnds i lo hi w c r) e a))) (scale_cases s a.scale)
   where
-    four : (l u f g : ℤ) → Rounded 4 l u f g → neg_ℤ (pos (2 ^ 19)) ≤ℤ l → u ≤ℤ (pos (2 ^ 19) +ℤ pos (2 ^ 13)) → l ≤ℤ u → (f ≤ℤ pos (2 ^ 18)) × (neg_ℤ (pos (2 ^ 18)) ≤ℤ g)
-    four l u f g k h i j = (omega (arith, ints), omega (arith, ints))
+    -- x and y are the ends of the box, which reach to f and to g
+    four : (l u f g x y : ℤ) → Rounded 4 l u f g → neg_ℤ (pos (2 ^ 14)) ≤ℤ l → u ≤ℤ (pos (2 ^ 14) +ℤ prefit_width) → l ≤ℤ u → x ≤ℤ f → y ≡ g →
+        ((pos 1 *ℤ x) ≤ℤ pos (2 ^ ROW_EXPONENT)) × (neg_ℤ (pos (2 ^ ROW_EXPONENT)) ≤ℤ (pos 1 *ℤ y))
+    four l u f g x y k h i j m e = (omega (arith, ints), omega (arith, ints))
 
-    many : (l u f g : ℤ) → Rounded 65536 l u f g → neg_ℤ (pos (2 ^ 19)) ≤ℤ l → u ≤ℤ (pos (2 ^ 19) +ℤ pos (2 ^ 13)) → l ≤ℤ u → (f ≤ℤ pos 16) × (neg_ℤ (pos 16) ≤ℤ g)
-    many l u f g k h i j = (omega (arith, ints), omega (arith, ints))
+    many : (l u f g x y : ℤ) → Rounded 65536 l u f g → neg_ℤ (pos (2 ^ 14)) ≤ℤ l → u ≤ℤ (pos (2 ^ 14) +ℤ prefit_width) → l ≤ℤ u → x ≤ℤ f → y ≡ g →
+        ((pos 16384 *ℤ x) ≤ℤ pos (2 ^ ROW_EXPONENT)) × (neg_ℤ (pos (2 ^ ROW_EXPONENT)) ≤ℤ (pos 16384 *ℤ y))
+    many l u f g x y k h i j m e = (omega (arith, ints), omega (arith, ints))
 
     less : (lo hi x : ℤ) → lo ≤ℤ hi → (lo -ℤ x) ≤ℤ (hi -ℤ x)
     less lo hi x h = omega (arith, lins)
 
-    both : (x f m : ℤ) → x ≤ℤ f → f ≤ℤ m → x ≤ℤ m
-    both x f m h k = omega (arith, lins)
-
-    along : (x g m : ℤ) → x ≡ g → m ≤ℤ g → m ≤ℤ x
-    along x g m e k = omega (arith, lins)
-
-    meet : (x f g m : ℤ) → x ≤ℤ f → c +ℤ r ≡ g → (f ≤ℤ m) × (neg_ℤ m ≤ℤ g) → (x ≤ℤ m) × (neg_ℤ m ≤ℤ (c +ℤ r))
-    meet x f g m h e k = (both x f m h k.0, along (c +ℤ r) g (neg_ℤ m) e k.1)
-
     fine : AreYEnds 0 lo hi w c r → MeetsOne 0 c r
-    fine a = meet (c -ℤ r) _ _ (pos (2 ^ 18)) a.bottom a.top (four (lo -ℤ (w *ℤ pos 1048576)) (hi -ℤ (w *ℤ pos 1048576)) _ _ (rounded 4 (lo -ℤ (w *ℤ pos 1048576)) (hi -ℤ (w *ℤ pos 1048576)) (lit< tt)) h k (less lo hi (w *ℤ pos 1048576) a.ordered))
+    fine a = four (lo -ℤ (w *ℤ pos 32768)) (hi -ℤ (w *ℤ pos 32768)) _ _ (c -ℤ r) (c +ℤ r) (rounded 4 (lo -ℤ (w *ℤ pos 32768)) (hi -ℤ (w *ℤ pos 32768)) (lit< tt)) h k
+        (less lo hi (w *ℤ pos 32768) a.ordered) a.bottom a.top
 
     coarse : AreYEnds 14 lo hi w c r → MeetsOne 14 c r
-    coarse a = meet (c -ℤ r) _ _ (pos 16) a.bottom a.top (many (lo -ℤ (w *ℤ pos 1048576)) (hi -ℤ (w *ℤ pos 1048576)) _ _ (rounded 65536 (lo -ℤ (w *ℤ pos 1048576)) (hi -ℤ (w *ℤ pos 1048576)) (lit< tt)) h k (less lo hi (w *ℤ pos 1048576) a.ordered))
+    coarse a = many (lo -ℤ (w *ℤ pos 32768)) (hi -ℤ (w *ℤ pos 32768)) _ _ (c -ℤ r) (c +ℤ r) (rounded 65536 (lo -ℤ (w *ℤ pos 32768)) (hi -ℤ (w *ℤ pos 32768)) (lit< tt)) h k
+        (less lo hi (w *ℤ pos 32768) a.ordered) a.bottom a.top

@@ -6,6 +6,9 @@ use Rattle.std.proofs.lemmas.Bool.{or_cases, eqb-true}
 use Rattle.std.specs.Prelude.{◌==◌}
 use Rattle.whole_math.specs.Rounding.{IsFloor, IsCeil}
 use Rattle.obs_rows.specs.Ranges.{IsScale}
+use Rattle.obs_rows.specs.declared.units.TheConstants.{LIGHT_SPEED}
+use Rattle.row_boxes.specs.declared.pseudoranges.TheConstants.{UNITS, PARTS}
+use Rattle.row_boxes.specs.Terms.{pseudorange_width, prefit_width}
 
 -- ---- as the code reads them
 pub plain64 : (x : ℤ) → neg_ℤ (pos (2 ^ 62)) ≤ℤ x → x ≤ℤ pos (2 ^ 62) → to_z w64 (of_z w64 x) ≡ x
@@ -27,16 +30,18 @@ scale_cases s h = ⊎_elim (λ (e : (s == 0) ≡ true). inl (eqb-true s 0 e)) (�
     to_true b h = h
 
 -- ---- pseudoranges
-pub pseudorange_ordered : (f g v w : ℤ) → v ≤ℤ w → IsFloor (v *ℤ pos 47262600000) (149896229 * 2 ^ 40) f → IsCeil (w *ℤ pos 47262600000) (149896229 * 2 ^ 40) g → f ≤ℤ g
+pub pseudorange_ordered : (f g v w : ℤ) → v ≤ℤ w → IsFloor (v *ℤ pos UNITS) (PARTS * 2 ^ 39) f → IsCeil (w *ℤ pos UNITS) (PARTS * 2 ^ 39) g → f ≤ℤ g
 pseudorange_ordered f g v w h k l = step h k.0 l.0
   where
-    step : v ≤ℤ w → (f *ℤ pos (149896229 * 2 ^ 40)) ≤ℤ (v *ℤ pos 47262600000) → (w *ℤ pos 47262600000) ≤ℤ (g *ℤ pos (149896229 * 2 ^ 40)) → f ≤ℤ g
+    step : v ≤ℤ w → (f *ℤ pos (PARTS * 2 ^ 39)) ≤ℤ (v *ℤ pos UNITS) → (w *ℤ pos UNITS) ≤ℤ (g *ℤ pos (PARTS * 2 ^ 39)) → f ≤ℤ g
     step h k l = omega (arith, ints)
 
-pub pseudorange_narrow : (f g v w : ℤ) → (w -ℤ v) ≤ℤ pos (2 ^ 43 + 2 ^ 10 * 299792458) → IsFloor (v *ℤ pos 47262600000) (149896229 * 2 ^ 40) f → IsCeil (w *ℤ pos 47262600000) (149896229 * 2 ^ 40) g → (g -ℤ f) ≤ℤ pos 2612
+pub pseudorange_narrow : (f g v w : ℤ) → (w -ℤ v) ≤ℤ (pos (2 ^ 43) +ℤ (pos (2 ^ 10) *ℤ LIGHT_SPEED)) → IsFloor (v *ℤ pos UNITS) (PARTS * 2 ^ 39) f → IsCeil (w *ℤ pos UNITS) (PARTS * 2 ^ 39) g →
+    (g -ℤ f) ≤ℤ pseudorange_width
 pseudorange_narrow f g v w h k l = step h k.1 l.1
   where
-    step : (w -ℤ v) ≤ℤ pos (2 ^ 43 + 2 ^ 10 * 299792458) → (v *ℤ pos 47262600000) <ℤ (f *ℤ pos (149896229 * 2 ^ 40) +ℤ pos (149896229 * 2 ^ 40)) → (g *ℤ pos (149896229 * 2 ^ 40)) <ℤ (w *ℤ pos 47262600000 +ℤ pos (149896229 * 2 ^ 40)) → (g -ℤ f) ≤ℤ pos 2612
+    step : (w -ℤ v) ≤ℤ (pos (2 ^ 43) +ℤ (pos (2 ^ 10) *ℤ LIGHT_SPEED)) → (v *ℤ pos UNITS) <ℤ (f *ℤ pos (PARTS * 2 ^ 39) +ℤ pos (PARTS * 2 ^ 39)) →
+        (g *ℤ pos (PARTS * 2 ^ 39)) <ℤ (w *ℤ pos UNITS +ℤ pos (PARTS * 2 ^ 39)) → (g -ℤ f) ≤ℤ pseudorange_width
     step h k l = omega (arith, ints)
 
 -- ---- prefits
@@ -44,14 +49,14 @@ pub record ArePrefitEnds (hl hh bl bh rl rh : ℤ) : Type 0 where
   pub held_ordered : hl ≤ℤ hh
   pub held_narrow : (hh -ℤ hl) ≤ℤ pos 1
   pub base_ordered : bl ≤ℤ bh
-  pub base_narrow : (bh -ℤ bl) ≤ℤ pos 2612
+  pub base_narrow : (bh -ℤ bl) ≤ℤ pseudorange_width
   pub rover_ordered : rl ≤ℤ rh
-  pub rover_narrow : (rh -ℤ rl) ≤ℤ pos 2612
+  pub rover_narrow : (rh -ℤ rl) ≤ℤ pseudorange_width
 
 pub prefit_ordered : (hl hh bl bh rl rh : ℤ) → ArePrefitEnds hl hh bl bh rl rh → (hl -ℤ (rh -ℤ bl)) ≤ℤ (hh -ℤ (rl -ℤ bh))
 prefit_ordered hl hh bl bh rl rh a = omega (arith, ints)
 
-pub prefit_narrow : (hl hh bl bh rl rh : ℤ) → ArePrefitEnds hl hh bl bh rl rh → ((hh -ℤ (rl -ℤ bh)) -ℤ (hl -ℤ (rh -ℤ bl))) ≤ℤ pos 5225
+pub prefit_narrow : (hl hh bl bh rl rh : ℤ) → ArePrefitEnds hl hh bl bh rl rh → ((hh -ℤ (rl -ℤ bh)) -ℤ (hl -ℤ (rh -ℤ bl))) ≤ℤ prefit_width
 prefit_narrow hl hh bl bh rl rh a = omega (arith, ints)
 
 pub prefit_size : (m n : ℕ) (h r b : ℤ) → m + 2 ^ 56 ≤ n → unsigned_abs h ≤ m → unsigned_abs r ≤ 2 ^ 55 → unsigned_abs b ≤ 2 ^ 55 → unsigned_abs (h -ℤ (r -ℤ b)) ≤ n

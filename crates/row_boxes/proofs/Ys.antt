@@ -1,6 +1,8 @@
 -- The observations of a row: in the order in which the boxes are made, and what follows from boxes that hold them.
-use Rattle.std.proofs.Common.{◌≡◌, ℕ, zero, suc, ◌-◌, ◌*◌, ◌^◌, ◌<◌, inl, inr, Option, Some, None, IfSome, List, [], ◌∷◌, get_or, ℤ, pos, ◌+ℤ◌, ◌-ℤ◌, ◌*ℤ◌, neg_ℤ, ◌≤ℤ◌, ◌<ℤ◌, unsigned_abs, arith, refl, sym, subst}
+use Rattle.std.proofs.Common.{◌≡◌, ◌∙◌, ℕ, zero, suc, ◌+◌, ◌-◌, ◌*◌, ◌^◌, ◌<◌, ⊎_elim, inl, inr, IsTrue, Some, List, [], ◌∷◌, length, get_or, set, ℤ, pos, ◌+ℤ◌, ◌-ℤ◌, ◌*ℤ◌, neg_ℤ, ◌≤ℤ◌, ◌<ℤ◌, unsigned_abs, arith, refl, sym, subst}
 use Rattle.std.proofs.lemmas.Int.{ints, by_lt_z}
+use Rattle.std.proofs.lemmas.Bool.{cases_eq, false≢true}
+use Rattle.std.proofs.lemmas.List.{get_or-set_same, get_or-set_other}
 use Rattle.whole_math.specs.Rounding.{IsNearest}
 use Rattle.whole_math.proofs.Ring.{va, ko, ng, ◌⊕◌, ◌⊖◌, ◌⊗◌}
 use Rattle.whole_math.proofs.Order.{lins, mul_le_right}
@@ -11,11 +13,11 @@ use Rattle.rational_algebra.proofs.Orders.{equal_r, ◌≐◌}
 use Rattle.iv_core.proofs.SumLaws.{sub_holds}
 use Rattle.travel_model.specs.SeenPlaces.{range_of}
 use Rattle.std.specs.Prelude.{slice_get}
-use Rattle.obs_rows.specs.Signals.{wavelength, counted}
+use Rattle.obs_rows.specs.Signals.{wavelength, band, is_phase}
 use Rattle.obs_rows.specs.Data.{number_at}
-use Rattle.row_boxes.specs.Terms.{pseudorange, observed, in_row_unit, row_unit}
+use Rattle.row_boxes.specs.Terms.{prefit_width, pseudorange, observed, in_row_unit, row_unit}
 use Rattle.row_boxes.specs.Sightings.{Sighting, computed, y_of, y_in_rows}
-use Rattle.row_boxes.specs.YBoxes.{Pairing, HasSightings, HoldsY, HoldsYs, HasFarSignal, IsFar, IsWithinHalf}
+use Rattle.row_boxes.specs.YBoxes.{Pairing, HasSightings, HoldsY, HasFarSignal, IsFar, IsWithinHalf, most_radius}
 use Rattle.row_boxes.proofs.Values.{computed_is}
 use Rattle.row_boxes.proofs.Boxes.{whole_at}
 
@@ -27,16 +29,19 @@ pub whole_sum : (w g k : ℤ) → w ≡ g +ℤ k → of_whole w ≈ add_r (of_wh
 whole_sum w g k e = omega (arith, ints)
 
 -- ---- one whole number in place of the group and the shift
-pub y_is : (s : ℕ) (amount group shift w : ℤ) (base rover : Sighting) → w ≡ group +ℤ (wavelength s *ℤ shift) → sub_r (less_pseudoranges s amount base rover) (of_whole w) ≈ y_of s amount group shift base rover
+pub y_is : (s : ℕ) (amount group shift w : ℤ) (base rover : Sighting) → w ≡ group +ℤ (wavelength s *ℤ shift) →
+    sub_r (less_pseudoranges s amount base rover) (of_whole w) ≈ y_of s amount group shift base rover
 y_is s amount group shift w base rover e =
-    equal_r (observed s amount ∷ sub_r (pseudorange (range_of rover.travel) rover.clock) (pseudorange (range_of base.travel) base.clock) ∷ computed base rover ∷ of_whole group ∷ of_whole (wavelength s *ℤ shift) ∷ of_whole w ∷ [])
+    equal_r (observed s amount ∷ sub_r (pseudorange (range_of rover.travel) rover.clock) (pseudorange (range_of base.travel) base.clock) ∷ computed base rover ∷ of_whole group ∷ of_whole
+    (wavelength s *ℤ shift) ∷ of_whole w ∷ [])
     ((va 1 ≐ va 2) ∷ (va 5 ≐ va 3 ⊕ va 4) ∷ []) (ng (ko (pos 1)) ∷ ng (ko (pos 1)) ∷ []) ((va 0 ⊖ va 1) ⊖ va 5) (((va 0 ⊖ va 2) ⊖ va 3) ⊖ va 4) refl
     (computed_is (range_of rover.travel) (range_of base.travel) rover.clock base.clock, (whole_sum w group (wavelength s *ℤ shift) e, tt))
 
 pub y_in_rows_is : (scale s : ℕ) (amount group shift w : ℤ) (base rover : Sighting) → w ≡ group +ℤ (wavelength s *ℤ shift) →
     in_row_unit scale (sub_r (less_pseudoranges s amount base rover) (of_whole w)) ≈ y_in_rows scale s amount group shift base rover
 y_in_rows_is scale s amount group shift w base rover e =
-    equal_r (row_unit scale ∷ observed s amount ∷ sub_r (pseudorange (range_of rover.travel) rover.clock) (pseudorange (range_of base.travel) base.clock) ∷ computed base rover ∷ of_whole group ∷ of_whole (wavelength s *ℤ shift) ∷ of_whole w ∷ [])
+    equal_r (row_unit scale ∷ observed s amount ∷ sub_r (pseudorange (range_of rover.travel) rover.clock)
+    (pseudorange (range_of base.travel) base.clock) ∷ computed base rover ∷ of_whole group ∷ of_whole (wavelength s *ℤ shift) ∷ of_whole w ∷ [])
     ((va 2 ≐ va 3) ∷ (va 6 ≐ va 4 ⊕ va 5) ∷ []) (ng (va 0) ∷ ng (va 0) ∷ []) (va 0 ⊗ ((va 1 ⊖ va 2) ⊖ va 6)) (va 0 ⊗ (((va 1 ⊖ va 3) ⊖ va 4) ⊖ va 5)) refl
     (computed_is (range_of rover.travel) (range_of base.travel) rover.clock base.clock, (whole_sum w group (wavelength s *ℤ shift) e, tt))
 
@@ -51,32 +56,34 @@ group_moved s amount group other shift base rover =
     sum a b = omega (arith, ints)
 
 -- ---- the nearest whole numbers
-pub half_group : (lo hi g : ℤ) → (hi -ℤ lo) ≤ℤ pos 5225 → IsNearest lo (2 ^ 20) g →
-    (neg_ℤ (pos (2 ^ 19)) ≤ℤ (lo -ℤ (g *ℤ pos 1048576))) × ((hi -ℤ (g *ℤ pos 1048576)) ≤ℤ (pos (2 ^ 19) +ℤ pos (2 ^ 13)))
+pub half_group : (lo hi g : ℤ) → (hi -ℤ lo) ≤ℤ prefit_width → IsNearest lo (2 ^ 15) g →
+    (neg_ℤ (pos (2 ^ 14)) ≤ℤ (lo -ℤ (g *ℤ pos 32768))) × ((hi -ℤ (g *ℤ pos 32768)) ≤ℤ (pos (2 ^ 14) +ℤ prefit_width))
 half_group lo hi g h k = (low k.0, high h k.1)
   where
-    low : (pos 2 *ℤ (g *ℤ pos (2 ^ 20))) ≤ℤ ((pos 2 *ℤ lo) +ℤ pos (2 ^ 20)) → neg_ℤ (pos (2 ^ 19)) ≤ℤ (lo -ℤ (g *ℤ pos 1048576))
+    low : (pos 2 *ℤ (g *ℤ pos (2 ^ 15))) ≤ℤ ((pos 2 *ℤ lo) +ℤ pos (2 ^ 15)) → neg_ℤ (pos (2 ^ 14)) ≤ℤ (lo -ℤ (g *ℤ pos 32768))
     low h = omega (arith, ints)
 
-    high : (hi -ℤ lo) ≤ℤ pos 5225 → ((pos 2 *ℤ lo) +ℤ pos (2 ^ 20)) <ℤ ((pos 2 *ℤ (g *ℤ pos (2 ^ 20))) +ℤ (pos 2 *ℤ pos (2 ^ 20))) → (hi -ℤ (g *ℤ pos 1048576)) ≤ℤ (pos (2 ^ 19) +ℤ pos (2 ^ 13))
+    high : (hi -ℤ lo) ≤ℤ prefit_width → ((pos 2 *ℤ lo) +ℤ pos (2 ^ 15)) <ℤ ((pos 2 *ℤ (g *ℤ pos (2 ^ 15))) +ℤ (pos 2 *ℤ pos (2 ^ 15))) → (hi -ℤ (g *ℤ pos 32768)) ≤ℤ (pos (2 ^ 14) +ℤ prefit_width)
     high h k = omega (arith, ints)
 
--- cycles of n κ, which are m units of 2^-20 κ
-pub half_cycle : (lo hi g k n : ℤ) (m : ℕ) → pos m ≡ n *ℤ pos (2 ^ 20) → (hi -ℤ lo) ≤ℤ pos 5225 → IsNearest (lo -ℤ (g *ℤ pos (2 ^ 20))) m k →
-    (neg_ℤ (n *ℤ pos (2 ^ 19)) ≤ℤ (lo -ℤ ((g +ℤ (n *ℤ k)) *ℤ pos 1048576))) × ((hi -ℤ ((g +ℤ (n *ℤ k)) *ℤ pos 1048576)) ≤ℤ ((n *ℤ pos (2 ^ 19)) +ℤ pos (2 ^ 13)))
+-- cycles of n ι, which are m units of 2^-15 ι
+pub half_cycle : (lo hi g k n : ℤ) (m : ℕ) → pos m ≡ n *ℤ pos (2 ^ 15) → (hi -ℤ lo) ≤ℤ prefit_width → IsNearest (lo -ℤ (g *ℤ pos (2 ^ 15))) m k →
+    (neg_ℤ (n *ℤ pos (2 ^ 14)) ≤ℤ (lo -ℤ ((g +ℤ (n *ℤ k)) *ℤ pos 32768))) × ((hi -ℤ ((g +ℤ (n *ℤ k)) *ℤ pos 32768)) ≤ℤ ((n *ℤ pos (2 ^ 14)) +ℤ prefit_width))
 half_cycle lo hi g k n m e h i =
-    let f : k *ℤ pos m ≡ (n *ℤ k) *ℤ pos (2 ^ 20) = subst (λ (z : ℤ). k *ℤ z ≡ (n *ℤ k) *ℤ pos (2 ^ 20)) (sym e) (same_by (k ∷ n ∷ pos (2 ^ 20) ∷ []) (λ k n t. (k ⊗ (n ⊗ t), (n ⊗ k) ⊗ t)) refl) in
+    let f : k *ℤ pos m ≡ (n *ℤ k) *ℤ pos (2 ^ 15) = subst (λ (z : ℤ). k *ℤ z ≡ (n *ℤ k) *ℤ pos (2 ^ 15)) (sym e) (same_by (k ∷ n ∷ pos (2 ^ 15) ∷ []) (λ k n t. (k ⊗ (n ⊗ t), (n ⊗ k) ⊗ t)) refl) in
     (low (n *ℤ k) (k *ℤ pos m) (pos m) f e i.0, high (n *ℤ k) (k *ℤ pos m) (pos m) f e h i.1)
   where
-    low : (x y t : ℤ) → y ≡ x *ℤ pos (2 ^ 20) → t ≡ n *ℤ pos (2 ^ 20) → (pos 2 *ℤ y) ≤ℤ ((pos 2 *ℤ (lo -ℤ (g *ℤ pos (2 ^ 20)))) +ℤ t) → neg_ℤ (n *ℤ pos (2 ^ 19)) ≤ℤ (lo -ℤ ((g +ℤ x) *ℤ pos 1048576))
+    low : (x y t : ℤ) → y ≡ x *ℤ pos (2 ^ 15) → t ≡ n *ℤ pos (2 ^ 15) → (pos 2 *ℤ y) ≤ℤ ((pos 2 *ℤ (lo -ℤ (g *ℤ pos (2 ^ 15)))) +ℤ t) → neg_ℤ (n *ℤ pos (2 ^ 14)) ≤ℤ (lo -ℤ ((g +ℤ x) *ℤ pos 32768))
     low x y t e f h = omega (arith, ints)
 
-    high : (x y t : ℤ) → y ≡ x *ℤ pos (2 ^ 20) → t ≡ n *ℤ pos (2 ^ 20) → (hi -ℤ lo) ≤ℤ pos 5225 → ((pos 2 *ℤ (lo -ℤ (g *ℤ pos (2 ^ 20)))) +ℤ t) <ℤ ((pos 2 *ℤ y) +ℤ (pos 2 *ℤ t)) → (hi -ℤ ((g +ℤ x) *ℤ pos 1048576)) ≤ℤ ((n *ℤ pos (2 ^ 19)) +ℤ pos (2 ^ 13))
+    high : (x y t : ℤ) → y ≡ x *ℤ pos (2 ^ 15) → t ≡ n *ℤ pos (2 ^ 15) → (hi -ℤ lo) ≤ℤ prefit_width → ((pos 2 *ℤ (lo -ℤ (g *ℤ pos (2 ^ 15)))) +ℤ t) <ℤ ((pos 2 *ℤ y) +ℤ (pos 2 *ℤ t)) →
+        (hi -ℤ ((g +ℤ x) *ℤ pos 32768)) ≤ℤ ((n *ℤ pos (2 ^ 14)) +ℤ prefit_width)
     high x y t e f h k = omega (arith, ints)
 
 pub within_half : (n lo hi w : ℤ) (q : Rational) →
-    (neg_ℤ (n *ℤ pos (2 ^ 19)) ≤ℤ (lo -ℤ (w *ℤ pos 1048576))) × ((hi -ℤ (w *ℤ pos 1048576)) ≤ℤ ((n *ℤ pos (2 ^ 19)) +ℤ pos (2 ^ 13))) → InBox 20 lo hi q → IsWithinHalf n (sub_r q (of_whole w))
-within_half n lo hi w q h i = wider 20 (lo -ℤ (w *ℤ pos 1048576)) (hi -ℤ (w *ℤ pos 1048576)) (neg_ℤ (n *ℤ pos (2 ^ 19))) ((n *ℤ pos (2 ^ 19)) +ℤ pos (2 ^ 13)) (sub_r q (of_whole w)) h.0 h.1 (sub_holds 20 lo hi (w *ℤ pos 1048576) (w *ℤ pos 1048576) q (of_whole w) i (whole_at w))
+    (neg_ℤ (n *ℤ pos (2 ^ 14)) ≤ℤ (lo -ℤ (w *ℤ pos 32768))) × ((hi -ℤ (w *ℤ pos 32768)) ≤ℤ ((n *ℤ pos (2 ^ 14)) +ℤ prefit_width)) → InBox 15 lo hi q → IsWithinHalf n (sub_r q (of_whole w))
+within_half n lo hi w q h i = wider 15 (lo -ℤ (w *ℤ pos 32768)) (hi -ℤ (w *ℤ pos 32768)) (neg_ℤ (n *ℤ pos (2 ^ 14))) ((n *ℤ pos (2 ^ 14)) +ℤ prefit_width) (sub_r q (of_whole w)) h.0 h.1
+    (sub_holds 15 lo hi (w *ℤ pos 32768) (w *ℤ pos 32768) q (of_whole w) i (whole_at w))
 
 -- ---- what lies in a box whose centre is far out
 near_more : (a b n d : ℤ) → pos 1 ≤ℤ d → (a +ℤ pos 1) ≤ℤ b → (b *ℤ d) ≤ℤ n → pos 0 ≤ℤ d → (a *ℤ d) <ℤ n
@@ -91,7 +98,7 @@ near_less a b n d d1 h i d0 = step (a *ℤ d) (b *ℤ d) n d ((b +ℤ pos 1) *�
     step : (x y n d z : ℤ) → pos 1 ≤ℤ d → z ≤ℤ x → n ≤ℤ y → z ≡ y +ℤ d → n <ℤ x
     step x y n d z h i j e = omega (arith, lins)
 
-pub far_from : (c r : ℤ) (q : Rational) → 2 ^ 34 < unsigned_abs c → r ≤ℤ pos (2 ^ 11) → Near c r q → IsFar q
+pub far_from : (c r : ℤ) (q : Rational) → 2 ^ 34 < unsigned_abs c → r ≤ℤ most_radius 0 → Near c r q → IsFar q
 far_from c r q h k n = by_lt_z (pos 0) c
     (λ (up : pos 0 <ℤ c). inr_left (near_more (pos (2 ^ 34 - 2 ^ 12)) (c -ℤ r) (q.num *ℤ pos 1) (pos q.den) (one q.den q.positive) (above c r h k up) n.0 (pos_nn q.den)))
     (λ (down : c ≤ℤ pos 0). inr_right (near_less (neg_ℤ (pos (2 ^ 34 - 2 ^ 12))) (c +ℤ r) (q.num *ℤ pos 1) (pos q.den) (one q.den q.positive) (below c r h k down) n.1 (pos_nn q.den)))
@@ -99,10 +106,10 @@ far_from c r q h k n = by_lt_z (pos 0) c
     one : (d : ℕ) → 0 < d → pos 1 ≤ℤ pos d
     one d h = omega (arith, ints)
 
-    above : (c r : ℤ) → 2 ^ 34 < unsigned_abs c → r ≤ℤ pos (2 ^ 11) → pos 0 <ℤ c → (pos (2 ^ 34 - 2 ^ 12) +ℤ pos 1) ≤ℤ (c -ℤ r)
+    above : (c r : ℤ) → 2 ^ 34 < unsigned_abs c → r ≤ℤ most_radius 0 → pos 0 <ℤ c → (pos (2 ^ 34 - 2 ^ 12) +ℤ pos 1) ≤ℤ (c -ℤ r)
     above c r h k l = omega (arith, ints)
 
-    below : (c r : ℤ) → 2 ^ 34 < unsigned_abs c → r ≤ℤ pos (2 ^ 11) → c ≤ℤ pos 0 → ((c +ℤ r) +ℤ pos 1) ≤ℤ neg_ℤ (pos (2 ^ 34 - 2 ^ 12))
+    below : (c r : ℤ) → 2 ^ 34 < unsigned_abs c → r ≤ℤ most_radius 0 → c ≤ℤ pos 0 → ((c +ℤ r) +ℤ pos 1) ≤ℤ neg_ℤ (pos (2 ^ 34 - 2 ^ 12))
     below c r h k l = omega (arith, ints)
 
     inr_left : of_whole (pos (2 ^ 34 - 2 ^ 12)) <ʳ q → IsFar q
@@ -122,9 +129,10 @@ near_looser c r s q h n = wider 0 (c -ℤ r) (c +ℤ r) (c -ℤ s) (c +ℤ s) q 
     high c r s h = omega (arith, ints)
 
 -- ---- the signals that count, one by one
-pub far_signal : (p : Pairing) (scale place s : ℕ) (amounts shift : List ℤ) (group centre radius : ℤ) → slice_get (counted scale) place ≡ Some s → radius ≤ℤ pos (2 ^ 11) → 2 ^ 34 < unsigned_abs centre →
-    HoldsY p scale s (number_at amounts s) group (number_at shift s) centre radius → HasSightings p → HasFarSignal p scale amounts group shift
-far_signal p scale place s amounts shift group centre radius is small far holds has = record {
+pub far_signal : (p : Pairing) (ss : List ℕ) (scale place s : ℕ) (amounts shift : List ℤ) (group centre radius : ℤ) → slice_get ss place ≡ Some s → radius ≤ℤ most_radius 0 →
+    2 ^ 34 < unsigned_abs centre →
+    HoldsY p scale s (number_at amounts s) group (number_at shift (band s)) centre radius → HasSightings p → HasFarSignal p ss scale amounts group shift
+far_signal p ss scale place s amounts shift group centre radius is small far holds has = record {
   signal = s;
   place = place;
   counts = is;
@@ -132,7 +140,7 @@ far_signal p scale place s amounts shift group centre radius is small far holds 
     base = has.base.sighting;
     rover = has.rover.sighting;
     are = record { base_is = has.base.is; rover_is = has.rover.is };
-    far = far_from centre radius (y_in_rows scale s (number_at amounts s) group (number_at shift s) has.base.sighting has.rover.sighting) far small
+    far = far_from centre radius (y_in_rows scale s (number_at amounts s) group (number_at shift (band s)) has.base.sighting has.rover.sighting) far small
         (holds has.base.sighting has.rover.sighting (record { base_is = has.base.is; rover_is = has.rover.is }));
   };
 }
@@ -140,44 +148,47 @@ far_signal p scale place s amounts shift group centre radius is small far holds 
 y_looser : (p : Pairing) (scale s : ℕ) (amount group shift centre r ry : ℤ) → r ≤ℤ ry → HoldsY p scale s amount group shift centre r → HoldsY p scale s amount group shift centre ry
 y_looser p scale s amount group shift centre r ry l h = λ b q a. near_looser centre r ry (y_in_rows scale s amount group shift b q) l (h b q a)
 
--- the four boxes of a fine row
-pub record AreFourYs (p : Pairing) (amounts shift : List ℤ) (group y0 y1 y2 y3 r0 r1 r2 r3 ry : ℤ) : Type 0 where
-  pub l1 : HoldsY p 0 0 (number_at amounts 0) group (number_at shift 0) y0 r0
-  pub l2 : HoldsY p 0 1 (number_at amounts 1) group (number_at shift 1) y1 r1
-  pub c1 : HoldsY p 0 2 (number_at amounts 2) group (number_at shift 2) y2 r2
-  pub c2 : HoldsY p 0 3 (number_at amounts 3) group (number_at shift 3) y3 r3
-  pub radii : (r0 ≤ℤ ry) × (r1 ≤ℤ ry) × (r2 ≤ℤ ry) × (r3 ≤ℤ ry)
+-- the signal's place in the lists of amounts, shifts and centres
+abbrev pub HoldsAt : Pairing → ℕ → List ℤ → ℤ → List ℤ → List ℤ → ℤ → ℕ → Type 0
+HoldsAt p scale amounts group shift y ry s = HoldsY p scale s (number_at amounts s) group (number_at shift (band s)) (number_at y s) ry
 
-pub four_ys : (p : Pairing) (amounts shift : List ℤ) (group y0 y1 y2 y3 r0 r1 r2 r3 ry : ℤ) → AreFourYs p amounts shift group y0 y1 y2 y3 r0 r1 r2 r3 ry → HoldsYs p 0 amounts group shift (y0 ∷ y1 ∷ y2 ∷ y3 ∷ []) ry
-four_ys p amounts shift group y0 y1 y2 y3 r0 r1 r2 r3 ry a = at
-  where
-    at : (k d : ℕ) → k < 4 → HoldsY p 0 (get_or (0 ∷ 1 ∷ 2 ∷ 3 ∷ []) k d) (number_at amounts (get_or (0 ∷ 1 ∷ 2 ∷ 3 ∷ []) k d)) group (number_at shift (get_or (0 ∷ 1 ∷ 2 ∷ 3 ∷ []) k d)) (number_at (y0 ∷ y1 ∷ y2 ∷ y3 ∷ []) (get_or (0 ∷ 1 ∷ 2 ∷ 3 ∷ []) k d)) ry
-    at zero d h = y_looser p 0 0 (number_at amounts 0) group (number_at shift 0) y0 r0 ry a.radii.0 a.l1
-    at (suc zero) d h = y_looser p 0 1 (number_at amounts 1) group (number_at shift 1) y1 r1 ry a.radii.1 a.l2
-    at (suc (suc zero)) d h = y_looser p 0 2 (number_at amounts 2) group (number_at shift 2) y2 r2 ry a.radii.2 a.c1
-    at (suc (suc (suc zero))) d h = y_looser p 0 3 (number_at amounts 3) group (number_at shift 3) y3 r3 ry a.radii.3 a.c2
-    at (suc (suc (suc (suc k)))) d h = absurd (omega arith)
+earlier : (k i : ℕ) → k < i + 1 → (k ≡ i → ⊥) → k < i
+earlier k i h n = omega arith
 
--- the one of a coarse row
-pub one_y : (p : Pairing) (amounts shift : List ℤ) (group y0 y1 y2 y3 r ry : ℤ) → HoldsY p 14 2 (number_at amounts 2) group (number_at shift 2) y2 r → r ≤ℤ ry → HoldsYs p 14 amounts group shift (y0 ∷ y1 ∷ y2 ∷ y3 ∷ []) ry
-one_y p amounts shift group y0 y1 y2 y3 r ry a l = at
-  where
-    at : (k d : ℕ) → k < 1 → HoldsY p 14 (get_or (2 ∷ []) k d) (number_at amounts (get_or (2 ∷ []) k d)) group (number_at shift (get_or (2 ∷ []) k d)) (number_at (y0 ∷ y1 ∷ y2 ∷ y3 ∷ []) (get_or (2 ∷ []) k d)) ry
-    at zero d h = y_looser p 14 2 (number_at amounts 2) group (number_at shift 2) y2 r ry l a
-    at (suc k) d h = absurd (omega arith)
+-- the signals before place i and that at it
+pub one_more : (p : Pairing) (scale : ℕ) (amounts : List ℤ) (group : ℤ) (shift y : List ℤ) (ss : List ℕ) (i : ℕ) (c r q z : ℤ) → get_or ss i 0 < length y → q ≤ℤ z → r ≤ℤ z →
+    HoldsY p scale (get_or ss i 0) (number_at amounts (get_or ss i 0)) group (number_at shift (band (get_or ss i 0))) c r →
+    ((k : ℕ) → k < i → HoldsAt p scale amounts group shift y q (get_or ss k 0)) →
+    (k : ℕ) → k < i + 1 → HoldsAt p scale amounts group shift (set y (get_or ss i 0) c) z (get_or ss k 0)
+one_more p scale amounts group shift y ss i c r q z inside hq hr h hs k hk = ⊎_elim
+    (λ (e : get_or ss k 0 ≡ get_or ss i 0). subst (HoldsAt p scale amounts group shift (set y (get_or ss i 0) c) z) (sym e)
+    (subst (λ (x : ℤ). HoldsY p scale (get_or ss i 0) (number_at amounts (get_or ss i 0)) group (number_at shift (band (get_or ss i 0))) x z) (sym (get_or-set_same y (get_or ss i 0) c (pos 0) inside))
+    (y_looser p scale (get_or ss i 0) (number_at amounts (get_or ss i 0)) group (number_at shift (band (get_or ss i 0))) c r z hr h)))
+    (λ (n : get_or ss k 0 ≡ get_or ss i 0 → ⊥).
+    subst (λ (x : ℤ). HoldsY p scale (get_or ss k 0) (number_at amounts (get_or ss k 0)) group (number_at shift (band (get_or ss k 0))) x z)
+    (sym (get_or-set_other y (get_or ss i 0) (get_or ss k 0) c (pos 0) n))
+    (y_looser p scale (get_or ss k 0) (number_at amounts (get_or ss k 0)) group (number_at shift (band (get_or ss k 0))) (number_at y (get_or ss k 0)) q z hq
+    (hs k (earlier k i hk (λ (e : k ≡ i). n (subst (λ (j : ℕ). get_or ss k 0 ≡ get_or ss j 0) e refl))))))
+    (cases_eq (get_or ss k 0) (get_or ss i 0))
 
--- ---- answers that are there or not
-pub both_some : {X : Type 0} (o : Option X) (P Q R : X → Type 0) → ((x : X) → P x → Q x → R x) → IfSome o P → IfSome o Q → IfSome o R
-both_some None P Q R f h k = tt
-both_some (Some x) P Q R f h k = f x h k
+pub zero_off : (y : List ℤ) (s t : ℕ) (c : ℤ) → (s ≡ t → ⊥) → number_at y t ≡ pos 0 → number_at (set y s c) t ≡ pos 0
+zero_off y s t c n z = get_or-set_other y s t c (pos 0) (λ (e : t ≡ s). n (sym e)) ∙ z
 
 -- ---- phases
-pub cycle_units : (s : ℕ) → s < 2 → pos (unsigned_abs (wavelength s) * 2 ^ 20) ≡ wavelength s *ℤ pos (2 ^ 20)
-cycle_units zero h = refl
-cycle_units (suc zero) h = refl
-cycle_units (suc (suc s)) h = absurd (omega arith)
+pub cycle_units : (s : ℕ) → s < 6 → IsTrue (is_phase s) → pos (unsigned_abs (wavelength s) * 2 ^ 15) ≡ wavelength s *ℤ pos (2 ^ 15)
+cycle_units zero h p = refl
+cycle_units (suc zero) h p = refl
+cycle_units (suc (suc zero)) h p = absurd (false≢true p)
+cycle_units (suc (suc (suc zero))) h p = absurd (false≢true p)
+cycle_units (suc (suc (suc (suc zero)))) h p = refl
+cycle_units (suc (suc (suc (suc (suc zero))))) h p = absurd (false≢true p)
+cycle_units (suc (suc (suc (suc (suc (suc s)))))) h p = absurd (omega arith)
 
-pub long_cycle : (s : ℕ) → s < 2 → pos 60 ≤ℤ wavelength s
-long_cycle zero h = omega (arith, ints)
-long_cycle (suc zero) h = omega (arith, ints)
-long_cycle (suc (suc s)) h = absurd (omega arith)
+pub long_cycle : (s : ℕ) → s < 6 → IsTrue (is_phase s) → pos 1000 ≤ℤ wavelength s
+long_cycle zero h p = omega (arith, ints)
+long_cycle (suc zero) h p = omega (arith, ints)
+long_cycle (suc (suc zero)) h p = absurd (false≢true p)
+long_cycle (suc (suc (suc zero))) h p = absurd (false≢true p)
+long_cycle (suc (suc (suc (suc zero)))) h p = omega (arith, ints)
+long_cycle (suc (suc (suc (suc (suc zero))))) h p = absurd (false≢true p)
+long_cycle (suc (suc (suc (suc (suc (suc s)))))) h p = absurd (omega arith)

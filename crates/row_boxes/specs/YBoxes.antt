@@ -3,9 +3,10 @@ use Rattle.std.specs.Prelude.{◌≡◌, ℕ, ◌-◌, ◌^◌, ◌==◌, if◌t
 use Rattle.rational.specs.Rational.{Rational, ◌≤ʳ◌, ◌<ʳ◌, of_whole, InBox, Near}
 use Rattle.sv_orbit.specs.declared.place.SvBox.{SvBox}
 use Rattle.travel_model.specs.SeenPlaces.{range_of}
+use Rattle.obs_rows.specs.declared.units.TheConstants.{ROW_EXPONENT}
 use Rattle.obs_rows.specs.Data.{number_at}
-use Rattle.obs_rows.specs.Signals.{wavelength, counted}
-use Rattle.row_boxes.specs.Terms.{pseudorange}
+use Rattle.obs_rows.specs.Signals.{wavelength, band}
+use Rattle.row_boxes.specs.Terms.{prefit_width, pseudorange}
 use Rattle.row_boxes.specs.Sightings.{Sighting, IsSighting, HasSighting, y_in_rows}
 use Rattle.row_boxes.specs.declared.pseudoranges.Pseudorange.{Pseudorange}
 
@@ -28,7 +29,7 @@ pub record HasSightings (p : Pairing) : Type 0 where
 
 -- the box holds the pseudorange of every sighting
 abbrev pub HoldsPseudoranges : SvBox → List ℤ → Pseudorange → Type 0
-HoldsPseudoranges sv point b = (s : Sighting) → IsSighting sv point s → InBox 20 b.lo b.hi (pseudorange (range_of s.travel) s.clock)
+HoldsPseudoranges sv point b = (s : Sighting) → IsSighting sv point s → InBox 15 b.lo b.hi (pseudorange (range_of s.travel) s.clock)
 
 -- of both receivers
 pub record HoldsBoth (p : Pairing) (base rover : Pseudorange) : Type 0 where
@@ -40,20 +41,21 @@ pub record HoldsBoth (p : Pairing) (base rover : Pseudorange) : Type 0 where
 abbrev pub HoldsY : Pairing → ℕ → ℕ → ℤ → ℤ → ℤ → ℤ → ℤ → Type 0
 HoldsY p scale s amount group shift centre radius = (base rover : Sighting) → AreSightings p base rover → Near centre radius (y_in_rows scale s amount group shift base rover)
 
--- the box of each signal that counts; its amount, its shift and its centre are those in its place, and all have one radius
-abbrev pub HoldsYs : Pairing → ℕ → List ℤ → ℤ → List ℤ → List ℤ → ℤ → Type 0
-HoldsYs p scale amounts group shift y ry = All (λ s. HoldsY p scale s (number_at amounts s) group (number_at shift s) (number_at y s) ry) (counted scale)
+-- the box of each of these signals; its amount and its centre are those in its place, its shift that of its band, and all have
+-- one radius
+abbrev pub HoldsYs : Pairing → List ℕ → ℕ → List ℤ → ℤ → List ℤ → List ℤ → ℤ → Type 0
+HoldsYs p ss scale amounts group shift y ry = All (λ s. HoldsY p scale s (number_at amounts s) group (number_at shift (band s)) (number_at y s) ry) ss
 
--- the greatest radius of a y box: half of the greatest width, which is 1307 of the fine unit and 2 of the coarse one, rounded up
+-- the greatest radius of a y box: half of the greatest width, which is 940 of the fine unit and 2 of the coarse one, rounded up
 abbrev pub most_radius : ℕ → ℤ
-most_radius scale = if scale == 0 then pos 654 else pos 1
+most_radius scale = if scale == 0 then pos 470 else pos 1
 
 -- ---- groups
--- the box meets that from -1 to 1 κ
+-- the box, whose unit is 2^(scale - 13) ι, meets that from -1 to 1 ι
 abbrev pub MeetsOne : ℕ → ℤ → ℤ → Type 0
-MeetsOne scale centre radius = ((centre -ℤ radius) ≤ℤ pos (2 ^ (18 - scale))) × (neg_ℤ (pos (2 ^ (18 - scale))) ≤ℤ (centre +ℤ radius))
+MeetsOne scale centre radius = ((pos (2 ^ scale) *ℤ (centre -ℤ radius)) ≤ℤ pos (2 ^ ROW_EXPONENT)) × (neg_ℤ (pos (2 ^ ROW_EXPONENT)) ≤ℤ (pos (2 ^ scale) *ℤ (centre +ℤ radius)))
 
--- a whole number for which a y box of the code on L1, of the satellite of a pair's first row, meets -1 to 1 κ
+-- a whole number for which a y box of the code on L1, of the satellite of a pair's first row, meets -1 to 1 ι
 pub record IsAllowedGroup (p : Pairing) (scale : ℕ) (amount group : ℤ) : Type 0 where
   pub centre : ℤ
   pub radius : ℤ
@@ -73,18 +75,18 @@ pub record HasFarY (p : Pairing) (scale s : ℕ) (amount group shift : ℤ) : Ty
   pub are : AreSightings p base rover
   pub far : IsFar (y_in_rows scale s amount group shift base rover)
 
--- of some signal that counts
-pub record HasFarSignal (p : Pairing) (scale : ℕ) (amounts : List ℤ) (group : ℤ) (shift : List ℤ) : Type 0 where
+-- of some of these signals
+pub record HasFarSignal (p : Pairing) (ss : List ℕ) (scale : ℕ) (amounts : List ℤ) (group : ℤ) (shift : List ℤ) : Type 0 where
   pub signal : ℕ
   pub place : ℕ
-  pub counts : slice_get (counted scale) place ≡ Some signal
-  pub far : HasFarY p scale signal (number_at amounts signal) group (number_at shift signal)
+  pub counts : slice_get ss place ≡ Some signal
+  pub far : HasFarY p scale signal (number_at amounts signal) group (number_at shift (band signal))
 
 -- ---- what is nearest
--- at most n/2 κ in size, and 2^-7 κ more above
+-- at most n/2 ι in size, and the width of an observation less computed more above
 abbrev pub IsWithinHalf : ℤ → Rational → Type 0
-IsWithinHalf n q = InBox 20 (neg_ℤ (n *ℤ pos (2 ^ 19))) ((n *ℤ pos (2 ^ 19)) +ℤ pos (2 ^ 13)) q
+IsWithinHalf n q = InBox 15 (neg_ℤ (n *ℤ pos (2 ^ 14))) ((n *ℤ pos (2 ^ 14)) +ℤ prefit_width) q
 
--- from -λ to λ, in κ
+-- from -λ to λ, in ι
 abbrev pub IsWithinCycle : ℕ → Rational → Type 0
 IsWithinCycle s q = (of_whole (neg_ℤ (wavelength s)) ≤ʳ q) × (q ≤ʳ of_whole (wavelength s))

@@ -1,38 +1,46 @@
 // Observed less computed.
-ghost use Rattle.std.specs.Prelude.{◌≡◌, ◌+◌, ◌*◌, ◌^◌, ◌<◌, ◌≤◌, ℤ, pos, ◌+ℤ◌, ◌-ℤ◌, ◌*ℤ◌, neg_ℤ, ◌≤ℤ◌, unsigned_abs};
+ghost use Rattle.std.specs.Prelude.{IsTrue, not, ◌≡◌, ◌+◌, ◌*◌, ◌^◌, ◌<◌, ◌≤◌, ℤ, pos, ◌+ℤ◌, ◌-ℤ◌, ◌*ℤ◌, neg_ℤ, ◌≤ℤ◌, unsigned_abs};
 ghost use Rattle.whole_math.specs.Rounding.{IsFloor};
 ghost use Rattle.rational.specs.Rational.{Rational, InBox, sub_r};
-ghost use Rattle.obs_rows.specs.Signals.{wavelength};
-ghost use Rattle.row_boxes.specs.Terms.{observed};
+ghost use Rattle.obs_rows.specs.declared.units.TheConstants.{SIGNALS};
+ghost use Rattle.obs_rows.specs.Signals.{wavelength, is_phase};
+ghost use Rattle.row_boxes.specs.declared.pseudoranges.TheConstants.{PARTS};
+ghost use Rattle.row_boxes.specs.declared.prefits.TheConstants.{UNITS, L1_CYCLE, L2_CYCLE, L5_CYCLE};
+ghost use Rattle.row_boxes.specs.Terms.{prefit_width, observed};
 
 use crate::Pseudorange;
 use crate::pseudoranges::{PARTS, over_parts};
+use obs_rows::{UNIT_FREQUENCY, WAVELENGTHS};
 
-/// Observed less computed of one signal, the rover's less the base's, in 2^-20 κ, from `lo` to `hi`.
+/// Observed less computed of one signal, the rover's less the base's, in 2^-15 ι, from `lo` to `hi`.
 #[derive(Clone, Copy, Debug)]
 pub struct Prefit {
     pub lo: i128,
     pub hi: i128,
     pub ghost ordered: { lo ≤ℤ hi },
-    pub ghost narrow: { (hi -ℤ lo) ≤ℤ pos 5225 },
+    pub ghost narrow: { (hi -ℤ lo) ≤ℤ prefit_width },
     pub ghost lo_size: { unsigned_abs lo ≤ 2 ^ 68 },
     pub ghost hi_size: { unsigned_abs hi ≤ 2 ^ 68 },
 }
 
-// The wavelengths on L1 and L2, in 2^-20 κ.
-const L1_CYCLE: i128 = 60 << 20;
+/// The wavelength on L1, in 2^-15 ι.
+pub const L1_CYCLE: i128 = (WAVELENGTHS[0] as i128) << 15;
 
-const L2_CYCLE: i128 = 77 << 20;
+/// That on L2.
+pub const L2_CYCLE: i128 = (WAVELENGTHS[1] as i128) << 15;
 
-// One millimetre is UNITS / PARTS units of 2^-20 κ: a metre is 94525200000 / 299792458 κ.
-const UNITS: i128 = 47_262_600 << 20;
+/// That on L5.
+pub const L5_CYCLE: i128 = (WAVELENGTHS[4] as i128) << 15;
+
+/// One millimetre is `UNITS` / `PARTS` units of 2^-15 ι.
+pub const UNITS: i128 = (UNIT_FREQUENCY as i128 / 2000) << 15;
 
 // 2^40 cycles in thousandths, and PARTS · 2^21 mm, which make an amount positive
 const RAISED: i64 = 1000 << 40;
 
-const RAISED_CODE: i64 = 149_896_229 << 21;
+const RAISED_CODE: i64 = (PARTS as i64) << 21;
 
-// A box of one number, in 2^-20 κ.
+// A box of one number, in 2^-15 ι.
 #[derive(Clone, Copy)]
 struct Observed {
     lo: i128,
@@ -41,34 +49,44 @@ struct Observed {
     ghost narrow: { (hi -ℤ lo) ≤ℤ pos 1 },
 }
 
-// ⌊amount · 60 · 2^20 / 1000⌋. Here and below the divisor is known when the program is built, which then multiplies in place of
+// ⌊amount · L1_CYCLE / 1000⌋. Here and below the divisor is known when the program is built, which then multiplies in place of
 // dividing 128 bits.
 fn l1_below(amount: i64) -> i128
     requires { unsigned_abs amount < 2 ^ 48 }
-    ensures { IsFloor (amount *ℤ pos (60 * 2 ^ 20)) 1000 result }
+    ensures { IsFloor (amount *ℤ L1_CYCLE) 1000 result }
 {
     let raised = (amount + RAISED) as u64;
-    (raised / 1000) as i128 * L1_CYCLE + (raised % 1000 * 62_914_560 / 1000) as i128
+    (raised / 1000) as i128 * L1_CYCLE + (raised % 1000 * L1_CYCLE as u64 / 1000) as i128
         - (L1_CYCLE << 40)
 }
 
-// ⌊amount · 77 · 2^20 / 1000⌋
+// ⌊amount · L2_CYCLE / 1000⌋
 fn l2_below(amount: i64) -> i128
     requires { unsigned_abs amount < 2 ^ 48 }
-    ensures { IsFloor (amount *ℤ pos (77 * 2 ^ 20)) 1000 result }
+    ensures { IsFloor (amount *ℤ L2_CYCLE) 1000 result }
 {
     let raised = (amount + RAISED) as u64;
-    (raised / 1000) as i128 * L2_CYCLE + (raised % 1000 * 80_740_352 / 1000) as i128
+    (raised / 1000) as i128 * L2_CYCLE + (raised % 1000 * L2_CYCLE as u64 / 1000) as i128
         - (L2_CYCLE << 40)
+}
+
+// ⌊amount · L5_CYCLE / 1000⌋
+fn l5_below(amount: i64) -> i128
+    requires { unsigned_abs amount < 2 ^ 48 }
+    ensures { IsFloor (amount *ℤ L5_CYCLE) 1000 result }
+{
+    let raised = (amount + RAISED) as u64;
+    (raised / 1000) as i128 * L5_CYCLE + (raised % 1000 * L5_CYCLE as u64 / 1000) as i128
+        - (L5_CYCLE << 40)
 }
 
 // ⌊amount · UNITS / PARTS⌋
 fn code_below(amount: i64) -> i128
     requires { unsigned_abs amount < 2 ^ 48 }
-    ensures { IsFloor (amount *ℤ pos (47262600 * 2 ^ 20)) 149896229 result }
+    ensures { IsFloor (amount *ℤ UNITS) PARTS result }
 {
     let raised = (amount + RAISED_CODE) as u64;
-    let rest = over_parts((raised % PARTS) as u128 * 49_558_428_057_600);
+    let rest = over_parts((raised % PARTS) as u128 * UNITS as u128);
     (raised / PARTS) as i128 * UNITS + rest as i128 - (UNITS << 21)
 }
 
@@ -87,19 +105,20 @@ fn between(low: i128, opposite: i128) -> Observed
     }
 }
 
-// In thousandths of a cycle of 60 κ or 77 κ, or in mm, of which each is 47262600 / 149896229 κ.
+// In thousandths of a cycle, or in mm.
 fn observed_box(signal: usize, amount: i64) -> Observed
-    requires signal { signal < 4 }
+    requires signal { signal < SIGNALS }
     requires size { unsigned_abs amount < 2 ^ 48 }
-    ensures holds { InBox 20 result.lo result.hi (observed signal amount) }
+    ensures holds { InBox 15 result.lo result.hi (observed signal amount) }
     ensures lo_size { unsigned_abs result.lo ≤ 2 ^ 67 }
     ensures hi_size { unsigned_abs result.hi ≤ 2 ^ 67 }
-    ensures phase { signal < 2 → 1000 * unsigned_abs result.lo ≤ unsigned_abs (wavelength signal) * 2 ^ 68 + 1000 }
-    ensures code { 2 ≤ signal → unsigned_abs amount < 2 ^ 37 → unsigned_abs result.lo ≤ 2 ^ 56 }
+    ensures phase { IsTrue (is_phase signal) → 1000 * unsigned_abs result.lo ≤ unsigned_abs (wavelength signal) * 2 ^ 63 + 1000 }
+    ensures code { IsTrue (not (is_phase signal)) → unsigned_abs amount < 2 ^ 37 → unsigned_abs result.lo ≤ 2 ^ 56 }
 {
     match signal {
         0 => between(l1_below(amount), l1_below(-amount)),
         1 => between(l2_below(amount), l2_below(-amount)),
+        4 => between(l5_below(amount), l5_below(-amount)),
         _ => between(code_below(amount), code_below(-amount)),
     }
 }
@@ -116,12 +135,12 @@ fn less(observed: i128, rover: i128, base: i128) -> i128
 
 /// From what the two receivers would observe if their clocks were right, and the rover's amount less the base's in thousandths.
 pub fn prefit_of(signal: usize, amount: i64, base: &Pseudorange, rover: &Pseudorange) -> Prefit
-    requires signal { signal < 4 }
+    requires signal { signal < SIGNALS }
     requires size { unsigned_abs amount < 2 ^ 48 }
-    ensures holds { (b r : Rational) → InBox 20 base.now.lo base.now.hi b → InBox 20 rover.now.lo rover.now.hi r →
-        InBox 20 result.lo result.hi (sub_r (observed signal amount) (sub_r r b)) }
-    ensures phase { signal < 2 → 1000 * unsigned_abs result.lo ≤ unsigned_abs (wavelength signal) * 2 ^ 68 + 1000 * 2 ^ 57 }
-    ensures code { 2 ≤ signal → unsigned_abs amount < 2 ^ 37 → unsigned_abs result.lo ≤ 2 ^ 57 }
+    ensures holds { (b r : Rational) → InBox 15 base.now.lo base.now.hi b → InBox 15 rover.now.lo rover.now.hi r →
+        InBox 15 result.lo result.hi (sub_r (observed signal amount) (sub_r r b)) }
+    ensures phase { IsTrue (is_phase signal) → 1000 * unsigned_abs result.lo ≤ unsigned_abs (wavelength signal) * 2 ^ 63 + 1000 * 2 ^ 57 }
+    ensures code { IsTrue (not (is_phase signal)) → unsigned_abs amount < 2 ^ 37 → unsigned_abs result.lo ≤ 2 ^ 57 }
 {
     let held = observed_box(signal, amount);
     Prefit {

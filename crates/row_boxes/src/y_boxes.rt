@@ -2,35 +2,35 @@
 ghost use Rattle.std.specs.Prelude.{◌≡◌, ◌+◌, ◌*◌, ◌^◌, ◌<◌, ◌≤◌, ℤ, pos, ◌+ℤ◌, ◌-ℤ◌, ◌*ℤ◌, ◌≤ℤ◌, unsigned_abs, IfSome, None};
 ghost use Rattle.rational.specs.Rational.{Rational, InBox, Near, of_whole, sub_r};
 ghost use Rattle.obs_rows.specs.Ranges.{IsScale};
-ghost use Rattle.row_boxes.specs.Terms.{in_row_unit};
+ghost use Rattle.row_boxes.specs.Terms.{y_width, in_row_unit};
 ghost use Rattle.row_boxes.specs.YBoxes.{most_radius};
 
 use crate::prefits::Prefit;
 use whole_math::{ceil_shift, floor, floor_shift};
 
-/// A box in a row's unit, 2^(scale - 18) κ.
+/// A box in a row's unit, 2^(scale - 13) ι.
 #[derive(Clone, Copy, Debug)]
 pub struct YBox {
     pub centre: i128,
     pub radius: i64,
     pub ghost least: { pos 0 ≤ℤ radius },
-    pub ghost most: { radius ≤ℤ pos (2 ^ 11) },
+    pub ghost most: { radius ≤ℤ most_radius 0 },
 }
 
-/// A whole number of κ less.
+/// A whole number of ι less.
 pub fn less_whole(end: i128, whole: i64) -> i128
     requires end { unsigned_abs end ≤ 2 ^ 68 }
-    requires whole { unsigned_abs whole ≤ 2 ^ 50 }
-    ensures value { result ≡ end -ℤ (whole *ℤ pos (2 ^ 20)) }
+    requires whole { unsigned_abs whole ≤ 2 ^ 51 }
+    ensures value { result ≡ end -ℤ (whole *ℤ pos (2 ^ 15)) }
     ensures size { unsigned_abs result ≤ 2 ^ 71 }
 {
-    end - whole as i128 * KAPPA
+    end - whole as i128 * IOTA
 }
 
-/// One κ in units of 2^-20 κ.
-pub const KAPPA: i128 = 1 << 20;
+/// One ι in units of 2^-15 ι.
+pub const IOTA: i128 = 1 << 15;
 
-// By how many bits a row's unit is coarser than 2^-20 κ.
+// By how many bits a row's unit is coarser than 2^-15 ι.
 fn coarser_by(scale: u32) -> u32
     requires { IsScale scale }
     ensures value { result ≡ scale + 2 }
@@ -42,7 +42,7 @@ fn coarser_by(scale: u32) -> u32
 // The middle, rounded down.
 fn middle(lo: i128, hi: i128) -> i128
     requires ordered { lo ≤ℤ hi }
-    requires narrow { (hi -ℤ lo) ≤ℤ pos 1308 }
+    requires narrow { (hi -ℤ lo) ≤ℤ y_width }
     requires size { unsigned_abs lo ≤ 2 ^ 71 }
     ensures low { lo ≤ℤ result }
     ensures most { (pos 2 *ℤ result) ≤ℤ (lo +ℤ hi) }
@@ -54,7 +54,7 @@ fn middle(lo: i128, hi: i128) -> i128
 // The box around the middle.
 fn around(lo: i128, hi: i128) -> YBox
     requires ordered { lo ≤ℤ hi }
-    requires narrow { (hi -ℤ lo) ≤ℤ pos 1308 }
+    requires narrow { (hi -ℤ lo) ≤ℤ y_width }
     requires size { unsigned_abs lo ≤ 2 ^ 71 }
     ensures top { result.centre +ℤ result.radius ≡ hi }
     ensures bottom { (result.centre -ℤ result.radius) ≤ℤ lo }
@@ -67,11 +67,11 @@ fn around(lo: i128, hi: i128) -> YBox
     }
 }
 
-/// The observation less a whole number of κ.
+/// The observation less a whole number of ι.
 pub fn y_box(prefit: &Prefit, whole: i64, scale: u32) -> YBox
-    requires whole { unsigned_abs whole ≤ 2 ^ 50 }
+    requires whole { unsigned_abs whole ≤ 2 ^ 51 }
     requires scale { IsScale scale }
-    ensures holds { (q : Rational) → InBox 20 prefit.now.lo prefit.now.hi q →
+    ensures holds { (q : Rational) → InBox 15 prefit.now.lo prefit.now.hi q →
         Near result.centre result.radius (in_row_unit scale (sub_r q (of_whole whole))) }
     ensures radius { result.radius ≤ℤ most_radius scale }
 {

@@ -19,12 +19,13 @@ use Rattle.obs_rows.specs.declared.rows.Row.{Row}
 use Rattle.obs_rows.specs.declared.pair_rows.PairRows.{PairRows}
 use Rattle.obs_rows.specs.declared.sessions.Session.{Session}
 use Rattle.obs_rows.specs.Data.{number_at}
-use Rattle.obs_rows.specs.Signals.{counted}
-use Rattle.slip_arcs.specs.declared.used.UsedPair.{UsedPair}
+use Rattle.obs_rows.specs.Signals.{counted, band}
+use Rattle.obs_rows.specs.declared.bands.Signals.{Signals}
+use Rattle.used_svs.specs.declared.used.UsedPair.{UsedPair}
 use Rattle.slip_arcs.specs.Runs.{AreKept}
 use Rattle.slip_arcs.specs.Linked.{HaveDatums}
 use Rattle.screening.specs.declared.sv_pair.SvPair.{SvPair}
-use Rattle.screening.specs.Sightings.{Setting, Sent, place_of}
+use Rattle.screening.specs.Sightings.{Setting, Sent, place_of, code_of}
 use Rattle.screening.specs.Screening.{AreEpochsOf, AreUsedPairs, IsSvPair}
 use Rattle.row_boxes.specs.Sightings.{Sighting, IsSighting, y_in_rows}
 use Rattle.row_build.specs.Entries.{IsEntry}
@@ -42,7 +43,8 @@ held_place (a ∷ b ∷ []) q h = absurd h
 held_place (a ∷ b ∷ c ∷ []) q h = (h.0, (h.1, (h.2, tt)))
 held_place (a ∷ b ∷ c ∷ d ∷ more) q h = absurd h
 
-solved : (t : Setting) (eph : Eph) (tag : ℕ) (code : ℤ) (point : List ℤ) (b : SvBox) (s : Sighting) → ((q : Quantities) → Sent t eph tag code q → HoldsSolution b q) → IsSolved t eph tag code point s → IsSighting b point s
+solved : (t : Setting) (eph : Eph) (tag : ℕ) (code : ℤ) (point : List ℤ) (b : SvBox) (s : Sighting) → ((q : Quantities) → Sent t eph tag code q → HoldsSolution b q) →
+    IsSolved t eph tag code point s → IsSighting b point s
 solved t eph tag code point b s holds h =
     let k : HoldsSolution b h.solution = holds h.solution h.sent in
     record {
@@ -63,40 +65,41 @@ same_pair : (xs : List PairOf) (k : ℕ) (a b : PairOf) → slice_get xs k ≡ S
 same_pair xs k a b e f = same_Some a b (sym e ∙ f)
 
 -- a row's y boxes at one sighting of each receiver
-abbrev HoldsAll : ℕ → ℤ → List ℤ → Row → Sighting → Sighting → List ℤ → Type 0
-HoldsAll scale group shift r s w xs = All (λ (i : ℕ). Near (number_at r.y i) r.ry (y_in_rows scale i (number_at xs i) group (number_at shift i) s w)) (counted scale)
+abbrev HoldsAll : List ℕ → ℕ → ℤ → List ℤ → Row → Sighting → Sighting → List ℤ → Type 0
+HoldsAll ss scale group shift r s w xs = All (λ (i : ℕ). Near (number_at r.y i) r.ry (y_in_rows scale i (number_at xs i) group (number_at shift (band i)) s w)) ss
 
-pub row_stands : (t : Setting) (base rover : List Epoch) (taken : List PairOf) (boxes : List SvPair) (arcs : List Arc) (position point : List ℤ) (scale n : ℕ) (group : ℤ) (pair : PairOf) (be re : Epoch) (r : Row) →
-    All (IsSvPair t base rover taken) boxes → slice_get taken n ≡ Some pair → AreEpochsOf base rover pair be re → IsRow (setting boxes arcs position point scale) n group r →
-    (a : Arc) → slice_get arcs r.arc ≡ Some a → StandsForRow t be re a.sat position point scale group a.shift r
-row_stands t base rover taken boxes arcs position point scale n group pair be re r all pair_is epochs row a a_is =
+pub row_stands : (t : Setting) (base rover : List Epoch) (taken : List PairOf) (boxes : List SvPair) (arcs : List Arc) (position point : List ℤ) (signals : Signals) (scale n : ℕ) (group : ℤ)
+    (pair : PairOf) (be re : Epoch) (r : Row) →
+    All (IsSvPair t base rover taken) boxes → slice_get taken n ≡ Some pair → AreEpochsOf base rover pair be re → IsRow (setting boxes arcs position point signals scale) n group r →
+    (a : Arc) → slice_get arcs r.arc ≡ Some a → StandsForRow t be re a.sat position point (counted signals scale) scale group a.shift r
+row_stands t base rover taken boxes arcs position point signals scale n group pair be re r all pair_is epochs row a a_is =
     let v : SvPair = row.entry in
     let arc : row.arc ≡ a = same_Some row.arc a (sym row.arc_is ∙ a_is) in
     let x : IsSvPair t base rover taken v = element (IsSvPair t base rover taken) boxes row.entry_is.place v all row.entry_is.is in
     let p : x.pair ≡ pair = same_pair taken n x.pair pair (subst (λ (k : ℕ). slice_get taken k ≡ Some x.pair) row.entry_is.of_pair x.pair_is) pair_is in
     let b : x.base_epoch ≡ be = same_epoch base pair.base x.base_epoch be (subst (λ (o : PairOf). slice_get base o.base ≡ Some x.base_epoch) p x.epochs.of_base) epochs.of_base in
     let q : x.rover_epoch ≡ re = same_epoch rover pair.rover x.rover_epoch re (subst (λ (o : PairOf). slice_get rover o.rover ≡ Some x.rover_epoch) p x.epochs.of_rover) epochs.of_rover in
-    let made : StandsForRow t x.base_epoch x.rover_epoch v.sat position point scale group row.arc.shift r = record {
+    let made : StandsForRow t x.base_epoch x.rover_epoch v.sat position point (counted signals scale) scale group row.arc.shift r = record {
       observed = x.entry.sighting;
       are = x.entry.seen;
-      y = λ s w hs hw. subst (λ (xs : List ℤ). HoldsAll scale group row.arc.shift r s w xs) x.entry.observed (λ k d l. row.y k d l s w (record {
-        base_is = solved t x.entry.sighting.eph x.base_epoch.tag.0 x.entry.sighting.base.l1_code position v.base s x.entry.base_holds hs;
-        rover_is = solved t x.entry.sighting.eph x.rover_epoch.tag.0 x.entry.sighting.rover.l1_code point v.rover w x.entry.rover_holds hw;
+      y = λ s w hs hw. subst (λ (xs : List ℤ). HoldsAll (counted signals scale) scale group row.arc.shift r s w xs) x.entry.observed (λ k d l. row.y k d l s w (record {
+        base_is = solved t x.entry.sighting.eph x.base_epoch.tag.0 (code_of x.entry.sighting.base) position v.base s x.entry.base_holds hs;
+        rover_is = solved t x.entry.sighting.eph x.rover_epoch.tag.0 (code_of x.entry.sighting.rover) point v.rover w x.entry.rover_holds hw;
       }));
-      u = λ w move direction hw d m. row.u w move direction (solved t x.entry.sighting.eph x.rover_epoch.tag.0 x.entry.sighting.rover.l1_code point v.rover w x.entry.rover_holds hw) d m;
+      u = λ w move direction hw d m. row.u w move direction (solved t x.entry.sighting.eph x.rover_epoch.tag.0 (code_of x.entry.sighting.rover) point v.rover w x.entry.rover_holds hw) d m;
       radius = row.radius;
       others = row.others;
       narrow = row.narrow;
     } in
-    subst (λ (e : Epoch). StandsForRow t e re a.sat position point scale group a.shift r) b
-    (subst (λ (e : Epoch). StandsForRow t x.base_epoch e a.sat position point scale group a.shift r) q
-    (subst (λ (c : Arc). StandsForRow t x.base_epoch x.rover_epoch c.sat position point scale group c.shift r) arc
-    (subst (λ (k : ℕ). StandsForRow t x.base_epoch x.rover_epoch k position point scale group row.arc.shift r) row.entry_is.of_sat made)))
+    subst (λ (e : Epoch). StandsForRow t e re a.sat position point (counted signals scale) scale group a.shift r) b
+    (subst (λ (e : Epoch). StandsForRow t x.base_epoch e a.sat position point (counted signals scale) scale group a.shift r) q
+    (subst (λ (c : Arc). StandsForRow t x.base_epoch x.rover_epoch c.sat position point (counted signals scale) scale group c.shift r) arc
+    (subst (λ (k : ℕ). StandsForRow t x.base_epoch x.rover_epoch k position point (counted signals scale) scale group row.arc.shift r) row.entry_is.of_sat made)))
 
 -- ---- the rows of a pair, and of all pairs
-pub pair_stands : (t : Setting) (base rover : List Epoch) (taken : List PairOf) (boxes : List SvPair) (arcs : List Arc) (position point : List ℤ) (scale n : ℕ) (p : PairRows) →
-    All (IsSvPair t base rover taken) boxes → ArePairRows (setting boxes arcs position point scale) n p → StandsForPair t base rover taken position point scale arcs p
-pair_stands t base rover taken boxes arcs position point scale n p all rows =
+pub pair_stands : (t : Setting) (base rover : List Epoch) (taken : List PairOf) (boxes : List SvPair) (arcs : List Arc) (position point : List ℤ) (signals : Signals) (scale n : ℕ) (p : PairRows) →
+    All (IsSvPair t base rover taken) boxes → ArePairRows (setting boxes arcs position point signals scale) n p → StandsForPair t base rover taken position point (counted signals scale) scale arcs p
+pair_stands t base rover taken boxes arcs position point signals scale n p all rows =
     let e : IsEntry boxes n rows.tag.sat rows.tag.entry = rows.tag.entry_is in
     let x : IsSvPair t base rover taken rows.tag.entry = element (IsSvPair t base rover taken) boxes e.place rows.tag.entry all e.is in
     let is : slice_get taken n ≡ Some x.pair = subst (λ (k : ℕ). slice_get taken k ≡ Some x.pair) e.of_pair x.pair_is in
@@ -108,16 +111,18 @@ pair_stands t base rover taken boxes arcs position point scale n p all rows =
       epochs = x.epochs;
       tag = sym rows.tag.tag_is ∙ x.entry.tag;
       held = rows.arcs ∙ ap (λ (k : ℕ). arcs_at arcs k) (sym rows.number);
-      rows = λ k d l a a_is. row_stands t base rover taken boxes arcs position point scale n p.group x.pair x.base_epoch x.rover_epoch (get_or p.rows k d) all is x.epochs (rows.rows k d l) a a_is;
+      rows = λ k d l a a_is. row_stands t base rover taken boxes arcs position point signals scale n p.group x.pair x.base_epoch x.rover_epoch (get_or p.rows k d) all is x.epochs
+          (rows.rows k d l) a a_is;
       group = rows.group;
     }
 
 -- what `screen_in`, `cut` and `rows_at` say, together: the session stands for the files
 pub session_stands : (t : Setting) (base rover : List Epoch) (taken : List PairOf) (jump least short : ℕ) (used : List UsedPair) (boxes : List SvPair) (s : Session) →
     AreUsedPairs t base rover taken used → All (IsSvPair t base rover taken) boxes → AreKept jump least used s.arcs short → HaveDatums s.arcs →
-    AreSessionRows (setting boxes s.arcs s.base s.point s.scale) (length used) s.pairs →
-    StandsForFiles t base rover taken jump least s.base s.signals s.point (map (λ (a : Arc). a.shift) s.arcs) s.scale s
+    AreSessionRows (setting boxes s.arcs s.base s.point s.signals s.scale) (length used) s.pairs →
+    StandsForFiles t base rover taken jump least s.system s.base s.signals s.point (map (λ (a : Arc). a.shift) s.arcs) s.scale s
 session_stands t base rover taken jump least short used boxes s used_are all kept datums rows = record {
+  system_is = refl;
   base_is = refl;
   point_is = refl;
   scale_is = refl;
@@ -129,5 +134,5 @@ session_stands t base rover taken jump least short used boxes s used_are all kep
   datums = datums;
   shifts_are = refl;
   numbers = rows.numbers ∙ ap (λ (n : ℕ). pairs_held s.arcs n) used_are.count;
-  pairs = λ k d l. pair_stands t base rover taken boxes s.arcs s.base s.point s.scale (get_or s.pairs k d).number (get_or s.pairs k d) all (rows.each k d l);
+  pairs = λ k d l. pair_stands t base rover taken boxes s.arcs s.base s.point s.signals s.scale (get_or s.pairs k d).number (get_or s.pairs k d) all (rows.each k d l);
 }

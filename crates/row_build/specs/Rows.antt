@@ -1,26 +1,35 @@
 -- What a row of an arc in a pair says.
-use Rattle.std.specs.Prelude.{◌≡◌, ◌≢◌, ℕ, ◌^◌, Some, List, [], ◌∷◌, All, slice_get, ℤ, pos, ◌≤ℤ◌}
+use Rattle.std.specs.Prelude.{◌≡◌, ℕ, ◌^◌, Some, List, All, slice_get, ℤ, pos, ◌≤ℤ◌}
 use Rattle.rational.specs.Rational.{Rational, of_whole, mul_r, Near}
 use Rattle.sv_orbit.specs.declared.place.SvBox.{SvBox}
 use Rattle.travel_model.specs.SeenPlaces.{Place, IsDisplacement, IsMeanDirection}
 use Rattle.obs_rows.specs.declared.arcs.Arc.{Arc}
 use Rattle.obs_rows.specs.declared.rows.Row.{Row}
 use Rattle.obs_rows.specs.Data.{number_at}
+use Rattle.obs_rows.specs.declared.bands.Signals.{Signals}
+use Rattle.obs_rows.specs.Signals.{counted}
+use Rattle.obs_rows.specs.Unused.{IsZeroOff}
+use Rattle.obs_rows.specs.declared.units.TheConstants.{DIRECTION_EXPONENT}
 use Rattle.screening.specs.declared.sv_pair.SvPair.{SvPair}
 use Rattle.row_boxes.specs.Sightings.{Sighting, IsSighting, place_at}
 use Rattle.row_boxes.specs.YBoxes.{Pairing, HoldsYs, most_radius}
 use Rattle.row_build.specs.Entries.{IsEntry}
 
--- what rows are made from: what was screened, the arcs, the two points and the scale
+-- what rows are made from: what was screened, the arcs, the two points, the signals and the scale
 pub record RowSetting : Type 0 where
   pub boxes : List SvPair
   pub arcs : List Arc
   pub base : List ℤ
   pub point : List ℤ
+  pub signals : Signals
   pub scale : ℕ
 
-abbrev pub setting : List SvPair → List Arc → List ℤ → List ℤ → ℕ → RowSetting
-setting boxes arcs base point scale = record { boxes = boxes; arcs = arcs; base = base; point = point; scale = scale }
+abbrev pub setting : List SvPair → List Arc → List ℤ → List ℤ → Signals → ℕ → RowSetting
+setting boxes arcs base point signals scale = record { boxes = boxes; arcs = arcs; base = base; point = point; signals = signals; scale = scale }
+
+-- the signals that count
+abbrev pub counted_in : RowSetting → List ℕ
+counted_in t = counted t.signals t.scale
 
 -- the satellite of an entry, as receivers at two points see it
 abbrev pub seen_by : SvPair → List ℤ → List ℤ → Pairing
@@ -31,7 +40,7 @@ pairing_of t v = seen_by v t.base t.point
 
 -- a coordinate of a direction, in 2^-24, is in the box in its place
 abbrev pub IsInU : ℕ → List ℤ → List ℤ → Rational → Type 0
-IsInU i u ru q = Near (number_at u i) (number_at ru i) (mul_r (of_whole (pos (2 ^ 24))) q)
+IsInU i u ru q = Near (number_at u i) (number_at ru i) (mul_r (of_whole (pos (2 ^ DIRECTION_EXPONENT))) q)
 
 -- the boxes hold the mean direction from the point, for every place where the satellite may be seen and every displacement
 abbrev pub HoldsU : SvBox → List ℤ → List ℤ → List ℤ → Type 0
@@ -45,9 +54,9 @@ pub record IsRow (t : RowSetting) (pair : ℕ) (group : ℤ) (r : Row) : Type 0 
   pub entry : SvPair
   pub entry_is : IsEntry t.boxes pair arc.sat entry
   -- each counted signal's y box holds its observation for all places and clocks
-  pub y : HoldsYs (pairing_of t entry) t.scale entry.observed group arc.shift r.y r.ry
+  pub y : HoldsYs (pairing_of t entry) (counted_in t) t.scale entry.observed group arc.shift r.y r.ry
   pub radius : r.ry ≤ℤ most_radius t.scale
-  -- in a coarse row the y that do not count are 0
-  pub others : t.scale ≢ 0 → r.y ≡ pos 0 ∷ pos 0 ∷ number_at r.y 2 ∷ pos 0 ∷ []
+  -- the y that do not count are 0
+  pub others : IsZeroOff (counted_in t) r.y
   pub u : HoldsU entry.rover t.point r.u r.ru
   pub narrow : All (λ n. n ≤ℤ pos 32) r.ru

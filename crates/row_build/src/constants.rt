@@ -1,20 +1,16 @@
 //! What the constants of files and of orbits are, as contracts of functions that do nothing.
-ghost use Rattle.std.specs.Prelude.{◌≡◌, ◌*◌, ◌^◌, [], ◌∷◌, ℕ, ℤ, pos, neg_ℤ, map, IsTrue};
+ghost use Rattle.std.specs.Prelude.{◌≡◌, ◌*◌, ◌^◌, [], ◌∷◌, ℕ, ℤ, pos, neg_ℤ, map};
 ghost use Rattle.std.proofs.Common.{lit<};
 ghost use Rattle.rational.specs.Rational.{◌≈◌, ◌≤ʳ◌, of_whole, sub_r, divided};
-ghost use Rattle.obs_rows.specs.declared.bands.TheConstants.{L1_LETTERS, L2_LETTERS};
 ghost use Rattle.obs_store.specs.Kinds.{kept_types, slot_of};
 ghost use Rattle.eph_store.specs.Decimals.{decimal};
 ghost use Rattle.orbit_model.specs.Elements.{earth_rate, sent_at};
 ghost use Rattle.sv_orbit.specs.Solutions.{gps};
-ghost use Rattle.row_build.specs.Constants.{are_kept, squared_effect, four_mu};
+ghost use Rattle.row_build.specs.Constants.{squared_effect, four_mu};
 
-/// The kept types stand in the order of their slots, and of each letter that is tried on a band (`1` is 49, `2` is 50)
-/// the code and the phase are kept (RINEX 3, table of GPS observation codes).
+/// The kept types stand in the order of their slots.
 pub fn kept_types_law()
     ensures slots { map slot_of kept_types ≡ 0 ∷ 1 ∷ 2 ∷ 3 ∷ 4 ∷ 5 ∷ 6 ∷ 7 ∷ 8 ∷ 9 ∷ 10 ∷ 11 ∷ 12 ∷ 13 ∷ 14 ∷ 15 ∷ 16 ∷ 17 ∷ 18 ∷ 19 ∷ 20 ∷ 21 ∷ 22 ∷ 23 ∷ 24 ∷ 25 ∷ [] }
-    ensures l1 { IsTrue (are_kept 49 L1_LETTERS) }
-    ensures l2 { IsTrue (are_kept 50 L2_LETTERS) }
 {}
 
 /// The constants of the user algorithm of IS-GPS-200.

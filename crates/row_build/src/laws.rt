@@ -1,15 +1,20 @@
 //! What the calls say together.
-ghost use Rattle.std.specs.Prelude.{ℕ, List, length, map, All};
+ghost use Rattle.std.specs.Prelude.{ℕ, ℤ, List, length, map, All};
 ghost use Rattle.obs_store.specs.declared.series.Epoch.{Epoch};
 ghost use Rattle.epoch_pair.specs.declared.pairs.PairOf.{PairOf};
+ghost use Rattle.obs_rows.specs.declared.arcs.Arc.{Arc};
+ghost use Rattle.obs_rows.specs.declared.bands.Signals.{Signals};
+ghost use Rattle.obs_rows.specs.declared.pair_rows.PairRows.{PairRows};
 ghost use Rattle.obs_rows.specs.declared.sessions.Session.{Session};
-ghost use Rattle.slip_arcs.specs.declared.used.UsedPair.{UsedPair};
+ghost use Rattle.used_svs.specs.declared.used.UsedPair.{UsedPair};
 ghost use Rattle.slip_arcs.specs.Runs.{AreKept};
 ghost use Rattle.slip_arcs.specs.Linked.{HaveDatums};
 ghost use Rattle.screening.specs.declared.sv_pair.SvPair.{SvPair};
 ghost use Rattle.screening.specs.Sightings.{Setting};
 ghost use Rattle.screening.specs.Screening.{AreUsedPairs, IsSvPair};
+ghost use Rattle.row_build.specs.HeldArcs.{AgreeAt};
 ghost use Rattle.row_build.specs.Rows.{setting};
+ghost use Rattle.row_build.specs.PairRows.{ArePairRows};
 ghost use Rattle.row_build.specs.SessionRows.{AreSessionRows};
 ghost use Rattle.row_build.specs.Stands.{StandsForFiles};
 
@@ -18,6 +23,13 @@ ghost use Rattle.row_build.specs.Stands.{StandsForFiles};
 pub fn stands_law()
     ensures { (rules : Setting) (base rover : List Epoch) (taken : List PairOf) (jump least short : ℕ) (used : List UsedPair) (boxes : List SvPair) (s : Session) →
         AreUsedPairs rules base rover taken used → All (IsSvPair rules base rover taken) boxes → AreKept jump least used s.arcs short → HaveDatums s.arcs →
-        AreSessionRows (setting boxes s.arcs s.base s.point s.scale) (length used) s.pairs →
-        StandsForFiles rules base rover taken jump least s.base s.signals s.point (map (λ a. a.shift) s.arcs) s.scale s }
+        AreSessionRows (setting boxes s.arcs s.base s.point s.signals s.scale) (length used) s.pairs →
+        StandsForFiles rules base rover taken jump least s.system s.base s.signals s.point (map (λ a. a.shift) s.arcs) s.scale s }
+{}
+
+/// The rows of a pair stay what they are where shifts of arcs that don't hold it change: they are the rows of all arcs that agree at
+/// the pair.
+pub fn carried_law()
+    ensures { (boxes : List SvPair) (arcs others : List Arc) (base point : List ℤ) (signals : Signals) (scale pair : ℕ) (p : PairRows) →
+        AgreeAt pair arcs others → ArePairRows (setting boxes arcs base point signals scale) pair p → ArePairRows (setting boxes others base point signals scale) pair p }
 {}

@@ -1,7 +1,8 @@
 // One row.
-ghost use Rattle.std.specs.Prelude.{◌≡◌, ◌≢◌, ◌^◌, ◌<◌, ◌≤◌, None, [], ◌∷◌, All, List, ℤ, pos, ◌≤ℤ◌, unsigned_abs, IfSome};
+ghost use Rattle.std.specs.Prelude.{◌≡◌, ◌^◌, ◌<◌, ◌≤◌, None, All, List, ℤ, pos, ◌≤ℤ◌, unsigned_abs, IfSome};
+ghost use Rattle.obs_rows.specs.declared.units.TheConstants.{SIGNALS};
 ghost use Rattle.obs_rows.specs.Ranges.{IsScale, IsBelow};
-ghost use Rattle.obs_rows.specs.Data.{number_at};
+ghost use Rattle.obs_rows.specs.Unused.{IsZeroOff};
 ghost use Rattle.row_boxes.specs.YBoxes.{Pairing, HoldsYs, HasFarSignal, most_radius};
 ghost use Rattle.signal_travel.specs.Boxes.{IsPoint, HoldsPlace};
 ghost use Rattle.travel_model.specs.SeenPlaces.{Place, IsDisplacement, IsMeanDirection};
@@ -22,26 +23,29 @@ struct Geometry {
 }
 
 fn geometry_of(
+    ss: &[usize],
     shift: &[i64; PHASES],
     entry: &Entry,
     group: i64,
     point: &[i64; 3],
     scale: u32,
 ) -> Option<Geometry>
+    requires small { All (λ s. s < SIGNALS) ss.now }
     requires shift { All (IsBelow (2 ^ 40)) shift.now }
-    requires group { unsigned_abs group ≤ 2 ^ 38 }
+    requires group { unsigned_abs group ≤ 2 ^ 43 }
     requires point { IsPoint point.now }
     requires scale { IsScale scale }
-    ensures y { IfSome result (λ g. (base : List ℤ) → IsBaseHalf entry.now.sv base entry.now.half → HoldsYs (seen_by entry.now.sv base point.now) scale entry.now.sv.observed group shift.now g.held.y g.held.ry) }
+    ensures y { IfSome result (λ g. (base : List ℤ) → IsBaseHalf entry.now.sv base entry.now.half → HoldsYs (seen_by entry.now.sv base point.now) ss.now scale entry.now.sv.observed group shift.now g.held.y g.held.ry) }
     ensures radius { IfSome result (λ g. g.held.ry ≤ℤ most_radius scale) }
-    ensures others { IfSome result (λ g. scale ≢ 0 → g.held.y ≡ pos 0 ∷ pos 0 ∷ number_at g.held.y 2 ∷ pos 0 ∷ []) }
+    ensures others { IfSome result (λ g. IsZeroOff ss.now g.held.y) }
     ensures seen { IfSome result (λ g. (s : Sighting) → IsSighting entry.now.sv.rover point.now s → HoldsPlace g.seen.place s.seen) }
-    ensures far { result ≡ None → (base : List ℤ) → IsBaseHalf entry.now.sv base entry.now.half → HasFarSignal (seen_by entry.now.sv base point.now) scale entry.now.sv.observed group shift.now }
+    ensures far { result ≡ None → (base : List ℤ) → IsBaseHalf entry.now.sv base entry.now.half → HasFarSignal (seen_by entry.now.sv base point.now) ss.now scale entry.now.sv.observed group shift.now }
 {
-    // All four, which the proof names.
-    let [_l1, _l2, _c1, _c2] = entry.sv.observed;
+    // All six, which the proof names.
+    let [_l1, _l2, _c1, _c2, _l5, _c5] = entry.sv.observed;
     let rover = sight_of(&entry.sv.rover, point);
     let held = observations_of(
+        ss,
         &entry.sv.observed,
         group,
         shift,
@@ -77,6 +81,7 @@ fn row_over(arc: u16, geometry: &Geometry, point: &[i64; 3]) -> Row
 
 /// The row of an arc with these shifts, from the entry of its satellite. There is none where an observation is too far.
 pub fn row_of(
+    ss: &[usize],
     arc: u16,
     shift: &[i64; PHASES],
     entry: &Entry,
@@ -84,18 +89,19 @@ pub fn row_of(
     point: &[i64; 3],
     scale: u32,
 ) -> Option<Row>
+    requires small { All (λ s. s < SIGNALS) ss.now }
     requires shift { All (IsBelow (2 ^ 40)) shift.now }
-    requires group { unsigned_abs group ≤ 2 ^ 38 }
+    requires group { unsigned_abs group ≤ 2 ^ 43 }
     requires point { IsPoint point.now }
     requires scale { IsScale scale }
     ensures arc { IfSome result (λ r. r.arc ≡ arc) }
-    ensures y { IfSome result (λ r. (base : List ℤ) → IsBaseHalf entry.now.sv base entry.now.half → HoldsYs (seen_by entry.now.sv base point.now) scale entry.now.sv.observed group shift.now r.y r.ry) }
+    ensures y { IfSome result (λ r. (base : List ℤ) → IsBaseHalf entry.now.sv base entry.now.half → HoldsYs (seen_by entry.now.sv base point.now) ss.now scale entry.now.sv.observed group shift.now r.y r.ry) }
     ensures radius { IfSome result (λ r. r.ry ≤ℤ most_radius scale) }
-    ensures others { IfSome result (λ r. scale ≢ 0 → r.y ≡ pos 0 ∷ pos 0 ∷ number_at r.y 2 ∷ pos 0 ∷ []) }
+    ensures others { IfSome result (λ r. IsZeroOff ss.now r.y) }
     ensures u { IfSome result (λ r. HoldsU entry.now.sv.rover point.now r.u r.ru) }
     ensures narrow { IfSome result (λ r. All (λ n. n ≤ℤ pos 32) r.ru) }
-    ensures far { result ≡ None → (base : List ℤ) → IsBaseHalf entry.now.sv base entry.now.half → HasFarSignal (seen_by entry.now.sv base point.now) scale entry.now.sv.observed group shift.now }
+    ensures far { result ≡ None → (base : List ℤ) → IsBaseHalf entry.now.sv base entry.now.half → HasFarSignal (seen_by entry.now.sv base point.now) ss.now scale entry.now.sv.observed group shift.now }
 {
-    let geometry = geometry_of(shift, entry, group, point, scale)?;
+    let geometry = geometry_of(ss, shift, entry, group, point, scale)?;
     Some(row_over(arc, &geometry, point))
 }

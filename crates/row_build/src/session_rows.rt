@@ -1,9 +1,11 @@
 // The rows of all pairs.
-ghost use Rattle.std.specs.Prelude.{◌≡◌, ◌<◌, ◌++◌, [], Err, length, IfOk, IfSome, OnOk};
+ghost use Rattle.std.specs.Prelude.{◌≡◌, ◌<◌, ◌++◌, [], All, Err, length, IfOk, IfSome, OnOk};
 ghost use Rattle.signal_travel.specs.Boxes.{IsPoint};
-ghost use Rattle.obs_rows.specs.Ranges.{IsScale};
+ghost use Rattle.obs_rows.specs.Ranges.{IsScale, IsSystem};
 ghost use Rattle.obs_rows.specs.Arcs.{AreArcs};
 ghost use Rattle.obs_rows.specs.Pairs.{IsAfter, HasItsArcs};
+ghost use Rattle.obs_rows.specs.Signals.{fine_signals};
+ghost use Rattle.obs_rows.specs.Unused.{HasUsedRows, HasUsedShifts};
 ghost use Rattle.slip_arcs.specs.Linked.{IsCutOf};
 ghost use Rattle.row_build.specs.Halves.{AreBaseHalves};
 ghost use Rattle.row_build.specs.Rows.{setting};
@@ -20,8 +22,10 @@ use std::alloc::{AllocError, Global};
 fn add_pair(session: &mut SessionBuilder, rows: Option<PairRows>) -> Result<(), AllocError>
     requires order { IfSome rows (λ p. IsAfter session.old.pairs p.number) }
     requires arcs { IfSome rows (λ p. HasItsArcs session.old.arcs p) }
+    requires rows { IfSome rows (HasUsedRows (fine_signals session.old.signals)) }
     ensures added { OnOk result (session.new.pairs ≡ session.old.pairs ++ listed rows) }
     ensures scale { session.new.scale ≡ session.old.scale }
+    ensures system { session.new.system ≡ session.old.system }
     ensures base { session.new.base ≡ session.old.base }
     ensures point { session.new.point ≡ session.old.point }
     ensures signals { session.new.signals ≡ session.old.signals }
@@ -44,6 +48,7 @@ pub fn rows_with(
     point: &[i64; 3],
     signals: Signals,
     scale: u32,
+    system: u8,
 ) -> Result<Session, RowFault>
     requires cut { IsCutOf screened.now.used arcs.now }
     requires arcs { AreArcs arcs.now }
@@ -51,16 +56,19 @@ pub fn rows_with(
     requires base { IsPoint base.now }
     requires point { IsPoint point.now }
     requires scale { IsScale scale }
+    requires system { IsSystem system }
+    requires shifts { All (HasUsedShifts (fine_signals signals)) arcs.now }
     ensures scale { IfOk result (λ s. s.scale ≡ scale) }
+    ensures system { IfOk result (λ s. s.system ≡ system) }
     ensures base { IfOk result (λ s. s.base ≡ base.now) }
     ensures point { IfOk result (λ s. s.point ≡ point.now) }
     ensures signals { IfOk result (λ s. s.signals ≡ signals) }
     ensures arcs { IfOk result (λ s. s.arcs ≡ arcs.now) }
-    ensures rows { IfOk result (λ s. AreSessionRows (setting screened.now.boxes arcs.now base.now point.now scale) (length screened.now.used) s.pairs) }
-    ensures overwidth { result ≡ Err RowFault.Overwidth → HasFarPair (setting screened.now.boxes arcs.now base.now point.now scale) }
+    ensures rows { IfOk result (λ s. AreSessionRows (setting screened.now.boxes arcs.now base.now point.now signals scale) (length screened.now.used) s.pairs) }
+    ensures overwidth { result ≡ Err RowFault.Overwidth → HasFarPair (setting screened.now.boxes arcs.now base.now point.now signals scale) }
 {
     let held = ArcList::new(Vec::from_slice(alloc, arcs)?);
-    let mut session = SessionBuilder::new(alloc, scale, *base, *point, signals, held);
+    let mut session = SessionBuilder::new(alloc, scale, system, *base, *point, signals, held);
     for pair in 0..screened.used.len() {
         match pair_rows_with(
             alloc,
@@ -70,6 +78,7 @@ pub fn rows_with(
             pair as u32,
             base,
             point,
+            signals,
             scale,
         ) {
             Ok(rows) => add_pair(&mut session, rows)?,
@@ -79,7 +88,8 @@ pub fn rows_with(
     Ok(session.finish())
 }
 
-/// The session of these arcs at these points, in units of 0.1 mm: the rows of `pair_rows` of every pair. It is refused where they are.
+/// The session of these arcs at these points, in units of 0.1 mm, for a system, G or E: the rows of `pair_rows` of every pair. It is
+/// refused where they are.
 pub fn rows_at(
     alloc: Global,
     screened: &Screened,
@@ -88,19 +98,33 @@ pub fn rows_at(
     point: &[i64; 3],
     signals: Signals,
     scale: u32,
+    system: u8,
 ) -> Result<Session, RowFault>
     requires cut { IsCutOf screened.now.used arcs.now }
     requires arcs { AreArcs arcs.now }
     requires base { IsPoint base.now }
     requires point { IsPoint point.now }
     requires scale { IsScale scale }
+    requires system { IsSystem system }
+    requires shifts { All (HasUsedShifts (fine_signals signals)) arcs.now }
     ensures scale { IfOk result (λ s. s.scale ≡ scale) }
+    ensures system { IfOk result (λ s. s.system ≡ system) }
     ensures base { IfOk result (λ s. s.base ≡ base.now) }
     ensures point { IfOk result (λ s. s.point ≡ point.now) }
     ensures signals { IfOk result (λ s. s.signals ≡ signals) }
     ensures arcs { IfOk result (λ s. s.arcs ≡ arcs.now) }
-    ensures rows { IfOk result (λ s. AreSessionRows (setting screened.now.boxes arcs.now base.now point.now scale) (length screened.now.used) s.pairs) }
-    ensures overwidth { result ≡ Err RowFault.Overwidth → HasFarPair (setting screened.now.boxes arcs.now base.now point.now scale) }
+    ensures rows { IfOk result (λ s. AreSessionRows (setting screened.now.boxes arcs.now base.now point.now signals scale) (length screened.now.used) s.pairs) }
+    ensures overwidth { result ≡ Err RowFault.Overwidth → HasFarPair (setting screened.now.boxes arcs.now base.now point.now signals scale) }
 {
-    rows_with(alloc, screened, &[], arcs, base, point, signals, scale)
+    rows_with(
+        alloc,
+        screened,
+        &[],
+        arcs,
+        base,
+        point,
+        signals,
+        scale,
+        system,
+    )
 }

@@ -1,23 +1,25 @@
 // First shifts.
-ghost use Rattle.std.specs.Prelude.{◌≡◌, ◌≢◌, ◌↔◌, ◌^◌, ◌<◌, ◌≤◌, ℕ, true, false, None, Some, [], All, List, ℤ, pos, unsigned_abs, IfSome, length, slice_get};
+ghost use Rattle.std.specs.Prelude.{IsTrue, ◌≡◌, ◌≢◌, ◌↔◌, ◌^◌, ◌<◌, ◌≤◌, ℕ, true, false, None, Some, [], All, List, ℤ, pos, unsigned_abs, IfSome, length, slice_get};
 ghost use Rattle.signal_travel.specs.Boxes.{IsPoint};
 ghost use Rattle.obs_rows.specs.declared.arcs.Arc.{Arc};
+ghost use Rattle.obs_rows.specs.declared.units.TheConstants.{SIGNALS};
 ghost use Rattle.obs_rows.specs.Ranges.{IsScale, IsBelow};
 ghost use Rattle.obs_rows.specs.Data.{number_at};
-ghost use Rattle.obs_rows.specs.Signals.{wavelength};
+ghost use Rattle.obs_rows.specs.Signals.{wavelength, is_phase, band, phase_bands};
+ghost use Rattle.obs_rows.specs.Unused.{IsZeroOff};
 ghost use Rattle.slip_arcs.specs.Used.{is_used};
 ghost use Rattle.slip_arcs.specs.Linked.{IsCutOf};
 ghost use Rattle.row_boxes.specs.Sightings.{Sighting, y_of};
-ghost use Rattle.row_boxes.specs.YBoxes.{AreSightings, HasSightings, IsWithinHalf, IsAllowedGroup};
+ghost use Rattle.row_boxes.specs.YBoxes.{AreSightings, HasSightings, HoldsPseudoranges, IsWithinHalf, IsAllowedGroup};
 ghost use Rattle.row_build.specs.HeldArcs.{holds_pair, arcs_at};
 ghost use Rattle.row_build.specs.Halves.{IsBaseHalf, AreBaseHalves};
-ghost use Rattle.row_build.specs.Rows.{RowSetting, seen_by};
+ghost use Rattle.row_build.specs.Rows.{RowSetting, setting, seen_by};
 ghost use Rattle.row_build.specs.Far.{IsFirstEntry};
-ghost use Rattle.row_build.specs.Shifts.{AreFirstShifts};
+ghost use Rattle.row_build.specs.Shifts.{counts, AreFirstShifts};
 
 use crate::arcs::{first_held, holds};
 use crate::entries::{Entry, entry_of};
-use obs_rows::{Arc, PHASES, Signals};
+use obs_rows::{Arc, PHASES, Signals, fine_signals};
 use row_boxes::{Pseudorange, first_group, first_shift, sight_of};
 use screening::Screened;
 
@@ -49,54 +51,117 @@ pub fn group_of(entry: &Entry, point: &[i64; 3]) -> i64
     ensures allowed { (base : List ℤ) → IsBaseHalf entry.now.sv base entry.now.half → (scale : ℕ) → IsScale scale →
         IsAllowedGroup (seen_by entry.now.sv base point.now) scale (number_at entry.now.sv.observed 2) result }
     ensures exists { (base : List ℤ) → IsBaseHalf entry.now.sv base entry.now.half → HasSightings (seen_by entry.now.sv base point.now) }
-    ensures size { unsigned_abs result ≤ 2 ^ 38 }
+    ensures size { unsigned_abs result ≤ 2 ^ 43 }
 {
     let seen = sight_of(&entry.sv.rover, point);
     first_group(entry.sv.observed[2], &entry.half, &seen.pseudorange)
 }
 
-// The shifts with which, under this group, the phases' observations are least
-fn shifts_of(entry: &Entry, group: i64, point: &[i64; 3]) -> [i64; PHASES]
-    requires group { unsigned_abs group ≤ 2 ^ 38 }
+// Whether the signal is one of these
+fn does_count(ss: &[usize], signal: usize) -> bool
+    ensures { result ≡ counts ss.now signal }
+{
+    ss.iter().any(|s| *s == signal)
+}
+
+// The shift with which, under this group, the observation of a phase is least, and 0 if the phase doesn't count
+fn shift_of(ss: &[usize], signal: usize, entry: &Entry, group: i64, rover: &Pseudorange) -> i64
+    requires signal { signal < SIGNALS }
+    requires phase { IsTrue (is_phase signal) }
+    requires group { unsigned_abs group ≤ 2 ^ 43 }
+    ensures near { IsTrue (counts ss.now signal) → (base point : List ℤ) → IsBaseHalf entry.now.sv base entry.now.half → HoldsPseudoranges entry.now.sv.rover point rover.now →
+        (b r : Sighting) → AreSightings (seen_by entry.now.sv base point) b r → IsWithinHalf (wavelength signal) (y_of signal (number_at entry.now.sv.observed signal) group result b r) }
+    ensures unused { counts ss.now signal ≡ false → result ≡ pos 0 }
+    ensures size { unsigned_abs result < 2 ^ 39 }
+{
+    if !does_count(ss, signal) {
+        return 0;
+    }
+    first_shift(signal, entry.sv.observed[signal], group, &entry.half, rover)
+}
+
+// The shifts with which, under this group, the observations of the phases that count are least
+fn shifts_of(ss: &[usize], entry: &Entry, group: i64, point: &[i64; 3]) -> [i64; PHASES]
+    requires group { unsigned_abs group ≤ 2 ^ 43 }
     requires point { IsPoint point.now }
-    ensures near { (base : List ℤ) → IsBaseHalf entry.now.sv base entry.now.half → (s : ℕ) → s < 2 → (b r : Sighting) → AreSightings (seen_by entry.now.sv base point.now) b r →
-        IsWithinHalf (wavelength s) (y_of s (number_at entry.now.sv.observed s) group (number_at result s) b r) }
+    ensures near { (base : List ℤ) → IsBaseHalf entry.now.sv base entry.now.half → (s : ℕ) → s < SIGNALS → IsTrue (is_phase s) → IsTrue (counts ss.now s) → (b r : Sighting) → AreSightings (seen_by entry.now.sv base point.now) b r →
+        IsWithinHalf (wavelength s) (y_of s (number_at entry.now.sv.observed s) group (number_at result (band s)) b r) }
+    ensures unused { IsZeroOff (phase_bands ss.now) result }
     ensures size { All (IsBelow (2 ^ 39)) result }
 {
-    let seen = sight_of(&entry.sv.rover, point);
-    let (known, seen) = (entry.half, seen.pseudorange);
-    [
-        first_shift(0, entry.sv.observed[0], group, &known, &seen),
-        first_shift(1, entry.sv.observed[1], group, &known, &seen),
-    ]
+    let rover = sight_of(&entry.sv.rover, point).pseudorange;
+    let l1 = shift_of(ss, 0, entry, group, &rover);
+    let l2 = shift_of(ss, 1, entry, group, &rover);
+    let l5 = shift_of(ss, 4, entry, group, &rover);
+    [l1, l2, l5]
 }
 
 // Of a satellite that the pair uses
 fn first_shifts(
     screened: &Screened,
+    halves: &[Pseudorange],
     arcs: &[Arc],
     sat: u8,
     pair: u32,
     base: &[i64; 3],
     point: &[i64; 3],
+    signals: Signals,
 ) -> [i64; PHASES]
     requires cut { IsCutOf screened.now.used arcs.now }
     requires few { length arcs.now ≤ 200 }
     requires held { arcs_at arcs.now pair ≢ [] }
     requires used { is_used screened.now.used sat pair ≡ true }
+    requires halves { AreBaseHalves screened.now.boxes base.now halves.now }
     requires base { IsPoint base.now }
     requires point { IsPoint point.now }
-    ensures near { AreFirstShifts (record { boxes = screened.now.boxes; arcs = arcs.now; base = base.now; point = point.now; scale = 0 }) pair sat result }
+    ensures near { AreFirstShifts (setting screened.now.boxes arcs.now base.now point.now signals 0) pair sat result }
     ensures size { All (IsBelow (2 ^ 39)) result }
 {
-    let first = first_entry(screened, &[], arcs, pair, base);
-    let entry = entry_of(screened, &[], pair, sat, base);
-    shifts_of(&entry, group_of(&first, point), point)
+    let first = first_entry(screened, halves, arcs, pair, base);
+    let entry = entry_of(screened, halves, pair, sat, base);
+    shifts_of(
+        fine_signals(signals),
+        &entry,
+        group_of(&first, point),
+        point,
+    )
 }
 
-/// Shifts of an arc, in cycles, with which the observations of its phases in the pair lie from -λ to λ, in a fine session and for every
-/// group that the pair's first row allows. There are none exactly where the arc doesn't hold the pair. The points are in units of 0.1 mm;
-/// of the signals, those that `screened` was made of, nothing more is read.
+/// The shifts of `shift_at`, with the base's halves that are kept, each in the place of its entry: `base_halves` makes them once for
+/// all pairs and points of a run. What is not kept is made, so the shifts are as good with none.
+pub fn shift_with(
+    screened: &Screened,
+    halves: &[Pseudorange],
+    arcs: &[Arc],
+    arc: u16,
+    pair: u32,
+    base: &[i64; 3],
+    point: &[i64; 3],
+    signals: Signals,
+) -> Option<[i64; PHASES]>
+    requires cut { IsCutOf screened.now.used arcs.now }
+    requires few { length arcs.now ≤ 200 }
+    requires arc { arc < length arcs.now }
+    requires pair { pair < length screened.now.used }
+    requires halves { AreBaseHalves screened.now.boxes base.now halves.now }
+    requires base { IsPoint base.now }
+    requires point { IsPoint point.now }
+    ensures none { (a : Arc) → slice_get arcs.now arc ≡ Some a → (result ≡ None) ↔ (holds_pair a pair ≡ false) }
+    ensures near { (a : Arc) → slice_get arcs.now arc ≡ Some a → IfSome result (λ shift.
+        AreFirstShifts (setting screened.now.boxes arcs.now base.now point.now signals 0) pair a.sat shift) }
+    ensures size { IfSome result (λ shift. All (IsBelow (2 ^ 39)) shift) }
+{
+    let held = arcs[arc as usize];
+    if holds(&held, pair) {
+        Some(first_shifts(screened, halves, arcs, held.sat, pair, base, point, signals))
+    } else {
+        None
+    }
+}
+
+/// Shifts of an arc, in cycles, with which the observations of its phases that count in the pair lie from -λ to λ, in a fine session
+/// and for every group that the pair's first row allows. The shift of a band that isn't used is 0. There are none exactly where the
+/// arc doesn't hold the pair. The points are in units of 0.1 mm; the signals are those that `screened` was made of.
 pub fn shift_at(
     screened: &Screened,
     arcs: &[Arc],
@@ -104,7 +169,7 @@ pub fn shift_at(
     pair: u32,
     base: &[i64; 3],
     point: &[i64; 3],
-    _signals: Signals,
+    signals: Signals,
 ) -> Option<[i64; PHASES]>
     requires cut { IsCutOf screened.now.used arcs.now }
     requires few { length arcs.now ≤ 200 }
@@ -114,13 +179,8 @@ pub fn shift_at(
     requires point { IsPoint point.now }
     ensures none { (a : Arc) → slice_get arcs.now arc ≡ Some a → (result ≡ None) ↔ (holds_pair a pair ≡ false) }
     ensures near { (a : Arc) → slice_get arcs.now arc ≡ Some a → IfSome result (λ shift.
-        AreFirstShifts (record { boxes = screened.now.boxes; arcs = arcs.now; base = base.now; point = point.now; scale = 0 }) pair a.sat shift) }
+        AreFirstShifts (setting screened.now.boxes arcs.now base.now point.now signals 0) pair a.sat shift) }
     ensures size { IfSome result (λ shift. All (IsBelow (2 ^ 39)) shift) }
 {
-    let held = arcs[arc as usize];
-    if holds(&held, pair) {
-        Some(first_shifts(screened, arcs, held.sat, pair, base, point))
-    } else {
-        None
-    }
+    shift_with(screened, &[], arcs, arc, pair, base, point, signals)
 }

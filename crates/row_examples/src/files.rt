@@ -1,11 +1,12 @@
 // Made-up files, screened, with their arcs.
 ghost use Rattle.std.specs.Prelude.{◌≤◌, IfOk, IfSome};
 ghost use Rattle.obs_rows.specs.Arcs.{AreArcs};
+ghost use Rattle.obs_rows.specs.Ranges.{IsSystem};
 ghost use Rattle.row_build.specs.Halves.{AreBaseHalves};
 ghost use Rattle.signal_travel.specs.Boxes.{IsPoint};
 ghost use Rattle.slip_arcs.specs.Linked.{IsCutOf};
 
-use obs_rows::{Arc, are_arcs};
+use obs_rows::{Arc, are_arcs, is_system};
 use rinex_nav::read_nav;
 use rinex_obs::read_obs;
 use round_steps::Rounds;
@@ -24,6 +25,7 @@ pub struct Files {
     pub rounds: FileRounds,
     pub ghost arcs_in: { AreArcs rounds.kept },
     pub ghost base_in: { IsPoint rounds.position },
+    pub ghost system_in: { IsSystem rounds.system },
 }
 
 fn checked(rounds: FileRounds) -> Option<Files>
@@ -36,6 +38,9 @@ fn checked(rounds: FileRounds) -> Option<Files>
         return None;
     }
     if !is_receiver_point(&rounds.position) {
+        return None;
+    }
+    if !is_system(rounds.system) {
         return None;
     }
     Some(Files { rounds })
@@ -64,7 +69,7 @@ pub fn files_of(
     let nav = read_nav(alloc, &made.nav)?;
     let begun = begin(alloc, &base, &rover, options)?;
     let rounds = screened(alloc, &base, &rover, &nav, &begun, options)?;
-    Ok(checked(rounds).expect(rt, "arcs or base out of range"))
+    Ok(checked(rounds).expect(rt, "arcs, base or system out of range"))
 }
 
 /// The kept arcs with the shifts of their first pairs.

@@ -1,12 +1,14 @@
 // The boxes of the rows hold the values of the independent model, whatever groups and shifts are chosen.
-ghost use Rattle.std.specs.Prelude.{◌≤◌, ◌^◌, unsigned_abs, IfOk};
+ghost use Rattle.std.specs.Prelude.{◌≤◌, ◌^◌, pos, get_or, unsigned_abs, All, IsTrue, IfOk};
+ghost use Rattle.obs_rows.specs.Signals.{fine_signals};
+ghost use Rattle.obs_rows.specs.Unused.{HasUsedShifts};
 ghost use Rattle.row_build.specs.Halves.{AreBaseHalves};
 ghost use Rattle.signal_travel.specs.Boxes.{IsPoint};
 ghost use Rattle.slip_arcs.specs.Linked.{IsCutOf};
 
 use crate::expected::{Expected, ExpectedPair, ExpectedRow, HIGH, PLAIN};
 use crate::files::{Files, files_of, with_shifts};
-use obs_rows::{Arc, PairRows, Row, Session, are_arcs};
+use obs_rows::{Arc, PairRows, Row, Session, Signals, are_arcs, has_used_shifts};
 use row_build::{pair_rows, rows_at, shift_at};
 use run_options::Options;
 use signal_travel::is_receiver_point;
@@ -14,8 +16,16 @@ use std::alloc::Global;
 use std::process::Abort;
 use std::test::Fail;
 
-/// How many units of a fine row are one κ.
-const FINE: i128 = 262_144;
+/// How many units of a fine row are one ι.
+const FINE: i128 = 8192;
+
+/// How many ι are one unit of a coarse row.
+const COARSE: i64 = 2;
+
+/// The greatest radii of y boxes.
+const FINE_RADIUS: i64 = 470;
+
+const COARSE_RADIUS: i64 = 1;
 
 // Seed 1, with the options that a run has by itself.
 fn plain(rt: &impl Abort, alloc: Global) -> Result<Files, Fail>
@@ -51,7 +61,7 @@ fn arcs_agree(rt: &impl Abort, files: &Files, want: &Expected) {
             (arc.sat, arc.first, arc.last, arc.datum),
             (sat, first, last, datum)
         );
-        assert_eq!(rt; arc.shift, [0, 0]);
+        assert_eq!(rt; arc.shift, [0; 3]);
     }
 }
 
@@ -68,33 +78,51 @@ fn is_direction(row: &Row, direction: [i64; 3]) -> bool {
         && u.abs_diff(want) <= ru.unsigned_abs())
 }
 
-fn is_fine_row(row: &Row, group: i64, shift: [i64; 2], want: ExpectedRow) -> bool {
-    let (arc, exact, _coarse, direction) = want;
+// What the group and the shifts take off the phases on L1 and L2, in units of a fine row.
+fn taken_off(group: i64, shift: [i64; 3]) -> [i128; 2]
+    ensures first { unsigned_abs (get_or result 0 (pos 0)) ≤ 2 ^ 100 }
+    ensures second { unsigned_abs (get_or result 1 (pos 0)) ≤ 2 ^ 100 }
+{
     let group = group as i128;
-    let l1 = (group + 60 * (shift[0] as i128)) * FINE;
-    let l2 = (group + 77 * (shift[1] as i128)) * FINE;
+    [
+        (group + 1380 * (shift[0] as i128)) * FINE,
+        (group + 1771 * (shift[1] as i128)) * FINE,
+    ]
+}
+
+fn is_fine_row(row: &Row, group: i64, shift: [i64; 3], want: ExpectedRow) -> bool {
+    let (arc, exact, _coarse, direction) = want;
+    let [l1, l2] = taken_off(group, shift);
+    let code = group as i128 * FINE;
     row.arc == arc
-        && row.ry <= 2048
+        && row.ry <= FINE_RADIUS
         && is_held(row.y[0], row.ry, l1, exact[0])
         && is_held(row.y[1], row.ry, l2, exact[1])
-        && is_held(row.y[2], row.ry, group * FINE, exact[2])
-        && is_held(row.y[3], row.ry, group * FINE, exact[3])
+        && is_held(row.y[2], row.ry, code, exact[2])
+        && is_held(row.y[3], row.ry, code, exact[3])
+        && row.y[4] == 0
+        && row.y[5] == 0
         && is_direction(row, direction)
 }
 
 fn is_coarse_row(row: &Row, group: i64, want: ExpectedRow) -> bool {
     let (arc, _exact, coarse, direction) = want;
-    let [l1, l2, code, other] = row.y;
+    let [l1, l2, code, c2, l5, c5] = row.y;
     row.arc == arc
-        && row.ry <= 2
-        && [l1, l2, other] == [0, 0, 0]
-        && is_held(code, row.ry, group as i128 * 16, coarse)
+        && row.ry <= COARSE_RADIUS
+        && [l1, l2, c2, l5, c5] == [0; 5]
+        && is_held(
+            code.saturating_mul(COARSE),
+            COARSE * row.ry,
+            group as i128,
+            coarse,
+        )
         && is_direction(row, direction)
 }
 
-// Whether the box of the code on L1 meets -1 to 1 κ, which is so many units.
-fn is_near(row: &Row, unit: u64) -> bool {
-    row.y[2].unsigned_abs() <= unit.saturating_add(row.ry.unsigned_abs())
+// Whether a box meets that from -unit to unit.
+fn is_near(y: i64, ry: i64, unit: u64) -> bool {
+    y.unsigned_abs() <= unit.saturating_add(ry.unsigned_abs())
 }
 
 // Whether the box around a phase meets -λ to λ with this shift.
@@ -105,13 +133,12 @@ fn is_within_cycle(exact: i64, ry: i64, taken_off: i128, wavelength: i64) -> boo
     left.unsigned_abs() <= (wavelength as i128 * FINE + ry as i128).unsigned_abs()
 }
 
-fn are_shifts(shift: [i64; 2], ry: i64, group: i64, exact: [i64; 4]) -> bool {
-    let group = group as i128;
-    let l1 = (group + 60 * (shift[0] as i128)) * FINE;
-    let l2 = (group + 77 * (shift[1] as i128)) * FINE;
+fn are_shifts(shift: [i64; 3], ry: i64, group: i64, exact: [i64; 4]) -> bool {
+    let [l1, l2] = taken_off(group, shift);
     shift.iter().all(|n| n.unsigned_abs() < 549_755_813_888)
-        && is_within_cycle(exact[0], ry, l1, 60)
-        && is_within_cycle(exact[1], ry, l2, 77)
+        && shift[2] == 0
+        && is_within_cycle(exact[0], ry, l1, 1380)
+        && is_within_cycle(exact[1], ry, l2, 1771)
 }
 
 fn fine_pair_agrees(rt: &impl Abort, pair: &PairRows, arcs: &[Arc], want: &ExpectedPair) {
@@ -119,7 +146,10 @@ fn fine_pair_agrees(rt: &impl Abort, pair: &PairRows, arcs: &[Arc], want: &Expec
     assert_eq!(rt; (pair.number as usize, pair.tag.0), (number, tag));
     assert_eq!(rt; pair.rows.len(), rows.len());
     let found = pair.rows.as_slice();
-    assert!(rt; is_near(&found[0], 262_144), "the group of pair {number}");
+    assert!(rt;
+        is_near(found[0].y[2], found[0].ry, 8192),
+        "the group of pair {number}"
+    );
     for (row, want) in found.iter().zip(rows) {
         let arc = row.arc as usize;
         assert!(rt; arc < arcs.len());
@@ -135,7 +165,11 @@ fn coarse_pair_agrees(rt: &impl Abort, pair: &PairRows, want: &ExpectedPair) {
     assert_eq!(rt; (pair.number as usize, pair.tag.0), (number, tag));
     assert_eq!(rt; pair.rows.len(), rows.len());
     let found = pair.rows.as_slice();
-    assert!(rt; is_near(&found[0], 16), "the group of pair {number}");
+    let (code, radius) = (found[0].y[2], found[0].ry);
+    assert!(rt;
+        is_near(COARSE * code, COARSE * radius, 1),
+        "the group of pair {number}"
+    );
     for (row, want) in found.iter().zip(rows) {
         let arc = row.arc;
         assert!(rt;
@@ -172,7 +206,7 @@ fn shifts_agree(
         );
         let shift = found.expect(rt, "the arc doesn't hold the pair");
         assert!(rt;
-            are_shifts(shift, 2048, pair.group, exact),
+            are_shifts(shift, FINE_RADIUS, pair.group, exact),
             "arc {arc} in pair {number}"
         );
     }
@@ -213,7 +247,10 @@ fn alone_agrees(
 
 fn copy_agrees(rt: &impl Abort, alloc: Global, session: &Session) -> Result<(), Fail> {
     let copied = session.copy(alloc)?;
-    assert_eq!(rt; copied.scale, session.scale);
+    assert_eq!(rt;
+        (copied.scale, copied.system),
+        (session.scale, session.system)
+    );
     assert_eq!(rt; (copied.base, copied.point), (session.base, session.point));
     assert!(rt; copied.arcs.as_slice() == session.arcs.as_slice());
     assert_eq!(rt; copied.pairs.len(), session.pairs.len());
@@ -221,6 +258,13 @@ fn copy_agrees(rt: &impl Abort, alloc: Global, session: &Session) -> Result<(), 
         assert!(rt; is_same_pair(one, other));
     }
     Ok(())
+}
+
+// Whether the shifts of bands that aren't used are 0.
+fn are_used(signals: Signals, arcs: &[Arc]) -> bool
+    ensures { IsTrue result → All (HasUsedShifts (fine_signals signals)) arcs.now }
+{
+    arcs.iter().all(|a| has_used_shifts(signals, a))
 }
 
 fn fine_rows_agree(
@@ -236,6 +280,7 @@ fn fine_rows_agree(
     assert!(rt; is_receiver_point(&point));
     let arcs = with_shifts(alloc, files, &point)?;
     assert!(rt; are_arcs(&arcs));
+    assert!(rt; are_used(files.rounds.signals, &arcs));
     let session = rows_at(
         alloc,
         &files.rounds.screened,
@@ -244,7 +289,9 @@ fn fine_rows_agree(
         &point,
         files.rounds.signals,
         0,
+        b'G',
     )?;
+    assert_eq!(rt; session.system, b'G');
     assert_eq!(rt; session.pairs.len(), want.taken);
     for pair in &want.pairs {
         let number = pair.0;
@@ -268,6 +315,7 @@ fn coarse_rows_agree(
     let point = want.point;
     assert!(rt; is_receiver_point(&point));
     let arcs = files.rounds.kept.as_slice();
+    assert!(rt; are_used(files.rounds.signals, arcs));
     let session = rows_at(
         alloc,
         &files.rounds.screened,
@@ -276,7 +324,9 @@ fn coarse_rows_agree(
         &point,
         files.rounds.signals,
         14,
+        b'G',
     )?;
+    assert_eq!(rt; session.system, b'G');
     assert_eq!(rt; session.pairs.len(), want.taken);
     for pair in &want.pairs {
         let number = pair.0;

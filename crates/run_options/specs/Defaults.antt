@@ -1,19 +1,20 @@
 -- The options of a run that is asked for nothing in particular.
 use Rattle.std.specs.Prelude.{◌≡◌, ℕ}
+use Rattle.run_options.specs.declared.defaults.TheConstants.{DEFAULT_RATIO, DEFAULT_BUDGET, DEFAULT_MASK, DEFAULT_GAP, DEFAULT_JUMP, DEFAULT_ARC, DEFAULT_STEP, DEFAULT_FIRST, DEFAULT_COUNT}
 use Rattle.run_options.specs.declared.options.Options.{Options}
 
 pub record AreDefaults (o : Options) : Type 0 where
-  pub ratio : o.ratio ≡ 2000
-  pub budget : o.budget ≡ 1000000
-  pub mask : o.mask ≡ 200
-  pub gap : o.gap ≡ 100000
-  pub jump : o.jump ≡ 12
-  pub arc : o.arc ≡ 5
-  pub step : o.step ≡ 1
-  pub first : o.first ≡ 0
-  pub count : o.count ≡ 3600
+  pub ratio : o.ratio ≡ DEFAULT_RATIO
+  pub budget : o.budget ≡ DEFAULT_BUDGET
+  pub mask : o.mask ≡ DEFAULT_MASK
+  pub gap : o.gap ≡ DEFAULT_GAP
+  pub jump : o.jump ≡ DEFAULT_JUMP
+  pub arc : o.arc ≡ DEFAULT_ARC
+  pub step : o.step ≡ DEFAULT_STEP
+  pub first : o.first ≡ DEFAULT_FIRST
+  pub count : o.count ≡ DEFAULT_COUNT
 
--- the numbers of options
+-- the numbers of options that may differ
 pub record Numbers : Type 0 where
   pub ratio : ℕ
   pub budget : ℕ

@@ -1,13 +1,21 @@
 //! What a run is asked to do: its options, each with its range and its default.
 //!
-//! The options of a run with their ranges in the type, and their defaults.
+//! The options of a run with their ranges in the type, and their defaults. A run uses the bands L1 and L2 of GPS: of
+//! the numbers of the bands and of the letters of systems the type admits these alone.
 #![tactic(auto)]
 
+mod constants;
+mod defaults;
 mod options;
 
 ghost use Rattle.run_options.specs.Defaults.{AreDefaults};
 
-pub use options::Options;
+pub use constants::defaults_law;
+pub use defaults::{
+    DEFAULT_ARC, DEFAULT_BUDGET, DEFAULT_COUNT, DEFAULT_FIRST, DEFAULT_GAP, DEFAULT_JUMP,
+    DEFAULT_MASK, DEFAULT_RATIO, DEFAULT_STEP,
+};
+pub use options::{BANDS_L1_L2, GPS, Options};
 
 impl Options {
     /// Those of a run that is asked for nothing in particular.
@@ -15,15 +23,17 @@ impl Options {
         ensures { AreDefaults result }
     {
         Options {
-            ratio: 2000,
-            budget: 1_000_000,
-            mask: 200,
-            gap: 100_000,
-            jump: 12,
-            arc: 5,
-            step: 1,
-            first: 0,
-            count: 3600,
+            bands: BANDS_L1_L2,
+            system: GPS,
+            ratio: DEFAULT_RATIO,
+            budget: DEFAULT_BUDGET,
+            mask: DEFAULT_MASK,
+            gap: DEFAULT_GAP,
+            jump: DEFAULT_JUMP,
+            arc: DEFAULT_ARC,
+            step: DEFAULT_STEP,
+            first: DEFAULT_FIRST,
+            count: DEFAULT_COUNT,
         }
     }
 }

@@ -1,9 +1,20 @@
 // The options of a run.
-ghost use Rattle.std.specs.Prelude.{◌≤◌};
+ghost use Rattle.std.specs.Prelude.{◌≡◌, ◌≤◌};
+ghost use Rattle.run_options.specs.declared.options.TheConstants.{BANDS_L1_L2, GPS};
+
+/// The number of the bands L1 and L2, which tells them by their digits.
+pub const BANDS_L1_L2: u16 = 12;
+
+/// The system's letter.
+pub const GPS: u8 = b'G';
 
 /// The options of a run, each in its range.
 #[derive(Clone, Copy, Debug, PartialEq, Eq)]
 pub struct Options {
+    /// The bands that are used.
+    pub bands: u16,
+    /// The satellite system, by its letter.
+    pub system: u8,
     /// The least ratio of the second best value to the best, in thousandths.
     pub ratio: u32,
     /// The most suffixes that a search visits.
@@ -22,6 +33,8 @@ pub struct Options {
     pub first: u32,
     /// At most so many pairs are taken.
     pub count: u32,
+    pub ghost on_bands: { bands ≡ BANDS_L1_L2 },
+    pub ghost of_system: { system ≡ GPS },
     pub ghost ratio_from: { 1000 ≤ ratio },
     pub ghost ratio_to: { ratio ≤ 100_000 },
     pub ghost budget_from: { 1 ≤ budget },

@@ -1,10 +1,9 @@
 -- A satellite has one chosen record at a time, and a pair sees it in one way.
-use Rattle.std.proofs.Common.{◌≡◌, ℕ, ◌<◌, ◌≤◌, List, [], ◌∷◌, ◌++◌, refl, sym, ◌∙◌, subst, arith, Some, All}
+use Rattle.std.proofs.Common.{◌≡◌, ℕ, ◌<◌, ◌≤◌, ℤ, List, [], ◌∷◌, ◌++◌, refl, sym, ◌∙◌, subst, arith, Some, All}
 use Rattle.std.proofs.lemmas.List.Elements.{All-head, All-tail}
 use Rattle.obs_store.specs.declared.series.Epoch.{Epoch}
 use Rattle.eph_store.specs.declared.ephemeris.Eph.{Eph}
 use Rattle.eph_store.specs.Chosen.{distance, IsCandidate, IsChosenRecord, HasNoCandidate}
-use Rattle.screening.specs.declared.amounts.Amounts.{Amounts}
 use Rattle.screening.specs.Sightings.{Setting, Sighting, IsSighting}
 
 middle : (P : Eph → Type 0) (front rest : List Eph) (e : Eph) → All P (front ++ e ∷ rest) → P e
@@ -41,7 +40,8 @@ chosen_once fit sat tag e e' c c' = same_place sat tag c.front c.rest c'.front c
 pub none_chosen : (fit : List Eph) (sat tag : ℕ) (e : Eph) → HasNoCandidate fit sat tag → IsChosenRecord fit sat tag e → ⊥
 none_chosen fit sat tag e none c = middle (λ f. IsCandidate sat tag f → ⊥) c.front c.rest e (subst (All (λ f. IsCandidate sat tag f → ⊥)) c.stands none) c.candidate
 
-same_sighting : (a a' b b' : Amounts) (e e' : Eph) → a ≡ a' → b ≡ b' → e ≡ e' → (let g : Sighting = record { base = a; rover = b; eph = e } in let h : Sighting = record { base = a'; rover = b'; eph = e' } in g ≡ h)
+same_sighting : (a a' b b' : List ℤ) (e e' : Eph) → a ≡ a' → b ≡ b' → e ≡ e'
+    → (let g : Sighting = record { base = a; rover = b; eph = e } in let h : Sighting = record { base = a'; rover = b'; eph = e' } in g ≡ h)
 same_sighting a a' b b' e e' is is2 is3 = rw (is, is2, is3) refl
 
 pub seen_once : (s : Setting) (base rover : Epoch) (sat : ℕ) (g h : Sighting) → IsSighting s base rover sat g → IsSighting s base rover sat h → g ≡ h
@@ -49,5 +49,5 @@ seen_once s base rover sat g h is is' = same_sighting g.base h.base g.rover h.ro
     (some_once g.base h.base (sym is.at_base ∙ is'.at_base)) (some_once g.rover h.rover (sym is.at_rover ∙ is'.at_rover))
     (chosen_once s.records sat base.tag.0 g.eph h.eph is.chosen is'.chosen)
   where
-    some_once : (a b : Amounts) → Some a ≡ Some b → a ≡ b
+    some_once : (a b : List ℤ) → Some a ≡ Some b → a ≡ b
     some_once a b e = cc e

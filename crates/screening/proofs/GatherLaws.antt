@@ -1,21 +1,22 @@
 -- The used satellites of a pair, one number more.
-use Rattle.std.proofs.Common.{◌≡◌, ℕ, zero, suc, ◌+◌, ◌<◌, ◌≤◌, ◌⊎◌, inl, inr, ⊎_elim, ℤ, Bool, true, false, true≢false, ◌||◌, ◌==◌, List, [], ◌∷◌, ◌++◌, length, take, refl, sym, ap, ap₂, ◌∙◌, subst, arith, append_assoc}
+use Rattle.std.proofs.Common.{◌≡◌, ℕ, zero, suc, ◌+◌, ◌<◌, ◌≤◌, ◌⊎◌, inl, inr, ⊎_elim, Bool, true, false, true≢false, ◌||◌, ◌==◌, List, [], ◌∷◌, ◌++◌, length, refl, sym, ap, ap₂, ◌∙◌, subst, arith, append_assoc}
 use Rattle.std.proofs.lemmas.Bool.{eqb-false}
 use Rattle.std.proofs.lemmas.List.{append-nil, map-append, length_push}
 use Rattle.std.proofs.lemmas.List.Elements.{All-push}
 use Rattle.std.proofs.lemmas.List.Folds.{list_any-append}
 use Rattle.std.proofs.lemmas.List.Quantifiers.{all_pairs_push}
 use Rattle.obs_store.specs.declared.series.Epoch.{Epoch}
-use Rattle.slip_arcs.specs.Used.{IsSmall}
-use Rattle.slip_arcs.specs.declared.used.UsedSat.{UsedSat}
+use Rattle.used_svs.specs.Ranges.{IsSmall}
+use Rattle.used_svs.specs.declared.used.UsedSat.{UsedSat}
 use Rattle.screening.specs.declared.sv_pair.SvPair.{SvPair}
+use Rattle.screening.specs.Observed.{phases_of}
 use Rattle.screening.specs.Marks.{Passed, lost_lock}
 use Rattle.screening.specs.Sightings.{Setting, Sighting, IsSighting, MayBeLeftOut}
 use Rattle.screening.specs.Screening.{IsUsedSat, AreUsedSats, IsEntry, IsEntryAt, IsLeftOut, AreEnoughBelow, is_among}
 use Rattle.screening.specs.Gathering.{IsPassedOver, IsAdded, AreGathered}
 
 pub added_of : (s : Setting) (base rover : Epoch) (epochs : Passed) (pair sat : ℕ) (sats sats' : List UsedSat) (boxes boxes' : List SvPair) (u : UsedSat) (b : SvPair) (lost : Bool) →
-    IsEntryAt s base rover pair sat b → length sats < 15 → u.sat ≡ b.sat → u.phase ≡ take 2 b.observed → u.lost ≡ lost → lost ≡ lost_lock s.types sat epochs → IsSmall u →
+    IsEntryAt s base rover pair sat b → length sats < 15 → u.sat ≡ b.sat → u.phase ≡ phases_of b.observed → u.lost ≡ lost → lost ≡ lost_lock s.types sat epochs → IsSmall u →
     sats' ≡ sats ++ u ∷ [] → boxes' ≡ boxes ++ b ∷ [] → IsAdded s base rover epochs pair sat sats sats' boxes boxes'
 added_of s base rover epochs pair sat sats sats' boxes boxes' u b lost at room named phase mark is small more grow =
     let e : IsEntry s base rover b = at.entry in
@@ -31,7 +32,7 @@ added_of s base rover epochs pair sat sats sats' boxes boxes' u b lost at room n
         sighting = e.sighting;
         seen = subst (λ (n : ℕ). IsSighting s base rover n e.sighting) (sym named) e.seen;
         kept = e.kept;
-        phase = phase ∙ ap (λ (zs : List ℤ). take 2 zs) e.observed;
+        phase = phase ∙ ap phases_of e.observed;
         lost = mark ∙ is ∙ ap (λ (n : ℕ). lost_lock s.types n epochs) (sym sat_is);
       };
       small = small;
@@ -93,8 +94,10 @@ right_false : (a b : Bool) → (a || b) ≡ false → b ≡ false
 right_false true b h = absurd (true≢false h)
 right_false false b h = h
 
-added_one : (s : Setting) (base rover : Epoch) (epochs : Passed) (pair n : ℕ) (before : List SvPair) (sats : List UsedSat) (boxes : List SvPair) (u : UsedSat) (b : SvPair) → length sats < 15 → u.sat ≡ n →
-    IsUsedSat s base rover epochs u → IsSmall u → IsEntryAt s base rover pair n b → AreGathered s base rover epochs pair n before sats boxes → AreGathered s base rover epochs pair (n + 1) before (sats ++ u ∷ []) (boxes ++ b ∷ [])
+added_one : (s : Setting) (base rover : Epoch) (epochs : Passed) (pair n : ℕ) (before : List SvPair) (sats : List UsedSat) (boxes : List SvPair) (u : UsedSat) (b : SvPair)
+    → length sats < 15 → u.sat ≡ n →
+    IsUsedSat s base rover epochs u → IsSmall u → IsEntryAt s base rover pair n b → AreGathered s base rover epochs pair n before sats boxes → AreGathered s base rover epochs pair
+    (n + 1) before (sats ++ u ∷ []) (boxes ++ b ∷ [])
 added_one s base rover epochs pair n before sats boxes u b room named used small at g = record {
   few = let l = length_push sats u in omega (arith, l, room);
   rising = all_pairs_push (λ (v w : UsedSat). v.sat < w.sat) sats u g.rising (λ k d inside. let h = g.below k d inside in omega (arith, h, named));
@@ -118,7 +121,8 @@ added_one s base rover epochs pair n before sats boxes u b room named used small
     one_place p p' t t' e f = rw (e, f) refl
 
     earlier : (sat : ℕ) (seen : Sighting) → sat < n → IsSighting s base rover sat seen → is_among sat sats ≡ false → MayBeLeftOut s base.tag.0 seen
-    earlier sat seen lower is none = ⊎_elim (λ (out : MayBeLeftOut s base.tag.0 seen). out) (λ (enough : AreEnoughBelow sat sats). absurd (let e = enough.0 in omega (arith, e, room))) (g.others sat seen lower is none)
+    earlier sat seen lower is none = ⊎_elim (λ (out : MayBeLeftOut s base.tag.0 seen). out)
+        (λ (enough : AreEnoughBelow sat sats). absurd (let e = enough.0 in omega (arith, e, room))) (g.others sat seen lower is none)
 
 pub gathered_next : (s : Setting) (base rover : Epoch) (epochs : Passed) (pair n : ℕ) (before : List SvPair) (sats sats' : List UsedSat) (boxes boxes' : List SvPair) →
     AreGathered s base rover epochs pair n before sats boxes → IsPassedOver s base rover n sats sats' boxes boxes' ⊎ IsAdded s base rover epochs pair n sats sats' boxes boxes' →

@@ -12,12 +12,12 @@ use Rattle.sv_orbit.specs.Solutions.{HoldsSolution}
 use Rattle.obs_store.specs.Epochs.{tags_of}
 use Rattle.epoch_pair.specs.declared.pairs.PairOf.{PairOf}
 use Rattle.epoch_pair.specs.Pairs.{IsNearPair, Follows}
-use Rattle.slip_arcs.specs.declared.used.UsedSat.{UsedSat}
-use Rattle.slip_arcs.specs.declared.used.UsedPair.{UsedPair}
+use Rattle.used_svs.specs.declared.used.UsedSat.{UsedSat}
+use Rattle.used_svs.specs.declared.used.UsedPair.{UsedPair}
 use Rattle.screening.specs.declared.sv_pair.SvPair.{SvPair}
 use Rattle.screening.specs.Amounts.{types_of, differences, phase_differences}
 use Rattle.screening.specs.Marks.{Passed, passed, power_failed, lost_lock}
-use Rattle.screening.specs.Sightings.{Setting, Sighting, IsSighting, MayBeKept, MayBeLeftOut, Sent, point_at}
+use Rattle.screening.specs.Sightings.{Setting, Sighting, IsSighting, MayBeKept, MayBeLeftOut, Sent, point_at, code_of}
 
 -- the header gives a position from 6,000 km to 7,000 km from the Earth's centre
 abbrev pub HasPosition : Option (List ℤ) → Type 0
@@ -96,8 +96,8 @@ pub record IsEntry (setting : Setting) (base rover : Epoch) (b : SvPair) : Type 
   pub kept : MayBeKept setting base.tag.0 sighting
   pub tag : b.tag ≡ base.tag
   pub observed : b.observed ≡ differences sighting.base sighting.rover
-  pub base_holds : (q : Quantities) → Sent setting sighting.eph base.tag.0 sighting.base.l1_code q → HoldsSolution b.base q
-  pub rover_holds : (q : Quantities) → Sent setting sighting.eph rover.tag.0 sighting.rover.l1_code q → HoldsSolution b.rover q
+  pub base_holds : (q : Quantities) → Sent setting sighting.eph base.tag.0 (code_of sighting.base) q → HoldsSolution b.base q
+  pub rover_holds : (q : Quantities) → Sent setting sighting.eph rover.tag.0 (code_of sighting.rover) q → HoldsSolution b.rover q
 
 -- an entry of the pair that it names
 pub record IsSvPair (setting : Setting) (base rover : List Epoch) (pairs : List PairOf) (b : SvPair) : Type 0 where

@@ -1,27 +1,19 @@
 //! What a receiver observed of a satellite, and whether it may be used.
-ghost use Rattle.std.specs.Prelude.{◌≡◌, ◌^◌, ◌≤◌, ◌≤ℤ◌, pos, IfSome, unsigned_abs};
+ghost use Rattle.std.specs.Prelude.{◌≡◌, ◌^◌, ◌<◌, ◌≤◌, ◌≤ℤ◌, pos, IfSome, All, unsigned_abs};
 ghost use Rattle.std.specs.Option.{option_copied};
-ghost use Rattle.screening.specs.Amounts.{types_of, value_in, is_usable_phase, is_usable_code, amount_of, amounts_of, amounts_at, sat_in, AreUsable};
+ghost use Rattle.obs_rows.specs.declared.units.TheConstants.{SIGNALS};
+ghost use Rattle.obs_rows.specs.Signals.{fine_signals};
+ghost use Rattle.screening.specs.Sightings.{code_of};
+ghost use Rattle.screening.specs.Amounts.{types_of, value_in, value_of, is_usable_phase, is_usable_code, is_usable, usable_amount, amount_in, are_usable, amounts_of, amounts_at, AreUsable};
 
-use obs_rows::Signals;
+use obs_rows::{SIGNALS, Signals, WAVELENGTHS, fine_signals};
 use obs_store::{Epoch, ObsType, SatObs, Value};
 
-/// The observation types of both bands.
+/// The letters of the bands and the observation type of each signal.
 #[derive(Clone, Copy, Debug)]
 pub struct SignalTypes {
-    pub l1_phase: Option<ObsType>,
-    pub l2_phase: Option<ObsType>,
-    pub l1_code: Option<ObsType>,
-    pub l2_code: Option<ObsType>,
-}
-
-/// What was observed of a satellite: phases in thousandths of a cycle, codes in mm.
-#[derive(Clone, Copy, Debug)]
-pub struct Amounts {
-    pub l1_phase: i64,
-    pub l2_phase: i64,
-    pub l1_code: i64,
-    pub l2_code: i64,
+    pub signals: Signals,
+    pub kinds: [Option<ObsType>; SIGNALS],
 }
 
 /// The types of these signals.
@@ -29,10 +21,15 @@ pub fn types_of(signals: Signals) -> SignalTypes
     ensures { result ≡ types_of signals }
 {
     SignalTypes {
-        l1_phase: ObsType::named(&[b'L', b'1', signals.l1]),
-        l2_phase: ObsType::named(&[b'L', b'2', signals.l2]),
-        l1_code: ObsType::named(&[b'C', b'1', signals.l1]),
-        l2_code: ObsType::named(&[b'C', b'2', signals.l2]),
+        signals,
+        kinds: [
+            ObsType::named(&[b'L', b'1', signals.l1]),
+            ObsType::named(&[b'L', b'2', signals.l2]),
+            ObsType::named(&[b'C', b'1', signals.l1]),
+            ObsType::named(&[b'C', b'2', signals.l2]),
+            ObsType::named(&[b'L', b'5', signals.l5]),
+            ObsType::named(&[b'C', b'5', signals.l5]),
+        ],
     }
 }
 
@@ -44,6 +41,14 @@ pub fn value_in(sat: &SatObs, kind: Option<ObsType>) -> Option<Value>
         Some(kind) => sat.values[kind.slot()],
         None => None,
     }
+}
+
+/// Its value of that signal.
+pub fn value_of(types: &SignalTypes, sat: &SatObs, signal: usize) -> Option<Value>
+    requires { signal < SIGNALS }
+    ensures { result ≡ value_of types.now sat.now signal }
+{
+    value_in(sat, types.kinds[signal])
 }
 
 // Half a cycle may be missing where bit 1 of the loss-of-lock digit is set.
@@ -59,51 +64,71 @@ fn is_usable_code(value: Value) -> bool
     10_000_000_000 <= value.amount && value.amount <= 100_000_000_000
 }
 
-fn usable_phase(value: Option<Value>) -> Option<i64>
-    ensures value { result ≡ amount_of is_usable_phase value }
-    ensures size { IfSome result (λ a. unsigned_abs a ≤ 10 ^ 14) }
+fn is_usable(signal: usize, value: Value) -> bool
+    requires { signal < SIGNALS }
+    ensures { result ≡ is_usable signal value }
 {
-    match value {
-        Some(value) if is_usable_phase(value) => Some(value.amount),
+    if WAVELENGTHS[signal] > 0 {
+        is_usable_phase(value)
+    } else {
+        is_usable_code(value)
+    }
+}
+
+fn usable(types: &SignalTypes, sat: &SatObs, signal: usize) -> Option<i64>
+    requires { signal < SIGNALS }
+    ensures { result ≡ usable_amount types.now sat.now signal }
+{
+    match value_of(types, sat, signal) {
+        Some(value) if is_usable(signal, value) => Some(value.amount),
         _ => None,
     }
 }
 
-fn usable_code(value: Option<Value>) -> Option<i64>
-    ensures value { result ≡ amount_of is_usable_code value }
-    ensures from { IfSome result (λ a. pos (10 ^ 10) ≤ℤ a) }
-    ensures to { IfSome result (λ a. a ≤ℤ pos (10 ^ 11)) }
+// 0 where the signal has no amount that may be used.
+fn amount_in(types: &SignalTypes, sat: &SatObs, signal: usize) -> i64
+    requires { signal < SIGNALS }
+    ensures { result ≡ amount_in types.now sat.now signal }
 {
-    match value {
-        Some(value) if is_usable_code(value) => Some(value.amount),
-        _ => None,
+    match usable(types, sat, signal) {
+        Some(amount) => amount,
+        None => 0,
     }
 }
 
-fn amounts_of(types: &SignalTypes, sat: Option<&SatObs>) -> Option<Amounts>
+fn are_usable(ss: &[usize], types: &SignalTypes, sat: &SatObs) -> bool
+    requires { All (λ s. s < SIGNALS) ss.now }
+    ensures { result ≡ are_usable ss.now types.now sat.now }
+{
+    ss.iter().all(|s| usable(types, sat, *s).is_some())
+}
+
+fn amounts_of(types: &SignalTypes, sat: Option<&SatObs>) -> Option<[i64; SIGNALS]>
     ensures value { result ≡ amounts_of types.now (option_copied sat.entry) }
-    ensures usable { IfSome result AreUsable }
+    ensures usable { IfSome result (AreUsable (fine_signals types.now.signals)) }
+    ensures code_from { IfSome result (λ a. pos (10 ^ 10) ≤ℤ code_of a) }
+    ensures code_to { IfSome result (λ a. code_of a ≤ℤ pos (10 ^ 11)) }
 {
     let sat = sat?;
-    Some(Amounts {
-        l1_phase: usable_phase(value_in(sat, types.l1_phase))?,
-        l2_phase: usable_phase(value_in(sat, types.l2_phase))?,
-        l1_code: usable_code(value_in(sat, types.l1_code))?,
-        l2_code: usable_code(value_in(sat, types.l2_code))?,
-    })
+    if !are_usable(fine_signals(types.signals), types, sat) {
+        return None;
+    }
+    Some([
+        amount_in(types, sat, 0),
+        amount_in(types, sat, 1),
+        amount_in(types, sat, 2),
+        amount_in(types, sat, 3),
+        amount_in(types, sat, 4),
+        amount_in(types, sat, 5),
+    ])
 }
 
-/// The satellite of that number.
-pub fn sat_in(number: u8, sats: &[SatObs]) -> Option<&SatObs>
-    ensures { option_copied result ≡ sat_in number sats.now }
-{
-    sats.iter().find(|sat| sat.number == number)
-}
-
-/// What an epoch says of a satellite, where all of it may be used.
-pub fn amounts_at(types: &SignalTypes, epoch: &Epoch, number: u8) -> Option<Amounts>
+/// What an epoch says of a satellite, where all of it may be used on the bands that are used.
+pub fn amounts_at(types: &SignalTypes, epoch: &Epoch, number: u8) -> Option<[i64; SIGNALS]>
     ensures value { result ≡ amounts_at types.now epoch.now number }
-    ensures usable { IfSome result AreUsable }
+    ensures usable { IfSome result (AreUsable (fine_signals types.now.signals)) }
+    ensures code_from { IfSome result (λ a. pos (10 ^ 10) ≤ℤ code_of a) }
+    ensures code_to { IfSome result (λ a. code_of a ≤ℤ pos (10 ^ 11)) }
 {
-    amounts_of(types, sat_in(number, epoch.sats.as_slice()))
+    amounts_of(types, epoch.sats.find(number).as_ref())
 }

@@ -1,8 +1,9 @@
 //! The used satellites of one pair.
-ghost use Rattle.std.specs.Prelude.{◌≡◌, ◌≤◌, ◌⊎◌, IfOk, OnOk, take};
+ghost use Rattle.std.specs.Prelude.{◌≡◌, ◌≤◌, ◌⊎◌, IfOk, OnOk};
 ghost use Rattle.std.specs.Int.{abs_diff};
-ghost use Rattle.slip_arcs.specs.Used.{IsSmall};
+ghost use Rattle.used_svs.specs.Ranges.{IsSmall};
 ghost use Rattle.screening.specs.Entries.{IsGpsNumber};
+ghost use Rattle.screening.specs.Observed.{phases_of};
 ghost use Rattle.screening.specs.Marks.{power_failed, lost_lock};
 ghost use Rattle.screening.specs.Sightings.{setting_with};
 ghost use Rattle.screening.specs.Gathering.{IsPassedOver, IsAdded, AreGathered, IsGathered};
@@ -44,13 +45,13 @@ fn lost_up_to(types: &SignalTypes, number: u8, at: &PairAt<'_>) -> bool
 
 fn used_sat(entry: &SvPair, lost: bool) -> UsedSat
     ensures sat { result.sat ≡ entry.now.sat }
-    ensures phase { result.phase ≡ take 2 entry.now.observed }
+    ensures phase { result.phase ≡ phases_of entry.now.observed }
     ensures lost { result.lost ≡ lost }
     ensures small { IsSmall result }
 {
     UsedSat {
         sat: entry.sat,
-        phase: [entry.observed[0], entry.observed[1]],
+        phase: [entry.observed[0], entry.observed[1], entry.observed[4]],
         lost,
     }
 }

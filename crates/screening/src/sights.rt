@@ -2,21 +2,25 @@
 ghost use Rattle.std.specs.Prelude.{◌≡◌, ◌+◌, ◌^◌, ◌≤◌, ◌<◌, pos, ◌-ℤ◌, ◌≤ℤ◌, IsTrue, false, MatchOption, unsigned_abs};
 ghost use Rattle.std.specs.Int.{abs_diff};
 ghost use Rattle.travel_model.specs.SeenPlaces.{IsAboveMask, IsBelowMask};
+ghost use Rattle.obs_rows.specs.declared.units.TheConstants.{SIGNALS};
 ghost use Rattle.sv_orbit.specs.Solutions.{HoldsSolution};
-ghost use Rattle.screening.specs.Amounts.{AreUsable, differences};
+ghost use Rattle.screening.specs.Amounts.{AreAmounts, difference, differences};
 ghost use Rattle.screening.specs.Entries.{IsGpsNumber};
-ghost use Rattle.screening.specs.Observed.{ArePhasesBelow, AreCodesBelow};
+ghost use Rattle.screening.specs.Observed.{AreAmountsBelow, size_of};
 ghost use Rattle.screening.specs.Sightings.{SeesNear, point_at, setting_with};
 ghost use Rattle.screening.specs.Screening.{IsEntryAt, IsLeftOut};
 
 use crate::SvPair;
-use crate::amounts::{Amounts, amounts_at};
+use crate::amounts::amounts_at;
 use crate::records::{RecordTable, chosen};
 use crate::rules::Rules;
 use obs_rows::SIGNALS;
 use obs_store::Epoch;
 use signal_travel::{above, seen_from};
 use sv_orbit::{SvBox, SvRecord, sv_from};
+
+/// The signal by which a receiver's clock is known.
+const L1_CODE: usize = 2;
 
 // Whether the base sees the satellite high enough. The mask needs the base's boxes alone.
 fn is_high(rules: &Rules, sv: &SvBox) -> bool
@@ -26,38 +30,30 @@ fn is_high(rules: &Rules, sv: &SvBox) -> bool
     above(&seen_from(sv, &rules.point), &rules.point, rules.mask)
 }
 
-fn phase_difference(base: i64, rover: i64) -> i64
-    requires base { unsigned_abs base ≤ 10 ^ 14 }
-    requires rover { unsigned_abs rover ≤ 10 ^ 14 }
-    ensures value { result ≡ rover -ℤ base }
-    ensures size { unsigned_abs result < 2 ^ 48 }
+fn difference(base: &[i64; SIGNALS], rover: &[i64; SIGNALS], signal: usize) -> i64
+    requires base { AreAmounts base.now }
+    requires rover { AreAmounts rover.now }
+    requires signal { signal < SIGNALS }
+    ensures value { result ≡ difference base.now rover.now signal }
+    ensures size { unsigned_abs result < size_of signal }
 {
-    rover - base
+    rover[signal] - base[signal]
 }
 
-fn code_difference(base: i64, rover: i64) -> i64
-    requires base_from { pos (10 ^ 10) ≤ℤ base }
-    requires base_to { base ≤ℤ pos (10 ^ 11) }
-    requires rover_from { pos (10 ^ 10) ≤ℤ rover }
-    requires rover_to { rover ≤ℤ pos (10 ^ 11) }
-    ensures value { result ≡ rover -ℤ base }
-    ensures size { unsigned_abs result < 2 ^ 37 }
+fn differences(base: &[i64; SIGNALS], rover: &[i64; SIGNALS]) -> [i64; SIGNALS]
+    requires base { AreAmounts base.now }
+    requires rover { AreAmounts rover.now }
+    ensures value { result ≡ differences base.now rover.now }
+    ensures below { AreAmountsBelow result }
 {
-    rover - base
-}
-
-fn differences(base: Amounts, rover: Amounts) -> [i64; SIGNALS]
-    requires base { AreUsable base }
-    requires rover { AreUsable rover }
-    ensures value { result ≡ differences base rover }
-    ensures phases_in { ArePhasesBelow (2 ^ 48) result }
-    ensures codes_in { AreCodesBelow (2 ^ 37) result }
-{
-    let l1_phase = phase_difference(base.l1_phase, rover.l1_phase);
-    let l2_phase = phase_difference(base.l2_phase, rover.l2_phase);
-    let l1_code = code_difference(base.l1_code, rover.l1_code);
-    let l2_code = code_difference(base.l2_code, rover.l2_code);
-    [l1_phase, l2_phase, l1_code, l2_code]
+    [
+        difference(base, rover, 0),
+        difference(base, rover, 1),
+        difference(base, rover, 2),
+        difference(base, rover, 3),
+        difference(base, rover, 4),
+        difference(base, rover, 5),
+    ]
 }
 
 /// What a pair of epochs says of a satellite that it may use. The boxes of the record and of a receiver are made once.
@@ -79,7 +75,7 @@ pub fn entry_of(
     let at_rover = amounts_at(&rules.types, rover, number)?;
     let eph = chosen(table, number, base.tag)?;
     let record = SvRecord::of(eph, &rules.world);
-    let from_base = sv_from(&record, base.tag, at_base.l1_code);
+    let from_base = sv_from(&record, base.tag, at_base[L1_CODE]);
     if !is_high(rules, &from_base) {
         return None;
     }
@@ -87,8 +83,8 @@ pub fn entry_of(
         pair,
         sat: number,
         base: from_base,
-        rover: sv_from(&record, rover.tag, at_rover.l1_code),
-        observed: differences(at_base, at_rover),
+        rover: sv_from(&record, rover.tag, at_rover[L1_CODE]),
+        observed: differences(&at_base, &at_rover),
         tag: base.tag,
     })
 }

@@ -3,6 +3,7 @@ use Rattle.std.proofs.Common.{◌≡◌, ℕ, zero, suc, ◌+◌, ◌<◌, ◌�
 use Rattle.std.specs.Prelude.{slice_get}
 use Rattle.std.proofs.lemmas.Option.{slice_get_within}
 use Rattle.obs_rows.specs.declared.arcs.Arc.{Arc}
+use Rattle.obs_rows.specs.declared.bands.Signals.{Signals}
 use Rattle.screening.specs.declared.sv_pair.SvPair.{SvPair}
 use Rattle.row_build.specs.Rows.{setting}
 use Rattle.row_build.specs.Shifts.{AreFirstShifts}
@@ -10,14 +11,14 @@ use Rattle.round_steps.specs.Shifts.{AreSameArcs, without_shifts}
 use Rattle.session.specs.FileRules.{HaveFirstShifts}
 
 -- arc a with first shifts
-pub record IsFirst (boxes : List SvPair) (kept : List Arc) (position point : List ℤ) (a b : Arc) : Type 0 where
+pub record IsFirst (boxes : List SvPair) (kept : List Arc) (position point : List ℤ) (signals : Signals) (a b : Arc) : Type 0 where
   pub same : without_shifts b ≡ without_shifts a
-  pub near : AreFirstShifts (setting boxes kept position point 0) a.first a.sat b.shift
+  pub near : AreFirstShifts (setting boxes kept position point signals 0) a.first a.sat b.shift
 
 -- the first n arcs
-pub record AreFirstTo (boxes : List SvPair) (kept : List Arc) (position point : List ℤ) (n : ℕ) (arcs : List Arc) : Type 0 where
+pub record AreFirstTo (boxes : List SvPair) (kept : List Arc) (position point : List ℤ) (signals : Signals) (n : ℕ) (arcs : List Arc) : Type 0 where
   pub as_many : length arcs ≡ n
-  pub each : (k : ℕ) (a b : Arc) → slice_get kept k ≡ Some a → slice_get arcs k ≡ Some b → IsFirst boxes kept position point a b
+  pub each : (k : ℕ) (a b : Arc) → slice_get kept k ≡ Some a → slice_get arcs k ≡ Some b → IsFirst boxes kept position point signals a b
 
 before_push : (xs : List Arc) (y : Arc) (j : ℕ) → j < length xs → slice_get (xs ++ y ∷ []) j ≡ slice_get xs j
 before_push [] y j h = absurd (omega arith)
@@ -35,9 +36,9 @@ length_push (x ∷ xs) y = let e : length (xs ++ y ∷ []) ≡ length xs + 1 = l
 some_inj : (a b : Arc) → Some a ≡ Some b → a ≡ b
 some_inj a b e = cc
 
-pub more_first : (boxes : List SvPair) (kept : List Arc) (position point : List ℤ) (n : ℕ) (arcs after : List Arc) (x : Arc) → AreFirstTo boxes kept position point n arcs →
-    ((a : Arc) → slice_get kept n ≡ Some a → IsFirst boxes kept position point a x) → after ≡ arcs ++ x ∷ [] → AreFirstTo boxes kept position point (n + 1) after
-more_first boxes kept position point n arcs after x h f e = record {
+pub more_first : (boxes : List SvPair) (kept : List Arc) (position point : List ℤ) (signals : Signals) (n : ℕ) (arcs after : List Arc) (x : Arc) → AreFirstTo boxes kept position point signals n arcs →
+    ((a : Arc) → slice_get kept n ≡ Some a → IsFirst boxes kept position point signals a x) → after ≡ arcs ++ x ∷ [] → AreFirstTo boxes kept position point signals (n + 1) after
+more_first boxes kept position point signals n arcs after x h f e = record {
   as_many = ap length e ∙ length_push arcs x ∙ ap (λ m. m + 1) h.as_many;
   each = λ k a b g i.
       let inside : k < length after = slice_get_within after k b i in
@@ -49,11 +50,11 @@ more_first boxes kept position point n arcs after x h f e = record {
     split : (k m : ℕ) → k < m + 1 → (k < m) ⊎ (k ≡ m)
     split k m h = grind arith
 
-    here : (k : ℕ) (a b : Arc) → k ≡ length arcs → slice_get kept k ≡ Some a → slice_get after k ≡ Some b → IsFirst boxes kept position point a b
+    here : (k : ℕ) (a b : Arc) → k ≡ length arcs → slice_get kept k ≡ Some a → slice_get after k ≡ Some b → IsFirst boxes kept position point signals a b
     here k a b q g i =
         let at : slice_get kept n ≡ Some a = ap (slice_get kept) (sym (q ∙ h.as_many)) ∙ g in
         let is : x ≡ b = some_inj x b (sym (last_push arcs x) ∙ ap (λ l. slice_get l (length arcs)) (sym e) ∙ ap (slice_get after) (sym q) ∙ i) in
-        subst (IsFirst boxes kept position point a) is (f a at)
+        subst (IsFirst boxes kept position point signals a) is (f a at)
 
 same_lists : (xs ys : List Arc) → length ys ≡ length xs → ((k : ℕ) (a b : Arc) → slice_get xs k ≡ Some a → slice_get ys k ≡ Some b → without_shifts b ≡ without_shifts a) → AreSameArcs xs ys
 same_lists [] [] e h = refl
@@ -61,8 +62,8 @@ same_lists [] (y ∷ ys) e h = absurd (omega arith)
 same_lists (x ∷ xs) [] e h = absurd (omega arith)
 same_lists (x ∷ xs) (y ∷ ys) e h = ap₂ (λ a l. a ∷ l) (h 0 x y refl refl) (same_lists xs ys (omega arith) (λ k a b g i. h (suc k) a b g i))
 
-pub same_first : (boxes : List SvPair) (kept : List Arc) (position point : List ℤ) (n : ℕ) (arcs : List Arc) → AreFirstTo boxes kept position point n arcs → n ≡ length kept → AreSameArcs kept arcs
-same_first boxes kept position point n arcs h e = same_lists kept arcs (h.as_many ∙ e) (λ k a b g i. (h.each k a b g i).same)
+pub same_first : (boxes : List SvPair) (kept : List Arc) (position point : List ℤ) (signals : Signals) (n : ℕ) (arcs : List Arc) → AreFirstTo boxes kept position point signals n arcs → n ≡ length kept → AreSameArcs kept arcs
+same_first boxes kept position point signals n arcs h e = same_lists kept arcs (h.as_many ∙ e) (λ k a b g i. (h.each k a b g i).same)
 
-pub begins : (boxes : List SvPair) (kept : List Arc) (position point : List ℤ) (n : ℕ) (arcs : List Arc) → AreFirstTo boxes kept position point n arcs → n ≡ length kept → HaveFirstShifts boxes kept position point arcs
-begins boxes kept position point n arcs h e = record { same = same_first boxes kept position point n arcs h e; near = λ k a b g i. (h.each k a b g i).near }
+pub begins : (boxes : List SvPair) (kept : List Arc) (position point : List ℤ) (signals : Signals) (n : ℕ) (arcs : List Arc) → AreFirstTo boxes kept position point signals n arcs → n ≡ length kept → HaveFirstShifts boxes kept position point signals arcs
+begins boxes kept position point signals n arcs h e = record { same = same_first boxes kept position point signals n arcs h e; near = λ k a b g i. (h.each k a b g i).near }

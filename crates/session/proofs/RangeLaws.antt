@@ -7,9 +7,12 @@ use Rattle.std.proofs.lemmas.Bool.{false≢true}
 use Rattle.std.proofs.lemmas.List.Sums.{sum_by-cons}
 use Rattle.obs_rows.specs.declared.arcs.Arc.{Arc}
 use Rattle.obs_rows.specs.Ranges.{IsBelow}
+use Rattle.obs_rows.specs.declared.units.TheConstants.{MOST_FREE_ARCS}
+use Rattle.obs_rows.specs.Signals.{phase_bands}
+use Rattle.obs_rows.specs.Unused.{IsZeroOff, HasUsedShifts}
 use Rattle.obs_rows.specs.Arcs.{free_count, IsArcInRange, AreArcs}
-use Rattle.slip_arcs.specs.declared.used.UsedSat.{UsedSat}
-use Rattle.slip_arcs.specs.declared.used.UsedPair.{UsedPair}
+use Rattle.used_svs.specs.declared.used.UsedSat.{UsedSat}
+use Rattle.used_svs.specs.declared.used.UsedPair.{UsedPair}
 use Rattle.slip_arcs.specs.Used.{entry_in, is_used}
 use Rattle.slip_arcs.specs.Runs.{IsArc, run_of}
 use Rattle.slip_arcs.specs.Linked.{AreNeighbours, IsCutOf}
@@ -19,7 +22,7 @@ use Rattle.row_build.specs.HeldArcs.{holds_pair}
 use Rattle.row_build.proofs.ArcLaws.{held_ends}
 use Rattle.round_steps.specs.Shifts.{AreSameArcs, AreShiftsBelow, without_shifts}
 use Rattle.round_steps.specs.Counts.{holds, held, AreFew, AreMany}
-use Rattle.round_steps.proofs.ShiftLaws.{length_same, free_same, two_below}
+use Rattle.round_steps.proofs.ShiftLaws.{length_same, free_same, three_below}
 use Rattle.session.proofs.CutLaws.{Like, like, later_is_free}
 
 -- ---- the numbers of satellites
@@ -50,10 +53,14 @@ arc_in_range : (used : List UsedPair) (kept : List Arc) → IsCutOf used kept �
 arc_in_range used kept c few numbered k a is shifts =
     let r : IsArc c.jump used (run_of a) = (kept_each c.jump c.least used kept c.short k a c.kept is).0 in
     let w : IsUsedWell used a.sat a.last = used_well used a.sat a.last numbered (r.run.used_in a.last r.run.order (omega arith)) in
-    record { sat_from = w.number.0; sat_to = w.number.1; order = r.run.order; last_in = below a.last (length used) w.inside few; shifts_in = shifts }
+    record { sat_from = w.number.0; sat_to = of_gps a.sat w.number.1; order = r.run.order; last_in = below a.last (length used) w.inside few; shifts_in = shifts }
   where
     below : (n m : ℕ) → n < m → m ≤ 3600 → n < 3600
     below n m h g = omega arith
+
+    -- the numbers of GPS are among those of all systems
+    of_gps : (n : ℕ) → n ≤ 32 → n ≤ 36
+    of_gps n h = omega arith
 
 -- ---- a pair with four arcs
 few_or : (n : ℕ) (arcs : List Arc) → AreFew n arcs ⊎ ((number : ℕ) × (4 ≤ held arcs number))
@@ -145,7 +152,7 @@ able used kept taken c few numbered shifts not_few not_many =
       some = two t.first.place t.second.place (length kept) t.order (slice_get_within kept t.second.place t.second.arc t.second.arc_is);
       few = most (length kept) 200 (λ h. not_many (inr h));
       some_free = later_is_free kept t.first.place t.second.place t.order c.datums (neighbours kept p.0 t);
-      few_free = most (free_count kept) 20 (λ h. not_many (inl h));
+      few_free = most (free_count kept) MOST_FREE_ARCS (λ h. not_many (inl h));
       ranges = λ k d i. arc_in_range used kept c few numbered k (get_or kept k d) (slice_get-get_or kept k d i) (shifts k d i);
     }
   where
@@ -165,7 +172,7 @@ in_range_along a b e r s =
     let last : a.last ≡ b.last = sym (ap (λ (x : Arc). x.last) e) in
     record {
       sat_from = subst (λ (n : ℕ). 1 ≤ n) sat r.sat_from;
-      sat_to = subst (λ (n : ℕ). n ≤ 32) sat r.sat_to;
+      sat_to = subst (λ (n : ℕ). n ≤ 36) sat r.sat_to;
       order = subst (λ (n : ℕ). n ≤ b.last) first (subst (λ (n : ℕ). a.first ≤ n) last r.order);
       last_in = subst (λ (n : ℕ). n < 3600) last r.last_in;
       shifts_in = s;
@@ -177,7 +184,7 @@ arcs_along xs ys e h s = record {
   some = subst (λ (n : ℕ). 2 ≤ n) (sym (length_same xs ys e)) h.some;
   few = subst (λ (n : ℕ). n ≤ 200) (sym (length_same xs ys e)) h.few;
   some_free = subst (λ (n : ℕ). 1 ≤ n) (sym (free_same xs ys e)) h.some_free;
-  few_free = subst (λ (n : ℕ). n ≤ 20) (sym (free_same xs ys e)) h.few_free;
+  few_free = subst (λ (n : ℕ). n ≤ MOST_FREE_ARCS) (sym (free_same xs ys e)) h.few_free;
   ranges = λ k d i.
       let l : Like xs k (get_or ys k d) = like ys xs (sym e) k (get_or ys k d) (slice_get-get_or ys k d i) in
       in_range_along l.arc (get_or ys k d) (sym l.same) (subst IsArcInRange (at xs k l.arc l.arc_is) (h.ranges k l.arc (slice_get_within xs k l.arc l.arc_is))) (s k d i);
@@ -210,6 +217,15 @@ holds_first kept k a h is = ends a.first a.last (subst IsArcInRange (get_or_from
     ends : (f l : ℕ) → f ≤ l → (nat_le f f && nat_le f l) ≡ true
     ends f l h = both (nat_le f f) (nat_le f l) (low f) (high f l h)
 
--- arcs with no shifts
-pub no_shifts : (kept : List Arc) → All (λ a. a.shift ≡ pos 0 ∷ pos 0 ∷ []) kept → AreShiftsBelow (2 ^ 40) kept
-no_shifts kept h k d i = subst (All (IsBelow (2 ^ 40))) (sym (h k d i)) (two_below (pos 0) (pos 0) (2 ^ 40) (omega arith) (omega arith))
+-- ---- arcs with no shifts
+pub no_shifts : (kept : List Arc) → All (λ a. a.shift ≡ pos 0 ∷ pos 0 ∷ pos 0 ∷ []) kept → AreShiftsBelow (2 ^ 40) kept
+no_shifts kept h k d i = subst (All (IsBelow (2 ^ 40))) (sym (h k d i)) (three_below (pos 0) (pos 0) (pos 0) (2 ^ 40) (omega arith) (omega arith) (omega arith))
+
+pub zeros_off : (places : List ℕ) → IsZeroOff places (pos 0 ∷ pos 0 ∷ pos 0 ∷ [])
+zeros_off places zero e = refl
+zeros_off places (suc zero) e = refl
+zeros_off places (suc (suc zero)) e = refl
+zeros_off places (suc (suc (suc k))) e = refl
+
+pub none_unused : (ss : List ℕ) (kept : List Arc) → All (λ a. a.shift ≡ pos 0 ∷ pos 0 ∷ pos 0 ∷ []) kept → All (HasUsedShifts ss) kept
+none_unused ss kept h k d i = subst (IsZeroOff (phase_bands ss)) (sym (h k d i)) (zeros_off (phase_bands ss))

@@ -5,15 +5,15 @@ use Rattle.obs_rows.specs.declared.sessions.Session.{Session}
 use Rattle.row_build.specs.Stands.{StandsForFiles}
 use Rattle.obs_store.specs.declared.file.ObsFile.{ObsFile}
 use Rattle.eph_store.specs.File.{Records}
-use Rattle.sv_orbit.specs.Solutions.{gps}
 use Rattle.epoch_pair.specs.declared.pairs.PairOf.{PairOf}
 use Rattle.slip_arcs.specs.Runs.{AreKept}
 use Rattle.slip_arcs.specs.Linked.{HaveDatums}
+use Rattle.screening.specs.Worlds.{world_of}
 use Rattle.screening.specs.Screening.{setting_of, AreUsedPairs, IsSvPair}
 use Rattle.cert_data.specs.declared.outcomes.Outcome.{Outcome}
 use Rattle.run_options.specs.declared.options.Options.{Options}
 use Rattle.session.specs.declared.file_rounds.FileRounds.{FileRounds}
-use Rattle.session_begin.specs.Beginnings.{IsPosition, AreSignals, AreSparse, AreTaken, pairs_of}
+use Rattle.session_begin.specs.Beginnings.{IsPosition, bands_of, AreSignals, AreSparse, AreTaken, pairs_of}
 use Rattle.session.specs.Answers.{HasDelta, IsAnswer}
 use Rattle.session.specs.FileRules.{HasRowsOf, rules_of}
 
@@ -21,33 +21,34 @@ use Rattle.session.specs.FileRules.{HasRowsOf, rules_of}
 pub record AreScreened (base rover : ObsFile) (nav : Records) (o : Options) (position : List ℤ) (signals : Signals) (taken : List PairOf) (f : FileRounds) : Type 0 where
   pub position_is : f.position ≡ position
   pub signals_are : f.signals ≡ signals
-  pub used_are : AreUsedPairs (setting_of base nav signals o.mask gps) base.epochs rover.epochs taken f.screened.used
-  pub boxes_are : All (IsSvPair (setting_of base nav signals o.mask gps) base.epochs rover.epochs taken) f.screened.boxes
+  pub system_is : f.system ≡ o.system
+  pub used_are : AreUsedPairs (setting_of base nav signals o.mask (world_of o.system)) base.epochs rover.epochs taken f.screened.used
+  pub boxes_are : All (IsSvPair (setting_of base nav signals o.mask (world_of o.system)) base.epochs rover.epochs taken) f.screened.boxes
   pub short : ℕ
   pub kept_are : AreKept o.jump o.arc f.screened.used f.kept short
   pub datums : HaveDatums f.kept
-  pub shifts : All (λ a. a.shift ≡ pos 0 ∷ pos 0 ∷ []) f.kept
+  pub shifts : All (λ a. a.shift ≡ pos 0 ∷ pos 0 ∷ pos 0 ∷ []) f.kept
 
 -- the session stands for the files at its point, with its shifts and at its scale
 abbrev pub StandsAsItIs : ObsFile → ObsFile → Records → Options → List ℤ → Signals → List PairOf → Session → Type 0
 StandsAsItIs base rover nav o position signals taken s =
-    StandsForFiles (setting_of base nav signals o.mask gps) base.epochs rover.epochs taken o.jump o.arc position signals s.point (map (λ a. a.shift) s.arcs) s.scale s
+    StandsForFiles (setting_of base nav signals o.mask (world_of o.system)) base.epochs rover.epochs taken o.jump o.arc o.system position signals s.point (map (λ a. a.shift) s.arcs) s.scale s
 
 -- The counts, and the answer of a run over the kept arcs with its rounds. Each session that a round of the run may have stands for the files
 pub record IsOutcome (base rover : ObsFile) (nav : Records) (o : Options) (out : Outcome) : Type 0 where
   pub position : List ℤ
   pub position_is : IsPosition base position
   pub signals : Signals
-  pub signals_are : AreSignals base rover signals
+  pub signals_are : AreSignals (bands_of o) base rover signals
   pub sparse : AreSparse o.gap base rover
   pub taken : List PairOf
   pub taken_are : AreTaken base rover o taken
   pub rounds : FileRounds
   pub screened : AreScreened base rover nav o position signals taken rounds
-  pub stands : (s : Session) → HasRowsOf rounds.screened.boxes (length rounds.screened.used) rounds.kept rounds.position rounds.signals s → StandsAsItIs base rover nav o position signals taken s
+  pub stands : (s : Session) → HasRowsOf rounds.screened.boxes (length rounds.screened.used) rounds.kept rounds.position rounds.signals rounds.system s → StandsAsItIs base rover nav o position signals taken s
   pub taken_is : out.taken ≡ length taken
   pub all_is : out.all ≡ length (pairs_of base rover o)
   pub kept_is : out.kept ≡ length rounds.kept
   pub kept_few : out.kept ≤ 54000
   pub delta_is : IsTrue out.delta ↔ (HasDelta base ⊎ HasDelta rover)
-  pub answer_is : IsAnswer (rules_of rounds.screened.boxes (length rounds.screened.used) rounds.kept rounds.position rounds.signals) out.taken o out.rounds out.answer
+  pub answer_is : IsAnswer (rules_of rounds.screened.boxes (length rounds.screened.used) rounds.kept rounds.position rounds.signals rounds.system) out.taken o out.rounds out.answer

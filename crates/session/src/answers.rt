@@ -1,7 +1,9 @@
 //! The answer of a run over the arcs that were kept.
-ghost use Rattle.std.specs.Prelude.{◌≡◌, ◌≤◌, ◌^◌, length, IfOk};
+ghost use Rattle.std.specs.Prelude.{◌≡◌, ◌≤◌, ◌^◌, length, All, IfOk};
 ghost use Rattle.obs_rows.specs.Arcs.{free_count};
-ghost use Rattle.round_steps.specs.Points.{IsReceiverPoint};
+ghost use Rattle.obs_rows.specs.Signals.{fine_signals};
+ghost use Rattle.obs_rows.specs.Unused.{HasUsedShifts};
+ghost use Rattle.obs_rows.specs.ReceiverPoints.{IsReceiverPoint};
 ghost use Rattle.round_steps.specs.Shifts.{AreShiftsBelow};
 ghost use Rattle.session.specs.Answers.{GoesOn, IsAnswer, IsBestAnswer};
 
@@ -43,6 +45,7 @@ pub fn answer<R: Rounds>(
     requires arcs { kept.now ≡ (R.rules rounds.now).arcs }
     requires point { IsReceiverPoint base.now }
     requires shifts { AreShiftsBelow (2 ^ 40) kept.now }
+    requires used { All (HasUsedShifts (fine_signals (R.rules rounds.now).signals)) kept.now }
     requires few { length kept.now ≤ 54_000 }
     ensures answer { IfOk result (λ a. IsAnswer (R.rules rounds.now) taken options.now a.rounds a.answer) }
     ensures strictly_best { IfOk result (λ a. IsBestAnswer a.answer) }

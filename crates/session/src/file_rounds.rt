@@ -1,7 +1,9 @@
 //! The rounds of a run over what was screened of two files.
 ghost use Rattle.std.specs.Prelude.{◌≡◌, ◌<◌, ◌≤◌, ◌^◌, length, All, IfOk, Some, slice_get, pos, [], ◌∷◌};
 ghost use Rattle.obs_rows.specs.Arcs.{AreArcs};
-ghost use Rattle.obs_rows.specs.Ranges.{IsBelow};
+ghost use Rattle.obs_rows.specs.Ranges.{IsBelow, IsSystem};
+ghost use Rattle.obs_rows.specs.Signals.{fine_signals};
+ghost use Rattle.obs_rows.specs.Unused.{HasUsedShifts};
 ghost use Rattle.signal_travel.specs.Boxes.{IsPoint};
 ghost use Rattle.slip_arcs.specs.Linked.{IsCutOf};
 ghost use Rattle.row_build.specs.Halves.{AreBaseHalves};
@@ -10,7 +12,7 @@ ghost use Rattle.row_build.specs.Shifts.{AreFirstShifts};
 ghost use Rattle.round_steps.specs.Shifts.{AreSameArcs, AreShiftsBelow, without_shifts};
 ghost use Rattle.session.specs.FileRules.{rules_of, HaveFirstShifts};
 
-use obs_rows::{Arc, ArcList, Session, Signals};
+use obs_rows::{Arc, ArcList, PHASES, Session, Signals};
 use round_steps::Rounds;
 use row_build::{Pseudorange, RowFault, Screened, rows_with, shift_at};
 use std::alloc::{AllocError, Global};
@@ -23,14 +25,16 @@ pub struct FileRounds {
     /// The base's position.
     pub position: [i64; 3],
     pub signals: Signals,
+    /// The satellites' system, by its letter.
+    pub system: u8,
     /// The base's half of each entry's computed term, which no round changes.
     pub halves: Vec<Pseudorange>,
 }
 
 impl Rounds for FileRounds {
-    ghost rules = { λ f. rules_of f.screened.boxes (length f.screened.used) f.kept f.position f.signals };
+    ghost rules = { λ f. rules_of f.screened.boxes (length f.screened.used) f.kept f.position f.signals f.system };
 
-    ghost ready = { λ f. IsCutOf f.screened.used f.kept × (AreArcs f.kept × IsPoint f.position) × AreBaseHalves f.screened.boxes f.position f.halves.items };
+    ghost ready = { λ f. IsCutOf f.screened.used f.kept × (AreArcs f.kept × IsPoint f.position) × (AreBaseHalves f.screened.boxes f.position f.halves.items × IsSystem f.system) };
 
     fn session(
         &self,
@@ -48,6 +52,7 @@ impl Rounds for FileRounds {
             point,
             self.signals,
             scale,
+            self.system,
         ) {
             Ok(session) => Ok(Some(session)),
             Err(RowFault::Overwidth) => Ok(None),
@@ -66,9 +71,10 @@ fn first_arcs(alloc: Global, files: &FileRounds, point: &[i64; 3]) -> Result<Vec
     requires arcs { AreArcs files.now.kept }
     requires base { IsPoint files.now.position }
     requires point { IsPoint point.now }
-    ensures begins { IfOk result (λ v. HaveFirstShifts files.now.screened.boxes files.now.kept files.now.position point.now v.items) }
+    ensures begins { IfOk result (λ v. HaveFirstShifts files.now.screened.boxes files.now.kept files.now.position point.now files.now.signals v.items) }
     ensures same { IfOk result (λ v. AreSameArcs files.now.kept v.items) }
     ensures size { IfOk result (λ v. AreShiftsBelow (2 ^ 39) v.items) }
+    ensures used { IfOk result (λ v. All (HasUsedShifts (fine_signals files.now.signals)) v.items) }
 {
     let mut arcs = Vec::new(alloc);
     for k in 0..files.kept.len() {
@@ -85,8 +91,9 @@ fn first_arc(files: &FileRounds, k: usize, point: &[i64; 3]) -> Arc
     requires point { IsPoint point.now }
     requires inside { k < length files.now.kept }
     ensures same { (a : Arc) → slice_get files.now.kept k ≡ Some a → without_shifts result ≡ without_shifts a }
-    ensures near { (a : Arc) → slice_get files.now.kept k ≡ Some a → AreFirstShifts (setting files.now.screened.boxes files.now.kept files.now.position point.now 0) a.first a.sat result.shift }
+    ensures near { (a : Arc) → slice_get files.now.kept k ≡ Some a → AreFirstShifts (setting files.now.screened.boxes files.now.kept files.now.position point.now files.now.signals 0) a.first a.sat result.shift }
     ensures size { All (IsBelow (2 ^ 39)) result.shift }
+    ensures used { HasUsedShifts (fine_signals files.now.signals) result }
 {
     let kept = files.kept.as_slice();
     let arc = kept[k];
@@ -102,7 +109,7 @@ fn first_arc(files: &FileRounds, k: usize, point: &[i64; 3]) -> Arc
     // The arc holds its first pair.
     let shift = match found {
         Some(shift) => shift,
-        None => [0, 0],
+        None => [0; PHASES],
     };
     Arc {
         sat: arc.sat,

@@ -1,6 +1,8 @@
 //! The counts of an outcome, with its answer.
-ghost use Rattle.std.specs.Prelude.{◌≡◌, ◌≤◌, ◌^◌, ◌⊎◌, ◌↔◌, length, IsTrue, IfOk};
-ghost use Rattle.round_steps.specs.Points.{IsReceiverPoint};
+ghost use Rattle.std.specs.Prelude.{◌≡◌, ◌≤◌, ◌^◌, ◌⊎◌, ◌↔◌, length, All, IsTrue, IfOk};
+ghost use Rattle.obs_rows.specs.Signals.{fine_signals};
+ghost use Rattle.obs_rows.specs.Unused.{HasUsedShifts};
+ghost use Rattle.obs_rows.specs.ReceiverPoints.{IsReceiverPoint};
 ghost use Rattle.round_steps.specs.Shifts.{AreShiftsBelow};
 ghost use Rattle.session.specs.Answers.{GoesOn, HasDelta, IsAnswer, IsBestAnswer};
 
@@ -39,6 +41,7 @@ pub fn outcome<R: Rounds>(
     requires arcs { kept.now ≡ (R.rules rounds.now).arcs }
     requires point { IsReceiverPoint begun.now.position }
     requires shifts { AreShiftsBelow (2 ^ 40) kept.now }
+    requires used { All (HasUsedShifts (fine_signals (R.rules rounds.now).signals)) kept.now }
     requires few { length begun.now.taken.items ≤ 3600 }
     requires few_arcs { length kept.now ≤ 54_000 }
     ensures taken { IfOk result (λ o. o.taken ≡ length begun.now.taken.items) }

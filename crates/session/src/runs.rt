@@ -12,7 +12,8 @@ use crate::{FileRounds, have_delta, outcome};
 use cert_data::Outcome;
 use eph_store::NavFile;
 use obs_store::ObsFile;
-use row_build::{base_halves, screen};
+use row_build::{base_halves, screen_in};
+use screening::world_of;
 use session_begin::{Begun, Options, SessionFault, begin};
 use slip_arcs::cut;
 use std::alloc::{AllocError, Global};
@@ -35,7 +36,17 @@ pub fn screened(
     ensures halves { IfOk result (λ f. AreBaseHalves f.screened.boxes f.position f.halves.items) }
 {
     let taken = begun.taken.as_slice();
-    let screened = match screen(alloc, base, rover, nav, begun.signals, taken, options.mask) {
+    let world = world_of(options.system);
+    let screened = match screen_in(
+        alloc,
+        base,
+        rover,
+        nav,
+        begun.signals,
+        taken,
+        options.mask,
+        &world,
+    ) {
         Ok(screened) => screened,
         Err(fault) => return Err(fault),
     };
@@ -46,6 +57,7 @@ pub fn screened(
             kept: arcs.kept,
             position: begun.position,
             signals: begun.signals,
+            system: options.system,
             halves,
         }),
         Err(fault) => Err(fault),

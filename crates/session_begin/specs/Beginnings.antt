@@ -1,6 +1,6 @@
 -- What two files have in common before a run.
-use Rattle.std.specs.Prelude.{◌≡◌, ◌⊎◌, ℕ, ◌≤◌, Bool, List, length, Option, None, Some, All, AllPairs, ℤ}
-use Rattle.obs_rows.specs.declared.bands.TheConstants.{L1_LETTERS, L2_LETTERS}
+use Rattle.std.specs.Prelude.{◌≡◌, ◌==◌, if◌then◌else◌, ℕ, List, Some, ℤ}
+use Rattle.obs_rows.specs.declared.units.TheConstants.{BANDS_12, BANDS_15, BANDS_125}
 use Rattle.obs_rows.specs.declared.bands.Signals.{Signals}
 use Rattle.obs_store.specs.declared.file.ObsFile.{ObsFile}
 use Rattle.obs_store.specs.Epochs.{tags_of}
@@ -9,10 +9,9 @@ use Rattle.epoch_pair.specs.declared.pairs.PairFault.{PairFault}
 use Rattle.epoch_pair.specs.declared.pairs.PairFault.TheVariants as PairFault
 use Rattle.epoch_pair.specs.Pairs.{all_pairs, AreApart, IsTaken}
 use Rattle.epoch_pair.specs.Faults.{IsDense}
-use Rattle.epoch_pair.specs.Signals.{common_letter}
+use Rattle.epoch_pair.specs.Signals.{AreLettersOf, LacksLetter}
 use Rattle.run_options.specs.declared.options.Options.{Options}
-use Rattle.signal_travel.specs.Boxes.{IsPoint}
-use Rattle.session_begin.specs.declared.faults.PairWhat.{PairWhat}
+use Rattle.obs_rows.specs.ReceiverPoints.{IsReceiverPoint}
 use Rattle.session_begin.specs.declared.faults.PairWhat.TheVariants.{NoBasePosition, NoSignal, Dense}
 use Rattle.session_begin.specs.declared.faults.SessionFault.{SessionFault}
 use Rattle.session_begin.specs.declared.faults.SessionFault.TheVariants.{Refused, NoMemory}
@@ -20,7 +19,7 @@ use Rattle.session_begin.specs.declared.faults.SessionFault.TheVariants.{Refused
 -- the header has this position, from 6,000 km to 7,000 km from the Earth's centre
 pub record IsPosition (file : ObsFile) (p : List ℤ) : Type 0 where
   pub there : file.position ≡ Some p
-  pub in_reach : IsPoint p
+  pub in_reach : IsReceiverPoint p
 
 abbrev pub HasPosition : ObsFile → Type 0
 HasPosition file = (p : List ℤ) × IsPosition file p
@@ -28,23 +27,24 @@ HasPosition file = (p : List ℤ) × IsPosition file p
 abbrev pub LacksPosition : ObsFile → Type 0
 LacksPosition file = HasPosition file → ⊥
 
--- the first letter on L1 (band `1`, byte 49) and on L2 (band `2`) for which both headers list code and phase
-abbrev pub letter_on_l1 : ObsFile → ObsFile → Option ℕ
-letter_on_l1 base rover = common_letter base.listed rover.listed 49 L1_LETTERS
+-- the bands whose digits are those of the number, 0 for L1, 1 for L2, 2 for L5
+abbrev pub bands_numbered : ℕ → List ℕ
+bands_numbered n = if n == 15 then BANDS_15 else if n == 125 then BANDS_125 else BANDS_12
 
-abbrev pub letter_on_l2 : ObsFile → ObsFile → Option ℕ
-letter_on_l2 base rover = common_letter base.listed rover.listed 50 L2_LETTERS
+-- those of which each needs a letter
+abbrev pub bands_of : Options → List ℕ
+bands_of o = bands_numbered o.bands
 
-pub record AreSignals (base rover : ObsFile) (s : Signals) : Type 0 where
-  pub l1 : letter_on_l1 base rover ≡ Some s.l1
-  pub l2 : letter_on_l2 base rover ≡ Some s.l2
+-- on each of these bands the first letter for which both headers list code and phase, and 0 on any other
+abbrev pub AreSignals : List ℕ → ObsFile → ObsFile → Signals → Type 0
+AreSignals bands base rover s = AreLettersOf bands base.listed rover.listed s
 
-abbrev pub HaveSignals : ObsFile → ObsFile → Type 0
-HaveSignals base rover = (s : Signals) × AreSignals base rover s
+abbrev pub HaveSignals : List ℕ → ObsFile → ObsFile → Type 0
+HaveSignals bands base rover = (s : Signals) × AreSignals bands base rover s
 
--- a band has no common code
-abbrev pub LackSignal : ObsFile → ObsFile → Type 0
-LackSignal base rover = (letter_on_l1 base rover ≡ None) ⊎ (letter_on_l2 base rover ≡ None)
+-- one of these bands has no common code
+abbrev pub LackSignal : List ℕ → ObsFile → ObsFile → Type 0
+LackSignal bands base rover = LacksLetter bands base.listed rover.listed
 
 -- the tags of both files are far enough apart
 abbrev pub AreSparse : ℕ → ObsFile → ObsFile → Type 0
@@ -54,10 +54,10 @@ AreSparse gap base rover = AreApart gap (tags_of base.epochs) × AreApart gap (t
 -- so. Where memory runs out none of them is
 abbrev pub IsSessionFault : ObsFile → ObsFile → Options → SessionFault → Type 0
 IsSessionFault base rover o (Refused NoBasePosition) = LacksPosition base
-IsSessionFault base rover o (Refused NoSignal) = HasPosition base × LackSignal base rover
+IsSessionFault base rover o (Refused NoSignal) = HasPosition base × LackSignal (bands_of o) base rover
 IsSessionFault base rover o (Refused (Dense in_rover epoch)) =
-    HasPosition base × (HaveSignals base rover × IsDense o.gap (tags_of base.epochs) (tags_of rover.epochs) in_rover epoch)
-IsSessionFault base rover o NoMemory = HasPosition base × (HaveSignals base rover × AreSparse o.gap base rover)
+    HasPosition base × (HaveSignals (bands_of o) base rover × IsDense o.gap (tags_of base.epochs) (tags_of rover.epochs) in_rover epoch)
+IsSessionFault base rover o NoMemory = HasPosition base × (HaveSignals (bands_of o) base rover × AreSparse o.gap base rover)
 
 abbrev pub fault_of : PairFault → SessionFault
 fault_of (PairFault.Dense in_rover epoch) = Refused (Dense in_rover epoch)

@@ -2,14 +2,13 @@
 ghost use Rattle.std.specs.Prelude.{◌≡◌, ◌<◌, ◌≤◌, All, AllPairs, length, MatchOption, IfOk, IfErr};
 ghost use Rattle.obs_store.specs.Epochs.{tags_of};
 ghost use Rattle.epoch_pair.specs.Pairs.{Follows, IsNearPair};
-ghost use Rattle.session_begin.specs.Beginnings.{IsPosition, LacksPosition, AreSignals, AreSparse, IsSessionFault, pairs_of, AreTaken, fault_of};
+ghost use Rattle.session_begin.specs.Beginnings.{IsPosition, LacksPosition, bands_of, AreSignals, AreSparse, IsSessionFault, pairs_of, AreTaken, fault_of};
 
 use crate::{PairWhat, SessionFault};
 use epoch_pair::{PairFault, PairOf, pair, signals, take};
-use obs_rows::Signals;
+use obs_rows::{Signals, is_receiver_point};
 use obs_store::ObsFile;
 use run_options::Options;
-use signal_travel::is_receiver_point;
 use std::alloc::Global;
 
 /// What a run begins with.
@@ -69,7 +68,7 @@ pub fn begin(
 ) -> Result<Begun, SessionFault>
     ensures refused { IfErr result (IsSessionFault base.now rover.now options.now) }
     ensures position { IfOk result (λ b. IsPosition base.now b.position) }
-    ensures signals { IfOk result (λ b. AreSignals base.now rover.now b.signals) }
+    ensures signals { IfOk result (λ b. AreSignals (bands_of options.now) base.now rover.now b.signals) }
     ensures sparse { IfOk result (λ b. AreSparse options.now.gap base.now rover.now) }
     ensures all { IfOk result (λ b. b.all ≡ length (pairs_of base.now rover.now options.now)) }
     ensures taken { IfOk result (λ b. AreTaken base.now rover.now options.now b.taken.items) }

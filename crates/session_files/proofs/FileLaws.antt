@@ -14,8 +14,9 @@ use Rattle.job_answers.specs.declared.stop.Stop.{Stop}
 use Rattle.job_answers.specs.declared.stop.Stop.TheVariants.{Ended, NoMemory}
 use Rattle.job_answers.specs.Answers.{ending_of, IfEnds, IfStopped}
 use Rattle.job_answers.specs.Statuses.{IsJobStatus}
-use Rattle.job_answers.specs.Endings.{Ending, IsTextOf, IsRefusal, EndsByFile, IsAdmitted, HasTooManyBytes, IsRefusedWhole}
-use Rattle.job_answers.proofs.EndingLaws.{admitted_ends, job_status_at, file_status}
+use Rattle.job_answers.specs.Texts.{refusal_line, too_large_line}
+use Rattle.job_answers.specs.Endings.{Ending, IsTextOf, IsRefusal, EndsByFile, IsAdmitted, HasTooManyBytes, IsRefusedFile, IsRefusedWhole}
+use Rattle.job_answers.proofs.EndingLaws.{admitted_ends, job_status_at, file_status, ends_weaker}
 use Rattle.session_files.specs.SessionFiles.{IsObsOf, StopsAtObs, StopsAtNav, StopsAtFiles}
 
 text_along : (told later : List ℕ → Option (List ℕ)) (name text : List ℕ) → Same told later → IsTextOf later name text → IsTextOf told name text
@@ -48,10 +49,6 @@ no_stop told base rover nav end b r n no_fault (inr (inl stops)) = (admitted_end
 no_stop told base rover nav end b r n no_fault (inr (inr stops)) = (admitted_ends told nav HasNavFile (IsRefusal nav_of HasNavFile nav) end n no_fault stops.stops).none n.file
 
 -- ---- reading one after the other
-pub ends_weaker : (stop : Stop) (P Q : Ending → Type 0) → ((end : Ending) → P end → Q end) → IfEnds stop P → IfEnds stop Q
-ends_weaker (Ended answer) P Q weaker holds = weaker (ending_of answer) holds
-ends_weaker NoMemory P Q weaker holds = tt
-
 -- A file of which all was taken stops a job where each text for which the taker stands is refused.
 pub fed_stops : (told : List ℕ → Option (List ℕ)) (name : List ℕ) (taken : ℕ) (stands_for : List ℕ → Type 0) (r : Result ObsFile Stop) → IsTakenWhole (told name) taken stands_for
     → IfStopped r (λ end. (text : List ℕ) → stands_for text → IsRefusal obs_of HasObsFile name text end) → IfStopped r (λ end. StopsAtObs told name end)
@@ -75,31 +72,35 @@ at_third told later last base rover nav b r end same again is also stops = inr (
 }))
 
 -- ---- a refusal among the files
-one_whole : (told later : List ℕ → Option (List ℕ)) (left : ℕ → Option (List ℕ)) (name other : List ℕ) → Same told later → other ≡ name → IsReadToEnd later left other ⊎ HasTooManyBytes later other → IsReadToEnd told left name ⊎ HasTooManyBytes told name
-one_whole told later left name other same is (inl whole) =
-    let here : IsReadToEnd later left name = subst (λ (n : List ℕ). IsReadToEnd later left n) is whole in
-    inl (subst (λ (o : Option (List ℕ)). IfSome o (λ text. (id : ℕ) × (left id ≡ Some []))) (same name) here)
-one_whole told later left name other same is (inr large) =
-    let here : HasTooManyBytes later name = subst (λ (n : List ℕ). HasTooManyBytes later n) is large in
-    inr (subst (λ (o : Option (List ℕ)). IfSome o (λ bytes. 67108864 < length bytes)) (same name) here)
+pub read_along : (told later : List ℕ → Option (List ℕ)) (left : ℕ → Option (List ℕ)) (name : List ℕ) → Same told later → IsReadToEnd later left name → IsReadToEnd told left name
+read_along told later left name same whole = subst (λ (o : Option (List ℕ)). IfSome o (λ text. (id : ℕ) × (left id ≡ Some []))) (same name) whole
+
+read_at : (told later : List ℕ → Option (List ℕ)) (left : ℕ → Option (List ℕ)) (name other : List ℕ) → Same told later → other ≡ name → IsReadToEnd later left other → IsReadToEnd told left name
+read_at told later left name other same is whole = read_along told later left name same (subst (λ (n : List ℕ). IsReadToEnd later left n) is whole)
+
+one_whole : (told later : List ℕ → Option (List ℕ)) (left : ℕ → Option (List ℕ)) (tells : List ℕ → Type 0) (name other : List ℕ) → Same told later → other ≡ name → IsRefusedFile later left tells other → IsRefusedFile told left tells name
+one_whole told later left tells name other same is (inl refused) = inl (record {
+  at = refused.at;
+  line = subst (λ (n : List ℕ). tells (refusal_line n refused.at)) is refused.line;
+  read = read_at told later left name other same is refused.read;
+})
+one_whole told later left tells name other same is (inr large) =
+    let here : HasTooManyBytes later name = subst (λ (n : List ℕ). HasTooManyBytes later n) is large.large in
+    inr (record {
+      line = subst (λ (n : List ℕ). tells (too_large_line n)) is large.line;
+      large = subst (λ (o : Option (List ℕ)). IfSome o (λ bytes. 67108864 < length bytes)) (same name) here;
+    })
 
 the_one : (name x : List ℕ) (k : ℕ) → k < length (name ∷ []) → slice_index_or (name ∷ []) k x ≡ x → x ≡ name
 the_one name x zero inside at = sym at
 the_one name x (suc k) inside at = absurd (omega arith)
 
 -- what holds of the file at a place, after others were read, holds among all
-pub refused_at : (told later : List ℕ → Option (List ℕ)) (left : ℕ → Option (List ℕ)) (name : List ℕ) (names : List (List ℕ)) (k : ℕ) (s : Status) → k < length names → slice_index_or names k name ≡ name → Same told later
-    → IsRefusedWhole later left (name ∷ []) s → IsRefusedWhole told left names s
-refused_at told later left name names k s inside at same refused = λ is.
+pub refused_at : (told later : List ℕ → Option (List ℕ)) (left : ℕ → Option (List ℕ)) (name : List ℕ) (names : List (List ℕ)) (k : ℕ) (end : Ending) → k < length names → slice_index_or names k name ≡ name → Same told later
+    → IsRefusedWhole later left (name ∷ []) end → IsRefusedWhole told left names end
+refused_at told later left name names k end inside at same refused = λ is.
     let found = refused is in
-    (k, name, inside, at, one_whole told later left name found.1 same (the_one name found.1 found.0 found.2 found.3) found.4)
-
-pub read_along : (told later : List ℕ → Option (List ℕ)) (left : ℕ → Option (List ℕ)) (name : List ℕ) → Same told later → IsReadToEnd later left name → IsReadToEnd told left name
-read_along told later left name same whole = subst (λ (o : Option (List ℕ)). IfSome o (λ text. (id : ℕ) × (left id ≡ Some []))) (same name) whole
+    (k, name, inside, at, one_whole told later left (λ text. end.err ≡ text) name found.1 same (the_one name found.1 found.0 found.2 found.3) found.4)
 
 pub same_twice : (told later last : List ℕ → Option (List ℕ)) → Same told later → Same later last → Same told last
 same_twice told later last same again = λ name. again name ∙ same name
-
--- a refusal after all three were read
-pub third_whole : (told : List ℕ → Option (List ℕ)) (left : ℕ → Option (List ℕ)) (base rover nav : List ℕ) (s : Status) → IsReadToEnd told left nav → IsRefusedWhole told left (base ∷ rover ∷ nav ∷ []) s
-third_whole told left base rover nav s whole = λ is. (2, nav, omega arith, refl, inl whole)

@@ -64,7 +64,7 @@ pub fn obs_file<F: Files>(alloc: Global, files: &mut F, name: &str) -> Result<Ob
     ensures read { IfOk result (λ file. IsObsOf (F.text_of files.old) name.now file) }
     ensures stopped { IfStopped result (λ end. StopsAtObs (F.text_of files.old) name.now end) }
     ensures whole { OnOk result (IsReadToEnd (F.text_of files.old) (F.unread files.new) name.now) }
-    ensures refused { IfStopped result (λ end. IsRefusedWhole (F.text_of files.old) (F.unread files.new) (name.now ∷ []) end.status) }
+    ensures refused { IfStopped result (IsRefusedWhole (F.text_of files.old) (F.unread files.new) (name.now ∷ [])) }
     ensures opened { OpensAtMost 1 (F.opened files.old) (F.opened files.new) }
     ensures cause { F.faults files.old ≤ F.faults files.new }
     ensures fault { IfStopped result (λ end. end.status ≡ Status.ReadFault → Rose (F.faults files.old) (F.faults files.new)) }
@@ -85,7 +85,7 @@ fn nav_file<F: Files>(alloc: Global, files: &mut F, name: &str) -> Result<NavFil
     ensures read { IfOk result (λ file. IsNavOf (F.text_of files.old) name.now file) }
     ensures stopped { IfStopped result (λ end. StopsAtNav (F.text_of files.old) name.now end) }
     ensures whole { OnOk result (IsReadToEnd (F.text_of files.old) (F.unread files.new) name.now) }
-    ensures refused { IfStopped result (λ end. IsRefusedWhole (F.text_of files.old) (F.unread files.new) (name.now ∷ []) end.status) }
+    ensures refused { IfStopped result (IsRefusedWhole (F.text_of files.old) (F.unread files.new) (name.now ∷ [])) }
     ensures opened { OpensAtMost 1 (F.opened files.old) (F.opened files.new) }
     ensures cause { F.faults files.old ≤ F.faults files.new }
     ensures fault { IfStopped result (λ end. end.status ≡ Status.ReadFault → Rose (F.faults files.old) (F.faults files.new)) }
@@ -109,7 +109,7 @@ pub fn read_session<F: Files>(
     ensures read { IfOk result (λ s. AreFilesOf (F.text_of files.old) base.now rover.now nav.now s.base s.rover s.nav) }
     ensures stopped { IfStopped result (λ end. StopsAtFiles (F.text_of files.old) base.now rover.now nav.now end) }
     ensures whole { OnOk result (IsReadToEnd (F.text_of files.old) (F.unread files.new) nav.now) }
-    ensures refused { IfStopped result (λ end. IsRefusedWhole (F.text_of files.old) (F.unread files.new) (base.now ∷ rover.now ∷ nav.now ∷ []) end.status) }
+    ensures refused { IfStopped result (IsRefusedWhole (F.text_of files.old) (F.unread files.new) (base.now ∷ rover.now ∷ nav.now ∷ [])) }
     ensures opened { OpensAtMost 3 (F.opened files.old) (F.opened files.new) }
     ensures fault { IfStopped result (λ end. end.status ≡ Status.ReadFault → Rose (F.faults files.old) (F.faults files.new)) }
     ensures sure { All (F.is_sure_name files.old) (base.now ∷ rover.now ∷ nav.now ∷ []) → IfStopped result (λ end. end.status ≢ Status.ReadFault) }

@@ -20,9 +20,9 @@ fn reads_observations(rt: HostRuntime) -> Result<(), Fail> {
     let epoch = &file.epochs.as_slice()[1];
     assert_eq!(rt; epoch.tag, Tick(13_881_024_300_000_000));
     assert!(rt; !epoch.power);
-    let sats = epoch.sats.as_slice();
+    let sats = &epoch.sats;
     assert_eq!(rt; sats.len(), 4);
-    assert_eq!(rt; sats[3].number, 4);
+    assert_eq!(rt; sats.at(3).number, 4);
     let wanted = [
         (ObsType::C1C, 22_601_373_001),
         (ObsType::L1C, 118_440_897_761),
@@ -31,7 +31,7 @@ fn reads_observations(rt: HostRuntime) -> Result<(), Fail> {
     ];
     for (kind, amount) in wanted {
         assert_eq!(rt;
-            sats[3].values[kind.slot()],
+            sats.at(3).values[kind.slot()],
             Some(Value { amount, lock: 0 })
         );
     }

@@ -1,7 +1,8 @@
 -- When the integers of a fix are those that its session was made with.
-use Rattle.std.specs.Prelude.{◌≡◌, ◌-◌, ◌<◌, ◌≤◌, ℕ, ℤ, pos, ◌+ℤ◌, ◌-ℤ◌, IsTrue, Some, List, slice_get, slice_index_or}
+use Rattle.std.specs.Prelude.{◌≡◌, ◌-◌, ◌<◌, ◌≤◌, ℕ, ℤ, pos, ◌+ℤ◌, ◌-ℤ◌, IsTrue, Some, List, All, length, slice_get, slice_index_or}
 use Rattle.obs_rows.specs.declared.arcs.Arc.{Arc}
 use Rattle.obs_rows.specs.Arcs.{is_free}
+use Rattle.obs_rows.specs.Signals.{fine_signals, is_phase, band}
 use Rattle.obs_rows.specs.Integers.{integer}
 use Rattle.slip_arcs.specs.Linked.{AreLinked, HaveDatums}
 use Rattle.fix_decide.specs.Decisions.{first_of}
@@ -16,42 +17,45 @@ pub record IsDatumOf (arcs : List Arc) (k d : ℕ) (e : Arc) : Type 0 where
   pub datum : IsTrue e.datum
   pub linked : AreLinked arcs k d
 
--- the shift of arc number k, which is a, and its entry of z, less the shift of its datum e: on L1 for s = 0, on L2 for s = 1
-abbrev pub found : List Arc → List ℤ → ℕ → Arc → Arc → ℕ → ℤ
-found arcs z k a e s = (slice_index_or a.shift s (pos 0) +ℤ integer arcs 0 z k s) -ℤ slice_index_or e.shift s (pos 0)
+-- the shift of arc number k, which is a, on the band of phase s, and its entry of z, less the shift of its datum e
+abbrev pub found : List Arc → List ℕ → List ℤ → ℕ → Arc → Arc → ℕ → ℤ
+found arcs ss z k a e s = (slice_index_or a.shift (band s) (pos 0) +ℤ integer arcs ss z k s) -ℤ slice_index_or e.shift (band s) (pos 0)
 
--- the cycles of the arc's satellite less those of its datum's
+-- the cycles of the arc's satellite on that band less those of its datum's
 abbrev pub wanted : List ℤ → List ℤ → ℕ → ℤ
-wanted of_arc of_datum s = slice_index_or of_arc s (pos 0) -ℤ slice_index_or of_datum s (pos 0)
+wanted of_arc of_datum s = slice_index_or of_arc (band s) (pos 0) -ℤ slice_index_or of_datum (band s) (pos 0)
 
--- against its datum e, arc number k has on both frequencies the cycles that it was made with. Those of satellite number n
--- stand at place n - 1 of the truth
-pub record AgreesWith (truth : List (List ℤ)) (arcs : List Arc) (z : List ℤ) (k : ℕ) (a e : Arc) : Type 0 where
+-- cycles were made on the band of phase s, and these are they
+abbrev pub IsAsMade : List ℤ → List ℤ → ℕ → ℤ → Type 0
+IsAsMade of_arc of_datum s cycles = (band s < length of_arc) × (cycles ≡ wanted of_arc of_datum s)
+
+-- against its datum e, arc number k has in each phase the cycles that it was made with. Those of satellite number n stand at
+-- place n - 1 of the truth, by bands
+pub record AgreesWith (truth : List (List ℤ)) (arcs : List Arc) (ss : List ℕ) (z : List ℤ) (k : ℕ) (a e : Arc) : Type 0 where
   pub of_arc : List ℤ
   pub of_arc_is : slice_get truth (a.sat - 1) ≡ Some of_arc
   pub of_datum : List ℤ
   pub of_datum_is : slice_get truth (e.sat - 1) ≡ Some of_datum
-  pub on_l1 : found arcs z k a e 0 ≡ wanted of_arc of_datum 0
-  pub on_l2 : found arcs z k a e 1 ≡ wanted of_arc of_datum 1
+  pub cycles : All (λ s. IsTrue (is_phase s) → IsAsMade of_arc of_datum s (found arcs ss z k a e s)) ss
 
 -- so it does against the datum of its linked set
-pub record HasTruth (truth : List (List ℤ)) (arcs : List Arc) (z : List ℤ) (k : ℕ) (a : Arc) : Type 0 where
+pub record HasTruth (truth : List (List ℤ)) (arcs : List Arc) (ss : List ℕ) (z : List ℤ) (k : ℕ) (a : Arc) : Type 0 where
   pub place : ℕ
   pub datum : Arc
   pub is_datum : IsDatumOf arcs k place datum
-  pub agrees : AgreesWith truth arcs z k a datum
+  pub agrees : AgreesWith truth arcs ss z k a datum
 
 -- each free arc does
-abbrev pub HaveTruth : List (List ℤ) → List Arc → List ℤ → Type 0
-HaveTruth truth arcs z = (k : ℕ) (a : Arc) → slice_get arcs k ≡ Some a → IsTrue (is_free a) → HasTruth truth arcs z k a
+abbrev pub HaveTruth : List (List ℤ) → List Arc → List ℕ → List ℤ → Type 0
+HaveTruth truth arcs ss z = (k : ℕ) (a : Arc) → slice_get arcs k ≡ Some a → IsTrue (is_free a) → HasTruth truth arcs ss z k a
 
-abbrev pub IsMatchedTail : List (List ℤ) → List Arc → Tail → Type 0
-IsMatchedTail truth arcs (Fixed h moved best top) = HaveTruth truth arcs (first_of best)
-IsMatchedTail truth arcs _ = ⊥
+abbrev pub IsMatchedTail : List (List ℤ) → List Arc → List ℕ → Tail → Type 0
+IsMatchedTail truth arcs ss (Fixed h moved best top) = HaveTruth truth arcs ss (first_of best)
+IsMatchedTail truth arcs ss _ = ⊥
 
 -- the answer is a fix, whose integers are those of the truth
 abbrev pub IsMatched : List (List ℤ) → Answer → Type 0
-IsMatched truth (Full cert) = IsMatchedTail truth cert.session.arcs cert.tail
+IsMatched truth (Full cert) = IsMatchedTail truth cert.session.arcs (fine_signals cert.session.signals) cert.tail
 IsMatched truth _ = ⊥
 
 -- each arc ends no earlier than it begins, and the arcs stand in the order in which they begin

@@ -1,25 +1,16 @@
 //! Whether integers are those that a session was made with.
-ghost use Rattle.std.specs.Prelude.{◌≡◌, ◌-◌, ◌^◌, ◌<◌, ◌≤◌, ◌↔◌, ◌+ℤ◌, ◌-ℤ◌, unsigned_abs, IsTrue, length, Some, slice_get};
+ghost use Rattle.std.specs.Prelude.{◌≡◌, ◌-◌, ◌^◌, ◌<◌, ◌≤◌, ◌↔◌, ◌+ℤ◌, ◌-ℤ◌, unsigned_abs, IsTrue, All, length, Some, slice_get};
 ghost use Rattle.obs_rows.specs.declared.arcs.Arc.{Arc};
-ghost use Rattle.obs_rows.specs.Arcs.{is_free};
-ghost use Rattle.obs_rows.specs.Integers.{integer, integer_count};
-ghost use Rattle.sim_match.specs.Matches.{found, wanted, AgreesWith, HasTruth, HaveTruth, IsMatched, AreMarked, HasMarkedArcs};
+ghost use Rattle.obs_rows.specs.Arcs.{is_free, free_count};
+ghost use Rattle.obs_rows.specs.Integers.{integer_count};
+ghost use Rattle.obs_rows.specs.Signals.{fine_signals, is_phase, band, AreCounted};
+ghost use Rattle.obs_rows.specs.declared.units.TheConstants.{SIGNALS, MOST_FREE_ARCS};
+ghost use Rattle.sim_match.specs.Matches.{found, wanted, IsAsMade, AgreesWith, HasTruth, HaveTruth, IsMatched, AreMarked, HasMarkedArcs};
 
 use crate::datums::datum_of;
 use cert_data::{Answer, Cert, Tail};
-use obs_rows::{Arc, integer_place};
-
-fn integer_of(arcs: &[Arc], z: &[i64], k: usize, phase: usize) -> i64
-    requires few { length arcs.now ≤ 200 }
-    requires inside { k < length arcs.now }
-    requires entries { length z.now ≡ integer_count arcs.now 0 }
-    ensures { result ≡ integer arcs.now 0 z.now k phase }
-{
-    match integer_place(arcs, 0, k, phase) {
-        Some(place) => z[place],
-        None => 0,
-    }
-}
+use fix_decide::integer_of;
+use obs_rows::{Arc, BANDS, WAVELENGTHS, fine_signals};
 
 // The whole cycles of a phase: its shift and its integer.
 fn cycles_of(shift: i64, integer: i64) -> i128
@@ -37,23 +28,56 @@ fn less(cycles: i128, shift: i64) -> i128
 }
 
 // The cycles of arc k, which this is, less those of its datum.
-fn found(arcs: &[Arc], z: &[i64], k: usize, arc: &Arc, datum: &Arc, phase: usize) -> i128
-    requires few { length arcs.now ≤ 200 }
+fn found(
+    arcs: &[Arc],
+    signals: &[usize],
+    z: &[i64],
+    k: usize,
+    arc: &Arc,
+    datum: &Arc,
+    phase: usize,
+) -> i128
+    requires free { free_count arcs.now ≤ MOST_FREE_ARCS }
+    requires counted { AreCounted signals.now }
     requires inside { k < length arcs.now }
-    requires entries { length z.now ≡ integer_count arcs.now 0 }
-    requires phase { phase < 2 }
-    ensures { result ≡ found arcs.now z.now k arc.now datum.now phase }
+    requires entries { length z.now ≡ integer_count arcs.now signals.now }
+    requires phase { phase < SIGNALS }
+    ensures { result ≡ found arcs.now signals.now z.now k arc.now datum.now phase }
 {
-    let integer = integer_of(arcs, z, k, phase);
-    less(cycles_of(arc.shift[phase], integer), datum.shift[phase])
+    let integer = integer_of(arcs, signals, z, k, phase);
+    let band = BANDS[phase];
+    less(cycles_of(arc.shift[band], integer), datum.shift[band])
 }
 
-// The cycles that an arc was made with, less those of its datum.
-fn wanted(of_arc: &[i64; 2], of_datum: &[i64; 2], phase: usize) -> i128
-    requires { phase < 2 }
-    ensures { result ≡ wanted of_arc.now of_datum.now phase }
+// The cycles that an arc and its datum were made with, by bands.
+#[derive(Clone, Copy)]
+struct Made {
+    of_arc: [i64; 2],
+    of_datum: [i64; 2],
+}
+
+// The cycles of the arc less those of the datum, on the band of a phase.
+fn wanted(made: &Made, phase: usize) -> i128
+    requires phase { phase < SIGNALS }
+    requires made { band phase < 2 }
+    ensures { result ≡ wanted made.now.of_arc made.now.of_datum phase }
 {
-    i128::from(of_arc[phase]) - i128::from(of_datum[phase])
+    let band = BANDS[phase];
+    i128::from(made.of_arc[band]) - i128::from(made.of_datum[band])
+}
+
+// Whether the signal is no phase, or these are the cycles that were made on its band. None were made on L5.
+fn is_as_made(made: &Made, signal: usize, cycles: i128) -> bool
+    requires { signal < SIGNALS }
+    ensures { IsTrue result ↔ (IsTrue (is_phase signal) → IsAsMade made.now.of_arc made.now.of_datum signal cycles) }
+{
+    if WAVELENGTHS[signal] <= 0 {
+        return true;
+    }
+    if BANDS[signal] >= made.of_arc.len() {
+        return false;
+    }
+    cycles == wanted(made, signal)
 }
 
 // The cycles that a satellite was made with.
@@ -63,12 +87,46 @@ fn truth_of(truth: &[[i64; 2]], sat: u8) -> Option<[i64; 2]>
     truth.get(usize::from(sat.saturating_sub(1))).copied()
 }
 
-// Whether arc k, which this is, has against its datum the cycles that it was made with.
-fn agrees(truth: &[[i64; 2]], arcs: &[Arc], z: &[i64], k: usize, arc: &Arc, datum: &Arc) -> bool
-    requires few { length arcs.now ≤ 200 }
+// Whether arc k, which this is, has against its datum the cycles that were made.
+fn agrees_with(
+    made: &Made,
+    arcs: &[Arc],
+    signals: &[usize],
+    z: &[i64],
+    k: usize,
+    arc: &Arc,
+    datum: &Arc,
+) -> bool
+    requires free { free_count arcs.now ≤ MOST_FREE_ARCS }
+    requires counted { AreCounted signals.now }
     requires inside { k < length arcs.now }
-    requires entries { length z.now ≡ integer_count arcs.now 0 }
-    ensures { IsTrue result ↔ AgreesWith truth.now arcs.now z.now k arc.now datum.now }
+    requires entries { length z.now ≡ integer_count arcs.now signals.now }
+    ensures { IsTrue result ↔ All (λ s. IsTrue (is_phase s) → IsAsMade made.now.of_arc made.now.of_datum s (found arcs.now signals.now z.now k arc.now datum.now s)) signals.now }
+{
+    for signal in signals {
+        let cycles = found(arcs, signals, z, k, arc, datum, *signal);
+        if !is_as_made(made, *signal, cycles) {
+            return false;
+        }
+    }
+    true
+}
+
+// Whether arc k, which this is, has against its datum the cycles that it was made with.
+fn agrees(
+    truth: &[[i64; 2]],
+    arcs: &[Arc],
+    signals: &[usize],
+    z: &[i64],
+    k: usize,
+    arc: &Arc,
+    datum: &Arc,
+) -> bool
+    requires free { free_count arcs.now ≤ MOST_FREE_ARCS }
+    requires counted { AreCounted signals.now }
+    requires inside { k < length arcs.now }
+    requires entries { length z.now ≡ integer_count arcs.now signals.now }
+    ensures { IsTrue result ↔ AgreesWith truth.now arcs.now signals.now z.now k arc.now datum.now }
 {
     let Some(of_arc) = truth_of(truth, arc.sat) else {
         return false;
@@ -76,36 +134,38 @@ fn agrees(truth: &[[i64; 2]], arcs: &[Arc], z: &[i64], k: usize, arc: &Arc, datu
     let Some(of_datum) = truth_of(truth, datum.sat) else {
         return false;
     };
-    found(arcs, z, k, arc, datum, 0) == wanted(&of_arc, &of_datum, 0)
-        && found(arcs, z, k, arc, datum, 1) == wanted(&of_arc, &of_datum, 1)
+    let made = Made { of_arc, of_datum };
+    agrees_with(&made, arcs, signals, z, k, arc, datum)
 }
 
 // Whether arc k, where it is free, has the cycles that it was made with.
-fn has_truth(truth: &[[i64; 2]], arcs: &[Arc], z: &[i64], k: usize) -> bool
-    requires few { length arcs.now ≤ 200 }
+fn has_truth(truth: &[[i64; 2]], arcs: &[Arc], signals: &[usize], z: &[i64], k: usize) -> bool
+    requires free { free_count arcs.now ≤ MOST_FREE_ARCS }
+    requires counted { AreCounted signals.now }
     requires inside { k < length arcs.now }
-    requires entries { length z.now ≡ integer_count arcs.now 0 }
+    requires entries { length z.now ≡ integer_count arcs.now signals.now }
     requires marked { AreMarked arcs.now }
     ensures datum { (a : Arc) → slice_get arcs.now k ≡ Some a → IsTrue a.datum → IsTrue result }
-    ensures free { (a : Arc) → slice_get arcs.now k ≡ Some a → IsTrue (is_free a) → IsTrue result ↔ HasTruth truth.now arcs.now z.now k a }
+    ensures free { (a : Arc) → slice_get arcs.now k ≡ Some a → IsTrue (is_free a) → IsTrue result ↔ HasTruth truth.now arcs.now signals.now z.now k a }
 {
     let arc = arcs[k];
     if arc.datum {
         return true;
     }
     let datum = arcs[datum_of(arcs, k)];
-    agrees(truth, arcs, z, k, &arc, &datum)
+    agrees(truth, arcs, signals, z, k, &arc, &datum)
 }
 
 // Whether all free arcs have the cycles that they were made with.
-fn have_truth(truth: &[[i64; 2]], arcs: &[Arc], z: &[i64]) -> bool
-    requires few { length arcs.now ≤ 200 }
-    requires entries { length z.now ≡ integer_count arcs.now 0 }
+fn have_truth(truth: &[[i64; 2]], arcs: &[Arc], signals: &[usize], z: &[i64]) -> bool
+    requires free { free_count arcs.now ≤ MOST_FREE_ARCS }
+    requires counted { AreCounted signals.now }
+    requires entries { length z.now ≡ integer_count arcs.now signals.now }
     requires marked { AreMarked arcs.now }
-    ensures { IsTrue result ↔ HaveTruth truth.now arcs.now z.now }
+    ensures { IsTrue result ↔ HaveTruth truth.now arcs.now signals.now z.now }
 {
     for k in 0..arcs.len() {
-        if !has_truth(truth, arcs, z, k) {
+        if !has_truth(truth, arcs, signals, z, k) {
             return false;
         }
     }
@@ -120,6 +180,7 @@ fn is_matched_cert(truth: &[[i64; 2]], cert: &Cert) -> bool
         Tail::Fixed { best, .. } => have_truth(
             truth,
             cert.session.arcs.as_slice(),
+            fine_signals(cert.session.signals),
             &best.first[..best.size],
         ),
         _ => false,

@@ -15,10 +15,14 @@ use Rattle.made_observations.specs.Files.{epochs_of, file_of}
 use Rattle.made_files.proofs.Readings.{base_reads, rover_reads, navigation_reads}
 use Rattle.run_options.specs.declared.options.Options.{Options}
 use Rattle.run_options.specs.Defaults.{AreDefaults}
-use Rattle.session_begin.specs.Beginnings.{HasPosition, HaveSignals, AreSparse}
+use Rattle.obs_rows.specs.declared.units.TheConstants.{BANDS_12}
+use Rattle.obs_rows.specs.declared.bands.Signals.{Signals}
+use Rattle.session_begin.proofs.BeginLaws.{on_l1_l2}
+use Rattle.epoch_pair.specs.Signals.{letter_on, letter_of, is_among, IsLetterFor}
+use Rattle.session_begin.specs.Beginnings.{bands_of, HasPosition, HaveSignals, AreSparse}
 use Rattle.job_answers.specs.Endings.{IsTextOf}
 use Rattle.session_files.specs.SessionFiles.{IsObsOf}
-use Rattle.arcs_job.specs.ArcRuns.{AreAdmitted}
+use Rattle.pair_refusals.specs.Admitted.{AreAdmitted}
 
 -- ---- what is told of a text
 text_told : (told : List ℕ → Option (List ℕ)) (name text other : List ℕ) → told name ≡ Some text → IsTextOf told name other → other ≡ text
@@ -44,8 +48,21 @@ has_position step values = (pos 63781370000 ∷ pos 0 ∷ pos 0 ∷ [], record {
     high : pos 4068063159076900000000 ≤ℤ pos 4900000000000000000000
     high = omega (arith, ints)
 
-have_signals : (step other : ℕ) (base rover : List (List made.Signals)) → HaveSignals (file_of step base) (file_of other rover)
-have_signals step other base rover = (record { l1 = 67; l2 = 87; on_l1 = refl; on_l2 = refl }, record { l1 = refl; l2 = refl })
+-- C on L1 and W on L2
+abbrev made_letters : Signals
+made_letters = record { l1 = 67; l2 = 87; l5 = 0; on_l1 = refl; on_l2 = refl; on_l5 = refl; two_bands = refl }
+
+share_l1_l2 : (step other : ℕ) (base rover : List (List made.Signals)) → HaveSignals BANDS_12 (file_of step base) (file_of other rover)
+share_l1_l2 step other base rover = (made_letters, on)
+  where
+    on : (band : ℕ) → band < 3 → IsLetterFor (is_among BANDS_12 band) (letter_on (file_of step base).listed (file_of other rover).listed band) (letter_of made_letters band)
+    on zero inside = refl
+    on (suc zero) inside = refl
+    on (suc (suc zero)) inside = refl
+    on (suc (suc (suc band))) inside = absurd (omega (arith, inside))
+
+have_signals : (o : Options) (step other : ℕ) (base rover : List (List made.Signals)) → HaveSignals (bands_of o) (file_of step base) (file_of other rover)
+have_signals o step other base rover = subst (λ (bands : List ℕ). HaveSignals bands (file_of step base) (file_of other rover)) (on_l1_l2 o) (share_l1_l2 step other base rover)
 
 -- ---- their epochs are sparse
 one_later : (step i m : ℕ) → step * (i + 1 + m) ≡ step * (i + suc m)
@@ -98,6 +115,6 @@ made_admitted seed epochs sats told base rover nav o few small defaults base_tol
       rover_is = record { text = rover; told_is = rover_told; fits = omega (arith, rover_fits); file = (_, rover_file.reads) };
       nav_is = record { text = nav; told_is = nav_told; fits = omega (arith, nav_fits); file = (_, records) };
       position = λ b of. subst HasPosition (sym (base_as b of)) (has_position step base_file.values);
-      signals = λ b r of also. two_as step base_file.values rover_file.values b r HaveSignals (base_as b of) (rover_as r also) (have_signals step step base_file.values rover_file.values);
+      signals = λ b r of also. two_as step base_file.values rover_file.values b r (HaveSignals (bands_of o)) (base_as b of) (rover_as r also) (have_signals o step step base_file.values rover_file.values);
       sparse = λ b r of also. two_as step base_file.values rover_file.values b r (AreSparse o.gap) (base_as b of) (rover_as r also) (sparse epochs o.gap base_file.values rover_file.values defaults.gap);
     }

@@ -7,7 +7,7 @@ use Rattle.std.proofs.lemmas.Option.{slice_get-map, slice_get_within, get_or_fro
 use Rattle.obs_store.specs.declared.file.ObsFile.{ObsFile}
 use Rattle.eph_store.specs.File.{Records}
 use Rattle.obs_rows.specs.declared.arcs.Arc.{Arc}
-use Rattle.slip_arcs.specs.declared.used.UsedPair.{UsedPair}
+use Rattle.used_svs.specs.declared.used.UsedPair.{UsedPair}
 use Rattle.slip_arcs.specs.Runs.{Run, Precedes, is_long, run_of, AreKept}
 use Rattle.slip_arcs.proofs.Kept.{kept_each}
 use Rattle.cert_data.specs.declared.outcomes.Outcome.{Outcome}

@@ -1,22 +1,20 @@
 -- What the outcome of the made files ends with.
-use Rattle.std.proofs.Common.{◌≡◌, ◌≢◌, inl, inr, ℕ, List, Option, Some, Result, Ok, Err, Bool, true, false, codes, if◌then◌else◌, sym, ap, ◌∙◌, subst}
+use Rattle.std.proofs.Common.{◌≡◌, ◌≢◌, inl, inr, ℕ, List, Option, Some, Bool, true, false, codes, if◌then◌else◌, sym, ap, ◌∙◌, subst}
 use Rattle.obs_store.specs.declared.file.ObsFile.{ObsFile}
 use Rattle.eph_store.specs.File.{Records}
 use Rattle.run_options.specs.declared.options.Options.{Options}
 use Rattle.run_options.specs.Defaults.{AreDefaults}
 use Rattle.outcome_report.specs.OutcomeText.{is_fixed}
 use Rattle.job_answers.specs.declared.status.Status.TheVariants.{Done, Declined, Refused, ReadFault}
-use Rattle.job_answers.specs.declared.answer.Answer.{Answer}
 use Rattle.job_answers.specs.declared.stop.Stop.{Stop}
 use Rattle.job_answers.specs.declared.stop.Stop.TheVariants.{Ended, NoMemory}
-use Rattle.job_answers.specs.Answers.{ending_of, IfEnds, IfEnded}
+use Rattle.job_answers.specs.Answers.{ending_of, IfEnds}
 use Rattle.job_answers.specs.Statuses.{IsVerdictStatus}
 use Rattle.job_answers.specs.Endings.{Ending}
 use Rattle.session_files.specs.SessionFiles.{AreFilesOf, StopsAtFiles}
-use Rattle.session_files.proofs.FileLaws.{ends_weaker, no_stop}
-use Rattle.arcs_job.specs.ArcJobs.{IsPairRefused, ArcsEnds}
-use Rattle.arcs_job.specs.ArcRuns.{AreAdmitted}
-use Rattle.arcs_job.proofs.ArcSays.{arcs_verdict}
+use Rattle.session_files.proofs.FileLaws.{no_stop}
+use Rattle.pair_refusals.specs.Admitted.{AreAdmitted}
+use Rattle.pair_refusals.proofs.RefusalLaws.{never_refused}
 use Rattle.sim_run_job.specs.SimRunJobs.{AreMadeFiles, SimRunEnd, SimRunEnds}
 
 no_read_fault : (fixed : Bool) → (if fixed then Done else Declined) ≢ ReadFault
@@ -27,13 +25,6 @@ no_read_fault false e = absurd (cc e)
 pub end_no_fault : (o : Options) (seed epochs sats : ℕ) (b r : ObsFile) (n : Records) (end : Ending) → SimRunEnd o seed epochs sats b r n end → end.status ≢ ReadFault
 end_no_fault o seed epochs sats b r n end (inl found) is = no_read_fault (is_fixed found.outcome.answer) (sym (ap (λ (e : Ending). e.status) found.end_is) ∙ is)
 end_no_fault o seed epochs sats b r n end (inr refused) is = let s : end.status ≡ Refused = ap (λ (e : Ending). e.status) refused.end_is in absurd (cc (s, is))
-
--- two files that are admitted aren't refused
-never_refused : (told : List ℕ → Option (List ℕ)) (base rover nav : List ℕ) (o : Options) (b r : ObsFile) (n : Records) (end : Ending) → AreAdmitted told base rover nav o → AreFilesOf told base rover nav b r n → IsPairRefused b r o end → ⊥
-never_refused told base rover nav o b r n end admitted are refused =
-    let s : end.status ≡ Refused = ap (λ (e : Ending). e.status) refused.end_is in
-    let ends : ArcsEnds told base rover nav o end = inl (record { base_file = b; rover_file = r; records = n; are = are; ends_so = inr refused }) in
-    subst IsVerdictStatus s (arcs_verdict told base rover nav o end admitted (λ is. absurd (cc (s, is))) ends)
 
 pub ends_found : (seed epochs sats : ℕ) (told : List ℕ → Option (List ℕ)) (o : Options) (b r : ObsFile) (n : Records) (end : Ending) → AreMadeFiles seed epochs sats told → AreDefaults o → AreAdmitted told (codes "base") (codes "rover") (codes "nav") o
     → AreFilesOf told (codes "base") (codes "rover") (codes "nav") b r n → SimRunEnd o seed epochs sats b r n end → SimRunEnds seed epochs sats end
@@ -54,8 +45,3 @@ ends_found seed epochs sats told o b r n end made defaults admitted are (inr ref
 pub never_stops : (told : List ℕ → Option (List ℕ)) (base rover nav : List ℕ) (o : Options) (stop : Stop) (P : Ending → Type 0) → AreAdmitted told base rover nav o → IfEnds stop (λ end. StopsAtFiles told base rover nav end) → IfEnds stop (λ end. end.status ≢ ReadFault) → IfEnds stop P
 never_stops told base rover nav o (Ended answer) P admitted stops no_fault = absurd (no_stop told base rover nav (ending_of answer) admitted.base_is admitted.rover_is admitted.nav_is no_fault stops)
 never_stops told base rover nav o NoMemory P admitted stops no_fault = tt
-
--- what holds of an ending, of a job that ends or stops
-pub ended_weaker : (r : Result Answer Stop) (P Q : Ending → Type 0) → ((end : Ending) → P end → Q end) → IfEnded r P → IfEnded r Q
-ended_weaker (Ok a) P Q weaker holds = weaker (ending_of a) holds
-ended_weaker (Err stop) P Q weaker holds = ends_weaker stop P Q weaker holds

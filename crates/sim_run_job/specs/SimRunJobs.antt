@@ -1,10 +1,11 @@
 -- What the command `sim run` ends with.
-use Rattle.std.specs.Prelude.{◌≡◌, ◌⊎◌, ◌↔◌, ℕ, ◌*◌, ℤ, Bool, true, false, IsTrue, if◌then◌else◌, Some, List, [], ◌++◌, codes}
+use Rattle.std.specs.Prelude.{◌≡◌, ◌⊎◌, ◌↔◌, ℕ, ℤ, Bool, true, false, IsTrue, if◌then◌else◌, Some, List, [], ◌++◌, codes}
 use Rattle.std.specs.Fmt.{decimal}
 use Rattle.std.specs.declared.option.Option.{Option}
 use Rattle.obs_store.specs.declared.file.ObsFile.{ObsFile}
 use Rattle.eph_store.specs.File.{Records}
-use Rattle.obs_rows.specs.Arcs.{free_count}
+use Rattle.obs_rows.specs.Integers.{integer_count}
+use Rattle.obs_rows.specs.Signals.{fine_signals}
 use Rattle.sim_draws.specs.Values.{truth_of, first_of}
 use Rattle.sim_session.specs.Texts.{IsMade}
 use Rattle.sim_session.specs.declared.Made.{Made}
@@ -18,7 +19,7 @@ use Rattle.session.specs.Outcomes.{IsOutcome}
 use Rattle.outcome_report.specs.OutcomeText.{is_fixed}
 use Rattle.job_answers.specs.Endings.{Ending, ending}
 use Rattle.session_files.specs.SessionFiles.{AreFilesOf}
-use Rattle.arcs_job.specs.ArcJobs.{IsPairRefused}
+use Rattle.pair_refusals.specs.Refusals.{IsPairRefused}
 use Rattle.fix_job.specs.FixJobs.{status_of}
 use Rattle.sim_match.specs.Matches.{IsMatched}
 
@@ -37,9 +38,9 @@ truth_in seed sats = first_of (truth_of seed) sats
 abbrev pub verdict_word : Answer → List ℕ
 verdict_word a = if is_fixed a then codes "fixed" else codes "declined"
 
--- two integers for each free arc of the session that was decided, and none where there is no such session
+-- one integer for each free arc and phase of the session that was decided, and none where there is no such session
 abbrev pub integers_of : Answer → ℕ
-integers_of (Full cert) = 2 * free_count cert.session.arcs
+integers_of (Full cert) = integer_count cert.session.arcs (fine_signals cert.session.signals)
 integers_of _ = 0
 
 abbrev pub match_word : Bool → List ℕ

@@ -3,6 +3,7 @@ ghost use Rattle.std.specs.Prelude.{◌≡◌, IfOk, string_bytes};
 ghost use Rattle.sim_run_job.specs.SimRunJobs.{verdict_word, integers_of, match_word, made_line, found_lines, run_text};
 
 use cert_data::Answer;
+use obs_rows::{fine_signals, integer_count};
 use outcome_report::is_fixed;
 use std::alloc::{AllocError, Global};
 
@@ -20,7 +21,10 @@ fn integers_of(answer: &Answer) -> usize
     ensures { result ≡ integers_of answer.now }
 {
     match answer {
-        Answer::Full(cert) => 2 * cert.session.free(),
+        Answer::Full(cert) => {
+            let signals = fine_signals(cert.session.signals);
+            integer_count(cert.session.arcs.as_slice(), signals)
+        }
         _ => 0,
     }
 }

@@ -8,11 +8,11 @@ ghost use Rattle.fix_job.specs.FixJobs.{status_of};
 ghost use Rattle.sim_run_job.specs.SimRunJobs.{truth_in, run_text, SimRunEnd, SimRunEnds};
 
 use crate::report::run_text;
-use arcs_job::refused_pair;
 use cert_data::Answer as Found;
 use job_answers::{Answer, Status, Stop};
 use line_source::{Files, Named, SureFiles};
 use outcome_report::is_fixed;
+use pair_refusals::refused_pair;
 use run_options::Options;
 use session::{SessionFault, process};
 use session_files::{SessionFiles, read_session};

@@ -30,7 +30,7 @@ IsFresh arcs k a = (m : ℕ) (b : Arc) → m < k → slice_get arcs m ≡ Some b
 
 -- the arcs begin by pair at and end before reach, in order, and just those that are fresh are datums
 pub record Marked (at : ℕ) (arcs : List Arc) (reach : ℕ) : Type 0 where
-  pub shifts : All (λ a. a.shift ≡ pos 0 ∷ pos 0 ∷ []) arcs
+  pub shifts : All (λ a. a.shift ≡ pos 0 ∷ pos 0 ∷ pos 0 ∷ []) arcs
   pub order : (k : ℕ) (a : Arc) → slice_get arcs k ≡ Some a → (a.first ≤ a.last) × (a.first ≤ at) × (a.last < reach)
   pub rising : (m k : ℕ) (b a : Arc) → m < k → slice_get arcs m ≡ Some b → slice_get arcs k ≡ Some a → b.first ≤ a.first
   pub datums : (k : ℕ) (a : Arc) → slice_get arcs k ≡ Some a → IsTrue a.datum ↔ IsFresh arcs k a
@@ -56,14 +56,16 @@ fresh_back : (arcs : List Arc) (y : Arc) (k : ℕ) (a : Arc) → IsFresh (arcs +
 fresh_back arcs y k a fresh m b before found = fresh m b before (push_old arcs y b m found)
 
 abbrev new_arc : ℕ → ℕ → ℕ → ℕ → Arc
-new_arc reach sat at last = record { sat = sat; first = at; last = last; datum = nat_le reach at; shift = pos 0 ∷ pos 0 ∷ [] }
+new_arc reach sat at last = record { sat = sat; first = at; last = last; datum = nat_le reach at; shift = pos 0 ∷ pos 0 ∷ pos 0 ∷ [] }
 
 -- the new arc is a datum just where it is fresh
-new_datum : (at : ℕ) (arcs : List Arc) (reach sat last : ℕ) → Marked at arcs reach → IsTrue (nat_le reach at) ↔ IsFresh (arcs ++ new_arc reach sat at last ∷ []) (length arcs) (new_arc reach sat at last)
+new_datum : (at : ℕ) (arcs : List Arc) (reach sat last : ℕ) → Marked at arcs reach
+    → IsTrue (nat_le reach at) ↔ IsFresh (arcs ++ new_arc reach sat at last ∷ []) (length arcs) (new_arc reach sat at last)
 new_datum at arcs reach sat last marked = (
   λ is m b before found.
       let within : reach ≤ at = leb-true reach at is in
-      ⊎_elim (λ (old : slice_get arcs m ≡ Some b). let o = marked.order m b old in let l : b.last < reach = o.2 in omega arith) (λ (new : (m ≡ length arcs) × (new_arc reach sat at last ≡ b)). absurd (let here = new.0 in omega arith)) (push_cases arcs (new_arc reach sat at last) b m found),
+      ⊎_elim (λ (old : slice_get arcs m ≡ Some b). let o = marked.order m b old in let l : b.last < reach = o.2 in omega arith)
+      (λ (new : (m ≡ length arcs) × (new_arc reach sat at last ≡ b)). absurd (let here = new.0 in omega arith)) (push_cases arcs (new_arc reach sat at last) b m found),
   λ fresh.
       le-leb reach at
       (⊎_elim (λ (none : reach ≡ 0). omega arith)
@@ -78,7 +80,7 @@ marked_push : (at : ℕ) (arcs : List Arc) (reach sat last : ℕ) → at ≤ las
 marked_push at arcs reach sat last order marked =
     let y : Arc = new_arc reach sat at last in
     record {
-      shifts = All-push (λ a. a.shift ≡ pos 0 ∷ pos 0 ∷ []) arcs y marked.shifts refl;
+      shifts = All-push (λ a. a.shift ≡ pos 0 ∷ pos 0 ∷ pos 0 ∷ []) arcs y marked.shifts refl;
       order = λ k a is.
           ⊎_elim (λ (old : slice_get arcs k ≡ Some a). let o = marked.order k a old in (o.0, o.1, omega arith))
           (λ (new : (k ≡ length arcs) × (y ≡ a)). subst (λ (b : Arc). (b.first ≤ b.last) × (b.first ≤ at) × (b.last < max reach (last + 1))) new.1 (order, omega arith, omega arith))
@@ -87,10 +89,12 @@ marked_push at arcs reach sat last order marked =
           ⊎_elim
           (λ (old : slice_get arcs k ≡ Some a).
           let inside = slice_get_within arcs k a old in
-          ⊎_elim (λ (older : slice_get arcs m ≡ Some b). marked.rising m k b a before older old) (λ (new : (m ≡ length arcs) × (y ≡ b)). absurd (let here = new.0 in omega arith)) (push_cases arcs y b m first))
+          ⊎_elim (λ (older : slice_get arcs m ≡ Some b). marked.rising m k b a before older old) (λ (new : (m ≡ length arcs) × (y ≡ b)). absurd (let here = new.0 in omega arith))
+          (push_cases arcs y b m first))
           (λ (new : (k ≡ length arcs) × (y ≡ a)).
           subst (λ (c : Arc). b.first ≤ c.first) new.1
-          (⊎_elim (λ (older : slice_get arcs m ≡ Some b). (marked.order m b older).1) (λ (same : (m ≡ length arcs) × (y ≡ b)). absurd (let here = new.0 in let there = same.0 in omega arith)) (push_cases arcs y b m first)))
+          (⊎_elim (λ (older : slice_get arcs m ≡ Some b). (marked.order m b older).1)
+          (λ (same : (m ≡ length arcs) × (y ≡ b)). absurd (let here = new.0 in let there = same.0 in omega arith)) (push_cases arcs y b m first)))
           (push_cases arcs y a k second);
       datums = λ k a is.
           ⊎_elim
@@ -104,11 +108,13 @@ marked_push at arcs reach sat last order marked =
       reached = inr
           (⊎_elim (λ (less : reach < last + 1). (length arcs, y, push_new arcs y, omega arith))
           (λ (more : last + 1 ≤ reach).
-          ⊎_elim (λ (none : reach ≡ 0). absurd (omega arith)) (λ (some : (m : ℕ) × (b : Arc) × (slice_get arcs m ≡ Some b) × (reach ≡ b.last + 1)). (some.0, some.1, push_old arcs y some.1 some.0 some.2, let e = some.3 in omega arith)) marked.reached)
+          ⊎_elim (λ (none : reach ≡ 0). absurd (omega arith))
+          (λ (some : (m : ℕ) × (b : Arc) × (slice_get arcs m ≡ Some b) × (reach ≡ b.last + 1)). (some.0, some.1, push_old arcs y some.1 some.0 some.2, let e = some.3 in omega arith)) marked.reached)
           (cases_lt reach (last + 1)));
     }
 
-pub marked_add : (least at : ℕ) (arcs arcs' : List Arc) (short short' reach reach' sat last : ℕ) → at ≤ last → IsAdded least (record { sat = sat; first = at; last = last }) arcs arcs' short short' reach reach' → Marked at arcs reach → Marked at arcs' reach'
+pub marked_add : (least at : ℕ) (arcs arcs' : List Arc) (short short' reach reach' sat last : ℕ) → at ≤ last
+    → IsAdded least (record { sat = sat; first = at; last = last }) arcs arcs' short short' reach reach' → Marked at arcs reach → Marked at arcs' reach'
 marked_add least at arcs arcs' short short' reach reach' sat last order added marked =
     let r : Run = record { sat = sat; first = at; last = last } in
     ⊎_elim
@@ -121,15 +127,18 @@ marked_add least at arcs arcs' short short' reach reach' sat last order added ma
     (cases_Bool (is_long least r))
 
 -- from a fresh arc no chain leads to an earlier one
-chain_stays : (at : ℕ) (arcs : List Arc) (reach k : ℕ) (a : Arc) → Marked at arcs reach → slice_get arcs k ≡ Some a → IsFresh arcs k a → (path : List ℕ) (j n : ℕ) → k ≤ j → IsChain arcs j path n → k ≤ n
+chain_stays : (at : ℕ) (arcs : List Arc) (reach k : ℕ) (a : Arc) → Marked at arcs reach → slice_get arcs k ≡ Some a → IsFresh arcs k a → (path : List ℕ) (j n : ℕ) → k ≤ j
+    → IsChain arcs j path n → k ≤ n
 chain_stays at arcs reach k a marked is fresh [] j n from chain = let e = chain in omega arith
 chain_stays at arcs reach k a marked is fresh (m ∷ ms) j n from chain =
     let near = chain.0 in
     let share = near.share in
     let low : a.first ≤ near.one.first =
-    ⊎_elim (λ (same : k ≡ j). let one : Some a ≡ Some near.one = sym is ∙ ap (λ (i : ℕ). slice_get arcs i) same ∙ near.one_is in subst (λ (b : Arc). a.first ≤ b.first) (same_Some a near.one one) (omega arith)) (λ (other : k ≡ j → ⊥). marked.rising k j a near.one (omega arith) is near.one_is) (cases_eq k j) in
+    ⊎_elim (λ (same : k ≡ j). let one : Some a ≡ Some near.one = sym is ∙ ap (λ (i : ℕ). slice_get arcs i) same ∙ near.one_is in subst (λ (b : Arc). a.first ≤ b.first)
+    (same_Some a near.one one) (omega arith)) (λ (other : k ≡ j → ⊥). marked.rising k j a near.one (omega arith) is near.one_is) (cases_eq k j) in
     let next : k ≤ m =
-    ⊎_elim (λ (less : m < k). let l : near.other.last < a.first = fresh m near.other less near.other_is in let p = share.1 in let q = share.4 in absurd (omega arith)) (λ (more : k ≤ m). more) (cases_lt m k) in
+    ⊎_elim (λ (less : m < k). let l : near.other.last < a.first = fresh m near.other less near.other_is in let p = share.1 in let q = share.4 in absurd (omega arith))
+    (λ (more : k ≤ m). more) (cases_lt m k) in
     chain_stays at arcs reach k a marked is fresh ms m n next chain.1
 
 -- of all that are linked to it a datum is the first, and only a datum is

@@ -1,6 +1,6 @@
 -- Arcs as maximal runs, all of them in order, and those that are kept.
 use Rattle.std.specs.Prelude.{◌≡◌, ℕ, ◌+◌, ◌-◌, ◌<◌, ◌≤◌, ◌⊎◌, Bool, true, false, not, nat_le, max, pos, List, [], ◌∷◌, ◌++◌, map, filter, count_by, All, AllPairs, Contains}
-use Rattle.slip_arcs.specs.declared.used.UsedPair.{UsedPair}
+use Rattle.used_svs.specs.declared.used.UsedPair.{UsedPair}
 use Rattle.obs_rows.specs.declared.arcs.Arc.{Arc}
 use Rattle.slip_arcs.specs.Used.{is_used, is_cut_after}
 
@@ -47,5 +47,7 @@ pub record AreKept (jump least : ℕ) (used : List UsedPair) (kept : List Arc) (
 
 -- a long run gains an arc, which is a datum where all earlier ones end before it, and any other is counted
 pub record IsAdded (least : ℕ) (r : Run) (kept kept' : List Arc) (short short' reach reach' : ℕ) : Type 0 where
-  pub long : is_long least r ≡ true → (kept' ≡ kept ++ record { sat = r.sat; first = r.first; last = r.last; datum = nat_le reach r.first; shift = pos 0 ∷ pos 0 ∷ [] } ∷ []) × (short' ≡ short) × (reach' ≡ max reach (r.last + 1))
+  pub long : is_long least r ≡ true
+      → (kept' ≡ kept ++ record { sat = r.sat; first = r.first; last = r.last; datum = nat_le reach r.first; shift = pos 0 ∷ pos 0 ∷ pos 0 ∷ [] } ∷ []) × (short' ≡ short) ×
+      (reach' ≡ max reach (r.last + 1))
   pub brief : is_long least r ≡ false → (kept' ≡ kept) × (short' ≡ short + 1) × (reach' ≡ reach)

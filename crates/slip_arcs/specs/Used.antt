@@ -1,8 +1,11 @@
 -- Which satellites a pair uses, and where there is a cut.
-use Rattle.std.specs.Prelude.{ℕ, zero, suc, ℤ, pos, ◌+◌, ◌*◌, ◌-ℤ◌, ◌*ℤ◌, ◌<◌, ◌≤◌, ◌^◌, Bool, false, not, ◌&&◌, ◌||◌, ◌==◌, nat_lt, Option, Some, None, is_some, List, [], ◌∷◌, find, length, All, AllPairs, slice_index_or, unsigned_abs}
-use Rattle.obs_rows.specs.declared.units.TheConstants.{WAVELENGTHS}
-use Rattle.slip_arcs.specs.declared.used.UsedSat.{UsedSat}
-use Rattle.slip_arcs.specs.declared.used.UsedPair.{UsedPair}
+use Rattle.std.specs.Prelude.{ℕ, zero, suc, ℤ, ◌+◌, ◌*◌, ◌-ℤ◌, ◌*ℤ◌, Bool, false, not, ◌&&◌, ◌||◌, ◌==◌, nat_lt, Option, Some, None, is_some, List, [], ◌∷◌, find, unsigned_abs}
+use Rattle.std.specs.List.{list_any}
+use Rattle.obs_rows.specs.Signals.{wavelength, band}
+use Rattle.obs_rows.specs.Data.{number_at}
+use Rattle.used_svs.specs.declared.used.UsedSat.{UsedSat}
+use Rattle.used_svs.specs.declared.used.UsedPair.{UsedPair}
+use Rattle.slip_arcs.specs.declared.phase.TheConstants.{HELD_PHASES}
 
 -- the satellites that pair i uses
 abbrev pub sats_at : List UsedPair → ℕ → List UsedSat
@@ -28,21 +31,21 @@ entry used sat i = entry_in (sats_at used i) sat
 abbrev pub is_used : List UsedPair → ℕ → ℕ → Bool
 is_used used sat i = is_some (entry used sat i)
 
--- by how much phase k grows
+-- by how much the phase of signal s grows
 abbrev pub change : ℕ → UsedSat → UsedSat → ℤ
-change k before now = slice_index_or now.phase k (pos 0) -ℤ slice_index_or before.phase k (pos 0)
+change s before now = number_at now.phase (band s) -ℤ number_at before.phase (band s)
 
--- the wavelength of phase k in κ
-abbrev pub wavelength : ℕ → ℤ
-wavelength k = slice_index_or WAVELENGTHS k (pos 0)
+-- |λ·Δ − λ'·Δ'| of two phases, in thousandths of ι
+abbrev pub jump_of : ℕ → ℕ → UsedSat → UsedSat → ℕ
+jump_of s t before now = unsigned_abs ((wavelength s *ℤ change s before now) -ℤ (wavelength t *ℤ change t before now))
 
--- |λ1·Δ1 − λ2·Δ2| = |60·Δ1 − 77·Δ2|
-abbrev pub jump_of : UsedSat → UsedSat → ℕ
-jump_of before now = unsigned_abs ((wavelength 0 *ℤ change 0 before now) -ℤ (wavelength 1 *ℤ change 1 before now))
+-- one of these phases jumps against that of L1 by more than so many κ, and one κ is 23 ι
+abbrev pub does_jump : ℕ → List ℕ → UsedSat → UsedSat → Bool
+does_jump jump held before now = list_any (λ s. nat_lt (23000 * jump) (jump_of 0 s before now)) held
 
 -- there is a cut between a satellite's entries in one pair and in the next, at which the power may have failed
 abbrev pub is_cut : ℕ → Bool → UsedSat → UsedSat → Bool
-is_cut jump power before now = power || (now.lost || nat_lt (1000 * jump) (jump_of before now))
+is_cut jump power before now = power || (now.lost || does_jump jump HELD_PHASES before now)
 
 abbrev pub is_cut_where_used : ℕ → Bool → Option UsedSat → Option UsedSat → Bool
 is_cut_where_used jump power (Some before) (Some now) = is_cut jump power before now
@@ -56,13 +59,3 @@ is_cut_after jump used sat i = is_cut_where_used jump (power_at used (i + 1)) (e
 -- the satellite is used in pairs i and i + 1, without a cut between them
 abbrev pub goes_on : ℕ → List UsedPair → ℕ → ℕ → Bool
 goes_on jump used sat i = is_used used sat i && (is_used used sat (i + 1) && not (is_cut_after jump used sat i))
-
--- each phase is below 2^50 in size
-abbrev pub IsSmall : UsedSat → Type 0
-IsSmall u = All (λ z. unsigned_abs z < 2 ^ 50) u.phase
-
--- a pair has at most 15 satellites in rising number, and each phase is below 2^50 in size
-pub record IsInRange (p : UsedPair) : Type 0 where
-  pub few : length p.sats.items ≤ 15
-  pub rising : AllPairs (λ u v. u.sat < v.sat) p.sats.items
-  pub small : All IsSmall p.sats.items

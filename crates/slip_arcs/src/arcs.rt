@@ -1,14 +1,14 @@
 //! The arcs of all satellites, in one pass over the pairs.
 ghost use Rattle.std.specs.Prelude.{◌≡◌, ◌≤◌, pos, [], ◌∷◌, length, IfOk, All};
-ghost use Rattle.slip_arcs.specs.Used.{IsInRange};
+ghost use Rattle.used_svs.specs.Ranges.{IsInRange};
 ghost use Rattle.slip_arcs.specs.Runs.{AreKept};
 ghost use Rattle.slip_arcs.specs.Linked.{HaveDatums};
 
 use crate::entries::{does_go_on, last_of};
 use crate::found::Found;
-use crate::used::UsedPair;
 use obs_rows::ArcList;
 use std::alloc::{AllocError, Global};
+use used_svs::UsedPair;
 
 /// The arcs that are kept, in the order of first pair and satellite, and the number of those that are too short.
 #[derive(Debug, Drop)]
@@ -26,7 +26,7 @@ pub fn cut(alloc: Global, used: &[UsedPair], jump: u32, least: u32) -> Result<Ar
     requires ranges { All IsInRange used.now }
     ensures kept { IfOk result (λ arcs. AreKept jump least used.now arcs.kept arcs.short) }
     ensures datums { IfOk result (λ arcs. HaveDatums arcs.kept) }
-    ensures shifts { IfOk result (λ arcs. All (λ a. a.shift ≡ pos 0 ∷ pos 0 ∷ []) arcs.kept) }
+    ensures shifts { IfOk result (λ arcs. All (λ a. a.shift ≡ pos 0 ∷ pos 0 ∷ pos 0 ∷ []) arcs.kept) }
 {
     let mut found = Found {
         kept: Vec::new(alloc),

@@ -1,10 +1,11 @@
 //! What the pairs say of one satellite, and how far it goes on without a cut.
 ghost use Rattle.std.specs.Prelude.{◌≡◌, ◌<◌, ◌≤◌, length, All, IfSome, ℕ, true, false};
 ghost use Rattle.std.specs.Option.{option_copied};
-ghost use Rattle.slip_arcs.specs.Used.{IsInRange, IsSmall, is_cut, entry_in, entry, goes_on};
+ghost use Rattle.used_svs.specs.Ranges.{IsInRange, IsSmall};
+ghost use Rattle.slip_arcs.specs.Used.{is_cut, entry_in, entry, goes_on};
 
-use crate::phase::size_of_jump;
-use crate::used::{UsedPair, UsedSat};
+use crate::phase::{HELD_PHASES, does_jump};
+use used_svs::{UsedPair, UsedSat};
 
 // Whether there is a cut between two entries.
 fn is_cut_between(before: &UsedSat, now: &UsedSat, power: bool, jump: u32) -> bool
@@ -18,7 +19,7 @@ fn is_cut_between(before: &UsedSat, now: &UsedSat, power: bool, jump: u32) -> bo
     if now.lost {
         return true;
     }
-    size_of_jump(before, now) > 1000 * u64::from(jump)
+    does_jump(before, now, &HELD_PHASES, jump)
 }
 
 fn find_in(sats: &[UsedSat], sat: u8) -> Option<&UsedSat>

@@ -1,45 +1,68 @@
 //! How far two phases of a satellite jump against each other from one pair to the next.
-ghost use Rattle.std.specs.Prelude.{◌≡◌, ◌*◌, ◌<◌, ◌≤◌, ◌≤ℤ◌, ◌^◌, pos, ◌-ℤ◌, ◌*ℤ◌, unsigned_abs};
-ghost use Rattle.slip_arcs.specs.Used.{IsSmall, jump_of};
+ghost use Rattle.std.specs.Prelude.{◌≡◌, ◌*◌, ◌<◌, ◌≤◌, ◌≤ℤ◌, ◌^◌, pos, ◌-ℤ◌, ◌*ℤ◌, All, unsigned_abs};
+ghost use Rattle.obs_rows.specs.declared.units.TheConstants.{SIGNALS};
+ghost use Rattle.obs_rows.specs.Data.{number_at};
+ghost use Rattle.obs_rows.specs.Signals.{wavelength, band};
+ghost use Rattle.used_svs.specs.Ranges.{IsSmall};
+ghost use Rattle.slip_arcs.specs.Used.{change, jump_of, does_jump};
 
-use crate::used::UsedSat;
-use obs_rows::WAVELENGTHS;
+use obs_rows::{BANDS, PHASES, WAVELENGTHS};
+use used_svs::UsedSat;
 
-fn change_of(before: i64, now: i64) -> i64
-    requires before { unsigned_abs before < 2 ^ 50 }
-    requires now { unsigned_abs now < 2 ^ 50 }
-    ensures value { result ≡ now -ℤ before }
+/// The phases that are held against that of L1, where L1 and L2 are used: that of L2.
+pub const HELD_PHASES: [usize; 1] = [1];
+
+// The phase of a signal, which stands at its band.
+fn phase_on(phases: &[i64; PHASES], signal: usize) -> i64
+    requires phases { All (λ z. unsigned_abs z < 2 ^ 50) phases.now }
+    requires signal { signal < SIGNALS }
+    ensures value { result ≡ number_at phases.now (band signal) }
+    ensures small { unsigned_abs result < 2 ^ 50 }
+{
+    phases[BANDS[signal]]
+}
+
+// By how much the phase of a signal grows.
+fn change_of(before: &UsedSat, now: &UsedSat, signal: usize) -> i64
+    requires before { IsSmall before.now }
+    requires now { IsSmall now.now }
+    requires signal { signal < SIGNALS }
+    ensures value { result ≡ change signal before.now now.now }
     ensures small { unsigned_abs result < 2 ^ 51 }
 {
-    now - before
+    phase_on(&now.phase, signal) - phase_on(&before.phase, signal)
 }
 
-fn times(factor: i64, change: i64) -> i64
-    requires low { pos 0 ≤ℤ factor }
-    requires high { factor ≤ℤ pos 77 }
-    requires change { unsigned_abs change < 2 ^ 51 }
-    ensures value { result ≡ factor *ℤ change }
-    ensures small { unsigned_abs result ≤ 77 * 2 ^ 51 }
+// The same as a length, in thousandths of ι.
+fn length_of(before: &UsedSat, now: &UsedSat, signal: usize) -> i64
+    requires before { IsSmall before.now }
+    requires now { IsSmall now.now }
+    requires signal { signal < SIGNALS }
+    ensures value { result ≡ wavelength signal *ℤ change signal before.now now.now }
+    ensures small { unsigned_abs result ≤ 1848 * 2 ^ 51 }
 {
-    factor * change
-}
-
-fn apart(first: i64, second: i64) -> u64
-    requires first { unsigned_abs first ≤ 77 * 2 ^ 51 }
-    requires second { unsigned_abs second ≤ 77 * 2 ^ 51 }
-    ensures { result ≡ unsigned_abs (first -ℤ second) }
-{
-    (first - second).unsigned_abs()
+    WAVELENGTHS[signal] * change_of(before, now, signal)
 }
 
 // A change of the range moves both phases by the same length, so the wavelengths times the two changes agree but
 // for noise, the ionosphere and slips.
-pub fn size_of_jump(before: &UsedSat, now: &UsedSat) -> u64
+fn size_of_jump(before: &UsedSat, now: &UsedSat, first: usize, second: usize) -> u64
     requires before { IsSmall before.now }
     requires now { IsSmall now.now }
-    ensures { result ≡ jump_of before.now now.now }
+    requires first { first < SIGNALS }
+    requires second { second < SIGNALS }
+    ensures { result ≡ jump_of first second before.now now.now }
 {
-    let first = times(WAVELENGTHS[0], change_of(before.phase[0], now.phase[0]));
-    let second = times(WAVELENGTHS[1], change_of(before.phase[1], now.phase[1]));
-    apart(first, second)
+    (length_of(before, now, first) - length_of(before, now, second)).unsigned_abs()
+}
+
+/// Whether one of these phases jumps against that of L1 by more than so many κ.
+pub fn does_jump(before: &UsedSat, now: &UsedSat, held: &[usize], jump: u32) -> bool
+    requires before { IsSmall before.now }
+    requires now { IsSmall now.now }
+    requires held { All (λ s. s < SIGNALS) held.now }
+    ensures { result ≡ does_jump jump held.now before.now now.now }
+{
+    let most = 23_000 * u64::from(jump);
+    held.iter().any(|s| size_of_jump(before, now, 0, *s) > most)
 }

@@ -88,7 +88,13 @@ inner_after a b c r x s v t all (inl o) = go (t.others o.head o.free) o.front o.
     go (inl m) [] e = inl (e ∙ ap (λ z. z ∷ s) m)
     go (inl m) (y ∷ front) e =
         let l = has_last y front in
-        inr (inl (record { head = l.last; front = l.front; split = e ∙ ap (λ w. w ++ (o.head ∷ s)) l.split ∙ append_assoc l.front (l.last ∷ []) (o.head ∷ s) ∙ ap (λ z. l.front ++ (l.last ∷ (z ∷ s))) m; free = all l.last }))
+        inr (inl (record {
+          head = l.last;
+          front = l.front;
+          split = e ∙ ap (λ w. w ++ (o.head ∷ s)) l.split ∙ append_assoc l.front (l.last ∷ []) (o.head ∷ s)
+              ∙ ap (λ z. l.front ++ (l.last ∷ (z ∷ s))) m;
+          free = all l.last;
+        }))
 
 -- ---- the list of what was visited
 -- what is not open before is not open after
@@ -103,7 +109,8 @@ still_past : (p g l : ℤ) → g ≤ℤ p → (pos (2 ^ 60) *ℤ p) <ℤ l → (
 still_past p g l h k = omega (arith, polys)
 
 -- a visit of q, behind which the bound may have fallen
-pub visited_more : (f : SearchForm) (p g : ℤ) (fs gs : List Level) (s t : List ℤ) (n : ℕ) (q : List ℤ) → IsOpen fs s q → Counts f q → (IsOpen gs t q → ⊥) → ((v : List ℤ) → IsOpen gs t v → IsOpen fs s v) →
+pub visited_more : (f : SearchForm) (p g : ℤ) (fs gs : List Level) (s t : List ℤ) (n : ℕ) (q : List ℤ) → IsOpen fs s q → Counts f q → (IsOpen gs t q → ⊥) →
+    ((v : List ℤ) → IsOpen gs t v → IsOpen fs s v) →
     g ≤ℤ p → ((v : List ℤ) → length v ≤ f.size → IsOpen fs s v → (v ≡ q) ⊎ IsOpen gs t v) → HasVisited f p fs s n → HasVisited f g gs t (n + 1)
 visited_more f p g fs gs s t n q o c closed back fell after h = record {
   suffixes = q ∷ h.suffixes;
@@ -162,7 +169,8 @@ pub pop_after : (f : SearchForm) (limit : ℤ) (a : Level) (r : List Level) (s v
 pop_after f limit a r s v h k far (inr o) = inr o
 pop_after f limit a r s v h k far (inl o) =
     let e : length (o.front ++ (o.head ∷ s)) ≡ length v = ap length (sym o.split) in
-    inl (subst (λ (w : List ℤ). limit <ℤ low f w) (sym o.split) (farther limit (low f (o.head ∷ s)) (low f (o.front ++ (o.head ∷ s))) (far o.head o.free) (low_grows f h o.front (o.head ∷ s) (omega arith))))
+    inl (subst (λ (w : List ℤ). limit <ℤ low f w) (sym o.split)
+    (farther limit (low f (o.head ∷ s)) (low f (o.front ++ (o.head ∷ s))) (far o.head o.free) (low_grows f h o.front (o.head ∷ s) (omega arith))))
   where
     farther : (m a b : ℤ) → m <ℤ a → a ≤ℤ b → m <ℤ b
     farther m a b h k = omega (arith, ints)

@@ -12,7 +12,8 @@ use Rattle.suffix_search.specs.Search.{IsSettled, IsSearch, IsOffered}
 use Rattle.suffix_search.specs.declared.stack.Level.{Level}
 use Rattle.suffix_search.proofs.OrderLaws.{settled_first, settled_second, less_le}
 use Rattle.suffix_search.proofs.SuffixLaws.{IsNearest, far_all}
-use Rattle.suffix_search.proofs.OpenLaws.{leaf_closed, leaf_before, leaf_after, inner_closed, inner_before, inner_after, HasLast, has_last, visited_more, visited_same, visited_over, pop_settles, pop_after}
+use Rattle.suffix_search.proofs.OpenLaws.{leaf_closed, leaf_before, leaf_after, inner_closed, inner_before, inner_after, HasLast, has_last, visited_more, visited_same, visited_over}
+use Rattle.suffix_search.proofs.OpenLaws.{pop_settles, pop_after}
 use Rattle.suffix_search.proofs.Counting.{visited_all}
 
 -- a suffix that is not past the second counts
@@ -53,7 +54,8 @@ search_pop f im a r s one two n c h k m far = record {
 le_same : (a : ℤ) → a ≤ℤ a
 le_same a = omega (arith, ints)
 
-pub search_inner : (f : SearchForm) (im : List ℤ → List ℤ) (a b c : Level) (r : List Level) (x : ℤ) (s one two : List ℤ) (n : ℕ) → IsSearch f im (a ∷ r) s one two n → Takes a x b → IsLevel f b s → IsLevel f c (x ∷ s) → ((y : ℤ) → IsFree c y) →
+pub search_inner : (f : SearchForm) (im : List ℤ → List ℤ) (a b c : Level) (r : List Level) (x : ℤ) (s one two : List ℤ) (n : ℕ) → IsSearch f im (a ∷ r) s one two n → Takes a x b →
+    IsLevel f b s → IsLevel f c (x ∷ s) → ((y : ℤ) → IsFree c y) →
     low f (x ∷ s) ≤ℤ (pos (2 ^ 60) *ℤ value f.p two) → IsSearch f im (c ∷ b ∷ r) (x ∷ s) one two (n + 1)
 search_inner f im a b c r x s one two n k t fb fc all l = record {
   one_size = k.one_size;
@@ -62,7 +64,8 @@ search_inner f im a b c r x s one two n k t fb fc all l = record {
   bound = k.bound;
   levels = (fc, (fb, (t.above, t.under), k.levels.1));
   covered = record { each = λ v g. go v g (k.covered.each v g) };
-  visited = visited_more f (value f.p two) (value f.p two) (a ∷ r) (c ∷ b ∷ r) s (x ∷ s) n (x ∷ s) (open_head a r x s t.was_free) (counts_from f x s two k.levels.0.shorter l k.bound) (inner_closed f a b c r x s k.levels.1 t) (λ v. inner_before a b c r x s v t)
+  visited = visited_more f (value f.p two) (value f.p two) (a ∷ r) (c ∷ b ∷ r) s (x ∷ s) n (x ∷ s) (open_head a r x s t.was_free) (counts_from f x s two k.levels.0.shorter l k.bound)
+      (inner_closed f a b c r x s k.levels.1 t) (λ v. inner_before a b c r x s v t)
       (le_same (value f.p two)) (λ v m. inner_after a b c r x s v t all) k.visited;
 }
   where
@@ -83,10 +86,12 @@ offer_first f im one two z a b o h = record { one_size = b; two_size = a; ordere
 pub offer_second : (f : SearchForm) (im : List ℤ → List ℤ) (one two z : List ℤ) → length one ≡ f.size → length z ≡ f.size → IsLess f im one z → IsLess f im z two → IsOffered f im one two z one z
 offer_second f im one two z a b o h = record { one_size = a; two_size = b; ordered = o; bound = less_le f im z two h; kept = λ v. settled_second f im one two z v h; offered = inr (inl refl) }
 
-pub offer_none : (f : SearchForm) (im : List ℤ → List ℤ) (one two z : List ℤ) → length one ≡ f.size → length two ≡ f.size → IsLess f im one two → IsSettled f im one two z → IsOffered f im one two z one two
+pub offer_none : (f : SearchForm) (im : List ℤ → List ℤ) (one two z : List ℤ) → length one ≡ f.size → length two ≡ f.size → IsLess f im one two → IsSettled f im one two z →
+    IsOffered f im one two z one two
 offer_none f im one two z a b o h = record { one_size = a; two_size = b; ordered = o; bound = le_same (value f.p two); kept = λ v k. k; offered = h }
 
-pub search_leaf : (f : SearchForm) (im : List ℤ → List ℤ) (a b : Level) (r : List Level) (x : ℤ) (s one two new_one new_two : List ℤ) (n : ℕ) → IsSearch f im (a ∷ r) s one two n → Takes a x b → IsLevel f b s → length s + 1 ≡ f.size →
+pub search_leaf : (f : SearchForm) (im : List ℤ → List ℤ) (a b : Level) (r : List Level) (x : ℤ) (s one two new_one new_two : List ℤ) (n : ℕ) → IsSearch f im (a ∷ r) s one two n →
+    Takes a x b → IsLevel f b s → length s + 1 ≡ f.size →
     low f (x ∷ s) ≤ℤ (pos (2 ^ 60) *ℤ value f.p two) → IsOffered f im one two (x ∷ s) new_one new_two → IsSearch f im (b ∷ r) s new_one new_two (n + 1)
 search_leaf f im a b r x s one two new_one new_two n k t fb e l o = record {
   one_size = o.one_size;
@@ -95,7 +100,8 @@ search_leaf f im a b r x s one two new_one new_two n k t fb e l o = record {
   bound = le_chain (value f.p new_two) (value f.p two) (top f) o.bound k.bound;
   levels = (fb, k.levels.1);
   covered = record { each = λ v g. go v g (k.covered.each v g) };
-  visited = visited_more f (value f.p two) (value f.p new_two) (a ∷ r) (b ∷ r) s s n (x ∷ s) (open_head a r x s t.was_free) (counts_from f x s two k.levels.0.shorter l k.bound) (leaf_closed f a b r x s k.levels.1 t) (λ v. leaf_before a b r x s v t)
+  visited = visited_more f (value f.p two) (value f.p new_two) (a ∷ r) (b ∷ r) s s n (x ∷ s) (open_head a r x s t.was_free) (counts_from f x s two k.levels.0.shorter l k.bound)
+      (leaf_closed f a b r x s k.levels.1 t) (λ v. leaf_before a b r x s v t)
       o.bound (λ v m. leaf_after a b r x s v f.size t e m) k.visited;
 }
   where
@@ -110,14 +116,17 @@ search_leaf f im a b r x s one two new_one new_two n k t fb e l o = record {
     go v g (inl m) = inl (o.kept v m)
     go v g (inr m) = after v (leaf_after a b r x s v f.size t e (omega arith) m)
 
-pub search_over : (f : SearchForm) (im : List ℤ → List ℤ) (a : Level) (r : List Level) (x : ℤ) (s one two : List ℤ) (n : ℕ) → IsSearch f im (a ∷ r) s one two n → IsFree a x → low f (x ∷ s) ≤ℤ (pos (2 ^ 60) *ℤ value f.p two) → IsOver f n
+pub search_over : (f : SearchForm) (im : List ℤ → List ℤ) (a : Level) (r : List Level) (x : ℤ) (s one two : List ℤ) (n : ℕ) → IsSearch f im (a ∷ r) s one two n → IsFree a x →
+    low f (x ∷ s) ≤ℤ (pos (2 ^ 60) *ℤ value f.p two) → IsOver f n
 search_over f im a r x s one two n k h l = visited_over f (value f.p two) (a ∷ r) s n (x ∷ s) (open_head a r x s h) (counts_from f x s two k.levels.0.shorter l k.bound) k.visited
 
-pub search_wide : (f : SearchForm) (im : List ℤ → List ℤ) (a : Level) (r : List Level) (x : ℤ) (s one two : List ℤ) (n : ℕ) → IsSearch f im (a ∷ r) s one two n → low f (x ∷ s) ≤ℤ (pos (2 ^ 60) *ℤ value f.p two) → 2 ^ 30 ≤ unsigned_abs x → IsWide f
+pub search_wide : (f : SearchForm) (im : List ℤ → List ℤ) (a : Level) (r : List Level) (x : ℤ) (s one two : List ℤ) (n : ℕ) → IsSearch f im (a ∷ r) s one two n →
+    low f (x ∷ s) ≤ℤ (pos (2 ^ 60) *ℤ value f.p two) → 2 ^ 30 ≤ unsigned_abs x → IsWide f
 search_wide f im a r x s one two n k l w = record { wide = inr (x ∷ s, (counts_from f x s two k.levels.0.shorter l k.bound, (0, w))) }
 
 -- a full vector that is visited, and has a large entry in the coordinates of the answer
-pub search_wide_image : (f : SearchForm) (im : List ℤ → List ℤ) (a : Level) (r : List Level) (x : ℤ) (s one two : List ℤ) (n : ℕ) → IsSearch f im (a ∷ r) s one two n → length s + 1 ≡ f.size → low f (x ∷ s) ≤ℤ (pos (2 ^ 60) *ℤ value f.p two) →
+pub search_wide_image : (f : SearchForm) (im : List ℤ → List ℤ) (a : Level) (r : List Level) (x : ℤ) (s one two : List ℤ) (n : ℕ) → IsSearch f im (a ∷ r) s one two n →
+    length s + 1 ≡ f.size → low f (x ∷ s) ≤ℤ (pos (2 ^ 60) *ℤ value f.p two) →
     HasLarge (im (x ∷ s)) → IsWideIn f im
 search_wide_image f im a r x s one two n k e l w = record { vector = x ∷ s; full = omega arith; counted = counts_from f x s two k.levels.0.shorter l k.bound; large = w }
 
@@ -128,7 +137,8 @@ search_end f im s one two n k = record { first_size = k.one_size; second_size = 
     go u (inl m) = m
     go u (inr m) = absurd m
 
-pub search_start : (f : SearchForm) (im : List ℤ → List ℤ) (a : Level) (one two : List ℤ) → IsSearchable f → length one ≡ f.size → length two ≡ f.size → IsLess f im one two → value f.p two ≤ℤ top f → IsLevel f a [] → ((y : ℤ) → IsFree a y) → IsSearch f im (a ∷ []) [] one two 0
+pub search_start : (f : SearchForm) (im : List ℤ → List ℤ) (a : Level) (one two : List ℤ) → IsSearchable f → length one ≡ f.size → length two ≡ f.size → IsLess f im one two →
+    value f.p two ≤ℤ top f → IsLevel f a [] → ((y : ℤ) → IsFree a y) → IsSearch f im (a ∷ []) [] one two 0
 search_start f im a one two h p q o b fa all = record {
   one_size = p;
   two_size = q;
@@ -136,7 +146,14 @@ search_start f im a one two h p q o b fa all = record {
   bound = b;
   levels = (fa, refl);
   covered = record { each = λ v g. inr (inl (found v (full v g))) };
-  visited = record { suffixes = []; many = refl; different = λ i j d k l. absurd (omega arith); counted = All-nil (Counts f); closed = All-nil (λ q. IsOpen (a ∷ []) [] q → ⊥); met = λ q some most. inr (inr (inl (found q (ended q some)))) };
+  visited = record {
+    suffixes = [];
+    many = refl;
+    different = λ i j d k l. absurd (omega arith);
+    counted = All-nil (Counts f);
+    closed = All-nil (λ q. IsOpen (a ∷ []) [] q → ⊥);
+    met = λ q some most. inr (inr (inl (found q (ended q some))));
+  };
 }
   where
     ended : (q : List ℤ) → 0 < length q → HasLast q

@@ -1,5 +1,6 @@
 -- Lower sums grow as entries are put before, and bound the form's value.
-use Rattle.std.proofs.Common.{◌≡◌, ◌⊎◌, inl, inr, ℕ, zero, suc, ◌-◌, ◌<◌, ◌≤◌, ◌^◌, List, [], ◌∷◌, ◌++◌, length, drop, get_or, ℤ, pos, ◌+ℤ◌, ◌*ℤ◌, neg_ℤ, ◌<ℤ◌, ◌≤ℤ◌, arith, refl, ap, ◌∙◌, subst, unsigned_abs}
+use Rattle.std.proofs.Common.{◌≡◌, ◌⊎◌, inl, inr, ℕ, zero, suc, ◌-◌, ◌<◌, ◌≤◌, ◌^◌, List, [], ◌∷◌, ◌++◌, length, drop, get_or, ℤ, pos, ◌+ℤ◌, ◌*ℤ◌, neg_ℤ, ◌<ℤ◌, ◌≤ℤ◌, arith, refl, ap}
+use Rattle.std.proofs.Common.{◌∙◌, subst, unsigned_abs}
 use Rattle.whole_math.proofs.Absolute.{neg_square}
 use Rattle.whole_math.proofs.Order.{lins, polys, mul_nn, square_nn, mul_le_left, mul_le_right}
 use Rattle.quadratic_form.specs.Elimination.{Factor}
@@ -84,7 +85,8 @@ pub square_from : (c x : ℤ) → ((pos 0 ≤ℤ c) × (c ≤ℤ x)) ⊎ (((pos 
 square_from c x (inl h) = square_up c x h.0 h.1
 square_from c x (inr (inl h)) = let p : (c *ℤ c) ≤ℤ (neg_ℤ x *ℤ neg_ℤ x) = square_up c (neg_ℤ x) h.0 h.1 in omega (arith, lins, neg_square x)
 square_from c x (inr (inr (inl h))) = let p : (neg_ℤ c *ℤ neg_ℤ c) ≤ℤ (x *ℤ x) = square_up (neg_ℤ c) x (omega (arith, lins)) h.1 in omega (arith, lins, neg_square c)
-square_from c x (inr (inr (inr h))) = let p : (neg_ℤ c *ℤ neg_ℤ c) ≤ℤ (neg_ℤ x *ℤ neg_ℤ x) = square_up (neg_ℤ c) (neg_ℤ x) (omega (arith, lins)) (omega (arith, lins)) in omega (arith, lins, neg_square c, neg_square x)
+square_from c x (inr (inr (inr h))) = let p : (neg_ℤ c *ℤ neg_ℤ c) ≤ℤ (neg_ℤ x *ℤ neg_ℤ x) = square_up (neg_ℤ c) (neg_ℤ x) (omega (arith, lins)) (omega (arith, lins)) in
+    omega (arith, lins, neg_square c, neg_square x)
 
 offset_mono : (f : SearchForm) (x y : ℤ) (s : List ℤ) → x ≤ℤ y → offset f x s ≤ℤ offset f y s
 offset_mono f x y s h = rw (offset-is f x s, offset-is f y s) (step x y (rest f s) h)
@@ -108,9 +110,12 @@ far_all f a s c limit h k n l y free =
     sides : ((c ≡ a.up_offset) × (a.up_offset ≤ℤ neg_ℤ a.down_offset)) ⊎ ((c ≡ a.down_offset) × (neg_ℤ a.down_offset ≤ℤ a.up_offset)) → IsFree a y →
         ((pos 0 ≤ℤ c) × (c ≤ℤ offset f y s)) ⊎ (((pos 0 ≤ℤ c) × (c ≤ℤ neg_ℤ (offset f y s))) ⊎ (((c ≤ℤ pos 0) × (neg_ℤ c ≤ℤ offset f y s)) ⊎ ((c ≤ℤ pos 0) × (offset f y s ≤ℤ c))))
     sides (inl m) (inr u) = let g : offset f a.up s ≤ℤ offset f y s = offset_mono f a.up y s u in let e = k.up_offset_is in let z = k.above in inl (omega (arith, lins), omega (arith, lins))
-    sides (inl m) (inl d) = let g : offset f y s ≤ℤ offset f a.down s = offset_mono f y a.down s d in let e = k.down_offset_is in let z = k.above in inr (inl (omega (arith, lins), omega (arith, lins)))
-    sides (inr m) (inr u) = let g : offset f a.up s ≤ℤ offset f y s = offset_mono f a.up y s u in let e = k.up_offset_is in let z = k.under in inr (inr (inl (omega (arith, lins), omega (arith, lins))))
-    sides (inr m) (inl d) = let g : offset f y s ≤ℤ offset f a.down s = offset_mono f y a.down s d in let e = k.down_offset_is in let z = k.under in inr (inr (inr (omega (arith, lins), omega (arith, lins))))
+    sides (inl m) (inl d) = let g : offset f y s ≤ℤ offset f a.down s = offset_mono f y a.down s d in let e = k.down_offset_is in let z = k.above in
+        inr (inl (omega (arith, lins), omega (arith, lins)))
+    sides (inr m) (inr u) = let g : offset f a.up s ≤ℤ offset f y s = offset_mono f a.up y s u in let e = k.up_offset_is in let z = k.under in
+        inr (inr (inl (omega (arith, lins), omega (arith, lins))))
+    sides (inr m) (inl d) = let g : offset f y s ≤ℤ offset f a.down s = offset_mono f y a.down s d in let e = k.down_offset_is in let z = k.under in
+        inr (inr (inr (omega (arith, lins), omega (arith, lins))))
 
 -- ---- the bound of the value
 -- a full vector that ends with a suffix past the second is past it

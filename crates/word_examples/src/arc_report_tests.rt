@@ -12,14 +12,14 @@ fn prints_arcs(rt: HostRuntime) -> Result<(), Fail> {
         first: 0,
         last: 19,
         datum: true,
-        shift: [0, 0],
+        shift: [0; 3],
     };
     let free = Arc {
         sat: 12,
         first: 5,
         last: 9,
         datum: false,
-        shift: [0, 0],
+        shift: [0; 3],
     };
     let arcs = Arcs {
         kept: ArcList::new(vec![in alloc; datum, free]?),

@@ -1,7 +1,7 @@
 // What is printed of ends without a session.
 use cert_data::{Answer, Outcome, RoundCounts, Stage, Tail};
 use integer_form::Place;
-use outcome_report::{is_fixed, write_outcome};
+use outcome_report::{is_fixed, push_place, write_outcome};
 use std::alloc::{AllocError, Global};
 use std::process::Abort;
 use std::test::Fail;
@@ -51,5 +51,24 @@ fn prints_declines(rt: HostRuntime) -> Result<(), Fail> {
         tail: Tail::Unsettled { entry: -65 },
     };
     prints(&rt, alloc, unsettled, "declined unsettled coarse -65\n")?;
+    Ok(())
+}
+
+// 232 numbers of a move are 9.9972 of 0.1 mm, and 1,000 are 43.09: m is 299792458 · m / 6957054720 of them.
+#[test]
+fn prints_places(rt: HostRuntime) -> Result<(), Fail> {
+    let alloc = rt.alloc();
+    let mut text = Vec::new(alloc);
+    let (point, base) = ([63_781_370_010, 0, -5], [63_781_370_000, 20_000, -5]);
+    push_place(
+        alloc,
+        &mut text,
+        "place 7",
+        &point,
+        &base,
+        &[232, -1_000, 0],
+    )?;
+    let want = "place 7 0.0020 -2.0043 0.0000\n";
+    assert_eq!(rt; text.as_slice(), want.as_bytes());
     Ok(())
 }

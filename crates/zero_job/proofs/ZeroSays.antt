@@ -1,12 +1,13 @@
 -- What the ending of `zero` says of its file, and its statuses.
-use Rattle.std.proofs.Common.{◌≡◌, ◌≢◌, inl, inr, ℕ, List, Option, sym, subst}
+use Rattle.std.proofs.Common.{◌≡◌, ◌≢◌, inl, inr, ℕ, List, [], ◌∷◌, Option, sym, subst}
 use Rattle.std.specs.Io.KnownBytes.{Appends}
+use Rattle.line_source.specs.Told.{IsReadToEnd}
 use Rattle.zero_rows.specs.Rows.{IsZeroFile}
 use Rattle.job_answers.specs.declared.status.Status.TheVariants.{ReadFault}
 use Rattle.job_answers.specs.Statuses.{IsVerdictStatus, IsJobStatus}
-use Rattle.job_answers.specs.Endings.{Ending, EndsByFile, IsAdmitted}
+use Rattle.job_answers.specs.Endings.{Ending, EndsByFile, IsAdmitted, IsRefusedWhole}
 use Rattle.job_answers.specs.Delivered.{SinkChange}
-use Rattle.job_answers.proofs.EndingLaws.{admitted_ends, verdict_at, job_status_at, file_status}
+use Rattle.job_answers.proofs.EndingLaws.{admitted_ends, verdict_at, job_status_at, file_status, verdict_whole, refusal_whole}
 use Rattle.zero_job.specs.Zero.{ZeroEnds}
 use Rattle.zero_job.specs.ZeroRuns.{SaysOfZero}
 
@@ -19,6 +20,14 @@ text_status name end text (inr refusal) = job_status_at end _ refusal.end_is tt
 
 pub zero_status : (told : List ℕ → Option (List ℕ)) (rows : List ℕ) (end : Ending) → EndsByFile told rows (ZeroEnds rows) end → IsJobStatus end.status
 zero_status told rows end ends = file_status told rows (ZeroEnds rows) end (text_status rows end) ends
+
+-- a file that was read to its end
+pub zero_whole : (told : List ℕ → Option (List ℕ)) (left : ℕ → Option (List ℕ)) (name text : List ℕ) (end : Ending) → IsReadToEnd told left name → ZeroEnds name text end → IsRefusedWhole told left (name ∷ []) end
+zero_whole told left name text end read (inl by_rows) = elim (by_rows.verdict) [
+  | inl optimal ↦ verdict_whole told left (name ∷ []) end (verdict_at end _ optimal.end_is tt)
+  | inr beaten ↦ verdict_whole told left (name ∷ []) end (verdict_at end _ beaten.end_is tt)
+]
+zero_whole told left name text end read (inr refusal) = refusal_whole told left name text end read refusal
 
 -- a file that is told and admitted has a verdict
 pub zero_verdict : (told : List ℕ → Option (List ℕ)) (rows : List ℕ) (end : Ending) → IsAdmitted told rows IsZeroFile → end.status ≢ ReadFault → EndsByFile told rows (ZeroEnds rows) end → IsVerdictStatus end.status

@@ -4,7 +4,8 @@ use Rattle.arcs_job.proofs.answer_session.Goals as goal
 
 pub arcs_of-requires-clause-pairs : goal.arcs_of-requires-clause-pairs
 arcs_of-requires-clause-pairs c =
-    screened_pairs c.args.base.now.epochs c.args.rover.now.epochs c.args.options.now.gap c.in-Ok.begun.taken.items c.args.options.now.gap_to c.in-Ok.ensures.few c.in-Ok.ensures.rises c.in-Ok.ensures.near
+    let o = c.args.options.now in
+    screened_pairs c.args.base.now.epochs c.args.rover.now.epochs o.gap c.in-Ok.begun.taken.items o.gap_to c.in-Ok.ensures.few c.in-Ok.ensures.rises c.in-Ok.ensures.near
 
 pub returns-in_ok-answer_arcs-in-Ok : goal.returns-in_ok-answer_arcs-in-Ok
 returns-in_ok-answer_arcs-in-Ok c = inl (record {

@@ -1,5 +1,6 @@
-use Rattle.job_answers.proofs.EndingLaws.{ended_so, read_whole}
+use Rattle.job_answers.proofs.EndingLaws.{ended_weaker}
+use Rattle.cert_jobs.proofs.CertSays.{check_whole}
 use Rattle.cert_jobs.proofs.check_file.Goals as goal
 
 pub returns-in-Ok-clause-refused : goal.returns-in-Ok-clause-refused
-returns-in-Ok-clause-refused g c = ended_so c.check_text.result _ (λ end. read_whole _ _ c.args.name.now end.status c.in-Ok.ensures.whole)
+returns-in-Ok-clause-refused g c = ended_weaker c.check_text.result _ _ (λ end ends. check_whole _ _ c.args.name.now _ end c.in-Ok.ensures.whole ends) c.check_text.ensures

@@ -1,4 +1,4 @@
-use Rattle.session_files.proofs.FileLaws.{ends_weaker}
+use Rattle.job_answers.proofs.EndingLaws.{ends_weaker}
 use Rattle.list_job.proofs.ListEndings.{not_listed}
 use Rattle.list_job.proofs.list.Goals as goal
 

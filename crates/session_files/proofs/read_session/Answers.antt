@@ -1,5 +1,6 @@
 use Rattle.std.proofs.Common.{arith, refl, [], ◌∷◌}
-use Rattle.session_files.proofs.FileLaws.{ends_weaker, at_rover, at_third, refused_at, same_twice, read_along}
+use Rattle.job_answers.proofs.EndingLaws.{ends_weaker}
+use Rattle.session_files.proofs.FileLaws.{at_rover, at_third, refused_at, same_twice, read_along}
 use Rattle.line_source.proofs.Openings.{more_at_most}
 use Rattle.session_files.proofs.Openings.{fewer_at_most}
 use Rattle.session_files.proofs.read_session.Goals as goal
@@ -18,15 +19,15 @@ returns-in-Err-nav_file-clause-sure g c = λ all.
 
 pub returns-in-Err-clause-refused : goal.returns-in-Err-clause-refused
 returns-in-Err-clause-refused g c = ends_weaker c.in-Err.stop _ _
-    (λ end refused. refused_at _ _ _ c.args.base.now (c.args.base.now ∷ c.args.rover.now ∷ c.args.nav.now ∷ []) 0 end.status (omega arith) refl (λ name. refl) refused) c.in-Err.ensures.refused
+    (λ end refused. refused_at _ _ _ c.args.base.now (c.args.base.now ∷ c.args.rover.now ∷ c.args.nav.now ∷ []) 0 end (omega arith) refl (λ name. refl) refused) c.in-Err.ensures.refused
 
 pub returns-in-Err-obs_file-clause-refused : goal.returns-in-Err-obs_file-clause-refused
 returns-in-Err-obs_file-clause-refused g c = ends_weaker c.in-Err-obs_file.stop _ _
-    (λ end refused. refused_at _ _ _ c.args.rover.now (c.args.base.now ∷ c.args.rover.now ∷ c.args.nav.now ∷ []) 1 end.status (omega arith) refl c.in-Ok.ensures.texts refused) c.in-Err-obs_file.ensures.refused
+    (λ end refused. refused_at _ _ _ c.args.rover.now (c.args.base.now ∷ c.args.rover.now ∷ c.args.nav.now ∷ []) 1 end (omega arith) refl c.in-Ok.ensures.texts refused) c.in-Err-obs_file.ensures.refused
 
 pub returns-in-Err-nav_file-clause-refused : goal.returns-in-Err-nav_file-clause-refused
 returns-in-Err-nav_file-clause-refused g c = ends_weaker c.in-Err-nav_file.stop _ _
-    (λ end refused. refused_at _ _ _ c.args.nav.now (c.args.base.now ∷ c.args.rover.now ∷ c.args.nav.now ∷ []) 2 end.status (omega arith) refl (same_twice _ _ _ c.in-Ok.ensures.texts c.in-Ok-obs_file.ensures.texts) refused) c.in-Err-nav_file.ensures.refused
+    (λ end refused. refused_at _ _ _ c.args.nav.now (c.args.base.now ∷ c.args.rover.now ∷ c.args.nav.now ∷ []) 2 end (omega arith) refl (same_twice _ _ _ c.in-Ok.ensures.texts c.in-Ok-obs_file.ensures.texts) refused) c.in-Err-nav_file.ensures.refused
 
 pub returns-in-Err-clause-opened : goal.returns-in-Err-clause-opened
 returns-in-Err-clause-opened g c = fewer_at_most 1 3 _ _ (omega arith) c.in-Err.ensures.opened

@@ -1,9 +1,8 @@
 use Rattle.std.proofs.Common.{rules, ◌≡◌, ◌≢◌, inl, inr, [], All, subst}
-use Rattle.job_answers.specs.declared.status.Status.TheVariants.{Usage, ReadFault}
-use Rattle.job_answers.specs.Texts.{usage_line}
-use Rattle.job_answers.specs.Endings.{ending, IsRefusedWhole}
+use Rattle.job_answers.specs.declared.status.Status.TheVariants.{ReadFault}
 use Rattle.job_answers.specs.declared.stop.Stop.{Stop}
 use Rattle.job_answers.specs.Answers.{ending_of, IfEnds}
+use Rattle.pair_refusals.specs.Refusals.{AreRefusedWhole}
 use Rattle.command_words.specs.declared.jobs.Job.{Job}
 use Rattle.command_words.specs.Words.{texts_of, file_words, IsJob}
 use Rattle.command_words.proofs.OneJob.{one_job}
@@ -12,8 +11,7 @@ use Rattle.baseline_app.proofs.top.answer_of.Goals as goal
 pub returns-in-Err-Usage-clause-answer : goal.returns-in-Err-Usage-clause-answer
 returns-in-Err-Usage-clause-answer g c =
     let none : (job : Job) → IsJob (texts_of c.args.words.now) job → ⊥ = c.read_words.ensures.usage (search rules) in
-    let end_is : ending_of c.on_err.result ≡ ending Usage [] usage_line = search rules in
-    inr (inl (record { none = none; end_is = end_is }))
+    inr (inl (record { none = none; end_is = search rules }))
 
 pub returns-in-Ok-do_job-clause-sure : goal.returns-in-Ok-do_job-clause-sure
 returns-in-Ok-do_job-clause-sure g c = λ job asked sure.
@@ -28,9 +26,9 @@ returns-in-Err-Usage-clause-refused g c = λ job asked. absurd (c.read_words.ens
 
 pub returns-in-Ok-do_job-clause-refused : goal.returns-in-Ok-do_job-clause-refused
 returns-in-Ok-do_job-clause-refused g c = λ job asked.
-    subst (λ (j : Job). IsRefusedWhole (g.F.Files.text_of c.args.files.now) (g.F.Files.unread c.do_job.new.files) (file_words j) c.in-Ok-do_job.answer.status) (one_job (texts_of c.args.words.now) c.in-Ok.job job c.in-Ok.ensures.job asked) c.in-Ok-do_job.ensures.refused
+    subst (λ (j : Job). AreRefusedWhole (g.F.Files.text_of c.args.files.now) (g.F.Files.unread c.do_job.new.files) (file_words j) (ending_of c.in-Ok-do_job.answer)) (one_job (texts_of c.args.words.now) c.in-Ok.job job c.in-Ok.ensures.job asked) c.in-Ok-do_job.ensures.refused
 
 pub returns-in-Err-Ended-clause-refused : goal.returns-in-Err-Ended-clause-refused
 returns-in-Err-Ended-clause-refused g c = λ job asked.
-    subst (λ (j : Job). IsRefusedWhole (g.F.Files.text_of c.args.files.now) (g.F.Files.unread c.do_job.new.files) (file_words j) c.in-Err-Ended.answer.status) (one_job (texts_of c.args.words.now) c.in-Ok.job job c.in-Ok.ensures.job asked)
-    (subst (λ (s : Stop). IfEnds s (λ end. IsRefusedWhole (g.F.Files.text_of c.args.files.now) (g.F.Files.unread c.do_job.new.files) (file_words c.in-Ok.job) end.status)) c.in-Err-Ended.field-0-is c.in-Err-Ended.ensures.refused)
+    subst (λ (j : Job). AreRefusedWhole (g.F.Files.text_of c.args.files.now) (g.F.Files.unread c.do_job.new.files) (file_words j) (ending_of c.in-Err-Ended.answer)) (one_job (texts_of c.args.words.now) c.in-Ok.job job c.in-Ok.ensures.job asked)
+    (subst (λ (s : Stop). IfEnds s (AreRefusedWhole (g.F.Files.text_of c.args.files.now) (g.F.Files.unread c.do_job.new.files) (file_words c.in-Ok.job))) c.in-Err-Ended.field-0-is c.in-Err-Ended.ensures.refused)

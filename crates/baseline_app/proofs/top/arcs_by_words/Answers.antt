@@ -1,6 +1,6 @@
 use Rattle.std.proofs.Common.{ℕ, List, [], ◌∷◌, All, sym, subst}
 use Rattle.job_answers.specs.Answers.{IfEnded}
-use Rattle.job_answers.specs.Endings.{IsRefusedWhole}
+use Rattle.pair_refusals.specs.Refusals.{AreRefusedWhole}
 use Rattle.arcs_job.specs.ArcJobs.{ArcsEnds}
 use Rattle.baseline_app.proofs.top.arcs_by_words.Goals as goal
 
@@ -18,6 +18,6 @@ returns-clause-sure g c = λ all. c.arcs.ensures.sure
 
 pub returns-clause-refused : goal.returns-clause-refused
 returns-clause-refused g c =
-    subst (λ (b : List ℕ). IfEnded c.arcs.result (λ end. IsRefusedWhole (g.F.Files.text_of c.args.files.now) (g.F.Files.unread c.arcs.new.files) (b ∷ c.args.rover.now ∷ c.args.nav.now ∷ []) end.status)) c.as_str.ensures
-    (subst (λ (r : List ℕ). IfEnded c.arcs.result (λ end. IsRefusedWhole (g.F.Files.text_of c.args.files.now) (g.F.Files.unread c.arcs.new.files) (c.as_str.result.now ∷ r ∷ c.args.nav.now ∷ []) end.status)) c.as_str-2.ensures
-    (subst (λ (n : List ℕ). IfEnded c.arcs.result (λ end. IsRefusedWhole (g.F.Files.text_of c.args.files.now) (g.F.Files.unread c.arcs.new.files) (c.as_str.result.now ∷ c.as_str-2.result.now ∷ n ∷ []) end.status)) c.as_str-3.ensures c.arcs.ensures.refused))
+    subst (λ (b : List ℕ). IfEnded c.arcs.result (AreRefusedWhole (g.F.Files.text_of c.args.files.now) (g.F.Files.unread c.arcs.new.files) (b ∷ c.args.rover.now ∷ c.args.nav.now ∷ []))) c.as_str.ensures
+    (subst (λ (r : List ℕ). IfEnded c.arcs.result (AreRefusedWhole (g.F.Files.text_of c.args.files.now) (g.F.Files.unread c.arcs.new.files) (c.as_str.result.now ∷ r ∷ c.args.nav.now ∷ []))) c.as_str-2.ensures
+    (subst (λ (n : List ℕ). IfEnded c.arcs.result (AreRefusedWhole (g.F.Files.text_of c.args.files.now) (g.F.Files.unread c.arcs.new.files) (c.as_str.result.now ∷ c.as_str-2.result.now ∷ n ∷ []))) c.as_str-3.ensures c.arcs.ensures.refused))

@@ -1,11 +1,11 @@
-use Rattle.std.proofs.Common.{◌∷◌, [], ℕ, List, All, length, subst, sym}
+use Rattle.std.proofs.Common.{◌∷◌, [], ℕ, List, All, length, refl, subst, sym}
 use Rattle.line_source.specs.Causes.{OpensAtMost}
-use Rattle.job_answers.specs.Endings.{IsRefusedWhole}
 use Rattle.job_answers.specs.Answers.{IfEnded}
+use Rattle.pair_refusals.specs.Refusals.{AreRefusedWhole}
 use Rattle.command_words.specs.declared.jobs.Job.{Job}
 use Rattle.command_words.specs.Words.{file_words}
-use Rattle.sim_run_job.proofs.RunEnds.{ended_weaker}
-use Rattle.baseline_app.proofs.Completes.{part_whole}
+use Rattle.job_answers.proofs.EndingLaws.{ended_weaker}
+use Rattle.baseline_app.proofs.Completes.{part_whole, asked_whole}
 use Rattle.baseline_app.proofs.top.do_job.Goals as goal
 
 pub returns-in-Arcs-clause-sure : goal.returns-in-Arcs-clause-sure
@@ -23,18 +23,28 @@ returns-in-Sim-clause-sure g c = λ all. c.sim_part.ensures.no_fault
 pub returns-in-Sim-clause-refused : goal.returns-in-Sim-clause-refused
 returns-in-Sim-clause-refused g c = ended_weaker c.sim_part.result _ _ (λ end ends. part_whole _ _ _ c.in-Sim.part c.in-Sim.seed c.in-Sim.epochs c.in-Sim.sats end ends) c.sim_part.ensures.ends
 
+pub returns-in-Zero-clause-refused : goal.returns-in-Zero-clause-refused
+returns-in-Zero-clause-refused g c = asked_whole c.zero.result _ _ _ _ _ _ c.in-Zero.is c.as_str.ensures refl c.zero.ensures.refused
+
+pub returns-in-List-clause-refused : goal.returns-in-List-clause-refused
+returns-in-List-clause-refused g c = asked_whole c.list.result _ _ _ _ _ _ c.in-List.is c.as_str-in-List.ensures refl c.list.ensures.refused
+
 pub returns-in-Orbit-clause-refused : goal.returns-in-Orbit-clause-refused
-returns-in-Orbit-clause-refused g c =
-    subst (λ (j : Job). IfEnded c.orbit.result (λ end. IsRefusedWhole (g.F.Files.text_of c.args.files.now) (g.F.Files.unread c.orbit.new.files) (file_words j) end.status)) (sym c.in-Orbit.is)
-    (subst (λ (nav : List ℕ). IfEnded c.orbit.result (λ end. IsRefusedWhole (g.F.Files.text_of c.args.files.now) (g.F.Files.unread c.orbit.new.files) (nav ∷ []) end.status)) c.as_str-in-Orbit.ensures c.orbit.ensures.refused)
+returns-in-Orbit-clause-refused g c = asked_whole c.orbit.result _ _ _ _ _ _ c.in-Orbit.is c.as_str-in-Orbit.ensures refl c.orbit.ensures.refused
+
+pub returns-in-Check-clause-refused : goal.returns-in-Check-clause-refused
+returns-in-Check-clause-refused g c = asked_whole c.check_file.result _ _ _ _ _ _ c.in-Check.is c.as_str-in-Check.ensures refl c.check_file.ensures.refused
+
+pub returns-in-Residuals-clause-refused : goal.returns-in-Residuals-clause-refused
+returns-in-Residuals-clause-refused g c = asked_whole c.residuals.result _ _ _ _ _ _ c.in-Residuals.is c.as_str-in-Residuals.ensures refl c.residuals.ensures.refused
 
 pub returns-in-Fix-clause-refused : goal.returns-in-Fix-clause-refused
 returns-in-Fix-clause-refused g c =
-    subst (λ (j : Job). IfEnded c.fix_by_words.result (λ end. IsRefusedWhole (g.F.Files.text_of c.args.files.now) (g.F.Files.unread c.fix_by_words.new.files) (file_words j) end.status)) (sym c.in-Fix.is) c.fix_by_words.ensures.refused
+    subst (λ (j : Job). IfEnded c.fix_by_words.result (AreRefusedWhole (g.F.Files.text_of c.args.files.now) (g.F.Files.unread c.fix_by_words.new.files) (file_words j))) (sym c.in-Fix.is) c.fix_by_words.ensures.refused
 
 pub returns-in-Arcs-clause-refused : goal.returns-in-Arcs-clause-refused
 returns-in-Arcs-clause-refused g c =
-    subst (λ (j : Job). IfEnded c.arcs_by_words.result (λ end. IsRefusedWhole (g.F.Files.text_of c.args.files.now) (g.F.Files.unread c.arcs_by_words.new.files) (file_words j) end.status)) (sym c.in-Arcs.is) c.arcs_by_words.ensures.refused
+    subst (λ (j : Job). IfEnded c.arcs_by_words.result (AreRefusedWhole (g.F.Files.text_of c.args.files.now) (g.F.Files.unread c.arcs_by_words.new.files) (file_words j))) (sym c.in-Arcs.is) c.arcs_by_words.ensures.refused
 
 pub returns-in-Fix-clause-opened : goal.returns-in-Fix-clause-opened
 returns-in-Fix-clause-opened g c =

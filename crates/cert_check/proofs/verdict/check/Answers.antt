@@ -1,7 +1,7 @@
 use Rattle.std.proofs.Common.{FitsSigned, w64, rules, subst}
 use Rattle.cert_data.specs.declared.verdicts.Verdict.TheVariants.{Not}
 use Rattle.cert_data.specs.declared.verdicts.Cause.TheVariants as cause
-use Rattle.cert_check.specs.Verdicts.{IsRefused}
+use Rattle.settled_decision.specs.Decided.{IsRefused}
 use Rattle.cert_check.proofs.OneVerdict.{one_verdict, wide_refused}
 use Rattle.cert_check.proofs.Checked.{own_word64}
 use Rattle.cert_check.proofs.verdict.check.Goals as goal

@@ -1,10 +1,7 @@
-use Rattle.std.proofs.Common.{◌≡◌, Bool, true, false, FitsSigned, rules, subst, sym, refl}
+use Rattle.std.proofs.Common.{◌≡◌, Bool, true, false, FitsSigned, rules}
 use Rattle.std.specs.Int.{w128}
-use Rattle.integer_form.specs.FloatPoint.{HasWide}
-use Rattle.fix_decide.specs.Widths.{AreWide}
-use Rattle.fix_decide.specs.Decisions.{first_of}
-use Rattle.cert_check.specs.Decided.{Numbers, IsDecided, numbers}
-use Rattle.cert_check.proofs.Checked.{best_said, wide_decision, own_word128}
+use Rattle.cert_check.specs.Decided.{IsDecided, numbers}
+use Rattle.cert_check.proofs.Checked.{best_said, decided_by, wide_decision, own_word128}
 use Rattle.cert_check.proofs.verdict.check_best.Goals as goal
 
 not_true : {b : Bool} → b ≡ true → b ≡ false → ⊥
@@ -12,59 +9,39 @@ not_true holds fails = absurd (cc (holds, fails))
 
 pub returns-then-not-decision-clause-verdict : goal.returns-then-not-decision-clause-verdict
 returns-then-not-decision-clause-verdict c =
-    let s = c.args.cert.now.session in
-    let f = c.args.form.now in
-    let b = c.args.best.now in
-    let m = c.in-Ok.decision.moved in
-    let t = c.in-Ok.decision.top in
-    let fits : FitsSigned w128 t = search rules in
-    let narrow : HasWide m → ⊥ = λ w. absurd (c.in-Ok.ensures.float.1 (subst HasWide c.in-Ok.ensures.moved w)) in
-    let low : AreWide s.arcs s.pairs (first_of b) m → ⊥ =
-    λ w. absurd (c.in-Ok.ensures.sum.1 (λ w. narrow (subst HasWide (sym c.in-Ok.ensures.moved) w), subst (AreWide s.arcs s.pairs (first_of b)) c.in-Ok.ensures.moved w)) in
-    let d : Numbers = numbers f.h m b t in
-    let decided : IsDecided s d = record { form = f; of_rows = c.requires.form; h_is = refl; best_is = c.requires.best; moved_is = c.in-Ok.ensures.moved; narrow = narrow; low = low; top_is = c.in-Ok.ensures.top } in
+    let d = numbers c.args.form.now.h c.in-Ok.decision.moved c.args.best.now c.in-Ok.decision.top in
+    let decided : IsDecided c.args.cert.now.session d =
+    decided_by c.args.cert.now.session c.args.form.now c.args.best.now c.in-Ok.decision.moved c.in-Ok.decision.top c.requires.form c.requires.best c.in-Ok.ensures.moved (λ w. absurd (c.in-Ok.ensures.float.1 w))
+    (λ w. absurd (c.in-Ok.ensures.sum.1 w)) c.in-Ok.ensures.top in
     (d, record { decided = decided; near = λ far. absurd (not_true (c.in-Ok.ensures.fixed.1 far) c.if-not-decision.true) })
 
 pub returns-then-says-clause-verdict : goal.returns-then-says-clause-verdict
 returns-then-says-clause-verdict c =
-    let s = c.args.cert.now.session in
-    let f = c.args.form.now in
-    let b = c.args.best.now in
-    let m = c.in-Ok.decision.moved in
-    let t = c.in-Ok.decision.top in
-    let fits : FitsSigned w128 t = search rules in
-    let narrow : HasWide m → ⊥ = λ w. absurd (c.in-Ok.ensures.float.1 (subst HasWide c.in-Ok.ensures.moved w)) in
-    let low : AreWide s.arcs s.pairs (first_of b) m → ⊥ =
-    λ w. absurd (c.in-Ok.ensures.sum.1 (λ w. narrow (subst HasWide (sym c.in-Ok.ensures.moved) w), subst (AreWide s.arcs s.pairs (first_of b)) c.in-Ok.ensures.moved w)) in
-    let d : Numbers = numbers f.h m b t in
-    let decided : IsDecided s d = record { form = f; of_rows = c.requires.form; h_is = refl; best_is = c.requires.best; moved_is = c.in-Ok.ensures.moved; narrow = narrow; low = low; top_is = c.in-Ok.ensures.top } in
-    let said = rw (own_word128 t fits) at c.says.ensures in
+    let d = numbers c.args.form.now.h c.in-Ok.decision.moved c.args.best.now c.in-Ok.decision.top in
+    let decided : IsDecided c.args.cert.now.session d =
+    decided_by c.args.cert.now.session c.args.form.now c.args.best.now c.in-Ok.decision.moved c.in-Ok.decision.top c.requires.form c.requires.best c.in-Ok.ensures.moved (λ w. absurd (c.in-Ok.ensures.float.1 w))
+    (λ w. absurd (c.in-Ok.ensures.sum.1 w)) c.in-Ok.ensures.top in
+    let fits : FitsSigned w128 c.in-Ok.decision.top = search rules in
+    let said = rw (own_word128 c.in-Ok.decision.top fits) at c.says.ensures in
     (d, (record { decided = decided; separated = c.in-Ok.ensures.fixed.0 c.if-not-decision.false }, said.0 c.if-says.true))
 
 pub returns-then-says-clause-strictly_best : goal.returns-then-says-clause-strictly_best
 returns-then-says-clause-strictly_best c = λ e.
-    let s = c.args.cert.now.session in
     let d = numbers c.args.form.now.h c.in-Ok.decision.moved c.args.best.now c.in-Ok.decision.top in
     let fits : FitsSigned w128 c.in-Ok.decision.top = search rules in
     let said = rw (own_word128 c.in-Ok.decision.top fits) at c.says.ensures in
-    best_said s c.args.cert.now.tail d (said.0 c.if-says.true) (c.in-Ok.ensures.strictly_best c.if-not-decision.false)
+    best_said c.args.cert.now.session c.args.cert.now.tail d (said.0 c.if-says.true) (c.in-Ok.ensures.strictly_best c.if-not-decision.false)
 
 pub returns-else-says-clause-verdict : goal.returns-else-says-clause-verdict
 returns-else-says-clause-verdict c =
-    let s = c.args.cert.now.session in
-    let f = c.args.form.now in
-    let b = c.args.best.now in
-    let m = c.in-Ok.decision.moved in
-    let t = c.in-Ok.decision.top in
-    let fits : FitsSigned w128 t = search rules in
-    let narrow : HasWide m → ⊥ = λ w. absurd (c.in-Ok.ensures.float.1 (subst HasWide c.in-Ok.ensures.moved w)) in
-    let low : AreWide s.arcs s.pairs (first_of b) m → ⊥ =
-    λ w. absurd (c.in-Ok.ensures.sum.1 (λ w. narrow (subst HasWide (sym c.in-Ok.ensures.moved) w), subst (AreWide s.arcs s.pairs (first_of b)) c.in-Ok.ensures.moved w)) in
-    let d : Numbers = numbers f.h m b t in
-    let decided : IsDecided s d = record { form = f; of_rows = c.requires.form; h_is = refl; best_is = c.requires.best; moved_is = c.in-Ok.ensures.moved; narrow = narrow; low = low; top_is = c.in-Ok.ensures.top } in
-    let said = rw (own_word128 t fits) at c.says.ensures in
+    let d = numbers c.args.form.now.h c.in-Ok.decision.moved c.args.best.now c.in-Ok.decision.top in
+    let decided : IsDecided c.args.cert.now.session d =
+    decided_by c.args.cert.now.session c.args.form.now c.args.best.now c.in-Ok.decision.moved c.in-Ok.decision.top c.requires.form c.requires.best c.in-Ok.ensures.moved (λ w. absurd (c.in-Ok.ensures.float.1 w))
+    (λ w. absurd (c.in-Ok.ensures.sum.1 w)) c.in-Ok.ensures.top in
+    let fits : FitsSigned w128 c.in-Ok.decision.top = search rules in
+    let said = rw (own_word128 c.in-Ok.decision.top fits) at c.says.ensures in
     (d, (record { decided = decided; separated = c.in-Ok.ensures.fixed.0 c.if-not-decision.false }, λ is. absurd (not_true (said.1 is) c.if-says.false)))
 
 pub returns-in-Err-clause-verdict : goal.returns-in-Err-clause-verdict
-returns-in-Err-clause-verdict c =
-    wide_decision c.args.cert.now.session c.args.cert.now.budget c.args.form.now c.args.best.now c.in-Err.wide.place c.requires.form c.requires.best c.in-Err.ensures.float.0 c.in-Err.ensures.sum.0 c.in-Err.ensures.only
+returns-in-Err-clause-verdict c = wide_decision c.args.cert.now.session c.args.cert.now.budget c.args.form.now c.args.best.now c.in-Err.wide.place c.requires.form c.requires.best
+    c.in-Err.ensures.float.0 c.in-Err.ensures.sum.0 c.in-Err.ensures.only

@@ -1,5 +1,8 @@
-use Rattle.std.proofs.Common.{◌≡◌, w64, to_z, of_z, arith}
+use Rattle.std.proofs.Common.{◌≡◌, ◌++◌, w64, to_z, of_z, arith, ap, ◌∙◌}
 use Rattle.std.proofs.lemmas.Int.{ints}
+use Rattle.cert_words.specs.Spelling.{behind_blanks}
+use Rattle.obs_rows.specs.Signals.{fine_signals}
+use Rattle.cert_lines.specs.Places.{select}
 use Rattle.cert_lines.proofs.Appends.{row_appended}
 use Rattle.cert_lines.proofs.write.push_row_line.Goals as goal
 
@@ -10,5 +13,7 @@ returns-clause-text c =
     let high = r.ry_in.1 in
     let same : to_z w64 (of_z w64 r.ry) ≡ r.ry = omega (arith, ints) in
     let ry = rw same at c.in_ok-push_number-2.ensures in
-    row_appended c.args.out.now.items c.extend_from_slice.new.self.items c.push_number.new.out.items c.push_numbers.new.out.items c.push_number-2.new.out.items c.push_numbers-2.new.out.items c.push_numbers-3.new.out.items c.push.new.self.items r.arc r.y r.ry r.u r.ru
-    c.in_ok-extend_from_slice.ensures.items c.in_ok-push_number.ensures c.in_ok-push_numbers.ensures ry c.in_ok-push_numbers-2.ensures c.in_ok-push_numbers-3.ensures c.in_ok-push.ensures.items
+    let y = c.in_ok-push_selected.ensures ∙ ap (λ ss. c.push_number.new.out.items ++ behind_blanks (select ss r.y)) c.fine_signals.ensures.value in
+    row_appended c.args.out.now.items c.extend_from_slice.new.self.items c.push_number.new.out.items c.push_selected.new.out.items c.push_number-2.new.out.items c.push_numbers.new.out.items
+    c.push_numbers-2.new.out.items c.push.new.self.items r.arc (select (fine_signals c.args.signals) r.y) r.ry r.u r.ru
+    c.in_ok-extend_from_slice.ensures.items c.in_ok-push_number.ensures y ry c.in_ok-push_numbers.ensures c.in_ok-push_numbers-2.ensures c.in_ok-push.ensures.items

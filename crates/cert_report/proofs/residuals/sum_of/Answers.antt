@@ -2,7 +2,7 @@ use Rattle.std.proofs.Common.{◌≡◌, ◌+◌, ◌^◌, ◌≤◌, ◌∷◌,
 use Rattle.std.specs.Int.{w128}
 use Rattle.std.proofs.lemmas.List.{drop_more}
 use Rattle.whole_math.specs.Vectors.{sum}
-use Rattle.normal_sum.proofs.Words.{as_w64, as_w128}
+use Rattle.form_tables.proofs.Words.{as_w64, as_w128}
 use Rattle.obs_rows.specs.declared.rows.Row.{Row}
 use Rattle.fix_decide.specs.UpperSums.{centre}
 use Rattle.cert_report.proofs.Sums.{behind}
@@ -14,7 +14,7 @@ loop-row-preserved c =
     let rows = c.args.rows.now in
     let i = c.loop-row.row-index in
     let r = c.row-item.result in
-    let at : Row → ℤ = centre c.args.arcs.now c.args.z.now c.args.moved.now c.args.signal in
+    let at : Row → ℤ = centre c.args.arcs.now c.args.signals.now c.args.z.now c.args.moved.now c.args.signal in
     let split : drop i rows ≡ r ∷ drop (i + 1) rows = drop_more rows i r c.loop-row-test.true ∙ ap (λ (q : Row). q ∷ drop (i + 1) rows) (sym c.row-item.is) in
     let word = as_w64 c.centre_of.result (omega (arith, c.centre_of.ensures.size)) in
     let plus : c.plus-sum.result ≡ s +ℤ at r = c.plus-sum.ensures.value ∙ ap (λ (x : ℤ). s +ℤ x) (word ∙ c.centre_of.ensures.value) in

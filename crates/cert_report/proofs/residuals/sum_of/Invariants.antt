@@ -5,6 +5,6 @@ use Rattle.cert_report.proofs.residuals.sum_of.Given as goal
 
 abbrev pub invariant-loop-row : goal.invariant-loop-row
 invariant-loop-row l = record {
-  value : l.sum +ℤ sum (map (centre l.arcs l.z l.moved l.signal) (drop l.row-index l.rows)) ≡ sum (map (centre l.arcs l.z l.moved l.signal) l.rows);
+  value : l.sum +ℤ sum (map (centre l.arcs l.signals l.z l.moved l.signal) (drop l.row-index l.rows)) ≡ sum (map (centre l.arcs l.signals l.z l.moved l.signal) l.rows);
   size : unsigned_abs l.sum ≤ l.row-index * 2 ^ 57;
 }

@@ -1,5 +1,6 @@
 use Rattle.std.proofs.Common.{◌≤◌, length, ◌∙◌, rules}
 use Rattle.std.proofs.lemmas.List.{length-take-le}
+use Rattle.obs_rows.proofs.IntegerPlaces.{counted_are}
 use Rattle.fix_decide.proofs.SessionForms.{first_small}
 use Rattle.cert_report.proofs.Sums.{at_most}
 use Rattle.cert_report.proofs.residuals.write_shown.Goals as goal
@@ -10,6 +11,7 @@ write_session-requires c =
     let room : b.size ≤ length b.first = search rules in
     record {
       free = c.args.session.now.arcs_in.few_free;
+      counted = counted_are c.args.session.now.signals 0;
       entries = length-take-le b.size b.first room ∙ c.requires.size;
       z_size = first_small b.size b.first c.requires.small;
       m_size = at_most _ c.args.moved.now c.requires.moved;

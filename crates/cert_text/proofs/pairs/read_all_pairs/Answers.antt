@@ -1,12 +1,14 @@
 use Rattle.std.proofs.Common.{sym, ap, ◌∙◌}
 use Rattle.std.proofs.lemmas.Result.{err_from_is_err_and}
-use Rattle.std.proofs.Common.{◌++◌, ℕ, List, arith}
+use Rattle.std.proofs.Common.{◌++◌, ◌<◌, ℕ, List, unsigned_abs, arith}
 use Rattle.std.proofs.lemmas.List.{length_push}
 use Rattle.obs_rows.specs.declared.pair_rows.PairRows.{PairRows}
 use Rattle.rinex_head.proofs.Walks.{handed_on}
 use Rattle.cert_spelling.specs.Spelling.{all_pair_lines}
 use Rattle.std.proofs.lemmas.List.Elements.{All-push}
 use Rattle.cert_lines.specs.Lengths.{IsWholePair}
+use Rattle.obs_rows.specs.Signals.{fine_signals}
+use Rattle.cert_lines.specs.Versions.{group_limit}
 use Rattle.cert_text.proofs.PairSteps.{pairs_took, pairs_below}
 use Rattle.cert_text.proofs.pairs.read_all_pairs.Goals as goal
 
@@ -27,12 +29,16 @@ pairs-preserved c =
     let one = length_push before p in
     record {
       reads = λ budget. c.pairs.invariant.reads budget ∙ given budget;
-      took = c.pairs.invariant.took ∙ ap (λ (l : List (List ℕ)). all_pair_lines before ++ l) c.in_ok-pair.ensures.took ∙ pairs_took before p c.next_pair.new.lines.left
-          ∙ ap (λ (ps : List PairRows). all_pair_lines ps ++ c.next_pair.new.lines.left) (sym pairs);
+      took =
+          c.pairs.invariant.took ∙ ap (λ (l : List (List ℕ)). all_pair_lines (fine_signals c.args.session.signals) before ++ l) c.in_ok-pair.ensures.took
+          ∙ pairs_took (fine_signals c.args.session.signals) before p c.next_pair.new.lines.left
+          ∙ ap (λ (ps : List PairRows). all_pair_lines (fine_signals c.args.session.signals) ps ++ c.next_pair.new.lines.left) (sym pairs);
       count = rw pairs (omega (arith, one, c.pairs.invariant.count));
       below = rw pairs (pairs_below before p c.pairs.least c.pairs.invariant.below c.in_ok-pair.ensures.least);
+      of_version = rw pairs (All-push (λ (q : PairRows). unsigned_abs q.group < group_limit c.args.version) before p c.pairs.invariant.of_version c.in_ok-pair.ensures.of_version);
       whole = rw pairs (All-push IsWholePair before p c.pairs.invariant.whole c.in_ok-pair.ensures.whole);
       scale = c.push.ensures.scale ∙ c.pairs.invariant.scale;
+      system = c.push.ensures.system ∙ c.pairs.invariant.system;
       base = c.push.ensures.base ∙ c.pairs.invariant.base;
       point = c.push.ensures.point ∙ c.pairs.invariant.point;
       signals = c.push.ensures.signals ∙ c.pairs.invariant.signals;

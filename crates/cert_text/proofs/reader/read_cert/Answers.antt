@@ -1,42 +1,28 @@
-use Rattle.std.proofs.Common.{◌≡◌, List, Result, Ok, Err, IfOk, ℕ, sym, ap, ◌∙◌, subst}
-use Rattle.line_source.specs.Lines.{Reading}
-use Rattle.cert_words.specs.Spelling.{text_of_lines}
-use Rattle.cert_words.specs.TextLines.{ended_lines}
-use Rattle.cert_words.proofs.TextLaws.{AreLines, text_of_ended}
+use Rattle.std.proofs.Common.{◌≡◌, List, Result, Ok, Err, IfOk, ℕ}
 use Rattle.rinex_head.specs.declared.place.TextFault.{TextFault}
+use Rattle.rinex_head.specs.declared.place.TextFault.TheVariants.{Refused, NoMemory}
+use Rattle.rinex_head.specs.Walk.{OnRefusal}
+use Rattle.cert_lines.specs.declared.version.Version.TheVariants.{Two}
 use Rattle.cert_data.specs.declared.certs.Cert.{Cert}
-use Rattle.cert_spelling.specs.Spelling.{lines_of_cert, spelling}
-use Rattle.rinex_head.specs.Walk.{rest_gives}
-use Rattle.rinex_head.proofs.Walks.{gives_same}
-use Rattle.cert_text.specs.Rules.{cert_rules, Form}
-use Rattle.cert_text.proofs.Accepted.{refused_text}
-use Rattle.cert_spelling.specs.Lengths.{IsWhole}
-use Rattle.cert_text.proofs.SameSpelling.{spelling_same}
-use Rattle.cert_text.proofs.FeedLaws.{cert_feed}
+use Rattle.cert_spelling.specs.Spelling.{spelling_as, spelling}
+use Rattle.cert_spelling.specs.Lengths.{IsWhole, IsCertificate}
+use Rattle.cert_spelling.specs.Editions.{IsOfVersion, IsCertificateAs}
+use Rattle.cert_text.proofs.Versions.{of_two}
 use Rattle.cert_text.proofs.reader.read_cert.Goals as goal
 
--- lines that spell a certificate are those of its text
-spelled : (text : List ℕ) (lines : List (List ℕ)) (r : Result Cert TextFault) → lines ≡ ended_lines text → IfOk r (λ c. lines ≡ lines_of_cert c) → IfOk r (λ c. text ≡ spelling c)
-unfolding spelling
-spelled text lines (Ok c) are took =
-    let same : ended_lines text ≡ lines_of_cert c = sym are ∙ took in
-    text_of_ended text (subst AreLines (sym same) (cert_feed c)) ∙ ap text_of_lines same
-spelled text lines (Err fault) are took = tt
+-- every certificate can be written in the form of the second version
+alone : (text : List ℕ) (r : Result Cert TextFault) → IfOk r (λ c. (d : Cert) → IsWhole d → IsOfVersion Two d → text ≡ spelling_as Two d → d ≡ c)
+    → IfOk r (λ c. (d : Cert) → IsWhole d → text ≡ spelling d → d ≡ c)
+alone text (Ok c) only = λ d whole is. only d whole (of_two d) is
+alone text (Err fault) only = tt
 
-pub returns-clause-ok : goal.returns-clause-ok
-returns-clause-ok c = spelled c.args.text.now c.new.result.left c.read_lines.result (ap (λ (r : Reading). r.left) c.new.ensures) c.read_lines.ensures.took
-
-pub returns-clause-refused : goal.returns-clause-refused
-returns-clause-refused c =
-    let text = c.args.text.now in
-    let whole = sym (ap (λ (r : Reading). rest_gives cert_rules r Form) c.new.ensures) in
-    refused_text text (λ x. tt) c.read_lines.result (gives_same _ _ (λ x. tt) c.read_lines.result whole c.read_lines.ensures.reads)
-
--- what is read is the only certificate with this spelling
-alone : (text : List ℕ) (r : Result Cert TextFault) → IfOk r (λ c. text ≡ spelling c) → IfOk r IsWhole → IfOk r (λ c. (d : Cert) → IsWhole d → text ≡ spelling d → d ≡ c)
-alone text (Ok c) ok whole = λ d other is. spelling_same d c other whole (sym is ∙ ok)
-alone text (Err fault) ok whole = tt
+no_other : (text : List ℕ) (r : Result Cert TextFault) → OnRefusal r (IsCertificateAs Two text → ⊥) → OnRefusal r (IsCertificate text → ⊥)
+no_other text (Ok c) none = tt
+no_other text (Err (Refused at)) none = λ is. none (record { cert = is.cert; whole = is.whole; of_version = of_two is.cert; spelled = is.spelled })
+no_other text (Err NoMemory) none = tt
 
 pub returns-clause-only : goal.returns-clause-only
-returns-clause-only c =
-    alone c.args.text.now c.read_lines.result (spelled c.args.text.now c.new.result.left c.read_lines.result (ap (λ (r : Reading). r.left) c.new.ensures) c.read_lines.ensures.took) c.read_lines.ensures.whole
+returns-clause-only c = alone c.args.text.now c.read_as.result c.read_as.ensures.only
+
+pub returns-clause-refused : goal.returns-clause-refused
+returns-clause-refused c = no_other c.args.text.now c.read_as.result c.read_as.ensures.refused

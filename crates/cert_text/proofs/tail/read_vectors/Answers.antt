@@ -1,63 +1,66 @@
-use Rattle.std.proofs.Common.{◌∙◌, refl, arith}
+use Rattle.std.proofs.Common.{◌∙◌, rules, arith}
 use Rattle.std.proofs.lemmas.Grind.{common_steps}
 use Rattle.std.proofs.lemmas.Result.{err_from_is_err_and}
-use Rattle.std.proofs.Common.{All, ◌^◌, rules}
-use Rattle.obs_rows.specs.Ranges.{IsBelow}
-use Rattle.cert_text.specs.Rules.{Second, Move, Values}
-use Rattle.cert_text.proofs.TailLaws.{word126, vectors_told, vectors_whole}
+use Rattle.cert_data.specs.Tails.{IsMove}
+use Rattle.cert_lines.proofs.TailLaws.{word126}
+use Rattle.cert_text.specs.Rules.{Second, Move, Values, Last, End}
+use Rattle.cert_text.proofs.LineLaws.{second_taken, move_taken, values_taken, last_taken}
+use Rattle.cert_text.proofs.TailLaws.{vectors_told, vectors_whole, vectors_column}
 use Rattle.cert_text.proofs.tail.read_vectors.Goals as goal
 
 pub returns-in_err-second-clause-reads : goal.returns-in_err-second-clause-reads
 returns-in_err-second-clause-reads c =
     let n = c.args.count in
     let p = err_from_is_err_and c.from_residual.result c.from_residual.ensures.1 in
-    rw (p.1, p.2) (c.in_err-second.ensures.reads (Second n) (λ z. Move) (record { admits = λ line. refl; ends = refl }))
+    rw (p.1, p.2) (c.in_err-second.ensures.reads (Second n) (λ z. Move) (second_taken n))
 
 pub returns-in_err-moved-clause-reads : goal.returns-in_err-moved-clause-reads
 returns-in_err-moved-clause-reads c =
     let n = c.args.count in
     let p = err_from_is_err_and c.from_residual-in_err-moved.result c.from_residual-in_err-moved.ensures.1 in
-    rw (p.1, p.2) (c.in_ok-second.ensures.reads (Second n) (λ z. Move) (record { admits = λ line. refl; ends = refl })
-    ∙ c.in_err-moved.ensures.reads (Move) (λ m. Values) (record { admits = λ line. refl; ends = refl }))
+    rw (p.1, p.2) (c.in_ok-second.ensures.reads (Second n) (λ z. Move) (second_taken n)
+    ∙ c.in_err-moved.ensures.reads Move (λ m. Values) move_taken)
 
 pub returns-in_err-values-clause-reads : goal.returns-in_err-values-clause-reads
 returns-in_err-values-clause-reads c =
     let n = c.args.count in
     let p = err_from_is_err_and c.from_residual-in_err-values.result c.from_residual-in_err-values.ensures.1 in
-    rw (p.1, p.2) (c.in_ok-second.ensures.reads (Second n) (λ z. Move) (record { admits = λ line. refl; ends = refl })
-    ∙ c.in_ok-moved.ensures.reads (Move) (λ m. Values) (record { admits = λ line. refl; ends = refl })
-    ∙ c.in_err-values.ensures.reads)
+    rw (p.1, p.2) (c.in_ok-second.ensures.reads (Second n) (λ z. Move) (second_taken n)
+    ∙ c.in_ok-moved.ensures.reads Move (λ m. Values) move_taken
+    ∙ c.in_err-values.ensures.reads Values (λ v. Last) values_taken)
 
 pub returns-in_err-fixed-clause-reads : goal.returns-in_err-fixed-clause-reads
 returns-in_err-fixed-clause-reads c =
     let n = c.args.count in
     let p = err_from_is_err_and c.from_residual-in_err-fixed.result c.from_residual-in_err-fixed.ensures.1 in
-    rw (p.1, p.2) (c.in_ok-second.ensures.reads (Second n) (λ z. Move) (record { admits = λ line. refl; ends = refl })
-    ∙ c.in_ok-moved.ensures.reads (Move) (λ m. Values) (record { admits = λ line. refl; ends = refl })
-    ∙ c.in_ok-values.ensures.reads
-    ∙ c.in_err-fixed.ensures.reads)
+    rw (p.1, p.2) (c.in_ok-second.ensures.reads (Second n) (λ z. Move) (second_taken n)
+    ∙ c.in_ok-moved.ensures.reads Move (λ m. Values) move_taken
+    ∙ c.in_ok-values.ensures.reads Values (λ v. Last) values_taken
+    ∙ c.in_err-fixed.ensures.reads Last (λ f. End) last_taken)
 
 pub returns-clause-reads : goal.returns-clause-reads
 returns-clause-reads c =
     let n = c.args.count in
-    c.in_ok-second.ensures.reads (Second n) (λ z. Move) (record { admits = λ line. refl; ends = refl })
-    ∙ c.in_ok-moved.ensures.reads (Move) (λ m. Values) (record { admits = λ line. refl; ends = refl })
-    ∙ c.in_ok-values.ensures.reads
-    ∙ c.in_ok-fixed.ensures.reads
+    c.in_ok-second.ensures.reads (Second n) (λ z. Move) (second_taken n)
+    ∙ c.in_ok-moved.ensures.reads Move (λ m. Values) move_taken
+    ∙ c.in_ok-values.ensures.reads Values (λ v. Last) values_taken
+    ∙ c.in_ok-fixed.ensures.reads Last (λ f. End) last_taken
 
 pub returns-clause-fits : goal.returns-clause-fits
-returns-clause-fits c = λ arcs budget is.
+returns-clause-fits c = λ ss arcs budget is.
     let v = c.in_ok-values.values in
-    let moved : All (IsBelow (2 ^ 46)) c.in_ok-moved.moved = search rules in
-    c.of_vectors.ensures.fits arcs budget (record {
-      h_to = c.in_ok-values.ensures.h;
+    let moved : IsMove c.in_ok-moved.moved = search rules in
+    c.of_vectors.ensures.fits ss arcs budget (record {
       moved_in = moved;
-      size = is;
-      first_in = c.requires.small;
-      second_in = c.in_ok-second.ensures.small;
-      p1_in = rw (word126 v.p1 c.in_ok-values.ensures.p1) c.in_ok-values.ensures.p1;
-      p2_in = rw (word126 v.p2 c.in_ok-values.ensures.p2) c.in_ok-values.ensures.p2;
-      top_in = rw (word126 v.top c.in_ok-values.ensures.top) c.in_ok-values.ensures.top;
+      values = record {
+        h_to = c.in_ok-values.ensures.h;
+        size = is;
+        first_in = c.requires.small;
+        second_in = c.in_ok-second.ensures.small;
+        p1_in = rw (word126 v.p1 c.in_ok-values.ensures.p1) c.in_ok-values.ensures.p1;
+        p2_in = rw (word126 v.p2 c.in_ok-values.ensures.p2) c.in_ok-values.ensures.p2;
+        top_in = rw (word126 v.top c.in_ok-values.ensures.top) c.in_ok-values.ensures.top;
+      };
     })
 
 pub returns-clause-took : goal.returns-clause-took
@@ -66,3 +69,6 @@ returns-clause-took c =
 
 pub returns-clause-whole : goal.returns-clause-whole
 returns-clause-whole c = vectors_whole c.in_ok-fixed.fixed _ _ _ _ c.of_vectors.result c.of_vectors.ensures.value (first_of (search rules, grind (arith, common_steps)))
+
+pub returns-clause-column : goal.returns-clause-column
+returns-clause-column c = λ version. vectors_column version c.in_ok-fixed.fixed _ _ _ _ c.of_vectors.result c.of_vectors.ensures.value

@@ -1,7 +1,8 @@
 use Rattle.std.proofs.Common.{◌≡◌, ℕ, ◌+◌, ◌*◌, ◌^◌, ◌<◌, ◌≤◌, ℤ, pos, ◌+ℤ◌, ◌*ℤ◌, unsigned_abs, arith, to_z, of_z, ap, ap₂, sym, ◌∙◌, subst}
 use Rattle.std.proofs.lemmas.Int.{ints}
 use Rattle.std.specs.Int.{w64, w128}
-use Rattle.obs_rows.specs.Tables.{entry}
+use Rattle.form_tables.specs.Tables.{entry}
+use Rattle.form_tables.specs.declared.sizes.TheConstants.{MOST_FORM_COLUMNS}
 use Rattle.decorrelate.specs.States.{item}
 use Rattle.decorrelate.specs.Moving.{taken}
 use Rattle.decorrelate.proofs.MovedRows.{taken_more}
@@ -16,7 +17,7 @@ as_small x h = omega (arith, ints)
 as_product : (x : ℤ) → unsigned_abs x ≤ 2 ^ 63 → to_z w128 (of_z w128 x) ≡ x
 as_product x h = omega (arith, ints)
 
-as_sum : (x y : ℤ) (c : ℕ) → c < 41 → unsigned_abs x ≤ c * 2 ^ 63 → unsigned_abs y ≤ 2 ^ 63 → to_z w128 (of_z w128 (x +ℤ y)) ≡ x +ℤ y
+as_sum : (x y : ℤ) (c : ℕ) → c < MOST_FORM_COLUMNS → unsigned_abs x ≤ c * 2 ^ 63 → unsigned_abs y ≤ 2 ^ 63 → to_z w128 (of_z w128 (x +ℤ y)) ≡ x +ℤ y
 as_sum x y c h g k = omega (arith, ints)
 
 sum_size : (x y : ℤ) (c : ℕ) → unsigned_abs x ≤ c * 2 ^ 63 → unsigned_abs y ≤ 2 ^ 63 → unsigned_abs (x +ℤ y) ≤ (c + 1) * 2 ^ 63
@@ -33,6 +34,8 @@ loop-c-preserved c =
     ap (λ z. to_z w128 (of_z w128 (s +ℤ z))) wp ∙ as_sum s c.product-sum.result i (omega (arith, c.requires.place)) c.loop-c.invariant.size c.product-sum.ensures.size in
     let v : c.product-sum.result ≡ item c.args.ks.now i *ℤ entry c.args.map.now c.args.row i = rw (c.at.ensures.value, ek, em) at c.product-sum.ensures.value in
     record {
-      value = ws ∙ ap₂ (λ x y. x +ℤ y) c.loop-c.invariant.value v ∙ sym (taken_more (pos 0) (item c.args.ks.now) (entry c.args.map.now c.args.row) 0 i ∙ ap (λ b. taken (pos 0) (item c.args.ks.now) (entry c.args.map.now c.args.row) 0 i +ℤ (item c.args.ks.now b *ℤ entry c.args.map.now c.args.row b)) (omega arith));
+      value = ws ∙ ap₂ (λ x y. x +ℤ y) c.loop-c.invariant.value v
+          ∙ sym (taken_more (pos 0) (item c.args.ks.now) (entry c.args.map.now c.args.row) 0 i
+          ∙ ap (λ b. taken (pos 0) (item c.args.ks.now) (entry c.args.map.now c.args.row) 0 i +ℤ (item c.args.ks.now b *ℤ entry c.args.map.now c.args.row b)) (omega arith));
       size = subst (λ (z : ℤ). unsigned_abs z ≤ (i + 1) * 2 ^ 63) (sym ws) (sum_size s c.product-sum.result i c.loop-c.invariant.size c.product-sum.ensures.size);
     }

@@ -1,7 +1,12 @@
 use Rattle.std.proofs.Common.{◌≡◌, List, ℤ, pos, arith, subst, sym}
-use Rattle.obs_rows.specs.Tables.{entry}
-use Rattle.obs_rows.proofs.TableLaws.{zero_entry}
+use Rattle.form_tables.specs.declared.sizes.TheConstants.{MOST_INTEGERS}
+use Rattle.form_tables.specs.Tables.{entry}
+use Rattle.form_tables.proofs.TableLaws.{zero_entry}
 use Rattle.decorrelate.proofs.unimodular.ones.Goals as goal
 
 pub loop-i-init : goal.loop-i-init
-loop-i-init c = record { own = λ k h. absurd (omega arith); others = λ k j _. subst (λ (m : List (List ℤ)). entry m k j ≡ pos 0) (sym c.zeros-map.ensures.zeros) (zero_entry 40 40 k j) }
+loop-i-init c = record {
+  own = λ k h. absurd (omega arith);
+  others =
+      λ k j _. subst (λ (m : List (List ℤ)). entry m k j ≡ pos 0) (sym c.zeros-map.ensures.zeros) (zero_entry MOST_INTEGERS MOST_INTEGERS k j);
+}

@@ -1,7 +1,7 @@
 use Rattle.std.proofs.Common.{◌≡◌, ◌+◌, ◌-ℤ◌, ◌≤◌, ◌^◌, ℤ, unsigned_abs, arith, to_z, of_z, FitsSigned}
 use Rattle.std.proofs.lemmas.Int.{ints, to_z-of_z}
 use Rattle.std.specs.Int.{w128}
-use Rattle.elimination.proofs.Words.{as_w128}
+use Rattle.form_tables.proofs.Words.{as_w128}
 use Rattle.elimination.proofs.entries.less_three.Goals as goal
 
 size_sub : (x y : ℤ) → unsigned_abs (x -ℤ y) ≤ unsigned_abs x + unsigned_abs y
@@ -23,12 +23,23 @@ returns-clause-value c =
     let en : to_z w128 (of_z w128 c.args.count) ≡ c.args.count = to_z-of_z w128 c.args.count c.ranges.count in
     let el : to_z w128 (of_z w128 c.args.loss) ≡ c.args.loss = to_z-of_z w128 c.args.loss c.ranges.loss in
     let h1 : unsigned_abs (c.args.entry -ℤ c.args.square) ≤ 2 ^ 106 = omega (arith, size_sub c.args.entry c.args.square, c.requires.entry_size, c.requires.square_size) in
-    let h2 : unsigned_abs ((c.args.entry -ℤ c.args.square) -ℤ c.args.count) ≤ 2 ^ 106 = size_two c.args.entry c.args.square c.args.count c.requires.entry_size c.requires.square_size c.requires.count_size in
-    let h3 : unsigned_abs (((c.args.entry -ℤ c.args.square) -ℤ c.args.count) -ℤ c.args.loss) ≤ 2 ^ 107 = size_three c.args.entry c.args.square c.args.count c.args.loss c.requires.entry_size c.requires.square_size c.requires.count_size c.requires.loss_size in
-    rw (ee, es, en, el, as_w128 (c.args.entry -ℤ c.args.square) (omega arith), as_w128 ((c.args.entry -ℤ c.args.square) -ℤ c.args.count) (omega arith), as_w128 (((c.args.entry -ℤ c.args.square) -ℤ c.args.count) -ℤ c.args.loss) (omega arith))
+    let h2 : unsigned_abs ((c.args.entry -ℤ c.args.square) -ℤ c.args.count) ≤ 2 ^ 106 =
+    size_two c.args.entry c.args.square c.args.count c.requires.entry_size c.requires.square_size c.requires.count_size in
+    let h3 : unsigned_abs (((c.args.entry -ℤ c.args.square) -ℤ c.args.count) -ℤ c.args.loss) ≤ 2 ^ 107 =
+    size_three c.args.entry c.args.square c.args.count c.args.loss c.requires.entry_size c.requires.square_size c.requires.count_size c.requires.loss_size in
+    rw (
+      ee,
+      es,
+      en,
+      el,
+      as_w128 (c.args.entry -ℤ c.args.square) (omega arith),
+      as_w128 ((c.args.entry -ℤ c.args.square) -ℤ c.args.count) (omega arith),
+      as_w128 (((c.args.entry -ℤ c.args.square) -ℤ c.args.count) -ℤ c.args.loss) (omega arith),
+    )
 
 pub returns-clause-size : goal.returns-clause-size
-returns-clause-size c = rw (returns-clause-value c) (size_three c.args.entry c.args.square c.args.count c.args.loss c.requires.entry_size c.requires.square_size c.requires.count_size c.requires.loss_size)
+returns-clause-size c = rw (returns-clause-value c)
+    (size_three c.args.entry c.args.square c.args.count c.args.loss c.requires.entry_size c.requires.square_size c.requires.count_size c.requires.loss_size)
 
 pub overflow_sub-result : goal.overflow_sub-result
 overflow_sub-result c =
@@ -37,6 +48,9 @@ overflow_sub-result c =
     let en : to_z w128 (of_z w128 c.args.count) ≡ c.args.count = to_z-of_z w128 c.args.count c.ranges.count in
     let el : to_z w128 (of_z w128 c.args.loss) ≡ c.args.loss = to_z-of_z w128 c.args.loss c.ranges.loss in
     let h1 : unsigned_abs (c.args.entry -ℤ c.args.square) ≤ 2 ^ 106 = omega (arith, size_sub c.args.entry c.args.square, c.requires.entry_size, c.requires.square_size) in
-    let h2 : unsigned_abs ((c.args.entry -ℤ c.args.square) -ℤ c.args.count) ≤ 2 ^ 106 = size_two c.args.entry c.args.square c.args.count c.requires.entry_size c.requires.square_size c.requires.count_size in
-    let h3 : unsigned_abs (((c.args.entry -ℤ c.args.square) -ℤ c.args.count) -ℤ c.args.loss) ≤ 2 ^ 107 = size_three c.args.entry c.args.square c.args.count c.args.loss c.requires.entry_size c.requires.square_size c.requires.count_size c.requires.loss_size in
-    rw (ee, es, en, el, as_w128 (c.args.entry -ℤ c.args.square) (omega arith), as_w128 ((c.args.entry -ℤ c.args.square) -ℤ c.args.count) (omega arith)) (fits (((c.args.entry -ℤ c.args.square) -ℤ c.args.count) -ℤ c.args.loss) (omega arith))
+    let h2 : unsigned_abs ((c.args.entry -ℤ c.args.square) -ℤ c.args.count) ≤ 2 ^ 106 =
+    size_two c.args.entry c.args.square c.args.count c.requires.entry_size c.requires.square_size c.requires.count_size in
+    let h3 : unsigned_abs (((c.args.entry -ℤ c.args.square) -ℤ c.args.count) -ℤ c.args.loss) ≤ 2 ^ 107 =
+    size_three c.args.entry c.args.square c.args.count c.args.loss c.requires.entry_size c.requires.square_size c.requires.count_size c.requires.loss_size in
+    rw (ee, es, en, el, as_w128 (c.args.entry -ℤ c.args.square) (omega arith), as_w128 ((c.args.entry -ℤ c.args.square) -ℤ c.args.count) (omega arith))
+    (fits (((c.args.entry -ℤ c.args.square) -ℤ c.args.count) -ℤ c.args.loss) (omega arith))

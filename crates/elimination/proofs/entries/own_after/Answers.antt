@@ -2,7 +2,7 @@ use Rattle.std.proofs.Common.{◌≡◌, ◌-ℤ◌, ◌*ℤ◌, ◌^◌, unsign
 use Rattle.std.proofs.lemmas.Int.{to_z-of_z}
 use Rattle.std.specs.Int.{w128}
 use Rattle.whole_math.specs.Rounding.{ceil_div}
-use Rattle.elimination.proofs.Words.{as_w128}
+use Rattle.form_tables.proofs.Words.{as_w128}
 use Rattle.elimination.proofs.entries.own_after.Goals as goal
 
 pub returns-clause-value : goal.returns-clause-value
@@ -19,4 +19,5 @@ returns-clause-value c =
     let q : c.ceil.result ≡ ceil_div c.product.result (unsigned_abs c.args.a) = rw (wp, ea) at c.ceil.ensures.value in
     let f : c.factor_loss.result ≡ ceil_div (c.args.count *ℤ c.args.a) (2 ^ 42) = rw (en, ea) at c.factor_loss.ensures.value in
     let l : c.less_three.result ≡ ((c.args.entry -ℤ c.ceil.result) -ℤ c.args.count) -ℤ c.factor_loss.result = rw (ee, wc, en, wf) at c.less_three.ensures.value in
-    wl ∙ l ∙ ap (λ z. ((c.args.entry -ℤ z) -ℤ c.args.count) -ℤ c.factor_loss.result) (q ∙ ap (λ z. ceil_div z (unsigned_abs c.args.a)) p) ∙ ap (λ z. ((c.args.entry -ℤ ceil_div (c.args.p *ℤ c.args.p) (unsigned_abs c.args.a)) -ℤ c.args.count) -ℤ z) f
+    wl ∙ l ∙ ap (λ z. ((c.args.entry -ℤ z) -ℤ c.args.count) -ℤ c.factor_loss.result) (q ∙ ap (λ z. ceil_div z (unsigned_abs c.args.a)) p)
+    ∙ ap (λ z. ((c.args.entry -ℤ ceil_div (c.args.p *ℤ c.args.p) (unsigned_abs c.args.a)) -ℤ c.args.count) -ℤ z) f

@@ -1,7 +1,7 @@
 use Rattle.std.proofs.Common.{◌≡◌, ℕ, ◌-◌, ◌<◌, ◌≤◌, ◌^◌, ℤ, pos, true, false, unsigned_abs, arith, to_z, of_z, sym, ap, ◌∙◌, subst, below_more}
 use Rattle.std.proofs.lemmas.Int.{to_z-of_z}
 use Rattle.std.specs.Int.{w128}
-use Rattle.obs_rows.specs.Tables.{entry}
+use Rattle.form_tables.specs.Tables.{entry}
 use Rattle.elimination.specs.StepEntries.{is_small, new_entry}
 use Rattle.elimination.proofs.NewEntries.{new_same}
 use Rattle.elimination.proofs.step.update.Goals as goal
@@ -10,7 +10,8 @@ pub update_row-requires-clause-pivots : goal.update_row-requires-clause-pivots
 update_row-requires-clause-pivots c = λ k h g. subst (λ (z : ℤ). unsigned_abs z ≤ 2 ^ 52) (sym (c.loop-r.invariant.before c.args.j k (omega arith))) (c.requires.pivots k h g)
 
 pub update_row-requires-clause-entries : goal.update_row-requires-clause-entries
-update_row-requires-clause-entries c = λ k h g. subst (λ (z : ℤ). unsigned_abs z ≤ 2 ^ 52) (sym (c.loop-r.invariant.rest c.loop-r.r k (omega arith))) (c.requires.entries c.loop-r.r k c.loop-r.invariant.from h g)
+update_row-requires-clause-entries c = λ k h g. subst (λ (z : ℤ). unsigned_abs z ≤ 2 ^ 52) (sym (c.loop-r.invariant.rest c.loop-r.r k (omega arith)))
+    (c.requires.entries c.loop-r.r k c.loop-r.invariant.from h g)
 
 pub loop-r-preserved : goal.loop-r-preserved
 loop-r-preserved c =
@@ -18,7 +19,8 @@ loop-r-preserved c =
     let j : ℕ = c.args.j in
     let a : ℕ = unsigned_abs (to_z w128 (of_z w128 c.args.a)) in
     let n : ℤ = pos ((c.args.columns - c.args.j) - 1) in
-    let same : (k : ℕ) → new_entry c.loop-r.table j a n r k ≡ new_entry c.args.table.now j a n r k = λ k. new_same c.args.table.now c.loop-r.table j a n r k (λ q. c.loop-r.invariant.rest r q (omega arith)) (λ q. c.loop-r.invariant.before j q (omega arith)) in
+    let same : (k : ℕ) → new_entry c.loop-r.table j a n r k ≡ new_entry c.args.table.now j a n r k =
+    λ k. new_same c.args.table.now c.loop-r.table j a n r k (λ q. c.loop-r.invariant.rest r q (omega arith)) (λ q. c.loop-r.invariant.before j q (omega arith)) in
     let done : c.update_row.result ≡ true = c.if-not-update_row.false in
     record {
       from = omega (arith, c.loop-r.invariant.from);
@@ -38,7 +40,8 @@ returns-then-not-update_row-clause-refused c =
     let ea : to_z w128 (of_z w128 c.args.a) ≡ c.args.a = to_z-of_z w128 c.args.a c.ranges.a in
     let w = c.update_row.ensures.refused c.if-not-update_row.true in
     let same : new_entry c.loop-r.table j (unsigned_abs (to_z w128 (of_z w128 c.args.a))) n r w.0 ≡ new_entry c.args.table.now j (unsigned_abs c.args.a) n r w.0 =
-    new_same c.args.table.now c.loop-r.table j (unsigned_abs (to_z w128 (of_z w128 c.args.a))) n r w.0 (λ q. c.loop-r.invariant.rest r q (omega arith)) (λ q. c.loop-r.invariant.before j q (omega arith)) ∙ ap (λ z. new_entry c.args.table.now j (unsigned_abs z) n r w.0) ea in
+    new_same c.args.table.now c.loop-r.table j (unsigned_abs (to_z w128 (of_z w128 c.args.a))) n r w.0 (λ q. c.loop-r.invariant.rest r q (omega arith))
+    (λ q. c.loop-r.invariant.before j q (omega arith)) ∙ ap (λ z. new_entry c.args.table.now j (unsigned_abs z) n r w.0) ea in
     λ e. (r, w.0, (c.loop-r.invariant.from, w.1.0, w.1.1, subst (λ (z : ℤ). is_small z ≡ false) same w.1.2))
 
 pub returns-clause-value : goal.returns-clause-value

@@ -1,9 +1,9 @@
 use Rattle.std.proofs.Common.{◌≡◌, ◌≢◌, inl, inr, ⊎_elim, ℕ, ◌-◌, ◌<◌, ◌≤◌, ◌^◌, ℤ, pos, ◌<ℤ◌, true, false, unsigned_abs, arith, to_z, of_z, sym, ap, ◌∙◌, subst}
 use Rattle.std.proofs.lemmas.Int.{to_z-of_z}
 use Rattle.std.specs.Int.{w128}
-use Rattle.obs_rows.specs.Tables.{entry}
+use Rattle.form_tables.specs.Tables.{entry}
 use Rattle.elimination.specs.StepEntries.{is_small, own_entry, other_entry, new_entry}
-use Rattle.elimination.proofs.Words.{as_w128}
+use Rattle.form_tables.proofs.Words.{as_w128}
 use Rattle.elimination.proofs.NewEntries.{new_own, new_other, other_same, own_is, positive_is, count_word, from_own}
 use Rattle.elimination.proofs.step.update_row.Goals as goal
 
@@ -21,9 +21,12 @@ returns-clause-value c =
     let ea : to_z w128 (of_z w128 c.args.a) ≡ c.args.a = to_z-of_z w128 c.args.a c.ranges.a in
     let wf : to_z w128 (of_z w128 f) ≡ f = as_w128 f (omega (arith, c.own_after-own.ensures.size)) in
     let x : to_z w128 (of_z w128 c.at.result) ≡ entry c.args.table.now r r = read c.at.result (entry c.args.table.now r r) c.at.ensures.value (c.requires.entries r (omega arith) c.requires.row_in) in
-    let p : to_z w128 (of_z w128 c.at-2.result) ≡ entry c.args.table.now j r = read c.at-2.result (entry c.args.table.now j r) c.at-2.ensures.value (c.requires.pivots r c.requires.row c.requires.row_in) in
+    let p : to_z w128 (of_z w128 c.at-2.result) ≡ entry c.args.table.now j r =
+    read c.at-2.result (entry c.args.table.now j r) c.at-2.ensures.value (c.requires.pivots r c.requires.row c.requires.row_in) in
     let pa : a ≡ pos (unsigned_abs a) = positive_is a (subst (λ (z : ℤ). pos 0 <ℤ z) (sym ea) c.requires.positive) in
-    let raw : f ≡ own_entry c.args.table.now j (unsigned_abs a) (pos m) r = own_is (to_z w128 (of_z w128 c.at.result)) (to_z w128 (of_z w128 c.at-2.result)) (to_z w128 m) a c.args.table.now j r m f x p (count_word m (omega (arith, c.requires.columns_in))) pa c.own_after-own.ensures.value in
+    let raw : f ≡ own_entry c.args.table.now j (unsigned_abs a) (pos m) r =
+    own_is (to_z w128 (of_z w128 c.at.result)) (to_z w128 (of_z w128 c.at-2.result)) (to_z w128 m) a c.args.table.now j r m f x p
+    (count_word m (omega (arith, c.requires.columns_in))) pa c.own_after-own.ensures.value in
     let is : f ≡ own_entry c.args.table.now j (unsigned_abs c.args.a) (pos m) r = raw ∙ ap (λ z. own_entry c.args.table.now j (unsigned_abs z) (pos m) r) ea in
     let apart : j ≢ r = omega (arith, c.requires.row) in
     let others : (k : ℕ) → r < k → other_entry c.set.new.self j (unsigned_abs a) r k ≡ new_entry c.args.table.now j (unsigned_abs c.args.a) (pos m) r k = λ k h.
@@ -45,9 +48,12 @@ returns-clause-small c =
     let ea : to_z w128 (of_z w128 c.args.a) ≡ c.args.a = to_z-of_z w128 c.args.a c.ranges.a in
     let wf : to_z w128 (of_z w128 f) ≡ f = as_w128 f (omega (arith, c.own_after-own.ensures.size)) in
     let x : to_z w128 (of_z w128 c.at.result) ≡ entry c.args.table.now r r = read c.at.result (entry c.args.table.now r r) c.at.ensures.value (c.requires.entries r (omega arith) c.requires.row_in) in
-    let p : to_z w128 (of_z w128 c.at-2.result) ≡ entry c.args.table.now j r = read c.at-2.result (entry c.args.table.now j r) c.at-2.ensures.value (c.requires.pivots r c.requires.row c.requires.row_in) in
+    let p : to_z w128 (of_z w128 c.at-2.result) ≡ entry c.args.table.now j r =
+    read c.at-2.result (entry c.args.table.now j r) c.at-2.ensures.value (c.requires.pivots r c.requires.row c.requires.row_in) in
     let pa : a ≡ pos (unsigned_abs a) = positive_is a (subst (λ (z : ℤ). pos 0 <ℤ z) (sym ea) c.requires.positive) in
-    let raw : f ≡ own_entry c.args.table.now j (unsigned_abs a) (pos m) r = own_is (to_z w128 (of_z w128 c.at.result)) (to_z w128 (of_z w128 c.at-2.result)) (to_z w128 m) a c.args.table.now j r m f x p (count_word m (omega (arith, c.requires.columns_in))) pa c.own_after-own.ensures.value in
+    let raw : f ≡ own_entry c.args.table.now j (unsigned_abs a) (pos m) r =
+    own_is (to_z w128 (of_z w128 c.at.result)) (to_z w128 (of_z w128 c.at-2.result)) (to_z w128 m) a c.args.table.now j r m f x p
+    (count_word m (omega (arith, c.requires.columns_in))) pa c.own_after-own.ensures.value in
     let is : f ≡ own_entry c.args.table.now j (unsigned_abs c.args.a) (pos m) r = raw ∙ ap (λ z. own_entry c.args.table.now j (unsigned_abs z) (pos m) r) ea in
     let apart : j ≢ r = omega (arith, c.requires.row) in
     let others : (k : ℕ) → r < k → other_entry c.set.new.self j (unsigned_abs a) r k ≡ new_entry c.args.table.now j (unsigned_abs c.args.a) (pos m) r k = λ k h.
@@ -70,9 +76,12 @@ returns-clause-refused c =
     let ea : to_z w128 (of_z w128 c.args.a) ≡ c.args.a = to_z-of_z w128 c.args.a c.ranges.a in
     let wf : to_z w128 (of_z w128 f) ≡ f = as_w128 f (omega (arith, c.own_after-own.ensures.size)) in
     let x : to_z w128 (of_z w128 c.at.result) ≡ entry c.args.table.now r r = read c.at.result (entry c.args.table.now r r) c.at.ensures.value (c.requires.entries r (omega arith) c.requires.row_in) in
-    let p : to_z w128 (of_z w128 c.at-2.result) ≡ entry c.args.table.now j r = read c.at-2.result (entry c.args.table.now j r) c.at-2.ensures.value (c.requires.pivots r c.requires.row c.requires.row_in) in
+    let p : to_z w128 (of_z w128 c.at-2.result) ≡ entry c.args.table.now j r =
+    read c.at-2.result (entry c.args.table.now j r) c.at-2.ensures.value (c.requires.pivots r c.requires.row c.requires.row_in) in
     let pa : a ≡ pos (unsigned_abs a) = positive_is a (subst (λ (z : ℤ). pos 0 <ℤ z) (sym ea) c.requires.positive) in
-    let raw : f ≡ own_entry c.args.table.now j (unsigned_abs a) (pos m) r = own_is (to_z w128 (of_z w128 c.at.result)) (to_z w128 (of_z w128 c.at-2.result)) (to_z w128 m) a c.args.table.now j r m f x p (count_word m (omega (arith, c.requires.columns_in))) pa c.own_after-own.ensures.value in
+    let raw : f ≡ own_entry c.args.table.now j (unsigned_abs a) (pos m) r =
+    own_is (to_z w128 (of_z w128 c.at.result)) (to_z w128 (of_z w128 c.at-2.result)) (to_z w128 m) a c.args.table.now j r m f x p
+    (count_word m (omega (arith, c.requires.columns_in))) pa c.own_after-own.ensures.value in
     let is : f ≡ own_entry c.args.table.now j (unsigned_abs c.args.a) (pos m) r = raw ∙ ap (λ z. own_entry c.args.table.now j (unsigned_abs z) (pos m) r) ea in
     let apart : j ≢ r = omega (arith, c.requires.row) in
     let others : (k : ℕ) → r < k → other_entry c.set.new.self j (unsigned_abs a) r k ≡ new_entry c.args.table.now j (unsigned_abs c.args.a) (pos m) r k = λ k h.
@@ -93,9 +102,12 @@ returns-then-not-is_small-clause-refused c =
     let ea : to_z w128 (of_z w128 c.args.a) ≡ c.args.a = to_z-of_z w128 c.args.a c.ranges.a in
     let wf : to_z w128 (of_z w128 f) ≡ f = as_w128 f (omega (arith, c.own_after-own.ensures.size)) in
     let x : to_z w128 (of_z w128 c.at.result) ≡ entry c.args.table.now r r = read c.at.result (entry c.args.table.now r r) c.at.ensures.value (c.requires.entries r (omega arith) c.requires.row_in) in
-    let p : to_z w128 (of_z w128 c.at-2.result) ≡ entry c.args.table.now j r = read c.at-2.result (entry c.args.table.now j r) c.at-2.ensures.value (c.requires.pivots r c.requires.row c.requires.row_in) in
+    let p : to_z w128 (of_z w128 c.at-2.result) ≡ entry c.args.table.now j r =
+    read c.at-2.result (entry c.args.table.now j r) c.at-2.ensures.value (c.requires.pivots r c.requires.row c.requires.row_in) in
     let pa : a ≡ pos (unsigned_abs a) = positive_is a (subst (λ (z : ℤ). pos 0 <ℤ z) (sym ea) c.requires.positive) in
-    let raw : f ≡ own_entry c.args.table.now j (unsigned_abs a) (pos m) r = own_is (to_z w128 (of_z w128 c.at.result)) (to_z w128 (of_z w128 c.at-2.result)) (to_z w128 m) a c.args.table.now j r m f x p (count_word m (omega (arith, c.requires.columns_in))) pa c.own_after-own.ensures.value in
+    let raw : f ≡ own_entry c.args.table.now j (unsigned_abs a) (pos m) r =
+    own_is (to_z w128 (of_z w128 c.at.result)) (to_z w128 (of_z w128 c.at-2.result)) (to_z w128 m) a c.args.table.now j r m f x p
+    (count_word m (omega (arith, c.requires.columns_in))) pa c.own_after-own.ensures.value in
     let is : f ≡ own_entry c.args.table.now j (unsigned_abs c.args.a) (pos m) r = raw ∙ ap (λ z. own_entry c.args.table.now j (unsigned_abs z) (pos m) r) ea in
     let s : is_small f ≡ false = ap (λ z. is_small z) (sym wf) ∙ sym c.is_small.ensures ∙ c.if-not-is_small.true in
     λ e. (r, (omega arith, c.requires.row_in, subst (λ (z : ℤ). is_small z ≡ false) (is ∙ sym (new_own c.args.table.now j (unsigned_abs c.args.a) (pos m) r)) s))

@@ -2,9 +2,9 @@ use Rattle.std.proofs.Common.{◌≡◌, ◌≢◌, ◌⊎◌, inl, inr, ℕ, �
 use Rattle.std.proofs.lemmas.Int.{to_z-of_z}
 use Rattle.std.specs.Int.{w64, w128}
 use Rattle.whole_math.specs.Rounding.{nearest_div}
-use Rattle.obs_rows.specs.Tables.{entry}
+use Rattle.form_tables.specs.Tables.{entry}
 use Rattle.elimination.specs.StepEntries.{is_small, factor_entry}
-use Rattle.elimination.proofs.Words.{as_w64, as_w128}
+use Rattle.form_tables.proofs.Words.{as_w64, as_w128}
 use Rattle.elimination.proofs.SmallEntries.{small_size}
 use Rattle.elimination.proofs.step.write_factors.Goals as goal
 
@@ -24,8 +24,10 @@ loop-c-preserved c =
     let there : entry c.set.new.self k j ≡ factor_entry c.args.table.now j n k = c.set.ensures.there ∙ w ∙ is in
     record {
       from = omega (arith, c.loop-c.invariant.from);
-      value = λ m h g. below_more (λ (m : ℕ). j < m → entry c.set.new.self m j ≡ factor_entry c.args.table.now j n m) k (λ m g h. c.set.ensures.others m j (inl (omega arith)) ∙ c.loop-c.invariant.value m h g) (λ h. there) m g h;
-      small = λ m h g. below_more (λ (m : ℕ). j < m → is_small (factor_entry c.args.table.now j n m) ≡ true) k (λ m g h. c.loop-c.invariant.small m h g) (λ h. subst (λ (z : ℤ). is_small z ≡ true) is s) m g h;
+      value = λ m h g. below_more (λ (m : ℕ). j < m → entry c.set.new.self m j ≡ factor_entry c.args.table.now j n m) k
+          (λ m g h. c.set.ensures.others m j (inl (omega arith)) ∙ c.loop-c.invariant.value m h g) (λ h. there) m g h;
+      small = λ m h g. below_more (λ (m : ℕ). j < m → is_small (factor_entry c.args.table.now j n m) ≡ true) k (λ m g h. c.loop-c.invariant.small m h g)
+          (λ h. subst (λ (z : ℤ). is_small z ≡ true) is s) m g h;
       others = λ i m d. c.set.ensures.others i m (apart i m j k c.args.columns c.loop-c.invariant.from c.loop-c-test.true d) ∙ c.loop-c.invariant.others i m d;
     }
   where

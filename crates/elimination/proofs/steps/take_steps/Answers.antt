@@ -1,14 +1,15 @@
-use Rattle.std.proofs.Common.{◌≡◌, ◌≢◌, ◌⊎◌, inl, inr, ℕ, suc, ◌+◌, ◌-◌, ◌<◌, ◌≤◌, ◌^◌, List, [], ◌∷◌, ◌++◌, length, set, ℤ, pos, Result, Err, unsigned_abs, slice_index_or, get_or-set_same, get_or-set_other, length-set, arith, to_z, of_z, sym, ap, ap₂, ◌∙◌, subst, rules}
+use Rattle.std.proofs.Common.{◌≡◌, ◌≢◌, ◌⊎◌, inl, inr, ℕ, suc, ◌+◌, ◌-◌, ◌<◌, ◌≤◌, ◌^◌, List, [], ◌∷◌, ◌++◌, length, set, ℤ, pos, Result, Err, unsigned_abs, slice_index_or}
+use Rattle.std.proofs.Common.{get_or-set_same, get_or-set_other, length-set, arith, to_z, of_z, sym, ap, ap₂, ◌∙◌, subst, rules}
 use Rattle.std.specs.Int.{w64, w128}
 use Rattle.quadratic_form.specs.Forms.{Column}
 use Rattle.quadratic_form.specs.Elimination.{Factor, Refusal, steps}
 use Rattle.quadratic_form.specs.Places.{form_from}
-use Rattle.obs_rows.specs.Tables.{entry}
+use Rattle.form_tables.specs.Tables.{entry}
 use Rattle.elimination.specs.Stops.{refusal_of, column_at, form_after}
 use Rattle.integer_form.specs.Factors.{factor_at}
 use Rattle.integer_form.specs.Factors.{stored}
 use Rattle.elimination.specs.Taken.{before}
-use Rattle.elimination.proofs.Words.{as_w64, as_w128}
+use Rattle.form_tables.proofs.Words.{as_w64, as_w128}
 use Rattle.elimination.proofs.StoredLaws.{before_last, before_ok, before_err, stored_last, steps_ok, steps_err}
 use Rattle.integer_form.proofs.StoredPlaces.{stored_same}
 use Rattle.elimination.proofs.steps.take_steps.Goals as goal
@@ -26,11 +27,14 @@ returns-in-Err-clause-refused c =
     let e1 : c.args.columns - j ≡ suc n = omega (arith, c.loop-j-test.true, c.requires.end_in) in
     let e2 : c.args.end - j ≡ suc left = omega (arith, c.loop-j-test.true) in
     let fs : List Factor = stored c.loop-j.kept c.loop-j.factors c.args.columns from (j - from) in
-    let open_it : steps j (c.args.end - j) (form_from (entry c.loop-j.table) j (c.args.columns - j)) ≡ steps j (suc left) (column_at c.loop-j.table j n ∷ form_after c.loop-j.table j n) = ap₂ (λ (a b : ℕ). steps j a (form_from (entry c.loop-j.table) j b)) e2 e1 in
+    let open_it : steps j (c.args.end - j) (form_from (entry c.loop-j.table) j (c.args.columns - j)) ≡ steps j (suc left) (column_at c.loop-j.table j n ∷ form_after c.loop-j.table j n) =
+    ap₂ (λ (a b : ℕ). steps j a (form_from (entry c.loop-j.table) j b)) e2 e1 in
     let size : unsigned_abs (entry c.loop-j.table j j) ≤ 2 ^ 52 = c.loop-j.invariant.entries j j (omega arith) (omega arith) (omega (arith, c.loop-j-test.true, c.requires.end_in)) in
-    let ep : to_z w128 (of_z w128 c.at-pivot.result) ≡ entry c.loop-j.table j j = as_w128 c.at-pivot.result (omega (arith, subst (λ (z : ℤ). unsigned_abs z ≤ 2 ^ 52) (sym c.at-pivot.ensures.value) size)) ∙ c.at-pivot.ensures.value in
+    let ep : to_z w128 (of_z w128 c.at-pivot.result) ≡ entry c.loop-j.table j j =
+    as_w128 c.at-pivot.result (omega (arith, subst (λ (z : ℤ). unsigned_abs z ≤ 2 ^ 52) (sym c.at-pivot.ensures.value) size)) ∙ c.at-pivot.ensures.value in
     let no = refusal_of j (entry c.loop-j.table j j) c.in-Err.stop in
-    c.loop-j.invariant.so_far ∙ ap (λ (x : Answer). before fs x) (open_it ∙ steps_err j left (column_at c.loop-j.table j n) (form_after c.loop-j.table j n) no c.in-Err.ensures.refused) ∙ before_err fs no
+    c.loop-j.invariant.so_far ∙ ap (λ (x : Answer). before fs x) (open_it ∙ steps_err j left (column_at c.loop-j.table j n) (form_after c.loop-j.table j n) no c.in-Err.ensures.refused)
+    ∙ before_err fs no
     ∙ ap (λ (z : ℤ). let x : Answer = Err (refusal_of j z c.in-Err.stop) in x) (sym ep)
 
 pub loop-j-preserved : goal.loop-j-preserved
@@ -43,7 +47,8 @@ loop-j-preserved c =
     let e1 : c.args.columns - j ≡ suc n = omega (arith, c.loop-j-test.true, c.requires.end_in) in
     let e2 : c.args.end - j ≡ suc left = omega (arith, c.loop-j-test.true) in
     let fs : List Factor = stored c.loop-j.kept c.loop-j.factors c.args.columns from (j - from) in
-    let open_it : steps j (c.args.end - j) (form_from (entry c.loop-j.table) j (c.args.columns - j)) ≡ steps j (suc left) (column_at c.loop-j.table j n ∷ form_after c.loop-j.table j n) = ap₂ (λ (a b : ℕ). steps j a (form_from (entry c.loop-j.table) j b)) e2 e1 in
+    let open_it : steps j (c.args.end - j) (form_from (entry c.loop-j.table) j (c.args.columns - j)) ≡ steps j (suc left) (column_at c.loop-j.table j n ∷ form_after c.loop-j.table j n) =
+    ap₂ (λ (a b : ℕ). steps j a (form_from (entry c.loop-j.table) j b)) e2 e1 in
     let d : ℤ = c.in-Ok.d in
     let v : ℤ = to_z w64 (of_z w64 (to_z w128 (of_z w128 d))) in
     let ev : v ≡ d = ap (λ z. to_z w64 (of_z w64 z)) (as_w128 d (omega (arith, c.in-Ok.ensures.size))) ∙ as_w64 d (omega (arith, c.in-Ok.ensures.size)) in
@@ -55,17 +60,21 @@ loop-j-preserved c =
     let room : j < length c.loop-j.kept = omega (arith, c.loop-j.invariant.full, c.loop-j-test.true, c.requires.end_in, c.requires.columns_in) in
     let here : slice_index_or kept j (pos 0) ≡ d = get_or-set_same c.loop-j.kept j v (pos 0) room ∙ ev in
     let rest : Answer = steps (suc j) left (form_after t j n) in
-    let same : stored kept f c.args.columns from count ≡ fs = stored_same kept c.loop-j.kept f c.loop-j.factors c.args.columns from count (λ i a b. get_or-set_other c.loop-j.kept j i v (pos 0) (omega arith)) (λ r i a b. c.in-Ok.ensures.others r i (inl (omega arith))) in
+    let same : stored kept f c.args.columns from count ≡ fs =
+    stored_same kept c.loop-j.kept f c.loop-j.factors c.args.columns from count (λ i a b. get_or-set_other c.loop-j.kept j i v (pos 0) (omega arith))
+    (λ r i a b. c.in-Ok.ensures.others r i (inl (omega arith))) in
     let more : stored kept f c.args.columns from (suc count) ≡ fs ++ (factor_at d f j n ∷ []) = stored_last kept f c.args.columns from count
     ∙ ap (λ (m : ℕ). stored kept f c.args.columns from count ++ (factor_at (slice_index_or kept m (pos 0)) f m ((c.args.columns - m) - 1) ∷ [])) place
     ∙ ap₂ (λ (s : List Factor) (z : ℤ). s ++ (factor_at z f j n ∷ [])) same here in
-    let result : before (stored kept f c.args.columns from (suc count)) rest ≡ before (stored kept f c.args.columns from ((j + 1) - from)) (steps (j + 1) (c.args.end - (j + 1)) (form_from (entry t) (j + 1) (c.args.columns - (j + 1)))) =
+    let result : before (stored kept f c.args.columns from (suc count)) rest ≡ before (stored kept f c.args.columns from ((j + 1) - from))
+    (steps (j + 1) (c.args.end - (j + 1)) (form_from (entry t) (j + 1) (c.args.columns - (j + 1)))) =
     ap (λ (m : ℕ). before (stored kept f c.args.columns from m) rest) (next_count j from low)
     ∙ ap (λ (m : ℕ). before (stored kept f c.args.columns from ((j + 1) - from)) (steps m left (form_from (entry t) m n))) (next_place j)
     ∙ ap₂ (λ (a b : ℕ). before (stored kept f c.args.columns from ((j + 1) - from)) (steps (j + 1) a (form_from (entry t) (j + 1) b))) (later c.args.end j) (later c.args.columns j) in
     record {
       full = length-set c.loop-j.kept j v ∙ c.loop-j.invariant.full;
-      so_far = c.loop-j.invariant.so_far ∙ ap (λ (x : Answer). before fs x) (open_it ∙ steps_ok j left (column_at c.loop-j.table j n) (form_after c.loop-j.table j n) (factor_at d f j n, form_after t j n) c.in-Ok.ensures.taken)
+      so_far = c.loop-j.invariant.so_far ∙ ap (λ (x : Answer). before fs x)
+          (open_it ∙ steps_ok j left (column_at c.loop-j.table j n) (form_after c.loop-j.table j n) (factor_at d f j n, form_after t j n) c.in-Ok.ensures.taken)
           ∙ sym (before_last fs (factor_at d f j n) rest) ∙ ap (λ (s : List Factor). before s rest) (sym more) ∙ result;
       factors_outside = λ r i d. c.in-Ok.ensures.others r i (outside from j c.args.end c.args.columns r i low c.loop-j-test.true d) ∙ c.loop-j.invariant.factors_outside r i d;
       kept_outside = λ i d. get_or-set_other c.loop-j.kept j i v (pos 0) (apart from j c.args.end i low c.loop-j-test.true d) ∙ c.loop-j.invariant.kept_outside i d;

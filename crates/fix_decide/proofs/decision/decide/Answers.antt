@@ -1,14 +1,16 @@
-use Rattle.std.proofs.Common.{◌≡◌, ℕ, ◌^◌, ◌≤◌, List, length, All, ℤ, pos, ◌≤ℤ◌, ◌<ℤ◌, IsTrue, FitsSigned, to_z, of_z, arith, sym, ap, ◌∙◌, refl, subst, rules}
+use Rattle.std.proofs.Common.{◌≡◌, ℕ, ◌^◌, ◌≤◌, List, length, All, ℤ, pos, ◌*ℤ◌, ◌≤ℤ◌, ◌<ℤ◌, IsTrue, FitsSigned, to_z, of_z, arith, sym, ap, ◌∙◌, refl, subst, rules}
 use Rattle.std.proofs.lemmas.Bool.{false≢true}
 use Rattle.std.proofs.lemmas.Int.{ints}
 use Rattle.std.proofs.lemmas.Result.{err_from_is_err_and}
 use Rattle.std.specs.Int.{w128}
 use Rattle.std.specs.Prelude.{IsErrAnd}
 use Rattle.obs_rows.specs.Ranges.{IsBelow}
+use Rattle.obs_rows.specs.Signals.{fine_signals, counted}
 use Rattle.obs_rows.specs.Integers.{integer_count}
 use Rattle.integer_form.specs.declared.faults.Overwidth.{Overwidth}
 use Rattle.integer_form.specs.declared.faults.Place.TheVariants.{Sum}
 use Rattle.integer_form.specs.Forms.{columns_of, value_of}
+use Rattle.fix_decide.specs.Bounds.{StaysAtMost}
 use Rattle.fix_decide.specs.Widths.{AreWide}
 use Rattle.fix_decide.specs.Decisions.{IsSeparated, first_of, second_of, move_of}
 use Rattle.fix_decide.proofs.Words.{small_w128}
@@ -23,7 +25,7 @@ own_word x h = omega (arith, ints)
 small : (x : ℤ) → x <ℤ pos (2 ^ 54) → x ≤ℤ pos (2 ^ 62)
 small x h = omega (arith, ints)
 
-weaker : (x : ℤ) → x ≤ℤ pos (2 ^ 118) → x ≤ℤ pos (2 ^ 126)
+weaker : (x : ℤ) → x ≤ℤ pos (2 ^ 119) → x ≤ℤ pos (2 ^ 126)
 weaker x h = omega (arith, ints)
 
 at_least : (n : ℕ) → 1000 ≤ n → pos 1000 ≤ℤ pos n
@@ -39,7 +41,7 @@ upper_sum-requires-clause-moved_size c =
 
 pub returns-in_err-top-clause-sum : goal.returns-in_err-top-clause-sum
 returns-in_err-top-clause-sum c =
-    let W : List ℤ → Type 0 = AreWide c.args.session.now.arcs c.args.session.now.pairs (first_of c.args.best.now) in
+    let W : List ℤ → Type 0 = AreWide c.args.session.now.arcs (fine_signals c.args.session.now.signals) c.args.session.now.pairs (first_of c.args.best.now) in
     let wide : W (move_of c.args.form.now (first_of c.args.best.now)) = subst W c.in_ok-moved.ensures.ok (c.in_err-top.ensures.refused.0 refl) in
     let told : IsErrAnd c.from_residual-in_err-top.result (λ (e : Overwidth). e.place ≡ Sum) =
     let p = err_from_is_err_and c.from_residual-in_err-top.result c.from_residual-in_err-top.ensures.1 in rw (p.1, p.2) c.in_err-top.ensures.place in
@@ -64,10 +66,13 @@ returns-clause-strictly_best c =
     let fits : FitsSigned w128 c.args.best.now.p2 = search rules in
     let second : to_z w128 (of_z w128 c.args.best.now.p2) ≡ value_of f (second_of b) = own_word c.args.best.now.p2 fits ∙ c.requires.best.p2 in
     let t : to_z w128 (of_z w128 c.in_ok-top.top) ≡ c.in_ok-top.top = small_w128 c.in_ok-top.top c.in_ok-top.ensures.from (weaker c.in_ok-top.top c.in_ok-top.ensures.to) in
-    let entries : length (first_of b) ≡ integer_count s.arcs s.scale =
-    first_length f b c.requires.best ∙ c.requires.best.size ∙ integers_are s f c.requires.form c.requires.fine ∙ ap (integer_count s.arcs) (sym c.requires.fine) in
+    let same : fine_signals s.signals ≡ counted s.signals s.scale = ap (counted s.signals) (sym c.requires.fine) in
+    let entries : length (first_of b) ≡ integer_count s.arcs (counted s.signals s.scale) =
+    first_length f b c.requires.best ∙ c.requires.best.size ∙ integers_are s f c.requires.form c.requires.fine ∙ ap (integer_count s.arcs) same in
+    let above : StaysAtMost s.arcs (counted s.signals s.scale) s.pairs (first_of b) c.in_ok-moved.moved (pos (2 ^ f.h) *ℤ c.in_ok-top.top) =
+    subst (λ (ss : List ℕ). StaysAtMost s.arcs ss s.pairs (first_of b) c.in_ok-moved.moved (pos (2 ^ f.h) *ℤ c.in_ok-top.top)) same c.in_ok-top.ensures.above in
     λ yes. best_from_bounds s f.h (columns_of f) (pos c.args.ratio) c.in_ok-top.top (first_of b) (second_of b) c.in_ok-moved.moved c.requires.fine entries
-    (bounds_of s f c.requires.form) (least_of f b c.requires.best) c.in_ok-top.ensures.above (at_least c.args.ratio c.requires.ratio_from) c.in_ok-top.ensures.from
+    (bounds_of s f c.requires.form) (least_of f b c.requires.best) above (at_least c.args.ratio c.requires.ratio_from) c.in_ok-top.ensures.from
     (subst (λ (x : ℤ). IsSeparated (pos c.args.ratio) x (value_of f (second_of b))) t (subst (λ (x : ℤ). IsSeparated (pos c.args.ratio) (to_z w128 (of_z w128 c.in_ok-top.top)) x) second (c.is_separated.ensures.0 yes)))
 
 pub returns-clause-float : goal.returns-clause-float
@@ -75,5 +80,5 @@ returns-clause-float c = (λ e. absurd e, λ w. false≢true (c.in_ok-moved.ensu
 
 pub returns-clause-sum : goal.returns-clause-sum
 returns-clause-sum c =
-    let W : List ℤ → Type 0 = AreWide c.args.session.now.arcs c.args.session.now.pairs (first_of c.args.best.now) in
+    let W : List ℤ → Type 0 = AreWide c.args.session.now.arcs (fine_signals c.args.session.now.signals) c.args.session.now.pairs (first_of c.args.best.now) in
     (λ e. absurd e, λ w. false≢true (c.in_ok-top.ensures.refused.1 (subst W (sym c.in_ok-moved.ensures.ok) w.1)))

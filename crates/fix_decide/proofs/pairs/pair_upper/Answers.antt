@@ -5,7 +5,6 @@ use Rattle.std.specs.Int.{w128}
 use Rattle.whole_math.specs.Vectors.{sum}
 use Rattle.whole_math.proofs.Order.{lins}
 use Rattle.obs_rows.specs.declared.pair_rows.PairRows.{PairRows}
-use Rattle.obs_rows.specs.Signals.{counted}
 use Rattle.fix_decide.specs.UpperSums.{signal_upper}
 use Rattle.fix_decide.specs.Bounds.{StaysAtMost}
 use Rattle.fix_decide.specs.Widths.{IsWideFor}
@@ -19,50 +18,45 @@ no_more s a e = omega (arith, lins)
 
 pub returns-in_err-sum-clause-refused : goal.returns-in_err-sum-clause-refused
 returns-in_err-sum-clause-refused c =
-    let signals : List ℕ = c.counted_signals-signals.result.now in
     let k : ℕ = c.loop-signal.signal-index in
-    let inside : k < length signals = search rules in
-    let l : length signals ≡ 4 = ap length c.counted_signals-signals.ensures in
-    let here : get_or (counted 0) k (get_or signals k 0) ≡ get_or signals k 0 =
-    ap (λ (x : List ℕ). get_or x k (get_or signals k 0)) (sym c.counted_signals-signals.ensures) ∙ get_or_default signals k (get_or signals k 0) 0 inside in
-    (λ e. (k, get_or signals k 0, omega arith, here, c.in_err-sum.ensures.wide), λ w. c.from_residual.ensures.0)
+    let inside : k < length c.args.signals.now = search rules in
+    let x : ℕ = get_or c.args.signals.now k 0 in
+    (λ e. (k, x, inside, get_or_default c.args.signals.now k x 0 inside, c.in_err-sum.ensures.wide), λ w. c.from_residual.ensures.0)
 
 pub loop-signal-preserved : goal.loop-signal-preserved
 loop-signal-preserved c =
-    let signals : List ℕ = c.counted_signals-signals.result.now in
+    let signals : List ℕ = c.args.signals.now in
     let k : ℕ = c.loop-signal.signal-index in
-    let f : ℕ → ℤ = signal_upper c.args.arcs.now c.args.z.now c.args.moved.now c.args.pair.now in
+    let f : ℕ → ℤ = signal_upper c.args.arcs.now signals c.args.z.now c.args.moved.now c.args.pair.now in
     let inside : k < length signals = search rules in
-    let l : length signals ≡ 4 = ap length c.counted_signals-signals.ensures in
+    let few = c.requires.counted.few in
     let e : drop k signals ≡ get_or signals k 0 ∷ drop (k + 1) signals = drop_more signals k 0 inside in
     let s : ℤ = to_z w128 c.loop-signal.sum-bits in
     let q : ℤ = c.in_ok-sum.field-0 in
     let t : Step (to_z w128 (of_z w128 (s +ℤ to_z w128 (of_z w128 q)))) s q k (2 ^ 104) =
-    step s q k (2 ^ 104) c.loop-signal.invariant.from c.loop-signal.invariant.to c.in_ok-sum.ensures.from c.in_ok-sum.ensures.to (times_below (k + 1) 4 (2 ^ 104) (omega arith) (omega arith) (omega arith)) in
+    step s q k (2 ^ 104) c.loop-signal.invariant.from c.loop-signal.invariant.to c.in_ok-sum.ensures.from c.in_ok-sum.ensures.to (times_below (k + 1) (length signals) (2 ^ 104) (omega arith) (omega arith) (omega arith)) in
     record {
       value = next s _ q (f (get_or signals k 0)) (sum (map f (drop (k + 1) signals))) (sum (map f signals))
           (ap (λ (x : List ℕ). s +ℤ sum (map f x)) (sym e) ∙ c.loop-signal.invariant.value) c.in_ok-sum.ensures.value t.is;
       from = t.from;
       to = t.to;
-      narrow = below_more (λ j. IsWideFor c.args.arcs.now c.args.z.now c.args.moved.now c.args.pair.now.rows (get_or signals j 0) → ⊥) k c.loop-signal.invariant.narrow c.in_ok-sum.ensures.narrow;
+      narrow = below_more (λ j. IsWideFor c.args.arcs.now signals c.args.z.now c.args.moved.now c.args.pair.now.rows (get_or signals j 0) → ⊥) k c.loop-signal.invariant.narrow c.in_ok-sum.ensures.narrow;
     }
 
 pub returns-clause-above : goal.returns-clause-above
 returns-clause-above c =
-    let signals : List ℕ = c.counted_signals-signals.result.now in
+    let signals : List ℕ = c.args.signals.now in
     let k : ℕ = c.loop-signal.signal-index in
-    let f : ℕ → ℤ = signal_upper c.args.arcs.now c.args.z.now c.args.moved.now c.args.pair.now in
+    let f : ℕ → ℤ = signal_upper c.args.arcs.now signals c.args.z.now c.args.moved.now c.args.pair.now in
     let s : ℤ = to_z w128 c.loop-signal.sum-bits in
     let past : drop k signals ≡ [] = drop_all k signals (omega arith) in
-    let all : s +ℤ pos 0 ≡ sum (map f (counted 0)) =
-    ap (λ (x : List ℕ). s +ℤ sum (map f x)) (sym past) ∙ c.loop-signal.invariant.value ∙ ap (λ (x : List ℕ). sum (map f x)) c.counted_signals-signals.ensures in
+    let all : s +ℤ pos 0 ≡ sum (map f signals) = ap (λ (x : List ℕ). s +ℤ sum (map f x)) (sym past) ∙ c.loop-signal.invariant.value in
     let one : List PairRows = c.args.pair.now ∷ [] in
-    subst (StaysAtMost c.args.arcs.now 0 one c.args.z.now c.args.moved.now) (sym (no_more s (sum (map f (counted 0))) all))
-    (stays_at_most c.args.arcs.now one c.args.z.now c.args.moved.now c.requires.entries)
+    subst (StaysAtMost c.args.arcs.now signals one c.args.z.now c.args.moved.now) (sym (no_more s (sum (map f signals)) all))
+    (stays_at_most c.args.arcs.now signals one c.args.z.now c.args.moved.now c.requires.entries)
 
 pub returns-clause-refused : goal.returns-clause-refused
 returns-clause-refused c =
-    let signals : List ℕ = c.counted_signals-signals.result.now in
-    let l : length signals ≡ 4 = ap length c.counted_signals-signals.ensures in
-    let P : ℕ → Type 0 = IsWideFor c.args.arcs.now c.args.z.now c.args.moved.now c.args.pair.now.rows in
-    (λ e. absurd (false≢true e), λ w. absurd (none_of P (counted 0) (λ j h p. c.loop-signal.invariant.narrow j (omega arith) (subst (λ (x : List ℕ). P (get_or x j 0)) (sym c.counted_signals-signals.ensures) p)) w))
+    let signals : List ℕ = c.args.signals.now in
+    let P : ℕ → Type 0 = IsWideFor c.args.arcs.now signals c.args.z.now c.args.moved.now c.args.pair.now.rows in
+    (λ e. absurd (false≢true e), λ w. absurd (none_of P signals (λ j h p. c.loop-signal.invariant.narrow j (omega arith) p) w))

@@ -6,8 +6,8 @@ use Rattle.fix_decide.proofs.pairs.pair_upper.Given as goal
 
 abbrev pub invariant-loop-signal : goal.invariant-loop-signal
 invariant-loop-signal l = record {
-  value : l.sum +ℤ sum (map (signal_upper l.arcs l.z l.moved l.pair) (drop l.signal-index l.signals)) ≡ sum (map (signal_upper l.arcs l.z l.moved l.pair) l.signals);
+  value : l.sum +ℤ sum (map (signal_upper l.arcs l.signals l.z l.moved l.pair) (drop l.signal-index l.signals)) ≡ sum (map (signal_upper l.arcs l.signals l.z l.moved l.pair) l.signals);
   from : pos 0 ≤ℤ l.sum;
   to : l.sum ≤ℤ pos (l.signal-index * 2 ^ 104);
-  narrow : (k : ℕ) → k < l.signal-index → IsWideFor l.arcs l.z l.moved l.pair.rows (get_or l.signals k 0) → ⊥;
+  narrow : (k : ℕ) → k < l.signal-index → IsWideFor l.arcs l.signals l.z l.moved l.pair.rows (get_or l.signals k 0) → ⊥;
 }

@@ -15,7 +15,7 @@ returns-in_err-reach_of-clause-wide c =
 
 pub loop-row-preserved : goal.loop-row-preserved
 loop-row-preserved c =
-    let f : Row → Reach = reach_of c.args.arcs.now c.args.z.now c.args.moved.now c.args.signal in
+    let f : Row → Reach = reach_of c.args.arcs.now c.args.signals.now c.args.z.now c.args.moved.now c.args.signal in
     let inside : c.loop-row.row-index < length c.args.rows.now = search rules in
     let x : c.in_ok-reach_of.field-0 ≡ f (get_or c.args.rows.now c.loop-row.row-index c.row-item.result) = c.in_ok-reach_of.ensures.value ∙ ap f c.row-item.is in
     record {

@@ -5,6 +5,6 @@ use Rattle.fix_decide.proofs.pairs.reaches_of.Given as goal
 
 abbrev pub invariant-loop-row : goal.invariant-loop-row
 invariant-loop-row l = record {
-  value : l.reaches.items ≡ map (reach_of l.arcs l.z l.moved l.fn.signal) (take l.row-index l.rows);
+  value : l.reaches.items ≡ map (reach_of l.arcs l.signals l.z l.moved l.fn.signal) (take l.row-index l.rows);
   narrow : All IsNarrow l.reaches.items;
 }

@@ -3,7 +3,7 @@ use Rattle.std.proofs.lemmas.Int.{ints}
 use Rattle.std.specs.Int.{w128}
 use Rattle.whole_math.specs.Rounding.{ceil_div}
 use Rattle.quadratic_form.specs.UpperSum.{size}
-use Rattle.normal_sum.proofs.Words.{as_w128}
+use Rattle.form_tables.proofs.Words.{as_w128}
 use Rattle.fix_decide.specs.UpperSums.{scalar_product}
 use Rattle.fix_decide.proofs.Words.{radius_word}
 use Rattle.fix_decide.proofs.Radii.{product_nonneg, ceil_nonneg}

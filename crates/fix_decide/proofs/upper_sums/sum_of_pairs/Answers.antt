@@ -9,7 +9,7 @@ use Rattle.fix_decide.specs.Widths.{IsWide}
 use Rattle.fix_decide.proofs.GapSums.{next, Step, step}
 use Rattle.fix_decide.proofs.upper_sums.sum_of_pairs.Goals as goal
 
-few : (k n : ℕ) → k < n → n ≤ 3600 → (k + 1) * 2 ^ 106 ≤ 2 ^ 125
+few : (k n : ℕ) → k < n → n ≤ 3600 → (k + 1) * 2 ^ 107 ≤ 2 ^ 125
 few k n h g = omega arith
 
 pub returns-in_err-sum-clause-refused : goal.returns-in_err-sum-clause-refused
@@ -22,15 +22,15 @@ loop-pair-preserved c =
     let pairs : List PairRows = c.args.pairs.now in
     let k : ℕ = c.loop-pair.pair-index in
     let x : PairRows = c.pair-item.result in
-    let f : PairRows → ℤ = pair_upper c.args.arcs.now c.args.z.now c.args.moved.now in
+    let f : PairRows → ℤ = pair_upper c.args.arcs.now c.args.signals.now c.args.z.now c.args.moved.now in
     let inside : k < length pairs = search rules in
     let later : List PairRows = drop (k + 1) pairs in
     let e : drop k pairs ≡ x ∷ later = drop_more pairs k x inside ∙ ap (λ (y : PairRows). y ∷ later) (sym c.pair-item.is) in
     let s : ℤ = to_z w128 c.loop-pair.sum-bits in
     let q : ℤ = c.in_ok-sum.field-0 in
-    let t : Step (to_z w128 (of_z w128 (s +ℤ to_z w128 (of_z w128 q)))) s q k (2 ^ 106) =
-    step s q k (2 ^ 106) c.loop-pair.invariant.from c.loop-pair.invariant.to c.in_ok-sum.ensures.from c.in_ok-sum.ensures.to (few k (length pairs) inside c.requires.few) in
-    let W : PairRows → Type 0 = IsWide c.args.arcs.now c.args.z.now c.args.moved.now in
+    let t : Step (to_z w128 (of_z w128 (s +ℤ to_z w128 (of_z w128 q)))) s q k (2 ^ 107) =
+    step s q k (2 ^ 107) c.loop-pair.invariant.from c.loop-pair.invariant.to c.in_ok-sum.ensures.from c.in_ok-sum.ensures.to (few k (length pairs) inside c.requires.few) in
+    let W : PairRows → Type 0 = IsWide c.args.arcs.now c.args.signals.now c.args.z.now c.args.moved.now in
     record {
       value = next s _ q (f x) (sum (map f later)) (sum (map f pairs)) (ap (λ (l : List PairRows). s +ℤ sum (map f l)) (sym e) ∙ c.loop-pair.invariant.value) c.in_ok-sum.ensures.value t.is;
       from = t.from;
@@ -41,4 +41,4 @@ loop-pair-preserved c =
 
 pub returns-clause-refused : goal.returns-clause-refused
 returns-clause-refused c =
-    (λ e. absurd (false≢true e), λ (k, x, inside, is, w). absurd (c.loop-pair.invariant.narrow k (omega arith) x (subst (IsWide c.args.arcs.now c.args.z.now c.args.moved.now) (sym is) w)))
+    (λ e. absurd (false≢true e), λ (k, x, inside, is, w). absurd (c.loop-pair.invariant.narrow k (omega arith) x (subst (IsWide c.args.arcs.now c.args.signals.now c.args.z.now c.args.moved.now) (sym is) w)))

@@ -7,8 +7,8 @@ use Rattle.fix_decide.proofs.upper_sums.sum_of_pairs.Given as goal
 
 abbrev pub invariant-loop-pair : goal.invariant-loop-pair
 invariant-loop-pair l = record {
-  value : l.sum +ℤ sum (map (pair_upper l.arcs l.z l.moved) (drop l.pair-index l.pairs)) ≡ sum (map (pair_upper l.arcs l.z l.moved) l.pairs);
+  value : l.sum +ℤ sum (map (pair_upper l.arcs l.signals l.z l.moved) (drop l.pair-index l.pairs)) ≡ sum (map (pair_upper l.arcs l.signals l.z l.moved) l.pairs);
   from : pos 0 ≤ℤ l.sum;
-  to : l.sum ≤ℤ pos (l.pair-index * 2 ^ 106);
-  narrow : (k : ℕ) → k < l.pair-index → (d : PairRows) → IsWide l.arcs l.z l.moved (get_or l.pairs k d) → ⊥;
+  to : l.sum ≤ℤ pos (l.pair-index * 2 ^ 107);
+  narrow : (k : ℕ) → k < l.pair-index → (d : PairRows) → IsWide l.arcs l.signals l.z l.moved (get_or l.pairs k d) → ⊥;
 }

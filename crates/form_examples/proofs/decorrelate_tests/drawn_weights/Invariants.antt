@@ -1,5 +1,5 @@
 use Rattle.std.proofs.Common.{◌≡◌, ℕ, ◌+◌, ◌<◌, length}
-use Rattle.obs_rows.specs.declared.units.TheConstants.{MOST_FACTORS}
+use Rattle.form_tables.specs.declared.sizes.TheConstants.{MOST_FACTORS}
 use Rattle.decorrelate.specs.States.{item, IsWeight}
 use Rattle.form_examples.proofs.decorrelate_tests.drawn_weights.Given as goal
 

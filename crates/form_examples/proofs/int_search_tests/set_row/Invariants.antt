@@ -1,6 +1,6 @@
 use Rattle.std.proofs.Common.{◌^◌}
-use Rattle.obs_rows.specs.Tables.{IsZeroOutside}
-use Rattle.normal_sum.specs.Matrices.{IsSymmetric, EntriesBelow}
+use Rattle.form_tables.specs.Tables.{IsZeroOutside}
+use Rattle.form_tables.specs.Matrices.{IsSymmetric, EntriesBelow}
 use Rattle.form_examples.proofs.int_search_tests.set_row.Given as goal
 
 abbrev pub invariant-loop-c : goal.invariant-loop-c

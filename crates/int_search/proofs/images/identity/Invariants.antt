@@ -1,6 +1,6 @@
 use Rattle.std.proofs.Common.{◌≡◌, ◌≢◌, ◌⊎◌, ℕ, ◌<◌, ◌≤◌, pos}
-use Rattle.obs_rows.specs.Tables.{entry, HasShape}
-use Rattle.obs_rows.specs.declared.units.TheConstants.{MOST_INTEGERS}
+use Rattle.form_tables.specs.Tables.{entry, HasShape}
+use Rattle.form_tables.specs.declared.sizes.TheConstants.{MOST_INTEGERS}
 use Rattle.int_search.proofs.images.identity.Given as goal
 
 abbrev pub invariant-loop-i : goal.invariant-loop-i

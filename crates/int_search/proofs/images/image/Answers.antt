@@ -1,6 +1,7 @@
 use Rattle.std.proofs.Common.{◌≡◌, ◌<◌, ◌≤◌, ◌^◌, List, get_or, ℤ, pos, arith, rules, refl, sym, ◌∙◌, unsigned_abs, to_z, of_z, w64, length-set}
 use Rattle.std.specs.Int.{w128}
 use Rattle.std.proofs.lemmas.Int.{ints}
+use Rattle.form_tables.specs.declared.sizes.TheConstants.{MOST_INTEGERS}
 use Rattle.int_search.specs.Vectors.{suffix}
 use Rattle.int_search.specs.Images.{image_of}
 use Rattle.int_search.proofs.PointLaws.{small_zero, small_set, zeros_start, zeros_set}
@@ -8,7 +9,7 @@ use Rattle.int_search.proofs.ImageLaws.{image_at, done_set, image_done}
 use Rattle.int_search.proofs.images.image.Goals as goal
 
 pub loop-i-init : goal.loop-i-init
-loop-i-init c = record { done = λ k h. absurd (omega arith); small = small_zero 40; zeros = zeros_start 40 c.args.size; room = refl }
+loop-i-init c = record { done = λ k h. absurd (omega arith); small = small_zero MOST_INTEGERS; zeros = zeros_start MOST_INTEGERS c.args.size; room = refl }
 
 pub returns-then-is_large : goal.returns-then-is_large
 returns-then-is_large c =
@@ -17,7 +18,8 @@ returns-then-is_large c =
     let b = c.is_large.ensures.yes (rw c.if-is_large.true (search rules)) in
     let s = c.row_product-entry.ensures.size in
     let r = c.requires.map.shape.rows in
-    let e : get_or (image_of m c.args.size v) c.loop-i.i (pos 0) ≡ c.row_product-entry.result = image_at m c.args.size c.loop-i.i v (omega arith) (omega arith) ∙ sym c.row_product-entry.ensures.value in
+    let e : get_or (image_of m c.args.size v) c.loop-i.i (pos 0) ≡ c.row_product-entry.result = image_at m c.args.size c.loop-i.i v (omega arith) (omega arith)
+    ∙ sym c.row_product-entry.ensures.value in
     let w : 2 ^ 30 ≤ unsigned_abs c.row_product-entry.result = omega (arith, ints) in
     (c.loop-i.i, rw e w)
 
@@ -42,4 +44,9 @@ returns c =
     let v : List ℤ = suffix c.args.z.now 0 c.args.size in
     let r = c.loop-i.invariant.room in
     let s = c.requires.map.shape.rows in
-    record { room = r; small = c.loop-i.invariant.small; zeros = c.loop-i.invariant.zeros; is = image_done c.args.map.now v c.loop-i.y c.args.size (omega arith) (omega arith) (λ k h. c.loop-i.invariant.done k (omega arith)) }
+    record {
+      room = r;
+      small = c.loop-i.invariant.small;
+      zeros = c.loop-i.invariant.zeros;
+      is = image_done c.args.map.now v c.loop-i.y c.args.size (omega arith) (omega arith) (λ k h. c.loop-i.invariant.done k (omega arith));
+    }

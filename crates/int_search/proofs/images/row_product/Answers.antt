@@ -3,6 +3,7 @@ use Rattle.std.specs.Int.{w128}
 use Rattle.std.proofs.lemmas.Int.{ints, to_z-of_z}
 use Rattle.whole_math.specs.Vectors.{dot}
 use Rattle.whole_math.proofs.Order.{lins}
+use Rattle.form_tables.specs.declared.sizes.TheConstants.{MOST_INTEGERS}
 use Rattle.int_search.specs.Vectors.{suffix}
 use Rattle.int_search.proofs.ImageLaws.{product_step, product_end}
 use Rattle.int_search.proofs.images.row_product.Goals as goal
@@ -12,8 +13,8 @@ loop-k-preserved c =
     let r : List ℤ = get_or c.args.map.now c.args.row [] in
     let z : List ℤ = c.args.z.now in
     let k : ℕ = c.loop-k.k in
-    let a : length z ≡ 40 = c.told-z in
-    let w : length r ≡ 40 = c.requires.map.shape.columns c.args.row c.requires.row_in in
+    let a : length z ≡ MOST_INTEGERS = c.told-z in
+    let w : length r ≡ MOST_INTEGERS = c.requires.map.shape.columns c.args.row c.requires.row_in in
     let s = product_step r z k c.args.size (omega arith) (omega arith) (omega arith) in
     let v : SFits w64 (get_or z k (pos 0)) = search rules in
     let e : c.at.result ≡ get_or r k (pos 0) = c.at.ensures.value in

@@ -1,26 +1,27 @@
 use Rattle.std.proofs.Common.{◌≡◌, ℕ, length, arith, rules, sym, subst}
 use Rattle.std.proofs.lemmas.Int.{ints}
 use Rattle.std.specs.declared.cmp.Ordering.TheVariants.{Less, Equal, Greater}
+use Rattle.form_tables.specs.declared.sizes.TheConstants.{MOST_INTEGERS}
 use Rattle.int_search.specs.Vectors.{suffix}
 use Rattle.int_search.proofs.OrderArrays.{before_at, order_at, order_end}
 use Rattle.int_search.proofs.orders.entry_order.Goals as goal
 
 pub returns-then-a-k : goal.returns-then-a-k
 returns-then-a-k c =
-    let a : length c.args.a.now ≡ 40 = search rules in
-    let b : length c.args.b.now ≡ 40 = search rules in
+    let a : length c.args.a.now ≡ MOST_INTEGERS = search rules in
+    let b : length c.args.b.now ≡ MOST_INTEGERS = search rules in
     c.loop-k.invariant Less (before_at c.args.a.now c.args.b.now c.loop-k.k c.args.size (omega arith) (omega arith) (omega arith) (omega (arith, ints)))
 
 pub returns-then-b-k : goal.returns-then-b-k
 returns-then-b-k c =
-    let a : length c.args.a.now ≡ 40 = search rules in
-    let b : length c.args.b.now ≡ 40 = search rules in
+    let a : length c.args.a.now ≡ MOST_INTEGERS = search rules in
+    let b : length c.args.b.now ≡ MOST_INTEGERS = search rules in
     c.loop-k.invariant Greater (before_at c.args.b.now c.args.a.now c.loop-k.k c.args.size (omega arith) (omega arith) (omega arith) (omega (arith, ints)))
 
 pub loop-k-preserved : goal.loop-k-preserved
 loop-k-preserved c = λ o h.
-    let a : length c.args.a.now ≡ 40 = search rules in
-    let b : length c.args.b.now ≡ 40 = search rules in
+    let a : length c.args.a.now ≡ MOST_INTEGERS = search rules in
+    let b : length c.args.b.now ≡ MOST_INTEGERS = search rules in
     c.loop-k.invariant o (order_at c.args.a.now c.args.b.now c.loop-k.k c.args.size o (omega arith) (omega arith) (omega arith) (omega (arith, ints)) h)
 
 pub returns : goal.returns

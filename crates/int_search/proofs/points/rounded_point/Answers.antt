@@ -2,6 +2,7 @@ use Rattle.std.proofs.Common.{◌≡◌, ◌<◌, ◌+◌, ◌-◌, ◌^◌, ℕ
 use Rattle.std.specs.Int.{w128}
 use Rattle.std.proofs.lemmas.Int.{ints, to_z-of_z}
 use Rattle.whole_math.specs.Rounding.{nearest_div}
+use Rattle.form_tables.specs.declared.sizes.TheConstants.{MOST_INTEGERS}
 use Rattle.integer_form.specs.Forms.{integers_of}
 use Rattle.suffix_search.specs.Suffixes.{SearchForm, rest}
 use Rattle.suffix_search.specs.PlainCount.{rounded}
@@ -16,7 +17,13 @@ loop-i-init c =
     let f : SearchForm = search_form c.args.form.now in
     let n : ℕ = integers_of c.args.form.now in
     let e : n ≡ c.args.form.now.columns - 3 - 1 = omega arith in
-    record { within = omega arith; point = subst (λ (m : ℕ). suffix (replicate 40 (pos 0)) m n ≡ rounded f (n - m)) e (rounded_first f (replicate 40 (pos 0))); small = small_zero 40; zeros = zeros_start 40 n; room = refl }
+    record {
+      within = omega arith;
+      point = subst (λ (m : ℕ). suffix (replicate MOST_INTEGERS (pos 0)) m n ≡ rounded f (n - m)) e (rounded_first f (replicate MOST_INTEGERS (pos 0)));
+      small = small_zero MOST_INTEGERS;
+      zeros = zeros_start MOST_INTEGERS n;
+      room = refl;
+    }
 
 pub returns-then-is_large : goal.returns-then-is_large
 returns-then-is_large c =
@@ -48,7 +55,8 @@ loop-i-preserved c =
     let b = c.is_large.ensures.no c.if-is_large.false in
     let g : unsigned_abs c.nearest_part-x.result < 2 ^ 30 = omega (arith, ints) in
     let t : to_z w64 (of_z w64 (to_z w128 (of_z w128 c.nearest_part-x.result))) ≡ c.nearest_part-x.result = omega (arith, ints) in
-    let y : to_z w64 (of_z w64 (to_z w128 (of_z w128 c.nearest_part-x.result))) ≡ nearest_div (neg_ℤ (rest f (suffix c.loop-i.z (i + 1) n))) (2 ^ 30) = t ∙ x ∙ ap (λ v. nearest_div (neg_ℤ v) (2 ^ 30)) c.later_part.ensures.value in
+    let y : to_z w64 (of_z w64 (to_z w128 (of_z w128 c.nearest_part-x.result))) ≡ nearest_div (neg_ℤ (rest f (suffix c.loop-i.z (i + 1) n))) (2 ^ 30) = t ∙ x
+    ∙ ap (λ v. nearest_div (neg_ℤ v) (2 ^ 30)) c.later_part.ensures.value in
     let room = c.loop-i.invariant.room in
     record {
       within = omega arith;

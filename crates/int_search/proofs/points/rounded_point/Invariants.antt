@@ -1,5 +1,5 @@
 use Rattle.std.proofs.Common.{◌≡◌, ◌-◌, ◌≤◌, length}
-use Rattle.obs_rows.specs.declared.units.TheConstants.{MOST_INTEGERS}
+use Rattle.form_tables.specs.declared.sizes.TheConstants.{MOST_INTEGERS}
 use Rattle.integer_form.specs.Forms.{integers_of}
 use Rattle.suffix_search.specs.PlainCount.{rounded}
 use Rattle.int_search.specs.Vectors.{suffix, IsSmall, IsZeroFrom}

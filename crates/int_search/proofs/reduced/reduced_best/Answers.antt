@@ -1,6 +1,7 @@
 use Rattle.std.proofs.Common.{◌≡◌, ◌+◌, ◌-◌, ◌<◌, ℕ, List, ℤ, arith, sym, ap₂, ◌∙◌, refl, length, subst, Result, Ok, Err}
 use Rattle.quadratic_form.specs.Forms.{Column}
 use Rattle.quadratic_form.specs.Elimination.{Factor, Refusal, steps}
+use Rattle.form_tables.specs.declared.sizes.TheConstants.{MOST_INTEGERS}
 use Rattle.decorrelate.specs.declared.unimodular.Unimodular.{Unimodular}
 use Rattle.decorrelate.specs.Inverses.{Undoes}
 use Rattle.decorrelate.specs.Reducing.{IsReduced}
@@ -9,7 +10,7 @@ use Rattle.integer_form.specs.declared.form.Form.{Form}
 use Rattle.integer_form.specs.declared.front_form.FrontForm.{FrontForm}
 use Rattle.integer_form.specs.Forms.{integers_of}
 use Rattle.integer_form.specs.Kept.{form_of_table, constant_form}
-use Rattle.lower_form.specs.Forms.{finish_of, IsFinishOf}
+use Rattle.elimination.specs.Finish.{finish_of, IsFinishOf}
 use Rattle.reduced_form.specs.Transformed.{transformed_form, IsTransformed}
 use Rattle.int_search.specs.ReducedCounts.{HasCountIn, HasReducedCount}
 use Rattle.int_search.proofs.ReducedLaws.{IsDecorrelated, reduced_can, reduced_found, reduced_visits, reduced_fault, count_as}
@@ -31,7 +32,8 @@ apart p r e = cc
 same_steps : (n : ℕ) (map p : List (List ℤ)) (r : FrontForm) → IsTransformed n map p r → finish_of r ≡ steps 3 n (transformed_form n map p)
 same_steps n map p r t = ap₂ (λ (k : ℕ) (a : List Column). steps 3 k a) (fewer r.columns r.columns n refl t.columns) t.form
 
-decorrelated_is : (f r : Form) (front : FrontForm) (u : Unimodular) → 4 < f.columns → u.size ≡ integers_of f → length u.map ≡ 40 → IsTransformed (integers_of f) u.map f.p front → IsFinishOf front r → IsDecorrelated f r u
+decorrelated_is : (f r : Form) (front : FrontForm) (u : Unimodular) → 4 < f.columns → u.size ≡ integers_of f → length u.map ≡ MOST_INTEGERS → IsTransformed (integers_of f) u.map f.p front →
+    IsFinishOf front r → IsDecorrelated f r u
 decorrelated_is f r front u h s m t e = record {
   some = h;
   size = s;

@@ -4,7 +4,8 @@ use Rattle.std.proofs.lemmas.Int.{ints, to_z-of_z}
 use Rattle.whole_math.specs.Vectors.{dot}
 use Rattle.whole_math.proofs.Order.{lins}
 use Rattle.quadratic_form.specs.Places.{list_from}
-use Rattle.obs_rows.specs.Tables.{entry}
+use Rattle.form_tables.specs.declared.sizes.TheConstants.{MOST_INTEGERS}
+use Rattle.form_tables.specs.Tables.{entry}
 use Rattle.integer_form.specs.declared.form.Form.{Form}
 use Rattle.integer_form.specs.Forms.{integers_of}
 use Rattle.suffix_search.specs.Suffixes.{rest}
@@ -21,7 +22,7 @@ pub loop-k-init : goal.loop-k-init
 loop-k-init c =
     let f : Form = c.args.form.now in
     let z : List ℤ = c.args.z.now in
-    let a : length z ≡ 40 = c.told-z in
+    let a : length z ≡ MOST_INTEGERS = c.told-z in
     let m = f.columns_to in
     record { total = from_zero _ _ (sym (rest_is f z c.args.i c.requires.place (omega arith))); small = omega arith }
 
@@ -31,7 +32,7 @@ loop-k-preserved c =
     let z : List ℤ = c.args.z.now in
     let k : ℕ = c.loop-k.k in
     let g : ℕ → ℤ = λ r. entry f.l r (3 + c.args.i) in
-    let a : length z ≡ 40 = c.told-z in
+    let a : length z ≡ MOST_INTEGERS = c.told-z in
     let m = f.columns_to in
     let s = affine_step g z 3 k (integers_of f) (omega arith) (omega arith) in
     let v : SFits w64 (get_or z k (pos 0)) = search rules in

@@ -1,9 +1,10 @@
 use Rattle.std.proofs.Common.{◌≡◌, ℕ, ◌+◌, ◌^◌, ◌<◌, length, pos, ◌*ℤ◌}
+use Rattle.form_tables.specs.declared.sizes.TheConstants.{MOST_FACTORS}
 use Rattle.integer_form.specs.FloatPoint.{item}
 use Rattle.integer_form.proofs.float_point.integer_numbers.Given as goal
 
 abbrev pub invariant-loop-i : goal.invariant-loop-i
 invariant-loop-i l = record {
-  full : length l.numbers ≡ 43;
+  full : length l.numbers ≡ MOST_FACTORS;
   same : (k : ℕ) → k < l.i → item l.numbers (3 + k) ≡ pos (2 ^ 16) *ℤ item l.z k;
 }

@@ -1,9 +1,10 @@
 use Rattle.std.proofs.Common.{◌≡◌, ℕ, ◌<◌}
-use Rattle.obs_rows.specs.Tables.{entry, IsZeroOutside}
+use Rattle.form_tables.specs.declared.sizes.TheConstants.{BASELINE_COLUMNS, MOST_COLUMNS}
+use Rattle.form_tables.specs.Tables.{entry, IsZeroOutside}
 use Rattle.integer_form.proofs.tables.factor_table.Given as goal
 
 abbrev pub invariant-loop-r : goal.invariant-loop-r
 invariant-loop-r l = record {
   same : (i j : ℕ) → i < l.r → j < 3 → entry l.factors i j ≡ entry l.front i j;
-  outside : IsZeroOutside 44 3 l.factors;
+  outside : IsZeroOutside MOST_COLUMNS BASELINE_COLUMNS l.factors;
 }

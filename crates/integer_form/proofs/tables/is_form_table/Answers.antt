@@ -1,24 +1,27 @@
 use Rattle.std.proofs.Common.{◌≡◌, ◌⊎◌, ⊎_elim, inl, inr, ℕ, ◌^◌, ◌<◌, ◌≤◌, List, [], ℤ, pos, unsigned_abs, slice_index_or, arith, sym, ap, ◌∙◌, subst}
 use Rattle.std.proofs.lemmas.List.{get_or_past}
-use Rattle.obs_rows.specs.Tables.{entry, HasShape}
+use Rattle.form_tables.specs.declared.sizes.TheConstants.{MOST_FORM_COLUMNS}
+use Rattle.form_tables.specs.Tables.{entry, HasShape}
 use Rattle.integer_form.proofs.tables.is_form_table.Goals as goal
 
-either : (i : ℕ) → (i < 41) ⊎ (41 ≤ i)
+either : (i : ℕ) → (i < MOST_FORM_COLUMNS) ⊎ (MOST_FORM_COLUMNS ≤ i)
 either i = grind arith
 
 -- nothing stands behind the ends of a table
-past : (t : List (List ℤ)) → HasShape 41 41 t → (i j : ℕ) → (41 ≤ i) ⊎ (41 ≤ j) → entry t i j ≡ pos 0
+past : (t : List (List ℤ)) → HasShape MOST_FORM_COLUMNS MOST_FORM_COLUMNS t → (i j : ℕ) → (MOST_FORM_COLUMNS ≤ i) ⊎ (MOST_FORM_COLUMNS ≤ j) → entry t i j ≡ pos 0
 past t s i j h = ⊎_elim below right h
   where
-    below : 41 ≤ i → entry t i j ≡ pos 0
+    below : MOST_FORM_COLUMNS ≤ i → entry t i j ≡ pos 0
     below g = ap (λ (row : List ℤ). slice_index_or row j (pos 0)) (get_or_past t i [] (omega (arith, s.rows)))
 
-    right : 41 ≤ j → entry t i j ≡ pos 0
-    right g = ⊎_elim (λ (a : i < 41). get_or_past (slice_index_or t i []) j (pos 0) (omega (arith, s.columns i a))) (λ (a : 41 ≤ i). below a) (either i)
+    right : MOST_FORM_COLUMNS ≤ j → entry t i j ≡ pos 0
+    right g = ⊎_elim (λ (a : i < MOST_FORM_COLUMNS). get_or_past (slice_index_or t i []) j (pos 0) (omega (arith, s.columns i a))) (λ (a : MOST_FORM_COLUMNS ≤ i). below a) (either i)
 
 -- all places, from those inside
-all : (t : List (List ℤ)) → HasShape 41 41 t → (P : ℕ → ℕ → Type 0) → ((i j : ℕ) → i < 41 → j < 41 → P i j) → ((i j : ℕ) → (41 ≤ i) ⊎ (41 ≤ j) → P i j) → (i j : ℕ) → P i j
-all t s P h o i j = ⊎_elim (λ (a : i < 41). ⊎_elim (λ (b : j < 41). h i j a b) (λ (b : 41 ≤ j). o i j (inr b)) (either j)) (λ (a : 41 ≤ i). o i j (inl a)) (either i)
+all : (t : List (List ℤ)) → HasShape MOST_FORM_COLUMNS MOST_FORM_COLUMNS t → (P : ℕ → ℕ → Type 0) → ((i j : ℕ) → i < MOST_FORM_COLUMNS → j < MOST_FORM_COLUMNS → P i j) →
+    ((i j : ℕ) → (MOST_FORM_COLUMNS ≤ i) ⊎ (MOST_FORM_COLUMNS ≤ j) → P i j) → (i j : ℕ) → P i j
+all t s P h o i j = ⊎_elim (λ (a : i < MOST_FORM_COLUMNS). ⊎_elim (λ (b : j < MOST_FORM_COLUMNS). h i j a b) (λ (b : MOST_FORM_COLUMNS ≤ j). o i j (inr b)) (either j))
+    (λ (a : MOST_FORM_COLUMNS ≤ i). o i j (inl a)) (either i)
 
 swap : {A B : Type 0} → A ⊎ B → B ⊎ A
 swap (inl a) = inr a

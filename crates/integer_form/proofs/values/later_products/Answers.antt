@@ -3,9 +3,10 @@ use Rattle.std.specs.Int.{w64, w128}
 use Rattle.whole_math.proofs.Order.{abs_mul_le}
 use Rattle.whole_math.specs.Vectors.{dot}
 use Rattle.quadratic_form.specs.Places.{list_from}
-use Rattle.obs_rows.specs.Tables.{entry}
+use Rattle.form_tables.specs.declared.sizes.TheConstants.{MOST_FORM_COLUMNS}
+use Rattle.form_tables.specs.Tables.{entry}
 use Rattle.integer_form.specs.FloatPoint.{item}
-use Rattle.integer_form.proofs.Words.{as_w64, as_w128, size_add}
+use Rattle.form_tables.proofs.Words.{as_w64, as_w128, size_add}
 use Rattle.integer_form.proofs.PlaceLaws.{dot_more}
 use Rattle.integer_form.proofs.values.later_products.Goals as goal
 
@@ -19,14 +20,17 @@ loop-c-preserved c =
     let t : ℤ = c.times-sum.result in
     let small : unsigned_abs (entry c.args.p.now c.args.r c.loop-c.c) < 2 ^ 52 = c.requires.entries c.args.r c.loop-c.c in
     let narrow : unsigned_abs (slice_index_or c.args.x.now c.loop-c.c (pos 0)) ≤ 2 ^ 30 = c.requires.numbers c.loop-c.c c.loop-c-test.true in
-    let product : unsigned_abs (entry c.args.p.now c.args.r c.loop-c.c *ℤ slice_index_or c.args.x.now c.loop-c.c (pos 0)) ≤ 2 ^ 82 = abs_mul_le (entry c.args.p.now c.args.r c.loop-c.c) (slice_index_or c.args.x.now c.loop-c.c (pos 0)) (2 ^ 52) (2 ^ 30) (omega arith) narrow in
-    let pa : to_z w64 (of_z w64 c.at.result) ≡ entry c.args.p.now c.args.r c.loop-c.c = as_w64 c.at.result (omega (arith, subst (λ (z : ℤ). unsigned_abs z < 2 ^ 52) (sym c.at.ensures.value) small)) ∙ c.at.ensures.value in
-    let xa : to_z w64 (of_z w64 (slice_index_or c.args.x.now c.loop-c.c (pos 0))) ≡ slice_index_or c.args.x.now c.loop-c.c (pos 0) = as_w64 (slice_index_or c.args.x.now c.loop-c.c (pos 0)) (omega arith) in
+    let product : unsigned_abs (entry c.args.p.now c.args.r c.loop-c.c *ℤ slice_index_or c.args.x.now c.loop-c.c (pos 0)) ≤ 2 ^ 82 =
+    abs_mul_le (entry c.args.p.now c.args.r c.loop-c.c) (slice_index_or c.args.x.now c.loop-c.c (pos 0)) (2 ^ 52) (2 ^ 30) (omega arith) narrow in
+    let pa : to_z w64 (of_z w64 c.at.result) ≡ entry c.args.p.now c.args.r c.loop-c.c =
+    as_w64 c.at.result (omega (arith, subst (λ (z : ℤ). unsigned_abs z < 2 ^ 52) (sym c.at.ensures.value) small)) ∙ c.at.ensures.value in
+    let xa : to_z w64 (of_z w64 (slice_index_or c.args.x.now c.loop-c.c (pos 0))) ≡ slice_index_or c.args.x.now c.loop-c.c (pos 0) =
+    as_w64 (slice_index_or c.args.x.now c.loop-c.c (pos 0)) (omega arith) in
     let ti : t ≡ p k *ℤ x k = c.times-sum.ensures.value ∙ ap₂ (λ a b. a *ℤ b) pa xa in
     let ts : unsigned_abs t ≤ 2 ^ 82 = subst (λ (z : ℤ). unsigned_abs z ≤ 2 ^ 82) (sym ti) product in
     let s : unsigned_abs (o +ℤ t) ≤ unsigned_abs o + unsigned_abs t = size_add o t in
     let os : unsigned_abs o ≤ k * 2 ^ 82 = c.loop-c.invariant.size in
-    let n : k < 41 = omega (arith, c.loop-c-test.true, c.requires.columns_in) in
+    let n : k < MOST_FORM_COLUMNS = omega (arith, c.loop-c-test.true, c.requires.columns_in) in
     let w : to_z w128 (of_z w128 (to_z w128 c.loop-c.sum-bits +ℤ to_z w128 (of_z w128 t))) ≡ o +ℤ t =
     ap (λ z. to_z w128 (of_z w128 z)) (ap (λ b. o +ℤ b) (as_w128 t (omega arith))) ∙ as_w128 (o +ℤ t) (omega arith) in
     let m : ℕ = k - suc r in
@@ -34,6 +38,7 @@ loop-c-preserved c =
     let here : suc r + m ≡ k = omega (arith, c.loop-c.invariant.from) in
     record {
       from = omega (arith, c.loop-c.invariant.from);
-      value = w ∙ ap₂ (λ a b. a +ℤ b) c.loop-c.invariant.value (ti ∙ sym (ap (λ (i : ℕ). p i *ℤ x i) here)) ∙ sym (dot_more p x (suc r) m) ∙ ap (λ (i : ℕ). dot (list_from p (suc r) i) (list_from x (suc r) i)) next;
+      value = w ∙ ap₂ (λ a b. a +ℤ b) c.loop-c.invariant.value (ti ∙ sym (ap (λ (i : ℕ). p i *ℤ x i) here)) ∙ sym (dot_more p x (suc r) m)
+          ∙ ap (λ (i : ℕ). dot (list_from p (suc r) i) (list_from x (suc r) i)) next;
       size = rw w (omega arith);
     }

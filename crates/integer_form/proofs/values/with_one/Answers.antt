@@ -7,7 +7,8 @@ use Rattle.integer_form.proofs.values.with_one.Goals as goal
 -- the entries of z and 1 behind them
 ends : (x z : List ℤ) (i : ℕ) → length z < length x → length z ≤ i → ((k : ℕ) → k < i → item x k ≡ item z k) → list_from (item (set x (length z) (pos 1))) 0 (suc (length z)) ≡ z ++ (pos 1 ∷ [])
 ends x z i l m h = list_last (item (set x (length z) (pos 1))) 0 (length z)
-    ∙ ap₂ (λ (s : List ℤ) (y : ℤ). s ++ (y ∷ [])) (list_whole (item (set x (length z) (pos 1))) z 0 (λ k g. first k g)) (ap (λ (k : ℕ). item (set x (length z) (pos 1)) k) (none (length z)) ∙ get_or-set_same x (length z) (pos 1) (pos 0) l)
+    ∙ ap₂ (λ (s : List ℤ) (y : ℤ). s ++ (y ∷ [])) (list_whole (item (set x (length z) (pos 1))) z 0 (λ k g. first k g))
+    (ap (λ (k : ℕ). item (set x (length z) (pos 1)) k) (none (length z)) ∙ get_or-set_same x (length z) (pos 1) (pos 0) l)
   where
     none : (k : ℕ) → 0 + k ≡ k
     none k = omega arith

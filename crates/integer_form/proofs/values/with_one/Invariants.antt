@@ -1,9 +1,10 @@
 use Rattle.std.proofs.Common.{◌≡◌, ℕ, ◌<◌, length}
+use Rattle.form_tables.specs.declared.sizes.TheConstants.{MOST_FORM_COLUMNS}
 use Rattle.integer_form.specs.FloatPoint.{item}
 use Rattle.integer_form.proofs.values.with_one.Given as goal
 
 abbrev pub invariant-loop-i : goal.invariant-loop-i
 invariant-loop-i l = record {
-  full : length l.x ≡ 41;
+  full : length l.x ≡ MOST_FORM_COLUMNS;
   same : (k : ℕ) → k < l.i → item l.x k ≡ item l.z k;
 }

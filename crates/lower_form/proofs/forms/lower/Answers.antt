@@ -2,7 +2,8 @@ use Rattle.std.proofs.Common.{Result, Ok, Err, IfOk, IfErr}
 use Rattle.normal_sum.specs.declared.normal.Normal.{Normal}
 use Rattle.integer_form.specs.declared.front_form.FrontForm.{FrontForm}
 use Rattle.integer_form.specs.declared.form.Form.{Form}
-use Rattle.lower_form.specs.Forms.{IsFrontOf, IsFinishOf}
+use Rattle.elimination.specs.Finish.{IsFinishOf}
+use Rattle.lower_form.specs.Forms.{IsFrontOf}
 use Rattle.lower_form.proofs.LowerLaws.{lower_is, front_told, finish_told}
 use Rattle.lower_form.proofs.forms.lower.Goals as goal
 

@@ -2,7 +2,7 @@ use Rattle.std.proofs.Common.{ℕ, ◌+◌, ◌^◌, ℤ, pos, ◌≤ℤ◌, ◌
 use Rattle.std.proofs.lemmas.Int.{ints}
 use Rattle.std.specs.Int.{w128}
 use Rattle.whole_math.proofs.Order.{lins}
-use Rattle.obs_rows.specs.Tables.{entry}
+use Rattle.form_tables.specs.Tables.{entry}
 use Rattle.lower_form.proofs.ExponentLaws.{own_below, own_of, power_above}
 use Rattle.lower_form.proofs.rounding.exponent.Goals as goal
 
@@ -18,6 +18,9 @@ returns-clause-least c =
     let g : ℤ = c.greatest_own.result in
     let w : to_z w128 (of_z w128 g) ≡ g = fits g c.greatest_own.ensures.from c.greatest_own.ensures.to in
     record {
-      enough = own_below (entry c.args.normal.now.c) c.exponent_of.result 0 n (λ i a b. below _ g _ (c.greatest_own.ensures.above i (omega arith)) (subst (λ (z : ℤ). z <ℤ pos (2 ^ (50 + c.exponent_of.result))) w c.exponent_of.ensures.enough));
-      least = λ k o. c.exponent_of.ensures.least k (subst (λ (z : ℤ). z <ℤ pos (2 ^ (50 + k))) (sym w) (c.greatest_own.ensures.attained (pos (2 ^ (50 + k))) (power_above k) (λ i b. own_of (entry c.args.normal.now.c) k 0 n o i (omega arith) (omega arith))));
+      enough = own_below (entry c.args.normal.now.c) c.exponent_of.result 0 n (λ i a b. below _ g _ (c.greatest_own.ensures.above i (omega arith))
+          (subst (λ (z : ℤ). z <ℤ pos (2 ^ (50 + c.exponent_of.result))) w c.exponent_of.ensures.enough));
+      least = λ k o. c.exponent_of.ensures.least k
+          (subst (λ (z : ℤ). z <ℤ pos (2 ^ (50 + k))) (sym w) (c.greatest_own.ensures.attained (pos (2 ^ (50 + k))) (power_above k)
+          (λ i b. own_of (entry c.args.normal.now.c) k 0 n o i (omega arith) (omega arith))));
     }

@@ -2,7 +2,7 @@ use Rattle.std.proofs.Common.{◌≡◌, ℕ, ◌<◌, ◌≤◌, true, false, a
 use Rattle.quadratic_form.specs.Forms.{Column}
 use Rattle.quadratic_form.specs.Elimination.{form_small}
 use Rattle.quadratic_form.proofs.Places.{form_same}
-use Rattle.obs_rows.specs.Tables.{entry}
+use Rattle.form_tables.specs.Tables.{entry}
 use Rattle.elimination.specs.StepEntries.{is_small}
 use Rattle.lower_form.specs.FirstRounding.{first_entry}
 use Rattle.elimination.proofs.SmallEntries.{form_all_small, form_wide}
@@ -24,16 +24,19 @@ pub returns-then-not-round_row-clause-refused : goal.returns-then-not-round_row-
 returns-then-not-round_row-clause-refused c =
     let from : 4 ≤ c.args.normal.now.columns = search rules in
     let w = c.round_row.ensures.refused c.if-not-round_row.true in
-    λ e. subst (λ (a : List Column). form_small a ≡ false) (first_form_is c.args.normal.now c.args.h from) (form_wide (first_entry c.args.normal.now c.args.h) 0 c.args.normal.now.columns c.loop-r.r w.0 (omega arith) w.1.0 (omega (arith, w.1.1)) w.1.2)
+    λ e. subst (λ (a : List Column). form_small a ≡ false) (first_form_is c.args.normal.now c.args.h from)
+    (form_wide (first_entry c.args.normal.now c.args.h) 0 c.args.normal.now.columns c.loop-r.r w.0 (omega arith) w.1.0 (omega (arith, w.1.1)) w.1.2)
 
 pub returns-clause-rounded : goal.returns-clause-rounded
 returns-clause-rounded c =
     let from : 4 ≤ c.args.normal.now.columns = search rules in
     let last : c.args.normal.now.columns ≤ c.loop-r.r = c.loop-r-test.false in
-    λ e. form_same (entry c.loop-r.table) (first_entry c.args.normal.now c.args.h) 0 c.args.normal.now.columns (λ k m a b d. c.loop-r.invariant.value k m (omega arith) b (omega arith)) ∙ first_form_is c.args.normal.now c.args.h from
+    λ e. form_same (entry c.loop-r.table) (first_entry c.args.normal.now c.args.h) 0 c.args.normal.now.columns (λ k m a b d. c.loop-r.invariant.value k m (omega arith) b (omega arith))
+    ∙ first_form_is c.args.normal.now c.args.h from
 
 pub returns-clause-small : goal.returns-clause-small
 returns-clause-small c =
     let from : 4 ≤ c.args.normal.now.columns = search rules in
     let last : c.args.normal.now.columns ≤ c.loop-r.r = c.loop-r-test.false in
-    λ e. subst (λ (a : List Column). form_small a ≡ true) (first_form_is c.args.normal.now c.args.h from) (form_all_small (first_entry c.args.normal.now c.args.h) 0 c.args.normal.now.columns (λ k m a b d. c.loop-r.invariant.small k m (omega arith) b (omega arith)))
+    λ e. subst (λ (a : List Column). form_small a ≡ true) (first_form_is c.args.normal.now c.args.h from) (form_all_small (first_entry c.args.normal.now c.args.h) 0 c.args.normal.now.columns
+    (λ k m a b d. c.loop-r.invariant.small k m (omega arith) b (omega arith)))

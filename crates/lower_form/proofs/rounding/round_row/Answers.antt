@@ -1,6 +1,6 @@
 use Rattle.std.proofs.Common.{◌≡◌, inl, inr, ℕ, ◌≤◌, ℤ, true, arith, to_z, of_z, sym, ap, ◌∙◌, subst, below_more}
 use Rattle.std.specs.Int.{w128}
-use Rattle.obs_rows.specs.Tables.{entry}
+use Rattle.form_tables.specs.Tables.{entry}
 use Rattle.elimination.specs.StepEntries.{is_small}
 use Rattle.lower_form.specs.FirstRounding.{first_entry}
 use Rattle.elimination.proofs.Words.{wide_w128}
@@ -16,8 +16,10 @@ loop-c-preserved c =
     let s : is_small f ≡ true = ap (λ z. is_small z) (sym wf) ∙ sym c.is_small.ensures ∙ c.if-not-is_small.false in
     record {
       from = omega (arith, c.loop-c.invariant.from);
-      value = below_more (λ (m : ℕ). r ≤ m → entry c.set.new.self r m ≡ first_entry c.args.normal.now c.args.h r m) k (λ m g h. c.set.ensures.others r m (inr (omega arith)) ∙ c.loop-c.invariant.value m g h) (λ h. c.set.ensures.there ∙ wf ∙ is);
-      small = below_more (λ (m : ℕ). r ≤ m → is_small (first_entry c.args.normal.now c.args.h r m) ≡ true) k (λ m g h. c.loop-c.invariant.small m g h) (λ h. subst (λ (z : ℤ). is_small z ≡ true) is s);
+      value = below_more (λ (m : ℕ). r ≤ m → entry c.set.new.self r m ≡ first_entry c.args.normal.now c.args.h r m) k (λ m g h. c.set.ensures.others r m (inr (omega arith))
+          ∙ c.loop-c.invariant.value m g h) (λ h. c.set.ensures.there ∙ wf ∙ is);
+      small = below_more (λ (m : ℕ). r ≤ m → is_small (first_entry c.args.normal.now c.args.h r m) ≡ true) k (λ m g h. c.loop-c.invariant.small m g h)
+          (λ h. subst (λ (z : ℤ). is_small z ≡ true) is s);
       others = λ i m d. c.set.ensures.others i m (inl d) ∙ c.loop-c.invariant.others i m d;
     }
 

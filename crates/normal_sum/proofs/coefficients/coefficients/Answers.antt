@@ -1,8 +1,9 @@
 use Rattle.std.proofs.Common.{rules, ℕ, ◌+◌, ◌^◌, ◌<◌, ◌≤◌, length, pos, neg_ℤ, ◌-ℤ◌, ℤ, unsigned_abs, arith, to_z, of_z, ap, sym, ◌∙◌, subst}
 use Rattle.std.specs.Int.{w64}
 use Rattle.obs_rows.specs.Data.{number_at}
-use Rattle.normal_sum.proofs.Words.{as_w64, neg_w64, size_neg}
-use Rattle.normal_sum.proofs.CoefficientPlaces.{coefficients_are, coefficients_within}
+use Rattle.form_tables.proofs.Words.{as_w64}
+use Rattle.normal_sum.proofs.Words.{neg_w64, size_neg}
+use Rattle.normal_sum.proofs.CoefficientPlaces.{coefficients_are, coefficients_within, nothing_elsewhere}
 use Rattle.normal_sum.proofs.coefficients.coefficients.Goals as goal
 
 -- the value that is written for a number that is turned
@@ -23,10 +24,10 @@ returns-clause-entries c =
     let s1 : unsigned_abs (number_at c.args.row.now.u 1) ≤ 2 ^ 24 = c.args.row.now.u_in 1 (pos 0) l1 in
     let s2 : unsigned_abs (number_at c.args.row.now.u 2) ≤ 2 ^ 24 = c.args.row.now.u_in 2 (pos 0) l2 in
     let sy : unsigned_abs (number_at c.args.row.now.y c.args.signal) ≤ 2 ^ 34 = c.args.row.now.y_in c.args.signal (pos 0) ly in
-    coefficients_are c.args.arcs.now c.args.scale c.args.signal c.args.row.now c.put_integer.new.values c.args.integers c.place_of_integer.result
+    λ arcs ss ep en. coefficients_are arcs ss c.args.signal c.args.row.now c.put_integer.new.values c.args.integers c.args.place
     (turned (number_at c.args.row.now.u 0)) (turned (number_at c.args.row.now.u 1)) (turned (number_at c.args.row.now.u 2)) (turned c.cycle_of.result)
     (to_z w64 (of_z w64 (number_at c.args.row.now.y c.args.signal)))
-    c.put_integer.ensures c.requires.few c.place_of_integer.ensures.within c.requires.integers c.place_of_integer.ensures.value
+    c.put_integer.ensures c.requires.few c.requires.place en ep
     (neg_w64 c.cycle_of.result (omega (arith, c.cycle_of.ensures.size)) ∙ ap (λ z. neg_ℤ z) c.cycle_of.ensures.value)
     (neg_w64 (number_at c.args.row.now.u 0) (omega arith)) (neg_w64 (number_at c.args.row.now.u 1) (omega arith)) (neg_w64 (number_at c.args.row.now.u 2) (omega arith))
     (as_w64 (number_at c.args.row.now.y c.args.signal) (omega arith))
@@ -41,9 +42,15 @@ returns-clause-size c =
     let s1 : unsigned_abs (number_at c.args.row.now.u 1) ≤ 2 ^ 24 = c.args.row.now.u_in 1 (pos 0) l1 in
     let s2 : unsigned_abs (number_at c.args.row.now.u 2) ≤ 2 ^ 24 = c.args.row.now.u_in 2 (pos 0) l2 in
     let sy : unsigned_abs (number_at c.args.row.now.y c.args.signal) ≤ 2 ^ 34 = c.args.row.now.y_in c.args.signal (pos 0) ly in
-    coefficients_within (2 ^ 34) c.put_integer.new.values (3 + c.args.integers) c.place_of_integer.result
+    coefficients_within (2 ^ 34) c.put_integer.new.values (3 + c.args.integers) c.args.place
     (turned (number_at c.args.row.now.u 0)) (turned (number_at c.args.row.now.u 1)) (turned (number_at c.args.row.now.u 2)) (turned c.cycle_of.result)
     (to_z w64 (of_z w64 (number_at c.args.row.now.y c.args.signal))) c.put_integer.ensures
-    (turned_size (2 ^ 34) (number_at c.args.row.now.u 0) (omega arith) (omega arith)) (turned_size (2 ^ 34) (number_at c.args.row.now.u 1) (omega arith) (omega arith)) (turned_size (2 ^ 34) (number_at c.args.row.now.u 2) (omega arith) (omega arith))
+    (turned_size (2 ^ 34) (number_at c.args.row.now.u 0) (omega arith) (omega arith)) (turned_size (2 ^ 34) (number_at c.args.row.now.u 1) (omega arith) (omega arith))
+    (turned_size (2 ^ 34) (number_at c.args.row.now.u 2) (omega arith) (omega arith))
     (turned_size (2 ^ 34) c.cycle_of.result (omega (arith, c.cycle_of.ensures.size)) (omega arith))
     (subst (λ (z : ℤ). unsigned_abs z ≤ 2 ^ 34) (sym (as_w64 (number_at c.args.row.now.y c.args.signal) (omega arith))) sy)
+
+pub returns-clause-others : goal.returns-clause-others
+returns-clause-others c = nothing_elsewhere c.put_integer.new.values c.args.integers c.args.place
+    (turned (number_at c.args.row.now.u 0)) (turned (number_at c.args.row.now.u 1)) (turned (number_at c.args.row.now.u 2)) (turned c.cycle_of.result)
+    (to_z w64 (of_z w64 (number_at c.args.row.now.y c.args.signal))) c.put_integer.ensures

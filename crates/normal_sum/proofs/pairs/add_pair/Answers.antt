@@ -1,24 +1,51 @@
-use Rattle.std.proofs.Common.{◌≡◌, ℕ, ◌+◌, ◌*◌, ◌^◌, ◌<◌, ◌≤◌, ◌∷◌, List, ◌+ℤ◌, length, map, drop, get_or, arith, sym, ap, ◌∙◌, rules}
+use Rattle.std.proofs.Common.{◌≡◌, ℕ, ◌+◌, ◌*◌, ◌^◌, ◌<◌, ◌≤◌, ◌∷◌, List, ◌+ℤ◌, length, map, drop, get_or, slice_index_or, Option, None, IfSome, arith, sym, ap, ◌∙◌, subst, rules}
 use Rattle.std.proofs.lemmas.List.{drop_more}
 use Rattle.quadratic_form.specs.Rows.{SignalGroup}
 use Rattle.quadratic_form.specs.MatrixEntries.{group_entry, matrix_entry}
-use Rattle.obs_rows.specs.Tables.{entry}
+use Rattle.form_tables.specs.Tables.{entry}
+use Rattle.obs_rows.specs.declared.arcs.Arc.{Arc}
+use Rattle.obs_rows.specs.declared.rows.Row.{Row}
+use Rattle.obs_rows.specs.declared.units.TheConstants.{PHASES}
 use Rattle.obs_rows.specs.SignalGroups.{signal_group}
+use Rattle.normal_sum.specs.Places.{ArePlaces}
 use Rattle.normal_sum.proofs.RowSums.{next_sum}
+use Rattle.normal_sum.proofs.PlaceLaws.{are_places, are_within, phase_within}
 use Rattle.normal_sum.proofs.pairs.add_pair.Goals as goal
 
 larger : (a b d i : ℕ) → a ≤ b + 2 ^ 105 → b ≤ d + (i * 2 ^ 105) → a ≤ d + ((i + 1) * 2 ^ 105)
 larger a b d i h g = omega arith
 
+pub places_of-places-requires-clause-phase : goal.places_of-places-requires-clause-phase
+places_of-places-requires-clause-phase c =
+    subst (λ (p : Option ℕ). IfSome p (λ i. i < PHASES)) (sym c.phase_place.ensures) (phase_within c.args.signals.now (get_or c.args.signals.now c.loop-signal.signal-index 0) c.requires.counted)
+
+pub add_signal-requires-clause-places : goal.add_signal-requires-clause-places
+add_signal-requires-clause-places c =
+    let arcs : List Arc = c.args.arcs.now in
+    let ss : List ℕ = c.args.signals.now in
+    let s : ℕ = get_or ss c.loop-signal.signal-index 0 in
+    let rows : List Row = c.as_slice.result.now in
+    let are : ArePlaces c.args.arcs.now c.args.signals.now (get_or c.args.signals.now c.loop-signal.signal-index 0) c.as_slice.result.now c.places_of-places.result =
+    are_places arcs ss s rows c.first_places-firsts.result c.places_of-places.result c.phase_place.result c.phase_place.ensures c.first_places-firsts.ensures.value c.places_of-places.ensures in
+    subst (λ (n : ℕ). (k : ℕ) → IfSome (slice_index_or c.places_of-places.result k None) (λ i. i < n)) (sym c.requires.integers)
+    (are_within arcs ss s rows c.first_places-firsts.result c.places_of-places.result c.phase_place.result are c.first_places-firsts.ensures.none c.places_of-places.ensures)
+
 pub loop-signal-preserved : goal.loop-signal-preserved
 loop-signal-preserved c =
-    let signals : List ℕ = c.counted_signals-signals.result.now in
+    let arcs : List Arc = c.args.arcs.now in
+    let signals : List ℕ = c.args.signals.now in
     let k : ℕ = c.loop-signal.signal-index in
-    let f : ℕ → SignalGroup = signal_group c.args.arcs.now c.args.scale c.args.pair.now in
-    let inside : k < length signals = search rules in
-    let e : drop k signals ≡ get_or signals k 0 ∷ drop (k + 1) signals = drop_more signals k 0 inside in
+    let s : ℕ = get_or signals k 0 in
+    let f : ℕ → SignalGroup = signal_group arcs signals c.args.pair.now in
+    let inside : c.loop-signal.signal-index < length c.args.signals.now = search rules in
+    let e : drop k signals ≡ s ∷ drop (k + 1) signals = drop_more signals k 0 inside in
+    let are : ArePlaces c.args.arcs.now c.args.signals.now (get_or c.args.signals.now c.loop-signal.signal-index 0) c.args.pair.now.rows c.places_of-places.result =
+    subst (λ (rows : List Row). ArePlaces arcs signals s rows c.places_of-places.result) c.as_slice.ensures
+    (are_places arcs signals s c.as_slice.result.now c.first_places-firsts.result c.places_of-places.result c.phase_place.result c.phase_place.ensures c.first_places-firsts.ensures.value
+    c.places_of-places.ensures) in
     record {
-      sums = λ i j hi hj. next_sum (entry c.loop-signal.table i j) (entry c.add_signal.new.table i j) (group_entry (f (get_or signals k 0)) i j) (matrix_entry (map f (drop (k + 1) signals)) i j) _
-          (ap (λ (l : List ℕ). entry c.loop-signal.table i j +ℤ matrix_entry (map f l) i j) (sym e) ∙ c.loop-signal.invariant.sums i j hi hj) (c.add_signal.ensures.added i j hi hj);
+      sums = λ i j hi hj. next_sum (entry c.loop-signal.table i j) (entry c.add_signal.new.table i j) (group_entry (f s) i j) (matrix_entry (map f (drop (k + 1) signals)) i j) _
+          (ap (λ (l : List ℕ). entry c.loop-signal.table i j +ℤ matrix_entry (map f l) i j) (sym e) ∙ c.loop-signal.invariant.sums i j hi hj)
+          (c.add_signal.ensures.added arcs signals are c.requires.integers i j hi hj);
       size = λ i j hi hj. larger _ _ _ k (c.add_signal.ensures.size i j hi hj) (c.loop-signal.invariant.size i j hi hj);
     }

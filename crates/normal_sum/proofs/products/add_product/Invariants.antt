@@ -1,9 +1,10 @@
-use Rattle.std.proofs.Common.{◌≡◌, ℕ, ◌<◌, ◌≤◌, pos, ◌+ℤ◌, ◌*ℤ◌, slice_index_or}
-use Rattle.obs_rows.specs.Tables.{entry}
+use Rattle.std.proofs.Common.{ℕ, ◌<◌, pos, ◌*ℤ◌, slice_index_or}
+use Rattle.form_tables.specs.Tables.{entry}
+use Rattle.form_tables.specs.declared.sizes.TheConstants.{MOST_COLUMNS}
+use Rattle.normal_sum.proofs.ColumnLaws.{AddedIn}
 use Rattle.normal_sum.proofs.products.add_product.Given as goal
 
-abbrev pub invariant-loop-i : goal.invariant-loop-i
-invariant-loop-i l = record {
-  done : (r c : ℕ) → r < l.i → c < 44 → entry l.table r c ≡ entry l.initial.table r c +ℤ ((l.fn.weight *ℤ slice_index_or l.values r (pos 0)) *ℤ slice_index_or l.values c (pos 0));
-  rest : (r c : ℕ) → l.i ≤ r → entry l.table r c ≡ entry l.initial.table r c;
-}
+abbrev pub invariant-loop-row : goal.invariant-loop-row
+invariant-loop-row l =
+    (j : ℕ) → j < MOST_COLUMNS → AddedIn l.columns l.row-index (λ i. entry l.initial.table i j) (λ i. entry l.table i j)
+    (λ i. (l.fn.weight *ℤ slice_index_or l.values i (pos 0)) *ℤ slice_index_or l.values j (pos 0))

@@ -1,11 +1,11 @@
 use Rattle.std.proofs.Common.{◌≡◌, ◌≤◌, ◌^◌, ℤ, pos, arith, unsigned_abs, slice_index_or, to_z, of_z}
 use Rattle.std.proofs.lemmas.Int.{to_z-of_z}
 use Rattle.std.specs.Int.{w64, w128}
-use Rattle.normal_sum.proofs.Words.{as_w64, as_w128}
+use Rattle.form_tables.proofs.Words.{as_w64, as_w128}
 use Rattle.normal_sum.proofs.products.add_product_row.Goals as goal
 
-pub returns-then-value-ne0-clause-added : goal.returns-then-value-ne0-clause-added
-returns-then-value-ne0-clause-added c =
+pub returns-clause-added : goal.returns-clause-added
+returns-clause-added c =
     let v : ℤ = slice_index_or c.args.values.now c.args.row (pos 0) in
     let s : unsigned_abs v ≤ 2 ^ 38 = c.requires.value_size c.args.row c.requires.row_in in
     let e : to_z w64 (of_z w64 v) ≡ v = as_w64 v (omega arith) in

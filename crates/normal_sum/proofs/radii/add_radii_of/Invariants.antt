@@ -8,7 +8,7 @@ use Rattle.normal_sum.proofs.radii.add_radii_of.Given as goal
 
 abbrev pub invariant-loop-row : goal.invariant-loop-row
 invariant-loop-row l = record {
-  value : (arcs : List Arc) (scale : ℕ) → add_radii (radii_of l.sums) (row_radii (weight l.fn.signal) (map (signal_row arcs scale l.fn.signal) (drop l.row-index l.rows)))
-      ≡ add_radii (radii_of l.fn.start) (row_radii (weight l.fn.signal) (map (signal_row arcs scale l.fn.signal) l.rows));
+  value : (arcs : List Arc) (ss : List ℕ) → add_radii (radii_of l.sums) (row_radii (weight l.fn.signal) (map (signal_row arcs ss l.fn.signal) (drop l.row-index l.rows)))
+      ≡ add_radii (radii_of l.fn.start) (row_radii (weight l.fn.signal) (map (signal_row arcs ss l.fn.signal) l.rows));
   size : (m : ℕ) → IsAtMost m l.fn.start → IsAtMost (m + (l.row-index * 2 ^ 72)) l.sums;
 }

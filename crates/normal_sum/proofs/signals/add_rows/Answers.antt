@@ -1,23 +1,22 @@
-use Rattle.std.proofs.Common.{◌≡◌, ℕ, ◌+◌, ◌*◌, ◌^◌, ◌<◌, ◌≤◌, ◌+ℤ◌, ◌*ℤ◌, ◌∷◌, List, pos, length, map, drop, unsigned_abs, slice_index_or, ℤ, to_z, of_z, arith, sym, ap, ◌∙◌, refl, rules}
+use Rattle.std.proofs.Common.{◌≡◌, ℕ, ◌+◌, ◌*◌, ◌^◌, ◌<◌, ◌≤◌, ◌+ℤ◌, ◌*ℤ◌, ◌∷◌, List, pos, length, map, drop, unsigned_abs, slice_index_or, None, ℤ, arith, sym, ap, ◌∙◌, refl, rules}
 use Rattle.std.proofs.lemmas.List.{drop_more}
 use Rattle.std.proofs.lemmas.Int.{ints}
-use Rattle.std.specs.Int.{w64}
 use Rattle.whole_math.proofs.Order.{lins}
+use Rattle.quadratic_form.specs.Rows.{SignalRow}
 use Rattle.quadratic_form.specs.MatrixEntries.{coefficient, coefficient_sum, product_sum}
+use Rattle.form_tables.specs.declared.sizes.TheConstants.{MOST_COLUMNS}
+use Rattle.form_tables.specs.Tables.{entry}
+use Rattle.form_tables.proofs.TableLaws.{zero_item}
 use Rattle.obs_rows.specs.declared.rows.Row.{Row}
-use Rattle.obs_rows.specs.Tables.{entry}
 use Rattle.obs_rows.specs.Signals.{weight}
+use Rattle.obs_rows.specs.Integers.{integer_place}
 use Rattle.obs_rows.specs.SignalGroups.{signal_row}
-use Rattle.normal_sum.proofs.Words.{as_w64}
-use Rattle.normal_sum.proofs.CoefficientPlaces.{item_replicate}
-use Rattle.normal_sum.proofs.RowSums.{next_product, next_sum, product_size, sum_size}
+use Rattle.normal_sum.specs.declared.places.TheConstants.{MOST_ROWS}
+use Rattle.normal_sum.proofs.RowSums.{next_product, next_sum}
 use Rattle.normal_sum.proofs.signals.add_rows.Goals as goal
 
 zero_first : (a b : ℤ) → a ≡ pos 0 → a +ℤ b ≡ b
 zero_first a b e = omega (arith, lins)
-
-as_size : (x : ℤ) → unsigned_abs x ≤ 2 ^ 32 → unsigned_abs (to_z w64 (of_z w64 x)) ≤ 2 ^ 32
-as_size x h = rw (as_w64 x (omega arith)) h
 
 larger : (a b d i : ℕ) → a ≤ b + 2 ^ 100 → b ≤ d + (i * 2 ^ 100) → a ≤ d + ((i + 1) * 2 ^ 100)
 larger a b d i h g = omega arith
@@ -28,36 +27,56 @@ larger_sum a b i h g = omega arith
 size_zero : (x : ℤ) → x ≡ pos 0 → unsigned_abs x ≤ 0 * 2 ^ 34
 size_zero x e = omega (arith, ints)
 
-pub loop-row-init : goal.loop-row-init
-loop-row-init c = record {
+pub loop-k-init : goal.loop-k-init
+loop-k-init c = record {
   full = refl;
-  products = λ i j h g. refl;
-  sums = λ j h. zero_first _ _ (item_replicate 44 j);
+  products = λ arcs ss p n i j h g. refl;
+  sums = λ arcs ss p n j h. zero_first _ _ (zero_item MOST_COLUMNS j);
   table_size = λ i j h g. omega arith;
-  sum_size = λ j h. size_zero _ (item_replicate 44 j);
+  sum_size = λ j h. size_zero _ (zero_item MOST_COLUMNS j);
 }
 
-pub loop-row-preserved : goal.loop-row-preserved
-loop-row-preserved c =
-    let f : Row → _ = signal_row c.args.arcs.now c.args.scale c.args.signal in
-    let x : Row = c.row-item.result in
-    let later : List Row = drop (c.loop-row.row-index + 1) c.args.rows.now in
+entry_fits : (a b k : ℕ) → a ≤ b + (k * 2 ^ 100) → b ≤ 3600 * 2 ^ 108 → k ≤ MOST_ROWS → a ≤ 2 ^ 120
+entry_fits a b k h g l = omega arith
+
+total_fits : (a k : ℕ) → a ≤ k * 2 ^ 34 → k ≤ MOST_ROWS → a ≤ 2 ^ 40
+total_fits a k h l = omega arith
+
+pub add_row-requires-clause-entry_size : goal.add_row-requires-clause-entry_size
+add_row-requires-clause-entry_size c =
+    let few : c.loop-k.k ≤ MOST_ROWS = omega (arith, c.loop-k-test.true, c.requires.few_rows) in
+    λ i j h g. entry_fits _ _ c.loop-k.k (c.loop-k.invariant.table_size i j h g) (c.requires.entry_size i j h g) few
+
+pub add_row-requires-clause-total_size : goal.add_row-requires-clause-total_size
+add_row-requires-clause-total_size c =
+    let few : c.loop-k.k ≤ MOST_ROWS = omega (arith, c.loop-k-test.true, c.requires.few_rows) in
+    λ j h. total_fits _ c.loop-k.k (c.loop-k.invariant.sum_size j h) few
+
+pub loop-k-preserved : goal.loop-k-preserved
+loop-k-preserved c =
+    let x : Row = c.index-rows-k.result in
+    let later : List Row = drop (c.loop-k.k + 1) c.args.rows.now in
     let k : ℤ = pos 360360 *ℤ weight c.args.signal in
-    let inside : c.loop-row.row-index < length c.args.rows.now = search rules in
-    let e : drop c.loop-row.row-index c.args.rows.now ≡ x ∷ later = drop_more c.args.rows.now c.loop-row.row-index x inside ∙ ap (λ (y : Row). y ∷ later) (sym c.row-item.is) in
-    let w : to_z w64 (of_z w64 c.row_weight.result) ≡ k = as_w64 c.row_weight.result (omega (arith, c.row_weight.ensures.size)) ∙ c.row_weight.ensures.value in
-    let v : ℕ → ℤ = λ j. slice_index_or c.coefficients-values.result j (pos 0) in
-    let raw = c.add_product.ensures in
-    let there : (i j : ℕ) → i < 44 → j < 44 → entry c.add_product.new.table i j ≡ entry c.loop-row.table i j +ℤ ((k *ℤ v i) *ℤ v j) = λ i j h g. raw i j h g ∙ ap (λ z. entry c.loop-row.table i j +ℤ ((z *ℤ v i) *ℤ v j)) w in
+    let inside : c.loop-k.k < length c.args.rows.now = c.loop-k-test.true in
+    let e : drop c.loop-k.k c.args.rows.now ≡ c.index-rows-k.result ∷ later = drop_more c.args.rows.now c.loop-k.k x inside ∙ ap (λ (y : Row). y ∷ later) (sym c.index-rows-k.is) in
     record {
       full = search rules;
-      products = λ i j h g. next_product (entry c.loop-row.table i j) (entry c.add_product.new.table i j) (entry c.args.table.now i j) k (coefficient (f x) i) (coefficient (f x) j) (product_sum (map f later) i j) (product_sum (map f c.args.rows.now) i j)
-          (ap (λ (l : List Row). entry c.loop-row.table i j +ℤ (k *ℤ product_sum (map f l) i j)) (sym e) ∙ c.loop-row.invariant.products i j h g)
-          (there i j h g ∙ ap (λ z. entry c.loop-row.table i j +ℤ ((k *ℤ z) *ℤ v j)) (c.coefficients-values.ensures.entries i) ∙ ap (λ z. entry c.loop-row.table i j +ℤ ((k *ℤ coefficient (f x) i) *ℤ z)) (c.coefficients-values.ensures.entries j));
-      sums = λ j h. next_sum (slice_index_or c.loop-row.total j (pos 0)) (slice_index_or c.add_values.new.total j (pos 0)) (coefficient (f x) j) (coefficient_sum (map f later) j) (coefficient_sum (map f c.args.rows.now) j)
-          (ap (λ (l : List Row). slice_index_or c.loop-row.total j (pos 0) +ℤ coefficient_sum (map f l) j) (sym e) ∙ c.loop-row.invariant.sums j h)
-          (c.add_values.ensures j h ∙ ap (λ z. slice_index_or c.loop-row.total j (pos 0) +ℤ z) (c.coefficients-values.ensures.entries j));
-      table_size = λ i j h g. larger _ _ _ _ (product_size (entry c.loop-row.table i j) (entry c.add_product.new.table i j) (to_z w64 (of_z w64 c.row_weight.result)) (v i) (v j) (raw i j h g)
-          (omega (arith, as_size c.row_weight.result c.row_weight.ensures.size)) (c.coefficients-values.ensures.size i) (c.coefficients-values.ensures.size j)) (c.loop-row.invariant.table_size i j h g);
-      sum_size = λ j h. larger_sum _ _ _ (sum_size (slice_index_or c.loop-row.total j (pos 0)) (slice_index_or c.add_values.new.total j (pos 0)) (v j) (c.add_values.ensures j h) (c.coefficients-values.ensures.size j)) (c.loop-row.invariant.sum_size j h);
+      products = λ arcs ss p n i j h g.
+          let f : Row → SignalRow = signal_row arcs ss c.args.signal in
+          let place : slice_index_or c.args.places.now c.loop-k.k None ≡ integer_place arcs ss c.index-rows-k.result.arc c.args.signal = p c.loop-k.k x inside
+          ∙ ap (λ (r : Row). integer_place arcs ss r.arc c.args.signal) (sym c.index-rows-k.is) in
+          next_product (entry c.loop-k.table i j) (entry c.add_row.new.table i j) (entry c.args.table.now i j) k (coefficient (f x) i) (coefficient (f x) j) (product_sum (map f later) i j)
+          (product_sum (map f c.args.rows.now) i j)
+          (ap (λ (l : List Row). entry c.loop-k.table i j +ℤ (k *ℤ product_sum (map f l) i j)) (sym e) ∙ c.loop-k.invariant.products arcs ss p n i j h g)
+          (c.add_row.ensures.products arcs ss place n i j h g);
+      sums = λ arcs ss p n j h.
+          let f : Row → SignalRow = signal_row arcs ss c.args.signal in
+          let place : slice_index_or c.args.places.now c.loop-k.k None ≡ integer_place arcs ss c.index-rows-k.result.arc c.args.signal = p c.loop-k.k x inside
+          ∙ ap (λ (r : Row). integer_place arcs ss r.arc c.args.signal) (sym c.index-rows-k.is) in
+          next_sum (slice_index_or c.loop-k.total j (pos 0)) (slice_index_or c.add_row.new.total j (pos 0)) (coefficient (f x) j) (coefficient_sum (map f later) j)
+          (coefficient_sum (map f c.args.rows.now) j)
+          (ap (λ (l : List Row). slice_index_or c.loop-k.total j (pos 0) +ℤ coefficient_sum (map f l) j) (sym e) ∙ c.loop-k.invariant.sums arcs ss p n j h)
+          (c.add_row.ensures.sums arcs ss place n j h);
+      table_size = λ i j h g. larger _ _ _ _ (c.add_row.ensures.table_size i j h g) (c.loop-k.invariant.table_size i j h g);
+      sum_size = λ j h. larger_sum _ _ _ (c.add_row.ensures.sum_size j h) (c.loop-k.invariant.sum_size j h);
     }

@@ -1,17 +1,22 @@
-use Rattle.std.proofs.Common.{◌≡◌, ℕ, ◌+◌, ◌*◌, ◌^◌, ◌<◌, ◌≤◌, length, map, drop, pos, ◌+ℤ◌, ◌*ℤ◌, unsigned_abs, slice_index_or}
+use Rattle.std.proofs.Common.{◌≡◌, ℕ, ◌+◌, ◌*◌, ◌^◌, ◌<◌, ◌≤◌, List, length, map, drop, pos, ◌+ℤ◌, ◌*ℤ◌, unsigned_abs, slice_index_or}
 use Rattle.quadratic_form.specs.MatrixEntries.{coefficient_sum, product_sum}
-use Rattle.obs_rows.specs.Tables.{entry}
+use Rattle.form_tables.specs.declared.sizes.TheConstants.{MOST_COLUMNS}
+use Rattle.form_tables.specs.Tables.{entry}
+use Rattle.obs_rows.specs.declared.arcs.Arc.{Arc}
 use Rattle.obs_rows.specs.Signals.{weight}
+use Rattle.obs_rows.specs.Integers.{integer_count}
 use Rattle.obs_rows.specs.SignalGroups.{signal_row}
+use Rattle.normal_sum.specs.Places.{ArePlaces}
 use Rattle.normal_sum.proofs.signals.add_rows.Given as goal
 
-abbrev pub invariant-loop-row : goal.invariant-loop-row
-invariant-loop-row l = record {
-  full : length l.total ≡ 44;
-  products : (i j : ℕ) → i < 44 → j < 44 → entry l.table i j +ℤ ((pos 360360 *ℤ weight l.fn.signal) *ℤ product_sum (map (signal_row l.arcs l.fn.scale l.fn.signal) (drop l.row-index l.rows)) i j)
-      ≡ entry l.initial.table i j +ℤ ((pos 360360 *ℤ weight l.fn.signal) *ℤ product_sum (map (signal_row l.arcs l.fn.scale l.fn.signal) l.rows) i j);
-  sums : (j : ℕ) → j < 44 → slice_index_or l.total j (pos 0) +ℤ coefficient_sum (map (signal_row l.arcs l.fn.scale l.fn.signal) (drop l.row-index l.rows)) j
-      ≡ coefficient_sum (map (signal_row l.arcs l.fn.scale l.fn.signal) l.rows) j;
-  table_size : (i j : ℕ) → i < 44 → j < 44 → unsigned_abs (entry l.table i j) ≤ unsigned_abs (entry l.initial.table i j) + (l.row-index * 2 ^ 100);
-  sum_size : (j : ℕ) → j < 44 → unsigned_abs (slice_index_or l.total j (pos 0)) ≤ l.row-index * 2 ^ 34;
+abbrev pub invariant-loop-k : goal.invariant-loop-k
+invariant-loop-k l = record {
+  full : length l.total ≡ MOST_COLUMNS;
+  products : (arcs : List Arc) (ss : List ℕ) → ArePlaces arcs ss l.fn.signal l.rows l.places → l.fn.integers ≡ integer_count arcs ss → (i j : ℕ) → i < MOST_COLUMNS → j < MOST_COLUMNS →
+      entry l.table i j +ℤ ((pos 360360 *ℤ weight l.fn.signal) *ℤ product_sum (map (signal_row arcs ss l.fn.signal) (drop l.k l.rows)) i j)
+      ≡ entry l.initial.table i j +ℤ ((pos 360360 *ℤ weight l.fn.signal) *ℤ product_sum (map (signal_row arcs ss l.fn.signal) l.rows) i j);
+  sums : (arcs : List Arc) (ss : List ℕ) → ArePlaces arcs ss l.fn.signal l.rows l.places → l.fn.integers ≡ integer_count arcs ss → (j : ℕ) → j < MOST_COLUMNS →
+      slice_index_or l.total j (pos 0) +ℤ coefficient_sum (map (signal_row arcs ss l.fn.signal) (drop l.k l.rows)) j ≡ coefficient_sum (map (signal_row arcs ss l.fn.signal) l.rows) j;
+  table_size : (i j : ℕ) → i < MOST_COLUMNS → j < MOST_COLUMNS → unsigned_abs (entry l.table i j) ≤ unsigned_abs (entry l.initial.table i j) + (l.k * 2 ^ 100);
+  sum_size : (j : ℕ) → j < MOST_COLUMNS → unsigned_abs (slice_index_or l.total j (pos 0)) ≤ l.k * 2 ^ 34;
 }

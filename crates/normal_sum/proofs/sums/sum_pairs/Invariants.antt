@@ -1,15 +1,17 @@
 use Rattle.std.proofs.Common.{◌≡◌, ℕ, ◌*◌, ◌^◌, ◌<◌, ◌≤◌, drop, ◌+ℤ◌, unsigned_abs}
 use Rattle.quadratic_form.specs.Rows.{add_radii, radii}
 use Rattle.quadratic_form.specs.MatrixEntries.{matrix_entry}
-use Rattle.obs_rows.specs.Tables.{entry}
+use Rattle.form_tables.specs.declared.sizes.TheConstants.{MOST_COLUMNS}
+use Rattle.form_tables.specs.Tables.{entry}
 use Rattle.obs_rows.specs.SignalGroups.{signal_groups}
 use Rattle.normal_sum.specs.RadiusSums.{radii_of, IsAtMost}
 use Rattle.normal_sum.proofs.sums.sum_pairs.Given as goal
 
 abbrev pub invariant-loop-pair : goal.invariant-loop-pair
 invariant-loop-pair l = record {
-  sums : (i j : ℕ) → i < 44 → j < 44 → entry l.table i j +ℤ matrix_entry (signal_groups l.arcs l.fn.scale (drop l.pair-index l.pairs)) i j ≡ matrix_entry (signal_groups l.arcs l.fn.scale l.pairs) i j;
-  size : (i j : ℕ) → i < 44 → j < 44 → unsigned_abs (entry l.table i j) ≤ l.pair-index * 2 ^ 107;
-  radii : add_radii (radii_of l.radii) (radii (signal_groups l.arcs l.fn.scale (drop l.pair-index l.pairs))) ≡ radii (signal_groups l.arcs l.fn.scale l.pairs);
-  radii_size : IsAtMost (l.pair-index * 2 ^ 78) l.radii;
+  sums : (i j : ℕ) → i < MOST_COLUMNS → j < MOST_COLUMNS → entry l.table i j +ℤ matrix_entry (signal_groups l.arcs l.signals (drop l.pair-index l.pairs)) i j ≡ matrix_entry
+      (signal_groups l.arcs l.signals l.pairs) i j;
+  size : (i j : ℕ) → i < MOST_COLUMNS → j < MOST_COLUMNS → unsigned_abs (entry l.table i j) ≤ l.pair-index * 2 ^ 108;
+  radii : add_radii (radii_of l.radii) (radii (signal_groups l.arcs l.signals (drop l.pair-index l.pairs))) ≡ radii (signal_groups l.arcs l.signals l.pairs);
+  radii_size : IsAtMost (l.pair-index * 2 ^ 79) l.radii;
 }

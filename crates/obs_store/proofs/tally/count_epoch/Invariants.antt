@@ -5,6 +5,6 @@ use Rattle.obs_store.specs.Seen.{seen_in}
 use Rattle.obs_store.proofs.SeenLaws.{with_sats}
 use Rattle.obs_store.proofs.tally.count_epoch.Given as goal
 
-abbrev pub invariant-loop-sat : goal.invariant-loop-sat
-invariant-loop-sat l =
-    (d : Epoch) → l.seen.entries ≡ seen_in (take l.at l.epochs ++ with_sats (get_or l.epochs l.at d) (take l.sat-index l.sat-items) ∷ [])
+abbrev pub invariant-loop-place : goal.invariant-loop-place
+invariant-loop-place l =
+    (d : Epoch) → l.seen.entries ≡ seen_in (take l.at l.epochs ++ with_sats (get_or l.epochs l.at d) (take l.place (get_or l.epochs l.at d).sats) ∷ [])

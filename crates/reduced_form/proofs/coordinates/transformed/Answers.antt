@@ -1,5 +1,5 @@
 use Rattle.std.proofs.Common.{◌≡◌, ◌+◌, ◌-◌, ◌<◌, ◌≤◌, ◌^◌, ℕ, List, ℤ, unsigned_abs, arith, sym, ap, ◌∙◌, subst}
-use Rattle.obs_rows.specs.Tables.{entry}
+use Rattle.form_tables.specs.Tables.{entry}
 use Rattle.integer_form.specs.Forms.{integers_of}
 use Rattle.integer_form.specs.Kept.{form_of_table}
 use Rattle.reduced_form.specs.Transformed.{half_entry, IsTransformedSmall, IsTransformed}
@@ -12,14 +12,16 @@ returns-in_default-clause-form c =
     let m : ℕ → ℕ → ℤ = entry c.args.change.now.map in
     let p : ℕ → ℕ → ℤ = entry c.args.form.now.p in
     subst (λ (k : ℕ). IsTransformedSmall k c.args.change.now.map c.args.form.now.p → ⊥) c.requires
-    (λ s. c.in_default.ensures (λ i j h g. subst (λ (z : ℤ). unsigned_abs z < 2 ^ 52) (sym (wholes_as n m (entry c.halves-halves.result) (half_entry n m p) c.halves-halves.ensures.value i j g)) (s i j h g)))
+    (λ s. c.in_default.ensures (λ i j h g. subst (λ (z : ℤ). unsigned_abs z < 2 ^ 52)
+    (sym (wholes_as n m (entry c.halves-halves.result) (half_entry n m p) c.halves-halves.ensures.value i j g)) (s i j h g)))
 
 pub of-requires-clause-symmetric : goal.of-requires-clause-symmetric
 of-requires-clause-symmetric c =
     let n : ℕ = c.args.change.now.size in
     let m : ℕ → ℕ → ℤ = entry c.args.change.now.map in
     let p : ℕ → ℕ → ℤ = entry c.args.form.now.p in
-    table_symmetric n m p c.in-Some.p c.args.form.now.symmetric (λ i j h g. c.in-Some.ensures.same i j h g ∙ wholes_as n m (entry c.halves-halves.result) (half_entry n m p) c.halves-halves.ensures.value i j g) c.in-Some.ensures.outside
+    table_symmetric n m p c.in-Some.p c.args.form.now.symmetric
+    (λ i j h g. c.in-Some.ensures.same i j h g ∙ wholes_as n m (entry c.halves-halves.result) (half_entry n m p) c.halves-halves.ensures.value i j g) c.in-Some.ensures.outside
 
 pub returns-clause-form : goal.returns-clause-form
 returns-clause-form c =

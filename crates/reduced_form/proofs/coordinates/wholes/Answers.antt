@@ -1,6 +1,7 @@
 use Rattle.std.proofs.Common.{◌≡◌, ◌^◌, ◌<◌, ℕ, List, ℤ, pos, unsigned_abs, arith, refl, sym, ap, ◌∙◌, subst, below_more}
-use Rattle.obs_rows.specs.Tables.{entry}
-use Rattle.obs_rows.proofs.TableLaws.{zero_entry}
+use Rattle.form_tables.specs.declared.sizes.TheConstants.{MOST_FORM_COLUMNS}
+use Rattle.form_tables.specs.Tables.{entry}
+use Rattle.form_tables.proofs.TableLaws.{zero_entry}
 use Rattle.reduced_form.specs.Transformed.{whole_entry}
 use Rattle.reduced_form.proofs.coordinates.wholes.Goals as goal
 
@@ -9,7 +10,7 @@ none = omega arith
 
 pub loop-i-init : goal.loop-i-init
 loop-i-init c =
-    let z : (i j : ℕ) → entry c.zeros-p.result i j ≡ pos 0 = λ i j. ap (λ (t : List (List ℤ)). entry t i j) c.zeros-p.ensures.zeros ∙ zero_entry 41 41 i j in
+    let z : (i j : ℕ) → entry c.zeros-p.result i j ≡ pos 0 = λ i j. ap (λ (t : List (List ℤ)). entry t i j) c.zeros-p.ensures.zeros ∙ zero_entry MOST_FORM_COLUMNS MOST_FORM_COLUMNS i j in
     record {
       same = λ k j h g. absurd (omega arith);
       entries = λ i j. subst (λ (x : ℤ). unsigned_abs x < 2 ^ 52) (sym (z i j)) none;

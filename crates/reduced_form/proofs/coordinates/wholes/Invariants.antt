@@ -1,6 +1,6 @@
 use Rattle.std.proofs.Common.{◌≡◌, ℕ, ◌+◌, ◌^◌, ◌<◌}
-use Rattle.obs_rows.specs.Tables.{entry, IsZeroOutside}
-use Rattle.normal_sum.specs.Matrices.{EntriesBelow}
+use Rattle.form_tables.specs.Tables.{entry, IsZeroOutside}
+use Rattle.form_tables.specs.Matrices.{EntriesBelow}
 use Rattle.reduced_form.specs.Transformed.{whole_entry}
 use Rattle.reduced_form.proofs.coordinates.wholes.Given as goal
 

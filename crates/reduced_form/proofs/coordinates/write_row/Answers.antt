@@ -1,9 +1,10 @@
 use Rattle.std.proofs.Common.{◌≡◌, inl, inr, ⊎_elim, ℕ, ◌+◌, ◌^◌, ◌<◌, ◌≤◌, ℤ, unsigned_abs, arith, refl, sym, ap, ◌∙◌, subst, to_z, of_z, below_more}
 use Rattle.std.proofs.lemmas.Bool.{cases_eq}
 use Rattle.std.specs.Int.{w64, w128}
-use Rattle.obs_rows.specs.Tables.{entry}
+use Rattle.form_tables.specs.Tables.{entry}
 use Rattle.reduced_form.specs.Transformed.{whole_entry}
-use Rattle.reduced_form.proofs.Words.{form_word, as_w128}
+use Rattle.form_tables.proofs.Words.{as_w128}
+use Rattle.reduced_form.proofs.Words.{form_word}
 use Rattle.reduced_form.proofs.coordinates.write_row.Goals as goal
 
 pub loop-j-preserved : goal.loop-j-preserved
@@ -19,7 +20,8 @@ loop-j-preserved c =
       others = λ k d n. c.set.ensures.others k d (inl n) ∙ c.loop-j.invariant.others k d n;
       entries = λ k d. ⊎_elim
           (λ (p : k ≡ i). ⊎_elim
-          (λ (q : d ≡ j). subst (λ (m : ℕ). unsigned_abs (entry c.set.new.self m d) < 2 ^ 52) (sym p) (subst (λ (m : ℕ). unsigned_abs (entry c.set.new.self i m) < 2 ^ 52) (sym q) (subst (λ (z : ℤ). unsigned_abs z < 2 ^ 52) (sym here) s)))
+          (λ (q : d ≡ j). subst (λ (m : ℕ). unsigned_abs (entry c.set.new.self m d) < 2 ^ 52) (sym p)
+          (subst (λ (m : ℕ). unsigned_abs (entry c.set.new.self i m) < 2 ^ 52) (sym q) (subst (λ (z : ℤ). unsigned_abs z < 2 ^ 52) (sym here) s)))
           (λ (q : d ≡ j → ⊥). subst (λ (z : ℤ). unsigned_abs z < 2 ^ 52) (sym (c.set.ensures.others k d (inr q))) (c.loop-j.invariant.entries k d)) (cases_eq d j))
           (λ (p : k ≡ i → ⊥). subst (λ (z : ℤ). unsigned_abs z < 2 ^ 52) (sym (c.set.ensures.others k d (inl p))) (c.loop-j.invariant.entries k d)) (cases_eq k i);
       outside = λ k d h. ⊎_elim

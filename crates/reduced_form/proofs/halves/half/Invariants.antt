@@ -1,5 +1,5 @@
 use Rattle.std.proofs.Common.{◌≡◌, ◌*◌, ◌^◌, ◌≤◌, ◌*ℤ◌, unsigned_abs}
-use Rattle.obs_rows.specs.Tables.{entry}
+use Rattle.form_tables.specs.Tables.{entry}
 use Rattle.reduced_form.specs.Sums.{total}
 use Rattle.reduced_form.specs.Transformed.{with_constant}
 use Rattle.reduced_form.proofs.halves.half.Given as goal

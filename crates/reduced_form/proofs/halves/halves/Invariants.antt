@@ -1,5 +1,5 @@
 use Rattle.std.proofs.Common.{◌≡◌, ℕ, ◌+◌, ◌^◌, ◌<◌, ◌≤◌, unsigned_abs}
-use Rattle.obs_rows.specs.Tables.{entry}
+use Rattle.form_tables.specs.Tables.{entry}
 use Rattle.reduced_form.specs.Transformed.{half_entry}
 use Rattle.reduced_form.proofs.halves.halves.Given as goal
 

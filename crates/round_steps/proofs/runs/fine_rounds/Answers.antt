@@ -1,5 +1,7 @@
-use Rattle.std.proofs.Common.{◌≡◌, ◌≤◌, ◌-◌, ◌+◌, ◌*◌, ◌^◌, false, nat_eq, ℕ, List, arith, subst, sym}
+use Rattle.std.proofs.Common.{◌≡◌, ◌≤◌, ◌-◌, ◌+◌, ◌*◌, ◌^◌, false, nat_eq, ℕ, List, All, arith, subst, sym}
 use Rattle.obs_rows.specs.declared.arcs.Arc.{Arc}
+use Rattle.obs_rows.specs.Signals.{fine_signals}
+use Rattle.obs_rows.specs.Unused.{HasUsedShifts}
 use Rattle.round_steps.specs.Shifts.{AreGrown, AreShiftsBelow}
 use Rattle.round_steps.specs.Steps.{IsStep, IsSettledForm, IsMoved}
 use Rattle.round_steps.specs.Runs.{Rules, IsSessionOf, IsSessionAt, fine, most_rounds}
@@ -12,10 +14,13 @@ narrow_shifts : (made : ℕ) (arcs given : List Arc) → made ≤ most_rounds 0 
 narrow_shifts made arcs given few e h = wider_shifts (2 ^ 39 + 2 ^ 30 * (made - 1)) (2 ^ 40) given (omega arith) (subst (AreShiftsBelow (2 ^ 39 + 2 ^ 30 * (made - 1))) (sym e) h)
 
 pub rounds-init : goal.rounds-init
-rounds-init g c = fine_begins (g.R.Rounds.rules c.args.rounds.now) c.args.first.now c.in_ok-arcs.arcs.items c.args.coarse c.requires.first c.in_ok-arcs.ensures.begins c.in_ok-arcs.ensures.arcs c.in_ok-arcs.ensures.shifts
+rounds-init g c = fine_begins (g.R.Rounds.rules c.args.rounds.now) c.args.first.now c.in_ok-arcs.arcs.items c.args.coarse c.requires.first c.in_ok-arcs.ensures.begins c.in_ok-arcs.ensures.arcs c.in_ok-arcs.ensures.shifts c.in_ok-arcs.ensures.used
 
 pub session-requires-clause-shifts : goal.session-requires-clause-shifts
 session-requires-clause-shifts g c = narrow_shifts c.rounds.fine c.rounds.arcs.items c.as_slice.result.now c.rounds.invariant.few c.as_slice.ensures.value c.rounds.invariant.below
+
+pub session-requires-clause-used : goal.session-requires-clause-used
+session-requires-clause-used g c = subst (All (HasUsedShifts (fine_signals (g.R.Rounds.rules c.args.rounds.now).signals))) (sym c.as_slice.ensures.value) c.rounds.invariant.used
 
 pub returns-in_default-clause-end : goal.returns-in_default-clause-end
 returns-in_default-clause-end g c =
@@ -58,8 +63,9 @@ rounds-preserved g c =
     let m : (nat_eq c.rounds.fine (most_rounds 0) ≡ false) × IsMoved s c.in-Ok-Moved.numbers c.in-Ok-Moved.moved = subst (IsStep (nat_eq c.rounds.fine (most_rounds 0)) s) c.in-Ok-Moved.field-0-is c.in-Ok-Moved.ensures.step in
     let v = c.as_slice-in-Ok-Moved.ensures.value in
     fine_moves rules c.rounds.point a c.args.coarse c.rounds.fine s c.in-Ok-Moved.numbers c.in-Ok-Moved.moved c.in_ok-arcs-in-Ok-Moved.arcs.items c.rounds.invariant k m.0 m.1
-    (subst (λ (b : List Arc). AreGrown b c.in-Ok-Moved.numbers c.in_ok-arcs-in-Ok-Moved.arcs.items) v c.in_ok-arcs-in-Ok-Moved.ensures.grown)
+    (subst (λ (ss : List ℕ). AreGrown a ss c.in-Ok-Moved.numbers c.in_ok-arcs-in-Ok-Moved.arcs.items) c.fine_signals.ensures.value
+    (subst (λ (b : List Arc). AreGrown b c.fine_signals.result.now c.in-Ok-Moved.numbers c.in_ok-arcs-in-Ok-Moved.arcs.items) v c.in_ok-arcs-in-Ok-Moved.ensures.grown))
     (λ n h z. c.in_ok-arcs-in-Ok-Moved.ensures.below n (subst (AreShiftsBelow n) (sym v) h) z)
 
 pub returns-in-Err-clause-fits : goal.returns-in-Err-clause-fits
-returns-in-Err-clause-fits g c = c.in-Err.ensures.fits c.args.budget
+returns-in-Err-clause-fits g c = c.in-Err.ensures.fits (fine_signals c.in-Some.session.signals) c.args.budget

@@ -1,6 +1,6 @@
 use Rattle.std.proofs.Common.{inr, refl, sym, subst}
 use Rattle.std.proofs.lemmas.Bool.{false≢true}
-use Rattle.round_steps.specs.Points.{IsReceiverPoint}
+use Rattle.obs_rows.specs.ReceiverPoints.{IsReceiverPoint}
 use Rattle.round_steps.specs.Limits.{IsFirstOver}
 use Rattle.round_steps.specs.Steps.{IsFloatOf}
 use Rattle.round_steps.proofs.StepLaws.{entry_word, declined_fits, declined_best}

@@ -13,14 +13,16 @@ use Rattle.row_boxes.proofs.Ends.{plain_size}
 use Rattle.row_boxes.proofs.Ys.{less_pseudoranges, y_is, half_cycle, within_half, cycle_units}
 use Rattle.row_boxes.proofs.choices.first_shift.Goals as goal
 
-end_is : (c : goal.After-nearest_cycle) → to_z w128 (of_z w128 c.less_whole.result) ≡ c.prefit_of-prefit.result.lo -ℤ (c.args.group *ℤ pos (2 ^ 20))
-end_is c = to_z-of_z w128 c.less_whole.result (record { sfits = c.less_whole.type_inv }) ∙ c.less_whole.ensures.value ∙ ap₂ (λ (l g : ℤ). l -ℤ (g *ℤ pos (2 ^ 20))) (plain_size c.prefit_of-prefit.result.lo (2 ^ 68) (lit≤ tt) c.prefit_of-prefit.result.lo_size) (to_z-of_z w64 c.args.group c.ranges.group)
+end_is : (c : goal.After-nearest_cycle) → to_z w128 (of_z w128 c.less_whole.result) ≡ c.prefit_of-prefit.result.lo -ℤ (c.args.group *ℤ pos (2 ^ 15))
+end_is c = to_z-of_z w128 c.less_whole.result (record { sfits = c.less_whole.type_inv }) ∙ c.less_whole.ensures.value ∙ ap₂ (λ (l g : ℤ). l -ℤ (g *ℤ pos (2 ^ 15)))
+    (plain_size c.prefit_of-prefit.result.lo (2 ^ 68) (lit≤ tt) c.prefit_of-prefit.result.lo_size) (to_z-of_z w64 c.args.group c.ranges.group)
 
-nearest : (c : goal.After-nearest_cycle) → IsNearest (c.prefit_of-prefit.result.lo -ℤ (c.args.group *ℤ pos (2 ^ 20))) (unsigned_abs (wavelength c.args.signal) * 2 ^ 20) c.nearest_cycle.result
-nearest c = subst (λ (z : ℤ). IsNearest z (unsigned_abs (wavelength c.args.signal) * 2 ^ 20) c.nearest_cycle.result) (end_is c) c.nearest_cycle.ensures.nearest
+nearest : (c : goal.After-nearest_cycle) → IsNearest (c.prefit_of-prefit.result.lo -ℤ (c.args.group *ℤ pos (2 ^ 15))) (unsigned_abs (wavelength c.args.signal) * 2 ^ 15) c.nearest_cycle.result
+nearest c = subst (λ (z : ℤ). IsNearest z (unsigned_abs (wavelength c.args.signal) * 2 ^ 15) c.nearest_cycle.result) (end_is c) c.nearest_cycle.ensures.nearest
 
-held : (c : goal.After-nearest_cycle) (p : Pairing) → HoldsBoth p c.args.base.now c.args.rover.now → (b r : Sighting) → AreSightings p b r → InBox 20 c.prefit_of-prefit.result.lo c.prefit_of-prefit.result.hi (less_pseudoranges c.args.signal c.args.amount b r)
-held c p h b r a = subst (λ (z : ℤ). InBox 20 c.prefit_of-prefit.result.lo c.prefit_of-prefit.result.hi (less_pseudoranges c.args.signal z b r)) (to_z-of_z w64 c.args.amount c.ranges.amount)
+held : (c : goal.After-nearest_cycle) (p : Pairing) → HoldsBoth p c.args.base.now c.args.rover.now → (b r : Sighting) → AreSightings p b r →
+    InBox 15 c.prefit_of-prefit.result.lo c.prefit_of-prefit.result.hi (less_pseudoranges c.args.signal c.args.amount b r)
+held c p h b r a = subst (λ (z : ℤ). InBox 15 c.prefit_of-prefit.result.lo c.prefit_of-prefit.result.hi (less_pseudoranges c.args.signal z b r)) (to_z-of_z w64 c.args.amount c.ranges.amount)
     (c.prefit_of-prefit.ensures.holds (pseudorange (range_of b.travel) b.clock) (pseudorange (range_of r.travel) r.clock) (h.base_held b a.base_is) (h.rover_held r a.rover_is))
 
 result_is : (c : goal.After-nearest_cycle) → to_z w64 (of_z w64 c.nearest_cycle.result) ≡ c.nearest_cycle.result
@@ -34,6 +36,8 @@ returns-clause-near c = λ p h b r a.
     let k : ℤ = c.nearest_cycle.result in
     let l : ℤ = wavelength s in
     let q : Rational = less_pseudoranges s c.args.amount b r in
-    let w : IsWithinHalf l (sub_r q (of_whole (g +ℤ (l *ℤ k)))) = within_half l x.lo x.hi (g +ℤ (l *ℤ k)) q (half_cycle x.lo x.hi g k l (unsigned_abs l * 2 ^ 20) (cycle_units s c.requires.signal) x.narrow (nearest c)) (held c p h b r a) in
-    let y : IsWithinHalf l (y_of s c.args.amount g k b r) = InBox-along 20 _ _ (sub_r q (of_whole (g +ℤ (l *ℤ k)))) (y_of s c.args.amount g k b r) (y_is s c.args.amount g k (g +ℤ (l *ℤ k)) b r refl) w in
+    let w : IsWithinHalf l (sub_r q (of_whole (g +ℤ (l *ℤ k)))) = within_half l x.lo x.hi (g +ℤ (l *ℤ k)) q
+    (half_cycle x.lo x.hi g k l (unsigned_abs l * 2 ^ 15) (cycle_units s c.requires.signal c.requires.phase) x.narrow (nearest c)) (held c p h b r a) in
+    let y : IsWithinHalf l (y_of s c.args.amount g k b r) = InBox-along 15 _ _ (sub_r q (of_whole (g +ℤ (l *ℤ k)))) (y_of s c.args.amount g k b r)
+    (y_is s c.args.amount g k (g +ℤ (l *ℤ k)) b r refl) w in
     subst (λ (z : ℤ). IsWithinHalf l (y_of s c.args.amount g z b r)) (sym (result_is c)) y

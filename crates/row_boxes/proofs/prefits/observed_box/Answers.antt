@@ -1,7 +1,11 @@
-use Rattle.std.proofs.Common.{◌≡◌, ℕ, ◌*◌, ◌^◌, ◌≤◌, ℤ, pos, ◌*ℤ◌, ◌≤ℤ◌, arith, sym, subst}
+use Rattle.std.proofs.Common.{◌≡◌, ℕ, zero, suc, Bool, true, false, IsTrue, not, refl, ◌*◌, ◌^◌, ◌<◌, ◌*ℤ◌, ◌≤ℤ◌, ℤ, pos, arith, sym, subst}
 use Rattle.std.proofs.lemmas.Int.{ints}
+use Rattle.std.proofs.lemmas.Bool.{false≢true}
 use Rattle.whole_math.specs.Rounding.{IsFloor, IsCeil}
 use Rattle.rational.specs.Rational.{InBox}
+use Rattle.obs_rows.specs.Signals.{wavelength, is_phase}
+use Rattle.row_boxes.specs.declared.pseudoranges.TheConstants.{PARTS}
+use Rattle.row_boxes.specs.declared.prefits.TheConstants.{UNITS}
 use Rattle.row_boxes.specs.Terms.{observed}
 use Rattle.row_boxes.proofs.Boxes.{observed_code}
 use Rattle.row_boxes.proofs.prefits.observed_box.Goals as goal
@@ -11,20 +15,40 @@ returns-in-0-clause-holds c =
     let s = c.requires.size in
     let f = c.l1_below.ensures in
     let g = c.l1_below-in-0.ensures in
-    let e = c.between.ensures in
-    let low : (c.between.result.lo *ℤ pos 1000) ≤ℤ ((pos 60 *ℤ c.args.amount) *ℤ pos 1048576) = omega (arith, ints, s, f.0, f.1, e.low) in
-    let high : ((pos 60 *ℤ c.args.amount) *ℤ pos 1048576) ≤ℤ (c.between.result.hi *ℤ pos 1000) = omega (arith, ints, s, g.0, g.1, e.high) in
-    subst (λ (n : ℕ). InBox 20 c.between.result.lo c.between.result.hi (observed n c.args.amount)) (sym c.in-0.is) (low, high)
+    let b = c.between in
+    let low : (b.result.lo *ℤ pos 1000) ≤ℤ ((wavelength 0 *ℤ c.args.amount) *ℤ pos 32768) = omega (arith, ints, s, f.0, f.1, b.ensures.low) in
+    let high : ((wavelength 0 *ℤ c.args.amount) *ℤ pos 32768) ≤ℤ (b.result.hi *ℤ pos 1000) = omega (arith, ints, s, g.0, g.1, b.ensures.high) in
+    subst (λ (n : ℕ). InBox 15 b.result.lo b.result.hi (observed n c.args.amount)) (sym c.in-0.is) (low, high)
 
 pub returns-in-1-clause-holds : goal.returns-in-1-clause-holds
 returns-in-1-clause-holds c =
     let s = c.requires.size in
     let f = c.l2_below.ensures in
     let g = c.l2_below-in-1.ensures in
-    let e = c.between-in-1.ensures in
-    let low : (c.between-in-1.result.lo *ℤ pos 1000) ≤ℤ ((pos 77 *ℤ c.args.amount) *ℤ pos 1048576) = omega (arith, ints, s, f.0, f.1, e.low) in
-    let high : ((pos 77 *ℤ c.args.amount) *ℤ pos 1048576) ≤ℤ (c.between-in-1.result.hi *ℤ pos 1000) = omega (arith, ints, s, g.0, g.1, e.high) in
-    subst (λ (n : ℕ). InBox 20 c.between-in-1.result.lo c.between-in-1.result.hi (observed n c.args.amount)) (sym c.in-1.is) (low, high)
+    let b = c.between-in-1 in
+    let low : (b.result.lo *ℤ pos 1000) ≤ℤ ((wavelength 1 *ℤ c.args.amount) *ℤ pos 32768) = omega (arith, ints, s, f.0, f.1, b.ensures.low) in
+    let high : ((wavelength 1 *ℤ c.args.amount) *ℤ pos 32768) ≤ℤ (b.result.hi *ℤ pos 1000) = omega (arith, ints, s, g.0, g.1, b.ensures.high) in
+    subst (λ (n : ℕ). InBox 15 b.result.lo b.result.hi (observed n c.args.amount)) (sym c.in-1.is) (low, high)
+
+pub returns-in-4-clause-holds : goal.returns-in-4-clause-holds
+returns-in-4-clause-holds c =
+    let s = c.requires.size in
+    let f = c.l5_below.ensures in
+    let g = c.l5_below-in-4.ensures in
+    let b = c.between-in-4 in
+    let low : (b.result.lo *ℤ pos 1000) ≤ℤ ((wavelength 4 *ℤ c.args.amount) *ℤ pos 32768) = omega (arith, ints, s, f.0, f.1, b.ensures.low) in
+    let high : ((wavelength 4 *ℤ c.args.amount) *ℤ pos 32768) ≤ℤ (b.result.hi *ℤ pos 1000) = omega (arith, ints, s, g.0, g.1, b.ensures.high) in
+    subst (λ (n : ℕ). InBox 15 b.result.lo b.result.hi (observed n c.args.amount)) (sym c.in-4.is) (low, high)
+
+-- a signal that is none of the three phases
+code : (s : ℕ) → s < 6 → (s ≡ 0 → ⊥) → (s ≡ 1 → ⊥) → (s ≡ 4 → ⊥) → IsTrue (not (is_phase s))
+code zero h a b d = absurd (a refl)
+code (suc zero) h a b d = absurd (b refl)
+code (suc (suc zero)) h a b d = refl
+code (suc (suc (suc zero))) h a b d = refl
+code (suc (suc (suc (suc zero)))) h a b d = absurd (d refl)
+code (suc (suc (suc (suc (suc zero))))) h a b d = refl
+code (suc (suc (suc (suc (suc (suc s)))))) h a b d = absurd (omega arith)
 
 pub returns-in_default-clause-holds : goal.returns-in_default-clause-holds
 returns-in_default-clause-holds c =
@@ -32,7 +56,13 @@ returns-in_default-clause-holds c =
     let f = c.code_below.ensures in
     let g = c.code_below-in_default.ensures in
     let b = c.between-in_default in
-    let two : 2 ≤ c.args.signal = omega arith in
-    let low : IsFloor (c.args.amount *ℤ pos (47262600 * 2 ^ 20)) 149896229 b.result.lo = (omega (arith, ints, s, f.0, f.1, b.ensures.low), omega (arith, ints, s, f.0, f.1, b.ensures.low)) in
-    let high : IsCeil (c.args.amount *ℤ pos (47262600 * 2 ^ 20)) 149896229 b.result.hi = (omega (arith, ints, s, g.0, g.1, b.ensures.high), omega (arith, ints, s, g.0, g.1, b.ensures.high)) in
-    observed_code c.args.signal c.args.amount b.result.lo b.result.hi two c.requires.signal low high
+    let low : IsFloor (c.args.amount *ℤ UNITS) PARTS b.result.lo = (omega (arith, ints, s, f.0, f.1, b.ensures.low), omega (arith, ints, s, f.0, f.1, b.ensures.low)) in
+    let high : IsCeil (c.args.amount *ℤ UNITS) PARTS b.result.hi = (omega (arith, ints, s, g.0, g.1, b.ensures.high), omega (arith, ints, s, g.0, g.1, b.ensures.high)) in
+    observed_code c.args.signal c.args.amount b.result.lo b.result.hi (code c.args.signal c.requires.signal (omega arith) (omega arith) (omega arith)) low high
+
+pub returns-in_default-clause-phase : goal.returns-in_default-clause-phase
+returns-in_default-clause-phase c = λ phase. absurd (not_both (is_phase c.args.signal) phase (code c.args.signal c.requires.signal (omega arith) (omega arith) (omega arith)))
+  where
+    not_both : (b : Bool) → IsTrue b → IsTrue (not b) → ⊥
+    not_both true h k = false≢true k
+    not_both false h k = false≢true h

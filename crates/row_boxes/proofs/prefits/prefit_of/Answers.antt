@@ -45,17 +45,20 @@ returns-clause-holds c = λ b r i j.
     let h = c.observed_box-held in
     let x : Pseudorange = c.args.base.now in
     let y : Pseudorange = c.args.rover.now in
-    let held : InBox 20 (h.result.lo -ℤ (y.hi -ℤ x.lo)) (h.result.hi -ℤ (y.lo -ℤ x.hi)) (sub_r (observed c.args.signal c.args.amount) (sub_r r b)) =
-    prefit_holds h.result.lo h.result.hi x.lo x.hi y.lo y.hi (observed c.args.signal c.args.amount) b r (subst (λ (z : ℤ). InBox 20 h.result.lo h.result.hi (observed c.args.signal z)) (plain_amount c.before) h.ensures.holds) i j in
-    subst (λ (z : ℤ). InBox 20 z (to_z w128 (of_z w128 c.less-2.result)) (sub_r (observed c.args.signal c.args.amount) (sub_r r b))) (sym (lo_is c.before))
-    (subst (λ (z : ℤ). InBox 20 (h.result.lo -ℤ (y.hi -ℤ x.lo)) z (sub_r (observed c.args.signal c.args.amount) (sub_r r b))) (sym (hi_is c.before)) held)
+    let held : InBox 15 (h.result.lo -ℤ (y.hi -ℤ x.lo)) (h.result.hi -ℤ (y.lo -ℤ x.hi)) (sub_r (observed c.args.signal c.args.amount) (sub_r r b)) =
+    prefit_holds h.result.lo h.result.hi x.lo x.hi y.lo y.hi (observed c.args.signal c.args.amount) b r
+    (subst (λ (z : ℤ). InBox 15 h.result.lo h.result.hi (observed c.args.signal z)) (plain_amount c.before) h.ensures.holds) i j in
+    subst (λ (z : ℤ). InBox 15 z (to_z w128 (of_z w128 c.less-2.result)) (sub_r (observed c.args.signal c.args.amount) (sub_r r b))) (sym (lo_is c.before))
+    (subst (λ (z : ℤ). InBox 15 (h.result.lo -ℤ (y.hi -ℤ x.lo)) z (sub_r (observed c.args.signal c.args.amount) (sub_r r b))) (sym (hi_is c.before)) held)
 
 pub returns-clause-code : goal.returns-clause-code
 returns-clause-code c = λ s a.
     let h = c.observed_box-held in
-    rw (lo_is c.before) (prefit_size (2 ^ 56) (2 ^ 57) h.result.lo c.args.rover.now.hi c.args.base.now.lo (lit≤ tt) (h.ensures.code s (subst (λ (z : ℤ). unsigned_abs z < 2 ^ 37) (sym (plain_amount c.before)) a)) c.args.rover.now.hi_size c.args.base.now.lo_size)
+    rw (lo_is c.before) (prefit_size (2 ^ 56) (2 ^ 57) h.result.lo c.args.rover.now.hi c.args.base.now.lo (lit≤ tt)
+    (h.ensures.code s (subst (λ (z : ℤ). unsigned_abs z < 2 ^ 37) (sym (plain_amount c.before)) a)) c.args.rover.now.hi_size c.args.base.now.lo_size)
 
 pub returns-clause-phase : goal.returns-clause-phase
 returns-clause-phase c = λ s.
     let h = c.observed_box-held in
-    rw (lo_is c.before) (prefit_phase (unsigned_abs (wavelength c.args.signal) * 2 ^ 68) h.result.lo c.args.rover.now.hi c.args.base.now.lo (h.ensures.phase s) c.args.rover.now.hi_size c.args.base.now.lo_size)
+    rw (lo_is c.before) (prefit_phase (unsigned_abs (wavelength c.args.signal) * 2 ^ 63) h.result.lo c.args.rover.now.hi c.args.base.now.lo
+    (h.ensures.phase s) c.args.rover.now.hi_size c.args.base.now.lo_size)

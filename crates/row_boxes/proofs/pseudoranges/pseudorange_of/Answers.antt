@@ -1,8 +1,10 @@
-use Rattle.std.proofs.Common.{◌≡◌, ◌+◌, ◌*◌, ◌^◌, ℤ, pos, ◌-ℤ◌, ◌*ℤ◌, ◌≤ℤ◌, arith, to_z, of_z, sym, subst, ap₂, ◌∙◌}
+use Rattle.std.proofs.Common.{◌≡◌, ◌+ℤ◌, ◌*◌, ◌^◌, ℤ, pos, ◌-ℤ◌, ◌*ℤ◌, ◌≤ℤ◌, arith, to_z, of_z, sym, subst, ap₂, ◌∙◌}
 use Rattle.std.specs.Int.{w128}
 use Rattle.std.proofs.lemmas.Int.{ints, to_z-of_z}
 use Rattle.whole_math.specs.Rounding.{IsFloor, IsCeil}
 use Rattle.rational.specs.Rational.{InBox}
+use Rattle.obs_rows.specs.declared.units.TheConstants.{LIGHT_SPEED}
+use Rattle.row_boxes.specs.declared.pseudoranges.TheConstants.{UNITS, PARTS}
 use Rattle.row_boxes.specs.Terms.{pseudorange}
 use Rattle.row_boxes.proofs.Ends.{plain64, through, pseudorange_ordered, pseudorange_narrow}
 use Rattle.row_boxes.proofs.Boxes.{pseudorange_holds}
@@ -10,7 +12,7 @@ use Rattle.row_boxes.proofs.pseudoranges.pseudorange_of.Goals as goal
 
 -- in 2^-60 m
 abbrev metres : ℤ → ℤ → ℤ
-metres r t = (r *ℤ pos (2 ^ 24)) -ℤ (t *ℤ pos 299792458)
+metres r t = (r *ℤ pos (2 ^ 24)) -ℤ (t *ℤ LIGHT_SPEED)
 
 lo_is : (c : goal.After-above) → to_z w128 (of_z w128 c.below.result) ≡ c.below.result
 lo_is c = to_z-of_z w128 c.below.result (record { sfits = c.below.type_inv })
@@ -31,16 +33,18 @@ high_metres c =
     let t = c.args.clock.now in
     c.less_clock-2.ensures.value ∙ ap₂ metres (plain64 r.hi (through _ r.lo r.hi r.low r.ordered) r.high) (plain64 t.lo t.low (through t.lo t.hi (pos (2 ^ 62)) t.ordered t.high))
 
-is_floor : (c : goal.After-above) → IsFloor (metres c.args.range.now.lo c.args.clock.now.hi *ℤ pos 47262600000) (149896229 * 2 ^ 40) c.below.result
-is_floor c = subst (λ (v : ℤ). IsFloor (v *ℤ pos 47262600000) (149896229 * 2 ^ 40) c.below.result) (to_z-of_z w128 c.less_clock.result (record { sfits = c.less_clock.type_inv }) ∙ low_metres c) c.below.ensures.rounded
+is_floor : (c : goal.After-above) → IsFloor (metres c.args.range.now.lo c.args.clock.now.hi *ℤ pos UNITS) (PARTS * 2 ^ 39) c.below.result
+is_floor c = subst (λ (v : ℤ). IsFloor (v *ℤ pos UNITS) (PARTS * 2 ^ 39) c.below.result)
+    (to_z-of_z w128 c.less_clock.result (record { sfits = c.less_clock.type_inv }) ∙ low_metres c) c.below.ensures.rounded
 
-is_ceil : (c : goal.After-above) → IsCeil (metres c.args.range.now.hi c.args.clock.now.lo *ℤ pos 47262600000) (149896229 * 2 ^ 40) c.above.result
-is_ceil c = subst (λ (v : ℤ). IsCeil (v *ℤ pos 47262600000) (149896229 * 2 ^ 40) c.above.result) (to_z-of_z w128 c.less_clock-2.result (record { sfits = c.less_clock-2.type_inv }) ∙ high_metres c) c.above.ensures.rounded
+is_ceil : (c : goal.After-above) → IsCeil (metres c.args.range.now.hi c.args.clock.now.lo *ℤ pos UNITS) (PARTS * 2 ^ 39) c.above.result
+is_ceil c = subst (λ (v : ℤ). IsCeil (v *ℤ pos UNITS) (PARTS * 2 ^ 39) c.above.result)
+    (to_z-of_z w128 c.less_clock-2.result (record { sfits = c.less_clock-2.type_inv }) ∙ high_metres c) c.above.ensures.rounded
 
 rising : (rl rh tl th : ℤ) → rl ≤ℤ rh → tl ≤ℤ th → metres rl th ≤ℤ metres rh tl
 rising rl rh tl th h k = omega (arith, ints)
 
-narrow : (rl rh tl th : ℤ) → (rh -ℤ rl) ≤ℤ pos (2 ^ 19) → (th -ℤ tl) ≤ℤ pos (2 ^ 10) → (metres rh tl -ℤ metres rl th) ≤ℤ pos (2 ^ 43 + 2 ^ 10 * 299792458)
+narrow : (rl rh tl th : ℤ) → (rh -ℤ rl) ≤ℤ pos (2 ^ 19) → (th -ℤ tl) ≤ℤ pos (2 ^ 10) → (metres rh tl -ℤ metres rl th) ≤ℤ (pos (2 ^ 43) +ℤ (pos (2 ^ 10) *ℤ LIGHT_SPEED))
 narrow rl rh tl th h k = omega (arith, ints)
 
 pub invariant_of-result : goal.invariant_of-result
@@ -62,6 +66,7 @@ pub returns : goal.returns
 returns c = λ r t h i.
     let x = c.args.range.now in
     let y = c.args.clock.now in
-    let held : InBox 20 c.before.below.result c.before.above.result (pseudorange r t) = pseudorange_holds x.lo x.hi y.lo y.hi c.before.below.result c.before.above.result r t (is_floor c.before) (is_ceil c.before) h i in
-    subst (λ (z : ℤ). InBox 20 z (to_z w128 (of_z w128 c.above.result)) (pseudorange r t)) (sym (lo_is c.before))
-    (subst (λ (z : ℤ). InBox 20 c.below.result z (pseudorange r t)) (sym (hi_is c.before)) held)
+    let held : InBox 15 c.before.below.result c.before.above.result (pseudorange r t) = pseudorange_holds x.lo x.hi y.lo y.hi c.before.below.result c.before.above.result r t (is_floor c.before)
+    (is_ceil c.before) h i in
+    subst (λ (z : ℤ). InBox 15 z (to_z w128 (of_z w128 c.above.result)) (pseudorange r t)) (sym (lo_is c.before))
+    (subst (λ (z : ℤ). InBox 15 c.below.result z (pseudorange r t)) (sym (hi_is c.before)) held)

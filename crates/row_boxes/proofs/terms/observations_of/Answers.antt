@@ -1,31 +1,75 @@
-use Rattle.std.proofs.Common.{◌≡◌, ℕ, ℤ, None, IfSome, ⊎_elim, arith, sym, subst}
-use Rattle.std.proofs.lemmas.Int.{to_z-of_z}
+use Rattle.std.proofs.Common.{rules, ◌≡◌, ◌+◌, ◌^◌, ◌<◌, ◌≤◌, ◌≤ℤ◌, ℕ, ℤ, length, get_or, to_z, of_z, unsigned_abs, arith, sym, subst}
 use Rattle.std.specs.Int.{w64}
-use Rattle.row_boxes.specs.declared.terms.Observations.{Observations}
-use Rattle.row_boxes.specs.YBoxes.{Pairing, HoldsBoth, HasSightings, HoldsYs, HasFarSignal}
-use Rattle.row_boxes.proofs.Ends.{scale_cases}
+use Rattle.std.proofs.lemmas.Int.{to_z-of_z}
+use Rattle.std.specs.Prelude.{◌==◌}
+use Rattle.std.specs.List.{list_any}
+use Rattle.std.proofs.lemmas.Bool.{both_ways, eq-eqb}
+use Rattle.std.proofs.lemmas.List.{get_or_default}
+use Rattle.std.proofs.lemmas.List.Folds.{list_any_at}
+use Rattle.std.proofs.lemmas.List.Elements.{All-set}
+use Rattle.std.proofs.lemmas.Option.{slice_get-get_or}
+use Rattle.obs_rows.specs.Ranges.{IsWithin}
+use Rattle.obs_rows.specs.Signals.{band}
+use Rattle.obs_rows.specs.Data.{number_at}
+use Rattle.row_boxes.specs.YBoxes.{HoldsY}
+use Rattle.row_boxes.proofs.Ys.{HoldsAt, far_signal, one_more, zero_off}
 use Rattle.row_boxes.proofs.terms.observations_of.Goals as goal
 
-pub returns-then-scale-eq0-clause-holds : goal.returns-then-scale-eq0-clause-holds
-returns-then-scale-eq0-clause-holds c =
-    let z : c.args.scale ≡ 0 = omega arith in
-    subst (λ (n : ℕ). IfSome c.fine.result (λ (o : Observations). (p : Pairing) → HoldsBoth p c.args.base.now c.args.rover.now → HoldsYs p n c.args.amounts.now c.args.group c.args.shift.now o.y o.ry)) (sym z)
-    (subst (λ (g : ℤ). IfSome c.fine.result (λ (o : Observations). (p : Pairing) → HoldsBoth p c.args.base.now c.args.rover.now → HoldsYs p 0 c.args.amounts.now g c.args.shift.now o.y o.ry)) (to_z-of_z w64 c.args.group c.ranges.group) c.fine.ensures.holds)
+pub returns-in_err-centre-clause-far : goal.returns-in_err-centre-clause-far
+returns-in_err-centre-clause-far c = λ e p h t.
+    let i : ℕ = c.loop-signal.signal-index in
+    let s : ℕ = get_or c.args.ss.now i 0 in
+    let box = c.y_of_signal-more in
+    let inside : i < length c.args.ss.now = search rules in
+    let far : 2 ^ 34 < unsigned_abs box.result.centre = search rules in
+    far_signal p c.args.ss.now c.args.scale i s c.args.amounts.now c.args.shift.now c.args.group box.result.centre box.result.radius (slice_get-get_or c.args.ss.now i 0 inside) box.result.most far
+    (subst (λ (g : ℤ). HoldsY p c.args.scale s (number_at c.args.amounts.now s) g (number_at c.args.shift.now (band s)) box.result.centre box.result.radius)
+    (to_z-of_z w64 c.args.group c.ranges.group) (box.ensures.holds p h)) t
 
-pub returns-then-scale-eq0-clause-far : goal.returns-then-scale-eq0-clause-far
-returns-then-scale-eq0-clause-far c =
-    let z : c.args.scale ≡ 0 = omega arith in
-    subst (λ (n : ℕ). c.fine.result ≡ None → (p : Pairing) → HoldsBoth p c.args.base.now c.args.rover.now → HasSightings p → HasFarSignal p n c.args.amounts.now c.args.group c.args.shift.now) (sym z)
-    (subst (λ (g : ℤ). c.fine.result ≡ None → (p : Pairing) → HoldsBoth p c.args.base.now c.args.rover.now → HasSightings p → HasFarSignal p 0 c.args.amounts.now g c.args.shift.now) (to_z-of_z w64 c.args.group c.ranges.group) c.fine.ensures.far)
+here : (i : ℕ) → i < i + 1
+here i = omega arith
 
-pub returns-else-scale-eq0-clause-holds : goal.returns-else-scale-eq0-clause-holds
-returns-else-scale-eq0-clause-holds c =
-    let z : c.args.scale ≡ 14 = ⊎_elim (λ (e : c.args.scale ≡ 0). absurd (omega arith)) (λ (e : c.args.scale ≡ 14). e) (scale_cases c.args.scale c.requires.scale) in
-    subst (λ (n : ℕ). IfSome c.coarse.result (λ (o : Observations). (p : Pairing) → HoldsBoth p c.args.base.now c.args.rover.now → HoldsYs p n c.args.amounts.now c.args.group c.args.shift.now o.y o.ry)) (sym z)
-    (subst (λ (g : ℤ). IfSome c.coarse.result (λ (o : Observations). (p : Pairing) → HoldsBoth p c.args.base.now c.args.rover.now → HoldsYs p 14 c.args.amounts.now g c.args.shift.now o.y o.ry)) (to_z-of_z w64 c.args.group c.ranges.group) c.coarse.ensures.holds)
+next : (k i : ℕ) → k < i → k < i + 1
+next k i h = omega arith
 
-pub returns-else-scale-eq0-clause-far : goal.returns-else-scale-eq0-clause-far
-returns-else-scale-eq0-clause-far c =
-    let z : c.args.scale ≡ 14 = ⊎_elim (λ (e : c.args.scale ≡ 0). absurd (omega arith)) (λ (e : c.args.scale ≡ 14). e) (scale_cases c.args.scale c.requires.scale) in
-    subst (λ (n : ℕ). c.coarse.result ≡ None → (p : Pairing) → HoldsBoth p c.args.base.now c.args.rover.now → HasSightings p → HasFarSignal p n c.args.amounts.now c.args.group c.args.shift.now) (sym z)
-    (subst (λ (g : ℤ). c.coarse.result ≡ None → (p : Pairing) → HoldsBoth p c.args.base.now c.args.rover.now → HasSightings p → HasFarSignal p 14 c.args.amounts.now g c.args.shift.now) (to_z-of_z w64 c.args.group c.ranges.group) c.coarse.ensures.far)
+pub loop-signal-preserved : goal.loop-signal-preserved
+loop-signal-preserved c =
+    let i : ℕ = c.loop-signal.signal-index in
+    let s : ℕ = get_or c.args.ss.now i 0 in
+    let g : ℤ = to_z w64 (of_z w64 c.args.group) in
+    let centre : to_z w64 (of_z w64 c.in_ok-centre.centre) ≡ c.y_of_signal-more.result.centre = search rules in
+    let size : IsWithin (2 ^ 34) (to_z w64 (of_z w64 c.in_ok-centre.centre)) = search rules in
+    let old : to_z w64 c.loop-signal.ry-bits ≤ℤ to_z w64 (of_z w64 c.wider-ry.result) = search rules in
+    let new : c.y_of_signal-more.result.radius ≤ℤ to_z w64 (of_z w64 c.wider-ry.result) = search rules in
+    let within : s < length c.loop-signal.y = search rules in
+    record {
+      holds = λ k hk p h. one_more p c.args.scale c.args.amounts.now g c.args.shift.now c.loop-signal.y c.args.ss.now i _ c.y_of_signal-more.result.radius _ _ within old new
+          (subst (λ (x : ℤ). HoldsY p c.args.scale s (number_at c.args.amounts.now s) g (number_at c.args.shift.now (band s)) x c.y_of_signal-more.result.radius) (sym centre)
+          (c.y_of_signal-more.ensures.holds p h))
+          (λ j hj. c.loop-signal.invariant.holds j hj p h) k hk;
+      others = λ t h. zero_off c.loop-signal.y s t _ (h i (here i)) (c.loop-signal.invariant.others t (λ k hk. h k (next k i hk)));
+      sizes = All-set (IsWithin (2 ^ 34)) c.loop-signal.y s _ size c.loop-signal.invariant.sizes;
+      six = search rules;
+      least = search rules;
+      most = search rules;
+    }
+
+pub returns-clause-holds : goal.returns-clause-holds
+returns-clause-holds c = λ p h k d hk.
+    subst (λ (g : ℤ). HoldsAt p c.args.scale c.args.amounts.now g c.args.shift.now c.loop-signal.y (to_z w64 c.loop-signal.ry-bits) (get_or c.args.ss.now k d))
+    (to_z-of_z w64 c.args.group c.ranges.group)
+    (subst (λ (s : ℕ). HoldsAt p c.args.scale c.args.amounts.now (to_z w64 (of_z w64 c.args.group)) c.args.shift.now c.loop-signal.y (to_z w64 c.loop-signal.ry-bits) s)
+    (sym (get_or_default c.args.ss.now k d 0 hk))
+    (c.loop-signal.invariant.holds k (reached k (length c.args.ss.now) c.loop-signal.signal-index hk c.loop-signal-test.false) p h))
+  where
+    reached : (k n i : ℕ) → k < n → n ≤ i → k < i
+    reached k n i h g = omega arith
+
+pub returns-clause-others : goal.returns-clause-others
+returns-clause-others c = λ t none.
+    let within : c.loop-signal.signal-index ≤ length c.args.ss.now = search rules in
+    c.loop-signal.invariant.others t (λ k hk e. both_ways (list_any (λ (s : ℕ). s == t) c.args.ss.now) none
+    (list_any_at (λ (s : ℕ). s == t) c.args.ss.now k 0 (inside k c.loop-signal.signal-index (length c.args.ss.now) hk within) (eq-eqb (get_or c.args.ss.now k 0) t e)))
+  where
+    inside : (k i n : ℕ) → k < i → i ≤ n → k < n
+    inside k i n h g = omega arith

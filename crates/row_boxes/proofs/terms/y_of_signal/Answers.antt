@@ -4,7 +4,7 @@ use Rattle.std.specs.Int.{w64}
 use Rattle.rational.specs.Rational.{of_whole, sub_r, InBox}
 use Rattle.rational.proofs.Boxes.{Near-along}
 use Rattle.travel_model.specs.SeenPlaces.{range_of}
-use Rattle.obs_rows.specs.Signals.{wavelength}
+use Rattle.obs_rows.specs.Signals.{wavelength, band}
 use Rattle.obs_rows.specs.Data.{number_at}
 use Rattle.row_boxes.specs.Terms.{pseudorange, in_row_unit}
 use Rattle.row_boxes.specs.Sightings.{y_in_rows}
@@ -12,12 +12,13 @@ use Rattle.row_boxes.proofs.Ends.{read_small}
 use Rattle.row_boxes.proofs.Ys.{less_pseudoranges, y_in_rows_is}
 use Rattle.row_boxes.proofs.terms.y_of_signal.Goals as goal
 
-whole_is : (c : goal.After-y_box) → to_z w64 (of_z w64 c.whole_of.result) ≡ c.args.group +ℤ (wavelength c.args.signal *ℤ number_at c.args.shift.now c.args.signal)
-whole_is c = to_z-of_z w64 c.whole_of.result (record { sfits = c.whole_of.type_inv }) ∙ c.whole_of.ensures.value ∙ ap (λ (g : ℤ). g +ℤ (wavelength c.args.signal *ℤ number_at c.args.shift.now c.args.signal)) (to_z-of_z w64 c.args.group c.ranges.group)
+whole_is : (c : goal.After-y_box) → to_z w64 (of_z w64 c.whole_of.result) ≡ c.args.group +ℤ (wavelength c.args.signal *ℤ number_at c.args.shift.now (band c.args.signal))
+whole_is c = to_z-of_z w64 c.whole_of.result (record { sfits = c.whole_of.type_inv }) ∙ c.whole_of.ensures.value ∙
+    ap (λ (g : ℤ). g +ℤ (wavelength c.args.signal *ℤ number_at c.args.shift.now (band c.args.signal))) (to_z-of_z w64 c.args.group c.ranges.group)
 
 read_amount : (c : goal.After-y_box) → to_z w64 (of_z w64 (number_at c.args.amounts.now c.args.signal)) ≡ number_at c.args.amounts.now c.args.signal
 read_amount c =
-    let l : length c.args.amounts.now ≡ 4 = omega arith in
+    let l : length c.args.amounts.now ≡ 6 = omega arith in
     let i : c.args.signal < length c.args.amounts.now = omega arith in
     read_small (number_at c.args.amounts.now c.args.signal) (c.requires.amounts c.args.signal (pos 0) i)
 
@@ -26,8 +27,9 @@ returns-clause-holds c = λ p h base rover a.
     let s : ℕ = c.args.signal in
     let n : ℤ = number_at c.args.amounts.now s in
     let w : ℤ = to_z w64 (of_z w64 c.whole_of.result) in
-    let held : InBox 20 c.prefit_of-prefit.result.lo c.prefit_of-prefit.result.hi (less_pseudoranges s n base rover) =
-    subst (λ (z : ℤ). InBox 20 c.prefit_of-prefit.result.lo c.prefit_of-prefit.result.hi (less_pseudoranges s z base rover)) (read_amount c)
+    let held : InBox 15 c.prefit_of-prefit.result.lo c.prefit_of-prefit.result.hi (less_pseudoranges s n base rover) =
+    subst (λ (z : ℤ). InBox 15 c.prefit_of-prefit.result.lo c.prefit_of-prefit.result.hi (less_pseudoranges s z base rover)) (read_amount c)
     (c.prefit_of-prefit.ensures.holds (pseudorange (range_of base.travel) base.clock) (pseudorange (range_of rover.travel) rover.clock) (h.base_held base a.base_is) (h.rover_held rover a.rover_is)) in
-    Near-along c.y_box.result.centre c.y_box.result.radius (in_row_unit c.args.scale (sub_r (less_pseudoranges s n base rover) (of_whole w))) (y_in_rows c.args.scale s n c.args.group (number_at c.args.shift.now s) base rover)
-    (y_in_rows_is c.args.scale s n c.args.group (number_at c.args.shift.now s) w base rover (whole_is c)) (c.y_box.ensures.holds (less_pseudoranges s n base rover) held)
+    Near-along c.y_box.result.centre c.y_box.result.radius (in_row_unit c.args.scale (sub_r (less_pseudoranges s n base rover) (of_whole w)))
+    (y_in_rows c.args.scale s n c.args.group (number_at c.args.shift.now (band s)) base rover)
+    (y_in_rows_is c.args.scale s n c.args.group (number_at c.args.shift.now (band s)) w base rover (whole_is c)) (c.y_box.ensures.holds (less_pseudoranges s n base rover) held)

@@ -7,16 +7,18 @@ use Rattle.row_boxes.proofs.Boxes.{AreYEnds, y_holds, y_radius, y_narrow, y_orde
 use Rattle.row_boxes.proofs.y_boxes.y_box.Goals as goal
 
 abbrev less : ℤ → ℤ → ℤ
-less end whole = end -ℤ (whole *ℤ pos 1048576)
+less end whole = end -ℤ (whole *ℤ pos 32768)
 
 plain_whole : (c : goal.After-ceil_shift-hi) → to_z w64 (of_z w64 c.args.whole) ≡ c.args.whole
 plain_whole c = to_z-of_z w64 c.args.whole c.ranges.whole
 
 lo_less : (c : goal.After-ceil_shift-hi) → to_z w128 (of_z w128 c.less_whole.result) ≡ less c.args.prefit.now.lo c.args.whole
-lo_less c = to_z-of_z w128 c.less_whole.result (record { sfits = c.less_whole.type_inv }) ∙ c.less_whole.ensures.value ∙ ap₂ less (plain_size c.args.prefit.now.lo (2 ^ 68) (lit≤ tt) c.args.prefit.now.lo_size) (plain_whole c)
+lo_less c = to_z-of_z w128 c.less_whole.result (record { sfits = c.less_whole.type_inv }) ∙ c.less_whole.ensures.value ∙ ap₂ less
+    (plain_size c.args.prefit.now.lo (2 ^ 68) (lit≤ tt) c.args.prefit.now.lo_size) (plain_whole c)
 
 hi_less : (c : goal.After-ceil_shift-hi) → to_z w128 (of_z w128 c.less_whole-2.result) ≡ less c.args.prefit.now.hi c.args.whole
-hi_less c = to_z-of_z w128 c.less_whole-2.result (record { sfits = c.less_whole-2.type_inv }) ∙ c.less_whole-2.ensures.value ∙ ap₂ less (plain_size c.args.prefit.now.hi (2 ^ 68) (lit≤ tt) c.args.prefit.now.hi_size) (plain_whole c)
+hi_less c = to_z-of_z w128 c.less_whole-2.result (record { sfits = c.less_whole-2.type_inv }) ∙ c.less_whole-2.ensures.value ∙ ap₂ less
+    (plain_size c.args.prefit.now.hi (2 ^ 68) (lit≤ tt) c.args.prefit.now.hi_size) (plain_whole c)
 
 units : (c : goal.After-ceil_shift-hi) → 2 ^ c.coarser_by-bits.result ≡ 2 ^ (c.args.scale + 2)
 units c = ap (λ (n : ℕ). 2 ^ n) c.coarser_by-bits.ensures.value
@@ -28,10 +30,10 @@ hi_is : (c : goal.After-ceil_shift-hi) → to_z w128 (of_z w128 c.ceil_shift-hi.
 hi_is c = to_z-of_z w128 c.ceil_shift-hi.result (record { sfits = c.ceil_shift-hi.type_inv }) ∙ c.ceil_shift-hi.ensures.value ∙ ap₂ ceil_div (hi_less c) (units c)
 
 pub around-requires-clause-ordered : goal.around-requires-clause-ordered
-around-requires-clause-ordered c = rw (lo_is c, hi_is c) (y_ordered c.args.scale c.args.prefit.now.lo c.args.prefit.now.hi (c.args.whole *ℤ pos 1048576) c.args.prefit.now.ordered)
+around-requires-clause-ordered c = rw (lo_is c, hi_is c) (y_ordered c.args.scale c.args.prefit.now.lo c.args.prefit.now.hi (c.args.whole *ℤ pos 32768) c.args.prefit.now.ordered)
 
 pub around-requires-clause-narrow : goal.around-requires-clause-narrow
-around-requires-clause-narrow c = rw (lo_is c, hi_is c) (y_narrow c.args.scale c.args.prefit.now.lo c.args.prefit.now.hi (c.args.whole *ℤ pos 1048576) c.requires.scale c.args.prefit.now.narrow)
+around-requires-clause-narrow c = rw (lo_is c, hi_is c) (y_narrow c.args.scale c.args.prefit.now.lo c.args.prefit.now.hi (c.args.whole *ℤ pos 32768) c.requires.scale c.args.prefit.now.narrow)
 
 ends : (c : goal.After-around) → AreYEnds c.args.scale c.args.prefit.now.lo c.args.prefit.now.hi c.args.whole c.around.result.centre c.around.result.radius
 ends c = record {

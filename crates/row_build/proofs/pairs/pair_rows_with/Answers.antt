@@ -20,7 +20,7 @@ row_in P rows r all e = subst P (get_or_from_slice_get rows 0 r r e) (all 0 r (s
 
 pub returns-in-Ok-clause-rows : goal.returns-in-Ok-clause-rows
 returns-in-Ok-clause-rows c =
-    let t = setting c.args.screened.now.boxes c.args.arcs.now c.args.base.now c.args.point.now c.args.scale in
+    let t = setting c.args.screened.now.boxes c.args.arcs.now c.args.base.now c.args.point.now c.args.signals c.args.scale in
     let p = c.finish.result in
     let f = c.first_entry-first.result.sv in
     let g : ℤ = c.group_of-group.result in
@@ -33,22 +33,34 @@ returns-in-Ok-clause-rows c =
     (subst₂ (λ (n : ℕ) (k : ℤ). All (IsRow t n k) c.in-Ok.rows.rows) c.new-rows.ensures.number (sym (c.finish.ensures.group ∙ c.in-Ok.ensures.group)) c.in-Ok.ensures.rows) in
     record {
       number = c.finish.ensures.number ∙ c.in-Ok.ensures.number ∙ c.new-rows.ensures.number;
-      tag = record { sat = c.first_entry-first.ensures.entry.arc.sat; entry = f; entry_is = c.first_entry-first.ensures.entry.entry_is; tag_is = sym (c.finish.ensures.tag ∙ c.in-Ok.ensures.tag ∙ c.new-rows.ensures.tag) };
+      tag = record {
+        sat = c.first_entry-first.ensures.entry.arc.sat;
+        entry = f;
+        entry_is = c.first_entry-first.ensures.entry.entry_is;
+        tag_is =
+            sym (c.finish.ensures.tag ∙ c.in-Ok.ensures.tag ∙ c.new-rows.ensures.tag);
+      };
       arcs = arcs;
       rows = rows;
       group = λ r e.
-          first_meets c.args.screened.now.used t c.args.pair p.group r f c.args.screened.now.matched c.args.screened.now.ranges c.requires.scale c.first_entry-first.ensures.entry
+          first_meets c.args.screened.now.used t c.args.pair p.group r f c.args.screened.now.matched c.args.screened.now.ranges c.first_entry-first.ensures.entry
           (ap (λ (xs : List ℕ). slice_get xs 0) (sym arcs) ∙ slice_get-map (λ (q : Row). q.arc) p.rows 0 ∙ ap (λ (o : Option Row). option_map (λ (q : Row). q.arc) o) e)
           (row_in (IsRow t c.args.pair p.group) p.rows r rows e) (c.group_of-group.ensures.exists c.args.base.now c.first_entry-first.ensures.half)
-          (subst (λ (k : ℤ). (b q : Sighting) → AreSightings (seen_by f c.args.base.now c.args.point.now) b q → IsWithinHalf (pos 1) (y_of 2 (number_at f.observed 2) k (pos 0) b q)) (sym group) (c.group_of-group.ensures.near c.args.base.now c.first_entry-first.ensures.half));
+          (subst (λ (k : ℤ). (b q : Sighting) → AreSightings (seen_by f c.args.base.now c.args.point.now) b q → IsWithinHalf (pos 1) (y_of 2 (number_at f.observed 2) k (pos 0) b q)) (sym group)
+          (c.group_of-group.ensures.near c.args.base.now c.first_entry-first.ensures.half));
     }
 
 pub returns-clause-overwidth : goal.returns-clause-overwidth
 returns-clause-overwidth c = λ e.
-    let t = setting c.args.screened.now.boxes c.args.arcs.now c.args.base.now c.args.point.now c.args.scale in
+    let t = setting c.args.screened.now.boxes c.args.arcs.now c.args.base.now c.args.point.now c.args.signals c.args.scale in
     let g : ℤ = c.group_of-group.result in
     let plain : to_z w64 (of_z w64 g) ≡ g = to_z-of_z w64 g (record { sfits = c.group_of-group.type_inv }) in
     let fault : c.in-Err.fault ≡ Overwidth = cc in
-    let allowed : IsGroup t c.args.pair g = record { entry = c.first_entry-first.result.sv; entry_is = c.first_entry-first.ensures.entry; allowed = c.group_of-group.ensures.allowed c.args.base.now c.first_entry-first.ensures.half c.args.scale c.requires.scale } in
+    let allowed : IsGroup t c.args.pair g = record {
+      entry = c.first_entry-first.result.sv;
+      entry_is = c.first_entry-first.ensures.entry;
+      allowed =
+          c.group_of-group.ensures.allowed c.args.base.now c.first_entry-first.ensures.half c.args.scale c.requires.scale;
+    } in
     subst (λ (n : ℕ). HasFarRow t n) c.new-rows.ensures.number
     (c.in-Err.ensures.far (cc) (subst₂ (λ (n : ℕ) (k : ℤ). IsGroup t n k) (sym c.new-rows.ensures.number) (sym (c.new-rows.ensures.group ∙ plain)) allowed))

@@ -1,9 +1,11 @@
-use Rattle.std.proofs.Common.{◌≡◌, ℕ, [], true, false, Some, ℤ, get_or, refl, sym, subst}
+use Rattle.std.proofs.Common.{◌≡◌, ℕ, [], true, false, Some, List, ℤ, get_or, to_z, of_z, refl, sym, subst}
 use Rattle.std.specs.Prelude.{slice_get}
 use Rattle.std.proofs.lemmas.Int.{to_z-of_z}
 use Rattle.std.specs.Int.{w64}
 use Rattle.std.proofs.lemmas.Option.{get_or_from_slice_get, slice_get_within}
 use Rattle.obs_rows.specs.declared.arcs.Arc.{Arc}
+use Rattle.obs_rows.specs.Signals.{counted}
+use Rattle.obs_rows.specs.Unused.{IsZeroOff}
 use Rattle.slip_arcs.specs.Used.{is_used}
 use Rattle.row_boxes.specs.YBoxes.{HoldsYs, HasFarSignal}
 use Rattle.row_build.specs.Entries.{IsEntry}
@@ -33,10 +35,14 @@ returns-in-Some-clause-row c =
       arc_is = subst (λ (k : ℕ). slice_get c.args.arcs.now k ≡ Some h.arc) (sym c.in-Some.ensures.arc) h.is;
       entry = v;
       entry_is = subst (λ (a : Arc). IsEntry c.args.screened.now.boxes c.args.pair a.sat v) e c.entry_of-entry.ensures.entry;
-      y = subst (λ (a : Arc). HoldsYs (seen_by v c.args.base.now c.args.point.now) c.args.scale v.observed c.args.group a.shift r.y r.ry) e
-          (subst (λ (g : ℤ). HoldsYs (seen_by v c.args.base.now c.args.point.now) c.args.scale v.observed g (get_or c.args.arcs.now c.args.number (record { sat = 0; first = 0; last = 0; datum = false; shift = [] })).shift r.y r.ry) (to_z-of_z w64 c.args.group c.ranges.group) (c.in-Some.ensures.y c.args.base.now c.entry_of-entry.ensures.half));
+      y = subst (λ (a : Arc). HoldsYs (seen_by v c.args.base.now c.args.point.now) (counted c.args.signals c.args.scale) c.args.scale v.observed c.args.group a.shift r.y r.ry) e
+          (subst (λ (g : ℤ). HoldsYs (seen_by v c.args.base.now c.args.point.now) (counted c.args.signals c.args.scale) c.args.scale v.observed g
+          (get_or c.args.arcs.now c.args.number (record { sat = 0; first = 0; last = 0; datum = false; shift = [] })).shift r.y r.ry) (to_z-of_z w64 c.args.group c.ranges.group)
+          (subst (λ (ss : List ℕ). HoldsYs (seen_by v c.args.base.now c.args.point.now) ss c.args.scale v.observed (to_z w64 (of_z w64 c.args.group))
+          (get_or c.args.arcs.now c.args.number (record { sat = 0; first = 0; last = 0; datum = false; shift = [] })).shift r.y r.ry) c.counted_signals.ensures.value
+          (c.in-Some.ensures.y c.args.base.now c.entry_of-entry.ensures.half)));
       radius = c.in-Some.ensures.radius;
-      others = c.in-Some.ensures.others;
+      others = subst (λ (ss : List ℕ). IsZeroOff ss r.y) c.counted_signals.ensures.value c.in-Some.ensures.others;
       u = c.in-Some.ensures.u;
       narrow = c.in-Some.ensures.narrow;
     }
@@ -55,6 +61,10 @@ returns-in-None-clause-far c = λ g.
       held = h.held;
       entry = v;
       entry_is = subst (λ (a : Arc). IsEntry c.args.screened.now.boxes c.args.pair a.sat v) e c.entry_of-entry.ensures.entry;
-      far = subst (λ (a : Arc). HasFarSignal (seen_by v c.args.base.now c.args.point.now) c.args.scale v.observed c.args.group a.shift) e
-          (subst (λ (i : ℤ). HasFarSignal (seen_by v c.args.base.now c.args.point.now) c.args.scale v.observed i (get_or c.args.arcs.now c.args.number (record { sat = 0; first = 0; last = 0; datum = false; shift = [] })).shift) (to_z-of_z w64 c.args.group c.ranges.group) (c.in-None.ensures.far refl c.args.base.now c.entry_of-entry.ensures.half));
+      far = subst (λ (a : Arc). HasFarSignal (seen_by v c.args.base.now c.args.point.now) (counted c.args.signals c.args.scale) c.args.scale v.observed c.args.group a.shift) e
+          (subst (λ (i : ℤ). HasFarSignal (seen_by v c.args.base.now c.args.point.now) (counted c.args.signals c.args.scale) c.args.scale v.observed i
+          (get_or c.args.arcs.now c.args.number (record { sat = 0; first = 0; last = 0; datum = false; shift = [] })).shift) (to_z-of_z w64 c.args.group c.ranges.group)
+          (subst (λ (ss : List ℕ). HasFarSignal (seen_by v c.args.base.now c.args.point.now) ss c.args.scale v.observed (to_z w64 (of_z w64 c.args.group))
+          (get_or c.args.arcs.now c.args.number (record { sat = 0; first = 0; last = 0; datum = false; shift = [] })).shift) c.counted_signals.ensures.value
+          (c.in-None.ensures.far refl c.args.base.now c.entry_of-entry.ensures.half)));
     }

@@ -13,7 +13,7 @@ use Rattle.row_build.proofs.FewRows.{held_few}
 use Rattle.row_build.proofs.RowLists.{AreFirstRows, few_so_far, in_order, one_row_more}
 use Rattle.row_build.proofs.pairs.with_rows.Goals as goal
 
-read_group : (z : ℤ) → unsigned_abs z < 2 ^ 50 → to_z w64 (of_z w64 z) ≡ z
+read_group : (z : ℤ) → unsigned_abs z < 2 ^ 55 → to_z w64 (of_z w64 z) ≡ z
 read_group z h = omega (arith, ints)
 
 pub row_at-requires-clause-number : goal.row_at-requires-clause-number
@@ -25,7 +25,8 @@ row_at-requires-clause-number c =
 
 pub push-requires-clause-room : goal.push-requires-clause-room
 push-requires-clause-room c =
-    let l : length c.args.held.now ≤ 15 = subst (λ (xs : List ℕ). length xs ≤ 15) (sym c.requires.held) (held_few c.args.screened.now.used c.args.arcs.now c.args.rows.number c.requires.cut c.args.screened.now.ranges c.requires.pair) in
+    let l : length c.args.held.now ≤ 15 = subst (λ (xs : List ℕ). length xs ≤ 15) (sym c.requires.held)
+    (held_few c.args.screened.now.used c.args.arcs.now c.args.rows.number c.requires.cut c.args.screened.now.ranges c.requires.pair) in
     few_so_far c.args.held.now c.loop-place.rows.rows c.loop-place.place c.loop-place.invariant.3.arcs c.loop-place-test.true l
 
 pub push-requires-clause-order : goal.push-requires-clause-order
@@ -37,18 +38,19 @@ push-requires-clause-order c =
 
 pub returns-in-Err-clause-far : goal.returns-in-Err-clause-far
 returns-in-Err-clause-far c = λ _ g.
-    let t = setting c.args.screened.now.boxes c.args.arcs.now c.args.base.now c.args.point.now c.args.scale in
+    let t = setting c.args.screened.now.boxes c.args.arcs.now c.args.base.now c.args.point.now c.args.signals c.args.scale in
     let i = c.loop-place.invariant in
     subst (λ (n : ℕ). HasFarRow t n) i.0
     (c.in-Err.ensures.far (subst₂ (λ (n : ℕ) (k : ℤ). IsGroup t n k) (sym i.0) (sym (read_group c.loop-place.rows.group c.loop-place.rows.group_in ∙ i.2)) g))
 
 pub loop-place-preserved : goal.loop-place-preserved
 loop-place-preserved c =
-    let t = setting c.args.screened.now.boxes c.args.arcs.now c.args.base.now c.args.point.now c.args.scale in
+    let t = setting c.args.screened.now.boxes c.args.arcs.now c.args.base.now c.args.point.now c.args.signals c.args.scale in
     let i = c.loop-place.invariant in
     let m : ℕ = get_or c.args.held.now c.loop-place.place 0 in
     let at : slice_get c.args.held.now c.loop-place.place ≡ Some m = slice_get-get_or c.args.held.now c.loop-place.place 0 c.loop-place-test.true in
-    let row : IsRow t c.args.rows.number c.args.rows.group c.in-Ok.row = subst₂ (λ (n : ℕ) (k : ℤ). IsRow t n k c.in-Ok.row) i.0 (read_group c.loop-place.rows.group c.loop-place.rows.group_in ∙ i.2) c.in-Ok.ensures.row in (
+    let row : IsRow t c.args.rows.number c.args.rows.group c.in-Ok.row = subst₂ (λ (n : ℕ) (k : ℤ). IsRow t n k c.in-Ok.row) i.0
+    (read_group c.loop-place.rows.group c.loop-place.rows.group_in ∙ i.2) c.in-Ok.ensures.row in (
       c.push.ensures.number ∙ i.0,
       c.push.ensures.tag ∙ i.1,
       c.push.ensures.group ∙ i.2,

@@ -1,4 +1,4 @@
-use Rattle.std.proofs.Common.{◌≡◌, ℕ, ◌^◌, ◌<◌, List, ℤ, pos, unsigned_abs, arith, to_z, of_z, sym, subst}
+use Rattle.std.proofs.Common.{◌≡◌, ℕ, ◌^◌, ◌<◌, List, ℤ, pos, unsigned_abs, lit<, arith, to_z, of_z, sym, subst}
 use Rattle.std.proofs.lemmas.Int.{to_z-of_z}
 use Rattle.std.specs.Int.{w64}
 use Rattle.obs_rows.specs.Data.{number_at}
@@ -13,23 +13,32 @@ wide : (n : ℕ) → n < 2 ^ 37 → n < 2 ^ 48
 wide n h = omega arith
 
 read : (c : goal.After-first_group) → to_z w64 (of_z w64 (number_at c.args.entry.now.sv.observed 2)) ≡ number_at c.args.entry.now.sv.observed 2
-read c = read_small (number_at c.args.entry.now.sv.observed 2) (wide (unsigned_abs (number_at c.args.entry.now.sv.observed 2)) c.args.entry.now.sv.codes_in.0)
+read c = read_small (number_at c.args.entry.now.sv.observed 2) (wide (unsigned_abs (number_at c.args.entry.now.sv.observed 2)) (c.args.entry.now.sv.observed_in 2 (lit< tt)))
 
 answer : (c : goal.After-first_group) → to_z w64 (of_z w64 c.first_group.result) ≡ c.first_group.result
 answer c = to_z-of_z w64 c.first_group.result (record { sfits = c.first_group.type_inv })
 
-both : (c : goal.After-first_group) (base : List ℤ) → IsBaseHalf c.args.entry.now.sv base c.args.entry.now.half → HoldsBoth (seen_by c.args.entry.now.sv base c.args.point.now) c.args.entry.now.half c.sight_of-seen.result.pseudorange
+both : (c : goal.After-first_group) (base : List ℤ) → IsBaseHalf c.args.entry.now.sv base c.args.entry.now.half →
+    HoldsBoth (seen_by c.args.entry.now.sv base c.args.point.now) c.args.entry.now.half c.sight_of-seen.result.pseudorange
 both c base known = record { base_held = known.holds; rover_held = c.sight_of-seen.ensures.pseudorange }
+
+pub first_group-requires : goal.first_group-requires
+first_group-requires c =
+    let n : ℤ = number_at c.args.entry.now.sv.observed 2 in
+    let below : unsigned_abs n < 2 ^ 37 = c.args.entry.now.sv.observed_in 2 (lit< tt) in
+    subst (λ (z : ℤ). unsigned_abs z < 2 ^ 37) (sym (read_small n (wide (unsigned_abs n) below))) below
 
 pub returns-clause-near : goal.returns-clause-near
 returns-clause-near c = λ base known b r a.
     subst (λ (g : ℤ). IsWithinHalf (pos 1) (y_of 2 (number_at c.args.entry.now.sv.observed 2) g (pos 0) b r)) (sym (answer c))
-    (subst (λ (n : ℤ). IsWithinHalf (pos 1) (y_of 2 n c.first_group.result (pos 0) b r)) (read c) (c.first_group.ensures.near (seen_by c.args.entry.now.sv base c.args.point.now) (both c base known) b r a))
+    (subst (λ (n : ℤ). IsWithinHalf (pos 1) (y_of 2 n c.first_group.result (pos 0) b r)) (read c)
+    (c.first_group.ensures.near (seen_by c.args.entry.now.sv base c.args.point.now) (both c base known) b r a))
 
 pub returns-clause-allowed : goal.returns-clause-allowed
 returns-clause-allowed c = λ base known scale t.
     subst (λ (g : ℤ). IsAllowedGroup (seen_by c.args.entry.now.sv base c.args.point.now) scale (number_at c.args.entry.now.sv.observed 2) g) (sym (answer c))
-    (subst (λ (n : ℤ). IsAllowedGroup (seen_by c.args.entry.now.sv base c.args.point.now) scale n c.first_group.result) (read c) (c.first_group.ensures.allowed scale (seen_by c.args.entry.now.sv base c.args.point.now) t (both c base known)))
+    (subst (λ (n : ℤ). IsAllowedGroup (seen_by c.args.entry.now.sv base c.args.point.now) scale n c.first_group.result) (read c)
+    (c.first_group.ensures.allowed scale (seen_by c.args.entry.now.sv base c.args.point.now) t (both c base known)))
 
 pub returns-clause-exists : goal.returns-clause-exists
 returns-clause-exists c = λ base known. record { base = known.exists; rover = c.sight_of-seen.ensures.exists }

@@ -1,11 +1,8 @@
-use Rattle.std.proofs.Common.{ap, refl, sym, ◌∙◌}
-use Rattle.orbit_clock.specs.Records.{elements_of, constants_of}
+use Rattle.std.proofs.Common.{refl, sym, ◌∙◌}
 use Rattle.sv_orbit.specs.Solutions.{HoldsSolution}
-use Rattle.screening.specs.Amounts.{AreUsable}
-use Rattle.screening.specs.Sightings.{Setting, Sighting, IsSighting, Sent, setting_with}
+use Rattle.screening.specs.Sightings.{Setting, Sighting, IsSighting, Sent, setting_with, code_of}
 use Rattle.screening.proofs.ChosenOnce.{none_chosen}
-use Rattle.screening.proofs.SightLaws.{match_none, match_some, if_some, at_code, fewer, left_out_as, of_record}
-use Rattle.screening.proofs.PlainAmounts.{plain_code}
+use Rattle.screening.proofs.SightLaws.{match_none, match_some, code_range, from_record, fewer, left_out_as}
 use Rattle.screening.proofs.sights.entry_of.Goals as goal
 
 pub returns-in_err-eph : goal.returns-in_err-eph
@@ -23,10 +20,11 @@ returns-then-not-is_high c =
       at_rover = sym c.amounts_at-2.ensures.value ∙ c.in_ok-at_rover.was;
       chosen = match_some c.chosen.result _ _ c.in_ok-eph.eph c.in_ok-eph.was c.chosen.ensures;
     } in
-    let fit : AreUsable g.base = if_some c.amounts_at.result AreUsable g.base c.in_ok-at_base.was c.amounts_at.ensures.usable in
-    let holds = at_code s.world (elements_of g.eph) c.args.base.now.tag.0 g.base.l1_code c.sv_from-from_base.result (plain_code g.base.l1_code fit.l1_code_from fit.l1_code_to) (of_record s.world (constants_of c.of-record.result.clock.world) (elements_of g.eph) (elements_of c.of-record.result.clock.eph) c.args.base.now.tag.0 g.base.l1_code c.sv_from-from_base.result (ap constants_of c.of-record.ensures.world) (ap elements_of c.of-record.ensures.eph) c.sv_from-from_base.ensures) in
+    let range = code_range c.amounts_at.result g.base c.in_ok-at_base.was c.amounts_at.ensures.code_from c.amounts_at.ensures.code_to in
+    let clock = c.of-record.result.clock in
+    let holds = from_record _ clock.world g.eph clock.eph _ (code_of g.base) _ range c.of-record.ensures.world c.of-record.ensures.eph c.sv_from-from_base.ensures in
     left_out_as s c.args.base.now c.args.rover.now c.args.number g seen
-    (fewer (Sent s g.eph c.args.base.now.tag.0 g.base.l1_code) (HoldsSolution c.sv_from-from_base.result) _ _ holds (c.is_high.ensures.left_out c.if-not-is_high.true))
+    (fewer (Sent s g.eph c.args.base.now.tag.0 (code_of g.base)) (HoldsSolution c.sv_from-from_base.result) _ _ holds (c.is_high.ensures.left_out c.if-not-is_high.true))
 
 pub returns : goal.returns
 returns c =
@@ -38,19 +36,20 @@ returns c =
       at_rover = sym c.amounts_at-2.ensures.value ∙ c.in_ok-at_rover.was;
       chosen = match_some c.chosen.result _ _ c.in_ok-eph.eph c.in_ok-eph.was c.chosen.ensures;
     } in
-    let fit : AreUsable g.base = if_some c.amounts_at.result AreUsable g.base c.in_ok-at_base.was c.amounts_at.ensures.usable in
-    let fit_too : AreUsable g.rover = if_some c.amounts_at-2.result AreUsable g.rover c.in_ok-at_rover.was c.amounts_at-2.ensures.usable in
-    let holds = at_code s.world (elements_of g.eph) c.args.base.now.tag.0 g.base.l1_code c.sv_from-from_base.result (plain_code g.base.l1_code fit.l1_code_from fit.l1_code_to) (of_record s.world (constants_of c.of-record.result.clock.world) (elements_of g.eph) (elements_of c.of-record.result.clock.eph) c.args.base.now.tag.0 g.base.l1_code c.sv_from-from_base.result (ap constants_of c.of-record.ensures.world) (ap elements_of c.of-record.ensures.eph) c.sv_from-from_base.ensures) in
+    let range = code_range c.amounts_at.result g.base c.in_ok-at_base.was c.amounts_at.ensures.code_from c.amounts_at.ensures.code_to in
+    let range_too = code_range c.amounts_at-2.result g.rover c.in_ok-at_rover.was c.amounts_at-2.ensures.code_from c.amounts_at-2.ensures.code_to in
+    let clock = c.of-record.result.clock in
+    let holds = from_record _ clock.world g.eph clock.eph _ (code_of g.base) _ range c.of-record.ensures.world c.of-record.ensures.eph c.sv_from-from_base.ensures in
     record {
       pair_is = refl;
       sat_is = refl;
       entry = record {
         sighting = g;
         seen = seen;
-        kept = fewer (Sent s g.eph c.args.base.now.tag.0 g.base.l1_code) (HoldsSolution c.sv_from-from_base.result) _ _ holds (c.is_high.ensures.kept c.if-not-is_high.false);
+        kept = fewer (Sent s g.eph c.args.base.now.tag.0 (code_of g.base)) (HoldsSolution c.sv_from-from_base.result) _ _ holds (c.is_high.ensures.kept c.if-not-is_high.false);
         tag = refl;
         observed = c.differences.ensures.value;
         base_holds = holds;
-        rover_holds = at_code s.world (elements_of g.eph) c.args.rover.now.tag.0 g.rover.l1_code c.sv_from.result (plain_code g.rover.l1_code fit_too.l1_code_from fit_too.l1_code_to) (of_record s.world (constants_of c.of-record.result.clock.world) (elements_of g.eph) (elements_of c.of-record.result.clock.eph) c.args.rover.now.tag.0 g.rover.l1_code c.sv_from.result (ap constants_of c.of-record.ensures.world) (ap elements_of c.of-record.ensures.eph) c.sv_from.ensures);
+        rover_holds = from_record _ clock.world g.eph clock.eph _ (code_of g.rover) _ range_too c.of-record.ensures.world c.of-record.ensures.eph c.sv_from.ensures;
       };
     }

@@ -1,5 +1,5 @@
-use Rattle.std.proofs.Common.{◌≡◌, ◌<◌, ℕ, false, List, [], length, Some, get_or, refl, sym, ap, ◌∙◌, subst}
-use Rattle.std.specs.Prelude.{slice_get}
+use Rattle.std.proofs.Common.{◌≡◌, ◌<◌, ◌^◌, ℕ, false, List, [], length, Some, get_or, arith, refl, sym, ap, ◌∙◌, subst}
+use Rattle.std.specs.Prelude.{slice_get, pos}
 use Rattle.std.proofs.lemmas.Bool.{false≢true}
 use Rattle.std.proofs.lemmas.Option.{slice_get-get_or, get_or_from_slice_get}
 use Rattle.obs_rows.specs.declared.arcs.Arc.{Arc}
@@ -7,7 +7,8 @@ use Rattle.row_build.specs.Rows.{setting}
 use Rattle.row_build.specs.HeldArcs.{holds_pair}
 use Rattle.row_build.specs.Shifts.{AreFirstShifts}
 use Rattle.round_steps.specs.Shifts.{without_shifts}
-use Rattle.session.proofs.RangeLaws.{first_inside, holds_first}
+use Rattle.round_steps.proofs.ShiftLaws.{three_below}
+use Rattle.session.proofs.RangeLaws.{first_inside, holds_first, zeros_off}
 use Rattle.session.proofs.file_rounds.first_arc.Goals as goal
 
 pub shift_at-found-requires-clause-pair : goal.shift_at-found-requires-clause-pair
@@ -36,10 +37,10 @@ returns-in-Some-clause-near c = λ a h.
     let s : List Arc = c.as_slice-kept.result.now in
     let e : Arc = record { sat = 0; first = 0; last = 0; datum = false; shift = [] } in
     let q : get_or s c.args.k e ≡ a = ap (λ (l : List Arc). get_or l c.args.k e) c.as_slice-kept.ensures ∙ get_or_from_slice_get kept c.args.k a e h in
-    let near : AreFirstShifts (setting f.screened.boxes s f.position c.args.point.now 0) (get_or s c.args.k e).first a.sat c.in-Some.shift =
+    let near : AreFirstShifts (setting f.screened.boxes s f.position c.args.point.now f.signals 0) (get_or s c.args.k e).first a.sat c.in-Some.shift =
     c.in-Some.ensures.near a (subst (λ (l : List Arc). slice_get l c.args.k ≡ Some a) (sym c.as_slice-kept.ensures) h) in
-    subst (λ (n : ℕ). AreFirstShifts (setting f.screened.boxes kept f.position c.args.point.now 0) n a.sat c.in-Some.shift) (ap (λ (x : Arc). x.first) q)
-    (subst (λ (l : List Arc). AreFirstShifts (setting f.screened.boxes l f.position c.args.point.now 0) (get_or s c.args.k e).first a.sat c.in-Some.shift) c.as_slice-kept.ensures near)
+    subst (λ (n : ℕ). AreFirstShifts (setting f.screened.boxes kept f.position c.args.point.now f.signals 0) n a.sat c.in-Some.shift) (ap (λ (x : Arc). x.first) q)
+    (subst (λ (l : List Arc). AreFirstShifts (setting f.screened.boxes l f.position c.args.point.now f.signals 0) (get_or s c.args.k e).first a.sat c.in-Some.shift) c.as_slice-kept.ensures near)
 
 pub returns-in-None-clause-near : goal.returns-in-None-clause-near
 returns-in-None-clause-near c = λ a h.
@@ -49,3 +50,16 @@ returns-in-None-clause-near c = λ a h.
     let q : get_or s c.args.k e ≡ a = ap (λ (l : List Arc). get_or l c.args.k e) c.as_slice-kept.ensures ∙ get_or_from_slice_get kept c.args.k a e h in
     let none : holds_pair a (get_or s c.args.k e).first ≡ false = (c.in-None.ensures.none a (subst (λ (l : List Arc). slice_get l c.args.k ≡ Some a) (sym c.as_slice-kept.ensures) h)).0 refl in
     absurd (false≢true (sym (subst (λ (n : ℕ). holds_pair a n ≡ false) (ap (λ (x : Arc). x.first) q) none) ∙ holds_first kept c.args.k a c.requires.arcs h))
+
+pub returns-in-Some-clause-used : goal.returns-in-Some-clause-used
+returns-in-Some-clause-used c =
+    let kept : List Arc = c.args.files.now.kept in
+    let e : Arc = record { sat = 0; first = 0; last = 0; datum = false; shift = [] } in
+    let a : Arc = get_or kept c.args.k e in
+    (c.in-Some.ensures.near a (subst (λ (l : List Arc). slice_get l c.args.k ≡ Some a) (sym c.as_slice-kept.ensures) (slice_get-get_or kept c.args.k e c.requires.inside))).unused
+
+pub returns-in-None-clause-used : goal.returns-in-None-clause-used
+returns-in-None-clause-used c = zeros_off _
+
+pub returns-in-None-clause-size : goal.returns-in-None-clause-size
+returns-in-None-clause-size c = three_below (pos 0) (pos 0) (pos 0) (2 ^ 39) (omega arith) (omega arith) (omega arith)

@@ -2,6 +2,8 @@ use Rattle.std.proofs.Common.{◌≡◌, ◌^◌, ◌++◌, ◌∷◌, [], lengt
 use Rattle.std.proofs.lemmas.List.Elements.{All-push}
 use Rattle.obs_rows.specs.declared.arcs.Arc.{Arc}
 use Rattle.obs_rows.specs.Ranges.{IsBelow}
+use Rattle.obs_rows.specs.Signals.{fine_signals}
+use Rattle.obs_rows.specs.Unused.{HasUsedShifts}
 use Rattle.round_steps.specs.Shifts.{AreShiftsBelow}
 use Rattle.session.proofs.FirstArcs.{more_first, begins, same_first}
 use Rattle.session.proofs.file_rounds.first_arcs.Goals as goal
@@ -11,19 +13,20 @@ loop-k-preserved c =
     let f = c.args.files.now in
     let pushed : c.push.new.self.items ≡ c.loop-k.arcs.items ++ c.first_arc.result ∷ [] = c.in_ok-push.ensures.items in
     record {
-      first = more_first f.screened.boxes f.kept f.position c.args.point.now c.loop-k.k c.loop-k.arcs.items c.push.new.self.items c.first_arc.result c.loop-k.invariant.first
+      first = more_first f.screened.boxes f.kept f.position c.args.point.now f.signals c.loop-k.k c.loop-k.arcs.items c.push.new.self.items c.first_arc.result c.loop-k.invariant.first
           (λ a e. record { same = c.first_arc.ensures.same a e; near = c.first_arc.ensures.near a e }) pushed;
       size = subst (AreShiftsBelow (2 ^ 39)) (sym pushed) (All-push (λ (b : Arc). All (IsBelow (2 ^ 39)) b.shift) c.loop-k.arcs.items c.first_arc.result c.loop-k.invariant.size c.first_arc.ensures.size);
+      used = subst (All (HasUsedShifts (fine_signals f.signals))) (sym pushed) (All-push (HasUsedShifts (fine_signals f.signals)) c.loop-k.arcs.items c.first_arc.result c.loop-k.invariant.used c.first_arc.ensures.used);
     }
 
 pub returns-clause-begins : goal.returns-clause-begins
 returns-clause-begins c =
     let f = c.args.files.now in
     let e : c.loop-k.k ≡ length c.args.files.now.kept = omega (arith, c.len-k-end.ensures) in
-    begins f.screened.boxes f.kept f.position c.args.point.now c.loop-k.k c.loop-k.arcs.items c.loop-k.invariant.first e
+    begins f.screened.boxes f.kept f.position c.args.point.now f.signals c.loop-k.k c.loop-k.arcs.items c.loop-k.invariant.first e
 
 pub returns-clause-same : goal.returns-clause-same
 returns-clause-same c =
     let f = c.args.files.now in
     let e : c.loop-k.k ≡ length c.args.files.now.kept = omega (arith, c.len-k-end.ensures) in
-    same_first f.screened.boxes f.kept f.position c.args.point.now c.loop-k.k c.loop-k.arcs.items c.loop-k.invariant.first e
+    same_first f.screened.boxes f.kept f.position c.args.point.now f.signals c.loop-k.k c.loop-k.arcs.items c.loop-k.invariant.first e

@@ -1,6 +1,9 @@
-use Rattle.std.proofs.Common.{◌≤◌, ◌^◌, ◌⊎◌, ℕ, Bool, IsTrue, List, length, sym, ap, ◌∙◌, subst}
+use Rattle.std.proofs.Common.{◌≤◌, ◌^◌, ◌⊎◌, ℕ, Bool, IsTrue, List, length, All, refl, sym, ap, ◌∙◌, subst}
 use Rattle.obs_rows.specs.declared.arcs.Arc.{Arc}
-use Rattle.round_steps.specs.Points.{IsReceiverPoint}
+use Rattle.obs_rows.specs.Ranges.{IsSystem}
+use Rattle.obs_rows.specs.Signals.{fine_signals}
+use Rattle.obs_rows.specs.Unused.{HasUsedShifts}
+use Rattle.obs_rows.specs.ReceiverPoints.{IsReceiverPoint}
 use Rattle.round_steps.specs.Shifts.{AreShiftsBelow}
 use Rattle.slip_arcs.specs.Linked.{IsCutOf}
 use Rattle.session.specs.declared.file_rounds.FileRounds.{FileRounds}
@@ -8,7 +11,7 @@ use Rattle.session.specs.Answers.{HasDelta}
 use Rattle.session.specs.FileRules.{rules_of}
 use Rattle.session.proofs.StandsLaws.{rows_stand}
 use Rattle.session.proofs.RoundLaws.{answer_allowed}
-use Rattle.session.proofs.RangeLaws.{able, no_shifts}
+use Rattle.session.proofs.RangeLaws.{able, no_shifts, none_unused}
 use Rattle.session.proofs.FewArcs.{kept_few}
 use Rattle.session.proofs.runs.process.Goals as goal
 
@@ -21,7 +24,7 @@ outcome-requires-clause-ready c = λ on.
         able f.screened.used f.kept (length c.in-Ok.begun.taken.items) s.cut f.screened.few f.screened.numbered (no_shifts f.kept s.screened.shifts) on.not_few on.not_many,
         subst IsReceiverPoint (sym s.screened.position_is) c.in-Ok.ensures.position.in_reach,
       ),
-      s.halves,
+      (s.halves, subst IsSystem (sym (s.screened.system_is ∙ c.args.options.now.of_system)) refl),
     )
 
 few_kept : (f : FileRounds) → IsCutOf f.screened.used f.kept → length f.kept ≤ 54000
@@ -32,6 +35,11 @@ outcome-requires-clause-few_arcs c = subst (λ (l : List Arc). length l ≤ 5400
 
 pub outcome-requires-clause-shifts : goal.outcome-requires-clause-shifts
 outcome-requires-clause-shifts c = subst (AreShiftsBelow (2 ^ 40)) (sym c.as_slice.ensures) (no_shifts c.in-Ok-screened.rounds.kept c.in-Ok-screened.ensures.screened.shifts)
+
+pub outcome-requires-clause-used : goal.outcome-requires-clause-used
+outcome-requires-clause-used c =
+    let f = c.in-Ok-screened.rounds in
+    subst (All (HasUsedShifts (fine_signals f.signals))) (sym c.as_slice.ensures) (none_unused (fine_signals f.signals) f.kept c.in-Ok-screened.ensures.screened.shifts)
 
 pub returns-in-Ok-outcome-clause-outcome : goal.returns-in-Ok-outcome-clause-outcome
 returns-in-Ok-outcome-clause-outcome c = record {
@@ -57,4 +65,4 @@ pub returns-in-Ok-outcome-clause-rounds : goal.returns-in-Ok-outcome-clause-roun
 returns-in-Ok-outcome-clause-rounds c =
     let f = c.in-Ok-screened.rounds in
     let found = c.in-Ok-outcome.outcome in
-    answer_allowed (rules_of f.screened.boxes (length f.screened.used) f.kept f.position f.signals) found.taken c.args.options.now found.rounds found.answer c.in-Ok-outcome.ensures.answer
+    answer_allowed (rules_of f.screened.boxes (length f.screened.used) f.kept f.position f.signals f.system) found.taken c.args.options.now found.rounds found.answer c.in-Ok-outcome.ensures.answer

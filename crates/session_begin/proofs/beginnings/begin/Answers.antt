@@ -1,39 +1,64 @@
-use Rattle.std.proofs.Common.{◌≡◌, ◌<◌, ◌≤◌, ℕ, List, length, arith, subst}
+use Rattle.std.proofs.Common.{◌<◌, ◌≤◌, ℕ, List, length, AllPairs, arith, sym, subst}
 use Rattle.obs_store.specs.Epochs.{tags_of}
 use Rattle.epoch_pair.specs.declared.pairs.PairOf.{PairOf}
-use Rattle.epoch_pair.specs.Pairs.{IsTaken, IsNearPair}
-use Rattle.session_begin.specs.Beginnings.{HaveSignals}
-use Rattle.session_begin.proofs.BeginLaws.{refused_pair, taken_rises, all_taken}
+use Rattle.epoch_pair.specs.Pairs.{Follows, IsTaken, IsNearPair}
+use Rattle.obs_store.specs.declared.file.ObsFile.{ObsFile}
+use Rattle.obs_rows.specs.declared.bands.Signals.{Signals}
+use Rattle.obs_rows.specs.declared.units.TheConstants.{BANDS_12}
+use Rattle.run_options.specs.declared.options.Options.{Options}
+use Rattle.session_begin.specs.Beginnings.{bands_of, AreSignals, HaveSignals, LackSignal}
+use Rattle.epoch_pair.proofs.Uses.{taken_all, taken_pairs}
+use Rattle.session_begin.proofs.BeginLaws.{on_l1_l2, refused_pair}
 use Rattle.session_begin.proofs.beginnings.begin.Goals as goal
+
+-- what was found on L1 and L2 is what the bands of the run ask for
+on_bands : (o : Options) (base rover : ObsFile) (s : Signals) → AreSignals BANDS_12 base rover s → AreSignals (bands_of o) base rover s
+on_bands o base rover s are = subst (λ (bands : List ℕ). AreSignals bands base rover s) (on_l1_l2 o) are
+
+have : (o : Options) (base rover : ObsFile) (s : Signals) → AreSignals BANDS_12 base rover s → HaveSignals (bands_of o) base rover
+have o base rover s are = (s, on_bands o base rover s are)
 
 pub returns-in-Err-clause-refused : goal.returns-in-Err-clause-refused
 returns-in-Err-clause-refused c =
-    let s : HaveSignals c.args.base.now c.args.rover.now = (c.in-Some-signals.signals, record { l1 = c.in-Some-signals.ensures.signals.0; l2 = c.in-Some-signals.ensures.signals.1 }) in
+    let s : HaveSignals (bands_of c.args.options.now) c.args.base.now c.args.rover.now = have c.args.options.now c.args.base.now c.args.rover.now c.in-Some-signals.signals c.in-Some-signals.ensures in
     refused_pair c.args.base.now c.args.rover.now c.args.options.now c.in-Err.fault c.fault_of.result c.fault_of.ensures (c.in-Some.position, c.in-Some.ensures) s c.in-Err.ensures.refused
 
 pub returns-in-Ok-take-clause-rises : goal.returns-in-Ok-take-clause-rises
 returns-in-Ok-take-clause-rises c =
     let o = c.args.options.now in
-    let t : IsTaken c.in-Ok.pairs.items o.first o.step o.count c.in-Ok-take.taken.items = subst (λ (l : List PairOf). IsTaken l o.first o.step o.count c.in-Ok-take.taken.items) c.as_slice.ensures.value c.in-Ok-take.ensures in
+    let t : IsTaken c.in-Ok.pairs.items o.first o.step o.count c.in-Ok-take.taken.items =
+    subst (λ (l : List PairOf). IsTaken l o.first o.step o.count c.in-Ok-take.taken.items) c.as_slice.ensures.value c.in-Ok-take.ensures in
     let s : 0 < o.step = omega (arith, o.step_from) in
-    taken_rises c.in-Ok.pairs.items c.in-Ok-take.taken.items o.first o.step o.count s t c.in-Ok.ensures.rises
+    taken_pairs Follows c.in-Ok.pairs.items o.first o.step o.count c.in-Ok-take.taken.items s c.in-Ok.ensures.rises t
 
 pub returns-in-Ok-take-clause-near : goal.returns-in-Ok-take-clause-near
 returns-in-Ok-take-clause-near c =
     let o = c.args.options.now in
-    let t : IsTaken c.in-Ok.pairs.items o.first o.step o.count c.in-Ok-take.taken.items = subst (λ (l : List PairOf). IsTaken l o.first o.step o.count c.in-Ok-take.taken.items) c.as_slice.ensures.value c.in-Ok-take.ensures in
-    all_taken (IsNearPair o.gap (tags_of c.args.base.now.epochs) (tags_of c.args.rover.now.epochs)) c.in-Ok.pairs.items c.in-Ok-take.taken.items o.first o.step o.count t c.in-Ok.ensures.near
+    let t : IsTaken c.in-Ok.pairs.items o.first o.step o.count c.in-Ok-take.taken.items =
+    subst (λ (l : List PairOf). IsTaken l o.first o.step o.count c.in-Ok-take.taken.items) c.as_slice.ensures.value c.in-Ok-take.ensures in
+    taken_all (IsNearPair o.gap (tags_of c.args.base.now.epochs) (tags_of c.args.rover.now.epochs)) c.in-Ok.pairs.items o.first o.step o.count c.in-Ok-take.taken.items c.in-Ok.ensures.near t
 
 pub returns-clause-refused : goal.returns-clause-refused
 returns-clause-refused c =
-    let s : HaveSignals c.args.base.now c.args.rover.now = (c.in-Some-signals.signals, record { l1 = c.in-Some-signals.ensures.signals.0; l2 = c.in-Some-signals.ensures.signals.1 }) in
+    let s : HaveSignals (bands_of c.args.options.now) c.args.base.now c.args.rover.now = have c.args.options.now c.args.base.now c.args.rover.now c.in-Some-signals.signals c.in-Some-signals.ensures in
     ((c.in-Some.position, c.in-Some.ensures), (s, (c.in-Ok.ensures.apart_base, c.in-Ok.ensures.apart_rover)))
 
 pub returns-in-Ok-take-clause-few : goal.returns-in-Ok-take-clause-few
 returns-in-Ok-take-clause-few c =
     let o = c.args.options.now in
-    let t : IsTaken c.in-Ok.pairs.items o.first o.step o.count c.in-Ok-take.taken.items = subst (λ (l : List PairOf). IsTaken l o.first o.step o.count c.in-Ok-take.taken.items) c.as_slice.ensures.value c.in-Ok-take.ensures in
+    let t : IsTaken c.in-Ok.pairs.items o.first o.step o.count c.in-Ok-take.taken.items =
+    subst (λ (l : List PairOf). IsTaken l o.first o.step o.count c.in-Ok-take.taken.items) c.as_slice.ensures.value c.in-Ok-take.ensures in
     below (length c.in-Ok-take.taken.items) o.count t.few o.count_to
   where
     below : (n m : ℕ) → n ≤ m → m ≤ 3600 → n ≤ 3600
     below n m h g = omega arith
+
+pub returns-in-Ok-take-clause-signals : goal.returns-in-Ok-take-clause-signals
+returns-in-Ok-take-clause-signals c = on_bands c.args.options.now c.args.base.now c.args.rover.now c.in-Some-signals.signals c.in-Some-signals.ensures
+
+pub returns-in_default-signals-clause-refused : goal.returns-in_default-signals-clause-refused
+returns-in_default-signals-clause-refused c =
+    ((c.in-Some.position, c.in-Some.ensures), subst (λ (bands : List ℕ). LackSignal bands c.args.base.now c.args.rover.now) (on_l1_l2 c.args.options.now) c.in_default-signals.ensures)
+
+pub count_of-requires-clause-rises : goal.count_of-requires-clause-rises
+count_of-requires-clause-rises c = subst (AllPairs Follows) (sym c.as_slice-in-Ok-take.ensures.value) c.in-Ok.ensures.rises

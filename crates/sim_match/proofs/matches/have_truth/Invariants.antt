@@ -6,4 +6,4 @@ use Rattle.sim_match.specs.Matches.{HasTruth}
 use Rattle.sim_match.proofs.matches.have_truth.Given as goal
 
 abbrev pub invariant-loop-k : goal.invariant-loop-k
-invariant-loop-k l = (j : ℕ) (a : Arc) → j < l.k → slice_get l.arcs j ≡ Some a → IsTrue (is_free a) → HasTruth l.truth l.arcs l.z j a
+invariant-loop-k l = (j : ℕ) (a : Arc) → j < l.k → slice_get l.arcs j ≡ Some a → IsTrue (is_free a) → HasTruth l.truth l.arcs l.signals l.z j a

@@ -1,6 +1,7 @@
 use Rattle.sim_run_job.proofs.MadeFiles.{still_fits, made_admitted}
 use Rattle.sim_run_job.specs.SimRunJobs.{AreMadeFiles}
-use Rattle.sim_run_job.proofs.RunEnds.{end_no_fault, ends_found, never_stops, ended_weaker}
+use Rattle.job_answers.proofs.EndingLaws.{ended_weaker}
+use Rattle.sim_run_job.proofs.RunEnds.{end_no_fault, ends_found, never_stops}
 use Rattle.sim_run_job.proofs.runs.sim_run.Goals as goal
 
 pub returns-in-Ok-clause-ends : goal.returns-in-Ok-clause-ends

@@ -31,7 +31,8 @@ sats-preserved c =
       | else-at-gt0-via-else-at-gt0 w ↦ λ h next. absurd (omega arith)
     ] in
     record {
-      done = done_add c.args.jump c.args.least c.args.used.now c.pairs.at c.sats.k _ _ _ _ _ _ c.index.result.now c.last_of-last.result is (rising_at _ _ c.requires.ranges c.pairs-test.true) begins c.last_of-last.ensures.order c.last_of-last.ensures.held c.last_of-last.ensures.ends c.in_ok-add.ensures c.sats.invariant.done;
+      done = done_add c.args.jump c.args.least c.args.used.now c.pairs.at c.sats.k _ _ _ _ _ _ c.index.result.now c.last_of-last.result is
+          (rising_at _ _ c.requires.ranges c.pairs-test.true) begins c.last_of-last.ensures.order c.last_of-last.ensures.held c.last_of-last.ensures.ends c.in_ok-add.ensures c.sats.invariant.done;
       marked = marked_add c.args.least c.pairs.at _ _ _ _ _ _ _ _ c.last_of-last.ensures.order c.in_ok-add.ensures c.sats.invariant.marked;
     }
 
@@ -52,4 +53,4 @@ pub returns-clause-datums : goal.returns-clause-datums
 returns-clause-datums c = subst (λ (kept : List Arc). HaveDatums kept) (sym c.new-2.ensures) (have_datums _ _ _ c.pairs.invariant.marked)
 
 pub returns-clause-shifts : goal.returns-clause-shifts
-returns-clause-shifts c = subst (λ (kept : List Arc). All (λ a. a.shift ≡ pos 0 ∷ pos 0 ∷ []) kept) (sym c.new-2.ensures) c.pairs.invariant.marked.shifts
+returns-clause-shifts c = subst (λ (kept : List Arc). All (λ a. a.shift ≡ pos 0 ∷ pos 0 ∷ pos 0 ∷ []) kept) (sym c.new-2.ensures) c.pairs.invariant.marked.shifts

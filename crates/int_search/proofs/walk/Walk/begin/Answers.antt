@@ -1,6 +1,7 @@
 use Rattle.std.proofs.Common.{◌≡◌, ◌+◌, ◌-◌, ◌^◌, [], ◌∷◌, length, pos, ◌*ℤ◌, arith, ap, ◌∙◌, to_z, of_z, rules}
 use Rattle.std.specs.Int.{w128}
 use Rattle.std.proofs.lemmas.Int.{ints, to_z-of_z}
+use Rattle.form_tables.specs.declared.sizes.TheConstants.{MOST_INTEGERS}
 use Rattle.suffix_search.specs.Suffixes.{SearchForm, rest}
 use Rattle.int_search.specs.Vectors.{suffix}
 use Rattle.int_search.specs.SearchedForm.{search_form}
@@ -12,7 +13,7 @@ pub returns : goal.returns
 returns c =
     let f : SearchForm = search_form c.args.form.now in
     let n : c.args.form.now.columns - 3 - 1 ≡ f.size = omega arith in
-    let za : length c.args.z ≡ 40 = search rules in
+    let za : length c.args.z ≡ MOST_INTEGERS = search rules in
     let st : c.push.new.self ≡ c.fresh.result ∷ [] = c.push.ensures ∙ ap (λ t. c.fresh.result ∷ t) c.new-stack.ensures in
     let rs = c.later_part.ensures.size in
     let r : to_z w128 (of_z w128 c.later_part.result) ≡ c.later_part.result = omega (arith, ints) in

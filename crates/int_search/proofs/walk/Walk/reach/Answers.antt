@@ -13,12 +13,14 @@ use Rattle.int_search.proofs.walk.Walk.reach.Goals as goal
 
 pub room-requires-clause-p_size : goal.room-requires-clause-p_size
 room-requires-clause-p_size c =
-    let s : unsigned_abs c.args.self.now.best.p2 ≤ 2 ^ 62 = p2_size (search_form c.args.form.now) c.requires.walk.image c.args.self.now (searchable c.args.form.now c.requires.some) c.requires.walk.walk in
+    let s : unsigned_abs c.args.self.now.best.p2 ≤ 2 ^ 62 = p2_size (search_form c.args.form.now) c.requires.walk.image c.args.self.now
+    (searchable c.args.form.now c.requires.some) c.requires.walk.walk in
     omega (arith, ints)
 
 pub room-requires-clause-low_size : goal.room-requires-clause-low_size
 room-requires-clause-low_size c =
-    let s : unsigned_abs c.top-level.result.low ≤ 2 ^ 122 = low_size (search_form c.args.form.now) c.requires.walk.image c.args.self.now c.top-level.result (searchable c.args.form.now c.requires.some) c.requires.walk.walk c.top-level.ensures in
+    let s : unsigned_abs c.top-level.result.low ≤ 2 ^ 122 = low_size (search_form c.args.form.now) c.requires.walk.image c.args.self.now c.top-level.result
+    (searchable c.args.form.now c.requires.some) c.requires.walk.walk c.top-level.ensures in
     omega (arith, ints)
 
 pub term_within-requires-clause-d_from : goal.term_within-requires-clause-d_from
@@ -57,11 +59,15 @@ returns-in_err-term c =
     let ce : to_z w128 (of_z w128 ch.offset) ≡ ch.offset = omega (arith, ints) in
     let re : to_z w128 (of_z w128 c.room.result) ≡ c.room.result = omega (arith, ints) in
     let far : c.room.result <ℤ (get_or c.args.form.now.d (3 + w.size - c.len.result) (pos 0) *ℤ (ch.offset *ℤ ch.offset)) = rw (de, ce, re) at c.in_err-term.ensures in
-    rw c.from_residual.ensures (record { popped = λ im h. walk_pop f im w a ch.entry ch.offset (get_or c.args.form.now.d (3 + w.size - c.len.result) (pos 0)) c.room.result ch.is_up k (omega arith) c.top-level.ensures c.requires.level c.nearest-choice.ensures d.is left far h })
+    rw c.from_residual.ensures (record {
+      popped = λ im h. walk_pop f im w a ch.entry ch.offset (get_or c.args.form.now.d (3 + w.size - c.len.result) (pos 0)) c.room.result ch.is_up k
+          (omega arith) c.top-level.ensures c.requires.level c.nearest-choice.ensures d.is left far h;
+    })
 
 pub low_with-requires-clause-low_size : goal.low_with-requires-clause-low_size
 low_with-requires-clause-low_size c =
-    let s : unsigned_abs c.top-level.result.low ≤ 2 ^ 122 = low_size (search_form c.args.form.now) c.requires.walk.image c.args.self.now c.top-level.result (searchable c.args.form.now c.requires.some) c.requires.walk.walk c.top-level.ensures in
+    let s : unsigned_abs c.top-level.result.low ≤ 2 ^ 122 = low_size (search_form c.args.form.now) c.requires.walk.image c.args.self.now c.top-level.result
+    (searchable c.args.form.now c.requires.some) c.requires.walk.walk c.top-level.ensures in
     omega (arith, ints)
 
 pub returns : goal.returns
@@ -89,4 +95,5 @@ returns c =
     let lo : to_z w128 (of_z w128 c.low_with.result) ≡ a.low +ℤ c.in_ok-term.term =
     (let e : c.low_with.result ≡ a.low +ℤ c.in_ok-term.term = grind (arith, to_z-of_z) in
     omega (arith, ints)) in
-    walk_reach f c.requires.walk.image w _ (get_or c.args.form.now.d (3 + w.size - c.len.result) (pos 0)) c.in_ok-term.term c.room.result k c.requires.walk.walk c.top-level.ensures c.requires.level c.nearest-choice.ensures d.is left t lo
+    walk_reach f c.requires.walk.image w _ (get_or c.args.form.now.d (3 + w.size - c.len.result)
+    (pos 0)) c.in_ok-term.term c.room.result k c.requires.walk.walk c.top-level.ensures c.requires.level c.nearest-choice.ensures d.is left t lo

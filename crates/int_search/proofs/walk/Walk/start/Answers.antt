@@ -21,14 +21,19 @@ same_size : (form : Form) → form.columns - 3 - 1 ≡ form.columns - 4
 same_size form = omega arith
 
 -- an image, by the number of integers
-image_held : (form : Form) (map : List (List ℤ)) (z y : List ℤ) → Holds (form.columns - 3 - 1) y (image_of map (form.columns - 3 - 1) (suffix z 0 (form.columns - 3 - 1))) → Holds (form.columns - 4) y (search_image form map (suffix z 0 (form.columns - 4)))
+image_held : (form : Form) (map : List (List ℤ)) (z y : List ℤ) → Holds (form.columns - 3 - 1) y (image_of map (form.columns - 3 - 1) (suffix z 0 (form.columns - 3 - 1))) →
+    Holds (form.columns - 4) y (search_image form map (suffix z 0 (form.columns - 4)))
 image_held form map z y h = subst (λ (n : ℕ). Holds n y (image_of map n (suffix z 0 n))) (same_size form) h
 
-image_large : (form : Form) (map : List (List ℤ)) (z : List ℤ) → HasLarge (image_of map (form.columns - 3 - 1) (suffix z 0 (form.columns - 3 - 1))) → HasLarge (search_image form map (suffix z 0 (form.columns - 4)))
+image_large : (form : Form) (map : List (List ℤ)) (z : List ℤ) → HasLarge (image_of map (form.columns - 3 - 1) (suffix z 0 (form.columns - 3 - 1))) →
+    HasLarge (search_image form map (suffix z 0 (form.columns - 4)))
 image_large form map z h = subst (λ (n : ℕ). HasLarge (image_of map n (suffix z 0 n))) (same_size form) h
 
-rank_less : (form : Form) (p q a b : ℤ) (y x : List ℤ) → a ≡ p → b ≡ q → IsRankLess a (suffix y 0 (form.columns - 3 - 1)) b (suffix x 0 (form.columns - 3 - 1)) → IsRankLess p (suffix y 0 (form.columns - 4)) q (suffix x 0 (form.columns - 4))
-rank_less form p q a b y x e g h = subst (λ (n : ℕ). IsRankLess p (suffix y 0 n) q (suffix x 0 n)) (same_size form) (subst (λ (t : ℤ). IsRankLess p (suffix y 0 (form.columns - 3 - 1)) t (suffix x 0 (form.columns - 3 - 1))) g (subst (λ (t : ℤ). IsRankLess t (suffix y 0 (form.columns - 3 - 1)) b (suffix x 0 (form.columns - 3 - 1))) e h))
+rank_less : (form : Form) (p q a b : ℤ) (y x : List ℤ) → a ≡ p → b ≡ q → IsRankLess a (suffix y 0 (form.columns - 3 - 1)) b (suffix x 0 (form.columns - 3 - 1)) →
+    IsRankLess p (suffix y 0 (form.columns - 4)) q (suffix x 0 (form.columns - 4))
+rank_less form p q a b y x e g h = subst (λ (n : ℕ). IsRankLess p (suffix y 0 n) q (suffix x 0 n)) (same_size form)
+    (subst (λ (t : ℤ). IsRankLess p (suffix y 0 (form.columns - 3 - 1)) t (suffix x 0 (form.columns - 3 - 1))) g
+    (subst (λ (t : ℤ). IsRankLess t (suffix y 0 (form.columns - 3 - 1)) b (suffix x 0 (form.columns - 3 - 1))) e h))
 
 pub returns-then-p : goal.returns-then-p
 returns-then-p c =
@@ -36,8 +41,10 @@ returns-then-p c =
     let p = c.value_at-p.type_inv in
     let q = c.value_at-q.type_inv in
     elim c.then-p.branch [
-      | then-p-via-then-p w ↦ inl (top_wide f (suffix c.in_ok-z.z 0 f.size) (within_top f (rounded f f.size) (suffix c.in_ok-z.z 0 f.size) c.in_ok-z.ensures.is (top_first f)) (omega (arith, ints, c.value_at-p.ensures)))
-      | then-p-via-else-p+then-q w ↦ inl (top_wide f (suffix c.in_ok-w.w 0 f.size) (within_top f (neighbour f) (suffix c.in_ok-w.w 0 f.size) c.in_ok-w.ensures.is (top_second f)) (omega (arith, ints, c.value_at-q.ensures)))
+      | then-p-via-then-p w ↦ inl (top_wide f (suffix c.in_ok-z.z 0 f.size) (within_top f (rounded f f.size) (suffix c.in_ok-z.z 0 f.size) c.in_ok-z.ensures.is (top_first f))
+          (omega (arith, ints, c.value_at-p.ensures)))
+      | then-p-via-else-p+then-q w ↦ inl (top_wide f (suffix c.in_ok-w.w 0 f.size) (within_top f (neighbour f) (suffix c.in_ok-w.w 0 f.size) c.in_ok-w.ensures.is (top_second f))
+          (omega (arith, ints, c.value_at-q.ensures)))
     ]
 
 pub returns-in_err-y : goal.returns-in_err-y
@@ -45,21 +52,24 @@ returns-in_err-y c =
     let f : SearchForm = search_form c.args.form.now in
     let k = searchable c.args.form.now c.requires.some in
     let v : List ℤ = suffix c.in_ok-z.z 0 f.size in
-    rw c.from_residual-in_err-y.ensures (inr (wide_point f (search_image c.args.form.now c.args.map.now) v k (ap length c.in_ok-z.ensures.is ∙ rounded_length f f.size) (within_top f (rounded f f.size) v c.in_ok-z.ensures.is (top_first f)) (image_large c.args.form.now c.args.map.now c.in_ok-z.z c.in_err-y.ensures)))
+    rw c.from_residual-in_err-y.ensures (inr (wide_point f (search_image c.args.form.now c.args.map.now) v k (ap length c.in_ok-z.ensures.is ∙ rounded_length f f.size)
+    (within_top f (rounded f f.size) v c.in_ok-z.ensures.is (top_first f)) (image_large c.args.form.now c.args.map.now c.in_ok-z.z c.in_err-y.ensures)))
 
 pub returns-in_err-v : goal.returns-in_err-v
 returns-in_err-v c =
     let f : SearchForm = search_form c.args.form.now in
     let k = searchable c.args.form.now c.requires.some in
     let v : List ℤ = suffix c.in_ok-w.w 0 f.size in
-    rw c.from_residual-in_err-v.ensures (inr (wide_point f (search_image c.args.form.now c.args.map.now) v k (ap length c.in_ok-w.ensures.is ∙ neighbour_length f k.some) (within_top f (neighbour f) v c.in_ok-w.ensures.is (top_second f)) (image_large c.args.form.now c.args.map.now c.in_ok-w.w c.in_err-v.ensures)))
+    rw c.from_residual-in_err-v.ensures (inr (wide_point f (search_image c.args.form.now c.args.map.now) v k (ap length c.in_ok-w.ensures.is ∙ neighbour_length f k.some)
+    (within_top f (neighbour f) v c.in_ok-w.ensures.is (top_second f)) (image_large c.args.form.now c.args.map.now c.in_ok-w.w c.in_err-v.ensures)))
 
 pub unreachable-requires : goal.unreachable-requires
 unreachable-requires c =
     let f : SearchForm = search_form c.args.form.now in
     let k = searchable c.args.form.now c.requires.some in
     let e : suffix c.in_ok-y.y 0 f.size ≡ suffix c.in_ok-v.v 0 f.size = subst (λ (n : ℕ). suffix c.in_ok-y.y 0 n ≡ suffix c.in_ok-v.v 0 n) (same_size c.args.form.now) (c.in-Equal.ensures).1 in
-    points_differ f (search_image c.args.form.now c.args.map.now) (suffix c.in_ok-z.z 0 f.size) (suffix c.in_ok-w.w 0 f.size) c.in_ok-y.y c.in_ok-v.v k c.requires.one_to_one c.in_ok-z.ensures.is c.in_ok-w.ensures.is
+    points_differ f (search_image c.args.form.now c.args.map.now) (suffix c.in_ok-z.z 0 f.size)
+    (suffix c.in_ok-w.w 0 f.size) c.in_ok-y.y c.in_ok-v.v k c.requires.one_to_one c.in_ok-z.ensures.is c.in_ok-w.ensures.is
     (image_held c.args.form.now c.args.map.now c.in_ok-z.z c.in_ok-y.y c.in_ok-y.ensures) (image_held c.args.form.now c.args.map.now c.in_ok-w.w c.in_ok-v.v c.in_ok-v.ensures) e
 
 pub returns-in-Less : goal.returns-in-Less
@@ -72,11 +82,25 @@ returns-in-Less c =
     let t = c.value_at-q.type_inv in
     let p : to_z w128 (of_z w128 c.value_at-p.result) ≡ c.value_at-p.result = omega (arith, ints) in
     let q : to_z w128 (of_z w128 c.value_at-q.result) ≡ c.value_at-q.result = omega (arith, ints) in
-    let a : IsPoint f im (suffix c.in_ok-z.z 0 f.size) c.in_ok-y.y c.value_at-p.result = record { size = ap length c.in_ok-z.ensures.is ∙ rounded_length f f.size; held = image_held form c.args.map.now c.in_ok-z.z c.in_ok-y.y c.in_ok-y.ensures; value_is = c.value_at-p.ensures; within = within_top f (rounded f f.size) _ c.in_ok-z.ensures.is (top_first f) } in
-    let b : IsPoint f im (suffix c.in_ok-w.w 0 f.size) c.in_ok-v.v c.value_at-q.result = record { size = ap length c.in_ok-w.ensures.is ∙ neighbour_length f k.some; held = image_held form c.args.map.now c.in_ok-w.w c.in_ok-v.v c.in_ok-v.ensures; value_is = c.value_at-q.ensures; within = within_top f (neighbour f) _ c.in_ok-w.ensures.is (top_second f) } in
-    let small : top f <ℤ pos (2 ^ 62) = top_small f c.value_at-p.result c.value_at-q.result (c.value_at-p.ensures ∙ ap (λ v. value f.p v) c.in_ok-z.ensures.is) (c.value_at-q.ensures ∙ ap (λ v. value f.p v) c.in_ok-w.ensures.is) (omega (arith, ints)) (omega (arith, ints)) in
+    let a : IsPoint f im (suffix c.in_ok-z.z 0 f.size) c.in_ok-y.y c.value_at-p.result =
+    record {
+      size = ap length c.in_ok-z.ensures.is ∙ rounded_length f f.size;
+      held = image_held form c.args.map.now c.in_ok-z.z c.in_ok-y.y c.in_ok-y.ensures;
+      value_is = c.value_at-p.ensures;
+      within = within_top f (rounded f f.size) _ c.in_ok-z.ensures.is (top_first f);
+    } in
+    let b : IsPoint f im (suffix c.in_ok-w.w 0 f.size) c.in_ok-v.v c.value_at-q.result =
+    record {
+      size = ap length c.in_ok-w.ensures.is ∙ neighbour_length f k.some;
+      held = image_held form c.args.map.now c.in_ok-w.w c.in_ok-v.v c.in_ok-v.ensures;
+      value_is = c.value_at-q.ensures;
+      within = within_top f (neighbour f) _ c.in_ok-w.ensures.is (top_second f);
+    } in
+    let small : top f <ℤ pos (2 ^ 62) = top_small f c.value_at-p.result c.value_at-q.result (c.value_at-p.ensures ∙ ap (λ v. value f.p v) c.in_ok-z.ensures.is)
+    (c.value_at-q.ensures ∙ ap (λ v. value f.p v) c.in_ok-w.ensures.is) (omega (arith, ints)) (omega (arith, ints)) in
     let g : BeginsWith f (record { first = c.in_ok-y.y; second = c.in_ok-v.v; p1 = c.value_at-p.result; p2 = c.value_at-q.result }) c.begin.result = rw (p, q) at c.begin.ensures in
-    begins f im (suffix c.in_ok-z.z 0 f.size) (suffix c.in_ok-w.w 0 f.size) c.in_ok-y.y c.in_ok-v.v c.value_at-p.result c.value_at-q.result c.begin.result a b (rank_less form _ _ _ _ c.in_ok-y.y c.in_ok-v.v p q c.in-Less.ensures) small g
+    begins f im (suffix c.in_ok-z.z 0 f.size) (suffix c.in_ok-w.w 0 f.size) c.in_ok-y.y c.in_ok-v.v c.value_at-p.result c.value_at-q.result c.begin.result a b
+    (rank_less form _ _ _ _ c.in_ok-y.y c.in_ok-v.v p q c.in-Less.ensures) small g
 
 pub returns-in-Greater : goal.returns-in-Greater
 returns-in-Greater c =
@@ -88,8 +112,23 @@ returns-in-Greater c =
     let t = c.value_at-q.type_inv in
     let p : to_z w128 (of_z w128 c.value_at-p.result) ≡ c.value_at-p.result = omega (arith, ints) in
     let q : to_z w128 (of_z w128 c.value_at-q.result) ≡ c.value_at-q.result = omega (arith, ints) in
-    let a : IsPoint f im (suffix c.in_ok-z.z 0 f.size) c.in_ok-y.y c.value_at-p.result = record { size = ap length c.in_ok-z.ensures.is ∙ rounded_length f f.size; held = image_held form c.args.map.now c.in_ok-z.z c.in_ok-y.y c.in_ok-y.ensures; value_is = c.value_at-p.ensures; within = within_top f (rounded f f.size) _ c.in_ok-z.ensures.is (top_first f) } in
-    let b : IsPoint f im (suffix c.in_ok-w.w 0 f.size) c.in_ok-v.v c.value_at-q.result = record { size = ap length c.in_ok-w.ensures.is ∙ neighbour_length f k.some; held = image_held form c.args.map.now c.in_ok-w.w c.in_ok-v.v c.in_ok-v.ensures; value_is = c.value_at-q.ensures; within = within_top f (neighbour f) _ c.in_ok-w.ensures.is (top_second f) } in
-    let small : top f <ℤ pos (2 ^ 62) = top_small f c.value_at-p.result c.value_at-q.result (c.value_at-p.ensures ∙ ap (λ v. value f.p v) c.in_ok-z.ensures.is) (c.value_at-q.ensures ∙ ap (λ v. value f.p v) c.in_ok-w.ensures.is) (omega (arith, ints)) (omega (arith, ints)) in
-    let g : BeginsWith f (record { first = c.in_ok-v.v; second = c.in_ok-y.y; p1 = c.value_at-q.result; p2 = c.value_at-p.result }) c.begin-in-Greater.result = rw (p, q) at c.begin-in-Greater.ensures in
-    begins f im (suffix c.in_ok-w.w 0 f.size) (suffix c.in_ok-z.z 0 f.size) c.in_ok-v.v c.in_ok-y.y c.value_at-q.result c.value_at-p.result c.begin-in-Greater.result b a (rank_less form _ _ _ _ c.in_ok-v.v c.in_ok-y.y q p c.in-Greater.ensures) small g
+    let a : IsPoint f im (suffix c.in_ok-z.z 0 f.size) c.in_ok-y.y c.value_at-p.result =
+    record {
+      size = ap length c.in_ok-z.ensures.is ∙ rounded_length f f.size;
+      held = image_held form c.args.map.now c.in_ok-z.z c.in_ok-y.y c.in_ok-y.ensures;
+      value_is = c.value_at-p.ensures;
+      within = within_top f (rounded f f.size) _ c.in_ok-z.ensures.is (top_first f);
+    } in
+    let b : IsPoint f im (suffix c.in_ok-w.w 0 f.size) c.in_ok-v.v c.value_at-q.result =
+    record {
+      size = ap length c.in_ok-w.ensures.is ∙ neighbour_length f k.some;
+      held = image_held form c.args.map.now c.in_ok-w.w c.in_ok-v.v c.in_ok-v.ensures;
+      value_is = c.value_at-q.ensures;
+      within = within_top f (neighbour f) _ c.in_ok-w.ensures.is (top_second f);
+    } in
+    let small : top f <ℤ pos (2 ^ 62) = top_small f c.value_at-p.result c.value_at-q.result (c.value_at-p.ensures ∙ ap (λ v. value f.p v) c.in_ok-z.ensures.is)
+    (c.value_at-q.ensures ∙ ap (λ v. value f.p v) c.in_ok-w.ensures.is) (omega (arith, ints)) (omega (arith, ints)) in
+    let g : BeginsWith f (record { first = c.in_ok-v.v; second = c.in_ok-y.y; p1 = c.value_at-q.result; p2 = c.value_at-p.result }) c.begin-in-Greater.result =
+    rw (p, q) at c.begin-in-Greater.ensures in
+    begins f im (suffix c.in_ok-w.w 0 f.size) (suffix c.in_ok-z.z 0 f.size) c.in_ok-v.v c.in_ok-y.y c.value_at-q.result c.value_at-p.result c.begin-in-Greater.result b a
+    (rank_less form _ _ _ _ c.in_ok-v.v c.in_ok-y.y q p c.in-Greater.ensures) small g

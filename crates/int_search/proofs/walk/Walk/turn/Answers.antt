@@ -13,7 +13,8 @@ some_of : (n m : ℕ) → n ≡ m → (n ≡ 0 → ⊥) → 0 < m
 some_of n m e h = omega arith
 
 pub returns-then-len-eq0 : goal.returns-then-len-eq0
-returns-then-len-eq0 c = walk_end (search_form c.args.form.now) (search_image c.args.form.now c.args.map.now) c.args.self.now c.args.budget c.requires.walk (sym c.len.ensures ∙ c.if-len-eq0.true) c.requires.visits
+returns-then-len-eq0 c = walk_end (search_form c.args.form.now) (search_image c.args.form.now c.args.map.now) c.args.self.now c.args.budget c.requires.walk
+    (sym c.len.ensures ∙ c.if-len-eq0.true) c.requires.visits
 
 pub returns-then-self-budget : goal.returns-then-self-budget
 returns-then-self-budget c = subst (λ (m : ℕ). IsOver (search_form c.args.form.now) m) c.if-self-budget.true

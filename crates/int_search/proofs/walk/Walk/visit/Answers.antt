@@ -34,8 +34,10 @@ returns-then-i-eq0 c =
     let n : f.size - length w.stack ≡ 0 = omega arith in
     let rx : r.choice.entry ≡ to_z w64 (of_z w64 r.choice.entry) = sym x in
     let small = small_set w.z (w.size - c.len.result) (to_z w64 (of_z w64 r.choice.entry)) c.requires.walk.small (rw x c.requires.small) in
-    leaf_visit f (search_image c.args.form.now c.args.map.now) w c.offer.new.self r c.moved.result (set w.z (w.size - c.len.result) (to_z w64 (of_z w64 r.choice.entry))) c.replace.new.self c.offer.result
-    (searchable c.args.form.now c.requires.can.some) (omega arith) c.requires.walk c.requires.reach c.requires.small c.moved.ensures n (ap₂ (λ a b. set w.z a b) i x) c.replace.ensures small c.offer.ensures
+    leaf_visit f (search_image c.args.form.now c.args.map.now) w c.offer.new.self r c.moved.result
+    (set w.z (w.size - c.len.result) (to_z w64 (of_z w64 r.choice.entry))) c.replace.new.self c.offer.result
+    (searchable c.args.form.now c.requires.can.some) (omega arith) c.requires.walk c.requires.reach c.requires.small c.moved.ensures n
+    (ap₂ (λ a b. set w.z a b) i x) c.replace.ensures small c.offer.ensures
 
 pub returns : goal.returns
 returns c =
@@ -61,7 +63,8 @@ returns c =
     let le : to_z w128 (of_z w128 r.low) ≡ r.low = grind (arith, to_z-of_z) in
     let y : length (drop 1 w.stack) + 1 ≡ length w.stack = drop_length w.stack some in
     record {
-      walk = walk_inner f (search_image c.args.form.now c.args.map.now) w r c.moved.result c.fresh.result z c.push.new.self _ (searchable c.args.form.now c.requires.can.some) (omega arith) h c.requires.reach c.requires.small
+      walk = walk_inner f (search_image c.args.form.now c.args.map.now) w r c.moved.result c.fresh.result z c.push.new.self _ (searchable c.args.form.now c.requires.can.some)
+          (omega arith) h c.requires.reach c.requires.small
           c.moved.ensures above (ap₂ (λ a b. set w.z a b) i x) st small ee (rw le at c.fresh.ensures);
       visits = refl;
       depth = let g = ap length st in omega arith;

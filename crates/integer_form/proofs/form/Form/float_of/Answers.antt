@@ -1,6 +1,7 @@
 use Rattle.std.proofs.Common.{◌≡◌, ℕ, ◌-◌, ◌^◌, ◌<◌, ◌≤◌, List, [], ℤ, pos, unsigned_abs, arith, sym, ap, ◌∙◌, refl, subst, ◌⊎◌, ⊎_elim, replicate}
 use Rattle.quadratic_form.specs.Places.{list_from}
-use Rattle.normal_sum.proofs.CoefficientPlaces.{item_replicate}
+use Rattle.form_tables.specs.declared.sizes.TheConstants.{MOST_FACTORS}
+use Rattle.form_tables.proofs.TableLaws.{zero_item}
 use Rattle.integer_form.specs.declared.form.Form.{Form}
 use Rattle.integer_form.specs.Factors.{stored}
 use Rattle.integer_form.specs.FloatPoint.{item, solved, float_point, HasWide, HasWideBefore}
@@ -11,12 +12,15 @@ use Rattle.integer_form.proofs.form.Form.float_of.Goals as goal
 nothing : (n : ℕ) (y : List ℤ) → list_from (item y) n (n - n) ≡ []
 nothing n y = let e : n - n ≡ 0 = omega arith in ap (λ (k : ℕ). list_from (item y) n k) e
 
-whole : (f : Form) (x y : List ℤ) → list_from (item x) 0 (f.columns - 1) ≡ solved (stored f.d f.l f.columns 0 (f.columns - 1)) (list_from (item y) (f.columns - 1) (f.columns - 1 - (f.columns - 1))) → list_from (item x) 0 (f.columns - 1) ≡ float_point f
+whole : (f : Form) (x y : List ℤ) → list_from (item x) 0 (f.columns - 1) ≡ solved (stored f.d f.l f.columns 0 (f.columns - 1))
+    (list_from (item y) (f.columns - 1) (f.columns - 1 - (f.columns - 1))) → list_from (item x) 0 (f.columns - 1) ≡ float_point f
 whole f x y e = e ∙ ap (λ (s : List ℤ). solved (stored f.d f.l f.columns 0 (f.columns - 1)) s) (nothing (f.columns - 1) y)
 
 -- each number is narrow, those behind the columns too
-narrow : (f : Form) (x : List ℤ) → ((j : ℕ) → item x j ≡ item (float_point f) j) → ((i : ℕ) → i < f.columns - 1 → unsigned_abs (item x i) < 2 ^ 46) → ((i : ℕ) → f.columns - 1 ≤ i → item x i ≡ pos 0) → HasWide (float_point f) → ⊥
-narrow f x e h z = not_wide (float_point f) (λ i. subst (λ (a : ℤ). unsigned_abs a < 2 ^ 46) (e i) (⊎_elim (λ (l : i < f.columns - 1). h i l) (λ (l : f.columns - 1 ≤ i). subst (λ (a : ℤ). unsigned_abs a < 2 ^ 46) (sym (z i l)) none) (either i (f.columns - 1))))
+narrow : (f : Form) (x : List ℤ) → ((j : ℕ) → item x j ≡ item (float_point f) j) → ((i : ℕ) → i < f.columns - 1 → unsigned_abs (item x i) < 2 ^ 46) →
+    ((i : ℕ) → f.columns - 1 ≤ i → item x i ≡ pos 0) → HasWide (float_point f) → ⊥
+narrow f x e h z = not_wide (float_point f) (λ i. subst (λ (a : ℤ). unsigned_abs a < 2 ^ 46) (e i)
+    (⊎_elim (λ (l : i < f.columns - 1). h i l) (λ (l : f.columns - 1 ≤ i). subst (λ (a : ℤ). unsigned_abs a < 2 ^ 46) (sym (z i l)) none) (either i (f.columns - 1))))
   where
     none : unsigned_abs (pos 0) < 2 ^ 46
     none = omega arith
@@ -25,18 +29,22 @@ narrow f x e h z = not_wide (float_point f) (λ i. subst (λ (a : ℤ). unsigned
     either i n = grind arith
 
 pub returns-in-Ok-clause-ok : goal.returns-in-Ok-clause-ok
-returns-in-Ok-clause-ok c = float_item (c.args.self.now.columns - 1) c.solve.new.numbers (float_point c.args.self.now) (whole c.args.self.now c.solve.new.numbers (replicate 43 (pos 0)) (c.in-Ok.ensures.solved c.args.self.now.d))
-    (λ i h. c.in-Ok.ensures.outside i h ∙ item_replicate 43 i)
+returns-in-Ok-clause-ok c = float_item (c.args.self.now.columns - 1) c.solve.new.numbers (float_point c.args.self.now)
+    (whole c.args.self.now c.solve.new.numbers (replicate MOST_FACTORS (pos 0)) (c.in-Ok.ensures.solved c.args.self.now.d))
+    (λ i h. c.in-Ok.ensures.outside i h ∙ zero_item MOST_FACTORS i)
 
 pub returns-in-Ok-clause-refused : goal.returns-in-Ok-clause-refused
 returns-in-Ok-clause-refused c =
-    let zero : (i : ℕ) → c.args.self.now.columns - 1 ≤ i → item c.solve.new.numbers i ≡ pos 0 = λ i h. c.in-Ok.ensures.outside i h ∙ item_replicate 43 i in
+    let zero : (i : ℕ) → c.args.self.now.columns - 1 ≤ i → item c.solve.new.numbers i ≡ pos 0 = λ i h. c.in-Ok.ensures.outside i h ∙ zero_item MOST_FACTORS i in
     let e : (j : ℕ) → item c.solve.new.numbers j ≡ item (float_point c.args.self.now) j =
-    float_item (c.args.self.now.columns - 1) c.solve.new.numbers (float_point c.args.self.now) (whole c.args.self.now c.solve.new.numbers (replicate 43 (pos 0)) (c.in-Ok.ensures.solved c.args.self.now.d)) zero in
+    float_item (c.args.self.now.columns - 1) c.solve.new.numbers (float_point c.args.self.now)
+    (whole c.args.self.now c.solve.new.numbers (replicate MOST_FACTORS (pos 0)) (c.in-Ok.ensures.solved c.args.self.now.d)) zero in
     (λ h. absurd cc, λ w. absurd (narrow c.args.self.now c.solve.new.numbers e c.in-Ok.ensures.narrow zero w))
 
 pub returns-in-Err-clause-refused : goal.returns-in-Err-clause-refused
-returns-in-Err-clause-refused c = (λ h. wide c.args.self.now (replicate 43 (pos 0)) (c.in-Err.ensures.wide c.args.self.now.d), λ w. refl)
+returns-in-Err-clause-refused c = (λ h. wide c.args.self.now (replicate MOST_FACTORS (pos 0)) (c.in-Err.ensures.wide c.args.self.now.d), λ w. refl)
   where
-    wide : (f : Form) (y : List ℤ) → HasWideBefore (f.columns - 1) (solved (stored f.d f.l f.columns 0 (f.columns - 1)) (list_from (item y) (f.columns - 1) (f.columns - 1 - (f.columns - 1)))) → HasWide (float_point f)
-    wide f y w = let v : HasWideBefore (f.columns - 1) (float_point f) = subst (λ (s : List ℤ). HasWideBefore (f.columns - 1) (solved (stored f.d f.l f.columns 0 (f.columns - 1)) s)) (nothing (f.columns - 1) y) w in (v.0, v.1.1)
+    wide : (f : Form) (y : List ℤ) → HasWideBefore (f.columns - 1)
+        (solved (stored f.d f.l f.columns 0 (f.columns - 1)) (list_from (item y) (f.columns - 1) (f.columns - 1 - (f.columns - 1)))) → HasWide (float_point f)
+    wide f y w = let v : HasWideBefore (f.columns - 1) (float_point f) =
+        subst (λ (s : List ℤ). HasWideBefore (f.columns - 1) (solved (stored f.d f.l f.columns 0 (f.columns - 1)) s)) (nothing (f.columns - 1) y) w in (v.0, v.1.1)

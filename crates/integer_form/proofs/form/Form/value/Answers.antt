@@ -1,4 +1,5 @@
-use Rattle.std.proofs.Common.{◌≡◌, ℕ, suc, ◌+◌, ◌-◌, ◌*◌, ◌^◌, ◌<◌, ◌≤◌, List, [], ◌∷◌, ◌++◌, length, ℤ, pos, ◌+ℤ◌, ◌*ℤ◌, unsigned_abs, to_z, of_z, arith, sym, ap, ap₂, ◌∙◌, refl, subst, rules, FitsSigned}
+use Rattle.std.proofs.Common.{◌≡◌, ℕ, suc, ◌+◌, ◌-◌, ◌*◌, ◌^◌, ◌<◌, ◌≤◌, List, [], ◌∷◌, ◌++◌, length, ℤ, pos, ◌+ℤ◌, ◌*ℤ◌, unsigned_abs, to_z, of_z, arith, sym, ap, ap₂, ◌∙◌, refl, subst}
+use Rattle.std.proofs.Common.{rules, FitsSigned}
 use Rattle.std.proofs.lemmas.Int.{ints}
 use Rattle.std.specs.Int.{w64, w128}
 use Rattle.whole_math.proofs.Ring.{◌⊕◌}
@@ -6,10 +7,11 @@ use Rattle.whole_math.proofs.Inequalities.{same_by}
 use Rattle.whole_math.specs.Vectors.{dot}
 use Rattle.quadratic_form.specs.Forms.{quad}
 use Rattle.quadratic_form.specs.Places.{list_from, form_from}
-use Rattle.obs_rows.specs.Tables.{entry}
+use Rattle.form_tables.specs.declared.sizes.TheConstants.{MOST_FORM_COLUMNS, MOST_COLUMNS}
+use Rattle.form_tables.specs.Tables.{entry}
 use Rattle.integer_form.specs.declared.form.Form.{Form}
 use Rattle.integer_form.specs.FloatPoint.{item}
-use Rattle.integer_form.proofs.Words.{as_w64, as_w128, size_add}
+use Rattle.form_tables.proofs.Words.{as_w64, as_w128, size_add}
 use Rattle.integer_form.proofs.form.Form.value.Goals as goal
 
 -- one more column at the front: row r has k columns after it
@@ -34,16 +36,18 @@ column_is : (e x y a b d t : ℤ) → a ≡ e → b ≡ x → d ≡ y → t ≡ 
 column_is e x y a b d t p q r h = h ∙ ap₂ (λ u v. u *ℤ (v *ℤ v) +ℤ pos 2 *ℤ (v *ℤ d)) p q ∙ ap (λ u. e *ℤ (x *ℤ x) +ℤ pos 2 *ℤ (x *ℤ u)) r
 
 -- the sum so far, and the next column
-sum_is : (o t : ℤ) (k : ℕ) → k < 41 → unsigned_abs o ≤ k * 2 ^ 120 → unsigned_abs t ≤ 2 ^ 120 → (o +ℤ to_z w128 (of_z w128 t) ≡ o +ℤ t) × (unsigned_abs (o +ℤ t) ≤ (k + 1) * 2 ^ 120) × (unsigned_abs (o +ℤ t) ≤ 2 ^ 126)
+sum_is : (o t : ℤ) (k : ℕ) → k < MOST_FORM_COLUMNS → unsigned_abs o ≤ k * 2 ^ 120 → unsigned_abs t ≤ 2 ^ 120 → (o +ℤ to_z w128 (of_z w128 t) ≡ o +ℤ t) ×
+    (unsigned_abs (o +ℤ t) ≤ (k + 1) * 2 ^ 120) × (unsigned_abs (o +ℤ t) ≤ 2 ^ 126)
 sum_is o t k h p q = let s : unsigned_abs (o +ℤ t) ≤ unsigned_abs o + unsigned_abs t = size_add o t in (ap (λ a. o +ℤ a) (as_w128 t (omega arith)), omega arith, omega arith)
 
-few : (columns k : ℕ) → columns ≤ 44 → k < columns - 3 → k < 41
+few : (columns k : ℕ) → columns ≤ MOST_COLUMNS → k < columns - 3 → k < MOST_FORM_COLUMNS
 few columns k h g = omega arith
 
 pub overflow_add-sum : goal.overflow_add-sum
 overflow_add-sum c =
-    let to : c.args.self.now.columns ≤ 44 = c.args.self.now.columns_to in
-    let w : (to_z w128 c.loop-k.sum-bits +ℤ to_z w128 (of_z w128 c.column_value-sum.result) ≡ to_z w128 c.loop-k.sum-bits +ℤ c.column_value-sum.result) × (unsigned_abs (to_z w128 c.loop-k.sum-bits +ℤ c.column_value-sum.result) ≤ (c.loop-k.k + 1) * 2 ^ 120) × (unsigned_abs (to_z w128 c.loop-k.sum-bits +ℤ c.column_value-sum.result) ≤ 2 ^ 126) =
+    let to : c.args.self.now.columns ≤ MOST_COLUMNS = c.args.self.now.columns_to in
+    let w : (to_z w128 c.loop-k.sum-bits +ℤ to_z w128 (of_z w128 c.column_value-sum.result) ≡ to_z w128 c.loop-k.sum-bits +ℤ c.column_value-sum.result) ×
+    (unsigned_abs (to_z w128 c.loop-k.sum-bits +ℤ c.column_value-sum.result) ≤ (c.loop-k.k + 1) * 2 ^ 120) × (unsigned_abs (to_z w128 c.loop-k.sum-bits +ℤ c.column_value-sum.result) ≤ 2 ^ 126) =
     sum_is (to_z w128 c.loop-k.sum-bits) c.column_value-sum.result c.loop-k.k (few c.args.self.now.columns c.loop-k.k to c.loop-k-test.true) c.loop-k.invariant.size c.column_value-sum.ensures.size in
     rw w.0 (fits (to_z w128 c.loop-k.sum-bits +ℤ c.column_value-sum.result) w.2)
   where
@@ -56,7 +60,7 @@ loop-k-preserved c =
     let n : ℕ = c.args.self.now.columns - 3 in
     let r : ℕ = (c.args.self.now.columns - 3 - 1) - c.loop-k.k in
     let x : List ℤ = c.with_one-x.result in
-    let to : c.args.self.now.columns ≤ 44 = c.args.self.now.columns_to in
+    let to : c.args.self.now.columns ≤ MOST_COLUMNS = c.args.self.now.columns_to in
     let o : ℤ = to_z w128 c.loop-k.sum-bits in
     let t : ℤ = c.column_value-sum.result in
     let y : ℤ = c.later_products-later.result in
@@ -68,14 +72,16 @@ loop-k-preserved c =
     let pa : to_z w64 (of_z w64 c.at.result) ≡ entry f.p r r = as_w64 c.at.result (omega (arith, subst (λ (z : ℤ). unsigned_abs z < 2 ^ 52) (sym c.at.ensures.value) small)) ∙ c.at.ensures.value in
     let xa : to_z w64 (of_z w64 (item x r)) ≡ item x r = as_w64 (item x r) (omega arith) in
     let ya : to_z w128 (of_z w128 y) ≡ y = as_w128 y (omega (arith, c.later_products-later.ensures.size)) in
-    let is : t ≡ entry f.p r r *ℤ (item x r *ℤ item x r) +ℤ pos 2 *ℤ (item x r *ℤ y) = column_is (entry f.p r r) (item x r) y (to_z w64 (of_z w64 c.at.result)) (to_z w64 (of_z w64 (item x r))) (to_z w128 (of_z w128 y)) t pa xa ya c.column_value-sum.ensures.value in
+    let is : t ≡ entry f.p r r *ℤ (item x r *ℤ item x r) +ℤ pos 2 *ℤ (item x r *ℤ y) =
+    column_is (entry f.p r r) (item x r) y (to_z w64 (of_z w64 c.at.result)) (to_z w64 (of_z w64 (item x r))) (to_z w128 (of_z w128 y)) t pa xa ya c.column_value-sum.ensures.value in
     record {
       value = v ∙ one_more (entry f.p) (item x) o t y n r c.loop-k.k refl c.loop-k-test.true c.loop-k.invariant.value c.later_products-later.ensures.value is;
       size = rw v w.1;
     }
 
 pub returns-clause-value : goal.returns-clause-value
-returns-clause-value c = ends c.args.self.now c.args.z.now c.with_one-x.result (to_z w128 c.loop-k.sum-bits) c.loop-k.k c.requires.count c.with_one-x.ensures.list (omega (arith, c.loop-k-test.false, ended)) c.loop-k.invariant.value
+returns-clause-value c = ends c.args.self.now c.args.z.now c.with_one-x.result (to_z w128 c.loop-k.sum-bits) c.loop-k.k c.requires.count c.with_one-x.ensures.list
+    (omega (arith, c.loop-k-test.false, ended)) c.loop-k.invariant.value
   where
     ended : c.loop-k.k ≤ c.args.self.now.columns - 3
     ended = search rules

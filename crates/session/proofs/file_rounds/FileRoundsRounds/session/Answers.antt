@@ -14,4 +14,4 @@ rows_with-requires-clause-arcs c = arcs_along c.args.self.now.kept c.args.arcs.n
 pub rows_with-requires-clause-halves : goal.rows_with-requires-clause-halves
 rows_with-requires-clause-halves c =
     let f = c.args.self.now in
-    subst (λ (halves : List Pseudorange). AreBaseHalves f.screened.boxes f.position halves) (sym c.as_slice.ensures.value) c.requires.ready.2
+    subst (λ (halves : List Pseudorange). AreBaseHalves f.screened.boxes f.position halves) (sym c.as_slice.ensures.value) c.requires.ready.2.0

@@ -1,0 +1,74 @@
+use Rattle.std.proofs.Common.{◌≡◌, ◌⊎◌, ℕ, ◌-◌, ◌^◌, ◌<◌, ◌≤◌, List, ℤ, pos, Ok, unsigned_abs, slice_index_or, to_z, of_z, arith, sym, ap, ◌∙◌, refl, subst}
+use Rattle.std.proofs.lemmas.Int.{ints}
+use Rattle.std.specs.Int.{w64, w128}
+use Rattle.quadratic_form.specs.Elimination.{steps}
+use Rattle.quadratic_form.specs.Places.{form_from}
+use Rattle.form_tables.specs.declared.sizes.TheConstants.{BASELINE_COLUMNS, MOST_COLUMNS}
+use Rattle.form_tables.specs.Tables.{entry, IsZeroOutside}
+use Rattle.integer_form.specs.declared.front_form.FrontForm.{FrontForm}
+use Rattle.integer_form.specs.Factors.{stored}
+use Rattle.integer_form.specs.Kept.{form_of_table, IsZeroFrom}
+use Rattle.form_tables.proofs.Words.{as_w64, as_w128}
+use Rattle.elimination.proofs.FinishLaws.{Finished, finished}
+use Rattle.elimination.proofs.finished.finish.Goals as goal
+
+-- from what the calls before the form say
+facts : (r : FrontForm) (d d' : List ℤ) (l l' t t' : List (List ℤ)) (x : ℤ) →
+    ((i c : ℕ) → i < MOST_COLUMNS → c < BASELINE_COLUMNS → entry l i c ≡ entry r.l i c) → IsZeroOutside MOST_COLUMNS BASELINE_COLUMNS l →
+    ((i : ℕ) → i < 3 → slice_index_or d i (pos 0) ≡ slice_index_or r.d i (pos 0)) → IsZeroFrom 3 d →
+    ((i c : ℕ) → ((c < 3) ⊎ (r.columns - 1 ≤ c)) ⊎ ((i ≤ c) ⊎ (r.columns ≤ i)) → entry l' i c ≡ entry l i c) →
+    ((i : ℕ) → (i < 3) ⊎ (r.columns - 1 ≤ i) → slice_index_or d' i (pos 0) ≡ slice_index_or d i (pos 0)) →
+    form_from (entry t) 3 (r.columns - 3) ≡ form_of_table r.p (r.columns - 3) →
+    steps 3 (r.columns - 1 - 3) (form_from (entry t) 3 (r.columns - 3)) ≡ Ok (stored d' l' r.columns 3 (r.columns - 1 - 3), form_from (entry t') (r.columns - 1) (r.columns - (r.columns - 1))) →
+    x ≡ entry t' (r.columns - 1) (r.columns - 1) → Finished r.columns r.d r.l r.p d' l' x
+facts r d d' l l' t t' x a b e f g h i j k = subst (λ (z : ℤ). Finished r.columns r.d r.l r.p d' l' z) (sym k)
+    (finished r.columns r.d r.l r.p d d' l l' t t'
+    (record { from = r.columns_from; to = r.columns_to; front_in = r.factors_in; front_outside = r.factors_outside; factors_same = a; factors_zero = b; kept_same = e; kept_zero = f })
+    (record { factors = g; kept = h }) r.entries_in i j)
+
+word : (x : ℤ) → unsigned_abs x < 2 ^ 52 → to_z w64 (of_z w64 (to_z w128 (of_z w128 x))) ≡ x
+word x h = ap (λ z. to_z w64 (of_z w64 z)) (as_w128 x (omega (arith, h))) ∙ as_w64 x (omega (arith, h))
+
+pub overflow_cast-result : goal.overflow_cast-result
+overflow_cast-result c =
+    let f : Finished c.args.front.now.columns c.args.front.now.d c.args.front.now.l c.args.front.now.p c.take_steps.new.kept c.take_steps.new.factors c.at.result =
+    facts c.args.front.now c.kept_list-d.result c.take_steps.new.kept c.factor_table-l.result c.take_steps.new.factors c.normal_table-table.result c.take_steps.new.table c.at.result
+    c.factor_table-l.ensures.same c.factor_table-l.ensures.outside c.kept_list-d.ensures.same c.kept_list-d.ensures.outside c.take_steps.ensures.factors_outside
+    c.take_steps.ensures.kept_outside c.normal_table-table.ensures.form c.in-Ok.ensures.taken c.at.ensures.value in
+    let w : to_z w128 (of_z w128 c.at.result) ≡ c.at.result = as_w128 c.at.result (omega (arith, f.last)) in
+    rw w (omega (arith, ints, f.last))
+
+pub invariant_of-result : goal.invariant_of-result
+invariant_of-result c =
+    let r : FrontForm = c.args.front.now in
+    let f : Finished c.args.front.now.columns c.args.front.now.d c.args.front.now.l c.args.front.now.p c.take_steps.new.kept c.take_steps.new.factors c.at.result =
+    facts c.args.front.now c.kept_list-d.result c.take_steps.new.kept c.factor_table-l.result c.take_steps.new.factors c.normal_table-table.result c.take_steps.new.table c.at.result
+    c.factor_table-l.ensures.same c.factor_table-l.ensures.outside c.kept_list-d.ensures.same c.kept_list-d.ensures.outside c.take_steps.ensures.factors_outside
+    c.take_steps.ensures.kept_outside c.normal_table-table.ensures.form c.in-Ok.ensures.taken c.at.ensures.value in
+    let g : Finished c.args.front.now.columns c.args.front.now.d c.args.front.now.l c.args.front.now.p c.take_steps.new.kept c.take_steps.new.factors
+    (to_z w64 (of_z w64 (to_z w128 (of_z w128 c.at.result)))) =
+    subst (λ (z : ℤ). Finished c.args.front.now.columns c.args.front.now.d c.args.front.now.l c.args.front.now.p c.take_steps.new.kept c.take_steps.new.factors z) (sym (word c.at.result f.last)) f in
+    record {
+      columns_from = r.columns_from;
+      columns_to = r.columns_to;
+      h_in = r.h_in;
+      kept_in = g.kept_in;
+      kept_outside = g.kept_outside;
+      factors_in = g.factors_in;
+      factors_outside = g.factors_outside;
+      symmetric = r.symmetric;
+      entries_in = r.entries_in;
+      nothing_outside = r.nothing_outside;
+      eliminated = g.eliminated;
+    }
+
+pub returns-in-Ok-clause-finished : goal.returns-in-Ok-clause-finished
+returns-in-Ok-clause-finished c =
+    let f : Finished c.args.front.now.columns c.args.front.now.d c.args.front.now.l c.args.front.now.p c.take_steps.new.kept c.take_steps.new.factors c.at.result =
+    facts c.args.front.now c.kept_list-d.result c.take_steps.new.kept c.factor_table-l.result c.take_steps.new.factors c.normal_table-table.result c.take_steps.new.table c.at.result
+    c.factor_table-l.ensures.same c.factor_table-l.ensures.outside c.kept_list-d.ensures.same c.kept_list-d.ensures.outside c.take_steps.ensures.factors_outside
+    c.take_steps.ensures.kept_outside c.normal_table-table.ensures.form c.in-Ok.ensures.taken c.at.ensures.value in
+    let g : Finished c.args.front.now.columns c.args.front.now.d c.args.front.now.l c.args.front.now.p c.take_steps.new.kept c.take_steps.new.factors
+    (to_z w64 (of_z w64 (to_z w128 (of_z w128 c.at.result)))) =
+    subst (λ (z : ℤ). Finished c.args.front.now.columns c.args.front.now.d c.args.front.now.l c.args.front.now.p c.take_steps.new.kept c.take_steps.new.factors z) (sym (word c.at.result f.last)) f in
+    record { columns = refl; h = refl; p = refl; baseline = g.baseline; taken = g.eliminated }

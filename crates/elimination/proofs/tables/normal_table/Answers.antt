@@ -1,0 +1,22 @@
+use Rattle.std.proofs.Common.{◌≡◌, ℕ, ◌+◌, ◌-◌, ◌^◌, ◌<◌, ◌≤◌, ℤ, unsigned_abs, arith, sym, ap₂, ◌∙◌, subst}
+use Rattle.form_tables.specs.Tables.{entry}
+use Rattle.elimination.proofs.TableLaws.{form_moved}
+use Rattle.elimination.proofs.tables.normal_table.Goals as goal
+
+pub returns-clause-form : goal.returns-clause-form
+returns-clause-form c = form_moved (entry c.loop-r.table) (entry c.args.p.now) 3 0 c.args.n
+    (λ r k l h. c.loop-r.invariant.done r k (omega (arith, c.loop-r-test.false)) l h ∙ sym (ap₂ (λ p q. entry c.args.p.now p q) (nothing r) (nothing k)))
+  where
+    nothing : (r : ℕ) → 0 + r ≡ r
+    nothing r = omega arith
+
+pub returns-clause-entries : goal.returns-clause-entries
+returns-clause-entries c = λ r k a l h.
+    let i : ℕ = r - 3 in
+    let j : ℕ = k - 3 in
+    let er : 3 + i ≡ r = omega arith in
+    let ek : 3 + j ≡ k = omega arith in
+    let small : unsigned_abs (entry c.args.p.now i j) < 2 ^ 52 = c.requires.entries i j in
+    let is : entry c.loop-r.table r k ≡ entry c.args.p.now i j = sym (ap₂ (λ p q. entry c.loop-r.table p q) er ek)
+    ∙ c.loop-r.invariant.done i j (omega (arith, c.loop-r-test.false)) (omega arith) (omega arith) in
+    subst (λ (z : ℤ). unsigned_abs z ≤ 2 ^ 52) (sym is) (omega arith)

@@ -1,0 +1,26 @@
+//! The integer of an arc and a signal.
+ghost use Rattle.std.specs.Prelude.{◌≡◌, ◌<◌, ◌≤◌, ℕ, length, All, unsigned_abs};
+ghost use Rattle.obs_rows.specs.declared.units.TheConstants.{MOST_FREE_ARCS};
+ghost use Rattle.obs_rows.specs.Arcs.{free_count};
+ghost use Rattle.obs_rows.specs.Ranges.{IsBelow};
+ghost use Rattle.obs_rows.specs.Signals.{AreCounted};
+ghost use Rattle.obs_rows.specs.Integers.{integer_count, integer};
+
+use obs_rows::{Arc, integer_place};
+
+/// The integer of an arc and a signal in the vector z: 0 for a datum and for a code.
+///
+/// z has an entry for each free arc and each phase of the signals that count. What it has behind them is not read.
+pub fn integer_of(arcs: &[Arc], signals: &[usize], z: &[i64], arc: usize, signal: usize) -> i64
+    requires free { free_count arcs.now ≤ MOST_FREE_ARCS }
+    requires counted { AreCounted signals.now }
+    requires arc { arc < length arcs.now }
+    requires entries { integer_count arcs.now signals.now ≤ length z.now }
+    ensures value { result ≡ integer arcs.now signals.now z.now arc signal }
+    ensures size { (m : ℕ) → All (IsBelow m) z.now → 0 < m → unsigned_abs result < m }
+{
+    match integer_place(arcs, signals, arc, signal) {
+        Some(place) => z[place],
+        None => 0,
+    }
+}

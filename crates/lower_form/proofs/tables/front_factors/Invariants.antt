@@ -1,9 +1,0 @@
-use Rattle.std.proofs.Common.{◌≡◌, ℕ, ◌<◌}
-use Rattle.obs_rows.specs.Tables.{entry, IsZeroOutside}
-use Rattle.lower_form.proofs.tables.front_factors.Given as goal
-
-abbrev pub invariant-loop-r : goal.invariant-loop-r
-invariant-loop-r l = record {
-  same : (i j : ℕ) → i < l.r → j < 3 → entry l.front i j ≡ entry l.factors i j;
-  outside : IsZeroOutside 44 3 l.front;
-}

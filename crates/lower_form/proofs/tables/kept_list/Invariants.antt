@@ -1,9 +1,0 @@
-use Rattle.std.proofs.Common.{◌≡◌, ℕ, ◌<◌, ◌≤◌, length, pos, slice_index_or}
-use Rattle.lower_form.proofs.tables.kept_list.Given as goal
-
-abbrev pub invariant-loop-i : goal.invariant-loop-i
-invariant-loop-i l = record {
-  full : length l.kept ≡ 43;
-  same : (k : ℕ) → k < l.i → slice_index_or l.kept k (pos 0) ≡ slice_index_or l.d k (pos 0);
-  outside : (k : ℕ) → 3 ≤ k → slice_index_or l.kept k (pos 0) ≡ pos 0;
-}

@@ -1,8 +1,0 @@
-use Rattle.std.proofs.Common.{◌≡◌, ℕ, ◌+◌, ◌<◌, ◌≤◌}
-use Rattle.obs_rows.specs.Tables.{entry}
-use Rattle.lower_form.proofs.tables.normal_table.Given as goal
-
-abbrev pub invariant-loop-r : goal.invariant-loop-r
-invariant-loop-r l = record {
-  done : (i k : ℕ) → i < l.r → i ≤ k → k < l.n → entry l.table (3 + i) (3 + k) ≡ entry l.p i k;
-}

@@ -1,0 +1,140 @@
+-- Lists of columns, and what is added in them.
+use Rattle.std.proofs.Common.{◌≡◌, ◌≢◌, ◌⊎◌, inl, inr, ⊎_elim, ℕ, zero, suc, ◌+◌, ◌<◌, ◌≤◌, List, [], ◌∷◌, ◌++◌, length, ℤ, pos, ◌+ℤ◌, slice_index_or, arith, sym, ap, ◌∙◌, subst, below_more, length-append, refl}
+use Rattle.std.specs.Prelude.{slice_index, All}
+use Rattle.std.specs.List.Sorted.{IsStrictlyIncreasing}
+use Rattle.std.proofs.lemmas.Bool.{cases_eq}
+use Rattle.std.proofs.lemmas.List.{get_or_append_left, get_or_past, get_or_push}
+use Rattle.std.proofs.lemmas.List.Elements.{All-from_recursion, All-push}
+use Rattle.std.proofs.lemmas.List.Kept.{AllPairs-from_increasing}
+use Rattle.whole_math.proofs.Order.{lins}
+use Rattle.form_tables.specs.declared.sizes.TheConstants.{MOST_COLUMNS, MOST_INTEGERS}
+use Rattle.normal_sum.specs.Columns.{AreColumnsOf}
+
+-- ---- a column that is one of the list, or none of it
+pub one_or_none : (columns : List ℕ) (j : ℕ) → ((k : ℕ) × (k < length columns) × (slice_index columns k ≡ j)) ⊎ ((k : ℕ) → k < length columns → slice_index columns k ≢ j)
+one_or_none [] j = inr (λ k h. absurd (omega arith))
+one_or_none (c ∷ cs) j = ⊎_elim (λ (e : c ≡ j). inl (0, omega arith, e)) (λ (n : c ≡ j → ⊥). later n (one_or_none cs j)) (cases_eq c j)
+  where
+    none : (c ≡ j → ⊥) → ((k : ℕ) → k < length cs → slice_index cs k ≢ j) → (k : ℕ) → k < length (c ∷ cs) → slice_index (c ∷ cs) k ≢ j
+    none n f zero h = n
+    none n f (suc k) h = f k (omega arith)
+
+    later : (c ≡ j → ⊥) → ((k : ℕ) × (k < length cs) × (slice_index cs k ≡ j)) ⊎ ((k : ℕ) → k < length cs → slice_index cs k ≢ j) →
+        ((k : ℕ) × (k < length (c ∷ cs)) × (slice_index (c ∷ cs) k ≡ j)) ⊎ ((k : ℕ) → k < length (c ∷ cs) → slice_index (c ∷ cs) k ≢ j)
+    later n (inl w) = inl (suc w.0, omega (arith, w.1), w.2)
+    later n (inr f) = inr (none n f)
+
+before : (columns : List ℕ) (m k : ℕ) → IsStrictlyIncreasing columns → m < k → k < length columns → slice_index columns m ≢ slice_index columns k
+before columns m k r h g e = let below : slice_index columns m < slice_index columns k = AllPairs-from_increasing columns r m k 0 h g in omega (arith, below, e)
+
+-- ---- of values by their columns: what is added in the first n columns of a list, and the rest as it was
+pub record AddedIn (columns : List ℕ) (n : ℕ) (old new add : ℕ → ℤ) : Type 0 where
+  pub done : (k : ℕ) → k < n → new (slice_index columns k) ≡ old (slice_index columns k) +ℤ add (slice_index columns k)
+  pub rest : (j : ℕ) → ((k : ℕ) → k < n → slice_index columns k ≢ j) → new j ≡ old j
+
+pub none_added : (columns : List ℕ) (old add : ℕ → ℤ) → AddedIn columns 0 old old add
+none_added columns old add = record { done = λ k h. absurd (omega arith); rest = λ j h. refl }
+
+pub untouched : (columns : List ℕ) (k : ℕ) (old now add : ℕ → ℤ) → IsStrictlyIncreasing columns → k < length columns → AddedIn columns k old now add → now (slice_index columns k)
+    ≡ old (slice_index columns k)
+untouched columns k old now add r g a = a.rest (slice_index columns k) (λ m h. before columns m k r h g)
+
+pub one_more : (columns : List ℕ) (k : ℕ) (old now new add : ℕ → ℤ) → IsStrictlyIncreasing columns → k < length columns → AddedIn columns k old now add →
+    ((j : ℕ) → j ≢ slice_index columns k → new j ≡ now j) → new (slice_index columns k) ≡ now (slice_index columns k) +ℤ add (slice_index columns k) → AddedIn columns (k + 1) old new add
+one_more columns k old now new add r g a others there = record {
+  done = below_more (λ (m : ℕ). new (slice_index columns m) ≡ old (slice_index columns m) +ℤ add (slice_index columns m)) k
+      (λ m h. others (slice_index columns m) (before columns m k r h g) ∙ a.done m h)
+      (there ∙ ap (λ z. z +ℤ add (slice_index columns k)) (untouched columns k old now add r g a));
+  rest = λ j h. others j (λ e. h k (omega arith) (sym e)) ∙ a.rest j (λ m l. h m (omega arith));
+}
+
+-- all, where nothing is to be added in the other columns
+pub all_added : (values : List ℤ) (columns : List ℕ) (n : ℕ) (old new add : ℕ → ℤ) → AreColumnsOf values columns → n ≡ length columns → AddedIn columns n old new add →
+    ((j : ℕ) → slice_index_or values j (pos 0) ≡ pos 0 → add j ≡ pos 0) → (j : ℕ) → new j ≡ old j +ℤ add j
+all_added values columns n old new add are h a z j = ⊎_elim
+    (λ (w : (k : ℕ) × (k < length columns) × (slice_index columns k ≡ j)). subst (λ (i : ℕ). new i ≡ old i +ℤ add i) w.2 (a.done w.0 (omega (arith, w.1))))
+    (λ (f : (k : ℕ) → k < length columns → slice_index columns k ≢ j). a.rest j (λ k l. f k (omega arith)) ∙ nothing (old j) (add j) (z j (are.others j f)))
+    (one_or_none columns j)
+  where
+    nothing : (x y : ℤ) → y ≡ pos 0 → x ≡ x +ℤ y
+    nothing x y e = omega (arith, lins)
+
+-- ---- the columns of a row: three of the baseline, of its integer if it has one, and of the constant
+first_columns : (a b : ℕ) → 3 ≤ a → a < b → IsStrictlyIncreasing (0 ∷ 1 ∷ 2 ∷ a ∷ b ∷ [])
+first_columns a b h g zero l = omega arith
+first_columns a b h g (suc zero) l = omega arith
+first_columns a b h g (suc (suc zero)) l = omega arith
+first_columns a b h g (suc (suc (suc zero))) l = omega arith
+first_columns a b h g (suc (suc (suc (suc k)))) l = absurd (omega arith)
+
+first_of_code : (b : ℕ) → 3 ≤ b → IsStrictlyIncreasing (0 ∷ 1 ∷ 2 ∷ b ∷ [])
+first_of_code b h zero l = omega arith
+first_of_code b h (suc zero) l = omega arith
+first_of_code b h (suc (suc zero)) l = omega arith
+first_of_code b h (suc (suc (suc k))) l = absurd (omega arith)
+
+behind : (j : ℕ) → 0 ≢ j → 1 ≢ j → 2 ≢ j → 3 ≤ j
+behind j a b c = grind arith
+
+pub columns_of_phase : (values : List ℤ) (n i : ℕ) → n ≤ MOST_INTEGERS → i < n → ((j : ℕ) → 3 ≤ j → j ≢ 3 + n → j ≢ 3 + i → slice_index_or values j (pos 0) ≡ pos 0) →
+    AreColumnsOf values (0 ∷ 1 ∷ 2 ∷ (3 + i) ∷ (3 + n) ∷ [])
+columns_of_phase values n i few h z = record {
+  inside = All-from_recursion (λ (c : ℕ). c < MOST_COLUMNS) (0 ∷ 1 ∷ 2 ∷ (3 + i) ∷ (3 + n) ∷ []) (omega arith, (omega arith, (omega arith, (omega arith, (omega arith, tt)))));
+  rising = first_columns (3 + i) (3 + n) (omega arith) (omega arith);
+  others = λ j f. z j (behind j (f 0 (omega arith)) (f 1 (omega arith)) (f 2 (omega arith))) (λ e. f 4 (omega arith) (sym e)) (λ e. f 3 (omega arith) (sym e));
+}
+
+pub columns_of_code : (values : List ℤ) (n : ℕ) → n ≤ MOST_INTEGERS → ((j : ℕ) → 3 ≤ j → j ≢ 3 + n → slice_index_or values j (pos 0) ≡ pos 0) →
+    AreColumnsOf values (0 ∷ 1 ∷ 2 ∷ (3 + n) ∷ [])
+columns_of_code values n few z = record {
+  inside = All-from_recursion (λ (c : ℕ). c < MOST_COLUMNS) (0 ∷ 1 ∷ 2 ∷ (3 + n) ∷ []) (omega arith, (omega arith, (omega arith, (omega arith, tt))));
+  rising = first_of_code (3 + n) (omega arith);
+  others = λ j f. z j (behind j (f 0 (omega arith)) (f 1 (omega arith)) (f 2 (omega arith))) (λ e. f 3 (omega arith) (sym e));
+}
+
+-- ---- the columns so far, where they are sought one after another
+pub record AreUsed (values : List ℤ) (j : ℕ) (used : List ℕ) : Type 0 where
+  pub below : All (λ c. c < j) used
+  pub rising : IsStrictlyIncreasing used
+  pub others : (k : ℕ) → k < j → ((m : ℕ) → m < length used → slice_index used m ≢ k) → slice_index_or values k (pos 0) ≡ pos 0
+
+pub none_used : (values : List ℤ) → AreUsed values 0 []
+none_used values = record { below = λ i d h. absurd (omega arith); rising = λ k h. absurd (omega arith); others = λ k h f. absurd (omega arith) }
+
+pub not_used : (values : List ℤ) (j : ℕ) (used : List ℕ) → AreUsed values j used → slice_index_or values j (pos 0) ≡ pos 0 → AreUsed values (j + 1) used
+not_used values j used u z = record {
+  below = λ i d h. omega (arith, u.below i d h);
+  rising = u.rising;
+  others = below_more (λ (k : ℕ). ((m : ℕ) → m < length used → slice_index used m ≢ k) → slice_index_or values k (pos 0) ≡ pos 0) j u.others (λ f. z);
+}
+
+pub one_used : (values : List ℤ) (j : ℕ) (used : List ℕ) → AreUsed values j used → AreUsed values (j + 1) (used ++ j ∷ [])
+one_used values j used u = record {
+  below = All-push (λ (c : ℕ). c < j + 1) used j (λ i d h. omega (arith, u.below i d h)) (omega arith);
+  rising = λ k h. next k (side (k + 1) (length used)) h;
+  others = below_more (λ (k : ℕ). ((m : ℕ) → m < length (used ++ j ∷ []) → slice_index (used ++ j ∷ []) m ≢ k) → slice_index_or values k (pos 0) ≡ pos 0) j
+      (λ k h f. u.others k h (λ m l e. f m (omega (arith, length-append used (j ∷ []))) (get_or_append_left used (j ∷ []) 0 m l ∙ e)))
+      (λ f. absurd (f (length used) (omega (arith, length-append used (j ∷ []))) (get_or_push used j 0 (length used) refl)));
+}
+  where
+    side : (i n : ℕ) → (i < n) ⊎ (n ≤ i)
+    side i n = grind arith
+
+    -- the last two, or two before
+    next : (k : ℕ) → (k + 1 < length used) ⊎ (length used ≤ k + 1) → k + 1 < length (used ++ j ∷ []) → slice_index (used ++ j ∷ []) k < slice_index (used ++ j ∷ []) (k + 1)
+    next k (inl l) h = subst (λ (a : ℕ). a < slice_index (used ++ j ∷ []) (k + 1)) (sym (get_or_append_left used (j ∷ []) 0 k (omega arith)))
+        (subst (λ (b : ℕ). slice_index used k < b) (sym (get_or_append_left used (j ∷ []) 0 (k + 1) l)) (u.rising k l))
+    next k (inr g) h =
+        let last : length used ≡ k + 1 = omega (arith, length-append used (j ∷ [])) in
+        subst (λ (a : ℕ). a < slice_index (used ++ j ∷ []) (k + 1)) (sym (get_or_append_left used (j ∷ []) 0 k (omega arith)))
+        (subst (λ (b : ℕ). slice_index used k < b) (sym (get_or_push used j 0 (k + 1) last)) (u.below k 0 (omega arith)))
+
+pub all_used : (values : List ℤ) (used : List ℕ) → length values ≡ MOST_COLUMNS → AreUsed values MOST_COLUMNS used → AreColumnsOf values used
+all_used values used full u = record {
+  inside = u.below;
+  rising = u.rising;
+  others = λ j f. ⊎_elim (λ (h : j < MOST_COLUMNS). u.others j h f) (λ (g : MOST_COLUMNS ≤ j). get_or_past values j (pos 0) (omega arith)) (side j MOST_COLUMNS);
+}
+  where
+    side : (i n : ℕ) → (i < n) ⊎ (n ≤ i)
+    side i n = grind arith

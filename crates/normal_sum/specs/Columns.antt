@@ -1,0 +1,10 @@
+-- The columns in which a row has a coefficient.
+use Rattle.std.specs.Prelude.{◌≡◌, ◌≢◌, ℕ, ◌<◌, List, ℤ, pos, length, All, slice_index, slice_index_or}
+use Rattle.std.specs.List.Sorted.{IsStrictlyIncreasing}
+use Rattle.form_tables.specs.declared.sizes.TheConstants.{MOST_COLUMNS}
+
+-- each column once, in order, and the values are 0 in all others
+pub record AreColumnsOf (values : List ℤ) (columns : List ℕ) : Type 0 where
+  pub inside : All (λ c. c < MOST_COLUMNS) columns
+  pub rising : IsStrictlyIncreasing columns
+  pub others : (j : ℕ) → ((k : ℕ) → k < length columns → slice_index columns k ≢ j) → slice_index_or values j (pos 0) ≡ pos 0

@@ -1,0 +1,76 @@
+//! The places of the integers of a pair's rows.
+ghost use Rattle.std.specs.Prelude.{◌≡◌, ◌==◌, ℕ, ◌<◌, ◌≤◌, List, length, position, slice_index_or, Option, IfSome, None};
+ghost use Rattle.obs_rows.specs.declared.arcs.Arc.{Arc};
+ghost use Rattle.obs_rows.specs.declared.rows.Row.{Row};
+ghost use Rattle.obs_rows.specs.Arcs.{free_count};
+ghost use Rattle.obs_rows.specs.Signals.{AreCounted, phases};
+ghost use Rattle.normal_sum.specs.Pairs.{HaveArcs};
+ghost use Rattle.normal_sum.specs.Places.{first_place, place_from, ArePlaces};
+
+use form_tables::MOST_INTEGERS;
+use obs_rows::{Arc, MOST_FREE_ARCS, PHASES, Row, free_arcs, phase_count};
+
+/// The most rows of a pair.
+pub(crate) const MOST_ROWS: usize = 15;
+
+/// The place of an arc's first integer, where each free arc has as many as there are phases; None for a datum.
+fn first_place(arcs: &[Arc], phases: usize, arc: usize) -> Option<usize>
+    requires arc { arc < length arcs.now }
+    requires free { free_count arcs.now ≤ MOST_FREE_ARCS }
+    requires phases { phases ≤ PHASES }
+    ensures value { result ≡ first_place arcs.now phases arc }
+    ensures few { IfSome result (λ i. i ≤ MOST_INTEGERS) }
+{
+    if arcs[arc].datum {
+        None
+    } else {
+        Some(phases * free_arcs(&arcs[..arc]))
+    }
+}
+
+/// The place of the first integer of each row's arc.
+pub(crate) fn first_places(
+    arcs: &[Arc],
+    signals: &[usize],
+    rows: &[Row],
+) -> [Option<usize>; MOST_ROWS]
+    requires have_arcs { HaveArcs arcs.now rows.now }
+    requires few_rows { length rows.now ≤ MOST_ROWS }
+    requires free { free_count arcs.now ≤ MOST_FREE_ARCS }
+    requires counted { AreCounted signals.now }
+    ensures value { (k : ℕ) (d : Row) → k < length rows.now → slice_index_or result k None ≡ first_place arcs.now (length (phases signals.now)) (slice_index_or rows.now k d).arc }
+    ensures none { (k : ℕ) → length rows.now ≤ k → slice_index_or result k None ≡ None }
+    ensures few { (k : ℕ) → IfSome (slice_index_or result k None) (λ i. i ≤ MOST_INTEGERS) }
+{
+    let phases = phase_count(signals);
+    let mut places = [None; MOST_ROWS];
+    for k in 0..rows.len() {
+        places[k] = first_place(arcs, phases, rows[k].arc as usize);
+    }
+    places
+}
+
+/// The place of an integer: that of its arc's first, and its phase's among the phases that count.
+fn place_from(first: Option<usize>, phase: Option<usize>) -> Option<usize>
+    requires first { IfSome first (λ i. i ≤ MOST_INTEGERS) }
+    requires phase { IfSome phase (λ i. i < PHASES) }
+    ensures { result ≡ place_from first phase }
+{
+    Some(first? + phase?)
+}
+
+/// The place of each row's integer as one phase sees it. A code has none.
+pub(crate) fn places_of(
+    firsts: &[Option<usize>; MOST_ROWS],
+    phase: Option<usize>,
+) -> [Option<usize>; MOST_ROWS]
+    requires first { (k : ℕ) → IfSome (slice_index_or firsts.now k None) (λ i. i ≤ MOST_INTEGERS) }
+    requires phase { IfSome phase (λ i. i < PHASES) }
+    ensures { (k : ℕ) → slice_index_or result k None ≡ place_from (slice_index_or firsts.now k None) phase }
+{
+    let mut places = [None; MOST_ROWS];
+    for k in 0..MOST_ROWS {
+        places[k] = place_from(firsts[k], phase);
+    }
+    places
+}

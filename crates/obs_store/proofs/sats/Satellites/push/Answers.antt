@@ -1,0 +1,33 @@
+-- One satellite more, whose values are stored behind the others.
+use Rattle.std.proofs.Common.{◌≡◌, ◌∙◌, ◌++◌, [], ◌∷◌, false, ap, subst, List}
+use Rattle.obs_store.specs.declared.stored.StoredSat.{StoredSat}
+use Rattle.obs_store.specs.declared.stored.StoredValue.{StoredValue}
+use Rattle.obs_store.specs.Satellites.{has_satellite}
+use Rattle.obs_store.specs.Stored.{AreStoredBehind}
+use Rattle.obs_store.proofs.StoredLaws.{stored_push, are_stored_push}
+use Rattle.obs_store.proofs.sats.Satellites.push.Goals as goal
+
+pub invariant_of-self-2 : goal.invariant_of-self-2
+invariant_of-self-2 c =
+    let s = c.args.sat in
+    let sats = c.self.inside.sats.items in
+    let values = c.self.inside.values.items in
+    let count = c.store_values-count.result in
+    let one : StoredSat = record { number = s.number; count = count } in
+    let pushed : c.push_reserved.new.self.items ≡ sats ++ one ∷ [] = c.push_reserved.ensures.items ∙ ap (λ (l : List StoredSat). l ++ one ∷ []) c.in_ok-reserve.ensures.items in
+    let stored : AreStoredBehind values c.store_values-count.new.stored.items count s.values =
+    subst (λ (l : List StoredValue). AreStoredBehind l c.store_values-count.new.stored.items count s.values) c.in_ok-reserve-2.ensures.items c.store_values-count.ensures in
+    let fresh : has_satellite s.number c.args.self.now ≡ false = c.requires.once in
+    are_stored_push sats c.push_reserved.new.self.items values c.store_values-count.new.stored.items s count c.self.invariant pushed stored c.requires.from_first c.requires.to_last (rw (← c.self.view_is) at fresh)
+
+pub returns-clause-added : goal.returns-clause-added
+returns-clause-added c =
+    let s = c.args.sat in
+    let sats = c.self.inside.sats.items in
+    let values = c.self.inside.values.items in
+    let count = c.store_values-count.result in
+    let one : StoredSat = record { number = s.number; count = count } in
+    let pushed : c.push_reserved.new.self.items ≡ sats ++ one ∷ [] = c.push_reserved.ensures.items ∙ ap (λ (l : List StoredSat). l ++ one ∷ []) c.in_ok-reserve.ensures.items in
+    let stored : AreStoredBehind values c.store_values-count.new.stored.items count s.values =
+    subst (λ (l : List StoredValue). AreStoredBehind l c.store_values-count.new.stored.items count s.values) c.in_ok-reserve-2.ensures.items c.store_values-count.ensures in
+    rw (← c.self.view_is) (stored_push sats c.push_reserved.new.self.items values c.store_values-count.new.stored.items s count c.self.invariant.all pushed stored)

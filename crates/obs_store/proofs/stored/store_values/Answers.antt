@@ -1,0 +1,32 @@
+-- One value more, or none in its slot.
+use Rattle.std.proofs.Common.{◌≡◌, ◌∙◌, ap, sym, arith, Some, None}
+use Rattle.obs_store.specs.declared.values.Value.{Value}
+use Rattle.obs_store.specs.declared.kinds.ObsType.TheVariants.{C1C}
+use Rattle.obs_store.specs.Kinds.{slot_of}
+use Rattle.obs_store.proofs.StoredLaws.{none_stored, stored_some, stored_none, all_stored, slot_at}
+use Rattle.obs_store.proofs.stored.store_values.Goals as goal
+use Rattle.obs_store.proofs.stored.store_values.Goals.{in-Some, in-None}
+
+pub loop-slot-init : goal.loop-slot-init
+loop-slot-init c = record { stored = none_stored c.args.stored.now.items c.args.values.now; room = c.requires; few = omega arith }
+
+pub loop-slot-preserved : goal.loop-slot-preserved
+loop-slot-preserved c = elim c.match-values-slot.branch [
+  | in-Some w ↦ rw (w.stored-is, w.count-is) (record {
+    stored = stored_some c.args.stored.now.items c.loop-slot.stored.items w.push_reserved.new.self.items c.loop-slot.count c.loop-slot.slot c.args.values.now w.stored_value.result None
+        c.loop-slot.invariant.stored c.loop-slot-test.true c.told-values w.push_reserved.ensures.items
+        (ap slot_of w.stored_value.ensures.kind ∙ slot_at c.loop-slot.slot C1C c.loop-slot-test.true) (w.in-Some.is ∙ ap (λ (v : Value). Some v) (sym w.stored_value.ensures.value));
+    room = omega (arith, w.push_reserved.ensures.len, w.push_reserved.ensures.capacity, c.loop-slot.invariant.room);
+    few = omega (arith, c.loop-slot.invariant.few);
+  })
+  | in-None w ↦ rw (w.stored-is, w.count-is) (record {
+    stored = stored_none c.args.stored.now.items c.loop-slot.stored.items c.loop-slot.count c.loop-slot.slot c.args.values.now None c.loop-slot.invariant.stored c.loop-slot-test.true c.told-values w.in-None.is;
+    room = omega (arith, c.loop-slot.invariant.room);
+    few = omega (arith, c.loop-slot.invariant.few);
+  })
+]
+
+pub returns : goal.returns
+returns c =
+    let last : c.loop-slot.slot ≡ 26 = omega arith in
+    all_stored c.args.stored.now.items c.loop-slot.stored.items c.loop-slot.count c.loop-slot.slot c.args.values.now c.loop-slot.invariant.stored last c.told-values

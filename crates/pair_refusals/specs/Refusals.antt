@@ -1,0 +1,36 @@
+-- What is told of two observation files that are refused.
+use Rattle.std.specs.Prelude.{◌≡◌, ◌⊎◌, ℕ, true, false, List, [], ◌++◌, codes, Any}
+use Rattle.std.specs.declared.option.Option.{Option}
+use Rattle.std.specs.Fmt.{decimal}
+use Rattle.obs_store.specs.declared.file.ObsFile.{ObsFile}
+use Rattle.run_options.specs.declared.options.Options.{Options}
+use Rattle.session_begin.specs.declared.faults.PairWhat.{PairWhat}
+use Rattle.session_begin.specs.declared.faults.PairWhat.TheVariants.{NoBasePosition, NoSignal, Dense}
+use Rattle.session_begin.specs.declared.faults.SessionFault.TheVariants as fault
+use Rattle.session_begin.specs.Beginnings.{IsSessionFault}
+use Rattle.job_answers.specs.declared.status.Status.{Status}
+use Rattle.job_answers.specs.declared.status.Status.TheVariants.{Refused}
+use Rattle.job_answers.specs.Endings.{Ending, ending, IsRefusedFile}
+
+-- why they are
+abbrev pub pair_reason : PairWhat → List ℕ
+pair_reason NoBasePosition = codes "no base position"
+pair_reason NoSignal = codes "no common signals"
+pair_reason (Dense true epoch) = codes "rover epochs too dense at " ++ decimal epoch
+pair_reason (Dense false epoch) = codes "base epochs too dense at " ++ decimal epoch
+
+abbrev pub pair_line : PairWhat → List ℕ
+pair_line what = codes "refused: " ++ (pair_reason what ++ codes "\n")
+
+-- the two files are refused
+pub record IsPairRefused (b r : ObsFile) (o : Options) (end : Ending) : Type 0 where
+  pub what : PairWhat
+  pub why : IsSessionFault b r o (fault.Refused what)
+  pub end_is : end ≡ ending Refused [] (pair_line what)
+
+-- A refusal is that of one of the files, or of the two together.
+abbrev pub HaveRefused : (List ℕ → Option (List ℕ)) → (ℕ → Option (List ℕ)) → List (List ℕ) → Status → (List ℕ → Type 0) → Type 0
+HaveRefused told left names status tells = status ≡ Refused → Any (IsRefusedFile told left tells) names ⊎ ((what : PairWhat) × tells (pair_line what))
+
+abbrev pub AreRefusedWhole : (List ℕ → Option (List ℕ)) → (ℕ → Option (List ℕ)) → List (List ℕ) → Ending → Type 0
+AreRefusedWhole told left names end = HaveRefused told left names end.status (λ text. end.err ≡ text)

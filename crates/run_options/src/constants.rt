@@ -1,0 +1,21 @@
+//! What the constants are: a definition that cites one by name means these numbers.
+ghost use Rattle.std.specs.Prelude.{◌≡◌};
+ghost use Rattle.run_options.specs.declared.options.TheConstants.{BANDS_L1_L2, GPS};
+ghost use Rattle.run_options.specs.declared.defaults.TheConstants.{DEFAULT_RATIO, DEFAULT_BUDGET, DEFAULT_MASK, DEFAULT_GAP, DEFAULT_JUMP, DEFAULT_ARC, DEFAULT_STEP, DEFAULT_FIRST, DEFAULT_COUNT};
+
+/// The numbers of a run that is asked for nothing in particular.
+pub fn defaults_law()
+    // L1 and L2
+    ensures bands { BANDS_L1_L2 ≡ 12 }
+    // the letter G
+    ensures system { GPS ≡ 71 }
+    ensures ratio { DEFAULT_RATIO ≡ 2000 }
+    ensures budget { DEFAULT_BUDGET ≡ 1_000_000 }
+    ensures mask { DEFAULT_MASK ≡ 200 }
+    ensures gap { DEFAULT_GAP ≡ 100_000 }
+    ensures jump { DEFAULT_JUMP ≡ 12 }
+    ensures arc { DEFAULT_ARC ≡ 5 }
+    ensures step { DEFAULT_STEP ≡ 1 }
+    ensures first { DEFAULT_FIRST ≡ 0 }
+    ensures count { DEFAULT_COUNT ≡ 3600 }
+{}

@@ -1,0 +1,64 @@
+//! What a session's rows are decided to say.
+ghost use Rattle.std.specs.Prelude.{◌≡◌, ◌^◌, ◌≤◌, List, ℤ, length, pos, neg_ℤ, ◌≤ℤ◌};
+ghost use Rattle.obs_rows.specs.Signals.{fine_signals};
+ghost use Rattle.integer_form.specs.Forms.{integers_of, value_of};
+ghost use Rattle.cert_data.specs.Tails.{IsTailOf};
+ghost use Rattle.fix_decide.specs.Decisions.{IsFormOf};
+ghost use Rattle.settled_decision.specs.Decided.{IsDecision, IsBestWhereFixed, tail_of};
+
+use cert_data::Tail;
+use fix_decide::decide;
+use int_search::{SearchFault, two_best};
+use integer_form::{Form, LowerFault, Place, lower_sum_law};
+use obs_rows::Session;
+
+/// A refusal of the elimination as a tail.
+pub fn tail_of(fault: LowerFault) -> Tail
+    ensures { result ≡ tail_of fault }
+{
+    match fault {
+        LowerFault::Weak { column, pivot } => Tail::Weak { column, pivot },
+        LowerFault::Overwidth { place } => Tail::Overwidth { place },
+    }
+}
+
+/// Decides a fine session, whose form this is, at a ratio in thousandths: the search, the baseline of the least integers,
+/// their upper sum, and whether the second value is far enough above it.
+pub fn decide_settled(session: &Session, form: &Form, ratio: u32, budget: u64) -> Tail
+    requires fine { session.now.scale ≡ 0 }
+    requires form { IsFormOf session.now form.now }
+    requires ratio_from { 1000 ≤ ratio }
+    requires ratio_to { ratio ≤ 100_000 }
+    ensures decision { IsDecision session.now form.now ratio budget result }
+    ensures strictly_best { IsBestWhereFixed session.now result }
+    ensures fits { IsTailOf (fine_signals session.now.signals) session.now.arcs budget result }
+{
+    values_from(form);
+    let best = match two_best(form, budget) {
+        Ok(best) => best,
+        Err(SearchFault::Spent) => return Tail::Spent { budget },
+        Err(SearchFault::Overwidth) => {
+            return Tail::Overwidth {
+                place: Place::Search,
+            };
+        }
+    };
+    match decide(session, form, &best, ratio) {
+        Ok(decision) => Tail::of_vectors(
+            decision.fixed,
+            form.h,
+            decision.moved,
+            decision.best,
+            decision.top,
+        ),
+        Err(fault) => Tail::Overwidth { place: fault.place },
+    }
+}
+
+/// No value of a form is below its last entry, which fits its word.
+fn values_from(form: &Form)
+    ensures { (z : List ℤ) → length z ≡ integers_of form.now → neg_ℤ (pos (2 ^ 63)) ≤ℤ value_of form.now z }
+{
+    lower_sum_law(form);
+    let _last = form.g;
+}
