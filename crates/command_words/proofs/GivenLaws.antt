@@ -59,6 +59,7 @@ module _ (g h : List Given) (same : (s : Setting) → numbers_for s g ≡ number
   same_job command plain (job.List obs) is = same_plain (codes "list") (obs ∷ []) command plain is
   same_job command plain (job.Check cert) is = same_plain (codes "check") (cert ∷ []) command plain is
   same_job command plain (job.Residuals cert) is = same_plain (codes "residuals") (cert ∷ []) command plain is
+  same_job command plain (job.Migrate cert) is = same_plain (codes "migrate") (cert ∷ []) command plain is
   same_job command plain (job.Orbit nav sat tick) is = record {
     sat_word = is.sat_word;
     tick_word = is.tick_word;

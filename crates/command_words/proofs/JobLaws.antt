@@ -63,7 +63,7 @@ table_settings (c ∷ table) name n options all h = go (bytes_eq c.0 name) refl 
     go false other rest = rest (rw other at h)
 
 their_settings : (name n : Text) (options : List Text) → command_named name commands ≡ Some (n, options) → AreSettings options
-their_settings name n options h = table_settings commands name n options (of_all, (of_pairs, (of_none, (of_none, (of_none, (of_none, (of_none, (of_none, tt)))))))) h
+their_settings name n options h = table_settings commands name n options (of_all, (of_pairs, (of_none, (of_none, (of_none, (of_none, (of_none, (of_none, (of_none, tt))))))))) h
 
 pub its_command : (command : Text) (options : List Text) → command_named command commands ≡ Some (command, options) → IsCommand (built_shape (command, options)) options
 its_command command options h = is_command (built_shape (command, options)) options refl (their_settings command command options h).no_word refl refl refl
@@ -197,6 +197,7 @@ in_table command plain given (job.Zero rows) asked = plain_in_table (codes "zero
 in_table command plain given (job.List obs) asked = plain_in_table (codes "list") (obs ∷ []) command plain given refl (λ ws. refl) asked
 in_table command plain given (job.Check cert) asked = plain_in_table (codes "check") (cert ∷ []) command plain given refl (λ ws. refl) asked
 in_table command plain given (job.Residuals cert) asked = plain_in_table (codes "residuals") (cert ∷ []) command plain given refl (λ ws. refl) asked
+in_table command plain given (job.Migrate cert) asked = plain_in_table (codes "migrate") (cert ∷ []) command plain given refl (λ ws. refl) asked
 in_table command plain given (job.Orbit nav sat tick) asked = plain_in_table (codes "orbit") (nav ∷ asked.sat_word ∷ asked.tick_word ∷ []) command plain given refl (λ ws. refl) asked.asked
 in_table command plain given (job.Sim part seed epochs sats) asked = plain_in_table (codes "sim") (asked.part_word ∷ asked.seed_word ∷ asked.epochs_word ∷ asked.sats_word ∷ []) command plain given refl (λ ws. refl) asked.asked
 in_table command plain given (job.Fix base rover nav options) asked = subst (λ (c : Text). InTable c given) (sym asked.command_is)

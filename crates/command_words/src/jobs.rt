@@ -41,6 +41,10 @@ pub enum Job {
     Residuals {
         cert: Word,
     },
+    /// A certificate of version 1 in today's form.
+    Migrate {
+        cert: Word,
+    },
     /// The baseline of a session, with the certificate of its integers.
     Fix {
         base: Word,
@@ -129,6 +133,10 @@ fn file_job(alloc: Global, command: &[u8], file: &Word) -> Result<Job, WordFault
     if command == b"residuals".as_slice() {
         let cert = Word::copy_of(alloc, file.as_str())?;
         return Ok(Job::Residuals { cert });
+    }
+    if command == b"migrate".as_slice() {
+        let cert = Word::copy_of(alloc, file.as_str())?;
+        return Ok(Job::Migrate { cert });
     }
     Err(WordFault::Usage)
 }

@@ -87,5 +87,6 @@ pub fn program<'a>(alloc: Global) -> Result<Command<'a>, AllocError>
     let program = with_command(alloc, program, "zero", &[])?;
     let program = with_command(alloc, program, "list", &[])?;
     let program = with_command(alloc, program, "orbit", &[])?;
-    with_command(alloc, program, "sim", &[])
+    let program = with_command(alloc, program, "sim", &[])?;
+    with_command(alloc, program, "migrate", &[])
 }

@@ -21,4 +21,5 @@ returns c =
     let zero = c.in_ok-program-5.ensures ∙ ap (λ (a : App). with_one (codes "zero") [] a) residuals in
     let list = c.in_ok-program-6.ensures ∙ ap (λ (a : App). with_one (codes "list") [] a) zero in
     let orbit = c.in_ok-program-7.ensures ∙ ap (λ (a : App). with_one (codes "orbit") [] a) list in
-    IfOk-weaker c.with_command-8.result _ _ (λ r h. h ∙ ap (λ (a : App). with_one (codes "sim") [] a) orbit) c.with_command-8.ensures
+    let sim = c.in_ok-program-8.ensures ∙ ap (λ (a : App). with_one (codes "sim") [] a) orbit in
+    IfOk-weaker c.with_command-9.result _ _ (λ r h. h ∙ ap (λ (a : App). with_one (codes "migrate") [] a) sim) c.with_command-9.ensures
