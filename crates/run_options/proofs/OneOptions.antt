@@ -1,30 +1,21 @@
 -- Options with the same numbers are the same.
-use Rattle.std.proofs.Common.{◌≡◌, ◌≤◌, ℕ, sym, ap, ap₂, ◌∙◌, subst}
+use Rattle.std.proofs.Common.{◌≡◌, ◌≤◌, ap, ap₂, subst}
 use Rattle.std.proofs.Math.Bridge.{le_prop}
-use Rattle.std.proofs.Math.Nat.{ℕ_set}
-use Rattle.run_options.specs.declared.options.TheConstants.{BANDS_L1_L2, GPS}
+use Rattle.std.proofs.Math.Bool.{Bool-set}
+use Rattle.band_sets.specs.BandSets.{IsBandsNumber}
+use Rattle.obs_rows.specs.Ranges.{IsSystem}
 use Rattle.run_options.specs.declared.options.Options.{Options}
 use Rattle.run_options.specs.Defaults.{Numbers, numbers_of}
 
--- all numbers of options, with those of the bands and of the system, which all options share
-record Fields : Type 0 where
-  bands : ℕ
-  system : ℕ
-  numbers : Numbers
+abbrev AreInRange : Numbers → Type 0
+AreInRange n = (IsBandsNumber n.bands) × ((IsSystem n.system) × ((1000 ≤ n.ratio) × ((n.ratio ≤ 100_000) × ((1 ≤ n.budget) × ((n.budget ≤ 100_000_000) × ((n.mask ≤ 900) × ((n.gap ≤ 5_000_000) × ((1 ≤ n.jump) × ((n.jump ≤ 1000) × ((2 ≤ n.arc) × ((n.arc ≤ 3600) × ((1 ≤ n.step) × ((n.step ≤ 1000) × ((n.first ≤ 19_999) × ((1 ≤ n.count) × (n.count ≤ 3600))))))))))))))))
 
-abbrev fields_of : Options → Fields
-fields_of o = record { bands = o.bands; system = o.system; numbers = numbers_of o }
-
-abbrev AreInRange : Fields → Type 0
-AreInRange f = let n = f.numbers in (f.bands ≡ BANDS_L1_L2) × ((f.system ≡ GPS) × ((1000 ≤ n.ratio) × ((n.ratio ≤ 100_000) × ((1 ≤ n.budget) × ((n.budget ≤ 100_000_000) × ((n.mask ≤ 900) × ((n.gap ≤ 5_000_000) × ((1 ≤ n.jump) × ((n.jump ≤ 1000) × ((2 ≤ n.arc) × ((n.arc ≤ 3600) × ((1 ≤ n.step) × ((n.step ≤ 1000) × ((n.first ≤ 19_999) × ((1 ≤ n.count) × (n.count ≤ 3600))))))))))))))))
-
-abbrev made : (f : Fields) → AreInRange f → Options
-made f r =
-    let n = f.numbers in
+abbrev made : (n : Numbers) → AreInRange n → Options
+made n r =
     let q = r.1.1 in
     record {
-      bands = f.bands;
-      system = f.system;
+      bands = n.bands;
+      system = n.system;
       on_bands = r.0;
       of_system = r.1.0;
       ratio = n.ratio;
@@ -53,7 +44,7 @@ made f r =
       count_to = q.1.1.1.1.1.1.1.1.1.1.1.1.1.1;
     }
 
-abbrev ranges_of : (o : Options) → AreInRange (fields_of o)
+abbrev ranges_of : (o : Options) → AreInRange (numbers_of o)
 ranges_of o = (
   o.on_bands,
   (
@@ -90,17 +81,9 @@ ranges_of o = (
 pairs : {A B : Type 0} → ((x y : A) → x ≡ y) → ((x y : B) → x ≡ y) → (p q : A × B) → p ≡ q
 pairs first second p q = ap₂ (λ a b. (a, b)) (first p.0 q.0) (second p.1 q.1)
 
-one_range : (f : Fields) (r s : AreInRange f) → r ≡ s
-one_range f = pairs (ℕ_set _ _) (pairs (ℕ_set _ _) (pairs le_prop (pairs le_prop (pairs le_prop (pairs le_prop (pairs le_prop (pairs le_prop
+one_range : (n : Numbers) (r s : AreInRange n) → r ≡ s
+one_range n = pairs (Bool-set _ _) (pairs (Bool-set _ _) (pairs le_prop (pairs le_prop (pairs le_prop (pairs le_prop (pairs le_prop (pairs le_prop
     (pairs le_prop (pairs le_prop (pairs le_prop (pairs le_prop (pairs le_prop (pairs le_prop (pairs le_prop (pairs le_prop le_prop)))))))))))))))
 
-same_fields : (a b : Options) → numbers_of a ≡ numbers_of b → fields_of a ≡ fields_of b
-same_fields a b same =
-    let bands : a.bands ≡ b.bands = a.on_bands ∙ sym b.on_bands in
-    let system : a.system ≡ b.system = a.of_system ∙ sym b.of_system in
-    ap (λ (n : ℕ). record { bands = n; system = a.system; numbers = numbers_of a }) bands
-    ∙ (ap (λ (n : ℕ). record { bands = b.bands; system = n; numbers = numbers_of a }) system
-    ∙ ap (λ (n : Numbers). record { bands = b.bands; system = b.system; numbers = n }) same)
-
 pub one_options : (a b : Options) → numbers_of a ≡ numbers_of b → a ≡ b
-one_options a b same = subst (λ (f : Fields). (r : AreInRange f) → a ≡ made f r) (same_fields a b same) (λ r. ap (made (fields_of a)) (one_range (fields_of a) (ranges_of a) r)) (ranges_of b)
+one_options a b same = subst (λ (n : Numbers). (r : AreInRange n) → a ≡ made n r) same (λ r. ap (made (numbers_of a)) (one_range (numbers_of a) (ranges_of a) r)) (ranges_of b)

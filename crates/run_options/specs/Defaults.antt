@@ -1,9 +1,13 @@
 -- The options of a run that is asked for nothing in particular.
 use Rattle.std.specs.Prelude.{◌≡◌, ℕ}
 use Rattle.run_options.specs.declared.defaults.TheConstants.{DEFAULT_RATIO, DEFAULT_BUDGET, DEFAULT_MASK, DEFAULT_GAP, DEFAULT_JUMP, DEFAULT_ARC, DEFAULT_STEP, DEFAULT_FIRST, DEFAULT_COUNT}
+use Rattle.band_sets.specs.declared.numbers.TheConstants.{BANDS_L1_L2}
+use Rattle.run_options.specs.declared.options.TheConstants.{GPS}
 use Rattle.run_options.specs.declared.options.Options.{Options}
 
 pub record AreDefaults (o : Options) : Type 0 where
+  pub bands : o.bands ≡ BANDS_L1_L2
+  pub system : o.system ≡ GPS
   pub ratio : o.ratio ≡ DEFAULT_RATIO
   pub budget : o.budget ≡ DEFAULT_BUDGET
   pub mask : o.mask ≡ DEFAULT_MASK
@@ -14,8 +18,10 @@ pub record AreDefaults (o : Options) : Type 0 where
   pub first : o.first ≡ DEFAULT_FIRST
   pub count : o.count ≡ DEFAULT_COUNT
 
--- the numbers of options that may differ
+-- the numbers of options
 pub record Numbers : Type 0 where
+  pub bands : ℕ
+  pub system : ℕ
   pub ratio : ℕ
   pub budget : ℕ
   pub mask : ℕ
@@ -27,4 +33,4 @@ pub record Numbers : Type 0 where
   pub count : ℕ
 
 abbrev pub numbers_of : Options → Numbers
-numbers_of o = record { ratio = o.ratio; budget = o.budget; mask = o.mask; gap = o.gap; jump = o.jump; arc = o.arc; step = o.step; first = o.first; count = o.count }
+numbers_of o = record { bands = o.bands; system = o.system; ratio = o.ratio; budget = o.budget; mask = o.mask; gap = o.gap; jump = o.jump; arc = o.arc; step = o.step; first = o.first; count = o.count }

@@ -1,14 +1,13 @@
 //! What the constants are: a definition that cites one by name means these numbers.
 ghost use Rattle.std.specs.Prelude.{◌≡◌};
-ghost use Rattle.run_options.specs.declared.options.TheConstants.{BANDS_L1_L2, GPS};
+ghost use Rattle.run_options.specs.declared.options.TheConstants.{GPS, GALILEO};
 ghost use Rattle.run_options.specs.declared.defaults.TheConstants.{DEFAULT_RATIO, DEFAULT_BUDGET, DEFAULT_MASK, DEFAULT_GAP, DEFAULT_JUMP, DEFAULT_ARC, DEFAULT_STEP, DEFAULT_FIRST, DEFAULT_COUNT};
 
 /// The numbers of a run that is asked for nothing in particular.
 pub fn defaults_law()
-    // L1 and L2
-    ensures bands { BANDS_L1_L2 ≡ 12 }
-    // the letter G
-    ensures system { GPS ≡ 71 }
+    // the letters G and E
+    ensures gps { GPS ≡ 71 }
+    ensures galileo { GALILEO ≡ 69 }
     ensures ratio { DEFAULT_RATIO ≡ 2000 }
     ensures budget { DEFAULT_BUDGET ≡ 1_000_000 }
     ensures mask { DEFAULT_MASK ≡ 200 }

@@ -1,7 +1,7 @@
 //! What a run is asked to do: its options, each with its range and its default.
 //!
-//! The options of a run with their ranges in the type, and their defaults. A run uses the bands L1 and L2 of GPS: of
-//! the numbers of the bands and of the letters of systems the type admits these alone.
+//! The options of a run with their ranges in the type, and their defaults. A run uses L1 with L2, with L5 or with both, of
+//! GPS or of Galileo; one that is asked for nothing in particular uses L1 and L2 of GPS.
 #![tactic(auto)]
 
 mod constants;
@@ -10,12 +10,14 @@ mod options;
 
 ghost use Rattle.run_options.specs.Defaults.{AreDefaults};
 
+use band_sets::BANDS_L1_L2;
+
 pub use constants::defaults_law;
 pub use defaults::{
     DEFAULT_ARC, DEFAULT_BUDGET, DEFAULT_COUNT, DEFAULT_FIRST, DEFAULT_GAP, DEFAULT_JUMP,
     DEFAULT_MASK, DEFAULT_RATIO, DEFAULT_STEP,
 };
-pub use options::{BANDS_L1_L2, GPS, Options};
+pub use options::{GALILEO, GPS, Options};
 
 impl Options {
     /// Those of a run that is asked for nothing in particular.

@@ -1,17 +1,18 @@
 // The options of a run.
-ghost use Rattle.std.specs.Prelude.{◌≡◌, ◌≤◌};
-ghost use Rattle.run_options.specs.declared.options.TheConstants.{BANDS_L1_L2, GPS};
+ghost use Rattle.std.specs.Prelude.{◌≤◌};
+ghost use Rattle.band_sets.specs.BandSets.{IsBandsNumber};
+ghost use Rattle.obs_rows.specs.Ranges.{IsSystem};
 
-/// The number of the bands L1 and L2, which tells them by their digits.
-pub const BANDS_L1_L2: u16 = 12;
-
-/// The system's letter.
+/// The letter of GPS.
 pub const GPS: u8 = b'G';
+
+/// The letter of Galileo.
+pub const GALILEO: u8 = b'E';
 
 /// The options of a run, each in its range.
 #[derive(Clone, Copy, Debug, PartialEq, Eq)]
 pub struct Options {
-    /// The bands that are used.
+    /// The bands that are used, by the number of their set: 12, 15 or 125.
     pub bands: u16,
     /// The satellite system, by its letter.
     pub system: u8,
@@ -33,8 +34,8 @@ pub struct Options {
     pub first: u32,
     /// At most so many pairs are taken.
     pub count: u32,
-    pub ghost on_bands: { bands ≡ BANDS_L1_L2 },
-    pub ghost of_system: { system ≡ GPS },
+    pub ghost on_bands: { IsBandsNumber bands },
+    pub ghost of_system: { IsSystem system },
     pub ghost ratio_from: { 1000 ≤ ratio },
     pub ghost ratio_to: { ratio ≤ 100_000 },
     pub ghost budget_from: { 1 ≤ budget },
