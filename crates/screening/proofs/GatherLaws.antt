@@ -133,7 +133,7 @@ gathered_next s base rover epochs pair n before sats sats' boxes boxes' g (inr a
 
 -- all numbers are done
 pub used_sats : (s : Setting) (base rover : Epoch) (epochs : Passed) (pair : ℕ) (before : List SvPair) (sats : List UsedSat) (boxes : List SvPair) →
-    AreGathered s base rover epochs pair 33 before sats boxes → AreUsedSats s base rover epochs sats
+    AreGathered s base rover epochs pair 37 before sats boxes → AreUsedSats s base rover epochs sats
 used_sats s base rover epochs pair before sats boxes g = record {
   few = g.few;
   rising = g.rising;
@@ -141,5 +141,5 @@ used_sats s base rover epochs pair before sats boxes g = record {
   others = λ sat seen is none. g.others sat seen (in_range sat is.number.1) is none;
 }
   where
-    in_range : (sat : ℕ) → sat ≤ 32 → sat < 33
+    in_range : (sat : ℕ) → sat ≤ 36 → sat < 37
     in_range sat h = omega (arith, h)

@@ -2,7 +2,7 @@
 ghost use Rattle.std.specs.Prelude.{◌≡◌, ◌≤◌, ◌⊎◌, IfOk, OnOk};
 ghost use Rattle.std.specs.Int.{abs_diff};
 ghost use Rattle.used_svs.specs.Ranges.{IsSmall};
-ghost use Rattle.screening.specs.Entries.{IsGpsNumber};
+ghost use Rattle.screening.specs.Entries.{IsSatNumber};
 ghost use Rattle.screening.specs.Observed.{phases_of};
 ghost use Rattle.screening.specs.Marks.{power_failed, lost_lock};
 ghost use Rattle.screening.specs.Sightings.{setting_with};
@@ -66,7 +66,7 @@ fn add_sat(
     boxes: &mut SvPairList,
 ) -> Result<(), AllocError>
     requires near { abs_diff at.now.base.now.tag.0 at.now.rover.now.tag.0 ≤ 5_000_000 }
-    requires number { IsGpsNumber number }
+    requires number { IsSatNumber number }
     ensures { OnOk result
         (IsPassedOver (setting_with rules.now table.now.fit.now) at.now.base.now at.now.rover.now number sats.old.items sats.new.items boxes.old boxes.new
         ⊎ IsAdded (setting_with rules.now table.now.fit.now) at.now.base.now at.now.rover.now (record { base = at.now.base_passed.now; rover = at.now.rover_passed.now })
@@ -95,10 +95,10 @@ fn sats_of(
     requires near { abs_diff at.now.base.now.tag.0 at.now.rover.now.tag.0 ≤ 5_000_000 }
     ensures { IfOk result (λ sats.
         AreGathered (setting_with rules.now table.now.fit.now) at.now.base.now at.now.rover.now (record { base = at.now.base_passed.now; rover = at.now.rover_passed.now })
-        at.now.number 33 boxes.old sats.items boxes.new) }
+        at.now.number 37 boxes.old sats.items boxes.new) }
 {
     let mut sats: Vec<UsedSat> = Vec::new(alloc);
-    'numbers: for number in 1..33u8 {
+    'numbers: for number in 1..37u8 {
         add_sat(rules, table, at, number, &mut sats, boxes)?;
     }
     Ok(sats)

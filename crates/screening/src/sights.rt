@@ -5,7 +5,7 @@ ghost use Rattle.travel_model.specs.SeenPlaces.{IsAboveMask, IsBelowMask};
 ghost use Rattle.obs_rows.specs.declared.units.TheConstants.{SIGNALS};
 ghost use Rattle.sv_orbit.specs.Solutions.{HoldsSolution};
 ghost use Rattle.screening.specs.Amounts.{AreAmounts, difference, differences};
-ghost use Rattle.screening.specs.Entries.{IsGpsNumber};
+ghost use Rattle.screening.specs.Entries.{IsSatNumber};
 ghost use Rattle.screening.specs.Observed.{AreAmountsBelow, size_of};
 ghost use Rattle.screening.specs.Sightings.{SeesNear, point_at, setting_with};
 ghost use Rattle.screening.specs.Screening.{IsEntryAt, IsLeftOut};
@@ -66,7 +66,7 @@ pub fn entry_of(
     number: u8,
 ) -> Option<SvPair>
     requires near { abs_diff base.now.tag.0 rover.now.tag.0 ≤ 5_000_000 }
-    requires number { IsGpsNumber number }
+    requires number { IsSatNumber number }
     ensures { MatchOption result
         (IsLeftOut (setting_with rules.now table.now.fit.now) base.now rover.now number)
         (IsEntryAt (setting_with rules.now table.now.fit.now) base.now rover.now pair number) }

@@ -17,7 +17,7 @@ use Rattle.slip_arcs.specs.Used.{entry_in, is_used}
 use Rattle.slip_arcs.specs.Runs.{IsArc, run_of}
 use Rattle.slip_arcs.specs.Linked.{AreNeighbours, IsCutOf}
 use Rattle.slip_arcs.proofs.Kept.{kept_each}
-use Rattle.screening.specs.Entries.{IsGpsNumber, AreNumbered}
+use Rattle.screening.specs.Entries.{IsSatNumber, AreNumbered}
 use Rattle.row_build.specs.HeldArcs.{holds_pair}
 use Rattle.row_build.proofs.ArcLaws.{held_ends}
 use Rattle.round_steps.specs.Shifts.{AreSameArcs, AreShiftsBelow, without_shifts}
@@ -26,19 +26,19 @@ use Rattle.round_steps.proofs.ShiftLaws.{length_same, free_same, three_below}
 use Rattle.session.proofs.CutLaws.{Like, like, later_is_free}
 
 -- ---- the numbers of satellites
-sat_numbered : (sats : List UsedSat) (sat : ℕ) → All (λ u. IsGpsNumber u.sat) sats → is_some (entry_in sats sat) ≡ true → IsGpsNumber sat
+sat_numbered : (sats : List UsedSat) (sat : ℕ) → All (λ u. IsSatNumber u.sat) sats → is_some (entry_in sats sat) ≡ true → IsSatNumber sat
 sat_numbered [] sat h e = absurd (false≢true e)
 sat_numbered (u ∷ us) sat h e = go (nat_eq u.sat sat) refl (λ r. sat_numbered us sat (λ k d i. h (suc k) d (omega arith)) r) e
   where
     same : (a b : ℕ) → nat_eq a b ≡ true → a ≡ b
     same a b e = grind (arith, nat_tests)
 
-    go : (b : Bool) → nat_eq u.sat sat ≡ b → (is_some (entry_in us sat) ≡ true → IsGpsNumber sat) → is_some (cond b (Some u) (find (λ (v : UsedSat). v.sat == sat) us)) ≡ true → IsGpsNumber sat
-    go true q ih r = subst IsGpsNumber (same u.sat sat q) (h 0 u (omega arith))
+    go : (b : Bool) → nat_eq u.sat sat ≡ b → (is_some (entry_in us sat) ≡ true → IsSatNumber sat) → is_some (cond b (Some u) (find (λ (v : UsedSat). v.sat == sat) us)) ≡ true → IsSatNumber sat
+    go true q ih r = subst IsSatNumber (same u.sat sat q) (h 0 u (omega arith))
     go false q ih r = ih r
 
 record IsUsedWell (used : List UsedPair) (sat i : ℕ) : Type 0 where
-  number : IsGpsNumber sat
+  number : IsSatNumber sat
   inside : i < length used
 
 used_well : (used : List UsedPair) (sat i : ℕ) → All AreNumbered used → is_used used sat i ≡ true → IsUsedWell used sat i
@@ -53,14 +53,10 @@ arc_in_range : (used : List UsedPair) (kept : List Arc) → IsCutOf used kept �
 arc_in_range used kept c few numbered k a is shifts =
     let r : IsArc c.jump used (run_of a) = (kept_each c.jump c.least used kept c.short k a c.kept is).0 in
     let w : IsUsedWell used a.sat a.last = used_well used a.sat a.last numbered (r.run.used_in a.last r.run.order (omega arith)) in
-    record { sat_from = w.number.0; sat_to = of_gps a.sat w.number.1; order = r.run.order; last_in = below a.last (length used) w.inside few; shifts_in = shifts }
+    record { sat_from = w.number.0; sat_to = w.number.1; order = r.run.order; last_in = below a.last (length used) w.inside few; shifts_in = shifts }
   where
     below : (n m : ℕ) → n < m → m ≤ 3600 → n < 3600
     below n m h g = omega arith
-
-    -- the numbers of GPS are among those of all systems
-    of_gps : (n : ℕ) → n ≤ 32 → n ≤ 36
-    of_gps n h = omega arith
 
 -- ---- a pair with four arcs
 few_or : (n : ℕ) (arcs : List Arc) → AreFew n arcs ⊎ ((number : ℕ) × (4 ≤ held arcs number))

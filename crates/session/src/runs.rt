@@ -13,10 +13,10 @@ use cert_data::Outcome;
 use eph_store::NavFile;
 use obs_store::ObsFile;
 use row_build::{base_halves, screen_in};
-use screening::world_of;
 use session_begin::{Begun, Options, SessionFault, begin};
 use slip_arcs::cut;
 use std::alloc::{AllocError, Global};
+use system_world::world_of;
 
 /// The used satellites of the taken pairs, and the arcs that are kept of them.
 pub fn screened(

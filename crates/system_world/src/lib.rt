@@ -1,7 +1,11 @@
-//! The constants of each system.
+//! The constants of each satellite system, by the system's letter.
+//!
+//! `world_of` gives those of Galileo for the letter E, and those of GPS for any other.
+#![tactic(auto)]
+
 ghost use Rattle.std.specs.Prelude.{◌≡◌};
 ghost use Rattle.orbit_clock.specs.Records.{constants_of};
-ghost use Rattle.screening.specs.Worlds.{world_of};
+ghost use Rattle.system_world.specs.Worlds.{world_of};
 
 use orbit_clock::World;
 
