@@ -1,5 +1,5 @@
 -- The satellites' records.
-use Rattle.std.specs.Prelude.{◌≡◌, ℕ, ◌+◌, List, [], ◌∷◌, ℤ, pos, negsuc, ◌-ℤ◌, ◌*ℤ◌, slice_index_or}
+use Rattle.std.specs.Prelude.{◌≡◌, ℕ, ◌+◌, ◌==◌, if◌then◌else◌, List, [], ◌∷◌, ℤ, pos, negsuc, ◌-ℤ◌, ◌*ℤ◌, slice_index_or}
 use Rattle.rational.specs.Rational.{◌≈◌, of_whole}
 use Rattle.eph_store.specs.Decimals.{decimal, value_of}
 use Rattle.eph_store.specs.declared.ephemeris.Eph.{Eph}
@@ -19,13 +19,17 @@ anomaly k = slice_index_or anomalies k (pos 0)
 abbrev pub node : ℕ → ℤ
 node k = (pos 10 *ℤ slice_index_or longitudes k (pos 0)) -ℤ (pos 6 *ℤ anomaly k)
 
--- the record of satellite k + 1: its times are 2024-01-01 00:00:00
-pub record IsSatellite (k : ℕ) (e : Eph) : Type 0 where
+-- the square root of the semi-major axis in tenths of √m: that of Galileo for its letter, E, else that of GPS
+abbrev pub root_a_tenths : ℕ → ℤ
+root_a_tenths letter = if letter == 69 then pos 54406 else pos 51536
+
+-- the record of satellite k + 1 of the system with that letter: its times are 2024-01-01 00:00:00
+pub record IsSatellite (letter k : ℕ) (e : Eph) : Type 0 where
   pub sat : e.sat ≡ k + 1
   pub toc : e.toc.0 ≡ 13881024000000000
   pub toe : e.toe.0 ≡ 13881024000000000
   pub toe_second : e.toe_second ≡ 86400
-  pub root_a : value_of e.root_a ≈ decimal (pos 51536) 1
+  pub root_a : value_of e.root_a ≈ decimal (root_a_tenths letter) 1
   pub ecc : value_of e.ecc ≈ decimal (pos (k + 1)) 3
   pub m0 : value_of e.m0 ≈ decimal (anomaly k) 1
   pub node : value_of e.node ≈ decimal (node k) 2
@@ -66,6 +70,6 @@ pub record AreNormal (e : Eph) : Type 0 where
   pub incl_rate : IsNormal e.incl_rate
 
 -- the records of satellites k + 1, k + 2 and so on
-abbrev pub AreSatellites : ℕ → List Eph → Type 0
-AreSatellites k [] = Unit {0}
-AreSatellites k (e ∷ es) = IsSatellite k e × AreNormal e × AreSatellites (k + 1) es
+abbrev pub AreSatellites : ℕ → ℕ → List Eph → Type 0
+AreSatellites letter k [] = Unit {0}
+AreSatellites letter k (e ∷ es) = IsSatellite letter k e × AreNormal e × AreSatellites letter (k + 1) es

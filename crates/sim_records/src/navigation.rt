@@ -19,10 +19,17 @@ const WEEK: Dec = Dec {
     exp: -9,
 };
 
-fn write_first(out: &mut Vec<u8>, sat: u8, a: Dec, b: Dec, c: Dec) -> Result<(), AllocError>
-    ensures { OnOk result (out.new.items ≡ out.old.items ++ first_line sat a b c) }
+fn write_first(
+    out: &mut Vec<u8>,
+    letter: u8,
+    sat: u8,
+    a: Dec,
+    b: Dec,
+    c: Dec,
+) -> Result<(), AllocError>
+    ensures { OnOk result (out.new.items ≡ out.old.items ++ first_line letter sat a b c) }
 {
-    out.extend_from_slice(b"G")?;
+    out.push(letter)?;
     push_digits(out, sat as u64, 2)?;
     out.extend_from_slice(b" 2024 01 01 00 00 00")?;
     push_number(out, a)?;
@@ -44,10 +51,10 @@ fn write_further(out: &mut Vec<u8>, a: Dec, b: Dec, c: Dec, d: Dec) -> Result<()
     Ok(())
 }
 
-fn write_record(out: &mut Vec<u8>, eph: &Eph) -> Result<(), AllocError>
-    ensures { OnOk result (out.new.items ≡ out.old.items ++ record_text eph.now) }
+fn write_record(out: &mut Vec<u8>, letter: u8, eph: &Eph) -> Result<(), AllocError>
+    ensures { OnOk result (out.new.items ≡ out.old.items ++ record_text letter eph.now) }
 {
-    write_first(out, eph.sat, eph.af0, eph.af1, eph.af2)?;
+    write_first(out, letter, eph.sat, eph.af0, eph.af1, eph.af2)?;
     write_further(out, ZERO, eph.crs, eph.dn, eph.m0)?;
     write_further(out, eph.cuc, eph.ecc, eph.cus, eph.root_a)?;
     write_further(out, SECOND, eph.cic, eph.node, eph.cis)?;
@@ -58,26 +65,27 @@ fn write_record(out: &mut Vec<u8>, eph: &Eph) -> Result<(), AllocError>
     Ok(())
 }
 
-fn write_header(out: &mut Vec<u8>) -> Result<(), AllocError>
-    ensures { OnOk result (out.new.items ≡ out.old.items ++ navigation_header) }
+fn write_header(out: &mut Vec<u8>, letter: u8) -> Result<(), AllocError>
+    ensures { OnOk result (out.new.items ≡ out.old.items ++ navigation_header letter) }
 {
-    out.extend_from_slice(
-        b"     3.04           N: GNSS NAV DATA    G                   RINEX VERSION / TYPE\n",
-    )?;
+    out.extend_from_slice(b"     3.04           N: GNSS NAV DATA    ")?;
+    out.push(letter)?;
+    out.extend_from_slice(b"                   RINEX VERSION / TYPE\n")?;
     out.extend_from_slice(
         b"                                                            END OF HEADER\n",
     )?;
     Ok(())
 }
 
-/// Appends the navigation file of the records. After an `Err` a part of it may have been appended.
-pub fn write_navigation(out: &mut Vec<u8>, records: &[Eph]) -> Result<(), AllocError>
-    ensures written { OnOk result (out.new.items ≡ out.old.items ++ navigation_text records.now) }
+/// Appends the navigation file of the records, which are of the system with that letter. After an `Err` a part of it may have been
+/// appended.
+pub fn write_navigation(out: &mut Vec<u8>, letter: u8, records: &[Eph]) -> Result<(), AllocError>
+    ensures written { OnOk result (out.new.items ≡ out.old.items ++ navigation_text letter records.now) }
     ensures size { OnOk result (length out.new.items ≡ length out.old.items + (155 + 648 * length records.now)) }
 {
-    write_header(out)?;
+    write_header(out, letter)?;
     for eph in records {
-        write_record(out, eph)?;
+        write_record(out, letter, eph)?;
     }
     Ok(())
 }

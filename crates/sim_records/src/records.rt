@@ -3,7 +3,7 @@ ghost use Rattle.std.specs.Prelude.{◌≡◌, ◌+◌, ◌<◌, ◌≤◌, ℤ,
 ghost use Rattle.rational.specs.Rational.{◌≈◌};
 ghost use Rattle.eph_store.specs.Decimals.{decimal, value_of, IsFromTo, IsWithin};
 ghost use Rattle.sim_records.specs.Numbers.{IsNormal};
-ghost use Rattle.sim_records.specs.Satellites.{anomaly, node, IsSatellite, AreNormal, AreSatellites};
+ghost use Rattle.sim_records.specs.Satellites.{anomaly, node, root_a_tenths, IsSatellite, AreNormal, AreSatellites};
 
 use crate::numbers::normal;
 use decimal_text::Dec;
@@ -81,9 +81,23 @@ fn ascending_node(k: u32) -> Dec
     normal(node_hundredths(k), 2)
 }
 
-fn satellite(k: u32) -> Eph
+// The square root of the semi-major axis in √m
+fn root_of_axis(letter: u8) -> Dec
+    ensures value { value_of result ≈ decimal (root_a_tenths letter) 1 }
+    ensures normal { IsNormal result }
+    ensures range { IsFromTo (pos 4500) (pos 6000) 0 result }
+{
+    let mant = if letter == b'E' {
+        5_440_600_000_000
+    } else {
+        5_153_600_000_000
+    };
+    Dec { mant, exp: -9 }
+}
+
+fn satellite(letter: u8, k: u32) -> Eph
     requires { k < 15 }
-    ensures values { IsSatellite k result }
+    ensures values { IsSatellite letter k result }
     ensures normal { AreNormal result }
 {
     Eph {
@@ -109,10 +123,7 @@ fn satellite(k: u32) -> Eph
         },
         ecc: eccentricity(k),
         cus: ZERO,
-        root_a: Dec {
-            mant: 5_153_600_000_000,
-            exp: -9,
-        },
+        root_a: root_of_axis(letter),
         cic: ZERO,
         node: ascending_node(k),
         cis: ZERO,
@@ -133,15 +144,15 @@ fn satellite(k: u32) -> Eph
     }
 }
 
-/// The records of the first satellites, in order.
-pub fn satellites(alloc: Global, sats: u32) -> Result<Vec<Eph>, AllocError>
+/// The records of the first satellites of the system with that letter, in order.
+pub fn satellites(alloc: Global, letter: u8, sats: u32) -> Result<Vec<Eph>, AllocError>
     requires { sats ≤ 15 }
-    ensures records { IfOk result (λ es. AreSatellites 0 es.items) }
+    ensures records { IfOk result (λ es. AreSatellites letter 0 es.items) }
     ensures count { IfOk result (λ es. length es.items ≡ sats) }
 {
     let mut all = Vec::new(alloc);
     for k in 0..sats {
-        all.push(satellite(k))?;
+        all.push(satellite(letter, k))?;
     }
     Ok(all)
 }

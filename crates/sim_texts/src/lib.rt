@@ -1,4 +1,4 @@
-//! The texts of a session that is made up: its observation files, in RINEX 3.04.
+//! The texts of a simulated session: its observation files, in RINEX 3.04.
 #![tactic(auto)]
 
 mod columns;
@@ -6,4 +6,4 @@ mod observations;
 mod signals;
 
 pub use observations::{write_epoch, write_header};
-pub use signals::Signals;
+pub use signals::{Signals, Tracking};

@@ -1,30 +1,52 @@
 // The text of an observation file.
 ghost use Rattle.std.specs.Prelude.{◌≡◌, ◌+◌, ◌*◌, ◌≤◌, ◌++◌, length, All, OnOk};
-ghost use Rattle.sim_texts.specs.Observations.{header_text, epoch_line, satellite_line, satellite_lines, epoch_text, AreInColumns};
+ghost use Rattle.sim_texts.specs.Observations.{version_line, types_line, header_text, epoch_line, fields_text, satellite_line, satellite_lines, epoch_text, AreInColumns, IsInColumns};
+ghost use Rattle.sim_texts.specs.Tracked.{amounts_of};
 
-use crate::Signals;
 use crate::columns::push_fixed;
+use crate::{Signals, Tracking};
 use decimal_text::push_digits;
 use std::alloc::{AllocError, Global};
 
-/// Appends the header: version 3.04, the base's position (6378137 m, 0, 0), no offset of the antenna, the types C1C L1C C2W L2W
+fn write_version(out: &mut Vec<u8>, tracking: Tracking) -> Result<(), AllocError>
+    ensures { OnOk result (out.new.items ≡ out.old.items ++ version_line tracking) }
+{
+    out.extend_from_slice(b"     3.04           OBSERVATION DATA    ")?;
+    out.push(tracking.letter())?;
+    out.extend_from_slice(b"                   RINEX VERSION / TYPE\n")?;
+    Ok(())
+}
+
+fn types_line(tracking: Tracking) -> &'static [u8]
+    ensures { result.now ≡ types_line tracking }
+{
+    match tracking {
+        Tracking::GpsL1L2 => {
+            b"G    4 C1C L1C C2W L2W                                      SYS / # / OBS TYPES\n"
+        }
+        Tracking::GpsL1L2L5 => {
+            b"G    6 C1C L1C C2W L2W C5Q L5Q                              SYS / # / OBS TYPES\n"
+        }
+        Tracking::GalileoE1E5a => {
+            b"E    4 C1C L1C C5Q L5Q                                      SYS / # / OBS TYPES\n"
+        }
+    }
+}
+
+/// Appends the header: version 3.04, the base's position (6378137 m, 0, 0), no offset of the antenna, the types of what is tracked
 /// and GPS time.
-pub fn write_header(out: &mut Vec<u8>) -> Result<(), AllocError>
-    ensures written { OnOk result (out.new.items ≡ out.old.items ++ header_text) }
+pub fn write_header(out: &mut Vec<u8>, tracking: Tracking) -> Result<(), AllocError>
+    ensures written { OnOk result (out.new.items ≡ out.old.items ++ header_text tracking) }
     ensures size { OnOk result (length out.new.items ≤ length out.old.items + 480) }
 {
-    out.extend_from_slice(
-        b"     3.04           OBSERVATION DATA    G                   RINEX VERSION / TYPE\n",
-    )?;
+    write_version(out, tracking)?;
     out.extend_from_slice(
         b"  6378137.0000        0.0000        0.0000                  APPROX POSITION XYZ\n",
     )?;
     out.extend_from_slice(
         b"        0.0000        0.0000        0.0000                  ANTENNA: DELTA H/E/N\n",
     )?;
-    out.extend_from_slice(
-        b"G    4 C1C L1C C2W L2W                                      SYS / # / OBS TYPES\n",
-    )?;
+    out.extend_from_slice(types_line(tracking))?;
     out.extend_from_slice(
         b"  2024     1     1     0     0    0.0000000     GPS         TIME OF FIRST OBS\n",
     )?;
@@ -53,35 +75,63 @@ fn write_epoch_line(
     Ok(())
 }
 
+fn write_fields(alloc: Global, out: &mut Vec<u8>, amounts: &[i64]) -> Result<(), AllocError>
+    ensures { OnOk result (out.new.items ≡ out.old.items ++ fields_text amounts.now) }
+{
+    let Some((first, further)) = amounts.split_first() else {
+        return Ok(());
+    };
+    push_fixed(alloc, out, 14, *first, 3)?;
+    for amount in further {
+        out.extend_from_slice(b"  ")?;
+        push_fixed(alloc, out, 14, *amount, 3)?;
+    }
+    Ok(())
+}
+
+fn write_amounts(
+    alloc: Global,
+    out: &mut Vec<u8>,
+    tracking: Tracking,
+    signals: &Signals,
+) -> Result<(), AllocError>
+    ensures { OnOk result (out.new.items ≡ out.old.items ++ fields_text (amounts_of tracking signals.now)) }
+{
+    let Signals { code, l1, l2, l5 } = *signals;
+    match tracking {
+        Tracking::GpsL1L2 => write_fields(alloc, out, &[code, l1, code, l2]),
+        Tracking::GpsL1L2L5 => write_fields(alloc, out, &[code, l1, code, l2, code, l5]),
+        Tracking::GalileoE1E5a => write_fields(alloc, out, &[code, l1, code, l5]),
+    }
+}
+
 fn write_satellite(
     alloc: Global,
     out: &mut Vec<u8>,
+    tracking: Tracking,
     number: u64,
     signals: &Signals,
 ) -> Result<(), AllocError>
-    requires { AreInColumns signals.now }
-    ensures { OnOk result (out.new.items ≡ out.old.items ++ satellite_line number signals.now) }
+    ensures { OnOk result (out.new.items ≡ out.old.items ++ satellite_line tracking number signals.now) }
 {
-    out.extend_from_slice(b"G")?;
+    out.push(tracking.letter())?;
     push_digits(out, number, 2)?;
-    push_fixed(alloc, out, 14, signals.code, 3)?;
-    out.extend_from_slice(b"  ")?;
-    push_fixed(alloc, out, 14, signals.l1, 3)?;
-    out.extend_from_slice(b"  ")?;
-    push_fixed(alloc, out, 14, signals.code, 3)?;
-    out.extend_from_slice(b"  ")?;
-    push_fixed(alloc, out, 14, signals.l2, 3)?;
+    write_amounts(alloc, out, tracking, signals)?;
     out.extend_from_slice(b"\n")?;
     Ok(())
 }
 
-fn write_satellites(alloc: Global, out: &mut Vec<u8>, sats: &[Signals]) -> Result<(), AllocError>
+fn write_satellites(
+    alloc: Global,
+    out: &mut Vec<u8>,
+    tracking: Tracking,
+    sats: &[Signals],
+) -> Result<(), AllocError>
     requires few { length sats.now ≤ 99 }
-    requires columns { All AreInColumns sats.now }
-    ensures { OnOk result (out.new.items ≡ out.old.items ++ satellite_lines 0 sats.now) }
+    ensures { OnOk result (out.new.items ≡ out.old.items ++ satellite_lines tracking 0 sats.now) }
 {
     for (k, signals) in sats.iter().enumerate() {
-        write_satellite(alloc, out, k as u64 + 1, signals)?;
+        write_satellite(alloc, out, tracking, k as u64 + 1, signals)?;
     }
     Ok(())
 }
@@ -91,16 +141,18 @@ fn write_satellites(alloc: Global, out: &mut Vec<u8>, sats: &[Signals]) -> Resul
 pub fn write_epoch(
     alloc: Global,
     out: &mut Vec<u8>,
+    tracking: Tracking,
     seconds: u32,
     sats: &[Signals],
 ) -> Result<(), AllocError>
     requires seconds { seconds ≤ 86399 }
     requires few { length sats.now ≤ 99 }
     requires columns { All AreInColumns sats.now }
-    ensures written { OnOk result (out.new.items ≡ out.old.items ++ epoch_text seconds sats.now) }
-    ensures size { OnOk result (length out.new.items ≡ length out.old.items + (36 + 66 * length sats.now)) }
+    ensures written { OnOk result (out.new.items ≡ out.old.items ++ epoch_text tracking seconds sats.now) }
+    // 98 bytes for each satellite with all three bands
+    ensures size { OnOk result (length out.new.items ≤ length out.old.items + (36 + 98 * length sats.now)) }
 {
     write_epoch_line(alloc, out, seconds, sats.len() as u32)?;
-    write_satellites(alloc, out, sats)?;
+    write_satellites(alloc, out, tracking, sats)?;
     Ok(())
 }
