@@ -8,16 +8,17 @@ abbrev pub kind_word : Bool → List ℕ
 kind_word true = codes "datum"
 kind_word false = codes "free"
 
-abbrev pub arc_line : Arc → List ℕ
-arc_line a = codes "arc G" ++ (decimal (a.sat / 10) ++
-    (decimal (a.sat % 10) ++ (codes " " ++ (decimal a.first ++ (codes " " ++ (decimal a.last ++ (codes " " ++ (kind_word a.datum ++ codes "\n"))))))))
+-- a satellite of this system has two digits
+abbrev pub arc_line : ℕ → Arc → List ℕ
+arc_line system a = codes "arc " ++ ((system ∷ []) ++ (decimal (a.sat / 10) ++
+    (decimal (a.sat % 10) ++ (codes " " ++ (decimal a.first ++ (codes " " ++ (decimal a.last ++ (codes " " ++ (kind_word a.datum ++ codes "\n")))))))))
 
-abbrev pub arc_lines : List Arc → List ℕ
-arc_lines [] = []
-arc_lines (a ∷ arcs) = arc_line a ++ arc_lines arcs
+abbrev pub arc_lines : ℕ → List Arc → List ℕ
+arc_lines system [] = []
+arc_lines system (a ∷ arcs) = arc_line system a ++ arc_lines system arcs
 
 abbrev pub short_line : ℕ → List ℕ
 short_line n = codes "short " ++ (decimal n ++ codes "\n")
 
-unfoldable pub arcs_text : List Arc → ℕ → List ℕ
-arcs_text kept short = arc_lines kept ++ short_line short
+unfoldable pub arcs_text : ℕ → List Arc → ℕ → List ℕ
+arcs_text system kept short = arc_lines system kept ++ short_line short

@@ -7,6 +7,6 @@
 mod numbers;
 
 pub use numbers::{
-    BAND_DIGITS, BANDS_L1_L2, BANDS_L1_L2_L5, BANDS_L1_L5, PHASE_SIGNALS, bands_of, digits_law,
-    is_bands_number, phases_law,
+    BAND_DIGITS, BANDS_L1_L2, BANDS_L1_L2_L5, BANDS_L1_L5, bands_of, digits_law, is_bands_number,
+    phase_of,
 };

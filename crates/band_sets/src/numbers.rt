@@ -2,7 +2,7 @@
 ghost use Rattle.std.specs.Prelude.{◌≡◌, ◌<◌, ◌↔◌, ℕ, [], ◌∷◌, All, IsTrue, map, codes};
 ghost use Rattle.std.specs.Fmt.{decimal};
 ghost use Rattle.obs_rows.specs.declared.units.TheConstants.{PHASES, SIGNALS};
-ghost use Rattle.obs_rows.specs.Signals.{band, is_phase};
+ghost use Rattle.obs_rows.specs.Signals as signals;
 ghost use Rattle.band_sets.specs.declared.numbers.TheConstants.{BANDS_L1_L2, BANDS_L1_L5, BANDS_L1_L2_L5, BAND_DIGITS};
 ghost use Rattle.band_sets.specs.BandSets.{IsBandsNumber, bands_of, digit_of, phase_of};
 
@@ -43,6 +43,17 @@ pub fn bands_of(number: u16) -> &'static [usize]
     }
 }
 
+/// The phase on a band, by its number among the signals.
+pub fn phase_of(band: usize) -> usize
+    requires band { band < PHASES }
+    ensures signal { result ≡ phase_of band }
+    ensures small { result < SIGNALS }
+    ensures phase { IsTrue (signals.is_phase result) }
+    ensures band { signals.band result ≡ band }
+{
+    PHASE_SIGNALS[band]
+}
+
 /// What the numbers are, and that each is written with the digits of its bands.
 pub fn digits_law()
     ensures l1_l2 { BANDS_L1_L2 ≡ 12 }
@@ -50,11 +61,4 @@ pub fn digits_law()
     ensures all { BANDS_L1_L2_L5 ≡ 125 }
     ensures digits { BAND_DIGITS ≡ codes "125" }
     ensures numbers { (n : ℕ) → IsBandsNumber n → map digit_of (bands_of n) ≡ decimal n }
-{}
-
-/// The signal that is named for a band is a phase on it.
-pub fn phases_law()
-    ensures signals { (b : ℕ) → b < PHASES → phase_of b < SIGNALS }
-    ensures bands { (b : ℕ) → b < PHASES → band (phase_of b) ≡ b }
-    ensures phases { (b : ℕ) → b < PHASES → IsTrue (is_phase (phase_of b)) }
 {}

@@ -1,14 +1,12 @@
 //! Which tracking code of each band both receivers observe.
-ghost use Rattle.std.specs.Prelude.{◌≡◌, ◌<◌, ◌⊎◌, ℕ, true, None, All, MatchOption, slice_index_or};
-ghost use Rattle.obs_rows.specs.declared.units.TheConstants.{PHASES, BANDS_12, BANDS_15, BANDS_125};
-ghost use Rattle.epoch_pair.specs.declared.shared.TheConstants.{BAND_DIGITS};
+ghost use Rattle.std.specs.Prelude.{◌≡◌, ◌<◌, ℕ, true, None, All, MatchOption};
+ghost use Rattle.obs_rows.specs.declared.units.TheConstants.{PHASES};
+ghost use Rattle.band_sets.specs.BandSets.{IsBandsNumber, bands_of, digit_of};
 ghost use Rattle.epoch_pair.specs.Signals.{is_listed, is_common, common_letter, letters_on, letter_on, is_among, IsLetterFor, AreLettersOf, LacksLetter, IsKeptLetter};
 
-use obs_rows::{BANDS_12, L1_LETTERS, L2_LETTERS, L5_LETTERS, PHASES, Signals};
+use band_sets::{BAND_DIGITS, bands_of};
+use obs_rows::{L1_LETTERS, L2_LETTERS, L5_LETTERS, Signals};
 use obs_store::{ObsFile, ObsType};
-
-/// The digit of each band in the name of an observation type.
-pub const BAND_DIGITS: [u8; PHASES] = [b'1', b'2', b'5'];
 
 // Whether the header lists the type of this kind (`C` a code, `L` a phase), digit and letter.
 fn lists(file: &ObsFile, kind: u8, digit: u8, letter: u8) -> bool
@@ -55,25 +53,28 @@ fn is_among(bands: &[usize], band: usize) -> bool
     bands.iter().any(|b| *b == band)
 }
 
-// The letter of a band, and 0 for one that is not among these. `None` where it is among them and has no letter.
-fn letter_for(base: &ObsFile, rover: &ObsFile, bands: &[usize], band: usize) -> Option<u8>
-    requires { band < PHASES }
+// The letter of a band, and 0 for one that isn't among those of the number. `None` where it is among them and has no letter.
+fn letter_for(base: &ObsFile, rover: &ObsFile, bands: u16, band: usize) -> Option<u8>
+    requires bands { IsBandsNumber bands }
+    requires band { band < PHASES }
     ensures { MatchOption result
-        ((is_among bands.now band ≡ true) × (letter_on base.now.listed rover.now.listed band ≡ None))
-        (λ letter. IsLetterFor (is_among bands.now band) (letter_on base.now.listed rover.now.listed band) letter) }
+        ((is_among (bands_of bands) band ≡ true) × (letter_on base.now.listed rover.now.listed band ≡ None))
+        (λ letter. IsLetterFor (is_among (bands_of bands) band) (letter_on base.now.listed rover.now.listed band) letter) }
 {
-    if !is_among(bands, band) {
+    if !is_among(bands_of(bands), band) {
         return Some(0);
     }
     first_shared(base, rover, BAND_DIGITS[band], letters_on(band))
 }
 
-// L1 is used, and one more band at least.
-fn signals_on(base: &ObsFile, rover: &ObsFile, bands: &[usize]) -> Option<Signals>
-    requires { (bands.now ≡ BANDS_12) ⊎ ((bands.now ≡ BANDS_15) ⊎ (bands.now ≡ BANDS_125)) }
+/// On each of the bands of this number the first letter, in the order of `L1_LETTERS`, `L2_LETTERS` and `L5_LETTERS`, for
+/// which both headers list the code and its phase (RINEX 3, observation codes), and 0 on any other band. `None` where one
+/// of the bands has no such letter.
+pub fn signals(base: &ObsFile, rover: &ObsFile, bands: u16) -> Option<Signals>
+    requires { IsBandsNumber bands }
     ensures { MatchOption result
-        (LacksLetter bands.now base.now.listed rover.now.listed)
-        (AreLettersOf bands.now base.now.listed rover.now.listed) }
+        (LacksLetter (bands_of bands) base.now.listed rover.now.listed)
+        (AreLettersOf (bands_of bands) base.now.listed rover.now.listed) }
 {
     let l1 = letter_for(base, rover, bands, 0)?;
     let l2 = letter_for(base, rover, bands, 1)?;
@@ -81,17 +82,7 @@ fn signals_on(base: &ObsFile, rover: &ObsFile, bands: &[usize]) -> Option<Signal
     Some(Signals { l1, l2, l5 })
 }
 
-/// On L1 and on L2 the first letter, in the order of `L1_LETTERS` and `L2_LETTERS`, for which both headers list the
-/// code and its phase (RINEX 3, observation codes), and 0 on L5. `None` where L1 or L2 has no such letter.
-pub fn signals(base: &ObsFile, rover: &ObsFile) -> Option<Signals>
-    ensures { MatchOption result
-        (LacksLetter BANDS_12 base.now.listed rover.now.listed)
-        (AreLettersOf BANDS_12 base.now.listed rover.now.listed) }
-{
-    signals_on(base, rover, &BANDS_12)
-}
-
 /// Each letter that is tried on a band names a code and a phase that are kept, so none of them is passed over unread.
 pub fn kept_letters_law()
-    ensures { (band : ℕ) → band < PHASES → All (IsKeptLetter (slice_index_or BAND_DIGITS band 0)) (letters_on band) }
+    ensures { (band : ℕ) → band < PHASES → All (IsKeptLetter (digit_of band)) (letters_on band) }
 {}

@@ -1,5 +1,5 @@
 -- How many pairs rise below a number, and why two files are refused.
-use Rattle.std.proofs.Common.{◌≡◌, ℕ, suc, ◌+◌, ◌<◌, ◌≤◌, Bool, Some, List, [], ◌∷◌, length, All, AllPairs, arith, sym, ap, ◌∙◌, subst}
+use Rattle.std.proofs.Common.{◌≡◌, ℕ, suc, ◌+◌, ◌<◌, ◌≤◌, Bool, Some, List, [], ◌∷◌, length, All, AllPairs, arith, sym, ◌∙◌, subst}
 use Rattle.std.proofs.lemmas.Option.{none-some}
 use Rattle.obs_store.specs.declared.file.ObsFile.{ObsFile}
 use Rattle.obs_store.specs.Epochs.{tags_of}
@@ -9,8 +9,8 @@ use Rattle.epoch_pair.specs.declared.pairs.PairFault.TheVariants.{Dense, NoMemor
 use Rattle.epoch_pair.specs.Faults.{IsPairFault}
 use Rattle.run_options.specs.declared.options.Options.{Options}
 use Rattle.session_begin.specs.declared.faults.SessionFault.{SessionFault}
-use Rattle.session_begin.specs.Beginnings.{bands_numbered, bands_of, HasPosition, HaveSignals, LackSignal, IsSessionFault, fault_of}
-use Rattle.obs_rows.specs.declared.units.TheConstants.{BANDS_12}
+use Rattle.session_begin.specs.Beginnings.{HasPosition, HaveSignals, LackSignal, IsSessionFault, fault_of}
+use Rattle.band_sets.specs.BandSets.{bands_of}
 use Rattle.epoch_pair.specs.Pairs.{Follows}
 use Rattle.epoch_pair.specs.Signals.{letter_on, letter_of, IsLetterFor}
 
@@ -27,10 +27,6 @@ rising_from (x ∷ xs) lo n r a b h =
 pub few_pairs : (xs : List PairOf) (n : ℕ) → AllPairs Follows xs → All (λ p. p.base < n) xs → length xs ≤ n
 few_pairs xs n r b = let h : 0 + length xs ≤ n = rising_from xs 0 n r (λ k d i. omega arith) b (omega arith) in omega arith
 
--- the bands of a run are L1 and L2
-pub on_l1_l2 : (o : Options) → BANDS_12 ≡ bands_of o
-on_l1_l2 o = ap bands_numbered (sym o.on_bands)
-
 -- files that share a letter on each of these bands lack none
 pub no_lack : (bands : List ℕ) (base rover : ObsFile) → HaveSignals bands base rover → LackSignal bands base rover → ⊥
 no_lack bands base rover (s, are) lack =
@@ -38,7 +34,7 @@ no_lack bands base rover (s, are) lack =
     subst (λ (used : Bool). IsLetterFor used (letter_on base.listed rover.listed lack.band) (letter_of s lack.band)) lack.is_used (are lack.band lack.inside) in
     none-some (letter_of s lack.band) (sym lack.none ∙ found)
 
-pub refused_pair : (base rover : ObsFile) (o : Options) (f : PairFault) (r : SessionFault) → r ≡ fault_of f → HasPosition base → HaveSignals (bands_of o) base rover
+pub refused_pair : (base rover : ObsFile) (o : Options) (f : PairFault) (r : SessionFault) → r ≡ fault_of f → HasPosition base → HaveSignals (bands_of o.bands) base rover
     → IsPairFault o.gap (tags_of base.epochs) (tags_of rover.epochs) f → IsSessionFault base rover o r
 refused_pair base rover o (Dense in_rover epoch) r e p s h = subst (IsSessionFault base rover o) (sym e) (p, (s, h))
 refused_pair base rover o NoMemory r e p s h = subst (IsSessionFault base rover o) (sym e) (p, (s, h))

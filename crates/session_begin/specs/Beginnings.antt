@@ -1,6 +1,5 @@
 -- What two files have in common before a run.
-use Rattle.std.specs.Prelude.{◌≡◌, ◌==◌, if◌then◌else◌, ℕ, List, Some, ℤ}
-use Rattle.obs_rows.specs.declared.units.TheConstants.{BANDS_12, BANDS_15, BANDS_125}
+use Rattle.std.specs.Prelude.{◌≡◌, ℕ, List, Some, ℤ}
 use Rattle.obs_rows.specs.declared.bands.Signals.{Signals}
 use Rattle.obs_store.specs.declared.file.ObsFile.{ObsFile}
 use Rattle.obs_store.specs.Epochs.{tags_of}
@@ -10,6 +9,7 @@ use Rattle.epoch_pair.specs.declared.pairs.PairFault.TheVariants as PairFault
 use Rattle.epoch_pair.specs.Pairs.{all_pairs, AreApart, IsTaken}
 use Rattle.epoch_pair.specs.Faults.{IsDense}
 use Rattle.epoch_pair.specs.Signals.{AreLettersOf, LacksLetter}
+use Rattle.band_sets.specs.BandSets.{bands_of}
 use Rattle.run_options.specs.declared.options.Options.{Options}
 use Rattle.obs_rows.specs.ReceiverPoints.{IsReceiverPoint}
 use Rattle.session_begin.specs.declared.faults.PairWhat.TheVariants.{NoBasePosition, NoSignal, Dense}
@@ -26,14 +26,6 @@ HasPosition file = (p : List ℤ) × IsPosition file p
 
 abbrev pub LacksPosition : ObsFile → Type 0
 LacksPosition file = HasPosition file → ⊥
-
--- the bands whose digits are those of the number, 0 for L1, 1 for L2, 2 for L5
-abbrev pub bands_numbered : ℕ → List ℕ
-bands_numbered n = if n == 15 then BANDS_15 else if n == 125 then BANDS_125 else BANDS_12
-
--- those of which each needs a letter
-abbrev pub bands_of : Options → List ℕ
-bands_of o = bands_numbered o.bands
 
 -- on each of these bands the first letter for which both headers list code and phase, and 0 on any other
 abbrev pub AreSignals : List ℕ → ObsFile → ObsFile → Signals → Type 0
@@ -54,10 +46,10 @@ AreSparse gap base rover = AreApart gap (tags_of base.epochs) × AreApart gap (t
 -- so. Where memory runs out none of them is
 abbrev pub IsSessionFault : ObsFile → ObsFile → Options → SessionFault → Type 0
 IsSessionFault base rover o (Refused NoBasePosition) = LacksPosition base
-IsSessionFault base rover o (Refused NoSignal) = HasPosition base × LackSignal (bands_of o) base rover
+IsSessionFault base rover o (Refused NoSignal) = HasPosition base × LackSignal (bands_of o.bands) base rover
 IsSessionFault base rover o (Refused (Dense in_rover epoch)) =
-    HasPosition base × (HaveSignals (bands_of o) base rover × IsDense o.gap (tags_of base.epochs) (tags_of rover.epochs) in_rover epoch)
-IsSessionFault base rover o NoMemory = HasPosition base × (HaveSignals (bands_of o) base rover × AreSparse o.gap base rover)
+    HasPosition base × (HaveSignals (bands_of o.bands) base rover × IsDense o.gap (tags_of base.epochs) (tags_of rover.epochs) in_rover epoch)
+IsSessionFault base rover o NoMemory = HasPosition base × (HaveSignals (bands_of o.bands) base rover × AreSparse o.gap base rover)
 
 abbrev pub fault_of : PairFault → SessionFault
 fault_of (PairFault.Dense in_rover epoch) = Refused (Dense in_rover epoch)

@@ -2,7 +2,8 @@
 ghost use Rattle.std.specs.Prelude.{◌≡◌, ◌<◌, ◌≤◌, All, AllPairs, length, MatchOption, IfOk, IfErr};
 ghost use Rattle.obs_store.specs.Epochs.{tags_of};
 ghost use Rattle.epoch_pair.specs.Pairs.{Follows, IsNearPair};
-ghost use Rattle.session_begin.specs.Beginnings.{IsPosition, LacksPosition, bands_of, AreSignals, AreSparse, IsSessionFault, pairs_of, AreTaken, fault_of};
+ghost use Rattle.band_sets.specs.BandSets.{bands_of};
+ghost use Rattle.session_begin.specs.Beginnings.{IsPosition, LacksPosition, AreSignals, AreSparse, IsSessionFault, pairs_of, AreTaken, fault_of};
 
 use crate::{PairWhat, SessionFault};
 use epoch_pair::{PairFault, PairOf, pair, signals, take};
@@ -68,7 +69,7 @@ pub fn begin(
 ) -> Result<Begun, SessionFault>
     ensures refused { IfErr result (IsSessionFault base.now rover.now options.now) }
     ensures position { IfOk result (λ b. IsPosition base.now b.position) }
-    ensures signals { IfOk result (λ b. AreSignals (bands_of options.now) base.now rover.now b.signals) }
+    ensures signals { IfOk result (λ b. AreSignals (bands_of options.now.bands) base.now rover.now b.signals) }
     ensures sparse { IfOk result (λ b. AreSparse options.now.gap base.now rover.now) }
     ensures all { IfOk result (λ b. b.all ≡ length (pairs_of base.now rover.now options.now)) }
     ensures taken { IfOk result (λ b. AreTaken base.now rover.now options.now b.taken.items) }
@@ -79,7 +80,7 @@ pub fn begin(
     let Some(position) = position_of(base) else {
         return Err(SessionFault::Refused(PairWhat::NoBasePosition));
     };
-    let Some(signals) = signals(base, rover) else {
+    let Some(signals) = signals(base, rover, options.bands) else {
         return Err(SessionFault::Refused(PairWhat::NoSignal));
     };
     let pairs = match pair(alloc, base, rover, options.gap) {

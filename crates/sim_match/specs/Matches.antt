@@ -1,5 +1,5 @@
 -- When the integers of a fix are those that its session was made with.
-use Rattle.std.specs.Prelude.{◌≡◌, ◌-◌, ◌<◌, ◌≤◌, ℕ, ℤ, pos, ◌+ℤ◌, ◌-ℤ◌, IsTrue, Some, List, All, length, slice_get, slice_index_or}
+use Rattle.std.specs.Prelude.{◌≡◌, ◌-◌, ◌≤◌, ℕ, ℤ, pos, ◌+ℤ◌, ◌-ℤ◌, IsTrue, Some, List, All, length, slice_get, slice_index_or}
 use Rattle.obs_rows.specs.declared.arcs.Arc.{Arc}
 use Rattle.obs_rows.specs.Arcs.{is_free}
 use Rattle.obs_rows.specs.Signals.{fine_signals, is_phase, band}
@@ -25,10 +25,6 @@ found arcs ss z k a e s = (slice_index_or a.shift (band s) (pos 0) +ℤ integer 
 abbrev pub wanted : List ℤ → List ℤ → ℕ → ℤ
 wanted of_arc of_datum s = slice_index_or of_arc (band s) (pos 0) -ℤ slice_index_or of_datum (band s) (pos 0)
 
--- cycles were made on the band of phase s, and these are they
-abbrev pub IsAsMade : List ℤ → List ℤ → ℕ → ℤ → Type 0
-IsAsMade of_arc of_datum s cycles = (band s < length of_arc) × (cycles ≡ wanted of_arc of_datum s)
-
 -- against its datum e, arc number k has in each phase the cycles that it was made with. Those of satellite number n stand at
 -- place n - 1 of the truth, by bands
 pub record AgreesWith (truth : List (List ℤ)) (arcs : List Arc) (ss : List ℕ) (z : List ℤ) (k : ℕ) (a e : Arc) : Type 0 where
@@ -36,7 +32,7 @@ pub record AgreesWith (truth : List (List ℤ)) (arcs : List Arc) (ss : List ℕ
   pub of_arc_is : slice_get truth (a.sat - 1) ≡ Some of_arc
   pub of_datum : List ℤ
   pub of_datum_is : slice_get truth (e.sat - 1) ≡ Some of_datum
-  pub cycles : All (λ s. IsTrue (is_phase s) → IsAsMade of_arc of_datum s (found arcs ss z k a e s)) ss
+  pub cycles : All (λ s. IsTrue (is_phase s) → found arcs ss z k a e s ≡ wanted of_arc of_datum s) ss
 
 -- so it does against the datum of its linked set
 pub record HasTruth (truth : List (List ℤ)) (arcs : List Arc) (ss : List ℕ) (z : List ℤ) (k : ℕ) (a : Arc) : Type 0 where

@@ -3,14 +3,14 @@ ghost use Rattle.std.specs.Prelude.{◌≡◌, ◌-◌, ◌^◌, ◌<◌, ◌≤
 ghost use Rattle.obs_rows.specs.declared.arcs.Arc.{Arc};
 ghost use Rattle.obs_rows.specs.Arcs.{is_free, free_count};
 ghost use Rattle.obs_rows.specs.Integers.{integer_count};
-ghost use Rattle.obs_rows.specs.Signals.{fine_signals, is_phase, band, AreCounted};
+ghost use Rattle.obs_rows.specs.Signals.{fine_signals, is_phase, AreCounted};
 ghost use Rattle.obs_rows.specs.declared.units.TheConstants.{SIGNALS, MOST_FREE_ARCS};
-ghost use Rattle.sim_match.specs.Matches.{found, wanted, IsAsMade, AgreesWith, HasTruth, HaveTruth, IsMatched, AreMarked, HasMarkedArcs};
+ghost use Rattle.sim_match.specs.Matches.{found, wanted, AgreesWith, HasTruth, HaveTruth, IsMatched, AreMarked, HasMarkedArcs};
 
 use crate::datums::datum_of;
 use cert_data::{Answer, Cert, Tail};
 use fix_decide::integer_of;
-use obs_rows::{Arc, BANDS, WAVELENGTHS, fine_signals};
+use obs_rows::{Arc, BANDS, PHASES, WAVELENGTHS, fine_signals};
 
 // The whole cycles of a phase: its shift and its integer.
 fn cycles_of(shift: i64, integer: i64) -> i128
@@ -52,36 +52,32 @@ fn found(
 // The cycles that an arc and its datum were made with, by bands.
 #[derive(Clone, Copy)]
 struct Made {
-    of_arc: [i64; 2],
-    of_datum: [i64; 2],
+    of_arc: [i64; PHASES],
+    of_datum: [i64; PHASES],
 }
 
 // The cycles of the arc less those of the datum, on the band of a phase.
 fn wanted(made: &Made, phase: usize) -> i128
     requires phase { phase < SIGNALS }
-    requires made { band phase < 2 }
     ensures { result ≡ wanted made.now.of_arc made.now.of_datum phase }
 {
     let band = BANDS[phase];
     i128::from(made.of_arc[band]) - i128::from(made.of_datum[band])
 }
 
-// Whether the signal is no phase, or these are the cycles that were made on its band. None were made on L5.
+// Whether the signal is no phase, or these are the cycles that were made on its band.
 fn is_as_made(made: &Made, signal: usize, cycles: i128) -> bool
     requires { signal < SIGNALS }
-    ensures { IsTrue result ↔ (IsTrue (is_phase signal) → IsAsMade made.now.of_arc made.now.of_datum signal cycles) }
+    ensures { IsTrue result ↔ (IsTrue (is_phase signal) → cycles ≡ wanted made.now.of_arc made.now.of_datum signal) }
 {
     if WAVELENGTHS[signal] <= 0 {
         return true;
-    }
-    if BANDS[signal] >= made.of_arc.len() {
-        return false;
     }
     cycles == wanted(made, signal)
 }
 
 // The cycles that a satellite was made with.
-fn truth_of(truth: &[[i64; 2]], sat: u8) -> Option<[i64; 2]>
+fn truth_of(truth: &[[i64; PHASES]], sat: u8) -> Option<[i64; PHASES]>
     ensures { result ≡ slice_get truth.now (sat - 1) }
 {
     truth.get(usize::from(sat.saturating_sub(1))).copied()
@@ -101,7 +97,7 @@ fn agrees_with(
     requires counted { AreCounted signals.now }
     requires inside { k < length arcs.now }
     requires entries { length z.now ≡ integer_count arcs.now signals.now }
-    ensures { IsTrue result ↔ All (λ s. IsTrue (is_phase s) → IsAsMade made.now.of_arc made.now.of_datum s (found arcs.now signals.now z.now k arc.now datum.now s)) signals.now }
+    ensures { IsTrue result ↔ All (λ s. IsTrue (is_phase s) → found arcs.now signals.now z.now k arc.now datum.now s ≡ wanted made.now.of_arc made.now.of_datum s) signals.now }
 {
     for signal in signals {
         let cycles = found(arcs, signals, z, k, arc, datum, *signal);
@@ -114,7 +110,7 @@ fn agrees_with(
 
 // Whether arc k, which this is, has against its datum the cycles that it was made with.
 fn agrees(
-    truth: &[[i64; 2]],
+    truth: &[[i64; PHASES]],
     arcs: &[Arc],
     signals: &[usize],
     z: &[i64],
@@ -139,7 +135,7 @@ fn agrees(
 }
 
 // Whether arc k, where it is free, has the cycles that it was made with.
-fn has_truth(truth: &[[i64; 2]], arcs: &[Arc], signals: &[usize], z: &[i64], k: usize) -> bool
+fn has_truth(truth: &[[i64; PHASES]], arcs: &[Arc], signals: &[usize], z: &[i64], k: usize) -> bool
     requires free { free_count arcs.now ≤ MOST_FREE_ARCS }
     requires counted { AreCounted signals.now }
     requires inside { k < length arcs.now }
@@ -157,7 +153,7 @@ fn has_truth(truth: &[[i64; 2]], arcs: &[Arc], signals: &[usize], z: &[i64], k: 
 }
 
 // Whether all free arcs have the cycles that they were made with.
-fn have_truth(truth: &[[i64; 2]], arcs: &[Arc], signals: &[usize], z: &[i64]) -> bool
+fn have_truth(truth: &[[i64; PHASES]], arcs: &[Arc], signals: &[usize], z: &[i64]) -> bool
     requires free { free_count arcs.now ≤ MOST_FREE_ARCS }
     requires counted { AreCounted signals.now }
     requires entries { length z.now ≡ integer_count arcs.now signals.now }
@@ -172,7 +168,7 @@ fn have_truth(truth: &[[i64; 2]], arcs: &[Arc], signals: &[usize], z: &[i64]) ->
     true
 }
 
-fn is_matched_cert(truth: &[[i64; 2]], cert: &Cert) -> bool
+fn is_matched_cert(truth: &[[i64; PHASES]], cert: &Cert) -> bool
     requires { AreMarked cert.now.session.arcs }
     ensures { IsTrue result ↔ IsMatched truth.now (Answer.Full cert.now) }
 {
@@ -187,8 +183,9 @@ fn is_matched_cert(truth: &[[i64; 2]], cert: &Cert) -> bool
     }
 }
 
-/// Whether the answer is a fix with the integers of the truth, in which the cycles of satellite n stand at place n - 1.
-pub fn is_matched(truth: &[[i64; 2]], answer: &Answer) -> bool
+/// Whether the answer is a fix with the integers of the truth, in which the cycles of satellite n on L1, L2 and L5 stand at
+/// place n - 1.
+pub fn is_matched(truth: &[[i64; PHASES]], answer: &Answer) -> bool
     requires { HasMarkedArcs answer.now }
     ensures { IsTrue result ↔ IsMatched truth.now answer.now }
 {

@@ -11,24 +11,24 @@ pub record Run : Type 0 where
   pub last : ℕ
 
 -- the satellite is used in each pair of the run, without a cut between two of them
-pub record IsRun (jump : ℕ) (used : List UsedPair) (r : Run) : Type 0 where
+pub record IsRun (bands : List ℕ) (jump : ℕ) (used : List UsedPair) (r : Run) : Type 0 where
   pub order : r.first ≤ r.last
   pub used_in : (i : ℕ) → r.first ≤ i → i ≤ r.last → is_used used r.sat i ≡ true
-  pub uncut : (i : ℕ) → r.first ≤ i → i < r.last → is_cut_after jump used r.sat i ≡ false
+  pub uncut : (i : ℕ) → r.first ≤ i → i < r.last → is_cut_after bands jump used r.sat i ≡ false
 
 -- a run that no longer run of the satellite holds
-pub record IsArc (jump : ℕ) (used : List UsedPair) (r : Run) : Type 0 where
-  pub run : IsRun jump used r
-  pub maximal : (s : Run) → IsRun jump used s → s.sat ≡ r.sat → s.first ≤ r.first → r.last ≤ s.last → (s.first ≡ r.first) × (s.last ≡ r.last)
+pub record IsArc (bands : List ℕ) (jump : ℕ) (used : List UsedPair) (r : Run) : Type 0 where
+  pub run : IsRun bands jump used r
+  pub maximal : (s : Run) → IsRun bands jump used s → s.sat ≡ r.sat → s.first ≤ r.first → r.last ≤ s.last → (s.first ≡ r.first) × (s.last ≡ r.last)
 
 -- by first pair, then by satellite
 abbrev pub Precedes : Run → Run → Type 0
 Precedes r s = (r.first < s.first) ⊎ ((r.first ≡ s.first) × (r.sat < s.sat))
 
 -- exactly the arcs, in order
-pub record AreArcs (jump : ℕ) (used : List UsedPair) (runs : List Run) : Type 0 where
-  pub each : All (IsArc jump used) runs
-  pub complete : (r : Run) → IsArc jump used r → Contains runs r
+pub record AreArcs (bands : List ℕ) (jump : ℕ) (used : List UsedPair) (runs : List Run) : Type 0 where
+  pub each : All (IsArc bands jump used) runs
+  pub complete : (r : Run) → IsArc bands jump used r → Contains runs r
   pub order : AllPairs Precedes runs
 
 -- the run has at least so many pairs
@@ -39,9 +39,9 @@ abbrev pub run_of : Arc → Run
 run_of a = record { sat = a.sat; first = a.first; last = a.last }
 
 -- of the arcs those that are long enough, in order, and the number of the others
-pub record AreKept (jump least : ℕ) (used : List UsedPair) (kept : List Arc) (short : ℕ) : Type 0 where
+pub record AreKept (bands : List ℕ) (jump least : ℕ) (used : List UsedPair) (kept : List Arc) (short : ℕ) : Type 0 where
   pub runs : List Run
-  pub all : AreArcs jump used runs
+  pub all : AreArcs bands jump used runs
   pub kept_are : map run_of kept ≡ filter (is_long least) runs
   pub short_is : short ≡ count_by (λ r. not (is_long least r)) runs
 

@@ -1,5 +1,6 @@
 //! The arcs of all satellites, in one pass over the pairs.
 ghost use Rattle.std.specs.Prelude.{◌≡◌, ◌≤◌, pos, [], ◌∷◌, length, IfOk, All};
+ghost use Rattle.band_sets.specs.BandSets.{IsBandsNumber, bands_of};
 ghost use Rattle.used_svs.specs.Ranges.{IsInRange};
 ghost use Rattle.slip_arcs.specs.Runs.{AreKept};
 ghost use Rattle.slip_arcs.specs.Linked.{HaveDatums};
@@ -17,14 +18,21 @@ pub struct Arcs {
     pub short: u32,
 }
 
-/// The arcs of at least `least` pairs, with a cut where power failed, where lock was lost, and where the phases
-/// jump by more than `jump` κ against each other. All shifts are 0. Refused only for want of memory.
+/// The arcs of at least `least` pairs, with a cut where power failed, where lock was lost, and where the phase on one of
+/// the bands jumps by more than `jump` κ against that on L1. All shifts are 0. Refused only for want of memory.
 ///
 /// An arc is looked at from its first pair to its last and never again, so the work grows with the entries alone.
-pub fn cut(alloc: Global, used: &[UsedPair], jump: u32, least: u32) -> Result<Arcs, AllocError>
+pub fn cut(
+    alloc: Global,
+    used: &[UsedPair],
+    bands: u16,
+    jump: u32,
+    least: u32,
+) -> Result<Arcs, AllocError>
+    requires bands { IsBandsNumber bands }
     requires few { length used.now ≤ 3600 }
     requires ranges { All IsInRange used.now }
-    ensures kept { IfOk result (λ arcs. AreKept jump least used.now arcs.kept arcs.short) }
+    ensures kept { IfOk result (λ arcs. AreKept (bands_of bands) jump least used.now arcs.kept arcs.short) }
     ensures datums { IfOk result (λ arcs. HaveDatums arcs.kept) }
     ensures shifts { IfOk result (λ arcs. All (λ a. a.shift ≡ pos 0 ∷ pos 0 ∷ pos 0 ∷ []) arcs.kept) }
 {
@@ -36,10 +44,10 @@ pub fn cut(alloc: Global, used: &[UsedPair], jump: u32, least: u32) -> Result<Ar
     'pairs: for at in 0..used.len() {
         'sats: for k in 0..used[at].sats.len() {
             let sat = used[at].sats[k].sat;
-            if at > 0 && does_go_on(used, at - 1, sat, jump) {
+            if at > 0 && does_go_on(used, at - 1, sat, bands, jump) {
                 continue;
             }
-            let last = last_of(used, at, sat, jump);
+            let last = last_of(used, at, sat, bands, jump);
             found.add(least, sat, at as u32, last as u32)?;
         }
     }

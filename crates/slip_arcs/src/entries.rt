@@ -1,17 +1,26 @@
 //! What the pairs say of one satellite, and how far it goes on without a cut.
 ghost use Rattle.std.specs.Prelude.{◌≡◌, ◌<◌, ◌≤◌, length, All, IfSome, ℕ, true, false};
 ghost use Rattle.std.specs.Option.{option_copied};
+ghost use Rattle.band_sets.specs.BandSets.{IsBandsNumber, bands_of};
 ghost use Rattle.used_svs.specs.Ranges.{IsInRange, IsSmall};
 ghost use Rattle.slip_arcs.specs.Used.{is_cut, entry_in, entry, goes_on};
 
-use crate::phase::{HELD_PHASES, does_jump};
+use crate::phase::does_jump;
+use band_sets::bands_of;
 use used_svs::{UsedPair, UsedSat};
 
 // Whether there is a cut between two entries.
-fn is_cut_between(before: &UsedSat, now: &UsedSat, power: bool, jump: u32) -> bool
+fn is_cut_between(
+    before: &UsedSat,
+    now: &UsedSat,
+    power: bool,
+    bands: u16,
+    jump: u32,
+) -> bool
     requires before { IsSmall before.now }
     requires now { IsSmall now.now }
-    ensures { result ≡ is_cut jump power before.now now.now }
+    requires bands { IsBandsNumber bands }
+    ensures { result ≡ is_cut (bands_of bands) jump power before.now now.now }
 {
     if power {
         return true;
@@ -19,7 +28,7 @@ fn is_cut_between(before: &UsedSat, now: &UsedSat, power: bool, jump: u32) -> bo
     if now.lost {
         return true;
     }
-    does_jump(before, now, &HELD_PHASES, jump)
+    does_jump(before, now, bands_of(bands), jump)
 }
 
 fn find_in(sats: &[UsedSat], sat: u8) -> Option<&UsedSat>
@@ -39,11 +48,12 @@ fn entry_of(used: &[UsedPair], at: usize, sat: u8) -> Option<UsedSat>
 }
 
 /// Whether a satellite is used in a pair and in the next, without a cut between them.
-pub fn does_go_on(used: &[UsedPair], at: usize, sat: u8, jump: u32) -> bool
+pub fn does_go_on(used: &[UsedPair], at: usize, sat: u8, bands: u16, jump: u32) -> bool
     requires few { length used.now ≤ 3600 }
     requires ranges { All IsInRange used.now }
     requires inside { at < length used.now }
-    ensures { result ≡ goes_on jump used.now sat at }
+    requires bands { IsBandsNumber bands }
+    ensures { result ≡ goes_on (bands_of bands) jump used.now sat at }
 {
     if at + 1 >= used.len() {
         return false;
@@ -54,21 +64,22 @@ pub fn does_go_on(used: &[UsedPair], at: usize, sat: u8, jump: u32) -> bool
     let Some(now) = entry_of(used, at + 1, sat) else {
         return false;
     };
-    !is_cut_between(&before, &now, used[at + 1].power, jump)
+    !is_cut_between(&before, &now, used[at + 1].power, bands, jump)
 }
 
 /// The last pair to which a satellite goes on from this pair.
-pub fn last_of(used: &[UsedPair], first: usize, sat: u8, jump: u32) -> usize
+pub fn last_of(used: &[UsedPair], first: usize, sat: u8, bands: u16, jump: u32) -> usize
     requires few { length used.now ≤ 3600 }
     requires ranges { All IsInRange used.now }
     requires inside { first < length used.now }
+    requires bands { IsBandsNumber bands }
     ensures order { first ≤ result }
     ensures inside { result < length used.now }
-    ensures held { (i : ℕ) → first ≤ i → i < result → goes_on jump used.now sat i ≡ true }
-    ensures ends { goes_on jump used.now sat result ≡ false }
+    ensures held { (i : ℕ) → first ≤ i → i < result → goes_on (bands_of bands) jump used.now sat i ≡ true }
+    ensures ends { goes_on (bands_of bands) jump used.now sat result ≡ false }
 {
     let mut last = first;
-    'run: while does_go_on(used, last, sat, jump) {
+    'run: while does_go_on(used, last, sat, bands, jump) {
         last += 1;
     }
     last

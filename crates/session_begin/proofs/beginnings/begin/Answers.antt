@@ -2,25 +2,15 @@ use Rattle.std.proofs.Common.{◌<◌, ◌≤◌, ℕ, List, length, AllPairs, a
 use Rattle.obs_store.specs.Epochs.{tags_of}
 use Rattle.epoch_pair.specs.declared.pairs.PairOf.{PairOf}
 use Rattle.epoch_pair.specs.Pairs.{Follows, IsTaken, IsNearPair}
-use Rattle.obs_store.specs.declared.file.ObsFile.{ObsFile}
-use Rattle.obs_rows.specs.declared.bands.Signals.{Signals}
-use Rattle.obs_rows.specs.declared.units.TheConstants.{BANDS_12}
-use Rattle.run_options.specs.declared.options.Options.{Options}
-use Rattle.session_begin.specs.Beginnings.{bands_of, AreSignals, HaveSignals, LackSignal}
+use Rattle.band_sets.specs.BandSets.{bands_of}
+use Rattle.session_begin.specs.Beginnings.{HaveSignals}
 use Rattle.epoch_pair.proofs.Uses.{taken_all, taken_pairs}
-use Rattle.session_begin.proofs.BeginLaws.{on_l1_l2, refused_pair}
+use Rattle.session_begin.proofs.BeginLaws.{refused_pair}
 use Rattle.session_begin.proofs.beginnings.begin.Goals as goal
-
--- what was found on L1 and L2 is what the bands of the run ask for
-on_bands : (o : Options) (base rover : ObsFile) (s : Signals) → AreSignals BANDS_12 base rover s → AreSignals (bands_of o) base rover s
-on_bands o base rover s are = subst (λ (bands : List ℕ). AreSignals bands base rover s) (on_l1_l2 o) are
-
-have : (o : Options) (base rover : ObsFile) (s : Signals) → AreSignals BANDS_12 base rover s → HaveSignals (bands_of o) base rover
-have o base rover s are = (s, on_bands o base rover s are)
 
 pub returns-in-Err-clause-refused : goal.returns-in-Err-clause-refused
 returns-in-Err-clause-refused c =
-    let s : HaveSignals (bands_of c.args.options.now) c.args.base.now c.args.rover.now = have c.args.options.now c.args.base.now c.args.rover.now c.in-Some-signals.signals c.in-Some-signals.ensures in
+    let s : HaveSignals (bands_of c.args.options.now.bands) c.args.base.now c.args.rover.now = (c.in-Some-signals.signals, c.in-Some-signals.ensures) in
     refused_pair c.args.base.now c.args.rover.now c.args.options.now c.in-Err.fault c.fault_of.result c.fault_of.ensures (c.in-Some.position, c.in-Some.ensures) s c.in-Err.ensures.refused
 
 pub returns-in-Ok-take-clause-rises : goal.returns-in-Ok-take-clause-rises
@@ -40,7 +30,7 @@ returns-in-Ok-take-clause-near c =
 
 pub returns-clause-refused : goal.returns-clause-refused
 returns-clause-refused c =
-    let s : HaveSignals (bands_of c.args.options.now) c.args.base.now c.args.rover.now = have c.args.options.now c.args.base.now c.args.rover.now c.in-Some-signals.signals c.in-Some-signals.ensures in
+    let s : HaveSignals (bands_of c.args.options.now.bands) c.args.base.now c.args.rover.now = (c.in-Some-signals.signals, c.in-Some-signals.ensures) in
     ((c.in-Some.position, c.in-Some.ensures), (s, (c.in-Ok.ensures.apart_base, c.in-Ok.ensures.apart_rover)))
 
 pub returns-in-Ok-take-clause-few : goal.returns-in-Ok-take-clause-few
@@ -52,13 +42,6 @@ returns-in-Ok-take-clause-few c =
   where
     below : (n m : ℕ) → n ≤ m → m ≤ 3600 → n ≤ 3600
     below n m h g = omega arith
-
-pub returns-in-Ok-take-clause-signals : goal.returns-in-Ok-take-clause-signals
-returns-in-Ok-take-clause-signals c = on_bands c.args.options.now c.args.base.now c.args.rover.now c.in-Some-signals.signals c.in-Some-signals.ensures
-
-pub returns-in_default-signals-clause-refused : goal.returns-in_default-signals-clause-refused
-returns-in_default-signals-clause-refused c =
-    ((c.in-Some.position, c.in-Some.ensures), subst (λ (bands : List ℕ). LackSignal bands c.args.base.now c.args.rover.now) (on_l1_l2 c.args.options.now) c.in_default-signals.ensures)
 
 pub count_of-requires-clause-rises : goal.count_of-requires-clause-rises
 count_of-requires-clause-rises c = subst (AllPairs Follows) (sym c.as_slice-in-Ok-take.ensures.value) c.in-Ok.ensures.rises

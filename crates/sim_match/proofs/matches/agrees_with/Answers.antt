@@ -2,7 +2,7 @@ use Rattle.std.proofs.Common.{◌≡◌, ◌<◌, ℕ, ℤ, List, length, get_or
 use Rattle.std.specs.Int.{w128}
 use Rattle.std.proofs.lemmas.List.{get_or_default}
 use Rattle.obs_rows.specs.Signals.{is_phase}
-use Rattle.sim_match.specs.Matches.{found, IsAsMade}
+use Rattle.sim_match.specs.Matches.{found, wanted}
 use Rattle.sim_match.proofs.Words.{own_word}
 use Rattle.sim_match.proofs.matches.agrees_with.Goals as goal
 
@@ -13,7 +13,7 @@ loop-signal-preserved c =
     let s : ℕ = get_or signals k 0 in
     let inside : k < length signals = search rules in
     let cycles : ℕ → ℤ = found c.args.arcs.now signals c.args.z.now c.args.k c.args.arc.now c.args.datum.now in
-    let As : ℕ → ℤ → Type 0 = IsAsMade c.args.made.now.of_arc c.args.made.now.of_datum in
+    let As : ℕ → ℤ → Type 0 = λ t n. n ≡ wanted c.args.made.now.of_arc c.args.made.now.of_datum t in
     let P : ℕ → Type 0 = λ t. IsTrue (is_phase t) → As t (cycles t) in
     let word : to_z w128 (of_z w128 c.found-cycles.result) ≡ cycles s = own_word c.found-cycles.result (record { sfits = c.found-cycles.type_inv }) ∙ c.found-cycles.ensures in
     let here : P s = λ phase. subst (As s) word (c.if-not-is_as_made.ensures.0 refl phase) in
