@@ -117,11 +117,11 @@ pair_stands t base rover taken boxes arcs position point signals scale n p all r
     }
 
 -- what `screen_in`, `cut` and `rows_at` say, together: the session stands for the files
-pub session_stands : (t : Setting) (base rover : List Epoch) (taken : List PairOf) (jump least short : ℕ) (used : List UsedPair) (boxes : List SvPair) (s : Session) →
-    AreUsedPairs t base rover taken used → All (IsSvPair t base rover taken) boxes → AreKept jump least used s.arcs short → HaveDatums s.arcs →
+pub session_stands : (t : Setting) (base rover : List Epoch) (taken : List PairOf) (bands : List ℕ) (jump least short : ℕ) (used : List UsedPair) (boxes : List SvPair) (s : Session) →
+    AreUsedPairs t base rover taken used → All (IsSvPair t base rover taken) boxes → AreKept bands jump least used s.arcs short → HaveDatums s.arcs →
     AreSessionRows (setting boxes s.arcs s.base s.point s.signals s.scale) (length used) s.pairs →
-    StandsForFiles t base rover taken jump least s.system s.base s.signals s.point (map (λ (a : Arc). a.shift) s.arcs) s.scale s
-session_stands t base rover taken jump least short used boxes s used_are all kept datums rows = record {
+    StandsForFiles t base rover taken bands jump least s.system s.base s.signals s.point (map (λ (a : Arc). a.shift) s.arcs) s.scale s
+session_stands t base rover taken bands jump least short used boxes s used_are all kept datums rows = record {
   system_is = refl;
   base_is = refl;
   point_is = refl;

@@ -61,8 +61,9 @@ pub record StandsForPair (setting : Setting) (base rover : List Epoch) (taken : 
   pub rows : All (λ r. (a : Arc) → slice_get arcs r.arc ≡ Some a → StandsForRow setting base_epoch rover_epoch a.sat position point ss scale p.group a.shift r) p.rows
   pub group : (r : Row) → slice_get p.rows 0 ≡ Some r → MeetsOne scale (number_at r.y 2) r.ry
 
--- the session of these taken pairs of this system, cut with these numbers, at this point, with these shifts and at this scale
-pub record StandsForFiles (setting : Setting) (base rover : List Epoch) (taken : List PairOf) (jump least : ℕ) (system : ℕ) (position : List ℤ) (signals : Signals) (point : List ℤ)
+-- the session of these taken pairs of this system, cut on these bands with these numbers, at this point, with these shifts and at
+-- this scale
+pub record StandsForFiles (setting : Setting) (base rover : List Epoch) (taken : List PairOf) (bands : List ℕ) (jump least system : ℕ) (position : List ℤ) (signals : Signals) (point : List ℤ)
     (shifts : List (List ℤ)) (scale : ℕ) (s : Session) : Type 0 where
   pub system_is : s.system ≡ system
   pub base_is : s.base ≡ position
@@ -72,7 +73,7 @@ pub record StandsForFiles (setting : Setting) (base rover : List Epoch) (taken :
   pub used : List UsedPair
   pub used_are : AreUsedPairs setting base rover taken used
   pub short : ℕ
-  pub kept : AreKept jump least used s.arcs short
+  pub kept : AreKept bands jump least used s.arcs short
   pub datums : HaveDatums s.arcs
   pub shifts_are : map (λ a. a.shift) s.arcs ≡ shifts
   -- exactly the pairs that some arc holds

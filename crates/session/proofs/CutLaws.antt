@@ -77,12 +77,12 @@ runs_without (a ∷ arcs) = ap (λ (l : List Run). run_of a ∷ l) (runs_without
 runs_along : (xs ys : List Arc) → AreSameArcs xs ys → map run_of ys ≡ map run_of xs
 runs_along xs ys e = sym (runs_without ys) ∙ ap (map run_of) e ∙ runs_without xs
 
-pub kept_along : (jump least short : ℕ) (used : List UsedPair) (xs ys : List Arc) → AreSameArcs xs ys → AreKept jump least used xs short → AreKept jump least used ys short
-kept_along jump least short used xs ys e h = record { runs = h.runs; all = h.all; kept_are = runs_along xs ys e ∙ h.kept_are; short_is = h.short_is }
+pub kept_along : (bands : List ℕ) (jump least short : ℕ) (used : List UsedPair) (xs ys : List Arc) → AreSameArcs xs ys → AreKept bands jump least used xs short → AreKept bands jump least used ys short
+kept_along bands jump least short used xs ys e h = record { runs = h.runs; all = h.all; kept_are = runs_along xs ys e ∙ h.kept_are; short_is = h.short_is }
 
 -- shifts don't matter to a cut
 pub cut_along : (used : List UsedPair) (xs ys : List Arc) → AreSameArcs xs ys → IsCutOf used xs → IsCutOf used ys
-cut_along used xs ys e h = record { jump = h.jump; least = h.least; short = h.short; kept = kept_along h.jump h.least h.short used xs ys e h.kept; datums = datums_along xs ys e h.datums }
+cut_along used xs ys e h = record { bands = h.bands; jump = h.jump; least = h.least; short = h.short; kept = kept_along h.bands h.jump h.least h.short used xs ys e h.kept; datums = datums_along xs ys e h.datums }
 
 -- ---- free arcs
 free_at : (arcs : List Arc) (k : ℕ) (a : Arc) → slice_get arcs k ≡ Some a → a.datum ≡ false → 1 ≤ free_count arcs

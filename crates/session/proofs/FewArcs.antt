@@ -84,7 +84,7 @@ few_begin used kept (suc n) c r o h =
 
 pub kept_few : (used : List UsedPair) (kept : List Arc) → IsCutOf used kept → All IsInRange used → All AreNumbered used → length used ≤ 3600 → length kept ≤ 54000
 kept_few used kept c r numbered few =
-    let ordered : All IsOrdered kept = λ k d i. (kept_each c.jump c.least used kept c.short k (get_or kept k d) c.kept (slice_get-get_or kept k d i)).0.run.order in
+    let ordered : All IsOrdered kept = λ k d i. (kept_each c.bands c.jump c.least used kept c.short k (get_or kept k d) c.kept (slice_get-get_or kept k d i)).0.run.order in
     let inside : All (λ a. a.first < length used) kept = λ k d i. first_inside used kept k (get_or kept k d) c numbered (slice_get-get_or kept k d i) in
     let all : count_by (begins_before (length used)) kept ≡ length kept = all_begin kept (length used) inside in
     let begun : count_by (begins_before (length used)) kept ≤ 15 * length used = few_begin used kept (length used) c r ordered (omega arith) in

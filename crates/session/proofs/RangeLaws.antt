@@ -51,7 +51,7 @@ used_well (p ∷ ps) sat (suc i) h e =
 
 arc_in_range : (used : List UsedPair) (kept : List Arc) → IsCutOf used kept → length used ≤ 3600 → All AreNumbered used → (k : ℕ) (a : Arc) → slice_get kept k ≡ Some a → All (IsBelow (2 ^ 40)) a.shift → IsArcInRange a
 arc_in_range used kept c few numbered k a is shifts =
-    let r : IsArc c.jump used (run_of a) = (kept_each c.jump c.least used kept c.short k a c.kept is).0 in
+    let r : IsArc c.bands c.jump used (run_of a) = (kept_each c.bands c.jump c.least used kept c.short k a c.kept is).0 in
     let w : IsUsedWell used a.sat a.last = used_well used a.sat a.last numbered (r.run.used_in a.last r.run.order (omega arith)) in
     record { sat_from = w.number.0; sat_to = w.number.1; order = r.run.order; last_in = below a.last (length used) w.inside few; shifts_in = shifts }
   where
@@ -192,7 +192,7 @@ arcs_along xs ys e h s = record {
 -- an arc's first pair is one of the pairs
 pub first_inside : (used : List UsedPair) (kept : List Arc) (k : ℕ) (a : Arc) → IsCutOf used kept → All AreNumbered used → slice_get kept k ≡ Some a → a.first < length used
 first_inside used kept k a c numbered is =
-    let r : IsArc c.jump used (run_of a) = (kept_each c.jump c.least used kept c.short k a c.kept is).0 in
+    let r : IsArc c.bands c.jump used (run_of a) = (kept_each c.bands c.jump c.least used kept c.short k a c.kept is).0 in
     let w : IsUsedWell used a.sat a.first = used_well used a.sat a.first numbered (r.run.used_in a.first (omega arith) r.run.order) in
     w.inside
 

@@ -5,6 +5,7 @@ use Rattle.obs_rows.specs.declared.sessions.Session.{Session}
 use Rattle.obs_store.specs.declared.file.ObsFile.{ObsFile}
 use Rattle.eph_store.specs.File.{Records}
 use Rattle.epoch_pair.specs.declared.pairs.PairOf.{PairOf}
+use Rattle.band_sets.specs.BandSets.{bands_of}
 use Rattle.system_world.specs.Worlds.{world_of}
 use Rattle.screening.specs.Screening.{setting_of}
 use Rattle.row_build.specs.Stands.{StandsForFiles}
@@ -19,7 +20,7 @@ pub rows_stand : (base rover : ObsFile) (nav : Records) (o : Options) (position 
     (s : Session) → HasRowsOf f.screened.boxes (length f.screened.used) f.kept f.position f.signals f.system s → StandsAsItIs base rover nav o position signals taken s
 rows_stand base rover nav o position signals taken f h s r =
     let t = setting_of base nav signals o.mask (world_of o.system) in
-    let S : ℕ → List ℤ → Signals → Type 0 = λ y p q. StandsForFiles t base.epochs rover.epochs taken o.jump o.arc y p q s.point (map (λ a. a.shift) s.arcs) s.scale s in
-    let stands : S s.system s.base s.signals = session_stands t base.epochs rover.epochs taken o.jump o.arc h.short f.screened.used f.screened.boxes s h.used_are h.boxes_are
-    (kept_along o.jump o.arc h.short f.screened.used f.kept s.arcs r.arcs_are h.kept_are) (datums_along f.kept s.arcs r.arcs_are h.datums) r.rows in
+    let S : ℕ → List ℤ → Signals → Type 0 = λ y p q. StandsForFiles t base.epochs rover.epochs taken (bands_of o.bands) o.jump o.arc y p q s.point (map (λ a. a.shift) s.arcs) s.scale s in
+    let stands : S s.system s.base s.signals = session_stands t base.epochs rover.epochs taken (bands_of o.bands) o.jump o.arc h.short f.screened.used f.screened.boxes s h.used_are h.boxes_are
+    (kept_along (bands_of o.bands) o.jump o.arc h.short f.screened.used f.kept s.arcs r.arcs_are h.kept_are) (datums_along f.kept s.arcs r.arcs_are h.datums) r.rows in
     subst (λ (y : ℕ). S y position signals) (r.system_is ∙ h.system_is) (subst (λ (q : Signals). S s.system position q) (r.signals_are ∙ h.signals_are) (subst (λ (p : List ℤ). S s.system p s.signals) (r.base_is ∙ h.position_is) stands))

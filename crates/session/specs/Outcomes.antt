@@ -8,12 +8,13 @@ use Rattle.eph_store.specs.File.{Records}
 use Rattle.epoch_pair.specs.declared.pairs.PairOf.{PairOf}
 use Rattle.slip_arcs.specs.Runs.{AreKept}
 use Rattle.slip_arcs.specs.Linked.{HaveDatums}
+use Rattle.band_sets.specs.BandSets.{bands_of}
 use Rattle.system_world.specs.Worlds.{world_of}
 use Rattle.screening.specs.Screening.{setting_of, AreUsedPairs, IsSvPair}
 use Rattle.cert_data.specs.declared.outcomes.Outcome.{Outcome}
 use Rattle.run_options.specs.declared.options.Options.{Options}
 use Rattle.session.specs.declared.file_rounds.FileRounds.{FileRounds}
-use Rattle.session_begin.specs.Beginnings.{IsPosition, bands_of, AreSignals, AreSparse, AreTaken, pairs_of}
+use Rattle.session_begin.specs.Beginnings.{IsPosition, AreSignals, AreSparse, AreTaken, pairs_of}
 use Rattle.session.specs.Answers.{HasDelta, IsAnswer}
 use Rattle.session.specs.FileRules.{HasRowsOf, rules_of}
 
@@ -25,21 +26,21 @@ pub record AreScreened (base rover : ObsFile) (nav : Records) (o : Options) (pos
   pub used_are : AreUsedPairs (setting_of base nav signals o.mask (world_of o.system)) base.epochs rover.epochs taken f.screened.used
   pub boxes_are : All (IsSvPair (setting_of base nav signals o.mask (world_of o.system)) base.epochs rover.epochs taken) f.screened.boxes
   pub short : ℕ
-  pub kept_are : AreKept o.jump o.arc f.screened.used f.kept short
+  pub kept_are : AreKept (bands_of o.bands) o.jump o.arc f.screened.used f.kept short
   pub datums : HaveDatums f.kept
   pub shifts : All (λ a. a.shift ≡ pos 0 ∷ pos 0 ∷ pos 0 ∷ []) f.kept
 
 -- the session stands for the files at its point, with its shifts and at its scale
 abbrev pub StandsAsItIs : ObsFile → ObsFile → Records → Options → List ℤ → Signals → List PairOf → Session → Type 0
 StandsAsItIs base rover nav o position signals taken s =
-    StandsForFiles (setting_of base nav signals o.mask (world_of o.system)) base.epochs rover.epochs taken o.jump o.arc o.system position signals s.point (map (λ a. a.shift) s.arcs) s.scale s
+    StandsForFiles (setting_of base nav signals o.mask (world_of o.system)) base.epochs rover.epochs taken (bands_of o.bands) o.jump o.arc o.system position signals s.point (map (λ a. a.shift) s.arcs) s.scale s
 
 -- The counts, and the answer of a run over the kept arcs with its rounds. Each session that a round of the run may have stands for the files
 pub record IsOutcome (base rover : ObsFile) (nav : Records) (o : Options) (out : Outcome) : Type 0 where
   pub position : List ℤ
   pub position_is : IsPosition base position
   pub signals : Signals
-  pub signals_are : AreSignals (bands_of o) base rover signals
+  pub signals_are : AreSignals (bands_of o.bands) base rover signals
   pub sparse : AreSparse o.gap base rover
   pub taken : List PairOf
   pub taken_are : AreTaken base rover o taken

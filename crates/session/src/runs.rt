@@ -51,7 +51,13 @@ pub fn screened(
         Err(fault) => return Err(fault),
     };
     let halves = base_halves(alloc, &screened, &begun.position)?;
-    match cut(alloc, screened.used.as_slice(), options.jump, options.arc) {
+    match cut(
+        alloc,
+        screened.used.as_slice(),
+        options.bands,
+        options.jump,
+        options.arc,
+    ) {
         Ok(arcs) => Ok(FileRounds {
             screened,
             kept: arcs.kept,

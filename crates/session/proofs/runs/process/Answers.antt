@@ -24,7 +24,7 @@ outcome-requires-clause-ready c = λ on.
         able f.screened.used f.kept (length c.in-Ok.begun.taken.items) s.cut f.screened.few f.screened.numbered (no_shifts f.kept s.screened.shifts) on.not_few on.not_many,
         subst IsReceiverPoint (sym s.screened.position_is) c.in-Ok.ensures.position.in_reach,
       ),
-      (s.halves, subst IsSystem (sym (s.screened.system_is ∙ c.args.options.now.of_system)) refl),
+      (s.halves, subst IsSystem (sym s.screened.system_is) c.args.options.now.of_system),
     )
 
 few_kept : (f : FileRounds) → IsCutOf f.screened.used f.kept → length f.kept ≤ 54000

@@ -1,6 +1,7 @@
 use Rattle.std.proofs.Common.{List, All, refl, subst}
 use Rattle.epoch_pair.specs.declared.pairs.PairOf.{PairOf}
 use Rattle.used_svs.specs.declared.used.UsedPair.{UsedPair}
+use Rattle.band_sets.specs.BandSets.{bands_of}
 use Rattle.slip_arcs.specs.Runs.{AreKept}
 use Rattle.slip_arcs.specs.Linked.{IsCutOf}
 use Rattle.orbit_model.specs.Elements.{Constants}
@@ -29,7 +30,7 @@ returns-in-Ok-cut-clause-screened c =
       boxes_are = subst (λ (w : Constants). All (IsSvPair (rules w) base.epochs rover.epochs c.args.begun.now.taken.items) c.in-Ok.screened.boxes) of_system
           (subst (λ (t : List PairOf). All (IsSvPair (rules world) base.epochs rover.epochs t) c.in-Ok.screened.boxes) c.as_slice-taken.ensures.value c.in-Ok.ensures.boxes);
       short = c.in-Ok-cut.arcs.short;
-      kept_are = subst (λ (u : List UsedPair). AreKept o.jump o.arc u c.in-Ok-cut.arcs.kept c.in-Ok-cut.arcs.short) c.as_slice.ensures c.in-Ok-cut.ensures.kept;
+      kept_are = subst (λ (u : List UsedPair). AreKept (bands_of o.bands) o.jump o.arc u c.in-Ok-cut.arcs.kept c.in-Ok-cut.arcs.short) c.as_slice.ensures c.in-Ok-cut.ensures.kept;
       datums = c.in-Ok-cut.ensures.datums;
       shifts = c.in-Ok-cut.ensures.shifts;
     }
@@ -38,4 +39,4 @@ pub returns-in-Ok-cut-clause-cut : goal.returns-in-Ok-cut-clause-cut
 returns-in-Ok-cut-clause-cut c =
     let o = c.args.options.now in
     subst (λ (u : List UsedPair). IsCutOf u c.in-Ok-cut.arcs.kept) c.as_slice.ensures
-    (record { jump = o.jump; least = o.arc; short = c.in-Ok-cut.arcs.short; kept = c.in-Ok-cut.ensures.kept; datums = c.in-Ok-cut.ensures.datums })
+    (record { bands = bands_of o.bands; jump = o.jump; least = o.arc; short = c.in-Ok-cut.arcs.short; kept = c.in-Ok-cut.ensures.kept; datums = c.in-Ok-cut.ensures.datums })

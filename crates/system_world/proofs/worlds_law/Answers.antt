@@ -1,6 +1,6 @@
 use Rattle.std.proofs.Common.{◌≡◌, ℕ, ℤ, pos, ◌-ℤ◌, ◌*ℤ◌, ◌≤◌, ◌≤ℤ◌, arith, lit≤}
 use Rattle.std.proofs.lemmas.Int.{ints}
-use Rattle.row_build.proofs.constants.world_law.Goals as goal
+use Rattle.system_world.proofs.worlds_law.Goals as goal
 
 le_pos : (m n : ℕ) → m ≤ n → pos m ≤ℤ pos n
 le_pos m n h = omega (arith, ints)
@@ -16,3 +16,9 @@ seconds t c = omega (arith, ints)
 
 pub returns-clause-sent : goal.returns-clause-sent
 returns-clause-sent c = λ tag code. seconds (pos tag) code
+
+pub returns-clause-galileo_high : goal.returns-clause-galileo_high
+returns-clause-galileo_high c = le_pos _ _ (lit≤ tt)
+
+pub returns-clause-galileo_low : goal.returns-clause-galileo_low
+returns-clause-galileo_low c = le_pos _ _ (lit≤ tt)
