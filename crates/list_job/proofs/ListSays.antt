@@ -1,7 +1,8 @@
 -- What the ending of `list` says of its file, and its statuses.
 use Rattle.std.proofs.Common.{◌≡◌, ◌≢◌, inl, inr, ℕ, List, Option, sym, subst}
 use Rattle.std.specs.Io.KnownBytes.{Appends}
-use Rattle.rinex_obs.specs.ObsForm.{HasObsFile}
+use Rattle.rinex_head.specs.declared.system.System.TheVariants.{Gps}
+use Rattle.obs_source.specs.Formats.{HasObservation}
 use Rattle.job_answers.specs.declared.status.Status.TheVariants.{ReadFault}
 use Rattle.job_answers.specs.Statuses.{IsVerdictStatus, IsJobStatus}
 use Rattle.job_answers.specs.Endings.{Ending, EndsByFile, IsAdmitted}
@@ -18,8 +19,8 @@ pub list_status : (told : List ℕ → Option (List ℕ)) (obs : List ℕ) (end 
 list_status told obs end ends = file_status told obs (ListEnds obs) end (text_status obs end) ends
 
 -- a file that is told and admitted has a verdict
-pub list_verdict : (told : List ℕ → Option (List ℕ)) (obs : List ℕ) (end : Ending) → IsAdmitted told obs HasObsFile → end.status ≢ ReadFault → EndsByFile told obs (ListEnds obs) end → IsVerdictStatus end.status
-list_verdict told obs end file no_fault ends = elim (admitted_ends told obs HasObsFile (ListEnds obs) end file no_fault ends) [
+pub list_verdict : (told : List ℕ → Option (List ℕ)) (obs : List ℕ) (end : Ending) → IsAdmitted told obs (HasObservation Gps) → end.status ≢ ReadFault → EndsByFile told obs (ListEnds obs) end → IsVerdictStatus end.status
+list_verdict told obs end file no_fault ends = elim (admitted_ends told obs (HasObservation Gps) (ListEnds obs) end file no_fault ends) [
   | inl by_obs ↦ verdict_at end _ by_obs.end_is tt
   | inr refusal ↦ absurd (refusal.none file.file)
 ]

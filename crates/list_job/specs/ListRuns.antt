@@ -4,19 +4,20 @@ use Rattle.std.specs.declared.option.Option.{Option}
 use Rattle.std.specs.Io.KnownBytes.{Appends}
 use Rattle.line_source.specs.Lines.{lines_of}
 use Rattle.obs_store.specs.declared.file.ObsFile.{ObsFile}
-use Rattle.rinex_obs.specs.ObsForm.{IsObsFile}
+use Rattle.rinex_head.specs.declared.system.System.TheVariants.{Gps}
+use Rattle.obs_source.specs.Formats.{IsObservation}
 use Rattle.report_text.specs.List.{list_text}
 use Rattle.job_answers.specs.declared.status.Status.{Status}
 use Rattle.job_answers.specs.declared.status.Status.TheVariants.{Done, Declined}
 use Rattle.job_answers.specs.Endings.{IsTextOf}
 use Rattle.job_answers.specs.Delivered.{SinkChange}
 
--- the text stands for an observation file, and out has gained what is listed of it
+-- the text stands for an observation file of GPS, and out has gained what is listed of it
 pub record SaysListed (told : List ℕ → Option (List ℕ)) (name : List ℕ) (out : SinkChange) : Type 0 where
   pub text : List ℕ
   pub is : IsTextOf told name text
   pub file : ObsFile
-  pub is_file : IsObsFile (lines_of text) file
+  pub is_file : IsObservation Gps (lines_of text) file
   pub printed : Appends out.old out.new (list_text file)
 
 -- `list` is never declined

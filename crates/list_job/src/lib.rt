@@ -1,4 +1,4 @@
-//! The command `list`: what an observation file holds.
+//! The command `list`: what an observation file holds of GPS.
 #![tactic(auto)]
 
 ghost use Rattle.std.specs.Prelude.{◌≡◌, ◌≢◌, ◌≤◌, [], IfOk, ◌∷◌};
@@ -12,6 +12,7 @@ use job_answers::{Answer, Status, Stop};
 use line_source::Files;
 use obs_store::ObsFile;
 use report_text::write_list;
+use rinex_head::System;
 use session_files::obs_file;
 use std::alloc::{AllocError, Global};
 
@@ -28,7 +29,7 @@ fn answer_file(alloc: Global, file: &ObsFile) -> Result<Answer, AllocError>
     })
 }
 
-/// What an observation file holds: its version, its epochs and its satellites.
+/// What an observation file holds of GPS: its version, its epochs and its satellites.
 pub fn list<F: Files>(alloc: Global, files: &mut F, name: &str) -> Result<Answer, Stop>
     ensures ends { IfEnded result (λ end. EndsByFile (F.text_of files.old) name.now (ListEnds name.now) end) }
     ensures refused { IfEnded result (IsRefusedWhole (F.text_of files.old) (F.unread files.new) (name.now ∷ [])) }
@@ -37,7 +38,7 @@ pub fn list<F: Files>(alloc: Global, files: &mut F, name: &str) -> Result<Answer
     ensures fault { IfEnded result (λ end. end.status ≡ Status.ReadFault → Rose (F.faults files.old) (F.faults files.new)) }
     ensures sure { F.is_sure_name files.old name.now → IfEnded result (λ end. end.status ≢ Status.ReadFault) }
 {
-    match obs_file(alloc, files, name) {
+    match obs_file(alloc, files, System::Gps, name) {
         Ok(file) => Ok(answer_file(alloc, &file)?),
         Err(stop) => Err(stop),
     }

@@ -7,9 +7,9 @@ use Rattle.obs_store.specs.declared.series.Epoch.{Epoch}
 use Rattle.obs_store.specs.declared.values.SatObs.{SatObs}
 use Rattle.rinex_head.specs.declared.place.At.{At}
 use Rattle.rinex_head.specs.declared.place.Flaw.{Flaw}
-use Rattle.rinex_head.specs.declared.place.What.TheVariants.{Version, NoEnd, Types, Truncated}
+use Rattle.rinex_head.specs.declared.place.What.TheVariants.{NoEnd, Types, Truncated}
 use Rattle.rinex_head.specs.declared.system.System.{System}
-use Rattle.rinex_head.specs.Systems.{none_listed}
+use Rattle.rinex_head.specs.Systems.{none_listed, bad_version}
 use Rattle.rinex_head.specs.Places.{and_then, flawed}
 use Rattle.rinex_head.specs.Walk.{Rules, text_gives}
 use Rattle.obs_feed.specs.FirstLine.{first_line_of}
@@ -119,7 +119,7 @@ admit (Sats h epochs tag power sats n) bytes = and_then (satellite_line_of h.sys
 admit (Skip h epochs changes n) bytes = and_then (event_line_of Rinex3 changes bytes) (λ u. Ok (more_lines h epochs changes (n - 1)))
 
 abbrev pub finish : Expected → Result ObsFile Flaw
-finish (First system) = flawed 1 Version
+finish (First system) = flawed 1 (bad_version system)
 finish (Head h) = flawed 1 NoEnd
 finish (More h names n) = flawed 1 NoEnd
 finish (Body h epochs) = Ok (file_of h epochs)

@@ -51,6 +51,6 @@ pub fn first_line(system: System, line: &Line<'_>) -> Result<u16, At>
             Ok(hundredths) => Ok(hundredths),
             Err(flaw) => Err(flaw.at(line.number)),
         },
-        Err(at) => Err(at),
+        Err(_) => Err(flaw(1, system.bad_version()).at(line.number)),
     }
 }

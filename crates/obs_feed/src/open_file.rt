@@ -67,7 +67,7 @@ impl OpenFile {
         ensures { result ≡ finish (expected_in self) }
     {
         match self {
-            OpenFile::First(_) => Err(flaw(1, What::Version)),
+            OpenFile::First(system) => Err(flaw(1, system.bad_version())),
             OpenFile::Header(_) => Err(flaw(1, What::NoEnd)),
             OpenFile::Body(body) => body.finish(),
         }

@@ -1,5 +1,5 @@
 // The bytes of a line that has begun, and where it ends.
-ghost use Rattle.std.specs.Prelude.{◌≡◌, ◌+◌, ◌≤◌, ◌<◌, ◌++◌, ◌∷◌, ℕ, List, [], length, IfSome, IfNone, OnOk, OnErr};
+ghost use Rattle.std.specs.Prelude.{◌≡◌, ◌+◌, ◌≤◌, ◌<◌, ◌++◌, ◌∷◌, ℕ, List, [], length, take, IfSome, IfNone, OnOk, OnErr};
 ghost use Rattle.line_source.specs.Lines.{lines_from};
 ghost use Rattle.obs_feed.specs.Started.{EndsLine, GoesOn};
 
@@ -46,10 +46,11 @@ impl StartedLine {
         self.bytes.as_slice()
     }
 
-    /// Adds these bytes, where there are no more than 4,097 then.
+    /// Adds these bytes, where there are no more than 4,097 then; after an `Err` the line is as before.
     pub fn extend(&mut self, bytes: &[u8]) -> Result<(), Overlong>
         ensures added { OnOk result (self.new ≡ self.old ++ bytes.now) }
         ensures long { OnErr result (4097 < length self.old + length bytes.now) }
+        ensures unchanged { OnErr result (self.new ≡ self.old) }
     {
         match self.bytes.try_extend_from_slice(bytes) {
             Ok(()) => Ok(()),
@@ -69,6 +70,7 @@ impl StartedLine {
 #[tactic(auto, using(crate::proofs::Feeds::ends_slices, crate::proofs::Feeds::goes_on))]
 pub fn split_line(bytes: &[u8]) -> Option<(&[u8], &[u8])>
     ensures ends { IfSome result (λ parts. EndsLine bytes.now parts.0.now parts.1.now) }
+    ensures front { IfSome result (λ parts. parts.0.now ≡ take (length parts.0.now) bytes.now) }
     ensures long { IfSome result (λ parts. length parts.0.now + length parts.1.now + 1 ≡ length bytes.now) }
     ensures none { IfNone result (GoesOn bytes.now) }
 {

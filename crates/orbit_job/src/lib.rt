@@ -1,6 +1,7 @@
 //! The command `orbit`: where a satellite of a navigation file is at a time, and what its clock is ahead.
 #![tactic(auto)]
 
+ghost use Rattle.rinex_head.specs.Systems.{system_of};
 ghost use Rattle.std.specs.Prelude.{◌≡◌, ◌≢◌, ◌≤◌, [], length, IfOk, ◌∷◌};
 ghost use Rattle.line_source.specs.Causes.{Rose, OpensAtMost};
 ghost use Rattle.eph_store.specs.Chosen.{distance};
@@ -14,16 +15,28 @@ use gps_time::Tick;
 use job_answers::{Answer, Status, Stop, load_file, refused};
 use line_source::Files;
 use report_text::write_orbit;
-use rinex_nav::{NavFault, read_nav};
+use nav_records::read_records_of;
+use rinex_head::{System, TextFault};
 use std::alloc::{AllocError, Global};
-use sv_orbit::sv_at;
+use sv_orbit::sv_with;
+use system_world::world_of;
+
+// The system with that letter: Galileo for E, else GPS.
+fn system_of(letter: u8) -> System
+    ensures { result ≡ system_of letter }
+{
+    match letter {
+        b'E' => System::Galileo,
+        _ => System::Gps,
+    }
+}
 
 // What the record's satellite ends with.
-fn answer_placed(alloc: Global, eph: &Eph, tag: Tick) -> Result<Answer, AllocError>
+fn answer_placed(alloc: Global, system: u8, eph: &Eph, tag: Tick) -> Result<Answer, AllocError>
     requires { distance tag.0 eph.now ≤ 72_000_000_000 }
-    ensures { IfOk result (λ a. IsPlacedBy eph.now tag.0 (ending_of a)) }
+    ensures { IfOk result (λ a. IsPlacedBy system eph.now tag.0 (ending_of a)) }
 {
-    let held = sv_at(eph, tag, 0);
+    let held = sv_with(eph, tag, 0, &world_of(system));
     let mut out = Vec::new(alloc);
     write_orbit(alloc, &mut out, Some(&held))?;
     Ok(Answer {
@@ -46,36 +59,37 @@ fn answer_none(alloc: Global) -> Result<Answer, AllocError>
 }
 
 // What a navigation file ends with.
-fn answer_file(alloc: Global, file: &NavFile, sat: u8, tag: Tick) -> Result<Answer, AllocError>
-    ensures { IfOk result (λ a. IsFound file.now.fit sat tag.0 (ending_of a)) }
+fn answer_file(alloc: Global, file: &NavFile, system: u8, sat: u8, tag: Tick) -> Result<Answer, AllocError>
+    ensures { IfOk result (λ a. IsFound file.now.fit system sat tag.0 (ending_of a)) }
 {
     match file.choose(sat, tag) {
-        Some(eph) => answer_placed(alloc, eph, tag),
+        Some(eph) => answer_placed(alloc, system, eph, tag),
         None => answer_none(alloc),
     }
 }
 
 // What a file of this text ends with.
-fn answer_text(alloc: Global, name: &str, text: &[u8], sat: u8, tag: Tick) -> Result<Answer, Stop>
+fn answer_text(alloc: Global, name: &str, text: &[u8], system: u8, sat: u8, tag: Tick) -> Result<Answer, Stop>
     requires { length text.now ≤ 67108864 }
-    ensures { IfEnded result (λ end. OrbitEnds name.now sat tag.0 text.now end) }
+    ensures { IfEnded result (λ end. OrbitEnds name.now system sat tag.0 text.now end) }
 {
-    match read_nav(alloc, text) {
-        Ok(file) => Ok(answer_file(alloc, &file, sat, tag)?),
-        Err(NavFault::Refused(at)) => Ok(refused(alloc, name, at)?),
-        Err(NavFault::NoMemory) => Err(Stop::NoMemory),
+    match read_records_of(alloc, system_of(system), text) {
+        Ok(file) => Ok(answer_file(alloc, &file, system, sat, tag)?),
+        Err(TextFault::Refused(at)) => Ok(refused(alloc, name, at)?),
+        Err(TextFault::NoMemory) => Err(Stop::NoMemory),
     }
 }
 
-/// Where the satellite with that number is at the tag by its own clock, by the record that is chosen at that time.
+/// Where the satellite of the system with that letter and that number is at the tag by its own clock, by the record that is chosen at that time.
 pub fn orbit<F: Files>(
     alloc: Global,
     files: &mut F,
     name: &str,
+    system: u8,
     sat: u8,
     tag: Tick,
 ) -> Result<Answer, Stop>
-    ensures ends { IfEnded result (λ end. EndsByFile (F.text_of files.old) name.now (OrbitEnds name.now sat tag.0) end) }
+    ensures ends { IfEnded result (λ end. EndsByFile (F.text_of files.old) name.now (OrbitEnds name.now system sat tag.0) end) }
     ensures refused { IfEnded result (IsRefusedWhole (F.text_of files.old) (F.unread files.new) (name.now ∷ [])) }
     ensures opened { OpensAtMost 1 (F.opened files.old) (F.opened files.new) }
     ensures cause { F.faults files.old ≤ F.faults files.new }
@@ -83,7 +97,7 @@ pub fn orbit<F: Files>(
     ensures sure { F.is_sure_name files.old name.now → IfEnded result (λ end. end.status ≢ Status.ReadFault) }
 {
     match load_file(alloc, files, name) {
-        Ok(text) => answer_text(alloc, name, &text, sat, tag),
+        Ok(text) => answer_text(alloc, name, &text, system, sat, tag),
         Err(stop) => Err(stop),
     }
 }

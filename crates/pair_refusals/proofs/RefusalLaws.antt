@@ -11,6 +11,7 @@ use Rattle.session_begin.specs.declared.faults.PairWhat.TheVariants.{NoBasePosit
 use Rattle.session_begin.specs.declared.faults.SessionFault.TheVariants as fault
 use Rattle.session_begin.specs.Beginnings.{bands_of, HasPosition, HaveSignals, AreSparse, IsSessionFault}
 use Rattle.session_begin.proofs.BeginLaws.{no_lack}
+use Rattle.rinex_head.specs.Systems.{system_of}
 use Rattle.job_answers.specs.Endings.{Ending, IsRefusedWhole}
 use Rattle.session_files.specs.SessionFiles.{AreFilesOf}
 use Rattle.pair_refusals.specs.Refusals.{IsPairRefused, AreRefusedWhole}
@@ -36,7 +37,7 @@ not_refused b r o NoSignal position signals sparse why = no_lack (bands_of o) b 
 not_refused b r o (Dense in_rover epoch) position signals sparse why = not_dense o.gap (tags_of b.epochs) (tags_of r.epochs) in_rover epoch sparse.0 sparse.1 why.1.1
 
 pub never_refused : (told : List ℕ → Option (List ℕ)) (base rover nav : List ℕ) (o : Options) (b r : ObsFile) (n : Records) (end : Ending)
-    → AreAdmitted told base rover nav o → AreFilesOf told base rover nav b r n → IsPairRefused b r o end → ⊥
+    → AreAdmitted told base rover nav o → AreFilesOf (system_of o.system) told base rover nav b r n → IsPairRefused b r o end → ⊥
 never_refused told base rover nav o b r n end admitted are refused =
     not_refused b r o refused.what (admitted.position b are.base_is) (admitted.signals b r are.base_is are.rover_is) (admitted.sparse b r are.base_is are.rover_is) refused.why
 

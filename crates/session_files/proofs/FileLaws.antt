@@ -2,10 +2,10 @@
 use Rattle.std.proofs.Common.{◌≡◌, ◌≢◌, ◌⊎◌, inl, inr, zero, suc, ◌<◌, ℕ, List, [], ◌∷◌, Option, length, IfSome, Result, Ok, Err, refl, sym, subst, ◌∙◌, arith}
 use Rattle.std.specs.Prelude.{slice_index_or, Some}
 use Rattle.obs_store.specs.declared.file.ObsFile.{ObsFile}
-use Rattle.rinex_obs.specs.ObsForm.{HasObsFile}
-use Rattle.rinex_obs.specs.ObsRules.{obs_of}
-use Rattle.rinex_nav.specs.NavForm.{HasNavFile}
-use Rattle.rinex_nav.specs.NavRules.{nav_of}
+use Rattle.rinex_head.specs.declared.system.System.{System}
+use Rattle.obs_source.specs.Formats.{any_of, HasObservation}
+use Rattle.nav_records.specs.NavForm.{HasNavFile}
+use Rattle.nav_records.specs.NavRules.{nav_of}
 use Rattle.line_source.specs.Told.{Same, IsReadToEnd}
 use Rattle.line_source.specs.Pieces.{IsTakenWhole}
 use Rattle.job_answers.specs.declared.status.Status.{Status}
@@ -22,8 +22,8 @@ use Rattle.session_files.specs.SessionFiles.{IsObsOf, StopsAtObs, StopsAtNav, St
 text_along : (told later : List ℕ → Option (List ℕ)) (name text : List ℕ) → Same told later → IsTextOf later name text → IsTextOf told name text
 text_along told later name text same is = record { told_is = subst (λ (o : Option (List ℕ)). IfSome o (λ bytes. text ≡ bytes)) (same name) is.told_is; fits = is.fits }
 
-pub obs_along : (told later : List ℕ → Option (List ℕ)) (name : List ℕ) (file : ObsFile) → Same told later → IsObsOf later name file → IsObsOf told name file
-obs_along told later name file same is = record { text = is.text; is = text_along told later name is.text same is.is; is_file = is.is_file }
+pub obs_along : (system : System) (told later : List ℕ → Option (List ℕ)) (name : List ℕ) (file : ObsFile) → Same told later → IsObsOf system later name file → IsObsOf system told name file
+obs_along system told later name file same is = record { text = is.text; is = text_along told later name is.text same is.is; is_file = is.is_file }
 
 pub file_along : (told later : List ℕ → Option (List ℕ)) (name : List ℕ) (ends : List ℕ → Ending → Type 0) (end : Ending) → Same told later → EndsByFile later name ends end → EndsByFile told name ends end
 file_along told later name ends end same (inl by_text) = inl (record { text = by_text.text; is = text_along told later name by_text.text same by_text.is; ends_so = by_text.ends_so })
@@ -31,43 +31,44 @@ file_along told later name ends end same (inr (inl large)) = inr (inl (record { 
 file_along told later name ends end same (inr (inr fault)) = inr (inr fault)
 
 -- ---- statuses
-stop_status : (told : List ℕ → Option (List ℕ)) (name : List ℕ) (end : Ending) → StopsAtObs told name end → IsJobStatus end.status
-stop_status told name end stops = file_status told name (IsRefusal obs_of HasObsFile name) end (λ text refusal. job_status_at end _ refusal.end_is tt) stops
+stop_status : (system : System) (told : List ℕ → Option (List ℕ)) (name : List ℕ) (end : Ending) → StopsAtObs system told name end → IsJobStatus end.status
+stop_status system told name end stops = file_status told name (IsRefusal (any_of system) (HasObservation system) name) end (λ text refusal. job_status_at end _ refusal.end_is tt) stops
 
-nav_stop_status : (told : List ℕ → Option (List ℕ)) (name : List ℕ) (end : Ending) → StopsAtNav told name end → IsJobStatus end.status
-nav_stop_status told name end stops = file_status told name (IsRefusal nav_of HasNavFile name) end (λ text refusal. job_status_at end _ refusal.end_is tt) stops
+nav_stop_status : (system : System) (told : List ℕ → Option (List ℕ)) (name : List ℕ) (end : Ending) → StopsAtNav system told name end → IsJobStatus end.status
+nav_stop_status system told name end stops = file_status told name (IsRefusal (nav_of system) (HasNavFile system) name) end (λ text refusal. job_status_at end _ refusal.end_is tt) stops
 
-pub files_status : (told : List ℕ → Option (List ℕ)) (base rover nav : List ℕ) (end : Ending) → StopsAtFiles told base rover nav end → IsJobStatus end.status
-files_status told base rover nav end (inl stops) = stop_status told base end stops
-files_status told base rover nav end (inr (inl stops)) = stop_status told rover end stops.stops
-files_status told base rover nav end (inr (inr stops)) = nav_stop_status told nav end stops.stops
+pub files_status : (system : System) (told : List ℕ → Option (List ℕ)) (base rover nav : List ℕ) (end : Ending) → StopsAtFiles system told base rover nav end → IsJobStatus end.status
+files_status system told base rover nav end (inl stops) = stop_status system told base end stops
+files_status system told base rover nav end (inr (inl stops)) = stop_status system told rover end stops.stops
+files_status system told base rover nav end (inr (inr stops)) = nav_stop_status system told nav end stops.stops
 
 -- ---- files that are admitted are none at which it stops
-pub no_stop : (told : List ℕ → Option (List ℕ)) (base rover nav : List ℕ) (end : Ending) → IsAdmitted told base HasObsFile → IsAdmitted told rover HasObsFile → IsAdmitted told nav HasNavFile → end.status ≢ ReadFault → StopsAtFiles told base rover nav end → ⊥
-no_stop told base rover nav end b r n no_fault (inl stops) = (admitted_ends told base HasObsFile (IsRefusal obs_of HasObsFile base) end b no_fault stops).none b.file
-no_stop told base rover nav end b r n no_fault (inr (inl stops)) = (admitted_ends told rover HasObsFile (IsRefusal obs_of HasObsFile rover) end r no_fault stops.stops).none r.file
-no_stop told base rover nav end b r n no_fault (inr (inr stops)) = (admitted_ends told nav HasNavFile (IsRefusal nav_of HasNavFile nav) end n no_fault stops.stops).none n.file
+pub no_stop : (system : System) (told : List ℕ → Option (List ℕ)) (base rover nav : List ℕ) (end : Ending) → IsAdmitted told base (HasObservation system) → IsAdmitted told rover (HasObservation system) → IsAdmitted told nav (HasNavFile system) → end.status ≢ ReadFault
+    → StopsAtFiles system told base rover nav end → ⊥
+no_stop system told base rover nav end b r n no_fault (inl stops) = (admitted_ends told base (HasObservation system) (IsRefusal (any_of system) (HasObservation system) base) end b no_fault stops).none b.file
+no_stop system told base rover nav end b r n no_fault (inr (inl stops)) = (admitted_ends told rover (HasObservation system) (IsRefusal (any_of system) (HasObservation system) rover) end r no_fault stops.stops).none r.file
+no_stop system told base rover nav end b r n no_fault (inr (inr stops)) = (admitted_ends told nav (HasNavFile system) (IsRefusal (nav_of system) (HasNavFile system) nav) end n no_fault stops.stops).none n.file
 
 -- ---- reading one after the other
 -- A file of which all was taken stops a job where each text for which the taker stands is refused.
-pub fed_stops : (told : List ℕ → Option (List ℕ)) (name : List ℕ) (taken : ℕ) (stands_for : List ℕ → Type 0) (r : Result ObsFile Stop) → IsTakenWhole (told name) taken stands_for
-    → IfStopped r (λ end. (text : List ℕ) → stands_for text → IsRefusal obs_of HasObsFile name text end) → IfStopped r (λ end. StopsAtObs told name end)
-fed_stops told name taken stands_for (Ok file) whole stops = tt
-fed_stops told name taken stands_for (Err stop) whole stops = ends_weaker stop _ _ (λ end refusal. inl (record {
+pub taken_stops : (system : System) (told : List ℕ → Option (List ℕ)) (name : List ℕ) (taken : ℕ) (stands_for : List ℕ → Type 0) (r : Result ObsFile Stop) → IsTakenWhole (told name) taken stands_for
+    → IfStopped r (λ end. (text : List ℕ) → stands_for text → IsRefusal (any_of system) (HasObservation system) name text end) → IfStopped r (λ end. StopsAtObs system told name end)
+taken_stops system told name taken stands_for (Ok file) whole stops = tt
+taken_stops system told name taken stands_for (Err stop) whole stops = ends_weaker stop _ _ (λ end refusal. inl (record {
   text = whole.text;
   is = record { told_is = whole.told_is; fits = whole.fits };
   ends_so = refusal whole.text whole.stands;
 })) stops
 
-pub at_rover : (told later : List ℕ → Option (List ℕ)) (base rover nav : List ℕ) (b : ObsFile) (end : Ending) → Same told later → IsObsOf told base b → StopsAtObs later rover end → StopsAtFiles told base rover nav end
-at_rover told later base rover nav b end same is stops = inr (inl (record { base_file = b; base_is = is; stops = file_along told later rover _ end same stops }))
+pub at_rover : (system : System) (told later : List ℕ → Option (List ℕ)) (base rover nav : List ℕ) (b : ObsFile) (end : Ending) → Same told later → IsObsOf system told base b → StopsAtObs system later rover end → StopsAtFiles system told base rover nav end
+at_rover system told later base rover nav b end same is stops = inr (inl (record { base_file = b; base_is = is; stops = file_along told later rover _ end same stops }))
 
-pub at_third : (told later last : List ℕ → Option (List ℕ)) (base rover nav : List ℕ) (b r : ObsFile) (end : Ending) → Same told later → Same later last → IsObsOf told base b → IsObsOf later rover r → StopsAtNav last nav end → StopsAtFiles told base rover nav end
-at_third told later last base rover nav b r end same again is also stops = inr (inr (record {
+pub at_third : (system : System) (told later last : List ℕ → Option (List ℕ)) (base rover nav : List ℕ) (b r : ObsFile) (end : Ending) → Same told later → Same later last → IsObsOf system told base b → IsObsOf system later rover r → StopsAtNav system last nav end → StopsAtFiles system told base rover nav end
+at_third system told later last base rover nav b r end same again is also stops = inr (inr (record {
   base_file = b;
   base_is = is;
   rover_file = r;
-  rover_is = obs_along told later rover r same also;
+  rover_is = obs_along system told later rover r same also;
   stops = file_along told later nav _ end same (file_along later last nav _ end again stops);
 }))
 

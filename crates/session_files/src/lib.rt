@@ -1,14 +1,14 @@
-//! The three files of a session, read one after the other.
+//! The three files of a session of one system, read one after the other. An observation file may be of either format of
+//! RINEX.
 #![tactic(auto)]
 
 ghost use Rattle.std.specs.Prelude.{◌≡◌, ◌≢◌, ◌≤◌, ℕ, List, [], ◌∷◌, length, IfOk, OnOk, All};
 ghost use Rattle.line_source.specs.Causes.{Rose, OpensAtMost};
 ghost use Rattle.line_source.specs.Told.{Same, Stays, IsReadToEnd};
 ghost use Rattle.line_source.specs.Lines.{lines_of};
-ghost use Rattle.rinex_obs.specs.ObsForm.{IsObsFile, HasObsFile};
-ghost use Rattle.rinex_obs.specs.ObsRules.{obs_of};
-ghost use Rattle.rinex_nav.specs.NavForm.{IsNavFile, HasNavFile};
-ghost use Rattle.rinex_nav.specs.NavRules.{nav_of};
+ghost use Rattle.obs_source.specs.Formats.{any_of, IsObservation, HasObservation};
+ghost use Rattle.nav_records.specs.NavForm.{IsNavFile, HasNavFile};
+ghost use Rattle.nav_records.specs.NavRules.{nav_of};
 ghost use Rattle.eph_store.specs.Records.{AreFit};
 ghost use Rattle.job_answers.specs.Answers.{IfStopped};
 ghost use Rattle.job_answers.specs.Endings.{IsRefusal, IsRefusedWhole};
@@ -17,9 +17,10 @@ ghost use Rattle.session_files.specs.SessionFiles.{IsObsOf, IsNavOf, StopsAtObs,
 use eph_store::NavFile;
 use job_answers::{Status, Stop, load_file, read_fault, refused, too_large};
 use line_source::{Files, LoadFault, Taker, load_into};
+use nav_records::read_records_of;
 use obs_store::ObsFile;
-use rinex_nav::{NavFault, read_nav};
-use rinex_obs::{ObsFault, ObsFeed};
+use obs_source::ObsTaker;
+use rinex_head::{System, TextFault};
 use std::alloc::Global;
 
 /// The files of a base and of a rover, and that of the satellites.
@@ -30,39 +31,39 @@ pub struct SessionFiles {
     pub nav: NavFile,
 }
 
-// The file whose text was fed.
-fn obs_in(alloc: Global, name: &str, feed: ObsFeed) -> Result<ObsFile, Stop>
-    ensures file { IfOk result (λ file. (text : List ℕ) → ⟦<ObsFeed as Taker>⟧.stands_for feed text → IsObsFile (lines_of text) file) }
-    ensures stopped { IfStopped result (λ end. (text : List ℕ) → ⟦<ObsFeed as Taker>⟧.stands_for feed text → IsRefusal obs_of HasObsFile name.now text end) }
+// The file whose text was taken.
+fn obs_in(alloc: Global, name: &str, taker: ObsTaker) -> Result<ObsFile, Stop>
+    ensures file { IfOk result (λ file. (text : List ℕ) → ⟦<ObsTaker as Taker>⟧.stands_for taker text → IsObservation taker.system (lines_of text) file) }
+    ensures stopped { IfStopped result (λ end. (text : List ℕ) → ⟦<ObsTaker as Taker>⟧.stands_for taker text → IsRefusal (any_of taker.system) (HasObservation taker.system) name.now text end) }
 {
-    match feed.finish() {
+    match taker.finish() {
         Ok(file) => Ok(file),
-        Err(ObsFault::Refused(at)) => Err(Stop::Ended(refused(alloc, name, at)?)),
-        Err(ObsFault::NoMemory) => Err(Stop::NoMemory),
+        Err(TextFault::Refused(at)) => Err(Stop::Ended(refused(alloc, name, at)?)),
+        Err(TextFault::NoMemory) => Err(Stop::NoMemory),
     }
 }
 
-fn nav_in(alloc: Global, name: &str, text: &[u8]) -> Result<NavFile, Stop>
+fn nav_in(alloc: Global, system: System, name: &str, text: &[u8]) -> Result<NavFile, Stop>
     requires { length text.now ≤ 67108864 }
-    ensures file { IfOk result (λ file. IsNavFile (lines_of text.now) file.all) }
+    ensures file { IfOk result (λ file. IsNavFile system (lines_of text.now) file.all) }
     ensures fit { IfOk result (λ file. AreFit file.all file.fit) }
-    ensures stopped { IfStopped result (λ end. IsRefusal nav_of HasNavFile name.now text.now end) }
+    ensures stopped { IfStopped result (λ end. IsRefusal (nav_of system) (HasNavFile system) name.now text.now end) }
 {
-    match read_nav(alloc, text) {
+    match read_records_of(alloc, system, text) {
         Ok(file) => {
             let _usable = file.fit();
             Ok(file)
         }
-        Err(NavFault::Refused(at)) => Err(Stop::Ended(refused(alloc, name, at)?)),
-        Err(NavFault::NoMemory) => Err(Stop::NoMemory),
+        Err(TextFault::Refused(at)) => Err(Stop::Ended(refused(alloc, name, at)?)),
+        Err(TextFault::NoMemory) => Err(Stop::NoMemory),
     }
 }
 
-/// The observation file of a job, or the job's end where it can't be had or is none. Its text is not kept. It is opened
-/// once, and refused only after it was read to its end.
-pub fn obs_file<F: Files>(alloc: Global, files: &mut F, name: &str) -> Result<ObsFile, Stop>
-    ensures read { IfOk result (λ file. IsObsOf (F.text_of files.old) name.now file) }
-    ensures stopped { IfStopped result (λ end. StopsAtObs (F.text_of files.old) name.now end) }
+/// The observation file of a job, with the satellites of the system, or the job's end where it can't be had or is none. The
+/// text of a file of RINEX 3 is not kept. It is opened once, and refused only after it was read to its end.
+pub fn obs_file<F: Files>(alloc: Global, files: &mut F, system: System, name: &str) -> Result<ObsFile, Stop>
+    ensures read { IfOk result (λ file. IsObsOf system (F.text_of files.old) name.now file) }
+    ensures stopped { IfStopped result (λ end. StopsAtObs system (F.text_of files.old) name.now end) }
     ensures whole { OnOk result (IsReadToEnd (F.text_of files.old) (F.unread files.new) name.now) }
     ensures refused { IfStopped result (IsRefusedWhole (F.text_of files.old) (F.unread files.new) (name.now ∷ [])) }
     ensures opened { OpensAtMost 1 (F.opened files.old) (F.opened files.new) }
@@ -72,18 +73,18 @@ pub fn obs_file<F: Files>(alloc: Global, files: &mut F, name: &str) -> Result<Ob
     ensures texts { Same (F.text_of files.old) (F.text_of files.new) }
     ensures sure_names { Stays (F.is_sure_name files.old) (F.is_sure_name files.new) }
 {
-    let mut feed = ObsFeed::new(alloc);
-    match load_into(files, name, &mut feed) {
-        Ok(()) => obs_in(alloc, name, feed),
+    let mut taker = ObsTaker::new(alloc, system);
+    match load_into(files, name, &mut taker) {
+        Ok(()) => obs_in(alloc, name, taker),
         Err(LoadFault::BigFile) => Err(Stop::Ended(too_large(alloc, name)?)),
         Err(LoadFault::ReadFault) => Err(Stop::Ended(read_fault(alloc, name)?)),
         Err(LoadFault::NoMemory) => Err(Stop::NoMemory),
     }
 }
 
-fn nav_file<F: Files>(alloc: Global, files: &mut F, name: &str) -> Result<NavFile, Stop>
-    ensures read { IfOk result (λ file. IsNavOf (F.text_of files.old) name.now file) }
-    ensures stopped { IfStopped result (λ end. StopsAtNav (F.text_of files.old) name.now end) }
+fn nav_file<F: Files>(alloc: Global, files: &mut F, system: System, name: &str) -> Result<NavFile, Stop>
+    ensures read { IfOk result (λ file. IsNavOf system (F.text_of files.old) name.now file) }
+    ensures stopped { IfStopped result (λ end. StopsAtNav system (F.text_of files.old) name.now end) }
     ensures whole { OnOk result (IsReadToEnd (F.text_of files.old) (F.unread files.new) name.now) }
     ensures refused { IfStopped result (IsRefusedWhole (F.text_of files.old) (F.unread files.new) (name.now ∷ [])) }
     ensures opened { OpensAtMost 1 (F.opened files.old) (F.opened files.new) }
@@ -92,37 +93,38 @@ fn nav_file<F: Files>(alloc: Global, files: &mut F, name: &str) -> Result<NavFil
     ensures sure { F.is_sure_name files.old name.now → IfStopped result (λ end. end.status ≢ Status.ReadFault) }
 {
     match load_file(alloc, files, name) {
-        Ok(text) => nav_in(alloc, name, &text),
+        Ok(text) => nav_in(alloc, system, name, &text),
         Err(stop) => Err(stop),
     }
 }
 
-/// Reads the three files in this order, each whole before the next and opened once, or stops at the first that can't be had
+/// Reads the three files in this order, for the satellites of the system, each whole before the next and opened once, or stops at the first that can't be had
 /// or is none of its form.
 pub fn read_session<F: Files>(
     alloc: Global,
     files: &mut F,
+    system: System,
     base: &str,
     rover: &str,
     nav: &str,
 ) -> Result<SessionFiles, Stop>
-    ensures read { IfOk result (λ s. AreFilesOf (F.text_of files.old) base.now rover.now nav.now s.base s.rover s.nav) }
-    ensures stopped { IfStopped result (λ end. StopsAtFiles (F.text_of files.old) base.now rover.now nav.now end) }
+    ensures read { IfOk result (λ s. AreFilesOf system (F.text_of files.old) base.now rover.now nav.now s.base s.rover s.nav) }
+    ensures stopped { IfStopped result (λ end. StopsAtFiles system (F.text_of files.old) base.now rover.now nav.now end) }
     ensures whole { OnOk result (IsReadToEnd (F.text_of files.old) (F.unread files.new) nav.now) }
     ensures refused { IfStopped result (IsRefusedWhole (F.text_of files.old) (F.unread files.new) (base.now ∷ rover.now ∷ nav.now ∷ [])) }
     ensures opened { OpensAtMost 3 (F.opened files.old) (F.opened files.new) }
     ensures fault { IfStopped result (λ end. end.status ≡ Status.ReadFault → Rose (F.faults files.old) (F.faults files.new)) }
     ensures sure { All (F.is_sure_name files.old) (base.now ∷ rover.now ∷ nav.now ∷ []) → IfStopped result (λ end. end.status ≢ Status.ReadFault) }
 {
-    let base_file = match obs_file(alloc, files, base) {
+    let base_file = match obs_file(alloc, files, system, base) {
         Ok(file) => file,
         Err(stop) => return Err(stop),
     };
-    let rover_file = match obs_file(alloc, files, rover) {
+    let rover_file = match obs_file(alloc, files, system, rover) {
         Ok(file) => file,
         Err(stop) => return Err(stop),
     };
-    match nav_file(alloc, files, nav) {
+    match nav_file(alloc, files, system, nav) {
         Ok(file) => Ok(SessionFiles {
             base: base_file,
             rover: rover_file,

@@ -7,11 +7,11 @@ use Rattle.session_files.proofs.read_session.Goals as goal
 
 pub returns-in-Err-obs_file-clause-stopped : goal.returns-in-Err-obs_file-clause-stopped
 returns-in-Err-obs_file-clause-stopped g c = ends_weaker c.in-Err-obs_file.stop _ _
-    (λ end stops. at_rover _ _ c.args.base.now c.args.rover.now c.args.nav.now c.in-Ok.file end c.in-Ok.ensures.texts c.in-Ok.ensures.read stops) c.in-Err-obs_file.ensures.stopped
+    (λ end stops. at_rover c.args.system _ _ c.args.base.now c.args.rover.now c.args.nav.now c.in-Ok.file end c.in-Ok.ensures.texts c.in-Ok.ensures.read stops) c.in-Err-obs_file.ensures.stopped
 
 pub returns-in-Err-nav_file-clause-stopped : goal.returns-in-Err-nav_file-clause-stopped
 returns-in-Err-nav_file-clause-stopped g c = ends_weaker c.in-Err-nav_file.stop _ _
-    (λ end stops. at_third _ _ _ c.args.base.now c.args.rover.now c.args.nav.now c.in-Ok.file c.in-Ok-obs_file.file end c.in-Ok.ensures.texts c.in-Ok-obs_file.ensures.texts c.in-Ok.ensures.read c.in-Ok-obs_file.ensures.read stops) c.in-Err-nav_file.ensures.stopped
+    (λ end stops. at_third c.args.system _ _ _ c.args.base.now c.args.rover.now c.args.nav.now c.in-Ok.file c.in-Ok-obs_file.file end c.in-Ok.ensures.texts c.in-Ok-obs_file.ensures.texts c.in-Ok.ensures.read c.in-Ok-obs_file.ensures.read stops) c.in-Err-nav_file.ensures.stopped
 
 pub returns-in-Err-nav_file-clause-sure : goal.returns-in-Err-nav_file-clause-sure
 returns-in-Err-nav_file-clause-sure g c = λ all.

@@ -1,0 +1,34 @@
+// The whole text.
+ghost use Rattle.std.specs.Prelude.{◌≡◌, ◌≤◌, length, IfOk};
+ghost use Rattle.obs_store.specs.declared.file.ObsFile.{ObsFile};
+ghost use Rattle.rinex_head.specs.FirstFailing.{IsFirstFailing};
+ghost use Rattle.rinex_head.specs.declared.system.System.TheVariants.{Galileo};
+ghost use Rattle.line_source.specs.Lines.{lines_of};
+ghost use Rattle.rinex_head.specs.Walk.{Gives, OnRefusal, IfRefused};
+ghost use Rattle.obs_feed.specs.ObsForm.{IsObsFile, HasObsFile};
+ghost use Rattle.obs_feed.specs.ObsRules.{obs_of};
+
+use line_source::Taker;
+use obs_feed::Feed;
+use obs_store::ObsFile;
+use rinex_head::{System, TextFault};
+use std::alloc::{AllocError, Global};
+
+/// The observation file that a text stands for (RINEX 3.00 to 3.05), or the first place at which it stands for none.
+///
+/// Its satellites are those of Galileo, and its types those of E1 and E5a. Lengths are in 0.1 mm, values in thousandths of a
+/// metre or a cycle, tags in ticks of 100 ns.
+pub fn read_gal_obs(alloc: Global, text: &[u8]) -> Result<ObsFile, TextFault>
+    requires { length text.now ≤ 67_108_864 }
+    ensures ok { IfOk result (λ file. IsObsFile Galileo (lines_of text.now) file) }
+    ensures only { IfOk result (λ file. (other : ObsFile) → IsObsFile Galileo (lines_of text.now) other → other ≡ file) }
+    ensures refused { OnRefusal result (HasObsFile Galileo (lines_of text.now) → ⊥) }
+    ensures first { IfRefused result (λ at. IsFirstFailing (HasObsFile Galileo) (lines_of text.now) at.line) }
+    ensures exact { Gives (obs_of Galileo (lines_of text.now)) (λ file. file) result }
+{
+    let mut feed = Feed::new(alloc, System::Galileo);
+    match feed.take(text) {
+        Ok(()) => feed.finish(),
+        Err(AllocError) => Err(TextFault::NoMemory),
+    }
+}

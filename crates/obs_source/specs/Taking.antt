@@ -1,0 +1,51 @@
+-- For which texts a taker stands that tells the format by the first line.
+use Rattle.std.specs.Prelude.{◌≡◌, ℕ, List, ◌++◌, length, Result, IfOk}
+use Rattle.std.proofs.Props.{props}
+use Rattle.line_source.specs.Lines.{lines_of}
+use Rattle.obs_store.specs.declared.file.ObsFile.{ObsFile}
+use Rattle.rinex_head.specs.declared.place.At.{At}
+use Rattle.rinex_head.specs.declared.place.TextFault.{TextFault}
+use Rattle.rinex_head.specs.declared.system.System.{System}
+use Rattle.rinex_head.specs.declared.system.System.TheVariants.{Gps}
+use Rattle.rinex_head.specs.FirstFailing.{IsFirstFailing}
+use Rattle.rinex_head.specs.Walk.{Gives, OnRefusal, IfRefused}
+use Rattle.obs_feed.specs.declared.feed.Feed.{Feed}
+use Rattle.obs_feed.specs.Fed.{StandsFor}
+use Rattle.obs_feed.specs.ObsRules.{obs_of}
+use Rattle.obs_feed.specs.Started.{GoesOn}
+use Rattle.rinex2_obs.specs.Obs2Rules.{obs2_of}
+use Rattle.obs_source.specs.declared.taker.Source.{Source}
+use Rattle.obs_source.specs.declared.taker.Source.TheVariants as source
+use Rattle.obs_source.specs.Formats.{any_of, IsObservation, HasObservation}
+
+-- what is kept is of so many bytes
+abbrev pub IsOfBytes : System → Source → ℕ → Type 0
+IsOfBytes system (source.Begun line) taken = (system ≡ Gps) × (length line ≡ taken)
+IsOfBytes system (source.Three feed) taken = (feed.system ≡ system) × (feed.taken ≡ taken)
+IsOfBytes system (source.Two bytes) taken = (system ≡ Gps) × (length bytes ≡ taken)
+IsOfBytes system source.NoMemory taken = Unit {0}
+
+pub IsOfBytes-prop : (system : System) (s : Source) (taken : ℕ) → IsProp (IsOfBytes system s taken)
+IsOfBytes-prop system (source.Begun line) taken = Prim.hlevel props
+IsOfBytes-prop system (source.Three feed) taken = Prim.hlevel props
+IsOfBytes-prop system (source.Two bytes) taken = Prim.hlevel props
+IsOfBytes-prop system source.NoMemory taken = Prim.hlevel props
+
+-- Whatever follows the text, its lines are read so.
+abbrev pub IsReadBy : System → (List (List ℕ) → Result ObsFile At) → List ℕ → Type 0
+IsReadBy system reads text = (more : List ℕ) → any_of system (lines_of (text ++ more)) ≡ reads (lines_of (text ++ more))
+
+-- the text is a line that may go on; a feed stands for it, or it is kept; after a want of memory there is none
+abbrev pub StandsForText : System → Source → List ℕ → Type 0
+StandsForText system (source.Begun line) text = (text ≡ line) × GoesOn line
+StandsForText system (source.Three feed) text = StandsFor feed.system feed.state feed.taken text × IsReadBy system (λ lines. obs_of system lines) text
+StandsForText system (source.Two bytes) text = (text ≡ bytes) × IsReadBy system obs2_of text
+StandsForText system source.NoMemory text = ⊥
+
+-- the answer to a text: its observation file, or the first place at which it has none
+pub record IsAnswer (system : System) (text : List ℕ) (result : Result ObsFile TextFault) : Type 0 where
+  pub ok : IfOk result (λ file. IsObservation system (lines_of text) file)
+  pub only : IfOk result (λ file. (other : ObsFile) → IsObservation system (lines_of text) other → other ≡ file)
+  pub refused : OnRefusal result (HasObservation system (lines_of text) → ⊥)
+  pub first : IfRefused result (λ at. IsFirstFailing (HasObservation system) (lines_of text) at.line)
+  pub exact : Gives (any_of system (lines_of text)) (λ file. file) result
