@@ -54,8 +54,8 @@ printed_number d =
 unfoldable pub three : Dec → Dec → Dec → List ℕ
 three a b c = number_text a ++ (number_text b ++ number_text c)
 
-unfoldable pub first_content : ℕ → Dec → Dec → Dec → List ℕ
-first_content sat a b c = codes "G" ++ (last_digits 2 sat ++ (codes " 2024 01 01 00 00 00" ++ three a b c))
+unfoldable pub first_content : ℕ → ℕ → Dec → Dec → Dec → List ℕ
+first_content letter sat a b c = letter ∷ (last_digits 2 sat ++ (codes " 2024 01 01 00 00 00" ++ three a b c))
 
 unfoldable pub further_content : Dec → Dec → Dec → Dec → List ℕ
 further_content a b c d = codes "    " ++ (number_text a ++ three b c d)
@@ -64,45 +64,46 @@ printed_three : (a b c : Dec) → are_printed (three a b c) ≡ true
 unfolding three
 printed_three a b c = printed-append (number_text a) (number_text b ++ number_text c) (printed_number a) (printed-append (number_text b) (number_text c) (printed_number b) (printed_number c))
 
-printed_first : (sat : ℕ) (a b c : Dec) → are_printed (first_content sat a b c) ≡ true
+printed_first : (letter sat : ℕ) (a b c : Dec) → nat_le 32 letter ≡ true → are_printed (first_content letter sat a b c) ≡ true
 unfolding first_content
-printed_first sat a b c =
-    printed-append (last_digits 2 sat) (codes " 2024 01 01 00 00 00" ++ three a b c) (printed_digits 2 sat) (printed-append (codes " 2024 01 01 00 00 00") (three a b c) refl (printed_three a b c))
+printed_first letter sat a b c p =
+    rw p
+    (printed-append (last_digits 2 sat) (codes " 2024 01 01 00 00 00" ++ three a b c) (printed_digits 2 sat) (printed-append (codes " 2024 01 01 00 00 00") (three a b c) refl (printed_three a b c)))
 
 printed_further : (a b c d : Dec) → are_printed (further_content a b c d) ≡ true
 unfolding further_content
 printed_further a b c d = printed-append (codes "    ") (number_text a ++ three b c d) refl (printed-append (number_text a) (three b c d) (printed_number a) (printed_three b c d))
 
-pub length-first : (sat : ℕ) (a b c : Dec) → length (first_content sat a b c) ≡ 80
+pub length-first : (letter sat : ℕ) (a b c : Dec) → length (first_content letter sat a b c) ≡ 80
 unfolding first_content three number_text
-length-first sat a b c = refl
+length-first letter sat a b c = refl
 
 pub length-further : (a b c d : Dec) → length (further_content a b c d) ≡ 80
 unfolding further_content three number_text
 length-further a b c d = refl
 
-first_is : (sat : ℕ) (a b c : Dec) (rest : List ℕ) → first_line sat a b c ++ rest ≡ first_content sat a b c ++ 10 ∷ rest
+first_is : (letter sat : ℕ) (a b c : Dec) (rest : List ℕ) → first_line letter sat a b c ++ rest ≡ first_content letter sat a b c ++ 10 ∷ rest
 unfolding first_line first_content three number_text
-first_is sat a b c rest = refl
+first_is letter sat a b c rest = refl
 
 further_is : (a b c d : Dec) (rest : List ℕ) → further_line a b c d ++ rest ≡ further_content a b c d ++ 10 ∷ rest
 unfolding further_line further_content three number_text
 further_is a b c d rest = refl
 
-pub first_read : (sat : ℕ) (a b c : Dec) (rest : List ℕ) → lines_of (first_line sat a b c ++ rest) ≡ first_content sat a b c ∷ lines_of rest
-first_read sat a b c rest = ap lines_of (first_is sat a b c rest) ∙ line_first (first_content sat a b c) rest (printed_first sat a b c)
+pub first_read : (letter sat : ℕ) (a b c : Dec) (rest : List ℕ) → nat_le 32 letter ≡ true → lines_of (first_line letter sat a b c ++ rest) ≡ first_content letter sat a b c ∷ lines_of rest
+first_read letter sat a b c rest p = ap lines_of (first_is letter sat a b c rest) ∙ line_first (first_content letter sat a b c) rest (printed_first letter sat a b c p)
 
 pub further_read : (a b c d : Dec) (rest : List ℕ) → lines_of (further_line a b c d ++ rest) ≡ further_content a b c d ∷ lines_of rest
 further_read a b c d rest = ap lines_of (further_is a b c d rest) ∙ line_first (further_content a b c d) rest (printed_further a b c d)
 
 -- ---- the columns of a line
-pub first_letter : (sat : ℕ) (a b c : Dec) → column (first_content sat a b c) 1 ≡ 71
+pub first_letter : (letter sat : ℕ) (a b c : Dec) → column (first_content letter sat a b c) 1 ≡ letter
 unfolding first_content
-first_letter sat a b c = refl
+first_letter letter sat a b c = refl
 
-pub first_sat : (sat : ℕ) (a b c : Dec) → columns (first_content sat a b c) 2 2 ≡ last_digits 2 sat
+pub first_sat : (letter sat : ℕ) (a b c : Dec) → columns (first_content letter sat a b c) 2 2 ≡ last_digits 2 sat
 unfolding first_content padded
-first_sat sat a b c = refl
+first_sat letter sat a b c = refl
 
 pub further_blank : (a b c d : Dec) → column (further_content a b c d) 1 ≡ 32
 unfolding further_content
@@ -112,26 +113,26 @@ number_at : (line : List ℕ) (first : ℕ) (d : Dec) → columns line first 19 
 unfolding number_in exponent_in
 number_at line first d is room = rw (is, number_again d room) refl
 
-at_first_24 : (sat : ℕ) (a b c : Dec) → columns (first_content sat a b c) 24 19 ≡ number_text a
+at_first_24 : (letter sat : ℕ) (a b c : Dec) → columns (first_content letter sat a b c) 24 19 ≡ number_text a
 unfolding first_content three number_text padded
-at_first_24 sat a b c = refl
+at_first_24 letter sat a b c = refl
 
-pub first_24 : (sat : ℕ) (a b c : Dec) → HasRoom a → number_in (first_content sat a b c) 24 ≡ Ok a
-first_24 sat a b c room = number_at (first_content sat a b c) 24 a (at_first_24 sat a b c) room
+pub first_24 : (letter sat : ℕ) (a b c : Dec) → HasRoom a → number_in (first_content letter sat a b c) 24 ≡ Ok a
+first_24 letter sat a b c room = number_at (first_content letter sat a b c) 24 a (at_first_24 letter sat a b c) room
 
-at_first_43 : (sat : ℕ) (a b c : Dec) → columns (first_content sat a b c) 43 19 ≡ number_text b
+at_first_43 : (letter sat : ℕ) (a b c : Dec) → columns (first_content letter sat a b c) 43 19 ≡ number_text b
 unfolding first_content three number_text padded
-at_first_43 sat a b c = refl
+at_first_43 letter sat a b c = refl
 
-pub first_43 : (sat : ℕ) (a b c : Dec) → HasRoom b → number_in (first_content sat a b c) 43 ≡ Ok b
-first_43 sat a b c room = number_at (first_content sat a b c) 43 b (at_first_43 sat a b c) room
+pub first_43 : (letter sat : ℕ) (a b c : Dec) → HasRoom b → number_in (first_content letter sat a b c) 43 ≡ Ok b
+first_43 letter sat a b c room = number_at (first_content letter sat a b c) 43 b (at_first_43 letter sat a b c) room
 
-at_first_62 : (sat : ℕ) (a b c : Dec) → columns (first_content sat a b c) 62 19 ≡ number_text c
+at_first_62 : (letter sat : ℕ) (a b c : Dec) → columns (first_content letter sat a b c) 62 19 ≡ number_text c
 unfolding first_content three number_text padded
-at_first_62 sat a b c = refl
+at_first_62 letter sat a b c = refl
 
-pub first_62 : (sat : ℕ) (a b c : Dec) → HasRoom c → number_in (first_content sat a b c) 62 ≡ Ok c
-first_62 sat a b c room = number_at (first_content sat a b c) 62 c (at_first_62 sat a b c) room
+pub first_62 : (letter sat : ℕ) (a b c : Dec) → HasRoom c → number_in (first_content letter sat a b c) 62 ≡ Ok c
+first_62 letter sat a b c room = number_at (first_content letter sat a b c) 62 c (at_first_62 letter sat a b c) room
 
 at_further_5 : (a b c d : Dec) → columns (further_content a b c d) 5 19 ≡ number_text a
 unfolding further_content three number_text padded

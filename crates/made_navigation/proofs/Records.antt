@@ -1,5 +1,5 @@
 -- A record's lines give its numbers.
-use Rattle.std.proofs.Common.{◌≡◌, ℕ, ℤ, pos, negsuc, zero, suc, ◌+◌, ◌^◌, ◌≤◌, ◌<◌, ◌-ℤ◌, ◌*ℤ◌, ◌≤ℤ◌, Bool, ◌&&◌, true, nat_le, List, [], ◌∷◌, ◌++◌, Ok, unsigned_abs, refl, sym, ap, ◌∙◌, arith}
+use Rattle.std.proofs.Common.{◌≡◌, ℕ, ℤ, pos, negsuc, zero, suc, ◌+◌, ◌^◌, ◌≤◌, ◌<◌, ◌-ℤ◌, ◌*ℤ◌, ◌≤ℤ◌, Bool, ◌&&◌, true, nat_le, List, [], ◌∷◌, ◌++◌, Ok, Some, unsigned_abs, refl, sym, ap, ◌∙◌, arith}
 use Rattle.std.proofs.lemmas.Bool.Decides.{nat_tests}
 use Rattle.std.proofs.lemmas.List.{append_assoc}
 use Rattle.std.proofs.lemmas.List.Elements.{All-from_recursion}
@@ -11,10 +11,12 @@ use Rattle.eph_store.specs.declared.ephemeris.Eph.{Eph}
 use Rattle.line_source.specs.Lines.{lines_of}
 use Rattle.rinex_head.specs.Columns.{padded}
 use Rattle.rinex_head.specs.Fields.{whole_of}
-use Rattle.rinex_head.specs.declared.system.System.TheVariants.{Gps}
+use Rattle.rinex_head.specs.Systems.{letter_of}
+use Rattle.rinex_head.specs.declared.system.System.{System}
+use Rattle.rinex_head.specs.declared.system.System.TheVariants.{Gps, Galileo}
 use Rattle.nav_records.specs.RecordLines.{satellite_of, satellite_in, moment_of, toc_in}
 use Rattle.nav_records.specs.NavForm.{EightLines, further_of, IsFurther, IsRecord}
-use Rattle.sim_records.specs.Satellites.{IsSatellite, AreNormal, anomalies, longitudes, anomaly, node}
+use Rattle.sim_records.specs.Satellites.{IsSatellite, AreNormal, anomalies, longitudes, anomaly, node, root_a_tenths}
 use Rattle.sim_records.specs.Navigation.{zero_number, second_number, week_number, first_line, further_line, record_text}
 use Rattle.written_texts.proofs.Printed.{first_and, second_and}
 use Rattle.written_texts.proofs.Fields.{whole_digits}
@@ -24,9 +26,9 @@ use Rattle.made_navigation.proofs.Numbers.{HasRoom}
 use Rattle.made_navigation.proofs.Rooms.{room}
 use Rattle.made_navigation.proofs.Lines.{first_content, further_content, first_read, further_read, first_letter, first_sat, further_blank, first_24, first_43, first_62, further_5, further_24, further_43, further_62}
 
-unfoldable pub lines_for : Eph → EightLines
-lines_for e = record {
-  first = first_content e.sat e.af0 e.af1 e.af2;
+unfoldable pub lines_for : ℕ → Eph → EightLines
+lines_for letter e = record {
+  first = first_content letter e.sat e.af0 e.af1 e.af2;
   second = further_content zero_number e.crs e.dn e.m0;
   third = further_content e.cuc e.ecc e.cus e.root_a;
   fourth = further_content second_number e.cic e.node e.cis;
@@ -39,41 +41,54 @@ lines_for e = record {
 eight : (a b c d e f g h rest : List ℕ) → (a ++ (b ++ (c ++ (d ++ (e ++ (f ++ (g ++ h))))))) ++ rest ≡ a ++ (b ++ (c ++ (d ++ (e ++ (f ++ (g ++ (h ++ rest)))))))
 eight a b c d e f g h rest = simp append_assoc
 
-text_is : (e : Eph) (rest : List ℕ) → record_text e ++ rest ≡ first_line e.sat e.af0 e.af1 e.af2 ++ (further_line zero_number e.crs e.dn e.m0 ++ (further_line e.cuc e.ecc e.cus e.root_a
+text_is : (letter : ℕ) (e : Eph) (rest : List ℕ) → record_text letter e ++ rest ≡ first_line letter e.sat e.af0 e.af1 e.af2 ++ (further_line zero_number e.crs e.dn e.m0 ++ (further_line e.cuc e.ecc e.cus e.root_a
     ++ (further_line second_number e.cic e.node e.cis ++ (further_line e.incl e.crc e.peri e.node_rate ++ (further_line e.incl_rate zero_number week_number zero_number
     ++ (further_line zero_number zero_number zero_number zero_number ++ (further_line zero_number zero_number zero_number zero_number ++ rest)))))))
 unfolding record_text
-text_is e rest =
-    eight (first_line e.sat e.af0 e.af1 e.af2) (further_line zero_number e.crs e.dn e.m0) (further_line e.cuc e.ecc e.cus e.root_a) (further_line second_number e.cic e.node e.cis)
+text_is letter e rest =
+    eight (first_line letter e.sat e.af0 e.af1 e.af2) (further_line zero_number e.crs e.dn e.m0) (further_line e.cuc e.ecc e.cus e.root_a) (further_line second_number e.cic e.node e.cis)
     (further_line e.incl e.crc e.peri e.node_rate) (further_line e.incl_rate zero_number week_number zero_number) (further_line zero_number zero_number zero_number zero_number)
     (further_line zero_number zero_number zero_number zero_number) rest
 
-pub record_read : (e : Eph) (rest : List ℕ) → lines_of (record_text e ++ rest) ≡ (lines_for e).first ∷ (further_of (lines_for e) ++ lines_of rest)
+pub record_read : (letter : ℕ) (e : Eph) (rest : List ℕ) → nat_le 32 letter ≡ true → lines_of (record_text letter e ++ rest) ≡ (lines_for letter e).first ∷ (further_of (lines_for letter e) ++ lines_of rest)
 unfolding lines_for
-record_read e rest = ap lines_of (text_is e rest) ∙ simp (first_read, further_read) refl
+record_read letter e rest printed =
+    let behind : List ℕ = further_line zero_number e.crs e.dn e.m0 ++ (further_line e.cuc e.ecc e.cus e.root_a
+    ++ (further_line second_number e.cic e.node e.cis ++ (further_line e.incl e.crc e.peri e.node_rate ++ (further_line e.incl_rate zero_number week_number zero_number
+    ++ (further_line zero_number zero_number zero_number zero_number ++ (further_line zero_number zero_number zero_number zero_number ++ rest)))))) in
+    ap lines_of (text_is letter e rest) ∙ first_read letter e.sat e.af0 e.af1 e.af2 behind printed
+    ∙ ap (λ (l : List (List ℕ)). first_content letter e.sat e.af0 e.af1 e.af2 ∷ l) (simp further_read refl)
 
 -- ---- the first line
-sat_is : (sat : ℕ) (a b c : Dec) → 1 ≤ sat → sat ≤ 32 → satellite_in Gps (first_content sat a b c) ≡ Ok sat
-unfolding satellite_in
-sat_is sat a b c low high =
-    let few : sat < 10 ^ 2 = omega arith in
+sat_of : (system : System) (sat : ℕ) → 1 ≤ sat → sat ≤ 32 → satellite_of system (Ok (Some sat)) ≡ Ok sat
+sat_of Gps sat low high =
     let above : nat_le 1 sat ≡ true = grind (arith, nat_tests) in
     let below : nat_le sat 32 ≡ true = grind (arith, nat_tests) in
-    ap (λ (field : List ℕ). satellite_of Gps (whole_of 2 field)) (first_sat sat a b c) ∙ ap (satellite_of Gps) (whole_digits 2 1 sat few) ∙ rw (above, below) refl
+    rw (above, below) refl
+sat_of Galileo sat low high =
+    let above : nat_le 1 sat ≡ true = grind (arith, nat_tests) in
+    let below : nat_le sat 36 ≡ true = grind (arith, nat_tests) in
+    rw (above, below) refl
+
+sat_is : (system : System) (letter sat : ℕ) (a b c : Dec) → 1 ≤ sat → sat ≤ 32 → satellite_in system (first_content letter sat a b c) ≡ Ok sat
+unfolding satellite_in
+sat_is system letter sat a b c low high =
+    let few : sat < 10 ^ 2 = omega arith in
+    ap (λ (field : List ℕ). satellite_of system (whole_of 2 field)) (first_sat letter sat a b c) ∙ ap (satellite_of system) (whole_digits 2 1 sat few) ∙ sat_of system sat low high
 
 moment : moment_of 2024 1 1 0 0 0 ≡ Ok (record { 0 = 13_881_024_000_000_000 })
 unfolding moment_of
 moment = rw (moment_is 0 0 0 (omega arith) (omega arith) (omega arith)) (ap (λ (n : ℕ). let tick : Tick = record { 0 = n } in Ok tick) (ticks_are 0 0 0))
 
-date_is : (sat : ℕ) (a b c : Dec) → toc_in (first_content sat a b c) ≡ moment_of 2024 1 1 0 0 0
+date_is : (letter sat : ℕ) (a b c : Dec) → toc_in (first_content letter sat a b c) ≡ moment_of 2024 1 1 0 0 0
 unfolding toc_in first_content padded
-date_is sat a b c = refl
+date_is letter sat a b c = refl
 
 tick_is : (t : Tick) (n : ℕ) → t.0 ≡ n → record { 0 = n } ≡ t
 tick_is t n is = ap (λ (m : ℕ). let tick : Tick = record { 0 = m } in tick) (sym is)
 
-toc_is : (t : Tick) (sat : ℕ) (a b c : Dec) → t.0 ≡ 13881024000000000 → toc_in (first_content sat a b c) ≡ Ok t
-toc_is t sat a b c is = date_is sat a b c ∙ moment ∙ ap (λ (tick : Tick). Ok tick) (tick_is t 13881024000000000 is)
+toc_is : (t : Tick) (letter sat : ℕ) (a b c : Dec) → t.0 ≡ 13881024000000000 → toc_in (first_content letter sat a b c) ≡ Ok t
+toc_is t letter sat a b c is = date_is letter sat a b c ∙ moment ∙ ap (λ (tick : Tick). Ok tick) (tick_is t 13881024000000000 is)
 
 -- ---- all fields
 zero_room : HasRoom zero_number
@@ -136,13 +151,18 @@ small_node l a p q =
     let a2 = high a q in
     sized ((pos 10 *ℤ l) -ℤ (pos 6 *ℤ a)) (omega (arith, ints)) (omega (arith, ints))
 
-pub record_is : (k : ℕ) (e : Eph) → IsSatellite k e → AreNormal e → k < 32 → IsRecord Gps (lines_for e) (raw_of e)
+small_root : (system : System) → unsigned_abs (root_a_tenths (letter_of system)) < 10 ^ 6
+small_root Gps = omega arith
+small_root Galileo = omega arith
+
+pub record_is : (system : System) (k : ℕ) (e : Eph) → IsSatellite (letter_of system) k e → AreNormal e → k < 32 → IsRecord system (lines_for (letter_of system) e) (raw_of e)
 unfolding lines_for
-record_is k e is normal few =
+record_is system k e is normal few =
+    let letter : ℕ = letter_of system in
     let number : e.sat ≡ k + 1 = is.sat in
     record {
-      letter = first_letter e.sat e.af0 e.af1 e.af2;
-      behind = All-from_recursion IsFurther (further_of (lines_for e)) (
+      letter = first_letter letter e.sat e.af0 e.af1 e.af2;
+      behind = All-from_recursion IsFurther (further_of (lines_for letter e)) (
         further_blank zero_number e.crs e.dn e.m0,
         (
           further_blank e.cuc e.ecc e.cus e.root_a,
@@ -161,18 +181,18 @@ record_is k e is normal few =
           ),
         ),
       );
-      sat = sat_is e.sat e.af0 e.af1 e.af2 (omega arith) (omega arith);
-      toc = toc_is e.toc e.sat e.af0 e.af1 e.af2 is.toc;
-      af0 = first_24 e.sat e.af0 e.af1 e.af2 (room e.af0 (pos (k + 1)) 5 normal.af0 is.af0 (omega arith) (omega arith));
-      af1 = first_43 e.sat e.af0 e.af1 e.af2 (room e.af1 (pos 1) 12 normal.af1 is.af1 (omega arith) (omega arith));
-      af2 = first_62 e.sat e.af0 e.af1 e.af2 (room e.af2 (pos 0) 0 normal.af2 is.af2 (omega arith) (omega arith));
+      sat = sat_is system letter e.sat e.af0 e.af1 e.af2 (omega arith) (omega arith);
+      toc = toc_is e.toc letter e.sat e.af0 e.af1 e.af2 is.toc;
+      af0 = first_24 letter e.sat e.af0 e.af1 e.af2 (room e.af0 (pos (k + 1)) 5 normal.af0 is.af0 (omega arith) (omega arith));
+      af1 = first_43 letter e.sat e.af0 e.af1 e.af2 (room e.af1 (pos 1) 12 normal.af1 is.af1 (omega arith) (omega arith));
+      af2 = first_62 letter e.sat e.af0 e.af1 e.af2 (room e.af2 (pos 0) 0 normal.af2 is.af2 (omega arith) (omega arith));
       crs = further_24 zero_number e.crs e.dn e.m0 (room e.crs (pos 0) 0 normal.crs is.crs (omega arith) (omega arith));
       dn = further_43 zero_number e.crs e.dn e.m0 (room e.dn (pos 45) 10 normal.dn is.dn (omega arith) (omega arith));
       m0 = further_62 zero_number e.crs e.dn e.m0 (room e.m0 (anomaly k) 1 normal.m0 is.m0 (omega (arith, small_anomaly k)) (omega arith));
       cuc = further_5 e.cuc e.ecc e.cus e.root_a (room e.cuc (pos 1) 6 normal.cuc is.cuc (omega arith) (omega arith));
       ecc = further_24 e.cuc e.ecc e.cus e.root_a (room e.ecc (pos (k + 1)) 3 normal.ecc is.ecc (omega arith) (omega arith));
       cus = further_43 e.cuc e.ecc e.cus e.root_a (room e.cus (pos 0) 0 normal.cus is.cus (omega arith) (omega arith));
-      root_a = further_62 e.cuc e.ecc e.cus e.root_a (room e.root_a (pos 51536) 1 normal.root_a is.root_a (omega arith) (omega arith));
+      root_a = further_62 e.cuc e.ecc e.cus e.root_a (room e.root_a (root_a_tenths letter) 1 normal.root_a is.root_a (small_root system) (omega arith));
       toe_s = further_5 second_number e.cic e.node e.cis second_room;
       cic = further_24 second_number e.cic e.node e.cis (room e.cic (pos 0) 0 normal.cic is.cic (omega arith) (omega arith));
       node = further_43 second_number e.cic e.node e.cis (room e.node (node k) 2 normal.node is.node (small_node (slice_index_or longitudes k (pos 0)) (anomaly k) (small_longitude k) (small_anomaly k)) (omega arith));

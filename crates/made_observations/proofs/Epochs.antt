@@ -17,7 +17,6 @@ use Rattle.rinex_head.specs.declared.place.Flaw.{Flaw}
 use Rattle.rinex_head.specs.Columns.{column, columns, padded}
 use Rattle.rinex_head.specs.Places.{and_then}
 use Rattle.rinex_head.specs.Fields.{filled_of, fixed_in as fixed_field, readable, required}
-use Rattle.rinex_head.specs.declared.system.System.TheVariants.{Gps}
 use Rattle.obs_fields.specs.declared.layout.Layout.TheVariants.{Rinex3}
 use Rattle.obs_fields.specs.EpochFields.{count_in, moment_of, is_later}
 use Rattle.obs_feed.specs.EpochLines.{tag_in, epoch_in, epoch_line_of}
@@ -26,16 +25,17 @@ use Rattle.obs_feed.specs.ObsForm.{satellites_of as satellites_in, epochs_of as 
 use Rattle.obs_feed.specs.SatLines.{satellite_of}
 use Rattle.obs_feed.specs.declared.epoch_lines.EpochLine.TheVariants as line
 use Rattle.sim_texts.specs.declared.signals.Signals.{Signals}
+use Rattle.sim_texts.specs.declared.signals.Tracking.{Tracking}
 use Rattle.sim_texts.specs.Columns.{fixed_in}
 use Rattle.sim_texts.specs.Observations.{epoch_line, satellite_line, satellite_lines, epoch_text, epochs_text, AreInColumns}
 use Rattle.sim_texts.proofs.Lengths.{length-second, length-count}
 use Rattle.written_texts.specs.Printed.{are_printed}
 use Rattle.written_texts.proofs.Printed.{printed-append, line_first}
-use Rattle.written_texts.proofs.Fields.{drop-behind, padded-front, whole_digits}
+use Rattle.written_texts.proofs.Fields.{drop-behind, get-behind, padded-front, padded-whole, whole_digits}
 use Rattle.written_texts.proofs.Dates.{moment_is, ticks_are}
-use Rattle.made_observations.specs.Files.{values_of, satellites_of, tick_at, epochs_of, HaveRoom}
+use Rattle.made_observations.specs.Files.{system_in, values_of, satellites_of, tick_at, epochs_of, HaveRoom}
 use Rattle.made_observations.proofs.Texts.{printed_digits, printed_fixed, fixed_is, count_is}
-use Rattle.made_observations.proofs.Satellites.{content, line_read, length-content, the_kept, AreBelow, none_below, more_below, read_as, get-behind, padded-whole}
+use Rattle.made_observations.proofs.Satellites.{content, line_read, short, the_kept, AreBelow, none_below, more_below, read_as}
 
 -- ---- an epoch's line
 second_text : ℕ → List ℕ
@@ -197,82 +197,83 @@ line_says epochs seconds sats few day small later =
     rw (begins seconds sats, letter_is seconds sats, flag_is seconds sats, room, tag_is seconds sats day, later, counted seconds sats small) refl
 
 -- ---- its satellites
-contents : ℕ → List Signals → List (List ℕ)
-contents n [] = []
-contents n (s ∷ sats) = content (n + 1) s ∷ contents (n + 1) sats
+contents : Tracking → ℕ → List Signals → List (List ℕ)
+contents t n [] = []
+contents t n (s ∷ sats) = content t (n + 1) s ∷ contents t (n + 1) sats
 
-length-contents : (n : ℕ) (sats : List Signals) → length (contents n sats) ≡ length sats
+length-contents : (t : Tracking) (n : ℕ) (sats : List Signals) → length (contents t n sats) ≡ length sats
 unfolding contents
-length-contents n [] = refl
-length-contents n (s ∷ sats) = omega (arith, length-contents (n + 1) sats)
+length-contents t n [] = refl
+length-contents t n (s ∷ sats) = omega (arith, length-contents t (n + 1) sats)
 
-found : ℕ → List Signals → List (Option SatObs)
-found n [] = []
-found n (s ∷ sats) = Some (satellite_of (n + 1) (values_of s)) ∷ found (n + 1) sats
+found : Tracking → ℕ → List Signals → List (Option SatObs)
+found t n [] = []
+found t n (s ∷ sats) = Some (satellite_of (n + 1) (values_of t s)) ∷ found t (n + 1) sats
 
-found_are : (n : ℕ) (sats : List Signals) → satellites_in (found n sats) ≡ satellites_of n sats
+found_are : (t : Tracking) (n : ℕ) (sats : List Signals) → satellites_in (found t n sats) ≡ satellites_of t n sats
 unfolding found
-found_are n [] = refl
-found_are n (s ∷ sats) = ap (λ (l : List SatObs). satellite_of (n + 1) (values_of s) ∷ l) (found_are (n + 1) sats)
+found_are t n [] = refl
+found_are t n (s ∷ sats) = ap (λ (l : List SatObs). satellite_of (n + 1) (values_of t s) ∷ l) (found_are t (n + 1) sats)
 
-satellites_read : (n : ℕ) (sats : List Signals) (rest : List ℕ) → All AreInColumns sats → lines_of (satellite_lines n sats ++ rest) ≡ contents n sats ++ lines_of rest
+satellites_read : (t : Tracking) (n : ℕ) (sats : List Signals) (rest : List ℕ) → All AreInColumns sats → lines_of (satellite_lines t n sats ++ rest) ≡ contents t n sats ++ lines_of rest
 unfolding contents
-satellites_read n [] rest h = refl
-satellites_read n (s ∷ sats) rest h =
-    ap lines_of (append_assoc (satellite_line (n + 1) s) (satellite_lines (n + 1) sats) rest) ∙ line_read (n + 1) s (satellite_lines (n + 1) sats ++ rest) (All-head AreInColumns s sats h)
-    ∙ ap (λ (l : List (List ℕ)). content (n + 1) s ∷ l) (satellites_read (n + 1) sats rest (All-tail AreInColumns s sats h))
+satellites_read t n [] rest h = refl
+satellites_read t n (s ∷ sats) rest h =
+    ap lines_of (append_assoc (satellite_line t (n + 1) s) (satellite_lines t (n + 1) sats) rest) ∙ line_read t (n + 1) s (satellite_lines t (n + 1) sats ++ rest) (All-head AreInColumns s sats h)
+    ∙ ap (λ (l : List (List ℕ)). content t (n + 1) s ∷ l) (satellites_read t (n + 1) sats rest (All-tail AreInColumns s sats h))
 
-satellites_say : (n : ℕ) (sats : List Signals) (before : List SatObs) → All AreInColumns sats → n + length sats ≤ 32 → AreBelow n before → AreSatLines Gps the_kept before (contents n sats) (found n sats)
+satellites_say : (t : Tracking) (n : ℕ) (sats : List Signals) (before : List SatObs) → All AreInColumns sats → n + length sats ≤ 32 → AreBelow n before →
+    AreSatLines (system_in t) (the_kept t) before (contents t n sats) (found t n sats)
 unfolding contents found
-satellites_say n [] before h few below = tt
-satellites_say n (s ∷ sats) before h few below =
+satellites_say t n [] before h few below = tt
+satellites_say t n (s ∷ sats) before h few below =
     let room = All-head AreInColumns s sats h in (
-      omega (arith, length-content (n + 1) s room),
-      read_as n s before room (omega arith) below,
-      satellites_say (n + 1) sats (before ++ satellite_of (n + 1) (values_of s) ∷ []) (All-tail AreInColumns s sats h) (omega arith) (more_below n before (satellite_of (n + 1) (values_of s)) below refl),
+      short t (n + 1) s room,
+      read_as t n s before room (omega arith) below,
+      satellites_say t (n + 1) sats (before ++ satellite_of (n + 1) (values_of t s) ∷ []) (All-tail AreInColumns s sats h) (omega arith) (more_below n before (satellite_of (n + 1) (values_of t s)) below refl),
     )
 
 -- ---- epochs
-part_of : ℕ → List Signals → EpochPart
-part_of seconds sats = record { bytes = epoch_content seconds (length sats); tag = tick_at seconds; power = false; sat_lines = contents 0 sats; found = found 0 sats }
+part_of : Tracking → ℕ → List Signals → EpochPart
+part_of t seconds sats = record { bytes = epoch_content seconds (length sats); tag = tick_at seconds; power = false; sat_lines = contents t 0 sats; found = found t 0 sats }
 
-part_is_epoch : (epochs : List Epoch) (seconds : ℕ) (sats : List Signals) → length epochs < 20000 → seconds < 86400 → HaveRoom sats → is_later (last_tag_of epochs) (tick_at seconds) ≡ true →
-    IsEpochPart Gps the_kept epochs (part_of seconds sats)
+part_is_epoch : (t : Tracking) (epochs : List Epoch) (seconds : ℕ) (sats : List Signals) → length epochs < 20000 → seconds < 86400 → HaveRoom sats → is_later (last_tag_of epochs) (tick_at seconds) ≡ true →
+    IsEpochPart (system_in t) (the_kept t) epochs (part_of t seconds sats)
 unfolding part_of
-part_is_epoch epochs seconds sats few day room later = record {
+part_is_epoch t epochs seconds sats few day room later = record {
   short = omega (arith, length-epoch seconds (length sats) (omega (arith, room.few)));
-  says = line_says epochs seconds (length sats) few day (omega (arith, room.few)) later ∙ ap (λ (n : ℕ). Ok (line.Epoch (tick_at seconds) false n)) (sym (length-contents 0 sats));
-  sats = satellites_say 0 sats [] room.columns (omega (arith, room.few)) (none_below 0);
+  says = line_says epochs seconds (length sats) few day (omega (arith, room.few)) later ∙ ap (λ (n : ℕ). Ok (line.Epoch (tick_at seconds) false n)) (sym (length-contents t 0 sats));
+  sats = satellites_say t 0 sats [] room.columns (omega (arith, room.few)) (none_below 0);
 }
 
-pub parts_of : ℕ → ℕ → List (List Signals) → List Part
-parts_of step i [] = []
-parts_of step i (sats ∷ epochs) = Epoch_ (part_of (step * i) sats) ∷ parts_of step (i + 1) epochs
+pub parts_of : Tracking → ℕ → ℕ → List (List Signals) → List Part
+parts_of t step i [] = []
+parts_of t step i (sats ∷ epochs) = Epoch_ (part_of t (step * i) sats) ∷ parts_of t step (i + 1) epochs
 
-epoch_text_read : (seconds : ℕ) (sats : List Signals) (rest : List ℕ) → HaveRoom sats → lines_of (epoch_text seconds sats ++ rest) ≡ lines_of_part (Epoch_ (part_of seconds sats)) ++ lines_of rest
+epoch_text_read : (t : Tracking) (seconds : ℕ) (sats : List Signals) (rest : List ℕ) → HaveRoom sats → lines_of (epoch_text t seconds sats ++ rest) ≡ lines_of_part (Epoch_ (part_of t seconds sats)) ++ lines_of rest
 unfolding part_of
-epoch_text_read seconds sats rest room =
-    ap lines_of (append_assoc (epoch_line seconds (length sats)) (satellite_lines 0 sats) rest)
-    ∙ epoch_read seconds (length sats) (satellite_lines 0 sats ++ rest) (omega (arith, room.few))
-    ∙ ap (λ (l : List (List ℕ)). epoch_content seconds (length sats) ∷ l) (satellites_read 0 sats rest room.columns)
+epoch_text_read t seconds sats rest room =
+    ap lines_of (append_assoc (epoch_line seconds (length sats)) (satellite_lines t 0 sats) rest)
+    ∙ epoch_read seconds (length sats) (satellite_lines t 0 sats ++ rest) (omega (arith, room.few))
+    ∙ ap (λ (l : List (List ℕ)). epoch_content seconds (length sats) ∷ l) (satellites_read t 0 sats rest room.columns)
 
-pub epochs_read : (step i : ℕ) (epochs : List (List Signals)) → All HaveRoom epochs → lines_of (epochs_text step i epochs) ≡ body_lines (parts_of step i epochs)
+pub epochs_read : (t : Tracking) (step i : ℕ) (epochs : List (List Signals)) → All HaveRoom epochs → lines_of (epochs_text t step i epochs) ≡ body_lines (parts_of t step i epochs)
 unfolding parts_of
-epochs_read step i [] rooms = refl
-epochs_read step i (sats ∷ epochs) rooms =
-    epoch_text_read (step * i) sats (epochs_text step (i + 1) epochs) (All-head HaveRoom sats epochs rooms)
-    ∙ ap (λ (l : List (List ℕ)). lines_of_part (Epoch_ (part_of (step * i) sats)) ++ l) (epochs_read step (i + 1) epochs (All-tail HaveRoom sats epochs rooms))
+epochs_read t step i [] rooms = refl
+epochs_read t step i (sats ∷ epochs) rooms =
+    epoch_text_read t (step * i) sats (epochs_text t step (i + 1) epochs) (All-head HaveRoom sats epochs rooms)
+    ∙ ap (λ (l : List (List ℕ)). lines_of_part (Epoch_ (part_of t (step * i) sats)) ++ l) (epochs_read t step (i + 1) epochs (All-tail HaveRoom sats epochs rooms))
 
-part_gives : (seconds : ℕ) (sats : List Signals) → epoch_in_part (part_of seconds sats) ≡ record { tag = tick_at seconds; power = false; sats = satellites_of 0 sats }
+part_gives : (t : Tracking) (seconds : ℕ) (sats : List Signals) → epoch_in_part (part_of t seconds sats) ≡ record { tag = tick_at seconds; power = false; sats = satellites_of t 0 sats }
 unfolding part_of
-part_gives seconds sats = ap (λ (l : List SatObs). let epoch : Epoch = record { tag = tick_at seconds; power = false; sats = l } in epoch) (found_are 0 sats)
+part_gives t seconds sats = ap (λ (l : List SatObs). let epoch : Epoch = record { tag = tick_at seconds; power = false; sats = l } in epoch) (found_are t 0 sats)
 
-pub epochs_are : (step i : ℕ) (epochs : List (List Signals)) → epochs_in (parts_of step i epochs) ≡ epochs_of step i epochs
+pub epochs_are : (t : Tracking) (step i : ℕ) (epochs : List (List Signals)) → epochs_in (parts_of t step i epochs) ≡ epochs_of t step i epochs
 unfolding parts_of
-epochs_are step i [] = refl
-epochs_are step i (sats ∷ epochs) =
-    let epoch : Epoch = record { tag = tick_at (step * i); power = false; sats = satellites_of 0 sats } in
-    ap (λ (e : Epoch). e ∷ epochs_in (parts_of step (i + 1) epochs)) (part_gives (step * i) sats) ∙ ap (λ (l : List Epoch). epoch ∷ l) (epochs_are step (i + 1) epochs)
+epochs_are t step i [] = refl
+epochs_are t step i (sats ∷ epochs) =
+    let epoch : Epoch = record { tag = tick_at (step * i); power = false; sats = satellites_of t 0 sats } in
+    ap (λ (e : Epoch). e ∷ epochs_in (parts_of t step (i + 1) epochs)) (part_gives t (step * i) sats) ∙ ap (λ (l : List Epoch). epoch ∷ l) (epochs_are t step (i + 1) epochs)
 
 last_is : (epochs : List Epoch) (e : Epoch) → last_tag_of (epochs ++ e ∷ []) ≡ Some e.tag
 last_is [] e = refl
@@ -297,16 +298,16 @@ in_day a b c some h =
 moved : (a b c : ℕ) → a * (b + suc c) ≤ 86400 → a * (b + 1 + c) ≤ 86400
 moved a b c h = let same : b + 1 + c ≡ b + suc c = omega arith in rw same h
 
-follows : (step i : ℕ) (sats : List Signals) → 0 < step → is_later (Some (epoch_in_part (part_of (step * i) sats)).tag) (tick_at (step * (i + 1))) ≡ true
+follows : (t : Tracking) (step i : ℕ) (sats : List Signals) → 0 < step → is_later (Some (epoch_in_part (part_of t (step * i) sats)).tag) (tick_at (step * (i + 1))) ≡ true
 unfolding part_of
-follows step i sats some = later step i some
+follows t step i sats some = later step i some
 
-pub parts_are : (step i : ℕ) (epochs : List (List Signals)) (before : List Epoch) → 0 < step → step * (i + length epochs) ≤ 86400 → length before + length epochs ≤ 20000 → All HaveRoom epochs →
-    is_later (last_tag_of before) (tick_at (step * i)) ≡ true → AreParts Gps the_kept before (parts_of step i epochs)
+pub parts_are : (t : Tracking) (step i : ℕ) (epochs : List (List Signals)) (before : List Epoch) → 0 < step → step * (i + length epochs) ≤ 86400 → length before + length epochs ≤ 20000 → All HaveRoom epochs →
+    is_later (last_tag_of before) (tick_at (step * i)) ≡ true → AreParts (system_in t) (the_kept t) before (parts_of t step i epochs)
 unfolding parts_of
-parts_are step i [] before some day few rooms late = tt
-parts_are step i (sats ∷ epochs) before some day few rooms late = (
-  part_is_epoch before (step * i) sats (omega arith) (in_day step i (length epochs) some day) (All-head HaveRoom sats epochs rooms) late,
-  parts_are step (i + 1) epochs (before ++ epoch_in_part (part_of (step * i) sats) ∷ []) some (moved step i (length epochs) day) (omega (arith, length-append before (epoch_in_part (part_of (step * i) sats) ∷ [])))
-      (All-tail HaveRoom sats epochs rooms) (rw (last_is before (epoch_in_part (part_of (step * i) sats))) (follows step i sats some)),
+parts_are t step i [] before some day few rooms late = tt
+parts_are t step i (sats ∷ epochs) before some day few rooms late = (
+  part_is_epoch t before (step * i) sats (omega arith) (in_day step i (length epochs) some day) (All-head HaveRoom sats epochs rooms) late,
+  parts_are t step (i + 1) epochs (before ++ epoch_in_part (part_of t (step * i) sats) ∷ []) some (moved step i (length epochs) day) (omega (arith, length-append before (epoch_in_part (part_of t (step * i) sats) ∷ [])))
+      (All-tail HaveRoom sats epochs rooms) (rw (last_is before (epoch_in_part (part_of t (step * i) sats))) (follows t step i sats some)),
 )

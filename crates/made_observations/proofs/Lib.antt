@@ -1,4 +1,5 @@
 pub mod Texts
+pub mod Fields
 pub mod Satellites
 pub mod Epochs
 pub mod Header

@@ -1,6 +1,7 @@
 -- Fields of a written line, and the bytes in its columns.
-use Rattle.std.proofs.Common.{◌≡◌, ℕ, zero, suc, ◌+◌, ◌^◌, ◌<◌, true, false, ◌==◌, List, [], ◌∷◌, ◌++◌, length, drop, Ok, Some, refl, ap, ◌∙◌, arith}
+use Rattle.std.proofs.Common.{◌≡◌, ℕ, zero, suc, ◌+◌, ◌^◌, ◌<◌, true, false, ◌==◌, List, [], ◌∷◌, ◌++◌, length, drop, get_or, Ok, Some, refl, ap, subst, ◌∙◌, arith}
 use Rattle.std.proofs.lemmas.Bool.Decides.{nat_tests}
+use Rattle.std.proofs.lemmas.List.{append-nil}
 use Rattle.decimal_text.specs.Whole.{is_digit, are_digits}
 use Rattle.decimal_text.specs.Write.{last_digits}
 use Rattle.decimal_text.proofs.Numbers.{digits_are}
@@ -29,9 +30,17 @@ drop-behind [] ys k j is = let same : k ≡ j = omega arith in ap (λ (i : ℕ).
 drop-behind (x ∷ xs) ys zero j is = absurd (omega arith)
 drop-behind (x ∷ xs) ys (suc k) j is = drop-behind xs ys k j (omega arith)
 
+pub get-behind : (xs ys : List ℕ) (k j d : ℕ) → k ≡ length xs + j → get_or (xs ++ ys) k d ≡ get_or ys j d
+get-behind [] ys k j d is = let same : k ≡ j = omega arith in ap (λ (i : ℕ). get_or ys i d) same
+get-behind (x ∷ xs) ys zero j d is = absurd (omega arith)
+get-behind (x ∷ xs) ys (suc k) j d is = get-behind xs ys k j d (omega arith)
+
 pub padded-front : (xs ys : List ℕ) (n : ℕ) → n ≡ length xs → padded (xs ++ ys) n ≡ xs
 unfolding padded
 padded-front [] ys zero is = refl
 padded-front [] ys (suc n) is = absurd (omega arith)
 padded-front (x ∷ xs) ys zero is = absurd (omega arith)
 padded-front (x ∷ xs) ys (suc n) is = ap (λ (l : List ℕ). x ∷ l) (padded-front xs ys n (omega arith))
+
+pub padded-whole : (xs : List ℕ) (n : ℕ) → n ≡ length xs → padded xs n ≡ xs
+padded-whole xs n is = subst (λ (l : List ℕ). padded l n ≡ xs) (append-nil xs) (padded-front xs [] n is)
