@@ -1,43 +1,48 @@
 //! The command `sim`: a simulated session to try the program on.
 #![tactic(auto)]
 
-ghost use Rattle.std.specs.Prelude.{◌≡◌, ◌≢◌, ◌≤◌, IfOk};
+ghost use Rattle.std.specs.Prelude.{◌≡◌, ◌≤◌, IfOk};
+ghost use Rattle.band_sets.specs.BandSets.{IsBandsNumber};
+ghost use Rattle.band_sets.specs.declared.numbers.TheConstants.{BANDS_L1_L5};
+ghost use Rattle.obs_rows.specs.Ranges.{IsSystem};
 ghost use Rattle.job_answers.specs.Answers.{ending_of};
 ghost use Rattle.sim_job.specs.Sims.{IsFileOf, SimEnds};
 
-use command_words::Part;
+use command_words::File;
 use job_answers::{Answer, Status};
 use sim_session::{Made, make};
 use std::alloc::{AllocError, Global};
 
-fn text_of(part: Part, made: Made) -> Vec<u8>
-    requires { part ≢ Part.Run }
-    ensures { IsFileOf part made result.items }
+fn text_of(file: File, made: Made) -> Vec<u8>
+    ensures { IsFileOf file made result.items }
 {
-    match part {
-        Part::Base => made.base,
-        Part::Rover => made.rover,
-        Part::Nav => made.nav,
-        Part::Run => unreachable!(),
+    match file {
+        File::Base => made.base,
+        File::Rover => made.rover,
+        File::Nav => made.nav,
     }
 }
 
-/// The file of the session that the seed makes: of so many epochs, 1 to 3600, and satellites, 4 to 15. What the three
-/// files together are found to say is no file.
+/// The file of the session that the seed makes: of so many epochs, 1 to 3600, and satellites, 4 to 15, for a run with these bands
+/// and of the system with that letter.
 pub fn sim(
     alloc: Global,
-    part: Part,
+    file: File,
     seed: u32,
     epochs: u32,
     sats: u32,
+    bands: u16,
+    system: u8,
 ) -> Result<Answer, AllocError>
-    requires file { part ≢ Part.Run }
     requires epochs { epochs ≤ 3600 }
     requires sats { sats ≤ 15 }
-    ensures { IfOk result (λ a. SimEnds part seed epochs sats (ending_of a)) }
+    requires bands { IsBandsNumber bands }
+    requires system { IsSystem system }
+    requires bands_of_galileo { system ≡ 69 → bands ≡ BANDS_L1_L5 }
+    ensures { IfOk result (λ a. SimEnds file seed epochs sats bands system (ending_of a)) }
 {
-    let made = make(alloc, seed, epochs, sats)?;
-    let out = text_of(part, made);
+    let made = make(alloc, seed, epochs, sats, bands, system)?;
+    let out = text_of(file, made);
     Ok(Answer {
         status: Status::Done,
         out,

@@ -1,14 +1,15 @@
 // A receiver's observation file.
 ghost use Rattle.std.specs.Prelude.{◌≡◌, ◌+◌, ◌*◌, ◌^◌, ◌<◌, ◌≤◌, length, All, IfOk};
+ghost use Rattle.orbit_clock.specs.Records.{constants_of};
 ghost use Rattle.sim_draws.specs.Values.{AreSmall};
-ghost use Rattle.sim_texts.specs.Observations.{AreInColumns};
 ghost use Rattle.sim_session.specs.Observations.{step_of, tag_of, AreObserved, IsObservationText};
 ghost use Rattle.sim_session.specs.Limits.{IsOnTime};
 
 use eph_store::Eph;
 use gps_time::Tick;
+use orbit_clock::World;
 use sim_signals::{Receiver, observe};
-use sim_texts::{Signals, write_epoch, write_header};
+use sim_texts::{Signals, Tracking, write_epoch, write_header};
 use std::alloc::{AllocError, Global};
 
 /// 2024-01-01 00:00:00.
@@ -25,51 +26,52 @@ fn step_of(epochs: u32) -> u32
 
 fn observe_all(
     alloc: Global,
+    world: &World,
     records: &[Eph],
     tag: Tick,
     receiver: &Receiver,
-    cycles: &[[i64; 2]],
+    cycles: &[[i64; 3]],
 ) -> Result<Vec<Signals>, AllocError>
     requires early { 13881024000000000 ≤ tag.0 }
     requires late { tag.0 ≤ 13881024000000000 + 72000000000 }
     requires records { All IsOnTime records.now }
     requires as_many { length cycles.now ≡ length records.now }
     requires small { All AreSmall cycles.now }
-    ensures observed { IfOk result (λ s. AreObserved tag.0 receiver.now.point receiver.now.clock records.now cycles.now s.items) }
-    ensures columns { IfOk result (λ s. All AreInColumns s.items) }
+    ensures { IfOk result (λ s. AreObserved (constants_of world.now) tag.0 receiver.now.point receiver.now.clock records.now cycles.now s.items) }
 {
     let mut sats = Vec::new(alloc);
     for (k, eph) in records.iter().enumerate() {
-        let [l1, l2] = cycles[k];
-        sats.push(observe(eph, tag, receiver, l1, l2))?;
+        sats.push(observe(world, eph, tag, receiver, &cycles[k]))?;
     }
     Ok(sats)
 }
 
-/// A receiver's observation file of so many epochs.
+/// A receiver's observation file of so many epochs, with what it tracks.
 pub fn observation_file(
     alloc: Global,
     epochs: u32,
+    tracking: Tracking,
+    world: &World,
     records: &[Eph],
     receiver: &Receiver,
-    cycles: &[[i64; 2]],
+    cycles: &[[i64; 3]],
 ) -> Result<Vec<u8>, AllocError>
     requires epochs { epochs ≤ 3600 }
     requires few { length records.now ≤ 15 }
     requires records { All IsOnTime records.now }
     requires as_many { length cycles.now ≡ length records.now }
     requires small { All AreSmall cycles.now }
-    ensures text { IfOk result (λ t. IsObservationText epochs receiver.now.point receiver.now.clock records.now cycles.now t.items) }
+    ensures text { IfOk result (λ t. IsObservationText epochs tracking (constants_of world.now) receiver.now.point receiver.now.clock records.now cycles.now t.items) }
     ensures size { IfOk result (λ t. length t.items < 2 ^ 23) }
 {
     let step = step_of(epochs);
     let mut out = Vec::new(alloc);
-    write_header(&mut out)?;
+    write_header(&mut out, tracking)?;
     for i in 0..epochs {
         let seconds = step * i;
         let tag = Tick(START + seconds as u64 * TICKS_IN_SECOND);
-        let sats = observe_all(alloc, records, tag, receiver, cycles)?;
-        write_epoch(alloc, &mut out, seconds, &sats)?;
+        let sats = observe_all(alloc, world, records, tag, receiver, cycles)?;
+        write_epoch(alloc, &mut out, tracking, seconds, &sats)?;
     }
     Ok(out)
 }
