@@ -1,16 +1,26 @@
--- The texts of a made-up session, read again.
-use Rattle.std.proofs.Common.{◌≡◌, ℕ, ℤ, ◌*◌, ◌≤◌, ◌<◌, Bool, true, false, nat_le, List, length, All, refl, sym, subst, if◌then◌else◌, arith}
+-- The texts of a simulated session, read again.
+use Rattle.std.proofs.Common.{◌≡◌, ◌∙◌, ℕ, ℤ, ◌*◌, ◌≤◌, ◌<◌, Bool, true, false, ◌||◌, ◌==◌, nat_le, IsTrue, List, length, All, refl, sym, ap, subst, if◌then◌else◌, arith}
+use Rattle.std.proofs.lemmas.Bool.{eqb-true}
 use Rattle.std.proofs.lemmas.Bool.Decides.{nat_tests}
 use Rattle.eph_store.specs.declared.ephemeris.Eph.{Eph}
 use Rattle.line_source.specs.Lines.{lines_of}
-use Rattle.rinex_obs.specs.ObsForm.{IsObsFile}
-use Rattle.rinex_nav.specs.NavForm.{IsNavFile}
+use Rattle.rinex_head.specs.Systems.{letter_of, system_of}
+use Rattle.rinex_head.specs.declared.system.System.{System}
+use Rattle.rinex_head.specs.declared.system.System.TheVariants.{Gps, Galileo}
+use Rattle.obs_rows.specs.Ranges.{IsSystem}
+use Rattle.obs_feed.specs.ObsForm.{IsObsFile}
+use Rattle.nav_records.specs.NavForm.{IsNavFile}
+use Rattle.system_world.specs.Worlds.{world_of}
+use Rattle.sim_records.specs.Navigation.{navigation_text}
+use Rattle.sim_records.specs.Satellites.{AreSatellites}
+use Rattle.sim_texts.specs.declared.signals.Tracking.{Tracking}
+use Rattle.sim_texts.specs.declared.signals.Tracking.TheVariants.{GpsL1L2, GpsL1L2L5, GalileoE1E5a}
 use Rattle.sim_draws.specs.Values.{base_clock_of, rover_clock_of, base_cycles, rover_cycles, first_of}
 use Rattle.sim_session.specs.Observations.{step_of, IsObservationText}
-use Rattle.sim_session.specs.Texts.{base_point, rover_point, IsBaseText, IsRoverText, IsNavigationText}
+use Rattle.sim_session.specs.Texts.{base_point, rover_point, has_l5, tracking_of, IsBaseText, IsRoverText, IsNavigationText}
 use Rattle.made_navigation.specs.Records.{raws_of}
 use Rattle.made_navigation.proofs.File as navigation
-use Rattle.made_observations.specs.Files.{file_of, HaveRoom}
+use Rattle.made_observations.specs.Files.{system_in, file_of, HaveRoom}
 use Rattle.made_observations.proofs.File as observations
 use Rattle.made_files.specs.Reads.{ReadsAsObserved, ReadsAsBase, ReadsAsRover, ReadsAsRecords}
 
@@ -29,39 +39,66 @@ two_hours epochs few = by (nat_le epochs 240) refl
     by true short = let less : epochs ≤ 240 = grind (arith, nat_tests) in omega arith
     by false long = omega arith
 
-observed_reads : (epochs : ℕ) (point : List ℤ) (clock : ℤ) (records : List Eph) (cycles : List (List ℤ)) (text : List ℕ) → epochs ≤ 3600 → length records ≤ 15 →
-    IsObservationText epochs point clock records cycles text → ReadsAsObserved epochs point clock records cycles text
-observed_reads epochs point clock records cycles text few small is =
+-- ---- the system of a letter
+-- what is tracked is of the system with that letter
+tracked : (bands system : ℕ) → system_in (tracking_of bands system) ≡ system_of system
+tracked bands system = by (has_l5 bands) (system == 69)
+  where
+    by : (l5 galileo : Bool) → system_in (if galileo then GalileoE1E5a else if l5 then GpsL1L2L5 else GpsL1L2) ≡ (if galileo then Galileo else Gps)
+    by l5 true = refl
+    by true false = refl
+    by false false = refl
+
+letter_again : (system : ℕ) → IsSystem system → letter_of (system_of system) ≡ system
+letter_again system is = by (system == 69) refl (system == 71) refl is
+  where
+    by : (galileo : Bool) → (system == 69) ≡ galileo → (gps : Bool) → (system == 71) ≡ gps → IsTrue (gps || galileo) → letter_of (if galileo then Galileo else Gps) ≡ system
+    by true same gps other one = sym (eqb-true system 69 same)
+    by false same true other one = sym (eqb-true system 71 other)
+    by false same false other one = absurd (cc one)
+
+-- ---- the three texts
+observed_reads : (epochs bands system : ℕ) (point : List ℤ) (clock : ℤ) (records : List Eph) (cycles : List (List ℤ)) (text : List ℕ) → epochs ≤ 3600 → length records ≤ 15 →
+    IsObservationText epochs (tracking_of bands system) (world_of system) point clock records cycles text → ReadsAsObserved epochs bands system point clock records cycles text
+observed_reads epochs bands system point clock records cycles text few small is =
+    let t : Tracking = tracking_of bands system in
     let rooms : All HaveRoom is.values = λ k d lt. record { few = omega (arith, (is.observed k d lt).as_many); columns = (is.observed k d lt).columns } in
     let day : step_of epochs * length is.values ≤ 86400 = subst (λ (n : ℕ). step_of epochs * n ≤ 86400) (sym is.count) (two_hours epochs few) in
+    let reads : IsObsFile (system_in t) (lines_of text) (file_of t (step_of epochs) is.values) =
+    subst (λ (l : List ℕ). IsObsFile (system_in t) (lines_of l) (file_of t (step_of epochs) is.values)) (sym is.text_is)
+        (observations.file_is t (step_of epochs) is.values (step_some epochs) day (omega (arith, is.count)) rooms) in
     record {
       values = is.values;
       count = is.count;
       observed = is.observed;
-      reads = subst (λ (t : List ℕ). IsObsFile (lines_of t) (file_of (step_of epochs) is.values)) (sym is.text_is)
-          (observations.file_is (step_of epochs) is.values (step_some epochs) day (omega (arith, is.count)) rooms);
+      reads = subst (λ (s : System). IsObsFile s (lines_of text) (file_of t (step_of epochs) is.values)) (tracked bands system) reads;
     }
 
-pub base_reads : (seed epochs sats : ℕ) (text : List ℕ) → epochs ≤ 3600 → sats ≤ 15 → IsBaseText seed epochs sats text → ReadsAsBase seed epochs sats text
-base_reads seed epochs sats text few small is = record {
+pub base_reads : (seed epochs sats bands system : ℕ) (text : List ℕ) → epochs ≤ 3600 → sats ≤ 15 → IsBaseText seed epochs sats bands system text → ReadsAsBase seed epochs sats bands system text
+base_reads seed epochs sats bands system text few small is = record {
   records = is.records;
   count = is.count;
   are = is.are;
-  has = observed_reads epochs base_point (base_clock_of seed) is.records (first_of (base_cycles seed) sats) text few (omega (arith, is.count)) is.has;
+  has = observed_reads epochs bands system base_point (base_clock_of seed) is.records (first_of (base_cycles seed sats (has_l5 bands)) sats) text few (omega (arith, is.count)) is.has;
 }
 
-pub rover_reads : (seed epochs sats : ℕ) (text : List ℕ) → epochs ≤ 3600 → sats ≤ 15 → IsRoverText seed epochs sats text → ReadsAsRover seed epochs sats text
-rover_reads seed epochs sats text few small is = record {
+pub rover_reads : (seed epochs sats bands system : ℕ) (text : List ℕ) → epochs ≤ 3600 → sats ≤ 15 → IsRoverText seed epochs sats bands system text → ReadsAsRover seed epochs sats bands system text
+rover_reads seed epochs sats bands system text few small is = record {
   records = is.records;
   count = is.count;
   are = is.are;
-  has = observed_reads epochs (rover_point seed) (rover_clock_of seed) is.records (first_of (rover_cycles seed) sats) text few (omega (arith, is.count)) is.has;
+  has = observed_reads epochs bands system (rover_point seed) (rover_clock_of seed) is.records (first_of (rover_cycles seed sats (has_l5 bands)) sats) text few (omega (arith, is.count)) is.has;
 }
 
-pub navigation_reads : (sats : ℕ) (text : List ℕ) → sats ≤ 15 → IsNavigationText sats text → ReadsAsRecords sats text
-navigation_reads sats text small is = record {
+records_read : (system : ℕ) (es : List Eph) → IsSystem system → AreSatellites system 0 es → length es ≤ 32 → IsNavFile (system_of system) (lines_of (navigation_text system es)) (raws_of es)
+records_read system es is are few =
+    subst (λ (letter : ℕ). IsNavFile (system_of system) (lines_of (navigation_text letter es)) (raws_of es)) (letter_again system is)
+    (navigation.file_is (system_of system) es (subst (λ (letter : ℕ). AreSatellites letter 0 es) (sym (letter_again system is)) are) few)
+
+pub navigation_reads : (sats system : ℕ) (text : List ℕ) → sats ≤ 15 → IsSystem system → IsNavigationText sats system text → ReadsAsRecords sats system text
+navigation_reads sats system text small of_system is = record {
   records = is.records;
   count = is.count;
   are = is.are;
-  has = subst (λ (t : List ℕ). IsNavFile (lines_of t) (raws_of is.records)) (sym is.has) (navigation.file_is is.records is.are (omega (arith, is.count)));
+  has = subst (λ (l : List ℕ). IsNavFile (system_of system) (lines_of l) (raws_of is.records)) (sym is.has) (records_read system is.records of_system is.are (omega (arith, is.count)));
 }

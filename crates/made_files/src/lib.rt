@@ -4,21 +4,24 @@
 //! digits that `fixed_text` gives, behind any blanks, is read by the form of a number with a point as that number
 //! (`fixed_law`); digits are read as their number (`digits_law`); a text without control bytes and a line feed are a
 //! line (`line_law`); each time of 2024-01-01 is a moment with its ticks (`new_year_law`). The text of made
-//! satellites is a navigation file by the reader's own form, whose records are theirs, each number as it was kept
-//! (`navigation_law`). The text of signals at epochs is an observation file by the reader's own form: its header's
-//! numbers, its tags, its satellites in order and each number in its slot (`observation_law`). So the three texts of
-//! every simulated session are files, with the values that they were made of (`reading_law` of made_files, over the
-//! clauses of `make`).
+//! satellites of a system is a navigation file by the reader's own form, whose records are theirs, each number as it
+//! was kept (`navigation_law`). The text of signals at epochs is an observation file by the reader's own form,
+//! whichever bands of which system are tracked: its header's numbers, its tags, its satellites in order and each number
+//! in the slot of its type (`observation_law`). So the three texts of every simulated session are files of its system,
+//! with the values that they were made of (`reading_law` of made_files, over the clauses of `make`).
 #![tactic(auto)]
 
 ghost use Rattle.std.specs.Prelude.{ℕ, ◌≤◌, List, IfOk};
+ghost use Rattle.obs_rows.specs.Ranges.{IsSystem};
 ghost use Rattle.sim_session.specs.Texts.{IsBaseText, IsRoverText, IsNavigationText};
 ghost use Rattle.made_files.specs.Reads.{ReadsAsBase, ReadsAsRover, ReadsAsRecords};
 
 /// The texts of a session of so many epochs and satellites are files by the readers' own definitions, with the values that they were
 /// made of. There is nothing to run: the contract is the law, and its premises are clauses of `make`.
 pub fn reading_law()
-    ensures base { (seed epochs sats : ℕ) (text : List ℕ) → epochs ≤ 3600 → sats ≤ 15 → IsBaseText seed epochs sats text → ReadsAsBase seed epochs sats text }
-    ensures rover { (seed epochs sats : ℕ) (text : List ℕ) → epochs ≤ 3600 → sats ≤ 15 → IsRoverText seed epochs sats text → ReadsAsRover seed epochs sats text }
-    ensures nav { (sats : ℕ) (text : List ℕ) → sats ≤ 15 → IsNavigationText sats text → ReadsAsRecords sats text }
+    ensures base { (seed epochs sats bands system : ℕ) (text : List ℕ) → epochs ≤ 3600 → sats ≤ 15
+        → IsBaseText seed epochs sats bands system text → ReadsAsBase seed epochs sats bands system text }
+    ensures rover { (seed epochs sats bands system : ℕ) (text : List ℕ) → epochs ≤ 3600 → sats ≤ 15
+        → IsRoverText seed epochs sats bands system text → ReadsAsRover seed epochs sats bands system text }
+    ensures nav { (sats system : ℕ) (text : List ℕ) → sats ≤ 15 → IsSystem system → IsNavigationText sats system text → ReadsAsRecords sats system text }
 {}

@@ -13,14 +13,15 @@ use Rattle.slip_arcs.proofs.Kept.{kept_each}
 use Rattle.cert_data.specs.declared.outcomes.Outcome.{Outcome}
 use Rattle.cert_data.specs.declared.outcomes.Answer.{Answer}
 use Rattle.cert_data.specs.declared.outcomes.Answer.TheVariants.{Few, Arcs, Early, Full}
+use Rattle.band_sets.specs.BandSets.{bands_of}
 use Rattle.run_options.specs.declared.options.Options.{Options}
 use Rattle.session.specs.Outcomes.{IsOutcome}
 use Rattle.fix_job.proofs.Runs.{stands_for}
 use Rattle.sim_match.specs.Matches.{AreInOrder, HasMarkedArcs}
 
 -- kept arcs begin in order
-kept_at : (jump least : ℕ) (used : List UsedPair) (kept : List Arc) (short k : ℕ) (a : Arc) → (are : AreKept jump least used kept short) → slice_get kept k ≡ Some a → slice_get (filter (is_long least) are.runs) k ≡ Some (run_of a)
-kept_at jump least used kept short k a are is = ap (λ (rs : List Run). slice_get rs k) (sym are.kept_are) ∙ slice_get-map run_of kept k ∙ ap (λ (o : Option Arc). option_map run_of o) is
+kept_at : (bands : List ℕ) (jump least : ℕ) (used : List UsedPair) (kept : List Arc) (short k : ℕ) (a : Arc) → (are : AreKept bands jump least used kept short) → slice_get kept k ≡ Some a → slice_get (filter (is_long least) are.runs) k ≡ Some (run_of a)
+kept_at bands jump least used kept short k a are is = ap (λ (rs : List Run). slice_get rs k) (sym are.kept_are) ∙ slice_get-map run_of kept k ∙ ap (λ (o : Option Arc). option_map run_of o) is
 
 precedes_at : (rs : List Run) (k m : ℕ) (r s : Run) → AllPairs Precedes rs → k < m → slice_get rs k ≡ Some r → slice_get rs m ≡ Some s → Precedes r s
 precedes_at rs k m r s pairs before first second =
@@ -30,13 +31,13 @@ no_later : (r s : Run) → Precedes r s → r.first ≤ s.first
 no_later r s (inl less) = omega arith
 no_later r s (inr (same, less)) = omega arith
 
-in_order : (jump least : ℕ) (used : List UsedPair) (kept : List Arc) (short : ℕ) → AreKept jump least used kept short → AreInOrder kept
-in_order jump least used kept short are = record {
-  forward = λ k a is. (kept_each jump least used kept short k a are is).0.run.order;
+in_order : (bands : List ℕ) (jump least : ℕ) (used : List UsedPair) (kept : List Arc) (short : ℕ) → AreKept bands jump least used kept short → AreInOrder kept
+in_order bands jump least used kept short are = record {
+  forward = λ k a is. (kept_each bands jump least used kept short k a are is).0.run.order;
   rising = λ m k b a before first second.
       let rs : List Run = filter (is_long least) are.runs in
       let pairs : AllPairs Precedes rs = AllPairs-filter Precedes (is_long least) are.runs are.all.order in
-      no_later (run_of b) (run_of a) (precedes_at rs m k (run_of b) (run_of a) pairs before (kept_at jump least used kept short m b are first) (kept_at jump least used kept short k a are second));
+      no_later (run_of b) (run_of a) (precedes_at rs m k (run_of b) (run_of a) pairs before (kept_at bands jump least used kept short m b are first) (kept_at bands jump least used kept short k a are second));
 }
 
 marked_in : (b r : ObsFile) (n : Records) (o : Options) (outcome : Outcome) → IsOutcome b r n o outcome → (a : Answer) → outcome.answer ≡ a → HasMarkedArcs a
@@ -45,7 +46,7 @@ marked_in b r n o outcome is (Arcs free) same = tt
 marked_in b r n o outcome is (Early stage why) same = tt
 marked_in b r n o outcome is (Full cert) same =
     let stands = (stands_for b r n o outcome cert is same).stands in
-    record { order = in_order o.jump o.arc stands.used cert.session.arcs stands.short stands.kept; datums = stands.datums }
+    record { order = in_order (bands_of o.bands) o.jump o.arc stands.used cert.session.arcs stands.short stands.kept; datums = stands.datums }
 
 pub marked : (b r : ObsFile) (n : Records) (o : Options) (outcome : Outcome) → IsOutcome b r n o outcome → HasMarkedArcs outcome.answer
 marked b r n o outcome is = marked_in b r n o outcome is outcome.answer refl

@@ -4,7 +4,6 @@ use Rattle.std.specs.declared.option.Option.{Option}
 use Rattle.std.specs.Io.KnownBytes.{Appends}
 use Rattle.cert_data.specs.declared.outcomes.Outcome.{Outcome}
 use Rattle.run_options.specs.declared.options.Options.{Options}
-use Rattle.run_options.specs.Defaults.{AreDefaults}
 use Rattle.session.specs.Answers.{IsBestAnswer}
 use Rattle.outcome_report.specs.OutcomeText.{is_fixed}
 use Rattle.job_answers.specs.declared.status.Status.{Status}
@@ -12,25 +11,25 @@ use Rattle.job_answers.specs.declared.status.Status.TheVariants.{Done, Declined}
 use Rattle.job_answers.specs.Delivered.{SinkChange}
 use Rattle.fix_job.specs.FixRuns.{HaveOutcome}
 use Rattle.sim_match.specs.Matches.{IsMatched}
-use Rattle.sim_run_job.specs.SimRunJobs.{AreMadeFiles, truth_in, run_text}
+use Rattle.sim_run_job.specs.SimRunJobs.{AreMadeFiles, AreOptionsOn, truth_in, run_text}
 
 -- the made texts stand for a session, whose outcome is a fix or not; out has gained what it is, and `match yes` exactly where
 -- it is a fix with the integers of the truth
-pub record SaysMatch (seed epochs sats : ℕ) (fixed : Bool) (out : SinkChange) : Type 0 where
+pub record SaysMatch (seed epochs sats bands system : ℕ) (fixed : Bool) (out : SinkChange) : Type 0 where
   pub told : List ℕ → Option (List ℕ)
-  pub made : AreMadeFiles seed epochs sats told
+  pub made : AreMadeFiles seed epochs sats bands system told
   pub options : Options
-  pub defaults : AreDefaults options
+  pub options_are : AreOptionsOn bands system options
   pub outcome : Outcome
   pub have : HaveOutcome told (codes "base") (codes "rover") (codes "nav") options outcome
   pub best : IsBestAnswer outcome.answer
   pub fixed_is : is_fixed outcome.answer ≡ fixed
   pub matched : Bool
-  pub matched_is : IsTrue matched ↔ IsMatched (truth_in seed sats) outcome.answer
+  pub matched_is : IsTrue matched ↔ IsMatched (truth_in seed sats bands) outcome.answer
   pub printed : Appends out.old out.new (run_text seed epochs sats outcome.answer matched)
 
 -- done for a fix, else declined
-abbrev pub SaysOfSimRun : ℕ → ℕ → ℕ → Status → SinkChange → Type 0
-SaysOfSimRun seed epochs sats Done out = SaysMatch seed epochs sats true out
-SaysOfSimRun seed epochs sats Declined out = SaysMatch seed epochs sats false out
-SaysOfSimRun seed epochs sats _ out = Unit {0}
+abbrev pub SaysOfSimRun : ℕ → ℕ → ℕ → ℕ → ℕ → Status → SinkChange → Type 0
+SaysOfSimRun seed epochs sats bands system Done out = SaysMatch seed epochs sats bands system true out
+SaysOfSimRun seed epochs sats bands system Declined out = SaysMatch seed epochs sats bands system false out
+SaysOfSimRun seed epochs sats bands system _ out = Unit {0}

@@ -3,9 +3,11 @@ ghost use Rattle.std.specs.Prelude.{◌≡◌, ◌≢◌, ◌≤◌, ℕ, List, 
 ghost use Rattle.job_answers.specs.Statuses.{IsVerdictStatus};
 ghost use Rattle.job_answers.specs.Answers.{ending_of, IfEnded};
 ghost use Rattle.job_answers.specs.Endings.{ending};
-ghost use Rattle.run_options.specs.Defaults.{AreDefaults};
+ghost use Rattle.band_sets.specs.declared.numbers.TheConstants.{BANDS_L1_L5};
+ghost use Rattle.band_sets.specs.BandSets.{IsBandsNumber};
+ghost use Rattle.obs_rows.specs.Ranges.{IsSystem};
 ghost use Rattle.fix_job.specs.FixJobs.{status_of};
-ghost use Rattle.sim_run_job.specs.SimRunJobs.{truth_in, run_text, SimRunEnd, SimRunEnds};
+ghost use Rattle.sim_run_job.specs.SimRunJobs.{AreOptionsOn, truth_in, run_text, SimRunEnd, SimRunEnds};
 
 use crate::report::run_text;
 use cert_data::Answer as Found;
@@ -13,6 +15,7 @@ use job_answers::{Answer, Status, Stop};
 use line_source::{Files, Named, SureFiles};
 use outcome_report::is_fixed;
 use pair_refusals::refused_pair;
+use rinex_head::System;
 use run_options::Options;
 use session::{SessionFault, process};
 use session_files::{SessionFiles, read_session};
@@ -20,13 +23,26 @@ use sim_match::is_matched;
 use sim_session::{Made, make};
 use std::alloc::{AllocError, Global};
 
-// What is asked of a made-up session, and the cycles of each satellite with which it was made.
+// What is asked of a simulated session, and the cycles of each satellite with which it was made, by bands.
 #[derive(Drop)]
 struct Asked {
     seed: u32,
     epochs: u32,
     sats: u32,
-    truth: Vec<[i64; 2]>,
+    bands: u16,
+    truth: Vec<[i64; 3]>,
+}
+
+// The defaults, but for the bands and the system.
+fn options_on(bands: u16, system: u8) -> Options
+    requires bands { IsBandsNumber bands }
+    requires system { IsSystem system }
+    ensures are { AreOptionsOn bands system result }
+{
+    let mut options = Options::defaults();
+    options.bands = bands;
+    options.system = system;
+    options
 }
 
 fn named(alloc: Global, name: &str, bytes: Vec<u8>) -> Result<Named, AllocError>
@@ -96,8 +112,8 @@ fn answer_files(
     files: &SessionFiles,
     options: &Options,
 ) -> Result<Answer, Stop>
-    requires { asked.now.truth.items ≡ truth_in asked.now.seed asked.now.sats }
-    ensures { IfEnded result (λ end. SimRunEnd options.now asked.now.seed asked.now.epochs asked.now.sats files.now.base files.now.rover files.now.nav end) }
+    requires { asked.now.truth.items ≡ truth_in asked.now.seed asked.now.sats asked.now.bands }
+    ensures { IfEnded result (λ end. SimRunEnd options.now asked.now.seed asked.now.epochs asked.now.sats asked.now.bands files.now.base files.now.rover files.now.nav end) }
 {
     match process(alloc, &files.base, &files.rover, &files.nav, options) {
         Ok(outcome) => {
@@ -109,11 +125,22 @@ fn answer_files(
     }
 }
 
-/// What the session of this seed is found to say, of so many epochs, 1 to 3600, and satellites, 4 to 15.
-pub fn sim_run(alloc: Global, seed: u32, epochs: u32, sats: u32) -> Result<Answer, Stop>
+/// What the session of this seed is found to say, of so many epochs, 1 to 3600, and satellites, 4 to 15, with these bands of the
+/// system with that letter: of Galileo with the bands L1 and L5 alone.
+pub fn sim_run(
+    alloc: Global,
+    seed: u32,
+    epochs: u32,
+    sats: u32,
+    bands: u16,
+    system: u8,
+) -> Result<Answer, Stop>
     requires epochs { epochs ≤ 3600 }
     requires sats { sats ≤ 15 }
-    ensures ends { IfEnded result (λ end. SimRunEnds seed epochs sats end) }
+    requires bands { IsBandsNumber bands }
+    requires system { IsSystem system }
+    requires bands_of_galileo { system ≡ 69 → bands ≡ BANDS_L1_L5 }
+    ensures ends { IfEnded result (λ end. SimRunEnds seed epochs sats bands system end) }
     ensures no_fault { IfEnded result (λ end. end.status ≢ Status.ReadFault) }
 {
     let Made {
@@ -122,16 +149,17 @@ pub fn sim_run(alloc: Global, seed: u32, epochs: u32, sats: u32) -> Result<Answe
         nav,
         truth,
         offset: _,
-    } = make(alloc, seed, epochs, sats)?;
+    } = make(alloc, seed, epochs, sats, bands, system)?;
     let asked = Asked {
         seed,
         epochs,
         sats,
+        bands,
         truth,
     };
-    let options = Options::defaults();
+    let options = options_on(bands, system);
     let mut files = files_of(alloc, base, rover, nav)?;
-    match read_session(alloc, &mut files, "base", "rover", "nav") {
+    match read_session(alloc, &mut files, System::of_letter(options.system), "base", "rover", "nav") {
         Ok(read) => answer_files(alloc, &asked, &read, &options),
         Err(stop) => Err(stop),
     }
