@@ -25,12 +25,7 @@ fn system_letter(system: u8) -> &'static str
     if system == b'G' { "G" } else { "E" }
 }
 
-fn write_arc(
-    alloc: Global,
-    out: &mut Vec<u8>,
-    arc: &Arc,
-    system: u8,
-) -> Result<(), AllocError>
+fn write_arc(alloc: Global, out: &mut Vec<u8>, arc: &Arc, system: u8) -> Result<(), AllocError>
     requires { IsSystem system }
     ensures { OnOk result (out.new.items ≡ out.old.items ++ arc_line system arc.now) }
 {
@@ -44,12 +39,7 @@ fn write_arc(
     out.extend_from_slice(line.as_bytes())
 }
 
-fn write_kept(
-    alloc: Global,
-    out: &mut Vec<u8>,
-    kept: &[Arc],
-    system: u8,
-) -> Result<(), AllocError>
+fn write_kept(alloc: Global, out: &mut Vec<u8>, kept: &[Arc], system: u8) -> Result<(), AllocError>
     requires { IsSystem system }
     ensures { OnOk result (out.new.items ≡ out.old.items ++ arc_lines system kept.now) }
 {

@@ -1,4 +1,5 @@
 // Pairs of epochs by their tags, and the signals that both files have.
+use band_sets::{BANDS_L1_L2, BANDS_L1_L2_L5, BANDS_L1_L5, is_bands_number};
 use epoch_pair::{PairFault, PairOf, pair, signals, take};
 use gps_time::Tick;
 use obs_store::{Epoch, Epochs, ObsFile, ObsType, SLOTS, Satellites};
@@ -135,19 +136,47 @@ fn listing(alloc: Global, names: &[&str]) -> Result<ObsFile, AllocError> {
     Ok(file)
 }
 
-// L1 C is listed first but without a phase at the rover, and L2 X comes before L2 L whatever the order of listing. L5 isn't used.
+// L1 C is listed first but without a phase at the rover, and L2 X comes before L2 L and L5 X before L5 I whatever the order
+// of listing. A band that isn't used has no letter.
 #[test]
 fn takes_the_first_common_letters(rt: HostRuntime) -> Result<(), Fail> {
     let names = [
-        "C1C", "L1C", "C1W", "L1W", "C2L", "L2L", "C2X", "L2X", "C2W", "C5Q", "L5Q",
+        "C1C", "L1C", "C1W", "L1W", "C2L", "L2L", "C2X", "L2X", "C2W", "C5I", "L5I", "C5X", "L5X",
+        "C5Q",
     ];
     let base = listing(rt.alloc(), &names)?;
     let rover = listing(rt.alloc(), &names[2..])?;
-    let Some(found) = signals(&base, &rover) else {
-        assert!(rt; false);
-        return Ok(());
-    };
-    assert_eq!(rt; (found.l1, found.l2, found.l5), (b'W', b'X', 0));
-    assert!(rt; signals(&base, &listing(rt.alloc(), &names[..4])?).is_none());
+    for (bands, letters) in [
+        (12u16, (b'W', b'X', 0)),
+        (15, (b'W', 0, b'X')),
+        (125, (b'W', b'X', b'X')),
+    ] {
+        if is_bands_number(bands) {
+            let found = signals(&base, &rover, bands).map(|s| (s.l1, s.l2, s.l5));
+            assert_eq!(rt; found, Some(letters), "bands {bands}");
+        }
+    }
+    Ok(())
+}
+
+// On L5 the letters are tried in the order Q, X, I, and each band that is used needs one.
+#[test]
+fn each_band_needs_a_letter(rt: HostRuntime) -> Result<(), Fail> {
+    let on_l5 = ["C1C", "L1C", "C5I", "L5I", "C5X", "L5X", "C5Q", "L5Q"];
+    for (listed, letter) in [
+        (8usize, Some(b'Q')),
+        (7, Some(b'X')),
+        (6, Some(b'X')),
+        (5, Some(b'I')),
+        (4, Some(b'I')),
+        (3, None),
+        (2, None),
+    ] {
+        let file = listing(rt.alloc(), &on_l5[..listed])?;
+        let found = signals(&file, &file, BANDS_L1_L5).map(|s| s.l5);
+        assert_eq!(rt; found, letter, "{listed} types");
+        assert!(rt; signals(&file, &file, BANDS_L1_L2).is_none());
+        assert!(rt; signals(&file, &file, BANDS_L1_L2_L5).is_none());
+    }
     Ok(())
 }

@@ -2,6 +2,7 @@
 ghost use Rattle.std.specs.Prelude.{◌<◌, IfOk};
 ghost use Rattle.screening.specs.Screening.{ArePairsOf, HasPosition};
 
+use band_sets::BANDS_L1_L2;
 use decimal_text::Dec;
 use eph_store::{NavFile, Raw};
 use epoch_pair::{PairOf, pair, take};
@@ -178,13 +179,13 @@ fn lost_lock_cuts_one_satellite(rt: HostRuntime) -> Result<(), Fail> {
     let rover = series(rt.alloc(), 20)?;
     let nav = records(rt.alloc(), 2)?;
     let all = screened(rt.alloc(), &base, &rover, &nav, 1)?;
-    let arcs = cut(rt.alloc(), all.used.as_slice(), 12, 5)?;
+    let arcs = cut(rt.alloc(), all.used.as_slice(), BANDS_L1_L2, 12, 5)?;
     assert_eq!(rt; arcs.kept.len(), 3);
     assert!(rt; is_arc(&arcs.kept.as_slice()[0], 1, 0, 5));
     assert!(rt; is_arc(&arcs.kept.as_slice()[1], 2, 0, 19));
     assert!(rt; is_arc(&arcs.kept.as_slice()[2], 1, 6, 19));
     let some = screened(rt.alloc(), &base, &rover, &nav, 4)?;
-    let arcs = cut(rt.alloc(), some.used.as_slice(), 12, 2)?;
+    let arcs = cut(rt.alloc(), some.used.as_slice(), BANDS_L1_L2, 12, 2)?;
     assert_eq!(rt; arcs.kept.len(), 3);
     assert!(rt; is_arc(&arcs.kept.as_slice()[0], 1, 0, 1));
     assert!(rt; is_arc(&arcs.kept.as_slice()[1], 2, 0, 4));

@@ -2,21 +2,21 @@
 ghost use Rattle.std.specs.Prelude.{◌≡◌, ◌+◌, ◌<◌, ◌≤◌, ◌^◌, unsigned_abs, vec_len, All, IfOk, OnOk};
 ghost use Rattle.used_svs.specs.Ranges.{IsInRange};
 
-use obs_rows::Arc;
+use band_sets::{BANDS_L1_L2, is_bands_number};
+use obs_rows::{Arc, are_within};
 use slip_arcs::{UsedPair, UsedSat, cut};
 use std::alloc::{AllocError, Global};
 use std::test::Fail;
 
 // A pair that uses one satellite.
-fn alone(alloc: Global, sat: u8, first: i64, second: i64) -> Result<UsedPair, AllocError>
-    requires first { unsigned_abs first < 2 ^ 50 }
-    requires second { unsigned_abs second < 2 ^ 50 }
+fn alone(alloc: Global, sat: u8, phase: [i64; 3]) -> Result<UsedPair, AllocError>
+    requires { All (λ z. unsigned_abs z < 2 ^ 50) phase }
     ensures { IfOk result IsInRange }
 {
     let mut sats: Vec<UsedSat> = Vec::new(alloc);
     sats.push(UsedSat {
         sat,
-        phase: [first, second, 0],
+        phase,
         lost: false,
     })?;
     Ok(UsedPair { power: false, sats })
@@ -58,17 +58,17 @@ fn is_arc(arc: &Arc, sat: u8, first: u32, last: u32, datum: bool) -> bool {
 #[test]
 fn cuts_at_a_jump(rt: HostRuntime) -> Result<(), Fail> {
     let mut used: Vec<UsedPair> = Vec::new(rt.alloc());
-    add(&mut used, alone(rt.alloc(), 7, 0, 0)?)?;
-    add(&mut used, alone(rt.alloc(), 7, 1000, 1000)?)?;
-    add(&mut used, alone(rt.alloc(), 7, 10000, 8000)?)?;
-    let arcs = cut(rt.alloc(), &used, 12, 2)?;
+    add(&mut used, alone(rt.alloc(), 7, [0, 0, 0])?)?;
+    add(&mut used, alone(rt.alloc(), 7, [1000, 1000, 0])?)?;
+    add(&mut used, alone(rt.alloc(), 7, [10000, 8000, 0])?)?;
+    let arcs = cut(rt.alloc(), &used, BANDS_L1_L2, 12, 2)?;
     assert_eq!(rt; arcs.kept.len(), 1);
     assert!(rt; is_arc(&arcs.kept.as_slice()[0], 7, 1, 2, true));
     assert_eq!(rt; arcs.short, 1);
-    let none = cut(rt.alloc(), &used, 12, 3)?;
+    let none = cut(rt.alloc(), &used, BANDS_L1_L2, 12, 3)?;
     assert_eq!(rt; none.kept.len(), 0);
     assert_eq!(rt; none.short, 2);
-    let whole = cut(rt.alloc(), &used, 17, 3)?;
+    let whole = cut(rt.alloc(), &used, BANDS_L1_L2, 17, 3)?;
     assert_eq!(rt; whole.kept.len(), 1);
     assert!(rt; is_arc(&whole.kept.as_slice()[0], 7, 0, 2, true));
     Ok(())
@@ -78,12 +78,12 @@ fn cuts_at_a_jump(rt: HostRuntime) -> Result<(), Fail> {
 #[test]
 fn links_arcs_that_join_late(rt: HostRuntime) -> Result<(), Fail> {
     let mut used: Vec<UsedPair> = Vec::new(rt.alloc());
-    add(&mut used, alone(rt.alloc(), 3, 0, 0)?)?;
+    add(&mut used, alone(rt.alloc(), 3, [0, 0, 0])?)?;
     add(&mut used, both(rt.alloc())?)?;
-    add(&mut used, alone(rt.alloc(), 7, 0, 0)?)?;
+    add(&mut used, alone(rt.alloc(), 7, [0, 0, 0])?)?;
     add(&mut used, both(rt.alloc())?)?;
-    add(&mut used, alone(rt.alloc(), 3, 0, 0)?)?;
-    let arcs = cut(rt.alloc(), &used, 12, 2)?;
+    add(&mut used, alone(rt.alloc(), 3, [0, 0, 0])?)?;
+    let arcs = cut(rt.alloc(), &used, BANDS_L1_L2, 12, 2)?;
     assert_eq!(rt; arcs.kept.len(), 3);
     assert!(rt; is_arc(&arcs.kept.as_slice()[0], 3, 0, 1, true));
     assert!(rt; is_arc(&arcs.kept.as_slice()[1], 7, 1, 3, false));
@@ -95,14 +95,41 @@ fn links_arcs_that_join_late(rt: HostRuntime) -> Result<(), Fail> {
 #[test]
 fn cuts_where_power_failed(rt: HostRuntime) -> Result<(), Fail> {
     let mut used: Vec<UsedPair> = Vec::new(rt.alloc());
-    add(&mut used, alone(rt.alloc(), 7, 0, 0)?)?;
-    add(&mut used, alone(rt.alloc(), 7, 0, 0)?)?;
-    let mut last = alone(rt.alloc(), 7, 0, 0)?;
+    add(&mut used, alone(rt.alloc(), 7, [0, 0, 0])?)?;
+    add(&mut used, alone(rt.alloc(), 7, [0, 0, 0])?)?;
+    let mut last = alone(rt.alloc(), 7, [0, 0, 0])?;
     last.power = true;
     add(&mut used, last)?;
-    let arcs = cut(rt.alloc(), &used, 12, 1)?;
+    let arcs = cut(rt.alloc(), &used, BANDS_L1_L2, 12, 1)?;
     assert_eq!(rt; arcs.kept.len(), 2);
     assert!(rt; is_arc(&arcs.kept.as_slice()[0], 7, 0, 1, true));
     assert!(rt; is_arc(&arcs.kept.as_slice()[1], 7, 2, 2, true));
+    Ok(())
+}
+
+// In thousandths of a cycle, how far the phases rise, and whether the arc is cut with a jump of 12 κ, which is 276,000: rises
+// of 4000 and 3000 on L1 and L5 are 24,000 apart, of 4000 and 5000 on L1 and L2 3,335,000. A band that isn't used may jump,
+// and L5 isn't held against L2: 155 on L2 is 274,505, and -149 on L5 is -275,352.
+#[test]
+fn holds_each_band_against_l1(rt: HostRuntime) -> Result<(), Fail> {
+    for (bands, rise, arcs) in [
+        (15u16, [4000i64, 0, 3000], 1usize),
+        (12, [4000, 5000, 0], 2),
+        (15, [4000, 5000, 3000], 1),
+        (12, [9000, 7000, 5000], 1),
+        (125, [4000, 5000, 3000], 2),
+        (125, [0, 155, -149], 1),
+        (125, [0, 155, -150], 2),
+        (125, [0, 156, -149], 2),
+    ] {
+        if !is_bands_number(bands) || !are_within(&rise, 1_000_000) {
+            continue;
+        }
+        let mut used: Vec<UsedPair> = Vec::new(rt.alloc());
+        add(&mut used, alone(rt.alloc(), 7, [0, 0, 0])?)?;
+        add(&mut used, alone(rt.alloc(), 7, rise)?)?;
+        let found = cut(rt.alloc(), &used, bands, 12, 1)?;
+        assert_eq!(rt; found.kept.len(), arcs, "bands {bands}, rise {rise:?}");
+    }
     Ok(())
 }

@@ -10,13 +10,7 @@ use band_sets::bands_of;
 use used_svs::{UsedPair, UsedSat};
 
 // Whether there is a cut between two entries.
-fn is_cut_between(
-    before: &UsedSat,
-    now: &UsedSat,
-    power: bool,
-    bands: u16,
-    jump: u32,
-) -> bool
+fn is_cut_between(before: &UsedSat, now: &UsedSat, power: bool, bands: u16, jump: u32) -> bool
     requires before { IsSmall before.now }
     requires now { IsSmall now.now }
     requires bands { IsBandsNumber bands }

@@ -50,5 +50,7 @@ pub fn does_jump(before: &UsedSat, now: &UsedSat, bands: &[usize], jump: u32) ->
     ensures { result ≡ does_jump jump bands.now before.now now.now }
 {
     let most = 23_000 * u64::from(jump);
-    bands.iter().any(|b| size_of_jump(before, now, 0, *b) > most)
+    bands
+        .iter()
+        .any(|b| size_of_jump(before, now, 0, *b) > most)
 }
