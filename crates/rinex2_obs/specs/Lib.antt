@@ -1,0 +1,9 @@
+pub mod FirstLine
+pub mod HeaderLines
+pub mod Profile
+pub mod SatNames
+pub mod EpochTag
+pub mod EpochLines
+pub mod Rows
+pub mod Obs2Rules
+pub mod Obs2Form

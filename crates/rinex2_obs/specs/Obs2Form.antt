@@ -1,0 +1,254 @@
+-- A RINEX 2 observation file as a grammar over the whole list of its lines: a header, then blank lines, epochs and events.
+use Rattle.std.specs.Prelude.{◌≡◌, ℕ, ℤ, pos, ◌<◌, ◌≤◌, ◌+◌, ◌*◌, List, [], ◌∷◌, ◌++◌, length, map, Bool, Ok, None, Some}
+use Rattle.std.specs.declared.option.Option.{Option}
+use Rattle.gps_time.specs.declared.Tick.{Tick}
+use Rattle.obs_store.specs.declared.file.ObsFile.{ObsFile}
+use Rattle.obs_store.specs.declared.series.Epoch.{Epoch}
+use Rattle.obs_store.specs.declared.values.Value.{Value}
+use Rattle.obs_store.specs.declared.values.SatObs.{SatObs}
+use Rattle.obs_store.specs.Missing.{missing_values}
+use Rattle.obs_fields.specs.Types.{first_types_of, further_types_of}
+use Rattle.obs_fields.specs.declared.layout.Layout.TheVariants.{Rinex2}
+use Rattle.obs_fields.specs.Labels.{event_line_of}
+use Rattle.obs_fields.specs.declared.types.TypeList.{TypeList}
+use Rattle.obs_fields.specs.declared.types.KeptType.{KeptType}
+use Rattle.rinex2_obs.specs.FirstLine.{first_line_of}
+use Rattle.rinex2_obs.specs.HeaderLines.{header_line_of}
+use Rattle.rinex2_obs.specs.Profile.{kept_of}
+use Rattle.rinex2_obs.specs.SatNames.{further_mark_of, further_names_of}
+use Rattle.rinex2_obs.specs.EpochLines.{epoch_line_of}
+use Rattle.rinex2_obs.specs.Rows.{rows_of, further_lines_of, row_of}
+use Rattle.rinex2_obs.specs.Obs2Rules.{file_of, epoch_of, satellite_of}
+use Rattle.rinex2_obs.specs.declared.sat_names.NameList.{NameList}
+use Rattle.rinex2_obs.specs.declared.header.Header.{Header}
+use Rattle.rinex2_obs.specs.declared.header_lines.HeaderLine.{HeaderLine}
+use Rattle.rinex2_obs.specs.declared.header_lines.HeaderLine.TheVariants as header
+use Rattle.rinex2_obs.specs.declared.epoch_lines.EpochLine.TheVariants as line
+
+-- ---- the header
+
+-- a line of the header outside the list of types, and what it says
+pub record HeadPart : Type 0 where
+  pub bytes : List ℕ
+  pub says : HeaderLine
+
+-- a position, a delta, or nothing that counts
+abbrev pub IsPlain : HeaderLine → Type 0
+IsPlain header.End = ⊥
+IsPlain (header.Position p) = Unit {0}
+IsPlain (header.Delta d) = Unit {0}
+IsPlain header.Types = ⊥
+IsPlain header.Skipped = Unit {0}
+
+abbrev pub AreHeadParts : List HeadPart → Type 0
+AreHeadParts [] = Unit {0}
+AreHeadParts (p ∷ ps) = (length p.bytes ≤ 4096) × (header_line_of p.bytes ≡ Ok p.says) × IsPlain p.says × AreHeadParts ps
+
+abbrev pub head_lines : List HeadPart → List (List ℕ)
+head_lines [] = []
+head_lines (p ∷ ps) = p.bytes ∷ head_lines ps
+
+-- the last position and the last delta of such lines, or those before them
+abbrev pub position_by : Option (List ℤ) → HeaderLine → Option (List ℤ)
+position_by before header.End = before
+position_by before (header.Position p) = p
+position_by before (header.Delta d) = before
+position_by before header.Types = before
+position_by before header.Skipped = before
+
+abbrev pub delta_by : List ℤ → HeaderLine → List ℤ
+delta_by before header.End = before
+delta_by before (header.Position p) = before
+delta_by before (header.Delta d) = d
+delta_by before header.Types = before
+delta_by before header.Skipped = before
+
+abbrev pub last_position : Option (List ℤ) → List HeadPart → Option (List ℤ)
+last_position before [] = before
+last_position before (p ∷ ps) = last_position (position_by before p.says) ps
+
+abbrev pub last_delta : List ℤ → List HeadPart → List ℤ
+last_delta before [] = before
+last_delta before (p ∷ ps) = last_delta (delta_by before p.says) ps
+
+-- the further lines of a list of types, behind which all its names are there
+abbrev pub AreFurther : List (List ℕ) → List (List ℕ) → ℕ → List (List ℕ) → Type 0
+AreFurther [] names left all = (left ≡ 0) × (names ≡ all)
+AreFurther (bytes ∷ lines) names left all =
+    (0 < left) × (length bytes ≤ 4096) × ((list : TypeList) × (further_types_of Rinex2 bytes names left ≡ Ok list) × AreFurther lines list.names list.left all)
+
+-- the lines of the list of types
+pub record IsTypeList (bytes : List ℕ) (further : List (List ℕ)) (types : List (List ℕ)) : Type 0 where
+  pub short : length bytes ≤ 4096
+  pub begins : header_line_of bytes ≡ Ok header.Types
+  pub list : TypeList
+  pub first : first_types_of Rinex2 bytes ≡ Ok list
+  pub others : AreFurther further list.names list.left types
+
+-- The header: the first line, then lines among which the list of types stands once, then END OF HEADER.
+pub record IsHeader (lines : List (List ℕ)) (h : Header) : Type 0 where
+  pub first : List ℕ
+  pub before : List HeadPart
+  pub list : List ℕ
+  pub further : List (List ℕ)
+  pub after : List HeadPart
+  pub last : List ℕ
+  pub lines_are : lines ≡ first ∷ (head_lines before ++ (list ∷ (further ++ (head_lines after ++ (last ∷ [])))))
+  pub first_short : length first ≤ 4096
+  pub version : first_line_of first ≡ Ok h.hundredths
+  pub before_are : AreHeadParts before
+  pub types : IsTypeList list further h.types
+  pub after_are : AreHeadParts after
+  pub last_short : length last ≤ 4096
+  pub ends : header_line_of last ≡ Ok header.End
+  pub position : h.position ≡ last_position (last_position None before) after
+  pub delta : h.delta ≡ last_delta (last_delta (pos 0 ∷ pos 0 ∷ pos 0 ∷ []) before) after
+
+-- ---- the body
+
+-- a satellite of an epoch, which has a number if it is of GPS, with its lines and its values
+pub record SatPart : Type 0 where
+  pub number : Option ℕ
+  pub rows : List (List ℕ)
+  pub values : List (Option Value)
+
+-- an epoch's line, its further lines of names, and its satellites
+pub record EpochPart : Type 0 where
+  pub bytes : List ℕ
+  pub tag : Tick
+  pub power : Bool
+  pub list : NameList
+  pub further : List (List ℕ)
+  pub sats : List SatPart
+
+-- an event's line, and its lines
+pub record EventPart : Type 0 where
+  pub bytes : List ℕ
+  pub changes : Bool
+  pub event_lines : List (List ℕ)
+
+-- the line of the cycle slips of so many satellites, the further lines of their names, and their own lines
+pub record SlipsPart : Type 0 where
+  pub bytes : List ℕ
+  pub count : ℕ
+  pub further : List (List ℕ)
+  pub rows : List (List ℕ)
+
+pub data Part : Type 0 where
+  Blank : List ℕ → Part
+  Event : EventPart → Part
+  Slips : SlipsPart → Part
+  Epoch_ : EpochPart → Part
+
+-- the further lines of an epoch's names, behind which all its names are there
+abbrev pub AreFurtherNames : List (List ℕ) → List (Option ℕ) → ℕ → List (Option ℕ) → Type 0
+AreFurtherNames [] names left all = (left ≡ 0) × (names ≡ all)
+AreFurtherNames (bytes ∷ lines) names left all =
+    (0 < left) × (length bytes ≤ 4096) × ((list : NameList) × (further_names_of bytes names left ≡ Ok list) × AreFurtherNames lines list.names list.left all)
+
+-- the lines of a satellite from that number on, which give it these values
+abbrev pub AreRows : List KeptType → Option ℕ → ℕ → List (List ℕ) → List (Option Value) → List (Option Value) → Type 0
+AreRows kept number at [] before after = before ≡ after
+AreRows kept number at (bytes ∷ rows) before after =
+    (length bytes ≤ 4096) × ((set : List (Option Value)) × (row_of kept number at bytes before ≡ Ok set) × AreRows kept number (at + 1) rows set after)
+
+pub record IsSat (types : List (List ℕ)) (p : SatPart) : Type 0 where
+  pub count : length p.rows ≡ rows_of types
+  pub rows : AreRows (kept_of types) p.number 0 p.rows missing_values p.values
+
+abbrev pub AreSats : List (List ℕ) → List SatPart → Type 0
+AreSats types [] = Unit {0}
+AreSats types (p ∷ ps) = IsSat types p × AreSats types ps
+
+abbrev pub numbers_of : List SatPart → List (Option ℕ)
+numbers_of sats = map (λ p. p.number) sats
+
+abbrev pub sat_lines : List SatPart → List (List ℕ)
+sat_lines [] = []
+sat_lines (p ∷ ps) = p.rows ++ sat_lines ps
+
+-- those of GPS
+abbrev pub if_of_gps : Option ℕ → List (Option Value) → List SatObs
+if_of_gps None values = []
+if_of_gps (Some number) values = satellite_of number values ∷ []
+
+abbrev pub satellites_of : List SatPart → List SatObs
+satellites_of [] = []
+satellites_of (p ∷ ps) = if_of_gps p.number p.values ++ satellites_of ps
+
+-- behind these epochs
+pub record IsEpochPart (types : List (List ℕ)) (epochs : List Epoch) (p : EpochPart) : Type 0 where
+  pub short : length p.bytes ≤ 4096
+  pub says : epoch_line_of epochs p.bytes ≡ Ok (line.Epoch p.tag p.power p.list)
+  pub names : AreFurtherNames p.further p.list.names p.list.left (numbers_of p.sats)
+  pub sats : AreSats types p.sats
+
+abbrev pub AreEventLines : Bool → List (List ℕ) → Type 0
+AreEventLines changes [] = Unit {0}
+AreEventLines changes (bytes ∷ lines) = (length bytes ≤ 4096) × (event_line_of Rinex2 changes bytes ≡ Ok tt) × AreEventLines changes lines
+
+pub record IsEventPart (epochs : List Epoch) (p : EventPart) : Type 0 where
+  pub short : length p.bytes ≤ 4096
+  pub says : epoch_line_of epochs p.bytes ≡ Ok (line.Event p.changes (length p.event_lines))
+  pub lines : AreEventLines p.changes p.event_lines
+
+-- lines of names that aren't read
+abbrev pub AreMarked : List (List ℕ) → Type 0
+AreMarked [] = Unit {0}
+AreMarked (bytes ∷ lines) = (length bytes ≤ 4096) × (further_mark_of bytes ≡ Ok tt) × AreMarked lines
+
+abbrev pub AreShort : List (List ℕ) → Type 0
+AreShort [] = Unit {0}
+AreShort (bytes ∷ lines) = (length bytes ≤ 4096) × AreShort lines
+
+pub record IsSlipsPart (types : List (List ℕ)) (epochs : List Epoch) (p : SlipsPart) : Type 0 where
+  pub short : length p.bytes ≤ 4096
+  pub says : epoch_line_of epochs p.bytes ≡ Ok (line.Slips p.count)
+  pub further_count : length p.further ≡ further_lines_of p.count
+  pub further : AreMarked p.further
+  pub rows_count : length p.rows ≡ p.count * rows_of types
+  pub rows : AreShort p.rows
+
+abbrev pub epoch_in_part : EpochPart → Epoch
+epoch_in_part p = epoch_of p.tag p.power (satellites_of p.sats)
+
+-- the parts of a body behind these epochs
+abbrev pub AreParts : List (List ℕ) → List Epoch → List Part → Type 0
+AreParts types epochs [] = Unit {0}
+AreParts types epochs (Blank bytes ∷ parts) = (length bytes ≤ 4096) × (epoch_line_of epochs bytes ≡ Ok line.Blank) × AreParts types epochs parts
+AreParts types epochs (Event p ∷ parts) = IsEventPart epochs p × AreParts types epochs parts
+AreParts types epochs (Slips p ∷ parts) = IsSlipsPart types epochs p × AreParts types epochs parts
+AreParts types epochs (Epoch_ p ∷ parts) = IsEpochPart types epochs p × AreParts types (epochs ++ epoch_in_part p ∷ []) parts
+
+abbrev pub epochs_of : List Part → List Epoch
+epochs_of [] = []
+epochs_of (Blank bytes ∷ parts) = epochs_of parts
+epochs_of (Event p ∷ parts) = epochs_of parts
+epochs_of (Slips p ∷ parts) = epochs_of parts
+epochs_of (Epoch_ p ∷ parts) = epoch_in_part p ∷ epochs_of parts
+
+abbrev pub lines_of_part : Part → List (List ℕ)
+lines_of_part (Blank bytes) = bytes ∷ []
+lines_of_part (Event p) = p.bytes ∷ p.event_lines
+lines_of_part (Slips p) = p.bytes ∷ (p.further ++ p.rows)
+lines_of_part (Epoch_ p) = p.bytes ∷ (p.further ++ sat_lines p.sats)
+
+abbrev pub body_lines : List Part → List (List ℕ)
+body_lines [] = []
+body_lines (p ∷ parts) = lines_of_part p ++ body_lines parts
+
+-- ---- the file
+
+-- the lines are a header and a body, and the file is theirs: what they say of GPS
+pub record IsObs2File (lines : List (List ℕ)) (file : ObsFile) : Type 0 where
+  pub header_lines : List (List ℕ)
+  pub header : Header
+  pub parts : List Part
+  pub lines_are : lines ≡ header_lines ++ body_lines parts
+  pub is_header : IsHeader header_lines header
+  pub are_parts : AreParts header.types [] parts
+  pub file_is : file ≡ file_of header (epochs_of parts)
+
+-- the lines are those of some file
+abbrev pub HasObs2File : List (List ℕ) → Type 0
+HasObs2File lines = (file : ObsFile) × IsObs2File lines file

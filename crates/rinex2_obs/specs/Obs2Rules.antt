@@ -1,0 +1,164 @@
+-- What each line of an observation file must be in its place.
+use Rattle.std.specs.Prelude.{ℕ, ℤ, pos, zero, suc, ◌+◌, ◌-◌, ◌*◌, nat_lt, Bool, false, List, [], ◌∷◌, ◌++◌, Result, Ok, None, Some, if◌then◌else◌}
+use Rattle.std.specs.declared.option.Option.{Option}
+use Rattle.gps_time.specs.declared.Tick.{Tick}
+use Rattle.obs_store.specs.declared.file.ObsFile.{ObsFile}
+use Rattle.obs_store.specs.declared.series.Epoch.{Epoch}
+use Rattle.obs_store.specs.declared.values.Value.{Value}
+use Rattle.obs_store.specs.declared.values.SatObs.{SatObs}
+use Rattle.obs_store.specs.Missing.{missing_values}
+use Rattle.rinex_head.specs.declared.place.At.{At}
+use Rattle.rinex_head.specs.declared.place.Flaw.{Flaw}
+use Rattle.rinex_head.specs.declared.place.What.TheVariants.{ObsVersion, NoEnd, Types, Truncated}
+use Rattle.rinex_head.specs.Places.{and_then, flawed}
+use Rattle.rinex_head.specs.Walk.{Rules, text_gives}
+use Rattle.obs_fields.specs.Types.{first_types_of, further_types_of}
+use Rattle.obs_fields.specs.declared.layout.Layout.TheVariants.{Rinex2}
+use Rattle.obs_fields.specs.Labels.{event_line_of}
+use Rattle.rinex2_obs.specs.FirstLine.{first_line_of}
+use Rattle.rinex2_obs.specs.HeaderLines.{header_line_of}
+use Rattle.rinex2_obs.specs.Profile.{kept_of, listed_of}
+use Rattle.rinex2_obs.specs.SatNames.{further_mark_of, further_names_of}
+use Rattle.rinex2_obs.specs.EpochLines.{epoch_line_of}
+use Rattle.rinex2_obs.specs.Rows.{rows_of, further_lines_of, row_of}
+use Rattle.rinex2_obs.specs.declared.header.Header.{Header}
+use Rattle.rinex2_obs.specs.declared.header_lines.HeaderLine.{HeaderLine}
+use Rattle.rinex2_obs.specs.declared.header_lines.HeaderLine.TheVariants as header
+use Rattle.rinex2_obs.specs.declared.epoch_lines.EpochLine.{EpochLine}
+use Rattle.rinex2_obs.specs.declared.epoch_lines.EpochLine.TheVariants as line
+
+-- what the lines of a header have said so far
+pub record HeaderSoFar : Type 0 where
+  pub hundredths : ℕ
+  pub position : Option (List ℤ)
+  pub delta : List ℤ
+  pub types : Option (List (List ℕ))
+
+abbrev pub so_far : ℕ → Option (List ℤ) → List ℤ → Option (List (List ℕ)) → HeaderSoFar
+so_far hundredths position delta types = record { hundredths = hundredths; position = position; delta = delta; types = types }
+
+-- a header of which nothing was read but its first line
+abbrev pub bare_header : ℕ → HeaderSoFar
+bare_header hundredths = so_far hundredths None (pos 0 ∷ pos 0 ∷ pos 0 ∷ []) None
+
+abbrev pub with_position : HeaderSoFar → Option (List ℤ) → HeaderSoFar
+with_position h position = so_far h.hundredths position h.delta h.types
+
+abbrev pub with_delta : HeaderSoFar → List ℤ → HeaderSoFar
+with_delta h delta = so_far h.hundredths h.position delta h.types
+
+abbrev pub with_types : HeaderSoFar → List (List ℕ) → HeaderSoFar
+with_types h types = so_far h.hundredths h.position h.delta (Some types)
+
+abbrev pub whole_header : HeaderSoFar → List (List ℕ) → Header
+whole_header h types = record { hundredths = h.hundredths; position = h.position; delta = h.delta; types = types }
+
+-- the file of a header and its epochs
+abbrev pub file_of : Header → List Epoch → ObsFile
+file_of h epochs = record { hundredths = h.hundredths; position = h.position; delta = h.delta; listed = listed_of (kept_of h.types); epochs = epochs }
+
+abbrev pub epoch_of : Tick → Bool → List SatObs → Epoch
+epoch_of tag power sats = record { tag = tag; power = power; sats = sats }
+
+abbrev pub satellite_of : ℕ → List (Option Value) → SatObs
+satellite_of number values = record { number = number; values = values }
+
+-- What may be expected: the first line; a line of the header; so many further types, in a further line of the list; an
+-- epoch or an event behind these epochs; so many further names of an epoch's satellites, in a further line of names;
+-- the line of that number, from 0, of one of them, behind which stand the lines of others; so many further lines of
+-- names and then so many lines of satellites, behind flag 6; so many lines of an event.
+pub data Expected : Type 0 where
+  First : Expected
+  Head : HeaderSoFar → Expected
+  More : HeaderSoFar → List (List ℕ) → ℕ → Expected
+  Body : Header → List Epoch → Expected
+  Names : Header → List Epoch → Tick → Bool → List (Option ℕ) → ℕ → Expected
+  Row : Header → List Epoch → Tick → Bool → List SatObs → Option ℕ → List (Option ℕ) → ℕ → List (Option Value) → Expected
+  Further : Header → List Epoch → ℕ → ℕ → Expected
+  Skip : Header → List Epoch → Bool → ℕ → Expected
+
+-- behind a list's line, where so many types are still due
+abbrev pub more_types : HeaderSoFar → List (List ℕ) → ℕ → Expected
+more_types h names zero = Head (with_types h names)
+more_types h names (suc n) = More h names (suc n)
+
+-- behind these satellites of an epoch, where those of the names are still due
+abbrev pub more_sats : Header → List Epoch → Tick → Bool → List SatObs → List (Option ℕ) → Expected
+more_sats h epochs tag power sats [] = Body h (epochs ++ epoch_of tag power sats ∷ [])
+more_sats h epochs tag power sats (name ∷ names) = Row h epochs tag power sats name names 0 missing_values
+
+-- behind a line of names, where so many names are still due
+abbrev pub more_names : Header → List Epoch → Tick → Bool → List (Option ℕ) → ℕ → Expected
+more_names h epochs tag power names zero = more_sats h epochs tag power [] names
+more_names h epochs tag power names (suc n) = Names h epochs tag power names (suc n)
+
+-- a satellite of another system is skipped
+abbrev pub with_satellite : List SatObs → Option ℕ → List (Option Value) → List SatObs
+with_satellite sats None values = sats
+with_satellite sats (Some number) values = sats ++ satellite_of number values ∷ []
+
+-- before the line of that number of a satellite, if it has such a line, where its values so far are these
+abbrev pub more_rows : Header → List Epoch → Tick → Bool → List SatObs → Option ℕ → List (Option ℕ) → ℕ → List (Option Value) → Expected
+more_rows h epochs tag power sats name names at values =
+    if nat_lt at (rows_of h.types) then Row h epochs tag power sats name names at values
+    else more_sats h epochs tag power (with_satellite sats name values) names
+
+-- behind an event's line, where so many lines follow
+abbrev pub more_lines : Header → List Epoch → Bool → ℕ → Expected
+more_lines h epochs changes zero = Body h epochs
+more_lines h epochs changes (suc n) = Skip h epochs changes (suc n)
+
+-- behind flag 6, where so many further lines of names and so many lines of satellites follow
+abbrev pub more_slips : Header → List Epoch → ℕ → ℕ → Expected
+more_slips h epochs zero rows = more_lines h epochs false rows
+more_slips h epochs (suc n) rows = Further h epochs (suc n) rows
+
+-- the list of types must stand once
+abbrev pub begun_list : HeaderSoFar → List ℕ → Option (List (List ℕ)) → Result Expected Flaw
+begun_list h bytes None = and_then (first_types_of Rinex2 bytes) (λ list. Ok (more_types h list.names list.left))
+begun_list h bytes (Some types) = flawed 1 Types
+
+abbrev pub ended_header : HeaderSoFar → Option (List (List ℕ)) → Result Expected Flaw
+ended_header h None = flawed 1 Types
+ended_header h (Some types) = Ok (Body (whole_header h types) [])
+
+abbrev pub after_header : HeaderSoFar → List ℕ → HeaderLine → Result Expected Flaw
+after_header h bytes header.End = ended_header h h.types
+after_header h bytes (header.Position p) = Ok (Head (with_position h p))
+after_header h bytes (header.Delta d) = Ok (Head (with_delta h d))
+after_header h bytes header.Types = begun_list h bytes h.types
+after_header h bytes header.Skipped = Ok (Head h)
+
+abbrev pub after_epoch : Header → List Epoch → EpochLine → Expected
+after_epoch h epochs line.Blank = Body h epochs
+after_epoch h epochs (line.Event changes n) = more_lines h epochs changes n
+after_epoch h epochs (line.Slips n) = more_slips h epochs (further_lines_of n) (n * rows_of h.types)
+after_epoch h epochs (line.Epoch tag power list) = more_names h epochs tag power list.names list.left
+
+abbrev pub admit : Expected → List ℕ → Result Expected Flaw
+admit First bytes = and_then (first_line_of bytes) (λ hundredths. Ok (Head (bare_header hundredths)))
+admit (Head h) bytes = and_then (header_line_of bytes) (λ l. after_header h bytes l)
+admit (More h names n) bytes = and_then (further_types_of Rinex2 bytes names n) (λ list. Ok (more_types h list.names list.left))
+admit (Body h epochs) bytes = and_then (epoch_line_of epochs bytes) (λ l. Ok (after_epoch h epochs l))
+admit (Names h epochs tag power names n) bytes = and_then (further_names_of bytes names n) (λ list. Ok (more_names h epochs tag power list.names list.left))
+admit (Row h epochs tag power sats name names at values) bytes =
+    and_then (row_of (kept_of h.types) name at bytes values) (λ set. Ok (more_rows h epochs tag power sats name names (at + 1) set))
+admit (Further h epochs n rows) bytes = and_then (further_mark_of bytes) (λ u. Ok (more_slips h epochs (n - 1) rows))
+admit (Skip h epochs changes n) bytes = and_then (event_line_of Rinex2 changes bytes) (λ u. Ok (more_lines h epochs changes (n - 1)))
+
+abbrev pub finish : Expected → Result ObsFile Flaw
+finish First = flawed 1 ObsVersion
+finish (Head h) = flawed 1 NoEnd
+finish (More h names n) = flawed 1 NoEnd
+finish (Body h epochs) = Ok (file_of h epochs)
+finish (Names h epochs tag power names n) = flawed 1 Truncated
+finish (Row h epochs tag power sats name names at values) = flawed 1 Truncated
+finish (Further h epochs n rows) = flawed 1 Truncated
+finish (Skip h epochs changes n) = flawed 1 Truncated
+
+abbrev pub obs2_rules : Rules Expected ObsFile
+obs2_rules = record { start = First; admit = admit; finish = finish }
+
+-- the file that a text of these lines stands for, or its first failing place
+abbrev pub obs2_of : List (List ℕ) → Result ObsFile At
+obs2_of lines = text_gives obs2_rules lines

@@ -1,0 +1,43 @@
+// The body: blank lines, epochs and events.
+ghost use Rattle.std.specs.Prelude.{◌≡◌, []};
+ghost use Rattle.rinex_head.specs.Walk.{rest_gives, Gives};
+ghost use Rattle.rinex2_obs.specs.Profile.{kept_of};
+ghost use Rattle.rinex2_obs.specs.Obs2Rules.{Body, file_of, obs2_rules};
+
+use crate::epoch_lines::{EpochLine, epoch_line};
+use crate::events::{skip_lines, skip_slips};
+use crate::header::Header;
+use crate::sats::read_epoch;
+use line_source::Lines;
+use obs_fields::KeptType;
+use obs_store::{Epoch, Epochs};
+use rinex_head::{TextFault, line_or_end};
+use std::alloc::Global;
+
+/// The epochs of a body, up to the end of the text.
+pub fn read_epochs(
+    alloc: Global,
+    lines: &mut Lines<'_>,
+    header: &Header,
+    kept: &[KeptType],
+) -> Result<Epochs, TextFault>
+    requires { kept.now ≡ kept_of header.now.types }
+    ensures { Gives (rest_gives obs2_rules lines.old (Body header.now [])) (λ epochs. file_of header.now epochs) result }
+{
+    let mut epochs = Epochs::new(alloc);
+    'epochs: loop {
+        let Some(line) = line_or_end(lines)? else {
+            return Ok(epochs);
+        };
+        match epoch_line(line.bytes, &epochs) {
+            Ok(EpochLine::Blank) => {}
+            Ok(EpochLine::Event { changes, count }) => skip_lines(lines, changes, count as u32)?,
+            Ok(EpochLine::Slips { count }) => skip_slips(lines, header, count)?,
+            Ok(EpochLine::Epoch { tag, power, list }) => {
+                let sats = read_epoch(alloc, lines, header, kept, list)?;
+                epochs.push(Epoch { tag, power, sats })?;
+            }
+            Err(flaw) => return Err(TextFault::Refused(flaw.at(line.number))),
+        }
+    }
+}

@@ -1,0 +1,73 @@
+// The types that are kept of a list of RINEX 2, and as which ones.
+ghost use Rattle.std.specs.Prelude.{◌≡◌, ◌++◌, IfOk, OnOk};
+ghost use Rattle.obs_fields.specs.Types.{kept_at};
+ghost use Rattle.rinex2_obs.specs.Profile.{kept_type_in, kept_of, is_among, listed_of};
+
+use obs_fields::{KeptType, TypeNames};
+use obs_store::{ObsType, SLOTS};
+use std::alloc::{AllocError, Global};
+
+fn kept_type(name: &[u8]) -> Option<ObsType>
+    ensures { result ≡ kept_type_in name.now }
+{
+    if name == b"C1 ".as_slice() {
+        return Some(ObsType::C1C);
+    }
+    if name == b"L1 ".as_slice() {
+        return Some(ObsType::L1C);
+    }
+    if name == b"P2 ".as_slice() {
+        return Some(ObsType::C2W);
+    }
+    if name == b"L2 ".as_slice() {
+        return Some(ObsType::L2W);
+    }
+    if name == b"C5 ".as_slice() {
+        return Some(ObsType::C5X);
+    }
+    if name == b"L5 ".as_slice() {
+        return Some(ObsType::L5X);
+    }
+    None
+}
+
+// Adds the type of this number and name, if it is kept.
+fn add_kept(kept: &mut Vec<KeptType>, number: u8, name: &[u8]) -> Result<(), AllocError>
+    ensures { OnOk result (kept.new.items ≡ kept.old.items ++ kept_at number (kept_type_in name.now)) }
+{
+    match kept_type(name) {
+        Some(kind) => match kept.push(KeptType { number, kind }) {
+            Ok(()) => Ok(()),
+            Err(_) => Err(AllocError),
+        },
+        None => Ok(()),
+    }
+}
+
+/// The kept types of a list, each with its number in the list.
+pub fn kept_types(alloc: Global, names: &TypeNames) -> Result<Vec<KeptType>, AllocError>
+    ensures { IfOk result (λ kept. kept.items ≡ kept_of names.now) }
+{
+    let mut kept: Vec<KeptType> = Vec::new(alloc);
+    for (number, name) in names.as_slice().iter().enumerate() {
+        add_kept(&mut kept, number as u8, name)?;
+    }
+    Ok(kept)
+}
+
+fn is_kept(kept: &[KeptType], kind: ObsType) -> bool
+    ensures { result ≡ is_among kept.now kind }
+{
+    kept.iter().any(|one| one.kind.slot() == kind.slot())
+}
+
+/// Whether each type is among the kept ones, in the order of the slots.
+pub fn listed_types(kept: &[KeptType]) -> [bool; SLOTS]
+    ensures { result ≡ listed_of kept.now }
+{
+    let mut listed = [false; SLOTS];
+    for (slot, kind) in ObsType::ALL.iter().enumerate() {
+        listed[slot] = is_kept(kept, *kind);
+    }
+    listed
+}

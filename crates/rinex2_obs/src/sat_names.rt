@@ -1,0 +1,176 @@
+// The names of the satellites in the line of an epoch and in further lines of names (RINEX 2.11, epoch record).
+ghost use Rattle.std.specs.Prelude.{◌≡◌, ◌+◌, ◌-◌, ◌*◌, ◌<◌, ◌≤◌, ◌++◌, ◌∷◌, [], min, length, IfOk, OnOk, IfErr, Ok, Err};
+ghost use Rattle.rinex2_obs.specs.SatNames.{has_number, is_named, name_in, names_from, with_line, first_names_of, further_mark_of, further_names_of, AreNames, FitsBehind};
+
+use crate::header::flaw;
+use arrayvec::ArrayVec;
+use obs_fields::satellite;
+use rinex_head::{Flaw, System, What, bad_field, field, is_blank_line};
+use std::marker::Model;
+
+/// How many satellites an epoch may have: its count has three digits.
+pub const MOST_NAMES: usize = 999;
+
+// how many names a line has room for
+const NAMES_IN_LINE: u16 = 12;
+
+/// The satellites of an epoch by their names: the numbers of those of GPS, from 1 to 32, each at most once, and nothing
+/// in the places of others. Contracts see the list of them.
+#[derive(Drop)]
+pub struct SatNames {
+    items: ArrayVec<Option<u8>, MOST_NAMES>,
+}
+
+impl Model for SatNames {
+    ghost use Rattle.std.specs.Prelude.{List, ℕ};
+    ghost use Rattle.std.specs.declared.option.Option.{Option};
+    ghost use Rattle.rinex2_obs.specs.SatNames.{AreNames};
+
+    ghost Value = { List (Option ℕ) };
+
+    ghost view = { λ s. s.items.items };
+
+    ghost invariant = { λ s. AreNames s.items.items };
+}
+
+/// The names that an epoch has so far, and how many are due.
+#[derive(Drop)]
+pub struct NameList {
+    pub names: SatNames,
+    pub left: u16,
+}
+
+fn is_number(name: Option<u8>, number: u8) -> bool
+    ensures { result ≡ has_number number name }
+{
+    match name {
+        Some(n) => number == n,
+        None => false,
+    }
+}
+
+impl SatNames {
+    /// No names.
+    pub fn new() -> SatNames
+        ensures { result ≡ [] }
+    {
+        SatNames {
+            items: ArrayVec::new(),
+        }
+    }
+
+    /// The names, in order.
+    pub fn as_slice(&self) -> &[Option<u8>]
+        ensures value { result.now ≡ self.now }
+        ensures kept { AreNames self.now }
+    {
+        self.items.as_slice()
+    }
+
+    // Whether a satellite of GPS has this number.
+    fn has(&self, number: u8) -> bool
+        ensures { result ≡ is_named number self.now }
+    {
+        self.items.iter().any(|name| is_number(*name, number))
+    }
+
+    // Adds a name.
+    fn push(&mut self, name: Option<u8>)
+        requires room { length self.old < 999 }
+        requires fits { FitsBehind self.old name }
+        ensures { self.new ≡ self.old ++ name ∷ [] }
+    {
+        self.items.push(name);
+    }
+}
+
+// The satellite whose name begins at this column, behind these ones.
+fn name_at(line: &[u8], first: u32, names: &SatNames) -> Result<Option<u8>, Flaw>
+    requires from_one { 1 ≤ first }
+    requires near { first ≤ 100 }
+    ensures value { result ≡ name_in line.now first names.now }
+    ensures fits { IfOk result (λ name. FitsBehind names.now name) }
+{
+    let Some(number) = satellite(System::Gps, true, line, first)? else {
+        return Ok(None);
+    };
+    if names.has(number) {
+        return Err(flaw(first, What::Twice));
+    }
+    Ok(Some(number))
+}
+
+// So many further names of a line.
+fn add_names(line: &[u8], count: u16, names: &mut SatNames) -> Result<(), Flaw>
+    requires room { length names.old + count ≤ 999 }
+    requires few { count ≤ 12 }
+    ensures ok { OnOk result (names_from line.now 33 count names.old ≡ Ok names.new) }
+    ensures longer { OnOk result (length names.new ≡ length names.old + count) }
+    ensures err { IfErr result (λ flaw. names_from line.now 33 count names.old ≡ Err flaw) }
+{
+    let mut first: u32 = 33;
+    let mut left = count;
+    'names: while left > 0 {
+        let name = match name_at(line, first, names) {
+            Ok(name) => name,
+            Err(flaw) => return Err(flaw),
+        };
+        names.push(name);
+        first += 3;
+        left -= 1;
+    }
+    Ok(())
+}
+
+fn add_line(line: &[u8], mut list: NameList) -> Result<NameList, Flaw>
+    requires { length list.names + list.left ≤ 999 }
+    ensures value { result ≡ with_line line.now list.names list.left }
+    ensures room { IfOk result (λ all. length all.names + all.left ≤ 999) }
+{
+    let count = list.left.min(NAMES_IN_LINE);
+    match add_names(line, count, &mut list.names) {
+        Ok(()) => {
+            list.left -= count;
+            Ok(list)
+        }
+        Err(flaw) => Err(flaw),
+    }
+}
+
+/// The names in the line of an epoch of so many satellites.
+pub fn first_names(line: &[u8], count: u16) -> Result<NameList, Flaw>
+    requires { count ≤ 999 }
+    ensures value { result ≡ first_names_of line.now count }
+    ensures room { IfOk result (λ all. length all.names + all.left ≤ 999) }
+{
+    add_line(
+        line,
+        NameList {
+            names: SatNames::new(),
+            left: count,
+        },
+    )
+}
+
+/// Whether the columns before the names of a further line are blank, as they must be.
+#[tactic(auto, unfolding(crate::specs::SatNames::further_mark_of))]
+pub fn further_mark(line: &[u8]) -> Result<(), Flaw>
+    ensures { result ≡ further_mark_of line.now }
+{
+    if !is_blank_line(&field::<32>(line, 1)) {
+        return Err(bad_field(1));
+    }
+    Ok(())
+}
+
+/// A further line of names.
+pub fn further_names(line: &[u8], list: NameList) -> Result<NameList, Flaw>
+    requires { length list.names + list.left ≤ 999 }
+    ensures value { result ≡ further_names_of line.now list.names list.left }
+    ensures room { IfOk result (λ all. length all.names + all.left ≤ 999) }
+{
+    match further_mark(line) {
+        Ok(()) => add_line(line, list),
+        Err(flaw) => Err(flaw),
+    }
+}

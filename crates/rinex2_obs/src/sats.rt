@@ -1,0 +1,133 @@
+// An epoch: the further lines of its satellites' names, and their own lines (RINEX 2.11, observation record).
+ghost use Rattle.std.specs.Prelude.{◌≡◌, ◌≤◌, ◌+◌, List, ℕ, [], ◌∷◌, ◌++◌, Bool, None, Some, length, IfOk, OnOk};
+ghost use Rattle.std.specs.declared.option.Option.{Option};
+ghost use Rattle.gps_time.specs.declared.Tick.{Tick};
+ghost use Rattle.obs_store.specs.declared.series.Epoch.{Epoch};
+ghost use Rattle.obs_store.specs.declared.values.SatObs.{SatObs};
+ghost use Rattle.rinex_head.specs.Walk.{Reads, ReadsFree};
+ghost use Rattle.rinex2_obs.specs.Profile.{kept_of};
+ghost use Rattle.rinex2_obs.specs.SatNames.{AreNames, AreNew, IsWith};
+ghost use Rattle.rinex2_obs.specs.declared.header.Header.{Header};
+ghost use Rattle.rinex2_obs.specs.Obs2Rules.{Body, epoch_of, more_names, more_sats, obs2_rules};
+
+use crate::header::Header;
+use crate::sat_names::{NameList, SatNames, further_names};
+use line_source::Lines;
+use obs_fields::{KeptType, Layout, set_values};
+use obs_store::{SatObs, Satellites};
+use rinex_head::{At, TextFault, What, next_line};
+use std::alloc::Global;
+
+// The further lines of names.
+fn read_names(lines: &mut Lines<'_>, list: NameList) -> Result<SatNames, At>
+    requires { length list.names + list.left ≤ 999 }
+    ensures reads { (h : Header) (epochs : List Epoch) (tag : Tick) (power : Bool) → ReadsFree obs2_rules lines.old lines.new (more_names h epochs tag power list.names list.left) (λ names. more_sats h epochs tag power [] names) result }
+    ensures less { length lines.new.left ≤ length lines.old.left }
+{
+    let mut list = list;
+    'names: while list.left > 0 {
+        let line = next_line(lines, What::Truncated)?;
+        list = match further_names(line.bytes, list) {
+            Ok(list) => list,
+            Err(flaw) => return Err(flaw.at(line.number)),
+        };
+    }
+    Ok(list.names)
+}
+
+// The lines of a satellite of GPS.
+fn read_rows(
+    lines: &mut Lines<'_>,
+    header: &Header,
+    kept: &[KeptType],
+    number: u8,
+) -> Result<SatObs, At>
+    requires { kept.now ≡ kept_of header.now.types }
+    ensures reads { (epochs : List Epoch) (tag : Tick) (power : Bool) (sats : List SatObs) (names : List (Option ℕ)) → ReadsFree obs2_rules lines.old lines.new (more_sats header.now epochs tag power sats (Some number ∷ names)) (λ sat. more_sats header.now epochs tag power (sats ++ sat ∷ []) names) result }
+    ensures number { IfOk result (λ sat. sat.number ≡ number) }
+    ensures less { length lines.new.left ≤ length lines.old.left }
+{
+    let mut sat = SatObs::missing(number);
+    for at in 0..header.rows() {
+        let line = next_line(lines, What::Truncated)?;
+        match set_values(Layout::Rinex2, at, line.bytes, kept, &mut sat.values) {
+            Ok(()) => {}
+            Err(flaw) => return Err(flaw.at(line.number)),
+        }
+    }
+    Ok(sat)
+}
+
+// The lines of a satellite of another system.
+fn skip_rows(lines: &mut Lines<'_>, header: &Header) -> Result<(), At>
+    ensures reads { (epochs : List Epoch) (tag : Tick) (power : Bool) (sats : List SatObs) (names : List (Option ℕ)) → ReadsFree obs2_rules lines.old lines.new (more_sats header.now epochs tag power sats (None ∷ names)) (λ u. more_sats header.now epochs tag power sats names) result }
+    ensures less { length lines.new.left ≤ length lines.old.left }
+{
+    for _at in 0..header.rows() {
+        next_line(lines, What::Truncated)?;
+    }
+    Ok(())
+}
+
+fn read_satellite(
+    lines: &mut Lines<'_>,
+    header: &Header,
+    kept: &[KeptType],
+    name: Option<u8>,
+    sats: &mut Satellites,
+) -> Result<(), TextFault>
+    requires kept { kept.now ≡ kept_of header.now.types }
+    requires named { AreNames (name ∷ []) }
+    requires once { AreNew sats.old (name ∷ []) }
+    ensures reads { (epochs : List Epoch) (tag : Tick) (power : Bool) (names : List (Option ℕ)) → Reads obs2_rules lines.old lines.new (more_sats header.now epochs tag power sats.old (name ∷ names)) (λ u. more_sats header.now epochs tag power sats.new names) result }
+    ensures added { OnOk result (IsWith name sats.old sats.new) }
+    ensures less { length lines.new.left ≤ length lines.old.left }
+{
+    match name {
+        Some(number) => {
+            let sat = read_rows(lines, header, kept, number)?;
+            sats.push(sat)?;
+            Ok(())
+        }
+        None => {
+            skip_rows(lines, header)?;
+            Ok(())
+        }
+    }
+}
+
+fn read_satellites(
+    alloc: Global,
+    lines: &mut Lines<'_>,
+    header: &Header,
+    kept: &[KeptType],
+    names: &[Option<u8>],
+) -> Result<Satellites, TextFault>
+    requires kept { kept.now ≡ kept_of header.now.types }
+    requires named { AreNames names.now }
+    ensures reads { (epochs : List Epoch) (tag : Tick) (power : Bool) → Reads obs2_rules lines.old lines.new (more_sats header.now epochs tag power [] names.now) (λ sats. Body header.now (epochs ++ epoch_of tag power sats ∷ [])) result }
+    ensures less { length lines.new.left ≤ length lines.old.left }
+{
+    let mut sats = Satellites::new(alloc);
+    for name in names {
+        read_satellite(lines, header, kept, *name, &mut sats)?;
+    }
+    Ok(sats)
+}
+
+/// The satellites of an epoch, of whose names those in its line are read.
+pub fn read_epoch(
+    alloc: Global,
+    lines: &mut Lines<'_>,
+    header: &Header,
+    kept: &[KeptType],
+    list: NameList,
+) -> Result<Satellites, TextFault>
+    requires kept { kept.now ≡ kept_of header.now.types }
+    requires few { length list.names + list.left ≤ 999 }
+    ensures reads { (epochs : List Epoch) (tag : Tick) (power : Bool) → Reads obs2_rules lines.old lines.new (more_names header.now epochs tag power list.names list.left) (λ sats. Body header.now (epochs ++ epoch_of tag power sats ∷ [])) result }
+    ensures less { length lines.new.left ≤ length lines.old.left }
+{
+    let names = read_names(lines, list)?;
+    read_satellites(alloc, lines, header, kept, names.as_slice())
+}
