@@ -1,12 +1,16 @@
 // Made-up files, screened, with their arcs.
-ghost use Rattle.std.specs.Prelude.{◌≤◌, IfOk, IfSome};
+ghost use Rattle.std.specs.Prelude.{◌<◌, ◌≤◌, length, IfOk, IfSome};
 ghost use Rattle.obs_rows.specs.Arcs.{AreArcs};
 ghost use Rattle.obs_rows.specs.Ranges.{IsSystem};
 ghost use Rattle.row_build.specs.Halves.{AreBaseHalves};
 ghost use Rattle.signal_travel.specs.Boxes.{IsPoint};
 ghost use Rattle.slip_arcs.specs.Linked.{IsCutOf};
 
+use eph_store::NavFile;
+use gal_nav::read_gal_nav;
+use gal_obs::read_gal_obs;
 use obs_rows::{Arc, are_arcs, is_system};
+use obs_store::ObsFile;
 use rinex_nav::read_nav;
 use rinex_obs::read_obs;
 use round_steps::Rounds;
@@ -14,7 +18,7 @@ use run_options::Options;
 use session::{FileRounds, screened};
 use session_begin::begin;
 use signal_travel::is_receiver_point;
-use sim_session::make;
+use sim_session::{Made, make};
 use std::alloc::{AllocError, Global};
 use std::process::Abort;
 use std::test::Fail;
@@ -46,6 +50,59 @@ fn checked(rounds: FileRounds) -> Option<Files>
     Some(Files { rounds })
 }
 
+/// What three texts say.
+#[derive(Debug, Drop)]
+struct Texts {
+    base: ObsFile,
+    rover: ObsFile,
+    nav: NavFile,
+}
+
+// The number of a satellite of Galileo at the head of a line grows by 32, so that there are E33 to E36 in place of E01 to E04.
+fn renumbered_at(text: &[u8], at: usize) -> u8
+    requires { at < length text.now }
+{
+    let before = &text[..at];
+    match text[at] {
+        b'0' if before.ends_with(b"\nE") => b'3',
+        digit if before.ends_with(b"\nE0") => digit.wrapping_add(2),
+        byte => byte,
+    }
+}
+
+fn renumbered(alloc: Global, text: &[u8]) -> Result<Vec<u8>, AllocError> {
+    let mut out = Vec::new(alloc);
+    for at in 0..text.len() {
+        out.push(renumbered_at(text, at))?;
+    }
+    Ok(out)
+}
+
+fn texts_of_gps(rt: &impl Abort, alloc: Global, made: &Made) -> Result<Texts, Fail> {
+    assert!(rt; made.base.len() <= 67_108_864);
+    assert!(rt; made.rover.len() <= 67_108_864);
+    assert!(rt; made.nav.len() <= 67_108_864);
+    Ok(Texts {
+        base: read_obs(alloc, &made.base)?,
+        rover: read_obs(alloc, &made.rover)?,
+        nav: read_nav(alloc, &made.nav)?,
+    })
+}
+
+fn texts_of_galileo(rt: &impl Abort, alloc: Global, made: &Made) -> Result<Texts, Fail> {
+    let base = renumbered(alloc, &made.base)?;
+    let rover = renumbered(alloc, &made.rover)?;
+    let nav = renumbered(alloc, &made.nav)?;
+    assert!(rt; base.len() <= 67_108_864);
+    assert!(rt; rover.len() <= 67_108_864);
+    assert!(rt; nav.len() <= 67_108_864);
+    Ok(Texts {
+        base: read_gal_obs(alloc, &base)?,
+        rover: read_gal_obs(alloc, &rover)?,
+        nav: read_gal_nav(alloc, &nav)?,
+    })
+}
+
 /// Of so many epochs and satellites made from a seed.
 pub fn files_of(
     rt: &impl Abort,
@@ -60,15 +117,20 @@ pub fn files_of(
     ensures cut { IfOk result (λ f. IsCutOf f.rounds.screened.used f.rounds.kept) }
     ensures halves { IfOk result (λ f. AreBaseHalves f.rounds.screened.boxes f.rounds.position f.rounds.halves.items) }
 {
-    let made = make(alloc, seed, epochs, sats)?;
-    assert!(rt; made.base.len() <= 67_108_864);
-    assert!(rt; made.rover.len() <= 67_108_864);
-    assert!(rt; made.nav.len() <= 67_108_864);
-    let base = read_obs(alloc, &made.base)?;
-    let rover = read_obs(alloc, &made.rover)?;
-    let nav = read_nav(alloc, &made.nav)?;
-    let begun = begin(alloc, &base, &rover, options)?;
-    let rounds = screened(alloc, &base, &rover, &nav, &begun, options)?;
+    let made = make(alloc, seed, epochs, sats, options.bands, options.system)?;
+    let texts = match options.system {
+        b'E' => texts_of_galileo(rt, alloc, &made)?,
+        _ => texts_of_gps(rt, alloc, &made)?,
+    };
+    let begun = begin(alloc, &texts.base, &texts.rover, options)?;
+    let rounds = screened(
+        alloc,
+        &texts.base,
+        &texts.rover,
+        &texts.nav,
+        &begun,
+        options,
+    )?;
     Ok(checked(rounds).expect(rt, "arcs, base or system out of range"))
 }
 

@@ -4,6 +4,8 @@
 #[cfg(test)]
 mod expected;
 #[cfg(test)]
+mod expected_bands;
+#[cfg(test)]
 mod files;
 #[cfg(test)]
 mod tests;

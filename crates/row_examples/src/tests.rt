@@ -1,5 +1,5 @@
 // The boxes of the rows hold the values of the independent model, whatever groups and shifts are chosen.
-ghost use Rattle.std.specs.Prelude.{◌≤◌, ◌^◌, pos, get_or, unsigned_abs, All, IsTrue, IfOk};
+ghost use Rattle.std.specs.Prelude.{◌<◌, ◌≤◌, ◌^◌, unsigned_abs, All, IsTrue, IfOk};
 ghost use Rattle.obs_rows.specs.Signals.{fine_signals};
 ghost use Rattle.obs_rows.specs.Unused.{HasUsedShifts};
 ghost use Rattle.row_build.specs.Halves.{AreBaseHalves};
@@ -7,6 +7,7 @@ ghost use Rattle.signal_travel.specs.Boxes.{IsPoint};
 ghost use Rattle.slip_arcs.specs.Linked.{IsCutOf};
 
 use crate::expected::{Expected, ExpectedPair, ExpectedRow, HIGH, PLAIN};
+use crate::expected_bands::{ALL_BANDS, GALILEO};
 use crate::files::{Files, files_of, with_shifts};
 use obs_rows::{Arc, PairRows, Row, Session, Signals, are_arcs, has_used_shifts};
 use row_build::{pair_rows, rows_at, shift_at};
@@ -46,6 +47,29 @@ fn high(rt: &impl Abort, alloc: Global) -> Result<Files, Fail>
     files_of(rt, alloc, 77, 3, 6, &options)
 }
 
+// Seed 8, with the phases and codes of all three bands.
+fn all_bands(rt: &impl Abort, alloc: Global) -> Result<Files, Fail>
+    ensures cut { IfOk result (λ f. IsCutOf f.rounds.screened.used f.rounds.kept) }
+    ensures halves { IfOk result (λ f. AreBaseHalves f.rounds.screened.boxes f.rounds.position f.rounds.halves.items) }
+{
+    let mut options = Options::defaults();
+    options.bands = 125;
+    options.arc = 2;
+    files_of(rt, alloc, 8, 3, 4, &options)
+}
+
+// Seed 21 of Galileo, with its last four satellites.
+fn galileo(rt: &impl Abort, alloc: Global) -> Result<Files, Fail>
+    ensures cut { IfOk result (λ f. IsCutOf f.rounds.screened.used f.rounds.kept) }
+    ensures halves { IfOk result (λ f. AreBaseHalves f.rounds.screened.boxes f.rounds.position f.rounds.halves.items) }
+{
+    let mut options = Options::defaults();
+    options.bands = 15;
+    options.system = b'E';
+    options.arc = 2;
+    files_of(rt, alloc, 21, 3, 4, &options)
+}
+
 fn arcs_agree(rt: &impl Abort, files: &Files, want: &Expected) {
     let rounds = &files.rounds;
     assert_eq!(rt; rounds.position, want.base);
@@ -78,31 +102,44 @@ fn is_direction(row: &Row, direction: [i64; 3]) -> bool {
         && u.abs_diff(want) <= ru.unsigned_abs())
 }
 
-// What the group and the shifts take off the phases on L1 and L2, in units of a fine row.
-fn taken_off(group: i64, shift: [i64; 3]) -> [i128; 2]
-    ensures first { unsigned_abs (get_or result 0 (pos 0)) ≤ 2 ^ 100 }
-    ensures second { unsigned_abs (get_or result 1 (pos 0)) ≤ 2 ^ 100 }
+// What the shifts take off a signal, in ι: the wavelength for each cycle of a phase.
+fn cycles_off(shift: [i64; 3], signal: usize) -> i128
+    ensures { unsigned_abs result ≤ 2 ^ 80 }
 {
-    let group = group as i128;
-    [
-        (group + 1380 * (shift[0] as i128)) * FINE,
-        (group + 1771 * (shift[1] as i128)) * FINE,
-    ]
+    match signal {
+        0 => 1380 * shift[0] as i128,
+        1 => 1771 * shift[1] as i128,
+        4 => 1848 * shift[2] as i128,
+        _ => 0,
+    }
+}
+
+// What the group and the shifts take off a signal, in units of a fine row.
+fn taken_off(group: i64, shift: [i64; 3], signal: usize) -> i128
+    ensures { unsigned_abs result ≤ 2 ^ 100 }
+{
+    (group as i128 + cycles_off(shift, signal)) * FINE
+}
+
+// Whether the row holds the value of the signal, and 0 for one that isn't used.
+fn is_signal_held(row: &Row, group: i64, shift: [i64; 3], exact: &[i64; 6], signal: usize) -> bool
+    requires { signal < 6 }
+{
+    let y = row.y[signal];
+    if exact[signal] == 0 {
+        return y == 0;
+    }
+    is_held(y, row.ry, taken_off(group, shift, signal), exact[signal])
 }
 
 fn is_fine_row(row: &Row, group: i64, shift: [i64; 3], want: ExpectedRow) -> bool {
     let (arc, exact, _coarse, direction) = want;
-    let [l1, l2] = taken_off(group, shift);
-    let code = group as i128 * FINE;
-    row.arc == arc
-        && row.ry <= FINE_RADIUS
-        && is_held(row.y[0], row.ry, l1, exact[0])
-        && is_held(row.y[1], row.ry, l2, exact[1])
-        && is_held(row.y[2], row.ry, code, exact[2])
-        && is_held(row.y[3], row.ry, code, exact[3])
-        && row.y[4] == 0
-        && row.y[5] == 0
-        && is_direction(row, direction)
+    for signal in 0..6 {
+        if !is_signal_held(row, group, shift, &exact, signal) {
+            return false;
+        }
+    }
+    row.arc == arc && row.ry <= FINE_RADIUS && is_direction(row, direction)
 }
 
 fn is_coarse_row(row: &Row, group: i64, want: ExpectedRow) -> bool {
@@ -133,12 +170,24 @@ fn is_within_cycle(exact: i64, ry: i64, taken_off: i128, wavelength: i64) -> boo
     left.unsigned_abs() <= (wavelength as i128 * FINE + ry as i128).unsigned_abs()
 }
 
-fn are_shifts(shift: [i64; 3], ry: i64, group: i64, exact: [i64; 4]) -> bool {
-    let [l1, l2] = taken_off(group, shift);
-    shift.iter().all(|n| n.unsigned_abs() < 549_755_813_888)
-        && shift[2] == 0
-        && is_within_cycle(exact[0], ry, l1, 1380)
-        && is_within_cycle(exact[1], ry, l2, 1771)
+// Each phase by its number, with its wavelength in ι and the place of its shift.
+const PHASES: [(usize, i64, usize); 3] = [(0, 1380, 0), (1, 1771, 1), (4, 1848, 2)];
+
+fn are_shifts(shift: [i64; 3], ry: i64, group: i64, exact: [i64; 6]) -> bool {
+    for (signal, wavelength, band) in PHASES {
+        if band >= 3 || signal >= 6 || shift[band].unsigned_abs() >= 549_755_813_888 {
+            return false;
+        }
+        let off = taken_off(group, shift, signal);
+        let is_near = match exact[signal] {
+            0 => shift[band] == 0,
+            value => is_within_cycle(value, ry, off, wavelength),
+        };
+        if !is_near {
+            return false;
+        }
+    }
+    true
 }
 
 fn fine_pair_agrees(rt: &impl Abort, pair: &PairRows, arcs: &[Arc], want: &ExpectedPair) {
@@ -289,9 +338,9 @@ fn fine_rows_agree(
         &point,
         files.rounds.signals,
         0,
-        b'G',
+        files.rounds.system,
     )?;
-    assert_eq!(rt; session.system, b'G');
+    assert_eq!(rt; session.system, files.rounds.system);
     assert_eq!(rt; session.pairs.len(), want.taken);
     for pair in &want.pairs {
         let number = pair.0;
@@ -324,9 +373,9 @@ fn coarse_rows_agree(
         &point,
         files.rounds.signals,
         14,
-        b'G',
+        files.rounds.system,
     )?;
-    assert_eq!(rt; session.system, b'G');
+    assert_eq!(rt; session.system, files.rounds.system);
     assert_eq!(rt; session.pairs.len(), want.taken);
     for pair in &want.pairs {
         let number = pair.0;
@@ -337,18 +386,31 @@ fn coarse_rows_agree(
     copy_agrees(rt, alloc, &session)
 }
 
+fn rows_agree(rt: &impl Abort, alloc: Global, files: &Files, want: &Expected) -> Result<(), Fail>
+    requires cut { IsCutOf files.now.rounds.screened.used files.now.rounds.kept }
+    requires halves { AreBaseHalves files.now.rounds.screened.boxes files.now.rounds.position files.now.rounds.halves.items }
+{
+    arcs_agree(rt, files, want);
+    fine_rows_agree(rt, alloc, files, want)?;
+    coarse_rows_agree(rt, alloc, files, want)
+}
+
 #[test]
 fn rows_where_the_rover_stands(rt: HostRuntime) -> Result<(), Fail> {
-    let files = plain(&rt, rt.alloc())?;
-    arcs_agree(&rt, &files, &PLAIN);
-    fine_rows_agree(&rt, rt.alloc(), &files, &PLAIN)?;
-    coarse_rows_agree(&rt, rt.alloc(), &files, &PLAIN)
+    rows_agree(&rt, rt.alloc(), &plain(&rt, rt.alloc())?, &PLAIN)
 }
 
 #[test]
 fn rows_beside_the_rover(rt: HostRuntime) -> Result<(), Fail> {
-    let files = high(&rt, rt.alloc())?;
-    arcs_agree(&rt, &files, &HIGH);
-    fine_rows_agree(&rt, rt.alloc(), &files, &HIGH)?;
-    coarse_rows_agree(&rt, rt.alloc(), &files, &HIGH)
+    rows_agree(&rt, rt.alloc(), &high(&rt, rt.alloc())?, &HIGH)
+}
+
+#[test]
+fn rows_of_all_bands(rt: HostRuntime) -> Result<(), Fail> {
+    rows_agree(&rt, rt.alloc(), &all_bands(&rt, rt.alloc())?, &ALL_BANDS)
+}
+
+#[test]
+fn rows_of_galileo(rt: HostRuntime) -> Result<(), Fail> {
+    rows_agree(&rt, rt.alloc(), &galileo(&rt, rt.alloc())?, &GALILEO)
 }
