@@ -117,6 +117,8 @@ pub fn files_of(
     ensures cut { IfOk result (λ f. IsCutOf f.rounds.screened.used f.rounds.kept) }
     ensures halves { IfOk result (λ f. AreBaseHalves f.rounds.screened.boxes f.rounds.position f.rounds.halves.items) }
 {
+    // Galileo is simulated on E1 and E5a alone.
+    assert!(rt; options.system != b'E' || options.bands == 15);
     let made = make(alloc, seed, epochs, sats, options.bands, options.system)?;
     let texts = match options.system {
         b'E' => texts_of_galileo(rt, alloc, &made)?,
