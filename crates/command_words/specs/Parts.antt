@@ -1,9 +1,8 @@
--- How the words behind the command are parted: ordinary words, and options with their numbers.
+-- How the words behind the command are parted: ordinary words, and options with their values.
 use Rattle.std.specs.Prelude.{◌≡◌, ℕ, ◌==◌, Bool, true, not, IsTrue, List, [], ◌∷◌, ◌++◌}
 use Rattle.command_words.specs.declared.settings.Setting.{Setting}
 use Rattle.command_words.specs.declared.settings.Given.{Given}
-use Rattle.command_words.specs.Numbers.{IsNumber}
-use Rattle.command_words.specs.Settings.{name_of}
+use Rattle.command_words.specs.Settings.{name_of, IsValue}
 
 -- `-` alone, or any word that doesn't begin with it
 abbrev pub is_ordinary : List ℕ → Bool
@@ -11,7 +10,7 @@ is_ordinary [] = true
 is_ordinary (b ∷ []) = true
 is_ordinary (b ∷ c ∷ bs) = not (b == 45)
 
--- an ordinary word; `--name` with the number in the word behind it; `--name=number`
+-- an ordinary word; `--name` with the value in the word behind it; `--name=value`
 pub data Piece : Type 0 where
   Plain : List ℕ → Piece
   Apart : Setting → List ℕ → ℕ → Piece
@@ -19,23 +18,23 @@ pub data Piece : Type 0 where
 
 abbrev pub IsPiece : Piece → Type 0
 IsPiece (Plain word) = IsTrue (is_ordinary word)
-IsPiece (Apart s digits n) = IsNumber digits n
-IsPiece (Joined s digits n) = IsNumber digits n
+IsPiece (Apart s value n) = IsValue s value n
+IsPiece (Joined s value n) = IsValue s value n
 
 abbrev pub words_of_piece : Piece → List (List ℕ)
 words_of_piece (Plain word) = word ∷ []
-words_of_piece (Apart s digits n) = (45 ∷ 45 ∷ name_of s) ∷ digits ∷ []
-words_of_piece (Joined s digits n) = (45 ∷ 45 ∷ (name_of s ++ 61 ∷ digits)) ∷ []
+words_of_piece (Apart s value n) = (45 ∷ 45 ∷ name_of s) ∷ value ∷ []
+words_of_piece (Joined s value n) = (45 ∷ 45 ∷ (name_of s ++ 61 ∷ value)) ∷ []
 
 abbrev pub plain_of_piece : Piece → List (List ℕ)
 plain_of_piece (Plain word) = word ∷ []
-plain_of_piece (Apart s digits n) = []
-plain_of_piece (Joined s digits n) = []
+plain_of_piece (Apart s value n) = []
+plain_of_piece (Joined s value n) = []
 
 abbrev pub given_of_piece : Piece → List Given
 given_of_piece (Plain word) = []
-given_of_piece (Apart s digits n) = record { setting = s; number = n } ∷ []
-given_of_piece (Joined s digits n) = record { setting = s; number = n } ∷ []
+given_of_piece (Apart s value n) = record { setting = s; number = n } ∷ []
+given_of_piece (Joined s value n) = record { setting = s; number = n } ∷ []
 
 abbrev pub ArePieces : List Piece → Type 0
 ArePieces [] = Unit {0}

@@ -1,7 +1,10 @@
 -- Which words are a job.
 use Rattle.std.specs.Prelude.{◌≡◌, ◌≤◌, ℕ, List, [], ◌∷◌, map, codes, string_bytes, String}
+use Rattle.obs_rows.specs.Ranges.{IsSystem}
 use Rattle.std.specs.declared.alloc.Global.{Global}
 use Rattle.command_words.specs.declared.settings.Given.{Given}
+use Rattle.command_words.specs.declared.sims.File.{File}
+use Rattle.command_words.specs.declared.sims.File.TheVariants.{Base, Rover, Nav}
 use Rattle.command_words.specs.declared.sims.Part.{Part}
 use Rattle.command_words.specs.declared.sims.Part.TheVariants as part
 use Rattle.command_words.specs.declared.sims.Sim.{Sim}
@@ -10,7 +13,7 @@ use Rattle.command_words.specs.declared.jobs.Job.TheVariants as job
 use Rattle.command_words.specs.Numbers.{IsNumber, IsNumberIn, IsSatellite}
 use Rattle.command_words.specs.Parts.{AreParted}
 use Rattle.run_options.specs.declared.options.Options.{Options}
-use Rattle.command_words.specs.Settings.{AreOptions, ArePairOptions}
+use Rattle.command_words.specs.Settings.{AreBandsOf, AreOptions, ArePairOptions, IsSimChoice}
 
 abbrev pub texts_of : List (String Global) → List (List ℕ)
 texts_of words = map (λ w. string_bytes w) words
@@ -22,37 +25,42 @@ pub record IsPlainJob (name : List ℕ) (words : List (List ℕ)) (command : Lis
   pub none_given : given ≡ []
 
 -- `orbit`, a navigation file, a satellite and a tick
-pub record IsOrbitJob (nav : List ℕ) (sat tick : ℕ) (command : List ℕ) (plain : List (List ℕ)) (given : List Given) : Type 0 where
+pub record IsOrbitJob (nav : List ℕ) (system sat tick : ℕ) (command : List ℕ) (plain : List (List ℕ)) (given : List Given) : Type 0 where
   pub sat_word : List ℕ
   pub tick_word : List ℕ
   pub asked : IsPlainJob (codes "orbit") (nav ∷ sat_word ∷ tick_word ∷ []) command plain given
-  pub satellite : IsSatellite sat_word sat
+  pub satellite : IsSatellite sat_word system sat
   pub number : IsNumber tick_word tick
 
+abbrev pub name_of_file : File → List ℕ
+name_of_file Base = codes "base"
+name_of_file Rover = codes "rover"
+name_of_file Nav = codes "nav"
+
 abbrev pub name_of_part : Part → List ℕ
-name_of_part part.Base = codes "base"
-name_of_part part.Rover = codes "rover"
-name_of_part part.Nav = codes "nav"
+name_of_part (part.File file) = name_of_file file
 name_of_part part.Run = codes "run"
 
-abbrev pub sim_with : Part → ℕ → ℕ → ℕ → Sim
-sim_with part seed epochs sats = record { part = part; seed = seed; epochs = epochs; sats = sats }
+abbrev pub sim_with : Part → ℕ → ℕ → ℕ → ℕ → ℕ → Sim
+sim_with part seed epochs sats bands system = record { part = part; seed = seed; epochs = epochs; sats = sats; bands = bands; system = system }
 
--- the part of a made-up session, its seed, and how many epochs and satellites it has
+-- the part of a simulated session, its seed, and how many epochs and satellites it has
 pub record IsSim (part_word seed_word epochs_word sats_word : List ℕ) (s : Sim) : Type 0 where
   pub part : part_word ≡ name_of_part s.part
   pub seed : IsNumberIn 0 4294967295 seed_word s.seed
   pub epochs : IsNumberIn 1 3600 epochs_word s.epochs
   pub sats : IsNumberIn 4 15 sats_word s.sats
 
--- `sim` and these four words
+-- `sim`, these four words, and no options but the bands and the system
 pub record IsSimJob (s : Sim) (command : List ℕ) (plain : List (List ℕ)) (given : List Given) : Type 0 where
+  pub command_is : command ≡ codes "sim"
   pub part_word : List ℕ
   pub seed_word : List ℕ
   pub epochs_word : List ℕ
   pub sats_word : List ℕ
-  pub asked : IsPlainJob (codes "sim") (part_word ∷ seed_word ∷ epochs_word ∷ sats_word ∷ []) command plain given
+  pub plain_are : plain ≡ part_word ∷ seed_word ∷ epochs_word ∷ sats_word ∷ []
   pub is : IsSim part_word seed_word epochs_word sats_word s
+  pub choice : IsSimChoice given s.system s.bands
 
 -- `fix`, three files, and any options
 pub record IsFixJob (base rover nav : List ℕ) (o : Options) (command : List ℕ) (plain : List (List ℕ)) (given : List Given) : Type 0 where
@@ -70,13 +78,13 @@ pub record IsArcsJob (base rover nav : List ℕ) (o : Options) (command : List �
 abbrev pub IsJobOf : List ℕ → List (List ℕ) → List Given → Job → Type 0
 IsJobOf command plain given (job.Zero rows) = IsPlainJob (codes "zero") (rows ∷ []) command plain given
 IsJobOf command plain given (job.List obs) = IsPlainJob (codes "list") (obs ∷ []) command plain given
-IsJobOf command plain given (job.Orbit nav sat tick) = IsOrbitJob nav sat tick.0 command plain given
+IsJobOf command plain given (job.Orbit nav system sat tick) = IsOrbitJob nav system sat tick.0 command plain given
 IsJobOf command plain given (job.Check cert) = IsPlainJob (codes "check") (cert ∷ []) command plain given
 IsJobOf command plain given (job.Residuals cert) = IsPlainJob (codes "residuals") (cert ∷ []) command plain given
 IsJobOf command plain given (job.Migrate cert) = IsPlainJob (codes "migrate") (cert ∷ []) command plain given
 IsJobOf command plain given (job.Fix base rover nav options) = IsFixJob base rover nav options command plain given
 IsJobOf command plain given (job.Arcs base rover nav options) = IsArcsJob base rover nav options command plain given
-IsJobOf command plain given (job.Sim part seed epochs sats) = IsSimJob (sim_with part seed epochs sats) command plain given
+IsJobOf command plain given (job.Sim part seed epochs sats bands system) = IsSimJob (sim_with part seed epochs sats bands system) command plain given
 
 -- the first word is the command, and the words behind it are parted into those
 pub record IsJob (words : List (List ℕ)) (job : Job) : Type 0 where
@@ -92,15 +100,23 @@ pub record IsJob (words : List (List ℕ)) (job : Job) : Type 0 where
 abbrev pub file_words : Job → List (List ℕ)
 file_words (job.Zero rows) = rows ∷ []
 file_words (job.List obs) = obs ∷ []
-file_words (job.Orbit nav sat tick) = nav ∷ []
+file_words (job.Orbit nav system sat tick) = nav ∷ []
 file_words (job.Check cert) = cert ∷ []
 file_words (job.Residuals cert) = cert ∷ []
 file_words (job.Migrate cert) = cert ∷ []
 file_words (job.Fix base rover nav options) = base ∷ rover ∷ nav ∷ []
 file_words (job.Arcs base rover nav options) = base ∷ rover ∷ nav ∷ []
-file_words (job.Sim part seed epochs sats) = []
+file_words (job.Sim part seed epochs sats bands system) = []
+
+-- the ranges of a simulated session
+pub record IsSimInRange (epochs sats bands system : ℕ) : Type 0 where
+  pub epochs_to : epochs ≤ 3600
+  pub sats_to : sats ≤ 15
+  pub of_system : IsSystem system
+  pub on_bands : AreBandsOf system bands
 
 -- what each job that words ask for keeps
 abbrev pub IsInRange : Job → Type 0
-IsInRange (job.Sim part seed epochs sats) = (epochs ≤ 3600) × (sats ≤ 15)
+IsInRange (job.Sim part seed epochs sats bands system) = IsSimInRange epochs sats bands system
+IsInRange (job.Orbit nav system sat tick) = IsSystem system
 IsInRange other = Unit {0}

@@ -5,7 +5,8 @@ ghost use Rattle.command_words.specs.Numbers.{IsSatellite};
 ghost use Rattle.command_words.specs.Words.{texts_of, IsJobOf, IsJob, IsInRange};
 
 use crate::WordFault;
-use crate::numbers::{number_of, satellite_of};
+use crate::choices::sim_choice_of;
+use crate::numbers::{Satellite, number_of, satellite_of};
 use crate::options::{options_of, pair_options_of};
 use crate::parts::{Parted, parted_of};
 use crate::settings::Given;
@@ -27,9 +28,10 @@ pub enum Job {
     List {
         obs: Word,
     },
-    /// Where a satellite is at a time, by a navigation file.
+    /// Where a satellite is at a time, by a navigation file. Its system has a letter.
     Orbit {
         nav: Word,
+        system: u8,
         sat: u8,
         tick: Tick,
     },
@@ -59,12 +61,14 @@ pub enum Job {
         nav: Word,
         options: Options,
     },
-    /// A part of a made-up session.
+    /// A part of a simulated session, on these bands of the system of that letter.
     Sim {
         part: Part,
         seed: u32,
         epochs: u32,
         sats: u32,
+        bands: u16,
+        system: u8,
     },
 }
 
@@ -92,6 +96,9 @@ fn job_of(alloc: Global, command: &[u8], parted: &Parted) -> Result<Job, WordFau
     if command == b"arcs".as_slice() {
         return arcs_job(alloc, &parted.plain, &parted.given);
     }
+    if command == b"sim".as_slice() {
+        return sim_job(&parted.plain, &parted.given);
+    }
     match parted.given.as_slice() {
         [] => plain_job(alloc, command, &parted.plain),
         _ => Err(WordFault::Usage),
@@ -102,13 +109,13 @@ fn job_of(alloc: Global, command: &[u8], parted: &Parted) -> Result<Job, WordFau
 fn plain_job(alloc: Global, command: &[u8], plain: &[Word]) -> Result<Job, WordFault>
     requires no_arcs { command.now ≡ codes "arcs" → ⊥ }
     requires no_fix { command.now ≡ codes "fix" → ⊥ }
+    requires no_sim { command.now ≡ codes "sim" → ⊥ }
     ensures job { IfOk result (λ job. IsJobOf command.now plain.now [] job) }
     ensures usage { IsErrOf result WordFault.Usage → (job : Job) → IsJobOf command.now plain.now [] job → ⊥ }
 {
     match plain {
         [file] => file_job(alloc, command, file),
         [nav, sat, tick] => orbit_job(alloc, command, nav, sat, tick),
-        [part, seed, epochs, sats] => sim_job(command, part, seed, epochs, sats),
         _ => Err(WordFault::Usage),
     }
 }
@@ -151,6 +158,7 @@ fn orbit_job(
 ) -> Result<Job, WordFault>
     requires no_arcs { command.now ≡ codes "arcs" → ⊥ }
     requires no_fix { command.now ≡ codes "fix" → ⊥ }
+    requires no_sim { command.now ≡ codes "sim" → ⊥ }
     ensures job { IfOk result (λ job. IsJobOf command.now (nav.now ∷ sat.now ∷ tick.now ∷ []) [] job) }
     ensures usage { IsErrOf result WordFault.Usage → (job : Job) → IsJobOf command.now (nav.now ∷ sat.now ∷ tick.now ∷ []) [] job → ⊥ }
 {
@@ -158,20 +166,20 @@ fn orbit_job(
         return Err(WordFault::Usage);
     }
     match satellite_of(sat.as_bytes()) {
-        Some(number) => orbit_at(alloc, nav, sat, number, tick),
+        Some(satellite) => orbit_at(alloc, nav, sat, satellite, tick),
         None => Err(WordFault::Usage),
     }
 }
 
-// The same, with the satellite's number.
+// The same, with the satellite that is named.
 fn orbit_at(
     alloc: Global,
     nav: &Word,
     sat: &Word,
-    number: u8,
+    satellite: Satellite,
     tick: &Word,
 ) -> Result<Job, WordFault>
-    requires { IsSatellite sat.now number }
+    requires { IsSatellite sat.now satellite.system satellite.number }
     ensures job { IfOk result (λ job. IsJobOf (codes "orbit") (nav.now ∷ sat.now ∷ tick.now ∷ []) [] job) }
     ensures usage { IsErrOf result WordFault.Usage → (job : Job) → IsJobOf (codes "orbit") (nav.now ∷ sat.now ∷ tick.now ∷ []) [] job → ⊥ }
 {
@@ -180,7 +188,8 @@ fn orbit_at(
             let nav = Word::copy_of(alloc, nav.as_str())?;
             Ok(Job::Orbit {
                 nav,
-                sat: number,
+                system: satellite.system,
+                sat: satellite.number,
                 tick: Tick(ticks),
             })
         }
@@ -189,25 +198,24 @@ fn orbit_at(
 }
 
 // The job of the command `sim`.
-fn sim_job(
-    command: &[u8],
-    part: &Word,
-    seed: &Word,
-    epochs: &Word,
-    sats: &Word,
-) -> Result<Job, WordFault>
-    ensures job { IfOk result (λ job. IsJobOf command.now (part.now ∷ seed.now ∷ epochs.now ∷ sats.now ∷ []) [] job) }
-    ensures usage { IsErrOf result WordFault.Usage → (job : Job) → IsJobOf command.now (part.now ∷ seed.now ∷ epochs.now ∷ sats.now ∷ []) [] job → ⊥ }
+fn sim_job(plain: &[Word], given: &[Given]) -> Result<Job, WordFault>
+    ensures job { IfOk result (λ job. IsJobOf (codes "sim") plain.now given.now job) }
+    ensures usage { IsErrOf result WordFault.Usage → (job : Job) → IsJobOf (codes "sim") plain.now given.now job → ⊥ }
 {
-    if command != b"sim".as_slice() {
+    let Some(choice) = sim_choice_of(given) else {
         return Err(WordFault::Usage);
-    }
-    match sim_of(part, seed, epochs, sats) {
+    };
+    let [part, seed, epochs, sats] = plain else {
+        return Err(WordFault::Usage);
+    };
+    match sim_of(part, seed, epochs, sats, choice) {
         Some(sim) => Ok(Job::Sim {
             part: sim.part,
             seed: sim.seed,
             epochs: sim.epochs,
             sats: sim.sats,
+            bands: sim.bands,
+            system: sim.system,
         }),
         None => Err(WordFault::Usage),
     }

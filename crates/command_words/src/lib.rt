@@ -8,6 +8,7 @@
 //! answers as the grammar does is proved (`proofs/SplitLaws.antt`, `JobLaws.antt`, `ReadLaws.antt`).
 #![tactic(auto)]
 
+mod choices;
 mod fault;
 mod jobs;
 mod numbers;
@@ -22,5 +23,5 @@ mod word;
 pub use fault::WordFault;
 pub use jobs::{Job, read_words};
 pub use settings::{Given, Setting};
-pub use sims::{Part, Sim};
+pub use sims::{File, Part, Sim};
 pub use word::Word;

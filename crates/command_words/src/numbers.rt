@@ -1,7 +1,20 @@
-// Numbers and satellites as words.
+// Numbers, systems and satellites as words.
 ghost use Rattle.std.specs.Prelude.{◌≡◌, ℕ, ◌^◌, ◌<◌, ◌≤◌, true, length, IfSome, MatchOption};
 ghost use Rattle.decimal_text.specs.Whole.{is_digit, are_digits, number_from};
-ghost use Rattle.command_words.specs.Numbers.{IsNumber, IsSatellite};
+ghost use Rattle.obs_rows.specs.Ranges.{IsSystem};
+ghost use Rattle.command_words.specs.Numbers.{IsNumber, IsLetter, IsSatellite};
+ghost use Rattle.command_words.specs.Settings.{IsValue};
+
+use crate::settings::Setting;
+use obs_rows::is_system;
+use rinex_head::System;
+
+/// A satellite by the letter of its system and its number.
+#[derive(Clone, Copy, Debug)]
+pub struct Satellite {
+    pub system: u8,
+    pub number: u8,
+}
 
 fn is_digit_byte(b: u8) -> bool
     ensures { result ≡ is_digit b }
@@ -47,19 +60,52 @@ pub fn number_of(word: &[u8]) -> Option<u64>
     Some(value_of(word))
 }
 
-/// The number of the satellite that a word names.
-pub fn satellite_of(word: &[u8]) -> Option<u8>
-    ensures { MatchOption result ((n : ℕ) → IsSatellite word.now n → ⊥) (λ n. IsSatellite word.now n) }
+// The letter of a system that stands alone.
+fn letter_of(word: &[u8]) -> Option<u64>
+    ensures { MatchOption result ((n : ℕ) → IsLetter word.now n → ⊥) (λ n. IsLetter word.now n) }
 {
-    let [b'G', tens, ones] = word else {
+    match word {
+        [letter] if is_system(*letter) => Some(*letter as u64),
+        _ => None,
+    }
+}
+
+/// What a word sets the setting to: a system by its letter, and each other by a number.
+pub fn value_of_setting(setting: Setting, word: &[u8]) -> Option<u64>
+    ensures { MatchOption result ((n : ℕ) → IsValue setting word.now n → ⊥) (λ n. IsValue setting word.now n) }
+{
+    match setting {
+        Setting::System => letter_of(word),
+        Setting::Ratio
+        | Setting::Budget
+        | Setting::Mask
+        | Setting::Gap
+        | Setting::Jump
+        | Setting::Arc
+        | Setting::Step
+        | Setting::First
+        | Setting::Count
+        | Setting::Bands => number_of(word),
+    }
+}
+
+/// The satellite that a word names.
+pub fn satellite_of(word: &[u8]) -> Option<Satellite>
+    ensures { MatchOption result ((system n : ℕ) → IsSatellite word.now system n → ⊥) (λ s. IsSatellite word.now s.system s.number) }
+{
+    let [letter, tens, ones] = word else {
         return None;
     };
-    if !is_digit_byte(*tens) || !is_digit_byte(*ones) {
+    if !is_system(*letter) || !is_digit_byte(*tens) || !is_digit_byte(*ones) {
         return None;
     }
     let number = 10 * (*tens - b'0') + (*ones - b'0');
-    if (1..=32).contains(&number) {
-        Some(number)
+    let last = System::of_letter(*letter).last_number();
+    if 1 <= number && number <= last {
+        Some(Satellite {
+            system: *letter,
+            number,
+        })
     } else {
         None
     }

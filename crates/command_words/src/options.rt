@@ -3,10 +3,11 @@ ghost use Rattle.std.specs.Prelude.{◌≡◌, MatchOption};
 ghost use Rattle.run_options.specs.declared.options.Options.{Options};
 ghost use Rattle.command_words.specs.Settings.{AreOptions, ArePairOptions};
 
+use crate::choices::signal_choice_of;
 use crate::settings::{Given, Limits, Setting, is_left_out, number_for};
 use run_options::{
-    BANDS_L1_L2, DEFAULT_ARC, DEFAULT_BUDGET, DEFAULT_COUNT, DEFAULT_FIRST, DEFAULT_GAP,
-    DEFAULT_JUMP, DEFAULT_MASK, DEFAULT_RATIO, DEFAULT_STEP, GPS, Options,
+    DEFAULT_ARC, DEFAULT_BUDGET, DEFAULT_COUNT, DEFAULT_FIRST, DEFAULT_GAP, DEFAULT_JUMP,
+    DEFAULT_MASK, DEFAULT_RATIO, DEFAULT_STEP, Options,
 };
 
 const RATIO: Limits = Limits {
@@ -76,9 +77,10 @@ pub fn options_of(given: &[Given]) -> Option<Options>
     let step = number_for(given, Setting::Step, &STEP)?;
     let first = number_for(given, Setting::First, &FIRST)?;
     let count = number_for(given, Setting::Count, &COUNT)?;
+    let choice = signal_choice_of(given)?;
     Some(Options {
-        bands: BANDS_L1_L2,
-        system: GPS,
+        bands: choice.bands,
+        system: choice.system,
         ratio: ratio as u32,
         budget,
         mask: mask as u32,

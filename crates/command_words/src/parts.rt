@@ -1,4 +1,4 @@
-// The ordinary words and the numbers of what clap found behind a command.
+// The ordinary words and the options of what clap found behind a command.
 ghost use Rattle.std.specs.Prelude.{◌≡◌, ◌++◌, ◌∷◌, [], map, IfOk, IsErrOf, OnOk};
 ghost use Rattle.clap.specs.Matches.{found_of};
 ghost use Rattle.clap.specs.Walk.{rows_of};
@@ -8,7 +8,7 @@ ghost use Rattle.command_words.specs.Settings.{name_of};
 ghost use Rattle.command_words.specs.Split.{AreAll, HasNumbers, TakesNumbers};
 
 use crate::WordFault;
-use crate::numbers::number_of;
+use crate::numbers::value_of_setting;
 use crate::settings::{Given, Setting};
 use crate::word::Word;
 use clap::ArgMatches;
@@ -40,10 +40,10 @@ fn push(given: &mut Vec<Given>, one: Given) -> Result<(), AllocError>
 
 fn take_numbers(given: &mut Vec<Given>, setting: Setting, texts: &[&str]) -> Result<(), WordFault>
     ensures numbers { OnOk result (TakesNumbers setting (map (λ v. v.now) texts.now) given.old.items given.new.items) }
-    ensures usage { IsErrOf result WordFault.Usage → AreAll (map (λ v. v.now) texts.now) → ⊥ }
+    ensures usage { IsErrOf result WordFault.Usage → AreAll setting (map (λ v. v.now) texts.now) → ⊥ }
 {
     for text in texts {
-        let Some(number) = number_of(text.as_bytes()) else {
+        let Some(number) = value_of_setting(setting, text.as_bytes()) else {
             return Err(WordFault::Usage);
         };
         push(given, Given { setting, number })?;
@@ -58,7 +58,7 @@ fn take_setting(
     matches: &ArgMatches<'_>,
 ) -> Result<(), WordFault>
     ensures numbers { OnOk result (TakesNumbers setting (values_in (name_of setting) (rows_of (found_of matches.now))) given.old.items given.new.items) }
-    ensures usage { IsErrOf result WordFault.Usage → AreAll (values_in (name_of setting) (rows_of (found_of matches.now))) → ⊥ }
+    ensures usage { IsErrOf result WordFault.Usage → AreAll setting (values_in (name_of setting) (rows_of (found_of matches.now))) → ⊥ }
 {
     match matches.get_raw(setting.name()) {
         Some(texts) => take_numbers(given, setting, texts),
@@ -69,10 +69,10 @@ fn take_setting(
 // The options with their numbers.
 fn numbers_in(alloc: Global, matches: &ArgMatches<'_>) -> Result<Vec<Given>, WordFault>
     ensures given { IfOk result (λ given. HasNumbers (rows_of (found_of matches.now)) given.items) }
-    ensures usage { IsErrOf result WordFault.Usage → ((s : Setting) → AreAll (values_in (name_of s) (rows_of (found_of matches.now)))) → ⊥ }
+    ensures usage { IsErrOf result WordFault.Usage → ((s : Setting) → AreAll s (values_in (name_of s) (rows_of (found_of matches.now)))) → ⊥ }
 {
     let mut given = Vec::new(alloc);
-    for place in 0..9 {
+    for place in 0..11 {
         take_setting(&mut given, Setting::at(place), matches)?;
     }
     Ok(given)
@@ -88,11 +88,11 @@ fn words_in(alloc: Global, matches: &ArgMatches<'_>) -> Result<Vec<Word>, AllocE
     }
 }
 
-/// The ordinary words and the options with their numbers. `Usage` exactly where the value of an option is no number.
+/// The ordinary words and the options with their values. `Usage` exactly where a word is no value of its option.
 pub fn parted_of(alloc: Global, matches: &ArgMatches<'_>) -> Result<Parted, WordFault>
     ensures plain { IfOk result (λ p. p.plain.items ≡ values_in word_id (rows_of (found_of matches.now))) }
     ensures given { IfOk result (λ p. HasNumbers (rows_of (found_of matches.now)) p.given.items) }
-    ensures usage { IsErrOf result WordFault.Usage → ((s : Setting) → AreAll (values_in (name_of s) (rows_of (found_of matches.now)))) → ⊥ }
+    ensures usage { IsErrOf result WordFault.Usage → ((s : Setting) → AreAll s (values_in (name_of s) (rows_of (found_of matches.now)))) → ⊥ }
 {
     let given = numbers_in(alloc, matches)?;
     let plain = words_in(alloc, matches)?;

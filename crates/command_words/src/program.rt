@@ -7,10 +7,14 @@ ghost use Rattle.command_words.specs.Split.{commands};
 use clap::{Arg, ArgAction, Command};
 use std::alloc::{AllocError, Global};
 
-static PAIR_OPTIONS: [&str; 7] = ["mask", "gap", "jump", "arc", "step", "first", "count"];
+static SIGNAL_OPTIONS: [&str; 2] = ["bands", "system"];
 
-static ALL_OPTIONS: [&str; 9] = [
-    "ratio", "budget", "mask", "gap", "jump", "arc", "step", "first", "count",
+static PAIR_OPTIONS: [&str; 9] = [
+    "mask", "gap", "jump", "arc", "step", "first", "count", "bands", "system",
+];
+
+static ALL_OPTIONS: [&str; 11] = [
+    "ratio", "budget", "mask", "gap", "jump", "arc", "step", "first", "count", "bands", "system",
 ];
 
 // The command with one option more, which may be given again and has one value each time.
@@ -87,6 +91,6 @@ pub fn program<'a>(alloc: Global) -> Result<Command<'a>, AllocError>
     let program = with_command(alloc, program, "zero", &[])?;
     let program = with_command(alloc, program, "list", &[])?;
     let program = with_command(alloc, program, "orbit", &[])?;
-    let program = with_command(alloc, program, "sim", &[])?;
+    let program = with_command(alloc, program, "sim", SIGNAL_OPTIONS.as_slice())?;
     with_command(alloc, program, "migrate", &[])
 }

@@ -1,6 +1,6 @@
 // The options and what they are set to.
 ghost use Rattle.std.specs.Prelude.{◌≡◌, ℕ, ◌<◌, ◌≤◌, ◌↔◌, [], IsTrue, IfSome, MatchOption};
-ghost use Rattle.command_words.specs.Settings.{name_of, place_of, numbers_for, IsSetBy, HasFound};
+ghost use Rattle.command_words.specs.Settings.{name_of, place_of, is_of_sim, numbers_for, HasNoOthers, IsSetBy, HasFound};
 
 /// A number that a job can be asked to use.
 #[derive(Clone, Copy, Debug)]
@@ -14,9 +14,11 @@ pub enum Setting {
     Step,
     First,
     Count,
+    Bands,
+    System,
 }
 
-/// A setting with its number.
+/// A setting with its number; that of a system is its letter's code.
 #[derive(Clone, Copy, Debug)]
 pub struct Given {
     pub setting: Setting,
@@ -38,12 +40,14 @@ impl Setting {
             Setting::Step => "step",
             Setting::First => "first",
             Setting::Count => "count",
+            Setting::Bands => "bands",
+            Setting::System => "system",
         }
     }
 
     /// The setting at a place of the table.
     pub fn at(place: usize) -> Setting
-        requires { place < 9 }
+        requires { place < 11 }
         ensures { place_of result ≡ place }
     {
         match place {
@@ -55,7 +59,9 @@ impl Setting {
             5 => Setting::Arc,
             6 => Setting::Step,
             7 => Setting::First,
-            _ => Setting::Count,
+            8 => Setting::Count,
+            9 => Setting::Bands,
+            _ => Setting::System,
         }
     }
 
@@ -72,6 +78,18 @@ impl Setting {
             Setting::Step => 6,
             Setting::First => 7,
             Setting::Count => 8,
+            Setting::Bands => 9,
+            Setting::System => 10,
+        }
+    }
+
+    // Whether it is a setting of a simulated session.
+    fn is_of_sim(self) -> bool
+        ensures { result ≡ is_of_sim self }
+    {
+        match self {
+            Setting::Bands | Setting::System => true,
+            _ => false,
         }
     }
 }
@@ -84,15 +102,15 @@ pub struct Limits {
     pub plain: u64,
 }
 
-// The numbers that are given for a setting, as far as it matters.
+/// The numbers that are given for a setting, as far as it matters.
 #[derive(Clone, Copy, Debug)]
-enum Found {
+pub enum Found {
     Nothing,
     One(u64),
     More,
 }
 
-fn numbers_found(given: &[Given], setting: Setting) -> Found
+pub fn numbers_found(given: &[Given], setting: Setting) -> Found
     ensures { HasFound (numbers_for setting given.now) result }
 {
     let mut seen = None;
@@ -126,6 +144,20 @@ pub fn number_for(given: &[Given], setting: Setting, limits: &Limits) -> Option<
         Found::One(number) if limits.least <= number && number <= limits.most => Some(number),
         _ => None,
     }
+}
+
+/// Whether no setting is given but those of a simulated session.
+pub fn has_no_others(given: &[Given]) -> bool
+    ensures { IsTrue result ↔ HasNoOthers given.now }
+{
+    let mut rest = given;
+    while let [one, after @ ..] = rest {
+        if !one.setting.is_of_sim() {
+            return false;
+        }
+        rest = after;
+    }
+    true
 }
 
 /// Whether no number is given for the setting.

@@ -1,5 +1,5 @@
 // Words and the jobs that they ask for, by the rules alone.
-use command_words::{Job, Part, WordFault, read_words};
+use command_words::{File, Job, Part, WordFault, read_words};
 use std::alloc::{AllocError, Global};
 use std::test::Fail;
 
@@ -13,9 +13,9 @@ pub(crate) fn words_of(alloc: Global, words: &[&str]) -> Result<Vec<String>, All
 
 fn part_name(part: Part) -> &'static str {
     match part {
-        Part::Base => "base",
-        Part::Rover => "rover",
-        Part::Nav => "nav",
+        Part::File(File::Base) => "base",
+        Part::File(File::Rover) => "rover",
+        Part::File(File::Nav) => "nav",
         Part::Run => "run",
     }
 }
@@ -25,7 +25,7 @@ fn asked(job: &Job) -> (&str, &str, u8, u64) {
     match job {
         Job::Zero { rows } => ("zero", rows.as_str(), 0, 0),
         Job::List { obs } => ("list", obs.as_str(), 0, 0),
-        Job::Orbit { nav, sat, tick } => ("orbit", nav.as_str(), *sat, tick.0),
+        Job::Orbit { nav, sat, tick, .. } => ("orbit", nav.as_str(), *sat, tick.0),
         Job::Check { cert } => ("check", cert.as_str(), 0, 0),
         Job::Residuals { cert } => ("residuals", cert.as_str(), 0, 0),
         Job::Migrate { cert } => ("migrate", cert.as_str(), 0, 0),

@@ -6,6 +6,8 @@ mod arc_report_tests;
 #[cfg(test)]
 mod command_words_option_tests;
 #[cfg(test)]
+mod command_words_signal_tests;
+#[cfg(test)]
 mod command_words_tests;
 #[cfg(test)]
 mod job_answers_tests;

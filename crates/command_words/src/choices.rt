@@ -1,0 +1,84 @@
+// The system and the bands by what is given.
+ghost use Rattle.std.specs.Prelude.{◌≡◌, ℕ, ◌↔◌, IsTrue, IfSome, MatchOption};
+ghost use Rattle.obs_rows.specs.Ranges.{IsSystem};
+ghost use Rattle.run_options.specs.declared.options.TheConstants.{GPS};
+ghost use Rattle.command_words.specs.Settings.{numbers_for, default_bands, AreBandsOf, IsChosenBy, IsSignalChoice, IsSimChoice};
+
+use crate::settings::{Found, Given, Setting, has_no_others, numbers_found};
+use band_sets::{BANDS_L1_L2, BANDS_L1_L5, is_bands_number};
+use run_options::{GALILEO, GPS};
+
+/// A satellite system by its letter, and the number of the bands that are used of it.
+#[derive(Clone, Copy, Debug)]
+pub struct SignalChoice {
+    pub system: u8,
+    pub bands: u16,
+    pub ghost of_system: { IsSystem system },
+    pub ghost on_bands: { AreBandsOf system bands },
+}
+
+// The system that is given, or GPS.
+fn system_for(given: &[Given]) -> Option<u8>
+    ensures set { MatchOption result ((n : ℕ) → IsChosenBy (numbers_for Setting.System given.now) IsSystem GPS n → ⊥)
+        (λ n. IsChosenBy (numbers_for Setting.System given.now) IsSystem GPS n) }
+    ensures system { IfSome result IsSystem }
+{
+    match numbers_found(given, Setting::System) {
+        Found::Nothing => Some(GPS),
+        Found::One(letter) if letter == GPS as u64 => Some(GPS),
+        Found::One(letter) if letter == GALILEO as u64 => Some(GALILEO),
+        _ => None,
+    }
+}
+
+fn default_bands(system: u8) -> u16
+    ensures { result ≡ default_bands system }
+{
+    if system == GALILEO {
+        BANDS_L1_L5
+    } else {
+        BANDS_L1_L2
+    }
+}
+
+fn are_bands_of(system: u8, bands: u16) -> bool
+    ensures { IsTrue result ↔ AreBandsOf system bands }
+{
+    is_bands_number(bands) && (system != GALILEO || bands == BANDS_L1_L5)
+}
+
+// The bands that are given and go with the system, or its default.
+fn bands_for(given: &[Given], system: u8) -> Option<u16>
+    requires { IsSystem system }
+    ensures set { MatchOption result ((n : ℕ) → IsChosenBy (numbers_for Setting.Bands given.now) (AreBandsOf system) (default_bands system) n → ⊥)
+        (λ n. IsChosenBy (numbers_for Setting.Bands given.now) (AreBandsOf system) (default_bands system) n) }
+    ensures bands { IfSome result (AreBandsOf system) }
+{
+    match numbers_found(given, Setting::Bands) {
+        Found::Nothing => Some(default_bands(system)),
+        Found::One(number) if number < 1000 && are_bands_of(system, number as u16) => {
+            Some(number as u16)
+        }
+        _ => None,
+    }
+}
+
+/// The system and its bands: GPS where none is given, and its default bands where none are.
+pub fn signal_choice_of(given: &[Given]) -> Option<SignalChoice>
+    ensures { MatchOption result ((system bands : ℕ) → IsSignalChoice given.now system bands → ⊥) (λ c. IsSignalChoice given.now c.system c.bands) }
+{
+    let system = system_for(given)?;
+    let bands = bands_for(given, system)?;
+    Some(SignalChoice { system, bands })
+}
+
+/// Those of a simulated session, for which nothing else is given.
+pub fn sim_choice_of(given: &[Given]) -> Option<SignalChoice>
+    ensures { MatchOption result ((system bands : ℕ) → IsSimChoice given.now system bands → ⊥) (λ c. IsSimChoice given.now c.system c.bands) }
+{
+    if has_no_others(given) {
+        signal_choice_of(given)
+    } else {
+        None
+    }
+}
