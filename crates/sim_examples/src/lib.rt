@@ -1,4 +1,4 @@
-//! Made-up sessions: their draws, their texts, and that the readers of files read them. There is nothing here but tests.
+//! Simulated sessions: their draws, their texts, and that the readers of files read them. There is nothing here but tests.
 #![tactic(auto)]
 
 #[cfg(test)]

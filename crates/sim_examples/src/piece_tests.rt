@@ -1,4 +1,4 @@
-// A made-up observation file is read the same however it is cut.
+// A simulated observation file is read the same however it is cut.
 ghost use Rattle.std.specs.Prelude.{None};
 
 use line_source::{Failed, FileId, Files, load_into};
@@ -41,7 +41,7 @@ impl Files for Pieces {
 #[test]
 fn reads_the_same_in_pieces(rt: HostRuntime) -> Result<(), Fail> {
     let alloc = rt.alloc();
-    let made = make(alloc, 1, 60, 8)?;
+    let made = make(alloc, 1, 60, 8, 12, b'G')?;
     assert!(rt; made.base.len() <= 67_108_864);
     let whole = read_obs(alloc, &made.base)?;
     assert_eq!(rt; whole.epochs.len(), 60);

@@ -1,4 +1,4 @@
-// Made-up files are read.
+// Simulated files are read.
 use gps_time::Tick;
 use obs_store::{ObsType, Value};
 use rinex_nav::read_nav;
@@ -10,7 +10,7 @@ use std::test::Fail;
 #[test]
 fn reads_observations(rt: HostRuntime) -> Result<(), Fail> {
     let alloc = rt.alloc();
-    let made = make(alloc, 1, 2, 4)?;
+    let made = make(alloc, 1, 2, 4, 12, b'G')?;
     assert!(rt; made.base.len() <= 67_108_864);
     let file = read_obs(alloc, &made.base)?;
     assert_eq!(rt; file.hundredths, 304);
@@ -42,7 +42,7 @@ fn reads_observations(rt: HostRuntime) -> Result<(), Fail> {
 #[test]
 fn reads_records(rt: HostRuntime) -> Result<(), Fail> {
     let alloc = rt.alloc();
-    let made = make(alloc, 1, 1, 15)?;
+    let made = make(alloc, 1, 1, 15, 12, b'G')?;
     assert!(rt; made.nav.len() <= 67_108_864);
     let file = read_nav(alloc, &made.nav)?;
     assert_eq!(rt; file.all().len(), 15);

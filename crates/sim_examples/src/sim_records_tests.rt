@@ -6,9 +6,9 @@ use std::test::Fail;
 #[test]
 fn writes_records(rt: HostRuntime) -> Result<(), Fail> {
     let alloc = rt.alloc();
-    let all = satellites(alloc, 3)?;
+    let all = satellites(alloc, b'G', 3)?;
     let mut out = Vec::new(alloc);
-    write_navigation(&mut out, &all)?;
+    write_navigation(&mut out, b'G', &all)?;
     let want =
         "\x20    3.04           N: GNSS NAV DATA    G                   RINEX VERSION / TYPE\n\
         \x20                                                           END OF HEADER\n\
@@ -32,6 +32,28 @@ fn writes_records(rt: HostRuntime) -> Result<(), Fail> {
         \x20    0.000000000000E+00 0.000000000000E+00 4.500000000000E-09-8.000000000000E-01\n\
         \x20    1.000000000000E-06 3.000000000000E-03 0.000000000000E+00 5.153600000000E+03\n\
         \x20    8.640000000000E+04 0.000000000000E+00-1.200000000000E-01 0.000000000000E+00\n\
+        \x20    9.600000000000E-01 2.000000000000E+02 0.000000000000E+00-8.000000000000E-09\n\
+        \x20    0.000000000000E+00 0.000000000000E+00 2.295000000000E+03 0.000000000000E+00\n\
+        \x20    0.000000000000E+00 0.000000000000E+00 0.000000000000E+00 0.000000000000E+00\n\
+        \x20    0.000000000000E+00 0.000000000000E+00 0.000000000000E+00 0.000000000000E+00\n";
+    assert!(rt; out.as_slice() == want.as_bytes());
+    Ok(())
+}
+
+// The text of an independent model: the letter and the axis are those of Galileo.
+#[test]
+fn writes_records_of_galileo(rt: HostRuntime) -> Result<(), Fail> {
+    let alloc = rt.alloc();
+    let all = satellites(alloc, b'E', 1)?;
+    let mut out = Vec::new(alloc);
+    write_navigation(&mut out, b'E', &all)?;
+    let want =
+        "\x20    3.04           N: GNSS NAV DATA    E                   RINEX VERSION / TYPE\n\
+        \x20                                                           END OF HEADER\n\
+        E01 2024 01 01 00 00 00 1.000000000000E-05 1.000000000000E-12 0.000000000000E+00\n\
+        \x20    0.000000000000E+00 0.000000000000E+00 4.500000000000E-09 0.000000000000E+00\n\
+        \x20    1.000000000000E-06 1.000000000000E-03 0.000000000000E+00 5.440600000000E+03\n\
+        \x20    8.640000000000E+04 0.000000000000E+00 0.000000000000E+00 0.000000000000E+00\n\
         \x20    9.600000000000E-01 2.000000000000E+02 0.000000000000E+00-8.000000000000E-09\n\
         \x20    0.000000000000E+00 0.000000000000E+00 2.295000000000E+03 0.000000000000E+00\n\
         \x20    0.000000000000E+00 0.000000000000E+00 0.000000000000E+00 0.000000000000E+00\n\
