@@ -56,8 +56,9 @@ record_read letter e rest printed =
     let behind : List ℕ = further_line zero_number e.crs e.dn e.m0 ++ (further_line e.cuc e.ecc e.cus e.root_a
     ++ (further_line second_number e.cic e.node e.cis ++ (further_line e.incl e.crc e.peri e.node_rate ++ (further_line e.incl_rate zero_number week_number zero_number
     ++ (further_line zero_number zero_number zero_number zero_number ++ (further_line zero_number zero_number zero_number zero_number ++ rest)))))) in
+    let others : lines_of behind ≡ further_of (lines_for letter e) ++ lines_of rest = simp further_read refl in
     ap lines_of (text_is letter e rest) ∙ first_read letter e.sat e.af0 e.af1 e.af2 behind printed
-    ∙ ap (λ (l : List (List ℕ)). first_content letter e.sat e.af0 e.af1 e.af2 ∷ l) (simp further_read refl)
+    ∙ ap (λ (l : List (List ℕ)). first_content letter e.sat e.af0 e.af1 e.af2 ∷ l) others
 
 -- ---- the first line
 sat_of : (system : System) (sat : ℕ) → 1 ≤ sat → sat ≤ 32 → satellite_of system (Ok (Some sat)) ≡ Ok sat
