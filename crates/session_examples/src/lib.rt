@@ -3,6 +3,10 @@
 #![tactic(auto)]
 
 #[cfg(test)]
+mod band_cases;
+#[cfg(test)]
+mod band_tests;
+#[cfg(test)]
 mod cases;
 #[cfg(test)]
 mod round_steps_tests;

@@ -3,6 +3,7 @@
 
 use crate::cases::{CUTS, SHORT};
 use crate::tests::{options_of, run};
+use run_options::GPS;
 use session::RoundCounts;
 use sim_session::make;
 use std::test::Fail;
@@ -25,7 +26,7 @@ const MADE: [(&str, u32, u32); 12] = [
 
 #[test]
 fn counts_the_rounds(rt: HostRuntime) -> Result<(), Fail> {
-    let made = make(rt.alloc(), 1, 2, 4)?;
+    let made = make(rt.alloc(), 1, 2, 4, 12, GPS)?;
     for (case, (what, coarse, fine)) in SHORT.iter().zip(MADE) {
         assert_eq!(rt; case.what, what);
         let options = options_of(&rt, case.arc, case.budget);
@@ -45,7 +46,7 @@ fn counts_the_rounds(rt: HostRuntime) -> Result<(), Fail> {
 
 #[test]
 fn no_round_for_many_arcs(rt: HostRuntime) -> Result<(), Fail> {
-    let made = make(rt.alloc(), 1, 4, 12)?;
+    let made = make(rt.alloc(), 1, 4, 12, 12, GPS)?;
     let options = options_of(&rt, 2, 1_000_000);
     let outcome = run(&rt, rt.alloc(), &made, &CUTS, &[], &[], &options)?;
     assert_eq!(rt; outcome.rounds, RoundCounts { coarse: 0, fine: 0 });

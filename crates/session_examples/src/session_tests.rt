@@ -1,9 +1,11 @@
 // What two files begin with, and the answer over arcs.
+use band_sets::is_bands_number;
 use eph_store::NavFile;
 use gps_time::Tick;
 use obs_store::{Epoch, Epochs, ObsFile, ObsType, SLOTS, Satellites};
 use session::{Answer, Options, PairWhat, SessionFault, begin, process};
 use std::alloc::{AllocError, Global};
+use std::process::Abort;
 use std::test::Fail;
 
 const ON_GROUND: Option<[i64; 3]> = Some([63_781_370_000, 0, 0]);
@@ -85,6 +87,57 @@ fn refuses_in_order(rt: HostRuntime) -> Result<(), Fail> {
     );
     assert_eq!(rt; refusal(rt.alloc(), ON_GROUND, &ALL, &dense)?, too_dense);
     assert_eq!(rt; refusal(rt.alloc(), ON_GROUND, &ALL, &sparse)?, None);
+    Ok(())
+}
+
+const L1_L5: [&str; 4] = ["C1C", "L1C", "C5Q", "L5Q"];
+
+const NO_L5_PHASE: [&str; 5] = ["C1C", "L1C", "C2W", "L2W", "C5Q"];
+
+const THREE_BANDS: [&str; 6] = ["C1C", "L1C", "C2W", "L2W", "C5X", "L5X"];
+
+// The letters with which a run on these bands begins, where both files list these types.
+fn letters_on(
+    rt: &impl Abort,
+    alloc: Global,
+    bands: u16,
+    types: &[&str],
+) -> Result<Option<[u8; 3]>, Fail> {
+    let tags = [0, 300_000_000];
+    let base = file_of(alloc, ON_GROUND, types, &tags)?;
+    let rover = file_of(alloc, None, types, &tags)?;
+    assert!(rt; is_bands_number(bands));
+    let mut options = Options::defaults();
+    options.bands = bands;
+    match begin(alloc, &base, &rover, &options) {
+        Ok(begun) => Ok(Some([begun.signals.l1, begun.signals.l2, begun.signals.l5])),
+        Err(fault) => {
+            assert_eq!(rt; fault, SessionFault::Refused(PairWhat::NoSignal));
+            Ok(None)
+        }
+    }
+}
+
+#[test]
+fn each_band_of_the_options_needs_a_code(rt: HostRuntime) -> Result<(), Fail> {
+    let cases: [(&[&str], [Option<[u8; 3]>; 3]); 4] = [
+        (&ALL, [Some([b'C', b'W', 0]), None, None]),
+        (&L1_L5, [None, Some([b'C', 0, b'Q']), None]),
+        (&NO_L5_PHASE, [Some([b'C', b'W', 0]), None, None]),
+        (
+            &THREE_BANDS,
+            [
+                Some([b'C', b'W', 0]),
+                Some([b'C', 0, b'X']),
+                Some([b'C', b'W', b'X']),
+            ],
+        ),
+    ];
+    for (types, [on_12, on_15, on_125]) in cases {
+        assert_eq!(rt; letters_on(&rt, rt.alloc(), 12, types)?, on_12);
+        assert_eq!(rt; letters_on(&rt, rt.alloc(), 15, types)?, on_15);
+        assert_eq!(rt; letters_on(&rt, rt.alloc(), 125, types)?, on_125);
+    }
     Ok(())
 }
 

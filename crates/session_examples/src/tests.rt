@@ -1,11 +1,14 @@
 // What whole runs end with.
-ghost use Rattle.std.specs.Prelude.{◌≤◌};
+ghost use Rattle.std.specs.Prelude.{◌≤◌, length};
 
 use crate::cases::{CUTS, CYCLES, Case, Edit, End, SHORT, UNCUT_POINT, Verdict};
+use gal_nav::read_gal_nav;
+use gal_obs::read_gal_obs;
 use obs_rows::Arc;
+use obs_store::ObsFile;
 use rinex_nav::read_nav;
 use rinex_obs::read_obs;
-use run_options::Options;
+use run_options::{GALILEO, GPS, Options};
 use session::{Answer, Cert, Outcome, Tail, process};
 use sim_session::{Made, make};
 use std::alloc::Global;
@@ -58,6 +61,16 @@ pub(crate) fn options_of(rt: &impl Abort, arc: u32, budget: u64) -> Options {
     options
 }
 
+fn observations_of(alloc: Global, text: &[u8], is_galileo: bool) -> Result<ObsFile, Fail>
+    requires { length text.now ≤ 67_108_864 }
+{
+    if is_galileo {
+        Ok(read_gal_obs(alloc, text)?)
+    } else {
+        Ok(read_obs(alloc, text)?)
+    }
+}
+
 /// The run over the files of a session after these changes. It states nothing, as `options_of`.
 pub(crate) fn run(
     rt: &impl Abort,
@@ -74,9 +87,14 @@ pub(crate) fn run(
     assert!(rt; base.len() <= 67_108_864);
     assert!(rt; rover.len() <= 67_108_864);
     assert!(rt; nav.len() <= 67_108_864);
-    let base = read_obs(alloc, &base)?;
-    let rover = read_obs(alloc, &rover)?;
-    let nav = read_nav(alloc, &nav)?;
+    let is_galileo = options.system == GALILEO;
+    let base = observations_of(alloc, &base, is_galileo)?;
+    let rover = observations_of(alloc, &rover, is_galileo)?;
+    let nav = if is_galileo {
+        read_gal_nav(alloc, &nav)?
+    } else {
+        read_nav(alloc, &nav)?
+    };
     Ok(process(alloc, &base, &rover, &nav, options)?)
 }
 
@@ -91,7 +109,8 @@ fn verdict_of(tail: &Tail) -> Verdict {
     }
 }
 
-fn end_of(answer: &Answer) -> End {
+/// What an answer ends with. It states nothing, as `options_of`.
+pub(crate) fn end_of(answer: &Answer) -> End {
     match answer {
         Answer::Few { pairs } => End::Few { pairs: *pairs },
         Answer::Arcs { free } => End::Arcs { free: *free },
@@ -104,7 +123,8 @@ fn is_near(point: [i64; 3], want: [i64; 3]) -> bool {
     point.iter().zip(want).all(|(p, w)| p.abs_diff(w) <= NEAR)
 }
 
-fn point_agrees(rt: &impl Abort, what: &str, answer: &Answer, want: Option<[i64; 3]>) {
+/// The session's point is that of the model, where it is given. It states nothing, as `options_of`.
+pub(crate) fn point_agrees(rt: &impl Abort, what: &str, answer: &Answer, want: Option<[i64; 3]>) {
     let Some(want) = want else {
         return;
     };
@@ -116,37 +136,72 @@ fn point_agrees(rt: &impl Abort, what: &str, answer: &Answer, want: Option<[i64;
     }
 }
 
-// By how many cycles a phase of the arc is more at the rover than at the base.
-fn cycles_of(rt: &impl Abort, arc: &Arc) -> [i64; 2] {
-    let sat = arc.sat as usize;
-    assert!(rt; 0 < sat && sat <= CYCLES.len());
-    CYCLES[sat - 1]
+// By how many cycles the phase on a band is more at the rover than at the base, with those on L5 given. E33 has those of E01, and so on.
+fn cycles_of(rt: &impl Abort, sat: u8, band: usize, on_l5: &[i64]) -> i64 {
+    let place = (sat as usize).wrapping_sub(1) % 32;
+    if band == 2 {
+        assert!(rt; place < on_l5.len());
+        return on_l5[place];
+    }
+    assert!(rt; place < CYCLES.len() && band < 2);
+    CYCLES[place][band]
 }
 
-// How far the integers of an arc lie from the cycles that it was made with.
-fn off_by(rt: &impl Abort, arc: &Arc, integers: [i64; 2]) -> [i64; 2] {
-    let cycles = cycles_of(rt, arc);
-    let first = arc.shift[0].wrapping_add(integers[0]);
-    let second = arc.shift[1].wrapping_add(integers[1]);
-    [
-        first.wrapping_sub(cycles[0]),
-        second.wrapping_sub(cycles[1]),
-    ]
+// How far an integer of an arc lies from the cycles that it was made with.
+fn off_by(rt: &impl Abort, arc: &Arc, band: usize, integer: i64, on_l5: &[i64]) -> i64 {
+    assert!(rt; band < 3);
+    arc.shift[band]
+        .wrapping_add(integer)
+        .wrapping_sub(cycles_of(rt, arc.sat, band, on_l5))
 }
 
-// The fixed integers are the cycles that the session was made with, against those of the first arc, the datum of all others.
-fn integers_agree(rt: &impl Abort, what: &str, cert: &Cert) {
+// The integers of a free arc, the first of which stands in that place, are the cycles that it was made with, against those of the
+// datum.
+fn arc_agrees(
+    rt: &impl Abort,
+    what: &str,
+    arcs: [&Arc; 2],
+    integers: &[i64],
+    bands: &[usize],
+    on_l5: &[i64],
+) {
+    let [datum, arc] = arcs;
+    assert!(rt; datum.datum && !arc.datum, "free: {what}");
+    assert_eq!(rt; integers.len(), bands.len(), "{what}");
+    for (band, integer) in bands.iter().zip(integers) {
+        let found = off_by(rt, arc, *band, *integer, on_l5);
+        assert_eq!(rt;
+            found,
+            off_by(rt, datum, *band, 0, on_l5),
+            "{} on {band}: {what}",
+            arc.sat
+        );
+    }
+}
+
+/// The fixed integers are the cycles that the session was made with, against those of the first arc, the datum of all others; those
+/// on L5 are given. It states nothing, as `options_of`.
+pub(crate) fn integers_agree(
+    rt: &impl Abort,
+    what: &str,
+    cert: &Cert,
+    bands: &[usize],
+    on_l5: &[i64],
+) {
     let Tail::Fixed { best, .. } = &cert.tail else {
         return;
     };
     let arcs = cert.session.arcs.as_slice();
-    assert!(rt; !arcs.is_empty() && arcs.len() <= 21, "the arcs: {what}");
-    assert!(rt; arcs[0].datum, "the datum: {what}");
-    let datum = off_by(rt, &arcs[0], [0, 0]);
-    for k in 1..arcs.len() {
-        assert!(rt; k < 21 && !arcs[k].datum, "arc {k}: {what}");
-        let integers = [best.first[2 * k - 2], best.first[2 * k - 1]];
-        assert_eq!(rt; off_by(rt, &arcs[k], integers), datum, "arc {k}: {what}");
+    assert!(rt; !arcs.is_empty(), "the arcs: {what}");
+    assert!(rt; !bands.is_empty() && best.size <= best.first.len());
+    let integers = &best.first[..best.size];
+    assert_eq!(rt;
+        integers.chunks(bands.len()).count(),
+        arcs.len() - 1,
+        "{what}"
+    );
+    for (arc, own) in arcs[1..].iter().zip(integers.chunks(bands.len())) {
+        arc_agrees(rt, what, [&arcs[0], arc], own, bands, on_l5);
     }
 }
 
@@ -154,7 +209,7 @@ fn answer_agrees(rt: &impl Abort, what: &str, answer: &Answer, end: End, point: 
     assert_eq!(rt; end_of(answer), end, "{what}");
     point_agrees(rt, what, answer, point);
     if let Answer::Full(cert) = answer {
-        integers_agree(rt, what, cert);
+        integers_agree(rt, what, cert, &[0, 1], &[]);
     }
 }
 
@@ -169,7 +224,7 @@ fn case_agrees(rt: &impl Abort, alloc: Global, made: &Made, case: &Case) -> Resu
 
 #[test]
 fn ends_as_the_model_does(rt: HostRuntime) -> Result<(), Fail> {
-    let made = make(rt.alloc(), 1, 2, 4)?;
+    let made = make(rt.alloc(), 1, 2, 4, 12, GPS)?;
     for case in &SHORT {
         case_agrees(&rt, rt.alloc(), &made, case)?;
     }
@@ -195,7 +250,7 @@ fn cut_agrees(
 // With so many satellites cut all arcs are linked, since two satellites aren't cut.
 #[test]
 fn twenty_arcs_are_free(rt: HostRuntime) -> Result<(), Fail> {
-    let made = make(rt.alloc(), 1, 4, 12)?;
+    let made = make(rt.alloc(), 1, 4, 12, 12, GPS)?;
     let fixed = (21, End::Full(Verdict::Fixed), Some(UNCUT_POINT));
     let many = (22, End::Arcs { free: 21 }, None);
     cut_agrees(&rt, rt.alloc(), &made, &CUTS[..9], fixed)?;
