@@ -5,35 +5,42 @@ use Rattle.clap.specs.Walk.{Row, Text}
 use Rattle.command_words.specs.Commands.{values_in}
 use Rattle.command_words.specs.Split.{AreNumbers, AreAll, TakesNumbers, given_with}
 use Rattle.command_words.specs.declared.settings.Setting.{Setting}
-use Rattle.command_words.specs.declared.settings.Setting.TheVariants.{Ratio, Budget, Mask, Gap, Jump, Arc, Step, First, Count}
+use Rattle.command_words.specs.declared.settings.Setting.TheVariants.{Ratio, Budget, Mask, Gap, Jump, Arc, Step, First, Count, Bands, System}
 use Rattle.command_words.specs.declared.settings.Given.{Given}
 use Rattle.command_words.specs.declared.jobs.Job.{Job}
 use Rattle.command_words.specs.declared.jobs.Job.TheVariants as job
-use Rattle.command_words.specs.Numbers.{IsNumber}
-use Rattle.command_words.specs.Settings.{name_of, place_of, is_same, numbers_for, IsSetBy, AreOptions}
+use Rattle.obs_rows.specs.Ranges.{IsSystem}
+use Rattle.run_options.specs.declared.options.TheConstants.{GPS}
+use Rattle.command_words.specs.Settings.{name_of, place_of, is_same, numbers_for, default_bands, AreBandsOf, IsChosenBy, IsSetBy, IsSignalChoice, IsValue, AreOptions}
 use Rattle.command_words.specs.Words.{IsPlainJob, IsJobOf}
 use Rattle.run_options.specs.declared.options.Options.{Options}
-use Rattle.command_words.proofs.SettingLaws.{one_number}
+use Rattle.command_words.proofs.SettingLaws.{one_value}
 use Rattle.command_words.proofs.SplitLaws.{is_itself, same_setting}
 
-pub one_numbers : (texts : List Text) (ms ns : List ℕ) → AreNumbers texts ms → AreNumbers texts ns → ms ≡ ns
-one_numbers [] [] [] first second = refl
-one_numbers [] [] (n ∷ ns) first second = absurd second
-one_numbers [] (m ∷ ms) ns first second = absurd first
-one_numbers (t ∷ texts) [] ns first second = absurd first
-one_numbers (t ∷ texts) (m ∷ ms) [] first second = absurd second
-one_numbers (t ∷ texts) (m ∷ ms) (n ∷ ns) first second = ap₂ (λ (k : ℕ) (ks : List ℕ). k ∷ ks) (one_number t m n first.0 second.0) (one_numbers texts ms ns first.1 second.1)
+pub one_numbers : (s : Setting) (texts : List Text) (ms ns : List ℕ) → AreNumbers s texts ms → AreNumbers s texts ns → ms ≡ ns
+one_numbers s [] [] [] first second = refl
+one_numbers s [] [] (n ∷ ns) first second = absurd second
+one_numbers s [] (m ∷ ms) ns first second = absurd first
+one_numbers s (t ∷ texts) [] ns first second = absurd first
+one_numbers s (t ∷ texts) (m ∷ ms) [] first second = absurd second
+one_numbers s (t ∷ texts) (m ∷ ms) (n ∷ ns) first second = ap₂ (λ (k : ℕ) (ks : List ℕ). k ∷ ks) (one_value s t m n first.0 second.0) (one_numbers s texts ms ns first.1 second.1)
 
-pub all_numbers : (texts : List Text) (ns : List ℕ) → AreNumbers texts ns → AreAll texts
-all_numbers [] ns are = tt
-all_numbers (t ∷ texts) [] are = absurd are
-all_numbers (t ∷ texts) (n ∷ ns) are = ((n, are.0), all_numbers texts ns are.1)
+pub all_numbers : (s : Setting) (texts : List Text) (ns : List ℕ) → AreNumbers s texts ns → AreAll s texts
+all_numbers s [] ns are = tt
+all_numbers s (t ∷ texts) [] are = absurd are
+all_numbers s (t ∷ texts) (n ∷ ns) are = ((n, are.0), all_numbers s texts ns are.1)
 
 none_left : (given : List Given) → ((s : Setting) → numbers_for s given ≡ []) → given ≡ []
 none_left [] none = refl
 none_left (g ∷ given) none = absurd (cc (rw (is_itself g.setting) at (none g.setting)))
 
 module _ (g h : List Given) (same : (s : Setting) → numbers_for s g ≡ numbers_for s h) where
+  same_choice : (system bands : ℕ) → IsSignalChoice g system bands → IsSignalChoice h system bands
+  same_choice system bands is = record {
+    system_is = subst (λ (vs : List ℕ). IsChosenBy vs IsSystem GPS system) (same System) is.system_is;
+    bands_are = subst (λ (vs : List ℕ). IsChosenBy vs (AreBandsOf system) (default_bands system) bands) (same Bands) is.bands_are;
+  }
+
   same_options : (o : Options) → AreOptions g o → AreOptions h o
   same_options o is = record {
     ratio = subst (λ (vs : List ℕ). IsSetBy vs 1000 100000 2000 o.ratio) (same Ratio) is.ratio;
@@ -45,6 +52,7 @@ module _ (g h : List Given) (same : (s : Setting) → numbers_for s g ≡ number
     step = subst (λ (vs : List ℕ). IsSetBy vs 1 1000 1 o.step) (same Step) is.step;
     first = subst (λ (vs : List ℕ). IsSetBy vs 0 19999 0 o.first) (same First) is.first;
     count = subst (λ (vs : List ℕ). IsSetBy vs 1 3600 3600 o.count) (same Count) is.count;
+    choice = same_choice o.system o.bands is.choice;
   }
 
   same_plain : (name : List ℕ) (words : List (List ℕ)) (command : List ℕ) (plain : List (List ℕ)) → IsPlainJob name words command plain g → IsPlainJob name words command plain h
@@ -60,20 +68,22 @@ module _ (g h : List Given) (same : (s : Setting) → numbers_for s g ≡ number
   same_job command plain (job.Check cert) is = same_plain (codes "check") (cert ∷ []) command plain is
   same_job command plain (job.Residuals cert) is = same_plain (codes "residuals") (cert ∷ []) command plain is
   same_job command plain (job.Migrate cert) is = same_plain (codes "migrate") (cert ∷ []) command plain is
-  same_job command plain (job.Orbit nav sat tick) is = record {
+  same_job command plain (job.Orbit nav system sat tick) is = record {
     sat_word = is.sat_word;
     tick_word = is.tick_word;
     asked = same_plain (codes "orbit") (nav ∷ is.sat_word ∷ is.tick_word ∷ []) command plain is.asked;
     satellite = is.satellite;
     number = is.number;
   }
-  same_job command plain (job.Sim part seed epochs sats) is = record {
+  same_job command plain (job.Sim part seed epochs sats bands system) is = record {
+    command_is = is.command_is;
     part_word = is.part_word;
     seed_word = is.seed_word;
     epochs_word = is.epochs_word;
     sats_word = is.sats_word;
-    asked = same_plain (codes "sim") (is.part_word ∷ is.seed_word ∷ is.epochs_word ∷ is.sats_word ∷ []) command plain is.asked;
+    plain_are = is.plain_are;
     is = is.is;
+    choice = record { choice = same_choice system bands is.choice.choice; no_others = λ s other. sym (same s) ∙ is.choice.no_others s other };
   }
   same_job command plain (job.Fix base rover nav options) is = record { command_is = is.command_is; plain_are = is.plain_are; options = same_options options is.options }
   same_job command plain (job.Arcs base rover nav options) is = record {
@@ -108,25 +118,25 @@ map_push : (s : Setting) (ns : List ℕ) (n : ℕ) → map (given_with s) (ns ++
 map_push s [] n = refl
 map_push s (m ∷ ns) n = ap (λ (gs : List Given). given_with s m ∷ gs) (map_push s ns n)
 
-numbers_push : (texts : List Text) (ns : List ℕ) (t : Text) (n : ℕ) → AreNumbers texts ns → IsNumber t n → AreNumbers (texts ++ t ∷ []) (ns ++ n ∷ [])
-numbers_push [] [] t n are is = (is, tt)
-numbers_push [] (m ∷ ns) t n are is = absurd are
-numbers_push (u ∷ texts) [] t n are is = absurd are
-numbers_push (u ∷ texts) (m ∷ ns) t n are is = (are.0, numbers_push texts ns t n are.1 is)
+numbers_push : (s : Setting) (texts : List Text) (ns : List ℕ) (t : Text) (n : ℕ) → AreNumbers s texts ns → IsValue s t n → AreNumbers s (texts ++ t ∷ []) (ns ++ n ∷ [])
+numbers_push s [] [] t n are is = (is, tt)
+numbers_push s [] (m ∷ ns) t n are is = absurd are
+numbers_push s (u ∷ texts) [] t n are is = absurd are
+numbers_push s (u ∷ texts) (m ∷ ns) t n are is = (are.0, numbers_push s texts ns t n are.1 is)
 
 pub none_taken : (s : Setting) (old : List Given) → TakesNumbers s [] old old
 none_taken s old = record { numbers = []; are = tt; new_are = sym (append-nil old) }
 
-pub one_taken : (s : Setting) (texts : List Text) (old new : List Given) (t : Text) (n : ℕ) → TakesNumbers s texts old new → IsNumber t n → TakesNumbers s (texts ++ t ∷ []) old (new ++ given_with s n ∷ [])
+pub one_taken : (s : Setting) (texts : List Text) (old new : List Given) (t : Text) (n : ℕ) → TakesNumbers s texts old new → IsValue s t n → TakesNumbers s (texts ++ t ∷ []) old (new ++ given_with s n ∷ [])
 one_taken s texts old new t n is number = record {
   numbers = is.numbers ++ n ∷ [];
-  are = numbers_push texts is.numbers t n is.are number;
+  are = numbers_push s texts is.numbers t n is.are number;
   new_are = ap (λ (gs : List Given). gs ++ given_with s n ∷ []) is.new_are ∙ append_assoc old (map (given_with s) is.numbers) (given_with s n ∷ []) ∙ ap (λ (gs : List Given). old ++ gs) (sym (map_push s is.numbers n));
 }
 
 -- so far: the settings before a place have their numbers, and the others none
 pub record HasUpTo (rows : List Row) (given : List Given) (place : ℕ) : Type 0 where
-  pub before : (s : Setting) → place_of s < place → AreNumbers (values_in (name_of s) rows) (numbers_for s given)
+  pub before : (s : Setting) → place_of s < place → AreNumbers s (values_in (name_of s) rows) (numbers_for s given)
   pub behind : (s : Setting) → place ≤ place_of s → numbers_for s given ≡ []
 
 pub next_taken : (rows : List Row) (old new : List Given) (s : Setting) → HasUpTo rows old (place_of s) → TakesNumbers s (values_in (name_of s) rows) old new → HasUpTo rows new (place_of s + 1)
@@ -145,11 +155,11 @@ next_taken rows old new s has takes = record {
     less : (r : Setting) → place_of r < place_of s + 1 → is_same s r ≡ false → place_of r < place_of s
     less r lt e = let ne : place_of s ≢ place_of r = grind (arith, nat_tests) in omega arith
 
-    of_before : (r : Setting) → place_of r < place_of s + 1 → (b : Bool) → is_same s r ≡ b → AreNumbers (values_in (name_of r) rows) (numbers_for r new)
+    of_before : (r : Setting) → place_of r < place_of s + 1 → (b : Bool) → is_same s r ≡ b → AreNumbers r (values_in (name_of r) rows) (numbers_for r new)
     of_before r lt true e =
         let it : s ≡ r = same_setting s r e in
         let own : numbers_for s new ≡ takes.numbers = numbers s ∙ ap (λ (ns : List ℕ). ns ++ numbers_for s (map (given_with s) takes.numbers)) (has.behind s (omega arith)) ∙ own_numbers s takes.numbers in
-        subst (λ (t : Setting). AreNumbers (values_in (name_of t) rows) (numbers_for t new)) it (subst (λ (ns : List ℕ). AreNumbers (values_in (name_of s) rows) ns) (sym own) takes.are)
+        subst (λ (t : Setting). AreNumbers t (values_in (name_of t) rows) (numbers_for t new)) it (subst (λ (ns : List ℕ). AreNumbers s (values_in (name_of s) rows) ns) (sym own) takes.are)
     of_before r lt false e =
         let kept : numbers_for r new ≡ numbers_for r old = numbers r ∙ ap (λ (ns : List ℕ). numbers_for r old ++ ns) (other_numbers s r takes.numbers e) ∙ append-nil (numbers_for r old) in
-        subst (λ (ns : List ℕ). AreNumbers (values_in (name_of r) rows) ns) (sym kept) (has.before r (less r lt e))
+        subst (λ (ns : List ℕ). AreNumbers r (values_in (name_of r) rows) ns) (sym kept) (has.before r (less r lt e))

@@ -6,24 +6,28 @@ use Rattle.clap.specs.Walk.{Row, Text}
 use Rattle.clap.specs.Simple.{subcommand_of}
 use Rattle.clap.specs.Faults.{fault_of}
 use Rattle.command_words.specs.Commands.{word_id, is_among, IsCommand, values_in, Ends, has_short, built_shape, command_named, app_with, start}
-use Rattle.command_words.specs.Split.{pair_options, all_options, commands, IsSplit, AreAll}
+use Rattle.command_words.specs.Split.{signal_options, pair_options, all_options, commands, IsSplit, AreAll}
 use Rattle.command_words.proofs.Steps.{nothing_pending}
 use Rattle.command_words.proofs.Leaf.{is_command}
 use Rattle.command_words.proofs.Top.{named, runs, program_fails_as, program_gives, leaf_passes, leaf_rows, leaf_ends}
-use Rattle.command_words.proofs.SplitLaws.{Adds, AreKnown, passes, Knows, Found, found, neither, named_word, joined_word, number_word}
+use Rattle.command_words.proofs.SplitLaws.{Adds, AreKnown, passes, Knows, Found, found, neither, named_word, joined_word, value_word}
+use Rattle.command_words.proofs.OtherLaws.{first_of_sim, none_behind}
 use Rattle.command_words.specs.declared.settings.Setting.{Setting}
-use Rattle.command_words.specs.declared.settings.Setting.TheVariants.{Ratio, Budget, Mask, Gap, Jump, Arc, Step, First, Count}
+use Rattle.command_words.specs.declared.settings.Setting.TheVariants.{Ratio, Budget, Mask, Gap, Jump, Arc, Step, First, Count, Bands, System}
 use Rattle.command_words.specs.declared.settings.Given.{Given}
 use Rattle.command_words.specs.declared.jobs.Job.{Job}
 use Rattle.command_words.specs.declared.jobs.Job.TheVariants as job
-use Rattle.command_words.specs.Settings.{name_of, numbers_for}
+use Rattle.command_words.specs.Settings.{name_of, is_of_sim, numbers_for, HasNoOthers}
 use Rattle.command_words.specs.Parts.{Piece, Plain, Apart, Joined, is_ordinary, IsPiece, words_of_piece, ArePieces, words_of, plain_of, IsBehind, AreParted}
 use Rattle.command_words.specs.Words.{IsPlainJob, IsJobOf, IsJob}
 
 -- ---- the options of the commands
 
+abbrev settings_of_signals : List Setting
+settings_of_signals = Bands ∷ System ∷ []
+
 abbrev settings_of_pairs : List Setting
-settings_of_pairs = Mask ∷ Gap ∷ Jump ∷ Arc ∷ Step ∷ First ∷ Count ∷ []
+settings_of_pairs = Mask ∷ Gap ∷ Jump ∷ Arc ∷ Step ∷ First ∷ Count ∷ settings_of_signals
 
 setting_among : (settings : List Setting) (name : Text) → is_among name (map name_of settings) ≡ true → (s : Setting) × (name ≡ name_of s)
 setting_among [] name among = absurd (true≢false (sym among))
@@ -44,6 +48,9 @@ of_all = record { setting = λ name among. setting_among (Ratio ∷ Budget ∷ s
 of_pairs : AreSettings pair_options
 of_pairs = record { setting = λ name among. setting_among settings_of_pairs name among; no_word = refl }
 
+of_signals : AreSettings signal_options
+of_signals = record { setting = λ name among. setting_among settings_of_signals name among; no_word = refl }
+
 of_none : AreSettings []
 of_none = record { setting = λ name among. absurd (true≢false (sym among)); no_word = refl }
 
@@ -63,7 +70,7 @@ table_settings (c ∷ table) name n options all h = go (bytes_eq c.0 name) refl 
     go false other rest = rest (rw other at h)
 
 their_settings : (name n : Text) (options : List Text) → command_named name commands ≡ Some (n, options) → AreSettings options
-their_settings name n options h = table_settings commands name n options (of_all, (of_pairs, (of_none, (of_none, (of_none, (of_none, (of_none, (of_none, (of_none, tt))))))))) h
+their_settings name n options h = table_settings commands name n options (of_all, (of_pairs, (of_none, (of_none, (of_none, (of_none, (of_none, (of_signals, (of_none, tt))))))))) h
 
 pub its_command : (command : Text) (options : List Text) → command_named command commands ≡ Some (command, options) → IsCommand (built_shape (command, options)) options
 its_command command options h = is_command (built_shape (command, options)) options refl (their_settings command command options h).no_word refl refl refl
@@ -104,7 +111,7 @@ no_flag command options rest found h = go (bytes_eq command (45 ∷ 45 ∷ [])) 
     go true e = absurd (cc (sym (ap (λ (c : Text). command_named c commands) ((bytes_eq-Decides command (45 ∷ 45 ∷ [])).0 e)) ∙ found))
 
 -- the words that clap splits are parted, where what it finds for options are numbers
-pub split_parted : (words : List Text) (command : Text) (rows : List Row) (is : IsSplit words command rows) → ((s : Setting) → AreAll (values_in (name_of s) rows)) → Found is.rest [] rows
+pub split_parted : (words : List Text) (command : Text) (rows : List Row) (is : IsSplit words command rows) → ((s : Setting) → AreAll s (values_in (name_of s) rows)) → Found is.rest [] rows
 split_parted words command rows is numbers =
     let sh = built_shape (command, is.options) in
     let knows : Knows sh is.options rows = record { is = its_command command is.options is.found; setting = (their_settings command command is.options is.found).setting; numbers = numbers } in
@@ -133,7 +140,7 @@ ordinary_is_long (b ∷ c ∷ bs) words is h = go (b == 45) (bytes_eq (b ∷ c �
 
 piece_is_long : (p : Piece) (words : List Text) → IsPiece p → has_short words ≡ false → has_short (words_of_piece p ++ words) ≡ false
 piece_is_long (Plain word) words is h = ordinary_is_long word words is h
-piece_is_long (Apart s d n) words is h = rw ((named_word s).0) (ordinary_is_long d words (number_word d n is) h)
+piece_is_long (Apart s d n) words is h = rw ((named_word s).0) (ordinary_is_long d words (value_word s d n is) h)
 piece_is_long (Joined s d n) words is h = rw ((joined_word s d).0) h
 
 all_long : (pieces : List Piece) (behind further : List Text) → ArePieces pieces → IsBehind behind further → has_short (words_of pieces ++ behind) ≡ false
@@ -164,6 +171,8 @@ among_all Arc = refl
 among_all Step = refl
 among_all First = refl
 among_all Count = refl
+among_all Bands = refl
+among_all System = refl
 
 any_known : (given : List Given) → AreKnown all_options given
 any_known [] = tt
@@ -185,6 +194,8 @@ one_known Arc n given h also = record { among = refl; no_ratio = h; no_budget = 
 one_known Step n given h also = record { among = refl; no_ratio = h; no_budget = also }
 one_known First n given h also = record { among = refl; no_ratio = h; no_budget = also }
 one_known Count n given h also = record { among = refl; no_ratio = h; no_budget = also }
+one_known Bands n given h also = record { among = refl; no_ratio = h; no_budget = also }
+one_known System n given h also = record { among = refl; no_ratio = h; no_budget = also }
 
 pairs_known : (given : List Given) → numbers_for Ratio given ≡ [] → numbers_for Budget given ≡ [] → AreKnown pair_options given
 pairs_known [] h also = tt
@@ -192,14 +203,34 @@ pairs_known (g ∷ given) h also =
     let one = one_known g.setting g.number given h also in
     (one.among, pairs_known given one.no_ratio one.no_budget)
 
+among_signals : (s : Setting) → is_of_sim s ≡ true → is_among (name_of s) signal_options ≡ true
+among_signals Bands own = refl
+among_signals System own = refl
+among_signals Ratio own = absurd (true≢false (sym own))
+among_signals Budget own = absurd (true≢false (sym own))
+among_signals Mask own = absurd (true≢false (sym own))
+among_signals Gap own = absurd (true≢false (sym own))
+among_signals Jump own = absurd (true≢false (sym own))
+among_signals Arc own = absurd (true≢false (sym own))
+among_signals Step own = absurd (true≢false (sym own))
+among_signals First own = absurd (true≢false (sym own))
+among_signals Count own = absurd (true≢false (sym own))
+
+signals_known : (given : List Given) → HasNoOthers given → AreKnown signal_options given
+signals_known [] none = tt
+signals_known (g ∷ given) none =
+    let own = first_of_sim g given none in
+    (among_signals g.setting own, signals_known given (none_behind g given own none))
+
 in_table : (command : Text) (plain : List Text) (given : List Given) (j : Job) → IsJobOf command plain given j → InTable command given
 in_table command plain given (job.Zero rows) asked = plain_in_table (codes "zero") (rows ∷ []) command plain given refl (λ ws. refl) asked
 in_table command plain given (job.List obs) asked = plain_in_table (codes "list") (obs ∷ []) command plain given refl (λ ws. refl) asked
 in_table command plain given (job.Check cert) asked = plain_in_table (codes "check") (cert ∷ []) command plain given refl (λ ws. refl) asked
 in_table command plain given (job.Residuals cert) asked = plain_in_table (codes "residuals") (cert ∷ []) command plain given refl (λ ws. refl) asked
 in_table command plain given (job.Migrate cert) asked = plain_in_table (codes "migrate") (cert ∷ []) command plain given refl (λ ws. refl) asked
-in_table command plain given (job.Orbit nav sat tick) asked = plain_in_table (codes "orbit") (nav ∷ asked.sat_word ∷ asked.tick_word ∷ []) command plain given refl (λ ws. refl) asked.asked
-in_table command plain given (job.Sim part seed epochs sats) asked = plain_in_table (codes "sim") (asked.part_word ∷ asked.seed_word ∷ asked.epochs_word ∷ asked.sats_word ∷ []) command plain given refl (λ ws. refl) asked.asked
+in_table command plain given (job.Orbit nav system sat tick) asked = plain_in_table (codes "orbit") (nav ∷ asked.sat_word ∷ asked.tick_word ∷ []) command plain given refl (λ ws. refl) asked.asked
+in_table command plain given (job.Sim part seed epochs sats bands system) asked = subst (λ (c : Text). InTable c given) (sym asked.command_is)
+    (record { options = signal_options; found = refl; known = signals_known given asked.choice.no_others; long = λ ws. refl })
 in_table command plain given (job.Fix base rover nav options) asked = subst (λ (c : Text). InTable c given) (sym asked.command_is)
     (record { options = all_options; found = refl; known = any_known given; long = λ ws. refl })
 in_table command plain given (job.Arcs base rover nav options) asked = subst (λ (c : Text). InTable c given) (sym asked.command_is)

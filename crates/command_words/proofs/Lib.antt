@@ -7,6 +7,7 @@ pub mod Leaf
 pub mod Top
 pub mod Values
 pub mod SplitLaws
+pub mod OtherLaws
 pub mod JobLaws
 pub mod GivenLaws
 pub mod ReadLaws

@@ -1,8 +1,9 @@
 -- Words ask for one job at most.
-use Rattle.std.proofs.Common.{◌≡◌, ℕ, ◌==◌, if◌then◌else◌, Option, None, Some, List, [], ◌∷◌, codes, get_or, length, drop, refl, sym, ap, ap₂, ◌∙◌, subst, arith}
+use Rattle.std.proofs.Common.{◌≡◌, ℕ, ◌≤◌, ◌==◌, ◌||◌, Bool, true, false, IsTrue, if◌then◌else◌, Option, None, Some, List, [], ◌∷◌, codes, get_or, length, drop, refl, sym, ap, ap₂, ◌∙◌, subst, arith}
 use Rattle.gps_time.specs.declared.Tick.{Tick}
 use Rattle.command_words.specs.declared.settings.Given.{Given}
 use Rattle.std.proofs.lemmas.Option.{same_Some}
+use Rattle.command_words.specs.declared.sims.File.TheVariants.{Base, Rover, Nav}
 use Rattle.command_words.specs.declared.sims.Part.{Part}
 use Rattle.command_words.specs.declared.sims.Part.TheVariants as part
 use Rattle.command_words.specs.declared.sims.Sim.{Sim}
@@ -10,14 +11,16 @@ use Rattle.command_words.specs.declared.jobs.Job.{Job}
 use Rattle.command_words.specs.declared.jobs.Job.TheVariants as job
 use Rattle.command_words.specs.Numbers.{IsNumber, IsSatellite}
 use Rattle.command_words.specs.Parts.{AreParted}
-use Rattle.command_words.specs.Words.{name_of_part, sim_with, IsPlainJob, IsOrbitJob, IsSim, IsSimJob, IsFixJob, IsArcsJob, IsJobOf, IsJob}
+use Rattle.command_words.specs.Words.{name_of_part, sim_with, IsPlainJob, IsOrbitJob, IsSim, IsSimJob, IsFixJob, IsArcsJob, IsJobOf, IsJob, IsInRange}
 use Rattle.run_options.specs.declared.options.Options.{Options}
 use Rattle.run_options.specs.Defaults.{numbers_of}
 use Rattle.run_options.proofs.OneOptions.{one_options}
 use Rattle.command_words.specs.declared.settings.Setting.{Setting}
-use Rattle.command_words.specs.declared.settings.Setting.TheVariants.{Ratio, Budget, Mask, Gap, Jump, Arc, Step, First, Count}
-use Rattle.command_words.specs.Settings.{numbers_for, IsSet, AreOptions}
-use Rattle.command_words.proofs.SettingLaws.{one_number, one_satellite, one_set}
+use Rattle.command_words.specs.declared.settings.Setting.TheVariants.{Ratio, Budget, Mask, Gap, Jump, Arc, Step, First, Count, Bands, System}
+use Rattle.obs_rows.specs.Ranges.{IsSystem}
+use Rattle.run_options.specs.declared.options.TheConstants.{GPS}
+use Rattle.command_words.specs.Settings.{numbers_for, default_bands, AreBandsOf, IsChosenBy, IsSet, IsSignalChoice, AreOptions}
+use Rattle.command_words.proofs.SettingLaws.{one_number, one_system, one_satellite, one_choice, choice_admitted}
 use Rattle.command_words.proofs.PartLaws.{one_parting}
 
 -- the first letters of two commands
@@ -30,51 +33,57 @@ one_plain name ws vs c p g first second = sym first.plain_are ∙ second.plain_a
 one_file : (name a b : List ℕ) (c : List ℕ) (p : List (List ℕ)) (g : List Given) → IsPlainJob name (a ∷ []) c p g → IsPlainJob name (b ∷ []) c p g → a ≡ b
 one_file name a b c p g first second = ap (λ (ws : List (List ℕ)). get_or ws 0 []) (one_plain name (a ∷ []) (b ∷ []) c p g first second)
 
-one_orbit : (nav nav' : List ℕ) (sat sat' : ℕ) (tick tick' : Tick) (c : List ℕ) (p : List (List ℕ)) (g : List Given) → IsOrbitJob nav sat tick.0 c p g → IsOrbitJob nav' sat' tick'.0 c p g → job.Orbit nav sat tick ≡ job.Orbit nav' sat' tick'
-one_orbit nav nav' sat sat' tick tick' c p g first second =
+one_orbit : (nav nav' : List ℕ) (system system' sat sat' : ℕ) (tick tick' : Tick) (c : List ℕ) (p : List (List ℕ)) (g : List Given) → IsOrbitJob nav system sat tick.0 c p g → IsOrbitJob nav' system' sat' tick'.0 c p g
+    → job.Orbit nav system sat tick ≡ job.Orbit nav' system' sat' tick'
+one_orbit nav nav' system system' sat sat' tick tick' c p g first second =
     let words = one_plain (codes "orbit") _ _ c p g first.asked second.asked in
     let same_nav : nav ≡ nav' = ap (λ (ws : List (List ℕ)). get_or ws 0 []) words in
     let same_sat_word : first.sat_word ≡ second.sat_word = ap (λ (ws : List (List ℕ)). get_or ws 1 []) words in
     let same_tick_word : first.tick_word ≡ second.tick_word = ap (λ (ws : List (List ℕ)). get_or ws 2 []) words in
-    let same_sat : sat ≡ sat' = one_satellite first.sat_word sat sat' first.satellite (subst (λ (w : List ℕ). IsSatellite w sat') (sym same_sat_word) second.satellite) in
+    let also : IsSatellite first.sat_word system' sat' = subst (λ (w : List ℕ). IsSatellite w system' sat') (sym same_sat_word) second.satellite in
+    let same_system : system ≡ system' = one_system first.sat_word system system' sat sat' first.satellite also in
+    let same_sat : sat ≡ sat' = one_satellite first.sat_word system system' sat sat' first.satellite also in
     let same_number : tick.0 ≡ tick'.0 = one_number first.tick_word tick.0 tick'.0 first.number (subst (λ (w : List ℕ). IsNumber w tick'.0) (sym same_tick_word) second.number) in
     let same_tick : tick ≡ tick' = ap (λ (n : ℕ). let t : Tick = record { 0 = n } in t) same_number in
-    cc (same_nav, same_sat, same_tick)
+    cc (same_nav, same_system, same_sat, same_tick)
 
 -- the parts of a session have four names, of which two begin with one letter
 abbrev part_with_letter : List ℕ → Option Part
 part_with_letter [] = None
-part_with_letter (b ∷ bs) = if b == 98 then Some part.Base else (if b == 110 then Some part.Nav else (if get_or bs 0 0 == 111 then Some part.Rover else Some part.Run))
+part_with_letter (b ∷ bs) = if b == 98 then Some (part.File Base) else (if b == 110 then Some (part.File Nav) else (if get_or bs 0 0 == 111 then Some (part.File Rover) else Some part.Run))
 
 is_part_name : (p : Part) → part_with_letter (name_of_part p) ≡ Some p
-is_part_name part.Base = refl
-is_part_name part.Rover = refl
-is_part_name part.Nav = refl
+is_part_name (part.File Base) = refl
+is_part_name (part.File Rover) = refl
+is_part_name (part.File Nav) = refl
 is_part_name part.Run = refl
 
 one_part : (p q : Part) → name_of_part p ≡ name_of_part q → p ≡ q
 one_part p q same = same_Some p q (sym (is_part_name p) ∙ ap part_with_letter same ∙ is_part_name q)
 
-same_sim : (s r : Sim) → s.part ≡ r.part → s.seed ≡ r.seed → s.epochs ≡ r.epochs → s.sats ≡ r.sats → s ≡ r
-same_sim s r part seed epochs sats =
-    let made : Part → ℕ → ℕ → ℕ → Sim = λ p a b c. record { part = p; seed = a; epochs = b; sats = c } in
-    ap₂ (λ (p : Part) (a : ℕ). made p a s.epochs s.sats) part seed ∙ ap₂ (λ (b c : ℕ). made r.part r.seed b c) epochs sats
+-- one system and one set of bands are chosen
+one_signals : (given : List Given) (k l b c : ℕ) → IsSignalChoice given k b → IsSignalChoice given l c → (k ≡ l) × (b ≡ c)
+one_signals given k l b c first second =
+    let system : k ≡ l = one_choice (numbers_for System given) IsSystem GPS k l first.system_is second.system_is in
+    let also : IsChosenBy (numbers_for Bands given) (AreBandsOf k) (default_bands k) c = subst (λ (n : ℕ). IsChosenBy (numbers_for Bands given) (AreBandsOf n) (default_bands n) c) (sym system) second.bands_are in
+    (system, one_choice (numbers_for Bands given) (AreBandsOf k) (default_bands k) b c first.bands_are also)
 
-one_sim : (s r : Sim) (c : List ℕ) (p : List (List ℕ)) (g : List Given) → IsSimJob s c p g → IsSimJob r c p g → job.Sim s.part s.seed s.epochs s.sats ≡ job.Sim r.part r.seed r.epochs r.sats
+one_sim : (s r : Sim) (c : List ℕ) (p : List (List ℕ)) (g : List Given) → IsSimJob s c p g → IsSimJob r c p g → job.Sim s.part s.seed s.epochs s.sats s.bands s.system ≡ job.Sim r.part r.seed r.epochs r.sats r.bands r.system
 one_sim s r c p g first second =
-    let words = one_plain (codes "sim") _ _ c p g first.asked second.asked in
+    let words = sym first.plain_are ∙ second.plain_are in
     let part_word : first.part_word ≡ second.part_word = ap (λ (ws : List (List ℕ)). get_or ws 0 []) words in
     let seed_word : first.seed_word ≡ second.seed_word = ap (λ (ws : List (List ℕ)). get_or ws 1 []) words in
     let epochs_word : first.epochs_word ≡ second.epochs_word = ap (λ (ws : List (List ℕ)). get_or ws 2 []) words in
     let sats_word : first.sats_word ≡ second.sats_word = ap (λ (ws : List (List ℕ)). get_or ws 3 []) words in
-    let part : s.part ≡ r.part = one_part s.part r.part (sym first.is.part ∙ part_word ∙ second.is.part) in
+    let same_part : s.part ≡ r.part = one_part s.part r.part (sym first.is.part ∙ part_word ∙ second.is.part) in
     let seed : s.seed ≡ r.seed = one_number first.seed_word s.seed r.seed first.is.seed.number (subst (λ (w : List ℕ). IsNumber w r.seed) (sym seed_word) second.is.seed.number) in
     let epochs : s.epochs ≡ r.epochs = one_number first.epochs_word s.epochs r.epochs first.is.epochs.number (subst (λ (w : List ℕ). IsNumber w r.epochs) (sym epochs_word) second.is.epochs.number) in
     let sats : s.sats ≡ r.sats = one_number first.sats_word s.sats r.sats first.is.sats.number (subst (λ (w : List ℕ). IsNumber w r.sats) (sym sats_word) second.is.sats.number) in
-    ap (λ (q : Sim). job.Sim q.part q.seed q.epochs q.sats) (same_sim s r part seed epochs sats)
+    let signals = one_signals g s.system r.system s.bands r.bands first.choice.choice second.choice.choice in
+    cc (same_part, seed, epochs, sats, signals.0, signals.1)
 
 one_setting : (given : List Given) (s : Setting) (least most plain m n : ℕ) → IsSet given s least most plain m → IsSet given s least most plain n → m ≡ n
-one_setting given s least most plain m n first second = one_set (numbers_for s given) least most plain m n first second
+one_setting given s least most plain m n first second = one_choice (numbers_for s given) (λ v. (least ≤ v) × (v ≤ most)) plain m n first second
 
 one_of_options : (given : List Given) (o p : Options) → AreOptions given o → AreOptions given p → o ≡ p
 one_of_options given o p first second =
@@ -87,7 +96,8 @@ one_of_options given o p first second =
     let step : o.step ≡ p.step = one_setting given Step 1 1000 1 o.step p.step first.step second.step in
     let first_pair : o.first ≡ p.first = one_setting given First 0 19999 0 o.first p.first first.first second.first in
     let count : o.count ≡ p.count = one_setting given Count 1 3600 3600 o.count p.count first.count second.count in
-    let same : numbers_of o ≡ numbers_of p = cc (ratio, budget, mask, gap, jump, arc, step, first_pair, count) in
+    let signals = one_signals given o.system p.system o.bands p.bands first.choice second.choice in
+    let same : numbers_of o ≡ numbers_of p = cc (ratio, budget, mask, gap, jump, arc, step, first_pair, count, signals.0, signals.1) in
     one_options o p same
 
 one_arcs : (base rover nav base' rover' nav' : List ℕ) (o p : Options) (c : List ℕ) (w : List (List ℕ)) (g : List Given) → IsArcsJob base rover nav o c w g → IsArcsJob base' rover' nav' p c w g → job.Arcs base rover nav o ≡ job.Arcs base' rover' nav' p
@@ -112,24 +122,24 @@ one_fix base rover nav base' rover' nav' o p c w g first second =
 abbrev letter_of : Job → ℕ
 letter_of (job.Zero rows) = 122
 letter_of (job.List obs) = 108
-letter_of (job.Orbit nav sat tick) = 111
+letter_of (job.Orbit nav system sat tick) = 111
 letter_of (job.Check cert) = 99
 letter_of (job.Residuals cert) = 114
 letter_of (job.Migrate cert) = 109
 letter_of (job.Fix base rover nav options) = 102
 letter_of (job.Arcs base rover nav options) = 97
-letter_of (job.Sim part seed epochs sats) = 115
+letter_of (job.Sim part seed epochs sats bands system) = 115
 
 has_letter : (c : List ℕ) (p : List (List ℕ)) (g : List Given) (j : Job) → IsJobOf c p g j → get_or c 0 0 ≡ letter_of j
 has_letter c p g (job.Zero rows) asked = ap (λ (w : List ℕ). get_or w 0 0) asked.command_is
 has_letter c p g (job.List obs) asked = ap (λ (w : List ℕ). get_or w 0 0) asked.command_is
-has_letter c p g (job.Orbit nav sat tick) asked = ap (λ (w : List ℕ). get_or w 0 0) asked.asked.command_is
+has_letter c p g (job.Orbit nav system sat tick) asked = ap (λ (w : List ℕ). get_or w 0 0) asked.asked.command_is
 has_letter c p g (job.Check cert) asked = ap (λ (w : List ℕ). get_or w 0 0) asked.command_is
 has_letter c p g (job.Residuals cert) asked = ap (λ (w : List ℕ). get_or w 0 0) asked.command_is
 has_letter c p g (job.Migrate cert) asked = ap (λ (w : List ℕ). get_or w 0 0) asked.command_is
 has_letter c p g (job.Fix base rover nav options) asked = ap (λ (w : List ℕ). get_or w 0 0) asked.command_is
 has_letter c p g (job.Arcs base rover nav options) asked = ap (λ (w : List ℕ). get_or w 0 0) asked.command_is
-has_letter c p g (job.Sim part seed epochs sats) asked = ap (λ (w : List ℕ). get_or w 0 0) asked.asked.command_is
+has_letter c p g (job.Sim part seed epochs sats bands system) asked = ap (λ (w : List ℕ). get_or w 0 0) asked.command_is
 
 one_letter : (c : List ℕ) (p : List (List ℕ)) (g : List Given) (a b : Job) → IsJobOf c p g a → IsJobOf c p g b → letter_of a ≡ letter_of b
 one_letter c p g a b first second = sym (has_letter c p g a first) ∙ has_letter c p g b second
@@ -137,85 +147,85 @@ one_letter c p g a b first second = sym (has_letter c p g a first) ∙ has_lette
 one_of : (c : List ℕ) (p : List (List ℕ)) (g : List Given) (a b : Job) → IsJobOf c p g a → IsJobOf c p g b → a ≡ b
 one_of c p g (job.Zero rows) (job.Zero rows') first second = ap (λ (r : List ℕ). job.Zero r) (one_file (codes "zero") rows rows' c p g first second)
 one_of c p g (job.List obs) (job.List obs') first second = ap (λ (r : List ℕ). job.List r) (one_file (codes "list") obs obs' c p g first second)
-one_of c p g (job.Orbit nav sat tick) (job.Orbit nav' sat' tick') first second = one_orbit nav nav' sat sat' tick tick' c p g first second
+one_of c p g (job.Orbit nav system sat tick) (job.Orbit nav' system' sat' tick') first second = one_orbit nav nav' system system' sat sat' tick tick' c p g first second
 one_of c p g (job.Check cert) (job.Check cert') first second = ap (λ (r : List ℕ). job.Check r) (one_file (codes "check") cert cert' c p g first second)
 one_of c p g (job.Residuals cert) (job.Residuals cert') first second = ap (λ (r : List ℕ). job.Residuals r) (one_file (codes "residuals") cert cert' c p g first second)
 one_of c p g (job.Migrate cert) (job.Migrate cert') first second = ap (λ (r : List ℕ). job.Migrate r) (one_file (codes "migrate") cert cert' c p g first second)
 one_of c p g (job.Fix base rover nav options) (job.Fix base' rover' nav' options') first second = one_fix base rover nav base' rover' nav' options options' c p g first second
 one_of c p g (job.Arcs base rover nav options) (job.Arcs base' rover' nav' options') first second = one_arcs base rover nav base' rover' nav' options options' c p g first second
-one_of c p g (job.Sim part seed epochs sats) (job.Sim part' seed' epochs' sats') first second = one_sim (sim_with part seed epochs sats) (sim_with part' seed' epochs' sats') c p g first second
+one_of c p g (job.Sim part seed epochs sats bands system) (job.Sim part' seed' epochs' sats' bands' system') first second = one_sim (sim_with part seed epochs sats bands system) (sim_with part' seed' epochs' sats' bands' system') c p g first second
 one_of c p g (job.Zero rows) (job.List obs') first second = absurd (omega (arith, one_letter c p g (job.Zero rows) (job.List obs') first second))
-one_of c p g (job.Zero rows) (job.Orbit nav' sat' tick') first second = absurd (omega (arith, one_letter c p g (job.Zero rows) (job.Orbit nav' sat' tick') first second))
+one_of c p g (job.Zero rows) (job.Orbit nav' system' sat' tick') first second = absurd (omega (arith, one_letter c p g (job.Zero rows) (job.Orbit nav' system' sat' tick') first second))
 one_of c p g (job.Zero rows) (job.Check cert') first second = absurd (omega (arith, one_letter c p g (job.Zero rows) (job.Check cert') first second))
 one_of c p g (job.Zero rows) (job.Residuals cert') first second = absurd (omega (arith, one_letter c p g (job.Zero rows) (job.Residuals cert') first second))
 one_of c p g (job.Zero rows) (job.Migrate cert') first second = absurd (omega (arith, one_letter c p g (job.Zero rows) (job.Migrate cert') first second))
 one_of c p g (job.Zero rows) (job.Fix base' rover' nav' options') first second = absurd (omega (arith, one_letter c p g (job.Zero rows) (job.Fix base' rover' nav' options') first second))
 one_of c p g (job.Zero rows) (job.Arcs base' rover' nav' options') first second = absurd (omega (arith, one_letter c p g (job.Zero rows) (job.Arcs base' rover' nav' options') first second))
-one_of c p g (job.Zero rows) (job.Sim part' seed' epochs' sats') first second = absurd (omega (arith, one_letter c p g (job.Zero rows) (job.Sim part' seed' epochs' sats') first second))
+one_of c p g (job.Zero rows) (job.Sim part' seed' epochs' sats' bands' system') first second = absurd (omega (arith, one_letter c p g (job.Zero rows) (job.Sim part' seed' epochs' sats' bands' system') first second))
 one_of c p g (job.List obs) (job.Zero rows') first second = absurd (omega (arith, one_letter c p g (job.List obs) (job.Zero rows') first second))
-one_of c p g (job.List obs) (job.Orbit nav' sat' tick') first second = absurd (omega (arith, one_letter c p g (job.List obs) (job.Orbit nav' sat' tick') first second))
+one_of c p g (job.List obs) (job.Orbit nav' system' sat' tick') first second = absurd (omega (arith, one_letter c p g (job.List obs) (job.Orbit nav' system' sat' tick') first second))
 one_of c p g (job.List obs) (job.Check cert') first second = absurd (omega (arith, one_letter c p g (job.List obs) (job.Check cert') first second))
 one_of c p g (job.List obs) (job.Residuals cert') first second = absurd (omega (arith, one_letter c p g (job.List obs) (job.Residuals cert') first second))
 one_of c p g (job.List obs) (job.Migrate cert') first second = absurd (omega (arith, one_letter c p g (job.List obs) (job.Migrate cert') first second))
 one_of c p g (job.List obs) (job.Fix base' rover' nav' options') first second = absurd (omega (arith, one_letter c p g (job.List obs) (job.Fix base' rover' nav' options') first second))
 one_of c p g (job.List obs) (job.Arcs base' rover' nav' options') first second = absurd (omega (arith, one_letter c p g (job.List obs) (job.Arcs base' rover' nav' options') first second))
-one_of c p g (job.List obs) (job.Sim part' seed' epochs' sats') first second = absurd (omega (arith, one_letter c p g (job.List obs) (job.Sim part' seed' epochs' sats') first second))
-one_of c p g (job.Orbit nav sat tick) (job.Zero rows') first second = absurd (omega (arith, one_letter c p g (job.Orbit nav sat tick) (job.Zero rows') first second))
-one_of c p g (job.Orbit nav sat tick) (job.List obs') first second = absurd (omega (arith, one_letter c p g (job.Orbit nav sat tick) (job.List obs') first second))
-one_of c p g (job.Orbit nav sat tick) (job.Check cert') first second = absurd (omega (arith, one_letter c p g (job.Orbit nav sat tick) (job.Check cert') first second))
-one_of c p g (job.Orbit nav sat tick) (job.Residuals cert') first second = absurd (omega (arith, one_letter c p g (job.Orbit nav sat tick) (job.Residuals cert') first second))
-one_of c p g (job.Orbit nav sat tick) (job.Migrate cert') first second = absurd (omega (arith, one_letter c p g (job.Orbit nav sat tick) (job.Migrate cert') first second))
-one_of c p g (job.Orbit nav sat tick) (job.Fix base' rover' nav' options') first second = absurd (omega (arith, one_letter c p g (job.Orbit nav sat tick) (job.Fix base' rover' nav' options') first second))
-one_of c p g (job.Orbit nav sat tick) (job.Arcs base' rover' nav' options') first second = absurd (omega (arith, one_letter c p g (job.Orbit nav sat tick) (job.Arcs base' rover' nav' options') first second))
-one_of c p g (job.Orbit nav sat tick) (job.Sim part' seed' epochs' sats') first second = absurd (omega (arith, one_letter c p g (job.Orbit nav sat tick) (job.Sim part' seed' epochs' sats') first second))
+one_of c p g (job.List obs) (job.Sim part' seed' epochs' sats' bands' system') first second = absurd (omega (arith, one_letter c p g (job.List obs) (job.Sim part' seed' epochs' sats' bands' system') first second))
+one_of c p g (job.Orbit nav system sat tick) (job.Zero rows') first second = absurd (omega (arith, one_letter c p g (job.Orbit nav system sat tick) (job.Zero rows') first second))
+one_of c p g (job.Orbit nav system sat tick) (job.List obs') first second = absurd (omega (arith, one_letter c p g (job.Orbit nav system sat tick) (job.List obs') first second))
+one_of c p g (job.Orbit nav system sat tick) (job.Check cert') first second = absurd (omega (arith, one_letter c p g (job.Orbit nav system sat tick) (job.Check cert') first second))
+one_of c p g (job.Orbit nav system sat tick) (job.Residuals cert') first second = absurd (omega (arith, one_letter c p g (job.Orbit nav system sat tick) (job.Residuals cert') first second))
+one_of c p g (job.Orbit nav system sat tick) (job.Migrate cert') first second = absurd (omega (arith, one_letter c p g (job.Orbit nav system sat tick) (job.Migrate cert') first second))
+one_of c p g (job.Orbit nav system sat tick) (job.Fix base' rover' nav' options') first second = absurd (omega (arith, one_letter c p g (job.Orbit nav system sat tick) (job.Fix base' rover' nav' options') first second))
+one_of c p g (job.Orbit nav system sat tick) (job.Arcs base' rover' nav' options') first second = absurd (omega (arith, one_letter c p g (job.Orbit nav system sat tick) (job.Arcs base' rover' nav' options') first second))
+one_of c p g (job.Orbit nav system sat tick) (job.Sim part' seed' epochs' sats' bands' system') first second = absurd (omega (arith, one_letter c p g (job.Orbit nav system sat tick) (job.Sim part' seed' epochs' sats' bands' system') first second))
 one_of c p g (job.Check cert) (job.Zero rows') first second = absurd (omega (arith, one_letter c p g (job.Check cert) (job.Zero rows') first second))
 one_of c p g (job.Check cert) (job.List obs') first second = absurd (omega (arith, one_letter c p g (job.Check cert) (job.List obs') first second))
-one_of c p g (job.Check cert) (job.Orbit nav' sat' tick') first second = absurd (omega (arith, one_letter c p g (job.Check cert) (job.Orbit nav' sat' tick') first second))
+one_of c p g (job.Check cert) (job.Orbit nav' system' sat' tick') first second = absurd (omega (arith, one_letter c p g (job.Check cert) (job.Orbit nav' system' sat' tick') first second))
 one_of c p g (job.Check cert) (job.Residuals cert') first second = absurd (omega (arith, one_letter c p g (job.Check cert) (job.Residuals cert') first second))
 one_of c p g (job.Check cert) (job.Migrate cert') first second = absurd (omega (arith, one_letter c p g (job.Check cert) (job.Migrate cert') first second))
 one_of c p g (job.Check cert) (job.Fix base' rover' nav' options') first second = absurd (omega (arith, one_letter c p g (job.Check cert) (job.Fix base' rover' nav' options') first second))
 one_of c p g (job.Check cert) (job.Arcs base' rover' nav' options') first second = absurd (omega (arith, one_letter c p g (job.Check cert) (job.Arcs base' rover' nav' options') first second))
-one_of c p g (job.Check cert) (job.Sim part' seed' epochs' sats') first second = absurd (omega (arith, one_letter c p g (job.Check cert) (job.Sim part' seed' epochs' sats') first second))
+one_of c p g (job.Check cert) (job.Sim part' seed' epochs' sats' bands' system') first second = absurd (omega (arith, one_letter c p g (job.Check cert) (job.Sim part' seed' epochs' sats' bands' system') first second))
 one_of c p g (job.Residuals cert) (job.Zero rows') first second = absurd (omega (arith, one_letter c p g (job.Residuals cert) (job.Zero rows') first second))
 one_of c p g (job.Residuals cert) (job.List obs') first second = absurd (omega (arith, one_letter c p g (job.Residuals cert) (job.List obs') first second))
-one_of c p g (job.Residuals cert) (job.Orbit nav' sat' tick') first second = absurd (omega (arith, one_letter c p g (job.Residuals cert) (job.Orbit nav' sat' tick') first second))
+one_of c p g (job.Residuals cert) (job.Orbit nav' system' sat' tick') first second = absurd (omega (arith, one_letter c p g (job.Residuals cert) (job.Orbit nav' system' sat' tick') first second))
 one_of c p g (job.Residuals cert) (job.Check cert') first second = absurd (omega (arith, one_letter c p g (job.Residuals cert) (job.Check cert') first second))
 one_of c p g (job.Residuals cert) (job.Migrate cert') first second = absurd (omega (arith, one_letter c p g (job.Residuals cert) (job.Migrate cert') first second))
 one_of c p g (job.Residuals cert) (job.Fix base' rover' nav' options') first second = absurd (omega (arith, one_letter c p g (job.Residuals cert) (job.Fix base' rover' nav' options') first second))
 one_of c p g (job.Residuals cert) (job.Arcs base' rover' nav' options') first second = absurd (omega (arith, one_letter c p g (job.Residuals cert) (job.Arcs base' rover' nav' options') first second))
-one_of c p g (job.Residuals cert) (job.Sim part' seed' epochs' sats') first second = absurd (omega (arith, one_letter c p g (job.Residuals cert) (job.Sim part' seed' epochs' sats') first second))
+one_of c p g (job.Residuals cert) (job.Sim part' seed' epochs' sats' bands' system') first second = absurd (omega (arith, one_letter c p g (job.Residuals cert) (job.Sim part' seed' epochs' sats' bands' system') first second))
 one_of c p g (job.Migrate cert) (job.Zero rows') first second = absurd (omega (arith, one_letter c p g (job.Migrate cert) (job.Zero rows') first second))
 one_of c p g (job.Migrate cert) (job.List obs') first second = absurd (omega (arith, one_letter c p g (job.Migrate cert) (job.List obs') first second))
-one_of c p g (job.Migrate cert) (job.Orbit nav' sat' tick') first second = absurd (omega (arith, one_letter c p g (job.Migrate cert) (job.Orbit nav' sat' tick') first second))
+one_of c p g (job.Migrate cert) (job.Orbit nav' system' sat' tick') first second = absurd (omega (arith, one_letter c p g (job.Migrate cert) (job.Orbit nav' system' sat' tick') first second))
 one_of c p g (job.Migrate cert) (job.Check cert') first second = absurd (omega (arith, one_letter c p g (job.Migrate cert) (job.Check cert') first second))
 one_of c p g (job.Migrate cert) (job.Residuals cert') first second = absurd (omega (arith, one_letter c p g (job.Migrate cert) (job.Residuals cert') first second))
 one_of c p g (job.Migrate cert) (job.Fix base' rover' nav' options') first second = absurd (omega (arith, one_letter c p g (job.Migrate cert) (job.Fix base' rover' nav' options') first second))
 one_of c p g (job.Migrate cert) (job.Arcs base' rover' nav' options') first second = absurd (omega (arith, one_letter c p g (job.Migrate cert) (job.Arcs base' rover' nav' options') first second))
-one_of c p g (job.Migrate cert) (job.Sim part' seed' epochs' sats') first second = absurd (omega (arith, one_letter c p g (job.Migrate cert) (job.Sim part' seed' epochs' sats') first second))
+one_of c p g (job.Migrate cert) (job.Sim part' seed' epochs' sats' bands' system') first second = absurd (omega (arith, one_letter c p g (job.Migrate cert) (job.Sim part' seed' epochs' sats' bands' system') first second))
 one_of c p g (job.Fix base rover nav options) (job.Zero rows') first second = absurd (omega (arith, one_letter c p g (job.Fix base rover nav options) (job.Zero rows') first second))
 one_of c p g (job.Fix base rover nav options) (job.List obs') first second = absurd (omega (arith, one_letter c p g (job.Fix base rover nav options) (job.List obs') first second))
-one_of c p g (job.Fix base rover nav options) (job.Orbit nav' sat' tick') first second = absurd (omega (arith, one_letter c p g (job.Fix base rover nav options) (job.Orbit nav' sat' tick') first second))
+one_of c p g (job.Fix base rover nav options) (job.Orbit nav' system' sat' tick') first second = absurd (omega (arith, one_letter c p g (job.Fix base rover nav options) (job.Orbit nav' system' sat' tick') first second))
 one_of c p g (job.Fix base rover nav options) (job.Check cert') first second = absurd (omega (arith, one_letter c p g (job.Fix base rover nav options) (job.Check cert') first second))
 one_of c p g (job.Fix base rover nav options) (job.Residuals cert') first second = absurd (omega (arith, one_letter c p g (job.Fix base rover nav options) (job.Residuals cert') first second))
 one_of c p g (job.Fix base rover nav options) (job.Migrate cert') first second = absurd (omega (arith, one_letter c p g (job.Fix base rover nav options) (job.Migrate cert') first second))
 one_of c p g (job.Fix base rover nav options) (job.Arcs base' rover' nav' options') first second = absurd (omega (arith, one_letter c p g (job.Fix base rover nav options) (job.Arcs base' rover' nav' options') first second))
-one_of c p g (job.Fix base rover nav options) (job.Sim part' seed' epochs' sats') first second = absurd (omega (arith, one_letter c p g (job.Fix base rover nav options) (job.Sim part' seed' epochs' sats') first second))
+one_of c p g (job.Fix base rover nav options) (job.Sim part' seed' epochs' sats' bands' system') first second = absurd (omega (arith, one_letter c p g (job.Fix base rover nav options) (job.Sim part' seed' epochs' sats' bands' system') first second))
 one_of c p g (job.Arcs base rover nav options) (job.Zero rows') first second = absurd (omega (arith, one_letter c p g (job.Arcs base rover nav options) (job.Zero rows') first second))
 one_of c p g (job.Arcs base rover nav options) (job.List obs') first second = absurd (omega (arith, one_letter c p g (job.Arcs base rover nav options) (job.List obs') first second))
-one_of c p g (job.Arcs base rover nav options) (job.Orbit nav' sat' tick') first second = absurd (omega (arith, one_letter c p g (job.Arcs base rover nav options) (job.Orbit nav' sat' tick') first second))
+one_of c p g (job.Arcs base rover nav options) (job.Orbit nav' system' sat' tick') first second = absurd (omega (arith, one_letter c p g (job.Arcs base rover nav options) (job.Orbit nav' system' sat' tick') first second))
 one_of c p g (job.Arcs base rover nav options) (job.Check cert') first second = absurd (omega (arith, one_letter c p g (job.Arcs base rover nav options) (job.Check cert') first second))
 one_of c p g (job.Arcs base rover nav options) (job.Residuals cert') first second = absurd (omega (arith, one_letter c p g (job.Arcs base rover nav options) (job.Residuals cert') first second))
 one_of c p g (job.Arcs base rover nav options) (job.Migrate cert') first second = absurd (omega (arith, one_letter c p g (job.Arcs base rover nav options) (job.Migrate cert') first second))
 one_of c p g (job.Arcs base rover nav options) (job.Fix base' rover' nav' options') first second = absurd (omega (arith, one_letter c p g (job.Arcs base rover nav options) (job.Fix base' rover' nav' options') first second))
-one_of c p g (job.Arcs base rover nav options) (job.Sim part' seed' epochs' sats') first second = absurd (omega (arith, one_letter c p g (job.Arcs base rover nav options) (job.Sim part' seed' epochs' sats') first second))
-one_of c p g (job.Sim part seed epochs sats) (job.Zero rows') first second = absurd (omega (arith, one_letter c p g (job.Sim part seed epochs sats) (job.Zero rows') first second))
-one_of c p g (job.Sim part seed epochs sats) (job.List obs') first second = absurd (omega (arith, one_letter c p g (job.Sim part seed epochs sats) (job.List obs') first second))
-one_of c p g (job.Sim part seed epochs sats) (job.Orbit nav' sat' tick') first second = absurd (omega (arith, one_letter c p g (job.Sim part seed epochs sats) (job.Orbit nav' sat' tick') first second))
-one_of c p g (job.Sim part seed epochs sats) (job.Check cert') first second = absurd (omega (arith, one_letter c p g (job.Sim part seed epochs sats) (job.Check cert') first second))
-one_of c p g (job.Sim part seed epochs sats) (job.Residuals cert') first second = absurd (omega (arith, one_letter c p g (job.Sim part seed epochs sats) (job.Residuals cert') first second))
-one_of c p g (job.Sim part seed epochs sats) (job.Migrate cert') first second = absurd (omega (arith, one_letter c p g (job.Sim part seed epochs sats) (job.Migrate cert') first second))
-one_of c p g (job.Sim part seed epochs sats) (job.Fix base' rover' nav' options') first second = absurd (omega (arith, one_letter c p g (job.Sim part seed epochs sats) (job.Fix base' rover' nav' options') first second))
-one_of c p g (job.Sim part seed epochs sats) (job.Arcs base' rover' nav' options') first second = absurd (omega (arith, one_letter c p g (job.Sim part seed epochs sats) (job.Arcs base' rover' nav' options') first second))
+one_of c p g (job.Arcs base rover nav options) (job.Sim part' seed' epochs' sats' bands' system') first second = absurd (omega (arith, one_letter c p g (job.Arcs base rover nav options) (job.Sim part' seed' epochs' sats' bands' system') first second))
+one_of c p g (job.Sim part seed epochs sats bands system) (job.Zero rows') first second = absurd (omega (arith, one_letter c p g (job.Sim part seed epochs sats bands system) (job.Zero rows') first second))
+one_of c p g (job.Sim part seed epochs sats bands system) (job.List obs') first second = absurd (omega (arith, one_letter c p g (job.Sim part seed epochs sats bands system) (job.List obs') first second))
+one_of c p g (job.Sim part seed epochs sats bands system) (job.Orbit nav' system' sat' tick') first second = absurd (omega (arith, one_letter c p g (job.Sim part seed epochs sats bands system) (job.Orbit nav' system' sat' tick') first second))
+one_of c p g (job.Sim part seed epochs sats bands system) (job.Check cert') first second = absurd (omega (arith, one_letter c p g (job.Sim part seed epochs sats bands system) (job.Check cert') first second))
+one_of c p g (job.Sim part seed epochs sats bands system) (job.Residuals cert') first second = absurd (omega (arith, one_letter c p g (job.Sim part seed epochs sats bands system) (job.Residuals cert') first second))
+one_of c p g (job.Sim part seed epochs sats bands system) (job.Migrate cert') first second = absurd (omega (arith, one_letter c p g (job.Sim part seed epochs sats bands system) (job.Migrate cert') first second))
+one_of c p g (job.Sim part seed epochs sats bands system) (job.Fix base' rover' nav' options') first second = absurd (omega (arith, one_letter c p g (job.Sim part seed epochs sats bands system) (job.Fix base' rover' nav' options') first second))
+one_of c p g (job.Sim part seed epochs sats bands system) (job.Arcs base' rover' nav' options') first second = absurd (omega (arith, one_letter c p g (job.Sim part seed epochs sats bands system) (job.Arcs base' rover' nav' options') first second))
 
 -- the command and the words behind it are one
 pub same_behind : (words : List (List ℕ)) (a b : Job) (first : IsJob words a) (second : IsJob words b) → second.behind ≡ first.behind
@@ -237,37 +247,75 @@ other_count name a b c d command asked =
     let same : 3 ≡ 1 = ap (λ (ws : List (List ℕ)). length ws) asked.plain_are in absurd (omega (arith, same))
 
 -- no job of `orbit` without a satellite
-pub no_satellite : (command nav sat tick : List ℕ) → (command ≡ codes "arcs" → ⊥) → (command ≡ codes "fix" → ⊥) → ((n : ℕ) → IsSatellite sat n → ⊥) → (job : Job) → IsJobOf command (nav ∷ sat ∷ tick ∷ []) [] job → ⊥
-no_satellite command nav sat tick no_arcs no_fix none (job.Zero rows) asked = other_count (codes "zero") rows nav sat tick command asked
-no_satellite command nav sat tick no_arcs no_fix none (job.List obs) asked = other_count (codes "list") obs nav sat tick command asked
-no_satellite command nav sat tick no_arcs no_fix none (job.Check cert) asked = other_count (codes "check") cert nav sat tick command asked
-no_satellite command nav sat tick no_arcs no_fix none (job.Residuals cert) asked = other_count (codes "residuals") cert nav sat tick command asked
-no_satellite command nav sat tick no_arcs no_fix none (job.Migrate cert) asked = other_count (codes "migrate") cert nav sat tick command asked
-no_satellite command nav sat tick no_arcs no_fix none (job.Arcs base rover nav' options) asked = no_arcs asked.command_is
-no_satellite command nav sat tick no_arcs no_fix none (job.Fix base rover nav' options) asked = no_fix asked.command_is
-no_satellite command nav sat tick no_arcs no_fix none (job.Sim part seed epochs sats) asked =
-    let same : 3 ≡ 4 = ap (λ (ws : List (List ℕ)). length ws) asked.asked.plain_are in absurd (omega (arith, same))
-no_satellite command nav sat tick no_arcs no_fix none (job.Orbit nav' number tick') asked =
-    let same : asked.sat_word ≡ sat = ap (λ (ws : List (List ℕ)). get_or ws 1 []) (sym asked.asked.plain_are) in none number (subst (λ (w : List ℕ). IsSatellite w number) same asked.satellite)
+pub no_satellite : (command nav sat tick : List ℕ) → (command ≡ codes "arcs" → ⊥) → (command ≡ codes "fix" → ⊥) → (command ≡ codes "sim" → ⊥) → ((system n : ℕ) → IsSatellite sat system n → ⊥)
+    → (job : Job) → IsJobOf command (nav ∷ sat ∷ tick ∷ []) [] job → ⊥
+no_satellite command nav sat tick no_arcs no_fix no_sim none (job.Zero rows) asked = other_count (codes "zero") rows nav sat tick command asked
+no_satellite command nav sat tick no_arcs no_fix no_sim none (job.List obs) asked = other_count (codes "list") obs nav sat tick command asked
+no_satellite command nav sat tick no_arcs no_fix no_sim none (job.Check cert) asked = other_count (codes "check") cert nav sat tick command asked
+no_satellite command nav sat tick no_arcs no_fix no_sim none (job.Residuals cert) asked = other_count (codes "residuals") cert nav sat tick command asked
+no_satellite command nav sat tick no_arcs no_fix no_sim none (job.Migrate cert) asked = other_count (codes "migrate") cert nav sat tick command asked
+no_satellite command nav sat tick no_arcs no_fix no_sim none (job.Arcs base rover nav' options) asked = no_arcs asked.command_is
+no_satellite command nav sat tick no_arcs no_fix no_sim none (job.Fix base rover nav' options) asked = no_fix asked.command_is
+no_satellite command nav sat tick no_arcs no_fix no_sim none (job.Sim part seed epochs sats bands system) asked = no_sim asked.command_is
+no_satellite command nav sat tick no_arcs no_fix no_sim none (job.Orbit nav' system number tick') asked =
+    let same : asked.sat_word ≡ sat = ap (λ (ws : List (List ℕ)). get_or ws 1 []) (sym asked.asked.plain_are) in
+    none system number (subst (λ (w : List ℕ). IsSatellite w system number) same asked.satellite)
 
--- no job of `sim` without its numbers
-pub no_sim : (command part seed epochs sats : List ℕ) → ((s : Sim) → IsSim part seed epochs sats s → ⊥) → (job : Job) → command ≡ codes "sim" → IsJobOf command (part ∷ seed ∷ epochs ∷ sats ∷ []) [] job → ⊥
-no_sim command part seed epochs sats none (job.Zero rows) is asked = absurd (omega (arith, other_letter 115 122 command _ _ is asked.command_is refl refl))
-no_sim command part seed epochs sats none (job.List obs) is asked = absurd (omega (arith, other_letter 115 108 command _ _ is asked.command_is refl refl))
-no_sim command part seed epochs sats none (job.Check cert) is asked = absurd (omega (arith, other_letter 115 99 command _ _ is asked.command_is refl refl))
-no_sim command part seed epochs sats none (job.Residuals cert) is asked = absurd (omega (arith, other_letter 115 114 command _ _ is asked.command_is refl refl))
-no_sim command part seed epochs sats none (job.Migrate cert) is asked = absurd (omega (arith, other_letter 115 109 command _ _ is asked.command_is refl refl))
-no_sim command part seed epochs sats none (job.Fix base rover nav options) is asked = absurd (omega (arith, other_letter 115 102 command _ _ is asked.command_is refl refl))
-no_sim command part seed epochs sats none (job.Arcs base rover nav options) is asked = absurd (omega (arith, other_letter 115 97 command _ _ is asked.command_is refl refl))
-no_sim command part seed epochs sats none (job.Orbit nav sat tick) is asked = absurd (omega (arith, other_letter 115 111 command _ _ is asked.asked.command_is refl refl))
-no_sim command part seed epochs sats none (job.Sim part' seed' epochs' sats') is asked =
-    let words = asked.asked.plain_are in
-    let first : asked.part_word ≡ part = ap (λ (ws : List (List ℕ)). get_or ws 0 []) (sym words) in
-    let second : asked.seed_word ≡ seed = ap (λ (ws : List (List ℕ)). get_or ws 1 []) (sym words) in
-    let third : asked.epochs_word ≡ epochs = ap (λ (ws : List (List ℕ)). get_or ws 2 []) (sym words) in
-    let fourth : asked.sats_word ≡ sats = ap (λ (ws : List (List ℕ)). get_or ws 3 []) (sym words) in
-    let s : Sim = sim_with part' seed' epochs' sats' in
+-- a job of `sim` is that of a simulated session
+pub sim_asked : (plain : List (List ℕ)) (given : List Given) (job : Job) → IsJobOf (codes "sim") plain given job → (s : Sim) × IsSimJob s (codes "sim") plain given
+sim_asked plain given (job.Sim part seed epochs sats bands system) asked = (sim_with part seed epochs sats bands system, asked)
+sim_asked plain given (job.Zero rows) asked = absurd (omega (arith, other_letter 115 122 (codes "sim") _ _ refl asked.command_is refl refl))
+sim_asked plain given (job.List obs) asked = absurd (omega (arith, other_letter 115 108 (codes "sim") _ _ refl asked.command_is refl refl))
+sim_asked plain given (job.Orbit nav system sat tick) asked = absurd (omega (arith, other_letter 115 111 (codes "sim") _ _ refl asked.asked.command_is refl refl))
+sim_asked plain given (job.Check cert) asked = absurd (omega (arith, other_letter 115 99 (codes "sim") _ _ refl asked.command_is refl refl))
+sim_asked plain given (job.Residuals cert) asked = absurd (omega (arith, other_letter 115 114 (codes "sim") _ _ refl asked.command_is refl refl))
+sim_asked plain given (job.Migrate cert) asked = absurd (omega (arith, other_letter 115 109 (codes "sim") _ _ refl asked.command_is refl refl))
+sim_asked plain given (job.Fix base rover nav options) asked = absurd (omega (arith, other_letter 115 102 (codes "sim") _ _ refl asked.command_is refl refl))
+sim_asked plain given (job.Arcs base rover nav options) asked = absurd (omega (arith, other_letter 115 97 (codes "sim") _ _ refl asked.command_is refl refl))
+
+-- and there is none where its four words aren't those of such a session
+pub no_sim : (part seed epochs sats : List ℕ) (given : List Given) → ((s : Sim) → IsSim part seed epochs sats s → ⊥) → (job : Job) → IsJobOf (codes "sim") (part ∷ seed ∷ epochs ∷ sats ∷ []) given job → ⊥
+no_sim part seed epochs sats given none job asked =
+    let it = sim_asked (part ∷ seed ∷ epochs ∷ sats ∷ []) given job asked in
+    let s : Sim = it.0 in
+    let is = it.1 in
+    let words = sym is.plain_are in
+    let first : is.part_word ≡ part = ap (λ (ws : List (List ℕ)). get_or ws 0 []) words in
+    let second : is.seed_word ≡ seed = ap (λ (ws : List (List ℕ)). get_or ws 1 []) words in
+    let third : is.epochs_word ≡ epochs = ap (λ (ws : List (List ℕ)). get_or ws 2 []) words in
+    let fourth : is.sats_word ≡ sats = ap (λ (ws : List (List ℕ)). get_or ws 3 []) words in
     none s (subst (λ (w : List ℕ). IsSim w seed epochs sats s) first
-    (subst (λ (w : List ℕ). IsSim asked.part_word w epochs sats s) second
-    (subst (λ (w : List ℕ). IsSim asked.part_word asked.seed_word w sats s) third
-    (subst (λ (w : List ℕ). IsSim asked.part_word asked.seed_word asked.epochs_word w s) fourth asked.is))))
+    (subst (λ (w : List ℕ). IsSim is.part_word w epochs sats s) second
+    (subst (λ (w : List ℕ). IsSim is.part_word is.seed_word w sats s) third
+    (subst (λ (w : List ℕ). IsSim is.part_word is.seed_word is.epochs_word w s) fourth is.is))))
+
+-- ---- ranges
+
+gps_bands : IsTrue ((GPS == 71) || (GPS == 69))
+gps_bands = refl
+
+default_admitted : (system : ℕ) → AreBandsOf system (default_bands system)
+default_admitted system = go (system == 69) refl
+  where
+    go : (b : Bool) → (system == 69) ≡ b → AreBandsOf system (default_bands system)
+    go true e = record { number = rw e refl; galileo = λ same. rw e refl }
+    go false e = record { number = rw e refl; galileo = λ same. absurd (cc (rw same at e)) }
+
+pub signals_in_range : (given : List Given) (system bands : ℕ) → IsSignalChoice given system bands → IsSystem system × AreBandsOf system bands
+signals_in_range given system bands is = (
+  choice_admitted (numbers_for System given) IsSystem GPS system gps_bands is.system_is,
+  choice_admitted (numbers_for Bands given) (AreBandsOf system) (default_bands system) bands (default_admitted system) is.bands_are,
+)
+
+pub in_range : (command : List ℕ) (plain : List (List ℕ)) (given : List Given) (j : Job) → IsJobOf command plain given j → IsInRange j
+in_range command plain given (job.Sim part seed epochs sats bands system) asked =
+    let signals = signals_in_range given system bands asked.choice.choice in
+    record { epochs_to = asked.is.epochs.to; sats_to = asked.is.sats.to; of_system = signals.0; on_bands = signals.1 }
+in_range command plain given (job.Orbit nav system sat tick) asked = asked.satellite.system
+in_range command plain given (job.Zero rows) asked = tt
+in_range command plain given (job.List obs) asked = tt
+in_range command plain given (job.Check cert) asked = tt
+in_range command plain given (job.Residuals cert) asked = tt
+in_range command plain given (job.Migrate cert) asked = tt
+in_range command plain given (job.Fix base rover nav options) asked = tt
+in_range command plain given (job.Arcs base rover nav options) asked = tt

@@ -2,10 +2,9 @@
 use Rattle.std.proofs.Common.{◌≡◌, ℕ, IsTrue, List, [], ◌∷◌, ◌++◌, append_assoc, append-nil, refl, sym, ap, ◌∙◌, subst, drop, get_or, Some}
 use Rattle.command_words.specs.declared.settings.Setting.{Setting}
 use Rattle.command_words.specs.declared.settings.Given.{Given}
-use Rattle.command_words.specs.Numbers.{IsNumber}
-use Rattle.command_words.specs.Settings.{name_of, setting_of}
+use Rattle.command_words.specs.Settings.{name_of, setting_of, IsValue}
 use Rattle.command_words.specs.Parts.{Piece, Plain, Apart, Joined, is_ordinary, IsPiece, words_of_piece, plain_of_piece, given_of_piece, ArePieces, words_of, plain_of, given_of, IsBehind, AreParted}
-use Rattle.command_words.proofs.SettingLaws.{begins_with_name, is_name, one_name, no_longer_name, same_behind, one_number}
+use Rattle.command_words.proofs.SettingLaws.{begins_with_name, is_name, one_name, no_longer_name, same_behind, one_value}
 
 head_is : (a b : List ℕ) (xs ys : List (List ℕ)) → a ∷ xs ≡ b ∷ ys → a ≡ b
 head_is a b xs ys h = ap (λ (ws : List (List ℕ)). get_or ws 0 a) h
@@ -28,18 +27,18 @@ pub record ArePeeled (p q : Piece) (xs ys : List (List ℕ)) : Type 0 where
   pub same : p ≡ q
   pub rest : xs ≡ ys
 
-peeled_apart : (s r : Setting) (d e : List ℕ) (m n : ℕ) (xs ys : List (List ℕ)) → name_of s ≡ name_of r → d ≡ e → IsNumber d m → IsNumber e n → xs ≡ ys → ArePeeled (Apart s d m) (Apart r e n) xs ys
+peeled_apart : (s r : Setting) (d e : List ℕ) (m n : ℕ) (xs ys : List (List ℕ)) → name_of s ≡ name_of r → d ≡ e → IsValue s d m → IsValue r e n → xs ≡ ys → ArePeeled (Apart s d m) (Apart r e n) xs ys
 peeled_apart s r d e m n xs ys name digits first second rest =
     let setting : s ≡ r = one_name (name_of s) s r (is_name s) (subst (λ (t : List ℕ). setting_of t ≡ Some r) (sym name) (is_name r)) in
-    let number : m ≡ n = one_number d m n first (subst (λ (w : List ℕ). IsNumber w n) (sym digits) second) in
+    let number : m ≡ n = one_value s d m n first (subst (λ (t : Setting). IsValue t d n) (sym setting) (subst (λ (w : List ℕ). IsValue r w n) (sym digits) second)) in
     record { same = cc (setting, digits, number); rest = rest }
 
-peeled_joined : (s r : Setting) (d e : List ℕ) (m n : ℕ) (xs ys : List (List ℕ)) → name_of s ++ 61 ∷ d ≡ name_of r ++ 61 ∷ e → IsNumber d m → IsNumber e n → xs ≡ ys → ArePeeled (Joined s d m) (Joined r e n) xs ys
+peeled_joined : (s r : Setting) (d e : List ℕ) (m n : ℕ) (xs ys : List (List ℕ)) → name_of s ++ 61 ∷ d ≡ name_of r ++ 61 ∷ e → IsValue s d m → IsValue r e n → xs ≡ ys → ArePeeled (Joined s d m) (Joined r e n) xs ys
 peeled_joined s r d e m n xs ys text first second rest =
     let setting : s ≡ r = one_name (name_of s ++ 61 ∷ d) s r (begins_with_name s (61 ∷ d)) (subst (λ (t : List ℕ). setting_of t ≡ Some r) (sym text) (begins_with_name r (61 ∷ e))) in
     let behind : 61 ∷ d ≡ 61 ∷ e = same_behind (name_of s) (61 ∷ d) (61 ∷ e) (text ∙ ap (λ (t : Setting). name_of t ++ 61 ∷ e) (sym setting)) in
     let digits : d ≡ e = ap (λ (w : List ℕ). drop 1 w) behind in
-    let number : m ≡ n = one_number d m n first (subst (λ (w : List ℕ). IsNumber w n) (sym digits) second) in
+    let number : m ≡ n = one_value s d m n first (subst (λ (t : Setting). IsValue t d n) (sym setting) (subst (λ (w : List ℕ). IsValue r w n) (sym digits) second)) in
     record { same = cc (setting, digits, number); rest = rest }
 
 no_apart_joined : (s r : Setting) (d : List ℕ) → name_of s ≡ name_of r ++ 61 ∷ d → ⊥

@@ -19,7 +19,7 @@ use Rattle.clap.specs.Facts.{Entry}
 use Rattle.command_words.specs.declared.settings.Setting.{Setting}
 use Rattle.command_words.specs.declared.settings.Given.{Given}
 use Rattle.command_words.specs.Commands.{app_with, has_short, option_rule, values_in}
-use Rattle.command_words.specs.Numbers.{IsNumber}
+use Rattle.command_words.specs.Settings.{IsValue}
 use Rattle.command_words.specs.Split.{AreAll, IsSplit, TakesNumbers, commands, given_with}
 use Rattle.command_words.proofs.GivenLaws.{one_taken}
 use Rattle.command_words.proofs.JobLaws.{account_split}
@@ -74,16 +74,16 @@ option_added name options i d old new lt old_is new_is =
     new_is ∙ ap (λ (a : App). with_rule a (option_rule (get_or options i d).now)) old_is ∙ one_more name (map (λ (o : Bor Text). o.now) (take i options)) (get_or options i d).now
     ∙ ap (λ (os : List Text). started name os) (sym (map_take (λ (o : Bor Text). o.now) options i d lt))
 
-pub number_at : (texts : List (Bor Text)) (i : ℕ) (d : Bor Text) → AreAll (map (λ t. t.now) texts) → i < length texts → (n : ℕ) × IsNumber (get_or texts i d).now n
-number_at [] i d all lt = absurd (omega arith)
-number_at (t ∷ texts) zero d all lt = all.0
-number_at (t ∷ texts) (suc i) d all lt = number_at texts i d all.1 (omega arith)
+pub number_at : (s : Setting) (texts : List (Bor Text)) (i : ℕ) (d : Bor Text) → AreAll s (map (λ t. t.now) texts) → i < length texts → (n : ℕ) × IsValue s (get_or texts i d).now n
+number_at s [] i d all lt = absurd (omega arith)
+number_at s (t ∷ texts) zero d all lt = all.0
+number_at s (t ∷ texts) (suc i) d all lt = number_at s texts i d all.1 (omega arith)
 
 pub text_taken : (s : Setting) (texts : List (Bor Text)) (old given new : List Given) (i : ℕ) (d : Bor Text) (bytes : Text) (n : ℕ) → TakesNumbers s (map (λ t. t.now) (take i texts)) old given → i < length texts
-    → bytes ≡ (get_or texts i d).now → IsNumber bytes n → new ≡ given ++ given_with s n ∷ [] → TakesNumbers s (map (λ t. t.now) (take (i + 1) texts)) old new
+    → bytes ≡ (get_or texts i d).now → IsValue s bytes n → new ≡ given ++ given_with s n ∷ [] → TakesNumbers s (map (λ t. t.now) (take (i + 1) texts)) old new
 text_taken s texts old given new i d bytes n takes lt bytes_are number new_are =
     let so_far = map (λ (t : Bor Text). t.now) (take i texts) in
-    let number_is : IsNumber (get_or texts i d).now n = subst (λ (t : Text). IsNumber t n) bytes_are number in
+    let number_is : IsValue s (get_or texts i d).now n = subst (λ (t : Text). IsValue s t n) bytes_are number in
     subst (λ (ts : List Text). TakesNumbers s ts old new) (sym (map_take (λ (t : Bor Text). t.now) texts i d lt))
     (subst (λ (gs : List Given). TakesNumbers s (so_far ++ (get_or texts i d).now ∷ []) old gs) (sym new_are) (one_taken s so_far old given (get_or texts i d).now n takes number_is))
 

@@ -15,7 +15,7 @@ use Rattle.command_words.proofs.GivenLaws.{one_numbers, all_numbers, same_job}
 
 -- what a walk adds to nothing is what stands there
 added_numbers : (rows : List Row) (plain : List Text) (given : List Given) → Adds [] rows plain given → HasNumbers rows given
-added_numbers rows plain given adds s = subst (λ (texts : List Text). AreNumbers texts (numbers_for s given)) (sym (adds.texts_are s)) (adds.numbers s)
+added_numbers rows plain given adds s = subst (λ (texts : List Text). AreNumbers s texts (numbers_for s given)) (sym (adds.texts_are s)) (adds.numbers s)
 
 -- words are split in one way
 record IsSame (c d : Text) (rows more : List Row) : Type 0 where
@@ -30,16 +30,16 @@ one_split words c d rows more first second =
 pub not_split : (words : List Text) → ((command : Text) (rows : List Row) → IsSplit words command rows → ⊥) → (j : Job) → IsJob words j → ⊥
 not_split words none j is = let so = job_split words j is in none is.command so.rows so.split
 
-pub no_numbers : (words : List Text) (command : Text) (rows : List Row) → IsSplit words command rows → (((s : Setting) → AreAll (values_in (name_of s) rows)) → ⊥) → (j : Job) → IsJob words j → ⊥
+pub no_numbers : (words : List Text) (command : Text) (rows : List Row) → IsSplit words command rows → (((s : Setting) → AreAll s (values_in (name_of s) rows)) → ⊥) → (j : Job) → IsJob words j → ⊥
 no_numbers words command rows split none j is =
     let so = job_split words j is in
     let same = one_split words command is.command rows so.rows split so.split in
-    none (λ s. subst (λ (rs : List Row). AreAll (values_in (name_of s) rs)) (sym same.rows_are) (all_numbers (values_in (name_of s) so.rows) (numbers_for s is.given) (added_numbers so.rows is.plain is.given so.adds s)))
+    none (λ s. subst (λ (rs : List Row). AreAll s (values_in (name_of s) rs)) (sym same.rows_are) (all_numbers s (values_in (name_of s) so.rows) (numbers_for s is.given) (added_numbers so.rows is.plain is.given so.adds s)))
 
 pub is_job : (words : List Text) (command : Text) (rows : List Row) (given : List Given) → IsSplit words command rows → HasNumbers rows given → (j : Job) → IsJobOf command (values_in word_id rows) given j → IsJob words j
 is_job words command rows given split has j asked =
-    let f = split_parted words command rows split (λ s. all_numbers (values_in (name_of s) rows) (numbers_for s given) (has s)) in
-    let same : (s : Setting) → numbers_for s given ≡ numbers_for s f.given = λ s. one_numbers (values_in (name_of s) rows) (numbers_for s given) (numbers_for s f.given) (has s) (added_numbers rows f.plain f.given f.adds s) in
+    let f = split_parted words command rows split (λ s. all_numbers s (values_in (name_of s) rows) (numbers_for s given) (has s)) in
+    let same : (s : Setting) → numbers_for s given ≡ numbers_for s f.given = λ s. one_numbers s (values_in (name_of s) rows) (numbers_for s given) (numbers_for s f.given) (has s) (added_numbers rows f.plain f.given f.adds s) in
     record {
       command = command;
       behind = split.rest;
@@ -54,8 +54,8 @@ pub not_asked_so : (words : List Text) (command : Text) (rows : List Row) (given
 not_asked_so words command rows given split has none j is =
     let so = job_split words j is in
     let same = one_split words is.command command so.rows rows so.split split in
-    let numbers : (s : Setting) → numbers_for s is.given ≡ numbers_for s given = λ s. one_numbers (values_in (name_of s) so.rows) (numbers_for s is.given) (numbers_for s given)
-    (added_numbers so.rows is.plain is.given so.adds s) (subst (λ (rs : List Row). AreNumbers (values_in (name_of s) rs) (numbers_for s given)) (sym same.rows_are) (has s)) in
+    let numbers : (s : Setting) → numbers_for s is.given ≡ numbers_for s given = λ s. one_numbers s (values_in (name_of s) so.rows) (numbers_for s is.given) (numbers_for s given)
+    (added_numbers so.rows is.plain is.given so.adds s) (subst (λ (rs : List Row). AreNumbers s (values_in (name_of s) rs) (numbers_for s given)) (sym same.rows_are) (has s)) in
     let plain : is.plain ≡ values_in word_id rows = sym so.adds.plain_are ∙ ap (λ (rs : List Row). values_in word_id rs) same.rows_are in
     none j (subst (λ (c : Text). IsJobOf c (values_in word_id rows) given j) same.command
     (subst (λ (ws : List Text). IsJobOf is.command ws given j) plain (same_job is.given given numbers is.command is.plain j is.asked)))

@@ -1,10 +1,10 @@
 -- The names of the settings, and their numbers.
-use Rattle.std.proofs.Common.{◌≡◌, ℕ, ◌+◌, ◌-◌, ◌*◌, List, [], ◌∷◌, ◌++◌, drop, Some, refl, sym, ap, ◌∙◌}
+use Rattle.std.proofs.Common.{◌≡◌, ℕ, ◌+◌, ◌-◌, ◌*◌, List, [], ◌∷◌, ◌++◌, drop, Some, refl, sym, ap, subst, ◌∙◌}
 use Rattle.std.proofs.lemmas.Option.{same_Some}
 use Rattle.command_words.specs.declared.settings.Setting.{Setting}
-use Rattle.command_words.specs.declared.settings.Setting.TheVariants.{Ratio, Budget, Mask, Gap, Jump, Arc, Step, First, Count}
-use Rattle.command_words.specs.Numbers.{IsNumber, IsSatellite}
-use Rattle.command_words.specs.Settings.{name_of, setting_of, IsSetBy}
+use Rattle.command_words.specs.declared.settings.Setting.TheVariants.{Ratio, Budget, Mask, Gap, Jump, Arc, Step, First, Count, Bands, System}
+use Rattle.command_words.specs.Numbers.{IsNumber, IsLetter, IsSatellite}
+use Rattle.command_words.specs.Settings.{name_of, setting_of, IsValue, IsChosenBy}
 
 -- what begins with a setting's name is of that setting
 pub begins_with_name : (s : Setting) (text : List ℕ) → setting_of (name_of s ++ text) ≡ Some s
@@ -17,6 +17,8 @@ begins_with_name Arc text = refl
 begins_with_name Step text = refl
 begins_with_name First text = refl
 begins_with_name Count text = refl
+begins_with_name Bands text = refl
+begins_with_name System text = refl
 
 pub is_name : (s : Setting) → setting_of (name_of s) ≡ Some s
 is_name Ratio = refl
@@ -28,6 +30,8 @@ is_name Arc = refl
 is_name Step = refl
 is_name First = refl
 is_name Count = refl
+is_name Bands = refl
+is_name System = refl
 
 -- two settings whose names begin one text are one
 pub one_name : (text : List ℕ) (s r : Setting) → setting_of text ≡ Some s → setting_of text ≡ Some r → s ≡ r
@@ -44,6 +48,8 @@ no_longer_name Arc digits h = absurd (cc h)
 no_longer_name Step digits h = absurd (cc h)
 no_longer_name First digits h = absurd (cc h)
 no_longer_name Count digits h = absurd (cc h)
+no_longer_name Bands digits h = absurd (cc h)
+no_longer_name System digits h = absurd (cc h)
 
 -- what is behind a first part is one text
 pub same_behind : (front xs ys : List ℕ) → front ++ xs ≡ front ++ ys → xs ≡ ys
@@ -53,15 +59,41 @@ same_behind (b ∷ front) xs ys h = same_behind front xs ys (ap (λ (t : List �
 pub one_number : (word : List ℕ) (m n : ℕ) → IsNumber word m → IsNumber word n → m ≡ n
 one_number word m n first second = first.value ∙ sym second.value
 
-pub one_satellite : (word : List ℕ) (m n : ℕ) → IsSatellite word m → IsSatellite word n → m ≡ n
-one_satellite word m n first second =
+one_letter : (word : List ℕ) (m n : ℕ) → IsLetter word m → IsLetter word n → m ≡ n
+one_letter word m n first second = cc (first.word_is, second.word_is)
+
+-- a word sets a setting to one number
+pub one_value : (s : Setting) (word : List ℕ) (m n : ℕ) → IsValue s word m → IsValue s word n → m ≡ n
+one_value System word m n first second = one_letter word m n first second
+one_value Ratio word m n first second = one_number word m n first second
+one_value Budget word m n first second = one_number word m n first second
+one_value Mask word m n first second = one_number word m n first second
+one_value Gap word m n first second = one_number word m n first second
+one_value Jump word m n first second = one_number word m n first second
+one_value Arc word m n first second = one_number word m n first second
+one_value Step word m n first second = one_number word m n first second
+one_value First word m n first second = one_number word m n first second
+one_value Count word m n first second = one_number word m n first second
+one_value Bands word m n first second = one_number word m n first second
+
+pub one_system : (word : List ℕ) (k l m n : ℕ) → IsSatellite word k m → IsSatellite word l n → k ≡ l
+one_system word k l m n first second = cc (first.word_is, second.word_is)
+
+pub one_satellite : (word : List ℕ) (k l m n : ℕ) → IsSatellite word k m → IsSatellite word l n → m ≡ n
+one_satellite word k l m n first second =
     let tens : first.tens ≡ second.tens = cc (first.word_is, second.word_is) in
     let ones : first.ones ≡ second.ones = cc (first.word_is, second.word_is) in
     let same : 10 * (first.tens - 48) + (first.ones - 48) ≡ 10 * (second.tens - 48) + (second.ones - 48) = cc (tens, ones) in
     first.value ∙ same ∙ sym second.value
 
 -- a setting is set to one number
-pub one_set : (given : List ℕ) (least most plain m n : ℕ) → IsSetBy given least most plain m → IsSetBy given least most plain n → m ≡ n
-one_set [] least most plain m n first second = first ∙ sym second
-one_set (v ∷ []) least most plain m n first second = first.0 ∙ sym second.0
-one_set (v ∷ w ∷ vs) least most plain m n first second = absurd first
+pub one_choice : (given : List ℕ) (admits : ℕ → Type 0) (plain m n : ℕ) → IsChosenBy given admits plain m → IsChosenBy given admits plain n → m ≡ n
+one_choice [] admits plain m n first second = first ∙ sym second
+one_choice (v ∷ []) admits plain m n first second = first.0 ∙ sym second.0
+one_choice (v ∷ w ∷ vs) admits plain m n first second = absurd first
+
+-- what is chosen is admitted
+pub choice_admitted : (given : List ℕ) (admits : ℕ → Type 0) (plain n : ℕ) → admits plain → IsChosenBy given admits plain n → admits n
+choice_admitted [] admits plain n of_plain is = subst admits (sym is) of_plain
+choice_admitted (v ∷ []) admits plain n of_plain is = subst admits (sym is.0) is.1
+choice_admitted (v ∷ w ∷ vs) admits plain n of_plain is = absurd is

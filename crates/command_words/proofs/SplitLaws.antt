@@ -13,11 +13,11 @@ use Rattle.command_words.specs.Commands.{word_id, is_among, free, IsCommand, put
 use Rattle.command_words.proofs.Steps.{nothing_pending, word_pending, option_pending, ends_before, ends_after, fails_at, IsPlainWord, word_steps, further_steps, separator_steps, name_steps, joined_steps, value_steps, unknown_fails, waiting_ends, flag_for_value, separator_for_value}
 use Rattle.command_words.proofs.Values.{put_same, put_other}
 use Rattle.command_words.specs.declared.settings.Setting.{Setting}
-use Rattle.command_words.specs.declared.settings.Setting.TheVariants.{Ratio, Budget, Mask, Gap, Jump, Arc, Step, First, Count}
+use Rattle.command_words.specs.declared.settings.Setting.TheVariants.{Ratio, Budget, Mask, Gap, Jump, Arc, Step, First, Count, Bands, System}
 use Rattle.command_words.specs.declared.settings.Given.{Given}
-use Rattle.command_words.specs.Numbers.{IsNumber}
+use Rattle.command_words.specs.Numbers.{IsNumber, IsLetter}
 use Rattle.decimal_text.specs.Whole.{are_digits}
-use Rattle.command_words.specs.Settings.{name_of, place_of, is_same, numbers_for, setting_of}
+use Rattle.command_words.specs.Settings.{name_of, place_of, is_same, numbers_for, setting_of, IsValue}
 use Rattle.command_words.specs.Parts.{Piece, Plain, Apart, Joined, is_ordinary, IsPiece, words_of_piece, plain_of_piece, given_of_piece, ArePieces, words_of, plain_of, given_of, IsBehind, AreParted}
 use Rattle.command_words.specs.Split.{AreNumbers, AreAll}
 use Rattle.command_words.proofs.SettingLaws.{is_name, one_name}
@@ -34,6 +34,8 @@ names_apart Arc = (refl, refl)
 names_apart Step = (refl, refl)
 names_apart First = (refl, refl)
 names_apart Count = (refl, refl)
+names_apart Bands = (refl, refl)
+names_apart System = (refl, refl)
 
 pub named_word : (s : Setting) → (bytes_eq (45 ∷ 45 ∷ name_of s) (45 ∷ 45 ∷ []) ≡ false) × (long_of (45 ∷ 45 ∷ name_of s) ≡ Some (name_of s, None))
 named_word Ratio = (refl, refl)
@@ -45,6 +47,8 @@ named_word Arc = (refl, refl)
 named_word Step = (refl, refl)
 named_word First = (refl, refl)
 named_word Count = (refl, refl)
+named_word Bands = (refl, refl)
+named_word System = (refl, refl)
 
 pub joined_word : (s : Setting) (d : Text) → (bytes_eq (45 ∷ 45 ∷ (name_of s ++ 61 ∷ d)) (45 ∷ 45 ∷ []) ≡ false) × (long_of (45 ∷ 45 ∷ (name_of s ++ 61 ∷ d)) ≡ Some (name_of s, Some d))
 joined_word Ratio d = (refl, refl)
@@ -56,8 +60,10 @@ joined_word Arc d = (refl, refl)
 joined_word Step d = (refl, refl)
 joined_word First d = (refl, refl)
 joined_word Count d = (refl, refl)
+joined_word Bands d = (refl, refl)
+joined_word System d = (refl, refl)
 
-at_place : (s : Setting) → get_or (Ratio ∷ Budget ∷ Mask ∷ Gap ∷ Jump ∷ Arc ∷ Step ∷ First ∷ Count ∷ []) (place_of s) Ratio ≡ s
+at_place : (s : Setting) → get_or (Ratio ∷ Budget ∷ Mask ∷ Gap ∷ Jump ∷ Arc ∷ Step ∷ First ∷ Count ∷ Bands ∷ System ∷ []) (place_of s) Ratio ≡ s
 at_place Ratio = refl
 at_place Budget = refl
 at_place Mask = refl
@@ -67,6 +73,8 @@ at_place Arc = refl
 at_place Step = refl
 at_place First = refl
 at_place Count = refl
+at_place Bands = refl
+at_place System = refl
 
 pub is_itself : (s : Setting) → is_same s s ≡ true
 is_itself Ratio = refl
@@ -78,11 +86,13 @@ is_itself Arc = refl
 is_itself Step = refl
 is_itself First = refl
 is_itself Count = refl
+is_itself Bands = refl
+is_itself System = refl
 
 pub same_setting : (s r : Setting) → is_same s r ≡ true → s ≡ r
 same_setting s r same =
     let places : place_of s ≡ place_of r = grind (arith, nat_tests) in
-    sym (at_place s) ∙ ap (λ (n : ℕ). get_or (Ratio ∷ Budget ∷ Mask ∷ Gap ∷ Jump ∷ Arc ∷ Step ∷ First ∷ Count ∷ []) n Ratio) places ∙ at_place r
+    sym (at_place s) ∙ ap (λ (n : ℕ). get_or (Ratio ∷ Budget ∷ Mask ∷ Gap ∷ Jump ∷ Arc ∷ Step ∷ First ∷ Count ∷ Bands ∷ System ∷ []) n Ratio) places ∙ at_place r
 
 other_names : (s r : Setting) → is_same s r ≡ false → bytes_eq (name_of s) (name_of r) ≡ false
 other_names s r other = go (bytes_eq (name_of s) (name_of r)) refl
@@ -99,7 +109,7 @@ pub record Adds (rows final : List Row) (plain : List Text) (given : List Given)
   pub plain_are : values_in word_id final ≡ values_in word_id rows ++ plain
   pub texts : Setting → List Text
   pub texts_are : (s : Setting) → values_in (name_of s) final ≡ values_in (name_of s) rows ++ texts s
-  pub numbers : (s : Setting) → AreNumbers (texts s) (numbers_for s given)
+  pub numbers : (s : Setting) → AreNumbers s (texts s) (numbers_for s given)
 
 adds_nothing : (rows : List Row) → Adds rows rows [] []
 adds_nothing rows = record { plain_are = sym (append-nil _); texts = λ _. []; texts_are = λ s. sym (append-nil _); numbers = λ s. tt }
@@ -115,7 +125,7 @@ adds_word rows final word plain given more = record {
 texts_with : Setting → Text → (Setting → List Text) → Setting → List Text
 texts_with s d texts r = if is_same s r then d ∷ texts r else texts r
 
-adds_option : (rows final : List Row) (s : Setting) (d : Text) (n : ℕ) (plain : List Text) (given : List Given) → IsNumber d n → Adds (put (name_of s) d rows) final plain given
+adds_option : (rows final : List Row) (s : Setting) (d : Text) (n : ℕ) (plain : List Text) (given : List Given) → IsValue s d n → Adds (put (name_of s) d rows) final plain given
     → Adds rows final plain (record { setting = s; number = n } ∷ given)
 unfolding texts_with
 adds_option rows final s d n plain given is more = record {
@@ -135,9 +145,10 @@ adds_option rows final s d n plain given is more = record {
         more.texts_are r ∙ ap (λ (ws : List Text). ws ++ more.texts r) (put_other (name_of s) (name_of r) d rows (other_names s r e))
         ∙ ap (λ (b : Bool). values_in (name_of r) rows ++ (if b then d ∷ more.texts r else more.texts r)) (sym e)
 
-    numbers_of : (r : Setting) (b : Bool) → is_same s r ≡ b → AreNumbers (texts_with s d more.texts r) (numbers_for r (record { setting = s; number = n } ∷ given))
-    numbers_of r true e = subst (λ (b : Bool). AreNumbers (if b then d ∷ more.texts r else more.texts r) (if b then n ∷ numbers_for r given else numbers_for r given)) (sym e) (is, more.numbers r)
-    numbers_of r false e = subst (λ (b : Bool). AreNumbers (if b then d ∷ more.texts r else more.texts r) (if b then n ∷ numbers_for r given else numbers_for r given)) (sym e) (more.numbers r)
+    numbers_of : (r : Setting) (b : Bool) → is_same s r ≡ b → AreNumbers r (texts_with s d more.texts r) (numbers_for r (record { setting = s; number = n } ∷ given))
+    numbers_of r true e = subst (λ (b : Bool). AreNumbers r (if b then d ∷ more.texts r else more.texts r) (if b then n ∷ numbers_for r given else numbers_for r given)) (sym e)
+        (subst (λ (t : Setting). IsValue t d n) (same_setting s r e) is, more.numbers r)
+    numbers_of r false e = subst (λ (b : Bool). AreNumbers r (if b then d ∷ more.texts r else more.texts r) (if b then n ∷ numbers_for r given else numbers_for r given)) (sym e) (more.numbers r)
 
 -- ---- parted words pass
 
@@ -185,7 +196,7 @@ plain_word (b ∷ c ∷ bs) h = go (b == 45) refl
     go false e = record { no_separator = apart e (bytes_eq (b ∷ c ∷ bs) (45 ∷ 45 ∷ [])) refl; no_long = rw e refl; no_short = rw e refl }
 
 -- a number is an ordinary word
-pub number_word : (d : Text) (n : ℕ) → IsNumber d n → IsTrue (is_ordinary d)
+number_word : (d : Text) (n : ℕ) → IsNumber d n → IsTrue (is_ordinary d)
 number_word [] n is = refl
 number_word (b ∷ []) n is = refl
 number_word (b ∷ c ∷ bs) n is = go (b == 45) refl
@@ -195,6 +206,25 @@ number_word (b ∷ c ∷ bs) n is = go (b == 45) refl
     go true e =
         let dash : b ≡ 45 = grind (arith, nat_tests) in
         absurd (cc (subst (λ (m : ℕ). are_digits (m ∷ c ∷ bs) ≡ true) dash is.digits))
+
+letter_word : (d : Text) (n : ℕ) → IsLetter d n → IsTrue (is_ordinary d)
+letter_word [] n is = refl
+letter_word (b ∷ []) n is = refl
+letter_word (b ∷ c ∷ bs) n is = absurd (cc is.word_is)
+
+-- and so is each value
+pub value_word : (s : Setting) (d : Text) (n : ℕ) → IsValue s d n → IsTrue (is_ordinary d)
+value_word System d n is = letter_word d n is
+value_word Ratio d n is = number_word d n is
+value_word Budget d n is = number_word d n is
+value_word Mask d n is = number_word d n is
+value_word Gap d n is = number_word d n is
+value_word Jump d n is = number_word d n is
+value_word Arc d n is = number_word d n is
+value_word Step d n is = number_word d n is
+value_word First d n is = number_word d n is
+value_word Count d n is = number_word d n is
+value_word Bands d n is = number_word d n is
 
 -- the settings that are given are among the options
 abbrev pub AreKnown : List Text → List Given → Type 0
@@ -226,7 +256,7 @@ passes sh options r rows p skip was_word (Apart s d n ∷ pieces) behind further
     record {
       final = rest.final;
       ends = ends_before sh _ _ (45 ∷ 45 ∷ name_of s) (d ∷ (words_of pieces ++ behind)) rest.final (name_steps sh options r rows p skip was_word (45 ∷ 45 ∷ name_of s) (name_of s) is settled (named_word s).0 (named_word s).1 known.0)
-          (ends_before sh _ _ d (words_of pieces ++ behind) rest.final (value_steps sh options rows skip (name_of s) d is known.0 (plain_word d (number_word d n are.0))) rest.ends);
+          (ends_before sh _ _ d (words_of pieces ++ behind) rest.final (value_steps sh options rows skip (name_of s) d is known.0 (plain_word d (value_word s d n are.0))) rest.ends);
       adds = adds_option rows rest.final s d n (plain_of pieces ++ further) (given_of pieces) are.0 rest.adds;
     }
 passes sh options r rows p skip was_word (Joined s d n ∷ pieces) behind further is settled are is_behind known =
@@ -288,16 +318,16 @@ pub record Found (words : List Text) (rows final : List Row) : Type 0 where
   pub parted : AreParted words plain given
   pub adds : Adds rows final plain given
 
-one_of : (xs : List Text) (t : Text) (ys : List Text) → AreAll (xs ++ t ∷ ys) → (n : ℕ) × IsNumber t n
-one_of [] t ys all = all.0
-one_of (x ∷ xs) t ys all = one_of xs t ys all.1
+one_of : (s : Setting) (xs : List Text) (t : Text) (ys : List Text) → AreAll s (xs ++ t ∷ ys) → (n : ℕ) × IsValue s t n
+one_of s [] t ys all = all.0
+one_of s (x ∷ xs) t ys all = one_of s xs t ys all.1
 
 -- the value of an option is among those at the end
-its_number : (rows final : List Row) (s : Setting) (t : Text) (plain : List Text) (given : List Given) → Adds (put (name_of s) t rows) final plain given → AreAll (values_in (name_of s) final) → (n : ℕ) × IsNumber t n
+its_number : (rows final : List Row) (s : Setting) (t : Text) (plain : List Text) (given : List Given) → Adds (put (name_of s) t rows) final plain given → AreAll s (values_in (name_of s) final) → (n : ℕ) × IsValue s t n
 its_number rows final s t plain given adds all =
     let values : values_in (name_of s) final ≡ values_in (name_of s) rows ++ t ∷ adds.texts s =
     adds.texts_are s ∙ ap (λ (ws : List Text). ws ++ adds.texts s) (put_same (name_of s) t rows) ∙ append_assoc (values_in (name_of s) rows) (t ∷ []) (adds.texts s) in
-    one_of (values_in (name_of s) rows) t (adds.texts s) (subst AreAll values all)
+    one_of s (values_in (name_of s) rows) t (adds.texts s) (subst (AreAll s) values all)
 
 rows_at_end : (sh : Shape) (w : Walk) (rows final : List Row) → IsSettled sh w.held rows → Ends sh w [] final → rows ≡ final
 rows_at_end sh w rows final settled ends = sym settled.rows_are ∙ ends.settled.rows_are
@@ -325,7 +355,7 @@ one_piece piece words rows final found is = record {
 pub record Knows (sh : Shape) (options : List Text) (final : List Row) : Type 0 where
   pub is : IsCommand sh options
   pub setting : (name : Text) → is_among name options ≡ true → (s : Setting) × (name ≡ name_of s)
-  pub numbers : (s : Setting) → AreAll (values_in (name_of s) final)
+  pub numbers : (s : Setting) → AreAll s (values_in (name_of s) final)
 
 abbrev pub FoundAt : Shape → List Row → ℕ → List Text → Type 0
 FoundAt sh final skip words = (r rows : List Row) (p : Option (Text × List Text)) (was_word : Bool) → IsSettled sh (record { rows = r; pending = p; skip = skip }) rows → has_short words ≡ false

@@ -6,6 +6,7 @@ use Rattle.command_words.specs.declared.jobs.Job.{Job}
 use Rattle.command_words.specs.declared.fault.WordFault.TheVariants.{Usage}
 use Rattle.command_words.specs.Commands.{values_in, word_id}
 use Rattle.command_words.specs.Words.{IsJobOf, texts_of}
+use Rattle.command_words.proofs.OneJob.{in_range}
 use Rattle.command_words.proofs.ReadLaws.{err_is, is_job, no_numbers, not_asked_so, not_split}
 use Rattle.command_words.proofs.jobs.read_words.Goals as goal
 
@@ -22,6 +23,9 @@ returns-in-Ok-clause-job c =
     let given = c.in-Ok.parted.given.items in
     IfOk-weaker c.job_of.result _ _ (λ j asked. is_job (texts_of c.args.words.now) command rows given c.in_ok-line.ensures.ok c.in-Ok.ensures.given j
     (subst (λ (name : Text). IsJobOf name (values_in word_id rows) given j) c.as_bytes.ensures.value (subst (λ (ws : List Text). IsJobOf c.as_bytes.result.now ws given j) c.in-Ok.ensures.plain asked))) c.job_of.ensures.job
+
+pub returns-in-Ok-clause-range : goal.returns-in-Ok-clause-range
+returns-in-Ok-clause-range c = IfOk-weaker c.job_of.result _ _ (λ j asked. in_range _ _ _ j asked) c.job_of.ensures.job
 
 pub returns-in-Ok-clause-usage : goal.returns-in-Ok-clause-usage
 returns-in-Ok-clause-usage c = λ is.

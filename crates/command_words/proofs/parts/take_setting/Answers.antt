@@ -17,7 +17,7 @@ returns-in-Some-clause-numbers c =
 pub returns-in-Some-clause-usage : goal.returns-in-Some-clause-usage
 returns-in-Some-clause-usage c =
     let texts = some_texts (found_of c.args.matches.now) c.name.result.now _ c.in-Some.ensures ∙ ap (λ (id : Text). values_in id (rows_of (found_of c.args.matches.now))) c.name.ensures in
-    subst (λ (ts : List Text). IsErrOf c.take_numbers.result Usage → AreAll ts → ⊥) texts c.take_numbers.ensures.usage
+    subst (λ (ts : List Text). IsErrOf c.take_numbers.result Usage → AreAll c.args.setting ts → ⊥) texts c.take_numbers.ensures.usage
 
 pub returns-in-None-clause-numbers : goal.returns-in-None-clause-numbers
 returns-in-None-clause-numbers c =
