@@ -10,7 +10,7 @@ use Rattle.rinex_head.specs.Places.{flawed, place, at_line}
 use Rattle.rinex_head.specs.declared.place.TextFault.{TextFault}
 use Rattle.rinex_head.specs.declared.place.TextFault.TheVariants.{Refused, NoMemory}
 use Rattle.rinex_head.specs.declared.system.System.{System}
-use Rattle.rinex_head.specs.Walk.{admitted, walk, Gives, FailsBy}
+use Rattle.rinex_head.specs.Walk.{Rules, admitted, walk, Gives, FailsBy}
 use Rattle.rinex_head.proofs.Walks.{gives_same}
 use Rattle.rinex_head.proofs.Stops.{refused_exit, first_exit}
 use Rattle.obs_store.specs.declared.file.ObsFile.{ObsFile}
@@ -58,32 +58,46 @@ ends_slices bytes k found =
     let behind : drop (suc k) bytes ≡ take (length bytes - (k + 1)) (drop (k + 1) bytes) = ap (λ j. drop j bytes) next ∙ sym (tail_is (k + 1) bytes) in
     subst (λ l. EndsLine bytes (take k bytes) l) behind (ends_at bytes k found.0.high found.0.before found.1)
 
+pub front_slices : (bytes : List ℕ) (k : ℕ) → NoneBefore (Passes (is_byte 10) bytes) 0 (length bytes) k × Passes (is_byte 10) bytes k → take k bytes ≡ take (length (take k bytes)) bytes
+front_slices bytes k found = let inside : k < length bytes = found.0.high in let count : length (take k bytes) ≡ k = omega (arith, inside, length-take k bytes) in ap (λ n. take n bytes) (sym count)
+
+-- ---- lines that are too long
+
+strip-length : (l : List ℕ) → length l ≤ length (strip_carriage_return l) + 1
+strip-length l = by_test (slice_index l (length l - 1) == 13) refl
+  where
+    by_test : (t : Bool) → (slice_index l (length l - 1) == 13) ≡ t → length l ≤ length (strip_carriage_return l) + 1
+    by_test true is = rw is (simp length-take (omega arith))
+    by_test false is = rw is (omega arith)
+
+pub long_stripped : (line : List ℕ) → 4097 < length line → 4096 < length (strip_carriage_return line)
+long_stripped line long = omega (arith, strip-length line)
+
+-- the first of the lines is too long
+abbrev pub BeginsLong : List (List ℕ) → Type 0
+BeginsLong [] = ⊥
+BeginsLong (line ∷ lines) = 4096 < length line
+
+-- a line that has begun may be too long already, whatever follows it
+pub long_begins : (more line : List ℕ) → 4097 < length line → BeginsLong (lines_from more line)
+long_begins [] [] long = absurd (omega arith)
+long_begins [] (c ∷ cs) long = omega arith
+long_begins (b ∷ more) line long = by_feed (long_begins more (line ++ b ∷ []) (simp length-append (omega arith))) (b == 10) refl
+  where
+    by_feed : BeginsLong (lines_from more (line ++ b ∷ [])) → (t : Bool) → (b == 10) ≡ t → BeginsLong (lines_from (b ∷ more) line)
+    by_feed again true is = rw is (long_stripped line long)
+    by_feed again false is = rw is again
+
+-- it is refused, whatever is expected
+pub long_refused : {S F : Type 0} (rules : Rules S F) (s : S) (n : ℕ) (lines : List (List ℕ)) → BeginsLong lines → walk rules lines n s ≡ Err (place (n + 1) 1 LongLine)
+unfolding walk
+long_refused rules s n [] long = absurd long
+long_refused rules s n (line ∷ lines) long = let test : nat_lt 4096 (length line) ≡ true = grind (arith, nat_tests) in rw test refl
+
 module _ (system : System) where
-  -- ---- lines that are too long
-
-  strip-length : (l : List ℕ) → length l ≤ length (strip_carriage_return l) + 1
-  strip-length l = by_test (slice_index l (length l - 1) == 13) refl
-    where
-      by_test : (t : Bool) → (slice_index l (length l - 1) == 13) ≡ t → length l ≤ length (strip_carriage_return l) + 1
-      by_test true is = rw is (simp length-take (omega arith))
-      by_test false is = rw is (omega arith)
-
-  pub long_admitted : (s : Expected) (line : List ℕ) → 4096 < length line → admitted (obs_rules system) s line ≡ flawed 1 LongLine
-  long_admitted s line long = let test : nat_lt 4096 (length line) ≡ true = grind (arith, nat_tests) in rw test refl
-
-  pub long_stripped : (s : Expected) (line : List ℕ) → 4097 < length line → admitted (obs_rules system) s (strip_carriage_return line) ≡ flawed 1 LongLine
-  long_stripped s line long = long_admitted s (strip_carriage_return line) (omega (arith, strip-length line))
-
   -- a line that has begun may be too long already
   pub gives_long : (n : ℕ) (line : List ℕ) (s : Expected) (more : List ℕ) → 4097 < length line → gives_with system n line s more ≡ Err (place (n + 1) 1 LongLine)
-  unfolding walk
-  gives_long n [] s [] long = absurd (omega arith)
-  gives_long n (c ∷ cs) s [] long = rw (long_admitted s (c ∷ cs) (omega arith)) refl
-  gives_long n line s (b ∷ more) long = by_feed (gives_long n (line ++ b ∷ []) s more (simp length-append (omega arith))) (b == 10) refl
-    where
-      by_feed : gives_with system n (line ++ b ∷ []) s more ≡ Err (place (n + 1) 1 LongLine) → (t : Bool) → (b == 10) ≡ t → gives_with system n line s (b ∷ more) ≡ Err (place (n + 1) 1 LongLine)
-      by_feed again true is = ap (λ (l : List (List ℕ)). walk (obs_rules system) l n s) (ends_byte b more line is) ∙ rw (long_stripped s line long) refl
-      by_feed again false is = ap (λ (l : List (List ℕ)). walk (obs_rules system) l n s) (goes_byte b more line is) ∙ again
+  gives_long n line s more long = long_refused (obs_rules system) s n (lines_from more line) (long_begins more line long)
 
   -- ---- one more line
 

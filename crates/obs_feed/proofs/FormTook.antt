@@ -6,10 +6,11 @@ use Rattle.obs_store.specs.declared.file.ObsFile.{ObsFile}
 use Rattle.obs_store.specs.declared.series.Epoch.{Epoch}
 use Rattle.obs_store.specs.declared.values.SatObs.{SatObs}
 use Rattle.rinex_head.specs.declared.place.What.{What}
-use Rattle.rinex_head.specs.declared.place.What.TheVariants.{Version, NoEnd, Truncated}
+use Rattle.rinex_head.specs.declared.place.What.TheVariants.{NoEnd, Truncated}
 use Rattle.rinex_head.specs.declared.place.Flaw.{Flaw}
 use Rattle.rinex_head.specs.Places.{and_then, flawed, at_line}
 use Rattle.rinex_head.specs.declared.system.System.{System}
+use Rattle.rinex_head.specs.Systems.{bad_version}
 use Rattle.rinex_head.specs.Walk.{walk}
 use Rattle.rinex_head.proofs.Walks.{walk-end, TookLine, walk-took}
 use Rattle.obs_feed.specs.FirstLine.{first_line_of}
@@ -358,7 +359,7 @@ module _ (system : System) where
   -- ---- the file
 
   pub file_took : (lines : List (List ℕ)) (file : ObsFile) → walk (obs_rules system) lines 0 (First system) ≡ Ok file → IsObsFile system lines file
-  file_took [] file gives = absurd (no_file 0 Version file (sym (walk-end (obs_rules system) (First system) 0) ∙ gives))
+  file_took [] file gives = absurd (no_file 0 (bad_version system) file (sym (walk-end (obs_rules system) (First system) 0) ∙ gives))
   file_took (bytes ∷ lines) file gives = by_part (first_line_of system bytes) refl first.admits
     where
       first : TookLine (obs_rules system) (First system) bytes lines 0 file

@@ -1,13 +1,12 @@
 // An observation file of either format that is taken in pieces.
-ghost use Rattle.std.specs.Prelude.{◌≡◌, ◌+◌, ◌≤◌, ◌<◌, ◌++◌, List, ℕ, [], length, OnOk, OnErr, IfOk, IfSome, IfNone, IsErr, Err, true, false};
-ghost use Rattle.line_source.specs.Lines.{lines_of};
+ghost use Rattle.std.specs.Prelude.{◌≡◌, ◌+◌, ◌≤◌, ◌++◌, List, ℕ, [], length, take, OnOk, OnErr, IfOk, IfSome, IfNone, IsErr, Err};
 ghost use Rattle.std.specs.Str.Lines.{strip_carriage_return};
 ghost use Rattle.rinex_head.specs.declared.system.System.TheVariants.{Gps};
-ghost use Rattle.obs_feed.specs.Started.{GoesOn};
+ghost use Rattle.obs_feed.specs.Started.{EndsLine, GoesOn};
 ghost use Rattle.obs_feed.specs.ObsRules.{obs_of};
 ghost use Rattle.rinex2_obs.specs.Obs2Rules.{obs2_of};
 ghost use Rattle.obs_source.specs.Formats.{begins_2};
-ghost use Rattle.obs_source.specs.Taking.{IsOfBytes, IsOfBytes-prop, IsReadBy, StandsForText, IsAnswer};
+ghost use Rattle.obs_source.specs.Taking.{IsKeptOf, IsKeptOf-prop, IsReadBy, IsFirstOf, StandsForText, HasNoMemory, IsAnswer};
 
 use line_source::{Line, Taker, without_return};
 use obs_feed::{Feed, Overlong, StartedLine, split_line};
@@ -35,20 +34,25 @@ pub enum Source {
 fn begins_2(line: &[u8]) -> bool
     ensures { result ≡ begins_2 line.now }
 {
-    if head_line(&Line {
+    let head = head_line(&Line {
         number: 1,
         bytes: line,
-    })
-    .label
-        != FIRST_LABEL
-    {
+    });
+    if head.label != FIRST_LABEL {
         return false;
     }
-    matches!(fixed(&field::<9>(line, 1), 2), Ok(hundredths) if hundredths >= 200 && hundredths <= 299)
+    match fixed(&field::<9>(line, 1), 2) {
+        Ok(hundredths) => hundredths >= 200 && hundredths <= 299,
+        Err(_) => false,
+    }
 }
 
-// The text of these two parts is fed to a reader of RINEX 3.
+// The text of these two parts, which is read as RINEX 3, is fed to its reader.
 fn feed_of(alloc: Global, line: &[u8], rest: &[u8]) -> Result<Source, AllocError>
+    requires few { length line.now + length rest.now ≤ 67108864 }
+    requires reads { IsReadBy Gps (λ lines. obs_of Gps lines) (line.now ++ rest.now) }
+    ensures kept { IfOk result (λ s. IsKeptOf Gps s (length line.now + length rest.now)) }
+    ensures stands { IfOk result (λ s. StandsForText Gps s (line.now ++ rest.now)) }
 {
     let mut feed = Feed::new(alloc, System::Gps);
     feed.take(line)?;
@@ -56,8 +60,12 @@ fn feed_of(alloc: Global, line: &[u8], rest: &[u8]) -> Result<Source, AllocError
     Ok(Source::Three(feed))
 }
 
-// The text of these two parts is kept for a reader of RINEX 2.
+// The text of these two parts, which is read as RINEX 2, is kept.
 fn kept_of(alloc: Global, line: &[u8], rest: &[u8]) -> Result<Source, AllocError>
+    requires few { length line.now + length rest.now ≤ 67108864 }
+    requires reads { IsReadBy Gps obs2_of (line.now ++ rest.now) }
+    ensures kept { IfOk result (λ s. IsKeptOf Gps s (length line.now + length rest.now)) }
+    ensures stands { IfOk result (λ s. StandsForText Gps s (line.now ++ rest.now)) }
 {
     let mut bytes = Vec::new(alloc);
     bytes.extend_from_slice(line)?;
@@ -65,8 +73,12 @@ fn kept_of(alloc: Global, line: &[u8], rest: &[u8]) -> Result<Source, AllocError
     Ok(Source::Two(bytes))
 }
 
-// The text whose first line is this one, with a line feed behind it.
+// The text of these two parts, the first of which is its first line.
 fn begin(alloc: Global, line: &[u8], rest: &[u8]) -> Result<Source, AllocError>
+    requires few { length line.now + length rest.now ≤ 67108864 }
+    requires first { IsFirstOf (strip_carriage_return line.now) (line.now ++ rest.now) }
+    ensures kept { IfOk result (λ s. IsKeptOf Gps s (length line.now + length rest.now)) }
+    ensures stands { IfOk result (λ s. StandsForText Gps s (line.now ++ rest.now)) }
 {
     if begins_2(without_return(line)) {
         kept_of(alloc, line, rest)
@@ -75,21 +87,73 @@ fn begin(alloc: Global, line: &[u8], rest: &[u8]) -> Result<Source, AllocError>
     }
 }
 
-// The first line goes on with the piece. Where it ends in it, or is too long, the format is known.
-fn go_on(alloc: Global, line: &mut StartedLine, piece: &[u8]) -> Result<Option<Source>, AllocError>
+// The first line ends in the piece, behind these bytes of it.
+fn end_line(
+    alloc: Global,
+    line: &mut StartedLine,
+    front: &[u8],
+    piece: &[u8],
+) -> Result<Source, AllocError>
+    requires few { length line.old + length piece.now ≤ 67108864 }
+    requires goes_on { GoesOn line.old }
+    requires front { front.now ≡ take (length front.now) piece.now }
+    requires ends { (behind : List ℕ) × EndsLine piece.now front.now behind }
+    ensures kept { IfOk result (λ s. IsKeptOf Gps s (length line.old + length piece.now)) }
+    ensures stands { IfOk result (λ s. StandsForText Gps s (line.old ++ piece.now)) }
 {
-    let (front, ends) = match split_line(piece) {
-        Some((front, _)) => (front, true),
-        None => (piece, false),
-    };
     match line.extend(front) {
-        Ok(()) => {}
-        Err(Overlong) => return Ok(Some(feed_of(alloc, line.as_slice(), piece)?)),
+        Ok(()) => begin(alloc, line.as_slice(), &piece[front.len()..]),
+        Err(Overlong) => feed_of(alloc, line.as_slice(), piece),
     }
-    if !ends {
-        return Ok(None);
+}
+
+// The first line goes on with the piece. Where it ends in it, or is too long, the format is known.
+fn go_on(
+    alloc: Global,
+    line: &mut StartedLine,
+    piece: &[u8],
+) -> Result<Option<Source>, AllocError>
+    requires few { length line.old + length piece.now ≤ 67108864 }
+    requires goes_on { GoesOn line.old }
+    ensures line { IfOk result (λ found. IfNone found (line.new ≡ line.old ++ piece.now)) }
+    ensures goes_on { IfOk result (λ found. IfNone found (GoesOn line.new)) }
+    ensures kept { IfOk result (λ found. IfSome found (λ s. IsKeptOf Gps s (length line.old + length piece.now))) }
+    ensures stands { IfOk result (λ found. IfSome found (λ s. StandsForText Gps s (line.old ++ piece.now))) }
+{
+    if let Some((front, _)) = split_line(piece) {
+        return Ok(Some(end_line(alloc, line, front, piece)?));
     }
-    Ok(Some(begin(alloc, line.as_slice(), &piece[front.len()..])?))
+    match line.extend(piece) {
+        Ok(()) => Ok(None),
+        Err(Overlong) => Ok(Some(feed_of(alloc, line.as_slice(), piece)?)),
+    }
+}
+
+// Nothing was taken. For GPS the format isn't known yet.
+fn begun(alloc: Global, system: System) -> Source
+    ensures kept { IsKeptOf system result 0 }
+    ensures stands { StandsForText system result [] }
+{
+    match system {
+        System::Gps => Source::Begun(StartedLine::new()),
+        System::Galileo => Source::Three(Feed::new(alloc, System::Galileo)),
+    }
+}
+
+// What the text of a line without an end gives.
+fn read_line(alloc: Global, line: &[u8]) -> Result<ObsFile, TextFault>
+    requires few { length line.now ≤ 67108864 }
+    requires goes_on { GoesOn line.now }
+    ensures { IsAnswer Gps line.now result }
+{
+    if begins_2(line) {
+        return read_obs2(alloc, line);
+    }
+    let mut feed = Feed::new(alloc, System::Gps);
+    match feed.take(line) {
+        Ok(()) => feed.finish(),
+        Err(AllocError) => Err(TextFault::NoMemory),
+    }
 }
 
 /// Takes the text of an observation file piece by piece, for the satellites of one system. Of a file of RINEX 3 it holds
@@ -101,7 +165,7 @@ pub struct ObsTaker {
     taken: u32,
     source: Source,
     ghost few: { taken ≤ 67108864 },
-    ghost of_bytes: { IsOfBytes system source taken } by { IsOfBytes-prop system source taken },
+    ghost kept: { IsKeptOf system source taken } by { IsKeptOf-prop system source taken },
 }
 
 impl ObsTaker {
@@ -111,15 +175,11 @@ impl ObsTaker {
         ensures taken { ⟦<ObsTaker as Taker>⟧.taken result ≡ 0 }
         ensures stands { ⟦<ObsTaker as Taker>⟧.stands_for result [] }
     {
-        let source = match system {
-            System::Gps => Source::Begun(StartedLine::new()),
-            System::Galileo => Source::Three(Feed::new(alloc, system)),
-        };
         ObsTaker {
             alloc,
             system,
             taken: 0,
-            source,
+            source: begun(alloc, system),
         }
     }
 
@@ -127,6 +187,7 @@ impl ObsTaker {
     /// all texts for which the taker stands, however they were cut.
     pub fn finish(self) -> Result<ObsFile, TextFault>
         ensures answers { (text : List ℕ) → ⟦<ObsTaker as Taker>⟧.stands_for self text → IsAnswer self.system text result }
+        ensures no_memory { HasNoMemory self.source → result ≡ Err TextFault.NoMemory }
     {
         let alloc = self.alloc;
         match self.source {
@@ -135,19 +196,6 @@ impl ObsTaker {
             Source::Two(bytes) => read_obs2(alloc, &bytes),
             Source::NoMemory => Err(TextFault::NoMemory),
         }
-    }
-}
-
-// The file of one line without an end.
-fn read_line(alloc: Global, line: &[u8]) -> Result<ObsFile, TextFault>
-{
-    if begins_2(line) {
-        return read_obs2(alloc, line);
-    }
-    let mut feed = Feed::new(alloc, System::Gps);
-    match feed.take(line) {
-        Ok(()) => feed.finish(),
-        Err(AllocError) => Err(TextFault::NoMemory),
     }
 }
 
@@ -162,24 +210,37 @@ impl Taker for ObsTaker {
         ensures counted { OnOk result (self.new.taken ≡ self.old.taken + length piece.now) }
         ensures stands { OnOk result ((text : List ℕ) → StandsForText self.old.system self.old.source text → StandsForText self.new.system self.new.source (text ++ piece.now)) }
         ensures system { self.new.system ≡ self.old.system }
+        ensures no_memory { OnErr result (HasNoMemory self.new.source) }
+        ensures again { HasNoMemory self.old.source → IsErr result }
     {
         self.taken += piece.len() as u32;
-        let taken = match &mut self.source {
+        match &mut self.source {
             Source::Begun(line) => match go_on(self.alloc, line, piece) {
+                Ok(None) => Ok(()),
                 Ok(Some(source)) => {
                     self.source = source;
                     Ok(())
                 }
-                Ok(None) => Ok(()),
-                Err(AllocError) => Err(AllocError),
+                Err(AllocError) => {
+                    self.source = Source::NoMemory;
+                    Err(AllocError)
+                }
             },
-            Source::Three(feed) => feed.take(piece),
-            Source::Two(bytes) => bytes.extend_from_slice(piece),
+            Source::Three(feed) => match feed.take(piece) {
+                Ok(()) => Ok(()),
+                Err(AllocError) => {
+                    self.source = Source::NoMemory;
+                    Err(AllocError)
+                }
+            },
+            Source::Two(bytes) => match bytes.extend_from_slice(piece) {
+                Ok(()) => Ok(()),
+                Err(AllocError) => {
+                    self.source = Source::NoMemory;
+                    Err(AllocError)
+                }
+            },
             Source::NoMemory => Err(AllocError),
-        };
-        if taken.is_err() {
-            self.source = Source::NoMemory;
         }
-        taken
     }
 }

@@ -127,7 +127,7 @@ fn drops_what_follows_a_refusal(rt: HostRuntime) -> Result<(), Fail> {
     let refused = At {
         line: 1,
         column: 1,
-        what: What::Version,
+        what: What::ObsVersion,
     };
     let Ok(Err(ObsFault::Refused(at))) = fed(alloc, bad, 2, 4)? else {
         panic!(rt; "not refused");

@@ -218,8 +218,8 @@ fn refuses_headers(rt: HostRuntime) -> Result<(), Fail> {
     let system =
         "     3.04           OBSERVATION DATA    R                   RINEX VERSION / TYPE\n";
     let cases: [([&str; 3], u32, u32, What); 12] = [
-        (["", "", ""], 1, 1, What::Version),
-        (["\u{1f}", TYPES, END], 1, 1, What::Version),
+        (["", "", ""], 1, 1, What::ObsVersion),
+        (["\u{1f}", TYPES, END], 1, 1, What::ObsVersion),
         ([kind, TYPES, END], 1, 21, What::Kind),
         ([system, TYPES, END], 1, 41, What::Kind),
         ([FIRST, TYPES, ""], 3, 1, What::NoEnd),
