@@ -14,6 +14,7 @@ use Rattle.job_answers.specs.Statuses.{IsVerdictStatus, IsJobStatus}
 use Rattle.job_answers.specs.Endings.{Ending, EndsByFile}
 use Rattle.job_answers.specs.Delivered.{SinkChange}
 use Rattle.job_answers.proofs.EndingLaws.{verdict_at, job_status_at, verdict_whole}
+use Rattle.rinex_head.specs.Systems.{system_of}
 use Rattle.session_files.specs.SessionFiles.{StopsAtFiles}
 use Rattle.session_files.proofs.FileLaws.{files_status, no_stop}
 use Rattle.arcs_job.specs.ArcJobs.{ArcsEnd, ArcsEnds}
@@ -44,7 +45,7 @@ arcs_status told base rover nav o end (inl session) = elim (session.ends_so) [
   | inl arcs ↦ job_status_at end _ arcs.end_is tt
   | inr refused ↦ job_status_at end _ refused.end_is tt
 ]
-arcs_status told base rover nav o end (inr stops) = files_status told base rover nav end stops
+arcs_status told base rover nav o end (inr stops) = files_status (system_of o.system) told base rover nav end stops
 
 -- a refusal is that of one of the files, or of the two together
 pub arcs_whole : (told : List ℕ → Option (List ℕ)) (left : ℕ → Option (List ℕ)) (names : List (List ℕ)) (o : Options) (b r : ObsFile) (n : Records) (end : Ending)
@@ -58,7 +59,7 @@ arcs_verdict told base rover nav o end admitted no_fault (inl session) = elim (s
   | inl arcs ↦ verdict_at end _ arcs.end_is tt
   | inr refused ↦ absurd (never_refused told base rover nav o session.base_file session.rover_file session.records end admitted session.are refused)
 ]
-arcs_verdict told base rover nav o end admitted no_fault (inr stops) = absurd (no_stop told base rover nav end admitted.base_is admitted.rover_is admitted.nav_is no_fault stops)
+arcs_verdict told base rover nav o end admitted no_fault (inr stops) = absurd (no_stop (system_of o.system) told base rover nav end admitted.base_is admitted.rover_is admitted.nav_is no_fault stops)
 
 says_at : (told : List ℕ → Option (List ℕ)) (base rover nav : List ℕ) (o : Options) (end t : Ending) (out : SinkChange) → end ≡ t → SaysOfArcs told base rover nav o t.status out
     → SaysOfArcs told base rover nav o end.status out
@@ -88,7 +89,7 @@ arcs_says told base rover nav o end out (inr stops) written = stops_say stops
     stopped_says by_text (inr (inl large)) = says_at told base rover nav o end _ out large.end_is tt
     stopped_says by_text (inr (inr fault)) = says_at told base rover nav o end _ out fault tt
 
-    stops_say : StopsAtFiles told base rover nav end → SaysOfArcs told base rover nav o end.status out
+    stops_say : StopsAtFiles (system_of o.system) told base rover nav end → SaysOfArcs told base rover nav o end.status out
     stops_say (inl stops) = stopped_says (λ text refusal. says_at told base rover nav o end _ out refusal.end_is tt) stops
     stops_say (inr (inl stops)) = stopped_says (λ text refusal. says_at told base rover nav o end _ out refusal.end_is tt) stops.stops
     stops_say (inr (inr stops)) = stopped_says (λ text refusal. says_at told base rover nav o end _ out refusal.end_is tt) stops.stops

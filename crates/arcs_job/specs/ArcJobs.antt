@@ -9,40 +9,43 @@ use Rattle.epoch_pair.specs.declared.pairs.PairOf.{PairOf}
 use Rattle.used_svs.specs.declared.used.UsedPair.{UsedPair}
 use Rattle.slip_arcs.specs.Runs.{AreKept}
 use Rattle.slip_arcs.specs.Linked.{HaveDatums}
-use Rattle.screening.specs.Worlds.{world_of}
+use Rattle.system_world.specs.Worlds.{world_of}
 use Rattle.screening.specs.Screening.{setting_of, AreUsedPairs}
 use Rattle.run_options.specs.declared.options.Options.{Options}
-use Rattle.session_begin.specs.Beginnings.{IsPosition, bands_of, AreSignals, AreSparse, AreTaken}
+use Rattle.band_sets.specs.BandSets.{bands_of}
+use Rattle.rinex_head.specs.Systems.{system_of}
+use Rattle.session_begin.specs.Beginnings.{IsPosition, AreSignals, AreSparse, AreTaken}
 use Rattle.pair_refusals.specs.Refusals.{IsPairRefused}
 use Rattle.arc_report.specs.ArcLines.{arcs_text}
 use Rattle.job_answers.specs.declared.status.Status.TheVariants.{Done}
 use Rattle.job_answers.specs.Endings.{Ending, ending}
 use Rattle.session_files.specs.SessionFiles.{EndsBySession}
 
--- The kept arcs of the files: of the pairs that are taken the used satellites, by the base's position and the satellites'
--- records; and of these the arcs that are long enough, with the number of the shorter ones.
+-- The kept arcs of the files: of the pairs that are taken the used satellites, by the base's position and the solutions of
+-- the satellites' records with the constants of the system; and of these the arcs on the bands of the options that are long
+-- enough, with the number of the shorter ones.
 pub record AreArcsOf (b r : ObsFile) (n : Records) (o : Options) (kept : List Arc) (short : ℕ) : Type 0 where
   pub position : List ℤ
   pub position_is : IsPosition b position
   pub signals : Signals
-  pub signals_are : AreSignals (bands_of o) b r signals
+  pub signals_are : AreSignals (bands_of o.bands) b r signals
   pub sparse : AreSparse o.gap b r
   pub taken : List PairOf
   pub taken_are : AreTaken b r o taken
   pub used : List UsedPair
   pub used_are : AreUsedPairs (setting_of b n signals o.mask (world_of o.system)) b.epochs r.epochs taken used
-  pub kept_are : AreKept o.jump o.arc used kept short
+  pub kept_are : AreKept (bands_of o.bands) o.jump o.arc used kept short
   pub datums : HaveDatums kept
 
 pub record EndsWithArcs (b r : ObsFile) (n : Records) (o : Options) (end : Ending) : Type 0 where
   pub kept : List Arc
   pub short : ℕ
   pub are : AreArcsOf b r n o kept short
-  pub end_is : end ≡ ending Done (arcs_text kept short) []
+  pub end_is : end ≡ ending Done (arcs_text o.system kept short) []
 
 -- what the three files end with
 abbrev pub ArcsEnd : Options → ObsFile → ObsFile → Records → Ending → Type 0
 ArcsEnd o b r n end = EndsWithArcs b r n o end ⊎ IsPairRefused b r o end
 
 abbrev pub ArcsEnds : (List ℕ → Option (List ℕ)) → List ℕ → List ℕ → List ℕ → Options → Ending → Type 0
-ArcsEnds told base rover nav o end = EndsBySession told base rover nav (ArcsEnd o) end
+ArcsEnds told base rover nav o end = EndsBySession (system_of o.system) told base rover nav (ArcsEnd o) end

@@ -10,19 +10,20 @@ use Rattle.arc_report.specs.ArcLines.{arcs_text}
 use Rattle.job_answers.specs.declared.status.Status.{Status}
 use Rattle.job_answers.specs.declared.status.Status.TheVariants.{Done, Declined}
 use Rattle.job_answers.specs.Delivered.{SinkChange}
+use Rattle.rinex_head.specs.Systems.{system_of}
 use Rattle.session_files.specs.SessionFiles.{AreFilesOf}
 use Rattle.arcs_job.specs.ArcJobs.{AreArcsOf}
 
--- the three texts stand for a session, and out has gained the lines of its kept arcs
+-- the three texts stand for a session of the system, and out has gained the lines of its kept arcs with the system's letter
 pub record SaysArcs (told : List ℕ → Option (List ℕ)) (base rover nav : List ℕ) (o : Options) (out : SinkChange) : Type 0 where
   pub base_file : ObsFile
   pub rover_file : ObsFile
   pub records : Records
-  pub are_files : AreFilesOf told base rover nav base_file rover_file records
+  pub are_files : AreFilesOf (system_of o.system) told base rover nav base_file rover_file records
   pub kept : List Arc
   pub short : ℕ
   pub are : AreArcsOf base_file rover_file records o kept short
-  pub printed : Appends out.old out.new (arcs_text kept short)
+  pub printed : Appends out.old out.new (arcs_text o.system kept short)
 
 -- `arcs` is never declined
 abbrev pub SaysOfArcs : (List ℕ → Option (List ℕ)) → List ℕ → List ℕ → List ℕ → Options → Status → SinkChange → Type 0

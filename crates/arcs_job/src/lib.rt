@@ -5,7 +5,9 @@ ghost use Rattle.std.specs.Prelude.{◌≡◌, ◌≢◌, [], ◌∷◌, IfOk, A
 ghost use Rattle.line_source.specs.Causes.{Rose, OpensAtMost};
 ghost use Rattle.job_answers.specs.Answers.{ending_of, IfEnded};
 ghost use Rattle.job_answers.specs.Endings.{ending};
-ghost use Rattle.session_begin.specs.Beginnings.{IsPosition, bands_of, AreSignals, AreSparse, AreTaken};
+ghost use Rattle.band_sets.specs.BandSets.{bands_of};
+ghost use Rattle.obs_rows.specs.Ranges.{IsSystem};
+ghost use Rattle.session_begin.specs.Beginnings.{IsPosition, AreSignals, AreSparse, AreTaken};
 ghost use Rattle.screening.specs.Screening.{ArePairsOf};
 ghost use Rattle.arc_report.specs.ArcLines.{arcs_text};
 ghost use Rattle.pair_refusals.specs.Refusals.{AreRefusedWhole};
@@ -18,10 +20,12 @@ use line_source::Files;
 use obs_store::ObsFile;
 use pair_refusals::refused_pair;
 use run_options::Options;
-use screening::{screen_in, world_of};
+use rinex_head::System;
+use screening::screen_in;
 use session_begin::{Begun, SessionFault, begin};
 use session_files::read_session;
 use slip_arcs::{Arcs, cut};
+use system_world::world_of;
 use std::alloc::{AllocError, Global};
 
 // The arcs of the pairs that are taken.
@@ -34,7 +38,7 @@ fn arcs_of(
     options: &Options,
 ) -> Result<Arcs, AllocError>
     requires position { IsPosition base.now begun.now.position }
-    requires signals { AreSignals (bands_of options.now) base.now rover.now begun.now.signals }
+    requires signals { AreSignals (bands_of options.now.bands) base.now rover.now begun.now.signals }
     requires sparse { AreSparse options.now.gap base.now rover.now }
     requires taken { AreTaken base.now rover.now options.now begun.now.taken.items }
     requires pairs { ArePairsOf base.now.epochs rover.now.epochs begun.now.taken.items }
@@ -50,15 +54,22 @@ fn arcs_of(
         options.mask,
         &world_of(options.system),
     )?;
-    let arcs = cut(alloc, screened.used.as_slice(), options.jump, options.arc)?;
+    let arcs = cut(
+        alloc,
+        screened.used.as_slice(),
+        options.bands,
+        options.jump,
+        options.arc,
+    )?;
     Ok(arcs)
 }
 
-fn answer_arcs(alloc: Global, arcs: &Arcs) -> Result<Answer, AllocError>
-    ensures { IfOk result (λ a. ending_of a ≡ ending Status.Done (arcs_text arcs.now.kept arcs.now.short) []) }
+fn answer_arcs(alloc: Global, arcs: &Arcs, system: u8) -> Result<Answer, AllocError>
+    requires { IsSystem system }
+    ensures { IfOk result (λ a. ending_of a ≡ ending Status.Done (arcs_text system arcs.now.kept arcs.now.short) []) }
 {
     let mut out = Vec::new(alloc);
-    write_arcs(alloc, &mut out, arcs)?;
+    write_arcs(alloc, &mut out, arcs, system)?;
     Ok(Answer {
         status: Status::Done,
         out,
@@ -79,7 +90,7 @@ fn answer_session(
     match begin(alloc, base, rover, options) {
         Ok(begun) => {
             let arcs = arcs_of(alloc, &begun, base, rover, nav, options)?;
-            Ok(answer_arcs(alloc, &arcs)?)
+            Ok(answer_arcs(alloc, &arcs, options.system)?)
         }
         Err(SessionFault::Refused(what)) => Ok(refused_pair(alloc, what)?),
         Err(SessionFault::NoMemory) => Err(Stop::NoMemory),
@@ -101,7 +112,8 @@ pub fn arcs<F: Files>(
     ensures fault { IfEnded result (λ end. end.status ≡ Status.ReadFault → Rose (F.faults files.old) (F.faults files.new)) }
     ensures sure { All (F.is_sure_name files.old) (base.now ∷ rover.now ∷ nav.now ∷ []) → IfEnded result (λ end. end.status ≢ Status.ReadFault) }
 {
-    match read_session(alloc, files, base, rover, nav) {
+    let system = System::of_letter(options.system);
+    match read_session(alloc, files, system, base, rover, nav) {
         Ok(read) => answer_session(alloc, &read.base, &read.rover, &read.nav, options),
         Err(stop) => Err(stop),
     }

@@ -19,6 +19,7 @@ use Rattle.job_answers.specs.Statuses.{IsVerdictStatus, IsJobStatus}
 use Rattle.job_answers.specs.Endings.{Ending, EndsByFile}
 use Rattle.job_answers.specs.Delivered.{SinkChange}
 use Rattle.job_answers.proofs.EndingLaws.{verdict_at, job_status_at, verdict_whole}
+use Rattle.rinex_head.specs.Systems.{system_of}
 use Rattle.session_files.specs.SessionFiles.{StopsAtFiles}
 use Rattle.session_files.proofs.FileLaws.{files_status, no_stop}
 use Rattle.pair_refusals.specs.Refusals.{AreRefusedWhole}
@@ -43,14 +44,14 @@ fix_status told base rover nav o end (inl session) = elim (session.ends_so) [
   | inl outcome ↦ job_status_at end _ outcome.end_is (job_of (is_fixed outcome.outcome.answer))
   | inr refused ↦ job_status_at end _ refused.end_is tt
 ]
-fix_status told base rover nav o end (inr stops) = files_status told base rover nav end stops
+fix_status told base rover nav o end (inr stops) = files_status (system_of o.system) told base rover nav end stops
 
 pub fix_verdict : (told : List ℕ → Option (List ℕ)) (base rover nav : List ℕ) (o : Options) (end : Ending) → AreAdmitted told base rover nav o → end.status ≢ ReadFault → FixEnds told base rover nav o end → IsVerdictStatus end.status
 fix_verdict told base rover nav o end admitted no_fault (inl session) = elim (session.ends_so) [
   | inl outcome ↦ verdict_at end _ outcome.end_is (verdict_of (is_fixed outcome.outcome.answer))
   | inr refused ↦ absurd (never_refused told base rover nav o session.base_file session.rover_file session.records end admitted session.are refused)
 ]
-fix_verdict told base rover nav o end admitted no_fault (inr stops) = absurd (no_stop told base rover nav end admitted.base_is admitted.rover_is admitted.nav_is no_fault stops)
+fix_verdict told base rover nav o end admitted no_fault (inr stops) = absurd (no_stop (system_of o.system) told base rover nav end admitted.base_is admitted.rover_is admitted.nav_is no_fault stops)
 
 -- ---- refusals
 pub fix_whole : (told : List ℕ → Option (List ℕ)) (left : ℕ → Option (List ℕ)) (names : List (List ℕ)) (o : Options) (b r : ObsFile) (n : Records) (end : Ending) → FixEnd o b r n end → AreRefusedWhole told left names end
@@ -116,7 +117,7 @@ fix_says told base rover nav o end out (inr stops) written = stops_say stops
     stopped_says by_text (inr (inl large)) = says_at told base rover nav o end _ out large.end_is tt
     stopped_says by_text (inr (inr fault)) = says_at told base rover nav o end _ out fault tt
 
-    stops_say : StopsAtFiles told base rover nav end → SaysOfFix told base rover nav o end.status out
+    stops_say : StopsAtFiles (system_of o.system) told base rover nav end → SaysOfFix told base rover nav o end.status out
     stops_say (inl stops) = stopped_says (λ text refusal. says_at told base rover nav o end _ out refusal.end_is tt) stops
     stops_say (inr (inl stops)) = stopped_says (λ text refusal. says_at told base rover nav o end _ out refusal.end_is tt) stops.stops
     stops_say (inr (inr stops)) = stopped_says (λ text refusal. says_at told base rover nav o end _ out refusal.end_is tt) stops.stops

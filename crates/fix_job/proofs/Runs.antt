@@ -4,7 +4,8 @@ use Rattle.obs_store.specs.declared.file.ObsFile.{ObsFile}
 use Rattle.eph_store.specs.File.{Records}
 use Rattle.obs_rows.specs.declared.arcs.Arc.{Arc}
 use Rattle.obs_rows.specs.declared.sessions.Session.{Session}
-use Rattle.screening.specs.Worlds.{world_of}
+use Rattle.system_world.specs.Worlds.{world_of}
+use Rattle.band_sets.specs.BandSets.{bands_of}
 use Rattle.screening.specs.Screening.{setting_of}
 use Rattle.row_build.specs.Stands.{StandsForFiles}
 use Rattle.cert_data.specs.declared.certs.Cert.{Cert}
@@ -42,5 +43,5 @@ stands_for b r n o outcome cert is full =
       signals_are = is.signals_are;
       taken = is.taken;
       taken_are = is.taken_are;
-      stands = subst (λ (k : ℕ). StandsForFiles (setting_of b n is.signals o.mask (world_of o.system)) b.epochs r.epochs is.taken o.jump o.arc o.system is.position is.signals s.point (map (λ (a : Arc). a.shift) s.arcs) k s) cert.fine stands;
+      stands = subst (λ (k : ℕ). StandsForFiles (setting_of b n is.signals o.mask (world_of o.system)) b.epochs r.epochs is.taken (bands_of o.bands) o.jump o.arc o.system is.position is.signals s.point (map (λ (a : Arc). a.shift) s.arcs) k s) cert.fine stands;
     }

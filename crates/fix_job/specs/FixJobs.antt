@@ -12,6 +12,7 @@ use Rattle.outcome_report.specs.OutcomeText.{answer_text, IsWholeAnswer, outcome
 use Rattle.job_answers.specs.declared.status.Status.{Status}
 use Rattle.job_answers.specs.declared.status.Status.TheVariants.{Done, Declined}
 use Rattle.job_answers.specs.Endings.{Ending, ending}
+use Rattle.rinex_head.specs.Systems.{system_of}
 use Rattle.session_files.specs.SessionFiles.{EndsBySession}
 use Rattle.pair_refusals.specs.Refusals.{IsPairRefused}
 
@@ -32,4 +33,4 @@ abbrev pub FixEnd : Options → ObsFile → ObsFile → Records → Ending → T
 FixEnd o b r n end = EndsWithOutcome b r n o end ⊎ IsPairRefused b r o end
 
 abbrev pub FixEnds : (List ℕ → Option (List ℕ)) → List ℕ → List ℕ → List ℕ → Options → Ending → Type 0
-FixEnds told base rover nav o end = EndsBySession told base rover nav (FixEnd o) end
+FixEnds told base rover nav o end = EndsBySession (system_of o.system) told base rover nav (FixEnd o) end

@@ -8,7 +8,7 @@ use Rattle.obs_rows.specs.declared.arcs.Arc.{Arc}
 use Rattle.obs_rows.specs.declared.bands.Signals.{Signals}
 use Rattle.obs_rows.specs.Best.{IsStrictlyBest}
 use Rattle.epoch_pair.specs.declared.pairs.PairOf.{PairOf}
-use Rattle.screening.specs.Worlds.{world_of}
+use Rattle.system_world.specs.Worlds.{world_of}
 use Rattle.screening.specs.Screening.{setting_of}
 use Rattle.row_build.specs.Stands.{StandsForFiles}
 use Rattle.int_search.specs.declared.answer.TwoBest.{TwoBest}
@@ -23,7 +23,9 @@ use Rattle.cert_spelling.specs.Spelling.{spelling}
 use Rattle.cert_spelling.specs.Lengths.{IsWhole}
 use Rattle.cert_check.specs.Verdicts.{IsVerdictOf, IsGivenUp}
 use Rattle.run_options.specs.declared.options.Options.{Options}
-use Rattle.session_begin.specs.Beginnings.{IsPosition, bands_of, AreSignals, AreTaken}
+use Rattle.band_sets.specs.BandSets.{bands_of}
+use Rattle.rinex_head.specs.Systems.{system_of}
+use Rattle.session_begin.specs.Beginnings.{IsPosition, AreSignals, AreTaken}
 use Rattle.session.specs.Outcomes.{IsOutcome}
 use Rattle.outcome_report.specs.OutcomeText.{answer_text, IsWholeAnswer, is_fixed}
 use Rattle.job_answers.specs.declared.status.Status.{Status}
@@ -41,25 +43,26 @@ pub record IsFix (cert : Cert) : Type 0 where
   pub tail_is : cert.tail ≡ Fixed h moved best top
   pub strictly_best : IsStrictlyBest cert.session (first_of best) moved
 
--- The certificate's session stands for the files: it has exactly one row for each used observation, and each box holds all
--- solutions of the user algorithm, seen from the base's position and from the session's point.
+-- The certificate's session stands for the files: it has exactly one row for each used observation on the bands of the
+-- options, and each box holds all solutions of the user algorithm with the constants of the options' system, seen from the
+-- base's position and from the session's point.
 pub record StandsForIts (b r : ObsFile) (n : Records) (o : Options) (cert : Cert) : Type 0 where
   pub ratio_is : cert.ratio ≡ o.ratio
   pub budget_is : cert.budget ≡ o.budget
   pub position : List ℤ
   pub position_is : IsPosition b position
   pub signals : Signals
-  pub signals_are : AreSignals (bands_of o) b r signals
+  pub signals_are : AreSignals (bands_of o.bands) b r signals
   pub taken : List PairOf
   pub taken_are : AreTaken b r o taken
-  pub stands : StandsForFiles (setting_of b n signals o.mask (world_of o.system)) b.epochs r.epochs taken o.jump o.arc o.system position signals cert.session.point (map (λ (a : Arc). a.shift) cert.session.arcs) 0 cert.session
+  pub stands : StandsForFiles (setting_of b n signals o.mask (world_of o.system)) b.epochs r.epochs taken (bands_of o.bands) o.jump o.arc o.system position signals cert.session.point (map (λ (a : Arc). a.shift) cert.session.arcs) 0 cert.session
 
--- the three texts stand for a session, whose outcome is this
+-- the three texts stand for a session of the options' system, whose outcome is this
 pub record HaveOutcome (told : List ℕ → Option (List ℕ)) (base rover nav : List ℕ) (o : Options) (outcome : Outcome) : Type 0 where
   pub base_file : ObsFile
   pub rover_file : ObsFile
   pub records : Records
-  pub are_files : AreFilesOf told base rover nav base_file rover_file records
+  pub are_files : AreFilesOf (system_of o.system) told base rover nav base_file rover_file records
   pub is : IsOutcome base_file rover_file records o outcome
 
 -- Out has gained a certificate that says `fixed`, of a session that stands for the files. Its text is no other's, and a check

@@ -1,11 +1,11 @@
 //! The command `fix`: the baseline of two receivers, with the certificate of its integers.
 //!
-//! `fix` reads the three files of a session, each whole before the next, and ends with the first that can't be had or
-//! is refused, with the refusal of the two files, or with the texts of the outcome, done for a fix and else declined
-//! (`ends`). `SaysOfFix` is what a run of it says: of a fix, that its integers with its move are strictly best for
-//! all data in the printed boxes, that its session stands for the files, and that a check of it answers `Certified`
-//! or its search gives up (`certified`, `only`). The printed certificate is the only one with its text (`whole`, with
-//! `one_spelling_law` of cert_text).
+//! `fix` reads the three files of a session of the options' system, each whole before the next, and ends with the first
+//! that can't be had or is refused, with the refusal of the two files, or with the texts of the outcome, done for a fix
+//! and else declined (`ends`). `SaysOfFix` is what a run of it says: of a fix, that its integers with its move are
+//! strictly best for all data in the printed boxes, that its session stands for the files, and that a check of it answers
+//! `Certified` or its search gives up (`certified`, `only`). The printed certificate is the only one with its text
+//! (`whole`, with `one_spelling_law` of cert_text).
 #![tactic(auto)]
 
 ghost use Rattle.std.specs.Prelude.{◌≡◌, ◌≢◌, [], ◌∷◌, IfOk, All};
@@ -23,6 +23,7 @@ use line_source::Files;
 use obs_store::ObsFile;
 use outcome_report::{is_fixed, write_outcome};
 use pair_refusals::refused_pair;
+use rinex_head::System;
 use run_options::Options;
 use session::{Outcome, SessionFault, process};
 use session_files::read_session;
@@ -87,7 +88,8 @@ pub fn fix<F: Files>(
     ensures fault { IfEnded result (λ end. end.status ≡ Status.ReadFault → Rose (F.faults files.old) (F.faults files.new)) }
     ensures sure { All (F.is_sure_name files.old) (base.now ∷ rover.now ∷ nav.now ∷ []) → IfEnded result (λ end. end.status ≢ Status.ReadFault) }
 {
-    match read_session(alloc, files, base, rover, nav) {
+    let system = System::of_letter(options.system);
+    match read_session(alloc, files, system, base, rover, nav) {
         Ok(read) => answer_session(alloc, &read.base, &read.rover, &read.nav, options),
         Err(stop) => Err(stop),
     }

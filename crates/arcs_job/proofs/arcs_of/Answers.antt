@@ -3,6 +3,7 @@ use Rattle.orbit_model.specs.Elements.{Constants}
 use Rattle.orbit_clock.specs.Records.{constants_of}
 use Rattle.epoch_pair.specs.declared.pairs.PairOf.{PairOf}
 use Rattle.used_svs.specs.declared.used.UsedPair.{UsedPair}
+use Rattle.band_sets.specs.BandSets.{bands_of}
 use Rattle.slip_arcs.specs.Runs.{AreKept}
 use Rattle.screening.specs.Screening.{setting_of, AreUsedPairs}
 use Rattle.arcs_job.proofs.arcs_of.Goals as goal
@@ -27,6 +28,6 @@ returns c =
       taken_are = c.requires.taken;
       used = used;
       used_are = subst (λ (world : Constants). AreUsedPairs (setting_of b c.args.nav.now begun.signals o.mask world) b.epochs r.epochs begun.taken.items used) c.world_of.ensures of_pairs;
-      kept_are = subst (λ (us : List UsedPair). AreKept o.jump o.arc us c.in_ok-arcs.arcs.kept c.in_ok-arcs.arcs.short) c.as_slice.ensures c.in_ok-arcs.ensures.kept;
+      kept_are = subst (λ (us : List UsedPair). AreKept (bands_of o.bands) o.jump o.arc us c.in_ok-arcs.arcs.kept c.in_ok-arcs.arcs.short) c.as_slice.ensures c.in_ok-arcs.ensures.kept;
       datums = c.in_ok-arcs.ensures.datums;
     }
