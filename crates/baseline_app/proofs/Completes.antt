@@ -30,43 +30,39 @@ use Rattle.sim_run_job.proofs.RunSays.{sim_run_status, sim_run_verdict}
 use Rattle.baseline_app.specs.Jobs.{PartEnds, JobEnds, IsReadable, IsAnswer}
 use Rattle.baseline_app.specs.Runs.{IsRun, IsComplete}
 
--- the parts of a made-up session
-part_verdict : (p : Part) (seed epochs sats : ℕ) (end : Ending) → PartEnds p seed epochs sats end → IsVerdictStatus end.status
-part_verdict part.Base seed epochs sats end ends = sim_verdict part.Base seed epochs sats end ends
-part_verdict part.Rover seed epochs sats end ends = sim_verdict part.Rover seed epochs sats end ends
-part_verdict part.Nav seed epochs sats end ends = sim_verdict part.Nav seed epochs sats end ends
-part_verdict part.Run seed epochs sats end ends = sim_run_verdict seed epochs sats end ends
+-- the parts of a simulated session
+part_verdict : (p : Part) (seed epochs sats bands system : ℕ) (end : Ending) → PartEnds p seed epochs sats bands system end → IsVerdictStatus end.status
+part_verdict (part.File file) seed epochs sats bands system end ends = sim_verdict file seed epochs sats bands system end ends
+part_verdict part.Run seed epochs sats bands system end ends = sim_run_verdict seed epochs sats bands system end ends
 
-part_status : (p : Part) (seed epochs sats : ℕ) (end : Ending) → PartEnds p seed epochs sats end → IsJobStatus end.status
-part_status part.Base seed epochs sats end ends = sim_status part.Base seed epochs sats end ends
-part_status part.Rover seed epochs sats end ends = sim_status part.Rover seed epochs sats end ends
-part_status part.Nav seed epochs sats end ends = sim_status part.Nav seed epochs sats end ends
-part_status part.Run seed epochs sats end ends = sim_run_status seed epochs sats end ends
+part_status : (p : Part) (seed epochs sats bands system : ℕ) (end : Ending) → PartEnds p seed epochs sats bands system end → IsJobStatus end.status
+part_status (part.File file) seed epochs sats bands system end ends = sim_status file seed epochs sats bands system end ends
+part_status part.Run seed epochs sats bands system end ends = sim_run_status seed epochs sats bands system end ends
 
 -- none of them is refused
-pub part_whole : (told : List ℕ → Option (List ℕ)) (left : ℕ → Option (List ℕ)) (names : List (List ℕ)) (p : Part) (seed epochs sats : ℕ) (end : Ending) → PartEnds p seed epochs sats end → AreRefusedWhole told left names end
-part_whole told left names p seed epochs sats end ends = stop_whole told left names end (verdict_whole told left names end (part_verdict p seed epochs sats end ends))
+pub part_whole : (told : List ℕ → Option (List ℕ)) (left : ℕ → Option (List ℕ)) (names : List (List ℕ)) (p : Part) (seed epochs sats bands system : ℕ) (end : Ending) → PartEnds p seed epochs sats bands system end → AreRefusedWhole told left names end
+part_whole told left names p seed epochs sats bands system end ends = stop_whole told left names end (verdict_whole told left names end (part_verdict p seed epochs sats bands system end ends))
 
 -- each command's own part
 readable_ends : (job : Job) (told : List ℕ → Option (List ℕ)) (end : Ending) → IsReadable job told → end.status ≢ ReadFault → JobEnds job told end → IsVerdictStatus end.status
 readable_ends (job.Zero rows) told end = zero_verdict told rows end
 readable_ends (job.List obs) told end = list_verdict told obs end
-readable_ends (job.Orbit nav sat tick) told end = orbit_verdict told nav sat tick.0 end
+readable_ends (job.Orbit nav system sat tick) told end = orbit_verdict told nav system sat tick.0 end
 readable_ends (job.Check cert) told end = check_verdict told cert end
 readable_ends (job.Residuals cert) told end = residuals_verdict told cert end
 readable_ends (job.Fix base rover nav options) told end = fix_verdict told base rover nav options end
 readable_ends (job.Arcs base rover nav options) told end = arcs_verdict told base rover nav options end
-readable_ends (job.Sim part seed epochs sats) told end = λ readable no_fault ends. part_verdict part seed epochs sats end ends
+readable_ends (job.Sim part seed epochs sats bands system) told end = λ readable no_fault ends. part_verdict part seed epochs sats bands system end ends
 
 job_status : (job : Job) (told : List ℕ → Option (List ℕ)) (end : Ending) → JobEnds job told end → IsJobStatus end.status
 job_status (job.Zero rows) told end = zero_status told rows end
 job_status (job.List obs) told end = list_status told obs end
-job_status (job.Orbit nav sat tick) told end = orbit_status told nav sat tick.0 end
+job_status (job.Orbit nav system sat tick) told end = orbit_status told nav system sat tick.0 end
 job_status (job.Check cert) told end = check_status told cert end
 job_status (job.Residuals cert) told end = residuals_status told cert end
 job_status (job.Fix base rover nav options) told end = fix_status told base rover nav options end
 job_status (job.Arcs base rover nav options) told end = arcs_status told base rover nav options end
-job_status (job.Sim part seed epochs sats) told end = part_status part seed epochs sats end
+job_status (job.Sim part seed epochs sats bands system) told end = part_status part seed epochs sats bands system end
 
 answer_ends : (job : Job) (words : List (List ℕ)) (told : List ℕ → Option (List ℕ)) (end : Ending) → IsJob words job → IsReadable job told → end.status ≢ ReadFault → IsAnswer words told end
     → (end.status ≡ NoMemory) ⊎ (JobEnds job told end × IsVerdictStatus end.status)

@@ -1,5 +1,5 @@
 -- What a run with status 0 or 1 says of the job's files is what its ending says.
-use Rattle.std.proofs.Common.{◌≢◌, inl, inr, ℕ, List, Option, refl, sym, ap, ◌∙◌, subst}
+use Rattle.std.proofs.Common.{inl, inr, ℕ, List, Option, sym, ap, ◌∙◌, subst}
 use Rattle.std.specs.Io.KnownBytes.{Appends}
 use Rattle.job_answers.specs.declared.status.Status.{Status}
 use Rattle.job_answers.specs.declared.status.Status.TheVariants.{Done, Declined, Usage, Refused, ReadFault, WriteFault, NoMemory}
@@ -17,7 +17,7 @@ use Rattle.list_job.proofs.ListSays.{list_says}
 use Rattle.gps_time.specs.declared.Tick.{Tick}
 use Rattle.orbit_job.specs.OrbitRuns.{SaysOfOrbit}
 use Rattle.orbit_job.proofs.OrbitSays.{orbit_says}
-use Rattle.command_words.specs.declared.sims.Part.{Part}
+use Rattle.command_words.specs.declared.sims.File.{File}
 use Rattle.command_words.specs.declared.sims.Part.TheVariants as part
 use Rattle.sim_job.specs.SimRuns.{SaysOfSim}
 use Rattle.sim_job.proofs.SimSays.{sim_says}
@@ -30,7 +30,7 @@ use Rattle.arcs_job.specs.ArcRuns.{SaysOfArcs}
 use Rattle.arcs_job.proofs.ArcSays.{arcs_says}
 use Rattle.fix_job.specs.FixRuns.{SaysOfFix}
 use Rattle.fix_job.proofs.FixSays.{fix_says}
-use Rattle.baseline_app.specs.Jobs.{PartEnds, JobEnds}
+use Rattle.baseline_app.specs.Jobs.{JobEnds}
 use Rattle.baseline_app.specs.Runs.{IsRun}
 
 -- something is said of the statuses of verdicts alone
@@ -76,23 +76,20 @@ pub run_says_list : (words : List (List ℕ)) (told : List ℕ → Option (List 
 run_says_list words told obs result out err run asked =
     run_says words told (job.List obs) result out err (λ s. SaysOfList told obs s out) (record { usage = tt; refused = tt; read = tt; write = tt; memory = tt }) (λ end ends written. list_says told obs end out ends written) run asked
 
-pub run_says_orbit : (words : List (List ℕ)) (told : List ℕ → Option (List ℕ)) (nav : List ℕ) (sat : ℕ) (tick : Tick) (result : Status) (out err : SinkChange) → IsRun words told result out err → IsJob words (job.Orbit nav sat tick) → SaysOfOrbit told nav sat tick.0 result out
-run_says_orbit words told nav sat tick result out err run asked =
-    run_says words told (job.Orbit nav sat tick) result out err (λ s. SaysOfOrbit told nav sat tick.0 s out) (record { usage = tt; refused = tt; read = tt; write = tt; memory = tt }) (λ end ends written. orbit_says told nav sat tick.0 end out ends written) run asked
+pub run_says_orbit : (words : List (List ℕ)) (told : List ℕ → Option (List ℕ)) (nav : List ℕ) (system sat : ℕ) (tick : Tick) (result : Status) (out err : SinkChange) → IsRun words told result out err → IsJob words (job.Orbit nav system sat tick)
+    → SaysOfOrbit told nav system sat tick.0 result out
+run_says_orbit words told nav system sat tick result out err run asked =
+    run_says words told (job.Orbit nav system sat tick) result out err (λ s. SaysOfOrbit told nav system sat tick.0 s out) (record { usage = tt; refused = tt; read = tt; write = tt; memory = tt }) (λ end ends written. orbit_says told nav system sat tick.0 end out ends written) run asked
 
-file_says : (p : Part) (seed epochs sats : ℕ) (end : Ending) (out : SinkChange) → p ≢ part.Run → PartEnds p seed epochs sats end → Appends out.old out.new end.out → SaysOfSim p seed epochs sats end.status out
-file_says part.Base seed epochs sats end out file ends written = sim_says part.Base seed epochs sats end out ends written
-file_says part.Rover seed epochs sats end out file ends written = sim_says part.Rover seed epochs sats end out ends written
-file_says part.Nav seed epochs sats end out file ends written = sim_says part.Nav seed epochs sats end out ends written
-file_says part.Run seed epochs sats end out file ends written = absurd (file refl)
+pub run_says_sim : (words : List (List ℕ)) (told : List ℕ → Option (List ℕ)) (file : File) (seed epochs sats bands system : ℕ) (result : Status) (out err : SinkChange) → IsRun words told result out err → IsJob words (job.Sim (part.File file) seed epochs sats bands system)
+    → SaysOfSim file seed epochs sats bands system result out
+run_says_sim words told file seed epochs sats bands system result out err run asked =
+    run_says words told (job.Sim (part.File file) seed epochs sats bands system) result out err (λ s. SaysOfSim file seed epochs sats bands system s out) (record { usage = tt; refused = tt; read = tt; write = tt; memory = tt }) (λ end ends written. sim_says file seed epochs sats bands system end out ends written) run asked
 
-pub run_says_sim : (words : List (List ℕ)) (told : List ℕ → Option (List ℕ)) (p : Part) (seed epochs sats : ℕ) (result : Status) (out err : SinkChange) → p ≢ part.Run → IsRun words told result out err → IsJob words (job.Sim p seed epochs sats) → SaysOfSim p seed epochs sats result out
-run_says_sim words told p seed epochs sats result out err file run asked =
-    run_says words told (job.Sim p seed epochs sats) result out err (λ s. SaysOfSim p seed epochs sats s out) (record { usage = tt; refused = tt; read = tt; write = tt; memory = tt }) (λ end ends written. file_says p seed epochs sats end out file ends written) run asked
-
-pub run_says_sim_run : (words : List (List ℕ)) (told : List ℕ → Option (List ℕ)) (seed epochs sats : ℕ) (result : Status) (out err : SinkChange) → IsRun words told result out err → IsJob words (job.Sim part.Run seed epochs sats) → SaysOfSimRun seed epochs sats result out
-run_says_sim_run words told seed epochs sats result out err run asked =
-    run_says words told (job.Sim part.Run seed epochs sats) result out err (λ s. SaysOfSimRun seed epochs sats s out) (record { usage = tt; refused = tt; read = tt; write = tt; memory = tt }) (λ end ends written. sim_run_says seed epochs sats end out ends written) run asked
+pub run_says_sim_run : (words : List (List ℕ)) (told : List ℕ → Option (List ℕ)) (seed epochs sats bands system : ℕ) (result : Status) (out err : SinkChange) → IsRun words told result out err → IsJob words (job.Sim part.Run seed epochs sats bands system)
+    → SaysOfSimRun seed epochs sats bands system result out
+run_says_sim_run words told seed epochs sats bands system result out err run asked =
+    run_says words told (job.Sim part.Run seed epochs sats bands system) result out err (λ s. SaysOfSimRun seed epochs sats bands system s out) (record { usage = tt; refused = tt; read = tt; write = tt; memory = tt }) (λ end ends written. sim_run_says seed epochs sats bands system end out ends written) run asked
 
 pub run_says_check : (words : List (List ℕ)) (told : List ℕ → Option (List ℕ)) (cert : List ℕ) (result : Status) (out err : SinkChange) → IsRun words told result out err → IsJob words (job.Check cert) → SaysOfCheck told cert result out
 run_says_check words told cert result out err run asked =

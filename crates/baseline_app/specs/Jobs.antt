@@ -2,8 +2,10 @@
 use Rattle.std.specs.Prelude.{◌≡◌, ◌⊎◌, ℕ, List, []}
 use Rattle.std.specs.declared.option.Option.{Option}
 use Rattle.zero_rows.specs.Rows.{IsZeroFile}
-use Rattle.rinex_obs.specs.ObsForm.{HasObsFile}
-use Rattle.rinex_nav.specs.NavForm.{HasNavFile}
+use Rattle.rinex_head.specs.declared.system.System.TheVariants.{Gps}
+use Rattle.rinex_head.specs.Systems.{system_of}
+use Rattle.obs_source.specs.Formats.{HasObservation}
+use Rattle.nav_records.specs.NavForm.{HasNavFile}
 use Rattle.job_answers.specs.declared.status.Status.TheVariants.{Usage, NoMemory}
 use Rattle.job_answers.specs.Texts.{usage_line, no_memory_line}
 use Rattle.job_answers.specs.Endings.{Ending, ending, EndsByFile, IsAdmitted}
@@ -23,33 +25,32 @@ use Rattle.pair_refusals.specs.Admitted.{AreAdmitted}
 use Rattle.fix_job.specs.FixJobs.{FixEnds}
 use Rattle.sim_run_job.specs.SimRunJobs.{SimRunEnds}
 
--- of a made-up session one of its files, or what the three are found to say
-abbrev pub PartEnds : Part → ℕ → ℕ → ℕ → Ending → Type 0
-PartEnds part.Base seed epochs sats end = SimEnds part.Base seed epochs sats end
-PartEnds part.Rover seed epochs sats end = SimEnds part.Rover seed epochs sats end
-PartEnds part.Nav seed epochs sats end = SimEnds part.Nav seed epochs sats end
-PartEnds part.Run seed epochs sats end = SimRunEnds seed epochs sats end
+-- of a simulated session one of its files, or what the three are found to say
+abbrev pub PartEnds : Part → ℕ → ℕ → ℕ → ℕ → ℕ → Ending → Type 0
+PartEnds (part.File file) seed epochs sats bands system end = SimEnds file seed epochs sats bands system end
+PartEnds part.Run seed epochs sats bands system end = SimRunEnds seed epochs sats bands system end
 
 abbrev pub JobEnds : Job → (List ℕ → Option (List ℕ)) → Ending → Type 0
 JobEnds (job.Zero rows) told end = EndsByFile told rows (ZeroEnds rows) end
 JobEnds (job.List obs) told end = EndsByFile told obs (ListEnds obs) end
-JobEnds (job.Orbit nav sat tick) told end = EndsByFile told nav (OrbitEnds nav sat tick.0) end
+JobEnds (job.Orbit nav system sat tick) told end = EndsByFile told nav (OrbitEnds nav system sat tick.0) end
 JobEnds (job.Check cert) told end = EndsByFile told cert (CheckEnds cert) end
 JobEnds (job.Residuals cert) told end = EndsByFile told cert (ResidualsEnds cert) end
 JobEnds (job.Fix base rover nav options) told end = FixEnds told base rover nav options end
 JobEnds (job.Arcs base rover nav options) told end = ArcsEnds told base rover nav options end
-JobEnds (job.Sim part seed epochs sats) told end = PartEnds part seed epochs sats end
+JobEnds (job.Sim part seed epochs sats bands system) told end = PartEnds part seed epochs sats bands system end
 
--- all files of the job are told and admitted, and those of a session aren't refused together
+-- All files of the job are told and admitted, and those of a session aren't refused together. Observations may be in either
+-- format of RINEX, where the system has both; `list` reads those of GPS.
 abbrev pub IsReadable : Job → (List ℕ → Option (List ℕ)) → Type 0
 IsReadable (job.Zero rows) told = IsAdmitted told rows IsZeroFile
-IsReadable (job.List obs) told = IsAdmitted told obs HasObsFile
-IsReadable (job.Orbit nav sat tick) told = IsAdmitted told nav HasNavFile
+IsReadable (job.List obs) told = IsAdmitted told obs (HasObservation Gps)
+IsReadable (job.Orbit nav system sat tick) told = IsAdmitted told nav (HasNavFile (system_of system))
 IsReadable (job.Check cert) told = IsCertAdmitted told cert
 IsReadable (job.Residuals cert) told = IsCertAdmitted told cert
 IsReadable (job.Fix base rover nav options) told = AreAdmitted told base rover nav options
 IsReadable (job.Arcs base rover nav options) told = AreAdmitted told base rover nav options
-IsReadable (job.Sim part seed epochs sats) told = Unit {0}
+IsReadable (job.Sim part seed epochs sats bands system) told = Unit {0}
 
 -- the words ask for a job, which ends so
 pub record AnswersJob (words : List (List ℕ)) (told : List ℕ → Option (List ℕ)) (end : Ending) : Type 0 where

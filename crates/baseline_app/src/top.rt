@@ -4,9 +4,10 @@ ghost use Rattle.line_source.specs.Causes.{Rose, OpensAtMost};
 ghost use Rattle.gps_time.specs.declared.Tick.{Tick};
 ghost use Rattle.job_answers.specs.Answers.{ending_of, IfEnded};
 ghost use Rattle.job_answers.specs.Delivered.{sink_change, GainsUnlessFault};
+ghost use Rattle.command_words.specs.declared.sims.File.{File};
 ghost use Rattle.command_words.specs.declared.sims.Part.{Part};
 ghost use Rattle.command_words.specs.declared.jobs.Job.{Job};
-ghost use Rattle.command_words.specs.Words.{texts_of, file_words, IsJob, IsInRange};
+ghost use Rattle.command_words.specs.Words.{texts_of, file_words, IsJob, IsInRange, IsSimInRange};
 ghost use Rattle.zero_job.specs.ZeroRuns.{SaysOfZero};
 ghost use Rattle.list_job.specs.ListRuns.{SaysOfList};
 ghost use Rattle.orbit_job.specs.OrbitRuns.{SaysOfOrbit};
@@ -86,19 +87,24 @@ fn arcs_by_words<F: Files>(
     )
 }
 
-// A file of a made-up session, or what the three are found to say.
+// A file of a simulated session, or what the three are found to say.
 #[tactic(auto, using(crate::proofs::Parts::file_no_fault))]
-fn sim_part(alloc: Global, part: Part, seed: u32, epochs: u32, sats: u32) -> Result<Answer, Stop>
-    requires epochs { epochs ≤ 3600 }
-    requires sats { sats ≤ 15 }
-    ensures ends { IfEnded result (λ end. PartEnds part seed epochs sats end) }
+fn sim_part(
+    alloc: Global,
+    part: Part,
+    seed: u32,
+    epochs: u32,
+    sats: u32,
+    bands: u16,
+    system: u8,
+) -> Result<Answer, Stop>
+    requires { IsSimInRange epochs sats bands system }
+    ensures ends { IfEnded result (λ end. PartEnds part seed epochs sats bands system end) }
     ensures no_fault { IfEnded result (λ end. end.status ≢ Status.ReadFault) }
 {
     match part {
-        Part::Run => sim_run(alloc, seed, epochs, sats),
-        Part::Base => Ok(sim(alloc, Part::Base, seed, epochs, sats)?),
-        Part::Rover => Ok(sim(alloc, Part::Rover, seed, epochs, sats)?),
-        Part::Nav => Ok(sim(alloc, Part::Nav, seed, epochs, sats)?),
+        Part::File(file) => Ok(sim(alloc, file, seed, epochs, sats, bands, system)?),
+        Part::Run => sim_run(alloc, seed, epochs, sats, bands, system),
     }
 }
 
@@ -116,7 +122,12 @@ fn do_job<F: Files>(alloc: Global, job: &Job, files: &mut F) -> Result<Answer, S
     match job {
         Job::Zero { rows } => zero(alloc, files, rows.as_str()),
         Job::List { obs } => list(alloc, files, obs.as_str()),
-        Job::Orbit { nav, sat, tick } => orbit(alloc, files, nav.as_str(), *sat, *tick),
+        Job::Orbit {
+            nav,
+            system,
+            sat,
+            tick,
+        } => orbit(alloc, files, nav.as_str(), *system, *sat, *tick),
         Job::Check { cert } => check_file(alloc, files, cert.as_str()),
         Job::Residuals { cert } => residuals(alloc, files, cert.as_str()),
         Job::Fix {
@@ -136,7 +147,9 @@ fn do_job<F: Files>(alloc: Global, job: &Job, files: &mut F) -> Result<Answer, S
             seed,
             epochs,
             sats,
-        } => sim_part(alloc, *part, *seed, *epochs, *sats),
+            bands,
+            system,
+        } => sim_part(alloc, *part, *seed, *epochs, *sats, *bands, *system),
     }
 }
 
@@ -193,14 +206,15 @@ pub fn run<F: Files, O: Sink, E: Sink>(
         (sink_change (O.contents out.old) (O.contents out.new) (O.faults out.old) (O.faults out.new)) }
     ensures list { (obs : List ℕ) → IsJob (texts_of words.now) (Job.List obs) → SaysOfList (F.text_of files.old) obs result
         (sink_change (O.contents out.old) (O.contents out.new) (O.faults out.old) (O.faults out.new)) }
-    ensures orbit { (nav : List ℕ) (sat : ℕ) (tick : Tick) → IsJob (texts_of words.now) (Job.Orbit nav sat tick)
-        → SaysOfOrbit (F.text_of files.old) nav sat tick.0 result
+    ensures orbit { (nav : List ℕ) (system sat : ℕ) (tick : Tick) → IsJob (texts_of words.now) (Job.Orbit nav system sat tick)
+        → SaysOfOrbit (F.text_of files.old) nav system sat tick.0 result
         (sink_change (O.contents out.old) (O.contents out.new) (O.faults out.old) (O.faults out.new)) }
-    ensures sim { (part : Part) (seed epochs sats : ℕ) → part ≢ Part.Run → IsJob (texts_of words.now) (Job.Sim part seed epochs sats)
-        → SaysOfSim part seed epochs sats result
+    ensures sim { (file : File) (seed epochs sats bands system : ℕ)
+        → IsJob (texts_of words.now) (Job.Sim (Part.File file) seed epochs sats bands system)
+        → SaysOfSim file seed epochs sats bands system result
         (sink_change (O.contents out.old) (O.contents out.new) (O.faults out.old) (O.faults out.new)) }
-    ensures sim_run { (seed epochs sats : ℕ) → IsJob (texts_of words.now) (Job.Sim Part.Run seed epochs sats)
-        → SaysOfSimRun seed epochs sats result
+    ensures sim_run { (seed epochs sats bands system : ℕ) → IsJob (texts_of words.now) (Job.Sim Part.Run seed epochs sats bands system)
+        → SaysOfSimRun seed epochs sats bands system result
         (sink_change (O.contents out.old) (O.contents out.new) (O.faults out.old) (O.faults out.new)) }
     ensures check { (cert : List ℕ) → IsJob (texts_of words.now) (Job.Check cert) → SaysOfCheck (F.text_of files.old) cert result
         (sink_change (O.contents out.old) (O.contents out.new) (O.faults out.old) (O.faults out.new)) }

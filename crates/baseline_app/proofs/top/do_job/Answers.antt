@@ -21,7 +21,7 @@ pub returns-in-Sim-clause-sure : goal.returns-in-Sim-clause-sure
 returns-in-Sim-clause-sure g c = λ all. c.sim_part.ensures.no_fault
 
 pub returns-in-Sim-clause-refused : goal.returns-in-Sim-clause-refused
-returns-in-Sim-clause-refused g c = ended_weaker c.sim_part.result _ _ (λ end ends. part_whole _ _ _ c.in-Sim.part c.in-Sim.seed c.in-Sim.epochs c.in-Sim.sats end ends) c.sim_part.ensures.ends
+returns-in-Sim-clause-refused g c = ended_weaker c.sim_part.result _ _ (λ end ends. part_whole _ _ _ c.in-Sim.part c.in-Sim.seed c.in-Sim.epochs c.in-Sim.sats c.in-Sim.bands c.in-Sim.system end ends) c.sim_part.ensures.ends
 
 pub returns-in-Zero-clause-refused : goal.returns-in-Zero-clause-refused
 returns-in-Zero-clause-refused g c = asked_whole c.zero.result _ _ _ _ _ _ c.in-Zero.is c.as_str.ensures refl c.zero.ensures.refused

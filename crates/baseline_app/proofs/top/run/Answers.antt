@@ -23,13 +23,13 @@ pub returns-clause-list : goal.returns-clause-list
 returns-clause-list g c = λ obs asked. run_says_list _ _ obs _ _ _ c.write_answer.ensures.run asked
 
 pub returns-clause-orbit : goal.returns-clause-orbit
-returns-clause-orbit g c = λ nav sat tick asked. run_says_orbit _ _ nav sat tick _ _ _ c.write_answer.ensures.run asked
+returns-clause-orbit g c = λ nav system sat tick asked. run_says_orbit _ _ nav system sat tick _ _ _ c.write_answer.ensures.run asked
 
 pub returns-clause-sim : goal.returns-clause-sim
-returns-clause-sim g c = λ part seed epochs sats file asked. run_says_sim _ _ part seed epochs sats _ _ _ file c.write_answer.ensures.run asked
+returns-clause-sim g c = λ file seed epochs sats bands system asked. run_says_sim _ _ file seed epochs sats bands system _ _ _ c.write_answer.ensures.run asked
 
 pub returns-clause-sim_run : goal.returns-clause-sim_run
-returns-clause-sim_run g c = λ seed epochs sats asked. run_says_sim_run _ _ seed epochs sats _ _ _ c.write_answer.ensures.run asked
+returns-clause-sim_run g c = λ seed epochs sats bands system asked. run_says_sim_run _ _ seed epochs sats bands system _ _ _ c.write_answer.ensures.run asked
 
 pub returns-clause-check : goal.returns-clause-check
 returns-clause-check g c = λ cert asked. run_says_check _ _ cert _ _ _ c.write_answer.ensures.run asked
