@@ -10,7 +10,7 @@ use Rattle.obs_rows.specs.Signals.{used_signals, fine_signals, phase_bands}
 use Rattle.obs_rows.specs.declared.bands.TheConstants.{L1_LETTERS, L2_LETTERS, L5_LETTERS}
 use Rattle.band_sets.specs.declared.numbers.TheConstants.{BANDS_L1_L2, BANDS_L1_L5, BANDS_L1_L2_L5}
 use Rattle.band_sets.specs.BandSets.{IsBandsNumber, bands_of, digit_of}
-use Rattle.band_sets.proofs.Numbers.{each_number}
+use Rattle.band_sets.proofs.NumberLaws.{each_number}
 use Rattle.epoch_pair.specs.Signals.{is_common, letters_on, letter_on, is_among, IsLetterFor, AreLettersOf}
 
 or_left : (a b : Bool) → a ≡ true → a || b ≡ true

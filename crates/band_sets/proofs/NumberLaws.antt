@@ -1,8 +1,7 @@
--- What holds for each of the numbers holds for every number of a set of bands, and what holds on each band holds on all.
-use Rattle.std.proofs.Common.{◌≡◌, ◌<◌, ℕ, zero, suc, arith, refl, Bool, true, false, ◌||◌, IsTrue, subst, sym}
+-- What holds for each of the numbers holds for every number of a set of bands.
+use Rattle.std.proofs.Common.{◌≡◌, ℕ, refl, Bool, true, false, ◌||◌, IsTrue, subst, sym}
 use Rattle.std.specs.Prelude.{◌==◌}
 use Rattle.std.proofs.lemmas.Bool.{eqb-true}
-use Rattle.obs_rows.specs.declared.units.TheConstants.{PHASES}
 use Rattle.band_sets.specs.declared.numbers.TheConstants.{BANDS_L1_L2, BANDS_L1_L5, BANDS_L1_L2_L5}
 use Rattle.band_sets.specs.BandSets.{IsBandsNumber}
 
@@ -15,9 +14,3 @@ pub each_number : (P : ℕ → Type 0) → P BANDS_L1_L2 → P BANDS_L1_L5 → P
 each_number P l1_l2 l1_l5 all n is =
     one_of (P n) (n == BANDS_L1_L2) ((n == BANDS_L1_L5) || (n == BANDS_L1_L2_L5)) (λ e. subst P (sym (eqb-true n BANDS_L1_L2 e)) l1_l2)
     (one_of (P n) (n == BANDS_L1_L5) (n == BANDS_L1_L2_L5) (λ e. subst P (sym (eqb-true n BANDS_L1_L5 e)) l1_l5) (λ e. subst P (sym (eqb-true n BANDS_L1_L2_L5 e)) all)) is
-
-pub each_band : (P : ℕ → Type 0) → P 0 → P 1 → P 2 → (band : ℕ) → band < PHASES → P band
-each_band P a b c zero inside = a
-each_band P a b c (suc zero) inside = b
-each_band P a b c (suc (suc zero)) inside = c
-each_band P a b c (suc (suc (suc band))) inside = absurd (omega arith)
