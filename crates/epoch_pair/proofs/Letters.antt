@@ -1,10 +1,10 @@
 -- A letter that is found in a list is one of its letters, and what is found on each band fits together.
-use Rattle.std.proofs.Common.{◌≡◌, ℕ, Bool, true, false, not, ◌&&◌, ◌||◌, List, [], ◌∷◌, Some, IsTrue, arith, refl, ap, sym, ◌∙◌, ⊎_elim, subst}
+use Rattle.std.proofs.Common.{◌≡◌, ◌<◌, ℕ, zero, suc, Bool, true, false, not, ◌&&◌, ◌||◌, List, [], ◌∷◌, Some, IsTrue, arith, refl, ap, sym, ◌∙◌, ⊎_elim, subst}
 use Rattle.std.specs.Prelude.{find, ◌==◌}
 use Rattle.std.proofs.lemmas.Bool.{not-true, cond-true, cond-false, cases_Bool, eq-eqb, eqb-true, false≢true}
 use Rattle.std.proofs.lemmas.Option.{none-some, same_Some}
 use Rattle.obs_rows.specs.Letters.{is_letter}
-use Rattle.obs_rows.specs.declared.units.TheConstants.{BANDS_12, BANDS_15, BANDS_125}
+use Rattle.obs_rows.specs.declared.units.TheConstants.{PHASES, BANDS_12, BANDS_15, BANDS_125}
 use Rattle.obs_rows.specs.declared.bands.Signals.{Signals}
 use Rattle.obs_rows.specs.Signals.{used_signals, fine_signals, phase_bands}
 use Rattle.obs_rows.specs.declared.bands.TheConstants.{L1_LETTERS, L2_LETTERS, L5_LETTERS}
@@ -73,6 +73,12 @@ one_more base rover n l2 l5 number is also =
     (λ two five. used_band L2_LETTERS l2 (l5 == 0) refl (on_used base rover 1 l2 BANDS_L1_L2 refl two))
     (λ two five. used_band_too L5_LETTERS l5 (l2 == 0) refl (on_used base rover 2 l5 BANDS_L1_L5 refl five))
     (λ two five. used_band L2_LETTERS l2 (l5 == 0) refl (on_used base rover 1 l2 BANDS_L1_L2_L5 refl two)) n number is also
+
+pub on_each_band : (P : ℕ → Type 0) → P 0 → P 1 → P 2 → (band : ℕ) → band < PHASES → P band
+on_each_band P a b c zero inside = a
+on_each_band P a b c (suc zero) inside = b
+on_each_band P a b c (suc (suc zero)) inside = c
+on_each_band P a b c (suc (suc (suc band))) inside = absurd (omega arith)
 
 -- the phases of the letters stand on the bands of the number
 pub used_bands : (base rover : List Bool) (n : ℕ) (s : Signals) → IsBandsNumber n → AreLettersOf (bands_of n) base rover s → phase_bands (fine_signals s) ≡ bands_of n

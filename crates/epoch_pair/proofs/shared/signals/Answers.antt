@@ -1,4 +1,7 @@
-use Rattle.epoch_pair.proofs.Letters.{l1_used, letter_or_zero, one_more}
+use Rattle.std.proofs.Common.{ℕ}
+use Rattle.band_sets.specs.BandSets.{bands_of}
+use Rattle.epoch_pair.specs.Signals.{is_among, letter_on, letter_of, IsLetterFor}
+use Rattle.epoch_pair.proofs.Letters.{l1_used, letter_or_zero, one_more, on_each_band}
 use Rattle.epoch_pair.proofs.shared.signals.Goals as goal
 
 pub invariant_of-result : goal.invariant_of-result
@@ -11,3 +14,9 @@ invariant_of-result c =
       on_l5 = letter_or_zero base rover 2 c.in_ok-l5.l5 _ c.in_ok-l5.ensures;
       two_bands = one_more base rover c.args.bands c.in_ok-l2.l2 c.in_ok-l5.l5 c.requires c.in_ok-l2.ensures c.in_ok-l5.ensures;
     }
+
+pub returns : goal.returns
+returns c =
+    let base = c.args.base.now.listed in
+    let rover = c.args.rover.now.listed in
+    on_each_band (λ (band : ℕ). IsLetterFor (is_among (bands_of c.args.bands) band) (letter_on base rover band) (letter_of _ band)) c.in_ok-l1.ensures c.in_ok-l2.ensures c.in_ok-l5.ensures
