@@ -19,14 +19,14 @@ use job_answers::{Answer, Status, Stop};
 use line_source::Files;
 use obs_store::ObsFile;
 use pair_refusals::refused_pair;
-use run_options::Options;
 use rinex_head::System;
+use run_options::Options;
 use screening::screen_in;
 use session_begin::{Begun, SessionFault, begin};
 use session_files::read_session;
 use slip_arcs::{Arcs, cut};
-use system_world::world_of;
 use std::alloc::{AllocError, Global};
+use system_world::world_of;
 
 // The arcs of the pairs that are taken.
 fn arcs_of(

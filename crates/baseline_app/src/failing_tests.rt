@@ -37,7 +37,7 @@ fn name_told(err: &[u8]) -> usize {
 #[test]
 fn each_call_on_the_files_fails(rt: HostRuntime) -> Result<(), Fail> {
     let alloc = rt.alloc();
-    let made = make(alloc, 1, 60, 8)?;
+    let made = make(alloc, 1, 60, 8, 12, b'G')?;
     let whole = run_fix(alloc, &made, ROOM, Fails::none(alloc))?;
     assert_eq!(rt; whole.status, Status::Done);
     let mut told = [0u32; 4];
@@ -71,7 +71,7 @@ fn each_call_on_the_files_fails(rt: HostRuntime) -> Result<(), Fail> {
 #[test]
 fn each_sink_fails(rt: HostRuntime) -> Result<(), Fail> {
     let alloc = rt.alloc();
-    let made = make(alloc, 1, 60, 8)?;
+    let made = make(alloc, 1, 60, 8, 12, b'G')?;
     let whole = run_fix(alloc, &made, ROOM, Fails::none(alloc))?;
     let text = whole.out.bytes();
     assert!(rt; text.len() > 4096);

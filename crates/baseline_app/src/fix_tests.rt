@@ -59,7 +59,7 @@ fn baseline_in(text: &str) -> Option<(i64, i64, i64)> {
 #[test]
 fn fixes_a_made_up_session(rt: HostRuntime) -> Result<(), Fail> {
     let alloc = rt.alloc();
-    let made = make(alloc, 1, 60, 8)?;
+    let made = make(alloc, 1, 60, 8, 12, b'G')?;
     let ran = run_fix(alloc, &made.base, &made, "--", 8_000_000)?;
     assert_eq!(rt; ran.status, Status::Done);
     let told = str::from_utf8(ran.err.bytes())?;
@@ -82,7 +82,7 @@ fn fixes_a_made_up_session(rt: HostRuntime) -> Result<(), Fail> {
 #[test]
 fn declines(rt: HostRuntime) -> Result<(), Fail> {
     let alloc = rt.alloc();
-    let made = make(alloc, 1, 60, 8)?;
+    let made = make(alloc, 1, 60, 8, 12, b'G')?;
     let ran = run_fix(alloc, &made.base, &made, "--count=2", 1000)?;
     let few = "pairs 2 of 60\narcs 0\nverdict declined\n";
     expect_run(&rt, &ran, Status::Declined, "declined few 2\n", few);
@@ -97,7 +97,7 @@ fn declines(rt: HostRuntime) -> Result<(), Fail> {
 #[test]
 fn stops_before_a_fix(rt: HostRuntime) -> Result<(), Fail> {
     let alloc = rt.alloc();
-    let made = make(alloc, 1, 8, 8)?;
+    let made = make(alloc, 1, 8, 8, 12, b'G')?;
     let ran = run_fix(alloc, b"", &made, "--", 1000)?;
     let none = "refused: B line 1 column 1: version not 3.00 to 3.05\n";
     expect_run(&rt, &ran, Status::Refused, "", none);

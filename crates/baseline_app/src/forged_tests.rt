@@ -38,7 +38,7 @@ fn not_certified(
 // The certificate of a session of 60 pairs with eight satellites. The line of pair k has number 18 + 9k, the five last
 // lines have numbers 558 to 562.
 fn certificate(rt: &impl Abort, alloc: Global) -> Result<String, Fail> {
-    let made = make(alloc, 1, 60, 8)?;
+    let made = make(alloc, 1, 60, 8, 12, b'G')?;
     let ran = run_fix(alloc, &made.base, &made, "--", 8_000_000)?;
     assert_eq!(rt; ran.status, Status::Done);
     let text = String::from_str(alloc, str::from_utf8(ran.out.bytes())?)?;

@@ -536,7 +536,7 @@ fn run_arcs(
 #[test]
 fn shows_arcs(rt: HostRuntime) -> Result<(), Fail> {
     let alloc = rt.alloc();
-    let made = make(alloc, 1, 60, 8)?;
+    let made = make(alloc, 1, 60, 8, 12, b'G')?;
     let whole = "arc G01 0 59 datum\narc G02 0 59 free\narc G03 0 59 free\narc G04 0 59 free\n\
 arc G05 0 59 free\narc G06 0 59 free\narc G07 0 59 free\narc G08 0 59 free\nshort 0\n";
     let nav = made.nav.as_slice();

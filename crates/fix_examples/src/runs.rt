@@ -96,10 +96,10 @@ fn whole(shift: i64, integer: i64, datum: i64) -> i128 {
     shift as i128 + integer as i128 - datum as i128
 }
 
-// The satellite's whole cycles less those of the other, on each band.
-fn true_wholes(truth: &[[i64; 2]], satellite: u8, other: u8) -> Option<[i128; 2]> {
-    let [l1, l2] = truth.get((satellite as usize).checked_sub(1)?)?;
-    let [d1, d2] = truth.get((other as usize).checked_sub(1)?)?;
+// The satellite's whole cycles less those of the other, on L1 and on L2.
+fn true_wholes(truth: &[[i64; 3]], satellite: u8, other: u8) -> Option<[i128; 2]> {
+    let [l1, l2, _] = truth.get((satellite as usize).checked_sub(1)?)?;
+    let [d1, d2, _] = truth.get((other as usize).checked_sub(1)?)?;
     Some([*l1 as i128 - *d1 as i128, *l2 as i128 - *d2 as i128])
 }
 
@@ -108,7 +108,7 @@ pub(crate) fn are_true(
     rt: &impl Abort,
     cert: &Cert,
     integers: &[i64],
-    truth: &[[i64; 2]],
+    truth: &[[i64; 3]],
     swapped: bool,
 ) {
     let arcs = cert.session.arcs.as_slice();

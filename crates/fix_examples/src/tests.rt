@@ -27,7 +27,7 @@ fn are_near(found: Option<[i64; 3]>, want: [i64; 3], most: u64) -> bool {
 #[test]
 fn half_a_cycle_is_unseparated(rt: HostRuntime) -> Result<(), Fail> {
     let alloc = rt.alloc();
-    let made = make(alloc, 1, 60, 8)?;
+    let made = make(alloc, 1, 60, 8, 12, b'G')?;
     let rover = with_half_a_cycle(alloc, &made.rover, "G03")?;
     let answer = fix_texts(
         alloc,
@@ -64,7 +64,7 @@ const ROVER: &str =
 #[test]
 fn swapped_receivers_give_the_opposite(rt: HostRuntime) -> Result<(), Fail> {
     let alloc = rt.alloc();
-    let made = make(alloc, 1, 30, 6)?;
+    let made = make(alloc, 1, 30, 6, 12, b'G')?;
     let rover = with_position(alloc, &made.rover, ROVER)?;
     let answer = fix_texts(
         alloc,
@@ -93,7 +93,7 @@ fn swapped_receivers_give_the_opposite(rt: HostRuntime) -> Result<(), Fail> {
 #[test]
 fn each_call_on_the_rover_fails(rt: HostRuntime) -> Result<(), Fail> {
     let alloc = rt.alloc();
-    let made = make(alloc, 1, 2, 4)?;
+    let made = make(alloc, 1, 2, 4, 12, b'G')?;
     let mut faults = Vec::new(alloc);
     for call in 0..10 {
         let fails = vec![in alloc; call]?;
@@ -129,7 +129,7 @@ fn form_of(rt: &impl Abort, session: &Session) -> Form
 #[test]
 fn fixes_what_the_plain_search_cannot(rt: HostRuntime) -> Result<(), Fail> {
     let alloc = rt.alloc();
-    let made = make(alloc, 1, 5, 8)?;
+    let made = make(alloc, 1, 5, 8, 12, b'G')?;
     let mut options = Options::defaults();
     options.budget = 1000;
     let answer = fix_texts(alloc, &made.base, &made.rover, &made.nav, &options)?;
@@ -174,7 +174,7 @@ fn option_rows() -> [(Options, &'static str); 5] {
 #[test]
 fn takes_what_the_options_say(rt: HostRuntime) -> Result<(), Fail> {
     let alloc = rt.alloc();
-    let made = make(alloc, 1, 30, 6)?;
+    let made = make(alloc, 1, 30, 6, 12, b'G')?;
     let offset = [-1_656_800, 9_436_070, -6_595_000];
     for (options, told) in option_rows() {
         let answer = fix_texts(alloc, &made.base, &made.rover, &made.nav, &options)?;
