@@ -1,6 +1,3 @@
-use Rattle.std.proofs.Common.{ℕ}
-use Rattle.band_sets.specs.BandSets.{bands_of}
-use Rattle.epoch_pair.specs.Signals.{is_among, letter_on, letter_of, IsLetterFor}
 use Rattle.epoch_pair.proofs.Letters.{l1_used, letter_or_zero, one_more, on_each_band}
 use Rattle.epoch_pair.proofs.shared.signals.Goals as goal
 
@@ -16,7 +13,4 @@ invariant_of-result c =
     }
 
 pub returns : goal.returns
-returns c =
-    let base = c.args.base.now.listed in
-    let rover = c.args.rover.now.listed in
-    on_each_band (λ (band : ℕ). IsLetterFor (is_among (bands_of c.args.bands) band) (letter_on base rover band) (letter_of _ band)) c.in_ok-l1.ensures c.in_ok-l2.ensures c.in_ok-l5.ensures
+returns c = on_each_band _ c.in_ok-l1.ensures c.in_ok-l2.ensures c.in_ok-l5.ensures
