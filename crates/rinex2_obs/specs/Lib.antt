@@ -1,6 +1,7 @@
 pub mod FirstLine
 pub mod HeaderLines
 pub mod Profile
+pub mod SatNumbers
 pub mod SatNames
 pub mod EpochTag
 pub mod EpochLines

@@ -26,16 +26,32 @@ pub fn read_epochs(
 {
     let mut epochs = Epochs::new(alloc);
     'epochs: loop {
-        let Some(line) = line_or_end(lines)? else {
-            return Ok(epochs);
+        let line = match line_or_end(lines) {
+            Ok(Some(line)) => line,
+            Ok(None) => return Ok(epochs),
+            Err(at) => return Err(TextFault::Refused(at)),
         };
         match epoch_line(line.bytes, &epochs) {
             Ok(EpochLine::Blank) => {}
-            Ok(EpochLine::Event { changes, count }) => skip_lines(lines, changes, count as u32)?,
-            Ok(EpochLine::Slips { count }) => skip_slips(lines, header, count)?,
+            Ok(EpochLine::Event { changes, count }) => {
+                match skip_lines(lines, changes, count as u32) {
+                    Ok(()) => {}
+                    Err(at) => return Err(TextFault::Refused(at)),
+                }
+            }
+            Ok(EpochLine::Slips { count }) => match skip_slips(lines, header, count) {
+                Ok(()) => {}
+                Err(at) => return Err(TextFault::Refused(at)),
+            },
             Ok(EpochLine::Epoch { tag, power, list }) => {
-                let sats = read_epoch(alloc, lines, header, kept, list)?;
-                epochs.push(Epoch { tag, power, sats })?;
+                let sats = match read_epoch(alloc, lines, header, kept, list) {
+                    Ok(sats) => sats,
+                    Err(fault) => return Err(fault),
+                };
+                match epochs.push(Epoch { tag, power, sats }) {
+                    Ok(()) => {}
+                    Err(_) => return Err(TextFault::NoMemory),
+                }
             }
             Err(flaw) => return Err(TextFault::Refused(flaw.at(line.number))),
         }

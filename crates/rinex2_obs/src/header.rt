@@ -78,7 +78,10 @@ pub fn first_line(line: &Line<'_>) -> Result<u16, Flaw>
 fn read_first(lines: &mut Lines<'_>) -> Result<u16, At>
     ensures { ReadsFree obs2_rules lines.old lines.new First (λ hundredths. Head (bare_header hundredths)) result }
 {
-    let line = next_line(lines, What::ObsVersion)?;
+    let line = match next_line(lines, What::ObsVersion) {
+        Ok(line) => line,
+        Err(at) => return Err(at),
+    };
     match first_line(&line) {
         Ok(hundredths) => Ok(hundredths),
         Err(flaw) => Err(flaw.at(line.number)),
@@ -93,7 +96,10 @@ fn read_further(lines: &mut Lines<'_>, list: TypeList) -> Result<TypeNames, At>
 {
     let mut list = list;
     'lines: while list.left > 0 {
-        let line = next_line(lines, What::NoEnd)?;
+        let line = match next_line(lines, What::NoEnd) {
+            Ok(line) => line,
+            Err(at) => return Err(at),
+        };
         list = match further_types(Layout::Rinex2, &line, list) {
             Ok(list) => list,
             Err(flaw) => return Err(flaw.at(line.number)),
@@ -109,7 +115,10 @@ fn read_lines(lines: &mut Lines<'_>, hundredths: u16) -> Result<Header, At>
     let mut delta: [i64; 3] = [0; 3];
     let mut types: Option<TypeNames> = None;
     'header: loop {
-        let line = next_line(lines, What::NoEnd)?;
+        let line = match next_line(lines, What::NoEnd) {
+            Ok(line) => line,
+            Err(at) => return Err(at),
+        };
         match header_line(&line) {
             Ok(HeaderLine::Skipped) => {}
             Ok(HeaderLine::Position(found)) => position = found,
@@ -119,7 +128,10 @@ fn read_lines(lines: &mut Lines<'_>, hundredths: u16) -> Result<Header, At>
                     return Err(flaw(1, What::Types).at(line.number));
                 }
                 match first_types(Layout::Rinex2, line.bytes) {
-                    Ok(list) => types = Some(read_further(lines, list)?),
+                    Ok(list) => match read_further(lines, list) {
+                        Ok(names) => types = Some(names),
+                        Err(at) => return Err(at),
+                    },
                     Err(flaw) => return Err(flaw.at(line.number)),
                 }
             }
@@ -143,6 +155,8 @@ fn read_lines(lines: &mut Lines<'_>, hundredths: u16) -> Result<Header, At>
 pub fn read_header(lines: &mut Lines<'_>) -> Result<Header, At>
     ensures { ReadsFree obs2_rules lines.old lines.new First (λ h. Body h []) result }
 {
-    let hundredths = read_first(lines)?;
-    read_lines(lines, hundredths)
+    match read_first(lines) {
+        Ok(hundredths) => read_lines(lines, hundredths),
+        Err(at) => Err(at),
+    }
 }

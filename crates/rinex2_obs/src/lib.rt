@@ -15,6 +15,7 @@ mod header_lines;
 mod profile;
 mod reader;
 mod sat_names;
+mod sat_numbers;
 mod sats;
 
 pub use reader::read_obs2;

@@ -13,14 +13,23 @@ use crate::profile::{kept_types, listed_types};
 use line_source::Lines;
 use obs_store::ObsFile;
 use rinex_head::TextFault;
-use std::alloc::Global;
+use std::alloc::{AllocError, Global};
 
 fn read_lines(alloc: Global, mut lines: Lines<'_>) -> Result<ObsFile, TextFault>
     ensures { Gives (rest_gives obs2_rules lines.entry First) (λ file. file) result }
 {
-    let header = read_header(&mut lines)?;
-    let kept = kept_types(alloc, &header.types)?;
-    let epochs = read_epochs(alloc, &mut lines, &header, &kept)?;
+    let header = match read_header(&mut lines) {
+        Ok(header) => header,
+        Err(at) => return Err(TextFault::Refused(at)),
+    };
+    let kept = match kept_types(alloc, &header.types) {
+        Ok(kept) => kept,
+        Err(AllocError) => return Err(TextFault::NoMemory),
+    };
+    let epochs = match read_epochs(alloc, &mut lines, &header, &kept) {
+        Ok(epochs) => epochs,
+        Err(fault) => return Err(fault),
+    };
     Ok(ObsFile {
         hundredths: header.hundredths,
         position: header.position,

@@ -1,87 +1,21 @@
 // The names of the satellites in the line of an epoch and in further lines of names (RINEX 2.11, epoch record).
-ghost use Rattle.std.specs.Prelude.{◌≡◌, ◌+◌, ◌-◌, ◌*◌, ◌<◌, ◌≤◌, ◌++◌, ◌∷◌, [], min, length, IfOk, OnOk, IfErr, Ok, Err};
-ghost use Rattle.rinex2_obs.specs.SatNames.{has_number, is_named, name_in, names_from, with_line, first_names_of, further_mark_of, further_names_of, AreNames, FitsBehind};
+ghost use Rattle.std.specs.Prelude.{◌≡◌, ◌+◌, ◌*◌, ◌≤◌, length, IfOk, OnOk, IfErr, Ok, Err};
+ghost use Rattle.rinex2_obs.specs.SatNumbers.{FitsBehind};
+ghost use Rattle.rinex2_obs.specs.SatNames.{name_in, names_from, with_line, first_names_of, further_mark_of, further_names_of};
 
 use crate::header::flaw;
-use arrayvec::ArrayVec;
+use crate::sat_numbers::SatNames;
 use obs_fields::satellite;
 use rinex_head::{Flaw, System, What, bad_field, field, is_blank_line};
-use std::marker::Model;
-
-/// How many satellites an epoch may have: its count has three digits.
-pub const MOST_NAMES: usize = 999;
 
 // how many names a line has room for
 const NAMES_IN_LINE: u16 = 12;
-
-/// The satellites of an epoch by their names: the numbers of those of GPS, from 1 to 32, each at most once, and nothing
-/// in the places of others. Contracts see the list of them.
-#[derive(Drop)]
-pub struct SatNames {
-    items: ArrayVec<Option<u8>, MOST_NAMES>,
-}
-
-impl Model for SatNames {
-    ghost use Rattle.std.specs.Prelude.{List, ℕ};
-    ghost use Rattle.std.specs.declared.option.Option.{Option};
-    ghost use Rattle.rinex2_obs.specs.SatNames.{AreNames};
-
-    ghost Value = { List (Option ℕ) };
-
-    ghost view = { λ s. s.items.items };
-
-    ghost invariant = { λ s. AreNames s.items.items };
-}
 
 /// The names that an epoch has so far, and how many are due.
 #[derive(Drop)]
 pub struct NameList {
     pub names: SatNames,
     pub left: u16,
-}
-
-fn is_number(name: Option<u8>, number: u8) -> bool
-    ensures { result ≡ has_number number name }
-{
-    match name {
-        Some(n) => number == n,
-        None => false,
-    }
-}
-
-impl SatNames {
-    /// No names.
-    pub fn new() -> SatNames
-        ensures { result ≡ [] }
-    {
-        SatNames {
-            items: ArrayVec::new(),
-        }
-    }
-
-    /// The names, in order.
-    pub fn as_slice(&self) -> &[Option<u8>]
-        ensures value { result.now ≡ self.now }
-        ensures kept { AreNames self.now }
-    {
-        self.items.as_slice()
-    }
-
-    // Whether a satellite of GPS has this number.
-    fn has(&self, number: u8) -> bool
-        ensures { result ≡ is_named number self.now }
-    {
-        self.items.iter().any(|name| is_number(*name, number))
-    }
-
-    // Adds a name.
-    fn push(&mut self, name: Option<u8>)
-        requires room { length self.old < 999 }
-        requires fits { FitsBehind self.old name }
-        ensures { self.new ≡ self.old ++ name ∷ [] }
-    {
-        self.items.push(name);
-    }
 }
 
 // The satellite whose name begins at this column, behind these ones.

@@ -6,12 +6,13 @@ ghost use Rattle.obs_store.specs.declared.series.Epoch.{Epoch};
 ghost use Rattle.obs_store.specs.declared.values.SatObs.{SatObs};
 ghost use Rattle.rinex_head.specs.Walk.{Reads, ReadsFree};
 ghost use Rattle.rinex2_obs.specs.Profile.{kept_of};
-ghost use Rattle.rinex2_obs.specs.SatNames.{AreNames, AreNew, IsWith};
+ghost use Rattle.rinex2_obs.specs.SatNumbers.{AreNames, AreNew, IsWith};
 ghost use Rattle.rinex2_obs.specs.declared.header.Header.{Header};
 ghost use Rattle.rinex2_obs.specs.Obs2Rules.{Body, epoch_of, more_names, more_sats, obs2_rules};
 
 use crate::header::Header;
-use crate::sat_names::{NameList, SatNames, further_names};
+use crate::sat_names::{NameList, further_names};
+use crate::sat_numbers::SatNames;
 use line_source::Lines;
 use obs_fields::{KeptType, Layout, set_values};
 use obs_store::{SatObs, Satellites};
@@ -26,7 +27,10 @@ fn read_names(lines: &mut Lines<'_>, list: NameList) -> Result<SatNames, At>
 {
     let mut list = list;
     'names: while list.left > 0 {
-        let line = next_line(lines, What::Truncated)?;
+        let line = match next_line(lines, What::Truncated) {
+            Ok(line) => line,
+            Err(at) => return Err(at),
+        };
         list = match further_names(line.bytes, list) {
             Ok(list) => list,
             Err(flaw) => return Err(flaw.at(line.number)),
@@ -49,7 +53,10 @@ fn read_rows(
 {
     let mut sat = SatObs::missing(number);
     for at in 0..header.rows() {
-        let line = next_line(lines, What::Truncated)?;
+        let line = match next_line(lines, What::Truncated) {
+            Ok(line) => line,
+            Err(at) => return Err(at),
+        };
         match set_values(Layout::Rinex2, at, line.bytes, kept, &mut sat.values) {
             Ok(()) => {}
             Err(flaw) => return Err(flaw.at(line.number)),
@@ -64,7 +71,10 @@ fn skip_rows(lines: &mut Lines<'_>, header: &Header) -> Result<(), At>
     ensures less { length lines.new.left ≤ length lines.old.left }
 {
     for _at in 0..header.rows() {
-        next_line(lines, What::Truncated)?;
+        match next_line(lines, What::Truncated) {
+            Ok(_) => {}
+            Err(at) => return Err(at),
+        }
     }
     Ok(())
 }
@@ -85,14 +95,19 @@ fn read_satellite(
 {
     match name {
         Some(number) => {
-            let sat = read_rows(lines, header, kept, number)?;
-            sats.push(sat)?;
-            Ok(())
+            let sat = match read_rows(lines, header, kept, number) {
+                Ok(sat) => sat,
+                Err(at) => return Err(TextFault::Refused(at)),
+            };
+            match sats.push(sat) {
+                Ok(()) => Ok(()),
+                Err(_) => Err(TextFault::NoMemory),
+            }
         }
-        None => {
-            skip_rows(lines, header)?;
-            Ok(())
-        }
+        None => match skip_rows(lines, header) {
+            Ok(()) => Ok(()),
+            Err(at) => Err(TextFault::Refused(at)),
+        },
     }
 }
 
@@ -110,7 +125,10 @@ fn read_satellites(
 {
     let mut sats = Satellites::new(alloc);
     for name in names {
-        read_satellite(lines, header, kept, *name, &mut sats)?;
+        match read_satellite(lines, header, kept, *name, &mut sats) {
+            Ok(()) => {}
+            Err(fault) => return Err(fault),
+        }
     }
     Ok(sats)
 }
@@ -128,6 +146,8 @@ pub fn read_epoch(
     ensures reads { (epochs : List Epoch) (tag : Tick) (power : Bool) → Reads obs2_rules lines.old lines.new (more_names header.now epochs tag power list.names list.left) (λ sats. Body header.now (epochs ++ epoch_of tag power sats ∷ [])) result }
     ensures less { length lines.new.left ≤ length lines.old.left }
 {
-    let names = read_names(lines, list)?;
-    read_satellites(alloc, lines, header, kept, names.as_slice())
+    match read_names(lines, list) {
+        Ok(names) => read_satellites(alloc, lines, header, kept, names.as_slice()),
+        Err(at) => Err(TextFault::Refused(at)),
+    }
 }

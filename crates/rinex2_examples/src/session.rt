@@ -1,0 +1,114 @@
+// A file of seven types and two epochs, and the same with other lines in the place of some.
+use obs_store::ObsFile;
+use rinex_head::At;
+use rinex2_obs::{ObsFault, read_obs2};
+use std::alloc::{AllocError, Global};
+use std::process::Abort;
+
+pub const FIRST: &str =
+    "     2.11           OBSERVATION DATA    G (GPS)             RINEX VERSION / TYPE";
+
+pub const PLACE: &str =
+    "  6378137.0000        0.0000        0.0000                  APPROX POSITION XYZ";
+
+pub const DELTA: &str =
+    "        1.5000        0.0000        0.0000                  ANTENNA: DELTA H/E/N";
+
+pub const FACTORS: &str =
+    "     1     1                                                WAVELENGTH FACT L1/2";
+
+pub const TYPES: &str =
+    "     7    C1    L1    L2    P2    D1    S1    S2            # / TYPES OF OBSERV";
+
+pub const TIME: &str =
+    "  2024     1     1     0     0    0.0000000     GPS         TIME OF FIRST OBS";
+
+pub const END: &str =
+    "                                                            END OF HEADER";
+
+pub const EPOCH: &str =
+    " 24  1  1  0  0 30.0000000  0  2G05 12";
+
+pub const SAT_5: &str =
+    "  22123456.789   116260123.45617  90592303.99946  22123459.123  ";
+
+pub const SAT_5_REST: &str =
+    "        45.250         38.500  ";
+
+pub const SAT_12: &str =
+    "  23123456.789   121515123.456    94687303.999    23123459.123  ";
+
+pub const SAT_12_REST: &str =
+    "        44.000         30.250  ";
+
+pub const LATER: &str =
+    " 24  1  1  0  1  0.0000000  0  0";
+
+pub const TEN_TYPES: &str =
+    "    10    C1    L1    L2    P2    D1    S1    S2    D2    C2# / TYPES OF OBSERV";
+
+pub const THIRTEEN: &str =
+    " 24  1  1  0  0 30.0000000  0 13G01G02G03G04G05G06G07G08G09G10G11G12";
+
+/// The file, line by line.
+pub const FILE: [&str; 13] = [
+    FIRST,
+    PLACE,
+    DELTA,
+    FACTORS,
+    TYPES,
+    TIME,
+    END,
+    EPOCH,
+    SAT_5,
+    SAT_5_REST,
+    SAT_12,
+    SAT_12_REST,
+    LATER,
+];
+
+fn push_line(text: &mut String, line: &str) -> Result<(), AllocError> {
+    text.push_str(line)?;
+    text.push_str("\n")?;
+    Ok(())
+}
+
+/// The text of these lines.
+pub fn text_of(alloc: Global, lines: &[&str]) -> Result<String, AllocError> {
+    let mut text = String::new(alloc);
+    for line in lines {
+        push_line(&mut text, line)?;
+    }
+    Ok(text)
+}
+
+/// What the text gives.
+pub fn read(rt: &impl Abort, alloc: Global, text: &str) -> Result<ObsFile, At> {
+    assert!(rt; text.len() <= 67_108_864);
+    match read_obs2(alloc, text.as_bytes()) {
+        Ok(file) => Ok(file),
+        Err(ObsFault::Refused(at)) => Err(at),
+        Err(ObsFault::NoMemory) => panic!(rt; "no memory"),
+    }
+}
+
+/// What the file gives with these lines in the place of those from one on, up to that before another, counted from 1.
+pub fn read_changed(
+    rt: &impl Abort,
+    alloc: Global,
+    from: usize,
+    lines: &[&str],
+    to: usize,
+) -> Result<Result<ObsFile, At>, AllocError> {
+    let mut text = String::new(alloc);
+    for line in FILE.iter().take(from - 1) {
+        push_line(&mut text, line)?;
+    }
+    for line in lines {
+        push_line(&mut text, line)?;
+    }
+    for line in FILE.iter().skip(to - 1) {
+        push_line(&mut text, line)?;
+    }
+    Ok(read(rt, alloc, &text))
+}

@@ -1,0 +1,205 @@
+-- What the lines give is what the grammar says.
+use Rattle.std.proofs.Common.{◌≡◌, ◌+◌, ◌-◌, ◌*◌, ◌≤◌, ◌<◌, ℕ, zero, suc, pos, Bool, false, List, [], ◌∷◌, ◌++◌, length, Ok, Option, Some, None, refl, sym, ap, ◌∙◌, subst, arith, append_assoc, add-zero, length-append}
+use Rattle.std.proofs.lemmas.List.{append-nil}
+use Rattle.gps_time.specs.declared.Tick.{Tick}
+use Rattle.obs_store.specs.declared.file.ObsFile.{ObsFile}
+use Rattle.obs_store.specs.declared.series.Epoch.{Epoch}
+use Rattle.obs_store.specs.declared.values.Value.{Value}
+use Rattle.obs_store.specs.declared.values.SatObs.{SatObs}
+use Rattle.obs_store.specs.Missing.{missing_values}
+use Rattle.rinex_head.specs.Walk.{walk}
+use Rattle.rinex_head.proofs.Walks.{walk-takes, walk-end}
+use Rattle.rinex2_obs.specs.Profile.{kept_of}
+use Rattle.rinex2_obs.specs.Rows.{rows_of, further_lines_of}
+use Rattle.rinex2_obs.specs.declared.header.Header.{Header}
+use Rattle.rinex2_obs.specs.declared.header_lines.HeaderLine.{HeaderLine}
+use Rattle.rinex2_obs.specs.declared.header_lines.HeaderLine.TheVariants as header
+use Rattle.rinex2_obs.specs.Obs2Rules.{HeaderSoFar, First, Head, Body, Skip, so_far, bare_header, with_types, whole_header, file_of, epoch_of, more_types, more_sats, more_names, more_rows, more_lines, more_slips, with_satellite, after_header, admit, obs2_rules}
+use Rattle.rinex2_obs.specs.Obs2Form.{HeadPart, IsPlain, AreHeadParts, head_lines, position_by, delta_by, last_position, last_delta, AreFurther, IsHeader, SatPart, Part, Blank, Event, Slips, Epoch_, AreFurtherNames, AreRows, AreSats, numbers_of, sat_lines, if_of_gps, satellites_of, AreEventLines, AreMarked, AreShort, epoch_in_part, AreParts, epochs_of, body_lines, IsObs2File}
+use Rattle.rinex2_obs.proofs.Steps.{admit_more, admit_names, rows_begin, rows_all, admit_rows, admit_slips, admit_skipped, one_satellite}
+
+-- the lines of an event are taken
+lines_taken : (lines more : List (List ℕ)) (h : Header) (epochs : List Epoch) (changes : Bool) (n : ℕ) → AreEventLines changes lines
+    → walk obs2_rules (lines ++ more) n (more_lines h epochs changes (length lines)) ≡ walk obs2_rules more (n + length lines) (Body h epochs)
+lines_taken [] more h epochs changes n are = rw add-zero refl
+lines_taken (bytes ∷ lines) more h epochs changes n are =
+    let one_less : suc (length lines) - 1 ≡ length lines = omega arith in
+    let further : n + suc (length lines) ≡ n + 1 + length lines = omega arith in
+    let admits : admit (Skip h epochs changes (suc (length lines))) bytes ≡ Ok (more_lines h epochs changes (length lines)) = rw (are.1, one_less) refl in
+    walk-takes obs2_rules (Skip h epochs changes (suc (length lines))) (more_lines h epochs changes (length lines)) bytes (lines ++ more) n are.0 admits
+    ∙ lines_taken lines more h epochs changes (n + 1) are.2 ∙ rw further refl
+
+-- lines behind which the header can't change are taken whatever they say
+short_taken : (lines more : List (List ℕ)) (h : Header) (epochs : List Epoch) (n : ℕ) → AreShort lines
+    → walk obs2_rules (lines ++ more) n (more_lines h epochs false (length lines)) ≡ walk obs2_rules more (n + length lines) (Body h epochs)
+short_taken [] more h epochs n are = rw add-zero refl
+short_taken (bytes ∷ lines) more h epochs n are =
+    let one_less : suc (length lines) - 1 ≡ length lines = omega arith in
+    let further : n + suc (length lines) ≡ n + 1 + length lines = omega arith in
+    let admits : admit (Skip h epochs false (suc (length lines))) bytes ≡ Ok (more_lines h epochs false (length lines)) = admit_skipped h epochs (suc (length lines)) bytes ∙ rw one_less refl in
+    walk-takes obs2_rules (Skip h epochs false (suc (length lines))) (more_lines h epochs false (length lines)) bytes (lines ++ more) n are.0 admits
+    ∙ short_taken lines more h epochs (n + 1) are.1 ∙ rw further refl
+
+-- lines of names that aren't read are taken
+marked_taken : (lines more : List (List ℕ)) (h : Header) (epochs : List Epoch) (rows n : ℕ) → AreMarked lines
+    → walk obs2_rules (lines ++ more) n (more_slips h epochs (length lines) rows) ≡ walk obs2_rules more (n + length lines) (more_lines h epochs false rows)
+marked_taken [] more h epochs rows n are = rw add-zero refl
+marked_taken (bytes ∷ lines) more h epochs rows n are =
+    let some = suc (length lines) in
+    let one_less : suc (length lines) - 1 ≡ length lines = omega arith in
+    let further : n + suc (length lines) ≡ n + 1 + length lines = omega arith in
+    let admits : admit (more_slips h epochs some rows) bytes ≡ Ok (more_slips h epochs (length lines) rows) = admit_slips h epochs some rows bytes (omega arith) ∙ rw (are.1, one_less) refl in
+    walk-takes obs2_rules (more_slips h epochs some rows) (more_slips h epochs (length lines) rows) bytes (lines ++ more) n are.0 admits
+    ∙ marked_taken lines more h epochs rows (n + 1) are.2 ∙ rw further refl
+
+-- the lines of a satellite from that number on are taken
+rows_taken : (rows more : List (List ℕ)) (h : Header) (epochs : List Epoch) (tag : Tick) (power : Bool) (sats : List SatObs) (name : Option ℕ) (names : List (Option ℕ)) (at : ℕ) (before after : List (Option Value)) (n : ℕ)
+    → AreRows (kept_of h.types) name at rows before after → length rows + at ≡ rows_of h.types
+    → walk obs2_rules (rows ++ more) n (more_rows h epochs tag power sats name names at before) ≡ walk obs2_rules more (n + length rows) (more_sats h epochs tag power (with_satellite sats name after) names)
+rows_taken [] more h epochs tag power sats name names at before after n are count =
+    let all = rows_all h epochs tag power sats name names at before (omega (arith, count)) in
+    rw (all, are, add-zero) refl
+rows_taken (bytes ∷ rows) more h epochs tag power sats name names at before after n are count =
+    let set = are.1.0 in
+    let further : n + suc (length rows) ≡ n + 1 + length rows = omega arith in
+    let admits : admit (more_rows h epochs tag power sats name names at before) bytes ≡ Ok (more_rows h epochs tag power sats name names (at + 1) set) =
+        admit_rows h epochs tag power sats name names at before bytes (omega (arith, count)) ∙ rw (are.1.1) refl in
+    walk-takes obs2_rules (more_rows h epochs tag power sats name names at before) (more_rows h epochs tag power sats name names (at + 1) set) bytes (rows ++ more) n are.0 admits
+    ∙ rows_taken rows more h epochs tag power sats name names (at + 1) set after (n + 1) are.1.2 (omega (arith, count)) ∙ rw further refl
+
+-- and so are those of the satellites of an epoch
+sats_taken : (parts : List SatPart) (more : List (List ℕ)) (h : Header) (epochs : List Epoch) (tag : Tick) (power : Bool) (sats : List SatObs) (n : ℕ) → AreSats h.types parts
+    → walk obs2_rules (sat_lines parts ++ more) n (more_sats h epochs tag power sats (numbers_of parts)) ≡ walk obs2_rules more (n + length (sat_lines parts)) (Body h (epochs ++ epoch_of tag power (sats ++ satellites_of parts) ∷ []))
+sats_taken [] more h epochs tag power sats n are = rw (add-zero, append-nil sats) refl
+sats_taken (p ∷ parts) more h epochs tag power sats n are =
+    let behind = sat_lines parts ++ more in
+    let after = with_satellite sats p.number p.values in
+    let count : length p.rows + 0 ≡ rows_of h.types = omega (arith, are.0.count) in
+    let further : n + length (p.rows ++ sat_lines parts) ≡ n + length p.rows + length (sat_lines parts) = omega (arith, length-append p.rows (sat_lines parts)) in
+    let same : after ++ satellites_of parts ≡ sats ++ (if_of_gps p.number p.values ++ satellites_of parts) = one_satellite sats p.number p.values (satellites_of parts) in
+    ap (λ (l : List (List ℕ)). walk obs2_rules l n (more_sats h epochs tag power sats (p.number ∷ numbers_of parts))) (append_assoc p.rows (sat_lines parts) more)
+    ∙ rw (rows_begin h epochs tag power sats p.number (numbers_of parts)) (rows_taken p.rows behind h epochs tag power sats p.number (numbers_of parts) 0 missing_values p.values n are.0.rows count)
+    ∙ sats_taken parts more h epochs tag power after (n + length p.rows) are.1
+    ∙ rw (further, same) refl
+
+-- the further lines of an epoch's names are taken
+names_taken : (lines more : List (List ℕ)) (h : Header) (epochs : List Epoch) (tag : Tick) (power : Bool) (names : List (Option ℕ)) (left : ℕ) (all : List (Option ℕ)) (n : ℕ) → AreFurtherNames lines names left all
+    → walk obs2_rules (lines ++ more) n (more_names h epochs tag power names left) ≡ walk obs2_rules more (n + length lines) (more_sats h epochs tag power [] all)
+names_taken [] more h epochs tag power names left all n are = rw (are.0, are.1, add-zero) refl
+names_taken (bytes ∷ lines) more h epochs tag power names left all n are =
+    let list = are.2.0 in
+    let further : n + suc (length lines) ≡ n + 1 + length lines = omega arith in
+    let admits : admit (more_names h epochs tag power names left) bytes ≡ Ok (more_names h epochs tag power list.names list.left) = admit_names h epochs tag power names left bytes are.0 ∙ rw (are.2.1) refl in
+    walk-takes obs2_rules (more_names h epochs tag power names left) (more_names h epochs tag power list.names list.left) bytes (lines ++ more) n are.1 admits
+    ∙ names_taken lines more h epochs tag power list.names list.left all (n + 1) are.2.2 ∙ rw further refl
+
+-- and so are the parts of a body
+parts_taken : (parts : List Part) (h : Header) (epochs : List Epoch) (n : ℕ) → AreParts h.types epochs parts → walk obs2_rules (body_lines parts) n (Body h epochs) ≡ Ok (file_of h (epochs ++ epochs_of parts))
+parts_taken [] h epochs n are = walk-end obs2_rules (Body h epochs) n ∙ rw (append-nil epochs) refl
+parts_taken (Blank bytes ∷ parts) h epochs n are =
+    let admits : admit (Body h epochs) bytes ≡ Ok (Body h epochs) = rw (are.1) refl in
+    walk-takes obs2_rules (Body h epochs) (Body h epochs) bytes (body_lines parts) n are.0 admits ∙ parts_taken parts h epochs (n + 1) are.2
+parts_taken (Event p ∷ parts) h epochs n are =
+    let k = length p.event_lines in
+    let admits : admit (Body h epochs) p.bytes ≡ Ok (more_lines h epochs p.changes k) = rw (are.0.says) refl in
+    walk-takes obs2_rules (Body h epochs) (more_lines h epochs p.changes k) p.bytes (p.event_lines ++ body_lines parts) n are.0.short admits
+    ∙ lines_taken p.event_lines (body_lines parts) h epochs p.changes (n + 1) are.0.lines
+    ∙ parts_taken parts h epochs (n + 1 + k) are.1
+parts_taken (Slips p ∷ parts) h epochs n are =
+    let k = length p.further in
+    let m = length p.rows in
+    let admits : admit (Body h epochs) p.bytes ≡ Ok (more_slips h epochs k m) = rw (are.0.says, are.0.further_count, are.0.rows_count) refl in
+    walk-takes obs2_rules (Body h epochs) (more_slips h epochs k m) p.bytes ((p.further ++ p.rows) ++ body_lines parts) n are.0.short admits
+    ∙ ap (λ (l : List (List ℕ)). walk obs2_rules l (n + 1) (more_slips h epochs k m)) (append_assoc p.further p.rows (body_lines parts))
+    ∙ marked_taken p.further (p.rows ++ body_lines parts) h epochs m (n + 1) are.0.further
+    ∙ short_taken p.rows (body_lines parts) h epochs (n + 1 + k) are.0.rows
+    ∙ parts_taken parts h epochs (n + 1 + k + m) are.1
+parts_taken (Epoch_ p ∷ parts) h epochs n are =
+    let k = length p.further in
+    let lines = sat_lines p.sats in
+    let first = more_names h epochs p.tag p.power p.list.names p.list.left in
+    let admits : admit (Body h epochs) p.bytes ≡ Ok first = rw (are.0.says) refl in
+    walk-takes obs2_rules (Body h epochs) first p.bytes ((p.further ++ lines) ++ body_lines parts) n are.0.short admits
+    ∙ ap (λ (l : List (List ℕ)). walk obs2_rules l (n + 1) first) (append_assoc p.further lines (body_lines parts))
+    ∙ names_taken p.further (lines ++ body_lines parts) h epochs p.tag p.power p.list.names p.list.left (numbers_of p.sats) (n + 1) are.0.names
+    ∙ sats_taken p.sats (body_lines parts) h epochs p.tag p.power [] (n + 1 + k) are.0.sats
+    ∙ parts_taken parts h (epochs ++ epoch_in_part p ∷ []) (n + 1 + k + length lines) are.1
+    ∙ rw (append_assoc epochs (epoch_in_part p ∷ []) (epochs_of parts)) refl
+
+-- the further lines of a list of types are taken
+further_taken : (lines more : List (List ℕ)) (h : HeaderSoFar) (names : List (List ℕ)) (left : ℕ) (all : List (List ℕ)) (n : ℕ) → AreFurther lines names left all
+    → walk obs2_rules (lines ++ more) n (more_types h names left) ≡ walk obs2_rules more (n + length lines) (Head (with_types h all))
+further_taken [] more h names left all n are = rw (are.0, are.1, add-zero) refl
+further_taken (bytes ∷ lines) more h names left all n are =
+    let list = are.2.0 in
+    let further : n + suc (length lines) ≡ n + 1 + length lines = omega arith in
+    let admits : admit (more_types h names left) bytes ≡ Ok (more_types h list.names list.left) = admit_more h names left bytes are.0 ∙ rw (are.2.1) refl in
+    walk-takes obs2_rules (more_types h names left) (more_types h list.names list.left) bytes (lines ++ more) n are.1 admits
+    ∙ further_taken lines more h list.names list.left all (n + 1) are.2.2 ∙ rw further refl
+
+abbrev seen_by : HeaderSoFar → HeaderLine → HeaderSoFar
+seen_by h l = so_far h.hundredths (position_by h.position l) (delta_by h.delta l) h.types
+
+plain_step : (h : HeaderSoFar) (bytes : List ℕ) (l : HeaderLine) → IsPlain l → after_header h bytes l ≡ Ok (Head (seen_by h l))
+plain_step h bytes header.End plain = absurd plain
+plain_step h bytes (header.Position p) plain = refl
+plain_step h bytes (header.Delta d) plain = refl
+plain_step h bytes header.Types plain = absurd plain
+plain_step h bytes header.Skipped plain = refl
+
+-- and so are the other lines of a header
+plain_taken : (parts : List HeadPart) (more : List (List ℕ)) (h : HeaderSoFar) (n : ℕ) → AreHeadParts parts
+    → walk obs2_rules (head_lines parts ++ more) n (Head h) ≡ walk obs2_rules more (n + length parts) (Head (so_far h.hundredths (last_position h.position parts) (last_delta h.delta parts) h.types))
+plain_taken [] more h n are = rw add-zero refl
+plain_taken (p ∷ parts) more h n are =
+    let further : n + suc (length parts) ≡ n + 1 + length parts = omega arith in
+    let admits : admit (Head h) p.bytes ≡ Ok (Head (seen_by h p.says)) = rw (are.1) (plain_step h p.bytes p.says are.2) in
+    walk-takes obs2_rules (Head h) (Head (seen_by h p.says)) p.bytes (head_lines parts ++ more) n are.0 admits
+    ∙ plain_taken parts more (seen_by h p.says) (n + 1) are.3 ∙ rw further refl
+
+-- a header is taken, whatever follows it
+record TookWhole (lines more : List (List ℕ)) (h : Header) : Type 0 where
+  number : ℕ
+  gives : walk obs2_rules (lines ++ more) 0 First ≡ walk obs2_rules more number (Body h [])
+
+pub regroup : (before : List (List ℕ)) (list : List ℕ) (further after : List (List ℕ)) (last : List ℕ) (more : List (List ℕ))
+    → (before ++ (list ∷ (further ++ (after ++ (last ∷ []))))) ++ more ≡ before ++ (list ∷ (further ++ (after ++ (last ∷ more))))
+regroup before list further after last more = simp append_assoc
+
+header_taken : (lines more : List (List ℕ)) (h : Header) → IsHeader lines h → TookWhole lines more h
+header_taken lines more h is =
+    let version = bare_header h.hundredths in
+    let seen = so_far h.hundredths (last_position None is.before) (last_delta (pos 0 ∷ pos 0 ∷ pos 0 ∷ []) is.before) None in
+    let listed = with_types seen h.types in
+    let all = so_far h.hundredths (last_position seen.position is.after) (last_delta seen.delta is.after) (Some h.types) in
+    let behind_after = is.last ∷ more in
+    let behind_list = head_lines is.after ++ behind_after in
+    let behind_before = is.list ∷ (is.further ++ behind_list) in
+    let behind_first = head_lines is.before ++ behind_before in
+    let first_admits : admit First is.first ≡ Ok (Head version) = rw (is.version) refl in
+    let list_admits : admit (Head seen) is.list ≡ Ok (more_types seen is.types.list.names is.types.list.left) = rw (is.types.begins, is.types.first) refl in
+    let whole : whole_header all h.types ≡ h = rw (← is.position, ← is.delta) refl in
+    let last_admits : admit (Head all) is.last ≡ Ok (Body (whole_header all h.types) []) = rw (is.ends) refl in
+    let n1 = 0 + 1 in
+    let n2 = n1 + length is.before in
+    let n3 = n2 + 1 + length is.further in
+    let n4 = n3 + length is.after in
+    record {
+      number = n4 + 1;
+      gives = ap (λ (l : List (List ℕ)). walk obs2_rules (l ++ more) 0 First) is.lines_are
+          ∙ ap (λ (l : List (List ℕ)). walk obs2_rules (is.first ∷ l) 0 First) (regroup (head_lines is.before) is.list is.further (head_lines is.after) is.last more)
+          ∙ walk-takes obs2_rules First (Head version) is.first behind_first 0 is.first_short first_admits
+          ∙ plain_taken is.before behind_before version n1 is.before_are
+          ∙ walk-takes obs2_rules (Head seen) (more_types seen is.types.list.names is.types.list.left) is.list (is.further ++ behind_list) n2 is.types.short list_admits
+          ∙ further_taken is.further behind_list seen is.types.list.names is.types.list.left h.types (n2 + 1) is.types.others
+          ∙ plain_taken is.after behind_after listed n3 is.after_are
+          ∙ walk-takes obs2_rules (Head all) (Body (whole_header all h.types) []) is.last more n4 is.last_short last_admits
+          ∙ ap (λ (w : Header). walk obs2_rules more (n4 + 1) (Body w [])) whole;
+    }
+
+-- a file of the grammar is what its lines give
+pub file_given : (lines : List (List ℕ)) (file : ObsFile) → IsObs2File lines file → walk obs2_rules lines 0 First ≡ Ok file
+file_given lines file is =
+    let head = header_taken is.header_lines (body_lines is.parts) is.header is.is_header in
+    ap (λ (l : List (List ℕ)). walk obs2_rules l 0 First) is.lines_are
+    ∙ head.gives ∙ parts_taken is.parts is.header [] head.number is.are_parts ∙ ap (λ (f : ObsFile). Ok f) (sym is.file_is)

@@ -1,0 +1,7 @@
+pub mod Steps
+pub mod KeptTypes
+pub mod NameLists
+pub mod CountLaws
+pub mod FormLaws
+pub mod FormTook
+pub mod FormPlaces

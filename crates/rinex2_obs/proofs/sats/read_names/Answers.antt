@@ -1,0 +1,41 @@
+use Rattle.std.proofs.Common.{Ok, refl, ap, ◌∙◌, arith}
+use Rattle.rinex_head.specs.declared.place.What.TheVariants.{Truncated}
+use Rattle.rinex_head.specs.Walk.{rest_gives}
+use Rattle.rinex_head.proofs.Walks.{goes_on, stops, has_none, gives_less}
+use Rattle.rinex2_obs.specs.SatNames.{further_names_of}
+use Rattle.rinex2_obs.specs.Obs2Rules.{Expected, more_names, obs2_rules}
+use Rattle.rinex2_obs.proofs.Steps.{finish_names, admit_names, names_all}
+use Rattle.rinex2_obs.proofs.sats.read_names.Goals as goal
+
+pub returns-in-Err-clause-reads : goal.returns-in-Err-clause-reads
+returns-in-Err-clause-reads c = λ h epochs tag power.
+    let names = c.names.list.names in
+    let n = c.names.list.left in
+    c.names.invariant.reads h epochs tag power
+    ∙ has_none obs2_rules (more_names h epochs tag power names n) _ _ Truncated _ (finish_names h epochs tag power names n c.names-test.true) c.in-Err.ensures
+
+pub returns-in-Err-further_names-clause-reads : goal.returns-in-Err-further_names-clause-reads
+returns-in-Err-further_names-clause-reads c = λ h epochs tag power.
+    let bytes = c.in-Ok.line.bytes.now in
+    let names = c.names.list.names in
+    let n = c.names.list.left in
+    rw c.at.ensures (c.names.invariant.reads h epochs tag power
+    ∙ stops obs2_rules (more_names h epochs tag power names n) (further_names_of bytes names n) (λ list. Ok (more_names h epochs tag power list.names list.left)) _ _ _ _ bytes c.in-Ok.ensures (admit_names h epochs tag power names n bytes c.names-test.true) c.in-Err-further_names.ensures.value)
+
+pub names-preserved : goal.names-preserved
+names-preserved c =
+    let bytes = c.in-Ok.line.bytes.now in
+    let names = c.names.list.names in
+    let n = c.names.list.left in
+    let list = c.in-Ok-further_names.list in
+    let less = gives_less _ _ _ _ c.in-Ok.ensures in
+    record {
+      reads = λ h epochs tag power. c.names.invariant.reads h epochs tag power
+          ∙ goes_on obs2_rules (more_names h epochs tag power names n) (more_names h epochs tag power list.names list.left) (further_names_of bytes names n) (λ list. Ok (more_names h epochs tag power list.names list.left)) list _ _ _ bytes c.in-Ok.ensures (admit_names h epochs tag power names n bytes c.names-test.true) c.in-Ok-further_names.ensures.value refl;
+      less = omega arith;
+      room = c.in-Ok-further_names.ensures.room;
+    }
+
+pub returns-clause-reads : goal.returns-clause-reads
+returns-clause-reads c = λ h epochs tag power. c.names.invariant.reads h epochs tag power
+    ∙ ap (λ (s : Expected). rest_gives obs2_rules c.names.lines s) (names_all h epochs tag power c.names.list.names c.names.list.left c.names-test.false)
