@@ -6,9 +6,10 @@ use Rattle.sim_draws.proofs.draws.Draws.all_cycles.Given as goal
 abbrev pub invariant-loop-k : goal.invariant-loop-k
 invariant-loop-k l = record {
   state : (seed : ℕ) → l.fn.self.state ≡ state_after seed 5 → l.self.state ≡ state_after seed (5 + 4 * l._k);
-  base : (seed : ℕ) → l.fn.self.state ≡ state_after seed 5 → l.all.base.items ≡ first_of (base_cycles seed) l._k;
-  rover : (seed : ℕ) → l.fn.self.state ≡ state_after seed 5 → l.all.rover.items ≡ first_of (rover_cycles seed) l._k;
-  truth : (seed : ℕ) → l.fn.self.state ≡ state_after seed 5 → l.all.truth.items ≡ first_of (truth_of seed) l._k;
+  later : (seed : ℕ) → l.fn.self.state ≡ state_after seed 5 → l.later.state ≡ state_after seed (5 + 4 * l.sats + 2 * l._k);
+  base : (seed : ℕ) → l.fn.self.state ≡ state_after seed 5 → l.all.base.items ≡ first_of (base_cycles seed l.sats l.l5) l._k;
+  rover : (seed : ℕ) → l.fn.self.state ≡ state_after seed 5 → l.all.rover.items ≡ first_of (rover_cycles seed l.sats l.l5) l._k;
+  truth : (seed : ℕ) → l.fn.self.state ≡ state_after seed 5 → l.all.truth.items ≡ first_of (truth_of seed l.sats l.l5) l._k;
   base_size : All AreSmall l.all.base.items;
   rover_size : All AreSmall l.all.rover.items;
 }
