@@ -15,7 +15,7 @@ fn a_read_fault_comes_before_a_refusal(rt: HostRuntime) -> Result<(), Fail> {
         expect_run(&rt, &ran, Status::ReadFault, "", "read fault: F\n");
     }
     let ran = run_on(alloc, &["list", "F"], &text, 1000, Fails::none(alloc))?;
-    let line = "refused: F line 1 column 1: version not 3.00 to 3.05\n";
+    let line = "refused: F line 1 column 1: version not 2.10 to 2.11 or 3.00 to 3.05\n";
     expect_run(&rt, &ran, Status::Refused, "", line);
     Ok(())
 }

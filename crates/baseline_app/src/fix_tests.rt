@@ -99,7 +99,7 @@ fn stops_before_a_fix(rt: HostRuntime) -> Result<(), Fail> {
     let alloc = rt.alloc();
     let made = make(alloc, 1, 8, 8, 12, b'G')?;
     let ran = run_fix(alloc, b"", &made, "--", 1000)?;
-    let none = "refused: B line 1 column 1: version not 3.00 to 3.05\n";
+    let none = "refused: B line 1 column 1: version not 2.10 to 2.11 or 3.00 to 3.05\n";
     expect_run(&rt, &ran, Status::Refused, "", none);
     let ran = run_fix(alloc, &made.base, &made, "--", 7)?;
     expect_run(&rt, &ran, Status::WriteFault, "baselin", "write fault\n");

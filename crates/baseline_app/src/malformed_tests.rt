@@ -129,7 +129,7 @@ fn largest_file(rt: HostRuntime) -> Result<(), Fail> {
     let alloc = rt.alloc();
     let mut most = LongFile { left: 67_108_864 };
     let ran = run_plainly(alloc, &["list", "F"], &mut most)?;
-    let place = "line 1 column 1: version not 3.00 to 3.05";
+    let place = "line 1 column 1: version not 2.10 to 2.11 or 3.00 to 3.05";
     refused_at(&rt, alloc, &ran, place)?;
     let mut more = LongFile { left: 67_108_865 };
     let ran = run_plainly(alloc, &["list", "F"], &mut more)?;

@@ -331,14 +331,32 @@ G05  22123456.789\n\
 G05\n\
 G12\n";
 
+// Of seven types each satellite has two lines.
+const OBS_2: &str =
+    "     2.11           OBSERVATION DATA                        RINEX VERSION / TYPE\n\
+\x20    7    C1    L1    L2    P2    D1    S1    S2            # / TYPES OF OBSERV\n\
+\x20    1     1                                                WAVELENGTH FACT L1/2\n\
+\x20                                                           END OF HEADER\n\
+\x2024  1  1  0  0 30.0000000  0  2G05 12\n\
+\x20 22123456.789 7 116260123.45617  90592304.12316  22123460.123 6\n\
+\n\
+\x20 21000000.000\n\
+\n";
+
 #[test]
 fn lists(rt: HostRuntime) -> Result<(), Fail> {
     let alloc = rt.alloc();
     let listed =
         "version 3.04\nepochs 2\nfirst 13881024000000000\nlast 13881024300000000\nG05 2\nG12 1\n";
-    let none = "refused: F line 1 column 1: version not 3.00 to 3.05\n";
+    let none = "refused: F line 1 column 1: version not 2.10 to 2.11 or 3.00 to 3.05\n";
+    let listed_2 =
+        "version 2.11\nepochs 1\nfirst 13881024300000000\nlast 13881024300000000\nG05 1\nG12 1\n";
+    let half = "refused: F line 3 column 7: wavelength factor not 1\n";
+    let half_cycle = OBS_2.replace(alloc, "     1     1   ", "     1     2   ")?;
     let rows = [
         (OBS, Status::Done, listed, ""),
+        (OBS_2, Status::Done, listed_2, ""),
+        (half_cycle.as_str(), Status::Refused, "", half),
         ("", Status::Refused, "", none),
         ("\n\n", Status::Refused, "", none),
     ];
@@ -381,12 +399,11 @@ fn ends_in(line: &str, name: &str) -> Option<(i64, i64)> {
     Some((low, high))
 }
 
-#[test]
-fn places_a_satellite(rt: HostRuntime) -> Result<(), Fail> {
-    let alloc = rt.alloc();
+// The satellite is where its record has it at that time.
+fn is_placed(rt: &impl Abort, alloc: Global, sat: &str, nav: &str) -> Result<(), Fail> {
     let tick = format!(in alloc; "{TOE}")?;
-    let words = ["orbit", "F", "G07", tick.as_str()];
-    let ran = run_on(alloc, &words, NAV.as_bytes(), 1000, Fails::none(alloc))?;
+    let words = ["orbit", "F", sat, tick.as_str()];
+    let ran = run_on(alloc, &words, nav.as_bytes(), 1000, Fails::none(alloc))?;
     assert_eq!(rt; ran.status, Status::Done);
     let text = str::from_utf8(ran.out.bytes())?;
     let rows = [("x", 25_000_000_000_000), ("y", 0), ("z", 0), ("clock", 0)];
@@ -394,13 +411,22 @@ fn places_a_satellite(rt: HostRuntime) -> Result<(), Fail> {
     for (name, want) in rows {
         let ends = lines.next().and_then(|line| ends_in(line, name));
         let Some((low, high)) = ends else {
-            panic!(&rt; "no line of {name}");
+            panic!(rt; "no line of {name}");
         };
         assert!(rt; low <= want && want <= high, "at {name}");
         assert!(rt; high.abs_diff(low) <= 5, "at {name}");
     }
     assert!(rt; lines.next().is_none());
     Ok(())
+}
+
+#[test]
+fn places_a_satellite(rt: HostRuntime) -> Result<(), Fail> {
+    let alloc = rt.alloc();
+    is_placed(&rt, alloc, "G07", NAV)?;
+    let of_galileo = NAV.replace(alloc, "G: GPS", "E: GAL")?;
+    let galileo = of_galileo.replace(alloc, "G07", "E05")?;
+    is_placed(&rt, alloc, "E05", &galileo)
 }
 
 #[test]
