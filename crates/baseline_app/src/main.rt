@@ -13,18 +13,20 @@
 //! status and two texts that are defined on the bytes of its file, and each sink holds what it held and a first part
 //! of its text, whole unless its count of faults rose. `zero`: with status 0 every other whole number has a greater
 //! sum than the printed one, with status 1 the printed rival is the least. `list`: with status 0 the text stands for
-//! an observation file, and out has gained what is listed of it; `list` is never declined. `orbit`: with status 0 the
-//! text stands for a navigation file, and the printed numbers hold every solution of the satellite's equations for
-//! the record that is chosen at the tick; with status 1 none is chosen. `sim`, `check`, `residuals`, `arcs`: the same
-//! for these, as told above; the files of `sim` and `arcs` are never declined. `fix`: with status 0 out has gained a
-//! certificate whose integers with their move are strictly best for all rational data in the printed boxes, and whose
-//! session stands for the files; with status 1 the text of an outcome of the files that is no fix, with its cause
-//! (`SaysOfFix`). `sim_run`: with status 0 the simulated texts stand for a session whose outcome is a fix, with status
-//! 1 for one whose outcome is none, and out has gained the four lines, with `match yes` exactly where it is a fix
-//! with the integers of the truth. `usage`, `read`, `sure`, `write`: statuses 2, 4 and 5 come only with their cause,
-//! and 4 never for sure names. `untouched`: words that ask for no job, or for one without files, leave all files as
-//! they are. `complete`: where the file is told and is of the job's form, and no count rises, the job's text is
-//! written with status 0 or 1, or memory was refused; `sim` and `sim run` need no file for that.
+//! an observation file, of RINEX 3 or of RINEX 2, and out has gained what is listed of it; `list` is never declined.
+//! `orbit`: with status 0 the text stands for a navigation file of the satellite's system, and the printed numbers hold
+//! every solution of the satellite's equations, with that system's constants, for the record that is chosen at the tick;
+//! with status 1 none is chosen. `sim`, `check`, `residuals`, `arcs`: the same for these, as told above; the files of
+//! `sim` and `arcs` are never declined. `fix`: with status 0 out has gained a certificate whose integers with their move
+//! are strictly best for all rational data in the printed boxes, and whose session stands for the files on the bands
+//! and with the constants of the system of the options; with status 1 the text of an outcome of the files that is no
+//! fix, with its cause (`SaysOfFix`). `sim_run`: with status 0 the simulated texts stand for a session whose outcome is
+//! a fix, with status 1 for one whose outcome is none, and out has gained the four lines, with `match yes` exactly where
+//! it is a fix with the integers of the truth. `usage`, `read`, `sure`, `write`: statuses 2, 4 and 5 come only with
+//! their cause, and 4 never for sure names. `untouched`: words that ask for no job, or for one without files, leave all
+//! files as they are. `complete`: where the file is told and is of the job's form, for the system that is asked for and
+//! in either format where the system has both, and no count rises, the job's text is written with status 0 or 1, or
+//! memory was refused; `sim` and `sim run` need no file for that.
 #![tactic(auto)]
 
 #[cfg(test)]
