@@ -29,11 +29,11 @@ names_done line first (suc n) names none = absurd (omega arith)
 -- a number that isn't there, behind one more name
 not_behind : (m : ℕ) (names : List (Option ℕ)) (name : Option ℕ) → is_named m names ≡ false → has_number m name ≡ false → is_named m (names ++ name ∷ []) ≡ false
 not_behind m [] name none other = rw other refl
-not_behind m (x ∷ names) name none other = by_first (has_number m x) refl none
+not_behind m (x ∷ names) name none other = by_first (has_number m x) refl none (λ none. not_behind m names name none other)
   where
-    by_first : (t : Bool) → has_number m x ≡ t → (t || is_named m names) ≡ false → is_named m ((x ∷ names) ++ name ∷ []) ≡ false
-    by_first true is none = absurd cc
-    by_first false is none = rw is (not_behind m names name none other)
+    by_first : (t : Bool) → has_number m x ≡ t → (t || is_named m names) ≡ false → (is_named m names ≡ false → is_named m (names ++ name ∷ []) ≡ false) → is_named m ((x ∷ names) ++ name ∷ []) ≡ false
+    by_first true is none again = absurd cc
+    by_first false is none again = rw is (again none)
 
 -- the first name has another number, and so have the others
 not_first : (n m : ℕ) (names : List (Option ℕ)) → is_named n (Some m ∷ names) ≡ false → ((m == n) ≡ false) × (is_named n names ≡ false)
@@ -54,21 +54,21 @@ names_added (Some m ∷ names) (Some n) are fits =
     let other = not_first n m names fits.2 in
     (are.0, are.1, not_behind m names (Some n) are.2 other.0, names_added names (Some n) are.3 (fits.0, fits.1, other.1))
 
+not_with : (n : ℕ) (sats : List SatObs) (s : SatObs) → has_satellite n sats ≡ false → (n == s.number) ≡ false → has_satellite n (sats ++ s ∷ []) ≡ false
+not_with n [] s none other = rw other refl
+not_with n (t ∷ sats) s none other = by_first (n == t.number) refl none (λ none. not_with n sats s none other)
+  where
+    by_first : (b : Bool) → (n == t.number) ≡ b → (b || has_satellite n sats) ≡ false → (has_satellite n sats ≡ false → has_satellite n (sats ++ s ∷ []) ≡ false) → has_satellite n ((t ∷ sats) ++ s ∷ []) ≡ false
+    by_first true is none again = absurd cc
+    by_first false is none again = rw is (again none)
+
 -- the satellite of a name is another one than those of the names behind it
 pub new_behind : (sats : List SatObs) (s : SatObs) (names : List (Option ℕ)) → AreNew sats names → is_named s.number names ≡ false → AreNew (sats ++ s ∷ []) names
 new_behind sats s [] are none = tt
 new_behind sats s (None ∷ names) are none = new_behind sats s names are none
 new_behind sats s (Some n ∷ names) are none =
     let other = not_first s.number n names none in
-    (without sats are.0 other.0, new_behind sats s names are.1 other.1)
-  where
-    without : (sats : List SatObs) → has_satellite n sats ≡ false → (n == s.number) ≡ false → has_satellite n (sats ++ s ∷ []) ≡ false
-    without [] none other = rw other refl
-    without (t ∷ sats) none other = by_first (n == t.number) refl none (λ none. without sats none other)
-      where
-        by_first : (b : Bool) → (n == t.number) ≡ b → (b || has_satellite n sats) ≡ false → (has_satellite n sats ≡ false → has_satellite n (sats ++ s ∷ []) ≡ false) → has_satellite n ((t ∷ sats) ++ s ∷ []) ≡ false
-        by_first true is none again = absurd cc
-        by_first false is none again = rw is (again none)
+    (not_with n sats s are.0 other.0, new_behind sats s names are.1 other.1)
 
 -- no satellite is read yet
 pub new_at_first : (names : List (Option ℕ)) → AreNew [] names

@@ -10,6 +10,8 @@ use Rattle.obs_store.specs.Missing.{missing_values}
 use Rattle.rinex_head.specs.declared.place.What.TheVariants.{NoEnd, Types, Truncated}
 use Rattle.rinex_head.specs.Places.{and_then, flawed}
 use Rattle.obs_fields.specs.declared.layout.Layout.TheVariants.{Rinex2}
+use Rattle.obs_fields.specs.declared.types.KeptType.{KeptType}
+use Rattle.obs_fields.specs.SatFields.{values_in}
 use Rattle.obs_fields.specs.Labels.{event_line_of}
 use Rattle.obs_fields.specs.Types.{first_types_of, further_types_of}
 use Rattle.rinex2_obs.specs.Profile.{kept_of}
@@ -86,6 +88,18 @@ finish_rows h epochs tag power sats name names at values less = rw (rows_due h e
 pub admit_rows : (h : Header) (epochs : List Epoch) (tag : Tick) (power : Bool) (sats : List SatObs) (name : Option ℕ) (names : List (Option ℕ)) (at : ℕ) (values : List (Option Value)) (bytes : List ℕ) → at < rows_of h.types
     → admit (more_rows h epochs tag power sats name names at values) bytes ≡ and_then (row_of (kept_of h.types) name at bytes values) (λ set. Ok (more_rows h epochs tag power sats name names (at + 1) set))
 admit_rows h epochs tag power sats name names at values bytes less = rw (rows_due h epochs tag power sats name names at values less) refl
+
+-- the same for a satellite of GPS, with the kept types of the header's list
+pub admit_mine : (kept : List KeptType) (h : Header) (epochs : List Epoch) (tag : Tick) (power : Bool) (sats : List SatObs) (number : ℕ) (names : List (Option ℕ)) (at : ℕ) (values : List (Option Value)) (bytes : List ℕ) → kept ≡ kept_of h.types → at < rows_of h.types
+    → admit (more_rows h epochs tag power sats (Some number) names at values) bytes ≡ and_then (values_in Rinex2 at kept bytes values) (λ set. Ok (more_rows h epochs tag power sats (Some number) names (at + 1) set))
+unfolding row_of
+admit_mine kept h epochs tag power sats number names at values bytes same less = rw same (admit_rows h epochs tag power sats (Some number) names at values bytes less)
+
+-- and for one of another system
+pub admit_other : (h : Header) (epochs : List Epoch) (tag : Tick) (power : Bool) (sats : List SatObs) (names : List (Option ℕ)) (at : ℕ) (values : List (Option Value)) (bytes : List ℕ) → at < rows_of h.types
+    → admit (more_rows h epochs tag power sats None names at values) bytes ≡ Ok (more_rows h epochs tag power sats None names (at + 1) values)
+unfolding row_of
+admit_other h epochs tag power sats names at values bytes less = admit_rows h epochs tag power sats None names at values bytes less
 
 -- the satellite of a name stands behind the others
 pub one_satellite : (sats : List SatObs) (name : Option ℕ) (values : List (Option Value)) (others : List SatObs) → with_satellite sats name values ++ others ≡ sats ++ (if_of_gps name values ++ others)

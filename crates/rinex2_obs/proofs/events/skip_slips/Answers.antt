@@ -1,0 +1,14 @@
+use Rattle.std.proofs.Common.{◌≡◌, ◌*◌, refl, ap, ◌∙◌, false}
+use Rattle.rinex_head.specs.Walk.{rest_gives}
+use Rattle.rinex_head.proofs.Walks.{reads_then}
+use Rattle.rinex2_obs.specs.Rows.{rows_of, further_lines_of}
+use Rattle.rinex2_obs.specs.Obs2Rules.{Expected, Body, more_lines, more_slips, obs2_rules}
+use Rattle.rinex2_obs.proofs.events.skip_slips.Goals as goal
+
+pub returns-in-Ok-clause-reads : goal.returns-in-Ok-clause-reads
+returns-in-Ok-clause-reads c = λ epochs.
+    let h = c.args.header.now in
+    let rows = c.args.count * c.rows.result in
+    let same : more_slips h epochs (further_lines_of c.args.count) (c.args.count * rows_of h.types) ≡ more_slips h epochs c.further_lines.result rows = rw (c.further_lines.ensures, c.rows.ensures.value) refl in
+    let skipped = ap (λ (s : Expected). rest_gives obs2_rules c.args.lines.now s) same ∙ c.in-Ok.ensures.reads h epochs rows in
+    reads_then obs2_rules (more_slips h epochs (further_lines_of c.args.count) (c.args.count * rows_of h.types)) (more_lines h epochs false rows) (λ u. Body h epochs) _ _ _ c.skip_lines.result skipped (c.skip_lines.ensures.reads h epochs)
