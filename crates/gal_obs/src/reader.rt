@@ -8,10 +8,10 @@ ghost use Rattle.rinex_head.specs.Walk.{Gives, OnRefusal, IfRefused};
 ghost use Rattle.obs_feed.specs.ObsForm.{IsObsFile, HasObsFile};
 ghost use Rattle.obs_feed.specs.ObsRules.{obs_of};
 
+use crate::GalFeed;
 use line_source::Taker;
-use obs_feed::Feed;
 use obs_store::ObsFile;
-use rinex_head::{System, TextFault};
+use rinex_head::TextFault;
 use std::alloc::{AllocError, Global};
 
 /// The observation file that a text stands for (RINEX 3.00 to 3.05), or the first place at which it stands for none.
@@ -26,7 +26,7 @@ pub fn read_gal_obs(alloc: Global, text: &[u8]) -> Result<ObsFile, TextFault>
     ensures first { IfRefused result (λ at. IsFirstFailing (HasObsFile Galileo) (lines_of text.now) at.line) }
     ensures exact { Gives (obs_of Galileo (lines_of text.now)) (λ file. file) result }
 {
-    let mut feed = Feed::new(alloc, System::Galileo);
+    let mut feed = GalFeed::new(alloc);
     match feed.take(text) {
         Ok(()) => feed.finish(),
         Err(AllocError) => Err(TextFault::NoMemory),

@@ -6,7 +6,7 @@ use Rattle.std.specs.Str.Lines.{strip_carriage_return}
 use Rattle.line_source.specs.Lines.{lines_from, lines_of}
 use Rattle.rinex_head.specs.declared.place.At.{At}
 use Rattle.rinex_head.specs.declared.place.What.TheVariants.{LongLine}
-use Rattle.rinex_head.specs.Places.{flawed, place, at_line}
+use Rattle.rinex_head.specs.Places.{place, at_line}
 use Rattle.rinex_head.specs.declared.place.TextFault.{TextFault}
 use Rattle.rinex_head.specs.declared.place.TextFault.TheVariants.{Refused, NoMemory}
 use Rattle.rinex_head.specs.declared.system.System.{System}

@@ -5,7 +5,7 @@ use Rattle.rinex_head.specs.declared.place.Flaw.{Flaw}
 use Rattle.rinex_head.specs.declared.place.What.TheVariants.{Kind}
 use Rattle.rinex_head.specs.declared.system.System.{System}
 use Rattle.rinex_head.specs.Systems.{letter_of, bad_version}
-use Rattle.rinex_head.specs.Places.{and_then, flawed}
+use Rattle.rinex_head.specs.Places.{flawed}
 use Rattle.rinex_head.specs.Head.{version_in}
 
 -- the version in hundredths

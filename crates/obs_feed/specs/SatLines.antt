@@ -1,5 +1,5 @@
 -- The line of a satellite in an epoch.
-use Rattle.std.specs.Prelude.{ℕ, false, List, Result, Ok, Err, None, Some, if◌then◌else◌}
+use Rattle.std.specs.Prelude.{ℕ, false, List, Result, Ok, None, Some, if◌then◌else◌}
 use Rattle.std.specs.declared.option.Option.{Option}
 use Rattle.obs_store.specs.declared.values.Value.{Value}
 use Rattle.obs_store.specs.declared.values.SatObs.{SatObs}

@@ -1,5 +1,5 @@
 -- The first line tells the format. A file of either format is what its lines give, and a text has at most one.
-use Rattle.std.proofs.Common.{◌≡◌, ◌×◌, inl, inr, ℕ, ℤ, pos, negsuc, ◌&&◌, nat_le, Bool, true, false, List, [], ◌∷◌, ◌++◌, codes, Result, Ok, Err, refl, sym, ap, ◌∙◌, subst, arith, append_assoc, if◌then◌else◌}
+use Rattle.std.proofs.Common.{◌≡◌, inl, inr, ℕ, ℤ, pos, negsuc, ◌&&◌, nat_le, Bool, true, false, List, [], ◌∷◌, ◌++◌, codes, Result, Ok, Err, refl, sym, ap, ◌∙◌, subst, arith, append_assoc, if◌then◌else◌}
 use Rattle.std.proofs.lemmas.Bool.Decides.{nat_tests}
 use Rattle.std.proofs.lemmas.List.{append-nil}
 use Rattle.std.specs.Str.{bytes_eq}
@@ -68,6 +68,7 @@ first_3 : (system : System) (line : List ℕ) (n : ℕ) → first_line_of system
 unfolding first_line_of begins_2
 first_3 system line n gives = let has = has_version system (version_in line) n gives in by_label (bytes_eq (label_of line) (codes "RINEX VERSION / TYPE")) has.1
   where
+    number : Result ℤ NumberFault
     number = fixed_of (columns line 1 9) 2
 
     by_label : {v : Version} (t : Bool) → (if t then version_number line number else flawed 1 what.Version) ≡ Ok v → (t && is_version_2 number) ≡ false
@@ -79,6 +80,7 @@ first_2 : (line : List ℕ) (n : ℕ) → line2.first_line_of line ≡ Ok n → 
 unfolding line2.first_line_of begins_2
 first_2 line n gives = by_label (bytes_eq (label_of line) (codes "RINEX VERSION / TYPE")) gives
   where
+    number : Result ℤ NumberFault
     number = fixed_of (columns line 1 9) 2
 
     by_label : (t : Bool) → (if t then and_then (line2.version_number number) (λ hundredths. line2.of_kind line hundredths) else flawed 1 what.ObsVersion) ≡ Ok n → (t && is_version_2 number) ≡ true

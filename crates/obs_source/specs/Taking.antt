@@ -18,18 +18,18 @@ use Rattle.obs_source.specs.declared.taker.Source.{Source}
 use Rattle.obs_source.specs.declared.taker.Source.TheVariants as source
 use Rattle.obs_source.specs.Formats.{any_of, IsObservation, HasObservation}
 
--- What is kept is of the system and of so many bytes, and a line that has begun has no end.
-abbrev pub IsKeptOf : System → Source → ℕ → Type 0
-IsKeptOf system (source.Begun line) taken = (system ≡ Gps) × (length line ≡ taken) × GoesOn line
-IsKeptOf system (source.Three feed) taken = (feed.system ≡ system) × (feed.taken ≡ taken)
-IsKeptOf system (source.Two bytes) taken = (system ≡ Gps) × (length bytes ≡ taken)
-IsKeptOf system source.NoMemory taken = Unit {0}
+-- What is kept is of so many bytes; a line that has begun has no end, and a feed reads GPS.
+abbrev pub IsKeptOf : Source → ℕ → Type 0
+IsKeptOf (source.Begun line) taken = (length line ≡ taken) × GoesOn line
+IsKeptOf (source.Three feed) taken = (feed.taken ≡ taken) × (feed.system ≡ Gps)
+IsKeptOf (source.Two bytes) taken = length bytes.items ≡ taken
+IsKeptOf source.NoMemory taken = Unit {0}
 
-pub IsKeptOf-prop : (system : System) (s : Source) (taken : ℕ) → IsProp (IsKeptOf system s taken)
-IsKeptOf-prop system (source.Begun line) taken = Prim.hlevel props
-IsKeptOf-prop system (source.Three feed) taken = Prim.hlevel props
-IsKeptOf-prop system (source.Two bytes) taken = Prim.hlevel props
-IsKeptOf-prop system source.NoMemory taken = Prim.hlevel props
+pub IsKeptOf-prop : (s : Source) (taken : ℕ) → IsProp (IsKeptOf s taken)
+IsKeptOf-prop (source.Begun line) taken = Prim.hlevel props
+IsKeptOf-prop (source.Three feed) taken = Prim.hlevel props
+IsKeptOf-prop (source.Two bytes) taken = Prim.hlevel props
+IsKeptOf-prop source.NoMemory taken = Prim.hlevel props
 
 abbrev pub HasNoMemory : Source → Type 0
 HasNoMemory (source.Begun line) = ⊥
@@ -41,16 +41,16 @@ HasNoMemory source.NoMemory = Unit {0}
 abbrev pub IsFirstOf : List ℕ → List ℕ → Type 0
 IsFirstOf first text = (more : List ℕ) → (others : List (List ℕ)) × (lines_of (text ++ more) ≡ first ∷ others)
 
--- Whatever follows the text, its lines are read so.
-abbrev pub IsReadBy : System → (List (List ℕ) → Result ObsFile At) → List ℕ → Type 0
-IsReadBy system reads text = (more : List ℕ) → any_of system (lines_of (text ++ more)) ≡ reads (lines_of (text ++ more))
+-- Whatever follows the text, its lines are read so for GPS.
+abbrev pub IsReadBy : (List (List ℕ) → Result ObsFile At) → List ℕ → Type 0
+IsReadBy reads text = (more : List ℕ) → any_of Gps (lines_of (text ++ more)) ≡ reads (lines_of (text ++ more))
 
 -- the text is a line without an end; a feed stands for it, or it is kept; after a want of memory there is none
-abbrev pub StandsForText : System → Source → List ℕ → Type 0
-StandsForText system (source.Begun line) text = text ≡ line
-StandsForText system (source.Three feed) text = StandsFor feed.system feed.state feed.taken text × IsReadBy system (λ lines. obs_of system lines) text
-StandsForText system (source.Two bytes) text = (text ≡ bytes) × IsReadBy system obs2_of text
-StandsForText system source.NoMemory text = ⊥
+abbrev pub StandsForText : Source → List ℕ → Type 0
+StandsForText (source.Begun line) text = text ≡ line
+StandsForText (source.Three feed) text = StandsFor feed.system feed.state feed.taken text × IsReadBy (λ lines. obs_of Gps lines) text
+StandsForText (source.Two bytes) text = (text ≡ bytes.items) × IsReadBy obs2_of text
+StandsForText source.NoMemory text = ⊥
 
 -- the answer to a text: its observation file, or the first place at which it has none
 pub record IsAnswer (system : System) (text : List ℕ) (result : Result ObsFile TextFault) : Type 0 where

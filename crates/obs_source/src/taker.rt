@@ -11,8 +11,8 @@ ghost use Rattle.obs_source.specs.Taking.{IsKeptOf, IsKeptOf-prop, IsReadBy, IsF
 use line_source::{Line, Taker, without_return};
 use obs_feed::{Feed, Overlong, StartedLine, split_line};
 use obs_store::ObsFile;
-use rinex2_obs::read_obs2;
 use rinex_head::{System, TextFault, field, fixed, head_line};
+use rinex2_obs::read_obs2;
 use std::alloc::{AllocError, Global};
 
 const FIRST_LABEL: &[u8] = b"RINEX VERSION / TYPE";
@@ -50,9 +50,9 @@ fn begins_2(line: &[u8]) -> bool
 // The text of these two parts, which is read as RINEX 3, is fed to its reader.
 fn feed_of(alloc: Global, line: &[u8], rest: &[u8]) -> Result<Source, AllocError>
     requires few { length line.now + length rest.now ≤ 67108864 }
-    requires reads { IsReadBy Gps (λ lines. obs_of Gps lines) (line.now ++ rest.now) }
-    ensures kept { IfOk result (λ s. IsKeptOf Gps s (length line.now + length rest.now)) }
-    ensures stands { IfOk result (λ s. StandsForText Gps s (line.now ++ rest.now)) }
+    requires reads { IsReadBy (λ lines. obs_of Gps lines) (line.now ++ rest.now) }
+    ensures kept { IfOk result (λ s. IsKeptOf s (length line.now + length rest.now)) }
+    ensures stands { IfOk result (λ s. StandsForText s (line.now ++ rest.now)) }
 {
     let mut feed = Feed::new(alloc, System::Gps);
     feed.take(line)?;
@@ -63,9 +63,9 @@ fn feed_of(alloc: Global, line: &[u8], rest: &[u8]) -> Result<Source, AllocError
 // The text of these two parts, which is read as RINEX 2, is kept.
 fn kept_of(alloc: Global, line: &[u8], rest: &[u8]) -> Result<Source, AllocError>
     requires few { length line.now + length rest.now ≤ 67108864 }
-    requires reads { IsReadBy Gps obs2_of (line.now ++ rest.now) }
-    ensures kept { IfOk result (λ s. IsKeptOf Gps s (length line.now + length rest.now)) }
-    ensures stands { IfOk result (λ s. StandsForText Gps s (line.now ++ rest.now)) }
+    requires reads { IsReadBy obs2_of (line.now ++ rest.now) }
+    ensures kept { IfOk result (λ s. IsKeptOf s (length line.now + length rest.now)) }
+    ensures stands { IfOk result (λ s. StandsForText s (line.now ++ rest.now)) }
 {
     let mut bytes = Vec::new(alloc);
     bytes.extend_from_slice(line)?;
@@ -77,8 +77,8 @@ fn kept_of(alloc: Global, line: &[u8], rest: &[u8]) -> Result<Source, AllocError
 fn begin(alloc: Global, line: &[u8], rest: &[u8]) -> Result<Source, AllocError>
     requires few { length line.now + length rest.now ≤ 67108864 }
     requires first { IsFirstOf (strip_carriage_return line.now) (line.now ++ rest.now) }
-    ensures kept { IfOk result (λ s. IsKeptOf Gps s (length line.now + length rest.now)) }
-    ensures stands { IfOk result (λ s. StandsForText Gps s (line.now ++ rest.now)) }
+    ensures kept { IfOk result (λ s. IsKeptOf s (length line.now + length rest.now)) }
+    ensures stands { IfOk result (λ s. StandsForText s (line.now ++ rest.now)) }
 {
     if begins_2(without_return(line)) {
         kept_of(alloc, line, rest)
@@ -98,8 +98,8 @@ fn end_line(
     requires goes_on { GoesOn line.old }
     requires front { front.now ≡ take (length front.now) piece.now }
     requires ends { (behind : List ℕ) × EndsLine piece.now front.now behind }
-    ensures kept { IfOk result (λ s. IsKeptOf Gps s (length line.old + length piece.now)) }
-    ensures stands { IfOk result (λ s. StandsForText Gps s (line.old ++ piece.now)) }
+    ensures kept { IfOk result (λ s. IsKeptOf s (length line.old + length piece.now)) }
+    ensures stands { IfOk result (λ s. StandsForText s (line.old ++ piece.now)) }
 {
     match line.extend(front) {
         Ok(()) => begin(alloc, line.as_slice(), &piece[front.len()..]),
@@ -108,35 +108,20 @@ fn end_line(
 }
 
 // The first line goes on with the piece. Where it ends in it, or is too long, the format is known.
-fn go_on(
-    alloc: Global,
-    line: &mut StartedLine,
-    piece: &[u8],
-) -> Result<Option<Source>, AllocError>
+fn go_on(alloc: Global, line: &mut StartedLine, piece: &[u8]) -> Result<Option<Source>, AllocError>
     requires few { length line.old + length piece.now ≤ 67108864 }
     requires goes_on { GoesOn line.old }
     ensures line { IfOk result (λ found. IfNone found (line.new ≡ line.old ++ piece.now)) }
     ensures goes_on { IfOk result (λ found. IfNone found (GoesOn line.new)) }
-    ensures kept { IfOk result (λ found. IfSome found (λ s. IsKeptOf Gps s (length line.old + length piece.now))) }
-    ensures stands { IfOk result (λ found. IfSome found (λ s. StandsForText Gps s (line.old ++ piece.now))) }
+    ensures kept { IfOk result (λ found. IfSome found (λ s. IsKeptOf s (length line.old + length piece.now))) }
+    ensures stands { IfOk result (λ found. IfSome found (λ s. StandsForText s (line.old ++ piece.now))) }
 {
-    if let Some((front, _)) = split_line(piece) {
-        return Ok(Some(end_line(alloc, line, front, piece)?));
-    }
-    match line.extend(piece) {
-        Ok(()) => Ok(None),
-        Err(Overlong) => Ok(Some(feed_of(alloc, line.as_slice(), piece)?)),
-    }
-}
-
-// Nothing was taken. For GPS the format isn't known yet.
-fn begun(alloc: Global, system: System) -> Source
-    ensures kept { IsKeptOf system result 0 }
-    ensures stands { StandsForText system result [] }
-{
-    match system {
-        System::Gps => Source::Begun(StartedLine::new()),
-        System::Galileo => Source::Three(Feed::new(alloc, System::Galileo)),
+    match split_line(piece) {
+        Some((front, _)) => Ok(Some(end_line(alloc, line, front, piece)?)),
+        None => match line.extend(piece) {
+            Ok(()) => Ok(None),
+            Err(Overlong) => Ok(Some(feed_of(alloc, line.as_slice(), piece)?)),
+        },
     }
 }
 
@@ -156,41 +141,40 @@ fn read_line(alloc: Global, line: &[u8]) -> Result<ObsFile, TextFault>
     }
 }
 
-/// Takes the text of an observation file piece by piece, for the satellites of one system. Of a file of RINEX 3 it holds
-/// what the lines have given so far and the line that has begun; one of RINEX 2, which is read for GPS alone, it keeps.
+/// Takes the text of an observation file of GPS piece by piece, in either format. Of a file of RINEX 3 it holds what the
+/// lines have given so far and the line that has begun; one of RINEX 2 it keeps.
 #[derive(Drop)]
 pub struct ObsTaker {
     alloc: Global,
-    pub system: System,
     taken: u32,
     source: Source,
     ghost few: { taken ≤ 67108864 },
-    ghost kept: { IsKeptOf system source taken } by { IsKeptOf-prop system source taken },
+    ghost kept: { IsKeptOf source taken } by { IsKeptOf-prop source taken },
 }
 
 impl ObsTaker {
-    /// A taker that has taken nothing, for the satellites of that system. It takes no memory.
-    pub fn new(alloc: Global, system: System) -> ObsTaker
-        ensures system { result.system ≡ system }
+    /// A taker that has taken nothing. It takes no memory.
+    #[tactic(auto, using(crate::proofs::TakerLaws::goes_none))]
+    pub fn new(alloc: Global) -> ObsTaker
         ensures taken { ⟦<ObsTaker as Taker>⟧.taken result ≡ 0 }
         ensures stands { ⟦<ObsTaker as Taker>⟧.stands_for result [] }
     {
         ObsTaker {
             alloc,
-            system,
             taken: 0,
-            source: begun(alloc, system),
+            source: Source::Begun(StartedLine::new()),
         }
     }
 
     /// The observation file that the text taken stands for, or the first place at which it stands for none: the same for
     /// all texts for which the taker stands, however they were cut.
     pub fn finish(self) -> Result<ObsFile, TextFault>
-        ensures answers { (text : List ℕ) → ⟦<ObsTaker as Taker>⟧.stands_for self text → IsAnswer self.system text result }
+        ensures answers { (text : List ℕ) → ⟦<ObsTaker as Taker>⟧.stands_for self text → IsAnswer Gps text result }
         ensures no_memory { HasNoMemory self.source → result ≡ Err TextFault.NoMemory }
     {
         let alloc = self.alloc;
-        match self.source {
+        let source = self.source;
+        match source {
             Source::Begun(line) => read_line(alloc, line.as_slice()),
             Source::Three(feed) => feed.finish(),
             Source::Two(bytes) => read_obs2(alloc, &bytes),
@@ -202,14 +186,13 @@ impl ObsTaker {
 impl Taker for ObsTaker {
     ghost taken = { λ s. s.taken };
 
-    ghost stands_for = { λ s text. StandsForText s.system s.source text };
+    ghost stands_for = { λ s text. StandsForText s.source text };
 
     /// Takes the next piece. After a want of memory it answers so again, and so does `finish`.
     fn take(&mut self, piece: &[u8]) -> Result<(), AllocError>
         requires { self.old.taken + length piece.now ≤ 67108864 }
         ensures counted { OnOk result (self.new.taken ≡ self.old.taken + length piece.now) }
-        ensures stands { OnOk result ((text : List ℕ) → StandsForText self.old.system self.old.source text → StandsForText self.new.system self.new.source (text ++ piece.now)) }
-        ensures system { self.new.system ≡ self.old.system }
+        ensures stands { OnOk result ((text : List ℕ) → StandsForText self.old.source text → StandsForText self.new.source (text ++ piece.now)) }
         ensures no_memory { OnErr result (HasNoMemory self.new.source) }
         ensures again { HasNoMemory self.old.source → IsErr result }
     {

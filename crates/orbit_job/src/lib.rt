@@ -14,8 +14,8 @@ use eph_store::{Eph, NavFile};
 use gps_time::Tick;
 use job_answers::{Answer, Status, Stop, load_file, refused};
 use line_source::Files;
-use report_text::write_orbit;
 use nav_records::read_records_of;
+use report_text::write_orbit;
 use rinex_head::{System, TextFault};
 use std::alloc::{AllocError, Global};
 use sv_orbit::sv_with;
@@ -59,7 +59,13 @@ fn answer_none(alloc: Global) -> Result<Answer, AllocError>
 }
 
 // What a navigation file ends with.
-fn answer_file(alloc: Global, file: &NavFile, system: u8, sat: u8, tag: Tick) -> Result<Answer, AllocError>
+fn answer_file(
+    alloc: Global,
+    file: &NavFile,
+    system: u8,
+    sat: u8,
+    tag: Tick,
+) -> Result<Answer, AllocError>
     ensures { IfOk result (λ a. IsFound file.now.fit system sat tag.0 (ending_of a)) }
 {
     match file.choose(sat, tag) {
@@ -69,7 +75,14 @@ fn answer_file(alloc: Global, file: &NavFile, system: u8, sat: u8, tag: Tick) ->
 }
 
 // What a file of this text ends with.
-fn answer_text(alloc: Global, name: &str, text: &[u8], system: u8, sat: u8, tag: Tick) -> Result<Answer, Stop>
+fn answer_text(
+    alloc: Global,
+    name: &str,
+    text: &[u8],
+    system: u8,
+    sat: u8,
+    tag: Tick,
+) -> Result<Answer, Stop>
     requires { length text.now ≤ 67108864 }
     ensures { IfEnded result (λ end. OrbitEnds name.now system sat tag.0 text.now end) }
 {

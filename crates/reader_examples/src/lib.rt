@@ -8,6 +8,8 @@ mod line_source_piece_tests;
 #[cfg(test)]
 mod line_source_tests;
 #[cfg(test)]
+mod obs_source_tests;
+#[cfg(test)]
 mod obs_store_tests;
 #[cfg(test)]
 mod rinex_head_tests;
@@ -17,5 +19,7 @@ mod rinex_nav_tests;
 mod rinex_obs_feed_tests;
 #[cfg(test)]
 mod rinex_obs_tests;
+#[cfg(test)]
+mod slow_files;
 #[cfg(test)]
 mod zero_rows_tests;

@@ -1,7 +1,6 @@
 // Texts in pieces: the answer is that of the whole text, however it is cut.
-ghost use Rattle.std.specs.Prelude.{None};
-
-use line_source::{Failed, FileId, Files, LoadFault, load_into};
+use crate::slow_files::{Slow, with_returns};
+use line_source::{LoadFault, load_into};
 use obs_store::ObsFile;
 use rinex_head::{At, What};
 use rinex_obs::{ObsFault, ObsFeed, read_obs};
@@ -25,45 +24,6 @@ x                                                           COMMENT
 > 2024 01 01 00 00 30.0000000  1  1
 G08  22123456.789";
 
-// A file that gives at most so many bytes a call, and whose calls fail from that number of reads on.
-#[derive(Drop)]
-struct Slow {
-    text: Vec<u8>,
-    at: usize,
-    most: usize,
-    reads: u64,
-    faults: u64,
-}
-
-impl Files for Slow {
-    ghost text_of = { λ _ _. None };
-
-    ghost unread = { λ _ _. None };
-
-    ghost faults = { λ s. s.faults };
-
-    ghost is_sure_name = { λ _ _. ⊥ };
-
-    ghost is_sure_id = { λ _ _. ⊥ };
-
-    fn open_file(&mut self, _name: &str) -> Result<FileId, Failed> {
-        self.at = 0;
-        Ok(FileId(0))
-    }
-
-    fn read(&mut self, _id: FileId, into: &mut [u8]) -> Result<usize, Failed> {
-        if self.reads == 0 || self.at > self.text.len() {
-            self.faults = self.faults.saturating_add(1);
-            return Err(Failed);
-        }
-        self.reads -= 1;
-        let count = into.len().min(self.most).min(self.text.len() - self.at);
-        into[..count].copy_from_slice(&self.text[self.at..self.at + count]);
-        self.at += count;
-        Ok(count)
-    }
-}
-
 // What a text gives in pieces of so many bytes, where so many calls don't fail.
 fn fed(
     alloc: Global,
@@ -71,30 +31,12 @@ fn fed(
     most: usize,
     reads: u64,
 ) -> Result<Result<Result<ObsFile, ObsFault>, LoadFault>, AllocError> {
-    let mut files = Slow {
-        text: text.to_vec(alloc)?,
-        at: 0,
-        most,
-        reads,
-        faults: 0,
-    };
+    let mut files = Slow::new(text.to_vec(alloc)?, most, reads);
     let mut feed = ObsFeed::new(alloc);
     match load_into(&mut files, "", &mut feed) {
         Ok(()) => Ok(Ok(feed.finish())),
         Err(fault) => Ok(Err(fault)),
     }
-}
-
-// The text with CR before each LF.
-fn with_returns(alloc: Global, text: &str) -> Result<String, AllocError> {
-    let mut returns = String::new(alloc);
-    for c in text.chars() {
-        if c == '\n' {
-            returns.push('\r')?;
-        }
-        returns.push(c)?;
-    }
-    Ok(returns)
 }
 
 #[test]

@@ -1,11 +1,12 @@
 -- What is told of files after others were read, and what files that are admitted end with.
-use Rattle.std.proofs.Common.{◌≡◌, ◌≢◌, ◌⊎◌, inl, inr, zero, suc, ◌<◌, ℕ, List, [], ◌∷◌, Option, length, IfSome, Result, Ok, Err, refl, sym, subst, ◌∙◌, arith}
+use Rattle.std.proofs.Common.{◌≡◌, ◌≢◌, ◌⊎◌, inl, inr, zero, suc, ◌<◌, ℕ, List, [], ◌∷◌, Option, length, IfSome, IfOk, Result, Ok, Err, refl, sym, subst, ◌∙◌, arith}
 use Rattle.std.specs.Prelude.{slice_index_or, Some}
 use Rattle.obs_store.specs.declared.file.ObsFile.{ObsFile}
 use Rattle.rinex_head.specs.declared.system.System.{System}
-use Rattle.obs_source.specs.Formats.{any_of, HasObservation}
+use Rattle.obs_source.specs.Formats.{any_of, IsObservation, HasObservation}
 use Rattle.nav_records.specs.NavForm.{HasNavFile}
 use Rattle.nav_records.specs.NavRules.{nav_of}
+use Rattle.line_source.specs.Lines.{lines_of}
 use Rattle.line_source.specs.Told.{Same, IsReadToEnd}
 use Rattle.line_source.specs.Pieces.{IsTakenWhole}
 use Rattle.job_answers.specs.declared.status.Status.{Status}
@@ -50,15 +51,20 @@ no_stop system told base rover nav end b r n no_fault (inr (inl stops)) = (admit
 no_stop system told base rover nav end b r n no_fault (inr (inr stops)) = (admitted_ends told nav (HasNavFile system) (IsRefusal (nav_of system) (HasNavFile system) nav) end n no_fault stops.stops).none n.file
 
 -- ---- reading one after the other
--- A file of which all was taken stops a job where each text for which the taker stands is refused.
+-- A file of which all was taken is what each text for which the taker stands is, and stops a job where it is refused.
+pub taken_is : (system : System) (told : List ℕ → Option (List ℕ)) (name : List ℕ) (taken : ℕ) (stands_for : List ℕ → Type 0) (r : Result ObsFile Stop) → IsTakenWhole (told name) taken stands_for
+    → ((text : List ℕ) → stands_for text → IfOk r (λ file. IsObservation system (lines_of text) file)) → IfOk r (λ file. IsObsOf system told name file)
+taken_is system told name taken stands_for (Ok file) whole is = record { text = whole.text; is = record { told_is = whole.told_is; fits = whole.fits }; is_file = is whole.text whole.stands }
+taken_is system told name taken stands_for (Err stop) whole is = tt
+
 pub taken_stops : (system : System) (told : List ℕ → Option (List ℕ)) (name : List ℕ) (taken : ℕ) (stands_for : List ℕ → Type 0) (r : Result ObsFile Stop) → IsTakenWhole (told name) taken stands_for
-    → IfStopped r (λ end. (text : List ℕ) → stands_for text → IsRefusal (any_of system) (HasObservation system) name text end) → IfStopped r (λ end. StopsAtObs system told name end)
+    → ((text : List ℕ) → stands_for text → IfStopped r (λ end. IsRefusal (any_of system) (HasObservation system) name text end)) → IfStopped r (λ end. StopsAtObs system told name end)
 taken_stops system told name taken stands_for (Ok file) whole stops = tt
 taken_stops system told name taken stands_for (Err stop) whole stops = ends_weaker stop _ _ (λ end refusal. inl (record {
   text = whole.text;
   is = record { told_is = whole.told_is; fits = whole.fits };
-  ends_so = refusal whole.text whole.stands;
-})) stops
+  ends_so = refusal;
+})) (stops whole.text whole.stands)
 
 pub at_rover : (system : System) (told later : List ℕ → Option (List ℕ)) (base rover nav : List ℕ) (b : ObsFile) (end : Ending) → Same told later → IsObsOf system told base b → StopsAtObs system later rover end → StopsAtFiles system told base rover nav end
 at_rover system told later base rover nav b end same is stops = inr (inl (record { base_file = b; base_is = is; stops = file_along told later rover _ end same stops }))

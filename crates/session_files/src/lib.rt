@@ -5,21 +5,25 @@
 ghost use Rattle.std.specs.Prelude.{◌≡◌, ◌≢◌, ◌≤◌, ℕ, List, [], ◌∷◌, length, IfOk, OnOk, All};
 ghost use Rattle.line_source.specs.Causes.{Rose, OpensAtMost};
 ghost use Rattle.line_source.specs.Told.{Same, Stays, IsReadToEnd};
+ghost use Rattle.line_source.specs.Pieces.{IsTakenWhole};
 ghost use Rattle.line_source.specs.Lines.{lines_of};
+ghost use Rattle.rinex_head.specs.declared.system.System.{System};
 ghost use Rattle.obs_source.specs.Formats.{any_of, IsObservation, HasObservation};
+ghost use Rattle.obs_source.specs.Taking.{IsAnswer};
 ghost use Rattle.nav_records.specs.NavForm.{IsNavFile, HasNavFile};
 ghost use Rattle.nav_records.specs.NavRules.{nav_of};
 ghost use Rattle.eph_store.specs.Records.{AreFit};
 ghost use Rattle.job_answers.specs.Answers.{IfStopped};
-ghost use Rattle.job_answers.specs.Endings.{IsRefusal, IsRefusedWhole};
+ghost use Rattle.job_answers.specs.Endings.{EndsUnloaded, IsRefusal, IsRefusedWhole};
 ghost use Rattle.session_files.specs.SessionFiles.{IsObsOf, IsNavOf, StopsAtObs, StopsAtNav, StopsAtFiles, AreFilesOf};
 
 use eph_store::NavFile;
+use gal_obs::GalFeed;
 use job_answers::{Status, Stop, load_file, read_fault, refused, too_large};
 use line_source::{Files, LoadFault, Taker, load_into};
 use nav_records::read_records_of;
-use obs_store::ObsFile;
 use obs_source::ObsTaker;
+use obs_store::ObsFile;
 use rinex_head::{System, TextFault};
 use std::alloc::Global;
 
@@ -31,12 +35,41 @@ pub struct SessionFiles {
     pub nav: NavFile,
 }
 
-// The file whose text was taken.
-fn obs_in(alloc: Global, name: &str, taker: ObsTaker) -> Result<ObsFile, Stop>
-    ensures file { IfOk result (λ file. (text : List ℕ) → ⟦<ObsTaker as Taker>⟧.stands_for taker text → IsObservation taker.system (lines_of text) file) }
-    ensures stopped { IfStopped result (λ end. (text : List ℕ) → ⟦<ObsTaker as Taker>⟧.stands_for taker text → IsRefusal (any_of taker.system) (HasObservation taker.system) name.now text end) }
+// Hands the file of a job to a taker that has taken nothing, or ends the job where it can't be had.
+fn take_file<F: Files, T: Taker>(
+    alloc: Global,
+    files: &mut F,
+    name: &str,
+    taker: &mut T,
+) -> Result<(), Stop>
+    requires none_taken { T.taken taker.old ≡ 0 }
+    requires stands_for_none { T.stands_for taker.old [] }
+    ensures taken { OnOk result (IsTakenWhole (F.text_of files.old name.now) (T.taken taker.new) (T.stands_for taker.new)) }
+    ensures stopped { IfStopped result (λ end. EndsUnloaded (F.text_of files.old) name.now end) }
+    ensures whole { OnOk result (IsReadToEnd (F.text_of files.old) (F.unread files.new) name.now) }
+    ensures refused { IfStopped result (IsRefusedWhole (F.text_of files.old) (F.unread files.new) (name.now ∷ [])) }
+    ensures opened { OpensAtMost 1 (F.opened files.old) (F.opened files.new) }
+    ensures cause { F.faults files.old ≤ F.faults files.new }
+    ensures fault { IfStopped result (λ end. end.status ≡ Status.ReadFault → Rose (F.faults files.old) (F.faults files.new)) }
+    ensures sure { F.is_sure_name files.old name.now → IfStopped result (λ end. end.status ≢ Status.ReadFault) }
+    ensures texts { Same (F.text_of files.old) (F.text_of files.new) }
+    ensures sure_names { Stays (F.is_sure_name files.old) (F.is_sure_name files.new) }
 {
-    match taker.finish() {
+    match load_into(files, name, taker) {
+        Ok(()) => Ok(()),
+        Err(LoadFault::BigFile) => Err(Stop::Ended(too_large(alloc, name)?)),
+        Err(LoadFault::ReadFault) => Err(Stop::Ended(read_fault(alloc, name)?)),
+        Err(LoadFault::NoMemory) => Err(Stop::NoMemory),
+    }
+}
+
+// The file of a text, by what its reader answered.
+fn file_of(alloc: Global, name: &str, answer: Result<ObsFile, TextFault>) -> Result<ObsFile, Stop>
+    ensures file { (system : System) (text : List ℕ) → IsAnswer system text answer → IfOk result (λ file. IsObservation system (lines_of text) file) }
+    ensures stopped { (system : System) (text : List ℕ) → IsAnswer system text answer → IfStopped result (λ end. IsRefusal (any_of system) (HasObservation system) name.now text end) }
+    ensures status { IfStopped result (λ end. end.status ≡ Status.Refused) }
+{
+    match answer {
         Ok(file) => Ok(file),
         Err(TextFault::Refused(at)) => Err(Stop::Ended(refused(alloc, name, at)?)),
         Err(TextFault::NoMemory) => Err(Stop::NoMemory),
@@ -61,7 +94,12 @@ fn nav_in(alloc: Global, system: System, name: &str, text: &[u8]) -> Result<NavF
 
 /// The observation file of a job, with the satellites of the system, or the job's end where it can't be had or is none. The
 /// text of a file of RINEX 3 is not kept. It is opened once, and refused only after it was read to its end.
-pub fn obs_file<F: Files>(alloc: Global, files: &mut F, system: System, name: &str) -> Result<ObsFile, Stop>
+pub fn obs_file<F: Files>(
+    alloc: Global,
+    files: &mut F,
+    system: System,
+    name: &str,
+) -> Result<ObsFile, Stop>
     ensures read { IfOk result (λ file. IsObsOf system (F.text_of files.old) name.now file) }
     ensures stopped { IfStopped result (λ end. StopsAtObs system (F.text_of files.old) name.now end) }
     ensures whole { OnOk result (IsReadToEnd (F.text_of files.old) (F.unread files.new) name.now) }
@@ -73,16 +111,30 @@ pub fn obs_file<F: Files>(alloc: Global, files: &mut F, system: System, name: &s
     ensures texts { Same (F.text_of files.old) (F.text_of files.new) }
     ensures sure_names { Stays (F.is_sure_name files.old) (F.is_sure_name files.new) }
 {
-    let mut taker = ObsTaker::new(alloc, system);
-    match load_into(files, name, &mut taker) {
-        Ok(()) => obs_in(alloc, name, taker),
-        Err(LoadFault::BigFile) => Err(Stop::Ended(too_large(alloc, name)?)),
-        Err(LoadFault::ReadFault) => Err(Stop::Ended(read_fault(alloc, name)?)),
-        Err(LoadFault::NoMemory) => Err(Stop::NoMemory),
+    match system {
+        System::Gps => {
+            let mut taker = ObsTaker::new(alloc);
+            match take_file(alloc, files, name, &mut taker) {
+                Ok(()) => file_of(alloc, name, taker.finish()),
+                Err(stop) => Err(stop),
+            }
+        }
+        System::Galileo => {
+            let mut feed = GalFeed::new(alloc);
+            match take_file(alloc, files, name, &mut feed) {
+                Ok(()) => file_of(alloc, name, feed.finish()),
+                Err(stop) => Err(stop),
+            }
+        }
     }
 }
 
-fn nav_file<F: Files>(alloc: Global, files: &mut F, system: System, name: &str) -> Result<NavFile, Stop>
+fn nav_file<F: Files>(
+    alloc: Global,
+    files: &mut F,
+    system: System,
+    name: &str,
+) -> Result<NavFile, Stop>
     ensures read { IfOk result (λ file. IsNavOf system (F.text_of files.old) name.now file) }
     ensures stopped { IfStopped result (λ end. StopsAtNav system (F.text_of files.old) name.now end) }
     ensures whole { OnOk result (IsReadToEnd (F.text_of files.old) (F.unread files.new) name.now) }

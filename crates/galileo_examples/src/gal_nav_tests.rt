@@ -1,0 +1,78 @@
+// Navigation files of Galileo: a real record, the numbers of satellites, and the places of refusals.
+use decimal_text::Dec;
+use gal_nav::{NavFault, read_gal_nav};
+use rinex_head::{At, What};
+use std::alloc::{AllocError, Global};
+use std::test::Fail;
+
+const FIRST: &str =
+    "     3.04           N: GNSS NAV DATA    M: Mixed            RINEX VERSION / TYPE\n";
+
+const END: &str = "                                                            END OF HEADER\n";
+
+// E08 of 2016-04-06 as a receiver of the station STFU7 had it (RTCM 3, gpsd's test data).
+const RECORD: &str =
+    "E08 2016 04 06 20 20 00  .978251919150D-03  .398927113565D-09  .000000000000D+00
+      .420000000000D+02  .109375000000D+03  .274082845222D-08 -.220312612388D+01
+      .512599945068D-05  .135224894620D-03  .173673033714D-04  .544062406921D+04
+      .332400000000D+06  .128522515297D-06  .211486143555D+00 -.102445483208D-06
+      .959750055248D+00 -.395937500000D+02 -.169323081841D+01 -.536379485216D-08
+      .411445709794D-09  .517000000000D+03  .189100000000D+04  .000000000000D+00
+      .312000000000D+01  .000000000000D+00 -.721774995327D-08 -.814907252789D-08
+      .333516000000D+06  .000000000000D+00
+";
+
+fn text_of(alloc: Global, parts: &[&str]) -> Result<String, AllocError> {
+    let mut text = String::new(alloc);
+    for part in parts {
+        text.push_str(part)?;
+    }
+    Ok(text)
+}
+
+#[test]
+fn reads_a_real_record(rt: HostRuntime) -> Result<(), Fail> {
+    let other = "G07 2016 04 06 20 00 00 anything\n     and anything behind it\n";
+    let text = text_of(rt.alloc(), &[FIRST, END, other, RECORD])?;
+    assert!(rt; text.len() < 5_000);
+    let file = read_gal_nav(rt.alloc(), text.as_bytes())?;
+    assert_eq!(rt; file.fit().len(), 1);
+    let [raw] = file.all() else {
+        panic!(&rt; "no record");
+    };
+    assert_eq!(rt; raw.sat, 8);
+    let rows: [(Dec, i64, i32); 5] = [
+        (raw.af0, 978_251_919_150, -15),
+        (raw.root_a, 544_062_406_921, -8),
+        (raw.toe_s, 332_400_000_000, -6),
+        (raw.week, 189_100_000_000, -8),
+        (raw.health, 0, -12),
+    ];
+    for (found, mant, exp) in rows {
+        assert_eq!(rt; found, Dec { mant, exp }, "at {mant}");
+    }
+    Ok(())
+}
+
+#[test]
+fn takes_numbers_to_36(rt: HostRuntime) -> Result<(), Fail> {
+    let of_gps =
+        "     3.04           N: GNSS NAV DATA    G                   RINEX VERSION / TYPE\n";
+    let old = "     2.11           NAVIGATION DATA                         RINEX VERSION / TYPE\n";
+    let (_, behind) = RECORD.split_at(3);
+    let cases: [([&str; 4], Option<(u32, u32, What)>); 6] = [
+        ([FIRST, END, "E36", behind], None),
+        ([FIRST, END, "E37", behind], Some((3, 1, What::BadSat))),
+        ([FIRST, END, "G37", behind], None),
+        ([of_gps, END, "E36", behind], Some((1, 41, What::Kind))),
+        ([old, END, "E36", behind], Some((1, 1, What::Version))),
+        ([FIRST, END, "E36 2016", ""], Some((3, 10, What::BadField))),
+    ];
+    for (parts, place) in cases {
+        let text = text_of(rt.alloc(), &parts)?;
+        assert!(rt; text.len() < 5_000);
+        let want = place.map(|(line, column, what)| NavFault::Refused(At { line, column, what }));
+        assert_eq!(rt; read_gal_nav(rt.alloc(), text.as_bytes()).err(), want);
+    }
+    Ok(())
+}

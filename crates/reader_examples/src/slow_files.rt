@@ -1,0 +1,68 @@
+// Files that are read in small pieces.
+ghost use Rattle.std.specs.Prelude.{None};
+
+use line_source::{Failed, FileId, Files};
+use std::alloc::{AllocError, Global};
+
+// A file that gives at most so many bytes a call, and whose calls fail from that number of reads on.
+#[derive(Drop)]
+pub struct Slow {
+    text: Vec<u8>,
+    at: usize,
+    most: usize,
+    reads: u64,
+    faults: u64,
+}
+
+impl Slow {
+    pub fn new(text: Vec<u8>, most: usize, reads: u64) -> Slow {
+        Slow {
+            text,
+            at: 0,
+            most,
+            reads,
+            faults: 0,
+        }
+    }
+}
+
+impl Files for Slow {
+    ghost text_of = { λ _ _. None };
+
+    ghost unread = { λ _ _. None };
+
+    ghost faults = { λ s. s.faults };
+
+    ghost is_sure_name = { λ _ _. ⊥ };
+
+    ghost is_sure_id = { λ _ _. ⊥ };
+
+    fn open_file(&mut self, _name: &str) -> Result<FileId, Failed> {
+        self.at = 0;
+        Ok(FileId(0))
+    }
+
+    fn read(&mut self, _id: FileId, into: &mut [u8]) -> Result<usize, Failed> {
+        if self.reads == 0 || self.at > self.text.len() {
+            self.faults = self.faults.saturating_add(1);
+            return Err(Failed);
+        }
+        self.reads -= 1;
+        let count = into.len().min(self.most).min(self.text.len() - self.at);
+        into[..count].copy_from_slice(&self.text[self.at..self.at + count]);
+        self.at += count;
+        Ok(count)
+    }
+}
+
+// The text with CR before each LF.
+pub fn with_returns(alloc: Global, text: &str) -> Result<String, AllocError> {
+    let mut returns = String::new(alloc);
+    for c in text.chars() {
+        if c == '\n' {
+            returns.push('\r')?;
+        }
+        returns.push(c)?;
+    }
+    Ok(returns)
+}
