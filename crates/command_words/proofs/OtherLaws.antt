@@ -2,7 +2,7 @@
 use Rattle.std.proofs.Common.{◌≡◌, ℕ, Bool, true, false, List, [], ◌∷◌, refl, sym, ap, ◌∙◌, true≢false}
 use Rattle.command_words.specs.declared.settings.Setting.{Setting}
 use Rattle.command_words.specs.declared.settings.Given.{Given}
-use Rattle.command_words.specs.Settings.{is_same, is_of_sim, numbers_for, HasNoOthers}
+use Rattle.command_words.specs.Settings.{is_same, is_of_sim, are_of_sim, numbers_for, HasNoOthers}
 use Rattle.command_words.proofs.SplitLaws.{is_itself, same_setting}
 
 pub first_of_sim : (g : Given) (given : List Given) → HasNoOthers (g ∷ given) → is_of_sim g.setting ≡ true
@@ -26,5 +26,20 @@ same_others g given s own other = rw (apart g s own other) refl
 pub none_behind : (g : Given) (given : List Given) → is_of_sim g.setting ≡ true → HasNoOthers (g ∷ given) → HasNoOthers given
 none_behind g given own none s other = sym (same_others g given s own other) ∙ none s other
 
-pub none_before : (g : Given) (given : List Given) → is_of_sim g.setting ≡ true → HasNoOthers given → HasNoOthers (g ∷ given)
+none_before : (g : Given) (given : List Given) → is_of_sim g.setting ≡ true → HasNoOthers given → HasNoOthers (g ∷ given)
 none_before g given own none s other = same_others g given s own other ∙ none s other
+
+-- both say the same
+pub no_others : (given : List Given) → are_of_sim given ≡ true → HasNoOthers given
+no_others [] all s other = refl
+no_others (g ∷ given) all = go (is_of_sim g.setting) refl
+  where
+    go : (b : Bool) → is_of_sim g.setting ≡ b → HasNoOthers (g ∷ given)
+    go true e = none_before g given e (no_others given (rw e at all))
+    go false e = absurd (true≢false (sym (rw e at all)))
+
+pub all_of_sim : (given : List Given) → HasNoOthers given → are_of_sim given ≡ true
+all_of_sim [] none = refl
+all_of_sim (g ∷ given) none =
+    let own = first_of_sim g given none in
+    rw own (all_of_sim given (none_behind g given own none))

@@ -1,5 +1,5 @@
 -- The options: how they are spelled, and what is set by those that are given.
-use Rattle.std.specs.Prelude.{◌≡◌, ℕ, ◌==◌, ◌≤◌, Bool, true, false, List, [], ◌∷◌, codes, get_or, if◌then◌else◌, None, Some}
+use Rattle.std.specs.Prelude.{◌≡◌, ℕ, ◌==◌, ◌&&◌, ◌≤◌, Bool, true, false, List, [], ◌∷◌, codes, get_or, if◌then◌else◌, None, Some}
 use Rattle.std.specs.declared.option.Option.{Option}
 use Rattle.run_options.specs.declared.defaults.TheConstants.{DEFAULT_RATIO, DEFAULT_BUDGET, DEFAULT_MASK, DEFAULT_GAP, DEFAULT_JUMP, DEFAULT_ARC, DEFAULT_STEP, DEFAULT_FIRST, DEFAULT_COUNT}
 use Rattle.run_options.specs.declared.options.TheConstants.{GPS, GALILEO}
@@ -104,6 +104,11 @@ abbrev pub is_of_sim : Setting → Bool
 is_of_sim Bands = true
 is_of_sim System = true
 is_of_sim other = false
+
+-- each setting that is given is one of them
+abbrev pub are_of_sim : List Given → Bool
+are_of_sim [] = true
+are_of_sim (g ∷ given) = is_of_sim g.setting && are_of_sim given
 
 -- no others are given
 abbrev pub HasNoOthers : List Given → Type 0

@@ -4,7 +4,7 @@ ghost use Rattle.obs_rows.specs.Ranges.{IsSystem};
 ghost use Rattle.run_options.specs.declared.options.TheConstants.{GPS};
 ghost use Rattle.command_words.specs.Settings.{numbers_for, default_bands, AreBandsOf, IsChosenBy, IsSignalChoice, IsSimChoice};
 
-use crate::settings::{Found, Given, Setting, has_no_others, numbers_found};
+use crate::settings::{Found, Given, Setting, are_of_sim, numbers_found};
 use band_sets::{BANDS_L1_L2, BANDS_L1_L5, is_bands_number};
 use run_options::{GALILEO, GPS};
 
@@ -73,12 +73,13 @@ pub fn signal_choice_of(given: &[Given]) -> Option<SignalChoice>
 }
 
 /// Those of a simulated session, for which nothing else is given.
+#[tactic(auto, using(crate::proofs::OtherLaws::no_others, crate::proofs::OtherLaws::all_of_sim))]
 pub fn sim_choice_of(given: &[Given]) -> Option<SignalChoice>
     ensures { MatchOption result ((system bands : ℕ) → IsSimChoice given.now system bands → ⊥) (λ c. IsSimChoice given.now c.system c.bands) }
 {
-    if has_no_others(given) {
-        signal_choice_of(given)
-    } else {
-        None
+    if !are_of_sim(given) {
+        return None;
     }
+    let choice = signal_choice_of(given)?;
+    Some(choice)
 }

@@ -202,10 +202,25 @@ fn sim_job(plain: &[Word], given: &[Given]) -> Result<Job, WordFault>
     ensures job { IfOk result (λ job. IsJobOf (codes "sim") plain.now given.now job) }
     ensures usage { IsErrOf result WordFault.Usage → (job : Job) → IsJobOf (codes "sim") plain.now given.now job → ⊥ }
 {
+    match plain {
+        [part, seed, epochs, sats] => sim_by_words(part, seed, epochs, sats, given),
+        _ => Err(WordFault::Usage),
+    }
+}
+
+// The same, of four words.
+fn sim_by_words(
+    part: &Word,
+    seed: &Word,
+    epochs: &Word,
+    sats: &Word,
+    given: &[Given],
+) -> Result<Job, WordFault>
+    ensures job { IfOk result (λ job. IsJobOf (codes "sim") (part.now ∷ seed.now ∷ epochs.now ∷ sats.now ∷ []) given.now job) }
+    ensures usage { IsErrOf result WordFault.Usage
+        → (job : Job) → IsJobOf (codes "sim") (part.now ∷ seed.now ∷ epochs.now ∷ sats.now ∷ []) given.now job → ⊥ }
+{
     let Some(choice) = sim_choice_of(given) else {
-        return Err(WordFault::Usage);
-    };
-    let [part, seed, epochs, sats] = plain else {
         return Err(WordFault::Usage);
     };
     match sim_of(part, seed, epochs, sats, choice) {

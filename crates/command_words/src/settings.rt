@@ -1,6 +1,6 @@
 // The options and what they are set to.
 ghost use Rattle.std.specs.Prelude.{◌≡◌, ℕ, ◌<◌, ◌≤◌, ◌↔◌, [], IsTrue, IfSome, MatchOption};
-ghost use Rattle.command_words.specs.Settings.{name_of, place_of, is_of_sim, numbers_for, HasNoOthers, IsSetBy, HasFound};
+ghost use Rattle.command_words.specs.Settings.{name_of, place_of, is_of_sim, are_of_sim, numbers_for, IsSetBy, HasFound};
 
 /// A number that a job can be asked to use.
 #[derive(Clone, Copy, Debug)]
@@ -146,9 +146,9 @@ pub fn number_for(given: &[Given], setting: Setting, limits: &Limits) -> Option<
     }
 }
 
-/// Whether no setting is given but those of a simulated session.
-pub fn has_no_others(given: &[Given]) -> bool
-    ensures { IsTrue result ↔ HasNoOthers given.now }
+/// Whether each setting that is given is one of a simulated session.
+pub fn are_of_sim(given: &[Given]) -> bool
+    ensures { result ≡ are_of_sim given.now }
 {
     let mut rest = given;
     while let [one, after @ ..] = rest {
