@@ -25,9 +25,14 @@ fn prints_arcs(rt: HostRuntime) -> Result<(), Fail> {
         kept: ArcList::new(vec![in alloc; datum, free]?),
         short: 2,
     };
-    let mut out = Vec::new(alloc);
-    write_arcs(alloc, &mut out, &arcs)?;
-    let want = "arc G03 0 19 datum\narc G12 5 9 free\nshort 2\n";
-    assert_eq!(rt; out.as_slice(), want.as_bytes());
+    let rows = [
+        (b'G', "arc G03 0 19 datum\narc G12 5 9 free\nshort 2\n"),
+        (b'E', "arc E03 0 19 datum\narc E12 5 9 free\nshort 2\n"),
+    ];
+    for (system, want) in rows {
+        let mut out = Vec::new(alloc);
+        write_arcs(alloc, &mut out, &arcs, system)?;
+        assert_eq!(rt; out.as_slice(), want.as_bytes());
+    }
     Ok(())
 }
