@@ -12,8 +12,8 @@
 #![tactic(auto)]
 
 mod decisions;
-mod lift;
 mod lifted_rows;
+mod lifting;
 mod moved;
 mod moved_rows;
 mod moved_tails;
@@ -27,7 +27,7 @@ mod old_tails;
 mod read;
 
 pub use cert_data::{Cert, Place};
-pub use lift::lift;
+pub use lifting::lift;
 pub use old_arcs::OldArc;
 pub use old_certs::OldCert;
 pub use old_list::OldList;
