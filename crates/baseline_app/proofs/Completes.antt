@@ -21,6 +21,7 @@ use Rattle.list_job.proofs.ListSays.{list_status, list_verdict}
 use Rattle.orbit_job.proofs.OrbitSays.{orbit_status, orbit_verdict}
 use Rattle.sim_job.proofs.SimSays.{sim_status, sim_verdict}
 use Rattle.cert_jobs.proofs.CertSays.{check_status, check_verdict, residuals_status, residuals_verdict}
+use Rattle.migrate_job.proofs.MigrateSays.{migrate_status, migrate_verdict}
 use Rattle.session_begin.specs.declared.faults.PairWhat.{PairWhat}
 use Rattle.pair_refusals.specs.Refusals.{pair_line, HaveRefused, AreRefusedWhole}
 use Rattle.pair_refusals.proofs.RefusalLaws.{stop_whole}
@@ -50,6 +51,7 @@ readable_ends (job.List obs) told end = list_verdict told obs end
 readable_ends (job.Orbit nav system sat tick) told end = orbit_verdict told nav system sat tick.0 end
 readable_ends (job.Check cert) told end = check_verdict told cert end
 readable_ends (job.Residuals cert) told end = residuals_verdict told cert end
+readable_ends (job.Migrate cert) told end = migrate_verdict told cert end
 readable_ends (job.Fix base rover nav options) told end = fix_verdict told base rover nav options end
 readable_ends (job.Arcs base rover nav options) told end = arcs_verdict told base rover nav options end
 readable_ends (job.Sim part seed epochs sats bands system) told end = λ readable no_fault ends. part_verdict part seed epochs sats bands system end ends
@@ -60,6 +62,7 @@ job_status (job.List obs) told end = list_status told obs end
 job_status (job.Orbit nav system sat tick) told end = orbit_status told nav system sat tick.0 end
 job_status (job.Check cert) told end = check_status told cert end
 job_status (job.Residuals cert) told end = residuals_status told cert end
+job_status (job.Migrate cert) told end = migrate_status told cert end
 job_status (job.Fix base rover nav options) told end = fix_status told base rover nav options end
 job_status (job.Arcs base rover nav options) told end = arcs_status told base rover nav options end
 job_status (job.Sim part seed epochs sats bands system) told end = part_status part seed epochs sats bands system end

@@ -25,6 +25,8 @@ use Rattle.sim_run_job.specs.SimRunSays.{SaysOfSimRun}
 use Rattle.sim_run_job.proofs.RunSays.{sim_run_says}
 use Rattle.cert_jobs.specs.CertRuns.{SaysOfCheck, SaysOfResiduals}
 use Rattle.cert_jobs.proofs.CertSays.{check_says, residuals_says}
+use Rattle.migrate_job.specs.MigrateRuns.{SaysOfMigrate}
+use Rattle.migrate_job.proofs.MigrateSays.{migrate_says}
 use Rattle.run_options.specs.declared.options.Options.{Options}
 use Rattle.arcs_job.specs.ArcRuns.{SaysOfArcs}
 use Rattle.arcs_job.proofs.ArcSays.{arcs_says}
@@ -98,6 +100,10 @@ run_says_check words told cert result out err run asked =
 pub run_says_residuals : (words : List (List ℕ)) (told : List ℕ → Option (List ℕ)) (cert : List ℕ) (result : Status) (out err : SinkChange) → IsRun words told result out err → IsJob words (job.Residuals cert) → SaysOfResiduals told cert result out
 run_says_residuals words told cert result out err run asked =
     run_says words told (job.Residuals cert) result out err (λ s. SaysOfResiduals told cert s out) (record { usage = tt; refused = tt; read = tt; write = tt; memory = tt }) (λ end ends written. residuals_says told cert end out ends written) run asked
+
+pub run_says_migrate : (words : List (List ℕ)) (told : List ℕ → Option (List ℕ)) (cert : List ℕ) (result : Status) (out err : SinkChange) → IsRun words told result out err → IsJob words (job.Migrate cert) → SaysOfMigrate told cert result out
+run_says_migrate words told cert result out err run asked =
+    run_says words told (job.Migrate cert) result out err (λ s. SaysOfMigrate told cert s out) (record { usage = tt; refused = tt; read = tt; write = tt; memory = tt }) (λ end ends written. migrate_says told cert end out ends written) run asked
 
 pub run_says_arcs : (words : List (List ℕ)) (told : List ℕ → Option (List ℕ)) (base rover nav : List ℕ) (options : Options) (result : Status) (out err : SinkChange) → IsRun words told result out err → IsJob words (job.Arcs base rover nav options) → SaysOfArcs told base rover nav options result out
 run_says_arcs words told base rover nav options result out err run asked =

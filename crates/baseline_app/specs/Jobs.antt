@@ -20,6 +20,8 @@ use Rattle.orbit_job.specs.Orbits.{OrbitEnds}
 use Rattle.sim_job.specs.Sims.{SimEnds}
 use Rattle.cert_jobs.specs.CertJobs.{CheckEnds, ResidualsEnds}
 use Rattle.cert_jobs.specs.CertRuns.{IsCertAdmitted}
+use Rattle.migrate_job.specs.Migrations.{MigrateEnds}
+use Rattle.migrate_job.specs.MigrateRuns.{IsOldAdmitted}
 use Rattle.arcs_job.specs.ArcJobs.{ArcsEnds}
 use Rattle.pair_refusals.specs.Admitted.{AreAdmitted}
 use Rattle.fix_job.specs.FixJobs.{FixEnds}
@@ -36,6 +38,7 @@ JobEnds (job.List obs) told end = EndsByFile told obs (ListEnds obs) end
 JobEnds (job.Orbit nav system sat tick) told end = EndsByFile told nav (OrbitEnds nav system sat tick.0) end
 JobEnds (job.Check cert) told end = EndsByFile told cert (CheckEnds cert) end
 JobEnds (job.Residuals cert) told end = EndsByFile told cert (ResidualsEnds cert) end
+JobEnds (job.Migrate cert) told end = EndsByFile told cert (MigrateEnds cert) end
 JobEnds (job.Fix base rover nav options) told end = FixEnds told base rover nav options end
 JobEnds (job.Arcs base rover nav options) told end = ArcsEnds told base rover nav options end
 JobEnds (job.Sim part seed epochs sats bands system) told end = PartEnds part seed epochs sats bands system end
@@ -48,6 +51,7 @@ IsReadable (job.List obs) told = IsAdmitted told obs (HasObservation Gps)
 IsReadable (job.Orbit nav system sat tick) told = IsAdmitted told nav (HasNavFile (system_of system))
 IsReadable (job.Check cert) told = IsCertAdmitted told cert
 IsReadable (job.Residuals cert) told = IsCertAdmitted told cert
+IsReadable (job.Migrate cert) told = IsOldAdmitted told cert
 IsReadable (job.Fix base rover nav options) told = AreAdmitted told base rover nav options
 IsReadable (job.Arcs base rover nav options) told = AreAdmitted told base rover nav options
 IsReadable (job.Sim part seed epochs sats bands system) told = Unit {0}

@@ -15,6 +15,7 @@ ghost use Rattle.sim_job.specs.SimRuns.{SaysOfSim};
 ghost use Rattle.sim_run_job.specs.SimRunSays.{SaysOfSimRun};
 ghost use Rattle.run_options.specs.declared.options.Options.{Options};
 ghost use Rattle.cert_jobs.specs.CertRuns.{SaysOfCheck, SaysOfResiduals};
+ghost use Rattle.migrate_job.specs.MigrateRuns.{SaysOfMigrate};
 ghost use Rattle.pair_refusals.specs.Refusals.{HaveRefused, AreRefusedWhole};
 ghost use Rattle.arcs_job.specs.ArcJobs.{ArcsEnds};
 ghost use Rattle.arcs_job.specs.ArcRuns.{SaysOfArcs};
@@ -30,6 +31,7 @@ use fix_job::fix;
 use job_answers::{Answer, Status, Stop, deliver, usage};
 use line_source::{Files, Sink};
 use list_job::list;
+use migrate_job::migrate;
 use orbit_job::orbit;
 use run_options::Options;
 use sim_job::sim;
@@ -130,6 +132,7 @@ fn do_job<F: Files>(alloc: Global, job: &Job, files: &mut F) -> Result<Answer, S
         } => orbit(alloc, files, nav.as_str(), *system, *sat, *tick),
         Job::Check { cert } => check_file(alloc, files, cert.as_str()),
         Job::Residuals { cert } => residuals(alloc, files, cert.as_str()),
+        Job::Migrate { cert } => migrate(alloc, files, cert.as_str()),
         Job::Fix {
             base,
             rover,
@@ -219,6 +222,8 @@ pub fn run<F: Files, O: Sink, E: Sink>(
     ensures check { (cert : List ℕ) → IsJob (texts_of words.now) (Job.Check cert) → SaysOfCheck (F.text_of files.old) cert result
         (sink_change (O.contents out.old) (O.contents out.new) (O.faults out.old) (O.faults out.new)) }
     ensures residuals { (cert : List ℕ) → IsJob (texts_of words.now) (Job.Residuals cert) → SaysOfResiduals (F.text_of files.old) cert result
+        (sink_change (O.contents out.old) (O.contents out.new) (O.faults out.old) (O.faults out.new)) }
+    ensures migrate { (cert : List ℕ) → IsJob (texts_of words.now) (Job.Migrate cert) → SaysOfMigrate (F.text_of files.old) cert result
         (sink_change (O.contents out.old) (O.contents out.new) (O.faults out.old) (O.faults out.new)) }
     ensures arcs { (base rover nav : List ℕ) (options : Options) → IsJob (texts_of words.now) (Job.Arcs base rover nav options)
         → SaysOfArcs (F.text_of files.old) base rover nav options result

@@ -38,6 +38,9 @@ returns-in-Check-clause-refused g c = asked_whole c.check_file.result _ _ _ _ _ 
 pub returns-in-Residuals-clause-refused : goal.returns-in-Residuals-clause-refused
 returns-in-Residuals-clause-refused g c = asked_whole c.residuals.result _ _ _ _ _ _ c.in-Residuals.is c.as_str-in-Residuals.ensures refl c.residuals.ensures.refused
 
+pub returns-in-Migrate-clause-refused : goal.returns-in-Migrate-clause-refused
+returns-in-Migrate-clause-refused g c = asked_whole c.migrate.result _ _ _ _ _ _ c.in-Migrate.is c.as_str-in-Migrate.ensures refl c.migrate.ensures.refused
+
 pub returns-in-Fix-clause-refused : goal.returns-in-Fix-clause-refused
 returns-in-Fix-clause-refused g c =
     subst (λ (j : Job). IfEnded c.fix_by_words.result (AreRefusedWhole (g.F.Files.text_of c.args.files.now) (g.F.Files.unread c.fix_by_words.new.files) (file_words j))) (sym c.in-Fix.is) c.fix_by_words.ensures.refused

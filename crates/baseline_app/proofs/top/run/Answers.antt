@@ -1,6 +1,6 @@
 use Rattle.std.proofs.Common.{inl, inr}
 use Rattle.baseline_app.proofs.Completes.{run_complete, run_usage, run_write}
-use Rattle.baseline_app.proofs.Says.{run_says_zero, run_says_list, run_says_orbit, run_says_sim, run_says_sim_run, run_says_check, run_says_residuals, run_says_arcs, run_says_fix}
+use Rattle.baseline_app.proofs.Says.{run_says_zero, run_says_list, run_says_orbit, run_says_sim, run_says_sim_run, run_says_check, run_says_residuals, run_says_migrate, run_says_arcs, run_says_fix}
 use Rattle.baseline_app.proofs.top.run.Goals as goal
 
 pub returns-clause-write : goal.returns-clause-write
@@ -36,6 +36,9 @@ returns-clause-check g c = λ cert asked. run_says_check _ _ cert _ _ _ c.write_
 
 pub returns-clause-residuals : goal.returns-clause-residuals
 returns-clause-residuals g c = λ cert asked. run_says_residuals _ _ cert _ _ _ c.write_answer.ensures.run asked
+
+pub returns-clause-migrate : goal.returns-clause-migrate
+returns-clause-migrate g c = λ cert asked. run_says_migrate _ _ cert _ _ _ c.write_answer.ensures.run asked
 
 pub returns-clause-arcs : goal.returns-clause-arcs
 returns-clause-arcs g c = λ base rover nav options asked. run_says_arcs _ _ base rover nav options _ _ _ c.write_answer.ensures.run asked

@@ -1,0 +1,9 @@
+pub mod ListZips
+pub mod Scaling
+pub mod LiftedNumbers
+pub mod LiftedArcs
+pub mod LiftedData
+pub mod LiftedSums
+pub mod LiftedSessions
+pub mod LiftedBest
+pub mod MovedLists

@@ -1,0 +1,34 @@
+use Rattle.std.proofs.Common.{◌≡◌, inl, inr, ℕ, List, sym, subst}
+use Rattle.obs_rows.specs.declared.sessions.Session.{Session}
+use Rattle.integer_form.specs.declared.faults.LowerFault.{LowerFault}
+use Rattle.integer_form.specs.declared.faults.LowerFault.TheVariants.{Weak, Overwidth}
+use Rattle.cert_data.specs.declared.tails.Tail.{Tail}
+use Rattle.cert_data.specs.Tails.{IsTailOf}
+use Rattle.settled_decision.specs.Decided.{IsRefused, tail_of}
+use Rattle.round_steps.proofs.WeakLaws.{weak_fits}
+use Rattle.obs_rows.specs.Signals.{fine_signals}
+use Rattle.cert_migrate.proofs.decisions.decide_rows.Goals as goal
+
+fault_fits : (s : Session) (ss : List ℕ) (budget : ℕ) (f : LowerFault) → IsRefused s f → IsTailOf ss s.arcs budget (tail_of f)
+fault_fits s ss budget (Weak column pivot) h = weak_fits s column pivot h
+fault_fits s ss budget (Overwidth place) h = tt
+
+pub returns-in-Ok-clause-decision : goal.returns-in-Ok-clause-decision
+returns-in-Ok-clause-decision c = inr (record {
+  form = c.in-Ok.form;
+  of_rows = record { normal = c.sum-normal.result; of_rows = c.sum-normal.ensures.normal; lowered = c.in-Ok.ensures.lower };
+  decision = c.decide_settled.ensures.decision;
+})
+
+pub returns-in-Err-clause-decision : goal.returns-in-Err-clause-decision
+returns-in-Err-clause-decision c = inl (record {
+  fault = c.in-Err.fault;
+  refused = record { normal = c.sum-normal.result; of_rows = c.sum-normal.ensures.normal; told = c.in-Err.ensures.refused };
+  tail_is = c.tail_of.ensures;
+})
+
+pub returns-in-Err-clause-fits : goal.returns-in-Err-clause-fits
+returns-in-Err-clause-fits c =
+    let s : Session = c.args.session.now in
+    subst (λ (t : Tail). IsTailOf (fine_signals s.signals) s.arcs c.args.budget t) (sym c.tail_of.ensures)
+    (fault_fits s (fine_signals s.signals) c.args.budget c.in-Err.fault (record { normal = c.sum-normal.result; of_rows = c.sum-normal.ensures.normal; told = c.in-Err.ensures.refused }))

@@ -1,0 +1,14 @@
+use Rattle.std.proofs.Common.{List, ℤ, take, sym, subst}
+use Rattle.int_search.specs.declared.answer.TwoBest.{TwoBest}
+use Rattle.int_search.specs.Vectors.{IsZeroFrom}
+use Rattle.cert_migrate.proofs.MovedLists.{front_zero}
+use Rattle.cert_migrate.proofs.moved_tails.old_best.Goals as goal
+
+pub invariant_of-result : goal.invariant_of-result
+invariant_of-result c =
+    let b : TwoBest = c.args.best.now in
+    record {
+      size_to = c.requires;
+      first_rest = subst (IsZeroFrom b.size) (sym c.first_entries.ensures) (front_zero 40 b.size b.first b.first_rest);
+      second_rest = subst (IsZeroFrom b.size) (sym c.first_entries-2.ensures) (front_zero 40 b.size b.second b.second_rest);
+    }

@@ -1,0 +1,10 @@
+pub mod OldRanges
+pub mod OldArcs
+pub mod OldPairs
+pub mod OldTails
+pub mod OldSums
+pub mod OldSpelling
+pub mod Lifted
+pub mod RowDecisions
+pub mod Migrated
+pub mod Carriers

@@ -1,0 +1,17 @@
+-- All that holds of a lifted certificate.
+use Rattle.std.specs.Prelude.{◌≡◌}
+use Rattle.cert_data.specs.declared.certs.Cert.{Cert}
+use Rattle.cert_migrate.specs.declared.old_certs.OldCert.{OldCert}
+use Rattle.cert_migrate.specs.Lifted.{IsLiftedSession, HasScaledData, HasScaledSums, IsOldBestWhereFixed}
+use Rattle.cert_migrate.specs.RowDecisions.{IsRowDecision}
+
+-- The session is lifted and the rows are decided again. The old boxes' data are data of the new ones, the sums of squares
+-- are those of the old session in the new unit, and what is fixed is strictly best in the old boxes.
+pub record IsMigrated (old : OldCert) (new : Cert) : Type 0 where
+  pub ratio : new.ratio ≡ old.ratio
+  pub budget : new.budget ≡ old.budget
+  pub session : IsLiftedSession old.session new.session
+  pub tail : IsRowDecision new.session new.ratio new.budget new.tail
+  pub boxes : HasScaledData old.session new.session
+  pub sums : HasScaledSums old.session new.session
+  pub best : IsOldBestWhereFixed old.session new.tail

@@ -1,0 +1,21 @@
+//! Certificates of the first version.
+ghost use Rattle.std.specs.Prelude.{◌≤◌};
+ghost use Rattle.cert_migrate.specs.OldTails.{IsOldTailOf, IsOldTailOf-prop};
+
+use crate::{OldSession, OldTail};
+
+/// The rows of a session of the first version, with what they were said to say.
+#[derive(Debug, Drop)]
+pub struct OldCert {
+    /// How many times greater the rivals' sums of squares have to be, in thousandths.
+    pub ratio: u32,
+    /// The most visits of the search.
+    pub budget: u64,
+    pub session: OldSession,
+    pub tail: OldTail,
+    pub ghost ratio_from: { 1000 ≤ ratio },
+    pub ghost ratio_to: { ratio ≤ 100_000 },
+    pub ghost budget_from: { 1 ≤ budget },
+    pub ghost budget_to: { budget ≤ 100_000_000 },
+    pub ghost tail_fits: { IsOldTailOf session.arcs budget tail } by { IsOldTailOf-prop session.arcs budget tail },
+}

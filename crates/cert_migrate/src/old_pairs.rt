@@ -1,0 +1,24 @@
+//! Pairs as the first version has them.
+ghost use Rattle.std.specs.Prelude.{◌≡◌, ◌^◌, ◌<◌, ◌≤◌, length, unsigned_abs, AllPairs};
+
+use crate::{OldList, OldRow};
+use gps_time::Tick;
+
+/// A pair of epochs that has a row.
+#[derive(Debug, Drop)]
+pub struct OldPair {
+    /// The number of the pair among those that were taken.
+    pub number: u32,
+    /// The base's tag.
+    pub tag: Tick,
+    /// The whole number of κ that is taken off every observation of the pair.
+    pub group: i64,
+    /// At most one row for each arc, in the arcs' order.
+    pub rows: OldList<OldRow>,
+    pub ghost number_in: { number < 3600 },
+    pub ghost tag_in: { tag.0 < 2 ^ 63 },
+    pub ghost group_in: { unsigned_abs group < 2 ^ 50 },
+    pub ghost some_rows: { 1 ≤ length rows },
+    pub ghost few_rows: { length rows ≤ 15 },
+    pub ghost arcs_rise: { AllPairs (λ r s. r.arc < s.arc) rows },
+}

@@ -1,0 +1,26 @@
+//! A certificate of the first version, read.
+ghost use Rattle.std.specs.Prelude.{◌≡◌, ◌≤◌, length, IfOk};
+ghost use Rattle.rinex_head.specs.Walk.{Gives, OnRefusal};
+ghost use Rattle.cert_lines.specs.declared.version.Version.TheVariants.{One};
+ghost use Rattle.cert_text.specs.Rules.{reading_as};
+ghost use Rattle.cert_migrate.specs.declared.old_certs.OldCert.{OldCert};
+ghost use Rattle.cert_migrate.specs.OldSpelling.{old_spelling, IsWholeOld, IsOldCertificate};
+
+use crate::OldCert;
+use crate::moved::old_cert;
+use cert_text::{Version, read_as};
+use rinex_head::TextFault;
+use std::alloc::Global;
+
+/// The certificate that a text spells in the form of the first version, or the first place at which it is none.
+pub fn read_old(alloc: Global, text: &[u8]) -> Result<OldCert, TextFault>
+    requires { length text.now ≤ 67108864 }
+    ensures ok { IfOk result (λ c. text.now ≡ old_spelling c) }
+    ensures whole { IfOk result IsWholeOld }
+    ensures only { IfOk result (λ c. (d : OldCert) → IsWholeOld d → text.now ≡ old_spelling d → d ≡ c) }
+    ensures refused { OnRefusal result (IsOldCertificate text.now → ⊥) }
+    ensures exact { Gives (reading_as One text.now) (λ c. tt) result }
+{
+    let cert = read_as(alloc, Version::One, text)?;
+    Ok(old_cert(alloc, &cert)?)
+}

@@ -1,0 +1,6 @@
+//! Certificates of the first version that are read and lifted, against an independent model. There is nothing here but
+//! tests.
+#![tactic(auto)]
+
+#[cfg(test)]
+mod tests;

@@ -1,0 +1,51 @@
+-- What `migrate` ends with.
+use Rattle.std.specs.Prelude.{◌≡◌, ◌⊎◌, ℕ, List, [], Err}
+use Rattle.rinex_head.specs.declared.place.At.{At}
+use Rattle.cert_data.specs.declared.certs.Cert.{Cert}
+use Rattle.cert_data.specs.declared.tails.Tail.{Tail}
+use Rattle.cert_data.specs.declared.tails.Tail.TheVariants.{Fixed, Unseparated, Weak, Overwidth, Unsettled, Spent}
+use Rattle.cert_lines.specs.declared.version.Version.TheVariants.{One}
+use Rattle.cert_spelling.specs.Spelling.{spelling}
+use Rattle.cert_spelling.specs.Lengths.{IsWhole}
+use Rattle.cert_text.specs.Rules.{reading_as}
+use Rattle.cert_migrate.specs.declared.old_certs.OldCert.{OldCert}
+use Rattle.cert_migrate.specs.OldSpelling.{old_spelling, IsWholeOld, IsOldCertificate}
+use Rattle.cert_migrate.specs.Migrated.{IsMigrated}
+use Rattle.job_answers.specs.declared.status.Status.{Status}
+use Rattle.job_answers.specs.declared.status.Status.TheVariants.{Done, Declined, Refused}
+use Rattle.job_answers.specs.Texts.{refusal_line}
+use Rattle.job_answers.specs.Endings.{Ending, ending}
+
+-- 0 exactly where the tail is fixed
+abbrev pub status_of : Tail → Status
+status_of (Fixed h moved best top) = Done
+status_of (Unseparated h moved best top) = Declined
+status_of (Weak column pivot) = Declined
+status_of (Overwidth place) = Declined
+status_of (Unsettled entry) = Declined
+status_of (Spent budget) = Declined
+
+-- the spelling of the lifted certificate
+pub record MigrateEnd (old : OldCert) (end : Ending) : Type 0 where
+  pub cert : Cert
+  pub whole : IsWhole cert
+  pub migrated : IsMigrated old cert
+  pub end_is : end ≡ ending (status_of cert.tail) (spelling cert) []
+
+-- the text spells a certificate of version 1, which ends so
+pub record EndsByOld (text : List ℕ) (end : Ending) : Type 0 where
+  pub old : OldCert
+  pub whole : IsWholeOld old
+  pub spelled : text ≡ old_spelling old
+  pub ends_so : MigrateEnd old end
+
+-- the text is none, and is refused at the first place at which the rules of version 1 fail
+pub record IsOldRefused (name text : List ℕ) (end : Ending) : Type 0 where
+  pub at : At
+  pub none : IsOldCertificate text → ⊥
+  pub gives_is : reading_as One text ≡ Err at
+  pub end_is : end ≡ ending Refused [] (refusal_line name at)
+
+-- what a file of that name and text ends with
+abbrev pub MigrateEnds : List ℕ → List ℕ → Ending → Type 0
+MigrateEnds name text end = EndsByOld text end ⊎ IsOldRefused name text end
