@@ -17,7 +17,9 @@
 //! `orbit`: with status 0 the text stands for a navigation file of the satellite's system, and the printed numbers hold
 //! every solution of the satellite's equations, with that system's constants, for the record that is chosen at the tick;
 //! with status 1 none is chosen. `sim`, `check`, `residuals`, `arcs`: the same for these, as told above; the files of
-//! `sim` and `arcs` are never declined. `fix`: with status 0 out has gained a certificate whose integers with their move
+//! `sim` and `arcs` are never declined. `migrate`: with status 0 or 1 the text spells a certificate of version 1, and out
+//! has gained the spelling of the lifted one, which is fixed exactly with status 0, and is then strictly best in the old
+//! boxes. `fix`: with status 0 out has gained a certificate whose integers with their move
 //! are strictly best for all rational data in the printed boxes, and whose session stands for the files on the bands
 //! and with the constants of the system of the options; with status 1 the text of an outcome of the files that is no
 //! fix, with its cause (`SaysOfFix`). `sim_run`: with status 0 the simulated texts stand for a session whose outcome is
