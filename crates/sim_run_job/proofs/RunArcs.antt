@@ -9,7 +9,7 @@ use Rattle.eph_store.specs.File.{Records}
 use Rattle.obs_rows.specs.declared.arcs.Arc.{Arc}
 use Rattle.used_svs.specs.declared.used.UsedPair.{UsedPair}
 use Rattle.slip_arcs.specs.Runs.{Run, Precedes, is_long, run_of, AreKept}
-use Rattle.slip_arcs.proofs.Kept.{kept_each}
+use Rattle.slip_arcs.proofs.Kept.{kept_at, kept_each, precedes_at}
 use Rattle.cert_data.specs.declared.outcomes.Outcome.{Outcome}
 use Rattle.cert_data.specs.declared.outcomes.Answer.{Answer}
 use Rattle.cert_data.specs.declared.outcomes.Answer.TheVariants.{Few, Arcs, Early, Full}
@@ -18,14 +18,6 @@ use Rattle.run_options.specs.declared.options.Options.{Options}
 use Rattle.session.specs.Outcomes.{IsOutcome}
 use Rattle.fix_job.proofs.Runs.{stands_for}
 use Rattle.sim_match.specs.Matches.{AreInOrder, HasMarkedArcs}
-
--- kept arcs begin in order
-kept_at : (bands : List ℕ) (jump least : ℕ) (used : List UsedPair) (kept : List Arc) (short k : ℕ) (a : Arc) → (are : AreKept bands jump least used kept short) → slice_get kept k ≡ Some a → slice_get (filter (is_long least) are.runs) k ≡ Some (run_of a)
-kept_at bands jump least used kept short k a are is = ap (λ (rs : List Run). slice_get rs k) (sym are.kept_are) ∙ slice_get-map run_of kept k ∙ ap (λ (o : Option Arc). option_map run_of o) is
-
-precedes_at : (rs : List Run) (k m : ℕ) (r s : Run) → AllPairs Precedes rs → k < m → slice_get rs k ≡ Some r → slice_get rs m ≡ Some s → Precedes r s
-precedes_at rs k m r s pairs before first second =
-    subst (λ (t : Run). Precedes r t) (get_or_from_slice_get rs m s r second) (subst (λ (t : Run). Precedes t (get_or rs m r)) (get_or_from_slice_get rs k r r first) (pairs k m r before (slice_get_within rs m s second)))
 
 no_later : (r s : Run) → Precedes r s → r.first ≤ s.first
 no_later r s (inl less) = omega arith
