@@ -5,7 +5,6 @@ use Rattle.obs_store.specs.declared.file.ObsFile.{ObsFile}
 use Rattle.obs_store.specs.Epochs.{tags_of}
 use Rattle.epoch_pair.specs.declared.pairs.PairOf.{PairOf}
 use Rattle.epoch_pair.specs.declared.pairs.PairFault.{PairFault}
-use Rattle.epoch_pair.specs.declared.pairs.PairFault.TheVariants as PairFault
 use Rattle.epoch_pair.specs.Pairs.{all_pairs, AreApart, IsTaken}
 use Rattle.epoch_pair.specs.Faults.{IsDense}
 use Rattle.epoch_pair.specs.Signals.{AreLettersOf, LacksLetter}

@@ -1,5 +1,5 @@
 -- When the integers of a fix are those that its session was made with.
-use Rattle.std.specs.Prelude.{◌≡◌, ◌-◌, ◌≤◌, ℕ, ℤ, pos, ◌+ℤ◌, ◌-ℤ◌, IsTrue, Some, List, All, slice_get, slice_index_or}
+use Rattle.std.specs.Prelude.{◌≡◌, ◌-◌, ◌<◌, ◌≤◌, ℕ, ℤ, pos, ◌+ℤ◌, ◌-ℤ◌, IsTrue, Some, List, All, slice_get, slice_index_or}
 use Rattle.obs_rows.specs.declared.arcs.Arc.{Arc}
 use Rattle.obs_rows.specs.Arcs.{is_free}
 use Rattle.obs_rows.specs.Signals.{fine_signals, is_phase, band}

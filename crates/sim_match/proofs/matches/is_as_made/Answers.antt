@@ -1,4 +1,4 @@
-use Rattle.std.proofs.Common.{◌≡◌, IsTrue, FitsSigned, rules, sym, ◌∙◌}
+use Rattle.std.proofs.Common.{IsTrue, rules, sym, ◌∙◌}
 use Rattle.obs_rows.specs.Signals.{is_phase}
 use Rattle.sim_match.proofs.Words.{same_words, words_same}
 use Rattle.sim_match.proofs.matches.is_as_made.Goals as goal
