@@ -9,7 +9,8 @@ use Rattle.run_options.specs.declared.options.Options.{Options}
 use Rattle.session_begin.specs.declared.faults.PairWhat.{PairWhat}
 use Rattle.session_begin.specs.declared.faults.PairWhat.TheVariants.{NoBasePosition, NoSignal, Dense}
 use Rattle.session_begin.specs.declared.faults.SessionFault.TheVariants as fault
-use Rattle.session_begin.specs.Beginnings.{bands_of, HasPosition, HaveSignals, AreSparse, IsSessionFault}
+use Rattle.band_sets.specs.BandSets.{bands_of}
+use Rattle.session_begin.specs.Beginnings.{HasPosition, HaveSignals, AreSparse, IsSessionFault}
 use Rattle.session_begin.proofs.BeginLaws.{no_lack}
 use Rattle.rinex_head.specs.Systems.{system_of}
 use Rattle.job_answers.specs.Endings.{Ending, IsRefusedWhole}
@@ -31,9 +32,9 @@ not_dense gap base rover false epoch b r dense = not_close gap base epoch b dens
 not_dense gap base rover true epoch b r dense = not_close gap rover epoch r dense.1
 
 -- two files with a position, signals and sparse epochs aren't refused
-not_refused : (b r : ObsFile) (o : Options) (what : PairWhat) → HasPosition b → HaveSignals (bands_of o) b r → AreSparse o.gap b r → IsSessionFault b r o (fault.Refused what) → ⊥
+not_refused : (b r : ObsFile) (o : Options) (what : PairWhat) → HasPosition b → HaveSignals (bands_of o.bands) b r → AreSparse o.gap b r → IsSessionFault b r o (fault.Refused what) → ⊥
 not_refused b r o NoBasePosition position signals sparse why = why position
-not_refused b r o NoSignal position signals sparse why = no_lack (bands_of o) b r signals why.1
+not_refused b r o NoSignal position signals sparse why = no_lack (bands_of o.bands) b r signals why.1
 not_refused b r o (Dense in_rover epoch) position signals sparse why = not_dense o.gap (tags_of b.epochs) (tags_of r.epochs) in_rover epoch sparse.0 sparse.1 why.1.1
 
 pub never_refused : (told : List ℕ → Option (List ℕ)) (base rover nav : List ℕ) (o : Options) (b r : ObsFile) (n : Records) (end : Ending)

@@ -6,7 +6,8 @@ use Rattle.rinex_head.specs.Systems.{system_of}
 use Rattle.obs_source.specs.Formats.{HasObservation}
 use Rattle.nav_records.specs.NavForm.{HasNavFile}
 use Rattle.run_options.specs.declared.options.Options.{Options}
-use Rattle.session_begin.specs.Beginnings.{bands_of, HasPosition, HaveSignals, AreSparse}
+use Rattle.band_sets.specs.BandSets.{bands_of}
+use Rattle.session_begin.specs.Beginnings.{HasPosition, HaveSignals, AreSparse}
 use Rattle.job_answers.specs.Endings.{IsAdmitted}
 use Rattle.session_files.specs.SessionFiles.{IsObsOf}
 
@@ -16,5 +17,5 @@ pub record AreAdmitted (told : List ℕ → Option (List ℕ)) (base rover nav :
   pub rover_is : IsAdmitted told rover (HasObservation (system_of o.system))
   pub nav_is : IsAdmitted told nav (HasNavFile (system_of o.system))
   pub position : (b : ObsFile) → IsObsOf (system_of o.system) told base b → HasPosition b
-  pub signals : (b r : ObsFile) → IsObsOf (system_of o.system) told base b → IsObsOf (system_of o.system) told rover r → HaveSignals (bands_of o) b r
+  pub signals : (b r : ObsFile) → IsObsOf (system_of o.system) told base b → IsObsOf (system_of o.system) told rover r → HaveSignals (bands_of o.bands) b r
   pub sparse : (b r : ObsFile) → IsObsOf (system_of o.system) told base b → IsObsOf (system_of o.system) told rover r → AreSparse o.gap b r
