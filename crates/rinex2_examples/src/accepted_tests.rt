@@ -1,6 +1,7 @@
 // Files that are read, and what they give.
 use crate::session::{
-    END, EPOCH, FILE, FIRST, LATER, SAT_12, SAT_5, SAT_5_REST, TEN_TYPES, read, read_changed, text_of,
+    END, EPOCH, FILE, FIRST, LATER, SAT_5, SAT_5_REST, SAT_12, TEN_TYPES, read, read_changed,
+    text_of,
 };
 use gps_time::Tick;
 use obs_store::{ObsFile, ObsType, Value};
@@ -13,23 +14,172 @@ use std::test::Fail;
 type Row = (usize, &'static [&'static str], usize, usize, u64, usize);
 
 const ODDITIES: [Row; 17] = [
-        (1, &["     2.11           OBSERVATION DATA      (GPS)             RINEX VERSION / TYPE"], 2, 2, 13881024300000000, 2),
-        (1, &["2.11                OBSERVATION DATA    G (GPS)             RINEX VERSION / TYPE"], 2, 2, 13881024300000000, 2),
-        (1, &["     2.1            OBSERVATION DATA    G (GPS)             RINEX VERSION / TYPE"], 2, 2, 13881024300000000, 2),
-        (4, &["     0                                                      WAVELENGTH FACT L1/2"], 5, 2, 13881024300000000, 2),
-        (4, &["G    4 C1C L1C C2W L2W                                      SYS / # / OBS TYPES"], 5, 2, 13881024300000000, 2),
-        (5, &[TEN_TYPES, "x                                                           COMMENT", "          P1                                                # / TYPES OF OBSERV"], 6, 2, 13881024300000000, 2),
-        (5, &["     7    P1    C2    D1    D2    S1    S2    T1            # / TYPES OF OBSERV"], 6, 2, 13881024300000000, 2),
-        (8, &[" 24  1  1  0  0 30.0000000  4  1", "G    4 C1C L1C C2W L2W                                      SYS / # / OBS TYPES", EPOCH], 9, 2, 13881024300000000, 2),
-        (8, &[" 80  1  6  0  0  0.0000000  0  0"], 13, 2, 0, 0),
-        (8, &[" 79  1  6  0  0  0.0000000  0  0"], 14, 1, 31242240000000000, 0),
-        (8, &[" 24  1  1  0  0 30.0000000  1   "], 13, 2, 13881024300000000, 0),
-        (8, &[" 24  1  1  0  0 30.0000000  0  4R99E36G05S29", "garbage", "? 12.34567890123456789", SAT_12, "    x", SAT_5, SAT_5_REST, "", "y"], 13, 2, 13881024300000000, 1),
-        (10, &[""], 11, 2, 13881024300000000, 2),
-        (9, &["        0.0000x  116260123.45617  90592303.99946  22123459.123  "], 10, 2, 13881024300000000, 2),
-        (8, &[" 24  1  1  0  0 30.0000000  6 13?!x?!x?!x?!x?!x?!x?!x?!x?!x?!x?!x?!x", "                                ?!x", "x", "x", "x", "x", "x", "x", "x", "x", "x", "x", "x", "x", "x", "x", "x", "x", "x", "x", "x", "x", "x", "x", "x", "x", "x", "x", EPOCH], 9, 2, 13881024300000000, 2),
-        (9, &["  22123456.789   116260123.45617  90592303.99946  22123459.123  \r", "        45.250         38.500  \r"], 11, 2, 13881024300000000, 2),
-        (13, &["", "   ", LATER], 14, 2, 13881024300000000, 2),
+    (
+        1,
+        &["     2.11           OBSERVATION DATA      (GPS)             RINEX VERSION / TYPE"],
+        2,
+        2,
+        13881024300000000,
+        2,
+    ),
+    (
+        1,
+        &["2.11                OBSERVATION DATA    G (GPS)             RINEX VERSION / TYPE"],
+        2,
+        2,
+        13881024300000000,
+        2,
+    ),
+    (
+        1,
+        &["     2.1            OBSERVATION DATA    G (GPS)             RINEX VERSION / TYPE"],
+        2,
+        2,
+        13881024300000000,
+        2,
+    ),
+    (
+        4,
+        &["     0                                                      WAVELENGTH FACT L1/2"],
+        5,
+        2,
+        13881024300000000,
+        2,
+    ),
+    (
+        4,
+        &["G    4 C1C L1C C2W L2W                                      SYS / # / OBS TYPES"],
+        5,
+        2,
+        13881024300000000,
+        2,
+    ),
+    (
+        5,
+        &[
+            TEN_TYPES,
+            "x                                                           COMMENT",
+            "          P1                                                # / TYPES OF OBSERV",
+        ],
+        6,
+        2,
+        13881024300000000,
+        2,
+    ),
+    (
+        5,
+        &["     7    P1    C2    D1    D2    S1    S2    T1            # / TYPES OF OBSERV"],
+        6,
+        2,
+        13881024300000000,
+        2,
+    ),
+    (
+        8,
+        &[
+            " 24  1  1  0  0 30.0000000  4  1",
+            "G    4 C1C L1C C2W L2W                                      SYS / # / OBS TYPES",
+            EPOCH,
+        ],
+        9,
+        2,
+        13881024300000000,
+        2,
+    ),
+    (8, &[" 80  1  6  0  0  0.0000000  0  0"], 13, 2, 0, 0),
+    (
+        8,
+        &[" 79  1  6  0  0  0.0000000  0  0"],
+        14,
+        1,
+        31242240000000000,
+        0,
+    ),
+    (
+        8,
+        &[" 24  1  1  0  0 30.0000000  1   "],
+        13,
+        2,
+        13881024300000000,
+        0,
+    ),
+    (
+        8,
+        &[
+            " 24  1  1  0  0 30.0000000  0  4R99E36G05S29",
+            "garbage",
+            "? 12.34567890123456789",
+            SAT_12,
+            "    x",
+            SAT_5,
+            SAT_5_REST,
+            "",
+            "y",
+        ],
+        13,
+        2,
+        13881024300000000,
+        1,
+    ),
+    (10, &[""], 11, 2, 13881024300000000, 2),
+    (
+        9,
+        &["        0.0000x  116260123.45617  90592303.99946  22123459.123  "],
+        10,
+        2,
+        13881024300000000,
+        2,
+    ),
+    (
+        8,
+        &[
+            " 24  1  1  0  0 30.0000000  6 13?!x?!x?!x?!x?!x?!x?!x?!x?!x?!x?!x?!x",
+            "                                ?!x",
+            "x",
+            "x",
+            "x",
+            "x",
+            "x",
+            "x",
+            "x",
+            "x",
+            "x",
+            "x",
+            "x",
+            "x",
+            "x",
+            "x",
+            "x",
+            "x",
+            "x",
+            "x",
+            "x",
+            "x",
+            "x",
+            "x",
+            "x",
+            "x",
+            "x",
+            "x",
+            EPOCH,
+        ],
+        9,
+        2,
+        13881024300000000,
+        2,
+    ),
+    (
+        9,
+        &[
+            "  22123456.789   116260123.45617  90592303.99946  22123459.123  \r",
+            "        45.250         38.500  \r",
+        ],
+        11,
+        2,
+        13881024300000000,
+        2,
+    ),
+    (13, &["", "   ", LATER], 14, 2, 13881024300000000, 2),
 ];
 
 fn taken(rt: &impl Abort, found: Result<ObsFile, At>) -> ObsFile {
@@ -68,10 +218,34 @@ fn reads_two_lines_for_each_satellite(rt: HostRuntime) -> Result<(), Fail> {
     let sat = epoch.sats.at(0);
     assert_eq!(rt; sat.number, 5);
     let cases: [(ObsType, Option<Value>); 5] = [
-        (ObsType::C1C, Some(Value { amount: 22_123_456_789, lock: 0 })),
-        (ObsType::L1C, Some(Value { amount: 116_260_123_456, lock: 1 })),
-        (ObsType::L2W, Some(Value { amount: 90_592_303_999, lock: 4 })),
-        (ObsType::C2W, Some(Value { amount: 22_123_459_123, lock: 0 })),
+        (
+            ObsType::C1C,
+            Some(Value {
+                amount: 22_123_456_789,
+                lock: 0,
+            }),
+        ),
+        (
+            ObsType::L1C,
+            Some(Value {
+                amount: 116_260_123_456,
+                lock: 1,
+            }),
+        ),
+        (
+            ObsType::L2W,
+            Some(Value {
+                amount: 90_592_303_999,
+                lock: 4,
+            }),
+        ),
+        (
+            ObsType::C2W,
+            Some(Value {
+                amount: 22_123_459_123,
+                lock: 0,
+            }),
+        ),
         (ObsType::C5X, None),
     ];
     for (kind, want) in cases {
@@ -117,9 +291,16 @@ fn reads_thirteen_satellites(rt: HostRuntime) -> Result<(), Fail> {
         assert!(rt; place < epoch.sats.len());
         let sat = epoch.sats.at(place);
         let amount = *number as i64 * 1001;
-        let lock = if *number == 3 || *number == 7 { *number } else { 0 };
+        let lock = if *number == 3 || *number == 7 {
+            *number
+        } else {
+            0
+        };
         assert_eq!(rt; sat.number, *number);
-        assert_eq!(rt; sat.values[ObsType::L1C.slot()], Some(Value { amount, lock }));
+        assert_eq!(rt;
+            sat.values[ObsType::L1C.slot()],
+            Some(Value { amount, lock })
+        );
     }
     Ok(())
 }

@@ -23,32 +23,24 @@ pub const TYPES: &str =
 pub const TIME: &str =
     "  2024     1     1     0     0    0.0000000     GPS         TIME OF FIRST OBS";
 
-pub const END: &str =
-    "                                                            END OF HEADER";
+pub const END: &str = "                                                            END OF HEADER";
 
-pub const EPOCH: &str =
-    " 24  1  1  0  0 30.0000000  0  2G05 12";
+pub const EPOCH: &str = " 24  1  1  0  0 30.0000000  0  2G05 12";
 
-pub const SAT_5: &str =
-    "  22123456.789   116260123.45617  90592303.99946  22123459.123  ";
+pub const SAT_5: &str = "  22123456.789   116260123.45617  90592303.99946  22123459.123  ";
 
-pub const SAT_5_REST: &str =
-    "        45.250         38.500  ";
+pub const SAT_5_REST: &str = "        45.250         38.500  ";
 
-pub const SAT_12: &str =
-    "  23123456.789   121515123.456    94687303.999    23123459.123  ";
+pub const SAT_12: &str = "  23123456.789   121515123.456    94687303.999    23123459.123  ";
 
-pub const SAT_12_REST: &str =
-    "        44.000         30.250  ";
+pub const SAT_12_REST: &str = "        44.000         30.250  ";
 
-pub const LATER: &str =
-    " 24  1  1  0  1  0.0000000  0  0";
+pub const LATER: &str = " 24  1  1  0  1  0.0000000  0  0";
 
 pub const TEN_TYPES: &str =
     "    10    C1    L1    L2    P2    D1    S1    S2    D2    C2# / TYPES OF OBSERV";
 
-pub const THIRTEEN: &str =
-    " 24  1  1  0  0 30.0000000  0 13G01G02G03G04G05G06G07G08G09G10G11G12";
+pub const THIRTEEN: &str = " 24  1  1  0  0 30.0000000  0 13G01G02G03G04G05G06G07G08G09G10G11G12";
 
 /// The file, line by line.
 pub const FILE: [&str; 13] = [

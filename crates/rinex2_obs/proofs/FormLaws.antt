@@ -63,7 +63,7 @@ rows_taken (bytes ∷ rows) more h epochs tag power sats name names at before af
     let set = are.1.0 in
     let further : n + suc (length rows) ≡ n + 1 + length rows = omega arith in
     let admits : admit (more_rows h epochs tag power sats name names at before) bytes ≡ Ok (more_rows h epochs tag power sats name names (at + 1) set) =
-        admit_rows h epochs tag power sats name names at before bytes (omega (arith, count)) ∙ rw (are.1.1) refl in
+    admit_rows h epochs tag power sats name names at before bytes (omega (arith, count)) ∙ rw (are.1.1) refl in
     walk-takes obs2_rules (more_rows h epochs tag power sats name names at before) (more_rows h epochs tag power sats name names (at + 1) set) bytes (rows ++ more) n are.0 admits
     ∙ rows_taken rows more h epochs tag power sats name names (at + 1) set after (n + 1) are.1.2 (omega (arith, count)) ∙ rw further refl
 

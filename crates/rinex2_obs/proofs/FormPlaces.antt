@@ -96,7 +96,7 @@ sats_done : (names : List (Option ℕ)) (h : Header) (epochs : List Epoch) (tag 
 sats_done [] h epochs tag power sats = body_done h _
 sats_done (name ∷ names) h epochs tag power sats =
     row_done h epochs tag power sats name names 0 missing_values
-        (λ set. rows_done (rows_of h.types) h epochs tag power sats name names 1 set (omega arith) (λ sats. sats_done names h epochs tag power sats))
+    (λ set. rows_done (rows_of h.types) h epochs tag power sats name names 1 set (omega arith) (λ sats. sats_done names h epochs tag power sats))
 
 -- ---- names, all of another system
 

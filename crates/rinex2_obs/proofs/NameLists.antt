@@ -87,12 +87,3 @@ next_new (Some n) names before after are new with =
 pub names_behind : (name : Option ℕ) (names : List (Option ℕ)) → AreNames (name ∷ names) → AreNames names
 names_behind None names are = are
 names_behind (Some n) names are = are.3
-
--- the first name alone
-pub first_alone : (name : Option ℕ) (names : List (Option ℕ)) → AreNames (name ∷ names) → AreNames (name ∷ [])
-first_alone None names are = tt
-first_alone (Some n) names are = (are.0, are.1, refl, tt)
-
-pub new_alone : (name : Option ℕ) (names : List (Option ℕ)) (sats : List SatObs) → AreNew sats (name ∷ names) → AreNew sats (name ∷ [])
-new_alone None names sats are = tt
-new_alone (Some n) names sats are = (are.0, tt)

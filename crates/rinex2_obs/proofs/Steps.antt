@@ -1,6 +1,5 @@
 -- What one line gives in its place.
-use Rattle.std.proofs.Common.{◌≡◌, ◌≤◌, ◌<◌, ◌-◌, ◌+◌, ℕ, zero, suc, nat_lt, Bool, true, false, List, [], ◌∷◌, ◌++◌, Ok, Option, Some, None, refl, sym, arith, is_some, append_assoc}
-use Rattle.std.proofs.lemmas.List.{append-nil}
+use Rattle.std.proofs.Common.{◌≡◌, ◌≤◌, ◌<◌, ◌-◌, ◌+◌, ℕ, zero, suc, nat_lt, Bool, true, false, List, [], ◌∷◌, ◌++◌, Result, Ok, Err, Option, Some, None, refl, sym, ◌∙◌, arith, is_some, append_assoc}
 use Rattle.std.proofs.lemmas.Bool.Decides.{nat_tests}
 use Rattle.gps_time.specs.declared.Tick.{Tick}
 use Rattle.obs_store.specs.declared.series.Epoch.{Epoch}
@@ -8,7 +7,11 @@ use Rattle.obs_store.specs.declared.values.Value.{Value}
 use Rattle.obs_store.specs.declared.values.SatObs.{SatObs}
 use Rattle.obs_store.specs.Missing.{missing_values}
 use Rattle.rinex_head.specs.declared.place.What.TheVariants.{NoEnd, Types, Truncated}
+use Rattle.line_source.specs.Lines.{Reading}
+use Rattle.rinex_head.specs.declared.place.TextFault.{TextFault}
 use Rattle.rinex_head.specs.Places.{and_then, flawed}
+use Rattle.rinex_head.specs.Walk.{rest_gives, Reads}
+use Rattle.rinex_head.proofs.Walks.{handed_on}
 use Rattle.obs_fields.specs.declared.layout.Layout.TheVariants.{Rinex2}
 use Rattle.obs_fields.specs.declared.types.KeptType.{KeptType}
 use Rattle.obs_fields.specs.SatFields.{values_in}
@@ -19,7 +22,7 @@ use Rattle.rinex2_obs.specs.Rows.{rows_of, row_of}
 use Rattle.rinex2_obs.specs.SatNames.{further_mark_of, further_names_of}
 use Rattle.rinex2_obs.specs.declared.header.Header.{Header}
 use Rattle.rinex2_obs.specs.declared.header_lines.HeaderLine.TheVariants as header
-use Rattle.rinex2_obs.specs.Obs2Rules.{HeaderSoFar, Body, Row, Skip, more_types, more_sats, more_names, more_rows, more_lines, more_slips, with_satellite, whole_header, after_header, admit, finish}
+use Rattle.rinex2_obs.specs.Obs2Rules.{HeaderSoFar, Expected, Body, Row, Skip, more_types, more_sats, more_names, more_rows, more_lines, more_slips, with_satellite, whole_header, after_header, admit, finish, obs2_rules}
 use Rattle.rinex2_obs.specs.Obs2Form.{if_of_gps}
 
 -- ---- the header
@@ -116,10 +119,6 @@ pub admit_lines : (h : Header) (epochs : List Epoch) (changes : Bool) (n : ℕ) 
 admit_lines h epochs changes zero bytes some = absurd (omega arith)
 admit_lines h epochs changes (suc n) bytes some = refl
 
-pub lines_all : (h : Header) (epochs : List Epoch) (changes : Bool) (n : ℕ) → n ≤ 0 → more_lines h epochs changes n ≡ Body h epochs
-lines_all h epochs changes zero none = refl
-lines_all h epochs changes (suc n) none = absurd (omega arith)
-
 -- a line behind which the header can't change
 pub admit_skipped : (h : Header) (epochs : List Epoch) (n : ℕ) (bytes : List ℕ) → admit (Skip h epochs false n) bytes ≡ Ok (more_lines h epochs false (n - 1))
 unfolding event_line_of
@@ -136,3 +135,11 @@ admit_slips h epochs (suc n) rows bytes some = refl
 pub slips_all : (h : Header) (epochs : List Epoch) (n rows : ℕ) → n ≤ 0 → more_slips h epochs n rows ≡ more_slips h epochs 0 rows
 slips_all h epochs zero rows none = refl
 slips_all h epochs (suc n) rows none = absurd (omega arith)
+
+-- ---- parts of a text
+
+-- a part that takes memory, behind one that takes none
+pub reads_after : (s middle : Expected) (next : List SatObs → Expected) (old between new : Reading) (r : Result (List SatObs) TextFault)
+    → rest_gives obs2_rules old s ≡ rest_gives obs2_rules between middle → Reads obs2_rules between new middle next r → Reads obs2_rules old new s next r
+reads_after s middle next old between new (Ok sats) first second = first ∙ second
+reads_after s middle next old between new (Err fault) first second = handed_on _ _ fault first second

@@ -11,20 +11,27 @@ use crate::sat_names::{NameList, first_names};
 use gps_time::Tick;
 use obs_fields::{Layout, comes_later, count, moment};
 use obs_store::Epochs;
-use rinex_head::{
-    Flaw, What, bad_field, byte_in, field, fixed_number, is_blank_line, two_digits,
-};
+use rinex_head::{Flaw, What, bad_field, byte_in, field, fixed_number, is_blank_line, two_digits};
 
 /// What stands where an epoch's line is expected.
 #[derive(Drop)]
 pub enum EpochLine {
     Blank,
     /// An event of so many lines, behind which the header may change.
-    Event { changes: bool, count: u16 },
+    Event {
+        changes: bool,
+        count: u16,
+    },
     /// Cycle slips of so many satellites.
-    Slips { count: u16 },
+    Slips {
+        count: u16,
+    },
     /// An epoch, before which power may have failed, with the names that its line has.
-    Epoch { tag: Tick, power: bool, list: NameList },
+    Epoch {
+        tag: Tick,
+        power: bool,
+        list: NameList,
+    },
 }
 
 // The year of its last two digits.
@@ -49,7 +56,15 @@ fn tag(line: &[u8]) -> Result<Tick, Flaw>
     let hour = two_digits(line, 11)?;
     let minute = two_digits(line, 14)?;
     let part = fixed_number(&field::<11>(line, 16), 16, 7)?;
-    moment(Layout::Rinex2, full_year(year), month, day, hour, minute, part)
+    moment(
+        Layout::Rinex2,
+        full_year(year),
+        month,
+        day,
+        hour,
+        minute,
+        part,
+    )
 }
 
 // How many satellites or lines follow, in three columns.

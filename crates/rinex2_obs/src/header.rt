@@ -28,8 +28,7 @@ pub struct Header {
 impl Header {
     /// How many lines each satellite has.
     pub fn rows(&self) -> u8
-        ensures value { result ≡ rows_of self.now.types }
-        ensures some { 1 ≤ result }
+        ensures { result ≡ rows_of self.now.types }
     {
         (self.types.as_slice().len().saturating_sub(1) / 5) as u8 + 1
     }

@@ -11,7 +11,7 @@ pub returns-in-Err-clause-reads : goal.returns-in-Err-clause-reads
 returns-in-Err-clause-reads c = λ epochs tag power sats names.
     let h = c.args.header.now in
     let at = c.loop-at._at in
-    let less : at < rows_of h.types = subst (λ (n : ℕ). at < n) c.rows-at-end.ensures.value c.loop-at-test.true in
+    let less : at < rows_of h.types = subst (λ (n : ℕ). at < n) c.rows-at-end.ensures c.loop-at-test.true in
     c.loop-at.invariant.reads epochs tag power sats names
     ∙ has_none obs2_rules (more_rows h epochs tag power sats None names at missing_values) _ _ Truncated _ (finish_rows h epochs tag power sats None names at missing_values less) c.in-Err.ensures
 
@@ -19,7 +19,7 @@ pub loop-at-preserved : goal.loop-at-preserved
 loop-at-preserved c =
     let h = c.args.header.now in
     let at = c.loop-at._at in
-    let less : at < rows_of h.types = subst (λ (n : ℕ). at < n) c.rows-at-end.ensures.value c.loop-at-test.true in
+    let less : at < rows_of h.types = subst (λ (n : ℕ). at < n) c.rows-at-end.ensures c.loop-at-test.true in
     let fewer = gives_less _ _ _ _ c.in-Ok.ensures in
     record {
       reads = λ epochs tag power sats names. c.loop-at.invariant.reads epochs tag power sats names

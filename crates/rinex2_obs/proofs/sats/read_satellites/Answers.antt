@@ -1,0 +1,45 @@
+use Rattle.std.proofs.Common.{◌≡◌, ◌+◌, ◌∷◌, ℕ, List, Option, None, drop, get_or, refl, ap, ◌∙◌, subst, arith}
+use Rattle.std.proofs.lemmas.List.{drop_more}
+use Rattle.rinex_head.specs.Walk.{rest_gives}
+use Rattle.rinex_head.proofs.Walks.{handed_on}
+use Rattle.rinex2_obs.specs.SatNumbers.{AreNames, AreNew}
+use Rattle.rinex2_obs.specs.Obs2Rules.{more_sats, obs2_rules}
+use Rattle.rinex2_obs.proofs.NameLists.{new_at_first, next_new, names_behind}
+use Rattle.rinex2_obs.proofs.sats.read_satellites.Goals as goal
+
+pub loop-name-init : goal.loop-name-init
+loop-name-init c = record {
+  reads = λ epochs tag power. rw c.new-sats.ensures refl;
+  named = c.requires.named;
+  new = rw c.new-sats.ensures (new_at_first c.args.names.now);
+  less = omega arith;
+}
+
+pub returns-in-Err-clause-reads : goal.returns-in-Err-clause-reads
+returns-in-Err-clause-reads c = λ epochs tag power.
+    let h = c.args.header.now in
+    let names = c.args.names.now in
+    let i = c.loop-name.name-index in
+    let later = drop (i + 1) names in
+    let split : drop i names ≡ get_or names i None ∷ later = drop_more names i None c.loop-name-test.true in
+    let same = ap (λ (l : List (Option ℕ)). rest_gives obs2_rules c.loop-name.lines (more_sats h epochs tag power c.loop-name.sats l)) split in
+    handed_on _ _ c.in-Err.fault (c.loop-name.invariant.reads epochs tag power ∙ same) (c.in-Err.ensures.reads epochs tag power later)
+
+pub loop-name-preserved : goal.loop-name-preserved
+loop-name-preserved c =
+    let h = c.args.header.now in
+    let names = c.args.names.now in
+    let i = c.loop-name.name-index in
+    let name = get_or names i None in
+    let later = drop (i + 1) names in
+    let split : drop i names ≡ name ∷ later = drop_more names i None c.loop-name-test.true in
+    let named : AreNames (name ∷ later) = subst (λ (l : List (Option ℕ)). AreNames l) split c.loop-name.invariant.named in
+    let new : AreNew c.loop-name.sats (name ∷ later) = subst (λ (l : List (Option ℕ)). AreNew c.loop-name.sats l) split c.loop-name.invariant.new in
+    record {
+      reads = λ epochs tag power. c.loop-name.invariant.reads epochs tag power
+          ∙ ap (λ (l : List (Option ℕ)). rest_gives obs2_rules c.loop-name.lines (more_sats h epochs tag power c.loop-name.sats l)) split
+          ∙ c.in-Ok.ensures.reads epochs tag power later;
+      named = names_behind name later named;
+      new = next_new name later c.loop-name.sats c.read_satellite.new.sats named new c.in-Ok.ensures.added;
+      less = omega (arith, c.in-Ok.ensures.less, c.loop-name.invariant.less);
+    }
