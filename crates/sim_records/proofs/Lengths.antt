@@ -9,9 +9,9 @@ pub length-number_text : (d : Dec) → length (number_text d) ≡ 19
 unfolding number_text
 length-number_text d = refl
 
-pub length-first_line : (sat : ℕ) (a b c : Dec) → length (first_line sat a b c) ≡ 81
+pub length-first_line : (letter sat : ℕ) (a b c : Dec) → length (first_line letter sat a b c) ≡ 81
 unfolding first_line
-length-first_line sat a b c =
+length-first_line letter sat a b c =
     let x = length-number_text a in
     let y = length-number_text b in
     let z = length-number_text c in
@@ -26,10 +26,10 @@ length-further_line a b c d =
     let w = length-number_text d in
     simp (length-append, x, y, z, w) refl
 
-pub length-record_text : (e : Eph) → length (record_text e) ≡ 648
+pub length-record_text : (letter : ℕ) (e : Eph) → length (record_text letter e) ≡ 648
 unfolding record_text
-length-record_text e =
-    let l1 = length-first_line e.sat e.af0 e.af1 e.af2 in
+length-record_text letter e =
+    let l1 = length-first_line letter e.sat e.af0 e.af1 e.af2 in
     let l2 = length-further_line zero_number e.crs e.dn e.m0 in
     let l3 = length-further_line e.cuc e.ecc e.cus e.root_a in
     let l4 = length-further_line second_number e.cic e.node e.cis in
@@ -38,10 +38,10 @@ length-record_text e =
     let l7 = length-further_line zero_number zero_number zero_number zero_number in
     simp (length-append, l1, l2, l3, l4, l5, l6, l7) refl
 
-pub length-record_texts : (es : List Eph) → length (record_texts es) ≡ 648 * length es
-length-record_texts [] = refl
-length-record_texts (e ∷ es) = omega (arith, length-append (record_text e) (record_texts es), length-record_text e, length-record_texts es)
+pub length-record_texts : (letter : ℕ) (es : List Eph) → length (record_texts letter es) ≡ 648 * length es
+length-record_texts letter [] = refl
+length-record_texts letter (e ∷ es) = omega (arith, length-append (record_text letter e) (record_texts letter es), length-record_text letter e, length-record_texts letter es)
 
-pub length-navigation_header : length navigation_header ≡ 155
+pub length-navigation_header : (letter : ℕ) → length (navigation_header letter) ≡ 155
 unfolding navigation_header
-length-navigation_header = refl
+length-navigation_header letter = refl

@@ -87,12 +87,17 @@ fn root_of_axis(letter: u8) -> Dec
     ensures normal { IsNormal result }
     ensures range { IsFromTo (pos 4500) (pos 6000) 0 result }
 {
-    let mant = if letter == b'E' {
-        5_440_600_000_000
+    if letter == b'E' {
+        Dec {
+            mant: 5_440_600_000_000,
+            exp: -9,
+        }
     } else {
-        5_153_600_000_000
-    };
-    Dec { mant, exp: -9 }
+        Dec {
+            mant: 5_153_600_000_000,
+            exp: -9,
+        }
+    }
 }
 
 fn satellite(letter: u8, k: u32) -> Eph

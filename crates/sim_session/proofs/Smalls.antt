@@ -1,27 +1,14 @@
--- Cycles are small wherever they are looked up.
-use Rattle.std.proofs.Common.{◌≡◌, ℕ, zero, suc, ◌≤◌, List, [], ◌∷◌, get_or, ℤ, pos, unsigned_abs, All, w64, to_z, of_z, arith, lit≤}
+-- Cycles are small wherever they are looked up, and so are clock terms.
+use Rattle.std.proofs.Common.{◌≡◌, ℕ, zero, suc, ◌≤◌, List, [], ◌∷◌, get_or, ℤ, unsigned_abs, All, w64, to_z, of_z, arith}
 use Rattle.std.proofs.lemmas.Int.{ints}
 use Rattle.std.proofs.lemmas.List.Elements.{All-nil, All-head, All-tail}
 use Rattle.sim_draws.specs.Values.{AreSmall}
-
-abbrev pub IsSmall : ℤ → Type 0
-IsSmall z = unsigned_abs z ≤ 1000000
-
-pub small_at : (xs : List ℤ) (i : ℕ) → AreSmall xs → IsSmall (get_or xs i (pos 0))
-small_at [] i h = lit≤ tt
-small_at (x ∷ xs) zero h = All-head IsSmall x xs h
-small_at (x ∷ xs) (suc i) h = small_at xs i (All-tail IsSmall x xs h)
+use Rattle.sim_signals.proofs.Smalls.{IsSmall}
 
 pub cycles_at : (cs : List (List ℤ)) (k : ℕ) → All AreSmall cs → AreSmall (get_or cs k [])
 cycles_at [] k h = All-nil IsSmall
 cycles_at (c ∷ cs) zero h = All-head AreSmall c cs h
 cycles_at (c ∷ cs) (suc k) h = cycles_at cs k (All-tail AreSmall c cs h)
-
-pub small_cast : (z : ℤ) → IsSmall z → to_z w64 (of_z w64 z) ≡ z
-small_cast z h = omega (arith, ints)
-
-pub still_small : (z : ℤ) → IsSmall z → unsigned_abs (to_z w64 (of_z w64 z)) ≤ 1000000
-still_small z h = omega (arith, ints)
 
 pub clock_cast : (z : ℤ) → unsigned_abs z ≤ 100000 → to_z w64 (of_z w64 z) ≡ z
 clock_cast z h = omega (arith, ints)

@@ -1,3 +1,4 @@
 mod DistanceLaws
 mod Measures
+pub mod Smalls
 mod Solutions

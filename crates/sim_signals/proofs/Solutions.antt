@@ -4,6 +4,7 @@ use Rattle.std.proofs.lemmas.Int.{ints}
 use Rattle.rational.specs.Rational.{Rational, of_whole, add_r, AreWithin}
 use Rattle.iv_core.specs.declared.Iv.{Iv}
 use Rattle.eph_store.specs.declared.ephemeris.Eph.{Eph}
+use Rattle.orbit_model.specs.Elements.{Constants}
 use Rattle.orbit_model.specs.Solution.{Quantities}
 use Rattle.orbit_place.specs.Held.{HoldsPlace as HoldsQuantities}
 use Rattle.signal_travel.specs.Boxes.{HoldsPlace}
@@ -17,16 +18,16 @@ placed (a ∷ b ∷ []) q h = absurd h
 placed (a ∷ b ∷ c ∷ []) q h = (h.0, (h.1, (h.2, tt)))
 placed (a ∷ b ∷ c ∷ d ∷ bs) q h = absurd h
 
-pub code_is : (eph : Eph) (tag : ℕ) (before given : ℤ) (point : List ℤ) (units clock own after told : ℤ) → before ≡ given → clock ≡ own → told ≡ after →
-    ForSolutions eph tag before point (λ v. IsDistance units v) → ((v : Rational) → IsDistance units v → AreWithin (of_whole (pos 2)) (of_whole after) (measured clock v)) →
-    IsCodeAfter eph tag point own given told
-code_is eph tag before given point units clock own after told e f g all near = rw (← e, ← f, g) (λ q a b c seen travel at s v. near (distance travel q.clock) (all q a b c seen travel at s v))
+pub code_is : (world : Constants) (eph : Eph) (tag : ℕ) (before given : ℤ) (point : List ℤ) (units clock own after told : ℤ) → before ≡ given → clock ≡ own → told ≡ after →
+    ForSolutions world eph tag before point (λ v. IsDistance units v) → ((v : Rational) → IsDistance units v → AreWithin (of_whole (pos 2)) (of_whole after) (measured clock v)) →
+    IsCodeAfter world eph tag point own given told
+code_is world eph tag before given point units clock own after told e f g all near = rw (← e, ← f, g) (λ q a b c seen travel at s v. near (distance travel q.clock) (all q a b c seen travel at s v))
 
-pub phase_is : (frequency : ℕ) (eph : Eph) (tag : ℕ) (code given : ℤ) (point : List ℤ) (units clock own cycles passed phase told : ℤ) → code ≡ given → clock ≡ own → cycles ≡ passed → told ≡ phase →
-    ForSolutions eph tag code point (λ v. IsDistance units v) →
+pub phase_is : (frequency : ℕ) (world : Constants) (eph : Eph) (tag : ℕ) (code given : ℤ) (point : List ℤ) (units clock own cycles passed phase told : ℤ) → code ≡ given → clock ≡ own → cycles ≡ passed → told ≡ phase →
+    ForSolutions world eph tag code point (λ v. IsDistance units v) →
     ((v : Rational) → IsDistance units v → AreWithin (of_whole (pos 2)) (of_whole phase) (add_r (thousandths frequency (measured clock v)) (of_whole (pos 1000 *ℤ cycles)))) →
-    IsPhase frequency eph tag point own given passed told
-phase_is frequency eph tag code given point units clock own cycles passed phase told e f g h all near =
+    IsPhase frequency world eph tag point own given passed told
+phase_is frequency world eph tag code given point units clock own cycles passed phase told e f g h all near =
     rw (← e, ← f, ← g, h) (λ q a b c seen travel at s v. near (distance travel q.clock) (all q a b c seen travel at s v))
 
 pub small_cast : (z : ℤ) → unsigned_abs z ≤ 100000 → to_z w64 (of_z w64 z) ≡ z

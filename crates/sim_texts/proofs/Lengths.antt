@@ -1,5 +1,5 @@
 -- How long the lines of an observation file are.
-use Rattle.std.proofs.Common.{◌≡◌, ℕ, ◌+◌, ◌-◌, ◌*◌, ◌/◌, ◌%◌, ◌^◌, ◌<◌, ◌≤◌, List, [], ◌∷◌, length, ℤ, pos, negsuc, ◌<ℤ◌, All, arith, refl, length-append, lit<}
+use Rattle.std.proofs.Common.{◌≡◌, ℕ, ◌+◌, ◌-◌, ◌*◌, ◌/◌, ◌%◌, ◌^◌, ◌<◌, ◌≤◌, List, [], ◌∷◌, length, ℤ, pos, negsuc, ◌<ℤ◌, All, arith, refl, length-append, lit<, lit≤}
 use Rattle.std.proofs.lemmas.Int.{ints}
 use Rattle.std.proofs.lemmas.List.{length-replicate}
 use Rattle.std.proofs.lemmas.List.Elements.{All-head, All-tail}
@@ -7,8 +7,10 @@ use Rattle.std.specs.Prelude.{decimal, replicate}
 use Rattle.std.proofs.lemmas.Fmt.{length-decimal-le}
 use Rattle.decimal_text.specs.Write.{part_text, fixed_text}
 use Rattle.sim_texts.specs.declared.signals.Signals.{Signals}
+use Rattle.sim_texts.specs.declared.signals.Tracking.{Tracking}
+use Rattle.sim_texts.specs.declared.signals.Tracking.TheVariants.{GpsL1L2, GpsL1L2L5, GalileoE1E5a}
 use Rattle.sim_texts.specs.Columns.{right_in, fixed_in}
-use Rattle.sim_texts.specs.Observations.{epoch_line, satellite_line, satellite_lines, AreInColumns, IsInColumns}
+use Rattle.sim_texts.specs.Observations.{version_line, types_line, header_text, epoch_line, satellite_line, satellite_lines, AreInColumns, IsInColumns}
 
 pub length-right_in : (width : ℕ) (text : List ℕ) → length text ≤ width → length (right_in width text) ≡ width
 unfolding right_in
@@ -58,15 +60,33 @@ length-epoch_line s n h =
     let count = length-count n h in
     simp (length-append, second, count) refl
 
-pub length-satellite_line : (n : ℕ) (s : Signals) → AreInColumns s → length (satellite_line n s) ≡ 66
+-- as many with E1 and E5a as with L1 and L2
+pub length-satellite_line : (t : Tracking) (n : ℕ) (s : Signals) → AreInColumns s → length (satellite_line t n s) ≤ 98
 unfolding satellite_line
-length-satellite_line n s h =
+length-satellite_line GpsL1L2 n s h =
     let code = length-thousandths s.code h.code in
     let l1 = length-thousandths s.l1 h.l1 in
     let l2 = length-thousandths s.l2 h.l2 in
-    simp (length-append, code, l1, l2) refl
+    simp (length-append, code, l1, l2) (lit≤ tt)
+length-satellite_line GpsL1L2L5 n s h =
+    let code = length-thousandths s.code h.code in
+    let l1 = length-thousandths s.l1 h.l1 in
+    let l2 = length-thousandths s.l2 h.l2 in
+    let l5 = length-thousandths s.l5 h.l5 in
+    simp (length-append, code, l1, l2, l5) (lit≤ tt)
+length-satellite_line GalileoE1E5a n s h =
+    let code = length-thousandths s.code h.code in
+    let l1 = length-thousandths s.l1 h.l1 in
+    let l5 = length-thousandths s.l5 h.l5 in
+    simp (length-append, code, l1, l5) (lit≤ tt)
 
-pub length-satellite_lines : (n : ℕ) (sats : List Signals) → All AreInColumns sats → length (satellite_lines n sats) ≡ 66 * length sats
-length-satellite_lines n [] h = refl
-length-satellite_lines n (s ∷ sats) h =
-    omega (arith, length-append (satellite_line (n + 1) s) (satellite_lines (n + 1) sats), length-satellite_line (n + 1) s (All-head AreInColumns s sats h), length-satellite_lines (n + 1) sats (All-tail AreInColumns s sats h))
+pub length-satellite_lines : (t : Tracking) (n : ℕ) (sats : List Signals) → All AreInColumns sats → length (satellite_lines t n sats) ≤ 98 * length sats
+length-satellite_lines t n [] h = lit≤ tt
+length-satellite_lines t n (s ∷ sats) h =
+    omega (arith, length-append (satellite_line t (n + 1) s) (satellite_lines t (n + 1) sats), length-satellite_line t (n + 1) s (All-head AreInColumns s sats h), length-satellite_lines t (n + 1) sats (All-tail AreInColumns s sats h))
+
+pub length-header_text : (t : Tracking) → length (header_text t) ≡ 474
+unfolding header_text version_line types_line
+length-header_text GpsL1L2 = refl
+length-header_text GpsL1L2L5 = refl
+length-header_text GalileoE1E5a = refl

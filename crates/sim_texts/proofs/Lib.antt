@@ -1,1 +1,2 @@
+mod Amounts
 pub mod Lengths

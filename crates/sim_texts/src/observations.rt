@@ -1,6 +1,6 @@
 // The text of an observation file.
 ghost use Rattle.std.specs.Prelude.{◌≡◌, ◌+◌, ◌*◌, ◌≤◌, ◌++◌, length, All, OnOk};
-ghost use Rattle.sim_texts.specs.Observations.{version_line, types_line, header_text, epoch_line, fields_text, satellite_line, satellite_lines, epoch_text, AreInColumns, IsInColumns};
+ghost use Rattle.sim_texts.specs.Observations.{version_line, types_line, header_text, epoch_line, further_fields, fields_text, satellite_line, satellite_lines, epoch_text, AreInColumns, IsInColumns};
 ghost use Rattle.sim_texts.specs.Tracked.{amounts_of};
 
 use crate::columns::push_fixed;
@@ -17,19 +17,20 @@ fn write_version(out: &mut Vec<u8>, tracking: Tracking) -> Result<(), AllocError
     Ok(())
 }
 
-fn types_line(tracking: Tracking) -> &'static [u8]
-    ensures { result.now ≡ types_line tracking }
+#[tactic(auto, unfolding(crate::specs::Observations::types_line))]
+fn write_types(out: &mut Vec<u8>, tracking: Tracking) -> Result<(), AllocError>
+    ensures { OnOk result (out.new.items ≡ out.old.items ++ types_line tracking) }
 {
     match tracking {
-        Tracking::GpsL1L2 => {
-            b"G    4 C1C L1C C2W L2W                                      SYS / # / OBS TYPES\n"
-        }
-        Tracking::GpsL1L2L5 => {
-            b"G    6 C1C L1C C2W L2W C5Q L5Q                              SYS / # / OBS TYPES\n"
-        }
-        Tracking::GalileoE1E5a => {
-            b"E    4 C1C L1C C5Q L5Q                                      SYS / # / OBS TYPES\n"
-        }
+        Tracking::GpsL1L2 => out.extend_from_slice(
+            b"G    4 C1C L1C C2W L2W                                      SYS / # / OBS TYPES\n",
+        ),
+        Tracking::GpsL1L2L5 => out.extend_from_slice(
+            b"G    6 C1C L1C C2W L2W C5Q L5Q                              SYS / # / OBS TYPES\n",
+        ),
+        Tracking::GalileoE1E5a => out.extend_from_slice(
+            b"E    4 C1C L1C C5Q L5Q                                      SYS / # / OBS TYPES\n",
+        ),
     }
 }
 
@@ -46,7 +47,7 @@ pub fn write_header(out: &mut Vec<u8>, tracking: Tracking) -> Result<(), AllocEr
     out.extend_from_slice(
         b"        0.0000        0.0000        0.0000                  ANTENNA: DELTA H/E/N\n",
     )?;
-    out.extend_from_slice(types_line(tracking))?;
+    write_types(out, tracking)?;
     out.extend_from_slice(
         b"  2024     1     1     0     0    0.0000000     GPS         TIME OF FIRST OBS\n",
     )?;
@@ -75,14 +76,11 @@ fn write_epoch_line(
     Ok(())
 }
 
-fn write_fields(alloc: Global, out: &mut Vec<u8>, amounts: &[i64]) -> Result<(), AllocError>
-    ensures { OnOk result (out.new.items ≡ out.old.items ++ fields_text amounts.now) }
+fn write_further(alloc: Global, out: &mut Vec<u8>, amounts: &[i64]) -> Result<(), AllocError>
+    requires { All IsInColumns amounts.now }
+    ensures { OnOk result (out.new.items ≡ out.old.items ++ further_fields amounts.now) }
 {
-    let Some((first, further)) = amounts.split_first() else {
-        return Ok(());
-    };
-    push_fixed(alloc, out, 14, *first, 3)?;
-    for amount in further {
+    for amount in amounts {
         out.extend_from_slice(b"  ")?;
         push_fixed(alloc, out, 14, *amount, 3)?;
     }
@@ -95,13 +93,15 @@ fn write_amounts(
     tracking: Tracking,
     signals: &Signals,
 ) -> Result<(), AllocError>
+    requires { AreInColumns signals.now }
     ensures { OnOk result (out.new.items ≡ out.old.items ++ fields_text (amounts_of tracking signals.now)) }
 {
     let Signals { code, l1, l2, l5 } = *signals;
+    push_fixed(alloc, out, 14, code, 3)?;
     match tracking {
-        Tracking::GpsL1L2 => write_fields(alloc, out, &[code, l1, code, l2]),
-        Tracking::GpsL1L2L5 => write_fields(alloc, out, &[code, l1, code, l2, code, l5]),
-        Tracking::GalileoE1E5a => write_fields(alloc, out, &[code, l1, code, l5]),
+        Tracking::GpsL1L2 => write_further(alloc, out, &[l1, code, l2]),
+        Tracking::GpsL1L2L5 => write_further(alloc, out, &[l1, code, l2, code, l5]),
+        Tracking::GalileoE1E5a => write_further(alloc, out, &[l1, code, l5]),
     }
 }
 
@@ -112,6 +112,7 @@ fn write_satellite(
     number: u64,
     signals: &Signals,
 ) -> Result<(), AllocError>
+    requires { AreInColumns signals.now }
     ensures { OnOk result (out.new.items ≡ out.old.items ++ satellite_line tracking number signals.now) }
 {
     out.push(tracking.letter())?;
@@ -128,6 +129,7 @@ fn write_satellites(
     sats: &[Signals],
 ) -> Result<(), AllocError>
     requires few { length sats.now ≤ 99 }
+    requires columns { All AreInColumns sats.now }
     ensures { OnOk result (out.new.items ≡ out.old.items ++ satellite_lines tracking 0 sats.now) }
 {
     for (k, signals) in sats.iter().enumerate() {

@@ -9,12 +9,12 @@ returns-clause-size c =
     omega (
       arith,
       ap (λ (xs : List ℕ). length xs) c.loop-eph.invariant,
-      length-append c.loop-eph.out.items (record_texts rest),
-      length-append c.args.out.now.items (navigation_text c.args.records.now),
-      length-append navigation_header (record_texts c.args.records.now),
-      length-navigation_header,
-      length-record_texts c.args.records.now,
-      length-record_texts rest,
+      length-append c.loop-eph.out.items (record_texts c.args.letter rest),
+      length-append c.args.out.now.items (navigation_text c.args.letter c.args.records.now),
+      length-append (navigation_header c.args.letter) (record_texts c.args.letter c.args.records.now),
+      length-navigation_header c.args.letter,
+      length-record_texts c.args.letter c.args.records.now,
+      length-record_texts c.args.letter rest,
       length-drop c.loop-eph.eph-index c.args.records.now,
       c.loop-eph-test.false,
     )

@@ -3,7 +3,7 @@ use Rattle.std.proofs.lemmas.Int.{ints}
 use Rattle.sim_records.proofs.records.satellite.Goals as goal
 
 pub invariant_of-result-clause-root_a_in : goal.invariant_of-result-clause-root_a_in
-invariant_of-result-clause-root_a_in c = record { low = omega (arith, ints); high = omega (arith, ints) }
+invariant_of-result-clause-root_a_in c = c.root_of_axis.ensures.range
 
 pub invariant_of-result-clause-incl_in : goal.invariant_of-result-clause-incl_in
 invariant_of-result-clause-incl_in c = record { low = omega (arith, ints); high = omega (arith, ints) }
@@ -50,7 +50,7 @@ returns-clause-values c = record {
   toc = refl;
   toe = refl;
   toe_second = refl;
-  root_a = refl;
+  root_a = c.root_of_axis.ensures.value;
   ecc = c.eccentricity.ensures.value;
   m0 = c.mean_anomaly.ensures.value;
   node = c.ascending_node.ensures.value;
@@ -81,7 +81,7 @@ returns-clause-normal c = record {
   cuc = inl (lit≤ tt, lit< tt);
   ecc = c.eccentricity.ensures.normal;
   cus = inr (refl, refl);
-  root_a = inl (lit≤ tt, lit< tt);
+  root_a = c.root_of_axis.ensures.normal;
   cic = inr (refl, refl);
   node = c.ascending_node.ensures.normal;
   cis = inr (refl, refl);

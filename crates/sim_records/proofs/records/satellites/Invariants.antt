@@ -4,6 +4,6 @@ use Rattle.sim_records.proofs.records.satellites.Given as goal
 
 abbrev pub invariant-loop-k : goal.invariant-loop-k
 invariant-loop-k l = record {
-  records : AreSatellites 0 l.all.items;
+  records : AreSatellites l.letter 0 l.all.items;
   count : length l.all.items ≡ l.k;
 }

@@ -1,9 +1,10 @@
 use Rattle.std.proofs.Common.{◌+◌, ◌*◌, ◌≤◌, length}
+use Rattle.orbit_clock.specs.Records.{constants_of}
 use Rattle.sim_session.proofs.Progress.{IsBegun}
 use Rattle.sim_session.proofs.observations.observation_file.Given as goal
 
 abbrev pub invariant-loop-i : goal.invariant-loop-i
 invariant-loop-i l = record {
-  begun : IsBegun l.step l.i l.receiver.point l.receiver.clock l.records l.cycles l.out.items;
-  size : length l.out.items ≤ 480 + l.i * 1026;
+  begun : IsBegun l.tracking (constants_of l.world) l.step l.i l.receiver.point l.receiver.clock l.records l.cycles l.out.items;
+  size : length l.out.items ≤ 480 + l.i * 1506;
 }

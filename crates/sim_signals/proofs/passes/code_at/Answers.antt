@@ -1,4 +1,5 @@
 use Rattle.std.proofs.Common.{◌≡◌, ◌≤◌, ◌+◌, ◌^◌, ℕ, ℤ, pos, ◌≤ℤ◌, w64, to_z, sym, subst, add-one, arith}
+use Rattle.orbit_clock.specs.Records.{constants_of}
 use Rattle.sim_signals.specs.Observed.{IsReachedIn}
 use Rattle.sim_signals.proofs.Solutions.{code_cast}
 use Rattle.sim_signals.proofs.passes.code_at.Goals as goal
@@ -12,8 +13,8 @@ loop-pass-preserved c =
     let high : after ≤ℤ pos (10 ^ 11) = c.code_after-code.ensures.high in
     let kept = sym (code_cast after low high) in
     record {
-      reached = subst (λ (z : ℤ). IsReachedIn (c.loop-pass._pass + 1) c.args.eph.now c.args.tag.0 receiver.point receiver.clock z) kept
-          (subst (λ (n : ℕ). IsReachedIn n c.args.eph.now c.args.tag.0 receiver.point receiver.clock after) (sym (add-one c.loop-pass._pass)) (before, (c.loop-pass.invariant.reached, c.code_after-code.ensures.near)));
+      reached = subst (λ (z : ℤ). IsReachedIn (c.loop-pass._pass + 1) (constants_of c.args.world.now) c.args.eph.now c.args.tag.0 receiver.point receiver.clock z) kept
+          (subst (λ (n : ℕ). IsReachedIn n (constants_of c.args.world.now) c.args.eph.now c.args.tag.0 receiver.point receiver.clock after) (sym (add-one c.loop-pass._pass)) (before, (c.loop-pass.invariant.reached, c.code_after-code.ensures.near)));
       low = subst (λ (z : ℤ). pos 0 ≤ℤ z) kept low;
       high = subst (λ (z : ℤ). z ≤ℤ pos (10 ^ 11)) kept high;
     }
@@ -24,4 +25,4 @@ six n h k = omega arith
 pub returns-clause-reached : goal.returns-clause-reached
 returns-clause-reached c =
     let receiver = c.args.receiver.now in
-    subst (λ (n : ℕ). IsReachedIn n c.args.eph.now c.args.tag.0 receiver.point receiver.clock (to_z w64 c.loop-pass.code-bits)) (six c.loop-pass._pass c.loop-pass.auto._pass-end c.loop-pass-test.false) c.loop-pass.invariant.reached
+    subst (λ (n : ℕ). IsReachedIn n (constants_of c.args.world.now) c.args.eph.now c.args.tag.0 receiver.point receiver.clock (to_z w64 c.loop-pass.code-bits)) (six c.loop-pass._pass c.loop-pass.auto._pass-end c.loop-pass-test.false) c.loop-pass.invariant.reached

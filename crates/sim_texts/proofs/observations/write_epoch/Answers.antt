@@ -10,8 +10,8 @@ returns-clause-size c =
       arith,
       ap (λ xs. length xs) c.in_ok-write_satellites.ensures,
       ap (λ xs. length xs) c.in_ok-write_epoch_line.ensures,
-      length-append c.write_epoch_line.new.out.items (satellite_lines 0 c.args.sats.now),
+      length-append c.write_epoch_line.new.out.items (satellite_lines c.args.tracking 0 c.args.sats.now),
       length-append c.args.out.now.items (epoch_line c.args.seconds n),
       length-epoch_line c.args.seconds n c.requires.few,
-      length-satellite_lines 0 c.args.sats.now c.requires.columns,
+      length-satellite_lines c.args.tracking 0 c.args.sats.now c.requires.columns,
     )

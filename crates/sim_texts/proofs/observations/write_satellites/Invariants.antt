@@ -3,4 +3,4 @@ use Rattle.sim_texts.specs.Observations.{satellite_lines}
 use Rattle.sim_texts.proofs.observations.write_satellites.Given as goal
 
 abbrev pub invariant-loop-k : goal.invariant-loop-k
-invariant-loop-k l = l.out.items ++ satellite_lines l.k (drop l.k l.sats) ≡ l.fn.out.items ++ satellite_lines 0 l.sats
+invariant-loop-k l = l.out.items ++ satellite_lines l.tracking l.k (drop l.k l.sats) ≡ l.fn.out.items ++ satellite_lines l.tracking 0 l.sats
