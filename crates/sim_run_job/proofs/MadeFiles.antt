@@ -1,5 +1,5 @@
 -- The simulated texts are told, are files, and aren't refused together.
-use Rattle.std.proofs.Common.{◌≡◌, ◌∙◌, ◌⊎◌, inl, inr, ℕ, zero, suc, ◌+◌, ◌*◌, ◌^◌, ◌<◌, ◌≤◌, Bool, true, false, ◌||◌, ◌==◌, nat_le, IsTrue, if◌then◌else◌, pos, ◌≤ℤ◌, List, [], ◌∷◌, length, slice_index, Option, Some, IfSome, codes, refl, sym, ap, subst, arith}
+use Rattle.std.proofs.Common.{◌≡◌, ◌∙◌, inl, ℕ, zero, suc, ◌+◌, ◌*◌, ◌^◌, ◌<◌, ◌≤◌, Bool, true, false, ◌==◌, nat_le, if◌then◌else◌, pos, ◌≤ℤ◌, List, [], ◌∷◌, length, slice_index, Option, Some, IfSome, codes, refl, sym, ap, subst, arith}
 use Rattle.std.proofs.Math.Nat.{mul-add}
 use Rattle.std.proofs.lemmas.Bool.{eqb-true}
 use Rattle.std.proofs.lemmas.Int.{ints}
