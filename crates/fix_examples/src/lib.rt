@@ -1,4 +1,5 @@
-//! What `fix` and `sim run` print of whole sessions, of either format, on each set of bands and of both systems. There is nothing here but tests.
+//! What `fix` and `sim run` print of whole sessions, of either format, on each set of bands and of both systems. There is
+//! nothing here but tests.
 #![tactic(auto)]
 
 #[cfg(test)]
