@@ -31,12 +31,12 @@ none_before g given own none s other = same_others g given s own other ∙ none 
 
 -- both say the same
 pub no_others : (given : List Given) → are_of_sim given ≡ true → HasNoOthers given
-no_others [] all s other = refl
-no_others (g ∷ given) all = go (is_of_sim g.setting) refl
+no_others [] all = λ s other. refl
+no_others (g ∷ given) all = go (is_of_sim g.setting) refl (λ h. no_others given h)
   where
-    go : (b : Bool) → is_of_sim g.setting ≡ b → HasNoOthers (g ∷ given)
-    go true e = none_before g given e (no_others given (rw e at all))
-    go false e = absurd (true≢false (sym (rw e at all)))
+    go : (b : Bool) → is_of_sim g.setting ≡ b → (are_of_sim given ≡ true → HasNoOthers given) → HasNoOthers (g ∷ given)
+    go true e rest = none_before g given e (rest (rw e at all))
+    go false e rest = absurd (true≢false (sym (rw e at all)))
 
 pub all_of_sim : (given : List Given) → HasNoOthers given → are_of_sim given ≡ true
 all_of_sim [] none = refl

@@ -73,7 +73,6 @@ pub fn signal_choice_of(given: &[Given]) -> Option<SignalChoice>
 }
 
 /// Those of a simulated session, for which nothing else is given.
-#[tactic(auto, using(crate::proofs::OtherLaws::no_others, crate::proofs::OtherLaws::all_of_sim))]
 pub fn sim_choice_of(given: &[Given]) -> Option<SignalChoice>
     ensures { MatchOption result ((system bands : ℕ) → IsSimChoice given.now system bands → ⊥) (λ c. IsSimChoice given.now c.system c.bands) }
 {
