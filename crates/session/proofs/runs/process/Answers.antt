@@ -1,4 +1,4 @@
-use Rattle.std.proofs.Common.{◌≤◌, ◌^◌, ◌⊎◌, ℕ, Bool, IsTrue, List, length, All, refl, sym, ap, ◌∙◌, subst}
+use Rattle.std.proofs.Common.{◌≤◌, ◌^◌, ◌⊎◌, ℕ, Bool, IsTrue, List, length, All, sym, ap, ◌∙◌, subst}
 use Rattle.obs_rows.specs.declared.arcs.Arc.{Arc}
 use Rattle.obs_rows.specs.Ranges.{IsSystem}
 use Rattle.obs_rows.specs.Signals.{fine_signals}
