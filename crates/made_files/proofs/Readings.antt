@@ -66,7 +66,7 @@ observed_reads epochs bands system point clock records cycles text few small is 
     let day : step_of epochs * length is.values ≤ 86400 = subst (λ (n : ℕ). step_of epochs * n ≤ 86400) (sym is.count) (two_hours epochs few) in
     let reads : IsObsFile (system_in t) (lines_of text) (file_of t (step_of epochs) is.values) =
     subst (λ (l : List ℕ). IsObsFile (system_in t) (lines_of l) (file_of t (step_of epochs) is.values)) (sym is.text_is)
-        (observations.file_is t (step_of epochs) is.values (step_some epochs) day (omega (arith, is.count)) rooms) in
+    (observations.file_is t (step_of epochs) is.values (step_some epochs) day (omega (arith, is.count)) rooms) in
     record {
       values = is.values;
       count = is.count;

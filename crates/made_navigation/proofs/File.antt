@@ -143,7 +143,8 @@ file_is system es are few =
     record {
       header = first_of_header system ∷ last_of_header ∷ [];
       parts = parts_of letter es;
-      short = subst (λ (l : List (List ℕ)). All (λ line. length line ≤ 4096) l) (sym lines) (All-from_recursion (λ line. length line ≤ 4096) (first_of_header system ∷ last_of_header ∷ body) (first_short system, (last_short, body_short letter es)));
+      short = subst (λ (l : List (List ℕ)). All (λ line. length line ≤ 4096) l) (sym lines)
+          (All-from_recursion (λ line. length line ≤ 4096) (first_of_header system ∷ last_of_header ∷ body) (first_short system, (last_short, body_short letter es)));
       lines_are = lines;
       is_header = header_is system;
       are_parts = All-from_recursion (IsPart system) (parts_of letter es) (parts_are system 0 es are (omega arith));

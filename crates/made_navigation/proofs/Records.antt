@@ -41,23 +41,26 @@ lines_for letter e = record {
 eight : (a b c d e f g h rest : List ℕ) → (a ++ (b ++ (c ++ (d ++ (e ++ (f ++ (g ++ h))))))) ++ rest ≡ a ++ (b ++ (c ++ (d ++ (e ++ (f ++ (g ++ (h ++ rest)))))))
 eight a b c d e f g h rest = simp append_assoc
 
-text_is : (letter : ℕ) (e : Eph) (rest : List ℕ) → record_text letter e ++ rest ≡ first_line letter e.sat e.af0 e.af1 e.af2 ++ (further_line zero_number e.crs e.dn e.m0 ++ (further_line e.cuc e.ecc e.cus e.root_a
-    ++ (further_line second_number e.cic e.node e.cis ++ (further_line e.incl e.crc e.peri e.node_rate ++ (further_line e.incl_rate zero_number week_number zero_number
-    ++ (further_line zero_number zero_number zero_number zero_number ++ (further_line zero_number zero_number zero_number zero_number ++ rest)))))))
+-- the seven further lines of a record, and what follows
+abbrev further_text : Eph → List ℕ → List ℕ
+further_text e rest =
+    further_line zero_number e.crs e.dn e.m0 ++ (further_line e.cuc e.ecc e.cus e.root_a ++ (further_line second_number e.cic e.node e.cis
+    ++ (further_line e.incl e.crc e.peri e.node_rate ++ (further_line e.incl_rate zero_number week_number zero_number
+    ++ (further_line zero_number zero_number zero_number zero_number ++ (further_line zero_number zero_number zero_number zero_number ++ rest))))))
+
+text_is : (letter : ℕ) (e : Eph) (rest : List ℕ) → record_text letter e ++ rest ≡ first_line letter e.sat e.af0 e.af1 e.af2 ++ further_text e rest
 unfolding record_text
 text_is letter e rest =
     eight (first_line letter e.sat e.af0 e.af1 e.af2) (further_line zero_number e.crs e.dn e.m0) (further_line e.cuc e.ecc e.cus e.root_a) (further_line second_number e.cic e.node e.cis)
     (further_line e.incl e.crc e.peri e.node_rate) (further_line e.incl_rate zero_number week_number zero_number) (further_line zero_number zero_number zero_number zero_number)
     (further_line zero_number zero_number zero_number zero_number) rest
 
-pub record_read : (letter : ℕ) (e : Eph) (rest : List ℕ) → nat_le 32 letter ≡ true → lines_of (record_text letter e ++ rest) ≡ (lines_for letter e).first ∷ (further_of (lines_for letter e) ++ lines_of rest)
+pub record_read : (letter : ℕ) (e : Eph) (rest : List ℕ) → nat_le 32 letter ≡ true
+    → lines_of (record_text letter e ++ rest) ≡ (lines_for letter e).first ∷ (further_of (lines_for letter e) ++ lines_of rest)
 unfolding lines_for
 record_read letter e rest printed =
-    let behind : List ℕ = further_line zero_number e.crs e.dn e.m0 ++ (further_line e.cuc e.ecc e.cus e.root_a
-    ++ (further_line second_number e.cic e.node e.cis ++ (further_line e.incl e.crc e.peri e.node_rate ++ (further_line e.incl_rate zero_number week_number zero_number
-    ++ (further_line zero_number zero_number zero_number zero_number ++ (further_line zero_number zero_number zero_number zero_number ++ rest)))))) in
-    let others : lines_of behind ≡ further_of (lines_for letter e) ++ lines_of rest = simp further_read refl in
-    ap lines_of (text_is letter e rest) ∙ first_read letter e.sat e.af0 e.af1 e.af2 behind printed
+    let others : lines_of (further_text e rest) ≡ further_of (lines_for letter e) ++ lines_of rest = simp further_read refl in
+    ap lines_of (text_is letter e rest) ∙ first_read letter e.sat e.af0 e.af1 e.af2 (further_text e rest) printed
     ∙ ap (λ (l : List (List ℕ)). first_content letter e.sat e.af0 e.af1 e.af2 ∷ l) others
 
 -- ---- the first line

@@ -230,14 +230,16 @@ satellites_say t n (s ∷ sats) before h few below =
     let room = All-head AreInColumns s sats h in (
       short t (n + 1) s room,
       read_as t n s before room (omega arith) below,
-      satellites_say t (n + 1) sats (before ++ satellite_of (n + 1) (values_of t s) ∷ []) (All-tail AreInColumns s sats h) (omega arith) (more_below n before (satellite_of (n + 1) (values_of t s)) below refl),
+      satellites_say t (n + 1) sats (before ++ satellite_of (n + 1) (values_of t s) ∷ []) (All-tail AreInColumns s sats h) (omega arith)
+          (more_below n before (satellite_of (n + 1) (values_of t s)) below refl),
     )
 
 -- ---- epochs
 part_of : Tracking → ℕ → List Signals → EpochPart
 part_of t seconds sats = record { bytes = epoch_content seconds (length sats); tag = tick_at seconds; power = false; sat_lines = contents t 0 sats; found = found t 0 sats }
 
-part_is_epoch : (t : Tracking) (epochs : List Epoch) (seconds : ℕ) (sats : List Signals) → length epochs < 20000 → seconds < 86400 → HaveRoom sats → is_later (last_tag_of epochs) (tick_at seconds) ≡ true →
+part_is_epoch : (t : Tracking) (epochs : List Epoch) (seconds : ℕ) (sats : List Signals) → length epochs < 20000 → seconds < 86400 → HaveRoom sats
+    → is_later (last_tag_of epochs) (tick_at seconds) ≡ true →
     IsEpochPart (system_in t) (the_kept t) epochs (part_of t seconds sats)
 unfolding part_of
 part_is_epoch t epochs seconds sats few day room later = record {
@@ -250,7 +252,8 @@ pub parts_of : Tracking → ℕ → ℕ → List (List Signals) → List Part
 parts_of t step i [] = []
 parts_of t step i (sats ∷ epochs) = Epoch_ (part_of t (step * i) sats) ∷ parts_of t step (i + 1) epochs
 
-epoch_text_read : (t : Tracking) (seconds : ℕ) (sats : List Signals) (rest : List ℕ) → HaveRoom sats → lines_of (epoch_text t seconds sats ++ rest) ≡ lines_of_part (Epoch_ (part_of t seconds sats)) ++ lines_of rest
+epoch_text_read : (t : Tracking) (seconds : ℕ) (sats : List Signals) (rest : List ℕ) → HaveRoom sats
+    → lines_of (epoch_text t seconds sats ++ rest) ≡ lines_of_part (Epoch_ (part_of t seconds sats)) ++ lines_of rest
 unfolding part_of
 epoch_text_read t seconds sats rest room =
     ap lines_of (append_assoc (epoch_line seconds (length sats)) (satellite_lines t 0 sats) rest)
@@ -302,12 +305,14 @@ follows : (t : Tracking) (step i : ℕ) (sats : List Signals) → 0 < step → i
 unfolding part_of
 follows t step i sats some = later step i some
 
-pub parts_are : (t : Tracking) (step i : ℕ) (epochs : List (List Signals)) (before : List Epoch) → 0 < step → step * (i + length epochs) ≤ 86400 → length before + length epochs ≤ 20000 → All HaveRoom epochs →
+pub parts_are : (t : Tracking) (step i : ℕ) (epochs : List (List Signals)) (before : List Epoch) → 0 < step → step * (i + length epochs) ≤ 86400
+    → length before + length epochs ≤ 20000 → All HaveRoom epochs →
     is_later (last_tag_of before) (tick_at (step * i)) ≡ true → AreParts (system_in t) (the_kept t) before (parts_of t step i epochs)
 unfolding parts_of
 parts_are t step i [] before some day few rooms late = tt
 parts_are t step i (sats ∷ epochs) before some day few rooms late = (
   part_is_epoch t before (step * i) sats (omega arith) (in_day step i (length epochs) some day) (All-head HaveRoom sats epochs rooms) late,
-  parts_are t step (i + 1) epochs (before ++ epoch_in_part (part_of t (step * i) sats) ∷ []) some (moved step i (length epochs) day) (omega (arith, length-append before (epoch_in_part (part_of t (step * i) sats) ∷ [])))
+  parts_are t step (i + 1) epochs (before ++ epoch_in_part (part_of t (step * i) sats) ∷ []) some (moved step i (length epochs) day)
+      (omega (arith, length-append before (epoch_in_part (part_of t (step * i) sats) ∷ [])))
       (All-tail HaveRoom sats epochs rooms) (rw (last_is before (epoch_in_part (part_of t (step * i) sats))) (follows t step i sats some)),
 )

@@ -64,7 +64,8 @@ lock_at line first z zs some from room =
     blank (z ∷ zs) = refl
 
 -- the next field is 16 columns on
-next_field : (line : List ℕ) (first next : ℕ) (z : ℤ) (zs : List ℤ) → 1 ≤ first → next ≡ first + 16 → drop (first - 1) line ≡ fields_text (z ∷ zs) → IsInColumns z → drop (next - 1) line ≡ fields_text zs
+next_field : (line : List ℕ) (first next : ℕ) (z : ℤ) (zs : List ℤ) → 1 ≤ first → next ≡ first + 16 → drop (first - 1) line ≡ fields_text (z ∷ zs) → IsInColumns z
+    → drop (next - 1) line ≡ fields_text zs
 next_field line first next z zs some is from room =
     let place : next - 1 ≡ first - 1 + 16 = omega (arith, some, is) in
     let long = length-thousandths z room in
@@ -98,7 +99,8 @@ placed [] zs values = values
 placed (kind ∷ kinds) [] values = values
 placed (kind ∷ kinds) (z ∷ zs) values = placed kinds zs (slice_set values (slot_of kind) (value_of z))
 
-pub values_read : (line : List ℕ) (k : ℕ) (kinds : List ObsType) (zs : List ℤ) (values : List (Option Value)) → length kinds ≡ length zs → All IsInColumns zs → drop (4 + 16 * k - 1) line ≡ fields_text zs →
+pub values_read : (line : List ℕ) (k : ℕ) (kinds : List ObsType) (zs : List ℤ) (values : List (Option Value)) → length kinds ≡ length zs → All IsInColumns zs
+    → drop (4 + 16 * k - 1) line ≡ fields_text zs →
     values_in Rinex3 0 (numbered k kinds) line values ≡ Ok (placed kinds zs values)
 unfolding values_in
 values_read line k [] zs values as_many room from = refl
@@ -110,4 +112,5 @@ values_read line k (kind ∷ kinds) (z ∷ zs) values as_many room from =
     let value : value_in line first ≡ Ok (value_of z) = value_at line first z (at_field line first z zs from here) (lock_at line first z zs some from here) here in
     let next : 4 + 16 * (k + 1) ≡ first + 16 = omega arith in
     rw value
-    (values_read line (k + 1) kinds zs (slice_set values (slot_of kind) (value_of z)) (omega (arith, as_many)) (All-tail IsInColumns z zs room) (next_field line first (4 + 16 * (k + 1)) z zs some next from here))
+    (values_read line (k + 1) kinds zs (slice_set values (slot_of kind) (value_of z)) (omega (arith, as_many)) (All-tail IsInColumns z zs room)
+    (next_field line first (4 + 16 * (k + 1)) z zs some next from here))

@@ -46,10 +46,15 @@ observation_of : (system : System) (lines : List (List ℕ)) (file : ObsFile) �
 observation_of Gps lines file is = inl is
 observation_of Galileo lines file is = is
 
+-- also for a system that is the same
+observation_as : (one other : System) (lines : List (List ℕ)) (file : ObsFile) → one ≡ other → IsObsFile one lines file → IsObservation other lines file
+observation_as one other lines file same is = subst (λ (system : System). IsObservation system lines file) same (observation_of one lines file is)
+
 one_file : (system : System) (lines : List (List ℕ)) (f g : ObsFile) → IsObservation system lines f → IsObservation system lines g → f ≡ g
 one_file system lines f g is also = let same = sym (file_given system lines f is) ∙ file_given system lines g also in cc (same)
 
-file_read : (system : System) (told : List ℕ → Option (List ℕ)) (name text : List ℕ) (f b : ObsFile) → told name ≡ Some text → IsObservation system (lines_of text) f → IsObsOf system told name b → b ≡ f
+file_read : (system : System) (told : List ℕ → Option (List ℕ)) (name text : List ℕ) (f b : ObsFile) → told name ≡ Some text → IsObservation system (lines_of text) f
+    → IsObsOf system told name b → b ≡ f
 file_read system told name text f b is reads of =
     one_file system (lines_of text) b f (subst (λ (t : List ℕ). IsObservation system (lines_of t) b) (text_told told name text of.text is of.is) of.is_file) reads
 
@@ -131,7 +136,8 @@ shared bands system number galileo = by (system == 69) refl
 one_later : (step i m : ℕ) → step * (i + 1 + m) ≡ step * (i + suc m)
 one_later step i m = ap (λ (n : ℕ). step * n) (let e : i + 1 + m ≡ i + suc m = omega arith in e)
 
-tag_at : (t : Tracking) (step i : ℕ) (values : List (List made.Signals)) (m : ℕ) → m < length (tags_of (epochs_of t step i values)) → slice_index (tags_of (epochs_of t step i values)) m ≡ 13_881_024_000_000_000 + step * (i + m) * 10_000_000
+tag_at : (t : Tracking) (step i : ℕ) (values : List (List made.Signals)) (m : ℕ) → m < length (tags_of (epochs_of t step i values))
+    → slice_index (tags_of (epochs_of t step i values)) m ≡ 13_881_024_000_000_000 + step * (i + m) * 10_000_000
 tag_at t step i [] m inside = absurd (omega (arith, inside))
 tag_at t step i (sats ∷ values) zero inside = ap (λ (n : ℕ). 13_881_024_000_000_000 + step * n * 10_000_000) (let e : i ≡ i + 0 = omega arith in e)
 tag_at t step i (sats ∷ values) (suc m) inside =
@@ -142,7 +148,8 @@ far_apart step m low high some at next =
     let later : step * (m + 1) ≡ step * m + step = omega (arith, mul-add step m 1) in
     omega (arith, some, at, next, later)
 
-first_at : (t : Tracking) (step : ℕ) (values : List (List made.Signals)) (m : ℕ) → m < length (tags_of (epochs_of t step 0 values)) → slice_index (tags_of (epochs_of t step 0 values)) m ≡ 13_881_024_000_000_000 + step * m * 10_000_000
+first_at : (t : Tracking) (step : ℕ) (values : List (List made.Signals)) (m : ℕ) → m < length (tags_of (epochs_of t step 0 values))
+    → slice_index (tags_of (epochs_of t step 0 values)) m ≡ 13_881_024_000_000_000 + step * m * 10_000_000
 first_at t step values m inside = tag_at t step 0 values m inside ∙ ap (λ (n : ℕ). 13_881_024_000_000_000 + step * n * 10_000_000) (let e : 0 + m ≡ m = omega arith in e)
 
 apart : (t : Tracking) (step : ℕ) (values : List (List made.Signals)) → 0 < step → AreApart 100000 (tags_of (epochs_of t step 0 values))
@@ -176,7 +183,8 @@ gap_on bands system o on = ap (λ (n : Numbers). n.gap) on.numbers ∙ on.are_de
 -- the three texts, where none has too many bytes
 pub made_admitted : (seed epochs sats bands system : ℕ) (told : List ℕ → Option (List ℕ)) (base rover nav : List ℕ) (o : Options) → epochs ≤ 3600 → sats ≤ 15 → IsBandsNumber bands → IsSystem system
     → (system ≡ 69 → bands ≡ BANDS_L1_L5) → AreOptionsOn bands system o → told (codes "base") ≡ Some base → told (codes "rover") ≡ Some rover → told (codes "nav") ≡ Some nav
-    → IsBaseText seed epochs sats bands system base → IsRoverText seed epochs sats bands system rover → IsNavigationText sats system nav → length base < 2 ^ 23 → length rover < 2 ^ 23 → length nav < 2 ^ 23
+    → IsBaseText seed epochs sats bands system base → IsRoverText seed epochs sats bands system rover → IsNavigationText sats system nav → length base < 2 ^ 23
+    → length rover < 2 ^ 23 → length nav < 2 ^ 23
     → AreAdmitted told (codes "base") (codes "rover") (codes "nav") o
 made_admitted seed epochs sats bands system told base rover nav o few small number is_system galileo on base_told rover_told nav_told base_is rover_is nav_is base_fits rover_fits nav_fits =
     let base_file = (base_reads seed epochs sats bands system base few small base_is).has in
@@ -186,20 +194,22 @@ made_admitted seed epochs sats bands system told base rover nav o few small numb
     let t : Tracking = tracking_of bands system in
     let s : System = system_of o.system in
     let same : system_of system ≡ s = ap system_of (sym (system_on bands system o on)) in
-    let base_obs : IsObservation s (lines_of base) (file_of t step base_file.values) =
-    subst (λ (s : System). IsObservation s (lines_of base) (file_of t step base_file.values)) same (observation_of (system_of system) (lines_of base) (file_of t step base_file.values) base_file.reads) in
-    let rover_obs : IsObservation s (lines_of rover) (file_of t step rover_file.values) =
-    subst (λ (s : System). IsObservation s (lines_of rover) (file_of t step rover_file.values)) same (observation_of (system_of system) (lines_of rover) (file_of t step rover_file.values) rover_file.reads) in
+    let base_values = base_file.values in
+    let rover_values = rover_file.values in
+    let base_obs : IsObservation s (lines_of base) (file_of t step base_values) = observation_as (system_of system) s (lines_of base) (file_of t step base_values) same base_file.reads in
+    let rover_obs : IsObservation s (lines_of rover) (file_of t step rover_values) = observation_as (system_of system) s (lines_of rover) (file_of t step rover_values) same rover_file.reads in
     let nav_file : IsNavFile s (lines_of nav) (raws_of records.records) = subst (λ (s : System). IsNavFile s (lines_of nav) (raws_of records.records)) same records.has in
-    let base_as = λ (b : ObsFile) (of : IsObsOf s told (codes "base") b). file_read s told (codes "base") base (file_of t step base_file.values) b base_told base_obs of in
-    let rover_as = λ (r : ObsFile) (of : IsObsOf s told (codes "rover") r). file_read s told (codes "rover") rover (file_of t step rover_file.values) r rover_told rover_obs of in
-    let signals : HaveSignals (bands_of o.bands) (file_of t step base_file.values) (file_of t step rover_file.values) =
-    subst (λ (n : ℕ). HaveSignals (bands_of n) (file_of t step base_file.values) (file_of t step rover_file.values)) (sym (bands_on bands system o on)) (shared bands system number galileo step base_file.values rover_file.values) in
+    let base_as = λ (b : ObsFile) (of : IsObsOf s told (codes "base") b). file_read s told (codes "base") base (file_of t step base_values) b base_told base_obs of in
+    let rover_as = λ (r : ObsFile) (of : IsObsOf s told (codes "rover") r). file_read s told (codes "rover") rover (file_of t step rover_values) r rover_told rover_obs of in
+    let share : HaveSignals (bands_of bands) (file_of t step base_values) (file_of t step rover_values) = shared bands system number galileo step base_values rover_values in
+    let signals : HaveSignals (bands_of o.bands) (file_of t step base_values) (file_of t step rover_values) =
+    subst (λ (n : ℕ). HaveSignals (bands_of n) (file_of t step base_values) (file_of t step rover_values)) (sym (bands_on bands system o on)) share in
+    let gap : AreSparse o.gap (file_of t step base_values) (file_of t step rover_values) = sparse t epochs o.gap base_values rover_values (gap_on bands system o on) in
     record {
       base_is = record { text = base; told_is = base_told; fits = omega (arith, base_fits); file = (_, base_obs) };
       rover_is = record { text = rover; told_is = rover_told; fits = omega (arith, rover_fits); file = (_, rover_obs) };
       nav_is = record { text = nav; told_is = nav_told; fits = omega (arith, nav_fits); file = (_, nav_file) };
-      position = λ b of. subst HasPosition (sym (base_as b of)) (has_position t step base_file.values);
-      signals = λ b r of also. two_as t step base_file.values rover_file.values b r (HaveSignals (bands_of o.bands)) (base_as b of) (rover_as r also) signals;
-      sparse = λ b r of also. two_as t step base_file.values rover_file.values b r (AreSparse o.gap) (base_as b of) (rover_as r also) (sparse t epochs o.gap base_file.values rover_file.values (gap_on bands system o on));
+      position = λ b of. subst HasPosition (sym (base_as b of)) (has_position t step base_values);
+      signals = λ b r of also. two_as t step base_values rover_values b r (HaveSignals (bands_of o.bands)) (base_as b of) (rover_as r also) signals;
+      sparse = λ b r of also. two_as t step base_values rover_values b r (AreSparse o.gap) (base_as b of) (rover_as r also) gap;
     }

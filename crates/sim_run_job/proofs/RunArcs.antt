@@ -29,7 +29,8 @@ in_order bands jump least used kept short are = record {
   rising = λ m k b a before first second.
       let rs : List Run = filter (is_long least) are.runs in
       let pairs : AllPairs Precedes rs = AllPairs-filter Precedes (is_long least) are.runs are.all.order in
-      no_later (run_of b) (run_of a) (precedes_at rs m k (run_of b) (run_of a) pairs before (kept_at bands jump least used kept short m b are first) (kept_at bands jump least used kept short k a are second));
+      no_later (run_of b) (run_of a) (precedes_at rs m k (run_of b) (run_of a) pairs before
+      (kept_at bands jump least used kept short m b are first) (kept_at bands jump least used kept short k a are second));
 }
 
 marked_in : (b r : ObsFile) (n : Records) (o : Options) (outcome : Outcome) → IsOutcome b r n o outcome → (a : Answer) → outcome.answer ≡ a → HasMarkedArcs a

@@ -27,8 +27,10 @@ pub end_no_fault : (o : Options) (seed epochs sats bands : ℕ) (b r : ObsFile) 
 end_no_fault o seed epochs sats bands b r n end (inl found) is = no_read_fault (is_fixed found.outcome.answer) (sym (ap (λ (e : Ending). e.status) found.end_is) ∙ is)
 end_no_fault o seed epochs sats bands b r n end (inr refused) is = let s : end.status ≡ Refused = ap (λ (e : Ending). e.status) refused.end_is in absurd (cc (s, is))
 
-pub ends_found : (seed epochs sats bands system : ℕ) (told : List ℕ → Option (List ℕ)) (o : Options) (b r : ObsFile) (n : Records) (end : Ending) → AreMadeFiles seed epochs sats bands system told → AreOptionsOn bands system o
-    → AreAdmitted told (codes "base") (codes "rover") (codes "nav") o → AreFilesOf (system_of o.system) told (codes "base") (codes "rover") (codes "nav") b r n → SimRunEnd o seed epochs sats bands b r n end
+pub ends_found : (seed epochs sats bands system : ℕ) (told : List ℕ → Option (List ℕ)) (o : Options) (b r : ObsFile) (n : Records) (end : Ending)
+    → AreMadeFiles seed epochs sats bands system told → AreOptionsOn bands system o
+    → AreAdmitted told (codes "base") (codes "rover") (codes "nav") o → AreFilesOf (system_of o.system) told (codes "base") (codes "rover") (codes "nav") b r n
+    → SimRunEnd o seed epochs sats bands b r n end
     → SimRunEnds seed epochs sats bands system end
 ends_found seed epochs sats bands system told o b r n end made on admitted are (inl found) = record {
   told = told;
@@ -44,8 +46,10 @@ ends_found seed epochs sats bands system told o b r n end made on admitted are (
 ends_found seed epochs sats bands system told o b r n end made on admitted are (inr refused) = absurd (never_refused told (codes "base") (codes "rover") (codes "nav") o b r n end admitted are refused)
 
 -- the reading of files that are admitted, none of which fails, doesn't stop
-pub never_stops : (system : System) (told : List ℕ → Option (List ℕ)) (base rover nav : List ℕ) (o : Options) (stop : Stop) (P : Ending → Type 0) → system ≡ system_of o.system → AreAdmitted told base rover nav o
+pub never_stops : (system : System) (told : List ℕ → Option (List ℕ)) (base rover nav : List ℕ) (o : Options) (stop : Stop) (P : Ending → Type 0)
+    → system ≡ system_of o.system → AreAdmitted told base rover nav o
     → IfEnds stop (λ end. StopsAtFiles system told base rover nav end) → IfEnds stop (λ end. end.status ≢ ReadFault) → IfEnds stop P
 never_stops system told base rover nav o (Ended answer) P same admitted stops no_fault =
-    absurd (no_stop (system_of o.system) told base rover nav (ending_of answer) admitted.base_is admitted.rover_is admitted.nav_is no_fault (subst (λ (s : System). StopsAtFiles s told base rover nav (ending_of answer)) same stops))
+    absurd (no_stop (system_of o.system) told base rover nav (ending_of answer) admitted.base_is admitted.rover_is admitted.nav_is no_fault
+    (subst (λ (s : System). StopsAtFiles s told base rover nav (ending_of answer)) same stops))
 never_stops system told base rover nav o NoMemory P same admitted stops no_fault = tt

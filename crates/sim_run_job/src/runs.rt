@@ -159,7 +159,8 @@ pub fn sim_run(
     };
     let options = options_on(bands, system);
     let mut files = files_of(alloc, base, rover, nav)?;
-    match read_session(alloc, &mut files, System::of_letter(options.system), "base", "rover", "nav") {
+    let system = System::of_letter(options.system);
+    match read_session(alloc, &mut files, system, "base", "rover", "nav") {
         Ok(read) => answer_files(alloc, &asked, &read, &options),
         Err(stop) => Err(stop),
     }

@@ -9,20 +9,35 @@ use Rattle.sim_run_job.proofs.runs.sim_run.Goals as goal
 
 pub returns-in-Ok-clause-ends : goal.returns-in-Ok-clause-ends
 returns-in-Ok-clause-ends c =
+    let a = c.args in
     let session = c.in_ok-base.ensures in
     let on = c.options_on-options.ensures in
+    let o = c.options_on-options.result in
     let told = c.in_ok-files.ensures in
-    let made : AreMadeFiles c.args.seed c.args.epochs c.args.sats c.args.bands c.args.system _ = record { session = c.in_ok-base.field-0; made = record { base = session.base; rover = session.rover; nav = session.nav; truth = session.truth; offset = session.offset }; base_told = told.base; rover_told = told.rover; nav_told = told.nav } in
-    let admitted = made_admitted c.args.seed c.args.epochs c.args.sats c.args.bands c.args.system _ _ _ _ c.options_on-options.result c.requires.epochs c.requires.sats c.requires.bands c.requires.system c.requires.bands_of_galileo on told.base told.rover told.nav session.base session.rover session.nav (still_fits _ _ c.in_ok-base.field-0.base.ok.0 session.base_size) (still_fits _ _ c.in_ok-base.field-0.rover.ok.0 session.rover_size) (still_fits _ _ c.in_ok-base.field-0.nav.ok.0 session.nav_size) in
-    let files = subst (λ (s : System). AreFilesOf s _ _ _ _ _ _ _) c.of_letter.ensures c.in-Ok.ensures.read in
-    ended_weaker c.answer_files.result _ _ (λ end ends. ends_found c.args.seed c.args.epochs c.args.sats c.args.bands c.args.system _ c.options_on-options.result _ _ _ end made on admitted files ends) c.answer_files.ensures
+    let made : AreMadeFiles a.seed a.epochs a.sats a.bands a.system _ = record {
+      session = c.in_ok-base.field-0;
+      made = record { base = session.base; rover = session.rover; nav = session.nav; truth = session.truth; offset = session.offset };
+      base_told = told.base;
+      rover_told = told.rover;
+      nav_told = told.nav;
+    } in
+    let admitted = made_admitted a.seed a.epochs a.sats a.bands a.system _ _ _ _ o c.requires.epochs c.requires.sats c.requires.bands c.requires.system c.requires.bands_of_galileo on
+    told.base told.rover told.nav session.base session.rover session.nav (still_fits _ _ c.in_ok-base.field-0.base.ok.0 session.base_size)
+    (still_fits _ _ c.in_ok-base.field-0.rover.ok.0 session.rover_size) (still_fits _ _ c.in_ok-base.field-0.nav.ok.0 session.nav_size) in
+    let files = subst (λ (s : System). AreFilesOf s _ _ _ _ _ _ _) c.of_letter-system.ensures c.in-Ok.ensures.read in
+    ended_weaker c.answer_files.result _ _ (λ end ends. ends_found a.seed a.epochs a.sats a.bands a.system _ o _ _ _ end made on admitted files ends) c.answer_files.ensures
 
 pub returns-in-Ok-clause-no_fault : goal.returns-in-Ok-clause-no_fault
 returns-in-Ok-clause-no_fault c = ended_weaker c.answer_files.result _ _ (λ end ends. end_no_fault _ _ _ _ _ _ _ _ end ends) c.answer_files.ensures
 
 pub returns-clause-ends : goal.returns-clause-ends
 returns-clause-ends c =
+    let a = c.args in
     let session = c.in_ok-base.ensures in
+    let on = c.options_on-options.ensures in
+    let o = c.options_on-options.result in
     let told = c.in_ok-files.ensures in
-    let admitted = made_admitted c.args.seed c.args.epochs c.args.sats c.args.bands c.args.system _ _ _ _ c.options_on-options.result c.requires.epochs c.requires.sats c.requires.bands c.requires.system c.requires.bands_of_galileo c.options_on-options.ensures told.base told.rover told.nav session.base session.rover session.nav (still_fits _ _ c.in_ok-base.field-0.base.ok.0 session.base_size) (still_fits _ _ c.in_ok-base.field-0.rover.ok.0 session.rover_size) (still_fits _ _ c.in_ok-base.field-0.nav.ok.0 session.nav_size) in
-    never_stops _ _ _ _ _ c.options_on-options.result c.in-Err.stop _ c.of_letter.ensures admitted c.in-Err.ensures.stopped (c.in-Err.ensures.sure (λ k name inside. told.sure name))
+    let admitted = made_admitted a.seed a.epochs a.sats a.bands a.system _ _ _ _ o c.requires.epochs c.requires.sats c.requires.bands c.requires.system c.requires.bands_of_galileo on
+    told.base told.rover told.nav session.base session.rover session.nav (still_fits _ _ c.in_ok-base.field-0.base.ok.0 session.base_size)
+    (still_fits _ _ c.in_ok-base.field-0.rover.ok.0 session.rover_size) (still_fits _ _ c.in_ok-base.field-0.nav.ok.0 session.nav_size) in
+    never_stops _ _ _ _ _ o c.in-Err.stop _ c.of_letter-system.ensures admitted c.in-Err.ensures.stopped (c.in-Err.ensures.sure (λ k name inside. told.sure name))
