@@ -3,7 +3,9 @@ use Rattle.std.proofs.Common.{◌≡◌, ◌≢◌, ◌⊎◌, inl, inr, zero, s
 use Rattle.std.specs.Prelude.{slice_index_or, Some}
 use Rattle.obs_store.specs.declared.file.ObsFile.{ObsFile}
 use Rattle.rinex_head.specs.declared.system.System.{System}
+use Rattle.rinex_head.specs.declared.place.TextFault.{TextFault}
 use Rattle.obs_source.specs.Formats.{any_of, IsObservation, HasObservation}
+use Rattle.obs_source.specs.Taking.{IsAnswer}
 use Rattle.nav_records.specs.NavForm.{HasNavFile}
 use Rattle.nav_records.specs.NavRules.{nav_of}
 use Rattle.line_source.specs.Lines.{lines_of}
@@ -17,14 +19,18 @@ use Rattle.job_answers.specs.Answers.{ending_of, IfEnds, IfStopped}
 use Rattle.job_answers.specs.Statuses.{IsJobStatus}
 use Rattle.job_answers.specs.Texts.{refusal_line, too_large_line}
 use Rattle.job_answers.specs.Endings.{Ending, IsTextOf, IsRefusal, EndsByFile, IsAdmitted, HasTooManyBytes, IsRefusedFile, IsRefusedWhole}
-use Rattle.job_answers.proofs.EndingLaws.{admitted_ends, job_status_at, file_status, ends_weaker}
-use Rattle.session_files.specs.SessionFiles.{IsObsOf, StopsAtObs, StopsAtNav, StopsAtFiles}
+use Rattle.job_answers.proofs.EndingLaws.{admitted_ends, job_status_at, file_status, stopped_weaker, refusal_whole}
+use Rattle.eph_store.specs.File.{Records}
+use Rattle.session_files.specs.SessionFiles.{IsObsOf, IsNavOf, StopsAtObs, StopsAtNav, StopsAtFiles}
 
 text_along : (told later : List ℕ → Option (List ℕ)) (name text : List ℕ) → Same told later → IsTextOf later name text → IsTextOf told name text
 text_along told later name text same is = record { told_is = subst (λ (o : Option (List ℕ)). IfSome o (λ bytes. text ≡ bytes)) (same name) is.told_is; fits = is.fits }
 
 pub obs_along : (system : System) (told later : List ℕ → Option (List ℕ)) (name : List ℕ) (file : ObsFile) → Same told later → IsObsOf system later name file → IsObsOf system told name file
 obs_along system told later name file same is = record { text = is.text; is = text_along told later name is.text same is.is; is_file = is.is_file }
+
+pub nav_along : (system : System) (told later : List ℕ → Option (List ℕ)) (name : List ℕ) (records : Records) → Same told later → IsNavOf system later name records → IsNavOf system told name records
+nav_along system told later name records same is = record { text = is.text; is = text_along told later name is.text same is.is; is_file = is.is_file; are_fit = is.are_fit }
 
 pub file_along : (told later : List ℕ → Option (List ℕ)) (name : List ℕ) (ends : List ℕ → Ending → Type 0) (end : Ending) → Same told later → EndsByFile later name ends end → EndsByFile told name ends end
 file_along told later name ends end same (inl by_text) = inl (record { text = by_text.text; is = text_along told later name by_text.text same by_text.is; ends_so = by_text.ends_so })
@@ -51,20 +57,36 @@ no_stop system told base rover nav end b r n no_fault (inr (inl stops)) = (admit
 no_stop system told base rover nav end b r n no_fault (inr (inr stops)) = (admitted_ends told nav (HasNavFile system) (IsRefusal (nav_of system) (HasNavFile system) nav) end n no_fault stops.stops).none n.file
 
 -- ---- reading one after the other
--- A file of which all was taken is what each text for which the taker stands is, and stops a job where it is refused.
-pub taken_is : (system : System) (told : List ℕ → Option (List ℕ)) (name : List ℕ) (taken : ℕ) (stands_for : List ℕ → Type 0) (r : Result ObsFile Stop) → IsTakenWhole (told name) taken stands_for
-    → ((text : List ℕ) → stands_for text → IfOk r (λ file. IsObservation system (lines_of text) file)) → IfOk r (λ file. IsObsOf system told name file)
-taken_is system told name taken stands_for (Ok file) whole is = record { text = whole.text; is = record { told_is = whole.told_is; fits = whole.fits }; is_file = is whole.text whole.stands }
-taken_is system told name taken stands_for (Err stop) whole is = tt
+pub answer_as : (system of : System) (text : List ℕ) (answer : Result ObsFile TextFault) → system ≡ of → IsAnswer of text answer → IsAnswer system text answer
+answer_as system of text answer same is = subst (λ (s : System). IsAnswer s text answer) (sym same) is
 
-pub taken_stops : (system : System) (told : List ℕ → Option (List ℕ)) (name : List ℕ) (taken : ℕ) (stands_for : List ℕ → Type 0) (r : Result ObsFile Stop) → IsTakenWhole (told name) taken stands_for
-    → ((text : List ℕ) → stands_for text → IfStopped r (λ end. IsRefusal (any_of system) (HasObservation system) name text end)) → IfStopped r (λ end. StopsAtObs system told name end)
-taken_stops system told name taken stands_for (Ok file) whole stops = tt
-taken_stops system told name taken stands_for (Err stop) whole stops = ends_weaker stop _ _ (λ end refusal. inl (record {
+-- A file of which all was taken is what its reader answered of each text for which the taker stands, and stops a job where
+-- that is a refusal.
+pub taken_is : (system : System) (told : List ℕ → Option (List ℕ)) (name : List ℕ) (taken : ℕ) (stands_for : List ℕ → Type 0) (answer : Result ObsFile TextFault) (r : Result ObsFile Stop)
+    → IsTakenWhole (told name) taken stands_for → ((text : List ℕ) → stands_for text → IsAnswer system text answer)
+    → ((s : System) (text : List ℕ) → IsAnswer s text answer → IfOk r (λ file. IsObservation s (lines_of text) file)) → IfOk r (λ file. IsObsOf system told name file)
+taken_is system told name taken stands_for answer (Ok file) whole answers is = record {
+  text = whole.text;
+  is = record { told_is = whole.told_is; fits = whole.fits };
+  is_file = is system whole.text (answers whole.text whole.stands);
+}
+taken_is system told name taken stands_for answer (Err stop) whole answers is = tt
+
+pub taken_stops : (system : System) (told : List ℕ → Option (List ℕ)) (name : List ℕ) (taken : ℕ) (stands_for : List ℕ → Type 0) (answer : Result ObsFile TextFault) (r : Result ObsFile Stop)
+    → IsTakenWhole (told name) taken stands_for → ((text : List ℕ) → stands_for text → IsAnswer system text answer)
+    → ((s : System) (text : List ℕ) → IsAnswer s text answer → IfStopped r (λ end. IsRefusal (any_of s) (HasObservation s) name text end)) → IfStopped r (λ end. StopsAtObs system told name end)
+taken_stops system told name taken stands_for answer r whole answers stops = stopped_weaker r _ _ (λ end refusal. inl (record {
   text = whole.text;
   is = record { told_is = whole.told_is; fits = whole.fits };
   ends_so = refusal;
-})) (stops whole.text whole.stands)
+})) (stops system whole.text (answers whole.text whole.stands))
+
+-- and its refusal is that of a file that was read to its end
+pub taken_refused : (system : System) (told : List ℕ → Option (List ℕ)) (left : ℕ → Option (List ℕ)) (name : List ℕ) (taken : ℕ) (stands_for : List ℕ → Type 0) (answer : Result ObsFile TextFault) (r : Result ObsFile Stop)
+    → IsTakenWhole (told name) taken stands_for → IsReadToEnd told left name → ((text : List ℕ) → stands_for text → IsAnswer system text answer)
+    → ((s : System) (text : List ℕ) → IsAnswer s text answer → IfStopped r (λ end. IsRefusal (any_of s) (HasObservation s) name text end)) → IfStopped r (IsRefusedWhole told left (name ∷ []))
+taken_refused system told left name taken stands_for answer r whole read answers stops =
+    stopped_weaker r _ _ (λ end refusal. refusal_whole told left name whole.text end read refusal) (stops system whole.text (answers whole.text whole.stands))
 
 pub at_rover : (system : System) (told later : List ℕ → Option (List ℕ)) (base rover nav : List ℕ) (b : ObsFile) (end : Ending) → Same told later → IsObsOf system told base b → StopsAtObs system later rover end → StopsAtFiles system told base rover nav end
 at_rover system told later base rover nav b end same is stops = inr (inl (record { base_file = b; base_is = is; stops = file_along told later rover _ end same stops }))

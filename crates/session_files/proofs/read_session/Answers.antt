@@ -1,6 +1,6 @@
 use Rattle.std.proofs.Common.{arith, refl, [], ◌∷◌}
 use Rattle.job_answers.proofs.EndingLaws.{ends_weaker}
-use Rattle.session_files.proofs.FileLaws.{at_rover, at_third, refused_at, same_twice, read_along}
+use Rattle.session_files.proofs.FileLaws.{obs_along, nav_along, at_rover, at_third, refused_at, same_twice, read_along}
 use Rattle.line_source.proofs.Openings.{more_at_most}
 use Rattle.session_files.proofs.Openings.{fewer_at_most}
 use Rattle.session_files.proofs.read_session.Goals as goal
@@ -43,3 +43,10 @@ returns-in-Ok-nav_file-clause-opened g c = more_at_most 2 1 _ _ _ (more_at_most 
 
 pub returns-in-Ok-nav_file-clause-whole : goal.returns-in-Ok-nav_file-clause-whole
 returns-in-Ok-nav_file-clause-whole g c = read_along _ _ _ c.args.nav.now (same_twice _ _ _ c.in-Ok.ensures.texts c.in-Ok-obs_file.ensures.texts) c.in-Ok-nav_file.ensures.whole
+
+pub returns-in-Ok-nav_file-clause-read : goal.returns-in-Ok-nav_file-clause-read
+returns-in-Ok-nav_file-clause-read g c = record {
+  base_is = c.in-Ok.ensures.read;
+  rover_is = obs_along c.args.system _ _ c.args.rover.now c.in-Ok-obs_file.file c.in-Ok.ensures.texts c.in-Ok-obs_file.ensures.read;
+  nav_is = nav_along c.args.system _ _ c.args.nav.now _ (same_twice _ _ _ c.in-Ok.ensures.texts c.in-Ok-obs_file.ensures.texts) c.in-Ok-nav_file.ensures.read;
+}
