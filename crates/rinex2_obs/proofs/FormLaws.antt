@@ -1,5 +1,5 @@
 -- What the lines give is what the grammar says.
-use Rattle.std.proofs.Common.{◌≡◌, ◌+◌, ◌-◌, ◌*◌, ◌≤◌, ◌<◌, ℕ, zero, suc, pos, Bool, false, List, [], ◌∷◌, ◌++◌, length, Ok, Option, Some, None, refl, sym, ap, ◌∙◌, subst, arith, append_assoc, add-zero, length-append}
+use Rattle.std.proofs.Common.{◌≡◌, ◌+◌, ◌-◌, ℕ, suc, pos, Bool, false, List, [], ◌∷◌, ◌++◌, length, Ok, Option, Some, None, refl, sym, ap, ◌∙◌, arith, append_assoc, add-zero, length-append}
 use Rattle.std.proofs.lemmas.List.{append-nil}
 use Rattle.gps_time.specs.declared.Tick.{Tick}
 use Rattle.obs_store.specs.declared.file.ObsFile.{ObsFile}
@@ -10,7 +10,7 @@ use Rattle.obs_store.specs.Missing.{missing_values}
 use Rattle.rinex_head.specs.Walk.{walk}
 use Rattle.rinex_head.proofs.Walks.{walk-takes, walk-end}
 use Rattle.rinex2_obs.specs.Profile.{kept_of}
-use Rattle.rinex2_obs.specs.Rows.{rows_of, further_lines_of}
+use Rattle.rinex2_obs.specs.Rows.{rows_of}
 use Rattle.rinex2_obs.specs.declared.header.Header.{Header}
 use Rattle.rinex2_obs.specs.declared.header_lines.HeaderLine.{HeaderLine}
 use Rattle.rinex2_obs.specs.declared.header_lines.HeaderLine.TheVariants as header

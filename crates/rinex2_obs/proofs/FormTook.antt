@@ -31,8 +31,8 @@ use Rattle.rinex2_obs.specs.declared.header_lines.HeaderLine.TheVariants as head
 use Rattle.rinex2_obs.specs.declared.epoch_lines.EpochLine.{EpochLine}
 use Rattle.rinex2_obs.specs.declared.epoch_lines.EpochLine.TheVariants as line
 use Rattle.rinex2_obs.specs.Obs2Rules.{HeaderSoFar, Expected, First, Head, More, Body, Names, Row, Further, Skip, so_far, bare_header, whole_header, file_of, epoch_of, more_types, more_sats, more_names, more_rows, more_lines, more_slips, after_header, after_epoch, with_satellite, obs2_rules}
-use Rattle.rinex2_obs.specs.Obs2Form.{HeadPart, AreHeadParts, head_lines, last_position, last_delta, AreFurther, IsTypeList, SatPart, EpochPart, EventPart, SlipsPart, Part, Blank, Event, Slips, Epoch_, AreFurtherNames, AreRows, AreSats, numbers_of, sat_lines, if_of_gps, satellites_of, AreEventLines, AreMarked, AreShort, AreParts, epochs_of, body_lines, IsObs2File}
-use Rattle.rinex2_obs.proofs.Steps.{rows_begin, rows_due, rows_all, one_satellite}
+use Rattle.rinex2_obs.specs.Obs2Form.{HeadPart, AreHeadParts, head_lines, last_position, last_delta, AreFurther, IsTypeList, SatPart, EpochPart, EventPart, SlipsPart, Part, Blank, Event, Slips, Epoch_, AreFurtherNames, AreRows, AreSats, numbers_of, sat_lines, satellites_of, AreEventLines, AreMarked, AreShort, AreParts, epochs_of, body_lines, IsObs2File}
+use Rattle.rinex2_obs.proofs.Steps.{rows_due, rows_all, one_satellite}
 use Rattle.rinex2_obs.proofs.FormLaws.{regroup}
 
 -- ---- the body

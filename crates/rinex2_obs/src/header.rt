@@ -127,10 +127,7 @@ fn read_lines(lines: &mut Lines<'_>, hundredths: u16) -> Result<Header, At>
                     return Err(flaw(1, What::Types).at(line.number));
                 }
                 match first_types(Layout::Rinex2, line.bytes) {
-                    Ok(list) => match read_further(lines, list) {
-                        Ok(names) => types = Some(names),
-                        Err(at) => return Err(at),
-                    },
+                    Ok(list) => types = Some(read_further(lines, list)?),
                     Err(flaw) => return Err(flaw.at(line.number)),
                 }
             }

@@ -1,4 +1,4 @@
-use Rattle.std.proofs.Common.{◌-◌, Ok, refl, ◌∙◌, ap, arith, ℕ}
+use Rattle.std.proofs.Common.{◌-◌, Ok, refl, ◌∙◌, ap, arith}
 use Rattle.rinex_head.specs.declared.place.What.TheVariants.{Truncated}
 use Rattle.rinex_head.specs.Walk.{rest_gives}
 use Rattle.rinex_head.proofs.Walks.{goes_on, stops, has_none, gives_less}

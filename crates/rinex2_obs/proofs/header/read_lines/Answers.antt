@@ -1,4 +1,5 @@
 use Rattle.std.proofs.Common.{[], Ok, refl, sym, ap, ◌∙◌, Result}
+use Rattle.std.proofs.lemmas.Result.{err_from_is_err_and}
 use Rattle.rinex_head.specs.declared.place.What.TheVariants.{NoEnd}
 use Rattle.rinex_head.specs.declared.place.Flaw.{Flaw}
 use Rattle.rinex_head.specs.Places.{and_then}
@@ -50,18 +51,19 @@ header-preserved c =
     let then_list : TypeList → Result Expected Flaw = λ list. Ok (more_types h list.names list.left) in
     let once = types_once h bytes (sym c.is_some.ensures ∙ c.if-is_some.false) ∙ ap (λ (r : Result TypeList Flaw). and_then r then_list) (sym c.in-Ok-first_types.ensures.value) in
     c.header.invariant ∙ goes_on obs2_rules (Head h) (more_types h list.names list.left) (header_line_of bytes) (λ l. after_header h bytes l) header.Types _ _ _ bytes c.in-Ok.ensures refl answer once
-    ∙ c.in-Ok-read_further.ensures.reads h
+    ∙ c.in_ok-read_further-in-Ok-first_types.ensures.reads h
 
-pub returns-in-Err-read_further : goal.returns-in-Err-read_further
-returns-in-Err-read_further c =
+pub returns-in_err-read_further-in-Ok-first_types : goal.returns-in_err-read_further-in-Ok-first_types
+returns-in_err-read_further-in-Ok-first_types c =
     let bytes = c.in-Ok.line.bytes.now in
     let h = so_far c.args.hundredths c.header.position c.header.delta c.header.types in
     let answer = rw c.in-Ok-Types.field-0-is at c.in-Ok-Types.ensures in
     let list = c.in-Ok-first_types.list in
     let then_list : TypeList → Result Expected Flaw = λ list. Ok (more_types h list.names list.left) in
     let once = types_once h bytes (sym c.is_some.ensures ∙ c.if-is_some.false) ∙ ap (λ (r : Result TypeList Flaw). and_then r then_list) (sym c.in-Ok-first_types.ensures.value) in
-    c.header.invariant ∙ goes_on obs2_rules (Head h) (more_types h list.names list.left) (header_line_of bytes) (λ l. after_header h bytes l) header.Types _ _ _ bytes c.in-Ok.ensures refl answer once
-    ∙ c.in-Err-read_further.ensures.reads h
+    let p = err_from_is_err_and c.from_residual.result c.from_residual.ensures.1 in
+    rw (p.1, p.2) (c.header.invariant ∙ goes_on obs2_rules (Head h) (more_types h list.names list.left) (header_line_of bytes) (λ l. after_header h bytes l) header.Types _ _ _ bytes c.in-Ok.ensures refl answer once
+    ∙ c.in_err-read_further-in-Ok-first_types.ensures.reads h)
 
 pub returns-in-Err-first_types : goal.returns-in-Err-first_types
 returns-in-Err-first_types c =

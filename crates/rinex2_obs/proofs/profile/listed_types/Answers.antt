@@ -1,4 +1,4 @@
-use Rattle.std.proofs.Common.{◌≢◌, ◌<◌, length, ap, List, ℕ, arith, ◌∙◌, get_or-set_other, get_or-set_same, below_more, length-set}
+use Rattle.std.proofs.Common.{◌≢◌, ◌<◌, length, arith, ◌∙◌, get_or-set_other, get_or-set_same, below_more, length-set}
 use Rattle.rinex2_obs.proofs.KeptTypes.{listed_is}
 use Rattle.rinex2_obs.proofs.profile.listed_types.Goals as goal
 

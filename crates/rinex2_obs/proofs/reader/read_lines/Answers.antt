@@ -1,4 +1,3 @@
-use Rattle.std.proofs.Common.{◌∙◌}
 use Rattle.rinex_head.proofs.Walks.{handed_on}
 use Rattle.rinex2_obs.proofs.reader.read_lines.Goals as goal
 

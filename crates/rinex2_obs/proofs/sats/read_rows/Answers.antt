@@ -1,4 +1,4 @@
-use Rattle.std.proofs.Common.{◌<◌, ◌+◌, ℕ, Option, Some, Ok, refl, sym, ◌∙◌, subst, arith}
+use Rattle.std.proofs.Common.{◌<◌, ◌+◌, ℕ, Some, Ok, refl, sym, ◌∙◌, subst, arith}
 use Rattle.rinex_head.specs.declared.place.What.TheVariants.{Truncated}
 use Rattle.rinex_head.proofs.Walks.{goes_on, stops, has_none, gives_less}
 use Rattle.obs_fields.specs.declared.layout.Layout.TheVariants.{Rinex2}
