@@ -23,7 +23,10 @@ fn draws_l5_last(rt: HostRuntime) -> Result<(), Fail> {
     let drawn = draw_all(rt.alloc(), 1, 2, true)?;
     let base = [[-160_742, 566_536, -141_940], [-853_467, 519_323, -555_993]];
     let rover = [[-513_168, 297_188, 86_773], [-469_773, -53_389, 684_435]];
-    let truth = [[-352_426, -269_348, 228_713], [383_694, -572_712, 1_240_428]];
+    let truth = [
+        [-352_426, -269_348, 228_713],
+        [383_694, -572_712, 1_240_428],
+    ];
     assert_eq!(rt; drawn.cycles.base.as_slice(), base.as_slice());
     assert_eq!(rt; drawn.cycles.rover.as_slice(), rover.as_slice());
     assert_eq!(rt; drawn.cycles.truth.as_slice(), truth.as_slice());

@@ -67,20 +67,8 @@ fn agrees_with_another_model(rt: HostRuntime) -> Result<(), Fail> {
                 G03  23012020.610   120826789.511    23012020.610    94266756.541\n\
                 G04  22594472.589   119644652.851    22594472.589    92106141.196\n",
         ),
-        (
-            2,
-            15,
-            b'G',
-            BASE_ON_ALL,
-            ROVER_ON_ALL,
-        ),
-        (
-            2,
-            125,
-            b'G',
-            BASE_ON_ALL,
-            ROVER_ON_ALL,
-        ),
+        (2, 15, b'G', BASE_ON_ALL, ROVER_ON_ALL),
+        (2, 125, b'G', BASE_ON_ALL, ROVER_ON_ALL),
         (
             2,
             15,

@@ -1,5 +1,5 @@
 -- What a receiver observes over a session, and the file that says it.
-use Rattle.std.specs.Prelude.{◌≡◌, ℕ, ◌+◌, ◌*◌, ◌<◌, List, length, All, ℤ, pos, slice_index_or, nat_le, if◌then◌else◌}
+use Rattle.std.specs.Prelude.{◌≡◌, ℕ, ◌+◌, ◌*◌, ◌<◌, List, length, All, ℤ, slice_index_or, nat_le, if◌then◌else◌}
 use Rattle.eph_store.specs.declared.ephemeris.Eph.{Eph}
 use Rattle.orbit_model.specs.Elements.{Constants}
 use Rattle.sim_texts.specs.declared.signals.Signals.{Signals}

@@ -24,7 +24,7 @@ mod receivers;
 use band_sets::BANDS_L1_L2;
 use observations::observation_file;
 use receivers::{base_receiver, rover_receiver};
-use sim_draws::{Cycles, Drawn, draw_all};
+use sim_draws::{Drawn, draw_all};
 use sim_records::{satellites, write_navigation};
 use sim_texts::Tracking;
 use std::alloc::{AllocError, Global};
@@ -97,18 +97,29 @@ pub fn make(
     let rover = rover_receiver(x, y, z, rover_clock);
     let tracking = tracking_of(bands, system);
     let world = world_of(system);
-    let base = observation_file(alloc, epochs, tracking, &world, &records, &base, &cycles.base)?;
-    let rover = observation_file(alloc, epochs, tracking, &world, &records, &rover, &cycles.rover)?;
-    let Cycles {
-        base: _,
-        rover: _,
-        truth,
-    } = cycles;
+    let base = observation_file(
+        alloc,
+        epochs,
+        tracking,
+        &world,
+        &records,
+        &base,
+        &cycles.base,
+    )?;
+    let rover = observation_file(
+        alloc,
+        epochs,
+        tracking,
+        &world,
+        &records,
+        &rover,
+        &cycles.rover,
+    )?;
     Ok(Made {
         base,
         rover,
         nav,
-        truth,
+        truth: cycles.truth,
         offset,
     })
 }

@@ -28,13 +28,7 @@ const L2: u32 = 1_227_600_000;
 const L5: u32 = 1_176_450_000;
 
 // How far the satellite is seen at the tag with a code of so many mm, less what its clock is ahead
-fn distance_at(
-    world: &World,
-    eph: &Eph,
-    tag: Tick,
-    code: i64,
-    receiver: &Receiver,
-) -> Distance
+fn distance_at(world: &World, eph: &Eph, tag: Tick, code: i64, receiver: &Receiver) -> Distance
     requires near { abs_diff tag.0 eph.now.toe.0 ≤ 72010000000 }
     requires code_low { pos 0 ≤ℤ code }
     requires code_high { code ≤ℤ pos (10 ^ 11) }
