@@ -1,5 +1,5 @@
 -- Words ask for one job at most.
-use Rattle.std.proofs.Common.{◌≡◌, ℕ, ◌≤◌, ◌==◌, ◌||◌, Bool, true, false, IsTrue, if◌then◌else◌, Option, None, Some, List, [], ◌∷◌, codes, get_or, length, drop, refl, sym, ap, ap₂, ◌∙◌, subst, arith}
+use Rattle.std.proofs.Common.{◌≡◌, ℕ, ◌≤◌, ◌==◌, ◌||◌, Bool, true, false, IsTrue, if◌then◌else◌, Option, None, Some, List, [], ◌∷◌, codes, get_or, length, drop, refl, sym, ap, ◌∙◌, subst, arith}
 use Rattle.gps_time.specs.declared.Tick.{Tick}
 use Rattle.command_words.specs.declared.settings.Given.{Given}
 use Rattle.std.proofs.lemmas.Option.{same_Some}

@@ -1,5 +1,5 @@
 -- Whether other settings are given than those of a simulated session.
-use Rattle.std.proofs.Common.{◌≡◌, ℕ, Bool, true, false, List, [], ◌∷◌, refl, sym, ap, ◌∙◌, true≢false}
+use Rattle.std.proofs.Common.{◌≡◌, Bool, true, false, List, [], ◌∷◌, refl, sym, ap, ◌∙◌, true≢false}
 use Rattle.command_words.specs.declared.settings.Setting.{Setting}
 use Rattle.command_words.specs.declared.settings.Given.{Given}
 use Rattle.command_words.specs.Settings.{is_same, is_of_sim, are_of_sim, numbers_for, HasNoOthers}
