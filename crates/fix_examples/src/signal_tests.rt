@@ -1,4 +1,9 @@
 // Runs of `fix` over files of RINEX 2, on other bands and of Galileo.
+ghost use Rattle.std.specs.Prelude.{◌≡◌, IfSome};
+ghost use Rattle.obs_rows.specs.Ranges.{IsSystem};
+ghost use Rattle.band_sets.specs.declared.numbers.TheConstants.{BANDS_L1_L5};
+ghost use Rattle.band_sets.specs.BandSets.{IsBandsNumber};
+
 use crate::rinex2_texts::in_rinex_2;
 use crate::runs::{fix_texts, is_certified};
 use job_answers::Status;
@@ -7,7 +12,12 @@ use sim_session::make;
 use std::process::Abort;
 use std::test::Fail;
 
-fn options_on(system: u8, bands: u16) -> Option<Options> {
+// The options of a run on these bands of this system, where there is one.
+fn options_on(system: u8, bands: u16) -> Option<Options>
+    ensures system { IfSome result (λ o. IsSystem system) }
+    ensures bands { IfSome result (λ o. IsBandsNumber bands) }
+    ensures galileo { IfSome result (λ o. system ≡ 69 → bands ≡ BANDS_L1_L5) }
+{
     let mut options = Options::defaults();
     match (system, bands) {
         (b'G', 12) => {}
