@@ -9,7 +9,6 @@ use crate::runs::{fix_texts, is_certified};
 use job_answers::Status;
 use run_options::Options;
 use sim_session::make;
-use std::process::Abort;
 use std::test::Fail;
 
 // The options of a run on these bands of this system, where there is one.
