@@ -1,5 +1,9 @@
 // Texts of an independent model.
-use sim_session::make;
+use band_sets::is_bands_number;
+use obs_rows::is_system;
+use sim_session::{Made, make};
+use std::alloc::Global;
+use std::process::Abort;
 use std::test::Fail;
 
 /// How long the header is.
@@ -17,6 +21,20 @@ const ROVER_ON_ALL: &str = "> 2024 01 01 00 00  0.0000000  0  4\n\
     G02  22899323.040   120151118.782    22899323.040    94726217.830    22899323.040    88941276.338\n\
     G03  23011670.475   120767774.535    23011670.475    94457617.794    23011670.475    89641253.802\n\
     G04  22594815.046   118661380.472    22594815.046    93140411.498    22594815.046    89183574.560\n";
+
+// A session of one epoch and four satellites.
+fn made_of(
+    rt: &impl Abort,
+    alloc: Global,
+    seed: u32,
+    bands: u16,
+    system: u8,
+) -> Result<Made, Fail> {
+    assert!(rt; is_bands_number(bands));
+    assert!(rt; is_system(system));
+    assert!(rt; system != b'E' || bands == 15);
+    Ok(make(alloc, seed, 1, 4, bands, system)?)
+}
 
 // The epochs of base and rover of sessions of one epoch and four satellites, with their seeds, bands and systems, number for number.
 #[test]
@@ -86,7 +104,7 @@ fn agrees_with_another_model(rt: HostRuntime) -> Result<(), Fail> {
         ),
     ];
     for (seed, bands, system, base, rover) in sessions {
-        let made = make(rt.alloc(), seed, 1, 4, bands, system)?;
+        let made = made_of(&rt, rt.alloc(), seed, bands, system)?;
         let text = made.base.as_slice();
         assert!(rt; text.len() >= HEADER);
         assert!(rt; &text[HEADER..] == base.as_bytes(), "base of seed {seed}");
@@ -119,7 +137,7 @@ fn tells_the_truth(rt: HostRuntime) -> Result<(), Fail> {
         (15, b'E', on_all),
     ];
     for (bands, system, truth) in cases {
-        let made = make(rt.alloc(), 1, 1, 4, bands, system)?;
+        let made = made_of(&rt, rt.alloc(), 1, bands, system)?;
         assert_eq!(rt; made.offset, [-165_680, 943_607, -659_500]);
         assert_eq!(rt; made.truth.as_slice(), truth.as_slice());
     }
