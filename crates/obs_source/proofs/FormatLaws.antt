@@ -1,5 +1,5 @@
 -- The first line tells the format. A file of either format is what its lines give, and a text has at most one.
-use Rattle.std.proofs.Common.{◌≡◌, inl, inr, ℕ, ℤ, pos, negsuc, ◌&&◌, nat_le, Bool, true, false, List, [], ◌∷◌, ◌++◌, codes, Result, Ok, Err, refl, sym, ap, ◌∙◌, subst, arith, append_assoc, if◌then◌else◌}
+use Rattle.std.proofs.Common.{◌≡◌, inl, inr, ℕ, ℤ, pos, negsuc, ◌&&◌, nat_le, Bool, true, false, List, [], ◌∷◌, ◌++◌, codes, Result, Ok, Err, refl, sym, ap, ◌∙◌, arith, append_assoc, if◌then◌else◌}
 use Rattle.std.proofs.lemmas.Bool.Decides.{nat_tests}
 use Rattle.std.proofs.lemmas.List.{append-nil}
 use Rattle.std.specs.Str.{bytes_eq}
@@ -15,18 +15,16 @@ use Rattle.rinex_head.specs.declared.system.System.TheVariants.{Gps, Galileo}
 use Rattle.rinex_head.specs.Columns.{columns}
 use Rattle.rinex_head.specs.Head.{label_of, version_number, version_in}
 use Rattle.rinex_head.specs.Places.{and_then, flawed}
-use Rattle.rinex_head.specs.FirstFailing.{Begins, IsStuck, IsFirstFailing}
+use Rattle.rinex_head.specs.FirstFailing.{IsStuck, IsFirstFailing}
 use Rattle.rinex_head.proofs.Stops
 use Rattle.obs_feed.specs.FirstLine.{of_version, first_line_of}
 use Rattle.obs_feed.specs.ObsForm.{IsObsFile, HasObsFile}
-use Rattle.obs_feed.specs.ObsForm as form3
 use Rattle.obs_feed.specs.ObsRules.{obs_rules, obs_of}
 use Rattle.obs_feed.proofs.FormLaws as laws3
 use Rattle.obs_feed.proofs.FormTook as took3
 use Rattle.obs_feed.proofs.FormPlaces as places3
 use Rattle.rinex2_obs.specs.FirstLine as line2
 use Rattle.rinex2_obs.specs.Obs2Form.{IsObs2File, HasObs2File}
-use Rattle.rinex2_obs.specs.Obs2Form as form2
 use Rattle.rinex2_obs.specs.Obs2Rules.{obs2_rules, obs2_of}
 use Rattle.rinex2_obs.proofs.FormLaws as laws2
 use Rattle.rinex2_obs.proofs.FormTook as took2

@@ -9,7 +9,6 @@ use Rattle.rinex_head.specs.declared.system.System.{System}
 use Rattle.rinex_head.specs.declared.system.System.TheVariants.{Gps}
 use Rattle.rinex_head.specs.FirstFailing.{IsFirstFailing}
 use Rattle.rinex_head.specs.Walk.{Gives, OnRefusal, IfRefused}
-use Rattle.obs_feed.specs.declared.feed.Feed.{Feed}
 use Rattle.obs_feed.specs.Fed.{StandsFor}
 use Rattle.obs_feed.specs.ObsRules.{obs_of}
 use Rattle.obs_feed.specs.Started.{GoesOn}

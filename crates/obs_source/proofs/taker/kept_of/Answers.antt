@@ -1,4 +1,4 @@
-use Rattle.std.proofs.Common.{◌≡◌, ◌++◌, ◌∙◌, sym, ap, length, length-append}
+use Rattle.std.proofs.Common.{◌∙◌, sym, ap, length, length-append}
 use Rattle.obs_source.proofs.TakerLaws.{two_parts}
 use Rattle.obs_source.proofs.taker.kept_of.Goals as goal
 
