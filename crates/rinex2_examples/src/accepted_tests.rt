@@ -1,5 +1,5 @@
 // Files that are read, and what they give.
-use crate::session::{
+use crate::sample::{
     END, EPOCH, FILE, FIRST, LATER, SAT_5, SAT_5_REST, SAT_12, TEN_TYPES, read, read_changed,
     text_of,
 };
@@ -9,102 +9,102 @@ use rinex_head::{At, What};
 use std::process::Abort;
 use std::test::Fail;
 
-// Lines in the place of those from one on, up to that before another; then the number of epochs, the tag of the first
+// Lines behind so many of the sample's, before those behind so many; then the number of epochs, the tag of the first
 // one and how many satellites it has.
 type Row = (usize, &'static [&'static str], usize, usize, u64, usize);
 
 const ODDITIES: [Row; 17] = [
     (
-        1,
+        0,
         &["     2.11           OBSERVATION DATA      (GPS)             RINEX VERSION / TYPE"],
-        2,
+        1,
         2,
         13881024300000000,
         2,
     ),
     (
-        1,
+        0,
         &["2.11                OBSERVATION DATA    G (GPS)             RINEX VERSION / TYPE"],
-        2,
-        2,
-        13881024300000000,
-        2,
-    ),
-    (
         1,
+        2,
+        13881024300000000,
+        2,
+    ),
+    (
+        0,
         &["     2.1            OBSERVATION DATA    G (GPS)             RINEX VERSION / TYPE"],
-        2,
+        1,
         2,
         13881024300000000,
         2,
     ),
     (
-        4,
+        3,
         &["     0                                                      WAVELENGTH FACT L1/2"],
-        5,
+        4,
+        2,
+        13881024300000000,
+        2,
+    ),
+    (
+        3,
+        &["G    4 C1C L1C C2W L2W                                      SYS / # / OBS TYPES"],
+        4,
         2,
         13881024300000000,
         2,
     ),
     (
         4,
-        &["G    4 C1C L1C C2W L2W                                      SYS / # / OBS TYPES"],
-        5,
-        2,
-        13881024300000000,
-        2,
-    ),
-    (
-        5,
         &[
             TEN_TYPES,
             "x                                                           COMMENT",
             "          P1                                                # / TYPES OF OBSERV",
         ],
-        6,
-        2,
-        13881024300000000,
-        2,
-    ),
-    (
         5,
-        &["     7    P1    C2    D1    D2    S1    S2    T1            # / TYPES OF OBSERV"],
-        6,
         2,
         13881024300000000,
         2,
     ),
     (
-        8,
+        4,
+        &["     7    P1    C2    D1    D2    S1    S2    T1            # / TYPES OF OBSERV"],
+        5,
+        2,
+        13881024300000000,
+        2,
+    ),
+    (
+        7,
         &[
             " 24  1  1  0  0 30.0000000  4  1",
             "G    4 C1C L1C C2W L2W                                      SYS / # / OBS TYPES",
             EPOCH,
         ],
-        9,
+        8,
         2,
         13881024300000000,
         2,
     ),
-    (8, &[" 80  1  6  0  0  0.0000000  0  0"], 13, 2, 0, 0),
+    (7, &[" 80  1  6  0  0  0.0000000  0  0"], 12, 2, 0, 0),
     (
-        8,
+        7,
         &[" 79  1  6  0  0  0.0000000  0  0"],
-        14,
+        13,
         1,
         31242240000000000,
         0,
     ),
     (
-        8,
+        7,
         &[" 24  1  1  0  0 30.0000000  1   "],
-        13,
+        12,
         2,
         13881024300000000,
         0,
     ),
     (
-        8,
+        7,
         &[
             " 24  1  1  0  0 30.0000000  0  4R99E36G05S29",
             "garbage",
@@ -116,22 +116,22 @@ const ODDITIES: [Row; 17] = [
             "",
             "y",
         ],
-        13,
+        12,
         2,
         13881024300000000,
         1,
     ),
-    (10, &[""], 11, 2, 13881024300000000, 2),
+    (9, &[""], 10, 2, 13881024300000000, 2),
     (
-        9,
+        8,
         &["        0.0000x  116260123.45617  90592303.99946  22123459.123  "],
-        10,
+        9,
         2,
         13881024300000000,
         2,
     ),
     (
-        8,
+        7,
         &[
             " 24  1  1  0  0 30.0000000  6 13?!x?!x?!x?!x?!x?!x?!x?!x?!x?!x?!x?!x",
             "                                ?!x",
@@ -163,23 +163,23 @@ const ODDITIES: [Row; 17] = [
             "x",
             EPOCH,
         ],
-        9,
+        8,
         2,
         13881024300000000,
         2,
     ),
     (
-        9,
+        8,
         &[
             "  22123456.789   116260123.45617  90592303.99946  22123459.123  \r",
             "        45.250         38.500  \r",
         ],
-        11,
+        10,
         2,
         13881024300000000,
         2,
     ),
-    (13, &["", "   ", LATER], 14, 2, 13881024300000000, 2),
+    (12, &["", "   ", LATER], 13, 2, 13881024300000000, 2),
 ];
 
 fn taken(rt: &impl Abort, found: Result<ObsFile, At>) -> ObsFile {
@@ -191,23 +191,23 @@ fn taken(rt: &impl Abort, found: Result<ObsFile, At>) -> ObsFile {
 
 #[test]
 fn takes_oddities(rt: HostRuntime) -> Result<(), Fail> {
-    for (from, lines, to, epochs, tag, sats) in ODDITIES {
-        let file = taken(&rt, read_changed(&rt, rt.alloc(), from, lines, to)?);
-        assert_eq!(rt; file.epochs.len(), epochs, "at {from}");
+    for (before, lines, behind, epochs, tag, sats) in ODDITIES {
+        let file = taken(&rt, read_changed(&rt, rt.alloc(), before, lines, behind)?);
+        assert_eq!(rt; file.epochs.len(), epochs, "behind line {before}");
         assert!(rt; file.epochs.len() > 0);
         let first = &file.epochs.as_slice()[0];
-        assert_eq!(rt; first.tag, Tick(tag), "at {from}");
-        assert_eq!(rt; first.sats.len(), sats, "at {from}");
+        assert_eq!(rt; first.tag, Tick(tag), "behind line {before}");
+        assert_eq!(rt; first.sats.len(), sats, "behind line {before}");
     }
     Ok(())
 }
 
 #[test]
 fn reads_two_lines_for_each_satellite(rt: HostRuntime) -> Result<(), Fail> {
-    let text = text_of(rt.alloc(), &FILE)?;
-    assert!(rt; text.len() > 0);
+    let mut text = text_of(rt.alloc(), &FILE[..12])?;
     // the last line needs no line feed
-    let file = taken(&rt, read(&rt, rt.alloc(), &text[..text.len() - 1]));
+    text.push_str(LATER)?;
+    let file = taken(&rt, read(&rt, rt.alloc(), &text));
     assert_eq!(rt; file.hundredths, 211);
     assert_eq!(rt; file.position, Some([63_781_370_000, 0, 0]));
     assert_eq!(rt; file.delta, [15_000, 0, 0]);
@@ -250,7 +250,8 @@ fn reads_two_lines_for_each_satellite(rt: HostRuntime) -> Result<(), Fail> {
     ];
     for (kind, want) in cases {
         assert_eq!(rt; sat.values[kind.slot()], want);
-        assert_eq!(rt; file.listed[kind.slot()], want.is_some());
+        let listed = file.listed[kind.slot()];
+        assert_eq!(rt; listed, want.is_some());
     }
     assert_eq!(rt; epoch.sats.at(1).number, 12);
     Ok(())

@@ -6,4 +6,4 @@ mod accepted_tests;
 #[cfg(test)]
 mod refused_tests;
 #[cfg(test)]
-mod session;
+mod sample;

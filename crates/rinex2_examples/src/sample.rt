@@ -84,22 +84,22 @@ pub fn read(rt: &impl Abort, alloc: Global, text: &str) -> Result<ObsFile, At> {
     }
 }
 
-/// What the file gives with these lines in the place of those from one on, up to that before another, counted from 1.
+/// What the sample gives with these lines behind so many of its own, before those behind so many.
 pub fn read_changed(
     rt: &impl Abort,
     alloc: Global,
-    from: usize,
+    before: usize,
     lines: &[&str],
-    to: usize,
+    behind: usize,
 ) -> Result<Result<ObsFile, At>, AllocError> {
     let mut text = String::new(alloc);
-    for line in FILE.iter().take(from - 1) {
+    for line in FILE.iter().take(before) {
         push_line(&mut text, line)?;
     }
     for line in lines {
         push_line(&mut text, line)?;
     }
-    for line in FILE.iter().skip(to - 1) {
+    for line in FILE.iter().skip(behind) {
         push_line(&mut text, line)?;
     }
     Ok(read(rt, alloc, &text))
