@@ -1,5 +1,5 @@
 -- What a number is lifted to: its range, and that its box holds 23/32 of all that the old one held.
-use Rattle.std.proofs.Common.{◌≡◌, ◌<◌, ◌≤◌, ◌^◌, List, [], ◌∷◌, All, ℤ, pos, ◌+ℤ◌, ◌-ℤ◌, ◌*ℤ◌, ◌≤ℤ◌, ◌<ℤ◌, unsigned_abs, to_z, of_z, arith, refl, sym, subst, lit<}
+use Rattle.std.proofs.Common.{◌≡◌, ◌<◌, ◌≤◌, ◌^◌, [], ◌∷◌, All, ℤ, pos, ◌+ℤ◌, ◌-ℤ◌, ◌*ℤ◌, ◌≤ℤ◌, ◌<ℤ◌, unsigned_abs, to_z, of_z, arith, refl, sym, subst, lit<}
 use Rattle.std.specs.Int.{w64}
 use Rattle.std.proofs.lemmas.List.Elements.{All-from_recursion}
 use Rattle.std.proofs.lemmas.Int.{ints}
@@ -65,3 +65,6 @@ radius_kept x h = subst IsRadius (sym (radius_word x h.0 h.1)) h
 
 pub group_below : (g : ℤ) → unsigned_abs g < 2 ^ 50 → unsigned_abs (to_z w64 (of_z w64 (pos 23 *ℤ to_z w64 (of_z w64 g)))) < 2 ^ 55
 group_below g h = omega (arith, ints)
+
+pub group_kept : (g : ℤ) → unsigned_abs g < 2 ^ 50 → unsigned_abs (to_z w64 (of_z w64 g)) < 2 ^ 50
+group_kept g h = omega (arith, ints)

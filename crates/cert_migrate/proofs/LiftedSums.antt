@@ -41,7 +41,7 @@ row_scaled arcs z b c s o r q same h i =
     let n : ℤ = old_integer arcs z o.arc s in
     let there : integer (map lifted_arc arcs) old_signals z r.arc s ≡ n = ap (λ (k : ℕ). integer (map lifted_arc arcs) old_signals z k s) i.arc ∙ same.integer_is o.arc in
     let cycles : of_whole (cycle s *ℤ integer (map lifted_arc arcs) old_signals z r.arc s) ≈ mul_r unit_ratio (of_whole (old_cycle s *ℤ n)) =
-      subst (λ (m : ℤ). of_whole (cycle s *ℤ m) ≈ mul_r unit_ratio (of_whole (old_cycle s *ℤ n))) (sym there) (cycles_scaled (cycle s) (old_cycle s) n same.cycle_is) in
+    subst (λ (m : ℤ). of_whole (cycle s *ℤ m) ≈ mul_r unit_ratio (of_whole (old_cycle s *ℤ n))) (sym there) (cycles_scaled (cycle s) (old_cycle s) n same.cycle_is) in
     residual_scaled unit_ratio b c (q.y s) q.u1 q.u2 q.u3 (old_cycle s *ℤ n) (cycle s *ℤ integer (map lifted_arc arcs) old_signals z r.arc s) h cycles
 
 rows_scaled : (arcs : List OldArc) (z : List ℤ) (b c : Baseline) (s : ℕ) (os : List OldRow) (rs : List Row) (qs : List OldObserved) → IsSameSignal arcs z s → AreScaledBaselines unit_ratio b c
@@ -74,12 +74,19 @@ terms_scaled arcs z b c (o ∷ os) (p ∷ ps) (qs ∷ rest) h i =
     let s0 : IsSameSignal arcs z 0 = record { cycle_is = refl; weight_is = refl; integer_is = first_integer arcs z } in
     let s1 : IsSameSignal arcs z 1 = record { cycle_is = refl; weight_is = refl; integer_is = second_integer arcs z } in
     let s2 : IsSameSignal arcs z 2 = record { cycle_is = refl; weight_is = refl; integer_is = first_code arcs z } in
-    let s3 : IsSameSignal arcs z 3 = record { cycle_is = refl; weight_is = refl; integer_is = second_code arcs z } in
-    (signal_scaled arcs z b c o p qs 0 s0 h i.0,
-      (signal_scaled arcs z b c o p qs 1 s1 h i.0,
-        (signal_scaled arcs z b c o p qs 2 s2 h i.0,
-          (signal_scaled arcs z b c o p qs 3 s3 h i.0,
-            terms_scaled arcs z b c os ps rest h i.1))))
+    let s3 : IsSameSignal arcs z 3 = record { cycle_is = refl; weight_is = refl; integer_is = second_code arcs z } in (
+      signal_scaled arcs z b c o p qs 0 s0 h i.0,
+      (
+        signal_scaled arcs z b c o p qs 1 s1 h i.0,
+        (
+          signal_scaled arcs z b c o p qs 2 s2 h i.0,
+          (
+            signal_scaled arcs z b c o p qs 3 s3 h i.0,
+            terms_scaled arcs z b c os ps rest h i.1,
+          ),
+        ),
+      ),
+    )
 
 -- for each two baselines of which the second is 23/32 of the first
 pub sum_lifted : (old : OldSession) (s : Session) (z : List ℤ) (b c : Baseline) (observed : List (List OldObserved)) → IsLiftedSession old s → AreScaledBaselines unit_ratio b c
@@ -87,8 +94,8 @@ pub sum_lifted : (old : OldSession) (s : Session) (z : List ℤ) (b c : Baseline
 sum_lifted old s z b c observed i h =
     subst (λ (ss : List ℕ). sum_of_squares s.arcs ss s.pairs z c (scaled observed) ≈ mul_r (mul_r unit_ratio unit_ratio) (old_sum old.arcs old.pairs z b observed)) (sym (signals_are s.signals i.l5))
     (subst (λ (arcs : List Arc). sum_of_squares arcs old_signals s.pairs z c (scaled observed) ≈ mul_r (mul_r unit_ratio unit_ratio) (old_sum old.arcs old.pairs z b observed)) (sym i.arcs)
-      (sum_scaled (mul_r unit_ratio unit_ratio) (old_terms old.arcs z b old.pairs observed) (terms (map lifted_arc old.arcs) old_signals z c s.pairs (scaled observed))
-        (terms_scaled old.arcs z b c old.pairs s.pairs observed h i.pairs)))
+    (sum_scaled (mul_r unit_ratio unit_ratio) (old_terms old.arcs z b old.pairs observed) (terms (map lifted_arc old.arcs) old_signals z c s.pairs (scaled observed))
+    (terms_scaled old.arcs z b c old.pairs s.pairs observed h i.pairs)))
 
 pub baseline_scaled : (b : Baseline) → AreScaledBaselines unit_ratio b (scaled_baseline b)
 baseline_scaled b = record { b1 = refl; b2 = refl; b3 = refl }

@@ -1,5 +1,3 @@
-use Rattle.std.proofs.Common.{◌^◌, ℤ}
-use Rattle.obs_rows.specs.Ranges.{IsWithin, IsRadius}
 use Rattle.cert_migrate.proofs.LiftedNumbers.{six_within, radius_kept}
 use Rattle.cert_migrate.proofs.lifted_rows.lifted_row.Goals as goal
 
