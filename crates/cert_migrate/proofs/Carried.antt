@@ -1,5 +1,6 @@
 -- Each certificate of version 1 as one of the present types, with the same numbers.
-use Rattle.std.proofs.Common.{◌≡◌, ℕ, zero, suc, ◌+◌, ◌*◌, ◌<◌, ◌≤◌, ◌^◌, ◌==◌, ◌||◌, ◌&&◌, not, Bool, true, false, IsTrue, List, [], ◌∷◌, ◌++◌, length, map, take, get_or, All, ℤ, pos, unsigned_abs, arith, rules, refl, sym, ap, ◌∙◌, subst}
+use Rattle.std.proofs.Common.{◌≡◌, ℕ, zero, suc, ◌+◌, ◌*◌, ◌<◌, ◌≤◌, ◌^◌, ◌==◌, ◌||◌, ◌&&◌, not, Bool, true, false, IsTrue, List}
+use Rattle.std.proofs.Common.{[], ◌∷◌, ◌++◌, length, map, take, get_or, All, ℤ, pos, unsigned_abs, arith, rules, refl, sym, ap, ◌∙◌, subst}
 use Rattle.std.specs.List.{AllPairs}
 use Rattle.std.specs.Prelude.{replicate}
 use Rattle.std.proofs.lemmas.List.{length-map, length-append}
@@ -78,7 +79,8 @@ row_carried o w = record { arc = refl; y = four_are o.y w.y; ry = refl; u = refl
 -- ---- pairs
 pub rising : (os : List OldRow) → AllPairs (λ r s. r.arc < s.arc) os → AllPairs (λ (r s : Row). r.arc < s.arc) (map carried_row os)
 rising os h =
-    zip_all_pairs (λ (o : OldRow) (r : Row). r.arc ≡ o.arc) (λ r s. r.arc < s.arc) (λ r s. r.arc < s.arc) (λ o o' r r' e f less. subst (λ (n : ℕ). n < r'.arc) (sym e) (subst (λ (n : ℕ). o.arc < n) (sym f) less))
+    zip_all_pairs (λ (o : OldRow) (r : Row). r.arc ≡ o.arc) (λ r s. r.arc < s.arc) (λ r s. r.arc < s.arc)
+    (λ o o' r r' e f less. subst (λ (n : ℕ). n < r'.arc) (sym e) (subst (λ (n : ℕ). o.arc < n) (sym f) less))
     os (map carried_row os) (zip_map (λ (o : OldRow) (r : Row). r.arc ≡ o.arc) carried_row (λ o. refl) os) h
 
 pub wider : (g : ℤ) → unsigned_abs g < 2 ^ 50 → unsigned_abs g < 2 ^ 55
@@ -210,7 +212,8 @@ tail_carried (Spent budget) w = refl
 entries_small : (xs : List ℤ) → IsSmall xs → IsSmall (carried_entries xs)
 entries_small xs h = λ i. subst (λ (x : ℤ). unsigned_abs x < 2 ^ 30) (sym (padded_at xs 20 i)) (h i)
 
-vectors_fit : (arcs : List OldArc) (h : ℕ) (moved : List ℤ) (best : OldBest) (top : ℤ) → AreOldVectors arcs h moved best top → AreVectors old_signals (map lifted_arc arcs) h moved (carried_best best) top
+vectors_fit : (arcs : List OldArc) (h : ℕ) (moved : List ℤ) (best : OldBest) (top : ℤ) → AreOldVectors arcs h moved best top
+    → AreVectors old_signals (map lifted_arc arcs) h moved (carried_best best) top
 vectors_fit arcs h moved best top v = record {
   moved_in = v.moved_in;
   values = record {

@@ -46,7 +46,8 @@ best_lifted old s z m i best = record {
       let ss = counted_are s i.scale in
       let new : sum_of_squares s.arcs (fine_signals s.signals) s.pairs z (moved m) (scaled observed) <ʳ sum_of_squares s.arcs (fine_signals s.signals) s.pairs w (scaled_baseline b) (scaled observed) =
       subst (λ (ss : List ℕ). sum_of_squares s.arcs ss s.pairs z (moved m) (scaled observed) <ʳ sum_of_squares s.arcs ss s.pairs w (scaled_baseline b) (scaled observed)) ss
-      (best.best (scaled observed) (subst (λ (ss : List ℕ). AreData ss s.pairs (scaled observed)) (sym ss) (data_scaled old s i observed held)) w (entries ∙ sym (integers_are old s i)) other (scaled_baseline b)) in
+      (best.best (scaled observed) (subst (λ (ss : List ℕ). AreData ss s.pairs (scaled observed)) (sym ss) (data_scaled old s i observed held)) w (entries ∙ sym (integers_are old s i)) other
+      (scaled_baseline b)) in
       less_back (mul_r unit_ratio unit_ratio) (old_sum old.arcs old.pairs z (in_old_unit m) observed) (old_sum old.arcs old.pairs w b observed)
       (sum_of_squares s.arcs (fine_signals s.signals) s.pairs z (moved m) (scaled observed)) (sum_of_squares s.arcs (fine_signals s.signals) s.pairs w (scaled_baseline b) (scaled observed))
       (pos_nn 529) (sum_lifted old s z (in_old_unit m) (moved m) observed i (move_scaled m)) (sum_lifted old s w b (scaled_baseline b) observed i (baseline_scaled b)) new;

@@ -24,7 +24,8 @@ near_lifted y ry q h =
     tall : (p c : ℤ) → (pos 2 *ℤ (p *ℤ pos 32)) ≤ℤ ((pos 2 *ℤ (pos 23 *ℤ y)) +ℤ pos 32) → (pos 23 *ℤ ry) ≤ℤ (c *ℤ pos 32) → (pos 32 *ℤ (p -ℤ (c +ℤ pos 1))) ≤ℤ (pos 23 *ℤ (y -ℤ ry))
     tall p c a b = omega (arith, ints)
 
-    wide : (p c : ℤ) → ((pos 2 *ℤ (pos 23 *ℤ y)) +ℤ pos 32) <ℤ ((pos 2 *ℤ (p *ℤ pos 32)) +ℤ (pos 2 *ℤ pos 32)) → (pos 23 *ℤ ry) ≤ℤ (c *ℤ pos 32) → (pos 23 *ℤ (y +ℤ ry)) ≤ℤ (pos 32 *ℤ (p +ℤ (c +ℤ pos 1)))
+    wide : (p c : ℤ) → ((pos 2 *ℤ (pos 23 *ℤ y)) +ℤ pos 32) <ℤ ((pos 2 *ℤ (p *ℤ pos 32)) +ℤ (pos 2 *ℤ pos 32)) → (pos 23 *ℤ ry) ≤ℤ (c *ℤ pos 32)
+        → (pos 23 *ℤ (y +ℤ ry)) ≤ℤ (pos 32 *ℤ (p +ℤ (c +ℤ pos 1)))
     wide p c a b = omega (arith, ints)
 
     -- (l / 1) against (23 n) / (32 d)

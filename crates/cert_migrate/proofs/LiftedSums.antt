@@ -55,7 +55,8 @@ rows_scaled arcs z b c s (o ∷ os) (r ∷ rs) (q ∷ qs) same h i = (row_scaled
 shares_same : (m n s : ℕ) → m ≡ n → weight s ≡ old_weight s → share m s ≡ old_share n s
 shares_same m n s e f = ap₂ (λ (k : ℕ) (w : ℤ). pos (360360 / k) *ℤ w) e f
 
-signal_scaled : (arcs : List OldArc) (z : List ℤ) (b c : Baseline) (o : OldPair) (p : PairRows) (qs : List OldObserved) (s : ℕ) → IsSameSignal arcs z s → AreScaledBaselines unit_ratio b c → IsLiftedPair o p
+signal_scaled : (arcs : List OldArc) (z : List ℤ) (b c : Baseline) (o : OldPair) (p : PairRows) (qs : List OldObserved) (s : ℕ) → IsSameSignal arcs z s
+    → AreScaledBaselines unit_ratio b c → IsLiftedPair o p
     → term (map lifted_arc arcs) old_signals z c p (map scaled_row qs) s ≈ mul_r (mul_r unit_ratio unit_ratio) (old_term arcs z b o qs s)
 signal_scaled arcs z b c o p qs s same h i =
     let new : List Rational = residuals (map lifted_arc arcs) old_signals z c s p.rows (map scaled_row qs) in
@@ -64,7 +65,8 @@ signal_scaled arcs z b c o p qs s same h i =
     (sym (shares_same (length p.rows) (length o.rows) s (AllZip-long IsLiftedRow o.rows p.rows i.rows) same.weight_is))
     (term_scaled unit_ratio (old_share (length o.rows) s) old new (rows_scaled arcs z b c s o.rows p.rows qs same h i.rows))
 
-terms_scaled : (arcs : List OldArc) (z : List ℤ) (b c : Baseline) (os : List OldPair) (ps : List PairRows) (observed : List (List OldObserved)) → AreScaledBaselines unit_ratio b c → AllZip IsLiftedPair os ps
+terms_scaled : (arcs : List OldArc) (z : List ℤ) (b c : Baseline) (os : List OldPair) (ps : List PairRows) (observed : List (List OldObserved)) → AreScaledBaselines unit_ratio b c
+    → AllZip IsLiftedPair os ps
     → AreScaled (mul_r unit_ratio unit_ratio) (old_terms arcs z b os observed) (terms (map lifted_arc arcs) old_signals z c ps (scaled observed))
 terms_scaled arcs z b c [] [] observed h i = tt
 terms_scaled arcs z b c [] (p ∷ ps) observed h i = absurd i

@@ -44,7 +44,8 @@ zip_all_pairs R P Q f [] (y ∷ ys) h p = absurd h
 zip_all_pairs R P Q f (x ∷ xs) [] h p = absurd h
 zip_all_pairs R P Q f (x ∷ xs) (y ∷ ys) h p = λ i j e l m.
     let inside : j < length (x ∷ xs) = subst (λ (n : ℕ). j < n) (AllZip-long R (x ∷ xs) (y ∷ ys) h) m in
-    f (get_or (x ∷ xs) i x) (get_or (x ∷ xs) j x) (get_or (y ∷ ys) i e) (get_or (y ∷ ys) j e) (zip_at R (x ∷ xs) (y ∷ ys) i x e h (omega arith)) (zip_at R (x ∷ xs) (y ∷ ys) j x e h inside) (p i j x l inside)
+    f (get_or (x ∷ xs) i x) (get_or (x ∷ xs) j x) (get_or (y ∷ ys) i e) (get_or (y ∷ ys) j e) (zip_at R (x ∷ xs) (y ∷ ys) i x e h (omega arith)) (zip_at R (x ∷ xs) (y ∷ ys) j x e h inside)
+    (p i j x l inside)
 
 pub all_map : {A B : Type 0} (g : A → B) (P : A → Type 0) (Q : B → Type 0) → ((x : A) → P x → Q (g x)) → (xs : List A) → All P xs → All Q (map g xs)
 all_map g P Q f [] p = All-nil Q

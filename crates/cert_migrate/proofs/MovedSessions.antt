@@ -1,5 +1,6 @@
 -- What is moved out of a session in the form of version 1 keeps the ranges of that version.
-use Rattle.std.proofs.Common.{◌≡◌, ℕ, ◌+◌, ◌*◌, ◌<◌, ◌≤◌, ◌^◌, ◌==◌, ◌||◌, ◌&&◌, not, cond, Bool, true, false, IsTrue, Option, Some, None, List, [], ◌∷◌, length, map, All, ℤ, pos, arith, refl, sym, ap, ◌∙◌, subst}
+use Rattle.std.proofs.Common.{◌≡◌, ℕ, ◌+◌, ◌*◌, ◌<◌, ◌≤◌, ◌^◌, ◌==◌, ◌||◌, ◌&&◌, not, cond, Bool, true, false, IsTrue}
+use Rattle.std.proofs.Common.{Option, Some, None, List, [], ◌∷◌, length, map, All, ℤ, pos, arith, refl, sym, ap, ◌∙◌, subst}
 use Rattle.std.specs.Prelude.{slice_get}
 use Rattle.std.specs.List.{AllZip, AllPairs}
 use Rattle.std.specs.Option.{option_map}
@@ -135,7 +136,8 @@ fits_four c e = subst (λ (ss : List ℕ). IsTailOf ss c.session.arcs c.budget c
 pub few_entries : (c : Cert) → c.session.signals.l5 ≡ 0 → HasFewEntries c.tail
 few_entries c e = few_in c.session.arcs c.budget c.tail c.session.arcs_in (fits_four c e)
 
-vectors_moved : (arcs : List Arc) (h : ℕ) (moved : List ℤ) (best : TwoBest) (old : OldBest) (top : ℤ) → IsBestOf best old → AreVectors old_signals arcs h moved best top → AreOldVectors (map old_arc arcs) h moved old top
+vectors_moved : (arcs : List Arc) (h : ℕ) (moved : List ℤ) (best : TwoBest) (old : OldBest) (top : ℤ) → IsBestOf best old → AreVectors old_signals arcs h moved best top
+    → AreOldVectors (map old_arc arcs) h moved old top
 vectors_moved arcs h moved best old top b v = record {
   moved_in = v.moved_in;
   h_to = v.values.h_to;

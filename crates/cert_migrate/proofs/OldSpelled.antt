@@ -99,7 +99,8 @@ lines_same c o h l5 few =
     let arc_count : length o.session.arcs ≡ length s.arcs = ap length k.arcs ∙ length-map s.arcs old_arc in
     let arcs : map old_arc_line o.session.arcs ≡ arc_lines (fine_signals s.signals) s.arcs = ap (map old_arc_line) k.arcs ∙ arcs_spelled s.arcs ∙ ap (λ (l : List ℕ). arc_lines l s.arcs) ss in
     let pair_count : length o.session.pairs ≡ length s.pairs = AllZip-long IsPairOf s.pairs o.session.pairs k.pairs in
-    let pairs : flat_map old_pair_lines o.session.pairs ≡ all_pair_lines (fine_signals s.signals) s.pairs = pairs_spelled s.pairs o.session.pairs k.pairs ∙ ap (λ (l : List ℕ). all_pair_lines l s.pairs) ss in
+    let pairs : flat_map old_pair_lines o.session.pairs ≡ all_pair_lines (fine_signals s.signals) s.pairs = pairs_spelled s.pairs o.session.pairs k.pairs ∙ ap
+    (λ (l : List ℕ). all_pair_lines l s.pairs) ss in
     let tail = tail_spelled c.tail o.tail h.tail few in
     λ i. lines_by (h.ratio i) (h.budget i) (k.base i) (k.point i) (k.l1 i) (k.l2 i) (arc_count i) (arcs i) (pair_count i) (pairs i) (tail i)
 

@@ -20,7 +20,8 @@ invariant_of-result c =
     let old : OldSession = c.args.old.now in
     let arcs : c.new.result ≡ map lifted_arc old.arcs = c.new.ensures ∙ c.in_ok-arcs.ensures ∙ ap (λ (l : List OldArc). map lifted_arc l) c.as_slice.ensures in
     let zip : AllZip IsLiftedPair old.pairs c.new-2.result =
-    subst (λ (ps : List PairRows). AllZip IsLiftedPair old.pairs ps) (sym c.new-2.ensures) (subst (λ (os : List OldPair). AllZip IsLiftedPair os c.in_ok-pairs.pairs.items) c.as_slice-2.ensures c.in_ok-pairs.ensures) in
+    subst (λ (ps : List PairRows). AllZip IsLiftedPair old.pairs ps) (sym c.new-2.ensures)
+    (subst (λ (os : List OldPair). AllZip IsLiftedPair os c.in_ok-pairs.pairs.items) c.as_slice-2.ensures c.in_ok-pairs.ensures) in
     record {
       scale_is = search rules;
       system_is = search rules;

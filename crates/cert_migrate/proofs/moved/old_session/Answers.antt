@@ -25,7 +25,8 @@ invariant_of-result c =
     let s : Session = c.args.cert.now.session in
     let arcs : c.new.result ≡ map old_arc s.arcs = c.new.ensures ∙ c.in_ok-arcs.ensures ∙ ap (λ (l : List Arc). map old_arc l) c.as_slice.ensures in
     let zip : AllZip IsPairOf s.pairs c.new-2.result =
-    subst (λ (os : List OldPair). AllZip IsPairOf s.pairs os) (sym c.new-2.ensures) (subst (λ (ps : List PairRows). AllZip IsPairOf ps c.in_ok-pairs.pairs.items) c.as_slice-2.ensures c.in_ok-pairs.ensures) in
+    subst (λ (os : List OldPair). AllZip IsPairOf s.pairs os) (sym c.new-2.ensures)
+    (subst (λ (ps : List PairRows). AllZip IsPairOf ps c.in_ok-pairs.pairs.items) c.as_slice-2.ensures c.in_ok-pairs.ensures) in
     record {
       fine = refl;
       base_in = s.base_in;
