@@ -17,12 +17,12 @@
 //! `orbit`: with status 0 the text stands for a navigation file of the satellite's system, and the printed numbers hold
 //! every solution of the satellite's equations, with that system's constants, for the record that is chosen at the tick;
 //! with status 1 none is chosen. `sim`, `check`, `residuals`, `arcs`: the same for these, as told above; the files of
-//! `sim` and `arcs` are never declined. `migrate`: with status 0 or 1 the text spells a certificate of version 1, and out
-//! has gained the spelling of the lifted one, which is fixed exactly with status 0, and is then strictly best in the old
-//! boxes. `fix`: with status 0 out has gained a certificate whose integers with their move
+//! `sim` and `arcs` are never declined. `fix`: with status 0 out has gained a certificate whose integers with their move
 //! are strictly best for all rational data in the printed boxes, and whose session stands for the files on the bands
 //! and with the constants of the system of the options; with status 1 the text of an outcome of the files that is no
-//! fix, with its cause (`SaysOfFix`). `sim_run`: with status 0 the simulated texts stand for a session whose outcome is
+//! fix, with its cause (`SaysOfFix`). `migrate`: the text spells a certificate of version 1, and out has gained the
+//! spelling of a lifted one, of which the whole law holds (`SaysOfMigrate`); with status 0 exactly where its tail is
+//! fixed, which is then strictly best in the old boxes. `sim_run`: with status 0 the simulated texts stand for a session whose outcome is
 //! a fix, with status 1 for one whose outcome is none, and out has gained the four lines, with `match yes` exactly where
 //! it is a fix with the integers of the truth. `usage`, `read`, `sure`, `write`: statuses 2, 4 and 5 come only with
 //! their cause, and 4 never for sure names. `untouched`: words that ask for no job, or for one without files, leave all
@@ -41,6 +41,8 @@ mod fix_tests;
 mod forged_tests;
 #[cfg(test)]
 mod malformed_tests;
+#[cfg(test)]
+mod migrate_tests;
 #[cfg(test)]
 mod sim_run_tests;
 #[cfg(test)]

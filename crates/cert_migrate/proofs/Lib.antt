@@ -7,3 +7,8 @@ pub mod LiftedSums
 pub mod LiftedSessions
 pub mod LiftedBest
 pub mod MovedLists
+pub mod Carried
+pub mod OldSpelled
+pub mod OldSame
+pub mod MovedSessions
+pub mod ReadLaws

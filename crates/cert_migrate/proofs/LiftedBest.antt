@@ -1,9 +1,8 @@
 -- What is strictly best in a lifted session is strictly best in the old one.
-use Rattle.std.proofs.Common.{◌≡◌, ℕ, ◌*◌, ◌^◌, if◌then◌else◌, ◌==◌, List, [], ◌∷◌, length, ℤ, pos, ◌*ℤ◌, refl, sym, ap, ap₂, ◌∙◌, subst, arith}
+use Rattle.std.proofs.Common.{◌≡◌, ℕ, ◌*◌, ◌^◌, if◌then◌else◌, ◌==◌, List, [], ◌∷◌, ℤ, pos, ◌*ℤ◌, refl, sym, ap, ap₂, ◌∙◌, subst}
 use Rattle.whole_math.proofs.Ring.{◌⊗◌}
 use Rattle.whole_math.proofs.Inequalities.{same_by, nat, pos_nn}
 use Rattle.rational.specs.Rational.{◌<ʳ◌, mul_r}
-use Rattle.quadratic_form.specs.RationalData.{Baseline}
 use Rattle.obs_rows.specs.declared.arcs.Arc.{Arc}
 use Rattle.obs_rows.specs.declared.sessions.Session.{Session}
 use Rattle.obs_rows.specs.declared.units.TheConstants.{COARSE_SIGNALS}
@@ -18,7 +17,7 @@ use Rattle.cert_data.specs.declared.tails.Tail.TheVariants.{Fixed, Unseparated, 
 use Rattle.settled_decision.specs.Decided.{IsBestWhereFixed}
 use Rattle.cert_migrate.specs.declared.old_sessions.OldSession.{OldSession}
 use Rattle.cert_migrate.specs.OldTails.{old_integer_count}
-use Rattle.cert_migrate.specs.OldSums.{at, old_signals, old_sum, IsOldBest}
+use Rattle.cert_migrate.specs.OldSums.{at, old_sum, IsOldBest}
 use Rattle.cert_migrate.specs.Lifted.{IsLiftedSession, unit_ratio, scaled, scaled_baseline, in_old_unit, IsOldBestWhereFixed}
 use Rattle.cert_migrate.proofs.Scaling.{AreScaledBaselines, less_back}
 use Rattle.cert_migrate.proofs.LiftedArcs.{count_same}
@@ -44,13 +43,14 @@ best_lifted : (old : OldSession) (s : Session) (z m : List ℤ) → IsLiftedSess
 best_lifted old s z m i best = record {
   entries = best.entries ∙ integers_are old s i;
   best = λ observed held w entries other b.
-    let ss = counted_are s i.scale in
-    let new : sum_of_squares s.arcs (fine_signals s.signals) s.pairs z (moved m) (scaled observed) <ʳ sum_of_squares s.arcs (fine_signals s.signals) s.pairs w (scaled_baseline b) (scaled observed) =
+      let ss = counted_are s i.scale in
+      let new : sum_of_squares s.arcs (fine_signals s.signals) s.pairs z (moved m) (scaled observed) <ʳ sum_of_squares s.arcs (fine_signals s.signals) s.pairs w (scaled_baseline b) (scaled observed) =
       subst (λ (ss : List ℕ). sum_of_squares s.arcs ss s.pairs z (moved m) (scaled observed) <ʳ sum_of_squares s.arcs ss s.pairs w (scaled_baseline b) (scaled observed)) ss
-      (best.best (scaled observed) (subst (λ (ss : List ℕ). AreData ss s.pairs (scaled observed)) (sym ss) (data_scaled old s i observed held)) w (entries ∙ sym (integers_are old s i)) other (scaled_baseline b)) in
-    less_back (mul_r unit_ratio unit_ratio) (old_sum old.arcs old.pairs z (in_old_unit m) observed) (old_sum old.arcs old.pairs w b observed)
-    (sum_of_squares s.arcs (fine_signals s.signals) s.pairs z (moved m) (scaled observed)) (sum_of_squares s.arcs (fine_signals s.signals) s.pairs w (scaled_baseline b) (scaled observed))
-    (pos_nn 529) (sum_lifted old s z (in_old_unit m) (moved m) observed i (move_scaled m)) (sum_lifted old s w b (scaled_baseline b) observed i (baseline_scaled b)) new;
+      (best.best (scaled observed) (subst (λ (ss : List ℕ). AreData ss s.pairs (scaled observed)) (sym ss) (data_scaled old s i observed held)) w (entries ∙ sym (integers_are old s i)) other
+      (scaled_baseline b)) in
+      less_back (mul_r unit_ratio unit_ratio) (old_sum old.arcs old.pairs z (in_old_unit m) observed) (old_sum old.arcs old.pairs w b observed)
+      (sum_of_squares s.arcs (fine_signals s.signals) s.pairs z (moved m) (scaled observed)) (sum_of_squares s.arcs (fine_signals s.signals) s.pairs w (scaled_baseline b) (scaled observed))
+      (pos_nn 529) (sum_lifted old s z (in_old_unit m) (moved m) observed i (move_scaled m)) (sum_lifted old s w b (scaled_baseline b) observed i (baseline_scaled b)) new;
 }
 
 pub best_where_fixed : (old : OldSession) (s : Session) (t : Tail) → IsLiftedSession old s → IsBestWhereFixed s t → IsOldBestWhereFixed old t

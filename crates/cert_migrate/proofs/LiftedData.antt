@@ -1,5 +1,5 @@
 -- Scaled data of an old session are data of the lifted one.
-use Rattle.std.proofs.Common.{◌≡◌, ℕ, ◌<◌, List, [], ◌∷◌, map, All, ℤ, pos, arith, sym, ap, subst}
+use Rattle.std.proofs.Common.{◌≡◌, ℕ, List, [], ◌∷◌, map, All, ℤ, arith, sym, ap, subst}
 use Rattle.std.specs.List.{AllZip}
 use Rattle.std.proofs.lemmas.List.Elements.{All-from_recursion}
 use Rattle.rational.specs.Rational.{Rational, Near, mul_r}
@@ -29,7 +29,7 @@ row_in_boxes o r q i h =
     let P : ℕ → Type 0 = λ s. Near (at (lifted_ys o.y) s) (lifted_radius o.ry) (mul_r unit_ratio (q.y s)) in
     let each : (s : ℕ) → Near (at o.y s) o.ry (q.y s) → Near (lifted_y (at o.y s)) (lifted_radius o.ry) (mul_r unit_ratio (q.y s)) = λ s. near_lifted (at o.y s) o.ry (q.y s) in
     let four : N (lifted_ys o.y) (lifted_radius o.ry) =
-      All-from_recursion P old_signals (each 0 (h.y 0 0 (omega arith)), (each 1 (h.y 1 0 (omega arith)), (each 2 (h.y 2 0 (omega arith)), (each 3 (h.y 3 0 (omega arith)), tt)))) in
+    All-from_recursion P old_signals (each 0 (h.y 0 0 (omega arith)), (each 1 (h.y 1 0 (omega arith)), (each 2 (h.y 2 0 (omega arith)), (each 3 (h.y 3 0 (omega arith)), tt)))) in
     record {
       y = subst (λ (ry : ℤ). N r.y ry) (sym i.ry) (subst (λ (ys : List ℤ). N ys (lifted_radius o.ry)) (sym i.y) four);
       u1 = same_near o.u r.u o.ru r.ru 0 q.u1 i.u i.ru h.u1;

@@ -1,5 +1,5 @@
 -- What a number is lifted to: its range, and that its box holds 23/32 of all that the old one held.
-use Rattle.std.proofs.Common.{◌≡◌, ◌<◌, ◌≤◌, ◌^◌, List, [], ◌∷◌, All, ℤ, pos, ◌+ℤ◌, ◌-ℤ◌, ◌*ℤ◌, ◌≤ℤ◌, ◌<ℤ◌, unsigned_abs, to_z, of_z, arith, refl, sym, subst, lit<}
+use Rattle.std.proofs.Common.{◌≡◌, ◌<◌, ◌≤◌, ◌^◌, [], ◌∷◌, All, ℤ, pos, ◌+ℤ◌, ◌-ℤ◌, ◌*ℤ◌, ◌≤ℤ◌, ◌<ℤ◌, unsigned_abs, to_z, of_z, arith, refl, sym, subst, lit<}
 use Rattle.std.specs.Int.{w64}
 use Rattle.std.proofs.lemmas.List.Elements.{All-from_recursion}
 use Rattle.std.proofs.lemmas.Int.{ints}
@@ -24,7 +24,8 @@ near_lifted y ry q h =
     tall : (p c : ℤ) → (pos 2 *ℤ (p *ℤ pos 32)) ≤ℤ ((pos 2 *ℤ (pos 23 *ℤ y)) +ℤ pos 32) → (pos 23 *ℤ ry) ≤ℤ (c *ℤ pos 32) → (pos 32 *ℤ (p -ℤ (c +ℤ pos 1))) ≤ℤ (pos 23 *ℤ (y -ℤ ry))
     tall p c a b = omega (arith, ints)
 
-    wide : (p c : ℤ) → ((pos 2 *ℤ (pos 23 *ℤ y)) +ℤ pos 32) <ℤ ((pos 2 *ℤ (p *ℤ pos 32)) +ℤ (pos 2 *ℤ pos 32)) → (pos 23 *ℤ ry) ≤ℤ (c *ℤ pos 32) → (pos 23 *ℤ (y +ℤ ry)) ≤ℤ (pos 32 *ℤ (p +ℤ (c +ℤ pos 1)))
+    wide : (p c : ℤ) → ((pos 2 *ℤ (pos 23 *ℤ y)) +ℤ pos 32) <ℤ ((pos 2 *ℤ (p *ℤ pos 32)) +ℤ (pos 2 *ℤ pos 32)) → (pos 23 *ℤ ry) ≤ℤ (c *ℤ pos 32)
+        → (pos 23 *ℤ (y +ℤ ry)) ≤ℤ (pos 32 *ℤ (p +ℤ (c +ℤ pos 1)))
     wide p c a b = omega (arith, ints)
 
     -- (l / 1) against (23 n) / (32 d)
@@ -65,3 +66,6 @@ radius_kept x h = subst IsRadius (sym (radius_word x h.0 h.1)) h
 
 pub group_below : (g : ℤ) → unsigned_abs g < 2 ^ 50 → unsigned_abs (to_z w64 (of_z w64 (pos 23 *ℤ to_z w64 (of_z w64 g)))) < 2 ^ 55
 group_below g h = omega (arith, ints)
+
+pub group_kept : (g : ℤ) → unsigned_abs g < 2 ^ 50 → unsigned_abs (to_z w64 (of_z w64 g)) < 2 ^ 50
+group_kept g h = omega (arith, ints)

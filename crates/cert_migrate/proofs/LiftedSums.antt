@@ -41,7 +41,7 @@ row_scaled arcs z b c s o r q same h i =
     let n : ℤ = old_integer arcs z o.arc s in
     let there : integer (map lifted_arc arcs) old_signals z r.arc s ≡ n = ap (λ (k : ℕ). integer (map lifted_arc arcs) old_signals z k s) i.arc ∙ same.integer_is o.arc in
     let cycles : of_whole (cycle s *ℤ integer (map lifted_arc arcs) old_signals z r.arc s) ≈ mul_r unit_ratio (of_whole (old_cycle s *ℤ n)) =
-      subst (λ (m : ℤ). of_whole (cycle s *ℤ m) ≈ mul_r unit_ratio (of_whole (old_cycle s *ℤ n))) (sym there) (cycles_scaled (cycle s) (old_cycle s) n same.cycle_is) in
+    subst (λ (m : ℤ). of_whole (cycle s *ℤ m) ≈ mul_r unit_ratio (of_whole (old_cycle s *ℤ n))) (sym there) (cycles_scaled (cycle s) (old_cycle s) n same.cycle_is) in
     residual_scaled unit_ratio b c (q.y s) q.u1 q.u2 q.u3 (old_cycle s *ℤ n) (cycle s *ℤ integer (map lifted_arc arcs) old_signals z r.arc s) h cycles
 
 rows_scaled : (arcs : List OldArc) (z : List ℤ) (b c : Baseline) (s : ℕ) (os : List OldRow) (rs : List Row) (qs : List OldObserved) → IsSameSignal arcs z s → AreScaledBaselines unit_ratio b c
@@ -55,7 +55,8 @@ rows_scaled arcs z b c s (o ∷ os) (r ∷ rs) (q ∷ qs) same h i = (row_scaled
 shares_same : (m n s : ℕ) → m ≡ n → weight s ≡ old_weight s → share m s ≡ old_share n s
 shares_same m n s e f = ap₂ (λ (k : ℕ) (w : ℤ). pos (360360 / k) *ℤ w) e f
 
-signal_scaled : (arcs : List OldArc) (z : List ℤ) (b c : Baseline) (o : OldPair) (p : PairRows) (qs : List OldObserved) (s : ℕ) → IsSameSignal arcs z s → AreScaledBaselines unit_ratio b c → IsLiftedPair o p
+signal_scaled : (arcs : List OldArc) (z : List ℤ) (b c : Baseline) (o : OldPair) (p : PairRows) (qs : List OldObserved) (s : ℕ) → IsSameSignal arcs z s
+    → AreScaledBaselines unit_ratio b c → IsLiftedPair o p
     → term (map lifted_arc arcs) old_signals z c p (map scaled_row qs) s ≈ mul_r (mul_r unit_ratio unit_ratio) (old_term arcs z b o qs s)
 signal_scaled arcs z b c o p qs s same h i =
     let new : List Rational = residuals (map lifted_arc arcs) old_signals z c s p.rows (map scaled_row qs) in
@@ -64,7 +65,8 @@ signal_scaled arcs z b c o p qs s same h i =
     (sym (shares_same (length p.rows) (length o.rows) s (AllZip-long IsLiftedRow o.rows p.rows i.rows) same.weight_is))
     (term_scaled unit_ratio (old_share (length o.rows) s) old new (rows_scaled arcs z b c s o.rows p.rows qs same h i.rows))
 
-terms_scaled : (arcs : List OldArc) (z : List ℤ) (b c : Baseline) (os : List OldPair) (ps : List PairRows) (observed : List (List OldObserved)) → AreScaledBaselines unit_ratio b c → AllZip IsLiftedPair os ps
+terms_scaled : (arcs : List OldArc) (z : List ℤ) (b c : Baseline) (os : List OldPair) (ps : List PairRows) (observed : List (List OldObserved)) → AreScaledBaselines unit_ratio b c
+    → AllZip IsLiftedPair os ps
     → AreScaled (mul_r unit_ratio unit_ratio) (old_terms arcs z b os observed) (terms (map lifted_arc arcs) old_signals z c ps (scaled observed))
 terms_scaled arcs z b c [] [] observed h i = tt
 terms_scaled arcs z b c [] (p ∷ ps) observed h i = absurd i
@@ -74,12 +76,19 @@ terms_scaled arcs z b c (o ∷ os) (p ∷ ps) (qs ∷ rest) h i =
     let s0 : IsSameSignal arcs z 0 = record { cycle_is = refl; weight_is = refl; integer_is = first_integer arcs z } in
     let s1 : IsSameSignal arcs z 1 = record { cycle_is = refl; weight_is = refl; integer_is = second_integer arcs z } in
     let s2 : IsSameSignal arcs z 2 = record { cycle_is = refl; weight_is = refl; integer_is = first_code arcs z } in
-    let s3 : IsSameSignal arcs z 3 = record { cycle_is = refl; weight_is = refl; integer_is = second_code arcs z } in
-    (signal_scaled arcs z b c o p qs 0 s0 h i.0,
-      (signal_scaled arcs z b c o p qs 1 s1 h i.0,
-        (signal_scaled arcs z b c o p qs 2 s2 h i.0,
-          (signal_scaled arcs z b c o p qs 3 s3 h i.0,
-            terms_scaled arcs z b c os ps rest h i.1))))
+    let s3 : IsSameSignal arcs z 3 = record { cycle_is = refl; weight_is = refl; integer_is = second_code arcs z } in (
+      signal_scaled arcs z b c o p qs 0 s0 h i.0,
+      (
+        signal_scaled arcs z b c o p qs 1 s1 h i.0,
+        (
+          signal_scaled arcs z b c o p qs 2 s2 h i.0,
+          (
+            signal_scaled arcs z b c o p qs 3 s3 h i.0,
+            terms_scaled arcs z b c os ps rest h i.1,
+          ),
+        ),
+      ),
+    )
 
 -- for each two baselines of which the second is 23/32 of the first
 pub sum_lifted : (old : OldSession) (s : Session) (z : List ℤ) (b c : Baseline) (observed : List (List OldObserved)) → IsLiftedSession old s → AreScaledBaselines unit_ratio b c
@@ -87,8 +96,8 @@ pub sum_lifted : (old : OldSession) (s : Session) (z : List ℤ) (b c : Baseline
 sum_lifted old s z b c observed i h =
     subst (λ (ss : List ℕ). sum_of_squares s.arcs ss s.pairs z c (scaled observed) ≈ mul_r (mul_r unit_ratio unit_ratio) (old_sum old.arcs old.pairs z b observed)) (sym (signals_are s.signals i.l5))
     (subst (λ (arcs : List Arc). sum_of_squares arcs old_signals s.pairs z c (scaled observed) ≈ mul_r (mul_r unit_ratio unit_ratio) (old_sum old.arcs old.pairs z b observed)) (sym i.arcs)
-      (sum_scaled (mul_r unit_ratio unit_ratio) (old_terms old.arcs z b old.pairs observed) (terms (map lifted_arc old.arcs) old_signals z c s.pairs (scaled observed))
-        (terms_scaled old.arcs z b c old.pairs s.pairs observed h i.pairs)))
+    (sum_scaled (mul_r unit_ratio unit_ratio) (old_terms old.arcs z b old.pairs observed) (terms (map lifted_arc old.arcs) old_signals z c s.pairs (scaled observed))
+    (terms_scaled old.arcs z b c old.pairs s.pairs observed h i.pairs)))
 
 pub baseline_scaled : (b : Baseline) → AreScaledBaselines unit_ratio b (scaled_baseline b)
 baseline_scaled b = record { b1 = refl; b2 = refl; b3 = refl }

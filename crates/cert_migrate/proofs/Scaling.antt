@@ -1,5 +1,5 @@
 -- Sums of squares of what is scaled.
-use Rattle.std.proofs.Common.{◌≡◌, ◌⊎◌, ⊎_elim, List, [], ◌∷◌, ℤ, pos, ◌+ℤ◌, ◌*ℤ◌, ◌≤ℤ◌, ap, refl, subst}
+use Rattle.std.proofs.Common.{◌≡◌, ⊎_elim, List, [], ◌∷◌, ℤ, pos, ◌+ℤ◌, ◌≤ℤ◌, ap, refl, subst}
 use Rattle.whole_math.proofs.Ring.{va, ko, ng, ◌⊕◌, ◌⊖◌, ◌⊗◌}
 use Rattle.whole_math.specs.Vectors.{len}
 use Rattle.rational.specs.Rational.{Rational, ◌≈◌, ◌≤ʳ◌, ◌<ʳ◌, of_whole, add_r, sub_r, mul_r}
@@ -38,11 +38,13 @@ norm_scaled k [] [] h = equal_r (k ∷ []) [] [] (ko (pos 0)) ((va 0 ⊗ va 0) �
 norm_scaled k [] (y ∷ t) h = absurd h
 norm_scaled k (x ∷ s) [] h = absurd h
 norm_scaled k (x ∷ s) (y ∷ t) h =
-    equal_r (y ∷ squared_norm_of_rationals t ∷ k ∷ x ∷ squared_norm_of_rationals s ∷ []) ((va 0 ≐ va 2 ⊗ va 3) ∷ (va 1 ≐ (va 2 ⊗ va 2) ⊗ va 4) ∷ []) ((va 0 ⊕ va 2 ⊗ va 3) ∷ ko (pos 1) ∷ []) (va 0 ⊗ va 0 ⊕ va 1) ((va 2 ⊗ va 2) ⊗ (va 3 ⊗ va 3 ⊕ va 4)) refl
+    equal_r (y ∷ squared_norm_of_rationals t ∷ k ∷ x ∷ squared_norm_of_rationals s ∷ []) ((va 0 ≐ va 2 ⊗ va 3) ∷ (va 1 ≐ (va 2 ⊗ va 2) ⊗ va 4) ∷ []) ((va 0 ⊕ va 2 ⊗ va 3) ∷ ko (pos 1) ∷ [])
+    (va 0 ⊗ va 0 ⊕ va 1) ((va 2 ⊗ va 2) ⊗ (va 3 ⊗ va 3 ⊕ va 4)) refl
     (h.0, (norm_scaled k s t h.1, tt))
 
 spread_scaled : (k : Rational) (s t : List Rational) → AreScaled k s t → spread_of_rationals t ≈ mul_r (mul_r k k) (spread_of_rationals s)
-spread_scaled k s t h = subst (λ (n : ℤ). sub_r (mul_r (of_whole n) (squared_norm_of_rationals t)) (mul_r (sum_of_rationals t) (sum_of_rationals t)) ≈ mul_r (mul_r k k) (spread_of_rationals s)) (len_same k s t h)
+spread_scaled k s t h = subst (λ (n : ℤ). sub_r (mul_r (of_whole n) (squared_norm_of_rationals t)) (mul_r (sum_of_rationals t) (sum_of_rationals t)) ≈ mul_r (mul_r k k) (spread_of_rationals s))
+    (len_same k s t h)
     (equal_r (squared_norm_of_rationals t ∷ sum_of_rationals t ∷ k ∷ squared_norm_of_rationals s ∷ sum_of_rationals s ∷ of_whole (len s) ∷ [])
     ((va 0 ≐ (va 2 ⊗ va 2) ⊗ va 3) ∷ (va 1 ≐ va 2 ⊗ va 4) ∷ []) (va 5 ∷ ng (va 1 ⊕ va 2 ⊗ va 4) ∷ [])
     (va 5 ⊗ va 0 ⊖ va 1 ⊗ va 1) ((va 2 ⊗ va 2) ⊗ (va 5 ⊗ va 3 ⊖ va 4 ⊗ va 4)) refl
@@ -56,7 +58,8 @@ term_scaled k w s t h =
 
 -- y - u·b - n, with the baseline, y and n scaled
 pub residual_scaled : (k : Rational) (b c : Baseline) (y u1 u2 u3 : Rational) (n m : ℤ) → AreScaledBaselines k b c → of_whole m ≈ mul_r k (of_whole n)
-    → sub_r (sub_r (mul_r k y) (add_r (mul_r u1 c.b1) (add_r (mul_r u2 c.b2) (mul_r u3 c.b3)))) (of_whole m) ≈ mul_r k (sub_r (sub_r y (add_r (mul_r u1 b.b1) (add_r (mul_r u2 b.b2) (mul_r u3 b.b3)))) (of_whole n))
+    → sub_r (sub_r (mul_r k y) (add_r (mul_r u1 c.b1) (add_r (mul_r u2 c.b2) (mul_r u3 c.b3)))) (of_whole m) ≈ mul_r k
+    (sub_r (sub_r y (add_r (mul_r u1 b.b1) (add_r (mul_r u2 b.b2) (mul_r u3 b.b3)))) (of_whole n))
 residual_scaled k b c y u1 u2 u3 n m h i =
     equal_r (y ∷ u1 ∷ u2 ∷ u3 ∷ b.b1 ∷ b.b2 ∷ b.b3 ∷ of_whole n ∷ k ∷ c.b1 ∷ c.b2 ∷ c.b3 ∷ of_whole m ∷ [])
     ((va 9 ≐ va 8 ⊗ va 4) ∷ (va 10 ≐ va 8 ⊗ va 5) ∷ (va 11 ≐ va 8 ⊗ va 6) ∷ (va 12 ≐ va 8 ⊗ va 7) ∷ [])

@@ -1,6 +1,6 @@
 -- A text of version 1 is read into a certificate of the present types, whose numbers are then moved: each part of the old
 -- certificate is told by that part of the carrier.
-use Rattle.std.specs.Prelude.{◌≡◌, ◌≤◌, ℕ, ℤ, List, [], ◌∷◌, take, map}
+use Rattle.std.specs.Prelude.{◌≡◌, ◌≤◌, [], ◌∷◌, take, map}
 use Rattle.std.specs.List.{AllZip}
 use Rattle.obs_rows.specs.declared.arcs.Arc.{Arc}
 use Rattle.obs_rows.specs.declared.rows.Row.{Row}
@@ -51,21 +51,14 @@ pub record IsBestOf (b : TwoBest) (old : OldBest) : Type 0 where
   pub p2 : old.p2 ≡ b.p2
   pub size : old.size ≡ b.size
 
-pub record AreVectorsOf (h : ℕ) (moved : List ℤ) (best : TwoBest) (top : ℤ) (old_h : ℕ) (old_moved : List ℤ) (old_best : OldBest) (old_top : ℤ) : Type 0 where
-  pub h_is : old_h ≡ h
-  pub moved_is : old_moved ≡ moved
-  pub best_is : IsBestOf best old_best
-  pub top_is : old_top ≡ top
-
 -- the same ending, with the same numbers
 abbrev pub IsEndOf : Tail → OldTail → Type 0
-IsEndOf (now.Fixed h moved best top) (Fixed h' moved' best' top') = AreVectorsOf h moved best top h' moved' best' top'
-IsEndOf (now.Unseparated h moved best top) (Unseparated h' moved' best' top') = AreVectorsOf h moved best top h' moved' best' top'
-IsEndOf (now.Weak column pivot) (Weak column' pivot') = (column' ≡ column) × (pivot' ≡ pivot)
-IsEndOf (now.Overwidth place) (Overwidth place') = place' ≡ place
-IsEndOf (now.Unsettled entry) (Unsettled entry') = entry' ≡ entry
-IsEndOf (now.Spent budget) (Spent budget') = budget' ≡ budget
-IsEndOf _ _ = ⊥
+IsEndOf (now.Fixed h moved best top) old = (b : OldBest) × (IsBestOf best b × (old ≡ Fixed h moved b top))
+IsEndOf (now.Unseparated h moved best top) old = (b : OldBest) × (IsBestOf best b × (old ≡ Unseparated h moved b top))
+IsEndOf (now.Weak column pivot) old = old ≡ Weak column pivot
+IsEndOf (now.Overwidth place) old = old ≡ Overwidth place
+IsEndOf (now.Unsettled entry) old = old ≡ Unsettled entry
+IsEndOf (now.Spent budget) old = old ≡ Spent budget
 
 -- the vectors have room in 40 places
 abbrev pub HasFewEntries : Tail → Type 0

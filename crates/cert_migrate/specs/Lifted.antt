@@ -1,5 +1,5 @@
 -- A session of version 1 in the unit that is kept now: κ is 23 ι, so 2^-18 κ is 23/32 of 2^-13 ι.
-use Rattle.std.specs.Prelude.{◌≡◌, ℕ, ◌*◌, ◌^◌, ℤ, pos, ◌+ℤ◌, ◌*ℤ◌, List, [], ◌∷◌, map, ◌≤◌}
+use Rattle.std.specs.Prelude.{◌≡◌, ◌*◌, ◌^◌, ℤ, pos, ◌+ℤ◌, ◌*ℤ◌, List, [], ◌∷◌, map}
 use Rattle.std.specs.List.{AllZip}
 use Rattle.std.proofs.Common.{lit<}
 use Rattle.whole_math.specs.Rounding.{nearest_div, ceil_div}

@@ -33,7 +33,7 @@ abbrev pub old_session_lines : OldSession → List (List ℕ)
 old_session_lines s =
     (old_line (codes "base") s.base ∷ old_line (codes "point") s.point ∷ (codes "signals" ++ (32 ∷ s.signals.l1 ∷ 32 ∷ s.signals.l2 ∷ [])) ∷ [])
     ++ ((old_line (codes "arcs") (pos (length s.arcs) ∷ []) ∷ map old_arc_line s.arcs)
-      ++ (old_line (codes "pairs") (pos (length s.pairs) ∷ []) ∷ flat_map old_pair_lines s.pairs))
+    ++ (old_line (codes "pairs") (pos (length s.pairs) ∷ []) ∷ flat_map old_pair_lines s.pairs))
 
 -- ---- the tail
 abbrev pub old_vectors_lines : ℕ → List ℤ → OldBest → ℤ → List (List ℕ)

@@ -1,5 +1,5 @@
 -- What the tail of a certificate of version 1 may hold.
-use Rattle.std.specs.Prelude.{◌≡◌, ◌^◌, ◌<◌, ◌≤◌, ◌*◌, ℕ, ℤ, List, All}
+use Rattle.std.specs.Prelude.{◌≡◌, ◌^◌, ◌≤◌, ◌*◌, ℕ, ℤ, List, All}
 use Rattle.std.proofs.Props.{props}
 use Rattle.obs_rows.specs.Ranges.{IsBelow}
 use Rattle.int_search.specs.Vectors.{IsSmall}

@@ -1,9 +1,10 @@
 //! Certificates of the first version: read, and lifted to the present one.
 //!
-//! The types `OldCert` to `OldTail` keep what a certificate was before its unit changed, with the ranges of its numbers,
-//! and specs/ says in words of its own how it was spelled and what strictly best meant in it, so that no later change of
-//! the program moves that meaning. `read_old` answers the certificate whose old spelling the text is (`ok`), the only one
-//! (`only`), or refuses a text that spells none (`refused`), at the first line and check that fails (`exact`).
+//! The types `OldCert` to `OldTail` keep what a certificate was before its unit changed, with the ranges of its
+//! numbers, and specs/ says in words of its own how it was spelled and what strictly best meant in it, so that no later
+//! change of the program moves that meaning. `read_old` answers the certificate whose old spelling the text is (`ok`),
+//! the only one (`only`), or refuses a text that spells none (`refused`), at the first line and check that fails
+//! (`exact`).
 //!
 //! `lift` brings its rows into the present unit, in boxes that hold all that the old ones held, and decides them again.
 //! The law of its contract: data of the old boxes times 23/32 are data of the new ones (`boxes`), the weighted sum of

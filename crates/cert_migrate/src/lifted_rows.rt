@@ -12,6 +12,7 @@ use whole_math::{ceil, nearest};
 
 /// 2^-18 κ, the old unit of rows, is 23/32 of the present one, 2^-13 ι.
 const RATIO: i128 = 23;
+
 const OF: i128 = 32;
 
 fn lifted_y(y: i64) -> i64
@@ -37,14 +38,7 @@ fn lifted_row(row: &OldRow) -> Row
     let [y1, y2, c1, c2] = row.y;
     Row {
         arc: row.arc,
-        y: [
-            lifted_y(y1),
-            lifted_y(y2),
-            lifted_y(c1),
-            lifted_y(c2),
-            0,
-            0,
-        ],
+        y: [lifted_y(y1), lifted_y(y2), lifted_y(c1), lifted_y(c2), 0, 0],
         ry: lifted_radius(row.ry),
         u: row.u,
         ru: row.ru,

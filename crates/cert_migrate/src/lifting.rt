@@ -49,8 +49,8 @@ fn lifted_session(alloc: Global, old: &OldSession) -> Result<Session, AllocError
     })
 }
 
-/// The certificate in the present unit: its boxes hold 23/32 of all that the old ones held, and its tail is the decision
-/// of its own rows. What the old tail said isn't carried over.
+/// The certificate in the present unit: its boxes hold 23/32 of all that the old ones held, and its tail is the
+/// decision of its own rows. What the old tail said isn't carried over.
 pub fn lift(alloc: Global, old: &OldCert) -> Result<Cert, AllocError>
     ensures ratio { IfOk result (λ c. c.ratio ≡ old.now.ratio) }
     ensures budget { IfOk result (λ c. c.budget ≡ old.now.budget) }

@@ -21,6 +21,8 @@ pub fn read_old(alloc: Global, text: &[u8]) -> Result<OldCert, TextFault>
     ensures refused { OnRefusal result (IsOldCertificate text.now → ⊥) }
     ensures exact { Gives (reading_as One text.now) (λ c. tt) result }
 {
-    let cert = read_as(alloc, Version::One, text)?;
-    Ok(old_cert(alloc, &cert)?)
+    match read_as(alloc, Version::One, text) {
+        Ok(cert) => Ok(old_cert(alloc, &cert)?),
+        Err(fault) => Err(fault),
+    }
 }

@@ -3,4 +3,8 @@
 #![tactic(auto)]
 
 #[cfg(test)]
+mod certs;
+#[cfg(test)]
+mod simulated;
+#[cfg(test)]
 mod tests;

@@ -13,7 +13,8 @@ pub invariant_of-result : goal.invariant_of-result
 invariant_of-result c =
     let old : OldPair = c.args.pair.now in
     let zip : AllZip IsLiftedRow old.rows c.new.result =
-      subst (λ (rs : List Row). AllZip IsLiftedRow old.rows rs) (sym c.new.ensures) (subst (λ (os : List OldRow). AllZip IsLiftedRow os c.in_ok-rows.rows.items) c.as_slice.ensures c.in_ok-rows.ensures) in
+    subst (λ (rs : List Row). AllZip IsLiftedRow old.rows rs) (sym c.new.ensures)
+    (subst (λ (os : List OldRow). AllZip IsLiftedRow os c.in_ok-rows.rows.items) c.as_slice.ensures c.in_ok-rows.ensures) in
     record {
       number_in = old.number_in;
       tag_in = old.tag_in;

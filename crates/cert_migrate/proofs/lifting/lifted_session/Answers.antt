@@ -12,7 +12,7 @@ use Rattle.cert_migrate.specs.declared.old_sessions.OldSession.{OldSession}
 use Rattle.cert_migrate.specs.OldSums.{old_signals}
 use Rattle.cert_migrate.specs.Lifted.{lifted_arc, IsLiftedPair}
 use Rattle.cert_migrate.proofs.LiftedArcs.{arcs_lifted, shifts_lifted}
-use Rattle.cert_migrate.proofs.LiftedSessions.{pairs_lifted, rows_used}
+use Rattle.cert_migrate.proofs.LiftedSessions.{pairs_like, used_like, like_pairs}
 use Rattle.cert_migrate.proofs.lifting.lifted_session.Goals as goal
 
 pub invariant_of-result : goal.invariant_of-result
@@ -20,7 +20,8 @@ invariant_of-result c =
     let old : OldSession = c.args.old.now in
     let arcs : c.new.result ≡ map lifted_arc old.arcs = c.new.ensures ∙ c.in_ok-arcs.ensures ∙ ap (λ (l : List OldArc). map lifted_arc l) c.as_slice.ensures in
     let zip : AllZip IsLiftedPair old.pairs c.new-2.result =
-      subst (λ (ps : List PairRows). AllZip IsLiftedPair old.pairs ps) (sym c.new-2.ensures) (subst (λ (os : List OldPair). AllZip IsLiftedPair os c.in_ok-pairs.pairs.items) c.as_slice-2.ensures c.in_ok-pairs.ensures) in
+    subst (λ (ps : List PairRows). AllZip IsLiftedPair old.pairs ps) (sym c.new-2.ensures)
+    (subst (λ (os : List OldPair). AllZip IsLiftedPair os c.in_ok-pairs.pairs.items) c.as_slice-2.ensures c.in_ok-pairs.ensures) in
     record {
       scale_is = search rules;
       system_is = search rules;
@@ -28,7 +29,7 @@ invariant_of-result c =
       point_in = old.point_in;
       arcs_in = subst AreArcs (sym arcs) (arcs_lifted old.arcs old.arcs_in);
       some_pairs = subst (λ (n : ℕ). 1 ≤ n) (sym (AllZip-long IsLiftedPair old.pairs c.new-2.result zip)) old.some_pairs;
-      pairs_in = subst (λ (l : List Arc). ArePairs l c.new-2.result) (sym arcs) (pairs_lifted old.arcs old.pairs c.new-2.result zip old.pairs_in);
-      rows_used = rows_used old.pairs c.new-2.result zip;
+      pairs_in = subst (λ (l : List Arc). ArePairs l c.new-2.result) (sym arcs) (pairs_like old.arcs old.pairs c.new-2.result (like_pairs old.pairs c.new-2.result zip) old.pairs_in);
+      rows_used = used_like old.pairs c.new-2.result (like_pairs old.pairs c.new-2.result zip);
       shifts_used = subst (λ (l : List Arc). All (HasUsedShifts old_signals) l) (sym arcs) (shifts_lifted old.arcs);
     }

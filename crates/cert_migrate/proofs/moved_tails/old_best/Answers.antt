@@ -1,4 +1,4 @@
-use Rattle.std.proofs.Common.{List, ℤ, take, sym, subst}
+use Rattle.std.proofs.Common.{sym, subst}
 use Rattle.int_search.specs.declared.answer.TwoBest.{TwoBest}
 use Rattle.int_search.specs.Vectors.{IsZeroFrom}
 use Rattle.cert_migrate.proofs.MovedLists.{front_zero}

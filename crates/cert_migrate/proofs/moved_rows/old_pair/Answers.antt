@@ -1,0 +1,24 @@
+use Rattle.std.proofs.Common.{ℕ, ◌≤◌, List, sym, subst}
+use Rattle.std.specs.List.{AllZip}
+use Rattle.std.proofs.lemmas.Slice.Zip.{AllZip-long}
+use Rattle.obs_rows.specs.declared.rows.Row.{Row}
+use Rattle.obs_rows.specs.declared.pair_rows.PairRows.{PairRows}
+use Rattle.cert_migrate.specs.declared.old_rows.OldRow.{OldRow}
+use Rattle.cert_migrate.specs.Carriers.{IsRowOf}
+use Rattle.cert_migrate.proofs.MovedSessions.{rows_rise_moved}
+use Rattle.cert_migrate.proofs.LiftedNumbers.{group_kept}
+use Rattle.cert_migrate.proofs.moved_rows.old_pair.Goals as goal
+
+pub invariant_of-result : goal.invariant_of-result
+invariant_of-result c =
+    let p : PairRows = c.args.pair.now in
+    let zip : AllZip IsRowOf p.rows c.new.result =
+    subst (λ (os : List OldRow). AllZip IsRowOf p.rows os) (sym c.new.ensures) (subst (λ (rs : List Row). AllZip IsRowOf rs c.in_ok-rows.rows.items) c.as_slice.ensures c.in_ok-rows.ensures) in
+    record {
+      number_in = p.number_in;
+      tag_in = p.tag_in;
+      group_in = group_kept p.group c.requires;
+      some_rows = subst (λ (n : ℕ). 1 ≤ n) (sym (AllZip-long IsRowOf p.rows c.new.result zip)) p.some_rows;
+      few_rows = subst (λ (n : ℕ). n ≤ 15) (sym (AllZip-long IsRowOf p.rows c.new.result zip)) p.few_rows;
+      arcs_rise = rows_rise_moved p.rows c.new.result zip p.arcs_rise;
+    }
