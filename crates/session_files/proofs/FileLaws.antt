@@ -1,5 +1,5 @@
 -- What is told of files after others were read, and what files that are admitted end with.
-use Rattle.std.proofs.Common.{◌≡◌, ◌≢◌, ◌⊎◌, inl, inr, zero, suc, ◌<◌, ℕ, List, [], ◌∷◌, Option, length, IfSome, IfOk, Result, Ok, Err, refl, sym, subst, ◌∙◌, arith}
+use Rattle.std.proofs.Common.{◌≡◌, ◌≢◌, inl, inr, zero, suc, ◌<◌, ℕ, List, [], ◌∷◌, Option, length, IfSome, IfOk, Result, Ok, Err, sym, subst, ◌∙◌, arith}
 use Rattle.std.specs.Prelude.{slice_index_or, Some}
 use Rattle.obs_store.specs.declared.file.ObsFile.{ObsFile}
 use Rattle.rinex_head.specs.declared.system.System.{System}
@@ -11,11 +11,9 @@ use Rattle.nav_records.specs.NavRules.{nav_of}
 use Rattle.line_source.specs.Lines.{lines_of}
 use Rattle.line_source.specs.Told.{Same, IsReadToEnd}
 use Rattle.line_source.specs.Pieces.{IsTakenWhole}
-use Rattle.job_answers.specs.declared.status.Status.{Status}
 use Rattle.job_answers.specs.declared.status.Status.TheVariants.{ReadFault}
 use Rattle.job_answers.specs.declared.stop.Stop.{Stop}
-use Rattle.job_answers.specs.declared.stop.Stop.TheVariants.{Ended, NoMemory}
-use Rattle.job_answers.specs.Answers.{ending_of, IfEnds, IfStopped}
+use Rattle.job_answers.specs.Answers.{IfStopped}
 use Rattle.job_answers.specs.Statuses.{IsJobStatus}
 use Rattle.job_answers.specs.Texts.{refusal_line, too_large_line}
 use Rattle.job_answers.specs.Endings.{Ending, IsTextOf, IsRefusal, EndsByFile, IsAdmitted, HasTooManyBytes, IsRefusedFile, IsRefusedWhole}
