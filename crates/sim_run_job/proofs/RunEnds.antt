@@ -1,5 +1,5 @@
 -- What the outcome of the made files ends with.
-use Rattle.std.proofs.Common.{◌≡◌, ◌≢◌, inl, inr, ℕ, List, Option, Some, Bool, true, false, codes, if◌then◌else◌, sym, ap, ◌∙◌, subst}
+use Rattle.std.proofs.Common.{◌≡◌, ◌≢◌, inl, inr, ℕ, List, Option, Bool, true, false, codes, if◌then◌else◌, sym, ap, ◌∙◌, subst}
 use Rattle.obs_store.specs.declared.file.ObsFile.{ObsFile}
 use Rattle.eph_store.specs.File.{Records}
 use Rattle.run_options.specs.declared.options.Options.{Options}
@@ -10,7 +10,6 @@ use Rattle.job_answers.specs.declared.status.Status.TheVariants.{Done, Declined,
 use Rattle.job_answers.specs.declared.stop.Stop.{Stop}
 use Rattle.job_answers.specs.declared.stop.Stop.TheVariants.{Ended, NoMemory}
 use Rattle.job_answers.specs.Answers.{ending_of, IfEnds}
-use Rattle.job_answers.specs.Statuses.{IsVerdictStatus}
 use Rattle.job_answers.specs.Endings.{Ending}
 use Rattle.session_files.specs.SessionFiles.{AreFilesOf, StopsAtFiles}
 use Rattle.session_files.proofs.FileLaws.{no_stop}
@@ -27,12 +26,10 @@ pub end_no_fault : (o : Options) (seed epochs sats bands : ℕ) (b r : ObsFile) 
 end_no_fault o seed epochs sats bands b r n end (inl found) is = no_read_fault (is_fixed found.outcome.answer) (sym (ap (λ (e : Ending). e.status) found.end_is) ∙ is)
 end_no_fault o seed epochs sats bands b r n end (inr refused) is = let s : end.status ≡ Refused = ap (λ (e : Ending). e.status) refused.end_is in absurd (cc (s, is))
 
-pub ends_found : (seed epochs sats bands system : ℕ) (told : List ℕ → Option (List ℕ)) (o : Options) (b r : ObsFile) (n : Records) (end : Ending)
-    → AreMadeFiles seed epochs sats bands system told → AreOptionsOn bands system o
-    → AreAdmitted told (codes "base") (codes "rover") (codes "nav") o → AreFilesOf (system_of o.system) told (codes "base") (codes "rover") (codes "nav") b r n
-    → SimRunEnd o seed epochs sats bands b r n end
-    → SimRunEnds seed epochs sats bands system end
-ends_found seed epochs sats bands system told o b r n end made on admitted are (inl found) = record {
+pub ends_found : (seed epochs sats bands system : ℕ) (told : List ℕ → Option (List ℕ)) (o : Options) (of : System) (b r : ObsFile) (n : Records) (end : Ending)
+    → AreMadeFiles seed epochs sats bands system told → AreOptionsOn bands system o → AreAdmitted told (codes "base") (codes "rover") (codes "nav") o → of ≡ system_of o.system
+    → AreFilesOf of told (codes "base") (codes "rover") (codes "nav") b r n → SimRunEnd o seed epochs sats bands b r n end → SimRunEnds seed epochs sats bands system end
+ends_found seed epochs sats bands system told o of b r n end made on admitted same are (inl found) = record {
   told = told;
   made = made;
   options = o;
@@ -40,10 +37,12 @@ ends_found seed epochs sats bands system told o b r n end made on admitted are (
   base_file = b;
   rover_file = r;
   records = n;
-  are_files = are;
+  are_files = subst (λ (s : System). AreFilesOf s told (codes "base") (codes "rover") (codes "nav") b r n) same are;
   ends = found;
 }
-ends_found seed epochs sats bands system told o b r n end made on admitted are (inr refused) = absurd (never_refused told (codes "base") (codes "rover") (codes "nav") o b r n end admitted are refused)
+ends_found seed epochs sats bands system told o of b r n end made on admitted same are (inr refused) =
+    let files = subst (λ (s : System). AreFilesOf s told (codes "base") (codes "rover") (codes "nav") b r n) same are in
+    absurd (never_refused told (codes "base") (codes "rover") (codes "nav") o b r n end admitted files refused)
 
 -- the reading of files that are admitted, none of which fails, doesn't stop
 pub never_stops : (system : System) (told : List ℕ → Option (List ℕ)) (base rover nav : List ℕ) (o : Options) (stop : Stop) (P : Ending → Type 0)

@@ -1,7 +1,7 @@
-use Rattle.std.proofs.Common.{subst}
-use Rattle.rinex_head.specs.declared.system.System.{System}
+use Rattle.std.proofs.Common.{◌≡◌, ◌⊎◌, inl, inr, ℕ, Bool, true, false, ◌||◌, ◌==◌, IsTrue, refl}
+use Rattle.std.proofs.lemmas.Bool.{eqb-true}
+use Rattle.obs_rows.specs.Ranges.{IsSystem}
 use Rattle.job_answers.proofs.EndingLaws.{ended_weaker}
-use Rattle.session_files.specs.SessionFiles.{AreFilesOf}
 use Rattle.sim_run_job.specs.SimRunJobs.{AreMadeFiles}
 use Rattle.sim_run_job.proofs.MadeFiles.{still_fits, made_admitted}
 use Rattle.sim_run_job.proofs.RunEnds.{end_no_fault, ends_found, never_stops}
@@ -11,7 +11,7 @@ pub returns-in-Ok-clause-ends : goal.returns-in-Ok-clause-ends
 returns-in-Ok-clause-ends c =
     let a = c.args in
     let session = c.in_ok-base.ensures in
-    let on = c.options_on-options.ensures in
+    let on = c.options_on-options.ensures.are in
     let o = c.options_on-options.result in
     let told = c.in_ok-files.ensures in
     let made : AreMadeFiles a.seed a.epochs a.sats a.bands a.system _ = record {
@@ -24,8 +24,7 @@ returns-in-Ok-clause-ends c =
     let admitted = made_admitted a.seed a.epochs a.sats a.bands a.system _ _ _ _ o c.requires.epochs c.requires.sats c.requires.bands c.requires.system c.requires.bands_of_galileo on
     told.base told.rover told.nav session.base session.rover session.nav (still_fits _ _ c.in_ok-base.field-0.base.ok.0 session.base_size)
     (still_fits _ _ c.in_ok-base.field-0.rover.ok.0 session.rover_size) (still_fits _ _ c.in_ok-base.field-0.nav.ok.0 session.nav_size) in
-    let files = subst (λ (s : System). AreFilesOf s _ _ _ _ _ _ _) c.of_letter-system.ensures c.in-Ok.ensures.read in
-    ended_weaker c.answer_files.result _ _ (λ end ends. ends_found a.seed a.epochs a.sats a.bands a.system _ o _ _ _ end made on admitted files ends) c.answer_files.ensures
+    ended_weaker c.answer_files.result _ _ (λ end ends. ends_found a.seed a.epochs a.sats a.bands a.system _ o _ _ _ _ end made on admitted c.of_letter-system.ensures c.in-Ok.ensures.read ends) c.answer_files.ensures
 
 pub returns-in-Ok-clause-no_fault : goal.returns-in-Ok-clause-no_fault
 returns-in-Ok-clause-no_fault c = ended_weaker c.answer_files.result _ _ (λ end ends. end_no_fault _ _ _ _ _ _ _ _ end ends) c.answer_files.ensures
@@ -34,10 +33,21 @@ pub returns-clause-ends : goal.returns-clause-ends
 returns-clause-ends c =
     let a = c.args in
     let session = c.in_ok-base.ensures in
-    let on = c.options_on-options.ensures in
+    let on = c.options_on-options.ensures.are in
     let o = c.options_on-options.result in
     let told = c.in_ok-files.ensures in
     let admitted = made_admitted a.seed a.epochs a.sats a.bands a.system _ _ _ _ o c.requires.epochs c.requires.sats c.requires.bands c.requires.system c.requires.bands_of_galileo on
     told.base told.rover told.nav session.base session.rover session.nav (still_fits _ _ c.in_ok-base.field-0.base.ok.0 session.base_size)
     (still_fits _ _ c.in_ok-base.field-0.rover.ok.0 session.rover_size) (still_fits _ _ c.in_ok-base.field-0.nav.ok.0 session.nav_size) in
     never_stops _ _ _ _ _ o c.in-Err.stop _ c.of_letter-system.ensures admitted c.in-Err.ensures.stopped (c.in-Err.ensures.sure (λ k name inside. told.sure name))
+
+-- the letter of a system is one of the two
+one_letter : (letter : ℕ) → IsSystem letter → (letter ≡ 71) ⊎ (letter ≡ 69)
+one_letter letter is = by (letter == 71) refl is
+  where
+    by : (t : Bool) → (letter == 71) ≡ t → IsTrue (t || (letter == 69)) → (letter ≡ 71) ⊎ (letter ≡ 69)
+    by true same one = inl (eqb-true letter 71 same)
+    by false same one = inr (eqb-true letter 69 one)
+
+pub of_letter-system-requires : goal.of_letter-system-requires
+of_letter-system-requires c = one_letter c.options_on-options.result.system c.options_on-options.result.of_system
