@@ -181,7 +181,7 @@ fn lifts_numbers(rt: HostRuntime) -> Result<(), Fail> {
     Ok(())
 }
 
-// A text of the present form is refused at its first line; SAT, GROUP and COLUMN have the ranges of the first version.
+// A text of the present form is refused at its first line, and a column beyond those of the first version at its number.
 #[test]
 fn keeps_to_the_old_grammar(rt: HostRuntime) -> Result<(), Fail> {
     let alloc = rt.alloc();
