@@ -56,3 +56,7 @@ returns-in-Fix-clause-opened g c =
 pub returns-in-Arcs-clause-opened : goal.returns-in-Arcs-clause-opened
 returns-in-Arcs-clause-opened g c =
     subst (λ (j : Job). OpensAtMost (length (file_words j)) (g.F.Files.opened c.args.files.now) (g.F.Files.opened c.arcs_by_words.new.files)) (sym c.in-Arcs.is) c.arcs_by_words.ensures.opened
+
+pub returns-in-Orbit-clause-opened : goal.returns-in-Orbit-clause-opened
+returns-in-Orbit-clause-opened g c =
+    subst (λ (j : Job). OpensAtMost (length (file_words j)) (g.F.Files.opened c.args.files.now) (g.F.Files.opened c.orbit.new.files)) (sym c.in-Orbit.is) c.orbit.ensures.opened
