@@ -2,7 +2,7 @@
 use Rattle.std.proofs.Common.{◌≡◌, ◌≢◌, ◌⊎◌, inl, inr, ℕ, List, [], ◌∷◌, Option, Result, Any, sym, ap, ◌∙◌, subst}
 use Rattle.line_source.specs.Causes.{Rose}
 use Rattle.job_answers.specs.declared.status.Status.{Status}
-use Rattle.job_answers.specs.declared.status.Status.TheVariants.{Usage, ReadFault, WriteFault, NoMemory}
+use Rattle.job_answers.specs.declared.status.Status.TheVariants.{Usage, Refused, ReadFault, WriteFault, NoMemory}
 use Rattle.job_answers.specs.Statuses.{IsVerdictStatus, IsJobStatus}
 use Rattle.job_answers.specs.Endings.{Ending, IsRefusedFile, IsRefusedWhole}
 use Rattle.job_answers.specs.declared.answer.Answer.{Answer}

@@ -1,4 +1,4 @@
-use Rattle.std.proofs.Common.{rules, ◌≢◌, inl, inr, All, subst}
+use Rattle.std.proofs.Common.{rules, ◌≡◌, ◌≢◌, inl, inr, [], All, subst}
 use Rattle.job_answers.specs.declared.status.Status.TheVariants.{ReadFault}
 use Rattle.job_answers.specs.declared.stop.Stop.{Stop}
 use Rattle.job_answers.specs.Answers.{ending_of, IfEnds}

@@ -1,4 +1,4 @@
-use Rattle.std.proofs.Common.{All, length, refl, subst, sym}
+use Rattle.std.proofs.Common.{◌∷◌, [], ℕ, List, All, length, refl, subst, sym}
 use Rattle.line_source.specs.Causes.{OpensAtMost}
 use Rattle.job_answers.specs.Answers.{IfEnded}
 use Rattle.pair_refusals.specs.Refusals.{AreRefusedWhole}
