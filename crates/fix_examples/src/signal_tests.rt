@@ -1,34 +1,31 @@
 // Runs of `fix` over files of RINEX 2, on other bands and of Galileo.
-ghost use Rattle.std.specs.Prelude.{◌≡◌, IfSome};
-ghost use Rattle.obs_rows.specs.Ranges.{IsSystem};
-ghost use Rattle.band_sets.specs.declared.numbers.TheConstants.{BANDS_L1_L5};
-ghost use Rattle.band_sets.specs.BandSets.{IsBandsNumber};
 
 use crate::rinex2_texts::in_rinex_2;
 use crate::runs::{fix_texts, is_certified};
+use band_sets::is_bands_number;
 use job_answers::Status;
+use obs_rows::is_system;
 use run_options::Options;
-use sim_session::make;
+use sim_session::{Made, make};
+use std::alloc::Global;
+use std::process::Abort;
 use std::test::Fail;
 
-// The options of a run on these bands of this system, where there is one.
-fn options_on(system: u8, bands: u16) -> Option<Options>
-    ensures system { IfSome result (λ o. IsSystem system) }
-    ensures bands { IfSome result (λ o. IsBandsNumber bands) }
-    ensures galileo { IfSome result (λ o. system ≡ 69 → bands ≡ BANDS_L1_L5) }
-{
+fn options_on(rt: &impl Abort, system: u8, bands: u16) -> Options {
+    assert!(rt; is_bands_number(bands));
+    assert!(rt; is_system(system));
     let mut options = Options::defaults();
-    match (system, bands) {
-        (b'G', 12) => {}
-        (b'G', 15) => options.bands = 15,
-        (b'G', 125) => options.bands = 125,
-        (b'E', 15) => {
-            options.system = b'E';
-            options.bands = 15;
-        }
-        _ => return None,
-    }
-    Some(options)
+    options.bands = bands;
+    options.system = system;
+    options
+}
+
+// A session of 6 epochs and 4 satellites.
+fn made_on(rt: &impl Abort, alloc: Global, system: u8, bands: u16) -> Result<Made, Fail> {
+    assert!(rt; is_bands_number(bands));
+    assert!(rt; is_system(system));
+    assert!(rt; system != b'E' || bands == 15);
+    Ok(make(alloc, 3, 6, 4, bands, system)?)
 }
 
 // No line of a certificate tells the format of the files.
@@ -64,10 +61,8 @@ fn certifies_each_set_of_bands(rt: HostRuntime) -> Result<(), Fail> {
         (b'E', 15, "system E\n", "signals 15 C Q\n"),
     ];
     for (system, bands, system_line, signals_line) in rows {
-        let Some(options) = options_on(system, bands) else {
-            panic!(&rt; "no options");
-        };
-        let made = make(alloc, 3, 6, 4, bands, system)?;
+        let options = options_on(&rt, system, bands);
+        let made = made_on(&rt, alloc, system, bands)?;
         let answer = fix_texts(alloc, &made.base, &made.rover, &made.nav, &options)?;
         assert_eq!(rt; answer.status, Status::Done, "at bands {bands}");
         let text = str::from_utf8(&answer.out)?;
@@ -126,12 +121,17 @@ fn refuses_what_the_options_exclude(rt: HostRuntime) -> Result<(), Fail> {
         ),
     ];
     for (system, bands, text, line) in rows {
-        let Some(options) = options_on(system, bands) else {
-            panic!(&rt; "no options");
-        };
+        let options = options_on(&rt, system, bands);
         let answer = fix_texts(alloc, text.as_bytes(), &made.rover, &made.nav, &options)?;
-        assert_eq!(rt; answer.status, Status::Refused, "at {line}");
-        assert_eq!(rt; str::from_utf8(&answer.err)?, line);
+        assert_eq!(rt;
+            answer.status,
+            Status::Refused,
+            "of system {system}, bands {bands}"
+        );
+        assert!(rt;
+            answer.err.as_slice() == line.as_bytes(),
+            "of system {system}, bands {bands}"
+        );
         assert!(rt; answer.out.is_empty());
     }
     Ok(())
