@@ -1,0 +1,27 @@
+use Rattle.std.proofs.Common.{[], ◌∷◌, codes, take, FitsSigned, rules}
+use Rattle.std.specs.Int.{w128}
+use Rattle.cert_lines.specs.Lines.{vector_line, values_line, last_line}
+use Rattle.cert_lines.proofs.Appends.{own_word}
+use Rattle.cert_spelling.proofs.Texts.{then_lines, then_written, anyway}
+use Rattle.track_spelling.specs.Spelling.{move_lines, track_vectors_lines}
+use Rattle.track_spelling.proofs.tails.push_vectors.Goals as goal
+
+pub returns-clause-text : goal.returns-clause-text
+returns-clause-text c =
+    let o = c.args.out.now.items in
+    let b = c.args.best.now in
+    let pairs = c.args.pairs.now in
+    let moves = c.args.moves.now in
+    let z1 = vector_line (codes "z1") (take b.size b.first) in
+    let z2 = vector_line (codes "z2") (take b.size b.second) in
+    let fits1 : FitsSigned w128 b.p1 = search rules in
+    let fits2 : FitsSigned w128 b.p2 = search rules in
+    let fits3 : FitsSigned w128 c.args.top = search rules in
+    let values = rw (own_word b.p1 fits1, own_word b.p2 fits2, own_word c.args.top fits3) at c.in_ok-push_values_line.ensures in
+    let two = then_lines o _ _ (z1 ∷ []) (z2 ∷ []) c.in_ok-push_vector_line.ensures c.in_ok-push_vector_line-2.ensures in
+    let three = then_lines o _ _ (z1 ∷ z2 ∷ []) (move_lines pairs moves) two c.in_ok-push_move_lines.ensures.text in
+    let four = then_lines o _ _ (z1 ∷ z2 ∷ move_lines pairs moves) (values_line c.args.h b.p1 b.p2 c.args.top ∷ []) three values in
+    then_written o _ _ (track_vectors_lines pairs c.args.h moves b c.args.top) (last_line c.args.fixed ∷ []) _ four c.push_last_line.ensures
+
+pub returns-clause-whole : goal.returns-clause-whole
+returns-clause-whole c = anyway c.push_last_line.result (record { move_each = c.in_ok-push_move_lines.ensures.whole; first = search rules; second = search rules })
