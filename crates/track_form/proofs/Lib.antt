@@ -1,0 +1,6 @@
+pub mod SumOfForms
+pub mod Sizes
+pub mod Bounds
+pub mod Decision
+pub mod Best
+pub mod OneFront
