@@ -1,5 +1,5 @@
 -- The clauses of the pairs, summed: the least integers of the track's form with the moves are best for all data.
-use Rattle.std.proofs.Common.{◌≡◌, ◌≢◌, ℕ, suc, ◌≤◌, List, [], ◌∷◌, length, All, ℤ, pos, ◌+ℤ◌, ◌≤ℤ◌, arith}
+use Rattle.std.proofs.Common.{◌≡◌, ◌≢◌, ℕ, ◌≤◌, List, [], ◌∷◌, length, All, ℤ, pos, ◌+ℤ◌, ◌≤ℤ◌, arith}
 use Rattle.std.specs.List.{AllZip}
 use Rattle.whole_math.specs.Vectors.{len}
 use Rattle.rational.specs.Rational.{Rational}

@@ -4,3 +4,5 @@ pub mod Bounds
 pub mod Decision
 pub mod Best
 pub mod OneFront
+mod Results
+pub mod StrictlyBest

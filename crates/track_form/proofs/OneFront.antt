@@ -1,5 +1,5 @@
 -- The rows of a pair have one front.
-use Rattle.std.proofs.Common.{◌≡◌, ℕ, zero, suc, ◌-◌, ◌<◌, Ok, List, [], ◌∷◌, length, get_or, ℤ, arith, sym, ap, ◌∙◌, subst}
+use Rattle.std.proofs.Common.{◌≡◌, ℕ, suc, ◌-◌, ◌<◌, Ok, List, [], ◌∷◌, length, get_or, arith, sym, ap, ◌∙◌, subst}
 use Rattle.quadratic_form.specs.Forms.{Column}
 use Rattle.quadratic_form.specs.Elimination.{Factor}
 use Rattle.quadratic_form.specs.Lowering.{IsExponent}

@@ -5,6 +5,6 @@
 //! value is far enough above it, the least integers with the moves are strictly best.
 #![tactic(auto)]
 
-pub mod laws;
-
 mod fronts;
+pub mod laws;
+mod parts;
