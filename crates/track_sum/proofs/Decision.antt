@@ -1,0 +1,22 @@
+-- Where the values are separated, the least integers with the moves are strictly best, whatever the rivals' baselines are.
+use Rattle.std.proofs.Common.{◌≡◌, ◌≢◌, ℕ, ◌≤◌, List, All, ℤ, pos, ◌+ℤ◌, ◌≤ℤ◌, ap, ◌∙◌}
+use Rattle.std.specs.List.{AllZip}
+use Rattle.whole_math.specs.Vectors.{len}
+use Rattle.whole_math.proofs.Vectors.{len_last}
+use Rattle.rational.specs.Rational.{Rational, ◌<ʳ◌}
+use Rattle.quadratic_form.specs.RationalData.{sum_of_rationals}
+use Rattle.quadratic_form.specs.Rows.{value}
+use Rattle.quadratic_form.specs.TwoLeast.{TwoLeast}
+use Rattle.quadratic_form.proofs.Decision.{second_value}
+use Rattle.fix_decide.specs.Decisions.{IsSeparated}
+use Rattle.fix_decide.proofs.DecisionLaws.{room, below}
+use Rattle.track_sum.specs.Fronts.{Front, track_form, track_top, BoundsPair, IsAtMost}
+use Rattle.track_sum.proofs.Bounds.{bound_of_track, top_at_most}
+
+-- of all the pairs: from the bounds of their forms at the rival w, the bounds of their upper sums at z1, and the two least vectors
+pub track_decided : (n h : ℕ) (fs : List Front) (ratio : ℤ) (us : List ℤ) (z1 z2 w : List ℤ) (ours theirs : List Rational) → All (λ f. f.h ≤ h) fs → pos 1 +ℤ len z1 ≡ pos n →
+    TwoLeast (track_form n h fs) (len z1) z1 z2 → pos 1000 ≤ℤ ratio → pos 0 ≤ℤ track_top h us → IsSeparated ratio (track_top h us) (value (track_form n h fs) z2) →
+    len w ≡ len z1 → w ≢ z1 → AllZip IsAtMost ours us → AllZip (BoundsPair n w) fs theirs → sum_of_rationals ours <ʳ sum_of_rationals theirs
+track_decided n h fs ratio us z1 z2 w ours theirs all e least r k separated l other upper lower =
+    below (sum_of_rationals ours) (sum_of_rationals theirs) h (track_top h us) (value (track_form n h fs) z2) (value (track_form n h fs) w) (room (track_top h us) ratio (value (track_form n h fs) z2) r k separated)
+    (second_value (track_form n h fs) (len z1) z1 z2 w least l other) (top_at_most h ours us upper) (bound_of_track n h w fs theirs all (len_last w (pos 1) ∙ ap (λ x. pos 1 +ℤ x) l ∙ e) lower)

@@ -1,0 +1,68 @@
+//! What the front of one pair adds to the form of a track, entry by entry.
+ghost use Rattle.std.specs.Prelude.{◌≡◌, ◌≢◌, ℕ, ◌+◌, ◌-◌, ◌*◌, ◌^◌, ◌<◌, ◌≤◌, pos, ◌+ℤ◌, ◌-ℤ◌, unsigned_abs};
+ghost use Rattle.whole_math.specs.Rounding.{floor_div, nearest_div};
+ghost use Rattle.form_tables.specs.Tables.{entry};
+ghost use Rattle.form_tables.specs.declared.sizes.TheConstants.{MOST_FORM_COLUMNS};
+ghost use Rattle.track_sum.specs.Parts.{part_at};
+
+use form_tables::{BASELINE_COLUMNS, MOST_FORM_COLUMNS, NormalTable};
+use integer_form::FrontForm;
+use whole_math::{floor_shift, nearest};
+
+/// The least e with 2^e at least twice this number.
+pub(crate) fn least_power(count: usize) -> u32
+    requires few { count ≤ 3600 }
+    ensures enough { 2 * count ≤ 2 ^ result }
+    ensures least { (k : ℕ) → 2 * count ≤ 2 ^ k → result ≤ k }
+    ensures few { result ≤ 13 }
+{
+    let mut e = 0;
+    let mut power = 1;
+    while power < 2 * count {
+        e += 1;
+        power *= 2;
+    }
+    e
+}
+
+/// 2^exponent
+fn power_of_two(exponent: u32) -> i128
+    requires { exponent ≤ 90 }
+    ensures value { result ≡ pos (2 ^ exponent) }
+{
+    1 << exponent
+}
+
+/// An own entry over 2^shift downward, less the order of the form.
+fn own_part(entry: i64, shift: u32, order: usize) -> i128
+    requires few { shift ≤ 90 }
+    requires order { order ≤ MOST_FORM_COLUMNS }
+    ensures value { result ≡ floor_div entry (2 ^ shift) -ℤ pos order }
+    ensures size { unsigned_abs result ≤ 2 ^ 64 }
+{
+    floor_shift(entry as i128, shift) - order as i128
+}
+
+/// An entry off the diagonal over 2^shift to the nearest.
+fn other_part(entry: i64, shift: u32) -> i128
+    requires few { shift ≤ 90 }
+    ensures value { result ≡ nearest_div entry (2 ^ shift) }
+    ensures size { unsigned_abs result ≤ 2 ^ 64 }
+{
+    nearest(entry as i128, power_of_two(shift))
+}
+
+/// What a pair adds to the entry in row r and column c.
+fn part(front: &FrontForm, shift: u32, r: usize, c: usize) -> i128
+    requires few { shift ≤ 90 }
+    requires row_in { r < front.now.columns - 3 }
+    requires column_in { c < front.now.columns - 3 }
+    ensures value { result ≡ part_at (front.now.columns - 3) (2 ^ shift) (entry front.now.p) r c }
+    ensures size { unsigned_abs result ≤ 2 ^ 64 }
+{
+    if r == c {
+        own_part(front.p.at(r, r), shift, front.columns - BASELINE_COLUMNS)
+    } else {
+        other_part(front.p.at(r, c), shift)
+    }
+}
