@@ -1,0 +1,80 @@
+-- What the rows of a track are decided to say.
+use Rattle.std.specs.Prelude.{◌≡◌, ◌⊎◌, ℕ, List, ℤ, pos}
+use Rattle.obs_rows.specs.declared.arcs.Arc.{Arc}
+use Rattle.obs_rows.specs.declared.pair_rows.PairRows.{PairRows}
+use Rattle.integer_form.specs.declared.front_form.FrontForm.{FrontForm}
+use Rattle.integer_form.specs.declared.form.Form.{Form}
+use Rattle.integer_form.specs.declared.faults.LowerFault.{LowerFault}
+use Rattle.integer_form.specs.declared.faults.LowerFault.TheVariants as fault
+use Rattle.integer_form.specs.declared.faults.Place.{Place}
+use Rattle.integer_form.specs.declared.faults.Place.TheVariants.{Float, Search, Sum}
+use Rattle.int_search.specs.declared.answer.TwoBest.{TwoBest}
+use Rattle.fix_decide.specs.Decisions.{IsSeparated, first_of}
+use Rattle.settled_decision.specs.Decided.{IsSpent, IsTooWide}
+use Rattle.cert_check.specs.Decided.{AreSameBest}
+use Rattle.track_data.specs.declared.tails.TrackTail.{TrackTail}
+use Rattle.track_data.specs.declared.tails.TrackTail.TheVariants.{Fixed, Unseparated, Weak, Overwidth, Spent}
+use Rattle.track_sum.specs.PairFronts.{IsFirstRefused}
+use Rattle.track_sum.specs.Decided.{IsTrackForm, IsFinishRefused, AreFound, IsMoveWide, IsSumWide, IsStrictlyBest}
+
+-- the rows have no form: the front of some pair is refused, the first of these with this fault, or none is and the finish of their sum is
+abbrev pub IsFormRefused : List Arc → List ℕ → List PairRows → LowerFault → Type 0
+IsFormRefused arcs ss pairs why = IsFirstRefused arcs ss pairs why ⊎ IsFinishRefused arcs ss pairs why
+
+-- a refusal as a tail
+abbrev pub track_tail_of : LowerFault → TrackTail
+track_tail_of (fault.Weak column pivot) = Weak column pivot
+track_tail_of (fault.Overwidth place) = Overwidth place
+
+-- the search over the rows' form ends so without an answer
+pub record IsSearchEnded (arcs : List Arc) (ss : List ℕ) (pairs : List PairRows) (budget : ℕ) (without : Form → ℕ → Type 0) : Type 0 where
+  pub fronts : List FrontForm
+  pub form : Form
+  pub of_rows : IsTrackForm arcs ss pairs fronts form
+  pub ended : without form budget
+
+-- the decision ends with a number that is too large there
+abbrev pub IsTrackWideAt : List Arc → List ℕ → List PairRows → ℕ → Place → Type 0
+IsTrackWideAt arcs ss pairs budget Search = IsSearchEnded arcs ss pairs budget IsTooWide
+IsTrackWideAt arcs ss pairs budget Float = IsMoveWide arcs ss pairs
+IsTrackWideAt arcs ss pairs budget Sum = IsSumWide arcs ss pairs
+IsTrackWideAt arcs ss pairs budget place = IsFormRefused arcs ss pairs (fault.Overwidth place)
+
+-- The decision, in its order: the fronts of the pairs, the finish of their sum, the search, the moves, the upper sums, the ratio
+abbrev pub IsTrackDecision : List Arc → List ℕ → List PairRows → ℕ → ℕ → TrackTail → Type 0
+IsTrackDecision arcs ss pairs ratio budget (Fixed h moves best top) = AreFound arcs ss pairs budget h moves best top × IsSeparated (pos ratio) top best.p2
+IsTrackDecision arcs ss pairs ratio budget (Unseparated h moves best top) = AreFound arcs ss pairs budget h moves best top × (IsSeparated (pos ratio) top best.p2 → ⊥)
+IsTrackDecision arcs ss pairs ratio budget (Weak column pivot) = IsFormRefused arcs ss pairs (fault.Weak column pivot)
+IsTrackDecision arcs ss pairs ratio budget (Overwidth place) = IsTrackWideAt arcs ss pairs budget place
+IsTrackDecision arcs ss pairs ratio budget (Spent spent) = (spent ≡ budget) × IsSearchEnded arcs ss pairs budget IsSpent
+
+-- where the integers are fixed, they are with their moves strictly best for all data in the boxes
+abbrev pub IsTrackBestWhereFixed : List Arc → List ℕ → List PairRows → TrackTail → Type 0
+IsTrackBestWhereFixed arcs ss pairs (Fixed h moves best top) = IsStrictlyBest arcs ss pairs (first_of best) moves
+IsTrackBestWhereFixed arcs ss pairs _ = Unit {0}
+
+-- ---- one decision
+-- the same numbers; of the arrays of integers the entries for the integers count
+pub record AreSameNumbers (h k : ℕ) (moves others : List (List ℤ)) (best other : TwoBest) (top over : ℤ) : Type 0 where
+  pub h_is : h ≡ k
+  pub moves_are : moves ≡ others
+  pub best_is : AreSameBest best other
+  pub top_is : top ≡ over
+
+abbrev pub IsSameTail : TrackTail → TrackTail → Type 0
+IsSameTail (Fixed h moves best top) (Fixed k others other over) = AreSameNumbers h k moves others best other top over
+IsSameTail (Unseparated h moves best top) (Unseparated k others other over) = AreSameNumbers h k moves others best other top over
+IsSameTail (Weak column pivot) (Weak other below) = (column ≡ other) × (pivot ≡ below)
+IsSameTail (Overwidth place) (Overwidth other) = place ≡ other
+IsSameTail (Spent budget) (Spent other) = budget ≡ other
+IsSameTail _ _ = ⊥
+
+-- the search gave up
+abbrev pub HasGivenUp : TrackTail → Type 0
+HasGivenUp (Spent budget) = Unit {0}
+HasGivenUp (Overwidth Search) = Unit {0}
+HasGivenUp _ = ⊥
+
+-- one decision, but where a search gave up
+abbrev pub IsSameDecision : TrackTail → TrackTail → Type 0
+IsSameDecision t u = IsSameTail t u ⊎ (HasGivenUp t ⊎ HasGivenUp u)
