@@ -57,7 +57,7 @@ integers_are s f h fine = fewer f.columns h.normal.columns (integer_count s.arcs
     fewer a b c d e f g = omega arith
 
 -- a fine session has two phases or three
-some_phases : (signals : Signals) → 1 ≤ length (phases (fine_signals signals))
+pub some_phases : (signals : Signals) → 1 ≤ length (phases (fine_signals signals))
 some_phases signals = by_l5 (signals.l5 == 0)
   where
     by_l2 : (unused : Bool) → 1 ≤ length (phases (cond unused SIGNALS_15 SIGNALS_125))

@@ -131,7 +131,7 @@ impl Form {
     /// The point with the least value over the rationals, as the factors have it: for each column but the constant its
     /// number in units of 2^-16, rounded to the nearest from the last column to the first. Behind them the array is 0.
     ///
-    /// The baseline's numbers are in units of 2^(scale - 10) κ.
+    /// The baseline's numbers are in units of 2^(scale - 5) ι.
     pub fn float_of(&self) -> Result<[i64; MOST_FACTORS], Overwidth>
         ensures ok { IfOk result (λ f. (j : ℕ) → item f j ≡ item (float_point self.now) j) }
         ensures refused { IsErr result ↔ HasWide (float_point self.now) }
@@ -144,7 +144,7 @@ impl Form {
         }
     }
 
-    /// The baseline at the integers z, by the same rule, in units of 2^(scale - 10) κ.
+    /// The baseline at the integers z, by the same rule, in units of 2^(scale - 5) ι.
     pub fn baseline_of(&self, z: &[i64]) -> Result<[i64; BASELINE_COLUMNS], Overwidth>
         requires count { length z.now ≡ integers_of self.now }
         requires size { (i : ℕ) → i < length z.now → unsigned_abs (item z.now i) < 2 ^ 30 }
@@ -157,7 +157,7 @@ impl Form {
 }
 
 impl FrontForm {
-    /// The baseline at the integers z, in units of 2^(scale - 10) κ.
+    /// The baseline at the integers z, in units of 2^(scale - 5) ι.
     pub fn baseline_of(&self, z: &[i64]) -> Result<[i64; BASELINE_COLUMNS], Overwidth>
         requires count { length z.now ≡ self.now.columns - 4 }
         requires size { (i : ℕ) → i < length z.now → unsigned_abs (item z.now i) < 2 ^ 30 }

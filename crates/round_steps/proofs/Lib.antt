@@ -1,4 +1,3 @@
-pub mod WeakLaws
 pub mod StepLaws
 pub mod ShiftLaws
 pub mod RunLaws

@@ -12,7 +12,7 @@ use Rattle.cert_data.specs.declared.tails.Tail.TheVariants.{Fixed, Unseparated, 
 use Rattle.round_steps.specs.Limits.{IsFirstOver}
 use Rattle.settled_decision.specs.Decided.{IsBestWhereFixed}
 use Rattle.round_steps.specs.Steps.{IsRoundDeclined, IsUnsettled}
-use Rattle.round_steps.proofs.WeakLaws.{weak_fits}
+use Rattle.settled_decision.proofs.WeakLaws.{weak_fits}
 
 pub word : (x : ℤ) → unsigned_abs x < 2 ^ 46 → to_z w64 (of_z w64 x) ≡ x
 word x h = omega (arith, ints)

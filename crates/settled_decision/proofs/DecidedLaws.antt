@@ -51,14 +51,14 @@ refused_decision s f budget best place two (inr e) wide sum = inr (inr (e, recor
 
 -- ---- the ranges of its numbers
 -- a value from -2^63 on, below one that is below 2^54
-record InRange (p1 p2 : ℤ) : Type 0 where
-  first : IsBelow (2 ^ 126) p1
-  second : IsBelow (2 ^ 126) p2
+pub record InRange (p1 p2 : ℤ) : Type 0 where
+  pub first : IsBelow (2 ^ 126) p1
+  pub second : IsBelow (2 ^ 126) p2
 
-in_range : (p1 p2 : ℤ) → neg_ℤ (pos (2 ^ 63)) ≤ℤ p1 → p1 ≤ℤ p2 → p2 <ℤ pos (2 ^ 54) → InRange p1 p2
+pub in_range : (p1 p2 : ℤ) → neg_ℤ (pos (2 ^ 63)) ≤ℤ p1 → p1 ≤ℤ p2 → p2 <ℤ pos (2 ^ 54) → InRange p1 p2
 in_range p1 p2 h g k = record { first = omega (arith, ints); second = omega (arith, ints) }
 
-first_least : (p : List Column) (v w : List ℤ) → Less p v w → value p v ≤ℤ value p w
+pub first_least : (p : List Column) (v w : List ℤ) → Less p v w → value p v ≤ℤ value p w
 first_least p v w h = ⊎_elim (λ (l : value p v <ℤ value p w). weaker (value p v) (value p w) l) (λ e. same (value p v) (value p w) e.0) h
   where
     weaker : (a b : ℤ) → a <ℤ b → a ≤ℤ b

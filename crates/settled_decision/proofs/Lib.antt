@@ -1,1 +1,2 @@
 pub mod DecidedLaws
+pub mod WeakLaws

@@ -56,7 +56,7 @@ pub fn decide_settled(session: &Session, form: &Form, ratio: u32, budget: u64) -
 }
 
 /// No value of a form is below its last entry, which fits its word.
-fn values_from(form: &Form)
+pub fn values_from(form: &Form)
     ensures { (z : List ℤ) → length z ≡ integers_of form.now → neg_ℤ (pos (2 ^ 63)) ≤ℤ value_of form.now z }
 {
     lower_sum_law(form);

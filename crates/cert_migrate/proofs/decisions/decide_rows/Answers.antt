@@ -5,7 +5,7 @@ use Rattle.integer_form.specs.declared.faults.LowerFault.TheVariants.{Weak, Over
 use Rattle.cert_data.specs.declared.tails.Tail.{Tail}
 use Rattle.cert_data.specs.Tails.{IsTailOf}
 use Rattle.settled_decision.specs.Decided.{IsRefused, tail_of}
-use Rattle.round_steps.proofs.WeakLaws.{weak_fits}
+use Rattle.settled_decision.proofs.WeakLaws.{weak_fits}
 use Rattle.obs_rows.specs.Signals.{fine_signals}
 use Rattle.cert_migrate.proofs.decisions.decide_rows.Goals as goal
 
