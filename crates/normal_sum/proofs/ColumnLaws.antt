@@ -1,14 +1,14 @@
 -- Lists of columns, and what is added in them.
-use Rattle.std.proofs.Common.{◌≡◌, ◌≢◌, ◌⊎◌, inl, inr, ⊎_elim, ℕ, zero, suc, ◌+◌, ◌<◌, ◌≤◌, List, [], ◌∷◌, ◌++◌, length, ℤ, pos, ◌+ℤ◌, slice_index_or, arith, sym, ap, ◌∙◌, subst, below_more, length-append, refl}
+use Rattle.std.proofs.Common.{◌≡◌, ◌≢◌, ◌⊎◌, inl, inr, ⊎_elim, ℕ, zero, suc, ◌+◌, ◌-◌, ◌<◌, ◌≤◌, List, [], ◌∷◌, ◌++◌, length, drop, ℤ, pos, ◌+ℤ◌, slice_index_or, arith, sym, ap, ◌∙◌, subst, below_more, length-append, refl}
 use Rattle.std.specs.Prelude.{slice_index, All}
 use Rattle.std.specs.List.Sorted.{IsStrictlyIncreasing}
 use Rattle.std.proofs.lemmas.Bool.{cases_eq}
-use Rattle.std.proofs.lemmas.List.{get_or_append_left, get_or_past, get_or_push}
+use Rattle.std.proofs.lemmas.List.{get_or_append_left, get_or_past, get_or_push, get_or-drop, get_or_default, length-drop}
 use Rattle.std.proofs.lemmas.List.Elements.{All-from_recursion, All-push}
 use Rattle.std.proofs.lemmas.List.Kept.{AllPairs-from_increasing}
 use Rattle.whole_math.proofs.Order.{lins}
 use Rattle.form_tables.specs.declared.sizes.TheConstants.{MOST_COLUMNS, MOST_INTEGERS}
-use Rattle.normal_sum.specs.Columns.{AreColumnsOf}
+use Rattle.normal_sum.specs.Columns.{AreColumnsOf, AreColumnsFrom}
 
 -- ---- a column that is one of the list, or none of it
 pub one_or_none : (columns : List ℕ) (j : ℕ) → ((k : ℕ) × (k < length columns) × (slice_index columns k ≡ j)) ⊎ ((k : ℕ) → k < length columns → slice_index columns k ≢ j)
@@ -27,37 +27,86 @@ one_or_none (c ∷ cs) j = ⊎_elim (λ (e : c ≡ j). inl (0, omega arith, e)) 
 before : (columns : List ℕ) (m k : ℕ) → IsStrictlyIncreasing columns → m < k → k < length columns → slice_index columns m ≢ slice_index columns k
 before columns m k r h g e = let below : slice_index columns m < slice_index columns k = AllPairs-from_increasing columns r m k 0 h g in omega (arith, below, e)
 
--- ---- of values by their columns: what is added in the first n columns of a list, and the rest as it was
-pub record AddedIn (columns : List ℕ) (n : ℕ) (old new add : ℕ → ℤ) : Type 0 where
-  pub done : (k : ℕ) → k < n → new (slice_index columns k) ≡ old (slice_index columns k) +ℤ add (slice_index columns k)
-  pub rest : (j : ℕ) → ((k : ℕ) → k < n → slice_index columns k ≢ j) → new j ≡ old j
+-- ---- of values by their columns: what is added in the first n columns of a list, and the rest as it was, among these columns
+pub record AddedIn (among : ℕ → Type 0) (columns : List ℕ) (n : ℕ) (old new add : ℕ → ℤ) : Type 0 where
+  pub done : (k : ℕ) → k < n → among (slice_index columns k) → new (slice_index columns k) ≡ old (slice_index columns k) +ℤ add (slice_index columns k)
+  pub rest : (j : ℕ) → among j → ((k : ℕ) → k < n → slice_index columns k ≢ j) → new j ≡ old j
 
-pub none_added : (columns : List ℕ) (old add : ℕ → ℤ) → AddedIn columns 0 old old add
-none_added columns old add = record { done = λ k h. absurd (omega arith); rest = λ j h. refl }
+pub none_added : (among : ℕ → Type 0) (columns : List ℕ) (old add : ℕ → ℤ) → AddedIn among columns 0 old old add
+none_added among columns old add = record { done = λ k h m. absurd (omega arith); rest = λ j m h. refl }
 
-pub untouched : (columns : List ℕ) (k : ℕ) (old now add : ℕ → ℤ) → IsStrictlyIncreasing columns → k < length columns → AddedIn columns k old now add → now (slice_index columns k)
-    ≡ old (slice_index columns k)
-untouched columns k old now add r g a = a.rest (slice_index columns k) (λ m h. before columns m k r h g)
+pub untouched : (among : ℕ → Type 0) (columns : List ℕ) (k : ℕ) (old now add : ℕ → ℤ) → IsStrictlyIncreasing columns → k < length columns → AddedIn among columns k old now add →
+    among (slice_index columns k) → now (slice_index columns k) ≡ old (slice_index columns k)
+untouched among columns k old now add r g a p = a.rest (slice_index columns k) p (λ m h. before columns m k r h g)
 
-pub one_more : (columns : List ℕ) (k : ℕ) (old now new add : ℕ → ℤ) → IsStrictlyIncreasing columns → k < length columns → AddedIn columns k old now add →
-    ((j : ℕ) → j ≢ slice_index columns k → new j ≡ now j) → new (slice_index columns k) ≡ now (slice_index columns k) +ℤ add (slice_index columns k) → AddedIn columns (k + 1) old new add
-one_more columns k old now new add r g a others there = record {
-  done = below_more (λ (m : ℕ). new (slice_index columns m) ≡ old (slice_index columns m) +ℤ add (slice_index columns m)) k
-      (λ m h. others (slice_index columns m) (before columns m k r h g) ∙ a.done m h)
-      (there ∙ ap (λ z. z +ℤ add (slice_index columns k)) (untouched columns k old now add r g a));
-  rest = λ j h. others j (λ e. h k (omega arith) (sym e)) ∙ a.rest j (λ m l. h m (omega arith));
+pub one_more : (among : ℕ → Type 0) (columns : List ℕ) (k : ℕ) (old now new add : ℕ → ℤ) → IsStrictlyIncreasing columns → k < length columns → AddedIn among columns k old now add →
+    ((j : ℕ) → among j → j ≢ slice_index columns k → new j ≡ now j) →
+    (among (slice_index columns k) → new (slice_index columns k) ≡ now (slice_index columns k) +ℤ add (slice_index columns k)) → AddedIn among columns (k + 1) old new add
+one_more among columns k old now new add r g a others there = record {
+  done = below_more (λ (m : ℕ). among (slice_index columns m) → new (slice_index columns m) ≡ old (slice_index columns m) +ℤ add (slice_index columns m)) k
+      (λ m h p. others (slice_index columns m) p (before columns m k r h g) ∙ a.done m h p)
+      (λ p. there p ∙ ap (λ z. z +ℤ add (slice_index columns k)) (untouched among columns k old now add r g a p));
+  rest = λ j p h. others j p (λ e. h k (omega arith) (sym e)) ∙ a.rest j p (λ m l. h m (omega arith));
 }
 
 -- all, where nothing is to be added in the other columns
-pub all_added : (values : List ℤ) (columns : List ℕ) (n : ℕ) (old new add : ℕ → ℤ) → AreColumnsOf values columns → n ≡ length columns → AddedIn columns n old new add →
-    ((j : ℕ) → slice_index_or values j (pos 0) ≡ pos 0 → add j ≡ pos 0) → (j : ℕ) → new j ≡ old j +ℤ add j
-all_added values columns n old new add are h a z j = ⊎_elim
-    (λ (w : (k : ℕ) × (k < length columns) × (slice_index columns k ≡ j)). subst (λ (i : ℕ). new i ≡ old i +ℤ add i) w.2 (a.done w.0 (omega (arith, w.1))))
-    (λ (f : (k : ℕ) → k < length columns → slice_index columns k ≢ j). a.rest j (λ k l. f k (omega arith)) ∙ nothing (old j) (add j) (z j (are.others j f)))
+pub all_added : (among : ℕ → Type 0) (values : List ℤ) (columns : List ℕ) (n : ℕ) (old new add : ℕ → ℤ) →
+    ((j : ℕ) → among j → ((k : ℕ) → k < length columns → slice_index columns k ≢ j) → slice_index_or values j (pos 0) ≡ pos 0) → n ≡ length columns → AddedIn among columns n old new add →
+    ((j : ℕ) → slice_index_or values j (pos 0) ≡ pos 0 → add j ≡ pos 0) → (j : ℕ) → among j → new j ≡ old j +ℤ add j
+all_added among values columns n old new add others h a z j p = ⊎_elim
+    (λ (w : (k : ℕ) × (k < length columns) × (slice_index columns k ≡ j)). subst (λ (i : ℕ). among i → new i ≡ old i +ℤ add i) w.2 (a.done w.0 (omega (arith, w.1))) p)
+    (λ (f : (k : ℕ) → k < length columns → slice_index columns k ≢ j). a.rest j p (λ k l. f k (omega arith)) ∙ nothing (old j) (add j) (z j (others j p f)))
     (one_or_none columns j)
   where
     nothing : (x y : ℤ) → y ≡ pos 0 → x ≡ x +ℤ y
     nothing x y e = omega (arith, lins)
+
+-- ---- the columns of a list from its k-th on
+later_index : (columns : List ℕ) (k m : ℕ) → slice_index (drop k columns) m ≡ slice_index columns (k + m)
+later_index columns k m = get_or-drop k columns m 0
+
+later_length : (columns : List ℕ) (k m : ℕ) → k ≤ length columns → m < length (drop k columns) → k + m < length columns
+later_length columns k m h g = omega (arith, length-drop k columns)
+
+at_or_behind : (columns : List ℕ) (k m : ℕ) → IsStrictlyIncreasing columns → k + m < length columns → slice_index columns k ≤ slice_index columns (k + m)
+at_or_behind columns k zero r h = subst (λ (i : ℕ). slice_index columns k ≤ slice_index columns i) (plain k) (omega arith)
+  where
+    plain : (k : ℕ) → k ≡ k + 0
+    plain k = omega arith
+at_or_behind columns k (suc m) r h = let below : slice_index columns k < slice_index columns (k + suc m) = AllPairs-from_increasing columns r k (k + suc m) 0 (omega arith) h in omega (arith, below)
+
+pub columns_from : (values : List ℤ) (columns : List ℕ) (k : ℕ) → AreColumnsOf values columns → k < length columns → AreColumnsFrom (slice_index columns k) values (drop k columns)
+columns_from values columns k are h = record {
+  inside = λ m d l. inside_at m d l;
+  from = λ m d l. from_at m d l;
+  rising = λ m l. rising_at m l;
+  others = λ j g f. are.others j (λ i l e. none_at j g f i l e (side i k));
+}
+  where
+    side : (i n : ℕ) → (i < n) ⊎ (n ≤ i)
+    side i n = grind arith
+
+    plain : (i k : ℕ) → k ≤ i → k + (i - k) ≡ i
+    plain i k h = omega arith
+
+    read_at : (m d : ℕ) → m < length (drop k columns) → slice_index_or (drop k columns) m d ≡ slice_index columns (k + m)
+    read_at m d l = get_or-drop k columns m d ∙ get_or_default columns (k + m) d 0 (later_length columns k m (omega arith) l)
+
+    inside_at : (m d : ℕ) → m < length (drop k columns) → slice_index_or (drop k columns) m d < MOST_COLUMNS
+    inside_at m d l = subst (λ (c : ℕ). c < MOST_COLUMNS) (sym (read_at m d l)) (are.inside (k + m) 0 (later_length columns k m (omega arith) l))
+
+    from_at : (m d : ℕ) → m < length (drop k columns) → slice_index columns k ≤ slice_index_or (drop k columns) m d
+    from_at m d l = subst (λ (c : ℕ). slice_index columns k ≤ c) (sym (read_at m d l)) (at_or_behind columns k m are.rising (later_length columns k m (omega arith) l))
+
+    rising_at : (m : ℕ) → m + 1 < length (drop k columns) → slice_index (drop k columns) m < slice_index (drop k columns) (m + 1)
+    rising_at m l = subst (λ (c : ℕ). c < slice_index (drop k columns) (m + 1)) (sym (later_index columns k m))
+        (subst (λ (c : ℕ). slice_index columns (k + m) < c) (sym (later_index columns k (m + 1)))
+        (AllPairs-from_increasing columns are.rising (k + m) (k + (m + 1)) 0 (omega arith) (later_length columns k (m + 1) (omega arith) l)))
+
+    none_at : (j : ℕ) → slice_index columns k ≤ j → ((m : ℕ) → m < length (drop k columns) → slice_index (drop k columns) m ≢ j) → (i : ℕ) → i < length columns → slice_index columns i ≡ j →
+        (i < k) ⊎ (k ≤ i) → ⊥
+    none_at j g f i l e (inl b) = let below : slice_index columns i < slice_index columns k = AllPairs-from_increasing columns are.rising i k 0 b h in omega (arith, below, e, g)
+    none_at j g f i l e (inr b) = f (i - k) (omega (arith, length-drop k columns)) (later_index columns k (i - k) ∙ ap (slice_index columns) (plain i k b) ∙ e)
 
 -- ---- the columns of a row: three of the baseline, of its integer if it has one, and of the constant
 first_columns : (a b : ℕ) → 3 ≤ a → a < b → IsStrictlyIncreasing (0 ∷ 1 ∷ 2 ∷ a ∷ b ∷ [])

@@ -11,7 +11,7 @@ use Rattle.form_tables.specs.Tables.{entry, HasShape, IsZeroOutside}
 use Rattle.normal_sum.specs.declared.radii.RadiusSums.{RadiusSums}
 use Rattle.normal_sum.specs.RadiusSums.{IsAtMost}
 use Rattle.form_tables.specs.Matrices.{IsSymmetric, EntriesBelow}
-use Rattle.normal_sum.specs.Matrices.{IsRadiusSum}
+use Rattle.normal_sum.specs.Matrices.{IsRadiusSum, IsMirrored}
 use Rattle.normal_sum.proofs.Words.{small_w128}
 use Rattle.normal_sum.proofs.RadiusLaws.{radii_assoc, radii_same}
 
@@ -34,6 +34,16 @@ entries_everywhere n gs t s c h e i j = ⊎_elim
     (side j MOST_COLUMNS))
     (λ (gi : MOST_COLUMNS ≤ i). entry_past_row t i j s gi ∙ sym (matrix_past_row n gs i j h (omega arith)))
     (side i MOST_COLUMNS)
+
+-- from the entries on and above the diagonal
+pub mirrored_entries : (t u : List (List ℤ)) (gs : List SignalGroup) → IsMirrored t u → ((i j : ℕ) → i ≤ j → j < MOST_COLUMNS → entry t i j ≡ matrix_entry gs i j) →
+    (i j : ℕ) → i < MOST_COLUMNS → j < MOST_COLUMNS → entry u i j ≡ matrix_entry gs i j
+mirrored_entries t u gs m e i j hi hj = ⊎_elim (λ (h : j < i). m.below j i h hi ∙ e j i (omega arith) hi ∙ matrix_turned gs j i) (λ (h : i ≤ j). m.above i j h ∙ e i j h hj) (side j i)
+
+pub mirrored_sizes : (n : ℕ) (t u : List (List ℤ)) → IsMirrored t u → ((i j : ℕ) → i ≤ j → j < MOST_COLUMNS → unsigned_abs (entry t i j) < n) →
+    (i j : ℕ) → i < MOST_COLUMNS → j < MOST_COLUMNS → unsigned_abs (entry u i j) < n
+mirrored_sizes n t u m e i j hi hj = ⊎_elim (λ (h : j < i). subst (λ (z : ℤ). unsigned_abs z < n) (sym (m.below j i h hi)) (e j i (omega arith) hi))
+    (λ (h : i ≤ j). subst (λ (z : ℤ). unsigned_abs z < n) (sym (m.above i j h)) (e i j h hj)) (side j i)
 
 pub symmetric_is : (gs : List SignalGroup) (t : List (List ℤ)) → ((i j : ℕ) → entry t i j ≡ matrix_entry gs i j) → IsSymmetric t
 symmetric_is gs t e = λ i j. e i j ∙ matrix_turned gs i j ∙ sym (e j i)

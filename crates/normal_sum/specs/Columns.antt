@@ -1,5 +1,5 @@
 -- The columns in which a row has a coefficient.
-use Rattle.std.specs.Prelude.{◌≡◌, ◌≢◌, ℕ, ◌<◌, List, ℤ, pos, length, All, slice_index, slice_index_or}
+use Rattle.std.specs.Prelude.{◌≡◌, ◌≢◌, ℕ, ◌<◌, ◌≤◌, List, ℤ, pos, length, All, slice_index, slice_index_or}
 use Rattle.std.specs.List.Sorted.{IsStrictlyIncreasing}
 use Rattle.form_tables.specs.declared.sizes.TheConstants.{MOST_COLUMNS}
 
@@ -8,3 +8,10 @@ pub record AreColumnsOf (values : List ℤ) (columns : List ℕ) : Type 0 where
   pub inside : All (λ c. c < MOST_COLUMNS) columns
   pub rising : IsStrictlyIncreasing columns
   pub others : (j : ℕ) → ((k : ℕ) → k < length columns → slice_index columns k ≢ j) → slice_index_or values j (pos 0) ≡ pos 0
+
+-- the same of the columns from `row` on
+pub record AreColumnsFrom (row : ℕ) (values : List ℤ) (columns : List ℕ) : Type 0 where
+  pub inside : All (λ c. c < MOST_COLUMNS) columns
+  pub from : All (λ c. row ≤ c) columns
+  pub rising : IsStrictlyIncreasing columns
+  pub others : (j : ℕ) → row ≤ j → ((k : ℕ) → k < length columns → slice_index columns k ≢ j) → slice_index_or values j (pos 0) ≡ pos 0

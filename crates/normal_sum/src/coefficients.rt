@@ -1,7 +1,7 @@
 //! The coefficients of a row in the columns of the matrix: three of the baseline, the integers, the constant.
-ghost use Rattle.std.specs.Prelude.{◌≡◌, ◌≢◌, ℕ, ◌+◌, ◌^◌, ◌<◌, ◌≤◌, List, pos, length, unsigned_abs, slice_index_or, Option, IfSome};
+ghost use Rattle.std.specs.Prelude.{◌≡◌, ◌≢◌, ℕ, ◌+◌, ◌^◌, ◌<◌, ◌≤◌, List, pos, length, unsigned_abs, replicate, slice_index_or, Option, IfSome};
 ghost use Rattle.obs_rows.specs.declared.arcs.Arc.{Arc};
-ghost use Rattle.form_tables.specs.declared.sizes.TheConstants.{BASELINE_COLUMNS};
+ghost use Rattle.form_tables.specs.declared.sizes.TheConstants.{BASELINE_COLUMNS, MOST_COLUMNS};
 ghost use Rattle.obs_rows.specs.Signals.{cycle};
 ghost use Rattle.obs_rows.specs.Integers.{integer_count, integer_place};
 ghost use Rattle.obs_rows.specs.SignalGroups.{signal_row};
@@ -23,34 +23,35 @@ fn cycle_of(signal: usize) -> i64
 /// Writes the coefficient of an integer, if there is one.
 fn put_integer(values: &mut [i64; MOST_COLUMNS], place: Option<usize>, value: i64)
     requires { IfSome place (λ i. i < MOST_INTEGERS) }
-    ensures { values.new ≡ put_at values.old place value }
+    ensures value { values.new ≡ put_at values.old place value }
+    ensures room { length values.new ≡ MOST_COLUMNS }
 {
     if let Some(i) = place {
         values[BASELINE_COLUMNS + i] = value;
     }
 }
 
-/// The coefficients of a row as one signal sees it, with its integer at this place; 0 elsewhere.
-pub(crate) fn coefficients(
+/// Writes the coefficients of a row as one signal sees it over zeros, with its integer at this place.
+pub(crate) fn put_coefficients(
+    values: &mut [i64; MOST_COLUMNS],
     row: &Row,
     signal: usize,
     place: Option<usize>,
     integers: usize,
-) -> [i64; MOST_COLUMNS]
+)
+    requires zeros { values.old ≡ replicate MOST_COLUMNS (pos 0) }
     requires signal { signal < SIGNALS }
     requires place { IfSome place (λ i. i < integers) }
     requires few { integers ≤ MOST_INTEGERS }
     ensures entries { (arcs : List Arc) (ss : List ℕ) → place ≡ integer_place arcs ss row.now.arc signal → integers ≡ integer_count arcs ss →
-        (j : ℕ) → slice_index_or result j (pos 0) ≡ coefficient (signal_row arcs ss signal row.now) j }
-    ensures size { (j : ℕ) → unsigned_abs (slice_index_or result j (pos 0)) ≤ 2 ^ 34 }
+        (j : ℕ) → slice_index_or values.new j (pos 0) ≡ coefficient (signal_row arcs ss signal row.now) j }
+    ensures size { (j : ℕ) → unsigned_abs (slice_index_or values.new j (pos 0)) ≤ 2 ^ 34 }
     ensures others { (j : ℕ) → BASELINE_COLUMNS ≤ j → j ≢ BASELINE_COLUMNS + integers → IfSome place (λ i. j ≢ BASELINE_COLUMNS + i) →
-        slice_index_or result j (pos 0) ≡ pos 0 }
+        slice_index_or values.new j (pos 0) ≡ pos 0 }
 {
-    let mut values = [0; MOST_COLUMNS];
     values[0] = -row.u[0];
     values[1] = -row.u[1];
     values[2] = -row.u[2];
-    put_integer(&mut values, place, -cycle_of(signal));
+    put_integer(values, place, -cycle_of(signal));
     values[BASELINE_COLUMNS + integers] = row.y[signal];
-    values
 }

@@ -1,4 +1,5 @@
-//! The columns in which a row has a coefficient: at most five, so a product adds to at most 25 entries of the matrix.
+//! The columns in which a row has a coefficient: at most five, so a product adds to at most 15 entries on and above the
+//! diagonal of the matrix.
 ghost use Rattle.std.specs.Prelude.{◌≡◌, ℕ, ◌<◌, ◌≤◌, ◌^◌, ◌+ℤ◌, pos, unsigned_abs, slice_index_or};
 ghost use Rattle.normal_sum.specs.Columns.{AreColumnsOf};
 

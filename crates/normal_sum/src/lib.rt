@@ -5,11 +5,12 @@
 //! matrix gives the weighted sum of squares at the centres of the boxes (`centres`), and 63 times it, less the radii,
 //! is at most 64 times the sum of squares at any data in the boxes (`below`). The calls take no memory and never
 //! refuse; the type `Normal` keeps symmetry, and that each entry is below 2^120 in size and each sum of radii below
-//! 2^100.
+//! 2^100. `share` is exactly 360360 times a signal's weight over a number of rows, which is a whole number.
 #![tactic(auto)]
 
 mod coefficients;
 mod columns;
+mod mirror;
 mod normal;
 mod pairs;
 mod places;
@@ -19,4 +20,6 @@ mod signals;
 mod sums;
 
 pub use normal::Normal;
+pub use places::MOST_ROWS;
+pub use signals::share;
 pub use sums::{sum, sum_pair};

@@ -29,9 +29,9 @@ pub(crate) fn add_pair(
     requires counted { AreCounted signals.now }
     requires integers { integers ≡ integer_count arcs.now signals.now }
     requires few { integers ≤ MOST_INTEGERS }
-    requires entry_size { (i j : ℕ) → i < MOST_COLUMNS → j < MOST_COLUMNS → unsigned_abs (entry table.old i j) ≤ 3599 * 2 ^ 108 }
-    ensures added { (i j : ℕ) → i < MOST_COLUMNS → j < MOST_COLUMNS → entry table.new i j ≡ entry table.old i j +ℤ matrix_entry (pair_groups arcs.now signals.now pair.now) i j }
-    ensures size { (i j : ℕ) → i < MOST_COLUMNS → j < MOST_COLUMNS → unsigned_abs (entry table.new i j) ≤ unsigned_abs (entry table.old i j) + 2 ^ 108 }
+    requires entry_size { (i j : ℕ) → i ≤ j → j < MOST_COLUMNS → unsigned_abs (entry table.old i j) ≤ 3599 * 2 ^ 108 }
+    ensures added { (i j : ℕ) → i ≤ j → j < MOST_COLUMNS → entry table.new i j ≡ entry table.old i j +ℤ matrix_entry (pair_groups arcs.now signals.now pair.now) i j }
+    ensures size { (i j : ℕ) → i ≤ j → j < MOST_COLUMNS → unsigned_abs (entry table.new i j) ≤ unsigned_abs (entry table.old i j) + 2 ^ 108 }
 {
     let firsts = first_places(arcs, signals, pair.rows.as_slice());
     for signal in signals {

@@ -11,7 +11,7 @@ use form_tables::MOST_INTEGERS;
 use obs_rows::{Arc, MOST_FREE_ARCS, PHASES, Row, free_arcs, phase_count};
 
 /// The most rows of a pair.
-pub(crate) const MOST_ROWS: usize = 15;
+pub const MOST_ROWS: usize = 15;
 
 /// The place of an arc's first integer, where each free arc has as many as there are phases; None for a datum.
 fn first_place(arcs: &[Arc], phases: usize, arc: usize) -> Option<usize>

@@ -1,7 +1,8 @@
-//! Weighted products of the coefficients of a row, added to a table in the columns that the row has.
+//! Weighted products of the coefficients of a row, added to a table in the columns that the row has, on and above the
+//! diagonal alone.
 ghost use Rattle.std.specs.Prelude.{◌≡◌, ◌≢◌, ◌⊎◌, ℕ, ◌^◌, ◌<◌, ◌≤◌, pos, ◌+ℤ◌, ◌*ℤ◌, unsigned_abs, slice_index_or};
 ghost use Rattle.form_tables.specs.Tables.{entry};
-ghost use Rattle.normal_sum.specs.Columns.{AreColumnsOf};
+ghost use Rattle.normal_sum.specs.Columns.{AreColumnsOf, AreColumnsFrom};
 
 use form_tables::{MOST_COLUMNS, NormalTable};
 
@@ -39,7 +40,7 @@ fn add_to_entry(table: &mut NormalTable, row: usize, column: usize, factor: i128
     table.set(row, column, sum);
 }
 
-/// Adds factor times the values to a row.
+/// Adds factor times the values to a row, from the diagonal on.
 fn add_to_row(
     table: &mut NormalTable,
     row: usize,
@@ -48,11 +49,11 @@ fn add_to_row(
     columns: &[usize],
 )
     requires row_in { row < MOST_COLUMNS }
-    requires columns { AreColumnsOf values.now columns.now }
+    requires columns { AreColumnsFrom row values.now columns.now }
     requires factor_size { unsigned_abs factor ≤ 2 ^ 72 }
     requires value_size { (j : ℕ) → j < MOST_COLUMNS → unsigned_abs (slice_index_or values.now j (pos 0)) ≤ 2 ^ 38 }
-    requires entry_size { (j : ℕ) → j < MOST_COLUMNS → unsigned_abs (entry table.old row j) ≤ 2 ^ 120 }
-    ensures added { (j : ℕ) → j < MOST_COLUMNS → entry table.new row j ≡ entry table.old row j +ℤ (factor *ℤ slice_index_or values.now j (pos 0)) }
+    requires entry_size { (j : ℕ) → row ≤ j → j < MOST_COLUMNS → unsigned_abs (entry table.old row j) ≤ 2 ^ 120 }
+    ensures added { (j : ℕ) → row ≤ j → j < MOST_COLUMNS → entry table.new row j ≡ entry table.old row j +ℤ (factor *ℤ slice_index_or values.now j (pos 0)) }
     ensures others { (i j : ℕ) → i ≢ row → entry table.new i j ≡ entry table.old i j }
 {
     for column in columns {
@@ -60,7 +61,7 @@ fn add_to_row(
     }
 }
 
-/// Adds weight · `values[row]` times the values to a row.
+/// Adds weight · `values[row]` times the values to a row, from the diagonal on.
 fn add_product_row(
     table: &mut NormalTable,
     row: usize,
@@ -69,17 +70,17 @@ fn add_product_row(
     weight: i64,
 )
     requires row_in { row < MOST_COLUMNS }
-    requires columns { AreColumnsOf values.now columns.now }
+    requires columns { AreColumnsFrom row values.now columns.now }
     requires weight_size { unsigned_abs weight ≤ 2 ^ 32 }
     requires value_size { (j : ℕ) → j < MOST_COLUMNS → unsigned_abs (slice_index_or values.now j (pos 0)) ≤ 2 ^ 38 }
-    requires entry_size { (j : ℕ) → j < MOST_COLUMNS → unsigned_abs (entry table.old row j) ≤ 2 ^ 120 }
-    ensures added { (j : ℕ) → j < MOST_COLUMNS → entry table.new row j ≡ entry table.old row j +ℤ ((weight *ℤ slice_index_or values.now row (pos 0)) *ℤ slice_index_or values.now j (pos 0)) }
+    requires entry_size { (j : ℕ) → row ≤ j → j < MOST_COLUMNS → unsigned_abs (entry table.old row j) ≤ 2 ^ 120 }
+    ensures added { (j : ℕ) → row ≤ j → j < MOST_COLUMNS → entry table.new row j ≡ entry table.old row j +ℤ ((weight *ℤ slice_index_or values.now row (pos 0)) *ℤ slice_index_or values.now j (pos 0)) }
     ensures others { (i j : ℕ) → i ≢ row → entry table.new i j ≡ entry table.old i j }
 {
     add_to_row(table, row, times(weight, values[row]), values, columns);
 }
 
-/// Adds weight · values · valuesᵀ, in the columns of the values.
+/// Adds weight · values · valuesᵀ on and above the diagonal, in the columns of the values.
 pub(crate) fn add_product(
     table: &mut NormalTable,
     values: &[i64; MOST_COLUMNS],
@@ -89,10 +90,10 @@ pub(crate) fn add_product(
     requires columns { AreColumnsOf values.now columns.now }
     requires weight_size { unsigned_abs weight ≤ 2 ^ 32 }
     requires value_size { (j : ℕ) → j < MOST_COLUMNS → unsigned_abs (slice_index_or values.now j (pos 0)) ≤ 2 ^ 38 }
-    requires entry_size { (i j : ℕ) → i < MOST_COLUMNS → j < MOST_COLUMNS → unsigned_abs (entry table.old i j) ≤ 2 ^ 120 }
-    ensures { (i j : ℕ) → i < MOST_COLUMNS → j < MOST_COLUMNS → entry table.new i j ≡ entry table.old i j +ℤ ((weight *ℤ slice_index_or values.now i (pos 0)) *ℤ slice_index_or values.now j (pos 0)) }
+    requires entry_size { (i j : ℕ) → i ≤ j → j < MOST_COLUMNS → unsigned_abs (entry table.old i j) ≤ 2 ^ 120 }
+    ensures { (i j : ℕ) → i ≤ j → j < MOST_COLUMNS → entry table.new i j ≡ entry table.old i j +ℤ ((weight *ℤ slice_index_or values.now i (pos 0)) *ℤ slice_index_or values.now j (pos 0)) }
 {
-    for row in columns {
-        add_product_row(table, *row, values, columns, weight);
+    for k in 0..columns.len() {
+        add_product_row(table, columns[k], values, &columns[k..], weight);
     }
 }

@@ -10,7 +10,7 @@ ghost use Rattle.obs_rows.specs.SignalGroups.{signal_row, signal_group};
 ghost use Rattle.normal_sum.specs.Columns.{AreColumnsOf};
 ghost use Rattle.normal_sum.specs.Places.{ArePlaces};
 
-use crate::coefficients::coefficients;
+use crate::coefficients::put_coefficients;
 use crate::columns::{add_values, used_columns};
 use crate::places::MOST_ROWS;
 use crate::products::add_product;
@@ -31,12 +31,14 @@ pub(crate) fn row_weight(signal: usize) -> i64
     COMMON_MULTIPLE * WEIGHTS[signal]
 }
 
-/// The weight of a signal over this number of rows.
-fn share(rows: usize, signal: usize) -> i64
+/// 360360 times the weight of a signal, over this number of rows.
+pub fn share(rows: usize, signal: usize) -> i64
     requires some { 1 ≤ rows }
     requires few { rows ≤ MOST_ROWS }
     requires signal { signal < SIGNALS }
-    ensures { result ≡ share rows signal }
+    ensures value { result ≡ share rows signal }
+    ensures from { pos 0 ≤ℤ result }
+    ensures to { (result *ℤ pos rows) ≤ℤ pos (2 ^ 32) }
 {
     COMMON_MULTIPLE / rows as i64 * WEIGHTS[signal]
 }
@@ -62,12 +64,12 @@ fn add_in(
     requires columns { AreColumnsOf values.now columns.now }
     requires weight_size { unsigned_abs weight ≤ 2 ^ 32 }
     requires value_size { (j : ℕ) → unsigned_abs (slice_index_or values.now j (pos 0)) ≤ 2 ^ 34 }
-    requires entry_size { (i j : ℕ) → i < MOST_COLUMNS → j < MOST_COLUMNS → unsigned_abs (entry table.old i j) ≤ 2 ^ 120 }
+    requires entry_size { (i j : ℕ) → i ≤ j → j < MOST_COLUMNS → unsigned_abs (entry table.old i j) ≤ 2 ^ 120 }
     requires total_size { (j : ℕ) → j < MOST_COLUMNS → unsigned_abs (slice_index_or total.old j (pos 0)) ≤ 2 ^ 40 }
-    ensures products { (i j : ℕ) → i < MOST_COLUMNS → j < MOST_COLUMNS →
+    ensures products { (i j : ℕ) → i ≤ j → j < MOST_COLUMNS →
         entry table.new i j ≡ entry table.old i j +ℤ ((weight *ℤ slice_index_or values.now i (pos 0)) *ℤ slice_index_or values.now j (pos 0)) }
     ensures sums { (j : ℕ) → j < MOST_COLUMNS → slice_index_or total.new j (pos 0) ≡ slice_index_or total.old j (pos 0) +ℤ slice_index_or values.now j (pos 0) }
-    ensures table_size { (i j : ℕ) → i < MOST_COLUMNS → j < MOST_COLUMNS → unsigned_abs (entry table.new i j) ≤ unsigned_abs (entry table.old i j) + 2 ^ 100 }
+    ensures table_size { (i j : ℕ) → i ≤ j → j < MOST_COLUMNS → unsigned_abs (entry table.new i j) ≤ unsigned_abs (entry table.old i j) + 2 ^ 100 }
     ensures sum_size { (j : ℕ) → j < MOST_COLUMNS → unsigned_abs (slice_index_or total.new j (pos 0)) ≤ unsigned_abs (slice_index_or total.old j (pos 0)) + 2 ^ 34 }
 {
     add_product(table, values, columns, weight);
@@ -87,17 +89,18 @@ fn add_row(
     requires signal { signal < SIGNALS }
     requires place { IfSome place (λ i. i < integers) }
     requires few { integers ≤ MOST_INTEGERS }
-    requires entry_size { (i j : ℕ) → i < MOST_COLUMNS → j < MOST_COLUMNS → unsigned_abs (entry table.old i j) ≤ 2 ^ 120 }
+    requires entry_size { (i j : ℕ) → i ≤ j → j < MOST_COLUMNS → unsigned_abs (entry table.old i j) ≤ 2 ^ 120 }
     requires total_size { (j : ℕ) → j < MOST_COLUMNS → unsigned_abs (slice_index_or total.old j (pos 0)) ≤ 2 ^ 40 }
     ensures products { (arcs : List Arc) (ss : List ℕ) → place ≡ integer_place arcs ss row.now.arc signal → integers ≡ integer_count arcs ss →
-        (i j : ℕ) → i < MOST_COLUMNS → j < MOST_COLUMNS →
+        (i j : ℕ) → i ≤ j → j < MOST_COLUMNS →
         entry table.new i j ≡ entry table.old i j +ℤ (((pos 360360 *ℤ weight signal) *ℤ coefficient (signal_row arcs ss signal row.now) i) *ℤ coefficient (signal_row arcs ss signal row.now) j) }
     ensures sums { (arcs : List Arc) (ss : List ℕ) → place ≡ integer_place arcs ss row.now.arc signal → integers ≡ integer_count arcs ss →
         (j : ℕ) → j < MOST_COLUMNS → slice_index_or total.new j (pos 0) ≡ slice_index_or total.old j (pos 0) +ℤ coefficient (signal_row arcs ss signal row.now) j }
-    ensures table_size { (i j : ℕ) → i < MOST_COLUMNS → j < MOST_COLUMNS → unsigned_abs (entry table.new i j) ≤ unsigned_abs (entry table.old i j) + 2 ^ 100 }
+    ensures table_size { (i j : ℕ) → i ≤ j → j < MOST_COLUMNS → unsigned_abs (entry table.new i j) ≤ unsigned_abs (entry table.old i j) + 2 ^ 100 }
     ensures sum_size { (j : ℕ) → j < MOST_COLUMNS → unsigned_abs (slice_index_or total.new j (pos 0)) ≤ unsigned_abs (slice_index_or total.old j (pos 0)) + 2 ^ 34 }
 {
-    let values = coefficients(row, signal, place, integers);
+    let mut values = [0; MOST_COLUMNS];
+    put_coefficients(&mut values, row, signal, place, integers);
     let weight = row_weight(signal);
     let last = BASELINE_COLUMNS + integers;
     match place {
@@ -124,12 +127,12 @@ fn add_rows(
     requires signal { signal < SIGNALS }
     requires places { (k : ℕ) → IfSome (slice_index_or places.now k None) (λ i. i < integers) }
     requires few { integers ≤ MOST_INTEGERS }
-    requires entry_size { (i j : ℕ) → i < MOST_COLUMNS → j < MOST_COLUMNS → unsigned_abs (entry table.old i j) ≤ 3600 * 2 ^ 108 }
+    requires entry_size { (i j : ℕ) → i ≤ j → j < MOST_COLUMNS → unsigned_abs (entry table.old i j) ≤ 3600 * 2 ^ 108 }
     ensures products { (arcs : List Arc) (ss : List ℕ) → ArePlaces arcs ss signal rows.now places.now → integers ≡ integer_count arcs ss →
-        (i j : ℕ) → i < MOST_COLUMNS → j < MOST_COLUMNS → entry table.new i j ≡ entry table.old i j +ℤ ((pos 360360 *ℤ weight signal) *ℤ product_sum (map (signal_row arcs ss signal) rows.now) i j) }
+        (i j : ℕ) → i ≤ j → j < MOST_COLUMNS → entry table.new i j ≡ entry table.old i j +ℤ ((pos 360360 *ℤ weight signal) *ℤ product_sum (map (signal_row arcs ss signal) rows.now) i j) }
     ensures sums { (arcs : List Arc) (ss : List ℕ) → ArePlaces arcs ss signal rows.now places.now → integers ≡ integer_count arcs ss →
         (j : ℕ) → j < MOST_COLUMNS → slice_index_or result j (pos 0) ≡ coefficient_sum (map (signal_row arcs ss signal) rows.now) j }
-    ensures table_size { (i j : ℕ) → i < MOST_COLUMNS → j < MOST_COLUMNS → unsigned_abs (entry table.new i j) ≤ unsigned_abs (entry table.old i j) + (length rows.now * 2 ^ 100) }
+    ensures table_size { (i j : ℕ) → i ≤ j → j < MOST_COLUMNS → unsigned_abs (entry table.new i j) ≤ unsigned_abs (entry table.old i j) + (length rows.now * 2 ^ 100) }
     ensures sum_size { (j : ℕ) → j < MOST_COLUMNS → unsigned_abs (slice_index_or result j (pos 0)) ≤ length rows.now * 2 ^ 34 }
 {
     let mut total = [0; MOST_COLUMNS];
@@ -150,10 +153,10 @@ pub(crate) fn add_signal(
     requires signal { signal < SIGNALS }
     requires places { (k : ℕ) → IfSome (slice_index_or places.now k None) (λ i. i < integers) }
     requires few { integers ≤ MOST_INTEGERS }
-    requires entry_size { (i j : ℕ) → i < MOST_COLUMNS → j < MOST_COLUMNS → unsigned_abs (entry table.old i j) ≤ 3600 * 2 ^ 108 }
+    requires entry_size { (i j : ℕ) → i ≤ j → j < MOST_COLUMNS → unsigned_abs (entry table.old i j) ≤ 3600 * 2 ^ 108 }
     ensures added { (arcs : List Arc) (ss : List ℕ) → ArePlaces arcs ss signal pair.now.rows places.now → integers ≡ integer_count arcs ss →
-        (i j : ℕ) → i < MOST_COLUMNS → j < MOST_COLUMNS → entry table.new i j ≡ entry table.old i j +ℤ group_entry (signal_group arcs ss pair.now signal) i j }
-    ensures size { (i j : ℕ) → i < MOST_COLUMNS → j < MOST_COLUMNS → unsigned_abs (entry table.new i j) ≤ unsigned_abs (entry table.old i j) + 2 ^ 105 }
+        (i j : ℕ) → i ≤ j → j < MOST_COLUMNS → entry table.new i j ≡ entry table.old i j +ℤ group_entry (signal_group arcs ss pair.now signal) i j }
+    ensures size { (i j : ℕ) → i ≤ j → j < MOST_COLUMNS → unsigned_abs (entry table.new i j) ≤ unsigned_abs (entry table.old i j) + 2 ^ 105 }
 {
     let rows = pair.rows.as_slice();
     let total = add_rows(table, rows, signal, places, integers);

@@ -8,6 +8,7 @@ ghost use Rattle.normal_sum.specs.Normals.{IsNormalOf};
 ghost use Rattle.normal_sum.specs.Values.{IsSumAtCentres, StaysBelow};
 
 use crate::Normal;
+use crate::mirror::mirror;
 use crate::pairs::{add_pair, add_pair_radii};
 use crate::radii::RadiusSums;
 use form_tables::{BASELINE_COLUMNS, MOST_COLUMNS, NormalTable};
@@ -43,6 +44,7 @@ fn sum_pairs(arcs: &[Arc], signals: &[usize], pairs: &[PairRows]) -> Normal
         add_pair(&mut table, arcs, signals, integers, pair);
         radii = add_pair_radii(radii, signals, pair);
     }
+    mirror(&mut table);
     let c = shaped(table);
     let r = [radii.u1, radii.u2, radii.u3, radii.y];
     Normal {

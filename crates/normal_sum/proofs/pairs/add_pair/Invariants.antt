@@ -7,7 +7,7 @@ use Rattle.normal_sum.proofs.pairs.add_pair.Given as goal
 
 abbrev pub invariant-loop-signal : goal.invariant-loop-signal
 invariant-loop-signal l = record {
-  sums : (i j : ℕ) → i < MOST_COLUMNS → j < MOST_COLUMNS → entry l.table i j +ℤ matrix_entry (map (signal_group l.arcs l.signals l.pair) (drop l.signal-index l.signals)) i j
+  sums : (i j : ℕ) → i ≤ j → j < MOST_COLUMNS → entry l.table i j +ℤ matrix_entry (map (signal_group l.arcs l.signals l.pair) (drop l.signal-index l.signals)) i j
       ≡ entry l.initial.table i j +ℤ matrix_entry (map (signal_group l.arcs l.signals l.pair) l.signals) i j;
-  size : (i j : ℕ) → i < MOST_COLUMNS → j < MOST_COLUMNS → unsigned_abs (entry l.table i j) ≤ unsigned_abs (entry l.initial.table i j) + (l.signal-index * 2 ^ 105);
+  size : (i j : ℕ) → i ≤ j → j < MOST_COLUMNS → unsigned_abs (entry l.table i j) ≤ unsigned_abs (entry l.initial.table i j) + (l.signal-index * 2 ^ 105);
 }

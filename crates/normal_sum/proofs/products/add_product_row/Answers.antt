@@ -11,4 +11,4 @@ returns-clause-added c =
     let e : to_z w64 (of_z w64 v) ≡ v = as_w64 v (omega arith) in
     let t = (rw (to_z-of_z w64 c.args.weight c.ranges.weight, e) at c.times.ensures.value) in
     let w : to_z w128 (of_z w128 c.times.result) ≡ c.times.result = as_w128 c.times.result (omega (arith, c.times.ensures.size)) in
-    λ j h. rw (w, t) at (c.add_to_row.ensures.added j h)
+    λ j m h. rw (w, t) at (c.add_to_row.ensures.added j m h)

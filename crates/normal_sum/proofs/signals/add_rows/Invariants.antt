@@ -12,11 +12,11 @@ use Rattle.normal_sum.proofs.signals.add_rows.Given as goal
 abbrev pub invariant-loop-k : goal.invariant-loop-k
 invariant-loop-k l = record {
   full : length l.total ≡ MOST_COLUMNS;
-  products : (arcs : List Arc) (ss : List ℕ) → ArePlaces arcs ss l.fn.signal l.rows l.places → l.fn.integers ≡ integer_count arcs ss → (i j : ℕ) → i < MOST_COLUMNS → j < MOST_COLUMNS →
+  products : (arcs : List Arc) (ss : List ℕ) → ArePlaces arcs ss l.fn.signal l.rows l.places → l.fn.integers ≡ integer_count arcs ss → (i j : ℕ) → i ≤ j → j < MOST_COLUMNS →
       entry l.table i j +ℤ ((pos 360360 *ℤ weight l.fn.signal) *ℤ product_sum (map (signal_row arcs ss l.fn.signal) (drop l.k l.rows)) i j)
       ≡ entry l.initial.table i j +ℤ ((pos 360360 *ℤ weight l.fn.signal) *ℤ product_sum (map (signal_row arcs ss l.fn.signal) l.rows) i j);
   sums : (arcs : List Arc) (ss : List ℕ) → ArePlaces arcs ss l.fn.signal l.rows l.places → l.fn.integers ≡ integer_count arcs ss → (j : ℕ) → j < MOST_COLUMNS →
       slice_index_or l.total j (pos 0) +ℤ coefficient_sum (map (signal_row arcs ss l.fn.signal) (drop l.k l.rows)) j ≡ coefficient_sum (map (signal_row arcs ss l.fn.signal) l.rows) j;
-  table_size : (i j : ℕ) → i < MOST_COLUMNS → j < MOST_COLUMNS → unsigned_abs (entry l.table i j) ≤ unsigned_abs (entry l.initial.table i j) + (l.k * 2 ^ 100);
+  table_size : (i j : ℕ) → i ≤ j → j < MOST_COLUMNS → unsigned_abs (entry l.table i j) ≤ unsigned_abs (entry l.initial.table i j) + (l.k * 2 ^ 100);
   sum_size : (j : ℕ) → j < MOST_COLUMNS → unsigned_abs (slice_index_or l.total j (pos 0)) ≤ l.k * 2 ^ 34;
 }

@@ -6,6 +6,7 @@ use Rattle.quadratic_form.specs.Rows.{SignalRow}
 use Rattle.quadratic_form.specs.MatrixEntries.{coefficient_sum, product_sum}
 use Rattle.quadratic_form.proofs.NormalForm.{share_is}
 use Rattle.obs_rows.specs.declared.rows.Row.{Row}
+use Rattle.form_tables.specs.declared.sizes.TheConstants.{MOST_COLUMNS}
 use Rattle.form_tables.specs.Tables.{entry}
 use Rattle.obs_rows.specs.Signals.{weight}
 use Rattle.obs_rows.specs.SignalGroups.{signal_row, signal_group}
@@ -17,6 +18,9 @@ use Rattle.normal_sum.proofs.signals.add_signal.Goals as goal
 
 same_length : (f : Row → SignalRow) (rows : List Row) → length (map f rows) ≡ length rows
 same_length f rows = length-map rows f
+
+before : (i j : ℕ) → i ≤ j → j < MOST_COLUMNS → i < MOST_COLUMNS
+before i j h g = omega arith
 
 -- the share of the pair's rows, from that of the rows as they are read
 share_of : (rows read : List Row) (s : ℕ) (x : ℤ) → read ≡ rows → pos 0 ≡ x +ℤ (pos (360360 / length read) *ℤ weight s) → pos 0 ≡ x +ℤ (pos (360360 / length rows) *ℤ weight s)
@@ -48,7 +52,7 @@ returns-clause-added c =
     (c.add_rows-total.ensures.products arcs ss read integers i j hi hj ∙ ap (λ (l : List Row). entry c.args.table.now i j +ℤ ((pos 360360 *ℤ weight c.args.signal) *ℤ product_sum (map f l) i j)) e)
     (c.add_product.ensures i j hi hj
     ∙ ap (λ z. entry c.add_rows-total.new.table i j +ℤ ((z *ℤ slice_index_or c.add_rows-total.result i (pos 0)) *ℤ slice_index_or c.add_rows-total.result j (pos 0))) w
-    ∙ ap (λ z. entry c.add_rows-total.new.table i j +ℤ ((t *ℤ z) *ℤ slice_index_or c.add_rows-total.result j (pos 0))) (c.add_rows-total.ensures.sums arcs ss read integers i hi
+    ∙ ap (λ z. entry c.add_rows-total.new.table i j +ℤ ((t *ℤ z) *ℤ slice_index_or c.add_rows-total.result j (pos 0))) (c.add_rows-total.ensures.sums arcs ss read integers i (before i j hi hj)
     ∙ ap (λ (l : List Row). coefficient_sum (map f l) i) e)
     ∙ ap (λ z. entry c.add_rows-total.new.table i j +ℤ ((t *ℤ coefficient_sum (map f rows) i) *ℤ z)) (c.add_rows-total.ensures.sums arcs ss read integers j hj
     ∙ ap (λ (l : List Row). coefficient_sum (map f l) j) e))
@@ -69,5 +73,5 @@ returns-clause-size c =
     (subst (λ (l : List Row). unsigned_abs (entry c.add_rows-total.new.table i j) ≤ unsigned_abs (entry c.args.table.now i j) + (length l * 2 ^ 100)) e
     (c.add_rows-total.ensures.table_size i j hi hj))
     (subst (λ (z : ℤ). unsigned_abs z * length rows ≤ 2 ^ 32) (sym w) (share_size (length rows) c.args.signal c.turned_share-share.result v))
-    (subst (λ (l : List Row). unsigned_abs (slice_index_or c.add_rows-total.result i (pos 0)) ≤ length l * 2 ^ 34) e (c.add_rows-total.ensures.sum_size i hi))
+    (subst (λ (l : List Row). unsigned_abs (slice_index_or c.add_rows-total.result i (pos 0)) ≤ length l * 2 ^ 34) e (c.add_rows-total.ensures.sum_size i (before i j hi hj)))
     (subst (λ (l : List Row). unsigned_abs (slice_index_or c.add_rows-total.result j (pos 0)) ≤ length l * 2 ^ 34) e (c.add_rows-total.ensures.sum_size j hj))

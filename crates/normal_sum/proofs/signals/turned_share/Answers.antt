@@ -8,4 +8,4 @@ turned : (x s : ℤ) → x ≡ s → unsigned_abs s ≤ 2 ^ 32 → pos 0 ≡ to_
 turned x s e h = omega (arith, ints)
 
 pub returns : goal.returns
-returns c = turned c.share.result _ c.share.ensures (share_small c.args.rows c.args.signal c.requires.some)
+returns c = turned c.share.result _ c.share.ensures.value (share_small c.args.rows c.args.signal c.requires.some)

@@ -17,13 +17,13 @@ use Rattle.obs_rows.specs.Integers.{integer_count}
 use Rattle.obs_rows.specs.SignalGroups.{signal_groups}
 use Rattle.form_tables.proofs.TableLaws.{zero_entry}
 use Rattle.obs_rows.proofs.GroupShapes.{groups_of}
-use Rattle.normal_sum.specs.Matrices.{IsRadiusSum, radius_list}
+use Rattle.normal_sum.specs.Matrices.{IsRadiusSum, IsMirrored, radius_list}
 use Rattle.normal_sum.specs.Pairs.{pair_groups}
 use Rattle.normal_sum.specs.RadiusSums.{radii_of}
 use Rattle.normal_sum.proofs.PlaceLaws.{count_within}
 use Rattle.normal_sum.proofs.RowSums.{next_sum}
 use Rattle.normal_sum.proofs.RadiusLaws.{radii_assoc, at_most_wider}
-use Rattle.normal_sum.proofs.NormalLaws.{entries_everywhere, symmetric_is, outside_is, below_is, radii_start, radii_end, radii_append, drop_end, radii_within, words_are, four_and}
+use Rattle.normal_sum.proofs.NormalLaws.{entries_everywhere, mirrored_entries, mirrored_sizes, symmetric_is, outside_is, below_is, radii_start, radii_end, radii_append, drop_end, radii_within, words_are, four_and}
 use Rattle.normal_sum.proofs.sums.sum_pairs.Goals as goal
 
 zero_first : (a b : ℤ) → a ≡ pos 0 → a +ℤ b ≡ b
@@ -49,11 +49,11 @@ radii_range i n h k = omega arith
 
 pub loop-pair-init : goal.loop-pair-init
 loop-pair-init c =
-    let z : (i j : ℕ) → i < MOST_COLUMNS → j < MOST_COLUMNS → entry c.zeros-table.result i j ≡ pos 0 = λ i j hi hj. ap (λ (t : List (List ℤ)). entry t i j) c.zeros-table.ensures.zeros
+    let z : (i j : ℕ) → entry c.zeros-table.result i j ≡ pos 0 = λ i j. ap (λ (t : List (List ℤ)). entry t i j) c.zeros-table.ensures.zeros
     ∙ zero_entry MOST_COLUMNS MOST_COLUMNS i j in
     record {
-      sums = λ i j hi hj. zero_first _ _ (z i j hi hj);
-      size = λ i j hi hj. size_zero _ (z i j hi hj);
+      sums = λ i j hi hj. zero_first _ _ (z i j);
+      size = λ i j hi hj. size_zero _ (z i j);
       radii = radii_start (radii (signal_groups c.args.arcs.now c.args.signals.now c.args.pairs.now));
       radii_size = record {
         u1_from = omega (arith, lins);
@@ -98,14 +98,15 @@ loop-pair-preserved c =
 columns_are : (m n : ℕ) → m ≡ n → (3 + m) + 1 ≡ columns n
 columns_are m n e = omega (arith, four_and n)
 
--- each entry is the rows', inside and outside the columns
-all_entries : (arcs : List Arc) (ss : List ℕ) (pairs : List PairRows) (k : ℕ) (t : List (List ℤ)) → AreCounted ss → free_count arcs ≤ MOST_FREE_ARCS → HasShape MOST_COLUMNS MOST_COLUMNS t →
-    drop k pairs ≡ [] →
-    ((i j : ℕ) → i < MOST_COLUMNS → j < MOST_COLUMNS → entry t i j +ℤ matrix_entry (signal_groups arcs ss (drop k pairs)) i j ≡ matrix_entry (signal_groups arcs ss pairs) i j) →
-    (i j : ℕ) → entry t i j ≡ matrix_entry (signal_groups arcs ss pairs) i j
-all_entries arcs ss pairs k t h g s none e =
-    entries_everywhere (integer_count arcs ss) (signal_groups arcs ss pairs) t s (omega (arith, four_and (integer_count arcs ss), count_within arcs ss h g)) (groups_of arcs ss pairs)
-    (λ i j hi hj. zero_last _ _ (ap (λ (l : List PairRows). entry t i j +ℤ matrix_entry (signal_groups arcs ss l) i j) (sym none) ∙ e i j hi hj))
+-- each entry is the rows', inside and outside the columns, where u is t with its entries below the diagonal
+all_entries : (arcs : List Arc) (ss : List ℕ) (pairs : List PairRows) (k : ℕ) (t u : List (List ℤ)) → AreCounted ss → free_count arcs ≤ MOST_FREE_ARCS → HasShape MOST_COLUMNS MOST_COLUMNS u →
+    IsMirrored t u → drop k pairs ≡ [] →
+    ((i j : ℕ) → i ≤ j → j < MOST_COLUMNS → entry t i j +ℤ matrix_entry (signal_groups arcs ss (drop k pairs)) i j ≡ matrix_entry (signal_groups arcs ss pairs) i j) →
+    (i j : ℕ) → entry u i j ≡ matrix_entry (signal_groups arcs ss pairs) i j
+all_entries arcs ss pairs k t u h g s m none e =
+    entries_everywhere (integer_count arcs ss) (signal_groups arcs ss pairs) u s (omega (arith, four_and (integer_count arcs ss), count_within arcs ss h g)) (groups_of arcs ss pairs)
+    (mirrored_entries t u (signal_groups arcs ss pairs) m
+    (λ i j hi hj. zero_last _ _ (ap (λ (l : List PairRows). entry t i j +ℤ matrix_entry (signal_groups arcs ss l) i j) (sym none) ∙ e i j hi hj)))
 
 pub invariant_of-result : goal.invariant_of-result
 invariant_of-result c =
@@ -114,23 +115,22 @@ invariant_of-result c =
     let pairs : List PairRows = c.args.pairs.now in
     let k : ℕ = c.loop-pair.pair-index in
     let t : List (List ℤ) = c.shaped-c.result in
-    let same : c.loop-pair.table ≡ c.shaped-c.result = sym c.shaped-c.ensures.same in
+    let same : c.mirror.new.table ≡ c.shaped-c.result = sym c.shaped-c.ensures.same in
+    let mirrored : IsMirrored c.loop-pair.table c.shaped-c.result = subst (λ (u : List (List ℤ)). IsMirrored c.loop-pair.table u) same c.mirror.ensures in
     let shape : HasShape MOST_COLUMNS MOST_COLUMNS c.shaped-c.result = subst (λ (u : List (List ℤ)). HasShape MOST_COLUMNS MOST_COLUMNS u) same c.shaped-c.ensures.shape in
     let last : length pairs ≤ k = search rules in
     let upper : k ≤ length pairs = search rules in
     let few : integer_count c.args.arcs.now c.args.signals.now ≤ MOST_INTEGERS = count_within c.args.arcs.now c.args.signals.now c.requires.counted c.requires.free in
     let within : k * 2 ^ 79 < 2 ^ 100 = radii_range k (length pairs) upper c.requires.few in
     let all : (i j : ℕ) → entry c.shaped-c.result i j ≡ matrix_entry (signal_groups c.args.arcs.now c.args.signals.now c.args.pairs.now) i j =
-    all_entries arcs ss pairs k t c.requires.counted c.requires.free shape (drop_end pairs k last)
-    (λ i j hi hj. subst (λ (u : List (List ℤ)). entry u i j +ℤ matrix_entry (signal_groups arcs ss (drop k pairs)) i j ≡ matrix_entry (signal_groups arcs ss pairs) i j) same
-    (c.loop-pair.invariant.sums i j hi hj)) in
+    all_entries arcs ss pairs k c.loop-pair.table t c.requires.counted c.requires.free shape mirrored (drop_end pairs k last) c.loop-pair.invariant.sums in
     let words = words_are c.loop-pair.radii (k * 2 ^ 79) c.loop-pair.invariant.radii_size within in
     record {
       columns_from = omega arith;
       columns_to = omega (arith, c.integer_count-integers.ensures);
       symmetric = symmetric_is (signal_groups arcs ss pairs) t all;
       entries_in = below_is (2 ^ 120) t shape (omega arith)
-          (λ i j hi hj. in_range _ k (length pairs) (subst (λ (u : List (List ℤ)). unsigned_abs (entry u i j) ≤ k * 2 ^ 108) same (c.loop-pair.invariant.size i j hi hj)) upper c.requires.few);
+          (mirrored_sizes (2 ^ 120) c.loop-pair.table t mirrored (λ i j hi hj. in_range _ k (length pairs) (c.loop-pair.invariant.size i j hi hj) upper c.requires.few));
       nothing_outside = outside_is (integer_count arcs ss) ((3 + c.integer_count-integers.result) + 1) (signal_groups arcs ss pairs) t
           (columns_are _ (integer_count arcs ss) c.integer_count-integers.ensures) (groups_of arcs ss pairs) all;
       radii_in = λ i d h. subst (λ (r : List ℤ). IsRadiusSum (slice_index_or r i d)) (sym words) (radii_within c.loop-pair.radii (k * 2 ^ 79) c.loop-pair.invariant.radii_size within i d h);
@@ -143,7 +143,8 @@ returns c =
     let pairs : List PairRows = c.args.pairs.now in
     let k : ℕ = c.loop-pair.pair-index in
     let t : List (List ℤ) = c.shaped-c.result in
-    let same : c.loop-pair.table ≡ c.shaped-c.result = sym c.shaped-c.ensures.same in
+    let same : c.mirror.new.table ≡ c.shaped-c.result = sym c.shaped-c.ensures.same in
+    let mirrored : IsMirrored c.loop-pair.table c.shaped-c.result = subst (λ (u : List (List ℤ)). IsMirrored c.loop-pair.table u) same c.mirror.ensures in
     let shape : HasShape MOST_COLUMNS MOST_COLUMNS c.shaped-c.result = subst (λ (u : List (List ℤ)). HasShape MOST_COLUMNS MOST_COLUMNS u) same c.shaped-c.ensures.shape in
     let last : length pairs ≤ k = search rules in
     let upper : k ≤ length pairs = search rules in
@@ -152,9 +153,7 @@ returns c =
     let words = words_are c.loop-pair.radii (k * 2 ^ 79) c.loop-pair.invariant.radii_size within in
     record {
       columns = columns_are _ (integer_count arcs ss) c.integer_count-integers.ensures ∙ four_and (integer_count arcs ss);
-      entries = all_entries arcs ss pairs k t c.requires.counted c.requires.free shape none
-          (λ i j hi hj. subst (λ (u : List (List ℤ)). entry u i j +ℤ matrix_entry (signal_groups arcs ss (drop k pairs)) i j ≡ matrix_entry (signal_groups arcs ss pairs) i j) same
-          (c.loop-pair.invariant.sums i j hi hj));
+      entries = all_entries arcs ss pairs k c.loop-pair.table t c.requires.counted c.requires.free shape mirrored none c.loop-pair.invariant.sums;
       radii = words ∙ ap (λ (r : Radii). radius_list r)
           (sym (radii_end (radii_of c.loop-pair.radii)) ∙ ap (λ (l : List PairRows). add_radii (radii_of c.loop-pair.radii) (radii (signal_groups arcs ss l))) (sym none)
           ∙ c.loop-pair.invariant.radii);

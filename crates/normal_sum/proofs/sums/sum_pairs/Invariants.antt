@@ -9,9 +9,9 @@ use Rattle.normal_sum.proofs.sums.sum_pairs.Given as goal
 
 abbrev pub invariant-loop-pair : goal.invariant-loop-pair
 invariant-loop-pair l = record {
-  sums : (i j : ℕ) → i < MOST_COLUMNS → j < MOST_COLUMNS → entry l.table i j +ℤ matrix_entry (signal_groups l.arcs l.signals (drop l.pair-index l.pairs)) i j ≡ matrix_entry
+  sums : (i j : ℕ) → i ≤ j → j < MOST_COLUMNS → entry l.table i j +ℤ matrix_entry (signal_groups l.arcs l.signals (drop l.pair-index l.pairs)) i j ≡ matrix_entry
       (signal_groups l.arcs l.signals l.pairs) i j;
-  size : (i j : ℕ) → i < MOST_COLUMNS → j < MOST_COLUMNS → unsigned_abs (entry l.table i j) ≤ l.pair-index * 2 ^ 108;
+  size : (i j : ℕ) → i ≤ j → j < MOST_COLUMNS → unsigned_abs (entry l.table i j) ≤ l.pair-index * 2 ^ 108;
   radii : add_radii (radii_of l.radii) (radii (signal_groups l.arcs l.signals (drop l.pair-index l.pairs))) ≡ radii (signal_groups l.arcs l.signals l.pairs);
   radii_size : IsAtMost (l.pair-index * 2 ^ 79) l.radii;
 }

@@ -1,10 +1,12 @@
-use Rattle.std.proofs.Common.{rules, ℕ, ◌+◌, ◌^◌, ◌<◌, ◌≤◌, length, pos, neg_ℤ, ◌-ℤ◌, ℤ, unsigned_abs, arith, to_z, of_z, ap, sym, ◌∙◌, subst}
+use Rattle.std.proofs.Common.{rules, ◌≡◌, ℕ, ◌+◌, ◌^◌, ◌<◌, ◌≤◌, length, List, set, replicate, Option, pos, neg_ℤ, ◌-ℤ◌, ℤ, unsigned_abs, arith, to_z, of_z, ap, sym, ◌∙◌, subst}
 use Rattle.std.specs.Int.{w64}
 use Rattle.obs_rows.specs.Data.{number_at}
+use Rattle.form_tables.specs.declared.sizes.TheConstants.{MOST_COLUMNS}
 use Rattle.form_tables.proofs.Words.{as_w64}
+use Rattle.normal_sum.specs.Places.{put_at}
 use Rattle.normal_sum.proofs.Words.{neg_w64, size_neg}
 use Rattle.normal_sum.proofs.CoefficientPlaces.{coefficients_are, coefficients_within, nothing_elsewhere}
-use Rattle.normal_sum.proofs.coefficients.coefficients.Goals as goal
+use Rattle.normal_sum.proofs.coefficients.put_coefficients.Goals as goal
 
 -- the value that is written for a number that is turned
 abbrev turned : ℤ → ℤ
@@ -12,6 +14,10 @@ turned x = to_z w64 (of_z w64 (pos 0 -ℤ to_z w64 (of_z w64 x)))
 
 turned_size : (m : ℕ) (x : ℤ) → unsigned_abs x ≤ m → m ≤ 2 ^ 60 → unsigned_abs (turned x) ≤ m
 turned_size m x h g = subst (λ (z : ℤ). unsigned_abs z ≤ m) (sym (neg_w64 x (omega arith))) (subst (λ (k : ℕ). k ≤ m) (sym (size_neg x)) h)
+
+over_zeros : (w z : List ℤ) (p : Option ℕ) (a b d v : ℤ) → z ≡ replicate MOST_COLUMNS (pos 0) → w ≡ put_at (set (set (set z 0 a) 1 b) 2 d) p v →
+    w ≡ put_at (set (set (set (replicate MOST_COLUMNS (pos 0)) 0 a) 1 b) 2 d) p v
+over_zeros w z p a b d v e h = h ∙ ap (λ (t : List ℤ). put_at (set (set (set t 0 a) 1 b) 2 d) p v) e
 
 pub returns-clause-entries : goal.returns-clause-entries
 returns-clause-entries c =
@@ -27,7 +33,8 @@ returns-clause-entries c =
     λ arcs ss ep en. coefficients_are arcs ss c.args.signal c.args.row.now c.put_integer.new.values c.args.integers c.args.place
     (turned (number_at c.args.row.now.u 0)) (turned (number_at c.args.row.now.u 1)) (turned (number_at c.args.row.now.u 2)) (turned c.cycle_of.result)
     (to_z w64 (of_z w64 (number_at c.args.row.now.y c.args.signal)))
-    c.put_integer.ensures c.requires.few c.requires.place en ep
+    (over_zeros c.put_integer.new.values c.args.values.now c.args.place (turned (number_at c.args.row.now.u 0)) (turned (number_at c.args.row.now.u 1))
+    (turned (number_at c.args.row.now.u 2)) (turned c.cycle_of.result) c.requires.zeros c.put_integer.ensures.value) c.requires.few c.requires.place en ep
     (neg_w64 c.cycle_of.result (omega (arith, c.cycle_of.ensures.size)) ∙ ap (λ z. neg_ℤ z) c.cycle_of.ensures.value)
     (neg_w64 (number_at c.args.row.now.u 0) (omega arith)) (neg_w64 (number_at c.args.row.now.u 1) (omega arith)) (neg_w64 (number_at c.args.row.now.u 2) (omega arith))
     (as_w64 (number_at c.args.row.now.y c.args.signal) (omega arith))
@@ -44,7 +51,8 @@ returns-clause-size c =
     let sy : unsigned_abs (number_at c.args.row.now.y c.args.signal) ≤ 2 ^ 34 = c.args.row.now.y_in c.args.signal (pos 0) ly in
     coefficients_within (2 ^ 34) c.put_integer.new.values (3 + c.args.integers) c.args.place
     (turned (number_at c.args.row.now.u 0)) (turned (number_at c.args.row.now.u 1)) (turned (number_at c.args.row.now.u 2)) (turned c.cycle_of.result)
-    (to_z w64 (of_z w64 (number_at c.args.row.now.y c.args.signal))) c.put_integer.ensures
+    (to_z w64 (of_z w64 (number_at c.args.row.now.y c.args.signal))) (over_zeros c.put_integer.new.values c.args.values.now c.args.place (turned (number_at c.args.row.now.u 0)) (turned (number_at c.args.row.now.u 1))
+    (turned (number_at c.args.row.now.u 2)) (turned c.cycle_of.result) c.requires.zeros c.put_integer.ensures.value)
     (turned_size (2 ^ 34) (number_at c.args.row.now.u 0) (omega arith) (omega arith)) (turned_size (2 ^ 34) (number_at c.args.row.now.u 1) (omega arith) (omega arith))
     (turned_size (2 ^ 34) (number_at c.args.row.now.u 2) (omega arith) (omega arith))
     (turned_size (2 ^ 34) c.cycle_of.result (omega (arith, c.cycle_of.ensures.size)) (omega arith))
@@ -53,4 +61,5 @@ returns-clause-size c =
 pub returns-clause-others : goal.returns-clause-others
 returns-clause-others c = nothing_elsewhere c.put_integer.new.values c.args.integers c.args.place
     (turned (number_at c.args.row.now.u 0)) (turned (number_at c.args.row.now.u 1)) (turned (number_at c.args.row.now.u 2)) (turned c.cycle_of.result)
-    (to_z w64 (of_z w64 (number_at c.args.row.now.y c.args.signal))) c.put_integer.ensures
+    (to_z w64 (of_z w64 (number_at c.args.row.now.y c.args.signal))) (over_zeros c.put_integer.new.values c.args.values.now c.args.place (turned (number_at c.args.row.now.u 0)) (turned (number_at c.args.row.now.u 1))
+    (turned (number_at c.args.row.now.u 2)) (turned c.cycle_of.result) c.requires.zeros c.put_integer.ensures.value)

@@ -1,0 +1,9 @@
+use Rattle.std.proofs.Common.{◌≡◌, ℕ, ◌<◌, ◌≤◌}
+use Rattle.form_tables.specs.Tables.{entry}
+use Rattle.normal_sum.proofs.mirror.mirror.Given as goal
+
+abbrev pub invariant-loop-row : goal.invariant-loop-row
+invariant-loop-row l = record {
+  above : (i j : ℕ) → i ≤ j → entry l.table i j ≡ entry l.initial.table i j;
+  below : (i j : ℕ) → i < j → j < l.row → entry l.table j i ≡ entry l.initial.table i j;
+}
