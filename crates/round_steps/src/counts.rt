@@ -5,13 +5,13 @@ ghost use Rattle.round_steps.specs.Counts.{held, AreFew, AreMany};
 use obs_rows::{Arc, MOST_FREE_ARCS, free_arcs};
 
 /// A baseline and the clock are four numbers.
-const LEAST_SATELLITES: usize = 4;
+pub const LEAST_SATELLITES: usize = 4;
 
 /// The most arcs of a session.
 const MOST_ARCS: usize = 200;
 
 /// How many of the arcs hold the pair of this number.
-fn held(arcs: &[Arc], number: u32) -> usize
+pub fn held(arcs: &[Arc], number: u32) -> usize
     ensures { result ≡ held arcs.now number }
 {
     arcs.iter()
