@@ -4,3 +4,10 @@ pub mod Spelled
 pub mod ArcLaws
 pub mod Appends
 pub mod TailLaws
+pub mod Sizes
+pub mod Feeds
+pub mod LetterLaws
+pub mod LineSpells
+pub mod TailSpells
+pub mod SameStructs
+pub mod SameLines

@@ -1,5 +1,5 @@
 -- What the lines of a tail must be, each in its place: first its shape, then its numbers from left to right.
-use Rattle.std.specs.Prelude.{ℕ, ℤ, pos, neg_ℤ, Bool, true, false, if◌then◌else◌, List, length, take, drop, codes, Result, Ok}
+use Rattle.std.specs.Prelude.{ℕ, ℤ, neg_ℤ, Bool, true, false, if◌then◌else◌, List, length, take, drop, codes, Result, Ok}
 use Rattle.std.specs.Str.{bytes_eq}
 use Rattle.rinex_head.specs.declared.place.Flaw.{Flaw}
 use Rattle.rinex_head.specs.declared.place.What.TheVariants.{BadLine}

@@ -3,7 +3,7 @@
 //! Each line of a certificate by itself. A reader of a line (`count_in`, `triple_in`, `vector_in`, `letters_in`,
 //! `arc_in`, `pair_in`, `row_in`, `weak_in`, `values_in` and others) answers exactly what the form of that line gives in its place, its first flaw
 //! included (`value`), and where it answers a value, the line is that value's spelling (`spelled`), with all ranges
-//! (`in_range`, `of_pair` and others). A writer (`push_arc_line`, `push_pair_lines` and others) appends exactly the
+//! (`in_range`, `of_pair` and others). A writer (`push_arcs`, `push_pair_lines` and others) appends exactly the
 //! spelling.
 #![tactic(auto)]
 
@@ -33,6 +33,6 @@ pub use tails::{
 };
 pub use version::Version;
 pub use write::{
-    push_arc_line, push_count_line, push_pair_lines, push_row_line, push_signals_line,
-    push_system_line, push_vector_line,
+    push_arc_line, push_arcs, push_count_line, push_pair_head, push_pair_lines, push_row_lines,
+    push_signals_line, push_system_line, push_vector_line,
 };

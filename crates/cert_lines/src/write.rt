@@ -1,9 +1,9 @@
 // The lines, written.
-ghost use Rattle.std.specs.Prelude.{◌≡◌, ◌++◌, ◌∷◌, [], OnOk, All};
+ghost use Rattle.std.specs.Prelude.{◌≡◌, ◌++◌, ◌∷◌, [], OnOk, All, length};
 ghost use Rattle.cert_words.specs.Spelling.{text_of_lines};
 ghost use Rattle.obs_rows.specs.Signals.{fine_signals};
 ghost use Rattle.cert_lines.specs.declared.version.Version.TheVariants.{Two};
-ghost use Rattle.cert_lines.specs.Lines.{count_line, vector_line, system_line, signals_line, arc_line, kind_text, row_line, row_lines, pair_lines};
+ghost use Rattle.cert_lines.specs.Lines.{count_line, vector_line, system_line, signals_line, arc_line, arc_lines, counted_arcs, kind_text, row_line, row_lines, pair_line, pair_lines};
 ghost use Rattle.cert_lines.specs.Lengths.{IsWholeArc, IsWholeRow, IsWholePair};
 
 use crate::places::push_selected;
@@ -71,6 +71,25 @@ pub fn push_arc_line(out: &mut Vec<u8>, signals: Signals, arc: &Arc) -> Result<(
     Ok(())
 }
 
+fn push_arc_lines(out: &mut Vec<u8>, signals: Signals, arcs: &[Arc]) -> Result<(), AllocError>
+    ensures text { OnOk result (out.new.items ≡ out.old.items ++ text_of_lines (arc_lines (fine_signals signals) arcs.now)) }
+    ensures whole { OnOk result (All IsWholeArc arcs.now) }
+{
+    for arc in arcs {
+        push_arc_line(out, signals, arc)?;
+    }
+    Ok(())
+}
+
+/// Appends the number of arcs, and the arcs.
+pub fn push_arcs(out: &mut Vec<u8>, signals: Signals, arcs: &[Arc]) -> Result<(), AllocError>
+    ensures text { OnOk result (out.new.items ≡ out.old.items ++ text_of_lines (counted_arcs (fine_signals signals) arcs.now)) }
+    ensures whole { OnOk result (All IsWholeArc arcs.now) }
+{
+    push_count_line(out, b"arcs", arcs.len() as u64)?;
+    push_arc_lines(out, signals, arcs)
+}
+
 fn kind_text(datum: bool) -> &'static [u8]
     ensures { result.now ≡ kind_text datum }
 {
@@ -93,13 +112,27 @@ pub fn push_row_line(out: &mut Vec<u8>, signals: Signals, row: &Row) -> Result<(
     Ok(())
 }
 
-fn push_row_lines(out: &mut Vec<u8>, signals: Signals, rows: &[Row]) -> Result<(), AllocError>
+/// Appends the lines of rows.
+pub fn push_row_lines(out: &mut Vec<u8>, signals: Signals, rows: &[Row]) -> Result<(), AllocError>
     ensures text { OnOk result (out.new.items ≡ out.old.items ++ text_of_lines (row_lines (fine_signals signals) rows.now)) }
     ensures whole { OnOk result (All IsWholeRow rows.now) }
 {
     for row in rows {
         push_row_line(out, signals, row)?;
     }
+    Ok(())
+}
+
+/// Appends the line of a pair.
+pub fn push_pair_head(out: &mut Vec<u8>, pair: &PairRows) -> Result<(), AllocError>
+    ensures { OnOk result (out.new.items ≡ out.old.items ++ text_of_lines (pair_line pair.now.number pair.now.tag.0 pair.now.group (length pair.now.rows) ∷ [])) }
+{
+    out.extend_from_slice(b"pair")?;
+    push_number(out, pair.number)?;
+    push_number(out, pair.tag.0)?;
+    push_number(out, pair.group)?;
+    push_number(out, pair.rows.len())?;
+    out.push(b'\n')?;
     Ok(())
 }
 
@@ -112,12 +145,6 @@ pub fn push_pair_lines(
     ensures text { OnOk result (out.new.items ≡ out.old.items ++ text_of_lines (pair_lines (fine_signals signals) pair.now)) }
     ensures whole { OnOk result (IsWholePair pair.now) }
 {
-    let rows = pair.rows.as_slice();
-    out.extend_from_slice(b"pair")?;
-    push_number(out, pair.number)?;
-    push_number(out, pair.tag.0)?;
-    push_number(out, pair.group)?;
-    push_number(out, rows.len())?;
-    out.push(b'\n')?;
-    push_row_lines(out, signals, rows)
+    push_pair_head(out, pair)?;
+    push_row_lines(out, signals, pair.rows.as_slice())
 }

@@ -21,15 +21,18 @@ pub then_written : {E : Type 0} → (o a b : List ℕ) (xs ys : List (List ℕ))
 then_written o a b xs ys (Ok u) first second = then_lines o a b xs ys first second
 then_written o a b xs ys (Err e) first second = tt
 
+-- lines that were written, before those to come
+pub block_pushed : (a b whole : List ℕ) (block rest : List (List ℕ)) → b ≡ a ++ text_of_lines block → a ++ text_of_lines (block ++ rest) ≡ whole → b ++ text_of_lines rest ≡ whole
+block_pushed a b whole block rest pushed so_far =
+    ap (λ (l : List ℕ). l ++ text_of_lines rest) pushed ∙ append_assoc a (text_of_lines block) (text_of_lines rest)
+    ∙ ap (λ (l : List ℕ). a ++ l) (sym (text_append block rest)) ∙ so_far
+
 -- a pair and those behind it
 pub pair_pushed : (ss : List ℕ) (a b whole : List ℕ) (pairs : List PairRows) (i : ℕ) (p : PairRows) → i < length pairs → p ≡ get_or pairs i p → b ≡ a ++ text_of_lines (pair_lines ss p)
     → a ++ text_of_lines (all_pair_lines ss (drop i pairs)) ≡ whole → b ++ text_of_lines (all_pair_lines ss (drop (i + 1) pairs)) ≡ whole
 pair_pushed ss a b whole pairs i p inside is pushed so_far =
     let split : drop i pairs ≡ p ∷ drop (i + 1) pairs = drop_more pairs i p inside ∙ ap (λ (q : PairRows). q ∷ drop (i + 1) pairs) (sym is) in
-    let rest = text_of_lines (all_pair_lines ss (drop (i + 1) pairs)) in
-    ap (λ (l : List ℕ). l ++ rest) pushed ∙ append_assoc a (text_of_lines (pair_lines ss p)) rest
-    ∙ ap (λ (l : List ℕ). a ++ l) (sym (text_append (pair_lines ss p) (all_pair_lines ss (drop (i + 1) pairs))))
-    ∙ ap (λ (ps : List PairRows). a ++ text_of_lines (all_pair_lines ss ps)) (sym split) ∙ so_far
+    block_pushed a b whole (pair_lines ss p) (all_pair_lines ss (drop (i + 1) pairs)) pushed (ap (λ (ps : List PairRows). a ++ text_of_lines (all_pair_lines ss ps)) (sym split) ∙ so_far)
 
 -- what holds anyway
 pub anyway : {T E P : Type 0} (r : Result T E) → P → OnOk r P

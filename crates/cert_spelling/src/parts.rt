@@ -4,16 +4,15 @@ ghost use Rattle.cert_words.specs.Spelling.{text_of_lines};
 ghost use Rattle.obs_rows.specs.Signals.{fine_signals};
 ghost use Rattle.cert_lines.specs.Versions.{form_line};
 ghost use Rattle.cert_lines.specs.declared.version.Version.TheVariants.{Two};
-ghost use Rattle.cert_lines.specs.Lengths.{IsWholeArc, IsWholePair};
+ghost use Rattle.cert_lines.specs.Lengths.{IsWholePair};
 ghost use Rattle.cert_spelling.specs.Lengths.{IsWholeSession};
-ghost use Rattle.cert_lines.specs.Lines.{arc_lines, counted_arcs};
 ghost use Rattle.cert_spelling.specs.Spelling.{head_lines, all_pair_lines, counted_pairs, session_lines};
 
 use cert_lines::{
-    push_arc_line, push_count_line, push_pair_lines, push_signals_line, push_system_line,
+    push_arcs, push_count_line, push_pair_lines, push_signals_line, push_system_line,
     push_vector_line,
 };
-use obs_rows::{Arc, PairRows, Session, Signals};
+use obs_rows::{PairRows, Session, Signals};
 use std::alloc::AllocError;
 
 // Appends the first line.
@@ -44,25 +43,6 @@ fn push_head(
     push_vector_line(out, b"base", base)?;
     push_vector_line(out, b"point", point)?;
     push_signals_line(out, signals)
-}
-
-fn push_arc_lines(out: &mut Vec<u8>, signals: Signals, arcs: &[Arc]) -> Result<(), AllocError>
-    ensures text { OnOk result (out.new.items ≡ out.old.items ++ text_of_lines (arc_lines (fine_signals signals) arcs.now)) }
-    ensures whole { OnOk result (All IsWholeArc arcs.now) }
-{
-    for arc in arcs {
-        push_arc_line(out, signals, arc)?;
-    }
-    Ok(())
-}
-
-// Appends the number of arcs, and the arcs.
-fn push_arcs(out: &mut Vec<u8>, signals: Signals, arcs: &[Arc]) -> Result<(), AllocError>
-    ensures text { OnOk result (out.new.items ≡ out.old.items ++ text_of_lines (counted_arcs (fine_signals signals) arcs.now)) }
-    ensures whole { OnOk result (All IsWholeArc arcs.now) }
-{
-    push_count_line(out, b"arcs", arcs.len() as u64)?;
-    push_arc_lines(out, signals, arcs)
 }
 
 fn push_all_pair_lines(

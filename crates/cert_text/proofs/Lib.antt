@@ -2,7 +2,6 @@ pub mod LineLaws
 pub mod TailLaws
 pub mod PairSteps
 pub mod FeedLaws
-pub mod LineSpells
 pub mod TailSpells
 pub mod Accepted
 pub mod SameStructs

@@ -1,11 +1,12 @@
 -- The second version can say every certificate.
-use Rattle.std.proofs.Common.{◌≡◌, ℕ, List, get_or, arith}
+use Rattle.std.proofs.Common.{ℕ, List, get_or, arith}
 use Rattle.obs_rows.specs.declared.arcs.Arc.{Arc}
-use Rattle.cert_lines.specs.declared.version.Version.TheVariants.{One, Two}
+use Rattle.cert_lines.specs.declared.version.Version.TheVariants.{Two}
 use Rattle.cert_data.specs.declared.certs.Cert.{Cert}
 use Rattle.cert_data.specs.declared.tails.Tail.{Tail}
 use Rattle.cert_data.specs.declared.tails.Tail.TheVariants.{Fixed, Unseparated, Weak, Overwidth, Unsettled, Spent}
 use Rattle.cert_data.specs.Tails.{IsTailOf}
+use Rattle.cert_lines.proofs.LetterLaws.{not_one}
 use Rattle.cert_spelling.specs.Editions.{IsColumnOf, IsOfVersion}
 
 column_of_two : (ss : List ℕ) (arcs : List Arc) (budget : ℕ) (t : Tail) → IsTailOf ss arcs budget t → IsColumnOf Two t
@@ -15,9 +16,6 @@ column_of_two ss arcs budget (Weak column pivot) fits = omega (arith, fits.colum
 column_of_two ss arcs budget (Overwidth place) fits = tt
 column_of_two ss arcs budget (Unsettled entry) fits = tt
 column_of_two ss arcs budget (Spent spent) fits = tt
-
-not_one : Two ≡ One → ⊥
-not_one e = absurd cc
 
 pub of_two : (c : Cert) → IsOfVersion Two c
 of_two c = record {

@@ -1,18 +1,15 @@
 -- What a tail of one line must be: first its shape, then its numbers from left to right.
-use Rattle.std.specs.Prelude.{ℕ, pos, if◌then◌else◌, List, slice_index_or, codes, Result, Ok, None, Some}
-use Rattle.std.specs.declared.option.Option.{Option}
-use Rattle.integer_form.specs.declared.faults.Place.{Place}
+use Rattle.std.specs.Prelude.{ℕ, pos, if◌then◌else◌, List, slice_index_or, codes, Result, Ok}
 use Rattle.rinex_head.specs.declared.place.Flaw.{Flaw}
-use Rattle.rinex_head.specs.declared.place.What.TheVariants.{BadLine}
-use Rattle.rinex_head.specs.Places.{and_then, flawed}
+use Rattle.rinex_head.specs.Places.{and_then}
 use Rattle.cert_lines.specs.Forms.{count_in, vector_in}
-use Rattle.cert_lines.specs.TailForms.{begins, weak_in, name_in}
+use Rattle.cert_lines.specs.TailForms.{begins, weak_in}
 use Rattle.cert_lines.specs.declared.ranges.TheConstants.{MOVES}
 use Rattle.cert_lines.specs.declared.version.Version.{Version}
 use Rattle.cert_lines.specs.Versions.{last_column}
+use Rattle.grammar_lines.specs.TailParts.{place_in}
 use Rattle.cert_data.specs.declared.tails.Tail.{Tail}
 use Rattle.cert_data.specs.declared.tails.Tail.TheVariants.{Weak, Overwidth, Unsettled, Spent}
-use Rattle.cert_data.specs.Places.{place_of_name}
 
 abbrev pub weak_tail_in : Version → List ℕ → Result Tail Flaw
 weak_tail_in version line = and_then (weak_in (codes "declined weak fine") (last_column version) line) (λ w. Ok (Weak w.column w.pivot))
@@ -24,12 +21,8 @@ unsettled_in line = and_then (vector_in (codes "declined unsettled fine") 1 MOVE
 abbrev pub spent_in : ℕ → List ℕ → Result Tail Flaw
 spent_in budget line = and_then (count_in (codes "declined spent") budget budget line) (λ b. Ok (Spent b))
 
-abbrev pub at_place : Option Place → Result Tail Flaw
-at_place None = flawed 1 BadLine
-at_place (Some place) = Ok (Overwidth place)
-
 abbrev pub overwidth_in : List ℕ → Result Tail Flaw
-overwidth_in line = and_then (name_in (codes "declined overwidth fine ") line) (λ name. at_place (place_of_name name))
+overwidth_in line = and_then (place_in (codes "declined overwidth fine ") line) (λ place. Ok (Overwidth place))
 
 -- a tail of one line
 abbrev pub declined_in : Version → ℕ → List ℕ → Result Tail Flaw

@@ -8,12 +8,13 @@ ghost use Rattle.cert_spelling.specs.Editions.{IsOfVersion, IsCertificateAs};
 ghost use Rattle.cert_text.specs.Rules.{cert_rules, reading_as, reading_of, Form, End};
 
 use crate::arcs::read_arcs;
+use crate::grammar::CertText;
 use crate::head::read_head;
 use crate::pairs::read_pairs;
 use crate::tail::read_tail;
 use cert_data::Cert;
 use cert_lines::Version;
-use cert_words::{BAD_LINE, TextLines, line_or_end};
+use cert_words::TextLines;
 use obs_rows::{SessionBuilder, fine_signals, integer_count};
 use rinex_head::{At, TextFault};
 use std::alloc::Global;
@@ -24,10 +25,7 @@ fn read_end(lines: &mut TextLines<'_>) -> Result<(), At>
         (λ u. (rest_gives cert_rules lines.old End ≡ Ok tt) × (lines.old.left ≡ []))
         (λ at. rest_gives cert_rules lines.old End ≡ Err at) }
 {
-    match line_or_end(lines)? {
-        Some(line) => Err(BAD_LINE.at(line.number)),
-        None => Ok(()),
-    }
+    grammar_lines::read_end::<CertText>(lines)
 }
 
 fn read_lines(alloc: Global, version: Version, mut lines: TextLines<'_>) -> Result<Cert, TextFault>

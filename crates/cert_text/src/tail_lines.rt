@@ -8,9 +8,9 @@ ghost use Rattle.cert_spelling.specs.Editions.{IsColumnOf};
 ghost use Rattle.cert_lines.specs.declared.version.Version.{Version};
 ghost use Rattle.cert_text.specs.TailForms.{weak_tail_in, unsettled_in, spent_in, overwidth_in, declined_in};
 
-use cert_data::{Tail, place_named};
-use cert_lines::{MOVES, Version, WeakPivot, begins, count_in, name_in, vector_in, weak_in};
-use cert_words::BAD_LINE;
+use cert_data::Tail;
+use cert_lines::{MOVES, Version, WeakPivot, begins, count_in, vector_in, weak_in};
+use grammar_lines::place_in;
 use rinex_head::Flaw;
 
 fn weak_tail_in(version: Version, line: &[u8]) -> Result<Tail, Flaw>
@@ -56,11 +56,8 @@ fn overwidth_in(line: &[u8]) -> Result<Tail, Flaw>
     ensures column { (version : Version) → IfOk result (IsColumnOf version) }
     ensures whole { IfOk result IsWholeTail }
 {
-    let name = name_in(b"declined overwidth fine ", line)?;
-    match place_named(name) {
-        Some(place) => Ok(Tail::Overwidth { place }),
-        None => Err(BAD_LINE),
-    }
+    let place = place_in(b"declined overwidth fine ", line)?;
+    Ok(Tail::Overwidth { place })
 }
 
 /// A tail of one line.

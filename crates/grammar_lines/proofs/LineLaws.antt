@@ -5,9 +5,10 @@ use Rattle.rinex_head.specs.declared.place.Flaw.{Flaw}
 use Rattle.rinex_head.specs.declared.place.At.{At}
 use Rattle.rinex_head.specs.declared.place.What.TheVariants.{BadLine}
 use Rattle.rinex_head.specs.Places.{place, and_then, at_line}
-use Rattle.rinex_head.specs.Walk.{Rules, rest_gives, HasNoLine, ReadsFree}
-use Rattle.rinex_head.proofs.Walks.{goes_on, stops, has_none}
+use Rattle.rinex_head.specs.Walk.{Rules, rest_gives, HasNoLine, ReadsFree, Reads}
+use Rattle.rinex_head.proofs.Walks.{goes_on, stops, has_none, handed_on}
 use Rattle.grammar_lines.specs.LineParts.{TakesLine}
+use Rattle.rinex_head.specs.declared.place.TextFault.{TextFault}
 
 -- it says x
 pub line_goes : {S X : Type 0} (rules : Rules S (Unit {0})) (s : S) (form : List ℕ → Result X Flaw) (next : X → S) (x : X) (old new : Reading) (number : ℕ) (line : List ℕ)
@@ -46,3 +47,11 @@ differs false u is holds = refl
 pub agrees : (t u : Bool) → u ≡ not t → u ≡ false → t ≡ true
 agrees true u is fails = refl
 agrees false u is fails = absurd (cc (is, fails))
+
+-- ---- parts of a text
+
+-- a part behind another
+pub reads_behind : {S F X : Type 0} (rules : Rules S F) (s middle : S) (next : X → S) (old between new : Reading) (r : Result X TextFault)
+    → rest_gives rules old s ≡ rest_gives rules between middle → Reads rules between new middle next r → Reads rules old new s next r
+reads_behind rules s middle next old between new (Ok x) first second = first ∙ second
+reads_behind rules s middle next old between new (Err fault) first second = handed_on _ _ fault first second

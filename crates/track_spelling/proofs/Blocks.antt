@@ -5,14 +5,8 @@ use Rattle.std.proofs.lemmas.List.{drop_more}
 use Rattle.obs_rows.specs.declared.pair_rows.PairRows.{PairRows}
 use Rattle.cert_words.specs.Spelling.{behind_blanks, text_of_lines}
 use Rattle.cert_lines.proofs.Appends.{line_pushed}
-use Rattle.cert_spelling.proofs.Texts.{text_append}
+use Rattle.cert_spelling.proofs.Texts.{block_pushed}
 use Rattle.track_spelling.specs.Spelling.{placed_pair_lines, all_placed_pairs, move_line, move_lines}
-
--- lines that were written, before those to come
-block_pushed : (a b whole : List ℕ) (block rest : List (List ℕ)) → b ≡ a ++ text_of_lines block → a ++ text_of_lines (block ++ rest) ≡ whole → b ++ text_of_lines rest ≡ whole
-block_pushed a b whole block rest pushed so_far =
-    ap (λ (l : List ℕ). l ++ text_of_lines rest) pushed ∙ append_assoc a (text_of_lines block) (text_of_lines rest)
-    ∙ ap (λ (l : List ℕ). a ++ l) (sym (text_append block rest)) ∙ so_far
 
 -- a pair with its point, and those behind it
 pub placed_pushed : (ss a b whole : List ℕ) (pairs : List PairRows) (points : List (List ℤ)) (i : ℕ) (p : PairRows) (x : List ℤ) → i < length pairs → i < length points

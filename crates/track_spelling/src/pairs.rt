@@ -1,39 +1,14 @@
 //! The pairs of a track with their points, written.
-ghost use Rattle.std.specs.Prelude.{◌≡◌, ◌++◌, ◌∷◌, [], OnOk, All, length};
+ghost use Rattle.std.specs.Prelude.{◌≡◌, ◌++◌, OnOk, All, length};
 ghost use Rattle.cert_words.specs.Spelling.{text_of_lines};
 ghost use Rattle.obs_rows.specs.Signals.{fine_signals};
-ghost use Rattle.cert_lines.specs.Lengths.{IsWholeRow, IsWholePair};
-ghost use Rattle.cert_lines.specs.Lines.{pair_line, row_lines};
+ghost use Rattle.cert_lines.specs.Lengths.{IsWholePair};
 ghost use Rattle.track_spelling.specs.Lengths.{AreTriples};
 ghost use Rattle.track_spelling.specs.Spelling.{placed_pair_lines, all_placed_pairs, counted_placed_pairs};
 
-use cert_lines::{push_count_line, push_row_line, push_vector_line};
-use cert_words::push_number;
-use obs_rows::{PairRows, Row, Signals};
+use cert_lines::{push_count_line, push_pair_head, push_row_lines, push_vector_line};
+use obs_rows::{PairRows, Signals};
 use std::alloc::AllocError;
-
-// Appends the line of a pair.
-fn push_pair_head(out: &mut Vec<u8>, pair: &PairRows) -> Result<(), AllocError>
-    ensures { OnOk result (out.new.items ≡ out.old.items ++ text_of_lines (pair_line pair.now.number pair.now.tag.0 pair.now.group (length pair.now.rows) ∷ [])) }
-{
-    out.extend_from_slice(b"pair")?;
-    push_number(out, pair.number)?;
-    push_number(out, pair.tag.0)?;
-    push_number(out, pair.group)?;
-    push_number(out, pair.rows.len())?;
-    out.push(b'\n')?;
-    Ok(())
-}
-
-fn push_row_lines(out: &mut Vec<u8>, signals: Signals, rows: &[Row]) -> Result<(), AllocError>
-    ensures text { OnOk result (out.new.items ≡ out.old.items ++ text_of_lines (row_lines (fine_signals signals) rows.now)) }
-    ensures whole { OnOk result (All IsWholeRow rows.now) }
-{
-    for row in rows {
-        push_row_line(out, signals, row)?;
-    }
-    Ok(())
-}
 
 // Appends a pair, its point and its rows.
 fn push_placed_pair(

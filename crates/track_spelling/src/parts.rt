@@ -1,17 +1,14 @@
 //! The parts of the certificate of a track before its tail, written.
-ghost use Rattle.std.specs.Prelude.{◌≡◌, ◌++◌, ◌∷◌, [], OnOk, All, length};
+ghost use Rattle.std.specs.Prelude.{◌≡◌, ◌++◌, ◌∷◌, [], OnOk, length};
 ghost use Rattle.cert_words.specs.Spelling.{text_of_lines};
-ghost use Rattle.obs_rows.specs.Signals.{fine_signals};
-ghost use Rattle.cert_lines.specs.Lengths.{IsWholeArc};
-ghost use Rattle.cert_lines.specs.Lines.{arc_lines, counted_arcs};
 ghost use Rattle.track_spelling.specs.Lengths.{IsWholeTrack};
 ghost use Rattle.track_spelling.specs.Spelling.{track_form, track_head_lines, track_lines};
 
 use crate::pairs::push_pairs;
 use cert_lines::{
-    push_arc_line, push_count_line, push_signals_line, push_system_line, push_vector_line,
+    push_arcs, push_count_line, push_signals_line, push_system_line, push_vector_line,
 };
-use obs_rows::{Arc, Signals};
+use obs_rows::Signals;
 use std::alloc::AllocError;
 use track_data::Track;
 
@@ -40,25 +37,6 @@ fn push_head(
     push_system_line(out, system)?;
     push_vector_line(out, b"base", base)?;
     push_signals_line(out, signals)
-}
-
-fn push_arc_lines(out: &mut Vec<u8>, signals: Signals, arcs: &[Arc]) -> Result<(), AllocError>
-    ensures text { OnOk result (out.new.items ≡ out.old.items ++ text_of_lines (arc_lines (fine_signals signals) arcs.now)) }
-    ensures whole { OnOk result (All IsWholeArc arcs.now) }
-{
-    for arc in arcs {
-        push_arc_line(out, signals, arc)?;
-    }
-    Ok(())
-}
-
-// Appends the number of arcs, and the arcs.
-fn push_arcs(out: &mut Vec<u8>, signals: Signals, arcs: &[Arc]) -> Result<(), AllocError>
-    ensures text { OnOk result (out.new.items ≡ out.old.items ++ text_of_lines (counted_arcs (fine_signals signals) arcs.now)) }
-    ensures whole { OnOk result (All IsWholeArc arcs.now) }
-{
-    push_count_line(out, b"arcs", arcs.len() as u64)?;
-    push_arc_lines(out, signals, arcs)
 }
 
 /// Appends what stands before the tail.

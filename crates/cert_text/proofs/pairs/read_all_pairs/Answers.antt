@@ -9,7 +9,8 @@ use Rattle.std.proofs.lemmas.List.Elements.{All-push}
 use Rattle.cert_lines.specs.Lengths.{IsWholePair}
 use Rattle.obs_rows.specs.Signals.{fine_signals}
 use Rattle.cert_lines.specs.Versions.{group_limit}
-use Rattle.cert_text.proofs.PairSteps.{pairs_took, pairs_below}
+use Rattle.cert_text.proofs.PairSteps.{pairs_took}
+use Rattle.grammar_lines.proofs.RowSteps.{pairs_below}
 use Rattle.cert_text.proofs.pairs.read_all_pairs.Goals as goal
 
 pub returns-in_err-pair-clause-reads : goal.returns-in_err-pair-clause-reads

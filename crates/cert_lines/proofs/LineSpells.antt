@@ -1,38 +1,38 @@
--- What each line of a certificate gives where it is spelled, and that it isn't too long.
-use Rattle.std.proofs.Common.{◌≡◌, ◌+◌, ◌-◌, ◌*◌, ◌^◌, ◌<◌, ◌≤◌, ℕ, ℤ, suc, pos, negsuc, neg_ℤ, nat_le, slice_get, Bool, true, false, List, [], ◌∷◌, ◌++◌, length, take, drop, get_or, unsigned_abs, codes, All, Result, Ok, Some, None, Option, refl, sym, ap, ◌∙◌, subst, arith, length-append}
-use Rattle.std.specs.Fmt.{signed_decimal}
-use Rattle.std.proofs.lemmas.Fmt.{length-decimal-le_wide}
+-- What each line gives where it is spelled, and that it isn't too long.
+use Rattle.std.proofs.Common.{◌≡◌, ◌^◌, ◌<◌, ◌≤◌, ℕ, zero, suc, ℤ, pos, negsuc, Bool, true, false, List, [], ◌∷◌, ◌++◌, length, take, get_or, codes, All, refl, ap, subst, arith, ◌+◌, ◌-◌, ◌*◌, neg_ℤ, nat_le, slice_get, drop, unsigned_abs, Result, Ok, Some, None, Option, sym, ◌∙◌, length-append}
 use Rattle.std.proofs.lemmas.Int.{ints}
-use Rattle.std.proofs.lemmas.List.{append-nil, drop-drop, get_or-drop, length-map}
-use Rattle.std.proofs.lemmas.Option.{slice_get-get_or}
 use Rattle.std.proofs.lemmas.Bool.Decides.{nat_tests}
 use Rattle.std.proofs.lemmas.List.Elements.{All-head, All-tail}
+use Rattle.std.specs.Fmt.{signed_decimal}
+use Rattle.std.proofs.lemmas.Fmt.{length-decimal-le_wide}
+use Rattle.std.proofs.lemmas.List.{append-nil, drop-drop, get_or-drop, length-map}
+use Rattle.std.proofs.lemmas.Option.{slice_get-get_or}
 use Rattle.decimal_text.specs.Whole.{size_of}
 use Rattle.obs_rows.specs.declared.arcs.Arc.{Arc}
 use Rattle.obs_rows.specs.declared.rows.Row.{Row}
-use Rattle.obs_rows.specs.Ranges.{IsWithin, IsBelow, IsRadius}
+use Rattle.obs_rows.specs.Ranges.{IsWithin, IsBelow, IsRadius, IsPoint}
 use Rattle.obs_rows.specs.Arcs.{IsArcInRange, IsOfPair}
-use Rattle.rinex_head.specs.Places.{and_then}
-use Rattle.cert_words.specs.declared.numbers.Number.{Number}
-use Rattle.cert_words.specs.declared.ranges.Range.{Range}
 use Rattle.cert_words.specs.Spelling.{behind_blanks}
-use Rattle.cert_words.specs.Numbers.{Part, part, some_then, behind_text, at_end, more_numbers, number_in, number_at, numbers_behind, natural_within, within_range, all_within, IsBetween, IsIn}
 use Rattle.cert_words.proofs.NumberLaws.{AreSmall, IsWordEnd, placed, past, line_written, text_written, more_written, capped_small, values_placed}
-use Rattle.cert_words.proofs.RangeLaws.{AreIn, natural_holds, within_holds, placed_within}
-use Rattle.cert_lines.specs.declared.ranges.TheConstants.{SHIFTS, OBSERVATIONS, DIRECTIONS, RADII}
-use Rattle.cert_lines.specs.Lines.{count_line, vector_line, kind_text, arc_line, pair_line, row_line, row_numbers}
-use Rattle.cert_lines.specs.Forms.{count_in, vector_in, kind_in, with_shifts, words_of_arc, arc_words, arc_of, arc_numbers, may_stand, arc_in, pair_head, pair_in, arc_at, behind_y, row_in}
+use Rattle.cert_lines.specs.Lines.{vector_line, arc_line, kind_text, row_numbers, count_line, pair_line, row_line}
 use Rattle.cert_lines.specs.declared.version.Version.{Version}
 use Rattle.cert_lines.specs.declared.version.Version.TheVariants.{One, Two}
-use Rattle.cert_lines.specs.Versions.{most_sat, group_limit, groups}
 use Rattle.cert_lines.specs.Places.{select, spread, put_within}
+use Rattle.obs_rows.specs.Signals.{phase_bands, used_signals}
+use Rattle.cert_words.specs.declared.ranges.Range.{Range}
+use Rattle.cert_words.specs.Numbers.{IsIn, Part, part, some_then, behind_text, at_end, more_numbers, number_in, number_at, numbers_behind, natural_within, within_range, all_within, IsBetween}
+use Rattle.cert_words.proofs.RangeLaws.{AreIn, natural_holds, within_holds, placed_within}
+use Rattle.rinex_head.specs.Places.{and_then}
+use Rattle.cert_words.specs.declared.numbers.Number.{Number}
+use Rattle.cert_lines.specs.declared.ranges.TheConstants.{SHIFTS, OBSERVATIONS, DIRECTIONS, RADII, ENTRIES, MOVES, COORDINATES}
+use Rattle.cert_lines.specs.Forms.{count_in, vector_in, kind_in, with_shifts, words_of_arc, arc_words, arc_of, arc_numbers, may_stand, arc_in, pair_head, pair_in, arc_at, behind_y, row_in}
+use Rattle.cert_lines.specs.Versions.{most_sat, group_limit, groups}
 use Rattle.cert_lines.proofs.Spreading.{bands_good}
 use Rattle.obs_rows.specs.declared.units.TheConstants.{SIGNALS, PHASES}
-use Rattle.obs_rows.specs.Signals.{used_signals, phase_bands}
 use Rattle.obs_rows.specs.Unused.{HasUsedShifts}
 use Rattle.rinex_head.specs.declared.place.Flaw.{Flaw}
 use Rattle.cert_lines.specs.Lengths.{IsWholeArc, IsWholeRow}
-use Rattle.cert_text.proofs.FeedLaws.{below_small, row_small, shifts_small, select_in}
+use Rattle.cert_lines.proofs.Sizes.{below_small, row_small, shifts_small, select_in, point_small}
 
 -- ---- lengths
 
@@ -145,7 +145,7 @@ pair_spells version least number tag count group from to tag_to group_in count_f
 
 -- ---- a row's line
 
-values_at : (range : Range) (ns : List Number) (zs : List ℤ) → HaveValues ns zs → AreIn range zs → all_within range ns ≡ Ok zs
+pub values_at : (range : Range) (ns : List Number) (zs : List ℤ) → HaveValues ns zs → AreIn range zs → all_within range ns ≡ Ok zs
 unfolding all_within
 values_at range [] [] have inside = refl
 values_at range [] (z ∷ zs) have inside = absurd have
@@ -153,7 +153,7 @@ values_at range (n ∷ ns) [] have inside = absurd have
 values_at range (n ∷ ns) (z ∷ zs) have inside = rw (range_at range n z have.0 inside.0, values_at range ns zs have.1 inside.1) refl
 
 -- the numbers of a list and those behind it
-split_values : (ns : List Number) (xs ys : List ℤ) → HaveValues ns (xs ++ ys) → HaveValues (take (length xs) ns) xs × HaveValues (drop (length xs) ns) ys
+pub split_values : (ns : List Number) (xs ys : List ℤ) → HaveValues ns (xs ++ ys) → HaveValues (take (length xs) ns) xs × HaveValues (drop (length xs) ns) ys
 split_values ns [] ys have = (tt, have)
 split_values [] (x ∷ xs) ys have = absurd have
 split_values (n ∷ ns) (x ∷ xs) ys have = let rest = split_values ns xs ys have.1 in ((have.0, rest.0), rest.1)
@@ -321,3 +321,19 @@ arc_spells version l2 l5 free left a is sat_to used whole stands =
     let inside = select_in (IsBelow (2 ^ 40)) SHIFTS bands a.shift (omega arith) (λ z h. below_is (2 ^ 40) 1_099_511_627_775 z refl h) is.shifts_in in
     let back : spread PHASES bands own ≡ a.shift = (bands_good l2 l5).whole a.shift whole used in
     rw (words.1.0, stands) (arc_read version bands a.datum a.sat a.first a.last a.shift words.0 words.1.1 back is.sat_from sat_to is.order is.last_in inside)
+
+-- ---- points, vectors and moves
+
+pub point_spells : (word : List ℕ) (p : List ℤ) → length p ≡ 3 → IsPoint p → vector_in word 3 COORDINATES (vector_line word p) ≡ Ok p
+point_spells word p three is = vector_spells word 3 COORDINATES p three (point_small p is) (are_in (IsWithin 70_000_000_000) COORDINATES p (λ z h. within_is 70_000_000_000 z h) is)
+
+pub point_length : (word : List ℕ) (p : List ℤ) → length word ≤ 100 → length p ≡ 3 → IsPoint p → length (vector_line word p) ≤ 4096
+point_length word p short three is = line_length word p short (omega (arith, three)) (point_small p is)
+
+pub entries_in : (n : ℕ) (z : List ℤ) → ((i : ℕ) → IsBelow (2 ^ 30) (get_or z i (pos 0))) → AreIn ENTRIES (take n z)
+entries_in zero z h = tt
+entries_in (suc n) [] h = tt
+entries_in (suc n) (x ∷ xs) h = (below_is (2 ^ 30) 1_073_741_823 x refl (h 0), entries_in n xs (λ i. h (suc i)))
+
+pub moves_in : (m : List ℤ) → All (IsBelow (2 ^ 46)) m → AreIn MOVES m
+moves_in m all = are_in (IsBelow (2 ^ 46)) MOVES m (λ z b. below_is (2 ^ 46) 70_368_744_177_663 z refl b) all

@@ -3,7 +3,7 @@ use Rattle.cert_words.specs.Spelling.{text_of_lines}
 use Rattle.cert_lines.specs.Lengths.{IsWholeArc}
 use Rattle.cert_lines.specs.Lines.{arc_lines}
 use Rattle.obs_rows.specs.Signals.{fine_signals}
-use Rattle.cert_spelling.proofs.parts.push_arc_lines.Given as goal
+use Rattle.cert_lines.proofs.write.push_arc_lines.Given as goal
 
 abbrev pub invariant-loop-arc : goal.invariant-loop-arc
 invariant-loop-arc l = record {

@@ -7,7 +7,7 @@ use Rattle.cert_words.specs.Spelling.{text_of_lines}
 use Rattle.cert_lines.specs.Lines.{arc_line, arc_lines}
 use Rattle.cert_lines.specs.Lengths.{IsWholeArc}
 use Rattle.cert_lines.proofs.Appends.{line_pushed}
-use Rattle.cert_spelling.proofs.parts.push_arc_lines.Goals as goal
+use Rattle.cert_lines.proofs.write.push_arc_lines.Goals as goal
 
 -- an arc and those behind it
 arc_pushed : (ss a b whole : List ℕ) (arcs : List Arc) (i : ℕ) (d : Arc) → i < length arcs → b ≡ a ++ text_of_lines (arc_line ss (get_or arcs i d) ∷ [])
