@@ -1,0 +1,9 @@
+pub mod LineLaws
+pub mod PairSteps
+pub mod MoveLaws
+pub mod TailLaws
+pub mod Feeds
+pub mod TailSpells
+pub mod Accepted
+pub mod SameStructs
+pub mod SameTrack

@@ -1,0 +1,2 @@
+pub mod TailForms
+pub mod Rules
