@@ -1,0 +1,108 @@
+use Rattle.std.proofs.Common.{◌≡◌, ℕ, ◌+◌, ◌-◌, ◌*◌, ◌^◌, ◌<◌, ◌≤◌, [], List, length, map, drop, ℤ, pos, ◌+ℤ◌, unsigned_abs, arith, rules, sym, ap, ap₂, ◌∙◌, refl, subst}
+use Rattle.std.proofs.lemmas.List.{drop_all}
+use Rattle.std.proofs.lemmas.Int.{ints}
+use Rattle.std.proofs.lemmas.Slice.Zip.{AllZip-long}
+use Rattle.whole_math.proofs.Order.{lins}
+use Rattle.obs_rows.specs.declared.arcs.Arc.{Arc}
+use Rattle.obs_rows.specs.declared.pair_rows.PairRows.{PairRows}
+use Rattle.obs_rows.specs.Signals.{fine_signals}
+use Rattle.obs_rows.specs.Integers.{integer_count}
+use Rattle.form_tables.specs.declared.sizes.TheConstants.{MOST_COLUMNS}
+use Rattle.form_tables.specs.Tables.{entry}
+use Rattle.form_tables.proofs.TableLaws.{zero_entry}
+use Rattle.normal_sum.proofs.RowSums.{next_sum}
+use Rattle.integer_form.specs.declared.front_form.FrontForm.{FrontForm}
+use Rattle.track_sum.specs.Fronts.{Front, part, track_entry}
+use Rattle.track_sum.specs.Parts.{part_at}
+use Rattle.track_sum.specs.PairFronts.{IsFrontOfPair, HasFront, brief}
+use Rattle.track_sum.proofs.SumOfForms.{entry_more}
+use Rattle.track_sum.proofs.TrackEntries.{none_entry}
+use Rattle.track_sum.proofs.FrontLists.{columns_of_front, HasPlace, front_place, fronts_from}
+use Rattle.track_sum.proofs.OneForm.{same_parts}
+use Rattle.track_sum.proofs.sums.add_fronts.Goals as goal
+
+-- ---- one pair more
+one_more : (arcs : List Arc) (ss : List ℕ) (p : PairRows) (h shift k : ℕ) (fs : List FrontForm) (f : FrontForm) (w : HasPlace arcs ss p fs k) → IsFrontOfPair arcs ss p f → shift ≡ h - f.h → (r c : ℕ) → r ≤ c → c < 1 + integer_count arcs ss → (old new all : ℤ) →
+    old +ℤ track_entry (1 + integer_count arcs ss) h (map brief (drop k fs)) r c ≡ all → new ≡ old +ℤ part_at (f.columns - 3) (2 ^ shift) (entry f.p) r c →
+    new +ℤ track_entry (1 + integer_count arcs ss) h (map brief (drop (k + 1) fs)) r c ≡ all
+one_more arcs ss p h shift k fs f w is e r c l b old new all sums more =
+    let n : ℕ = 1 + integer_count arcs ss in
+    let rest : List Front = map brief (drop (k + 1) fs) in
+    next_sum old new (part_at n (part h (brief w.front)) (entry w.front.p) r c) (track_entry n h rest r c) all
+    (ap (λ (x : ℤ). old +ℤ x) (sym (entry_more n h (brief w.front) rest r c)) ∙ ap (λ (gs : List FrontForm). old +ℤ track_entry n h (map brief gs) r c) (sym (fronts_from arcs ss p fs k w)) ∙ sums)
+    (more ∙ ap (λ (x : ℤ). old +ℤ x) (places n ∙ same_parts arcs ss p f w.front n h is w.is refl r c l b))
+  where
+    fewer : (k i : ℕ) → k ≡ 4 + i → k - 3 ≡ 1 + i
+    fewer k i e = omega arith
+
+    places : (n : ℕ) → part_at (f.columns - 3) (2 ^ shift) (entry f.p) r c ≡ part_at (1 + integer_count arcs ss) (part h (brief f)) (entry f.p) r c
+    places n = ap₂ (λ (m s : ℕ). part_at m (2 ^ s) (entry f.p) r c) (fewer f.columns (integer_count arcs ss) (columns_of_front arcs ss p f is)) e
+
+larger : (a b i : ℕ) → a ≤ b + 2 ^ 64 → b ≤ i * 2 ^ 64 → a ≤ (i + 1) * 2 ^ 64
+larger a b i h g = omega arith
+
+few : (a i n : ℕ) → a ≤ i * 2 ^ 64 → i < n → n ≤ 3600 → a ≤ 3600 * 2 ^ 64
+few a i n h g k = omega arith
+
+zero_first : (a b : ℤ) → a ≡ pos 0 → a +ℤ b ≡ b
+zero_first a b e = omega (arith, lins)
+
+zero_last : (a b c : ℤ) → b ≡ pos 0 → a +ℤ b ≡ c → a ≡ c
+zero_last a b c e h = omega (arith, lins)
+
+size_zero : (x : ℤ) → x ≡ pos 0 → unsigned_abs x ≤ 0 * 2 ^ 64
+size_zero x e = omega (arith, ints)
+
+pub loop-pair-init : goal.loop-pair-init
+loop-pair-init c =
+    let z : (i j : ℕ) → entry c.args.table.now i j ≡ pos 0 = λ i j. ap (λ (t : List (List ℤ)). entry t i j) c.requires.zeros ∙ zero_entry MOST_COLUMNS MOST_COLUMNS i j in
+    record { sums = λ fs are r k l b. zero_first _ _ (z (3 + r) (3 + k)); sizes = λ r k l b. size_zero _ (z (3 + r) (3 + k)) }
+
+pub known_front-front-requires-clause-has : goal.known_front-front-requires-clause-has
+known_front-front-requires-clause-has c =
+    subst (λ (p : PairRows). HasFront c.args.arcs.now (fine_signals c.args.signals) p) (sym c.pair-item.is) (c.requires.fronts c.loop-pair.pair-index c.loop-pair-test.true c.pair-item.result)
+
+pub overflow_sub-h : goal.overflow_sub-h
+overflow_sub-h c =
+    c.requires.above c.loop-pair.pair-index c.loop-pair-test.true c.pair-item.result c.known_front-front.result
+    (subst (λ (p : PairRows). IsFrontOfPair c.args.arcs.now (fine_signals c.args.signals) p c.known_front-front.result) c.pair-item.is c.known_front-front.ensures.front)
+
+pub add_front-requires-clause-sizes : goal.add_front-requires-clause-sizes
+add_front-requires-clause-sizes c =
+    let arcs : List Arc = c.args.arcs.now in
+    let ss : List ℕ = fine_signals c.args.signals in
+    let f : FrontForm = c.known_front-front.result in
+    let columns : f.columns ≡ 4 + integer_count arcs ss = columns_of_front arcs ss c.pair-item.result f c.known_front-front.ensures.front in
+    λ r q l b. few (unsigned_abs (entry c.loop-pair.table (3 + r) (3 + q))) c.loop-pair.pair-index (length c.args.pairs.now) (c.loop-pair.invariant.sizes r q l (within q (integer_count arcs ss) f.columns b columns)) c.loop-pair-test.true c.requires.few
+  where
+    within : (b i k : ℕ) → b < k - 3 → k ≡ 4 + i → b < 1 + i
+    within b i k l e = omega arith
+
+pub loop-pair-preserved : goal.loop-pair-preserved
+loop-pair-preserved c =
+    let pairs : List PairRows = c.args.pairs.now in
+    let arcs : List Arc = c.args.arcs.now in
+    let ss : List ℕ = fine_signals c.args.signals in
+    let k : ℕ = c.loop-pair.pair-index in
+    let p : PairRows = c.pair-item.result in
+    let f : FrontForm = c.known_front-front.result in
+    let is : IsFrontOfPair arcs ss p f = c.known_front-front.ensures.front in
+    let inside : k < length pairs = search rules in
+    let within : (b i : ℕ) → b < 1 + i → f.columns ≡ 4 + i → b < f.columns - 3 = λ b i l e. omega arith in
+    let columns : f.columns ≡ 4 + integer_count arcs ss = columns_of_front arcs ss p f is in
+    record {
+      sums = λ fs are r q l b. one_more arcs ss p c.args.h (c.args.h - f.h) k fs f (front_place arcs ss pairs fs k p are inside (sym c.pair-item.is)) is refl r q l b _ _ _
+          (c.loop-pair.invariant.sums fs are r q l b) (c.add_front.ensures.sums r q l (within q (integer_count arcs ss) b columns));
+      sizes = λ r q l b. larger _ _ k (c.add_front.ensures.sizes r q l (within q (integer_count arcs ss) b columns)) (c.loop-pair.invariant.sizes r q l b);
+    }
+
+pub returns : goal.returns
+returns c = record {
+  sums = λ fs are r q l b.
+      let n : ℕ = 1 + integer_count c.args.arcs.now (fine_signals c.args.signals) in
+      let end : drop c.loop-pair.pair-index fs ≡ [] = drop_all c.loop-pair.pair-index fs (past (length fs) (length c.args.pairs.now) c.loop-pair.pair-index (AllZip-long (IsFrontOfPair c.args.arcs.now (fine_signals c.args.signals)) c.args.pairs.now fs are) c.loop-pair-test.false) in
+      zero_last _ _ _ (ap (λ (gs : List FrontForm). track_entry n c.args.h (map brief gs) r q) end ∙ none_entry n c.args.h r q) (c.loop-pair.invariant.sums fs are r q l b);
+}
+  where
+    past : (a b k : ℕ) → a ≡ b → b ≤ k → a ≤ k
+    past a b k e h = omega arith
