@@ -32,7 +32,7 @@ pub(crate) struct PairRounds<'a> {
     pub pair: u32,
 }
 
-impl Rounds for PairRounds<'_> {
+impl<'a> Rounds for PairRounds<'a> {
     ghost rules = { λ p. rules_of_pair (setting_of p.files.now) p.pair };
 
     ghost ready = { λ p. AreReady p.files.now × ((p.pair < length p.files.now.screened.now.used) × (4 ≤ held p.files.now.kept.now p.pair)) };
@@ -52,6 +52,7 @@ impl Rounds for PairRounds<'_> {
     }
 
     fn first_shifts(&self, alloc: Global, _point: &[i64; 3]) -> Result<Vec<Arc>, AllocError> {
-        Vec::from_slice(alloc, self.files.kept)
+        let arcs = Vec::from_slice(alloc, self.files.kept)?;
+        Ok(arcs)
     }
 }

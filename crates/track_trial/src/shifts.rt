@@ -1,12 +1,12 @@
 // The shifts with which a pair is tried.
-ghost use Rattle.std.specs.Prelude.{◌≡◌, ◌<◌, ◌^◌, Some, All, length, slice_get, IfOk, IsTrue};
+ghost use Rattle.std.specs.Prelude.{◌≡◌, ◌<◌, ◌^◌, Some, All, length, slice_get, IfOk};
 ghost use Rattle.obs_rows.specs.declared.arcs.Arc.{Arc};
 ghost use Rattle.obs_rows.specs.Arcs.{AreArcs};
 ghost use Rattle.obs_rows.specs.Ranges.{IsBelow};
 ghost use Rattle.obs_rows.specs.ReceiverPoints.{IsReceiverPoint};
 ghost use Rattle.obs_rows.specs.Signals.{fine_signals};
 ghost use Rattle.obs_rows.specs.Unused.{HasUsedShifts};
-ghost use Rattle.round_steps.specs.Shifts.{AreSameArcs, without_shifts};
+ghost use Rattle.round_steps.specs.Shifts.{AreSameArcs, AreShiftsBelow};
 ghost use Rattle.track_trial.specs.PairRules.{setting_of, AreReady};
 ghost use Rattle.track_trial.specs.Trials.{IsTriedArc, AreTried, KeepsOthers, flagged};
 
@@ -18,25 +18,28 @@ use std::alloc::{AllocError, Global};
 /// The arc of number k with which the pair is tried.
 fn tried_arc(
     files: &TrackFiles<'_>,
-    arc: &Arc,
+    arcs: &[Arc],
+    begun: &[bool],
     k: usize,
-    begun: bool,
     pair: u32,
     point: &[i64; 3],
 ) -> Arc
     requires ready { AreReady files.now }
-    requires inside { k < length files.now.kept.now }
-    requires same { (a : Arc) → slice_get files.now.kept.now k ≡ Some a → without_shifts arc.now ≡ without_shifts a }
+    requires same { AreSameArcs files.now.kept.now arcs.now }
+    requires as_many { length arcs.now ≡ length files.now.kept.now }
+    requires flags { length begun.now ≡ length arcs.now }
+    requires inside { k < length arcs.now }
+    requires small { AreShiftsBelow (2 ^ 40) arcs.now }
+    requires used { All (HasUsedShifts (fine_signals files.now.signals)) arcs.now }
     requires pair { pair < length files.now.screened.now.used }
     requires point { IsReceiverPoint point.now }
-    requires small { All (IsBelow (2 ^ 40)) arc.now.shift }
-    requires used { HasUsedShifts (fine_signals files.now.signals) arc.now }
-    ensures tried { IsTriedArc (setting_of files.now) (IsTrue begun) pair point.now arc.now result }
+    ensures tried { (a : Arc) → slice_get arcs.now k ≡ Some a → IsTriedArc (setting_of files.now) (flagged begun.now k) pair point.now a result }
     ensures small { All (IsBelow (2 ^ 40)) result.shift }
     ensures used { HasUsedShifts (fine_signals files.now.signals) result }
 {
-    if begun {
-        return *arc;
+    let arc = arcs[k];
+    if begun[k] {
+        return arc;
     }
     let taken = shift_with(
         files.screened,
@@ -56,7 +59,7 @@ fn tried_arc(
             datum: arc.datum,
             shift,
         },
-        None => *arc,
+        None => arc,
     }
 }
 
@@ -83,7 +86,7 @@ pub fn tried_arcs(
 {
     let mut tried = Vec::new(alloc);
     for k in 0..arcs.len() {
-        tried.push(tried_arc(files, &arcs[k], k, begun[k], pair, point))?;
+        tried.push(tried_arc(files, arcs, begun, k, pair, point))?;
     }
     Ok(tried)
 }
