@@ -16,8 +16,9 @@ is_there (Some rows) h = refl
 same_round : (scale other : ℕ) (point moved : List ℤ) (arcs after : List Arc) → scale ≡ other → point ≡ moved → arcs ≡ after → round_at scale point arcs ≡ round_at other moved after
 same_round scale other point moved arcs after e f g = cc
 
-pub made_session : (t : TrackSetting) (pair scale : ℕ) (point : List ℤ) (arcs : List Arc) (rows : PairRows) (s : Session) → s.scale ≡ scale → s.system ≡ t.system → s.base ≡ t.position → s.point ≡ point →
-    s.signals ≡ t.signals → s.arcs ≡ arcs → s.pairs ≡ rows ∷ [] → AreSameArcs t.kept arcs → ArePairRows (rows_setting t arcs point scale) pair rows →
+pub made_session : (t : TrackSetting) (pair scale : ℕ) (point : List ℤ) (arcs : List Arc) (rows : PairRows) (s : Session) →
+    s.scale ≡ scale → s.system ≡ t.system → s.base ≡ t.position → s.point ≡ point → s.signals ≡ t.signals →
+    s.arcs ≡ arcs → s.pairs ≡ rows ∷ [] → AreSameArcs t.kept arcs → ArePairRows (rows_setting t arcs point scale) pair rows →
     IsSessionOf (rules_of_pair t pair) (round_at scale point arcs) s
 made_session t pair scale point arcs rows s scale_is system_is base_is point_is signals_are arcs_are pairs_are same rows_are =
     let round_is : round_of s ≡ round_at scale point arcs = same_round s.scale scale s.point point s.arcs arcs scale_is point_is arcs_are in

@@ -1,5 +1,5 @@
 -- The arcs with which a pair is tried, one by one.
-use Rattle.std.proofs.Common.{◌≡◌, ℕ, zero, suc, ◌+◌, ◌<◌, ◌≤◌, ◌^◌, ◌⊎◌, ⊎_elim, Bool, true, false, List, [], ◌∷◌, ◌++◌, length, get_or, All, Some, ℤ, unsigned_abs, arith, sym, ap, ap₂, ◌∙◌, refl, subst}
+use Rattle.std.proofs.Common.{◌≡◌, ℕ, zero, suc, ◌+◌, ◌<◌, ◌^◌, ◌⊎◌, ⊎_elim, true, false, List, [], ◌∷◌, ◌++◌, length, get_or, All, Some, ℤ, unsigned_abs, arith, sym, ap, ap₂, ◌∙◌, refl, subst}
 use Rattle.std.specs.Prelude.{slice_get}
 use Rattle.std.proofs.lemmas.Bool.{false≢true}
 use Rattle.std.proofs.lemmas.Option.{slice_get_within, get_or_from_slice_get}
@@ -26,7 +26,8 @@ other_arc t begun pair point arcs k a b same is e none =
     let off : holds_pair b pair ≡ false = ap (λ (x : Arc). holds_pair x pair) e ∙ sym (same_holds l.arc a pair l.same) ∙ none l.arc l.arc_is in
     record { same = ap without_shifts e; stayed = λ _. e; other = λ _. e; taken = λ holds _. absurd (false≢true (sym off ∙ holds)) }
 
-pub taken_arc : (t : TrackSetting) (begun : Type 0) (pair : ℕ) (point : List ℤ) (arcs : List Arc) (k : ℕ) (a : Arc) (shift : List ℤ) → AreSameArcs t.kept arcs → slice_get arcs k ≡ Some a → (begun → ⊥) →
+pub taken_arc : (t : TrackSetting) (begun : Type 0) (pair : ℕ) (point : List ℤ) (arcs : List Arc) (k : ℕ) (a : Arc) (shift : List ℤ) →
+    AreSameArcs t.kept arcs → slice_get arcs k ≡ Some a → (begun → ⊥) →
     ((c : Arc) → slice_get t.kept k ≡ Some c → holds_pair c pair ≡ false → ⊥) → ((c : Arc) → slice_get t.kept k ≡ Some c → AreFirstShifts (rows_setting t t.kept point 0) pair c.sat shift) →
     IsTriedArc t begun pair point a (record a { shift = shift })
 taken_arc t begun pair point arcs k a shift same is fresh some near =
@@ -65,8 +66,9 @@ length_push (x ∷ xs) y = let e : length (xs ++ y ∷ []) ≡ length xs + 1 = l
 some_inj : (a b : Arc) → Some a ≡ Some b → a ≡ b
 some_inj a b e = cc
 
-pub more_tried : (t : TrackSetting) (arcs : List Arc) (begun : ℕ → Type 0) (pair : ℕ) (point : List ℤ) (n : ℕ) (tried after : List Arc) (x : Arc) → AreTriedTo t arcs begun pair point n tried →
-    ((a : Arc) → slice_get arcs n ≡ Some a → IsTriedArc t (begun n) pair point a x) → after ≡ tried ++ x ∷ [] → AreTriedTo t arcs begun pair point (n + 1) after
+pub more_tried : (t : TrackSetting) (arcs : List Arc) (begun : ℕ → Type 0) (pair : ℕ) (point : List ℤ) (n : ℕ) (tried after : List Arc) (x : Arc) →
+    AreTriedTo t arcs begun pair point n tried → ((a : Arc) → slice_get arcs n ≡ Some a → IsTriedArc t (begun n) pair point a x) → after ≡ tried ++ x ∷ [] →
+    AreTriedTo t arcs begun pair point (n + 1) after
 more_tried t arcs begun pair point n tried after x h one e = record {
   as_many = ap length e ∙ length_push tried x ∙ ap (λ m. m + 1) h.as_many;
   each = λ k a b g i.
@@ -92,12 +94,12 @@ same_lists [] (y ∷ ys) e h = absurd (omega arith)
 same_lists (x ∷ xs) [] e h = absurd (omega arith)
 same_lists (x ∷ xs) (y ∷ ys) e h = ap₂ (λ a l. a ∷ l) (h 0 x y refl refl) (same_lists xs ys (omega arith) (λ k a b g i. h (suc k) a b g i))
 
-pub same_tried : (t : TrackSetting) (arcs : List Arc) (begun : ℕ → Type 0) (pair : ℕ) (point : List ℤ) (n : ℕ) (tried : List Arc) → AreSameArcs t.kept arcs → n ≡ length arcs → AreTriedTo t arcs begun pair point n tried →
-    AreSameArcs t.kept tried
+pub same_tried : (t : TrackSetting) (arcs : List Arc) (begun : ℕ → Type 0) (pair : ℕ) (point : List ℤ) (n : ℕ) (tried : List Arc) →
+    AreSameArcs t.kept arcs → n ≡ length arcs → AreTriedTo t arcs begun pair point n tried → AreSameArcs t.kept tried
 same_tried t arcs begun pair point n tried same e h = same_lists arcs tried (h.as_many ∙ e) (λ k a b g i. (h.each k a b g i).same) ∙ same
 
-pub all_tried : (t : TrackSetting) (arcs : List Arc) (begun : ℕ → Type 0) (pair : ℕ) (point : List ℤ) (n : ℕ) (tried : List Arc) → AreSameArcs t.kept arcs → n ≡ length arcs → AreTriedTo t arcs begun pair point n tried →
-    AreTried t arcs begun pair point tried
+pub all_tried : (t : TrackSetting) (arcs : List Arc) (begun : ℕ → Type 0) (pair : ℕ) (point : List ℤ) (n : ℕ) (tried : List Arc) →
+    AreSameArcs t.kept arcs → n ≡ length arcs → AreTriedTo t arcs begun pair point n tried → AreTried t arcs begun pair point tried
 all_tried t arcs begun pair point n tried same e h =
     let along : AreSameArcs arcs tried = same_lists arcs tried (h.as_many ∙ e) (λ k a b g i. (h.each k a b g i).same) in
     record {
@@ -108,5 +110,6 @@ all_tried t arcs begun pair point n tried same e h =
           (h.each k l.arc b l.arc_is i).taken holds fresh;
     }
 
-pub keeps_others : (t : TrackSetting) (arcs : List Arc) (begun : ℕ → Type 0) (pair : ℕ) (point : List ℤ) (n : ℕ) (tried : List Arc) → AreTriedTo t arcs begun pair point n tried → KeepsOthers arcs pair tried
+pub keeps_others : (t : TrackSetting) (arcs : List Arc) (begun : ℕ → Type 0) (pair : ℕ) (point : List ℤ) (n : ℕ) (tried : List Arc) →
+    AreTriedTo t arcs begun pair point n tried → KeepsOthers arcs pair tried
 keeps_others t arcs begun pair point n tried h k a b g i off = (h.each k a b g i).other off
