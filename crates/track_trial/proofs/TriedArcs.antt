@@ -1,8 +1,8 @@
 -- The arcs with which a pair is tried, one by one.
-use Rattle.std.proofs.Common.{◌≡◌, ℕ, zero, suc, ◌+◌, ◌<◌, ◌^◌, ◌⊎◌, ⊎_elim, true, false, List, [], ◌∷◌, ◌++◌, length, get_or, All, Some, ℤ, unsigned_abs, arith, sym, ap, ap₂, ◌∙◌, refl, subst}
+use Rattle.std.proofs.Common.{◌≡◌, ℕ, zero, suc, ◌+◌, ◌<◌, ◌^◌, ◌⊎◌, ⊎_elim, false, List, [], ◌∷◌, ◌++◌, length, get_or, All, Some, ℤ, unsigned_abs, arith, sym, ap, ap₂, ◌∙◌, refl, subst}
 use Rattle.std.specs.Prelude.{slice_get}
 use Rattle.std.proofs.lemmas.Bool.{false≢true}
-use Rattle.std.proofs.lemmas.Option.{slice_get_within, get_or_from_slice_get}
+use Rattle.std.proofs.lemmas.Option.{slice_get_within}
 use Rattle.obs_rows.specs.declared.arcs.Arc.{Arc}
 use Rattle.obs_rows.specs.Ranges.{IsBelow}
 use Rattle.row_build.specs.HeldArcs.{holds_pair}

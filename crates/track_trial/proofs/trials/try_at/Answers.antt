@@ -1,4 +1,4 @@
-use Rattle.std.proofs.Common.{◌≡◌, List, Err, ap, subst}
+use Rattle.std.proofs.Common.{List, Err, ap, subst}
 use Rattle.obs_rows.specs.declared.arcs.Arc.{Arc}
 use Rattle.obs_rows.specs.Signals.{fine_signals}
 use Rattle.row_build.specs.PairRows.{ArePairRows}
