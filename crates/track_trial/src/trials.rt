@@ -15,14 +15,11 @@ use crate::shifts::tried_arcs;
 use cert_data::Tail;
 use lower_form::LowerFault;
 use obs_rows::{Arc, PairRows};
-use round_steps::{CoarseEnd, coarse_rounds};
+use round_steps::{CoarseEnd, LEAST_SATELLITES, coarse_rounds, held};
 use row_build::RowFault;
 use std::alloc::{AllocError, Global};
 use track_data::LostCause;
 use track_sum::pair_front;
-
-/// A baseline and the clock are four numbers.
-const LEAST_ROWS: usize = 4;
 
 /// What became of a pair that was tried.
 #[derive(Debug, Drop)]
@@ -37,15 +34,6 @@ pub enum Trial {
         /// All arcs, with the shifts of those of the pair as they are from now on.
         arcs: Vec<Arc>,
     },
-}
-
-/// How many of the arcs hold the pair.
-fn held(arcs: &[Arc], pair: u32) -> usize
-    ensures { result ≡ held arcs.now pair }
-{
-    arcs.iter()
-        .filter(|a| a.first <= pair && pair <= a.last)
-        .count()
 }
 
 /// By which cause a pair is lost whose coarse rounds end so.
@@ -118,7 +106,7 @@ pub fn try_pair(
     ensures trial { IfOk result (IsTrialOf (setting_of files.now) arcs.now (flagged begun.now) pair) }
     ensures fits { IfOk result (Fits files.now.signals) }
 {
-    if held(files.kept, pair) < LEAST_ROWS {
+    if held(files.kept, pair) < LEAST_SATELLITES {
         return Ok(Trial::Lost(LostCause::Rows));
     }
     let rounds = PairRounds { files, pair };
