@@ -1,0 +1,4 @@
+mod KeptArcs
+mod PairSessions
+mod TriedArcs
+mod Outcomes

@@ -1,0 +1,17 @@
+use Rattle.row_build.proofs.SessionLaws.{some_at}
+use Rattle.row_build.specs.PairRows.{ArePairRows}
+use Rattle.session.proofs.CutLaws.{cut_along}
+use Rattle.track_trial.specs.PairRules.{rows_setting, setting_of}
+use Rattle.track_trial.proofs.KeptArcs.{some_held}
+use Rattle.track_trial.proofs.PairSessions.{is_there}
+use Rattle.track_trial.proofs.rows.rows_of.Goals as goal
+
+pub pair_rows_with-found-requires-clause-cut : goal.pair_rows_with-found-requires-clause-cut
+pair_rows_with-found-requires-clause-cut c = cut_along c.args.files.now.screened.now.used c.args.files.now.kept.now c.args.arcs.now c.requires.same c.requires.ready.cut
+
+pub unwrap-requires : goal.unwrap-requires
+unwrap-requires c = is_there c.in-Ok.rows (λ none. some_held c.args.files.now.kept.now c.args.arcs.now c.args.pair c.requires.same c.requires.enough (c.in-Ok.ensures.none.0 none))
+
+pub returns-in-Ok-clause-rows : goal.returns-in-Ok-clause-rows
+returns-in-Ok-clause-rows c =
+    some_at c.in-Ok.rows (ArePairRows (rows_setting (setting_of c.args.files.now) c.args.arcs.now c.args.point.now c.args.scale) c.args.pair) c.in-Ok.ensures.rows c.unwrap.result c.unwrap.ensures
