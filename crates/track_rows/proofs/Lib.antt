@@ -1,0 +1,5 @@
+pub mod Lists
+pub mod SameArcs
+pub mod Growth
+pub mod Marks
+pub mod StandsLaws
