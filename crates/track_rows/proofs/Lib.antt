@@ -2,4 +2,5 @@ pub mod Lists
 pub mod SameArcs
 pub mod Growth
 pub mod Marks
+pub mod Steps
 pub mod StandsLaws

@@ -1,10 +1,10 @@
 //! The walk over the pairs, one after another.
-ghost use Rattle.std.specs.Prelude.{◌≡◌, ◌+◌, ◌<◌, ◌||◌, length, replicate, All, IfOk, OnOk};
+ghost use Rattle.std.specs.Prelude.{◌≡◌, ◌+◌, ◌<◌, ◌||◌, length, IfOk, OnOk};
 ghost use Rattle.obs_rows.specs.Arcs.{AreArcs};
 ghost use Rattle.row_build.specs.HeldArcs.{holds_pair};
-ghost use Rattle.track_trial.specs.Trials.{TrackSetting, IsTrialOf, flagged};
-ghost use Rattle.track_rows.specs.Tracks.{no_shifts};
-ghost use Rattle.track_rows.specs.Walks.{AreMarked, IsWalked};
+ghost use Rattle.track_trial.specs.PairRules.{TrackSetting, setting_of, AreUnshifted, AreReady};
+ghost use Rattle.track_trial.specs.Trials.{IsTrialOf, Fits, flagged};
+ghost use Rattle.track_rows.specs.Walks.{AreMarked, IsWalk};
 
 use obs_rows::{Arc, PairRows};
 use std::alloc::{AllocError, Global};
@@ -52,8 +52,8 @@ impl Walk {
     /// Before the first pair, over arcs without shifts.
     fn begin(alloc: Global, kept: &[Arc]) -> Result<Walk, AllocError>
         requires arcs { AreArcs kept.now }
-        requires shifts { All (λ a. a.shift ≡ no_shifts) kept.now }
-        ensures { IfOk result (λ w. (t : TrackSetting) → t.kept ≡ kept.now → IsWalked t 0 w) }
+        requires unshifted { AreUnshifted kept.now }
+        ensures { IfOk result (λ w. (t : TrackSetting) → t.kept ≡ kept.now → IsWalk t 0 w) }
     {
         Ok(Walk {
             arcs: Vec::from_slice(alloc, kept)?,
@@ -67,9 +67,11 @@ impl Walk {
     /// One more pair, which is lost.
     fn lose(&mut self, pair: u32, cause: LostCause) -> Result<(), AllocError>
         requires { pair < 3600 }
-        ensures { OnOk result ((t : TrackSetting) → IsWalked t pair self.old → IsTrialOf t self.old.arcs.items (flagged self.old.begun.items) pair (Trial.Lost cause) → IsWalked t (pair + 1) self.new) }
+        ensures { OnOk result ((t : TrackSetting) → IsWalk t pair self.old →
+            IsTrialOf t self.old.arcs.items (flagged self.old.begun.items) pair (Trial.Lost cause) → IsWalk t (pair + 1) self.new) }
     {
-        self.lost.push(Lost { pair, cause })
+        self.lost.push(Lost { pair, cause })?;
+        Ok(())
     }
 
     /// One more pair, which is tracked, with the arcs behind it.
@@ -82,10 +84,12 @@ impl Walk {
         arcs: Vec<Arc>,
     ) -> Result<(), AllocError>
         requires { length self.old.begun.items ≡ length arcs.items }
-        ensures { OnOk result ((t : TrackSetting) → IsWalked t pair self.old → IsTrialOf t self.old.arcs.items (flagged self.old.begun.items) pair (Trial.Tracked point rows arcs) → IsWalked t (pair + 1) self.new) }
+        ensures { OnOk result ((t : TrackSetting) → IsWalk t pair self.old →
+            IsTrialOf t self.old.arcs.items (flagged self.old.begun.items) pair (Trial.Tracked point rows arcs) → Fits t.signals (Trial.Tracked point rows arcs) → IsWalk t (pair + 1) self.new) }
     {
-        self.begun = marked(alloc, self.begun.as_slice(), arcs.as_slice(), pair)?;
+        let begun = marked(alloc, self.begun.as_slice(), arcs.as_slice(), pair)?;
         self.arcs = arcs;
+        self.begun = begun;
         self.points.push(point)?;
         self.pairs.push(rows)?;
         Ok(())
@@ -93,15 +97,13 @@ impl Walk {
 
     /// One more pair, which is tried.
     fn step(&mut self, alloc: Global, files: &TrackFiles<'_>, pair: u32) -> Result<(), AllocError>
-        ensures { OnOk result (IsWalked (setting_of files.now) (pair + 1) self.new) }
+        requires ready { AreReady files.now }
+        requires pair { pair < length files.now.screened.now.used }
+        requires walked { IsWalk (setting_of files.now) pair self.old }
+        ensures { OnOk result (IsWalk (setting_of files.now) (pair + 1) self.new) }
     {
-        match try_pair(
-            alloc,
-            files,
-            self.arcs.as_slice(),
-            self.begun.as_slice(),
-            pair,
-        )? {
+        let arcs = self.arcs.as_slice();
+        match try_pair(alloc, files, arcs, self.begun.as_slice(), pair)? {
             Trial::Lost(cause) => self.lose(pair, cause),
             Trial::Tracked { point, rows, arcs } => self.track(alloc, pair, point, rows, arcs),
         }
@@ -110,7 +112,8 @@ impl Walk {
 
 /// The track of all pairs.
 pub(crate) fn walk(alloc: Global, files: &TrackFiles<'_>) -> Result<Walk, AllocError>
-    ensures { IfOk result (IsWalked (setting_of files.now) (length files.now.screened.now.used)) }
+    requires { AreReady files.now }
+    ensures { IfOk result (IsWalk (setting_of files.now) (length files.now.screened.now.used)) }
 {
     let mut walk = Walk::begin(alloc, files.kept)?;
     for pair in 0..files.screened.used.len() {
