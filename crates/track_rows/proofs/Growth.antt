@@ -1,5 +1,5 @@
 -- How a track grows by one pair, tracked or lost: so a walk over the pairs makes one.
-use Rattle.std.proofs.Common.{◌≡◌, ◌≢◌, ◌⊎◌, inl, inr, ⊎_elim, ℕ, suc, ◌<◌, true, false, Bool, Some, List, [], ◌∷◌, ◌++◌, length, map, get_or, All, AllPairs, Any, ℤ, arith, sym, ◌∙◌, refl, subst, ap}
+use Rattle.std.proofs.Common.{◌≡◌, ◌≢◌, ◌⊎◌, inl, inr, ⊎_elim, ℕ, suc, ◌+◌, ◌<◌, true, false, Bool, Some, List, [], ◌∷◌, ◌++◌, length, map, get_or, All, AllPairs, Any, ℤ, arith, sym, ◌∙◌, refl, subst, ap}
 use Rattle.std.specs.Prelude.{slice_get}
 use Rattle.std.proofs.lemmas.Bool.{cases_eq, cases_Bool, false≢true}
 use Rattle.std.proofs.lemmas.List.{get_or_default}
@@ -61,7 +61,7 @@ tried_along t arcs next begun begun' pair point tried same after up down stays h
   taken = λ k c is_c holds not_begun. h.taken k c is_c holds (λ (b : begun k). not_begun (up k b));
 }
 
-tried_by : (t : TrackSetting) (arcs next : List Arc) (begun begun' : ℕ → Type 0) (pair : ℕ) (point : List ℤ) (tried : List Arc) →
+pub tried_by : (t : TrackSetting) (arcs next : List Arc) (begun begun' : ℕ → Type 0) (pair : ℕ) (point : List ℤ) (tried : List Arc) →
     ((point : List ℤ) (tried : List Arc) → AreTried t arcs begun pair point tried → AreTried t next begun' pair point tried) → IsTried t arcs begun pair point tried → IsTried t next begun' pair point tried
 tried_by t arcs next begun begun' pair point tried along h = record { enough = h.enough; settles = h.settles; are_tried = along point tried h.are_tried }
 

@@ -3,4 +3,5 @@ pub mod SameArcs
 pub mod Growth
 pub mod Marks
 pub mod Steps
+pub mod Ends
 pub mod StandsLaws

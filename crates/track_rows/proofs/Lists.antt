@@ -25,7 +25,7 @@ pub push_get : {X : Type 0} (xs : List X) (y z : X) (i : ℕ) → slice_get (xs 
 push_get [] y z zero e = inr (refl, same_Some y z e)
 push_get [] y z (suc i) e = absurd (none-some z e)
 push_get (x ∷ xs) y z zero e = inl e
-push_get {X} (x ∷ xs) y z (suc i) e = ⊎_elim (λ (h : slice_get xs i ≡ Some z). inl h) (λ (h : (i ≡ length xs) × (y ≡ z)). inr (next h.0, h.1)) (push_get xs y z i e)
+push_get (x ∷ xs) y z (suc i) e = ⊎_elim (λ (h : slice_get xs i ≡ Some z). inl h) (λ (h : (i ≡ length xs) × (y ≡ z)). inr (next h.0, h.1)) (push_get xs y z i e)
   where
     next : i ≡ length xs → suc i ≡ length (x ∷ xs)
     next h = omega (arith, h)

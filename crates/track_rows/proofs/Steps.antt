@@ -1,6 +1,7 @@
 -- A step of the walk: from what became of a pair to a track of one pair more.
-use Rattle.std.proofs.Common.{◌≡◌, ℕ, suc, ◌+◌, ◌<◌, ◌≤◌, true, Bool, Some, List, [], ◌∷◌, ◌++◌, length, get_or, replicate, All, ℤ, false, arith, sym, ◌∙◌, refl, subst}
+use Rattle.std.proofs.Common.{◌≡◌, ℕ, suc, ◌+◌, ◌<◌, ◌≤◌, true, Bool, Some, List, [], ◌∷◌, ◌++◌, length, get_or, replicate, All, ℤ, false, arith, sym, ap, ◌∙◌, refl, subst}
 use Rattle.std.specs.Prelude.{slice_get}
+use Rattle.std.proofs.lemmas.List.{length-replicate}
 use Rattle.std.proofs.lemmas.Option.{same_Some}
 use Rattle.std.proofs.lemmas.List.Elements.{All-nil, All-push}
 use Rattle.obs_rows.specs.declared.arcs.Arc.{Arc}
@@ -36,6 +37,16 @@ first_walk t begun arcs unshifted flags long = record {
   };
   few = omega arith;
 }
+
+pub begun_walk : (t : TrackSetting) (kept arcs : List Arc) (begun : List Bool) (points : List (List ℤ)) (tracked : List PairRows) (lost : List Lost) → t.kept ≡ kept → AreArcs kept → AreUnshifted kept →
+    arcs ≡ kept → begun ≡ replicate (length kept) false → points ≡ [] → tracked ≡ [] → lost ≡ [] → IsWalked t 0 arcs begun points tracked lost
+begun_walk t kept arcs begun points tracked lost e are unshifted arcs_are flags no_points no_pair none_lost =
+    let f : begun ≡ replicate (length t.kept) false = flags ∙ ap (λ (xs : List Arc). replicate (length xs) false) (sym e) in
+    subst (λ (xs : List Arc). IsWalked t 0 xs begun points tracked lost) (e ∙ sym arcs_are)
+    (subst (λ (xs : List (List ℤ)). IsWalked t 0 t.kept begun xs tracked lost) (sym no_points)
+    (subst (λ (xs : List PairRows). IsWalked t 0 t.kept begun [] xs lost) (sym no_pair)
+    (subst (λ (xs : List Lost). IsWalked t 0 t.kept begun [] [] xs) (sym none_lost)
+    (first_walk t begun (subst AreArcs (sym e) are) (subst AreUnshifted (sym e) unshifted) f (ap length f ∙ length-replicate (length t.kept) false)))))
 
 -- ---- a trial by the flags is one by the pairs that are tracked
 along : (t : TrackSetting) (count : ℕ) (arcs : List Arc) (begun : List Bool) (points : List (List ℤ)) (tracked : List PairRows) (lost : List Lost) → IsWalked t count arcs begun points tracked lost →

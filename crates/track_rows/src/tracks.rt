@@ -7,7 +7,7 @@ ghost use Rattle.slip_arcs.specs.Linked.{IsCutOf};
 ghost use Rattle.round_steps.specs.Shifts.{AreSameArcs};
 ghost use Rattle.track_rows.specs.Tracks.{unshifted, IsTrackOf};
 
-use crate::walks::walk;
+use crate::walks::walked;
 use obs_rows::{Arc, ArcList, PHASES, PairList, Signals};
 use row_build::{Screened, base_halves};
 use std::alloc::{AllocError, Global};
@@ -68,17 +68,17 @@ pub fn track_at(
         system,
         halves: halves.as_slice(),
     };
-    let walked = walk(alloc, &files)?;
+    let walk = walked(alloc, &files)?;
     let track = Track {
         system,
         base: *base,
         signals,
-        arcs: ArcList::new(walked.arcs),
-        points: Items::new(walked.points),
-        pairs: PairList::new(walked.pairs),
+        arcs: ArcList::new(walk.arcs),
+        points: Items::new(walk.points),
+        pairs: PairList::new(walk.pairs),
     };
     Ok(Tracked {
         track,
-        lost: Items::new(walked.lost),
+        lost: Items::new(walk.lost),
     })
 }

@@ -111,7 +111,7 @@ impl Walk {
 }
 
 /// The track of all pairs.
-pub(crate) fn walk(alloc: Global, files: &TrackFiles<'_>) -> Result<Walk, AllocError>
+pub(crate) fn walked(alloc: Global, files: &TrackFiles<'_>) -> Result<Walk, AllocError>
     requires { AreReady files.now }
     ensures { IfOk result (IsWalk (setting_of files.now) (length files.now.screened.now.used)) }
 {
