@@ -1,0 +1,2 @@
+pub mod PairRules
+pub mod Trials

@@ -1,0 +1,89 @@
+// The shifts with which a pair is tried.
+ghost use Rattle.std.specs.Prelude.{◌≡◌, ◌<◌, ◌^◌, Some, All, length, slice_get, IfOk, IsTrue};
+ghost use Rattle.obs_rows.specs.declared.arcs.Arc.{Arc};
+ghost use Rattle.obs_rows.specs.Arcs.{AreArcs};
+ghost use Rattle.obs_rows.specs.Ranges.{IsBelow};
+ghost use Rattle.obs_rows.specs.ReceiverPoints.{IsReceiverPoint};
+ghost use Rattle.obs_rows.specs.Signals.{fine_signals};
+ghost use Rattle.obs_rows.specs.Unused.{HasUsedShifts};
+ghost use Rattle.round_steps.specs.Shifts.{AreSameArcs, without_shifts};
+ghost use Rattle.track_trial.specs.PairRules.{setting_of, AreReady};
+ghost use Rattle.track_trial.specs.Trials.{IsTriedArc, AreTried, KeepsOthers, flagged};
+
+use crate::TrackFiles;
+use obs_rows::Arc;
+use row_build::shift_with;
+use std::alloc::{AllocError, Global};
+
+/// The arc of number k with which the pair is tried.
+fn tried_arc(
+    files: &TrackFiles<'_>,
+    arc: &Arc,
+    k: usize,
+    begun: bool,
+    pair: u32,
+    point: &[i64; 3],
+) -> Arc
+    requires ready { AreReady files.now }
+    requires inside { k < length files.now.kept.now }
+    requires same { (a : Arc) → slice_get files.now.kept.now k ≡ Some a → without_shifts arc.now ≡ without_shifts a }
+    requires pair { pair < length files.now.screened.now.used }
+    requires point { IsReceiverPoint point.now }
+    requires small { All (IsBelow (2 ^ 40)) arc.now.shift }
+    requires used { HasUsedShifts (fine_signals files.now.signals) arc.now }
+    ensures tried { IsTriedArc (setting_of files.now) (IsTrue begun) pair point.now arc.now result }
+    ensures small { All (IsBelow (2 ^ 40)) result.shift }
+    ensures used { HasUsedShifts (fine_signals files.now.signals) result }
+{
+    if begun {
+        return *arc;
+    }
+    let taken = shift_with(
+        files.screened,
+        files.halves,
+        files.kept,
+        k as u16,
+        pair,
+        &files.position,
+        point,
+        files.signals,
+    );
+    match taken {
+        Some(shift) => Arc {
+            sat: arc.sat,
+            first: arc.first,
+            last: arc.last,
+            datum: arc.datum,
+            shift,
+        },
+        None => *arc,
+    }
+}
+
+/// The arcs with which the pair is tried. Those that have begun are flagged.
+pub fn tried_arcs(
+    alloc: Global,
+    files: &TrackFiles<'_>,
+    arcs: &[Arc],
+    begun: &[bool],
+    pair: u32,
+    point: &[i64; 3],
+) -> Result<Vec<Arc>, AllocError>
+    requires ready { AreReady files.now }
+    requires arcs { AreArcs arcs.now }
+    requires same { AreSameArcs files.now.kept.now arcs.now }
+    requires used { All (HasUsedShifts (fine_signals files.now.signals)) arcs.now }
+    requires flags { length begun.now ≡ length arcs.now }
+    requires pair { pair < length files.now.screened.now.used }
+    requires point { IsReceiverPoint point.now }
+    ensures tried { IfOk result (λ v. AreTried (setting_of files.now) arcs.now (flagged begun.now) pair point.now v.items) }
+    ensures others { IfOk result (λ v. KeepsOthers arcs.now pair v.items) }
+    ensures arcs { IfOk result (λ v. AreArcs v.items) }
+    ensures used { IfOk result (λ v. All (HasUsedShifts (fine_signals files.now.signals)) v.items) }
+{
+    let mut tried = Vec::new(alloc);
+    for k in 0..arcs.len() {
+        tried.push(tried_arc(files, &arcs[k], k, begun[k], pair, point))?;
+    }
+    Ok(tried)
+}
