@@ -1,0 +1,5 @@
+pub mod Lists
+pub mod Ranges
+pub mod OneDecision
+pub mod OneVerdict
+pub mod Found
