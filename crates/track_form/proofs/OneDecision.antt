@@ -38,7 +38,7 @@ two_places place (weak j a) e = absurd cc
 two_places place wide_factor e = inl cc
 two_places place wide_entry e = inr cc
 
-some_pair : (pairs : List PairRows) (k : ℕ) → k < length pairs → PairRows
+pub some_pair : (pairs : List PairRows) (k : ℕ) → k < length pairs → PairRows
 some_pair [] k l = absurd (omega (arith, l))
 some_pair (p ∷ ps) k l = p
 
