@@ -1,3 +1,4 @@
+pub mod OneForm
 pub mod Lists
 pub mod Ranges
 pub mod OneDecision

@@ -1,5 +1,5 @@
 -- The ranges of the numbers of a track's decision.
-use Rattle.std.proofs.Common.{◌≡◌, ℕ, suc, ◌+◌, ◌-◌, ◌*◌, ◌^◌, ◌<◌, ◌≤◌, ◌⊎◌, ⊎_elim, true, false, Bool, cond, lit≤, List, length, map, All, ℤ, pos, neg_ℤ, ◌≤ℤ◌, ◌<ℤ◌, arith, sym, ◌∙◌, subst}
+use Rattle.std.proofs.Common.{◌≡◌, ℕ, suc, ◌+◌, ◌-◌, ◌*◌, ◌^◌, ◌<◌, ◌≤◌, ◌⊎◌, ⊎_elim, true, false, Bool, cond, lit≤, List, length, map, get_or, All, ℤ, pos, neg_ℤ, ◌≤ℤ◌, ◌<ℤ◌, arith, sym, ◌∙◌, subst}
 use Rattle.std.specs.Prelude.{◌==◌}
 use Rattle.std.specs.List.{AllZip}
 use Rattle.std.proofs.lemmas.Int.{ints}
@@ -100,7 +100,7 @@ pub move_each : (arcs : List Arc) (ss : List ℕ) (pairs : List PairRows) (fs : 
 move_each arcs ss pairs fs z moves are is = (λ t. length (is t)) ∙ length-map fs (move_at z) ∙ AllZip-long (IsFrontOfPair arcs ss) pairs fs are
 
 pub moves_small : (moves : List (List ℤ)) → All (λ m. HasWide m → ⊥) moves → All IsMove moves
-moves_small moves narrow = λ k d inside. all_narrow _ (narrow k d inside)
+moves_small moves narrow = λ k d inside. all_narrow (get_or moves k d) (narrow k d inside)
 
 -- ---- a tail with vectors fits
 pub track_vectors_fit : (arcs : List Arc) (signals : Signals) (pairs : List PairRows) (moves : List (List ℤ)) (best : TwoBest) (top : ℤ) (fs : List FrontForm) (f : Form) →

@@ -13,6 +13,7 @@
 #![tactic(auto)]
 
 mod decided;
+mod stand_in;
 mod tails;
 mod uppers;
 mod verdict;

@@ -1,0 +1,4 @@
+use Rattle.track_form.proofs.stand_in.moves_at.Goals as goal
+
+pub returns-clause-wide : goal.returns-clause-wide
+returns-clause-wide c = ?
