@@ -1,4 +1,3 @@
-pub mod OneForm
 pub mod Lists
 pub mod Ranges
 pub mod OneDecision

@@ -27,7 +27,7 @@ use Rattle.track_data.specs.declared.tails.TrackTail.TheVariants.{Fixed, Unsepar
 use Rattle.track_sum.specs.Fronts.{track_top}
 use Rattle.track_sum.specs.PairFronts.{IsRefusedPair, IsFirstRefused, move_at}
 use Rattle.track_sum.specs.Decided.{IsTrackForm, IsFinishRefused, AreFound, IsMoveWide, IsSumWide, pair_uppers}
-use Rattle.track_form.proofs.OneForm.{SameForm, one_form, same_moves, no_fronts, no_form, one_first, one_finish}
+use Rattle.track_sum.proofs.OneForm.{SameForm, one_form, same_moves, no_fronts, no_form, one_first, one_finish}
 use Rattle.track_form.specs.Decided.{IsFormRefused, track_tail_of, IsTrackWideAt, IsTrackDecision, AreSameNumbers, IsSameTail, HasGivenUp, IsSameDecision}
 use Rattle.track_form.proofs.Lists.{not_mapped, any_mapped, not_all_and_any}
 

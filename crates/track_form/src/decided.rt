@@ -13,13 +13,13 @@ ghost use Rattle.track_sum.specs.PairFronts.{move_at};
 ghost use Rattle.track_sum.specs.Decided.{IsTrackForm};
 ghost use Rattle.track_form.specs.Decided.{IsTrackDecision, IsTrackBestWhereFixed, IsSameDecision, track_tail_of};
 
-use crate::stand_in::{form_of_track, moves_at};
 use crate::uppers::track_upper;
 use fix_decide::is_separated;
 use int_search::{SearchFault, TwoBest, two_best};
 use integer_form::{Form, LowerFault, Place, lower_sum_law};
 use std::alloc::{AllocError, Global};
 use track_data::{Items, Track, TrackTail};
+use track_sum::{form_of_track, moves_at};
 
 /// A refusal as a tail.
 fn track_tail_of(fault: LowerFault) -> TrackTail

@@ -13,7 +13,6 @@
 #![tactic(auto)]
 
 mod decided;
-mod stand_in;
 mod tails;
 mod uppers;
 mod verdict;
