@@ -1,5 +1,5 @@
 -- What the steps of a decision say together.
-use Rattle.std.proofs.Common.{◌≡◌, ℕ, ◌^◌, ◌<◌, ◌≤◌, true, false, Bool, IsTrue, List, length, map, get_or, All, Any, ℤ, pos, neg_ℤ, ◌≤ℤ◌, refl, sym, ap, ◌∙◌, subst}
+use Rattle.std.proofs.Common.{◌≡◌, ℕ, ◌^◌, ◌<◌, ◌≤◌, true, false, Bool, IsTrue, List, length, map, get_or, All, ℤ, pos, neg_ℤ, ◌≤ℤ◌, refl, sym, ap, ◌∙◌, subst}
 use Rattle.std.specs.List.{AllZip}
 use Rattle.std.proofs.lemmas.Bool.{false≢true}
 use Rattle.std.proofs.lemmas.List.{get_or-map}
@@ -22,11 +22,11 @@ use Rattle.int_search.specs.ReducedCounts.{KeepsBudget}
 use Rattle.fix_decide.specs.Widths.{IsWide}
 use Rattle.fix_decide.specs.Decisions.{IsSeparated, first_of}
 use Rattle.track_data.specs.declared.tails.TrackTail.{TrackTail}
-use Rattle.track_data.specs.declared.tails.TrackTail.TheVariants.{Fixed, Unseparated, Weak, Overwidth}
+use Rattle.track_data.specs.declared.tails.TrackTail.TheVariants.{Overwidth}
 use Rattle.track_data.specs.TrackTails.{AreTrackVectors, IsTrackTailOf, track_tail_of_vectors}
 use Rattle.track_sum.specs.Fronts.{track_top}
 use Rattle.track_sum.specs.PairFronts.{IsFrontOfPair, move_at}
-use Rattle.track_sum.specs.Decided.{IsTrackForm, AreFound, IsSumWide, IsStrictlyBest, pair_uppers}
+use Rattle.track_sum.specs.Decided.{IsTrackForm, AreFound, IsSumWide, pair_uppers}
 use Rattle.track_sum.proofs.StrictlyBest.{track_strictly_best}
 use Rattle.track_form.specs.Decided.{IsFormRefused, track_tail_of, IsTrackWideAt, IsTrackDecision, IsTrackBestWhereFixed}
 use Rattle.track_form.specs.Uppers.{IsSomeWide}

@@ -1,5 +1,5 @@
 -- The rows of a track have one decision, but where a search gave up.
-use Rattle.std.proofs.Common.{◌≡◌, ◌⊎◌, inl, inr, ℕ, ◌+◌, ◌-◌, ◌<◌, List, [], ◌∷◌, length, map, get_or, All, Any, ℤ, pos, refl, sym, ap, ◌∙◌, subst, arith}
+use Rattle.std.proofs.Common.{◌≡◌, ◌⊎◌, inl, inr, ℕ, ◌<◌, List, [], ◌∷◌, length, map, get_or, All, Any, ℤ, pos, refl, sym, ap, ◌∙◌, subst, arith}
 use Rattle.std.specs.List.{AllZip}
 use Rattle.std.proofs.lemmas.List.Elements.{All-map}
 use Rattle.quadratic_form.specs.Elimination.{Refusal, weak, wide_factor, wide_entry}
@@ -25,8 +25,8 @@ use Rattle.cert_check.proofs.SameForms as sessions
 use Rattle.track_data.specs.declared.tails.TrackTail.{TrackTail}
 use Rattle.track_data.specs.declared.tails.TrackTail.TheVariants.{Fixed, Unseparated, Weak, Overwidth, Spent}
 use Rattle.track_sum.specs.Fronts.{track_top}
-use Rattle.track_sum.specs.PairFronts.{IsRefusedPair, IsFirstRefused, move_at}
-use Rattle.track_sum.specs.Decided.{IsTrackForm, IsFinishRefused, AreFound, IsMoveWide, IsSumWide, pair_uppers}
+use Rattle.track_sum.specs.PairFronts.{IsRefusedPair, move_at}
+use Rattle.track_sum.specs.Decided.{IsTrackForm, AreFound, IsMoveWide, IsSumWide, pair_uppers}
 use Rattle.track_sum.proofs.OneForm.{SameForm, one_form, same_moves, no_fronts, no_form, one_first, one_finish}
 use Rattle.track_form.specs.Decided.{IsFormRefused, track_tail_of, IsTrackWideAt, IsTrackDecision, AreSameNumbers, IsSameTail, HasGivenUp, IsSameDecision}
 use Rattle.track_form.proofs.Lists.{not_mapped, any_mapped, not_all_and_any}

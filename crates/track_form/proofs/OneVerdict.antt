@@ -2,7 +2,7 @@
 use Rattle.std.proofs.Common.{◌≡◌, ◌⊎◌, inl, inr, ℕ, ℤ, List, refl, sym, ap₂, ap, ◌∙◌, subst}
 use Rattle.obs_rows.specs.declared.arcs.Arc.{Arc}
 use Rattle.obs_rows.specs.declared.pair_rows.PairRows.{PairRows}
-use Rattle.integer_form.specs.declared.faults.Place.TheVariants.{Y, Factor as FactorPlace, Entry, Float, Point, Search, Sum}
+use Rattle.integer_form.specs.declared.faults.Place.TheVariants.{Search}
 use Rattle.int_search.specs.declared.answer.TwoBest.{TwoBest}
 use Rattle.fix_decide.specs.Decisions.{first_of}
 use Rattle.cert_data.specs.declared.verdicts.Verdict.{Verdict}

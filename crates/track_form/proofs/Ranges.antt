@@ -1,7 +1,6 @@
 -- The ranges of the numbers of a track's decision.
-use Rattle.std.proofs.Common.{◌≡◌, ℕ, suc, ◌+◌, ◌-◌, ◌*◌, ◌^◌, ◌<◌, ◌≤◌, ◌⊎◌, ⊎_elim, true, false, Bool, cond, lit≤, List, length, map, get_or, All, ℤ, pos, neg_ℤ, ◌≤ℤ◌, ◌<ℤ◌, arith, sym, ◌∙◌, subst}
+use Rattle.std.proofs.Common.{◌≡◌, ℕ, suc, ◌+◌, ◌-◌, ◌*◌, ◌^◌, ◌<◌, ◌≤◌, ⊎_elim, true, false, Bool, cond, lit≤, List, length, map, get_or, All, ℤ, pos, neg_ℤ, ◌≤ℤ◌, ◌<ℤ◌, arith, sym, ◌∙◌, subst}
 use Rattle.std.specs.Prelude.{◌==◌}
-use Rattle.std.specs.List.{AllZip}
 use Rattle.std.proofs.lemmas.Int.{ints}
 use Rattle.std.proofs.lemmas.List.{length-map}
 use Rattle.std.proofs.lemmas.Slice.Zip.{AllZip-long}
@@ -24,11 +23,11 @@ use Rattle.int_search.specs.declared.answer.TwoBest.{TwoBest}
 use Rattle.int_search.specs.Answers.{IsTwoBest}
 use Rattle.fix_decide.specs.Decisions.{first_of, second_of}
 use Rattle.fix_decide.proofs.SessionForms.{small_value, first_length, all_narrow}
-use Rattle.cert_data.specs.Tails.{AreValues, IsMove}
+use Rattle.cert_data.specs.Tails.{IsMove}
 use Rattle.integer_form.specs.FloatPoint.{HasWide}
 use Rattle.track_data.specs.TrackTails.{AreTrackVectors}
 use Rattle.track_sum.specs.PairFronts.{AreFronts, IsFrontOfPair, move_at}
-use Rattle.track_sum.specs.Decided.{IsTrackForm, AreFound}
+use Rattle.track_sum.specs.Decided.{IsTrackForm}
 
 -- ---- the integers
 -- fine signals have two phases or three

@@ -14,6 +14,7 @@ use Rattle.quadratic_form.proofs.Forms.{quad_plus, quad_times}
 use Rattle.quadratic_form.proofs.EliminationStep.{rounded_below}
 use Rattle.quadratic_form.proofs.Places.{form_same, form_plus, form_times, form_rounded}
 use Rattle.track_sum.specs.Fronts.{Front, front_form, part, own_entry, other_entry, track_entry, track_form, fronts_value}
+use Rattle.track_sum.specs.Parts.{part_at}
 
 -- ---- one pair more
 -- the entries that one pair adds
@@ -21,7 +22,7 @@ abbrev own_part : ℕ → ℕ → Front → ℕ → ℤ
 own_part n h f i = floor_div (f.at i i) (part h f) -ℤ pos n
 
 abbrev entry_part : ℕ → ℕ → Front → ℕ → ℕ → ℤ
-entry_part n h f i j = cond (nat_eq i j) (own_part n h f i) (nearest_div (f.at i j) (part h f))
+entry_part n h f i j = part_at n (part h f) f.at i j
 
 -- n for each pair
 own_more : (n h : ℕ) (f : Front) (fs : List Front) (i : ℕ) → own_entry n h (f ∷ fs) i ≡ own_part n h f i +ℤ own_entry n h fs i
@@ -33,7 +34,7 @@ own_more n h f fs i = step (floor_div (f.at i i) (part h f)) (sum (map (λ (g : 
     step : (a s k n m : ℤ) → m ≡ pos 1 +ℤ k → (a +ℤ s) -ℤ (m *ℤ n) ≡ (a -ℤ n) +ℤ (s -ℤ (k *ℤ n))
     step a s k n m e = rw e (same_by (a ∷ s ∷ k ∷ n ∷ []) (λ a s k n. (a ⊕ s ⊖ (nat 1 ⊕ k) ⊗ n, a ⊖ n ⊕ (s ⊖ k ⊗ n))) refl)
 
-entry_more : (n h : ℕ) (f : Front) (fs : List Front) (i j : ℕ) → track_entry n h (f ∷ fs) i j ≡ entry_part n h f i j +ℤ track_entry n h fs i j
+pub entry_more : (n h : ℕ) (f : Front) (fs : List Front) (i j : ℕ) → track_entry n h (f ∷ fs) i j ≡ part_at n (part h f) f.at i j +ℤ track_entry n h fs i j
 entry_more n h f fs i j = by_place (nat_eq i j)
   where
     by_place : (b : Bool) → cond b (own_entry n h (f ∷ fs) i) (other_entry h (f ∷ fs) i j) ≡ cond b (own_part n h f i) (nearest_div (f.at i j) (part h f)) +ℤ cond b (own_entry n h fs i) (other_entry h fs i j)

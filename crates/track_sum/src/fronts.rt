@@ -15,7 +15,7 @@ use normal_sum::sum_pair;
 use obs_rows::{Arc, PairRows, Signals};
 
 /// The front of the rows of one pair, over all free arcs of the list.
-pub(crate) fn pair_front(
+pub fn pair_front(
     arcs: &[Arc],
     signals: Signals,
     pair: &PairRows,
@@ -28,6 +28,19 @@ pub(crate) fn pair_front(
     ensures refused { IfErr result (IsRefusedPair arcs.now (fine_signals signals) pair.now) }
 {
     front(&sum_pair(arcs, signals, 0, pair))
+}
+
+/// The front of the rows of a pair that has one.
+pub(crate) fn known_front(arcs: &[Arc], signals: Signals, pair: &PairRows) -> FrontForm
+    requires arcs { HasItsArcs arcs.now pair.now }
+    requires free { free_count arcs.now ≤ MOST_FREE_ARCS }
+    requires has { HasFront arcs.now (fine_signals signals) pair.now }
+    ensures front { IsFrontOfPair arcs.now (fine_signals signals) pair.now result }
+{
+    match pair_front(arcs, signals, pair) {
+        Ok(front) => front,
+        Err(_) => unreachable!(),
+    }
 }
 
 /// The greatest exponent of the fronts of pairs, and 0 of none. Refused as the first pair that has no front.

@@ -1,5 +1,10 @@
 //! The form of a track: the forms of its pairs, each with a baseline of its own, brought over one power of two and added.
 //!
+//! `sum_of_fronts` is exactly that sum, and `form_of_track` its finish (`sum`, `form`); they are refused as the first pair
+//! that has no front, and the second besides as the finish of the sum is (`refused`). `moves_at` gives the baseline of each
+//! pair at given integers by its own front (`moves`), refused exactly where one of them is too wide (`narrow`, `wide`). The
+//! fronts are made anew in each pass over the pairs, since one of them is as large as thirty pairs' rows.
+//!
 //! `laws` names what the sum says: 64 times the pairs' sums of squares together are at least 2^h times the value of the
 //! track's form, each entry of it is below 2^52 in size, the upper sum stays above the pairs' sums, and where the second
 //! value is far enough above it, the least integers with the moves are strictly best.
@@ -7,4 +12,12 @@
 
 mod fronts;
 pub mod laws;
+mod moves;
 mod parts;
+mod sums;
+#[cfg(test)]
+mod tests;
+
+pub use fronts::pair_front;
+pub use moves::moves_at;
+pub use sums::{form_of_track, sum_of_fronts};

@@ -53,7 +53,7 @@ fn other_part(entry: i64, shift: u32) -> i128
 }
 
 /// What a pair adds to the entry in row r and column c.
-fn part(front: &FrontForm, shift: u32, r: usize, c: usize) -> i128
+pub(crate) fn part(front: &FrontForm, shift: u32, r: usize, c: usize) -> i128
     requires few { shift ≤ 90 }
     requires row_in { r < front.now.columns - 3 }
     requires column_in { c < front.now.columns - 3 }

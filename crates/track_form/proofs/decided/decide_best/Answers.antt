@@ -1,4 +1,4 @@
-use Rattle.std.proofs.Common.{◌≡◌, ◌∙◌, ℕ, List, ℤ, All, Any, length, map, sym, refl, ap, subst, pos}
+use Rattle.std.proofs.Common.{◌≡◌, ◌∙◌, List, All, Any, sym, refl, ap, pos}
 use Rattle.std.proofs.lemmas.Result.{IfErr-at_err}
 use Rattle.obs_rows.specs.Pairs.{HasItsArcs}
 use Rattle.obs_rows.specs.Integers.{integer_count}
@@ -20,9 +20,11 @@ moves_at-requires-clause-arcs c =
 
 pub moves_at-requires-clause-fronts : goal.moves_at-requires-clause-fronts
 moves_at-requires-clause-fronts c =
-    let t = c.args.track.now in
-    (c.requires.form.0, of_slices (λ ar ss ps. AreFronts ar ss ps c.requires.form.0) t.arcs c.as_slice-arcs.result.now (fine_signals t.signals) (fine_signals t.signals) t.pairs c.as_slice-pairs.result.now c.as_slice-arcs.ensures refl c.as_slice-pairs.ensures
-    c.requires.form.1.of_fronts.of_pairs)
+    let t = c.args.track.now in (
+      c.requires.form.0,
+      of_slices (λ ar ss ps. AreFronts ar ss ps c.requires.form.0) t.arcs c.as_slice-arcs.result.now (fine_signals t.signals) (fine_signals t.signals) t.pairs c.as_slice-pairs.result.now c.as_slice-arcs.ensures refl c.as_slice-pairs.ensures
+          c.requires.form.1.of_fronts.of_pairs,
+    )
 
 pub moves_at-requires-clause-count : goal.moves_at-requires-clause-count
 moves_at-requires-clause-count c =

@@ -1,4 +1,4 @@
-use Rattle.std.proofs.Common.{◌≡◌, ◌^◌, ◌≤◌, List, All, ℕ, ℤ, pos, ◌≤ℤ◌, ◌<ℤ◌, FitsSigned, length, arith, sym, ap, ◌∙◌, subst, rules, to_z, of_z}
+use Rattle.std.proofs.Common.{◌^◌, ◌≤◌, List, All, ℕ, ℤ, pos, ◌≤ℤ◌, ◌<ℤ◌, FitsSigned, length, arith, sym, ap, ◌∙◌, subst, rules, to_z, of_z}
 use Rattle.std.proofs.lemmas.Int.{ints}
 use Rattle.std.specs.Int.{w128}
 use Rattle.obs_rows.specs.Ranges.{IsBelow}
