@@ -52,13 +52,16 @@ found_by arcs ss pairs budget moves best top fs f is two kept moves_are narrow b
 }
 
 -- a decision told as a tail
-pub told_decision : (arcs : List Arc) (ss : List ℕ) (pairs : List PairRows) (ratio budget h : ℕ) (moves : List (List ℤ)) (best : TwoBest) (top : ℤ) (fixed : Bool) → AreFound arcs ss pairs budget h moves best top →
-    (IsTrue fixed → IsSeparated (pos ratio) top best.p2) → (IsSeparated (pos ratio) top best.p2 → IsTrue fixed) → IsTrackDecision arcs ss pairs ratio budget (track_tail_of_vectors fixed h moves best top)
+pub told_decision : (arcs : List Arc) (ss : List ℕ) (pairs : List PairRows) (ratio budget h : ℕ) (moves : List (List ℤ)) (best : TwoBest) (top : ℤ) (fixed : Bool) →
+    AreFound arcs ss pairs budget h moves best top →
+    (IsTrue fixed → IsSeparated (pos ratio) top best.p2) → (IsSeparated (pos ratio) top best.p2 → IsTrue fixed) →
+    IsTrackDecision arcs ss pairs ratio budget (track_tail_of_vectors fixed h moves best top)
 told_decision arcs ss pairs ratio budget h moves best top true found there back = (found, there refl)
 told_decision arcs ss pairs ratio budget h moves best top false found there back = (found, λ far. false≢true (back far))
 
 -- where it is told as fixed, its integers are strictly best
-pub told_best : (arcs : List Arc) (ss : List ℕ) (pairs : List PairRows) (ratio budget h : ℕ) (moves : List (List ℤ)) (best : TwoBest) (top : ℤ) (fixed : Bool) → AreFound arcs ss pairs budget h moves best top →
+pub told_best : (arcs : List Arc) (ss : List ℕ) (pairs : List PairRows) (ratio budget h : ℕ) (moves : List (List ℤ)) (best : TwoBest) (top : ℤ) (fixed : Bool) →
+    AreFound arcs ss pairs budget h moves best top →
     1000 ≤ ratio → pos 0 ≤ℤ top → (IsTrue fixed → IsSeparated (pos ratio) top best.p2) → IsTrackBestWhereFixed arcs ss pairs (track_tail_of_vectors fixed h moves best top)
 told_best arcs ss pairs ratio budget h moves best top true found large from there = track_strictly_best arcs ss pairs ratio budget h moves best top found large from (there refl)
 told_best arcs ss pairs ratio budget h moves best top false found large from there = tt
@@ -96,24 +99,29 @@ pub record IsTold (arcs : List Arc) (signals : Signals) (pairs : List PairRows) 
   pub fits : (budget : ℕ) → IsTrackTailOf (fine_signals signals) arcs pairs budget t
 
 -- from the moves, the upper sum and the test of the ratio, each of them as the code hands it on
-pub vectors_told : (arcs : List Arc) (signals : Signals) (pairs : List PairRows) (ratio : ℕ) (fs : List FrontForm) (f : Form) (best : TwoBest) (moves list slice : List (List ℤ)) (top word second : ℤ) (fixed : Bool) (t : TrackTail) →
+pub vectors_told : (arcs : List Arc) (signals : Signals) (pairs : List PairRows) (ratio : ℕ) (fs : List FrontForm) (f : Form) (best : TwoBest) (moves list slice : List (List ℤ))
+    (top word second : ℤ) (fixed : Bool) (t : TrackTail) →
     1 ≤ free_count arcs → IsTrackForm arcs (fine_signals signals) pairs fs f → IsTwoBest f best → moves ≡ map (move_at (first_of best)) fs → All (λ m. HasWide m → ⊥) moves →
-    AllZip (λ p m. IsWide arcs (fine_signals signals) (first_of best) m p → ⊥) pairs slice → top ≡ track_top f.h (pair_uppers arcs (fine_signals signals) (first_of best) pairs slice) → pos 0 ≤ℤ top → top ≤ℤ pos (2 ^ 119) →
+    AllZip (λ p m. IsWide arcs (fine_signals signals) (first_of best) m p → ⊥) pairs slice → top ≡ track_top f.h (pair_uppers arcs (fine_signals signals) (first_of best) pairs slice) →
+    pos 0 ≤ℤ top → top ≤ℤ pos (2 ^ 119) →
     slice ≡ moves → list ≡ moves → word ≡ top → second ≡ best.p2 → t ≡ track_tail_of_vectors fixed f.h list best word →
     (IsTrue fixed → IsSeparated (pos ratio) word second) → (IsSeparated (pos ratio) word second → IsTrue fixed) →
     ((z : List ℤ) → length z ≡ integers_of f → neg_ℤ (pos (2 ^ 63)) ≤ℤ value_of f z) → 1000 ≤ ratio → IsTold arcs signals pairs ratio f best t
-vectors_told arcs signals pairs ratio fs f best moves list slice top word second fixed t some is two moves_are narrow bounded top_is from to slice_is list_is word_is second_is t_is there back values large =
+vectors_told arcs signals pairs ratio fs f best moves list slice top word second fixed t some is two moves_are narrow bounded top_is from to slice_is list_is word_is second_is t_is there
+    back values large =
     record {
       decision = λ budget kept. subst (IsTrackDecision arcs ss pairs ratio budget) (sym same) (told_decision arcs ss pairs ratio budget f.h moves best top fixed (found budget kept) far near);
       strictly_best = λ budget kept. subst (IsTrackBestWhereFixed arcs ss pairs) (sym same) (told_best arcs ss pairs ratio budget f.h moves best top fixed (found budget kept) large from far);
-      fits = λ budget. subst (IsTrackTailOf ss arcs pairs budget) (sym same) (told_fits ss arcs pairs budget f.h moves best top fixed (track_vectors_fit arcs signals pairs moves best top fs f some is two moves_are narrow values from to));
+      fits = λ budget. subst (IsTrackTailOf ss arcs pairs budget) (sym same)
+          (told_fits ss arcs pairs budget f.h moves best top fixed (track_vectors_fit arcs signals pairs moves best top fs f some is two moves_are narrow values from to));
     }
   where
     ss : List ℕ
     ss = fine_signals signals
 
     found : (budget : ℕ) → KeepsBudget f budget best → AreFound arcs ss pairs budget f.h moves best top
-    found budget kept = found_by arcs ss pairs budget moves best top fs f is two kept moves_are narrow (subst (λ (ms : List (List ℤ)). AllZip (λ p m. IsWide arcs ss (first_of best) m p → ⊥) pairs ms) slice_is bounded)
+    found budget kept = found_by arcs ss pairs budget moves best top fs f is two kept moves_are narrow
+        (subst (λ (ms : List (List ℤ)). AllZip (λ p m. IsWide arcs ss (first_of best) m p → ⊥) pairs ms) slice_is bounded)
         (top_is ∙ ap (λ (ms : List (List ℤ)). track_top f.h (pair_uppers arcs ss (first_of best) pairs ms)) slice_is)
 
     same : t ≡ track_tail_of_vectors fixed f.h moves best top
@@ -126,11 +134,13 @@ vectors_told arcs signals pairs ratio fs f best moves list slice top word second
     near apart = back (subst (λ (x : ℤ). IsSeparated (pos ratio) word x) (sym second_is) (subst (λ (x : ℤ). IsSeparated (pos ratio) x best.p2) (sym word_is) apart))
 
 -- one that ends with a number that is too large
-pub wide_told : (arcs : List Arc) (ss : List ℕ) (pairs : List PairRows) (ratio : ℕ) (place where_is : Place) → place ≡ where_is → ((budget : ℕ) → IsTrackWideAt arcs ss pairs budget where_is) → (budget : ℕ) → IsTrackDecision arcs ss pairs ratio budget (Overwidth place)
+pub wide_told : (arcs : List Arc) (ss : List ℕ) (pairs : List PairRows) (ratio : ℕ) (place where_is : Place) → place ≡ where_is →
+    ((budget : ℕ) → IsTrackWideAt arcs ss pairs budget where_is) → (budget : ℕ) → IsTrackDecision arcs ss pairs ratio budget (Overwidth place)
 wide_told arcs ss pairs ratio place where_is same wide budget = subst (IsTrackWideAt arcs ss pairs budget) (sym same) (wide budget)
 
 -- one that ends before there is a form
-pub refused_told : (arcs : List Arc) (ss : List ℕ) (pairs : List PairRows) (ratio budget : ℕ) (why : LowerFault) → IsFormRefused arcs ss pairs why → IsTrackDecision arcs ss pairs ratio budget (track_tail_of why)
+pub refused_told : (arcs : List Arc) (ss : List ℕ) (pairs : List PairRows) (ratio budget : ℕ) (why : LowerFault) → IsFormRefused arcs ss pairs why →
+    IsTrackDecision arcs ss pairs ratio budget (track_tail_of why)
 refused_told arcs ss pairs ratio budget (fault.Weak column pivot) a = a
 refused_told arcs ss pairs ratio budget (fault.Overwidth place) a = wide_refused arcs ss pairs budget place a
 

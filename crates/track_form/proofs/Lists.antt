@@ -4,7 +4,8 @@ use Rattle.std.specs.List.{AllZip}
 use Rattle.std.proofs.lemmas.List.{get_or-map, length-map}
 
 -- what holds at each place holds of the lists
-pub all_zip_from : {A B : Type 0} (R : A → B → Type 0) (xs : List A) (ys : List B) → length ys ≡ length xs → ((k : ℕ) → k < length xs → (x : A) (y : B) → R (get_or xs k x) (get_or ys k y)) → AllZip R xs ys
+pub all_zip_from : {A B : Type 0} (R : A → B → Type 0) (xs : List A) (ys : List B) → length ys ≡ length xs → ((k : ℕ) → k < length xs → (x : A) (y : B) → R (get_or xs k x) (get_or ys k y)) →
+    AllZip R xs ys
 all_zip_from R [] [] e h = tt
 all_zip_from R [] (y ∷ ys) e h = absurd (omega (arith, e))
 all_zip_from R (x ∷ xs) [] e h = absurd (omega (arith, e))

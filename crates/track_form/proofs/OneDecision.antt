@@ -98,7 +98,8 @@ record SameMoves (h k : ℕ) (best other : TwoBest) (moves others : List (List �
   best_is : AreSameBest best other
   moves_are : moves ≡ others
 
-one_moves : (arcs : List Arc) (ss : List ℕ) (pairs : List PairRows) (h k : ℕ) (best other : TwoBest) (moves others : List (List ℤ)) → HaveMoves arcs ss pairs h best moves → HaveMoves arcs ss pairs k other others →
+one_moves : (arcs : List Arc) (ss : List ℕ) (pairs : List PairRows) (h k : ℕ) (best other : TwoBest) (moves others : List (List ℤ)) → HaveMoves arcs ss pairs h best moves →
+    HaveMoves arcs ss pairs k other others →
     SameMoves h k best other moves others
 one_moves arcs ss pairs h k best other moves others a b =
     let same : sessions.SameForm a.form b.form = same_session arcs ss pairs a.fronts b.fronts a.form b.form a.of_rows b.of_rows in
@@ -110,7 +111,8 @@ one_moves arcs ss pairs h k best other moves others a b =
           ∙ ap (λ (z : List ℤ). map (move_at z) b.fronts) two.first_is ∙ sym b.moves_are;
     }
 
-moves_found : (arcs : List Arc) (ss : List ℕ) (pairs : List PairRows) (budget h : ℕ) (moves : List (List ℤ)) (best : TwoBest) (top : ℤ) → AreFound arcs ss pairs budget h moves best top → HaveMoves arcs ss pairs h best moves
+moves_found : (arcs : List Arc) (ss : List ℕ) (pairs : List PairRows) (budget h : ℕ) (moves : List (List ℤ)) (best : TwoBest) (top : ℤ) → AreFound arcs ss pairs budget h moves best top →
+    HaveMoves arcs ss pairs h best moves
 moves_found arcs ss pairs budget h moves best top a = record { fronts = a.fronts; form = a.form; of_rows = a.of_rows; h_is = a.h_is; best_is = a.best_is; moves_are = a.moves_are }
 
 -- the moves where one is too wide
@@ -123,7 +125,8 @@ moves_summed arcs ss pairs a = record { fronts = a.fronts; form = a.form; of_row
 
 -- ---- what can't be together
 -- a move that is too wide isn't another time narrow
-no_move : (arcs : List Arc) (ss : List ℕ) (pairs : List PairRows) (h : ℕ) (best : TwoBest) (moves : List (List ℤ)) → IsMoveWide arcs ss pairs → HaveMoves arcs ss pairs h best moves → All (λ m. HasWide m → ⊥) moves → ⊥
+no_move : (arcs : List Arc) (ss : List ℕ) (pairs : List PairRows) (h : ℕ) (best : TwoBest) (moves : List (List ℤ)) → IsMoveWide arcs ss pairs → HaveMoves arcs ss pairs h best moves →
+    All (λ m. HasWide m → ⊥) moves → ⊥
 no_move arcs ss pairs h best moves a b narrow =
     let wide : List (List ℤ) = map (move_at (first_of a.best)) a.fronts in
     let same : SameMoves a.form.h h a.best best wide moves = one_moves arcs ss pairs a.form.h h a.best best wide moves (moves_wide arcs ss pairs a) b in
@@ -133,10 +136,12 @@ sum_narrow : (arcs : List Arc) (ss : List ℕ) (pairs : List PairRows) (a : IsSu
 sum_narrow arcs ss pairs a = All-map (λ m. HasWide m → ⊥) (move_at (first_of a.best)) a.fronts a.narrow
 
 -- nor is an upper sum
-no_sum : (arcs : List Arc) (ss : List ℕ) (pairs : List PairRows) (budget h : ℕ) (moves : List (List ℤ)) (best : TwoBest) (top : ℤ) → IsSumWide arcs ss pairs → AreFound arcs ss pairs budget h moves best top → ⊥
+no_sum : (arcs : List Arc) (ss : List ℕ) (pairs : List PairRows) (budget h : ℕ) (moves : List (List ℤ)) (best : TwoBest) (top : ℤ) → IsSumWide arcs ss pairs →
+    AreFound arcs ss pairs budget h moves best top → ⊥
 no_sum arcs ss pairs budget h moves best top a b =
     let wide : List (List ℤ) = map (move_at (first_of a.best)) a.fronts in
-    let same : SameMoves a.form.h h a.best best wide moves = one_moves arcs ss pairs a.form.h h a.best best wide moves (moves_summed arcs ss pairs a) (moves_found arcs ss pairs budget h moves best top b) in
+    let same : SameMoves a.form.h h a.best best wide moves =
+    one_moves arcs ss pairs a.form.h h a.best best wide moves (moves_summed arcs ss pairs a) (moves_found arcs ss pairs budget h moves best top b) in
     let W : List ℤ → List ℤ → PairRows → Type 0 = IsWide arcs ss in
     not_mapped (W (first_of best)) (move_at (first_of a.best)) pairs a.fronts a.place a.inside
     (subst (λ (ms : List (List ℤ)). AllZip (λ p m. W (first_of best) m p → ⊥) pairs ms) (sym same.moves_are) b.bounded)
@@ -146,7 +151,8 @@ no_sum arcs ss pairs budget h moves best top a b =
 pub one_found : (arcs : List Arc) (ss : List ℕ) (pairs : List PairRows) (budget h k : ℕ) (moves others : List (List ℤ)) (best other : TwoBest) (top over : ℤ) →
     AreFound arcs ss pairs budget h moves best top → AreFound arcs ss pairs budget k others other over → AreSameNumbers h k moves others best other top over
 one_found arcs ss pairs budget h k moves others best other top over a b =
-    let same : SameMoves h k best other moves others = one_moves arcs ss pairs h k best other moves others (moves_found arcs ss pairs budget h moves best top a) (moves_found arcs ss pairs budget k others other over b) in
+    let same : SameMoves h k best other moves others =
+    one_moves arcs ss pairs h k best other moves others (moves_found arcs ss pairs budget h moves best top a) (moves_found arcs ss pairs budget k others other over b) in
     record {
       h_is = same.h_is;
       moves_are = same.moves_are;
@@ -160,8 +166,10 @@ data Ends (arcs : List Arc) (ss : List ℕ) (pairs : List PairRows) (ratio budge
   refused : (why : LowerFault) → IsFormRefused arcs ss pairs why → t ≡ track_tail_of why → Ends arcs ss pairs ratio budget t
   wide_move : IsMoveWide arcs ss pairs → t ≡ Overwidth Float → Ends arcs ss pairs ratio budget t
   wide_sum : IsSumWide arcs ss pairs → t ≡ Overwidth Sum → Ends arcs ss pairs ratio budget t
-  fixed : (h : ℕ) (moves : List (List ℤ)) (best : TwoBest) (top : ℤ) → AreFound arcs ss pairs budget h moves best top → IsSeparated (pos ratio) top best.p2 → t ≡ Fixed h moves best top → Ends arcs ss pairs ratio budget t
-  near : (h : ℕ) (moves : List (List ℤ)) (best : TwoBest) (top : ℤ) → AreFound arcs ss pairs budget h moves best top → (IsSeparated (pos ratio) top best.p2 → ⊥) → t ≡ Unseparated h moves best top → Ends arcs ss pairs ratio budget t
+  fixed : (h : ℕ) (moves : List (List ℤ)) (best : TwoBest) (top : ℤ) → AreFound arcs ss pairs budget h moves best top → IsSeparated (pos ratio) top best.p2 → t ≡ Fixed h moves best top →
+      Ends arcs ss pairs ratio budget t
+  near : (h : ℕ) (moves : List (List ℤ)) (best : TwoBest) (top : ℤ) → AreFound arcs ss pairs budget h moves best top → (IsSeparated (pos ratio) top best.p2 → ⊥) →
+      t ≡ Unseparated h moves best top → Ends arcs ss pairs ratio budget t
 
 ends : (arcs : List Arc) (ss : List ℕ) (pairs : List PairRows) (ratio budget : ℕ) (t : TrackTail) → IsTrackDecision arcs ss pairs ratio budget t → Ends arcs ss pairs ratio budget t
 ends arcs ss pairs ratio budget (Fixed h moves best top) is = fixed h moves best top is.0 is.1 refl
@@ -177,7 +185,8 @@ ends arcs ss pairs ratio budget (Overwidth Sum) is = wide_sum is refl
 ends arcs ss pairs ratio budget (Spent spent) is = given_up tt
 
 -- the same numbers are as far apart
-as_far : (ratio : ℕ) (h k : ℕ) (moves others : List (List ℤ)) (best other : TwoBest) (top over : ℤ) → AreSameNumbers h k moves others best other top over → IsSeparated (pos ratio) top best.p2 → IsSeparated (pos ratio) over other.p2
+as_far : (ratio : ℕ) (h k : ℕ) (moves others : List (List ℤ)) (best other : TwoBest) (top over : ℤ) → AreSameNumbers h k moves others best other top over →
+    IsSeparated (pos ratio) top best.p2 → IsSeparated (pos ratio) over other.p2
 as_far ratio h k moves others best other top over same far =
     subst (λ (x : ℤ). IsSeparated (pos ratio) over x) same.best_is.p2_is (subst (λ (x : ℤ). IsSeparated (pos ratio) x best.p2) same.top_is far)
 
@@ -224,14 +233,17 @@ pair_up arcs ss pairs r n t u (fixed h ms two top a far is) (wide_move b is_too)
 pair_up arcs ss pairs r n t u (fixed h ms two top a far is) (wide_sum b is_too) = absurd (no_sum arcs ss pairs n h ms two top b a)
 pair_up arcs ss pairs r n t u (fixed h ms two top a far is) (fixed k ns other over b far_too is_too) =
     alike t u (Fixed h ms two top) (Fixed k ns other over) is is_too (one_found arcs ss pairs n h k ms ns two other top over a b)
-pair_up arcs ss pairs r n t u (fixed h ms two top a far is) (near k ns other over b close is_too) = absurd (close (as_far r h k ms ns two other top over (one_found arcs ss pairs n h k ms ns two other top over a b) far))
+pair_up arcs ss pairs r n t u (fixed h ms two top a far is) (near k ns other over b close is_too) =
+    absurd (close (as_far r h k ms ns two other top over (one_found arcs ss pairs n h k ms ns two other top over a b) far))
 pair_up arcs ss pairs r n t u (near h ms two top a close is) (given_up b) = inr (inr b)
 pair_up arcs ss pairs r n t u (near h ms two top a close is) (refused why b is_too) = absurd (none_refused arcs ss pairs why a.fronts a.form b a.of_rows)
 pair_up arcs ss pairs r n t u (near h ms two top a close is) (wide_move b is_too) = absurd (no_move arcs ss pairs h two ms b (moves_found arcs ss pairs n h ms two top a) a.narrow)
 pair_up arcs ss pairs r n t u (near h ms two top a close is) (wide_sum b is_too) = absurd (no_sum arcs ss pairs n h ms two top b a)
-pair_up arcs ss pairs r n t u (near h ms two top a close is) (fixed k ns other over b far is_too) = absurd (close (as_far r k h ns ms other two over top (one_found arcs ss pairs n k h ns ms other two over top b a) far))
+pair_up arcs ss pairs r n t u (near h ms two top a close is) (fixed k ns other over b far is_too) =
+    absurd (close (as_far r k h ns ms other two over top (one_found arcs ss pairs n k h ns ms other two over top b a) far))
 pair_up arcs ss pairs r n t u (near h ms two top a close is) (near k ns other over b close_too is_too) =
     alike t u (Unseparated h ms two top) (Unseparated k ns other over) is is_too (one_found arcs ss pairs n h k ms ns two other top over a b)
 
-pub one_decision : (arcs : List Arc) (ss : List ℕ) (pairs : List PairRows) (ratio budget : ℕ) (t u : TrackTail) → IsTrackDecision arcs ss pairs ratio budget t → IsTrackDecision arcs ss pairs ratio budget u → IsSameDecision t u
+pub one_decision : (arcs : List Arc) (ss : List ℕ) (pairs : List PairRows) (ratio budget : ℕ) (t u : TrackTail) → IsTrackDecision arcs ss pairs ratio budget t →
+    IsTrackDecision arcs ss pairs ratio budget u → IsSameDecision t u
 one_decision arcs ss pairs ratio budget t u a b = pair_up arcs ss pairs ratio budget t u (ends arcs ss pairs ratio budget t a) (ends arcs ss pairs ratio budget u b)

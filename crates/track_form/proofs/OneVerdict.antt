@@ -74,7 +74,8 @@ given_up (Overwidth Search) t v up is = subst IsGivenUp (sym is) tt
 given_up (Overwidth _) t v up is = absurd up
 given_up (Spent budget) t v up is = subst IsGivenUp (sym is) tt
 
-pub one_verdict : (arcs : List Arc) (ss : List ℕ) (pairs : List PairRows) (ratio budget : ℕ) (t : TrackTail) (v w : Verdict) → IsTrackVerdict arcs ss pairs ratio budget t v → IsTrackVerdict arcs ss pairs ratio budget t w → IsSameVerdict v w
+pub one_verdict : (arcs : List Arc) (ss : List ℕ) (pairs : List PairRows) (ratio budget : ℕ) (t : TrackTail) (v w : Verdict) → IsTrackVerdict arcs ss pairs ratio budget t v →
+    IsTrackVerdict arcs ss pairs ratio budget t w → IsSameVerdict v w
 one_verdict arcs ss pairs ratio budget t v w a b = by_decision (one_decision arcs ss pairs ratio budget a.decided b.decided a.decision b.decision)
   where
     by_decision : IsSameTail a.decided b.decided ⊎ (HasGivenUp a.decided ⊎ HasGivenUp b.decided) → IsSameVerdict v w

@@ -58,7 +58,8 @@ integers_are arcs ss pairs fs f is = fewer f.columns (integer_count arcs ss) (co
     fewer a b e = omega (arith, e)
 
 -- so a search has something to find
-pub more_than_four : (arcs : List Arc) (signals : Signals) (pairs : List PairRows) (fs : List FrontForm) (f : Form) → 1 ≤ free_count arcs → IsTrackForm arcs (fine_signals signals) pairs fs f → 4 < f.columns
+pub more_than_four : (arcs : List Arc) (signals : Signals) (pairs : List PairRows) (fs : List FrontForm) (f : Form) → 1 ≤ free_count arcs →
+    IsTrackForm arcs (fine_signals signals) pairs fs f → 4 < f.columns
 more_than_four arcs signals pairs fs f some is = more f.columns (integer_count arcs (fine_signals signals)) (columns_are arcs (fine_signals signals) pairs fs f is) (some_integers arcs signals some)
   where
     more : (a b : ℕ) → a ≡ 4 + b → 1 ≤ b → 4 < a
@@ -95,7 +96,8 @@ values_in_range f best some two from = in_range best.p1 best.p2
     (second_small f best some two)
 
 -- ---- the moves
-pub move_each : (arcs : List Arc) (ss : List ℕ) (pairs : List PairRows) (fs : List FrontForm) (z : List ℤ) (moves : List (List ℤ)) → AreFronts arcs ss pairs fs → moves ≡ map (move_at z) fs → length moves ≡ length pairs
+pub move_each : (arcs : List Arc) (ss : List ℕ) (pairs : List PairRows) (fs : List FrontForm) (z : List ℤ) (moves : List (List ℤ)) → AreFronts arcs ss pairs fs → moves ≡ map (move_at z) fs →
+    length moves ≡ length pairs
 move_each arcs ss pairs fs z moves are is = (λ t. length (is t)) ∙ length-map fs (move_at z) ∙ AllZip-long (IsFrontOfPair arcs ss) pairs fs are
 
 pub moves_small : (moves : List (List ℤ)) → All (λ m. HasWide m → ⊥) moves → All IsMove moves

@@ -123,10 +123,12 @@ first_of_form : (e : ℕ → ℕ → ℤ) (j n : ℕ) → ((r c : ℕ) → unsig
 first_of_form e j zero h = tt
 first_of_form e j (suc k) h = h j j
 
-sum_weak : (sum : FrontForm) (column : ℕ) (pivot : ℤ) (refusal : Refusal) → steps 3 (sum.columns - 4) (form_of_table sum.p (sum.columns - 3)) ≡ Err refusal → fault.Weak column pivot ≡ told refusal → IsWeak column pivot
+sum_weak : (sum : FrontForm) (column : ℕ) (pivot : ℤ) (refusal : Refusal) → steps 3 (sum.columns - 4) (form_of_table sum.p (sum.columns - 3)) ≡ Err refusal →
+    fault.Weak column pivot ≡ told refusal → IsWeak column pivot
 sum_weak sum column pivot refusal e f =
     let is : IsPivot 3 (sum.columns - 4) column pivot =
-    weak_of_steps 3 (sum.columns - 4) (form_of_table sum.p (sum.columns - 3)) column pivot (first_of_form (entry sum.p) 0 (sum.columns - 3) sum.entries_in) (e ∙ ap Err (told_weak column pivot refusal f)) in
+    weak_of_steps 3 (sum.columns - 4) (form_of_table sum.p (sum.columns - 3)) column pivot (first_of_form (entry sum.p) 0 (sum.columns - 3) sum.entries_in)
+    (e ∙ ap Err (told_weak column pivot refusal f)) in
     record { column_to = small sum.columns column sum.columns_to is.column; pivot_in = is.size }
   where
     small : (c i : ℕ) → c ≤ MOST_COLUMNS → i < 3 + (c - 4) → i < MOST_FACTORS

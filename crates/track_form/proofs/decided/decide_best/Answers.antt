@@ -16,13 +16,15 @@ use Rattle.track_form.proofs.decided.decide_best.Goals as goal
 pub moves_at-requires-clause-arcs : goal.moves_at-requires-clause-arcs
 moves_at-requires-clause-arcs c =
     let t = c.args.track.now in
-    of_slices (λ ar ss ps. All (HasItsArcs ar) ps) t.arcs c.as_slice-arcs.result.now (fine_signals t.signals) (fine_signals t.signals) t.pairs c.as_slice-pairs.result.now c.as_slice-arcs.ensures refl c.as_slice-pairs.ensures t.pairs_in.rows_have_arcs
+    of_slices (λ ar ss ps. All (HasItsArcs ar) ps) t.arcs c.as_slice-arcs.result.now (fine_signals t.signals) (fine_signals t.signals) t.pairs c.as_slice-pairs.result.now
+    c.as_slice-arcs.ensures refl c.as_slice-pairs.ensures t.pairs_in.rows_have_arcs
 
 pub moves_at-requires-clause-fronts : goal.moves_at-requires-clause-fronts
 moves_at-requires-clause-fronts c =
     let t = c.args.track.now in (
       c.requires.form.0,
-      of_slices (λ ar ss ps. AreFronts ar ss ps c.requires.form.0) t.arcs c.as_slice-arcs.result.now (fine_signals t.signals) (fine_signals t.signals) t.pairs c.as_slice-pairs.result.now c.as_slice-arcs.ensures refl c.as_slice-pairs.ensures
+      of_slices (λ ar ss ps. AreFronts ar ss ps c.requires.form.0) t.arcs c.as_slice-arcs.result.now (fine_signals t.signals) (fine_signals t.signals) t.pairs c.as_slice-pairs.result.now
+          c.as_slice-arcs.ensures refl c.as_slice-pairs.ensures
           c.requires.form.1.of_fronts.of_pairs,
     )
 
@@ -45,6 +47,7 @@ returns-in-Err-clause-decision c =
     let wide : (fs : List FrontForm) → AreFronts c.as_slice-arcs.result.now ss c.as_slice-pairs.result.now fs → Any (λ g. HasWide (move_at z g)) fs =
     IfErr-at_err (λ e. (fs : List FrontForm) → AreFronts c.as_slice-arcs.result.now ss c.as_slice-pairs.result.now fs → Any (λ g. HasWide (move_at z g)) fs) c.in-Err.is c.in_ok-moves.ensures.wide in
     let fronts : AreFronts c.as_slice-arcs.result.now ss c.as_slice-pairs.result.now f.0 =
-    of_slices (λ ar ts ps. AreFronts ar ts ps f.0) t.arcs c.as_slice-arcs.result.now ss ss t.pairs c.as_slice-pairs.result.now c.as_slice-arcs.ensures refl c.as_slice-pairs.ensures f.1.of_fronts.of_pairs in
+    of_slices (λ ar ts ps. AreFronts ar ts ps f.0) t.arcs c.as_slice-arcs.result.now ss ss t.pairs c.as_slice-pairs.result.now c.as_slice-arcs.ensures refl c.as_slice-pairs.ensures
+    f.1.of_fronts.of_pairs in
     λ budget kept. wide_told t.arcs ss t.pairs c.args.ratio c.in-Err.wide.place Float place
     (λ n. record { fronts = f.0; form = c.args.form.now; of_rows = f.1; best = c.args.best.now; best_is = c.requires.best; wide = wide f.0 fronts }) budget

@@ -39,11 +39,13 @@ loop-k-preserved c =
     step s q k (2 ^ 107) c.loop-k.invariant.from c.loop-k.invariant.to c.in_ok-sum.ensures.from c.in_ok-sum.ensures.to (few k (length pairs) inside c.requires.few) in
     let W : List ℤ → PairRows → Type 0 = IsWide c.args.arcs.now c.args.signals.now c.args.z.now in
     record {
-      value = next s _ q (upper m p) rest (sum (uppers pairs moves)) (ap₂ (λ (xs : List PairRows) (ys : List (List ℤ)). s +ℤ sum (uppers xs ys)) (sym e) (sym f) ∙ c.loop-k.invariant.value) c.in_ok-sum.ensures.value t.is;
+      value = next s _ q (upper m p) rest (sum (uppers pairs moves)) (ap₂ (λ (xs : List PairRows) (ys : List (List ℤ)). s +ℤ sum (uppers xs ys)) (sym e) (sym f) ∙ c.loop-k.invariant.value)
+          c.in_ok-sum.ensures.value t.is;
       from = t.from;
       to = t.to;
       narrow = below_more (λ j. (x : PairRows) (y : List ℤ) → W (get_or moves j y) (get_or pairs j x) → ⊥) k c.loop-k.invariant.narrow
-          (λ x y w. false≢true (c.in_ok-sum.ensures.refused.1 (subst (λ (n : List ℤ). W n p) (get_or_default moves k y [] within) (subst (λ (r : PairRows). W (get_or moves k y) r) (get_or_default pairs k x p inside ∙ sym c.index-pairs-k.is) w))));
+          (λ x y w. false≢true (c.in_ok-sum.ensures.refused.1
+          (subst (λ (n : List ℤ). W n p) (get_or_default moves k y [] within) (subst (λ (r : PairRows). W (get_or moves k y) r) (get_or_default pairs k x p inside ∙ sym c.index-pairs-k.is) w))));
     }
 
 pub returns-in_err-sum-clause-wide : goal.returns-in_err-sum-clause-wide
@@ -58,7 +60,8 @@ returns-in_err-sum-clause-wide c =
     on_err c.from_residual.result (record {
       place = k;
       inside = inside;
-      wide = λ x y. subst (λ (n : List ℤ). W n (get_or pairs k x)) (get_or_default moves k [] y within) (subst (λ (r : PairRows). W (get_or moves k []) r) (c.index-pairs-k.is ∙ get_or_default pairs k p x inside) (c.in_err-sum.ensures.refused.0 refl));
+      wide = λ x y. subst (λ (n : List ℤ). W n (get_or pairs k x)) (get_or_default moves k [] y within)
+          (subst (λ (r : PairRows). W (get_or moves k []) r) (c.index-pairs-k.is ∙ get_or_default pairs k p x inside) (c.in_err-sum.ensures.refused.0 refl));
     })
 
 no_more : (s a : ℤ) → s +ℤ pos 0 ≡ a → s ≡ a
