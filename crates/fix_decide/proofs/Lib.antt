@@ -3,7 +3,6 @@ pub mod GapSums
 pub mod Radii
 pub mod Wide
 pub mod Products
-pub mod Weights
 pub mod UpperLaws
 pub mod SessionForms
 pub mod DecisionLaws

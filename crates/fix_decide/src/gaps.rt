@@ -2,7 +2,8 @@
 ghost use Rattle.std.specs.Prelude.{◌≡◌, ◌+◌, ◌*◌, ◌^◌, ◌≤◌, length, All, pos, ◌*ℤ◌, ◌≤ℤ◌};
 ghost use Rattle.fix_decide.specs.Reaches.{IsNarrow, gap, gaps_from, gaps};
 
-use crate::reaches::{MOST_ROWS, Reach, size};
+use crate::reaches::{Reach, size};
+use normal_sum::MOST_ROWS;
 
 /// How far two residuals may lie apart.
 fn gap(p: Reach, q: Reach) -> i64

@@ -6,7 +6,6 @@ ghost use Rattle.obs_rows.specs.Ranges.{IsBelow, IsWithin};
 ghost use Rattle.obs_rows.specs.Pairs.{HasItsArcs};
 ghost use Rattle.obs_rows.specs.Integers.{integer_count};
 ghost use Rattle.obs_rows.specs.Signals.{AreCounted};
-ghost use Rattle.obs_rows.specs.SumOfSquares.{share};
 ghost use Rattle.normal_sum.specs.Pairs.{HaveArcs};
 ghost use Rattle.fix_decide.specs.Reaches.{IsNarrow};
 ghost use Rattle.fix_decide.specs.UpperSums.{reach_of, signal_upper, pair_upper};
@@ -14,25 +13,11 @@ ghost use Rattle.fix_decide.specs.Bounds.{StaysAtMost};
 ghost use Rattle.fix_decide.specs.Widths.{IsWideFor, IsWide};
 
 use crate::gaps::gaps;
-use crate::reaches::{MOST_ROWS, Reach, reach_of};
+use crate::reaches::{Reach, reach_of};
 use arrayvec::ArrayVec;
 use integer_form::{Overwidth, Place};
-use obs_rows::{Arc, PairRows, Row, SIGNALS, WEIGHTS};
-
-/// 360360 times a weight is whole over each number of rows from 1 to 15.
-const COMMON_MULTIPLE: i64 = 360_360;
-
-/// The weight of a signal over this number of rows.
-fn share(rows: usize, signal: usize) -> i64
-    requires some { 1 ≤ rows }
-    requires few { rows ≤ MOST_ROWS }
-    requires signal { signal < SIGNALS }
-    ensures value { result ≡ share rows signal }
-    ensures from { pos 0 ≤ℤ result }
-    ensures to { (result *ℤ pos rows) ≤ℤ pos (2 ^ 32) }
-{
-    COMMON_MULTIPLE / rows as i64 * WEIGHTS[signal]
-}
+use normal_sum::{MOST_ROWS, share};
+use obs_rows::{Arc, PairRows, Row, SIGNALS};
 
 /// Where the residuals of these rows may lie, as a signal sees them.
 fn reaches_of(

@@ -16,9 +16,6 @@ use integer_form::{Overwidth, Place};
 use obs_rows::{Arc, DIRECTION_EXPONENT, MOVE_EXPONENT, ROW_EXPONENT, Row, SIGNALS, WAVELENGTHS};
 use whole_math::{ceil_shift, floor_shift};
 
-/// The most rows of a pair.
-pub(crate) const MOST_ROWS: usize = 15;
-
 /// A direction times a move is in 2^-16 of the unit of a row.
 const FINER: u32 = MOVE_EXPONENT + DIRECTION_EXPONENT - ROW_EXPONENT;
 

@@ -18,9 +18,9 @@ use Rattle.cert_data.specs.Tails.{IsWeak}
 use Rattle.settled_decision.specs.Decided.{IsRefused}
 
 -- a pivot of one of k steps from the j-th on, below 2^52 in size
-record IsPivot (j k i : ℕ) (p : ℤ) : Type 0 where
-  column : i < j + k
-  size : unsigned_abs p < 2 ^ 52
+pub record IsPivot (j k i : ℕ) (p : ℤ) : Type 0 where
+  pub column : i < j + k
+  pub size : unsigned_abs p < 2 ^ 52
 
 first_true : (a b : Bool) → (a && b) ≡ true → a ≡ true
 first_true true b e = refl
@@ -74,7 +74,7 @@ cases false false d j k i own p q f s ih e = absurd cc
 cases false true false j k i own p q f s ih e = absurd cc
 cases false true true j k i own p q f s ih e = later j k i p (ih q.1 (sym f) (unfactored q.0 (steps (suc j) k q.1) (weak i p) e))
 
-weak_of_steps : (j k : ℕ) (a : List Column) (i : ℕ) (p : ℤ) → form_small a ≡ true → steps j k a ≡ Err (weak i p) → IsPivot j k i p
+pub weak_of_steps : (j k : ℕ) (a : List Column) (i : ℕ) (p : ℤ) → form_small a ≡ true → steps j k a ≡ Err (weak i p) → IsPivot j k i p
 weak_of_steps j zero a i p s e = absurd cc
 weak_of_steps j (suc k) [] i p s e = absurd cc
 weak_of_steps j (suc k) (c ∷ m) i p s e =
@@ -82,12 +82,12 @@ weak_of_steps j (suc k) (c ∷ m) i p s e =
     let rest : List Column = next (unsigned_abs c.own) (len c.others) c.others m in
     cases (int_lt c.own (pos (2 ^ 20))) (all_small l) (form_small rest) j k i c.own p (record { d = kept (unsigned_abs c.own); l = l }, rest) refl (small_own c m s) (λ n t h. weak_of_steps (suc j) k n i p t h) e
 
-weak_of : (b : Bool) (k : ℕ) (a : List Column) (i : ℕ) (p : ℤ) → b ≡ form_small a → elim b as (λ x. Answers) [ true ↦ steps 0 k a | false ↦ Err wide_entry ] ≡ Err (weak i p) → IsPivot 0 k i p
+pub weak_of : (b : Bool) (k : ℕ) (a : List Column) (i : ℕ) (p : ℤ) → b ≡ form_small a → elim b as (λ x. Answers) [ true ↦ steps 0 k a | false ↦ Err wide_entry ] ≡ Err (weak i p) → IsPivot 0 k i p
 weak_of true k a i p f e = weak_of_steps 0 k a i p (sym f) e
 weak_of false k a i p f e = absurd cc
 
 -- ---- a refusal by a weak pivot
-told_weak : (column : ℕ) (pivot : ℤ) (refusal : Refusal) → Weak column pivot ≡ told refusal → refusal ≡ weak column pivot
+pub told_weak : (column : ℕ) (pivot : ℤ) (refusal : Refusal) → Weak column pivot ≡ told refusal → refusal ≡ weak column pivot
 told_weak column pivot (weak j a) e = cc
 told_weak column pivot wide_factor e = absurd cc
 told_weak column pivot wide_entry e = absurd cc

@@ -1,2 +1,3 @@
+pub mod Uppers
 pub mod Decided
 pub mod Verdicts

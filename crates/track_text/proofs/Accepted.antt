@@ -97,7 +97,8 @@ moves_accepted (p ∷ pairs) (m ∷ moves) rest each are triples behind =
     let later = moves_accepted pairs moves rest (omega (arith, each)) (All-tail IsMove m moves are) (All-tail (λ (z : List ℤ). length z ≡ 3) m moves triples) behind in
     let few : length (pos p.number ∷ m) ≤ 60 = omega (arith, three) in
     let short = line_length (codes "move") (pos p.number ∷ m) (lit≤ tt) few (move_small p m is) in
-    line_accepted track_rules (before_moves (p.number ∷ numbers_of pairs)) (move_in p.number) (λ (z : List ℤ). before_moves (numbers_of pairs)) m (move_line p.number m) (move_lines pairs moves ++ rest)
+    line_accepted track_rules (before_moves (p.number ∷ numbers_of pairs)) (move_in p.number) (λ (z : List ℤ). before_moves (numbers_of pairs)) m (move_line p.number m)
+    (move_lines pairs moves ++ rest)
     (move_taken p.number (numbers_of pairs)) short (move_spells p m three is) later
 
 -- the lines of a tail with vectors, and the last one
@@ -138,7 +139,8 @@ vectors_accepted f arcs pairs h moves best top fixed are whole =
 declined_accepted : (f : Frame) (arcs : List Arc) (numbers line : List ℕ) (t : TrackTail) → length line ≤ 4096 → begins (codes "z1") line ≡ false → declined_in f.budget line ≡ Ok t
     → AreAccepted track_rules (Tail f arcs numbers) (line ∷ [])
 declined_accepted f arcs numbers line t short other read =
-    step track_rules (Tail f arcs numbers) End line [] short (admits_declined f arcs numbers line other ∙ ap (λ (r : Result TrackTail Flaw). and_then r (λ t. Ok End)) read) (end_accepted track_rules End refl)
+    step track_rules (Tail f arcs numbers) End line [] short (admits_declined f arcs numbers line other ∙ ap (λ (r : Result TrackTail Flaw). and_then r (λ t. Ok End)) read)
+    (end_accepted track_rules End refl)
 
 tail_accepted : (f : Frame) (arcs : List Arc) (pairs : List PairRows) (t : TrackTail) → f.budget ≤ 100_000_000 → IsTrackTailOf f.ss arcs pairs f.budget t → IsWholeTrackTail t
     → AreAccepted track_rules (Tail f arcs (numbers_of pairs)) (track_tail_lines pairs t)
@@ -189,7 +191,8 @@ track_accepted c whole =
     (letters_length Two t.signals) (letters_spell Two t.signals (λ e. absurd (not_one e))) c3 in
     let c5 = line_accepted track_rules (Base budget) (vector_in (codes "base") 3 COORDINATES) (λ (p : List ℤ). Letters budget) t.base (vector_line (codes "base") t.base) _ (base_taken budget)
     (point_length (codes "base") t.base (lit≤ tt) whole.track.base t.base_in) (point_spells (codes "base") t.base whole.track.base t.base_in) c4 in
-    let c6 = line_accepted track_rules (SystemLine budget) system_in (λ (s : ℕ). Base budget) t.system (system_line t.system) _ (system_taken budget) (lit≤ tt) (system_spells t.system t.system_is) c5 in
+    let c6 = line_accepted track_rules (SystemLine budget) system_in (λ (s : ℕ). Base budget) t.system (system_line t.system) _ (system_taken budget) (lit≤ tt)
+    (system_spells t.system t.system_is) c5 in
     let few_visits : budget < 2 ^ 126 = omega (arith, c.budget_to) in
     let c7 = line_accepted track_rules Budget (count_in (codes "budget") 1 100_000_000) (λ (k : ℕ). SystemLine k) budget (count_line (codes "budget") budget) _ budget_taken
     (line_length (codes "budget") (pos budget ∷ []) (lit≤ tt) (lit≤ tt) (few_visits, tt)) (count_spells (codes "budget") 1 100_000_000 budget c.budget_from c.budget_to (omega arith)) c6 in

@@ -44,7 +44,8 @@ letters_taken budget = record { admits = λ line. refl; ends = refl }
 pub arc_count_taken : (f : Frame) → TakesLine track_rules (ArcCount f) (count_in (codes "arcs") 2 200) (λ n. before_arcs f n [])
 arc_count_taken f = record { admits = λ line. refl; ends = refl }
 
-arc_taken : (f : Frame) (left : ℕ) (arcs : List Arc) → 1 ≤ left → TakesLine track_rules (before_arcs f left arcs) (arc_in Two f.ss (free_count arcs) left) (λ a. before_arcs f (left - 1) (arcs ++ a ∷ []))
+arc_taken : (f : Frame) (left : ℕ) (arcs : List Arc) → 1 ≤ left
+    → TakesLine track_rules (before_arcs f left arcs) (arc_in Two f.ss (free_count arcs) left) (λ a. before_arcs f (left - 1) (arcs ++ a ∷ []))
 arc_taken f zero arcs some = absurd (omega arith)
 arc_taken f (suc left) arcs some = record { admits = λ line. refl; ends = refl }
 

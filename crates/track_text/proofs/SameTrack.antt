@@ -90,7 +90,8 @@ pairs_same l2 l5 arcs arcs' (p ∷ pairs) (q ∷ pairs') (x ∷ points) (y ∷ p
     let rows = rows_same l2 l5 arcs arcs' p.number q.number p.rows q.rows mine theirs few few' (All-head (HasItsArcs arcs) p pairs h.has) (All-head (HasItsArcs arcs') q pairs' h'.has)
     (All-head IsWholePair p pairs h.whole) (All-head IsWholePair q pairs' h'.whole) (All-head (HasUsedRows ss) p pairs h.used) (All-head (HasUsedRows ss) q pairs' h'.used) head.3 ats.1 in
     let one = pair_same p q head.0 head.1 head.2 rows.0 in
-    let more = pairs_same l2 l5 arcs arcs' pairs pairs' points points' rest rest' few few' (placed_tail ss arcs p pairs x points h) (placed_tail ss arcs' q pairs' y points' h') (omega (arith, l)) rows.1 in
+    let more = pairs_same l2 l5 arcs arcs' pairs pairs' points points' rest rest' few few' (placed_tail ss arcs p pairs x points h) (placed_tail ss arcs' q pairs' y points' h')
+    (omega (arith, l)) rows.1 in
     ((λ i. one i ∷ more.0 i), (λ i. point i ∷ more.1 i), more.2)
 
 -- ---- moves
@@ -121,7 +122,8 @@ moves_same (p ∷ pairs) (m ∷ moves) (n ∷ moves') rest rest' h h' e =
     let three' = All-head (λ (z : List ℤ). length z ≡ 3) n moves' h'.triples in
     let four : length (pos p.number ∷ m) ≡ 4 = omega (arith, three) in
     let four' : length (pos p.number ∷ n) ≡ 4 = omega (arith, three') in
-    let all = numbers_same (codes "move") 4 (pos p.number ∷ m) (pos p.number ∷ n) four four' (move_small p m (All-head IsMove m moves h.are)) (move_small p n (All-head IsMove n moves' h'.are)) lines.0 in
+    let all = numbers_same (codes "move") 4 (pos p.number ∷ m) (pos p.number ∷ n) four four' (move_small p m (All-head IsMove m moves h.are))
+    (move_small p n (All-head IsMove n moves' h'.are)) lines.0 in
     let one = (cons_same (pos p.number) (pos p.number) m n all).1 in
     let more = moves_same pairs moves moves' rest rest' (moves_tail p pairs m moves h) (moves_tail p pairs n moves' h') lines.1 in
     ((λ i. one i ∷ more.0 i), more.1)

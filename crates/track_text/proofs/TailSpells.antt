@@ -31,7 +31,8 @@ move_spells p m three is =
     let small : AreSmall zs = move_small p m is in
     let four : length (pos number ∷ m) ≡ 4 = omega (arith, three) in
     let ns = placed (1 + 4) zs in
-    let written : numbers_behind (codes "move") 4 (move_line number m) ≡ Ok ns = subst (λ (k : ℕ). numbers_behind (codes "move") k (move_line number m) ≡ Ok ns) four (line_written (codes "move") zs small) in
+    let written : numbers_behind (codes "move") 4 (move_line number m) ≡ Ok ns =
+    subst (λ (k : ℕ). numbers_behind (codes "move") k (move_line number m) ≡ Ok ns) four (line_written (codes "move") zs small) in
     let have : HaveValues ns zs = placed_values (1 + 4) zs small in
     let first : natural_within number number (number_at ns 0) ≡ Ok number = natural_at number number number (number_at ns 0) have.0 (omega arith) (omega arith) in
     let all = split_values (drop 1 ns) m [] (subst (λ (l : List ℤ). HaveValues (drop 1 ns) l) (sym (append-nil m)) have.1) in

@@ -1,4 +1,4 @@
-use Rattle.std.proofs.Common.{◌≡◌, ℕ, ◌^◌, ◌≤◌, List, ℤ, pos, ◌*ℤ◌, ◌≤ℤ◌, length, unsigned_abs, to_z, of_z, arith, sym, ap, ap₂, ◌∙◌, refl, subst}
+use Rattle.std.proofs.Common.{◌≡◌, ℕ, ◌^◌, ◌≤◌, List, ℤ, pos, ◌*ℤ◌, ◌≤ℤ◌, unsigned_abs, to_z, of_z, arith, sym, ap, ap₂, ◌∙◌, refl, subst}
 use Rattle.std.proofs.lemmas.Bool.{false≢true}
 use Rattle.std.proofs.lemmas.Int.{ints}
 use Rattle.std.specs.Int.{w128}
@@ -9,7 +9,6 @@ use Rattle.fix_decide.specs.UpperSums.{upper_sum, top}
 use Rattle.fix_decide.specs.Bounds.{StaysAtMost}
 use Rattle.fix_decide.specs.Widths.{AreWide}
 use Rattle.obs_rows.specs.Signals.{fine_signals}
-use Rattle.obs_rows.specs.Integers.{integer_count}
 use Rattle.form_tables.proofs.Words.{as_w128}
 use Rattle.fix_decide.proofs.Words.{small_w128}
 use Rattle.fix_decide.proofs.UpperLaws.{top_stays_at_most}

@@ -1,0 +1,98 @@
+-- The rows of a track and the tail of a text have one verdict, but where a search gave up.
+use Rattle.std.proofs.Common.{◌≡◌, ◌⊎◌, inl, inr, ℕ, ℤ, List, refl, sym, ap₂, ap, ◌∙◌, subst}
+use Rattle.obs_rows.specs.declared.arcs.Arc.{Arc}
+use Rattle.obs_rows.specs.declared.pair_rows.PairRows.{PairRows}
+use Rattle.integer_form.specs.declared.faults.Place.TheVariants.{Search}
+use Rattle.int_search.specs.declared.answer.TwoBest.{TwoBest}
+use Rattle.fix_decide.specs.Decisions.{first_of}
+use Rattle.cert_data.specs.declared.verdicts.Verdict.{Verdict}
+use Rattle.cert_data.specs.declared.verdicts.Verdict.TheVariants.{Certified, Not}
+use Rattle.cert_data.specs.declared.verdicts.Cause.TheVariants as cause
+use Rattle.cert_check.specs.Verdicts.{IsGivenUp, IsSameVerdict}
+use Rattle.cert_check.specs.Decided.{AreSameBest}
+use Rattle.track_data.specs.declared.tails.TrackTail.{TrackTail}
+use Rattle.track_data.specs.declared.tails.TrackTail.TheVariants.{Fixed, Unseparated, Weak, Overwidth, Spent}
+use Rattle.track_sum.specs.Decided.{IsStrictlyBest}
+use Rattle.track_form.specs.Decided.{AreSameNumbers, IsSameTail, HasGivenUp, IsTrackBestWhereFixed}
+use Rattle.track_form.specs.Verdicts.{IsSaidOf, IsTrackVerdict, IsTrackBestIn}
+use Rattle.track_form.proofs.OneDecision.{one_decision}
+
+-- ---- the same numbers
+same_numbers_on : (h k j : ℕ) (ms ns os : List (List ℤ)) (b c d : TwoBest) (t u v : ℤ) → AreSameNumbers h k ms ns b c t u → AreSameNumbers k j ns os c d u v → AreSameNumbers h j ms os b d t v
+same_numbers_on h k j ms ns os b c d t u v a e = record { h_is = a.h_is ∙ e.h_is; moves_are = a.moves_are ∙ e.moves_are; best_is = both a.best_is e.best_is; top_is = a.top_is ∙ e.top_is }
+  where
+    both : AreSameBest b c → AreSameBest c d → AreSameBest b d
+    both x y = record { first_is = x.first_is ∙ y.first_is; second_is = x.second_is ∙ y.second_is; p1_is = x.p1_is ∙ y.p1_is; p2_is = x.p2_is ∙ y.p2_is }
+
+same_numbers_back : (h k : ℕ) (ms ns : List (List ℤ)) (b c : TwoBest) (t u : ℤ) → AreSameNumbers h k ms ns b c t u → AreSameNumbers k h ns ms c b u t
+same_numbers_back h k ms ns b c t u a = record { h_is = sym a.h_is; moves_are = sym a.moves_are; best_is = back a.best_is; top_is = sym a.top_is }
+  where
+    back : AreSameBest b c → AreSameBest c b
+    back x = record { first_is = sym x.first_is; second_is = sym x.second_is; p1_is = sym x.p1_is; p2_is = sym x.p2_is }
+
+-- a text that says the numbers of one says those of the other
+says_too : (t : TrackTail) (h k : ℕ) (ms ns : List (List ℤ)) (b c : TwoBest) (x y : ℤ) → AreSameNumbers h k ms ns b c x y → IsSameTail t (Fixed h ms b x) → IsSameTail t (Fixed k ns c y)
+says_too (Fixed j os d v) h k ms ns b c x y same said = same_numbers_on j h k os ms ns d b c v x y said same
+says_too (Unseparated j os d v) h k ms ns b c x y same said = absurd said
+says_too (Weak column pivot) h k ms ns b c x y same said = absurd said
+says_too (Overwidth place) h k ms ns b c x y same said = absurd said
+says_too (Spent budget) h k ms ns b c x y same said = absurd said
+
+-- ---- what is said of a fix
+data SaidOfFix (t : TrackTail) (h : ℕ) (ms : List (List ℤ)) (b : TwoBest) (x : ℤ) (v : Verdict) : Type 0 where
+  certified : IsSameTail t (Fixed h ms b x) → v ≡ Certified → SaidOfFix t h ms b x v
+  unlike : (IsSameTail t (Fixed h ms b x) → ⊥) → v ≡ Not cause.Tail → SaidOfFix t h ms b x v
+
+said_of_fix : (t : TrackTail) (h : ℕ) (ms : List (List ℤ)) (b : TwoBest) (x : ℤ) (v : Verdict) → IsSaidOf (Fixed h ms b x) t v → SaidOfFix t h ms b x v
+said_of_fix t h ms b x Certified is = certified is refl
+said_of_fix t h ms b x (Not (cause.Weak column pivot)) is = absurd is
+said_of_fix t h ms b x (Not (cause.Overwidth place)) is = absurd is
+said_of_fix t h ms b x (Not cause.Spent) is = absurd is
+said_of_fix t h ms b x (Not cause.Unseparated) is = absurd is
+said_of_fix t h ms b x (Not cause.Tail) is = unlike is refl
+
+one_said : (t : TrackTail) (h k : ℕ) (ms ns : List (List ℤ)) (b c : TwoBest) (x y : ℤ) (v w : Verdict) → AreSameNumbers h k ms ns b c x y → SaidOfFix t h ms b x v → SaidOfFix t k ns c y w → v ≡ w
+one_said t h k ms ns b c x y v w same (certified said is) (certified said_too is_too) = is ∙ sym is_too
+one_said t h k ms ns b c x y v w same (certified said is) (unlike other is_too) = absurd (other (says_too t h k ms ns b c x y same said))
+one_said t h k ms ns b c x y v w same (unlike other is) (certified said is_too) = absurd (other (says_too t k h ns ms c b y x (same_numbers_back h k ms ns b c x y same) said))
+one_said t h k ms ns b c x y v w same (unlike other is) (unlike other_too is_too) = is ∙ sym is_too
+
+-- ---- of one decision one verdict
+same_said : (d e t : TrackTail) (v w : Verdict) → IsSameTail d e → IsSaidOf d t v → IsSaidOf e t w → v ≡ w
+same_said (Fixed h ms b x) (Fixed k ns c y) t v w same a z = one_said t h k ms ns b c x y v w same (said_of_fix t h ms b x v a) (said_of_fix t k ns c y w z)
+same_said (Unseparated h ms b x) (Unseparated k ns c y) t v w same a z = a ∙ sym z
+same_said (Weak column pivot) (Weak other below) t v w same a z = a ∙ ap₂ (λ (n : ℕ) (p : ℤ). Not (cause.Weak n p)) same.0 same.1 ∙ sym z
+same_said (Overwidth place) (Overwidth other) t v w same a z = a ∙ ap (λ p. Not (cause.Overwidth p)) same ∙ sym z
+same_said (Spent budget) (Spent other) t v w same a z = a ∙ sym z
+same_said _ _ t v w same a z = absurd same
+
+given_up : (d t : TrackTail) (v : Verdict) → HasGivenUp d → IsSaidOf d t v → IsGivenUp v
+given_up (Fixed h ms b x) t v up is = absurd up
+given_up (Unseparated h ms b x) t v up is = absurd up
+given_up (Weak column pivot) t v up is = absurd up
+given_up (Overwidth Search) t v up is = subst IsGivenUp (sym is) tt
+given_up (Overwidth _) t v up is = absurd up
+given_up (Spent budget) t v up is = subst IsGivenUp (sym is) tt
+
+pub one_verdict : (arcs : List Arc) (ss : List ℕ) (pairs : List PairRows) (ratio budget : ℕ) (t : TrackTail) (v w : Verdict) → IsTrackVerdict arcs ss pairs ratio budget t v →
+    IsTrackVerdict arcs ss pairs ratio budget t w → IsSameVerdict v w
+one_verdict arcs ss pairs ratio budget t v w a b = by_decision (one_decision arcs ss pairs ratio budget a.decided b.decided a.decision b.decision)
+  where
+    by_decision : IsSameTail a.decided b.decided ⊎ (HasGivenUp a.decided ⊎ HasGivenUp b.decided) → IsSameVerdict v w
+    by_decision (inl same) = inl (same_said a.decided b.decided t v w same a.said b.said)
+    by_decision (inr (inl up)) = inr (inl (given_up a.decided t v up a.said))
+    by_decision (inr (inr up)) = inr (inr (given_up b.decided t w up b.said))
+
+-- ---- what is certified
+-- what is strictly best is so in a text that says it
+pub best_said : (arcs : List Arc) (ss : List ℕ) (pairs : List PairRows) (d t : TrackTail) → IsTrackBestWhereFixed arcs ss pairs d → IsSaidOf d t Certified → IsTrackBestIn arcs ss pairs t
+best_said arcs ss pairs (Fixed h ms b x) (Fixed k ns c y) best said =
+    subst (λ (z : List ℤ). IsStrictlyBest arcs ss pairs z ns) (sym said.best_is.first_is) (subst (λ (moves : List (List ℤ)). IsStrictlyBest arcs ss pairs (first_of b) moves) (sym said.moves_are) best)
+best_said arcs ss pairs (Fixed h ms b x) (Unseparated k ns c y) best said = absurd said
+best_said arcs ss pairs (Fixed h ms b x) (Weak column pivot) best said = absurd said
+best_said arcs ss pairs (Fixed h ms b x) (Overwidth place) best said = absurd said
+best_said arcs ss pairs (Fixed h ms b x) (Spent budget) best said = absurd said
+best_said arcs ss pairs (Unseparated h ms b x) t best said = absurd cc
+best_said arcs ss pairs (Weak column pivot) t best said = absurd cc
+best_said arcs ss pairs (Overwidth place) t best said = absurd cc
+best_said arcs ss pairs (Spent budget) t best said = absurd cc

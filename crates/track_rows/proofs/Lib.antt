@@ -1,0 +1,7 @@
+pub mod Lists
+pub mod SameArcs
+pub mod Growth
+pub mod Marks
+pub mod Steps
+pub mod Ends
+pub mod StandsLaws

@@ -1,0 +1,111 @@
+-- The flags of the arcs that have begun.
+use Rattle.std.proofs.Common.{◌≡◌, ◌⊎◌, ◌↔◌, inl, inr, ⊎_elim, ℕ, zero, suc, ◌+◌, ◌<◌, ◌||◌, Bool, true, false, Some, List, [], ◌∷◌, ◌++◌, length, replicate, All, Any, arith, sym, ap, ◌∙◌, refl, subst}
+use Rattle.std.specs.Prelude.{slice_get}
+use Rattle.std.proofs.lemmas.Bool.{cases_eq, false≢true}
+use Rattle.std.proofs.lemmas.Option.{none-some, same_Some, slice_get_within}
+use Rattle.std.proofs.lemmas.List.Quantifiers.{Any-push}
+use Rattle.obs_rows.specs.declared.arcs.Arc.{Arc}
+use Rattle.obs_rows.specs.declared.pair_rows.PairRows.{PairRows}
+use Rattle.row_build.specs.HeldArcs.{holds_pair, IsHeld}
+use Rattle.round_steps.specs.Shifts.{AreSameArcs}
+use Rattle.track_rows.specs.Tracks.{HasRow}
+use Rattle.track_rows.specs.Walks.{AreFlags, AreMarked}
+use Rattle.track_rows.proofs.Lists.{any_more, any_in, push_get, push_before, push_last, length_push}
+use Rattle.track_rows.proofs.SameArcs.{held_in, held_back}
+
+or_cases : (b c : Bool) → (b || c) ≡ true → (b ≡ true) ⊎ (c ≡ true)
+or_cases true c e = inl refl
+or_cases false c e = inr e
+
+or_left : (b c : Bool) → b ≡ true → (b || c) ≡ true
+or_left true c e = refl
+or_left false c e = absurd (false≢true e)
+
+or_right : (b c : Bool) → c ≡ true → (b || c) ≡ true
+or_right true c e = refl
+or_right false c e = e
+
+-- the flags of the first n arcs
+pub record AreMarkedTo (n : ℕ) (begun : List Bool) (arcs : List Arc) (pair : ℕ) (flags : List Bool) : Type 0 where
+  pub count : length flags ≡ n
+  pub each : (k : ℕ) → (slice_get flags k ≡ Some true) ↔ ((k < n) × ((slice_get begun k ≡ Some true) ⊎ IsHeld arcs pair k))
+
+pub none_marked : (begun : List Bool) (arcs : List Arc) (pair : ℕ) → AreMarkedTo 0 begun arcs pair []
+none_marked begun arcs pair = record { count = refl; each = λ k. (λ e. absurd (none-some true e), λ h. absurd (omega (arith, h.0))) }
+
+pub more_marked : (n : ℕ) (begun : List Bool) (arcs : List Arc) (pair : ℕ) (flags more : List Bool) (a : Arc) (b m : Bool) → AreMarkedTo n begun arcs pair flags →
+    slice_get arcs n ≡ Some a → slice_get begun n ≡ Some b → m ≡ (b || holds_pair a pair) → more ≡ flags ++ m ∷ [] → AreMarkedTo (n + 1) begun arcs pair more
+more_marked n begun arcs pair flags more a b m h is_a is_b m_is e = subst (AreMarkedTo (n + 1) begun arcs pair) (sym e) (record {
+  count = long (length flags) (length (flags ++ m ∷ [])) (length_push flags m) h.count;
+  each = λ k. (λ p. forth k p, λ p. back k p.0 p.1);
+})
+  where
+    long : (x y : ℕ) → y ≡ suc x → x ≡ n → y ≡ n + 1
+    long x y p q = omega (arith, p, q)
+
+    wider : (k : ℕ) → k < n → k < n + 1
+    wider k l = omega (arith, l)
+
+    own : (k : ℕ) → k ≡ n → k < n + 1
+    own k l = omega (arith, l)
+
+    less : (k : ℕ) → k < n + 1 → (k ≡ n → ⊥) → k < n
+    less k l d = omega (arith, l, d)
+
+    held : (k : ℕ) → k ≡ n → holds_pair a pair ≡ true → IsHeld arcs pair k
+    held k q t = record { arc = a; is = subst (λ (i : ℕ). slice_get arcs i ≡ Some a) (sym q) is_a; held = t }
+
+    forth : (k : ℕ) → slice_get (flags ++ m ∷ []) k ≡ Some true → (k < n + 1) × ((slice_get begun k ≡ Some true) ⊎ IsHeld arcs pair k)
+    forth k p = ⊎_elim
+        (λ (old : slice_get flags k ≡ Some true). let o = (h.each k).0 old in (wider k o.0, o.1))
+        (λ (new : (k ≡ length flags) × (m ≡ true)). let q : k ≡ n = new.0 ∙ h.count in (own k q, ⊎_elim
+            (λ (t : b ≡ true). inl (subst (λ (i : ℕ). slice_get begun i ≡ Some true) (sym q) (subst (λ (x : Bool). slice_get begun n ≡ Some x) t is_b)))
+            (λ (t : holds_pair a pair ≡ true). inr (held k q t))
+            (or_cases b (holds_pair a pair) (sym m_is ∙ new.1))))
+        (push_get flags m true k p)
+
+    is_marked : (k : ℕ) → k ≡ n → (slice_get begun k ≡ Some true) ⊎ IsHeld arcs pair k → m ≡ true
+    is_marked k q (inl t) = m_is ∙ or_left b (holds_pair a pair) (same_Some b true (sym is_b ∙ subst (λ (i : ℕ). slice_get begun i ≡ Some true) q t))
+    is_marked k q (inr t) = m_is ∙ or_right b (holds_pair a pair) (subst (λ (x : Arc). holds_pair x pair ≡ true) (same_Some t.arc a (sym t.is ∙ subst (λ (i : ℕ). slice_get arcs i ≡ Some a) (sym q) is_a)) t.held)
+
+    back : (k : ℕ) → k < n + 1 → (slice_get begun k ≡ Some true) ⊎ IsHeld arcs pair k → slice_get (flags ++ m ∷ []) k ≡ Some true
+    back k l p = ⊎_elim
+        (λ (q : k ≡ n). push_last flags m k (q ∙ sym h.count) ∙ ap (λ (x : Bool). Some x) (is_marked k q p))
+        (λ (d : k ≡ n → ⊥). push_before flags m true k ((h.each k).1 (less k l d, p)))
+        (cases_eq k n)
+
+pub all_marked : (n : ℕ) (begun : List Bool) (arcs : List Arc) (pair : ℕ) (flags : List Bool) → AreMarkedTo n begun arcs pair flags → length begun ≡ n → length arcs ≡ n → AreMarked begun arcs pair flags
+all_marked n begun arcs pair flags h e f = record {
+  count = h.count ∙ sym e;
+  each = λ k. (λ p. ((h.each k).0 p).1, λ p. (h.each k).1 (inside k p, p));
+}
+  where
+    inside : (k : ℕ) → (slice_get begun k ≡ Some true) ⊎ IsHeld arcs pair k → k < n
+    inside k (inl t) = subst (λ (i : ℕ). k < i) e (slice_get_within begun k true t)
+    inside k (inr t) = subst (λ (i : ℕ). k < i) f (slice_get_within arcs k t.arc t.is)
+
+-- ---- flags of a track
+no_flag : (n k : ℕ) → slice_get (replicate n false) k ≡ Some true → ⊥
+no_flag zero k e = none-some true e
+no_flag (suc n) zero e = false≢true (same_Some false true e)
+no_flag (suc n) (suc k) e = no_flag n k e
+
+pub no_flags : (kept : List Arc) (begun : List Bool) → begun ≡ replicate (length kept) false → length begun ≡ length kept → AreFlags kept [] begun
+no_flags kept begun e l = record {
+  count = l;
+  each = λ k. (λ p. absurd (no_flag (length kept) k (subst (λ (xs : List Bool). slice_get xs k ≡ Some true) e p)), λ (some : HasRow kept [] k). absurd (omega (arith, some.2)));
+}
+
+pub flags_more : (kept arcs : List Arc) (tracked : List PairRows) (new : PairRows) (begun flags : List Bool) → AreSameArcs kept arcs → AreFlags kept tracked begun → AreMarked begun arcs new.number flags → AreFlags kept (tracked ++ new ∷ []) flags
+flags_more kept arcs tracked new begun flags same f m = record {
+  count = m.count ∙ f.count;
+  each = λ k. (λ p. forth k ((m.each k).0 p), λ p. (m.each k).1 (back k p));
+}
+  where
+    forth : (k : ℕ) → (slice_get begun k ≡ Some true) ⊎ IsHeld arcs new.number k → HasRow kept (tracked ++ new ∷ []) k
+    forth k (inl t) = any_more (λ (p : PairRows). IsHeld kept p.number k) tracked new ((f.each k).0 t)
+    forth k (inr t) = Any-push (λ (p : PairRows). IsHeld kept p.number k) tracked new (held_in kept arcs new.number k t.arc same t.is t.held)
+
+    back : (k : ℕ) → HasRow kept (tracked ++ new ∷ []) k → (slice_get begun k ≡ Some true) ⊎ IsHeld arcs new.number k
+    back k some = ⊎_elim (λ (old : HasRow kept tracked k). inl ((f.each k).1 old)) (λ (h : IsHeld kept new.number k). inr (held_in arcs kept new.number k h.arc (sym same) h.is h.held))
+        (any_in (λ (p : PairRows). IsHeld kept p.number k) tracked new some)

@@ -1,0 +1,66 @@
+-- Arcs that are the same but for their shifts hold the same pairs.
+use Rattle.std.proofs.Common.{◌≡◌, ◌<◌, ◌≤◌, ℕ, zero, suc, true, Some, List, [], ◌∷◌, map, get_or, sym, ap, ◌∙◌, refl, subst}
+use Rattle.std.specs.Prelude.{slice_get}
+use Rattle.std.proofs.lemmas.Option.{same_Some}
+use Rattle.obs_rows.specs.declared.arcs.Arc.{Arc}
+use Rattle.obs_rows.specs.declared.rows.Row.{Row}
+use Rattle.obs_rows.specs.declared.pair_rows.PairRows.{PairRows}
+use Rattle.obs_rows.specs.Arcs.{IsOfPair}
+use Rattle.obs_rows.specs.Pairs.{HasItsArcs}
+use Rattle.row_build.specs.HeldArcs.{holds_pair, IsHeld, AgreeAt}
+use Rattle.round_steps.specs.Shifts.{AreSameArcs, without_shifts}
+use Rattle.round_steps.proofs.ShiftLaws.{length_same}
+use Rattle.session.proofs.CutLaws.{Like, like}
+use Rattle.track_rows.specs.Tracks.{unshifted}
+
+same_holds : (a b : Arc) (pair : ℕ) → without_shifts a ≡ without_shifts b → holds_pair a pair ≡ holds_pair b pair
+same_holds a b pair e = ap (λ (x : Arc). holds_pair x pair) e
+
+-- an arc that holds the pair holds it in the other list
+pub held_in : (kept arcs : List Arc) (pair k : ℕ) (b : Arc) → AreSameArcs kept arcs → slice_get arcs k ≡ Some b → holds_pair b pair ≡ true → IsHeld kept pair k
+held_in kept arcs pair k b same is held =
+    let l : Like kept k b = like arcs kept (sym same) k b is in
+    record { arc = l.arc; is = l.arc_is; held = same_holds l.arc b pair l.same ∙ held }
+
+pub held_back : (kept arcs : List Arc) (pair k : ℕ) (b : Arc) → AreSameArcs kept arcs → slice_get arcs k ≡ Some b → IsHeld kept pair k → holds_pair b pair ≡ true
+held_back kept arcs pair k b same is h =
+    let l : Like kept k b = like arcs kept (sym same) k b is in
+    let e : h.arc ≡ l.arc = same_Some h.arc l.arc (sym h.is ∙ l.arc_is) in
+    sym (same_holds l.arc b pair l.same) ∙ subst (λ (x : Arc). holds_pair x pair ≡ true) e h.held
+
+-- where the arcs that hold the pair are the same in both, the lists agree at it
+pub agree_at : (pair : ℕ) (xs ys : List Arc) → AreSameArcs xs ys → ((k : ℕ) (a b : Arc) → slice_get xs k ≡ Some a → slice_get ys k ≡ Some b → holds_pair a pair ≡ true → b ≡ a) → AgreeAt pair xs ys
+agree_at pair [] [] e f = tt
+agree_at pair [] (y ∷ ys) e f = absurd cc
+agree_at pair (x ∷ xs) [] e f = absurd cc
+agree_at pair (x ∷ xs) (y ∷ ys) e f =
+    (
+      (sym (same_holds y x pair (heads (without_shifts y) (without_shifts x) (map without_shifts ys) (map without_shifts xs) e)), λ h. sym (f 0 x y refl refl h)),
+      agree_at pair xs ys (tails (without_shifts y) (without_shifts x) (map without_shifts ys) (map without_shifts xs) e) (λ k a b p q h. f (suc k) a b p q h),
+    )
+  where
+    heads : (p q : Arc) (ps qs : List Arc) → p ∷ ps ≡ q ∷ qs → p ≡ q
+    heads p q ps qs e = cc
+
+    tails : (p q : Arc) (ps qs : List Arc) → p ∷ ps ≡ q ∷ qs → ps ≡ qs
+    tails p q ps qs e = cc
+
+-- the arcs without shifts are the same
+pub unshifted_same : (arcs : List Arc) → AreSameArcs arcs (map unshifted arcs)
+unshifted_same [] = refl
+unshifted_same (a ∷ arcs) = ap (λ (xs : List Arc). without_shifts a ∷ xs) (unshifted_same arcs)
+
+-- ---- rows of these arcs
+row_of_same : (arcs others : List Arc) (number : ℕ) (r : Row) → AreSameArcs arcs others → IsOfPair arcs number r → IsOfPair others number r
+row_of_same arcs others number r same h = record {
+  arc_in = subst (λ (n : ℕ). r.arc < n) (sym (length_same arcs others same)) h.arc_in;
+  from_first = λ b is.
+      let l : Like arcs r.arc b = like others arcs (sym same) r.arc b is in
+      subst (λ (n : ℕ). n ≤ number) (ap (λ (x : Arc). x.first) l.same) (h.from_first l.arc l.arc_is);
+  to_last = λ b is.
+      let l : Like arcs r.arc b = like others arcs (sym same) r.arc b is in
+      subst (λ (n : ℕ). number ≤ n) (ap (λ (x : Arc). x.last) l.same) (h.to_last l.arc l.arc_is);
+}
+
+pub its_arcs_same : (arcs others : List Arc) (p : PairRows) → AreSameArcs arcs others → HasItsArcs arcs p → HasItsArcs others p
+its_arcs_same arcs others p same h = λ k d i. row_of_same arcs others p.number (get_or p.rows k d) same (h k d i)

@@ -1,0 +1,3 @@
+pub mod Tracks
+pub mod Stands
+pub mod Walks

@@ -1,0 +1,123 @@
+//! The walk over the pairs, one after another.
+ghost use Rattle.std.specs.Prelude.{◌≡◌, ◌+◌, ◌<◌, ◌||◌, length, IfOk, OnOk};
+ghost use Rattle.obs_rows.specs.Arcs.{AreArcs};
+ghost use Rattle.row_build.specs.HeldArcs.{holds_pair};
+ghost use Rattle.track_trial.specs.PairRules.{TrackSetting, setting_of, AreUnshifted, AreReady};
+ghost use Rattle.track_trial.specs.Trials.{IsTrialOf, Fits, flagged};
+ghost use Rattle.track_rows.specs.Walks.{AreMarked, IsWalk};
+
+use obs_rows::{Arc, PairRows};
+use std::alloc::{AllocError, Global};
+use track_data::{Lost, LostCause};
+use track_trial::{TrackFiles, Trial, try_pair};
+
+/// The track of the pairs so far, and those of them that it hasn't got.
+#[derive(Debug, Drop)]
+pub(crate) struct Walk {
+    /// The arcs with the shifts that they have taken.
+    pub arcs: Vec<Arc>,
+    /// Which arcs have a row in a tracked pair.
+    pub begun: Vec<bool>,
+    /// The point of each tracked pair.
+    pub points: Vec<[i64; 3]>,
+    pub pairs: Vec<PairRows>,
+    pub lost: Vec<Lost>,
+}
+
+/// Whether an arc has begun behind this pair, which is tracked.
+fn has_begun(before: bool, arc: &Arc, pair: u32) -> bool
+    ensures { result ≡ (before || holds_pair arc.now pair) }
+{
+    before || (arc.first <= pair && pair <= arc.last)
+}
+
+/// The flags of the arcs that have begun, with those of the arcs that hold the pair.
+fn marked(
+    alloc: Global,
+    begun: &[bool],
+    arcs: &[Arc],
+    pair: u32,
+) -> Result<Vec<bool>, AllocError>
+    requires { length begun.now ≡ length arcs.now }
+    ensures { IfOk result (λ flags. AreMarked begun.now arcs.now pair flags.items) }
+{
+    let mut flags = Vec::new(alloc);
+    for k in 0..arcs.len() {
+        flags.push(has_begun(begun[k], &arcs[k], pair))?;
+    }
+    Ok(flags)
+}
+
+impl Walk {
+    /// Before the first pair, over arcs without shifts.
+    fn begin(alloc: Global, kept: &[Arc]) -> Result<Walk, AllocError>
+        requires arcs { AreArcs kept.now }
+        requires unshifted { AreUnshifted kept.now }
+        ensures { IfOk result (λ w. (t : TrackSetting) → t.kept ≡ kept.now → IsWalk t 0 w) }
+    {
+        Ok(Walk {
+            arcs: Vec::from_slice(alloc, kept)?,
+            begun: vec![in alloc; false; kept.len()]?,
+            points: Vec::new(alloc),
+            pairs: Vec::new(alloc),
+            lost: Vec::new(alloc),
+        })
+    }
+
+    /// One more pair, which is lost.
+    fn lose(&mut self, pair: u32, cause: LostCause) -> Result<(), AllocError>
+        requires { pair < 3600 }
+        ensures { OnOk result ((t : TrackSetting) → IsWalk t pair self.old →
+            IsTrialOf t self.old.arcs.items (flagged self.old.begun.items) pair (Trial.Lost cause) → IsWalk t (pair + 1) self.new) }
+    {
+        self.lost.push(Lost { pair, cause })?;
+        Ok(())
+    }
+
+    /// One more pair, which is tracked, with the arcs behind it.
+    fn track(
+        &mut self,
+        alloc: Global,
+        pair: u32,
+        point: [i64; 3],
+        rows: PairRows,
+        arcs: Vec<Arc>,
+    ) -> Result<(), AllocError>
+        requires { length self.old.begun.items ≡ length arcs.items }
+        ensures { OnOk result ((t : TrackSetting) → IsWalk t pair self.old →
+            IsTrialOf t self.old.arcs.items (flagged self.old.begun.items) pair (Trial.Tracked point rows arcs) → Fits t.signals (Trial.Tracked point rows arcs) → IsWalk t (pair + 1) self.new) }
+    {
+        let begun = marked(alloc, self.begun.as_slice(), arcs.as_slice(), pair)?;
+        self.arcs = arcs;
+        self.begun = begun;
+        self.points.push(point)?;
+        self.pairs.push(rows)?;
+        Ok(())
+    }
+
+    /// One more pair, which is tried.
+    fn step(&mut self, alloc: Global, files: &TrackFiles<'_>, pair: u32) -> Result<(), AllocError>
+        requires ready { AreReady files.now }
+        requires pair { pair < length files.now.screened.now.used }
+        requires walked { IsWalk (setting_of files.now) pair self.old }
+        ensures { OnOk result (IsWalk (setting_of files.now) (pair + 1) self.new) }
+    {
+        let arcs = self.arcs.as_slice();
+        match try_pair(alloc, files, arcs, self.begun.as_slice(), pair)? {
+            Trial::Lost(cause) => self.lose(pair, cause),
+            Trial::Tracked { point, rows, arcs } => self.track(alloc, pair, point, rows, arcs),
+        }
+    }
+}
+
+/// The track of all pairs.
+pub(crate) fn walked(alloc: Global, files: &TrackFiles<'_>) -> Result<Walk, AllocError>
+    requires { AreReady files.now }
+    ensures { IfOk result (IsWalk (setting_of files.now) (length files.now.screened.now.used)) }
+{
+    let mut walk = Walk::begin(alloc, files.kept)?;
+    for pair in 0..files.screened.used.len() {
+        walk.step(alloc, files, pair as u32)?;
+    }
+    Ok(walk)
+}
