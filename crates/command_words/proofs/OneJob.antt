@@ -184,7 +184,8 @@ one_of c p g (job.Zero rows) (job.Residuals cert') first second = absurd (omega 
 one_of c p g (job.Zero rows) (job.Migrate cert') first second = absurd (omega (arith, one_mark c p g (job.Zero rows) (job.Migrate cert') first second))
 one_of c p g (job.Zero rows) (job.Fix base' rover' nav' options') first second = absurd (omega (arith, one_mark c p g (job.Zero rows) (job.Fix base' rover' nav' options') first second))
 one_of c p g (job.Zero rows) (job.Arcs base' rover' nav' options') first second = absurd (omega (arith, one_mark c p g (job.Zero rows) (job.Arcs base' rover' nav' options') first second))
-one_of c p g (job.Zero rows) (job.Sim part' seed' epochs' sats' bands' system') first second = absurd (omega (arith, one_mark c p g (job.Zero rows) (job.Sim part' seed' epochs' sats' bands' system') first second))
+one_of c p g (job.Zero rows) (job.Sim part' seed' epochs' sats' bands' system') first second =
+    absurd (omega (arith, one_mark c p g (job.Zero rows) (job.Sim part' seed' epochs' sats' bands' system') first second))
 one_of c p g (job.Zero rows) (job.Track base' rover' nav' options') first second = absurd (omega (arith, one_mark c p g (job.Zero rows) (job.Track base' rover' nav' options') first second))
 one_of c p g (job.Zero rows) (job.CheckTrack cert') first second = absurd (omega (arith, one_mark c p g (job.Zero rows) (job.CheckTrack cert') first second))
 one_of c p g (job.List obs) (job.Zero rows') first second = absurd (omega (arith, one_mark c p g (job.List obs) (job.Zero rows') first second))
@@ -194,7 +195,8 @@ one_of c p g (job.List obs) (job.Residuals cert') first second = absurd (omega (
 one_of c p g (job.List obs) (job.Migrate cert') first second = absurd (omega (arith, one_mark c p g (job.List obs) (job.Migrate cert') first second))
 one_of c p g (job.List obs) (job.Fix base' rover' nav' options') first second = absurd (omega (arith, one_mark c p g (job.List obs) (job.Fix base' rover' nav' options') first second))
 one_of c p g (job.List obs) (job.Arcs base' rover' nav' options') first second = absurd (omega (arith, one_mark c p g (job.List obs) (job.Arcs base' rover' nav' options') first second))
-one_of c p g (job.List obs) (job.Sim part' seed' epochs' sats' bands' system') first second = absurd (omega (arith, one_mark c p g (job.List obs) (job.Sim part' seed' epochs' sats' bands' system') first second))
+one_of c p g (job.List obs) (job.Sim part' seed' epochs' sats' bands' system') first second =
+    absurd (omega (arith, one_mark c p g (job.List obs) (job.Sim part' seed' epochs' sats' bands' system') first second))
 one_of c p g (job.List obs) (job.Track base' rover' nav' options') first second = absurd (omega (arith, one_mark c p g (job.List obs) (job.Track base' rover' nav' options') first second))
 one_of c p g (job.List obs) (job.CheckTrack cert') first second = absurd (omega (arith, one_mark c p g (job.List obs) (job.CheckTrack cert') first second))
 one_of c p g (job.Orbit nav system sat tick) (job.Zero rows') first second = absurd (omega (arith, one_mark c p g (job.Orbit nav system sat tick) (job.Zero rows') first second))
@@ -202,10 +204,14 @@ one_of c p g (job.Orbit nav system sat tick) (job.List obs') first second = absu
 one_of c p g (job.Orbit nav system sat tick) (job.Check cert') first second = absurd (omega (arith, one_mark c p g (job.Orbit nav system sat tick) (job.Check cert') first second))
 one_of c p g (job.Orbit nav system sat tick) (job.Residuals cert') first second = absurd (omega (arith, one_mark c p g (job.Orbit nav system sat tick) (job.Residuals cert') first second))
 one_of c p g (job.Orbit nav system sat tick) (job.Migrate cert') first second = absurd (omega (arith, one_mark c p g (job.Orbit nav system sat tick) (job.Migrate cert') first second))
-one_of c p g (job.Orbit nav system sat tick) (job.Fix base' rover' nav' options') first second = absurd (omega (arith, one_mark c p g (job.Orbit nav system sat tick) (job.Fix base' rover' nav' options') first second))
-one_of c p g (job.Orbit nav system sat tick) (job.Arcs base' rover' nav' options') first second = absurd (omega (arith, one_mark c p g (job.Orbit nav system sat tick) (job.Arcs base' rover' nav' options') first second))
-one_of c p g (job.Orbit nav system sat tick) (job.Sim part' seed' epochs' sats' bands' system') first second = absurd (omega (arith, one_mark c p g (job.Orbit nav system sat tick) (job.Sim part' seed' epochs' sats' bands' system') first second))
-one_of c p g (job.Orbit nav system sat tick) (job.Track base' rover' nav' options') first second = absurd (omega (arith, one_mark c p g (job.Orbit nav system sat tick) (job.Track base' rover' nav' options') first second))
+one_of c p g (job.Orbit nav system sat tick) (job.Fix base' rover' nav' options') first second =
+    absurd (omega (arith, one_mark c p g (job.Orbit nav system sat tick) (job.Fix base' rover' nav' options') first second))
+one_of c p g (job.Orbit nav system sat tick) (job.Arcs base' rover' nav' options') first second =
+    absurd (omega (arith, one_mark c p g (job.Orbit nav system sat tick) (job.Arcs base' rover' nav' options') first second))
+one_of c p g (job.Orbit nav system sat tick) (job.Sim part' seed' epochs' sats' bands' system') first second =
+    absurd (omega (arith, one_mark c p g (job.Orbit nav system sat tick) (job.Sim part' seed' epochs' sats' bands' system') first second))
+one_of c p g (job.Orbit nav system sat tick) (job.Track base' rover' nav' options') first second =
+    absurd (omega (arith, one_mark c p g (job.Orbit nav system sat tick) (job.Track base' rover' nav' options') first second))
 one_of c p g (job.Orbit nav system sat tick) (job.CheckTrack cert') first second = absurd (omega (arith, one_mark c p g (job.Orbit nav system sat tick) (job.CheckTrack cert') first second))
 one_of c p g (job.Check cert) (job.Zero rows') first second = absurd (omega (arith, one_mark c p g (job.Check cert) (job.Zero rows') first second))
 one_of c p g (job.Check cert) (job.List obs') first second = absurd (omega (arith, one_mark c p g (job.Check cert) (job.List obs') first second))
@@ -214,7 +220,8 @@ one_of c p g (job.Check cert) (job.Residuals cert') first second = absurd (omega
 one_of c p g (job.Check cert) (job.Migrate cert') first second = absurd (omega (arith, one_mark c p g (job.Check cert) (job.Migrate cert') first second))
 one_of c p g (job.Check cert) (job.Fix base' rover' nav' options') first second = absurd (omega (arith, one_mark c p g (job.Check cert) (job.Fix base' rover' nav' options') first second))
 one_of c p g (job.Check cert) (job.Arcs base' rover' nav' options') first second = absurd (omega (arith, one_mark c p g (job.Check cert) (job.Arcs base' rover' nav' options') first second))
-one_of c p g (job.Check cert) (job.Sim part' seed' epochs' sats' bands' system') first second = absurd (omega (arith, one_mark c p g (job.Check cert) (job.Sim part' seed' epochs' sats' bands' system') first second))
+one_of c p g (job.Check cert) (job.Sim part' seed' epochs' sats' bands' system') first second =
+    absurd (omega (arith, one_mark c p g (job.Check cert) (job.Sim part' seed' epochs' sats' bands' system') first second))
 one_of c p g (job.Check cert) (job.Track base' rover' nav' options') first second = absurd (omega (arith, one_mark c p g (job.Check cert) (job.Track base' rover' nav' options') first second))
 one_of c p g (job.Check cert) (job.CheckTrack cert') first second = absurd (omega (arith, one_mark c p g (job.Check cert) (job.CheckTrack cert') first second))
 one_of c p g (job.Residuals cert) (job.Zero rows') first second = absurd (omega (arith, one_mark c p g (job.Residuals cert) (job.Zero rows') first second))
@@ -224,7 +231,8 @@ one_of c p g (job.Residuals cert) (job.Check cert') first second = absurd (omega
 one_of c p g (job.Residuals cert) (job.Migrate cert') first second = absurd (omega (arith, one_mark c p g (job.Residuals cert) (job.Migrate cert') first second))
 one_of c p g (job.Residuals cert) (job.Fix base' rover' nav' options') first second = absurd (omega (arith, one_mark c p g (job.Residuals cert) (job.Fix base' rover' nav' options') first second))
 one_of c p g (job.Residuals cert) (job.Arcs base' rover' nav' options') first second = absurd (omega (arith, one_mark c p g (job.Residuals cert) (job.Arcs base' rover' nav' options') first second))
-one_of c p g (job.Residuals cert) (job.Sim part' seed' epochs' sats' bands' system') first second = absurd (omega (arith, one_mark c p g (job.Residuals cert) (job.Sim part' seed' epochs' sats' bands' system') first second))
+one_of c p g (job.Residuals cert) (job.Sim part' seed' epochs' sats' bands' system') first second =
+    absurd (omega (arith, one_mark c p g (job.Residuals cert) (job.Sim part' seed' epochs' sats' bands' system') first second))
 one_of c p g (job.Residuals cert) (job.Track base' rover' nav' options') first second = absurd (omega (arith, one_mark c p g (job.Residuals cert) (job.Track base' rover' nav' options') first second))
 one_of c p g (job.Residuals cert) (job.CheckTrack cert') first second = absurd (omega (arith, one_mark c p g (job.Residuals cert) (job.CheckTrack cert') first second))
 one_of c p g (job.Migrate cert) (job.Zero rows') first second = absurd (omega (arith, one_mark c p g (job.Migrate cert) (job.Zero rows') first second))
@@ -234,48 +242,71 @@ one_of c p g (job.Migrate cert) (job.Check cert') first second = absurd (omega (
 one_of c p g (job.Migrate cert) (job.Residuals cert') first second = absurd (omega (arith, one_mark c p g (job.Migrate cert) (job.Residuals cert') first second))
 one_of c p g (job.Migrate cert) (job.Fix base' rover' nav' options') first second = absurd (omega (arith, one_mark c p g (job.Migrate cert) (job.Fix base' rover' nav' options') first second))
 one_of c p g (job.Migrate cert) (job.Arcs base' rover' nav' options') first second = absurd (omega (arith, one_mark c p g (job.Migrate cert) (job.Arcs base' rover' nav' options') first second))
-one_of c p g (job.Migrate cert) (job.Sim part' seed' epochs' sats' bands' system') first second = absurd (omega (arith, one_mark c p g (job.Migrate cert) (job.Sim part' seed' epochs' sats' bands' system') first second))
+one_of c p g (job.Migrate cert) (job.Sim part' seed' epochs' sats' bands' system') first second =
+    absurd (omega (arith, one_mark c p g (job.Migrate cert) (job.Sim part' seed' epochs' sats' bands' system') first second))
 one_of c p g (job.Migrate cert) (job.Track base' rover' nav' options') first second = absurd (omega (arith, one_mark c p g (job.Migrate cert) (job.Track base' rover' nav' options') first second))
 one_of c p g (job.Migrate cert) (job.CheckTrack cert') first second = absurd (omega (arith, one_mark c p g (job.Migrate cert) (job.CheckTrack cert') first second))
 one_of c p g (job.Fix base rover nav options) (job.Zero rows') first second = absurd (omega (arith, one_mark c p g (job.Fix base rover nav options) (job.Zero rows') first second))
 one_of c p g (job.Fix base rover nav options) (job.List obs') first second = absurd (omega (arith, one_mark c p g (job.Fix base rover nav options) (job.List obs') first second))
-one_of c p g (job.Fix base rover nav options) (job.Orbit nav' system' sat' tick') first second = absurd (omega (arith, one_mark c p g (job.Fix base rover nav options) (job.Orbit nav' system' sat' tick') first second))
+one_of c p g (job.Fix base rover nav options) (job.Orbit nav' system' sat' tick') first second =
+    absurd (omega (arith, one_mark c p g (job.Fix base rover nav options) (job.Orbit nav' system' sat' tick') first second))
 one_of c p g (job.Fix base rover nav options) (job.Check cert') first second = absurd (omega (arith, one_mark c p g (job.Fix base rover nav options) (job.Check cert') first second))
 one_of c p g (job.Fix base rover nav options) (job.Residuals cert') first second = absurd (omega (arith, one_mark c p g (job.Fix base rover nav options) (job.Residuals cert') first second))
 one_of c p g (job.Fix base rover nav options) (job.Migrate cert') first second = absurd (omega (arith, one_mark c p g (job.Fix base rover nav options) (job.Migrate cert') first second))
-one_of c p g (job.Fix base rover nav options) (job.Arcs base' rover' nav' options') first second = absurd (omega (arith, one_mark c p g (job.Fix base rover nav options) (job.Arcs base' rover' nav' options') first second))
-one_of c p g (job.Fix base rover nav options) (job.Sim part' seed' epochs' sats' bands' system') first second = absurd (omega (arith, one_mark c p g (job.Fix base rover nav options) (job.Sim part' seed' epochs' sats' bands' system') first second))
-one_of c p g (job.Fix base rover nav options) (job.Track base' rover' nav' options') first second = absurd (omega (arith, one_mark c p g (job.Fix base rover nav options) (job.Track base' rover' nav' options') first second))
+one_of c p g (job.Fix base rover nav options) (job.Arcs base' rover' nav' options') first second =
+    absurd (omega (arith, one_mark c p g (job.Fix base rover nav options) (job.Arcs base' rover' nav' options') first second))
+one_of c p g (job.Fix base rover nav options) (job.Sim part' seed' epochs' sats' bands' system') first second =
+    absurd (omega (arith, one_mark c p g (job.Fix base rover nav options) (job.Sim part' seed' epochs' sats' bands' system') first second))
+one_of c p g (job.Fix base rover nav options) (job.Track base' rover' nav' options') first second =
+    absurd (omega (arith, one_mark c p g (job.Fix base rover nav options) (job.Track base' rover' nav' options') first second))
 one_of c p g (job.Fix base rover nav options) (job.CheckTrack cert') first second = absurd (omega (arith, one_mark c p g (job.Fix base rover nav options) (job.CheckTrack cert') first second))
 one_of c p g (job.Arcs base rover nav options) (job.Zero rows') first second = absurd (omega (arith, one_mark c p g (job.Arcs base rover nav options) (job.Zero rows') first second))
 one_of c p g (job.Arcs base rover nav options) (job.List obs') first second = absurd (omega (arith, one_mark c p g (job.Arcs base rover nav options) (job.List obs') first second))
-one_of c p g (job.Arcs base rover nav options) (job.Orbit nav' system' sat' tick') first second = absurd (omega (arith, one_mark c p g (job.Arcs base rover nav options) (job.Orbit nav' system' sat' tick') first second))
+one_of c p g (job.Arcs base rover nav options) (job.Orbit nav' system' sat' tick') first second =
+    absurd (omega (arith, one_mark c p g (job.Arcs base rover nav options) (job.Orbit nav' system' sat' tick') first second))
 one_of c p g (job.Arcs base rover nav options) (job.Check cert') first second = absurd (omega (arith, one_mark c p g (job.Arcs base rover nav options) (job.Check cert') first second))
 one_of c p g (job.Arcs base rover nav options) (job.Residuals cert') first second = absurd (omega (arith, one_mark c p g (job.Arcs base rover nav options) (job.Residuals cert') first second))
 one_of c p g (job.Arcs base rover nav options) (job.Migrate cert') first second = absurd (omega (arith, one_mark c p g (job.Arcs base rover nav options) (job.Migrate cert') first second))
-one_of c p g (job.Arcs base rover nav options) (job.Fix base' rover' nav' options') first second = absurd (omega (arith, one_mark c p g (job.Arcs base rover nav options) (job.Fix base' rover' nav' options') first second))
-one_of c p g (job.Arcs base rover nav options) (job.Sim part' seed' epochs' sats' bands' system') first second = absurd (omega (arith, one_mark c p g (job.Arcs base rover nav options) (job.Sim part' seed' epochs' sats' bands' system') first second))
-one_of c p g (job.Arcs base rover nav options) (job.Track base' rover' nav' options') first second = absurd (omega (arith, one_mark c p g (job.Arcs base rover nav options) (job.Track base' rover' nav' options') first second))
+one_of c p g (job.Arcs base rover nav options) (job.Fix base' rover' nav' options') first second =
+    absurd (omega (arith, one_mark c p g (job.Arcs base rover nav options) (job.Fix base' rover' nav' options') first second))
+one_of c p g (job.Arcs base rover nav options) (job.Sim part' seed' epochs' sats' bands' system') first second =
+    absurd (omega (arith, one_mark c p g (job.Arcs base rover nav options) (job.Sim part' seed' epochs' sats' bands' system') first second))
+one_of c p g (job.Arcs base rover nav options) (job.Track base' rover' nav' options') first second =
+    absurd (omega (arith, one_mark c p g (job.Arcs base rover nav options) (job.Track base' rover' nav' options') first second))
 one_of c p g (job.Arcs base rover nav options) (job.CheckTrack cert') first second = absurd (omega (arith, one_mark c p g (job.Arcs base rover nav options) (job.CheckTrack cert') first second))
-one_of c p g (job.Sim part seed epochs sats bands system) (job.Zero rows') first second = absurd (omega (arith, one_mark c p g (job.Sim part seed epochs sats bands system) (job.Zero rows') first second))
-one_of c p g (job.Sim part seed epochs sats bands system) (job.List obs') first second = absurd (omega (arith, one_mark c p g (job.Sim part seed epochs sats bands system) (job.List obs') first second))
-one_of c p g (job.Sim part seed epochs sats bands system) (job.Orbit nav' system' sat' tick') first second = absurd (omega (arith, one_mark c p g (job.Sim part seed epochs sats bands system) (job.Orbit nav' system' sat' tick') first second))
-one_of c p g (job.Sim part seed epochs sats bands system) (job.Check cert') first second = absurd (omega (arith, one_mark c p g (job.Sim part seed epochs sats bands system) (job.Check cert') first second))
-one_of c p g (job.Sim part seed epochs sats bands system) (job.Residuals cert') first second = absurd (omega (arith, one_mark c p g (job.Sim part seed epochs sats bands system) (job.Residuals cert') first second))
-one_of c p g (job.Sim part seed epochs sats bands system) (job.Migrate cert') first second = absurd (omega (arith, one_mark c p g (job.Sim part seed epochs sats bands system) (job.Migrate cert') first second))
-one_of c p g (job.Sim part seed epochs sats bands system) (job.Fix base' rover' nav' options') first second = absurd (omega (arith, one_mark c p g (job.Sim part seed epochs sats bands system) (job.Fix base' rover' nav' options') first second))
-one_of c p g (job.Sim part seed epochs sats bands system) (job.Arcs base' rover' nav' options') first second = absurd (omega (arith, one_mark c p g (job.Sim part seed epochs sats bands system) (job.Arcs base' rover' nav' options') first second))
-one_of c p g (job.Sim part seed epochs sats bands system) (job.Track base' rover' nav' options') first second = absurd (omega (arith, one_mark c p g (job.Sim part seed epochs sats bands system) (job.Track base' rover' nav' options') first second))
-one_of c p g (job.Sim part seed epochs sats bands system) (job.CheckTrack cert') first second = absurd (omega (arith, one_mark c p g (job.Sim part seed epochs sats bands system) (job.CheckTrack cert') first second))
+one_of c p g (job.Sim part seed epochs sats bands system) (job.Zero rows') first second =
+    absurd (omega (arith, one_mark c p g (job.Sim part seed epochs sats bands system) (job.Zero rows') first second))
+one_of c p g (job.Sim part seed epochs sats bands system) (job.List obs') first second =
+    absurd (omega (arith, one_mark c p g (job.Sim part seed epochs sats bands system) (job.List obs') first second))
+one_of c p g (job.Sim part seed epochs sats bands system) (job.Orbit nav' system' sat' tick') first second =
+    absurd (omega (arith, one_mark c p g (job.Sim part seed epochs sats bands system) (job.Orbit nav' system' sat' tick') first second))
+one_of c p g (job.Sim part seed epochs sats bands system) (job.Check cert') first second =
+    absurd (omega (arith, one_mark c p g (job.Sim part seed epochs sats bands system) (job.Check cert') first second))
+one_of c p g (job.Sim part seed epochs sats bands system) (job.Residuals cert') first second =
+    absurd (omega (arith, one_mark c p g (job.Sim part seed epochs sats bands system) (job.Residuals cert') first second))
+one_of c p g (job.Sim part seed epochs sats bands system) (job.Migrate cert') first second =
+    absurd (omega (arith, one_mark c p g (job.Sim part seed epochs sats bands system) (job.Migrate cert') first second))
+one_of c p g (job.Sim part seed epochs sats bands system) (job.Fix base' rover' nav' options') first second =
+    absurd (omega (arith, one_mark c p g (job.Sim part seed epochs sats bands system) (job.Fix base' rover' nav' options') first second))
+one_of c p g (job.Sim part seed epochs sats bands system) (job.Arcs base' rover' nav' options') first second =
+    absurd (omega (arith, one_mark c p g (job.Sim part seed epochs sats bands system) (job.Arcs base' rover' nav' options') first second))
+one_of c p g (job.Sim part seed epochs sats bands system) (job.Track base' rover' nav' options') first second =
+    absurd (omega (arith, one_mark c p g (job.Sim part seed epochs sats bands system) (job.Track base' rover' nav' options') first second))
+one_of c p g (job.Sim part seed epochs sats bands system) (job.CheckTrack cert') first second =
+    absurd (omega (arith, one_mark c p g (job.Sim part seed epochs sats bands system) (job.CheckTrack cert') first second))
 one_of c p g (job.Track base rover nav options) (job.Zero rows') first second = absurd (omega (arith, one_mark c p g (job.Track base rover nav options) (job.Zero rows') first second))
 one_of c p g (job.Track base rover nav options) (job.List obs') first second = absurd (omega (arith, one_mark c p g (job.Track base rover nav options) (job.List obs') first second))
-one_of c p g (job.Track base rover nav options) (job.Orbit nav' system' sat' tick') first second = absurd (omega (arith, one_mark c p g (job.Track base rover nav options) (job.Orbit nav' system' sat' tick') first second))
+one_of c p g (job.Track base rover nav options) (job.Orbit nav' system' sat' tick') first second =
+    absurd (omega (arith, one_mark c p g (job.Track base rover nav options) (job.Orbit nav' system' sat' tick') first second))
 one_of c p g (job.Track base rover nav options) (job.Check cert') first second = absurd (omega (arith, one_mark c p g (job.Track base rover nav options) (job.Check cert') first second))
 one_of c p g (job.Track base rover nav options) (job.Residuals cert') first second = absurd (omega (arith, one_mark c p g (job.Track base rover nav options) (job.Residuals cert') first second))
 one_of c p g (job.Track base rover nav options) (job.Migrate cert') first second = absurd (omega (arith, one_mark c p g (job.Track base rover nav options) (job.Migrate cert') first second))
-one_of c p g (job.Track base rover nav options) (job.Fix base' rover' nav' options') first second = absurd (omega (arith, one_mark c p g (job.Track base rover nav options) (job.Fix base' rover' nav' options') first second))
-one_of c p g (job.Track base rover nav options) (job.Arcs base' rover' nav' options') first second = absurd (omega (arith, one_mark c p g (job.Track base rover nav options) (job.Arcs base' rover' nav' options') first second))
-one_of c p g (job.Track base rover nav options) (job.Sim part' seed' epochs' sats' bands' system') first second = absurd (omega (arith, one_mark c p g (job.Track base rover nav options) (job.Sim part' seed' epochs' sats' bands' system') first second))
+one_of c p g (job.Track base rover nav options) (job.Fix base' rover' nav' options') first second =
+    absurd (omega (arith, one_mark c p g (job.Track base rover nav options) (job.Fix base' rover' nav' options') first second))
+one_of c p g (job.Track base rover nav options) (job.Arcs base' rover' nav' options') first second =
+    absurd (omega (arith, one_mark c p g (job.Track base rover nav options) (job.Arcs base' rover' nav' options') first second))
+one_of c p g (job.Track base rover nav options) (job.Sim part' seed' epochs' sats' bands' system') first second =
+    absurd (omega (arith, one_mark c p g (job.Track base rover nav options) (job.Sim part' seed' epochs' sats' bands' system') first second))
 one_of c p g (job.Track base rover nav options) (job.CheckTrack cert') first second = absurd (omega (arith, one_mark c p g (job.Track base rover nav options) (job.CheckTrack cert') first second))
 one_of c p g (job.CheckTrack cert) (job.Zero rows') first second = absurd (omega (arith, one_mark c p g (job.CheckTrack cert) (job.Zero rows') first second))
 one_of c p g (job.CheckTrack cert) (job.List obs') first second = absurd (omega (arith, one_mark c p g (job.CheckTrack cert) (job.List obs') first second))
@@ -285,8 +316,10 @@ one_of c p g (job.CheckTrack cert) (job.Residuals cert') first second = absurd (
 one_of c p g (job.CheckTrack cert) (job.Migrate cert') first second = absurd (omega (arith, one_mark c p g (job.CheckTrack cert) (job.Migrate cert') first second))
 one_of c p g (job.CheckTrack cert) (job.Fix base' rover' nav' options') first second = absurd (omega (arith, one_mark c p g (job.CheckTrack cert) (job.Fix base' rover' nav' options') first second))
 one_of c p g (job.CheckTrack cert) (job.Arcs base' rover' nav' options') first second = absurd (omega (arith, one_mark c p g (job.CheckTrack cert) (job.Arcs base' rover' nav' options') first second))
-one_of c p g (job.CheckTrack cert) (job.Sim part' seed' epochs' sats' bands' system') first second = absurd (omega (arith, one_mark c p g (job.CheckTrack cert) (job.Sim part' seed' epochs' sats' bands' system') first second))
-one_of c p g (job.CheckTrack cert) (job.Track base' rover' nav' options') first second = absurd (omega (arith, one_mark c p g (job.CheckTrack cert) (job.Track base' rover' nav' options') first second))
+one_of c p g (job.CheckTrack cert) (job.Sim part' seed' epochs' sats' bands' system') first second =
+    absurd (omega (arith, one_mark c p g (job.CheckTrack cert) (job.Sim part' seed' epochs' sats' bands' system') first second))
+one_of c p g (job.CheckTrack cert) (job.Track base' rover' nav' options') first second =
+    absurd (omega (arith, one_mark c p g (job.CheckTrack cert) (job.Track base' rover' nav' options') first second))
 
 -- the command and the words behind it are one
 pub same_behind : (words : List (List ℕ)) (a b : Job) (first : IsJob words a) (second : IsJob words b) → second.behind ≡ first.behind

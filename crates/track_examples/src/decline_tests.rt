@@ -1,5 +1,5 @@
 // Runs of `track` that are declined, with their causes from an independent model.
-use crate::runs::{are_places, check_text, is_certified, track_texts};
+use crate::runs::{OFFSET, are_places, check_text, is_certified, standing, track_texts};
 use crate::texts::{C1C, Epochs, with_lost_lock, with_more, with_three_satellites};
 use job_answers::Status;
 use run_options::Options;
@@ -82,12 +82,12 @@ fn an_arc_without_a_row_is_weak(rt: HostRuntime) -> Result<(), Fail> {
     long.arc = 11;
     let fixed = track_texts(alloc, &made, rover.as_bytes(), &long)?;
     assert_eq!(rt; fixed.status, Status::Done);
-    are_places(&rt, &fixed.err, 50, [-1_656_800, 9_436_070, -6_595_000])?;
+    are_places(&rt, &fixed.err, &standing(50, OFFSET))?;
     is_certified(&rt, alloc, &fixed.out)?;
     let mut late = Options::defaults();
     late.first = 40;
     let fixed = track_texts(alloc, &made, rover.as_bytes(), &late)?;
     assert_eq!(rt; fixed.status, Status::Done);
-    are_places(&rt, &fixed.err, 20, [-1_656_800, 9_436_070, -6_595_000])?;
+    are_places(&rt, &fixed.err, &standing(20, OFFSET))?;
     Ok(())
 }

@@ -9,6 +9,9 @@ use std::process::Abort;
 use std::test::Fail;
 use track_job::{check_track_file, track};
 
+/// The offset that seed 1 draws, in 0.1 mm.
+pub(crate) const OFFSET: [i64; 3] = [-1_656_800, 9_436_070, -6_595_000];
+
 fn named(alloc: Global, name: &str, text: &[u8]) -> Result<Named, AllocError> {
     Ok(Named {
         name: String::from_str(alloc, name)?,
@@ -75,20 +78,34 @@ fn is_near(found: Option<[i64; 3]>, want: [i64; 3]) -> bool {
     }
 }
 
-/// Fails unless so many places are printed, each within 10 mm of this one.
-pub(crate) fn are_places(
-    rt: &impl Abort,
-    err: &[u8],
-    count: usize,
-    place: [i64; 3],
-) -> Result<(), Fail> {
+/// Where a rover is in so many pairs: at the first place up to the pair in which it turns, and at the second from it on.
+pub(crate) struct Walk {
+    pub count: usize,
+    pub turn: usize,
+    pub first: [i64; 3],
+    pub second: [i64; 3],
+}
+
+/// A rover that stands still at this place.
+pub(crate) fn standing(count: usize, place: [i64; 3]) -> Walk {
+    Walk {
+        count,
+        turn: count,
+        first: place,
+        second: place,
+    }
+}
+
+/// Fails unless the places of this walk are printed, each within 10 mm.
+pub(crate) fn are_places(rt: &impl Abort, err: &[u8], walk: &Walk) -> Result<(), Fail> {
     let mut seen = 0usize;
     for line in str::from_utf8(err)?.lines() {
         if line.starts_with("place ") {
+            let place = if seen < walk.turn { walk.first } else { walk.second };
             assert!(rt; is_near(place_in(line), place), "at {line}");
             seen = seen.wrapping_add(1);
         }
     }
-    assert_eq!(rt; seen, count);
+    assert_eq!(rt; seen, walk.count);
     Ok(())
 }

@@ -1,15 +1,13 @@
 // Runs of `track` that fix. Expected places are the generator's own offset; which pairs are lost, and why, comes from an
 // independent model.
-use crate::runs::{are_places, check_text, is_certified, track_texts};
-use crate::texts::{C1C, C2W, Epochs, with_line, with_more, with_three_satellites};
+use crate::runs::{OFFSET, Walk, are_places, check_text, is_certified, standing, track_texts};
+use crate::texts::{C1C, C2W, Epochs, moved, with_line, with_more, with_three_satellites};
 use job_answers::Status;
 use run_options::Options;
-use sim_session::make;
+use sim_session::{Made, make};
+use std::alloc::Global;
 use std::process::Abort;
 use std::test::Fail;
-
-// The offset that seed 1 draws, in 0.1 mm.
-const OFFSET: [i64; 3] = [-1_656_800, 9_436_070, -6_595_000];
 
 #[test]
 fn tracks_each_pair(rt: HostRuntime) -> Result<(), Fail> {
@@ -19,7 +17,33 @@ fn tracks_each_pair(rt: HostRuntime) -> Result<(), Fail> {
     assert_eq!(rt; answer.status, Status::Done);
     assert!(rt; answer.err.starts_with(b"pairs 60 of 60\narcs 8\nplace 0 "));
     assert!(rt; answer.err.ends_with(b"\nverdict fixed\n"));
-    are_places(&rt, &answer.err, 60, OFFSET)?;
+    are_places(&rt, &answer.err, &standing(60, OFFSET))?;
+    is_certified(&rt, alloc, &answer.out)?;
+    Ok(())
+}
+
+// An offset in mm in 0.1 mm.
+fn in_tenths([x, y, z]: [i64; 3]) -> [i64; 3] {
+    [x.wrapping_mul(10), y.wrapping_mul(10), z.wrapping_mul(10)]
+}
+
+// From the thirtieth epoch on the rover is where another session has it, a kilometre away, with its own cycles.
+#[test]
+fn follows_a_moving_rover(rt: HostRuntime) -> Result<(), Fail> {
+    let alloc = rt.alloc();
+    let made = make(alloc, 1, 60, 8, 12, b'G')?;
+    let other = make(alloc, 101, 60, 8, 12, b'G')?;
+    let rover = moved(alloc, &made.rover, &other.rover, 30)?;
+    let answer = track_texts(alloc, &made, rover.as_bytes(), &Options::defaults())?;
+    assert_eq!(rt; answer.status, Status::Done);
+    assert!(rt; answer.err.starts_with(b"pairs 60 of 60\narcs 8\nplace 0 "));
+    let walk = Walk {
+        count: 60,
+        turn: 30,
+        first: in_tenths(made.offset),
+        second: in_tenths(other.offset),
+    };
+    are_places(&rt, &answer.err, &walk)?;
     is_certified(&rt, alloc, &answer.out)?;
     Ok(())
 }
@@ -35,7 +59,7 @@ fn loses_one(
     let answer = track_texts(alloc, made, rover.as_bytes(), &Options::defaults())?;
     assert_eq!(rt; answer.status, Status::Done, "at {told}");
     assert!(rt; answer.err.starts_with(told.as_bytes()), "at {told}");
-    are_places(rt, &answer.err, 59, OFFSET)?;
+    are_places(rt, &answer.err, &standing(59, OFFSET))?;
     let text = str::from_utf8(&answer.out)?;
     assert!(rt; text.lines().any(|line| line == "pairs 59"), "at {told}");
     is_certified(rt, alloc, &answer.out)?;

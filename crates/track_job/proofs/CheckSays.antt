@@ -27,14 +27,16 @@ pub check_track_status : (told : List ℕ → Option (List ℕ)) (cert : List �
 check_track_status told cert end ends = file_status told cert (CheckTrackEnds cert) end (text_status cert end) ends
 
 -- a file that was read to its end
-pub check_track_whole : (told : List ℕ → Option (List ℕ)) (left : ℕ → Option (List ℕ)) (name text : List ℕ) (end : Ending) → IsReadToEnd told left name → CheckTrackEnds name text end → IsRefusedWhole told left (name ∷ []) end
+pub check_track_whole : (told : List ℕ → Option (List ℕ)) (left : ℕ → Option (List ℕ)) (name text : List ℕ) (end : Ending) → IsReadToEnd told left name → CheckTrackEnds name text end
+    → IsRefusedWhole told left (name ∷ []) end
 check_track_whole told left name text end read (inl by_cert) = verdict_whole told left (name ∷ []) end (verdict_at end _ by_cert.ends_so.end_is (verdict_status by_cert.ends_so.verdict))
 check_track_whole told left name text end read (inr refused) = read_whole told left name refused.at end read refused.end_is
 
 abbrev admitted : (told : List ℕ → Option (List ℕ)) (name : List ℕ) → IsTrackAdmitted told name → IsAdmitted told name (λ lines. Unit {0})
 admitted told name file = record { text = file.text; told_is = file.told_is; fits = file.fits; file = tt }
 
-pub check_track_verdict : (told : List ℕ → Option (List ℕ)) (cert : List ℕ) (end : Ending) → IsTrackAdmitted told cert → end.status ≢ ReadFault → EndsByFile told cert (CheckTrackEnds cert) end → IsVerdictStatus end.status
+pub check_track_verdict : (told : List ℕ → Option (List ℕ)) (cert : List ℕ) (end : Ending) → IsTrackAdmitted told cert → end.status ≢ ReadFault
+    → EndsByFile told cert (CheckTrackEnds cert) end → IsVerdictStatus end.status
 check_track_verdict told cert end file no_fault ends = elim (admitted_ends told cert (λ lines. Unit {0}) (CheckTrackEnds cert) end (admitted told cert file) no_fault ends) [
   | inl by_cert ↦ verdict_at end _ by_cert.ends_so.end_is (verdict_status by_cert.ends_so.verdict)
   | inr refused ↦ absurd (refused.none file.is)
@@ -43,17 +45,23 @@ check_track_verdict told cert end file no_fault ends = elim (admitted_ends told 
 says_at : (told : List ℕ → Option (List ℕ)) (cert : List ℕ) (end t : Ending) (out : SinkChange) → end ≡ t → SaysOfCheckTrack told cert t.status out → SaysOfCheckTrack told cert end.status out
 says_at told cert end t out same says = subst (λ (e : Ending). SaysOfCheckTrack told cert e.status out) (sym same) says
 
-verdict_says : (told : List ℕ → Option (List ℕ)) (name text : List ℕ) (c : TrackCert) (v : Verdict) (out : SinkChange) → IsTextOf told name text → IsWholeTrackCert c → text ≡ track_spelling c → IsVerdictOn c v
+verdict_says : (told : List ℕ → Option (List ℕ)) (name text : List ℕ) (c : TrackCert) (v : Verdict) (out : SinkChange) → IsTextOf told name text → IsWholeTrackCert c
+    → text ≡ track_spelling c → IsVerdictOn c v
     → ((w : Verdict) → IsVerdictOn c w → IsSameVerdict w v) → (v ≡ Certified → IsBestFor c) → Appends out.old out.new (verdict_text v) → SaysOfCheckTrack told name (status_of v) out
-verdict_says told name text c Certified out is whole spelled verdict only best written = record { text = text; is = is; cert = c; whole = whole; spelled = spelled; certified = verdict; only = only; best = best refl; printed = written }
-verdict_says told name text c (Not cause) out is whole spelled verdict only best written = record { text = text; is = is; cert = c; whole = whole; spelled = spelled; cause = cause; not_certified = verdict; only = only; printed = written }
+verdict_says told name text c Certified out is whole spelled verdict only best written =
+    record { text = text; is = is; cert = c; whole = whole; spelled = spelled; certified = verdict; only = only; best = best refl; printed = written }
+verdict_says told name text c (Not cause) out is whole spelled verdict only best written =
+    record { text = text; is = is; cert = c; whole = whole; spelled = spelled; cause = cause; not_certified = verdict; only = only; printed = written }
 
 -- what is written of an ending is what it says of the file
-pub check_track_says : (told : List ℕ → Option (List ℕ)) (cert : List ℕ) (end : Ending) (out : SinkChange) → EndsByFile told cert (CheckTrackEnds cert) end → Appends out.old out.new end.out → SaysOfCheckTrack told cert end.status out
+pub check_track_says : (told : List ℕ → Option (List ℕ)) (cert : List ℕ) (end : Ending) (out : SinkChange) → EndsByFile told cert (CheckTrackEnds cert) end → Appends out.old out.new end.out
+    → SaysOfCheckTrack told cert end.status out
 check_track_says told cert end out (inl by_text) written = elim (by_text.ends_so) [
   | inl by_cert ↦
       let e = by_cert.ends_so in
-      says_at told cert end _ out e.end_is (verdict_says told cert by_text.text by_cert.cert e.verdict out by_text.is by_cert.whole by_cert.spelled e.is e.only e.best (subst (λ (t : Ending). Appends out.old out.new t.out) e.end_is written))
+      let printed : Appends out.old out.new (verdict_text e.verdict) = subst (λ (t : Ending). Appends out.old out.new t.out) e.end_is written in
+      let says = verdict_says told cert by_text.text by_cert.cert e.verdict out by_text.is by_cert.whole by_cert.spelled e.is e.only e.best printed in
+      says_at told cert end _ out e.end_is says
   | inr refused ↦ says_at told cert end _ out refused.end_is tt
 ]
 check_track_says told cert end out (inr (inl large)) written = says_at told cert end _ out large.end_is tt

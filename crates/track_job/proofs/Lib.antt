@@ -1,4 +1,4 @@
-pub mod Outcomes
+pub mod StandsLaws
 pub mod Certified
 pub mod TrackSays
 pub mod CheckSays

@@ -32,7 +32,7 @@ use Rattle.track_report.specs.TrackTexts.{track_answer_text, IsWholeTrackAnswer,
 use Rattle.track_job.specs.TrackOutcomes.{IsTrackAnswer, IsTrackOutcome}
 use Rattle.track_job.specs.TrackJobs.{TrackEnd, TrackEnds}
 use Rattle.track_job.specs.TrackRuns.{IsTrackFix, HaveTrackOutcome, SaysOfTrack}
-use Rattle.track_job.proofs.Outcomes.{track_stands_for}
+use Rattle.track_job.proofs.StandsLaws.{track_stands_for}
 use Rattle.track_job.proofs.Certified.{certified_again, no_other}
 
 -- ---- statuses
@@ -51,7 +51,8 @@ track_status told base rover nav o end (inl session) = elim (session.ends_so) [
 ]
 track_status told base rover nav o end (inr stops) = files_status (system_of o.system) told base rover nav end stops
 
-pub track_verdict : (told : List ℕ → Option (List ℕ)) (base rover nav : List ℕ) (o : Options) (end : Ending) → AreAdmitted told base rover nav o → end.status ≢ ReadFault → TrackEnds told base rover nav o end → IsVerdictStatus end.status
+pub track_verdict : (told : List ℕ → Option (List ℕ)) (base rover nav : List ℕ) (o : Options) (end : Ending) → AreAdmitted told base rover nav o → end.status ≢ ReadFault
+    → TrackEnds told base rover nav o end → IsVerdictStatus end.status
 track_verdict told base rover nav o end admitted no_fault (inl session) = elim (session.ends_so) [
   | inl outcome ↦ verdict_at end _ outcome.end_is (verdict_of (is_track_fixed outcome.outcome.answer))
   | inr refused ↦ absurd (never_refused told base rover nav o session.base_file session.rover_file session.records end admitted session.are refused)
@@ -59,12 +60,15 @@ track_verdict told base rover nav o end admitted no_fault (inl session) = elim (
 track_verdict told base rover nav o end admitted no_fault (inr stops) = absurd (no_stop (system_of o.system) told base rover nav end admitted.base_is admitted.rover_is admitted.nav_is no_fault stops)
 
 -- ---- refusals
-pub track_whole : (told : List ℕ → Option (List ℕ)) (left : ℕ → Option (List ℕ)) (names : List (List ℕ)) (o : Options) (b r : ObsFile) (n : Records) (end : Ending) → TrackEnd o b r n end → AreRefusedWhole told left names end
-track_whole told left names o b r n end (inl outcome) = stop_whole told left names end (verdict_whole told left names end (verdict_at end _ outcome.end_is (verdict_of (is_track_fixed outcome.outcome.answer))))
+pub track_whole : (told : List ℕ → Option (List ℕ)) (left : ℕ → Option (List ℕ)) (names : List (List ℕ)) (o : Options) (b r : ObsFile) (n : Records) (end : Ending) → TrackEnd o b r n end
+    → AreRefusedWhole told left names end
+track_whole told left names o b r n end (inl outcome) =
+    stop_whole told left names end (verdict_whole told left names end (verdict_at end _ outcome.end_is (verdict_of (is_track_fixed outcome.outcome.answer))))
 track_whole told left names o b r n end (inr refused) = pair_whole told left names b r o end refused
 
 -- ---- what is said
-says_at : (told : List ℕ → Option (List ℕ)) (base rover nav : List ℕ) (o : Options) (end t : Ending) (out : SinkChange) → end ≡ t → SaysOfTrack told base rover nav o t.status out → SaysOfTrack told base rover nav o end.status out
+says_at : (told : List ℕ → Option (List ℕ)) (base rover nav : List ℕ) (o : Options) (end t : Ending) (out : SinkChange) → end ≡ t → SaysOfTrack told base rover nav o t.status out
+    → SaysOfTrack told base rover nav o end.status out
 says_at told base rover nav o end t out same says = subst (λ (e : Ending). SaysOfTrack told base rover nav o e.status out) (sym same) says
 
 -- an answer that is fixed is the certificate of a track that says so
@@ -97,15 +101,19 @@ certified_cert cert fix decision only =
     let arcs = cert.track.arcs in
     let ss = fine_signals cert.track.signals in
     let pairs = cert.track.pairs in
-    let fixed : TrackTail = tail.Fixed fix.h fix.moves fix.best fix.top in
     let decided = subst (λ (t : TrackTail). IsTrackDecision arcs ss pairs cert.ratio cert.budget t) fix.tail_is decision in
     let one = subst (λ (u : TrackTail). (t : TrackTail) → IsTrackDecision arcs ss pairs cert.ratio cert.budget t → IsSameDecision t u) fix.tail_is only in
     record {
-      certified = subst (λ (t : TrackTail). IsTrackVerdict arcs ss pairs cert.ratio cert.budget t Certified) (sym fix.tail_is) (certified_again arcs ss pairs cert.ratio cert.budget fix.h fix.moves fix.best fix.top decided);
-      only = λ v is. no_other arcs ss pairs cert.ratio cert.budget fix.h fix.moves fix.best fix.top one v (subst (λ (t : TrackTail). IsTrackVerdict arcs ss pairs cert.ratio cert.budget t v) fix.tail_is is);
+      certified =
+          subst (λ (t : TrackTail). IsTrackVerdict arcs ss pairs cert.ratio cert.budget t Certified) (sym fix.tail_is)
+          (certified_again arcs ss pairs cert.ratio cert.budget fix.h fix.moves fix.best fix.top decided);
+      only =
+          λ v is. no_other arcs ss pairs cert.ratio cert.budget fix.h fix.moves fix.best fix.top one v
+          (subst (λ (t : TrackTail). IsTrackVerdict arcs ss pairs cert.ratio cert.budget t v) fix.tail_is is);
     }
 
-outcome_says : (told : List ℕ → Option (List ℕ)) (base rover nav : List ℕ) (o : Options) (outcome : TrackOutcome) (out : SinkChange) (fixed : Bool) → is_track_fixed outcome.answer ≡ fixed → HaveTrackOutcome told base rover nav o outcome
+outcome_says : (told : List ℕ → Option (List ℕ)) (base rover nav : List ℕ) (o : Options) (outcome : TrackOutcome) (out : SinkChange) (fixed : Bool) → is_track_fixed outcome.answer ≡ fixed
+    → HaveTrackOutcome told base rover nav o outcome
     → IsWholeTrackAnswer outcome.answer → Appends out.old out.new (track_answer_text outcome.answer) → SaysOfTrack told base rover nav o (if fixed then Done else Declined) out
 outcome_says told base rover nav o outcome out true is have whole printed =
     let c : IsFixedTrack outcome.answer = fixed_track outcome.answer is in
@@ -129,17 +137,25 @@ outcome_says told base rover nav o outcome out true is have whole printed =
 outcome_says told base rover nav o outcome out false is have whole printed = record { outcome = outcome; have = have; none = is; whole = whole; printed = printed }
 
 -- what is written of an ending is what it says of the files
-pub track_says : (told : List ℕ → Option (List ℕ)) (base rover nav : List ℕ) (o : Options) (end : Ending) (out : SinkChange) → TrackEnds told base rover nav o end → Appends out.old out.new end.out → SaysOfTrack told base rover nav o end.status out
+pub track_says : (told : List ℕ → Option (List ℕ)) (base rover nav : List ℕ) (o : Options) (end : Ending) (out : SinkChange) → TrackEnds told base rover nav o end
+    → Appends out.old out.new end.out → SaysOfTrack told base rover nav o end.status out
 track_says told base rover nav o end out (inl session) written = elim (session.ends_so) [
   | inl outcome ↦
       let printed : Appends out.old out.new (track_answer_text outcome.outcome.answer) = subst (λ (e : Ending). Appends out.old out.new e.out) outcome.end_is written in
-      let have : HaveTrackOutcome told base rover nav o outcome.outcome = record { base_file = session.base_file; rover_file = session.rover_file; records = session.records; are_files = session.are; is = outcome.is } in
+      let have : HaveTrackOutcome told base rover nav o outcome.outcome = record {
+        base_file = session.base_file;
+        rover_file = session.rover_file;
+        records = session.records;
+        are_files = session.are;
+        is = outcome.is;
+      } in
       says_at told base rover nav o end _ out outcome.end_is (outcome_says told base rover nav o outcome.outcome out (is_track_fixed outcome.outcome.answer) refl have outcome.whole printed)
   | inr refused ↦ says_at told base rover nav o end _ out refused.end_is tt
 ]
 track_says told base rover nav o end out (inr stops) written = stops_say stops
   where
-    stopped_says : {name : List ℕ} {ends : List ℕ → Ending → Type 0} → ((text : List ℕ) → ends text end → SaysOfTrack told base rover nav o end.status out) → EndsByFile told name ends end → SaysOfTrack told base rover nav o end.status out
+    stopped_says : {name : List ℕ} {ends : List ℕ → Ending → Type 0} → ((text : List ℕ) → ends text end → SaysOfTrack told base rover nav o end.status out) → EndsByFile told name ends end
+        → SaysOfTrack told base rover nav o end.status out
     stopped_says by_text (inl text) = by_text text.text text.ends_so
     stopped_says by_text (inr (inl large)) = says_at told base rover nav o end _ out large.end_is tt
     stopped_says by_text (inr (inr fault)) = says_at told base rover nav o end _ out fault tt

@@ -38,15 +38,11 @@ fn free_count(arcs: &[Arc]) -> u32
     free_arcs(arcs) as u32
 }
 
-// No pair was tried.
-fn untried(alloc: Global, answer: TrackAnswer) -> TrackAnswered
-    ensures none { result.lost ≡ [] }
-    ensures answer { result.answer ≡ answer }
+// Where no pair was tried, none is lost.
+fn none_lost(alloc: Global) -> Items<Lost>
+    ensures { result ≡ [] }
 {
-    TrackAnswered {
-        lost: Items::new(Vec::new(alloc)),
-        answer,
-    }
+    Items::new(Vec::new(alloc))
 }
 
 // What is decided of a track, where it has a pair.
@@ -93,11 +89,18 @@ fn answer(
 {
     let kept = files.kept.as_slice();
     if are_few(taken, kept) {
-        return Ok(untried(alloc, TrackAnswer::Few { pairs: taken }));
+        return Ok(TrackAnswered {
+            lost: none_lost(alloc),
+            answer: TrackAnswer::Few { pairs: taken },
+        });
     }
     if are_many(kept) {
-        let free = free_count(kept);
-        return Ok(untried(alloc, TrackAnswer::Arcs { free }));
+        return Ok(TrackAnswered {
+            lost: none_lost(alloc),
+            answer: TrackAnswer::Arcs {
+                free: free_count(kept),
+            },
+        });
     }
     match track_at(
         alloc,

@@ -8,11 +8,11 @@ use Rattle.round_steps.specs.Counts.{AreFew, AreMany}
 use Rattle.session.proofs.RangeLaws.{none_unused}
 use Rattle.session.proofs.FewArcs.{kept_few}
 use Rattle.track_job.specs.TrackOutcomes.{IsTrackable}
-use Rattle.track_job.proofs.Outcomes.{trackable_arcs}
+use Rattle.track_job.proofs.StandsLaws.{trackable_arcs}
 use Rattle.track_job.proofs.outcomes.answer.Goals as goal
 
-pub free_count-free-requires : goal.free_count-free-requires
-free_count-free-requires c =
+pub free_count-requires : goal.free_count-requires
+free_count-requires c =
     let f = c.args.files.now in
     subst (λ (l : List Arc). length l ≤ 54000) (sym c.as_slice-kept.ensures) (kept_few f.screened.used f.kept c.requires.cut f.screened.ranges f.screened.numbered f.screened.few)
 

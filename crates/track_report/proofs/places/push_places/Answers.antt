@@ -1,5 +1,5 @@
 use Rattle.std.proofs.Common.{◌≡◌, ◌<◌, length, arith}
-use Rattle.track_report.proofs.Places.{place_pushed}
+use Rattle.track_report.proofs.PairPlaces.{place_pushed}
 use Rattle.track_report.proofs.places.push_places.Goals as goal
 
 pub push_pair_place-requires-clause-point : goal.push_pair_place-requires-clause-point

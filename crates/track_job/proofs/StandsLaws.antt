@@ -21,6 +21,10 @@ use Rattle.track_rows.proofs.StandsLaws.{track_stands}
 use Rattle.track_job.specs.TrackOutcomes.{AreScreenedArcs, IsTrackable, IsTrackAnswer, IsTrackOutcome, tracked_with}
 use Rattle.track_job.specs.TrackRuns.{TrackStandsForIts}
 
+pub some_length : {X : Type 0} (xs : List X) → (xs ≡ [] → ⊥) → 1 ≤ length xs
+some_length [] none = absurd (none refl)
+some_length (x ∷ xs) none = omega arith
+
 -- arcs of which pairs are tried are those of a form
 pub trackable_arcs : (f : Screened) (kept : List Arc) (taken : ℕ) → IsCutOf f.used kept → All (λ a. a.shift ≡ pos 0 ∷ pos 0 ∷ pos 0 ∷ []) kept → IsTrackable kept taken → AreArcs kept
 trackable_arcs f kept taken cut zeros on = able f.used kept taken cut f.few f.numbered (no_shifts kept zeros) on.not_few on.not_many

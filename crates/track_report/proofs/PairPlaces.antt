@@ -5,7 +5,8 @@ use Rattle.obs_rows.specs.declared.pair_rows.PairRows.{PairRows}
 use Rattle.outcome_report.specs.Baselines.{baseline_of}
 use Rattle.track_report.specs.TrackTexts.{pair_place_line, place_lines}
 
-pub place_pushed : (a b whole : List ℕ) (base : List ℤ) (pairs : List PairRows) (points moves : List (List ℤ)) (i : ℕ) (p : PairRows) (x m : List ℤ) → i < length pairs → i < length points → i < length moves
+pub place_pushed : (a b whole : List ℕ) (base : List ℤ) (pairs : List PairRows) (points moves : List (List ℤ)) (i : ℕ) (p : PairRows) (x m : List ℤ) → i < length pairs → i < length points
+    → i < length moves
     → b ≡ a ++ pair_place_line (get_or pairs i p).number (baseline_of (get_or points i x) base (get_or moves i m))
     → a ++ place_lines base (drop i pairs) (drop i points) (drop i moves) ≡ whole
     → b ++ place_lines base (drop (i + 1) pairs) (drop (i + 1) points) (drop (i + 1) moves) ≡ whole
