@@ -27,6 +27,8 @@ use Rattle.pair_refusals.specs.Refusals.{pair_line, HaveRefused, AreRefusedWhole
 use Rattle.pair_refusals.proofs.RefusalLaws.{stop_whole}
 use Rattle.arcs_job.proofs.ArcSays.{arcs_status, arcs_verdict}
 use Rattle.fix_job.proofs.FixSays.{fix_status, fix_verdict}
+use Rattle.track_job.proofs.TrackSays.{track_status, track_verdict}
+use Rattle.track_job.proofs.CheckSays.{check_track_status, check_track_verdict}
 use Rattle.sim_run_job.proofs.RunSays.{sim_run_status, sim_run_verdict}
 use Rattle.baseline_app.specs.Jobs.{PartEnds, JobEnds, IsReadable, IsAnswer}
 use Rattle.baseline_app.specs.Runs.{IsRun, IsComplete}
@@ -53,6 +55,8 @@ readable_ends (job.Check cert) told end = check_verdict told cert end
 readable_ends (job.Residuals cert) told end = residuals_verdict told cert end
 readable_ends (job.Migrate cert) told end = migrate_verdict told cert end
 readable_ends (job.Fix base rover nav options) told end = fix_verdict told base rover nav options end
+readable_ends (job.Track base rover nav options) told end = track_verdict told base rover nav options end
+readable_ends (job.CheckTrack cert) told end = check_track_verdict told cert end
 readable_ends (job.Arcs base rover nav options) told end = arcs_verdict told base rover nav options end
 readable_ends (job.Sim part seed epochs sats bands system) told end = λ readable no_fault ends. part_verdict part seed epochs sats bands system end ends
 
@@ -64,6 +68,8 @@ job_status (job.Check cert) told end = check_status told cert end
 job_status (job.Residuals cert) told end = residuals_status told cert end
 job_status (job.Migrate cert) told end = migrate_status told cert end
 job_status (job.Fix base rover nav options) told end = fix_status told base rover nav options end
+job_status (job.Track base rover nav options) told end = track_status told base rover nav options end
+job_status (job.CheckTrack cert) told end = check_track_status told cert end
 job_status (job.Arcs base rover nav options) told end = arcs_status told base rover nav options end
 job_status (job.Sim part seed epochs sats bands system) told end = part_status part seed epochs sats bands system end
 

@@ -32,6 +32,10 @@ use Rattle.arcs_job.specs.ArcRuns.{SaysOfArcs}
 use Rattle.arcs_job.proofs.ArcSays.{arcs_says}
 use Rattle.fix_job.specs.FixRuns.{SaysOfFix}
 use Rattle.fix_job.proofs.FixSays.{fix_says}
+use Rattle.track_job.specs.TrackRuns.{SaysOfTrack}
+use Rattle.track_job.specs.CheckRuns.{SaysOfCheckTrack}
+use Rattle.track_job.proofs.TrackSays.{track_says}
+use Rattle.track_job.proofs.CheckSays.{check_track_says}
 use Rattle.baseline_app.specs.Jobs.{JobEnds}
 use Rattle.baseline_app.specs.Runs.{IsRun}
 
@@ -112,3 +116,11 @@ run_says_arcs words told base rover nav options result out err run asked =
 pub run_says_fix : (words : List (List ℕ)) (told : List ℕ → Option (List ℕ)) (base rover nav : List ℕ) (options : Options) (result : Status) (out err : SinkChange) → IsRun words told result out err → IsJob words (job.Fix base rover nav options) → SaysOfFix told base rover nav options result out
 run_says_fix words told base rover nav options result out err run asked =
     run_says words told (job.Fix base rover nav options) result out err (λ s. SaysOfFix told base rover nav options s out) (record { usage = tt; refused = tt; read = tt; write = tt; memory = tt }) (λ end ends written. fix_says told base rover nav options end out ends written) run asked
+
+pub run_says_track : (words : List (List ℕ)) (told : List ℕ → Option (List ℕ)) (base rover nav : List ℕ) (options : Options) (result : Status) (out err : SinkChange) → IsRun words told result out err → IsJob words (job.Track base rover nav options) → SaysOfTrack told base rover nav options result out
+run_says_track words told base rover nav options result out err run asked =
+    run_says words told (job.Track base rover nav options) result out err (λ s. SaysOfTrack told base rover nav options s out) (record { usage = tt; refused = tt; read = tt; write = tt; memory = tt }) (λ end ends written. track_says told base rover nav options end out ends written) run asked
+
+pub run_says_check_track : (words : List (List ℕ)) (told : List ℕ → Option (List ℕ)) (cert : List ℕ) (result : Status) (out err : SinkChange) → IsRun words told result out err → IsJob words (job.CheckTrack cert) → SaysOfCheckTrack told cert result out
+run_says_check_track words told cert result out err run asked =
+    run_says words told (job.CheckTrack cert) result out err (λ s. SaysOfCheckTrack told cert s out) (record { usage = tt; refused = tt; read = tt; write = tt; memory = tt }) (λ end ends written. check_track_says told cert end out ends written) run asked

@@ -25,6 +25,9 @@ use Rattle.migrate_job.specs.MigrateRuns.{IsOldAdmitted}
 use Rattle.arcs_job.specs.ArcJobs.{ArcsEnds}
 use Rattle.pair_refusals.specs.Admitted.{AreAdmitted}
 use Rattle.fix_job.specs.FixJobs.{FixEnds}
+use Rattle.track_job.specs.TrackJobs.{TrackEnds}
+use Rattle.track_job.specs.CheckJobs.{CheckTrackEnds}
+use Rattle.track_job.specs.CheckRuns.{IsTrackAdmitted}
 use Rattle.sim_run_job.specs.SimRunJobs.{SimRunEnds}
 
 -- of a simulated session one of its files, or what the three are found to say
@@ -40,6 +43,8 @@ JobEnds (job.Check cert) told end = EndsByFile told cert (CheckEnds cert) end
 JobEnds (job.Residuals cert) told end = EndsByFile told cert (ResidualsEnds cert) end
 JobEnds (job.Migrate cert) told end = EndsByFile told cert (MigrateEnds cert) end
 JobEnds (job.Fix base rover nav options) told end = FixEnds told base rover nav options end
+JobEnds (job.Track base rover nav options) told end = TrackEnds told base rover nav options end
+JobEnds (job.CheckTrack cert) told end = EndsByFile told cert (CheckTrackEnds cert) end
 JobEnds (job.Arcs base rover nav options) told end = ArcsEnds told base rover nav options end
 JobEnds (job.Sim part seed epochs sats bands system) told end = PartEnds part seed epochs sats bands system end
 
@@ -53,6 +58,8 @@ IsReadable (job.Check cert) told = IsCertAdmitted told cert
 IsReadable (job.Residuals cert) told = IsCertAdmitted told cert
 IsReadable (job.Migrate cert) told = IsOldAdmitted told cert
 IsReadable (job.Fix base rover nav options) told = AreAdmitted told base rover nav options
+IsReadable (job.Track base rover nav options) told = AreAdmitted told base rover nav options
+IsReadable (job.CheckTrack cert) told = IsTrackAdmitted told cert
 IsReadable (job.Arcs base rover nav options) told = AreAdmitted told base rover nav options
 IsReadable (job.Sim part seed epochs sats bands system) told = Unit {0}
 

@@ -20,7 +20,10 @@
 //! `sim` and `arcs` are never declined. `fix`: with status 0 out has gained a certificate whose integers with their move
 //! are strictly best for all rational data in the printed boxes, and whose session stands for the files on the bands
 //! and with the constants of the system of the options; with status 1 the text of an outcome of the files that is no
-//! fix, with its cause (`SaysOfFix`). `migrate`: the text spells a certificate of version 1, and out has gained the
+//! fix, with its cause (`SaysOfFix`). `track`: with status 0 out has gained the certificate of a track whose integers with
+//! their moves, one for each tracked pair, are strictly best for all rational data in the printed boxes, and which stands
+//! for the files, each pair from a point of its own; with status 1 the text of an outcome that is no fix, with its cause
+//! (`SaysOfTrack`). `check_track`: as `check`, of the certificate of a track (`SaysOfCheckTrack`). `migrate`: the text spells a certificate of version 1, and out has gained the
 //! spelling of a lifted one, of which the whole law holds (`SaysOfMigrate`); with status 0 exactly where its tail is
 //! fixed, which is then strictly best in the old boxes. `sim_run`: with status 0 the simulated texts stand for a session whose outcome is
 //! a fix, with status 1 for one whose outcome is none, and out has gained the four lines, with `match yes` exactly where

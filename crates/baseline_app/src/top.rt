@@ -21,6 +21,9 @@ ghost use Rattle.arcs_job.specs.ArcJobs.{ArcsEnds};
 ghost use Rattle.arcs_job.specs.ArcRuns.{SaysOfArcs};
 ghost use Rattle.fix_job.specs.FixJobs.{FixEnds};
 ghost use Rattle.fix_job.specs.FixRuns.{SaysOfFix};
+ghost use Rattle.track_job.specs.TrackJobs.{TrackEnds};
+ghost use Rattle.track_job.specs.TrackRuns.{SaysOfTrack};
+ghost use Rattle.track_job.specs.CheckRuns.{SaysOfCheckTrack};
 ghost use Rattle.baseline_app.specs.Jobs.{PartEnds, JobEnds, IsReadable, IsAnswer};
 ghost use Rattle.baseline_app.specs.Runs.{IsRun, IsComplete};
 
@@ -37,6 +40,7 @@ use run_options::Options;
 use sim_job::sim;
 use sim_run_job::sim_run;
 use std::alloc::{AllocError, Global};
+use track_job::{check_track_file, track};
 use zero_job::zero;
 
 // The command `fix` by its words.
@@ -55,6 +59,31 @@ fn fix_by_words<F: Files>(
     ensures sure { All (F.is_sure_name files.old) (base.now ∷ rover.now ∷ nav.now ∷ []) → IfEnded result (λ end. end.status ≢ Status.ReadFault) }
 {
     fix(
+        alloc,
+        files,
+        base.as_str(),
+        rover.as_str(),
+        nav.as_str(),
+        options,
+    )
+}
+
+// The command `track` by its words.
+fn track_by_words<F: Files>(
+    alloc: Global,
+    files: &mut F,
+    base: &Word,
+    rover: &Word,
+    nav: &Word,
+    options: &Options,
+) -> Result<Answer, Stop>
+    ensures ends { IfEnded result (λ end. TrackEnds (F.text_of files.old) base.now rover.now nav.now options.now end) }
+    ensures refused { IfEnded result (AreRefusedWhole (F.text_of files.old) (F.unread files.new) (base.now ∷ rover.now ∷ nav.now ∷ [])) }
+    ensures opened { OpensAtMost 3 (F.opened files.old) (F.opened files.new) }
+    ensures fault { IfEnded result (λ end. end.status ≡ Status.ReadFault → Rose (F.faults files.old) (F.faults files.new)) }
+    ensures sure { All (F.is_sure_name files.old) (base.now ∷ rover.now ∷ nav.now ∷ []) → IfEnded result (λ end. end.status ≢ Status.ReadFault) }
+{
+    track(
         alloc,
         files,
         base.as_str(),
@@ -139,6 +168,13 @@ fn do_job<F: Files>(alloc: Global, job: &Job, files: &mut F) -> Result<Answer, S
             nav,
             options,
         } => fix_by_words(alloc, files, base, rover, nav, options),
+        Job::Track {
+            base,
+            rover,
+            nav,
+            options,
+        } => track_by_words(alloc, files, base, rover, nav, options),
+        Job::CheckTrack { cert } => check_track_file(alloc, files, cert.as_str()),
         Job::Arcs {
             base,
             rover,
@@ -230,6 +266,11 @@ pub fn run<F: Files, O: Sink, E: Sink>(
         (sink_change (O.contents out.old) (O.contents out.new) (O.faults out.old) (O.faults out.new)) }
     ensures fix { (base rover nav : List ℕ) (options : Options) → IsJob (texts_of words.now) (Job.Fix base rover nav options)
         → SaysOfFix (F.text_of files.old) base rover nav options result
+        (sink_change (O.contents out.old) (O.contents out.new) (O.faults out.old) (O.faults out.new)) }
+    ensures track { (base rover nav : List ℕ) (options : Options) → IsJob (texts_of words.now) (Job.Track base rover nav options)
+        → SaysOfTrack (F.text_of files.old) base rover nav options result
+        (sink_change (O.contents out.old) (O.contents out.new) (O.faults out.old) (O.faults out.new)) }
+    ensures check_track { (cert : List ℕ) → IsJob (texts_of words.now) (Job.CheckTrack cert) → SaysOfCheckTrack (F.text_of files.old) cert result
         (sink_change (O.contents out.old) (O.contents out.new) (O.faults out.old) (O.faults out.new)) }
     ensures usage { result ≡ Status.Usage → (job : Job) → IsJob (texts_of words.now) job → ⊥ }
     ensures complete { (job : Job) → IsJob (texts_of words.now) job → IsReadable job (F.text_of files.old)

@@ -20,11 +20,11 @@ use Rattle.job_answers.proofs.EndingLaws.{admitted_ends, verdict_at, job_status_
 use Rattle.cert_jobs.specs.CertJobs.{status_of, shown_status, CheckEnds, ResidualsEnds}
 use Rattle.cert_jobs.specs.CertRuns.{SaysOfCheck, SaysOfResiduals, IsCertAdmitted}
 
-verdict_status : (v : Verdict) → IsVerdictStatus (status_of v)
+pub verdict_status : (v : Verdict) → IsVerdictStatus (status_of v)
 verdict_status Certified = tt
 verdict_status (Not cause) = tt
 
-job_status : (v : Verdict) → IsJobStatus (status_of v)
+pub job_status : (v : Verdict) → IsJobStatus (status_of v)
 job_status Certified = tt
 job_status (Not cause) = tt
 

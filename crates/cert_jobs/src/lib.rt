@@ -28,7 +28,8 @@ use line_source::Files;
 use rinex_head::TextFault;
 use std::alloc::{AllocError, Global};
 
-fn status_of(verdict: &Verdict) -> Status
+/// Done where the verdict is `Certified`, else declined.
+pub fn status_of(verdict: &Verdict) -> Status
     ensures value { result ≡ status_of verdict.now }
     ensures verdict { IsVerdictStatus result }
 {

@@ -86,6 +86,8 @@ module _ (g h : List Given) (same : (s : Setting) → numbers_for s g ≡ number
     choice = record { choice = same_choice system bands is.choice.choice; no_others = λ s other. sym (same s) ∙ is.choice.no_others s other };
   }
   same_job command plain (job.Fix base rover nav options) is = record { command_is = is.command_is; plain_are = is.plain_are; options = same_options options is.options }
+  same_job command plain (job.Track base rover nav options) is = record { command_is = is.command_is; plain_are = is.plain_are; options = same_options options is.options }
+  same_job command plain (job.CheckTrack cert) is = same_plain (codes "check-track") (cert ∷ []) command plain is
   same_job command plain (job.Arcs base rover nav options) is = record {
     command_is = is.command_is;
     plain_are = is.plain_are;

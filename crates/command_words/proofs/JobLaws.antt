@@ -70,7 +70,7 @@ table_settings (c ∷ table) name n options all h = go (bytes_eq c.0 name) refl 
     go false other rest = rest (rw other at h)
 
 their_settings : (name n : Text) (options : List Text) → command_named name commands ≡ Some (n, options) → AreSettings options
-their_settings name n options h = table_settings commands name n options (of_all, (of_pairs, (of_none, (of_none, (of_none, (of_none, (of_none, (of_signals, (of_none, tt))))))))) h
+their_settings name n options h = table_settings commands name n options (of_all, (of_pairs, (of_none, (of_none, (of_none, (of_none, (of_none, (of_signals, (of_none, (of_all, (of_none, tt))))))))))) h
 
 pub its_command : (command : Text) (options : List Text) → command_named command commands ≡ Some (command, options) → IsCommand (built_shape (command, options)) options
 its_command command options h = is_command (built_shape (command, options)) options refl (their_settings command command options h).no_word refl refl refl
@@ -233,6 +233,9 @@ in_table command plain given (job.Sim part seed epochs sats bands system) asked 
     (record { options = signal_options; found = refl; known = signals_known given asked.choice.no_others; long = λ ws. refl })
 in_table command plain given (job.Fix base rover nav options) asked = subst (λ (c : Text). InTable c given) (sym asked.command_is)
     (record { options = all_options; found = refl; known = any_known given; long = λ ws. refl })
+in_table command plain given (job.Track base rover nav options) asked = subst (λ (c : Text). InTable c given) (sym asked.command_is)
+    (record { options = all_options; found = refl; known = any_known given; long = λ ws. refl })
+in_table command plain given (job.CheckTrack cert) asked = plain_in_table (codes "check-track") (cert ∷ []) command plain given refl (λ ws. refl) asked
 in_table command plain given (job.Arcs base rover nav options) asked = subst (λ (c : Text). InTable c given) (sym asked.command_is)
     (record { options = pair_options; found = refl; known = pairs_known given asked.options.no_ratio asked.options.no_budget; long = λ ws. refl })
 

@@ -21,7 +21,7 @@ all_options = codes "ratio" ∷ codes "budget" ∷ pair_options
 abbrev pub commands : List (Text × List Text)
 commands =
     (codes "fix", all_options) ∷ (codes "arcs", pair_options) ∷ (codes "check", []) ∷ (codes "residuals", []) ∷ (codes "zero", []) ∷ (codes "list", [])
-    ∷ (codes "orbit", []) ∷ (codes "sim", signal_options) ∷ (codes "migrate", []) ∷ []
+    ∷ (codes "orbit", []) ∷ (codes "sim", signal_options) ∷ (codes "migrate", []) ∷ (codes "track", all_options) ∷ (codes "check-track", []) ∷ []
 
 -- the words are a command's name, and words that clap's walk over this command's rules passes with these rows
 pub record IsSplit (words : List Text) (command : Text) (rows : List Row) : Type 0 where

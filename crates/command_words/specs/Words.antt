@@ -62,9 +62,9 @@ pub record IsSimJob (s : Sim) (command : List ℕ) (plain : List (List ℕ)) (gi
   pub is : IsSim part_word seed_word epochs_word sats_word s
   pub choice : IsSimChoice given s.system s.bands
 
--- `fix`, three files, and any options
-pub record IsFixJob (base rover nav : List ℕ) (o : Options) (command : List ℕ) (plain : List (List ℕ)) (given : List Given) : Type 0 where
-  pub command_is : command ≡ codes "fix"
+-- a command of that name, three files, and any options
+pub record IsRunJob (name base rover nav : List ℕ) (o : Options) (command : List ℕ) (plain : List (List ℕ)) (given : List Given) : Type 0 where
+  pub command_is : command ≡ name
   pub plain_are : plain ≡ base ∷ rover ∷ nav ∷ []
   pub options : AreOptions given o
 
@@ -82,7 +82,9 @@ IsJobOf command plain given (job.Orbit nav system sat tick) = IsOrbitJob nav sys
 IsJobOf command plain given (job.Check cert) = IsPlainJob (codes "check") (cert ∷ []) command plain given
 IsJobOf command plain given (job.Residuals cert) = IsPlainJob (codes "residuals") (cert ∷ []) command plain given
 IsJobOf command plain given (job.Migrate cert) = IsPlainJob (codes "migrate") (cert ∷ []) command plain given
-IsJobOf command plain given (job.Fix base rover nav options) = IsFixJob base rover nav options command plain given
+IsJobOf command plain given (job.Fix base rover nav options) = IsRunJob (codes "fix") base rover nav options command plain given
+IsJobOf command plain given (job.Track base rover nav options) = IsRunJob (codes "track") base rover nav options command plain given
+IsJobOf command plain given (job.CheckTrack cert) = IsPlainJob (codes "check-track") (cert ∷ []) command plain given
 IsJobOf command plain given (job.Arcs base rover nav options) = IsArcsJob base rover nav options command plain given
 IsJobOf command plain given (job.Sim part seed epochs sats bands system) = IsSimJob (sim_with part seed epochs sats bands system) command plain given
 
@@ -105,6 +107,8 @@ file_words (job.Check cert) = cert ∷ []
 file_words (job.Residuals cert) = cert ∷ []
 file_words (job.Migrate cert) = cert ∷ []
 file_words (job.Fix base rover nav options) = base ∷ rover ∷ nav ∷ []
+file_words (job.Track base rover nav options) = base ∷ rover ∷ nav ∷ []
+file_words (job.CheckTrack cert) = cert ∷ []
 file_words (job.Arcs base rover nav options) = base ∷ rover ∷ nav ∷ []
 file_words (job.Sim part seed epochs sats bands system) = []
 

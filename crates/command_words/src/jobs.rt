@@ -61,6 +61,17 @@ pub enum Job {
         nav: Word,
         options: Options,
     },
+    /// The baselines of a moving rover, one for each pair, with the certificate of their integers.
+    Track {
+        base: Word,
+        rover: Word,
+        nav: Word,
+        options: Options,
+    },
+    /// Whether the certificate of a track says what its rows say.
+    CheckTrack {
+        cert: Word,
+    },
     /// A part of a simulated session, on these bands of the system of that letter.
     Sim {
         part: Part,
@@ -93,6 +104,9 @@ fn job_of(alloc: Global, command: &[u8], parted: &Parted) -> Result<Job, WordFau
     if command == b"fix".as_slice() {
         return fix_job(alloc, &parted.plain, &parted.given);
     }
+    if command == b"track".as_slice() {
+        return track_job(alloc, &parted.plain, &parted.given);
+    }
     if command == b"arcs".as_slice() {
         return arcs_job(alloc, &parted.plain, &parted.given);
     }
@@ -109,6 +123,7 @@ fn job_of(alloc: Global, command: &[u8], parted: &Parted) -> Result<Job, WordFau
 fn plain_job(alloc: Global, command: &[u8], plain: &[Word]) -> Result<Job, WordFault>
     requires no_arcs { command.now ≡ codes "arcs" → ⊥ }
     requires no_fix { command.now ≡ codes "fix" → ⊥ }
+    requires no_track { command.now ≡ codes "track" → ⊥ }
     requires no_sim { command.now ≡ codes "sim" → ⊥ }
     ensures job { IfOk result (λ job. IsJobOf command.now plain.now [] job) }
     ensures usage { IsErrOf result WordFault.Usage → (job : Job) → IsJobOf command.now plain.now [] job → ⊥ }
@@ -145,6 +160,10 @@ fn file_job(alloc: Global, command: &[u8], file: &Word) -> Result<Job, WordFault
         let cert = Word::copy_of(alloc, file.as_str())?;
         return Ok(Job::Migrate { cert });
     }
+    if command == b"check-track".as_slice() {
+        let cert = Word::copy_of(alloc, file.as_str())?;
+        return Ok(Job::CheckTrack { cert });
+    }
     Err(WordFault::Usage)
 }
 
@@ -158,6 +177,7 @@ fn orbit_job(
 ) -> Result<Job, WordFault>
     requires no_arcs { command.now ≡ codes "arcs" → ⊥ }
     requires no_fix { command.now ≡ codes "fix" → ⊥ }
+    requires no_track { command.now ≡ codes "track" → ⊥ }
     requires no_sim { command.now ≡ codes "sim" → ⊥ }
     ensures job { IfOk result (λ job. IsJobOf command.now (nav.now ∷ sat.now ∷ tick.now ∷ []) [] job) }
     ensures usage { IsErrOf result WordFault.Usage → (job : Job) → IsJobOf command.now (nav.now ∷ sat.now ∷ tick.now ∷ []) [] job → ⊥ }
@@ -251,6 +271,28 @@ fn fix_job(alloc: Global, plain: &[Word], given: &[Given]) -> Result<Job, WordFa
     let rover = Word::copy_of(alloc, rover.as_str())?;
     let nav = Word::copy_of(alloc, nav.as_str())?;
     Ok(Job::Fix {
+        base,
+        rover,
+        nav,
+        options,
+    })
+}
+
+// The job of the command `track`.
+fn track_job(alloc: Global, plain: &[Word], given: &[Given]) -> Result<Job, WordFault>
+    ensures job { IfOk result (λ job. IsJobOf (codes "track") plain.now given.now job) }
+    ensures usage { IsErrOf result WordFault.Usage → (job : Job) → IsJobOf (codes "track") plain.now given.now job → ⊥ }
+{
+    let Some(options) = options_of(given) else {
+        return Err(WordFault::Usage);
+    };
+    let [base, rover, nav] = plain else {
+        return Err(WordFault::Usage);
+    };
+    let base = Word::copy_of(alloc, base.as_str())?;
+    let rover = Word::copy_of(alloc, rover.as_str())?;
+    let nav = Word::copy_of(alloc, nav.as_str())?;
+    Ok(Job::Track {
         base,
         rover,
         nav,

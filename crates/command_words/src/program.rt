@@ -92,5 +92,7 @@ pub fn program<'a>(alloc: Global) -> Result<Command<'a>, AllocError>
     let program = with_command(alloc, program, "list", &[])?;
     let program = with_command(alloc, program, "orbit", &[])?;
     let program = with_command(alloc, program, "sim", SIGNAL_OPTIONS.as_slice())?;
-    with_command(alloc, program, "migrate", &[])
+    let program = with_command(alloc, program, "migrate", &[])?;
+    let program = with_command(alloc, program, "track", ALL_OPTIONS.as_slice())?;
+    with_command(alloc, program, "check-track", &[])
 }

@@ -20,4 +20,4 @@ abbrev pub no_memory_line : List ℕ
 no_memory_line = codes "no memory\n"
 
 abbrev pub usage_line : List ℕ
-usage_line = codes "usage: baseline fix|check|residuals|zero|list|orbit|arcs|sim|migrate WORDS\n"
+usage_line = codes "usage: baseline fix|check|residuals|zero|list|orbit|arcs|sim|migrate|track|check-track WORDS\n"

@@ -59,7 +59,7 @@ pub fn usage(alloc: Global) -> Result<Answer, AllocError>
 {
     let err = String::from_str(
         alloc,
-        "usage: baseline fix|check|residuals|zero|list|orbit|arcs|sim|migrate WORDS\n",
+        "usage: baseline fix|check|residuals|zero|list|orbit|arcs|sim|migrate|track|check-track WORDS\n",
     )?;
     Ok(Answer::on_err(alloc, Status::Usage, err))
 }

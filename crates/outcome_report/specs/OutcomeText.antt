@@ -29,10 +29,14 @@ early_text stage (tail.Fixed h moved best top) = stage_word stage
 early_text stage (tail.Unseparated h moved best top) = stage_word stage
 early_text stage (tail.Spent budget) = stage_word stage
 
+-- a decline that has one count
+abbrev pub decline_line : List ℕ → ℕ → List ℕ
+decline_line word count = codes "declined " ++ (word ++ (codes " " ++ (decimal count ++ codes "\n")))
+
 -- the text for out: the certificate, or one line that tells why there is none
 abbrev pub answer_text : Answer → List ℕ
-answer_text (Few pairs) = codes "declined few " ++ (decimal pairs ++ codes "\n")
-answer_text (Arcs free) = codes "declined arcs " ++ (decimal free ++ codes "\n")
+answer_text (Few pairs) = decline_line (codes "few") pairs
+answer_text (Arcs free) = decline_line (codes "arcs") free
 answer_text (Early stage why) = codes "declined " ++ (early_text stage why ++ codes "\n")
 answer_text (Full cert) = spelling cert
 
@@ -49,6 +53,11 @@ counts_text taken all kept = codes "pairs " ++ (decimal taken ++ (codes " of " +
 abbrev pub delta_text : Bool → List ℕ
 delta_text true = codes "note antenna delta not applied\n"
 delta_text false = []
+
+-- whether it is a fix
+abbrev pub verdict_line : Bool → List ℕ
+verdict_line true = codes "verdict fixed\n"
+verdict_line false = codes "verdict declined\n"
 
 -- the baseline of a fix, and that it is one
 abbrev pub fixed_text : Session → List ℤ → List ℕ

@@ -1,7 +1,7 @@
 //! The two texts of the end of a run.
 ghost use Rattle.std.specs.Prelude.{◌≡◌, ◌^◌, ◌++◌, OnOk, All, codes};
 ghost use Rattle.obs_rows.specs.Ranges.{IsBelow};
-ghost use Rattle.outcome_report.specs.OutcomeText.{answer_text, IsWholeAnswer, counts_text, delta_text, fixed_text, tail_text, verdict_text, outcome_text, is_fixed};
+ghost use Rattle.outcome_report.specs.OutcomeText.{decline_line, answer_text, IsWholeAnswer, counts_text, delta_text, verdict_line, fixed_text, tail_text, verdict_text, outcome_text, is_fixed};
 
 use crate::baselines::push_place;
 use crate::declines::push_early;
@@ -9,6 +9,19 @@ use cert_data::{Answer, Cert, Outcome, Stage, Tail};
 use cert_spelling::write_cert;
 use obs_rows::Session;
 use std::alloc::{AllocError, Global};
+
+/// Appends the line of a decline that has one count: too few satellites, too many arcs, or no tracked pair.
+pub fn push_decline(
+    alloc: Global,
+    text: &mut Vec<u8>,
+    word: &str,
+    count: u32,
+) -> Result<(), AllocError>
+    ensures { OnOk result (text.new.items ≡ text.old.items ++ decline_line word.now count) }
+{
+    let line = format!(in alloc; "declined {word} {count}\n")?;
+    text.extend_from_slice(line.as_bytes())
+}
 
 // Appends the line of an early end.
 fn push_early_line(
@@ -30,14 +43,8 @@ fn write_answer(alloc: Global, out: &mut Vec<u8>, answer: &Answer) -> Result<(),
     ensures whole { OnOk result (IsWholeAnswer answer.now) }
 {
     match answer {
-        Answer::Few { pairs } => {
-            let line = format!(in alloc; "declined few {pairs}\n")?;
-            out.extend_from_slice(line.as_bytes())
-        }
-        Answer::Arcs { free } => {
-            let line = format!(in alloc; "declined arcs {free}\n")?;
-            out.extend_from_slice(line.as_bytes())
-        }
+        Answer::Few { pairs } => push_decline(alloc, out, "few", *pairs),
+        Answer::Arcs { free } => push_decline(alloc, out, "arcs", *free),
         Answer::Early { stage, tail } => push_early_line(alloc, out, *stage, tail),
         Answer::Full(cert) => write_cert(alloc, out, cert),
     }
@@ -67,10 +74,21 @@ pub fn push_delta(text: &mut Vec<u8>, delta: bool) -> Result<(), AllocError>
     Ok(())
 }
 
+/// Appends the last line: whether it is a fix.
+pub fn push_verdict_line(text: &mut Vec<u8>, fixed: bool) -> Result<(), AllocError>
+    ensures { OnOk result (text.new.items ≡ text.old.items ++ verdict_line fixed) }
+{
+    if fixed {
+        text.extend_from_slice(b"verdict fixed\n")
+    } else {
+        text.extend_from_slice(b"verdict declined\n")
+    }
+}
+
 fn push_declined(text: &mut Vec<u8>) -> Result<(), AllocError>
     ensures { OnOk result (text.new.items ≡ text.old.items ++ codes "verdict declined\n") }
 {
-    text.extend_from_slice(b"verdict declined\n")
+    push_verdict_line(text, false)
 }
 
 // Appends the baseline of a fix, and that it is one.
@@ -91,7 +109,7 @@ fn push_fixed(
         &session.base,
         moved,
     )?;
-    text.extend_from_slice(b"verdict fixed\n")?;
+    push_verdict_line(text, true)?;
     Ok(())
 }
 

@@ -31,6 +31,8 @@ fn asked(job: &Job) -> (&str, &str, u8, u64) {
         Job::Migrate { cert } => ("migrate", cert.as_str(), 0, 0),
         Job::Fix { nav, options, .. } => ("fix", nav.as_str(), 0, options.budget),
         Job::Arcs { nav, options, .. } => ("arcs", nav.as_str(), 0, options.gap),
+        Job::Track { nav, options, .. } => ("track", nav.as_str(), 0, options.budget),
+        Job::CheckTrack { cert } => ("check-track", cert.as_str(), 0, 0),
         Job::Sim { part, epochs, .. } => ("sim", part_name(*part), 0, *epochs as u64),
     }
 }
@@ -56,6 +58,11 @@ fn reads_jobs(rt: HostRuntime) -> Result<(), Fail> {
         (&["check", "F"], ("check", "F", 0, 0)),
         (&["residuals", "F"], ("residuals", "F", 0, 0)),
         (&["migrate", "F"], ("migrate", "F", 0, 0)),
+        (&["check-track", "F"], ("check-track", "F", 0, 0)),
+        (
+            &["track", "--budget=7", "B", "R", "N", "--bands", "125"],
+            ("track", "N", 0, 7),
+        ),
         (&["fix", "B", "R", "N"], ("fix", "N", 0, 1_000_000)),
         (
             &["fix", "--budget=1", "B", "R", "N", "--ratio", "1000"],
@@ -151,6 +158,9 @@ fn refuses_words(rt: HostRuntime) -> Result<(), Fail> {
         &["migrate"],
         &["migrate", "F", "F"],
         &["migrate", "F", "--ratio=2000"],
+        &["track", "B", "R"],
+        &["check-track", "F", "--ratio=2000"],
+        &["checktrack", "F"],
         &["fix", "a", "b"],
         &["arcs", "B", "R"],
         &["arcs", "B", "R", "N", "N"],

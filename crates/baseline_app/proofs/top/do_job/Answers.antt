@@ -14,6 +14,9 @@ returns-in-Arcs-clause-sure g c = λ all. c.arcs_by_words.ensures.sure (subst (�
 pub returns-in-Fix-clause-sure : goal.returns-in-Fix-clause-sure
 returns-in-Fix-clause-sure g c = λ all. c.fix_by_words.ensures.sure (subst (λ (j : Job). All (g.F.Files.is_sure_name c.args.files.now) (file_words j)) c.in-Fix.is all)
 
+pub returns-in-Track-clause-sure : goal.returns-in-Track-clause-sure
+returns-in-Track-clause-sure g c = λ all. c.track_by_words.ensures.sure (subst (λ (j : Job). All (g.F.Files.is_sure_name c.args.files.now) (file_words j)) c.in-Track.is all)
+
 pub returns-in-Sim-clause-fault : goal.returns-in-Sim-clause-fault
 returns-in-Sim-clause-fault g c = ended_weaker c.sim_part.result _ _ (λ end no e. absurd (no e)) c.sim_part.ensures.no_fault
 
@@ -45,6 +48,13 @@ pub returns-in-Fix-clause-refused : goal.returns-in-Fix-clause-refused
 returns-in-Fix-clause-refused g c =
     subst (λ (j : Job). IfEnded c.fix_by_words.result (AreRefusedWhole (g.F.Files.text_of c.args.files.now) (g.F.Files.unread c.fix_by_words.new.files) (file_words j))) (sym c.in-Fix.is) c.fix_by_words.ensures.refused
 
+pub returns-in-CheckTrack-clause-refused : goal.returns-in-CheckTrack-clause-refused
+returns-in-CheckTrack-clause-refused g c = asked_whole c.check_track_file.result _ _ _ _ _ _ c.in-CheckTrack.is c.as_str-in-CheckTrack.ensures refl c.check_track_file.ensures.refused
+
+pub returns-in-Track-clause-refused : goal.returns-in-Track-clause-refused
+returns-in-Track-clause-refused g c =
+    subst (λ (j : Job). IfEnded c.track_by_words.result (AreRefusedWhole (g.F.Files.text_of c.args.files.now) (g.F.Files.unread c.track_by_words.new.files) (file_words j))) (sym c.in-Track.is) c.track_by_words.ensures.refused
+
 pub returns-in-Arcs-clause-refused : goal.returns-in-Arcs-clause-refused
 returns-in-Arcs-clause-refused g c =
     subst (λ (j : Job). IfEnded c.arcs_by_words.result (AreRefusedWhole (g.F.Files.text_of c.args.files.now) (g.F.Files.unread c.arcs_by_words.new.files) (file_words j))) (sym c.in-Arcs.is) c.arcs_by_words.ensures.refused
@@ -52,6 +62,10 @@ returns-in-Arcs-clause-refused g c =
 pub returns-in-Fix-clause-opened : goal.returns-in-Fix-clause-opened
 returns-in-Fix-clause-opened g c =
     subst (λ (j : Job). OpensAtMost (length (file_words j)) (g.F.Files.opened c.args.files.now) (g.F.Files.opened c.fix_by_words.new.files)) (sym c.in-Fix.is) c.fix_by_words.ensures.opened
+
+pub returns-in-Track-clause-opened : goal.returns-in-Track-clause-opened
+returns-in-Track-clause-opened g c =
+    subst (λ (j : Job). OpensAtMost (length (file_words j)) (g.F.Files.opened c.args.files.now) (g.F.Files.opened c.track_by_words.new.files)) (sym c.in-Track.is) c.track_by_words.ensures.opened
 
 pub returns-in-Arcs-clause-opened : goal.returns-in-Arcs-clause-opened
 returns-in-Arcs-clause-opened g c =

@@ -1,6 +1,6 @@
 use Rattle.std.proofs.Common.{inl, inr}
 use Rattle.baseline_app.proofs.Completes.{run_complete, run_usage, run_write}
-use Rattle.baseline_app.proofs.Says.{run_says_zero, run_says_list, run_says_orbit, run_says_sim, run_says_sim_run, run_says_check, run_says_residuals, run_says_migrate, run_says_arcs, run_says_fix}
+use Rattle.baseline_app.proofs.Says.{run_says_zero, run_says_list, run_says_orbit, run_says_sim, run_says_sim_run, run_says_check, run_says_residuals, run_says_migrate, run_says_arcs, run_says_fix, run_says_track, run_says_check_track}
 use Rattle.baseline_app.proofs.top.run.Goals as goal
 
 pub returns-clause-write : goal.returns-clause-write
@@ -45,3 +45,9 @@ returns-clause-arcs g c = λ base rover nav options asked. run_says_arcs _ _ bas
 
 pub returns-clause-fix : goal.returns-clause-fix
 returns-clause-fix g c = λ base rover nav options asked. run_says_fix _ _ base rover nav options _ _ _ c.write_answer.ensures.run asked
+
+pub returns-clause-track : goal.returns-clause-track
+returns-clause-track g c = λ base rover nav options asked. run_says_track _ _ base rover nav options _ _ _ c.write_answer.ensures.run asked
+
+pub returns-clause-check_track : goal.returns-clause-check_track
+returns-clause-check_track g c = λ cert asked. run_says_check_track _ _ cert _ _ _ c.write_answer.ensures.run asked

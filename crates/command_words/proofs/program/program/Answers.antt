@@ -23,4 +23,7 @@ returns c =
     let list = c.in_ok-program-6.ensures ∙ ap (λ (a : App). with_one (codes "list") [] a) zero in
     let orbit = c.in_ok-program-7.ensures ∙ ap (λ (a : App). with_one (codes "orbit") [] a) list in
     let sim = c.in_ok-program-8.ensures ∙ ap₂ (λ (a : App) (os : List Text). with_one (codes "sim") os a) orbit signals in
-    IfOk-weaker c.with_command-9.result _ _ (λ r h. h ∙ ap (λ (a : App). with_one (codes "migrate") [] a) sim) c.with_command-9.ensures
+    let migrate = c.in_ok-program-9.ensures ∙ ap (λ (a : App). with_one (codes "migrate") [] a) sim in
+    let again : map (λ o. o.now) c.as_slice-4.result.now ≡ all_options = ap (λ (os : List (Bor Text)). map (λ o. o.now) os) c.as_slice-4.ensures in
+    let track = c.in_ok-program-10.ensures ∙ ap₂ (λ (a : App) (os : List Text). with_one (codes "track") os a) migrate again in
+    IfOk-weaker c.with_command-11.result _ _ (λ r h. h ∙ ap (λ (a : App). with_one (codes "check-track") [] a) track) c.with_command-11.ensures

@@ -1,0 +1,23 @@
+use Rattle.std.proofs.Common.{ℕ, List, [], ◌∷◌, All, sym, subst}
+use Rattle.job_answers.specs.Answers.{IfEnded}
+use Rattle.pair_refusals.specs.Refusals.{AreRefusedWhole}
+use Rattle.track_job.specs.TrackJobs.{TrackEnds}
+use Rattle.baseline_app.proofs.top.track_by_words.Goals as goal
+
+pub returns-clause-ends : goal.returns-clause-ends
+returns-clause-ends g c =
+    subst (λ (b : List ℕ). IfEnded c.track.result (λ end. TrackEnds (g.F.Files.text_of c.args.files.now) b c.args.rover.now c.args.nav.now c.args.options.now end)) c.as_str.ensures
+    (subst (λ (r : List ℕ). IfEnded c.track.result (λ end. TrackEnds (g.F.Files.text_of c.args.files.now) c.as_str.result.now r c.args.nav.now c.args.options.now end)) c.as_str-2.ensures
+    (subst (λ (n : List ℕ). IfEnded c.track.result (λ end. TrackEnds (g.F.Files.text_of c.args.files.now) c.as_str.result.now c.as_str-2.result.now n c.args.options.now end)) c.as_str-3.ensures c.track.ensures.ends))
+
+pub returns-clause-sure : goal.returns-clause-sure
+returns-clause-sure g c = λ all. c.track.ensures.sure
+    (subst (λ (b : List ℕ). All (g.F.Files.is_sure_name c.args.files.now) (b ∷ c.as_str-2.result.now ∷ c.as_str-3.result.now ∷ [])) (sym c.as_str.ensures)
+    (subst (λ (r : List ℕ). All (g.F.Files.is_sure_name c.args.files.now) (c.args.base.now ∷ r ∷ c.as_str-3.result.now ∷ [])) (sym c.as_str-2.ensures)
+    (subst (λ (n : List ℕ). All (g.F.Files.is_sure_name c.args.files.now) (c.args.base.now ∷ c.args.rover.now ∷ n ∷ [])) (sym c.as_str-3.ensures) all)))
+
+pub returns-clause-refused : goal.returns-clause-refused
+returns-clause-refused g c =
+    subst (λ (b : List ℕ). IfEnded c.track.result (AreRefusedWhole (g.F.Files.text_of c.args.files.now) (g.F.Files.unread c.track.new.files) (b ∷ c.args.rover.now ∷ c.args.nav.now ∷ []))) c.as_str.ensures
+    (subst (λ (r : List ℕ). IfEnded c.track.result (AreRefusedWhole (g.F.Files.text_of c.args.files.now) (g.F.Files.unread c.track.new.files) (c.as_str.result.now ∷ r ∷ c.args.nav.now ∷ []))) c.as_str-2.ensures
+    (subst (λ (n : List ℕ). IfEnded c.track.result (AreRefusedWhole (g.F.Files.text_of c.args.files.now) (g.F.Files.unread c.track.new.files) (c.as_str.result.now ∷ c.as_str-2.result.now ∷ n ∷ []))) c.as_str-3.ensures c.track.ensures.refused))

@@ -1,0 +1,4 @@
+pub mod StandsLaws
+pub mod Certified
+pub mod TrackSays
+pub mod CheckSays

@@ -1,0 +1,52 @@
+-- What the command `check-track` ends with.
+use Rattle.std.specs.Prelude.{◌≡◌, ◌⊎◌, ℕ, List, [], Err}
+use Rattle.rinex_head.specs.declared.place.At.{At}
+use Rattle.obs_rows.specs.Signals.{fine_signals}
+use Rattle.cert_data.specs.declared.verdicts.Verdict.{Verdict}
+use Rattle.cert_data.specs.declared.verdicts.Verdict.TheVariants.{Certified}
+use Rattle.cert_check.specs.Verdicts.{IsSameVerdict}
+use Rattle.cert_report.specs.VerdictText.{verdict_text}
+use Rattle.cert_jobs.specs.CertJobs.{status_of}
+use Rattle.job_answers.specs.declared.status.Status.TheVariants.{Refused}
+use Rattle.job_answers.specs.Texts.{refusal_line}
+use Rattle.job_answers.specs.Endings.{Ending, ending}
+use Rattle.track_data.specs.declared.certs.TrackCert.{TrackCert}
+use Rattle.track_spelling.specs.Spelling.{track_spelling}
+use Rattle.track_spelling.specs.Lengths.{IsWholeTrackCert, IsTrackCertificate}
+use Rattle.track_form.specs.Verdicts.{IsTrackVerdict, IsTrackBestIn}
+use Rattle.track_text.specs.Rules.{track_reading}
+
+-- the rows of a track and its tail have this verdict
+abbrev pub IsVerdictOn : TrackCert → Verdict → Type 0
+IsVerdictOn cert v = IsTrackVerdict cert.track.arcs (fine_signals cert.track.signals) cert.track.pairs cert.ratio cert.budget cert.tail v
+
+-- the tail says that the rows are fixed, and its first integers with its moves are strictly best for them
+abbrev pub IsBestFor : TrackCert → Type 0
+IsBestFor cert = IsTrackBestIn cert.track.arcs (fine_signals cert.track.signals) cert.track.pairs cert.tail
+
+-- the text is no certificate of a track, and is refused at the first place at which the rules fail
+pub record IsTrackRefused (name text : List ℕ) (end : Ending) : Type 0 where
+  pub at : At
+  pub none : IsTrackCertificate text → ⊥
+  pub gives_is : track_reading text ≡ Err at
+  pub end_is : end ≡ ending Refused [] (refusal_line name at)
+
+-- The rows are decided again, and the tail is compared with what they say. No other verdict holds of them, but where a search
+-- gave up.
+pub record CheckTrackEnd (cert : TrackCert) (end : Ending) : Type 0 where
+  pub verdict : Verdict
+  pub is : IsVerdictOn cert verdict
+  pub only : (v : Verdict) → IsVerdictOn cert v → IsSameVerdict v verdict
+  pub best : verdict ≡ Certified → IsBestFor cert
+  pub end_is : end ≡ ending (status_of verdict) (verdict_text verdict) []
+
+-- the text spells the certificate of a track, which ends so
+pub record EndsByTrackCert (text : List ℕ) (end : Ending) : Type 0 where
+  pub cert : TrackCert
+  pub whole : IsWholeTrackCert cert
+  pub spelled : text ≡ track_spelling cert
+  pub ends_so : CheckTrackEnd cert end
+
+-- what a file of that name and text ends with
+abbrev pub CheckTrackEnds : List ℕ → List ℕ → Ending → Type 0
+CheckTrackEnds name text end = EndsByTrackCert text end ⊎ IsTrackRefused name text end

@@ -1,0 +1,5 @@
+pub mod TrackOutcomes
+pub mod TrackJobs
+pub mod TrackRuns
+pub mod CheckJobs
+pub mod CheckRuns

@@ -1,0 +1,86 @@
+-- The outcome of the files of a base and a moving rover.
+use Rattle.std.specs.Prelude.{◌≡◌, ◌⊎◌, ◌↔◌, ℕ, IsTrue, List, [], ◌∷◌, length, All, ℤ, pos}
+use Rattle.obs_rows.specs.declared.arcs.Arc.{Arc}
+use Rattle.obs_rows.specs.declared.bands.Signals.{Signals}
+use Rattle.obs_rows.specs.Arcs.{free_count}
+use Rattle.obs_rows.specs.Signals.{fine_signals}
+use Rattle.obs_store.specs.declared.file.ObsFile.{ObsFile}
+use Rattle.eph_store.specs.File.{Records}
+use Rattle.epoch_pair.specs.declared.pairs.PairOf.{PairOf}
+use Rattle.slip_arcs.specs.Runs.{AreKept}
+use Rattle.slip_arcs.specs.Linked.{HaveDatums}
+use Rattle.band_sets.specs.BandSets.{bands_of}
+use Rattle.system_world.specs.Worlds.{world_of}
+use Rattle.screening.specs.declared.screened.Screened.{Screened}
+use Rattle.screening.specs.Screening.{setting_of, AreUsedPairs, IsSvPair}
+use Rattle.round_steps.specs.Counts.{AreFew, AreMany}
+use Rattle.run_options.specs.declared.options.Options.{Options}
+use Rattle.session_begin.specs.Beginnings.{IsPosition, AreSignals, AreSparse, AreTaken, pairs_of}
+use Rattle.session.specs.Answers.{HasDelta}
+use Rattle.track_data.specs.declared.tracks.Track.{Track}
+use Rattle.track_data.specs.declared.tails.TrackTail.{TrackTail}
+use Rattle.track_data.specs.declared.certs.TrackCert.{TrackCert}
+use Rattle.track_data.specs.declared.lost.Lost.{Lost}
+use Rattle.track_data.specs.declared.lost.Tracked.{Tracked}
+use Rattle.track_form.specs.Decided.{IsTrackDecision, IsSameDecision, IsTrackBestWhereFixed}
+use Rattle.track_report.specs.declared.outcomes.TrackOutcome.{TrackOutcome}
+use Rattle.track_report.specs.declared.outcomes.TrackAnswer.{TrackAnswer}
+use Rattle.track_report.specs.declared.outcomes.TrackAnswer.TheVariants.{Few, Arcs, Lost as NoneTracked, Full}
+use Rattle.track_rows.specs.Tracks.{IsTrackOf}
+
+-- the used satellites of the taken pairs with their boxes, and the arcs that are kept of them
+pub record AreScreenedArcs (base rover : ObsFile) (nav : Records) (o : Options) (signals : Signals) (taken : List PairOf) (screened : Screened) (kept : List Arc) : Type 0 where
+  pub used_are : AreUsedPairs (setting_of base nav signals o.mask (world_of o.system)) base.epochs rover.epochs taken screened.used
+  pub boxes_are : All (IsSvPair (setting_of base nav signals o.mask (world_of o.system)) base.epochs rover.epochs taken) screened.boxes
+  pub short : ℕ
+  pub kept_are : AreKept (bands_of o.bands) o.jump o.arc screened.used kept short
+  pub datums : HaveDatums kept
+  pub shifts : All (λ a. a.shift ≡ pos 0 ∷ pos 0 ∷ pos 0 ∷ []) kept
+
+-- a pair has four satellites in kept arcs, and the arcs aren't too many
+pub record IsTrackable (kept : List Arc) (taken : ℕ) : Type 0 where
+  pub not_few : AreFew taken kept → ⊥
+  pub not_many : AreMany kept → ⊥
+
+abbrev pub tracked_with : Track → List Lost → Tracked
+tracked_with track lost = record { track = track; lost = lost }
+
+-- what is decided of the tracked pairs, whose rows the certificate has: one decision, but where a search gave up
+pub record IsDecidedTrack (o : Options) (cert : TrackCert) : Type 0 where
+  pub ratio_is : cert.ratio ≡ o.ratio
+  pub budget_is : cert.budget ≡ o.budget
+  pub decision : IsTrackDecision cert.track.arcs (fine_signals cert.track.signals) cert.track.pairs cert.ratio cert.budget cert.tail
+  pub only : (t : TrackTail) → IsTrackDecision cert.track.arcs (fine_signals cert.track.signals) cert.track.pairs cert.ratio cert.budget t → IsSameDecision t cert.tail
+  pub best : IsTrackBestWhereFixed cert.track.arcs (fine_signals cert.track.signals) cert.track.pairs cert.tail
+
+-- no pair is tracked, though some has four satellites in kept arcs
+pub record HasNoTracked (screened : Screened) (kept : List Arc) (position : List ℤ) (signals : Signals) (o : Options) (lost : List Lost) : Type 0 where
+  pub track : Track
+  pub is : IsTrackOf screened kept position signals o.system (tracked_with track lost)
+  pub none : track.pairs ≡ []
+
+-- Few exactly where no taken pair has four satellites in kept arcs, else Arcs exactly where the arcs are too many, both before
+-- any pair is tried; else each taken pair is tracked or lost: NoneTracked where all are lost, and else what is decided
+abbrev pub IsTrackAnswer : Screened → List Arc → List ℤ → Signals → Options → ℕ → List Lost → TrackAnswer → Type 0
+IsTrackAnswer screened kept position signals o taken lost (Few pairs) = (pairs ≡ taken) × (AreFew taken kept × (lost ≡ []))
+IsTrackAnswer screened kept position signals o taken lost (Arcs free) = (free ≡ free_count kept) × ((AreFew taken kept → ⊥) × (AreMany kept × (lost ≡ [])))
+IsTrackAnswer screened kept position signals o taken lost (NoneTracked pairs) = (pairs ≡ taken) × (IsTrackable kept taken × HasNoTracked screened kept position signals o lost)
+IsTrackAnswer screened kept position signals o taken lost (Full cert) = IsTrackable kept taken × (IsTrackOf screened kept position signals o.system (tracked_with cert.track lost) × IsDecidedTrack o cert)
+
+-- the counts, the pairs that are lost, and the answer over the kept arcs
+pub record IsTrackOutcome (base rover : ObsFile) (nav : Records) (o : Options) (out : TrackOutcome) : Type 0 where
+  pub position : List ℤ
+  pub position_is : IsPosition base position
+  pub signals : Signals
+  pub signals_are : AreSignals (bands_of o.bands) base rover signals
+  pub sparse : AreSparse o.gap base rover
+  pub taken : List PairOf
+  pub taken_are : AreTaken base rover o taken
+  pub screened : Screened
+  pub kept : List Arc
+  pub arcs_are : AreScreenedArcs base rover nav o signals taken screened kept
+  pub taken_is : out.taken ≡ length taken
+  pub all_is : out.all ≡ length (pairs_of base rover o)
+  pub kept_is : out.kept ≡ length kept
+  pub delta_is : IsTrue out.delta ↔ (HasDelta base ⊎ HasDelta rover)
+  pub answer_is : IsTrackAnswer screened kept position signals o out.taken out.lost out.answer

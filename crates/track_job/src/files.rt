@@ -1,0 +1,69 @@
+//! What the tracks of two files are made of.
+ghost use Rattle.std.specs.Prelude.{◌≤◌, All, AllPairs, length, IfOk};
+ghost use Rattle.obs_store.specs.Epochs.{tags_of};
+ghost use Rattle.epoch_pair.specs.Pairs.{Follows, IsNearPair};
+ghost use Rattle.slip_arcs.specs.Linked.{IsCutOf};
+ghost use Rattle.session_begin.specs.Beginnings.{IsPosition};
+ghost use Rattle.track_job.specs.TrackOutcomes.{AreScreenedArcs};
+
+use eph_store::NavFile;
+use obs_rows::ArcList;
+use obs_store::ObsFile;
+use screening::{Screened, screen_in};
+use session_begin::{Begun, Options};
+use slip_arcs::cut;
+use std::alloc::{AllocError, Global};
+use system_world::world_of;
+
+/// What was screened of two files, with the arcs that were kept.
+#[derive(Debug, Drop)]
+pub(crate) struct ScreenedArcs {
+    pub screened: Screened,
+    pub kept: ArcList,
+}
+
+/// The used satellites of the taken pairs, and the arcs that are kept of them.
+pub(crate) fn screened_arcs(
+    alloc: Global,
+    base: &ObsFile,
+    rover: &ObsFile,
+    nav: &NavFile,
+    begun: &Begun,
+    options: &Options,
+) -> Result<ScreenedArcs, AllocError>
+    requires position { IsPosition base.now begun.now.position }
+    requires few { length begun.now.taken.items ≤ 3600 }
+    requires rises { AllPairs Follows begun.now.taken.items }
+    requires near { All (IsNearPair options.now.gap (tags_of base.now.epochs) (tags_of rover.now.epochs)) begun.now.taken.items }
+    ensures screened { IfOk result (λ f. AreScreenedArcs base.now rover.now nav.now options.now begun.now.signals begun.now.taken.items f.screened f.kept) }
+    ensures cut { IfOk result (λ f. IsCutOf f.screened.used f.kept) }
+{
+    let taken = begun.taken.as_slice();
+    let world = world_of(options.system);
+    let screened = match screen_in(
+        alloc,
+        base,
+        rover,
+        nav,
+        begun.signals,
+        taken,
+        options.mask,
+        &world,
+    ) {
+        Ok(screened) => screened,
+        Err(fault) => return Err(fault),
+    };
+    match cut(
+        alloc,
+        screened.used.as_slice(),
+        options.bands,
+        options.jump,
+        options.arc,
+    ) {
+        Ok(arcs) => Ok(ScreenedArcs {
+            screened,
+            kept: arcs.kept,
+        }),
+        Err(fault) => Err(fault),
+    }
+}

@@ -1,0 +1,151 @@
+//! The outcome of a run over the files of a base and a moving rover.
+ghost use Rattle.std.specs.Prelude.{◌≡◌, ◌≤◌, ℕ, ℤ, List, [], ◌∷◌, length, All, IfOk, IfErr, pos};
+ghost use Rattle.obs_rows.specs.declared.arcs.Arc.{Arc};
+ghost use Rattle.obs_rows.specs.declared.bands.Signals.{Signals};
+ghost use Rattle.obs_rows.specs.Arcs.{free_count};
+ghost use Rattle.obs_rows.specs.ReceiverPoints.{IsReceiverPoint};
+ghost use Rattle.slip_arcs.specs.Linked.{IsCutOf};
+ghost use Rattle.screening.specs.declared.screened.Screened.{Screened};
+ghost use Rattle.session_begin.specs.Beginnings.{IsSessionFault};
+ghost use Rattle.track_rows.specs.Tracks.{IsTrackOf};
+ghost use Rattle.track_job.specs.TrackOutcomes.{IsTrackable, IsTrackAnswer, IsTrackOutcome};
+
+use crate::files::{ScreenedArcs, screened_arcs};
+use eph_store::NavFile;
+use obs_rows::{Arc, free_arcs};
+use obs_store::ObsFile;
+use round_steps::{are_few, are_many};
+use session::have_delta;
+use session_begin::{Begun, Options, SessionFault, begin};
+use std::alloc::{AllocError, Global};
+use track_data::{Items, Lost, TrackCert, Tracked};
+use track_form::decide_track;
+use track_report::{TrackAnswer, TrackOutcome};
+use track_rows::track_at;
+
+/// An answer, with the pairs that are lost.
+#[derive(Debug, Drop)]
+pub(crate) struct TrackAnswered {
+    pub lost: Items<Lost>,
+    pub answer: TrackAnswer,
+}
+
+/// How many of the arcs are free.
+fn free_count(arcs: &[Arc]) -> u32
+    requires { length arcs.now ≤ 54_000 }
+    ensures { result ≡ free_count arcs.now }
+{
+    free_arcs(arcs) as u32
+}
+
+// Where no pair was tried, none is lost.
+fn none_lost(alloc: Global) -> Items<Lost>
+    ensures { result ≡ [] }
+{
+    Items::new(Vec::new(alloc))
+}
+
+// What is decided of a track, where it has a pair.
+fn decided(
+    alloc: Global,
+    tracked: Tracked,
+    taken: u32,
+    options: &Options,
+) -> Result<TrackAnswered, AllocError>
+    ensures { (screened : Screened) (kept : List Arc) (position : List ℤ) (signals : Signals) → IsTrackable kept taken → IsTrackOf screened kept position signals options.now.system tracked
+        → IfOk result (λ a. IsTrackAnswer screened kept position signals options.now taken a.lost a.answer) }
+{
+    let Tracked { track, lost } = tracked;
+    if track.pairs.is_empty() {
+        return Ok(TrackAnswered {
+            lost,
+            answer: TrackAnswer::Lost { pairs: taken },
+        });
+    }
+    let tail = decide_track(alloc, &track, options.ratio, options.budget)?;
+    Ok(TrackAnswered {
+        lost,
+        answer: TrackAnswer::Full(TrackCert {
+            ratio: options.ratio,
+            budget: options.budget,
+            track,
+            tail,
+        }),
+    })
+}
+
+// Too few satellites, too many arcs, or what is decided of the track.
+fn answer(
+    alloc: Global,
+    files: &ScreenedArcs,
+    begun: &Begun,
+    taken: u32,
+    options: &Options,
+) -> Result<TrackAnswered, AllocError>
+    requires cut { IsCutOf files.now.screened.used files.now.kept }
+    requires shifts { All (λ a. a.shift ≡ pos 0 ∷ pos 0 ∷ pos 0 ∷ []) files.now.kept }
+    requires point { IsReceiverPoint begun.now.position }
+    ensures { IfOk result (λ a. IsTrackAnswer files.now.screened files.now.kept begun.now.position begun.now.signals options.now taken a.lost a.answer) }
+{
+    let kept = files.kept.as_slice();
+    if are_few(taken, kept) {
+        return Ok(TrackAnswered {
+            lost: none_lost(alloc),
+            answer: TrackAnswer::Few { pairs: taken },
+        });
+    }
+    if are_many(kept) {
+        return Ok(TrackAnswered {
+            lost: none_lost(alloc),
+            answer: TrackAnswer::Arcs {
+                free: free_count(kept),
+            },
+        });
+    }
+    match track_at(
+        alloc,
+        &files.screened,
+        kept,
+        &begun.position,
+        begun.signals,
+        options.system,
+    ) {
+        Ok(tracked) => decided(alloc, tracked, taken, options),
+        Err(fault) => Err(fault),
+    }
+}
+
+/// The outcome of the files of a base and a moving rover: which pairs are tracked and what is decided of them together, or why
+/// the files are refused.
+pub(crate) fn track_outcome(
+    alloc: Global,
+    base: &ObsFile,
+    rover: &ObsFile,
+    nav: &NavFile,
+    options: &Options,
+) -> Result<TrackOutcome, SessionFault>
+    ensures refused { IfErr result (IsSessionFault base.now rover.now options.now) }
+    ensures outcome { IfOk result (IsTrackOutcome base.now rover.now nav.now options.now) }
+{
+    let begun = match begin(alloc, base, rover, options) {
+        Ok(begun) => begun,
+        Err(fault) => return Err(fault),
+    };
+    let files = match screened_arcs(alloc, base, rover, nav, &begun, options) {
+        Ok(files) => files,
+        Err(_) => return Err(SessionFault::NoMemory),
+    };
+    let taken = begun.taken.len() as u32;
+    let delta = have_delta(base, rover);
+    match answer(alloc, &files, &begun, taken, options) {
+        Ok(answered) => Ok(TrackOutcome {
+            taken,
+            all: begun.all,
+            kept: files.kept.len() as u32,
+            delta,
+            lost: answered.lost,
+            answer: answered.answer,
+        }),
+        Err(_) => Err(SessionFault::NoMemory),
+    }
+}
