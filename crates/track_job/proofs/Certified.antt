@@ -1,5 +1,5 @@
 -- What a run decides as fixed, the rows say again: a check certifies it, or its search gives up.
-use Rattle.std.proofs.Common.{◌≡◌, ◌⊎◌, inl, inr, ℕ, ℤ, List, refl, sym, ◌∙◌, subst}
+use Rattle.std.proofs.Common.{◌≡◌, ◌⊎◌, inl, inr, ℕ, ℤ, List, refl, sym, subst}
 use Rattle.obs_rows.specs.declared.arcs.Arc.{Arc}
 use Rattle.obs_rows.specs.declared.pair_rows.PairRows.{PairRows}
 use Rattle.integer_form.specs.declared.faults.Place.{Place}
@@ -11,7 +11,7 @@ use Rattle.cert_data.specs.declared.verdicts.Cause.TheVariants as cause
 use Rattle.cert_check.specs.Verdicts.{IsGivenUp}
 use Rattle.track_data.specs.declared.tails.TrackTail.{TrackTail}
 use Rattle.track_data.specs.declared.tails.TrackTail.TheVariants.{Fixed, Unseparated, Weak, Overwidth, Spent}
-use Rattle.track_form.specs.Decided.{IsTrackDecision, AreSameNumbers, IsSameTail, HasGivenUp, IsSameDecision}
+use Rattle.track_form.specs.Decided.{IsTrackDecision, AreSameNumbers, HasGivenUp, IsSameDecision}
 use Rattle.track_form.specs.Verdicts.{IsSaidOf, IsTrackVerdict}
 
 same_numbers : (h : ℕ) (moves : List (List ℤ)) (best : TwoBest) (top : ℤ) → AreSameNumbers h h moves moves best best top top

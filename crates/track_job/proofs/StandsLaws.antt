@@ -1,11 +1,9 @@
 -- The kept arcs of two files, and that the track of an outcome stands for the files.
-use Rattle.std.proofs.Common.{◌≡◌, ◌≤◌, ◌^◌, ◌⊎◌, ◌<◌, inl, inr, ℕ, ℤ, pos, [], ◌∷◌, List, length, All, arith, refl, sym, ap, ◌∙◌, subst}
+use Rattle.std.proofs.Common.{◌≡◌, ◌≤◌, ℕ, pos, [], ◌∷◌, List, length, All, arith, refl, subst}
 use Rattle.obs_store.specs.declared.file.ObsFile.{ObsFile}
 use Rattle.eph_store.specs.File.{Records}
 use Rattle.obs_rows.specs.declared.arcs.Arc.{Arc}
-use Rattle.obs_rows.specs.declared.bands.Signals.{Signals}
 use Rattle.obs_rows.specs.Arcs.{AreArcs}
-use Rattle.epoch_pair.specs.declared.pairs.PairOf.{PairOf}
 use Rattle.slip_arcs.specs.Linked.{IsCutOf}
 use Rattle.screening.specs.declared.screened.Screened.{Screened}
 use Rattle.screening.specs.Screening.{setting_of}
@@ -18,7 +16,7 @@ use Rattle.track_report.specs.declared.outcomes.TrackOutcome.{TrackOutcome}
 use Rattle.track_report.specs.declared.outcomes.TrackAnswer.{TrackAnswer}
 use Rattle.track_report.specs.declared.outcomes.TrackAnswer.TheVariants.{Full}
 use Rattle.track_rows.proofs.StandsLaws.{track_stands}
-use Rattle.track_job.specs.TrackOutcomes.{AreScreenedArcs, IsTrackable, IsTrackAnswer, IsTrackOutcome, tracked_with}
+use Rattle.track_job.specs.TrackOutcomes.{IsTrackable, IsTrackAnswer, IsTrackOutcome, tracked_with}
 use Rattle.track_job.specs.TrackRuns.{TrackStandsForIts}
 
 pub some_length : {X : Type 0} (xs : List X) → (xs ≡ [] → ⊥) → 1 ≤ length xs

@@ -29,7 +29,7 @@ use Rattle.track_report.specs.declared.outcomes.TrackOutcome.{TrackOutcome}
 use Rattle.track_report.specs.declared.outcomes.TrackAnswer.{TrackAnswer}
 use Rattle.track_report.specs.declared.outcomes.TrackAnswer.TheVariants as answer
 use Rattle.track_report.specs.TrackTexts.{track_answer_text, IsWholeTrackAnswer, is_fixed_track, is_track_fixed}
-use Rattle.track_job.specs.TrackOutcomes.{IsTrackAnswer, IsTrackOutcome}
+use Rattle.track_job.specs.TrackOutcomes.{IsTrackAnswer}
 use Rattle.track_job.specs.TrackJobs.{TrackEnd, TrackEnds}
 use Rattle.track_job.specs.TrackRuns.{IsTrackFix, HaveTrackOutcome, SaysOfTrack}
 use Rattle.track_job.proofs.StandsLaws.{track_stands_for}

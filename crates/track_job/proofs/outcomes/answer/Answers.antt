@@ -1,12 +1,10 @@
-use Rattle.std.proofs.Common.{◌≤◌, List, length, All, sym, subst}
+use Rattle.std.proofs.Common.{◌≤◌, List, length, refl, sym, ap, ◌∙◌, subst}
 use Rattle.std.proofs.lemmas.Bool.{false≢true}
 use Rattle.obs_rows.specs.declared.arcs.Arc.{Arc}
-use Rattle.obs_rows.specs.Arcs.{AreArcs}
-use Rattle.obs_rows.specs.Signals.{fine_signals}
-use Rattle.obs_rows.specs.Unused.{HasUsedShifts}
+use Rattle.obs_rows.specs.Arcs.{AreArcs, free_count}
 use Rattle.round_steps.specs.Counts.{AreFew, AreMany}
-use Rattle.session.proofs.RangeLaws.{none_unused}
 use Rattle.session.proofs.FewArcs.{kept_few}
+use Rattle.track_rows.specs.Tracks.{IsTrackOf}
 use Rattle.track_job.specs.TrackOutcomes.{IsTrackable}
 use Rattle.track_job.proofs.StandsLaws.{trackable_arcs}
 use Rattle.track_job.proofs.outcomes.answer.Goals as goal
@@ -26,8 +24,27 @@ track_at-requires-clause-arcs c =
     } in
     subst AreArcs (sym of_slice) (trackable_arcs f.screened f.kept c.args.taken c.requires.cut c.requires.shifts on)
 
-pub track_at-requires-clause-shifts : goal.track_at-requires-clause-shifts
-track_at-requires-clause-shifts c =
+pub returns-then-are_few : goal.returns-then-are_few
+returns-then-are_few c = (refl, (subst (AreFew c.args.taken) c.as_slice-kept.ensures (c.if-are_few.ensures.0 refl), c.none_lost.ensures))
+
+pub returns-then-are_many : goal.returns-then-are_many
+returns-then-are_many c =
+    let of_slice = c.as_slice-kept.ensures in (
+      c.free_count.ensures ∙ ap free_count of_slice,
+      (
+        λ h. false≢true (c.if-are_few.ensures.1 (subst (AreFew c.args.taken) (sym of_slice) h)),
+        (subst AreMany of_slice (c.if-are_many.ensures.0 refl), c.none_lost-then-are_many.ensures),
+      ),
+    )
+
+pub returns-in-Ok : goal.returns-in-Ok
+returns-in-Ok c =
     let f = c.args.files.now in
-    let ss = fine_signals c.args.begun.now.signals in
-    subst (λ (l : List Arc). All (HasUsedShifts ss) l) (sym c.as_slice-kept.ensures) (none_unused ss f.kept c.requires.shifts)
+    let begun = c.args.begun.now in
+    let of_slice = c.as_slice-kept.ensures in
+    let on : IsTrackable f.kept c.args.taken = record {
+      not_few = λ h. false≢true (c.if-are_few.ensures.1 (subst (AreFew c.args.taken) (sym of_slice) h));
+      not_many = λ h. false≢true (c.if-are_many.ensures.1 (subst AreMany (sym of_slice) h));
+    } in
+    c.decided.ensures f.screened f.kept begun.position begun.signals on
+    (subst (λ (l : List Arc). IsTrackOf f.screened l begun.position begun.signals c.args.options.now.system c.in-Ok.tracked) of_slice c.in-Ok.ensures.track)
