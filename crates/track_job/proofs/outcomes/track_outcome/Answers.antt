@@ -1,4 +1,4 @@
-use Rattle.std.proofs.Common.{arith}
+use Rattle.std.proofs.Common.{◌∙◌, arith}
 use Rattle.session.proofs.FewArcs.{kept_few}
 use Rattle.track_job.proofs.outcomes.track_outcome.Goals as goal
 
@@ -22,7 +22,7 @@ returns-in-Ok-answer-clause-outcome c =
       screened = f.screened;
       kept = f.kept;
       arcs_are = c.in-Ok-screened_arcs.ensures.screened;
-      taken_is = c.len-taken.ensures;
+      taken_is = c.len-taken.ensures ∙ c.in-Ok.begun.taken.ok.0;
       all_is = c.in-Ok.ensures.all;
       kept_is = c.len.ensures;
       delta_is = c.have_delta-delta.ensures;
