@@ -30,7 +30,8 @@ bounded_above f is_data z (p ∷ ps) (m ∷ ms) (u ∷ us) [] h k = absurd k
 bounded_above f is_data z (p ∷ ps) (m ∷ ms) (u ∷ us) (d ∷ ds) h k = (h.0 d k.0, bounded_above f is_data z ps ms us ds h.1 k.1)
 
 pub track_best : {P D B : Type 0} (f : P → D → List ℤ → B → Rational) (is_data : P → D → Type 0) (n h : ℕ) (ps : List P) (fs : List Front) (ms : List B) (us : List ℤ) (ratio : ℤ) (z1 z2 : List ℤ) →
-    All (λ g. g.h ≤ h) fs → pos 1 +ℤ len z1 ≡ pos n → TwoLeast (track_form n h fs) (len z1) z1 z2 → pos 1000 ≤ℤ ratio → pos 0 ≤ℤ track_top h us → IsSeparated ratio (track_top h us) (value (track_form n h fs) z2) →
+    All (λ g. g.h ≤ h) fs → pos 1 +ℤ len z1 ≡ pos n → TwoLeast (track_form n h fs) (len z1) z1 z2 → pos 1000 ≤ℤ ratio → pos 0 ≤ℤ track_top h us → IsSeparated ratio (track_top h us)
+    (value (track_form n h fs) z2) →
     AllZip (IsBoundedBy f is_data n z1) ps fs → AreBoundedAbove f is_data z1 ps ms us → IsTrackBest f is_data ps z1 ms
 track_best {P} {D} {B} f is_data n h ps fs ms us ratio z1 z2 all e least r k separated below above = record {
   best = λ (ds : List D) (data_are : AllZip is_data ps ds) (w : List ℤ) (l : len w ≡ len z1) (other : w ≢ z1) (bs : List B) (as_many : length bs ≡ length ps).

@@ -14,7 +14,8 @@ use Rattle.track_sum.specs.Fronts.{Front, front_form, track_form, fronts_value, 
 use Rattle.track_sum.proofs.SumOfForms.{sum_below}
 
 -- 64 times the sum is at least the sum of the pairs' values
-pairs_below : (n : ℕ) (z : List ℤ) (fs : List Front) (gs : List Rational) → AllZip (BoundsPair n z) fs gs → of_whole (fronts_value n fs (z ++ (pos 1 ∷ []))) ≤ʳ mul_r (of_whole (pos 64)) (sum_of_rationals gs)
+pairs_below : (n : ℕ) (z : List ℤ) (fs : List Front) (gs : List Rational) → AllZip (BoundsPair n z) fs gs →
+    of_whole (fronts_value n fs (z ++ (pos 1 ∷ []))) ≤ʳ mul_r (of_whole (pos 64)) (sum_of_rationals gs)
 pairs_below n z [] [] h = of_whole-le (pos 0) (pos 64 *ℤ pos 0) (le_by [] (nat 0, nat 64 ⊗ nat 0, nat 0) refl (pos_nn 0))
 pairs_below n z [] (g ∷ gs) h = absurd h
 pairs_below n z (f ∷ fs) [] h = absurd h
@@ -23,7 +24,8 @@ pairs_below n z (f ∷ fs) (g ∷ gs) h =
   where
     step : (k l a c : ℤ) (b d : ℕ) → (k *ℤ (pos 1 *ℤ pos b)) ≤ℤ ((pos 64 *ℤ a) *ℤ pos 1) → (l *ℤ (pos 1 *ℤ pos d)) ≤ℤ ((pos 64 *ℤ c) *ℤ pos 1)
         → ((k +ℤ l) *ℤ (pos 1 *ℤ (pos b *ℤ pos d))) ≤ℤ ((pos 64 *ℤ ((a *ℤ pos d) +ℤ (c *ℤ pos b))) *ℤ pos 1)
-    step k l a c b d h i = le_by (k ∷ l ∷ pos b ∷ pos d ∷ a ∷ c ∷ []) (λ k l b d a c. ((k ⊕ l) ⊗ (nat 1 ⊗ (b ⊗ d)), nat 64 ⊗ (a ⊗ d ⊕ c ⊗ b) ⊗ nat 1, d ⊗ (nat 64 ⊗ a ⊗ nat 1 ⊖ k ⊗ (nat 1 ⊗ b)) ⊕ b ⊗ (nat 64 ⊗ c ⊗ nat 1 ⊖ l ⊗ (nat 1 ⊗ d)))) refl
+    step k l a c b d h i = le_by (k ∷ l ∷ pos b ∷ pos d ∷ a ∷ c ∷ []) (λ k l b d a c.
+        ((k ⊕ l) ⊗ (nat 1 ⊗ (b ⊗ d)), nat 64 ⊗ (a ⊗ d ⊕ c ⊗ b) ⊗ nat 1, d ⊗ (nat 64 ⊗ a ⊗ nat 1 ⊖ k ⊗ (nat 1 ⊗ b)) ⊕ b ⊗ (nat 64 ⊗ c ⊗ nat 1 ⊖ l ⊗ (nat 1 ⊗ d)))) refl
         (both_nn (prod_nn (pos_nn d) (less_nn h)) (prod_nn (pos_nn b) (less_nn i)))
 
 -- 64 times the sum is at least 2^h times the value of the track's form

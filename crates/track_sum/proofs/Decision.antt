@@ -18,5 +18,6 @@ pub track_decided : (n h : ℕ) (fs : List Front) (ratio : ℤ) (us : List ℤ) 
     TwoLeast (track_form n h fs) (len z1) z1 z2 → pos 1000 ≤ℤ ratio → pos 0 ≤ℤ track_top h us → IsSeparated ratio (track_top h us) (value (track_form n h fs) z2) →
     len w ≡ len z1 → w ≢ z1 → AllZip IsAtMost ours us → AllZip (BoundsPair n w) fs theirs → sum_of_rationals ours <ʳ sum_of_rationals theirs
 track_decided n h fs ratio us z1 z2 w ours theirs all e least r k separated l other upper lower =
-    below (sum_of_rationals ours) (sum_of_rationals theirs) h (track_top h us) (value (track_form n h fs) z2) (value (track_form n h fs) w) (room (track_top h us) ratio (value (track_form n h fs) z2) r k separated)
+    below (sum_of_rationals ours) (sum_of_rationals theirs) h (track_top h us) (value (track_form n h fs) z2) (value (track_form n h fs) w)
+    (room (track_top h us) ratio (value (track_form n h fs) z2) r k separated)
     (second_value (track_form n h fs) (len z1) z1 z2 w least l other) (top_at_most h ours us upper) (bound_of_track n h w fs theirs all (len_last w (pos 1) ∙ ap (λ x. pos 1 +ℤ x) l ∙ e) lower)

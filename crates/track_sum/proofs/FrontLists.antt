@@ -25,7 +25,8 @@ pub record HasPlace (arcs : List Arc) (ss : List ℕ) (p : PairRows) (fs : List 
   pub inside : k < length fs
   pub at : get_or fs k front ≡ front
 
-pub front_place : (arcs : List Arc) (ss : List ℕ) (pairs : List PairRows) (fs : List FrontForm) (k : ℕ) (p : PairRows) → AreFronts arcs ss pairs fs → k < length pairs → get_or pairs k p ≡ p → HasPlace arcs ss p fs k
+pub front_place : (arcs : List Arc) (ss : List ℕ) (pairs : List PairRows) (fs : List FrontForm) (k : ℕ) (p : PairRows) → AreFronts arcs ss pairs fs → k < length pairs → get_or pairs k p ≡ p →
+    HasPlace arcs ss p fs k
 front_place arcs ss [] fs k p are l e = absurd (omega arith)
 front_place arcs ss (q ∷ pairs) [] k p are l e = absurd are
 front_place arcs ss (q ∷ pairs) (f ∷ fs) zero p are l e = record { front = f; is = subst (λ (x : PairRows). IsFrontOfPair arcs ss x f) e are.0; inside = omega arith; at = refl }
@@ -46,7 +47,8 @@ pub small_fronts : (fs : List FrontForm) → All IsSmallFront (map brief fs)
 small_fronts fs = All-map IsSmallFront brief fs (λ k d l. (get_or fs k d).entries_in)
 
 -- from the greatest exponent of all pairs and the least power of 2 that serves
-pub exponents_are : (arcs : List Arc) (ss : List ℕ) (pairs : List PairRows) (fs : List FrontForm) (greatest e : ℕ) → AreFronts arcs ss pairs fs → 2 * length pairs ≤ 2 ^ e → ((k : ℕ) → 2 * length pairs ≤ 2 ^ k → e ≤ k) →
+pub exponents_are : (arcs : List Arc) (ss : List ℕ) (pairs : List PairRows) (fs : List FrontForm) (greatest e : ℕ) → AreFronts arcs ss pairs fs → 2 * length pairs ≤ 2 ^ e →
+    ((k : ℕ) → 2 * length pairs ≤ 2 ^ k → e ≤ k) →
     ((k : ℕ) → k < length pairs → (d : PairRows) (f : FrontForm) → IsFrontOfPair arcs ss (get_or pairs k d) f → f.h ≤ greatest) →
     (k : ℕ) → k < length pairs → ((d : PairRows) (f : FrontForm) → IsFrontOfPair arcs ss (get_or pairs k d) f → f.h ≡ greatest) → AreExponents (map brief fs) e (greatest + e)
 exponents_are arcs ss [] fs greatest e are enough least above k inside one = absurd (omega arith)
@@ -54,7 +56,13 @@ exponents_are arcs ss (q ∷ rest) fs greatest e are enough least above k inside
   enough = subst (λ (n : ℕ). 2 * n ≤ 2 ^ e) (sym long) enough;
   least = λ j l. least j (subst (λ (n : ℕ). 2 * n ≤ 2 ^ j) long l);
   over = All-map (λ (g : Front). g.h + e ≤ greatest + e) brief fs (λ j d l. more (get_or fs j d).h (below j d l));
-  attained = (k, brief w.front, subst (λ (n : ℕ). k < n) (sym long) inside, get_or-map brief fs k w.front (brief w.front) w.inside ∙ ap brief w.at, ap (λ (h : ℕ). h + e) (one q w.front (there k w inside)));
+  attained = (
+    k,
+    brief w.front,
+    subst (λ (n : ℕ). k < n) (sym long) inside,
+    get_or-map brief fs k w.front (brief w.front) w.inside ∙ ap brief w.at,
+    ap (λ (h : ℕ). h + e) (one q w.front (there k w inside)),
+  );
 }
   where
     pairs : List PairRows

@@ -31,7 +31,8 @@ use Rattle.track_sum.proofs.TrackEntries.{part_same}
 use Rattle.track_sum.proofs.FrontLists.{fronts_long, columns_of_front, HasPlace, front_place}
 
 -- ---- two lists of fronts of the same pairs
-pub same_parts : (arcs : List Arc) (ss : List ℕ) (p : PairRows) (f g : FrontForm) (n h : ℕ) → IsFrontOfPair arcs ss p f → IsFrontOfPair arcs ss p g → n ≡ 1 + integer_count arcs ss → (r c : ℕ) → r ≤ c → c < n →
+pub same_parts : (arcs : List Arc) (ss : List ℕ) (p : PairRows) (f g : FrontForm) (n h : ℕ) → IsFrontOfPair arcs ss p f → IsFrontOfPair arcs ss p g → n ≡ 1 + integer_count arcs ss → (r c : ℕ) →
+    r ≤ c → c < n →
     part_at n (part h (brief f)) (entry f.p) r c ≡ part_at n (part h (brief g)) (entry g.p) r c
 same_parts arcs ss p f g n h a b order r c l m = part_same n (2 ^ (h - f.h)) f.p g.p form r c l m ∙ ap (λ (k : ℕ). part_at n (2 ^ (h - k)) (entry g.p) r c) same.h
   where
@@ -45,7 +46,8 @@ same_parts arcs ss p f g n h a b order r c l m = part_same n (2 ^ (h - f.h)) f.p
     form = ap (λ (k : ℕ). form_of_table f.p k) (sym (fewer f.columns (integer_count arcs ss) (columns_of_front arcs ss p f a) order)) ∙ same.form
         ∙ ap (λ (k : ℕ). form_of_table g.p k) (fewer g.columns (integer_count arcs ss) (columns_of_front arcs ss p g b) order)
 
-entries_same : (arcs : List Arc) (ss : List ℕ) (n h : ℕ) (pairs : List PairRows) (fs gs : List FrontForm) → n ≡ 1 + integer_count arcs ss → AreFronts arcs ss pairs fs → AreFronts arcs ss pairs gs → (r c : ℕ) → r ≤ c → c < n →
+entries_same : (arcs : List Arc) (ss : List ℕ) (n h : ℕ) (pairs : List PairRows) (fs gs : List FrontForm) → n ≡ 1 + integer_count arcs ss → AreFronts arcs ss pairs fs →
+    AreFronts arcs ss pairs gs → (r c : ℕ) → r ≤ c → c < n →
     track_entry n h (map brief fs) r c ≡ track_entry n h (map brief gs) r c
 entries_same arcs ss n h [] [] [] order a b r c l m = refl
 entries_same arcs ss n h [] [] (g ∷ gs) order a b r c l m = absurd b
@@ -130,7 +132,8 @@ one_form arcs ss pairs fs gs f g a b =
 pub same_move : (arcs : List Arc) (ss : List ℕ) (p : PairRows) (f g : FrontForm) (z : List ℤ) → IsFrontOfPair arcs ss p f → IsFrontOfPair arcs ss p g → move_at z f ≡ move_at z g
 same_move arcs ss p f g z a b = ap (λ (s : List Factor). take 3 (solved s (scaled (pos (2 ^ 16)) z))) (one_front arcs ss p f g a b).baseline
 
-pub same_moves : (arcs : List Arc) (ss : List ℕ) (pairs : List PairRows) (fs gs : List FrontForm) (z : List ℤ) → AreFronts arcs ss pairs fs → AreFronts arcs ss pairs gs → map (move_at z) fs ≡ map (move_at z) gs
+pub same_moves : (arcs : List Arc) (ss : List ℕ) (pairs : List PairRows) (fs gs : List FrontForm) (z : List ℤ) → AreFronts arcs ss pairs fs → AreFronts arcs ss pairs gs →
+    map (move_at z) fs ≡ map (move_at z) gs
 same_moves arcs ss [] [] [] z a b = refl
 same_moves arcs ss [] [] (g ∷ gs) z a b = absurd b
 same_moves arcs ss [] (f ∷ fs) gs z a b = absurd a
@@ -173,7 +176,8 @@ one_pair : (arcs : List Arc) (ss : List ℕ) (p : PairRows) (a b : LowerFault) �
 one_pair arcs ss p a b s t =
     let h = has_exponent (form_of s.normal) in
     let same = same_normal arcs ss (p ∷ []) s.normal t.normal s.of_rows t.of_rows in
-    one_told a b (front_of h.0 s.normal) (front_of h.0 t.normal) (same_front h.0 s.normal t.normal same) (s.told h.0 h.1) (t.told h.0 (one_exponent arcs ss (p ∷ []) s.normal t.normal h.0 s.of_rows t.of_rows h.1))
+    one_told a b (front_of h.0 s.normal) (front_of h.0 t.normal) (same_front h.0 s.normal t.normal same) (s.told h.0 h.1)
+    (t.told h.0 (one_exponent arcs ss (p ∷ []) s.normal t.normal h.0 s.of_rows t.of_rows h.1))
 
 pub one_first : (arcs : List Arc) (ss : List ℕ) (pairs : List PairRows) (a b : LowerFault) → IsFirstRefused arcs ss pairs a → IsFirstRefused arcs ss pairs b → a ≡ b
 one_first arcs ss [] a b s t = absurd (omega (arith, s.inside))

@@ -30,7 +30,12 @@ one_front arcs ss p f g a b =
     let taken : Ok (stored f.d f.l f.columns 0 3, form_of_table f.p (f.columns - 3)) ≡ Ok (stored g.d g.l g.columns 0 3, form_of_table g.p (g.columns - 3)) =
     sym a.front.taken ∙ same_front f.h n m same ∙ ap (λ (e : ℕ). front_of e m) h ∙ b.front.taken in
     let pair : (stored f.d f.l f.columns 0 3, form_of_table f.p (f.columns - 3)) ≡ (stored g.d g.l g.columns 0 3, form_of_table g.p (g.columns - 3)) = cc in
-    record { h = h; columns = a.front.columns ∙ same.columns ∙ sym b.front.columns; baseline = ap (λ (q : List Factor × List Column). q.0) pair; form = ap (λ (q : List Factor × List Column). q.1) pair }
+    record {
+      h = h;
+      columns = a.front.columns ∙ same.columns ∙ sym b.front.columns;
+      baseline = ap (λ (q : List Factor × List Column). q.0) pair;
+      form = ap (λ (q : List Factor × List Column). q.1) pair;
+    }
 
 -- a pair that is refused has none
 pub no_front : (arcs : List Arc) (ss : List ℕ) (p : PairRows) (why : LowerFault) (f : FrontForm) → IsRefusedPair arcs ss p why → IsFrontOfPair arcs ss p f → ⊥
@@ -42,7 +47,8 @@ no_front arcs ss p why f a b =
     absurd (cc (is.1.0, whole, b.front.taken))
 
 -- the fronts of the single pairs as a list
-pub fronts_listed : (arcs : List Arc) (ss : List ℕ) (pairs : List PairRows) → ((k : ℕ) → k < length pairs → (d : PairRows) → HasFront arcs ss (get_or pairs k d)) → (fs : List FrontForm) × AreFronts arcs ss pairs fs
+pub fronts_listed : (arcs : List Arc) (ss : List ℕ) (pairs : List PairRows) → ((k : ℕ) → k < length pairs → (d : PairRows) → HasFront arcs ss (get_or pairs k d)) →
+    (fs : List FrontForm) × AreFronts arcs ss pairs fs
 fronts_listed arcs ss [] h = ([], tt)
 fronts_listed arcs ss (p ∷ ps) h =
     let first = h 0 (omega arith) p in

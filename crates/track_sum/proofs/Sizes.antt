@@ -38,7 +38,8 @@ floor_rounded x m h = go x (pos m *ℤ floor_div x m) (pos m) (wide m) (floor_cl
 
 -- |q| k is at most |x| + k, where k is at most m
 rounded_size : (x q : ℤ) (m k b : ℕ) → IsRounded x m q → k ≤ m → unsigned_abs x ≤ b → unsigned_abs q * k ≤ b + k
-rounded_size x q m k b is few small = by_size (unsigned_abs q) (whole (unsigned_abs q) (subst (λ (n : ℕ). n ≤ unsigned_abs x + m) (unsigned_abs-mul (pos m) q ∙ mul_comm m (unsigned_abs q)) (near x (pos m *ℤ q) m is.0 is.1)))
+rounded_size x q m k b is few small = by_size (unsigned_abs q) (whole (unsigned_abs q)
+    (subst (λ (n : ℕ). n ≤ unsigned_abs x + m) (unsigned_abs-mul (pos m) q ∙ mul_comm m (unsigned_abs q)) (near x (pos m *ℤ q) m is.0 is.1)))
   where
     near : (x f : ℤ) (m : ℕ) → neg_ℤ (pos m) ≤ℤ (x -ℤ f) → (x -ℤ f) ≤ℤ pos m → unsigned_abs f ≤ unsigned_abs x + m
     near x f m h g = omega (arith, ints)
@@ -83,7 +84,8 @@ sum_size f k b (g ∷ fs) all = step (unsigned_abs (f g)) (unsigned_abs (sum (ma
 part_large : (e h : ℕ) (f : Front) (k : ℕ) → k ≤ 2 ^ e → f.h + e ≤ h → k ≤ part h f
 part_large e h f k enough over = let p : 2 ^ e ≤ 2 ^ (h - f.h) = pow_mono (omega (arith, over)) in omega (arith, p, enough)
 
-each_part : (e h k : ℕ) (r : ℤ → ℕ → ℤ) (at : Front → ℤ) (fs : List Front) → ((x : ℤ) (m : ℕ) → 0 < m → IsRounded x m (r x m)) → k ≤ 2 ^ e → All (λ f. f.h + e ≤ h) fs → All (λ f. unsigned_abs (at f) < 2 ^ 52) fs
+each_part : (e h k : ℕ) (r : ℤ → ℕ → ℤ) (at : Front → ℤ) (fs : List Front) → ((x : ℤ) (m : ℕ) → 0 < m → IsRounded x m (r x m)) → k ≤ 2 ^ e → All (λ f. f.h + e ≤ h) fs →
+    All (λ f. unsigned_abs (at f) < 2 ^ 52) fs
     → All (λ f. unsigned_abs (r (at f) (part h f)) * k ≤ 2 ^ 52 + k) fs
 each_part e h k r at fs is enough over small i d inside =
     let f = get_or fs i d in
@@ -94,7 +96,8 @@ each_part e h k r at fs is enough over small i d inside =
 
 -- Of the first pairs of a track of `all` pairs the sum of the rounded entries is at most 2^51 and one for each pair: so a loop
 -- over the pairs may keep its sums as 64-bit numbers
-pub sum_half : (e h all : ℕ) (r : ℤ → ℕ → ℤ) (at : Front → ℤ) (fs : List Front) → ((x : ℤ) (m : ℕ) → 0 < m → IsRounded x m (r x m)) → 1 ≤ all → length fs ≤ all → 2 * all ≤ 2 ^ e → All (λ f. f.h + e ≤ h) fs →
+pub sum_half : (e h all : ℕ) (r : ℤ → ℕ → ℤ) (at : Front → ℤ) (fs : List Front) → ((x : ℤ) (m : ℕ) → 0 < m → IsRounded x m (r x m)) → 1 ≤ all → length fs ≤ all → 2 * all ≤ 2 ^ e →
+    All (λ f. f.h + e ≤ h) fs →
     All (λ f. unsigned_abs (at f) < 2 ^ 52) fs → unsigned_abs (sum (map (λ f. r (at f) (part h f)) fs)) ≤ 2 ^ 51 + all
 sum_half e h all r at fs is some few enough over small =
     halves (unsigned_abs (sum (map (λ (f : Front). r (at f) (part h f)) fs))) (length fs) few
@@ -114,7 +117,8 @@ pub entry_small : (n e h : ℕ) (fs : List Front) → 1 ≤ length fs → length
 entry_small n e h fs some few columns exponents small i j = by_place (nat_eq i j)
   where
     own : unsigned_abs (own_entry n h fs i) < 2 ^ 52
-    own = less (sum (map (λ (f : Front). floor_div (f.at i i) (part h f)) fs)) (length fs) (sum_half e h (length fs) floor_div (λ f. f.at i i) fs floor_rounded some (omega arith) exponents.enough exponents.over (λ k d l. small k d l i i)) few
+    own = less (sum (map (λ (f : Front). floor_div (f.at i i) (part h f)) fs)) (length fs)
+        (sum_half e h (length fs) floor_div (λ f. f.at i i) fs floor_rounded some (omega arith) exponents.enough exponents.over (λ k d l. small k d l i i)) few
       where
         taken : (l : ℕ) → l ≤ 3600 → l * n ≤ 3600 * 61
         taken l h = let p : l * n ≤ l * 61 = mul-le-mul_left l columns in omega (arith, p, h)

@@ -52,7 +52,8 @@ order_of : (arcs : List Arc) (ss : List ℕ) (p : PairRows) (f : FrontForm) (n :
 order_of arcs ss p f n is e = ap (λ (c : ℕ). c - 3) (is.front.columns ∙ is.of_rows.columns) ∙ sym e
 
 -- ---- all pairs
-bounded_each : (arcs : List Arc) (ss : List ℕ) (n : ℕ) (z : List ℤ) (pairs : List PairRows) (fs : List FrontForm) → n ≡ (4 + integer_count arcs ss) - 3 → length z ≡ integer_count arcs ss → AreFronts arcs ss pairs fs →
+bounded_each : (arcs : List Arc) (ss : List ℕ) (n : ℕ) (z : List ℤ) (pairs : List PairRows) (fs : List FrontForm) → n ≡ (4 + integer_count arcs ss) - 3 → length z ≡ integer_count arcs ss →
+    AreFronts arcs ss pairs fs →
     AllZip (IsBoundedBy (pair_sum arcs ss) (IsPairData ss) n z) pairs (map brief fs)
 bounded_each arcs ss n z [] [] order entries are = tt
 bounded_each arcs ss n z [] (f ∷ fs) order entries are = absurd are
@@ -82,7 +83,8 @@ above_each arcs ss z (p ∷ ps) (m ∷ ms) entries are = (λ d data_are. one.abo
     one = subst (λ (u : ℤ). StaysAtMost arcs ss (p ∷ []) z m u) (none_more (pair_upper arcs ss z m p)) (stays_at_most arcs ss (p ∷ []) z m entries)
 
 -- ---- the decision
-pub track_strictly_best : (arcs : List Arc) (ss : List ℕ) (pairs : List PairRows) (ratio budget h : ℕ) (moves : List (List ℤ)) (best : TwoBest) (top : ℤ) → AreFound arcs ss pairs budget h moves best top →
+pub track_strictly_best : (arcs : List Arc) (ss : List ℕ) (pairs : List PairRows) (ratio budget h : ℕ) (moves : List (List ℤ)) (best : TwoBest) (top : ℤ) →
+    AreFound arcs ss pairs budget h moves best top →
     1000 ≤ ratio → pos 0 ≤ℤ top → IsSeparated (pos ratio) top best.p2 → IsStrictlyBest arcs ss pairs (first_of best) moves
 track_strictly_best arcs ss pairs ratio budget h moves best top found large from far = record {
   entries = entries;

@@ -37,7 +37,8 @@ own_more n h f fs i = step (floor_div (f.at i i) (part h f)) (sum (map (λ (g : 
 pub entry_more : (n h : ℕ) (f : Front) (fs : List Front) (i j : ℕ) → track_entry n h (f ∷ fs) i j ≡ part_at n (part h f) f.at i j +ℤ track_entry n h fs i j
 entry_more n h f fs i j = by_place (nat_eq i j)
   where
-    by_place : (b : Bool) → cond b (own_entry n h (f ∷ fs) i) (other_entry h (f ∷ fs) i j) ≡ cond b (own_part n h f i) (nearest_div (f.at i j) (part h f)) +ℤ cond b (own_entry n h fs i) (other_entry h fs i j)
+    by_place : (b : Bool) → cond b (own_entry n h (f ∷ fs) i) (other_entry h (f ∷ fs) i j) ≡ cond b (own_part n h f i) (nearest_div (f.at i j) (part h f))
+        +ℤ cond b (own_entry n h fs i) (other_entry h fs i j)
     by_place true = own_more n h f fs i
     by_place false = refl
 
@@ -95,7 +96,8 @@ sum_below n h [] v all e = rw (none_value n h v) (step (pos (2 ^ h)))
     step : (m : ℤ) → (m *ℤ pos 0) ≤ℤ pos 0
     step m = le_eq (same_by (m ∷ []) (λ m. (m ⊗ nat 0, nat 0)) refl)
 sum_below n h (f ∷ fs) v all e =
-    rw (ap (λ (a : List Column). quad a v) (form_same (track_entry n h (f ∷ fs)) (λ i j. entry_part n h f i j +ℤ track_entry n h fs i j) 0 n (λ r c a b d. entry_more n h f fs r c) ∙ form_plus (entry_part n h f) (track_entry n h fs) 0 n)
+    rw (ap (λ (a : List Column). quad a v) (form_same (track_entry n h (f ∷ fs)) (λ i j. entry_part n h f i j +ℤ track_entry n h fs i j) 0 n (λ r c a b d. entry_more n h f fs r c)
+    ∙ form_plus (entry_part n h f) (track_entry n h fs) 0 n)
     ∙ quad_plus (form_from (entry_part n h f) 0 n) (track_form n h fs) v)
     (step (pos (2 ^ h)) (quad (form_from (entry_part n h f) 0 n) v) (quad (track_form n h fs) v) (pos (2 ^ f.h) *ℤ quad (front_form n f) v) (fronts_value n fs v)
     (one_below n h f v (All-head (λ (g : Front). g.h ≤ h) f fs all) e) (sum_below n h fs v (All-tail (λ (g : Front). g.h ≤ h) f fs all) e))

@@ -24,7 +24,8 @@ pub record IsGreatest (arcs : List Arc) (ss : List ℕ) (pairs : List PairRows) 
 
 -- the table of the second pass, over the sum of that exponent and e
 abbrev pub HoldsSums : List Arc → List ℕ → List PairRows → ℕ → List (List ℤ) → Type 0
-HoldsSums arcs ss pairs h t = (fs : List FrontForm) → AreFronts arcs ss pairs fs → (r c : ℕ) → r ≤ c → c < 1 + integer_count arcs ss → entry t (3 + r) (3 + c) ≡ track_entry (1 + integer_count arcs ss) h (map brief fs) r c
+HoldsSums arcs ss pairs h t = (fs : List FrontForm) → AreFronts arcs ss pairs fs → (r c : ℕ) → r ≤ c → c < 1 + integer_count arcs ss →
+    entry t (3 + r) (3 + c) ≡ track_entry (1 + integer_count arcs ss) h (map brief fs) r c
 
 pub record IsSummed (arcs : List Arc) (ss : List ℕ) (pairs : List PairRows) (e h : ℕ) (t : List (List ℤ)) : Type 0 where
   pub fs : List FrontForm
@@ -33,14 +34,16 @@ pub record IsSummed (arcs : List Arc) (ss : List ℕ) (pairs : List PairRows) (e
   pub form : form_from (entry t) 3 (1 + integer_count arcs ss) ≡ track_form (1 + integer_count arcs ss) h (map brief fs)
   pub small : SmallForm (form_from (entry t) 3 (1 + integer_count arcs ss))
 
-pub summed : (arcs : List Arc) (ss : List ℕ) (pairs : List PairRows) (greatest e : ℕ) (t : List (List ℤ)) → IsGreatest arcs ss pairs greatest → 1 ≤ length pairs → length pairs ≤ 3600 → integer_count arcs ss ≤ 60 →
+pub summed : (arcs : List Arc) (ss : List ℕ) (pairs : List PairRows) (greatest e : ℕ) (t : List (List ℤ)) → IsGreatest arcs ss pairs greatest → 1 ≤ length pairs → length pairs ≤ 3600 →
+    integer_count arcs ss ≤ 60 →
     2 * length pairs ≤ 2 ^ e → ((k : ℕ) → 2 * length pairs ≤ 2 ^ k → e ≤ k) → HoldsSums arcs ss pairs (greatest + e) t → IsSummed arcs ss pairs e (greatest + e) t
 summed arcs ss pairs greatest e t is some few integers enough least sums = record {
   fs = fs;
   of_pairs = are;
   exponents = exponents;
   form = form;
-  small = subst SmallForm (sym form) (small_track n e h (map brief fs) (subst (λ (k : ℕ). 1 ≤ k) (sym long) some) (subst (λ (k : ℕ). k ≤ 3600) (sym long) few) (omega (arith, integers)) exponents (small_fronts fs));
+  small = subst SmallForm (sym form) (small_track n e h (map brief fs) (subst (λ (k : ℕ). 1 ≤ k) (sym long) some) (subst (λ (k : ℕ). k ≤ 3600) (sym long) few) (omega (arith, integers)) exponents
+      (small_fronts fs));
 }
   where
     n : ℕ
@@ -65,7 +68,8 @@ summed arcs ss pairs greatest e t is some few integers enough least sums = recor
     form = summed_form n h (map brief fs) t (sums fs are)
 
 -- its form in a front with no factors of the baseline's columns
-pub sum_is : (arcs : List Arc) (ss : List ℕ) (pairs : List PairRows) (e h n : ℕ) (t p : List (List ℤ)) (f : FrontForm) → IsSummed arcs ss pairs e h t → n ≡ 1 + integer_count arcs ss → form_of_table p n ≡ form_from (entry t) 3 n →
+pub sum_is : (arcs : List Arc) (ss : List ℕ) (pairs : List PairRows) (e h n : ℕ) (t p : List (List ℤ)) (f : FrontForm) → IsSummed arcs ss pairs e h t → n ≡ 1 + integer_count arcs ss →
+    form_of_table p n ≡ form_from (entry t) 3 n →
     f.columns ≡ 3 + n → f.h ≡ h → f.d ≡ replicate BASELINE_COLUMNS (pos 0) → f.l ≡ zero_rows MOST_COLUMNS BASELINE_COLUMNS → f.p ≡ p → (fs : List FrontForm) × IsSumOfFronts arcs ss pairs fs f
 sum_is arcs ss pairs e h n t p f s order same columns height kept factors matrix = (
   s.fs,

@@ -17,7 +17,8 @@ returns-in-Err-clause-refused c =
     record {
       place = k;
       inside = inside;
-      refused = λ d. subst (λ (p : PairRows). IsRefusedPair c.args.arcs.now (fine_signals c.args.signals) p c.in-Err.fault) (c.pair-item.is ∙ sym (get_or_default pairs k d c.pair-item.result inside)) c.in-Err.ensures.refused;
+      refused = λ d. subst (λ (p : PairRows). IsRefusedPair c.args.arcs.now (fine_signals c.args.signals) p c.in-Err.fault)
+          (c.pair-item.is ∙ sym (get_or_default pairs k d c.pair-item.result inside)) c.in-Err.ensures.refused;
       before = c.loop-pair.invariant.fronts;
     }
 
@@ -38,7 +39,8 @@ loop-pair-preserved c =
     let f : FrontForm = c.in-Ok.front in
     let is : IsFrontOfPair arcs ss x f = c.in-Ok.ensures.front in
     let at : (d : PairRows) → get_or pairs k d ≡ x = λ d. get_or_default pairs k d x inside ∙ sym c.pair-item.is in
-    let h_is : (d : PairRows) (g : FrontForm) → IsFrontOfPair arcs ss (get_or pairs k d) g → g.h ≡ f.h = λ d g i. (one_front arcs ss x g f (subst (λ (p : PairRows). IsFrontOfPair arcs ss p g) (at d) i) is).h in
+    let h_is : (d : PairRows) (g : FrontForm) → IsFrontOfPair arcs ss (get_or pairs k d) g → g.h ≡ f.h =
+    λ d g i. (one_front arcs ss x g f (subst (λ (p : PairRows). IsFrontOfPair arcs ss p g) (at d) i) is).h in
     let new : ℕ = c.if-front-greatest.greatest in
     let grown : Grown c.loop-pair.greatest f.h new = elim c.if-front-greatest.branch [
       | then-front-greatest w ↦ record { old_in = omega (arith, w.if-front-greatest, w.greatest-is); h_in = omega (arith, w.greatest-is); one = inl w.greatest-is }

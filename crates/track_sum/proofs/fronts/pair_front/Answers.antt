@@ -14,5 +14,6 @@ returns-clause-front c = ok_weaker (IsFrontOf c.sum_pair.result) (IsFrontOfPair 
     (λ f is. record { normal = c.sum_pair.result; of_rows = c.sum_pair.ensures.normal; front = is }) c.front.ensures.front
 
 pub returns-clause-refused : goal.returns-clause-refused
-returns-clause-refused c = err_weaker (λ e. (h : ℕ) → IsExponent h (form_of c.sum_pair.result) → IsToldAs e (front_of h c.sum_pair.result)) (IsRefusedPair c.args.arcs.now (fine_signals c.args.signals) c.args.pair.now) c.front.result
+returns-clause-refused c = err_weaker (λ e. (h : ℕ) → IsExponent h (form_of c.sum_pair.result) → IsToldAs e (front_of h c.sum_pair.result))
+    (IsRefusedPair c.args.arcs.now (fine_signals c.args.signals) c.args.pair.now) c.front.result
     (λ e told. record { normal = c.sum_pair.result; of_rows = c.sum_pair.ensures.normal; told = told }) c.front.ensures.refused

@@ -30,4 +30,5 @@ pub returns-clause-refused : goal.returns-clause-refused
 returns-clause-refused c = λ f is.
     let arcs : List Arc = c.args.arcs.now in
     let ss : List ℕ = fine_signals c.args.signals in
-    subst (λ (m : List ℤ). IsErr c.baseline_of.result ↔ HasWide m) (same_move arcs ss c.args.pair.now c.known_front-front.result f c.args.z.now c.known_front-front.ensures.front is) c.baseline_of.ensures.refused
+    subst (λ (m : List ℤ). IsErr c.baseline_of.result ↔ HasWide m)
+    (same_move arcs ss c.args.pair.now c.known_front-front.result f c.args.z.now c.known_front-front.ensures.front is) c.baseline_of.ensures.refused

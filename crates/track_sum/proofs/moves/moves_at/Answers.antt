@@ -14,7 +14,8 @@ use Rattle.track_sum.proofs.FrontLists.{HasPlace, front_place, any_front}
 use Rattle.track_sum.proofs.moves.moves_at.Goals as goal
 
 -- the moves of all pairs, by their fronts
-moves_are : (arcs : List Arc) (ss : List ℕ) (z : List ℤ) (pairs : List PairRows) (moves : List (List ℤ)) (fs : List FrontForm) → AllZip (IsMoveOfPair arcs ss z) pairs moves → AreFronts arcs ss pairs fs → moves ≡ map (move_at z) fs
+moves_are : (arcs : List Arc) (ss : List ℕ) (z : List ℤ) (pairs : List PairRows) (moves : List (List ℤ)) (fs : List FrontForm) → AllZip (IsMoveOfPair arcs ss z) pairs moves →
+    AreFronts arcs ss pairs fs → moves ≡ map (move_at z) fs
 moves_are arcs ss z [] [] [] m a = refl
 moves_are arcs ss z [] [] (f ∷ fs) m a = absurd a
 moves_are arcs ss z [] (v ∷ moves) fs m a = absurd m
@@ -23,7 +24,8 @@ moves_are arcs ss z (p ∷ pairs) (v ∷ moves) [] m a = absurd a
 moves_are arcs ss z (p ∷ pairs) (v ∷ moves) (f ∷ fs) m a = ap₂ (λ (x : List ℤ) (xs : List (List ℤ)). x ∷ xs) (m.0 f a.0) (moves_are arcs ss z pairs moves fs m.1 a.1)
 
 -- one move more
-move_more : (arcs : List Arc) (ss : List ℕ) (z : List ℤ) (pairs : List PairRows) (moves more : List (List ℤ)) (k : ℕ) (p : PairRows) (m : List ℤ) → AllZip (IsMoveOfPair arcs ss z) (take k pairs) moves → k < length pairs → get_or pairs k p ≡ p →
+move_more : (arcs : List Arc) (ss : List ℕ) (z : List ℤ) (pairs : List PairRows) (moves more : List (List ℤ)) (k : ℕ) (p : PairRows) (m : List ℤ) →
+    AllZip (IsMoveOfPair arcs ss z) (take k pairs) moves → k < length pairs → get_or pairs k p ≡ p →
     IsMoveOfPair arcs ss z p m → more ≡ moves ++ m ∷ [] → AllZip (IsMoveOfPair arcs ss z) (take (k + 1) pairs) more
 move_more arcs ss z pairs moves more k p m are inside at is pushed =
     subst (λ (ms : List (List ℤ)). AllZip (IsMoveOfPair arcs ss z) (take (k + 1) pairs) ms) (sym pushed)
@@ -50,8 +52,10 @@ loop-pair-preserved c =
     front_place arcs ss pairs c.requires.fronts.0 k p c.requires.fronts.1 c.loop-pair-test.true (sym c.pair-item.is) in
     let narrow : HasWide m → ⊥ = λ v. false≢true ((c.in-Ok.ensures.refused w.front w.is).1 (subst HasWide (c.in-Ok.ensures.moved w.front w.is) v)) in
     record {
-      moves = move_more arcs ss c.args.z.now pairs c.loop-pair.moves.items c.push.new.self.items k p m c.loop-pair.invariant.moves c.loop-pair-test.true (sym c.pair-item.is) c.in-Ok.ensures.moved c.in_ok-push-in-Ok.ensures.items;
-      narrow = subst (λ (ms : List (List ℤ)). All (λ m. HasWide m → ⊥) ms) (sym c.in_ok-push-in-Ok.ensures.items) (All-push (λ m. HasWide m → ⊥) c.loop-pair.moves.items m c.loop-pair.invariant.narrow narrow);
+      moves = move_more arcs ss c.args.z.now pairs c.loop-pair.moves.items c.push.new.self.items k p m c.loop-pair.invariant.moves c.loop-pair-test.true
+          (sym c.pair-item.is) c.in-Ok.ensures.moved c.in_ok-push-in-Ok.ensures.items;
+      narrow = subst (λ (ms : List (List ℤ)). All (λ m. HasWide m → ⊥) ms) (sym c.in_ok-push-in-Ok.ensures.items)
+          (All-push (λ m. HasWide m → ⊥) c.loop-pair.moves.items m c.loop-pair.invariant.narrow narrow);
     }
 
 pub returns-in-Err-clause-wide : goal.returns-in-Err-clause-wide
@@ -68,4 +72,5 @@ returns-clause-moves c = λ fs are.
     let ss : List ℕ = fine_signals c.args.signals in
     let pairs : List PairRows = c.args.pairs.now in
     moves_are arcs ss c.args.z.now pairs c.loop-pair.moves.items fs
-    (subst (λ (ps : List PairRows). AllZip (IsMoveOfPair arcs ss c.args.z.now) ps c.loop-pair.moves.items) (take_all c.loop-pair.pair-index pairs c.loop-pair-test.false) c.loop-pair.invariant.moves) are
+    (subst (λ (ps : List PairRows). AllZip (IsMoveOfPair arcs ss c.args.z.now) ps c.loop-pair.moves.items)
+    (take_all c.loop-pair.pair-index pairs c.loop-pair-test.false) c.loop-pair.invariant.moves) are

@@ -22,7 +22,8 @@ use Rattle.track_sum.proofs.OneForm.{same_parts}
 use Rattle.track_sum.proofs.sums.add_fronts.Goals as goal
 
 -- ---- one pair more
-one_more : (arcs : List Arc) (ss : List ℕ) (p : PairRows) (h shift k : ℕ) (fs : List FrontForm) (f : FrontForm) (w : HasPlace arcs ss p fs k) → IsFrontOfPair arcs ss p f → shift ≡ h - f.h → (r c : ℕ) → r ≤ c → c < 1 + integer_count arcs ss → (old new all : ℤ) →
+one_more : (arcs : List Arc) (ss : List ℕ) (p : PairRows) (h shift k : ℕ) (fs : List FrontForm) (f : FrontForm) (w : HasPlace arcs ss p fs k) → IsFrontOfPair arcs ss p f → shift ≡ h - f.h →
+    (r c : ℕ) → r ≤ c → c < 1 + integer_count arcs ss → (old new all : ℤ) →
     old +ℤ track_entry (1 + integer_count arcs ss) h (map brief (drop k fs)) r c ≡ all → new ≡ old +ℤ part_at (f.columns - 3) (2 ^ shift) (entry f.p) r c →
     new +ℤ track_entry (1 + integer_count arcs ss) h (map brief (drop (k + 1) fs)) r c ≡ all
 one_more arcs ss p h shift k fs f w is e r c l b old new all sums more =
@@ -73,7 +74,8 @@ add_front-requires-clause-sizes c =
     let ss : List ℕ = fine_signals c.args.signals in
     let f : FrontForm = c.known_front-front.result in
     let columns : f.columns ≡ 4 + integer_count arcs ss = columns_of_front arcs ss c.pair-item.result f c.known_front-front.ensures.front in
-    λ r q l b. few (unsigned_abs (entry c.loop-pair.table (3 + r) (3 + q))) c.loop-pair.pair-index (length c.args.pairs.now) (c.loop-pair.invariant.sizes r q l (within q (integer_count arcs ss) f.columns b columns)) c.loop-pair-test.true c.requires.few
+    λ r q l b. few (unsigned_abs (entry c.loop-pair.table (3 + r) (3 + q))) c.loop-pair.pair-index (length c.args.pairs.now)
+    (c.loop-pair.invariant.sizes r q l (within q (integer_count arcs ss) f.columns b columns)) c.loop-pair-test.true c.requires.few
   where
     within : (b i k : ℕ) → b < k - 3 → k ≡ 4 + i → b < 1 + i
     within b i k l e = omega arith
@@ -100,7 +102,8 @@ pub returns : goal.returns
 returns c = record {
   sums = λ fs are r q l b.
       let n : ℕ = 1 + integer_count c.args.arcs.now (fine_signals c.args.signals) in
-      let end : drop c.loop-pair.pair-index fs ≡ [] = drop_all c.loop-pair.pair-index fs (past (length fs) (length c.args.pairs.now) c.loop-pair.pair-index (AllZip-long (IsFrontOfPair c.args.arcs.now (fine_signals c.args.signals)) c.args.pairs.now fs are) c.loop-pair-test.false) in
+      let end : drop c.loop-pair.pair-index fs ≡ [] = drop_all c.loop-pair.pair-index fs
+      (past (length fs) (length c.args.pairs.now) c.loop-pair.pair-index (AllZip-long (IsFrontOfPair c.args.arcs.now (fine_signals c.args.signals)) c.args.pairs.now fs are) c.loop-pair-test.false) in
       zero_last _ _ _ (ap (λ (gs : List FrontForm). track_entry n c.args.h (map brief gs) r q) end ∙ none_entry n c.args.h r q) (c.loop-pair.invariant.sums fs are r q l b);
 }
   where

@@ -11,6 +11,7 @@ use Rattle.track_sum.proofs.sums.add_fronts.Given as goal
 abbrev pub invariant-loop-pair : goal.invariant-loop-pair
 invariant-loop-pair l = record {
   sums : (fs : List FrontForm) → AreFronts l.arcs (fine_signals l.signals) l.pairs fs → (r c : ℕ) → r ≤ c → c < 1 + integer_count l.arcs (fine_signals l.signals) →
-      entry l.table (3 + r) (3 + c) +ℤ track_entry (1 + integer_count l.arcs (fine_signals l.signals)) l.h (map brief (drop l.pair-index fs)) r c ≡ track_entry (1 + integer_count l.arcs (fine_signals l.signals)) l.h (map brief fs) r c;
+      entry l.table (3 + r) (3 + c) +ℤ track_entry (1 + integer_count l.arcs (fine_signals l.signals)) l.h (map brief (drop l.pair-index fs)) r c
+      ≡ track_entry (1 + integer_count l.arcs (fine_signals l.signals)) l.h (map brief fs) r c;
   sizes : (r c : ℕ) → r ≤ c → c < 1 + integer_count l.arcs (fine_signals l.signals) → unsigned_abs (entry l.table (3 + r) (3 + c)) ≤ l.pair-index * 2 ^ 64;
 }

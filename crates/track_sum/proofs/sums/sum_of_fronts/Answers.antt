@@ -32,7 +32,8 @@ form_table-p-requires-clause-small c =
     summed arcs ss c.args.pairs.now c.in_ok-greatest.greatest c.least_power-e.result c.add_fronts.new.table
     (record { fronts = c.in_ok-greatest.ensures.fronts; above = c.in_ok-greatest.ensures.above; attained = c.in_ok-greatest.ensures.attained c.requires.some })
     c.requires.some c.requires.few few c.least_power-e.ensures.enough c.least_power-e.ensures.least c.add_fronts.ensures.sums in
-    subst (λ (n : ℕ). SmallForm (form_from (entry c.add_fronts.new.table) 3 n)) (sym (order_is arcs ss c.fine_signals.result.now c.integer_count-integers.result c.fine_signals.ensures.value c.integer_count-integers.ensures)) s.small
+    subst (λ (n : ℕ). SmallForm (form_from (entry c.add_fronts.new.table) 3 n))
+    (sym (order_is arcs ss c.fine_signals.result.now c.integer_count-integers.result c.fine_signals.ensures.value c.integer_count-integers.ensures)) s.small
 
 pub returns-clause-sum : goal.returns-clause-sum
 returns-clause-sum c =
@@ -44,7 +45,8 @@ returns-clause-sum c =
     summed arcs ss c.args.pairs.now c.in_ok-greatest.greatest c.least_power-e.result c.add_fronts.new.table
     (record { fronts = c.in_ok-greatest.ensures.fronts; above = c.in_ok-greatest.ensures.above; attained = c.in_ok-greatest.ensures.attained c.requires.some })
     c.requires.some c.requires.few few c.least_power-e.ensures.enough c.least_power-e.ensures.least c.add_fronts.ensures.sums in
-    sum_is arcs ss c.args.pairs.now c.least_power-e.result (c.in_ok-greatest.greatest + c.least_power-e.result) (c.integer_count-integers.result + 1) c.add_fronts.new.table c.form_table-p.result c.of.result s
+    sum_is arcs ss c.args.pairs.now c.least_power-e.result (c.in_ok-greatest.greatest + c.least_power-e.result)
+    (c.integer_count-integers.result + 1) c.add_fronts.new.table c.form_table-p.result c.of.result s
     (order_is arcs ss c.fine_signals.result.now c.integer_count-integers.result c.fine_signals.ensures.value c.integer_count-integers.ensures) c.form_table-p.ensures.form
     (c.of.ensures.columns ∙ more c.integer_count-integers.result) c.of.ensures.h c.of.ensures.d c.of.ensures.l c.of.ensures.p
   where
