@@ -1,11 +1,10 @@
 -- How a track grows by one pair, tracked or lost: so a walk over the pairs makes one.
-use Rattle.std.proofs.Common.{◌≡◌, ◌≢◌, ◌⊎◌, inl, inr, ⊎_elim, ℕ, suc, ◌+◌, ◌<◌, true, false, Bool, Some, List, [], ◌∷◌, ◌++◌, length, map, get_or, All, AllPairs, Any, ℤ, arith, sym, ◌∙◌, refl, subst, ap}
+use Rattle.std.proofs.Common.{◌≡◌, ◌≢◌, inl, inr, ⊎_elim, ℕ, suc, ◌+◌, ◌<◌, true, false, Bool, Some, List, [], ◌∷◌, ◌++◌, length, get_or, All, Any, ℤ, arith, sym, ◌∙◌, refl, subst, ap}
 use Rattle.std.specs.Prelude.{slice_get}
-use Rattle.std.proofs.lemmas.Bool.{cases_eq, cases_Bool, false≢true}
-use Rattle.std.proofs.lemmas.List.{get_or_default}
+use Rattle.std.proofs.lemmas.Bool.{cases_eq, cases_Bool}
 use Rattle.std.proofs.lemmas.List.Elements.{All-push}
 use Rattle.std.proofs.lemmas.List.Quantifiers.{Any-push, all_pairs_push}
-use Rattle.std.proofs.lemmas.Option.{none-some, same_Some, slice_get-map, slice_get_within, get_or_from_slice_get}
+use Rattle.std.proofs.lemmas.Option.{none-some, same_Some, slice_get_within, get_or_from_slice_get}
 use Rattle.obs_rows.specs.declared.arcs.Arc.{Arc}
 use Rattle.obs_rows.specs.declared.pair_rows.PairRows.{PairRows}
 use Rattle.row_build.specs.HeldArcs.{holds_pair, IsHeld}
@@ -17,8 +16,8 @@ use Rattle.track_data.specs.declared.lost.Lost.{Lost}
 use Rattle.track_data.specs.declared.lost.LostCause.{LostCause}
 use Rattle.track_data.specs.declared.lost.LostCause.TheVariants.{Rows, Coarse, Unsettled, Y, Weak, Wide}
 use Rattle.track_trial.specs.PairRules.{TrackSetting, rows_setting}
-use Rattle.track_trial.specs.Trials.{AreTried, KeepsOthers, IsTried, HasTriedRows, MayBeFar, IsWeak, IsWide, IsLost, IsTrackedBy}
-use Rattle.track_rows.specs.Tracks.{no_shifts, unshifted, HasRow, HasBegun, IsTrack}
+use Rattle.track_trial.specs.Trials.{AreTried, KeepsOthers, IsTried, HasTriedRows, IsLost, IsTrackedBy}
+use Rattle.track_rows.specs.Tracks.{no_shifts, HasRow, HasBegun, IsTrack}
 use Rattle.track_rows.proofs.Lists.{any_more, any_in, push_get, push_last, length_push}
 use Rattle.track_rows.proofs.SameArcs.{held_in, held_back, agree_at}
 
@@ -62,12 +61,19 @@ tried_along t arcs next begun begun' pair point tried same after up down stays h
 }
 
 pub tried_by : (t : TrackSetting) (arcs next : List Arc) (begun begun' : ℕ → Type 0) (pair : ℕ) (point : List ℤ) (tried : List Arc) →
-    ((point : List ℤ) (tried : List Arc) → AreTried t arcs begun pair point tried → AreTried t next begun' pair point tried) → IsTried t arcs begun pair point tried → IsTried t next begun' pair point tried
+    ((point : List ℤ) (tried : List Arc) → AreTried t arcs begun pair point tried → AreTried t next begun' pair point tried) →
+    IsTried t arcs begun pair point tried → IsTried t next begun' pair point tried
 tried_by t arcs next begun begun' pair point tried along h = record { enough = h.enough; settles = h.settles; are_tried = along point tried h.are_tried }
 
 rows_by : (t : TrackSetting) (arcs next : List Arc) (begun begun' : ℕ → Type 0) (pair : ℕ) (rows : PairRows) →
-    ((point : List ℤ) (tried : List Arc) → AreTried t arcs begun pair point tried → AreTried t next begun' pair point tried) → HasTriedRows t arcs begun pair rows → HasTriedRows t next begun' pair rows
-rows_by t arcs next begun begun' pair rows along h = record { point = h.point; tried = h.tried; is_tried = tried_by t arcs next begun begun' pair h.point h.tried along h.is_tried; rows_are = h.rows_are }
+    ((point : List ℤ) (tried : List Arc) → AreTried t arcs begun pair point tried → AreTried t next begun' pair point tried) →
+    HasTriedRows t arcs begun pair rows → HasTriedRows t next begun' pair rows
+rows_by t arcs next begun begun' pair rows along h = record {
+  point = h.point;
+  tried = h.tried;
+  is_tried = tried_by t arcs next begun begun' pair h.point h.tried along h.is_tried;
+  rows_are = h.rows_are;
+}
 
 -- what is said of a lost pair holds behind a later one too
 pub lost_by : (t : TrackSetting) (arcs next : List Arc) (begun begun' : ℕ → Type 0) (pair : ℕ) (cause : LostCause) →
@@ -76,14 +82,21 @@ lost_by t arcs next begun begun' pair Rows along l = l
 lost_by t arcs next begun begun' pair Coarse along l = l
 lost_by t arcs next begun begun' pair Unsettled along l = l
 lost_by t arcs next begun begun' pair Y along l = record { point = l.point; tried = l.tried; is_tried = tried_by t arcs next begun begun' pair l.point l.tried along l.is_tried; far = l.far }
-lost_by t arcs next begun begun' pair Weak along l = record { rows = l.rows; rows_are = rows_by t arcs next begun begun' pair l.rows along l.rows_are; column = l.column; pivot = l.pivot; refused = l.refused }
+lost_by t arcs next begun begun' pair Weak along l = record {
+  rows = l.rows;
+  rows_are = rows_by t arcs next begun begun' pair l.rows along l.rows_are;
+  column = l.column;
+  pivot = l.pivot;
+  refused = l.refused;
+}
 lost_by t arcs next begun begun' pair Wide along l = record { rows = l.rows; rows_are = rows_by t arcs next begun begun' pair l.rows along l.rows_are; place = l.place; refused = l.refused }
 
 lost_still : (t : TrackSetting) (count : ℕ) (arcs next : List Arc) (tracked : List PairRows) (new : PairRows) (l : Lost) → AreNext t arcs tracked count next → new.number ≡ count → l.pair < count →
     IsLost t arcs (HasBegun t.kept tracked l.pair) l.pair l.cause → IsLost t next (HasBegun t.kept (tracked ++ new ∷ []) l.pair) l.pair l.cause
 lost_still t count arcs next tracked new l n number less is =
     let up : (k : ℕ) → HasBegun t.kept tracked l.pair k → HasBegun t.kept (tracked ++ new ∷ []) l.pair k = λ k b. begun_after t.kept tracked new l.pair k b in
-    let down : (k : ℕ) → HasBegun t.kept (tracked ++ new ∷ []) l.pair k → HasBegun t.kept tracked l.pair k = λ k b. begun_before t.kept tracked new l.pair k (subst (λ (m : ℕ). l.pair < m) (sym number) less) b in
+    let down : (k : ℕ) → HasBegun t.kept (tracked ++ new ∷ []) l.pair k → HasBegun t.kept tracked l.pair k =
+    λ k b. begun_before t.kept tracked new l.pair k (subst (λ (m : ℕ). l.pair < m) (sym number) less) b in
     lost_by t arcs next (HasBegun t.kept tracked l.pair) (HasBegun t.kept (tracked ++ new ∷ []) l.pair) l.pair l.cause
     (λ point tried h. tried_along t arcs next (HasBegun t.kept tracked l.pair) (HasBegun t.kept (tracked ++ new ∷ []) l.pair) l.pair point tried n.same n.after up down
     (λ k a b is_a is_b begun. n.stays k a b is_a is_b (begun_later t.kept tracked l.pair count k less begun)) h) is
@@ -94,8 +107,10 @@ same_at : (t : TrackSetting) (count : ℕ) (arcs next : List Arc) (tracked : Lis
 same_at t count arcs next tracked i p n is_p less k a b is_a is_b holds =
     n.stays k a b is_a is_b (i, p, slice_get_within tracked i p is_p, get_or_from_slice_get tracked i p p is_p, (less, held_in t.kept arcs p.number k a n.same is_a holds))
 
-tracked_still : (t : TrackSetting) (count : ℕ) (arcs next : List Arc) (tracked : List PairRows) (new : PairRows) (i : ℕ) (point : List ℤ) (p : PairRows) → AreNext t arcs tracked count next → new.number ≡ count →
-    slice_get tracked i ≡ Some p → p.number < count → IsTrackedBy t arcs (HasBegun t.kept tracked p.number) p.number point p arcs → IsTrackedBy t next (HasBegun t.kept (tracked ++ new ∷ []) p.number) p.number point p next
+tracked_still : (t : TrackSetting) (count : ℕ) (arcs next : List Arc) (tracked : List PairRows) (new : PairRows) (i : ℕ) (point : List ℤ) (p : PairRows) →
+    AreNext t arcs tracked count next → new.number ≡ count →
+    slice_get tracked i ≡ Some p → p.number < count → IsTrackedBy t arcs (HasBegun t.kept tracked p.number) p.number point p arcs →
+    IsTrackedBy t next (HasBegun t.kept (tracked ++ new ∷ []) p.number) p.number point p next
 tracked_still t count arcs next tracked new i point p n number is_p less is = record {
   is_tried = record {
     enough = is.is_tried.enough;
@@ -156,7 +171,8 @@ lost_more t count arcs points tracked lost new is number cause = record {
   are_lost = All-push (λ (l : Lost). IsLost t arcs (HasBegun t.kept tracked l.pair) l.pair l.cause) lost new is.are_lost cause;
   each = λ pair inside. ⊎_elim
       (λ (e : pair ≡ count). inr (Any-push (λ (l : Lost). l.pair ≡ pair) lost new (number ∙ sym e)))
-      (λ (e : pair ≡ count → ⊥). ⊎_elim (λ (a : Any (λ (p : PairRows). p.number ≡ pair) tracked). inl a) (λ (b : Any (λ (l : Lost). l.pair ≡ pair) lost). inr (any_more (λ (l : Lost). l.pair ≡ pair) lost new b))
+      (λ (e : pair ≡ count → ⊥). ⊎_elim (λ (a : Any (λ (p : PairRows). p.number ≡ pair) tracked). inl a)
+      (λ (b : Any (λ (l : Lost). l.pair ≡ pair) lost). inr (any_more (λ (l : Lost). l.pair ≡ pair) lost new b))
       (is.each pair (before count pair inside e)))
       (cases_eq pair count);
   apart = λ k d i. All-push (λ (l : Lost). l.pair ≢ (get_or tracked k d).number) lost new (is.apart k d i)
@@ -202,7 +218,8 @@ tracked_more t count arcs next points tracked lost point new is by others = reco
   are_lost = λ k d i. lost_still t count arcs next tracked new (get_or lost k d) n number (is.lost_in k d i) (is.are_lost k d i);
   each = λ pair inside. ⊎_elim
       (λ (e : pair ≡ count). inl (Any-push (λ (p : PairRows). p.number ≡ pair) tracked new (number ∙ sym e)))
-      (λ (e : pair ≡ count → ⊥). ⊎_elim (λ (a : Any (λ (p : PairRows). p.number ≡ pair) tracked). inl (any_more (λ (p : PairRows). p.number ≡ pair) tracked new a)) (λ (b : Any (λ (l : Lost). l.pair ≡ pair) lost). inr b)
+      (λ (e : pair ≡ count → ⊥). ⊎_elim (λ (a : Any (λ (p : PairRows). p.number ≡ pair) tracked). inl (any_more (λ (p : PairRows). p.number ≡ pair) tracked new a))
+      (λ (b : Any (λ (l : Lost). l.pair ≡ pair) lost). inr b)
       (is.each pair (before count pair inside e)))
       (cases_eq pair count);
   apart = All-push (λ (p : PairRows). All (λ (l : Lost). l.pair ≢ p.number) lost) tracked new is.apart
@@ -230,7 +247,8 @@ tracked_more t count arcs next points tracked lost point new is by others = reco
     n = record {
       same = is.same;
       after = by.is_tried.are_tried.same;
-      stays = λ k a b is_a is_b begun. ⊎_elim (λ (h : holds_pair a count ≡ true). by.is_tried.are_tried.stayed k a b is_a is_b h begun) (λ (h : holds_pair a count ≡ false). others k a b is_a is_b h) (cases_Bool (holds_pair a count));
+      stays = λ k a b is_a is_b begun. ⊎_elim (λ (h : holds_pair a count ≡ true). by.is_tried.are_tried.stayed k a b is_a is_b h begun)
+          (λ (h : holds_pair a count ≡ false). others k a b is_a is_b h) (cases_Bool (holds_pair a count));
     }
 
     earlier : (i : ℕ) (p : PairRows) → slice_get tracked i ≡ Some p → p.number < count
@@ -241,7 +259,8 @@ tracked_more t count arcs next points tracked lost point new is by others = reco
 
     -- a point stands where its pair does
     old_point : (i : ℕ) (q : List ℤ) (p : PairRows) → slice_get tracked i ≡ Some p → slice_get (points ++ point ∷ []) i ≡ Some q → slice_get points i ≡ Some q
-    old_point i q p old e = ⊎_elim (λ (h : slice_get points i ≡ Some q). h) (λ (h : (i ≡ length points) × (point ≡ q)). absurd (both i (length points) (length tracked) h.0 is.point_each (slice_get_within tracked i p old)))
+    old_point i q p old e = ⊎_elim (λ (h : slice_get points i ≡ Some q). h)
+        (λ (h : (i ≡ length points) × (point ≡ q)). absurd (both i (length points) (length tracked) h.0 is.point_each (slice_get_within tracked i p old)))
         (push_get points point q i e)
 
     new_point : (i : ℕ) (q : List ℤ) → i ≡ length tracked → slice_get (points ++ point ∷ []) i ≡ Some q → point ≡ q

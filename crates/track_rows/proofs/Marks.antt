@@ -1,5 +1,5 @@
 -- The flags of the arcs that have begun.
-use Rattle.std.proofs.Common.{◌≡◌, ◌⊎◌, ◌↔◌, inl, inr, ⊎_elim, ℕ, zero, suc, ◌+◌, ◌<◌, ◌||◌, Bool, true, false, Some, List, [], ◌∷◌, ◌++◌, length, replicate, All, Any, arith, sym, ap, ◌∙◌, refl, subst}
+use Rattle.std.proofs.Common.{◌≡◌, ◌⊎◌, ◌↔◌, inl, inr, ⊎_elim, ℕ, zero, suc, ◌+◌, ◌<◌, ◌||◌, Bool, true, false, Some, List, [], ◌∷◌, ◌++◌, length, replicate, arith, sym, ap, ◌∙◌, refl, subst}
 use Rattle.std.specs.Prelude.{slice_get}
 use Rattle.std.proofs.lemmas.Bool.{cases_eq, false≢true}
 use Rattle.std.proofs.lemmas.Option.{none-some, same_Some, slice_get_within}
@@ -11,7 +11,7 @@ use Rattle.round_steps.specs.Shifts.{AreSameArcs}
 use Rattle.track_rows.specs.Tracks.{HasRow}
 use Rattle.track_rows.specs.Walks.{AreFlags, AreMarked}
 use Rattle.track_rows.proofs.Lists.{any_more, any_in, push_get, push_before, push_last, length_push}
-use Rattle.track_rows.proofs.SameArcs.{held_in, held_back}
+use Rattle.track_rows.proofs.SameArcs.{held_in}
 
 or_cases : (b c : Bool) → (b || c) ≡ true → (b ≡ true) ⊎ (c ≡ true)
 or_cases true c e = inl refl
@@ -58,15 +58,19 @@ more_marked n begun arcs pair flags more a b m h is_a is_b m_is e = subst (AreMa
     forth : (k : ℕ) → slice_get (flags ++ m ∷ []) k ≡ Some true → (k < n + 1) × ((slice_get begun k ≡ Some true) ⊎ IsHeld arcs pair k)
     forth k p = ⊎_elim
         (λ (old : slice_get flags k ≡ Some true). let o = (h.each k).0 old in (wider k o.0, o.1))
-        (λ (new : (k ≡ length flags) × (m ≡ true)). let q : k ≡ n = new.0 ∙ h.count in (own k q, ⊎_elim
-            (λ (t : b ≡ true). inl (subst (λ (i : ℕ). slice_get begun i ≡ Some true) (sym q) (subst (λ (x : Bool). slice_get begun n ≡ Some x) t is_b)))
-            (λ (t : holds_pair a pair ≡ true). inr (held k q t))
-            (or_cases b (holds_pair a pair) (sym m_is ∙ new.1))))
+        (λ (new : (k ≡ length flags) × (m ≡ true)). let q : k ≡ n = new.0 ∙ h.count in (
+          own k q,
+          ⊎_elim
+              (λ (t : b ≡ true). inl (subst (λ (i : ℕ). slice_get begun i ≡ Some true) (sym q) (subst (λ (x : Bool). slice_get begun n ≡ Some x) t is_b)))
+              (λ (t : holds_pair a pair ≡ true). inr (held k q t))
+              (or_cases b (holds_pair a pair) (sym m_is ∙ new.1)),
+        ))
         (push_get flags m true k p)
 
     is_marked : (k : ℕ) → k ≡ n → (slice_get begun k ≡ Some true) ⊎ IsHeld arcs pair k → m ≡ true
     is_marked k q (inl t) = m_is ∙ or_left b (holds_pair a pair) (same_Some b true (sym is_b ∙ subst (λ (i : ℕ). slice_get begun i ≡ Some true) q t))
-    is_marked k q (inr t) = m_is ∙ or_right b (holds_pair a pair) (subst (λ (x : Arc). holds_pair x pair ≡ true) (same_Some t.arc a (sym t.is ∙ subst (λ (i : ℕ). slice_get arcs i ≡ Some a) (sym q) is_a)) t.held)
+    is_marked k q (inr t) = m_is ∙ or_right b (holds_pair a pair)
+        (subst (λ (x : Arc). holds_pair x pair ≡ true) (same_Some t.arc a (sym t.is ∙ subst (λ (i : ℕ). slice_get arcs i ≡ Some a) (sym q) is_a)) t.held)
 
     back : (k : ℕ) → k < n + 1 → (slice_get begun k ≡ Some true) ⊎ IsHeld arcs pair k → slice_get (flags ++ m ∷ []) k ≡ Some true
     back k l p = ⊎_elim
@@ -74,7 +78,8 @@ more_marked n begun arcs pair flags more a b m h is_a is_b m_is e = subst (AreMa
         (λ (d : k ≡ n → ⊥). push_before flags m true k ((h.each k).1 (less k l d, p)))
         (cases_eq k n)
 
-pub all_marked : (n : ℕ) (begun : List Bool) (arcs : List Arc) (pair : ℕ) (flags : List Bool) → AreMarkedTo n begun arcs pair flags → length begun ≡ n → length arcs ≡ n → AreMarked begun arcs pair flags
+pub all_marked : (n : ℕ) (begun : List Bool) (arcs : List Arc) (pair : ℕ) (flags : List Bool) →
+    AreMarkedTo n begun arcs pair flags → length begun ≡ n → length arcs ≡ n → AreMarked begun arcs pair flags
 all_marked n begun arcs pair flags h e f = record {
   count = h.count ∙ sym e;
   each = λ k. (λ p. ((h.each k).0 p).1, λ p. (h.each k).1 (inside k p, p));
@@ -96,7 +101,8 @@ no_flags kept begun e l = record {
   each = λ k. (λ p. absurd (no_flag (length kept) k (subst (λ (xs : List Bool). slice_get xs k ≡ Some true) e p)), λ (some : HasRow kept [] k). absurd (omega (arith, some.2)));
 }
 
-pub flags_more : (kept arcs : List Arc) (tracked : List PairRows) (new : PairRows) (begun flags : List Bool) → AreSameArcs kept arcs → AreFlags kept tracked begun → AreMarked begun arcs new.number flags → AreFlags kept (tracked ++ new ∷ []) flags
+pub flags_more : (kept arcs : List Arc) (tracked : List PairRows) (new : PairRows) (begun flags : List Bool) →
+    AreSameArcs kept arcs → AreFlags kept tracked begun → AreMarked begun arcs new.number flags → AreFlags kept (tracked ++ new ∷ []) flags
 flags_more kept arcs tracked new begun flags same f m = record {
   count = m.count ∙ f.count;
   each = λ k. (λ p. forth k ((m.each k).0 p), λ p. (m.each k).1 (back k p));

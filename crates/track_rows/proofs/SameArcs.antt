@@ -1,5 +1,5 @@
 -- Arcs that are the same but for their shifts hold the same pairs.
-use Rattle.std.proofs.Common.{◌≡◌, ◌<◌, ◌≤◌, ℕ, zero, suc, true, Some, List, [], ◌∷◌, map, get_or, sym, ap, ◌∙◌, refl, subst}
+use Rattle.std.proofs.Common.{◌≡◌, ◌<◌, ◌≤◌, ℕ, suc, true, Some, List, [], ◌∷◌, map, get_or, sym, ap, ◌∙◌, refl, subst}
 use Rattle.std.specs.Prelude.{slice_get}
 use Rattle.std.proofs.lemmas.Option.{same_Some}
 use Rattle.obs_rows.specs.declared.arcs.Arc.{Arc}
@@ -33,11 +33,10 @@ pub agree_at : (pair : ℕ) (xs ys : List Arc) → AreSameArcs xs ys → ((k : �
 agree_at pair [] [] e f = tt
 agree_at pair [] (y ∷ ys) e f = absurd cc
 agree_at pair (x ∷ xs) [] e f = absurd cc
-agree_at pair (x ∷ xs) (y ∷ ys) e f =
-    (
-      (sym (same_holds y x pair (heads (without_shifts y) (without_shifts x) (map without_shifts ys) (map without_shifts xs) e)), λ h. sym (f 0 x y refl refl h)),
-      agree_at pair xs ys (tails (without_shifts y) (without_shifts x) (map without_shifts ys) (map without_shifts xs) e) (λ k a b p q h. f (suc k) a b p q h),
-    )
+agree_at pair (x ∷ xs) (y ∷ ys) e f = (
+  (sym (same_holds y x pair (heads (without_shifts y) (without_shifts x) (map without_shifts ys) (map without_shifts xs) e)), λ h. sym (f 0 x y refl refl h)),
+  agree_at pair xs ys (tails (without_shifts y) (without_shifts x) (map without_shifts ys) (map without_shifts xs) e) (λ k a b p q h. f (suc k) a b p q h),
+)
   where
     heads : (p q : Arc) (ps qs : List Arc) → p ∷ ps ≡ q ∷ qs → p ≡ q
     heads p q ps qs e = cc

@@ -1,6 +1,5 @@
 -- A step of the walk: from what became of a pair to a track of one pair more.
-use Rattle.std.proofs.Common.{◌≡◌, ℕ, suc, ◌+◌, ◌<◌, ◌≤◌, true, Bool, Some, List, [], ◌∷◌, ◌++◌, length, get_or, replicate, All, ℤ, false, arith, sym, ap, ◌∙◌, refl, subst}
-use Rattle.std.specs.Prelude.{slice_get}
+use Rattle.std.proofs.Common.{◌≡◌, ℕ, suc, ◌+◌, ◌≤◌, Bool, List, [], ◌∷◌, ◌++◌, length, replicate, ℤ, false, arith, sym, ap, ◌∙◌, subst}
 use Rattle.std.proofs.lemmas.List.{length-replicate}
 use Rattle.std.proofs.lemmas.Option.{same_Some}
 use Rattle.std.proofs.lemmas.List.Elements.{All-nil, All-push}
@@ -13,18 +12,18 @@ use Rattle.obs_rows.specs.Signals.{fine_signals}
 use Rattle.obs_rows.specs.Unused.{HasUsedRows}
 use Rattle.session.proofs.RangeLaws.{none_unused}
 use Rattle.track_data.specs.declared.lost.Lost.{Lost}
-use Rattle.track_data.specs.declared.lost.LostCause.{LostCause}
 use Rattle.track_trial.specs.PairRules.{TrackSetting, AreUnshifted}
 use Rattle.track_trial.specs.Trials.{flagged, AreTried, KeepsOthers, IsLost, IsTrackedBy, FitsTrack}
-use Rattle.track_rows.specs.Tracks.{HasRow, HasBegun}
-use Rattle.track_rows.specs.Walks.{AreFlags, AreMarked, AreFit, IsWalked}
+use Rattle.track_rows.specs.Tracks.{HasBegun}
+use Rattle.track_rows.specs.Walks.{AreMarked, IsWalked}
 use Rattle.track_rows.proofs.Lists.{length_push}
 use Rattle.track_rows.proofs.SameArcs.{its_arcs_same}
 use Rattle.track_rows.proofs.Growth.{begun_row, row_begun, tried_along, tried_by, lost_by, no_pairs, lost_more, tracked_more}
 use Rattle.track_rows.proofs.Marks.{no_flags, flags_more}
 
 -- ---- before the first pair
-pub first_walk : (t : TrackSetting) (begun : List Bool) → AreArcs t.kept → AreUnshifted t.kept → begun ≡ replicate (length t.kept) false → length begun ≡ length t.kept → IsWalked t 0 t.kept begun [] [] []
+pub first_walk : (t : TrackSetting) (begun : List Bool) → AreArcs t.kept → AreUnshifted t.kept →
+    begun ≡ replicate (length t.kept) false → length begun ≡ length t.kept → IsWalked t 0 t.kept begun [] [] []
 first_walk t begun arcs unshifted flags long = record {
   is_track = no_pairs t unshifted;
   flags = no_flags t.kept begun flags long;
@@ -38,7 +37,8 @@ first_walk t begun arcs unshifted flags long = record {
   few = omega arith;
 }
 
-pub begun_walk : (t : TrackSetting) (kept arcs : List Arc) (begun : List Bool) (points : List (List ℤ)) (tracked : List PairRows) (lost : List Lost) → t.kept ≡ kept → AreArcs kept → AreUnshifted kept →
+pub begun_walk : (t : TrackSetting) (kept arcs : List Arc) (begun : List Bool) (points : List (List ℤ)) (tracked : List PairRows) (lost : List Lost) →
+    t.kept ≡ kept → AreArcs kept → AreUnshifted kept →
     arcs ≡ kept → begun ≡ replicate (length kept) false → points ≡ [] → tracked ≡ [] → lost ≡ [] → IsWalked t 0 arcs begun points tracked lost
 begun_walk t kept arcs begun points tracked lost e are unshifted arcs_are flags no_points no_pair none_lost =
     let f : begun ≡ replicate (length t.kept) false = flags ∙ ap (λ (xs : List Arc). replicate (length xs) false) (sym e) in
@@ -61,7 +61,8 @@ along t count arcs begun points tracked lost w point tried h =
 pub lost_step : (t : TrackSetting) (count : ℕ) (arcs : List Arc) (begun : List Bool) (points : List (List ℤ)) (tracked : List PairRows) (lost : List Lost) (new : Lost) →
     IsWalked t count arcs begun points tracked lost → new.pair ≡ count → IsLost t arcs (flagged begun) count new.cause → IsWalked t (count + 1) arcs begun points tracked (lost ++ new ∷ [])
 lost_step t count arcs begun points tracked lost new w number is =
-    let by : IsLost t arcs (HasBegun t.kept tracked count) count new.cause = lost_by t arcs arcs (flagged begun) (HasBegun t.kept tracked count) count new.cause (along t count arcs begun points tracked lost w) is in
+    let by : IsLost t arcs (HasBegun t.kept tracked count) count new.cause =
+    lost_by t arcs arcs (flagged begun) (HasBegun t.kept tracked count) count new.cause (along t count arcs begun points tracked lost w) is in
     record {
       is_track = lost_more t count arcs points tracked lost new w.is_track number (subst (λ (m : ℕ). IsLost t arcs (HasBegun t.kept tracked m) m new.cause) (sym number) by);
       flags = w.flags;
@@ -73,8 +74,10 @@ lost_step t count arcs begun points tracked lost new w number is =
     more n h = omega (arith, h)
 
 -- ---- a pair that is tracked
-pub tracked_step : (t : TrackSetting) (count : ℕ) (arcs next : List Arc) (begun flags : List Bool) (points : List (List ℤ)) (tracked : List PairRows) (lost : List Lost) (point : List ℤ) (new : PairRows) →
-    IsWalked t count arcs begun points tracked lost → IsTrackedBy t arcs (flagged begun) count point new next → KeepsOthers arcs count next → FitsTrack t.signals point new next → AreMarked begun next count flags →
+pub tracked_step : (t : TrackSetting) (count : ℕ) (arcs next : List Arc) (begun flags : List Bool) (points : List (List ℤ)) (tracked : List PairRows)
+    (lost : List Lost) (point : List ℤ) (new : PairRows) →
+    IsWalked t count arcs begun points tracked lost → IsTrackedBy t arcs (flagged begun) count point new next → KeepsOthers arcs count next →
+    FitsTrack t.signals point new next → AreMarked begun next count flags →
     IsWalked t (count + 1) next flags (points ++ point ∷ []) (tracked ++ new ∷ []) lost
 tracked_step t count arcs next begun flags points tracked lost point new w is others fit marked =
     let by : IsTrackedBy t arcs (HasBegun t.kept tracked count) count point new next = record {

@@ -24,4 +24,5 @@ pub record TrackStands (setting : Setting) (base rover : List Epoch) (taken : Li
   pub short : ℕ
   pub kept : AreKept bands jump least used t.arcs short
   pub datums : HaveDatums t.arcs
-  pub pairs : (i : ℕ) (point : List ℤ) (p : PairRows) → slice_get t.points i ≡ Some point → slice_get t.pairs i ≡ Some p → StandsForPair setting base rover taken position point (counted signals 0) 0 t.arcs p
+  pub pairs : (i : ℕ) (point : List ℤ) (p : PairRows) → slice_get t.points i ≡ Some point → slice_get t.pairs i ≡ Some p →
+      StandsForPair setting base rover taken position point (counted signals 0) 0 t.arcs p

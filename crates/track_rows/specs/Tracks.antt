@@ -32,7 +32,8 @@ HasBegun arcs tracked pair arc = Any (λ p. (p.number < pair) × IsHeld arcs p.n
 pub record IsTrack (t : TrackSetting) (count : ℕ) (arcs : List Arc) (points : List (List ℤ)) (tracked : List PairRows) (lost : List Lost) : Type 0 where
   pub same : AreSameArcs t.kept arcs
   pub point_each : length points ≡ length tracked
-  pub are_tracked : (i : ℕ) (point : List ℤ) (p : PairRows) → slice_get points i ≡ Some point → slice_get tracked i ≡ Some p → IsTrackedBy t arcs (HasBegun t.kept tracked p.number) p.number point p arcs
+  pub are_tracked : (i : ℕ) (point : List ℤ) (p : PairRows) → slice_get points i ≡ Some point → slice_get tracked i ≡ Some p →
+      IsTrackedBy t arcs (HasBegun t.kept tracked p.number) p.number point p arcs
   pub are_lost : All (λ l. IsLost t arcs (HasBegun t.kept tracked l.pair) l.pair l.cause) lost
   pub each : (pair : ℕ) → pair < count → Any (λ p. p.number ≡ pair) tracked ⊎ Any (λ l. l.pair ≡ pair) lost
   pub apart : All (λ p. All (λ l. l.pair ≢ p.number) lost) tracked

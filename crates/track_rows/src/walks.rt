@@ -32,12 +32,7 @@ fn has_begun(before: bool, arc: &Arc, pair: u32) -> bool
 }
 
 /// The flags of the arcs that have begun, with those of the arcs that hold the pair.
-fn marked(
-    alloc: Global,
-    begun: &[bool],
-    arcs: &[Arc],
-    pair: u32,
-) -> Result<Vec<bool>, AllocError>
+fn marked(alloc: Global, begun: &[bool], arcs: &[Arc], pair: u32) -> Result<Vec<bool>, AllocError>
     requires { length begun.now ≡ length arcs.now }
     ensures { IfOk result (λ flags. AreMarked begun.now arcs.now pair flags.items) }
 {
