@@ -1,17 +1,11 @@
 -- The ranges of the numbers of a track's decision.
-use Rattle.std.proofs.Common.{◌≡◌, ℕ, suc, ◌+◌, ◌-◌, ◌*◌, ◌^◌, ◌<◌, ◌≤◌, ⊎_elim, true, false, Bool, cond, lit≤, List, length, map, get_or, All, ℤ, pos, neg_ℤ, ◌≤ℤ◌, ◌<ℤ◌, arith, sym, ◌∙◌, subst}
-use Rattle.std.specs.Prelude.{◌==◌}
+use Rattle.std.proofs.Common.{◌≡◌, ℕ, suc, ◌+◌, ◌-◌, ◌*◌, ◌^◌, ◌<◌, ◌≤◌, List, length, map, get_or, All, ℤ, pos, neg_ℤ, ◌≤ℤ◌, ◌<ℤ◌, arith, sym, ◌∙◌, subst}
 use Rattle.std.proofs.lemmas.Int.{ints}
 use Rattle.std.proofs.lemmas.List.{length-map}
 use Rattle.std.proofs.lemmas.Slice.Zip.{AllZip-long}
-use Rattle.whole_math.proofs.Order.{lins}
-use Rattle.quadratic_form.specs.Forms.{Column}
-use Rattle.quadratic_form.specs.Rows.{value}
-use Rattle.quadratic_form.specs.TwoLeast.{Less}
 use Rattle.obs_rows.specs.declared.arcs.Arc.{Arc}
 use Rattle.obs_rows.specs.declared.bands.Signals.{Signals}
 use Rattle.obs_rows.specs.declared.pair_rows.PairRows.{PairRows}
-use Rattle.obs_rows.specs.declared.units.TheConstants.{SIGNALS_12, SIGNALS_15, SIGNALS_125}
 use Rattle.obs_rows.specs.Arcs.{free_count}
 use Rattle.obs_rows.specs.Integers.{integer_count}
 use Rattle.obs_rows.specs.Ranges.{IsBelow}
@@ -22,7 +16,8 @@ use Rattle.integer_form.specs.Forms.{integers_of, columns_of, value_of}
 use Rattle.int_search.specs.declared.answer.TwoBest.{TwoBest}
 use Rattle.int_search.specs.Answers.{IsTwoBest}
 use Rattle.fix_decide.specs.Decisions.{first_of, second_of}
-use Rattle.fix_decide.proofs.SessionForms.{small_value, first_length, all_narrow}
+use Rattle.fix_decide.proofs.SessionForms.{some_phases, small_value, first_length, all_narrow}
+use Rattle.settled_decision.proofs.DecidedLaws.{InRange, in_range, first_least}
 use Rattle.cert_data.specs.Tails.{IsMove}
 use Rattle.integer_form.specs.FloatPoint.{HasWide}
 use Rattle.track_data.specs.TrackTails.{AreTrackVectors}
@@ -30,18 +25,6 @@ use Rattle.track_sum.specs.PairFronts.{AreFronts, IsFrontOfPair, move_at}
 use Rattle.track_sum.specs.Decided.{IsTrackForm}
 
 -- ---- the integers
--- fine signals have two phases or three
-some_phases : (signals : Signals) → 1 ≤ length (phases (fine_signals signals))
-some_phases signals = by_l5 (signals.l5 == 0)
-  where
-    by_l2 : (unused : Bool) → 1 ≤ length (phases (cond unused SIGNALS_15 SIGNALS_125))
-    by_l2 true = lit≤ tt
-    by_l2 false = lit≤ tt
-
-    by_l5 : (unused : Bool) → 1 ≤ length (phases (cond unused SIGNALS_12 (cond (signals.l2 == 0) SIGNALS_15 SIGNALS_125)))
-    by_l5 true = lit≤ tt
-    by_l5 false = by_l2 (signals.l2 == 0)
-
 pub some_integers : (arcs : List Arc) (signals : Signals) → 1 ≤ free_count arcs → 1 ≤ integer_count arcs (fine_signals signals)
 some_integers arcs signals some = product (length (phases (fine_signals signals))) (free_count arcs) (some_phases signals) some
   where
@@ -57,37 +40,12 @@ integers_are arcs ss pairs fs f is = fewer f.columns (integer_count arcs ss) (co
     fewer : (a b : ℕ) → a ≡ 4 + b → a - 4 ≡ b
     fewer a b e = omega (arith, e)
 
--- so a search has something to find
-pub more_than_four : (arcs : List Arc) (signals : Signals) (pairs : List PairRows) (fs : List FrontForm) (f : Form) → 1 ≤ free_count arcs →
-    IsTrackForm arcs (fine_signals signals) pairs fs f → 4 < f.columns
-more_than_four arcs signals pairs fs f some is = more f.columns (integer_count arcs (fine_signals signals)) (columns_are arcs (fine_signals signals) pairs fs f is) (some_integers arcs signals some)
-  where
-    more : (a b : ℕ) → a ≡ 4 + b → 1 ≤ b → 4 < a
-    more a b e h = omega (arith, e, h)
-
 -- ---- the values
 pub second_small : (f : Form) (b : TwoBest) → 1 ≤ integers_of f → IsTwoBest f b → b.p2 <ℤ pos (2 ^ 54)
 second_small f b some two = subst (λ (x : ℤ). x <ℤ pos (2 ^ 54)) (sym two.p2) (small_value f (integers_of f - 1) (first_of b) (second_of b) (one_less (integers_of f) some) two.least)
   where
     one_less : (n : ℕ) → 1 ≤ n → n ≡ suc (n - 1)
     one_less n h = omega (arith, h)
-
--- a value from -2^63 on, below one that is below 2^54
-record InRange (p1 p2 : ℤ) : Type 0 where
-  first : IsBelow (2 ^ 126) p1
-  second : IsBelow (2 ^ 126) p2
-
-in_range : (p1 p2 : ℤ) → neg_ℤ (pos (2 ^ 63)) ≤ℤ p1 → p1 ≤ℤ p2 → p2 <ℤ pos (2 ^ 54) → InRange p1 p2
-in_range p1 p2 h g k = record { first = omega (arith, ints); second = omega (arith, ints) }
-
-first_least : (p : List Column) (v w : List ℤ) → Less p v w → value p v ≤ℤ value p w
-first_least p v w h = ⊎_elim (λ (l : value p v <ℤ value p w). weaker (value p v) (value p w) l) (λ e. same (value p v) (value p w) e.0) h
-  where
-    weaker : (a b : ℤ) → a <ℤ b → a ≤ℤ b
-    weaker a b l = omega (arith, lins)
-
-    same : (a b : ℤ) → a ≡ b → a ≤ℤ b
-    same a b e = omega (arith, lins)
 
 values_in_range : (f : Form) (best : TwoBest) → 1 ≤ integers_of f → IsTwoBest f best → ((z : List ℤ) → length z ≡ integers_of f → neg_ℤ (pos (2 ^ 63)) ≤ℤ value_of f z) → InRange best.p1 best.p2
 values_in_range f best some two from = in_range best.p1 best.p2

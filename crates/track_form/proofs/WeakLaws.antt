@@ -1,11 +1,8 @@
 -- The ranges of a weak pivot, of the front of a pair and of the finish of the sum.
-use Rattle.std.proofs.Common.{◌≡◌, inl, inr, ℕ, zero, suc, ◌+◌, ◌-◌, ◌^◌, ◌<◌, ◌≤◌, Bool, true, false, ◌&&◌, nat_lt, int_lt, List, [], ◌∷◌, ℤ, pos, Result, Ok, Err, unsigned_abs, arith, refl, sym, ap, ◌∙◌, subst}
+use Rattle.std.proofs.Common.{◌≡◌, inl, inr, ℕ, ◌+◌, ◌-◌, ◌^◌, ◌<◌, ◌≤◌, true, List, ℤ, Err, unsigned_abs, arith, refl, ap, ◌∙◌}
 use Rattle.std.proofs.lemmas.Bool.Decides.{nat_tests}
-use Rattle.whole_math.specs.Vectors.{len}
-use Rattle.quadratic_form.specs.Forms.{Column}
-use Rattle.quadratic_form.specs.Elimination.{Factor, Refusal, weak, wide_factor, wide_entry, kept, factors, next, all_small, form_small, with_factor, steps}
+use Rattle.quadratic_form.specs.Elimination.{Refusal, form_small, steps}
 use Rattle.quadratic_form.specs.Lowering.{IsExponent}
-use Rattle.quadratic_form.specs.Places.{form_from}
 use Rattle.form_tables.specs.Tables.{entry}
 use Rattle.form_tables.specs.declared.sizes.TheConstants.{MOST_COLUMNS, MOST_FACTORS}
 use Rattle.normal_sum.specs.declared.normal.Normal.{Normal}
@@ -15,96 +12,19 @@ use Rattle.integer_form.specs.declared.faults.LowerFault.{LowerFault}
 use Rattle.integer_form.specs.declared.faults.LowerFault.TheVariants as fault
 use Rattle.integer_form.specs.Told.{told, IsToldAs}
 use Rattle.integer_form.specs.Kept.{form_of_table}
+use Rattle.elimination.specs.StepEntries.{is_small}
+use Rattle.elimination.proofs.SmallEntries.{form_all_small}
 use Rattle.lower_form.specs.FirstRounding.{first_form}
 use Rattle.lower_form.specs.Fronts.{front_of}
 use Rattle.lower_form.proofs.Exponents.{has_exponent}
 use Rattle.obs_rows.specs.declared.arcs.Arc.{Arc}
 use Rattle.obs_rows.specs.declared.pair_rows.PairRows.{PairRows}
 use Rattle.cert_data.specs.Tails.{IsWeak}
+use Rattle.settled_decision.proofs.WeakLaws.{IsPivot, weak_of, weak_of_steps, told_weak}
 use Rattle.track_data.specs.TrackTails.{IsTrackTailOf}
 use Rattle.track_sum.specs.PairFronts.{IsRefusedPair}
 use Rattle.track_form.specs.Decided.{IsFormRefused, track_tail_of}
 use Rattle.track_form.proofs.OneDecision.{some_pair}
-
--- a pivot of one of k steps from the j-th on, below 2^52 in size
-record IsPivot (j k i : ℕ) (p : ℤ) : Type 0 where
-  column : i < j + k
-  size : unsigned_abs p < 2 ^ 52
-
--- the own entry of the first column is small
-abbrev IsFirstSmall : List Column → Type 0
-IsFirstSmall [] = Unit {0}
-IsFirstSmall (c ∷ m) = unsigned_abs c.own < 2 ^ 52
-
-first_true : (a b : Bool) → (a && b) ≡ true → a ≡ true
-first_true true b e = refl
-first_true false b e = e
-
-small_first : (a : List Column) → form_small a ≡ true → IsFirstSmall a
-small_first [] e = tt
-small_first (c ∷ m) e = less (unsigned_abs c.own) (first_true (nat_lt (unsigned_abs c.own) (2 ^ 52)) (all_small c.others && form_small m) e)
-  where
-    less : (n : ℕ) → nat_lt n (2 ^ 52) ≡ true → n < 2 ^ 52
-    less n e = grind (arith, nat_tests)
-
-abbrev Answer : Type 0
-Answer = Result (Factor × List Column) Refusal
-
-abbrev Answers : Type 0
-Answers = Result (List Factor × List Column) Refusal
-
-abbrev tested : Bool → Bool → Bool → Refusal → Factor × List Column → Answer
-tested a b d e p = elim a as (λ x. Answer) [ true ↦ Err e | false ↦ elim b as (λ x. Answer) [ false ↦ Err wide_factor | true ↦ elim d as (λ x. Answer) [ false ↦ Err wide_entry | true ↦ Ok p ] ] ]
-
-abbrev after : ℕ → ℕ → Answer → Answers
-after j k r = elim r as (λ x. Answers) [ Ok q ↦ with_factor q.0 (steps (suc j) k q.1) | Err i ↦ Err i ]
-
-unfactored : (f : Factor) (r : Answers) (e : Refusal) → with_factor f r ≡ Err e → r ≡ Err e
-unfactored f (Ok q) e h = absurd cc
-unfactored f (Err n) e h = h
-
-later : (j k i : ℕ) (p : ℤ) → IsPivot (suc j) k i p → IsPivot j (suc k) i p
-later j k i p h = record { column = more j k i h.column; size = h.size }
-  where
-    more : (j k i : ℕ) → i < suc j + k → i < j + suc k
-    more j k i g = omega arith
-
-here : (j k i : ℕ) (own p : ℤ) → unsigned_abs own < 2 ^ 52 → j ≡ i → own ≡ p → IsPivot j (suc k) i p
-here j k i own p h e g = record { column = first j k i e; size = subst (λ (x : ℤ). unsigned_abs x < 2 ^ 52) g h }
-  where
-    first : (j k i : ℕ) → j ≡ i → i < j + suc k
-    first j k i e = omega arith
-
-column_same : (j i : ℕ) (a p : ℤ) → after j zero (Err (weak j a)) ≡ Err (weak i p) → j ≡ i
-column_same j i a p e = cc
-
-pivot_same : (j i : ℕ) (a p : ℤ) → after j zero (Err (weak j a)) ≡ Err (weak i p) → a ≡ p
-pivot_same j i a p e = cc
-
-cases : (a b d : Bool) (j k i : ℕ) (own p : ℤ) (q : Factor × List Column) → d ≡ form_small q.1 → unsigned_abs own < 2 ^ 52 →
-    ((m : List Column) → IsFirstSmall m → steps (suc j) k m ≡ Err (weak i p) → IsPivot (suc j) k i p) →
-    after j k (tested a b d (weak j own) q) ≡ Err (weak i p) → IsPivot j (suc k) i p
-cases true b d j k i own p q f s ih e = here j k i own p s (column_same j i own p e) (pivot_same j i own p e)
-cases false false d j k i own p q f s ih e = absurd cc
-cases false true false j k i own p q f s ih e = absurd cc
-cases false true true j k i own p q f s ih e = later j k i p (ih q.1 (small_first q.1 (sym f)) (unfactored q.0 (steps (suc j) k q.1) (weak i p) e))
-
-weak_of_steps : (j k : ℕ) (a : List Column) (i : ℕ) (p : ℤ) → IsFirstSmall a → steps j k a ≡ Err (weak i p) → IsPivot j k i p
-weak_of_steps j zero a i p s e = absurd cc
-weak_of_steps j (suc k) [] i p s e = absurd cc
-weak_of_steps j (suc k) (c ∷ m) i p s e =
-    let l : List ℤ = factors (unsigned_abs c.own) c.others in
-    let rest : List Column = next (unsigned_abs c.own) (len c.others) c.others m in
-    cases (int_lt c.own (pos (2 ^ 20))) (all_small l) (form_small rest) j k i c.own p (record { d = kept (unsigned_abs c.own); l = l }, rest) refl s (λ n t h. weak_of_steps (suc j) k n i p t h) e
-
-weak_of : (b : Bool) (k : ℕ) (a : List Column) (i : ℕ) (p : ℤ) → b ≡ form_small a → elim b as (λ x. Answers) [ true ↦ steps 0 k a | false ↦ Err wide_entry ] ≡ Err (weak i p) → IsPivot 0 k i p
-weak_of true k a i p f e = weak_of_steps 0 k a i p (small_first a (sym f)) e
-weak_of false k a i p f e = absurd cc
-
-told_weak : (column : ℕ) (pivot : ℤ) (refusal : Refusal) → fault.Weak column pivot ≡ told refusal → refusal ≡ weak column pivot
-told_weak column pivot (weak j a) e = cc
-told_weak column pivot wide_factor e = absurd cc
-told_weak column pivot wide_entry e = absurd cc
 
 -- ---- a pair whose front is refused by a weak pivot
 pair_weak : (arcs : List Arc) (ss : List ℕ) (p : PairRows) (column : ℕ) (pivot : ℤ) → IsRefusedPair arcs ss p (fault.Weak column pivot) → IsWeak column pivot
@@ -119,18 +39,17 @@ pair_weak arcs ss p column pivot a =
     small i h = omega (arith, h)
 
 -- ---- a sum whose finish is
-first_of_form : (e : ℕ → ℕ → ℤ) (j n : ℕ) → ((r c : ℕ) → unsigned_abs (e r c) < 2 ^ 52) → IsFirstSmall (form_from e j n)
-first_of_form e j zero h = tt
-first_of_form e j (suc k) h = h j j
-
 sum_weak : (sum : FrontForm) (column : ℕ) (pivot : ℤ) (refusal : Refusal) → steps 3 (sum.columns - 4) (form_of_table sum.p (sum.columns - 3)) ≡ Err refusal →
     fault.Weak column pivot ≡ told refusal → IsWeak column pivot
 sum_weak sum column pivot refusal e f =
     let is : IsPivot 3 (sum.columns - 4) column pivot =
-    weak_of_steps 3 (sum.columns - 4) (form_of_table sum.p (sum.columns - 3)) column pivot (first_of_form (entry sum.p) 0 (sum.columns - 3) sum.entries_in)
+    weak_of_steps 3 (sum.columns - 4) (form_of_table sum.p (sum.columns - 3)) column pivot (form_all_small (entry sum.p) 0 (sum.columns - 3) (λ r c a b l. test (entry sum.p r c) (sum.entries_in r c)))
     (e ∙ ap Err (told_weak column pivot refusal f)) in
     record { column_to = small sum.columns column sum.columns_to is.column; pivot_in = is.size }
   where
+    test : (x : ℤ) → unsigned_abs x < 2 ^ 52 → is_small x ≡ true
+    test x h = grind (arith, nat_tests, h)
+
     small : (c i : ℕ) → c ≤ MOST_COLUMNS → i < 3 + (c - 4) → i < MOST_FACTORS
     small c i h g = omega (arith, h, g)
 

@@ -1,8 +1,7 @@
 //! What the rows of a track are decided to say.
-ghost use Rattle.std.specs.Prelude.{◌≡◌, ◌^◌, ◌≤◌, ℕ, List, ℤ, length, map, All, pos, neg_ℤ, ◌≤ℤ◌, IfOk};
+ghost use Rattle.std.specs.Prelude.{◌≡◌, ◌≤◌, ℕ, List, length, map, All, IfOk};
 ghost use Rattle.obs_rows.specs.Signals.{fine_signals};
 ghost use Rattle.integer_form.specs.declared.front_form.FrontForm.{FrontForm};
-ghost use Rattle.integer_form.specs.Forms.{integers_of, value_of};
 ghost use Rattle.integer_form.specs.FloatPoint.{HasWide};
 ghost use Rattle.int_search.specs.Answers.{IsTwoBest};
 ghost use Rattle.int_search.specs.ReducedCounts.{KeepsBudget};
@@ -16,7 +15,8 @@ ghost use Rattle.track_form.specs.Decided.{IsTrackDecision, IsTrackBestWhereFixe
 use crate::uppers::track_upper;
 use fix_decide::is_separated;
 use int_search::{SearchFault, TwoBest, two_best};
-use integer_form::{Form, LowerFault, Place, lower_sum_law};
+use integer_form::{Form, LowerFault, Place};
+use settled_decision::values_from;
 use std::alloc::{AllocError, Global};
 use track_data::{Items, Track, TrackTail};
 use track_sum::{form_of_track, moves_at};
@@ -29,14 +29,6 @@ fn track_tail_of(fault: LowerFault) -> TrackTail
         LowerFault::Weak { column, pivot } => TrackTail::Weak { column, pivot },
         LowerFault::Overwidth { place } => TrackTail::Overwidth { place },
     }
-}
-
-/// No value of a form is below its last entry, which fits its word.
-fn values_from(form: &Form)
-    ensures { (z : List ℤ) → length z ≡ integers_of form.now → neg_ℤ (pos (2 ^ 63)) ≤ℤ value_of form.now z }
-{
-    lower_sum_law(form);
-    let _last = form.g;
 }
 
 /// The decision by the two least vectors of the form and the moves of the first: the upper sums, the ratio.
