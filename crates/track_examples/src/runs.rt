@@ -79,6 +79,7 @@ fn is_near(found: Option<[i64; 3]>, want: [i64; 3]) -> bool {
 }
 
 /// Where a rover is in so many pairs: at the first place up to the pair in which it turns, and at the second from it on.
+#[derive(Clone, Copy)]
 pub(crate) struct Walk {
     pub count: usize,
     pub turn: usize,
