@@ -24,7 +24,8 @@ fn a_read_fault_comes_before_a_refusal(rt: HostRuntime) -> Result<(), Fail> {
 #[test]
 fn a_fault_of_out_takes_the_place_of_a_verdict_alone(rt: HostRuntime) -> Result<(), Fail> {
     let alloc = rt.alloc();
-    let usage = "usage: baseline fix|check|residuals|zero|list|orbit|arcs|sim|migrate|track|check-track WORDS\n";
+    let usage =
+        "usage: baseline fix|check|residuals|zero|list|orbit|arcs|sim|migrate|track|check-track WORDS\n";
     let refused = "refused: F line 1 column 1: bad line\n";
     let rows = [
         ("fix", "x", Status::Usage, usage),

@@ -26,7 +26,10 @@ fn declines_before_a_form(rt: HostRuntime) -> Result<(), Fail> {
     let lost = track_texts(alloc, &made, far.as_bytes(), &Options::defaults())?;
     assert_eq!(rt; lost.status, Status::Declined);
     assert_eq!(rt; lost.out.as_slice(), b"declined lost 10\n".as_slice());
-    assert!(rt; lost.err.starts_with(b"pairs 10 of 10\narcs 5\nlost 0 coarse\nlost 1 coarse\n"));
+    assert!(rt;
+        lost.err
+            .starts_with(b"pairs 10 of 10\narcs 5\nlost 0 coarse\nlost 1 coarse\n")
+    );
     assert!(rt; lost.err.ends_with(b"\nlost 9 coarse\nverdict declined\n"));
     Ok(())
 }
@@ -39,7 +42,11 @@ fn a_spent_search_is_told(rt: HostRuntime) -> Result<(), Fail> {
     one.budget = 1;
     let answer = track_texts(alloc, &made, &made.rover, &one)?;
     assert_eq!(rt; answer.status, Status::Declined);
-    assert!(rt; answer.out.starts_with(b"baseline-track 1\nratio 2000\nbudget 1\n"));
+    assert!(rt;
+        answer
+            .out
+            .starts_with(b"baseline-track 1\nratio 2000\nbudget 1\n")
+    );
     assert!(rt; answer.out.ends_with(b"\ndeclined spent 1\n"));
     let told = b"pairs 60 of 60\narcs 8\nverdict declined\n";
     assert_eq!(rt; answer.err.as_slice(), told.as_slice());
@@ -72,10 +79,17 @@ fn an_arc_without_a_row_is_weak(rt: HostRuntime) -> Result<(), Fail> {
     let rover = with_lost_lock(alloc, rover.as_bytes(), after)?;
     let answer = track_texts(alloc, &made, rover.as_bytes(), &Options::defaults())?;
     assert_eq!(rt; answer.status, Status::Declined);
-    assert!(rt; answer.err.starts_with(b"pairs 60 of 60\narcs 19\nlost 30 rows\nlost 31 rows\n"));
+    assert!(rt;
+        answer
+            .err
+            .starts_with(b"pairs 60 of 60\narcs 19\nlost 30 rows\nlost 31 rows\n")
+    );
     assert!(rt; answer.err.ends_with(b"\nlost 39 rows\nverdict declined\n"));
     let text = str::from_utf8(&answer.out)?;
-    assert!(rt; text.lines().any(|line| line.starts_with("declined weak 17 -")));
+    assert!(rt;
+        text.lines()
+            .any(|line| line.starts_with("declined weak 17 -"))
+    );
     let checked = check_text(alloc, &answer.out)?;
     assert!(rt; checked.out.starts_with(b"not certified weak 17 -"));
     let mut long = Options::defaults();

@@ -102,7 +102,11 @@ pub(crate) fn are_places(rt: &impl Abort, err: &[u8], walk: &Walk) -> Result<(),
     let mut seen = 0usize;
     for line in str::from_utf8(err)?.lines() {
         if line.starts_with("place ") {
-            let place = if seen < walk.turn { walk.first } else { walk.second };
+            let place = if seen < walk.turn {
+                walk.first
+            } else {
+                walk.second
+            };
             assert!(rt; is_near(place_in(line), place), "at {line}");
             seen = seen.wrapping_add(1);
         }

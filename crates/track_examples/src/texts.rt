@@ -163,7 +163,13 @@ fn cycles_in(line: &str, code: Field, phase: Field, frequency: i128) -> Result<i
 }
 
 // What is to be added to the phases of a line, in thousandths, so that their whole cycles are those of another.
-fn cycles_more(of: &str, to: &str, code: Field, phase: Field, frequency: i128) -> Result<i64, Fail> {
+fn cycles_more(
+    of: &str,
+    to: &str,
+    code: Field,
+    phase: Field,
+    frequency: i128,
+) -> Result<i64, Fail> {
     let own = cycles_in(of, code, phase, frequency)?;
     let others = cycles_in(to, code, phase, frequency)?;
     Ok(others.wrapping_sub(own).wrapping_mul(1000))

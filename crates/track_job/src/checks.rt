@@ -42,11 +42,7 @@ fn check_track_text(alloc: Global, name: &str, text: &[u8]) -> Result<Answer, St
 }
 
 /// Whether the rows of the certificate of a track say what its tail says of a fix.
-pub fn check_track_file<F: Files>(
-    alloc: Global,
-    files: &mut F,
-    name: &str,
-) -> Result<Answer, Stop>
+pub fn check_track_file<F: Files>(alloc: Global, files: &mut F, name: &str) -> Result<Answer, Stop>
     ensures ends { IfEnded result (λ end. EndsByFile (F.text_of files.old) name.now (CheckTrackEnds name.now) end) }
     ensures refused { IfEnded result (IsRefusedWhole (F.text_of files.old) (F.unread files.new) (name.now ∷ [])) }
     ensures opened { OpensAtMost 1 (F.opened files.old) (F.opened files.new) }
