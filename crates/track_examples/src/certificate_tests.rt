@@ -80,6 +80,31 @@ fn text_of(alloc: Global, front: &[&str], back: &[&str]) -> Result<String, Alloc
     Ok(text)
 }
 
+// Appends lines, of which the first has this number; in the place of that with the other number stands another.
+fn push_changed(
+    text: &mut String,
+    lines: &[&str],
+    first: u32,
+    number: u32,
+    bad: &str,
+) -> Result<(), AllocError> {
+    let mut line = first;
+    for good in lines {
+        text.push_str(if line == number { bad } else { good })?;
+        text.push_str("\n")?;
+        line = line.wrapping_add(1);
+    }
+    Ok(())
+}
+
+// The whole text with another line in the place of that number.
+fn with_line(alloc: Global, number: u32, bad: &str) -> Result<String, AllocError> {
+    let mut text = String::new(alloc);
+    push_changed(&mut text, &FRONT, 1, number, bad)?;
+    push_changed(&mut text, &VECTORS, FRONT.len() as u32 + 1, number, bad)?;
+    Ok(text)
+}
+
 // Where a text is refused.
 fn refusal(rt: &impl Abort, alloc: Global, text: &str) -> Option<At> {
     assert!(rt; text.len() <= 67_108_864);
@@ -117,13 +142,7 @@ fn gives_texts_back(rt: HostRuntime) -> Result<(), Fail> {
 fn refuses_lines(rt: HostRuntime) -> Result<(), Fail> {
     let alloc = rt.alloc();
     for (number, bad, column, what) in BAD_LINES {
-        let mut text = String::new(alloc);
-        let mut line = 1u32;
-        for good in FRONT.iter().chain(VECTORS.iter()) {
-            text.push_str(if line == number { bad } else { good })?;
-            text.push('\n')?;
-            line = line.wrapping_add(1);
-        }
+        let text = with_line(alloc, number, bad)?;
         let want = Some(At {
             line: number,
             column,
