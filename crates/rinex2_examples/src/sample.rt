@@ -65,7 +65,7 @@ fn push_line(text: &mut String, line: &str) -> Result<(), AllocError> {
     Ok(())
 }
 
-/// The text of these lines.
+/// The text of these lines. It serves tests alone, which compare what is read of it, so it promises nothing.
 pub fn text_of(alloc: Global, lines: &[&str]) -> Result<String, AllocError> {
     let mut text = String::new(alloc);
     for line in lines {
@@ -74,7 +74,7 @@ pub fn text_of(alloc: Global, lines: &[&str]) -> Result<String, AllocError> {
     Ok(text)
 }
 
-/// What the text gives.
+/// What the text gives, by `read_obs2`. It serves tests alone: its caller asserts what comes.
 pub fn read(rt: &impl Abort, alloc: Global, text: &str) -> Result<ObsFile, At> {
     assert!(rt; text.len() <= 67_108_864);
     match read_obs2(alloc, text.as_bytes()) {
@@ -84,7 +84,8 @@ pub fn read(rt: &impl Abort, alloc: Global, text: &str) -> Result<ObsFile, At> {
     }
 }
 
-/// What the sample gives with these lines behind so many of its own, before those behind so many.
+/// What the sample gives with these lines behind so many of its own, before those behind so many. It serves tests alone: its
+/// caller asserts what comes.
 pub fn read_changed(
     rt: &impl Abort,
     alloc: Global,
