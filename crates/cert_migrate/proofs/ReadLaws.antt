@@ -13,6 +13,7 @@ use Rattle.cert_lines.specs.declared.version.Version.TheVariants.{One}
 use Rattle.cert_spelling.specs.Spelling.{spelling_as}
 use Rattle.cert_spelling.specs.Lengths.{IsWholeTail, IsWhole}
 use Rattle.cert_spelling.specs.Editions.{IsOfVersion, IsCertificateAs}
+use Rattle.grammar_lines.specs.Beginnings.{NoneBegins}
 use Rattle.cert_migrate.specs.declared.old_rows.OldRow.{OldRow}
 use Rattle.cert_migrate.specs.declared.old_pairs.OldPair.{OldPair}
 use Rattle.cert_migrate.specs.declared.old_tails.OldTail.{OldTail}
@@ -39,14 +40,22 @@ read_only text c o h only d w e =
     let same : carried_cert d ≡ c = only (carried_cert d) (cert_whole d w) (cert_of_one d) (e ∙ carried_text d w) in
     one_old c d o (subst (λ (x : Cert). IsCarrierOf x d) same (cert_carried d w)) h
 
--- where none has it in the present types, none has it
-pub none_read : (text : List ℕ) → (IsCertificateAs One text → ⊥) → IsOldCertificate text → ⊥
-none_read text none is = none (record {
+-- its text is one in the present types
+present_text : (text : List ℕ) → IsOldCertificate text → IsCertificateAs One text
+present_text text is = record {
   cert = carried_cert is.cert;
   whole = cert_whole is.cert is.whole;
   of_version = cert_of_one is.cert;
   spelled = is.spelled ∙ carried_text is.cert is.whole;
-})
+}
+
+-- where none has it in the present types, none has it
+pub none_read : (text : List ℕ) → (IsCertificateAs One text → ⊥) → IsOldCertificate text → ⊥
+none_read text none is = none (present_text text is)
+
+-- and where none begins with some lines, none does
+pub none_begins : (text : List ℕ) (number : ℕ) → NoneBegins (IsCertificateAs One) text number → NoneBegins IsOldCertificate text number
+none_begins text number none = λ other is same. none other (present_text other is) same
 
 -- ---- its arrays have their lengths
 row_whole : (r : Row) (o : OldRow) → IsRowOf r o → IsWholeRow r → IsWholeOldRow o

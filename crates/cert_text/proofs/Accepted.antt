@@ -16,7 +16,7 @@ use Rattle.cert_data.specs.declared.certs.Cert.{Cert}
 use Rattle.cert_spelling.specs.Spelling.{system_lines, head_lines, all_pair_lines, counted_pairs, tail_lines, lines_of_cert, spelling_as}
 use Rattle.rinex_head.specs.Places.{and_then}
 use Rattle.rinex_head.specs.declared.place.Flaw.{Flaw}
-use Rattle.rinex_head.specs.Walk.{walk, Gives, OnRefusal}
+use Rattle.rinex_head.specs.Walk.{walk, Gives, OnRefusal, IfRefused}
 use Rattle.cert_lines.proofs.LineSpells.{line_length, count_spells, pair_spells, point_spells, point_length}
 use Rattle.rinex_head.specs.declared.place.TextFault.{TextFault}
 use Rattle.rinex_head.specs.declared.place.TextFault.TheVariants.{Refused, NoMemory}
@@ -28,7 +28,9 @@ use Rattle.cert_lines.specs.Lengths.{IsWholePair}
 use Rattle.cert_spelling.specs.Lengths.{IsWhole}
 use Rattle.cert_spelling.specs.Editions.{IsOfVersion, IsCertificateAs}
 use Rattle.cert_text.proofs.FeedLaws.{cert_feed}
+use Rattle.grammar_lines.specs.Beginnings.{NoneBegins}
 use Rattle.grammar_lines.proofs.Accepts.{step, AreAccepted, RisesFrom, rises, rows_accepted, counted_arcs_accepted}
+use Rattle.grammar_lines.proofs.FirstLines.{none_agrees}
 use Rattle.cert_text.proofs.TailSpells.{tail_accepted}
 use Rattle.cert_lines.proofs.LetterLaws.{letters_spell, letters_length, system_spells}
 use Rattle.cert_lines.proofs.Sizes.{pair_small}
@@ -139,3 +141,11 @@ pub refused_text : {X : Type 0} (version : Version) (text : List ℕ) (view : X 
 refused_text version text view (Ok x) given = tt
 refused_text version text view (Err (Refused at)) given = λ is. absurd (cc (certificate_read version text is, given))
 refused_text version text view (Err NoMemory) given = tt
+
+-- nor does that of any other begin with its lines up to the place
+pub stuck_text : {X : Type 0} (version : Version) (text : List ℕ) (view : X → Unit {0}) (r : Result X TextFault) → Gives (reading_as version text) view r
+    → IfRefused r (λ at. NoneBegins (IsCertificateAs version) text at.line)
+stuck_text version text view (Ok x) given = tt
+stuck_text version text view (Err (Refused at)) given = λ other is same.
+    none_agrees cert_rules (ended_lines text) (ended_lines other) (Form version) at tt given (certificate_read version other is) same
+stuck_text version text view (Err NoMemory) given = tt

@@ -1,10 +1,11 @@
 //! A certificate, read.
 ghost use Rattle.std.specs.Prelude.{◌≡◌, ◌≤◌, ◌++◌, [], length, Ok, Err, IfOk, MatchResult};
-ghost use Rattle.rinex_head.specs.Walk.{rest_gives, Gives, OnRefusal};
+ghost use Rattle.rinex_head.specs.Walk.{rest_gives, Gives, OnRefusal, IfRefused};
 ghost use Rattle.cert_data.specs.declared.certs.Cert.{Cert};
 ghost use Rattle.cert_spelling.specs.Spelling.{lines_of_cert, spelling_as, spelling};
 ghost use Rattle.cert_spelling.specs.Lengths.{IsWhole, IsCertificate};
 ghost use Rattle.cert_spelling.specs.Editions.{IsOfVersion, IsCertificateAs};
+ghost use Rattle.grammar_lines.specs.Beginnings.{NoneBegins};
 ghost use Rattle.cert_text.specs.Rules.{cert_rules, reading_as, reading_of, Form, End};
 
 use crate::arcs::read_arcs;
@@ -65,6 +66,7 @@ pub fn read_as(alloc: Global, version: Version, text: &[u8]) -> Result<Cert, Tex
     ensures of_version { IfOk result (IsOfVersion version) }
     ensures only { IfOk result (λ c. (d : Cert) → IsWhole d → IsOfVersion version d → text.now ≡ spelling_as version d → d ≡ c) }
     ensures refused { OnRefusal result (IsCertificateAs version text.now → ⊥) }
+    ensures stuck { IfRefused result (λ at. NoneBegins (IsCertificateAs version) text.now at.line) }
     ensures exact { Gives (reading_as version text.now) (λ c. tt) result }
 {
     read_lines(alloc, version, TextLines::new(text))
@@ -77,6 +79,7 @@ pub fn read_cert(alloc: Global, text: &[u8]) -> Result<Cert, TextFault>
     ensures whole { IfOk result IsWhole }
     ensures only { IfOk result (λ c. (d : Cert) → IsWhole d → text.now ≡ spelling d → d ≡ c) }
     ensures refused { OnRefusal result (IsCertificate text.now → ⊥) }
+    ensures stuck { IfRefused result (λ at. NoneBegins IsCertificate text.now at.line) }
     ensures exact { Gives (reading_of text.now) (λ c. tt) result }
 {
     read_as(alloc, Version::Two, text)

@@ -1,3 +1,4 @@
+pub mod Beginnings
 pub mod LineParts
 pub mod Parts
 pub mod TailParts

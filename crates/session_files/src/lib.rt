@@ -15,6 +15,7 @@ ghost use Rattle.nav_records.specs.NavRules.{nav_of};
 ghost use Rattle.eph_store.specs.Records.{AreFit};
 ghost use Rattle.job_answers.specs.Answers.{IfStopped};
 ghost use Rattle.job_answers.specs.Endings.{EndsUnloaded, IsRefusal, IsRefusedWhole};
+ghost use Rattle.session_files.specs.FaultNames.{IsFaultOf};
 ghost use Rattle.session_files.specs.SessionFiles.{IsObsOf, IsNavOf, StopsAtObs, StopsAtNav, StopsAtFiles, AreFilesOf};
 
 use eph_store::NavFile;
@@ -167,6 +168,7 @@ pub fn read_session<F: Files>(
     ensures opened { OpensAtMost 3 (F.opened files.old) (F.opened files.new) }
     ensures fault { IfStopped result (λ end. end.status ≡ Status.ReadFault → Rose (F.faults files.old) (F.faults files.new)) }
     ensures sure { All (F.is_sure_name files.old) (base.now ∷ rover.now ∷ nav.now ∷ []) → IfStopped result (λ end. end.status ≢ Status.ReadFault) }
+    ensures named { IfStopped result (IsFaultOf (F.is_sure_name files.old) (base.now ∷ rover.now ∷ nav.now ∷ [])) }
 {
     let base_file = match obs_file(alloc, files, system, base) {
         Ok(file) => file,

@@ -13,7 +13,7 @@ use Rattle.rinex_head.specs.declared.place.Flaw.{Flaw}
 use Rattle.rinex_head.specs.declared.place.TextFault.{TextFault}
 use Rattle.rinex_head.specs.declared.place.TextFault.TheVariants.{Refused, NoMemory}
 use Rattle.rinex_head.specs.Places.{and_then}
-use Rattle.rinex_head.specs.Walk.{walk, Gives, OnRefusal}
+use Rattle.rinex_head.specs.Walk.{walk, Gives, OnRefusal, IfRefused}
 use Rattle.cert_words.specs.TextLines.{ended_lines}
 use Rattle.cert_words.proofs.NumberLaws.{AreSmall}
 use Rattle.cert_words.proofs.TextLaws.{lines_of_text}
@@ -33,6 +33,8 @@ use Rattle.cert_lines.proofs.Spreading.{signals_good}
 use Rattle.cert_data.specs.Tails.{IsMove}
 use Rattle.cert_spelling.specs.Spelling.{spent_line}
 use Rattle.grammar_lines.proofs.PlaceLaws.{place_length}
+use Rattle.grammar_lines.specs.Beginnings.{NoneBegins}
+use Rattle.grammar_lines.proofs.FirstLines.{none_agrees}
 use Rattle.grammar_lines.proofs.Accepts.{AreAccepted, step, line_accepted, end_accepted, RisesFrom, rises, rows_accepted, counted_arcs_accepted}
 use Rattle.track_data.specs.TrackTails.{AreTrackVectors, IsTrackTailOf}
 use Rattle.track_data.specs.declared.tails.TrackTail.{TrackTail}
@@ -213,3 +215,9 @@ pub refused_text : {X : Type 0} (text : List ℕ) (view : X → Unit {0}) (r : R
 refused_text text view (Ok x) given = tt
 refused_text text view (Err (Refused at)) given = λ is. absurd (cc (certificate_read text is, given))
 refused_text text view (Err NoMemory) given = tt
+
+-- nor does that of any other begin with its lines up to the place
+pub stuck_text : {X : Type 0} (text : List ℕ) (view : X → Unit {0}) (r : Result X TextFault) → Gives (track_reading text) view r → IfRefused r (λ at. NoneBegins IsTrackCertificate text at.line)
+stuck_text text view (Ok x) given = tt
+stuck_text text view (Err (Refused at)) given = λ other is same. none_agrees track_rules (ended_lines text) (ended_lines other) Form at tt given (certificate_read other is) same
+stuck_text text view (Err NoMemory) given = tt

@@ -3,6 +3,7 @@ use Rattle.job_answers.proofs.EndingLaws.{ends_weaker}
 use Rattle.session_files.proofs.FileLaws.{obs_along, nav_along, at_rover, at_third, refused_at, same_twice, read_along}
 use Rattle.line_source.proofs.Openings.{more_at_most}
 use Rattle.session_files.proofs.Openings.{fewer_at_most}
+use Rattle.session_files.proofs.FaultLaws.{obs_fault_line, nav_fault_line, fault_at}
 use Rattle.session_files.proofs.read_session.Goals as goal
 
 pub returns-in-Err-obs_file-clause-stopped : goal.returns-in-Err-obs_file-clause-stopped
@@ -50,3 +51,16 @@ returns-in-Ok-nav_file-clause-read g c = record {
   rover_is = obs_along c.args.system _ _ c.args.rover.now c.in-Ok-obs_file.file c.in-Ok.ensures.texts c.in-Ok-obs_file.ensures.read;
   nav_is = nav_along c.args.system _ _ c.args.nav.now _ (same_twice _ _ _ c.in-Ok.ensures.texts c.in-Ok-obs_file.ensures.texts) c.in-Ok-nav_file.ensures.read;
 }
+
+pub returns-in-Err-clause-named : goal.returns-in-Err-clause-named
+returns-in-Err-clause-named g c = fault_at c.in-Err.stop _ (c.args.base.now ∷ c.args.rover.now ∷ c.args.nav.now ∷ []) 0 c.args.base.now _ (omega arith) refl
+    (λ end stops. obs_fault_line c.args.system _ c.args.base.now end stops) c.in-Err.ensures.stopped c.in-Err.ensures.sure
+
+pub returns-in-Err-obs_file-clause-named : goal.returns-in-Err-obs_file-clause-named
+returns-in-Err-obs_file-clause-named g c = fault_at c.in-Err-obs_file.stop _ (c.args.base.now ∷ c.args.rover.now ∷ c.args.nav.now ∷ []) 1 c.args.rover.now _ (omega arith) refl
+    (λ end stops. obs_fault_line c.args.system _ c.args.rover.now end stops) c.in-Err-obs_file.ensures.stopped (λ s. c.in-Err-obs_file.ensures.sure (c.in-Ok.ensures.sure_names _ s))
+
+pub returns-in-Err-nav_file-clause-named : goal.returns-in-Err-nav_file-clause-named
+returns-in-Err-nav_file-clause-named g c = fault_at c.in-Err-nav_file.stop _ (c.args.base.now ∷ c.args.rover.now ∷ c.args.nav.now ∷ []) 2 c.args.nav.now _ (omega arith) refl
+    (λ end stops. nav_fault_line c.args.system _ c.args.nav.now end stops) c.in-Err-nav_file.ensures.stopped
+    (λ s. c.in-Err-nav_file.ensures.sure (c.in-Ok-obs_file.ensures.sure_names _ (c.in-Ok.ensures.sure_names _ s)))

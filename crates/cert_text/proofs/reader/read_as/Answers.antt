@@ -10,7 +10,7 @@ use Rattle.rinex_head.specs.Walk.{rest_gives}
 use Rattle.rinex_head.proofs.Walks.{gives_same}
 use Rattle.cert_text.specs.Rules.{cert_rules, Form}
 use Rattle.cert_lines.specs.declared.version.Version.{Version}
-use Rattle.cert_text.proofs.Accepted.{refused_text}
+use Rattle.cert_text.proofs.Accepted.{refused_text, stuck_text}
 use Rattle.cert_spelling.specs.Lengths.{IsWhole}
 use Rattle.cert_spelling.specs.Editions.{IsOfVersion}
 use Rattle.cert_text.proofs.SameSpelling.{spelling_same}
@@ -35,6 +35,12 @@ returns-clause-refused c =
     let text = c.args.text.now in
     let whole = sym (ap (λ (r : Reading). rest_gives cert_rules r (Form c.args.version)) c.new.ensures) in
     refused_text c.args.version text (λ x. tt) c.read_lines.result (gives_same _ _ (λ x. tt) c.read_lines.result whole c.read_lines.ensures.reads)
+
+pub returns-clause-stuck : goal.returns-clause-stuck
+returns-clause-stuck c =
+    let text = c.args.text.now in
+    let whole = sym (ap (λ (r : Reading). rest_gives cert_rules r (Form c.args.version)) c.new.ensures) in
+    stuck_text c.args.version text (λ x. tt) c.read_lines.result (gives_same _ _ (λ x. tt) c.read_lines.result whole c.read_lines.ensures.reads)
 
 -- what is read is the only certificate with this spelling
 alone : (version : Version) (text : List ℕ) (r : Result Cert TextFault) → IfOk r (λ c. text ≡ spelling_as version c) → IfOk r IsWhole → IfOk r (IsOfVersion version)

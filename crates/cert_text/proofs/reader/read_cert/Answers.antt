@@ -1,12 +1,13 @@
 use Rattle.std.proofs.Common.{◌≡◌, List, Result, Ok, Err, IfOk, ℕ}
 use Rattle.rinex_head.specs.declared.place.TextFault.{TextFault}
 use Rattle.rinex_head.specs.declared.place.TextFault.TheVariants.{Refused, NoMemory}
-use Rattle.rinex_head.specs.Walk.{OnRefusal}
+use Rattle.rinex_head.specs.Walk.{OnRefusal, IfRefused}
 use Rattle.cert_lines.specs.declared.version.Version.TheVariants.{Two}
 use Rattle.cert_data.specs.declared.certs.Cert.{Cert}
 use Rattle.cert_spelling.specs.Spelling.{spelling_as, spelling}
 use Rattle.cert_spelling.specs.Lengths.{IsWhole, IsCertificate}
 use Rattle.cert_spelling.specs.Editions.{IsOfVersion, IsCertificateAs}
+use Rattle.grammar_lines.specs.Beginnings.{NoneBegins}
 use Rattle.cert_text.proofs.Versions.{of_two}
 use Rattle.cert_text.proofs.reader.read_cert.Goals as goal
 
@@ -16,13 +17,24 @@ alone : (text : List ℕ) (r : Result Cert TextFault) → IfOk r (λ c. (d : Cer
 alone text (Ok c) only = λ d whole is. only d whole (of_two d) is
 alone text (Err fault) only = tt
 
+as_two : (text : List ℕ) → IsCertificate text → IsCertificateAs Two text
+as_two text is = record { cert = is.cert; whole = is.whole; of_version = of_two is.cert; spelled = is.spelled }
+
 no_other : (text : List ℕ) (r : Result Cert TextFault) → OnRefusal r (IsCertificateAs Two text → ⊥) → OnRefusal r (IsCertificate text → ⊥)
 no_other text (Ok c) none = tt
-no_other text (Err (Refused at)) none = λ is. none (record { cert = is.cert; whole = is.whole; of_version = of_two is.cert; spelled = is.spelled })
+no_other text (Err (Refused at)) none = λ is. none (as_two text is)
 no_other text (Err NoMemory) none = tt
+
+none_begins : (text : List ℕ) (r : Result Cert TextFault) → IfRefused r (λ at. NoneBegins (IsCertificateAs Two) text at.line) → IfRefused r (λ at. NoneBegins IsCertificate text at.line)
+none_begins text (Ok c) none = tt
+none_begins text (Err (Refused at)) none = λ other is same. none other (as_two other is) same
+none_begins text (Err NoMemory) none = tt
 
 pub returns-clause-only : goal.returns-clause-only
 returns-clause-only c = alone c.args.text.now c.read_as.result c.read_as.ensures.only
 
 pub returns-clause-refused : goal.returns-clause-refused
 returns-clause-refused c = no_other c.args.text.now c.read_as.result c.read_as.ensures.refused
+
+pub returns-clause-stuck : goal.returns-clause-stuck
+returns-clause-stuck c = none_begins c.args.text.now c.read_as.result c.read_as.ensures.stuck
