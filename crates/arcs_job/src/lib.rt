@@ -5,7 +5,7 @@ ghost use Rattle.std.specs.Prelude.{◌≡◌, ◌≢◌, [], ◌∷◌, IfOk, A
 ghost use Rattle.line_source.specs.Causes.{Rose, OpensAtMost};
 ghost use Rattle.job_answers.specs.Answers.{ending_of, IfEnded};
 ghost use Rattle.job_answers.specs.Endings.{ending};
-ghost use Rattle.band_sets.specs.BandSets.{bands_of};
+ghost use Rattle.obs_rows.specs.BandSets.{bands_of};
 ghost use Rattle.obs_rows.specs.Ranges.{IsSystem};
 ghost use Rattle.session_begin.specs.Beginnings.{IsPosition, AreSignals, AreSparse, AreTaken};
 ghost use Rattle.screening.specs.Screening.{ArePairsOf};

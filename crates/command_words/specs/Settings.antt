@@ -4,8 +4,8 @@ use Rattle.std.specs.declared.option.Option.{Option}
 use Rattle.run_options.specs.declared.defaults.TheConstants.{DEFAULT_RATIO, DEFAULT_BUDGET, DEFAULT_MASK, DEFAULT_GAP, DEFAULT_JUMP, DEFAULT_ARC, DEFAULT_STEP, DEFAULT_FIRST, DEFAULT_COUNT}
 use Rattle.run_options.specs.declared.options.TheConstants.{GPS, GALILEO}
 use Rattle.run_options.specs.declared.options.Options.{Options}
-use Rattle.band_sets.specs.declared.numbers.TheConstants.{BANDS_L1_L2, BANDS_L1_L5}
-use Rattle.band_sets.specs.BandSets.{IsBandsNumber}
+use Rattle.obs_rows.specs.declared.band_sets.TheConstants.{BANDS_L1_L2, BANDS_L1_L5}
+use Rattle.obs_rows.specs.BandSets.{IsBandsNumber}
 use Rattle.obs_rows.specs.Ranges.{IsSystem}
 use Rattle.command_words.specs.declared.settings.Setting.{Setting}
 use Rattle.command_words.specs.declared.settings.Setting.TheVariants.{Ratio, Budget, Mask, Gap, Jump, Arc, Step, First, Count, Bands, System}

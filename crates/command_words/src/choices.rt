@@ -5,7 +5,7 @@ ghost use Rattle.run_options.specs.declared.options.TheConstants.{GPS};
 ghost use Rattle.command_words.specs.Settings.{numbers_for, default_bands, AreBandsOf, IsChosenBy, IsSignalChoice, IsSimChoice};
 
 use crate::settings::{Found, Given, Setting, are_of_sim, numbers_found};
-use band_sets::{BANDS_L1_L2, BANDS_L1_L5, is_bands_number};
+use obs_rows::{BANDS_L1_L2, BANDS_L1_L5, is_bands_number};
 use run_options::{GALILEO, GPS};
 
 /// A satellite system by its letter, and the number of the bands that are used of it.

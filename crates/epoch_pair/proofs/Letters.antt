@@ -8,9 +8,9 @@ use Rattle.obs_rows.specs.declared.units.TheConstants.{PHASES, BANDS_12, BANDS_1
 use Rattle.obs_rows.specs.declared.bands.Signals.{Signals}
 use Rattle.obs_rows.specs.Signals.{used_signals, fine_signals, phase_bands}
 use Rattle.obs_rows.specs.declared.bands.TheConstants.{L1_LETTERS, L2_LETTERS, L5_LETTERS}
-use Rattle.band_sets.specs.declared.numbers.TheConstants.{BANDS_L1_L2, BANDS_L1_L5, BANDS_L1_L2_L5}
-use Rattle.band_sets.specs.BandSets.{IsBandsNumber, bands_of, digit_of}
-use Rattle.band_sets.proofs.NumberLaws.{each_number}
+use Rattle.obs_rows.specs.declared.band_sets.TheConstants.{BANDS_L1_L2, BANDS_L1_L5, BANDS_L1_L2_L5}
+use Rattle.obs_rows.specs.BandSets.{IsBandsNumber, bands_of, digit_of}
+use Rattle.obs_rows.proofs.BandSetLaws.{each_number}
 use Rattle.epoch_pair.specs.Signals.{is_common, letters_on, letter_on, is_among, IsLetterFor, AreLettersOf}
 
 or_left : (a b : Bool) → a ≡ true → a || b ≡ true

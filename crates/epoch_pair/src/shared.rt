@@ -1,11 +1,10 @@
 //! Which tracking code of each band both receivers observe.
 ghost use Rattle.std.specs.Prelude.{◌≡◌, ◌<◌, ℕ, true, None, All, MatchOption};
 ghost use Rattle.obs_rows.specs.declared.units.TheConstants.{PHASES};
-ghost use Rattle.band_sets.specs.BandSets.{IsBandsNumber, bands_of, digit_of};
+ghost use Rattle.obs_rows.specs.BandSets.{IsBandsNumber, bands_of, digit_of};
 ghost use Rattle.epoch_pair.specs.Signals.{is_listed, is_common, common_letter, letters_on, letter_on, is_among, IsLetterFor, AreLettersOf, LacksLetter, IsKeptLetter};
 
-use band_sets::{BAND_DIGITS, bands_of};
-use obs_rows::{L1_LETTERS, L2_LETTERS, L5_LETTERS, Signals};
+use obs_rows::{BAND_DIGITS, L1_LETTERS, L2_LETTERS, L5_LETTERS, Signals, bands_of};
 use obs_store::{ObsFile, ObsType};
 
 // Whether the header lists the type of this kind (`C` a code, `L` a phase), digit and letter.

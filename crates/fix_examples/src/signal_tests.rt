@@ -2,9 +2,8 @@
 
 use crate::rinex2_texts::in_rinex_2;
 use crate::runs::{fix_texts, is_certified};
-use band_sets::is_bands_number;
 use job_answers::Status;
-use obs_rows::is_system;
+use obs_rows::{is_bands_number, is_system};
 use run_options::Options;
 use sim_session::{Made, make};
 use std::alloc::Global;

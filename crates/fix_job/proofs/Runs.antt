@@ -5,7 +5,7 @@ use Rattle.eph_store.specs.File.{Records}
 use Rattle.obs_rows.specs.declared.arcs.Arc.{Arc}
 use Rattle.obs_rows.specs.declared.sessions.Session.{Session}
 use Rattle.system_world.specs.Worlds.{world_of}
-use Rattle.band_sets.specs.BandSets.{bands_of}
+use Rattle.obs_rows.specs.BandSets.{bands_of}
 use Rattle.screening.specs.Screening.{setting_of}
 use Rattle.row_build.specs.Stands.{StandsForFiles}
 use Rattle.cert_data.specs.declared.certs.Cert.{Cert}

@@ -8,9 +8,16 @@
 //! `groups_law`, `bound_law` and `best_law` carry the laws of quadratic_form over to them. Which signals there are, and
 //! their bands, wavelengths and weights, stands in `units.rt` alone: all sums, counts and places take the list of the
 //! signals that count.
+//!
+//! A run may use the sets of bands that `band_sets.rt` numbers: 12, 15 and 125. `bands_of` gives the bands of a number in
+//! the order L1, L2, L5, and `is_bands_number` says which numbers there are. The number of a set is written with the digits
+//! that its bands have in the names of observation types (`digits_law`). `UsedPair` is what a taken pair of epochs says of
+//! the satellites that it uses, their phases and what was lost up to it: `slip_arcs` cuts arcs from it and `screening` finds
+//! it in two files. Nothing is proved of it here: the definition `IsInRange` says in which range it is.
 #![tactic(auto)]
 
 mod arcs;
+mod band_sets;
 mod bands;
 mod constants;
 mod laws;
@@ -26,8 +33,13 @@ mod session_builder;
 mod sessions;
 mod units;
 mod unused;
+mod used;
 
 pub use arcs::{Arc, ArcList};
+pub use band_sets::{
+    BAND_DIGITS, BANDS_L1_L2, BANDS_L1_L2_L5, BANDS_L1_L5, bands_of, digits_law, is_bands_number,
+    phase_of,
+};
 pub use bands::{L1_LETTERS, L2_LETTERS, L5_LETTERS, Signals};
 pub use constants::{letters_law, signals_law, sizes_law};
 pub use laws::{best_law, bound_law, centres_law, groups_law};
@@ -52,3 +64,4 @@ pub use units::{
     SIGNALS_15, SIGNALS_125, UNIT_FREQUENCY, WAVELENGTHS, WEIGHTS,
 };
 pub use unused::{has_used_rows, has_used_shifts, is_zero_off, phase_bands};
+pub use used::{UsedPair, UsedSat};

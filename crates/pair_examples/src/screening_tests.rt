@@ -2,12 +2,11 @@
 ghost use Rattle.std.specs.Prelude.{◌<◌, IfOk};
 ghost use Rattle.screening.specs.Screening.{ArePairsOf, HasPosition};
 
-use band_sets::BANDS_L1_L2;
 use decimal_text::Dec;
 use eph_store::{NavFile, Raw};
 use epoch_pair::{PairOf, pair, take};
 use gps_time::Tick;
-use obs_rows::{Arc, Signals};
+use obs_rows::{Arc, BANDS_L1_L2, Signals};
 use obs_store::{Epoch, Epochs, ObsFile, ObsType, SLOTS, SatObs, Satellites, Value};
 use screening::{Screened, screen};
 use slip_arcs::cut;

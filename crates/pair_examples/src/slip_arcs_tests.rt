@@ -1,9 +1,8 @@
 // Arcs that are cut at jumps and where power failed, and what links them.
 ghost use Rattle.std.specs.Prelude.{◌≡◌, ◌+◌, ◌<◌, ◌≤◌, ◌^◌, unsigned_abs, vec_len, All, IfOk, OnOk};
-ghost use Rattle.used_svs.specs.Ranges.{IsInRange};
+ghost use Rattle.obs_rows.specs.UsedSats.{IsInRange};
 
-use band_sets::{BANDS_L1_L2, is_bands_number};
-use obs_rows::{Arc, are_within};
+use obs_rows::{Arc, BANDS_L1_L2, are_within, is_bands_number};
 use slip_arcs::{UsedPair, UsedSat, cut};
 use std::alloc::{AllocError, Global};
 use std::test::Fail;

@@ -9,7 +9,7 @@ use Rattle.run_options.specs.declared.options.Options.{Options}
 use Rattle.session_begin.specs.declared.faults.PairWhat.{PairWhat}
 use Rattle.session_begin.specs.declared.faults.PairWhat.TheVariants.{NoBasePosition, NoSignal, Dense}
 use Rattle.session_begin.specs.declared.faults.SessionFault.TheVariants as fault
-use Rattle.band_sets.specs.BandSets.{bands_of}
+use Rattle.obs_rows.specs.BandSets.{bands_of}
 use Rattle.session_begin.specs.Beginnings.{HasPosition, HaveSignals, AreSparse, IsSessionFault}
 use Rattle.session_begin.proofs.BeginLaws.{no_lack}
 use Rattle.rinex_head.specs.Systems.{system_of}

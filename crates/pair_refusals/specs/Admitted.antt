@@ -6,7 +6,7 @@ use Rattle.rinex_head.specs.Systems.{system_of}
 use Rattle.obs_source.specs.Formats.{HasObservation}
 use Rattle.nav_records.specs.NavForm.{HasNavFile}
 use Rattle.run_options.specs.declared.options.Options.{Options}
-use Rattle.band_sets.specs.BandSets.{bands_of}
+use Rattle.obs_rows.specs.BandSets.{bands_of}
 use Rattle.session_begin.specs.Beginnings.{HasPosition, HaveSignals, AreSparse}
 use Rattle.job_answers.specs.Endings.{IsAdmitted}
 use Rattle.session_files.specs.SessionFiles.{IsObsOf}

@@ -10,8 +10,8 @@ use Rattle.obs_rows.specs.declared.bands.Signals.{Signals}
 use Rattle.obs_rows.specs.declared.units.TheConstants.{SIGNALS_12, SIGNALS_15, SIGNALS_125, COARSE_SIGNALS}
 use Rattle.obs_rows.specs.Signals.{band, fine_signals, counted}
 use Rattle.obs_rows.specs.Data.{number_at}
-use Rattle.used_svs.specs.declared.used.UsedPair.{UsedPair}
-use Rattle.used_svs.specs.Ranges.{IsInRange}
+use Rattle.obs_rows.specs.declared.used.UsedPair.{UsedPair}
+use Rattle.obs_rows.specs.UsedSats.{IsInRange}
 use Rattle.screening.specs.declared.sv_pair.SvPair.{SvPair}
 use Rattle.screening.specs.Entries.{entries_of, places_of}
 use Rattle.row_boxes.specs.Terms.{observed}

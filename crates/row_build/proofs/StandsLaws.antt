@@ -21,7 +21,7 @@ use Rattle.obs_rows.specs.declared.sessions.Session.{Session}
 use Rattle.obs_rows.specs.Data.{number_at}
 use Rattle.obs_rows.specs.Signals.{counted, band}
 use Rattle.obs_rows.specs.declared.bands.Signals.{Signals}
-use Rattle.used_svs.specs.declared.used.UsedPair.{UsedPair}
+use Rattle.obs_rows.specs.declared.used.UsedPair.{UsedPair}
 use Rattle.slip_arcs.specs.Runs.{AreKept}
 use Rattle.slip_arcs.specs.Linked.{HaveDatums}
 use Rattle.screening.specs.declared.sv_pair.SvPair.{SvPair}

@@ -6,7 +6,7 @@ ghost use Rattle.obs_rows.specs.declared.arcs.Arc.{Arc};
 ghost use Rattle.obs_rows.specs.declared.bands.Signals.{Signals};
 ghost use Rattle.obs_rows.specs.declared.pair_rows.PairRows.{PairRows};
 ghost use Rattle.obs_rows.specs.declared.sessions.Session.{Session};
-ghost use Rattle.used_svs.specs.declared.used.UsedPair.{UsedPair};
+ghost use Rattle.obs_rows.specs.declared.used.UsedPair.{UsedPair};
 ghost use Rattle.slip_arcs.specs.Runs.{AreKept};
 ghost use Rattle.slip_arcs.specs.Linked.{HaveDatums};
 ghost use Rattle.screening.specs.declared.sv_pair.SvPair.{SvPair};

@@ -4,7 +4,8 @@ ghost use Rattle.obs_rows.specs.declared.units.TheConstants.{SIGNALS};
 ghost use Rattle.obs_rows.specs.Ranges.{IsScale, IsBelow};
 ghost use Rattle.obs_rows.specs.Unused.{IsZeroOff};
 ghost use Rattle.row_boxes.specs.YBoxes.{Pairing, HoldsYs, HasFarSignal, most_radius};
-ghost use Rattle.signal_travel.specs.Boxes.{IsPoint, HoldsPlace};
+ghost use Rattle.obs_rows.specs.ReceiverPoints.{IsReceiverPoint};
+ghost use Rattle.signal_travel.specs.Boxes.{HoldsPlace};
 ghost use Rattle.travel_model.specs.SeenPlaces.{Place, IsDisplacement, IsMeanDirection};
 ghost use Rattle.row_boxes.specs.Sightings.{Sighting, IsSighting, place_at};
 ghost use Rattle.row_build.specs.Halves.{IsBaseHalf};
@@ -33,7 +34,7 @@ fn geometry_of(
     requires small { All (λ s. s < SIGNALS) ss.now }
     requires shift { All (IsBelow (2 ^ 40)) shift.now }
     requires group { unsigned_abs group ≤ 2 ^ 43 }
-    requires point { IsPoint point.now }
+    requires point { IsReceiverPoint point.now }
     requires scale { IsScale scale }
     ensures y { IfSome result (λ g. (base : List ℤ) → IsBaseHalf entry.now.sv base entry.now.half → HoldsYs (seen_by entry.now.sv base point.now) ss.now scale entry.now.sv.observed group shift.now g.held.y g.held.ry) }
     ensures radius { IfSome result (λ g. g.held.ry ≤ℤ most_radius scale) }
@@ -61,7 +62,7 @@ fn geometry_of(
 
 // With the direction to the satellite
 fn row_over(arc: u16, geometry: &Geometry, point: &[i64; 3]) -> Row
-    requires { IsPoint point.now }
+    requires { IsReceiverPoint point.now }
     ensures arc { result.arc ≡ arc }
     ensures y { result.y ≡ geometry.now.held.y }
     ensures ry { result.ry ≡ geometry.now.held.ry }
@@ -92,7 +93,7 @@ pub fn row_of(
     requires small { All (λ s. s < SIGNALS) ss.now }
     requires shift { All (IsBelow (2 ^ 40)) shift.now }
     requires group { unsigned_abs group ≤ 2 ^ 43 }
-    requires point { IsPoint point.now }
+    requires point { IsReceiverPoint point.now }
     requires scale { IsScale scale }
     ensures arc { IfSome result (λ r. r.arc ≡ arc) }
     ensures y { IfSome result (λ r. (base : List ℤ) → IsBaseHalf entry.now.sv base entry.now.half → HoldsYs (seen_by entry.now.sv base point.now) ss.now scale entry.now.sv.observed group shift.now r.y r.ry) }

@@ -1,6 +1,6 @@
 // The rows of all pairs.
 ghost use Rattle.std.specs.Prelude.{◌≡◌, ◌<◌, ◌++◌, [], All, Err, length, IfOk, IfSome, OnOk};
-ghost use Rattle.signal_travel.specs.Boxes.{IsPoint};
+ghost use Rattle.obs_rows.specs.ReceiverPoints.{IsReceiverPoint};
 ghost use Rattle.obs_rows.specs.Ranges.{IsScale, IsSystem};
 ghost use Rattle.obs_rows.specs.Arcs.{AreArcs};
 ghost use Rattle.obs_rows.specs.Pairs.{IsAfter, HasItsArcs};
@@ -53,8 +53,8 @@ pub fn rows_with(
     requires cut { IsCutOf screened.now.used arcs.now }
     requires arcs { AreArcs arcs.now }
     requires halves { AreBaseHalves screened.now.boxes base.now halves.now }
-    requires base { IsPoint base.now }
-    requires point { IsPoint point.now }
+    requires base { IsReceiverPoint base.now }
+    requires point { IsReceiverPoint point.now }
     requires scale { IsScale scale }
     requires system { IsSystem system }
     requires shifts { All (HasUsedShifts (fine_signals signals)) arcs.now }
@@ -102,8 +102,8 @@ pub fn rows_at(
 ) -> Result<Session, RowFault>
     requires cut { IsCutOf screened.now.used arcs.now }
     requires arcs { AreArcs arcs.now }
-    requires base { IsPoint base.now }
-    requires point { IsPoint point.now }
+    requires base { IsReceiverPoint base.now }
+    requires point { IsReceiverPoint point.now }
     requires scale { IsScale scale }
     requires system { IsSystem system }
     requires shifts { All (HasUsedShifts (fine_signals signals)) arcs.now }

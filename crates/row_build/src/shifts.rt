@@ -1,6 +1,6 @@
 // First shifts.
 ghost use Rattle.std.specs.Prelude.{IsTrue, ◌≡◌, ◌≢◌, ◌↔◌, ◌^◌, ◌<◌, ◌≤◌, ℕ, true, false, None, Some, [], All, List, ℤ, pos, unsigned_abs, IfSome, length, slice_get};
-ghost use Rattle.signal_travel.specs.Boxes.{IsPoint};
+ghost use Rattle.obs_rows.specs.ReceiverPoints.{IsReceiverPoint};
 ghost use Rattle.obs_rows.specs.declared.arcs.Arc.{Arc};
 ghost use Rattle.obs_rows.specs.declared.units.TheConstants.{SIGNALS};
 ghost use Rattle.obs_rows.specs.Ranges.{IsScale, IsBelow};
@@ -35,7 +35,7 @@ pub fn first_entry(
     requires few { length arcs.now ≤ 200 }
     requires held { arcs_at arcs.now pair ≢ [] }
     requires halves { AreBaseHalves screened.now.boxes base.now halves.now }
-    requires base { IsPoint base.now }
+    requires base { IsReceiverPoint base.now }
     ensures entry { IsFirstEntry screened.now.boxes arcs.now pair result.sv }
     ensures half { IsBaseHalf result.sv base.now result.half }
 {
@@ -45,7 +45,7 @@ pub fn first_entry(
 
 /// The group of a pair, from the entry of its first row's satellite.
 pub fn group_of(entry: &Entry, point: &[i64; 3]) -> i64
-    requires { IsPoint point.now }
+    requires { IsReceiverPoint point.now }
     ensures near { (base : List ℤ) → IsBaseHalf entry.now.sv base entry.now.half → (b r : Sighting) → AreSightings (seen_by entry.now.sv base point.now) b r →
         IsWithinHalf (pos 1) (y_of 2 (number_at entry.now.sv.observed 2) result (pos 0) b r) }
     ensures allowed { (base : List ℤ) → IsBaseHalf entry.now.sv base entry.now.half → (scale : ℕ) → IsScale scale →
@@ -83,7 +83,7 @@ fn shift_of(ss: &[usize], signal: usize, entry: &Entry, group: i64, rover: &Pseu
 // The shifts with which, under this group, the observations of the phases that count are least
 fn shifts_of(ss: &[usize], entry: &Entry, group: i64, point: &[i64; 3]) -> [i64; PHASES]
     requires group { unsigned_abs group ≤ 2 ^ 43 }
-    requires point { IsPoint point.now }
+    requires point { IsReceiverPoint point.now }
     ensures near { (base : List ℤ) → IsBaseHalf entry.now.sv base entry.now.half → (s : ℕ) → s < SIGNALS → IsTrue (is_phase s) → IsTrue (counts ss.now s) → (b r : Sighting) → AreSightings (seen_by entry.now.sv base point.now) b r →
         IsWithinHalf (wavelength s) (y_of s (number_at entry.now.sv.observed s) group (number_at result (band s)) b r) }
     ensures unused { IsZeroOff (phase_bands ss.now) result }
@@ -112,8 +112,8 @@ fn first_shifts(
     requires held { arcs_at arcs.now pair ≢ [] }
     requires used { is_used screened.now.used sat pair ≡ true }
     requires halves { AreBaseHalves screened.now.boxes base.now halves.now }
-    requires base { IsPoint base.now }
-    requires point { IsPoint point.now }
+    requires base { IsReceiverPoint base.now }
+    requires point { IsReceiverPoint point.now }
     ensures near { AreFirstShifts (setting screened.now.boxes arcs.now base.now point.now signals 0) pair sat result }
     ensures size { All (IsBelow (2 ^ 39)) result }
 {
@@ -144,8 +144,8 @@ pub fn shift_with(
     requires arc { arc < length arcs.now }
     requires pair { pair < length screened.now.used }
     requires halves { AreBaseHalves screened.now.boxes base.now halves.now }
-    requires base { IsPoint base.now }
-    requires point { IsPoint point.now }
+    requires base { IsReceiverPoint base.now }
+    requires point { IsReceiverPoint point.now }
     ensures none { (a : Arc) → slice_get arcs.now arc ≡ Some a → (result ≡ None) ↔ (holds_pair a pair ≡ false) }
     ensures near { (a : Arc) → slice_get arcs.now arc ≡ Some a → IfSome result (λ shift.
         AreFirstShifts (setting screened.now.boxes arcs.now base.now point.now signals 0) pair a.sat shift) }
@@ -175,8 +175,8 @@ pub fn shift_at(
     requires few { length arcs.now ≤ 200 }
     requires arc { arc < length arcs.now }
     requires pair { pair < length screened.now.used }
-    requires base { IsPoint base.now }
-    requires point { IsPoint point.now }
+    requires base { IsReceiverPoint base.now }
+    requires point { IsReceiverPoint point.now }
     ensures none { (a : Arc) → slice_get arcs.now arc ≡ Some a → (result ≡ None) ↔ (holds_pair a pair ≡ false) }
     ensures near { (a : Arc) → slice_get arcs.now arc ≡ Some a → IfSome result (λ shift.
         AreFirstShifts (setting screened.now.boxes arcs.now base.now point.now signals 0) pair a.sat shift) }

@@ -3,7 +3,7 @@ ghost use Rattle.std.specs.Prelude.{◌<◌, ◌≤◌, length, IfOk, IfSome};
 ghost use Rattle.obs_rows.specs.Arcs.{AreArcs};
 ghost use Rattle.obs_rows.specs.Ranges.{IsSystem};
 ghost use Rattle.row_build.specs.Halves.{AreBaseHalves};
-ghost use Rattle.signal_travel.specs.Boxes.{IsPoint};
+ghost use Rattle.obs_rows.specs.ReceiverPoints.{IsReceiverPoint};
 ghost use Rattle.slip_arcs.specs.Linked.{IsCutOf};
 
 use eph_store::NavFile;
@@ -28,7 +28,7 @@ use std::test::Fail;
 pub struct Files {
     pub rounds: FileRounds,
     pub ghost arcs_in: { AreArcs rounds.kept },
-    pub ghost base_in: { IsPoint rounds.position },
+    pub ghost base_in: { IsReceiverPoint rounds.position },
     pub ghost system_in: { IsSystem rounds.system },
 }
 
@@ -140,7 +140,7 @@ pub fn files_of(
 pub fn with_shifts(alloc: Global, files: &Files, point: &[i64; 3]) -> Result<Vec<Arc>, AllocError>
     requires cut { IsCutOf files.now.rounds.screened.used files.now.rounds.kept }
     requires halves { AreBaseHalves files.now.rounds.screened.boxes files.now.rounds.position files.now.rounds.halves.items }
-    requires point { IsPoint point.now }
+    requires point { IsReceiverPoint point.now }
     ensures { IfOk result (λ arcs. IsCutOf files.now.rounds.screened.used arcs.items) }
 {
     files.rounds.first_shifts(alloc, point)

@@ -3,7 +3,7 @@ ghost use Rattle.std.specs.Prelude.{◌<◌, ◌≤◌, ◌^◌, unsigned_abs, A
 ghost use Rattle.obs_rows.specs.Signals.{fine_signals};
 ghost use Rattle.obs_rows.specs.Unused.{HasUsedShifts};
 ghost use Rattle.row_build.specs.Halves.{AreBaseHalves};
-ghost use Rattle.signal_travel.specs.Boxes.{IsPoint};
+ghost use Rattle.obs_rows.specs.ReceiverPoints.{IsReceiverPoint};
 ghost use Rattle.slip_arcs.specs.Linked.{IsCutOf};
 
 use crate::expected::{Expected, ExpectedPair, ExpectedRow, HIGH, PLAIN};
@@ -237,7 +237,7 @@ fn shifts_agree(
     want: &ExpectedPair,
 )
     requires cut { IsCutOf files.now.rounds.screened.used files.now.rounds.kept }
-    requires point { IsPoint point.now }
+    requires point { IsReceiverPoint point.now }
 {
     let (number, _tag, rows) = *want;
     assert!(rt; number < files.rounds.screened.used.len());
@@ -275,8 +275,8 @@ fn alone_agrees(
     number: usize,
 ) -> Result<(), Fail>
     requires cut { IsCutOf files.now.rounds.screened.used session.now.arcs }
-    requires base { IsPoint session.now.base }
-    requires point { IsPoint session.now.point }
+    requires base { IsReceiverPoint session.now.base }
+    requires point { IsReceiverPoint session.now.point }
 {
     assert!(rt; number < session.pairs.len() && number < files.rounds.screened.used.len());
     let alone = pair_rows(

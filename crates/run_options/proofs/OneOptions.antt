@@ -2,7 +2,7 @@
 use Rattle.std.proofs.Common.{◌≡◌, ◌≤◌, ap, ap₂, subst}
 use Rattle.std.proofs.Math.Bridge.{le_prop}
 use Rattle.std.proofs.Math.Bool.{Bool-set}
-use Rattle.band_sets.specs.BandSets.{IsBandsNumber}
+use Rattle.obs_rows.specs.BandSets.{IsBandsNumber}
 use Rattle.obs_rows.specs.Ranges.{IsSystem}
 use Rattle.run_options.specs.declared.options.Options.{Options}
 use Rattle.run_options.specs.Defaults.{Numbers, numbers_of}

@@ -1,7 +1,7 @@
 -- The options of a run that is asked for nothing in particular.
 use Rattle.std.specs.Prelude.{◌≡◌, ℕ}
 use Rattle.run_options.specs.declared.defaults.TheConstants.{DEFAULT_RATIO, DEFAULT_BUDGET, DEFAULT_MASK, DEFAULT_GAP, DEFAULT_JUMP, DEFAULT_ARC, DEFAULT_STEP, DEFAULT_FIRST, DEFAULT_COUNT}
-use Rattle.band_sets.specs.declared.numbers.TheConstants.{BANDS_L1_L2}
+use Rattle.obs_rows.specs.declared.band_sets.TheConstants.{BANDS_L1_L2}
 use Rattle.run_options.specs.declared.options.TheConstants.{GPS}
 use Rattle.run_options.specs.declared.options.Options.{Options}
 

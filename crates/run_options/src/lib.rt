@@ -10,7 +10,7 @@ mod options;
 
 ghost use Rattle.run_options.specs.Defaults.{AreDefaults};
 
-use band_sets::BANDS_L1_L2;
+use obs_rows::BANDS_L1_L2;
 pub use constants::defaults_law;
 pub use defaults::{
     DEFAULT_ARC, DEFAULT_BUDGET, DEFAULT_COUNT, DEFAULT_FIRST, DEFAULT_GAP, DEFAULT_JUMP,

@@ -1,6 +1,6 @@
 // The options of a run.
 ghost use Rattle.std.specs.Prelude.{◌≤◌};
-ghost use Rattle.band_sets.specs.BandSets.{IsBandsNumber};
+ghost use Rattle.obs_rows.specs.BandSets.{IsBandsNumber};
 ghost use Rattle.obs_rows.specs.Ranges.{IsSystem};
 
 /// The letter of GPS.

@@ -6,8 +6,8 @@ use Rattle.std.proofs.lemmas.List.Elements.{All-push}
 use Rattle.std.proofs.lemmas.List.Folds.{list_any-append}
 use Rattle.std.proofs.lemmas.List.Quantifiers.{all_pairs_push}
 use Rattle.obs_store.specs.declared.series.Epoch.{Epoch}
-use Rattle.used_svs.specs.Ranges.{IsSmall}
-use Rattle.used_svs.specs.declared.used.UsedSat.{UsedSat}
+use Rattle.obs_rows.specs.UsedSats.{IsSmall}
+use Rattle.obs_rows.specs.declared.used.UsedSat.{UsedSat}
 use Rattle.screening.specs.declared.sv_pair.SvPair.{SvPair}
 use Rattle.screening.specs.Observed.{phases_of}
 use Rattle.screening.specs.Marks.{Passed, lost_lock}

@@ -7,13 +7,13 @@ use Rattle.obs_store.specs.declared.series.Epoch.{Epoch}
 use Rattle.eph_store.specs.File.{Records}
 use Rattle.orbit_model.specs.Solution.{Quantities}
 use Rattle.orbit_model.specs.Elements.{Constants}
-use Rattle.signal_travel.specs.Boxes.{IsPoint}
+use Rattle.obs_rows.specs.ReceiverPoints.{IsReceiverPoint}
 use Rattle.sv_orbit.specs.Solutions.{HoldsSolution}
 use Rattle.obs_store.specs.Epochs.{tags_of}
 use Rattle.epoch_pair.specs.declared.pairs.PairOf.{PairOf}
 use Rattle.epoch_pair.specs.Pairs.{IsNearPair, Follows}
-use Rattle.used_svs.specs.declared.used.UsedSat.{UsedSat}
-use Rattle.used_svs.specs.declared.used.UsedPair.{UsedPair}
+use Rattle.obs_rows.specs.declared.used.UsedSat.{UsedSat}
+use Rattle.obs_rows.specs.declared.used.UsedPair.{UsedPair}
 use Rattle.screening.specs.declared.sv_pair.SvPair.{SvPair}
 use Rattle.screening.specs.Amounts.{types_of, differences, phase_differences}
 use Rattle.screening.specs.Marks.{Passed, passed, power_failed, lost_lock}
@@ -22,7 +22,7 @@ use Rattle.screening.specs.Sightings.{Setting, Sighting, IsSighting, MayBeKept, 
 -- the header gives a position from 6,000 km to 7,000 km from the Earth's centre
 abbrev pub HasPosition : Option (List ℤ) → Type 0
 HasPosition None = ⊥
-HasPosition (Some p) = IsPoint p
+HasPosition (Some p) = IsReceiverPoint p
 
 -- the position of a header, and no matter what where it gives none
 abbrev pub position_of : Option (List ℤ) → List ℤ

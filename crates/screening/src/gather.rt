@@ -1,7 +1,7 @@
 //! The used satellites of one pair.
 ghost use Rattle.std.specs.Prelude.{◌≡◌, ◌≤◌, ◌⊎◌, IfOk, OnOk};
 ghost use Rattle.std.specs.Int.{abs_diff};
-ghost use Rattle.used_svs.specs.Ranges.{IsSmall};
+ghost use Rattle.obs_rows.specs.UsedSats.{IsSmall};
 ghost use Rattle.screening.specs.Entries.{IsSatNumber};
 ghost use Rattle.screening.specs.Observed.{phases_of};
 ghost use Rattle.screening.specs.Marks.{power_failed, lost_lock};

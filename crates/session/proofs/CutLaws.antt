@@ -4,7 +4,7 @@ use Rattle.std.specs.Prelude.{slice_get, ◌↔◌}
 use Rattle.std.proofs.lemmas.List.Sums.{sum_by-cons}
 use Rattle.obs_rows.specs.declared.arcs.Arc.{Arc}
 use Rattle.obs_rows.specs.Arcs.{is_free, free_count}
-use Rattle.used_svs.specs.declared.used.UsedPair.{UsedPair}
+use Rattle.obs_rows.specs.declared.used.UsedPair.{UsedPair}
 use Rattle.slip_arcs.specs.Runs.{Run, run_of, AreKept}
 use Rattle.slip_arcs.specs.Linked.{SharePair, AreNeighbours, IsChain, AreLinked, IsFirstLinked, HaveDatums, IsCutOf}
 use Rattle.round_steps.specs.Shifts.{without_shifts, AreSameArcs}

@@ -6,8 +6,8 @@ use Rattle.std.proofs.lemmas.List.Elements.{All-head, All-tail}
 use Rattle.std.proofs.lemmas.List.Sums.{sum_by-cons}
 use Rattle.std.proofs.lemmas.Option.{slice_get-get_or}
 use Rattle.obs_rows.specs.declared.arcs.Arc.{Arc}
-use Rattle.used_svs.specs.declared.used.UsedPair.{UsedPair}
-use Rattle.used_svs.specs.Ranges.{IsInRange}
+use Rattle.obs_rows.specs.declared.used.UsedPair.{UsedPair}
+use Rattle.obs_rows.specs.UsedSats.{IsInRange}
 use Rattle.slip_arcs.specs.Linked.{IsCutOf}
 use Rattle.slip_arcs.proofs.Kept.{kept_each}
 use Rattle.screening.specs.Entries.{AreNumbered}

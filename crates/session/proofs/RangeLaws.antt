@@ -11,8 +11,8 @@ use Rattle.obs_rows.specs.declared.units.TheConstants.{MOST_FREE_ARCS}
 use Rattle.obs_rows.specs.Signals.{phase_bands}
 use Rattle.obs_rows.specs.Unused.{IsZeroOff, HasUsedShifts}
 use Rattle.obs_rows.specs.Arcs.{free_count, IsArcInRange, AreArcs}
-use Rattle.used_svs.specs.declared.used.UsedSat.{UsedSat}
-use Rattle.used_svs.specs.declared.used.UsedPair.{UsedPair}
+use Rattle.obs_rows.specs.declared.used.UsedSat.{UsedSat}
+use Rattle.obs_rows.specs.declared.used.UsedPair.{UsedPair}
 use Rattle.slip_arcs.specs.Used.{entry_in, is_used}
 use Rattle.slip_arcs.specs.Runs.{IsArc, run_of}
 use Rattle.slip_arcs.specs.Linked.{AreNeighbours, IsCutOf}

@@ -4,7 +4,7 @@ ghost use Rattle.obs_rows.specs.Arcs.{AreArcs};
 ghost use Rattle.obs_rows.specs.Ranges.{IsBelow, IsSystem};
 ghost use Rattle.obs_rows.specs.Signals.{fine_signals};
 ghost use Rattle.obs_rows.specs.Unused.{HasUsedShifts};
-ghost use Rattle.signal_travel.specs.Boxes.{IsPoint};
+ghost use Rattle.obs_rows.specs.ReceiverPoints.{IsReceiverPoint};
 ghost use Rattle.slip_arcs.specs.Linked.{IsCutOf};
 ghost use Rattle.row_build.specs.Halves.{AreBaseHalves};
 ghost use Rattle.row_build.specs.Rows.{setting};
@@ -34,7 +34,7 @@ pub struct FileRounds {
 impl Rounds for FileRounds {
     ghost rules = { λ f. rules_of f.screened.boxes (length f.screened.used) f.kept f.position f.signals f.system };
 
-    ghost ready = { λ f. IsCutOf f.screened.used f.kept × (AreArcs f.kept × IsPoint f.position) × (AreBaseHalves f.screened.boxes f.position f.halves.items × IsSystem f.system) };
+    ghost ready = { λ f. IsCutOf f.screened.used f.kept × (AreArcs f.kept × IsReceiverPoint f.position) × (AreBaseHalves f.screened.boxes f.position f.halves.items × IsSystem f.system) };
 
     fn session(
         &self,
@@ -69,8 +69,8 @@ impl Rounds for FileRounds {
 fn first_arcs(alloc: Global, files: &FileRounds, point: &[i64; 3]) -> Result<Vec<Arc>, AllocError>
     requires cut { IsCutOf files.now.screened.used files.now.kept }
     requires arcs { AreArcs files.now.kept }
-    requires base { IsPoint files.now.position }
-    requires point { IsPoint point.now }
+    requires base { IsReceiverPoint files.now.position }
+    requires point { IsReceiverPoint point.now }
     ensures begins { IfOk result (λ v. HaveFirstShifts files.now.screened.boxes files.now.kept files.now.position point.now files.now.signals v.items) }
     ensures same { IfOk result (λ v. AreSameArcs files.now.kept v.items) }
     ensures size { IfOk result (λ v. AreShiftsBelow (2 ^ 39) v.items) }
@@ -87,8 +87,8 @@ fn first_arcs(alloc: Global, files: &FileRounds, point: &[i64; 3]) -> Result<Vec
 fn first_arc(files: &FileRounds, k: usize, point: &[i64; 3]) -> Arc
     requires cut { IsCutOf files.now.screened.used files.now.kept }
     requires arcs { AreArcs files.now.kept }
-    requires base { IsPoint files.now.position }
-    requires point { IsPoint point.now }
+    requires base { IsReceiverPoint files.now.position }
+    requires point { IsReceiverPoint point.now }
     requires inside { k < length files.now.kept }
     ensures same { (a : Arc) → slice_get files.now.kept k ≡ Some a → without_shifts result ≡ without_shifts a }
     ensures near { (a : Arc) → slice_get files.now.kept k ≡ Some a → AreFirstShifts (setting files.now.screened.boxes files.now.kept files.now.position point.now files.now.signals 0) a.first a.sat result.shift }

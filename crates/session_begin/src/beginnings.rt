@@ -2,7 +2,7 @@
 ghost use Rattle.std.specs.Prelude.{◌≡◌, ◌<◌, ◌≤◌, All, AllPairs, length, MatchOption, IfOk, IfErr};
 ghost use Rattle.obs_store.specs.Epochs.{tags_of};
 ghost use Rattle.epoch_pair.specs.Pairs.{Follows, IsNearPair};
-ghost use Rattle.band_sets.specs.BandSets.{bands_of};
+ghost use Rattle.obs_rows.specs.BandSets.{bands_of};
 ghost use Rattle.session_begin.specs.Beginnings.{IsPosition, LacksPosition, AreSignals, AreSparse, IsSessionFault, pairs_of, AreTaken, fault_of};
 
 use crate::{PairWhat, SessionFault};

@@ -3,8 +3,7 @@
 use crate::band_cases::{BANDS, BandCase, GAPS, Gap, L5_OF_FIVE, L5_OF_FOUR};
 use crate::cases::{End, Verdict};
 use crate::tests::{end_of, integers_agree, options_of, point_agrees, run};
-use band_sets::{bands_of, is_bands_number};
-use obs_rows::is_system;
+use obs_rows::{bands_of, is_bands_number, is_system};
 use run_options::{GPS, Options};
 use session::{Answer, RoundCounts};
 use sim_session::{Made, make};

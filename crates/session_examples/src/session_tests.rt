@@ -1,5 +1,5 @@
 // What two files begin with, and the answer over arcs.
-use band_sets::is_bands_number;
+use obs_rows::is_bands_number;
 use eph_store::NavFile;
 use gps_time::Tick;
 use obs_store::{Epoch, Epochs, ObsFile, ObsType, SLOTS, Satellites};

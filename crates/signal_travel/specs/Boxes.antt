@@ -1,14 +1,9 @@
 -- What the boxes of a seen place say.
-use Rattle.std.specs.Prelude.{◌*◌, List, [], ◌∷◌, ℤ, pos, ◌≤ℤ◌}
-use Rattle.whole_math.specs.Vectors.{squared_norm}
+use Rattle.std.specs.Prelude.{List, [], ◌∷◌}
 use Rattle.rational.specs.Rational.{Rational, AreWithin, two_to_minus}
 use Rattle.iv_core.specs.declared.Iv.{Iv}
 use Rattle.iv_core.specs.Intervals.{Holds}
 use Rattle.travel_model.specs.SeenPlaces.{Place}
-
--- a point in units of 0.1 mm that is from 6,000 km to 7,000 km from the Earth's centre
-abbrev pub IsPoint : List ℤ → Type 0
-IsPoint p = (pos (60000000000 * 60000000000) ≤ℤ squared_norm p) × (squared_norm p ≤ℤ pos (70000000000 * 70000000000))
 
 -- each rational lies in the box in its place, and the lists are equally long
 abbrev pub HoldsEach : List (Iv 36) → List Rational → Type 0

@@ -17,14 +17,14 @@ ghost use Rattle.iv_core.specs.Intervals.{Holds, width_of};
 ghost use Rattle.orbit_model.specs.Places.{IsBetweenDistances};
 ghost use Rattle.rational.specs.Rational.{Rational};
 ghost use Rattle.travel_model.specs.SeenPlaces.{Place, point_of, IsSeenPlace, HasSeenPlace, range_of, IsDisplacement, IsMeanDirection, IsAboveMask, IsBelowMask};
-ghost use Rattle.signal_travel.specs.Boxes.{IsPoint, HoldsPlace, HasNearPlace};
+ghost use Rattle.obs_rows.specs.ReceiverPoints.{IsReceiverPoint};
+ghost use Rattle.signal_travel.specs.Boxes.{HoldsPlace, HasNearPlace};
 ghost use Rattle.signal_travel.specs.Directions.{HoldsDirection};
 
 mod directions;
 mod mask;
 mod passes;
 mod places;
-mod points;
 mod sent;
 mod spread;
 mod turns;
@@ -34,8 +34,8 @@ mod wide;
 use directions::direction_to;
 use iv_core::Iv;
 use mask::{is_above, offset_of};
+pub use obs_rows::is_receiver_point;
 use passes::sight_of;
-pub use points::is_receiver_point;
 use sent::{point_at, seen_place, sent_box};
 pub use spread::Spread;
 use sv_orbit::SvBox;
@@ -59,7 +59,7 @@ pub struct SeenBox {
 /// Boxes of every place where a receiver at `point`, in units of 0.1 mm, sees a satellite that sent from a place of `sv`, with the
 /// range and the travel time. It takes no memory and is never refused.
 pub fn seen_from(sv: &SvBox, point: &[i64; 3]) -> SeenBox
-    requires { IsPoint point.now }
+    requires { IsReceiverPoint point.now }
     ensures place { (a b c : ℤ) (sent seen : Place) (travel : Rational) → point.now ≡ a ∷ b ∷ c ∷ [] →
         HoldsPlace sv.now.place sent → IsSeenPlace sent (point_of a b c) travel seen → HoldsPlace result.place seen }
     ensures range { (a b c : ℤ) (sent seen : Place) (travel : Rational) → point.now ≡ a ∷ b ∷ c ∷ [] →
@@ -82,7 +82,7 @@ pub fn seen_from(sv: &SvBox, point: &[i64; 3]) -> SeenBox
 /// the line from the Earth's centre, is at least `mask` / 1000. It is decided exactly at one place, which is within 2^-17 m in each
 /// coordinate of every place in the box.
 pub fn above(seen: &SeenBox, point: &[i64; 3], mask: u32) -> bool
-    requires point { IsPoint point.now }
+    requires point { IsReceiverPoint point.now }
     requires mask { mask ≤ 1000 }
     ensures kept { IsTrue result → (a b c : ℤ) → point.now ≡ a ∷ b ∷ c ∷ [] →
         HasNearPlace seen.now.place (λ g. IsAboveMask mask g (point_of a b c)) }
@@ -106,7 +106,7 @@ pub fn above(seen: &SeenBox, point: &[i64; 3], mask: u32) -> bool
 /// the displacement is what the range changes by. It takes no memory and is never refused, and works from `place` alone, so that
 /// the point may be another one than the box was made with.
 pub fn mean_direction(seen: &SeenBox, point: &[i64; 3]) -> [Spread; 3]
-    requires { IsPoint point.now }
+    requires { IsReceiverPoint point.now }
     ensures { (a b c : ℤ) (place move direction : Place) → point.now ≡ a ∷ b ∷ c ∷ [] → HoldsPlace seen.now.place place →
         IsDisplacement move → IsMeanDirection place (point_of a b c) move direction → HoldsDirection result direction }
 {

@@ -1,7 +1,7 @@
 // What is handed in, with its coordinates by name.
 ghost use Rattle.std.specs.Prelude.{◌≡◌, ◌*◌, ◌^◌, pos, ◌≤ℤ◌, [], ◌∷◌};
 ghost use Rattle.orbit_model.specs.Places.{IsBetweenDistances};
-ghost use Rattle.signal_travel.specs.Boxes.{IsPoint};
+ghost use Rattle.obs_rows.specs.ReceiverPoints.{IsReceiverPoint};
 ghost use Rattle.signal_travel.specs.VectorBoxes.{IsVectorWithin, IsVectorAtMostWide};
 
 use crate::SeenBox;
@@ -27,7 +27,7 @@ pub fn sent_box(sv: &SvBox) -> SentBox
 }
 
 pub fn point_at(point: &[i64; 3]) -> Point
-    requires { IsPoint point.now }
+    requires { IsReceiverPoint point.now }
     ensures { point.now ≡ result.x ∷ result.y ∷ result.z ∷ [] }
 {
     let [x, y, z] = *point;

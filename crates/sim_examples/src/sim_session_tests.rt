@@ -1,6 +1,5 @@
 // Texts of an independent model.
-use band_sets::is_bands_number;
-use obs_rows::is_system;
+use obs_rows::{is_bands_number, is_system};
 use sim_session::{Made, make};
 use std::alloc::Global;
 use std::process::Abort;

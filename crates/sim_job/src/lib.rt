@@ -2,8 +2,8 @@
 #![tactic(auto)]
 
 ghost use Rattle.std.specs.Prelude.{◌≡◌, ◌≤◌, IfOk};
-ghost use Rattle.band_sets.specs.BandSets.{IsBandsNumber};
-ghost use Rattle.band_sets.specs.declared.numbers.TheConstants.{BANDS_L1_L5};
+ghost use Rattle.obs_rows.specs.BandSets.{IsBandsNumber};
+ghost use Rattle.obs_rows.specs.declared.band_sets.TheConstants.{BANDS_L1_L5};
 ghost use Rattle.obs_rows.specs.Ranges.{IsSystem};
 ghost use Rattle.job_answers.specs.Answers.{ending_of};
 ghost use Rattle.sim_job.specs.Sims.{IsFileOf, SimEnds};

@@ -24,9 +24,9 @@ use Rattle.made_observations.specs.Files.{epochs_of, file_of}
 use Rattle.made_files.proofs.Readings.{base_reads, rover_reads, navigation_reads}
 use Rattle.run_options.specs.declared.options.Options.{Options}
 use Rattle.run_options.specs.Defaults.{Numbers}
-use Rattle.band_sets.specs.declared.numbers.TheConstants.{BANDS_L1_L5}
-use Rattle.band_sets.specs.BandSets.{IsBandsNumber, bands_of}
-use Rattle.band_sets.proofs.NumberLaws.{each_number}
+use Rattle.obs_rows.specs.declared.band_sets.TheConstants.{BANDS_L1_L5}
+use Rattle.obs_rows.specs.BandSets.{IsBandsNumber, bands_of}
+use Rattle.obs_rows.proofs.BandSetLaws.{each_number}
 use Rattle.obs_rows.specs.Ranges.{IsSystem}
 use Rattle.obs_rows.specs.declared.units.TheConstants.{BANDS_12, BANDS_15, BANDS_125}
 use Rattle.obs_rows.specs.declared.bands.Signals.{Signals}

@@ -4,13 +4,13 @@ use Rattle.std.proofs.lemmas.List.Kept.{AllPairs-filter}
 use Rattle.obs_store.specs.declared.file.ObsFile.{ObsFile}
 use Rattle.eph_store.specs.File.{Records}
 use Rattle.obs_rows.specs.declared.arcs.Arc.{Arc}
-use Rattle.used_svs.specs.declared.used.UsedPair.{UsedPair}
+use Rattle.obs_rows.specs.declared.used.UsedPair.{UsedPair}
 use Rattle.slip_arcs.specs.Runs.{Run, Precedes, is_long, run_of, AreKept}
 use Rattle.slip_arcs.proofs.Kept.{kept_at, kept_each, precedes_at}
 use Rattle.cert_data.specs.declared.outcomes.Outcome.{Outcome}
 use Rattle.cert_data.specs.declared.outcomes.Answer.{Answer}
 use Rattle.cert_data.specs.declared.outcomes.Answer.TheVariants.{Few, Arcs, Early, Full}
-use Rattle.band_sets.specs.BandSets.{bands_of}
+use Rattle.obs_rows.specs.BandSets.{bands_of}
 use Rattle.run_options.specs.declared.options.Options.{Options}
 use Rattle.session.specs.Outcomes.{IsOutcome}
 use Rattle.fix_job.proofs.Runs.{stands_for}

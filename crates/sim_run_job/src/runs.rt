@@ -3,8 +3,8 @@ ghost use Rattle.std.specs.Prelude.{◌≡◌, ◌≢◌, ◌≤◌, ℕ, List, 
 ghost use Rattle.job_answers.specs.Statuses.{IsVerdictStatus};
 ghost use Rattle.job_answers.specs.Answers.{ending_of, IfEnded};
 ghost use Rattle.job_answers.specs.Endings.{ending};
-ghost use Rattle.band_sets.specs.declared.numbers.TheConstants.{BANDS_L1_L5};
-ghost use Rattle.band_sets.specs.BandSets.{IsBandsNumber};
+ghost use Rattle.obs_rows.specs.declared.band_sets.TheConstants.{BANDS_L1_L5};
+ghost use Rattle.obs_rows.specs.BandSets.{IsBandsNumber};
 ghost use Rattle.obs_rows.specs.Ranges.{IsSystem};
 ghost use Rattle.fix_job.specs.FixJobs.{status_of};
 ghost use Rattle.sim_run_job.specs.SimRunJobs.{AreOptionsOn, truth_in, run_text, SimRunEnd, SimRunEnds};

@@ -1,6 +1,6 @@
 -- The three texts of a simulated session.
 use Rattle.std.specs.Prelude.{◌≡◌, Bool, not, ◌==◌, if◌then◌else◌, ℕ, List, [], ◌∷◌, length, ℤ, pos, ◌+ℤ◌, ◌*ℤ◌}
-use Rattle.band_sets.specs.declared.numbers.TheConstants.{BANDS_L1_L2}
+use Rattle.obs_rows.specs.declared.band_sets.TheConstants.{BANDS_L1_L2}
 use Rattle.eph_store.specs.declared.ephemeris.Eph.{Eph}
 use Rattle.system_world.specs.Worlds.{world_of}
 use Rattle.sim_draws.specs.Sequence.{drawn_within}

@@ -12,8 +12,8 @@
 #![tactic(auto)]
 
 ghost use Rattle.std.specs.Prelude.{◌≡◌, ◌^◌, ◌<◌, ◌≤◌, vec_len, IfOk};
-ghost use Rattle.band_sets.specs.BandSets.{IsBandsNumber};
-ghost use Rattle.band_sets.specs.declared.numbers.TheConstants.{BANDS_L1_L5};
+ghost use Rattle.obs_rows.specs.BandSets.{IsBandsNumber};
+ghost use Rattle.obs_rows.specs.declared.band_sets.TheConstants.{BANDS_L1_L5};
 ghost use Rattle.obs_rows.specs.Ranges.{IsSystem};
 ghost use Rattle.sim_draws.specs.Values.{offset_of, truth_of, first_of};
 ghost use Rattle.sim_session.specs.Texts.{has_l5, tracking_of, IsBaseText, IsRoverText, IsNavigationText};
@@ -21,7 +21,7 @@ ghost use Rattle.sim_session.specs.Texts.{has_l5, tracking_of, IsBaseText, IsRov
 mod observations;
 mod receivers;
 
-use band_sets::BANDS_L1_L2;
+use obs_rows::BANDS_L1_L2;
 use observations::observation_file;
 use receivers::{base_receiver, rover_receiver};
 use sim_draws::{Drawn, draw_all};

@@ -1,7 +1,7 @@
 -- The definition of a cut at worked numbers, by computation.
 use Rattle.std.proofs.Common.{◌≡◌, true, false, pos, negsuc, [], ◌∷◌, refl, ℤ}
-use Rattle.used_svs.specs.declared.used.UsedSat.{UsedSat}
-use Rattle.band_sets.specs.BandSets.{bands_of}
+use Rattle.obs_rows.specs.declared.used.UsedSat.{UsedSat}
+use Rattle.obs_rows.specs.BandSets.{bands_of}
 use Rattle.slip_arcs.specs.Used.{is_cut, jump_of}
 
 abbrev at_phases : ℤ → ℤ → ℤ → UsedSat

@@ -1,6 +1,6 @@
 -- Arcs as maximal runs, all of them in order, and those that are kept.
 use Rattle.std.specs.Prelude.{◌≡◌, ℕ, ◌+◌, ◌-◌, ◌<◌, ◌≤◌, ◌⊎◌, Bool, true, false, not, nat_le, max, pos, List, [], ◌∷◌, ◌++◌, map, filter, count_by, All, AllPairs, Contains}
-use Rattle.used_svs.specs.declared.used.UsedPair.{UsedPair}
+use Rattle.obs_rows.specs.declared.used.UsedPair.{UsedPair}
 use Rattle.obs_rows.specs.declared.arcs.Arc.{Arc}
 use Rattle.slip_arcs.specs.Used.{is_used, is_cut_after}
 

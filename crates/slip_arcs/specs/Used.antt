@@ -3,9 +3,9 @@ use Rattle.std.specs.Prelude.{ℕ, zero, suc, ℤ, ◌+◌, ◌*◌, ◌-ℤ◌,
 use Rattle.std.specs.List.{list_any}
 use Rattle.obs_rows.specs.Signals.{wavelength}
 use Rattle.obs_rows.specs.Data.{number_at}
-use Rattle.used_svs.specs.declared.used.UsedSat.{UsedSat}
-use Rattle.used_svs.specs.declared.used.UsedPair.{UsedPair}
-use Rattle.band_sets.specs.BandSets.{phase_of}
+use Rattle.obs_rows.specs.declared.used.UsedSat.{UsedSat}
+use Rattle.obs_rows.specs.declared.used.UsedPair.{UsedPair}
+use Rattle.obs_rows.specs.BandSets.{phase_of}
 
 -- the satellites that pair i uses
 abbrev pub sats_at : List UsedPair → ℕ → List UsedSat

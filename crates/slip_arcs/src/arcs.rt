@@ -1,15 +1,14 @@
 //! The arcs of all satellites, in one pass over the pairs.
 ghost use Rattle.std.specs.Prelude.{◌≡◌, ◌≤◌, pos, [], ◌∷◌, length, IfOk, All};
-ghost use Rattle.band_sets.specs.BandSets.{IsBandsNumber, bands_of};
-ghost use Rattle.used_svs.specs.Ranges.{IsInRange};
+ghost use Rattle.obs_rows.specs.BandSets.{IsBandsNumber, bands_of};
+ghost use Rattle.obs_rows.specs.UsedSats.{IsInRange};
 ghost use Rattle.slip_arcs.specs.Runs.{AreKept};
 ghost use Rattle.slip_arcs.specs.Linked.{HaveDatums};
 
 use crate::entries::{does_go_on, last_of};
 use crate::found::Found;
-use obs_rows::ArcList;
+use obs_rows::{ArcList, UsedPair};
 use std::alloc::{AllocError, Global};
-use used_svs::UsedPair;
 
 /// The arcs that are kept, in the order of first pair and satellite, and the number of those that are too short.
 #[derive(Debug, Drop)]

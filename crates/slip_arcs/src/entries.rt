@@ -1,13 +1,12 @@
 //! What the pairs say of one satellite, and how far it goes on without a cut.
 ghost use Rattle.std.specs.Prelude.{◌≡◌, ◌<◌, ◌≤◌, length, All, IfSome, ℕ, true, false};
 ghost use Rattle.std.specs.Option.{option_copied};
-ghost use Rattle.band_sets.specs.BandSets.{IsBandsNumber, bands_of};
-ghost use Rattle.used_svs.specs.Ranges.{IsInRange, IsSmall};
+ghost use Rattle.obs_rows.specs.BandSets.{IsBandsNumber, bands_of};
+ghost use Rattle.obs_rows.specs.UsedSats.{IsInRange, IsSmall};
 ghost use Rattle.slip_arcs.specs.Used.{is_cut, entry_in, entry, goes_on};
 
 use crate::phase::does_jump;
-use band_sets::bands_of;
-use used_svs::{UsedPair, UsedSat};
+use obs_rows::{UsedPair, UsedSat, bands_of};
 
 // Whether there is a cut between two entries.
 fn is_cut_between(before: &UsedSat, now: &UsedSat, power: bool, bands: u16, jump: u32) -> bool

@@ -1,12 +1,10 @@
 //! How far two phases of a satellite jump against each other from one pair to the next.
 ghost use Rattle.std.specs.Prelude.{◌≡◌, ◌*◌, ◌<◌, ◌≤◌, ◌^◌, All, unsigned_abs};
 ghost use Rattle.obs_rows.specs.declared.units.TheConstants.{PHASES};
-ghost use Rattle.used_svs.specs.Ranges.{IsSmall};
+ghost use Rattle.obs_rows.specs.UsedSats.{IsSmall};
 ghost use Rattle.slip_arcs.specs.Used.{change, growth, jump_of, does_jump};
 
-use band_sets::phase_of;
-use obs_rows::WAVELENGTHS;
-use used_svs::UsedSat;
+use obs_rows::{UsedSat, WAVELENGTHS, phase_of};
 
 // By how much the phase on a band grows.
 fn change_on(before: &UsedSat, now: &UsedSat, band: usize) -> i64

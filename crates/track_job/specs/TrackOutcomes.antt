@@ -9,7 +9,7 @@ use Rattle.eph_store.specs.File.{Records}
 use Rattle.epoch_pair.specs.declared.pairs.PairOf.{PairOf}
 use Rattle.slip_arcs.specs.Runs.{AreKept}
 use Rattle.slip_arcs.specs.Linked.{HaveDatums}
-use Rattle.band_sets.specs.BandSets.{bands_of}
+use Rattle.obs_rows.specs.BandSets.{bands_of}
 use Rattle.system_world.specs.Worlds.{world_of}
 use Rattle.screening.specs.declared.screened.Screened.{Screened}
 use Rattle.screening.specs.Screening.{setting_of, AreUsedPairs, IsSvPair}

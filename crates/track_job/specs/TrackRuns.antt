@@ -15,7 +15,7 @@ use Rattle.cert_data.specs.declared.verdicts.Verdict.{Verdict}
 use Rattle.cert_data.specs.declared.verdicts.Verdict.TheVariants.{Certified}
 use Rattle.cert_check.specs.Verdicts.{IsGivenUp}
 use Rattle.run_options.specs.declared.options.Options.{Options}
-use Rattle.band_sets.specs.BandSets.{bands_of}
+use Rattle.obs_rows.specs.BandSets.{bands_of}
 use Rattle.rinex_head.specs.Systems.{system_of}
 use Rattle.session_begin.specs.Beginnings.{IsPosition, AreSignals, AreTaken}
 use Rattle.job_answers.specs.declared.status.Status.{Status}

@@ -6,7 +6,7 @@ use Rattle.obs_rows.specs.declared.pair_rows.PairRows.{PairRows}
 use Rattle.obs_rows.specs.Arcs.{AreArcs}
 use Rattle.obs_rows.specs.Pairs.{ArePairs}
 use Rattle.slip_arcs.specs.Linked.{IsCutOf}
-use Rattle.used_svs.specs.declared.used.UsedPair.{UsedPair}
+use Rattle.obs_rows.specs.declared.used.UsedPair.{UsedPair}
 use Rattle.round_steps.specs.Shifts.{AreSameArcs}
 use Rattle.session.proofs.CutLaws.{cut_along}
 use Rattle.session.proofs.RangeLaws.{arcs_along, no_shifts}

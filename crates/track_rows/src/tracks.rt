@@ -1,6 +1,6 @@
 //! The track of the pairs that were screened.
 ghost use Rattle.std.specs.Prelude.{◌≡◌, map, All, IfOk};
-ghost use Rattle.signal_travel.specs.Boxes.{IsPoint};
+ghost use Rattle.obs_rows.specs.ReceiverPoints.{IsReceiverPoint};
 ghost use Rattle.obs_rows.specs.Ranges.{IsSystem};
 ghost use Rattle.obs_rows.specs.Arcs.{AreArcs};
 ghost use Rattle.slip_arcs.specs.Linked.{IsCutOf};
@@ -53,7 +53,7 @@ pub fn track_at(
 ) -> Result<Tracked, AllocError>
     requires cut { IsCutOf screened.now.used arcs.now }
     requires arcs { AreArcs arcs.now }
-    requires base { IsPoint base.now }
+    requires base { IsReceiverPoint base.now }
     requires system { IsSystem system }
     ensures track { IfOk result (IsTrackOf screened.now arcs.now base.now signals system) }
     ensures arcs { IfOk result (λ t. AreSameArcs arcs.now t.track.arcs) }

@@ -2,8 +2,8 @@ use Rattle.std.proofs.Common.{List, subst}
 use Rattle.orbit_model.specs.Elements.{Constants}
 use Rattle.orbit_clock.specs.Records.{constants_of}
 use Rattle.epoch_pair.specs.declared.pairs.PairOf.{PairOf}
-use Rattle.used_svs.specs.declared.used.UsedPair.{UsedPair}
-use Rattle.band_sets.specs.BandSets.{bands_of}
+use Rattle.obs_rows.specs.declared.used.UsedPair.{UsedPair}
+use Rattle.obs_rows.specs.BandSets.{bands_of}
 use Rattle.slip_arcs.specs.Runs.{AreKept}
 use Rattle.screening.specs.Screening.{setting_of, AreUsedPairs}
 use Rattle.arcs_job.proofs.arcs_of.Goals as goal

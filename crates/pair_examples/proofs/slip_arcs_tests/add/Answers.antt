@@ -1,5 +1,5 @@
 use Rattle.std.proofs.lemmas.List.Elements.{All-push}
-use Rattle.used_svs.specs.Ranges.{IsInRange}
+use Rattle.obs_rows.specs.UsedSats.{IsInRange}
 use Rattle.pair_examples.proofs.slip_arcs_tests.add.Goals as goal
 
 pub returns-clause-ranges : goal.returns-clause-ranges

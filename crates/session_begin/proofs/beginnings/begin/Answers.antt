@@ -2,7 +2,7 @@ use Rattle.std.proofs.Common.{◌<◌, ◌≤◌, ℕ, List, length, AllPairs, a
 use Rattle.obs_store.specs.Epochs.{tags_of}
 use Rattle.epoch_pair.specs.declared.pairs.PairOf.{PairOf}
 use Rattle.epoch_pair.specs.Pairs.{Follows, IsTaken, IsNearPair}
-use Rattle.band_sets.specs.BandSets.{bands_of}
+use Rattle.obs_rows.specs.BandSets.{bands_of}
 use Rattle.session_begin.specs.Beginnings.{HaveSignals}
 use Rattle.epoch_pair.proofs.Uses.{taken_all, taken_pairs}
 use Rattle.session_begin.proofs.BeginLaws.{refused_pair}

@@ -1,7 +1,7 @@
 use Rattle.std.proofs.Common.{List, All, subst}
 use Rattle.epoch_pair.specs.declared.pairs.PairOf.{PairOf}
-use Rattle.used_svs.specs.declared.used.UsedPair.{UsedPair}
-use Rattle.band_sets.specs.BandSets.{bands_of}
+use Rattle.obs_rows.specs.declared.used.UsedPair.{UsedPair}
+use Rattle.obs_rows.specs.BandSets.{bands_of}
 use Rattle.slip_arcs.specs.Runs.{AreKept}
 use Rattle.slip_arcs.specs.Linked.{IsCutOf}
 use Rattle.orbit_model.specs.Elements.{Constants}

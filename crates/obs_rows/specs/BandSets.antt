@@ -1,7 +1,7 @@
 -- The sets of bands that a run may use, by the numbers that tell them.
 use Rattle.std.specs.Prelude.{ℕ, ◌==◌, ◌||◌, if◌then◌else◌, IsTrue, List, slice_index_or}
 use Rattle.obs_rows.specs.declared.units.TheConstants.{BANDS_12, BANDS_15, BANDS_125}
-use Rattle.band_sets.specs.declared.numbers.TheConstants.{BANDS_L1_L2, BANDS_L1_L5, BANDS_L1_L2_L5, BAND_DIGITS, PHASE_SIGNALS}
+use Rattle.obs_rows.specs.declared.band_sets.TheConstants.{BANDS_L1_L2, BANDS_L1_L5, BANDS_L1_L2_L5, BAND_DIGITS, PHASE_SIGNALS}
 
 -- the number of a set of bands: L1 and L2, L1 and L5, or all three
 abbrev pub IsBandsNumber : ℕ → Type 0

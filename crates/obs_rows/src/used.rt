@@ -1,5 +1,5 @@
 //! What a taken pair says of its satellites.
-use obs_rows::PHASES;
+use crate::PHASES;
 
 /// A satellite that a pair uses.
 #[derive(Clone, Copy, Debug)]

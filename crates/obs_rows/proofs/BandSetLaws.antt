@@ -2,8 +2,8 @@
 use Rattle.std.proofs.Common.{◌≡◌, ℕ, refl, Bool, true, false, ◌||◌, IsTrue, subst, sym}
 use Rattle.std.specs.Prelude.{◌==◌}
 use Rattle.std.proofs.lemmas.Bool.{eqb-true}
-use Rattle.band_sets.specs.declared.numbers.TheConstants.{BANDS_L1_L2, BANDS_L1_L5, BANDS_L1_L2_L5}
-use Rattle.band_sets.specs.BandSets.{IsBandsNumber}
+use Rattle.obs_rows.specs.declared.band_sets.TheConstants.{BANDS_L1_L2, BANDS_L1_L5, BANDS_L1_L2_L5}
+use Rattle.obs_rows.specs.BandSets.{IsBandsNumber}
 
 -- of a test or another the one that holds
 one_of : (P : Type 0) (a b : Bool) → (a ≡ true → P) → (b ≡ true → P) → IsTrue (a || b) → P

@@ -3,10 +3,10 @@ ghost use Rattle.std.specs.Prelude.{◌≡◌, ◌<◌, ◌↔◌, ℕ, [], ◌�
 ghost use Rattle.std.specs.Fmt.{decimal};
 ghost use Rattle.obs_rows.specs.declared.units.TheConstants.{PHASES, SIGNALS};
 ghost use Rattle.obs_rows.specs.Signals as signals;
-ghost use Rattle.band_sets.specs.declared.numbers.TheConstants.{BANDS_L1_L2, BANDS_L1_L5, BANDS_L1_L2_L5, BAND_DIGITS};
-ghost use Rattle.band_sets.specs.BandSets.{IsBandsNumber, bands_of, digit_of, phase_of};
+ghost use Rattle.obs_rows.specs.declared.band_sets.TheConstants.{BANDS_L1_L2, BANDS_L1_L5, BANDS_L1_L2_L5, BAND_DIGITS};
+ghost use Rattle.obs_rows.specs.BandSets.{IsBandsNumber, bands_of, digit_of, phase_of};
 
-use obs_rows::{BANDS_12, BANDS_15, BANDS_125, PHASES};
+use crate::{BANDS_12, BANDS_15, BANDS_125, PHASES};
 
 /// The number of the bands L1 and L2.
 pub const BANDS_L1_L2: u16 = 12;

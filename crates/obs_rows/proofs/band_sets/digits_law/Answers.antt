@@ -1,8 +1,8 @@
 use Rattle.std.proofs.Common.{◌≡◌, ℕ, map, refl}
 use Rattle.std.specs.Fmt.{decimal, digits}
-use Rattle.band_sets.specs.BandSets.{bands_of, digit_of}
-use Rattle.band_sets.proofs.NumberLaws.{each_number}
-use Rattle.band_sets.proofs.numbers.digits_law.Goals as goal
+use Rattle.obs_rows.specs.BandSets.{bands_of, digit_of}
+use Rattle.obs_rows.proofs.BandSetLaws.{each_number}
+use Rattle.obs_rows.proofs.band_sets.digits_law.Goals as goal
 
 pub returns-clause-numbers : goal.returns-clause-numbers
 unfolding digits

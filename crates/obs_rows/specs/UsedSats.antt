@@ -1,7 +1,7 @@
 -- The ranges of what a pair says of its satellites.
 use Rattle.std.specs.Prelude.{◌<◌, ◌≤◌, ◌^◌, length, All, AllPairs, unsigned_abs}
-use Rattle.used_svs.specs.declared.used.UsedSat.{UsedSat}
-use Rattle.used_svs.specs.declared.used.UsedPair.{UsedPair}
+use Rattle.obs_rows.specs.declared.used.UsedSat.{UsedSat}
+use Rattle.obs_rows.specs.declared.used.UsedPair.{UsedPair}
 
 -- each phase is below 2^50 in size
 abbrev pub IsSmall : UsedSat → Type 0
