@@ -6,8 +6,9 @@ ghost use Rattle.cert_migrate.specs.Carriers.{IsSessionOf, IsCarrierOf};
 
 use crate::moved_rows::{old_arcs, old_pairs};
 use crate::moved_tails::old_tail;
-use crate::{OldCert, OldList, OldSession, OldSignals};
+use crate::{OldCert, OldSession, OldSignals};
 use cert_data::Cert;
+use obs_rows::Items;
 use std::alloc::{AllocError, Global};
 
 // The session of a certificate in the form of the first version.
@@ -27,8 +28,8 @@ fn old_session(alloc: Global, cert: &Cert) -> Result<OldSession, AllocError>
         base: session.base,
         point: session.point,
         signals,
-        arcs: OldList::new(arcs),
-        pairs: OldList::new(pairs),
+        arcs: Items::new(arcs),
+        pairs: Items::new(pairs),
     })
 }
 

@@ -3,8 +3,8 @@ ghost use Rattle.std.specs.Prelude.{◌≡◌, ◌^◌, ◌<◌, All, map, unsig
 ghost use Rattle.std.specs.List.{AllZip};
 ghost use Rattle.cert_migrate.specs.Carriers.{old_arc, IsRowOf, IsPairOf};
 
-use crate::{OldArc, OldList, OldPair, OldRow};
-use obs_rows::{Arc, PairRows, Row};
+use crate::{OldArc, OldPair, OldRow};
+use obs_rows::{Arc, Items, PairRows, Row};
 use std::alloc::{AllocError, Global};
 
 fn old_arc(arc: &Arc) -> OldArc
@@ -57,7 +57,7 @@ fn old_pair(alloc: Global, pair: &PairRows) -> Result<OldPair, AllocError>
         number: pair.number,
         tag: pair.tag,
         group: pair.group,
-        rows: OldList::new(rows),
+        rows: Items::new(rows),
     })
 }
 

@@ -1,8 +1,9 @@
 //! Pairs as the first version has them.
 ghost use Rattle.std.specs.Prelude.{◌≡◌, ◌^◌, ◌<◌, ◌≤◌, length, unsigned_abs, AllPairs};
 
-use crate::{OldList, OldRow};
+use crate::OldRow;
 use gps_time::Tick;
+use obs_rows::Items;
 
 /// A pair of epochs that has a row.
 #[derive(Debug, Drop)]
@@ -14,7 +15,7 @@ pub struct OldPair {
     /// The whole number of κ that is taken off every observation of the pair.
     pub group: i64,
     /// At most one row for each arc, in the arcs' order.
-    pub rows: OldList<OldRow>,
+    pub rows: Items<OldRow>,
     pub ghost number_in: { number < 3600 },
     pub ghost tag_in: { tag.0 < 2 ^ 63 },
     pub ghost group_in: { unsigned_abs group < 2 ^ 50 },

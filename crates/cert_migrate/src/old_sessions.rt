@@ -4,7 +4,8 @@ ghost use Rattle.cert_migrate.specs.OldRanges.{IsOldPoint, is_old_l1, is_old_l2}
 ghost use Rattle.cert_migrate.specs.OldArcs.{AreOldArcs};
 ghost use Rattle.cert_migrate.specs.OldPairs.{AreOldPairs};
 
-use crate::{OldArc, OldList, OldPair};
+use crate::{OldArc, OldPair};
+use obs_rows::Items;
 
 /// The letters of the codes on L1 and on L2.
 #[derive(Clone, Copy, Debug, PartialEq, Eq)]
@@ -25,8 +26,8 @@ pub struct OldSession {
     /// The rover's coordinates in 0.1 mm, from which the baseline is a move.
     pub point: [i64; 3],
     pub signals: OldSignals,
-    pub arcs: OldList<OldArc>,
-    pub pairs: OldList<OldPair>,
+    pub arcs: Items<OldArc>,
+    pub pairs: Items<OldPair>,
     pub ghost fine: { scale ≡ 0 },
     pub ghost base_in: { IsOldPoint base },
     pub ghost point_in: { IsOldPoint point },

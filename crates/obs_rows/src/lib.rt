@@ -20,14 +20,13 @@ mod arcs;
 mod band_sets;
 mod bands;
 mod constants;
+mod items;
 mod laws;
 mod pair_builder;
-mod pair_list;
 mod pair_rows;
 mod places;
 mod ranges;
 mod receiver_points;
-mod row_list;
 mod rows;
 mod session_builder;
 mod sessions;
@@ -42,10 +41,10 @@ pub use band_sets::{
 };
 pub use bands::{L1_LETTERS, L2_LETTERS, L5_LETTERS, Signals};
 pub use constants::{letters_law, signals_law, sizes_law};
+pub use items::Items;
 pub use laws::{best_law, bound_law, centres_law, groups_law};
 pub use pair_builder::PairBuilder;
-pub use pair_list::PairList;
-pub use pair_rows::PairRows;
+pub use pair_rows::{PairList, PairRows};
 pub use places::{
     counted_signals, fine_signals, free_arcs, has_its_arcs, integer_count, integer_place,
     is_of_pair, phase_count, phase_place,
@@ -54,8 +53,7 @@ pub use ranges::{
     are_arcs, are_radii, are_within, is_arc_in_range, is_point, is_radius, is_system,
 };
 pub use receiver_points::is_receiver_point;
-pub use row_list::RowList;
-pub use rows::Row;
+pub use rows::{Row, RowList};
 pub use session_builder::SessionBuilder;
 pub use sessions::Session;
 pub use units::{

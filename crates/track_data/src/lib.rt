@@ -7,13 +7,12 @@
 #![tactic(auto)]
 
 mod certs;
-mod items;
 mod lost;
 mod tails;
 mod tracks;
 
 pub use certs::TrackCert;
-pub use items::Items;
 pub use lost::{Lost, LostCause, Tracked};
+pub use obs_rows::Items;
 pub use tails::TrackTail;
 pub use tracks::Track;
