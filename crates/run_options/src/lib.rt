@@ -10,12 +10,12 @@ mod options;
 
 ghost use Rattle.run_options.specs.Defaults.{AreDefaults};
 
-use obs_rows::BANDS_L1_L2;
 pub use constants::defaults_law;
 pub use defaults::{
     DEFAULT_ARC, DEFAULT_BUDGET, DEFAULT_COUNT, DEFAULT_FIRST, DEFAULT_GAP, DEFAULT_JUMP,
     DEFAULT_MASK, DEFAULT_RATIO, DEFAULT_STEP,
 };
+use obs_rows::BANDS_L1_L2;
 pub use options::{GALILEO, GPS, Options};
 
 impl Options {

@@ -1,7 +1,7 @@
 // What two files begin with, and the answer over arcs.
-use obs_rows::is_bands_number;
 use eph_store::NavFile;
 use gps_time::Tick;
+use obs_rows::is_bands_number;
 use obs_store::{Epoch, Epochs, ObsFile, ObsType, SLOTS, Satellites};
 use session::{Answer, Options, PairWhat, SessionFault, begin, process};
 use std::alloc::{AllocError, Global};
