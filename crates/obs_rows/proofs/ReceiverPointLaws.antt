@@ -12,13 +12,13 @@ use Rattle.obs_rows.specs.ReceiverPoints.{IsReceiverPoint}
 square_root : (m n : ℕ) → n * n ≤ m * m → n ≤ m
 square_root m n h = grind arith
 
-size_of_square : (x : ℤ) (m : ℕ) → (x *ℤ x) ≤ℤ pos (m * m) → unsigned_abs x ≤ m
+pub size_of_square : (x : ℤ) (m : ℕ) → (x *ℤ x) ≤ℤ pos (m * m) → unsigned_abs x ≤ m
 size_of_square x m h = square_root m (unsigned_abs x) (same (unsigned_abs x * unsigned_abs x) (m * m) (x *ℤ x) (abs_square x) h)
   where
     same : (a b : ℕ) (y : ℤ) → pos a ≡ y → y ≤ℤ pos b → a ≤ b
     same a b y e g = omega (arith, lins)
 
-norm_nn : (s : List ℤ) → pos 0 ≤ℤ squared_norm s
+pub norm_nn : (s : List ℤ) → pos 0 ≤ℤ squared_norm s
 norm_nn [] = omega (arith, lins)
 norm_nn (x ∷ s) = both (x *ℤ x) (squared_norm s) (square_nn x) (norm_nn s)
   where

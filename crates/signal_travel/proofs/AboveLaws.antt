@@ -1,13 +1,11 @@
 -- From what the code reads of the boxes and the point to places.
-use Rattle.std.proofs.Common.{◌≡◌, ℕ, zero, suc, ◌*◌, ◌^◌, ◌≤◌, ◌↔◌, List, [], ◌∷◌, ℤ, pos, ◌+ℤ◌, ◌*ℤ◌, ◌≤ℤ◌, neg_ℤ, unsigned_abs, get_or, All, lit<, arith, to_z, of_z, sym, subst, refl}
+use Rattle.std.proofs.Common.{◌≡◌, ℕ, zero, suc, ◌*◌, ◌^◌, ◌≤◌, ◌↔◌, List, [], ◌∷◌, ℤ, pos, ◌+ℤ◌, ◌*ℤ◌, ◌≤ℤ◌, neg_ℤ, unsigned_abs, get_or, All, lit<, arith, to_z, of_z, sym, subst}
 use Rattle.std.proofs.lemmas.Int.{ints, to_z-of_z}
 use Rattle.std.specs.Int.{w64}
 use mir.Val.{SFits}
 use Rattle.whole_math.specs.Vectors.{squared_norm}
-use Rattle.whole_math.proofs.Ring.{◌⊗◌, ng}
-use Rattle.whole_math.proofs.Inequalities.{same_by}
 use Rattle.whole_math.proofs.Order.{lins, square_nn}
-use Rattle.whole_math.proofs.Certificates.{square_root}
+use Rattle.obs_rows.proofs.ReceiverPointLaws.{norm_nn, size_of_square}
 use Rattle.rational.specs.Rational.{Rational, AreWithin, two_to_minus, of_scale}
 use Rattle.iv_core.specs.declared.Iv.{Iv}
 use Rattle.iv_core.specs.Intervals.{Holds, width_of}
@@ -17,10 +15,6 @@ use Rattle.signal_travel.specs.Grid.{grid, offset, dot3, IsAboveWhole}
 use Rattle.signal_travel.proofs.GridPlaces.{grid_place, grid_near, sides, is_above, decided_place}
 
 -- ---- an entry of a vector
-norm_nn : (s : List ℤ) → pos 0 ≤ℤ squared_norm s
-norm_nn [] = omega (arith, ints)
-norm_nn (x ∷ s) = let a = square_nn x in let b = norm_nn s in omega (arith, lins, a, b)
-
 entry_square : (s : List ℤ) (i : ℕ) → (get_or s i (pos 0) *ℤ get_or s i (pos 0)) ≤ℤ squared_norm s
 entry_square [] i = omega (arith, ints)
 entry_square (x ∷ s) zero = let b = norm_nn s in go (x *ℤ x) (squared_norm s) b
@@ -32,24 +26,11 @@ entry_square (x ∷ s) (suc i) = go (x *ℤ x) (squared_norm s) (get_or s i (pos
     go : (a b c : ℤ) → pos 0 ≤ℤ a → c ≤ℤ b → c ≤ℤ (a +ℤ b)
     go a b c h k = omega (arith, lins)
 
-root_size : (e n : ℤ) → (e *ℤ e) ≤ℤ n → n ≤ℤ pos (70000000000 * 70000000000) → unsigned_abs e ≤ 70000000000
-root_size e n h k = both e (square_root e (pos 70000000000) (pos_nn 70000000000) (through (e *ℤ e) n (pos (70000000000 * 70000000000)) h k))
-    (square_root (neg_ℤ e) (pos 70000000000) (pos_nn 70000000000) (subst (λ (z : ℤ). z ≤ℤ pos (70000000000 * 70000000000)) (turned e) (through (e *ℤ e) n (pos (70000000000 * 70000000000)) h k)))
+pub coordinate : (s : List ℤ) (i : ℕ) → squared_norm s ≤ℤ pos (70000000000 * 70000000000) → unsigned_abs (get_or s i (pos 0)) ≤ 70000000000
+coordinate s i h = size_of_square (get_or s i (pos 0)) 70000000000 (through (get_or s i (pos 0) *ℤ get_or s i (pos 0)) (squared_norm s) (pos (70000000000 * 70000000000)) (entry_square s i) h)
   where
-    pos_nn : (n : ℕ) → pos 0 ≤ℤ pos n
-    pos_nn n = omega (arith, ints)
-
     through : (a b c : ℤ) → a ≤ℤ b → b ≤ℤ c → a ≤ℤ c
     through a b c h k = omega (arith, lins)
-
-    turned : (e : ℤ) → e *ℤ e ≡ neg_ℤ e *ℤ neg_ℤ e
-    turned e = same_by (e ∷ []) (λ e. (e ⊗ e, ng e ⊗ ng e)) refl
-
-    both : (e : ℤ) → e ≤ℤ pos 70000000000 → neg_ℤ e ≤ℤ pos 70000000000 → unsigned_abs e ≤ 70000000000
-    both e h k = omega (arith, ints)
-
-pub coordinate : (s : List ℤ) (i : ℕ) → squared_norm s ≤ℤ pos (70000000000 * 70000000000) → unsigned_abs (get_or s i (pos 0)) ≤ 70000000000
-coordinate s i h = root_size (get_or s i (pos 0)) (squared_norm s) (entry_square s i) h
 
 fits : (z : ℤ) → unsigned_abs z ≤ 70000000000 → SFits w64 z
 fits z h = omega (arith, ints)
