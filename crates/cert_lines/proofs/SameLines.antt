@@ -64,7 +64,8 @@ system_line_same s t e =
     let behind = cons_same 32 32 (s ∷ []) (t ∷ []) letter.1 in
     (cons_same s t [] [] behind.1).0
 
-pub signals_line_same : (version : Version) (a b : Signals) → (version ≡ One → a.l5 ≡ 0) → (version ≡ One → b.l5 ≡ 0) → signals_line version a.l1 a.l2 a.l5 ≡ signals_line version b.l1 b.l2 b.l5 → a ≡ b
+pub signals_line_same : (version : Version) (a b : Signals) → (version ≡ One → a.l5 ≡ 0) → (version ≡ One → b.l5 ≡ 0)
+    → signals_line version a.l1 a.l2 a.l5 ≡ signals_line version b.l1 b.l2 b.l5 → a ≡ b
 signals_line_same version a b old_a old_b e =
     let both : Ok (letters_of_signals a) ≡ Ok (letters_of_signals b) = sym (letters_spell version a old_a) ∙ ap (signals_in version) e ∙ letters_spell version b old_b in
     let letters : letters_of_signals a ≡ letters_of_signals b = cc in

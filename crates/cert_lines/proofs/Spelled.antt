@@ -1,6 +1,8 @@
 -- Where the numbers of a line were read, the line is their spelling.
-use Rattle.std.proofs.Common.{◌≡◌, ◌+◌, ◌^◌, ◌<◌, ◌==◌, ℕ, ℤ, suc, pos, Bool, List, [], ◌∷◌, ◌++◌, length, take, drop, get_or, codes, All, IsTrue, Ok, true, false, lit<, refl, sym, ap, ◌∙◌, subst, arith}
-use Rattle.std.proofs.lemmas.List.{take-append-drop}
+use Rattle.std.proofs.Common.{◌≡◌, ◌+◌, ◌^◌, ◌<◌, ◌==◌, ℕ, ℤ, suc, pos, Bool, List, [], ◌∷◌, ◌++◌, length, length-take, take, drop, get_or, codes, All, IsTrue, Ok, true, false, lit<, refl, sym, ap, ◌∙◌, subst, arith}
+use Rattle.std.proofs.lemmas.List.{take-append-drop, take_all}
+use Rattle.std.specs.Fmt.{signed_decimal}
+use Rattle.obs_rows.specs.declared.rows.Row.{Row}
 use Rattle.std.proofs.lemmas.Slice.Eq.{bytes_eq-Decides}
 use Rattle.std.specs.Str.{bytes_eq}
 use Rattle.decimal_text.specs.Whole.{size_of}
@@ -20,7 +22,8 @@ use Rattle.cert_words.specs.Numbers.{numbers_behind, number_at, all_within, with
 use Rattle.cert_words.proofs.NumberLaws.{AreSmall, values, line_read}
 use Rattle.cert_words.proofs.RangeLaws.{took_both, all_passed, passed_in, AreIn, in_small}
 use Rattle.cert_lines.specs.declared.ranges.TheConstants.{OBSERVATIONS, DIRECTIONS, RADII}
-use Rattle.cert_lines.specs.Lines.{letters_text, signals_line, pair_line}
+use Rattle.cert_lines.specs.Lines.{letters_text, signals_line, pair_line, row_line}
+use Rattle.cert_lines.proofs.Appends.{row_taken}
 use Rattle.cert_lines.proofs.Values.{four_values, row_values, all_small, small_append}
 
 -- the number in a place of the list that was read
@@ -92,6 +95,29 @@ row_spelled ss line ns s yn un rn x v arc y ry u ru good read many same ax vx sx
     let whole : values ns ≡ pos arc ∷ (select ss y ++ (ry ∷ (u ++ ru))) = ap values (sym same) ∙ are in
     line_read (codes "row") (behind_y ss + 7) line ns (sym read) (subst AreSmall (sym whole) fits) ∙ ap (λ (zs : List ℤ). codes "row" ++ behind_blanks zs) whole
 
+-- a word at the head of a line
+behind_word : (word line : List ℕ) → bytes_eq (take (length word) line) word ≡ true → line ≡ word ++ drop (length word) line
+behind_word word line test =
+    let front : take (length word) line ≡ word = (bytes_eq-Decides (take (length word) line) word).0 test in
+    sym (take-append-drop (length word) line) ∙ (λ i. front i ++ drop (length word) line)
+
+-- a row that was read part by part, its observations put in their places
+pub row_put : (ss : List ℕ) (line numbers a b c d end : List ℕ) (number ry : ℤ) (seen y u ru : List ℤ) (r : Row) → AreGood SIGNALS ss → length seen ≡ SIGNALS → length u ≡ 3 → length ru ≡ 3
+    → bytes_eq (take 3 line) (codes "row") ≡ true → numbers ≡ drop 3 line → numbers ≡ 32 ∷ (signed_decimal number ++ a) → number ≡ pos r.arc
+    → a ≡ behind_blanks (take (length ss) seen) ++ b
+    → b ≡ 32 ∷ (signed_decimal ry ++ c) → c ≡ behind_blanks (take 3 u) ++ d → d ≡ behind_blanks (take 3 ru) ++ end → length end ≡ 0
+    → y ≡ spread SIGNALS ss (take (length ss) seen) → r.y ≡ y → r.ry ≡ ry → r.u ≡ u → r.ru ≡ ru → line ≡ row_line ss r
+row_put ss line numbers a b c d end number ry seen y u ru r good many three three_too test left en is ea eb ec ed none put y_is ry_is u_is ru_is =
+    let el : line ≡ codes "row" ++ numbers = behind_word (codes "row") line test ∙ ap (λ (l : List ℕ). codes "row" ++ l) (sym left) in
+    let own = take (length ss) seen in
+    let count : length own ≡ length ss = omega (arith, length-take (length ss) seen, good.few, many) in
+    let back : own ≡ select ss r.y = sym (ap (λ (l : List ℤ). select ss l) (y_is ∙ put) ∙ good.back own count) in
+    let first : numbers ≡ 32 ∷ (signed_decimal (pos r.arc) ++ a) = en ∙ ap (λ (z : ℤ). 32 ∷ (signed_decimal z ++ a)) is in
+    let all_u : c ≡ behind_blanks u ++ d = ec ∙ ap (λ (l : List ℤ). behind_blanks l ++ d) (take_all 3 u (omega (arith, three))) in
+    let all_ru : d ≡ behind_blanks ru ++ end = ed ∙ ap (λ (l : List ℤ). behind_blanks l ++ end) (take_all 3 ru (omega (arith, three_too))) in
+    row_taken r.arc own ry u ru line numbers a b c d end el first ea eb all_u all_ru none
+    ∙ (λ i. codes "row" ++ behind_blanks (pos r.arc ∷ (back i ++ (sym ry_is i ∷ (sym u_is i ++ sym ru_is i)))))
+
 -- the arc of a row whose parts were read
 pub row_value : (ss : List ℕ) (arcs : List Arc) (number least : ℕ) (line : List ℕ) (ns s yn un rn : List Number) (x v : Number) (arc : ℕ) (y : List ℤ) (ry : ℤ) (u ru : List ℤ)
     → Ok ns ≡ numbers_behind (codes "row") (behind_y ss + 7) line → s ≡ ns
@@ -112,11 +138,6 @@ row_value ss arcs number least line ns s yn un rn x v arc y ry u ru read same ax
     rw (sym read, arc_is, y_is, ry_is, u_is, ru_is) refl
 
 -- ---- letters behind a word
-
-behind_word : (word line : List ℕ) → bytes_eq (take (length word) line) word ≡ true → line ≡ word ++ drop (length word) line
-behind_word word line test =
-    let front : take (length word) line ≡ word = (bytes_eq-Decides (take (length word) line) word).0 test in
-    sym (take-append-drop (length word) line) ∙ (λ i. front i ++ drop (length word) line)
 
 pub one_spelled : (word line letters : List ℕ) → bytes_eq (take (length word) line) word ≡ true → letters ≡ drop (length word) line → length letters ≡ 2 → get_or letters 0 0 ≡ 32
     → line ≡ word ++ (32 ∷ get_or letters 1 0 ∷ [])

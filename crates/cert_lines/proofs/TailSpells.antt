@@ -43,7 +43,8 @@ weak_numbers last column pivot (a ∷ []) have to inside = absurd have.1
 weak_numbers last column pivot (a ∷ b ∷ []) have to inside = rw (natural_at 0 last column a have.0 (omega arith) to, range_at PIVOTS b pivot have.1.0 inside) refl
 weak_numbers last column pivot (a ∷ b ∷ c ∷ ns) have to inside = absurd have.1.1
 
-pub weak_spells : (words : List ℕ) (last column : ℕ) (pivot : ℤ) → column < 2 ^ 126 → IsBelow (2 ^ 52) pivot → column ≤ last → weak_in words last (weak_line words column pivot) ≡ Ok (weak_pivot column pivot)
+pub weak_spells : (words : List ℕ) (last column : ℕ) (pivot : ℤ) → column < 2 ^ 126 → IsBelow (2 ^ 52) pivot → column ≤ last
+    → weak_in words last (weak_line words column pivot) ≡ Ok (weak_pivot column pivot)
 weak_spells words last column pivot few below to =
     let zs : List ℤ = pos column ∷ pivot ∷ [] in
     let small = weak_small column pivot few below in

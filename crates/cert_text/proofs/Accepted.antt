@@ -64,7 +64,8 @@ pairs_accepted f arcs least (p ∷ pairs) rest six few has whole groups rising b
     (rises (λ (r : Row). r.arc) 0 p.rows p.arcs_rise (λ d some. omega arith)) later in
     let split : (pair_lines f.ss p ++ all_pair_lines f.ss pairs) ++ rest ≡ line ∷ others = append_assoc (pair_lines f.ss p) (all_pair_lines f.ss pairs) rest in
     subst (AreAccepted cert_rules (NextPair f arcs (suc (length pairs)) least)) (sym split)
-    (step cert_rules (NextPair f arcs (suc (length pairs)) least) (before_rows f arcs (length pairs) p.number (length p.rows) 0) line others (line_length (codes "pair") zs (lit≤ tt) (lit≤ tt) (pair_small p)) reads rows)
+    (step cert_rules (NextPair f arcs (suc (length pairs)) least) (before_rows f arcs (length pairs) p.number (length p.rows) 0) line others
+    (line_length (codes "pair") zs (lit≤ tt) (lit≤ tt) (pair_small p)) reads rows)
 
 -- ---- the head
 
@@ -124,7 +125,8 @@ cert_accepted version c whole of_version =
     let c8 = step cert_rules (Budget version) (behind_budget version budget) (count_line (codes "budget") budget) _
     (line_length (codes "budget") (pos budget ∷ []) (lit≤ tt) (lit≤ tt) (omega (arith, c.budget_to), tt))
     (ap (λ (r : Result ℕ Flaw). and_then r (λ n. Ok (behind_budget version n))) (count_spells (codes "budget") 1 100_000_000 budget c.budget_from c.budget_to (omega arith))) system in
-    let c9 = step cert_rules (Ratio version) (Budget version) (count_line (codes "ratio") c.ratio) _ (line_length (codes "ratio") (pos c.ratio ∷ []) (lit≤ tt) (lit≤ tt) (omega (arith, c.ratio_to), tt))
+    let c9 = step cert_rules (Ratio version) (Budget version) (count_line (codes "ratio") c.ratio) _ (line_length (codes "ratio") (pos c.ratio ∷ []) (lit≤ tt) (lit≤ tt)
+    (omega (arith, c.ratio_to), tt))
     (ap (λ (r : Result ℕ Flaw). and_then r (λ n. Ok (Budget version))) (count_spells (codes "ratio") 1000 100_000 c.ratio c.ratio_from c.ratio_to (omega arith))) c8 in
     let all = step cert_rules (Form version) (Ratio version) (form_line version) _ (form_length version) (form_read version) c9 in
     subst (AreAccepted cert_rules (Form version)) (sym (regrouped version c)) all

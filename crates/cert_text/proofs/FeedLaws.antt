@@ -40,7 +40,8 @@ pairs_feed ss arcs (p ∷ pairs) few all =
 session_feed : (version : Version) (ratio budget : ℕ) (s : Session) → ratio ≤ 100_000 → budget ≤ 100_000_000 → (version ≡ One → s.signals.l5 ≡ 0) → AreLines (session_lines version ratio budget s)
 session_feed version ratio budget s few_ratio few_budget old =
     let ss = fine_signals s.signals in
-    let pairs : AreLines (counted_pairs ss s.pairs) = (count_feed (codes "pairs") (length s.pairs) refl (omega (arith, s.pairs_in.few)), pairs_feed ss s.arcs s.pairs s.arcs_in.few s.pairs_in.rows_have_arcs) in
+    let pairs : AreLines (counted_pairs ss s.pairs) =
+    (count_feed (codes "pairs") (length s.pairs) refl (omega (arith, s.pairs_in.few)), pairs_feed ss s.arcs s.pairs s.arcs_in.few s.pairs_in.rows_have_arcs) in
     let places : List (List ℕ) = vector_line (codes "base") s.base ∷ vector_line (codes "point") s.point ∷ signals_line version s.signals.l1 s.signals.l2 s.signals.l5 ∷ [] in
     let place_lines : AreLines places = (point_feed (codes "base") s.base refl s.base_in, (point_feed (codes "point") s.point refl s.point_in, (signals_feed version s.signals old, tt))) in
     let head : AreLines (head_lines version ratio budget s.system s.base s.point s.signals) = (

@@ -75,7 +75,8 @@ declined_accepted f arcs line t short other read =
 pub weak_read : (version : Version) (budget column : ℕ) (pivot : ℤ) → IsWeak column pivot → column ≤ last_column version
     → declined_in version budget (weak_line (codes "declined weak fine") column pivot) ≡ Ok (Weak column pivot)
 weak_read version budget column pivot fits to =
-    ap (λ (r : Result WeakPivot Flaw). and_then r (λ w. Ok (Weak w.column w.pivot))) (weak_spells (codes "declined weak fine") (last_column version) column pivot (omega (arith, fits.column_to)) fits.pivot_in to)
+    ap (λ (r : Result WeakPivot Flaw). and_then r (λ w. Ok (Weak w.column w.pivot)))
+    (weak_spells (codes "declined weak fine") (last_column version) column pivot (omega (arith, fits.column_to)) fits.pivot_in to)
 
 unsettled_small : (entry : ℤ) → IsBelow (2 ^ 46) entry → AreSmall (entry ∷ [])
 unsettled_small entry fits = (below_small (2 ^ 46) entry (omega arith) fits, tt)

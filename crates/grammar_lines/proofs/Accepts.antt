@@ -74,7 +74,8 @@ rows_accepted {S} rules ss arcs number before after least (r ∷ rows) rest take
     let left : ℕ = suc (length rows) in
     let fewer : suc (length rows) - 1 ≡ length rows = omega arith in
     let reads = row_spells ss arcs number least r few is wide rising.0 in
-    let later = rows_accepted rules ss arcs number before after (r.arc + 1) rows rest taken six few (All-tail (IsOfPair arcs number) r rows of_pair) (All-tail IsWholeRow r rows whole) rising.1 behind in
+    let later = rows_accepted rules ss arcs number before after (r.arc + 1) rows rest taken six few
+    (All-tail (IsOfPair arcs number) r rows of_pair) (All-tail IsWholeRow r rows whole) rising.1 behind in
     let next = subst (λ (n : ℕ). AreAccepted rules (before n (r.arc + 1)) (row_lines ss rows ++ rest)) (sym fewer) later in
     line_accepted rules (before left least) (row_in ss arcs number least) (λ (k : ℕ). before (left - 1) (k + 1)) r.arc (row_line ss r) (row_lines ss rows ++ rest)
     (taken.takes left least (omega arith)) short reads next

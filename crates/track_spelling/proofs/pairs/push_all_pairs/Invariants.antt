@@ -8,7 +8,8 @@ use Rattle.track_spelling.proofs.pairs.push_all_pairs.Given as goal
 
 abbrev pub invariant-loop-k : goal.invariant-loop-k
 invariant-loop-k l = record {
-  text : l.out.items ++ text_of_lines (all_placed_pairs (fine_signals l.signals) (drop l.k l.pairs) (drop l.k l.points)) ≡ l.fn.out.items ++ text_of_lines (all_placed_pairs (fine_signals l.signals) l.pairs l.points);
+  text : l.out.items ++ text_of_lines (all_placed_pairs (fine_signals l.signals) (drop l.k l.pairs) (drop l.k l.points))
+      ≡ l.fn.out.items ++ text_of_lines (all_placed_pairs (fine_signals l.signals) l.pairs l.points);
   whole : All IsWholePair (take l.k l.pairs);
   points : AreTriples (take l.k l.points);
 }

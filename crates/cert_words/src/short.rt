@@ -1,0 +1,98 @@
+// Numbers of at most 18 digits at the head of a text, which nearly all numbers of a certificate are. They are read in 64
+// bits, straight into an array and with no column. Where a text begins otherwise nothing is said of it.
+ghost use Rattle.std.specs.Prelude.{◌≡◌, ◌<◌, ◌≤◌, ◌∷◌, ◌++◌, ◌^◌, length, take, IfSome};
+ghost use Rattle.std.specs.Fmt.{decimal, signed_decimal};
+ghost use Rattle.decimal_text.specs.Whole.{size_of};
+ghost use Rattle.cert_words.specs.Spelling.{behind_blanks};
+
+use crate::numbers::is_digit_byte;
+
+// Behind a number up to this one there is room for one more digit in 63 bits.
+const LAST_SHORT: u64 = 900_000_000_000_000_000;
+
+/// The numbers at the head of a text, so many and each behind one blank, with 0 behind them in the array; and the text
+/// behind them.
+pub fn leading_numbers<const N: usize>(text: &[u8], count: usize) -> Option<([i64; N], &[u8])>
+    requires { count ≤ N }
+    ensures count { IfSome result (λ r. length r.0 ≡ N) }
+    ensures spelled { IfSome result (λ r. text.now ≡ behind_blanks (take count r.0) ++ r.1.now) }
+{
+    let mut values = [0i64; N];
+    let mut left = text;
+    for k in 0..count {
+        let (value, behind) = leading_number(left)?;
+        values[k] = value;
+        left = behind;
+    }
+    Some((values, left))
+}
+
+/// The number behind a blank at the head of a text, and the text behind it.
+pub fn leading_number(text: &[u8]) -> Option<(i64, &[u8])>
+    ensures small { IfSome result (λ r. size_of r.0 < 2 ^ 63) }
+    ensures spelled { IfSome result (λ r. text.now ≡ 32 ∷ (signed_decimal r.0 ++ r.1.now)) }
+{
+    let [b' ', word @ ..] = text else {
+        return None;
+    };
+    leading_whole(word)
+}
+
+// The number at the head of a text, with its sign, and the text behind it.
+pub(crate) fn leading_whole(text: &[u8]) -> Option<(i64, &[u8])>
+    ensures spelled { IfSome result (λ r. text.now ≡ signed_decimal r.0 ++ r.1.now) }
+    ensures small { IfSome result (λ r. size_of r.0 < 2 ^ 63) }
+{
+    match text {
+        [b'-', digits @ ..] => {
+            let (number, behind) = leading_natural(digits)?;
+            if number == 0 {
+                return None;
+            }
+            Some((-(number as i64), behind))
+        }
+        _ => {
+            let (number, behind) = leading_natural(text)?;
+            Some((number as i64, behind))
+        }
+    }
+}
+
+// The same of one without a sign.
+fn leading_natural(text: &[u8]) -> Option<(u64, &[u8])>
+    ensures spelled { IfSome result (λ r. text.now ≡ decimal r.0 ++ r.1.now) }
+    ensures small { IfSome result (λ r. r.0 < 2 ^ 63) }
+{
+    let [b, rest @ ..] = text else {
+        return None;
+    };
+    if *b == b'0' {
+        return Some((0, rest));
+    }
+    if !is_digit_byte(*b) {
+        return None;
+    }
+    further_digits((*b - b'0') as u64, rest)
+}
+
+// The number that begins with this digit and goes on at the head of a text, and the text behind it.
+fn further_digits(first: u64, text: &[u8]) -> Option<(u64, &[u8])>
+    requires from { 0 < first }
+    requires to { first < 10 }
+    ensures spelled { IfSome result (λ r. decimal first ++ text.now ≡ decimal r.0 ++ r.1.now) }
+    ensures small { IfSome result (λ r. r.0 < 2 ^ 63) }
+{
+    let mut number = first;
+    let mut rest = text;
+    while let [b, after @ ..] = rest {
+        if !is_digit_byte(*b) {
+            return Some((number, rest));
+        }
+        if number > LAST_SHORT {
+            return None;
+        }
+        number = 10 * number + (*b - b'0') as u64;
+        rest = after;
+    }
+    Some((number, rest))
+}
