@@ -17,6 +17,8 @@ use Rattle.job_answers.proofs.EndingLaws.{verdict_at, job_status_at, verdict_who
 use Rattle.rinex_head.specs.Systems.{system_of}
 use Rattle.session_files.specs.SessionFiles.{StopsAtFiles}
 use Rattle.session_files.proofs.FileLaws.{files_status, no_stop}
+use Rattle.session_files.specs.FaultNames.{IsFaultOf}
+use Rattle.session_files.proofs.FaultLaws.{verdict_no_fault, refused_no_fault, none_told}
 use Rattle.arcs_job.specs.ArcJobs.{ArcsEnd, ArcsEnds}
 use Rattle.pair_refusals.specs.Refusals.{AreRefusedWhole}
 use Rattle.pair_refusals.specs.Admitted.{AreAdmitted}
@@ -52,6 +54,11 @@ pub arcs_whole : (told : List ℕ → Option (List ℕ)) (left : ℕ → Option 
     → ArcsEnd o b r n end → AreRefusedWhole told left names end
 arcs_whole told left names o b r n end (inl arcs) = stop_whole told left names end (verdict_whole told left names end (verdict_at end _ arcs.end_is tt))
 arcs_whole told left names o b r n end (inr refused) = pair_whole told left names b r o end refused
+
+-- none of these is a read fault
+pub arcs_named : (sure : List ℕ → Type 0) (names : List (List ℕ)) (o : Options) (b r : ObsFile) (n : Records) (end : Ending) → ArcsEnd o b r n end → IsFaultOf sure names end
+arcs_named sure names o b r n end (inl arcs) = none_told sure names end (verdict_no_fault end (verdict_at end _ arcs.end_is tt))
+arcs_named sure names o b r n end (inr refused) = none_told sure names end (refused_no_fault end _ refused.end_is)
 
 pub arcs_verdict : (told : List ℕ → Option (List ℕ)) (base rover nav : List ℕ) (o : Options) (end : Ending) → AreAdmitted told base rover nav o → end.status ≢ ReadFault
     → ArcsEnds told base rover nav o end → IsVerdictStatus end.status

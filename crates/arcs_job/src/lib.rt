@@ -10,6 +10,7 @@ ghost use Rattle.obs_rows.specs.Ranges.{IsSystem};
 ghost use Rattle.session_begin.specs.Beginnings.{IsPosition, AreSignals, AreSparse, AreTaken};
 ghost use Rattle.screening.specs.Screening.{ArePairsOf};
 ghost use Rattle.arc_report.specs.ArcLines.{arcs_text};
+ghost use Rattle.session_files.specs.FaultNames.{IsFaultOf};
 ghost use Rattle.pair_refusals.specs.Refusals.{AreRefusedWhole};
 ghost use Rattle.arcs_job.specs.ArcJobs.{AreArcsOf, ArcsEnd, ArcsEnds};
 
@@ -111,6 +112,7 @@ pub fn arcs<F: Files>(
     ensures opened { OpensAtMost 3 (F.opened files.old) (F.opened files.new) }
     ensures fault { IfEnded result (λ end. end.status ≡ Status.ReadFault → Rose (F.faults files.old) (F.faults files.new)) }
     ensures sure { All (F.is_sure_name files.old) (base.now ∷ rover.now ∷ nav.now ∷ []) → IfEnded result (λ end. end.status ≢ Status.ReadFault) }
+    ensures named { IfEnded result (IsFaultOf (F.is_sure_name files.old) (base.now ∷ rover.now ∷ nav.now ∷ [])) }
 {
     let system = System::of_letter(options.system);
     match read_session(alloc, files, system, base, rover, nav) {

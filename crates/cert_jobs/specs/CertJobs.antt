@@ -5,6 +5,7 @@ use Rattle.cert_data.specs.declared.certs.Cert.{Cert}
 use Rattle.cert_data.specs.declared.verdicts.Verdict.{Verdict}
 use Rattle.cert_data.specs.declared.verdicts.Verdict.TheVariants.{Certified, Not}
 use Rattle.cert_spelling.specs.Spelling.{spelling}
+use Rattle.grammar_lines.specs.Beginnings.{NoneBegins}
 use Rattle.cert_text.specs.Rules.{reading_of}
 use Rattle.cert_spelling.specs.Lengths.{IsWhole, IsCertificate}
 use Rattle.cert_check.specs.Decided.{IsBestIn}
@@ -17,10 +18,12 @@ use Rattle.job_answers.specs.declared.status.Status.TheVariants.{Done, Declined,
 use Rattle.job_answers.specs.Texts.{refusal_line}
 use Rattle.job_answers.specs.Endings.{Ending, ending}
 
--- the text is no certificate, and is refused at the first place at which the rules fail
+-- The text is no certificate, and is refused at the first place at which the rules fail. No certificate begins with its
+-- lines up to that one.
 pub record IsCertRefused (name text : List ℕ) (end : Ending) : Type 0 where
   pub at : At
   pub none : IsCertificate text → ⊥
+  pub stuck : NoneBegins IsCertificate text at.line
   pub gives_is : reading_of text ≡ Err at
   pub end_is : end ≡ ending Refused [] (refusal_line name at)
 

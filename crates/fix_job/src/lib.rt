@@ -14,6 +14,7 @@ ghost use Rattle.job_answers.specs.Statuses.{IsVerdictStatus};
 ghost use Rattle.job_answers.specs.Answers.{ending_of, IfEnded};
 ghost use Rattle.job_answers.specs.Endings.{ending};
 ghost use Rattle.outcome_report.specs.OutcomeText.{answer_text, outcome_text, IsWholeAnswer};
+ghost use Rattle.session_files.specs.FaultNames.{IsFaultOf};
 ghost use Rattle.pair_refusals.specs.Refusals.{AreRefusedWhole};
 ghost use Rattle.fix_job.specs.FixJobs.{status_of, FixEnd, FixEnds};
 
@@ -87,6 +88,7 @@ pub fn fix<F: Files>(
     ensures opened { OpensAtMost 3 (F.opened files.old) (F.opened files.new) }
     ensures fault { IfEnded result (λ end. end.status ≡ Status.ReadFault → Rose (F.faults files.old) (F.faults files.new)) }
     ensures sure { All (F.is_sure_name files.old) (base.now ∷ rover.now ∷ nav.now ∷ []) → IfEnded result (λ end. end.status ≢ Status.ReadFault) }
+    ensures named { IfEnded result (IsFaultOf (F.is_sure_name files.old) (base.now ∷ rover.now ∷ nav.now ∷ [])) }
 {
     let system = System::of_letter(options.system);
     match read_session(alloc, files, system, base, rover, nav) {
