@@ -1,7 +1,7 @@
 -- The places that hold the coefficients of a row.
 use Rattle.std.proofs.Common.{◌≡◌, ◌≢◌, ◌⊎◌, ⊎_elim, ℕ, zero, suc, ◌+◌, ◌<◌, ◌≤◌, List, [], ◌∷◌, ◌++◌, length, ℤ, pos, neg_ℤ, Option, Some, None, IfSome, replicate, set, unsigned_abs, slice_index_or, get_or-set_same, get_or-set_other, length-set, length-append, arith, sym, ap, ◌∙◌, refl, subst}
 use Rattle.std.proofs.lemmas.Bool.{cases_eq}
-use Rattle.std.proofs.lemmas.List.{get_or_append_left, get_or_push, get_or_past, length-replicate}
+use Rattle.std.proofs.lemmas.List.{get_or_append_left, get_or_push, get_or_past, length-replicate, ext_get_or}
 use Rattle.whole_math.specs.Vectors.{zeros}
 use Rattle.quadratic_form.specs.MatrixEntries.{coefficient}
 use Rattle.obs_rows.specs.declared.arcs.Arc.{Arc}
@@ -146,3 +146,44 @@ nothing_elsewhere w n p a b d v y e j h f g =
     ∙ put_elsewhere (set (set (set (replicate MOST_COLUMNS (pos 0)) 0 a) 1 b) 2 d) p v j g
     ∙ item_set_zero (set (set (replicate MOST_COLUMNS (pos 0)) 0 a) 1 b) 2 j d (omega arith)
     (item_set_zero (set (replicate MOST_COLUMNS (pos 0)) 0 a) 1 j b (omega arith) (item_set_zero (replicate MOST_COLUMNS (pos 0)) 0 j a (omega arith) (zero_item MOST_COLUMNS j)))
+
+-- ---- zeros again
+
+zero_set : (t : List ℤ) (i j : ℕ) → (j ≢ i → item t j ≡ pos 0) → item (set t i (pos 0)) j ≡ pos 0
+zero_set t i j h = ⊎_elim (λ (e : j ≡ i). by_room (cases_lt i (length t)) e) (λ (e : j ≡ i → ⊥). get_or-set_other t i j (pos 0) (pos 0) e ∙ h e) (cases_eq j i)
+  where
+    cases_lt : (a b : ℕ) → (a < b) ⊎ (b ≤ a)
+    cases_lt a b = grind arith
+
+    by_room : (i < length t) ⊎ (length t ≤ i) → j ≡ i → item (set t i (pos 0)) j ≡ pos 0
+    by_room w e = subst (λ (k : ℕ). item (set t i (pos 0)) k ≡ pos 0) (sym e)
+        (⊎_elim (λ (g : i < length t). get_or-set_same t i (pos 0) (pos 0) g) (λ (g : length t ≤ i). get_or_past (set t i (pos 0)) i (pos 0) (omega (arith, length-set t i (pos 0)))) w)
+
+zero_put : (t : List ℤ) (p : Option ℕ) (j : ℕ) → (IfSome p (λ i. j ≢ 3 + i) → item t j ≡ pos 0) → item (put_at t p (pos 0)) j ≡ pos 0
+zero_put t None j h = h tt
+zero_put t (Some i) j h = zero_set t (3 + i) j h
+
+length_put : (t : List ℤ) (p : Option ℕ) (v : ℤ) → length (put_at t p v) ≡ length t
+length_put t None v = refl
+length_put t (Some i) v = length-set t (3 + i) v
+
+pub zeros_again : (u t : List ℤ) (n : ℕ) (p : Option ℕ) → u ≡ put_at (set (set (set t 0 (pos 0)) 1 (pos 0)) 2 (pos 0)) p (pos 0) → length t ≡ MOST_COLUMNS
+    → ((j : ℕ) → 3 ≤ j → j ≢ 3 + n → IfSome p (λ i. j ≢ 3 + i) → item t j ≡ pos 0) → set u (3 + n) (pos 0) ≡ replicate MOST_COLUMNS (pos 0)
+zeros_again u t n p is full others =
+    ext_get_or (pos 0) (set u (3 + n) (pos 0)) (replicate MOST_COLUMNS (pos 0)) (count ∙ sym (length-replicate MOST_COLUMNS (pos 0))) (λ j inside. each j ∙ sym (zero_item MOST_COLUMNS j))
+  where
+    one : List ℤ
+    one = set t 0 (pos 0)
+
+    two : List ℤ
+    two = set one 1 (pos 0)
+
+    three : List ℤ
+    three = set two 2 (pos 0)
+
+    count : length (set u (3 + n) (pos 0)) ≡ MOST_COLUMNS
+    count = length-set u (3 + n) (pos 0) ∙ ap (λ (l : List ℤ). length l) is ∙ length_put three p (pos 0) ∙ length-set two 2 (pos 0) ∙ length-set one 1 (pos 0) ∙ length-set t 0 (pos 0) ∙ full
+
+    each : (j : ℕ) → item (set u (3 + n) (pos 0)) j ≡ pos 0
+    each j = zero_set u (3 + n) j (λ last. ap (λ (l : List ℤ). item l j) is ∙ zero_put three p j (λ own.
+        zero_set two 2 j (λ third. zero_set one 1 j (λ second. zero_set t 0 j (λ first. others j (omega (arith, first, second, third)) last own)))))

@@ -55,3 +55,22 @@ pub(crate) fn put_coefficients(
     put_integer(values, place, -cycle_of(signal));
     values[BASELINE_COLUMNS + integers] = row.y[signal];
 }
+
+/// Writes 0 into the columns of a row again, with its integer at this place.
+pub(crate) fn clear_coefficients(
+    values: &mut [i64; MOST_COLUMNS],
+    place: Option<usize>,
+    integers: usize,
+)
+    requires place { IfSome place (λ i. i < integers) }
+    requires few { integers ≤ MOST_INTEGERS }
+    requires others { (j : ℕ) → BASELINE_COLUMNS ≤ j → j ≢ BASELINE_COLUMNS + integers → IfSome place (λ i. j ≢ BASELINE_COLUMNS + i) →
+        slice_index_or values.old j (pos 0) ≡ pos 0 }
+    ensures zeros { values.new ≡ replicate MOST_COLUMNS (pos 0) }
+{
+    values[0] = 0;
+    values[1] = 0;
+    values[2] = 0;
+    put_integer(values, place, 0);
+    values[BASELINE_COLUMNS + integers] = 0;
+}

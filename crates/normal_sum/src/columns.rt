@@ -29,6 +29,7 @@ fn plus(a: i64, b: i64) -> i64
 }
 
 /// Adds values to a total, column by column.
+#[inline(always)]
 pub(crate) fn add_values(
     total: &mut [i64; MOST_COLUMNS],
     values: &[i64; MOST_COLUMNS],

@@ -27,6 +27,7 @@ fn plus_times(sum: i128, factor: i128, value: i64) -> i128
 }
 
 /// Adds factor · value to one entry.
+#[inline(always)]
 fn add_to_entry(table: &mut NormalTable, row: usize, column: usize, factor: i128, value: i64)
     requires row_in { row < MOST_COLUMNS }
     requires column_in { column < MOST_COLUMNS }
@@ -41,6 +42,7 @@ fn add_to_entry(table: &mut NormalTable, row: usize, column: usize, factor: i128
 }
 
 /// Adds factor times the values to a row, from the diagonal on.
+#[inline(always)]
 fn add_to_row(
     table: &mut NormalTable,
     row: usize,
@@ -62,6 +64,7 @@ fn add_to_row(
 }
 
 /// Adds weight · `values[row]` times the values to a row, from the diagonal on.
+#[inline(always)]
 fn add_product_row(
     table: &mut NormalTable,
     row: usize,
@@ -81,6 +84,9 @@ fn add_product_row(
 }
 
 /// Adds weight · values · valuesᵀ on and above the diagonal, in the columns of the values.
+///
+/// It and what it calls stand in their callers' code: where the columns are a row's five, the loops become straight code.
+#[inline(always)]
 pub(crate) fn add_product(
     table: &mut NormalTable,
     values: &[i64; MOST_COLUMNS],

@@ -1,7 +1,8 @@
 //! What the rows of a pair add to the normal matrix, as one signal sees them.
-ghost use Rattle.std.specs.Prelude.{◌≡◌, ℕ, ◌+◌, ◌*◌, ◌/◌, ◌^◌, ◌<◌, ◌≤◌, ◌+ℤ◌, ◌*ℤ◌, ◌≤ℤ◌, List, pos, length, map, unsigned_abs, slice_index_or, IfSome, None};
+ghost use Rattle.std.specs.Prelude.{◌≡◌, ◌≢◌, ℕ, ◌+◌, ◌*◌, ◌/◌, ◌^◌, ◌<◌, ◌≤◌, ◌+ℤ◌, ◌*ℤ◌, ◌≤ℤ◌, List, pos, length, map, replicate, unsigned_abs, slice_index_or, IfSome, None};
 ghost use Rattle.quadratic_form.specs.MatrixEntries.{coefficient, coefficient_sum, product_sum, group_entry};
 ghost use Rattle.obs_rows.specs.declared.arcs.Arc.{Arc};
+ghost use Rattle.form_tables.specs.declared.sizes.TheConstants.{BASELINE_COLUMNS, MOST_COLUMNS, MOST_INTEGERS};
 ghost use Rattle.form_tables.specs.Tables.{entry};
 ghost use Rattle.obs_rows.specs.Signals.{weight};
 ghost use Rattle.obs_rows.specs.Integers.{integer_count, integer_place};
@@ -10,7 +11,7 @@ ghost use Rattle.obs_rows.specs.SignalGroups.{signal_row, signal_group};
 ghost use Rattle.normal_sum.specs.Columns.{AreColumnsOf};
 ghost use Rattle.normal_sum.specs.Places.{ArePlaces};
 
-use crate::coefficients::put_coefficients;
+use crate::coefficients::{clear_coefficients, put_coefficients};
 use crate::columns::{add_values, used_columns};
 use crate::places::MOST_ROWS;
 use crate::products::add_product;
@@ -54,6 +55,7 @@ fn turned_share(rows: usize, signal: usize) -> i64
 }
 
 /// Adds the weighted products of values to a table, and the values to a total.
+#[inline(always)]
 fn add_in(
     table: &mut NormalTable,
     total: &mut [i64; MOST_COLUMNS],
@@ -76,16 +78,55 @@ fn add_in(
     add_values(total, values, columns);
 }
 
-/// Adds the weighted products of a row's coefficients to a table, and the coefficients to a total: in the columns of the
-/// baseline, of its integer and of the constant.
+/// Adds the weighted products of a row's values to a table, and the values to a total: in the columns of the baseline, of
+/// the integer at this place and of the constant.
+fn add_used(
+    table: &mut NormalTable,
+    total: &mut [i64; MOST_COLUMNS],
+    values: &[i64; MOST_COLUMNS],
+    place: Option<usize>,
+    integers: usize,
+    weight: i64,
+)
+    requires place { IfSome place (λ i. i < integers) }
+    requires few { integers ≤ MOST_INTEGERS }
+    requires others { (j : ℕ) → BASELINE_COLUMNS ≤ j → j ≢ BASELINE_COLUMNS + integers → IfSome place (λ i. j ≢ BASELINE_COLUMNS + i) →
+        slice_index_or values.now j (pos 0) ≡ pos 0 }
+    requires weight_size { unsigned_abs weight ≤ 2 ^ 32 }
+    requires value_size { (j : ℕ) → unsigned_abs (slice_index_or values.now j (pos 0)) ≤ 2 ^ 34 }
+    requires entry_size { (i j : ℕ) → i ≤ j → j < MOST_COLUMNS → unsigned_abs (entry table.old i j) ≤ 2 ^ 120 }
+    requires total_size { (j : ℕ) → j < MOST_COLUMNS → unsigned_abs (slice_index_or total.old j (pos 0)) ≤ 2 ^ 40 }
+    ensures products { (i j : ℕ) → i ≤ j → j < MOST_COLUMNS →
+        entry table.new i j ≡ entry table.old i j +ℤ ((weight *ℤ slice_index_or values.now i (pos 0)) *ℤ slice_index_or values.now j (pos 0)) }
+    ensures sums { (j : ℕ) → j < MOST_COLUMNS → slice_index_or total.new j (pos 0) ≡ slice_index_or total.old j (pos 0) +ℤ slice_index_or values.now j (pos 0) }
+    ensures table_size { (i j : ℕ) → i ≤ j → j < MOST_COLUMNS → unsigned_abs (entry table.new i j) ≤ unsigned_abs (entry table.old i j) + 2 ^ 100 }
+    ensures sum_size { (j : ℕ) → j < MOST_COLUMNS → unsigned_abs (slice_index_or total.new j (pos 0)) ≤ unsigned_abs (slice_index_or total.old j (pos 0)) + 2 ^ 34 }
+{
+    let last = BASELINE_COLUMNS + integers;
+    match place {
+        Some(i) => {
+            let columns = [0, 1, 2, BASELINE_COLUMNS + i, last];
+            add_in(table, total, values, &columns, weight);
+        }
+        None => {
+            let columns = [0, 1, 2, last];
+            add_in(table, total, values, &columns, weight);
+        }
+    }
+}
+
+/// Adds the weighted products of a row's coefficients to a table, and the coefficients to a total. `values` lends the
+/// room for the coefficients, and is zeros again behind the call: to clear it whole for each row costs more than these writes.
 fn add_row(
     table: &mut NormalTable,
     total: &mut [i64; MOST_COLUMNS],
+    values: &mut [i64; MOST_COLUMNS],
     row: &Row,
     signal: usize,
     place: Option<usize>,
     integers: usize,
 )
+    requires zeros { values.old ≡ replicate MOST_COLUMNS (pos 0) }
     requires signal { signal < SIGNALS }
     requires place { IfSome place (λ i. i < integers) }
     requires few { integers ≤ MOST_INTEGERS }
@@ -98,21 +139,11 @@ fn add_row(
         (j : ℕ) → j < MOST_COLUMNS → slice_index_or total.new j (pos 0) ≡ slice_index_or total.old j (pos 0) +ℤ coefficient (signal_row arcs ss signal row.now) j }
     ensures table_size { (i j : ℕ) → i ≤ j → j < MOST_COLUMNS → unsigned_abs (entry table.new i j) ≤ unsigned_abs (entry table.old i j) + 2 ^ 100 }
     ensures sum_size { (j : ℕ) → j < MOST_COLUMNS → unsigned_abs (slice_index_or total.new j (pos 0)) ≤ unsigned_abs (slice_index_or total.old j (pos 0)) + 2 ^ 34 }
+    ensures zeros { values.new ≡ replicate MOST_COLUMNS (pos 0) }
 {
-    let mut values = [0; MOST_COLUMNS];
-    put_coefficients(&mut values, row, signal, place, integers);
-    let weight = row_weight(signal);
-    let last = BASELINE_COLUMNS + integers;
-    match place {
-        Some(i) => {
-            let columns = [0, 1, 2, BASELINE_COLUMNS + i, last];
-            add_in(table, total, &values, &columns, weight);
-        }
-        None => {
-            let columns = [0, 1, 2, last];
-            add_in(table, total, &values, &columns, weight);
-        }
-    }
+    put_coefficients(values, row, signal, place, integers);
+    add_used(table, total, values, place, integers, row_weight(signal));
+    clear_coefficients(values, place, integers);
 }
 
 /// Adds the weighted products of the coefficients of each row, and gives the sum of the coefficients.
@@ -136,8 +167,17 @@ fn add_rows(
     ensures sum_size { (j : ℕ) → j < MOST_COLUMNS → unsigned_abs (slice_index_or result j (pos 0)) ≤ length rows.now * 2 ^ 34 }
 {
     let mut total = [0; MOST_COLUMNS];
+    let mut values = [0; MOST_COLUMNS];
     for k in 0..rows.len() {
-        add_row(table, &mut total, &rows[k], signal, places[k], integers);
+        add_row(
+            table,
+            &mut total,
+            &mut values,
+            &rows[k],
+            signal,
+            places[k],
+            integers,
+        );
     }
     total
 }

@@ -30,6 +30,7 @@ size_zero x e = omega (arith, ints)
 pub loop-k-init : goal.loop-k-init
 loop-k-init c = record {
   full = refl;
+  zeros = refl;
   products = λ arcs ss p n i j h g. refl;
   sums = λ arcs ss p n j h. zero_first _ _ (zero_item MOST_COLUMNS j);
   table_size = λ i j h g. omega arith;
@@ -61,6 +62,7 @@ loop-k-preserved c =
     let e : drop c.loop-k.k c.args.rows.now ≡ c.index-rows-k.result ∷ later = drop_more c.args.rows.now c.loop-k.k x inside ∙ ap (λ (y : Row). y ∷ later) (sym c.index-rows-k.is) in
     record {
       full = search rules;
+      zeros = c.add_row.ensures.zeros;
       products = λ arcs ss p n i j h g.
           let f : Row → SignalRow = signal_row arcs ss c.args.signal in
           let place : slice_index_or c.args.places.now c.loop-k.k None ≡ integer_place arcs ss c.index-rows-k.result.arc c.args.signal = p c.loop-k.k x inside

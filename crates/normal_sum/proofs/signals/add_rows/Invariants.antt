@@ -1,4 +1,4 @@
-use Rattle.std.proofs.Common.{◌≡◌, ℕ, ◌+◌, ◌*◌, ◌^◌, ◌<◌, ◌≤◌, List, length, map, drop, pos, ◌+ℤ◌, ◌*ℤ◌, unsigned_abs, slice_index_or}
+use Rattle.std.proofs.Common.{◌≡◌, ℕ, ◌+◌, ◌*◌, ◌^◌, ◌<◌, ◌≤◌, List, length, map, replicate, drop, pos, ◌+ℤ◌, ◌*ℤ◌, unsigned_abs, slice_index_or}
 use Rattle.quadratic_form.specs.MatrixEntries.{coefficient_sum, product_sum}
 use Rattle.form_tables.specs.declared.sizes.TheConstants.{MOST_COLUMNS}
 use Rattle.form_tables.specs.Tables.{entry}
@@ -12,6 +12,7 @@ use Rattle.normal_sum.proofs.signals.add_rows.Given as goal
 abbrev pub invariant-loop-k : goal.invariant-loop-k
 invariant-loop-k l = record {
   full : length l.total ≡ MOST_COLUMNS;
+  zeros : l.values ≡ replicate MOST_COLUMNS (pos 0);
   products : (arcs : List Arc) (ss : List ℕ) → ArePlaces arcs ss l.fn.signal l.rows l.places → l.fn.integers ≡ integer_count arcs ss → (i j : ℕ) → i ≤ j → j < MOST_COLUMNS →
       entry l.table i j +ℤ ((pos 360360 *ℤ weight l.fn.signal) *ℤ product_sum (map (signal_row arcs ss l.fn.signal) (drop l.k l.rows)) i j)
       ≡ entry l.initial.table i j +ℤ ((pos 360360 *ℤ weight l.fn.signal) *ℤ product_sum (map (signal_row arcs ss l.fn.signal) l.rows) i j);
