@@ -61,3 +61,31 @@ zero_digit text rest b is e = is ∙ ap (λ (x : ℕ). x ∷ rest) e ∙ ap (λ 
 pub short_word : (z : ℤ) → size_of z < 2 ^ 63 → to_z w64 (of_z w64 z) ≡ z
 short_word (pos n) small = omega (arith, ints)
 short_word (negsuc n) small = omega (arith, ints)
+
+-- a text from its fifth byte on
+pub four_rest : (text : List ℕ) → 4 ≤ length text
+    → text ≡ get_or text 0 0 ∷ (get_or text 1 0 ∷ (get_or text 2 0 ∷ (get_or text 3 0 ∷ take (length text - 4) (drop 4 text))))
+four_rest [] some = absurd (omega arith)
+four_rest (a ∷ []) some = absurd (omega arith)
+four_rest (a ∷ b ∷ []) some = absurd (omega arith)
+four_rest (a ∷ b ∷ c ∷ []) some = absurd (omega arith)
+four_rest (a ∷ b ∷ c ∷ d ∷ rest) some =
+    let whole : take (length (a ∷ b ∷ c ∷ d ∷ rest) - 4) rest ≡ rest = take_all (length (a ∷ b ∷ c ∷ d ∷ rest) - 4) rest (omega arith) in
+    ap (λ (l : List ℕ). a ∷ b ∷ c ∷ d ∷ l) (sym whole)
+
+-- four digits behind a number that isn't 0 are its next
+pub next_four : (n m a b c d : ℕ) (after : List ℕ) → 0 < n → n ≤ 900_000_000_000_000 → is_digit a ≡ true → is_digit b ≡ true → is_digit c ≡ true → is_digit d ≡ true
+    → m ≡ 1000 * (a - 48) + 100 * (b - 48) + 10 * (c - 48) + (d - 48) → decimal (10000 * n + m) ++ after ≡ decimal n ++ (a ∷ (b ∷ (c ∷ (d ∷ after))))
+next_four n m a b c d after some small ia ib ic id is =
+    let da = digit_from a ia in
+    let db = digit_from b ib in
+    let dc = digit_from c ic in
+    let n1 : ℕ = 10 * n + (a - 48) in
+    let n2 : ℕ = 10 * n1 + (b - 48) in
+    let n3 : ℕ = 10 * n2 + (c - 48) in
+    let whole : 10000 * n + m ≡ 10 * n3 + (d - 48) = omega (arith, is) in
+    ap (λ (k : ℕ). decimal k ++ after) whole
+    ∙ next_digit n3 d after (omega arith) (omega (arith, da.1, db.1, dc.1)) id
+    ∙ next_digit n2 c (d ∷ after) (omega arith) (omega (arith, da.1, db.1)) ic
+    ∙ next_digit n1 b (c ∷ (d ∷ after)) (omega arith) (omega (arith, da.1)) ib
+    ∙ next_digit n a (b ∷ (c ∷ (d ∷ after))) some (omega arith) ia

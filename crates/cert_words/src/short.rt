@@ -1,14 +1,17 @@
 // Numbers of at most 18 digits at the head of a text, which nearly all numbers of a certificate are. They are read in 64
 // bits, straight into an array and with no column. Where a text begins otherwise nothing is said of it.
-ghost use Rattle.std.specs.Prelude.{◌≡◌, ◌<◌, ◌≤◌, ◌∷◌, ◌++◌, ◌^◌, length, take, IfSome};
+ghost use Rattle.std.specs.Prelude.{◌≡◌, ◌+◌, ◌-◌, ◌*◌, ◌<◌, ◌≤◌, ◌∷◌, ◌++◌, ◌^◌, length, take, true, IfSome};
 ghost use Rattle.std.specs.Fmt.{decimal, signed_decimal};
-ghost use Rattle.decimal_text.specs.Whole.{size_of};
+ghost use Rattle.decimal_text.specs.Whole.{is_digit, size_of};
 ghost use Rattle.cert_words.specs.Spelling.{behind_blanks};
 
 use crate::numbers::is_digit_byte;
 
 // Behind a number up to this one there is room for one more digit in 63 bits.
 const LAST_SHORT: u64 = 900_000_000_000_000_000;
+
+// Behind one up to this there is room for four.
+const LAST_BEFORE_FOUR: u64 = 900_000_000_000_000;
 
 /// The numbers at the head of a text, so many and each behind one blank, with 0 behind them in the array; and the text
 /// behind them.
@@ -82,8 +85,9 @@ fn further_digits(first: u64, text: &[u8]) -> Option<(u64, &[u8])>
     ensures spelled { IfSome result (λ r. decimal first ++ text.now ≡ decimal r.0 ++ r.1.now) }
     ensures small { IfSome result (λ r. r.0 < 2 ^ 63) }
 {
-    let mut number = first;
-    let mut rest = text;
+    let (begun, behind) = further_fours(first, text);
+    let mut number = begun;
+    let mut rest = behind;
     while let [b, after @ ..] = rest {
         if !is_digit_byte(*b) {
             return Some((number, rest));
@@ -95,4 +99,43 @@ fn further_digits(first: u64, text: &[u8]) -> Option<(u64, &[u8])>
         rest = after;
     }
     Some((number, rest))
+}
+
+// The same as long as four digits follow at a time.
+fn further_fours(first: u64, text: &[u8]) -> (u64, &[u8])
+    requires from { 0 < first }
+    requires to { first < 10 }
+    ensures spelled { decimal first ++ text.now ≡ decimal result.0 ++ result.1.now }
+    ensures some { 0 < result.0 }
+    ensures small { result.0 < 2 ^ 63 }
+{
+    let mut number = first;
+    let mut rest = text;
+    while let [a, b, c, d, after @ ..] = rest {
+        let Some(four) = four_digits(*a, *b, *c, *d) else {
+            return (number, rest);
+        };
+        if number > LAST_BEFORE_FOUR {
+            return (number, rest);
+        }
+        number = 10_000 * number + four;
+        rest = after;
+    }
+    (number, rest)
+}
+
+// What four digits stand for; `None` where one is no digit.
+fn four_digits(a: u8, b: u8, c: u8, d: u8) -> Option<u64>
+    ensures a { IfSome result (λ n. is_digit a ≡ true) }
+    ensures b { IfSome result (λ n. is_digit b ≡ true) }
+    ensures c { IfSome result (λ n. is_digit c ≡ true) }
+    ensures d { IfSome result (λ n. is_digit d ≡ true) }
+    ensures value { IfSome result (λ n. n ≡ 1000 * (a - 48) + 100 * (b - 48) + 10 * (c - 48) + (d - 48)) }
+{
+    if !is_digit_byte(a) || !is_digit_byte(b) || !is_digit_byte(c) || !is_digit_byte(d) {
+        return None;
+    }
+    let front = 1000 * (a - b'0') as u64 + 100 * (b - b'0') as u64;
+    let end = 10 * (c - b'0') as u64 + (d - b'0') as u64;
+    Some(front + end)
 }
