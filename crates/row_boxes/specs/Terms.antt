@@ -1,5 +1,5 @@
 -- What an observation of a row is, over rationals. Lengths in metres and seconds come in, lengths in ι go out.
-use Rattle.std.specs.Prelude.{ℕ, ◌^◌, ◌==◌, ℤ, pos, unsigned_abs, if◌then◌else◌}
+use Rattle.std.specs.Prelude.{ℕ, ◌^◌, ℤ, pos, unsigned_abs, if◌then◌else◌}
 use Rattle.std.proofs.Common.{lit<, pow_pos}
 use Rattle.rational.specs.Rational.{Rational, of_whole, sub_r, mul_r, divided}
 use Rattle.obs_rows.specs.Signals.{wavelength, is_phase}
