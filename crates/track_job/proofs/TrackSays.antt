@@ -17,6 +17,8 @@ use Rattle.job_answers.proofs.EndingLaws.{verdict_at, job_status_at, verdict_who
 use Rattle.rinex_head.specs.Systems.{system_of}
 use Rattle.session_files.specs.SessionFiles.{StopsAtFiles}
 use Rattle.session_files.proofs.FileLaws.{files_status, no_stop}
+use Rattle.session_files.specs.FaultNames.{IsFaultOf}
+use Rattle.session_files.proofs.FaultLaws.{verdict_no_fault, refused_no_fault, none_told}
 use Rattle.pair_refusals.specs.Refusals.{AreRefusedWhole}
 use Rattle.pair_refusals.specs.Admitted.{AreAdmitted}
 use Rattle.pair_refusals.proofs.RefusalLaws.{never_refused, stop_whole, pair_whole}
@@ -65,6 +67,11 @@ pub track_whole : (told : List ℕ → Option (List ℕ)) (left : ℕ → Option
 track_whole told left names o b r n end (inl outcome) =
     stop_whole told left names end (verdict_whole told left names end (verdict_at end _ outcome.end_is (verdict_of (is_track_fixed outcome.outcome.answer))))
 track_whole told left names o b r n end (inr refused) = pair_whole told left names b r o end refused
+
+-- none of these is a read fault
+pub track_named : (sure : List ℕ → Type 0) (names : List (List ℕ)) (o : Options) (b r : ObsFile) (n : Records) (end : Ending) → TrackEnd o b r n end → IsFaultOf sure names end
+track_named sure names o b r n end (inl outcome) = none_told sure names end (verdict_no_fault end (verdict_at end _ outcome.end_is (verdict_of (is_track_fixed outcome.outcome.answer))))
+track_named sure names o b r n end (inr refused) = none_told sure names end (refused_no_fault end _ refused.end_is)
 
 -- ---- what is said
 says_at : (told : List ℕ → Option (List ℕ)) (base rover nav : List ℕ) (o : Options) (end t : Ending) (out : SinkChange) → end ≡ t → SaysOfTrack told base rover nav o t.status out

@@ -14,6 +14,7 @@ use Rattle.track_data.specs.declared.certs.TrackCert.{TrackCert}
 use Rattle.track_spelling.specs.Spelling.{track_spelling}
 use Rattle.track_spelling.specs.Lengths.{IsWholeTrackCert, IsTrackCertificate}
 use Rattle.track_form.specs.Verdicts.{IsTrackVerdict, IsTrackBestIn}
+use Rattle.grammar_lines.specs.Beginnings.{NoneBegins}
 use Rattle.track_text.specs.Rules.{track_reading}
 
 -- the rows of a track and its tail have this verdict
@@ -24,10 +25,12 @@ IsVerdictOn cert v = IsTrackVerdict cert.track.arcs (fine_signals cert.track.sig
 abbrev pub IsBestFor : TrackCert → Type 0
 IsBestFor cert = IsTrackBestIn cert.track.arcs (fine_signals cert.track.signals) cert.track.pairs cert.tail
 
--- the text is no certificate of a track, and is refused at the first place at which the rules fail
+-- The text is no certificate of a track, and is refused at the first place at which the rules fail. None begins with its
+-- lines up to that one.
 pub record IsTrackRefused (name text : List ℕ) (end : Ending) : Type 0 where
   pub at : At
   pub none : IsTrackCertificate text → ⊥
+  pub stuck : NoneBegins IsTrackCertificate text at.line
   pub gives_is : track_reading text ≡ Err at
   pub end_is : end ≡ ending Refused [] (refusal_line name at)
 

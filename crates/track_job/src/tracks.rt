@@ -5,6 +5,7 @@ ghost use Rattle.job_answers.specs.Statuses.{IsVerdictStatus};
 ghost use Rattle.job_answers.specs.Answers.{ending_of, IfEnded};
 ghost use Rattle.job_answers.specs.Endings.{ending};
 ghost use Rattle.track_report.specs.TrackTexts.{track_answer_text, track_outcome_text, IsWholeTrackAnswer};
+ghost use Rattle.session_files.specs.FaultNames.{IsFaultOf};
 ghost use Rattle.pair_refusals.specs.Refusals.{AreRefusedWhole};
 ghost use Rattle.track_job.specs.TrackJobs.{track_status_of, TrackEnd, TrackEnds};
 
@@ -80,6 +81,7 @@ pub fn track<F: Files>(
     ensures opened { OpensAtMost 3 (F.opened files.old) (F.opened files.new) }
     ensures fault { IfEnded result (λ end. end.status ≡ Status.ReadFault → Rose (F.faults files.old) (F.faults files.new)) }
     ensures sure { All (F.is_sure_name files.old) (base.now ∷ rover.now ∷ nav.now ∷ []) → IfEnded result (λ end. end.status ≢ Status.ReadFault) }
+    ensures named { IfEnded result (IsFaultOf (F.is_sure_name files.old) (base.now ∷ rover.now ∷ nav.now ∷ [])) }
 {
     let system = System::of_letter(options.system);
     match read_session(alloc, files, system, base, rover, nav) {

@@ -1,7 +1,7 @@
 use Rattle.std.proofs.Common.{[], ◌∷◌}
 use Rattle.job_answers.proofs.EndingLaws.{ends_weaker, ended_weaker}
 use Rattle.pair_refusals.proofs.RefusalLaws.{stop_whole}
-use Rattle.track_job.proofs.TrackSays.{track_whole}
+use Rattle.track_job.proofs.TrackSays.{track_whole, track_named}
 use Rattle.track_job.proofs.tracks.track.Goals as goal
 
 pub returns-in-Ok-clause-refused : goal.returns-in-Ok-clause-refused
@@ -11,3 +11,7 @@ returns-in-Ok-clause-refused g c =
 pub returns-in-Err-clause-refused : goal.returns-in-Err-clause-refused
 returns-in-Err-clause-refused g c =
     ends_weaker c.in-Err.stop _ _ (λ end refused. stop_whole _ _ (c.args.base.now ∷ c.args.rover.now ∷ c.args.nav.now ∷ []) end refused) c.in-Err.ensures.refused
+
+pub returns-in-Ok-clause-named : goal.returns-in-Ok-clause-named
+returns-in-Ok-clause-named g c =
+    ended_weaker c.answer_session.result _ _ (λ end ends. track_named _ (c.args.base.now ∷ c.args.rover.now ∷ c.args.nav.now ∷ []) _ _ _ _ end ends) c.answer_session.ensures
