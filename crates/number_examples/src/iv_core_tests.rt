@@ -45,18 +45,20 @@ fn adds_and_subtracts_ends(rt: HostRuntime) -> Result<(), Fail> {
     Ok(())
 }
 
+const PRODUCTS: [(i64, i64, i64, i64, Option<(i64, i64)>); 7] = [
+    (-2, 3, 4, 5, Some((-10, 15))),
+    (-3, -2, 4, 5, Some((-15, -8))),
+    (-2, 3, -5, 4, Some((-15, 12))),
+    (MOST, MOST, -1, 1, Some((-MOST, MOST))),
+    (MOST - 1, MOST, 1, 1, Some((MOST - 1, MOST))),
+    (MOST / 2 + 1, MOST / 2 + 1, 2, 2, None),
+    (-MOST, -MOST, 1, 2, None),
+];
+
 #[test]
 fn bounds_products(rt: HostRuntime) -> Result<(), Fail> {
-    let whole: [(i64, i64, i64, i64, Option<(i64, i64)>); 7] = [
-        (-2, 3, 4, 5, Some((-10, 15))),
-        (-3, -2, 4, 5, Some((-15, -8))),
-        (-2, 3, -5, 4, Some((-15, 12))),
-        (MOST, MOST, -1, 1, Some((-MOST, MOST))),
-        (MOST - 1, MOST, 1, 1, Some((MOST - 1, MOST))),
-        (MOST / 2 + 1, MOST / 2 + 1, 2, 2, None),
-        (-MOST, -MOST, 1, 2, None),
-    ];
-    for (a, b, c, d, want) in whole {
+    for row in PRODUCTS.iter() {
+        let (a, b, c, d, want) = *row;
         let found = between(a, b)?.mul_to::<0, 0>(&between(c, d)?);
         assert_eq!(rt; ends_of(found), want, "[{a}, {b}] times [{c}, {d}]");
     }
@@ -69,16 +71,18 @@ fn bounds_products(rt: HostRuntime) -> Result<(), Fail> {
     Ok(())
 }
 
+const SQUARES: [(i64, i64, Option<(i64, i64)>); 5] = [
+    (-2, 3, Some((0, 9))),
+    (-3, 2, Some((0, 9))),
+    (-5, -3, Some((9, 25))),
+    (1 << 31, 1 << 31, Some((MOST, MOST))),
+    (1, (1 << 31) + 1, None),
+];
+
 #[test]
 fn bounds_squares(rt: HostRuntime) -> Result<(), Fail> {
-    let whole: [(i64, i64, Option<(i64, i64)>); 5] = [
-        (-2, 3, Some((0, 9))),
-        (-3, 2, Some((0, 9))),
-        (-5, -3, Some((9, 25))),
-        (1 << 31, 1 << 31, Some((MOST, MOST))),
-        (1, (1 << 31) + 1, None),
-    ];
-    for (a, b, want) in whole {
+    for row in SQUARES.iter() {
+        let (a, b, want) = *row;
         assert_eq!(rt;
             ends_of(between(a, b)?.square_to::<0>()),
             want,
@@ -90,16 +94,18 @@ fn bounds_squares(rt: HostRuntime) -> Result<(), Fail> {
     Ok(())
 }
 
+const QUOTIENTS: [(i64, i64, i64, i64, Option<(i64, i64)>); 5] = [
+    (1, 2, 2, 4, Some((1, 4))),
+    (-1, 2, 3, 3, Some((-2, 3))),
+    (1, 2, -4, -3, Some((-3, -1))),
+    (-MOST, MOST, 4, 4, Some((-MOST, MOST))),
+    (0, MOST, 3, 4, None),
+];
+
 #[test]
 fn bounds_quotients(rt: HostRuntime) -> Result<(), Fail> {
-    let quarters: [(i64, i64, i64, i64, Option<(i64, i64)>); 5] = [
-        (1, 2, 2, 4, Some((1, 4))),
-        (-1, 2, 3, 3, Some((-2, 3))),
-        (1, 2, -4, -3, Some((-3, -1))),
-        (-MOST, MOST, 4, 4, Some((-MOST, MOST))),
-        (0, MOST, 3, 4, None),
-    ];
-    for (a, b, c, d, want) in quarters {
+    for row in QUOTIENTS.iter() {
+        let (a, b, c, d, want) = *row;
         let found = between(a, b)?.div_to::<0, 2>(&between(c, d)?);
         assert_eq!(rt; ends_of(found), want, "[{a}, {b}] over [{c}, {d}]");
     }
@@ -144,37 +150,41 @@ fn joins_and_meets(rt: HostRuntime) -> Result<(), Fail> {
     Ok(())
 }
 
+const WHOLE_ROOTS: [(i64, i64, i64); 7] = [
+    (0, 0, 0),
+    (1, 0, 2),
+    (3, 1, 2),
+    (4, 1, 3),
+    (2_000_000, 1414, 1415),
+    (999_999_999_999_999_999, 999_999_999, 1_000_000_000),
+    (1_000_000_000_000_000_000, 999_999_999, 1_000_000_001),
+];
+
+const FINE_ROOTS: [(i64, i64, i64); 3] = [
+    (2, 1_518_500_249, 1_518_500_250),
+    (
+        999_999_999_999_999_999,
+        1_073_741_823_999_999_998,
+        1_073_741_824_000_000_000,
+    ),
+    (
+        1_000_000_000_000_000_000,
+        1_073_741_823_999_999_999,
+        1_073_741_824_000_000_001,
+    ),
+];
+
 // Of whole numbers, and of 2^60 times them: a guess that is far off would not end in the time of a test.
 #[test]
 fn finds_roots(rt: HostRuntime) -> Result<(), Fail> {
-    let whole: [(i64, i64, i64); 7] = [
-        (0, 0, 0),
-        (1, 0, 2),
-        (3, 1, 2),
-        (4, 1, 3),
-        (2_000_000, 1414, 1415),
-        (999_999_999_999_999_999, 999_999_999, 1_000_000_000),
-        (1_000_000_000_000_000_000, 999_999_999, 1_000_000_001),
-    ];
-    for (n, lo, hi) in whole {
+    for row in WHOLE_ROOTS.iter() {
+        let (n, lo, hi) = *row;
         assert!(rt; 0 <= n && n <= MOST);
         let found = Iv::<0>::from_ends(n, n).root_to::<0>();
         assert_eq!(rt; (found.lo, found.hi), (lo, hi), "the root of {n}");
     }
-    let fine: [(i64, i64, i64); 3] = [
-        (2, 1_518_500_249, 1_518_500_250),
-        (
-            999_999_999_999_999_999,
-            1_073_741_823_999_999_998,
-            1_073_741_824_000_000_000,
-        ),
-        (
-            1_000_000_000_000_000_000,
-            1_073_741_823_999_999_999,
-            1_073_741_824_000_000_001,
-        ),
-    ];
-    for (n, lo, hi) in fine {
+    for row in FINE_ROOTS.iter() {
+        let (n, lo, hi) = *row;
         assert!(rt; 0 <= n && n <= MOST);
         let found = Iv::<0>::from_ends(n, n).root_to::<30>();
         assert_eq!(rt; (found.lo, found.hi), (lo, hi), "the root of {n}");
