@@ -1,14 +1,15 @@
 -- What one more satellite adds to the counts.
-use Rattle.std.proofs.Common.{◌≡◌, ℕ, ◌+◌, ◌<◌, ◌≤◌, Bool, true, false, true≢false, not, ◌||◌, cond, nat_eq, List, [], ◌∷◌, ◌++◌, length, map, filter, refl, sym, ap, subst, ◌∙◌, arith, None, Some, unwrap_or, append_assoc, add-one, length-append, length-take, take, get_or, slice_index, zero, suc, Option, inl, inr}
+use Rattle.std.proofs.Common.{◌≡◌, ℕ, ◌+◌, ◌<◌, ◌≤◌, Bool, true, false, true≢false, not, ◌||◌, cond, nat_eq, List, [], ◌∷◌, ◌++◌, length, All, map, filter, set, replicate, refl, sym, ap, subst, ◌∙◌, arith, append_assoc, add-one, length-append, length-take, take, get_or, slice_index, zero, suc, inl, inr}
 use Rattle.std.specs.List.{list_any, IsDistinct, AllByRecursion}
-use Rattle.std.specs.Map.{lookup}
 use Rattle.std.proofs.lemmas.Bool.{eqb-true, eq-eqb}
 use Rattle.std.proofs.lemmas.Bool.Decides.{eqb_tells}
 use Rattle.std.proofs.lemmas.Grind.{flat_map-append}
-use Rattle.std.proofs.lemmas.List.{append-nil, map-append, get_or-take, get_or_default}
+use Rattle.std.proofs.lemmas.List.{append-nil, map-append, get_or-take, get_or_default, get_or-set_other, get_or-replicate, length-set, take_all}
+use Rattle.std.proofs.lemmas.List.Elements.{All-push}
+use Rattle.std.proofs.lemmas.Grind.{get_or-set_at}
 use Rattle.std.proofs.lemmas.List.Folds.{list_any-append, list_any_none}
 use Rattle.std.proofs.lemmas.List.Sums.{sum_by-append, sum_by-cons, count_by-le-length}
-use Rattle.std.proofs.lemmas.Map.Keys.{IsDistinct-head, IsDistinct-tail, IsDistinct-cons}
+use Rattle.std.proofs.lemmas.Map.Keys.{IsDistinct-head, IsDistinct-tail, IsDistinct-cons, apart_from_distinct}
 use Rattle.std.proofs.lemmas.Map.Views.{any-filter_same}
 use Rattle.indexmap.specs.IndexMap.{insert_entry}
 use Rattle.obs_store.specs.declared.values.SatObs.{SatObs}
@@ -16,6 +17,7 @@ use Rattle.obs_store.specs.declared.series.Epoch.{Epoch}
 use Rattle.std.proofs.Math.Seq.{take-suc}
 use Rattle.obs_store.specs.Satellites.{has_satellite, AreSatellites}
 use Rattle.obs_store.specs.Epochs.{AreEpochs}
+use Rattle.obs_store.specs.Counts.{with_number, numbered, IsCountOf}
 use Rattle.obs_store.specs.Seen.{first_seen, numbers_of, all_numbers, epochs_with, seen_in}
 
 -- the number added at the end, where it isn't there yet
@@ -68,26 +70,6 @@ any-first_seen n (x ∷ xs) =
       | inr p ↦ rw p.0 (any-filter_same (nat_eq n) (λ m. not (nat_eq x m)) true (λ k t. rw (← eqb-true n k t, flip x n p.0) refl) (first_seen xs) ∙ any-first_seen n xs)
     ]
 
-abbrev entries : (ℕ → ℕ) → List ℕ → List (ℕ × ℕ)
-entries f ns = map (λ n. (n, f n)) ns
-
-lookup-entries : (f : ℕ → ℕ) (n : ℕ) (ns : List ℕ) → lookup (nat_eq n) (entries f ns) ≡ cond (list_any (nat_eq n) ns) (Some (f n)) None
-lookup-entries f n [] = refl
-lookup-entries f n (x ∷ xs) =
-    elim (eqb_tells n x) [ inl p ↦ rw p.0 (ap (λ z. Some (f z)) (sym p.1)) | inr p ↦ rw p.0 (lookup-entries f n xs) ]
-
-entries-same : (f g : ℕ → ℕ) (n : ℕ) (ns : List ℕ) → AllByRecursion (λ m. nat_eq n m ≡ false) ns → ((m : ℕ) → nat_eq n m ≡ false → g m ≡ f m) → entries f ns ≡ entries g ns
-entries-same f g n [] apart same = refl
-entries-same f g n (x ∷ xs) apart same = rw (← same x apart.0) (ap (λ l. (x, g x) ∷ l) (entries-same f g n xs apart.1 same))
-
-insert-entries : (f g : ℕ → ℕ) (n v : ℕ) (ns : List ℕ) → IsDistinct nat_eq ns → v ≡ g n → ((m : ℕ) → nat_eq n m ≡ false → g m ≡ f m) → insert_entry nat_eq (entries f ns) n v ≡ entries g (put n ns)
-insert-entries f g n v [] distinct is same = rw is refl
-insert-entries f g n v (x ∷ xs) distinct is same =
-    elim (eqb_tells n x) [
-      | inl p ↦ rw p.0 (let at : v ≡ g x = is ∙ ap g p.1 in rw at (ap (λ l. (x, g x) ∷ l) (entries-same f g n xs (subst (λ z. AllByRecursion (λ m. nat_eq z m ≡ false) xs) (sym p.1) (IsDistinct-head nat_eq x xs distinct)) same)))
-      | inr p ↦ rw p.0 (rw (← same x p.0) (ap (λ l. (x, g x) ∷ l) (insert-entries f g n v xs (IsDistinct-tail nat_eq x xs distinct) is same)))
-    ]
-
 has_satellite-numbers : (n : ℕ) (ss : List SatObs) → list_any (nat_eq n) (numbers_of ss) ≡ has_satellite n ss
 has_satellite-numbers n [] = refl
 has_satellite-numbers n (s ∷ ss) = ap (λ b. nat_eq n s.number || b) (has_satellite-numbers n ss)
@@ -129,16 +111,6 @@ absent n (x ∷ xs) none =
     let first : has_satellite n x.sats ≡ false = sym (has_satellite-numbers n x.sats) ∙ (neither _ _ split).0 in
     sum_by-cons (λ (f : Epoch). cond (has_satellite n f.sats) 1 0) x xs ∙ rw first (omega (arith, absent n xs (neither _ _ split).1))
 
--- the count that the map has of a satellite
-pub count_is : (n : ℕ) (es : List Epoch) → unwrap_or (lookup (nat_eq n) (seen_in es)) 0 ≡ epochs_with n es
-count_is n es =
-    rw (lookup-entries (λ m. epochs_with m es) n (first_seen (all_numbers es)))
-    (by (list_any (nat_eq n) (first_seen (all_numbers es))) refl)
-  where
-    by : (b : Bool) → list_any (nat_eq n) (first_seen (all_numbers es)) ≡ b → unwrap_or (cond b (Some (epochs_with n es)) None) 0 ≡ epochs_with n es
-    by true e = refl
-    by false e = sym (absent n es (sym (any-first_seen n (all_numbers es)) ∙ e))
-
 pub count_few : (n : ℕ) (es : List Epoch) → epochs_with n es ≤ length es
 count_few n es = count_by-le-length (λ (e : Epoch). has_satellite n e.sats) es
 
@@ -160,33 +132,9 @@ numbers_more es e ss s =
 has_same : (m : ℕ) (ss : List SatObs) (s : SatObs) → nat_eq s.number m ≡ false → has_satellite m (ss ++ s ∷ []) ≡ has_satellite m ss
 has_same m ss s apart = has_satellite-push m ss s ∙ rw (flip m s.number apart) (or_false (has_satellite m ss))
 
--- one more satellite, which the epoch doesn't have yet
-pub seen_more : (es : List Epoch) (e : Epoch) (ss : List SatObs) (s : SatObs) (v : ℕ)
-    → has_satellite s.number ss ≡ false → v ≡ epochs_with s.number (es ++ with_sats e ss ∷ []) + 1
-    → insert_entry nat_eq (seen_in (es ++ with_sats e ss ∷ [])) s.number v ≡ seen_in (es ++ with_sats e (ss ++ s ∷ []) ∷ [])
-seen_more es e ss s v fresh is =
-    let before = es ++ with_sats e ss ∷ [] in
-    let behind = es ++ with_sats e (ss ++ s ∷ []) ∷ [] in
-    let there : has_satellite s.number (ss ++ s ∷ []) ≡ true = has_satellite-push s.number ss s ∙ rw (fresh, eq-eqb s.number s.number refl) refl in
-    let old : epochs_with s.number before ≡ epochs_with s.number es + 0 = epochs_with-push s.number es (with_sats e ss) ∙ rw fresh refl in
-    let new : epochs_with s.number behind ≡ epochs_with s.number es + 1 = epochs_with-push s.number es (with_sats e (ss ++ s ∷ [])) ∙ rw there refl in
-    insert-entries (λ m. epochs_with m before) (λ m. epochs_with m behind) s.number v (first_seen (all_numbers before))
-    (first_seen-distinct (all_numbers before)) (omega arith)
-    (λ m apart. epochs_with-push m es (with_sats e (ss ++ s ∷ [])) ∙ rw (has_same m ss s apart) (sym (epochs_with-push m es (with_sats e ss))))
-    ∙ ap (λ l. entries (λ m. epochs_with m behind) l) (sym (first_seen-push (all_numbers before) s.number) ∙ ap first_seen (sym (numbers_more es e ss s)))
-
--- a count that was looked up
-pub counted : (n r : ℕ) (found : Option ℕ) (es : List Epoch) (held : List (ℕ × ℕ)) → r ≡ unwrap_or found 0 → found ≡ lookup (nat_eq n) held → held ≡ seen_in es → r ≡ epochs_with n es
-counted n r found es held is got same = is ∙ ap (λ o. unwrap_or o 0) got ∙ ap (λ l. unwrap_or (lookup (nat_eq n) l) 0) same ∙ count_is n es
-
 -- the epochs before one, and this one with its satellites so far
 abbrev pub so_far : List Epoch → ℕ → Epoch → List SatObs → ℕ → List Epoch
 so_far xs at e ss k = take at xs ++ with_sats e (take k ss) ∷ []
-
-pub counted_few : (n at r : ℕ) (xs : List Epoch) (e : Epoch) (ss : List SatObs) (k : ℕ) → AreEpochs xs → at < length xs → r ≡ epochs_with n (so_far xs at e ss k) → r ≤ 20_000
-counted_few n at r xs e ss k are inside is =
-    let len : length (so_far xs at e ss k) ≡ at + 1 = simp (length-append, length-take) (omega arith) in
-    omega (arith, are.few, count_few n (so_far xs at e ss k))
 
 -- no satellite before has the number of this one
 fresh_at : (ss : List SatObs) (k : ℕ) (z : SatObs) → AreSatellites ss → k < length ss → has_satellite (get_or ss k z).number (take k ss) ≡ false
@@ -203,12 +151,166 @@ number_in [] k z inside = absurd (omega arith)
 number_in (s ∷ ss) zero z inside = refl
 number_in (s ∷ ss) (suc k) z inside = number_in ss k z (omega arith)
 
+-- the number stands among these, or goes behind them
+put_there : (n : ℕ) (xs : List ℕ) → list_any (nat_eq n) xs ≡ true → put n xs ≡ xs
+put_there n [] some = absurd (true≢false (sym some))
+put_there n (x ∷ xs) some =
+    elim (eqb_tells n x) [
+      | inl p ↦ rw p.0 refl
+      | inr p ↦ rw p.0 (ap (λ l. x ∷ l) (put_there n xs (subst (λ (b : Bool). (b || list_any (nat_eq n) xs) ≡ true) p.0 some)))
+    ]
+
+put_new : (n : ℕ) (xs : List ℕ) → list_any (nat_eq n) xs ≡ false → put n xs ≡ xs ++ n ∷ []
+put_new n [] none = refl
+put_new n (x ∷ xs) none =
+    let split = neither (nat_eq n x) (list_any (nat_eq n) xs) none in
+    rw split.0 (ap (λ l. x ∷ l) (put_new n xs split.1))
+
+-- some epoch has a number that was seen
+present : (n : ℕ) (es : List Epoch) → list_any (nat_eq n) (all_numbers es) ≡ true → 1 ≤ epochs_with n es
+present n [] some = absurd (true≢false (sym some))
+present n (x ∷ xs) some = by (has_satellite n x.sats) refl
+  where
+    counts : epochs_with n (x ∷ xs) ≡ cond (has_satellite n x.sats) 1 0 + epochs_with n xs
+    counts = sum_by-cons (λ (f : Epoch). cond (has_satellite n f.sats) 1 0) x xs
+    by : (t : Bool) → has_satellite n x.sats ≡ t → 1 ≤ epochs_with n (x ∷ xs)
+    by true has = let one : epochs_with n (x ∷ xs) ≡ 1 + epochs_with n xs = counts ∙ rw has refl in omega arith
+    by false lacks =
+        let split : (list_any (nat_eq n) (numbers_of x.sats) || list_any (nat_eq n) (all_numbers xs)) ≡ true = sym (list_any-append (nat_eq n) (numbers_of x.sats) (all_numbers xs)) ∙ some in
+        let first : list_any (nat_eq n) (numbers_of x.sats) ≡ false = has_satellite-numbers n x.sats ∙ lacks in
+        let rest : list_any (nat_eq n) (all_numbers xs) ≡ true = subst (λ (b : Bool). (b || list_any (nat_eq n) (all_numbers xs)) ≡ true) first split in
+        let none : epochs_with n (x ∷ xs) ≡ 0 + epochs_with n xs = counts ∙ rw lacks refl in
+        omega (arith, present n xs rest)
+
+-- the number goes behind the others exactly where no epoch has it yet
+with_number-put : (n : ℕ) (es : List Epoch) → with_number (epochs_with n es) n (first_seen (all_numbers es)) ≡ put n (first_seen (all_numbers es))
+with_number-put n es = by (list_any (nat_eq n) (all_numbers es)) refl
+  where
+    stays : (count : ℕ) → 1 ≤ count → with_number count n (first_seen (all_numbers es)) ≡ first_seen (all_numbers es)
+    stays zero some = absurd (omega arith)
+    stays (suc count) some = refl
+    by : (t : Bool) → list_any (nat_eq n) (all_numbers es) ≡ t → with_number (epochs_with n es) n (first_seen (all_numbers es)) ≡ put n (first_seen (all_numbers es))
+    by true some = stays (epochs_with n es) (present n es some) ∙ sym (put_there n (first_seen (all_numbers es)) (any-first_seen n (all_numbers es) ∙ some))
+    by false none =
+        ap (λ (count : ℕ). with_number count n (first_seen (all_numbers es))) (absent n es none)
+        ∙ sym (put_new n (first_seen (all_numbers es)) (any-first_seen n (all_numbers es) ∙ none))
+
+with_inside : (count n : ℕ) (order : List ℕ) → All (λ m. m ≤ 36) order → n ≤ 36 → All (λ m. m ≤ 36) (with_number count n order)
+with_inside zero n order inside small = All-push (λ m. m ≤ 36) order n inside small
+with_inside (suc count) n order inside small = inside
+
+-- no epoch was counted
+pub none_counted : (counts : List ℕ) → counts ≡ replicate 37 0 → IsCountOf [] [] counts
+none_counted counts are = record {
+  order_is = refl;
+  inside = λ k d lt. absurd (omega arith);
+  as_many = rw are (length-replicate 37 0);
+  counts_are = λ n small. rw are (get_or-replicate 37 n 0 0 (omega arith));
+}
+
+-- an epoch of which no satellite is counted yet
+pub begun : (es : List Epoch) (e : Epoch) (order counts : List ℕ) → IsCountOf es order counts → IsCountOf (es ++ with_sats e [] ∷ []) order counts
+begun es e order counts is = record {
+  order_is = is.order_is ∙ ap first_seen (sym (all_numbers-push es (with_sats e []) ∙ append-nil (all_numbers es)));
+  inside = is.inside;
+  as_many = is.as_many;
+  counts_are = λ n small. is.counts_are n small ∙ sym (epochs_with-push n es (with_sats e []) ∙ omega arith);
+}
+
 -- one more satellite of an epoch
-pub seen_step : (es : List Epoch) (e : Epoch) (ss : List SatObs) (k : ℕ) (z : SatObs) (count : ℕ) (held new : List (ℕ × ℕ))
-    → AreSatellites ss → k < length ss → count ≡ epochs_with (get_or ss k z).number (es ++ with_sats e (take k ss) ∷ [])
-    → held ≡ seen_in (es ++ with_sats e (take k ss) ∷ []) → new ≡ insert_entry nat_eq held (get_or ss k z).number (count + 1)
-    → new ≡ seen_in (es ++ with_sats e (take (k + 1) ss) ∷ [])
-seen_step es e ss k z count held new are inside counts same is =
-    is ∙ ap (λ l. insert_entry nat_eq l (get_or ss k z).number (count + 1)) same
-    ∙ seen_more es e (take k ss) (get_or ss k z) (count + 1) (fresh_at ss k z are inside) (ap (λ m. m + 1) counts)
-    ∙ ap (λ l. seen_in (es ++ with_sats e l ∷ [])) (sym (rw add-one (take-suc ss k z inside)))
+pub one_more : (es : List Epoch) (e : Epoch) (ss : List SatObs) (k : ℕ) (z : SatObs) (n : ℕ) (order counts order₂ counts₂ : List ℕ)
+    → AreSatellites ss → k < length ss → n ≡ (get_or ss k z).number → IsCountOf (es ++ with_sats e (take k ss) ∷ []) order counts
+    → order₂ ≡ with_number (get_or counts n 0) n order → counts₂ ≡ set counts n (get_or counts n 0 + 1)
+    → IsCountOf (es ++ with_sats e (take (k + 1) ss) ∷ []) order₂ counts₂
+one_more es e ss k z n order counts order₂ counts₂ are inside number is order_is counts_is =
+    subst (λ (l : List SatObs). IsCountOf (es ++ with_sats e l ∷ []) order₂ counts₂) (sym (rw add-one (take-suc ss k z inside))) (record {
+      order_is = order_is
+          ∙ ap (λ (o : List ℕ). with_number (get_or counts n 0) n o) is.order_is
+          ∙ ap (λ (count : ℕ). with_number count n (first_seen (all_numbers before))) (is.counts_are n small)
+          ∙ with_number-put n before ∙ sym (first_seen-push (all_numbers before) n) ∙ ap (λ (m : ℕ). first_seen (all_numbers before ++ m ∷ [])) number
+          ∙ ap first_seen (sym (numbers_more es e (take k ss) s));
+      inside = subst (λ (o : List ℕ). All (λ m. m ≤ 36) o) (sym order_is) (with_inside (get_or counts n 0) n order is.inside small);
+      as_many = ap length counts_is ∙ length-set counts n (get_or counts n 0 + 1) ∙ is.as_many;
+      counts_are = λ m few. ap (λ (l : List ℕ). get_or l m 0) counts_is ∙ counted m few;
+    })
+  where
+    s : SatObs
+    s = get_or ss k z
+    before behind : List Epoch
+    before = es ++ with_sats e (take k ss) ∷ []
+    behind = es ++ with_sats e (take k ss ++ s ∷ []) ∷ []
+    small : n ≤ 36
+    small = subst (λ (m : ℕ). m ≤ 36) (sym number) (are.numbers k z inside).1
+    fresh : has_satellite s.number (take k ss) ≡ false
+    fresh = fresh_at ss k z are inside
+    there : has_satellite s.number (take k ss ++ s ∷ []) ≡ true
+    there = has_satellite-push s.number (take k ss) s ∙ rw (fresh, eq-eqb s.number s.number refl) refl
+    old : epochs_with s.number before ≡ epochs_with s.number es + 0
+    old = epochs_with-push s.number es (with_sats e (take k ss)) ∙ rw fresh refl
+    new : epochs_with s.number behind ≡ epochs_with s.number es + 1
+    new = epochs_with-push s.number es (with_sats e (take k ss ++ s ∷ [])) ∙ rw there refl
+    one : epochs_with n before + 1 ≡ epochs_with n behind
+    one = subst (λ (m : ℕ). epochs_with m before + 1 ≡ epochs_with m behind) (sym number) (omega (arith, old, new))
+    same : (m : ℕ) → nat_eq n m ≡ false → epochs_with m before ≡ epochs_with m behind
+    same m apart =
+        epochs_with-push m es (with_sats e (take k ss))
+        ∙ sym (epochs_with-push m es (with_sats e (take k ss ++ s ∷ [])) ∙ rw (has_same m (take k ss) s (subst (λ (x : ℕ). nat_eq x m ≡ false) number apart)) refl)
+    counted : (m : ℕ) → m ≤ 36 → get_or (set counts n (get_or counts n 0 + 1)) m 0 ≡ epochs_with m behind
+    counted m few =
+        elim (eqb_tells n m) [
+          | inl p ↦ get_or-set_at counts n m (get_or counts n 0 + 1) 0 (sym p.1) (omega (arith, is.as_many, small)) ∙ ap (λ x. x + 1) (is.counts_are n small) ∙ one ∙ ap (λ (x : ℕ). epochs_with x behind) p.1
+          | inr p ↦ get_or-set_other counts n m (get_or counts n 0 + 1) 0 (λ e₂. true≢false (sym (eq-eqb n m (sym e₂)) ∙ p.0)) ∙ is.counts_are m few ∙ same m p.0
+        ]
+
+-- all satellites of an epoch
+pub whole_epoch : (xs : List Epoch) (at k : ℕ) (d : Epoch) (order counts : List ℕ) → at < length xs → k ≡ length (get_or xs at d).sats
+    → IsCountOf (take at xs ++ with_sats (get_or xs at d) (take k (get_or xs at d).sats) ∷ []) order counts → IsCountOf (take (at + 1) xs) order counts
+whole_epoch xs at k d order counts inside all is =
+    subst (λ (l : List Epoch). IsCountOf l order counts) (sym (rw add-one (take-suc xs at d inside)))
+    (subst (λ (l : List SatObs). IsCountOf (take at xs ++ with_sats (get_or xs at d) l ∷ []) order counts) (take_all k (get_or xs at d).sats (omega arith)) is)
+
+-- a count is at most that of the epochs
+pub counted_few : (n at : ℕ) (xs : List Epoch) (e : Epoch) (ss : List SatObs) (k : ℕ) (order counts : List ℕ) → AreEpochs xs → at < length xs → n ≤ 36
+    → IsCountOf (take at xs ++ with_sats e (take k ss) ∷ []) order counts → get_or counts n 0 ≤ 20_000
+counted_few n at xs e ss k order counts are inside small is =
+    let epochs = take at xs ++ with_sats e (take k ss) ∷ [] in
+    let len : length epochs ≡ at + 1 = simp (length-append, length-take) (omega arith) in
+    omega (arith, are.few, count_few n epochs, is.counts_are n small)
+
+-- ---- the map
+-- a number in its place isn't among those before it
+pub fresh_number : (order : List ℕ) (k : ℕ) → IsDistinct nat_eq order → k < length order → list_any (nat_eq (get_or order k 0)) (take k order) ≡ false
+fresh_number order k distinct inside =
+    list_any_none (nat_eq (get_or order k 0)) (take k order) (λ j d h. apart j d (omega (arith, length-take k order)))
+  where
+    apart : (j : ℕ) (d : ℕ) → j < k → nat_eq (get_or order k 0) (get_or (take k order) j d) ≡ false
+    apart j d short =
+        rw (get_or-take, get_or_default order j d 0 (omega arith)) (flip (get_or order k 0) (get_or order j 0) (apart_from_distinct nat_eq order j k 0 distinct short inside))
+
+-- a new key goes behind the others
+insert_new : (counts : List ℕ) (n v : ℕ) (ns : List ℕ) → list_any (nat_eq n) ns ≡ false → insert_entry nat_eq (numbered counts ns) n v ≡ numbered counts ns ++ (n, v) ∷ []
+insert_new counts n v [] none = refl
+insert_new counts n v (x ∷ xs) none =
+    let split = neither (nat_eq n x) (list_any (nat_eq n) xs) none in
+    rw split.0 (ap (λ l. (x, get_or counts x 0) ∷ l) (insert_new counts n v xs split.1))
+
+pub one_entry : (counts order : List ℕ) (k : ℕ) (held new : List (ℕ × ℕ)) → IsDistinct nat_eq order → k < length order → held ≡ numbered counts (take k order)
+    → new ≡ insert_entry nat_eq held (get_or order k 0) (get_or counts (get_or order k 0) 0) → new ≡ numbered counts (take (k + 1) order)
+one_entry counts order k held new distinct inside same is =
+    let n = get_or order k 0 in
+    is ∙ ap (λ l. insert_entry nat_eq l n (get_or counts n 0)) same
+    ∙ insert_new counts n (get_or counts n 0) (take k order) (fresh_number order k distinct inside)
+    ∙ sym (map-append (λ (m : ℕ). (m, get_or counts m 0)) (take k order) (n ∷ []))
+    ∙ ap (λ l. numbered counts l) (sym (rw add-one (take-suc order k 0 inside)))
+
+same_entries : (f g : ℕ → ℕ) (ns : List ℕ) → All (λ n. n ≤ 36) ns → ((n : ℕ) → n ≤ 36 → f n ≡ g n) → map (λ n. (n, f n)) ns ≡ map (λ n. (n, g n)) ns
+same_entries f g [] small same = refl
+same_entries f g (n ∷ ns) small same =
+    rw (same n (small 0 0 (omega arith))) (ap (λ l. (n, g n) ∷ l) (same_entries f g ns (λ k d lt. small (suc k) d (omega arith)) same))
+
+pub seen_so : (es : List Epoch) (order counts : List ℕ) → IsCountOf es order counts → numbered counts order ≡ seen_in es
+seen_so es order counts is =
+    same_entries (λ n. get_or counts n 0) (λ n. epochs_with n es) order is.inside is.counts_are ∙ ap (λ l. map (λ n. (n, epochs_with n es)) l) is.order_is
+
+pub order_distinct : (es : List Epoch) (order counts : List ℕ) → IsCountOf es order counts → IsDistinct nat_eq order
+order_distinct es order counts is = subst (λ (l : List ℕ). IsDistinct nat_eq l) (sym is.order_is) (first_seen-distinct (all_numbers es))

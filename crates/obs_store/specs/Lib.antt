@@ -4,3 +4,4 @@ pub mod Satellites
 pub mod Stored
 pub mod Epochs
 pub mod Seen
+pub mod Counts

@@ -1,1 +1,6 @@
+pub mod Steps
 pub mod FormLaws
+pub mod FormTook
+pub mod FormPlaces
+pub mod Feeds
+pub mod Admits

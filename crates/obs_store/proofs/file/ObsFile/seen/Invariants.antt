@@ -1,7 +1,7 @@
 -- The epochs so far.
-use Rattle.std.proofs.Common.{◌≡◌, take}
-use Rattle.obs_store.specs.Seen.{seen_in}
+use Rattle.std.proofs.Common.{take}
+use Rattle.obs_store.specs.Counts.{IsCountOf}
 use Rattle.obs_store.proofs.file.ObsFile.seen.Given as goal
 
 abbrev pub invariant-loop-at : goal.invariant-loop-at
-invariant-loop-at l = l.seen.entries ≡ seen_in (take l.at l.epochs)
+invariant-loop-at l = IsCountOf (take l.at l.epochs) l.tally.order.items l.tally.counts
