@@ -14,7 +14,7 @@ use Rattle.rinex_obs.specs.FirstLine.{first_line_of}
 use Rattle.rinex_obs.specs.HeaderLines.{header_line_of}
 use Rattle.rinex_obs.specs.ObsForm.{IsHeader}
 use Rattle.rinex_obs.specs.declared.header.Header.{Header}
-use Rattle.rinex_obs.specs.declared.header_lines.HeaderLine.TheVariants as header
+use Rattle.obs_fields.specs.declared.header_line.HeaderLine.TheVariants as header
 use Rattle.sim_texts.specs.declared.signals.Tracking.{Tracking}
 use Rattle.sim_texts.specs.declared.signals.Tracking.TheVariants.{GpsL1L2, GpsL1L2L5, GalileoE1E5a}
 use Rattle.sim_texts.specs.Tracked.{system_letter}

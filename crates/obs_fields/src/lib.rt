@@ -4,6 +4,7 @@
 
 mod amounts;
 mod epoch_fields;
+mod header_line;
 mod labels;
 mod layout;
 mod offsets;
@@ -11,6 +12,7 @@ mod sat_fields;
 mod types;
 
 pub use epoch_fields::{comes_later, count, moment};
+pub use header_line::HeaderLine;
 pub use labels::{Label, event_line, label_of_line};
 pub use layout::Layout;
 pub use offsets::{delta, position};

@@ -7,9 +7,9 @@ ghost use Rattle.rinex2_obs.specs.FirstLine.{version_number, of_kind, first_line
 ghost use Rattle.rinex2_obs.specs.Rows.{rows_of};
 ghost use Rattle.rinex2_obs.specs.Obs2Rules.{HeaderSoFar, First, Head, Body, bare_header, with_types, more_types, obs2_rules};
 
-use crate::header_lines::{HeaderLine, header_line};
+use crate::header_lines::header_line;
 use line_source::{Line, Lines};
-use obs_fields::{Layout, TypeList, TypeNames, first_types, further_types};
+use obs_fields::{HeaderLine, Layout, TypeList, TypeNames, first_types, further_types};
 use rinex_head::{At, FIRST_LABEL, Flaw, What, byte_in, field, fixed, head_line, next_line};
 
 /// What a header says.

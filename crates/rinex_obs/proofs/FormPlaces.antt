@@ -23,7 +23,7 @@ use Rattle.obs_fields.specs.Labels.{label_in, event_line_of}
 use Rattle.obs_fields.specs.SatFields.{satellite_at}
 use Rattle.rinex_obs.specs.SatLines.{satellite_line_of}
 use Rattle.rinex_obs.specs.declared.header.Header.{Header}
-use Rattle.rinex_obs.specs.declared.header_lines.HeaderLine.TheVariants as header
+use Rattle.obs_fields.specs.declared.header_line.HeaderLine.TheVariants as header
 use Rattle.obs_fields.specs.declared.labels.Label.TheVariants as label
 use Rattle.rinex_obs.specs.ObsRules.{HeaderSoFar, Expected, First, Head, More, Body, Sats, Skip, bare_header, with_types, whole_header, file_of, more_types, more_sats, more_lines, admit, obs_rules}
 use Rattle.rinex_obs.specs.ObsForm.{IsObsFile, HasObsFile}

@@ -1,12 +1,12 @@
 -- Lines that give a file are one of the grammar.
-use Rattle.std.proofs.Common.{◌≡◌, ◌≤◌, ◌+◌, ◌-◌, ℕ, ℤ, zero, suc, pos, Bool, List, [], ◌∷◌, ◌++◌, length, Result, Ok, Err, Option, Some, None, refl, sym, ap, ◌∙◌, subst, arith, append_assoc}
+use Rattle.std.proofs.Common.{◌≡◌, ◌+◌, ◌-◌, ℕ, zero, suc, pos, Bool, List, [], ◌∷◌, ◌++◌, length, Result, Ok, Err, Option, Some, None, refl, sym, ap, ◌∙◌, subst, arith, append_assoc}
 use Rattle.std.proofs.lemmas.List.{append-nil}
 use Rattle.gps_time.specs.declared.Tick.{Tick}
 use Rattle.obs_store.specs.declared.file.ObsFile.{ObsFile}
 use Rattle.obs_store.specs.declared.series.Epoch.{Epoch}
 use Rattle.obs_store.specs.declared.values.SatObs.{SatObs}
 use Rattle.rinex_head.specs.declared.place.What.{What}
-use Rattle.rinex_head.specs.declared.place.What.TheVariants.{NoEnd, Truncated}
+use Rattle.rinex_head.specs.declared.place.What.TheVariants.{Truncated}
 use Rattle.rinex_head.specs.declared.place.Flaw.{Flaw}
 use Rattle.rinex_head.specs.Places.{and_then, flawed, at_line}
 use Rattle.rinex_head.specs.declared.system.System.{System}
@@ -14,21 +14,19 @@ use Rattle.rinex_head.specs.Systems.{bad_version}
 use Rattle.rinex_head.specs.Walk.{walk}
 use Rattle.rinex_head.proofs.Walks.{walk-end, TookLine, walk-took}
 use Rattle.rinex_obs.specs.FirstLine.{first_line_of}
-use Rattle.rinex_obs.specs.HeaderLines.{header_line_of}
-use Rattle.obs_fields.specs.Types.{kept_from, first_types_of, further_types_of}
+use Rattle.obs_fields.specs.Types.{kept_from}
 use Rattle.obs_fields.specs.declared.layout.Layout.TheVariants.{Rinex3}
 use Rattle.obs_fields.specs.Labels.{event_line_of}
 use Rattle.rinex_obs.specs.EpochLines.{epoch_line_of}
 use Rattle.rinex_obs.specs.SatLines.{satellite_line_of}
-use Rattle.obs_fields.specs.declared.types.TypeList.{TypeList}
 use Rattle.rinex_obs.specs.declared.header.Header.{Header}
-use Rattle.rinex_obs.specs.declared.header_lines.HeaderLine.{HeaderLine}
-use Rattle.rinex_obs.specs.declared.header_lines.HeaderLine.TheVariants as header
 use Rattle.rinex_obs.specs.declared.epoch_lines.EpochLine.{EpochLine}
 use Rattle.rinex_obs.specs.declared.epoch_lines.EpochLine.TheVariants as line
-use Rattle.rinex_obs.specs.ObsRules.{HeaderSoFar, Expected, First, Head, More, Body, Sats, Skip, so_far, bare_header, whole_header, file_of, epoch_of, more_types, more_sats, more_lines, after_header, after_epoch, with_satellite, obs_rules}
-use Rattle.rinex_obs.specs.ObsForm.{HeadPart, AreHeadParts, head_lines, last_position, last_delta, AreFurther, IsTypeList, EpochPart, EventPart, Part, Blank, Event, Epoch_, satellites_of, AreSatLines, AreEventLines, AreParts, epochs_of, body_lines, IsObsFile}
-use Rattle.rinex_obs.proofs.FormLaws.{regroup}
+use Rattle.rinex_obs.specs.ObsRules.{Expected, First, Head, Body, Sats, Skip, so_far, bare_header, whole_header, file_of, epoch_of, more_sats, more_lines, after_epoch, with_satellite, obs_rules}
+use Rattle.obs_fields.specs.HeadParts.{head_lines, last_position, last_delta}
+use Rattle.obs_fields.proofs.HeaderLaws.{regroup, header_took}
+use Rattle.rinex_obs.specs.ObsForm.{EpochPart, EventPart, Part, Blank, Event, Epoch_, satellites_of, AreSatLines, AreEventLines, AreParts, epochs_of, body_lines, IsObsFile}
+use Rattle.rinex_obs.proofs.Headers.{head_rules}
 
 module _ (system : System) where
   -- ---- the body
@@ -205,157 +203,6 @@ module _ (system : System) where
   }
   took (bytes ∷ lines) = record { body = body_line bytes lines (took lines); sats = sat_line bytes lines (took lines); skip = event_line bytes lines (took lines) }
 
-  -- ---- the header
-
-  record TookEnd (lines : List (List ℕ)) (hundredths : ℕ) (position : Option (List ℤ)) (delta : List ℤ) (types : List (List ℕ)) (whole : ObsFile) : Type 0 where
-    after : List HeadPart
-    last : List ℕ
-    rest : List (List ℕ)
-    lines_are : lines ≡ head_lines after ++ (last ∷ rest)
-    are : AreHeadParts system after
-    last_short : length last ≤ 4096
-    ends : header_line_of system last ≡ Ok header.End
-    number : ℕ
-    gives : walk (obs_rules system) rest number (Body (whole_header (so_far system hundredths (last_position position after) (last_delta delta after) (Some types)) types) []) ≡ Ok whole
-
-  record TookMore (lines : List (List ℕ)) (hundredths : ℕ) (position : Option (List ℤ)) (delta : List ℤ) (names : List (List ℕ)) (left : ℕ) (whole : ObsFile) : Type 0 where
-    further : List (List ℕ)
-    tail : List (List ℕ)
-    all : List (List ℕ)
-    lines_are : lines ≡ further ++ tail
-    are : AreFurther further names left all
-    end : TookEnd tail hundredths position delta all whole
-
-  record TookList (lines : List (List ℕ)) (hundredths : ℕ) (position : Option (List ℤ)) (delta : List ℤ) (whole : ObsFile) : Type 0 where
-    before : List HeadPart
-    list : List ℕ
-    further : List (List ℕ)
-    tail : List (List ℕ)
-    types : List (List ℕ)
-    lines_are : lines ≡ head_lines before ++ (list ∷ (further ++ tail))
-    are : AreHeadParts system before
-    is_list : IsTypeList system list further types
-    end : TookEnd tail hundredths (last_position position before) (last_delta delta before) types whole
-
-  -- what lines of a header are: behind the list of types, within it, and before it
-  record TookHead (lines : List (List ℕ)) : Type 0 where
-    some : (hundredths : ℕ) (position : Option (List ℤ)) (delta : List ℤ) (types : List (List ℕ)) (n : ℕ) (whole : ObsFile) → walk (obs_rules system) lines n (Head (so_far system hundredths position delta (Some types))) ≡ Ok whole → TookEnd lines hundredths position delta types whole
-    more : (hundredths : ℕ) (position : Option (List ℤ)) (delta : List ℤ) (names : List (List ℕ)) (left n : ℕ) (whole : ObsFile) → walk (obs_rules system) lines n (More (so_far system hundredths position delta None) names (suc left)) ≡ Ok whole → TookMore lines hundredths position delta names (suc left) whole
-    none : (hundredths : ℕ) (position : Option (List ℤ)) (delta : List ℤ) (n : ℕ) (whole : ObsFile) → walk (obs_rules system) lines n (Head (so_far system hundredths position delta None)) ≡ Ok whole → TookList lines hundredths position delta whole
-
-  of_more_types : (lines : List (List ℕ)) → TookHead lines → (hundredths : ℕ) (position : Option (List ℤ)) (delta : List ℤ) (names : List (List ℕ)) (left n : ℕ) (whole : ObsFile) → walk (obs_rules system) lines n (more_types (so_far system hundredths position delta None) names left) ≡ Ok whole → TookMore lines hundredths position delta names left whole
-  of_more_types lines took hundredths position delta names zero n whole gives =
-      record { further = []; tail = lines; all = names; lines_are = refl; are = (refl, refl); end = took.some hundredths position delta names n whole gives }
-  of_more_types lines took hundredths position delta names (suc left) n whole gives = took.more hundredths position delta names left n whole gives
-
-  abbrev part_of : List ℕ → HeaderLine → HeadPart
-  part_of bytes says = record { bytes = bytes; says = says }
-
-  some_line : (bytes : List ℕ) (lines : List (List ℕ)) → TookHead lines → (hundredths : ℕ) (position : Option (List ℤ)) (delta : List ℤ) (types : List (List ℕ)) (n : ℕ) (whole : ObsFile) → walk (obs_rules system) (bytes ∷ lines) n (Head (so_far system hundredths position delta (Some types))) ≡ Ok whole → TookEnd (bytes ∷ lines) hundredths position delta types whole
-  some_line bytes lines took hundredths position delta types n whole gives = by_part (header_line_of system bytes) refl first.admits
-    where
-      h : HeaderSoFar
-      h = so_far system hundredths position delta (Some types)
-
-      first : TookLine (obs_rules system) (Head (so_far system hundredths position delta (Some types))) bytes lines n whole
-      first = walk-took (obs_rules system) (Head (so_far system hundredths position delta (Some types))) bytes lines n whole gives
-
-      others : (next : Expected) → next ≡ first.next → walk (obs_rules system) lines (n + 1) next ≡ Ok whole
-      others next same = subst (λ (s : Expected). walk (obs_rules system) lines (n + 1) s ≡ Ok whole) (sym same) first.others
-
-      by_part : (r : Result HeaderLine Flaw) → header_line_of system bytes ≡ r → and_then r (λ l. after_header (so_far system hundredths position delta (Some types)) bytes l) ≡ Ok first.next → TookEnd (bytes ∷ lines) hundredths position delta types whole
-      by_part (Ok header.End) says gives =
-          let next : Body (whole_header (so_far system hundredths position delta (Some types)) types) [] ≡ first.next = cc (gives) in
-          record { after = []; last = bytes; rest = lines; lines_are = refl; are = tt; last_short = first.short; ends = says; number = n + 1; gives = others (Body (whole_header (so_far system hundredths position delta (Some types)) types) []) next }
-      by_part (Ok (header.Position p)) says gives =
-          let next : Head (so_far system hundredths p delta (Some types)) ≡ first.next = cc (gives) in
-          let rest = took.some hundredths p delta types (n + 1) whole (others (Head (so_far system hundredths p delta (Some types))) next) in
-          record { after = part_of bytes (header.Position p) ∷ rest.after; last = rest.last; rest = rest.rest; lines_are = ap (λ (l : List (List ℕ)). bytes ∷ l) rest.lines_are; are = (first.short, says, tt, rest.are); last_short = rest.last_short; ends = rest.ends; number = rest.number; gives = rest.gives }
-      by_part (Ok (header.Delta d)) says gives =
-          let next : Head (so_far system hundredths position d (Some types)) ≡ first.next = cc (gives) in
-          let rest = took.some hundredths position d types (n + 1) whole (others (Head (so_far system hundredths position d (Some types))) next) in
-          record { after = part_of bytes (header.Delta d) ∷ rest.after; last = rest.last; rest = rest.rest; lines_are = ap (λ (l : List (List ℕ)). bytes ∷ l) rest.lines_are; are = (first.short, says, tt, rest.are); last_short = rest.last_short; ends = rest.ends; number = rest.number; gives = rest.gives }
-      by_part (Ok header.Types) says gives = absurd cc
-      by_part (Ok header.Skipped) says gives =
-          let next : Head (so_far system hundredths position delta (Some types)) ≡ first.next = cc (gives) in
-          let rest = took.some hundredths position delta types (n + 1) whole (others (Head (so_far system hundredths position delta (Some types))) next) in
-          record { after = part_of bytes header.Skipped ∷ rest.after; last = rest.last; rest = rest.rest; lines_are = ap (λ (l : List (List ℕ)). bytes ∷ l) rest.lines_are; are = (first.short, says, tt, rest.are); last_short = rest.last_short; ends = rest.ends; number = rest.number; gives = rest.gives }
-      by_part (Err flaw) says gives = absurd cc
-
-  more_line : (bytes : List ℕ) (lines : List (List ℕ)) → TookHead lines → (hundredths : ℕ) (position : Option (List ℤ)) (delta : List ℤ) (names : List (List ℕ)) (left n : ℕ) (whole : ObsFile) → walk (obs_rules system) (bytes ∷ lines) n (More (so_far system hundredths position delta None) names (suc left)) ≡ Ok whole → TookMore (bytes ∷ lines) hundredths position delta names (suc left) whole
-  more_line bytes lines took hundredths position delta names left n whole gives = by_part (further_types_of Rinex3 bytes names (suc left)) refl first.admits
-    where
-      first : TookLine (obs_rules system) (More (so_far system hundredths position delta None) names (suc left)) bytes lines n whole
-      first = walk-took (obs_rules system) (More (so_far system hundredths position delta None) names (suc left)) bytes lines n whole gives
-
-      by_part : (r : Result TypeList Flaw) → further_types_of Rinex3 bytes names (suc left) ≡ r → and_then r (λ list. Ok (more_types (so_far system hundredths position delta None) list.names list.left)) ≡ Ok first.next → TookMore (bytes ∷ lines) hundredths position delta names (suc left) whole
-      by_part (Ok list) says gives =
-          let next : more_types (so_far system hundredths position delta None) list.names list.left ≡ first.next = cc (gives) in
-          let rest = of_more_types lines took hundredths position delta list.names list.left (n + 1) whole (subst (λ (s : Expected). walk (obs_rules system) lines (n + 1) s ≡ Ok whole) (sym next) first.others) in
-          record { further = bytes ∷ rest.further; tail = rest.tail; all = rest.all; lines_are = ap (λ (l : List (List ℕ)). bytes ∷ l) rest.lines_are; are = (omega arith, first.short, (list, says, rest.are)); end = rest.end }
-      by_part (Err flaw) says gives = absurd cc
-
-  none_line : (bytes : List ℕ) (lines : List (List ℕ)) → TookHead lines → (hundredths : ℕ) (position : Option (List ℤ)) (delta : List ℤ) (n : ℕ) (whole : ObsFile) → walk (obs_rules system) (bytes ∷ lines) n (Head (so_far system hundredths position delta None)) ≡ Ok whole → TookList (bytes ∷ lines) hundredths position delta whole
-  none_line bytes lines took hundredths position delta n whole gives = by_part (header_line_of system bytes) refl first.admits
-    where
-      first : TookLine (obs_rules system) (Head (so_far system hundredths position delta None)) bytes lines n whole
-      first = walk-took (obs_rules system) (Head (so_far system hundredths position delta None)) bytes lines n whole gives
-
-      others : (next : Expected) → next ≡ first.next → walk (obs_rules system) lines (n + 1) next ≡ Ok whole
-      others next same = subst (λ (s : Expected). walk (obs_rules system) lines (n + 1) s ≡ Ok whole) (sym same) first.others
-
-      by_list : (r : Result TypeList Flaw) → first_types_of Rinex3 bytes ≡ r → header_line_of system bytes ≡ Ok header.Types → and_then r (λ list. Ok (more_types (so_far system hundredths position delta None) list.names list.left)) ≡ Ok first.next → TookList (bytes ∷ lines) hundredths position delta whole
-      by_list (Ok list) lists says gives =
-          let next : more_types (so_far system hundredths position delta None) list.names list.left ≡ first.next = cc (gives) in
-          let rest = of_more_types lines took hundredths position delta list.names list.left (n + 1) whole (others (more_types (so_far system hundredths position delta None) list.names list.left) next) in
-          record {
-            before = [];
-            list = bytes;
-            further = rest.further;
-            tail = rest.tail;
-            types = rest.all;
-            lines_are = ap (λ (l : List (List ℕ)). bytes ∷ l) rest.lines_are;
-            are = tt;
-            is_list = record { short = first.short; begins = says; list = list; first = lists; others = rest.are };
-            end = rest.end;
-          }
-      by_list (Err flaw) lists says gives = absurd cc
-
-      with_part : (says : HeaderLine) (p : Option (List ℤ)) (d : List ℤ) → TookList lines hundredths p d whole → (last_position position (part_of bytes says ∷ []) ≡ p) → (last_delta delta (part_of bytes says ∷ []) ≡ d) → AreHeadParts system (part_of bytes says ∷ []) → TookList (bytes ∷ lines) hundredths position delta whole
-      with_part says p d rest same_p same_d is = record {
-        before = part_of bytes says ∷ rest.before;
-        list = rest.list;
-        further = rest.further;
-        tail = rest.tail;
-        types = rest.types;
-        lines_are = ap (λ (l : List (List ℕ)). bytes ∷ l) rest.lines_are;
-        are = (is.0, is.1, is.2, rest.are);
-        is_list = rest.is_list;
-        end = rw (same_p, same_d) rest.end;
-      }
-
-      by_part : (r : Result HeaderLine Flaw) → header_line_of system bytes ≡ r → and_then r (λ l. after_header (so_far system hundredths position delta None) bytes l) ≡ Ok first.next → TookList (bytes ∷ lines) hundredths position delta whole
-      by_part (Ok header.End) says gives = absurd cc
-      by_part (Ok (header.Position p)) says gives =
-          let next : Head (so_far system hundredths p delta None) ≡ first.next = cc (gives) in
-          with_part (header.Position p) p delta (took.none hundredths p delta (n + 1) whole (others (Head (so_far system hundredths p delta None)) next)) refl refl (first.short, says, tt, tt)
-      by_part (Ok (header.Delta d)) says gives =
-          let next : Head (so_far system hundredths position d None) ≡ first.next = cc (gives) in
-          with_part (header.Delta d) position d (took.none hundredths position d (n + 1) whole (others (Head (so_far system hundredths position d None)) next)) refl refl (first.short, says, tt, tt)
-      by_part (Ok header.Types) says gives = by_list (first_types_of Rinex3 bytes) refl says gives
-      by_part (Ok header.Skipped) says gives =
-          let next : Head (so_far system hundredths position delta None) ≡ first.next = cc (gives) in
-          with_part header.Skipped position delta (took.none hundredths position delta (n + 1) whole (others (Head (so_far system hundredths position delta None)) next)) refl refl (first.short, says, tt, tt)
-      by_part (Err flaw) says gives = absurd cc
-
-  took_head : (lines : List (List ℕ)) → TookHead lines
-  took_head [] = record {
-    some = λ hundredths position delta types n whole gives. absurd (no_file n NoEnd whole (sym (walk-end (obs_rules system) (Head (so_far system hundredths position delta (Some types))) n) ∙ gives));
-    more = λ hundredths position delta names left n whole gives. absurd (no_file n NoEnd whole (sym (walk-end (obs_rules system) (More (so_far system hundredths position delta None) names (suc left)) n) ∙ gives));
-    none = λ hundredths position delta n whole gives. absurd (no_file n NoEnd whole (sym (walk-end (obs_rules system) (Head (so_far system hundredths position delta None)) n) ∙ gives));
-  }
-  took_head (bytes ∷ lines) = record { some = some_line bytes lines (took_head lines); more = more_line bytes lines (took_head lines); none = none_line bytes lines (took_head lines) }
-
   -- ---- the file
 
   pub file_took : (lines : List (List ℕ)) (file : ObsFile) → walk (obs_rules system) lines 0 (First system) ≡ Ok file → IsObsFile system lines file
@@ -369,12 +216,12 @@ module _ (system : System) where
       by_part (Ok v) says gives =
           let next : Head (bare_header system v) ≡ first.next = cc (gives) in
           let zero_delta = pos 0 ∷ pos 0 ∷ pos 0 ∷ [] in
-          let head = (took_head lines).none v None zero_delta (0 + 1) file (subst (λ (s : Expected). walk (obs_rules system) lines (0 + 1) s ≡ Ok file) (sym next) first.others) in
+          let head = header_took (head_rules system system v) lines None zero_delta (0 + 1) file (subst (λ (s : Expected). walk (obs_rules system) lines (0 + 1) s ≡ Ok file) (sym next) first.others) in
           let end = head.end in
           let header = whole_header (so_far system v (last_position (last_position None head.before) end.after) (last_delta (last_delta zero_delta head.before) end.after) (Some head.types)) head.types in
           let body = (took end.rest).body header [] end.number file end.gives in
           let header_lines = bytes ∷ (head_lines head.before ++ (head.list ∷ (head.further ++ (head_lines end.after ++ (end.last ∷ []))))) in
-          let grouped = ap (λ (l : List (List ℕ)). bytes ∷ l) (regroup system (head_lines head.before) head.list head.further (head_lines end.after) end.last (body_lines body.parts)) in
+          let grouped = ap (λ (l : List (List ℕ)). bytes ∷ l) (regroup (head_lines head.before) head.list head.further (head_lines end.after) end.last (body_lines body.parts)) in
           let tail_is = end.lines_are ∙ ap (λ (l : List (List ℕ)). head_lines end.after ++ (end.last ∷ l)) body.lines_are in
           let lines_are = ap (λ (l : List (List ℕ)). bytes ∷ l) (head.lines_are ∙ ap (λ (l : List (List ℕ)). head_lines head.before ++ (head.list ∷ (head.further ++ l))) tail_is) in
           record {

@@ -1,4 +1,5 @@
 pub mod Steps
+pub mod Headers
 pub mod FormLaws
 pub mod FormTook
 pub mod FormPlaces

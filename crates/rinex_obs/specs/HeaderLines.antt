@@ -11,8 +11,8 @@ use Rattle.obs_fields.specs.declared.labels.Label.TheVariants as label
 use Rattle.obs_fields.specs.declared.layout.Layout.TheVariants.{Rinex3}
 use Rattle.obs_fields.specs.Labels.{label_in}
 use Rattle.obs_fields.specs.Offsets.{position_in, delta_in}
-use Rattle.rinex_obs.specs.declared.header_lines.HeaderLine.{HeaderLine}
-use Rattle.rinex_obs.specs.declared.header_lines.HeaderLine.TheVariants as header
+use Rattle.obs_fields.specs.declared.header_line.HeaderLine.{HeaderLine}
+use Rattle.obs_fields.specs.declared.header_line.HeaderLine.TheVariants as header
 
 -- lists of types and scale factors count where column 1 is the system's letter
 abbrev pub line_of_label : System → List ℕ → Label → Result HeaderLine Flaw

@@ -20,8 +20,8 @@ use Rattle.obs_fields.specs.Labels.{event_line_of}
 use Rattle.rinex_obs.specs.EpochLines.{epoch_line_of}
 use Rattle.rinex_obs.specs.SatLines.{satellite_line_of}
 use Rattle.rinex_obs.specs.declared.header.Header.{Header}
-use Rattle.rinex_obs.specs.declared.header_lines.HeaderLine.{HeaderLine}
-use Rattle.rinex_obs.specs.declared.header_lines.HeaderLine.TheVariants as header
+use Rattle.obs_fields.specs.declared.header_line.HeaderLine.{HeaderLine}
+use Rattle.obs_fields.specs.declared.header_line.HeaderLine.TheVariants as header
 use Rattle.rinex_obs.specs.declared.epoch_lines.EpochLine.{EpochLine}
 use Rattle.rinex_obs.specs.declared.epoch_lines.EpochLine.TheVariants as line
 

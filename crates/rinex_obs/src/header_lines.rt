@@ -4,23 +4,8 @@ ghost use Rattle.rinex_obs.specs.HeaderLines.{line_of_label, header_line_of};
 
 use crate::header::flaw;
 use line_source::Line;
-use obs_fields::{Label, Layout, delta, label_of_line, position};
+use obs_fields::{HeaderLine, Label, Layout, delta, label_of_line, position};
 use rinex_head::{Flaw, System, What, byte_in, field};
-
-/// What a line of the header says.
-#[derive(Clone, Copy, Debug)]
-pub enum HeaderLine {
-    /// The header ends.
-    End,
-    /// The approximate position X, Y, Z in 0.1 mm, if it isn't 0, 0, 0.
-    Position(Option<[i64; 3]>),
-    /// The antenna's delta H, E, N in 0.1 mm.
-    Delta([i64; 3]),
-    /// The list of types of the system begins.
-    Types,
-    /// Nothing that counts.
-    Skipped,
-}
 
 /// What a line of the header says.
 #[tactic(auto, unfolding(crate::specs::HeaderLines::header_line_of))]

@@ -4,9 +4,9 @@ ghost use Rattle.std.proofs.Props.{props};
 ghost use Rattle.rinex_obs.specs.ObsRules.{Head, More, Body, bare_header, more_types, begun_list, ended_header, admit};
 
 use crate::header::{Header, flaw};
-use crate::header_lines::{HeaderLine, header_line};
+use crate::header_lines::header_line;
 use line_source::Line;
-use obs_fields::{Layout, TypeList, TypeNames, first_types, further_types};
+use obs_fields::{HeaderLine, Layout, TypeList, TypeNames, first_types, further_types};
 use rinex_head::{Flaw, System, What};
 
 /// What the lines of a header have said so far.
