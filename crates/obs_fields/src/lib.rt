@@ -1,5 +1,9 @@
 //! What one line of an observation file says, whichever format of RINEX and satellite system it is of: labels, offsets,
 //! lists of types, and the fields of epochs and satellites. What the formats place differently is in [`Layout`].
+//!
+//! What the lines of a header give behind its first one (`HeaderLine`, specs/HeadParts.antt) is the same in both formats.
+//! proofs/HeaderLaws.antt has its laws, for each reader whose rules are `HeadRules`: lines of the form are taken
+//! (`header_given`), and lines that are taken are of the form (`header_took`).
 #![tactic(auto)]
 
 mod amounts;
