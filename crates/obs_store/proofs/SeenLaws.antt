@@ -1,10 +1,10 @@
 -- What one more satellite adds to the counts.
-use Rattle.std.proofs.Common.{◌≡◌, ℕ, ◌+◌, ◌<◌, ◌≤◌, Bool, true, false, true≢false, not, ◌||◌, cond, nat_eq, List, [], ◌∷◌, ◌++◌, length, All, map, filter, set, replicate, refl, sym, ap, subst, ◌∙◌, arith, append_assoc, add-one, length-append, length-take, take, get_or, slice_index, zero, suc, inl, inr}
+use Rattle.std.proofs.Common.{◌≡◌, ℕ, ◌+◌, ◌<◌, ◌≤◌, Bool, true, false, true≢false, not, ◌||◌, cond, nat_eq, List, [], ◌∷◌, ◌++◌, length, All, map, filter, set, replicate, refl, sym, ap, subst, ◌∙◌, arith, append_assoc, add-one, length-take, take, get_or, slice_index, zero, suc, inl, inr}
 use Rattle.std.specs.List.{list_any, IsDistinct, AllByRecursion}
 use Rattle.std.proofs.lemmas.Bool.{eqb-true, eq-eqb}
 use Rattle.std.proofs.lemmas.Bool.Decides.{eqb_tells}
 use Rattle.std.proofs.lemmas.Grind.{flat_map-append}
-use Rattle.std.proofs.lemmas.List.{append-nil, map-append, get_or-take, get_or_default, get_or-set_other, get_or-replicate, length-set, take_all}
+use Rattle.std.proofs.lemmas.List.{append-nil, map-append, get_or-take, get_or_default, get_or-set_other, get_or-replicate, length-replicate, length-set}
 use Rattle.std.proofs.lemmas.List.Elements.{All-push}
 use Rattle.std.proofs.lemmas.Grind.{get_or-set_at}
 use Rattle.std.proofs.lemmas.List.Folds.{list_any-append, list_any_none}
@@ -16,7 +16,6 @@ use Rattle.obs_store.specs.declared.values.SatObs.{SatObs}
 use Rattle.obs_store.specs.declared.series.Epoch.{Epoch}
 use Rattle.std.proofs.Math.Seq.{take-suc}
 use Rattle.obs_store.specs.Satellites.{has_satellite, AreSatellites}
-use Rattle.obs_store.specs.Epochs.{AreEpochs}
 use Rattle.obs_store.specs.Counts.{with_number, numbered, IsCountOf}
 use Rattle.obs_store.specs.Seen.{first_seen, numbers_of, all_numbers, epochs_with, seen_in}
 
@@ -132,10 +131,6 @@ numbers_more es e ss s =
 has_same : (m : ℕ) (ss : List SatObs) (s : SatObs) → nat_eq s.number m ≡ false → has_satellite m (ss ++ s ∷ []) ≡ has_satellite m ss
 has_same m ss s apart = has_satellite-push m ss s ∙ rw (flip m s.number apart) (or_false (has_satellite m ss))
 
--- the epochs before one, and this one with its satellites so far
-abbrev pub so_far : List Epoch → ℕ → Epoch → List SatObs → ℕ → List Epoch
-so_far xs at e ss k = take at xs ++ with_sats e (take k ss) ∷ []
-
 -- no satellite before has the number of this one
 fresh_at : (ss : List SatObs) (k : ℕ) (z : SatObs) → AreSatellites ss → k < length ss → has_satellite (get_or ss k z).number (take k ss) ≡ false
 fresh_at ss k z are inside =
@@ -169,18 +164,19 @@ put_new n (x ∷ xs) none =
 -- some epoch has a number that was seen
 present : (n : ℕ) (es : List Epoch) → list_any (nat_eq n) (all_numbers es) ≡ true → 1 ≤ epochs_with n es
 present n [] some = absurd (true≢false (sym some))
-present n (x ∷ xs) some = by (has_satellite n x.sats) refl
+present n (x ∷ xs) some = by (has_satellite n x.sats) refl (λ rest. present n xs rest)
   where
     counts : epochs_with n (x ∷ xs) ≡ cond (has_satellite n x.sats) 1 0 + epochs_with n xs
     counts = sum_by-cons (λ (f : Epoch). cond (has_satellite n f.sats) 1 0) x xs
-    by : (t : Bool) → has_satellite n x.sats ≡ t → 1 ≤ epochs_with n (x ∷ xs)
-    by true has = let one : epochs_with n (x ∷ xs) ≡ 1 + epochs_with n xs = counts ∙ rw has refl in omega arith
-    by false lacks =
+
+    by : (t : Bool) → has_satellite n x.sats ≡ t → (list_any (nat_eq n) (all_numbers xs) ≡ true → 1 ≤ epochs_with n xs) → 1 ≤ epochs_with n (x ∷ xs)
+    by true has others = let one : epochs_with n (x ∷ xs) ≡ 1 + epochs_with n xs = counts ∙ rw has refl in omega arith
+    by false lacks others =
         let split : (list_any (nat_eq n) (numbers_of x.sats) || list_any (nat_eq n) (all_numbers xs)) ≡ true = sym (list_any-append (nat_eq n) (numbers_of x.sats) (all_numbers xs)) ∙ some in
         let first : list_any (nat_eq n) (numbers_of x.sats) ≡ false = has_satellite-numbers n x.sats ∙ lacks in
         let rest : list_any (nat_eq n) (all_numbers xs) ≡ true = subst (λ (b : Bool). (b || list_any (nat_eq n) (all_numbers xs)) ≡ true) first split in
         let none : epochs_with n (x ∷ xs) ≡ 0 + epochs_with n xs = counts ∙ rw lacks refl in
-        omega (arith, present n xs rest)
+        omega (arith, others rest)
 
 -- the number goes behind the others exactly where no epoch has it yet
 with_number-put : (n : ℕ) (es : List Epoch) → with_number (epochs_with n es) n (first_seen (all_numbers es)) ≡ put n (first_seen (all_numbers es))
@@ -189,6 +185,7 @@ with_number-put n es = by (list_any (nat_eq n) (all_numbers es)) refl
     stays : (count : ℕ) → 1 ≤ count → with_number count n (first_seen (all_numbers es)) ≡ first_seen (all_numbers es)
     stays zero some = absurd (omega arith)
     stays (suc count) some = refl
+
     by : (t : Bool) → list_any (nat_eq n) (all_numbers es) ≡ t → with_number (epochs_with n es) n (first_seen (all_numbers es)) ≡ put n (first_seen (all_numbers es))
     by true some = stays (epochs_with n es) (present n es some) ∙ sym (put_there n (first_seen (all_numbers es)) (any-first_seen n (all_numbers es) ∙ some))
     by false none =
@@ -204,17 +201,8 @@ pub none_counted : (counts : List ℕ) → counts ≡ replicate 37 0 → IsCount
 none_counted counts are = record {
   order_is = refl;
   inside = λ k d lt. absurd (omega arith);
-  as_many = rw are (length-replicate 37 0);
+  as_many = rw are (length-replicate {A = ℕ} 37 0);
   counts_are = λ n small. rw are (get_or-replicate 37 n 0 0 (omega arith));
-}
-
--- an epoch of which no satellite is counted yet
-pub begun : (es : List Epoch) (e : Epoch) (order counts : List ℕ) → IsCountOf es order counts → IsCountOf (es ++ with_sats e [] ∷ []) order counts
-begun es e order counts is = record {
-  order_is = is.order_is ∙ ap first_seen (sym (all_numbers-push es (with_sats e []) ∙ append-nil (all_numbers es)));
-  inside = is.inside;
-  as_many = is.as_many;
-  counts_are = λ n small. is.counts_are n small ∙ sym (epochs_with-push n es (with_sats e []) ∙ omega arith);
 }
 
 -- one more satellite of an epoch
@@ -236,46 +224,42 @@ one_more es e ss k z n order counts order₂ counts₂ are inside number is orde
   where
     s : SatObs
     s = get_or ss k z
-    before behind : List Epoch
+
+    before : List Epoch
     before = es ++ with_sats e (take k ss) ∷ []
+
+    behind : List Epoch
     behind = es ++ with_sats e (take k ss ++ s ∷ []) ∷ []
+
     small : n ≤ 36
     small = subst (λ (m : ℕ). m ≤ 36) (sym number) (are.numbers k z inside).1
+
     fresh : has_satellite s.number (take k ss) ≡ false
     fresh = fresh_at ss k z are inside
+
     there : has_satellite s.number (take k ss ++ s ∷ []) ≡ true
     there = has_satellite-push s.number (take k ss) s ∙ rw (fresh, eq-eqb s.number s.number refl) refl
+
     old : epochs_with s.number before ≡ epochs_with s.number es + 0
     old = epochs_with-push s.number es (with_sats e (take k ss)) ∙ rw fresh refl
+
     new : epochs_with s.number behind ≡ epochs_with s.number es + 1
     new = epochs_with-push s.number es (with_sats e (take k ss ++ s ∷ [])) ∙ rw there refl
+
     one : epochs_with n before + 1 ≡ epochs_with n behind
     one = subst (λ (m : ℕ). epochs_with m before + 1 ≡ epochs_with m behind) (sym number) (omega (arith, old, new))
+
     same : (m : ℕ) → nat_eq n m ≡ false → epochs_with m before ≡ epochs_with m behind
     same m apart =
         epochs_with-push m es (with_sats e (take k ss))
         ∙ sym (epochs_with-push m es (with_sats e (take k ss ++ s ∷ [])) ∙ rw (has_same m (take k ss) s (subst (λ (x : ℕ). nat_eq x m ≡ false) number apart)) refl)
+
     counted : (m : ℕ) → m ≤ 36 → get_or (set counts n (get_or counts n 0 + 1)) m 0 ≡ epochs_with m behind
     counted m few =
         elim (eqb_tells n m) [
           | inl p ↦ get_or-set_at counts n m (get_or counts n 0 + 1) 0 (sym p.1) (omega (arith, is.as_many, small)) ∙ ap (λ x. x + 1) (is.counts_are n small) ∙ one ∙ ap (λ (x : ℕ). epochs_with x behind) p.1
           | inr p ↦ get_or-set_other counts n m (get_or counts n 0 + 1) 0 (λ e₂. true≢false (sym (eq-eqb n m (sym e₂)) ∙ p.0)) ∙ is.counts_are m few ∙ same m p.0
         ]
-
--- all satellites of an epoch
-pub whole_epoch : (xs : List Epoch) (at k : ℕ) (d : Epoch) (order counts : List ℕ) → at < length xs → k ≡ length (get_or xs at d).sats
-    → IsCountOf (take at xs ++ with_sats (get_or xs at d) (take k (get_or xs at d).sats) ∷ []) order counts → IsCountOf (take (at + 1) xs) order counts
-whole_epoch xs at k d order counts inside all is =
-    subst (λ (l : List Epoch). IsCountOf l order counts) (sym (rw add-one (take-suc xs at d inside)))
-    (subst (λ (l : List SatObs). IsCountOf (take at xs ++ with_sats (get_or xs at d) l ∷ []) order counts) (take_all k (get_or xs at d).sats (omega arith)) is)
-
--- a count is at most that of the epochs
-pub counted_few : (n at : ℕ) (xs : List Epoch) (e : Epoch) (ss : List SatObs) (k : ℕ) (order counts : List ℕ) → AreEpochs xs → at < length xs → n ≤ 36
-    → IsCountOf (take at xs ++ with_sats e (take k ss) ∷ []) order counts → get_or counts n 0 ≤ 20_000
-counted_few n at xs e ss k order counts are inside small is =
-    let epochs = take at xs ++ with_sats e (take k ss) ∷ [] in
-    let len : length epochs ≡ at + 1 = simp (length-append, length-take) (omega arith) in
-    omega (arith, are.few, count_few n epochs, is.counts_are n small)
 
 -- ---- the map
 -- a number in its place isn't among those before it
@@ -303,7 +287,7 @@ one_entry counts order k held new distinct inside same is =
     ∙ sym (map-append (λ (m : ℕ). (m, get_or counts m 0)) (take k order) (n ∷ []))
     ∙ ap (λ l. numbered counts l) (sym (rw add-one (take-suc order k 0 inside)))
 
-same_entries : (f g : ℕ → ℕ) (ns : List ℕ) → All (λ n. n ≤ 36) ns → ((n : ℕ) → n ≤ 36 → f n ≡ g n) → map (λ n. (n, f n)) ns ≡ map (λ n. (n, g n)) ns
+same_entries : (f g : ℕ → ℕ) (ns : List ℕ) → All (λ n. n ≤ 36) ns → ((n : ℕ) → n ≤ 36 → f n ≡ g n) → map {B = ℕ × ℕ} (λ n. (n, f n)) ns ≡ map (λ n. (n, g n)) ns
 same_entries f g [] small same = refl
 same_entries f g (n ∷ ns) small same =
     rw (same n (small 0 0 (omega arith))) (ap (λ l. (n, g n) ∷ l) (same_entries f g ns (λ k d lt. small (suc k) d (omega arith)) same))
