@@ -142,7 +142,10 @@ module _ {S F : Type 0} (r : HeadRules S F) where
   same_walk : (lines : List (List ℕ)) (n : ℕ) (s t : S) (whole : F) → s ≡ t → walk r.rules lines n t ≡ Ok whole → walk r.rules lines n s ≡ Ok whole
   same_walk lines n s t whole same gives = subst (λ (s : S). walk r.rules lines n s ≡ Ok whole) (sym same) gives
 
-  one_state : (s t : S) → Ok {E = Flaw} s ≡ Ok t → s ≡ t
+  abbrev answer : S → Result S Flaw
+  answer s = Ok s
+
+  one_state : (s t : S) → answer s ≡ answer t → s ≡ t
   one_state s t e = cc (e)
 
   of_due : (lines : List (List ℕ)) → TookHead lines → (p : Option (List ℤ)) (d : List ℤ) (names : List (List ℕ)) (left n : ℕ) (whole : F) → walk r.rules lines n (r.due p d names left) ≡ Ok whole → TookMore lines p d names left whole
@@ -160,7 +163,7 @@ module _ {S F : Type 0} (r : HeadRules S F) where
       first : TookLine r.rules (r.head p d (Some types)) bytes lines n whole
       first = walk-took r.rules (r.head p d (Some types)) bytes lines n whole gives
 
-      others : (s : S) → Ok {E = Flaw} s ≡ Ok first.next → walk r.rules lines (n + 1) s ≡ Ok whole
+      others : (s : S) → answer s ≡ answer first.next → walk r.rules lines (n + 1) s ≡ Ok whole
       others s same = same_walk lines (n + 1) s first.next whole (one_state s first.next same) first.others
 
       with_part : (says : HeaderLine) → r.says bytes ≡ Ok says → IsPlain says → TookEnd lines (position_by p says) (delta_by d says) types whole → TookEnd (bytes ∷ lines) p d types whole
@@ -208,7 +211,7 @@ module _ {S F : Type 0} (r : HeadRules S F) where
       first : TookLine r.rules (r.head p d None) bytes lines n whole
       first = walk-took r.rules (r.head p d None) bytes lines n whole gives
 
-      others : (s : S) → Ok {E = Flaw} s ≡ Ok first.next → walk r.rules lines (n + 1) s ≡ Ok whole
+      others : (s : S) → answer s ≡ answer first.next → walk r.rules lines (n + 1) s ≡ Ok whole
       others s same = same_walk lines (n + 1) s first.next whole (one_state s first.next same) first.others
 
       by_list : (types : Result TypeList Flaw) → first_types_of r.layout bytes ≡ types → r.says bytes ≡ Ok header.Types → and_then types (λ list. Ok (r.due p d list.names list.left)) ≡ Ok first.next → TookList (bytes ∷ lines) p d whole

@@ -11,8 +11,8 @@ ghost use Rattle.obs_source.specs.Taking.{IsKeptOf, IsKeptOf-prop, IsReadBy, IsF
 use line_source::{Line, Taker, without_return};
 use obs_store::ObsFile;
 use rinex_head::{FIRST_LABEL, System, TextFault, field, fixed, head_line};
-use rinex2_obs::read_obs2;
 use rinex_obs::{Feed, Overlong, StartedLine, split_line};
+use rinex2_obs::read_obs2;
 use std::alloc::{AllocError, Global};
 
 /// What a taker holds between two pieces.

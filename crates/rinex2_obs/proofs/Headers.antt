@@ -6,7 +6,7 @@ use Rattle.obs_fields.proofs.HeaderLaws.{HeadRules}
 use Rattle.rinex2_obs.specs.HeaderLines.{header_line_of}
 use Rattle.rinex2_obs.specs.Obs2Rules.{Expected, Head, Body, so_far, whole_header, more_types, after_header, obs2_rules}
 
-pub head_rules : ℕ → HeadRules Expected ObsFile
+abbrev pub head_rules : ℕ → HeadRules Expected ObsFile
 head_rules hundredths = record {
   rules = obs2_rules;
   layout = Rinex2;

@@ -8,7 +8,7 @@ use Rattle.rinex_obs.specs.HeaderLines.{header_line_of}
 use Rattle.rinex_obs.specs.ObsRules.{Expected, Head, Body, so_far, whole_header, more_types, after_header, obs_rules}
 
 -- of a header for one system, in a text that is read by the rules for one
-pub head_rules : System → System → ℕ → HeadRules Expected ObsFile
+abbrev pub head_rules : System → System → ℕ → HeadRules Expected ObsFile
 head_rules system of hundredths = record {
   rules = obs_rules system;
   layout = Rinex3;
