@@ -5,7 +5,7 @@ use Rattle.zero_rows.specs.Rows.{IsZeroFile}
 use Rattle.rinex_head.specs.declared.system.System.TheVariants.{Gps}
 use Rattle.rinex_head.specs.Systems.{system_of}
 use Rattle.obs_source.specs.Formats.{HasObservation}
-use Rattle.nav_records.specs.NavForm.{HasNavFile}
+use Rattle.rinex_nav.specs.NavForm.{HasNavFile}
 use Rattle.job_answers.specs.declared.status.Status.TheVariants.{Usage, NoMemory}
 use Rattle.job_answers.specs.Texts.{usage_line, no_memory_line}
 use Rattle.job_answers.specs.Endings.{Ending, ending, EndsByFile, IsAdmitted}

@@ -5,7 +5,7 @@ ghost use Rattle.std.specs.Fmt.{decimal, signed_decimal};
 ghost use Rattle.decimal_text.specs.Whole.{is_digit, size_of};
 ghost use Rattle.cert_words.specs.Spelling.{behind_blanks};
 
-use crate::numbers::is_digit_byte;
+use decimal_text::is_digit_byte;
 
 // Behind a number up to this one there is room for one more digit in 63 bits.
 const LAST_SHORT: u64 = 900_000_000_000_000_000;

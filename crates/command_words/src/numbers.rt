@@ -1,11 +1,12 @@
 // Numbers, systems and satellites as words.
 ghost use Rattle.std.specs.Prelude.{◌≡◌, ℕ, ◌^◌, ◌<◌, ◌≤◌, true, length, IfSome, MatchOption};
-ghost use Rattle.decimal_text.specs.Whole.{is_digit, are_digits, number_from};
+ghost use Rattle.decimal_text.specs.Whole.{are_digits, number_from};
 ghost use Rattle.obs_rows.specs.Ranges.{IsSystem};
 ghost use Rattle.command_words.specs.Numbers.{IsNumber, IsLetter, IsSatellite};
 ghost use Rattle.command_words.specs.Settings.{IsValue};
 
 use crate::settings::Setting;
+use decimal_text::is_digit_byte;
 use obs_rows::is_system;
 use rinex_head::System;
 
@@ -14,12 +15,6 @@ use rinex_head::System;
 pub struct Satellite {
     pub system: u8,
     pub number: u8,
-}
-
-fn is_digit_byte(b: u8) -> bool
-    ensures { result ≡ is_digit b }
-{
-    b >= b'0' && b <= b'9'
 }
 
 fn all_digits(word: &[u8]) -> bool

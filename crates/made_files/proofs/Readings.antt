@@ -1,15 +1,15 @@
 -- The texts of a simulated session, read again.
-use Rattle.std.proofs.Common.{◌≡◌, ℕ, ℤ, ◌*◌, ◌≤◌, ◌<◌, Bool, true, false, ◌||◌, ◌==◌, nat_le, IsTrue, List, length, All, refl, sym, subst, if◌then◌else◌, arith}
-use Rattle.std.proofs.lemmas.Bool.{eqb-true}
+use Rattle.std.proofs.Common.{◌≡◌, ℕ, ℤ, ◌*◌, ◌≤◌, ◌<◌, Bool, true, false, ◌==◌, nat_le, List, length, All, refl, sym, subst, if◌then◌else◌, arith}
 use Rattle.std.proofs.lemmas.Bool.Decides.{nat_tests}
 use Rattle.eph_store.specs.declared.ephemeris.Eph.{Eph}
 use Rattle.line_source.specs.Lines.{lines_of}
-use Rattle.rinex_head.specs.Systems.{letter_of, system_of}
+use Rattle.rinex_head.proofs.Letters.{letter_again}
+use Rattle.rinex_head.specs.Systems.{system_of}
 use Rattle.rinex_head.specs.declared.system.System.{System}
 use Rattle.rinex_head.specs.declared.system.System.TheVariants.{Gps, Galileo}
 use Rattle.obs_rows.specs.Ranges.{IsSystem}
-use Rattle.obs_feed.specs.ObsForm.{IsObsFile}
-use Rattle.nav_records.specs.NavForm.{IsNavFile}
+use Rattle.rinex_obs.specs.ObsForm.{IsObsFile}
+use Rattle.rinex_nav.specs.NavForm.{IsNavFile}
 use Rattle.system_world.specs.Worlds.{world_of}
 use Rattle.sim_records.specs.Navigation.{navigation_text}
 use Rattle.sim_records.specs.Satellites.{AreSatellites}
@@ -48,14 +48,6 @@ tracked bands system = by (has_l5 bands) (system == 69)
     by l5 true = refl
     by true false = refl
     by false false = refl
-
-letter_again : (system : ℕ) → IsSystem system → letter_of (system_of system) ≡ system
-letter_again system is = by (system == 69) refl (system == 71) refl is
-  where
-    by : (galileo : Bool) → (system == 69) ≡ galileo → (gps : Bool) → (system == 71) ≡ gps → IsTrue (gps || galileo) → letter_of (if galileo then Galileo else Gps) ≡ system
-    by true same gps other one = sym (eqb-true system 69 same)
-    by false same true other one = sym (eqb-true system 71 other)
-    by false same false other one = absurd (cc one)
 
 -- ---- the three texts
 observed_reads : (epochs bands system : ℕ) (point : List ℤ) (clock : ℤ) (records : List Eph) (cycles : List (List ℤ)) (text : List ℕ) → epochs ≤ 3600 → length records ≤ 15 →

@@ -3,8 +3,8 @@ use Rattle.std.specs.Prelude.{◌≡◌, ℕ, ◌<◌, List, length, ℤ, slice_
 use Rattle.eph_store.specs.declared.ephemeris.Eph.{Eph}
 use Rattle.line_source.specs.Lines.{lines_of}
 use Rattle.rinex_head.specs.Systems.{system_of}
-use Rattle.obs_feed.specs.ObsForm.{IsObsFile}
-use Rattle.nav_records.specs.NavForm.{IsNavFile}
+use Rattle.rinex_obs.specs.ObsForm.{IsObsFile}
+use Rattle.rinex_nav.specs.NavForm.{IsNavFile}
 use Rattle.system_world.specs.Worlds.{world_of}
 use Rattle.sim_texts.specs.declared.signals.Signals.{Signals}
 use Rattle.sim_draws.specs.Values.{base_clock_of, rover_clock_of, base_cycles, rover_cycles, first_of}

@@ -12,8 +12,8 @@ use Rattle.rinex_head.specs.Head.{trimmed}
 use Rattle.rinex_head.specs.Systems.{letter_of}
 use Rattle.rinex_head.specs.declared.system.System.{System}
 use Rattle.rinex_head.specs.declared.system.System.TheVariants.{Gps, Galileo}
-use Rattle.nav_records.specs.FirstLine.{first_line_of, ends_header}
-use Rattle.nav_records.specs.NavForm.{Part, Read, IsPart, IsHeader, IsNavFile, further_of, body_lines, records_of}
+use Rattle.rinex_nav.specs.FirstLine.{first_line_of, ends_header}
+use Rattle.rinex_nav.specs.NavForm.{Part, Read, IsPart, IsHeader, IsNavFile, further_of, body_lines, records_of}
 use Rattle.sim_records.specs.Satellites.{AreSatellites}
 use Rattle.sim_records.specs.Navigation.{zero_number, second_number, week_number, navigation_header, record_texts, navigation_text}
 use Rattle.written_texts.specs.Printed.{are_printed}

@@ -7,7 +7,7 @@ use Rattle.decimal_text.specs.declared.exponent.Dec.{Dec}
 use Rattle.line_source.specs.Lines.{lines_of}
 use Rattle.rinex_head.specs.Columns.{padded, columns, column}
 use Rattle.rinex_head.specs.Fields.{exponent_in}
-use Rattle.nav_records.specs.RecordLines.{number_in}
+use Rattle.rinex_nav.specs.RecordLines.{number_in}
 use Rattle.sim_records.specs.Numbers.{sign_or, number_text}
 use Rattle.sim_records.specs.Navigation.{first_line, further_line}
 use Rattle.written_texts.specs.Printed.{are_printed}

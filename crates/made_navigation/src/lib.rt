@@ -4,7 +4,7 @@
 ghost use Rattle.std.specs.Prelude.{◌≤◌, List, length};
 ghost use Rattle.eph_store.specs.declared.ephemeris.Eph.{Eph};
 ghost use Rattle.line_source.specs.Lines.{lines_of};
-ghost use Rattle.nav_records.specs.NavForm.{IsNavFile};
+ghost use Rattle.rinex_nav.specs.NavForm.{IsNavFile};
 ghost use Rattle.rinex_head.specs.Systems.{letter_of};
 ghost use Rattle.rinex_head.specs.declared.system.System.{System};
 ghost use Rattle.sim_records.specs.Navigation.{navigation_text};

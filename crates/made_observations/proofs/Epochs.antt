@@ -19,11 +19,11 @@ use Rattle.rinex_head.specs.Places.{and_then}
 use Rattle.rinex_head.specs.Fields.{filled_of, fixed_in as fixed_field, readable, required}
 use Rattle.obs_fields.specs.declared.layout.Layout.TheVariants.{Rinex3}
 use Rattle.obs_fields.specs.EpochFields.{count_in, moment_of, is_later}
-use Rattle.obs_feed.specs.EpochLines.{tag_in, epoch_in, epoch_line_of}
-use Rattle.obs_feed.specs.ObsForm.{EpochPart, Part, Epoch_, IsEpochPart, AreSatLines, AreParts, epoch_in_part, lines_of_part, body_lines}
-use Rattle.obs_feed.specs.ObsForm.{satellites_of as satellites_in, epochs_of as epochs_in}
-use Rattle.obs_feed.specs.SatLines.{satellite_of}
-use Rattle.obs_feed.specs.declared.epoch_lines.EpochLine.TheVariants as line
+use Rattle.rinex_obs.specs.EpochLines.{tag_in, epoch_in, epoch_line_of}
+use Rattle.rinex_obs.specs.ObsForm.{EpochPart, Part, Epoch_, IsEpochPart, AreSatLines, AreParts, epoch_in_part, lines_of_part, body_lines}
+use Rattle.rinex_obs.specs.ObsForm.{satellites_of as satellites_in, epochs_of as epochs_in}
+use Rattle.rinex_obs.specs.SatLines.{satellite_of}
+use Rattle.rinex_obs.specs.declared.epoch_lines.EpochLine.TheVariants as line
 use Rattle.sim_texts.specs.declared.signals.Signals.{Signals}
 use Rattle.sim_texts.specs.declared.signals.Tracking.{Tracking}
 use Rattle.sim_texts.specs.Columns.{fixed_in}

@@ -5,9 +5,9 @@ use Rattle.line_source.specs.Lines.{lines_of}
 use Rattle.obs_store.specs.declared.series.Epoch.{Epoch}
 use Rattle.obs_fields.specs.Types.{listed_of, is_listed}
 use Rattle.obs_fields.specs.declared.types.KeptType.{KeptType}
-use Rattle.obs_feed.specs.ObsRules.{file_of as file_with}
-use Rattle.obs_feed.specs.ObsForm.{AreParts, IsObsFile}
-use Rattle.obs_feed.specs.ObsForm.{epochs_of as epochs_in}
+use Rattle.rinex_obs.specs.ObsRules.{file_of as file_with}
+use Rattle.rinex_obs.specs.ObsForm.{AreParts, IsObsFile}
+use Rattle.rinex_obs.specs.ObsForm.{epochs_of as epochs_in}
 use Rattle.sim_texts.specs.declared.signals.Signals.{Signals}
 use Rattle.sim_texts.specs.declared.signals.Tracking.{Tracking}
 use Rattle.sim_texts.specs.declared.signals.Tracking.TheVariants.{GpsL1L2, GpsL1L2L5, GalileoE1E5a}

@@ -10,11 +10,11 @@ use Rattle.obs_fields.specs.declared.layout.Layout.TheVariants.{Rinex3}
 use Rattle.obs_fields.specs.Labels.{label_in}
 use Rattle.obs_fields.specs.Offsets.{position_in, offset_in, delta_in}
 use Rattle.obs_fields.specs.Types.{is_listed, names_from, first_types_of, type_list, kept_from}
-use Rattle.obs_feed.specs.FirstLine.{first_line_of}
-use Rattle.obs_feed.specs.HeaderLines.{header_line_of}
-use Rattle.obs_feed.specs.ObsForm.{IsHeader}
-use Rattle.obs_feed.specs.declared.header.Header.{Header}
-use Rattle.obs_feed.specs.declared.header_lines.HeaderLine.TheVariants as header
+use Rattle.rinex_obs.specs.FirstLine.{first_line_of}
+use Rattle.rinex_obs.specs.HeaderLines.{header_line_of}
+use Rattle.rinex_obs.specs.ObsForm.{IsHeader}
+use Rattle.rinex_obs.specs.declared.header.Header.{Header}
+use Rattle.obs_fields.specs.declared.header_line.HeaderLine.TheVariants as header
 use Rattle.sim_texts.specs.declared.signals.Tracking.{Tracking}
 use Rattle.sim_texts.specs.declared.signals.Tracking.TheVariants.{GpsL1L2, GpsL1L2L5, GalileoE1E5a}
 use Rattle.sim_texts.specs.Tracked.{system_letter}

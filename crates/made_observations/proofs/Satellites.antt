@@ -19,7 +19,7 @@ use Rattle.rinex_head.specs.declared.system.System.TheVariants.{Gps, Galileo}
 use Rattle.obs_fields.specs.declared.layout.Layout.TheVariants.{Rinex3}
 use Rattle.obs_fields.specs.declared.types.KeptType.{KeptType}
 use Rattle.obs_fields.specs.SatFields.{values_in, digit_of, number_at, satellite_at}
-use Rattle.obs_feed.specs.SatLines.{satellite_line_of, satellite_of}
+use Rattle.rinex_obs.specs.SatLines.{satellite_line_of, satellite_of}
 use Rattle.sim_texts.specs.declared.signals.Signals.{Signals}
 use Rattle.sim_texts.specs.declared.signals.Tracking.{Tracking}
 use Rattle.sim_texts.specs.declared.signals.Tracking.TheVariants.{GpsL1L2, GpsL1L2L5, GalileoE1E5a}

@@ -3,7 +3,7 @@
 
 ghost use Rattle.std.specs.Prelude.{◌*◌, ◌<◌, ◌≤◌, ℕ, List, length, All};
 ghost use Rattle.line_source.specs.Lines.{lines_of};
-ghost use Rattle.obs_feed.specs.ObsForm.{IsObsFile};
+ghost use Rattle.rinex_obs.specs.ObsForm.{IsObsFile};
 ghost use Rattle.sim_texts.specs.declared.signals.Signals.{Signals};
 ghost use Rattle.sim_texts.specs.declared.signals.Tracking.{Tracking};
 ghost use Rattle.sim_texts.specs.Observations.{observation_text};

@@ -1,3 +1,4 @@
 pub mod TypeLists
 pub mod Moments
 pub mod AmountLaws
+pub mod HeaderLaws

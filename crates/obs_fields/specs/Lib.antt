@@ -5,3 +5,4 @@ pub mod Types
 pub mod EpochFields
 pub mod Amounts
 pub mod SatFields
+pub mod HeadParts

@@ -17,12 +17,12 @@ use Rattle.rinex_head.specs.Head.{label_of, version_number, version_in}
 use Rattle.rinex_head.specs.Places.{and_then, flawed}
 use Rattle.rinex_head.specs.FirstFailing.{IsStuck, IsFirstFailing}
 use Rattle.rinex_head.proofs.Stops
-use Rattle.obs_feed.specs.FirstLine.{of_version, first_line_of}
-use Rattle.obs_feed.specs.ObsForm.{IsObsFile, HasObsFile}
-use Rattle.obs_feed.specs.ObsRules.{obs_rules, obs_of}
-use Rattle.obs_feed.proofs.FormLaws as laws3
-use Rattle.obs_feed.proofs.FormTook as took3
-use Rattle.obs_feed.proofs.FormPlaces as places3
+use Rattle.rinex_obs.specs.FirstLine.{of_version, first_line_of}
+use Rattle.rinex_obs.specs.ObsForm.{IsObsFile, HasObsFile}
+use Rattle.rinex_obs.specs.ObsRules.{obs_rules, obs_of}
+use Rattle.rinex_obs.proofs.FormLaws as laws3
+use Rattle.rinex_obs.proofs.FormTook as took3
+use Rattle.rinex_obs.proofs.FormPlaces as places3
 use Rattle.rinex2_obs.specs.FirstLine as line2
 use Rattle.rinex2_obs.specs.Obs2Form.{IsObs2File, HasObs2File}
 use Rattle.rinex2_obs.specs.Obs2Rules.{obs2_rules, obs2_of}

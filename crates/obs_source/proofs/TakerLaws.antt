@@ -14,10 +14,10 @@ use Rattle.rinex_head.specs.Head.{trimmed}
 use Rattle.rinex_head.specs.Places.{place}
 use Rattle.rinex_head.specs.Walk.{Gives}
 use Rattle.rinex_head.proofs.Walks.{gives_same}
-use Rattle.obs_feed.specs.Feeding.{IsAnswerTo}
-use Rattle.obs_feed.specs.ObsRules.{First, obs_rules, obs_of}
-use Rattle.obs_feed.specs.Started.{EndsLine, GoesOn}
-use Rattle.obs_feed.proofs.Feeds.{BeginsLong, long_begins, long_refused, long_stripped}
+use Rattle.rinex_obs.specs.Feeding.{IsAnswerTo}
+use Rattle.rinex_obs.specs.ObsRules.{First, obs_rules, obs_of}
+use Rattle.rinex_obs.specs.Started.{EndsLine, GoesOn}
+use Rattle.rinex_obs.proofs.Feeds.{BeginsLong, long_begins, long_refused, long_stripped}
 use Rattle.obs_fields.proofs.AmountLaws.{tail_is}
 use Rattle.rinex2_obs.specs.Obs2Rules
 use Rattle.obs_source.specs.Formats.{begins_2, is_two, any_of}

@@ -9,8 +9,8 @@ use Rattle.rinex_head.specs.declared.system.System.{System}
 use Rattle.rinex_head.specs.declared.system.System.TheVariants.{Gps, Galileo}
 use Rattle.rinex_head.specs.Columns.{columns}
 use Rattle.rinex_head.specs.Head.{label_of}
-use Rattle.obs_feed.specs.ObsForm.{IsObsFile}
-use Rattle.obs_feed.specs.ObsRules.{obs_of}
+use Rattle.rinex_obs.specs.ObsForm.{IsObsFile}
+use Rattle.rinex_obs.specs.ObsRules.{obs_of}
 use Rattle.rinex2_obs.specs.Obs2Form.{IsObs2File}
 use Rattle.rinex2_obs.specs.Obs2Rules.{obs2_of}
 

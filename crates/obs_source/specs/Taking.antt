@@ -9,9 +9,9 @@ use Rattle.rinex_head.specs.declared.system.System.{System}
 use Rattle.rinex_head.specs.declared.system.System.TheVariants.{Gps}
 use Rattle.rinex_head.specs.FirstFailing.{IsFirstFailing}
 use Rattle.rinex_head.specs.Walk.{Gives, OnRefusal, IfRefused}
-use Rattle.obs_feed.specs.Fed.{StandsFor}
-use Rattle.obs_feed.specs.ObsRules.{obs_of}
-use Rattle.obs_feed.specs.Started.{GoesOn}
+use Rattle.rinex_obs.specs.Fed.{StandsFor}
+use Rattle.rinex_obs.specs.ObsRules.{obs_of}
+use Rattle.rinex_obs.specs.Started.{GoesOn}
 use Rattle.rinex2_obs.specs.Obs2Rules.{obs2_of}
 use Rattle.obs_source.specs.declared.taker.Source.{Source}
 use Rattle.obs_source.specs.declared.taker.Source.TheVariants as source

@@ -2,20 +2,18 @@
 ghost use Rattle.std.specs.Prelude.{◌≡◌, ◌+◌, ◌≤◌, ◌++◌, List, ℕ, [], length, take, OnOk, OnErr, IfOk, IfSome, IfNone, IsErr, Err};
 ghost use Rattle.std.specs.Str.Lines.{strip_carriage_return};
 ghost use Rattle.rinex_head.specs.declared.system.System.TheVariants.{Gps};
-ghost use Rattle.obs_feed.specs.Started.{EndsLine, GoesOn};
-ghost use Rattle.obs_feed.specs.ObsRules.{obs_of};
+ghost use Rattle.rinex_obs.specs.Started.{EndsLine, GoesOn};
+ghost use Rattle.rinex_obs.specs.ObsRules.{obs_of};
 ghost use Rattle.rinex2_obs.specs.Obs2Rules.{obs2_of};
 ghost use Rattle.obs_source.specs.Formats.{begins_2};
 ghost use Rattle.obs_source.specs.Taking.{IsKeptOf, IsKeptOf-prop, IsReadBy, IsFirstOf, StandsForText, HasNoMemory, IsAnswer};
 
 use line_source::{Line, Taker, without_return};
-use obs_feed::{Feed, Overlong, StartedLine, split_line};
 use obs_store::ObsFile;
-use rinex_head::{System, TextFault, field, fixed, head_line};
+use rinex_head::{FIRST_LABEL, System, TextFault, field, fixed, head_line};
+use rinex_obs::{Feed, Overlong, StartedLine, split_line};
 use rinex2_obs::read_obs2;
 use std::alloc::{AllocError, Global};
-
-const FIRST_LABEL: &[u8] = b"RINEX VERSION / TYPE";
 
 /// What a taker holds between two pieces.
 #[derive(Drop)]

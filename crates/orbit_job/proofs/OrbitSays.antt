@@ -3,7 +3,7 @@ use Rattle.std.proofs.Common.{◌≡◌, ◌≢◌, inl, inr, ℕ, List, [], ◌
 use Rattle.std.specs.Io.KnownBytes.{Appends}
 use Rattle.line_source.specs.Told.{IsReadToEnd}
 use Rattle.rinex_head.specs.Systems.{system_of}
-use Rattle.nav_records.specs.NavForm.{HasNavFile}
+use Rattle.rinex_nav.specs.NavForm.{HasNavFile}
 use Rattle.job_answers.specs.declared.status.Status.TheVariants.{ReadFault}
 use Rattle.job_answers.specs.Statuses.{IsVerdictStatus, IsJobStatus}
 use Rattle.job_answers.specs.Endings.{Ending, EndsByFile, IsAdmitted, IsRefusedWhole}

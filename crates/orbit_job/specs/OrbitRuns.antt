@@ -8,7 +8,7 @@ use Rattle.eph_store.specs.declared.ephemeris.Eph.{Eph}
 use Rattle.eph_store.specs.Records.{AreFit}
 use Rattle.eph_store.specs.Chosen.{IsChosenRecord, HasNoCandidate}
 use Rattle.rinex_head.specs.Systems.{system_of}
-use Rattle.nav_records.specs.NavForm.{IsNavFile}
+use Rattle.rinex_nav.specs.NavForm.{IsNavFile}
 use Rattle.sv_orbit.specs.declared.place.SvBox.{SvBox}
 use Rattle.report_text.specs.Orbit.{OrbitNumbers, AreNarrow, AreNumbersOf, orbit_lines, no_record_line}
 use Rattle.job_answers.specs.declared.status.Status.{Status}

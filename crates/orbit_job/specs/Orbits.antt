@@ -12,8 +12,8 @@ use Rattle.sv_orbit.specs.declared.place.SvBox.{SvBox}
 use Rattle.sv_orbit.specs.Solutions.{HoldsSolution}
 use Rattle.system_world.specs.Worlds.{world_of}
 use Rattle.rinex_head.specs.Systems.{system_of}
-use Rattle.nav_records.specs.NavForm.{IsNavFile, HasNavFile}
-use Rattle.nav_records.specs.NavRules.{nav_of}
+use Rattle.rinex_nav.specs.NavForm.{IsNavFile, HasNavFile}
+use Rattle.rinex_nav.specs.NavRules.{nav_of}
 use Rattle.report_text.specs.Orbit.{OrbitNumbers, HoldsQuantities, AreNarrow, AreNumbersOf, orbit_lines, no_record_line}
 use Rattle.job_answers.specs.declared.status.Status.TheVariants.{Done, Declined}
 use Rattle.job_answers.specs.Endings.{Ending, ending, IsRefusal}

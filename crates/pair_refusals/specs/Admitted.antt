@@ -4,7 +4,7 @@ use Rattle.std.specs.declared.option.Option.{Option}
 use Rattle.obs_store.specs.declared.file.ObsFile.{ObsFile}
 use Rattle.rinex_head.specs.Systems.{system_of}
 use Rattle.obs_source.specs.Formats.{HasObservation}
-use Rattle.nav_records.specs.NavForm.{HasNavFile}
+use Rattle.rinex_nav.specs.NavForm.{HasNavFile}
 use Rattle.run_options.specs.declared.options.Options.{Options}
 use Rattle.obs_rows.specs.BandSets.{bands_of}
 use Rattle.session_begin.specs.Beginnings.{HasPosition, HaveSignals, AreSparse}

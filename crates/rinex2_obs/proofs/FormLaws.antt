@@ -12,11 +12,12 @@ use Rattle.rinex_head.proofs.Walks.{walk-takes, walk-end}
 use Rattle.rinex2_obs.specs.Profile.{kept_of}
 use Rattle.rinex2_obs.specs.Rows.{rows_of}
 use Rattle.rinex2_obs.specs.declared.header.Header.{Header}
-use Rattle.rinex2_obs.specs.declared.header_lines.HeaderLine.{HeaderLine}
-use Rattle.rinex2_obs.specs.declared.header_lines.HeaderLine.TheVariants as header
-use Rattle.rinex2_obs.specs.Obs2Rules.{HeaderSoFar, First, Head, Body, Skip, so_far, bare_header, with_types, whole_header, file_of, epoch_of, more_types, more_sats, more_names, more_rows, more_lines, more_slips, with_satellite, after_header, admit, obs2_rules}
-use Rattle.rinex2_obs.specs.Obs2Form.{HeadPart, IsPlain, AreHeadParts, head_lines, position_by, delta_by, last_position, last_delta, AreFurther, IsHeader, SatPart, Part, Blank, Event, Slips, Epoch_, AreFurtherNames, AreRows, AreSats, numbers_of, sat_lines, if_of_gps, satellites_of, AreEventLines, AreMarked, AreShort, epoch_in_part, AreParts, epochs_of, body_lines, IsObs2File}
-use Rattle.rinex2_obs.proofs.Steps.{admit_more, admit_names, rows_begin, rows_all, admit_rows, admit_slips, admit_skipped, one_satellite}
+use Rattle.rinex2_obs.specs.Obs2Rules.{First, Head, Body, Skip, so_far, bare_header, whole_header, file_of, epoch_of, more_sats, more_names, more_rows, more_lines, more_slips, with_satellite, admit, obs2_rules}
+use Rattle.obs_fields.specs.HeadParts.{head_lines, last_position, last_delta}
+use Rattle.obs_fields.proofs.HeaderLaws.{regroup, header_given}
+use Rattle.rinex2_obs.specs.Obs2Form.{IsHeader, SatPart, Part, Blank, Event, Slips, Epoch_, AreFurtherNames, AreRows, AreSats, numbers_of, sat_lines, if_of_gps, satellites_of, AreEventLines, AreMarked, AreShort, epoch_in_part, AreParts, epochs_of, body_lines, IsObs2File}
+use Rattle.rinex2_obs.proofs.Headers.{head_rules}
+use Rattle.rinex2_obs.proofs.Steps.{admit_names, rows_begin, rows_all, admit_rows, admit_slips, admit_skipped, one_satellite}
 
 -- the lines of an event are taken
 lines_taken : (lines more : List (List ℕ)) (h : Header) (epochs : List Epoch) (changes : Bool) (n : ℕ) → AreEventLines changes lines
@@ -126,75 +127,27 @@ parts_taken (Epoch_ p ∷ parts) h epochs n are =
     ∙ parts_taken parts h (epochs ++ epoch_in_part p ∷ []) (n + 1 + k + length lines) are.1
     ∙ rw (append_assoc epochs (epoch_in_part p ∷ []) (epochs_of parts)) refl
 
--- the further lines of a list of types are taken
-further_taken : (lines more : List (List ℕ)) (h : HeaderSoFar) (names : List (List ℕ)) (left : ℕ) (all : List (List ℕ)) (n : ℕ) → AreFurther lines names left all
-    → walk obs2_rules (lines ++ more) n (more_types h names left) ≡ walk obs2_rules more (n + length lines) (Head (with_types h all))
-further_taken [] more h names left all n are = rw (are.0, are.1, add-zero) refl
-further_taken (bytes ∷ lines) more h names left all n are =
-    let list = are.2.0 in
-    let further : n + suc (length lines) ≡ n + 1 + length lines = omega arith in
-    let admits : admit (more_types h names left) bytes ≡ Ok (more_types h list.names list.left) = admit_more h names left bytes are.0 ∙ rw (are.2.1) refl in
-    walk-takes obs2_rules (more_types h names left) (more_types h list.names list.left) bytes (lines ++ more) n are.1 admits
-    ∙ further_taken lines more h list.names list.left all (n + 1) are.2.2 ∙ rw further refl
-
-abbrev seen_by : HeaderSoFar → HeaderLine → HeaderSoFar
-seen_by h l = so_far h.hundredths (position_by h.position l) (delta_by h.delta l) h.types
-
-plain_step : (h : HeaderSoFar) (bytes : List ℕ) (l : HeaderLine) → IsPlain l → after_header h bytes l ≡ Ok (Head (seen_by h l))
-plain_step h bytes header.End plain = absurd plain
-plain_step h bytes (header.Position p) plain = refl
-plain_step h bytes (header.Delta d) plain = refl
-plain_step h bytes header.Types plain = absurd plain
-plain_step h bytes header.Skipped plain = refl
-
--- and so are the other lines of a header
-plain_taken : (parts : List HeadPart) (more : List (List ℕ)) (h : HeaderSoFar) (n : ℕ) → AreHeadParts parts
-    → walk obs2_rules (head_lines parts ++ more) n (Head h) ≡ walk obs2_rules more (n + length parts) (Head (so_far h.hundredths (last_position h.position parts) (last_delta h.delta parts) h.types))
-plain_taken [] more h n are = rw add-zero refl
-plain_taken (p ∷ parts) more h n are =
-    let further : n + suc (length parts) ≡ n + 1 + length parts = omega arith in
-    let admits : admit (Head h) p.bytes ≡ Ok (Head (seen_by h p.says)) = rw (are.1) (plain_step h p.bytes p.says are.2) in
-    walk-takes obs2_rules (Head h) (Head (seen_by h p.says)) p.bytes (head_lines parts ++ more) n are.0 admits
-    ∙ plain_taken parts more (seen_by h p.says) (n + 1) are.3 ∙ rw further refl
-
 -- a header is taken, whatever follows it
 record TookWhole (lines more : List (List ℕ)) (h : Header) : Type 0 where
   number : ℕ
   gives : walk obs2_rules (lines ++ more) 0 First ≡ walk obs2_rules more number (Body h [])
 
-pub regroup : (before : List (List ℕ)) (list : List ℕ) (further after : List (List ℕ)) (last : List ℕ) (more : List (List ℕ))
-    → (before ++ (list ∷ (further ++ (after ++ (last ∷ []))))) ++ more ≡ before ++ (list ∷ (further ++ (after ++ (last ∷ more))))
-regroup before list further after last more = simp append_assoc
-
 header_taken : (lines more : List (List ℕ)) (h : Header) → IsHeader lines h → TookWhole lines more h
 header_taken lines more h is =
     let version = bare_header h.hundredths in
-    let seen = so_far h.hundredths (last_position None is.before) (last_delta (pos 0 ∷ pos 0 ∷ pos 0 ∷ []) is.before) None in
-    let listed = with_types seen h.types in
-    let all = so_far h.hundredths (last_position seen.position is.after) (last_delta seen.delta is.after) (Some h.types) in
-    let behind_after = is.last ∷ more in
-    let behind_list = head_lines is.after ++ behind_after in
-    let behind_before = is.list ∷ (is.further ++ behind_list) in
-    let behind_first = head_lines is.before ++ behind_before in
+    let zero_delta = pos 0 ∷ pos 0 ∷ pos 0 ∷ [] in
+    let behind_first = head_lines is.before ++ (is.list ∷ (is.further ++ (head_lines is.after ++ (is.last ∷ more)))) in
     let first_admits : admit First is.first ≡ Ok (Head version) = rw (is.version) refl in
-    let list_admits : admit (Head seen) is.list ≡ Ok (more_types seen is.types.list.names is.types.list.left) = rw (is.types.begins, is.types.first) refl in
+    let all = so_far h.hundredths (last_position (last_position None is.before) is.after) (last_delta (last_delta zero_delta is.before) is.after) (Some h.types) in
     let whole : whole_header all h.types ≡ h = rw (← is.position, ← is.delta) refl in
-    let last_admits : admit (Head all) is.last ≡ Ok (Body (whole_header all h.types) []) = rw (is.ends) refl in
-    let n1 = 0 + 1 in
-    let n2 = n1 + length is.before in
-    let n3 = n2 + 1 + length is.further in
-    let n4 = n3 + length is.after in
+    let number = 0 + 1 + length is.before + 1 + length is.further + length is.after + 1 in
     record {
-      number = n4 + 1;
+      number = number;
       gives = ap (λ (l : List (List ℕ)). walk obs2_rules (l ++ more) 0 First) is.lines_are
           ∙ ap (λ (l : List (List ℕ)). walk obs2_rules (is.first ∷ l) 0 First) (regroup (head_lines is.before) is.list is.further (head_lines is.after) is.last more)
           ∙ walk-takes obs2_rules First (Head version) is.first behind_first 0 is.first_short first_admits
-          ∙ plain_taken is.before behind_before version n1 is.before_are
-          ∙ walk-takes obs2_rules (Head seen) (more_types seen is.types.list.names is.types.list.left) is.list (is.further ++ behind_list) n2 is.types.short list_admits
-          ∙ further_taken is.further behind_list seen is.types.list.names is.types.list.left h.types (n2 + 1) is.types.others
-          ∙ plain_taken is.after behind_after listed n3 is.after_are
-          ∙ walk-takes obs2_rules (Head all) (Body (whole_header all h.types) []) is.last more n4 is.last_short last_admits
-          ∙ ap (λ (w : Header). walk obs2_rules more (n4 + 1) (Body w [])) whole;
+          ∙ header_given (head_rules h.hundredths) is.before is.after is.list is.last is.further more h.types None zero_delta (0 + 1) is.before_are is.types is.after_are is.last_short is.ends
+          ∙ ap (λ (w : Header). walk obs2_rules more number (Body w [])) whole;
     }
 
 -- a file of the grammar is what its lines give

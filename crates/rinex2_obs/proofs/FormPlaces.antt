@@ -29,7 +29,7 @@ use Rattle.rinex2_obs.specs.SatNames
 use Rattle.rinex2_obs.specs.SatNames.{further_mark_of}
 use Rattle.rinex2_obs.specs.Rows.{rows_of, row_of}
 use Rattle.rinex2_obs.specs.declared.header.Header.{Header}
-use Rattle.rinex2_obs.specs.declared.header_lines.HeaderLine.TheVariants as header
+use Rattle.obs_fields.specs.declared.header_line.HeaderLine.TheVariants as header
 use Rattle.rinex2_obs.specs.Obs2Rules.{HeaderSoFar, Expected, First, Head, More, Body, Names, Row, Further, Skip, bare_header, with_types, whole_header, file_of, more_types, more_sats, more_names, more_rows, more_lines, more_slips, with_satellite, admit, obs2_rules}
 use Rattle.rinex2_obs.specs.Obs2Form.{IsObs2File, HasObs2File}
 use Rattle.rinex2_obs.proofs.Steps.{types_there, rows_due, rows_all}

@@ -1,5 +1,5 @@
 -- Lines that give a file are one of the grammar.
-use Rattle.std.proofs.Common.{◌≡◌, ◌≤◌, ◌<◌, ◌+◌, ◌-◌, ◌*◌, ℕ, ℤ, zero, suc, pos, nat_lt, Bool, true, false, List, [], ◌∷◌, ◌++◌, length, Result, Ok, Err, Option, Some, None, refl, sym, ap, ◌∙◌, subst, arith, append_assoc}
+use Rattle.std.proofs.Common.{◌≡◌, ◌≤◌, ◌<◌, ◌+◌, ◌-◌, ◌*◌, ℕ, zero, suc, pos, nat_lt, Bool, true, false, List, [], ◌∷◌, ◌++◌, length, Result, Ok, Err, Option, Some, None, refl, sym, ap, ◌∙◌, subst, arith, append_assoc}
 use Rattle.std.proofs.lemmas.List.{append-nil}
 use Rattle.std.proofs.lemmas.Bool.Decides.{nat_tests}
 use Rattle.gps_time.specs.declared.Tick.{Tick}
@@ -9,31 +9,28 @@ use Rattle.obs_store.specs.declared.values.Value.{Value}
 use Rattle.obs_store.specs.declared.values.SatObs.{SatObs}
 use Rattle.obs_store.specs.Missing.{missing_values}
 use Rattle.rinex_head.specs.declared.place.What.{What}
-use Rattle.rinex_head.specs.declared.place.What.TheVariants.{ObsVersion, NoEnd, Truncated}
+use Rattle.rinex_head.specs.declared.place.What.TheVariants.{ObsVersion, Truncated}
 use Rattle.rinex_head.specs.declared.place.Flaw.{Flaw}
 use Rattle.rinex_head.specs.Places.{and_then, flawed, at_line}
 use Rattle.rinex_head.specs.Walk.{walk}
 use Rattle.rinex_head.proofs.Walks.{walk-end, TookLine, walk-took}
-use Rattle.obs_fields.specs.Types.{first_types_of, further_types_of}
 use Rattle.obs_fields.specs.declared.layout.Layout.TheVariants.{Rinex2}
 use Rattle.obs_fields.specs.Labels.{event_line_of}
-use Rattle.obs_fields.specs.declared.types.TypeList.{TypeList}
 use Rattle.rinex2_obs.specs.FirstLine.{first_line_of}
-use Rattle.rinex2_obs.specs.HeaderLines.{header_line_of}
 use Rattle.rinex2_obs.specs.Profile.{kept_of}
 use Rattle.rinex2_obs.specs.SatNames.{further_mark_of, further_names_of}
 use Rattle.rinex2_obs.specs.EpochLines.{epoch_line_of}
 use Rattle.rinex2_obs.specs.Rows.{rows_of, further_lines_of, row_of}
 use Rattle.rinex2_obs.specs.declared.sat_names.NameList.{NameList}
 use Rattle.rinex2_obs.specs.declared.header.Header.{Header}
-use Rattle.rinex2_obs.specs.declared.header_lines.HeaderLine.{HeaderLine}
-use Rattle.rinex2_obs.specs.declared.header_lines.HeaderLine.TheVariants as header
 use Rattle.rinex2_obs.specs.declared.epoch_lines.EpochLine.{EpochLine}
 use Rattle.rinex2_obs.specs.declared.epoch_lines.EpochLine.TheVariants as line
-use Rattle.rinex2_obs.specs.Obs2Rules.{HeaderSoFar, Expected, First, Head, More, Body, Names, Row, Further, Skip, so_far, bare_header, whole_header, file_of, epoch_of, more_types, more_sats, more_names, more_rows, more_lines, more_slips, after_header, after_epoch, with_satellite, obs2_rules}
-use Rattle.rinex2_obs.specs.Obs2Form.{HeadPart, AreHeadParts, head_lines, last_position, last_delta, AreFurther, IsTypeList, SatPart, EpochPart, EventPart, SlipsPart, Part, Blank, Event, Slips, Epoch_, AreFurtherNames, AreRows, AreSats, numbers_of, sat_lines, satellites_of, AreEventLines, AreMarked, AreShort, AreParts, epochs_of, body_lines, IsObs2File}
+use Rattle.rinex2_obs.specs.Obs2Rules.{Expected, First, Head, Body, Names, Row, Further, Skip, so_far, bare_header, whole_header, file_of, epoch_of, more_sats, more_names, more_rows, more_lines, more_slips, after_epoch, with_satellite, obs2_rules}
+use Rattle.obs_fields.specs.HeadParts.{head_lines, last_position, last_delta}
+use Rattle.obs_fields.proofs.HeaderLaws.{regroup, header_took}
+use Rattle.rinex2_obs.specs.Obs2Form.{SatPart, EpochPart, EventPart, SlipsPart, Part, Blank, Event, Slips, Epoch_, AreFurtherNames, AreRows, AreSats, numbers_of, sat_lines, satellites_of, AreEventLines, AreMarked, AreShort, AreParts, epochs_of, body_lines, IsObs2File}
 use Rattle.rinex2_obs.proofs.Steps.{rows_due, rows_all, one_satellite}
-use Rattle.rinex2_obs.proofs.FormLaws.{regroup}
+use Rattle.rinex2_obs.proofs.Headers.{head_rules}
 
 -- ---- the body
 
@@ -313,157 +310,6 @@ took (bytes ∷ lines) = record {
   skip = event_line bytes lines (took lines);
 }
 
--- ---- the header
-
-record TookEnd (lines : List (List ℕ)) (hundredths : ℕ) (position : Option (List ℤ)) (delta : List ℤ) (types : List (List ℕ)) (whole : ObsFile) : Type 0 where
-  after : List HeadPart
-  last : List ℕ
-  rest : List (List ℕ)
-  lines_are : lines ≡ head_lines after ++ (last ∷ rest)
-  are : AreHeadParts after
-  last_short : length last ≤ 4096
-  ends : header_line_of last ≡ Ok header.End
-  number : ℕ
-  gives : walk obs2_rules rest number (Body (whole_header (so_far hundredths (last_position position after) (last_delta delta after) (Some types)) types) []) ≡ Ok whole
-
-record TookMore (lines : List (List ℕ)) (hundredths : ℕ) (position : Option (List ℤ)) (delta : List ℤ) (names : List (List ℕ)) (left : ℕ) (whole : ObsFile) : Type 0 where
-  further : List (List ℕ)
-  tail : List (List ℕ)
-  all : List (List ℕ)
-  lines_are : lines ≡ further ++ tail
-  are : AreFurther further names left all
-  end : TookEnd tail hundredths position delta all whole
-
-record TookList (lines : List (List ℕ)) (hundredths : ℕ) (position : Option (List ℤ)) (delta : List ℤ) (whole : ObsFile) : Type 0 where
-  before : List HeadPart
-  list : List ℕ
-  further : List (List ℕ)
-  tail : List (List ℕ)
-  types : List (List ℕ)
-  lines_are : lines ≡ head_lines before ++ (list ∷ (further ++ tail))
-  are : AreHeadParts before
-  is_list : IsTypeList list further types
-  end : TookEnd tail hundredths (last_position position before) (last_delta delta before) types whole
-
--- what lines of a header are: behind the list of types, within it, and before it
-record TookHead (lines : List (List ℕ)) : Type 0 where
-  some : (hundredths : ℕ) (position : Option (List ℤ)) (delta : List ℤ) (types : List (List ℕ)) (n : ℕ) (whole : ObsFile) → walk obs2_rules lines n (Head (so_far hundredths position delta (Some types))) ≡ Ok whole → TookEnd lines hundredths position delta types whole
-  more : (hundredths : ℕ) (position : Option (List ℤ)) (delta : List ℤ) (names : List (List ℕ)) (left n : ℕ) (whole : ObsFile) → walk obs2_rules lines n (More (so_far hundredths position delta None) names (suc left)) ≡ Ok whole → TookMore lines hundredths position delta names (suc left) whole
-  none : (hundredths : ℕ) (position : Option (List ℤ)) (delta : List ℤ) (n : ℕ) (whole : ObsFile) → walk obs2_rules lines n (Head (so_far hundredths position delta None)) ≡ Ok whole → TookList lines hundredths position delta whole
-
-of_more_types : (lines : List (List ℕ)) → TookHead lines → (hundredths : ℕ) (position : Option (List ℤ)) (delta : List ℤ) (names : List (List ℕ)) (left n : ℕ) (whole : ObsFile) → walk obs2_rules lines n (more_types (so_far hundredths position delta None) names left) ≡ Ok whole → TookMore lines hundredths position delta names left whole
-of_more_types lines took hundredths position delta names zero n whole gives =
-    record { further = []; tail = lines; all = names; lines_are = refl; are = (refl, refl); end = took.some hundredths position delta names n whole gives }
-of_more_types lines took hundredths position delta names (suc left) n whole gives = took.more hundredths position delta names left n whole gives
-
-abbrev part_of : List ℕ → HeaderLine → HeadPart
-part_of bytes says = record { bytes = bytes; says = says }
-
-some_line : (bytes : List ℕ) (lines : List (List ℕ)) → TookHead lines → (hundredths : ℕ) (position : Option (List ℤ)) (delta : List ℤ) (types : List (List ℕ)) (n : ℕ) (whole : ObsFile) → walk obs2_rules (bytes ∷ lines) n (Head (so_far hundredths position delta (Some types))) ≡ Ok whole → TookEnd (bytes ∷ lines) hundredths position delta types whole
-some_line bytes lines took hundredths position delta types n whole gives = by_part (header_line_of bytes) refl first.admits
-  where
-    h : HeaderSoFar
-    h = so_far hundredths position delta (Some types)
-
-    first : TookLine obs2_rules (Head (so_far hundredths position delta (Some types))) bytes lines n whole
-    first = walk-took obs2_rules (Head (so_far hundredths position delta (Some types))) bytes lines n whole gives
-
-    others : (next : Expected) → next ≡ first.next → walk obs2_rules lines (n + 1) next ≡ Ok whole
-    others next same = subst (λ (s : Expected). walk obs2_rules lines (n + 1) s ≡ Ok whole) (sym same) first.others
-
-    by_part : (r : Result HeaderLine Flaw) → header_line_of bytes ≡ r → and_then r (λ l. after_header (so_far hundredths position delta (Some types)) bytes l) ≡ Ok first.next → TookEnd (bytes ∷ lines) hundredths position delta types whole
-    by_part (Ok header.End) says gives =
-        let next : Body (whole_header (so_far hundredths position delta (Some types)) types) [] ≡ first.next = cc (gives) in
-        record { after = []; last = bytes; rest = lines; lines_are = refl; are = tt; last_short = first.short; ends = says; number = n + 1; gives = others (Body (whole_header (so_far hundredths position delta (Some types)) types) []) next }
-    by_part (Ok (header.Position p)) says gives =
-        let next : Head (so_far hundredths p delta (Some types)) ≡ first.next = cc (gives) in
-        let rest = took.some hundredths p delta types (n + 1) whole (others (Head (so_far hundredths p delta (Some types))) next) in
-        record { after = part_of bytes (header.Position p) ∷ rest.after; last = rest.last; rest = rest.rest; lines_are = ap (λ (l : List (List ℕ)). bytes ∷ l) rest.lines_are; are = (first.short, says, tt, rest.are); last_short = rest.last_short; ends = rest.ends; number = rest.number; gives = rest.gives }
-    by_part (Ok (header.Delta d)) says gives =
-        let next : Head (so_far hundredths position d (Some types)) ≡ first.next = cc (gives) in
-        let rest = took.some hundredths position d types (n + 1) whole (others (Head (so_far hundredths position d (Some types))) next) in
-        record { after = part_of bytes (header.Delta d) ∷ rest.after; last = rest.last; rest = rest.rest; lines_are = ap (λ (l : List (List ℕ)). bytes ∷ l) rest.lines_are; are = (first.short, says, tt, rest.are); last_short = rest.last_short; ends = rest.ends; number = rest.number; gives = rest.gives }
-    by_part (Ok header.Types) says gives = absurd cc
-    by_part (Ok header.Skipped) says gives =
-        let next : Head (so_far hundredths position delta (Some types)) ≡ first.next = cc (gives) in
-        let rest = took.some hundredths position delta types (n + 1) whole (others (Head (so_far hundredths position delta (Some types))) next) in
-        record { after = part_of bytes header.Skipped ∷ rest.after; last = rest.last; rest = rest.rest; lines_are = ap (λ (l : List (List ℕ)). bytes ∷ l) rest.lines_are; are = (first.short, says, tt, rest.are); last_short = rest.last_short; ends = rest.ends; number = rest.number; gives = rest.gives }
-    by_part (Err flaw) says gives = absurd cc
-
-more_line : (bytes : List ℕ) (lines : List (List ℕ)) → TookHead lines → (hundredths : ℕ) (position : Option (List ℤ)) (delta : List ℤ) (names : List (List ℕ)) (left n : ℕ) (whole : ObsFile) → walk obs2_rules (bytes ∷ lines) n (More (so_far hundredths position delta None) names (suc left)) ≡ Ok whole → TookMore (bytes ∷ lines) hundredths position delta names (suc left) whole
-more_line bytes lines took hundredths position delta names left n whole gives = by_part (further_types_of Rinex2 bytes names (suc left)) refl first.admits
-  where
-    first : TookLine obs2_rules (More (so_far hundredths position delta None) names (suc left)) bytes lines n whole
-    first = walk-took obs2_rules (More (so_far hundredths position delta None) names (suc left)) bytes lines n whole gives
-
-    by_part : (r : Result TypeList Flaw) → further_types_of Rinex2 bytes names (suc left) ≡ r → and_then r (λ list. Ok (more_types (so_far hundredths position delta None) list.names list.left)) ≡ Ok first.next → TookMore (bytes ∷ lines) hundredths position delta names (suc left) whole
-    by_part (Ok list) says gives =
-        let next : more_types (so_far hundredths position delta None) list.names list.left ≡ first.next = cc (gives) in
-        let rest = of_more_types lines took hundredths position delta list.names list.left (n + 1) whole (subst (λ (s : Expected). walk obs2_rules lines (n + 1) s ≡ Ok whole) (sym next) first.others) in
-        record { further = bytes ∷ rest.further; tail = rest.tail; all = rest.all; lines_are = ap (λ (l : List (List ℕ)). bytes ∷ l) rest.lines_are; are = (omega arith, first.short, (list, says, rest.are)); end = rest.end }
-    by_part (Err flaw) says gives = absurd cc
-
-none_line : (bytes : List ℕ) (lines : List (List ℕ)) → TookHead lines → (hundredths : ℕ) (position : Option (List ℤ)) (delta : List ℤ) (n : ℕ) (whole : ObsFile) → walk obs2_rules (bytes ∷ lines) n (Head (so_far hundredths position delta None)) ≡ Ok whole → TookList (bytes ∷ lines) hundredths position delta whole
-none_line bytes lines took hundredths position delta n whole gives = by_part (header_line_of bytes) refl first.admits
-  where
-    first : TookLine obs2_rules (Head (so_far hundredths position delta None)) bytes lines n whole
-    first = walk-took obs2_rules (Head (so_far hundredths position delta None)) bytes lines n whole gives
-
-    others : (next : Expected) → next ≡ first.next → walk obs2_rules lines (n + 1) next ≡ Ok whole
-    others next same = subst (λ (s : Expected). walk obs2_rules lines (n + 1) s ≡ Ok whole) (sym same) first.others
-
-    by_list : (r : Result TypeList Flaw) → first_types_of Rinex2 bytes ≡ r → header_line_of bytes ≡ Ok header.Types → and_then r (λ list. Ok (more_types (so_far hundredths position delta None) list.names list.left)) ≡ Ok first.next → TookList (bytes ∷ lines) hundredths position delta whole
-    by_list (Ok list) lists says gives =
-        let next : more_types (so_far hundredths position delta None) list.names list.left ≡ first.next = cc (gives) in
-        let rest = of_more_types lines took hundredths position delta list.names list.left (n + 1) whole (others (more_types (so_far hundredths position delta None) list.names list.left) next) in
-        record {
-          before = [];
-          list = bytes;
-          further = rest.further;
-          tail = rest.tail;
-          types = rest.all;
-          lines_are = ap (λ (l : List (List ℕ)). bytes ∷ l) rest.lines_are;
-          are = tt;
-          is_list = record { short = first.short; begins = says; list = list; first = lists; others = rest.are };
-          end = rest.end;
-        }
-    by_list (Err flaw) lists says gives = absurd cc
-
-    with_part : (says : HeaderLine) (p : Option (List ℤ)) (d : List ℤ) → TookList lines hundredths p d whole → (last_position position (part_of bytes says ∷ []) ≡ p) → (last_delta delta (part_of bytes says ∷ []) ≡ d) → AreHeadParts (part_of bytes says ∷ []) → TookList (bytes ∷ lines) hundredths position delta whole
-    with_part says p d rest same_p same_d is = record {
-      before = part_of bytes says ∷ rest.before;
-      list = rest.list;
-      further = rest.further;
-      tail = rest.tail;
-      types = rest.types;
-      lines_are = ap (λ (l : List (List ℕ)). bytes ∷ l) rest.lines_are;
-      are = (is.0, is.1, is.2, rest.are);
-      is_list = rest.is_list;
-      end = rw (same_p, same_d) rest.end;
-    }
-
-    by_part : (r : Result HeaderLine Flaw) → header_line_of bytes ≡ r → and_then r (λ l. after_header (so_far hundredths position delta None) bytes l) ≡ Ok first.next → TookList (bytes ∷ lines) hundredths position delta whole
-    by_part (Ok header.End) says gives = absurd cc
-    by_part (Ok (header.Position p)) says gives =
-        let next : Head (so_far hundredths p delta None) ≡ first.next = cc (gives) in
-        with_part (header.Position p) p delta (took.none hundredths p delta (n + 1) whole (others (Head (so_far hundredths p delta None)) next)) refl refl (first.short, says, tt, tt)
-    by_part (Ok (header.Delta d)) says gives =
-        let next : Head (so_far hundredths position d None) ≡ first.next = cc (gives) in
-        with_part (header.Delta d) position d (took.none hundredths position d (n + 1) whole (others (Head (so_far hundredths position d None)) next)) refl refl (first.short, says, tt, tt)
-    by_part (Ok header.Types) says gives = by_list (first_types_of Rinex2 bytes) refl says gives
-    by_part (Ok header.Skipped) says gives =
-        let next : Head (so_far hundredths position delta None) ≡ first.next = cc (gives) in
-        with_part header.Skipped position delta (took.none hundredths position delta (n + 1) whole (others (Head (so_far hundredths position delta None)) next)) refl refl (first.short, says, tt, tt)
-    by_part (Err flaw) says gives = absurd cc
-
-took_head : (lines : List (List ℕ)) → TookHead lines
-took_head [] = record {
-  some = λ hundredths position delta types n whole gives. absurd (no_file n NoEnd whole (sym (walk-end obs2_rules (Head (so_far hundredths position delta (Some types))) n) ∙ gives));
-  more = λ hundredths position delta names left n whole gives. absurd (no_file n NoEnd whole (sym (walk-end obs2_rules (More (so_far hundredths position delta None) names (suc left)) n) ∙ gives));
-  none = λ hundredths position delta n whole gives. absurd (no_file n NoEnd whole (sym (walk-end obs2_rules (Head (so_far hundredths position delta None)) n) ∙ gives));
-}
-took_head (bytes ∷ lines) = record { some = some_line bytes lines (took_head lines); more = more_line bytes lines (took_head lines); none = none_line bytes lines (took_head lines) }
-
 -- ---- the file
 
 pub file_took : (lines : List (List ℕ)) (file : ObsFile) → walk obs2_rules lines 0 First ≡ Ok file → IsObs2File lines file
@@ -477,7 +323,7 @@ file_took (bytes ∷ lines) file gives = by_part (first_line_of bytes) refl firs
     by_part (Ok v) says gives =
         let next : Head (bare_header v) ≡ first.next = cc (gives) in
         let zero_delta = pos 0 ∷ pos 0 ∷ pos 0 ∷ [] in
-        let head = (took_head lines).none v None zero_delta (0 + 1) file (subst (λ (s : Expected). walk obs2_rules lines (0 + 1) s ≡ Ok file) (sym next) first.others) in
+        let head = header_took (head_rules v) lines None zero_delta (0 + 1) file (subst (λ (s : Expected). walk obs2_rules lines (0 + 1) s ≡ Ok file) (sym next) first.others) in
         let end = head.end in
         let header = whole_header (so_far v (last_position (last_position None head.before) end.after) (last_delta (last_delta zero_delta head.before) end.after) (Some head.types)) head.types in
         let body = (took end.rest).body header [] end.number file end.gives in

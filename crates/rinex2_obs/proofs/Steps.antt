@@ -21,7 +21,7 @@ use Rattle.rinex2_obs.specs.Profile.{kept_of}
 use Rattle.rinex2_obs.specs.Rows.{rows_of, row_of}
 use Rattle.rinex2_obs.specs.SatNames.{further_mark_of, further_names_of}
 use Rattle.rinex2_obs.specs.declared.header.Header.{Header}
-use Rattle.rinex2_obs.specs.declared.header_lines.HeaderLine.TheVariants as header
+use Rattle.obs_fields.specs.declared.header_line.HeaderLine.TheVariants as header
 use Rattle.rinex2_obs.specs.Obs2Rules.{HeaderSoFar, Expected, Body, Row, Skip, more_types, more_sats, more_names, more_rows, more_lines, more_slips, with_satellite, whole_header, after_header, admit, finish, obs2_rules}
 use Rattle.rinex2_obs.specs.Obs2Form.{if_of_gps}
 

@@ -13,8 +13,8 @@ use Rattle.obs_fields.specs.declared.labels.Label.TheVariants as label
 use Rattle.obs_fields.specs.declared.layout.Layout.TheVariants.{Rinex2}
 use Rattle.obs_fields.specs.Labels.{label_in}
 use Rattle.obs_fields.specs.Offsets.{position_in, delta_in}
-use Rattle.rinex2_obs.specs.declared.header_lines.HeaderLine.{HeaderLine}
-use Rattle.rinex2_obs.specs.declared.header_lines.HeaderLine.TheVariants as header
+use Rattle.obs_fields.specs.declared.header_line.HeaderLine.{HeaderLine}
+use Rattle.obs_fields.specs.declared.header_line.HeaderLine.TheVariants as header
 
 -- a wavelength factor: blank, 0 or 1; 2 is that of half cycles
 abbrev pub factor_of : ℕ → Result (Option ℕ) Flaw → Result (Unit {0}) Flaw

@@ -1,5 +1,5 @@
 -- A RINEX 2 observation file as a grammar over the whole list of its lines: a header, then blank lines, epochs and events.
-use Rattle.std.specs.Prelude.{◌≡◌, ℕ, ℤ, pos, ◌<◌, ◌≤◌, ◌+◌, ◌*◌, List, [], ◌∷◌, ◌++◌, length, map, Bool, Ok, None, Some}
+use Rattle.std.specs.Prelude.{◌≡◌, ℕ, pos, ◌<◌, ◌≤◌, ◌+◌, ◌*◌, List, [], ◌∷◌, ◌++◌, length, map, Bool, Ok, None, Some}
 use Rattle.std.specs.declared.option.Option.{Option}
 use Rattle.gps_time.specs.declared.Tick.{Tick}
 use Rattle.obs_store.specs.declared.file.ObsFile.{ObsFile}
@@ -7,10 +7,9 @@ use Rattle.obs_store.specs.declared.series.Epoch.{Epoch}
 use Rattle.obs_store.specs.declared.values.Value.{Value}
 use Rattle.obs_store.specs.declared.values.SatObs.{SatObs}
 use Rattle.obs_store.specs.Missing.{missing_values}
-use Rattle.obs_fields.specs.Types.{first_types_of, further_types_of}
+use Rattle.obs_fields.specs.HeadParts.{HeadPart, AreHeadParts, head_lines, last_position, last_delta, IsTypeList}
 use Rattle.obs_fields.specs.declared.layout.Layout.TheVariants.{Rinex2}
 use Rattle.obs_fields.specs.Labels.{event_line_of}
-use Rattle.obs_fields.specs.declared.types.TypeList.{TypeList}
 use Rattle.obs_fields.specs.declared.types.KeptType.{KeptType}
 use Rattle.rinex2_obs.specs.FirstLine.{first_line_of}
 use Rattle.rinex2_obs.specs.HeaderLines.{header_line_of}
@@ -21,69 +20,10 @@ use Rattle.rinex2_obs.specs.Rows.{rows_of, further_lines_of, row_of}
 use Rattle.rinex2_obs.specs.Obs2Rules.{file_of, epoch_of, satellite_of}
 use Rattle.rinex2_obs.specs.declared.sat_names.NameList.{NameList}
 use Rattle.rinex2_obs.specs.declared.header.Header.{Header}
-use Rattle.rinex2_obs.specs.declared.header_lines.HeaderLine.{HeaderLine}
-use Rattle.rinex2_obs.specs.declared.header_lines.HeaderLine.TheVariants as header
+use Rattle.obs_fields.specs.declared.header_line.HeaderLine.TheVariants as header
 use Rattle.rinex2_obs.specs.declared.epoch_lines.EpochLine.TheVariants as line
 
 -- ---- the header
-
--- a line of the header outside the list of types, and what it says
-pub record HeadPart : Type 0 where
-  pub bytes : List ℕ
-  pub says : HeaderLine
-
--- a position, a delta, or nothing that counts
-abbrev pub IsPlain : HeaderLine → Type 0
-IsPlain header.End = ⊥
-IsPlain (header.Position p) = Unit {0}
-IsPlain (header.Delta d) = Unit {0}
-IsPlain header.Types = ⊥
-IsPlain header.Skipped = Unit {0}
-
-abbrev pub AreHeadParts : List HeadPart → Type 0
-AreHeadParts [] = Unit {0}
-AreHeadParts (p ∷ ps) = (length p.bytes ≤ 4096) × (header_line_of p.bytes ≡ Ok p.says) × IsPlain p.says × AreHeadParts ps
-
-abbrev pub head_lines : List HeadPart → List (List ℕ)
-head_lines [] = []
-head_lines (p ∷ ps) = p.bytes ∷ head_lines ps
-
--- the last position and the last delta of such lines, or those before them
-abbrev pub position_by : Option (List ℤ) → HeaderLine → Option (List ℤ)
-position_by before header.End = before
-position_by before (header.Position p) = p
-position_by before (header.Delta d) = before
-position_by before header.Types = before
-position_by before header.Skipped = before
-
-abbrev pub delta_by : List ℤ → HeaderLine → List ℤ
-delta_by before header.End = before
-delta_by before (header.Position p) = before
-delta_by before (header.Delta d) = d
-delta_by before header.Types = before
-delta_by before header.Skipped = before
-
-abbrev pub last_position : Option (List ℤ) → List HeadPart → Option (List ℤ)
-last_position before [] = before
-last_position before (p ∷ ps) = last_position (position_by before p.says) ps
-
-abbrev pub last_delta : List ℤ → List HeadPart → List ℤ
-last_delta before [] = before
-last_delta before (p ∷ ps) = last_delta (delta_by before p.says) ps
-
--- the further lines of a list of types, behind which all its names are there
-abbrev pub AreFurther : List (List ℕ) → List (List ℕ) → ℕ → List (List ℕ) → Type 0
-AreFurther [] names left all = (left ≡ 0) × (names ≡ all)
-AreFurther (bytes ∷ lines) names left all =
-    (0 < left) × (length bytes ≤ 4096) × ((list : TypeList) × (further_types_of Rinex2 bytes names left ≡ Ok list) × AreFurther lines list.names list.left all)
-
--- the lines of the list of types
-pub record IsTypeList (bytes : List ℕ) (further : List (List ℕ)) (types : List (List ℕ)) : Type 0 where
-  pub short : length bytes ≤ 4096
-  pub begins : header_line_of bytes ≡ Ok header.Types
-  pub list : TypeList
-  pub first : first_types_of Rinex2 bytes ≡ Ok list
-  pub others : AreFurther further list.names list.left types
 
 -- The header: the first line, then lines among which the list of types stands once, then END OF HEADER.
 pub record IsHeader (lines : List (List ℕ)) (h : Header) : Type 0 where
@@ -96,9 +36,9 @@ pub record IsHeader (lines : List (List ℕ)) (h : Header) : Type 0 where
   pub lines_are : lines ≡ first ∷ (head_lines before ++ (list ∷ (further ++ (head_lines after ++ (last ∷ [])))))
   pub first_short : length first ≤ 4096
   pub version : first_line_of first ≡ Ok h.hundredths
-  pub before_are : AreHeadParts before
-  pub types : IsTypeList list further h.types
-  pub after_are : AreHeadParts after
+  pub before_are : AreHeadParts header_line_of before
+  pub types : IsTypeList Rinex2 header_line_of list further h.types
+  pub after_are : AreHeadParts header_line_of after
   pub last_short : length last ≤ 4096
   pub ends : header_line_of last ≡ Ok header.End
   pub position : h.position ≡ last_position (last_position None before) after

@@ -22,8 +22,8 @@ use Rattle.rinex2_obs.specs.SatNames.{further_mark_of, further_names_of}
 use Rattle.rinex2_obs.specs.EpochLines.{epoch_line_of}
 use Rattle.rinex2_obs.specs.Rows.{rows_of, further_lines_of, row_of}
 use Rattle.rinex2_obs.specs.declared.header.Header.{Header}
-use Rattle.rinex2_obs.specs.declared.header_lines.HeaderLine.{HeaderLine}
-use Rattle.rinex2_obs.specs.declared.header_lines.HeaderLine.TheVariants as header
+use Rattle.obs_fields.specs.declared.header_line.HeaderLine.{HeaderLine}
+use Rattle.obs_fields.specs.declared.header_line.HeaderLine.TheVariants as header
 use Rattle.rinex2_obs.specs.declared.epoch_lines.EpochLine.{EpochLine}
 use Rattle.rinex2_obs.specs.declared.epoch_lines.EpochLine.TheVariants as line
 

@@ -7,10 +7,10 @@ ghost use Rattle.rinex2_obs.specs.FirstLine.{version_number, of_kind, first_line
 ghost use Rattle.rinex2_obs.specs.Rows.{rows_of};
 ghost use Rattle.rinex2_obs.specs.Obs2Rules.{HeaderSoFar, First, Head, Body, bare_header, with_types, more_types, obs2_rules};
 
-use crate::header_lines::{HeaderLine, header_line};
+use crate::header_lines::header_line;
 use line_source::{Line, Lines};
-use obs_fields::{Layout, TypeList, TypeNames, first_types, further_types};
-use rinex_head::{At, Flaw, What, byte_in, field, fixed, head_line, next_line};
+use obs_fields::{HeaderLine, Layout, TypeList, TypeNames, first_types, further_types};
+use rinex_head::{At, FIRST_LABEL, Flaw, What, byte_in, field, fixed, head_line, next_line};
 
 /// What a header says.
 #[derive(Drop)]
@@ -67,7 +67,7 @@ fn kind_of(line: &[u8], hundredths: u16) -> Result<u16, Flaw>
 pub fn first_line(line: &Line<'_>) -> Result<u16, Flaw>
     ensures { result ≡ first_line_of line.now.bytes.now }
 {
-    if head_line(line).label != b"RINEX VERSION / TYPE".as_slice() {
+    if head_line(line).label != FIRST_LABEL {
         return Err(flaw(1, What::ObsVersion));
     }
     let hundredths = version(line.bytes)?;

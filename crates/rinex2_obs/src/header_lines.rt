@@ -4,23 +4,8 @@ ghost use Rattle.rinex2_obs.specs.HeaderLines.{factor_in, factors_in, line_of_la
 
 use crate::header::flaw;
 use line_source::Line;
-use obs_fields::{Label, Layout, delta, label_of_line, position};
+use obs_fields::{HeaderLine, Label, Layout, delta, label_of_line, position};
 use rinex_head::{Flaw, System, What, field, wide_number};
-
-/// What a line of the header says.
-#[derive(Clone, Copy, Debug)]
-pub enum HeaderLine {
-    /// The header ends.
-    End,
-    /// The approximate position X, Y, Z in 0.1 mm, if it isn't 0, 0, 0.
-    Position(Option<[i64; 3]>),
-    /// The antenna's delta H, E, N in 0.1 mm.
-    Delta([i64; 3]),
-    /// The list of types begins.
-    Types,
-    /// Nothing that counts.
-    Skipped,
-}
 
 // A wavelength factor of one band, which must be 1, or 0 or blank where the band isn't observed.
 fn factor(line: &[u8], first: u32) -> Result<(), Flaw>

@@ -3,3 +3,4 @@ pub mod Stops
 pub mod ColumnLaws
 pub mod HeadLaws
 pub mod TakenLines
+pub mod Letters

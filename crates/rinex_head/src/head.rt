@@ -28,7 +28,8 @@ pub struct Version {
     pub system: u8,
 }
 
-const FIRST_LABEL: &[u8] = b"RINEX VERSION / TYPE";
+/// The label of the first line of a file of any version.
+pub const FIRST_LABEL: &[u8] = b"RINEX VERSION / TYPE";
 
 const OLDEST: i64 = 300;
 

@@ -42,7 +42,7 @@ pub use fields::{
     bad_field, exponent_number, filled_number, fixed, fixed_number, is_blank_line, two_digits,
     whole_number, wide_number,
 };
-pub use head::{HeadLine, Version, head_line, version_of};
+pub use head::{FIRST_LABEL, HeadLine, Version, head_line, version_of};
 pub use place::{At, Flaw, TextFault, What};
 pub use system::System;
 pub use walk::{line_or_end, next_line};

@@ -1,2 +1,5 @@
-pub mod NavForm
+pub mod FirstLine
+pub mod RecordLines
 pub mod NavRules
+pub mod NavForm
+pub mod GpsForm

@@ -1,10 +1,101 @@
--- A file of the grammar is what its lines give.
-use Rattle.std.proofs.Common.{◌≡◌, ℕ, List, Ok}
+-- What the lines give is what the grammar says.
+use Rattle.std.proofs.Common.{◌≡◌, ◌+◌, ◌-◌, ℕ, suc, pos, Bool, List, [], ◌∷◌, ◌++◌, length, Ok, Option, Some, None, refl, sym, ap, ◌∙◌, arith, append_assoc, add-zero}
+use Rattle.std.proofs.lemmas.List.{append-nil}
+use Rattle.gps_time.specs.declared.Tick.{Tick}
 use Rattle.obs_store.specs.declared.file.ObsFile.{ObsFile}
-use Rattle.rinex_head.specs.declared.system.System.TheVariants.{Gps}
-use Rattle.obs_feed.proofs.FormLaws
-use Rattle.rinex_obs.specs.ObsForm.{IsObsFile}
-use Rattle.rinex_obs.specs.ObsRules.{obs_of}
+use Rattle.obs_store.specs.declared.series.Epoch.{Epoch}
+use Rattle.obs_store.specs.declared.values.SatObs.{SatObs}
+use Rattle.rinex_head.specs.declared.system.System.{System}
+use Rattle.rinex_head.specs.Walk.{walk}
+use Rattle.rinex_head.proofs.Walks.{walk-takes, walk-end}
+use Rattle.obs_fields.specs.Types.{kept_from}
+use Rattle.rinex_obs.specs.declared.header.Header.{Header}
+use Rattle.obs_fields.specs.declared.header_line.HeaderLine.TheVariants as header
+use Rattle.rinex_obs.specs.ObsRules.{First, Head, Body, Sats, Skip, so_far, bare_header, whole_header, file_of, epoch_of, more_sats, more_lines, admit, obs_rules}
+use Rattle.obs_fields.specs.HeadParts.{head_lines, last_position, last_delta}
+use Rattle.obs_fields.proofs.HeaderLaws.{regroup, header_given}
+use Rattle.rinex_obs.specs.ObsForm.{IsHeader, Part, Blank, Event, Epoch_, satellites_of, AreSatLines, AreEventLines, epoch_in_part, AreParts, epochs_of, body_lines, IsObsFile}
+use Rattle.rinex_obs.proofs.Headers.{head_rules}
 
-pub file_given : (lines : List (List ℕ)) (file : ObsFile) → IsObsFile lines file → obs_of lines ≡ Ok file
-file_given lines file is = FormLaws.file_given Gps lines file is
+module _ (system : System) where
+  -- the lines of an event are taken
+  lines_taken : (lines more : List (List ℕ)) (h : Header) (epochs : List Epoch) (changes : Bool) (n : ℕ) → AreEventLines changes lines
+      → walk (obs_rules system) (lines ++ more) n (more_lines h epochs changes (length lines)) ≡ walk (obs_rules system) more (n + length lines) (Body h epochs)
+  lines_taken [] more h epochs changes n are = rw add-zero refl
+  lines_taken (bytes ∷ lines) more h epochs changes n are =
+      let one_less : suc (length lines) - 1 ≡ length lines = omega arith in
+      let further : n + suc (length lines) ≡ n + 1 + length lines = omega arith in
+      let admits : admit (Skip h epochs changes (suc (length lines))) bytes ≡ Ok (more_lines h epochs changes (length lines)) = rw (are.1, one_less) refl in
+      walk-takes (obs_rules system) (Skip h epochs changes (suc (length lines))) (more_lines h epochs changes (length lines)) bytes (lines ++ more) n are.0 admits
+      ∙ lines_taken lines more h epochs changes (n + 1) are.2 ∙ rw further refl
+
+  -- the lines of an epoch's satellites are taken
+  sats_taken : (lines : List (List ℕ)) (found : List (Option SatObs)) (more : List (List ℕ)) (h : Header) (epochs : List Epoch) (tag : Tick) (power : Bool) (sats : List SatObs) (n : ℕ) → AreSatLines h.system (kept_from h.system 0 h.types) sats lines found
+      → walk (obs_rules system) (lines ++ more) n (more_sats h epochs tag power sats (length lines)) ≡ walk (obs_rules system) more (n + length lines) (Body h (epochs ++ epoch_of tag power (sats ++ satellites_of found) ∷ []))
+  sats_taken [] [] more h epochs tag power sats n are = rw (add-zero, append-nil sats) refl
+  sats_taken [] (f ∷ found) more h epochs tag power sats n are = absurd are
+  sats_taken (bytes ∷ lines) [] more h epochs tag power sats n are = absurd are
+  sats_taken (bytes ∷ lines) (None ∷ found) more h epochs tag power sats n are =
+      let one_less : suc (length lines) - 1 ≡ length lines = omega arith in
+      let further : n + suc (length lines) ≡ n + 1 + length lines = omega arith in
+      let admits : admit (Sats h epochs tag power sats (suc (length lines))) bytes ≡ Ok (more_sats h epochs tag power sats (length lines)) = rw (are.1, one_less) refl in
+      walk-takes (obs_rules system) (Sats h epochs tag power sats (suc (length lines))) (more_sats h epochs tag power sats (length lines)) bytes (lines ++ more) n are.0 admits
+      ∙ sats_taken lines found more h epochs tag power sats (n + 1) are.2 ∙ rw further refl
+  sats_taken (bytes ∷ lines) (Some s ∷ found) more h epochs tag power sats n are =
+      let one_less : suc (length lines) - 1 ≡ length lines = omega arith in
+      let further : n + suc (length lines) ≡ n + 1 + length lines = omega arith in
+      let admits : admit (Sats h epochs tag power sats (suc (length lines))) bytes ≡ Ok (more_sats h epochs tag power (sats ++ s ∷ []) (length lines)) = rw (are.1, one_less) refl in
+      walk-takes (obs_rules system) (Sats h epochs tag power sats (suc (length lines))) (more_sats h epochs tag power (sats ++ s ∷ []) (length lines)) bytes (lines ++ more) n are.0 admits
+      ∙ sats_taken lines found more h epochs tag power (sats ++ s ∷ []) (n + 1) are.2 ∙ rw (further, append_assoc sats (s ∷ []) (satellites_of found)) refl
+
+  -- and so are the parts of a body
+  parts_taken : (parts : List Part) (h : Header) (epochs : List Epoch) (n : ℕ) → AreParts h.system (kept_from h.system 0 h.types) epochs parts → walk (obs_rules system) (body_lines parts) n (Body h epochs) ≡ Ok (file_of h (epochs ++ epochs_of parts))
+  parts_taken [] h epochs n are = walk-end (obs_rules system) (Body h epochs) n ∙ rw (append-nil epochs) refl
+  parts_taken (Blank bytes ∷ parts) h epochs n are =
+      let admits : admit (Body h epochs) bytes ≡ Ok (Body h epochs) = rw (are.1) refl in
+      walk-takes (obs_rules system) (Body h epochs) (Body h epochs) bytes (body_lines parts) n are.0 admits ∙ parts_taken parts h epochs (n + 1) are.2
+  parts_taken (Event p ∷ parts) h epochs n are =
+      let k = length p.event_lines in
+      let admits : admit (Body h epochs) p.bytes ≡ Ok (more_lines h epochs p.changes k) = rw (are.0.says) refl in
+      walk-takes (obs_rules system) (Body h epochs) (more_lines h epochs p.changes k) p.bytes (p.event_lines ++ body_lines parts) n are.0.short admits
+      ∙ lines_taken p.event_lines (body_lines parts) h epochs p.changes (n + 1) are.0.lines
+      ∙ parts_taken parts h epochs (n + 1 + k) are.1
+  parts_taken (Epoch_ p ∷ parts) h epochs n are =
+      let k = length p.sat_lines in
+      let admits : admit (Body h epochs) p.bytes ≡ Ok (more_sats h epochs p.tag p.power [] k) = rw (are.0.says) refl in
+      walk-takes (obs_rules system) (Body h epochs) (more_sats h epochs p.tag p.power [] k) p.bytes (p.sat_lines ++ body_lines parts) n are.0.short admits
+      ∙ sats_taken p.sat_lines p.found (body_lines parts) h epochs p.tag p.power [] (n + 1) are.0.sats
+      ∙ parts_taken parts h (epochs ++ epoch_in_part p ∷ []) (n + 1 + k) are.1
+      ∙ rw (append_assoc epochs (epoch_in_part p ∷ []) (epochs_of parts)) refl
+
+  -- a header is taken, whatever follows it
+  record TookWhole (lines more : List (List ℕ)) (h : Header) : Type 0 where
+    number : ℕ
+    gives : walk (obs_rules system) (lines ++ more) 0 (First h.system) ≡ walk (obs_rules system) more number (Body h [])
+
+  header_taken : (lines more : List (List ℕ)) (h : Header) → IsHeader lines h → TookWhole lines more h
+  header_taken lines more h is =
+      let version = bare_header h.system h.hundredths in
+      let zero_delta = pos 0 ∷ pos 0 ∷ pos 0 ∷ [] in
+      let behind_first = head_lines is.before ++ (is.list ∷ (is.further ++ (head_lines is.after ++ (is.last ∷ more)))) in
+      let first_admits : admit (First h.system) is.first ≡ Ok (Head version) = rw (is.version) refl in
+      let all = so_far h.system h.hundredths (last_position (last_position None is.before) is.after) (last_delta (last_delta zero_delta is.before) is.after) (Some h.types) in
+      let whole : whole_header all h.types ≡ h = rw (← is.position, ← is.delta) refl in
+      let number = 0 + 1 + length is.before + 1 + length is.further + length is.after + 1 in
+      record {
+        number = number;
+        gives = ap (λ (l : List (List ℕ)). walk (obs_rules system) (l ++ more) 0 (First h.system)) is.lines_are
+            ∙ ap (λ (l : List (List ℕ)). walk (obs_rules system) (is.first ∷ l) 0 (First h.system)) (regroup (head_lines is.before) is.list is.further (head_lines is.after) is.last more)
+            ∙ walk-takes (obs_rules system) (First h.system) (Head version) is.first behind_first 0 is.first_short first_admits
+            ∙ header_given (head_rules system h.system h.hundredths) is.before is.after is.list is.last is.further more h.types None zero_delta (0 + 1) is.before_are is.types is.after_are is.last_short is.ends
+            ∙ ap (λ (w : Header). walk (obs_rules system) more number (Body w [])) whole;
+      }
+
+  -- a file of the grammar is what its lines give
+  pub file_given : (lines : List (List ℕ)) (file : ObsFile) → IsObsFile system lines file → walk (obs_rules system) lines 0 (First system) ≡ Ok file
+  file_given lines file is =
+      let head = header_taken is.header_lines (body_lines is.parts) is.header is.is_header in
+      let parts : AreParts is.header.system (kept_from is.header.system 0 is.header.types) [] is.parts = rw is.of_system is.are_parts in
+      ap (λ (l : List (List ℕ)). walk (obs_rules system) l 0 (First system)) is.lines_are
+      ∙ ap (λ (s : System). walk (obs_rules system) (is.header_lines ++ body_lines is.parts) 0 (First s)) (sym is.of_system)
+      ∙ head.gives ∙ parts_taken is.parts is.header [] head.number parts ∙ ap (λ (f : ObsFile). Ok f) (sym is.file_is)

@@ -1,2 +1,13 @@
-pub mod ObsForm
+pub mod FirstLine
+pub mod HeaderLines
+pub mod EpochTag
+pub mod EpochLines
+pub mod SatLines
 pub mod ObsRules
+pub mod ObsForm
+pub mod Started
+pub mod Parts
+pub mod Opened
+pub mod Feeding
+pub mod Fed
+pub mod GpsForm

@@ -1,13 +1,136 @@
--- A GPS observation file.
-use Rattle.std.specs.Prelude.{ℕ, List}
+-- An observation file as a grammar over the whole list of its lines: a header, then blank lines, epochs and events.
+use Rattle.std.specs.Prelude.{◌≡◌, ℕ, pos, ◌≤◌, List, [], ◌∷◌, ◌++◌, length, Bool, Ok, None, Some}
+use Rattle.std.specs.declared.option.Option.{Option}
+use Rattle.gps_time.specs.declared.Tick.{Tick}
 use Rattle.obs_store.specs.declared.file.ObsFile.{ObsFile}
-use Rattle.rinex_head.specs.declared.system.System.TheVariants.{Gps}
-use Rattle.obs_feed.specs.ObsForm
+use Rattle.obs_store.specs.declared.series.Epoch.{Epoch}
+use Rattle.obs_store.specs.declared.values.SatObs.{SatObs}
+use Rattle.rinex_obs.specs.FirstLine.{first_line_of}
+use Rattle.rinex_obs.specs.HeaderLines.{header_line_of}
+use Rattle.obs_fields.specs.HeadParts.{HeadPart, AreHeadParts, head_lines, last_position, last_delta, IsTypeList}
+use Rattle.obs_fields.specs.Types.{kept_from}
+use Rattle.rinex_head.specs.declared.system.System.{System}
+use Rattle.obs_fields.specs.declared.layout.Layout.TheVariants.{Rinex3}
+use Rattle.obs_fields.specs.Labels.{event_line_of}
+use Rattle.rinex_obs.specs.EpochLines.{epoch_line_of}
+use Rattle.rinex_obs.specs.SatLines.{satellite_line_of}
+use Rattle.rinex_obs.specs.ObsRules.{file_of, epoch_of}
+use Rattle.obs_fields.specs.declared.types.KeptType.{KeptType}
+use Rattle.rinex_obs.specs.declared.header.Header.{Header}
+use Rattle.obs_fields.specs.declared.header_line.HeaderLine.TheVariants as header
+use Rattle.rinex_obs.specs.declared.epoch_lines.EpochLine.TheVariants as line
 
--- the lines are a header and a body, and the file is what they say of GPS
-abbrev pub IsObsFile : List (List ℕ) → ObsFile → Type 0
-IsObsFile lines file = ObsForm.IsObsFile Gps lines file
+-- ---- the header
+
+-- The header: the first line, then lines among which the system's list of types stands once, then END OF HEADER.
+pub record IsHeader (lines : List (List ℕ)) (h : Header) : Type 0 where
+  pub first : List ℕ
+  pub before : List HeadPart
+  pub list : List ℕ
+  pub further : List (List ℕ)
+  pub after : List HeadPart
+  pub last : List ℕ
+  pub lines_are : lines ≡ first ∷ (head_lines before ++ (list ∷ (further ++ (head_lines after ++ (last ∷ [])))))
+  pub first_short : length first ≤ 4096
+  pub version : first_line_of h.system first ≡ Ok h.hundredths
+  pub before_are : AreHeadParts (header_line_of h.system) before
+  pub types : IsTypeList Rinex3 (header_line_of h.system) list further h.types
+  pub after_are : AreHeadParts (header_line_of h.system) after
+  pub last_short : length last ≤ 4096
+  pub ends : header_line_of h.system last ≡ Ok header.End
+  pub position : h.position ≡ last_position (last_position None before) after
+  pub delta : h.delta ≡ last_delta (last_delta (pos 0 ∷ pos 0 ∷ pos 0 ∷ []) before) after
+
+-- ---- the body
+
+-- an epoch's line, and the lines of its satellites with what each gives: a satellite of the system, or nothing
+pub record EpochPart : Type 0 where
+  pub bytes : List ℕ
+  pub tag : Tick
+  pub power : Bool
+  pub sat_lines : List (List ℕ)
+  pub found : List (Option SatObs)
+
+-- an event's line, and its lines
+pub record EventPart : Type 0 where
+  pub bytes : List ℕ
+  pub changes : Bool
+  pub event_lines : List (List ℕ)
+
+pub data Part : Type 0 where
+  Blank : List ℕ → Part
+  Event : EventPart → Part
+  Epoch_ : EpochPart → Part
+
+-- the satellites among what the lines give
+abbrev pub satellites_of : List (Option SatObs) → List SatObs
+satellites_of [] = []
+satellites_of (None ∷ found) = satellites_of found
+satellites_of (Some s ∷ found) = s ∷ satellites_of found
+
+-- each line gives this behind the satellites before it
+abbrev pub AreSatLines : System → List KeptType → List SatObs → List (List ℕ) → List (Option SatObs) → Type 0
+AreSatLines system kept before [] [] = Unit {0}
+AreSatLines system kept before [] (f ∷ found) = ⊥
+AreSatLines system kept before (bytes ∷ lines) [] = ⊥
+AreSatLines system kept before (bytes ∷ lines) (None ∷ found) =
+    (length bytes ≤ 4096) × (satellite_line_of system kept before bytes ≡ Ok None) × AreSatLines system kept before lines found
+AreSatLines system kept before (bytes ∷ lines) (Some s ∷ found) =
+    (length bytes ≤ 4096) × (satellite_line_of system kept before bytes ≡ Ok (Some s)) × AreSatLines system kept (before ++ s ∷ []) lines found
+
+abbrev pub AreEventLines : Bool → List (List ℕ) → Type 0
+AreEventLines changes [] = Unit {0}
+AreEventLines changes (bytes ∷ lines) = (length bytes ≤ 4096) × (event_line_of Rinex3 changes bytes ≡ Ok tt) × AreEventLines changes lines
+
+-- behind these epochs
+pub record IsEpochPart (system : System) (kept : List KeptType) (epochs : List Epoch) (p : EpochPart) : Type 0 where
+  pub short : length p.bytes ≤ 4096
+  pub says : epoch_line_of epochs p.bytes ≡ Ok (line.Epoch p.tag p.power (length p.sat_lines))
+  pub sats : AreSatLines system kept [] p.sat_lines p.found
+
+pub record IsEventPart (epochs : List Epoch) (p : EventPart) : Type 0 where
+  pub short : length p.bytes ≤ 4096
+  pub says : epoch_line_of epochs p.bytes ≡ Ok (line.Event p.changes (length p.event_lines))
+  pub lines : AreEventLines p.changes p.event_lines
+
+abbrev pub epoch_in_part : EpochPart → Epoch
+epoch_in_part p = epoch_of p.tag p.power (satellites_of p.found)
+
+-- the parts of a body behind these epochs
+abbrev pub AreParts : System → List KeptType → List Epoch → List Part → Type 0
+AreParts system kept epochs [] = Unit {0}
+AreParts system kept epochs (Blank bytes ∷ parts) = (length bytes ≤ 4096) × (epoch_line_of epochs bytes ≡ Ok line.Blank) × AreParts system kept epochs parts
+AreParts system kept epochs (Event p ∷ parts) = IsEventPart epochs p × AreParts system kept epochs parts
+AreParts system kept epochs (Epoch_ p ∷ parts) = IsEpochPart system kept epochs p × AreParts system kept (epochs ++ epoch_in_part p ∷ []) parts
+
+abbrev pub epochs_of : List Part → List Epoch
+epochs_of [] = []
+epochs_of (Blank bytes ∷ parts) = epochs_of parts
+epochs_of (Event p ∷ parts) = epochs_of parts
+epochs_of (Epoch_ p ∷ parts) = epoch_in_part p ∷ epochs_of parts
+
+abbrev pub lines_of_part : Part → List (List ℕ)
+lines_of_part (Blank bytes) = bytes ∷ []
+lines_of_part (Event p) = p.bytes ∷ p.event_lines
+lines_of_part (Epoch_ p) = p.bytes ∷ p.sat_lines
+
+abbrev pub body_lines : List Part → List (List ℕ)
+body_lines [] = []
+body_lines (p ∷ parts) = lines_of_part p ++ body_lines parts
+
+-- ---- the file
+
+-- the lines are a header and a body, and the file is theirs: what they say of the system
+pub record IsObsFile (system : System) (lines : List (List ℕ)) (file : ObsFile) : Type 0 where
+  pub header_lines : List (List ℕ)
+  pub header : Header
+  pub parts : List Part
+  pub lines_are : lines ≡ header_lines ++ body_lines parts
+  pub is_header : IsHeader header_lines header
+  pub of_system : header.system ≡ system
+  pub are_parts : AreParts system (kept_from system 0 header.types) [] parts
+  pub file_is : file ≡ file_of header (epochs_of parts)
 
 -- the lines are those of some file
-abbrev pub HasObsFile : List (List ℕ) → Type 0
-HasObsFile lines = ObsForm.HasObsFile Gps lines
+abbrev pub HasObsFile : System → List (List ℕ) → Type 0
+HasObsFile system lines = (file : ObsFile) × IsObsFile system lines file

@@ -1,19 +1,31 @@
-//! The reader of the observation files of GPS (RINEX 3): the feed of obs_feed for this system.
+//! RINEX 3 observation files: the reader of GPS and that of Galileo, for a whole text or for its pieces.
 //!
-//! Of obs_fields, obs_feed, rinex_obs: obs_fields says what one line of an observation file says, for either format
-//! of RINEX (`Layout`) and each satellite system; obs_feed is the form of a RINEX 3 file of one system, its rules and
-//! the feed; rinex_obs is obs_feed for GPS. `read_obs` answers the observation file that a text stands for exactly
-//! where it stands for one (`ok`, `only`), and else refuses it at the first line with which no file begins
-//! (`refused`, `first`), at the column and for the reason of the first failing check in that line (`exact`).
-//! `ObsFeed` takes the text in pieces and keeps at most 4,097 bytes of it, those of the line that has begun; its
-//! `finish` gives this answer for every text for which the feed stands, and so for all its pieces together, however
-//! they were cut (`answers`), and `read_obs` is one piece. After running out of memory it answers that alone (`no_memory`,
-//! `again`). The grammar, in RINEX's words, is in docs/FORMATS.md.
+//! obs_fields says what one line of an observation file says, for either format of RINEX (`Layout`) and each satellite
+//! system. Here stand the form of a RINEX 3 file of one system, its rules and the feed (`Feed`), and the calls of each
+//! system. `read_obs` answers the observation file of GPS that a text stands for exactly where it stands for one (`ok`,
+//! `only`), and else refuses it at the first line with which no file begins (`refused`, `first`), at the column and for
+//! the reason of the first failing check in that line (`exact`). `ObsFeed` takes the text in pieces and keeps at most
+//! 4,097 bytes of it, those of the line that has begun; its `finish` gives this answer for every text for which the feed
+//! stands, and so for all its pieces together, however they were cut (`answers`). After running out of memory it answers
+//! that alone (`no_memory`, `again`). `read_gal_obs` and `GalFeed` are the same for Galileo's E1 and E5a. The grammar, in
+//! RINEX's words, is in docs/FORMATS.md.
 #![tactic(auto)]
 
+mod epoch_lines;
 mod feed;
+mod galileo;
+mod gps;
+mod header;
+mod header_lines;
+mod open_body;
+mod open_file;
+mod open_header;
 mod reader;
+mod sat_lines;
+mod started;
 
-pub use feed::ObsFeed;
-pub use reader::read_obs;
+pub use feed::{Feed, FeedState};
+pub use galileo::{GalFeed, read_gal_obs};
+pub use gps::{ObsFeed, read_obs};
 pub use rinex_head::TextFault as ObsFault;
+pub use started::{Overlong, StartedLine, split_line};

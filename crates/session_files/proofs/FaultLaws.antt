@@ -3,8 +3,8 @@ use Rattle.std.proofs.Common.{◌≡◌, ◌≢◌, inl, inr, ℕ, ◌<◌, List
 use Rattle.std.specs.Prelude.{slice_index_or}
 use Rattle.rinex_head.specs.declared.system.System.{System}
 use Rattle.obs_source.specs.Formats.{any_of, HasObservation}
-use Rattle.nav_records.specs.NavForm.{HasNavFile}
-use Rattle.nav_records.specs.NavRules.{nav_of}
+use Rattle.rinex_nav.specs.NavForm.{HasNavFile}
+use Rattle.rinex_nav.specs.NavRules.{nav_of}
 use Rattle.job_answers.specs.declared.answer.Answer.{Answer}
 use Rattle.job_answers.specs.declared.stop.Stop.{Stop}
 use Rattle.job_answers.specs.declared.stop.Stop.TheVariants as stop

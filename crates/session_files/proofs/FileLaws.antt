@@ -6,8 +6,8 @@ use Rattle.rinex_head.specs.declared.system.System.{System}
 use Rattle.rinex_head.specs.declared.place.TextFault.{TextFault}
 use Rattle.obs_source.specs.Formats.{any_of, IsObservation, HasObservation}
 use Rattle.obs_source.specs.Taking.{IsAnswer}
-use Rattle.nav_records.specs.NavForm.{HasNavFile}
-use Rattle.nav_records.specs.NavRules.{nav_of}
+use Rattle.rinex_nav.specs.NavForm.{HasNavFile}
+use Rattle.rinex_nav.specs.NavRules.{nav_of}
 use Rattle.line_source.specs.Lines.{lines_of}
 use Rattle.line_source.specs.Told.{Same, IsReadToEnd}
 use Rattle.line_source.specs.Pieces.{IsTakenWhole}

@@ -7,8 +7,8 @@ use Rattle.rinex_head.specs.declared.system.System.{System}
 use Rattle.obs_source.specs.Formats.{any_of, IsObservation, HasObservation}
 use Rattle.eph_store.specs.File.{Records}
 use Rattle.eph_store.specs.Records.{AreFit}
-use Rattle.nav_records.specs.NavForm.{IsNavFile, HasNavFile}
-use Rattle.nav_records.specs.NavRules.{nav_of}
+use Rattle.rinex_nav.specs.NavForm.{IsNavFile, HasNavFile}
+use Rattle.rinex_nav.specs.NavRules.{nav_of}
 use Rattle.job_answers.specs.Endings.{Ending, IsTextOf, IsRefusal, EndsByFile}
 
 -- the file's text stands for this observation file of the system, in either format

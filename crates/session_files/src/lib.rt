@@ -10,8 +10,8 @@ ghost use Rattle.line_source.specs.Lines.{lines_of};
 ghost use Rattle.rinex_head.specs.declared.system.System.{System};
 ghost use Rattle.obs_source.specs.Formats.{any_of, IsObservation, HasObservation};
 ghost use Rattle.obs_source.specs.Taking.{IsAnswer};
-ghost use Rattle.nav_records.specs.NavForm.{IsNavFile, HasNavFile};
-ghost use Rattle.nav_records.specs.NavRules.{nav_of};
+ghost use Rattle.rinex_nav.specs.NavForm.{IsNavFile, HasNavFile};
+ghost use Rattle.rinex_nav.specs.NavRules.{nav_of};
 ghost use Rattle.eph_store.specs.Records.{AreFit};
 ghost use Rattle.job_answers.specs.Answers.{IfStopped};
 ghost use Rattle.job_answers.specs.Endings.{EndsUnloaded, IsRefusal, IsRefusedWhole};
@@ -19,13 +19,13 @@ ghost use Rattle.session_files.specs.FaultNames.{IsFaultOf};
 ghost use Rattle.session_files.specs.SessionFiles.{IsObsOf, IsNavOf, StopsAtObs, StopsAtNav, StopsAtFiles, AreFilesOf};
 
 use eph_store::NavFile;
-use gal_obs::GalFeed;
 use job_answers::{Status, Stop, load_file, read_fault, refused, too_large};
 use line_source::{Files, LoadFault, Taker, load_into};
-use nav_records::read_records_of;
 use obs_source::ObsTaker;
 use obs_store::ObsFile;
 use rinex_head::{System, TextFault};
+use rinex_nav::read_records_of;
+use rinex_obs::GalFeed;
 use std::alloc::Global;
 
 /// The files of a base and of a rover, and that of the satellites.

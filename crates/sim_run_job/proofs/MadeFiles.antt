@@ -10,10 +10,10 @@ use Rattle.rinex_head.specs.declared.system.System.TheVariants.{Gps, Galileo}
 use Rattle.obs_store.specs.declared.file.ObsFile.{ObsFile}
 use Rattle.obs_store.specs.Epochs.{tags_of}
 use Rattle.epoch_pair.specs.Pairs.{AreApart}
-use Rattle.obs_feed.specs.ObsForm.{IsObsFile}
+use Rattle.rinex_obs.specs.ObsForm.{IsObsFile}
 use Rattle.obs_source.specs.Formats.{IsObservation}
 use Rattle.obs_source.proofs.FormatLaws.{file_given}
-use Rattle.nav_records.specs.NavForm.{IsNavFile}
+use Rattle.rinex_nav.specs.NavForm.{IsNavFile}
 use Rattle.sim_texts.specs.declared.signals.Signals as made
 use Rattle.sim_texts.specs.declared.signals.Tracking.{Tracking}
 use Rattle.sim_texts.specs.declared.signals.Tracking.TheVariants.{GpsL1L2, GpsL1L2L5, GalileoE1E5a}

@@ -1,6 +1,6 @@
 use Rattle.std.proofs.Common.{◌∙◌, ◌++◌, ℕ, List, sym, subst}
 use Rattle.rinex_head.specs.declared.system.System.TheVariants.{Gps}
-use Rattle.obs_feed.specs.ObsRules.{obs_of}
+use Rattle.rinex_obs.specs.ObsRules.{obs_of}
 use Rattle.obs_source.specs.Taking.{IsReadBy}
 use Rattle.obs_source.proofs.TakerLaws.{long_goes}
 use Rattle.obs_source.proofs.taker.go_on.Goals as goal

@@ -1,6 +1,6 @@
 use Rattle.std.proofs.Common.{◌∙◌, [], sym, subst}
 use Rattle.rinex_head.specs.declared.system.System.{System}
-use Rattle.obs_feed.specs.Feeding.{IsAnswerTo}
+use Rattle.rinex_obs.specs.Feeding.{IsAnswerTo}
 use Rattle.obs_source.proofs.TakerLaws.{alone_2, alone_3}
 use Rattle.obs_source.proofs.taker.read_line.Goals as goal
 

@@ -6,7 +6,7 @@ use Rattle.rinex_head.specs.Places.{and_then}
 use Rattle.rinex_head.proofs.Walks.{goes_on, stops_after, stops, has_none}
 use Rattle.rinex2_obs.specs.HeaderLines.{header_line_of}
 use Rattle.obs_fields.specs.declared.types.TypeList.{TypeList}
-use Rattle.rinex2_obs.specs.declared.header_lines.HeaderLine.TheVariants as header
+use Rattle.obs_fields.specs.declared.header_line.HeaderLine.TheVariants as header
 use Rattle.rinex2_obs.specs.Obs2Rules.{Expected, Head, Body, so_far, with_position, with_delta, more_types, whole_header, after_header, obs2_rules}
 use Rattle.rinex2_obs.proofs.Steps.{types_twice, types_once, types_missing, types_there}
 use Rattle.rinex2_obs.proofs.header.read_lines.Goals as goal

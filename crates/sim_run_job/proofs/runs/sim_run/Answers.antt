@@ -1,6 +1,4 @@
-use Rattle.std.proofs.Common.{◌≡◌, ◌⊎◌, inl, inr, ℕ, Bool, true, false, ◌||◌, ◌==◌, IsTrue, refl}
-use Rattle.std.proofs.lemmas.Bool.{eqb-true}
-use Rattle.obs_rows.specs.Ranges.{IsSystem}
+use Rattle.rinex_head.proofs.Letters.{one_letter}
 use Rattle.job_answers.proofs.EndingLaws.{ended_weaker}
 use Rattle.sim_run_job.specs.SimRunJobs.{AreMadeFiles}
 use Rattle.sim_run_job.proofs.MadeFiles.{still_fits, made_admitted}
@@ -40,14 +38,6 @@ returns-clause-ends c =
     told.base told.rover told.nav session.base session.rover session.nav (still_fits _ _ c.in_ok-base.field-0.base.ok.0 session.base_size)
     (still_fits _ _ c.in_ok-base.field-0.rover.ok.0 session.rover_size) (still_fits _ _ c.in_ok-base.field-0.nav.ok.0 session.nav_size) in
     never_stops _ _ _ _ _ o c.in-Err.stop _ c.of_letter-system.ensures admitted c.in-Err.ensures.stopped (c.in-Err.ensures.sure (λ k name inside. told.sure name))
-
--- the letter of a system is one of the two
-one_letter : (letter : ℕ) → IsSystem letter → (letter ≡ 71) ⊎ (letter ≡ 69)
-one_letter letter is = by (letter == 71) refl is
-  where
-    by : (t : Bool) → (letter == 71) ≡ t → IsTrue (t || (letter == 69)) → (letter ≡ 71) ⊎ (letter ≡ 69)
-    by true same one = inl (eqb-true letter 71 same)
-    by false same one = inr (eqb-true letter 69 one)
 
 pub of_letter-system-requires : goal.of_letter-system-requires
 of_letter-system-requires c = one_letter c.options_on-options.result.system c.options_on-options.result.of_system

@@ -4,8 +4,8 @@ use Rattle.obs_store.specs.declared.file.ObsFile.{ObsFile}
 use Rattle.rinex_head.specs.declared.system.System.{System}
 use Rattle.rinex_head.specs.declared.system.System.TheVariants.{Gps}
 use Rattle.rinex_head.specs.Walk.{Gives}
-use Rattle.obs_feed.specs.Feeding.{IsAnswerTo}
-use Rattle.obs_feed.specs.ObsRules.{obs_of}
+use Rattle.rinex_obs.specs.Feeding.{IsAnswerTo}
+use Rattle.rinex_obs.specs.ObsRules.{obs_of}
 use Rattle.rinex2_obs.specs.Obs2Rules.{obs2_of}
 use Rattle.obs_source.specs.declared.taker.Source.{Source}
 use Rattle.obs_source.specs.Taking.{IsKeptOf, StandsForText}

@@ -1,6 +1,6 @@
 use Rattle.std.proofs.Common.{◌≡◌, ◌++◌, Option, length, length-append, ap, subst, arith}
 use Rattle.std.specs.Prelude.{IfNone}
-use Rattle.obs_feed.specs.Started.{GoesOn}
+use Rattle.rinex_obs.specs.Started.{GoesOn}
 use Rattle.obs_source.specs.declared.taker.Source.{Source}
 use Rattle.obs_source.specs.Taking.{IsKeptOf}
 use Rattle.obs_source.proofs.taker.ObsTakerTaker.take.Goals as goal

@@ -1,4 +1,0 @@
-pub mod FirstLine
-pub mod RecordLines
-pub mod NavRules
-pub mod NavForm

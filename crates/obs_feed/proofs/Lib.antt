@@ -1,6 +1,0 @@
-pub mod Steps
-pub mod FormLaws
-pub mod FormTook
-pub mod FormPlaces
-pub mod Feeds
-pub mod Admits

@@ -1,0 +1,21 @@
+-- A further line of a record.
+use Rattle.std.proofs.Common.{◌++◌, ◌∷◌, [], Ok, refl, length}
+use Rattle.rinex_head.specs.declared.place.What.TheVariants.{Truncated}
+use Rattle.rinex_head.proofs.Walks.{goes_on, stops, has_none}
+use Rattle.rinex_nav.specs.RecordLines.{continuation_of}
+use Rattle.rinex_nav.specs.NavRules.{Further, behind, nav_rules}
+use Rattle.rinex_nav.proofs.body.read_quad.Goals as goal
+
+pub returns-in-Err-clause-reads : goal.returns-in-Err-clause-reads
+returns-in-Err-clause-reads c = λ system raws s quads at. has_none (nav_rules system) (Further raws s quads) _ _ Truncated _ refl c.in-Err.ensures
+
+pub returns-in-Ok-continuation-clause-reads : goal.returns-in-Ok-continuation-clause-reads
+returns-in-Ok-continuation-clause-reads c = λ system raws s quads at.
+    let bytes = c.in-Ok.line.bytes.now in
+    let q = c.in-Ok-continuation.quad in
+    goes_on (nav_rules system) (Further raws s quads) (behind raws s (quads ++ q ∷ [])) (continuation_of (length quads) bytes) (λ p. Ok (behind raws s (quads ++ p ∷ []))) q _ _ _ bytes c.in-Ok.ensures refl (rw at c.in-Ok-continuation.ensures) refl
+
+pub returns-in-Err-continuation-clause-reads : goal.returns-in-Err-continuation-clause-reads
+returns-in-Err-continuation-clause-reads c = λ system raws s quads at.
+    let bytes = c.in-Ok.line.bytes.now in
+    rw c.at.ensures (stops (nav_rules system) (Further raws s quads) (continuation_of (length quads) bytes) (λ p. Ok (behind raws s (quads ++ p ∷ []))) _ _ _ _ bytes c.in-Ok.ensures refl (rw at c.in-Err-continuation.ensures))

@@ -1,0 +1,11 @@
+-- a record is expected behind those of the file
+use Rattle.std.proofs.Common.{◌≡◌, [], false, length}
+use Rattle.rinex_head.specs.Walk.{rest_gives}
+use Rattle.rinex_nav.specs.NavRules.{Body, nav_rules}
+use Rattle.rinex_nav.proofs.body.read_records.Given as goal
+
+abbrev pub invariant-records : goal.invariant-records
+invariant-records l = rest_gives (nav_rules l.system) l.fn.lines (Body [] false) ≡ rest_gives (nav_rules l.system) l.lines (Body l.file.all l.skipping)
+
+abbrev pub decreases-records : goal.decreases-records
+decreases-records l = length l.lines.left

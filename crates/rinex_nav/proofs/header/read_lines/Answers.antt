@@ -1,0 +1,24 @@
+-- The lines of the header up to the last one.
+use Rattle.std.proofs.Common.{◌≡◌, Bool, true, false, List, ℕ, Ok, [], refl, sym, ap, ◌∙◌}
+use Rattle.rinex_head.proofs.Walks.{takes, has_none}
+use Rattle.rinex_head.specs.declared.system.System.{System}
+use Rattle.rinex_head.specs.declared.place.What.TheVariants.{NoEnd}
+use Rattle.rinex_nav.specs.FirstLine.{ends_header}
+use Rattle.rinex_nav.specs.NavRules.{Head, Body, admit, after_header, Expected, nav_rules}
+use Rattle.rinex_head.specs.declared.place.Flaw.{Flaw}
+use Rattle.std.specs.declared.result.Result.{Result}
+use Rattle.rinex_nav.proofs.header.read_lines.Goals as goal
+
+at_end : (system : System) (bytes : List ℕ) (t : Bool) → t ≡ ends_header bytes → admit system Head bytes ≡ Ok (after_header t)
+at_end system bytes t is = let found : Expected → Result Expected Flaw = λ e. Ok e in ap (λ (u : Bool). found (after_header u)) (sym is)
+
+pub returns-in-Err : goal.returns-in-Err
+returns-in-Err c = λ system. c.header.invariant system ∙ has_none (nav_rules system) Head _ _ NoEnd _ refl c.in-Err.ensures
+
+pub returns-then-is_last : goal.returns-then-is_last
+returns-then-is_last c = λ system.
+    c.header.invariant system ∙ takes (nav_rules system) Head (Body [] false) _ _ _ c.in-Ok.line.bytes.now c.in-Ok.ensures (at_end system c.in-Ok.line.bytes.now true (sym c.if-is_last.true ∙ c.is_last.ensures))
+
+pub header-preserved : goal.header-preserved
+header-preserved c = λ system.
+    c.header.invariant system ∙ takes (nav_rules system) Head Head _ _ _ c.in-Ok.line.bytes.now c.in-Ok.ensures (at_end system c.in-Ok.line.bytes.now false (sym c.if-is_last.false ∙ c.is_last.ensures))

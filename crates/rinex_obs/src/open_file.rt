@@ -1,0 +1,84 @@
+// An observation file of which more may follow.
+ghost use Rattle.std.specs.Prelude.{◌≡◌, IfOk, []};
+ghost use Rattle.rinex_head.specs.Places.{at_line};
+ghost use Rattle.rinex_obs.specs.ObsRules.{Body, admit, finish};
+ghost use Rattle.rinex_obs.specs.Opened.{expected_in, expected_in_body};
+ghost use Rattle.rinex_obs.specs.Feeding.{Takes};
+
+use crate::header::{Header, first_line, flaw};
+use crate::open_body::OpenBody;
+use crate::open_header::OpenHeader;
+use line_source::Line;
+use obs_fields::kept_types;
+use obs_store::ObsFile;
+use rinex_head::{Flaw, System, TextFault, What};
+use std::alloc::{AllocError, Global};
+
+/// What the lines of a file have given so far.
+#[derive(Drop)]
+pub enum OpenFile {
+    /// None was read; satellites of this system will be.
+    First(System),
+    Header(OpenHeader),
+    Body(OpenBody),
+}
+
+impl OpenFile {
+    /// Reads the next line.
+    pub fn take_line(&mut self, alloc: Global, line: &Line<'_>) -> Result<(), TextFault>
+        ensures { Takes (admit (expected_in self.old) line.now.bytes.now) line.now.number (expected_in self.new) result }
+    {
+        match self {
+            OpenFile::Body(body) => body.take_line(alloc, line),
+            _ => self.take_any_line(alloc, line),
+        }
+    }
+
+    // The same. It stands apart, since its large locals are cleared at each call.
+    #[inline(never)]
+    fn take_any_line(&mut self, alloc: Global, line: &Line<'_>) -> Result<(), TextFault>
+        ensures { Takes (admit (expected_in self.old) line.now.bytes.now) line.now.number (expected_in self.new) result }
+    {
+        match self {
+            OpenFile::First(system) => match first_line(*system, line) {
+                Ok(hundredths) => {
+                    *self = OpenFile::Header(OpenHeader::new(*system, hundredths));
+                    Ok(())
+                }
+                Err(at) => Err(TextFault::Refused(at)),
+            },
+            OpenFile::Header(header) => match header.take_line(line) {
+                Ok(None) => Ok(()),
+                Ok(Some(header)) => match begin_body(alloc, header) {
+                    Ok(body) => {
+                        *self = OpenFile::Body(body);
+                        Ok(())
+                    }
+                    Err(AllocError) => Err(TextFault::NoMemory),
+                },
+                Err(flaw) => Err(TextFault::Refused(flaw.at(line.number))),
+            },
+            OpenFile::Body(body) => body.take_line(alloc, line),
+        }
+    }
+
+    /// The file that ends here.
+    pub fn finish(self) -> Result<ObsFile, Flaw>
+        ensures { result ≡ finish (expected_in self) }
+    {
+        match self {
+            OpenFile::First(system) => Err(flaw(1, system.bad_version())),
+            OpenFile::Header(_) => Err(flaw(1, What::NoEnd)),
+            OpenFile::Body(body) => body.finish(),
+        }
+    }
+}
+
+fn begin_body(alloc: Global, header: Header) -> Result<OpenBody, AllocError>
+    ensures { IfOk result (λ body. expected_in_body body ≡ Body header []) }
+{
+    match kept_types(alloc, header.system, &header.types) {
+        Ok(kept) => Ok(OpenBody::new(alloc, header, kept)),
+        Err(AllocError) => Err(AllocError),
+    }
+}
