@@ -1,5 +1,5 @@
 -- Rows of a pair are those of all arcs that agree at the pair.
-use Rattle.std.proofs.Common.{◌≡◌, ℕ, zero, suc, ◌+◌, Bool, true, false, cond, Some, List, [], ◌∷◌, map, All, get_or, ℤ, refl, sym, subst, ap, ap₂, ◌∙◌, Option}
+use Rattle.std.proofs.Common.{◌≡◌, ℕ, zero, suc, ◌+◌, Bool, true, cond, Some, List, [], ◌∷◌, get_or, ℤ, refl, sym, subst, ap, ap₂, ◌∙◌, Option}
 use Rattle.std.specs.Prelude.{slice_get}
 use Rattle.std.specs.Option.{option_map}
 use Rattle.std.proofs.lemmas.Option.{none-some, same_Some, slice_get-map, slice_get-get_or}
@@ -8,7 +8,7 @@ use Rattle.obs_rows.specs.declared.bands.Signals.{Signals}
 use Rattle.obs_rows.specs.declared.rows.Row.{Row}
 use Rattle.obs_rows.specs.declared.pair_rows.PairRows.{PairRows}
 use Rattle.screening.specs.declared.sv_pair.SvPair.{SvPair}
-use Rattle.row_build.specs.HeldArcs.{holds_pair, arcs_from, arcs_at, IsHeld, AgreeAt}
+use Rattle.row_build.specs.HeldArcs.{holds_pair, arcs_from, IsHeld, AgreeAt}
 use Rattle.row_build.specs.Rows.{setting, IsRow}
 use Rattle.row_build.specs.PairRows.{ArePairRows}
 use Rattle.row_build.proofs.ArcLaws.{held_number}

@@ -1,5 +1,5 @@
 -- However a run ends, it had no more rounds than are allowed.
-use Rattle.std.proofs.Common.{◌≡◌, ◌≤◌, ◌⊎◌, inl, inr, ℕ, arith}
+use Rattle.std.proofs.Common.{◌≡◌, ◌≤◌, inl, inr, ℕ, arith}
 use Rattle.obs_rows.specs.declared.sessions.Session.{Session}
 use Rattle.cert_data.specs.declared.tails.Tail.{Tail}
 use Rattle.cert_data.specs.declared.outcomes.Answer.{Answer}
