@@ -9,14 +9,14 @@ use Rattle.epoch_pair.specs.declared.pairs.PairOf.{PairOf}
 use Rattle.obs_rows.specs.declared.used.UsedPair.{UsedPair}
 use Rattle.slip_arcs.specs.Runs.{AreKept}
 use Rattle.slip_arcs.specs.Linked.{HaveDatums}
-use Rattle.system_world.specs.Worlds.{world_of}
+use Rattle.sv_orbit.specs.Worlds.{world_of}
 use Rattle.screening.specs.Screening.{setting_of, AreUsedPairs}
 use Rattle.run_options.specs.declared.options.Options.{Options}
 use Rattle.obs_rows.specs.BandSets.{bands_of}
 use Rattle.rinex_head.specs.Systems.{system_of}
 use Rattle.session_begin.specs.Beginnings.{IsPosition, AreSignals, AreSparse, AreTaken}
-use Rattle.pair_refusals.specs.Refusals.{IsPairRefused}
-use Rattle.arc_report.specs.ArcLines.{arcs_text}
+use Rattle.session_files.specs.Refusals.{IsPairRefused}
+use Rattle.arcs_job.specs.ArcLines.{arcs_text}
 use Rattle.job_answers.specs.declared.status.Status.TheVariants.{Done}
 use Rattle.job_answers.specs.Endings.{Ending, ending}
 use Rattle.session_files.specs.SessionFiles.{EndsBySession}

@@ -6,7 +6,7 @@ use Rattle.obs_store.specs.declared.file.ObsFile.{ObsFile}
 use Rattle.eph_store.specs.File.{Records}
 use Rattle.obs_rows.specs.declared.arcs.Arc.{Arc}
 use Rattle.run_options.specs.declared.options.Options.{Options}
-use Rattle.arc_report.specs.ArcLines.{arcs_text}
+use Rattle.arcs_job.specs.ArcLines.{arcs_text}
 use Rattle.job_answers.specs.declared.status.Status.{Status}
 use Rattle.job_answers.specs.declared.status.Status.TheVariants.{Done, Declined}
 use Rattle.job_answers.specs.Delivered.{SinkChange}

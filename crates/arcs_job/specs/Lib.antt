@@ -1,2 +1,3 @@
 pub mod ArcJobs
 pub mod ArcRuns
+pub mod ArcLines

@@ -1,4 +1,8 @@
 //! The command `arcs`: the arcs of continuous phase of two receivers.
+//!
+//! The kept arcs are exactly those of the used satellites of the taken pairs, with their datums and the number of
+//! shorter ones. The two files are refused exactly where the base has no position, a band has no common code or epochs
+//! are too dense.
 #![tactic(auto)]
 
 ghost use Rattle.std.specs.Prelude.{◌≡◌, ◌≢◌, [], ◌∷◌, IfOk, All};
@@ -9,25 +13,26 @@ ghost use Rattle.obs_rows.specs.BandSets.{bands_of};
 ghost use Rattle.obs_rows.specs.Ranges.{IsSystem};
 ghost use Rattle.session_begin.specs.Beginnings.{IsPosition, AreSignals, AreSparse, AreTaken};
 ghost use Rattle.screening.specs.Screening.{ArePairsOf};
-ghost use Rattle.arc_report.specs.ArcLines.{arcs_text};
+ghost use Rattle.arcs_job.specs.ArcLines.{arcs_text};
 ghost use Rattle.session_files.specs.FaultNames.{IsFaultOf};
-ghost use Rattle.pair_refusals.specs.Refusals.{AreRefusedWhole};
+ghost use Rattle.session_files.specs.Refusals.{AreRefusedWhole};
 ghost use Rattle.arcs_job.specs.ArcJobs.{AreArcsOf, ArcsEnd, ArcsEnds};
 
-use arc_report::write_arcs;
+mod report;
+
 use eph_store::NavFile;
 use job_answers::{Answer, Status, Stop};
 use line_source::Files;
 use obs_store::ObsFile;
-use pair_refusals::refused_pair;
+pub use report::write_arcs;
 use rinex_head::System;
 use run_options::Options;
 use screening::screen_in;
 use session_begin::{Begun, SessionFault, begin};
-use session_files::read_session;
+use session_files::{read_session, refused_pair};
 use slip_arcs::{Arcs, cut};
 use std::alloc::{AllocError, Global};
-use system_world::world_of;
+use sv_orbit::world_of;
 
 // The arcs of the pairs that are taken.
 fn arcs_of(

@@ -16,15 +16,15 @@ use Rattle.command_words.specs.declared.sims.Part.{Part}
 use Rattle.command_words.specs.declared.sims.Part.TheVariants as part
 use Rattle.command_words.specs.Words.{file_words, IsJob}
 use Rattle.command_words.proofs.OneJob.{one_job}
-use Rattle.zero_job.proofs.ZeroSays.{zero_status, zero_verdict}
-use Rattle.list_job.proofs.ListSays.{list_status, list_verdict}
-use Rattle.orbit_job.proofs.OrbitSays.{orbit_status, orbit_verdict}
+use Rattle.file_jobs.proofs.ZeroSays.{zero_status, zero_verdict}
+use Rattle.file_jobs.proofs.ListSays.{list_status, list_verdict}
+use Rattle.file_jobs.proofs.OrbitSays.{orbit_status, orbit_verdict}
 use Rattle.sim_job.proofs.SimSays.{sim_status, sim_verdict}
 use Rattle.cert_jobs.proofs.CertSays.{check_status, check_verdict, residuals_status, residuals_verdict}
-use Rattle.migrate_job.proofs.MigrateSays.{migrate_status, migrate_verdict}
+use Rattle.cert_jobs.proofs.MigrateSays.{migrate_status, migrate_verdict}
 use Rattle.session_begin.specs.declared.faults.PairWhat.{PairWhat}
-use Rattle.pair_refusals.specs.Refusals.{pair_line, HaveRefused, AreRefusedWhole}
-use Rattle.pair_refusals.proofs.RefusalLaws.{stop_whole}
+use Rattle.session_files.specs.Refusals.{pair_line, HaveRefused, AreRefusedWhole}
+use Rattle.session_files.proofs.RefusalLaws.{stop_whole}
 use Rattle.arcs_job.proofs.ArcSays.{arcs_status, arcs_verdict}
 use Rattle.fix_job.proofs.FixSays.{fix_status, fix_verdict}
 use Rattle.track_job.proofs.TrackSays.{track_status, track_verdict}

@@ -10,13 +10,13 @@ use Rattle.command_words.specs.declared.jobs.Job.{Job}
 use Rattle.command_words.specs.declared.jobs.Job.TheVariants as job
 use Rattle.command_words.specs.Words.{IsJob}
 use Rattle.command_words.proofs.OneJob.{one_job}
-use Rattle.zero_job.specs.ZeroRuns.{SaysOfZero}
-use Rattle.zero_job.proofs.ZeroSays.{zero_says}
-use Rattle.list_job.specs.ListRuns.{SaysOfList}
-use Rattle.list_job.proofs.ListSays.{list_says}
+use Rattle.file_jobs.specs.ZeroRuns.{SaysOfZero}
+use Rattle.file_jobs.proofs.ZeroSays.{zero_says}
+use Rattle.file_jobs.specs.ListRuns.{SaysOfList}
+use Rattle.file_jobs.proofs.ListSays.{list_says}
 use Rattle.gps_time.specs.declared.Tick.{Tick}
-use Rattle.orbit_job.specs.OrbitRuns.{SaysOfOrbit}
-use Rattle.orbit_job.proofs.OrbitSays.{orbit_says}
+use Rattle.file_jobs.specs.OrbitRuns.{SaysOfOrbit}
+use Rattle.file_jobs.proofs.OrbitSays.{orbit_says}
 use Rattle.command_words.specs.declared.sims.File.{File}
 use Rattle.command_words.specs.declared.sims.Part.TheVariants as part
 use Rattle.sim_job.specs.SimRuns.{SaysOfSim}
@@ -25,8 +25,8 @@ use Rattle.sim_run_job.specs.SimRunSays.{SaysOfSimRun}
 use Rattle.sim_run_job.proofs.RunSays.{sim_run_says}
 use Rattle.cert_jobs.specs.CertRuns.{SaysOfCheck, SaysOfResiduals}
 use Rattle.cert_jobs.proofs.CertSays.{check_says, residuals_says}
-use Rattle.migrate_job.specs.MigrateRuns.{SaysOfMigrate}
-use Rattle.migrate_job.proofs.MigrateSays.{migrate_says}
+use Rattle.cert_jobs.specs.MigrateRuns.{SaysOfMigrate}
+use Rattle.cert_jobs.proofs.MigrateSays.{migrate_says}
 use Rattle.run_options.specs.declared.options.Options.{Options}
 use Rattle.arcs_job.specs.ArcRuns.{SaysOfArcs}
 use Rattle.arcs_job.proofs.ArcSays.{arcs_says}

@@ -14,16 +14,16 @@ use Rattle.command_words.specs.declared.jobs.Job.TheVariants as job
 use Rattle.command_words.specs.declared.sims.Part.{Part}
 use Rattle.command_words.specs.declared.sims.Part.TheVariants as part
 use Rattle.command_words.specs.Words.{IsJob}
-use Rattle.zero_job.specs.Zero.{ZeroEnds}
-use Rattle.list_job.specs.Listing.{ListEnds}
-use Rattle.orbit_job.specs.Orbits.{OrbitEnds}
+use Rattle.file_jobs.specs.Zero.{ZeroEnds}
+use Rattle.file_jobs.specs.Listing.{ListEnds}
+use Rattle.file_jobs.specs.Orbits.{OrbitEnds}
 use Rattle.sim_job.specs.Sims.{SimEnds}
 use Rattle.cert_jobs.specs.CertJobs.{CheckEnds, ResidualsEnds}
 use Rattle.cert_jobs.specs.CertRuns.{IsCertAdmitted}
-use Rattle.migrate_job.specs.Migrations.{MigrateEnds}
-use Rattle.migrate_job.specs.MigrateRuns.{IsOldAdmitted}
+use Rattle.cert_jobs.specs.Migrations.{MigrateEnds}
+use Rattle.cert_jobs.specs.MigrateRuns.{IsOldAdmitted}
 use Rattle.arcs_job.specs.ArcJobs.{ArcsEnds}
-use Rattle.pair_refusals.specs.Admitted.{AreAdmitted}
+use Rattle.session_files.specs.Admitted.{AreAdmitted}
 use Rattle.fix_job.specs.FixJobs.{FixEnds}
 use Rattle.track_job.specs.TrackJobs.{TrackEnds}
 use Rattle.track_job.specs.CheckJobs.{CheckTrackEnds}

@@ -3,8 +3,8 @@
 //!
 //! # How a command is added
 //!
-//! A command has a variant of `Job` with its words (crate command_words), and a crate of its own, as zero_job, with
-//! what it ends with, what a run of it says, and the lemmas on its statuses. Here it has cases of `JobEnds` and
+//! A command has a variant of `Job` with its words (crate command_words), and a module of a job's crate, as
+//! `orbits` of file_jobs, with what it ends with, what a run of it says, and the lemmas on its statuses. Here it has cases of `JobEnds` and
 //! `IsReadable` (specs/Jobs.antt), of `readable_ends` and `job_status` (proofs/Completes.antt), a clause of `run` with
 //! its lemma (proofs/Says.antt), and an arm in `do_job`. What is said of statuses, sinks, faults and completeness
 //! (specs/Runs.antt) stays as it is.

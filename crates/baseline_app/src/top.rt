@@ -8,15 +8,15 @@ ghost use Rattle.command_words.specs.declared.sims.File.{File};
 ghost use Rattle.command_words.specs.declared.sims.Part.{Part};
 ghost use Rattle.command_words.specs.declared.jobs.Job.{Job};
 ghost use Rattle.command_words.specs.Words.{texts_of, file_words, IsJob, IsInRange, IsSimInRange};
-ghost use Rattle.zero_job.specs.ZeroRuns.{SaysOfZero};
-ghost use Rattle.list_job.specs.ListRuns.{SaysOfList};
-ghost use Rattle.orbit_job.specs.OrbitRuns.{SaysOfOrbit};
+ghost use Rattle.file_jobs.specs.ZeroRuns.{SaysOfZero};
+ghost use Rattle.file_jobs.specs.ListRuns.{SaysOfList};
+ghost use Rattle.file_jobs.specs.OrbitRuns.{SaysOfOrbit};
 ghost use Rattle.sim_job.specs.SimRuns.{SaysOfSim};
 ghost use Rattle.sim_run_job.specs.SimRunSays.{SaysOfSimRun};
 ghost use Rattle.run_options.specs.declared.options.Options.{Options};
 ghost use Rattle.cert_jobs.specs.CertRuns.{SaysOfCheck, SaysOfResiduals};
-ghost use Rattle.migrate_job.specs.MigrateRuns.{SaysOfMigrate};
-ghost use Rattle.pair_refusals.specs.Refusals.{HaveRefused, AreRefusedWhole};
+ghost use Rattle.cert_jobs.specs.MigrateRuns.{SaysOfMigrate};
+ghost use Rattle.session_files.specs.Refusals.{HaveRefused, AreRefusedWhole};
 ghost use Rattle.arcs_job.specs.ArcJobs.{ArcsEnds};
 ghost use Rattle.arcs_job.specs.ArcRuns.{SaysOfArcs};
 ghost use Rattle.fix_job.specs.FixJobs.{FixEnds};
@@ -28,20 +28,17 @@ ghost use Rattle.baseline_app.specs.Jobs.{PartEnds, JobEnds, IsReadable, IsAnswe
 ghost use Rattle.baseline_app.specs.Runs.{IsRun, IsComplete};
 
 use arcs_job::arcs;
-use cert_jobs::{check_file, residuals};
+use cert_jobs::{check_file, migrate, residuals};
 use command_words::{Job, Part, Word, WordFault, read_words};
+use file_jobs::{list, orbit, zero};
 use fix_job::fix;
 use job_answers::{Answer, Status, Stop, deliver, usage};
 use line_source::{Files, Sink};
-use list_job::list;
-use migrate_job::migrate;
-use orbit_job::orbit;
 use run_options::Options;
 use sim_job::sim;
 use sim_run_job::sim_run;
 use std::alloc::{AllocError, Global};
 use track_job::{check_track_file, track};
-use zero_job::zero;
 
 // The command `fix` by its words.
 fn fix_by_words<F: Files>(

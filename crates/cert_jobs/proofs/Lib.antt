@@ -1,1 +1,2 @@
 pub mod CertSays
+pub mod MigrateSays

@@ -1,2 +1,4 @@
 pub mod CertJobs
 pub mod CertRuns
+pub mod Migrations
+pub mod MigrateRuns

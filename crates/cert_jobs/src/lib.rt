@@ -1,15 +1,10 @@
-//! The commands on a certificate: `check` decides its rows again, `residuals` shows what is left of its observations.
+//! The commands on a certificate: `check` decides its rows again, `residuals` shows what is left of its observations,
+//! `migrate` lifts one of the first version.
 //!
-//! Of zero_job, list_job, orbit_job, sim_job, arcs_job, cert_jobs: A command each, and in cert_jobs `check` and
-//! `residuals`: what it ends with on the bytes of its file, and what a run with status 0 or 1 says of the file.
-//! `orbit`: the record is the one that is chosen at the tick, by comparison with all usable records of the file, and
-//! every solution of the user algorithm for it lies between the printed numbers; `no record` comes exactly where no
-//! record is chosen. `arcs`: the kept arcs are exactly those of the used satellites of the taken pairs, with their
-//! datums and the number of shorter ones; the two files are refused exactly where the base has no position, a band
-//! has no common code or epochs are too dense. `check`: `certified` comes only where the rows are fixed, the tail
-//! says so with the same numbers, and the integers with the move are strictly best; each other answer has its cause;
-//! and no other verdict's condition holds, but where a search gave up. The text is the spelling of that certificate
-//! alone. `residuals`: the printed numbers are those of the rows at the tail's first integers, or there are none.
+//! `check`: `certified` comes only where the rows are fixed, the tail says so with the same numbers, and the integers
+//! with the move are strictly best; each other answer has its cause; and no other verdict's condition holds, but where
+//! a search gave up. The text is the spelling of that certificate alone. `residuals`: the printed numbers are those of
+//! the rows at the tail's first integers, or there are none. What `migrate` says stands at the head of its module.
 #![tactic(auto)]
 
 ghost use Rattle.std.specs.Prelude.{◌≡◌, ◌≢◌, ◌≤◌, [], length, IfOk, ◌∷◌};
@@ -19,12 +14,15 @@ ghost use Rattle.job_answers.specs.Answers.{ending_of, IfEnded};
 ghost use Rattle.job_answers.specs.Endings.{EndsByFile, IsRefusedWhole};
 ghost use Rattle.cert_jobs.specs.CertJobs.{status_of, shown_status, CheckEnd, ResidualsEnd, CheckEnds, ResidualsEnds};
 
+mod migrations;
+
 use cert_check::check;
 use cert_data::{Cert, Verdict};
 use cert_report::{write_residuals, write_verdict};
 use cert_text::read_cert;
 use job_answers::{Answer, Status, Stop, load_file, refused};
 use line_source::Files;
+pub use migrations::migrate;
 use rinex_head::TextFault;
 use std::alloc::{AllocError, Global};
 

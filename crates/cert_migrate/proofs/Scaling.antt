@@ -4,7 +4,7 @@ use Rattle.whole_math.proofs.Ring.{va, ko, ng, ◌⊕◌, ◌⊖◌, ◌⊗◌}
 use Rattle.whole_math.specs.Vectors.{len}
 use Rattle.rational.specs.Rational.{Rational, ◌≈◌, ◌≤ʳ◌, ◌<ʳ◌, of_whole, add_r, sub_r, mul_r}
 use Rattle.rational.proofs.Laws.{≤ʳ_along, mul_r-mono, <ʳ_not, not_≤ʳ}
-use Rattle.rational_algebra.proofs.Orders.{equal_r, ◌≐◌}
+use Rattle.rational.proofs.Orders.{equal_r, ◌≐◌}
 use Rattle.quadratic_form.specs.RationalData.{Baseline, sum_of_rationals, squared_norm_of_rationals, spread_of_rationals}
 
 -- each of the second list is k times that of the first

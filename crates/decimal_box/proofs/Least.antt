@@ -9,7 +9,7 @@ use Rattle.whole_math.proofs.Order.{lins, mul_lt_cancel, mul_eq_cancel, mul_boun
 use Rattle.whole_math.proofs.Inequalities.{same_by, le_by, both_nn, prod_nn, less_nn, weak, nat, one_nn, pos_one, le_trans_ℤ}
 use Rattle.whole_math.proofs.Rounding.{floor_unique, ceil_unique}
 use Rattle.rational.proofs.Boxes.{InBox-along}
-use Rattle.rational_algebra.proofs.Ends.{box_of_size}
+use Rattle.rational.proofs.Ends.{box_of_size}
 use Rattle.iv_core.specs.Boxes.{Past}
 use Rattle.iv_core.specs.declared.Iv.{Iv}
 use Rattle.decimal_box.specs.Least.{IsLeastBox}

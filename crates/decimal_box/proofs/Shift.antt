@@ -10,8 +10,8 @@ use Rattle.decimal_text.specs.declared.exponent.Dec.{Dec}
 use Rattle.rational.specs.Rational.{Rational, ◌≈◌, IsAtMostInSize, of_whole, of_scale, mul_r, times}
 use Rattle.rational.proofs.Laws.{≈_trans}
 use Rattle.rational.proofs.Boxes.{InBox-along}
-use Rattle.rational_algebra.proofs.Sizes.{size_mul, size_along, size_looser}
-use Rattle.rational_algebra.proofs.Ends.{box_of_size}
+use Rattle.rational.proofs.Sizes.{size_mul, size_along, size_looser}
+use Rattle.rational.proofs.Ends.{box_of_size}
 use Rattle.iv_core.specs.declared.Iv.{Iv}
 use Rattle.eph_store.specs.Decimals.{decimal, with_exponent, value_of, IsWithin}
 use Rattle.decimal_box.specs.Least.{IsLeastBox}

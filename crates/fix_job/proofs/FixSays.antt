@@ -24,9 +24,9 @@ use Rattle.session_files.specs.SessionFiles.{StopsAtFiles}
 use Rattle.session_files.proofs.FileLaws.{files_status, no_stop}
 use Rattle.session_files.specs.FaultNames.{IsFaultOf}
 use Rattle.session_files.proofs.FaultLaws.{verdict_no_fault, refused_no_fault, none_told}
-use Rattle.pair_refusals.specs.Refusals.{AreRefusedWhole}
-use Rattle.pair_refusals.specs.Admitted.{AreAdmitted}
-use Rattle.pair_refusals.proofs.RefusalLaws.{never_refused, stop_whole, pair_whole}
+use Rattle.session_files.specs.Refusals.{AreRefusedWhole}
+use Rattle.session_files.specs.Admitted.{AreAdmitted}
+use Rattle.session_files.proofs.RefusalLaws.{never_refused, stop_whole, pair_whole}
 use Rattle.fix_job.specs.FixJobs.{FixEnd, FixEnds}
 use Rattle.fix_job.specs.FixRuns.{IsFix, HaveOutcome, SaysOfFix}
 use Rattle.fix_job.proofs.Runs.{stands_for}

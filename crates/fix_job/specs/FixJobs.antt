@@ -14,7 +14,7 @@ use Rattle.job_answers.specs.declared.status.Status.TheVariants.{Done, Declined}
 use Rattle.job_answers.specs.Endings.{Ending, ending}
 use Rattle.rinex_head.specs.Systems.{system_of}
 use Rattle.session_files.specs.SessionFiles.{EndsBySession}
-use Rattle.pair_refusals.specs.Refusals.{IsPairRefused}
+use Rattle.session_files.specs.Refusals.{IsPairRefused}
 
 -- done for a fix, else declined
 abbrev pub status_of : Answer → Status

@@ -8,7 +8,7 @@ use Rattle.obs_rows.specs.declared.arcs.Arc.{Arc}
 use Rattle.obs_rows.specs.declared.bands.Signals.{Signals}
 use Rattle.obs_rows.specs.Best.{IsStrictlyBest}
 use Rattle.epoch_pair.specs.declared.pairs.PairOf.{PairOf}
-use Rattle.system_world.specs.Worlds.{world_of}
+use Rattle.sv_orbit.specs.Worlds.{world_of}
 use Rattle.screening.specs.Screening.{setting_of}
 use Rattle.row_build.specs.Stands.{StandsForFiles}
 use Rattle.int_search.specs.declared.answer.TwoBest.{TwoBest}

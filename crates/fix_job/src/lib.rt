@@ -15,7 +15,7 @@ ghost use Rattle.job_answers.specs.Answers.{ending_of, IfEnded};
 ghost use Rattle.job_answers.specs.Endings.{ending};
 ghost use Rattle.outcome_report.specs.OutcomeText.{answer_text, outcome_text, IsWholeAnswer};
 ghost use Rattle.session_files.specs.FaultNames.{IsFaultOf};
-ghost use Rattle.pair_refusals.specs.Refusals.{AreRefusedWhole};
+ghost use Rattle.session_files.specs.Refusals.{AreRefusedWhole};
 ghost use Rattle.fix_job.specs.FixJobs.{status_of, FixEnd, FixEnds};
 
 use eph_store::NavFile;
@@ -23,11 +23,10 @@ use job_answers::{Answer, Status, Stop};
 use line_source::Files;
 use obs_store::ObsFile;
 use outcome_report::{is_fixed, write_outcome};
-use pair_refusals::refused_pair;
 use rinex_head::System;
 use run_options::Options;
 use session::{Outcome, SessionFault, process};
-use session_files::read_session;
+use session_files::{read_session, refused_pair};
 use std::alloc::{AllocError, Global};
 
 // Done for a fix, else declined.

@@ -5,7 +5,7 @@
 //! well, and `two_best` first in decorrelated ones (`decorrelate`, `reduced_form`), where a map gives the vectors of the
 //! answer.
 //!
-//! Of suffix_search, int_search: `two_best` finds the two integer vectors at which an integer form is least. An
+//! `two_best` finds the two integer vectors at which an integer form is least. An
 //! answer has the least of all integer vectors, of whole numbers of any size, by the form's value and then by entries
 //! in order, the least of all others, their values, and only entries below 2^30 in size (clause `found`). An answer
 //! keeps the budget (`visits`): at most so many suffixes have a lower sum of at most 2^60 times the second value, in

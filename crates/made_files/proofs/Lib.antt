@@ -1,1 +1,17 @@
 pub mod Readings
+pub mod Printed
+pub mod Digits
+pub mod Fixed
+pub mod Fields
+pub mod Dates
+pub mod NavNumbers
+pub mod NavRooms
+pub mod NavLines
+pub mod NavRecords
+pub mod NavFile
+pub mod ObsTexts
+pub mod ObsFields
+pub mod ObsSatellites
+pub mod ObsEpochs
+pub mod ObsHeader
+pub mod ObsFile

@@ -10,7 +10,7 @@ use Rattle.rinex_head.specs.declared.system.System.TheVariants.{Gps, Galileo}
 use Rattle.obs_rows.specs.Ranges.{IsSystem}
 use Rattle.rinex_obs.specs.ObsForm.{IsObsFile}
 use Rattle.rinex_nav.specs.NavForm.{IsNavFile}
-use Rattle.system_world.specs.Worlds.{world_of}
+use Rattle.sv_orbit.specs.Worlds.{world_of}
 use Rattle.sim_records.specs.Navigation.{navigation_text}
 use Rattle.sim_records.specs.Satellites.{AreSatellites}
 use Rattle.sim_texts.specs.declared.signals.Tracking.{Tracking}
@@ -18,10 +18,10 @@ use Rattle.sim_texts.specs.declared.signals.Tracking.TheVariants.{GpsL1L2, GpsL1
 use Rattle.sim_draws.specs.Values.{base_clock_of, rover_clock_of, base_cycles, rover_cycles, first_of}
 use Rattle.sim_session.specs.Observations.{step_of, IsObservationText}
 use Rattle.sim_session.specs.Texts.{base_point, rover_point, has_l5, tracking_of, IsBaseText, IsRoverText, IsNavigationText}
-use Rattle.made_navigation.specs.Records.{raws_of}
-use Rattle.made_navigation.proofs.File as navigation
-use Rattle.made_observations.specs.Files.{system_in, file_of, HaveRoom}
-use Rattle.made_observations.proofs.File as observations
+use Rattle.made_files.specs.NavRecords.{raws_of}
+use Rattle.made_files.proofs.NavFile as navigation
+use Rattle.made_files.specs.ObsFiles.{system_in, file_of, HaveRoom}
+use Rattle.made_files.proofs.ObsFile as observations
 use Rattle.made_files.specs.Reads.{ReadsAsObserved, ReadsAsBase, ReadsAsRover, ReadsAsRecords}
 
 -- a session lasts two hours at most

@@ -1,1 +1,4 @@
 pub mod Reads
+pub mod Printed
+pub mod NavRecords
+pub mod ObsFiles

@@ -5,13 +5,13 @@ use Rattle.line_source.specs.Lines.{lines_of}
 use Rattle.rinex_head.specs.Systems.{system_of}
 use Rattle.rinex_obs.specs.ObsForm.{IsObsFile}
 use Rattle.rinex_nav.specs.NavForm.{IsNavFile}
-use Rattle.system_world.specs.Worlds.{world_of}
+use Rattle.sv_orbit.specs.Worlds.{world_of}
 use Rattle.sim_texts.specs.declared.signals.Signals.{Signals}
 use Rattle.sim_draws.specs.Values.{base_clock_of, rover_clock_of, base_cycles, rover_cycles, first_of}
 use Rattle.sim_session.specs.Observations.{step_of, tag_of, AreObserved}
 use Rattle.sim_session.specs.Texts.{base_point, rover_point, has_l5, tracking_of, HasRecords}
-use Rattle.made_navigation.specs.Records.{raws_of}
-use Rattle.made_observations.specs.Files.{file_of}
+use Rattle.made_files.specs.NavRecords.{raws_of}
+use Rattle.made_files.specs.ObsFiles.{file_of}
 
 -- The text is an observation file of the system with that letter, and what it says is what a receiver that tracks these bands
 -- observes at so many epochs.

@@ -1,20 +1,27 @@
 //! Simulated sessions as files: what `make` writes is read as what it was made of.
 //!
-//! Of written_texts, made_navigation, made_observations, made_files: What is written is read. A number of at most 18
-//! digits that `fixed_text` gives, behind any blanks, is read by the form of a number with a point as that number
-//! (`fixed_law`); digits are read as their number (`digits_law`); a text without control bytes and a line feed are a
-//! line (`line_law`); each time of 2024-01-01 is a moment with its ticks (`new_year_law`). The text of made
+//! A number of at most 18 digits that `fixed_text` gives, behind any blanks, is read by the form of a number with a point
+//! as that number (`fixed_law`); digits are read as their number (`digits_law`); a text without control bytes and a line
+//! feed are a line (`line_law`); each time of 2024-01-01 is a moment with its ticks (`new_year_law`). The text of made
 //! satellites of a system is a navigation file by the reader's own form, whose records are theirs, each number as it
 //! was kept (`navigation_law`). The text of signals at epochs is an observation file by the reader's own form,
 //! whichever bands of which system are tracked: its header's numbers, its tags, its satellites in order and each number
 //! in the slot of its type (`observation_law`). So the three texts of every simulated session are files of its system,
-//! with the values that they were made of (`reading_law` of made_files, over the clauses of `make`).
+//! with the values that they were made of (`reading_law`, over the clauses of `make`).
 #![tactic(auto)]
 
 ghost use Rattle.std.specs.Prelude.{ℕ, ◌≤◌, List, IfOk};
 ghost use Rattle.obs_rows.specs.Ranges.{IsSystem};
 ghost use Rattle.sim_session.specs.Texts.{IsBaseText, IsRoverText, IsNavigationText};
 ghost use Rattle.made_files.specs.Reads.{ReadsAsBase, ReadsAsRover, ReadsAsRecords};
+
+mod navigation;
+mod observations;
+mod written;
+
+pub use navigation::navigation_law;
+pub use observations::observation_law;
+pub use written::{digits_law, fixed_law, line_law, new_year_law};
 
 /// The texts of a session of so many epochs and satellites are files by the readers' own definitions, with the values that they were
 /// made of. There is nothing to run: the contract is the law, and its premises are clauses of `make`.

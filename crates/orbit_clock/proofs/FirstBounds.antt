@@ -10,8 +10,8 @@ use Rattle.whole_math.proofs.Certificates.{cert, cancel, square_root, mul_positi
 use Rattle.decimal_text.specs.declared.exponent.Dec.{Dec}
 use Rattle.rational.specs.Rational.{Rational, ◌≈◌, ◌≤ʳ◌, of_whole, of_scale, two_to_minus, add_r, sub_r, mul_r, IsAtMostInSize, IsNearRoot}
 use Rattle.rational.proofs.Laws.{≈_sym}
-use Rattle.rational_algebra.proofs.Orders.{order_r, equal_r, cancel_r, ◌≐◌}
-use Rattle.rational_algebra.proofs.Sizes.{positive_above, size_add, size_sub, size_mul, size_along, size_looser, size_over}
+use Rattle.rational.proofs.Orders.{order_r, equal_r, cancel_r, ◌≐◌}
+use Rattle.rational.proofs.Sizes.{positive_above, size_add, size_sub, size_mul, size_along, size_looser, size_over}
 use Rattle.trig_box.specs.AnglePairs.{IsAnglePair, InRange}
 use Rattle.trig_box.proofs.PairLaws.{size_law_5}
 use Rattle.eph_store.specs.Decimals.{decimal, value_of, IsWithin}

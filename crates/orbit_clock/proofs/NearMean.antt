@@ -7,9 +7,9 @@ use Rattle.whole_math.proofs.Inequalities.{same_by, nat}
 use Rattle.whole_math.proofs.Certificates.{cert, ◌≼◌, hy, nm, ◌⊞◌, ◌⊠◌}
 use Rattle.rational.specs.Rational.{Rational, ◌≈◌, ◌≤ʳ◌, of_whole, of_scale, two_to_minus, add_r, sub_r, mul_r, times, IsAtMostInSize, AreWithin, InBox}
 use Rattle.rational.proofs.Laws.{≤ʳ_from_same, ≤ʳ_antisym, ≈_sym}
-use Rattle.rational_algebra.proofs.Orders.{order_r, equal_r, cancel_r, ◌≐◌}
-use Rattle.rational_algebra.proofs.Sizes.{size_mul, size_along, size_looser}
-use Rattle.rational_algebra.proofs.Ends.{size_of_box}
+use Rattle.rational.proofs.Orders.{order_r, equal_r, cancel_r, ◌≐◌}
+use Rattle.rational.proofs.Sizes.{size_mul, size_along, size_looser}
+use Rattle.rational.proofs.Ends.{size_of_box}
 use Rattle.orbit_model.specs.Elements.{Elements}
 use Rattle.orbit_clock.specs.Terms.{part, correction}
 use Rattle.orbit_clock.proofs.Values.{times_is, part_is}

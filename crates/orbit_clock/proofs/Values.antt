@@ -9,8 +9,8 @@ use Rattle.whole_math.proofs.Certificates.{◌≼◌, hy, nm, ◌⊞◌, ◌⊠�
 use Rattle.decimal_text.specs.declared.exponent.Dec.{Dec}
 use Rattle.rational.specs.Rational.{Rational, ◌≈◌, ◌≤ʳ◌, of_whole, of_scale, add_r, sub_r, mul_r, IsRatio, times}
 use Rattle.rational.proofs.Laws.{≤ʳ_trans, ≤ʳ_from_same}
-use Rattle.rational_algebra.proofs.Orders.{order_r, equal_r, ◌≐◌}
-use Rattle.rational_algebra.proofs.Ends.{low_end}
+use Rattle.rational.proofs.Orders.{order_r, equal_r, ◌≐◌}
+use Rattle.rational.proofs.Ends.{low_end}
 use Rattle.iv_core.specs.declared.Iv.{Iv}
 use Rattle.iv_core.specs.Intervals.{Holds, width_of}
 use Rattle.eph_store.specs.Decimals.{decimal, value_of, IsFromTo, IsWithin}

@@ -1,3 +1,4 @@
 pub mod Elements
 pub mod Solution
 pub mod Places
+pub mod SeenPlaces

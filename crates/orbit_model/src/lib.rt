@@ -1,4 +1,10 @@
-//! The user algorithm of IS-GPS-200 for a satellite's place and clock, as definitions in `specs/`: several crates cite them.
+//! The models of a satellite's way and of its signal's, over rationals.
 //!
-//! The user algorithm of IS-GPS-200 as a set of equations over rationals (`IsSatelliteSolution`); definitions alone.
+//! `IsSatelliteSolution` is the user algorithm of IS-GPS-200 for a satellite's place and clock as a set of equations,
+//! and `IsSeenPlace` is where a receiver sees a satellite; both are definitions in `specs/`, which the crates above cite.
+//! The laws of a seen place stand in `travel`.
 #![tactic(auto)]
+
+mod travel;
+
+pub use travel::{range_change, seen_place_exists, seen_places};

@@ -9,7 +9,7 @@ use Rattle.whole_math.proofs.Inequalities.{nat}
 use Rattle.whole_math.proofs.Certificates.{Hy, Ce, ◌≼◌, hy, nm, sq, ◌⊞◌, ◌⊠◌}
 use Rattle.rational.specs.Rational.{Rational, ◌≤ʳ◌, of_whole, of_scale, sub_r, mul_r, AreWithin}
 use Rattle.rational.proofs.Boxes.{end_in}
-use Rattle.rational_algebra.proofs.Orders.{order_r, cancel_r, AreGiven}
+use Rattle.rational.proofs.Orders.{order_r, cancel_r, AreGiven}
 use Rattle.iv_core.specs.declared.Iv.{Iv}
 use Rattle.iv_core.specs.Intervals.{Holds, width_of, IsWithin}
 use Rattle.orbit_model.specs.Solution.{one}

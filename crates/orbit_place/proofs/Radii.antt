@@ -7,8 +7,8 @@ use Rattle.whole_math.proofs.Inequalities.{nat}
 use Rattle.whole_math.proofs.Certificates.{◌≼◌, hy, ◌⊞◌, ◌⊠◌}
 use Rattle.rational.specs.Rational.{Rational, ◌≤ʳ◌, of_whole, of_scale, add_r, mul_r}
 use Rattle.rational.proofs.Boxes.{end_in}
-use Rattle.rational_algebra.proofs.Orders.{order_r}
-use Rattle.rational_algebra.proofs.Ends.{size_of_box, low_end}
+use Rattle.rational.proofs.Orders.{order_r}
+use Rattle.rational.proofs.Ends.{size_of_box, low_end}
 use Rattle.iv_core.specs.declared.Iv.{Iv}
 use Rattle.iv_core.specs.Intervals.{Holds, width_of, IsWithin}
 

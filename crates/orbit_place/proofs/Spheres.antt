@@ -7,7 +7,7 @@ use Rattle.whole_math.proofs.Order.{le_pos}
 use Rattle.whole_math.proofs.Inequalities.{nat}
 use Rattle.whole_math.proofs.Certificates.{Hy, Ce, ◌≼◌, hy, nm, sq, ◌⊞◌, ◌⊠◌}
 use Rattle.rational.specs.Rational.{Rational, ◌≤ʳ◌, of_whole, of_scale, add_r, sub_r, mul_r}
-use Rattle.rational_algebra.proofs.Orders.{order_r, AreGiven}
+use Rattle.rational.proofs.Orders.{order_r, AreGiven}
 use Rattle.iv_core.specs.declared.Iv.{Iv}
 use Rattle.iv_core.specs.Intervals.{width_of, IsWithin}
 use Rattle.trig_box.specs.AnglePairs.{Pair}

@@ -5,7 +5,7 @@ use Rattle.whole_math.proofs.Inequalities.{same_by, nat}
 use Rattle.rational.specs.Rational.{Rational, ◌≈◌, add_r, sub_r, mul_r, times, divided}
 use Rattle.rational.proofs.Laws.{≈_sym}
 use Rattle.rational.proofs.Boxes.{InBox-along}
-use Rattle.rational_algebra.proofs.Orders.{equal_r, ◌≐◌}
+use Rattle.rational.proofs.Orders.{equal_r, ◌≐◌}
 use Rattle.iv_core.specs.declared.Iv.{Iv}
 use Rattle.iv_core.specs.Intervals.{Holds}
 use Rattle.trig_box.specs.AnglePairs.{Pair}

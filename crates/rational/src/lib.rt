@@ -5,9 +5,10 @@
 //! `specs/`, laws in `proofs/`; each function below has an empty body, and its contract names the laws
 //! that a newcomer should see.
 //!
-//! Rationals have no code. Their order is total, sums and products obey the laws of a ring, equal rationals may stand
+//! The order of rationals is total, sums and products obey the laws of a ring, equal rationals may stand
 //! for each other in every operation, order and box, a box holds exactly what lies between its ends, and every list
-//! has a common denominator (the contracts of `crates/rational/src/lib.rt`).
+//! has a common denominator. For the proofs of the crates above there are lemmas in `proofs/` too: equations and orders
+//! by the solver (`Identities`, `Orders`), bounds in size (`Sizes`), the ends of boxes (`Ends`).
 #![tactic(auto)]
 
 ghost use Rattle.std.specs.Prelude.{◌↔◌, ◌⊎◌, ℕ, List, ℤ, pos, ◌+ℤ◌, ◌*ℤ◌, ◌≤ℤ◌};

@@ -9,8 +9,8 @@ use Rattle.rational.specs.Rational.{Rational, ◌≈◌, ◌≤ʳ◌, of_whole, 
 use Rattle.rational.proofs.Laws.{≈_sym, ≤ʳ_trans}
 use Rattle.trig_box.specs.AnglePairs.{Pair, double}
 use Rattle.orbit_model.specs.Solution.{one, turned}
-use Rattle.rational_algebra.proofs.Identities.{same_r}
-use Rattle.rational_algebra.proofs.Orders.{order_r, cancel_r, ◌≐◌}
+use Rattle.rational.proofs.Identities.{same_r}
+use Rattle.rational.proofs.Orders.{order_r, cancel_r, ◌≐◌}
 use Rattle.rotation_box.specs.Rotations.{norm_of, IsNearCircle}
 
 -- ---- norms multiply

@@ -9,9 +9,9 @@ use Rattle.whole_math.proofs.Certificates.{Hy, Ce, mul_positive, ◌≼◌, hy, 
 use Rattle.rational.specs.Rational.{Rational, ◌≈◌, ◌≤ʳ◌, of_whole, of_scale, two_to_minus, add_r, neg_r, sub_r, mul_r, AreWithin}
 use Rattle.rational.proofs.Laws.{≤ʳ_trans}
 use Rattle.rational.proofs.Boxes.{end_in}
-use Rattle.rational_algebra.proofs.Orders.{order_r, cancel_r, AreGiven, Equation, ◌≐◌}
-use Rattle.rational_algebra.proofs.Sizes.{positive_above}
-use Rattle.rational_algebra.proofs.Ends.{size_of_box}
+use Rattle.rational.proofs.Orders.{order_r, cancel_r, AreGiven, Equation, ◌≐◌}
+use Rattle.rational.proofs.Sizes.{positive_above}
+use Rattle.rational.proofs.Ends.{size_of_box}
 use Rattle.iv_core.specs.declared.Iv.{Iv}
 use Rattle.iv_core.specs.Intervals.{Holds, IsWithin}
 use Rattle.trig_box.specs.AnglePairs.{Pair}

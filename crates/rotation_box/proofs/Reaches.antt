@@ -7,8 +7,8 @@ use Rattle.whole_math.proofs.Ring.{va, ko, ◌⊕◌, ◌⊖◌, ◌⊗◌, ng}
 use Rattle.whole_math.proofs.Order.{le_pos}
 use Rattle.rational.specs.Rational.{Rational, ◌≤ʳ◌, of_whole, of_scale, add_r, neg_r, sub_r, mul_r, IsAtMostInSize}
 use Rattle.rational.proofs.Laws.{≤ʳ_trans, square_r-nonneg}
-use Rattle.rational_algebra.proofs.Orders.{order_r}
-use Rattle.rational_algebra.proofs.Ends.{low_end, high_end}
+use Rattle.rational.proofs.Orders.{order_r}
+use Rattle.rational.proofs.Ends.{low_end, high_end}
 use Rattle.whole_math.proofs.Certificates.{◌≼◌, hy, ◌⊞◌}
 use Rattle.iv_core.specs.declared.Iv.{Iv}
 use Rattle.iv_core.specs.Intervals.{Holds, width_of, IsWithin}

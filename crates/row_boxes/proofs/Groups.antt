@@ -7,7 +7,7 @@ use Rattle.whole_math.proofs.Inequalities.{same_by, pos_nn}
 use Rattle.rational.specs.Rational.{Rational, ◌≈◌, of_whole, sub_r, Near}
 use Rattle.rational.proofs.Laws.{≤ʳ_along}
 use Rattle.rational.proofs.Boxes.{Near-along}
-use Rattle.rational_algebra.proofs.Orders.{equal_r, ◌≐◌}
+use Rattle.rational.proofs.Orders.{equal_r, ◌≐◌}
 use Rattle.obs_rows.specs.Signals.{wavelength}
 use Rattle.row_boxes.specs.Terms.{prefit_width, y_width, observed, in_row_unit, row_unit}
 use Rattle.row_boxes.specs.Sightings.{Sighting, computed, y_of, y_in_rows}

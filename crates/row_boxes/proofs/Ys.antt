@@ -9,9 +9,9 @@ use Rattle.whole_math.proofs.Order.{lins, mul_le_right}
 use Rattle.whole_math.proofs.Inequalities.{same_by, pos_nn}
 use Rattle.rational.specs.Rational.{Rational, ◌≈◌, ◌<ʳ◌, of_whole, add_r, sub_r, InBox, Near}
 use Rattle.rational.proofs.Boxes.{wider}
-use Rattle.rational_algebra.proofs.Orders.{equal_r, ◌≐◌}
+use Rattle.rational.proofs.Orders.{equal_r, ◌≐◌}
 use Rattle.iv_core.proofs.SumLaws.{sub_holds}
-use Rattle.travel_model.specs.SeenPlaces.{range_of}
+use Rattle.orbit_model.specs.SeenPlaces.{range_of}
 use Rattle.std.specs.Prelude.{slice_get}
 use Rattle.obs_rows.specs.Signals.{wavelength, band, is_phase}
 use Rattle.obs_rows.specs.Data.{number_at}

@@ -2,7 +2,7 @@
 use Rattle.std.specs.Prelude.{◌≡◌, ℕ, ◌-◌, ◌^◌, ◌==◌, if◌then◌else◌, Some, List, All, slice_get, ℤ, pos, ◌+ℤ◌, ◌-ℤ◌, ◌*ℤ◌, neg_ℤ, ◌≤ℤ◌, ◌⊎◌}
 use Rattle.rational.specs.Rational.{Rational, ◌≤ʳ◌, ◌<ʳ◌, of_whole, InBox, Near}
 use Rattle.sv_orbit.specs.declared.place.SvBox.{SvBox}
-use Rattle.travel_model.specs.SeenPlaces.{range_of}
+use Rattle.orbit_model.specs.SeenPlaces.{range_of}
 use Rattle.obs_rows.specs.declared.units.TheConstants.{ROW_EXPONENT}
 use Rattle.obs_rows.specs.Data.{number_at}
 use Rattle.obs_rows.specs.Signals.{wavelength, band}

@@ -9,7 +9,7 @@ use Rattle.orbit_model.specs.Solution.{Quantities}
 use Rattle.orbit_place.specs.Held.{HoldsPlace as HoldsCoordinates}
 use Rattle.sv_orbit.specs.declared.place.SvBox.{SvBox}
 use Rattle.sv_orbit.specs.Solutions.{HoldsSolution}
-use Rattle.travel_model.specs.SeenPlaces.{Place}
+use Rattle.orbit_model.specs.SeenPlaces.{Place}
 use Rattle.signal_travel.specs.Boxes.{HoldsPlace}
 use Rattle.eph_store.specs.declared.ephemeris.Eph.{Eph}
 use Rattle.obs_store.specs.declared.series.Epoch.{Epoch}

@@ -2,7 +2,7 @@
 use Rattle.std.specs.Prelude.{◌≡◌, ℕ, ◌^◌, Some, List, All, slice_get, ℤ, pos, ◌≤ℤ◌}
 use Rattle.rational.specs.Rational.{Rational, of_whole, mul_r, Near}
 use Rattle.sv_orbit.specs.declared.place.SvBox.{SvBox}
-use Rattle.travel_model.specs.SeenPlaces.{Place, IsDisplacement, IsMeanDirection}
+use Rattle.orbit_model.specs.SeenPlaces.{Place, IsDisplacement, IsMeanDirection}
 use Rattle.obs_rows.specs.declared.arcs.Arc.{Arc}
 use Rattle.obs_rows.specs.declared.rows.Row.{Row}
 use Rattle.obs_rows.specs.Data.{number_at}

@@ -2,7 +2,7 @@
 use Rattle.std.specs.Prelude.{◌≡◌, ℕ, Some, List, length, map, All, slice_get, ℤ, pos, ◌≤ℤ◌}
 use Rattle.rational.specs.Rational.{Near}
 use Rattle.orbit_model.specs.Solution.{Quantities}
-use Rattle.travel_model.specs.SeenPlaces.{Place, IsSeenPlace, IsDisplacement, IsMeanDirection}
+use Rattle.orbit_model.specs.SeenPlaces.{Place, IsSeenPlace, IsDisplacement, IsMeanDirection}
 use Rattle.eph_store.specs.declared.ephemeris.Eph.{Eph}
 use Rattle.obs_store.specs.declared.series.Epoch.{Epoch}
 use Rattle.epoch_pair.specs.declared.pairs.PairOf.{PairOf}

@@ -6,7 +6,7 @@ ghost use Rattle.obs_rows.specs.Unused.{IsZeroOff};
 ghost use Rattle.row_boxes.specs.YBoxes.{Pairing, HoldsYs, HasFarSignal, most_radius};
 ghost use Rattle.obs_rows.specs.ReceiverPoints.{IsReceiverPoint};
 ghost use Rattle.signal_travel.specs.Boxes.{HoldsPlace};
-ghost use Rattle.travel_model.specs.SeenPlaces.{Place, IsDisplacement, IsMeanDirection};
+ghost use Rattle.orbit_model.specs.SeenPlaces.{Place, IsDisplacement, IsMeanDirection};
 ghost use Rattle.row_boxes.specs.Sightings.{Sighting, IsSighting, place_at};
 ghost use Rattle.row_build.specs.Halves.{IsBaseHalf};
 ghost use Rattle.row_build.specs.Rows.{HoldsU, IsInU, seen_by};

@@ -1,7 +1,7 @@
 //! A satellite that both receivers of a pair observe, with its boxes.
 ghost use Rattle.std.specs.Prelude.{◌≡◌, ◌+◌, ◌^◌, ◌≤◌, ◌<◌, pos, ◌-ℤ◌, ◌≤ℤ◌, IsTrue, false, MatchOption, unsigned_abs};
 ghost use Rattle.std.specs.Int.{abs_diff};
-ghost use Rattle.travel_model.specs.SeenPlaces.{IsAboveMask, IsBelowMask};
+ghost use Rattle.orbit_model.specs.SeenPlaces.{IsAboveMask, IsBelowMask};
 ghost use Rattle.obs_rows.specs.declared.units.TheConstants.{SIGNALS};
 ghost use Rattle.sv_orbit.specs.Solutions.{HoldsSolution};
 ghost use Rattle.screening.specs.Amounts.{AreAmounts, difference, differences};

@@ -6,7 +6,7 @@ use Rattle.obs_store.specs.declared.file.ObsFile.{ObsFile}
 use Rattle.eph_store.specs.File.{Records}
 use Rattle.epoch_pair.specs.declared.pairs.PairOf.{PairOf}
 use Rattle.obs_rows.specs.BandSets.{bands_of}
-use Rattle.system_world.specs.Worlds.{world_of}
+use Rattle.sv_orbit.specs.Worlds.{world_of}
 use Rattle.screening.specs.Screening.{setting_of}
 use Rattle.row_build.specs.Stands.{StandsForFiles}
 use Rattle.row_build.proofs.StandsLaws.{session_stands}

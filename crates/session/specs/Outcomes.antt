@@ -9,7 +9,7 @@ use Rattle.epoch_pair.specs.declared.pairs.PairOf.{PairOf}
 use Rattle.slip_arcs.specs.Runs.{AreKept}
 use Rattle.slip_arcs.specs.Linked.{HaveDatums}
 use Rattle.obs_rows.specs.BandSets.{bands_of}
-use Rattle.system_world.specs.Worlds.{world_of}
+use Rattle.sv_orbit.specs.Worlds.{world_of}
 use Rattle.screening.specs.Screening.{setting_of, AreUsedPairs, IsSvPair}
 use Rattle.cert_data.specs.declared.outcomes.Outcome.{Outcome}
 use Rattle.run_options.specs.declared.options.Options.{Options}

@@ -16,7 +16,7 @@ use row_build::{base_halves, screen_in};
 use session_begin::{Begun, Options, SessionFault, begin};
 use slip_arcs::cut;
 use std::alloc::{AllocError, Global};
-use system_world::world_of;
+use sv_orbit::world_of;
 
 /// The used satellites of the taken pairs, and the arcs that are kept of them.
 pub fn screened(

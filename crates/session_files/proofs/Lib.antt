@@ -1,3 +1,4 @@
 pub mod FaultLaws
 pub mod FileLaws
 pub mod Openings
+pub mod RefusalLaws

@@ -1,2 +1,4 @@
 pub mod FaultNames
 pub mod SessionFiles
+pub mod Refusals
+pub mod Admitted

@@ -1,5 +1,8 @@
 //! The three files of a session of one system, read one after the other. An observation file may be of either format of
 //! RINEX.
+//!
+//! `read_session` gives the three, or ends at the first that can't be had. Two observation files of which no session is
+//! made are refused with one line (`refused_pair`).
 #![tactic(auto)]
 
 ghost use Rattle.std.specs.Prelude.{◌≡◌, ◌≢◌, ◌≤◌, ℕ, List, [], ◌∷◌, length, IfOk, OnOk, All};
@@ -18,11 +21,14 @@ ghost use Rattle.job_answers.specs.Endings.{EndsUnloaded, IsRefusal, IsRefusedWh
 ghost use Rattle.session_files.specs.FaultNames.{IsFaultOf};
 ghost use Rattle.session_files.specs.SessionFiles.{IsObsOf, IsNavOf, StopsAtObs, StopsAtNav, StopsAtFiles, AreFilesOf};
 
+mod refusals;
+
 use eph_store::NavFile;
 use job_answers::{Status, Stop, load_file, read_fault, refused, too_large};
 use line_source::{Files, LoadFault, Taker, load_into};
 use obs_source::ObsTaker;
 use obs_store::ObsFile;
+pub use refusals::refused_pair;
 use rinex_head::{System, TextFault};
 use rinex_nav::read_records_of;
 use rinex_obs::GalFeed;

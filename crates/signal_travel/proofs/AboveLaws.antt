@@ -9,7 +9,7 @@ use Rattle.obs_rows.proofs.ReceiverPointLaws.{norm_nn, size_of_square}
 use Rattle.rational.specs.Rational.{Rational, AreWithin, two_to_minus, of_scale}
 use Rattle.iv_core.specs.declared.Iv.{Iv}
 use Rattle.iv_core.specs.Intervals.{Holds, width_of}
-use Rattle.travel_model.specs.SeenPlaces.{point_of, IsAboveMask, IsBelowMask}
+use Rattle.orbit_model.specs.SeenPlaces.{point_of, IsAboveMask, IsBelowMask}
 use Rattle.signal_travel.specs.Boxes.{IsNearPlaces, HasNearPlace}
 use Rattle.signal_travel.specs.Grid.{grid, offset, dot3, IsAboveWhole}
 use Rattle.signal_travel.proofs.GridPlaces.{grid_place, grid_near, sides, is_above, decided_place}

@@ -10,7 +10,7 @@ use Rattle.whole_math.specs.Rounding.{floor_div}
 use Rattle.whole_math.proofs.Rounding.{floor_le, lt_floor}
 use Rattle.rational.specs.Rational.{Rational, ◌≈◌, ◌≤ʳ◌, of_whole, of_scale, add_r, sub_r, mul_r, neg_r, times, two_to_minus, AreWithin, InBox}
 use Rattle.rational.proofs.Laws.{≤ʳ_trans, ≤ʳ_from_same}
-use Rattle.travel_model.proofs.Orders.{cert_r}
+use Rattle.orbit_model.proofs.Orders.{cert_r}
 use Rattle.trig_box.specs.AnglePairs.{Pair, doubled, taylor_pair, part, IsAnglePair, IsCanonicalPair}
 use Rattle.trig_box.proofs.PairLaws.{canonical_exists, canonical_is_pair, canonical_law, sharp_law, size_law_5}
 use Rattle.orbit_model.specs.Elements.{earth_rate}

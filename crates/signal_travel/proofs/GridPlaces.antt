@@ -10,7 +10,7 @@ use Rattle.whole_math.proofs.Rounding.{floor_le, lt_floor}
 use Rattle.rational.specs.Rational.{Rational, of_whole, of_scale, sub_r, mul_r, add_r, divided, two_to_minus, AreWithin, InBox}
 use Rattle.rational.specs.Over.{Over}
 use Rattle.rational.proofs.Over.{over_add, over_mul, over_times, over_zero, over_le, over_lt}
-use Rattle.travel_model.specs.SeenPlaces.{Place, point_of, difference, dot, square, mask_side, height_side, IsAboveMask, IsBelowMask}
+use Rattle.orbit_model.specs.SeenPlaces.{Place, point_of, difference, dot, square, mask_side, height_side, IsAboveMask, IsBelowMask}
 use Rattle.signal_travel.specs.Grid.{grid, offset, dot3, IsAboveWhole}
 
 -- the place on the grid

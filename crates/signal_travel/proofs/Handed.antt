@@ -1,7 +1,7 @@
 -- From a point and boxes in lists to those by name.
 use Rattle.std.proofs.Common.{◌≡◌, List, [], ◌∷◌, ℤ, subst, refl}
 use Rattle.iv_core.specs.declared.Iv.{Iv}
-use Rattle.travel_model.specs.SeenPlaces.{Place, point_of}
+use Rattle.orbit_model.specs.SeenPlaces.{Place, point_of}
 use Rattle.signal_travel.specs.declared.places.VectorBox.{VectorBox}
 use Rattle.signal_travel.specs.Boxes.{HoldsPlace}
 use Rattle.signal_travel.specs.VectorBoxes.{HoldsVector}

@@ -13,9 +13,9 @@ use Rattle.rational.proofs.Laws.{≤ʳ_trans}
 use Rattle.iv_core.specs.Boxes.{least_ratio, most_ratio}
 use Rattle.iv_core.proofs.QuotientLaws.{positive_is}
 use Rattle.orbit_model.specs.Places.{IsBetweenDistances}
-use Rattle.travel_model.specs.SeenPlaces.{Place, difference, square, point_of, IsDisplacement}
-use Rattle.travel_model.proofs.Apart.{IsBetween, vector_square, whole_le}
-use Rattle.travel_model.proofs.Exists.{coordinates, turned_round, turned_about}
+use Rattle.orbit_model.specs.SeenPlaces.{Place, difference, square, point_of, IsDisplacement}
+use Rattle.orbit_model.proofs.Apart.{IsBetween, vector_square, whole_le}
+use Rattle.orbit_model.proofs.Exists.{coordinates, turned_round, turned_about}
 use Rattle.signal_travel.specs.declared.places.VectorBox.{VectorBox}
 use Rattle.signal_travel.specs.declared.places.Point.{Point}
 use Rattle.signal_travel.specs.VectorBoxes.{HoldsVector, HasVectorBetween}

@@ -7,7 +7,7 @@ use Rattle.rational.proofs.Boxes.{end_in}
 use Rattle.iv_core.specs.declared.Iv.{Iv}
 use Rattle.iv_core.specs.Intervals.{Holds, IsWithin}
 use Rattle.orbit_model.specs.Places.{IsBetweenDistances}
-use Rattle.travel_model.proofs.Exists.{coordinates, turned_round, turned_about}
+use Rattle.orbit_model.proofs.Exists.{coordinates, turned_round, turned_about}
 
 pub low_held : (x : Iv 36) → Holds x (of_scale 36 x.lo)
 low_held x = end_in 36 x.lo x.hi x.lo (same x.lo) x.ordered

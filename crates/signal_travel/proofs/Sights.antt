@@ -6,16 +6,16 @@ use Rattle.whole_math.proofs.Certificates.{◌≼◌, hy, ◌⊞◌}
 use Rattle.rational.specs.Rational.{Rational, ◌≤ʳ◌, of_whole, of_scale, mul_r, sub_r, InBox}
 use Rattle.rational.proofs.Boxes.{InBox-along, end_in}
 use Rattle.rational.proofs.Laws.{≈_sym}
-use Rattle.travel_model.proofs.Orders.{cert_r}
+use Rattle.orbit_model.proofs.Orders.{cert_r}
 use Rattle.iv_core.specs.declared.Iv.{Iv}
 use Rattle.iv_core.specs.Intervals.{Holds, width_of}
 use Rattle.trig_box.specs.AnglePairs.{Pair, IsAnglePair}
 use Rattle.trig_box.proofs.PairLaws.{canonical_exists, canonical_is_pair}
 use Rattle.orbit_model.specs.Elements.{earth_rate}
 use Rattle.orbit_model.specs.Places.{IsBetweenDistances}
-use Rattle.travel_model.specs.SeenPlaces.{Place, difference, square, turned_back, point_of, AreSamePlace, IsSentPlace, IsReceiverPlace}
-use Rattle.travel_model.proofs.Apart.{IsBetween, turned_square, loosely, vector_square}
-use Rattle.travel_model.proofs.Distances.{place_far, place_near}
+use Rattle.orbit_model.specs.SeenPlaces.{Place, difference, square, turned_back, point_of, AreSamePlace, IsSentPlace, IsReceiverPlace}
+use Rattle.orbit_model.proofs.Apart.{IsBetween, turned_square, loosely, vector_square}
+use Rattle.orbit_model.proofs.Distances.{place_far, place_near}
 use Rattle.signal_travel.specs.declared.places.VectorBox.{VectorBox}
 use Rattle.signal_travel.specs.declared.places.Point.{Point}
 use Rattle.signal_travel.specs.VectorBoxes.{HoldsVector, IsVectorAtMostWide, HasVectorBetween}

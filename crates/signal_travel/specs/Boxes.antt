@@ -3,7 +3,7 @@ use Rattle.std.specs.Prelude.{List, [], ◌∷◌}
 use Rattle.rational.specs.Rational.{Rational, AreWithin, two_to_minus}
 use Rattle.iv_core.specs.declared.Iv.{Iv}
 use Rattle.iv_core.specs.Intervals.{Holds}
-use Rattle.travel_model.specs.SeenPlaces.{Place}
+use Rattle.orbit_model.specs.SeenPlaces.{Place}
 
 -- each rational lies in the box in its place, and the lists are equally long
 abbrev pub HoldsEach : List (Iv 36) → List Rational → Type 0

@@ -1,7 +1,7 @@
 -- What a spread says of a number, and three of a direction.
 use Rattle.std.specs.Prelude.{◌^◌, List, [], ◌∷◌, pos}
 use Rattle.rational.specs.Rational.{Rational, Near, of_whole, mul_r}
-use Rattle.travel_model.specs.SeenPlaces.{Place}
+use Rattle.orbit_model.specs.SeenPlaces.{Place}
 use Rattle.signal_travel.specs.declared.spread.Spread.{Spread}
 
 -- 2^24 q is within the radius of the centre

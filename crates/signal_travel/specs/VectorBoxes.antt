@@ -5,7 +5,7 @@ use Rattle.rational.specs.Rational.{Rational, ◌≤ʳ◌, of_whole, divided}
 use Rattle.iv_core.specs.declared.Iv.{Iv}
 use Rattle.iv_core.specs.Intervals.{Holds, width_of, IsWithin}
 use Rattle.iv_core.specs.Boxes.{near_end, far_end}
-use Rattle.travel_model.specs.SeenPlaces.{Place, square}
+use Rattle.orbit_model.specs.SeenPlaces.{Place, square}
 use Rattle.signal_travel.specs.declared.places.VectorBox.{VectorBox}
 
 -- a coordinate in units of 0.1 mm, in metres

@@ -2,7 +2,7 @@
 ghost use Rattle.std.specs.Prelude.{◌≡◌, ◌+◌, ◌*◌, ◌^◌, ◌≤◌, ℤ, pos, ◌+ℤ◌, ◌-ℤ◌, neg_ℤ, ◌≤ℤ◌, unsigned_abs};
 ghost use Rattle.rational.specs.Rational.{Rational, ◌≈◌, ◌≤ʳ◌, of_whole, add_r, sub_r, mul_r, IsAtMostInSize};
 ghost use Rattle.iv_core.specs.Intervals.{Holds, width_of, IsWithin};
-ghost use Rattle.travel_model.specs.SeenPlaces.{Place, point_of, IsDisplacement, IsMeanDirection};
+ghost use Rattle.orbit_model.specs.SeenPlaces.{Place, point_of, IsDisplacement, IsMeanDirection};
 ghost use Rattle.signal_travel.specs.VectorBoxes.{HoldsVector};
 ghost use Rattle.signal_travel.specs.Directions.{IsInSpread};
 

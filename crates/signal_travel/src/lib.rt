@@ -16,7 +16,7 @@ ghost use Rattle.iv_core.specs.declared.Iv.{Iv};
 ghost use Rattle.iv_core.specs.Intervals.{Holds, width_of};
 ghost use Rattle.orbit_model.specs.Places.{IsBetweenDistances};
 ghost use Rattle.rational.specs.Rational.{Rational};
-ghost use Rattle.travel_model.specs.SeenPlaces.{Place, point_of, IsSeenPlace, HasSeenPlace, range_of, IsDisplacement, IsMeanDirection, IsAboveMask, IsBelowMask};
+ghost use Rattle.orbit_model.specs.SeenPlaces.{Place, point_of, IsSeenPlace, HasSeenPlace, range_of, IsDisplacement, IsMeanDirection, IsAboveMask, IsBelowMask};
 ghost use Rattle.obs_rows.specs.ReceiverPoints.{IsReceiverPoint};
 ghost use Rattle.signal_travel.specs.Boxes.{HoldsPlace, HasNearPlace};
 ghost use Rattle.signal_travel.specs.Directions.{HoldsDirection};

@@ -6,7 +6,7 @@ ghost use Rattle.iv_core.specs.Intervals.{Holds, width_of, IsWithin};
 ghost use Rattle.trig_box.specs.AnglePairs.{Pair, IsAnglePair};
 ghost use Rattle.trig_box.specs.PairBoxes.{HoldsPair, AreAtMostWide};
 ghost use Rattle.orbit_model.specs.Elements.{earth_rate};
-ghost use Rattle.travel_model.specs.SeenPlaces.{Place, turned_back};
+ghost use Rattle.orbit_model.specs.SeenPlaces.{Place, turned_back};
 ghost use Rattle.signal_travel.specs.VectorBoxes.{HoldsVector, IsVectorWithin, IsVectorAtMostWide, IsTravel};
 
 use crate::places::VectorBox;

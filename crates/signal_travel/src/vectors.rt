@@ -4,7 +4,7 @@ ghost use Rattle.whole_math.specs.Rounding.{floor_div, ceil_div};
 ghost use Rattle.rational.specs.Rational.{Rational, sub_r, mul_r, IsNearRoot};
 ghost use Rattle.iv_core.specs.Boxes.{near_end, far_end};
 ghost use Rattle.iv_core.specs.Intervals.{Holds, width_of, IsWithin};
-ghost use Rattle.travel_model.specs.SeenPlaces.{Place, square};
+ghost use Rattle.orbit_model.specs.SeenPlaces.{Place, square};
 ghost use Rattle.signal_travel.specs.VectorBoxes.{coordinate_of, HoldsVector, IsVectorWithin, AreEndsWithin, IsVectorAtMostWide, HasVectorBetween, near_square, far_square};
 
 use crate::places::{Point, VectorBox};

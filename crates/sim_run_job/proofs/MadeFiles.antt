@@ -19,8 +19,8 @@ use Rattle.sim_texts.specs.declared.signals.Tracking.{Tracking}
 use Rattle.sim_texts.specs.declared.signals.Tracking.TheVariants.{GpsL1L2, GpsL1L2L5, GalileoE1E5a}
 use Rattle.sim_session.specs.Observations.{step_of}
 use Rattle.sim_session.specs.Texts.{has_l5, tracking_of, IsBaseText, IsRoverText, IsNavigationText}
-use Rattle.made_navigation.specs.Records.{raws_of}
-use Rattle.made_observations.specs.Files.{epochs_of, file_of}
+use Rattle.made_files.specs.NavRecords.{raws_of}
+use Rattle.made_files.specs.ObsFiles.{epochs_of, file_of}
 use Rattle.made_files.proofs.Readings.{base_reads, rover_reads, navigation_reads}
 use Rattle.run_options.specs.declared.options.Options.{Options}
 use Rattle.run_options.specs.Defaults.{Numbers}
@@ -34,7 +34,7 @@ use Rattle.epoch_pair.specs.Signals.{letter_on, letter_of, is_among, IsLetterFor
 use Rattle.session_begin.specs.Beginnings.{HasPosition, HaveSignals, AreSparse}
 use Rattle.job_answers.specs.Endings.{IsTextOf}
 use Rattle.session_files.specs.SessionFiles.{IsObsOf}
-use Rattle.pair_refusals.specs.Admitted.{AreAdmitted}
+use Rattle.session_files.specs.Admitted.{AreAdmitted}
 use Rattle.sim_run_job.specs.SimRunJobs.{AreOptionsOn}
 
 -- ---- what is told of a text

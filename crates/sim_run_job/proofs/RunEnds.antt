@@ -13,8 +13,8 @@ use Rattle.job_answers.specs.Answers.{ending_of, IfEnds}
 use Rattle.job_answers.specs.Endings.{Ending}
 use Rattle.session_files.specs.SessionFiles.{AreFilesOf, StopsAtFiles}
 use Rattle.session_files.proofs.FileLaws.{no_stop}
-use Rattle.pair_refusals.specs.Admitted.{AreAdmitted}
-use Rattle.pair_refusals.proofs.RefusalLaws.{never_refused}
+use Rattle.session_files.specs.Admitted.{AreAdmitted}
+use Rattle.session_files.proofs.RefusalLaws.{never_refused}
 use Rattle.sim_run_job.specs.SimRunJobs.{AreMadeFiles, AreOptionsOn, SimRunEnd, SimRunEnds}
 
 no_read_fault : (fixed : Bool) → (if fixed then Done else Declined) ≢ ReadFault

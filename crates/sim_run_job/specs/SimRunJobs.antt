@@ -20,7 +20,7 @@ use Rattle.session.specs.Outcomes.{IsOutcome}
 use Rattle.outcome_report.specs.OutcomeText.{is_fixed}
 use Rattle.job_answers.specs.Endings.{Ending, ending}
 use Rattle.session_files.specs.SessionFiles.{AreFilesOf}
-use Rattle.pair_refusals.specs.Refusals.{IsPairRefused}
+use Rattle.session_files.specs.Refusals.{IsPairRefused}
 use Rattle.fix_job.specs.FixJobs.{status_of}
 use Rattle.sim_match.specs.Matches.{IsMatched}
 

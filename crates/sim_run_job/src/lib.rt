@@ -1,6 +1,6 @@
 //! The command `sim run`: a simulated session is processed, and its integers are compared with those that it was made with.
 //!
-//! Of sim_match, sim_run_job: `sim run` ends with the outcome of the simulated texts, which is that of `fix` on them
+//! `sim run` ends with the outcome of the simulated texts, which is that of `fix` on them
 //! with the bands and the system that they were made for and no other option given: the three are read, whatever the
 //! seed, and the two are never refused together (`ends`). `is_matched`, and so the line `match yes`, is exact: the
 //! answer is a fix, and each free arc has on each of the bands, against the datum of its linked set, the cycles that

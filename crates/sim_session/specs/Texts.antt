@@ -2,7 +2,7 @@
 use Rattle.std.specs.Prelude.{◌≡◌, Bool, not, ◌==◌, if◌then◌else◌, ℕ, List, [], ◌∷◌, length, ℤ, pos, ◌+ℤ◌, ◌*ℤ◌}
 use Rattle.obs_rows.specs.declared.band_sets.TheConstants.{BANDS_L1_L2}
 use Rattle.eph_store.specs.declared.ephemeris.Eph.{Eph}
-use Rattle.system_world.specs.Worlds.{world_of}
+use Rattle.sv_orbit.specs.Worlds.{world_of}
 use Rattle.sim_draws.specs.Sequence.{drawn_within}
 use Rattle.sim_draws.specs.Values.{base_clock_of, rover_clock_of, base_cycles, rover_cycles, first_of, offset_of, truth_of}
 use Rattle.sim_texts.specs.declared.signals.Tracking.{Tracking}

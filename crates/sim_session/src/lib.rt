@@ -1,7 +1,7 @@
 //! Simulated sessions: from a seed the observation files of a base and of a rover, and the navigation file of the satellites that both
 //! see, with what a processor should find.
 //!
-//! Of sim_draws, sim_texts, sim_records, sim_signals, sim_session: `make` answers the three texts of a seed and the
+//! `make` answers the three texts of a seed and the
 //! truth that they were made of (`base`, `rover`, `nav`, `truth`, `offset`), exactly but for the codes and phases of
 //! the two receivers, which are a choice within 2 mm and 2 thousandths of a cycle of the exact value: the draws of
 //! the seed (`draw_all`), the satellites' records, each number with the 13 digits that its columns hold, and the
@@ -28,7 +28,7 @@ use sim_draws::{Drawn, draw_all};
 use sim_records::{satellites, write_navigation};
 use sim_texts::Tracking;
 use std::alloc::{AllocError, Global};
-use system_world::world_of;
+use sv_orbit::world_of;
 
 /// A simulated session: the texts of both observation files and of the navigation file; for each satellite what the rover's whole
 /// cycles are more than the base's, on L1, L2 and L5; and what the rover lies off the base, in mm.

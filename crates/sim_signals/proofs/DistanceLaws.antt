@@ -5,7 +5,7 @@ use Rattle.whole_math.specs.Rounding.{IsFloor}
 use Rattle.whole_math.proofs.Ring.{va, ko, ◌⊕◌, ◌⊖◌, ◌⊗◌}
 use Rattle.whole_math.proofs.Certificates.{◌≼◌, hy, nm, ◌⊞◌, ◌⊠◌}
 use Rattle.rational.specs.Rational.{Rational, ◌≤ʳ◌, of_whole, of_scale, add_r, sub_r, mul_r, InBox}
-use Rattle.rational_algebra.proofs.Orders.{order_r}
+use Rattle.rational.proofs.Orders.{order_r}
 use Rattle.sim_signals.specs.Observed.{IsDistance}
 
 lower : (lo clock f d : ℤ) → (pos 299792458 *ℤ clock) <ℤ ((f *ℤ pos (2 ^ 24)) +ℤ pos (2 ^ 24)) → d ≡ lo -ℤ f →

@@ -6,7 +6,7 @@ use Rattle.whole_math.proofs.Ring.{va, ko, ng, ◌⊕◌, ◌⊖◌, ◌⊗◌}
 use Rattle.whole_math.proofs.Inequalities.{same_by, nat}
 use Rattle.whole_math.proofs.Certificates.{cert, ◌≼◌, hy, nm, ◌⊞◌, ◌⊠◌}
 use Rattle.rational.specs.Rational.{Rational, ◌≈◌, ◌≤ʳ◌, of_whole, of_scale, add_r, sub_r, mul_r, divided, AreWithin}
-use Rattle.rational_algebra.proofs.Orders.{order_r, cancel_r, ◌≐◌}
+use Rattle.rational.proofs.Orders.{order_r, cancel_r, ◌≐◌}
 use Rattle.sim_signals.specs.Observed.{IsDistance, measured, thousandths}
 
 sum_is : (a b c : ℤ) → a ≡ b +ℤ c → of_whole a ≈ add_r (of_whole b) (of_whole c)

@@ -7,7 +7,7 @@ use Rattle.orbit_model.specs.Elements.{Constants, sent_at}
 use Rattle.orbit_model.specs.Solution.{Quantities, IsSatelliteSolution}
 use Rattle.orbit_clock.specs.Records.{elements_of}
 use Rattle.sim_texts.specs.declared.signals.Signals.{Signals}
-use Rattle.travel_model.specs.SeenPlaces.{Place, point_of, IsSeenPlace, range_of}
+use Rattle.orbit_model.specs.SeenPlaces.{Place, point_of, IsSeenPlace, range_of}
 
 -- the place from which a solution's satellite sent
 abbrev pub sent_place : Quantities → Place

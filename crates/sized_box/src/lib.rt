@@ -1,5 +1,4 @@
-//! Boxes whose type says how far their ends are from 0 and how wide they are, so that sums, products and
-//! quotients are never refused: the sizes are compared when the program is checked.
+//! Boxes whose type says how far their ends are from 0 and how wide they are, so that arithmetic is never refused.
 //!
 //! A `SizedBox` has in its type how far its ends are from 0 and how wide it is. Its sums, differences, products,
 //! squares and quotients hold every exact result and are never refused; the limits of the answer are compared with

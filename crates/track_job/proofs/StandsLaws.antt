@@ -7,7 +7,7 @@ use Rattle.obs_rows.specs.Arcs.{AreArcs}
 use Rattle.slip_arcs.specs.Linked.{IsCutOf}
 use Rattle.screening.specs.declared.screened.Screened.{Screened}
 use Rattle.screening.specs.Screening.{setting_of}
-use Rattle.system_world.specs.Worlds.{world_of}
+use Rattle.sv_orbit.specs.Worlds.{world_of}
 use Rattle.obs_rows.specs.BandSets.{bands_of}
 use Rattle.run_options.specs.declared.options.Options.{Options}
 use Rattle.session.proofs.RangeLaws.{able, no_shifts}

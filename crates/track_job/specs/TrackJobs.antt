@@ -9,7 +9,7 @@ use Rattle.job_answers.specs.declared.status.Status.TheVariants.{Done, Declined}
 use Rattle.job_answers.specs.Endings.{Ending, ending}
 use Rattle.rinex_head.specs.Systems.{system_of}
 use Rattle.session_files.specs.SessionFiles.{EndsBySession}
-use Rattle.pair_refusals.specs.Refusals.{IsPairRefused}
+use Rattle.session_files.specs.Refusals.{IsPairRefused}
 use Rattle.track_report.specs.declared.outcomes.TrackOutcome.{TrackOutcome}
 use Rattle.track_report.specs.declared.outcomes.TrackAnswer.{TrackAnswer}
 use Rattle.track_report.specs.TrackTexts.{track_answer_text, IsWholeTrackAnswer, track_outcome_text, is_track_fixed}

@@ -13,7 +13,7 @@ use screening::{Screened, screen_in};
 use session_begin::{Begun, Options};
 use slip_arcs::cut;
 use std::alloc::{AllocError, Global};
-use system_world::world_of;
+use sv_orbit::world_of;
 
 /// What was screened of two files, with the arcs that were kept.
 #[derive(Debug, Drop)]

@@ -6,7 +6,7 @@ ghost use Rattle.job_answers.specs.Answers.{ending_of, IfEnded};
 ghost use Rattle.job_answers.specs.Endings.{ending};
 ghost use Rattle.track_report.specs.TrackTexts.{track_answer_text, track_outcome_text, IsWholeTrackAnswer};
 ghost use Rattle.session_files.specs.FaultNames.{IsFaultOf};
-ghost use Rattle.pair_refusals.specs.Refusals.{AreRefusedWhole};
+ghost use Rattle.session_files.specs.Refusals.{AreRefusedWhole};
 ghost use Rattle.track_job.specs.TrackJobs.{track_status_of, TrackEnd, TrackEnds};
 
 use crate::outcomes::track_outcome;
@@ -14,11 +14,10 @@ use eph_store::NavFile;
 use job_answers::{Answer, Status, Stop};
 use line_source::Files;
 use obs_store::ObsFile;
-use pair_refusals::refused_pair;
 use rinex_head::System;
 use run_options::Options;
 use session_begin::SessionFault;
-use session_files::read_session;
+use session_files::{read_session, refused_pair};
 use std::alloc::{AllocError, Global};
 use track_report::{TrackAnswer, TrackOutcome, is_track_fixed, write_track_outcome};
 

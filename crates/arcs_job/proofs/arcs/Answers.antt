@@ -1,6 +1,6 @@
 use Rattle.std.proofs.Common.{[], ◌∷◌}
 use Rattle.job_answers.proofs.EndingLaws.{ends_weaker, ended_weaker}
-use Rattle.pair_refusals.proofs.RefusalLaws.{stop_whole}
+use Rattle.session_files.proofs.RefusalLaws.{stop_whole}
 use Rattle.arcs_job.proofs.ArcSays.{arcs_whole, arcs_named}
 use Rattle.arcs_job.proofs.arcs.Goals as goal
 

@@ -1,6 +1,6 @@
 use Rattle.std.proofs.Common.{[], ◌∷◌}
 use Rattle.job_answers.proofs.EndingLaws.{ends_weaker, ended_weaker}
-use Rattle.pair_refusals.proofs.RefusalLaws.{stop_whole}
+use Rattle.session_files.proofs.RefusalLaws.{stop_whole}
 use Rattle.fix_job.proofs.FixSays.{fix_whole, fix_named}
 use Rattle.fix_job.proofs.fix.Goals as goal
 

@@ -1,5 +1,5 @@
 use Rattle.std.proofs.Common.{sym, subst}
-use Rattle.travel_model.specs.SeenPlaces.{Place, IsMeanDirection}
+use Rattle.orbit_model.specs.SeenPlaces.{Place, IsMeanDirection}
 use Rattle.signal_travel.proofs.Handed.{same_point, held}
 use Rattle.signal_travel.proofs.mean_direction.Goals as goal
 

@@ -1,7 +1,7 @@
 use Rattle.std.proofs.Common.{◌≡◌, [], ◌∷◌, ℤ, sym, subst}
 use Rattle.rational.specs.Rational.{Rational}
-use Rattle.travel_model.specs.SeenPlaces.{Place, point_of, IsSeenPlace, HasSeenPlace}
-use Rattle.travel_model.proofs.Exists.{seen_place_exists}
+use Rattle.orbit_model.specs.SeenPlaces.{Place, point_of, IsSeenPlace, HasSeenPlace}
+use Rattle.orbit_model.proofs.Exists.{seen_place_exists}
 use Rattle.signal_travel.proofs.Handed.{same_point, held}
 use Rattle.signal_travel.proofs.Sights.{point_place}
 use Rattle.signal_travel.proofs.seen_from.Goals as goal

@@ -2,7 +2,7 @@ use Rattle.std.proofs.Common.{rules, ◌≡◌, ◌≢◌, inl, inr, [], All, su
 use Rattle.job_answers.specs.declared.status.Status.TheVariants.{ReadFault}
 use Rattle.job_answers.specs.declared.stop.Stop.{Stop}
 use Rattle.job_answers.specs.Answers.{ending_of, IfEnds}
-use Rattle.pair_refusals.specs.Refusals.{AreRefusedWhole}
+use Rattle.session_files.specs.Refusals.{AreRefusedWhole}
 use Rattle.command_words.specs.declared.jobs.Job.{Job}
 use Rattle.command_words.specs.Words.{texts_of, file_words, IsJob}
 use Rattle.command_words.proofs.OneJob.{one_job}

@@ -1,6 +1,6 @@
 use Rattle.std.proofs.Common.{ℕ, List, [], ◌∷◌, All, sym, subst}
 use Rattle.job_answers.specs.Answers.{IfEnded}
-use Rattle.pair_refusals.specs.Refusals.{AreRefusedWhole}
+use Rattle.session_files.specs.Refusals.{AreRefusedWhole}
 use Rattle.arcs_job.specs.ArcJobs.{ArcsEnds}
 use Rattle.baseline_app.proofs.top.arcs_by_words.Goals as goal
 

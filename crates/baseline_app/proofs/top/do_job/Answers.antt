@@ -1,7 +1,7 @@
 use Rattle.std.proofs.Common.{◌∷◌, [], ℕ, List, All, length, refl, subst, sym}
 use Rattle.line_source.specs.Causes.{OpensAtMost}
 use Rattle.job_answers.specs.Answers.{IfEnded}
-use Rattle.pair_refusals.specs.Refusals.{AreRefusedWhole}
+use Rattle.session_files.specs.Refusals.{AreRefusedWhole}
 use Rattle.command_words.specs.declared.jobs.Job.{Job}
 use Rattle.command_words.specs.Words.{file_words}
 use Rattle.job_answers.proofs.EndingLaws.{ended_weaker}

@@ -1,6 +1,6 @@
 use Rattle.std.proofs.Common.{ℕ, List, [], ◌∷◌, All, sym, subst}
 use Rattle.job_answers.specs.Answers.{IfEnded}
-use Rattle.pair_refusals.specs.Refusals.{AreRefusedWhole}
+use Rattle.session_files.specs.Refusals.{AreRefusedWhole}
 use Rattle.fix_job.specs.FixJobs.{FixEnds}
 use Rattle.baseline_app.proofs.top.fix_by_words.Goals as goal
 

@@ -1,6 +1,6 @@
 use Rattle.std.proofs.Common.{ℕ, List, [], ◌∷◌, All, sym, subst}
 use Rattle.job_answers.specs.Answers.{IfEnded}
-use Rattle.pair_refusals.specs.Refusals.{AreRefusedWhole}
+use Rattle.session_files.specs.Refusals.{AreRefusedWhole}
 use Rattle.track_job.specs.TrackJobs.{TrackEnds}
 use Rattle.baseline_app.proofs.top.track_by_words.Goals as goal
 

@@ -3,7 +3,7 @@ use Rattle.std.proofs.lemmas.Int.{ints}
 use Rattle.rational.specs.Rational.{InBox, two_to_minus, add_r, times}
 use Rattle.iv_core.specs.declared.Iv.{Iv}
 use Rattle.iv_core.specs.Intervals.{Holds}
-use Rattle.rational_algebra.proofs.Ends.{box_of_near}
+use Rattle.rational.proofs.Ends.{box_of_near}
 use Rattle.whole_math.proofs.Order.{le_pos}
 use Rattle.orbit_clock.proofs.timing.sine_near.Goals as goal
 

@@ -5,7 +5,7 @@ use Rattle.std.specs.Int.{w64}
 use Rattle.whole_math.proofs.Order.{le_pos}
 use Rattle.rational.specs.Rational.{Rational, add_r, mul_r, sub_r, times, of_whole, of_scale, two_to_minus}
 use Rattle.rational.proofs.Boxes.{InBox-along}
-use Rattle.rational_algebra.proofs.Sizes.{size_looser}
+use Rattle.rational.proofs.Sizes.{size_looser}
 use Rattle.iv_core.specs.Intervals.{Holds}
 use Rattle.eph_store.specs.Decimals.{decimal}
 use Rattle.orbit_model.specs.Elements.{Elements, sent_at}

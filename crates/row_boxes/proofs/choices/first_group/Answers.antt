@@ -4,7 +4,7 @@ use Rattle.std.specs.Int.{w64}
 use Rattle.whole_math.specs.Rounding.{IsNearest, floor_div, ceil_div}
 use Rattle.rational.specs.Rational.{of_whole, sub_r, InBox}
 use Rattle.rational.proofs.Boxes.{InBox-along, Near-along}
-use Rattle.travel_model.specs.SeenPlaces.{range_of}
+use Rattle.orbit_model.specs.SeenPlaces.{range_of}
 use Rattle.obs_rows.specs.Signals.{wavelength}
 use Rattle.row_boxes.specs.Terms.{prefit_width, pseudorange, in_row_unit}
 use Rattle.row_boxes.specs.Sightings.{Sighting, y_of, y_in_rows}

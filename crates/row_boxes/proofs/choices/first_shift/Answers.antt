@@ -4,7 +4,7 @@ use Rattle.std.specs.Int.{w64, w128}
 use Rattle.whole_math.specs.Rounding.{IsNearest}
 use Rattle.rational.specs.Rational.{Rational, of_whole, sub_r, InBox}
 use Rattle.rational.proofs.Boxes.{InBox-along}
-use Rattle.travel_model.specs.SeenPlaces.{range_of}
+use Rattle.orbit_model.specs.SeenPlaces.{range_of}
 use Rattle.obs_rows.specs.Signals.{wavelength}
 use Rattle.row_boxes.specs.Terms.{pseudorange}
 use Rattle.row_boxes.specs.Sightings.{Sighting, y_of}

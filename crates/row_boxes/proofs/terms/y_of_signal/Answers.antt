@@ -3,7 +3,7 @@ use Rattle.std.proofs.lemmas.Int.{to_z-of_z}
 use Rattle.std.specs.Int.{w64}
 use Rattle.rational.specs.Rational.{of_whole, sub_r, InBox}
 use Rattle.rational.proofs.Boxes.{Near-along}
-use Rattle.travel_model.specs.SeenPlaces.{range_of}
+use Rattle.orbit_model.specs.SeenPlaces.{range_of}
 use Rattle.obs_rows.specs.Signals.{wavelength, band}
 use Rattle.obs_rows.specs.Data.{number_at}
 use Rattle.row_boxes.specs.Terms.{pseudorange, in_row_unit}

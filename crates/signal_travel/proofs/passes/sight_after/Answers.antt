@@ -1,7 +1,7 @@
 use Rattle.std.proofs.Common.{◌-◌, ◌*◌, ◌^◌, ℤ, pos, ◌+ℤ◌, ◌-ℤ◌, ◌*ℤ◌, ◌≤ℤ◌, arith}
 use Rattle.std.proofs.lemmas.Int.{ints}
-use Rattle.travel_model.specs.SeenPlaces.{Place, square, difference, point_of, turned_back, range_of}
-use Rattle.travel_model.proofs.NearRoots.{range_root}
+use Rattle.orbit_model.specs.SeenPlaces.{Place, square, difference, point_of, turned_back, range_of}
+use Rattle.orbit_model.proofs.NearRoots.{range_root}
 use Rattle.signal_travel.specs.VectorBoxes.{IsVectorAtMostWide}
 use Rattle.signal_travel.proofs.Sights.{HasTurned, held_along, turned_in, between, all_away}
 use Rattle.signal_travel.proofs.Times.{pair_width, pair_enough, place_enough, any_width}

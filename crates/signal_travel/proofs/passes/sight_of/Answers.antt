@@ -2,8 +2,8 @@ use Rattle.std.proofs.Common.{◌≡◌, ◌*◌, ℤ, pos, ◌+ℤ◌, ◌-ℤ�
 use Rattle.std.proofs.lemmas.Int.{ints}
 use Rattle.rational.specs.Rational.{Rational, ◌≤ʳ◌, of_whole, mul_r, InBox}
 use Rattle.iv_core.specs.Intervals.{Holds}
-use Rattle.travel_model.specs.SeenPlaces.{Place, point_of, IsSeenPlace}
-use Rattle.travel_model.proofs.Seen.{travel_nn, travel_most}
+use Rattle.orbit_model.specs.SeenPlaces.{Place, point_of, IsSeenPlace}
+use Rattle.orbit_model.proofs.Seen.{travel_nn, travel_most}
 use Rattle.signal_travel.specs.VectorBoxes.{HoldsVector}
 use Rattle.signal_travel.proofs.Sights.{point_place}
 use Rattle.signal_travel.proofs.Times.{first_time, second_time, third_time, last_range}

@@ -2,7 +2,7 @@ use Rattle.std.proofs.Common.{ℤ, sym, subst}
 use Rattle.orbit_model.specs.Elements.{sent_at}
 use Rattle.orbit_model.specs.Solution.{IsSatelliteSolution}
 use Rattle.orbit_clock.specs.Records.{constants_of, elements_of}
-use Rattle.travel_model.specs.SeenPlaces.{range_of}
+use Rattle.orbit_model.specs.SeenPlaces.{range_of}
 use Rattle.sim_signals.specs.Observed.{sent_place}
 use Rattle.sim_signals.proofs.Solutions.{placed, code_cast}
 use Rattle.sim_signals.proofs.passes.distance_at.Goals as goal

@@ -1,6 +1,6 @@
 use Rattle.std.proofs.Common.{[], ◌∷◌}
 use Rattle.job_answers.proofs.EndingLaws.{ends_weaker, ended_weaker}
-use Rattle.pair_refusals.proofs.RefusalLaws.{stop_whole}
+use Rattle.session_files.proofs.RefusalLaws.{stop_whole}
 use Rattle.track_job.proofs.TrackSays.{track_whole, track_named}
 use Rattle.track_job.proofs.tracks.track.Goals as goal
 

@@ -1,0 +1,17 @@
+use Rattle.std.proofs.Common.{◌≡◌, ℕ, List, ◌++◌, ap, ◌∙◌}
+use Rattle.cert_data.specs.declared.certs.Cert.{Cert}
+use Rattle.cert_spelling.specs.Spelling.{spelling}
+use Rattle.job_answers.specs.Endings.{ending}
+use Rattle.cert_jobs.proofs.migrations.answer_migrate.Goals as goal
+
+pub returns : goal.returns
+returns c =
+    let cert : Cert = c.in_ok-cert.cert in
+    let law = c.in_ok-cert.ensures in
+    let out : c.write_cert.new.out.items ≡ spelling cert = c.in_ok-write_cert.ensures.text ∙ ap (λ (text : List ℕ). text ++ spelling cert) c.new-out.ensures.items in
+    record {
+      cert = cert;
+      whole = c.in_ok-write_cert.ensures.whole;
+      migrated = record { ratio = law.ratio; budget = law.budget; session = law.session; tail = law.tail; boxes = law.boxes; sums = law.sums; best = law.best };
+      end_is = λ i. ending (c.status_of.ensures.value i) (out i) (c.new.ensures.items i);
+    }

@@ -1,0 +1,4 @@
+pub mod ListSays
+pub mod ListEndings
+pub mod OrbitSays
+pub mod ZeroSays

@@ -1,0 +1,25 @@
+use Rattle.std.proofs.Common.{◌≡◌, ◌++◌, ◌∙◌, ℕ, List, pos, ap, ap₂, subst}
+use Rattle.orbit_model.specs.Elements.{Constants, sent_at}
+use Rattle.orbit_model.specs.Solution.{Quantities, IsSatelliteSolution}
+use Rattle.orbit_clock.specs.Records.{elements_of}
+use Rattle.sv_orbit.specs.Solutions.{HoldsSolution}
+use Rattle.report_text.specs.Orbit.{orbit_lines}
+use Rattle.report_text.proofs.OrbitLaws.{numbers_hold, numbers_narrow}
+use Rattle.job_answers.specs.declared.status.Status.TheVariants.{Done}
+use Rattle.job_answers.specs.Endings.{ending}
+use Rattle.file_jobs.proofs.orbits.answer_placed.Goals as goal
+
+pub returns : goal.returns
+returns c =
+    let written = c.in_ok-write_orbit.ensures in
+    let box = c.sv_with-held.result in
+    let of_record = subst (λ (k : Constants). (q : Quantities) → IsSatelliteSolution k (elements_of c.args.eph.now) (sent_at c.args.tag.0 (pos 0)) q → HoldsSolution box q) c.world_of.ensures c.sv_with-held.ensures in
+    record {
+      box = box;
+      of_record = of_record;
+      numbers = written.numbers;
+      are = written.are;
+      holds = λ q solves. numbers_hold box written.numbers q written.are (of_record q solves);
+      narrow = numbers_narrow box written.numbers written.are;
+      end_is = ap₂ (λ (out err : List ℕ). ending Done out err) (written.new_is ∙ ap (λ (before : List ℕ). before ++ orbit_lines written.numbers) c.new-out.ensures.items) c.new.ensures.items;
+    }

@@ -1,0 +1,43 @@
+//! The command `list`: what an observation file holds of GPS.
+ghost use Rattle.std.specs.Prelude.{◌≡◌, ◌≢◌, ◌≤◌, [], IfOk, ◌∷◌};
+ghost use Rattle.line_source.specs.Causes.{Rose, OpensAtMost};
+ghost use Rattle.report_text.specs.List.{list_text};
+ghost use Rattle.job_answers.specs.Answers.{ending_of, IfEnded};
+ghost use Rattle.job_answers.specs.Endings.{ending, EndsByFile, IsRefusedWhole};
+ghost use Rattle.file_jobs.specs.Listing.{ListEnds};
+
+use job_answers::{Answer, Status, Stop};
+use line_source::Files;
+use obs_store::ObsFile;
+use report_text::write_list;
+use rinex_head::System;
+use session_files::obs_file;
+use std::alloc::{AllocError, Global};
+
+// What an observation file ends with.
+fn answer_file(alloc: Global, file: &ObsFile) -> Result<Answer, AllocError>
+    ensures { IfOk result (λ a. ending_of a ≡ ending Status.Done (list_text file.now) []) }
+{
+    let mut out = Vec::new(alloc);
+    write_list(alloc, &mut out, file)?;
+    Ok(Answer {
+        status: Status::Done,
+        out,
+        err: Vec::new(alloc),
+    })
+}
+
+/// What an observation file holds of GPS: its version, its epochs and its satellites.
+pub fn list<F: Files>(alloc: Global, files: &mut F, name: &str) -> Result<Answer, Stop>
+    ensures ends { IfEnded result (λ end. EndsByFile (F.text_of files.old) name.now (ListEnds name.now) end) }
+    ensures refused { IfEnded result (IsRefusedWhole (F.text_of files.old) (F.unread files.new) (name.now ∷ [])) }
+    ensures opened { OpensAtMost 1 (F.opened files.old) (F.opened files.new) }
+    ensures cause { F.faults files.old ≤ F.faults files.new }
+    ensures fault { IfEnded result (λ end. end.status ≡ Status.ReadFault → Rose (F.faults files.old) (F.faults files.new)) }
+    ensures sure { F.is_sure_name files.old name.now → IfEnded result (λ end. end.status ≢ Status.ReadFault) }
+{
+    match obs_file(alloc, files, System::Gps, name) {
+        Ok(file) => Ok(answer_file(alloc, &file)?),
+        Err(stop) => Err(stop),
+    }
+}

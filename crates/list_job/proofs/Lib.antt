@@ -1,2 +1,0 @@
-pub mod ListSays
-pub mod ListEndings

@@ -1,5 +1,0 @@
-pub mod Numbers
-pub mod Rooms
-pub mod Lines
-pub mod Records
-pub mod File

@@ -1,6 +1,0 @@
-use Rattle.job_answers.proofs.EndingLaws.{ended_weaker}
-use Rattle.migrate_job.proofs.MigrateSays.{migrate_whole}
-use Rattle.migrate_job.proofs.migrate.Goals as goal
-
-pub returns-in-Ok-clause-refused : goal.returns-in-Ok-clause-refused
-returns-in-Ok-clause-refused g c = ended_weaker c.migrate_text.result _ _ (λ end ends. migrate_whole _ _ c.args.name.now _ end c.in-Ok.ensures.whole ends) c.migrate_text.ensures

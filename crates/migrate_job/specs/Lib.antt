@@ -1,2 +1,0 @@
-pub mod Migrations
-pub mod MigrateRuns

@@ -1,6 +1,0 @@
-use Rattle.job_answers.proofs.EndingLaws.{ended_weaker}
-use Rattle.orbit_job.proofs.OrbitSays.{orbit_whole}
-use Rattle.orbit_job.proofs.orbit.Goals as goal
-
-pub returns-in-Ok-clause-refused : goal.returns-in-Ok-clause-refused
-returns-in-Ok-clause-refused g c = ended_weaker c.answer_text.result _ _ (λ end ends. orbit_whole _ _ c.args.name.now _ _ _ _ end c.in-Ok.ensures.whole ends) c.answer_text.ensures

@@ -1,2 +1,0 @@
-pub mod Orbits
-pub mod OrbitRuns

@@ -1,0 +1,78 @@
+-- What a near-root is, as two inequalities.
+use Rattle.std.proofs.Common.{◌≡◌, ℕ, ◌*◌, ◌^◌, [], ◌∷◌, ℤ, pos, negsuc, ◌-ℤ◌, ◌*ℤ◌, neg_ℤ, ◌≤ℤ◌, ◌<ℤ◌, unsigned_abs, arith, refl, sym, subst₂}
+use Rattle.std.proofs.lemmas.Int.{ints}
+use Rattle.whole_math.proofs.Ring.{va, ko, ◌⊖◌, ◌⊗◌, ng}
+use Rattle.whole_math.proofs.Order.{lt_pos}
+use Rattle.whole_math.proofs.Inequalities.{same_by, nat, pos_nn}
+use Rattle.whole_math.proofs.Absolute.{abs_times_le}
+use Rattle.whole_math.proofs.Certificates.{cert, cancel, weak, ◌≼◌, hy, ◌⊠◌}
+use Rattle.rational.specs.Rational.{Rational, ◌≤ʳ◌, of_whole, sub_r, mul_r, IsNearRoot}
+use Rattle.orbit_model.specs.SeenPlaces.{over_light_speed_squared, range_of}
+
+pub high : (a d n e : ℤ) → (pos 0) ≤ℤ e → ((((a *ℤ a) *ℤ e) -ℤ (n *ℤ (d *ℤ d))) *ℤ (pos 1152921504606846976)) ≤ℤ (n *ℤ (d *ℤ d)) → (((pos 1152921504606846976) *ℤ (((a *ℤ a) *ℤ e) -ℤ (n *ℤ (d *ℤ d)))) *ℤ e) ≤ℤ (n *ℤ ((pos 1) *ℤ ((d *ℤ d) *ℤ e)))
+high a d n e h0 h1 =
+    cert (a ∷ d ∷ n ∷ e ∷ []) (((ko (pos 0)) ≼ (va 3)) ∷ ((((((va 0) ⊗ (va 0)) ⊗ (va 3)) ⊖ ((va 2) ⊗ ((va 1) ⊗ (va 1)))) ⊗ (ko (pos 1152921504606846976))) ≼ ((va 2) ⊗ ((va 1) ⊗ (va 1)))) ∷ []) (((ko (pos 1152921504606846976)) ⊗ ((((va 0) ⊗ (va 0)) ⊗ (va 3)) ⊖ ((va 2) ⊗ ((va 1) ⊗ (va 1))))) ⊗ (va 3)) ((va 2) ⊗ ((ko (pos 1)) ⊗ (((va 1) ⊗ (va 1)) ⊗ (va 3)))) ((hy 0) ⊠ (hy 1)) refl (h0, (h1, tt))
+
+pub low : (a d n e : ℤ) → (pos 0) ≤ℤ e → ((neg_ℤ (((a *ℤ a) *ℤ e) -ℤ (n *ℤ (d *ℤ d)))) *ℤ (pos 1152921504606846976)) ≤ℤ (n *ℤ (d *ℤ d)) → (((pos 1152921504606846976) *ℤ ((n *ℤ (d *ℤ d)) -ℤ ((a *ℤ a) *ℤ e))) *ℤ e) ≤ℤ (n *ℤ ((pos 1) *ℤ (e *ℤ (d *ℤ d))))
+low a d n e h0 h1 =
+    cert (a ∷ d ∷ n ∷ e ∷ []) (((ko (pos 0)) ≼ (va 3)) ∷ (((ng ((((va 0) ⊗ (va 0)) ⊗ (va 3)) ⊖ ((va 2) ⊗ ((va 1) ⊗ (va 1))))) ⊗ (ko (pos 1152921504606846976))) ≼ ((va 2) ⊗ ((va 1) ⊗ (va 1)))) ∷ []) (((ko (pos 1152921504606846976)) ⊗ (((va 2) ⊗ ((va 1) ⊗ (va 1))) ⊖ (((va 0) ⊗ (va 0)) ⊗ (va 3)))) ⊗ (va 3)) ((va 2) ⊗ ((ko (pos 1)) ⊗ ((va 3) ⊗ ((va 1) ⊗ (va 1))))) ((hy 0) ⊠ (hy 1)) refl (h0, (h1, tt))
+
+pub from_high : (a d n e : ℤ) → (((pos 1152921504606846976) *ℤ (((a *ℤ a) *ℤ e) -ℤ (n *ℤ (d *ℤ d)))) *ℤ e) ≤ℤ (n *ℤ ((pos 1) *ℤ ((d *ℤ d) *ℤ e))) → (pos 0) <ℤ e → ((((a *ℤ a) *ℤ e) -ℤ (n *ℤ (d *ℤ d))) *ℤ (pos 1152921504606846976)) ≤ℤ (n *ℤ (d *ℤ d))
+from_high a d n e h0 h1 =
+    cancel e ((((a *ℤ a) *ℤ e) -ℤ (n *ℤ (d *ℤ d))) *ℤ (pos 1152921504606846976)) (n *ℤ (d *ℤ d)) h1 (cert (a ∷ d ∷ n ∷ e ∷ []) (((((ko (pos 1152921504606846976)) ⊗ ((((va 0) ⊗ (va 0)) ⊗ (va 3)) ⊖ ((va 2) ⊗ ((va 1) ⊗ (va 1))))) ⊗ (va 3)) ≼ ((va 2) ⊗ ((ko (pos 1)) ⊗ (((va 1) ⊗ (va 1)) ⊗ (va 3))))) ∷ ((ko (pos 0)) ≼ (va 3)) ∷ []) ((va 3) ⊗ (((((va 0) ⊗ (va 0)) ⊗ (va 3)) ⊖ ((va 2) ⊗ ((va 1) ⊗ (va 1)))) ⊗ (ko (pos 1152921504606846976)))) ((va 3) ⊗ ((va 2) ⊗ ((va 1) ⊗ (va 1)))) (hy 0) refl (h0, (weak (pos 0) e h1, tt)))
+
+pub from_low : (a d n e : ℤ) → (((pos 1152921504606846976) *ℤ ((n *ℤ (d *ℤ d)) -ℤ ((a *ℤ a) *ℤ e))) *ℤ e) ≤ℤ (n *ℤ ((pos 1) *ℤ (e *ℤ (d *ℤ d)))) → (pos 0) <ℤ e → ((neg_ℤ (((a *ℤ a) *ℤ e) -ℤ (n *ℤ (d *ℤ d)))) *ℤ (pos 1152921504606846976)) ≤ℤ (n *ℤ (d *ℤ d))
+from_low a d n e h0 h1 =
+    cancel e ((neg_ℤ (((a *ℤ a) *ℤ e) -ℤ (n *ℤ (d *ℤ d)))) *ℤ (pos 1152921504606846976)) (n *ℤ (d *ℤ d)) h1 (cert (a ∷ d ∷ n ∷ e ∷ []) (((((ko (pos 1152921504606846976)) ⊗ (((va 2) ⊗ ((va 1) ⊗ (va 1))) ⊖ (((va 0) ⊗ (va 0)) ⊗ (va 3)))) ⊗ (va 3)) ≼ ((va 2) ⊗ ((ko (pos 1)) ⊗ ((va 3) ⊗ ((va 1) ⊗ (va 1)))))) ∷ ((ko (pos 0)) ≼ (va 3)) ∷ []) ((va 3) ⊗ ((ng ((((va 0) ⊗ (va 0)) ⊗ (va 3)) ⊖ ((va 2) ⊗ ((va 1) ⊗ (va 1))))) ⊗ (ko (pos 1152921504606846976)))) ((va 3) ⊗ ((va 2) ⊗ ((va 1) ⊗ (va 1)))) (hy 0) refl (h0, (weak (pos 0) e h1, tt)))
+
+pub root_nn : (r q : Rational) → IsNearRoot r q → of_whole (pos 0) ≤ʳ r
+root_nn r q h = go r.num r.den h.0
+  where
+    go : (n : ℤ) (d : ℕ) → pos 0 ≤ℤ n → (pos 0 *ℤ pos d) ≤ℤ (n *ℤ pos 1)
+    go n d h = omega (arith, ints)
+
+-- 2^60 (r² - q) ≤ q and 2^60 (q - r²) ≤ q
+pub near_high : (r q : Rational) → IsNearRoot r q → mul_r (of_whole (pos 1152921504606846976)) (sub_r (mul_r r r) q) ≤ʳ q
+near_high r q h = high r.num (pos r.den) q.num (pos q.den) (pos_nn q.den) (abs_times_le (((r.num *ℤ r.num) *ℤ pos q.den) -ℤ (q.num *ℤ pos (r.den * r.den))) (q.num *ℤ pos (r.den * r.den)) (2 ^ 60) h.1).0
+
+pub near_low : (r q : Rational) → IsNearRoot r q → mul_r (of_whole (pos 1152921504606846976)) (sub_r q (mul_r r r)) ≤ʳ q
+near_low r q h = low r.num (pos r.den) q.num (pos q.den) (pos_nn q.den) (abs_times_le (((r.num *ℤ r.num) *ℤ pos q.den) -ℤ (q.num *ℤ pos (r.den * r.den))) (q.num *ℤ pos (r.den * r.den)) (2 ^ 60) h.1).1
+
+times_abs : (z m : ℤ) (s : ℕ) → (z *ℤ pos s) ≤ℤ m → (neg_ℤ z *ℤ pos s) ≤ℤ m → (pos (unsigned_abs z) *ℤ pos s) ≤ℤ m
+times_abs (pos n) m s h k = h
+times_abs (negsuc n) m s h k = k
+
+pub near_root : (r q : Rational) → of_whole (pos 0) ≤ʳ r → mul_r (of_whole (pos 1152921504606846976)) (sub_r (mul_r r r) q) ≤ʳ q → mul_r (of_whole (pos 1152921504606846976)) (sub_r q (mul_r r r)) ≤ʳ q → IsNearRoot r q
+near_root r q n h k = (
+  go r.num r.den n,
+  times_abs (((r.num *ℤ r.num) *ℤ pos q.den) -ℤ (q.num *ℤ pos (r.den * r.den))) (q.num *ℤ pos (r.den * r.den)) (2 ^ 60)
+      (from_high r.num (pos r.den) q.num (pos q.den) h (lt_pos 0 q.den q.positive)) (from_low r.num (pos r.den) q.num (pos q.den) k (lt_pos 0 q.den q.positive)),
+)
+  where
+    go : (n : ℤ) (d : ℕ) → (pos 0 *ℤ pos d) ≤ℤ (n *ℤ pos 1) → pos 0 ≤ℤ n
+    go n d h = omega (arith, ints)
+
+gap : (t u n d : ℤ) → (t *ℤ t) *ℤ (pos 89875517873681764 *ℤ d) -ℤ n *ℤ (u *ℤ u) ≡ ((pos 299792458 *ℤ t) *ℤ (pos 299792458 *ℤ t)) *ℤ d -ℤ n *ℤ ((pos 1 *ℤ u) *ℤ (pos 1 *ℤ u))
+gap t u n d = same_by (t ∷ u ∷ n ∷ d ∷ []) (λ t u n d. (t ⊗ t ⊗ (nat 89875517873681764 ⊗ d) ⊖ n ⊗ (u ⊗ u), nat 299792458 ⊗ t ⊗ (nat 299792458 ⊗ t) ⊗ d ⊖ n ⊗ (nat 1 ⊗ u ⊗ (nat 1 ⊗ u)))) refl
+
+size : (n u : ℤ) → n *ℤ (u *ℤ u) ≡ n *ℤ ((pos 1 *ℤ u) *ℤ (pos 1 *ℤ u))
+size n u = same_by (n ∷ u ∷ []) (λ n u. (n ⊗ (u ⊗ u), n ⊗ (nat 1 ⊗ u ⊗ (nat 1 ⊗ u)))) refl
+
+-- the range, c times the travel time, is a near-root of the squared distance
+pub range_root : (t q : Rational) → IsNearRoot t (over_light_speed_squared q) → IsNearRoot (range_of t) q
+range_root t q h = (
+  go t.num h.0,
+  subst₂ (λ (z w : ℤ). (pos (unsigned_abs z) *ℤ pos (2 ^ 60)) ≤ℤ w) (gap t.num (pos t.den) q.num (pos q.den)) (size q.num (pos t.den)) h.1,
+)
+  where
+    go : (n : ℤ) → pos 0 ≤ℤ n → pos 0 ≤ℤ (pos 299792458 *ℤ n)
+    go n h = omega (arith, ints)
+
+pub travel_root : (t q : Rational) → IsNearRoot (range_of t) q → IsNearRoot t (over_light_speed_squared q)
+travel_root t q h = (
+  go t.num h.0,
+  subst₂ (λ (z w : ℤ). (pos (unsigned_abs z) *ℤ pos (2 ^ 60)) ≤ℤ w) (sym (gap t.num (pos t.den) q.num (pos q.den))) (sym (size q.num (pos t.den))) h.1,
+)
+  where
+    go : (n : ℤ) → pos 0 ≤ℤ (pos 299792458 *ℤ n) → pos 0 ≤ℤ n
+    go n h = omega (arith, ints)

@@ -1,0 +1,57 @@
+-- What holds of every seen place.
+use Rattle.std.proofs.Common.{pos, refl, lit≤}
+use Rattle.rational.specs.Rational.{Rational, ◌≈◌, ◌≤ʳ◌, of_whole, add_r, sub_r, mul_r, neg_r}
+use Rattle.rational.proofs.Laws.{≈_sym, ≈_trans, ≤ʳ_trans, ≤ʳ_along, add_r-same, add_r-comm, mul_r-same, mul_r-comm, sub_r-is}
+use Rattle.orbit_model.proofs.Orders.{root_r}
+use Rattle.orbit_model.specs.SeenPlaces.{Place, difference, square, turned_back, AreSamePlace, IsSeenPlace, IsSentPlace, IsReceiverPlace, HasLengthBetween, over_light_speed_squared, range_of}
+use Rattle.orbit_model.proofs.Apart.{IsBetween, turned_square, loosely, vector_square, whole_le}
+use Rattle.orbit_model.proofs.NearRoots.{range_root, near_high, root_nn}
+use Rattle.orbit_model.proofs.Distances.{time_square}
+
+-- ---- equal places have equal lengths
+add_both : (p q r s : Rational) → p ≈ q → r ≈ s → add_r p r ≈ add_r q s
+add_both p q r s e f = ≈_trans (add_r p r) (add_r q r) (add_r q s) (add_r-same p q r e) (≈_trans (add_r q r) (add_r r q) (add_r q s) (add_r-comm q r) (≈_trans (add_r r q) (add_r s q) (add_r q s) (add_r-same r s q f) (add_r-comm s q)))
+
+mul_both : (p q r s : Rational) → p ≈ q → r ≈ s → mul_r p r ≈ mul_r q s
+mul_both p q r s e f = ≈_trans (mul_r p r) (mul_r q r) (mul_r q s) (mul_r-same p q r e) (≈_trans (mul_r q r) (mul_r r q) (mul_r q s) (mul_r-comm q r) (≈_trans (mul_r r q) (mul_r s q) (mul_r q s) (mul_r-same r s q f) (mul_r-comm s q)))
+
+less_same : (p q r : Rational) → p ≈ q → sub_r p r ≈ sub_r q r
+less_same p q r e = ≈_trans (sub_r p r) (add_r p (neg_r r)) (sub_r q r) (sub_r-is p r) (≈_trans (add_r p (neg_r r)) (add_r q (neg_r r)) (sub_r q r) (add_r-same p q (neg_r r) e) (≈_sym (sub_r q r) (add_r q (neg_r r)) (sub_r-is q r)))
+
+pub square_same : (p q : Place) → AreSamePlace p q → square p ≈ square q
+square_same p q e = add_both (add_r (mul_r p.x p.x) (mul_r p.y p.y)) (add_r (mul_r q.x q.x) (mul_r q.y q.y)) (mul_r p.z p.z) (mul_r q.z q.z)
+    (add_both (mul_r p.x p.x) (mul_r q.x q.x) (mul_r p.y p.y) (mul_r q.y q.y) (mul_both p.x q.x p.x q.x e.0 e.0) (mul_both p.y q.y p.y q.y e.1 e.1)) (mul_both p.z q.z p.z q.z e.2 e.2)
+
+pub difference_same : (p q r : Place) → AreSamePlace p q → AreSamePlace (difference p r) (difference q r)
+difference_same p q r e = (less_same p.x q.x r.x e.0, less_same p.y q.y r.y e.1, less_same p.z q.z r.z e.2)
+
+-- ---- distances
+pub seen_vector : (sent point seen : Place) (t : Rational) → IsSentPlace sent → IsReceiverPlace point → IsSeenPlace sent point t seen → HasLengthBetween 11800000 45200000 (difference seen point)
+seen_vector sent point seen t s r h =
+    let x : Place = turned_back h.turn sent in
+    let b = vector_square x point (loosely (square x) (turned_square sent _ h.turn s h.turn_is)) r in
+    let e = ≈_sym (square (difference seen point)) (square (difference x point)) (square_same (difference seen point) (difference x point) (difference_same seen x point h.seen_is)) in
+    along (square (difference x point)) (square (difference seen point)) e b
+  where
+    along : (p q : Rational) → p ≈ q → IsBetween 141000000000000 2040000000000000 p → (of_whole (pos 139240000000000) ≤ʳ q) × (q ≤ʳ of_whole (pos 2043040000000000))
+    along p q e b = (
+      ≤ʳ_along (of_whole (pos 139240000000000)) (of_whole (pos 139240000000000)) p q refl e (≤ʳ_trans (of_whole (pos 139240000000000)) (of_whole (pos 141000000000000)) p (whole_le 139240000000000 141000000000000 (lit≤ tt)) b.low),
+      ≤ʳ_along p q (of_whole (pos 2043040000000000)) (of_whole (pos 2043040000000000)) e refl (≤ʳ_trans p (of_whole (pos 2040000000000000)) (of_whole (pos 2043040000000000)) b.high (whole_le 2040000000000000 2043040000000000 (lit≤ tt))),
+    )
+
+pub seen_distance : (sent point seen : Place) (t : Rational) → IsSentPlace sent → IsSeenPlace sent point t seen → HasLengthBetween 18900000 38100000 seen
+seen_distance sent point seen t s h =
+    let x : Place = turned_back h.turn sent in
+    let b = loosely (square x) (turned_square sent _ h.turn s h.turn_is) in
+    let e = ≈_sym (square seen) (square x) (square_same seen x h.seen_is) in
+    (≤ʳ_along (of_whole (pos 357210000000000)) (of_whole (pos 357210000000000)) (square x) (square seen) refl e b.low, ≤ʳ_along (square x) (square seen) (of_whole (pos 1451610000000000)) (of_whole (pos 1451610000000000)) e refl b.high)
+
+-- ---- the travel time
+pub travel_nn : (sent point seen : Place) (t : Rational) → IsSeenPlace sent point t seen → of_whole (pos 0) ≤ʳ t
+travel_nn sent point seen t h = root_nn t (over_light_speed_squared (square (difference seen point))) h.travel_is
+
+pub travel_most : (sent point seen : Place) (t : Rational) → IsSentPlace sent → IsReceiverPlace point → IsSeenPlace sent point t seen → mul_r (of_whole (pos 6)) t ≤ʳ of_whole (pos 1)
+travel_most sent point seen t s r h =
+    let q : Rational = square (difference seen point) in
+    let b = seen_vector sent point seen t s r h in
+    root_r (mul_r (of_whole (pos 6)) t) (of_whole (pos 1)) (whole_le 0 1 (lit≤ tt)) (time_square t q (near_high (range_of t) q (range_root t q h.travel_is)) b.1)

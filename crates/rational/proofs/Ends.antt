@@ -1,0 +1,58 @@
+-- Boxes around a bound in size, boxes that are made wider, and how far the ends of a narrow box are from what it holds.
+use Rattle.std.proofs.Common.{◌≡◌, ℕ, ◌^◌, List, [], ◌∷◌, ℤ, pos, ◌+ℤ◌, ◌-ℤ◌, ◌*ℤ◌, neg_ℤ, ◌≤ℤ◌, arith, refl}
+use Rattle.whole_math.proofs.IntLaws.{neg_mul_ℤ}
+use Rattle.whole_math.proofs.Ring.{va, ◌⊕◌, ◌⊖◌, ◌⊗◌}
+use Rattle.whole_math.proofs.Order.{lins, mul_le_cancel}
+use Rattle.whole_math.proofs.Inequalities.{same_by}
+use Rattle.whole_math.proofs.Certificates.{◌≼◌, hy, ◌⊞◌}
+use Rattle.rational.specs.Rational.{Rational, ◌≤ʳ◌, of_scale, add_r, sub_r, IsAtMostInSize, InBox, IsNearBox}
+use Rattle.rational.proofs.Boxes.{wider}
+use Rattle.rational.proofs.Laws.{≤ʳ_trans, ≤ʳ_from_same}
+use Rattle.rational.proofs.Orders.{order_r}
+
+-- ---- bounds in size
+pub size_of_box : (k m : ℕ) (lo hi : ℤ) (q : Rational) → neg_ℤ (pos m) ≤ℤ lo → hi ≤ℤ pos m → InBox k lo hi q → IsAtMostInSize (of_scale k (pos m)) q
+size_of_box k m lo hi q l h i =
+    let w = wider k lo hi (neg_ℤ (pos m)) (pos m) q l h i in
+    (w.1, turned (q.num *ℤ pos (2 ^ k)) (neg_ℤ q.num *ℤ pos (2 ^ k)) (pos m *ℤ pos q.den) (neg_ℤ (pos m) *ℤ pos q.den) (neg_mul_ℤ q.num (pos (2 ^ k))) (neg_mul_ℤ (pos m) (pos q.den)) w.0)
+  where
+    turned : (a b c d : ℤ) → b ≡ neg_ℤ a → d ≡ neg_ℤ c → d ≤ℤ a → b ≤ℤ c
+    turned a b c d e f h = omega (arith, lins)
+
+pub box_of_size : (k m : ℕ) (q : Rational) → IsAtMostInSize (of_scale k (pos m)) q → InBox k (neg_ℤ (pos m)) (pos m) q
+box_of_size k m q h = (turned (q.num *ℤ pos (2 ^ k)) (neg_ℤ q.num *ℤ pos (2 ^ k)) (pos m *ℤ pos q.den) (neg_ℤ (pos m) *ℤ pos q.den) (neg_mul_ℤ q.num (pos (2 ^ k))) (neg_mul_ℤ (pos m) (pos q.den)) h.1, h.0)
+  where
+    turned : (a b c d : ℤ) → b ≡ neg_ℤ a → d ≡ neg_ℤ c → b ≤ℤ c → d ≤ℤ a
+    turned a b c d e f h = omega (arith, lins)
+
+-- ---- what is near a box lies in a wider one
+pub box_of_near : (k : ℕ) (lo hi p : ℤ) (d q : Rational) → d ≤ʳ of_scale k p → IsNearBox k lo hi d q → InBox k (lo -ℤ p) (hi +ℤ p) q
+box_of_near k lo hi p d q l n =
+    let x : Rational = n.inside in
+    let r : List Rational = q ∷ x ∷ d ∷ of_scale k p ∷ of_scale k lo ∷ of_scale k hi ∷ [] in
+    let low : sub_r (of_scale k lo) (of_scale k p) ≤ʳ q =
+    order_r r ((va 4 ≼ va 1) ∷ (va 1 ⊖ va 0 ≼ va 2) ∷ (va 2 ≼ va 3) ∷ []) [] (va 4 ⊖ va 3) (va 0) (hy 0 ⊞ hy 1 ⊞ hy 2) [] refl (n.held.0, (n.near.1, (l, tt))) tt in
+    let high : q ≤ʳ add_r (of_scale k hi) (of_scale k p) =
+    order_r r ((va 1 ≼ va 5) ∷ (va 0 ⊖ va 1 ≼ va 2) ∷ (va 2 ≼ va 3) ∷ []) [] (va 0) (va 5 ⊕ va 3) (hy 0 ⊞ hy 1 ⊞ hy 2) [] refl (n.held.1, (n.near.0, (l, tt))) tt in (
+      ≤ʳ_trans (of_scale k (lo -ℤ p)) (sub_r (of_scale k lo) (of_scale k p)) q (≤ʳ_from_same (of_scale k (lo -ℤ p)) (sub_r (of_scale k lo) (of_scale k p)) (same_by (lo ∷ p ∷ pos (2 ^ k) ∷ []) (λ l p s. ((l ⊖ p) ⊗ (s ⊗ s), (l ⊗ s ⊖ p ⊗ s) ⊗ s)) refl)) low,
+      ≤ʳ_trans q (add_r (of_scale k hi) (of_scale k p)) (of_scale k (hi +ℤ p)) high (≤ʳ_from_same (add_r (of_scale k hi) (of_scale k p)) (of_scale k (hi +ℤ p)) (same_by (hi ∷ p ∷ pos (2 ^ k) ∷ []) (λ h p s. ((h ⊗ s ⊕ p ⊗ s) ⊗ s, (h ⊕ p) ⊗ (s ⊗ s))) refl)),
+    )
+
+-- ---- a narrow box that holds a number has ends near it
+pub low_end : (k : ℕ) (lo hi w l : ℤ) (q : Rational) → (hi -ℤ lo) ≤ℤ w → of_scale k l ≤ʳ q → InBox k lo hi q → (l -ℤ w) ≤ℤ lo
+low_end k lo hi w l q n h i = step (mul_le_cancel l hi q.den q.positive (through (l *ℤ pos q.den) (q.num *ℤ pos (2 ^ k)) (hi *ℤ pos q.den) h i.1))
+  where
+    through : (a b c : ℤ) → a ≤ℤ b → b ≤ℤ c → a ≤ℤ c
+    through a b c h g = omega (arith, lins)
+
+    step : l ≤ℤ hi → (l -ℤ w) ≤ℤ lo
+    step g = omega (arith, lins)
+
+pub high_end : (k : ℕ) (lo hi w h : ℤ) (q : Rational) → (hi -ℤ lo) ≤ℤ w → q ≤ʳ of_scale k h → InBox k lo hi q → hi ≤ℤ (h +ℤ w)
+high_end k lo hi w h q n g i = step (mul_le_cancel lo h q.den q.positive (through (lo *ℤ pos q.den) (q.num *ℤ pos (2 ^ k)) (h *ℤ pos q.den) i.0 g))
+  where
+    through : (a b c : ℤ) → a ≤ℤ b → b ≤ℤ c → a ≤ℤ c
+    through a b c h g = omega (arith, lins)
+
+    step : lo ≤ℤ h → hi ≤ℤ (h +ℤ w)
+    step g = omega (arith, lins)

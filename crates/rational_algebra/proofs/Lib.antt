@@ -1,4 +1,0 @@
-pub mod Identities
-pub mod Orders
-pub mod Sizes
-pub mod Ends

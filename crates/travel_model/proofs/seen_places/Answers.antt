@@ -1,5 +1,0 @@
-use Rattle.travel_model.proofs.Seen.{seen_distance, seen_vector, travel_nn, travel_most}
-use Rattle.travel_model.proofs.seen_places.Goals as goal
-
-pub returns : goal.returns
-returns c = record { distance = seen_distance; range = seen_vector; at_least = travel_nn; at_most = travel_most }

@@ -1,2 +1,0 @@
-pub mod Zero
-pub mod ZeroRuns
