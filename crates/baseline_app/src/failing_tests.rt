@@ -1,4 +1,4 @@
-// A run of `fix` on a made-up session, each of whose calls on the world fails once.
+//! A run of `fix` on a made-up session, each of whose calls on the world fails once.
 use crate::tests::{Fails, Ran, expect_run, named, run_over};
 use job_answers::Status;
 use line_source::MemFiles;

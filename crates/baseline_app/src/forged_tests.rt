@@ -1,4 +1,4 @@
-// Certificates that were tampered with or made up. Their verdicts are those of an independent model on the same texts.
+//! Certificates that were tampered with or made up. Their verdicts are those of an independent model on the same texts.
 use crate::fix_tests::run_fix;
 use crate::tests::{Fails, Ran, expect_run, run_on};
 use job_answers::Status;

@@ -1,4 +1,4 @@
-// Texts that nothing admits, at the place of the first flaw. The texts are written by hand from the forms.
+//! Texts that nothing admits, at the place of the first flaw. The texts are written by hand from the forms.
 ghost use Rattle.std.specs.Prelude.{None};
 
 use crate::tests::{Fails, NAV, Ran, expect_run, run_on, run_plainly};

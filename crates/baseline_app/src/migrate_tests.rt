@@ -1,4 +1,4 @@
-// Runs of `migrate`, as an independent model has them.
+//! Runs of `migrate`, as an independent model has them.
 use crate::tests::{Fails, expect_run, run_on};
 use job_answers::Status;
 use std::test::Fail;

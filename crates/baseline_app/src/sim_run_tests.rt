@@ -1,4 +1,4 @@
-// A long session of ten satellites is made and fixed.
+//! A long session of ten satellites is made and fixed.
 use crate::tests::{Fails, expect_run, run_on};
 use job_answers::Status;
 use std::test::Fail;

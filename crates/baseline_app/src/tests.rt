@@ -1,4 +1,4 @@
-// Runs over files and sinks in memory. Expected texts are worked out by hand from the form and the sums.
+//! Runs over files and sinks in memory. Expected texts are worked out by hand from the form and the sums.
 ghost use Rattle.std.specs.Prelude.{◌<◌};
 
 use crate::top::run;

@@ -1,4 +1,4 @@
-// The program over any files and sinks.
+//! The program over any files and sinks.
 ghost use Rattle.std.specs.Prelude.{◌≡◌, ◌≢◌, ◌⊎◌, ◌≤◌, [], ◌∷◌, ℕ, List, length, IfOk, All};
 ghost use Rattle.line_source.specs.Causes.{Rose, OpensAtMost};
 ghost use Rattle.gps_time.specs.declared.Tick.{Tick};

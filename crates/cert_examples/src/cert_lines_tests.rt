@@ -1,4 +1,4 @@
-// Lines of signals, arcs and rows.
+//! Lines of signals, arcs and rows.
 use cert_lines::{
     Version, arc_in, push_arc_line, push_signals_line, push_system_line, row_in, signals_in,
     system_in,

@@ -1,4 +1,4 @@
-// Certificates that are written and read, and lines that are refused.
+//! Certificates that are written and read, and lines that are refused.
 use cert_text::{CertFault, Version, read_as, read_cert, write_cert};
 use rinex_head::{At, What};
 use std::alloc::{AllocError, Global};

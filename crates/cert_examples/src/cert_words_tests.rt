@@ -1,4 +1,4 @@
-// Numbers, ranges and lines of a certificate.
+//! Numbers, ranges and lines of a certificate.
 use cert_words::{
     Number, Range, TextLines, all_within, next_line, numbers_behind, push_number, push_numbers,
 };

@@ -1,4 +1,4 @@
-// What an independent model says of the same certificates.
+//! What an independent model says of the same certificates.
 use crate::texts::{MADE_UP, NOTHING, RESIDUALS, SESSION, SMALL, WIDEST};
 use cert_check::check;
 use cert_data::{Answer, Outcome, RoundCounts};

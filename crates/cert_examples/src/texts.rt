@@ -1,4 +1,4 @@
-// Certificates, in parts, and what is printed of them.
+//! Certificates, in parts, and what is printed of them.
 
 // Six epochs of five satellites, between the line of the budget and that of the values.
 pub(crate) const SESSION: [&str; 50] = [

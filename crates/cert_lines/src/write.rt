@@ -1,4 +1,4 @@
-// The lines, written.
+//! The lines, written.
 ghost use Rattle.std.specs.Prelude.{◌≡◌, ◌++◌, ◌∷◌, [], OnOk, All, length};
 ghost use Rattle.cert_words.specs.Spelling.{text_of_lines};
 ghost use Rattle.obs_rows.specs.Signals.{fine_signals};

@@ -1,5 +1,5 @@
-// Numbers of at most 18 digits at the head of a text, which nearly all numbers of a certificate are. They are read in 64
-// bits, straight into an array and with no column. Where a text begins otherwise nothing is said of it.
+//! Numbers of at most 18 digits at the head of a text, which nearly all numbers of a certificate are. They are read in 64
+//! bits, straight into an array and with no column. Where a text begins otherwise nothing is said of it.
 ghost use Rattle.std.specs.Prelude.{◌≡◌, ◌+◌, ◌-◌, ◌*◌, ◌<◌, ◌≤◌, ◌∷◌, ◌++◌, ◌^◌, length, take, true, IfSome};
 ghost use Rattle.std.specs.Fmt.{decimal, signed_decimal};
 ghost use Rattle.decimal_text.specs.Whole.{is_digit, size_of};

@@ -1,4 +1,4 @@
-// The system and the bands by what is given.
+//! The system and the bands by what is given.
 ghost use Rattle.std.specs.Prelude.{◌≡◌, ℕ, ◌↔◌, IsTrue, IfSome, MatchOption};
 ghost use Rattle.obs_rows.specs.Ranges.{IsSystem};
 ghost use Rattle.run_options.specs.declared.options.TheConstants.{GPS};

@@ -1,4 +1,4 @@
-// Why words are no job.
+//! Why words are no job.
 ghost use Rattle.std.specs.Prelude.{◌≡◌};
 ghost use Rattle.command_words.specs.declared.fault.WordFault.TheVariants.{NoMemory};
 

@@ -1,4 +1,4 @@
-// The jobs that words ask for.
+//! The jobs that words ask for.
 ghost use Rattle.std.specs.Prelude.{◌≡◌, ◌∷◌, [], IfOk, IsErrOf, codes};
 ghost use Rattle.command_words.specs.declared.jobs.Job.{Job};
 ghost use Rattle.command_words.specs.Numbers.{IsSatellite};

@@ -1,4 +1,4 @@
-// Numbers, systems and satellites as words.
+//! Numbers, systems and satellites as words.
 ghost use Rattle.std.specs.Prelude.{◌≡◌, ℕ, ◌^◌, ◌<◌, ◌≤◌, true, length, IfSome, MatchOption};
 ghost use Rattle.decimal_text.specs.Whole.{are_digits, number_from};
 ghost use Rattle.obs_rows.specs.Ranges.{IsSystem};

@@ -1,4 +1,4 @@
-// What `clap` is told of the program.
+//! What `clap` is told of the program.
 ghost use Rattle.std.specs.Prelude.{◌≡◌, [], IfOk, map};
 ghost use Rattle.clap.specs.Simple.{app_of, with_rule, with_subcommand};
 ghost use Rattle.command_words.specs.Commands.{app_with, bare_app, command_shape, option_rule, word_rule};

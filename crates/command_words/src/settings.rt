@@ -1,4 +1,4 @@
-// The options and what they are set to.
+//! The options and what they are set to.
 ghost use Rattle.std.specs.Prelude.{◌≡◌, ℕ, ◌<◌, ◌≤◌, ◌↔◌, [], IsTrue, IfSome, MatchOption};
 ghost use Rattle.command_words.specs.Settings.{name_of, place_of, is_of_sim, are_of_sim, numbers_for, IsSetBy, HasFound};
 

@@ -1,4 +1,4 @@
-// What is asked of a simulated session.
+//! What is asked of a simulated session.
 ghost use Rattle.std.specs.Prelude.{◌≡◌, ℕ, ◌<◌, ◌≤◌, ◌^◌, IfSome, MatchOption};
 ghost use Rattle.command_words.specs.declared.sims.Part.{Part};
 ghost use Rattle.command_words.specs.declared.sims.Sim.{Sim};

@@ -1,4 +1,4 @@
-// A word of the command line.
+//! A word of the command line.
 ghost use Rattle.std.specs.Prelude.{◌≡◌, IfOk, string_bytes};
 
 use std::alloc::{AllocError, Global};

@@ -1,4 +1,4 @@
-// So many digits of a number, written.
+//! So many digits of a number, written.
 ghost use Rattle.std.specs.Prelude.{◌≡◌, ◌++◌, ◌≤◌, OnOk};
 ghost use Rattle.decimal_text.specs.Write.{last_digits};
 

@@ -1,4 +1,4 @@
-// Numbers with an exponent.
+//! Numbers with an exponent.
 ghost use Rattle.std.specs.Prelude.{◌≡◌, ◌+◌, ◌*◌, ◌≤◌, ◌<◌, ◌^◌, ◌≤ℤ◌, ℤ, pos, negsuc, length, Ok, Err, Result, MatchOption, IfOk, IfErr, None};
 ghost use Rattle.decimal_text.specs.declared.exponent.Dec.{Dec};
 ghost use Rattle.decimal_text.specs.declared.fixed.NumberFault.{NumberFault};

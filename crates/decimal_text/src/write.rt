@@ -1,4 +1,4 @@
-// Numbers with a point, written.
+//! Numbers with a point, written.
 ghost use Rattle.std.specs.Prelude.{◌≡◌, ◌++◌, ◌≤◌, OnOk, OnErr};
 ghost use Rattle.decimal_text.specs.Write.{fixed_text, part_text, sign_text};
 

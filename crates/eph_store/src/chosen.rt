@@ -1,4 +1,4 @@
-// The chosen record of a satellite at a time.
+//! The chosen record of a satellite at a time.
 ghost use Rattle.std.specs.Prelude.{◌≡◌, MatchOption};
 ghost use Rattle.eph_store.specs.Chosen.{IsChosenRecord, HasNoCandidate};
 

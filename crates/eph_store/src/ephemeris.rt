@@ -1,4 +1,4 @@
-// A usable record.
+//! A usable record.
 ghost use Rattle.std.specs.Prelude.{◌≡◌, ℕ, pos, ◌+◌, ◌*◌, ◌/◌, ◌<◌, ◌≤◌};
 ghost use Rattle.eph_store.specs.Decimals.{IsFromTo, IsWithin};
 

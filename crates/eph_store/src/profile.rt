@@ -1,4 +1,4 @@
-// Which records are usable.
+//! Which records are usable.
 ghost use Rattle.std.specs.Prelude.{◌≡◌, ℕ, ◌<◌, pos, length, ◌↔◌, IsOk, IfOk, Err, Result, MatchOption, All};
 ghost use Rattle.eph_store.specs.declared.profile.Unfit.{Unfit};
 ghost use Rattle.eph_store.specs.declared.profile.Unfit.TheVariants.{Unhealthy, Range};

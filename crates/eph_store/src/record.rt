@@ -1,4 +1,4 @@
-// A record as a navigation file gives it.
+//! A record as a navigation file gives it.
 
 use decimal_text::Dec;
 use gps_time::Tick;

@@ -1,4 +1,4 @@
-// The records of a navigation file.
+//! The records of a navigation file.
 ghost use Rattle.std.specs.Prelude.{◌≡◌, [], ◌∷◌, ◌++◌, length, OnOk, OnErr};
 
 use crate::{Eph, Raw};

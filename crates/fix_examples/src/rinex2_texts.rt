@@ -1,4 +1,4 @@
-// Simulated observation files of RINEX 3 as files of RINEX 2.11, with two lines of values for each satellite.
+//! Simulated observation files of RINEX 3 as files of RINEX 2.11, with two lines of values for each satellite.
 use std::alloc::Global;
 use std::test::Fail;
 

@@ -1,4 +1,4 @@
-// Runs of `fix` over texts in memory, and what their certificates say.
+//! Runs of `fix` over texts in memory, and what their certificates say.
 use cert_jobs::check_file;
 use cert_text::{Cert, Tail, TwoBest, read_cert};
 use decimal_text::read_fixed;

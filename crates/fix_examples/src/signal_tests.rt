@@ -1,4 +1,4 @@
-// Runs of `fix` over files of RINEX 2, on other bands and of Galileo.
+//! Runs of `fix` over files of RINEX 2, on other bands and of Galileo.
 
 use crate::rinex2_texts::in_rinex_2;
 use crate::runs::{fix_texts, is_certified};

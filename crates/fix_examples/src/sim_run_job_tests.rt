@@ -1,4 +1,4 @@
-// What `sim run` prints.
+//! What `sim run` prints.
 use job_answers::Status;
 use sim_run_job::sim_run;
 use std::test::Fail;

@@ -1,5 +1,5 @@
-// Expected integers and offsets are the generator's own truth; counts, options and which searches end come from an
-// independent model.
+//! Expected integers and offsets are the generator's own truth; counts, options and which searches end come from an
+//! independent model.
 ghost use Rattle.std.specs.Prelude.{◌<◌};
 
 use crate::runs::{

@@ -1,4 +1,4 @@
-// Changes of the texts of made-up observation files.
+//! Changes of the texts of made-up observation files.
 use decimal_text::{read_fixed, write_fixed};
 use std::alloc::{AllocError, Global};
 use std::test::Fail;

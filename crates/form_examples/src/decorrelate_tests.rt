@@ -1,4 +1,4 @@
-// Maps of drawn forms.
+//! Maps of drawn forms.
 ghost use Rattle.std.specs.Prelude.{ℕ, ◌+◌, ◌-◌, ◌*◌, ◌^◌, ◌<◌, ◌≤◌, unsigned_abs};
 ghost use Rattle.form_tables.specs.declared.sizes.TheConstants.{MOST_INTEGERS, MOST_COLUMNS, MOST_FACTORS};
 ghost use Rattle.decorrelate.specs.Inverses.{EntriesBelow};

@@ -1,4 +1,4 @@
-// Sessions drawn by chance, which an independent model draws in the same way.
+//! Sessions drawn by chance, which an independent model draws in the same way.
 ghost use Rattle.std.specs.Prelude.{◌<◌};
 
 use gps_time::Tick;

@@ -1,4 +1,4 @@
-// Steps of the elimination, by hand.
+//! Steps of the elimination, by hand.
 use elimination::{Stop, take_steps};
 use form_tables::{FactorTable, MOST_FACTORS, NormalTable};
 

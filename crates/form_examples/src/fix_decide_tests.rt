@@ -1,4 +1,4 @@
-// Upper sums and decisions of an independent model.
+//! Upper sums and decisions of an independent model.
 ghost use Rattle.std.specs.Prelude.{◌↔◌, IsTrue, All};
 ghost use Rattle.obs_rows.specs.Ranges.{IsBelow};
 

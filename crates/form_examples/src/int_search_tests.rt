@@ -1,4 +1,4 @@
-// The two best vectors of forms.
+//! The two best vectors of forms.
 ghost use Rattle.std.specs.Prelude.{◌^◌, ◌+◌, ◌<◌, ◌≤◌, unsigned_abs, IfSome};
 ghost use Rattle.form_tables.specs.declared.sizes.TheConstants.{MOST_INTEGERS, MOST_FORM_COLUMNS};
 ghost use Rattle.form_tables.specs.Tables.{IsZeroOutside};

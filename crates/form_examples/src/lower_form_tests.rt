@@ -1,4 +1,4 @@
-// Forms of an independent model, and why there is none.
+//! Forms of an independent model, and why there is none.
 ghost use Rattle.std.specs.Prelude.{◌≡◌, ◌⊎◌};
 
 use crate::row_numbers::{L1_AND_L2, Numbers, THREE_BANDS, arc, finished, push, session_with};

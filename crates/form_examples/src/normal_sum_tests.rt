@@ -1,4 +1,4 @@
-// Normal matrices of an independent model, which are also those of the definition by the differences of each two rows.
+//! Normal matrices of an independent model, which are also those of the definition by the differences of each two rows.
 ghost use Rattle.std.specs.Prelude.{◌<◌, ◌≡◌, ◌⊎◌};
 
 use crate::row_numbers::{

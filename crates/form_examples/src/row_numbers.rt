@@ -1,4 +1,4 @@
-// Sessions from the numbers of their rows.
+//! Sessions from the numbers of their rows.
 ghost use Rattle.std.specs.Prelude.{◌<◌, ◌≡◌, ◌⊎◌};
 
 use gps_time::Tick;

@@ -1,4 +1,4 @@
-// Navigation files of Galileo: a real record, the numbers of satellites, and the places of refusals.
+//! Navigation files of Galileo: a real record, the numbers of satellites, and the places of refusals.
 use decimal_text::Dec;
 use rinex_head::{At, What};
 use rinex_nav::{NavFault, read_gal_nav};

@@ -1,4 +1,4 @@
-// Observation files of Galileo: a real one, the numbers of satellites, and the places of refusals.
+//! Observation files of Galileo: a real one, the numbers of satellites, and the places of refusals.
 use gps_time::Tick;
 use obs_store::{ObsFile, ObsType, Value};
 use rinex_head::{At, What};

@@ -1,4 +1,4 @@
-// What a job ends with, before its texts are written.
+//! What a job ends with, before its texts are written.
 ghost use Rattle.std.specs.Prelude.{◌≡◌, vec_len};
 ghost use Rattle.job_answers.specs.Statuses.{IsVerdictStatus};
 

@@ -1,4 +1,4 @@
-// How an answer is written.
+//! How an answer is written.
 ghost use Rattle.std.specs.Prelude.{◌≡◌, ◌⊎◌, ◌≤◌, length};
 ghost use Rattle.std.specs.Io.KnownBytes.{Appends};
 ghost use Rattle.line_source.specs.Causes.{Rose};

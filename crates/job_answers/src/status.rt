@@ -1,4 +1,4 @@
-// What the program ends with.
+//! What the program ends with.
 ghost use Rattle.std.specs.Prelude.{◌≡◌};
 ghost use Rattle.job_answers.specs.Statuses.{number_of};
 

@@ -1,4 +1,4 @@
-// How a job stops, and the ends of all jobs whose file isn't read.
+//! How a job stops, and the ends of all jobs whose file isn't read.
 ghost use Rattle.std.specs.Prelude.{◌≡◌, ◌≢◌, ◌≤◌, [], ◌∷◌, length, vec_len, IfOk, OnOk, string_bytes};
 ghost use Rattle.line_source.specs.Causes.{Rose, OpensAtMost};
 ghost use Rattle.line_source.specs.Told.{Same, Stays, IsReadToEnd};

@@ -1,4 +1,4 @@
-// Certificates as the first version was written.
+//! Certificates as the first version was written.
 
 // That of the simulated session of seed 3, 10 epochs and 5 satellites.
 pub(crate) const SIMULATED_10: &str = "baseline-cert 1\n\

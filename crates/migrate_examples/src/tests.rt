@@ -1,4 +1,4 @@
-// What an independent model makes of the same certificates.
+//! What an independent model makes of the same certificates.
 use crate::certs::{REAL_QUARTER, SIMULATED_10};
 use crate::simulated::SIMULATED_60;
 use cert_check::check;

@@ -1,4 +1,4 @@
-// Boxes of numbers in decimals.
+//! Boxes of numbers in decimals.
 use decimal_box::decimal_box;
 use decimal_text::Dec;
 

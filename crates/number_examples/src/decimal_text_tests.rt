@@ -1,4 +1,4 @@
-// Numbers as text, and back.
+//! Numbers as text, and back.
 use decimal_text::{Dec, NumberFault, WholeFault, read_exp, read_fixed, read_whole, write_fixed};
 use std::test::Fail;
 

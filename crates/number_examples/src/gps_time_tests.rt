@@ -1,4 +1,4 @@
-// Moments of the calendar and of the weeks.
+//! Moments of the calendar and of the weeks.
 use gps_time::{DateFault, Tick, tick_of, week_tick};
 
 const TICKS: [((u16, u8, u8), (u8, u8, u32), u64); 9] = [

@@ -1,4 +1,4 @@
-// Boxes on a grid, at the ends of their range and between.
+//! Boxes on a grid, at the ends of their range and between.
 use iv_core::{DivFault, Iv, Overwidth};
 use std::test::Fail;
 

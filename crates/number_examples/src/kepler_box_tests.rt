@@ -1,4 +1,4 @@
-// Eccentric anomalies as mpmath gives them.
+//! Eccentric anomalies as mpmath gives them.
 use iv_core::Iv;
 use kepler_box::anomaly_box;
 use std::test::Fail;

@@ -1,4 +1,4 @@
-// Places as mpmath gives them, at the ends of the ranges and between.
+//! Places as mpmath gives them, at the ends of the ranges and between.
 ghost use Rattle.std.specs.Prelude.{◌*◌, ◌^◌, ◌≤◌, pos, ◌≤ℤ◌};
 
 use iv_core::Iv;

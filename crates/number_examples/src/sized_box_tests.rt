@@ -1,4 +1,4 @@
-// Sums and products of boxes with limits.
+//! Sums and products of boxes with limits.
 use iv_core::Iv;
 use sized_box::SizedBox;
 

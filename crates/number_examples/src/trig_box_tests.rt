@@ -1,4 +1,4 @@
-// Cosines and sines as mpmath gives them.
+//! Cosines and sines as mpmath gives them.
 use iv_core::Iv;
 use std::test::Fail;
 use trig_box::pair_box;

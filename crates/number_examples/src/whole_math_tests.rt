@@ -1,4 +1,4 @@
-// Quotients rounded down, up and to the nearest.
+//! Quotients rounded down, up and to the nearest.
 use whole_math::{ceil, ceil_shift, floor, floor_shift, nearest, remainder};
 
 #[test]

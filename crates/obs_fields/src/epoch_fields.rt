@@ -1,4 +1,4 @@
-// Fields of the line of an epoch or an event.
+//! Fields of the line of an epoch or an event.
 ghost use Rattle.std.specs.Prelude.{◌≡◌, ◌<◌, IfSome, IsTrue};
 ghost use Rattle.obs_fields.specs.Layouts.{count_column_of, date_column_of};
 ghost use Rattle.obs_fields.specs.EpochFields.{count_in, moment_of, is_later};

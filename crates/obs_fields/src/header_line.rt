@@ -1,4 +1,4 @@
-// What a line of a header says.
+//! What a line of a header says.
 
 /// What a line of the header says.
 #[derive(Clone, Copy, Debug)]

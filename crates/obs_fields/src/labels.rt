@@ -1,4 +1,4 @@
-// The labels of header lines.
+//! The labels of header lines.
 ghost use Rattle.std.specs.Prelude.{◌≡◌};
 ghost use Rattle.obs_fields.specs.Layouts.{types_label_of, factor_label_of};
 ghost use Rattle.obs_fields.specs.Labels.{named_label, label_in, changes_header, event_line_of};

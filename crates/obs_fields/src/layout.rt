@@ -1,4 +1,4 @@
-// What the two formats of observation files place differently.
+//! What the two formats of observation files place differently.
 ghost use Rattle.std.specs.Prelude.{◌≡◌, ◌≤◌, IfSome};
 ghost use Rattle.obs_fields.specs.Layouts.{first_name_of, name_step_of, names_in_line_of, count_column_of, flag_column_of, date_column_of, value_column};
 

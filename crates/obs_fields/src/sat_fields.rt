@@ -1,4 +1,4 @@
-// Fields of the lines of satellites: names, values and their loss-of-lock digits.
+//! Fields of the lines of satellites: names, values and their loss-of-lock digits.
 ghost use Rattle.std.specs.Prelude.{◌≡◌, ◌+◌, ◌≤◌, IfOk, IfSome, IfErr, OnOk, Ok, Err, true};
 ghost use Rattle.decimal_text.specs.Fixed.{fixed_of};
 ghost use Rattle.rinex_head.specs.Columns.{columns};

@@ -1,4 +1,4 @@
-// The list of the observation types of a system (`SYS / # / OBS TYPES`, in RINEX 2 `# / TYPES OF OBSERV`).
+//! The list of the observation types of a system (`SYS / # / OBS TYPES`, in RINEX 2 `# / TYPES OF OBSERV`).
 ghost use Rattle.std.specs.Prelude.{◌≡◌, ◌+◌, ◌-◌, ◌*◌, ◌<◌, ◌≤◌, ◌++◌, ◌∷◌, [], min, length, IfOk, OnOk, IfErr, Ok, Err};
 ghost use Rattle.decimal_text.specs.Fixed.{are_blank};
 ghost use Rattle.rinex_head.specs.Columns.{columns};

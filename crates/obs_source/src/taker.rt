@@ -1,4 +1,4 @@
-// An observation file of either format that is taken in pieces.
+//! An observation file of either format that is taken in pieces.
 ghost use Rattle.std.specs.Prelude.{◌≡◌, ◌+◌, ◌≤◌, ◌++◌, List, ℕ, [], length, take, OnOk, OnErr, IfOk, IfSome, IfNone, IsErr, Err};
 ghost use Rattle.std.specs.Str.Lines.{strip_carriage_return};
 ghost use Rattle.rinex_head.specs.declared.system.System.TheVariants.{Gps};

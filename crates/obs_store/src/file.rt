@@ -1,4 +1,4 @@
-// The file.
+//! The file.
 ghost use Rattle.std.specs.Prelude.{◌≡◌, []};
 
 use crate::{Epochs, SLOTS};

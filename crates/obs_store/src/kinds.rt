@@ -1,4 +1,4 @@
-// The observation types that are kept.
+//! The observation types that are kept.
 ghost use Rattle.std.specs.Prelude.{◌≡◌, ◌<◌, codes};
 ghost use Rattle.obs_store.specs.Kinds.{name_of, slot_count, slot_of, kept_type_of};
 

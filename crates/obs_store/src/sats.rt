@@ -1,4 +1,4 @@
-// The satellites of an epoch.
+//! The satellites of an epoch.
 ghost use Rattle.std.specs.Prelude.{◌≡◌, ◌≤◌, ◌<◌, ◌==◌, [], ◌∷◌, ◌++◌, length, false, find, slice_get, slice_index, Some, OnOk, OnErr};
 ghost use Rattle.obs_store.specs.Satellites.{AreSatellites, has_satellite};
 ghost use Rattle.obs_store.specs.Seen.{numbers_of};

@@ -1,4 +1,4 @@
-// The epochs of a file.
+//! The epochs of a file.
 ghost use Rattle.std.specs.Prelude.{◌≡◌, ◌≤◌, ◌<◌, [], ◌∷◌, ◌++◌, length, slice_index, IfSome, OnOk, OnErr};
 ghost use Rattle.obs_store.specs.Epochs.{AreEpochs, tags_of, last_tag_of};
 

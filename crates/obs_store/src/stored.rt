@@ -1,4 +1,4 @@
-// How the satellites of an epoch are stored: the values that are there, and no others.
+//! How the satellites of an epoch are stored: the values that are there, and no others.
 ghost use Rattle.std.specs.Prelude.{◌≡◌, ◌+◌, ◌<◌, ◌≤◌, ◌==◌, length, find, slice_get, Some, vec_len, vec_capacity};
 ghost use Rattle.std.specs.List.{list_any};
 ghost use Rattle.obs_store.specs.Kinds.{slot_count};

@@ -1,4 +1,4 @@
-// Which satellites a file has.
+//! Which satellites a file has.
 ghost use Rattle.std.specs.Prelude.{◌≡◌, ◌+◌, ◌<◌, ◌≤◌, [], length, take, slice_index, slice_set, nat_eq, All, IfOk, OnOk};
 ghost use Rattle.std.specs.List.{IsDistinct};
 ghost use Rattle.obs_store.specs.Counts.{with_number, numbered, IsCountOf};

@@ -1,4 +1,4 @@
-// What is kept of a satellite in an epoch.
+//! What is kept of a satellite in an epoch.
 ghost use Rattle.std.specs.Prelude.{◌≡◌};
 ghost use Rattle.obs_store.specs.Missing.{missing_values};
 

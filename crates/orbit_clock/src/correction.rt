@@ -1,4 +1,4 @@
-// The clock's correction: IS-GPS-200, 20.3.3.3.3.1. Times are over 10^4 s, so the drift is times 10^4 and the aging times 10^8.
+//! The clock's correction: IS-GPS-200, 20.3.3.3.3.1. Times are over 10^4 s, so the drift is times 10^4 and the aging times 10^8.
 ghost use Rattle.std.specs.Prelude.{◌≡◌, ◌+◌, ◌*◌, ◌^◌, ◌<◌, ◌≤◌, pos, ◌+ℤ◌, ◌-ℤ◌, ◌*ℤ◌, ◌≤ℤ◌, ◌<ℤ◌, unsigned_abs};
 ghost use Rattle.std.specs.Int.{abs_diff};
 ghost use Rattle.rational.specs.Rational.{Rational, sub_r};

@@ -1,4 +1,4 @@
-// Boxes of quotients of whole numbers.
+//! Boxes of quotients of whole numbers.
 ghost use Rattle.std.specs.Prelude.{ℕ, ◌*◌, ◌^◌, ◌<◌, ◌≤◌, pos, ◌*ℤ◌, ◌<ℤ◌};
 ghost use Rattle.whole_math.specs.Bounds.{Within};
 ghost use Rattle.rational.specs.Rational.{Rational, IsRatio};

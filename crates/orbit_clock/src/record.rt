@@ -1,4 +1,4 @@
-// What a record and a system say at every time.
+//! What a record and a system say at every time.
 ghost use Rattle.std.specs.Prelude.{◌≡◌, ◌^◌, pos, ◌≤ℤ◌};
 ghost use Rattle.rational.specs.Rational.{Rational, mul_r, times};
 ghost use Rattle.iv_core.specs.Intervals.{Holds};

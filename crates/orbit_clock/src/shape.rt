@@ -1,4 +1,4 @@
-// The orbit's size and shape, and how fast it is run through, from the numbers of a record.
+//! The orbit's size and shape, and how fast it is run through, from the numbers of a record.
 ghost use Rattle.std.specs.Prelude.{◌≡◌, ◌*◌, ◌^◌, pos, ◌*ℤ◌, ◌≤ℤ◌};
 ghost use Rattle.rational.specs.Rational.{Rational, ◌≈◌, of_whole, times, mul_r, IsNearRoot};
 ghost use Rattle.iv_core.specs.Intervals.{Holds};

@@ -1,4 +1,4 @@
-// The clock by three passes of its correction, and the mean anomaly at the time that it gives.
+//! The clock by three passes of its correction, and the mean anomaly at the time that it gives.
 ghost use Rattle.std.specs.Prelude.{◌≡◌, ◌+◌, ◌*◌, ◌^◌, ◌<◌, ◌≤◌, pos, ◌+ℤ◌, ◌-ℤ◌, ◌*ℤ◌, neg_ℤ, ◌≤ℤ◌};
 ghost use Rattle.std.specs.Int.{abs_diff};
 ghost use Rattle.rational.specs.Rational.{Rational, add_r, sub_r, mul_r, times, of_scale, two_to_minus, IsNearBox, IsAtMostInSize};

@@ -1,4 +1,4 @@
-// The constants of a navigation system.
+//! The constants of a navigation system.
 ghost use Rattle.std.specs.Prelude.{◌≡◌, pos, neg_ℤ};
 ghost use Rattle.orbit_clock.specs.Worlds.{IsWorld};
 

@@ -1,4 +1,4 @@
-// The inclination and the longitude of the ascending node at the time of sending.
+//! The inclination and the longitude of the ascending node at the time of sending.
 ghost use Rattle.std.specs.Prelude.{◌≡◌, ◌*◌, ◌^◌, ◌<◌, ◌≤◌, pos, ◌≤ℤ◌};
 ghost use Rattle.rational.specs.Rational.{Rational, ◌≈◌, add_r, sub_r, mul_r, times, of_whole};
 ghost use Rattle.iv_core.specs.Intervals.{Holds};

@@ -1,4 +1,4 @@
-// The direction from the Earth's centre to a satellite.
+//! The direction from the Earth's centre to a satellite.
 ghost use Rattle.std.specs.Prelude.{◌≡◌, ◌+◌, ◌*◌, ◌^◌, ◌≤◌, pos, ◌≤ℤ◌};
 ghost use Rattle.iv_core.specs.Intervals.{Holds, width_of, IsWithin};
 ghost use Rattle.trig_box.specs.AnglePairs.{Pair};

@@ -1,4 +1,4 @@
-// The numbers of an orbit, and how large they are.
+//! The numbers of an orbit, and how large they are.
 ghost use Rattle.std.specs.Prelude.{◌*◌, ◌^◌, ◌<◌, pos, ◌≤ℤ◌};
 
 use rotation_box::{ANOMALY_WIDTH, ECCENTRICITY, Rotation};

@@ -1,4 +1,4 @@
-// The place in the plane of the orbit: the argument of latitude and the radius, both corrected.
+//! The place in the plane of the orbit: the argument of latitude and the radius, both corrected.
 ghost use Rattle.std.specs.Prelude.{◌≡◌, ◌+◌, ◌-◌, ◌*◌, ◌^◌, ◌≤◌, pos, ◌≤ℤ◌};
 ghost use Rattle.rational.specs.Rational.{Rational, add_r, mul_r};
 ghost use Rattle.iv_core.specs.Intervals.{Holds};

@@ -1,4 +1,4 @@
-// Pairs of epochs by their tags, and the signals that both files have.
+//! Pairs of epochs by their tags, and the signals that both files have.
 use epoch_pair::{PairFault, PairOf, pair, signals, take};
 use gps_time::Tick;
 use obs_rows::{BANDS_L1_L2, BANDS_L1_L2_L5, BANDS_L1_L5, is_bands_number};

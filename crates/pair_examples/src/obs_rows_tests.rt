@@ -1,4 +1,4 @@
-// A session of two pairs, the ends of the ranges, the places of integers, and tables.
+//! A session of two pairs, the ends of the ranges, the places of integers, and tables.
 ghost use Rattle.std.specs.Prelude.{◌<◌};
 
 use form_tables::{FactorTable, FormTable, FrontTable, MapTable, NormalTable};

@@ -1,4 +1,4 @@
-// Expected values from an independent calculation with exact fractions, rounded to whole units.
+//! Expected values from an independent calculation with exact fractions, rounded to whole units.
 ghost use Rattle.std.specs.Prelude.{◌^◌, ◌≤◌, unsigned_abs};
 
 use iv_core::Iv;

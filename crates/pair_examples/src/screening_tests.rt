@@ -1,4 +1,4 @@
-// Which satellites are used of what two receivers on the equator observe.
+//! Which satellites are used of what two receivers on the equator observe.
 ghost use Rattle.std.specs.Prelude.{◌<◌, IfOk};
 ghost use Rattle.screening.specs.Screening.{ArePairsOf, HasPosition};
 

@@ -1,4 +1,4 @@
-// Arcs that are cut at jumps and where power failed, and what links them.
+//! Arcs that are cut at jumps and where power failed, and what links them.
 ghost use Rattle.std.specs.Prelude.{◌≡◌, ◌+◌, ◌<◌, ◌≤◌, ◌^◌, unsigned_abs, vec_len, All, IfOk, OnOk};
 ghost use Rattle.obs_rows.specs.UsedSats.{IsInRange};
 

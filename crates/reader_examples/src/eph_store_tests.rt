@@ -1,4 +1,4 @@
-// Values of the public standard and of hand calculation.
+//! Values of the public standard and of hand calculation.
 use decimal_text::Dec;
 use eph_store::{Eph, NavFile, Raw, Unfit};
 use gps_time::Tick;

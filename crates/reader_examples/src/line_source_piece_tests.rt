@@ -1,4 +1,4 @@
-// Files that are handed on in pieces.
+//! Files that are handed on in pieces.
 ghost use Rattle.std.specs.Prelude.{◌≡◌, length, None, ⊤};
 
 use line_source::{

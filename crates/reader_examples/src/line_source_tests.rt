@@ -1,4 +1,4 @@
-// Whole files, sinks and the lines of a text.
+//! Whole files, sinks and the lines of a text.
 use line_source::{
     HostFiles, HostSink, Lines, LoadFault, MemFiles, MemSink, Named, SureFiles, SureSink,
     WriteFault, load, put_all,

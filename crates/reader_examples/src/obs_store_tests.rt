@@ -1,4 +1,4 @@
-// The types of observations, and epochs in order.
+//! The types of observations, and epochs in order.
 use gps_time::Tick;
 use obs_store::{Epoch, Epochs, ObsFile, ObsType, SLOTS, SatObs, Satellites};
 use std::test::Fail;

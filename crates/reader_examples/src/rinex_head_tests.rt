@@ -1,4 +1,4 @@
-// Header lines and versions of files.
+//! Header lines and versions of files.
 use line_source::Line;
 use rinex_head::{At, Version, What, head_line, version_of};
 

@@ -1,4 +1,4 @@
-// A file with a record of GPS and one of another system, and the places of refusals.
+//! A file with a record of GPS and one of another system, and the places of refusals.
 use decimal_text::Dec;
 use eph_store::{Eph, Unfit};
 use gps_time::Tick;

@@ -1,4 +1,4 @@
-// Texts in pieces: the answer is that of the whole text, however it is cut.
+//! Texts in pieces: the answer is that of the whole text, however it is cut.
 use crate::slow_files::{Slow, with_returns};
 use line_source::{LoadFault, load_into};
 use obs_store::ObsFile;

@@ -1,4 +1,4 @@
-// Texts from the format and the oracle.
+//! Texts from the format and the oracle.
 use gps_time::Tick;
 use obs_store::{ObsFile, ObsType, Value};
 use rinex_head::{At, What};

@@ -1,4 +1,4 @@
-// Files that are read in small pieces.
+//! Files that are read in small pieces.
 ghost use Rattle.std.specs.Prelude.{None};
 
 use line_source::{Failed, FileId, Files};

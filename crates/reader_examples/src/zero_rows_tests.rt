@@ -1,4 +1,4 @@
-// A claim and its differences.
+//! A claim and its differences.
 use std::test::Fail;
 use zero_rows::{Verdict, decide, read_rows};
 

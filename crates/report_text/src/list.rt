@@ -1,4 +1,4 @@
-// What is listed of an observation file.
+//! What is listed of an observation file.
 ghost use Rattle.std.specs.Prelude.{◌≡◌, ◌++◌, length, OnOk, IfOk, string_bytes, codes};
 ghost use Rattle.obs_store.specs.Epochs.{last_tag_of};
 ghost use Rattle.obs_store.specs.Seen.{seen_in};

@@ -1,4 +1,4 @@
-// What is printed of a satellite's place and clock.
+//! What is printed of a satellite's place and clock.
 ghost use Rattle.std.specs.Prelude.{◌≡◌, ◌++◌, ◌^◌, ◌*ℤ◌, ◌≤◌, unsigned_abs, OnOk, MatchOption, codes};
 ghost use Rattle.whole_math.specs.Rounding.{floor_div, ceil_div};
 ghost use Rattle.report_text.specs.Orbit.{ends_of, ends_line, no_record_line, AppendsOrbit};

@@ -1,4 +1,4 @@
-// Files that are read, and what they give.
+//! Files that are read, and what they give.
 use crate::sample::{
     END, EPOCH, FILE, FIRST, LATER, SAT_5, SAT_5_REST, SAT_12, TEN_TYPES, read, read_changed,
     text_of,

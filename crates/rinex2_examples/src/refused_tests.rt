@@ -1,4 +1,4 @@
-// Files that are refused, with the place and the reason.
+//! Files that are refused, with the place and the reason.
 use crate::sample::{
     END, EPOCH, FACTORS, SAT_5, SAT_12, TEN_TYPES, THIRTEEN, TIME, TYPES, read, read_changed,
 };

@@ -1,4 +1,4 @@
-// A file of seven types and two epochs, and the same with other lines in the place of some.
+//! A file of seven types and two epochs, and the same with other lines in the place of some.
 use obs_store::ObsFile;
 use rinex_head::At;
 use rinex2_obs::{ObsFault, read_obs2};

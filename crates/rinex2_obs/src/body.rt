@@ -1,4 +1,4 @@
-// The body: blank lines, epochs and events.
+//! The body: blank lines, epochs and events.
 ghost use Rattle.std.specs.Prelude.{◌≡◌, []};
 ghost use Rattle.rinex_head.specs.Walk.{rest_gives, Gives};
 ghost use Rattle.rinex2_obs.specs.Profile.{kept_of};

@@ -1,4 +1,4 @@
-// The line of an epoch or an event (RINEX 2.11, epoch record).
+//! The line of an epoch or an event (RINEX 2.11, epoch record).
 ghost use Rattle.std.specs.Prelude.{◌≡◌, ◌+◌, ◌≤◌, length, ◌<◌, IfOk, IfSome, Ok, true, false};
 ghost use Rattle.obs_store.specs.Epochs.{last_tag_of};
 ghost use Rattle.obs_fields.specs.declared.layout.Layout.TheVariants.{Rinex2};

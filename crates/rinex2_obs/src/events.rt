@@ -1,4 +1,4 @@
-// The lines of events, and those of cycle slips (flag 6), which are skipped.
+//! The lines of events, and those of cycle slips (flag 6), which are skipped.
 ghost use Rattle.std.specs.Prelude.{◌≡◌, ◌≤◌, ◌*◌, List, ℕ, length};
 ghost use Rattle.obs_store.specs.declared.series.Epoch.{Epoch};
 ghost use Rattle.rinex_head.specs.Walk.{ReadsFree};

@@ -1,4 +1,4 @@
-// The header, from the first line to the end of the header.
+//! The header, from the first line to the end of the header.
 ghost use Rattle.std.specs.Prelude.{◌≡◌, ◌+◌, ◌≤◌, [], length};
 ghost use Rattle.decimal_text.specs.Fixed.{fixed_of};
 ghost use Rattle.rinex_head.specs.Columns.{columns};

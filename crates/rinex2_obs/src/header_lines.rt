@@ -1,4 +1,4 @@
-// What stands in a line of the header (RINEX 2.11, observation file header).
+//! What stands in a line of the header (RINEX 2.11, observation file header).
 ghost use Rattle.std.specs.Prelude.{◌≡◌, ◌+◌, ◌≤◌};
 ghost use Rattle.rinex2_obs.specs.HeaderLines.{factor_in, factors_in, line_of_label, header_line_of};
 

@@ -1,4 +1,4 @@
-// The types that are kept of a list of RINEX 2, and as which ones.
+//! The types that are kept of a list of RINEX 2, and as which ones.
 ghost use Rattle.std.specs.Prelude.{◌≡◌, ◌++◌, IfOk, OnOk};
 ghost use Rattle.obs_fields.specs.Types.{kept_at};
 ghost use Rattle.rinex2_obs.specs.Profile.{kept_type_in, kept_of, is_among, listed_of};

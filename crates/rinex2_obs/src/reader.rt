@@ -1,4 +1,4 @@
-// The whole text.
+//! The whole text.
 ghost use Rattle.std.specs.Prelude.{◌≡◌, ◌≤◌, length, IfOk};
 ghost use Rattle.obs_store.specs.declared.file.ObsFile.{ObsFile};
 ghost use Rattle.line_source.specs.Lines.{lines_of};

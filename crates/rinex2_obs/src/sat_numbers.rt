@@ -1,4 +1,4 @@
-// The satellites of an epoch in the order of their names.
+//! The satellites of an epoch in the order of their names.
 ghost use Rattle.std.specs.Prelude.{◌≡◌, ◌<◌, ◌++◌, ◌∷◌, [], length};
 ghost use Rattle.rinex2_obs.specs.SatNumbers.{has_number, is_named, AreNames, FitsBehind};
 

@@ -1,4 +1,4 @@
-// An epoch: the further lines of its satellites' names, and their own lines (RINEX 2.11, observation record).
+//! An epoch: the further lines of its satellites' names, and their own lines (RINEX 2.11, observation record).
 ghost use Rattle.std.specs.Prelude.{◌≡◌, ◌≤◌, ◌+◌, List, ℕ, [], ◌∷◌, ◌++◌, Bool, None, Some, length, IfOk, OnOk};
 ghost use Rattle.std.specs.declared.option.Option.{Option};
 ghost use Rattle.gps_time.specs.declared.Tick.{Tick};

@@ -1,4 +1,4 @@
-// The columns of a line.
+//! The columns of a line.
 ghost use Rattle.std.specs.Prelude.{◌≡◌, ◌+◌, ◌≤◌};
 ghost use Rattle.rinex_head.specs.Columns.{column, columns};
 

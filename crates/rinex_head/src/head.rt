@@ -1,4 +1,4 @@
-// The lines of a header.
+//! The lines of a header.
 ghost use Rattle.std.specs.Prelude.{◌≡◌, IfOk, IfErr};
 ghost use Rattle.rinex_head.specs.Head.{content_of, label_of, trimmed, version_in, IsVersionOf};
 ghost use Rattle.rinex_head.specs.Places.{at_line, place};

@@ -1,4 +1,4 @@
-// Where and why a text is refused.
+//! Where and why a text is refused.
 ghost use Rattle.std.specs.Prelude.{◌≡◌};
 ghost use Rattle.rinex_head.specs.Places.{place};
 ghost use Rattle.rinex_head.specs.Reasons.{text_of_reason};

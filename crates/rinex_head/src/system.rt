@@ -1,4 +1,4 @@
-// The satellite systems of the files that are read.
+//! The satellite systems of the files that are read.
 ghost use Rattle.std.specs.Prelude.{◌≡◌, ◌⊎◌};
 ghost use Rattle.rinex_head.specs.Systems.{letter_of, last_number_of, names_time, none_listed, scaled, bad_version, system_of};
 

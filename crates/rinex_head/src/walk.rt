@@ -1,4 +1,4 @@
-// The next line of a text that is read.
+//! The next line of a text that is read.
 ghost use Rattle.std.specs.Prelude.{◌≡◌, MatchOption, MatchResult};
 ghost use Rattle.line_source.specs.Lines.{GivesLine, IsAtEnd};
 ghost use Rattle.rinex_head.specs.Places.{place};

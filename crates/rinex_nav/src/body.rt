@@ -1,4 +1,4 @@
-// The body: blank lines and records.
+//! The body: blank lines and records.
 ghost use Rattle.std.specs.Prelude.{◌≡◌, ℕ, ◌<◌, ◌≤◌, List, [], ◌∷◌, ◌++◌, length, false};
 ghost use Rattle.eph_store.specs.declared.record.Raw.{Raw};
 ghost use Rattle.rinex_head.specs.declared.system.System.{System};

@@ -1,4 +1,4 @@
-// The records of Galileo in a whole text.
+//! The records of Galileo in a whole text.
 ghost use Rattle.std.specs.Prelude.{◌≡◌, ◌≤◌, List, length, IfOk};
 ghost use Rattle.eph_store.specs.declared.record.Raw.{Raw};
 ghost use Rattle.line_source.specs.Lines.{lines_of};

@@ -1,4 +1,4 @@
-// The header.
+//! The header.
 ghost use Rattle.std.specs.Prelude.{◌≡◌, [], false};
 ghost use Rattle.rinex_head.specs.Places.{at_line};
 ghost use Rattle.rinex_head.specs.declared.system.System.{System};

@@ -1,4 +1,4 @@
-// An observation file that is taken in pieces.
+//! An observation file that is taken in pieces.
 ghost use Rattle.std.specs.Prelude.{◌≡◌, ◌+◌, ◌≤◌, ◌<◌, ◌++◌, List, ℕ, [], length, OnOk, OnErr, IfErr, IsErr, Ok, Err};
 ghost use Rattle.std.specs.Str.Lines.{strip_carriage_return};
 ghost use Rattle.rinex_head.specs.Places.{place, at_line};

@@ -1,4 +1,4 @@
-// An observation file of Galileo, whole or taken in pieces.
+//! An observation file of Galileo, whole or taken in pieces.
 ghost use Rattle.std.specs.Prelude.{◌≡◌, ◌+◌, ◌≤◌, ◌++◌, List, ℕ, [], length, IfOk, OnOk, OnErr, IsErr, Err};
 ghost use Rattle.line_source.specs.Lines.{lines_of};
 ghost use Rattle.obs_store.specs.declared.file.ObsFile.{ObsFile};

@@ -1,4 +1,4 @@
-// What a header says, and its first line.
+//! What a header says, and its first line.
 ghost use Rattle.std.specs.Prelude.{◌≡◌};
 ghost use Rattle.rinex_head.specs.Places.{at_line};
 ghost use Rattle.rinex_obs.specs.FirstLine.{of_kind, first_line_of};

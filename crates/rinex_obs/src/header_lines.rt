@@ -1,4 +1,4 @@
-// What stands in a line of the header (RINEX 3, observation file header).
+//! What stands in a line of the header (RINEX 3, observation file header).
 ghost use Rattle.std.specs.Prelude.{◌≡◌};
 ghost use Rattle.rinex_obs.specs.HeaderLines.{line_of_label, header_line_of};
 

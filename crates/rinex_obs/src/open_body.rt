@@ -1,4 +1,4 @@
-// A body of which more may follow.
+//! A body of which more may follow.
 ghost use Rattle.std.specs.Prelude.{◌≡◌, ◌-◌, ◌<◌, ◌≤◌, ◌++◌, ◌∷◌, [], length, IfSome, OnOk, IfErr, Ok, Err, false};
 ghost use Rattle.obs_store.specs.Epochs.{last_tag_of};
 ghost use Rattle.obs_store.specs.Satellites.{has_satellite};

@@ -1,4 +1,4 @@
-// An observation file of which more may follow.
+//! An observation file of which more may follow.
 ghost use Rattle.std.specs.Prelude.{◌≡◌, IfOk, []};
 ghost use Rattle.rinex_head.specs.Places.{at_line};
 ghost use Rattle.rinex_obs.specs.ObsRules.{Body, admit, finish};

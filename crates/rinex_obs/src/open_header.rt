@@ -1,4 +1,4 @@
-// A header whose end isn't read yet.
+//! A header whose end isn't read yet.
 ghost use Rattle.std.specs.Prelude.{◌≡◌, ◌+◌, ◌<◌, ◌≤◌, length, IfSome, IfOk, OnOk, IfErr, Ok, Err, [], None};
 ghost use Rattle.std.proofs.Props.{props};
 ghost use Rattle.rinex_obs.specs.ObsRules.{Head, More, Body, bare_header, more_types, begun_list, ended_header, admit};

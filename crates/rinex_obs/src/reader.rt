@@ -1,4 +1,4 @@
-// The whole text, for the satellites of one system.
+//! The whole text, for the satellites of one system.
 ghost use Rattle.std.specs.Prelude.{◌≡◌, ◌≤◌, length, IfOk};
 ghost use Rattle.obs_store.specs.declared.file.ObsFile.{ObsFile};
 ghost use Rattle.rinex_head.specs.FirstFailing.{IsFirstFailing};

@@ -1,4 +1,4 @@
-// The line of a satellite in an epoch (RINEX 3, observation record).
+//! The line of a satellite in an epoch (RINEX 3, observation record).
 ghost use Rattle.std.specs.Prelude.{◌≡◌, ◌≤◌, IfOk, IfSome, false};
 ghost use Rattle.obs_store.specs.Satellites.{has_satellite};
 ghost use Rattle.rinex_obs.specs.SatLines.{satellite_line_of};

@@ -1,4 +1,4 @@
-// A place on an ellipse: its radius and true anomaly from the eccentricity and the pair of the eccentric anomaly.
+//! A place on an ellipse: its radius and true anomaly from the eccentricity and the pair of the eccentric anomaly.
 ghost use Rattle.std.specs.Prelude.{◌≡◌, ◌+◌, ◌*◌, ◌-◌, ◌^◌, ◌≤◌, pos, ◌≤ℤ◌};
 ghost use Rattle.rational.specs.Rational.{Rational, sub_r, mul_r, of_scale, two_to_minus, AreWithin, IsNearRoot};
 ghost use Rattle.iv_core.specs.Intervals.{Holds, width_of};

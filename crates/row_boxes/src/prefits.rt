@@ -1,4 +1,4 @@
-// Observed less computed.
+//! Observed less computed.
 ghost use Rattle.std.specs.Prelude.{IsTrue, not, ◌≡◌, ◌+◌, ◌*◌, ◌^◌, ◌<◌, ◌≤◌, ℤ, pos, ◌+ℤ◌, ◌-ℤ◌, ◌*ℤ◌, neg_ℤ, ◌≤ℤ◌, unsigned_abs};
 ghost use Rattle.whole_math.specs.Rounding.{IsFloor};
 ghost use Rattle.rational.specs.Rational.{Rational, InBox, sub_r};

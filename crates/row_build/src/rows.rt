@@ -1,4 +1,4 @@
-// One row.
+//! One row.
 ghost use Rattle.std.specs.Prelude.{◌≡◌, ◌^◌, ◌<◌, ◌≤◌, None, All, List, ℤ, pos, ◌≤ℤ◌, unsigned_abs, IfSome};
 ghost use Rattle.obs_rows.specs.declared.units.TheConstants.{SIGNALS};
 ghost use Rattle.obs_rows.specs.Ranges.{IsScale, IsBelow};

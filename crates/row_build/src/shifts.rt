@@ -1,4 +1,4 @@
-// First shifts.
+//! First shifts.
 ghost use Rattle.std.specs.Prelude.{IsTrue, ◌≡◌, ◌≢◌, ◌↔◌, ◌^◌, ◌<◌, ◌≤◌, ℕ, true, false, None, Some, [], All, List, ℤ, pos, unsigned_abs, IfSome, length, slice_get};
 ghost use Rattle.obs_rows.specs.ReceiverPoints.{IsReceiverPoint};
 ghost use Rattle.obs_rows.specs.declared.arcs.Arc.{Arc};

@@ -1,4 +1,4 @@
-// Simulated sessions by a calculation in balls of 2^-128, each number rounded to whole units.
+//! Simulated sessions by a calculation in balls of 2^-128, each number rounded to whole units.
 
 // The number of the arc; observed less computed of the signals, before group and shifts, in 2^-13 ι, and 0 for one that isn't used;
 // that of the code on L1 in ι; the direction from the satellite in 2^-24.

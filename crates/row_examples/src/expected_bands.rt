@@ -1,4 +1,4 @@
-// The same with L5: of GPS on all three bands, and of Galileo.
+//! The same with L5: of GPS on all three bands, and of Galileo.
 use crate::expected::Expected;
 
 // Seed 8, three epochs, four satellites on L1, L2 and L5; where the rover stands.

@@ -1,4 +1,4 @@
-// The boxes of the rows hold the values of the independent model, whatever groups and shifts are chosen.
+//! The boxes of the rows hold the values of the independent model, whatever groups and shifts are chosen.
 ghost use Rattle.std.specs.Prelude.{◌<◌, ◌≤◌, ◌^◌, unsigned_abs, All, IsTrue, IfOk};
 ghost use Rattle.obs_rows.specs.Signals.{fine_signals};
 ghost use Rattle.obs_rows.specs.Unused.{HasUsedShifts};

@@ -1,4 +1,4 @@
-// The options of a run.
+//! The options of a run.
 ghost use Rattle.std.specs.Prelude.{◌≤◌};
 ghost use Rattle.obs_rows.specs.BandSets.{IsBandsNumber};
 ghost use Rattle.obs_rows.specs.Ranges.{IsSystem};

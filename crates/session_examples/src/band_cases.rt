@@ -1,5 +1,5 @@
-// Sessions of seed 1 on other bands and of Galileo, and what the independent model ends with. It ends so too where its boxes are moved
-// by chance, as with the cases of L1 and L2.
+//! Sessions of seed 1 on other bands and of Galileo, and what the independent model ends with. It ends so too where its boxes are moved
+//! by chance, as with the cases of L1 and L2.
 use crate::cases::Edit;
 
 pub struct BandCase {

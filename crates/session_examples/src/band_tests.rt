@@ -1,4 +1,4 @@
-// Whole runs on other bands and of Galileo.
+//! Whole runs on other bands and of Galileo.
 
 use crate::band_cases::{BANDS, BandCase, GAPS, Gap, L5_OF_FIVE, L5_OF_FOUR};
 use crate::cases::{End, Verdict};

@@ -1,5 +1,5 @@
-// Changes to sessions of seed 1, and what an independent model ends with. Its verdicts stay the same where each centre of its boxes is
-// moved by chance: of an observation by up to 4 units of its row, of a direction by up to 40 units of 2^-24.
+//! Changes to sessions of seed 1, and what an independent model ends with. Its verdicts stay the same where each centre of its boxes is
+//! moved by chance: of an observation by up to 4 units of its row, of a direction by up to 40 units of 2^-24.
 
 use integer_form::Place;
 use session::Stage;

@@ -1,4 +1,4 @@
-// Where receivers stand, numbers of arcs, and shifts that grow.
+//! Where receivers stand, numbers of arcs, and shifts that grow.
 ghost use Rattle.std.specs.Prelude.{◌↔◌, ◌^◌, IsTrue, All};
 ghost use Rattle.obs_rows.specs.Ranges.{IsBelow};
 ghost use Rattle.round_steps.specs.Shifts.{AreShiftsBelow};

@@ -1,5 +1,5 @@
-// How many rounds whole runs make, against the independent model. Its counts stay the same where its boxes are moved by
-// chance, as the verdicts of the cases do.
+//! How many rounds whole runs make, against the independent model. Its counts stay the same where its boxes are moved by
+//! chance, as the verdicts of the cases do.
 
 use crate::cases::{CUTS, SHORT};
 use crate::tests::{options_of, run};

@@ -1,4 +1,4 @@
-// What two files begin with, and the answer over arcs.
+//! What two files begin with, and the answer over arcs.
 use eph_store::NavFile;
 use gps_time::Tick;
 use obs_rows::is_bands_number;

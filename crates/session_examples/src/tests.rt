@@ -1,4 +1,4 @@
-// What whole runs end with.
+//! What whole runs end with.
 ghost use Rattle.std.specs.Prelude.{◌≤◌, length};
 
 use crate::cases::{CUTS, CYCLES, Case, Edit, End, SHORT, UNCUT_POINT, Verdict};

@@ -1,4 +1,4 @@
-// The travel time, from a box of it to a narrower one.
+//! The travel time, from a box of it to a narrower one.
 ghost use Rattle.std.specs.Prelude.{◌≡◌, ◌+◌, ◌*◌, ◌^◌, ◌<◌, ◌≤◌, ℤ, pos, ◌+ℤ◌, ◌*ℤ◌, ◌≤ℤ◌};
 ghost use Rattle.rational.specs.Rational.{Rational};
 ghost use Rattle.iv_core.specs.Intervals.{Holds, width_of, IsWithin};

@@ -1,4 +1,4 @@
-// Points, and boxes of places and of vectors, in metres at scale 2^-36.
+//! Points, and boxes of places and of vectors, in metres at scale 2^-36.
 ghost use Rattle.std.specs.Prelude.{◌*◌, ◌≤◌, pos, ◌+ℤ◌, ◌*ℤ◌, ◌≤ℤ◌, unsigned_abs};
 
 use iv_core::Iv;

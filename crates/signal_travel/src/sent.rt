@@ -1,4 +1,4 @@
-// What is handed in, with its coordinates by name.
+//! What is handed in, with its coordinates by name.
 ghost use Rattle.std.specs.Prelude.{◌≡◌, ◌*◌, ◌^◌, pos, ◌≤ℤ◌, [], ◌∷◌};
 ghost use Rattle.orbit_model.specs.Places.{IsBetweenDistances};
 ghost use Rattle.obs_rows.specs.ReceiverPoints.{IsReceiverPoint};

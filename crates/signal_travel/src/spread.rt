@@ -1,4 +1,4 @@
-// A number between bounds.
+//! A number between bounds.
 ghost use Rattle.std.specs.Prelude.{◌^◌, ◌≤◌, pos, ◌≤ℤ◌, unsigned_abs};
 
 /// A number between bounds that are given by their middle, in units of 2^-24: from `centre` − `radius` to `centre` + `radius`.

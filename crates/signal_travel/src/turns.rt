@@ -1,4 +1,4 @@
-// The Earth's turn while a signal travels.
+//! The Earth's turn while a signal travels.
 ghost use Rattle.std.specs.Prelude.{◌≡◌, ◌+◌, ◌*◌, ◌/◌, ◌^◌, ◌<◌, ◌≤◌, pos, ◌+ℤ◌, ◌-ℤ◌, ◌*ℤ◌, ◌≤ℤ◌, ℤ};
 ghost use Rattle.whole_math.specs.Rounding.{floor_div};
 ghost use Rattle.rational.specs.Rational.{Rational, of_scale, mul_r};

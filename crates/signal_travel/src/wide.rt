@@ -1,4 +1,4 @@
-// Products of 256 bits, as two numbers of 128.
+//! Products of 256 bits, as two numbers of 128.
 ghost use Rattle.std.specs.Prelude.{◌≡◌, ◌+◌, ◌*◌, ◌^◌, ◌<◌, ◌≤◌, ◌↔◌, IsTrue};
 
 const LIMB: u128 = 1 << 64;

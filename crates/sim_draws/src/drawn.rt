@@ -1,4 +1,4 @@
-// What is drawn of a session.
+//! What is drawn of a session.
 ghost use Rattle.std.specs.Prelude.{◌≡◌, ℕ, ◌+◌, ◌*◌, ◌≤◌, ℤ, ◌-ℤ◌, unsigned_abs, [], ◌∷◌, All, IfOk};
 ghost use Rattle.sim_draws.specs.Sequence.{state_after};
 ghost use Rattle.sim_draws.specs.Values.{offset_of, base_clock_of, rover_clock_of, l5_cycles, cycles_from, base_cycles, rover_cycles, truth_of, first_of, AreSmall};

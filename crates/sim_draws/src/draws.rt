@@ -1,4 +1,4 @@
-// The sequence of draws.
+//! The sequence of draws.
 ghost use Rattle.std.specs.Prelude.{◌≡◌, ℕ, ◌+◌, ◌*◌, ◌/◌, ◌^◌, ◌≤◌, unsigned_abs};
 ghost use Rattle.sim_draws.specs.Sequence.{next_state, state_after, draw, drawn_within};
 

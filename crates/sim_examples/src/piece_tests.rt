@@ -1,4 +1,4 @@
-// A simulated observation file is read the same however it is cut.
+//! A simulated observation file is read the same however it is cut.
 ghost use Rattle.std.specs.Prelude.{None};
 
 use line_source::{Failed, FileId, Files, load_into};

@@ -1,4 +1,4 @@
-// Simulated files are read.
+//! Simulated files are read.
 use gps_time::Tick;
 use obs_store::{ObsFile, ObsType, Value};
 use rinex_nav::{read_gal_nav, read_nav};

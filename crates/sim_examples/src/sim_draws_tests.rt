@@ -1,4 +1,4 @@
-// Draws of an independent model.
+//! Draws of an independent model.
 use sim_draws::draw_all;
 use std::test::Fail;
 

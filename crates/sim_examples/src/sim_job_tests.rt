@@ -1,4 +1,4 @@
-// The command `sim`.
+//! The command `sim`.
 use command_words::File;
 use job_answers::Status;
 use sim_job::sim;

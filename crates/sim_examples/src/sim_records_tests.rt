@@ -1,4 +1,4 @@
-// Records of navigation files.
+//! Records of navigation files.
 use sim_records::{satellites, write_navigation};
 use std::test::Fail;
 

@@ -1,4 +1,4 @@
-// Texts of an independent model.
+//! Texts of an independent model.
 use obs_rows::{is_bands_number, is_system};
 use sim_session::{Made, make};
 use std::alloc::Global;

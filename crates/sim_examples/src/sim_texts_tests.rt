@@ -1,4 +1,4 @@
-// Headers and epochs of observation files.
+//! Headers and epochs of observation files.
 use sim_texts::{Signals, Tracking, write_epoch, write_header};
 use std::test::Fail;
 

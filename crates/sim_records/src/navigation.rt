@@ -1,4 +1,4 @@
-// The text of a navigation file.
+//! The text of a navigation file.
 ghost use Rattle.std.specs.Prelude.{◌≡◌, ◌+◌, ◌*◌, ◌≤◌, ◌++◌, length, OnOk};
 ghost use Rattle.sim_records.specs.Navigation.{navigation_header, first_line, further_line, record_text, record_texts, navigation_text};
 

@@ -1,4 +1,4 @@
-// Numbers in 19 columns.
+//! Numbers in 19 columns.
 ghost use Rattle.std.specs.Prelude.{◌≡◌, ◌+◌, ◌<◌, ◌≤◌, ◌++◌, OnOk, pos, ◌+ℤ◌, unsigned_abs};
 ghost use Rattle.decimal_text.specs.Whole.{size_of};
 ghost use Rattle.rational.specs.Rational.{◌≈◌};

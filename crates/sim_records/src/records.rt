@@ -1,4 +1,4 @@
-// The satellites' records.
+//! The satellites' records.
 ghost use Rattle.std.specs.Prelude.{◌≡◌, ◌+◌, ◌<◌, ◌≤◌, ℤ, pos, unsigned_abs, length, IfOk};
 ghost use Rattle.rational.specs.Rational.{◌≈◌};
 ghost use Rattle.eph_store.specs.Decimals.{decimal, value_of, IsFromTo, IsWithin};

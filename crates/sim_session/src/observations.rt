@@ -1,4 +1,4 @@
-// A receiver's observation file.
+//! A receiver's observation file.
 ghost use Rattle.std.specs.Prelude.{◌≡◌, ◌+◌, ◌*◌, ◌^◌, ◌<◌, ◌≤◌, length, All, IfOk};
 ghost use Rattle.orbit_clock.specs.Records.{constants_of};
 ghost use Rattle.sim_draws.specs.Values.{AreSmall};

@@ -1,4 +1,4 @@
-// The base and the rover.
+//! The base and the rover.
 ghost use Rattle.std.specs.Prelude.{◌≡◌, ◌≤◌, pos, ◌+ℤ◌, ◌*ℤ◌, [], ◌∷◌, unsigned_abs};
 ghost use Rattle.sim_session.specs.Texts.{base_point};
 

@@ -1,4 +1,4 @@
-// A satellite's observations.
+//! A satellite's observations.
 ghost use Rattle.std.specs.Prelude.{◌≡◌, ◌+◌, ◌^◌, ◌≤◌, ℤ, pos, ◌+ℤ◌, ◌-ℤ◌, ◌≤ℤ◌, unsigned_abs, [], ◌∷◌, All};
 ghost use Rattle.std.specs.Int.{abs_diff};
 ghost use Rattle.orbit_clock.specs.Records.{constants_of};

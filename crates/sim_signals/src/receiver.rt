@@ -1,4 +1,4 @@
-// A receiver.
+//! A receiver.
 ghost use Rattle.std.specs.Prelude.{◌≤◌, unsigned_abs};
 ghost use Rattle.obs_rows.specs.ReceiverPoints.{IsReceiverPoint};
 

@@ -1,4 +1,4 @@
-// Texts in columns.
+//! Texts in columns.
 ghost use Rattle.std.specs.Prelude.{◌≡◌, ◌≤◌, ◌++◌, replicate, OnOk};
 ghost use Rattle.sim_texts.specs.Columns.{right_in, fixed_in};
 

@@ -1,4 +1,4 @@
-// The text of an observation file.
+//! The text of an observation file.
 ghost use Rattle.std.specs.Prelude.{◌≡◌, ◌+◌, ◌*◌, ◌≤◌, ◌++◌, length, All, OnOk};
 ghost use Rattle.sim_texts.specs.Observations.{version_line, types_line, header_text, epoch_line, further_fields, fields_text, satellite_line, satellite_lines, epoch_text, AreInColumns, IsInColumns};
 ghost use Rattle.sim_texts.specs.Tracked.{amounts_of};

@@ -1,4 +1,4 @@
-// What is observed of a satellite, and which of it a file has.
+//! What is observed of a satellite, and which of it a file has.
 ghost use Rattle.std.specs.Prelude.{◌≡◌};
 ghost use Rattle.sim_texts.specs.Tracked.{system_letter};
 

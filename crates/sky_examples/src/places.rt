@@ -1,4 +1,4 @@
-// Places and clocks by a calculation in balls of 2^-128, each number rounded down to the scale of its box.
+//! Places and clocks by a calculation in balls of 2^-128, each number rounded down to the scale of its box.
 
 // The record's place in the file, the tag, the code in mm; x, y and z in 2^-36 m, and the clock in 2^-60 s.
 pub type Placed = (usize, u64, i64, [i64; 3], i64);

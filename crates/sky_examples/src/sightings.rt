@@ -1,4 +1,4 @@
-// What is seen from a point, by the same calculation, rounded down as well.
+//! What is seen from a point, by the same calculation, rounded down as well.
 
 // The record's place, the tag and the code; the point in 0.1 mm; the seen place and the range in 2^-36 m, the travel time in 2^-60 s;
 // whether the satellite is above the masks of 0, 900 and 1000; the mean directions in 2^-24 over moves of (0, 0, 0), (9.2, 9.2, 9.2) and

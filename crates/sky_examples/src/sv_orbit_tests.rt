@@ -1,4 +1,4 @@
-// A place that is known without calculation.
+//! A place that is known without calculation.
 use decimal_text::Dec;
 use eph_store::{Eph, Raw};
 use gps_time::Tick;

@@ -1,4 +1,4 @@
-// Each box holds the value of the independent calculation, which is rounded down.
+//! Each box holds the value of the independent calculation, which is rounded down.
 use crate::places::{OF_GALILEO, PLACES};
 use crate::records::LINES;
 use crate::sightings::SIGHTINGS;

@@ -1,4 +1,4 @@
-// A satellite's place and clock.
+//! A satellite's place and clock.
 ghost use Rattle.std.specs.Prelude.{◌≡◌, ◌^◌, pos, ◌≤ℤ◌, [], ◌∷◌, All};
 ghost use Rattle.iv_core.specs.declared.Iv.{Iv};
 ghost use Rattle.iv_core.specs.Intervals.{width_of, IsWithin};

@@ -1,4 +1,4 @@
-// The place and the clock of a record's satellite.
+//! The place and the clock of a record's satellite.
 ghost use Rattle.std.specs.Prelude.{◌≡◌, ◌*◌, ◌^◌, ◌<◌, ◌≤◌, pos, neg_ℤ, ◌≤ℤ◌};
 ghost use Rattle.std.specs.Int.{abs_diff};
 ghost use Rattle.rational.specs.Rational.{Rational, ◌≈◌, mul_r, times};

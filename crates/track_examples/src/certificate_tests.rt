@@ -1,4 +1,4 @@
-// Certificates of tracks that are written and read, and lines that are refused.
+//! Certificates of tracks that are written and read, and lines that are refused.
 use rinex_head::{At, What};
 use std::alloc::{AllocError, Global};
 use std::process::Abort;

@@ -1,4 +1,4 @@
-// Runs of `track` that are declined, with their causes from an independent model.
+//! Runs of `track` that are declined, with their causes from an independent model.
 use crate::runs::{OFFSET, are_places, check_text, is_certified, standing, track_texts};
 use crate::texts::{C1C, Epochs, with_lost_lock, with_more, with_three_satellites};
 use job_answers::Status;

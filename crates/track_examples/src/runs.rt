@@ -1,4 +1,4 @@
-// Runs of `track` and `check-track` over texts in memory, and the places that are printed.
+//! Runs of `track` and `check-track` over texts in memory, and the places that are printed.
 use decimal_text::read_fixed;
 use job_answers::{Answer, Status, Stop};
 use line_source::{MemFiles, Named};

@@ -1,4 +1,4 @@
-// Changes of the texts of simulated observation files, and of certificates.
+//! Changes of the texts of simulated observation files, and of certificates.
 use decimal_text::{read_fixed, write_fixed};
 use std::alloc::Global;
 use std::test::Fail;

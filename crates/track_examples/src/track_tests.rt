@@ -1,5 +1,5 @@
-// Runs of `track` that fix. Expected places are the generator's own offset; which pairs are lost, and why, comes from an
-// independent model.
+//! Runs of `track` that fix. Expected places are the generator's own offset; which pairs are lost, and why, comes from an
+//! independent model.
 use crate::runs::{OFFSET, Walk, are_places, check_text, is_certified, standing, track_texts};
 use crate::texts::{C1C, C2W, Epochs, moved, with_line, with_more, with_three_satellites};
 use job_answers::Status;

@@ -1,4 +1,4 @@
-// The rows of one pair, and the session of this pair alone.
+//! The rows of one pair, and the session of this pair alone.
 ghost use Rattle.std.specs.Prelude.{◌≡◌, ◌<◌, ◌≤◌, Err, All, length, IfOk};
 ghost use Rattle.obs_rows.specs.Arcs.{AreArcs};
 ghost use Rattle.obs_rows.specs.Ranges.{IsScale};

@@ -1,4 +1,4 @@
-// The shifts with which a pair is tried.
+//! The shifts with which a pair is tried.
 ghost use Rattle.std.specs.Prelude.{◌≡◌, ◌<◌, ◌^◌, Some, All, length, slice_get, IfOk};
 ghost use Rattle.obs_rows.specs.declared.arcs.Arc.{Arc};
 ghost use Rattle.obs_rows.specs.Arcs.{AreArcs};

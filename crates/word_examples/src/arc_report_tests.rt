@@ -1,4 +1,4 @@
-// Lists of arcs.
+//! Lists of arcs.
 use arcs_job::write_arcs;
 use obs_rows::{Arc, ArcList};
 use slip_arcs::Arcs;

@@ -1,4 +1,4 @@
-// Each option of `fix` in both forms and in each place, and what is refused of them.
+//! Each option of `fix` in both forms and in each place, and what is refused of them.
 use crate::command_words_tests::words_of;
 use command_words::{Job, WordFault, read_words};
 use std::alloc::{AllocError, Global};

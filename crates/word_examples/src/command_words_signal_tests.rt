@@ -1,4 +1,4 @@
-// The options of the bands and of the system, and satellites of both systems.
+//! The options of the bands and of the system, and satellites of both systems.
 use crate::command_words_tests::words_of;
 use command_words::{Job, WordFault, read_words};
 use std::test::Fail;

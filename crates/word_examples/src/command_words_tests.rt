@@ -1,4 +1,4 @@
-// Words and the jobs that they ask for, by the rules alone.
+//! Words and the jobs that they ask for, by the rules alone.
 use command_words::{File, Job, Part, WordFault, read_words};
 use std::alloc::{AllocError, Global};
 use std::test::Fail;

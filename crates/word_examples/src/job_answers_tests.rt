@@ -1,4 +1,4 @@
-// Answers that are written, and files that are loaded.
+//! Answers that are written, and files that are loaded.
 use job_answers::{Status, deliver, load_file};
 use line_source::{MemSink, SureFiles};
 use std::test::Fail;

@@ -1,4 +1,4 @@
-// What is printed of ends without a session.
+//! What is printed of ends without a session.
 use cert_data::{Answer, Outcome, RoundCounts, Stage, Tail};
 use integer_form::Place;
 use outcome_report::{is_fixed, push_place, write_outcome};

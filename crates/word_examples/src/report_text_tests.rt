@@ -1,4 +1,4 @@
-// Lists of epochs.
+//! Lists of epochs.
 use gps_time::Tick;
 use obs_store::{Epoch, Epochs, ObsFile, SLOTS, SatObs, Satellites};
 use report_text::write_list;

@@ -1,4 +1,4 @@
-// The form of a `zero` file.
+//! The form of a `zero` file.
 ghost use Rattle.std.specs.Prelude.{◌≡◌, ◌<◌, ◌≤◌, ℤ, List, length, vec_len, IfOk, All};
 ghost use Rattle.decimal_text.specs.Whole.{size_of};
 ghost use Rattle.line_source.specs.Lines.{lines_of};
