@@ -1,5 +1,5 @@
 //! What is listed of an observation file.
-ghost use Rattle.std.specs.Prelude.{◌≡◌, ◌++◌, length, OnOk, IfOk, string_bytes, codes};
+ghost use Rattle.std.specs.Prelude.{◌≡◌, ◌++◌, OnOk};
 ghost use Rattle.obs_store.specs.Epochs.{last_tag_of};
 ghost use Rattle.obs_store.specs.Seen.{seen_in};
 ghost use Rattle.report_text.specs.List.{version_line, epochs_line, first_tag_of, tag_lines, satellite_line, satellite_lines, list_text};

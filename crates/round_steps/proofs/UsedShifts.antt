@@ -8,13 +8,13 @@ use Rattle.std.proofs.lemmas.Bool.Decides.{nat_tests}
 use Rattle.std.proofs.lemmas.List.{length-map}
 use Rattle.std.proofs.lemmas.List.Folds.{list_any-from_Any}
 use Rattle.std.proofs.lemmas.List.Quantifiers.{position-Some}
-use Rattle.std.proofs.lemmas.Option.{slice_get_within, slice_get-get_or}
+use Rattle.std.proofs.lemmas.Option.{slice_get-get_or}
 use Rattle.std.proofs.Math.ListN.{get_or-map}
 use Rattle.obs_rows.specs.declared.arcs.Arc.{Arc}
 use Rattle.obs_rows.specs.Signals.{phases, band, phase_bands}
-use Rattle.obs_rows.specs.Integers.{integer, integer_place, is_some_free, entry_at}
+use Rattle.obs_rows.specs.Integers.{integer, is_some_free, entry_at}
 use Rattle.obs_rows.specs.Arcs.{free_before}
-use Rattle.obs_rows.specs.Unused.{IsZeroOff, HasUsedShifts}
+use Rattle.obs_rows.specs.Unused.{HasUsedShifts}
 use Rattle.integer_form.specs.FloatPoint.{item}
 use Rattle.round_steps.specs.Shifts.{growth, integers, grown_shift, grown_arc, AreGrown}
 

@@ -1,5 +1,5 @@
 //! What the limits of rounds are, as the contract of a function that does nothing.
-ghost use Rattle.std.specs.Prelude.{◌≡◌, ◌*◌, ◌/◌, ◌+ℤ◌, ◌*ℤ◌, ◌^◌, ◌<◌, ◌≤◌, ℕ, ℤ, pos};
+ghost use Rattle.std.specs.Prelude.{◌≡◌, ◌*◌, ◌+ℤ◌, ◌*ℤ◌, ◌^◌, ◌<◌, ◌≤◌, ℕ, ℤ, pos};
 ghost use Rattle.whole_math.specs.Rounding.{nearest_div};
 ghost use Rattle.obs_rows.specs.declared.units.TheConstants.{UNIT_FREQUENCY, MOVE_EXPONENT, COARSE_SCALE};
 ghost use Rattle.round_steps.specs.Limits.{limit};

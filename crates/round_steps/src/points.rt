@@ -1,5 +1,5 @@
 //! Points, and how they move by a baseline.
-ghost use Rattle.std.specs.Prelude.{◌≡◌, ◌∷◌, [], ℕ, ◌*◌, ◌^◌, ◌<◌, ◌≤◌, pos, ◌*ℤ◌, unsigned_abs};
+ghost use Rattle.std.specs.Prelude.{◌≡◌, ℕ, ◌*◌, ◌^◌, ◌<◌, ◌≤◌, pos, ◌*ℤ◌, unsigned_abs};
 ghost use Rattle.whole_math.specs.Rounding.{nearest_div};
 ghost use Rattle.obs_rows.specs.Ranges.{IsScale, IsPoint, IsBelow, IsWithin};
 ghost use Rattle.obs_rows.specs.declared.units.TheConstants.{LIGHT_SPEED, COARSE_SCALE};

@@ -3,7 +3,6 @@ ghost use Rattle.std.specs.Prelude.{◌≡◌, ℕ, ◌+◌, ◌^◌, ◌<◌, �
 ghost use Rattle.obs_rows.specs.Ranges.{IsBelow};
 ghost use Rattle.obs_rows.specs.Arcs.{free_count};
 ghost use Rattle.obs_rows.specs.Signals.{is_phase, AreCounted};
-ghost use Rattle.obs_rows.specs.Unused.{HasUsedShifts};
 ghost use Rattle.obs_rows.specs.declared.units.TheConstants.{MOST_FREE_ARCS, SIGNALS};
 ghost use Rattle.integer_form.specs.FloatPoint.{item};
 ghost use Rattle.round_steps.specs.Shifts.{growth, grown_shift, grown_arc, AreGrown, AreShiftsBelow};

@@ -5,7 +5,7 @@ ghost use Rattle.obs_rows.specs.Ranges.{IsScale, IsWithin, IsBelow};
 ghost use Rattle.obs_rows.specs.Data.{number_at};
 ghost use Rattle.obs_rows.specs.Signals.{wavelength, band};
 ghost use Rattle.obs_rows.specs.Unused.{IsZeroOff};
-ghost use Rattle.row_boxes.specs.YBoxes.{Pairing, HoldsBoth, HasSightings, HoldsY, HoldsYs, HasFarY, HasFarSignal, most_radius};
+ghost use Rattle.row_boxes.specs.YBoxes.{Pairing, HoldsBoth, HasSightings, HoldsY, HoldsYs, HasFarSignal, most_radius};
 
 use crate::Pseudorange;
 use crate::prefits::prefit_of;

@@ -1,5 +1,5 @@
 //! A satellite's observations.
-ghost use Rattle.std.specs.Prelude.{◌≡◌, ◌+◌, ◌^◌, ◌≤◌, ℤ, pos, ◌+ℤ◌, ◌-ℤ◌, ◌≤ℤ◌, unsigned_abs, [], ◌∷◌, All};
+ghost use Rattle.std.specs.Prelude.{◌^◌, ◌≤◌, ℤ, pos, ◌≤ℤ◌, unsigned_abs, All};
 ghost use Rattle.std.specs.Int.{abs_diff};
 ghost use Rattle.orbit_clock.specs.Records.{constants_of};
 ghost use Rattle.sim_texts.specs.Observations.{AreInColumns};

@@ -1,5 +1,4 @@
-use Rattle.std.proofs.Common.{◌≡◌, ◌+◌, ◌^◌, ◌<◌, ◌∷◌, [], ℤ, List, unsigned_abs, arith, ap, ap₂, ◌∙◌, sym, subst, to_z, of_z}
-use Rattle.std.specs.Int.{w64}
+use Rattle.std.proofs.Common.{◌+◌, ◌^◌, ℤ, arith, ◌∙◌, sym, subst}
 use Rattle.obs_rows.specs.declared.arcs.Arc.{Arc}
 use Rattle.obs_rows.specs.Ranges.{IsBelow}
 use Rattle.round_steps.proofs.ShiftLaws.{three_below, shift_word, with_shifts}
