@@ -6,7 +6,7 @@ use Rattle.obs_rows.specs.declared.sessions.Session.{Session}
 use Rattle.obs_rows.specs.Signals.{fine_signals}
 use Rattle.obs_rows.specs.Best.{IsStrictlyBest}
 use Rattle.integer_form.specs.declared.faults.Place.{Place}
-use Rattle.integer_form.specs.declared.faults.Place.TheVariants.{Float, Sum}
+use Rattle.integer_form.specs.declared.faults.Place.TheVariants.{Y, Factor, Entry, Float, Point, Search, Sum}
 use Rattle.integer_form.specs.declared.form.Form.{Form}
 use Rattle.integer_form.specs.FloatPoint.{HasWide}
 use Rattle.int_search.specs.declared.answer.TwoBest.{TwoBest}
@@ -66,7 +66,13 @@ own_word128 x h = omega (arith, ints)
 pub rests : (s : Session) (budget : ℕ) (v : Verdict) → IsSearchedWithin s budget → RestsWithin s budget v
 rests s budget Certified h = h
 rests s budget (Not (cause.Weak column pivot)) h = tt
-rests s budget (Not (cause.Overwidth place)) h = tt
+rests s budget (Not (cause.Overwidth Y)) h = tt
+rests s budget (Not (cause.Overwidth Factor)) h = tt
+rests s budget (Not (cause.Overwidth Entry)) h = tt
+rests s budget (Not (cause.Overwidth Float)) h = h
+rests s budget (Not (cause.Overwidth Point)) h = tt
+rests s budget (Not (cause.Overwidth Search)) h = tt
+rests s budget (Not (cause.Overwidth Sum)) h = h
 rests s budget (Not cause.Spent) h = tt
 rests s budget (Not cause.Unseparated) h = h
 rests s budget (Not cause.Tail) h = h

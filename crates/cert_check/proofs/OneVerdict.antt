@@ -21,6 +21,7 @@ use Rattle.cert_data.specs.declared.verdicts.Cause.TheVariants as cause
 use Rattle.cert_check.specs.Decided.{Numbers, IsDecided, AreSame, Says}
 use Rattle.settled_decision.specs.Decided.{IsRefused}
 use Rattle.cert_check.specs.Verdicts.{HasBest, IsMoveWide, IsSumWide, IsWideAt, IsVerdictOf, IsGivenUp, IsSameVerdict}
+use Rattle.cert_check.specs.Visits.{RestsWithin}
 use Rattle.lower_form.proofs.Exponents.{has_exponent}
 use Rattle.lower_form.proofs.OneForm.{one_elimination, one_exponent}
 use Rattle.cert_check.proofs.SameForms.{same_form, same_best, same_move, one_decision, says_too}
@@ -74,15 +75,29 @@ same_refusal s why too a b =
     let same : one.0 ≡ two.0 = cc (one.1.0, two.1.0, whole) in
     one.1.1 ∙ ap told same ∙ sym two.1.1
 
+-- the elimination is refused for two places alone
+refused_place : (s : Session) (place : Place) → IsRefused s (fault.Overwidth place) → (place ≡ FactorPlace → ⊥) → (place ≡ Entry → ⊥) → ⊥
+refused_place s place a f g = let some = has_exponent (form_of a.normal) in let one = a.told some.0 some.1 in other_place place one.0 one.1.1 f g
+
 -- no form is refused for another place
 pub wide_refused : (s : Session) (budget : ℕ) (place : Place) → IsRefused s (fault.Overwidth place) → IsWideAt s budget place
 wide_refused s budget Y a = a
 wide_refused s budget FactorPlace a = a
 wide_refused s budget Entry a = a
-wide_refused s budget Float a = let some = has_exponent (form_of a.normal) in let one = a.told some.0 some.1 in absurd (other_place Float one.0 one.1.1 (λ e. absurd cc) (λ e. absurd cc))
+wide_refused s budget Float a = absurd (refused_place s Float a (λ e. absurd cc) (λ e. absurd cc))
 wide_refused s budget Point a = a
-wide_refused s budget Search a = let some = has_exponent (form_of a.normal) in let one = a.told some.0 some.1 in absurd (other_place Search one.0 one.1.1 (λ e. absurd cc) (λ e. absurd cc))
-wide_refused s budget Sum a = let some = has_exponent (form_of a.normal) in let one = a.told some.0 some.1 in absurd (other_place Sum one.0 one.1.1 (λ e. absurd cc) (λ e. absurd cc))
+wide_refused s budget Search a = absurd (refused_place s Search a (λ e. absurd cc) (λ e. absurd cc))
+wide_refused s budget Sum a = absurd (refused_place s Sum a (λ e. absurd cc) (λ e. absurd cc))
+
+-- and where it is, no search was
+pub rests_refused : (s : Session) (budget : ℕ) (place : Place) → IsRefused s (fault.Overwidth place) → RestsWithin s budget (Not (cause.Overwidth place))
+rests_refused s budget Y a = tt
+rests_refused s budget FactorPlace a = tt
+rests_refused s budget Entry a = tt
+rests_refused s budget Float a = absurd (refused_place s Float a (λ e. absurd cc) (λ e. absurd cc))
+rests_refused s budget Point a = tt
+rests_refused s budget Search a = tt
+rests_refused s budget Sum a = absurd (refused_place s Sum a (λ e. absurd cc) (λ e. absurd cc))
 
 -- a form that is refused is none
 no_form : (s : Session) (why : LowerFault) (f : Form) → IsRefused s why → IsFormOf s f → ⊥

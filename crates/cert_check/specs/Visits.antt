@@ -2,6 +2,7 @@
 use Rattle.std.specs.Prelude.{ℕ}
 use Rattle.obs_rows.specs.declared.sessions.Session.{Session}
 use Rattle.integer_form.specs.declared.form.Form.{Form}
+use Rattle.integer_form.specs.declared.faults.Place.TheVariants.{Float, Sum}
 use Rattle.int_search.specs.declared.answer.TwoBest.{TwoBest}
 use Rattle.int_search.specs.ReducedCounts.{KeepsBudget}
 use Rattle.cert_data.specs.declared.verdicts.Verdict.{Verdict}
@@ -19,6 +20,8 @@ pub record IsSearchedWithin (s : Session) (budget : ℕ) : Type 0 where
 -- so they are where the verdict rests on them
 abbrev pub RestsWithin : Session → ℕ → Verdict → Type 0
 RestsWithin s budget Certified = IsSearchedWithin s budget
+RestsWithin s budget (Not (cause.Overwidth Float)) = IsSearchedWithin s budget
+RestsWithin s budget (Not (cause.Overwidth Sum)) = IsSearchedWithin s budget
 RestsWithin s budget (Not cause.Unseparated) = IsSearchedWithin s budget
 RestsWithin s budget (Not cause.Tail) = IsSearchedWithin s budget
 RestsWithin s budget _ = Unit {0}

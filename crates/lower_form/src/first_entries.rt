@@ -1,17 +1,18 @@
 //! The entries of the first rounding of a normal matrix.
-ghost use Rattle.std.specs.Prelude.{◌≡◌, ◌+◌, ◌^◌, ◌<◌, ◌≤◌, pos, ◌-ℤ◌, ◌*ℤ◌, ◌<ℤ◌, ◌≤ℤ◌, unsigned_abs};
+ghost use Rattle.std.specs.Prelude.{◌≡◌, ◌+◌, ◌*◌, ◌^◌, ◌<◌, ◌≤◌, pos, ◌+ℤ◌, ◌-ℤ◌, ◌*ℤ◌, ◌<ℤ◌, ◌≤ℤ◌, unsigned_abs};
 ghost use Rattle.whole_math.specs.Rounding.{floor_div, nearest_div};
 ghost use Rattle.lower_form.specs.FirstRounding.{radius_at, own_bound as own_bound_of, first_entry as first_entry_of};
 
 use form_tables::{BASELINE_COLUMNS, MOST_COLUMNS};
 use normal_sum::Normal;
-use whole_math::{floor_shift, nearest};
+use whole_math::floor_shift;
 
 /// 63 · entry
 pub(crate) fn times_63(entry: i128) -> i128
     requires size { unsigned_abs entry < 2 ^ 120 }
     ensures value { result ≡ pos 63 *ℤ entry }
     ensures size { unsigned_abs result < 2 ^ 126 }
+    ensures most { unsigned_abs result ≤ 63 * 2 ^ 120 }
 {
     63 * entry
 }
@@ -68,20 +69,32 @@ fn own_rounded(entry: i128, h: u32, columns: usize) -> i128
 
 /// 2^exponent
 fn power_of_two(exponent: u32) -> i128
-    requires { exponent ≤ 76 }
+    requires { exponent ≤ 90 }
     ensures value { result ≡ pos (2 ^ exponent) }
+    ensures from { pos 0 ≤ℤ result }
+    ensures to { result ≤ℤ pos (2 ^ 90) }
 {
     1 << exponent
 }
 
-/// An entry off the diagonal over 2^h to the nearest.
-fn other_rounded(entry: i128, h: u32) -> i128
-    requires size { unsigned_abs entry < 2 ^ 126 }
-    requires few { h ≤ 76 }
-    ensures value { result ≡ nearest_div entry (2 ^ h) }
-    ensures size { unsigned_abs result < 2 ^ 126 + 2 ^ 115 }
+/// 2 · entry + unit
+fn twice_and_one(entry: i128, unit: i128) -> i128
+    requires size { unsigned_abs entry ≤ 63 * 2 ^ 120 }
+    requires from { pos 0 ≤ℤ unit }
+    requires to { unit ≤ℤ pos (2 ^ 90) }
+    ensures { result ≡ (pos 2 *ℤ entry) +ℤ unit }
 {
-    nearest(entry, power_of_two(h))
+    2 * entry + unit
+}
+
+/// entry / 2^shift to the nearest, and where two are as near the greater.
+pub fn nearest_shift(entry: i128, shift: u32) -> i128
+    requires size { unsigned_abs entry ≤ 63 * 2 ^ 120 }
+    requires few { shift ≤ 90 }
+    ensures value { result ≡ nearest_div entry (2 ^ shift) }
+    ensures size { unsigned_abs result ≤ unsigned_abs entry }
+{
+    floor_shift(twice_and_one(entry, power_of_two(shift)), shift + 1)
 }
 
 /// The entry in row r and column c.
@@ -95,6 +108,6 @@ pub(crate) fn first_entry(normal: &Normal, h: u32, r: usize, c: usize) -> i128
     if r == c {
         own_rounded(own_bound(normal, c), h, normal.columns)
     } else {
-        other_rounded(times_63(normal.c.at(r, c)), h)
+        nearest_shift(times_63(normal.c.at(r, c)), h)
     }
 }

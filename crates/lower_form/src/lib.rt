@@ -8,7 +8,8 @@
 //! in its order, and h is at most 77. The main clause stands on `front` and on `lower` (`bound`): for the rows of a
 //! pair or of a session whose normal matrix this is, for all data in the boxes of the rows, all integer vectors and
 //! all rational baselines, 64 times the sum of squares is at least 2^h times the value of the form at the integers.
-//! No call of these three crates takes memory.
+//! `exponent` is that power's exponent by itself, without the steps, and `nearest_shift` the rounding of an entry off the
+//! diagonal. No call of these three crates takes memory.
 #![tactic(auto)]
 
 mod first_entries;
@@ -17,6 +18,8 @@ mod fronts;
 mod rounding;
 
 pub use elimination::finish;
+pub use first_entries::nearest_shift;
 pub use forms::lower;
 pub use fronts::front;
 pub use integer_form::{Form, FrontForm, LowerFault, Overwidth, Place};
+pub use rounding::exponent;

@@ -49,7 +49,7 @@ pub(crate) fn exponent_of(greatest: i128) -> u32
 }
 
 /// The least h with 63 times each own entry of the matrix below 2^(50 + h).
-pub(crate) fn exponent(normal: &Normal) -> u32
+pub fn exponent(normal: &Normal) -> u32
     ensures least { IsExponent result (form_of normal.now) }
     ensures few { result ≤ 76 }
 {

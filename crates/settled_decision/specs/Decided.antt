@@ -43,16 +43,18 @@ pub record AreFound (s : Session) (form : Form) (budget h : ℕ) (moved : List �
   pub top_is : top ≡ top_of form.h s.arcs (fine_signals s.signals) s.pairs (first_of best) moved
   pub bounded : AreWide s.arcs (fine_signals s.signals) s.pairs (first_of best) moved → ⊥
 
--- the baseline of the least integers is too wide
-pub record IsBaselineWide (form : Form) : Type 0 where
+-- the baseline of the least integers, which are found within the budget, is too wide
+pub record IsBaselineWide (form : Form) (budget : ℕ) : Type 0 where
   pub best : TwoBest
   pub best_is : IsTwoBest form best
+  pub visits : KeepsBudget form budget best
   pub wide : HasWide (move_of form (first_of best))
 
--- the upper sum at the least integers is too wide
-pub record IsSumWide (s : Session) (form : Form) : Type 0 where
+-- the upper sum at the least integers, which are found within the budget, is too wide
+pub record IsSumWide (s : Session) (form : Form) (budget : ℕ) : Type 0 where
   pub best : TwoBest
   pub best_is : IsTwoBest form best
+  pub visits : KeepsBudget form budget best
   pub narrow : HasWide (move_of form (first_of best)) → ⊥
   pub wide : AreWide s.arcs (fine_signals s.signals) s.pairs (first_of best) (move_of form (first_of best))
 
@@ -71,7 +73,7 @@ IsDecision s form ratio budget (Fixed h moved best top) = AreFound s form budget
 IsDecision s form ratio budget (Unseparated h moved best top) = AreFound s form budget h moved best top × (IsSeparated (pos ratio) top best.p2 → ⊥)
 IsDecision s form ratio budget (Weak column pivot) = ⊥
 IsDecision s form ratio budget (Overwidth place) =
-    ((place ≡ Place.Search) × IsTooWide form budget) ⊎ (((place ≡ Place.Float) × IsBaselineWide form) ⊎ ((place ≡ Place.Sum) × IsSumWide s form))
+    ((place ≡ Place.Search) × IsTooWide form budget) ⊎ (((place ≡ Place.Float) × IsBaselineWide form budget) ⊎ ((place ≡ Place.Sum) × IsSumWide s form budget))
 IsDecision s form ratio budget (Unsettled entry) = ⊥
 IsDecision s form ratio budget (Spent spent) = (spent ≡ budget) × IsSpent form budget
 

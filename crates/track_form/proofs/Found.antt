@@ -67,14 +67,16 @@ told_best arcs ss pairs ratio budget h moves best top true found large from ther
 told_best arcs ss pairs ratio budget h moves best top false found large from there = tt
 
 -- an upper sum that is too wide
-pub sum_wide : (arcs : List Arc) (ss : List ℕ) (pairs : List PairRows) (moves : List (List ℤ)) (best : TwoBest) (fs : List FrontForm) (f : Form) → IsTrackForm arcs ss pairs fs f → IsTwoBest f best →
-    moves ≡ map (move_at (first_of best)) fs → All (λ m. HasWide m → ⊥) moves → IsSomeWide arcs ss (first_of best) pairs moves → IsSumWide arcs ss pairs
-sum_wide arcs ss pairs moves best fs f is two moves_are narrow some = record {
+pub sum_wide : (arcs : List Arc) (ss : List ℕ) (pairs : List PairRows) (budget : ℕ) (moves : List (List ℤ)) (best : TwoBest) (fs : List FrontForm) (f : Form) → IsTrackForm arcs ss pairs fs f →
+    IsTwoBest f best → KeepsBudget f budget best →
+    moves ≡ map (move_at (first_of best)) fs → All (λ m. HasWide m → ⊥) moves → IsSomeWide arcs ss (first_of best) pairs moves → IsSumWide arcs ss pairs budget
+sum_wide arcs ss pairs budget moves best fs f is two kept moves_are narrow some = record {
   fronts = fs;
   form = f;
   of_rows = is;
   best = best;
   best_is = two;
+  visits = kept;
   narrow = none_mapped HasWide (move_at (first_of best)) fs (subst (λ (ms : List (List ℤ)). All (λ m. HasWide m → ⊥) ms) moves_are narrow);
   place = some.place;
   inside = some.inside;
@@ -134,9 +136,9 @@ vectors_told arcs signals pairs ratio fs f best moves list slice top word second
     near apart = back (subst (λ (x : ℤ). IsSeparated (pos ratio) word x) (sym second_is) (subst (λ (x : ℤ). IsSeparated (pos ratio) x best.p2) (sym word_is) apart))
 
 -- one that ends with a number that is too large
-pub wide_told : (arcs : List Arc) (ss : List ℕ) (pairs : List PairRows) (ratio : ℕ) (place where_is : Place) → place ≡ where_is →
-    ((budget : ℕ) → IsTrackWideAt arcs ss pairs budget where_is) → (budget : ℕ) → IsTrackDecision arcs ss pairs ratio budget (Overwidth place)
-wide_told arcs ss pairs ratio place where_is same wide budget = subst (IsTrackWideAt arcs ss pairs budget) (sym same) (wide budget)
+pub wide_told : (arcs : List Arc) (ss : List ℕ) (pairs : List PairRows) (ratio budget : ℕ) (place where_is : Place) → place ≡ where_is → IsTrackWideAt arcs ss pairs budget where_is →
+    IsTrackDecision arcs ss pairs ratio budget (Overwidth place)
+wide_told arcs ss pairs ratio budget place where_is same wide = subst (IsTrackWideAt arcs ss pairs budget) (sym same) wide
 
 -- one that ends before there is a form
 pub refused_told : (arcs : List Arc) (ss : List ℕ) (pairs : List PairRows) (ratio budget : ℕ) (why : LowerFault) → IsFormRefused arcs ss pairs why →

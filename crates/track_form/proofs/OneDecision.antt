@@ -116,32 +116,34 @@ moves_found : (arcs : List Arc) (ss : List ℕ) (pairs : List PairRows) (budget 
 moves_found arcs ss pairs budget h moves best top a = record { fronts = a.fronts; form = a.form; of_rows = a.of_rows; h_is = a.h_is; best_is = a.best_is; moves_are = a.moves_are }
 
 -- the moves where one is too wide
-moves_wide : (arcs : List Arc) (ss : List ℕ) (pairs : List PairRows) (a : IsMoveWide arcs ss pairs) → HaveMoves arcs ss pairs a.form.h a.best (map (move_at (first_of a.best)) a.fronts)
-moves_wide arcs ss pairs a = record { fronts = a.fronts; form = a.form; of_rows = a.of_rows; h_is = refl; best_is = a.best_is; moves_are = refl }
+moves_wide : (arcs : List Arc) (ss : List ℕ) (pairs : List PairRows) (budget : ℕ) (a : IsMoveWide arcs ss pairs budget) →
+    HaveMoves arcs ss pairs a.form.h a.best (map (move_at (first_of a.best)) a.fronts)
+moves_wide arcs ss pairs budget a = record { fronts = a.fronts; form = a.form; of_rows = a.of_rows; h_is = refl; best_is = a.best_is; moves_are = refl }
 
 -- and where an upper sum is
-moves_summed : (arcs : List Arc) (ss : List ℕ) (pairs : List PairRows) (a : IsSumWide arcs ss pairs) → HaveMoves arcs ss pairs a.form.h a.best (map (move_at (first_of a.best)) a.fronts)
-moves_summed arcs ss pairs a = record { fronts = a.fronts; form = a.form; of_rows = a.of_rows; h_is = refl; best_is = a.best_is; moves_are = refl }
+moves_summed : (arcs : List Arc) (ss : List ℕ) (pairs : List PairRows) (budget : ℕ) (a : IsSumWide arcs ss pairs budget) →
+    HaveMoves arcs ss pairs a.form.h a.best (map (move_at (first_of a.best)) a.fronts)
+moves_summed arcs ss pairs budget a = record { fronts = a.fronts; form = a.form; of_rows = a.of_rows; h_is = refl; best_is = a.best_is; moves_are = refl }
 
 -- ---- what can't be together
 -- a move that is too wide isn't another time narrow
-no_move : (arcs : List Arc) (ss : List ℕ) (pairs : List PairRows) (h : ℕ) (best : TwoBest) (moves : List (List ℤ)) → IsMoveWide arcs ss pairs → HaveMoves arcs ss pairs h best moves →
+no_move : (arcs : List Arc) (ss : List ℕ) (pairs : List PairRows) (budget h : ℕ) (best : TwoBest) (moves : List (List ℤ)) → IsMoveWide arcs ss pairs budget → HaveMoves arcs ss pairs h best moves →
     All (λ m. HasWide m → ⊥) moves → ⊥
-no_move arcs ss pairs h best moves a b narrow =
+no_move arcs ss pairs budget h best moves a b narrow =
     let wide : List (List ℤ) = map (move_at (first_of a.best)) a.fronts in
-    let same : SameMoves a.form.h h a.best best wide moves = one_moves arcs ss pairs a.form.h h a.best best wide moves (moves_wide arcs ss pairs a) b in
+    let same : SameMoves a.form.h h a.best best wide moves = one_moves arcs ss pairs a.form.h h a.best best wide moves (moves_wide arcs ss pairs budget a) b in
     not_all_and_any HasWide moves narrow (subst (λ (ms : List (List ℤ)). Any HasWide ms) same.moves_are (any_mapped HasWide (move_at (first_of a.best)) a.fronts a.wide))
 
-sum_narrow : (arcs : List Arc) (ss : List ℕ) (pairs : List PairRows) (a : IsSumWide arcs ss pairs) → All (λ m. HasWide m → ⊥) (map (move_at (first_of a.best)) a.fronts)
-sum_narrow arcs ss pairs a = All-map (λ m. HasWide m → ⊥) (move_at (first_of a.best)) a.fronts a.narrow
+sum_narrow : (arcs : List Arc) (ss : List ℕ) (pairs : List PairRows) (budget : ℕ) (a : IsSumWide arcs ss pairs budget) → All (λ m. HasWide m → ⊥) (map (move_at (first_of a.best)) a.fronts)
+sum_narrow arcs ss pairs budget a = All-map (λ m. HasWide m → ⊥) (move_at (first_of a.best)) a.fronts a.narrow
 
 -- nor is an upper sum
-no_sum : (arcs : List Arc) (ss : List ℕ) (pairs : List PairRows) (budget h : ℕ) (moves : List (List ℤ)) (best : TwoBest) (top : ℤ) → IsSumWide arcs ss pairs →
+no_sum : (arcs : List Arc) (ss : List ℕ) (pairs : List PairRows) (budget h : ℕ) (moves : List (List ℤ)) (best : TwoBest) (top : ℤ) → IsSumWide arcs ss pairs budget →
     AreFound arcs ss pairs budget h moves best top → ⊥
 no_sum arcs ss pairs budget h moves best top a b =
     let wide : List (List ℤ) = map (move_at (first_of a.best)) a.fronts in
     let same : SameMoves a.form.h h a.best best wide moves =
-    one_moves arcs ss pairs a.form.h h a.best best wide moves (moves_summed arcs ss pairs a) (moves_found arcs ss pairs budget h moves best top b) in
+    one_moves arcs ss pairs a.form.h h a.best best wide moves (moves_summed arcs ss pairs budget a) (moves_found arcs ss pairs budget h moves best top b) in
     let W : List ℤ → List ℤ → PairRows → Type 0 = IsWide arcs ss in
     not_mapped (W (first_of best)) (move_at (first_of a.best)) pairs a.fronts a.place a.inside
     (subst (λ (ms : List (List ℤ)). AllZip (λ p m. W (first_of best) m p → ⊥) pairs ms) (sym same.moves_are) b.bounded)
@@ -164,8 +166,8 @@ one_found arcs ss pairs budget h k moves others best other top over a b =
 data Ends (arcs : List Arc) (ss : List ℕ) (pairs : List PairRows) (ratio budget : ℕ) (t : TrackTail) : Type 0 where
   given_up : HasGivenUp t → Ends arcs ss pairs ratio budget t
   refused : (why : LowerFault) → IsFormRefused arcs ss pairs why → t ≡ track_tail_of why → Ends arcs ss pairs ratio budget t
-  wide_move : IsMoveWide arcs ss pairs → t ≡ Overwidth Float → Ends arcs ss pairs ratio budget t
-  wide_sum : IsSumWide arcs ss pairs → t ≡ Overwidth Sum → Ends arcs ss pairs ratio budget t
+  wide_move : IsMoveWide arcs ss pairs budget → t ≡ Overwidth Float → Ends arcs ss pairs ratio budget t
+  wide_sum : IsSumWide arcs ss pairs budget → t ≡ Overwidth Sum → Ends arcs ss pairs ratio budget t
   fixed : (h : ℕ) (moves : List (List ℤ)) (best : TwoBest) (top : ℤ) → AreFound arcs ss pairs budget h moves best top → IsSeparated (pos ratio) top best.p2 → t ≡ Fixed h moves best top →
       Ends arcs ss pairs ratio budget t
   near : (h : ℕ) (moves : List (List ℤ)) (best : TwoBest) (top : ℤ) → AreFound arcs ss pairs budget h moves best top → (IsSeparated (pos ratio) top best.p2 → ⊥) →
@@ -218,18 +220,18 @@ pair_up arcs ss pairs r n t u (refused why a is) (near h ms two top b close is_t
 pair_up arcs ss pairs r n t u (wide_move a is) (given_up b) = inr (inr b)
 pair_up arcs ss pairs r n t u (wide_move a is) (refused why b is_too) = absurd (none_refused arcs ss pairs why a.fronts a.form b a.of_rows)
 pair_up arcs ss pairs r n t u (wide_move a is) (wide_move b is_too) = equal t u (Overwidth Float) is is_too
-pair_up arcs ss pairs r n t u (wide_move a is) (wide_sum b is_too) = absurd (no_move arcs ss pairs b.form.h b.best _ a (moves_summed arcs ss pairs b) (sum_narrow arcs ss pairs b))
-pair_up arcs ss pairs r n t u (wide_move a is) (fixed h ms two top b far is_too) = absurd (no_move arcs ss pairs h two ms a (moves_found arcs ss pairs n h ms two top b) b.narrow)
-pair_up arcs ss pairs r n t u (wide_move a is) (near h ms two top b close is_too) = absurd (no_move arcs ss pairs h two ms a (moves_found arcs ss pairs n h ms two top b) b.narrow)
+pair_up arcs ss pairs r n t u (wide_move a is) (wide_sum b is_too) = absurd (no_move arcs ss pairs n b.form.h b.best _ a (moves_summed arcs ss pairs n b) (sum_narrow arcs ss pairs n b))
+pair_up arcs ss pairs r n t u (wide_move a is) (fixed h ms two top b far is_too) = absurd (no_move arcs ss pairs n h two ms a (moves_found arcs ss pairs n h ms two top b) b.narrow)
+pair_up arcs ss pairs r n t u (wide_move a is) (near h ms two top b close is_too) = absurd (no_move arcs ss pairs n h two ms a (moves_found arcs ss pairs n h ms two top b) b.narrow)
 pair_up arcs ss pairs r n t u (wide_sum a is) (given_up b) = inr (inr b)
 pair_up arcs ss pairs r n t u (wide_sum a is) (refused why b is_too) = absurd (none_refused arcs ss pairs why a.fronts a.form b a.of_rows)
-pair_up arcs ss pairs r n t u (wide_sum a is) (wide_move b is_too) = absurd (no_move arcs ss pairs a.form.h a.best _ b (moves_summed arcs ss pairs a) (sum_narrow arcs ss pairs a))
+pair_up arcs ss pairs r n t u (wide_sum a is) (wide_move b is_too) = absurd (no_move arcs ss pairs n a.form.h a.best _ b (moves_summed arcs ss pairs n a) (sum_narrow arcs ss pairs n a))
 pair_up arcs ss pairs r n t u (wide_sum a is) (wide_sum b is_too) = equal t u (Overwidth Sum) is is_too
 pair_up arcs ss pairs r n t u (wide_sum a is) (fixed h ms two top b far is_too) = absurd (no_sum arcs ss pairs n h ms two top a b)
 pair_up arcs ss pairs r n t u (wide_sum a is) (near h ms two top b close is_too) = absurd (no_sum arcs ss pairs n h ms two top a b)
 pair_up arcs ss pairs r n t u (fixed h ms two top a far is) (given_up b) = inr (inr b)
 pair_up arcs ss pairs r n t u (fixed h ms two top a far is) (refused why b is_too) = absurd (none_refused arcs ss pairs why a.fronts a.form b a.of_rows)
-pair_up arcs ss pairs r n t u (fixed h ms two top a far is) (wide_move b is_too) = absurd (no_move arcs ss pairs h two ms b (moves_found arcs ss pairs n h ms two top a) a.narrow)
+pair_up arcs ss pairs r n t u (fixed h ms two top a far is) (wide_move b is_too) = absurd (no_move arcs ss pairs n h two ms b (moves_found arcs ss pairs n h ms two top a) a.narrow)
 pair_up arcs ss pairs r n t u (fixed h ms two top a far is) (wide_sum b is_too) = absurd (no_sum arcs ss pairs n h ms two top b a)
 pair_up arcs ss pairs r n t u (fixed h ms two top a far is) (fixed k ns other over b far_too is_too) =
     alike t u (Fixed h ms two top) (Fixed k ns other over) is is_too (one_found arcs ss pairs n h k ms ns two other top over a b)
@@ -237,7 +239,7 @@ pair_up arcs ss pairs r n t u (fixed h ms two top a far is) (near k ns other ove
     absurd (close (as_far r h k ms ns two other top over (one_found arcs ss pairs n h k ms ns two other top over a b) far))
 pair_up arcs ss pairs r n t u (near h ms two top a close is) (given_up b) = inr (inr b)
 pair_up arcs ss pairs r n t u (near h ms two top a close is) (refused why b is_too) = absurd (none_refused arcs ss pairs why a.fronts a.form b a.of_rows)
-pair_up arcs ss pairs r n t u (near h ms two top a close is) (wide_move b is_too) = absurd (no_move arcs ss pairs h two ms b (moves_found arcs ss pairs n h ms two top a) a.narrow)
+pair_up arcs ss pairs r n t u (near h ms two top a close is) (wide_move b is_too) = absurd (no_move arcs ss pairs n h two ms b (moves_found arcs ss pairs n h ms two top a) a.narrow)
 pair_up arcs ss pairs r n t u (near h ms two top a close is) (wide_sum b is_too) = absurd (no_sum arcs ss pairs n h ms two top b a)
 pair_up arcs ss pairs r n t u (near h ms two top a close is) (fixed k ns other over b far is_too) =
     absurd (close (as_far r k h ns ms other two over top (one_found arcs ss pairs n k h ns ms other two over top b a) far))

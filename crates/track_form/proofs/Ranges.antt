@@ -1,5 +1,5 @@
 -- The ranges of the numbers of a track's decision.
-use Rattle.std.proofs.Common.{◌≡◌, ℕ, suc, ◌+◌, ◌-◌, ◌*◌, ◌^◌, ◌<◌, ◌≤◌, List, length, map, get_or, All, ℤ, pos, neg_ℤ, ◌≤ℤ◌, ◌<ℤ◌, arith, sym, ◌∙◌, subst}
+use Rattle.std.proofs.Common.{◌≡◌, ℕ, suc, ◌+◌, ◌-◌, ◌*◌, ◌^◌, ◌≤◌, List, length, map, get_or, All, ℤ, pos, neg_ℤ, ◌≤ℤ◌, ◌<ℤ◌, arith, sym, ◌∙◌, subst}
 use Rattle.std.proofs.lemmas.Int.{ints}
 use Rattle.std.proofs.lemmas.List.{length-map}
 use Rattle.std.proofs.lemmas.Slice.Zip.{AllZip-long}

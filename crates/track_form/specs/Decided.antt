@@ -36,8 +36,8 @@ pub record IsSearchEnded (arcs : List Arc) (ss : List ℕ) (pairs : List PairRow
 -- the decision ends with a number that is too large there
 abbrev pub IsTrackWideAt : List Arc → List ℕ → List PairRows → ℕ → Place → Type 0
 IsTrackWideAt arcs ss pairs budget Search = IsSearchEnded arcs ss pairs budget IsTooWide
-IsTrackWideAt arcs ss pairs budget Float = IsMoveWide arcs ss pairs
-IsTrackWideAt arcs ss pairs budget Sum = IsSumWide arcs ss pairs
+IsTrackWideAt arcs ss pairs budget Float = IsMoveWide arcs ss pairs budget
+IsTrackWideAt arcs ss pairs budget Sum = IsSumWide arcs ss pairs budget
 IsTrackWideAt arcs ss pairs budget place = IsFormRefused arcs ss pairs (fault.Overwidth place)
 
 -- The decision, in its order: the fronts of the pairs, the finish of their sum, the search, the moves, the upper sums, the ratio

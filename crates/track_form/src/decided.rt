@@ -9,6 +9,7 @@ ghost use Rattle.fix_decide.specs.Decisions.{first_of};
 ghost use Rattle.track_data.specs.TrackTails.{IsTrackTailOf};
 ghost use Rattle.track_data.specs.declared.tails.TrackTail.{TrackTail};
 ghost use Rattle.track_sum.specs.PairFronts.{move_at};
+ghost use Rattle.track_sum.specs.Factors.{AreFactors};
 ghost use Rattle.track_sum.specs.Decided.{IsTrackForm};
 ghost use Rattle.track_form.specs.Decided.{IsTrackDecision, IsTrackBestWhereFixed, IsSameDecision, track_tail_of};
 
@@ -19,7 +20,7 @@ use integer_form::{Form, LowerFault, Place};
 use settled_decision::values_from;
 use std::alloc::{AllocError, Global};
 use track_data::{Items, Track, TrackTail};
-use track_sum::{form_of_track, moves_at};
+use track_sum::{PairFactors, form_of_track, moves_at};
 
 /// A refusal as a tail.
 fn track_tail_of(fault: LowerFault) -> TrackTail
@@ -64,10 +65,12 @@ fn decide_best(
     alloc: Global,
     track: &Track,
     form: &Form,
+    factors: &[PairFactors],
     best: &TwoBest,
     ratio: u32,
 ) -> Result<TrackTail, AllocError>
     requires form { (fs : List FrontForm) × IsTrackForm track.now.arcs (fine_signals track.now.signals) track.now.pairs fs form.now }
+    requires factors { AreFactors track.now.arcs (fine_signals track.now.signals) track.now.pairs factors.now }
     requires best { IsTwoBest form.now best.now }
     requires ratio_from { 1000 ≤ ratio }
     requires ratio_to { ratio ≤ 100_000 }
@@ -75,10 +78,8 @@ fn decide_best(
     ensures strictly_best { IfOk result (λ t. (budget : ℕ) → KeepsBudget form.now budget best.now → IsTrackBestWhereFixed track.now.arcs (fine_signals track.now.signals) track.now.pairs t) }
     ensures fits { IfOk result (λ t. (budget : ℕ) → IsTrackTailOf (fine_signals track.now.signals) track.now.arcs track.now.pairs budget t) }
 {
-    let arcs = track.arcs.as_slice();
-    let pairs = track.pairs.as_slice();
     let first = &best.first[..best.size];
-    match moves_at(alloc, arcs, track.signals, pairs, first)? {
+    match moves_at(alloc, factors, first)? {
         Ok(moves) => Ok(decide_moved(track, form, best, moves, ratio)),
         Err(wide) => Ok(TrackTail::Overwidth { place: wide.place }),
     }
@@ -109,12 +110,13 @@ pub fn decide_track(
 {
     let arcs = track.arcs.as_slice();
     let pairs = track.pairs.as_slice();
-    let form = match form_of_track(arcs, track.signals, pairs) {
-        Ok(form) => form,
+    let made = match form_of_track(alloc, arcs, track.signals, pairs)? {
+        Ok(made) => made,
         Err(fault) => return Ok(track_tail_of(fault)),
     };
-    match two_best(&form, budget) {
-        Ok(best) => decide_best(alloc, track, &form, &best, ratio),
+    let form = &made.form;
+    match two_best(form, budget) {
+        Ok(best) => decide_best(alloc, track, form, made.factors.as_slice(), &best, ratio),
         Err(SearchFault::Spent) => Ok(TrackTail::Spent { budget }),
         Err(SearchFault::Overwidth) => Ok(TrackTail::Overwidth {
             place: Place::Search,

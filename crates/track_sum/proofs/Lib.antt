@@ -4,9 +4,10 @@ pub mod Bounds
 pub mod Decision
 pub mod Best
 pub mod OneFront
+pub mod KeptFactors
 pub mod TrackEntries
 pub mod FrontLists
 pub mod OneForm
-pub mod SummedFronts
+pub mod SumTables
 mod Results
 pub mod StrictlyBest

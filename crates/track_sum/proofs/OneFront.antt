@@ -1,5 +1,5 @@
 -- The rows of a pair have one front.
-use Rattle.std.proofs.Common.{◌≡◌, ℕ, suc, ◌-◌, ◌<◌, Ok, List, [], ◌∷◌, length, get_or, arith, sym, ap, ◌∙◌, subst}
+use Rattle.std.proofs.Common.{◌≡◌, ℕ, ◌-◌, Ok, List, [], ◌∷◌, sym, ap, ◌∙◌, subst}
 use Rattle.quadratic_form.specs.Forms.{Column}
 use Rattle.quadratic_form.specs.Elimination.{Factor}
 use Rattle.quadratic_form.specs.Lowering.{IsExponent}
@@ -13,7 +13,7 @@ use Rattle.integer_form.specs.Kept.{form_of_table}
 use Rattle.lower_form.specs.Fronts.{front_of}
 use Rattle.lower_form.proofs.Exponents.{exponent_unique}
 use Rattle.lower_form.proofs.OneForm.{same_normal, same_front, one_exponent}
-use Rattle.track_sum.specs.PairFronts.{IsFrontOfPair, IsRefusedPair, HasFront, AreFronts}
+use Rattle.track_sum.specs.PairFronts.{IsFrontOfPair, IsRefusedPair}
 
 pub record SameFront (f g : FrontForm) : Type 0 where
   pub h : f.h ≡ g.h
@@ -45,12 +45,3 @@ no_front arcs ss p why f a b =
     let is = a.told f.h serves in
     let whole = same_front f.h b.normal a.normal same in
     absurd (cc (is.1.0, whole, b.front.taken))
-
--- the fronts of the single pairs as a list
-pub fronts_listed : (arcs : List Arc) (ss : List ℕ) (pairs : List PairRows) → ((k : ℕ) → k < length pairs → (d : PairRows) → HasFront arcs ss (get_or pairs k d)) →
-    (fs : List FrontForm) × AreFronts arcs ss pairs fs
-fronts_listed arcs ss [] h = ([], tt)
-fronts_listed arcs ss (p ∷ ps) h =
-    let first = h 0 (omega arith) p in
-    let rest = fronts_listed arcs ss ps (λ k l d. h (suc k) (omega arith) d) in
-    (first.0 ∷ rest.0, (first.1, rest.1))

@@ -1,6 +1,7 @@
 -- Where a track's second value is far enough above the upper sum, the least integers with the moves are strictly best.
 use Rattle.std.proofs.Common.{◌≡◌, ℕ, ◌+◌, ◌-◌, ◌≤◌, Bool, true, false, Result, Ok, Err, List, [], ◌∷◌, length, map, get_or, All, ℤ, pos, ◌+ℤ◌, ◌≤ℤ◌, arith, sym, ap, ap₂, ◌∙◌, subst}
 use Rattle.std.specs.List.{AllZip}
+use Rattle.std.proofs.lemmas.Slice.Zip.{AllZip-long}
 use Rattle.whole_math.specs.Vectors.{len}
 use Rattle.whole_math.proofs.Vectors.{len_is}
 use Rattle.whole_math.proofs.Order.{lins}
@@ -88,6 +89,7 @@ pub track_strictly_best : (arcs : List Arc) (ss : List ℕ) (pairs : List PairRo
     1000 ≤ ratio → pos 0 ≤ℤ top → IsSeparated (pos ratio) top best.p2 → IsStrictlyBest arcs ss pairs (first_of best) moves
 track_strictly_best arcs ss pairs ratio budget h moves best top found large from far = record {
   entries = entries;
+  move_each = AllZip-long (λ p m. IsWide arcs ss z1 m p → ⊥) pairs moves found.bounded;
   best = track_best (pair_sum arcs ss) (IsPairData ss) n h pairs (map brief found.fronts) (map moved moves) us (pos ratio) z1 z2 over one_more least (at_least ratio large) top_from separated
       (bounded_each arcs ss n z1 pairs found.fronts order entries sum.of_pairs) (above_each arcs ss z1 pairs moves entries found.bounded);
 }

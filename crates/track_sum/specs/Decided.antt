@@ -70,22 +70,24 @@ pub record AreFound (arcs : List Arc) (ss : List ℕ) (pairs : List PairRows) (b
   pub bounded : AllZip (λ p m. IsWide arcs ss (first_of best) m p → ⊥) pairs moves
   pub top_is : top ≡ track_top h (pair_uppers arcs ss (first_of best) pairs moves)
 
--- the baseline of some pair is too wide at the least integers
-pub record IsMoveWide (arcs : List Arc) (ss : List ℕ) (pairs : List PairRows) : Type 0 where
+-- the baseline of some pair is too wide at the least integers, which are found within the budget
+pub record IsMoveWide (arcs : List Arc) (ss : List ℕ) (pairs : List PairRows) (budget : ℕ) : Type 0 where
   pub fronts : List FrontForm
   pub form : Form
   pub of_rows : IsTrackForm arcs ss pairs fronts form
   pub best : TwoBest
   pub best_is : IsTwoBest form best
+  pub visits : KeepsBudget form budget best
   pub wide : Any (λ f. HasWide (move_at (first_of best) f)) fronts
 
 -- none is, and the upper sum of some pair is too wide
-pub record IsSumWide (arcs : List Arc) (ss : List ℕ) (pairs : List PairRows) : Type 0 where
+pub record IsSumWide (arcs : List Arc) (ss : List ℕ) (pairs : List PairRows) (budget : ℕ) : Type 0 where
   pub fronts : List FrontForm
   pub form : Form
   pub of_rows : IsTrackForm arcs ss pairs fronts form
   pub best : TwoBest
   pub best_is : IsTwoBest form best
+  pub visits : KeepsBudget form budget best
   pub narrow : All (λ f. HasWide (move_at (first_of best) f) → ⊥) fronts
   pub place : ℕ
   pub inside : place < length pairs
@@ -99,8 +101,9 @@ pair_sum arcs ss p observed z b = sum_of_squares arcs ss (p ∷ []) z b (observe
 abbrev pub IsPairData : List ℕ → PairRows → List Observed → Type 0
 IsPairData ss p observed = AreData ss (p ∷ []) (observed ∷ [])
 
--- z has one entry for each free arc and phase, and for all data every other such vector, of whole numbers of any size, with any
--- list of rational baselines, one for each pair, has a greater sum of squares than z with these moves
+-- z has one entry for each free arc and phase, and there is one move for each pair. For all data every other such vector, of whole
+-- numbers of any size, with any list of rational baselines, one for each pair, has a greater sum of squares than z with these moves
 pub record IsStrictlyBest (arcs : List Arc) (ss : List ℕ) (pairs : List PairRows) (z : List ℤ) (moves : List (List ℤ)) : Type 0 where
   pub entries : length z ≡ integer_count arcs ss
+  pub move_each : length moves ≡ length pairs
   pub best : IsTrackBest (pair_sum arcs ss) (IsPairData ss) pairs z (map moved moves)

@@ -1,5 +1,5 @@
 -- The fronts of the rows of pairs, each pair by itself.
-use Rattle.std.specs.Prelude.{◌≡◌, ℕ, ◌<◌, List, [], ◌∷◌, length, ℤ, get_or}
+use Rattle.std.specs.Prelude.{ℕ, ◌<◌, List, [], ◌∷◌, length, ℤ, get_or}
 use Rattle.std.specs.List.{AllZip}
 use Rattle.quadratic_form.specs.Lowering.{IsExponent}
 use Rattle.obs_rows.specs.declared.arcs.Arc.{Arc}
@@ -48,7 +48,3 @@ brief f = record { h = f.h; at = entry f.p }
 -- the baseline of a pair at the integers z, as a move in 2^-5 ι
 abbrev pub move_at : List ℤ → FrontForm → List ℤ
 move_at z f = baseline_at f.d f.l f.columns z
-
--- by the front of the pair's own rows
-abbrev pub IsMoveOfPair : List Arc → List ℕ → List ℤ → PairRows → List ℤ → Type 0
-IsMoveOfPair arcs ss z p m = (f : FrontForm) → IsFrontOfPair arcs ss p f → m ≡ move_at z f

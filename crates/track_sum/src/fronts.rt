@@ -8,9 +8,9 @@ ghost use Rattle.obs_rows.specs.Signals.{fine_signals};
 ghost use Rattle.integer_form.specs.declared.front_form.FrontForm.{FrontForm};
 ghost use Rattle.integer_form.specs.Kept.{form_of_table};
 ghost use Rattle.lower_form.specs.Fronts.{BoundsAllData};
-ghost use Rattle.track_sum.specs.PairFronts.{IsFrontOfPair, IsRefusedPair, HasFront, IsFirstRefused};
+ghost use Rattle.track_sum.specs.PairFronts.{IsFrontOfPair, IsRefusedPair};
 
-use lower_form::{FrontForm, LowerFault, front};
+use lower_form::{FrontForm, LowerFault, exponent, front};
 use normal_sum::sum_pair;
 use obs_rows::{Arc, PairRows, Signals};
 
@@ -26,43 +26,31 @@ pub fn pair_front(arcs: &[Arc], signals: Signals, pair: &PairRows) -> Result<Fro
     front(&sum_pair(arcs, signals, 0, pair))
 }
 
-/// The front of the rows of a pair that has one.
-pub(crate) fn known_front(arcs: &[Arc], signals: Signals, pair: &PairRows) -> FrontForm
+/// The exponent of the front of a pair's rows, if they have one.
+fn pair_exponent(arcs: &[Arc], signals: Signals, pair: &PairRows) -> u32
     requires arcs { HasItsArcs arcs.now pair.now }
     requires free { free_count arcs.now ≤ MOST_FREE_ARCS }
-    requires has { HasFront arcs.now (fine_signals signals) pair.now }
-    ensures front { IsFrontOfPair arcs.now (fine_signals signals) pair.now result }
+    ensures exponent { (f : FrontForm) → IsFrontOfPair arcs.now (fine_signals signals) pair.now f → f.h ≡ result }
+    ensures few { result ≤ 77 }
 {
-    match pair_front(arcs, signals, pair) {
-        Ok(front) => front,
-        Err(_) => unreachable!(),
-    }
+    exponent(&sum_pair(arcs, signals, 0, pair))
 }
 
-/// The greatest exponent of the fronts of pairs, and 0 of none. Refused as the first pair that has no front.
-pub(crate) fn greatest_exponent(
-    arcs: &[Arc],
-    signals: Signals,
-    pairs: &[PairRows],
-) -> Result<u32, LowerFault>
+/// The greatest exponent of the fronts of pairs, and 0 of none. It is that of the matrices, so no front is made for it.
+pub(crate) fn greatest_exponent(arcs: &[Arc], signals: Signals, pairs: &[PairRows]) -> u32
     requires arcs { All (HasItsArcs arcs.now) pairs.now }
     requires free { free_count arcs.now ≤ MOST_FREE_ARCS }
-    ensures fronts { IfOk result (λ h. (k : ℕ) → k < length pairs.now → (d : PairRows) → HasFront arcs.now (fine_signals signals) (get_or pairs.now k d)) }
-    ensures above { IfOk result (λ h. (k : ℕ) → k < length pairs.now → (d : PairRows) (f : FrontForm) → IsFrontOfPair arcs.now (fine_signals signals) (get_or pairs.now k d) f → f.h ≤ h) }
-    ensures attained { IfOk result (λ h. 1 ≤ length pairs.now → (k : ℕ) × ((k < length pairs.now) × ((d : PairRows) (f : FrontForm) → IsFrontOfPair arcs.now (fine_signals signals) (get_or pairs.now k d) f → f.h ≡ h))) }
-    ensures few { IfOk result (λ h. h ≤ 77) }
-    ensures refused { IfErr result (IsFirstRefused arcs.now (fine_signals signals) pairs.now) }
+    ensures above { (k : ℕ) → k < length pairs.now → (d : PairRows) (f : FrontForm) → IsFrontOfPair arcs.now (fine_signals signals) (get_or pairs.now k d) f → f.h ≤ result }
+    ensures attained { 1 ≤ length pairs.now →
+        (k : ℕ) × ((k < length pairs.now) × ((d : PairRows) (f : FrontForm) → IsFrontOfPair arcs.now (fine_signals signals) (get_or pairs.now k d) f → f.h ≡ result)) }
+    ensures few { result ≤ 77 }
 {
     let mut greatest = 0;
     for pair in pairs {
-        match pair_front(arcs, signals, pair) {
-            Ok(front) => {
-                if front.h > greatest {
-                    greatest = front.h;
-                }
-            }
-            Err(fault) => return Err(fault),
+        let h = pair_exponent(arcs, signals, pair);
+        if h > greatest {
+            greatest = h;
         }
     }
-    Ok(greatest)
+    greatest
 }

@@ -7,7 +7,8 @@ ghost use Rattle.track_sum.specs.Parts.{part_at};
 
 use form_tables::{BASELINE_COLUMNS, MOST_FORM_COLUMNS, NormalTable};
 use integer_form::FrontForm;
-use whole_math::{floor_shift, nearest};
+use lower_form::nearest_shift;
+use whole_math::floor_shift;
 
 /// The least e with 2^e at least twice this number.
 pub(crate) fn least_power(count: usize) -> u32
@@ -23,14 +24,6 @@ pub(crate) fn least_power(count: usize) -> u32
         power *= 2;
     }
     e
-}
-
-/// 2^exponent
-fn power_of_two(exponent: u32) -> i128
-    requires { exponent ≤ 90 }
-    ensures value { result ≡ pos (2 ^ exponent) }
-{
-    1 << exponent
 }
 
 /// An own entry over 2^shift downward, less the order of the form.
@@ -49,7 +42,7 @@ fn other_part(entry: i64, shift: u32) -> i128
     ensures value { result ≡ nearest_div entry (2 ^ shift) }
     ensures size { unsigned_abs result ≤ 2 ^ 64 }
 {
-    nearest(entry as i128, power_of_two(shift))
+    nearest_shift(entry as i128, shift)
 }
 
 /// What a pair adds to the entry in row r and column c.

@@ -1,4 +1,4 @@
-//! The fronts of all pairs, brought over one power of two and added, and the form that they leave.
+//! The fronts of all pairs, brought over one power of two and added, and the form that they leave. Each is made once.
 ghost use Rattle.std.specs.Prelude.{◌≡◌, ◌≢◌, ◌⊎◌, ℕ, ◌+◌, ◌-◌, ◌*◌, ◌^◌, ◌<◌, ◌≤◌, List, length, map, get_or, All, IfOk, IfErr, ◌+ℤ◌, unsigned_abs};
 ghost use Rattle.obs_rows.specs.declared.pair_rows.PairRows.{PairRows};
 ghost use Rattle.obs_rows.specs.declared.units.TheConstants.{MOST_FREE_ARCS};
@@ -9,17 +9,22 @@ ghost use Rattle.obs_rows.specs.Integers.{integer_count};
 ghost use Rattle.form_tables.specs.Tables.{entry, zero_rows};
 ghost use Rattle.form_tables.specs.declared.sizes.TheConstants.{MOST_COLUMNS};
 ghost use Rattle.integer_form.specs.declared.front_form.FrontForm.{FrontForm};
+ghost use Rattle.integer_form.specs.Told.{IsToldAs};
+ghost use Rattle.elimination.specs.Finish.{IsFinishOf, finish_of};
 ghost use Rattle.track_sum.specs.Fronts.{track_entry};
 ghost use Rattle.track_sum.specs.Parts.{part_at};
-ghost use Rattle.track_sum.specs.PairFronts.{IsFrontOfPair, HasFront, AreFronts, IsFirstRefused, brief};
+ghost use Rattle.track_sum.specs.PairFronts.{IsFrontOfPair, AreFronts, IsFirstRefused, brief};
+ghost use Rattle.track_sum.specs.Factors.{AreFactors};
 ghost use Rattle.track_sum.specs.Decided.{IsSumOfFronts, IsTrackForm, IsFinishRefused};
 
-use crate::fronts::{greatest_exponent, known_front};
+use crate::factors::PairFactors;
+use crate::fronts::{greatest_exponent, pair_front};
 use crate::parts::{least_power, part};
 use elimination::form_table;
 use form_tables::{BASELINE_COLUMNS, NormalTable};
 use lower_form::{Form, FrontForm, LowerFault, finish};
 use obs_rows::{Arc, PairRows, Signals, fine_signals, integer_count};
+use std::alloc::{AllocError, Global};
 
 /// sum + part
 fn plus(sum: i128, part: i128) -> i128
@@ -74,67 +79,120 @@ fn add_front(table: &mut NormalTable, front: &FrontForm, shift: u32)
     }
 }
 
-/// Adds what all pairs add to the form over 2^h, behind the baseline's columns, on the diagonal and after it.
-fn add_fronts(table: &mut NormalTable, arcs: &[Arc], signals: Signals, pairs: &[PairRows], h: u32)
+/// Adds what all pairs add to the form over 2^h, behind the baseline's columns, on the diagonal and after it, and keeps the
+/// factors of their fronts. The inner error is told of the first pair that has no front.
+fn add_fronts(
+    alloc: Global,
+    table: &mut NormalTable,
+    arcs: &[Arc],
+    signals: Signals,
+    pairs: &[PairRows],
+    h: u32,
+) -> Result<Result<Vec<PairFactors>, LowerFault>, AllocError>
     requires arcs { All (HasItsArcs arcs.now) pairs.now }
     requires free { free_count arcs.now ≤ MOST_FREE_ARCS }
     requires few { length pairs.now ≤ 3600 }
     requires h_in { h ≤ 90 }
-    requires fronts { (k : ℕ) → k < length pairs.now → (d : PairRows) → HasFront arcs.now (fine_signals signals) (get_or pairs.now k d) }
     requires above { (k : ℕ) → k < length pairs.now → (d : PairRows) (f : FrontForm) → IsFrontOfPair arcs.now (fine_signals signals) (get_or pairs.now k d) f → f.h ≤ h }
     requires zeros { table.old ≡ zero_rows MOST_COLUMNS MOST_COLUMNS }
-    ensures sums { (fs : List FrontForm) → AreFronts arcs.now (fine_signals signals) pairs.now fs → (r c : ℕ) → r ≤ c → c < 1 + integer_count arcs.now (fine_signals signals) →
-        entry table.new (3 + r) (3 + c) ≡ track_entry (1 + integer_count arcs.now (fine_signals signals)) h (map brief fs) r c }
+    ensures factors { IfOk result (λ r. IfOk r (λ kept. AreFactors arcs.now (fine_signals signals) pairs.now kept.items)) }
+    ensures sums { IfOk result (λ r. IfOk r (λ kept. (fs : List FrontForm) → AreFronts arcs.now (fine_signals signals) pairs.now fs →
+        (r c : ℕ) → r ≤ c → c < 1 + integer_count arcs.now (fine_signals signals) →
+        entry table.new (3 + r) (3 + c) ≡ track_entry (1 + integer_count arcs.now (fine_signals signals)) h (map brief fs) r c)) }
+    ensures refused { IfOk result (λ r. IfErr r (IsFirstRefused arcs.now (fine_signals signals) pairs.now)) }
 {
+    let mut kept = Vec::with_capacity(alloc, pairs.len())?;
     for pair in pairs {
-        let front = known_front(arcs, signals, pair);
-        add_front(table, &front, h - front.h);
+        match pair_front(arcs, signals, pair) {
+            Ok(front) => {
+                add_front(table, &front, h - front.h);
+                kept.push(PairFactors::of(&front))?;
+            }
+            Err(fault) => return Ok(Err(fault)),
+        }
     }
+    Ok(Ok(kept))
 }
 
-/// The fronts of all pairs, brought over one power of two and added, with no factors of the baseline's columns. Refused as the
-/// first pair that has no front.
+/// The sum of the fronts of pairs, and what is kept of each of them.
+#[derive(Debug, Drop)]
+pub struct SummedFronts {
+    pub sum: FrontForm,
+    pub factors: Vec<PairFactors>,
+}
+
+/// The fronts of all pairs, brought over one power of two and added, with no factors of the baseline's columns. The inner error is
+/// told of the first pair that has no front.
 ///
 /// The power has the exponent h: the greatest exponent of a front, and the least e with 2^e at least twice the number of
 /// pairs. Over it an entry off the diagonal is the sum of the pairs' entries, each to the nearest, and one on it the sum of
 /// theirs, each downward, less the order of the form for each pair. So 2^h times the value of the sum is at most the sum of
 /// the values of the fronts.
 pub fn sum_of_fronts(
+    alloc: Global,
     arcs: &[Arc],
     signals: Signals,
     pairs: &[PairRows],
-) -> Result<FrontForm, LowerFault>
+) -> Result<Result<SummedFronts, LowerFault>, AllocError>
     requires arcs { All (HasItsArcs arcs.now) pairs.now }
     requires free { free_count arcs.now ≤ MOST_FREE_ARCS }
     requires some { 1 ≤ length pairs.now }
     requires few { length pairs.now ≤ 3600 }
-    ensures sum { IfOk result (λ f. (fs : List FrontForm) × IsSumOfFronts arcs.now (fine_signals signals) pairs.now fs f) }
-    ensures few { IfOk result (λ f. f.h ≤ 90) }
-    ensures refused { IfErr result (IsFirstRefused arcs.now (fine_signals signals) pairs.now) }
+    ensures sum { IfOk result (λ r. IfOk r (λ f. (fs : List FrontForm) × IsSumOfFronts arcs.now (fine_signals signals) pairs.now fs f.sum)) }
+    ensures factors { IfOk result (λ r. IfOk r (λ f. AreFactors arcs.now (fine_signals signals) pairs.now f.factors.items)) }
+    ensures few { IfOk result (λ r. IfOk r (λ f. f.sum.h ≤ 90)) }
+    ensures refused { IfOk result (λ r. IfErr r (IsFirstRefused arcs.now (fine_signals signals) pairs.now)) }
 {
-    let greatest = greatest_exponent(arcs, signals, pairs)?;
-    let e = least_power(pairs.len());
-    let h = greatest + e;
+    let h = greatest_exponent(arcs, signals, pairs) + least_power(pairs.len());
     let mut table = NormalTable::zeros();
-    add_fronts(&mut table, arcs, signals, pairs, h);
-    let integers = integer_count(arcs, fine_signals(signals));
-    let p = form_table(&table, integers + 1);
-    Ok(FrontForm::of(BASELINE_COLUMNS + integers + 1, h, &p))
+    match add_fronts(alloc, &mut table, arcs, signals, pairs, h)? {
+        Ok(factors) => {
+            let integers = integer_count(arcs, fine_signals(signals));
+            let p = form_table(&table, integers + 1);
+            let sum = FrontForm::of(BASELINE_COLUMNS + integers + 1, h, &p);
+            Ok(Ok(SummedFronts { sum, factors }))
+        }
+        Err(fault) => Ok(Err(fault)),
+    }
 }
 
-/// The form of a track: the finish of the sum of its pairs' fronts. Refused as the first pair that has no front, and else as the
-/// finish is.
-pub fn form_of_track(arcs: &[Arc], signals: Signals, pairs: &[PairRows]) -> Result<Form, LowerFault>
+/// The form of a track, and what is kept of the fronts of its pairs.
+#[derive(Debug, Drop)]
+pub struct TrackForm {
+    pub form: Form,
+    pub factors: Vec<PairFactors>,
+}
+
+/// The finish of a sum.
+fn finished(summed: SummedFronts) -> Result<TrackForm, LowerFault>
+    ensures form { IfOk result (λ f. IsFinishOf summed.sum f.form) }
+    ensures factors { IfOk result (λ f. f.factors.items ≡ summed.factors.items) }
+    ensures refused { IfErr result (λ e. IsToldAs e (finish_of summed.sum)) }
+{
+    let SummedFronts { sum, factors } = summed;
+    let form = finish(&sum)?;
+    Ok(TrackForm { form, factors })
+}
+
+/// The form of a track: the finish of the sum of its pairs' fronts. The inner error is told of the first pair that has no front, and
+/// else as the finish is refused.
+pub fn form_of_track(
+    alloc: Global,
+    arcs: &[Arc],
+    signals: Signals,
+    pairs: &[PairRows],
+) -> Result<Result<TrackForm, LowerFault>, AllocError>
     requires arcs { All (HasItsArcs arcs.now) pairs.now }
     requires free { free_count arcs.now ≤ MOST_FREE_ARCS }
     requires some { 1 ≤ length pairs.now }
     requires few { length pairs.now ≤ 3600 }
-    ensures form { IfOk result (λ f. (fs : List FrontForm) × IsTrackForm arcs.now (fine_signals signals) pairs.now fs f) }
-    ensures few { IfOk result (λ f. f.h ≤ 90) }
-    ensures refused { IfErr result (λ e. IsFirstRefused arcs.now (fine_signals signals) pairs.now e ⊎ IsFinishRefused arcs.now (fine_signals signals) pairs.now e) }
+    ensures form { IfOk result (λ r. IfOk r (λ f. (fs : List FrontForm) × IsTrackForm arcs.now (fine_signals signals) pairs.now fs f.form)) }
+    ensures factors { IfOk result (λ r. IfOk r (λ f. AreFactors arcs.now (fine_signals signals) pairs.now f.factors.items)) }
+    ensures few { IfOk result (λ r. IfOk r (λ f. f.form.h ≤ 90)) }
+    ensures refused { IfOk result (λ r. IfErr r (λ e. IsFirstRefused arcs.now (fine_signals signals) pairs.now e ⊎ IsFinishRefused arcs.now (fine_signals signals) pairs.now e)) }
 {
-    match sum_of_fronts(arcs, signals, pairs) {
-        Ok(sum) => finish(&sum),
-        Err(fault) => Err(fault),
+    match sum_of_fronts(alloc, arcs, signals, pairs)? {
+        Ok(summed) => Ok(finished(summed)),
+        Err(fault) => Ok(Err(fault)),
     }
 }

@@ -2,7 +2,7 @@ use Rattle.std.proofs.Common.{FitsSigned, w64, rules, subst}
 use Rattle.cert_data.specs.declared.verdicts.Verdict.TheVariants.{Not}
 use Rattle.cert_data.specs.declared.verdicts.Cause.TheVariants as cause
 use Rattle.settled_decision.specs.Decided.{IsRefused}
-use Rattle.cert_check.proofs.OneVerdict.{one_verdict, wide_refused}
+use Rattle.cert_check.proofs.OneVerdict.{one_verdict, wide_refused, rests_refused}
 use Rattle.cert_check.proofs.Checked.{own_word64}
 use Rattle.cert_check.proofs.verdict.check.Goals as goal
 
@@ -29,6 +29,12 @@ pub returns-in-Err-Overwidth-clause-verdict : goal.returns-in-Err-Overwidth-clau
 returns-in-Err-Overwidth-clause-verdict c =
     let x = c.in-Err-Overwidth in
     wide_refused c.args.cert.now.session c.args.cert.now.budget x.place (subst (IsRefused c.args.cert.now.session) x.field-0-is (record { normal = c.sum-normal.result; of_rows = c.sum-normal.ensures.normal; told = x.ensures.refused }))
+
+pub returns-in-Err-Overwidth-clause-visits : goal.returns-in-Err-Overwidth-clause-visits
+returns-in-Err-Overwidth-clause-visits c =
+    let x = c.in-Err-Overwidth in
+    rests_refused c.args.cert.now.session c.args.cert.now.budget x.place
+    (subst (IsRefused c.args.cert.now.session) x.field-0-is (record { normal = c.sum-normal.result; of_rows = c.sum-normal.ensures.normal; told = x.ensures.refused }))
 
 pub returns-in-Err-Overwidth-clause-only : goal.returns-in-Err-Overwidth-clause-only
 returns-in-Err-Overwidth-clause-only c = λ v is.

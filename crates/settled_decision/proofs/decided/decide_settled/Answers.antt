@@ -61,4 +61,5 @@ returns-in-Ok-decide-clause-fits c =
     (vectors_fit s f c.args.budget f.h d.moved d.best d.top c.requires.form c.requires.fine found c.values_from.ensures c.in-Ok-decide.ensures.top_from c.in-Ok-decide.ensures.top_to))
 
 pub returns-in-Err-clause-decision : goal.returns-in-Err-clause-decision
-returns-in-Err-clause-decision c = refused_decision c.args.session.now c.args.form.now c.args.budget c.in-Ok.best c.in-Err.fault.place c.in-Ok.ensures.found c.in-Err.ensures.only c.in-Err.ensures.float.0 c.in-Err.ensures.sum.0
+returns-in-Err-clause-decision c = refused_decision c.args.session.now c.args.form.now c.args.budget c.in-Ok.best c.in-Err.fault.place c.in-Ok.ensures.found c.in-Ok.ensures.visits
+    c.in-Err.ensures.only c.in-Err.ensures.float.0 c.in-Err.ensures.sum.0

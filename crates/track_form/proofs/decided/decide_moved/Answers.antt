@@ -66,5 +66,5 @@ returns-in-Err-clause-decision c =
     let z = first_of c.args.best.now in
     let moves = c.args.moves.items in
     let some : IsSomeWide t.arcs ss z t.pairs moves = subst (λ (ms : List (List ℤ)). IsSomeWide t.arcs ss z t.pairs ms) c.as_slice.ensures.value c.in-Err.ensures.wide in
-    λ budget kept. wide_told t.arcs ss t.pairs c.args.ratio c.in-Err.wide.place Sum c.in-Err.ensures.place
-    (λ n. sum_wide t.arcs ss t.pairs moves c.args.best.now c.requires.form.0 c.args.form.now c.requires.form.1.0 c.requires.best c.requires.form.1.1 c.requires.narrow some) budget
+    λ budget kept. wide_told t.arcs ss t.pairs c.args.ratio budget c.in-Err.wide.place Sum c.in-Err.ensures.place
+    (sum_wide t.arcs ss t.pairs budget moves c.args.best.now c.requires.form.0 c.args.form.now c.requires.form.1.0 c.requires.best kept c.requires.form.1.1 c.requires.narrow some)

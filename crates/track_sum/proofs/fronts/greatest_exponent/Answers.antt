@@ -4,23 +4,9 @@ use Rattle.obs_rows.specs.declared.arcs.Arc.{Arc}
 use Rattle.obs_rows.specs.declared.pair_rows.PairRows.{PairRows}
 use Rattle.obs_rows.specs.Signals.{fine_signals}
 use Rattle.integer_form.specs.declared.front_form.FrontForm.{FrontForm}
-use Rattle.track_sum.specs.PairFronts.{IsFrontOfPair, IsRefusedPair, HasFront}
-use Rattle.track_sum.proofs.OneFront.{one_front}
+use Rattle.track_sum.specs.PairFronts.{IsFrontOfPair}
 use Rattle.track_sum.proofs.fronts.greatest_exponent.Goals as goal
-use Rattle.track_sum.proofs.fronts.greatest_exponent.Goals.{then-front-greatest, else-front-greatest}
-
-pub returns-in-Err-clause-refused : goal.returns-in-Err-clause-refused
-returns-in-Err-clause-refused c =
-    let pairs : List PairRows = c.args.pairs.now in
-    let k : ℕ = c.loop-pair.pair-index in
-    let inside : k < length pairs = search rules in
-    record {
-      place = k;
-      inside = inside;
-      refused = λ d. subst (λ (p : PairRows). IsRefusedPair c.args.arcs.now (fine_signals c.args.signals) p c.in-Err.fault)
-          (c.pair-item.is ∙ sym (get_or_default pairs k d c.pair-item.result inside)) c.in-Err.ensures.refused;
-      before = c.loop-pair.invariant.fronts;
-    }
+use Rattle.track_sum.proofs.fronts.greatest_exponent.Goals.{then-h-greatest, else-h-greatest}
 
 -- the greater of two numbers
 record Grown (old h new : ℕ) : Type 0 where
@@ -36,29 +22,27 @@ loop-pair-preserved c =
     let k : ℕ = c.loop-pair.pair-index in
     let x : PairRows = c.pair-item.result in
     let inside : k < length pairs = search rules in
-    let f : FrontForm = c.in-Ok.front in
-    let is : IsFrontOfPair arcs ss x f = c.in-Ok.ensures.front in
+    let h : ℕ = c.pair_exponent-h.result in
     let at : (d : PairRows) → get_or pairs k d ≡ x = λ d. get_or_default pairs k d x inside ∙ sym c.pair-item.is in
-    let h_is : (d : PairRows) (g : FrontForm) → IsFrontOfPair arcs ss (get_or pairs k d) g → g.h ≡ f.h =
-    λ d g i. (one_front arcs ss x g f (subst (λ (p : PairRows). IsFrontOfPair arcs ss p g) (at d) i) is).h in
-    let new : ℕ = c.if-front-greatest.greatest in
-    let grown : Grown c.loop-pair.greatest f.h new = elim c.if-front-greatest.branch [
-      | then-front-greatest w ↦ record { old_in = omega (arith, w.if-front-greatest, w.greatest-is); h_in = omega (arith, w.greatest-is); one = inl w.greatest-is }
-      | else-front-greatest w ↦ record { old_in = omega (arith, w.greatest-is); h_in = omega (arith, w.if-front-greatest, w.greatest-is); one = inr w.greatest-is }
+    let h_is : (d : PairRows) (g : FrontForm) → IsFrontOfPair arcs ss (get_or pairs k d) g → g.h ≡ h =
+    λ d g i. c.pair_exponent-h.ensures.exponent g (subst (λ (p : PairRows). IsFrontOfPair arcs ss p g) (at d) i) in
+    let new : ℕ = c.if-h-greatest.greatest in
+    let grown : Grown c.loop-pair.greatest h new = elim c.if-h-greatest.branch [
+      | then-h-greatest w ↦ record { old_in = omega (arith, w.if-h-greatest, w.greatest-is); h_in = omega (arith, w.greatest-is); one = inl w.greatest-is }
+      | else-h-greatest w ↦ record { old_in = omega (arith, w.greatest-is); h_in = omega (arith, w.if-h-greatest, w.greatest-is); one = inr w.greatest-is }
     ] in
     record {
-      fronts = below_more (λ j. (d : PairRows) → HasFront arcs ss (get_or pairs j d)) k c.loop-pair.invariant.fronts (λ d. (f, subst (λ (p : PairRows). IsFrontOfPair arcs ss p f) (sym (at d)) is));
       above = below_more (λ j. (d : PairRows) (g : FrontForm) → IsFrontOfPair arcs ss (get_or pairs j d) g → g.h ≤ new) k
-          (λ j l d g i. within g.h c.loop-pair.greatest new (c.loop-pair.invariant.above j l d g i) grown.old_in) (λ d g i. same g.h f.h new (h_is d g i) grown.h_in);
+          (λ j l d g i. within g.h c.loop-pair.greatest new (c.loop-pair.invariant.above j l d g i) grown.old_in) (λ d g i. same g.h h new (h_is d g i) grown.h_in);
       attained = λ l. ⊎_elim
-          (λ (e : new ≡ f.h). (k, (next k, λ d g i. h_is d g i ∙ sym e)))
+          (λ (e : new ≡ h). (k, (next k, λ d g i. h_is d g i ∙ sym e)))
           (λ (e : new ≡ c.loop-pair.greatest). ⊎_elim
-          (λ (none : k ≡ 0). (k, (next k, λ d g i. h_is d g i ∙ both f.h new c.loop-pair.greatest grown.h_in e (c.loop-pair.invariant.none none))))
+          (λ (none : k ≡ 0). (k, (next k, λ d g i. h_is d g i ∙ both h new c.loop-pair.greatest grown.h_in e (c.loop-pair.invariant.none none))))
           (λ (some : 1 ≤ k). let a = c.loop-pair.invariant.attained some in (a.0, (later a.0 k a.1.0, λ d g i. a.1.1 d g i ∙ sym e)))
           (either k))
           grown.one;
       none = λ e. absurd (omega (arith, e));
-      few = ⊎_elim (λ (e : new ≡ f.h). same new f.h 77 e c.in-Ok.ensures.few) (λ (e : new ≡ c.loop-pair.greatest). same new c.loop-pair.greatest 77 e c.loop-pair.invariant.few) grown.one;
+      few = ⊎_elim (λ (e : new ≡ h). same new h 77 e c.pair_exponent-h.ensures.few) (λ (e : new ≡ c.loop-pair.greatest). same new c.loop-pair.greatest 77 e c.loop-pair.invariant.few) grown.one;
     }
   where
     within : (a b c : ℕ) → a ≤ b → b ≤ c → a ≤ c

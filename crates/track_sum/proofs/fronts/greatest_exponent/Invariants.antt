@@ -2,12 +2,11 @@ use Rattle.std.proofs.Common.{◌≡◌, ℕ, ◌<◌, ◌≤◌, get_or}
 use Rattle.obs_rows.specs.declared.pair_rows.PairRows.{PairRows}
 use Rattle.obs_rows.specs.Signals.{fine_signals}
 use Rattle.integer_form.specs.declared.front_form.FrontForm.{FrontForm}
-use Rattle.track_sum.specs.PairFronts.{IsFrontOfPair, HasFront}
+use Rattle.track_sum.specs.PairFronts.{IsFrontOfPair}
 use Rattle.track_sum.proofs.fronts.greatest_exponent.Given as goal
 
 abbrev pub invariant-loop-pair : goal.invariant-loop-pair
 invariant-loop-pair l = record {
-  fronts : (k : ℕ) → k < l.pair-index → (d : PairRows) → HasFront l.arcs (fine_signals l.signals) (get_or l.pairs k d);
   above : (k : ℕ) → k < l.pair-index → (d : PairRows) (f : FrontForm) → IsFrontOfPair l.arcs (fine_signals l.signals) (get_or l.pairs k d) f → f.h ≤ l.greatest;
   attained : 1 ≤ l.pair-index → (k : ℕ) × ((k < l.pair-index) × ((d : PairRows) (f : FrontForm) → IsFrontOfPair l.arcs (fine_signals l.signals) (get_or l.pairs k d) f → f.h ≡ l.greatest));
   none : l.pair-index ≡ 0 → l.greatest ≡ 0;

@@ -1,7 +1,8 @@
-use Rattle.std.proofs.Common.{◌≡◌, ℕ, ◌+◌, ◌-◌, ◌*◌, ◌^◌, ◌<◌, ◌≤◌, [], List, length, map, drop, ℤ, pos, ◌+ℤ◌, unsigned_abs, arith, rules, sym, ap, ap₂, ◌∙◌, refl, subst}
-use Rattle.std.proofs.lemmas.List.{drop_all}
+use Rattle.std.proofs.Common.{◌≡◌, ℕ, ◌+◌, ◌-◌, ◌*◌, ◌^◌, ◌<◌, ◌≤◌, ℤ, pos, ◌+ℤ◌, unsigned_abs, arith, rules, sym, ap, ap₂, ◌∙◌, refl, subst}
+use Rattle.std.proofs.Common.{[], ◌∷◌, ◌++◌, List, length, map, take, drop, get_or, below_more}
+use Rattle.std.proofs.lemmas.List.{get_or_default, take_more, take_all, drop_all}
 use Rattle.std.proofs.lemmas.Int.{ints}
-use Rattle.std.proofs.lemmas.Slice.Zip.{AllZip-long}
+use Rattle.std.proofs.lemmas.Slice.Zip.{AllZip-long, all_zipped_more}
 use Rattle.whole_math.proofs.Order.{lins}
 use Rattle.obs_rows.specs.declared.arcs.Arc.{Arc}
 use Rattle.obs_rows.specs.declared.pair_rows.PairRows.{PairRows}
@@ -14,7 +15,9 @@ use Rattle.normal_sum.proofs.RowSums.{next_sum}
 use Rattle.integer_form.specs.declared.front_form.FrontForm.{FrontForm}
 use Rattle.track_sum.specs.Fronts.{Front, part, track_entry}
 use Rattle.track_sum.specs.Parts.{part_at}
-use Rattle.track_sum.specs.PairFronts.{IsFrontOfPair, HasFront, brief}
+use Rattle.track_sum.specs.declared.factors.PairFactors.{PairFactors}
+use Rattle.track_sum.specs.PairFronts.{IsFrontOfPair, IsRefusedPair, HasFront, brief}
+use Rattle.track_sum.specs.Factors.{AreOfPair, AreFactors}
 use Rattle.track_sum.proofs.SumOfForms.{entry_more}
 use Rattle.track_sum.proofs.TrackEntries.{none_entry}
 use Rattle.track_sum.proofs.FrontLists.{columns_of_front, HasPlace, front_place, fronts_from}
@@ -39,6 +42,14 @@ one_more arcs ss p h shift k fs f w is e r c l b old new all sums more =
     places : (n : ℕ) → part_at (f.columns - 3) (2 ^ shift) (entry f.p) r c ≡ part_at (1 + integer_count arcs ss) (part h (brief f)) (entry f.p) r c
     places n = ap₂ (λ (m s : ℕ). part_at m (2 ^ s) (entry f.p) r c) (fewer f.columns (integer_count arcs ss) (columns_of_front arcs ss p f is)) e
 
+-- the factors of one front more
+factors_more : (arcs : List Arc) (ss : List ℕ) (pairs : List PairRows) (kept more : List PairFactors) (k : ℕ) (p : PairRows) (m : PairFactors) → AreFactors arcs ss (take k pairs) kept →
+    k < length pairs → get_or pairs k p ≡ p → AreOfPair arcs ss p m → more ≡ kept ++ m ∷ [] → AreFactors arcs ss (take (k + 1) pairs) more
+factors_more arcs ss pairs kept more k p m are inside at is pushed =
+    subst (λ (ks : List PairFactors). AreFactors arcs ss (take (k + 1) pairs) ks) (sym pushed)
+    (subst (λ (ps : List PairRows). AreFactors arcs ss ps (kept ++ m ∷ [])) (sym (take_more pairs k p inside))
+    (all_zipped_more (AreOfPair arcs ss) (take k pairs) kept (get_or pairs k p) m are (subst (λ (x : PairRows). AreOfPair arcs ss x m) (sym at) is)))
+
 larger : (a b i : ℕ) → a ≤ b + 2 ^ 64 → b ≤ i * 2 ^ 64 → a ≤ (i + 1) * 2 ^ 64
 larger a b i h g = omega arith
 
@@ -57,23 +68,25 @@ size_zero x e = omega (arith, ints)
 pub loop-pair-init : goal.loop-pair-init
 loop-pair-init c =
     let z : (i j : ℕ) → entry c.args.table.now i j ≡ pos 0 = λ i j. ap (λ (t : List (List ℤ)). entry t i j) c.requires.zeros ∙ zero_entry MOST_COLUMNS MOST_COLUMNS i j in
-    record { sums = λ fs are r k l b. zero_first _ _ (z (3 + r) (3 + k)); sizes = λ r k l b. size_zero _ (z (3 + r) (3 + k)) }
-
-pub known_front-front-requires-clause-has : goal.known_front-front-requires-clause-has
-known_front-front-requires-clause-has c =
-    subst (λ (p : PairRows). HasFront c.args.arcs.now (fine_signals c.args.signals) p) (sym c.pair-item.is) (c.requires.fronts c.loop-pair.pair-index c.loop-pair-test.true c.pair-item.result)
+    let none : c.in_ok-kept.kept.items ≡ [] = search rules in
+    record {
+      sums = λ fs are r k l b. zero_first _ _ (z (3 + r) (3 + k));
+      factors = subst (λ (ks : List PairFactors). AreFactors c.args.arcs.now (fine_signals c.args.signals) [] ks) (sym none) tt;
+      fronts = λ j l d. absurd (omega (arith, l));
+      sizes = λ r k l b. size_zero _ (z (3 + r) (3 + k));
+    }
 
 pub overflow_sub-h : goal.overflow_sub-h
 overflow_sub-h c =
-    c.requires.above c.loop-pair.pair-index c.loop-pair-test.true c.pair-item.result c.known_front-front.result
-    (subst (λ (p : PairRows). IsFrontOfPair c.args.arcs.now (fine_signals c.args.signals) p c.known_front-front.result) c.pair-item.is c.known_front-front.ensures.front)
+    c.requires.above c.loop-pair.pair-index c.loop-pair-test.true c.pair-item.result c.in-Ok.front
+    (subst (λ (p : PairRows). IsFrontOfPair c.args.arcs.now (fine_signals c.args.signals) p c.in-Ok.front) c.pair-item.is c.in-Ok.ensures.front)
 
 pub add_front-requires-clause-sizes : goal.add_front-requires-clause-sizes
 add_front-requires-clause-sizes c =
     let arcs : List Arc = c.args.arcs.now in
     let ss : List ℕ = fine_signals c.args.signals in
-    let f : FrontForm = c.known_front-front.result in
-    let columns : f.columns ≡ 4 + integer_count arcs ss = columns_of_front arcs ss c.pair-item.result f c.known_front-front.ensures.front in
+    let f : FrontForm = c.in-Ok.front in
+    let columns : f.columns ≡ 4 + integer_count arcs ss = columns_of_front arcs ss c.pair-item.result f c.in-Ok.ensures.front in
     λ r q l b. few (unsigned_abs (entry c.loop-pair.table (3 + r) (3 + q))) c.loop-pair.pair-index (length c.args.pairs.now)
     (c.loop-pair.invariant.sizes r q l (within q (integer_count arcs ss) f.columns b columns)) c.loop-pair-test.true c.requires.few
   where
@@ -87,25 +100,44 @@ loop-pair-preserved c =
     let ss : List ℕ = fine_signals c.args.signals in
     let k : ℕ = c.loop-pair.pair-index in
     let p : PairRows = c.pair-item.result in
-    let f : FrontForm = c.known_front-front.result in
-    let is : IsFrontOfPair arcs ss p f = c.known_front-front.ensures.front in
+    let f : FrontForm = c.in-Ok.front in
+    let is : IsFrontOfPair arcs ss p f = c.in-Ok.ensures.front in
     let inside : k < length pairs = search rules in
     let within : (b i : ℕ) → b < 1 + i → f.columns ≡ 4 + i → b < f.columns - 3 = λ b i l e. omega arith in
     let columns : f.columns ≡ 4 + integer_count arcs ss = columns_of_front arcs ss p f is in
     record {
       sums = λ fs are r q l b. one_more arcs ss p c.args.h (c.args.h - f.h) k fs f (front_place arcs ss pairs fs k p are inside (sym c.pair-item.is)) is refl r q l b _ _ _
           (c.loop-pair.invariant.sums fs are r q l b) (c.add_front.ensures.sums r q l (within q (integer_count arcs ss) b columns));
+      factors = factors_more arcs ss pairs c.loop-pair.kept.items c.push.new.self.items k p c.of.result c.loop-pair.invariant.factors inside (sym c.pair-item.is)
+          (record { front = f; is = is; columns = c.of.ensures.columns; d = c.of.ensures.d; l = c.of.ensures.l }) c.in_ok-push-in-Ok.ensures.items;
+      fronts = below_more (λ j. (d : PairRows) → HasFront arcs ss (get_or pairs j d)) k c.loop-pair.invariant.fronts
+          (λ d. (f, subst (λ (x : PairRows). IsFrontOfPair arcs ss x f) (c.pair-item.is ∙ sym (get_or_default pairs k d p inside)) is));
       sizes = λ r q l b. larger _ _ k (c.add_front.ensures.sizes r q l (within q (integer_count arcs ss) b columns)) (c.loop-pair.invariant.sizes r q l b);
     }
 
-pub returns : goal.returns
-returns c = record {
-  sums = λ fs are r q l b.
-      let n : ℕ = 1 + integer_count c.args.arcs.now (fine_signals c.args.signals) in
-      let end : drop c.loop-pair.pair-index fs ≡ [] = drop_all c.loop-pair.pair-index fs
-      (past (length fs) (length c.args.pairs.now) c.loop-pair.pair-index (AllZip-long (IsFrontOfPair c.args.arcs.now (fine_signals c.args.signals)) c.args.pairs.now fs are) c.loop-pair-test.false) in
-      zero_last _ _ _ (ap (λ (gs : List FrontForm). track_entry n c.args.h (map brief gs) r q) end ∙ none_entry n c.args.h r q) (c.loop-pair.invariant.sums fs are r q l b);
-}
+pub returns-in-Err-clause-refused : goal.returns-in-Err-clause-refused
+returns-in-Err-clause-refused c =
+    let pairs : List PairRows = c.args.pairs.now in
+    let k : ℕ = c.loop-pair.pair-index in
+    let inside : k < length pairs = search rules in
+    record {
+      place = k;
+      inside = inside;
+      refused = λ d. subst (λ (p : PairRows). IsRefusedPair c.args.arcs.now (fine_signals c.args.signals) p c.in-Err.fault)
+          (c.pair-item.is ∙ sym (get_or_default pairs k d c.pair-item.result inside)) c.in-Err.ensures.refused;
+      before = c.loop-pair.invariant.fronts;
+    }
+
+pub returns-clause-factors : goal.returns-clause-factors
+returns-clause-factors c = subst (λ (ps : List PairRows). AreFactors c.args.arcs.now (fine_signals c.args.signals) ps c.loop-pair.kept.items)
+    (take_all c.loop-pair.pair-index c.args.pairs.now c.loop-pair-test.false) c.loop-pair.invariant.factors
+
+pub returns-clause-sums : goal.returns-clause-sums
+returns-clause-sums c = λ fs are r q l b.
+    let n : ℕ = 1 + integer_count c.args.arcs.now (fine_signals c.args.signals) in
+    let end : drop c.loop-pair.pair-index fs ≡ [] = drop_all c.loop-pair.pair-index fs
+    (past (length fs) (length c.args.pairs.now) c.loop-pair.pair-index (AllZip-long (IsFrontOfPair c.args.arcs.now (fine_signals c.args.signals)) c.args.pairs.now fs are) c.loop-pair-test.false) in
+    zero_last _ _ _ (ap (λ (gs : List FrontForm). track_entry n c.args.h (map brief gs) r q) end ∙ none_entry n c.args.h r q) (c.loop-pair.invariant.sums fs are r q l b)
   where
     past : (a b k : ℕ) → a ≡ b → b ≤ k → a ≤ k
     past a b k e h = omega arith

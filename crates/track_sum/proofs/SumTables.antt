@@ -10,19 +10,20 @@ use Rattle.form_tables.specs.Tables.{entry, zero_rows}
 use Rattle.integer_form.specs.declared.front_form.FrontForm.{FrontForm}
 use Rattle.integer_form.specs.Kept.{form_of_table}
 use Rattle.track_sum.specs.Fronts.{track_entry, track_form, AreExponents}
-use Rattle.track_sum.specs.PairFronts.{IsFrontOfPair, HasFront, AreFronts, brief}
+use Rattle.track_sum.specs.declared.factors.PairFactors.{PairFactors}
+use Rattle.track_sum.specs.PairFronts.{IsFrontOfPair, AreFronts, brief}
+use Rattle.track_sum.specs.Factors.{AreFactors}
 use Rattle.track_sum.specs.Decided.{IsSumOfFronts}
-use Rattle.track_sum.proofs.OneFront.{fronts_listed}
+use Rattle.track_sum.proofs.KeptFactors.{fronts_listed}
 use Rattle.track_sum.proofs.TrackEntries.{summed_form, small_track}
 use Rattle.track_sum.proofs.FrontLists.{fronts_long, small_fronts, exponents_are}
 
--- what the first pass over the fronts finds: each pair has one, and the greatest exponent is theirs
+-- the greatest exponent of the fronts, as the pairs' matrices tell it
 pub record IsGreatest (arcs : List Arc) (ss : List ℕ) (pairs : List PairRows) (greatest : ℕ) : Type 0 where
-  pub fronts : (k : ℕ) → k < length pairs → (d : PairRows) → HasFront arcs ss (get_or pairs k d)
   pub above : (k : ℕ) → k < length pairs → (d : PairRows) (f : FrontForm) → IsFrontOfPair arcs ss (get_or pairs k d) f → f.h ≤ greatest
   pub attained : (k : ℕ) × ((k < length pairs) × ((d : PairRows) (f : FrontForm) → IsFrontOfPair arcs ss (get_or pairs k d) f → f.h ≡ greatest))
 
--- the table of the second pass, over the sum of that exponent and e
+-- the table of the fronts, over the sum of that exponent and e
 abbrev pub HoldsSums : List Arc → List ℕ → List PairRows → ℕ → List (List ℤ) → Type 0
 HoldsSums arcs ss pairs h t = (fs : List FrontForm) → AreFronts arcs ss pairs fs → (r c : ℕ) → r ≤ c → c < 1 + integer_count arcs ss →
     entry t (3 + r) (3 + c) ≡ track_entry (1 + integer_count arcs ss) h (map brief fs) r c
@@ -34,10 +35,11 @@ pub record IsSummed (arcs : List Arc) (ss : List ℕ) (pairs : List PairRows) (e
   pub form : form_from (entry t) 3 (1 + integer_count arcs ss) ≡ track_form (1 + integer_count arcs ss) h (map brief fs)
   pub small : SmallForm (form_from (entry t) 3 (1 + integer_count arcs ss))
 
-pub summed : (arcs : List Arc) (ss : List ℕ) (pairs : List PairRows) (greatest e : ℕ) (t : List (List ℤ)) → IsGreatest arcs ss pairs greatest → 1 ≤ length pairs → length pairs ≤ 3600 →
+pub summed : (arcs : List Arc) (ss : List ℕ) (pairs : List PairRows) (kept : List PairFactors) (greatest e : ℕ) (t : List (List ℤ)) →
+    AreFactors arcs ss pairs kept → IsGreatest arcs ss pairs greatest → 1 ≤ length pairs → length pairs ≤ 3600 →
     integer_count arcs ss ≤ 60 →
     2 * length pairs ≤ 2 ^ e → ((k : ℕ) → 2 * length pairs ≤ 2 ^ k → e ≤ k) → HoldsSums arcs ss pairs (greatest + e) t → IsSummed arcs ss pairs e (greatest + e) t
-summed arcs ss pairs greatest e t is some few integers enough least sums = record {
+summed arcs ss pairs kept greatest e t factors is some few integers enough least sums = record {
   fs = fs;
   of_pairs = are;
   exponents = exponents;
@@ -53,10 +55,10 @@ summed arcs ss pairs greatest e t is some few integers enough least sums = recor
     h = greatest + e
 
     fs : List FrontForm
-    fs = (fronts_listed arcs ss pairs is.fronts).0
+    fs = (fronts_listed arcs ss pairs kept factors).0
 
     are : AreFronts arcs ss pairs fs
-    are = (fronts_listed arcs ss pairs is.fronts).1
+    are = (fronts_listed arcs ss pairs kept factors).1
 
     long : length (map brief fs) ≡ length pairs
     long = fronts_long arcs ss pairs fs are

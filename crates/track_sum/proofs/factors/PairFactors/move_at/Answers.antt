@@ -1,0 +1,21 @@
+use Rattle.std.proofs.Common.{◌≡◌, ◌↔◌, List, ℤ, ◌∙◌, subst}
+use Rattle.std.specs.Prelude.{IsErr}
+use Rattle.integer_form.specs.declared.front_form.FrontForm.{FrontForm}
+use Rattle.integer_form.specs.FloatPoint.{baseline_at, HasWide}
+use Rattle.track_sum.specs.declared.factors.PairFactors.{PairFactors}
+use Rattle.track_sum.specs.Factors.{move_by}
+use Rattle.track_sum.proofs.Results.{ok_weaker}
+use Rattle.track_sum.proofs.factors.PairFactors.move_at.Goals as goal
+
+same : (f : FrontForm) (k : PairFactors) (z : List ℤ) → f.columns ≡ k.columns → f.d ≡ k.d → f.l ≡ k.l → baseline_at f.d f.l f.columns z ≡ move_by z k
+same f k z columns d l = λ t. baseline_at (d t) (l t) (columns t) z
+
+pub returns-clause-ok : goal.returns-clause-ok
+returns-clause-ok c =
+    let f = c.front.result in
+    ok_weaker (λ m. m ≡ baseline_at f.d f.l f.columns c.args.z.now) (λ m. m ≡ move_by c.args.z.now c.args.self.now) c.baseline_of.result
+    (λ m e. e ∙ same f c.args.self.now c.args.z.now c.front.ensures.columns c.front.ensures.d c.front.ensures.l) c.baseline_of.ensures.ok
+
+pub returns-clause-refused : goal.returns-clause-refused
+returns-clause-refused c = subst (λ (m : List ℤ). IsErr c.baseline_of.result ↔ HasWide m)
+    (same c.front.result c.args.self.now c.args.z.now c.front.ensures.columns c.front.ensures.d c.front.ensures.l) c.baseline_of.ensures.refused
