@@ -49,8 +49,6 @@ pub fn zero<F: Files>(alloc: Global, files: &mut F, name: &str) -> Result<Answer
     ensures fault { IfEnded result (λ end. end.status ≡ Status.ReadFault → Rose (F.faults files.old) (F.faults files.new)) }
     ensures sure { F.is_sure_name files.old name.now → IfEnded result (λ end. end.status ≢ Status.ReadFault) }
 {
-    match load_file(alloc, files, name) {
-        Ok(text) => answer_text(alloc, name, &text),
-        Err(stop) => Err(stop),
-    }
+    let text = load_file(alloc, files, name)?;
+    answer_text(alloc, name, &text)
 }
