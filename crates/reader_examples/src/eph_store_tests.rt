@@ -85,55 +85,57 @@ fn tells_what_is_out(rt: HostRuntime) {
     assert_eq!(rt; unfit(&raw), Some(Unfit::Unhealthy));
 }
 
+const ENDS: [(Dec, Option<Unfit>); 8] = [
+    (
+        Dec {
+            mant: 3_125,
+            exp: -5,
+        },
+        None,
+    ),
+    (
+        Dec {
+            mant: 31_250_000_000_001,
+            exp: -15,
+        },
+        Some(Unfit::Range { field: 5 }),
+    ),
+    (
+        Dec {
+            mant: -1,
+            exp: -999,
+        },
+        Some(Unfit::Range { field: 5 }),
+    ),
+    (
+        Dec {
+            mant: 999_999_999_999_999_999,
+            exp: -999,
+        },
+        None,
+    ),
+    (Dec { mant: 1, exp: 999 }, Some(Unfit::Range { field: 5 })),
+    (Dec { mant: 0, exp: 999 }, None),
+    (
+        Dec {
+            mant: i64::MIN,
+            exp: i32::MIN,
+        },
+        Some(Unfit::Range { field: 5 }),
+    ),
+    (
+        Dec {
+            mant: i64::MAX,
+            exp: i32::MIN,
+        },
+        None,
+    ),
+];
+
 #[test]
 fn holds_the_ends(rt: HostRuntime) {
-    let rows: [(Dec, Option<Unfit>); 8] = [
-        (
-            Dec {
-                mant: 3_125,
-                exp: -5,
-            },
-            None,
-        ),
-        (
-            Dec {
-                mant: 31_250_000_000_001,
-                exp: -15,
-            },
-            Some(Unfit::Range { field: 5 }),
-        ),
-        (
-            Dec {
-                mant: -1,
-                exp: -999,
-            },
-            Some(Unfit::Range { field: 5 }),
-        ),
-        (
-            Dec {
-                mant: 999_999_999_999_999_999,
-                exp: -999,
-            },
-            None,
-        ),
-        (Dec { mant: 1, exp: 999 }, Some(Unfit::Range { field: 5 })),
-        (Dec { mant: 0, exp: 999 }, None),
-        (
-            Dec {
-                mant: i64::MIN,
-                exp: i32::MIN,
-            },
-            Some(Unfit::Range { field: 5 }),
-        ),
-        (
-            Dec {
-                mant: i64::MAX,
-                exp: i32::MIN,
-            },
-            None,
-        ),
-    ];
-    for (ecc, want) in rows {
+    for row in ENDS.iter() {
+        let (ecc, want) = *row;
         let mut raw = record(5);
         raw.ecc = ecc;
         assert_eq!(rt; unfit(&raw), want, "at {ecc:?}");
@@ -167,43 +169,49 @@ fn tick(week: i64, second: i64) -> u64 {
     }
 }
 
-#[test]
-fn chooses_the_nearest(rt: HostRuntime) -> Result<(), Fail> {
-    let toe = 13_881_024_000_000_000;
-    let two_hours = 72_000_000_000;
-    let one = file_of(rt.alloc(), &[(2_295, 86_400)])?;
-    assert_eq!(rt; one.all().len(), 1);
-    assert_eq!(rt; one.fit().len(), 1);
-    assert_eq!(rt; toe_of(one.choose(5, Tick(toe + two_hours))), Some(toe));
-    assert_eq!(rt; toe_of(one.choose(5, Tick(toe + two_hours + 1))), None);
-    assert_eq!(rt; toe_of(one.choose(5, Tick(toe - two_hours))), Some(toe));
-    assert_eq!(rt; toe_of(one.choose(5, Tick(toe - two_hours - 1))), None);
-    assert_eq!(rt; toe_of(one.choose(6, Tick(toe))), None);
-    // The tag is 3,600 s past the first record's time and 3,600 s before the second's.
-    let two = file_of(rt.alloc(), &[(2_295, 86_400), (2_295, 93_600)])?;
-    let later = toe + 2 * 36_000_000_000;
-    assert_eq!(rt;
-        toe_of(two.choose(5, Tick(toe + 36_000_000_000))),
-        Some(later)
-    );
-    let turned = file_of(rt.alloc(), &[(2_295, 93_600), (2_295, 86_400)])?;
-    assert_eq!(rt;
-        toe_of(turned.choose(5, Tick(toe + 36_000_000_000))),
-        Some(toe)
-    );
-    assert_eq!(rt;
-        toe_of(turned.choose(5, Tick(toe + 36_000_000_001))),
-        Some(later)
-    );
-    Ok(())
-}
+const TOE: u64 = 13_881_024_000_000_000;
+
+const TWO_HOURS: u64 = 72_000_000_000;
+
+const HALF: u64 = TOE + 36_000_000_000;
+
+const LATER: u64 = TOE + 72_000_000_000;
+
+const ONE: [(i64, i64); 1] = [(2_295, 86_400)];
+
+const TWO: [(i64, i64); 2] = [(2_295, 86_400), (2_295, 93_600)];
+
+const TURNED: [(i64, i64); 2] = [(2_295, 93_600), (2_295, 86_400)];
+
+const LATE_IN_THE_WEEK: [(i64, i64); 1] = [(2_295, 601_200)];
+
+// The records' times, the satellite, the tag, and the time of the record that is chosen. Half-way between two records' times
+// the last one is. Second 0 of week 2296 is 3,600 s after second 601,200 of week 2295.
+const CHOICES: [(&[(i64, i64)], u8, u64, Option<u64>); 9] = [
+    (&ONE, 5, TOE + TWO_HOURS, Some(TOE)),
+    (&ONE, 5, TOE + TWO_HOURS + 1, None),
+    (&ONE, 5, TOE - TWO_HOURS, Some(TOE)),
+    (&ONE, 5, TOE - TWO_HOURS - 1, None),
+    (&ONE, 6, TOE, None),
+    (&TWO, 5, HALF, Some(LATER)),
+    (&TURNED, 5, HALF, Some(TOE)),
+    (&TURNED, 5, HALF + 1, Some(LATER)),
+    (
+        &LATE_IN_THE_WEEK,
+        5,
+        13_886_208_000_000_000,
+        Some(13_886_172_000_000_000),
+    ),
+];
 
 #[test]
-fn weeks_count_on(rt: HostRuntime) -> Result<(), Fail> {
-    // Second 0 of week 2296 is 3,600 s after second 601,200 of week 2295.
-    let file = file_of(rt.alloc(), &[(2_295, 601_200)])?;
-    let toe = toe_of(file.choose(5, Tick(13_886_208_000_000_000)));
-    assert_eq!(rt; toe, Some(13_886_172_000_000_000));
+fn chooses_the_nearest(rt: HostRuntime) -> Result<(), Fail> {
+    for row in CHOICES.iter() {
+        let (times, sat, tag, want) = *row;
+        let file = file_of(rt.alloc(), times)?;
+        assert_eq!(rt; file.fit().len(), times.len());
+        assert_eq!(rt; toe_of(file.choose(sat, Tick(tag))), want, "at {tag}");
+    }
     Ok(())
 }
 

@@ -3,11 +3,11 @@ use line_source::{
     HostFiles, HostSink, Lines, LoadFault, MemFiles, MemSink, Named, SureFiles, SureSink,
     WriteFault, load, put_all,
 };
-use std::alloc::Global;
+use std::alloc::{AllocError, Global};
 use std::fs;
 use std::test::Fail;
 
-fn named(alloc: Global, name: &str, bytes: &[u8]) -> Result<Named, std::alloc::AllocError> {
+fn named(alloc: Global, name: &str, bytes: &[u8]) -> Result<Named, AllocError> {
     Ok(Named {
         name: String::from_str(alloc, name)?,
         bytes: bytes.to_vec(alloc)?,
@@ -15,18 +15,20 @@ fn named(alloc: Global, name: &str, bytes: &[u8]) -> Result<Named, std::alloc::A
     })
 }
 
+fn two_files(alloc: Global) -> Result<MemFiles, AllocError> {
+    let one = named(alloc, "a", b"one")?;
+    let two = named(alloc, "b", b"two")?;
+    Ok(MemFiles::new(vec![in alloc; one, two]?, Vec::new(alloc)))
+}
+
 #[test]
 fn loads_whole_files(rt: HostRuntime) -> Result<(), Fail> {
     let alloc = rt.alloc();
-    let mut list = Vec::new(alloc);
-    list.push(named(alloc, "a", b"one")?)?;
-    list.push(named(alloc, "b", b"two")?)?;
-    assert_eq!(rt; list.len(), 2);
-    let mut files = MemFiles::new(list, Vec::new(alloc));
-    let text = load(alloc, &mut files, "b")?;
-    assert_eq!(rt; text.as_slice(), b"two".as_slice());
-    let again = load(alloc, &mut files, "b")?;
-    assert_eq!(rt; again.as_slice(), b"two".as_slice());
+    let mut files = two_files(alloc)?;
+    for _ in 0..2 {
+        let text = load(alloc, &mut files, "b")?;
+        assert_eq!(rt; text.as_slice(), b"two".as_slice());
+    }
     assert_eq!(rt;
         load(alloc, &mut files, "c").err(),
         Some(LoadFault::ReadFault)

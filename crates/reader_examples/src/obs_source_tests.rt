@@ -102,21 +102,29 @@ fn place_of(
     }
 }
 
+const LATE_VERSION: &str =
+    "     2.99           OBSERVATION DATA    M                   RINEX VERSION / TYPE\n";
+
+const NO_LABEL: &str =
+    "     2.11           OBSERVATION DATA    M                   RINEX VERSION\n";
+
+const GALILEO_ALONE: &str =
+    "     3.04           OBSERVATION DATA    E                   RINEX VERSION / TYPE\n";
+
+const FIRST_LINES: [(&str, (u32, u32, What)); 6] = [
+    ("", (1, 1, What::ObsVersion)),
+    (LATE_VERSION, (1, 1, What::ObsVersion)),
+    (NO_LABEL, (1, 1, What::ObsVersion)),
+    (LINE_2, (2, 1, What::NoEnd)),
+    (LINE_3, (2, 1, What::NoEnd)),
+    (GALILEO_ALONE, (1, 41, What::Kind)),
+];
+
 #[test]
 fn tells_the_format_by_the_first_line(rt: HostRuntime) -> Result<(), Fail> {
     let alloc = rt.alloc();
-    let late = "     2.99           OBSERVATION DATA    M                   RINEX VERSION / TYPE\n";
-    let none = "     2.11           OBSERVATION DATA    M                   RINEX VERSION\n";
-    let own = "     3.04           OBSERVATION DATA    E                   RINEX VERSION / TYPE\n";
-    let cases: [(&str, (u32, u32, What)); 6] = [
-        ("", (1, 1, What::ObsVersion)),
-        (late, (1, 1, What::ObsVersion)),
-        (none, (1, 1, What::ObsVersion)),
-        (LINE_2, (2, 1, What::NoEnd)),
-        (LINE_3, (2, 1, What::NoEnd)),
-        (own, (1, 41, What::Kind)),
-    ];
-    for (text, want) in cases {
+    for row in FIRST_LINES.iter() {
+        let (text, want) = *row;
         for most in [1, 65_536] {
             let found = place_of(&rt, alloc, text.as_bytes(), most)?;
             assert_eq!(rt; found, Some(want), "at {text}");
@@ -125,21 +133,24 @@ fn tells_the_format_by_the_first_line(rt: HostRuntime) -> Result<(), Fail> {
     Ok(())
 }
 
+const LONG: Option<(u32, u32, What)> = Some((1, 1, What::LongLine));
+
+const LENGTHS: [(&str, &str, usize, Option<(u32, u32, What)>); 8] = [
+    (LINE_3, REST_3, 4_096, None),
+    (LINE_2, REST_2, 4_096, None),
+    (LINE_3, REST_3, 4_097, LONG),
+    (LINE_2, REST_2, 4_097, LONG),
+    (LINE_3, REST_3, 4_098, LONG),
+    (LINE_2, REST_2, 4_098, LONG),
+    (LINE_3, "", 4_098, LONG),
+    (LINE_2, "", 4_098, LONG),
+];
+
 #[test]
 fn keeps_the_length_of_the_first_line(rt: HostRuntime) -> Result<(), Fail> {
     let alloc = rt.alloc();
-    let long = Some((1, 1, What::LongLine));
-    let cases: [(&str, &str, usize, Option<(u32, u32, What)>); 8] = [
-        (LINE_3, REST_3, 4_096, None),
-        (LINE_2, REST_2, 4_096, None),
-        (LINE_3, REST_3, 4_097, long),
-        (LINE_2, REST_2, 4_097, long),
-        (LINE_3, REST_3, 4_098, long),
-        (LINE_2, REST_2, 4_098, long),
-        (LINE_3, "", 4_098, long),
-        (LINE_2, "", 4_098, long),
-    ];
-    for (line, rest, length, want) in cases {
+    for row in LENGTHS.iter() {
+        let (line, rest, length, want) = *row;
         let text = format!(in alloc; "{line:<length$}{rest}")?;
         for most in [1, 4_096, 65_536] {
             let found = place_of(&rt, alloc, text.as_bytes(), most)?;

@@ -3,19 +3,21 @@ use gps_time::Tick;
 use obs_store::{Epoch, Epochs, ObsFile, ObsType, SLOTS, SatObs, Satellites};
 use std::test::Fail;
 
+const SLOTS_BY_NAME: [(&str, usize); 8] = [
+    ("C1C", 0),
+    ("L1L", 9),
+    ("C2W", 10),
+    ("C2C", 14),
+    ("L2W", 15),
+    ("L2C", 19),
+    ("C5Q", 20),
+    ("L5I", 25),
+];
+
 #[test]
 fn names_and_slots(rt: HostRuntime) {
-    let slots = [
-        ("C1C", 0),
-        ("L1L", 9),
-        ("C2W", 10),
-        ("C2C", 14),
-        ("L2W", 15),
-        ("L2C", 19),
-        ("C5Q", 20),
-        ("L5I", 25),
-    ];
-    for (name, slot) in slots {
+    for row in SLOTS_BY_NAME.iter() {
+        let (name, slot) = *row;
         let found = ObsType::named(name.as_bytes()).map(|kind| kind.slot());
         assert_eq!(rt; found, Some(slot), "at {name}");
     }

@@ -22,29 +22,41 @@ fn splits_header_lines(rt: HostRuntime) {
     assert!(rt; past.label == b"END OF HEADER".as_slice());
 }
 
+const VERSIONS: [(&[u8], u16, u8, u8); 3] = [
+    (
+        b"     3.04           OBSERVATION DATA    M                   RINEX VERSION / TYPE",
+        304,
+        b'O',
+        b'M',
+    ),
+    (
+        b"     3.00           N: GNSS NAV DATA    G                   RINEX VERSION / TYPE ",
+        300,
+        b'N',
+        b'G',
+    ),
+    (
+        b"3.05                                                        RINEX VERSION / TYPEpast",
+        305,
+        b' ',
+        b' ',
+    ),
+];
+
+const NO_VERSIONS: [&[u8]; 7] = [
+    b"",
+    b"     3.06           OBSERVATION DATA    M                   RINEX VERSION / TYPE",
+    b"     2.11           OBSERVATION DATA    M                   RINEX VERSION / TYPE",
+    b"     4.00           OBSERVATION DATA    M                   RINEX VERSION / TYPE",
+    b"    3.041           OBSERVATION DATA    M                   RINEX VERSION / TYPE",
+    b"     3.04           OBSERVATION DATA    M                  RINEX VERSION / TYPE",
+    b"     3.04           OBSERVATION DATA    M                   COMMENT",
+];
+
 #[test]
 fn reads_versions(rt: HostRuntime) {
-    let good: [(&[u8], u16, u8, u8); 3] = [
-        (
-            b"     3.04           OBSERVATION DATA    M                   RINEX VERSION / TYPE",
-            304,
-            b'O',
-            b'M',
-        ),
-        (
-            b"     3.00           N: GNSS NAV DATA    G                   RINEX VERSION / TYPE ",
-            300,
-            b'N',
-            b'G',
-        ),
-        (
-            b"3.05                                                        RINEX VERSION / TYPEpast",
-            305,
-            b' ',
-            b' ',
-        ),
-    ];
-    for (bytes, hundredths, kind, system) in good {
+    for row in VERSIONS.iter() {
+        let (bytes, hundredths, kind, system) = *row;
         let want = Version {
             hundredths,
             kind,
@@ -57,16 +69,7 @@ fn reads_versions(rt: HostRuntime) {
         column: 1,
         what: What::Version,
     };
-    let bad: [&[u8]; 7] = [
-        b"",
-        b"     3.06           OBSERVATION DATA    M                   RINEX VERSION / TYPE",
-        b"     2.11           OBSERVATION DATA    M                   RINEX VERSION / TYPE",
-        b"     4.00           OBSERVATION DATA    M                   RINEX VERSION / TYPE",
-        b"    3.041           OBSERVATION DATA    M                   RINEX VERSION / TYPE",
-        b"     3.04           OBSERVATION DATA    M                  RINEX VERSION / TYPE",
-        b"     3.04           OBSERVATION DATA    M                   COMMENT",
-    ];
-    for bytes in bad {
+    for bytes in NO_VERSIONS.iter().copied() {
         assert_eq!(rt; version_of(&line(bytes)), Err(refused));
     }
 }

@@ -61,6 +61,24 @@ fn value_of(rt: &impl Abort, file: &ObsFile, epoch: usize, kind: ObsType) -> Opt
     sats.at(0).values[kind.slot()]
 }
 
+const CODE: Value = Value {
+    amount: 22_123_456_789,
+    lock: 0,
+};
+
+const PHASE: Value = Value {
+    amount: 116_260_123_456,
+    lock: 1,
+};
+
+const VALUES: [(ObsType, Option<Value>); 5] = [
+    (ObsType::C1C, Some(CODE)),
+    (ObsType::L1C, Some(PHASE)),
+    (ObsType::C2W, None),
+    (ObsType::L2W, None),
+    (ObsType::C1W, None),
+];
+
 #[test]
 fn reads_values(rt: HostRuntime) -> Result<(), Fail> {
     let line = "G05  22123456.789 7 116260123.45617                         0.000\n";
@@ -73,22 +91,8 @@ fn reads_values(rt: HostRuntime) -> Result<(), Fail> {
     let epoch = &file.epochs.as_slice()[0];
     assert_eq!(rt; epoch.tag, Tick(13881024300000000));
     assert!(rt; epoch.power);
-    let code = Value {
-        amount: 22_123_456_789,
-        lock: 0,
-    };
-    let phase = Value {
-        amount: 116_260_123_456,
-        lock: 1,
-    };
-    let cases: [(ObsType, Option<Value>); 5] = [
-        (ObsType::C1C, Some(code)),
-        (ObsType::L1C, Some(phase)),
-        (ObsType::C2W, None),
-        (ObsType::L2W, None),
-        (ObsType::C1W, None),
-    ];
-    for (kind, want) in cases {
+    for row in VALUES.iter() {
+        let (kind, want) = *row;
         assert_eq!(rt; value_of(&rt, &file, 0, kind), want);
     }
     let listed = file.listed[ObsType::C2W.slot()] && !file.listed[ObsType::C2X.slot()];
@@ -124,80 +128,82 @@ fn skips_other_systems_and_events(rt: HostRuntime) -> Result<(), Fail> {
     Ok(())
 }
 
+const BAD_BODIES: [(&str, u32, u32, What); 14] = [
+    ("> 2024 01 01 00 00  0.0000000  7  0\n", 5, 32, What::Flag),
+    ("> 2024 01 01 00 00  0.0000000  2  0\n", 5, 32, What::Moving),
+    ("> 2024 01 01 00 00 60.0000000  0  0\n", 5, 3, What::BadDate),
+    (
+        "> 2024    01 00 00  0.0000000  0  0\n",
+        5,
+        8,
+        What::BadField,
+    ),
+    (
+        "  2024 01 01 00 00  0.0000000  0  0\n",
+        5,
+        1,
+        What::BadField,
+    ),
+    (
+        "> 2024 01 01 00 00  0.0000000  0  1\nG00\n",
+        6,
+        1,
+        What::BadSat,
+    ),
+    (
+        "> 2024 01 01 00 00  0.0000000  0  1\nG33\n",
+        6,
+        1,
+        What::BadSat,
+    ),
+    (
+        "> 2024 01 01 00 00  0.0000000  0  1\nR0x\n",
+        6,
+        1,
+        What::BadSat,
+    ),
+    (
+        "> 2024 01 01 00 00  0.0000000  0  2\nG05\nG05\n",
+        7,
+        1,
+        What::Twice,
+    ),
+    (
+        "> 2024 01 01 00 00  0.0000000  0  1\nG05  1234567.8901\n",
+        6,
+        4,
+        What::BadField,
+    ),
+    (
+        "> 2024 01 01 00 00  0.0000000  0  1\nG05   1234567.8908\n",
+        6,
+        18,
+        What::BadField,
+    ),
+    (
+        "> 2024 01 01 00 00  0.0000000  0  3\nG01\nG02\n",
+        8,
+        1,
+        What::Truncated,
+    ),
+    (
+        "> 2024 01 01 00 00  0.0000000  4  1\n",
+        6,
+        1,
+        What::Truncated,
+    ),
+    (
+        "> 2024 01 01 00 00  0.0000000  0  0\n> 2024 01 01 00 00  0.0000000  0  0\n",
+        6,
+        3,
+        What::Order,
+    ),
+];
+
 #[test]
 fn refuses_bodies(rt: HostRuntime) -> Result<(), Fail> {
-    let cases: [(&str, u32, u32, What); 14] = [
-        ("> 2024 01 01 00 00  0.0000000  7  0\n", 5, 32, What::Flag),
-        ("> 2024 01 01 00 00  0.0000000  2  0\n", 5, 32, What::Moving),
-        ("> 2024 01 01 00 00 60.0000000  0  0\n", 5, 3, What::BadDate),
-        (
-            "> 2024    01 00 00  0.0000000  0  0\n",
-            5,
-            8,
-            What::BadField,
-        ),
-        (
-            "  2024 01 01 00 00  0.0000000  0  0\n",
-            5,
-            1,
-            What::BadField,
-        ),
-        (
-            "> 2024 01 01 00 00  0.0000000  0  1\nG00\n",
-            6,
-            1,
-            What::BadSat,
-        ),
-        (
-            "> 2024 01 01 00 00  0.0000000  0  1\nG33\n",
-            6,
-            1,
-            What::BadSat,
-        ),
-        (
-            "> 2024 01 01 00 00  0.0000000  0  1\nR0x\n",
-            6,
-            1,
-            What::BadSat,
-        ),
-        (
-            "> 2024 01 01 00 00  0.0000000  0  2\nG05\nG05\n",
-            7,
-            1,
-            What::Twice,
-        ),
-        (
-            "> 2024 01 01 00 00  0.0000000  0  1\nG05  1234567.8901\n",
-            6,
-            4,
-            What::BadField,
-        ),
-        (
-            "> 2024 01 01 00 00  0.0000000  0  1\nG05   1234567.8908\n",
-            6,
-            18,
-            What::BadField,
-        ),
-        (
-            "> 2024 01 01 00 00  0.0000000  0  3\nG01\nG02\n",
-            8,
-            1,
-            What::Truncated,
-        ),
-        (
-            "> 2024 01 01 00 00  0.0000000  4  1\n",
-            6,
-            1,
-            What::Truncated,
-        ),
-        (
-            "> 2024 01 01 00 00  0.0000000  0  0\n> 2024 01 01 00 00  0.0000000  0  0\n",
-            6,
-            3,
-            What::Order,
-        ),
-    ];
-    for (body, line, column, what) in cases {
+    for row in BAD_BODIES.iter() {
+        let (body, line, column, what) = *row;
         let read = read(&rt, rt.alloc(), &[FIRST, PLACE, TYPES, END, body])?;
         match read {
             Ok(_) => panic!(&rt; "read {body}"),
@@ -207,31 +213,46 @@ fn refuses_bodies(rt: HostRuntime) -> Result<(), Fail> {
     Ok(())
 }
 
+const TYPE_TWICE: &str =
+    "G    2 C1C C1C                                              SYS / # / OBS TYPES\n";
+
+const NO_TYPES: &str =
+    "G    0                                                      SYS / # / OBS TYPES\n";
+
+const TOO_FEW_LINES: &str =
+    "G   14 C1C L1C C2W L2W C1W L1W C1X L1X C1S L1S C1L L1L C2X  SYS / # / OBS TYPES\n";
+
+const SCALED: &str =
+    "G  10                                                       SYS / SCALE FACTOR\n";
+
+const OTHER_TIME: &str =
+    "  2024     1     1     0     0    0.0000000     GLO         TIME OF FIRST OBS\n";
+
+const OTHER_KIND: &str =
+    "     3.04           NAVIGATION DATA     G                   RINEX VERSION / TYPE\n";
+
+const OTHER_SYSTEM: &str =
+    "     3.04           OBSERVATION DATA    R                   RINEX VERSION / TYPE\n";
+
+const BAD_HEADERS: [([&str; 3], u32, u32, What); 12] = [
+    (["", "", ""], 1, 1, What::ObsVersion),
+    (["\u{1f}", TYPES, END], 1, 1, What::ObsVersion),
+    ([OTHER_KIND, TYPES, END], 1, 21, What::Kind),
+    ([OTHER_SYSTEM, TYPES, END], 1, 41, What::Kind),
+    ([FIRST, TYPES, ""], 3, 1, What::NoEnd),
+    ([FIRST, END, ""], 2, 1, What::NoGps),
+    ([FIRST, TYPE_TWICE, END], 2, 12, What::Types),
+    ([FIRST, NO_TYPES, END], 2, 4, What::Types),
+    ([FIRST, TYPES, NO_TYPES], 3, 1, What::Types),
+    ([FIRST, TOO_FEW_LINES, END], 3, 1, What::Types),
+    ([FIRST, SCALED, END], 2, 1, What::Scale),
+    ([FIRST, OTHER_TIME, END], 2, 49, What::TimeSystem),
+];
+
 #[test]
 fn refuses_headers(rt: HostRuntime) -> Result<(), Fail> {
-    let twice = "G    2 C1C C1C                                              SYS / # / OBS TYPES\n";
-    let none = "G    0                                                      SYS / # / OBS TYPES\n";
-    let many = "G   14 C1C L1C C2W L2W C1W L1W C1X L1X C1S L1S C1L L1L C2X  SYS / # / OBS TYPES\n";
-    let scale = "G  10                                                       SYS / SCALE FACTOR\n";
-    let time = "  2024     1     1     0     0    0.0000000     GLO         TIME OF FIRST OBS\n";
-    let kind = "     3.04           NAVIGATION DATA     G                   RINEX VERSION / TYPE\n";
-    let system =
-        "     3.04           OBSERVATION DATA    R                   RINEX VERSION / TYPE\n";
-    let cases: [([&str; 3], u32, u32, What); 12] = [
-        (["", "", ""], 1, 1, What::ObsVersion),
-        (["\u{1f}", TYPES, END], 1, 1, What::ObsVersion),
-        ([kind, TYPES, END], 1, 21, What::Kind),
-        ([system, TYPES, END], 1, 41, What::Kind),
-        ([FIRST, TYPES, ""], 3, 1, What::NoEnd),
-        ([FIRST, END, ""], 2, 1, What::NoGps),
-        ([FIRST, twice, END], 2, 12, What::Types),
-        ([FIRST, none, END], 2, 4, What::Types),
-        ([FIRST, TYPES, none], 3, 1, What::Types),
-        ([FIRST, many, END], 3, 1, What::Types),
-        ([FIRST, scale, END], 2, 1, What::Scale),
-        ([FIRST, time, END], 2, 49, What::TimeSystem),
-    ];
-    for (parts, line, column, what) in cases {
+    for row in BAD_HEADERS.iter() {
+        let (parts, line, column, what) = *row;
         match read(&rt, rt.alloc(), &parts)? {
             Ok(_) => panic!(&rt; "read"),
             Err(at) => assert_eq!(rt; at, At { line, column, what }),
@@ -262,16 +283,12 @@ fn reads_lines_with_returns(rt: HostRuntime) -> Result<(), Fail> {
         returns.push(c)?;
     }
     let file = read_well(&rt, alloc, &[returns.as_str()])?;
-    let code = Value {
-        amount: 22_123_456_789,
-        lock: 0,
-    };
-    assert_eq!(rt; value_of(&rt, &file, 0, ObsType::C1C), Some(code));
+    assert_eq!(rt; value_of(&rt, &file, 0, ObsType::C1C), Some(CODE));
     Ok(())
 }
 
 #[test]
-fn keeps_the_limits(rt: HostRuntime) -> Result<(), Fail> {
+fn keeps_the_longest_line(rt: HostRuntime) -> Result<(), Fail> {
     let alloc = rt.alloc();
     let mut blanks = String::new(alloc);
     for _ in 0..4093 {
@@ -289,6 +306,12 @@ fn keeps_the_limits(rt: HostRuntime) -> Result<(), Fail> {
             what
         })
     );
+    Ok(())
+}
+
+#[test]
+fn keeps_20_000_epochs(rt: HostRuntime) -> Result<(), Fail> {
+    let alloc = rt.alloc();
     let mut text = text_of(alloc, &[FIRST, TYPES, END])?;
     for k in 0..20_000u32 {
         let hour = k / 3600;
