@@ -135,7 +135,8 @@ module _ {S F : Type 0} (r : HeadRules S F) where
   -- what lines of a header are: behind the list of types, within it, and before it
   record TookHead (lines : List (List ℕ)) : Type 0 where
     some : (p : Option (List ℤ)) (d : List ℤ) (types : List (List ℕ)) (n : ℕ) (whole : F) → walk r.rules lines n (r.head p d (Some types)) ≡ Ok whole → TookEnd lines p d types whole
-    more : (p : Option (List ℤ)) (d : List ℤ) (names : List (List ℕ)) (left n : ℕ) (whole : F) → walk r.rules lines n (r.due p d names (suc left)) ≡ Ok whole → TookMore lines p d names (suc left) whole
+    more : (p : Option (List ℤ)) (d : List ℤ) (names : List (List ℕ)) (left n : ℕ) (whole : F)
+        → walk r.rules lines n (r.due p d names (suc left)) ≡ Ok whole → TookMore lines p d names (suc left) whole
     none : (p : Option (List ℤ)) (d : List ℤ) (n : ℕ) (whole : F) → walk r.rules lines n (r.head p d None) ≡ Ok whole → TookList lines p d whole
 
   -- the walk goes on from the same state
@@ -148,7 +149,8 @@ module _ {S F : Type 0} (r : HeadRules S F) where
   one_state : (s t : S) → answer s ≡ answer t → s ≡ t
   one_state s t e = cc (e)
 
-  of_due : (lines : List (List ℕ)) → TookHead lines → (p : Option (List ℤ)) (d : List ℤ) (names : List (List ℕ)) (left n : ℕ) (whole : F) → walk r.rules lines n (r.due p d names left) ≡ Ok whole → TookMore lines p d names left whole
+  of_due : (lines : List (List ℕ)) → TookHead lines → (p : Option (List ℤ)) (d : List ℤ) (names : List (List ℕ)) (left n : ℕ) (whole : F)
+      → walk r.rules lines n (r.due p d names left) ≡ Ok whole → TookMore lines p d names left whole
   of_due lines took p d names zero n whole gives =
       let listed = same_walk lines n (r.head p d (Some names)) (r.due p d names zero) whole (sym (r.all_there p d names)) gives in
       record { further = []; tail = lines; all = names; lines_are = refl; are = (refl, refl); end = took.some p d names n whole listed }
@@ -157,7 +159,8 @@ module _ {S F : Type 0} (r : HeadRules S F) where
   abbrev part_of : List ℕ → HeaderLine → HeadPart
   part_of bytes says = record { bytes = bytes; says = says }
 
-  some_line : (bytes : List ℕ) (lines : List (List ℕ)) → TookHead lines → (p : Option (List ℤ)) (d : List ℤ) (types : List (List ℕ)) (n : ℕ) (whole : F) → walk r.rules (bytes ∷ lines) n (r.head p d (Some types)) ≡ Ok whole → TookEnd (bytes ∷ lines) p d types whole
+  some_line : (bytes : List ℕ) (lines : List (List ℕ)) → TookHead lines → (p : Option (List ℤ)) (d : List ℤ) (types : List (List ℕ)) (n : ℕ) (whole : F)
+      → walk r.rules (bytes ∷ lines) n (r.head p d (Some types)) ≡ Ok whole → TookEnd (bytes ∷ lines) p d types whole
   some_line bytes lines took p d types n whole gives = by_part (r.says bytes) refl (sym (r.admits p d (Some types) bytes) ∙ first.admits)
     where
       first : TookLine r.rules (r.head p d (Some types)) bytes lines n whole
@@ -192,20 +195,30 @@ module _ {S F : Type 0} (r : HeadRules S F) where
           with_part header.Skipped is tt (took.some p d types (n + 1) whole (others (r.head p d (Some types)) (sym (r.skipped p d (Some types) bytes) ∙ gives)))
       by_part (Err flaw) is gives = absurd cc
 
-  more_line : (bytes : List ℕ) (lines : List (List ℕ)) → TookHead lines → (p : Option (List ℤ)) (d : List ℤ) (names : List (List ℕ)) (left n : ℕ) (whole : F) → walk r.rules (bytes ∷ lines) n (r.due p d names (suc left)) ≡ Ok whole → TookMore (bytes ∷ lines) p d names (suc left) whole
+  more_line : (bytes : List ℕ) (lines : List (List ℕ)) → TookHead lines → (p : Option (List ℤ)) (d : List ℤ) (names : List (List ℕ)) (left n : ℕ) (whole : F)
+      → walk r.rules (bytes ∷ lines) n (r.due p d names (suc left)) ≡ Ok whole → TookMore (bytes ∷ lines) p d names (suc left) whole
   more_line bytes lines took p d names left n whole gives = by_part (further_types_of r.layout bytes names (suc left)) refl (sym (r.further p d names left bytes) ∙ first.admits)
     where
       first : TookLine r.rules (r.due p d names (suc left)) bytes lines n whole
       first = walk-took r.rules (r.due p d names (suc left)) bytes lines n whole gives
 
-      by_part : (types : Result TypeList Flaw) → further_types_of r.layout bytes names (suc left) ≡ types → and_then types (λ list. Ok (r.due p d list.names list.left)) ≡ Ok first.next → TookMore (bytes ∷ lines) p d names (suc left) whole
+      by_part : (types : Result TypeList Flaw) → further_types_of r.layout bytes names (suc left) ≡ types
+          → and_then types (λ list. Ok (r.due p d list.names list.left)) ≡ Ok first.next → TookMore (bytes ∷ lines) p d names (suc left) whole
       by_part (Ok list) is gives =
           let next = one_state (r.due p d list.names list.left) first.next gives in
           let rest = of_due lines took p d list.names list.left (n + 1) whole (same_walk lines (n + 1) (r.due p d list.names list.left) first.next whole next first.others) in
-          record { further = bytes ∷ rest.further; tail = rest.tail; all = rest.all; lines_are = ap (λ (l : List (List ℕ)). bytes ∷ l) rest.lines_are; are = (omega arith, first.short, (list, is, rest.are)); end = rest.end }
+          record {
+            further = bytes ∷ rest.further;
+            tail = rest.tail;
+            all = rest.all;
+            lines_are = ap (λ (l : List (List ℕ)). bytes ∷ l) rest.lines_are;
+            are = (omega arith, first.short, (list, is, rest.are));
+            end = rest.end;
+          }
       by_part (Err flaw) is gives = absurd cc
 
-  none_line : (bytes : List ℕ) (lines : List (List ℕ)) → TookHead lines → (p : Option (List ℤ)) (d : List ℤ) (n : ℕ) (whole : F) → walk r.rules (bytes ∷ lines) n (r.head p d None) ≡ Ok whole → TookList (bytes ∷ lines) p d whole
+  none_line : (bytes : List ℕ) (lines : List (List ℕ)) → TookHead lines → (p : Option (List ℤ)) (d : List ℤ) (n : ℕ) (whole : F)
+      → walk r.rules (bytes ∷ lines) n (r.head p d None) ≡ Ok whole → TookList (bytes ∷ lines) p d whole
   none_line bytes lines took p d n whole gives = by_part (r.says bytes) refl (sym (r.admits p d None bytes) ∙ first.admits)
     where
       first : TookLine r.rules (r.head p d None) bytes lines n whole
@@ -214,7 +227,8 @@ module _ {S F : Type 0} (r : HeadRules S F) where
       others : (s : S) → answer s ≡ answer first.next → walk r.rules lines (n + 1) s ≡ Ok whole
       others s same = same_walk lines (n + 1) s first.next whole (one_state s first.next same) first.others
 
-      by_list : (types : Result TypeList Flaw) → first_types_of r.layout bytes ≡ types → r.says bytes ≡ Ok header.Types → and_then types (λ list. Ok (r.due p d list.names list.left)) ≡ Ok first.next → TookList (bytes ∷ lines) p d whole
+      by_list : (types : Result TypeList Flaw) → first_types_of r.layout bytes ≡ types → r.says bytes ≡ Ok header.Types
+          → and_then types (λ list. Ok (r.due p d list.names list.left)) ≡ Ok first.next → TookList (bytes ∷ lines) p d whole
       by_list (Ok list) lists is gives =
           let rest = of_due lines took p d list.names list.left (n + 1) whole (others (r.due p d list.names list.left) gives) in
           record {
