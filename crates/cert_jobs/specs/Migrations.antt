@@ -7,6 +7,7 @@ use Rattle.cert_data.specs.declared.tails.Tail.TheVariants.{Fixed, Unseparated, 
 use Rattle.cert_lines.specs.declared.version.Version.TheVariants.{One}
 use Rattle.cert_spelling.specs.Spelling.{spelling}
 use Rattle.cert_spelling.specs.Lengths.{IsWhole}
+use Rattle.grammar_lines.specs.Beginnings.{NoneBegins}
 use Rattle.cert_text.specs.Rules.{reading_as}
 use Rattle.cert_migrate.specs.declared.old_certs.OldCert.{OldCert}
 use Rattle.cert_migrate.specs.OldSpelling.{old_spelling, IsWholeOld, IsOldCertificate}
@@ -39,10 +40,12 @@ pub record EndsByOld (text : List ℕ) (end : Ending) : Type 0 where
   pub spelled : text ≡ old_spelling old
   pub ends_so : MigrateEnd old end
 
--- the text is none, and is refused at the first place at which the rules of version 1 fail
+-- The text is none, and is refused at the first place at which the rules of version 1 fail. None begins with its lines up
+-- to that one.
 pub record IsOldRefused (name text : List ℕ) (end : Ending) : Type 0 where
   pub at : At
   pub none : IsOldCertificate text → ⊥
+  pub stuck : NoneBegins IsOldCertificate text at.line
   pub gives_is : reading_as One text ≡ Err at
   pub end_is : end ≡ ending Refused [] (refusal_line name at)
 
