@@ -2,3 +2,4 @@ pub mod Parts
 pub mod Completes
 pub mod Says
 pub mod Openings
+pub mod FaultNames

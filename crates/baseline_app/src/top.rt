@@ -16,6 +16,7 @@ ghost use Rattle.sim_run_job.specs.SimRunSays.{SaysOfSimRun};
 ghost use Rattle.run_options.specs.declared.options.Options.{Options};
 ghost use Rattle.cert_jobs.specs.CertRuns.{SaysOfCheck, SaysOfResiduals};
 ghost use Rattle.cert_jobs.specs.MigrateRuns.{SaysOfMigrate};
+ghost use Rattle.session_files.specs.FaultNames.{HaveFault, IsFaultOf};
 ghost use Rattle.session_files.specs.Refusals.{HaveRefused, AreRefusedWhole};
 ghost use Rattle.arcs_job.specs.ArcJobs.{ArcsEnds};
 ghost use Rattle.arcs_job.specs.ArcRuns.{SaysOfArcs};
@@ -54,6 +55,7 @@ fn fix_by_words<F: Files>(
     ensures opened { OpensAtMost 3 (F.opened files.old) (F.opened files.new) }
     ensures fault { IfEnded result (λ end. end.status ≡ Status.ReadFault → Rose (F.faults files.old) (F.faults files.new)) }
     ensures sure { All (F.is_sure_name files.old) (base.now ∷ rover.now ∷ nav.now ∷ []) → IfEnded result (λ end. end.status ≢ Status.ReadFault) }
+    ensures named { IfEnded result (IsFaultOf (F.is_sure_name files.old) (base.now ∷ rover.now ∷ nav.now ∷ [])) }
 {
     fix(
         alloc,
@@ -79,6 +81,7 @@ fn track_by_words<F: Files>(
     ensures opened { OpensAtMost 3 (F.opened files.old) (F.opened files.new) }
     ensures fault { IfEnded result (λ end. end.status ≡ Status.ReadFault → Rose (F.faults files.old) (F.faults files.new)) }
     ensures sure { All (F.is_sure_name files.old) (base.now ∷ rover.now ∷ nav.now ∷ []) → IfEnded result (λ end. end.status ≢ Status.ReadFault) }
+    ensures named { IfEnded result (IsFaultOf (F.is_sure_name files.old) (base.now ∷ rover.now ∷ nav.now ∷ [])) }
 {
     track(
         alloc,
@@ -104,6 +107,7 @@ fn arcs_by_words<F: Files>(
     ensures opened { OpensAtMost 3 (F.opened files.old) (F.opened files.new) }
     ensures fault { IfEnded result (λ end. end.status ≡ Status.ReadFault → Rose (F.faults files.old) (F.faults files.new)) }
     ensures sure { All (F.is_sure_name files.old) (base.now ∷ rover.now ∷ nav.now ∷ []) → IfEnded result (λ end. end.status ≢ Status.ReadFault) }
+    ensures named { IfEnded result (IsFaultOf (F.is_sure_name files.old) (base.now ∷ rover.now ∷ nav.now ∷ [])) }
 {
     arcs(
         alloc,
@@ -145,6 +149,7 @@ fn do_job<F: Files>(alloc: Global, job: &Job, files: &mut F) -> Result<Answer, S
     ensures opened { OpensAtMost (length (file_words job.now)) (F.opened files.old) (F.opened files.new) }
     ensures fault { IfEnded result (λ end. end.status ≡ Status.ReadFault → Rose (F.faults files.old) (F.faults files.new)) }
     ensures sure { All (F.is_sure_name files.old) (file_words job.now) → IfEnded result (λ end. end.status ≢ Status.ReadFault) }
+    ensures named { IfEnded result (IsFaultOf (F.is_sure_name files.old) (file_words job.now)) }
     ensures untouched { file_words job.now ≡ [] → files.new ≡ files.old }
 {
     match job {
@@ -199,6 +204,8 @@ fn answer_of<F: Files>(alloc: Global, words: &[String], files: &mut F) -> Result
     ensures fault { IfOk result (λ a. a.status ≡ Status.ReadFault → Rose (F.faults files.old) (F.faults files.new)) }
     ensures sure { (job : Job) → IsJob (texts_of words.now) job → All (F.is_sure_name files.old) (file_words job)
         → IfOk result (λ a. a.status ≢ Status.ReadFault) }
+    ensures named { (job : Job) → IsJob (texts_of words.now) job
+        → IfOk result (λ a. IsFaultOf (F.is_sure_name files.old) (file_words job) (ending_of a)) }
     ensures untouched { ((job : Job) → IsJob (texts_of words.now) job → file_words job ≡ []) → files.new ≡ files.old }
 {
     let job = match read_words(alloc, words) {
@@ -218,7 +225,8 @@ fn answer_of<F: Files>(alloc: Global, words: &[String], files: &mut F) -> Result
 
 /// Does what the words after the program's name ask for, and writes its two texts, `out` first.
 /// Words that ask for no job, or for one without files, leave the files as they are. Each file word of a job is opened once
-/// at most. The file whose refusal is told was read to its end, or is too large.
+/// at most. The file whose refusal is told was read to its end, or is too large; that of which a read fault is told is none
+/// that can't fail.
 pub fn run<F: Files, O: Sink, E: Sink>(
     alloc: Global,
     words: &[String],
@@ -236,6 +244,9 @@ pub fn run<F: Files, O: Sink, E: Sink>(
     ensures opened { (job : Job) → IsJob (texts_of words.now) job → OpensAtMost (length (file_words job)) (F.opened files.old) (F.opened files.new) }
     ensures sure { (job : Job) → IsJob (texts_of words.now) job → All (F.is_sure_name files.old) (file_words job)
         → result ≢ Status.ReadFault }
+    ensures named { (job : Job) → IsJob (texts_of words.now) job
+        → HaveFault (F.is_sure_name files.old) (file_words job) result
+        (GainsUnlessFault (sink_change (E.contents err.old) (E.contents err.new) (E.faults err.old) (E.faults err.new))) }
     ensures untouched { ((job : Job) → IsJob (texts_of words.now) job → file_words job ≡ []) → files.new ≡ files.old }
     ensures write { result ≡ Status.WriteFault → Rose (O.faults out.old) (O.faults out.new) ⊎ Rose (E.faults err.old) (E.faults err.new) }
     ensures zero { (rows : List ℕ) → IsJob (texts_of words.now) (Job.Zero rows) → SaysOfZero (F.text_of files.old) rows result
@@ -297,6 +308,9 @@ fn write_answer<F: Files, O: Sink, E: Sink>(
     ensures opened { (job : Job) → IsJob (texts_of words.now) job → OpensAtMost (length (file_words job)) (F.opened files.old) (F.opened files.new) }
     ensures sure { (job : Job) → IsJob (texts_of words.now) job → All (F.is_sure_name files.old) (file_words job)
         → result ≢ Status.ReadFault }
+    ensures named { (job : Job) → IsJob (texts_of words.now) job
+        → HaveFault (F.is_sure_name files.old) (file_words job) result
+        (GainsUnlessFault (sink_change (E.contents err.old) (E.contents err.new) (E.faults err.old) (E.faults err.new))) }
     ensures untouched { ((job : Job) → IsJob (texts_of words.now) job → file_words job ≡ []) → files.new ≡ files.old }
 {
     match answer_of(alloc, words, files) {
