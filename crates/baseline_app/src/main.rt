@@ -28,10 +28,11 @@
 //! fixed, which is then strictly best in the old boxes. `sim_run`: with status 0 the simulated texts stand for a session whose outcome is
 //! a fix, with status 1 for one whose outcome is none, and out has gained the four lines, with `match yes` exactly where
 //! it is a fix with the integers of the truth. `usage`, `read`, `sure`, `write`: statuses 2, 4 and 5 come only with
-//! their cause, and 4 never for sure names. `named`: a read fault is told of a file word that is no sure name. `untouched`: words that ask for no job, or for one without files, leave all
-//! files as they are. `complete`: where the file is told and is of the job's form, for the system that is asked for and
-//! in either format where the system has both, and no count rises, the job's text is written with status 0 or 1, or
-//! memory was refused; `sim` and `sim run` need no file for that.
+//! their cause, and 4 never for sure names. `named`: a read fault is told of a file word that is no sure name.
+//! `untouched`: words that ask for no job, or for one without files, leave all files as they are. `complete`: where the
+//! file is told and is of the job's form, for the system that is asked for and in either format where the system has
+//! both, and no count rises, the job's text is written with status 0 or 1, or memory was refused; `sim` and `sim run`
+//! need no file for that.
 #![tactic(auto)]
 
 #[cfg(test)]

@@ -2,9 +2,10 @@
 //!
 //! `read_cert` answers the certificate whose spelling the text is (`ok`), the only one with that spelling (`only`),
 //! or refuses a text that is the spelling of none (`refused`), at the first line and check that fails (`exact`); no
-//! certificate's text begins with the lines up to that one (`stuck`). Want of memory is told as that alone. So what `write_cert` wrote is read again, and no other text gives it. Two
-//! certificates with one spelling are the same (`one_spelling_law`). `read_as` says the same of a text in the form of
-//! either version, and of the certificates that this form can say.
+//! certificate's text begins with the lines up to that one (`stuck`). Want of memory is told as that alone. So what
+//! `write_cert` wrote is read again, and no other text gives it. Two certificates with one spelling are the same
+//! (`one_spelling_law`). `read_as` says the same of a text in the form of either version, and of the certificates that
+//! this form can say.
 #![tactic(auto)]
 
 mod arcs;
