@@ -43,7 +43,8 @@ part_status (part.File file) seed epochs sats bands system end ends = sim_status
 part_status part.Run seed epochs sats bands system end ends = sim_run_status seed epochs sats bands system end ends
 
 -- none of them is refused
-pub part_whole : (told : List ℕ → Option (List ℕ)) (left : ℕ → Option (List ℕ)) (names : List (List ℕ)) (p : Part) (seed epochs sats bands system : ℕ) (end : Ending) → PartEnds p seed epochs sats bands system end → AreRefusedWhole told left names end
+pub part_whole : (told : List ℕ → Option (List ℕ)) (left : ℕ → Option (List ℕ)) (names : List (List ℕ)) (p : Part) (seed epochs sats bands system : ℕ)
+    (end : Ending) → PartEnds p seed epochs sats bands system end → AreRefusedWhole told left names end
 part_whole told left names p seed epochs sats bands system end ends = stop_whole told left names end (verdict_whole told left names end (part_verdict p seed epochs sats bands system end ends))
 
 -- each command's own part
@@ -81,7 +82,8 @@ answer_ends job words told end asked readable no_fault (inl answer) =
 answer_ends job words told end asked readable no_fault (inr (inl usage)) = absurd (usage.none job asked)
 answer_ends job words told end asked readable no_fault (inr (inr none)) = inl (ap (λ (e : Ending). e.status) none)
 
-pub run_complete : (job : Job) (words : List (List ℕ)) (told : List ℕ → Option (List ℕ)) (result : Status) (out err : SinkChange) → IsRun words told result out err → IsJob words job → IsReadable job told → result ≢ ReadFault → IsComplete job told result out err
+pub run_complete : (job : Job) (words : List (List ℕ)) (told : List ℕ → Option (List ℕ)) (result : Status) (out err : SinkChange)
+    → IsRun words told result out err → IsJob words job → IsReadable job told → result ≢ ReadFault → IsComplete job told result out err
 run_complete job words told result out err run asked readable no_fault = elim (run.written) [
   | inl written ↦ elim (answer_ends job words told run.end asked readable (λ e. no_fault (written.same ∙ e)) run.answer) [
     | inl none ↦ inr (inl (written.same ∙ none))
@@ -99,7 +101,8 @@ run_complete job words told result out err run asked readable no_fault = elim (r
 ]
 
 -- usage comes only where the words ask for no job
-pub run_usage : (words : List (List ℕ)) (told : List ℕ → Option (List ℕ)) (result : Status) (out err : SinkChange) → IsRun words told result out err → result ≡ Usage → (job : Job) → IsJob words job → ⊥
+pub run_usage : (words : List (List ℕ)) (told : List ℕ → Option (List ℕ)) (result : Status) (out err : SinkChange) → IsRun words told result out err
+    → result ≡ Usage → (job : Job) → IsJob words job → ⊥
 run_usage words told result out err run is job asked = elim (run.written) [
   | inl written ↦ elim (run.answer) [
     | inl answer ↦ subst IsJobStatus (sym written.same ∙ is) (job_status answer.job told run.end answer.ends)
@@ -111,7 +114,8 @@ run_usage words told result out err run is job asked = elim (run.written) [
 ]
 
 -- a write fault comes only where a sink's count rose
-pub run_write : (words : List (List ℕ)) (told : List ℕ → Option (List ℕ)) (result : Status) (out err : SinkChange) → IsRun words told result out err → result ≡ WriteFault → Rose out.before out.now ⊎ Rose err.before err.now
+pub run_write : (words : List (List ℕ)) (told : List ℕ → Option (List ℕ)) (result : Status) (out err : SinkChange) → IsRun words told result out err
+    → result ≡ WriteFault → Rose out.before out.now ⊎ Rose err.before err.now
 run_write words told result out err run is = elim (run.written) [
   | inl written ↦ elim (run.answer) [
     | inl answer ↦ absurd (subst IsJobStatus (sym written.same ∙ is) (job_status answer.job told run.end answer.ends))
@@ -123,26 +127,31 @@ run_write words told result out err run is = elim (run.written) [
 ]
 
 -- that of a job with one file, of which the words tell the name
-pub asked_whole : (r : Result Answer Stop) (told : List ℕ → Option (List ℕ)) (left : ℕ → Option (List ℕ)) (job asked : Job) (name word : List ℕ) → job ≡ asked → name ≡ word → file_words asked ≡ word ∷ []
+pub asked_whole : (r : Result Answer Stop) (told : List ℕ → Option (List ℕ)) (left : ℕ → Option (List ℕ)) (job asked : Job) (name word : List ℕ)
+    → job ≡ asked → name ≡ word → file_words asked ≡ word ∷ []
     → IfEnded r (IsRefusedWhole told left (name ∷ [])) → IfEnded r (AreRefusedWhole told left (file_words job))
 asked_whole r told left job asked name word is same words refused =
     let names : name ∷ [] ≡ file_words job = ap (λ (n : List ℕ). n ∷ []) same ∙ (sym words ∙ ap file_words (sym is)) in
     ended_weaker r _ _ (λ end whole. stop_whole told left (file_words job) end (subst (λ (ns : List (List ℕ)). IsRefusedWhole told left ns end) names whole)) refused
 
 -- ---- the refusal that is told
-told_file : (told : List ℕ → Option (List ℕ)) (left : ℕ → Option (List ℕ)) (P Q : List ℕ → Type 0) (name : List ℕ) → ((text : List ℕ) → P text → Q text) → IsRefusedFile told left P name → IsRefusedFile told left Q name
+told_file : (told : List ℕ → Option (List ℕ)) (left : ℕ → Option (List ℕ)) (P Q : List ℕ → Type 0) (name : List ℕ)
+    → ((text : List ℕ) → P text → Q text) → IsRefusedFile told left P name → IsRefusedFile told left Q name
 told_file told left P Q name more (inl refused) = inl (record { at = refused.at; line = more _ refused.line; read = refused.read })
 told_file told left P Q name more (inr large) = inr (record { line = more _ large.line; large = large.large })
 
-told_any : (told : List ℕ → Option (List ℕ)) (left : ℕ → Option (List ℕ)) (P Q : List ℕ → Type 0) (names : List (List ℕ)) → ((text : List ℕ) → P text → Q text) → Any (IsRefusedFile told left P) names ⊎ ((what : PairWhat) × P (pair_line what))
+told_any : (told : List ℕ → Option (List ℕ)) (left : ℕ → Option (List ℕ)) (P Q : List ℕ → Type 0) (names : List (List ℕ))
+    → ((text : List ℕ) → P text → Q text) → Any (IsRefusedFile told left P) names ⊎ ((what : PairWhat) × P (pair_line what))
     → Any (IsRefusedFile told left Q) names ⊎ ((what : PairWhat) × Q (pair_line what))
 told_any told left P Q names more (inl found) = inl (found.0, found.1, found.2, found.3, told_file told left P Q found.1 more found.4)
 told_any told left P Q names more (inr pair) = inr (pair.0, more _ pair.1)
 
 -- a refusal that is written is that of the ending, whose status and text for err are these
-pub refused_told : (told : List ℕ → Option (List ℕ)) (left : ℕ → Option (List ℕ)) (names : List (List ℕ)) (given end : Ending) (result : Status) (out err : SinkChange) → end.status ≡ given.status → end.err ≡ given.err
+pub refused_told : (told : List ℕ → Option (List ℕ)) (left : ℕ → Option (List ℕ)) (names : List (List ℕ)) (given end : Ending) (result : Status)
+    (out err : SinkChange) → end.status ≡ given.status → end.err ≡ given.err
     → IsDelivered end result out err → AreRefusedWhole told left names given → HaveRefused told left names result (GainsUnlessFault err)
 refused_told told left names given end result out err same_status same_err (inl written) refused = λ is.
-    told_any told left (λ text. given.err ≡ text) (GainsUnlessFault err) names (λ text same. subst (GainsUnlessFault err) (same_err ∙ same) written.err_gains) (refused (sym same_status ∙ (sym written.same ∙ is)))
+    told_any told left (λ text. given.err ≡ text) (GainsUnlessFault err) names
+        (λ text same. subst (GainsUnlessFault err) (same_err ∙ same) written.err_gains) (refused (sym same_status ∙ (sym written.same ∙ is)))
 refused_told told left names given end result out err same_status same_err (inr (inl by_out)) refused = λ is. absurd (cc (by_out.fault, is))
 refused_told told left names given end result out err same_status same_err (inr (inr by_err)) refused = λ is. absurd (cc (by_err.fault, is))

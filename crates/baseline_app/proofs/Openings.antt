@@ -7,7 +7,8 @@ use Rattle.command_words.specs.Words.{file_words, IsJob}
 use Rattle.command_words.proofs.OneJob.{one_job}
 
 -- the words ask for one job
-pub one_opened : (words : List (List ℕ)) (j job : Job) (before now : Option ℕ) → IsJob words j → OpensAtMost (length (file_words j)) before now → IsJob words job → OpensAtMost (length (file_words job)) before now
+pub one_opened : (words : List (List ℕ)) (j job : Job) (before now : Option ℕ) → IsJob words j → OpensAtMost (length (file_words j)) before now
+    → IsJob words job → OpensAtMost (length (file_words job)) before now
 one_opened words j job before now is opens asked = subst (λ (k : Job). OpensAtMost (length (file_words k)) before now) (one_job words j job is asked) opens
 
 -- they ask for none

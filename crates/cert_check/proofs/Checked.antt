@@ -25,7 +25,8 @@ use Rattle.cert_check.specs.Visits.{IsSearchedWithin, RestsWithin}
 
 -- what is strictly best is so in a tail that says it
 pub best_said : (s : Session) (t : Tail) (d : Numbers) → Says t d → IsStrictlyBest s (first_of d.best) d.moved → IsBestIn s t
-best_said s (Fixed h moved best u) d said is = subst (λ (z : List ℤ). IsStrictlyBest s z moved) (sym said.best_is.first_is) (subst (λ (m : List ℤ). IsStrictlyBest s (first_of d.best) m) (sym said.moved_is) is)
+best_said s (Fixed h moved best u) d said is = subst (λ (z : List ℤ). IsStrictlyBest s z moved) (sym said.best_is.first_is)
+    (subst (λ (m : List ℤ). IsStrictlyBest s (first_of d.best) m) (sym said.moved_is) is)
 best_said s (Unseparated h moved best u) d said is = absurd said
 best_said s (Weak column pivot) d said is = absurd said
 best_said s (Overwidth place) d said is = absurd said
@@ -49,7 +50,8 @@ decided_by s f b m t of_rows best moved narrow low upper = record {
 
 -- a decision that is refused
 pub wide_decision : (s : Session) (budget : ℕ) (f : Form) (b : TwoBest) (place : Place) → IsFormOf s f → IsTwoBest f b → (place ≡ Float → HasWide (move_of f (first_of b)))
-    → (place ≡ Sum → (HasWide (move_of f (first_of b)) → ⊥) × AreWide s.arcs (fine_signals s.signals) s.pairs (first_of b) (move_of f (first_of b))) → (place ≡ Float) ⊎ (place ≡ Sum) → IsWideAt s budget place
+    → (place ≡ Sum → (HasWide (move_of f (first_of b)) → ⊥) × AreWide s.arcs (fine_signals s.signals) s.pairs (first_of b) (move_of f (first_of b)))
+    → (place ≡ Float) ⊎ (place ≡ Sum) → IsWideAt s budget place
 wide_decision s budget f b place of_rows best move sum (inl is) =
     subst (IsWideAt s budget) (sym is) (record { form = f; best = b; has = record { of_rows = of_rows; best_is = best }; wide = move is })
 wide_decision s budget f b place of_rows best move sum (inr is) =

@@ -43,7 +43,12 @@ same_form s f g a b =
     let taken : Ok (stored f.d f.l f.columns 0 3, form_of_table f.p (f.columns - 3)) ≡ Ok (stored g.d g.l g.columns 0 3, form_of_table g.p (g.columns - 3)) =
     sym a.lowered.front ∙ same_front f.h n m same ∙ ap (λ (e : ℕ). front_of e m) h ∙ b.lowered.front in
     let pair : (stored f.d f.l f.columns 0 3, form_of_table f.p (f.columns - 3)) ≡ (stored g.d g.l g.columns 0 3, form_of_table g.p (g.columns - 3)) = cc in
-    record { h = h; columns = a.lowered.columns ∙ same.columns ∙ sym b.lowered.columns; baseline = ap (λ (p : List Factor × List Column). p.0) pair; form = ap (λ (p : List Factor × List Column). p.1) pair }
+    record {
+      h = h;
+      columns = a.lowered.columns ∙ same.columns ∙ sym b.lowered.columns;
+      baseline = ap (λ (p : List Factor × List Column). p.0) pair;
+      form = ap (λ (p : List Factor × List Column). p.1) pair
+    }
 
 -- ---- one decision
 
@@ -51,7 +56,8 @@ pub same_best : (f g : Form) (b c : TwoBest) → SameForm f g → IsTwoBest f b 
 same_best f g b c same x y =
     let integers : integers_of g ≡ integers_of f = ap (λ (n : ℕ). n - 4) (sym same.columns) in
     let moved : TwoLeast (columns_of f) (pos (integers_of f)) (first_of c) (second_of c) =
-    subst (λ (n : ℕ). TwoLeast (columns_of f) (pos n) (first_of c) (second_of c)) integers (subst (λ (p : List Column). TwoLeast p (pos (integers_of g)) (first_of c) (second_of c)) (sym same.form) y.least) in
+    subst (λ (n : ℕ). TwoLeast (columns_of f) (pos n) (first_of c) (second_of c)) integers
+        (subst (λ (p : List Column). TwoLeast p (pos (integers_of g)) (first_of c) (second_of c)) (sym same.form) y.least) in
     let first = first_unique (columns_of f) (pos (integers_of f)) (first_of b) (second_of b) (first_of c) (second_of c) x.least moved in
     let second = second_unique (columns_of f) (pos (integers_of f)) (first_of b) (second_of b) (first_of c) (second_of c) x.least moved in
     record {

@@ -37,14 +37,16 @@ pub migrate_status : (told : List ℕ → Option (List ℕ)) (cert : List ℕ) (
 migrate_status told cert end ends = file_status told cert (MigrateEnds cert) end (text_status cert end) ends
 
 -- a file that was read to its end
-pub migrate_whole : (told : List ℕ → Option (List ℕ)) (left : ℕ → Option (List ℕ)) (name text : List ℕ) (end : Ending) → IsReadToEnd told left name → MigrateEnds name text end → IsRefusedWhole told left (name ∷ []) end
+pub migrate_whole : (told : List ℕ → Option (List ℕ)) (left : ℕ → Option (List ℕ)) (name text : List ℕ) (end : Ending) → IsReadToEnd told left name
+    → MigrateEnds name text end → IsRefusedWhole told left (name ∷ []) end
 migrate_whole told left name text end read (inl by_old) = verdict_whole told left (name ∷ []) end (verdict_at end _ by_old.ends_so.end_is (verdict_status by_old.ends_so.cert.tail))
 migrate_whole told left name text end read (inr refused) = read_whole told left name refused.at end read refused.end_is
 
 abbrev admitted : (told : List ℕ → Option (List ℕ)) (name : List ℕ) → IsOldAdmitted told name → IsAdmitted told name (λ lines. Unit {0})
 admitted told name file = record { text = file.text; told_is = file.told_is; fits = file.fits; file = tt }
 
-pub migrate_verdict : (told : List ℕ → Option (List ℕ)) (cert : List ℕ) (end : Ending) → IsOldAdmitted told cert → end.status ≢ ReadFault → EndsByFile told cert (MigrateEnds cert) end → IsVerdictStatus end.status
+pub migrate_verdict : (told : List ℕ → Option (List ℕ)) (cert : List ℕ) (end : Ending) → IsOldAdmitted told cert → end.status ≢ ReadFault
+    → EndsByFile told cert (MigrateEnds cert) end → IsVerdictStatus end.status
 migrate_verdict told cert end file no_fault ends = elim (admitted_ends told cert (λ lines. Unit {0}) (MigrateEnds cert) end (admitted told cert file) no_fault ends) [
   | inl by_old ↦ verdict_at end _ by_old.ends_so.end_is (verdict_status by_old.ends_so.cert.tail)
   | inr refused ↦ absurd (refused.none file.is)
@@ -62,7 +64,8 @@ said told name ReadFault out says = tt
 said told name WriteFault out says = tt
 said told name NoMemory out says = tt
 
-old_says : (told : List ℕ → Option (List ℕ)) (name text : List ℕ) (end : Ending) (out : SinkChange) → IsTextOf told name text → EndsByOld text end → Appends out.old out.new end.out → SaysOfMigrate told name end.status out
+old_says : (told : List ℕ → Option (List ℕ)) (name text : List ℕ) (end : Ending) (out : SinkChange) → IsTextOf told name text → EndsByOld text end
+    → Appends out.old out.new end.out → SaysOfMigrate told name end.status out
 old_says told name text end out is by_old written =
     let e = by_old.ends_so in
     says_at told name end _ out e.end_is (said told name (status_of e.cert.tail) out (record {
@@ -79,7 +82,8 @@ old_says told name text end out is by_old written =
     }))
 
 -- what is written of an ending is what it says of the file
-pub migrate_says : (told : List ℕ → Option (List ℕ)) (cert : List ℕ) (end : Ending) (out : SinkChange) → EndsByFile told cert (MigrateEnds cert) end → Appends out.old out.new end.out → SaysOfMigrate told cert end.status out
+pub migrate_says : (told : List ℕ → Option (List ℕ)) (cert : List ℕ) (end : Ending) (out : SinkChange) → EndsByFile told cert (MigrateEnds cert) end
+    → Appends out.old out.new end.out → SaysOfMigrate told cert end.status out
 migrate_says told cert end out (inl by_text) written = elim (by_text.ends_so) [
   | inl by_old ↦ old_says told cert by_text.text end out by_text.is by_old written
   | inr refused ↦ says_at told cert end _ out refused.end_is tt

@@ -129,11 +129,13 @@ numbers_push s (u ∷ texts) (m ∷ ns) t n are is = (are.0, numbers_push s text
 pub none_taken : (s : Setting) (old : List Given) → TakesNumbers s [] old old
 none_taken s old = record { numbers = []; are = tt; new_are = sym (append-nil old) }
 
-pub one_taken : (s : Setting) (texts : List Text) (old new : List Given) (t : Text) (n : ℕ) → TakesNumbers s texts old new → IsValue s t n → TakesNumbers s (texts ++ t ∷ []) old (new ++ given_with s n ∷ [])
+pub one_taken : (s : Setting) (texts : List Text) (old new : List Given) (t : Text) (n : ℕ) → TakesNumbers s texts old new → IsValue s t n
+    → TakesNumbers s (texts ++ t ∷ []) old (new ++ given_with s n ∷ [])
 one_taken s texts old new t n is number = record {
   numbers = is.numbers ++ n ∷ [];
   are = numbers_push s texts is.numbers t n is.are number;
-  new_are = ap (λ (gs : List Given). gs ++ given_with s n ∷ []) is.new_are ∙ append_assoc old (map (given_with s) is.numbers) (given_with s n ∷ []) ∙ ap (λ (gs : List Given). old ++ gs) (sym (map_push s is.numbers n));
+  new_are = ap (λ (gs : List Given). gs ++ given_with s n ∷ []) is.new_are ∙ append_assoc old (map (given_with s) is.numbers) (given_with s n ∷ [])
+      ∙ ap (λ (gs : List Given). old ++ gs) (sym (map_push s is.numbers n));
 }
 
 -- so far: the settings before a place have their numbers, and the others none
@@ -144,7 +146,8 @@ pub record HasUpTo (rows : List Row) (given : List Given) (place : ℕ) : Type 0
 pub next_taken : (rows : List Row) (old new : List Given) (s : Setting) → HasUpTo rows old (place_of s) → TakesNumbers s (values_in (name_of s) rows) old new → HasUpTo rows new (place_of s + 1)
 next_taken rows old new s has takes = record {
   before = λ r lt. of_before r lt (is_same s r) refl;
-  behind = λ r le. numbers r ∙ ap (λ (ns : List ℕ). ns ++ numbers_for r (map (given_with s) takes.numbers)) (has.behind r (omega arith)) ∙ other_numbers s r takes.numbers (apart r le (is_same s r) refl);
+  behind = λ r le. numbers r ∙ ap (λ (ns : List ℕ). ns ++ numbers_for r (map (given_with s) takes.numbers)) (has.behind r (omega arith))
+      ∙ other_numbers s r takes.numbers (apart r le (is_same s r) refl);
 }
   where
     numbers : (r : Setting) → numbers_for r new ≡ numbers_for r old ++ numbers_for r (map (given_with s) takes.numbers)
@@ -160,7 +163,9 @@ next_taken rows old new s has takes = record {
     of_before : (r : Setting) → place_of r < place_of s + 1 → (b : Bool) → is_same s r ≡ b → AreNumbers r (values_in (name_of r) rows) (numbers_for r new)
     of_before r lt true e =
         let it : s ≡ r = same_setting s r e in
-        let own : numbers_for s new ≡ takes.numbers = numbers s ∙ ap (λ (ns : List ℕ). ns ++ numbers_for s (map (given_with s) takes.numbers)) (has.behind s (omega arith)) ∙ own_numbers s takes.numbers in
+        let own : numbers_for s new ≡ takes.numbers =
+            numbers s ∙ ap (λ (ns : List ℕ). ns ++ numbers_for s (map (given_with s) takes.numbers)) (has.behind s (omega arith))
+            ∙ own_numbers s takes.numbers in
         subst (λ (t : Setting). AreNumbers t (values_in (name_of t) rows) (numbers_for t new)) it (subst (λ (ns : List ℕ). AreNumbers s (values_in (name_of s) rows) ns) (sym own) takes.are)
     of_before r lt false e =
         let kept : numbers_for r new ≡ numbers_for r old = numbers r ∙ ap (λ (ns : List ℕ). numbers_for r old ++ ns) (other_numbers s r takes.numbers e) ∙ append-nil (numbers_for r old) in

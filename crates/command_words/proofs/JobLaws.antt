@@ -82,7 +82,8 @@ pub split_account : (words : List Text) (command : Text) (rows : List Row) → I
 split_account words command rows is =
     let its = its_command command is.options is.found in
     let named_so = named commands command command is.options is.found in (
-      ap (λ (ws : List Text). fault_of (app_with commands) ws) is.words_are ∙ program_fails_as commands command is.options is.rest named_so ∙ leaf_passes (built_shape (command, is.options)) is.options is.rest rows its is.ends,
+      ap (λ (ws : List Text). fault_of (app_with commands) ws) is.words_are ∙ program_fails_as commands command is.options is.rest named_so
+      ∙ leaf_passes (built_shape (command, is.options)) is.options is.rest rows its is.ends,
       ap (λ (ws : List Text). subcommand_of (app_with commands) ws) is.words_are ∙ program_gives commands command is.options is.rest named_so
           ∙ ap (λ (rs : List Row). Some (command, rs)) (leaf_rows (built_shape (command, is.options)) is.options is.rest rows its is.ends),
     )
@@ -156,7 +157,8 @@ pub record InTable (command : Text) (given : List Given) : Type 0 where
   pub known : AreKnown options given
   pub long : (words : List Text) → has_short (command ∷ words) ≡ has_short words
 
-plain_in_table : (name : Text) (words : List Text) (command : Text) (plain : List Text) (given : List Given) → command_named name commands ≡ Some (name, []) → ((ws : List Text) → has_short (name ∷ ws) ≡ has_short ws)
+plain_in_table : (name : Text) (words : List Text) (command : Text) (plain : List Text) (given : List Given)
+    → command_named name commands ≡ Some (name, []) → ((ws : List Text) → has_short (name ∷ ws) ≡ has_short ws)
     → IsPlainJob name words command plain given → InTable command given
 plain_in_table name words command plain given found long asked = subst (λ (c : Text). InTable c given) (sym asked.command_is)
     (subst (λ (g : List Given). InTable name g) (sym asked.none_given) (record { options = []; found = found; known = tt; long = long }))
@@ -184,7 +186,8 @@ pub record IsPairs (s : Setting) (given : List Given) : Type 0 where
   pub no_ratio : numbers_for Ratio given ≡ []
   pub no_budget : numbers_for Budget given ≡ []
 
-one_known : (s : Setting) (n : ℕ) (given : List Given) → numbers_for Ratio (record { setting = s; number = n } ∷ given) ≡ [] → numbers_for Budget (record { setting = s; number = n } ∷ given) ≡ [] → IsPairs s given
+one_known : (s : Setting) (n : ℕ) (given : List Given) → numbers_for Ratio (record { setting = s; number = n } ∷ given) ≡ []
+    → numbers_for Budget (record { setting = s; number = n } ∷ given) ≡ [] → IsPairs s given
 one_known Ratio n given h also = absurd (cc h)
 one_known Budget n given h also = absurd (cc also)
 one_known Mask n given h also = record { among = refl; no_ratio = h; no_budget = also }
@@ -242,7 +245,8 @@ in_table command plain given (job.Arcs base rover nav options) asked = subst (λ
 clap_job : (command : Text) (behind plain : List Text) (given : List Given) → InTable command given → AreParted behind plain given → IsClapJob (command ∷ behind) command behind plain given
 clap_job command behind plain given table parted =
     let sh = built_shape (command, table.options) in
-    let p = passes sh table.options [] [] None 0 false parted.pieces parted.behind parted.further (its_command command table.options table.found) (nothing_pending sh [] 0) parted.are_pieces parted.is_behind
+    let p = passes sh table.options [] [] None 0 false parted.pieces parted.behind parted.further (its_command command table.options table.found)
+        (nothing_pending sh [] 0) parted.are_pieces parted.is_behind
     (subst (λ (g : List Given). AreKnown table.options g) parted.given_are table.known) in
     record {
       rows = p.final;
@@ -254,7 +258,8 @@ clap_job command behind plain given table parted =
         no_short = table.long behind ∙ ap has_short parted.words_are ∙ all_long parted.pieces parted.behind parted.further parted.are_pieces parted.is_behind;
         ends = subst (λ (ws : List Text). Ends sh start ws p.final) (sym parted.words_are) p.ends;
       };
-      adds = subst (λ (ws : List Text). Adds [] p.final ws given) (sym parted.plain_are) (subst (λ (g : List Given). Adds [] p.final (plain_of parted.pieces ++ parted.further) g) (sym parted.given_are) p.adds);
+      adds = subst (λ (ws : List Text). Adds [] p.final ws given) (sym parted.plain_are)
+          (subst (λ (g : List Given). Adds [] p.final (plain_of parted.pieces ++ parted.further) g) (sym parted.given_are) p.adds);
     }
 
 -- clap splits the words of a job, into the words and numbers by which they are one

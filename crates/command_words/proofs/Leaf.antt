@@ -22,7 +22,8 @@ known : (options : List Text) (name : Text) → is_among name options ≡ true �
 known [] name among = absurd (cc among)
 known (o ∷ options) name among = go (bytes_eq o name) refl (λ h. known options name h)
   where
-    go : (b : Bool) → bytes_eq o name ≡ b → (is_among name options ≡ true → arg_by_long (built_rules options) name ≡ Some (built_option name)) → arg_by_long (built_rules (o ∷ options)) name ≡ Some (built_option name)
+    go : (b : Bool) → bytes_eq o name ≡ b → (is_among name options ≡ true → arg_by_long (built_rules options) name ≡ Some (built_option name))
+        → arg_by_long (built_rules (o ∷ options)) name ≡ Some (built_option name)
     go true same rest = rw same (ap (λ (n : Text). Some (built_option n)) (is_it o name same))
     go false other rest = rw other (rest (rw other at among))
 
@@ -38,7 +39,8 @@ by_id : (options : List Text) (name : Text) → is_among name options ≡ true �
 by_id [] name among = absurd (cc among)
 by_id (o ∷ options) name among = go (bytes_eq o name) refl (λ h. by_id options name h)
   where
-    go : (b : Bool) → bytes_eq o name ≡ b → (is_among name options ≡ true → arg_by_id (built_rules options) name ≡ Some (built_option name)) → arg_by_id (built_rules (o ∷ options)) name ≡ Some (built_option name)
+    go : (b : Bool) → bytes_eq o name ≡ b → (is_among name options ≡ true → arg_by_id (built_rules options) name ≡ Some (built_option name))
+        → arg_by_id (built_rules (o ∷ options)) name ≡ Some (built_option name)
     go true same rest = rw same (ap (λ (n : Text). Some (built_option n)) (is_it o name same))
     go false other rest = rw other (rest (rw other at among))
 
@@ -46,7 +48,8 @@ word_by_id : (options : List Text) → is_among word_id options ≡ false → ar
 word_by_id [] none = refl
 word_by_id (o ∷ options) none = go (bytes_eq o word_id) refl (λ h. word_by_id options h)
   where
-    go : (b : Bool) → bytes_eq o word_id ≡ b → (is_among word_id options ≡ false → arg_by_id (built_rules options) word_id ≡ Some built_word) → arg_by_id (built_rules (o ∷ options)) word_id ≡ Some built_word
+    go : (b : Bool) → bytes_eq o word_id ≡ b → (is_among word_id options ≡ false → arg_by_id (built_rules options) word_id ≡ Some built_word)
+        → arg_by_id (built_rules (o ∷ options)) word_id ≡ Some built_word
     go true same rest = absurd (cc (rw same at none))
     go false other rest = rw other (rest (rw other at none))
 
@@ -75,7 +78,8 @@ none_required : (options : List Text) (rows : List Row) → list_any (λ (a : Ru
 none_required [] rows = refl
 none_required (o ∷ options) rows = none_required options rows
 
-pub is_command : (s : Shape) (options : List Text) → s.rules ≡ built_rules options → is_among word_id options ≡ false → s.arg_required_else_help ≡ false → s.subcommand_required ≡ false → s.subcommand_negates_reqs ≡ false → IsCommand s options
+pub is_command : (s : Shape) (options : List Text) → s.rules ≡ built_rules options → is_among word_id options ≡ false
+    → s.arg_required_else_help ≡ false → s.subcommand_required ≡ false → s.subcommand_negates_reqs ≡ false → IsCommand s options
 is_command s options rules no_word no_help no_sub no_negation = record {
   known = λ name among. rw rules (known options name among);
   unknown = λ name none. rw rules (unknown options name none);

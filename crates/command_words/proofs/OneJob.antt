@@ -29,7 +29,8 @@ one_plain name ws vs c p g first second = sym first.plain_are ∙ second.plain_a
 one_file : (name a b : List ℕ) (c : List ℕ) (p : List (List ℕ)) (g : List Given) → IsPlainJob name (a ∷ []) c p g → IsPlainJob name (b ∷ []) c p g → a ≡ b
 one_file name a b c p g first second = ap (λ (ws : List (List ℕ)). get_or ws 0 []) (one_plain name (a ∷ []) (b ∷ []) c p g first second)
 
-one_orbit : (nav nav' : List ℕ) (system system' sat sat' : ℕ) (tick tick' : Tick) (c : List ℕ) (p : List (List ℕ)) (g : List Given) → IsOrbitJob nav system sat tick.0 c p g → IsOrbitJob nav' system' sat' tick'.0 c p g
+one_orbit : (nav nav' : List ℕ) (system system' sat sat' : ℕ) (tick tick' : Tick) (c : List ℕ) (p : List (List ℕ)) (g : List Given)
+    → IsOrbitJob nav system sat tick.0 c p g → IsOrbitJob nav' system' sat' tick'.0 c p g
     → job.Orbit nav system sat tick ≡ job.Orbit nav' system' sat' tick'
 one_orbit nav nav' system system' sat sat' tick tick' c p g first second =
     let words = one_plain (codes "orbit") _ _ c p g first.asked second.asked in
@@ -61,10 +62,12 @@ one_part p q same = same_Some p q (sym (is_part_name p) ∙ ap part_with_letter 
 one_signals : (given : List Given) (k l b c : ℕ) → IsSignalChoice given k b → IsSignalChoice given l c → (k ≡ l) × (b ≡ c)
 one_signals given k l b c first second =
     let system : k ≡ l = one_choice (numbers_for System given) IsSystem GPS k l first.system_is second.system_is in
-    let also : IsChosenBy (numbers_for Bands given) (AreBandsOf k) (default_bands k) c = subst (λ (n : ℕ). IsChosenBy (numbers_for Bands given) (AreBandsOf n) (default_bands n) c) (sym system) second.bands_are in
+    let also : IsChosenBy (numbers_for Bands given) (AreBandsOf k) (default_bands k) c =
+        subst (λ (n : ℕ). IsChosenBy (numbers_for Bands given) (AreBandsOf n) (default_bands n) c) (sym system) second.bands_are in
     (system, one_choice (numbers_for Bands given) (AreBandsOf k) (default_bands k) b c first.bands_are also)
 
-one_sim : (s r : Sim) (c : List ℕ) (p : List (List ℕ)) (g : List Given) → IsSimJob s c p g → IsSimJob r c p g → job.Sim s.part s.seed s.epochs s.sats s.bands s.system ≡ job.Sim r.part r.seed r.epochs r.sats r.bands r.system
+one_sim : (s r : Sim) (c : List ℕ) (p : List (List ℕ)) (g : List Given) → IsSimJob s c p g → IsSimJob r c p g
+    → job.Sim s.part s.seed s.epochs s.sats s.bands s.system ≡ job.Sim r.part r.seed r.epochs r.sats r.bands r.system
 one_sim s r c p g first second =
     let words = sym first.plain_are ∙ second.plain_are in
     let part_word : first.part_word ≡ second.part_word = ap (λ (ws : List (List ℕ)). get_or ws 0 []) words in
@@ -96,7 +99,8 @@ one_of_options given o p first second =
     let same : numbers_of o ≡ numbers_of p = cc (ratio, budget, mask, gap, jump, arc, step, first_pair, count, signals.0, signals.1) in
     one_options o p same
 
-one_arcs : (base rover nav base' rover' nav' : List ℕ) (o p : Options) (c : List ℕ) (w : List (List ℕ)) (g : List Given) → IsArcsJob base rover nav o c w g → IsArcsJob base' rover' nav' p c w g → job.Arcs base rover nav o ≡ job.Arcs base' rover' nav' p
+one_arcs : (base rover nav base' rover' nav' : List ℕ) (o p : Options) (c : List ℕ) (w : List (List ℕ)) (g : List Given)
+    → IsArcsJob base rover nav o c w g → IsArcsJob base' rover' nav' p c w g → job.Arcs base rover nav o ≡ job.Arcs base' rover' nav' p
 one_arcs base rover nav base' rover' nav' o p c w g first second =
     let words = sym first.plain_are ∙ second.plain_are in
     let same_base : base ≡ base' = ap (λ (ws : List (List ℕ)). get_or ws 0 []) words in
@@ -112,7 +116,8 @@ pub record IsSameRun (base rover nav base' rover' nav' : List ℕ) (o p : Option
   pub same_nav : nav ≡ nav'
   pub same : o ≡ p
 
-one_run : (name base rover nav base' rover' nav' : List ℕ) (o p : Options) (c : List ℕ) (w : List (List ℕ)) (g : List Given) → IsRunJob name base rover nav o c w g → IsRunJob name base' rover' nav' p c w g
+one_run : (name base rover nav base' rover' nav' : List ℕ) (o p : Options) (c : List ℕ) (w : List (List ℕ)) (g : List Given)
+    → IsRunJob name base rover nav o c w g → IsRunJob name base' rover' nav' p c w g
     → IsSameRun base rover nav base' rover' nav' o p
 one_run name base rover nav base' rover' nav' o p c w g first second =
     let words = sym first.plain_are ∙ second.plain_are in
@@ -330,7 +335,8 @@ same_command words a b first second = ap (λ (ws : List (List ℕ)). get_or ws 0
 
 pub one_job : (words : List (List ℕ)) (a b : Job) → IsJob words a → IsJob words b → a ≡ b
 one_job words a b first second =
-    let parts = one_parting first.behind first.plain second.plain first.given second.given first.parted (subst (λ (ws : List (List ℕ)). AreParted ws second.plain second.given) (same_behind words a b first second) second.parted) in
+    let parts = one_parting first.behind first.plain second.plain first.given second.given first.parted
+        (subst (λ (ws : List (List ℕ)). AreParted ws second.plain second.given) (same_behind words a b first second) second.parted) in
     one_of first.command first.plain first.given a b first.asked
     (subst (λ (c : List ℕ). IsJobOf c first.plain first.given b) (same_command words a b first second)
     (subst (λ (p : List (List ℕ)). IsJobOf second.command p first.given b) (sym parts.0)
@@ -341,7 +347,8 @@ other_count name a b c d command asked =
     let same : 3 ≡ 1 = ap (λ (ws : List (List ℕ)). length ws) asked.plain_are in absurd (omega (arith, same))
 
 -- no job of `orbit` without a satellite
-pub no_satellite : (command nav sat tick : List ℕ) → (command ≡ codes "arcs" → ⊥) → (command ≡ codes "fix" → ⊥) → (command ≡ codes "track" → ⊥) → (command ≡ codes "sim" → ⊥) → ((system n : ℕ) → IsSatellite sat system n → ⊥)
+pub no_satellite : (command nav sat tick : List ℕ) → (command ≡ codes "arcs" → ⊥) → (command ≡ codes "fix" → ⊥) → (command ≡ codes "track" → ⊥)
+    → (command ≡ codes "sim" → ⊥) → ((system n : ℕ) → IsSatellite sat system n → ⊥)
     → (job : Job) → IsJobOf command (nav ∷ sat ∷ tick ∷ []) [] job → ⊥
 no_satellite command nav sat tick no_arcs no_fix no_track no_sim none (job.Zero rows) asked = other_count (codes "zero") rows nav sat tick command asked
 no_satellite command nav sat tick no_arcs no_fix no_track no_sim none (job.List obs) asked = other_count (codes "list") obs nav sat tick command asked
@@ -376,7 +383,8 @@ sim_asked plain given (job.Track base rover nav options) asked = absurd (omega (
 sim_asked plain given (job.CheckTrack cert) asked = absurd (omega (arith, other_mark 883 2915 (codes "sim") _ _ refl asked.command_is refl refl))
 
 -- and there is none where its four words aren't those of such a session
-pub no_sim : (part seed epochs sats : List ℕ) (given : List Given) → ((s : Sim) → IsSim part seed epochs sats s → ⊥) → (job : Job) → IsJobOf (codes "sim") (part ∷ seed ∷ epochs ∷ sats ∷ []) given job → ⊥
+pub no_sim : (part seed epochs sats : List ℕ) (given : List Given) → ((s : Sim) → IsSim part seed epochs sats s → ⊥) → (job : Job)
+    → IsJobOf (codes "sim") (part ∷ seed ∷ epochs ∷ sats ∷ []) given job → ⊥
 no_sim part seed epochs sats given none job asked =
     let it = sim_asked (part ∷ seed ∷ epochs ∷ sats ∷ []) given job asked in
     let s : Sim = it.0 in

@@ -33,7 +33,8 @@ peeled_apart s r d e m n xs ys name digits first second rest =
     let number : m ≡ n = one_value s d m n first (subst (λ (t : Setting). IsValue t d n) (sym setting) (subst (λ (w : List ℕ). IsValue r w n) (sym digits) second)) in
     record { same = cc (setting, digits, number); rest = rest }
 
-peeled_joined : (s r : Setting) (d e : List ℕ) (m n : ℕ) (xs ys : List (List ℕ)) → name_of s ++ 61 ∷ d ≡ name_of r ++ 61 ∷ e → IsValue s d m → IsValue r e n → xs ≡ ys → ArePeeled (Joined s d m) (Joined r e n) xs ys
+peeled_joined : (s r : Setting) (d e : List ℕ) (m n : ℕ) (xs ys : List (List ℕ)) → name_of s ++ 61 ∷ d ≡ name_of r ++ 61 ∷ e → IsValue s d m
+    → IsValue r e n → xs ≡ ys → ArePeeled (Joined s d m) (Joined r e n) xs ys
 peeled_joined s r d e m n xs ys text first second rest =
     let setting : s ≡ r = one_name (name_of s ++ 61 ∷ d) s r (begins_with_name s (61 ∷ d)) (subst (λ (t : List ℕ). setting_of t ≡ Some r) (sym text) (begins_with_name r (61 ∷ e))) in
     let behind : 61 ∷ d ≡ 61 ∷ e = same_behind (name_of s) (61 ∷ d) (61 ∷ e) (text ∙ ap (λ (t : Setting). name_of t ++ 61 ∷ e) (sym setting)) in
@@ -86,7 +87,8 @@ pub record IsLeft (p : Piece) (rest plain : List (List ℕ)) (given : List Given
   pub plain_are : plain ≡ plain_of_piece p ++ plain_rest
   pub given_are : given ≡ given_of_piece p ++ given_rest
 
-left_of : (p : Piece) (rest words plain : List (List ℕ)) (given : List Given) (pieces : List Piece) (behind further : List (List ℕ)) → IsPiece p → words ≡ words_of_piece p ++ rest → words ≡ words_of pieces ++ behind → ArePieces pieces → IsBehind behind further
+left_of : (p : Piece) (rest words plain : List (List ℕ)) (given : List Given) (pieces : List Piece) (behind further : List (List ℕ)) → IsPiece p
+    → words ≡ words_of_piece p ++ rest → words ≡ words_of pieces ++ behind → ArePieces pieces → IsBehind behind further
     → plain ≡ plain_of pieces ++ further → given ≡ given_of pieces → IsLeft p rest plain given
 left_of p rest words plain given [] behind further is first second are is_behind plain_are given_are = absurd (no_behind p rest behind further is is_behind (sym first ∙ second))
 left_of p rest words plain given (q ∷ pieces) behind further is first second are is_behind plain_are given_are =
@@ -100,7 +102,8 @@ left_of p rest words plain given (q ∷ pieces) behind further is first second a
     }
 
 pub left : (p : Piece) (rest plain : List (List ℕ)) (given : List Given) → IsPiece p → AreParted (words_of_piece p ++ rest) plain given → IsLeft p rest plain given
-left p rest plain given is parted = left_of p rest _ plain given parted.pieces parted.behind parted.further is refl parted.words_are parted.are_pieces parted.is_behind parted.plain_are parted.given_are
+left p rest plain given is parted = left_of p rest _ plain given parted.pieces parted.behind parted.further is refl parted.words_are parted.are_pieces
+    parted.is_behind parted.plain_are parted.given_are
 
 -- what is left of parted words behind some pieces
 pub record AreLeft (pieces : List Piece) (rest plain : List (List ℕ)) (given : List Given) : Type 0 where
@@ -113,7 +116,8 @@ pub record AreLeft (pieces : List Piece) (rest plain : List (List ℕ)) (given :
 all_left : (pieces : List Piece) (rest plain : List (List ℕ)) (given : List Given) → ArePieces pieces → AreParted (words_of pieces ++ rest) plain given → AreLeft pieces rest plain given
 all_left [] rest plain given are parted = record { plain_rest = plain; given_rest = given; parted = parted; plain_are = refl; given_are = refl }
 all_left (p ∷ pieces) rest plain given are parted =
-    let split : AreParted (words_of_piece p ++ (words_of pieces ++ rest)) plain given = subst (λ (ws : List (List ℕ)). AreParted ws plain given) (append_assoc (words_of_piece p) (words_of pieces) rest) parted in
+    let split : AreParted (words_of_piece p ++ (words_of pieces ++ rest)) plain given =
+        subst (λ (ws : List (List ℕ)). AreParted ws plain given) (append_assoc (words_of_piece p) (words_of pieces) rest) parted in
     let first = left p (words_of pieces ++ rest) plain given are.0 split in
     let more = all_left pieces rest first.plain_rest first.given_rest are.1 first.parted in
     record {
@@ -135,9 +139,11 @@ pub record IsAllBehind (further plain : List (List ℕ)) (given : List Given) : 
   pub plain_are : plain ≡ further
   pub none_given : given ≡ []
 
-behind_parted : (behind further plain : List (List ℕ)) (given : List Given) (pieces : List Piece) (other more : List (List ℕ)) → IsBehind behind further → behind ≡ words_of pieces ++ other → ArePieces pieces → IsBehind other more → plain ≡ plain_of pieces ++ more → given ≡ given_of pieces
+behind_parted : (behind further plain : List (List ℕ)) (given : List Given) (pieces : List Piece) (other more : List (List ℕ)) → IsBehind behind further
+    → behind ≡ words_of pieces ++ other → ArePieces pieces → IsBehind other more → plain ≡ plain_of pieces ++ more → given ≡ given_of pieces
     → IsAllBehind further plain given
-behind_parted behind further plain given [] other more is same are also plain_are given_are = record { plain_are = plain_are ∙ sym (one_behind behind further other more is same also); none_given = given_are }
+behind_parted behind further plain given [] other more is same are also plain_are given_are =
+    record { plain_are = plain_are ∙ sym (one_behind behind further other more is same also); none_given = given_are }
 behind_parted behind further plain given (q ∷ pieces) other more is same are also plain_are given_are =
     absurd (no_behind q (words_of pieces ++ other) behind further are.0 is (sym (same ∙ append_assoc (words_of_piece q) (words_of pieces) other)))
 
@@ -146,7 +152,9 @@ pub one_parting : (words plain other : List (List ℕ)) (given others : List Giv
 one_parting words plain other given others first second =
     let left = all_left first.pieces first.behind other others first.are_pieces (subst (λ (ws : List (List ℕ)). AreParted ws other others) first.words_are second) in
     let rest = left.parted in
-    let all = behind_parted first.behind first.further left.plain_rest left.given_rest rest.pieces rest.behind rest.further first.is_behind rest.words_are rest.are_pieces rest.is_behind rest.plain_are rest.given_are in (
+    let all = behind_parted first.behind first.further left.plain_rest left.given_rest rest.pieces rest.behind rest.further first.is_behind
+        rest.words_are rest.are_pieces rest.is_behind rest.plain_are rest.given_are in
+    (
       first.plain_are ∙ ap (λ (ws : List (List ℕ)). plain_of first.pieces ++ ws) (sym all.plain_are) ∙ sym left.plain_are,
       first.given_are ∙ sym (append-nil (given_of first.pieces)) ∙ ap (λ (gs : List Given). given_of first.pieces ++ gs) (sym all.none_given) ∙ sym left.given_are,
     )

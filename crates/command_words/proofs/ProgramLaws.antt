@@ -46,7 +46,8 @@ raw_are [] id = refl
 raw_are (e ∷ entries) id = go (bytes_eq e.0.now id) refl (raw_are entries id)
   where
     go : (b : Bool) → bytes_eq e.0.now id ≡ b
-        → unwrap_or (option_map raw_values (option_map (λ (x : Entry). x.1) (find (λ (x : Entry). bytes_eq x.0.now id) entries))) [] ≡ unwrap_or (option_map (λ (r : Row). r.values) (find (λ (r : Row). bytes_eq r.id id) (map row_of entries))) []
+        → unwrap_or (option_map raw_values (option_map (λ (x : Entry). x.1) (find (λ (x : Entry). bytes_eq x.0.now id) entries))) []
+            ≡ unwrap_or (option_map (λ (r : Row). r.values) (find (λ (r : Row). bytes_eq r.id id) (map row_of entries))) []
         → unwrap_or (option_map raw_values (option_map (λ (x : Entry). x.1) (find (λ (x : Entry). bytes_eq x.0.now id) (e ∷ entries)))) []
         ≡ unwrap_or (option_map (λ (r : Row). r.values) (find (λ (r : Row). bytes_eq r.id id) (map row_of (e ∷ entries)))) []
     go true same rest = rw same refl
@@ -68,7 +69,8 @@ map_take f xs i d lt =
     let next : suc i ≡ i + 1 = omega arith in
     subst (λ (n : ℕ). map f (take n xs) ≡ map f (take i xs) ++ f (get_or xs i d) ∷ []) next (ap (λ ys. map f ys) (take-suc xs i d lt) ∙ map_push f (take i xs) (get_or xs i d))
 
-pub option_added : (name : Text) (options : List (Bor Text)) (i : ℕ) (d : Bor Text) (old new : App) → i < length options → old ≡ started name (map (λ o. o.now) (take i options)) → new ≡ with_rule old (option_rule (get_or options i d).now)
+pub option_added : (name : Text) (options : List (Bor Text)) (i : ℕ) (d : Bor Text) (old new : App) → i < length options
+    → old ≡ started name (map (λ o. o.now) (take i options)) → new ≡ with_rule old (option_rule (get_or options i d).now)
     → new ≡ started name (map (λ o. o.now) (take (i + 1) options))
 option_added name options i d old new lt old_is new_is =
     new_is ∙ ap (λ (a : App). with_rule a (option_rule (get_or options i d).now)) old_is ∙ one_more name (map (λ (o : Bor Text). o.now) (take i options)) (get_or options i d).now
@@ -79,7 +81,8 @@ number_at s [] i d all lt = absurd (omega arith)
 number_at s (t ∷ texts) zero d all lt = all.0
 number_at s (t ∷ texts) (suc i) d all lt = number_at s texts i d all.1 (omega arith)
 
-pub text_taken : (s : Setting) (texts : List (Bor Text)) (old given new : List Given) (i : ℕ) (d : Bor Text) (bytes : Text) (n : ℕ) → TakesNumbers s (map (λ t. t.now) (take i texts)) old given → i < length texts
+pub text_taken : (s : Setting) (texts : List (Bor Text)) (old given new : List Given) (i : ℕ) (d : Bor Text) (bytes : Text) (n : ℕ)
+    → TakesNumbers s (map (λ t. t.now) (take i texts)) old given → i < length texts
     → bytes ≡ (get_or texts i d).now → IsValue s bytes n → new ≡ given ++ given_with s n ∷ [] → TakesNumbers s (map (λ t. t.now) (take (i + 1) texts)) old new
 text_taken s texts old given new i d bytes n takes lt bytes_are number new_are =
     let so_far = map (λ (t : Bor Text). t.now) (take i texts) in
@@ -106,7 +109,8 @@ module _ {B : Type 0} (name : B → Text) (rows : B → List Row) where
   no_pair None p first second = absurd (cc second)
   no_pair (Some b) p first second = absurd (cc first)
 
-pub is_split : (words : List Text) (command : Text) (rows : List Row) → has_short words ≡ false → fault_of (app_with commands) words ≡ [] → subcommand_of (app_with commands) words ≡ Some (command, rows) → IsSplit words command rows
+pub is_split : (words : List Text) (command : Text) (rows : List Row) → has_short words ≡ false → fault_of (app_with commands) words ≡ []
+    → subcommand_of (app_with commands) words ≡ Some (command, rows) → IsSplit words command rows
 is_split words command rows no_short passes gives =
     let is = account_split words no_short passes in
     let same : (is.command, is.rows) ≡ (command, rows) = same_Some (is.command, is.rows) (command, rows) (sym is.gives ∙ gives) in

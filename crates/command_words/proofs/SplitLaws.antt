@@ -138,7 +138,9 @@ adds_option rows final s d n plain given is more = record {
     texts_of : (r : Setting) (b : Bool) → is_same s r ≡ b → values_in (name_of r) final ≡ values_in (name_of r) rows ++ texts_with s d more.texts r
     texts_of r true e =
         let it : s ≡ r = same_setting s r e in
-        let put_it : values_in (name_of r) (put (name_of s) d rows) ≡ values_in (name_of r) rows ++ d ∷ [] = subst (λ (t : Setting). values_in (name_of r) (put (name_of t) d rows) ≡ values_in (name_of r) rows ++ d ∷ []) (sym it) (put_same (name_of r) d rows) in
+        let put_it : values_in (name_of r) (put (name_of s) d rows) ≡ values_in (name_of r) rows ++ d ∷ [] =
+            subst (λ (t : Setting). values_in (name_of r) (put (name_of t) d rows) ≡ values_in (name_of r) rows ++ d ∷ []) (sym it)
+                (put_same (name_of r) d rows) in
         more.texts_are r ∙ ap (λ (ws : List Text). ws ++ more.texts r) put_it ∙ append_assoc (values_in (name_of r) rows) (d ∷ []) (more.texts r)
         ∙ ap (λ (b : Bool). values_in (name_of r) rows ++ (if b then d ∷ more.texts r else more.texts r)) (sym e)
     texts_of r false e =
@@ -231,7 +233,8 @@ abbrev pub AreKnown : List Text → List Given → Type 0
 AreKnown options [] = Unit {0}
 AreKnown options (g ∷ given) = (is_among (name_of g.setting) options ≡ true) × AreKnown options given
 
-pub passes : (sh : Shape) (options : List Text) (r rows : List Row) (p : Option (Text × List Text)) (skip : ℕ) (was_word : Bool) (pieces : List Piece) (behind further : List Text) → IsCommand sh options
+pub passes : (sh : Shape) (options : List Text) (r rows : List Row) (p : Option (Text × List Text)) (skip : ℕ) (was_word : Bool) (pieces : List Piece)
+    (behind further : List Text) → IsCommand sh options
     → IsSettled sh (record { rows = r; pending = p; skip = skip }) rows → ArePieces pieces → IsBehind behind further → AreKnown options (given_of pieces)
     → Passes sh (at r p skip (free was_word) false) (words_of pieces ++ behind) rows (plain_of pieces ++ further) (given_of pieces)
 passes sh options r rows p skip was_word [] [] further is settled are none known =
@@ -252,18 +255,22 @@ passes sh options r rows p skip was_word (Plain word ∷ pieces) behind further 
       adds = adds_word rows rest.final word (plain_of pieces ++ further) (given_of pieces) rest.adds;
     }
 passes sh options r rows p skip was_word (Apart s d n ∷ pieces) behind further is settled are is_behind known =
-    let rest = passes sh options rows (put (name_of s) d rows) (Some (name_of s, d ∷ [])) skip false pieces behind further is (option_pending sh options (name_of s) rows skip d is known.0) are.1 is_behind known.1 in
+    let rest = passes sh options rows (put (name_of s) d rows) (Some (name_of s, d ∷ [])) skip false pieces behind further is
+        (option_pending sh options (name_of s) rows skip d is known.0) are.1 is_behind known.1 in
     record {
       final = rest.final;
-      ends = ends_before sh _ _ (45 ∷ 45 ∷ name_of s) (d ∷ (words_of pieces ++ behind)) rest.final (name_steps sh options r rows p skip was_word (45 ∷ 45 ∷ name_of s) (name_of s) is settled (named_word s).0 (named_word s).1 known.0)
+      ends = ends_before sh _ _ (45 ∷ 45 ∷ name_of s) (d ∷ (words_of pieces ++ behind)) rest.final
+          (name_steps sh options r rows p skip was_word (45 ∷ 45 ∷ name_of s) (name_of s) is settled (named_word s).0 (named_word s).1 known.0)
           (ends_before sh _ _ d (words_of pieces ++ behind) rest.final (value_steps sh options rows skip (name_of s) d is known.0 (plain_word d (value_word s d n are.0))) rest.ends);
       adds = adds_option rows rest.final s d n (plain_of pieces ++ further) (given_of pieces) are.0 rest.adds;
     }
 passes sh options r rows p skip was_word (Joined s d n ∷ pieces) behind further is settled are is_behind known =
-    let rest = passes sh options (put (name_of s) d rows) (put (name_of s) d rows) None skip false pieces behind further is (nothing_pending sh (put (name_of s) d rows) skip) are.1 is_behind known.1 in
+    let rest = passes sh options (put (name_of s) d rows) (put (name_of s) d rows) None skip false pieces behind further is
+        (nothing_pending sh (put (name_of s) d rows) skip) are.1 is_behind known.1 in
     record {
       final = rest.final;
-      ends = ends_before sh _ _ (45 ∷ 45 ∷ (name_of s ++ 61 ∷ d)) (words_of pieces ++ behind) rest.final (joined_steps sh options r rows p skip was_word (45 ∷ 45 ∷ (name_of s ++ 61 ∷ d)) (name_of s) d is settled (joined_word s d).0 (joined_word s d).1 known.0) rest.ends;
+      ends = ends_before sh _ _ (45 ∷ 45 ∷ (name_of s ++ 61 ∷ d)) (words_of pieces ++ behind) rest.final (joined_steps sh options r rows p skip
+            was_word (45 ∷ 45 ∷ (name_of s ++ 61 ∷ d)) (name_of s) d is settled (joined_word s d).0 (joined_word s d).1 known.0) rest.ends;
       adds = adds_option rows rest.final s d n (plain_of pieces ++ further) (given_of pieces) are.0 rest.adds;
     }
 
@@ -323,7 +330,8 @@ one_of s [] t ys all = all.0
 one_of s (x ∷ xs) t ys all = one_of s xs t ys all.1
 
 -- the value of an option is among those at the end
-its_number : (rows final : List Row) (s : Setting) (t : Text) (plain : List Text) (given : List Given) → Adds (put (name_of s) t rows) final plain given → AreAll s (values_in (name_of s) final) → (n : ℕ) × IsValue s t n
+its_number : (rows final : List Row) (s : Setting) (t : Text) (plain : List Text) (given : List Given)
+    → Adds (put (name_of s) t rows) final plain given → AreAll s (values_in (name_of s) final) → (n : ℕ) × IsValue s t n
 its_number rows final s t plain given adds all =
     let values : values_in (name_of s) final ≡ values_in (name_of s) rows ++ t ∷ adds.texts s =
     adds.texts_are s ∙ ap (λ (ws : List Text). ws ++ adds.texts s) (put_same (name_of s) t rows) ∙ append_assoc (values_in (name_of s) rows) (t ∷ []) (adds.texts s) in
@@ -334,12 +342,14 @@ rows_at_end sh w rows final settled ends = sym settled.rows_are ∙ ends.settled
 
 further_found : (sh : Shape) (options : List Text) (r rows final : List Row) (p : Option (Text × List Text)) (skip : ℕ) (waits : Waiting) (words : List Text) → IsCommand sh options
     → IsSettled sh (record { rows = r; pending = p; skip = skip }) rows → Ends sh (at r p skip waits true) words final → Adds rows final words []
-further_found sh options r rows final p skip waits [] is settled ends = subst (λ (f : List Row). Adds rows f [] []) (rows_at_end sh (at r p skip waits true) rows final settled ends) (adds_nothing rows)
+further_found sh options r rows final p skip waits [] is settled ends =
+    subst (λ (f : List Row). Adds rows f [] []) (rows_at_end sh (at r p skip waits true) rows final settled ends) (adds_nothing rows)
 further_found sh options r rows final p skip waits (word ∷ words) is settled ends =
     adds_word rows final word words [] (further_found sh options rows (put word_id word rows) final (Some (word_id, word ∷ [])) skip positional words is (word_pending sh options rows skip word is)
     (ends_after sh _ _ word words final (further_steps sh options r rows p skip waits word is settled) ends))
 
-one_piece : (piece : Piece) (words : List Text) (rows final : List Row) (found : Found words rows final) → IsPiece piece → AreParted (words_of_piece piece ++ words) (plain_of_piece piece ++ found.plain) (given_of_piece piece ++ found.given)
+one_piece : (piece : Piece) (words : List Text) (rows final : List Row) (found : Found words rows final) → IsPiece piece
+    → AreParted (words_of_piece piece ++ words) (plain_of_piece piece ++ found.plain) (given_of_piece piece ++ found.given)
 one_piece piece words rows final found is = record {
   pieces = piece ∷ found.parted.pieces;
   behind = found.parted.behind;
@@ -361,15 +371,23 @@ abbrev pub FoundAt : Shape → List Row → ℕ → List Text → Type 0
 FoundAt sh final skip words = (r rows : List Row) (p : Option (Text × List Text)) (was_word : Bool) → IsSettled sh (record { rows = r; pending = p; skip = skip }) rows → has_short words ≡ false
     → Ends sh (at r p skip (free was_word) false) words final → Found words rows final
 
-plain_found : (sh : Shape) (options : List Text) (final : List Row) (skip : ℕ) (word : Text) (words : List Text) → Knows sh options final → FoundAt sh final skip words → IsTrue (is_ordinary word) → has_short words ≡ false
-    → (r rows : List Row) (p : Option (Text × List Text)) (was_word : Bool) → IsSettled sh (record { rows = r; pending = p; skip = skip }) rows → Ends sh (at r p skip (free was_word) false) (word ∷ words) final → Found (word ∷ words) rows final
+plain_found : (sh : Shape) (options : List Text) (final : List Row) (skip : ℕ) (word : Text) (words : List Text) → Knows sh options final
+    → FoundAt sh final skip words → IsTrue (is_ordinary word) → has_short words ≡ false
+    → (r rows : List Row) (p : Option (Text × List Text)) (was_word : Bool) → IsSettled sh (record { rows = r; pending = p; skip = skip }) rows
+    → Ends sh (at r p skip (free was_word) false) (word ∷ words) final → Found (word ∷ words) rows final
 plain_found sh options final skip word words knows rest ordinary no_short r rows p was_word settled ends =
     let found = rest rows (put word_id word rows) (Some (word_id, word ∷ [])) true (word_pending sh options rows skip word knows.is) no_short
     (ends_after sh _ _ word words final (word_steps sh options r rows p skip was_word word knows.is settled (plain_word word ordinary)) ends) in
-    record { plain = word ∷ found.plain; given = found.given; parted = one_piece (Plain word) words (put word_id word rows) final found ordinary; adds = adds_word rows final word found.plain found.given found.adds }
+    record {
+      plain = word ∷ found.plain;
+      given = found.given;
+      parted = one_piece (Plain word) words (put word_id word rows) final found ordinary;
+      adds = adds_word rows final word found.plain found.given found.adds
+    }
 
 separator_found : (sh : Shape) (options : List Text) (final : List Row) (skip : ℕ) (words : List Text) → Knows sh options final
-    → (r rows : List Row) (p : Option (Text × List Text)) (was_word : Bool) → IsSettled sh (record { rows = r; pending = p; skip = skip }) rows → Ends sh (at r p skip (free was_word) false) ((45 ∷ 45 ∷ []) ∷ words) final → Found ((45 ∷ 45 ∷ []) ∷ words) rows final
+    → (r rows : List Row) (p : Option (Text × List Text)) (was_word : Bool) → IsSettled sh (record { rows = r; pending = p; skip = skip }) rows
+    → Ends sh (at r p skip (free was_word) false) ((45 ∷ 45 ∷ []) ∷ words) final → Found ((45 ∷ 45 ∷ []) ∷ words) rows final
 separator_found sh options final skip words knows r rows p was_word settled ends = record {
   plain = words;
   given = [];
@@ -377,12 +395,14 @@ separator_found sh options final skip words knows r rows p was_word settled ends
   adds = further_found sh options r rows final p skip (free was_word) words knows.is settled (ends_after sh _ _ (45 ∷ 45 ∷ []) words final (separator_steps sh r p skip was_word) ends);
 }
 
-joined_found : (sh : Shape) (options : List Text) (final : List Row) (skip : ℕ) (s : Setting) (value : Text) (words : List Text) → Knows sh options final → FoundAt sh final skip words → is_among (name_of s) options ≡ true → has_short words ≡ false
+joined_found : (sh : Shape) (options : List Text) (final : List Row) (skip : ℕ) (s : Setting) (value : Text) (words : List Text)
+    → Knows sh options final → FoundAt sh final skip words → is_among (name_of s) options ≡ true → has_short words ≡ false
     → (r rows : List Row) (p : Option (Text × List Text)) (was_word : Bool) → IsSettled sh (record { rows = r; pending = p; skip = skip }) rows
     → Ends sh (at r p skip (free was_word) false) ((45 ∷ 45 ∷ (name_of s ++ 61 ∷ value)) ∷ words) final → Found ((45 ∷ 45 ∷ (name_of s ++ 61 ∷ value)) ∷ words) rows final
 joined_found sh options final skip s value words knows rest among no_short r rows p was_word settled ends =
     let found = rest (put (name_of s) value rows) (put (name_of s) value rows) None false (nothing_pending sh (put (name_of s) value rows) skip) no_short
-    (ends_after sh _ _ (45 ∷ 45 ∷ (name_of s ++ 61 ∷ value)) words final (joined_steps sh options r rows p skip was_word (45 ∷ 45 ∷ (name_of s ++ 61 ∷ value)) (name_of s) value knows.is settled (joined_word s value).0 (joined_word s value).1 among) ends) in
+    (ends_after sh _ _ (45 ∷ 45 ∷ (name_of s ++ 61 ∷ value)) words final (joined_steps sh options r rows p skip was_word
+        (45 ∷ 45 ∷ (name_of s ++ 61 ∷ value)) (name_of s) value knows.is settled (joined_word s value).0 (joined_word s value).1 among) ends) in
     let number = its_number rows final s value found.plain found.given found.adds (knows.numbers s) in
     record {
       plain = found.plain;
@@ -391,11 +411,13 @@ joined_found sh options final skip s value words knows rest among no_short r row
       adds = adds_option rows final s value number.0 found.plain found.given number.1 found.adds;
     }
 
-apart_found : (sh : Shape) (options : List Text) (final : List Row) (skip : ℕ) (s : Setting) (value : Text) (words : List Text) → Knows sh options final → FoundAt sh final skip words → is_among (name_of s) options ≡ true → has_short words ≡ false → IsTrue (is_ordinary value)
+apart_found : (sh : Shape) (options : List Text) (final : List Row) (skip : ℕ) (s : Setting) (value : Text) (words : List Text) → Knows sh options final
+    → FoundAt sh final skip words → is_among (name_of s) options ≡ true → has_short words ≡ false → IsTrue (is_ordinary value)
     → (r rows : List Row) (p : Option (Text × List Text)) (was_word : Bool) → IsSettled sh (record { rows = r; pending = p; skip = skip }) rows
     → Ends sh (at r p skip (free was_word) false) ((45 ∷ 45 ∷ name_of s) ∷ value ∷ words) final → Found ((45 ∷ 45 ∷ name_of s) ∷ value ∷ words) rows final
 apart_found sh options final skip s value words knows rest among no_short ordinary r rows p was_word settled ends =
-    let waits = ends_after sh _ _ (45 ∷ 45 ∷ name_of s) (value ∷ words) final (name_steps sh options r rows p skip was_word (45 ∷ 45 ∷ name_of s) (name_of s) knows.is settled (named_word s).0 (named_word s).1 among) ends in
+    let waits = ends_after sh _ _ (45 ∷ 45 ∷ name_of s) (value ∷ words) final
+        (name_steps sh options r rows p skip was_word (45 ∷ 45 ∷ name_of s) (name_of s) knows.is settled (named_word s).0 (named_word s).1 among) ends in
     let found = rest rows (put (name_of s) value rows) (Some (name_of s, value ∷ [])) false (option_pending sh options (name_of s) rows skip value knows.is among) no_short
     (ends_after sh _ _ value words final (value_steps sh options rows skip (name_of s) value knows.is among (plain_word value ordinary)) waits) in
     let number = its_number rows final s value found.plain found.given found.adds (knows.numbers s) in
@@ -437,7 +459,8 @@ never_short : {X : Type 0} (word : Text) (words : List Text) → is_short word �
 never_short word words short h = absurd (true≢false (sym short ∙ (neither word words (short_is_no_separator word short) h).0))
 
 -- a flag where a value is due
-flag_behind : (sh : Shape) (options : List Text) (final : List Row) (skip : ℕ) (s : Setting) (text : Text) (rest : List Text) → Knows sh options final → is_among (name_of s) options ≡ true → (rows : List Row)
+flag_behind : (sh : Shape) (options : List Text) (final : List Row) (skip : ℕ) (s : Setting) (text : Text) (rest : List Text) → Knows sh options final
+    → is_among (name_of s) options ≡ true → (rows : List Row)
     → Ends sh (at rows (Some (name_of s, [])) skip (option (name_of s)) false) ((45 ∷ 45 ∷ text) ∷ rest) final → ⊥
 flag_behind sh options final skip s [] rest knows among rows ends = separator_for_value sh options rows final skip (name_of s) rest knows.is among ends
 flag_behind sh options final skip s (b ∷ bs) rest knows among rows ends =
@@ -445,26 +468,32 @@ flag_behind sh options final skip s (b ∷ bs) rest knows among rows ends =
     fails_at sh (at rows (Some (name_of s, [])) skip (option (name_of s)) false) (45 ∷ 45 ∷ b ∷ bs) rest final
     (flag_for_value sh options rows skip (name_of s) (45 ∷ 45 ∷ b ∷ bs) c.name c.value knows.is among refl (ap (λ (q : Text × Option Text). Some q) c.cut_is)) ends
 
-option_found : (sh : Shape) (options : List Text) (final : List Row) (skip : ℕ) (s : Setting) (words : List Text) → Knows sh options final → ((v : Text) (rest : List Text) → words ≡ v ∷ rest → FoundAt sh final skip rest) → is_among (name_of s) options ≡ true → has_short words ≡ false
+option_found : (sh : Shape) (options : List Text) (final : List Row) (skip : ℕ) (s : Setting) (words : List Text) → Knows sh options final
+    → ((v : Text) (rest : List Text) → words ≡ v ∷ rest → FoundAt sh final skip rest) → is_among (name_of s) options ≡ true → has_short words ≡ false
     → (r rows : List Row) (p : Option (Text × List Text)) (was_word : Bool) → IsSettled sh (record { rows = r; pending = p; skip = skip }) rows
     → Ends sh (at r p skip (free was_word) false) ((45 ∷ 45 ∷ name_of s) ∷ words) final → Found ((45 ∷ 45 ∷ name_of s) ∷ words) rows final
 option_found sh options final skip s words knows rest among no_short r rows p was_word settled ends =
-    go words rest no_short ends (ends_after sh _ _ (45 ∷ 45 ∷ name_of s) words final (name_steps sh options r rows p skip was_word (45 ∷ 45 ∷ name_of s) (name_of s) knows.is settled (named_word s).0 (named_word s).1 among) ends)
+    go words rest no_short ends (ends_after sh _ _ (45 ∷ 45 ∷ name_of s) words final
+          (name_steps sh options r rows p skip was_word (45 ∷ 45 ∷ name_of s) (name_of s) knows.is settled (named_word s).0 (named_word s).1 among) ends)
   where
     behind_it : (v : Text) (more : List Text) → FoundAt sh final skip more → has_short (v ∷ more) ≡ false → Ends sh (at r p skip (free was_word) false) ((45 ∷ 45 ∷ name_of s) ∷ v ∷ more) final
         → Ends sh (at rows (Some (name_of s, [])) skip (option (name_of s)) false) (v ∷ more) final
         → IsTrue (is_ordinary v) ⊎ ((is_short v ≡ true) ⊎ ((text : Text) × (v ≡ 45 ∷ 45 ∷ text))) → Found ((45 ∷ 45 ∷ name_of s) ∷ v ∷ more) rows final
-    behind_it v more again none all behind (inl ordinary) = apart_found sh options final skip s v more knows again among (neither v more (plain_word v ordinary).no_separator none).1 ordinary r rows p was_word settled all
+    behind_it v more again none all behind (inl ordinary) = apart_found sh options final skip s v more knows again among
+        (neither v more (plain_word v ordinary).no_separator none).1 ordinary r rows p was_word settled all
     behind_it v more again none all behind (inr (inl short)) = never_short v more short none
-    behind_it v more again none all behind (inr (inr dashes)) = absurd (flag_behind sh options final skip s dashes.0 more knows among rows (subst (λ (w : Text). Ends sh (at rows (Some (name_of s, [])) skip (option (name_of s)) false) (w ∷ more) final) dashes.1 behind))
+    behind_it v more again none all behind (inr (inr dashes)) = absurd (flag_behind sh options final skip s dashes.0 more knows among rows
+          (subst (λ (w : Text). Ends sh (at rows (Some (name_of s, [])) skip (option (name_of s)) false) (w ∷ more) final) dashes.1 behind))
 
-    go : (ws : List Text) → ((v : Text) (more : List Text) → ws ≡ v ∷ more → FoundAt sh final skip more) → has_short ws ≡ false → Ends sh (at r p skip (free was_word) false) ((45 ∷ 45 ∷ name_of s) ∷ ws) final
+    go : (ws : List Text) → ((v : Text) (more : List Text) → ws ≡ v ∷ more → FoundAt sh final skip more) → has_short ws ≡ false
+        → Ends sh (at r p skip (free was_word) false) ((45 ∷ 45 ∷ name_of s) ∷ ws) final
         → Ends sh (at rows (Some (name_of s, [])) skip (option (name_of s)) false) ws final → Found ((45 ∷ 45 ∷ name_of s) ∷ ws) rows final
     go [] again none all behind = absurd (waiting_ends sh options rows skip (option (name_of s)) false (name_of s) final knows.is among behind)
     go (v ∷ more) again none all behind = behind_it v more (again v more refl) none all behind (sorted v)
 
 -- `--name` or `--name=value`
-long_found : (sh : Shape) (options : List Text) (final : List Row) (skip : ℕ) (name : Text) (value : Option Text) (text : Text) (words : List Text) → Knows sh options final → FoundAt sh final skip words → ((v : Text) (rest : List Text) → words ≡ v ∷ rest → FoundAt sh final skip rest)
+long_found : (sh : Shape) (options : List Text) (final : List Row) (skip : ℕ) (name : Text) (value : Option Text) (text : Text) (words : List Text)
+    → Knows sh options final → FoundAt sh final skip words → ((v : Text) (rest : List Text) → words ≡ v ∷ rest → FoundAt sh final skip rest)
     → bytes_eq (45 ∷ 45 ∷ text) (45 ∷ 45 ∷ []) ≡ false → long_of (45 ∷ 45 ∷ text) ≡ Some (name, value) → text ≡ with_value name value → has_short words ≡ false
     → (r rows : List Row) (p : Option (Text × List Text)) (was_word : Bool) → IsSettled sh (record { rows = r; pending = p; skip = skip }) rows
     → Ends sh (at r p skip (free was_word) false) ((45 ∷ 45 ∷ text) ∷ words) final → Found ((45 ∷ 45 ∷ text) ∷ words) rows final
@@ -472,24 +501,29 @@ long_found sh options final skip name value text words knows rest behind apart l
   where
     known : (s : Setting) (v : Option Text) → is_among (name_of s) options ≡ true → text ≡ with_value (name_of s) v → Found ((45 ∷ 45 ∷ text) ∷ words) rows final
     known s None among e = subst (λ (t : Text). Found ((45 ∷ 45 ∷ t) ∷ words) rows final) (sym e)
-        (option_found sh options final skip s words knows behind among no_short r rows p was_word settled (subst (λ (t : Text). Ends sh (at r p skip (free was_word) false) ((45 ∷ 45 ∷ t) ∷ words) final) e ends))
+        (option_found sh options final skip s words knows behind among no_short r rows p was_word settled
+          (subst (λ (t : Text). Ends sh (at r p skip (free was_word) false) ((45 ∷ 45 ∷ t) ∷ words) final) e ends))
     known s (Some v) among e = subst (λ (t : Text). Found ((45 ∷ 45 ∷ t) ∷ words) rows final) (sym e)
-        (joined_found sh options final skip s v words knows rest among no_short r rows p was_word settled (subst (λ (t : Text). Ends sh (at r p skip (free was_word) false) ((45 ∷ 45 ∷ t) ∷ words) final) e ends))
+        (joined_found sh options final skip s v words knows rest among no_short r rows p was_word settled
+          (subst (λ (t : Text). Ends sh (at r p skip (free was_word) false) ((45 ∷ 45 ∷ t) ∷ words) final) e ends))
 
     go : (b : Bool) → is_among name options ≡ b → Found ((45 ∷ 45 ∷ text) ∷ words) rows final
-    go false none = absurd (fails_at sh (at r p skip (free was_word) false) (45 ∷ 45 ∷ text) words final (unknown_fails sh options r p skip was_word (45 ∷ 45 ∷ text) name value knows.is apart long none) ends)
+    go false none = absurd (fails_at sh (at r p skip (free was_word) false) (45 ∷ 45 ∷ text) words final
+          (unknown_fails sh options r p skip was_word (45 ∷ 45 ∷ text) name value knows.is apart long none) ends)
     go true among =
         let it = knows.setting name among in
         known it.0 value (subst (λ (n : Text). is_among n options ≡ true) it.1 among) (text_is ∙ ap (λ (n : Text). with_value n value) it.1)
 
-step_found : (sh : Shape) (options : List Text) (final : List Row) (skip : ℕ) (word : Text) (words : List Text) → Knows sh options final → FoundAt sh final skip words → ((v : Text) (rest : List Text) → words ≡ v ∷ rest → FoundAt sh final skip rest) → FoundAt sh final skip (word ∷ words)
+step_found : (sh : Shape) (options : List Text) (final : List Row) (skip : ℕ) (word : Text) (words : List Text) → Knows sh options final
+    → FoundAt sh final skip words → ((v : Text) (rest : List Text) → words ≡ v ∷ rest → FoundAt sh final skip rest) → FoundAt sh final skip (word ∷ words)
 step_found sh options final skip word words knows rest behind r rows p was_word settled no_short ends = go (sorted word)
   where
     dashed : (text : Text) → has_short ((45 ∷ 45 ∷ text) ∷ words) ≡ false → Ends sh (at r p skip (free was_word) false) ((45 ∷ 45 ∷ text) ∷ words) final → Found ((45 ∷ 45 ∷ text) ∷ words) rows final
     dashed [] none all = separator_found sh options final skip words knows r rows p was_word settled all
     dashed (b ∷ bs) none all =
         let c = cut (b ∷ bs) in
-        long_found sh options final skip c.name c.value (b ∷ bs) words knows rest behind refl (ap (λ (q : Text × Option Text). Some q) c.cut_is) c.text_is (neither (45 ∷ 45 ∷ b ∷ bs) words refl none).1 r rows p was_word settled all
+        long_found sh options final skip c.name c.value (b ∷ bs) words knows rest behind refl (ap (λ (q : Text × Option Text). Some q) c.cut_is)
+            c.text_is (neither (45 ∷ 45 ∷ b ∷ bs) words refl none).1 r rows p was_word settled all
 
     go : IsTrue (is_ordinary word) ⊎ ((is_short word ≡ true) ⊎ ((text : Text) × (word ≡ 45 ∷ 45 ∷ text))) → Found (word ∷ words) rows final
     go (inl ordinary) = plain_found sh options final skip word words knows rest ordinary (neither word words (plain_word word ordinary).no_separator no_short).1 r rows p was_word settled ends
@@ -510,4 +544,5 @@ found sh options final skip knows [] = none_found sh final skip
 found sh options final skip knows (word ∷ []) = step_found sh options final skip word [] knows (none_found sh final skip) (λ v rest e. absurd (cc e))
 found sh options final skip knows (word ∷ v ∷ words) =
     let again = found sh options final skip knows words in
-    step_found sh options final skip word (v ∷ words) knows (found sh options final skip knows (v ∷ words)) (λ w rest e. subst (λ (ws : List Text). FoundAt sh final skip ws) (ap (λ (ws : List Text). drop 1 ws) e) again)
+    step_found sh options final skip word (v ∷ words) knows (found sh options final skip knows (v ∷ words))
+        (λ w rest e. subst (λ (ws : List Text). FoundAt sh final skip ws) (ap (λ (ws : List Text). drop 1 ws) e) again)

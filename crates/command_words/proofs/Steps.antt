@@ -97,7 +97,8 @@ further_steps s options r rows p skip waits word is settled =
     }
 
 -- `--`
-pub separator_steps : (s : Shape) (r : List Row) (p : Option (Text × List Text)) (skip : ℕ) (was_word : Bool) → Steps s (at r p skip (free was_word) false) (45 ∷ 45 ∷ []) (at r p skip (free was_word) true)
+pub separator_steps : (s : Shape) (r : List Row) (p : Option (Text × List Text)) (skip : ℕ) (was_word : Bool)
+    → Steps s (at r p skip (free was_word) false) (45 ∷ 45 ∷ []) (at r p skip (free was_word) true)
 unfolding walked
 separator_steps s r p skip true = record { passes = refl; goes = refl }
 separator_steps s r p skip false = record { passes = refl; goes = refl }
@@ -174,12 +175,14 @@ separator_waits s r skip name = record { passes = refl; goes = refl }
 -- `--` in a value's place
 pub separator_for_value : (s : Shape) (options : List Text) (r rows : List Row) (skip : ℕ) (name : Text) (words : List Text) → IsCommand s options → is_among name options ≡ true
     → Ends s (at r (Some (name, [])) skip (option name) false) ((45 ∷ 45 ∷ []) ∷ words) rows → ⊥
-separator_for_value s options r rows skip name words is among ends = go words (ends_after s (at r (Some (name, [])) skip (option name) false) (at r (Some (name, [])) skip (option name) true) (45 ∷ 45 ∷ []) words rows (separator_waits s r skip name) ends)
+separator_for_value s options r rows skip name words is among ends = go words (ends_after s (at r (Some (name, [])) skip (option name) false)
+      (at r (Some (name, [])) skip (option name) true) (45 ∷ 45 ∷ []) words rows (separator_waits s r skip name) ends)
   where
     fails : (word : Text) → turn_fault s [] (at r (Some (name, [])) skip (option name) true) word ≡ [] → ⊥
     fails word h =
         let h' : Held = record { rows = r; pending = Some (name, []); skip = skip } in
-        let settles : settle_fault s.rules s.args_override_self h' ≡ [] = sym (never (is_pending built_word (Some (name, []))) [] (settle_fault s.rules s.args_override_self h')) ∙ (rw (is.place) at h) in
+        let settles : settle_fault s.rules s.args_override_self h' ≡ [] =
+            sym (never (is_pending built_word (Some (name, []))) [] (settle_fault s.rules s.args_override_self h')) ∙ (rw (is.place) at h) in
         absurd (cc (sym (unsettled s options r skip name is among) ∙ settles))
 
     go : (words : List Text) → Ends s (at r (Some (name, [])) skip (option name) true) words rows → ⊥

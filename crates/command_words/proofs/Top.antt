@@ -91,7 +91,8 @@ pub unnamed : (table : List (Text × List Text)) (name : Text) → command_named
 unnamed [] name h = refl
 unnamed (c ∷ table) name h = go (bytes_eq c.0 name) refl (λ e. unnamed table name e)
   where
-    go : (b : Bool) → bytes_eq c.0 name ≡ b → (command_named name table ≡ None → find (answers_to name) (map label_of (map built_shape table)) ≡ None) → find (answers_to name) (map label_of (map built_shape (c ∷ table))) ≡ None
+    go : (b : Bool) → bytes_eq c.0 name ≡ b → (command_named name table ≡ None → find (answers_to name) (map label_of (map built_shape table)) ≡ None)
+        → find (answers_to name) (map label_of (map built_shape (c ∷ table))) ≡ None
     go true same rest = absurd (cc (rw same at h))
     go false other rest = rw other (rest (rw other at h))
 
@@ -121,11 +122,13 @@ or_nil : (a : Kinds) → or_else a [] ≡ a
 or_nil [] = refl
 or_nil (k ∷ ks) = refl
 
-first_walked : (names : Names) (name : Text) → find (answers_to name) names ≡ Some (name, []) → walked [] names (walk_from nothing_held) name ≡ record (walk_from nothing_held) { stopped = Some (name, []) }
+first_walked : (names : Names) (name : Text) → find (answers_to name) names ≡ Some (name, [])
+    → walked [] names (walk_from nothing_held) name ≡ record (walk_from nothing_held) { stopped = Some (name, []) }
 unfolding walked
 first_walked names name found = rw found refl
 
-whole_walk : (names : Names) (name : Text) (rest : List Text) → find (answers_to name) names ≡ Some (name, []) → walk [] names nothing_held (name ∷ rest) ≡ record (walk_from nothing_held) { stopped = Some (name, rest) }
+whole_walk : (names : Names) (name : Text) (rest : List Text) → find (answers_to name) names ≡ Some (name, [])
+    → walk [] names nothing_held (name ∷ rest) ≡ record (walk_from nothing_held) { stopped = Some (name, rest) }
 whole_walk names name rest found = ap (λ (w : Walk). fold (walked [] names) w rest) (first_walked names name found) ∙ stopped_walk [] names nothing_held name [] rest
 
 first_passes : (names : Names) (name : Text) → find (answers_to name) names ≡ Some (name, []) → turn_fault built_top names (walk_from nothing_held) name ≡ []
@@ -137,7 +140,8 @@ walk_passes names name rest found =
     rw (first_passes names name found) (ap (λ (w : Walk). walk_fault built_top names w rest) (first_walked names name found) ∙ stopped_fault built_top names (walk_from nothing_held) (name, []) rest)
 
 -- the program fails as the command does
-top_level : (names : Names) (name : Text) (rest : List Text) (below : Kinds) → find (answers_to name) names ≡ Some (name, []) → level_fault built_top names nothing_held (name ∷ rest) true below ≡ below
+top_level : (names : Names) (name : Text) (rest : List Text) (below : Kinds) → find (answers_to name) names ≡ Some (name, [])
+    → level_fault built_top names nothing_held (name ∷ rest) true below ≡ below
 unfolding defaults_fault
 top_level names name rest below found = rw (walk_passes names name rest found, whole_walk names name rest found) (or_nil below)
 
@@ -145,7 +149,8 @@ pub program_fails_as : (table : List (Text × List Text)) (name : Text) (options
     → fault_of (app_with table) (name ∷ rest) ≡ level_fault (built_shape (name, options)) [] nothing_held rest false []
 program_fails_as table name options rest is =
     ap (λ (a : App). built_fault a nothing_held (name ∷ rest)) (app_built table)
-    ∙ ap (λ (w : Walk). level_fault built_top (names_of (built_app table)) nothing_held (name ∷ rest) (is_some (entered (built_app table) w.stopped)) (entered_fault (built_app table) w.stopped)) (whole_walk (names_of (built_app table)) name rest is.label)
+    ∙ ap (λ (w : Walk). level_fault built_top (names_of (built_app table)) nothing_held (name ∷ rest) (is_some (entered (built_app table) w.stopped))
+          (entered_fault (built_app table) w.stopped)) (whole_walk (names_of (built_app table)) name rest is.label)
     ∙ rw (is.shape) (top_level (names_of (built_app table)) name rest (level_fault (built_shape (name, options)) [] nothing_held rest false []) is.label)
 
 pub program_gives : (table : List (Text × List Text)) (name : Text) (options rest : List Text) → IsNamed table name options
@@ -182,11 +187,13 @@ stray_behind : (names : Names) (w : Text) → turn_fault built_top names (at [] 
 stray_behind names w h = absurd (cc h)
 
 -- what fails at its first word fails
-walk_first : (s : Shape) (names : Names) (word : Text) (words : List Text) (has : Bool) (below : Kinds) → level_fault s names nothing_held (word ∷ words) has below ≡ [] → turn_fault s names (walk_from nothing_held) word ≡ []
+walk_first : (s : Shape) (names : Names) (word : Text) (words : List Text) (has : Bool) (below : Kinds)
+    → level_fault s names nothing_held (word ∷ words) has below ≡ [] → turn_fault s names (walk_from nothing_held) word ≡ []
 unfolding walk_fault
 walk_first s names word words has below h = (parts (turn_fault s names (walk_from nothing_held) word) _ ((parts (walk_fault s names (walk_from nothing_held) (word ∷ words)) _ h).0)).0
 
-walk_second : (s : Shape) (names : Names) (word next : Text) (words : List Text) (has : Bool) (below : Kinds) → level_fault s names nothing_held (word ∷ next ∷ words) has below ≡ [] → turn_fault s names (walked s.rules names (walk_from nothing_held) word) next ≡ []
+walk_second : (s : Shape) (names : Names) (word next : Text) (words : List Text) (has : Bool) (below : Kinds)
+    → level_fault s names nothing_held (word ∷ next ∷ words) has below ≡ [] → turn_fault s names (walked s.rules names (walk_from nothing_held) word) next ≡ []
 unfolding walk_fault
 walk_second s names word next words has below h =
     let rest = (parts (turn_fault s names (walk_from nothing_held) word) _ ((parts (walk_fault s names (walk_from nothing_held) (word ∷ next ∷ words)) _ h).0)).1 in
@@ -200,9 +207,12 @@ separator_alone : (table : List (Text × List Text)) → find (answers_to (45 �
 unfolding walk_fault walked defaults_fault
 separator_alone table none h = absurd (cc (rw none at h))
 
-separator_first : (table : List (Text × List Text)) (rest : List Text) → find (answers_to (45 ∷ 45 ∷ [])) (names_of (built_app table)) ≡ None → built_fault (built_app table) nothing_held ((45 ∷ 45 ∷ []) ∷ rest) ≡ [] → ⊥
+separator_first : (table : List (Text × List Text)) (rest : List Text) → find (answers_to (45 ∷ 45 ∷ [])) (names_of (built_app table)) ≡ None
+    → built_fault (built_app table) nothing_held ((45 ∷ 45 ∷ []) ∷ rest) ≡ [] → ⊥
 separator_first table [] none h = separator_alone table none h
-separator_first table (v ∷ rest) none h = stray_behind (names_of (built_app table)) v (subst (λ (w : Walk). turn_fault built_top (names_of (built_app table)) w v ≡ []) (trails (names_of (built_app table)) none) (walk_second built_top (names_of (built_app table)) (45 ∷ 45 ∷ []) v rest _ _ h))
+separator_first table (v ∷ rest) none h = stray_behind (names_of (built_app table)) v
+    (subst (λ (w : Walk). turn_fault built_top (names_of (built_app table)) w v ≡ []) (trails (names_of (built_app table)) none)
+      (walk_second built_top (names_of (built_app table)) (45 ∷ 45 ∷ []) v rest _ _ h))
 
 no_words : (table : List (Text × List Text)) → built_fault (built_app table) nothing_held [] ≡ [] → ⊥
 unfolding walk_fault defaults_fault
@@ -218,7 +228,8 @@ pub record Runs (table : List (Text × List Text)) (words : List Text) : Type 0 
   pub found : command_named name table ≡ Some (name, options)
   pub passes : level_fault (built_shape (name, options)) [] nothing_held rest false [] ≡ []
 
-no_command : (table : List (Text × List Text)) (word : Text) (rest : List Text) → command_named word table ≡ None → has_short (word ∷ rest) ≡ false → built_fault (built_app table) nothing_held (word ∷ rest) ≡ [] → ⊥
+no_command : (table : List (Text × List Text)) (word : Text) (rest : List Text) → command_named word table ≡ None → has_short (word ∷ rest) ≡ false
+    → built_fault (built_app table) nothing_held (word ∷ rest) ≡ [] → ⊥
 no_command table word rest none no_short h = go (bytes_eq word (45 ∷ 45 ∷ [])) refl
   where
     left : (b c : Bool) → (b || c) ≡ false → b ≡ false
@@ -230,7 +241,8 @@ no_command table word rest none no_short h = go (bytes_eq word (45 ∷ 45 ∷ []
         (subst (λ (w : Text). built_fault (built_app table) nothing_held (w ∷ rest) ≡ []) (is_it word (45 ∷ 45 ∷ []) same) h)
     go false other =
         let single : (is_short word || has_short rest) ≡ false = rw other at no_short in
-        stray (names_of (built_app table)) word (unnamed table word none) other (not_short word (left (is_short word) (has_short rest) single)) (walk_first built_top (names_of (built_app table)) word rest _ _ h)
+        stray (names_of (built_app table)) word (unnamed table word none) other (not_short word (left (is_short word) (has_short rest) single))
+            (walk_first built_top (names_of (built_app table)) word rest _ _ h)
 
 pub runs : (table : List (Text × List Text)) (words : List Text) → has_short words ≡ false → fault_of (app_with table) words ≡ [] → Runs table words
 runs table [] no_short h = absurd (no_words table (sym (ap (λ (a : App). built_fault a nothing_held []) (app_built table)) ∙ h))

@@ -126,7 +126,8 @@ unfolding EndsOrMarks
 fails_front front mark tail at none marks f = fails_before front (mark ∷ tail) at none marks f
 
 -- a mark behind a blank
-pub fails_apart : (front : List ℕ) (mark : ℕ) (tail : List ℕ) → behind_mark front ≡ None → is_mark mark ≡ true → IsSomeFixed front → ends_blank front ≡ true → FailsFirst IsExp (front ++ mark ∷ tail) (length front)
+pub fails_apart : (front : List ℕ) (mark : ℕ) (tail : List ℕ) → behind_mark front ≡ None → is_mark mark ≡ true → IsSomeFixed front
+    → ends_blank front ≡ true → FailsFirst IsExp (front ++ mark ∷ tail) (length front)
 fails_apart front mark tail none marks f blank = record {
   front = front;
   rest = mark ∷ tail;
@@ -137,7 +138,8 @@ fails_apart front mark tail none marks f blank = record {
 }
 
 -- an exponent that fails
-pub fails_exponent : (front : List ℕ) (mark : ℕ) (tail : List ℕ) (at : ℕ) → behind_mark front ≡ None → is_mark mark ≡ true → IsSomeFixed front → ends_blank front ≡ false → FailsFirst IsSomePower tail at → FailsFirst IsExp (front ++ mark ∷ tail) (length front + 1 + at)
+pub fails_exponent : (front : List ℕ) (mark : ℕ) (tail : List ℕ) (at : ℕ) → behind_mark front ≡ None → is_mark mark ≡ true → IsSomeFixed front
+    → ends_blank front ≡ false → FailsFirst IsSomePower tail at → FailsFirst IsExp (front ++ mark ∷ tail) (length front + 1 + at)
 fails_exponent front mark tail at none marks f next fails =
     let count : length (front ++ mark ∷ []) + at ≡ length front + 1 + at = ap (λ n. n + at) (length-append front (mark ∷ [])) in
     subst (λ t. FailsFirst IsExp t (length front + 1 + at)) (one_more front mark tail)

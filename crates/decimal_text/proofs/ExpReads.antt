@@ -29,7 +29,8 @@ capped_is digits = capped_from-is 0 digits 0 (omega arith) ∙ ap (λ n. min n 1
 abbrev given : (text : List ℕ) → IsExp text → Result Dec NumberFault
 given text e = dec_from (Ends e.negative (capped_from 0 (e.whole ++ e.part)) (length e.part)) e.power
 
-short_is : (text : List ℕ) (e : IsExp text) → digit_sum (e.whole ++ e.part) < 1_000_000_000_000_000_000 → given text e ≡ Ok (record { mant = signed e.negative (digit_sum (e.whole ++ e.part)); exp = e.power -ℤ pos (length e.part) })
+short_is : (text : List ℕ) (e : IsExp text) → digit_sum (e.whole ++ e.part) < 1_000_000_000_000_000_000
+    → given text e ≡ Ok (record { mant = signed e.negative (digit_sum (e.whole ++ e.part)); exp = e.power -ℤ pos (length e.part) })
 short_is text e short =
     let cap = capped_is (e.whole ++ e.part) in
     let same : capped_from 0 (e.whole ++ e.part) ≡ digit_sum (e.whole ++ e.part) = omega arith in
@@ -78,7 +79,8 @@ exp_is text e = by e.power e.spelled
         rw (not_blank_text text e.negative e.whole e.part fixed, fixed-unmarked text e.negative e.whole e.part fixed, walk-fixed text e.negative e.whole e.part fixed, none) refl
     by power (inr (below, digits, marked, value)) =
         let m : SomeMarked text = record { negative = e.negative; whole = e.whole; part = e.part; below = below; power = digits; marked = marked } in
-        rw (marked_not_blank text marked.tail (marked_behind text m), marked_behind text m, marked_before text m, walk-fixed marked.front e.negative e.whole e.part marked.number, marked.next_to, power_is marked.tail below digits marked.exponent, value) refl
+        rw (marked_not_blank text marked.tail (marked_behind text m), marked_behind text m, marked_before text m,
+              walk-fixed marked.front e.negative e.whole e.part marked.number, marked.next_to, power_is marked.tail below digits marked.exponent, value) refl
 
 of_form : (text : List ℕ) → IsReadAsDec text (dec_of text)
 of_form text = by_blank (are_blank text) refl
@@ -90,23 +92,37 @@ of_form text = by_blank (are_blank text) refl
         let e = plain_exp text (record { negative = negative; whole = took.whole; part = took.part; fixed = took.fixed }) in
         subst (IsReadAsDec text) (sym (exp_is text e)) (given_form text e)
 
-    by_exponent : are_blank text ≡ false → (mark : ℕ) (tail : List ℕ) → is_mark mark ≡ true → behind_mark text ≡ Some tail → text ≡ before_mark text ++ mark ∷ tail → behind_mark (before_mark text) ≡ None → (f : IsSomeFixed (before_mark text)) → ends_blank (before_mark text) ≡ false → (r : Result ℤ ℕ) → power_of tail ≡ r → IsReadAsDec text (dec_of text)
+    by_exponent : are_blank text ≡ false → (mark : ℕ) (tail : List ℕ) → is_mark mark ≡ true → behind_mark text ≡ Some tail
+        → text ≡ before_mark text ++ mark ∷ tail → behind_mark (before_mark text) ≡ None → (f : IsSomeFixed (before_mark text))
+        → ends_blank (before_mark text) ≡ false → (r : Result ℤ ℕ) → power_of tail ≡ r → IsReadAsDec text (dec_of text)
     by_exponent not_blank mark tail marks found split none f next (Err at) is =
         rw (not_blank, found, walk-fixed (before_mark text) f.negative f.whole f.part f.fixed, next, is)
         (not_blank, subst (λ t. FailsFirst IsExp t (length (before_mark text) + 1 + at)) (sym split) (fails_exponent (before_mark text) mark tail at none marks f next (power_fails tail at is)))
     by_exponent not_blank mark tail marks found split none f next (Ok z) is =
         let took : PowerTook tail z = power_took tail z is in
-        let m : IsMarked text f.negative f.whole f.part took.negative took.power = record { front = before_mark text; mark = mark; tail = tail; text_is = split; number = f.fixed; next_to = next; marks = marks; exponent = took.signed_is } in
+        let m : IsMarked text f.negative f.whole f.part took.negative took.power = record {
+          front = before_mark text;
+          mark = mark;
+          tail = tail;
+          text_is = split;
+          number = f.fixed;
+          next_to = next;
+          marks = marks;
+          exponent = took.signed_is
+        } in
         let e : IsExp text = record { negative = f.negative; whole = f.whole; part = f.part; power = z; spelled = inr (took.negative, took.power, m, took.value) } in
         subst (IsReadAsDec text) (sym (exp_is text e)) (given_form text e)
 
-    by_end : are_blank text ≡ false → (mark : ℕ) (tail : List ℕ) → is_mark mark ≡ true → behind_mark text ≡ Some tail → text ≡ before_mark text ++ mark ∷ tail → behind_mark (before_mark text) ≡ None → (f : IsSomeFixed (before_mark text)) → (t : Bool) → ends_blank (before_mark text) ≡ t → IsReadAsDec text (dec_of text)
+    by_end : are_blank text ≡ false → (mark : ℕ) (tail : List ℕ) → is_mark mark ≡ true → behind_mark text ≡ Some tail
+        → text ≡ before_mark text ++ mark ∷ tail → behind_mark (before_mark text) ≡ None → (f : IsSomeFixed (before_mark text)) → (t : Bool)
+        → ends_blank (before_mark text) ≡ t → IsReadAsDec text (dec_of text)
     by_end not_blank mark tail marks found split none f true blank =
         rw (not_blank, found, walk-fixed (before_mark text) f.negative f.whole f.part f.fixed, blank)
         (not_blank, subst (λ t. FailsFirst IsExp t (length (before_mark text))) (sym split) (fails_apart (before_mark text) mark tail none marks f blank))
     by_end not_blank mark tail marks found split none f false next = by_exponent not_blank mark tail marks found split none f next (power_of tail) refl
 
-    by_front : are_blank text ≡ false → (mark : ℕ) (tail : List ℕ) → is_mark mark ≡ true → behind_mark text ≡ Some tail → text ≡ before_mark text ++ mark ∷ tail → behind_mark (before_mark text) ≡ None → (o : Outcome) → walk (before_mark text) 0 Start false 0 0 ≡ o → IsReadAsDec text (dec_of text)
+    by_front : are_blank text ≡ false → (mark : ℕ) (tail : List ℕ) → is_mark mark ≡ true → behind_mark text ≡ Some tail → text ≡ before_mark text ++ mark ∷ tail
+        → behind_mark (before_mark text) ≡ None → (o : Outcome) → walk (before_mark text) 0 Start false 0 0 ≡ o → IsReadAsDec text (dec_of text)
     by_front not_blank mark tail marks found split none (Fails at) is =
         rw (not_blank, found, is)
         (not_blank, subst (λ t. FailsFirst IsExp t at) (sym split) (fails_front (before_mark text) mark tail at none marks (fails_first (before_mark text) at is)))

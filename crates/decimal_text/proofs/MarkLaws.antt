@@ -82,13 +82,17 @@ no_next Done b is = rw (not_blank b is) refl
 
 walk-unmarked : (text : List ℕ) (at : ℕ) (stage : Stage) (negative : Bool) (n k : ℕ) (to : Bool) (m j : ℕ) → walk text at stage negative n k ≡ Ends to m j → behind_mark text ≡ None
 walk-unmarked [] at stage negative n k to m j ends = refl
-walk-unmarked (b ∷ bs) at stage negative n k to m j ends = by_next (next_stage_of stage b) refl ends (λ next e. walk-unmarked bs (at + 1) next (negative || (b == 45)) (number_with n b) (places_with next k b) to m j e)
+walk-unmarked (b ∷ bs) at stage negative n k to m j ends = by_next (next_stage_of stage b) refl ends
+    (λ next e. walk-unmarked bs (at + 1) next (negative || (b == 45)) (number_with n b) (places_with next k b) to m j e)
   where
     by_mark : (t : Bool) → is_mark b ≡ t → (next : Stage) → next_stage_of stage b ≡ Some next → behind_mark bs ≡ None → behind_mark (b ∷ bs) ≡ None
     by_mark true is next goes none = absurd (cc (no_next stage b is, goes))
     by_mark false is next goes none = rw is none
 
-    by_next : (o : Option Stage) → next_stage_of stage b ≡ o → went o at (λ s. walk bs (at + 1) s (negative || (b == 45)) (number_with n b) (places_with s k b)) ≡ Ends to m j → ((next : Stage) → walk bs (at + 1) next (negative || (b == 45)) (number_with n b) (places_with next k b) ≡ Ends to m j → behind_mark bs ≡ None) → behind_mark (b ∷ bs) ≡ None
+    by_next : (o : Option Stage) → next_stage_of stage b ≡ o
+        → went o at (λ s. walk bs (at + 1) s (negative || (b == 45)) (number_with n b) (places_with s k b)) ≡ Ends to m j
+        → ((next : Stage) → walk bs (at + 1) next (negative || (b == 45)) (number_with n b) (places_with next k b) ≡ Ends to m j → behind_mark bs ≡ None)
+        → behind_mark (b ∷ bs) ≡ None
     by_next None is e later = absurd cc
     by_next (Some next) is e later = by_mark (is_mark b) refl next is (later next e)
 

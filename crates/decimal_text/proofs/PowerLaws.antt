@@ -49,7 +49,8 @@ record IsRestOfPower (k : ℕ) (text : List ℕ) : Type 0 where
   few : k + length power ≤ 3
   blank : are_blank after ≡ true
 
-digits_pass : (power after : List ℕ) (at n k : ℕ) → are_digits power ≡ true → are_blank after ≡ true → 1 ≤ k + length power → k + length power ≤ 3 → power_digits (power ++ after) at n k ≡ Ok (number_from n power)
+digits_pass : (power after : List ℕ) (at n k : ℕ) → are_digits power ≡ true → are_blank after ≡ true → 1 ≤ k + length power → k + length power ≤ 3
+    → power_digits (power ++ after) at n k ≡ Ok (number_from n power)
 digits_pass [] [] at n k digits blank some few = let more : (k == 0) ≡ false = grind (arith, nat_tests) in rw more refl
 digits_pass [] (b ∷ bs) at n k digits blank some few =
     let more : (k == 0) ≡ false = grind (arith, nat_tests) in
@@ -82,13 +83,23 @@ digits_took [] at n k m most is = by (k == 0) refl
         record { power = []; after = []; text_is = refl; digits = refl; some = grind (arith, nat_tests); few = omega arith; blank = refl; value = cc (step, is) }
 digits_took (b ∷ bs) at n k m most is = by_digit (is_digit b) refl (λ less e. digits_took bs (at + 1) (10 * n + (b - 48)) (k + 1) m less e)
   where
-    by_room : (k + 1 ≤ 3 → power_digits bs (at + 1) (10 * n + (b - 48)) (k + 1) ≡ Ok m → DigitsTook bs (10 * n + (b - 48)) (k + 1) m) → is_digit b ≡ true → (t : Bool) → (k == 3) ≡ t → DigitsTook (b ∷ bs) n k m
+    by_room : (k + 1 ≤ 3 → power_digits bs (at + 1) (10 * n + (b - 48)) (k + 1) ≡ Ok m → DigitsTook bs (10 * n + (b - 48)) (k + 1) m)
+        → is_digit b ≡ true → (t : Bool) → (k == 3) ≡ t → DigitsTook (b ∷ bs) n k m
     by_room later digit true full = let step : power_digits (b ∷ bs) at n k ≡ Err at = rw (digit, full) refl in absurd (cc (step, is))
     by_room later digit false room =
         let step : power_digits (b ∷ bs) at n k ≡ power_digits bs (at + 1) (10 * n + (b - 48)) (k + 1) = rw (digit, room) refl in
         let less : k + 1 ≤ 3 = grind (arith, nat_tests) in
         let t = later less (sym step ∙ is) in
-        record { power = b ∷ t.power; after = t.after; text_is = ap (λ l. b ∷ l) t.text_is; digits = both (is_digit b) (are_digits t.power) digit t.digits; some = omega (arith, t.some); few = omega (arith, t.few); blank = t.blank; value = t.value }
+        record {
+          power = b ∷ t.power;
+          after = t.after;
+          text_is = ap (λ l. b ∷ l) t.text_is;
+          digits = both (is_digit b) (are_digits t.power) digit t.digits;
+          some = omega (arith, t.some);
+          few = omega (arith, t.few);
+          blank = t.blank;
+          value = t.value
+        }
 
     by_some : is_digit b ≡ false → (t : Bool) → (k == 0) ≡ t → DigitsTook (b ∷ bs) n k m
     by_some digit true none = let step : power_digits (b ∷ bs) at n k ≡ Err at = rw (digit, none) refl in absurd (cc (step, is))
@@ -117,11 +128,27 @@ blanks_fail (b ∷ bs) at n i is = by (is_blank b) refl (λ e. blanks_fail bs (a
     by true blank later =
         let step : only_blanks (b ∷ bs) at n ≡ only_blanks bs (at + 1) n = rw blank refl in
         let t = later (sym step ∙ is) in
-        record { p = 1 + t.p; at_is = omega (arith, t.at_is); fails = fails_behind AreBlank AreBlank (b ∷ []) (λ u h. both (is_blank b) (are_blank u) blank h) (λ u h. (first_and (is_blank b) (are_blank u) h).1) bs t.p t.fails }
+        record {
+          p = 1 + t.p;
+          at_is = omega (arith, t.at_is);
+          fails = fails_behind AreBlank AreBlank (b ∷ [])
+              (λ u h. both (is_blank b) (are_blank u) blank h) (λ u h. (first_and (is_blank b) (are_blank u) h).1) bs t.p t.fails
+        }
     by false blank later =
         let step : only_blanks (b ∷ bs) at n ≡ Err at = rw blank refl in
         let same : at ≡ i = cc (step, is) in
-        record { p = 0; at_is = omega arith; fails = record { front = []; rest = b ∷ bs; text_is = refl; at_is = refl; begun = record { further = []; whole = refl }; stuck = λ begun. cc (blank, (first_and (is_blank b) (are_blank begun.further) begun.whole).0) } }
+        record {
+          p = 0;
+          at_is = omega arith;
+          fails = record {
+            front = [];
+            rest = b ∷ bs;
+            text_is = refl;
+            at_is = refl;
+            begun = record { further = []; whole = refl };
+            stuck = λ begun. cc (blank, (first_and (is_blank b) (are_blank begun.further) begun.whole).0)
+          }
+        }
 
 -- what the first byte is of a rest of an exponent
 first_digit : (k b : ℕ) (t : List ℕ) (h : IsRestOfPower k (b ∷ t)) → is_digit b ≡ true → k + 1 ≤ 3 → IsRestOfPower (k + 1) t
@@ -175,7 +202,15 @@ no_digits : (k : ℕ) → 1 ≤ k → k ≤ 3 → (t : List ℕ) → are_blank t
 no_digits k some few t blank = record { power = []; after = t; text_is = refl; digits = refl; some = omega arith; few = omega arith; blank = blank }
 
 with_digit : (k b : ℕ) (u : List ℕ) (h : IsRestOfPower (k + 1) u) → is_digit b ≡ true → IsRestOfPower k (b ∷ u)
-with_digit k b u h digit = record { power = b ∷ h.power; after = h.after; text_is = ap (λ l. b ∷ l) h.text_is; digits = both (is_digit b) (are_digits h.power) digit h.digits; some = omega arith; few = omega (arith, h.few); blank = h.blank }
+with_digit k b u h digit = record {
+  power = b ∷ h.power;
+  after = h.after;
+  text_is = ap (λ l. b ∷ l) h.text_is;
+  digits = both (is_digit b) (are_digits h.power) digit h.digits;
+  some = omega arith;
+  few = omega (arith, h.few);
+  blank = h.blank
+}
 
 digits_fail : (text : List ℕ) (at n k i : ℕ) → k ≤ 3 → power_digits text at n k ≡ Err i → PlaceOf (IsRestOfPower k) text at i
 unfolding AreBlank
@@ -186,35 +221,78 @@ digits_fail [] at n k i most is = by (k == 0) refl
         let step : power_digits [] at n k ≡ Err at = rw none refl in
         let same : at ≡ i = cc (step, is) in
         let zero_is : k ≡ 0 = grind (arith, nat_tests) in
-        record { p = 0; at_is = omega arith; fails = record { front = []; rest = []; text_is = refl; at_is = refl; begun = record { further = 48 ∷ []; whole = one_digit k (omega arith) }; stuck = λ h. let len = ap length h.text_is in omega (arith, h.some, length-append h.power h.after) } }
+        record {
+          p = 0;
+          at_is = omega arith;
+          fails = record {
+            front = [];
+            rest = [];
+            text_is = refl;
+            at_is = refl;
+            begun = record { further = 48 ∷ []; whole = one_digit k (omega arith) };
+            stuck = λ h.
+                let len = ap length h.text_is in
+                omega (arith, h.some, length-append h.power h.after)
+          }
+        }
     by false some = let step : power_digits [] at n k ≡ Ok n = rw some refl in absurd (cc (step, is))
 digits_fail (b ∷ bs) at n k i most is = by_digit (is_digit b) refl (λ less e. digits_fail bs (at + 1) (10 * n + (b - 48)) (k + 1) i less e)
   where
-    by_room : (k + 1 ≤ 3 → power_digits bs (at + 1) (10 * n + (b - 48)) (k + 1) ≡ Err i → PlaceOf (IsRestOfPower (k + 1)) bs (at + 1) i) → is_digit b ≡ true → (t : Bool) → (k == 3) ≡ t → PlaceOf (IsRestOfPower k) (b ∷ bs) at i
+    by_room : (k + 1 ≤ 3 → power_digits bs (at + 1) (10 * n + (b - 48)) (k + 1) ≡ Err i → PlaceOf (IsRestOfPower (k + 1)) bs (at + 1) i)
+        → is_digit b ≡ true → (t : Bool) → (k == 3) ≡ t → PlaceOf (IsRestOfPower k) (b ∷ bs) at i
     by_room later digit true full =
         let step : power_digits (b ∷ bs) at n k ≡ Err at = rw (digit, full) refl in
         let same : at ≡ i = cc (step, is) in
         let three : k ≡ 3 = grind (arith, nat_tests) in
-        record { p = 0; at_is = omega arith; fails = record { front = []; rest = b ∷ bs; text_is = refl; at_is = refl; begun = record { further = []; whole = no_digits k (omega arith) (omega arith) [] refl }; stuck = λ begun. no_room b begun.further (subst (λ j. IsRestOfPower j (b ∷ begun.further)) three begun.whole) digit } }
+        record {
+          p = 0;
+          at_is = omega arith;
+          fails = record {
+            front = [];
+            rest = b ∷ bs;
+            text_is = refl;
+            at_is = refl;
+            begun = record { further = []; whole = no_digits k (omega arith) (omega arith) [] refl };
+            stuck = λ begun. no_room b begun.further (subst (λ j. IsRestOfPower j (b ∷ begun.further)) three begun.whole) digit
+          }
+        }
     by_room later digit false room =
         let step : power_digits (b ∷ bs) at n k ≡ power_digits bs (at + 1) (10 * n + (b - 48)) (k + 1) = rw (digit, room) refl in
         let less : k + 1 ≤ 3 = grind (arith, nat_tests) in
         let t = later less (sym step ∙ is) in
-        record { p = 1 + t.p; at_is = omega (arith, t.at_is); fails = fails_behind (IsRestOfPower (k + 1)) (IsRestOfPower k) (b ∷ []) (λ u h. with_digit k b u h digit) (λ u h. first_digit k b u h digit less) bs t.p t.fails }
+        record {
+          p = 1 + t.p;
+          at_is = omega (arith, t.at_is);
+          fails = fails_behind (IsRestOfPower (k + 1)) (IsRestOfPower k) (b ∷ [])
+              (λ u h. with_digit k b u h digit) (λ u h. first_digit k b u h digit less) bs t.p t.fails
+        }
 
     by_some : is_digit b ≡ false → (t : Bool) → (k == 0) ≡ t → PlaceOf (IsRestOfPower k) (b ∷ bs) at i
     by_some digit true none =
         let step : power_digits (b ∷ bs) at n k ≡ Err at = rw (digit, none) refl in
         let same : at ≡ i = cc (step, is) in
         let zero_is : k ≡ 0 = grind (arith, nat_tests) in
-        record { p = 0; at_is = omega arith; fails = record { front = []; rest = b ∷ bs; text_is = refl; at_is = refl; begun = record { further = 48 ∷ []; whole = one_digit k (omega arith) }; stuck = λ begun. no_first b begun.further (subst (λ j. IsRestOfPower j (b ∷ begun.further)) zero_is begun.whole) digit } }
+        record {
+          p = 0;
+          at_is = omega arith;
+          fails = record {
+            front = [];
+            rest = b ∷ bs;
+            text_is = refl;
+            at_is = refl;
+            begun = record { further = 48 ∷ []; whole = one_digit k (omega arith) };
+            stuck = λ begun. no_first b begun.further (subst (λ j. IsRestOfPower j (b ∷ begun.further)) zero_is begun.whole) digit
+          }
+        }
     by_some digit false some =
         let step : power_digits (b ∷ bs) at n k ≡ only_blanks (b ∷ bs) at n = rw (digit, some) refl in
         let least : 1 ≤ k = grind (arith, nat_tests) in
         let t = blanks_fail (b ∷ bs) at n i (sym step ∙ is) in
         record { p = t.p; at_is = t.at_is; fails = fails_alike AreBlank (IsRestOfPower k) b (λ u h. no_digits k least most u h) (λ u h. only_blank k b u h digit) bs t.p t.fails }
 
-    by_digit : (t : Bool) → is_digit b ≡ t → (k + 1 ≤ 3 → power_digits bs (at + 1) (10 * n + (b - 48)) (k + 1) ≡ Err i → PlaceOf (IsRestOfPower (k + 1)) bs (at + 1) i) → PlaceOf (IsRestOfPower k) (b ∷ bs) at i
+    by_digit : (t : Bool) → is_digit b ≡ t
+        → (k + 1 ≤ 3 → power_digits bs (at + 1) (10 * n + (b - 48)) (k + 1) ≡ Err i → PlaceOf (IsRestOfPower (k + 1)) bs (at + 1) i)
+        → PlaceOf (IsRestOfPower k) (b ∷ bs) at i
     by_digit true digit later = by_room later digit (k == 3) refl
     by_digit false digit later = by_some digit (k == 0) refl
 
@@ -288,7 +366,14 @@ one_power = record { after = []; text_is = refl; digits = refl; some = omega ari
 pub power_fails : (text : List ℕ) (i : ℕ) → power_of text ≡ Err i → FailsFirst IsSomePower text i
 power_fails [] i is =
     let same : 0 ≡ i = cc in
-    subst (FailsFirst IsSomePower []) same (record { front = []; rest = []; text_is = refl; at_is = refl; begun = record { further = 48 ∷ []; whole = record { negative = false; power = 48 ∷ []; signed_is = inr one_power } }; stuck = λ h. nothing h.negative h.power h.signed_is })
+    subst (FailsFirst IsSomePower []) same (record {
+      front = [];
+      rest = [];
+      text_is = refl;
+      at_is = refl;
+      begun = record { further = 48 ∷ []; whole = record { negative = false; power = 48 ∷ []; signed_is = inr one_power } };
+      stuck = λ h. nothing h.negative h.power h.signed_is
+    })
   where
     nothing : (negative : Bool) (power : List ℕ) → IsSignedPower [] negative power → ⊥
     nothing true power (rest, is, h) = cc
@@ -296,7 +381,8 @@ power_fails [] i is =
     nothing false power (inr h) = let len = ap length h.text_is in omega (arith, h.some, length-append power h.after)
 power_fails (b ∷ bs) i is = by_plus (b == 43) refl
   where
-    place : (u : List ℕ) (at : ℕ) (t : PlaceOf (IsRestOfPower 0) u at i) → at ≡ 1 → (c : ℕ) → ((v : List ℕ) → IsRestOfPower 0 v → IsSomePower (c ∷ v)) → ((v : List ℕ) → IsSomePower (c ∷ v) → IsRestOfPower 0 v) → FailsFirst IsSomePower (c ∷ u) i
+    place : (u : List ℕ) (at : ℕ) (t : PlaceOf (IsRestOfPower 0) u at i) → at ≡ 1 → (c : ℕ) → ((v : List ℕ) → IsRestOfPower 0 v → IsSomePower (c ∷ v))
+        → ((v : List ℕ) → IsSomePower (c ∷ v) → IsRestOfPower 0 v) → FailsFirst IsSomePower (c ∷ u) i
     place u at t one c to back =
         let same : 1 + t.p ≡ i = omega (arith, t.at_is) in
         subst (FailsFirst IsSomePower (c ∷ u)) same (fails_behind (IsRestOfPower 0) IsSomePower (c ∷ []) to back u t.p t.fails)
@@ -305,18 +391,22 @@ power_fails (b ∷ bs) i is = by_plus (b == 43) refl
     by_minus true no_plus_sign sign =
         let at_45 : b ≡ 45 = grind (arith, nat_tests) in
         let step : power_of (b ∷ bs) ≡ signed_power true (power_digits bs 1 0 0) = rw (no_plus_sign, sign) refl in
-        rw at_45 (place bs 1 (digits_fail bs 1 0 0 i (omega arith) (signed_err true (power_digits bs 1 0 0) i (sym step ∙ is))) refl 45 (λ v h. record { negative = true; power = h.power; signed_is = (v, refl, from_rest v h) }) behind_minus)
+        rw at_45 (place bs 1 (digits_fail bs 1 0 0 i (omega arith) (signed_err true (power_digits bs 1 0 0) i (sym step ∙ is))) refl 45
+              (λ v h. record { negative = true; power = h.power; signed_is = (v, refl, from_rest v h) }) behind_minus)
     by_minus false no_plus_sign no_minus_sign =
         let step : power_of (b ∷ bs) ≡ signed_power false (power_digits (b ∷ bs) 0 0 0) = rw (no_plus_sign, no_minus_sign) refl in
         let t = digits_fail (b ∷ bs) 0 0 0 i (omega arith) (signed_err false (power_digits (b ∷ bs) 0 0 0) i (sym step ∙ is)) in
         let same : t.p ≡ i = omega (arith, t.at_is) in
-        subst (FailsFirst IsSomePower (b ∷ bs)) same (fails_alike (IsRestOfPower 0) IsSomePower b (λ v h. record { negative = false; power = h.power; signed_is = inr (from_rest v h) }) (λ v h. unsigned b v no_plus_sign no_minus_sign h) bs t.p t.fails)
+        subst (FailsFirst IsSomePower (b ∷ bs)) same
+            (fails_alike (IsRestOfPower 0) IsSomePower b (λ v h. record { negative = false; power = h.power; signed_is = inr (from_rest v h) })
+              (λ v h. unsigned b v no_plus_sign no_minus_sign h) bs t.p t.fails)
 
     by_plus : (t : Bool) → (b == 43) ≡ t → FailsFirst IsSomePower (b ∷ bs) i
     by_plus true sign =
         let at_43 : b ≡ 43 = grind (arith, nat_tests) in
         let step : power_of (b ∷ bs) ≡ signed_power false (power_digits bs 1 0 0) = rw sign refl in
-        rw at_43 (place bs 1 (digits_fail bs 1 0 0 i (omega arith) (signed_err false (power_digits bs 1 0 0) i (sym step ∙ is))) refl 43 (λ v h. record { negative = false; power = h.power; signed_is = inl (v, refl, from_rest v h) }) behind_plus)
+        rw at_43 (place bs 1 (digits_fail bs 1 0 0 i (omega arith) (signed_err false (power_digits bs 1 0 0) i (sym step ∙ is))) refl 43
+              (λ v h. record { negative = false; power = h.power; signed_is = inl (v, refl, from_rest v h) }) behind_plus)
     by_plus false no_plus_sign = by_minus (b == 45) no_plus_sign refl
 
 power_digits_is : (t power : List ℕ) (at : ℕ) → IsPower t power → power_digits t at 0 0 ≡ Ok (digit_sum power)

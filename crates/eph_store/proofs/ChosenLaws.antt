@@ -20,7 +20,8 @@ chosen_stays xs sat tag e y c far = record {
   latest = All-push (λ f. IsCandidate sat tag f → distance tag e < distance tag f) c.rest y c.latest far;
 }
 
-pub best_stays : (best : Option (Bor Eph)) (limit : ℕ) (xs : List Eph) (sat tag : ℕ) (y : Eph) → BestSoFar best limit xs sat tag → (y.sat ≡ sat → distance tag y ≤ limit → ⊥) → BestSoFar best limit (xs ++ y ∷ []) sat tag
+pub best_stays : (best : Option (Bor Eph)) (limit : ℕ) (xs : List Eph) (sat tag : ℕ) (y : Eph) → BestSoFar best limit xs sat tag
+    → (y.sat ≡ sat → distance tag y ≤ limit → ⊥) → BestSoFar best limit (xs ++ y ∷ []) sat tag
 best_stays None limit xs sat tag y (is, none) far = (is, All-push (λ f. IsCandidate sat tag f → ⊥) xs y none (λ c. far c.named (rw is c.near)))
 best_stays (Some e) limit xs sat tag y (is, chosen) far =
     (is, chosen_stays xs sat tag e.now y chosen (λ c. by c.named (far c.named)))
@@ -44,7 +45,8 @@ no_nearer (Some e) limit xs sat tag d (is, chosen) le =
     let whole : All P (chosen.front ++ e.now ∷ chosen.rest) = All-append P chosen.front (e.now ∷ chosen.rest) before both in
     rw chosen.stands whole
 
-pub best_is_new : (best : Option (Bor Eph)) (limit : ℕ) (xs : List Eph) (sat tag : ℕ) (y : Eph) → BestSoFar best limit xs sat tag → y.sat ≡ sat → distance tag y ≤ limit → IsChosenRecord (xs ++ y ∷ []) sat tag y
+pub best_is_new : (best : Option (Bor Eph)) (limit : ℕ) (xs : List Eph) (sat tag : ℕ) (y : Eph) → BestSoFar best limit xs sat tag → y.sat ≡ sat
+    → distance tag y ≤ limit → IsChosenRecord (xs ++ y ∷ []) sat tag y
 best_is_new best limit xs sat tag y so_far named near = record {
   front = xs;
   rest = [];
@@ -55,7 +57,8 @@ best_is_new best limit xs sat tag y so_far named near = record {
 }
 
 -- at the end the records so far are all
-pub best_of_all : (best : Option (Bor Eph)) (limit n : ℕ) (xs ys : List Eph) (sat tag : ℕ) → ys ≡ xs → BestSoFar best limit ys sat tag → MatchOption best (HasNoCandidate xs sat tag) (λ e. IsChosenRecord xs sat tag e.now)
+pub best_of_all : (best : Option (Bor Eph)) (limit n : ℕ) (xs ys : List Eph) (sat tag : ℕ) → ys ≡ xs → BestSoFar best limit ys sat tag
+    → MatchOption best (HasNoCandidate xs sat tag) (λ e. IsChosenRecord xs sat tag e.now)
 best_of_all None limit n xs ys sat tag e (is, none) = rw (← e) none
 best_of_all (Some b) limit n xs ys sat tag e (is, chosen) = rw (← e) chosen
 

@@ -55,7 +55,8 @@ pub usable_range : (raw : Raw) (k : ℕ) → IsUsable raw → k < 21 → InRange
 usable_range raw k u h = u.profile k Week h
 
 -- the place of the first number out of its range
-pub out_at : (raw : Raw) (fields : List Field) (i : ℕ) (d : Field) → i < length fields → All (λ f. InRange f raw) (take i fields) → (InRange (get_or fields i d) raw → ⊥) → IsFirstOut raw fields (i + 1)
+pub out_at : (raw : Raw) (fields : List Field) (i : ℕ) (d : Field) → i < length fields → All (λ f. InRange f raw) (take i fields)
+    → (InRange (get_or fields i d) raw → ⊥) → IsFirstOut raw fields (i + 1)
 out_at raw fields i d inside before out = record {
   front = take i fields;
   field = get_or fields i d;
@@ -89,14 +90,16 @@ toc_in_range raw u = usable_range raw 2 u (omega arith)
 -- where all numbers lie in their ranges, none is the first out
 pub none_out : (raw : Raw) (fields : List Field) (number : ℕ) → All (λ f. InRange f raw) fields → IsFirstOut raw fields number → ⊥
 none_out raw fields number all out =
-    let here : get_or fields (length out.front) out.field ≡ out.field = ap (λ (fs : List Field). get_or fs (length out.front) out.field) out.order ∙ get_or-append_seam out.front out.field out.rest out.field in
+    let here : get_or fields (length out.front) out.field ≡ out.field =
+        ap (λ (fs : List Field). get_or fs (length out.front) out.field) out.order ∙ get_or-append_seam out.front out.field out.rest out.field in
     let inside : length out.front < length fields = omega (arith, ap length out.order, length-append out.front (out.field ∷ out.rest)) in
     out.out (rw (← here) (all (length out.front) out.field inside))
 
 not_before : (raw : Raw) (fields : List Field) (n m : ℕ) (s : IsFirstOut raw fields n) (t : IsFirstOut raw fields m) → length s.front < length t.front → ⊥
 not_before raw fields n m s t less =
     let here : get_or fields (length s.front) s.field ≡ s.field = ap (λ (fs : List Field). get_or fs (length s.front) s.field) s.order ∙ get_or-append_seam s.front s.field s.rest s.field in
-    let there : get_or fields (length s.front) s.field ≡ get_or t.front (length s.front) s.field = ap (λ (fs : List Field). get_or fs (length s.front) s.field) t.order ∙ get_or-append t.front (t.field ∷ t.rest) s.field (length s.front) less in
+    let there : get_or fields (length s.front) s.field ≡ get_or t.front (length s.front) s.field =
+        ap (λ (fs : List Field). get_or fs (length s.front) s.field) t.order ∙ get_or-append t.front (t.field ∷ t.rest) s.field (length s.front) less in
     s.out (rw (← here) (rw there (t.before (length s.front) s.field less)))
 
 -- there is one first

@@ -87,8 +87,10 @@ scale_down a (negsuc n) b k t p is below small short long =
     (joined _ _ a (b * 10 ^ t) _ _ (factor_out a (b * 10 ^ t) (10 ^ k) (ten_to_pos k)) (turned _ _ _ _ (cut_power b t 20 p a small short long))))
 
 -- the same, with the sizes and exponents that the code has
-pub size_up : (d : Dec) (a b k s p : ℕ) → b < 10 ^ 10 → (s ≤ 10 → p ≡ 10 ^ s) → (10 < s → p ≡ 10 ^ 10) → a ≡ unsigned_abs d.mant → d.exp +ℤ pos k ≡ pos s → OnScale (unsigned_abs d.mant) d.exp b k (a * p) b
+pub size_up : (d : Dec) (a b k s p : ℕ) → b < 10 ^ 10 → (s ≤ 10 → p ≡ 10 ^ s) → (10 < s → p ≡ 10 ^ 10) → a ≡ unsigned_abs d.mant
+    → d.exp +ℤ pos k ≡ pos s → OnScale (unsigned_abs d.mant) d.exp b k (a * p) b
 size_up d a b k s p small short long size is = rw size (scale_up (unsigned_abs d.mant) d.exp b k s p is small short long)
 
-pub size_down : (d : Dec) (a b k t p : ℕ) → a < 10 ^ 20 → (t ≤ 20 → p ≡ 10 ^ t) → (20 < t → p ≡ 10 ^ 20) → a ≡ unsigned_abs d.mant → d.exp +ℤ pos k ≡ neg_ℤ (pos t) → 0 < t → OnScale (unsigned_abs d.mant) d.exp b k a (b * p)
+pub size_down : (d : Dec) (a b k t p : ℕ) → a < 10 ^ 20 → (t ≤ 20 → p ≡ 10 ^ t) → (20 < t → p ≡ 10 ^ 20) → a ≡ unsigned_abs d.mant
+    → d.exp +ℤ pos k ≡ neg_ℤ (pos t) → 0 < t → OnScale (unsigned_abs d.mant) d.exp b k a (b * p)
 size_down d a b k t p small short long size is below = rw size (scale_down (unsigned_abs d.mant) d.exp b k t p is below (rw (← size) small) short long)

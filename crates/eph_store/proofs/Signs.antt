@@ -101,11 +101,13 @@ whole_down d a zero p n small short long below mant exp = absurd (omega arith)
 whole_down d a (suc x) p n small short long below mant exp = rw (mant, exp) (whole_down_at a x p n small short long)
 
 -- none where no whole number times p is a; else the one m
-pub whole_none : (d : Dec) (r : Option ℕ) (a p : ℕ) → ((n : ℕ) → (n * p ≡ a) ↔ IsWhole d n) → MatchOption r ((n : ℕ) → n * p ≡ a → ⊥) (λ n. n * p ≡ a) → IfNone r ((n : ℕ) → n < 2 ^ 32 → IsWhole d n → ⊥)
+pub whole_none : (d : Dec) (r : Option ℕ) (a p : ℕ) → ((n : ℕ) → (n * p ≡ a) ↔ IsWhole d n) → MatchOption r ((n : ℕ) → n * p ≡ a → ⊥) (λ n. n * p ≡ a)
+    → IfNone r ((n : ℕ) → n < 2 ^ 32 → IsWhole d n → ⊥)
 whole_none d None a p same h = λ n small is. h n ((same n).1 is)
 whole_none d (Some m) a p same h = tt
 
-pub whole_some : (d : Dec) (r : Option ℕ) (a p : ℕ) → 0 < p → ((n : ℕ) → (n * p ≡ a) ↔ IsWhole d n) → MatchOption r ((n : ℕ) → n * p ≡ a → ⊥) (λ n. n * p ≡ a) → IfSome r (λ m. (n : ℕ) → n < 2 ^ 32 → (m ≡ n) ↔ IsWhole d n)
+pub whole_some : (d : Dec) (r : Option ℕ) (a p : ℕ) → 0 < p → ((n : ℕ) → (n * p ≡ a) ↔ IsWhole d n)
+    → MatchOption r ((n : ℕ) → n * p ≡ a → ⊥) (λ n. n * p ≡ a) → IfSome r (λ m. (n : ℕ) → n < 2 ^ 32 → (m ≡ n) ↔ IsWhole d n)
 whole_some d None a p some same h = tt
 whole_some d (Some m) a p some same h = λ n small. (
   λ e. (same n).0 (rw (← e) h),

@@ -19,7 +19,8 @@ pub list_status : (told : List ℕ → Option (List ℕ)) (obs : List ℕ) (end 
 list_status told obs end ends = file_status told obs (ListEnds obs) end (text_status obs end) ends
 
 -- a file that is told and admitted has a verdict
-pub list_verdict : (told : List ℕ → Option (List ℕ)) (obs : List ℕ) (end : Ending) → IsAdmitted told obs (HasObservation Gps) → end.status ≢ ReadFault → EndsByFile told obs (ListEnds obs) end → IsVerdictStatus end.status
+pub list_verdict : (told : List ℕ → Option (List ℕ)) (obs : List ℕ) (end : Ending) → IsAdmitted told obs (HasObservation Gps) → end.status ≢ ReadFault
+    → EndsByFile told obs (ListEnds obs) end → IsVerdictStatus end.status
 list_verdict told obs end file no_fault ends = elim (admitted_ends told obs (HasObservation Gps) (ListEnds obs) end file no_fault ends) [
   | inl by_obs ↦ verdict_at end _ by_obs.end_is tt
   | inr refusal ↦ absurd (refusal.none file.file)
@@ -29,7 +30,8 @@ says_at : (told : List ℕ → Option (List ℕ)) (obs : List ℕ) (end t : Endi
 says_at told obs end t out same says = subst (λ (e : Ending). SaysOfList told obs e.status out) (sym same) says
 
 -- what is written of an ending is what it says of the file
-pub list_says : (told : List ℕ → Option (List ℕ)) (obs : List ℕ) (end : Ending) (out : SinkChange) → EndsByFile told obs (ListEnds obs) end → Appends out.old out.new end.out → SaysOfList told obs end.status out
+pub list_says : (told : List ℕ → Option (List ℕ)) (obs : List ℕ) (end : Ending) (out : SinkChange) → EndsByFile told obs (ListEnds obs) end
+    → Appends out.old out.new end.out → SaysOfList told obs end.status out
 list_says told obs end out (inl by_text) written = elim (by_text.ends_so) [
   | inl by_obs ↦ says_at told obs end _ out by_obs.end_is (record {
     text = by_text.text;

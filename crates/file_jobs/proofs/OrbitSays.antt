@@ -23,7 +23,8 @@ pub orbit_status : (told : List ℕ → Option (List ℕ)) (nav : List ℕ) (sys
 orbit_status told nav system sat tag end ends = file_status told nav (OrbitEnds nav system sat tag) end (text_status nav system sat tag end) ends
 
 -- a file that was read to its end
-pub orbit_whole : (told : List ℕ → Option (List ℕ)) (left : ℕ → Option (List ℕ)) (name text : List ℕ) (system sat tag : ℕ) (end : Ending) → IsReadToEnd told left name → OrbitEnds name system sat tag text end → IsRefusedWhole told left (name ∷ []) end
+pub orbit_whole : (told : List ℕ → Option (List ℕ)) (left : ℕ → Option (List ℕ)) (name text : List ℕ) (system sat tag : ℕ) (end : Ending)
+    → IsReadToEnd told left name → OrbitEnds name system sat tag text end → IsRefusedWhole told left (name ∷ []) end
 orbit_whole told left name text system sat tag end read (inl by_records) = elim (by_records.found) [
   | inl placed ↦ verdict_whole told left (name ∷ []) end (verdict_at end _ placed.placed.end_is tt)
   | inr without ↦ verdict_whole told left (name ∷ []) end (verdict_at end _ without.end_is tt)
@@ -31,7 +32,8 @@ orbit_whole told left name text system sat tag end read (inl by_records) = elim 
 orbit_whole told left name text system sat tag end read (inr refusal) = refusal_whole told left name text end read refusal
 
 -- a file that is told and admitted has a verdict
-pub orbit_verdict : (told : List ℕ → Option (List ℕ)) (nav : List ℕ) (system sat tag : ℕ) (end : Ending) → IsAdmitted told nav (HasNavFile (system_of system)) → end.status ≢ ReadFault → EndsByFile told nav (OrbitEnds nav system sat tag) end → IsVerdictStatus end.status
+pub orbit_verdict : (told : List ℕ → Option (List ℕ)) (nav : List ℕ) (system sat tag : ℕ) (end : Ending) → IsAdmitted told nav (HasNavFile (system_of system))
+    → end.status ≢ ReadFault → EndsByFile told nav (OrbitEnds nav system sat tag) end → IsVerdictStatus end.status
 orbit_verdict told nav system sat tag end file no_fault ends = elim (admitted_ends told nav (HasNavFile (system_of system)) (OrbitEnds nav system sat tag) end file no_fault ends) [
   | inl by_records ↦ elim (by_records.found) [
     | inl placed ↦ verdict_at end _ placed.placed.end_is tt
@@ -40,11 +42,13 @@ orbit_verdict told nav system sat tag end file no_fault ends = elim (admitted_en
   | inr refusal ↦ absurd (refusal.none file.file)
 ]
 
-says_at : (told : List ℕ → Option (List ℕ)) (nav : List ℕ) (system sat tag : ℕ) (end t : Ending) (out : SinkChange) → end ≡ t → SaysOfOrbit told nav system sat tag t.status out → SaysOfOrbit told nav system sat tag end.status out
+says_at : (told : List ℕ → Option (List ℕ)) (nav : List ℕ) (system sat tag : ℕ) (end t : Ending) (out : SinkChange) → end ≡ t
+    → SaysOfOrbit told nav system sat tag t.status out → SaysOfOrbit told nav system sat tag end.status out
 says_at told nav system sat tag end t out same says = subst (λ (e : Ending). SaysOfOrbit told nav system sat tag e.status out) (sym same) says
 
 -- what is written of an ending is what it says of the file
-pub orbit_says : (told : List ℕ → Option (List ℕ)) (nav : List ℕ) (system sat tag : ℕ) (end : Ending) (out : SinkChange) → EndsByFile told nav (OrbitEnds nav system sat tag) end → Appends out.old out.new end.out → SaysOfOrbit told nav system sat tag end.status out
+pub orbit_says : (told : List ℕ → Option (List ℕ)) (nav : List ℕ) (system sat tag : ℕ) (end : Ending) (out : SinkChange)
+    → EndsByFile told nav (OrbitEnds nav system sat tag) end → Appends out.old out.new end.out → SaysOfOrbit told nav system sat tag end.status out
 orbit_says told nav system sat tag end out (inl by_text) written = elim (by_text.ends_so) [
   | inl by_records ↦ elim (by_records.found) [
     | inl placed ↦ says_at told nav system sat tag end _ out placed.placed.end_is (record {

@@ -22,7 +22,8 @@ pub zero_status : (told : List ℕ → Option (List ℕ)) (rows : List ℕ) (end
 zero_status told rows end ends = file_status told rows (ZeroEnds rows) end (text_status rows end) ends
 
 -- a file that was read to its end
-pub zero_whole : (told : List ℕ → Option (List ℕ)) (left : ℕ → Option (List ℕ)) (name text : List ℕ) (end : Ending) → IsReadToEnd told left name → ZeroEnds name text end → IsRefusedWhole told left (name ∷ []) end
+pub zero_whole : (told : List ℕ → Option (List ℕ)) (left : ℕ → Option (List ℕ)) (name text : List ℕ) (end : Ending) → IsReadToEnd told left name
+    → ZeroEnds name text end → IsRefusedWhole told left (name ∷ []) end
 zero_whole told left name text end read (inl by_rows) = elim (by_rows.verdict) [
   | inl optimal ↦ verdict_whole told left (name ∷ []) end (verdict_at end _ optimal.end_is tt)
   | inr beaten ↦ verdict_whole told left (name ∷ []) end (verdict_at end _ beaten.end_is tt)
@@ -30,7 +31,8 @@ zero_whole told left name text end read (inl by_rows) = elim (by_rows.verdict) [
 zero_whole told left name text end read (inr refusal) = refusal_whole told left name text end read refusal
 
 -- a file that is told and admitted has a verdict
-pub zero_verdict : (told : List ℕ → Option (List ℕ)) (rows : List ℕ) (end : Ending) → IsAdmitted told rows IsZeroFile → end.status ≢ ReadFault → EndsByFile told rows (ZeroEnds rows) end → IsVerdictStatus end.status
+pub zero_verdict : (told : List ℕ → Option (List ℕ)) (rows : List ℕ) (end : Ending) → IsAdmitted told rows IsZeroFile → end.status ≢ ReadFault
+    → EndsByFile told rows (ZeroEnds rows) end → IsVerdictStatus end.status
 zero_verdict told rows end file no_fault ends = elim (admitted_ends told rows IsZeroFile (ZeroEnds rows) end file no_fault ends) [
   | inl by_rows ↦ elim (by_rows.verdict) [
     | inl optimal ↦ verdict_at end _ optimal.end_is tt
@@ -43,7 +45,8 @@ zero_verdict told rows end file no_fault ends = elim (admitted_ends told rows Is
 says_at : (told : List ℕ → Option (List ℕ)) (rows : List ℕ) (end t : Ending) (out : SinkChange) → end ≡ t → SaysOfZero told rows t.status out → SaysOfZero told rows end.status out
 says_at told rows end t out same says = subst (λ (e : Ending). SaysOfZero told rows e.status out) (sym same) says
 
-pub zero_says : (told : List ℕ → Option (List ℕ)) (rows : List ℕ) (end : Ending) (out : SinkChange) → EndsByFile told rows (ZeroEnds rows) end → Appends out.old out.new end.out → SaysOfZero told rows end.status out
+pub zero_says : (told : List ℕ → Option (List ℕ)) (rows : List ℕ) (end : Ending) (out : SinkChange) → EndsByFile told rows (ZeroEnds rows) end
+    → Appends out.old out.new end.out → SaysOfZero told rows end.status out
 zero_says told rows end out (inl by_text) written = elim (by_text.ends_so) [
   | inl by_rows ↦ elim (by_rows.verdict) [
     | inl optimal ↦ says_at told rows end _ out optimal.end_is (record {

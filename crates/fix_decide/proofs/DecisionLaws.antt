@@ -54,11 +54,13 @@ signals_of s = counted s.signals s.scale
 
 -- from the bound of the form, the two least vectors, and the upper sum of the first
 pub best_from_bounds : (s : Session) (h : ℕ) (p : List Column) (ratio t : ℤ) (z1 z2 m : List ℤ) → s.scale ≡ 0 → length z1 ≡ integer_count s.arcs (signals_of s) →
-    BoundsAllData s.arcs (signals_of s) s.pairs h p → TwoLeast p (len z1) z1 z2 → StaysAtMost s.arcs (signals_of s) s.pairs z1 m (pos (2 ^ h) *ℤ t) → pos 1000 ≤ℤ ratio → pos 0 ≤ℤ t → IsSeparated ratio t (value p z2) → IsStrictlyBest s z1 m
+    BoundsAllData s.arcs (signals_of s) s.pairs h p → TwoLeast p (len z1) z1 z2 → StaysAtMost s.arcs (signals_of s) s.pairs z1 m (pos (2 ^ h) *ℤ t) →
+    pos 1000 ≤ℤ ratio → pos 0 ≤ℤ t → IsSeparated ratio t (value p z2) → IsStrictlyBest s z1 m
 best_from_bounds s h p ratio t z1 z2 m fine entries bounds least upper r k separated = record {
   fine = fine;
   entries = entries;
   best = λ (observed : List (List Observed)) (f : AreData (signals_of s) s.pairs observed) (w : List ℤ) (e : length w ≡ integer_count s.arcs (signals_of s)) (n : w ≢ z1) (b : Baseline).
-      below (sum_of_squares s.arcs (signals_of s) s.pairs z1 (moved m) observed) (sum_of_squares s.arcs (signals_of s) s.pairs w b observed) h t (value p z2) (value p w) (room t ratio (value p z2) r k separated)
+      below (sum_of_squares s.arcs (signals_of s) s.pairs z1 (moved m) observed) (sum_of_squares s.arcs (signals_of s) s.pairs w b observed) h t
+          (value p z2) (value p w) (room t ratio (value p z2) r k separated)
       (second_value p (len z1) z1 z2 w least (len_is w ∙ ap pos (e ∙ sym entries) ∙ sym (len_is z1)) n) (upper.above observed f) (bounds.below w b observed e f);
 }

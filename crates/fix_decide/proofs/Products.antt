@@ -17,7 +17,8 @@ one_share k n h g l = le_by (k ∷ n ∷ []) (λ k n. (k, nat (2 ^ 32), (nat (2 
 
 -- k g ≤ k n 2^72 ≤ 2^104
 product_below : (k g n : ℤ) → pos 0 ≤ℤ k → (k *ℤ n) ≤ℤ pos (2 ^ 32) → g ≤ℤ (n *ℤ pos (2 ^ 72)) → (k *ℤ g) ≤ℤ pos (2 ^ 104)
-product_below k g n h l m = le_by (k ∷ g ∷ n ∷ []) (λ k g n. (k ⊗ g, nat (2 ^ 104), k ⊗ (n ⊗ nat (2 ^ 72) ⊖ g) ⊕ (nat (2 ^ 32) ⊖ k ⊗ n) ⊗ nat (2 ^ 72))) refl (both_nn (prod_nn h (less_nn m)) (prod_nn (less_nn l) (nat_nn (2 ^ 72))))
+product_below k g n h l m = le_by (k ∷ g ∷ n ∷ []) (λ k g n. (k ⊗ g, nat (2 ^ 104), k ⊗ (n ⊗ nat (2 ^ 72) ⊖ g) ⊕ (nat (2 ^ 32) ⊖ k ⊗ n) ⊗ nat (2 ^ 72))) refl
+    (both_nn (prod_nn h (less_nn m)) (prod_nn (less_nn l) (nat_nn (2 ^ 72))))
   where
     nat_nn : (n : ℕ) → pos 0 ≤ℤ pos n
     nat_nn n = omega (arith, ints)

@@ -39,12 +39,14 @@ less : (a b c : ℤ) → neg_ℤ b ≡ c → a -ℤ b ≡ a +ℤ c
 less a b c e = omega (arith, lins)
 
 centre_is : (arcs : List Arc) (ss : List ℕ) (z m : List ℤ) (s : ℕ) (r : Row) → centre arcs ss z m s r ≡ group_centre z (whole_move m) (signal_row arcs ss s r)
-centre_is arcs ss z m s r = less (floor_div ((number_at r.y s *ℤ pos (2 ^ 16)) -ℤ scalar_product r.u m) (2 ^ 16)) (cycle s *ℤ integer arcs ss z r.arc s) (dot (cycles arcs ss s r) z) (cycles_give arcs ss s z r)
+centre_is arcs ss z m s r = less (floor_div ((number_at r.y s *ℤ pos (2 ^ 16)) -ℤ scalar_product r.u m) (2 ^ 16)) (cycle s *ℤ integer arcs ss z r.arc s)
+    (dot (cycles arcs ss s r) z) (cycles_give arcs ss s z r)
 
 rad_is : (arcs : List Arc) (ss : List ℕ) (m : List ℤ) (s : ℕ) (r : Row) → rad m r ≡ group_rad (whole_move m) (signal_row arcs ss s r)
 rad_is arcs ss m s r = rw (number-sizes m 0, number-sizes m 1, number-sizes m 2) refl
 
-gap_is : (arcs : List Arc) (ss : List ℕ) (z m : List ℤ) (s : ℕ) (r q : Row) → gap (reach_of arcs ss z m s r) (reach_of arcs ss z m s q) ≡ group_gap z (whole_move m) (signal_row arcs ss s r) (signal_row arcs ss s q)
+gap_is : (arcs : List Arc) (ss : List ℕ) (z m : List ℤ) (s : ℕ) (r q : Row)
+    → gap (reach_of arcs ss z m s r) (reach_of arcs ss z m s q) ≡ group_gap z (whole_move m) (signal_row arcs ss s r) (signal_row arcs ss s q)
 gap_is arcs ss z m s r q = ap₂ (λ a b. a +ℤ b)
     (ap₂ (λ a b. size (a -ℤ b)) (centre_is arcs ss z m s r) (centre_is arcs ss z m s q))
     (ap₂ (λ a b. a +ℤ b) (rad_is arcs ss m s r) (rad_is arcs ss m s q))
@@ -90,10 +92,12 @@ stays_at_most arcs ss pairs z m e = record { above = λ (observed : List (List O
         (upper_over_rationals z (whole_move m) (signal_groups arcs ss pairs) (group_data ss observed) (groups_of_vector arcs ss pairs z e) (data_fit arcs ss pairs observed h))
 
 -- in units of 2^h, rounded up
-pub top_stays_at_most : (h : ℕ) (arcs : List Arc) (ss : List ℕ) (pairs : List PairRows) (z m : List ℤ) → length z ≡ integer_count arcs ss → StaysAtMost arcs ss pairs z m (pos (2 ^ h) *ℤ top h arcs ss pairs z m)
+pub top_stays_at_most : (h : ℕ) (arcs : List Arc) (ss : List ℕ) (pairs : List PairRows) (z m : List ℤ) → length z ≡ integer_count arcs ss
+    → StaysAtMost arcs ss pairs z m (pos (2 ^ h) *ℤ top h arcs ss pairs z m)
 top_stays_at_most h arcs ss pairs z m e = record {
   above = λ (observed : List (List Observed)) (f : AreData ss pairs observed).
-      wider (sum_of_squares arcs ss pairs z (moved m) observed) (upper_sum arcs ss pairs z m) (pos (2 ^ h) *ℤ top h arcs ss pairs z m) ((stays_at_most arcs ss pairs z m e).above observed f) (ceil_close (upper_sum arcs ss pairs z m) (2 ^ h) (pow_pos h));
+      wider (sum_of_squares arcs ss pairs z (moved m) observed) (upper_sum arcs ss pairs z m) (pos (2 ^ h) *ℤ top h arcs ss pairs z m)
+          ((stays_at_most arcs ss pairs z m e).above observed f) (ceil_close (upper_sum arcs ss pairs z m) (2 ^ h) (pow_pos h));
 }
   where
     wider : (q : Rational) (u t : ℤ) → q ≤ʳ of_whole u → u ≤ℤ t → q ≤ʳ of_whole t

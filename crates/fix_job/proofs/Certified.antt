@@ -24,7 +24,8 @@ use Rattle.session.specs.Outcomes.{IsOutcome}
 use Rattle.fix_job.specs.FixRuns.{IsFix}
 
 -- the numbers of a decided tail are those of the rows
-decided_again : (rules : Rules) (ratio budget : ℕ) (made : RoundCounts) (s : Session) (tail : Tail) (cert : Cert) (fix : IsFix cert) → tail ≡ Fixed fix.h fix.moved fix.best fix.top → EndsFull rules ratio budget made s tail → IsFixed s ratio (numbers fix.h fix.moved fix.best fix.top)
+decided_again : (rules : Rules) (ratio budget : ℕ) (made : RoundCounts) (s : Session) (tail : Tail) (cert : Cert) (fix : IsFix cert)
+    → tail ≡ Fixed fix.h fix.moved fix.best fix.top → EndsFull rules ratio budget made s tail → IsFixed s ratio (numbers fix.h fix.moved fix.best fix.top)
 decided_again rules ratio budget made s tail cert fix tail_is full = elim (full.1) [
   | inl ends ↦ absurd (subst (IsRoundDeclined (is_last s.scale ends.before) s) tail_is ends.declined)
   | inr decides ↦
@@ -45,16 +46,23 @@ decided_again rules ratio budget made s tail cert fix tail_is full = elim (full.
       }
 ]
 
-pub certified_again : (base rover : ObsFile) (nav : Records) (options : Options) (outcome : Outcome) (cert : Cert) → IsOutcome base rover nav options outcome → outcome.answer ≡ Full cert → IsFix cert → IsVerdictOf cert.session cert.ratio cert.budget cert.tail Certified
+pub certified_again : (base rover : ObsFile) (nav : Records) (options : Options) (outcome : Outcome) (cert : Cert) → IsOutcome base rover nav options outcome
+    → outcome.answer ≡ Full cert → IsFix cert → IsVerdictOf cert.session cert.ratio cert.budget cert.tail Certified
 certified_again base rover nav options outcome cert is full fix =
     let f = is.rounds in
     let rules : Rules = rules_of f.screened.boxes (length f.screened.used) f.kept f.position f.signals f.system in
     let ends = (subst (IsAnswer rules outcome.taken options outcome.rounds) full is.answer_is).1 in
     let d : Numbers = numbers fix.h fix.moved fix.best fix.top in
     let again : IsFixed cert.session options.ratio d = decided_again rules options.ratio options.budget outcome.rounds cert.session cert.tail cert fix fix.tail_is ends.ends in
-    let says : Says cert.tail d = subst (λ (t : Tail). Says t d) (sym fix.tail_is) (record { h_is = refl; moved_is = refl; best_is = record { first_is = refl; second_is = refl; p1_is = refl; p2_is = refl }; top_is = refl }) in
+    let says : Says cert.tail d =
+        subst (λ (t : Tail). Says t d) (sym fix.tail_is)
+            (record { h_is = refl; moved_is = refl; best_is = record { first_is = refl; second_is = refl; p1_is = refl; p2_is = refl }; top_is = refl }) in
     (d, (subst (λ (n : ℕ). IsFixed cert.session n d) (sym ends.ratio) again, says))
 
 -- each verdict on it is that one, or that the search gave up
-pub no_other : (cert : Cert) → IsVerdictOf cert.session cert.ratio cert.budget cert.tail Certified → (v : Verdict) → IsVerdictOf cert.session cert.ratio cert.budget cert.tail v → (v ≡ Certified) ⊎ IsGivenUp v
-no_other cert certified v is = elim (one_verdict cert.session cert.ratio cert.budget cert.tail v Certified is certified) [ inl same ↦ inl same | inr given_up ↦ elim (given_up) [ inl here ↦ inr here | inr there ↦ absurd there ] ]
+pub no_other : (cert : Cert) → IsVerdictOf cert.session cert.ratio cert.budget cert.tail Certified → (v : Verdict)
+    → IsVerdictOf cert.session cert.ratio cert.budget cert.tail v → (v ≡ Certified) ⊎ IsGivenUp v
+no_other cert certified v is = elim (one_verdict cert.session cert.ratio cert.budget cert.tail v Certified is certified) [
+  inl same ↦ inl same
+  | inr given_up ↦ elim (given_up) [ inl here ↦ inr here | inr there ↦ absurd there ]
+]

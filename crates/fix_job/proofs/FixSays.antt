@@ -48,7 +48,8 @@ fix_status told base rover nav o end (inl session) = elim (session.ends_so) [
 ]
 fix_status told base rover nav o end (inr stops) = files_status (system_of o.system) told base rover nav end stops
 
-pub fix_verdict : (told : List ℕ → Option (List ℕ)) (base rover nav : List ℕ) (o : Options) (end : Ending) → AreAdmitted told base rover nav o → end.status ≢ ReadFault → FixEnds told base rover nav o end → IsVerdictStatus end.status
+pub fix_verdict : (told : List ℕ → Option (List ℕ)) (base rover nav : List ℕ) (o : Options) (end : Ending) → AreAdmitted told base rover nav o
+    → end.status ≢ ReadFault → FixEnds told base rover nav o end → IsVerdictStatus end.status
 fix_verdict told base rover nav o end admitted no_fault (inl session) = elim (session.ends_so) [
   | inl outcome ↦ verdict_at end _ outcome.end_is (verdict_of (is_fixed outcome.outcome.answer))
   | inr refused ↦ absurd (never_refused told base rover nav o session.base_file session.rover_file session.records end admitted session.are refused)
@@ -56,8 +57,10 @@ fix_verdict told base rover nav o end admitted no_fault (inl session) = elim (se
 fix_verdict told base rover nav o end admitted no_fault (inr stops) = absurd (no_stop (system_of o.system) told base rover nav end admitted.base_is admitted.rover_is admitted.nav_is no_fault stops)
 
 -- ---- refusals
-pub fix_whole : (told : List ℕ → Option (List ℕ)) (left : ℕ → Option (List ℕ)) (names : List (List ℕ)) (o : Options) (b r : ObsFile) (n : Records) (end : Ending) → FixEnd o b r n end → AreRefusedWhole told left names end
-fix_whole told left names o b r n end (inl outcome) = stop_whole told left names end (verdict_whole told left names end (verdict_at end _ outcome.end_is (verdict_of (is_fixed outcome.outcome.answer))))
+pub fix_whole : (told : List ℕ → Option (List ℕ)) (left : ℕ → Option (List ℕ)) (names : List (List ℕ)) (o : Options) (b r : ObsFile) (n : Records)
+    (end : Ending) → FixEnd o b r n end → AreRefusedWhole told left names end
+fix_whole told left names o b r n end (inl outcome) =
+    stop_whole told left names end (verdict_whole told left names end (verdict_at end _ outcome.end_is (verdict_of (is_fixed outcome.outcome.answer))))
 fix_whole told left names o b r n end (inr refused) = pair_whole told left names b r o end refused
 
 -- none of these is a read fault
@@ -66,7 +69,8 @@ fix_named sure names o b r n end (inl outcome) = none_told sure names end (verdi
 fix_named sure names o b r n end (inr refused) = none_told sure names end (refused_no_fault end _ refused.end_is)
 
 -- ---- what is said
-says_at : (told : List ℕ → Option (List ℕ)) (base rover nav : List ℕ) (o : Options) (end t : Ending) (out : SinkChange) → end ≡ t → SaysOfFix told base rover nav o t.status out → SaysOfFix told base rover nav o end.status out
+says_at : (told : List ℕ → Option (List ℕ)) (base rover nav : List ℕ) (o : Options) (end t : Ending) (out : SinkChange) → end ≡ t
+    → SaysOfFix told base rover nav o t.status out → SaysOfFix told base rover nav o end.status out
 says_at told base rover nav o end t out same says = subst (λ (e : Ending). SaysOfFix told base rover nav o e.status out) (sym same) says
 
 -- an answer that is fixed is a certificate that says so
@@ -89,7 +93,8 @@ fixed_cert (Arcs free) fixed best = absurd (false≢true fixed)
 fixed_cert (Early stage why) fixed best = absurd (false≢true fixed)
 fixed_cert (Full cert) fixed best = record { cert = cert; is = refl; fix = fixed_tail cert cert.tail refl fixed best }
 
-outcome_says : (told : List ℕ → Option (List ℕ)) (base rover nav : List ℕ) (o : Options) (outcome : Outcome) (out : SinkChange) (fixed : Bool) → is_fixed outcome.answer ≡ fixed → HaveOutcome told base rover nav o outcome → IsBestAnswer outcome.answer
+outcome_says : (told : List ℕ → Option (List ℕ)) (base rover nav : List ℕ) (o : Options) (outcome : Outcome) (out : SinkChange) (fixed : Bool)
+    → is_fixed outcome.answer ≡ fixed → HaveOutcome told base rover nav o outcome → IsBestAnswer outcome.answer
     → IsWholeAnswer outcome.answer → Appends out.old out.new (answer_text outcome.answer) → SaysOfFix told base rover nav o (if fixed then Done else Declined) out
 outcome_says told base rover nav o outcome out true is have best whole printed =
     let c : IsFixedCert outcome.answer = fixed_cert outcome.answer is best in
@@ -109,17 +114,20 @@ outcome_says told base rover nav o outcome out true is have best whole printed =
 outcome_says told base rover nav o outcome out false is have best whole printed = record { outcome = outcome; have = have; none = is; whole = whole; printed = printed }
 
 -- what is written of an ending is what it says of the files
-pub fix_says : (told : List ℕ → Option (List ℕ)) (base rover nav : List ℕ) (o : Options) (end : Ending) (out : SinkChange) → FixEnds told base rover nav o end → Appends out.old out.new end.out → SaysOfFix told base rover nav o end.status out
+pub fix_says : (told : List ℕ → Option (List ℕ)) (base rover nav : List ℕ) (o : Options) (end : Ending) (out : SinkChange)
+    → FixEnds told base rover nav o end → Appends out.old out.new end.out → SaysOfFix told base rover nav o end.status out
 fix_says told base rover nav o end out (inl session) written = elim (session.ends_so) [
   | inl outcome ↦
       let printed : Appends out.old out.new (answer_text outcome.outcome.answer) = subst (λ (e : Ending). Appends out.old out.new e.out) outcome.end_is written in
-      let have : HaveOutcome told base rover nav o outcome.outcome = record { base_file = session.base_file; rover_file = session.rover_file; records = session.records; are_files = session.are; is = outcome.is } in
+      let have : HaveOutcome told base rover nav o outcome.outcome =
+          record { base_file = session.base_file; rover_file = session.rover_file; records = session.records; are_files = session.are; is = outcome.is } in
       says_at told base rover nav o end _ out outcome.end_is (outcome_says told base rover nav o outcome.outcome out (is_fixed outcome.outcome.answer) refl have outcome.best outcome.whole printed)
   | inr refused ↦ says_at told base rover nav o end _ out refused.end_is tt
 ]
 fix_says told base rover nav o end out (inr stops) written = stops_say stops
   where
-    stopped_says : {name : List ℕ} {ends : List ℕ → Ending → Type 0} → ((text : List ℕ) → ends text end → SaysOfFix told base rover nav o end.status out) → EndsByFile told name ends end → SaysOfFix told base rover nav o end.status out
+    stopped_says : {name : List ℕ} {ends : List ℕ → Ending → Type 0} → ((text : List ℕ) → ends text end → SaysOfFix told base rover nav o end.status out)
+        → EndsByFile told name ends end → SaysOfFix told base rover nav o end.status out
     stopped_says by_text (inl text) = by_text text.text text.ends_so
     stopped_says by_text (inr (inl large)) = says_at told base rover nav o end _ out large.end_is tt
     stopped_says by_text (inr (inr fault)) = says_at told base rover nav o end _ out fault tt

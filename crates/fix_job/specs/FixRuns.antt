@@ -55,7 +55,8 @@ pub record StandsForIts (b r : ObsFile) (n : Records) (o : Options) (cert : Cert
   pub signals_are : AreSignals (bands_of o.bands) b r signals
   pub taken : List PairOf
   pub taken_are : AreTaken b r o taken
-  pub stands : StandsForFiles (setting_of b n signals o.mask (world_of o.system)) b.epochs r.epochs taken (bands_of o.bands) o.jump o.arc o.system position signals cert.session.point (map (λ (a : Arc). a.shift) cert.session.arcs) 0 cert.session
+  pub stands : StandsForFiles (setting_of b n signals o.mask (world_of o.system)) b.epochs r.epochs taken (bands_of o.bands) o.jump o.arc o.system
+      position signals cert.session.point (map (λ (a : Arc). a.shift) cert.session.arcs) 0 cert.session
 
 -- the three texts stand for a session of the options' system, whose outcome is this
 pub record HaveOutcome (told : List ℕ → Option (List ℕ)) (base rover nav : List ℕ) (o : Options) (outcome : Outcome) : Type 0 where

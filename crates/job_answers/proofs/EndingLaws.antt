@@ -34,7 +34,8 @@ pub job_status_at : (end : Ending) (t : Ending) → end ≡ t → IsJobStatus t.
 job_status_at end t same is = subst (λ (e : Ending). IsJobStatus e.status) (sym same) is
 
 -- a file ends with a job's status, where its text does
-pub file_status : (told : List ℕ → Option (List ℕ)) (name : List ℕ) (ends : List ℕ → Ending → Type 0) (end : Ending) → ((text : List ℕ) → ends text end → IsJobStatus end.status) → EndsByFile told name ends end → IsJobStatus end.status
+pub file_status : (told : List ℕ → Option (List ℕ)) (name : List ℕ) (ends : List ℕ → Ending → Type 0) (end : Ending)
+    → ((text : List ℕ) → ends text end → IsJobStatus end.status) → EndsByFile told name ends end → IsJobStatus end.status
 file_status told name ends end by_text (inl text) = by_text text.text text.ends_so
 file_status told name ends end by_text (inr (inl large)) = job_status_at end _ large.end_is tt
 file_status told name ends end by_text (inr (inr fault)) = job_status_at end _ fault tt
@@ -55,7 +56,8 @@ pub fault_whole : (told : List ℕ → Option (List ℕ)) (left : ℕ → Option
 fault_whole told left names name end fault = λ refused. let s = ap (λ (e : Ending). e.status) fault in absurd (cc (s, refused))
 
 -- that of a file that was read to its end
-pub read_whole : (told : List ℕ → Option (List ℕ)) (left : ℕ → Option (List ℕ)) (name : List ℕ) (at : At) (end : Ending) → IsReadToEnd told left name → end ≡ ending Refused [] (refusal_line name at) → IsRefusedWhole told left (name ∷ []) end
+pub read_whole : (told : List ℕ → Option (List ℕ)) (left : ℕ → Option (List ℕ)) (name : List ℕ) (at : At) (end : Ending) → IsReadToEnd told left name
+    → end ≡ ending Refused [] (refusal_line name at) → IsRefusedWhole told left (name ∷ []) end
 read_whole told left name at end read is = λ refused. (0, name, omega arith, refl, inl (record { at = at; line = ap (λ (e : Ending). e.err) is; read = read }))
 
 -- that of a file that is too large
@@ -67,7 +69,9 @@ unloaded_whole told left name end (inl large) = large_whole told left name end l
 unloaded_whole told left name end (inr fault) = fault_whole told left (name ∷ []) name end fault
 
 -- that of a file whose text is none of the form
-pub refusal_whole : {X : Type 0} {gives : List (List ℕ) → Result X At} {IsFile : List (List ℕ) → Type 0} (told : List ℕ → Option (List ℕ)) (left : ℕ → Option (List ℕ)) (name text : List ℕ) (end : Ending) → IsReadToEnd told left name → IsRefusal gives IsFile name text end → IsRefusedWhole told left (name ∷ []) end
+pub refusal_whole : {X : Type 0} {gives : List (List ℕ) → Result X At} {IsFile : List (List ℕ) → Type 0} (told : List ℕ → Option (List ℕ)) (left : ℕ
+      → Option (List ℕ)) (name text : List ℕ) (end : Ending) → IsReadToEnd told left name → IsRefusal gives IsFile name text end
+    → IsRefusedWhole told left (name ∷ []) end
 refusal_whole told left name text end read refusal = read_whole told left name refusal.at end read refusal.end_is
 
 -- ---- what holds of each ending holds of that of a job

@@ -61,7 +61,8 @@ product_fits p q a b h = let e = product_ends p q a b h in go (floor_div (least_
     go l h i j (inl k) = omega (arith, ints)
     go l h i j (inr k) = omega (arith, ints)
 
-pub sum_fits : (p q a b ml mh pl ph : ℤ) → IsSizedProduct p q a b → neg_ℤ (pos (12 * 2 ^ 56)) ≤ℤ ml → mh ≤ℤ pos (12 * 2 ^ 56) → pl ≡ floor_div (least_corner p q a b) (2 ^ 64) → ph ≡ ceil_div (most_corner p q a b) (2 ^ 64) → Past (ml +ℤ pl) (mh +ℤ ph) → ⊥
+pub sum_fits : (p q a b ml mh pl ph : ℤ) → IsSizedProduct p q a b → neg_ℤ (pos (12 * 2 ^ 56)) ≤ℤ ml → mh ≤ℤ pos (12 * 2 ^ 56)
+    → pl ≡ floor_div (least_corner p q a b) (2 ^ 64) → ph ≡ ceil_div (most_corner p q a b) (2 ^ 64) → Past (ml +ℤ pl) (mh +ℤ ph) → ⊥
 sum_fits p q a b ml mh pl ph h m0 m1 el eh = let e = product_ends p q a b h in go ml mh pl ph m0 m1 (subst (λ z. neg_ℤ (pos (2 ^ 52)) ≤ℤ z) (sym el) e.0) (subst (λ z. z ≤ℤ pos (2 ^ 52)) (sym eh) e.1)
   where
     go : (m n l h : ℤ) → neg_ℤ (pos (12 * 2 ^ 56)) ≤ℤ m → n ≤ℤ pos (12 * 2 ^ 56) → neg_ℤ (pos (2 ^ 52)) ≤ℤ l → h ≤ℤ pos (2 ^ 52) → Past (m +ℤ l) (n +ℤ h) → ⊥
@@ -70,7 +71,8 @@ sum_fits p q a b ml mh pl ph h m0 m1 el eh = let e = product_ends p q a b h in g
 
 -- ---- boxes
 pub point_holds : (x l h : ℤ) → l ≡ x → h ≡ x → InBox 56 l h (of_scale 56 x)
-point_holds x l h e f = (subst (λ (z : ℤ). (z *ℤ pos (2 ^ 56)) ≤ℤ (x *ℤ pos (2 ^ 56))) (sym e) (same (x *ℤ pos (2 ^ 56))), subst (λ (z : ℤ). (x *ℤ pos (2 ^ 56)) ≤ℤ (z *ℤ pos (2 ^ 56))) (sym f) (same (x *ℤ pos (2 ^ 56))))
+point_holds x l h e f = (subst (λ (z : ℤ). (z *ℤ pos (2 ^ 56)) ≤ℤ (x *ℤ pos (2 ^ 56))) (sym e) (same (x *ℤ pos (2 ^ 56))),
+      subst (λ (z : ℤ). (x *ℤ pos (2 ^ 56)) ≤ℤ (z *ℤ pos (2 ^ 56))) (sym f) (same (x *ℤ pos (2 ^ 56))))
   where
     same : (z : ℤ) → z ≤ℤ z
     same z = omega (arith, lins)
@@ -116,7 +118,8 @@ pub halves : (a b t n k : ℤ) → (b -ℤ a) ≤ℤ (n +ℤ n) → (t -ℤ a) �
 halves a b t n k h i j = (omega (arith, ints), omega (arith, ints))
 
 -- ---- casts
-pub plain_sum : (a b : ℤ) → neg_ℤ (pos (13 * 2 ^ 56)) ≤ℤ a → a ≤ℤ pos (13 * 2 ^ 56) → neg_ℤ (pos (2 ^ 52)) ≤ℤ b → b ≤ℤ pos (2 ^ 52) → to_z w64 (of_z w64 (to_z w64 (of_z w64 a) +ℤ to_z w64 (of_z w64 b))) ≡ a +ℤ b
+pub plain_sum : (a b : ℤ) → neg_ℤ (pos (13 * 2 ^ 56)) ≤ℤ a → a ≤ℤ pos (13 * 2 ^ 56) → neg_ℤ (pos (2 ^ 52)) ≤ℤ b → b ≤ℤ pos (2 ^ 52)
+    → to_z w64 (of_z w64 (to_z w64 (of_z w64 a) +ℤ to_z w64 (of_z w64 b))) ≡ a +ℤ b
 plain_sum a b h k i j = omega (arith, ints)
 
 pub inside : (x : ℤ) → neg_ℤ (pos (13 * 2 ^ 56)) ≤ℤ x → x ≤ℤ pos (13 * 2 ^ 56) → InRange 5 (of_scale 56 x)
@@ -136,13 +139,23 @@ wider_high m h = omega (arith, ints)
 
 -- ---- the residual
 
-pub corner_high : (p q e t w : ℤ) → (w -ℤ t) ≤ℤ (pos 256) → (p -ℤ e) ≤ℤ (pos 2) → e ≤ℤ p → (pos 0) ≤ℤ e → e ≤ℤ (pos 36028797018963968) → w ≤ℤ (pos 2305843009213693952) → (p *ℤ w) ≤ℤ ((e *ℤ t) +ℤ (pos 18446744073709551616))
+pub corner_high : (p q e t w : ℤ) → (w -ℤ t) ≤ℤ (pos 256) → (p -ℤ e) ≤ℤ (pos 2) → e ≤ℤ p → (pos 0) ≤ℤ e → e ≤ℤ (pos 36028797018963968)
+    → w ≤ℤ (pos 2305843009213693952) → (p *ℤ w) ≤ℤ ((e *ℤ t) +ℤ (pos 18446744073709551616))
 corner_high p q e t w h0 h1 h2 h3 h4 h5 =
-    cert (p ∷ q ∷ e ∷ t ∷ w ∷ []) ((((va 4) ⊖ (va 3)) ≼ (ko (pos 256))) ∷ (((va 0) ⊖ (va 2)) ≼ (ko (pos 2))) ∷ ((va 2) ≼ (va 0)) ∷ ((ko (pos 0)) ≼ (va 2)) ∷ ((va 2) ≼ (ko (pos 36028797018963968))) ∷ ((va 4) ≼ (ko (pos 2305843009213693952))) ∷ []) ((va 0) ⊗ (va 4)) (((va 2) ⊗ (va 3)) ⊕ (ko (pos 18446744073709551616))) ((((((hy 3) ⊠ (hy 0)) ⊞ ((nm 256) ⊠ (hy 4))) ⊞ ((hy 2) ⊠ (hy 5))) ⊞ ((nm 2305843009213693952) ⊠ (hy 1))) ⊞ (nm 4611686018427387904)) refl (h0, (h1, (h2, (h3, (h4, (h5, tt))))))
+    cert (p ∷ q ∷ e ∷ t ∷ w ∷ []) ((((va 4) ⊖ (va 3)) ≼ (ko (pos 256))) ∷ (((va 0) ⊖ (va 2)) ≼ (ko (pos 2))) ∷ ((va 2) ≼ (va 0))
+          ∷ ((ko (pos 0)) ≼ (va 2)) ∷ ((va 2) ≼ (ko (pos 36028797018963968))) ∷ ((va 4) ≼ (ko (pos 2305843009213693952))) ∷ []) ((va 0) ⊗ (va 4))
+        (((va 2) ⊗ (va 3)) ⊕ (ko (pos 18446744073709551616)))
+        ((((((hy 3) ⊠ (hy 0)) ⊞ ((nm 256) ⊠ (hy 4))) ⊞ ((hy 2) ⊠ (hy 5))) ⊞ ((nm 2305843009213693952) ⊠ (hy 1))) ⊞ (nm 4611686018427387904)) refl
+        (h0, (h1, (h2, (h3, (h4, (h5, tt))))))
 
-pub corner_low : (p q e t w : ℤ) → (t -ℤ w) ≤ℤ (pos 256) → (p -ℤ e) ≤ℤ (pos 2) → e ≤ℤ p → (pos 0) ≤ℤ e → e ≤ℤ (pos 36028797018963968) → ((pos 0) -ℤ (pos 2305843009213693952)) ≤ℤ w → ((e *ℤ t) -ℤ (pos 18446744073709551616)) ≤ℤ (p *ℤ w)
+pub corner_low : (p q e t w : ℤ) → (t -ℤ w) ≤ℤ (pos 256) → (p -ℤ e) ≤ℤ (pos 2) → e ≤ℤ p → (pos 0) ≤ℤ e → e ≤ℤ (pos 36028797018963968)
+    → ((pos 0) -ℤ (pos 2305843009213693952)) ≤ℤ w → ((e *ℤ t) -ℤ (pos 18446744073709551616)) ≤ℤ (p *ℤ w)
 corner_low p q e t w h0 h1 h2 h3 h4 h5 =
-    cert (p ∷ q ∷ e ∷ t ∷ w ∷ []) ((((va 3) ⊖ (va 4)) ≼ (ko (pos 256))) ∷ (((va 0) ⊖ (va 2)) ≼ (ko (pos 2))) ∷ ((va 2) ≼ (va 0)) ∷ ((ko (pos 0)) ≼ (va 2)) ∷ ((va 2) ≼ (ko (pos 36028797018963968))) ∷ (((ko (pos 0)) ⊖ (ko (pos 2305843009213693952))) ≼ (va 4)) ∷ []) (((va 2) ⊗ (va 3)) ⊖ (ko (pos 18446744073709551616))) ((va 0) ⊗ (va 4)) ((((((hy 3) ⊠ (hy 0)) ⊞ ((nm 256) ⊠ (hy 4))) ⊞ ((hy 2) ⊠ (hy 5))) ⊞ ((nm 2305843009213693952) ⊠ (hy 1))) ⊞ (nm 4611686018427387904)) refl (h0, (h1, (h2, (h3, (h4, (h5, tt))))))
+    cert (p ∷ q ∷ e ∷ t ∷ w ∷ []) ((((va 3) ⊖ (va 4)) ≼ (ko (pos 256))) ∷ (((va 0) ⊖ (va 2)) ≼ (ko (pos 2))) ∷ ((va 2) ≼ (va 0))
+          ∷ ((ko (pos 0)) ≼ (va 2)) ∷ ((va 2) ≼ (ko (pos 36028797018963968))) ∷ (((ko (pos 0)) ⊖ (ko (pos 2305843009213693952))) ≼ (va 4)) ∷ [])
+        (((va 2) ⊗ (va 3)) ⊖ (ko (pos 18446744073709551616))) ((va 0) ⊗ (va 4))
+        ((((((hy 3) ⊠ (hy 0)) ⊞ ((nm 256) ⊠ (hy 4))) ⊞ ((hy 2) ⊠ (hy 5))) ⊞ ((nm 2305843009213693952) ⊠ (hy 1))) ⊞ (nm 4611686018427387904)) refl
+        (h0, (h1, (h2, (h3, (h4, (h5, tt))))))
 
 pub record IsReached (ml mh el eh m x a b fl fh : ℤ) : Type 0 where
   pub sized : IsSizedProduct el eh a b

@@ -15,18 +15,34 @@ use Rattle.std.proofs.Math.Nat.{pow-suc}
 use Rattle.std.proofs.Common.{add-one}
 
 -- two sines by two angles that differ by at most d
-pub sine_gap : (n m t x y u d : ℤ) → ((t -ℤ (pos 256)) *ℤ m) ≤ℤ (n *ℤ (pos 1152921504606846976)) → (x *ℤ (pos 1152921504606846976)) ≤ℤ ((u +ℤ (pos 256)) *ℤ y) → (((n *ℤ y) -ℤ (x *ℤ m)) *ℤ (pos 72057594037927936)) ≤ℤ (((pos 2) *ℤ d) *ℤ (m *ℤ y)) → (pos 0) <ℤ m → (pos 0) <ℤ y → (t -ℤ u) ≤ℤ ((pos 512) +ℤ ((pos 32) *ℤ d))
+pub sine_gap : (n m t x y u d : ℤ) → ((t -ℤ (pos 256)) *ℤ m) ≤ℤ (n *ℤ (pos 1152921504606846976)) → (x *ℤ (pos 1152921504606846976)) ≤ℤ ((u +ℤ (pos 256)) *ℤ y)
+    → (((n *ℤ y) -ℤ (x *ℤ m)) *ℤ (pos 72057594037927936)) ≤ℤ (((pos 2) *ℤ d) *ℤ (m *ℤ y)) → (pos 0) <ℤ m → (pos 0) <ℤ y
+    → (t -ℤ u) ≤ℤ ((pos 512) +ℤ ((pos 32) *ℤ d))
 sine_gap n m t x y u d h0 h1 h2 h3 h4 =
-    cancel (m *ℤ y) (t -ℤ u) ((pos 512) +ℤ ((pos 32) *ℤ d)) (mul_positive m y h3 h4) (cert (n ∷ m ∷ t ∷ x ∷ y ∷ u ∷ d ∷ []) (((((va 2) ⊖ (ko (pos 256))) ⊗ (va 1)) ≼ ((va 0) ⊗ (ko (pos 1152921504606846976)))) ∷ (((va 3) ⊗ (ko (pos 1152921504606846976))) ≼ (((va 5) ⊕ (ko (pos 256))) ⊗ (va 4))) ∷ (((((va 0) ⊗ (va 4)) ⊖ ((va 3) ⊗ (va 1))) ⊗ (ko (pos 72057594037927936))) ≼ (((ko (pos 2)) ⊗ (va 6)) ⊗ ((va 1) ⊗ (va 4)))) ∷ ((ko (pos 0)) ≼ (va 1)) ∷ ((ko (pos 0)) ≼ (va 4)) ∷ []) (((va 1) ⊗ (va 4)) ⊗ ((va 2) ⊖ (va 5))) (((va 1) ⊗ (va 4)) ⊗ ((ko (pos 512)) ⊕ ((ko (pos 32)) ⊗ (va 6)))) ((((hy 4) ⊠ (hy 0)) ⊞ ((hy 3) ⊠ (hy 1))) ⊞ ((nm 16) ⊠ (hy 2))) refl (h0, (h1, (h2, (weak (pos 0) m h3, (weak (pos 0) y h4, tt))))))
+    cancel (m *ℤ y) (t -ℤ u) ((pos 512) +ℤ ((pos 32) *ℤ d)) (mul_positive m y h3 h4)
+        (cert (n ∷ m ∷ t ∷ x ∷ y ∷ u ∷ d ∷ []) (((((va 2) ⊖ (ko (pos 256))) ⊗ (va 1)) ≼ ((va 0) ⊗ (ko (pos 1152921504606846976))))
+            ∷ (((va 3) ⊗ (ko (pos 1152921504606846976))) ≼ (((va 5) ⊕ (ko (pos 256))) ⊗ (va 4))) ∷
+            (((((va 0) ⊗ (va 4)) ⊖ ((va 3) ⊗ (va 1))) ⊗ (ko (pos 72057594037927936))) ≼ (((ko (pos 2)) ⊗ (va 6)) ⊗ ((va 1) ⊗ (va 4)))) ∷ ((ko (pos 0)) ≼ (va 1))
+            ∷ ((ko (pos 0)) ≼ (va 4)) ∷ []) (((va 1) ⊗ (va 4)) ⊗ ((va 2) ⊖ (va 5))) (((va 1) ⊗ (va 4)) ⊗ ((ko (pos 512)) ⊕ ((ko (pos 32)) ⊗ (va 6))))
+          ((((hy 4) ⊠ (hy 0)) ⊞ ((hy 3) ⊠ (hy 1))) ⊞ ((nm 16) ⊠ (hy 2))) refl (h0, (h1, (h2, (weak (pos 0) m h3, (weak (pos 0) y h4, tt))))))
 
 -- and the steps to which they lead
-pub step_gap : (e t u a b d : ℤ) → (a *ℤ (pos 18446744073709551616)) ≤ℤ (e *ℤ t) → (e *ℤ u) ≤ℤ ((b *ℤ (pos 18446744073709551616)) +ℤ (pos 18446744073709551616)) → (t -ℤ u) ≤ℤ ((pos 512) +ℤ ((pos 32) *ℤ d)) → (pos 0) ≤ℤ e → e ≤ℤ (pos 36028797018963968) → (pos 0) ≤ℤ d → ((pos 16) *ℤ (a -ℤ b)) ≤ℤ (d +ℤ (pos 32))
+pub step_gap : (e t u a b d : ℤ) → (a *ℤ (pos 18446744073709551616)) ≤ℤ (e *ℤ t) → (e *ℤ u) ≤ℤ ((b *ℤ (pos 18446744073709551616)) +ℤ (pos 18446744073709551616))
+    → (t -ℤ u) ≤ℤ ((pos 512) +ℤ ((pos 32) *ℤ d)) → (pos 0) ≤ℤ e → e ≤ℤ (pos 36028797018963968) → (pos 0) ≤ℤ d → ((pos 16) *ℤ (a -ℤ b)) ≤ℤ (d +ℤ (pos 32))
 step_gap e t u a b d h0 h1 h2 h3 h4 h5 =
-    cancel (pos 1152921504606846976) ((pos 16) *ℤ (a -ℤ b)) (d +ℤ (pos 32)) (omega (arith, ints)) (cert (e ∷ t ∷ u ∷ a ∷ b ∷ d ∷ []) ((((va 3) ⊗ (ko (pos 18446744073709551616))) ≼ ((va 0) ⊗ (va 1))) ∷ (((va 0) ⊗ (va 2)) ≼ (((va 4) ⊗ (ko (pos 18446744073709551616))) ⊕ (ko (pos 18446744073709551616)))) ∷ (((va 1) ⊖ (va 2)) ≼ ((ko (pos 512)) ⊕ ((ko (pos 32)) ⊗ (va 5)))) ∷ ((ko (pos 0)) ≼ (va 0)) ∷ ((va 0) ≼ (ko (pos 36028797018963968))) ∷ ((ko (pos 0)) ≼ (va 5)) ∷ []) ((ko (pos 1152921504606846976)) ⊗ ((ko (pos 16)) ⊗ ((va 3) ⊖ (va 4)))) ((ko (pos 1152921504606846976)) ⊗ ((va 5) ⊕ (ko (pos 32)))) ((((hy 0) ⊞ (hy 1)) ⊞ ((hy 3) ⊠ (hy 2))) ⊞ ((hy 4) ⊠ ((nm 512) ⊞ ((nm 32) ⊠ (hy 5))))) refl (h0, (h1, (h2, (h3, (h4, (h5, tt)))))))
+    cancel (pos 1152921504606846976) ((pos 16) *ℤ (a -ℤ b)) (d +ℤ (pos 32)) (omega (arith, ints))
+        (cert (e ∷ t ∷ u ∷ a ∷ b ∷ d ∷ []) ((((va 3) ⊗ (ko (pos 18446744073709551616))) ≼ ((va 0) ⊗ (va 1)))
+            ∷ (((va 0) ⊗ (va 2)) ≼ (((va 4) ⊗ (ko (pos 18446744073709551616))) ⊕ (ko (pos 18446744073709551616)))) ∷ (((va 1) ⊖ (va 2))
+              ≼ ((ko (pos 512)) ⊕ ((ko (pos 32)) ⊗ (va 5)))) ∷ ((ko (pos 0)) ≼ (va 0)) ∷ ((va 0) ≼ (ko (pos 36028797018963968))) ∷ ((ko (pos 0)) ≼ (va 5)) ∷ [])
+          ((ko (pos 1152921504606846976)) ⊗ ((ko (pos 16)) ⊗ ((va 3) ⊖ (va 4)))) ((ko (pos 1152921504606846976)) ⊗ ((va 5) ⊕ (ko (pos 32))))
+          ((((hy 0) ⊞ (hy 1)) ⊞ ((hy 3) ⊠ (hy 2))) ⊞ ((hy 4) ⊠ ((nm 512) ⊞ ((nm 32) ⊠ (hy 5))))) refl (h0, (h1, (h2, (h3, (h4, (h5, tt)))))))
 
-pub angles_near : (x y d : ℤ) → (x -ℤ y) ≤ℤ d → (((x *ℤ (pos 72057594037927936)) -ℤ (y *ℤ (pos 72057594037927936))) *ℤ (pos 72057594037927936)) ≤ℤ (d *ℤ ((pos 72057594037927936) *ℤ (pos 72057594037927936)))
+pub angles_near : (x y d : ℤ) → (x -ℤ y) ≤ℤ d → (((x *ℤ (pos 72057594037927936)) -ℤ (y *ℤ (pos 72057594037927936))) *ℤ (pos 72057594037927936))
+      ≤ℤ (d *ℤ ((pos 72057594037927936) *ℤ (pos 72057594037927936)))
 angles_near x y d h0 =
-    cert (x ∷ y ∷ d ∷ []) ((((va 0) ⊖ (va 1)) ≼ (va 2)) ∷ []) ((((va 0) ⊗ (ko (pos 72057594037927936))) ⊖ ((va 1) ⊗ (ko (pos 72057594037927936)))) ⊗ (ko (pos 72057594037927936))) ((va 2) ⊗ ((ko (pos 72057594037927936)) ⊗ (ko (pos 72057594037927936)))) ((nm 5192296858534827628530496329220096) ⊠ (hy 0)) refl (h0, tt)
+    cert (x ∷ y ∷ d ∷ []) ((((va 0) ⊖ (va 1)) ≼ (va 2)) ∷ [])
+        ((((va 0) ⊗ (ko (pos 72057594037927936))) ⊖ ((va 1) ⊗ (ko (pos 72057594037927936)))) ⊗ (ko (pos 72057594037927936)))
+        ((va 2) ⊗ ((ko (pos 72057594037927936)) ⊗ (ko (pos 72057594037927936)))) ((nm 5192296858534827628530496329220096) ⊠ (hy 0)) refl (h0, tt)
 
 -- the range of the code's angles
 pub in_range : (x : ℤ) → neg_ℤ (pos (2 ^ 60)) ≤ℤ x → x ≤ℤ pos (2 ^ 60) → InRange 5 (of_scale 56 x)
@@ -50,7 +66,8 @@ one_side m e x y a b d rx ry e0 e1 d0 w p q =
     let gap = sine_gap s.num (pos s.den) p.sine t.num (pos t.den) q.sine d (p.near star.0 s star.2).0 (q.near moon.0 t moon.2).1 law.1.0 (lt_pos 0 s.den s.positive) (lt_pos 0 t.den t.positive) in
     let i : ℤ = floor_div (e *ℤ p.sine) (2 ^ 64) in
     let j : ℤ = floor_div (e *ℤ q.sine) (2 ^ 64) in
-    let r = step_gap e p.sine q.sine i j d (floor_le (e *ℤ p.sine) (2 ^ 64) (lit< tt)) (weak (e *ℤ q.sine) ((j *ℤ pos (2 ^ 64)) +ℤ pos (2 ^ 64)) (lt_floor (e *ℤ q.sine) (2 ^ 64) (lit< tt))) gap e0 e1 d0 in
+    let r = step_gap e p.sine q.sine i j d (floor_le (e *ℤ p.sine) (2 ^ 64) (lit< tt))
+        (weak (e *ℤ q.sine) ((j *ℤ pos (2 ^ 64)) +ℤ pos (2 ^ 64)) (lt_floor (e *ℤ q.sine) (2 ^ 64) (lit< tt))) gap e0 e1 d0 in
     subst (λ (z : ℤ). (pos 16 *ℤ z) ≤ℤ (d +ℤ pos 32)) (sym (move m i j a b p.next_is q.next_is)) r
 
 -- 16 |next(x) - next(y)| ≤ |x - y| + 32
@@ -59,14 +76,16 @@ pub steps_shrink : (m e x y a b d : ℤ) → InRange 5 (of_scale 56 x) → InRan
 steps_shrink m e x y a b d rx ry e0 e1 d0 w p q = (one_side m e x y a b d rx ry e0 e1 d0 w p q, one_side m e y x b a d ry rx e0 e1 d0 (w.1, w.0) q p)
 
 -- ---- a step lies near m
-pull_within : (z f : ℤ) → (f *ℤ pos 18446744073709551616) ≤ℤ z → z <ℤ ((f *ℤ pos 18446744073709551616) +ℤ pos 18446744073709551616) → unsigned_abs z ≤ 2 ^ 55 * 2 ^ 61 → (neg_ℤ (pos (2 ^ 52)) ≤ℤ f) × (f ≤ℤ pos (2 ^ 52))
+pull_within : (z f : ℤ) → (f *ℤ pos 18446744073709551616) ≤ℤ z → z <ℤ ((f *ℤ pos 18446744073709551616) +ℤ pos 18446744073709551616)
+    → unsigned_abs z ≤ 2 ^ 55 * 2 ^ 61 → (neg_ℤ (pos (2 ^ 52)) ≤ℤ f) × (f ≤ℤ pos (2 ^ 52))
 pull_within z f h k l = (omega (arith, ints), omega (arith, ints))
 
 size_of : (e : ℤ) → pos 0 ≤ℤ e → e ≤ℤ pos (2 ^ 55) → unsigned_abs e ≤ 2 ^ 55
 size_of e h k = omega (arith, ints)
 
 pub pull_size : (e s : ℤ) → pos 0 ≤ℤ e → e ≤ℤ pos (2 ^ 55) → unsigned_abs s ≤ 2 ^ 61 → (neg_ℤ (pos (2 ^ 52)) ≤ℤ floor_div (e *ℤ s) (2 ^ 64)) × (floor_div (e *ℤ s) (2 ^ 64) ≤ℤ pos (2 ^ 52))
-pull_size e s e0 e1 h = pull_within (e *ℤ s) (floor_div (e *ℤ s) (2 ^ 64)) (floor_le (e *ℤ s) (2 ^ 64) (lit< tt)) (lt_floor (e *ℤ s) (2 ^ 64) (lit< tt)) (abs_mul_le e s (2 ^ 55) (2 ^ 61) (size_of e e0 e1) h)
+pull_size e s e0 e1 h = pull_within (e *ℤ s) (floor_div (e *ℤ s) (2 ^ 64)) (floor_le (e *ℤ s) (2 ^ 64) (lit< tt))
+    (lt_floor (e *ℤ s) (2 ^ 64) (lit< tt)) (abs_mul_le e s (2 ^ 55) (2 ^ 61) (size_of e e0 e1) h)
 
 pub step_near : (m e x a : ℤ) → pos 0 ≤ℤ e → e ≤ℤ pos (2 ^ 55) → IsStep m e x a → AreNear (pos (2 ^ 52)) a m
 step_near m e x a e0 e1 p = let q = pull_size e p.sine e0 e1 p.size in go m a (floor_div (e *ℤ p.sine) (2 ^ 64)) p.next_is q.0 q.1
@@ -84,9 +103,12 @@ settled_start m e x e0 e1 n a p = let q = step_near m e x a e0 e1 p in (go a x m
     back : (a x m : ℤ) → (m -ℤ a) ≤ℤ pos (2 ^ 52) → (x -ℤ m) ≤ℤ pos (2 ^ 52) → ((x -ℤ a) *ℤ pos 1) ≤ℤ (pos (2 ^ 53) +ℤ (pos 3 *ℤ pos 1))
     back a x m h k = omega (arith, ints)
 
-pub round : (z d w : ℤ) → ((pos 16) *ℤ z) ≤ℤ (d +ℤ (pos 32)) → (d *ℤ w) ≤ℤ ((pos 9007199254740992) +ℤ ((pos 3) *ℤ w)) → (pos 0) ≤ℤ w → (z *ℤ (w *ℤ (pos 16))) ≤ℤ ((pos 9007199254740992) +ℤ ((pos 3) *ℤ (w *ℤ (pos 16))))
+pub round : (z d w : ℤ) → ((pos 16) *ℤ z) ≤ℤ (d +ℤ (pos 32)) → (d *ℤ w) ≤ℤ ((pos 9007199254740992) +ℤ ((pos 3) *ℤ w)) → (pos 0) ≤ℤ w
+    → (z *ℤ (w *ℤ (pos 16))) ≤ℤ ((pos 9007199254740992) +ℤ ((pos 3) *ℤ (w *ℤ (pos 16))))
 round z d w h0 h1 h2 =
-    cert (z ∷ d ∷ w ∷ []) ((((ko (pos 16)) ⊗ (va 0)) ≼ ((va 1) ⊕ (ko (pos 32)))) ∷ (((va 1) ⊗ (va 2)) ≼ ((ko (pos 9007199254740992)) ⊕ ((ko (pos 3)) ⊗ (va 2)))) ∷ ((ko (pos 0)) ≼ (va 2)) ∷ []) ((va 0) ⊗ ((va 2) ⊗ (ko (pos 16)))) ((ko (pos 9007199254740992)) ⊕ ((ko (pos 3)) ⊗ ((va 2) ⊗ (ko (pos 16))))) ((((hy 2) ⊠ (hy 0)) ⊞ (hy 1)) ⊞ ((nm 13) ⊠ (hy 2))) refl (h0, (h1, (h2, tt)))
+    cert (z ∷ d ∷ w ∷ []) ((((ko (pos 16)) ⊗ (va 0)) ≼ ((va 1) ⊕ (ko (pos 32)))) ∷ (((va 1) ⊗ (va 2)) ≼ ((ko (pos 9007199254740992)) ⊕ ((ko (pos 3)) ⊗ (va 2))))
+          ∷ ((ko (pos 0)) ≼ (va 2)) ∷ []) ((va 0) ⊗ ((va 2) ⊗ (ko (pos 16)))) ((ko (pos 9007199254740992)) ⊕ ((ko (pos 3)) ⊗ ((va 2) ⊗ (ko (pos 16)))))
+        ((((hy 2) ⊠ (hy 0)) ⊞ (hy 1)) ⊞ ((nm 13) ⊠ (hy 2))) refl (h0, (h1, (h2, tt)))
 
 record IsMagnitude (x y d : ℤ) : Type 0 where
   pub nn : pos 0 ≤ℤ d
@@ -122,7 +144,8 @@ settled_step j i m e x y ij e0 e1 rx ry h p z q =
     let d = magnitude y x in
     let s = steps_shrink m e y x z y d.0 ry rx e0 e1 d.1.nn d.1.within q p in
     let old = h y p in
-    let b : (d.0 *ℤ pos (16 ^ j)) ≤ℤ (pos (2 ^ 53) +ℤ (pos 3 *ℤ pos (16 ^ j))) = choose (λ (d : ℤ). (d *ℤ pos (16 ^ j)) ≤ℤ (pos (2 ^ 53) +ℤ (pos 3 *ℤ pos (16 ^ j)))) d.0 (y -ℤ x) (x -ℤ y) old.0 old.1 d.1.either in
+    let b : (d.0 *ℤ pos (16 ^ j)) ≤ℤ (pos (2 ^ 53) +ℤ (pos 3 *ℤ pos (16 ^ j))) =
+        choose (λ (d : ℤ). (d *ℤ pos (16 ^ j)) ≤ℤ (pos (2 ^ 53) +ℤ (pos 3 *ℤ pos (16 ^ j)))) d.0 (y -ℤ x) (x -ℤ y) old.0 old.1 d.1.either in
     let w0 : pos 0 ≤ℤ pos (16 ^ j) = le_pos 0 (16 ^ j) (omega arith) in
     let k : 16 ^ j * 16 ≡ 16 ^ i = sym (ap (λ (n : ℕ). 16 ^ n) (ij ∙ add-one j) ∙ pow-suc 16 j) in (
       subst (λ (n : ℕ). ((z -ℤ y) *ℤ pos n) ≤ℤ (pos (2 ^ 53) +ℤ (pos 3 *ℤ pos n))) k (round (z -ℤ y) d.0 (pos (16 ^ j)) s.0 b w0),

@@ -15,13 +15,15 @@ use Rattle.obs_fields.specs.Layouts.{first_name_of, name_step_of, names_in_line_
 use Rattle.obs_fields.specs.Types.{is_listed, is_kept_name, names_from, kept_type_in, kept_at, kept_from, listed_of}
 
 -- a name that is listed already
-pub names_again : (layout : Layout) (line : List ℕ) (first n : ℕ) (names : List (List ℕ)) → 0 < n → is_listed names (name_in layout line first) ≡ true → names_from layout line first n names ≡ flawed first Types
+pub names_again : (layout : Layout) (line : List ℕ) (first n : ℕ) (names : List (List ℕ)) → 0 < n → is_listed names (name_in layout line first) ≡ true
+    → names_from layout line first n names ≡ flawed first Types
 unfolding names_from
 names_again layout line first zero names some is = absurd (omega arith)
 names_again layout line first (suc n) names some is = rw is refl
 
 -- a name that isn't
-pub names_more : (layout : Layout) (line : List ℕ) (first n : ℕ) (names : List (List ℕ)) → 0 < n → is_listed names (name_in layout line first) ≡ false → names_from layout line first n names ≡ names_from layout line (first + name_step_of layout) (n - 1) (names ++ name_in layout line first ∷ [])
+pub names_more : (layout : Layout) (line : List ℕ) (first n : ℕ) (names : List (List ℕ)) → 0 < n → is_listed names (name_in layout line first) ≡ false
+    → names_from layout line first n names ≡ names_from layout line (first + name_step_of layout) (n - 1) (names ++ name_in layout line first ∷ [])
 unfolding names_from
 names_more layout line first zero names some is = absurd (omega arith)
 names_more layout line first (suc n) names some is =
@@ -52,7 +54,8 @@ names_in_line-high Rinex2 = omega arith
 names_in_line-high Rinex3 = omega arith
 
 -- the kept types from a number on
-pub kept_more : (system : System) (names : List (List ℕ)) (k n : ℕ) (d : List ℕ) → n < length names → kept_from system k (drop n names) ≡ kept_at k (kept_type_in system (get_or names n d)) ++ kept_from system (k + 1) (drop (n + 1) names)
+pub kept_more : (system : System) (names : List (List ℕ)) (k n : ℕ) (d : List ℕ) → n < length names
+    → kept_from system k (drop n names) ≡ kept_at k (kept_type_in system (get_or names n d)) ++ kept_from system (k + 1) (drop (n + 1) names)
 unfolding kept_from
 kept_more system names k n d less = rw (drop_more names n d) refl
 
@@ -67,7 +70,8 @@ kept_done system (name ∷ names) k zero none = absurd (omega arith)
 kept_done system (name ∷ names) k (suc n) none = kept_done system names k n (omega arith)
 
 -- what is listed, kind by kind
-pub listed_is : (system : System) (names : List (List ℕ)) (listed : List Bool) → length listed ≡ slot_count → ((i : ℕ) → i < slot_count → get_or listed i false ≡ is_kept_name system names (get_or kept_types i C1C)) → listed ≡ listed_of system names
+pub listed_is : (system : System) (names : List (List ℕ)) (listed : List Bool) → length listed ≡ slot_count
+    → ((i : ℕ) → i < slot_count → get_or listed i false ≡ is_kept_name system names (get_or kept_types i C1C)) → listed ≡ listed_of system names
 unfolding listed_of
 listed_is system names listed same each =
     let f : ObsType → Bool = λ kind. is_kept_name system names kind in

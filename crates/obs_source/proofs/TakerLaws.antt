@@ -44,7 +44,8 @@ exact_answers system text (Err (Refused at)) exact = record {
 exact_answers system text (Err NoMemory) exact = record { ok = tt; only = tt; refused = tt; first = tt; exact = tt }
 
 -- of a reader that reads the text as all are read
-pub reader_answers : (reads : List (List ℕ) → Result ObsFile At) (text : List ℕ) (result : Result ObsFile TextFault) → IsReadBy reads text → Gives (reads (lines_of text)) (λ (file : ObsFile). file) result → IsAnswer Gps text result
+pub reader_answers : (reads : List (List ℕ) → Result ObsFile At) (text : List ℕ) (result : Result ObsFile TextFault) → IsReadBy reads text
+    → Gives (reads (lines_of text)) (λ (file : ObsFile). file) result → IsAnswer Gps text result
 reader_answers reads text result so exact =
     let whole : any_of Gps (lines_of text) ≡ reads (lines_of text) = subst (λ (t : List ℕ). any_of Gps (lines_of t) ≡ reads (lines_of t)) (append-nil text) (so []) in
     exact_answers Gps text result (gives_same _ _ (λ (file : ObsFile). file) result whole exact)
@@ -62,7 +63,8 @@ goes_none line none = subst GoesOn (sym none) (λ begun more. ap (λ (l : List �
 
 pub goes_both : (line piece : List ℕ) → GoesOn line → GoesOn piece → GoesOn (line ++ piece)
 goes_both line piece first second begun more =
-    ap (λ (l : List ℕ). lines_from l begun) (append_assoc line piece more) ∙ first begun (piece ++ more) ∙ second (begun ++ line) more ∙ ap (λ (l : List ℕ). lines_from more l) (append_assoc begun line piece)
+    ap (λ (l : List ℕ). lines_from l begun) (append_assoc line piece more) ∙ first begun (piece ++ more) ∙ second (begun ++ line) more
+    ∙ ap (λ (l : List ℕ). lines_from more l) (append_assoc begun line piece)
 
 -- what follows a line that goes on
 after_line : (line piece more : List ℕ) → GoesOn line → lines_of ((line ++ piece) ++ more) ≡ lines_from (piece ++ more) line
@@ -117,7 +119,8 @@ alone_lines line goes = ap lines_of (sym (append-nil line)) ∙ goes [] []
 pub alone_is : (line : List ℕ) (t : Bool) → GoesOn line → begins_2 line ≡ t → is_two (lines_of line) ≡ t
 alone_is line t goes is = ap is_two (alone_lines line goes) ∙ alone line ∙ is
 
-pub alone_2 : (line : List ℕ) (result : Result ObsFile TextFault) → GoesOn line → begins_2 line ≡ true → Gives (Obs2Rules.obs2_of (lines_of line)) (λ (file : ObsFile). file) result → IsAnswer Gps line result
+pub alone_2 : (line : List ℕ) (result : Result ObsFile TextFault) → GoesOn line → begins_2 line ≡ true
+    → Gives (Obs2Rules.obs2_of (lines_of line)) (λ (file : ObsFile). file) result → IsAnswer Gps line result
 alone_2 line result goes is exact =
     let test : is_two (lines_of line) ≡ true = alone_is line true goes is in
     let whole : any_of Gps (lines_of line) ≡ Obs2Rules.obs2_of (lines_of line) = rw test refl in

@@ -138,7 +138,10 @@ fresh_at ss k z are inside =
   where
     apart : (j : ℕ) (d : SatObs) → j < k → nat_eq (get_or ss k z).number (get_or (take k ss) j d).number ≡ false
     apart j d short =
-        rw get_or-take (elim (eqb_tells (get_or ss k z).number (get_or ss j d).number) [ inl p ↦ absurd (are.once j k d short inside (sym p.1 ∙ ap (λ (t : SatObs). t.number) (get_or_default ss k z d inside))) | inr p ↦ p.0 ])
+        rw get_or-take (elim (eqb_tells (get_or ss k z).number (get_or ss j d).number) [
+          inl p ↦ absurd (are.once j k d short inside (sym p.1 ∙ ap (λ (t : SatObs). t.number) (get_or_default ss k z d inside)))
+          | inr p ↦ p.0
+        ])
 
 -- the number of a satellite in its place
 pub number_in : (ss : List SatObs) (k : ℕ) (z : SatObs) → k < length ss → slice_index (numbers_of ss) k ≡ (get_or ss k z).number
@@ -257,7 +260,8 @@ one_more es e ss k z n order counts order₂ counts₂ are inside number is orde
     counted : (m : ℕ) → m ≤ 36 → get_or (set counts n (get_or counts n 0 + 1)) m 0 ≡ epochs_with m behind
     counted m few =
         elim (eqb_tells n m) [
-          | inl p ↦ get_or-set_at counts n m (get_or counts n 0 + 1) 0 (sym p.1) (omega (arith, is.as_many, small)) ∙ ap (λ x. x + 1) (is.counts_are n small) ∙ one ∙ ap (λ (x : ℕ). epochs_with x behind) p.1
+          | inl p ↦ get_or-set_at counts n m (get_or counts n 0 + 1) 0 (sym p.1) (omega (arith, is.as_many, small))
+              ∙ ap (λ x. x + 1) (is.counts_are n small) ∙ one ∙ ap (λ (x : ℕ). epochs_with x behind) p.1
           | inr p ↦ get_or-set_other counts n m (get_or counts n 0 + 1) 0 (λ e₂. true≢false (sym (eq-eqb n m (sym e₂)) ∙ p.0)) ∙ is.counts_are m few ∙ same m p.0
         ]
 

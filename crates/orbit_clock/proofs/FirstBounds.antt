@@ -44,7 +44,8 @@ size_of_angle x h = (up x.num x.den h, down x.num x.den h)
     down n d h = omega (arith, ints)
 
 -- a near-root of μ is at least 19964900
-low_root : (r mu : ℤ) (d : ℕ) → pos 0 ≤ℤ r → pos 398600441800000 ≤ℤ mu → (pos (unsigned_abs (((r *ℤ r) *ℤ pos 1) -ℤ (mu *ℤ pos (d * d)))) *ℤ pos (2 ^ 60)) ≤ℤ (mu *ℤ pos (d * d)) → (pos 19964900 *ℤ pos d) ≤ℤ r
+low_root : (r mu : ℤ) (d : ℕ) → pos 0 ≤ℤ r → pos 398600441800000 ≤ℤ mu
+    → (pos (unsigned_abs (((r *ℤ r) *ℤ pos 1) -ℤ (mu *ℤ pos (d * d)))) *ℤ pos (2 ^ 60)) ≤ℤ (mu *ℤ pos (d * d)) → (pos 19964900 *ℤ pos d) ≤ℤ r
 low_root r mu d r0 m h = square_root (pos 19964900 *ℤ pos d) r r0 (squares (r *ℤ r) mu (pos d) (below (r *ℤ r) (mu *ℤ pos (d * d)) h) m)
   where
     below : (s n : ℤ) → (pos (unsigned_abs ((s *ℤ pos 1) -ℤ n)) *ℤ pos (2 ^ 60)) ≤ℤ n → ((n -ℤ s) *ℤ pos (2 ^ 60)) ≤ℤ n
@@ -53,13 +54,16 @@ low_root r mu d r0 m h = square_root (pos 19964900 *ℤ pos d) r r0 (squares (r 
     squares : (s m d : ℤ) → ((m *ℤ (d *ℤ d) -ℤ s) *ℤ pos (2 ^ 60)) ≤ℤ (m *ℤ (d *ℤ d)) → pos 398600441800000 ≤ℤ m → ((pos 19964900 *ℤ d) *ℤ (pos 19964900 *ℤ d)) ≤ℤ s
     squares s m d h k = cancel (pos (2 ^ 60)) ((pos 19964900 *ℤ d) *ℤ (pos 19964900 *ℤ d)) s (omega (arith, ints))
         (cert (s ∷ m ∷ d ∷ []) (((va 1 ⊗ (va 2 ⊗ va 2) ⊖ va 0) ⊗ ko (pos (2 ^ 60)) ≼ va 1 ⊗ (va 2 ⊗ va 2)) ∷ (ko (pos 398600441800000) ≼ va 1) ∷ (ko (pos 0) ≼ va 2 ⊗ va 2) ∷ [])
-        (ko (pos (2 ^ 60)) ⊗ ((ko (pos 19964900) ⊗ va 2) ⊗ (ko (pos 19964900) ⊗ va 2))) (ko (pos (2 ^ 60)) ⊗ va 0) (hy 0 ⊞ nm 1152921504606846975 ⊠ hy 1 ⊠ hy 2 ⊞ nm 3700635916271612754653240000 ⊠ hy 2) refl (h, (k, (square_nn d, tt))))
+        (ko (pos (2 ^ 60)) ⊗ ((ko (pos 19964900) ⊗ va 2) ⊗ (ko (pos 19964900) ⊗ va 2))) (ko (pos (2 ^ 60)) ⊗ va 0)
+        (hy 0 ⊞ nm 1152921504606846975 ⊠ hy 1 ⊠ hy 2 ⊞ nm 3700635916271612754653240000 ⊠ hy 2) refl (h, (k, (square_nn d, tt))))
 
 -- ---- n ≥ 9.23 · 10^-5
 parted : (a b : ℕ) (h : 0 < b) (q : Rational) → of_whole (pos a) ≤ʳ mul_r (of_whole (pos b)) q → record { num = pos a; den = b; positive = h } ≤ʳ q
-parted a b h q l = le_trans_ℤ (le_eq (same_by (pos a ∷ pos q.den ∷ []) (λ a d. (a ⊗ d, a ⊗ (nat 1 ⊗ d))) refl)) (le_trans_ℤ l (le_eq (same_by (pos b ∷ q.num ∷ []) (λ b n. (b ⊗ n ⊗ nat 1, n ⊗ b)) refl)))
+parted a b h q l = le_trans_ℤ (le_eq (same_by (pos a ∷ pos q.den ∷ []) (λ a d. (a ⊗ d, a ⊗ (nat 1 ⊗ d))) refl))
+    (le_trans_ℤ l (le_eq (same_by (pos b ∷ q.num ∷ []) (λ b n. (b ⊗ n ⊗ nat 1, n ⊗ b)) refl)))
 
-computed_least : (n0 axis a r : Rational) → mul_r n0 (mul_r axis a) ≈ r → axis ≈ mul_r a a → of_whole (pos 19964900) ≤ʳ r → of_whole (pos 4500) ≤ʳ a → a ≤ʳ of_whole (pos 6000) → of_whole (pos 924) ≤ʳ mul_r (of_whole (pos 10000000)) n0
+computed_least : (n0 axis a r : Rational) → mul_r n0 (mul_r axis a) ≈ r → axis ≈ mul_r a a → of_whole (pos 19964900) ≤ʳ r → of_whole (pos 4500) ≤ʳ a
+    → a ≤ʳ of_whole (pos 6000) → of_whole (pos 924) ≤ʳ mul_r (of_whole (pos 10000000)) n0
 computed_least n0 axis a r e f h l m =
     cancel_r (mul_r (mul_r a a) a) (of_whole (pos 924)) (mul_r (of_whole (pos 10000000)) n0) (cubed a.num (positive l))
     (order_r (n0 ∷ axis ∷ a ∷ r ∷ []) ((ko (pos 19964900) ≼ va 3) ∷ (va 2 ≼ ko (pos 6000)) ∷ (ko (pos 4500) ≼ va 2) ∷ [])
@@ -81,10 +85,12 @@ motion_least n n0 dn e h s = parted 923 (10 ^ 7) (lit< tt) n
 
 -- ---- the polynomial
 abbrev pub clock_limit : Rational → Rational
-clock_limit b = add_r (add_r (add_r (decimal (pos 1) 2) (mul_r (decimal (pos 1) 7) b)) (mul_r (decimal (pos 1) 12) (mul_r b b))) (mul_r (mul_r (mul_r (decimal (pos 4442807633) 19) (decimal (pos 3125) 5)) (of_whole (pos 6000))) (add_r (of_whole (pos 1)) (two_to_minus 16)))
+clock_limit b = add_r (add_r (add_r (decimal (pos 1) 2) (mul_r (decimal (pos 1) 7) b)) (mul_r (decimal (pos 1) 12) (mul_r b b)))
+    (mul_r (mul_r (mul_r (decimal (pos 4442807633) 19) (decimal (pos 3125) 5)) (of_whole (pos 6000))) (add_r (of_whole (pos 1)) (two_to_minus 16)))
 
 relativity_size : (rel : ℤ) → neg_ℤ (pos 4442807633) ≤ℤ rel → rel ≤ℤ neg_ℤ (pos 4442807309) → IsAtMostInSize (decimal (pos 4442807633) 19) (decimal rel 19)
-relativity_size rel l h = (mul_le_right (pos (10 ^ 19)) rel (pos 4442807633) (pos_nn (10 ^ 19)) (omega (arith, ints, l, h)), mul_le_right (pos (10 ^ 19)) (neg_ℤ rel) (pos 4442807633) (pos_nn (10 ^ 19)) (omega (arith, ints, l, h)))
+relativity_size rel l h = (mul_le_right (pos (10 ^ 19)) rel (pos 4442807633) (pos_nn (10 ^ 19)) (omega (arith, ints, l, h)),
+      mul_le_right (pos (10 ^ 19)) (neg_ℤ rel) (pos 4442807633) (pos_nn (10 ^ 19)) (omega (arith, ints, l, h)))
 
 -- the relativistic term
 pub effect_size : (eph : Eph) (world : World) (x c s : Rational) → IsAnglePair 5 x c s →
@@ -96,13 +102,15 @@ effect_size eph world x c s p =
     let e = size_of_decimal 3125 5 eph.ecc (from_to_within 0 3125 5 eph.ecc eph.ecc_in) in
     let a = size_of_decimal 6000 0 eph.root_a (from_to_within 4500 6000 0 eph.root_a eph.root_a_in) in
     let six : decimal (pos 6000) 0 ≤ʳ of_whole (pos 6000) = omega (arith, ints) in
-    size_mul (mul_r (mul_r (decimal (pos 4442807633) 19) (decimal (pos 3125) 5)) (of_whole (pos 6000))) (add_r (of_whole (pos 1)) (two_to_minus 16)) (mul_r (mul_r (constants_of world).relativity (elements_of eph).ecc) (elements_of eph).root_a) s
+    size_mul (mul_r (mul_r (decimal (pos 4442807633) 19) (decimal (pos 3125) 5)) (of_whole (pos 6000))) (add_r (of_whole (pos 1)) (two_to_minus 16))
+        (mul_r (mul_r (constants_of world).relativity (elements_of eph).ecc) (elements_of eph).root_a) s
     (size_mul (mul_r (decimal (pos 4442807633) 19) (decimal (pos 3125) 5)) (of_whole (pos 6000)) (mul_r (constants_of world).relativity (elements_of eph).ecc) (elements_of eph).root_a
     (size_mul (decimal (pos 4442807633) 19) (decimal (pos 3125) 5) (constants_of world).relativity (elements_of eph).ecc f e)
     (size_looser (decimal (pos 6000) 0) (of_whole (pos 6000)) (elements_of eph).root_a six a))
     (size_law_5 x c s p).1
 
-clock_size : (eph : Eph) (world : World) (sent b : Rational) (q : Quantities) → IsSatelliteSolution (constants_of world) (elements_of eph) sent q → IsAtMostInSize b (sub_r q.t (elements_of eph).toc) → IsAtMostInSize (clock_limit b) q.clock
+clock_size : (eph : Eph) (world : World) (sent b : Rational) (q : Quantities) → IsSatelliteSolution (constants_of world) (elements_of eph) sent q
+    → IsAtMostInSize b (sub_r q.t (elements_of eph).toc) → IsAtMostInSize (clock_limit b) q.clock
 clock_size eph world sent b q s h =
     let d : Elements = elements_of eph in
     let x : Rational = sub_r q.t d.toc in
@@ -113,7 +121,11 @@ clock_size eph world sent b q s h =
     let two = size_add (decimal (pos 1) 2) (mul_r (decimal (pos 1) 7) b) d.af0 (mul_r d.af1 x) bias drift in
     let three = size_add (add_r (decimal (pos 1) 2) (mul_r (decimal (pos 1) 7) b)) (mul_r (decimal (pos 1) 12) (mul_r b b)) (add_r d.af0 (mul_r d.af1 x)) (mul_r d.af2 (mul_r x x)) two aging in
     let value : Rational = add_r (add_r (add_r d.af0 (mul_r d.af1 x)) (mul_r d.af2 (mul_r x x))) (mul_r (mul_r (mul_r (constants_of world).relativity d.ecc) d.root_a) q.eccentric_pair.sin) in
-    let four : IsAtMostInSize (clock_limit b) value = size_add (add_r (add_r (decimal (pos 1) 2) (mul_r (decimal (pos 1) 7) b)) (mul_r (decimal (pos 1) 12) (mul_r b b))) (mul_r (mul_r (mul_r (decimal (pos 4442807633) 19) (decimal (pos 3125) 5)) (of_whole (pos 6000))) (add_r (of_whole (pos 1)) (two_to_minus 16))) (add_r (add_r d.af0 (mul_r d.af1 x)) (mul_r d.af2 (mul_r x x))) (mul_r (mul_r (mul_r (constants_of world).relativity d.ecc) d.root_a) q.eccentric_pair.sin) three effect in
+    let four : IsAtMostInSize (clock_limit b) value =
+        size_add (add_r (add_r (decimal (pos 1) 2) (mul_r (decimal (pos 1) 7) b)) (mul_r (decimal (pos 1) 12) (mul_r b b)))
+            (mul_r (mul_r (mul_r (decimal (pos 4442807633) 19) (decimal (pos 3125) 5)) (of_whole (pos 6000))) (add_r (of_whole (pos 1)) (two_to_minus 16)))
+            (add_r (add_r d.af0 (mul_r d.af1 x)) (mul_r d.af2 (mul_r x x)))
+            (mul_r (mul_r (mul_r (constants_of world).relativity d.ecc) d.root_a) q.eccentric_pair.sin) three effect in
     size_along (clock_limit b) value q.clock (≈_sym q.clock value s.clock_correction) four
 
 -- ---- toe and toc are at most two hours apart
@@ -130,14 +142,19 @@ sent_size tag toe code n l h = let a = apart tag toe n in (high tag toe code a.0
     apart : (a b : ℕ) → abs_diff a b ≤ 72010000000 → (a ≤ b + 72010000000) × (b ≤ a + 72010000000)
     apart a b h = (omega arith, omega arith)
 
-    high : (t e : ℕ) (c : ℤ) → t ≤ e + 72010000000 → pos 0 ≤ℤ c → ((((pos t *ℤ pos 149896229 -ℤ c *ℤ pos 5000) *ℤ pos 10000000) -ℤ (pos e *ℤ pos 1498962290000000)) *ℤ pos 100) ≤ℤ (pos 720134 *ℤ pos (1498962290000000 * 10000000))
+    high : (t e : ℕ) (c : ℤ) → t ≤ e + 72010000000 → pos 0 ≤ℤ c
+        → ((((pos t *ℤ pos 149896229 -ℤ c *ℤ pos 5000) *ℤ pos 10000000) -ℤ (pos e *ℤ pos 1498962290000000)) *ℤ pos 100)
+          ≤ℤ (pos 720134 *ℤ pos (1498962290000000 * 10000000))
     high t e c h l = omega (arith, ints, h, l)
 
-    low : (t e : ℕ) (c : ℤ) → e ≤ t + 72010000000 → c ≤ℤ pos (10 ^ 11) → (neg_ℤ (((pos t *ℤ pos 149896229 -ℤ c *ℤ pos 5000) *ℤ pos 10000000) -ℤ (pos e *ℤ pos 1498962290000000)) *ℤ pos 100) ≤ℤ (pos 720134 *ℤ pos (1498962290000000 * 10000000))
+    low : (t e : ℕ) (c : ℤ) → e ≤ t + 72010000000 → c ≤ℤ pos (10 ^ 11)
+        → (neg_ℤ (((pos t *ℤ pos 149896229 -ℤ c *ℤ pos 5000) *ℤ pos 10000000) -ℤ (pos e *ℤ pos 1498962290000000)) *ℤ pos 100)
+          ≤ℤ (pos 720134 *ℤ pos (1498962290000000 * 10000000))
     low t e c h l = omega (arith, ints, h, l)
 
 -- ---- the bounds
-pub clock_small : (eph : Eph) (world : World) (sent : Rational) (q : Quantities) → IsSatelliteSolution (constants_of world) (elements_of eph) sent q → IsAtMostInSize sent_limit (sub_r sent (elements_of eph).toe) → IsAtMostInSize (of_scale 60 (pos (2 ^ 54))) q.clock
+pub clock_small : (eph : Eph) (world : World) (sent : Rational) (q : Quantities) → IsSatelliteSolution (constants_of world) (elements_of eph) sent q
+    → IsAtMostInSize sent_limit (sub_r sent (elements_of eph).toe) → IsAtMostInSize (of_scale 60 (pos (2 ^ 54))) q.clock
 clock_small eph world sent q s near =
     let d : Elements = elements_of eph in
     let w : AreBounded world.mu world.rel = bounded world.mu world.rel world.known in
@@ -146,7 +163,8 @@ clock_small eph world sent q s near =
     let e = size_of_decimal 3125 5 eph.ecc (from_to_within 0 3125 5 eph.ecc eph.ecc_in) in
     let pull = size_mul (decimal (pos 3125) 5) one_and d.ecc q.eccentric_pair.sin e sine.1 in
     let angle = size_of_angle q.eccentric s.kepler.is_pair.in_range in
-    let mean = size_along (add_r (of_whole (pos 16)) (mul_r (decimal (pos 3125) 5) one_and)) (sub_r q.eccentric (mul_r d.ecc q.eccentric_pair.sin)) q.mean (≈_sym q.mean (sub_r q.eccentric (mul_r d.ecc q.eccentric_pair.sin)) s.kepler.equation)
+    let mean = size_along (add_r (of_whole (pos 16)) (mul_r (decimal (pos 3125) 5) one_and)) (sub_r q.eccentric (mul_r d.ecc q.eccentric_pair.sin))
+        q.mean (≈_sym q.mean (sub_r q.eccentric (mul_r d.ecc q.eccentric_pair.sin)) s.kepler.equation)
     (size_sub (of_whole (pos 16)) (mul_r (decimal (pos 3125) 5) one_and) q.eccentric (mul_r d.ecc q.eccentric_pair.sin) angle pull) in
     let turn_limit : Rational = add_r (add_r (of_whole (pos 16)) (mul_r (decimal (pos 3125) 5) one_and)) (decimal (pos 65) 1) in
     let turn = size_along turn_limit (sub_r q.mean d.m0) (mul_r q.tk q.motion) (turned q.mean d.m0 q.motion q.tk s.mean_anomaly)
@@ -157,11 +175,13 @@ clock_small eph world sent q s near =
     let time = size_over turn_limit (decimal (pos 923) 7) (of_whole (pos 245000)) q.tk q.motion (omega (arith, ints)) (omega (arith, ints)) slow (le_pos _ _ (lit≤ tt)) turn in
     let gap = epochs_size eph.toe.0 eph.toc.0 eph.toc_late_enough eph.toc_early_enough in
     let far = size_along (of_whole (pos 252200)) (add_r q.tk (sub_r d.toe d.toc)) (sub_r q.t d.toc) (since q.t q.tk d.toe d.toc s.time_from_epoch)
-    (size_looser (add_r (of_whole (pos 245000)) (of_whole (pos 7200))) (of_whole (pos 252200)) (add_r q.tk (sub_r d.toe d.toc)) (le_pos _ _ (lit≤ tt)) (size_add (of_whole (pos 245000)) (of_whole (pos 7200)) q.tk (sub_r d.toe d.toc) time gap)) in
+    (size_looser (add_r (of_whole (pos 245000)) (of_whole (pos 7200))) (of_whole (pos 252200)) (add_r q.tk (sub_r d.toe d.toc)) (le_pos _ _ (lit≤ tt))
+      (size_add (of_whole (pos 245000)) (of_whole (pos 7200)) q.tk (sub_r d.toe d.toc) time gap)) in
     let first = size_looser (clock_limit (of_whole (pos 252200))) (of_scale 3 (pos 1)) q.clock (le_pos _ _ (lit≤ tt)) (clock_size eph world sent (of_whole (pos 252200)) q s far) in
     let close_limit : Rational = add_r (add_r sent_limit (of_scale 3 (pos 1))) (of_whole (pos 7200)) in
     let close = size_along close_limit (add_r (sub_r (sub_r sent d.toe) q.clock) (sub_r d.toe d.toc)) (sub_r q.t d.toc) (sent_since sent q.t q.clock d.toe d.toc s.time_of_sending)
-    (size_add (add_r sent_limit (of_scale 3 (pos 1))) (of_whole (pos 7200)) (sub_r (sub_r sent d.toe) q.clock) (sub_r d.toe d.toc) (size_sub sent_limit (of_scale 3 (pos 1)) (sub_r sent d.toe) q.clock near first) gap) in
+    (size_add (add_r sent_limit (of_scale 3 (pos 1))) (of_whole (pos 7200)) (sub_r (sub_r sent d.toe) q.clock) (sub_r d.toe d.toc)
+      (size_sub sent_limit (of_scale 3 (pos 1)) (sub_r sent d.toe) q.clock near first) gap) in
     size_looser (clock_limit close_limit) (of_scale 60 (pos (2 ^ 54))) q.clock (le_pos _ _ (lit≤ tt)) (clock_size eph world sent close_limit q s close)
   where
     turned : (m m0 n t : Rational) → m ≈ add_r m0 (mul_r n t) → sub_r m m0 ≈ mul_r t n

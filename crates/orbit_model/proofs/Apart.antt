@@ -38,7 +38,8 @@ loosely q h = record {
 }
 
 -- the vector from a receiver to a place
-pub vector_square : (place point : Place) → IsBetween 357210000000000 1451610000000000 (square place) → IsReceiverPlace point → IsBetween 141000000000000 2040000000000000 (square (difference place point))
+pub vector_square : (place point : Place) → IsBetween 357210000000000 1451610000000000 (square place) → IsReceiverPlace point
+    → IsBetween 141000000000000 2040000000000000 (square (difference place point))
 vector_square place point h r = record {
   low = vector_far place.x place.y place.z point.x point.y point.z h.low h.high r.1;
   high = vector_near place.x place.y place.z point.x point.y point.z h.low h.high r.1;

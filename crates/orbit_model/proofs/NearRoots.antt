@@ -9,21 +9,37 @@ use Rattle.whole_math.proofs.Certificates.{cert, cancel, weak, ◌≼◌, hy, �
 use Rattle.rational.specs.Rational.{Rational, ◌≤ʳ◌, of_whole, sub_r, mul_r, IsNearRoot}
 use Rattle.orbit_model.specs.SeenPlaces.{over_light_speed_squared, range_of}
 
-pub high : (a d n e : ℤ) → (pos 0) ≤ℤ e → ((((a *ℤ a) *ℤ e) -ℤ (n *ℤ (d *ℤ d))) *ℤ (pos 1152921504606846976)) ≤ℤ (n *ℤ (d *ℤ d)) → (((pos 1152921504606846976) *ℤ (((a *ℤ a) *ℤ e) -ℤ (n *ℤ (d *ℤ d)))) *ℤ e) ≤ℤ (n *ℤ ((pos 1) *ℤ ((d *ℤ d) *ℤ e)))
+pub high : (a d n e : ℤ) → (pos 0) ≤ℤ e → ((((a *ℤ a) *ℤ e) -ℤ (n *ℤ (d *ℤ d))) *ℤ (pos 1152921504606846976)) ≤ℤ (n *ℤ (d *ℤ d))
+    → (((pos 1152921504606846976) *ℤ (((a *ℤ a) *ℤ e) -ℤ (n *ℤ (d *ℤ d)))) *ℤ e) ≤ℤ (n *ℤ ((pos 1) *ℤ ((d *ℤ d) *ℤ e)))
 high a d n e h0 h1 =
-    cert (a ∷ d ∷ n ∷ e ∷ []) (((ko (pos 0)) ≼ (va 3)) ∷ ((((((va 0) ⊗ (va 0)) ⊗ (va 3)) ⊖ ((va 2) ⊗ ((va 1) ⊗ (va 1)))) ⊗ (ko (pos 1152921504606846976))) ≼ ((va 2) ⊗ ((va 1) ⊗ (va 1)))) ∷ []) (((ko (pos 1152921504606846976)) ⊗ ((((va 0) ⊗ (va 0)) ⊗ (va 3)) ⊖ ((va 2) ⊗ ((va 1) ⊗ (va 1))))) ⊗ (va 3)) ((va 2) ⊗ ((ko (pos 1)) ⊗ (((va 1) ⊗ (va 1)) ⊗ (va 3)))) ((hy 0) ⊠ (hy 1)) refl (h0, (h1, tt))
+    cert (a ∷ d ∷ n ∷ e ∷ []) (((ko (pos 0)) ≼ (va 3)) ∷ ((((((va 0) ⊗ (va 0)) ⊗ (va 3)) ⊖ ((va 2) ⊗ ((va 1) ⊗ (va 1)))) ⊗ (ko (pos 1152921504606846976)))
+            ≼ ((va 2) ⊗ ((va 1) ⊗ (va 1)))) ∷ []) (((ko (pos 1152921504606846976)) ⊗ ((((va 0) ⊗ (va 0)) ⊗ (va 3)) ⊖ ((va 2) ⊗ ((va 1) ⊗ (va 1))))) ⊗ (va 3))
+        ((va 2) ⊗ ((ko (pos 1)) ⊗ (((va 1) ⊗ (va 1)) ⊗ (va 3)))) ((hy 0) ⊠ (hy 1)) refl (h0, (h1, tt))
 
-pub low : (a d n e : ℤ) → (pos 0) ≤ℤ e → ((neg_ℤ (((a *ℤ a) *ℤ e) -ℤ (n *ℤ (d *ℤ d)))) *ℤ (pos 1152921504606846976)) ≤ℤ (n *ℤ (d *ℤ d)) → (((pos 1152921504606846976) *ℤ ((n *ℤ (d *ℤ d)) -ℤ ((a *ℤ a) *ℤ e))) *ℤ e) ≤ℤ (n *ℤ ((pos 1) *ℤ (e *ℤ (d *ℤ d))))
+pub low : (a d n e : ℤ) → (pos 0) ≤ℤ e → ((neg_ℤ (((a *ℤ a) *ℤ e) -ℤ (n *ℤ (d *ℤ d)))) *ℤ (pos 1152921504606846976)) ≤ℤ (n *ℤ (d *ℤ d))
+    → (((pos 1152921504606846976) *ℤ ((n *ℤ (d *ℤ d)) -ℤ ((a *ℤ a) *ℤ e))) *ℤ e) ≤ℤ (n *ℤ ((pos 1) *ℤ (e *ℤ (d *ℤ d))))
 low a d n e h0 h1 =
-    cert (a ∷ d ∷ n ∷ e ∷ []) (((ko (pos 0)) ≼ (va 3)) ∷ (((ng ((((va 0) ⊗ (va 0)) ⊗ (va 3)) ⊖ ((va 2) ⊗ ((va 1) ⊗ (va 1))))) ⊗ (ko (pos 1152921504606846976))) ≼ ((va 2) ⊗ ((va 1) ⊗ (va 1)))) ∷ []) (((ko (pos 1152921504606846976)) ⊗ (((va 2) ⊗ ((va 1) ⊗ (va 1))) ⊖ (((va 0) ⊗ (va 0)) ⊗ (va 3)))) ⊗ (va 3)) ((va 2) ⊗ ((ko (pos 1)) ⊗ ((va 3) ⊗ ((va 1) ⊗ (va 1))))) ((hy 0) ⊠ (hy 1)) refl (h0, (h1, tt))
+    cert (a ∷ d ∷ n ∷ e ∷ []) (((ko (pos 0)) ≼ (va 3)) ∷ (((ng ((((va 0) ⊗ (va 0)) ⊗ (va 3)) ⊖ ((va 2) ⊗ ((va 1) ⊗ (va 1))))) ⊗ (ko (pos 1152921504606846976)))
+            ≼ ((va 2) ⊗ ((va 1) ⊗ (va 1)))) ∷ []) (((ko (pos 1152921504606846976)) ⊗ (((va 2) ⊗ ((va 1) ⊗ (va 1))) ⊖ (((va 0) ⊗ (va 0)) ⊗ (va 3)))) ⊗ (va 3))
+        ((va 2) ⊗ ((ko (pos 1)) ⊗ ((va 3) ⊗ ((va 1) ⊗ (va 1))))) ((hy 0) ⊠ (hy 1)) refl (h0, (h1, tt))
 
-pub from_high : (a d n e : ℤ) → (((pos 1152921504606846976) *ℤ (((a *ℤ a) *ℤ e) -ℤ (n *ℤ (d *ℤ d)))) *ℤ e) ≤ℤ (n *ℤ ((pos 1) *ℤ ((d *ℤ d) *ℤ e))) → (pos 0) <ℤ e → ((((a *ℤ a) *ℤ e) -ℤ (n *ℤ (d *ℤ d))) *ℤ (pos 1152921504606846976)) ≤ℤ (n *ℤ (d *ℤ d))
+pub from_high : (a d n e : ℤ) → (((pos 1152921504606846976) *ℤ (((a *ℤ a) *ℤ e) -ℤ (n *ℤ (d *ℤ d)))) *ℤ e) ≤ℤ (n *ℤ ((pos 1) *ℤ ((d *ℤ d) *ℤ e)))
+    → (pos 0) <ℤ e → ((((a *ℤ a) *ℤ e) -ℤ (n *ℤ (d *ℤ d))) *ℤ (pos 1152921504606846976)) ≤ℤ (n *ℤ (d *ℤ d))
 from_high a d n e h0 h1 =
-    cancel e ((((a *ℤ a) *ℤ e) -ℤ (n *ℤ (d *ℤ d))) *ℤ (pos 1152921504606846976)) (n *ℤ (d *ℤ d)) h1 (cert (a ∷ d ∷ n ∷ e ∷ []) (((((ko (pos 1152921504606846976)) ⊗ ((((va 0) ⊗ (va 0)) ⊗ (va 3)) ⊖ ((va 2) ⊗ ((va 1) ⊗ (va 1))))) ⊗ (va 3)) ≼ ((va 2) ⊗ ((ko (pos 1)) ⊗ (((va 1) ⊗ (va 1)) ⊗ (va 3))))) ∷ ((ko (pos 0)) ≼ (va 3)) ∷ []) ((va 3) ⊗ (((((va 0) ⊗ (va 0)) ⊗ (va 3)) ⊖ ((va 2) ⊗ ((va 1) ⊗ (va 1)))) ⊗ (ko (pos 1152921504606846976)))) ((va 3) ⊗ ((va 2) ⊗ ((va 1) ⊗ (va 1)))) (hy 0) refl (h0, (weak (pos 0) e h1, tt)))
+    cancel e ((((a *ℤ a) *ℤ e) -ℤ (n *ℤ (d *ℤ d))) *ℤ (pos 1152921504606846976)) (n *ℤ (d *ℤ d)) h1
+        (cert (a ∷ d ∷ n ∷ e ∷ []) (((((ko (pos 1152921504606846976)) ⊗ ((((va 0) ⊗ (va 0)) ⊗ (va 3)) ⊖ ((va 2) ⊗ ((va 1) ⊗ (va 1))))) ⊗ (va 3))
+            ≼ ((va 2) ⊗ ((ko (pos 1)) ⊗ (((va 1) ⊗ (va 1)) ⊗ (va 3))))) ∷ ((ko (pos 0)) ≼ (va 3)) ∷ [])
+          ((va 3) ⊗ (((((va 0) ⊗ (va 0)) ⊗ (va 3)) ⊖ ((va 2) ⊗ ((va 1) ⊗ (va 1)))) ⊗ (ko (pos 1152921504606846976))))
+          ((va 3) ⊗ ((va 2) ⊗ ((va 1) ⊗ (va 1)))) (hy 0) refl (h0, (weak (pos 0) e h1, tt)))
 
-pub from_low : (a d n e : ℤ) → (((pos 1152921504606846976) *ℤ ((n *ℤ (d *ℤ d)) -ℤ ((a *ℤ a) *ℤ e))) *ℤ e) ≤ℤ (n *ℤ ((pos 1) *ℤ (e *ℤ (d *ℤ d)))) → (pos 0) <ℤ e → ((neg_ℤ (((a *ℤ a) *ℤ e) -ℤ (n *ℤ (d *ℤ d)))) *ℤ (pos 1152921504606846976)) ≤ℤ (n *ℤ (d *ℤ d))
+pub from_low : (a d n e : ℤ) → (((pos 1152921504606846976) *ℤ ((n *ℤ (d *ℤ d)) -ℤ ((a *ℤ a) *ℤ e))) *ℤ e) ≤ℤ (n *ℤ ((pos 1) *ℤ (e *ℤ (d *ℤ d))))
+    → (pos 0) <ℤ e → ((neg_ℤ (((a *ℤ a) *ℤ e) -ℤ (n *ℤ (d *ℤ d)))) *ℤ (pos 1152921504606846976)) ≤ℤ (n *ℤ (d *ℤ d))
 from_low a d n e h0 h1 =
-    cancel e ((neg_ℤ (((a *ℤ a) *ℤ e) -ℤ (n *ℤ (d *ℤ d)))) *ℤ (pos 1152921504606846976)) (n *ℤ (d *ℤ d)) h1 (cert (a ∷ d ∷ n ∷ e ∷ []) (((((ko (pos 1152921504606846976)) ⊗ (((va 2) ⊗ ((va 1) ⊗ (va 1))) ⊖ (((va 0) ⊗ (va 0)) ⊗ (va 3)))) ⊗ (va 3)) ≼ ((va 2) ⊗ ((ko (pos 1)) ⊗ ((va 3) ⊗ ((va 1) ⊗ (va 1)))))) ∷ ((ko (pos 0)) ≼ (va 3)) ∷ []) ((va 3) ⊗ ((ng ((((va 0) ⊗ (va 0)) ⊗ (va 3)) ⊖ ((va 2) ⊗ ((va 1) ⊗ (va 1))))) ⊗ (ko (pos 1152921504606846976)))) ((va 3) ⊗ ((va 2) ⊗ ((va 1) ⊗ (va 1)))) (hy 0) refl (h0, (weak (pos 0) e h1, tt)))
+    cancel e ((neg_ℤ (((a *ℤ a) *ℤ e) -ℤ (n *ℤ (d *ℤ d)))) *ℤ (pos 1152921504606846976)) (n *ℤ (d *ℤ d)) h1
+        (cert (a ∷ d ∷ n ∷ e ∷ []) (((((ko (pos 1152921504606846976)) ⊗ (((va 2) ⊗ ((va 1) ⊗ (va 1))) ⊖ (((va 0) ⊗ (va 0)) ⊗ (va 3)))) ⊗ (va 3))
+            ≼ ((va 2) ⊗ ((ko (pos 1)) ⊗ ((va 3) ⊗ ((va 1) ⊗ (va 1)))))) ∷ ((ko (pos 0)) ≼ (va 3)) ∷ [])
+          ((va 3) ⊗ ((ng ((((va 0) ⊗ (va 0)) ⊗ (va 3)) ⊖ ((va 2) ⊗ ((va 1) ⊗ (va 1))))) ⊗ (ko (pos 1152921504606846976))))
+          ((va 3) ⊗ ((va 2) ⊗ ((va 1) ⊗ (va 1)))) (hy 0) refl (h0, (weak (pos 0) e h1, tt)))
 
 pub root_nn : (r q : Rational) → IsNearRoot r q → of_whole (pos 0) ≤ʳ r
 root_nn r q h = go r.num r.den h.0
@@ -33,7 +49,8 @@ root_nn r q h = go r.num r.den h.0
 
 -- 2^60 (r² - q) ≤ q and 2^60 (q - r²) ≤ q
 pub near_high : (r q : Rational) → IsNearRoot r q → mul_r (of_whole (pos 1152921504606846976)) (sub_r (mul_r r r) q) ≤ʳ q
-near_high r q h = high r.num (pos r.den) q.num (pos q.den) (pos_nn q.den) (abs_times_le (((r.num *ℤ r.num) *ℤ pos q.den) -ℤ (q.num *ℤ pos (r.den * r.den))) (q.num *ℤ pos (r.den * r.den)) (2 ^ 60) h.1).0
+near_high r q h = high r.num (pos r.den) q.num (pos q.den) (pos_nn q.den)
+    (abs_times_le (((r.num *ℤ r.num) *ℤ pos q.den) -ℤ (q.num *ℤ pos (r.den * r.den))) (q.num *ℤ pos (r.den * r.den)) (2 ^ 60) h.1).0
 
 pub near_low : (r q : Rational) → IsNearRoot r q → mul_r (of_whole (pos 1152921504606846976)) (sub_r q (mul_r r r)) ≤ʳ q
 near_low r q h = low r.num (pos r.den) q.num (pos q.den) (pos_nn q.den) (abs_times_le (((r.num *ℤ r.num) *ℤ pos q.den) -ℤ (q.num *ℤ pos (r.den * r.den))) (q.num *ℤ pos (r.den * r.den)) (2 ^ 60) h.1).1
@@ -42,7 +59,8 @@ times_abs : (z m : ℤ) (s : ℕ) → (z *ℤ pos s) ≤ℤ m → (neg_ℤ z *�
 times_abs (pos n) m s h k = h
 times_abs (negsuc n) m s h k = k
 
-pub near_root : (r q : Rational) → of_whole (pos 0) ≤ʳ r → mul_r (of_whole (pos 1152921504606846976)) (sub_r (mul_r r r) q) ≤ʳ q → mul_r (of_whole (pos 1152921504606846976)) (sub_r q (mul_r r r)) ≤ʳ q → IsNearRoot r q
+pub near_root : (r q : Rational) → of_whole (pos 0) ≤ʳ r → mul_r (of_whole (pos 1152921504606846976)) (sub_r (mul_r r r) q) ≤ʳ q
+    → mul_r (of_whole (pos 1152921504606846976)) (sub_r q (mul_r r r)) ≤ʳ q → IsNearRoot r q
 near_root r q n h k = (
   go r.num r.den n,
   times_abs (((r.num *ℤ r.num) *ℤ pos q.den) -ℤ (q.num *ℤ pos (r.den * r.den))) (q.num *ℤ pos (r.den * r.den)) (2 ^ 60)

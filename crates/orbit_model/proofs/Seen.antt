@@ -10,13 +10,16 @@ use Rattle.orbit_model.proofs.Distances.{time_square}
 
 -- ---- equal places have equal lengths
 add_both : (p q r s : Rational) → p ≈ q → r ≈ s → add_r p r ≈ add_r q s
-add_both p q r s e f = ≈_trans (add_r p r) (add_r q r) (add_r q s) (add_r-same p q r e) (≈_trans (add_r q r) (add_r r q) (add_r q s) (add_r-comm q r) (≈_trans (add_r r q) (add_r s q) (add_r q s) (add_r-same r s q f) (add_r-comm s q)))
+add_both p q r s e f = ≈_trans (add_r p r) (add_r q r) (add_r q s) (add_r-same p q r e)
+    (≈_trans (add_r q r) (add_r r q) (add_r q s) (add_r-comm q r) (≈_trans (add_r r q) (add_r s q) (add_r q s) (add_r-same r s q f) (add_r-comm s q)))
 
 mul_both : (p q r s : Rational) → p ≈ q → r ≈ s → mul_r p r ≈ mul_r q s
-mul_both p q r s e f = ≈_trans (mul_r p r) (mul_r q r) (mul_r q s) (mul_r-same p q r e) (≈_trans (mul_r q r) (mul_r r q) (mul_r q s) (mul_r-comm q r) (≈_trans (mul_r r q) (mul_r s q) (mul_r q s) (mul_r-same r s q f) (mul_r-comm s q)))
+mul_both p q r s e f = ≈_trans (mul_r p r) (mul_r q r) (mul_r q s) (mul_r-same p q r e)
+    (≈_trans (mul_r q r) (mul_r r q) (mul_r q s) (mul_r-comm q r) (≈_trans (mul_r r q) (mul_r s q) (mul_r q s) (mul_r-same r s q f) (mul_r-comm s q)))
 
 less_same : (p q r : Rational) → p ≈ q → sub_r p r ≈ sub_r q r
-less_same p q r e = ≈_trans (sub_r p r) (add_r p (neg_r r)) (sub_r q r) (sub_r-is p r) (≈_trans (add_r p (neg_r r)) (add_r q (neg_r r)) (sub_r q r) (add_r-same p q (neg_r r) e) (≈_sym (sub_r q r) (add_r q (neg_r r)) (sub_r-is q r)))
+less_same p q r e = ≈_trans (sub_r p r) (add_r p (neg_r r)) (sub_r q r) (sub_r-is p r)
+    (≈_trans (add_r p (neg_r r)) (add_r q (neg_r r)) (sub_r q r) (add_r-same p q (neg_r r) e) (≈_sym (sub_r q r) (add_r q (neg_r r)) (sub_r-is q r)))
 
 pub square_same : (p q : Place) → AreSamePlace p q → square p ≈ square q
 square_same p q e = add_both (add_r (mul_r p.x p.x) (mul_r p.y p.y)) (add_r (mul_r q.x q.x) (mul_r q.y q.y)) (mul_r p.z p.z) (mul_r q.z q.z)
@@ -35,8 +38,10 @@ seen_vector sent point seen t s r h =
   where
     along : (p q : Rational) → p ≈ q → IsBetween 141000000000000 2040000000000000 p → (of_whole (pos 139240000000000) ≤ʳ q) × (q ≤ʳ of_whole (pos 2043040000000000))
     along p q e b = (
-      ≤ʳ_along (of_whole (pos 139240000000000)) (of_whole (pos 139240000000000)) p q refl e (≤ʳ_trans (of_whole (pos 139240000000000)) (of_whole (pos 141000000000000)) p (whole_le 139240000000000 141000000000000 (lit≤ tt)) b.low),
-      ≤ʳ_along p q (of_whole (pos 2043040000000000)) (of_whole (pos 2043040000000000)) e refl (≤ʳ_trans p (of_whole (pos 2040000000000000)) (of_whole (pos 2043040000000000)) b.high (whole_le 2040000000000000 2043040000000000 (lit≤ tt))),
+      ≤ʳ_along (of_whole (pos 139240000000000)) (of_whole (pos 139240000000000)) p q refl e
+          (≤ʳ_trans (of_whole (pos 139240000000000)) (of_whole (pos 141000000000000)) p (whole_le 139240000000000 141000000000000 (lit≤ tt)) b.low),
+      ≤ʳ_along p q (of_whole (pos 2043040000000000)) (of_whole (pos 2043040000000000)) e refl
+          (≤ʳ_trans p (of_whole (pos 2040000000000000)) (of_whole (pos 2043040000000000)) b.high (whole_le 2040000000000000 2043040000000000 (lit≤ tt))),
     )
 
 pub seen_distance : (sent point seen : Place) (t : Rational) → IsSentPlace sent → IsSeenPlace sent point t seen → HasLengthBetween 18900000 38100000 seen
@@ -44,7 +49,8 @@ seen_distance sent point seen t s h =
     let x : Place = turned_back h.turn sent in
     let b = loosely (square x) (turned_square sent _ h.turn s h.turn_is) in
     let e = ≈_sym (square seen) (square x) (square_same seen x h.seen_is) in
-    (≤ʳ_along (of_whole (pos 357210000000000)) (of_whole (pos 357210000000000)) (square x) (square seen) refl e b.low, ≤ʳ_along (square x) (square seen) (of_whole (pos 1451610000000000)) (of_whole (pos 1451610000000000)) e refl b.high)
+    (≤ʳ_along (of_whole (pos 357210000000000)) (of_whole (pos 357210000000000)) (square x) (square seen) refl e b.low,
+      ≤ʳ_along (square x) (square seen) (of_whole (pos 1451610000000000)) (of_whole (pos 1451610000000000)) e refl b.high)
 
 -- ---- the travel time
 pub travel_nn : (sent point seen : Place) (t : Rational) → IsSeenPlace sent point t seen → of_whole (pos 0) ≤ʳ t

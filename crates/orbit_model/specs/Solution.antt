@@ -112,4 +112,5 @@ pub record IsSatelliteSolution (world : Constants) (eph : Elements) (sent : Rati
   pub earth_fixed_y : q.y ≈ add_r (mul_r q.plane_x q.node_pair.sin) (mul_r (mul_r q.plane_y q.inclination_pair.cos) q.node_pair.cos)
   pub earth_fixed_z : q.z ≈ mul_r q.plane_y q.inclination_pair.sin
   -- Δt = af0 + af1 (t - toc) + af2 (t - toc)² + F e √A sin E
-  pub clock_correction : q.clock ≈ add_r (add_r (add_r eph.af0 (mul_r eph.af1 (sub_r q.t eph.toc))) (mul_r eph.af2 (mul_r (sub_r q.t eph.toc) (sub_r q.t eph.toc)))) (mul_r (mul_r (mul_r world.relativity eph.ecc) eph.root_a) q.eccentric_pair.sin)
+  pub clock_correction : q.clock ≈ add_r (add_r (add_r eph.af0 (mul_r eph.af1 (sub_r q.t eph.toc)))
+        (mul_r eph.af2 (mul_r (sub_r q.t eph.toc) (sub_r q.t eph.toc)))) (mul_r (mul_r (mul_r world.relativity eph.ecc) eph.root_a) q.eccentric_pair.sin)

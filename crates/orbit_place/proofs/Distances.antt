@@ -19,7 +19,8 @@ use Rattle.orbit_place.specs.Directions.{Point, IsNearSphere, HasPointNearSphere
 -- ---- two numbers in one narrow box
 pub near_in_box : (b : Iv 36) (x y : Rational) → width_of b ≤ℤ pos (2 ^ 18) → Holds b x → Holds b y → sub_r x y ≤ʳ one
 near_in_box b x y w h k =
-    order_r (x ∷ y ∷ of_scale 36 b.lo ∷ of_scale 36 b.hi ∷ []) ((va 0 ≼ va 3) ∷ (va 2 ≼ va 1) ∷ (va 3 ⊖ va 2 ≼ nat 1) ∷ []) [] (va 0 ⊖ va 1) (nat 1) (hy 0 ⊞ hy 1 ⊞ hy 2) [] refl (h.1, (k.0, (ends b.lo b.hi w, tt))) tt
+    order_r (x ∷ y ∷ of_scale 36 b.lo ∷ of_scale 36 b.hi ∷ []) ((va 0 ≼ va 3) ∷ (va 2 ≼ va 1) ∷ (va 3 ⊖ va 2 ≼ nat 1) ∷ []) [] (va 0 ⊖ va 1) (nat 1)
+        (hy 0 ⊞ hy 1 ⊞ hy 2) [] refl (h.1, (k.0, (ends b.lo b.hi w, tt))) tt
   where
     ends : (l h : ℤ) → (h -ℤ l) ≤ℤ pos (2 ^ 18) → sub_r (of_scale 36 h) (of_scale 36 l) ≤ʳ one
     ends l h w = omega (arith, ints)
@@ -37,8 +38,10 @@ pub record IsNearPlace (r x y z : Rational) (d : Point) : Type 0 where
 pub between : (r x y z : Rational) (d : Point) → IsNearPlace r x y z d →
     (of_whole (pos 19000000 *ℤ pos 19000000) ≤ʳ squared_distance x y z) × (squared_distance x y z ≤ʳ of_whole (pos 38000000 *ℤ pos 38000000))
 between r x y z d h = (
-  cancel_r (of_whole (pos 6400)) (of_whole (pos 361000000000000)) (squared_distance x y z) (omega (arith, ints)) (order_r numbers orders [] (nat 6400 ⊗ nat 361000000000000) (nat 6400 ⊗ square) low [] refl known tt),
-  cancel_r (of_whole (pos 6400)) (squared_distance x y z) (of_whole (pos 1444000000000000)) (omega (arith, ints)) (order_r numbers orders [] (nat 6400 ⊗ square) (nat 6400 ⊗ nat 1444000000000000) high [] refl known tt),
+  cancel_r (of_whole (pos 6400)) (of_whole (pos 361000000000000)) (squared_distance x y z) (omega (arith, ints))
+      (order_r numbers orders [] (nat 6400 ⊗ nat 361000000000000) (nat 6400 ⊗ square) low [] refl known tt),
+  cancel_r (of_whole (pos 6400)) (squared_distance x y z) (of_whole (pos 1444000000000000)) (omega (arith, ints))
+      (order_r numbers orders [] (nat 6400 ⊗ square) (nat 6400 ⊗ nat 1444000000000000) high [] refl known tt),
 )
   where
     numbers : List Rational
@@ -123,7 +126,8 @@ second_is a b c d e f h = cc
 pub third_is : (a b c d e f : Iv 36) → d ∷ e ∷ f ∷ [] ≡ a ∷ b ∷ c ∷ [] → f ≡ c
 third_is a b c d e f h = cc
 
-pub all_narrow : (a b c : Iv 36) → width_of a ≤ℤ pos (2 ^ 18) → width_of b ≤ℤ pos (2 ^ 18) → width_of c ≤ℤ pos (2 ^ 18) → (k : ℕ) (d : Iv 36) → k < 3 → width_of (get_or (a ∷ b ∷ c ∷ []) k d) ≤ℤ pos (2 ^ 18)
+pub all_narrow : (a b c : Iv 36) → width_of a ≤ℤ pos (2 ^ 18) → width_of b ≤ℤ pos (2 ^ 18) → width_of c ≤ℤ pos (2 ^ 18) → (k : ℕ) (d : Iv 36) → k < 3
+    → width_of (get_or (a ∷ b ∷ c ∷ []) k d) ≤ℤ pos (2 ^ 18)
 all_narrow a b c h i j zero d l = h
 all_narrow a b c h i j (suc zero) d l = i
 all_narrow a b c h i j (suc (suc zero)) d l = j

@@ -20,14 +20,16 @@ use Rattle.orbit_place.specs.Directions.{direction, HoldsPoint, IsNearSphere, Ha
 -- ---- how far the boxes reach
 -- x² with what is left of the sum of squares
 rests : (a b c bound : Rational) → sub_r (add_r (add_r (mul_r a a) (mul_r b b)) (mul_r c c)) one ≤ʳ bound →
-    (sub_r (add_r (mul_r a a) (add_r (mul_r b b) (mul_r c c))) one ≤ʳ bound) × (sub_r (add_r (mul_r b b) (add_r (mul_r a a) (mul_r c c))) one ≤ʳ bound) × (sub_r (add_r (mul_r c c) (add_r (mul_r a a) (mul_r b b))) one ≤ʳ bound)
+    (sub_r (add_r (mul_r a a) (add_r (mul_r b b) (mul_r c c))) one ≤ʳ bound) × (sub_r (add_r (mul_r b b) (add_r (mul_r a a) (mul_r c c))) one ≤ʳ bound)
+    × (sub_r (add_r (mul_r c c) (add_r (mul_r a a) (mul_r b b))) one ≤ʳ bound)
 rests a b c bound h =
     let r : List Rational = a ∷ b ∷ c ∷ bound ∷ [] in
     let x : Ex = va 0 ⊗ va 0 in
     let y : Ex = va 1 ⊗ va 1 in
     let z : Ex = va 2 ⊗ va 2 in
     let hs : List Hy = (x ⊕ y ⊕ z ⊖ nat 1 ≼ va 3) ∷ [] in
-    (order_r r hs [] (x ⊕ (y ⊕ z) ⊖ nat 1) (va 3) (hy 0) [] refl (h, tt) tt, order_r r hs [] (y ⊕ (x ⊕ z) ⊖ nat 1) (va 3) (hy 0) [] refl (h, tt) tt, order_r r hs [] (z ⊕ (x ⊕ y) ⊖ nat 1) (va 3) (hy 0) [] refl (h, tt) tt)
+    (order_r r hs [] (x ⊕ (y ⊕ z) ⊖ nat 1) (va 3) (hy 0) [] refl (h, tt) tt, order_r r hs [] (y ⊕ (x ⊕ z) ⊖ nat 1) (va 3) (hy 0) [] refl (h, tt) tt,
+      order_r r hs [] (z ⊕ (x ⊕ y) ⊖ nat 1) (va 3) (hy 0) [] refl (h, tt) tt)
 
 nonneg : (a b : Rational) → of_whole (pos 0) ≤ʳ add_r (mul_r a a) (mul_r b b)
 nonneg a b = order_r (a ∷ b ∷ []) [] [] (nat 0) (va 0 ⊗ va 0 ⊕ va 1 ⊗ va 1) (sq (va 0) ⊞ sq (va 1)) [] refl tt tt
@@ -84,7 +86,8 @@ direction_near u i n hu hi hn = (
         ∷ (nat 12 ⊗ va 6 ≼ va 9) ∷ (nat 58 ⊗ va 6 ≼ nat 1) ∷ (va 6 ≼ nat 1) ∷ (nat 0 ≼ va 6) ∷ []
 
     known : AreGiven numbers orders
-    known = (hn.0, (hn.1, (le_pos _ _ (lit≤ tt), (hu.0, (hu.1, (le_pos _ _ (lit≤ tt), (hi.0, (hi.1, (le_pos _ _ (lit≤ tt), (le_pos _ _ (lit≤ tt), (le_pos _ _ (lit≤ tt), (le_pos _ _ (lit≤ tt), tt))))))))))))
+    known = (hn.0, (hn.1, (le_pos _ _ (lit≤ tt), (hu.0, (hu.1, (le_pos _ _ (lit≤ tt),
+                    (hi.0, (hi.1, (le_pos _ _ (lit≤ tt), (le_pos _ _ (lit≤ tt), (le_pos _ _ (lit≤ tt), (le_pos _ _ (lit≤ tt), tt))))))))))))
 
     -- 6 - 4 P - sin²u
     room : Ce
@@ -96,4 +99,8 @@ direction_near u i n hu hi hn = (
 pub has_direction : (uc us ic is nc ns a b c : Iv 60) → ((u i n : Pair) → HoldsBoth uc us u → HoldsBoth ic is i → HoldsBoth nc ns n → HoldsPoint a b c (direction u i n)) →
     ∥ HasPairNearCircle 6 uc us ∥₁ → ∥ HasPairNearCircle 1 ic is ∥₁ → ∥ HasPairNearCircle 4 nc ns ∥₁ → ∥ HasPointNearSphere 12 a b c ∥₁
 has_direction uc us ic is nc ns a b c holds hu hi hn =
-    ∥∥₁_elim hu ∥∥₁_prop (λ x. ∥∥₁_elim hi ∥∥₁_prop (λ y. ∥∥₁_map hn (λ z. record { point = direction x.pair y.pair z.pair; held = holds x.pair y.pair z.pair x.held y.held z.held; near = direction_near x.pair y.pair z.pair x.near y.near z.near })))
+    ∥∥₁_elim hu ∥∥₁_prop (λ x. ∥∥₁_elim hi ∥∥₁_prop (λ y. ∥∥₁_map hn (λ z. record {
+      point = direction x.pair y.pair z.pair;
+      held = holds x.pair y.pair z.pair x.held y.held z.held;
+      near = direction_near x.pair y.pair z.pair x.near y.near z.near
+    })))

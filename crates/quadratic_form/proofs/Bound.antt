@@ -51,4 +51,6 @@ bound d e h z b gs ts p g f s =
     count = len_columns e z b ∙ ap (λ k. cols k) (len_is z) ∙ four (length z)
 
     step : (d e m v q r f : ℤ) → pos 0 ≤ℤ m → (d *ℤ d *ℤ r) ≤ℤ (pos 64 *ℤ f) → (m *ℤ q) ≤ℤ r → (e *ℤ e *ℤ v) ≤ℤ q → (d *ℤ e *ℤ (d *ℤ e) *ℤ (m *ℤ v)) ≤ℤ (pos 64 *ℤ f)
-    step d e m v q r f h h₁ h₂ h₃ = le_by (d ∷ e ∷ m ∷ v ∷ f ∷ r ∷ q ∷ []) (λ d e m v f r q. (d ⊗ e ⊗ (d ⊗ e) ⊗ (m ⊗ v), nat 64 ⊗ f, nat 64 ⊗ f ⊖ d ⊗ d ⊗ r ⊕ d ⊗ d ⊗ (r ⊖ m ⊗ q) ⊕ d ⊗ d ⊗ m ⊗ (q ⊖ e ⊗ e ⊗ v))) refl (both_nn (both_nn (less_nn h₁) (prod_nn (square_nn d) (less_nn h₂))) (prod_nn (prod_nn (square_nn d) h) (less_nn h₃)))
+    step d e m v q r f h h₁ h₂ h₃ = le_by (d ∷ e ∷ m ∷ v ∷ f ∷ r ∷ q ∷ [])
+        (λ d e m v f r q. (d ⊗ e ⊗ (d ⊗ e) ⊗ (m ⊗ v), nat 64 ⊗ f, nat 64 ⊗ f ⊖ d ⊗ d ⊗ r ⊕ d ⊗ d ⊗ (r ⊖ m ⊗ q) ⊕ d ⊗ d ⊗ m ⊗ (q ⊖ e ⊗ e ⊗ v))) refl
+        (both_nn (both_nn (less_nn h₁) (prod_nn (square_nn d) (less_nn h₂))) (prod_nn (prod_nn (square_nn d) h) (less_nn h₃)))

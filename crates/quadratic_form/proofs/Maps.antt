@@ -73,7 +73,8 @@ dot_sheared t (k ∷ ks) (x ∷ r) (y ∷ w) e h = ap (λ s. (x *ℤ y) +ℤ s) 
 
 apply_sheared : (ks : List ℤ) (rs : List (List ℤ)) (w : List ℤ) → AllRows (len w) rs → len ks <ℤ len w → apply (shear_map ks rs) w ≡ apply rs (down ks w)
 apply_sheared ks [] w a h = refl
-apply_sheared ks (r ∷ rs) w a h = ap₂ (λ x s. x ∷ s) (dot_sheared (pos 0) ks r w a.0 h ∙ (same_by (dot r (down ks w) ∷ entry (length ks) w ∷ []) (λ d e. (d ⊖ nat 0 ⊗ e, d)) refl)) (apply_sheared ks rs w a.1 h)
+apply_sheared ks (r ∷ rs) w a h = ap₂ (λ x s. x ∷ s)
+    (dot_sheared (pos 0) ks r w a.0 h ∙ (same_by (dot r (down ks w) ∷ entry (length ks) w ∷ []) (λ d e. (d ⊖ nat 0 ⊗ e, d)) refl)) (apply_sheared ks rs w a.1 h)
 
 entry_apply : (j : ℕ) (rs : List (List ℤ)) (z : List ℤ) → entry j (apply rs z) ≡ dot (row j rs) z
 entry_apply j [] z = refl

@@ -52,11 +52,14 @@ product_form i (r ∷ rs) h = form_plus (λ s t. coefficient r s *ℤ coefficien
     ∙ ap₂ (λ a b. plus a b) (form_outer (coefficient r) 0 (columns i) ∙ ap (λ s. outer s) (row_list i r h.0)) (product_form i rs h.1)
 
 group_form : (i : ℕ) (g : SignalGroup) → RowsOf (pos i) g.rows → form_from (group_entry g) 0 (columns i) ≡ group_matrix i g
-group_form i g h = form_same (group_entry g) (λ r c. share g *ℤ (n *ℤ product_sum g.rows r c +ℤ negsuc 0 *ℤ (coefficient_sum g.rows r *ℤ coefficient_sum g.rows c))) 0 (columns i) (λ r c a b d. less n (product_sum g.rows r c) (coefficient_sum g.rows r) (coefficient_sum g.rows c))
+group_form i g h = form_same (group_entry g)
+    (λ r c. share g *ℤ (n *ℤ product_sum g.rows r c +ℤ negsuc 0 *ℤ (coefficient_sum g.rows r *ℤ coefficient_sum g.rows c))) 0 (columns i)
+    (λ r c a b d. less n (product_sum g.rows r c) (coefficient_sum g.rows r) (coefficient_sum g.rows c))
     ∙ form_times (share g) (λ r c. n *ℤ product_sum g.rows r c +ℤ negsuc 0 *ℤ (coefficient_sum g.rows r *ℤ coefficient_sum g.rows c)) 0 (columns i)
     ∙ ap (λ a. times (share g) a) (form_plus (λ r c. n *ℤ product_sum g.rows r c) (λ r c. negsuc 0 *ℤ (coefficient_sum g.rows r *ℤ coefficient_sum g.rows c)) 0 (columns i)
     ∙ ap₂ (λ a b. plus a b) (form_times n (product_sum g.rows) 0 (columns i) ∙ ap (λ a. times n a) (product_form i g.rows h))
-    (form_times (negsuc 0) (λ r c. coefficient_sum g.rows r *ℤ coefficient_sum g.rows c) 0 (columns i) ∙ ap (λ a. times (negsuc 0) a) (form_outer (coefficient_sum g.rows) 0 (columns i) ∙ ap (λ s. outer s) (sum_list i g.rows h))))
+    (form_times (negsuc 0) (λ r c. coefficient_sum g.rows r *ℤ coefficient_sum g.rows c) 0 (columns i)
+      ∙ ap (λ a. times (negsuc 0) a) (form_outer (coefficient_sum g.rows) 0 (columns i) ∙ ap (λ s. outer s) (sum_list i g.rows h))))
   where
     n : ℤ
     n = len g.rows
@@ -84,7 +87,8 @@ product_past n (r ∷ rs) i j h g = ap₂ (λ s t. (coefficient r i *ℤ s) +ℤ
     nothing x = same_by (x ∷ []) (λ x. (x ⊗ nat 0 ⊕ nat 0, nat 0)) refl
 
 group_past : (n : ℕ) (g : SignalGroup) (i j : ℕ) → RowsOf (pos n) g.rows → columns n ≤ j → group_entry g i j ≡ pos 0
-group_past n g i j h k = ap₂ (λ s t. share g *ℤ ((len g.rows *ℤ s) -ℤ (coefficient_sum g.rows i *ℤ t))) (product_past n g.rows i j h k) (sum_past n g.rows j h k) ∙ nothing (share g) (len g.rows) (coefficient_sum g.rows i)
+group_past n g i j h k = ap₂ (λ s t. share g *ℤ ((len g.rows *ℤ s) -ℤ (coefficient_sum g.rows i *ℤ t)))
+    (product_past n g.rows i j h k) (sum_past n g.rows j h k) ∙ nothing (share g) (len g.rows) (coefficient_sum g.rows i)
   where
     nothing : (f n s : ℤ) → f *ℤ ((n *ℤ pos 0) -ℤ (s *ℤ pos 0)) ≡ pos 0
     nothing f n s = same_by (f ∷ n ∷ s ∷ []) (λ f n s. (f ⊗ ((n ⊗ nat 0) ⊖ (s ⊗ nat 0)), nat 0)) refl
@@ -101,7 +105,8 @@ product_turned (r ∷ rs) i j = ap₂ (λ s t. s +ℤ t) (swap (coefficient r i)
     swap x y = same_by (x ∷ y ∷ []) (λ x y. (x ⊗ y, y ⊗ x)) refl
 
 group_turned : (g : SignalGroup) (i j : ℕ) → group_entry g i j ≡ group_entry g j i
-group_turned g i j = ap (λ p. share g *ℤ ((len g.rows *ℤ p) -ℤ (coefficient_sum g.rows i *ℤ coefficient_sum g.rows j))) (product_turned g.rows i j) ∙ swap (share g) (len g.rows *ℤ product_sum g.rows j i) (coefficient_sum g.rows i) (coefficient_sum g.rows j)
+group_turned g i j = ap (λ p. share g *ℤ ((len g.rows *ℤ p) -ℤ (coefficient_sum g.rows i *ℤ coefficient_sum g.rows j))) (product_turned g.rows i j)
+    ∙ swap (share g) (len g.rows *ℤ product_sum g.rows j i) (coefficient_sum g.rows i) (coefficient_sum g.rows j)
   where
     swap : (f p s t : ℤ) → f *ℤ (p -ℤ (s *ℤ t)) ≡ f *ℤ (p -ℤ (t *ℤ s))
     swap f p s t = same_by (f ∷ p ∷ s ∷ t ∷ []) (λ f p s t. (f ⊗ (p ⊖ (s ⊗ t)), f ⊗ (p ⊖ (t ⊗ s)))) refl

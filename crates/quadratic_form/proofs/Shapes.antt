@@ -63,7 +63,8 @@ sized_start z = ((sized_diagonal (zeros (columns (length z)))).0 ∙ len_start z
 
 sized_sum_outer : (z : List ℤ) (rs : List SignalRow) → RowsOf (len z) rs → Sized (cols (len z)) (sum_outer (length z) rs)
 sized_sum_outer z [] h = sized_start z
-sized_sum_outer z (r ∷ rs) h = both (cols (len z)) (outer (coefficients r)) (sum_outer (length z) rs) (product (cols (len z)) (coefficients r) (len_coefficients (len z) r h.0)) (sized_sum_outer z rs h.1)
+sized_sum_outer z (r ∷ rs) h = both (cols (len z)) (outer (coefficients r)) (sum_outer (length z) rs)
+    (product (cols (len z)) (coefficients r) (len_coefficients (len z) r h.0)) (sized_sum_outer z rs h.1)
 
 sized_matrix : (z : List ℤ) (gs : List SignalGroup) → GroupsOf (len z) gs → Sized (cols (len z)) (matrix (length z) gs)
 sized_matrix z [] h = sized_start z
@@ -73,7 +74,8 @@ sized_matrix z (g ∷ gs) h = both (cols (len z)) (group_matrix (length z) g) (m
     n = cols (len z)
 
     one : Sized (cols (len z)) (group_matrix (length z) g)
-    one = more n _ _ (both n _ _ (more n (len g.rows) (sum_outer (length z) g.rows) (sized_sum_outer z g.rows h.3)) (more n (negsuc 0) (outer (sum_coefficients (length z) g.rows)) (product n (sum_coefficients (length z) g.rows) (len_sum_coefficients z g.rows h.3))))
+    one = more n _ _ (both n _ _ (more n (len g.rows) (sum_outer (length z) g.rows) (sized_sum_outer z g.rows h.3))
+          (more n (negsuc 0) (outer (sum_coefficients (length z) g.rows)) (product n (sum_coefficients (length z) g.rows) (len_sum_coefficients z g.rows h.3))))
 
 pub sized_bounding_form : (z : List ℤ) (gs : List SignalGroup) (r : Radii) → GroupsOf (len z) gs → Sized (cols (len z)) (bounding_form (length z) (matrix (length z) gs) r)
 sized_bounding_form z gs r h = both (cols (len z)) (times (pos 63) (matrix (length z) gs)) (diagonal w) (more (cols (len z)) (pos 63) (matrix (length z) gs) (sized_matrix z gs h))

@@ -46,7 +46,10 @@ step_taken j c m p e = first (int_lt c.own (pos (2 ^ 20))) refl e
         subst (λ (z : Factor × List Column). Taken c m z) i (record { pivot = g.0; positive = g.1; own = g.2; d = refl; l = refl; left = refl; small_factors = s; small_left = n })
 
     second : int_lt c.own (pos (2 ^ 20)) ≡ false → (t : Bool) → all_small l ≡ t →
-        elim t as (λ b. Result (Factor × List Column) Refusal) [ false ↦ Err wide_factor | true ↦ elim (form_small rest) [ false ↦ Err wide_entry | true ↦ Ok (record { d = kept a; l = l }, rest) ] ] ≡ Ok p → Taken c m p
+        elim t as (λ b. Result (Factor × List Column) Refusal) [
+          false ↦ Err wide_factor
+          | true ↦ elim (form_small rest) [ false ↦ Err wide_entry | true ↦ Ok (record { d = kept a; l = l }, rest) ]
+        ] ≡ Ok p → Taken c m p
     second o false s e = absurd cc
     second o true s e = last o s (form_small rest) refl e
 
@@ -93,8 +96,11 @@ steps_below j (suc k) (c ∷ m) (x ∷ v) p e s f =
     g : len m ≡ len v
     g = len_tail (len m) (len v) f
 
-    both : (d y w z t b : ℤ) → (d *ℤ (y *ℤ y) +ℤ pos (2 ^ 60) *ℤ w) ≤ℤ b → pos 0 ≤ℤ d → pos 0 ≤ℤ t → (t +ℤ pos (2 ^ 60) *ℤ z) ≤ℤ (pos (2 ^ 60) *ℤ w) → (pos 0 ≤ℤ (d *ℤ (y *ℤ y) +ℤ t)) × ((d *ℤ (y *ℤ y) +ℤ t +ℤ pos (2 ^ 60) *ℤ z) ≤ℤ b)
-    both d y w z t b h₀ h₁ h₂ h₃ = (both_nn (prod_nn h₁ (square_nn y)) h₂, le_by (d ∷ y ∷ t ∷ z ∷ b ∷ w ∷ []) (λ d y t z b w. (d ⊗ (y ⊗ y) ⊕ t ⊕ nat (2 ^ 60) ⊗ z, b, b ⊖ (d ⊗ (y ⊗ y) ⊕ nat (2 ^ 60) ⊗ w) ⊕ (nat (2 ^ 60) ⊗ w ⊖ (t ⊕ nat (2 ^ 60) ⊗ z)))) refl (both_nn (less_nn h₀) (less_nn h₃)))
+    both : (d y w z t b : ℤ) → (d *ℤ (y *ℤ y) +ℤ pos (2 ^ 60) *ℤ w) ≤ℤ b → pos 0 ≤ℤ d → pos 0 ≤ℤ t → (t +ℤ pos (2 ^ 60) *ℤ z) ≤ℤ (pos (2 ^ 60) *ℤ w)
+        → (pos 0 ≤ℤ (d *ℤ (y *ℤ y) +ℤ t)) × ((d *ℤ (y *ℤ y) +ℤ t +ℤ pos (2 ^ 60) *ℤ z) ≤ℤ b)
+    both d y w z t b h₀ h₁ h₂ h₃ = (both_nn (prod_nn h₁ (square_nn y)) h₂, le_by (d ∷ y ∷ t ∷ z ∷ b ∷ w ∷ [])
+          (λ d y t z b w. (d ⊗ (y ⊗ y) ⊕ t ⊕ nat (2 ^ 60) ⊗ z, b, b ⊖ (d ⊗ (y ⊗ y) ⊕ nat (2 ^ 60) ⊗ w) ⊕ (nat (2 ^ 60) ⊗ w ⊖ (t ⊕ nat (2 ^ 60) ⊗ z)))) refl
+          (both_nn (less_nn h₀) (less_nn h₃)))
 
     done : (u : Factor × List Column) (q : List Factor × List Column) → Taken c m u → Covered u.1 k v q → Covered (c ∷ m) (suc k) (x ∷ v) (u.0 ∷ q.0, q.1)
     done u q t ih = both u.0.d (pos (2 ^ 30) *ℤ x +ℤ dot u.0.l v) (quad u.1 v) (quad q.1 (drop k v)) (squares q.0 v) (pos (2 ^ 60) *ℤ quad (c ∷ m) (x ∷ v))
@@ -121,4 +127,5 @@ pub front_below : (j k : ℕ) (a : List Column) (x : List ℤ) (p : List Factor 
 front_below j k a x p e s f = go (squares p.0 x) (quad p.1 (drop k x)) (quad a x) (steps_below j k a x p e s f).0 (steps_below j k a x p e s f).1
   where
     go : (t z w : ℤ) → pos 0 ≤ℤ t → (t +ℤ pos (2 ^ 60) *ℤ z) ≤ℤ (pos (2 ^ 60) *ℤ w) → z ≤ℤ w
-    go t z w h k = mul_le_cancel z w (2 ^ 60) (omega arith) (le_by (z ∷ w ∷ t ∷ []) (λ z w t. (z ⊗ nat (2 ^ 60), w ⊗ nat (2 ^ 60), nat (2 ^ 60) ⊗ w ⊖ (t ⊕ nat (2 ^ 60) ⊗ z) ⊕ t)) refl (both_nn (less_nn k) h))
+    go t z w h k = mul_le_cancel z w (2 ^ 60) (omega arith)
+        (le_by (z ∷ w ∷ t ∷ []) (λ z w t. (z ⊗ nat (2 ^ 60), w ⊗ nat (2 ^ 60), nat (2 ^ 60) ⊗ w ⊖ (t ⊕ nat (2 ^ 60) ⊗ z) ⊕ t)) refl (both_nn (less_nn k) h))

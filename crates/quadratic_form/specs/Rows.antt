@@ -116,7 +116,12 @@ add_radii p q = record { r1 = p.r1 +ℤ q.r1; r2 = p.r2 +ℤ q.r2; r3 = p.r3 +�
 -- 360360 w times the sums of the squares of the radii
 abbrev pub row_radii : ℤ → List SignalRow → Radii
 row_radii w [] = no_radii
-row_radii w (r ∷ rs) = add_radii (record { r1 = pos 360360 *ℤ w *ℤ (r.ru1 *ℤ r.ru1); r2 = pos 360360 *ℤ w *ℤ (r.ru2 *ℤ r.ru2); r3 = pos 360360 *ℤ w *ℤ (r.ru3 *ℤ r.ru3); ry = pos 360360 *ℤ w *ℤ (r.ry *ℤ r.ry) }) (row_radii w rs)
+row_radii w (r ∷ rs) = add_radii (record {
+  r1 = pos 360360 *ℤ w *ℤ (r.ru1 *ℤ r.ru1);
+  r2 = pos 360360 *ℤ w *ℤ (r.ru2 *ℤ r.ru2);
+  r3 = pos 360360 *ℤ w *ℤ (r.ru3 *ℤ r.ru3);
+  ry = pos 360360 *ℤ w *ℤ (r.ry *ℤ r.ry)
+}) (row_radii w rs)
 
 abbrev pub radii : List SignalGroup → Radii
 radii [] = no_radii

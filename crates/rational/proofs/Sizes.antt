@@ -18,7 +18,9 @@ from_zero x h = step x.num (pos x.den) h (same_by (pos x.den ∷ []) (λ d. (ko 
 
 -- what is at least a number above 0 is above 0
 pub positive_above : (c q : Rational) → pos 0 <ℤ c.num → c ≤ʳ q → pos 0 <ℤ q.num
-positive_above c q h l = by_lt_z (pos 0) q.num (λ k. k) (λ k. absurd (step (c.num *ℤ pos q.den) (q.num *ℤ pos c.den) (mul_positive c.num (pos q.den) h (lt_pos 0 q.den q.positive)) (mul_le_right (pos c.den) q.num (pos 0) (pos_nn c.den) k) (same_by (pos c.den ∷ []) (λ d. (ko (pos 0) ⊗ d, ko (pos 0))) refl) l))
+positive_above c q h l = by_lt_z (pos 0) q.num (λ k. k)
+    (λ k. absurd (step (c.num *ℤ pos q.den) (q.num *ℤ pos c.den) (mul_positive c.num (pos q.den) h (lt_pos 0 q.den q.positive))
+        (mul_le_right (pos c.den) q.num (pos 0) (pos_nn c.den) k) (same_by (pos c.den ∷ []) (λ d. (ko (pos 0) ⊗ d, ko (pos 0))) refl) l))
   where
     step : (a b : ℤ) → pos 0 <ℤ a → b ≤ℤ (pos 0 *ℤ pos c.den) → pos 0 *ℤ pos c.den ≡ pos 0 → a ≤ℤ b → ⊥
     step a b h k e l = omega (arith, lins)
@@ -41,8 +43,10 @@ pub size_mul : (a b p q : Rational) → IsAtMostInSize a p → IsAtMostInSize b 
 size_mul a b p q h k =
     let r : List Rational = a ∷ b ∷ p ∷ q ∷ [] in
     let hs : List Hy = (va 2 ≼ va 0) ∷ (ng (va 2) ≼ va 0) ∷ (va 3 ≼ va 1) ∷ (ng (va 3) ≼ va 1) ∷ [] in (
-      cancel_r (of_whole (pos 2)) (mul_r p q) (mul_r a b) (omega (arith, ints)) (order_r r hs [] (ko (pos 2) ⊗ (va 2 ⊗ va 3)) (ko (pos 2) ⊗ (va 0 ⊗ va 1)) (hy 0 ⊠ hy 3 ⊞ hy 1 ⊠ hy 2) [] refl (h.0, (h.1, (k.0, (k.1, tt)))) tt),
-      cancel_r (of_whole (pos 2)) (neg_r (mul_r p q)) (mul_r a b) (omega (arith, ints)) (order_r r hs [] (ko (pos 2) ⊗ ng (va 2 ⊗ va 3)) (ko (pos 2) ⊗ (va 0 ⊗ va 1)) (hy 0 ⊠ hy 2 ⊞ hy 1 ⊠ hy 3) [] refl (h.0, (h.1, (k.0, (k.1, tt)))) tt),
+      cancel_r (of_whole (pos 2)) (mul_r p q) (mul_r a b) (omega (arith, ints))
+          (order_r r hs [] (ko (pos 2) ⊗ (va 2 ⊗ va 3)) (ko (pos 2) ⊗ (va 0 ⊗ va 1)) (hy 0 ⊠ hy 3 ⊞ hy 1 ⊠ hy 2) [] refl (h.0, (h.1, (k.0, (k.1, tt)))) tt),
+      cancel_r (of_whole (pos 2)) (neg_r (mul_r p q)) (mul_r a b) (omega (arith, ints))
+          (order_r r hs [] (ko (pos 2) ⊗ ng (va 2 ⊗ va 3)) (ko (pos 2) ⊗ (va 0 ⊗ va 1)) (hy 0 ⊠ hy 2 ⊞ hy 1 ⊠ hy 3) [] refl (h.0, (h.1, (k.0, (k.1, tt)))) tt),
     )
 
 pub size_along : (b p q : Rational) → p ≈ q → IsAtMostInSize b p → IsAtMostInSize b q

@@ -58,7 +58,8 @@ axis_apart b narrow =
     let high : (c *ℤ pos 68719476736) <ℤ ((b.hi *ℤ pos 1000000) +ℤ pos 68719476736) = ceil_lt (b.hi *ℤ pos 1000000) 68719476736 (pow_pos 36) in
     near b.lo b.hi f c narrow low high
   where
-    near : (l h f c : ℤ) → (h -ℤ l) ≤ℤ pos 262144 → (l *ℤ pos 1000000) <ℤ ((f *ℤ pos 68719476736) +ℤ pos 68719476736) → (c *ℤ pos 68719476736) <ℤ ((h *ℤ pos 1000000) +ℤ pos 68719476736) → (c -ℤ f) ≤ℤ pos 5
+    near : (l h f c : ℤ) → (h -ℤ l) ≤ℤ pos 262144 → (l *ℤ pos 1000000) <ℤ ((f *ℤ pos 68719476736) +ℤ pos 68719476736)
+        → (c *ℤ pos 68719476736) <ℤ ((h *ℤ pos 1000000) +ℤ pos 68719476736) → (c -ℤ f) ≤ℤ pos 5
     near l h f c narrow low high = omega (arith, ints)
 
 clock_apart : (b : Iv 60) → width_of b ≤ℤ pos (2 ^ 10) → AreApart 2 (ends_of 15 b)
@@ -66,7 +67,8 @@ clock_apart b narrow =
     near b.lo b.hi (floor_div (b.lo *ℤ pos 1000000000000000) 1152921504606846976) (ceil_div (b.hi *ℤ pos 1000000000000000) 1152921504606846976) narrow
     (lt_floor (b.lo *ℤ pos 1000000000000000) 1152921504606846976 (pow_pos 60)) (ceil_lt (b.hi *ℤ pos 1000000000000000) 1152921504606846976 (pow_pos 60))
   where
-    near : (l h f c : ℤ) → (h -ℤ l) ≤ℤ pos 1024 → (l *ℤ pos 1000000000000000) <ℤ ((f *ℤ pos 1152921504606846976) +ℤ pos 1152921504606846976) → (c *ℤ pos 1152921504606846976) <ℤ ((h *ℤ pos 1000000000000000) +ℤ pos 1152921504606846976) → (c -ℤ f) ≤ℤ pos 2
+    near : (l h f c : ℤ) → (h -ℤ l) ≤ℤ pos 1024 → (l *ℤ pos 1000000000000000) <ℤ ((f *ℤ pos 1152921504606846976) +ℤ pos 1152921504606846976)
+        → (c *ℤ pos 1152921504606846976) <ℤ ((h *ℤ pos 1000000000000000) +ℤ pos 1152921504606846976) → (c -ℤ f) ≤ℤ pos 2
     near l h f c narrow low high = omega (arith, ints)
 
 -- the numbers of a box hold every solution that the box holds
@@ -82,7 +84,8 @@ numbers_hold b n q are h =
 
 pub numbers_narrow : (b : SvBox) (n : OrbitNumbers) → AreNumbersOf b n → AreNarrow n
 numbers_narrow b n are =
-    let narrow : All (λ (i : Iv 36). width_of i ≤ℤ pos (2 ^ 18)) (are.first ∷ are.second ∷ are.third ∷ []) = subst (λ (p : List (Iv 36)). All (λ (i : Iv 36). width_of i ≤ℤ pos (2 ^ 18)) p) are.place b.narrow in
+    let narrow : All (λ (i : Iv 36). width_of i ≤ℤ pos (2 ^ 18)) (are.first ∷ are.second ∷ are.third ∷ []) =
+        subst (λ (p : List (Iv 36)). All (λ (i : Iv 36). width_of i ≤ℤ pos (2 ^ 18)) p) are.place b.narrow in
     record {
       x = subst (λ (e : Ends). AreApart 5 e) (sym are.x) (axis_apart are.first (narrow 0 are.first (omega arith)));
       y = subst (λ (e : Ends). AreApart 5 e) (sym are.y) (axis_apart are.second (narrow 1 are.second (omega arith)));

@@ -54,9 +54,11 @@ marked_taken (bytes ∷ lines) more h epochs rows n are =
     ∙ marked_taken lines more h epochs rows (n + 1) are.2 ∙ rw further refl
 
 -- the lines of a satellite from that number on are taken
-rows_taken : (rows more : List (List ℕ)) (h : Header) (epochs : List Epoch) (tag : Tick) (power : Bool) (sats : List SatObs) (name : Option ℕ) (names : List (Option ℕ)) (at : ℕ) (before after : List (Option Value)) (n : ℕ)
+rows_taken : (rows more : List (List ℕ)) (h : Header) (epochs : List Epoch) (tag : Tick) (power : Bool) (sats : List SatObs) (name : Option ℕ)
+    (names : List (Option ℕ)) (at : ℕ) (before after : List (Option Value)) (n : ℕ)
     → AreRows (kept_of h.types) name at rows before after → length rows + at ≡ rows_of h.types
-    → walk obs2_rules (rows ++ more) n (more_rows h epochs tag power sats name names at before) ≡ walk obs2_rules more (n + length rows) (more_sats h epochs tag power (with_satellite sats name after) names)
+    → walk obs2_rules (rows ++ more) n (more_rows h epochs tag power sats name names at before)
+        ≡ walk obs2_rules more (n + length rows) (more_sats h epochs tag power (with_satellite sats name after) names)
 rows_taken [] more h epochs tag power sats name names at before after n are count =
     let all = rows_all h epochs tag power sats name names at before (omega (arith, count)) in
     rw (all, are, add-zero) refl
@@ -70,7 +72,8 @@ rows_taken (bytes ∷ rows) more h epochs tag power sats name names at before af
 
 -- and so are those of the satellites of an epoch
 sats_taken : (parts : List SatPart) (more : List (List ℕ)) (h : Header) (epochs : List Epoch) (tag : Tick) (power : Bool) (sats : List SatObs) (n : ℕ) → AreSats h.types parts
-    → walk obs2_rules (sat_lines parts ++ more) n (more_sats h epochs tag power sats (numbers_of parts)) ≡ walk obs2_rules more (n + length (sat_lines parts)) (Body h (epochs ++ epoch_of tag power (sats ++ satellites_of parts) ∷ []))
+    → walk obs2_rules (sat_lines parts ++ more) n (more_sats h epochs tag power sats (numbers_of parts))
+        ≡ walk obs2_rules more (n + length (sat_lines parts)) (Body h (epochs ++ epoch_of tag power (sats ++ satellites_of parts) ∷ []))
 sats_taken [] more h epochs tag power sats n are = rw (add-zero, append-nil sats) refl
 sats_taken (p ∷ parts) more h epochs tag power sats n are =
     let behind = sat_lines parts ++ more in
@@ -84,18 +87,21 @@ sats_taken (p ∷ parts) more h epochs tag power sats n are =
     ∙ rw (further, same) refl
 
 -- the further lines of an epoch's names are taken
-names_taken : (lines more : List (List ℕ)) (h : Header) (epochs : List Epoch) (tag : Tick) (power : Bool) (names : List (Option ℕ)) (left : ℕ) (all : List (Option ℕ)) (n : ℕ) → AreFurtherNames lines names left all
+names_taken : (lines more : List (List ℕ)) (h : Header) (epochs : List Epoch) (tag : Tick) (power : Bool) (names : List (Option ℕ)) (left : ℕ)
+    (all : List (Option ℕ)) (n : ℕ) → AreFurtherNames lines names left all
     → walk obs2_rules (lines ++ more) n (more_names h epochs tag power names left) ≡ walk obs2_rules more (n + length lines) (more_sats h epochs tag power [] all)
 names_taken [] more h epochs tag power names left all n are = rw (are.0, are.1, add-zero) refl
 names_taken (bytes ∷ lines) more h epochs tag power names left all n are =
     let list = are.2.0 in
     let further : n + suc (length lines) ≡ n + 1 + length lines = omega arith in
-    let admits : admit (more_names h epochs tag power names left) bytes ≡ Ok (more_names h epochs tag power list.names list.left) = admit_names h epochs tag power names left bytes are.0 ∙ rw (are.2.1) refl in
+    let admits : admit (more_names h epochs tag power names left) bytes ≡ Ok (more_names h epochs tag power list.names list.left) =
+        admit_names h epochs tag power names left bytes are.0 ∙ rw (are.2.1) refl in
     walk-takes obs2_rules (more_names h epochs tag power names left) (more_names h epochs tag power list.names list.left) bytes (lines ++ more) n are.1 admits
     ∙ names_taken lines more h epochs tag power list.names list.left all (n + 1) are.2.2 ∙ rw further refl
 
 -- and so are the parts of a body
-parts_taken : (parts : List Part) (h : Header) (epochs : List Epoch) (n : ℕ) → AreParts h.types epochs parts → walk obs2_rules (body_lines parts) n (Body h epochs) ≡ Ok (file_of h (epochs ++ epochs_of parts))
+parts_taken : (parts : List Part) (h : Header) (epochs : List Epoch) (n : ℕ) → AreParts h.types epochs parts
+    → walk obs2_rules (body_lines parts) n (Body h epochs) ≡ Ok (file_of h (epochs ++ epochs_of parts))
 parts_taken [] h epochs n are = walk-end obs2_rules (Body h epochs) n ∙ rw (append-nil epochs) refl
 parts_taken (Blank bytes ∷ parts) h epochs n are =
     let admits : admit (Body h epochs) bytes ≡ Ok (Body h epochs) = rw (are.1) refl in

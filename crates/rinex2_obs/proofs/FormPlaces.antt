@@ -70,7 +70,8 @@ unfolding row_of
 empty_row kept None at values = (values, refl)
 empty_row kept (Some number) at values = empty_values kept at values
 
-rows_over : (h : Header) (epochs : List Epoch) (tag : Tick) (power : Bool) (sats : List SatObs) (name : Option ℕ) (names : List (Option ℕ)) (at : ℕ) (values : List (Option Value)) → rows_of h.types ≤ at
+rows_over : (h : Header) (epochs : List Epoch) (tag : Tick) (power : Bool) (sats : List SatObs) (name : Option ℕ) (names : List (Option ℕ)) (at : ℕ)
+    (values : List (Option Value)) → rows_of h.types ≤ at
     → ((sats : List SatObs) → Completes obs2_rules (more_sats h epochs tag power sats names)) → Completes obs2_rules (more_rows h epochs tag power sats name names at values)
 rows_over h epochs tag power sats name names at values all others = rw (rows_all h epochs tag power sats name names at values all) (others (with_satellite sats name values))
 
@@ -82,13 +83,16 @@ row_done h epochs tag power sats name names at values rest =
     let admits : admit (Row h epochs tag power sats name names at values) [] ≡ Ok (more_rows h epochs tag power sats name names (at + 1) row.0) = rw (row.1) refl in
     with_line obs2_rules (Row h epochs tag power sats name names at values) (more_rows h epochs tag power sats name names (at + 1) row.0) [] (lit≤ tt) admits (rest row.0)
 
-rows_done : (fuel : ℕ) (h : Header) (epochs : List Epoch) (tag : Tick) (power : Bool) (sats : List SatObs) (name : Option ℕ) (names : List (Option ℕ)) (at : ℕ) (values : List (Option Value)) → rows_of h.types ≤ at + fuel
+rows_done : (fuel : ℕ) (h : Header) (epochs : List Epoch) (tag : Tick) (power : Bool) (sats : List SatObs) (name : Option ℕ) (names : List (Option ℕ))
+    (at : ℕ) (values : List (Option Value)) → rows_of h.types ≤ at + fuel
     → ((sats : List SatObs) → Completes obs2_rules (more_sats h epochs tag power sats names)) → Completes obs2_rules (more_rows h epochs tag power sats name names at values)
 rows_done zero h epochs tag power sats name names at values enough others = rows_over h epochs tag power sats name names at values (omega (arith, enough)) others
 rows_done (suc fuel) h epochs tag power sats name names at values enough others =
     by_test (nat_lt at (rows_of h.types)) refl (λ set. rows_done fuel h epochs tag power sats name names (at + 1) set (omega (arith, enough)) others)
   where
-    by_test : (t : Bool) → nat_lt at (rows_of h.types) ≡ t → ((set : List (Option Value)) → Completes obs2_rules (more_rows h epochs tag power sats name names (at + 1) set)) → Completes obs2_rules (more_rows h epochs tag power sats name names at values)
+    by_test : (t : Bool) → nat_lt at (rows_of h.types) ≡ t
+        → ((set : List (Option Value)) → Completes obs2_rules (more_rows h epochs tag power sats name names (at + 1) set))
+        → Completes obs2_rules (more_rows h epochs tag power sats name names at values)
     by_test false test rest = rows_over h epochs tag power sats name names at values (grind (arith, nat_tests)) others
     by_test true test rest = rw (rows_due h epochs tag power sats name names at values (grind (arith, nat_tests))) (row_done h epochs tag power sats name names at values rest)
 
@@ -128,7 +132,8 @@ others_taken j (suc m) names few =
     let rest = others_taken (j + 1) m (names ++ None ∷ []) (omega arith) in
     (rest.0, rw (other_at j (omega arith), next) rest.1)
 
-names_step : (h : Header) (epochs : List Epoch) (tag : Tick) (power : Bool) (names : List (Option ℕ)) (n : ℕ) → (all : List (Option ℕ)) × (admit (Names h epochs tag power names n) other_names ≡ Ok (more_names h epochs tag power all (n - 12)))
+names_step : (h : Header) (epochs : List Epoch) (tag : Tick) (power : Bool) (names : List (Option ℕ)) (n : ℕ)
+    → (all : List (Option ℕ)) × (admit (Names h epochs tag power names n) other_names ≡ Ok (more_names h epochs tag power all (n - 12)))
 unfolding further_mark_of padded
 names_step h epochs tag power names n =
     let taken = others_taken 0 (min 12 n) names (omega arith) in
@@ -139,7 +144,8 @@ names_done fuel h epochs tag power names zero le = sats_done names h epochs tag 
 names_done zero h epochs tag power names (suc k) le = absurd (omega (arith, le))
 names_done (suc fuel) h epochs tag power names (suc k) le =
     let step = names_step h epochs tag power names (suc k) in
-    with_line obs2_rules (Names h epochs tag power names (suc k)) (more_names h epochs tag power step.0 (suc k - 12)) other_names (lit≤ tt) step.1 (names_done fuel h epochs tag power step.0 (suc k - 12) (omega (arith, le)))
+    with_line obs2_rules (Names h epochs tag power names (suc k)) (more_names h epochs tag power step.0 (suc k - 12)) other_names (lit≤ tt) step.1
+        (names_done fuel h epochs tag power step.0 (suc k - 12) (omega (arith, le)))
 
 -- ---- events, whose lines are empty
 
@@ -314,11 +320,14 @@ completed (More h names n) =
 completed (Body h epochs) = body_done h epochs
 completed (Names h epochs tag power names n) =
     let step = names_step h epochs tag power names n in
-    with_line obs2_rules (Names h epochs tag power names n) (more_names h epochs tag power step.0 (n - 12)) other_names (lit≤ tt) step.1 (names_done (n - 12) h epochs tag power step.0 (n - 12) (omega arith))
+    with_line obs2_rules (Names h epochs tag power names n) (more_names h epochs tag power step.0 (n - 12)) other_names (lit≤ tt) step.1
+        (names_done (n - 12) h epochs tag power step.0 (n - 12) (omega arith))
 completed (Row h epochs tag power sats name names at values) =
-    row_done h epochs tag power sats name names at values (λ set. rows_done (rows_of h.types) h epochs tag power sats name names (at + 1) set (omega arith) (λ sats. sats_done names h epochs tag power sats))
+    row_done h epochs tag power sats name names at values
+        (λ set. rows_done (rows_of h.types) h epochs tag power sats name names (at + 1) set (omega arith) (λ sats. sats_done names h epochs tag power sats))
 completed (Further h epochs n rows) = with_line obs2_rules (Further h epochs n rows) (more_slips h epochs (n - 1) rows) [] (lit≤ tt) (empty_mark h epochs n rows) (slips_done h epochs (n - 1) rows)
-completed (Skip h epochs changes n) = with_line obs2_rules (Skip h epochs changes n) (more_lines h epochs changes (n - 1)) [] (lit≤ tt) (empty_line h epochs changes n) (lines_done h epochs changes (n - 1))
+completed (Skip h epochs changes n) = with_line obs2_rules (Skip h epochs changes n) (more_lines h epochs changes (n - 1)) [] (lit≤ tt)
+    (empty_line h epochs changes n) (lines_done h epochs changes (n - 1))
 
 -- the grammar and the rules have the same files
 pub file_of_rules : (lines : List (List ℕ)) → HasObs2File lines → IsFileOf obs2_rules lines
@@ -332,6 +341,7 @@ ok_exit lines (Ok file) given = file_took lines file given
 ok_exit lines (Err fault) given = tt
 
 -- a text has at most one file
-pub only_exit : (lines : List (List ℕ)) (r : Result ObsFile TextFault) → Gives (text_gives obs2_rules lines) (λ file. file) r → IfOk r (λ file. (other : ObsFile) → IsObs2File lines other → other ≡ file)
+pub only_exit : (lines : List (List ℕ)) (r : Result ObsFile TextFault) → Gives (text_gives obs2_rules lines) (λ file. file) r
+    → IfOk r (λ file. (other : ObsFile) → IsObs2File lines other → other ≡ file)
 only_exit lines (Ok file) given = λ other is. let same : Ok other ≡ Ok file = sym (file_given lines other is) ∙ given in cc (same)
 only_exit lines (Err fault) given = tt

@@ -51,7 +51,8 @@ record TookSats (lines : List (List ℕ)) (h : Header) (epochs : List Epoch) (ta
   whole_is : whole ≡ file_of h (epochs ++ epoch_of tag power (sats ++ satellites_of others) ∷ epochs_of parts)
 
 -- the lines of a satellite from that number on
-record TookRows (lines : List (List ℕ)) (h : Header) (epochs : List Epoch) (tag : Tick) (power : Bool) (sats : List SatObs) (name : Option ℕ) (names : List (Option ℕ)) (at : ℕ) (values : List (Option Value)) (whole : ObsFile) : Type 0 where
+record TookRows (lines : List (List ℕ)) (h : Header) (epochs : List Epoch) (tag : Tick) (power : Bool) (sats : List SatObs) (name : Option ℕ)
+    (names : List (Option ℕ)) (at : ℕ) (values : List (Option Value)) (whole : ObsFile) : Type 0 where
   rows : List (List ℕ)
   after : List (Option Value)
   rest : List (List ℕ)
@@ -88,17 +89,22 @@ record TookSlips (lines : List (List ℕ)) (h : Header) (epochs : List Epoch) (k
 -- what lines are, by what is expected before them
 record Took (lines : List (List ℕ)) : Type 0 where
   body : (h : Header) (epochs : List Epoch) (n : ℕ) (whole : ObsFile) → walk obs2_rules lines n (Body h epochs) ≡ Ok whole → TookBody lines h epochs whole
-  names : (h : Header) (epochs : List Epoch) (tag : Tick) (power : Bool) (names : List (Option ℕ)) (k n : ℕ) (whole : ObsFile) → walk obs2_rules lines n (Names h epochs tag power names (suc k)) ≡ Ok whole → TookNames lines h epochs tag power names (suc k) whole
-  row : (h : Header) (epochs : List Epoch) (tag : Tick) (power : Bool) (sats : List SatObs) (name : Option ℕ) (names : List (Option ℕ)) (at : ℕ) (values : List (Option Value)) (n : ℕ) (whole : ObsFile) → at < rows_of h.types
+  names : (h : Header) (epochs : List Epoch) (tag : Tick) (power : Bool) (names : List (Option ℕ)) (k n : ℕ) (whole : ObsFile)
+      → walk obs2_rules lines n (Names h epochs tag power names (suc k)) ≡ Ok whole → TookNames lines h epochs tag power names (suc k) whole
+  row : (h : Header) (epochs : List Epoch) (tag : Tick) (power : Bool) (sats : List SatObs) (name : Option ℕ) (names : List (Option ℕ)) (at : ℕ)
+      (values : List (Option Value)) (n : ℕ) (whole : ObsFile) → at < rows_of h.types
       → walk obs2_rules lines n (Row h epochs tag power sats name names at values) ≡ Ok whole → TookRows lines h epochs tag power sats name names at values whole
   slips : (h : Header) (epochs : List Epoch) (k rows n : ℕ) (whole : ObsFile) → walk obs2_rules lines n (Further h epochs (suc k) rows) ≡ Ok whole → TookSlips lines h epochs (suc k) rows whole
-  skip : (h : Header) (epochs : List Epoch) (changes : Bool) (k n : ℕ) (whole : ObsFile) → walk obs2_rules lines n (Skip h epochs changes (suc k)) ≡ Ok whole → TookLines lines h epochs changes (suc k) whole
+  skip : (h : Header) (epochs : List Epoch) (changes : Bool) (k n : ℕ) (whole : ObsFile)
+      → walk obs2_rules lines n (Skip h epochs changes (suc k)) ≡ Ok whole → TookLines lines h epochs changes (suc k) whole
 
 -- the walk goes on from the same state
 same_walk : (lines : List (List ℕ)) (n : ℕ) (s t : Expected) (whole : ObsFile) → s ≡ t → walk obs2_rules lines n t ≡ Ok whole → walk obs2_rules lines n s ≡ Ok whole
 same_walk lines n s t whole same gives = subst (λ (s : Expected). walk obs2_rules lines n s ≡ Ok whole) (sym same) gives
 
-of_more_sats : (lines : List (List ℕ)) → Took lines → (h : Header) (epochs : List Epoch) (tag : Tick) (power : Bool) (sats : List SatObs) (names : List (Option ℕ)) (n : ℕ) (whole : ObsFile) → walk obs2_rules lines n (more_sats h epochs tag power sats names) ≡ Ok whole → TookSats lines h epochs tag power sats names whole
+of_more_sats : (lines : List (List ℕ)) → Took lines
+    → (h : Header) (epochs : List Epoch) (tag : Tick) (power : Bool) (sats : List SatObs) (names : List (Option ℕ)) (n : ℕ) (whole : ObsFile)
+    → walk obs2_rules lines n (more_sats h epochs tag power sats names) ≡ Ok whole → TookSats lines h epochs tag power sats names whole
 of_more_sats lines took h epochs tag power sats [] n whole gives =
     let rest = took.body h (epochs ++ epoch_of tag power sats ∷ []) n whole gives in
     record {
@@ -125,7 +131,8 @@ of_more_sats lines took h epochs tag power sats (name ∷ names) n whole gives =
       whole_is = rest.whole_is ∙ ap (λ (l : List SatObs). file_of h (epochs ++ epoch_of tag power l ∷ epochs_of rest.parts)) same;
     }
 
-of_more_rows : (lines : List (List ℕ)) → Took lines → (h : Header) (epochs : List Epoch) (tag : Tick) (power : Bool) (sats : List SatObs) (name : Option ℕ) (names : List (Option ℕ)) (at : ℕ) (values : List (Option Value)) (n : ℕ) (whole : ObsFile) → at ≤ rows_of h.types
+of_more_rows : (lines : List (List ℕ)) → Took lines → (h : Header) (epochs : List Epoch) (tag : Tick) (power : Bool) (sats : List SatObs)
+    (name : Option ℕ) (names : List (Option ℕ)) (at : ℕ) (values : List (Option Value)) (n : ℕ) (whole : ObsFile) → at ≤ rows_of h.types
     → walk obs2_rules lines n (more_rows h epochs tag power sats name names at values) ≡ Ok whole → TookRows lines h epochs tag power sats name names at values whole
 of_more_rows lines took h epochs tag power sats name names at values n whole few gives = by_test (nat_lt at (rows_of h.types)) refl
   where
@@ -142,21 +149,26 @@ of_more_rows lines took h epochs tag power sats name names at values n whole few
           lines_are = refl;
           count = omega (arith, all, few);
           are = refl;
-          behind = of_more_sats lines took h epochs tag power (with_satellite sats name values) names n whole (same_walk lines n _ _ whole (sym (rows_all h epochs tag power sats name names at values all)) gives);
+          behind = of_more_sats lines took h epochs tag power (with_satellite sats name values) names n whole
+              (same_walk lines n _ _ whole (sym (rows_all h epochs tag power sats name names at values all)) gives);
         }
 
-of_more_names : (lines : List (List ℕ)) → Took lines → (h : Header) (epochs : List Epoch) (tag : Tick) (power : Bool) (names : List (Option ℕ)) (left n : ℕ) (whole : ObsFile) → walk obs2_rules lines n (more_names h epochs tag power names left) ≡ Ok whole → TookNames lines h epochs tag power names left whole
+of_more_names : (lines : List (List ℕ)) → Took lines
+    → (h : Header) (epochs : List Epoch) (tag : Tick) (power : Bool) (names : List (Option ℕ)) (left n : ℕ) (whole : ObsFile)
+    → walk obs2_rules lines n (more_names h epochs tag power names left) ≡ Ok whole → TookNames lines h epochs tag power names left whole
 of_more_names lines took h epochs tag power names zero n whole gives =
     record { further = []; all = names; rest = lines; lines_are = refl; are = (refl, refl); behind = of_more_sats lines took h epochs tag power [] names n whole gives }
 of_more_names lines took h epochs tag power names (suc k) n whole gives = took.names h epochs tag power names k n whole gives
 
-of_more_lines : (lines : List (List ℕ)) → Took lines → (h : Header) (epochs : List Epoch) (changes : Bool) (k n : ℕ) (whole : ObsFile) → walk obs2_rules lines n (more_lines h epochs changes k) ≡ Ok whole → TookLines lines h epochs changes k whole
+of_more_lines : (lines : List (List ℕ)) → Took lines → (h : Header) (epochs : List Epoch) (changes : Bool) (k n : ℕ) (whole : ObsFile)
+    → walk obs2_rules lines n (more_lines h epochs changes k) ≡ Ok whole → TookLines lines h epochs changes k whole
 of_more_lines lines took h epochs changes zero n whole gives =
     let rest = took.body h epochs n whole gives in
     record { event_lines = []; parts = rest.parts; lines_are = rest.lines_are; count = refl; are = tt; each = rest.each; whole_is = rest.whole_is }
 of_more_lines lines took h epochs changes (suc k) n whole gives = took.skip h epochs changes k n whole gives
 
-of_more_slips : (lines : List (List ℕ)) → Took lines → (h : Header) (epochs : List Epoch) (k rows n : ℕ) (whole : ObsFile) → walk obs2_rules lines n (more_slips h epochs k rows) ≡ Ok whole → TookSlips lines h epochs k rows whole
+of_more_slips : (lines : List (List ℕ)) → Took lines → (h : Header) (epochs : List Epoch) (k rows n : ℕ) (whole : ObsFile)
+    → walk obs2_rules lines n (more_slips h epochs k rows) ≡ Ok whole → TookSlips lines h epochs k rows whole
 of_more_slips lines took h epochs zero rows n whole gives =
     record { further = []; rest = lines; lines_are = refl; count = refl; are = tt; behind = of_more_lines lines took h epochs false rows n whole gives }
 of_more_slips lines took h epochs (suc k) rows n whole gives = took.slips h epochs k rows n whole gives
@@ -166,7 +178,8 @@ are_short : (changes : Bool) (lines : List (List ℕ)) → AreEventLines changes
 are_short changes [] are = tt
 are_short changes (bytes ∷ lines) are = (are.0, are_short changes lines are.2)
 
-body_line : (bytes : List ℕ) (lines : List (List ℕ)) → Took lines → (h : Header) (epochs : List Epoch) (n : ℕ) (whole : ObsFile) → walk obs2_rules (bytes ∷ lines) n (Body h epochs) ≡ Ok whole → TookBody (bytes ∷ lines) h epochs whole
+body_line : (bytes : List ℕ) (lines : List (List ℕ)) → Took lines → (h : Header) (epochs : List Epoch) (n : ℕ) (whole : ObsFile)
+    → walk obs2_rules (bytes ∷ lines) n (Body h epochs) ≡ Ok whole → TookBody (bytes ∷ lines) h epochs whole
 body_line bytes lines took h epochs n whole gives = by_part (epoch_line_of epochs bytes) refl first.admits
   where
     first : TookLine obs2_rules (Body h epochs) bytes lines n whole
@@ -201,7 +214,14 @@ body_line bytes lines took h epochs n whole gives = by_part (epoch_line_of epoch
         record {
           parts = Slips part ∷ rest.parts;
           lines_are = ap (λ (l : List (List ℕ)). bytes ∷ l) lines_are;
-          each = (record { short = first.short; says = says; further_count = sym marked.count; further = marked.are; rows_count = sym rest.count; rows = are_short false rest.event_lines rest.are }, rest.each);
+          each = (record {
+            short = first.short;
+            says = says;
+            further_count = sym marked.count;
+            further = marked.are;
+            rows_count = sym rest.count;
+            rows = are_short false rest.event_lines rest.are
+          }, rest.each);
           whole_is = rest.whole_is;
         }
     by_part (Ok (line.Epoch tag power list)) says gives =
@@ -214,39 +234,67 @@ body_line bytes lines took h epochs n whole gives = by_part (epoch_line_of epoch
         record {
           parts = Epoch_ part ∷ rest.parts;
           lines_are = ap (λ (l : List (List ℕ)). bytes ∷ l) lines_are;
-          each = (record { short = first.short; says = says; names = subst (λ (all : List (Option ℕ)). AreFurtherNames named.further list.names list.left all) rest.numbers named.are; sats = rest.are }, rest.each);
+          each = (record {
+            short = first.short;
+            says = says;
+            names = subst (λ (all : List (Option ℕ)). AreFurtherNames named.further list.names list.left all) rest.numbers named.are;
+            sats = rest.are
+          }, rest.each);
           whole_is = rest.whole_is;
         }
     by_part (Err flaw) says gives = absurd cc
 
-names_line : (bytes : List ℕ) (lines : List (List ℕ)) → Took lines → (h : Header) (epochs : List Epoch) (tag : Tick) (power : Bool) (names : List (Option ℕ)) (k n : ℕ) (whole : ObsFile) → walk obs2_rules (bytes ∷ lines) n (Names h epochs tag power names (suc k)) ≡ Ok whole → TookNames (bytes ∷ lines) h epochs tag power names (suc k) whole
+names_line : (bytes : List ℕ) (lines : List (List ℕ)) → Took lines
+    → (h : Header) (epochs : List Epoch) (tag : Tick) (power : Bool) (names : List (Option ℕ)) (k n : ℕ) (whole : ObsFile)
+    → walk obs2_rules (bytes ∷ lines) n (Names h epochs tag power names (suc k)) ≡ Ok whole → TookNames (bytes ∷ lines) h epochs tag power names (suc k) whole
 names_line bytes lines took h epochs tag power names k n whole gives = by_part (further_names_of bytes names (suc k)) refl first.admits
   where
     first : TookLine obs2_rules (Names h epochs tag power names (suc k)) bytes lines n whole
     first = walk-took obs2_rules (Names h epochs tag power names (suc k)) bytes lines n whole gives
 
-    by_part : (r : Result NameList Flaw) → further_names_of bytes names (suc k) ≡ r → and_then r (λ list. Ok (more_names h epochs tag power list.names list.left)) ≡ Ok first.next → TookNames (bytes ∷ lines) h epochs tag power names (suc k) whole
+    by_part : (r : Result NameList Flaw) → further_names_of bytes names (suc k) ≡ r
+        → and_then r (λ list. Ok (more_names h epochs tag power list.names list.left)) ≡ Ok first.next
+        → TookNames (bytes ∷ lines) h epochs tag power names (suc k) whole
     by_part (Ok list) says gives =
         let next : more_names h epochs tag power list.names list.left ≡ first.next = cc (gives) in
         let rest = of_more_names lines took h epochs tag power list.names list.left (n + 1) whole (same_walk lines (n + 1) _ first.next whole next first.others) in
-        record { further = bytes ∷ rest.further; all = rest.all; rest = rest.rest; lines_are = ap (λ (l : List (List ℕ)). bytes ∷ l) rest.lines_are; are = (omega arith, first.short, (list, says, rest.are)); behind = rest.behind }
+        record {
+          further = bytes ∷ rest.further;
+          all = rest.all;
+          rest = rest.rest;
+          lines_are = ap (λ (l : List (List ℕ)). bytes ∷ l) rest.lines_are;
+          are = (omega arith, first.short, (list, says, rest.are));
+          behind = rest.behind
+        }
     by_part (Err flaw) says gives = absurd cc
 
-row_line : (bytes : List ℕ) (lines : List (List ℕ)) → Took lines → (h : Header) (epochs : List Epoch) (tag : Tick) (power : Bool) (sats : List SatObs) (name : Option ℕ) (names : List (Option ℕ)) (at : ℕ) (values : List (Option Value)) (n : ℕ) (whole : ObsFile) → at < rows_of h.types
+row_line : (bytes : List ℕ) (lines : List (List ℕ)) → Took lines → (h : Header) (epochs : List Epoch) (tag : Tick) (power : Bool) (sats : List SatObs)
+    (name : Option ℕ) (names : List (Option ℕ)) (at : ℕ) (values : List (Option Value)) (n : ℕ) (whole : ObsFile) → at < rows_of h.types
     → walk obs2_rules (bytes ∷ lines) n (Row h epochs tag power sats name names at values) ≡ Ok whole → TookRows (bytes ∷ lines) h epochs tag power sats name names at values whole
 row_line bytes lines took h epochs tag power sats name names at values n whole less gives = by_part (row_of (kept_of h.types) name at bytes values) refl first.admits
   where
     first : TookLine obs2_rules (Row h epochs tag power sats name names at values) bytes lines n whole
     first = walk-took obs2_rules (Row h epochs tag power sats name names at values) bytes lines n whole gives
 
-    by_part : (r : Result (List (Option Value)) Flaw) → row_of (kept_of h.types) name at bytes values ≡ r → and_then r (λ set. Ok (more_rows h epochs tag power sats name names (at + 1) set)) ≡ Ok first.next → TookRows (bytes ∷ lines) h epochs tag power sats name names at values whole
+    by_part : (r : Result (List (Option Value)) Flaw) → row_of (kept_of h.types) name at bytes values ≡ r
+        → and_then r (λ set. Ok (more_rows h epochs tag power sats name names (at + 1) set)) ≡ Ok first.next
+        → TookRows (bytes ∷ lines) h epochs tag power sats name names at values whole
     by_part (Ok set) says gives =
         let next : more_rows h epochs tag power sats name names (at + 1) set ≡ first.next = cc (gives) in
         let rest = of_more_rows lines took h epochs tag power sats name names (at + 1) set (n + 1) whole (omega (arith, less)) (same_walk lines (n + 1) _ first.next whole next first.others) in
-        record { rows = bytes ∷ rest.rows; after = rest.after; rest = rest.rest; lines_are = ap (λ (l : List (List ℕ)). bytes ∷ l) rest.lines_are; count = omega (arith, rest.count); are = (first.short, (set, says, rest.are)); behind = rest.behind }
+        record {
+          rows = bytes ∷ rest.rows;
+          after = rest.after;
+          rest = rest.rest;
+          lines_are = ap (λ (l : List (List ℕ)). bytes ∷ l) rest.lines_are;
+          count = omega (arith, rest.count);
+          are = (first.short, (set, says, rest.are));
+          behind = rest.behind
+        }
     by_part (Err flaw) says gives = absurd cc
 
-slips_line : (bytes : List ℕ) (lines : List (List ℕ)) → Took lines → (h : Header) (epochs : List Epoch) (k rows n : ℕ) (whole : ObsFile) → walk obs2_rules (bytes ∷ lines) n (Further h epochs (suc k) rows) ≡ Ok whole → TookSlips (bytes ∷ lines) h epochs (suc k) rows whole
+slips_line : (bytes : List ℕ) (lines : List (List ℕ)) → Took lines → (h : Header) (epochs : List Epoch) (k rows n : ℕ) (whole : ObsFile)
+    → walk obs2_rules (bytes ∷ lines) n (Further h epochs (suc k) rows) ≡ Ok whole → TookSlips (bytes ∷ lines) h epochs (suc k) rows whole
 slips_line bytes lines took h epochs k rows n whole gives = by_part (further_mark_of bytes) refl first.admits
   where
     first : TookLine obs2_rules (Further h epochs (suc k) rows) bytes lines n whole
@@ -255,15 +303,24 @@ slips_line bytes lines took h epochs k rows n whole gives = by_part (further_mar
     one_less : suc k - 1 ≡ k
     one_less = omega arith
 
-    by_part : (r : Result (Unit {0}) Flaw) → further_mark_of bytes ≡ r → and_then r (λ u. Ok (more_slips h epochs (suc k - 1) rows)) ≡ Ok first.next → TookSlips (bytes ∷ lines) h epochs (suc k) rows whole
+    by_part : (r : Result (Unit {0}) Flaw) → further_mark_of bytes ≡ r → and_then r (λ u. Ok (more_slips h epochs (suc k - 1) rows)) ≡ Ok first.next
+        → TookSlips (bytes ∷ lines) h epochs (suc k) rows whole
     by_part (Ok u) says gives =
         let next : more_slips h epochs (suc k - 1) rows ≡ first.next = cc (gives) in
         let again = ap (λ (j : ℕ). more_slips h epochs j rows) (sym one_less) ∙ next in
         let rest = of_more_slips lines took h epochs k rows (n + 1) whole (same_walk lines (n + 1) _ first.next whole again first.others) in
-        record { further = bytes ∷ rest.further; rest = rest.rest; lines_are = ap (λ (l : List (List ℕ)). bytes ∷ l) rest.lines_are; count = ap suc rest.count; are = (first.short, says, rest.are); behind = rest.behind }
+        record {
+          further = bytes ∷ rest.further;
+          rest = rest.rest;
+          lines_are = ap (λ (l : List (List ℕ)). bytes ∷ l) rest.lines_are;
+          count = ap suc rest.count;
+          are = (first.short, says, rest.are);
+          behind = rest.behind
+        }
     by_part (Err flaw) says gives = absurd cc
 
-event_line : (bytes : List ℕ) (lines : List (List ℕ)) → Took lines → (h : Header) (epochs : List Epoch) (changes : Bool) (k n : ℕ) (whole : ObsFile) → walk obs2_rules (bytes ∷ lines) n (Skip h epochs changes (suc k)) ≡ Ok whole → TookLines (bytes ∷ lines) h epochs changes (suc k) whole
+event_line : (bytes : List ℕ) (lines : List (List ℕ)) → Took lines → (h : Header) (epochs : List Epoch) (changes : Bool) (k n : ℕ) (whole : ObsFile)
+    → walk obs2_rules (bytes ∷ lines) n (Skip h epochs changes (suc k)) ≡ Ok whole → TookLines (bytes ∷ lines) h epochs changes (suc k) whole
 event_line bytes lines took h epochs changes k n whole gives = by_part (event_line_of Rinex2 changes bytes) refl first.admits
   where
     first : TookLine obs2_rules (Skip h epochs changes (suc k)) bytes lines n whole
@@ -272,7 +329,8 @@ event_line bytes lines took h epochs changes k n whole gives = by_part (event_li
     one_less : suc k - 1 ≡ k
     one_less = omega arith
 
-    by_part : (r : Result (Unit {0}) Flaw) → event_line_of Rinex2 changes bytes ≡ r → and_then r (λ u. Ok (more_lines h epochs changes (suc k - 1))) ≡ Ok first.next → TookLines (bytes ∷ lines) h epochs changes (suc k) whole
+    by_part : (r : Result (Unit {0}) Flaw) → event_line_of Rinex2 changes bytes ≡ r
+        → and_then r (λ u. Ok (more_lines h epochs changes (suc k - 1))) ≡ Ok first.next → TookLines (bytes ∷ lines) h epochs changes (suc k) whole
     by_part (Ok u) says gives =
         let next : more_lines h epochs changes (suc k - 1) ≡ first.next = cc (gives) in
         let again = ap (λ (j : ℕ). more_lines h epochs changes j) (sym one_less) ∙ next in

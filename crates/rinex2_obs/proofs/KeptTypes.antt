@@ -25,7 +25,8 @@ kept_done (name ∷ names) k zero none = absurd (omega arith)
 kept_done (name ∷ names) k (suc n) none = kept_done names k n (omega arith)
 
 -- what is listed, kind by kind
-pub listed_is : (kept : List KeptType) (listed : List Bool) → length listed ≡ slot_count → ((i : ℕ) → i < slot_count → get_or listed i false ≡ is_among kept (get_or kept_types i C1C)) → listed ≡ listed_of kept
+pub listed_is : (kept : List KeptType) (listed : List Bool) → length listed ≡ slot_count
+    → ((i : ℕ) → i < slot_count → get_or listed i false ≡ is_among kept (get_or kept_types i C1C)) → listed ≡ listed_of kept
 unfolding listed_of
 listed_is kept listed same each =
     let f : ObsType → Bool = λ kind. is_among kept kind in

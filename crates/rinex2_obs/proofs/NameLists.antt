@@ -8,7 +8,8 @@ use Rattle.rinex2_obs.specs.SatNumbers.{has_number, is_named, AreNames, FitsBehi
 use Rattle.rinex2_obs.specs.SatNames.{name_in, names_from}
 
 -- one more name
-pub names_more : (line : List ℕ) (first n : ℕ) (names : List (Option ℕ)) (name : Option ℕ) → 0 < n → Ok name ≡ name_in line first names → names_from line first n names ≡ names_from line (first + 3) (n - 1) (names ++ name ∷ [])
+pub names_more : (line : List ℕ) (first n : ℕ) (names : List (Option ℕ)) (name : Option ℕ) → 0 < n → Ok name ≡ name_in line first names
+    → names_from line first n names ≡ names_from line (first + 3) (n - 1) (names ++ name ∷ [])
 unfolding names_from
 names_more line first zero names name some is = absurd (omega arith)
 names_more line first (suc n) names name some is =
@@ -58,7 +59,8 @@ not_with : (n : ℕ) (sats : List SatObs) (s : SatObs) → has_satellite n sats 
 not_with n [] s none other = rw other refl
 not_with n (t ∷ sats) s none other = by_first (n == t.number) refl none (λ none. not_with n sats s none other)
   where
-    by_first : (b : Bool) → (n == t.number) ≡ b → (b || has_satellite n sats) ≡ false → (has_satellite n sats ≡ false → has_satellite n (sats ++ s ∷ []) ≡ false) → has_satellite n ((t ∷ sats) ++ s ∷ []) ≡ false
+    by_first : (b : Bool) → (n == t.number) ≡ b → (b || has_satellite n sats) ≡ false
+        → (has_satellite n sats ≡ false → has_satellite n (sats ++ s ∷ []) ≡ false) → has_satellite n ((t ∷ sats) ++ s ∷ []) ≡ false
     by_first true is none again = absurd cc
     by_first false is none again = rw is (again none)
 

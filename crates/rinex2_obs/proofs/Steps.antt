@@ -31,7 +31,8 @@ pub finish_more : (h : HeaderSoFar) (names : List (List ℕ)) (n : ℕ) → fini
 finish_more h names zero = refl
 finish_more h names (suc n) = refl
 
-pub admit_more : (h : HeaderSoFar) (names : List (List ℕ)) (n : ℕ) (bytes : List ℕ) → 0 < n → admit (more_types h names n) bytes ≡ and_then (further_types_of Rinex2 bytes names n) (λ list. Ok (more_types h list.names list.left))
+pub admit_more : (h : HeaderSoFar) (names : List (List ℕ)) (n : ℕ) (bytes : List ℕ) → 0 < n
+    → admit (more_types h names n) bytes ≡ and_then (further_types_of Rinex2 bytes names n) (λ list. Ok (more_types h list.names list.left))
 admit_more h names zero bytes some = absurd (omega arith)
 admit_more h names (suc n) bytes some = refl
 
@@ -42,10 +43,12 @@ types_twice h bytes is = by_types h.types refl is
     by_types None e is = absurd cc
     by_types (Some names) e is = rw e refl
 
-pub types_once : (h : HeaderSoFar) (bytes : List ℕ) → is_some h.types ≡ false → after_header h bytes header.Types ≡ and_then (first_types_of Rinex2 bytes) (λ list. Ok (more_types h list.names list.left))
+pub types_once : (h : HeaderSoFar) (bytes : List ℕ) → is_some h.types ≡ false
+    → after_header h bytes header.Types ≡ and_then (first_types_of Rinex2 bytes) (λ list. Ok (more_types h list.names list.left))
 types_once h bytes is = by_types h.types refl is
   where
-    by_types : (t : Option (List (List ℕ))) → h.types ≡ t → is_some t ≡ false → after_header h bytes header.Types ≡ and_then (first_types_of Rinex2 bytes) (λ list. Ok (more_types h list.names list.left))
+    by_types : (t : Option (List (List ℕ))) → h.types ≡ t → is_some t ≡ false
+        → after_header h bytes header.Types ≡ and_then (first_types_of Rinex2 bytes) (λ list. Ok (more_types h list.names list.left))
     by_types None e is = rw e refl
     by_types (Some names) e is = absurd cc
 
@@ -71,11 +74,13 @@ pub names_all : (h : Header) (epochs : List Epoch) (tag : Tick) (power : Bool) (
 names_all h epochs tag power names zero none = refl
 names_all h epochs tag power names (suc n) none = absurd (omega arith)
 
-pub rows_due : (h : Header) (epochs : List Epoch) (tag : Tick) (power : Bool) (sats : List SatObs) (name : Option ℕ) (names : List (Option ℕ)) (at : ℕ) (values : List (Option Value)) → at < rows_of h.types
+pub rows_due : (h : Header) (epochs : List Epoch) (tag : Tick) (power : Bool) (sats : List SatObs) (name : Option ℕ) (names : List (Option ℕ))
+    (at : ℕ) (values : List (Option Value)) → at < rows_of h.types
     → more_rows h epochs tag power sats name names at values ≡ Row h epochs tag power sats name names at values
 rows_due h epochs tag power sats name names at values less = let test : nat_lt at (rows_of h.types) ≡ true = grind (arith, nat_tests) in rw test refl
 
-pub rows_all : (h : Header) (epochs : List Epoch) (tag : Tick) (power : Bool) (sats : List SatObs) (name : Option ℕ) (names : List (Option ℕ)) (at : ℕ) (values : List (Option Value)) → rows_of h.types ≤ at
+pub rows_all : (h : Header) (epochs : List Epoch) (tag : Tick) (power : Bool) (sats : List SatObs) (name : Option ℕ) (names : List (Option ℕ))
+    (at : ℕ) (values : List (Option Value)) → rows_of h.types ≤ at
     → more_rows h epochs tag power sats name names at values ≡ more_sats h epochs tag power (with_satellite sats name values) names
 rows_all h epochs tag power sats name names at values all = let test : nat_lt at (rows_of h.types) ≡ false = grind (arith, nat_tests) in rw test refl
 
@@ -84,22 +89,28 @@ pub rows_begin : (h : Header) (epochs : List Epoch) (tag : Tick) (power : Bool) 
     → more_sats h epochs tag power sats (name ∷ names) ≡ more_rows h epochs tag power sats name names 0 missing_values
 rows_begin h epochs tag power sats name names = sym (rows_due h epochs tag power sats name names 0 missing_values (omega arith))
 
-pub finish_rows : (h : Header) (epochs : List Epoch) (tag : Tick) (power : Bool) (sats : List SatObs) (name : Option ℕ) (names : List (Option ℕ)) (at : ℕ) (values : List (Option Value)) → at < rows_of h.types
+pub finish_rows : (h : Header) (epochs : List Epoch) (tag : Tick) (power : Bool) (sats : List SatObs) (name : Option ℕ) (names : List (Option ℕ))
+    (at : ℕ) (values : List (Option Value)) → at < rows_of h.types
     → finish (more_rows h epochs tag power sats name names at values) ≡ flawed 1 Truncated
 finish_rows h epochs tag power sats name names at values less = rw (rows_due h epochs tag power sats name names at values less) refl
 
-pub admit_rows : (h : Header) (epochs : List Epoch) (tag : Tick) (power : Bool) (sats : List SatObs) (name : Option ℕ) (names : List (Option ℕ)) (at : ℕ) (values : List (Option Value)) (bytes : List ℕ) → at < rows_of h.types
-    → admit (more_rows h epochs tag power sats name names at values) bytes ≡ and_then (row_of (kept_of h.types) name at bytes values) (λ set. Ok (more_rows h epochs tag power sats name names (at + 1) set))
+pub admit_rows : (h : Header) (epochs : List Epoch) (tag : Tick) (power : Bool) (sats : List SatObs) (name : Option ℕ) (names : List (Option ℕ))
+    (at : ℕ) (values : List (Option Value)) (bytes : List ℕ) → at < rows_of h.types
+    → admit (more_rows h epochs tag power sats name names at values) bytes
+        ≡ and_then (row_of (kept_of h.types) name at bytes values) (λ set. Ok (more_rows h epochs tag power sats name names (at + 1) set))
 admit_rows h epochs tag power sats name names at values bytes less = rw (rows_due h epochs tag power sats name names at values less) refl
 
 -- the same for a satellite of GPS, with the kept types of the header's list
-pub admit_mine : (kept : List KeptType) (h : Header) (epochs : List Epoch) (tag : Tick) (power : Bool) (sats : List SatObs) (number : ℕ) (names : List (Option ℕ)) (at : ℕ) (values : List (Option Value)) (bytes : List ℕ) → kept ≡ kept_of h.types → at < rows_of h.types
-    → admit (more_rows h epochs tag power sats (Some number) names at values) bytes ≡ and_then (values_in Rinex2 at kept bytes values) (λ set. Ok (more_rows h epochs tag power sats (Some number) names (at + 1) set))
+pub admit_mine : (kept : List KeptType) (h : Header) (epochs : List Epoch) (tag : Tick) (power : Bool) (sats : List SatObs) (number : ℕ)
+    (names : List (Option ℕ)) (at : ℕ) (values : List (Option Value)) (bytes : List ℕ) → kept ≡ kept_of h.types → at < rows_of h.types
+    → admit (more_rows h epochs tag power sats (Some number) names at values) bytes
+        ≡ and_then (values_in Rinex2 at kept bytes values) (λ set. Ok (more_rows h epochs tag power sats (Some number) names (at + 1) set))
 unfolding row_of
 admit_mine kept h epochs tag power sats number names at values bytes same less = rw same (admit_rows h epochs tag power sats (Some number) names at values bytes less)
 
 -- and for one of another system
-pub admit_other : (h : Header) (epochs : List Epoch) (tag : Tick) (power : Bool) (sats : List SatObs) (names : List (Option ℕ)) (at : ℕ) (values : List (Option Value)) (bytes : List ℕ) → at < rows_of h.types
+pub admit_other : (h : Header) (epochs : List Epoch) (tag : Tick) (power : Bool) (sats : List SatObs) (names : List (Option ℕ)) (at : ℕ)
+    (values : List (Option Value)) (bytes : List ℕ) → at < rows_of h.types
     → admit (more_rows h epochs tag power sats None names at values) bytes ≡ Ok (more_rows h epochs tag power sats None names (at + 1) values)
 unfolding row_of
 admit_other h epochs tag power sats names at values bytes less = admit_rows h epochs tag power sats None names at values bytes less
@@ -115,7 +126,8 @@ pub finish_lines : (h : Header) (epochs : List Epoch) (changes : Bool) (n : ℕ)
 finish_lines h epochs changes zero some = absurd (omega arith)
 finish_lines h epochs changes (suc n) some = refl
 
-pub admit_lines : (h : Header) (epochs : List Epoch) (changes : Bool) (n : ℕ) (bytes : List ℕ) → 0 < n → admit (more_lines h epochs changes n) bytes ≡ and_then (event_line_of Rinex2 changes bytes) (λ u. Ok (more_lines h epochs changes (n - 1)))
+pub admit_lines : (h : Header) (epochs : List Epoch) (changes : Bool) (n : ℕ) (bytes : List ℕ) → 0 < n
+    → admit (more_lines h epochs changes n) bytes ≡ and_then (event_line_of Rinex2 changes bytes) (λ u. Ok (more_lines h epochs changes (n - 1)))
 admit_lines h epochs changes zero bytes some = absurd (omega arith)
 admit_lines h epochs changes (suc n) bytes some = refl
 
@@ -128,7 +140,8 @@ pub finish_slips : (h : Header) (epochs : List Epoch) (n rows : ℕ) → 0 < n �
 finish_slips h epochs zero rows some = absurd (omega arith)
 finish_slips h epochs (suc n) rows some = refl
 
-pub admit_slips : (h : Header) (epochs : List Epoch) (n rows : ℕ) (bytes : List ℕ) → 0 < n → admit (more_slips h epochs n rows) bytes ≡ and_then (further_mark_of bytes) (λ u. Ok (more_slips h epochs (n - 1) rows))
+pub admit_slips : (h : Header) (epochs : List Epoch) (n rows : ℕ) (bytes : List ℕ) → 0 < n
+    → admit (more_slips h epochs n rows) bytes ≡ and_then (further_mark_of bytes) (λ u. Ok (more_slips h epochs (n - 1) rows))
 admit_slips h epochs zero rows bytes some = absurd (omega arith)
 admit_slips h epochs (suc n) rows bytes some = refl
 

@@ -38,8 +38,18 @@ unfolding walk
 walk-stops rules s n [] at e = record { front = []; rest = []; split = refl; last = s; reach = λ more. rw add-zero refl; fails = rw add-zero e }
 walk-stops {S} {F} rules s n (line ∷ lines) at e = by_first (λ next. walk-stops rules next (n + 1) lines at) (admitted rules s line) refl e
   where
-    by_first : ((next : S) → walk rules lines (n + 1) next ≡ Err at → Stops rules next (n + 1) lines at) → (r : Result S Flaw) → admitted rules s line ≡ r → and_then (at_line (n + 1) r) (λ next. walk rules lines (n + 1) next) ≡ Err at → Stops rules s n (line ∷ lines) at
-    by_first again (Err flaw) is gives = let same : place (n + 1) flaw.column flaw.what ≡ at = cc (gives) in record { front = []; rest = line ∷ lines; split = refl; last = s; reach = λ more. rw add-zero refl; fails = rw (add-zero, is) (ap (λ (a : At). Err a) same) }
+    by_first : ((next : S) → walk rules lines (n + 1) next ≡ Err at → Stops rules next (n + 1) lines at) → (r : Result S Flaw) → admitted rules s line ≡ r
+        → and_then (at_line (n + 1) r) (λ next. walk rules lines (n + 1) next) ≡ Err at → Stops rules s n (line ∷ lines) at
+    by_first again (Err flaw) is gives =
+        let same : place (n + 1) flaw.column flaw.what ≡ at = cc (gives) in
+        record {
+          front = [];
+          rest = line ∷ lines;
+          split = refl;
+          last = s;
+          reach = λ more. rw add-zero refl;
+          fails = rw (add-zero, is) (ap (λ (a : At). Err a) same)
+        }
     by_first again (Ok next) is gives =
         let later = again next gives in
         let more_by_one : n + length (line ∷ later.front) ≡ n + 1 + length later.front = omega arith in
@@ -71,7 +81,10 @@ pub with_end : {S F : Type 0} (rules : Rules S F) (s : S) (whole : F) → rules.
 unfolding walk
 with_end rules s whole is = record { more = []; whole = whole; gives = λ n. rw is refl }
 
-stuck_here : {S F : Type 0} (rules : Rules S F) (IsFile : List (List ℕ) → Type 0) → ((lines : List (List ℕ)) → IsFile lines → IsFileOf rules lines) → (s : S) (front rest : List (List ℕ)) (at : At) → ((more : List (List ℕ)) → walk rules (front ++ more) 0 rules.start ≡ walk rules more (0 + length front) s) → FailsHere rules s (0 + length front) rest at → IsStuck IsFile front rest
+stuck_here : {S F : Type 0} (rules : Rules S F) (IsFile : List (List ℕ) → Type 0) → ((lines : List (List ℕ)) → IsFile lines → IsFileOf rules lines)
+    → (s : S) (front rest : List (List ℕ)) (at : At)
+    → ((more : List (List ℕ)) → walk rules (front ++ more) 0 rules.start ≡ walk rules more (0 + length front) s)
+    → FailsHere rules s (0 + length front) rest at → IsStuck IsFile front rest
 unfolding walk
 stuck_here {S} {F} rules IsFile to s front [] at reach fails = λ is.
     let given = to front is in

@@ -16,29 +16,37 @@ pub short_admitted : {S F : Type 0} (rules : Rules S F) (s : S) (line : List ℕ
 short_admitted rules s line short = let e : nat_lt 4096 (length line) ≡ false = grind (arith, nat_tests) in rw e refl
 
 -- the line is admitted
-pub takes : {S F : Type 0} (rules : Rules S F) (s next : S) (old new : Reading) (number : ℕ) (line : List ℕ) → GivesLine old new number line → rules.admit s line ≡ Ok next → rest_gives rules old s ≡ rest_gives rules new next
+pub takes : {S F : Type 0} (rules : Rules S F) (s next : S) (old new : Reading) (number : ℕ) (line : List ℕ) → GivesLine old new number line
+    → rules.admit s line ≡ Ok next → rest_gives rules old s ≡ rest_gives rules new next
 unfolding walk
 takes rules s next old new number line gives is =
     rw (gives.next, gives.counted, gives.numbered, short_admitted rules s line gives.short, is) refl
 
 -- the line is refused
-pub refuses : {S F : Type 0} (rules : Rules S F) (s : S) (flaw : Flaw) (old new : Reading) (number : ℕ) (line : List ℕ) → GivesLine old new number line → rules.admit s line ≡ Err flaw → rest_gives rules old s ≡ Err (place number flaw.column flaw.what)
+pub refuses : {S F : Type 0} (rules : Rules S F) (s : S) (flaw : Flaw) (old new : Reading) (number : ℕ) (line : List ℕ)
+    → GivesLine old new number line → rules.admit s line ≡ Err flaw → rest_gives rules old s ≡ Err (place number flaw.column flaw.what)
 unfolding walk
 refuses rules s flaw old new number line gives is =
     rw (gives.next, gives.numbered, short_admitted rules s line gives.short, is) refl
 
 -- the line is read by a part, which gives x, and behind it next is expected
-pub goes_on : {S F X : Type 0} (rules : Rules S F) (s next : S) (part : Result X Flaw) (f : X → Result S Flaw) (x : X) (old new : Reading) (number : ℕ) (line : List ℕ) → GivesLine old new number line → rules.admit s line ≡ and_then part f → Ok x ≡ part → f x ≡ Ok next → rest_gives rules old s ≡ rest_gives rules new next
+pub goes_on :
+    {S F X : Type 0} (rules : Rules S F) (s next : S) (part : Result X Flaw) (f : X → Result S Flaw) (x : X) (old new : Reading) (number : ℕ) (line : List ℕ)
+    → GivesLine old new number line → rules.admit s line ≡ and_then part f → Ok x ≡ part → f x ≡ Ok next → rest_gives rules old s ≡ rest_gives rules new next
 goes_on rules s next part f x old new number line gives is answer then_is =
     takes rules s next old new number line gives (is ∙ rw (← answer) then_is)
 
 -- the part gives x, and x has a flaw here
-pub stops_after : {S F X : Type 0} (rules : Rules S F) (s : S) (part : Result X Flaw) (f : X → Result S Flaw) (x : X) (flaw : Flaw) (old new : Reading) (number : ℕ) (line : List ℕ) → GivesLine old new number line → rules.admit s line ≡ and_then part f → Ok x ≡ part → f x ≡ Err flaw → rest_gives rules old s ≡ Err (place number flaw.column flaw.what)
+pub stops_after : {S F X : Type 0} (rules : Rules S F) (s : S) (part : Result X Flaw) (f : X
+      → Result S Flaw) (x : X) (flaw : Flaw) (old new : Reading) (number : ℕ) (line : List ℕ) → GivesLine old new number line
+    → rules.admit s line ≡ and_then part f → Ok x ≡ part → f x ≡ Err flaw → rest_gives rules old s ≡ Err (place number flaw.column flaw.what)
 stops_after rules s part f x flaw old new number line gives is answer then_is =
     refuses rules s flaw old new number line gives (is ∙ rw (← answer) then_is)
 
 -- the part finds a flaw
-pub stops : {S F X : Type 0} (rules : Rules S F) (s : S) (part : Result X Flaw) (f : X → Result S Flaw) (flaw : Flaw) (old new : Reading) (number : ℕ) (line : List ℕ) → GivesLine old new number line → rules.admit s line ≡ and_then part f → Err flaw ≡ part → rest_gives rules old s ≡ Err (place number flaw.column flaw.what)
+pub stops :
+    {S F X : Type 0} (rules : Rules S F) (s : S) (part : Result X Flaw) (f : X → Result S Flaw) (flaw : Flaw) (old new : Reading) (number : ℕ) (line : List ℕ)
+    → GivesLine old new number line → rules.admit s line ≡ and_then part f → Err flaw ≡ part → rest_gives rules old s ≡ Err (place number flaw.column flaw.what)
 stops rules s part f flaw old new number line gives is answer =
     refuses rules s flaw old new number line gives (is ∙ rw (← answer) refl)
 
@@ -70,13 +78,15 @@ pub has_long : {S F : Type 0} (rules : Rules S F) (s : S) (old new : Reading) (a
 has_long rules s old new at long = rw (long.2) (stops_long rules s old new long.0 long.1)
 
 -- there is no line, and one is expected
-pub has_none : {S F : Type 0} (rules : Rules S F) (s : S) (old new : Reading) (missing : What) (at : At) → rules.finish s ≡ flawed 1 missing → HasNoLine old new missing at → rest_gives rules old s ≡ Err at
+pub has_none : {S F : Type 0} (rules : Rules S F) (s : S) (old new : Reading) (missing : What) (at : At) → rules.finish s ≡ flawed 1 missing
+    → HasNoLine old new missing at → rest_gives rules old s ≡ Err at
 unfolding walk
 has_none rules s old new missing at is (inl long) = has_long rules s old new at long
 has_none rules s old new missing at is (inr ended) = rw (ended.1, ended.0.none, is) refl
 
 -- the text ends where it may not
-pub ends_badly : {S F : Type 0} (rules : Rules S F) (s : S) (flaw : Flaw) (old new : Reading) (number : ℕ) → IsAtEnd old new → rules.finish s ≡ Err flaw → number ≡ new.given + 1 → rest_gives rules old s ≡ Err (place number flaw.column flaw.what)
+pub ends_badly : {S F : Type 0} (rules : Rules S F) (s : S) (flaw : Flaw) (old new : Reading) (number : ℕ) → IsAtEnd old new
+    → rules.finish s ≡ Err flaw → number ≡ new.given + 1 → rest_gives rules old s ≡ Err (place number flaw.column flaw.what)
 unfolding walk
 ends_badly rules s flaw old new number ended is numbered =
     let same : new.given ≡ old.given = ap (λ (r : Reading). r.given) ended.same in
@@ -102,7 +112,8 @@ pub gives_less : (old new : Reading) (number : ℕ) (line : List ℕ) → GivesL
 gives_less old new number line gives = let e = ap length gives.next in omega (arith, e)
 
 -- the same of the lines themselves
-pub walk-takes : {S F : Type 0} (rules : Rules S F) (s next : S) (line : List ℕ) (lines : List (List ℕ)) (n : ℕ) → length line ≤ 4096 → rules.admit s line ≡ Ok next → walk rules (line ∷ lines) n s ≡ walk rules lines (n + 1) next
+pub walk-takes : {S F : Type 0} (rules : Rules S F) (s next : S) (line : List ℕ) (lines : List (List ℕ)) (n : ℕ) → length line ≤ 4096
+    → rules.admit s line ≡ Ok next → walk rules (line ∷ lines) n s ≡ walk rules lines (n + 1) next
 unfolding walk
 walk-takes rules s next line lines n short is = rw (short_admitted rules s line short, is) refl
 
@@ -125,6 +136,8 @@ walk-took {S} {F} rules s line lines n whole e = by_length (nat_lt 4096 (length 
     by_admit (Ok next) is short gives = record { next = next; short = short; admits = is; others = gives }
     by_admit (Err flaw) is short gives = absurd cc
 
-    by_length : (t : Bool) → nat_lt 4096 (length line) ≡ t → and_then (at_line (n + 1) (if t then flawed 1 LongLine else rules.admit s line)) (λ next. walk rules lines (n + 1) next) ≡ Ok whole → TookLine rules s line lines n whole
+    by_length : (t : Bool) → nat_lt 4096 (length line) ≡ t
+        → and_then (at_line (n + 1) (if t then flawed 1 LongLine else rules.admit s line)) (λ next. walk rules lines (n + 1) next) ≡ Ok whole
+        → TookLine rules s line lines n whole
     by_length true test gives = absurd cc
     by_length false test gives = by_admit (rules.admit s line) refl (grind (arith, nat_tests)) gives

@@ -59,7 +59,8 @@ module _ (system : System) where
 
   zero_says : (place : ℕ) → continuation_of place zero_line ≡ Ok zeros
   unfolding continuation_of quad_in
-  zero_says place = rw (zero_if (reads_first place) 5 zero_first, zero_if (reads_second place) 24 zero_second, zero_if (reads_third place) 43 zero_third, zero_if (reads_fourth place) 62 zero_fourth) refl
+  zero_says place = rw (zero_if (reads_first place) 5 zero_first, zero_if (reads_second place) 24 zero_second,
+        zero_if (reads_third place) 43 zero_third, zero_if (reads_fourth place) 62 zero_fourth) refl
 
   -- so many further lines are read: another one is expected, or the record is whole
   abbrev Behind : List Raw → Start → List Quad → Type 0
@@ -78,9 +79,11 @@ module _ (system : System) where
   takes_zeros : (raws : List Raw) (s : Start) (quads : List Quad) → admit system (Further raws s quads) zero_line ≡ Ok (behind raws s (quads ++ zeros ∷ []))
   takes_zeros raws s quads = rw (zero_says (length quads)) refl
 
-  by_count : (raws : List Raw) (s : Start) (quads : List Quad) → Behind raws s quads → (length quads < 7 → Completes (nav_rules system) (behind raws s (quads ++ zeros ∷ []))) → Completes (nav_rules system) (behind raws s quads)
+  by_count : (raws : List Raw) (s : Start) (quads : List Quad) → Behind raws s quads
+      → (length quads < 7 → Completes (nav_rules system) (behind raws s (quads ++ zeros ∷ []))) → Completes (nav_rules system) (behind raws s quads)
   by_count raws s quads (inl is) again =
-      subst (λ (e : Expected). Completes (nav_rules system) e) (sym is.1) (with_line (nav_rules system) (Further raws s quads) (behind raws s (quads ++ zeros ∷ [])) zero_line (lit≤ tt) (takes_zeros raws s quads) (again is.0))
+      subst (λ (e : Expected). Completes (nav_rules system) e) (sym is.1) (with_line (nav_rules system) (Further raws s quads)
+            (behind raws s (quads ++ zeros ∷ [])) zero_line (lit≤ tt) (takes_zeros raws s quads) (again is.0))
   by_count raws s quads (inr is) again = subst (λ (e : Expected). Completes (nav_rules system) e) (sym is.1) (body_done (raws ++ is.0 ∷ []) false)
 
   further_done : (due : ℕ) (raws : List Raw) (s : Start) (quads : List Quad) → 7 ≤ length quads + due → Completes (nav_rules system) (behind raws s quads)
@@ -116,7 +119,8 @@ module _ (system : System) where
       with_line (nav_rules system) First Head version_line (lit≤ tt) admits head_done
   completed Head = head_done
   completed (Body raws skipping) = body_done raws skipping
-  completed (Further raws s quads) = with_line (nav_rules system) (Further raws s quads) (behind raws s (quads ++ zeros ∷ [])) zero_line (lit≤ tt) (takes_zeros raws s quads) (further_done 7 raws s (quads ++ zeros ∷ []) (omega arith))
+  completed (Further raws s quads) = with_line (nav_rules system) (Further raws s quads) (behind raws s (quads ++ zeros ∷ [])) zero_line (lit≤ tt)
+      (takes_zeros raws s quads) (further_done 7 raws s (quads ++ zeros ∷ []) (omega arith))
 
   -- ---- the answers of the reader
 
@@ -132,6 +136,7 @@ module _ (system : System) where
   ok_exit lines (Err fault) given = tt
 
   -- a text has at most one list of records
-  pub only_exit : (lines : List (List ℕ)) (r : Result Records TextFault) → Gives (text_gives (nav_rules system) lines) (λ file. file.all) r → IfOk r (λ file. (other : List Raw) → IsNavFile system lines other → other ≡ file.all)
+  pub only_exit : (lines : List (List ℕ)) (r : Result Records TextFault) → Gives (text_gives (nav_rules system) lines) (λ file. file.all) r
+      → IfOk r (λ file. (other : List Raw) → IsNavFile system lines other → other ≡ file.all)
   only_exit lines (Ok file) given = λ other is. let same : Ok other ≡ Ok (file.all) = sym (file_given system lines other is) ∙ given in cc (same)
   only_exit lines (Err fault) given = tt

@@ -102,7 +102,8 @@ module _ (system : System) where
       by_pass true is blank e = let same : line.Passed ≡ l = cc (e) in subst (λ (k : BodyLine). Says count skipping bytes k) same (blank, is)
       by_pass false is blank e = absurd cc
 
-      by_room : (t : Bool) → nat_le 4096 count ≡ t → column bytes 1 ≡ letter_of system → (if t then flawed 1 TooMany else and_then (start_in system bytes) (λ s. Ok (line.Record s))) ≡ Ok l → Says count skipping bytes l
+      by_room : (t : Bool) → nat_le 4096 count ≡ t → column bytes 1 ≡ letter_of system
+          → (if t then flawed 1 TooMany else and_then (start_in system bytes) (λ s. Ok (line.Record s))) ≡ Ok l → Says count skipping bytes l
       by_room true is letter e = absurd cc
       by_room false is letter e =
           let s = and_then_took (start_in system bytes) (λ s. Ok (line.Record s)) l e in
@@ -117,7 +118,8 @@ module _ (system : System) where
           let same : line.Other ≡ l = cc (e) in
           subst (λ (k : BodyLine). Says count skipping bytes k) same (begins, other)
 
-      by_blank : (t : Bool) → (column bytes 1 == 32) ≡ t → (if t then (if skipping || are_blank bytes then Ok line.Passed else flawed 1 BadField) else (if column bytes 1 == letter_of system then record_line_of system count bytes else Ok line.Other)) ≡ Ok l → Says count skipping bytes l
+      by_blank : (t : Bool) → (column bytes 1 == 32) ≡ t → (if t then (if skipping || are_blank bytes then Ok line.Passed else flawed 1 BadField)
+            else (if column bytes 1 == letter_of system then record_line_of system count bytes else Ok line.Other)) ≡ Ok l → Says count skipping bytes l
       by_blank true is e = by_pass (skipping || are_blank bytes) refl (grind (arith, nat_tests)) e
       by_blank false is e = by_letter (column bytes 1 == letter_of system) refl (grind (arith, nat_tests)) e
 
@@ -132,7 +134,8 @@ module _ (system : System) where
     says : continuation_of (length quads) bytes ≡ Ok quad
     gives : walk (nav_rules system) rest (n + 1) (behind raws s (quads ++ quad ∷ [])) ≡ Ok whole
 
-  further_took : (lines : List (List ℕ)) (raws : List Raw) (s : Start) (quads : List Quad) (n : ℕ) (whole : List Raw) → walk (nav_rules system) lines n (Further raws s quads) ≡ Ok whole → TookFurther lines raws s quads n whole
+  further_took : (lines : List (List ℕ)) (raws : List Raw) (s : Start) (quads : List Quad) (n : ℕ) (whole : List Raw)
+      → walk (nav_rules system) lines n (Further raws s quads) ≡ Ok whole → TookFurther lines raws s quads n whole
   further_took [] raws s quads n whole gives = absurd (no_file n Truncated whole (sym (walk-end (nav_rules system) (Further raws s quads) n) ∙ gives))
   further_took (bytes ∷ lines) raws s quads n whole gives =
       let first = walk-took (nav_rules system) (Further raws s quads) bytes lines n whole gives in
@@ -147,7 +150,8 @@ module _ (system : System) where
       }
 
   -- seven lines, one behind the other
-  joined : {a b c d e f g : List ℕ} {l0 l1 l2 l3 l4 l5 l6 l7 : List (List ℕ)} → l0 ≡ a ∷ l1 → l1 ≡ b ∷ l2 → l2 ≡ c ∷ l3 → l3 ≡ d ∷ l4 → l4 ≡ e ∷ l5 → l5 ≡ f ∷ l6 → l6 ≡ g ∷ l7 → l0 ≡ a ∷ b ∷ c ∷ d ∷ e ∷ f ∷ g ∷ l7
+  joined : {a b c d e f g : List ℕ} {l0 l1 l2 l3 l4 l5 l6 l7 : List (List ℕ)} → l0 ≡ a ∷ l1 → l1 ≡ b ∷ l2 → l2 ≡ c ∷ l3 → l3 ≡ d ∷ l4 → l4 ≡ e ∷ l5
+      → l5 ≡ f ∷ l6 → l6 ≡ g ∷ l7 → l0 ≡ a ∷ b ∷ c ∷ d ∷ e ∷ f ∷ g ∷ l7
   joined p q r s t u v = cc
 
   record TookRecord (first : List ℕ) (lines : List (List ℕ)) (raws : List Raw) (whole : List Raw) : Type 0 where
@@ -186,7 +190,11 @@ module _ (system : System) where
         lines_are = ap (λ (l : List (List ℕ)). first ∷ l) (joined t2.lines_are t3.lines_are t4.lines_are t5.lines_are t6.lines_are t7.lines_are t8.lines_are);
         is = record {
           letter = letter;
-          behind = All-cons IsFurther t2.bytes (t3.bytes ∷ t4.bytes ∷ t5.bytes ∷ t6.bytes ∷ t7.bytes ∷ t8.bytes ∷ []) l2.blank (All-cons IsFurther t3.bytes (t4.bytes ∷ t5.bytes ∷ t6.bytes ∷ t7.bytes ∷ t8.bytes ∷ []) l3.blank (All-cons IsFurther t4.bytes (t5.bytes ∷ t6.bytes ∷ t7.bytes ∷ t8.bytes ∷ []) l4.blank (All-cons IsFurther t5.bytes (t6.bytes ∷ t7.bytes ∷ t8.bytes ∷ []) l5.blank (All-cons IsFurther t6.bytes (t7.bytes ∷ t8.bytes ∷ []) l6.blank (All-cons IsFurther t7.bytes (t8.bytes ∷ []) l7.blank (All-cons IsFurther t8.bytes ([]) l8.blank (All-nil IsFurther)))))));
+          behind = All-cons IsFurther t2.bytes (t3.bytes ∷ t4.bytes ∷ t5.bytes ∷ t6.bytes ∷ t7.bytes ∷ t8.bytes ∷ []) l2.blank
+              (All-cons IsFurther t3.bytes (t4.bytes ∷ t5.bytes ∷ t6.bytes ∷ t7.bytes ∷ t8.bytes ∷ []) l3.blank
+                (All-cons IsFurther t4.bytes (t5.bytes ∷ t6.bytes ∷ t7.bytes ∷ t8.bytes ∷ []) l4.blank
+                  (All-cons IsFurther t5.bytes (t6.bytes ∷ t7.bytes ∷ t8.bytes ∷ []) l5.blank (All-cons IsFurther t6.bytes (t7.bytes ∷ t8.bytes ∷ []) l6.blank
+                      (All-cons IsFurther t7.bytes (t8.bytes ∷ []) l7.blank (All-cons IsFurther t8.bytes ([]) l8.blank (All-nil IsFurther)))))));
           sat = l1.sat;
           toc = l1.toc;
           af0 = l1.af0;
@@ -211,12 +219,15 @@ module _ (system : System) where
           week = l6.third;
           health = l7.second;
         };
-        shorter = omega (arith, ap (λ (l : List (List ℕ)). length l) t2.lines_are, ap (λ (l : List (List ℕ)). length l) t3.lines_are, ap (λ (l : List (List ℕ)). length l) t4.lines_are, ap (λ (l : List (List ℕ)). length l) t5.lines_are, ap (λ (l : List (List ℕ)). length l) t6.lines_are, ap (λ (l : List (List ℕ)). length l) t7.lines_are, ap (λ (l : List (List ℕ)). length l) t8.lines_are);
+        shorter = omega (arith, ap (λ (l : List (List ℕ)). length l) t2.lines_are, ap (λ (l : List (List ℕ)). length l) t3.lines_are,
+              ap (λ (l : List (List ℕ)). length l) t4.lines_are, ap (λ (l : List (List ℕ)). length l) t5.lines_are, ap (λ (l : List (List ℕ)). length l)
+              t6.lines_are, ap (λ (l : List (List ℕ)). length l) t7.lines_are, ap (λ (l : List (List ℕ)). length l) t8.lines_are);
         number = n + 1 + 1 + 1 + 1 + 1 + 1 + 1;
         gives = t8.gives;
       }
 
-  record_took : (first : List ℕ) (lines : List (List ℕ)) (raws : List Raw) (s : Start) (n : ℕ) (whole : List Raw) → column first 1 ≡ letter_of system → start_in system first ≡ Ok s → walk (nav_rules system) lines n (Further raws s []) ≡ Ok whole → TookRecord first lines raws whole
+  record_took : (first : List ℕ) (lines : List (List ℕ)) (raws : List Raw) (s : Start) (n : ℕ) (whole : List Raw) → column first 1 ≡ letter_of system
+      → start_in system first ≡ Ok s → walk (nav_rules system) lines n (Further raws s []) ≡ Ok whole → TookRecord first lines raws whole
   record_took first lines raws s n whole letter starts gives =
       let t2 = further_took lines raws s [] n whole gives in
       let t3 = further_took t2.rest raws s (t2.quad ∷ []) (n + 1) whole t2.gives in
@@ -255,7 +266,8 @@ module _ (system : System) where
   begins_anew : (lines : List (List ℕ)) (raws whole : List Raw) → TookBody lines raws whole → TookOther lines raws whole
   begins_anew lines raws whole t = record { further = []; parts = t.parts; lines_are = t.lines_are; behind = All-nil IsFurther; are = t.are; whole_is = t.whole_is; few = t.few }
 
-  other_took : (first : List ℕ) (lines : List (List ℕ)) (raws : List Raw) (n : ℕ) (whole : List Raw) → Took lines → column first 1 ≢ 32 → column first 1 ≢ letter_of system → walk (nav_rules system) lines n (Body raws true) ≡ Ok whole → TookBody (first ∷ lines) raws whole
+  other_took : (first : List ℕ) (lines : List (List ℕ)) (raws : List Raw) (n : ℕ) (whole : List Raw) → Took lines → column first 1 ≢ 32
+      → column first 1 ≢ letter_of system → walk (nav_rules system) lines n (Body raws true) ≡ Ok whole → TookBody (first ∷ lines) raws whole
   other_took first lines raws n whole took begins other gives =
       let rest = took.other raws n whole gives in
       record {
@@ -266,7 +278,9 @@ module _ (system : System) where
         few = rest.few;
       }
 
-  gps_took : (first : List ℕ) (lines : List (List ℕ)) (raws : List Raw) (s : Start) (n : ℕ) (whole : List Raw) → ((rest : List (List ℕ)) → length rest ≤ length lines → Took rest) → column first 1 ≡ letter_of system → length raws < 4096 → start_in system first ≡ Ok s
+  gps_took : (first : List ℕ) (lines : List (List ℕ)) (raws : List Raw) (s : Start) (n : ℕ) (whole : List Raw)
+      → ((rest : List (List ℕ)) → length rest ≤ length lines → Took rest) → column first 1 ≡ letter_of system → length raws < 4096
+      → start_in system first ≡ Ok s
       → walk (nav_rules system) lines n (Further raws s []) ≡ Ok whole → TookBody (first ∷ lines) raws whole
   gps_took first lines raws s n whole again letter room starts gives =
       let t = record_took first lines raws s n whole letter starts gives in
@@ -281,7 +295,9 @@ module _ (system : System) where
         few = λ le. rest.few (omega arith);
       }
 
-  body_line : (first : List ℕ) (lines : List (List ℕ)) → ((rest : List (List ℕ)) → length rest ≤ length lines → Took rest) → (raws : List Raw) (n : ℕ) (whole : List Raw) → walk (nav_rules system) (first ∷ lines) n (Body raws false) ≡ Ok whole → TookBody (first ∷ lines) raws whole
+  body_line : (first : List ℕ) (lines : List (List ℕ)) → ((rest : List (List ℕ)) → length rest ≤ length lines → Took rest)
+      → (raws : List Raw) (n : ℕ) (whole : List Raw) → walk (nav_rules system) (first ∷ lines) n (Body raws false) ≡ Ok whole
+      → TookBody (first ∷ lines) raws whole
   body_line first lines again raws n whole gives = by_line l.0 (said (length raws) false first l.0 l.1) l.2
     where
       t : TookLine (nav_rules system) (Body raws false) first lines n whole
@@ -296,11 +312,19 @@ module _ (system : System) where
       by_line : (b : BodyLine) → Says (length raws) false first b → after_body raws false b ≡ t.next → TookBody (first ∷ lines) raws whole
       by_line line.Passed says next =
           let rest = (again lines (omega arith)).body raws (n + 1) whole (others (Body raws false) next) in
-          record { parts = Blank first ∷ rest.parts; lines_are = ap (λ (l : List (List ℕ)). first ∷ l) rest.lines_are; are = All-cons (IsPart system) (Blank first) rest.parts says.1 rest.are; whole_is = rest.whole_is; few = rest.few }
+          record {
+            parts = Blank first ∷ rest.parts;
+            lines_are = ap (λ (l : List (List ℕ)). first ∷ l) rest.lines_are;
+            are = All-cons (IsPart system) (Blank first) rest.parts says.1 rest.are;
+            whole_is = rest.whole_is;
+            few = rest.few
+          }
       by_line line.Other says next = other_took first lines raws (n + 1) whole (again lines (omega arith)) says.0 says.1 (others (Body raws true) next)
       by_line (line.Record s) says next = gps_took first lines raws s (n + 1) whole again says.0 says.1 says.2 (others (Further raws s []) next)
 
-  other_line : (first : List ℕ) (lines : List (List ℕ)) → ((rest : List (List ℕ)) → length rest ≤ length lines → Took rest) → (raws : List Raw) (n : ℕ) (whole : List Raw) → walk (nav_rules system) (first ∷ lines) n (Body raws true) ≡ Ok whole → TookOther (first ∷ lines) raws whole
+  other_line : (first : List ℕ) (lines : List (List ℕ)) → ((rest : List (List ℕ)) → length rest ≤ length lines → Took rest)
+      → (raws : List Raw) (n : ℕ) (whole : List Raw) → walk (nav_rules system) (first ∷ lines) n (Body raws true) ≡ Ok whole
+      → TookOther (first ∷ lines) raws whole
   other_line first lines again raws n whole gives = by_line l.0 (said (length raws) true first l.0 l.1) l.2
     where
       t : TookLine (nav_rules system) (Body raws true) first lines n whole
@@ -315,7 +339,15 @@ module _ (system : System) where
       by_line : (b : BodyLine) → Says (length raws) true first b → after_body raws true b ≡ t.next → TookOther (first ∷ lines) raws whole
       by_line line.Passed says next =
           let rest = (again lines (omega arith)).other raws (n + 1) whole (others (Body raws true) next) in
-          record { further = first ∷ rest.further; parts = rest.parts; lines_are = ap (λ (l : List (List ℕ)). first ∷ l) rest.lines_are; behind = All-cons IsFurther first rest.further says.0 rest.behind; are = rest.are; whole_is = rest.whole_is; few = rest.few }
+          record {
+            further = first ∷ rest.further;
+            parts = rest.parts;
+            lines_are = ap (λ (l : List (List ℕ)). first ∷ l) rest.lines_are;
+            behind = All-cons IsFurther first rest.further says.0 rest.behind;
+            are = rest.are;
+            whole_is = rest.whole_is;
+            few = rest.few
+          }
       by_line line.Other says next = begins_anew (first ∷ lines) raws whole (other_took first lines raws (n + 1) whole (again lines (omega arith)) says.0 says.1 (others (Body raws true) next))
       by_line (line.Record s) says next = begins_anew (first ∷ lines) raws whole (gps_took first lines raws s (n + 1) whole again says.0 says.1 says.2 (others (Further raws s []) next))
 
@@ -383,7 +415,8 @@ module _ (system : System) where
         header = bytes ∷ (head.between ++ head.last ∷ []);
         parts = body.parts;
         short = walk-short (nav_rules system) (bytes ∷ lines) 0 First records gives;
-        lines_are = ap (λ (l : List (List ℕ)). bytes ∷ l) (head.lines_are ∙ ap (λ (l : List (List ℕ)). head.between ++ head.last ∷ l) body.lines_are) ∙ sym (regroup system bytes head.between head.last (body_lines body.parts));
+        lines_are = ap (λ (l : List (List ℕ)). bytes ∷ l) (head.lines_are ∙ ap (λ (l : List (List ℕ)). head.between ++ head.last ∷ l) body.lines_are)
+            ∙ sym (regroup system bytes head.between head.last (body_lines body.parts));
         is_header = record { first = bytes; between = head.between; last = head.last; lines_are = refl; version = version.1; goes_on = head.goes_on; ends = head.ends };
         are_parts = body.are;
         records_are = body.whole_is;

@@ -18,7 +18,8 @@ pub sats_due : (h : Header) (epochs : List Epoch) (tag : Tick) (power : Bool) (s
 sats_due h epochs tag power sats zero some = absurd (omega arith)
 sats_due h epochs tag power sats (suc n) some = refl
 
-pub sats_all : (h : Header) (epochs : List Epoch) (tag : Tick) (power : Bool) (sats : List SatObs) (n : ℕ) → n ≡ 0 → more_sats h epochs tag power sats n ≡ Body h (epochs ++ epoch_of tag power sats ∷ [])
+pub sats_all : (h : Header) (epochs : List Epoch) (tag : Tick) (power : Bool) (sats : List SatObs) (n : ℕ) → n ≡ 0
+    → more_sats h epochs tag power sats n ≡ Body h (epochs ++ epoch_of tag power sats ∷ [])
 sats_all h epochs tag power sats zero none = refl
 sats_all h epochs tag power sats (suc n) none = absurd (omega arith)
 

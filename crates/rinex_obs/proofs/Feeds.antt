@@ -101,22 +101,28 @@ module _ (system : System) where
 
   -- ---- one more line
 
-  pub gives_step : (n : ℕ) (line bytes front behind : List ℕ) (s next : Expected) → EndsLine bytes front behind → admitted (obs_rules system) s (strip_carriage_return (line ++ front)) ≡ Ok next → (more : List ℕ) → gives_with system n line s (bytes ++ more) ≡ gives_with system (n + 1) [] next (behind ++ more)
+  pub gives_step : (n : ℕ) (line bytes front behind : List ℕ) (s next : Expected) → EndsLine bytes front behind
+      → admitted (obs_rules system) s (strip_carriage_return (line ++ front)) ≡ Ok next → (more : List ℕ)
+      → gives_with system n line s (bytes ++ more) ≡ gives_with system (n + 1) [] next (behind ++ more)
   unfolding walk
   gives_step n line bytes front behind s next ends is more = rw (ends line more, is) refl
 
-  pub gives_refused : (n : ℕ) (line bytes front behind : List ℕ) (s : Expected) (at : At) → EndsLine bytes front behind → at_line (n + 1) (admitted (obs_rules system) s (strip_carriage_return (line ++ front))) ≡ Err at → (more : List ℕ) → gives_with system n line s (bytes ++ more) ≡ Err at
+  pub gives_refused : (n : ℕ) (line bytes front behind : List ℕ) (s : Expected) (at : At) → EndsLine bytes front behind
+      → at_line (n + 1) (admitted (obs_rules system) s (strip_carriage_return (line ++ front))) ≡ Err at → (more : List ℕ)
+      → gives_with system n line s (bytes ++ more) ≡ Err at
   unfolding walk
   gives_refused n line bytes front behind s at ends is more = rw (ends line more, is) refl
 
   -- a line in whose end the piece goes wrong
-  pub step_fails : (n : ℕ) (line bytes front behind : List ℕ) (s next : Expected) (fault : TextFault) → EndsLine bytes front behind → Takes (admitted (obs_rules system) s (strip_carriage_return (line ++ front))) (n + 1) next (Err fault)
+  pub step_fails : (n : ℕ) (line bytes front behind : List ℕ) (s next : Expected) (fault : TextFault) → EndsLine bytes front behind
+      → Takes (admitted (obs_rules system) s (strip_carriage_return (line ++ front))) (n + 1) next (Err fault)
       → TakesAll bytes (λ more. gives_with system n line s more) (λ more. gives_with system n line s more) (Err fault)
   step_fails n line bytes front behind s next (Refused at) ends is = gives_refused n line bytes front behind s at ends is
   step_fails n line bytes front behind s next NoMemory ends is = tt
 
   -- the bytes before the piece's rest were read, and its rest goes wrong
-  pub fails_on : (piece rest : List ℕ) (first old new last : List ℕ → Result ObsFile At) (fault : TextFault) → ((more : List ℕ) → first (piece ++ more) ≡ old (rest ++ more)) → TakesAll rest old new (Err fault) → TakesAll piece first last (Err fault)
+  pub fails_on : (piece rest : List ℕ) (first old new last : List ℕ → Result ObsFile At) (fault : TextFault)
+      → ((more : List ℕ) → first (piece ++ more) ≡ old (rest ++ more)) → TakesAll rest old new (Err fault) → TakesAll piece first last (Err fault)
   fails_on piece rest first old new last (Refused at) same fails = λ more. same more ∙ fails more
   fails_on piece rest first old new last NoMemory same fails = tt
 
@@ -128,7 +134,8 @@ module _ (system : System) where
   last_taken n [] s next some is = absurd (omega arith)
   last_taken n (c ∷ cs) s next some is = rw is refl
 
-  pub last_fails : (n : ℕ) (line : List ℕ) (s next : Expected) (fault : TextFault) → 0 < length line → Takes (admitted (obs_rules system) s line) (n + 1) next (Err fault) → FailsBy (gives_with system n line s []) fault
+  pub last_fails : (n : ℕ) (line : List ℕ) (s next : Expected) (fault : TextFault) → 0 < length line
+      → Takes (admitted (obs_rules system) s line) (n + 1) next (Err fault) → FailsBy (gives_with system n line s []) fault
   unfolding walk
   last_fails n [] s next fault some is = absurd (omega arith)
   last_fails n (c ∷ cs) s next (Refused at) some is = rw is refl
@@ -141,7 +148,8 @@ module _ (system : System) where
 
   -- ---- what a feed stands for
 
-  pub fed_more : (old new : List ℕ → Result ObsFile At) (taken : ℕ) (text piece : List ℕ) → ((more : List ℕ) → old (piece ++ more) ≡ new more) → IsFed system old taken text → IsFed system new (taken + length piece) (text ++ piece)
+  pub fed_more : (old new : List ℕ → Result ObsFile At) (taken : ℕ) (text piece : List ℕ) → ((more : List ℕ) → old (piece ++ more) ≡ new more)
+      → IsFed system old taken text → IsFed system new (taken + length piece) (text ++ piece)
   fed_more old new taken text piece same fed = record {
     counted = omega (arith, fed.counted, length-append text piece);
     gives_so = λ more. ap (λ (l : List ℕ). obs_of system (lines_of l)) (append_assoc text piece more) ∙ fed.gives_so (piece ++ more) ∙ same more;
@@ -156,16 +164,19 @@ module _ (system : System) where
     exact = exact;
   }
 
-  pub fed_answers : (gives : List ℕ → Result ObsFile At) (taken : ℕ) (text : List ℕ) (result : Result ObsFile TextFault) → IsFed system gives taken text → Gives (gives []) (λ (file : ObsFile). file) result → IsAnswerTo system text result
+  pub fed_answers : (gives : List ℕ → Result ObsFile At) (taken : ℕ) (text : List ℕ) (result : Result ObsFile TextFault)
+      → IsFed system gives taken text → Gives (gives []) (λ (file : ObsFile). file) result → IsAnswerTo system text result
   fed_answers gives taken text result fed ends =
       let whole : obs_of system (lines_of text) ≡ gives [] = ap (λ (l : List ℕ). obs_of system (lines_of l)) (sym (append-nil text)) ∙ fed.gives_so [] in
       exact_answers text result (gives_same _ _ (λ (file : ObsFile). file) result whole ends)
 
 -- the last line, for the satellites of every system
-pub last_line : (n : ℕ) (line : List ℕ) (s next : Expected) (r : Result (Unit {0}) TextFault) → 0 < length line → Takes (line_gives s line) (n + 1) next r → OnOk r ((system : System) → gives_with system n line s [] ≡ at_line (n + 1 + 1) (finish next))
+pub last_line : (n : ℕ) (line : List ℕ) (s next : Expected) (r : Result (Unit {0}) TextFault) → 0 < length line
+    → Takes (line_gives s line) (n + 1) next r → OnOk r ((system : System) → gives_with system n line s [] ≡ at_line (n + 1 + 1) (finish next))
 last_line n line s next (Ok u) some is = λ system. last_taken system n line s next some is
 last_line n line s next (Err fault) some is = tt
 
-pub last_line_fails : (n : ℕ) (line : List ℕ) (s next : Expected) (r : Result (Unit {0}) TextFault) → 0 < length line → Takes (line_gives s line) (n + 1) next r → IfErr r (λ fault. (system : System) → FailsBy (gives_with system n line s []) fault)
+pub last_line_fails : (n : ℕ) (line : List ℕ) (s next : Expected) (r : Result (Unit {0}) TextFault) → 0 < length line
+    → Takes (line_gives s line) (n + 1) next r → IfErr r (λ fault. (system : System) → FailsBy (gives_with system n line s []) fault)
 last_line_fails n line s next (Ok u) some is = tt
 last_line_fails n line s next (Err fault) some is = λ system. last_fails system n line s next fault some is

@@ -30,8 +30,10 @@ module _ (system : System) where
       ∙ lines_taken lines more h epochs changes (n + 1) are.2 ∙ rw further refl
 
   -- the lines of an epoch's satellites are taken
-  sats_taken : (lines : List (List ℕ)) (found : List (Option SatObs)) (more : List (List ℕ)) (h : Header) (epochs : List Epoch) (tag : Tick) (power : Bool) (sats : List SatObs) (n : ℕ) → AreSatLines h.system (kept_from h.system 0 h.types) sats lines found
-      → walk (obs_rules system) (lines ++ more) n (more_sats h epochs tag power sats (length lines)) ≡ walk (obs_rules system) more (n + length lines) (Body h (epochs ++ epoch_of tag power (sats ++ satellites_of found) ∷ []))
+  sats_taken : (lines : List (List ℕ)) (found : List (Option SatObs)) (more : List (List ℕ)) (h : Header) (epochs : List Epoch) (tag : Tick)
+      (power : Bool) (sats : List SatObs) (n : ℕ) → AreSatLines h.system (kept_from h.system 0 h.types) sats lines found
+      → walk (obs_rules system) (lines ++ more) n (more_sats h epochs tag power sats (length lines))
+          ≡ walk (obs_rules system) more (n + length lines) (Body h (epochs ++ epoch_of tag power (sats ++ satellites_of found) ∷ []))
   sats_taken [] [] more h epochs tag power sats n are = rw (add-zero, append-nil sats) refl
   sats_taken [] (f ∷ found) more h epochs tag power sats n are = absurd are
   sats_taken (bytes ∷ lines) [] more h epochs tag power sats n are = absurd are
@@ -49,7 +51,8 @@ module _ (system : System) where
       ∙ sats_taken lines found more h epochs tag power (sats ++ s ∷ []) (n + 1) are.2 ∙ rw (further, append_assoc sats (s ∷ []) (satellites_of found)) refl
 
   -- and so are the parts of a body
-  parts_taken : (parts : List Part) (h : Header) (epochs : List Epoch) (n : ℕ) → AreParts h.system (kept_from h.system 0 h.types) epochs parts → walk (obs_rules system) (body_lines parts) n (Body h epochs) ≡ Ok (file_of h (epochs ++ epochs_of parts))
+  parts_taken : (parts : List Part) (h : Header) (epochs : List Epoch) (n : ℕ) → AreParts h.system (kept_from h.system 0 h.types) epochs parts
+      → walk (obs_rules system) (body_lines parts) n (Body h epochs) ≡ Ok (file_of h (epochs ++ epochs_of parts))
   parts_taken [] h epochs n are = walk-end (obs_rules system) (Body h epochs) n ∙ rw (append-nil epochs) refl
   parts_taken (Blank bytes ∷ parts) h epochs n are =
       let admits : admit (Body h epochs) bytes ≡ Ok (Body h epochs) = rw (are.1) refl in
@@ -87,7 +90,8 @@ module _ (system : System) where
         gives = ap (λ (l : List (List ℕ)). walk (obs_rules system) (l ++ more) 0 (First h.system)) is.lines_are
             ∙ ap (λ (l : List (List ℕ)). walk (obs_rules system) (is.first ∷ l) 0 (First h.system)) (regroup (head_lines is.before) is.list is.further (head_lines is.after) is.last more)
             ∙ walk-takes (obs_rules system) (First h.system) (Head version) is.first behind_first 0 is.first_short first_admits
-            ∙ header_given (head_rules system h.system h.hundredths) is.before is.after is.list is.last is.further more h.types None zero_delta (0 + 1) is.before_are is.types is.after_are is.last_short is.ends
+            ∙ header_given (head_rules system h.system h.hundredths) is.before is.after is.list is.last is.further more h.types None zero_delta
+                (0 + 1) is.before_are is.types is.after_are is.last_short is.ends
             ∙ ap (λ (w : Header). walk (obs_rules system) more number (Body w [])) whole;
       }
 

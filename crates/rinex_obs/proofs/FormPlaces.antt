@@ -41,7 +41,8 @@ module _ (system : System) where
   other_satellite Gps = refl
   other_satellite Galileo = refl
 
-  other_system : (h : Header) (epochs : List Epoch) (tag : Tick) (power : Bool) (sats : List SatObs) (n : ℕ) → admit (Sats h epochs tag power sats n) (codes "R01") ≡ Ok (more_sats h epochs tag power sats (n - 1))
+  other_system : (h : Header) (epochs : List Epoch) (tag : Tick) (power : Bool) (sats : List SatObs) (n : ℕ)
+      → admit (Sats h epochs tag power sats n) (codes "R01") ≡ Ok (more_sats h epochs tag power sats (n - 1))
   unfolding satellite_line_of
   other_system h epochs tag power sats n = rw (other_satellite h.system) refl
 
@@ -50,7 +51,8 @@ module _ (system : System) where
   sats_done h epochs tag power sats (suc k) =
       let one_less : suc k - 1 ≡ k = omega arith in
       let next : ℕ → Result Expected Flaw = λ j. Ok (more_sats h epochs tag power sats j) in
-      with_line (obs_rules system) (Sats h epochs tag power sats (suc k)) (more_sats h epochs tag power sats k) (codes "R01") (lit≤ tt) (other_system h epochs tag power sats (suc k) ∙ ap next one_less) (sats_done h epochs tag power sats k)
+      with_line (obs_rules system) (Sats h epochs tag power sats (suc k)) (more_sats h epochs tag power sats k) (codes "R01") (lit≤ tt)
+          (other_system h epochs tag power sats (suc k) ∙ ap next one_less) (sats_done h epochs tag power sats k)
 
   empty_line : (h : Header) (epochs : List Epoch) (changes : Bool) (n : ℕ) → admit (Skip h epochs changes n) [] ≡ Ok (more_lines h epochs changes (n - 1))
   unfolding event_line_of label_in trimmed
@@ -101,7 +103,8 @@ module _ (system : System) where
     where
       by_types : (t : Option (List (List ℕ))) → h.types ≡ t → Completes (obs_rules system) (Head h)
       by_types (Some types) e = listed_done h types e
-      by_types None e = with_line (obs_rules system) (Head h) (Head (with_types h (codes "C1C" ∷ []))) (types_line h.system) (lit≤ tt) (one_type h e) (listed_done (with_types h (codes "C1C" ∷ [])) (codes "C1C" ∷ []) refl)
+      by_types None e = with_line (obs_rules system) (Head h) (Head (with_types h (codes "C1C" ∷ []))) (types_line h.system) (lit≤ tt) (one_type h e)
+          (listed_done (with_types h (codes "C1C" ∷ [])) (codes "C1C" ∷ []) refl)
 
   -- ---- further types: names that aren't listed yet
 
@@ -203,8 +206,10 @@ module _ (system : System) where
       let step = more_step h names n in
       with_line (obs_rules system) (More h names n) (more_types h step.0 (n - 13)) (fresh_line (bound_of names)) (lit≤ tt) step.1 (more_done (n - 13) h step.0 (n - 13) (omega arith))
   completed (Body h epochs) = body_done h epochs
-  completed (Sats h epochs tag power sats n) = with_line (obs_rules system) (Sats h epochs tag power sats n) (more_sats h epochs tag power sats (n - 1)) (codes "R01") (lit≤ tt) (other_system h epochs tag power sats n) (sats_done h epochs tag power sats (n - 1))
-  completed (Skip h epochs changes n) = with_line (obs_rules system) (Skip h epochs changes n) (more_lines h epochs changes (n - 1)) [] (lit≤ tt) (empty_line h epochs changes n) (lines_done h epochs changes (n - 1))
+  completed (Sats h epochs tag power sats n) = with_line (obs_rules system) (Sats h epochs tag power sats n)
+      (more_sats h epochs tag power sats (n - 1)) (codes "R01") (lit≤ tt) (other_system h epochs tag power sats n) (sats_done h epochs tag power sats (n - 1))
+  completed (Skip h epochs changes n) = with_line (obs_rules system) (Skip h epochs changes n) (more_lines h epochs changes (n - 1)) [] (lit≤ tt)
+      (empty_line h epochs changes n) (lines_done h epochs changes (n - 1))
 
   -- the grammar and the rules have the same files
   pub file_of_rules : (lines : List (List ℕ)) → HasObsFile system lines → IsFileOf (obs_rules system) lines
@@ -218,6 +223,7 @@ module _ (system : System) where
   ok_exit lines (Err fault) given = tt
 
   -- a text has at most one file
-  pub only_exit : (lines : List (List ℕ)) (r : Result ObsFile TextFault) → Gives (text_gives (obs_rules system) lines) (λ file. file) r → IfOk r (λ file. (other : ObsFile) → IsObsFile system lines other → other ≡ file)
+  pub only_exit : (lines : List (List ℕ)) (r : Result ObsFile TextFault) → Gives (text_gives (obs_rules system) lines) (λ file. file) r
+      → IfOk r (λ file. (other : ObsFile) → IsObsFile system lines other → other ≡ file)
   only_exit lines (Ok file) given = λ other is. let same : Ok other ≡ Ok file = sym (file_given system lines other is) ∙ given in cc (same)
   only_exit lines (Err fault) given = tt

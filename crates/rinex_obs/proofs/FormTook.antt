@@ -59,10 +59,14 @@ module _ (system : System) where
   -- what lines of a body are, lines of an epoch and lines of an event
   record Took (lines : List (List ℕ)) : Type 0 where
     body : (h : Header) (epochs : List Epoch) (n : ℕ) (whole : ObsFile) → walk (obs_rules system) lines n (Body h epochs) ≡ Ok whole → TookBody lines h epochs whole
-    sats : (h : Header) (epochs : List Epoch) (tag : Tick) (power : Bool) (sats : List SatObs) (k n : ℕ) (whole : ObsFile) → walk (obs_rules system) lines n (Sats h epochs tag power sats (suc k)) ≡ Ok whole → TookSats lines h epochs tag power sats (suc k) whole
-    skip : (h : Header) (epochs : List Epoch) (changes : Bool) (k n : ℕ) (whole : ObsFile) → walk (obs_rules system) lines n (Skip h epochs changes (suc k)) ≡ Ok whole → TookLines lines h epochs changes (suc k) whole
+    sats : (h : Header) (epochs : List Epoch) (tag : Tick) (power : Bool) (sats : List SatObs) (k n : ℕ) (whole : ObsFile)
+        → walk (obs_rules system) lines n (Sats h epochs tag power sats (suc k)) ≡ Ok whole → TookSats lines h epochs tag power sats (suc k) whole
+    skip : (h : Header) (epochs : List Epoch) (changes : Bool) (k n : ℕ) (whole : ObsFile)
+        → walk (obs_rules system) lines n (Skip h epochs changes (suc k)) ≡ Ok whole → TookLines lines h epochs changes (suc k) whole
 
-  of_more_sats : (lines : List (List ℕ)) → Took lines → (h : Header) (epochs : List Epoch) (tag : Tick) (power : Bool) (sats : List SatObs) (k n : ℕ) (whole : ObsFile) → walk (obs_rules system) lines n (more_sats h epochs tag power sats k) ≡ Ok whole → TookSats lines h epochs tag power sats k whole
+  of_more_sats : (lines : List (List ℕ)) → Took lines
+      → (h : Header) (epochs : List Epoch) (tag : Tick) (power : Bool) (sats : List SatObs) (k n : ℕ) (whole : ObsFile)
+      → walk (obs_rules system) lines n (more_sats h epochs tag power sats k) ≡ Ok whole → TookSats lines h epochs tag power sats k whole
   of_more_sats lines took h epochs tag power sats zero n whole gives =
       let rest = took.body h (epochs ++ epoch_of tag power sats ∷ []) n whole gives in
       let kept = kept_from h.system 0 h.types in
@@ -78,13 +82,15 @@ module _ (system : System) where
       }
   of_more_sats lines took h epochs tag power sats (suc k) n whole gives = took.sats h epochs tag power sats k n whole gives
 
-  of_more_lines : (lines : List (List ℕ)) → Took lines → (h : Header) (epochs : List Epoch) (changes : Bool) (k n : ℕ) (whole : ObsFile) → walk (obs_rules system) lines n (more_lines h epochs changes k) ≡ Ok whole → TookLines lines h epochs changes k whole
+  of_more_lines : (lines : List (List ℕ)) → Took lines → (h : Header) (epochs : List Epoch) (changes : Bool) (k n : ℕ) (whole : ObsFile)
+      → walk (obs_rules system) lines n (more_lines h epochs changes k) ≡ Ok whole → TookLines lines h epochs changes k whole
   of_more_lines lines took h epochs changes zero n whole gives =
       let rest = took.body h epochs n whole gives in
       record { event_lines = []; parts = rest.parts; lines_are = rest.lines_are; count = refl; are = tt; each = rest.each; whole_is = rest.whole_is }
   of_more_lines lines took h epochs changes (suc k) n whole gives = took.skip h epochs changes k n whole gives
 
-  body_line : (bytes : List ℕ) (lines : List (List ℕ)) → Took lines → (h : Header) (epochs : List Epoch) (n : ℕ) (whole : ObsFile) → walk (obs_rules system) (bytes ∷ lines) n (Body h epochs) ≡ Ok whole → TookBody (bytes ∷ lines) h epochs whole
+  body_line : (bytes : List ℕ) (lines : List (List ℕ)) → Took lines → (h : Header) (epochs : List Epoch) (n : ℕ) (whole : ObsFile)
+      → walk (obs_rules system) (bytes ∷ lines) n (Body h epochs) ≡ Ok whole → TookBody (bytes ∷ lines) h epochs whole
   body_line bytes lines took h epochs n whole gives = by_part (epoch_line_of epochs bytes) refl first.admits
     where
       first : TookLine (obs_rules system) (Body h epochs) bytes lines n whole
@@ -122,7 +128,10 @@ module _ (system : System) where
           }
       by_part (Err flaw) says gives = absurd cc
 
-  sat_line : (bytes : List ℕ) (lines : List (List ℕ)) → Took lines → (h : Header) (epochs : List Epoch) (tag : Tick) (power : Bool) (sats : List SatObs) (k n : ℕ) (whole : ObsFile) → walk (obs_rules system) (bytes ∷ lines) n (Sats h epochs tag power sats (suc k)) ≡ Ok whole → TookSats (bytes ∷ lines) h epochs tag power sats (suc k) whole
+  sat_line : (bytes : List ℕ) (lines : List (List ℕ)) → Took lines
+      → (h : Header) (epochs : List Epoch) (tag : Tick) (power : Bool) (sats : List SatObs) (k n : ℕ) (whole : ObsFile)
+      → walk (obs_rules system) (bytes ∷ lines) n (Sats h epochs tag power sats (suc k)) ≡ Ok whole
+      → TookSats (bytes ∷ lines) h epochs tag power sats (suc k) whole
   sat_line bytes lines took h epochs tag power sats k n whole gives = by_part (satellite_line_of h.system (kept_from h.system 0 h.types) sats bytes) refl first.admits
     where
       first : TookLine (obs_rules system) (Sats h epochs tag power sats (suc k)) bytes lines n whole
@@ -132,9 +141,13 @@ module _ (system : System) where
       one_less = omega arith
 
       further : (after : List SatObs) → more_sats h epochs tag power after (suc k - 1) ≡ first.next → TookSats lines h epochs tag power after k whole
-      further after next = of_more_sats lines took h epochs tag power after k (n + 1) whole (subst (λ (s : Expected). walk (obs_rules system) lines (n + 1) s ≡ Ok whole) (sym next ∙ ap (λ (j : ℕ). more_sats h epochs tag power after j) one_less) first.others)
+      further after next = of_more_sats lines took h epochs tag power after k (n + 1) whole
+          (subst (λ (s : Expected). walk (obs_rules system) lines (n + 1) s ≡ Ok whole)
+            (sym next ∙ ap (λ (j : ℕ). more_sats h epochs tag power after j) one_less) first.others)
 
-      by_part : (r : Result (Option SatObs) Flaw) → satellite_line_of h.system (kept_from h.system 0 h.types) sats bytes ≡ r → and_then r (λ s. Ok (more_sats h epochs tag power (with_satellite sats s) (suc k - 1))) ≡ Ok first.next → TookSats (bytes ∷ lines) h epochs tag power sats (suc k) whole
+      by_part : (r : Result (Option SatObs) Flaw) → satellite_line_of h.system (kept_from h.system 0 h.types) sats bytes ≡ r
+          → and_then r (λ s. Ok (more_sats h epochs tag power (with_satellite sats s) (suc k - 1))) ≡ Ok first.next
+          → TookSats (bytes ∷ lines) h epochs tag power sats (suc k) whole
       by_part (Ok None) says gives =
           let next : more_sats h epochs tag power sats (suc k - 1) ≡ first.next = cc (gives) in
           let rest = further sats next in
@@ -165,7 +178,8 @@ module _ (system : System) where
           }
       by_part (Err flaw) says gives = absurd cc
 
-  event_line : (bytes : List ℕ) (lines : List (List ℕ)) → Took lines → (h : Header) (epochs : List Epoch) (changes : Bool) (k n : ℕ) (whole : ObsFile) → walk (obs_rules system) (bytes ∷ lines) n (Skip h epochs changes (suc k)) ≡ Ok whole → TookLines (bytes ∷ lines) h epochs changes (suc k) whole
+  event_line : (bytes : List ℕ) (lines : List (List ℕ)) → Took lines → (h : Header) (epochs : List Epoch) (changes : Bool) (k n : ℕ) (whole : ObsFile)
+      → walk (obs_rules system) (bytes ∷ lines) n (Skip h epochs changes (suc k)) ≡ Ok whole → TookLines (bytes ∷ lines) h epochs changes (suc k) whole
   event_line bytes lines took h epochs changes k n whole gives = by_part (event_line_of Rinex3 changes bytes) refl first.admits
     where
       first : TookLine (obs_rules system) (Skip h epochs changes (suc k)) bytes lines n whole
@@ -174,10 +188,12 @@ module _ (system : System) where
       one_less : suc k - 1 ≡ k
       one_less = omega arith
 
-      by_part : (r : Result (Unit {0}) Flaw) → event_line_of Rinex3 changes bytes ≡ r → and_then r (λ u. Ok (more_lines h epochs changes (suc k - 1))) ≡ Ok first.next → TookLines (bytes ∷ lines) h epochs changes (suc k) whole
+      by_part : (r : Result (Unit {0}) Flaw) → event_line_of Rinex3 changes bytes ≡ r
+          → and_then r (λ u. Ok (more_lines h epochs changes (suc k - 1))) ≡ Ok first.next → TookLines (bytes ∷ lines) h epochs changes (suc k) whole
       by_part (Ok u) says gives =
           let next : more_lines h epochs changes (suc k - 1) ≡ first.next = cc (gives) in
-          let rest = of_more_lines lines took h epochs changes k (n + 1) whole (subst (λ (s : Expected). walk (obs_rules system) lines (n + 1) s ≡ Ok whole) (sym next ∙ ap (λ (j : ℕ). more_lines h epochs changes j) one_less) first.others) in
+          let rest = of_more_lines lines took h epochs changes k (n + 1) whole (subst (λ (s : Expected). walk (obs_rules system) lines (n + 1) s ≡ Ok whole)
+                (sym next ∙ ap (λ (j : ℕ). more_lines h epochs changes j) one_less) first.others) in
           record {
             event_lines = bytes ∷ rest.event_lines;
             parts = rest.parts;
@@ -216,9 +232,11 @@ module _ (system : System) where
       by_part (Ok v) says gives =
           let next : Head (bare_header system v) ≡ first.next = cc (gives) in
           let zero_delta = pos 0 ∷ pos 0 ∷ pos 0 ∷ [] in
-          let head = header_took (head_rules system system v) lines None zero_delta (0 + 1) file (subst (λ (s : Expected). walk (obs_rules system) lines (0 + 1) s ≡ Ok file) (sym next) first.others) in
+          let head = header_took (head_rules system system v) lines None zero_delta (0 + 1) file
+              (subst (λ (s : Expected). walk (obs_rules system) lines (0 + 1) s ≡ Ok file) (sym next) first.others) in
           let end = head.end in
-          let header = whole_header (so_far system v (last_position (last_position None head.before) end.after) (last_delta (last_delta zero_delta head.before) end.after) (Some head.types)) head.types in
+          let header = whole_header (so_far system v (last_position (last_position None head.before) end.after)
+                (last_delta (last_delta zero_delta head.before) end.after) (Some head.types)) head.types in
           let body = (took end.rest).body header [] end.number file end.gives in
           let header_lines = bytes ∷ (head_lines head.before ++ (head.list ∷ (head.further ++ (head_lines end.after ++ (end.last ∷ []))))) in
           let grouped = ap (λ (l : List (List ℕ)). bytes ∷ l) (regroup (head_lines head.before) head.list head.further (head_lines end.after) end.last (body_lines body.parts)) in

@@ -59,8 +59,10 @@ pub record IsOnEllipse (e w : Rational) (p v : Pair) : Type 0 where
 
 pub true_near : (e w : Rational) (p v : Pair) → IsOnEllipse e w p v → IsNearCircle 2 v
 true_near e w p v h = (
-  cancel_r factor (sub_r norm one) bound above (order_r numbers orders equations (f ⊗ (k ⊗ k ⊕ l ⊗ l ⊖ nat 1)) (f ⊗ va 8) (apart (hy 0) (hy 2)) (ng first ∷ ng second ∷ []) refl known (h.anomaly.0, (h.anomaly.1, tt))),
-  cancel_r factor (sub_r one norm) bound above (order_r numbers orders equations (f ⊗ (nat 1 ⊖ (k ⊗ k ⊕ l ⊗ l))) (f ⊗ va 8) (apart (hy 1) (hy 3)) (first ∷ second ∷ []) refl known (h.anomaly.0, (h.anomaly.1, tt))),
+  cancel_r factor (sub_r norm one) bound above (order_r numbers orders equations (f ⊗ (k ⊗ k ⊕ l ⊗ l ⊖ nat 1)) (f ⊗ va 8) (apart (hy 0) (hy 2))
+        (ng first ∷ ng second ∷ []) refl known (h.anomaly.0, (h.anomaly.1, tt))),
+  cancel_r factor (sub_r one norm) bound above (order_r numbers orders equations (f ⊗ (nat 1 ⊖ (k ⊗ k ⊕ l ⊗ l))) (f ⊗ va 8) (apart (hy 1) (hy 3))
+        (first ∷ second ∷ []) refl known (h.anomaly.0, (h.anomaly.1, tt))),
 )
   where
     norm : Rational
@@ -108,7 +110,8 @@ true_near e w p v h = (
         ∷ (va 0 ≼ nat 1) ∷ (ng (va 0) ≼ nat 1) ∷ (va 6 ≼ nat 1) ∷ (nat 4 ⊗ va 7 ≼ va 6) ∷ (nat 0 ≼ va 7) ∷ (va 9 ≼ q) ∷ (nat 15 ≼ nat 16 ⊗ va 9) ∷ (va 6 ⊕ va 6 ≼ va 8) ∷ []
 
     known : AreGiven numbers orders
-    known = (h.near_circle.0, (h.near_circle.1, (h.near_root.0, (h.near_root.1, (h.high, (h.low, (le_pos _ _ (lit≤ tt), (le_pos _ _ (lit≤ tt), (le_pos _ _ (lit≤ tt), (h.far, (le_pos _ _ (lit≤ tt), (le_pos _ _ (lit≤ tt), tt))))))))))))
+    known = (h.near_circle.0, (h.near_circle.1, (h.near_root.0, (h.near_root.1, (h.high, (h.low,
+                    (le_pos _ _ (lit≤ tt), (le_pos _ _ (lit≤ tt), (le_pos _ _ (lit≤ tt), (h.far, (le_pos _ _ (lit≤ tt), (le_pos _ _ (lit≤ tt), tt))))))))))))
 
     equations : List Equation
     equations = (k ⊗ q ≐ c ⊖ va 0) ∷ (l ⊗ q ≐ va 3 ⊗ va 2) ∷ []
@@ -127,7 +130,8 @@ true_near e w p v h = (
     off = hy 7 ⊞ nm 4 ⊠ hy 8
 
     apart : Ce → Ce → Ce
-    apart a b = nm 256 ⊠ (hy 4 ⊠ hy 5) ⊠ a ⊞ nm 256 ⊠ sq (va 2) ⊠ b ⊞ off ⊠ (nm 2 ⊠ radius ⊠ radius ⊞ nm 60 ⊠ radius) ⊞ nm 256 ⊠ off ⊠ sq (va 0) ⊞ nm 256 ⊠ hy 8 ⊠ (hy 0 ⊞ sq c ⊞ hy 6) ⊞ nm 128 ⊠ hy 7 ⊞ nm 66 ⊠ off ⊞ nm 256 ⊠ sq q ⊠ hy 11
+    apart a b = nm 256 ⊠ (hy 4 ⊠ hy 5) ⊠ a ⊞ nm 256 ⊠ sq (va 2) ⊠ b ⊞ off ⊠ (nm 2 ⊠ radius ⊠ radius ⊞ nm 60 ⊠ radius) ⊞ nm 256 ⊠ off ⊠ sq (va 0)
+        ⊞ nm 256 ⊠ hy 8 ⊠ (hy 0 ⊞ sq c ⊞ hy 6) ⊞ nm 128 ⊠ hy 7 ⊞ nm 66 ⊠ off ⊞ nm 256 ⊠ sq q ⊠ hy 11
 
 -- ---- the boxes: of e, of the pair (c, s), of the root, of the radius, and of the pair of the true anomaly
 pub record IsEllipseBox (ecc c s root radius cos sin : Iv 60) : Type 0 where
@@ -160,7 +164,14 @@ has_true_pair ecc c s root radius cos sin b has = ∥∥₁_map has go
         record {
           pair = v;
           held = b.quotients e w p v (low_in ecc) x.held (low_in root) (k.is, l.is);
-          near = true_near e w p v (record { near_circle = x.near; near_root = b.root_near e (low_in ecc); high = ≤ʳ_trans e limit one n.0 under_one; low = ≤ʳ_trans (neg_r e) limit one n.1 under_one; far = far; anomaly = (k.is, l.is) });
+          near = true_near e w p v (record {
+            near_circle = x.near;
+            near_root = b.root_near e (low_in ecc);
+            high = ≤ʳ_trans e limit one n.0 under_one;
+            low = ≤ʳ_trans (neg_r e) limit one n.1 under_one;
+            far = far;
+            anomaly = (k.is, l.is)
+          });
         }
       where
         limit : Rational

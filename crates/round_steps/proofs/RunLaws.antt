@@ -31,13 +31,15 @@ with_session scale s before = turned (rounds_at scale (s ∷ before)) (cond (nat
     turned m b n e = omega arith
 
 more_at : (scale : ℕ) (s : Session) (before : List Session) → s.scale ≡ scale → nat_eq scale scale ≡ true → rounds_at scale (s ∷ before) ≡ rounds_at scale before + 1
-more_at scale s before e same = turned (rounds_at scale (s ∷ before)) (rounds_at scale before) (with_one scale s before ∙ ap (λ (b : Bool). cond b 1 0 + rounds_at scale before) (ap (λ (n : ℕ). nat_eq n scale) e ∙ same))
+more_at scale s before e same = turned (rounds_at scale (s ∷ before)) (rounds_at scale before)
+    (with_one scale s before ∙ ap (λ (b : Bool). cond b 1 0 + rounds_at scale before) (ap (λ (n : ℕ). nat_eq n scale) e ∙ same))
   where
     turned : (m n : ℕ) → m ≡ 1 + n → m ≡ n + 1
     turned m n e = omega arith
 
 no_more_at : (scale other : ℕ) (s : Session) (before : List Session) → s.scale ≡ other → nat_eq other scale ≡ false → rounds_at scale (s ∷ before) ≡ rounds_at scale before
-no_more_at scale other s before e apart = without_zero (rounds_at scale (s ∷ before)) (rounds_at scale before) (with_one scale s before ∙ ap (λ (b : Bool). cond b 1 0 + rounds_at scale before) (ap (λ (n : ℕ). nat_eq n scale) e ∙ apart))
+no_more_at scale other s before e apart = without_zero (rounds_at scale (s ∷ before)) (rounds_at scale before)
+    (with_one scale s before ∙ ap (λ (b : Bool). cond b 1 0 + rounds_at scale before) (ap (λ (n : ℕ). nat_eq n scale) e ∙ apart))
   where
     without_zero : (a b : ℕ) → a ≡ 0 + b → a ≡ b
     without_zero a b e = omega arith
@@ -74,26 +76,36 @@ pub record CoarseSoFar (rules : Rules) (point : List ℤ) (arcs : List Arc) (mad
 coarse_reached : (rules : Rules) (point : List ℤ) (arcs : List Arc) (made : ℕ) (h : CoarseSoFar rules point arcs made) → Reaches rules (coarse_alone made) h.before (coarse point arcs)
 coarse_reached rules point arcs made h = record { run = h.run; coarse_made = sym h.count; fine_made = plus_zero 0 (rounds_at 0 h.before) h.none_fine; few_coarse = h.few; few_fine = omega arith }
 
-coarse_session : (rules : Rules) (point : List ℤ) (arcs : List Arc) (made : ℕ) (h : CoarseSoFar rules point arcs made) (s : Session) → IsSessionOf rules (coarse point arcs) s → Reaches rules (coarse_alone made) h.before (round_of s)
+coarse_session : (rules : Rules) (point : List ℤ) (arcs : List Arc) (made : ℕ) (h : CoarseSoFar rules point arcs made) (s : Session)
+    → IsSessionOf rules (coarse point arcs) s → Reaches rules (coarse_alone made) h.before (round_of s)
 coarse_session rules point arcs made h s k = subst (Reaches rules (coarse_alone made) h.before) (sym k.round_is) (coarse_reached rules point arcs made h)
 
-coarse_last : (rules : Rules) (point : List ℤ) (arcs : List Arc) (made : ℕ) (h : CoarseSoFar rules point arcs made) (s : Session) → IsSessionOf rules (coarse point arcs) s → is_last s.scale h.before ≡ nat_eq made (most_rounds 14)
+coarse_last : (rules : Rules) (point : List ℤ) (arcs : List Arc) (made : ℕ) (h : CoarseSoFar rules point arcs made) (s : Session)
+    → IsSessionOf rules (coarse point arcs) s → is_last s.scale h.before ≡ nat_eq made (most_rounds 14)
 coarse_last rules point arcs made h s k = ap (λ (n : ℕ). is_last n h.before) (scale_is rules (coarse point arcs) s k) ∙ ap (λ (n : ℕ). nat_eq n (most_rounds 14)) h.count
 
-pub coarse_at_y : (rules : Rules) (point : List ℤ) (arcs : List Arc) (made : ℕ) → CoarseSoFar rules point arcs made → rules.may_be_wide (coarse point arcs) → EndsEarly rules (coarse_alone made) Coarse (Tail.Overwidth Place.Y)
+pub coarse_at_y : (rules : Rules) (point : List ℤ) (arcs : List Arc) (made : ℕ) → CoarseSoFar rules point arcs made
+    → rules.may_be_wide (coarse point arcs) → EndsEarly rules (coarse_alone made) Coarse (Tail.Overwidth Place.Y)
 coarse_at_y rules point arcs made h w = inl (refl, record { before = h.before; round = coarse point arcs; scale_is = refl; reached = coarse_reached rules point arcs made h; wide = w })
 
-pub coarse_declines : (rules : Rules) (point : List ℤ) (arcs : List Arc) (made : ℕ) (s : Session) (tail : Tail) → CoarseSoFar rules point arcs made → IsSessionOf rules (coarse point arcs) s → IsRoundDeclined (nat_eq made (most_rounds 14)) s tail → EndsEarly rules (coarse_alone made) Coarse tail
+pub coarse_declines : (rules : Rules) (point : List ℤ) (arcs : List Arc) (made : ℕ) (s : Session) (tail : Tail) → CoarseSoFar rules point arcs made
+    → IsSessionOf rules (coarse point arcs) s → IsRoundDeclined (nat_eq made (most_rounds 14)) s tail → EndsEarly rules (coarse_alone made) Coarse tail
 coarse_declines rules point arcs made s tail h k d = inr (
   refl,
   record {
     session = s;
     is_coarse = scale_is rules (coarse point arcs) s k;
-    ends = record { before = h.before; reached = coarse_session rules point arcs made h s k; stands = k.stands; declined = subst (λ (b : Bool). IsRoundDeclined b s tail) (sym (coarse_last rules point arcs made h s k)) d };
+    ends = record {
+      before = h.before;
+      reached = coarse_session rules point arcs made h s k;
+      stands = k.stands;
+      declined = subst (λ (b : Bool). IsRoundDeclined b s tail) (sym (coarse_last rules point arcs made h s k)) d
+    };
   },
 )
 
-pub coarse_settles : (rules : Rules) (point : List ℤ) (arcs : List Arc) (made : ℕ) (s : Session) (form : Form) → CoarseSoFar rules point arcs made → IsSessionOf rules (coarse point arcs) s → IsSettledForm s form → SettlesAt rules made point
+pub coarse_settles : (rules : Rules) (point : List ℤ) (arcs : List Arc) (made : ℕ) (s : Session) (form : Form) → CoarseSoFar rules point arcs made
+    → IsSessionOf rules (coarse point arcs) s → IsSettledForm s form → SettlesAt rules made point
 coarse_settles rules point arcs made s form h k g = record {
   before = h.before;
   session = s;
@@ -106,7 +118,8 @@ coarse_settles rules point arcs made s form h k g = record {
   in_reach = h.in_reach;
 }
 
-pub coarse_moves : (rules : Rules) (point : List ℤ) (arcs : List Arc) (made : ℕ) (s : Session) (numbers next : List ℤ) → CoarseSoFar rules point arcs made → IsSessionOf rules (coarse point arcs) s → nat_eq made (most_rounds 14) ≡ false → IsMoved s numbers next → CoarseSoFar rules next arcs (made + 1)
+pub coarse_moves : (rules : Rules) (point : List ℤ) (arcs : List Arc) (made : ℕ) (s : Session) (numbers next : List ℤ) → CoarseSoFar rules point arcs made
+    → IsSessionOf rules (coarse point arcs) s → nat_eq made (most_rounds 14) ≡ false → IsMoved s numbers next → CoarseSoFar rules next arcs (made + 1)
 coarse_moves rules point arcs made s numbers next h k b m =
     let e : s.scale ≡ 14 = scale_is rules (coarse point arcs) s k in
     record {
@@ -144,7 +157,8 @@ pub record FineSoFar (rules : Rules) (point : List ℤ) (arcs : List Arc) (coars
   pub below : AreShiftsBelow (2 ^ 39 + 2 ^ 30 * (made - 1)) arcs
   pub used : All (HasUsedShifts (fine_signals rules.signals)) arcs
 
-pub fine_begins : (rules : Rules) (point : List ℤ) (arcs : List Arc) (coarse_made : ℕ) → SettlesAt rules coarse_made point → rules.begins point arcs → AreSameArcs rules.arcs arcs → AreShiftsBelow (2 ^ 39) arcs →
+pub fine_begins : (rules : Rules) (point : List ℤ) (arcs : List Arc) (coarse_made : ℕ) → SettlesAt rules coarse_made point → rules.begins point arcs →
+    AreSameArcs rules.arcs arcs → AreShiftsBelow (2 ^ 39) arcs →
     All (HasUsedShifts (fine_signals rules.signals)) arcs → FineSoFar rules point arcs coarse_made 1
 fine_begins rules point arcs coarse_made h b same below used = record {
   before = h.session ∷ h.before;
@@ -175,19 +189,32 @@ fine_begins rules point arcs coarse_made h b same below used = record {
 abbrev made_of : ℕ → ℕ → RoundCounts
 made_of coarse_made made = record { coarse = coarse_made; fine = made }
 
-fine_reached : (rules : Rules) (point : List ℤ) (arcs : List Arc) (coarse_made made : ℕ) (h : FineSoFar rules point arcs coarse_made made) → Reaches rules (made_of coarse_made made) h.before (fine point arcs)
-fine_reached rules point arcs coarse_made made h = record { run = h.run; coarse_made = plus_zero coarse_made (rounds_at 14 h.before) h.coarse_count; fine_made = sym h.count; few_coarse = h.few_coarse; few_fine = h.few }
+fine_reached : (rules : Rules) (point : List ℤ) (arcs : List Arc) (coarse_made made : ℕ) (h : FineSoFar rules point arcs coarse_made made)
+    → Reaches rules (made_of coarse_made made) h.before (fine point arcs)
+fine_reached rules point arcs coarse_made made h = record {
+  run = h.run;
+  coarse_made = plus_zero coarse_made (rounds_at 14 h.before) h.coarse_count;
+  fine_made = sym h.count;
+  few_coarse = h.few_coarse;
+  few_fine = h.few
+}
 
-fine_session : (rules : Rules) (point : List ℤ) (arcs : List Arc) (coarse_made made : ℕ) (h : FineSoFar rules point arcs coarse_made made) (s : Session) → IsSessionOf rules (fine point arcs) s → Reaches rules (made_of coarse_made made) h.before (round_of s)
+fine_session : (rules : Rules) (point : List ℤ) (arcs : List Arc) (coarse_made made : ℕ) (h : FineSoFar rules point arcs coarse_made made) (s : Session)
+    → IsSessionOf rules (fine point arcs) s → Reaches rules (made_of coarse_made made) h.before (round_of s)
 fine_session rules point arcs coarse_made made h s k = subst (Reaches rules (made_of coarse_made made) h.before) (sym k.round_is) (fine_reached rules point arcs coarse_made made h)
 
-fine_last : (rules : Rules) (point : List ℤ) (arcs : List Arc) (coarse_made made : ℕ) (h : FineSoFar rules point arcs coarse_made made) (s : Session) → IsSessionOf rules (fine point arcs) s → is_last s.scale h.before ≡ nat_eq made (most_rounds 0)
+fine_last : (rules : Rules) (point : List ℤ) (arcs : List Arc) (coarse_made made : ℕ) (h : FineSoFar rules point arcs coarse_made made) (s : Session)
+    → IsSessionOf rules (fine point arcs) s → is_last s.scale h.before ≡ nat_eq made (most_rounds 0)
 fine_last rules point arcs coarse_made made h s k = ap (λ (n : ℕ). is_last n h.before) (scale_is rules (fine point arcs) s k) ∙ ap (λ (n : ℕ). nat_eq n (most_rounds 0)) h.count
 
-pub fine_at_y : (rules : Rules) (point : List ℤ) (arcs : List Arc) (coarse_made made : ℕ) → FineSoFar rules point arcs coarse_made made → rules.may_be_wide (fine point arcs) → EndsEarly rules (made_of coarse_made made) Fine (Tail.Overwidth Place.Y)
-fine_at_y rules point arcs coarse_made made h w = inl (refl, record { before = h.before; round = fine point arcs; scale_is = refl; reached = fine_reached rules point arcs coarse_made made h; wide = w })
+pub fine_at_y : (rules : Rules) (point : List ℤ) (arcs : List Arc) (coarse_made made : ℕ) → FineSoFar rules point arcs coarse_made made
+    → rules.may_be_wide (fine point arcs) → EndsEarly rules (made_of coarse_made made) Fine (Tail.Overwidth Place.Y)
+fine_at_y rules point arcs coarse_made made h w =
+    inl (refl, record { before = h.before; round = fine point arcs; scale_is = refl; reached = fine_reached rules point arcs coarse_made made h; wide = w })
 
-pub fine_declines : (rules : Rules) (point : List ℤ) (arcs : List Arc) (coarse_made made ratio budget : ℕ) (s : Session) (tail : Tail) → FineSoFar rules point arcs coarse_made made → IsSessionOf rules (fine point arcs) s → IsRoundDeclined (nat_eq made (most_rounds 0)) s tail → EndsFull rules ratio budget (made_of coarse_made made) s tail
+pub fine_declines : (rules : Rules) (point : List ℤ) (arcs : List Arc) (coarse_made made ratio budget : ℕ) (s : Session) (tail : Tail)
+    → FineSoFar rules point arcs coarse_made made → IsSessionOf rules (fine point arcs) s → IsRoundDeclined (nat_eq made (most_rounds 0)) s tail
+    → EndsFull rules ratio budget (made_of coarse_made made) s tail
 fine_declines rules point arcs coarse_made made ratio budget s tail h k d = (
   scale_is rules (fine point arcs) s k,
   inl (record {
@@ -198,7 +225,9 @@ fine_declines rules point arcs coarse_made made ratio budget s tail h k d = (
   }),
 )
 
-pub fine_decides : (rules : Rules) (point : List ℤ) (arcs : List Arc) (coarse_made made ratio budget : ℕ) (s : Session) (form : Form) (tail : Tail) → FineSoFar rules point arcs coarse_made made → IsSessionOf rules (fine point arcs) s → IsSettledForm s form → IsDecision s form ratio budget tail → EndsFull rules ratio budget (made_of coarse_made made) s tail
+pub fine_decides : (rules : Rules) (point : List ℤ) (arcs : List Arc) (coarse_made made ratio budget : ℕ) (s : Session) (form : Form) (tail : Tail)
+    → FineSoFar rules point arcs coarse_made made → IsSessionOf rules (fine point arcs) s → IsSettledForm s form → IsDecision s form ratio budget tail
+    → EndsFull rules ratio budget (made_of coarse_made made) s tail
 fine_decides rules point arcs coarse_made made ratio budget s form tail h k g d = (
   scale_is rules (fine point arcs) s k,
   inr (record {
@@ -211,7 +240,8 @@ fine_decides rules point arcs coarse_made made ratio budget s form tail h k g d 
   }),
 )
 
-pub fine_moves : (rules : Rules) (point : List ℤ) (arcs : List Arc) (coarse_made made : ℕ) (s : Session) (numbers next : List ℤ) (after : List Arc) → FineSoFar rules point arcs coarse_made made → IsSessionOf rules (fine point arcs) s → nat_eq made (most_rounds 0) ≡ false → IsMoved s numbers next →
+pub fine_moves : (rules : Rules) (point : List ℤ) (arcs : List Arc) (coarse_made made : ℕ) (s : Session) (numbers next : List ℤ) (after : List Arc) →
+    FineSoFar rules point arcs coarse_made made → IsSessionOf rules (fine point arcs) s → nat_eq made (most_rounds 0) ≡ false → IsMoved s numbers next →
     AreGrown arcs (fine_signals s.signals) numbers after → ((m : ℕ) → AreShiftsBelow m arcs → 0 < m → AreShiftsBelow (m + 2 ^ 30) after) → FineSoFar rules next after coarse_made (made + 1)
 fine_moves rules point arcs coarse_made made s numbers next after h k b m g below =
     let e : s.scale ≡ 0 = scale_is rules (fine point arcs) s k in

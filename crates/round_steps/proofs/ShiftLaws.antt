@@ -78,7 +78,8 @@ length_push : (xs : List Arc) (y : Arc) → length (xs ++ y ∷ []) ≡ length x
 length_push [] y = refl
 length_push (x ∷ xs) y = let e : length (xs ++ y ∷ []) ≡ length xs + 1 = length_push xs y in omega arith
 
-pub more_grown : (k : ℕ) (arcs : List Arc) (ss : List ℕ) (x : List ℤ) (after after' : List Arc) (a : Arc) → AreGrownTo k arcs ss x after → slice_get arcs k ≡ Some a → after' ≡ after ++ grown_arc arcs ss x k a ∷ [] → AreGrownTo (k + 1) arcs ss x after'
+pub more_grown : (k : ℕ) (arcs : List Arc) (ss : List ℕ) (x : List ℤ) (after after' : List Arc) (a : Arc) → AreGrownTo k arcs ss x after
+    → slice_get arcs k ≡ Some a → after' ≡ after ++ grown_arc arcs ss x k a ∷ [] → AreGrownTo (k + 1) arcs ss x after'
 more_grown k arcs ss x after after' a h e p = record {
   as_many = ap length p ∙ length_push after (grown_arc arcs ss x k a) ∙ ap (λ n. n + 1) h.as_many;
   each = λ j b i g. ⊎_elim (λ (l : j < k). ap (λ l. slice_get l j) p ∙ before_push after (grown_arc arcs ss x k a) j (subst (λ (n : ℕ). j < n) (sym h.as_many) l) ∙ h.each j b l g)
@@ -100,7 +101,8 @@ all_grown k arcs ss x after h e = record {
 }
 
 -- lists that are the same but for shifts
-same_lists : (xs ys : List Arc) → length ys ≡ length xs → ((k : ℕ) (a : Arc) → slice_get xs k ≡ Some a → (b : Arc) × ((slice_get ys k ≡ Some b) × (without_shifts b ≡ without_shifts a))) → AreSameArcs xs ys
+same_lists : (xs ys : List Arc) → length ys ≡ length xs
+    → ((k : ℕ) (a : Arc) → slice_get xs k ≡ Some a → (b : Arc) × ((slice_get ys k ≡ Some b) × (without_shifts b ≡ without_shifts a))) → AreSameArcs xs ys
 same_lists [] [] e h = refl
 same_lists [] (y ∷ ys) e h = absurd (omega arith)
 same_lists (x ∷ xs) [] e h = absurd (omega arith)

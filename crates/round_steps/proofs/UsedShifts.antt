@@ -56,7 +56,8 @@ no_integer arcs ss z k s off =
     none z f false = refl
 
 -- so its shift stays
-same_shift : (arcs : List Arc) (ss : List ℕ) (x : List ℤ) (k : ℕ) (a : Arc) (s : ℕ) → list_any (λ b. b == band s) (phase_bands ss) ≡ false → item a.shift (band s) ≡ pos 0 → grown_shift arcs ss x k a s ≡ pos 0
+same_shift : (arcs : List Arc) (ss : List ℕ) (x : List ℤ) (k : ℕ) (a : Arc) (s : ℕ) → list_any (λ b. b == band s) (phase_bands ss) ≡ false
+    → item a.shift (band s) ≡ pos 0 → grown_shift arcs ss x k a s ≡ pos 0
 same_shift arcs ss x k a s off zero_there = ap₂ (λ (m n : ℤ). m +ℤ growth n) zero_there (no_integer arcs ss (integers x) k s off)
 
 arc_used : (arcs : List Arc) (ss : List ℕ) (x : List ℤ) (k : ℕ) (a : Arc) → HasUsedShifts ss a → HasUsedShifts ss (grown_arc arcs ss x k a)

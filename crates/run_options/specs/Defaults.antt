@@ -33,4 +33,16 @@ pub record Numbers : Type 0 where
   pub count : ℕ
 
 abbrev pub numbers_of : Options → Numbers
-numbers_of o = record { bands = o.bands; system = o.system; ratio = o.ratio; budget = o.budget; mask = o.mask; gap = o.gap; jump = o.jump; arc = o.arc; step = o.step; first = o.first; count = o.count }
+numbers_of o = record {
+  bands = o.bands;
+  system = o.system;
+  ratio = o.ratio;
+  budget = o.budget;
+  mask = o.mask;
+  gap = o.gap;
+  jump = o.jump;
+  arc = o.arc;
+  step = o.step;
+  first = o.first;
+  count = o.count
+}

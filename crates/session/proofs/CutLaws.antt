@@ -21,7 +21,11 @@ pub record Like (arcs : List Arc) (k : ℕ) (a : Arc) : Type 0 where
 pub like : (xs ys : List Arc) → AreSameArcs xs ys → (k : ℕ) (a : Arc) → slice_get xs k ≡ Some a → Like ys k a
 like [] ys e k a h = absurd cc
 like (x ∷ xs) [] e k a h = absurd cc
-like (x ∷ xs) (y ∷ ys) e zero a h = record { arc = y; arc_is = refl; same = heads (without_shifts y) (without_shifts x) (map without_shifts ys) (map without_shifts xs) e ∙ ap without_shifts (some_inj x a h) }
+like (x ∷ xs) (y ∷ ys) e zero a h = record {
+  arc = y;
+  arc_is = refl;
+  same = heads (without_shifts y) (without_shifts x) (map without_shifts ys) (map without_shifts xs) e ∙ ap without_shifts (some_inj x a h)
+}
   where
     heads : (p q : Arc) (ps qs : List Arc) → p ∷ ps ≡ q ∷ qs → p ≡ q
     heads p q ps qs e = cc
@@ -82,7 +86,14 @@ kept_along bands jump least short used xs ys e h = record { runs = h.runs; all =
 
 -- shifts don't matter to a cut
 pub cut_along : (used : List UsedPair) (xs ys : List Arc) → AreSameArcs xs ys → IsCutOf used xs → IsCutOf used ys
-cut_along used xs ys e h = record { bands = h.bands; jump = h.jump; least = h.least; short = h.short; kept = kept_along h.bands h.jump h.least h.short used xs ys e h.kept; datums = datums_along xs ys e h.datums }
+cut_along used xs ys e h = record {
+  bands = h.bands;
+  jump = h.jump;
+  least = h.least;
+  short = h.short;
+  kept = kept_along h.bands h.jump h.least h.short used xs ys e h.kept;
+  datums = datums_along xs ys e h.datums
+}
 
 -- ---- free arcs
 free_at : (arcs : List Arc) (k : ℕ) (a : Arc) → slice_get arcs k ≡ Some a → a.datum ≡ false → 1 ≤ free_count arcs

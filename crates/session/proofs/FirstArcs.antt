@@ -62,8 +62,10 @@ same_lists [] (y ∷ ys) e h = absurd (omega arith)
 same_lists (x ∷ xs) [] e h = absurd (omega arith)
 same_lists (x ∷ xs) (y ∷ ys) e h = ap₂ (λ a l. a ∷ l) (h 0 x y refl refl) (same_lists xs ys (omega arith) (λ k a b g i. h (suc k) a b g i))
 
-pub same_first : (boxes : List SvPair) (kept : List Arc) (position point : List ℤ) (signals : Signals) (n : ℕ) (arcs : List Arc) → AreFirstTo boxes kept position point signals n arcs → n ≡ length kept → AreSameArcs kept arcs
+pub same_first : (boxes : List SvPair) (kept : List Arc) (position point : List ℤ) (signals : Signals) (n : ℕ) (arcs : List Arc)
+    → AreFirstTo boxes kept position point signals n arcs → n ≡ length kept → AreSameArcs kept arcs
 same_first boxes kept position point signals n arcs h e = same_lists kept arcs (h.as_many ∙ e) (λ k a b g i. (h.each k a b g i).same)
 
-pub begins : (boxes : List SvPair) (kept : List Arc) (position point : List ℤ) (signals : Signals) (n : ℕ) (arcs : List Arc) → AreFirstTo boxes kept position point signals n arcs → n ≡ length kept → HaveFirstShifts boxes kept position point signals arcs
+pub begins : (boxes : List SvPair) (kept : List Arc) (position point : List ℤ) (signals : Signals) (n : ℕ) (arcs : List Arc)
+    → AreFirstTo boxes kept position point signals n arcs → n ≡ length kept → HaveFirstShifts boxes kept position point signals arcs
 begins boxes kept position point signals n arcs h e = record { same = same_first boxes kept position point signals n arcs h e; near = λ k a b g i. (h.each k a b g i).near }

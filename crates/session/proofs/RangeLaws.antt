@@ -49,7 +49,8 @@ used_well (p ∷ ps) sat (suc i) h e =
     let l : i < length ps = w.inside in
     record { number = w.number; inside = omega arith }
 
-arc_in_range : (used : List UsedPair) (kept : List Arc) → IsCutOf used kept → length used ≤ 3600 → All AreNumbered used → (k : ℕ) (a : Arc) → slice_get kept k ≡ Some a → All (IsBelow (2 ^ 40)) a.shift → IsArcInRange a
+arc_in_range : (used : List UsedPair) (kept : List Arc) → IsCutOf used kept → length used ≤ 3600 → All AreNumbered used → (k : ℕ) (a : Arc)
+    → slice_get kept k ≡ Some a → All (IsBelow (2 ^ 40)) a.shift → IsArcInRange a
 arc_in_range used kept c few numbered k a is shifts =
     let r : IsArc c.bands c.jump used (run_of a) = (kept_each c.bands c.jump c.least used kept c.short k a c.kept is).0 in
     let w : IsUsedWell used a.sat a.last = used_well used a.sat a.last numbered (r.run.used_in a.last r.run.order (omega arith)) in
@@ -140,7 +141,8 @@ neighbours arcs number t =
     record { one = t.second.arc; other = t.first.arc; one_is = t.second.arc_is; other_is = t.first.arc_is; share = (number, p.0, p.1, q.0, q.1) }
 
 -- ---- the arcs of a session
-pub able : (used : List UsedPair) (kept : List Arc) (taken : ℕ) → IsCutOf used kept → length used ≤ 3600 → All AreNumbered used → AreShiftsBelow (2 ^ 40) kept → (AreFew taken kept → ⊥) → (AreMany kept → ⊥) → AreArcs kept
+pub able : (used : List UsedPair) (kept : List Arc) (taken : ℕ) → IsCutOf used kept → length used ≤ 3600 → All AreNumbered used
+    → AreShiftsBelow (2 ^ 40) kept → (AreFew taken kept → ⊥) → (AreMany kept → ⊥) → AreArcs kept
 able used kept taken c few numbered shifts not_few not_many =
     let p : (number : ℕ) × (4 ≤ held kept number) = some_pair taken kept not_few in
     let t : TwoHolders kept p.0 = two_holders kept p.0 (half (held kept p.0) p.1) in

@@ -33,7 +33,8 @@ pub record AreScreened (base rover : ObsFile) (nav : Records) (o : Options) (pos
 -- the session stands for the files at its point, with its shifts and at its scale
 abbrev pub StandsAsItIs : ObsFile → ObsFile → Records → Options → List ℤ → Signals → List PairOf → Session → Type 0
 StandsAsItIs base rover nav o position signals taken s =
-    StandsForFiles (setting_of base nav signals o.mask (world_of o.system)) base.epochs rover.epochs taken (bands_of o.bands) o.jump o.arc o.system position signals s.point (map (λ a. a.shift) s.arcs) s.scale s
+    StandsForFiles (setting_of base nav signals o.mask (world_of o.system)) base.epochs rover.epochs taken (bands_of o.bands) o.jump o.arc o.system
+        position signals s.point (map (λ a. a.shift) s.arcs) s.scale s
 
 -- The counts, and the answer of a run over the kept arcs with its rounds. Each session that a round of the run may have stands for the files
 pub record IsOutcome (base rover : ObsFile) (nav : Records) (o : Options) (out : Outcome) : Type 0 where
@@ -46,7 +47,8 @@ pub record IsOutcome (base rover : ObsFile) (nav : Records) (o : Options) (out :
   pub taken_are : AreTaken base rover o taken
   pub rounds : FileRounds
   pub screened : AreScreened base rover nav o position signals taken rounds
-  pub stands : (s : Session) → HasRowsOf rounds.screened.boxes (length rounds.screened.used) rounds.kept rounds.position rounds.signals rounds.system s → StandsAsItIs base rover nav o position signals taken s
+  pub stands : (s : Session) → HasRowsOf rounds.screened.boxes (length rounds.screened.used) rounds.kept rounds.position rounds.signals rounds.system s
+      → StandsAsItIs base rover nav o position signals taken s
   pub taken_is : out.taken ≡ length taken
   pub all_is : out.all ≡ length (pairs_of base rover o)
   pub kept_is : out.kept ≡ length rounds.kept

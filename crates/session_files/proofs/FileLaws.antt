@@ -30,9 +30,11 @@ obs_along system told later name file same is = record { text = is.text; is = te
 pub nav_along : (system : System) (told later : List ℕ → Option (List ℕ)) (name : List ℕ) (records : Records) → Same told later → IsNavOf system later name records → IsNavOf system told name records
 nav_along system told later name records same is = record { text = is.text; is = text_along told later name is.text same is.is; is_file = is.is_file; are_fit = is.are_fit }
 
-pub file_along : (told later : List ℕ → Option (List ℕ)) (name : List ℕ) (ends : List ℕ → Ending → Type 0) (end : Ending) → Same told later → EndsByFile later name ends end → EndsByFile told name ends end
+pub file_along : (told later : List ℕ → Option (List ℕ)) (name : List ℕ) (ends : List ℕ → Ending → Type 0) (end : Ending) → Same told later
+    → EndsByFile later name ends end → EndsByFile told name ends end
 file_along told later name ends end same (inl by_text) = inl (record { text = by_text.text; is = text_along told later name by_text.text same by_text.is; ends_so = by_text.ends_so })
-file_along told later name ends end same (inr (inl large)) = inr (inl (record { large = subst (λ (o : Option (List ℕ)). IfSome o (λ bytes. 67108864 < length bytes)) (same name) large.large; end_is = large.end_is }))
+file_along told later name ends end same (inr (inl large)) =
+    inr (inl (record { large = subst (λ (o : Option (List ℕ)). IfSome o (λ bytes. 67108864 < length bytes)) (same name) large.large; end_is = large.end_is }))
 file_along told later name ends end same (inr (inr fault)) = inr (inr fault)
 
 -- ---- statuses
@@ -48,11 +50,15 @@ files_status system told base rover nav end (inr (inl stops)) = stop_status syst
 files_status system told base rover nav end (inr (inr stops)) = nav_stop_status system told nav end stops.stops
 
 -- ---- files that are admitted are none at which it stops
-pub no_stop : (system : System) (told : List ℕ → Option (List ℕ)) (base rover nav : List ℕ) (end : Ending) → IsAdmitted told base (HasObservation system) → IsAdmitted told rover (HasObservation system) → IsAdmitted told nav (HasNavFile system) → end.status ≢ ReadFault
+pub no_stop : (system : System) (told : List ℕ → Option (List ℕ)) (base rover nav : List ℕ) (end : Ending) → IsAdmitted told base (HasObservation system)
+    → IsAdmitted told rover (HasObservation system) → IsAdmitted told nav (HasNavFile system) → end.status ≢ ReadFault
     → StopsAtFiles system told base rover nav end → ⊥
-no_stop system told base rover nav end b r n no_fault (inl stops) = (admitted_ends told base (HasObservation system) (IsRefusal (any_of system) (HasObservation system) base) end b no_fault stops).none b.file
-no_stop system told base rover nav end b r n no_fault (inr (inl stops)) = (admitted_ends told rover (HasObservation system) (IsRefusal (any_of system) (HasObservation system) rover) end r no_fault stops.stops).none r.file
-no_stop system told base rover nav end b r n no_fault (inr (inr stops)) = (admitted_ends told nav (HasNavFile system) (IsRefusal (nav_of system) (HasNavFile system) nav) end n no_fault stops.stops).none n.file
+no_stop system told base rover nav end b r n no_fault (inl stops) =
+    (admitted_ends told base (HasObservation system) (IsRefusal (any_of system) (HasObservation system) base) end b no_fault stops).none b.file
+no_stop system told base rover nav end b r n no_fault (inr (inl stops)) =
+    (admitted_ends told rover (HasObservation system) (IsRefusal (any_of system) (HasObservation system) rover) end r no_fault stops.stops).none r.file
+no_stop system told base rover nav end b r n no_fault (inr (inr stops)) =
+    (admitted_ends told nav (HasNavFile system) (IsRefusal (nav_of system) (HasNavFile system) nav) end n no_fault stops.stops).none n.file
 
 -- ---- reading one after the other
 pub answer_as : (system of : System) (text : List ℕ) (answer : Result ObsFile TextFault) → system ≡ of → IsAnswer of text answer → IsAnswer system text answer
@@ -80,16 +86,19 @@ taken_stops system told name taken stands_for answer r whole answers stops = sto
 })) (stops system whole.text (answers whole.text whole.stands))
 
 -- and its refusal is that of a file that was read to its end
-pub taken_refused : (system : System) (told : List ℕ → Option (List ℕ)) (left : ℕ → Option (List ℕ)) (name : List ℕ) (taken : ℕ) (stands_for : List ℕ → Type 0) (answer : Result ObsFile TextFault) (r : Result ObsFile Stop)
+pub taken_refused : (system : System) (told : List ℕ → Option (List ℕ)) (left : ℕ → Option (List ℕ)) (name : List ℕ) (taken : ℕ)
+    (stands_for : List ℕ → Type 0) (answer : Result ObsFile TextFault) (r : Result ObsFile Stop)
     → IsTakenWhole (told name) taken stands_for → IsReadToEnd told left name → ((text : List ℕ) → stands_for text → IsAnswer system text answer)
     → ((s : System) (text : List ℕ) → IsAnswer s text answer → IfStopped r (λ end. IsRefusal (any_of s) (HasObservation s) name text end)) → IfStopped r (IsRefusedWhole told left (name ∷ []))
 taken_refused system told left name taken stands_for answer r whole read answers stops =
     stopped_weaker r _ _ (λ end refusal. refusal_whole told left name whole.text end read refusal) (stops system whole.text (answers whole.text whole.stands))
 
-pub at_rover : (system : System) (told later : List ℕ → Option (List ℕ)) (base rover nav : List ℕ) (b : ObsFile) (end : Ending) → Same told later → IsObsOf system told base b → StopsAtObs system later rover end → StopsAtFiles system told base rover nav end
+pub at_rover : (system : System) (told later : List ℕ → Option (List ℕ)) (base rover nav : List ℕ) (b : ObsFile) (end : Ending) → Same told later
+    → IsObsOf system told base b → StopsAtObs system later rover end → StopsAtFiles system told base rover nav end
 at_rover system told later base rover nav b end same is stops = inr (inl (record { base_file = b; base_is = is; stops = file_along told later rover _ end same stops }))
 
-pub at_third : (system : System) (told later last : List ℕ → Option (List ℕ)) (base rover nav : List ℕ) (b r : ObsFile) (end : Ending) → Same told later → Same later last → IsObsOf system told base b → IsObsOf system later rover r → StopsAtNav system last nav end → StopsAtFiles system told base rover nav end
+pub at_third : (system : System) (told later last : List ℕ → Option (List ℕ)) (base rover nav : List ℕ) (b r : ObsFile) (end : Ending) → Same told later
+    → Same later last → IsObsOf system told base b → IsObsOf system later rover r → StopsAtNav system last nav end → StopsAtFiles system told base rover nav end
 at_third system told later last base rover nav b r end same again is also stops = inr (inr (record {
   base_file = b;
   base_is = is;
@@ -105,7 +114,8 @@ read_along told later left name same whole = subst (λ (o : Option (List ℕ)). 
 read_at : (told later : List ℕ → Option (List ℕ)) (left : ℕ → Option (List ℕ)) (name other : List ℕ) → Same told later → other ≡ name → IsReadToEnd later left other → IsReadToEnd told left name
 read_at told later left name other same is whole = read_along told later left name same (subst (λ (n : List ℕ). IsReadToEnd later left n) is whole)
 
-one_whole : (told later : List ℕ → Option (List ℕ)) (left : ℕ → Option (List ℕ)) (tells : List ℕ → Type 0) (name other : List ℕ) → Same told later → other ≡ name → IsRefusedFile later left tells other → IsRefusedFile told left tells name
+one_whole : (told later : List ℕ → Option (List ℕ)) (left : ℕ → Option (List ℕ)) (tells : List ℕ → Type 0) (name other : List ℕ) → Same told later
+    → other ≡ name → IsRefusedFile later left tells other → IsRefusedFile told left tells name
 one_whole told later left tells name other same is (inl refused) = inl (record {
   at = refused.at;
   line = subst (λ (n : List ℕ). tells (refusal_line n refused.at)) is refused.line;
@@ -123,7 +133,8 @@ the_one name x zero inside at = sym at
 the_one name x (suc k) inside at = absurd (omega arith)
 
 -- what holds of the file at a place, after others were read, holds among all
-pub refused_at : (told later : List ℕ → Option (List ℕ)) (left : ℕ → Option (List ℕ)) (name : List ℕ) (names : List (List ℕ)) (k : ℕ) (end : Ending) → k < length names → slice_index_or names k name ≡ name → Same told later
+pub refused_at : (told later : List ℕ → Option (List ℕ)) (left : ℕ → Option (List ℕ)) (name : List ℕ) (names : List (List ℕ)) (k : ℕ) (end : Ending)
+    → k < length names → slice_index_or names k name ≡ name → Same told later
     → IsRefusedWhole later left (name ∷ []) end → IsRefusedWhole told left names end
 refused_at told later left name names k end inside at same refused = λ is.
     let found = refused is in

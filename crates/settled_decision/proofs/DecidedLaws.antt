@@ -68,7 +68,8 @@ first_least p v w h = ⊎_elim (λ (l : value p v <ℤ value p w). weaker (value
     same : (a b : ℤ) → a ≡ b → a ≤ℤ b
     same a b e = omega (arith, lins)
 
-values_in_range : (s : Session) (f : Form) (best : TwoBest) → IsFormOf s f → s.scale ≡ 0 → IsTwoBest f best → ((z : List ℤ) → length z ≡ integers_of f → neg_ℤ (pos (2 ^ 63)) ≤ℤ value_of f z) → InRange best.p1 best.p2
+values_in_range : (s : Session) (f : Form) (best : TwoBest) → IsFormOf s f → s.scale ≡ 0 → IsTwoBest f best
+    → ((z : List ℤ) → length z ≡ integers_of f → neg_ℤ (pos (2 ^ 63)) ≤ℤ value_of f z) → InRange best.p1 best.p2
 values_in_range s f best h fine two from = in_range best.p1 best.p2
     (subst (λ (x : ℤ). neg_ℤ (pos (2 ^ 63)) ≤ℤ x) (sym two.p1) (from (first_of best) (first_length f best two ∙ two.size)))
     (subst (λ (x : ℤ). x ≤ℤ best.p2) (sym two.p1) (subst (λ (x : ℤ). value_of f (first_of best) ≤ℤ x) (sym two.p2) (first_least (columns_of f) (first_of best) (second_of best) two.least.order)))

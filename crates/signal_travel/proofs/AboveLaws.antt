@@ -61,7 +61,8 @@ near_places (a ∷ b ∷ c ∷ []) x y z ex ey ez w q h = (
 near_places (a ∷ b ∷ c ∷ d ∷ rest) x y z ex ey ez w q h = absurd h.1.1.1
 
 -- ---- the answer
-pub plain_answer : (t : Type 0) (mask : ℕ) (a b c p q r a' b' c' p' q' r' : ℤ) → a' ≡ a → b' ≡ b → c' ≡ c → p' ≡ p → q' ≡ q → r' ≡ r → (t ↔ IsAboveWhole mask a' b' c' p' q' r') → (t ↔ IsAboveWhole mask a b c p q r)
+pub plain_answer : (t : Type 0) (mask : ℕ) (a b c p q r a' b' c' p' q' r' : ℤ) → a' ≡ a → b' ≡ b → c' ≡ c → p' ≡ p → q' ≡ q → r' ≡ r
+    → (t ↔ IsAboveWhole mask a' b' c' p' q' r') → (t ↔ IsAboveWhole mask a b c p q r)
 plain_answer t mask a b c p q r a' b' c' p' q' r' ea eb ec ep eq er h = rw (ea, eb, ec, ep, eq, er) at h
 
 pub lo_fits : (x : Iv 36) → to_z w64 (of_z w64 x.lo) ≡ x.lo
@@ -70,14 +71,18 @@ lo_fits x = to_z-of_z w64 x.lo (go x.lo x.hi x.low x.ordered x.high)
     go : (l h : ℤ) → neg_ℤ (pos (2 ^ 62)) ≤ℤ l → l ≤ℤ h → h ≤ℤ pos (2 ^ 62) → SFits w64 l
     go l h a b c = omega (arith, ints)
 
-pub has_above : (boxes : List (Iv 36)) (x y z : Iv 36) (mask : ℕ) (p q r : ℤ) → IsNearPlaces boxes (grid_place x.lo y.lo z.lo) → IsAboveWhole mask (offset x.lo p) (offset y.lo q) (offset z.lo r) p q r →
+pub has_above : (boxes : List (Iv 36)) (x y z : Iv 36) (mask : ℕ) (p q r : ℤ) → IsNearPlaces boxes (grid_place x.lo y.lo z.lo) →
+    IsAboveWhole mask (offset x.lo p) (offset y.lo q) (offset z.lo r) p q r →
     HasNearPlace boxes (λ g. IsAboveMask mask g (point_of p q r))
 has_above boxes x y z mask p q r n h = record {
   place = grid_place x.lo y.lo z.lo;
   near = n;
-  has = is_above mask (dot3 (offset x.lo p) (offset y.lo q) (offset z.lo r) p q r) (dot3 (offset x.lo p) (offset y.lo q) (offset z.lo r) (offset x.lo p) (offset y.lo q) (offset z.lo r)) (dot3 p q r p q r) (grid_place x.lo y.lo z.lo) (point_of p q r) (sides mask x.lo y.lo z.lo p q r) h.0 h.1;
+  has = is_above mask (dot3 (offset x.lo p) (offset y.lo q) (offset z.lo r) p q r)
+      (dot3 (offset x.lo p) (offset y.lo q) (offset z.lo r) (offset x.lo p) (offset y.lo q) (offset z.lo r)) (dot3 p q r p q r)
+      (grid_place x.lo y.lo z.lo) (point_of p q r) (sides mask x.lo y.lo z.lo p q r) h.0 h.1;
 }
 
-pub has_below : (boxes : List (Iv 36)) (x y z : Iv 36) (mask : ℕ) (p q r : ℤ) (t : Type 0) → IsNearPlaces boxes (grid_place x.lo y.lo z.lo) → (t → ⊥) → (IsAboveWhole mask (offset x.lo p) (offset y.lo q) (offset z.lo r) p q r → t) →
+pub has_below : (boxes : List (Iv 36)) (x y z : Iv 36) (mask : ℕ) (p q r : ℤ) (t : Type 0) → IsNearPlaces boxes (grid_place x.lo y.lo z.lo) →
+    (t → ⊥) → (IsAboveWhole mask (offset x.lo p) (offset y.lo q) (offset z.lo r) p q r → t) →
     HasNearPlace boxes (λ g. IsBelowMask mask g (point_of p q r))
 has_below boxes x y z mask p q r t n untrue up = record { place = grid_place x.lo y.lo z.lo; near = n; has = decided_place t mask x.lo y.lo z.lo p q r untrue up }

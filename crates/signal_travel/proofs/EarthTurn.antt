@@ -16,13 +16,38 @@ use Rattle.trig_box.proofs.PairLaws.{canonical_exists, canonical_is_pair, canoni
 use Rattle.orbit_model.specs.Elements.{earth_rate}
 
 -- the angle of a time of the box against that of its middle, rounded
-pub angle_up : (t u h m r a p : ℤ) → (t *ℤ (pos 1152921504606846976)) ≤ℤ (h *ℤ u) → (h -ℤ m) ≤ℤ r → ((pos 72921151467) *ℤ m) ≤ℤ ((a *ℤ (pos 16000000000000000)) +ℤ (pos 16000000000000000)) → (r +ℤ (pos 135168)) ≤ℤ ((pos 4096) *ℤ p) → (pos 0) ≤ℤ r → (pos 0) ≤ℤ u → (((((pos 72921151467) *ℤ t) *ℤ (pos 72057594037927936)) -ℤ (a *ℤ ((pos 1000000000000000) *ℤ u))) *ℤ (pos 2305843009213693952)) ≤ℤ ((p -ℤ (pos 1)) *ℤ (((pos 1000000000000000) *ℤ u) *ℤ (pos 72057594037927936)))
+pub angle_up : (t u h m r a p : ℤ) → (t *ℤ (pos 1152921504606846976)) ≤ℤ (h *ℤ u) → (h -ℤ m) ≤ℤ r
+    → ((pos 72921151467) *ℤ m) ≤ℤ ((a *ℤ (pos 16000000000000000)) +ℤ (pos 16000000000000000)) → (r +ℤ (pos 135168)) ≤ℤ ((pos 4096) *ℤ p) → (pos 0) ≤ℤ r
+    → (pos 0) ≤ℤ u → (((((pos 72921151467) *ℤ t) *ℤ (pos 72057594037927936)) -ℤ (a *ℤ ((pos 1000000000000000) *ℤ u))) *ℤ (pos 2305843009213693952))
+      ≤ℤ ((p -ℤ (pos 1)) *ℤ (((pos 1000000000000000) *ℤ u) *ℤ (pos 72057594037927936)))
 angle_up t u h m r a p h0 h1 h2 h3 h4 h5 =
-    cancel (pos 4096) (((((pos 72921151467) *ℤ t) *ℤ (pos 72057594037927936)) -ℤ (a *ℤ ((pos 1000000000000000) *ℤ u))) *ℤ (pos 2305843009213693952)) ((p -ℤ (pos 1)) *ℤ (((pos 1000000000000000) *ℤ u) *ℤ (pos 72057594037927936))) (omega (arith, ints)) (cert (t ∷ u ∷ h ∷ m ∷ r ∷ a ∷ p ∷ []) ((((va 0) ⊗ (ko (pos 1152921504606846976))) ≼ ((va 2) ⊗ (va 1))) ∷ (((va 2) ⊖ (va 3)) ≼ (va 4)) ∷ (((ko (pos 72921151467)) ⊗ (va 3)) ≼ (((va 5) ⊗ (ko (pos 16000000000000000))) ⊕ (ko (pos 16000000000000000)))) ∷ (((va 4) ⊕ (ko (pos 135168))) ≼ ((ko (pos 4096)) ⊗ (va 6))) ∷ ((ko (pos 0)) ≼ (va 4)) ∷ ((ko (pos 0)) ≼ (va 1)) ∷ []) ((ko (pos 4096)) ⊗ (((((ko (pos 72921151467)) ⊗ (va 0)) ⊗ (ko (pos 72057594037927936))) ⊖ ((va 5) ⊗ ((ko (pos 1000000000000000)) ⊗ (va 1)))) ⊗ (ko (pos 2305843009213693952)))) ((ko (pos 4096)) ⊗ (((va 6) ⊖ (ko (pos 1))) ⊗ (((ko (pos 1000000000000000)) ⊗ (va 1)) ⊗ (ko (pos 72057594037927936))))) ((((((nm 43045050197502682430559699861504) ⊠ (hy 0)) ⊞ (((nm 43045050197502682430559699861504) ⊠ (hy 5)) ⊠ (hy 1))) ⊞ (((nm 590295810358705651712) ⊠ (hy 5)) ⊠ (hy 2))) ⊞ (((nm 72057594037927936000000000000000) ⊠ (hy 5)) ⊠ (hy 3))) ⊞ (((nm 29012543840425253569440300138496) ⊠ (hy 5)) ⊠ (hy 4))) refl (h0, (h1, (h2, (h3, (h4, (h5, tt)))))))
+    cancel (pos 4096) (((((pos 72921151467) *ℤ t) *ℤ (pos 72057594037927936)) -ℤ (a *ℤ ((pos 1000000000000000) *ℤ u))) *ℤ (pos 2305843009213693952))
+        ((p -ℤ (pos 1)) *ℤ (((pos 1000000000000000) *ℤ u) *ℤ (pos 72057594037927936))) (omega (arith, ints))
+        (cert (t ∷ u ∷ h ∷ m ∷ r ∷ a ∷ p ∷ []) ((((va 0) ⊗ (ko (pos 1152921504606846976))) ≼ ((va 2) ⊗ (va 1))) ∷ (((va 2) ⊖ (va 3)) ≼ (va 4))
+            ∷ (((ko (pos 72921151467)) ⊗ (va 3)) ≼ (((va 5) ⊗ (ko (pos 16000000000000000))) ⊕ (ko (pos 16000000000000000))))
+            ∷ (((va 4) ⊕ (ko (pos 135168))) ≼ ((ko (pos 4096)) ⊗ (va 6))) ∷ ((ko (pos 0)) ≼ (va 4)) ∷ ((ko (pos 0)) ≼ (va 1)) ∷ [])
+          ((ko (pos 4096)) ⊗ (((((ko (pos 72921151467)) ⊗ (va 0)) ⊗ (ko (pos 72057594037927936))) ⊖ ((va 5) ⊗ ((ko (pos 1000000000000000)) ⊗ (va 1))))
+              ⊗ (ko (pos 2305843009213693952))))
+          ((ko (pos 4096)) ⊗ (((va 6) ⊖ (ko (pos 1))) ⊗ (((ko (pos 1000000000000000)) ⊗ (va 1)) ⊗ (ko (pos 72057594037927936)))))
+          ((((((nm 43045050197502682430559699861504) ⊠ (hy 0)) ⊞ (((nm 43045050197502682430559699861504) ⊠ (hy 5)) ⊠ (hy 1)))
+            ⊞ (((nm 590295810358705651712) ⊠ (hy 5)) ⊠ (hy 2))) ⊞ (((nm 72057594037927936000000000000000) ⊠ (hy 5)) ⊠ (hy 3)))
+            ⊞ (((nm 29012543840425253569440300138496) ⊠ (hy 5)) ⊠ (hy 4))) refl (h0, (h1, (h2, (h3, (h4, (h5, tt)))))))
 
-pub angle_down : (t u l m r a p : ℤ) → (l *ℤ u) ≤ℤ (t *ℤ (pos 1152921504606846976)) → (m -ℤ l) ≤ℤ r → (a *ℤ (pos 16000000000000000)) ≤ℤ ((pos 72921151467) *ℤ m) → (r +ℤ (pos 135168)) ≤ℤ ((pos 4096) *ℤ p) → (pos 0) ≤ℤ r → (pos 0) ≤ℤ u → (((a *ℤ ((pos 1000000000000000) *ℤ u)) -ℤ (((pos 72921151467) *ℤ t) *ℤ (pos 72057594037927936))) *ℤ (pos 2305843009213693952)) ≤ℤ ((p -ℤ (pos 1)) *ℤ ((pos 72057594037927936) *ℤ ((pos 1000000000000000) *ℤ u)))
+pub angle_down : (t u l m r a p : ℤ) → (l *ℤ u) ≤ℤ (t *ℤ (pos 1152921504606846976)) → (m -ℤ l) ≤ℤ r
+    → (a *ℤ (pos 16000000000000000)) ≤ℤ ((pos 72921151467) *ℤ m) → (r +ℤ (pos 135168)) ≤ℤ ((pos 4096) *ℤ p) → (pos 0) ≤ℤ r → (pos 0) ≤ℤ u
+    → (((a *ℤ ((pos 1000000000000000) *ℤ u)) -ℤ (((pos 72921151467) *ℤ t) *ℤ (pos 72057594037927936))) *ℤ (pos 2305843009213693952))
+      ≤ℤ ((p -ℤ (pos 1)) *ℤ ((pos 72057594037927936) *ℤ ((pos 1000000000000000) *ℤ u)))
 angle_down t u l m r a p h0 h1 h2 h3 h4 h5 =
-    cancel (pos 4096) (((a *ℤ ((pos 1000000000000000) *ℤ u)) -ℤ (((pos 72921151467) *ℤ t) *ℤ (pos 72057594037927936))) *ℤ (pos 2305843009213693952)) ((p -ℤ (pos 1)) *ℤ ((pos 72057594037927936) *ℤ ((pos 1000000000000000) *ℤ u))) (omega (arith, ints)) (cert (t ∷ u ∷ l ∷ m ∷ r ∷ a ∷ p ∷ []) ((((va 2) ⊗ (va 1)) ≼ ((va 0) ⊗ (ko (pos 1152921504606846976)))) ∷ (((va 3) ⊖ (va 2)) ≼ (va 4)) ∷ (((va 5) ⊗ (ko (pos 16000000000000000))) ≼ ((ko (pos 72921151467)) ⊗ (va 3))) ∷ (((va 4) ⊕ (ko (pos 135168))) ≼ ((ko (pos 4096)) ⊗ (va 6))) ∷ ((ko (pos 0)) ≼ (va 4)) ∷ ((ko (pos 0)) ≼ (va 1)) ∷ []) ((ko (pos 4096)) ⊗ ((((va 5) ⊗ ((ko (pos 1000000000000000)) ⊗ (va 1))) ⊖ (((ko (pos 72921151467)) ⊗ (va 0)) ⊗ (ko (pos 72057594037927936)))) ⊗ (ko (pos 2305843009213693952)))) ((ko (pos 4096)) ⊗ (((va 6) ⊖ (ko (pos 1))) ⊗ ((ko (pos 72057594037927936)) ⊗ ((ko (pos 1000000000000000)) ⊗ (va 1))))) (((((((nm 43045050197502682430559699861504) ⊠ (hy 0)) ⊞ (((nm 43045050197502682430559699861504) ⊠ (hy 5)) ⊠ (hy 1))) ⊞ (((nm 590295810358705651712) ⊠ (hy 5)) ⊠ (hy 2))) ⊞ (((nm 72057594037927936000000000000000) ⊠ (hy 5)) ⊠ (hy 3))) ⊞ (((nm 29012543840425253569440300138496) ⊠ (hy 5)) ⊠ (hy 4))) ⊞ ((nm 9444732965739290427392000000000000000) ⊠ (hy 5))) refl (h0, (h1, (h2, (h3, (h4, (h5, tt)))))))
+    cancel (pos 4096) (((a *ℤ ((pos 1000000000000000) *ℤ u)) -ℤ (((pos 72921151467) *ℤ t) *ℤ (pos 72057594037927936))) *ℤ (pos 2305843009213693952))
+        ((p -ℤ (pos 1)) *ℤ ((pos 72057594037927936) *ℤ ((pos 1000000000000000) *ℤ u))) (omega (arith, ints))
+        (cert (t ∷ u ∷ l ∷ m ∷ r ∷ a ∷ p ∷ []) ((((va 2) ⊗ (va 1)) ≼ ((va 0) ⊗ (ko (pos 1152921504606846976)))) ∷ (((va 3) ⊖ (va 2)) ≼ (va 4))
+            ∷ (((va 5) ⊗ (ko (pos 16000000000000000))) ≼ ((ko (pos 72921151467)) ⊗ (va 3))) ∷ (((va 4) ⊕ (ko (pos 135168))) ≼ ((ko (pos 4096)) ⊗ (va 6)))
+            ∷ ((ko (pos 0)) ≼ (va 4)) ∷ ((ko (pos 0)) ≼ (va 1)) ∷ []) ((ko (pos 4096)) ⊗ ((((va 5) ⊗ ((ko (pos 1000000000000000)) ⊗ (va 1)))
+              ⊖ (((ko (pos 72921151467)) ⊗ (va 0)) ⊗ (ko (pos 72057594037927936)))) ⊗ (ko (pos 2305843009213693952))))
+          ((ko (pos 4096)) ⊗ (((va 6) ⊖ (ko (pos 1))) ⊗ ((ko (pos 72057594037927936)) ⊗ ((ko (pos 1000000000000000)) ⊗ (va 1)))))
+          (((((((nm 43045050197502682430559699861504) ⊠ (hy 0)) ⊞ (((nm 43045050197502682430559699861504) ⊠ (hy 5)) ⊠ (hy 1))) ⊞ (((nm 590295810358705651712)
+              ⊠ (hy 5)) ⊠ (hy 2))) ⊞ (((nm 72057594037927936000000000000000) ⊠ (hy 5)) ⊠ (hy 3))) ⊞ (((nm 29012543840425253569440300138496) ⊠ (hy 5)) ⊠ (hy 4)))
+            ⊞ ((nm 9444732965739290427392000000000000000) ⊠ (hy 5))) refl (h0, (h1, (h2, (h3, (h4, (h5, tt)))))))
 
 pub pad_low : (c s d l p : Rational) → l ≤ʳ s → (sub_r s c) ≤ʳ d → d ≤ʳ p → (sub_r l p) ≤ʳ c
 pad_low c s d l p h0 h1 h2 =
@@ -34,14 +59,18 @@ pad_high c s d h p h0 h1 h2 =
 
 pub zero_right : (n d e p q : ℤ) → (((n *ℤ e) -ℤ ((pos 0) *ℤ d)) *ℤ q) ≤ℤ (p *ℤ (d *ℤ e)) → (pos 0) <ℤ e → (n *ℤ q) ≤ℤ (p *ℤ d)
 zero_right n d e p q h0 h1 =
-    cancel e (n *ℤ q) (p *ℤ d) h1 (cert (n ∷ d ∷ e ∷ p ∷ q ∷ []) ((((((va 0) ⊗ (va 2)) ⊖ ((ko (pos 0)) ⊗ (va 1))) ⊗ (va 4)) ≼ ((va 3) ⊗ ((va 1) ⊗ (va 2)))) ∷ ((ko (pos 0)) ≼ (va 2)) ∷ []) ((va 2) ⊗ ((va 0) ⊗ (va 4))) ((va 2) ⊗ ((va 3) ⊗ (va 1))) (hy 0) refl (h0, (weak (pos 0) e h1, tt)))
+    cancel e (n *ℤ q) (p *ℤ d) h1 (cert (n ∷ d ∷ e ∷ p ∷ q ∷ []) ((((((va 0) ⊗ (va 2)) ⊖ ((ko (pos 0)) ⊗ (va 1))) ⊗ (va 4)) ≼ ((va 3) ⊗ ((va 1) ⊗ (va 2))))
+            ∷ ((ko (pos 0)) ≼ (va 2)) ∷ []) ((va 2) ⊗ ((va 0) ⊗ (va 4))) ((va 2) ⊗ ((va 3) ⊗ (va 1))) (hy 0) refl (h0, (weak (pos 0) e h1, tt)))
 
 pub zero_left : (n d e p q : ℤ) → ((((pos 0) *ℤ d) -ℤ (n *ℤ e)) *ℤ q) ≤ℤ (p *ℤ (e *ℤ d)) → (pos 0) <ℤ e → ((neg_ℤ (n)) *ℤ q) ≤ℤ (p *ℤ d)
 zero_left n d e p q h0 h1 =
-    cancel e ((neg_ℤ (n)) *ℤ q) (p *ℤ d) h1 (cert (n ∷ d ∷ e ∷ p ∷ q ∷ []) ((((((ko (pos 0)) ⊗ (va 1)) ⊖ ((va 0) ⊗ (va 2))) ⊗ (va 4)) ≼ ((va 3) ⊗ ((va 2) ⊗ (va 1)))) ∷ ((ko (pos 0)) ≼ (va 2)) ∷ []) ((va 2) ⊗ ((ng (va 0)) ⊗ (va 4))) ((va 2) ⊗ ((va 3) ⊗ (va 1))) (hy 0) refl (h0, (weak (pos 0) e h1, tt)))
+    cancel e ((neg_ℤ (n)) *ℤ q) (p *ℤ d) h1
+        (cert (n ∷ d ∷ e ∷ p ∷ q ∷ []) ((((((ko (pos 0)) ⊗ (va 1)) ⊖ ((va 0) ⊗ (va 2))) ⊗ (va 4)) ≼ ((va 3) ⊗ ((va 2) ⊗ (va 1))))
+            ∷ ((ko (pos 0)) ≼ (va 2)) ∷ []) ((va 2) ⊗ ((ng (va 0)) ⊗ (va 4))) ((va 2) ⊗ ((va 3) ⊗ (va 1))) (hy 0) refl (h0, (weak (pos 0) e h1, tt)))
 
 -- ---- a pair of a time of the box lies within the pad of the canonical pair of the middle
-within : (t : Rational) (l h m r a p : ℤ) → InBox 60 l h t → (m -ℤ l) ≤ℤ r → (h -ℤ m) ≤ℤ r → a ≡ floor_div (pos 72921151467 *ℤ m) 16000000000000000 → (r +ℤ pos 135168) ≤ℤ (pos 4096 *ℤ p) → pos 0 ≤ℤ r →
+within : (t : Rational) (l h m r a p : ℤ) → InBox 60 l h t → (m -ℤ l) ≤ℤ r → (h -ℤ m) ≤ℤ r → a ≡ floor_div (pos 72921151467 *ℤ m) 16000000000000000 →
+    (r +ℤ pos 135168) ≤ℤ (pos 4096 *ℤ p) → pos 0 ≤ℤ r →
     AreWithin (of_scale 61 (p -ℤ pos 1)) (mul_r earth_rate t) (of_scale 56 a)
 within t l h m r a p b lm mh e k r0 = (
   angle_up t.num (pos t.den) h m r a p b.1 mh (top (pos 72921151467 *ℤ m) a e) k r0 (weak (pos 0) (pos t.den) (lt_pos 0 t.den t.positive)),
@@ -49,7 +78,8 @@ within t l h m r a p b lm mh e k r0 = (
 )
   where
     top : (z a : ℤ) → a ≡ floor_div z 16000000000000000 → z ≤ℤ ((a *ℤ pos 16000000000000000) +ℤ pos 16000000000000000)
-    top z a e = subst (λ (y : ℤ). z ≤ℤ ((y *ℤ pos 16000000000000000) +ℤ pos 16000000000000000)) (sym e) (weak z ((floor_div z 16000000000000000 *ℤ pos 16000000000000000) +ℤ pos 16000000000000000) (lt_floor z 16000000000000000 (lit< tt)))
+    top z a e = subst (λ (y : ℤ). z ≤ℤ ((y *ℤ pos 16000000000000000) +ℤ pos 16000000000000000)) (sym e)
+        (weak z ((floor_div z 16000000000000000 *ℤ pos 16000000000000000) +ℤ pos 16000000000000000) (lt_floor z 16000000000000000 (lit< tt)))
 
     bottom : (z a : ℤ) → a ≡ floor_div z 16000000000000000 → (a *ℤ pos 16000000000000000) ≤ℤ z
     bottom z a e = subst (λ (y : ℤ). (y *ℤ pos 16000000000000000) ≤ℤ z) (sym e) (floor_le z 16000000000000000 (lit< tt))
@@ -61,8 +91,10 @@ pad_most p = omega (arith, ints)
 -- a box that reaches the pad further on both sides
 pub padded_holds : (l h l' h' p : ℤ) (c s d : Rational) → l' ≡ l -ℤ p → h' ≡ h +ℤ p → InBox 60 l h s → AreWithin d c s → d ≤ʳ of_scale 60 p → InBox 60 l' h' c
 padded_holds l h l' h' p c s d el eh b w k = (
-  ≤ʳ_trans (of_scale 60 l') (sub_r (of_scale 60 l) (of_scale 60 p)) c (≤ʳ_from_same (of_scale 60 l') (sub_r (of_scale 60 l) (of_scale 60 p)) (low l p l' el)) (pad_low c s d (of_scale 60 l) (of_scale 60 p) b.0 w.1 k),
-  ≤ʳ_trans c (add_r (of_scale 60 h) (of_scale 60 p)) (of_scale 60 h') (pad_high c s d (of_scale 60 h) (of_scale 60 p) b.1 w.0 k) (≤ʳ_from_same (add_r (of_scale 60 h) (of_scale 60 p)) (of_scale 60 h') (high h p h' eh)),
+  ≤ʳ_trans (of_scale 60 l') (sub_r (of_scale 60 l) (of_scale 60 p)) c (≤ʳ_from_same (of_scale 60 l') (sub_r (of_scale 60 l) (of_scale 60 p)) (low l p l' el))
+      (pad_low c s d (of_scale 60 l) (of_scale 60 p) b.0 w.1 k),
+  ≤ʳ_trans c (add_r (of_scale 60 h) (of_scale 60 p)) (of_scale 60 h') (pad_high c s d (of_scale 60 h) (of_scale 60 p) b.1 w.0 k)
+      (≤ʳ_from_same (add_r (of_scale 60 h) (of_scale 60 p)) (of_scale 60 h') (high h p h' eh)),
 )
   where
     low : (l p z : ℤ) → z ≡ l -ℤ p → of_scale 60 z ≈ sub_r (of_scale 60 l) (of_scale 60 p)
@@ -167,8 +199,10 @@ first_sine = omega (arith, ints)
 
 at_zero : (d s e : Rational) → e.num ≡ pos 0 → AreWithin d s e → (s ≤ʳ d) × (neg_r s ≤ʳ d)
 at_zero d s e z w = (
-  zero_right s.num (pos s.den) (pos e.den) d.num (pos d.den) (subst (λ (m : ℤ). (((s.num *ℤ pos e.den) -ℤ (m *ℤ pos s.den)) *ℤ pos d.den) ≤ℤ (d.num *ℤ (pos s.den *ℤ pos e.den))) z w.0) (lt_pos 0 e.den e.positive),
-  zero_left s.num (pos s.den) (pos e.den) d.num (pos d.den) (subst (λ (m : ℤ). (((m *ℤ pos s.den) -ℤ (s.num *ℤ pos e.den)) *ℤ pos d.den) ≤ℤ (d.num *ℤ (pos e.den *ℤ pos s.den))) z w.1) (lt_pos 0 e.den e.positive),
+  zero_right s.num (pos s.den) (pos e.den) d.num (pos d.den)
+      (subst (λ (m : ℤ). (((s.num *ℤ pos e.den) -ℤ (m *ℤ pos s.den)) *ℤ pos d.den) ≤ℤ (d.num *ℤ (pos s.den *ℤ pos e.den))) z w.0) (lt_pos 0 e.den e.positive),
+  zero_left s.num (pos s.den) (pos e.den) d.num (pos d.den)
+      (subst (λ (m : ℤ). (((m *ℤ pos s.den) -ℤ (s.num *ℤ pos e.den)) *ℤ pos d.den) ≤ℤ (d.num *ℤ (pos e.den *ℤ pos s.den))) z w.1) (lt_pos 0 e.den e.positive),
 )
 
 zero_pair : Pair
@@ -209,7 +243,8 @@ pub padded_within : (l h l' h' p m n : ℤ) → l' ≡ l -ℤ p → h' ≡ h +�
 padded_within l h l' h' p m n el eh ml mh k o = (omega (arith, ints), omega (arith, ints))
 
 -- the width of a padded box of 512 units
-pub padded_width : (l h l' h' p d t w : ℤ) → l' ≡ l -ℤ p → h' ≡ h +ℤ p → (h -ℤ l) ≤ℤ pos 512 → (pos 4096 *ℤ p) ≤ℤ (d +ℤ pos 139264) → (d +ℤ d) ≤ℤ (t +ℤ pos 1) → (t +ℤ pos (580 * 2 ^ 12 + 1)) ≤ℤ (pos (2 ^ 12) *ℤ w) → (h' -ℤ l') ≤ℤ w
+pub padded_width : (l h l' h' p d t w : ℤ) → l' ≡ l -ℤ p → h' ≡ h +ℤ p → (h -ℤ l) ≤ℤ pos 512 → (pos 4096 *ℤ p) ≤ℤ (d +ℤ pos 139264)
+    → (d +ℤ d) ≤ℤ (t +ℤ pos 1) → (t +ℤ pos (580 * 2 ^ 12 + 1)) ≤ℤ (pos (2 ^ 12) *ℤ w) → (h' -ℤ l') ≤ℤ w
 padded_width l h l' h' p d t w el eh n k j o = omega (arith, ints)
 
 pub point_holds : (x l h : ℤ) → l ≡ x → h ≡ x → InBox 56 l h (of_scale 56 x)

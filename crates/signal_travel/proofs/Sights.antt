@@ -106,6 +106,8 @@ pub all_away : (b : VectorBox) → HasTurned b → IsVectorAtMostWide (pos (2 ^ 
 all_away b r n x y z ix iy iz =
     let p : Place = r.place in
     let k = r.held in (
-      place_far p.x p.y p.z x y z r.bounds.low r.bounds.high (near b.x x p.x n.0 ix k.0) (near b.x p.x x n.0 k.0 ix) (near b.y y p.y n.1 iy k.1) (near b.y p.y y n.1 k.1 iy) (near b.z z p.z n.2 iz k.2) (near b.z p.z z n.2 k.2 iz),
-      place_near p.x p.y p.z x y z r.bounds.low r.bounds.high (near b.x x p.x n.0 ix k.0) (near b.x p.x x n.0 k.0 ix) (near b.y y p.y n.1 iy k.1) (near b.y p.y y n.1 k.1 iy) (near b.z z p.z n.2 iz k.2) (near b.z p.z z n.2 k.2 iz),
+      place_far p.x p.y p.z x y z r.bounds.low r.bounds.high (near b.x x p.x n.0 ix k.0) (near b.x p.x x n.0 k.0 ix) (near b.y y p.y n.1 iy k.1)
+          (near b.y p.y y n.1 k.1 iy) (near b.z z p.z n.2 iz k.2) (near b.z p.z z n.2 k.2 iz),
+      place_near p.x p.y p.z x y z r.bounds.low r.bounds.high (near b.x x p.x n.0 ix k.0) (near b.x p.x x n.0 k.0 ix) (near b.y y p.y n.1 iy k.1)
+          (near b.y p.y y n.1 k.1 iy) (near b.z z p.z n.2 iz k.2) (near b.z p.z z n.2 k.2 iz),
     )

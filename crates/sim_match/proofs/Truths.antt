@@ -8,18 +8,21 @@ use Rattle.sim_match.specs.Matches.{IsDatumOf, AgreesWith, HasTruth, HaveTruth, 
 use Rattle.sim_match.proofs.Links.{one_datum}
 
 -- an arc has one datum
-pub by_datum : (truth : List (List ℤ)) (arcs : List Arc) (ss : List ℕ) (z : List ℤ) (k d : ℕ) (a e : Arc) (b : Bool) → AreMarked arcs → IsDatumOf arcs k d e → IsTrue b ↔ AgreesWith truth arcs ss z k a e → IsTrue b ↔ HasTruth truth arcs ss z k a
+pub by_datum : (truth : List (List ℤ)) (arcs : List Arc) (ss : List ℕ) (z : List ℤ) (k d : ℕ) (a e : Arc) (b : Bool) → AreMarked arcs
+    → IsDatumOf arcs k d e → IsTrue b ↔ AgreesWith truth arcs ss z k a e → IsTrue b ↔ HasTruth truth arcs ss z k a
 by_datum truth arcs ss z k d a e b marked is agrees = (
   λ on. record { place = d; datum = e; is_datum = is; agrees = agrees.0 on },
   λ has. agrees.1 (subst (λ (t : Arc). AgreesWith truth arcs ss z k a t) (one_datum arcs k has.place d has.datum e marked.datums has.is_datum is) has.agrees),
 )
 
 -- the same of the entries at the places of the arc and its datum
-pub by_entry : (truth : List (List ℤ)) (arcs : List Arc) (ss : List ℕ) (z : List ℤ) (k d : ℕ) (a p q : Arc) (b : Bool) → AreMarked arcs → d < length arcs → ((e : Arc) → slice_get arcs d ≡ Some e → IsDatumOf arcs k d e) → slice_get arcs k ≡ Some a
+pub by_entry : (truth : List (List ℤ)) (arcs : List Arc) (ss : List ℕ) (z : List ℤ) (k d : ℕ) (a p q : Arc) (b : Bool) → AreMarked arcs
+    → d < length arcs → ((e : Arc) → slice_get arcs d ≡ Some e → IsDatumOf arcs k d e) → slice_get arcs k ≡ Some a
     → IsTrue b ↔ AgreesWith truth arcs ss z k (get_or arcs k p) (get_or arcs d q) → IsTrue b ↔ HasTruth truth arcs ss z k a
 by_entry truth arcs ss z k d a p q b marked inside datum is agrees =
     let e : Arc = get_or arcs d q in
-    by_datum truth arcs ss z k d a e b marked (datum e (slice_get-get_or arcs d q inside)) (subst (λ (t : Arc). IsTrue b ↔ AgreesWith truth arcs ss z k t e) (get_or_from_slice_get arcs k a p is) agrees)
+    by_datum truth arcs ss z k d a e b marked (datum e (slice_get-get_or arcs d q inside))
+        (subst (λ (t : Arc). IsTrue b ↔ AgreesWith truth arcs ss z k t e) (get_or_from_slice_get arcs k a p is) agrees)
 
 there : (arcs : List Arc) (k : ℕ) → k < length arcs → (a : Arc) × (slice_get arcs k ≡ Some a)
 there [] k inside = absurd (omega arith)
@@ -41,5 +44,6 @@ one_has truth arcs ss z k b inside datum free all =
     true_at here.0 b (HasTruth truth arcs ss z k here.0) (datum here.0 here.1) (free here.0 here.1) (all k here.0 here.1)
 
 -- where the first n have theirs and there are no more, all have
-pub all_have : (truth : List (List ℤ)) (arcs : List Arc) (ss : List ℕ) (z : List ℤ) (n : ℕ) → length arcs ≤ n → ((k : ℕ) (a : Arc) → k < n → slice_get arcs k ≡ Some a → IsTrue (is_free a) → HasTruth truth arcs ss z k a) → HaveTruth truth arcs ss z
+pub all_have : (truth : List (List ℤ)) (arcs : List Arc) (ss : List ℕ) (z : List ℤ) (n : ℕ) → length arcs ≤ n
+    → ((k : ℕ) (a : Arc) → k < n → slice_get arcs k ≡ Some a → IsTrue (is_free a) → HasTruth truth arcs ss z k a) → HaveTruth truth arcs ss z
 all_have truth arcs ss z n whole first k a is free = let inside = slice_get_within arcs k a is in first k a (omega (arith, inside)) is free

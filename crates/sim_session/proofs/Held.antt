@@ -24,6 +24,7 @@ pub length-first_of : (f : ℕ → List ℤ) (n : ℕ) → length (first_of f n)
 length-first_of f zero = refl
 length-first_of f (suc n) = length_push (first_of f n) (f n) ∙ ap (λ (m : ℕ). m + 1) (length-first_of f n) ∙ add-one n
 
-pub text_along : (epochs : ℕ) (t u : Tracking) (v w : Constants) (p q : List ℤ) (k l : ℤ) (es fs : List Eph) (cs ds : List (List ℤ)) (text : List ℕ) → t ≡ u → v ≡ w → p ≡ q → k ≡ l → es ≡ fs → cs ≡ ds →
+pub text_along : (epochs : ℕ) (t u : Tracking) (v w : Constants) (p q : List ℤ) (k l : ℤ) (es fs : List Eph) (cs ds : List (List ℤ)) (text : List ℕ) →
+    t ≡ u → v ≡ w → p ≡ q → k ≡ l → es ≡ fs → cs ≡ ds →
     IsObservationText epochs t v p k es cs text → IsObservationText epochs u w q l fs ds text
 text_along epochs t u v w p q k l es fs cs ds text a b e f g h is = rw (← a, ← b, ← e, ← f, ← g, ← h) is

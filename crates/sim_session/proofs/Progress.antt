@@ -33,13 +33,15 @@ pub record IsBegun (t : Tracking) (world : Constants) (step i : ℕ) (point : Li
   pub text_is : text ≡ header_text t ++ epochs_text t step 0 values
   pub observed : (j : ℕ) (d : List Signals) → j < i → AreObserved world (tag_of step j) point clock records cycles (get_or values j d)
 
-pub one_epoch : (t : Tracking) (world : Constants) (step i : ℕ) (point : List ℤ) (clock : ℤ) (records : List Eph) (cycles : List (List ℤ)) (text further : List ℕ) (sats : List Signals) → IsBegun t world step i point clock records cycles text →
+pub one_epoch : (t : Tracking) (world : Constants) (step i : ℕ) (point : List ℤ) (clock : ℤ) (records : List Eph) (cycles : List (List ℤ))
+    (text further : List ℕ) (sats : List Signals) → IsBegun t world step i point clock records cycles text →
     AreObserved world (tag_of step i) point clock records cycles sats → further ≡ text ++ epoch_text t (step * i) sats → IsBegun t world step (i + 1) point clock records cycles further
 one_epoch t world step i point clock records cycles text further sats b o e = record {
   values = b.values ++ sats ∷ [];
   count = length_push b.values sats ∙ ap (λ (n : ℕ). n + 1) b.count;
   text_is = e ∙ ap (λ (own : List ℕ). own ++ epoch_text t (step * i) sats) b.text_is ∙ append_assoc (header_text t) (epochs_text t step 0 b.values) (epoch_text t (step * i) sats)
-      ∙ ap (λ (own : List ℕ). header_text t ++ own) (ap (λ (n : ℕ). epochs_text t step 0 b.values ++ epoch_text t (step * n) sats) (counted b.values i b.count) ∙ sym (epochs_text-push t step 0 b.values sats));
+      ∙ ap (λ (own : List ℕ). header_text t ++ own) (ap (λ (n : ℕ). epochs_text t step 0 b.values ++ epoch_text t (step * n) sats) (counted b.values i b.count)
+            ∙ sym (epochs_text-push t step 0 b.values sats));
   observed = one_more (λ j s. AreObserved world (tag_of step j) point clock records cycles s) b.values sats i b.count b.observed o;
 }
   where

@@ -16,7 +16,8 @@ sum_is a b c e = omega (arith, ints)
 code_low : (d n : ℤ) → (pos 2 *ℤ (n *ℤ pos (2 ^ 36))) ≤ℤ ((pos 2 *ℤ (pos 1000 *ℤ d)) +ℤ pos (2 ^ 36)) → of_whole n ≤ʳ add_r (mul_r (of_whole (pos 1000)) (of_scale 36 (d -ℤ pos 1))) (of_whole (pos 1))
 code_low d n h = omega (arith, ints)
 
-code_high : (d n : ℤ) → ((pos 2 *ℤ (pos 1000 *ℤ d)) +ℤ pos (2 ^ 36)) <ℤ ((pos 2 *ℤ (n *ℤ pos (2 ^ 36))) +ℤ (pos 2 *ℤ pos (2 ^ 36))) → mul_r (of_whole (pos 1000)) (of_scale 36 (d +ℤ pos (2 ^ 20))) ≤ʳ add_r (of_whole n) (of_whole (pos 1))
+code_high : (d n : ℤ) → ((pos 2 *ℤ (pos 1000 *ℤ d)) +ℤ pos (2 ^ 36)) <ℤ ((pos 2 *ℤ (n *ℤ pos (2 ^ 36))) +ℤ (pos 2 *ℤ pos (2 ^ 36)))
+    → mul_r (of_whole (pos 1000)) (of_scale 36 (d +ℤ pos (2 ^ 20))) ≤ʳ add_r (of_whole n) (of_whole (pos 1))
 code_high d n h = omega (arith, ints)
 
 pub code_near : (d n clock code : ℤ) (v : Rational) → code ≡ n +ℤ clock → IsNearest (pos 1000 *ℤ d) (2 ^ 36) n → IsDistance d v → AreWithin (of_whole (pos 2)) (of_whole code) (measured clock v)
@@ -40,15 +41,18 @@ scaled d clock f = ((pos 1000 *ℤ d) +ℤ (clock *ℤ pos (2 ^ 36))) *ℤ f
 phase_low : (f d n clock : ℤ) → f ≤ℤ pos 2000000000 → (pos 2 *ℤ (n *ℤ pos (299792458 * 2 ^ 36))) ≤ℤ ((pos 2 *ℤ scaled d clock f) +ℤ pos (299792458 * 2 ^ 36)) →
     mul_r (of_whole (pos 299792458)) (of_whole n) ≤ʳ add_r (mul_r (of_whole f) (add_r (mul_r (of_whole (pos 1000)) (of_scale 36 (d -ℤ pos 1))) (of_whole clock))) (of_whole (pos 299792458))
 phase_low f d n clock small h = half _ _
-    (cert (f ∷ d ∷ n ∷ clock ∷ []) ((va 0 ≼ ko (pos 2000000000)) ∷ (ko (pos 2) ⊗ (va 2 ⊗ ko (pos (299792458 * 2 ^ 36))) ≼ ko (pos 2) ⊗ ((ko (pos 1000) ⊗ va 1 ⊕ va 3 ⊗ ko (pos (2 ^ 36))) ⊗ va 0) ⊕ ko (pos (299792458 * 2 ^ 36))) ∷ [])
+    (cert (f ∷ d ∷ n ∷ clock ∷ []) ((va 0 ≼ ko (pos 2000000000)) ∷ (ko (pos 2) ⊗ (va 2 ⊗ ko (pos (299792458 * 2 ^ 36)))
+          ≼ ko (pos 2) ⊗ ((ko (pos 1000) ⊗ va 1 ⊕ va 3 ⊗ ko (pos (2 ^ 36))) ⊗ va 0) ⊕ ko (pos (299792458 * 2 ^ 36))) ∷ [])
     (ko (pos 2) ⊗ ((ko (pos 299792458) ⊗ va 2) ⊗ ko (pos (2 ^ 36))))
     (ko (pos 2) ⊗ (((va 0 ⊗ ((ko (pos 1000) ⊗ (va 1 ⊖ ko (pos 1))) ⊗ ko (pos 1) ⊕ va 3 ⊗ ko (pos (2 ^ 36)))) ⊗ ko (pos 1) ⊕ ko (pos 299792458) ⊗ ko (pos (2 ^ 36))) ⊗ ko (pos 1)))
     (hy 1 ⊞ nm 2000 ⊠ hy 0 ⊞ nm 20601576843159257088) refl (small, (h, tt)))
 
-phase_high : (f d n clock : ℤ) → f ≤ℤ pos 2000000000 → ((pos 2 *ℤ scaled d clock f) +ℤ pos (299792458 * 2 ^ 36)) <ℤ ((pos 2 *ℤ (n *ℤ pos (299792458 * 2 ^ 36))) +ℤ (pos 2 *ℤ pos (299792458 * 2 ^ 36))) →
+phase_high : (f d n clock : ℤ) → f ≤ℤ pos 2000000000 →
+    ((pos 2 *ℤ scaled d clock f) +ℤ pos (299792458 * 2 ^ 36)) <ℤ ((pos 2 *ℤ (n *ℤ pos (299792458 * 2 ^ 36))) +ℤ (pos 2 *ℤ pos (299792458 * 2 ^ 36))) →
     mul_r (of_whole f) (add_r (mul_r (of_whole (pos 1000)) (of_scale 36 (d +ℤ pos (2 ^ 20)))) (of_whole clock)) ≤ʳ add_r (mul_r (of_whole (pos 299792458)) (of_whole n)) (of_whole (pos 299792458))
 phase_high f d n clock small h = half _ _
-    (cert (f ∷ d ∷ n ∷ clock ∷ []) ((va 0 ≼ ko (pos 2000000000)) ∷ (ko (pos 2) ⊗ ((ko (pos 1000) ⊗ va 1 ⊕ va 3 ⊗ ko (pos (2 ^ 36))) ⊗ va 0) ⊕ ko (pos (299792458 * 2 ^ 36)) ≼ ko (pos 2) ⊗ (va 2 ⊗ ko (pos (299792458 * 2 ^ 36))) ⊕ ko (pos 2) ⊗ ko (pos (299792458 * 2 ^ 36))) ∷ [])
+    (cert (f ∷ d ∷ n ∷ clock ∷ []) ((va 0 ≼ ko (pos 2000000000)) ∷ (ko (pos 2) ⊗ ((ko (pos 1000) ⊗ va 1 ⊕ va 3 ⊗ ko (pos (2 ^ 36))) ⊗ va 0) ⊕ ko
+          (pos (299792458 * 2 ^ 36)) ≼ ko (pos 2) ⊗ (va 2 ⊗ ko (pos (299792458 * 2 ^ 36))) ⊕ ko (pos 2) ⊗ ko (pos (299792458 * 2 ^ 36))) ∷ [])
     (ko (pos 2) ⊗ ((va 0 ⊗ ((ko (pos 1000) ⊗ (va 1 ⊕ ko (pos (2 ^ 20)))) ⊗ ko (pos 1) ⊕ va 3 ⊗ ko (pos (2 ^ 36)))) ⊗ ko (pos 1)))
     (ko (pos 2) ⊗ (((ko (pos 299792458) ⊗ va 2) ⊗ ko (pos 1) ⊕ ko (pos 299792458) ⊗ ko (pos 1)) ⊗ ko (pos (2 ^ 36))))
     (hy 1 ⊞ nm (2000 * 2 ^ 20) ⊠ hy 0 ⊞ nm 16407276843159257088) refl (small, (weaker _ _ h, tt)))

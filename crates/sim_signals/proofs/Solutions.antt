@@ -23,7 +23,8 @@ pub code_is : (world : Constants) (eph : Eph) (tag : ℕ) (before given : ℤ) (
     IsCodeAfter world eph tag point own given told
 code_is world eph tag before given point units clock own after told e f g all near = rw (← e, ← f, g) (λ q a b c seen travel at s v. near (distance travel q.clock) (all q a b c seen travel at s v))
 
-pub phase_is : (frequency : ℕ) (world : Constants) (eph : Eph) (tag : ℕ) (code given : ℤ) (point : List ℤ) (units clock own cycles passed phase told : ℤ) → code ≡ given → clock ≡ own → cycles ≡ passed → told ≡ phase →
+pub phase_is : (frequency : ℕ) (world : Constants) (eph : Eph) (tag : ℕ) (code given : ℤ) (point : List ℤ) (units clock own cycles passed phase told : ℤ) →
+    code ≡ given → clock ≡ own → cycles ≡ passed → told ≡ phase →
     ForSolutions world eph tag code point (λ v. IsDistance units v) →
     ((v : Rational) → IsDistance units v → AreWithin (of_whole (pos 2)) (of_whole phase) (add_r (thousandths frequency (measured clock v)) (of_whole (pos 1000 *ℤ cycles)))) →
     IsPhase frequency world eph tag point own given passed told

@@ -65,7 +65,8 @@ abbrev pub IsTrackAnswer : Screened → List Arc → List ℤ → Signals → Op
 IsTrackAnswer screened kept position signals o taken lost (Few pairs) = (pairs ≡ taken) × (AreFew taken kept × (lost ≡ []))
 IsTrackAnswer screened kept position signals o taken lost (Arcs free) = (free ≡ free_count kept) × ((AreFew taken kept → ⊥) × (AreMany kept × (lost ≡ [])))
 IsTrackAnswer screened kept position signals o taken lost (NoneTracked pairs) = (pairs ≡ taken) × (IsTrackable kept taken × HasNoTracked screened kept position signals o lost)
-IsTrackAnswer screened kept position signals o taken lost (Full cert) = IsTrackable kept taken × (IsTrackOf screened kept position signals o.system (tracked_with cert.track lost) × IsDecidedTrack o cert)
+IsTrackAnswer screened kept position signals o taken lost (Full cert) =
+    IsTrackable kept taken × (IsTrackOf screened kept position signals o.system (tracked_with cert.track lost) × IsDecidedTrack o cert)
 
 -- the counts, the pairs that are lost, and the answer over the kept arcs
 pub record IsTrackOutcome (base rover : ObsFile) (nav : Records) (o : Options) (out : TrackOutcome) : Type 0 where

@@ -15,7 +15,8 @@ weak_of m h = omega (arith, lins)
 -- n = ⌊n / m⌋ m + remainder
 pub remainder_is : (n m : ℤ) → pos 0 <ℤ m → n ≡ (floor_div n (unsigned_abs m) *ℤ m) +ℤ int_rem_euclid n m
 remainder_is (pos a) m h = subst (λ (k : ℤ). pos a ≡ (floor_div (pos a) (unsigned_abs m) *ℤ k) +ℤ int_rem_euclid (pos a) m) (pos_abs m (weak_of m h)) (omega (arith, ints))
-remainder_is (negsuc a) m h = subst (λ (k : ℤ). negsuc a ≡ (floor_div (negsuc a) (unsigned_abs m) *ℤ k) +ℤ int_rem_euclid (negsuc a) m) (pos_abs m (weak_of m h)) (step a (unsigned_abs m) (abs_pos m h))
+remainder_is (negsuc a) m h = subst (λ (k : ℤ). negsuc a ≡ (floor_div (negsuc a) (unsigned_abs m) *ℤ k) +ℤ int_rem_euclid (negsuc a) m)
+    (pos_abs m (weak_of m h)) (step a (unsigned_abs m) (abs_pos m h))
   where
     step : (a m : ℕ) → 0 < m → negsuc a ≡ (floor_div (negsuc a) m *ℤ pos m) +ℤ int_rem_euclid (negsuc a) (pos m)
     step a m h = omega (arith, ints)
@@ -74,7 +75,8 @@ nearest_down n m q r h e z l = nearest_unique n q (unsigned_abs m) (abs_pos m h)
 
 pub nearest_up : (n m q r : ℤ) → pos 0 <ℤ m → n ≡ (q *ℤ m) +ℤ r → r <ℤ m → (m -ℤ r) ≤ℤ r → q +ℤ pos 1 ≡ nearest_div n (unsigned_abs m)
 nearest_up n m q r h e z l = nearest_unique n (q +ℤ pos 1) (unsigned_abs m) (abs_pos m h)
-    (subst (λ (k : ℤ). ((pos 2 *ℤ ((q +ℤ pos 1) *ℤ k)) ≤ℤ ((pos 2 *ℤ n) +ℤ k)) × (((pos 2 *ℤ n) +ℤ k) <ℤ ((pos 2 *ℤ ((q +ℤ pos 1) *ℤ k)) +ℤ (pos 2 *ℤ k)))) (sym (pos_abs m (weak_of m h))) (rw (one_more q m) (step n m (q *ℤ m) r h e z l)))
+    (subst (λ (k : ℤ). ((pos 2 *ℤ ((q +ℤ pos 1) *ℤ k)) ≤ℤ ((pos 2 *ℤ n) +ℤ k)) × (((pos 2 *ℤ n) +ℤ k) <ℤ ((pos 2 *ℤ ((q +ℤ pos 1) *ℤ k)) +ℤ (pos 2 *ℤ k))))
+      (sym (pos_abs m (weak_of m h))) (rw (one_more q m) (step n m (q *ℤ m) r h e z l)))
   where
     step : (n m p r : ℤ) → pos 0 <ℤ m → n ≡ p +ℤ r → r <ℤ m → (m -ℤ r) ≤ℤ r → ((pos 2 *ℤ (p +ℤ m)) ≤ℤ ((pos 2 *ℤ n) +ℤ m)) × (((pos 2 *ℤ n) +ℤ m) <ℤ ((pos 2 *ℤ (p +ℤ m)) +ℤ (pos 2 *ℤ m)))
     step n m p r h e z l = (omega (arith, polys), omega (arith, polys))

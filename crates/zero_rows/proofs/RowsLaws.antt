@@ -45,14 +45,21 @@ within-ok most column (Some y) z e = by_test (nat_le (size_of y) most) refl e
 pub behind-number_line : (word : List ℕ) (most : ℕ) (line : List ℕ) (z : ℤ) → number_behind word most line ≡ Ok z → IsNumberLine word most line z
 behind-number_line word most line z e = by_test (bytes_eq (take (length word) line) word) refl e
   where
-    by_test : (t : Bool) → bytes_eq (take (length word) line) word ≡ t → (if t then within most (length word + 1) (whole_of (drop (length word) line)) else flawed 1 BadLine) ≡ Ok z → IsNumberLine word most line z
+    by_test : (t : Bool) → bytes_eq (take (length word) line) word ≡ t
+        → (if t then within most (length word + 1) (whole_of (drop (length word) line)) else flawed 1 BadLine) ≡ Ok z → IsNumberLine word most line z
     by_test true same is =
         let found = within-ok most (length word + 1) (whole_of (drop (length word) line)) z is in
-        record { text = drop (length word) line; line_is = word_front word line (drop (length word) line) same refl; spelled = spelled-whole_of (drop (length word) line) z found.0; in_range = found.1 }
+        record {
+          text = drop (length word) line;
+          line_is = word_front word line (drop (length word) line) same refl;
+          spelled = spelled-whole_of (drop (length word) line) z found.0;
+          in_range = found.1
+        }
     by_test false same is = absurd cc
 
 -- the differences of the form are taken
-diffs_taken : (lines : List (List ℕ)) (ds front : List ℤ) (z : ℤ) (n : ℕ) → AreDiffLines lines ds → length front + length ds ≤ 1000 → 0 < length front + length ds → walk rows_rules lines n (Diff (rows z front)) ≡ Ok (rows z (front ++ ds))
+diffs_taken : (lines : List (List ℕ)) (ds front : List ℤ) (z : ℤ) (n : ℕ) → AreDiffLines lines ds → length front + length ds ≤ 1000
+    → 0 < length front + length ds → walk rows_rules lines n (Diff (rows z front)) ≡ Ok (rows z (front ++ ds))
 diffs_taken [] [] front z n are few some =
     let more : 0 < length front = omega arith in
     walk-end rows_rules (Diff (rows z front)) n ∙ ap (at_line (n + 1)) (finish_some z front more) ∙ ap (λ (l : List ℤ). Ok (rows z l)) (sym (append-nil front))
@@ -81,7 +88,9 @@ took_diff so_far line next e = by_test (nat_le 1000 (length so_far.diffs)) refl 
     by_part (Ok d) is room gives = record { room = room; diff = d; behind = is; next_is = cc }
     by_part (Err flaw) is room gives = absurd cc
 
-    by_test : (t : Bool) → nat_le 1000 (length so_far.diffs) ≡ t → (if t then flawed 1 BadLine else and_then (number_behind (codes "diff ") 1000000000 line) (λ d. Ok (with_diff so_far d))) ≡ Ok next → TookDiff so_far line next
+    by_test : (t : Bool) → nat_le 1000 (length so_far.diffs) ≡ t
+        → (if t then flawed 1 BadLine else and_then (number_behind (codes "diff ") 1000000000 line) (λ d. Ok (with_diff so_far d))) ≡ Ok next
+        → TookDiff so_far line next
     by_test true test gives = absurd cc
     by_test false test gives = by_part (number_behind (codes "diff ") 1000000000 line) refl (grind (arith, nat_tests)) gives
 
@@ -137,7 +146,8 @@ took_head line next e = by_test (bytes_eq line (codes "zero 1")) refl e
 took_claim : (line : List ℕ) (next : Expected) → admit Claim line ≡ Ok next → (z : ℤ) × (number_behind (codes "z ") 10000000 line ≡ Ok z) × (next ≡ claimed z)
 took_claim line next e = by_part (number_behind (codes "z ") 10000000 line) refl e
   where
-    by_part : (r : Result ℤ Flaw) → number_behind (codes "z ") 10000000 line ≡ r → and_then r (λ z. Ok (claimed z)) ≡ Ok next → (z : ℤ) × (number_behind (codes "z ") 10000000 line ≡ Ok z) × (next ≡ claimed z)
+    by_part : (r : Result ℤ Flaw) → number_behind (codes "z ") 10000000 line ≡ r → and_then r (λ z. Ok (claimed z)) ≡ Ok next
+        → (z : ℤ) × (number_behind (codes "z ") 10000000 line ≡ Ok z) × (next ≡ claimed z)
     by_part (Ok z) is gives = (z, is, cc)
     by_part (Err flaw) is gives = absurd cc
 
@@ -189,11 +199,14 @@ completed Head = with_line rows_rules Head Claim (codes "zero 1") (lit≤ tt) re
 
     completed_claim : Completes rows_rules Claim
     completed_claim = with_line rows_rules Claim (claimed (pos 0)) (codes "z 0") (lit≤ tt) refl (completed_diff (pos 0))
-completed Claim = with_line rows_rules Claim (claimed (pos 0)) (codes "z 0") (lit≤ tt) refl (with_line rows_rules (claimed (pos 0)) (with_diff (rows (pos 0) []) (pos 0)) (codes "diff 0") (lit≤ tt) refl (with_end rows_rules (with_diff (rows (pos 0) []) (pos 0)) (rows (pos 0) (pos 0 ∷ [])) refl))
+completed Claim = with_line rows_rules Claim (claimed (pos 0)) (codes "z 0") (lit≤ tt) refl
+    (with_line rows_rules (claimed (pos 0)) (with_diff (rows (pos 0) []) (pos 0)) (codes "diff 0") (lit≤ tt) refl
+      (with_end rows_rules (with_diff (rows (pos 0) []) (pos 0)) (rows (pos 0) (pos 0 ∷ [])) refl))
 completed (Diff so_far) = by_diffs so_far.diffs
   where
     by_diffs : (ds : List ℤ) → Completes rows_rules (Diff (rows so_far.claim ds))
-    by_diffs [] = with_line rows_rules (Diff (rows so_far.claim [])) (Diff (rows so_far.claim (pos 0 ∷ []))) (codes "diff 0") (lit≤ tt) refl (with_end rows_rules (Diff (rows so_far.claim (pos 0 ∷ []))) (rows so_far.claim (pos 0 ∷ [])) refl)
+    by_diffs [] = with_line rows_rules (Diff (rows so_far.claim [])) (Diff (rows so_far.claim (pos 0 ∷ []))) (codes "diff 0") (lit≤ tt) refl
+        (with_end rows_rules (Diff (rows so_far.claim (pos 0 ∷ []))) (rows so_far.claim (pos 0 ∷ [])) refl)
     by_diffs (d ∷ ds) = with_end rows_rules (Diff (rows so_far.claim (d ∷ ds))) (rows so_far.claim (d ∷ ds)) refl
 
 -- an answer is the one file of the lines

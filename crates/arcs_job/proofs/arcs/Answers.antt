@@ -5,7 +5,8 @@ use Rattle.arcs_job.proofs.ArcSays.{arcs_whole, arcs_named}
 use Rattle.arcs_job.proofs.arcs.Goals as goal
 
 pub returns-in-Ok-clause-refused : goal.returns-in-Ok-clause-refused
-returns-in-Ok-clause-refused g c = ended_weaker c.answer_session.result _ _ (λ end ends. arcs_whole _ _ (c.args.base.now ∷ c.args.rover.now ∷ c.args.nav.now ∷ []) _ _ _ _ end ends) c.answer_session.ensures
+returns-in-Ok-clause-refused g c = ended_weaker c.answer_session.result _ _
+    (λ end ends. arcs_whole _ _ (c.args.base.now ∷ c.args.rover.now ∷ c.args.nav.now ∷ []) _ _ _ _ end ends) c.answer_session.ensures
 
 pub returns-in-Err-clause-refused : goal.returns-in-Err-clause-refused
 returns-in-Err-clause-refused g c = ends_weaker c.in-Err.stop _ _ (λ end refused. stop_whole _ _ (c.args.base.now ∷ c.args.rover.now ∷ c.args.nav.now ∷ []) end refused) c.in-Err.ensures.refused

@@ -11,5 +11,8 @@ new-requires c =
 
 pub returns : goal.returns
 returns c = record {
-  holds = λ m e x p h k s. let b = c.anomaly_box-found.result in let f = c.anomaly_box-found.ensures.holds m e x p.cos p.sin h k s in both_along c.new.result.cos c.new.result.sin b.cos b.sin p c.new.ensures.cos c.new.ensures.sin (f.1, f.2);
+  holds = λ m e x p h k s.
+      let b = c.anomaly_box-found.result in
+      let f = c.anomaly_box-found.ensures.holds m e x p.cos p.sin h k s in
+      both_along c.new.result.cos c.new.result.sin b.cos b.sin p c.new.ensures.cos c.new.ensures.sin (f.1, f.2);
 }

@@ -20,5 +20,6 @@ new-requires g c =
 
 pub returns : goal.returns
 returns g c = record {
-  holds = λ x p h k. both_along c.new.result.cos c.new.result.sin c.pair_box-pair.result.cos c.pair_box-pair.result.sin p c.new.ensures.cos c.new.ensures.sin (c.pair_box-pair.ensures.holds x p.cos p.sin h k);
+  holds = λ x p h k. both_along c.new.result.cos c.new.result.sin c.pair_box-pair.result.cos c.pair_box-pair.result.sin p c.new.ensures.cos
+      c.new.ensures.sin (c.pair_box-pair.ensures.holds x p.cos p.sin h k);
 }

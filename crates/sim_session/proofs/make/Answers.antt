@@ -29,7 +29,8 @@ pub rover_receiver-rover-requires-clause-clock : goal.rover_receiver-rover-requi
 rover_receiver-rover-requires-clause-clock c = still_clock c.in_ok-offset.field-0.rover_clock c.in_ok-offset.ensures.rover_clock_size
 
 pub observation_file-requires-clause-records : goal.observation_file-requires-clause-records
-observation_file-requires-clause-records c = subst (λ (es : List Eph). All IsOnTime es) (sym c.deref-2.ensures.value) (on_time c.args.system 0 c.in_ok-records.records.items c.in_ok-records.ensures.records)
+observation_file-requires-clause-records c = subst (λ (es : List Eph). All IsOnTime es) (sym c.deref-2.ensures.value)
+    (on_time c.args.system 0 c.in_ok-records.records.items c.in_ok-records.ensures.records)
 
 pub observation_file-requires-clause-as_many : goal.observation_file-requires-clause-as_many
 observation_file-requires-clause-as_many c =
@@ -40,7 +41,8 @@ pub observation_file-requires-clause-small : goal.observation_file-requires-clau
 observation_file-requires-clause-small c = subst (λ (xs : List (List ℤ)). All AreSmall xs) (sym c.deref-3.ensures.value) c.in_ok-offset.ensures.base_cycles_size
 
 pub observation_file-requires-2-clause-records : goal.observation_file-requires-2-clause-records
-observation_file-requires-2-clause-records c = subst (λ (es : List Eph). All IsOnTime es) (sym c.deref-4.ensures.value) (on_time c.args.system 0 c.in_ok-records.records.items c.in_ok-records.ensures.records)
+observation_file-requires-2-clause-records c = subst (λ (es : List Eph). All IsOnTime es) (sym c.deref-4.ensures.value)
+    (on_time c.args.system 0 c.in_ok-records.records.items c.in_ok-records.ensures.records)
 
 pub observation_file-requires-2-clause-as_many : goal.observation_file-requires-2-clause-as_many
 observation_file-requires-2-clause-as_many c =
@@ -58,8 +60,13 @@ returns-clause-base c =
       records = c.in_ok-records.records.items;
       count = c.in_ok-records.ensures.count;
       are = c.in_ok-records.ensures.records;
-      has = text_along c.args.epochs c.tracking_of-tracking.result (tracking_of c.args.bands c.args.system) (constants_of c.world_of-world.result) (world_of c.args.system) own.result.point base_point own.result.clock (base_clock_of c.args.seed) c.deref-2.result.now c.in_ok-records.records.items c.deref-3.result.now (first_of (base_cycles c.args.seed c.args.sats (has_l5 c.args.bands)) c.args.sats) c.in_ok-base.base.items
-          c.tracking_of-tracking.ensures c.world_of-world.ensures own.ensures.point (own.ensures.clock ∙ clock_cast drawn.field-0.base_clock drawn.ensures.base_clock_size ∙ drawn.ensures.base_clock) c.deref-2.ensures.value (c.deref-3.ensures.value ∙ drawn.ensures.base_cycles ∙ ap (λ (l5 : Bool). first_of (base_cycles c.args.seed c.args.sats l5) c.args.sats) c.has_l5.ensures) c.in_ok-base.ensures.text;
+      has = text_along c.args.epochs c.tracking_of-tracking.result (tracking_of c.args.bands c.args.system) (constants_of c.world_of-world.result)
+          (world_of c.args.system) own.result.point base_point own.result.clock (base_clock_of c.args.seed) c.deref-2.result.now c.in_ok-records.records.items
+          c.deref-3.result.now (first_of (base_cycles c.args.seed c.args.sats (has_l5 c.args.bands)) c.args.sats) c.in_ok-base.base.items
+          c.tracking_of-tracking.ensures c.world_of-world.ensures own.ensures.point
+          (own.ensures.clock ∙ clock_cast drawn.field-0.base_clock drawn.ensures.base_clock_size ∙ drawn.ensures.base_clock) c.deref-2.ensures.value
+          (c.deref-3.ensures.value ∙ drawn.ensures.base_cycles
+            ∙ ap (λ (l5 : Bool). first_of (base_cycles c.args.seed c.args.sats l5) c.args.sats) c.has_l5.ensures) c.in_ok-base.ensures.text;
     }
 
 pub returns-clause-rover : goal.returns-clause-rover
@@ -76,8 +83,14 @@ returns-clause-rover c =
       records = c.in_ok-records.records.items;
       count = c.in_ok-records.ensures.count;
       are = c.in_ok-records.ensures.records;
-      has = text_along c.args.epochs c.tracking_of-tracking.result (tracking_of c.args.bands c.args.system) (constants_of c.world_of-world.result) (world_of c.args.system) own.result.point (rover_point c.args.seed) own.result.clock (rover_clock_of c.args.seed) c.deref-4.result.now c.in_ok-records.records.items c.deref-5.result.now (first_of (rover_cycles c.args.seed c.args.sats (has_l5 c.args.bands)) c.args.sats) c.in_ok-rover.rover.items
-          c.tracking_of-tracking.ensures c.world_of-world.ensures (own.ensures.point ∙ there) (own.ensures.clock ∙ clock_cast drawn.field-0.rover_clock drawn.ensures.rover_clock_size ∙ drawn.ensures.rover_clock) c.deref-4.ensures.value (c.deref-5.ensures.value ∙ drawn.ensures.rover_cycles ∙ ap (λ (l5 : Bool). first_of (rover_cycles c.args.seed c.args.sats l5) c.args.sats) c.has_l5.ensures) c.in_ok-rover.ensures.text;
+      has = text_along c.args.epochs c.tracking_of-tracking.result (tracking_of c.args.bands c.args.system) (constants_of c.world_of-world.result)
+          (world_of c.args.system) own.result.point (rover_point c.args.seed) own.result.clock (rover_clock_of c.args.seed) c.deref-4.result.now
+          c.in_ok-records.records.items c.deref-5.result.now (first_of (rover_cycles c.args.seed c.args.sats (has_l5 c.args.bands)) c.args.sats)
+          c.in_ok-rover.rover.items
+          c.tracking_of-tracking.ensures c.world_of-world.ensures (own.ensures.point ∙ there)
+          (own.ensures.clock ∙ clock_cast drawn.field-0.rover_clock drawn.ensures.rover_clock_size ∙ drawn.ensures.rover_clock) c.deref-4.ensures.value
+          (c.deref-5.ensures.value ∙ drawn.ensures.rover_cycles
+            ∙ ap (λ (l5 : Bool). first_of (rover_cycles c.args.seed c.args.sats l5) c.args.sats) c.has_l5.ensures) c.in_ok-rover.ensures.text;
     }
 
 pub returns-clause-nav : goal.returns-clause-nav
@@ -85,7 +98,8 @@ returns-clause-nav c = record {
   records = c.in_ok-records.records.items;
   count = c.in_ok-records.ensures.count;
   are = c.in_ok-records.ensures.records;
-  has = c.in_ok-write_navigation.ensures.written ∙ ap (λ (xs : List ℕ). xs ++ navigation_text c.args.system c.deref.result.now) c.new-nav.ensures.items ∙ ap (λ (es : List Eph). navigation_text c.args.system es) c.deref.ensures.value;
+  has = c.in_ok-write_navigation.ensures.written ∙ ap (λ (xs : List ℕ). xs ++ navigation_text c.args.system c.deref.result.now) c.new-nav.ensures.items
+      ∙ ap (λ (es : List Eph). navigation_text c.args.system es) c.deref.ensures.value;
 }
 
 pub returns-clause-truth : goal.returns-clause-truth

@@ -17,7 +17,8 @@ returns-then-rest-eq0-clause-value c =
     (taken_apart _ _ _ _ c.floor-down.result c.remainder-rest.result n m c.floor-down.ensures.value c.remainder-rest.ensures.value) r
 
 pub returns-then-rest-eq0-clause-bounds : goal.returns-then-rest-eq0-clause-bounds
-returns-then-rest-eq0-clause-bounds c = subst (λ (q : ℤ). IsCeil c.args.n (unsigned_abs c.args.m) q) (sym (returns-then-rest-eq0-clause-value c)) (ceil_is c.args.n (unsigned_abs c.args.m) (abs_pos c.args.m c.requires.positive))
+returns-then-rest-eq0-clause-bounds c = subst (λ (q : ℤ). IsCeil c.args.n (unsigned_abs c.args.m) q) (sym (returns-then-rest-eq0-clause-value c))
+    (ceil_is c.args.n (unsigned_abs c.args.m) (abs_pos c.args.m c.requires.positive))
 
 pub returns-else-rest-eq0-clause-value : goal.returns-else-rest-eq0-clause-value
 returns-else-rest-eq0-clause-value c =
@@ -30,7 +31,9 @@ returns-else-rest-eq0-clause-value c =
     (taken_apart _ _ _ _ c.floor-down.result c.remainder-rest.result n m c.floor-down.ensures.value c.remainder-rest.ensures.value) r l
 
 pub returns-else-rest-eq0-clause-bounds : goal.returns-else-rest-eq0-clause-bounds
-returns-else-rest-eq0-clause-bounds c = subst (λ (q : ℤ). IsCeil c.args.n (unsigned_abs c.args.m) q) (sym (returns-else-rest-eq0-clause-value c)) (ceil_is c.args.n (unsigned_abs c.args.m) (abs_pos c.args.m c.requires.positive))
+returns-else-rest-eq0-clause-bounds c = subst (λ (q : ℤ). IsCeil c.args.n (unsigned_abs c.args.m) q) (sym (returns-else-rest-eq0-clause-value c))
+    (ceil_is c.args.n (unsigned_abs c.args.m) (abs_pos c.args.m c.requires.positive))
 
 pub returns-else-rest-eq0-clause-size : goal.returns-else-rest-eq0-clause-size
-returns-else-rest-eq0-clause-size c = subst (λ (q : ℤ). unsigned_abs q ≤ unsigned_abs c.args.n) (sym (returns-else-rest-eq0-clause-value c)) (ceil_size c.args.n (unsigned_abs c.args.m) (abs_pos c.args.m c.requires.positive))
+returns-else-rest-eq0-clause-size c = subst (λ (q : ℤ). unsigned_abs q ≤ unsigned_abs c.args.n) (sym (returns-else-rest-eq0-clause-value c))
+    (ceil_size c.args.n (unsigned_abs c.args.m) (abs_pos c.args.m c.requires.positive))

@@ -17,7 +17,8 @@ returns-then-rest-m-clause-value c =
     (taken_apart _ _ _ _ c.floor-down.result c.remainder-rest.result n m c.floor-down.ensures.value c.remainder-rest.ensures.value) c.remainder-rest.ensures.low r
 
 pub returns-then-rest-m-clause-bounds : goal.returns-then-rest-m-clause-bounds
-returns-then-rest-m-clause-bounds c = subst (λ (q : ℤ). IsNearest c.args.n (unsigned_abs c.args.m) q) (sym (returns-then-rest-m-clause-value c)) (nearest_is c.args.n (unsigned_abs c.args.m) (abs_pos c.args.m c.requires.positive))
+returns-then-rest-m-clause-bounds c = subst (λ (q : ℤ). IsNearest c.args.n (unsigned_abs c.args.m) q) (sym (returns-then-rest-m-clause-value c))
+    (nearest_is c.args.n (unsigned_abs c.args.m) (abs_pos c.args.m c.requires.positive))
 
 pub returns-else-rest-m-clause-value : goal.returns-else-rest-m-clause-value
 returns-else-rest-m-clause-value c =
@@ -30,7 +31,9 @@ returns-else-rest-m-clause-value c =
     (taken_apart _ _ _ _ c.floor-down.result c.remainder-rest.result n m c.floor-down.ensures.value c.remainder-rest.ensures.value) l r
 
 pub returns-else-rest-m-clause-bounds : goal.returns-else-rest-m-clause-bounds
-returns-else-rest-m-clause-bounds c = subst (λ (q : ℤ). IsNearest c.args.n (unsigned_abs c.args.m) q) (sym (returns-else-rest-m-clause-value c)) (nearest_is c.args.n (unsigned_abs c.args.m) (abs_pos c.args.m c.requires.positive))
+returns-else-rest-m-clause-bounds c = subst (λ (q : ℤ). IsNearest c.args.n (unsigned_abs c.args.m) q) (sym (returns-else-rest-m-clause-value c))
+    (nearest_is c.args.n (unsigned_abs c.args.m) (abs_pos c.args.m c.requires.positive))
 
 pub returns-else-rest-m-clause-size : goal.returns-else-rest-m-clause-size
-returns-else-rest-m-clause-size c = subst (λ (q : ℤ). unsigned_abs q ≤ unsigned_abs c.args.n) (sym (returns-else-rest-m-clause-value c)) (nearest_size c.args.n (unsigned_abs c.args.m) (abs_pos c.args.m c.requires.positive))
+returns-else-rest-m-clause-size c = subst (λ (q : ℤ). unsigned_abs q ≤ unsigned_abs c.args.n) (sym (returns-else-rest-m-clause-value c))
+    (nearest_size c.args.n (unsigned_abs c.args.m) (abs_pos c.args.m c.requires.positive))

@@ -26,7 +26,8 @@ pub returns-in-Sim-clause-sure : goal.returns-in-Sim-clause-sure
 returns-in-Sim-clause-sure g c = λ all. c.sim_part.ensures.no_fault
 
 pub returns-in-Sim-clause-refused : goal.returns-in-Sim-clause-refused
-returns-in-Sim-clause-refused g c = ended_weaker c.sim_part.result _ _ (λ end ends. part_whole _ _ _ c.in-Sim.part c.in-Sim.seed c.in-Sim.epochs c.in-Sim.sats c.in-Sim.bands c.in-Sim.system end ends) c.sim_part.ensures.ends
+returns-in-Sim-clause-refused g c = ended_weaker c.sim_part.result _ _
+    (λ end ends. part_whole _ _ _ c.in-Sim.part c.in-Sim.seed c.in-Sim.epochs c.in-Sim.sats c.in-Sim.bands c.in-Sim.system end ends) c.sim_part.ensures.ends
 
 pub returns-in-Zero-clause-refused : goal.returns-in-Zero-clause-refused
 returns-in-Zero-clause-refused g c = asked_whole c.zero.result _ _ _ _ _ _ c.in-Zero.is c.as_str.ensures refl c.zero.ensures.refused
@@ -48,18 +49,24 @@ returns-in-Migrate-clause-refused g c = asked_whole c.migrate.result _ _ _ _ _ _
 
 pub returns-in-Fix-clause-refused : goal.returns-in-Fix-clause-refused
 returns-in-Fix-clause-refused g c =
-    subst (λ (j : Job). IfEnded c.fix_by_words.result (AreRefusedWhole (g.F.Files.text_of c.args.files.now) (g.F.Files.unread c.fix_by_words.new.files) (file_words j))) (sym c.in-Fix.is) c.fix_by_words.ensures.refused
+    subst (λ (j : Job).
+          IfEnded c.fix_by_words.result (AreRefusedWhole (g.F.Files.text_of c.args.files.now) (g.F.Files.unread c.fix_by_words.new.files) (file_words j)))
+        (sym c.in-Fix.is) c.fix_by_words.ensures.refused
 
 pub returns-in-CheckTrack-clause-refused : goal.returns-in-CheckTrack-clause-refused
 returns-in-CheckTrack-clause-refused g c = asked_whole c.check_track_file.result _ _ _ _ _ _ c.in-CheckTrack.is c.as_str-in-CheckTrack.ensures refl c.check_track_file.ensures.refused
 
 pub returns-in-Track-clause-refused : goal.returns-in-Track-clause-refused
 returns-in-Track-clause-refused g c =
-    subst (λ (j : Job). IfEnded c.track_by_words.result (AreRefusedWhole (g.F.Files.text_of c.args.files.now) (g.F.Files.unread c.track_by_words.new.files) (file_words j))) (sym c.in-Track.is) c.track_by_words.ensures.refused
+    subst (λ (j : Job).
+          IfEnded c.track_by_words.result (AreRefusedWhole (g.F.Files.text_of c.args.files.now) (g.F.Files.unread c.track_by_words.new.files) (file_words j)))
+        (sym c.in-Track.is) c.track_by_words.ensures.refused
 
 pub returns-in-Arcs-clause-refused : goal.returns-in-Arcs-clause-refused
 returns-in-Arcs-clause-refused g c =
-    subst (λ (j : Job). IfEnded c.arcs_by_words.result (AreRefusedWhole (g.F.Files.text_of c.args.files.now) (g.F.Files.unread c.arcs_by_words.new.files) (file_words j))) (sym c.in-Arcs.is) c.arcs_by_words.ensures.refused
+    subst (λ (j : Job).
+          IfEnded c.arcs_by_words.result (AreRefusedWhole (g.F.Files.text_of c.args.files.now) (g.F.Files.unread c.arcs_by_words.new.files) (file_words j)))
+        (sym c.in-Arcs.is) c.arcs_by_words.ensures.refused
 
 pub returns-in-Fix-clause-opened : goal.returns-in-Fix-clause-opened
 returns-in-Fix-clause-opened g c =

@@ -21,6 +21,7 @@ loop-row-preserved c =
     let size : unsigned_abs c.plus-sum.result ≤ 2 ^ 62 = omega (arith, c.plus-sum.ensures.size, c.loop-row.invariant.size, c.loop-row-test.true, c.requires.few) in
     let fits : to_z w128 (of_z w128 c.plus-sum.result) ≡ c.plus-sum.result = as_w128 c.plus-sum.result (omega (arith, size)) in
     record {
-      value = ap (λ (x : ℤ). x +ℤ sum (map at (drop (i + 1) rows))) (fits ∙ plus) ∙ behind s (at r) (sum (map at (drop (i + 1) rows))) ∙ ap (λ (l : List Row). s +ℤ sum (map at l)) (sym split) ∙ c.loop-row.invariant.value;
+      value = ap (λ (x : ℤ). x +ℤ sum (map at (drop (i + 1) rows))) (fits ∙ plus) ∙ behind s (at r) (sum (map at (drop (i + 1) rows)))
+          ∙ ap (λ (l : List Row). s +ℤ sum (map at l)) (sym split) ∙ c.loop-row.invariant.value;
       size = rw fits (omega (arith, c.plus-sum.ensures.size, c.loop-row.invariant.size));
     }

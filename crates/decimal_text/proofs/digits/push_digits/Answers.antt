@@ -6,7 +6,8 @@ use Rattle.decimal_text.proofs.digits.push_digits.Goals as goal
 
 pub loop-left-preserved : goal.loop-left-preserved
 loop-left-preserved c = record {
-  so_far = digits_step c.loop-left.left c.args.number c.pow.result c.loop-left.text.items c.push.new.self.items _ c.loop-left-test.true c.pow.ensures c.loop-left.invariant.so_far c.in_ok-push.ensures.items;
+  so_far = digits_step c.loop-left.left c.args.number c.pow.result c.loop-left.text.items c.push.new.self.items _ c.loop-left-test.true c.pow.ensures
+      c.loop-left.invariant.so_far c.in_ok-push.ensures.items;
   few = omega (arith, c.loop-left.invariant.few);
 }
 

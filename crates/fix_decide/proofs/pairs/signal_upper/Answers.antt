@@ -11,7 +11,8 @@ use Rattle.fix_decide.proofs.Products.{Weighted, weighted, fits_product, product
 use Rattle.fix_decide.proofs.pairs.signal_upper.Goals as goal
 
 -- the share k of the rows told and the gaps g of their reaches
-weighted_rows : (all rows : List Row) (f : Row → Reach) (reaches : List Reach) (k g : ℤ) → all ≡ rows → reaches ≡ map f all → 1 ≤ length rows → length rows ≤ 15 → pos 0 ≤ℤ k → (k *ℤ pos (length all)) ≤ℤ pos (2 ^ 32) →
+weighted_rows : (all rows : List Row) (f : Row → Reach) (reaches : List Reach) (k g : ℤ) → all ≡ rows → reaches ≡ map f all → 1 ≤ length rows →
+    length rows ≤ 15 → pos 0 ≤ℤ k → (k *ℤ pos (length all)) ≤ℤ pos (2 ^ 32) →
     pos 0 ≤ℤ g → g ≤ℤ pos (length reaches * 2 ^ 72) → Weighted k g
 weighted_rows all rows f reaches k g told same some few from to g_from g_to = weighted k g (length all)
     (subst (λ (n : ℕ). 1 ≤ n) (sym (ap length told)) some) (subst (λ (n : ℕ). n ≤ 15) (sym (ap length told)) few) from to g_from
@@ -25,7 +26,8 @@ pub overflow_mul-result : goal.overflow_mul-result
 overflow_mul-result c =
     let f : Row → Reach = reach_of c.args.arcs.now c.args.signals.now c.args.z.now c.args.moved.now c.args.signal in
     fits_product c.share.result c.gaps.result
-    (weighted_rows c.as_slice-rows.result.now c.args.pair.now.rows f c.as_slice.result.now c.share.result c.gaps.result c.as_slice-rows.ensures (c.as_slice.ensures.value ∙ c.in_ok-reaches.ensures.value)
+    (weighted_rows c.as_slice-rows.result.now c.args.pair.now.rows f c.as_slice.result.now c.share.result c.gaps.result c.as_slice-rows.ensures
+      (c.as_slice.ensures.value ∙ c.in_ok-reaches.ensures.value)
     c.args.pair.now.some_rows c.args.pair.now.few_rows c.share.ensures.from c.share.ensures.to c.gaps.ensures.from c.gaps.ensures.to)
 
 pub returns-clause-value : goal.returns-clause-value
@@ -35,13 +37,15 @@ returns-clause-value c =
     product_word c.share.result c.gaps.result
     (weighted_rows c.as_slice-rows.result.now c.args.pair.now.rows f c.as_slice.result.now c.share.result c.gaps.result c.as_slice-rows.ensures same
     c.args.pair.now.some_rows c.args.pair.now.few_rows c.share.ensures.from c.share.ensures.to c.gaps.ensures.from c.gaps.ensures.to)
-    ∙ ap₂ (λ (a b : ℤ). a *ℤ b) (c.share.ensures.value ∙ ap (λ (l : List Row). share (length l) c.args.signal) c.as_slice-rows.ensures) (c.gaps.ensures.value ∙ ap gaps (same ∙ ap (map f) c.as_slice-rows.ensures))
+    ∙ ap₂ (λ (a b : ℤ). a *ℤ b) (c.share.ensures.value ∙ ap (λ (l : List Row). share (length l) c.args.signal) c.as_slice-rows.ensures)
+        (c.gaps.ensures.value ∙ ap gaps (same ∙ ap (map f) c.as_slice-rows.ensures))
 
 pub returns-clause-from : goal.returns-clause-from
 returns-clause-from c =
     let f : Row → Reach = reach_of c.args.arcs.now c.args.signals.now c.args.z.now c.args.moved.now c.args.signal in
     let w : Weighted c.share.result c.gaps.result =
-    weighted_rows c.as_slice-rows.result.now c.args.pair.now.rows f c.as_slice.result.now c.share.result c.gaps.result c.as_slice-rows.ensures (c.as_slice.ensures.value ∙ c.in_ok-reaches.ensures.value)
+    weighted_rows c.as_slice-rows.result.now c.args.pair.now.rows f c.as_slice.result.now c.share.result c.gaps.result c.as_slice-rows.ensures
+        (c.as_slice.ensures.value ∙ c.in_ok-reaches.ensures.value)
     c.args.pair.now.some_rows c.args.pair.now.few_rows c.share.ensures.from c.share.ensures.to c.gaps.ensures.from c.gaps.ensures.to in
     subst (λ (x : ℤ). pos 0 ≤ℤ x) (sym (product_word c.share.result c.gaps.result w)) w.from
 
@@ -49,7 +53,8 @@ pub returns-clause-to : goal.returns-clause-to
 returns-clause-to c =
     let f : Row → Reach = reach_of c.args.arcs.now c.args.signals.now c.args.z.now c.args.moved.now c.args.signal in
     let w : Weighted c.share.result c.gaps.result =
-    weighted_rows c.as_slice-rows.result.now c.args.pair.now.rows f c.as_slice.result.now c.share.result c.gaps.result c.as_slice-rows.ensures (c.as_slice.ensures.value ∙ c.in_ok-reaches.ensures.value)
+    weighted_rows c.as_slice-rows.result.now c.args.pair.now.rows f c.as_slice.result.now c.share.result c.gaps.result c.as_slice-rows.ensures
+        (c.as_slice.ensures.value ∙ c.in_ok-reaches.ensures.value)
     c.args.pair.now.some_rows c.args.pair.now.few_rows c.share.ensures.from c.share.ensures.to c.gaps.ensures.from c.gaps.ensures.to in
     subst (λ (x : ℤ). x ≤ℤ pos (2 ^ 104)) (sym (product_word c.share.result c.gaps.result w)) w.to
 

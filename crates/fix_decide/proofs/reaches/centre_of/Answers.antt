@@ -38,5 +38,6 @@ returns-clause-value c =
     ∙ ap₂ (λ a b. a -ℤ b) (c.rounded_down.ensures.value ∙ ap (λ x. floor_div x (2 ^ 16)) ef) (c.cycles.ensures.value ∙ ap (λ x. cycle c.args.signal *ℤ x) en)
 
 pub returns-clause-size : goal.returns-clause-size
-returns-clause-size c = subst (λ (x : ℤ). unsigned_abs x ≤ 2 ^ 57) (sym (difference_word c.rounded_down.result c.cycles.result (omega (arith, c.rounded_down.ensures.size)) (omega (arith, c.cycles.ensures.size))))
+returns-clause-size c = subst (λ (x : ℤ). unsigned_abs x ≤ 2 ^ 57)
+    (sym (difference_word c.rounded_down.result c.cycles.result (omega (arith, c.rounded_down.ensures.size)) (omega (arith, c.cycles.ensures.size))))
     (difference_size c.rounded_down.result c.cycles.result c.rounded_down.ensures.size c.cycles.ensures.size)

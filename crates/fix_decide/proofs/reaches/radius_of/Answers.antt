@@ -39,7 +39,9 @@ returns-clause-from c =
     as_w128 s (omega (arith, c.scalar_product-spread.ensures.size)) ∙ c.scalar_product-spread.ensures.value ∙ ap (scalar_product c.args.row.now.ru) c.sizes.ensures.value in
     let p : pos 0 ≤ℤ scalar_product c.args.row.now.ru (map size c.args.moved.now) =
     product_nonneg c.args.row.now.ru c.args.moved.now (c.args.row.now.ru_in 0 (pos 0) l0).0 (c.args.row.now.ru_in 1 (pos 0) l1).0 (c.args.row.now.ru_in 2 (pos 0) l2).0 in
-    let u : pos 0 ≤ℤ c.rounded_up.result = subst (λ (x : ℤ). pos 0 ≤ℤ x) (sym (c.rounded_up.ensures.value ∙ ap (λ x. ceil_div x (2 ^ 16)) e)) (ceil_nonneg (scalar_product c.args.row.now.ru (map size c.args.moved.now)) (2 ^ 16) p) in
+    let u : pos 0 ≤ℤ c.rounded_up.result =
+        subst (λ (x : ℤ). pos 0 ≤ℤ x) (sym (c.rounded_up.ensures.value ∙ ap (λ x. ceil_div x (2 ^ 16)) e))
+            (ceil_nonneg (scalar_product c.args.row.now.ru (map size c.args.moved.now)) (2 ^ 16) p) in
     subst (λ (x : ℤ). pos 0 ≤ℤ x) (sym (radius_word c.args.row.now.ry c.rounded_up.result c.args.row.now.ry_in.0 c.args.row.now.ry_in.1 c.rounded_up.ensures.size))
     (at_least_one c.args.row.now.ry c.rounded_up.result c.args.row.now.ry_in.0 u)
 

@@ -44,7 +44,9 @@ returns-clause-above c =
     c.in_ok-sum.ensures.value ∙ ap₂ (λ (a : List Arc) (p : List PairRows). upper_sum a c.fine_signals.result.now p z m) c.as_slice.ensures c.as_slice-2.ensures
     ∙ ap (λ (x : List ℕ). upper_sum arcs x pairs z m) c.fine_signals.ensures.value in
     let t_is : t ≡ top h arcs ss pairs z m = c.ceil_shift.ensures.value ∙ ap (λ x. ceil_div x (2 ^ h)) (u_word ∙ u_is) in
-    let t_word : to_z w128 (of_z w128 t) ≡ t = as_w128 t (smaller t u c.in_ok-sum.ensures.from c.in_ok-sum.ensures.to (subst (λ (x : ℤ). unsigned_abs t ≤ unsigned_abs x) u_word c.ceil_shift.ensures.size)) in
+    let t_word : to_z w128 (of_z w128 t) ≡ t =
+        as_w128 t (smaller t u c.in_ok-sum.ensures.from c.in_ok-sum.ensures.to
+              (subst (λ (x : ℤ). unsigned_abs t ≤ unsigned_abs x) u_word c.ceil_shift.ensures.size)) in
     subst (λ (x : ℤ). StaysAtMost arcs ss pairs z m (pos (2 ^ h) *ℤ x)) (sym (t_word ∙ t_is)) (top_stays_at_most h arcs ss pairs z m c.requires.entries)
 
 pub returns-clause-refused : goal.returns-clause-refused

@@ -51,7 +51,8 @@ returns-clause-size c =
     let sy : unsigned_abs (number_at c.args.row.now.y c.args.signal) ≤ 2 ^ 34 = c.args.row.now.y_in c.args.signal (pos 0) ly in
     coefficients_within (2 ^ 34) c.put_integer.new.values (3 + c.args.integers) c.args.place
     (turned (number_at c.args.row.now.u 0)) (turned (number_at c.args.row.now.u 1)) (turned (number_at c.args.row.now.u 2)) (turned c.cycle_of.result)
-    (to_z w64 (of_z w64 (number_at c.args.row.now.y c.args.signal))) (over_zeros c.put_integer.new.values c.args.values.now c.args.place (turned (number_at c.args.row.now.u 0)) (turned (number_at c.args.row.now.u 1))
+    (to_z w64 (of_z w64 (number_at c.args.row.now.y c.args.signal)))
+    (over_zeros c.put_integer.new.values c.args.values.now c.args.place (turned (number_at c.args.row.now.u 0)) (turned (number_at c.args.row.now.u 1))
     (turned (number_at c.args.row.now.u 2)) (turned c.cycle_of.result) c.requires.zeros c.put_integer.ensures.value)
     (turned_size (2 ^ 34) (number_at c.args.row.now.u 0) (omega arith) (omega arith)) (turned_size (2 ^ 34) (number_at c.args.row.now.u 1) (omega arith) (omega arith))
     (turned_size (2 ^ 34) (number_at c.args.row.now.u 2) (omega arith) (omega arith))
@@ -61,5 +62,6 @@ returns-clause-size c =
 pub returns-clause-others : goal.returns-clause-others
 returns-clause-others c = nothing_elsewhere c.put_integer.new.values c.args.integers c.args.place
     (turned (number_at c.args.row.now.u 0)) (turned (number_at c.args.row.now.u 1)) (turned (number_at c.args.row.now.u 2)) (turned c.cycle_of.result)
-    (to_z w64 (of_z w64 (number_at c.args.row.now.y c.args.signal))) (over_zeros c.put_integer.new.values c.args.values.now c.args.place (turned (number_at c.args.row.now.u 0)) (turned (number_at c.args.row.now.u 1))
+    (to_z w64 (of_z w64 (number_at c.args.row.now.y c.args.signal)))
+    (over_zeros c.put_integer.new.values c.args.values.now c.args.place (turned (number_at c.args.row.now.u 0)) (turned (number_at c.args.row.now.u 1))
     (turned (number_at c.args.row.now.u 2)) (turned c.cycle_of.result) c.requires.zeros c.put_integer.ensures.value)

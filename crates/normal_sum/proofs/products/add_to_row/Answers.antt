@@ -33,7 +33,8 @@ loop-column-preserved c =
     let v : to_z w64 (of_z w64 (slice_index_or c.args.values.now j (pos 0))) ≡ slice_index_or c.args.values.now j (pos 0) = as_w64 (slice_index_or c.args.values.now j (pos 0))
     (omega (arith, c.requires.value_size j within)) in
     record {
-      added = one_more (λ j. c.args.row ≤ j) c.args.columns.now c.loop-column.column-index (entry c.args.table.now c.args.row) (entry c.loop-column.table c.args.row) (entry c.add_to_entry.new.table c.args.row)
+      added = one_more (λ j. c.args.row ≤ j) c.args.columns.now c.loop-column.column-index (entry c.args.table.now c.args.row)
+          (entry c.loop-column.table c.args.row) (entry c.add_to_entry.new.table c.args.row)
           (λ j. to_z w128 (of_z w128 c.args.factor) *ℤ slice_index_or c.args.values.now j (pos 0)) c.requires.columns.rising c.loop-column-test.true c.loop-column.invariant.added
           (λ i p d. c.add_to_entry.ensures.others c.args.row i (inr d))
           (λ p. c.add_to_entry.ensures.there ∙ ap (λ z. entry c.loop-column.table c.args.row j +ℤ (f *ℤ z)) v);

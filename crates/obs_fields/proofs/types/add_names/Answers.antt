@@ -14,7 +14,8 @@ names-preserved c =
     let is : is_listed c.names.names (name_in c.args.layout c.args.line.now c.names.first) ≡ false = rw (← c.name_at-name.ensures) (sym c.has.ensures ∙ c.if-has.false) in
     let longer = ap (λ (l : List (List ℕ)). length l) c.push.ensures ∙ length-append c.names.names (c.name_at-name.result ∷ []) in
     record {
-      value = c.names.invariant.value ∙ names_more c.args.layout c.args.line.now c.names.first c.names.left c.names.names c.names-test.true is ∙ rw (c.push.ensures, c.name_at-name.ensures, c.name_step-step.ensures) refl;
+      value = c.names.invariant.value ∙ names_more c.args.layout c.args.line.now c.names.first c.names.left c.names.names c.names-test.true is
+          ∙ rw (c.push.ensures, c.name_at-name.ensures, c.name_step-step.ensures) refl;
       room = omega (arith, longer);
       near = omega (arith, name_step-high c.args.layout, c.name_step-step.ensures);
       from = omega arith;

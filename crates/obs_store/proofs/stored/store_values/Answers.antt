@@ -20,7 +20,8 @@ loop-slot-preserved c = elim c.match-values-slot.branch [
     few = omega (arith, c.loop-slot.invariant.few);
   })
   | in-None w ↦ rw (w.stored-is, w.count-is) (record {
-    stored = stored_none c.args.stored.now.items c.loop-slot.stored.items c.loop-slot.count c.loop-slot.slot c.args.values.now None c.loop-slot.invariant.stored c.loop-slot-test.true c.told-values w.in-None.is;
+    stored = stored_none c.args.stored.now.items c.loop-slot.stored.items c.loop-slot.count c.loop-slot.slot c.args.values.now None
+        c.loop-slot.invariant.stored c.loop-slot-test.true c.told-values w.in-None.is;
     room = omega (arith, c.loop-slot.invariant.room);
     few = omega (arith, c.loop-slot.invariant.few);
   })

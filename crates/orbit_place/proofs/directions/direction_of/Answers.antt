@@ -12,7 +12,8 @@ near_sphere-requires-clause-near c =
     has_direction l.cos l.sin t.cos t.sin m.cos m.sin c.sub-x.result.held c.add-y.result.held c.mul-z.result.held
     (λ u i n hu hi hn. direction_held c.cosine-ahead.result.held c.sine-aside.result.held c.cosine-level.result.held c.sine-steep.result.held c.cosine-cos.result.held c.sine-sin.result.held
     c.mul-across.result.held c.mul-first.result.held c.mul-second.result.held c.mul-third.result.held c.mul-fourth.result.held c.sub-x.result.held c.add-y.result.held c.mul-z.result.held
-    c.mul-across.ensures.holds c.mul-first.ensures.holds c.mul-second.ensures.holds c.mul-third.ensures.holds c.mul-fourth.ensures.holds c.sub-x.ensures.holds c.add-y.ensures.holds c.mul-z.ensures.holds u i n
+    c.mul-across.ensures.holds c.mul-first.ensures.holds c.mul-second.ensures.holds c.mul-third.ensures.holds c.mul-fourth.ensures.holds
+    c.sub-x.ensures.holds c.add-y.ensures.holds c.mul-z.ensures.holds u i n
     (both_along c.cosine-ahead.result.held c.sine-aside.result.held l.cos l.sin u c.cosine-ahead.ensures c.sine-aside.ensures hu)
     (both_along c.cosine-level.result.held c.sine-steep.result.held t.cos t.sin i c.cosine-level.ensures c.sine-steep.ensures hi)
     (both_along c.cosine-cos.result.held c.sine-sin.result.held m.cos m.sin n c.cosine-cos.ensures c.sine-sin.ensures hn))
@@ -28,7 +29,8 @@ returns c = record {
       point_along r.x.held r.y.held r.z.held c.sub-x.result.held c.add-y.result.held c.mul-z.result.held (direction u i n) c.near_sphere.ensures.x c.near_sphere.ensures.y c.near_sphere.ensures.z
       (direction_held c.cosine-ahead.result.held c.sine-aside.result.held c.cosine-level.result.held c.sine-steep.result.held c.cosine-cos.result.held c.sine-sin.result.held
       c.mul-across.result.held c.mul-first.result.held c.mul-second.result.held c.mul-third.result.held c.mul-fourth.result.held c.sub-x.result.held c.add-y.result.held c.mul-z.result.held
-      c.mul-across.ensures.holds c.mul-first.ensures.holds c.mul-second.ensures.holds c.mul-third.ensures.holds c.mul-fourth.ensures.holds c.sub-x.ensures.holds c.add-y.ensures.holds c.mul-z.ensures.holds u i n
+      c.mul-across.ensures.holds c.mul-first.ensures.holds c.mul-second.ensures.holds c.mul-third.ensures.holds c.mul-fourth.ensures.holds
+      c.sub-x.ensures.holds c.add-y.ensures.holds c.mul-z.ensures.holds u i n
       (both_along c.cosine-ahead.result.held c.sine-aside.result.held l.cos l.sin u c.cosine-ahead.ensures c.sine-aside.ensures hu)
       (both_along c.cosine-level.result.held c.sine-steep.result.held t.cos t.sin i c.cosine-level.ensures c.sine-steep.ensures hi)
       (both_along c.cosine-cos.result.held c.sine-sin.result.held m.cos m.sin n c.cosine-cos.ensures c.sine-sin.ensures hn));

@@ -33,7 +33,8 @@ epochs-preserved-in-Ok c =
     let n = c.in-Ok-Event.count in
     let gives = rw c.in-Ok-Some.field-0-is at c.in-Ok-Some.ensures in
     let answer = rw c.in-Ok-Event.field-0-is at c.in-Ok-Event.ensures.value in
-    c.epochs.invariant ∙ goes_on obs2_rules (Body h epochs) (more_lines h epochs changes n) (epoch_line_of epochs bytes) (λ l. Ok (after_epoch h epochs l)) (line.Event changes n) _ _ _ bytes gives refl answer refl
+    c.epochs.invariant ∙ goes_on obs2_rules (Body h epochs) (more_lines h epochs changes n) (epoch_line_of epochs bytes) (λ l.
+          Ok (after_epoch h epochs l)) (line.Event changes n) _ _ _ bytes gives refl answer refl
     ∙ (rw c.in-Ok-Event.field-0-is at (c.in-Ok.ensures.reads h epochs))
 
 pub returns-in-Err-skip_lines : goal.returns-in-Err-skip_lines
@@ -45,7 +46,8 @@ returns-in-Err-skip_lines c =
     let n = c.in-Ok-Event.count in
     let gives = rw c.in-Ok-Some.field-0-is at c.in-Ok-Some.ensures in
     let answer = rw c.in-Ok-Event.field-0-is at c.in-Ok-Event.ensures.value in
-    c.epochs.invariant ∙ goes_on obs2_rules (Body h epochs) (more_lines h epochs changes n) (epoch_line_of epochs bytes) (λ l. Ok (after_epoch h epochs l)) (line.Event changes n) _ _ _ bytes gives refl answer refl
+    c.epochs.invariant ∙ goes_on obs2_rules (Body h epochs) (more_lines h epochs changes n) (epoch_line_of epochs bytes) (λ l.
+          Ok (after_epoch h epochs l)) (line.Event changes n) _ _ _ bytes gives refl answer refl
     ∙ (rw c.in-Ok-Event.field-0-is at (c.in-Err-skip_lines.ensures.reads h epochs))
 
 pub epochs-preserved-in-Ok-skip_slips : goal.epochs-preserved-in-Ok-skip_slips
@@ -82,7 +84,8 @@ returns-in-Err-read_epoch c =
     let list = c.in-Ok-Epoch.list in
     let gives = rw c.in-Ok-Some.field-0-is at c.in-Ok-Some.ensures in
     let answer = rw c.in-Ok-Epoch.field-0-is at c.in-Ok-Epoch.ensures.value in
-    handed_on _ _ c.in-Err-read_epoch.fault (c.epochs.invariant ∙ goes_on obs2_rules (Body h epochs) (more_names h epochs tag power list.names list.left) (epoch_line_of epochs bytes) (λ l. Ok (after_epoch h epochs l)) (line.Epoch tag power list) _ _ _ bytes gives refl answer refl)
+    handed_on _ _ c.in-Err-read_epoch.fault (c.epochs.invariant ∙ goes_on obs2_rules (Body h epochs) (more_names h epochs tag power list.names list.left)
+          (epoch_line_of epochs bytes) (λ l. Ok (after_epoch h epochs l)) (line.Epoch tag power list) _ _ _ bytes gives refl answer refl)
     (rw c.in-Ok-Epoch.field-0-is at (c.in-Err-read_epoch.ensures.reads epochs tag power))
 
 pub epochs-preserved : goal.epochs-preserved
@@ -96,7 +99,8 @@ epochs-preserved c =
     let gives = rw c.in-Ok-Some.field-0-is at c.in-Ok-Some.ensures in
     let answer = rw c.in-Ok-Epoch.field-0-is at c.in-Ok-Epoch.ensures.value in
     let added = rw c.in-Ok-Epoch.field-0-is at c.in-Ok-push.ensures.added in
-    rw added (c.epochs.invariant ∙ goes_on obs2_rules (Body h epochs) (more_names h epochs tag power list.names list.left) (epoch_line_of epochs bytes) (λ l. Ok (after_epoch h epochs l)) (line.Epoch tag power list) _ _ _ bytes gives refl answer refl
+    rw added (c.epochs.invariant ∙ goes_on obs2_rules (Body h epochs) (more_names h epochs tag power list.names list.left)
+          (epoch_line_of epochs bytes) (λ l. Ok (after_epoch h epochs l)) (line.Epoch tag power list) _ _ _ bytes gives refl answer refl
     ∙ (rw c.in-Ok-Epoch.field-0-is at (c.in-Ok-read_epoch.ensures.reads epochs tag power)))
 
 pub returns-in-Err-epoch_line : goal.returns-in-Err-epoch_line

@@ -19,7 +19,9 @@ skipped-preserved c =
     let less = gives_less _ _ _ _ c.in-Ok.ensures in
     record {
       reads = λ h epochs. c.skipped.invariant.reads h epochs
-          ∙ goes_on obs2_rules (more_lines h epochs changes n) (more_lines h epochs changes (n - 1)) (event_line_of Rinex2 changes bytes) (λ u. Ok (more_lines h epochs changes (n - 1))) tt _ _ _ bytes c.in-Ok.ensures (admit_lines h epochs changes n bytes c.skipped-test.true) c.in-Ok-event_line.ensures refl;
+          ∙ goes_on obs2_rules (more_lines h epochs changes n) (more_lines h epochs changes (n - 1)) (event_line_of Rinex2 changes bytes)
+              (λ u. Ok (more_lines h epochs changes (n - 1))) tt _ _ _ bytes c.in-Ok.ensures
+              (admit_lines h epochs changes n bytes c.skipped-test.true) c.in-Ok-event_line.ensures refl;
       less = omega arith;
     }
 
@@ -29,4 +31,5 @@ returns-in-Err-event_line-clause-reads c = λ h epochs.
     let n = c.skipped.left in
     let changes = c.args.changes in
     rw c.at.ensures (c.skipped.invariant.reads h epochs
-    ∙ stops obs2_rules (more_lines h epochs changes n) (event_line_of Rinex2 changes bytes) (λ u. Ok (more_lines h epochs changes (n - 1))) _ _ _ _ bytes c.in-Ok.ensures (admit_lines h epochs changes n bytes c.skipped-test.true) c.in-Err-event_line.ensures)
+    ∙ stops obs2_rules (more_lines h epochs changes n) (event_line_of Rinex2 changes bytes) (λ u. Ok (more_lines h epochs changes (n - 1))) _ _ _ _
+        bytes c.in-Ok.ensures (admit_lines h epochs changes n bytes c.skipped-test.true) c.in-Err-event_line.ensures)

@@ -23,7 +23,8 @@ loop-at-preserved c =
     let fewer = gives_less _ _ _ _ c.in-Ok.ensures in
     record {
       reads = λ epochs tag power sats names. c.loop-at.invariant.reads epochs tag power sats names
-          ∙ takes obs2_rules (more_rows h epochs tag power sats None names at missing_values) (more_rows h epochs tag power sats None names (at + 1) missing_values) _ _ _ _ c.in-Ok.ensures (admit_other h epochs tag power sats names at missing_values _ less);
+          ∙ takes obs2_rules (more_rows h epochs tag power sats None names at missing_values) (more_rows h epochs tag power sats None names
+                (at + 1) missing_values) _ _ _ _ c.in-Ok.ensures (admit_other h epochs tag power sats names at missing_values _ less);
       less = omega (arith, fewer, c.loop-at.invariant.less);
       end = c.loop-at.invariant.end;
     }

@@ -16,7 +16,8 @@ new-true_anomaly-requires c =
           radius_holds = c.radius_of-radius.ensures.holds;
           radius_least = c.radius_of-radius.ensures.least;
           root_near = c.root_of_rest-root.ensures.near;
-          quotients = quotients_held e.held a.cos a.sin c.cosine.result.held c.sine.result.held c.root_of_rest-root.result.held c.radius_of-radius.result.held c.sub-shifted.result.held c.mul-shortened.result.held cos sin
+          quotients = quotients_held e.held a.cos a.sin c.cosine.result.held c.sine.result.held c.root_of_rest-root.result.held
+              c.radius_of-radius.result.held c.sub-shifted.result.held c.mul-shortened.result.held cos sin
               c.cosine.ensures c.sine.ensures c.radius_of-radius.ensures.holds c.sub-shifted.ensures.holds c.mul-shortened.ensures.holds c.div-cos.ensures.holds c.div-sin.ensures.holds;
         }) a.near_circle,
         (c.div-cos.result.narrow, (c.div-sin.result.narrow, (omega arith, omega arith))),
@@ -30,6 +31,7 @@ returns-clause-true_anomaly c = λ e w p v h k r i.
     let cos = c.div-cos.result.held in
     let sin = c.div-sin.result.held in
     both_along c.new-true_anomaly.result.cos c.new-true_anomaly.result.sin cos sin v c.new-true_anomaly.ensures.cos c.new-true_anomaly.ensures.sin
-    (quotients_held ecc.held a.cos a.sin c.cosine.result.held c.sine.result.held c.root_of_rest-root.result.held c.radius_of-radius.result.held c.sub-shifted.result.held c.mul-shortened.result.held cos sin
+    (quotients_held ecc.held a.cos a.sin c.cosine.result.held c.sine.result.held c.root_of_rest-root.result.held c.radius_of-radius.result.held
+      c.sub-shifted.result.held c.mul-shortened.result.held cos sin
     c.cosine.ensures c.sine.ensures c.radius_of-radius.ensures.holds c.sub-shifted.ensures.holds c.mul-shortened.ensures.holds c.div-cos.ensures.holds c.div-sin.ensures.holds
     e w p v h k (c.root_of_rest-root.ensures.holds e w h r) i)

@@ -12,7 +12,16 @@ new-requires c =
     let n = c.rest_of.result in
     let r = c.root_to.result in
     let b : IsRootBox n.lo n.hi r.lo r.hi =
-    record { least = c.rest_of.ensures.low; most = c.rest_of.ensures.high; rest_ordered = n.ordered; narrow = c.rest_of.ensures.narrow; ordered = r.ordered; not_negative = c.root_to.ensures.not_negative; near_low = c.root_to.ensures.near_low; near_high = c.root_to.ensures.near_high } in
+    record {
+      least = c.rest_of.ensures.low;
+      most = c.rest_of.ensures.high;
+      rest_ordered = n.ordered;
+      narrow = c.rest_of.ensures.narrow;
+      ordered = r.ordered;
+      not_negative = c.root_to.ensures.not_negative;
+      near_low = c.root_to.ensures.near_low;
+      near_high = c.root_to.ensures.near_high
+    } in
     let low : neg_ℤ (pos (1025 * 2 ^ 50)) ≤ℤ r.lo = omega (arith, ints, c.root_to.ensures.not_negative) in
     (omega arith, (omega arith, ((low, root_high n.lo n.hi r.lo r.hi b), root_narrow n.lo n.hi r.lo r.hi b)))
 
@@ -24,6 +33,15 @@ returns-clause-near c = λ e h.
     let n = c.rest_of.result in
     let r = c.root_to.result in
     let b : IsRootBox n.lo n.hi r.lo r.hi =
-    record { least = c.rest_of.ensures.low; most = c.rest_of.ensures.high; rest_ordered = n.ordered; narrow = c.rest_of.ensures.narrow; ordered = r.ordered; not_negative = c.root_to.ensures.not_negative; near_low = c.root_to.ensures.near_low; near_high = c.root_to.ensures.near_high } in
+    record {
+      least = c.rest_of.ensures.low;
+      most = c.rest_of.ensures.high;
+      rest_ordered = n.ordered;
+      narrow = c.rest_of.ensures.narrow;
+      ordered = r.ordered;
+      not_negative = c.root_to.ensures.not_negative;
+      near_low = c.root_to.ensures.near_low;
+      near_high = c.root_to.ensures.near_high
+    } in
     subst (λ (b : Iv 60). AreWithin (two_to_minus 50) (mul_r (of_scale 60 b.lo) (of_scale 60 b.lo)) (sub_r one (mul_r e e))) (sym c.new.ensures)
     (root_near n.lo n.hi r.lo r.hi (sub_r one (mul_r e e)) b (c.rest_of.ensures.holds e h))

@@ -14,7 +14,8 @@ narrow_shifts : (made : ℕ) (arcs given : List Arc) → made ≤ most_rounds 0 
 narrow_shifts made arcs given few e h = wider_shifts (2 ^ 39 + 2 ^ 30 * (made - 1)) (2 ^ 40) given (omega arith) (subst (AreShiftsBelow (2 ^ 39 + 2 ^ 30 * (made - 1))) (sym e) h)
 
 pub rounds-init : goal.rounds-init
-rounds-init g c = fine_begins (g.R.Rounds.rules c.args.rounds.now) c.args.first.now c.in_ok-arcs.arcs.items c.args.coarse c.requires.first c.in_ok-arcs.ensures.begins c.in_ok-arcs.ensures.arcs c.in_ok-arcs.ensures.shifts c.in_ok-arcs.ensures.used
+rounds-init g c = fine_begins (g.R.Rounds.rules c.args.rounds.now) c.args.first.now c.in_ok-arcs.arcs.items c.args.coarse c.requires.first
+    c.in_ok-arcs.ensures.begins c.in_ok-arcs.ensures.arcs c.in_ok-arcs.ensures.shifts c.in_ok-arcs.ensures.used
 
 pub session-requires-clause-shifts : goal.session-requires-clause-shifts
 session-requires-clause-shifts g c = narrow_shifts c.rounds.fine c.rounds.arcs.items c.as_slice.result.now c.rounds.invariant.few c.as_slice.ensures.value c.rounds.invariant.below
@@ -26,32 +27,40 @@ pub returns-in_default-clause-end : goal.returns-in_default-clause-end
 returns-in_default-clause-end g c =
     let rules : Rules = g.R.Rounds.rules c.args.rounds.now in
     fine_at_y rules c.rounds.point c.rounds.arcs.items c.args.coarse c.rounds.fine c.rounds.invariant
-    (subst (IsSessionAt rules (fine c.rounds.point c.rounds.arcs.items)) c.in_default.is (subst (λ (a : List Arc). IsSessionAt rules (fine c.rounds.point a) c.in_ok-session.field-0) c.as_slice.ensures.value c.in_ok-session.ensures))
+    (subst (IsSessionAt rules (fine c.rounds.point c.rounds.arcs.items)) c.in_default.is
+      (subst (λ (a : List Arc). IsSessionAt rules (fine c.rounds.point a) c.in_ok-session.field-0) c.as_slice.ensures.value c.in_ok-session.ensures))
 
 pub returns-in-Ok-Settled-clause-end : goal.returns-in-Ok-Settled-clause-end
 returns-in-Ok-Settled-clause-end g c =
     let rules : Rules = g.R.Rounds.rules c.args.rounds.now in
     let s = c.in-Some.session in
     let a : List Arc = c.rounds.arcs.items in
-    let k : IsSessionOf rules (fine c.rounds.point a) s = session_at rules (fine c.rounds.point a) c.in_ok-session.field-0 s c.in-Some.is (subst (λ (a : List Arc). IsSessionAt rules (fine c.rounds.point a) c.in_ok-session.field-0) c.as_slice.ensures.value c.in_ok-session.ensures) in
+    let k : IsSessionOf rules (fine c.rounds.point a) s =
+        session_at rules (fine c.rounds.point a) c.in_ok-session.field-0 s c.in-Some.is
+            (subst (λ (a : List Arc). IsSessionAt rules (fine c.rounds.point a) c.in_ok-session.field-0) c.as_slice.ensures.value c.in_ok-session.ensures) in
     let t : IsSettledForm s c.in-Ok-Settled.form = subst (IsStep (nat_eq c.rounds.fine (most_rounds 0)) s) c.in-Ok-Settled.field-0-is c.in-Ok-Settled.ensures.step in
-    fine_decides rules c.rounds.point a c.args.coarse c.rounds.fine c.args.ratio c.args.budget s c.in-Ok-Settled.form c.decide_settled-tail.result c.rounds.invariant k t c.decide_settled-tail.ensures.decision
+    fine_decides rules c.rounds.point a c.args.coarse c.rounds.fine c.args.ratio c.args.budget s c.in-Ok-Settled.form c.decide_settled-tail.result
+        c.rounds.invariant k t c.decide_settled-tail.ensures.decision
 
 pub grown-requires-clause-numbers : goal.grown-requires-clause-numbers
 grown-requires-clause-numbers g c =
-    let m : (nat_eq c.rounds.fine (most_rounds 0) ≡ false) × IsMoved c.in-Some.session c.in-Ok-Moved.numbers c.in-Ok-Moved.moved = subst (IsStep (nat_eq c.rounds.fine (most_rounds 0)) c.in-Some.session) c.in-Ok-Moved.field-0-is c.in-Ok-Moved.ensures.step in
+    let m : (nat_eq c.rounds.fine (most_rounds 0) ≡ false) × IsMoved c.in-Some.session c.in-Ok-Moved.numbers c.in-Ok-Moved.moved =
+        subst (IsStep (nat_eq c.rounds.fine (most_rounds 0)) c.in-Some.session) c.in-Ok-Moved.field-0-is c.in-Ok-Moved.ensures.step in
     let f = m.1.unsettled.float in
     narrow_numbers f.form c.in-Ok-Moved.numbers f.numbers f.narrow
 
 pub grown-requires-clause-shifts : goal.grown-requires-clause-shifts
-grown-requires-clause-shifts g c = narrow_shifts c.rounds.fine c.rounds.arcs.items c.as_slice-in-Ok-Moved.result.now c.rounds.invariant.few c.as_slice-in-Ok-Moved.ensures.value c.rounds.invariant.below
+grown-requires-clause-shifts g c = narrow_shifts c.rounds.fine c.rounds.arcs.items c.as_slice-in-Ok-Moved.result.now c.rounds.invariant.few
+    c.as_slice-in-Ok-Moved.ensures.value c.rounds.invariant.below
 
 pub returns-in-Err-clause-end : goal.returns-in-Err-clause-end
 returns-in-Err-clause-end g c =
     let rules : Rules = g.R.Rounds.rules c.args.rounds.now in
     let s = c.in-Some.session in
     let a : List Arc = c.rounds.arcs.items in
-    let k : IsSessionOf rules (fine c.rounds.point a) s = session_at rules (fine c.rounds.point a) c.in_ok-session.field-0 s c.in-Some.is (subst (λ (a : List Arc). IsSessionAt rules (fine c.rounds.point a) c.in_ok-session.field-0) c.as_slice.ensures.value c.in_ok-session.ensures) in
+    let k : IsSessionOf rules (fine c.rounds.point a) s =
+        session_at rules (fine c.rounds.point a) c.in_ok-session.field-0 s c.in-Some.is
+            (subst (λ (a : List Arc). IsSessionAt rules (fine c.rounds.point a) c.in_ok-session.field-0) c.as_slice.ensures.value c.in_ok-session.ensures) in
     fine_declines rules c.rounds.point a c.args.coarse c.rounds.fine c.args.ratio c.args.budget s c.in-Err.tail c.rounds.invariant k c.in-Err.ensures.declined
 
 pub rounds-preserved : goal.rounds-preserved
@@ -59,8 +68,11 @@ rounds-preserved g c =
     let rules : Rules = g.R.Rounds.rules c.args.rounds.now in
     let s = c.in-Some.session in
     let a : List Arc = c.rounds.arcs.items in
-    let k : IsSessionOf rules (fine c.rounds.point a) s = session_at rules (fine c.rounds.point a) c.in_ok-session.field-0 s c.in-Some.is (subst (λ (a : List Arc). IsSessionAt rules (fine c.rounds.point a) c.in_ok-session.field-0) c.as_slice.ensures.value c.in_ok-session.ensures) in
-    let m : (nat_eq c.rounds.fine (most_rounds 0) ≡ false) × IsMoved s c.in-Ok-Moved.numbers c.in-Ok-Moved.moved = subst (IsStep (nat_eq c.rounds.fine (most_rounds 0)) s) c.in-Ok-Moved.field-0-is c.in-Ok-Moved.ensures.step in
+    let k : IsSessionOf rules (fine c.rounds.point a) s =
+        session_at rules (fine c.rounds.point a) c.in_ok-session.field-0 s c.in-Some.is
+            (subst (λ (a : List Arc). IsSessionAt rules (fine c.rounds.point a) c.in_ok-session.field-0) c.as_slice.ensures.value c.in_ok-session.ensures) in
+    let m : (nat_eq c.rounds.fine (most_rounds 0) ≡ false) × IsMoved s c.in-Ok-Moved.numbers c.in-Ok-Moved.moved =
+        subst (IsStep (nat_eq c.rounds.fine (most_rounds 0)) s) c.in-Ok-Moved.field-0-is c.in-Ok-Moved.ensures.step in
     let v = c.as_slice-in-Ok-Moved.ensures.value in
     fine_moves rules c.rounds.point a c.args.coarse c.rounds.fine s c.in-Ok-Moved.numbers c.in-Ok-Moved.moved c.in_ok-arcs-in-Ok-Moved.arcs.items c.rounds.invariant k m.0 m.1
     (subst (λ (ss : List ℕ). AreGrown a ss c.in-Ok-Moved.numbers c.in_ok-arcs-in-Ok-Moved.arcs.items) c.fine_signals.ensures.value

@@ -8,20 +8,24 @@ use Rattle.round_steps.proofs.steps.round_step.Goals as goal
 
 pub returns-then-last-clause-declined : goal.returns-then-last-clause-declined
 returns-then-last-clause-declined c =
-    let float : IsFloatOf c.args.session.now c.in-Ok.solved.numbers = record { form = c.in-Ok.solved.form; of_rows = c.in-Ok.ensures.form; narrow = c.in-Ok.ensures.narrow; numbers = c.in-Ok.ensures.numbers } in (
+    let float : IsFloatOf c.args.session.now c.in-Ok.solved.numbers =
+        record { form = c.in-Ok.solved.form; of_rows = c.in-Ok.ensures.form; narrow = c.in-Ok.ensures.narrow; numbers = c.in-Ok.ensures.numbers } in
+    (
       c.if-last.true,
       (
         c.in-Ok.solved.numbers,
         record {
           float = float;
-          first = subst (IsFirstOver c.args.session.now.scale c.in-Ok.solved.numbers) (sym (entry_word c.args.session.now.scale c.in-Ok.solved.numbers c.in-Some.entry c.in-Some.ensures c.in-Ok.ensures.small)) c.in-Some.ensures;
+          first = subst (IsFirstOver c.args.session.now.scale c.in-Ok.solved.numbers)
+              (sym (entry_word c.args.session.now.scale c.in-Ok.solved.numbers c.in-Some.entry c.in-Some.ensures c.in-Ok.ensures.small)) c.in-Some.ensures;
         },
       ),
     )
 
 pub returns-then-not-is_receiver_point-clause-declined : goal.returns-then-not-is_receiver_point-clause-declined
 returns-then-not-is_receiver_point-clause-declined c =
-    let float : IsFloatOf c.args.session.now c.in-Ok.solved.numbers = record { form = c.in-Ok.solved.form; of_rows = c.in-Ok.ensures.form; narrow = c.in-Ok.ensures.narrow; numbers = c.in-Ok.ensures.numbers } in
+    let float : IsFloatOf c.args.session.now c.in-Ok.solved.numbers =
+        record { form = c.in-Ok.solved.form; of_rows = c.in-Ok.ensures.form; narrow = c.in-Ok.ensures.narrow; numbers = c.in-Ok.ensures.numbers } in
     inr (inr (
       refl,
       (
@@ -37,7 +41,9 @@ returns-then-not-is_receiver_point-clause-declined c =
 
 pub returns-clause-step : goal.returns-clause-step
 returns-clause-step c =
-    let float : IsFloatOf c.args.session.now c.in-Ok.solved.numbers = record { form = c.in-Ok.solved.form; of_rows = c.in-Ok.ensures.form; narrow = c.in-Ok.ensures.narrow; numbers = c.in-Ok.ensures.numbers } in (
+    let float : IsFloatOf c.args.session.now c.in-Ok.solved.numbers =
+        record { form = c.in-Ok.solved.form; of_rows = c.in-Ok.ensures.form; narrow = c.in-Ok.ensures.narrow; numbers = c.in-Ok.ensures.numbers } in
+    (
       c.if-last.false,
       record {
         entry = c.in-Some.entry;

@@ -15,8 +15,10 @@ loop-k-preserved c =
     record {
       first = more_first f.screened.boxes f.kept f.position c.args.point.now f.signals c.loop-k.k c.loop-k.arcs.items c.push.new.self.items c.first_arc.result c.loop-k.invariant.first
           (λ a e. record { same = c.first_arc.ensures.same a e; near = c.first_arc.ensures.near a e }) pushed;
-      size = subst (AreShiftsBelow (2 ^ 39)) (sym pushed) (All-push (λ (b : Arc). All (IsBelow (2 ^ 39)) b.shift) c.loop-k.arcs.items c.first_arc.result c.loop-k.invariant.size c.first_arc.ensures.size);
-      used = subst (All (HasUsedShifts (fine_signals f.signals))) (sym pushed) (All-push (HasUsedShifts (fine_signals f.signals)) c.loop-k.arcs.items c.first_arc.result c.loop-k.invariant.used c.first_arc.ensures.used);
+      size = subst (AreShiftsBelow (2 ^ 39)) (sym pushed)
+          (All-push (λ (b : Arc). All (IsBelow (2 ^ 39)) b.shift) c.loop-k.arcs.items c.first_arc.result c.loop-k.invariant.size c.first_arc.ensures.size);
+      used = subst (All (HasUsedShifts (fine_signals f.signals))) (sym pushed)
+          (All-push (HasUsedShifts (fine_signals f.signals)) c.loop-k.arcs.items c.first_arc.result c.loop-k.invariant.used c.first_arc.ensures.used);
     }
 
 pub returns-clause-begins : goal.returns-clause-begins

@@ -52,12 +52,14 @@ returns-in-Ok-outcome-clause-outcome c = record {
   taken_are = c.in-Ok.ensures.taken;
   rounds = c.in-Ok-screened.rounds;
   screened = c.in-Ok-screened.ensures.screened;
-  stands = rows_stand c.args.base.now c.args.rover.now c.args.nav.now c.args.options.now c.in-Ok.begun.position c.in-Ok.begun.signals c.in-Ok.begun.taken.items c.in-Ok-screened.rounds c.in-Ok-screened.ensures.screened;
+  stands = rows_stand c.args.base.now c.args.rover.now c.args.nav.now c.args.options.now c.in-Ok.begun.position c.in-Ok.begun.signals
+      c.in-Ok.begun.taken.items c.in-Ok-screened.rounds c.in-Ok-screened.ensures.screened;
   taken_is = c.in-Ok-outcome.ensures.taken;
   all_is = c.in-Ok-outcome.ensures.all ∙ c.in-Ok.ensures.all;
   kept_is = c.in-Ok-outcome.ensures.kept ∙ ap (λ (l : List Arc). length l) c.as_slice.ensures;
   kept_few = subst (λ (n : ℕ). n ≤ 54000) (sym (c.in-Ok-outcome.ensures.kept ∙ ap (λ (l : List Arc). length l) c.as_slice.ensures)) (few_kept c.in-Ok-screened.rounds c.in-Ok-screened.ensures.cut);
-  delta_is = subst (λ (b : Bool). (IsTrue b → HasDelta c.args.base.now ⊎ HasDelta c.args.rover.now) × (HasDelta c.args.base.now ⊎ HasDelta c.args.rover.now → IsTrue b)) (sym c.in-Ok-outcome.ensures.delta) c.have_delta-delta.ensures;
+  delta_is = subst (λ (b : Bool). (IsTrue b → HasDelta c.args.base.now ⊎ HasDelta c.args.rover.now)
+        × (HasDelta c.args.base.now ⊎ HasDelta c.args.rover.now → IsTrue b)) (sym c.in-Ok-outcome.ensures.delta) c.have_delta-delta.ensures;
   answer_is = c.in-Ok-outcome.ensures.answer;
 }
 

@@ -13,14 +13,17 @@ low : (l h z y : ℤ) → h ≤ℤ (l +ℤ pos (2 ^ 20)) → z ≡ l -ℤ pos (3
 low l h z y k e f = omega (arith, ints)
 
 pub quotient_of-requires-clause-low : goal.quotient_of-requires-clause-low
-quotient_of-requires-clause-low c = low c.args.range.now.lo c.args.x.now.hi c.sum_of_ranges.result.lo c.move_less_twice.result.lo c.requires.high c.sum_of_ranges.ensures.lo c.move_less_twice.ensures.lo
+quotient_of-requires-clause-low c = low c.args.range.now.lo c.args.x.now.hi c.sum_of_ranges.result.lo c.move_less_twice.result.lo c.requires.high
+    c.sum_of_ranges.ensures.lo c.move_less_twice.ensures.lo
 
 high : (l x z y : ℤ) → neg_ℤ (l +ℤ pos (2 ^ 20)) ≤ℤ x → z ≡ l -ℤ pos (33 * 2 ^ 34) → y ≡ pos (16 * 2 ^ 35) -ℤ x → y ≤ℤ (z +ℤ pos (66 * 2 ^ 34))
 high l x z y k e f = omega (arith, ints)
 
 pub quotient_of-requires-clause-high : goal.quotient_of-requires-clause-high
-quotient_of-requires-clause-high c = high c.args.range.now.lo c.args.x.now.lo c.sum_of_ranges.result.lo c.move_less_twice.result.hi c.requires.low c.sum_of_ranges.ensures.lo c.move_less_twice.ensures.hi
+quotient_of-requires-clause-high c = high c.args.range.now.lo c.args.x.now.lo c.sum_of_ranges.result.lo c.move_less_twice.result.hi c.requires.low
+    c.sum_of_ranges.ensures.lo c.move_less_twice.ensures.hi
 
 pub returns : goal.returns
 returns c = λ q m r s u hq hr hm up down e.
-    c.spread_of.ensures u (c.quotient_of.ensures.holds (sub_r m (mul_r (of_whole (pos 2)) q)) (add_r r s) u (c.move_less_twice.ensures.holds q m hq hm) (c.sum_of_ranges.ensures.holds r s hr up down) e)
+    c.spread_of.ensures u (c.quotient_of.ensures.holds (sub_r m (mul_r (of_whole (pos 2)) q)) (add_r r s) u
+          (c.move_less_twice.ensures.holds q m hq hm) (c.sum_of_ranges.ensures.holds r s hr up down) e)

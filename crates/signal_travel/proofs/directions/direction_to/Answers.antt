@@ -12,13 +12,16 @@ wider : (l x : ℤ) → neg_ℤ ((l +ℤ pos 80) +ℤ pos 524289) ≤ℤ x → n
 wider l x h = omega (arith, ints)
 
 pub coordinate_spread-requires-clause-low : goal.coordinate_spread-requires-clause-low
-coordinate_spread-requires-clause-low c = wider c.length_of-range.result.lo c.vector_from-vector.result.x.lo (c.length_of-range.ensures.reach (pos 524289) (c.vector_from-vector.ensures.width (pos (2 ^ 19)) c.args.seen.now.narrow)).0.0
+coordinate_spread-requires-clause-low c = wider c.length_of-range.result.lo c.vector_from-vector.result.x.lo
+    (c.length_of-range.ensures.reach (pos 524289) (c.vector_from-vector.ensures.width (pos (2 ^ 19)) c.args.seen.now.narrow)).0.0
 
 pub coordinate_spread-requires-2-clause-low : goal.coordinate_spread-requires-2-clause-low
-coordinate_spread-requires-2-clause-low c = wider c.length_of-range.result.lo c.vector_from-vector.result.y.lo (c.length_of-range.ensures.reach (pos 524289) (c.vector_from-vector.ensures.width (pos (2 ^ 19)) c.args.seen.now.narrow)).1.0
+coordinate_spread-requires-2-clause-low c = wider c.length_of-range.result.lo c.vector_from-vector.result.y.lo
+    (c.length_of-range.ensures.reach (pos 524289) (c.vector_from-vector.ensures.width (pos (2 ^ 19)) c.args.seen.now.narrow)).1.0
 
 pub coordinate_spread-requires-3-clause-low : goal.coordinate_spread-requires-3-clause-low
-coordinate_spread-requires-3-clause-low c = wider c.length_of-range.result.lo c.vector_from-vector.result.z.lo (c.length_of-range.ensures.reach (pos 524289) (c.vector_from-vector.ensures.width (pos (2 ^ 19)) c.args.seen.now.narrow)).2.0
+coordinate_spread-requires-3-clause-low c = wider c.length_of-range.result.lo c.vector_from-vector.result.z.lo
+    (c.length_of-range.ensures.reach (pos 524289) (c.vector_from-vector.ensures.width (pos (2 ^ 19)) c.args.seen.now.narrow)).2.0
 
 pub returns : goal.returns
 returns c = λ place move direction h m d.

@@ -5,7 +5,8 @@ use Rattle.whole_math.proofs.Inequalities.{pos_nn}
 use Rattle.signal_travel.proofs.MeanDirections.{move_low, move_high}
 use Rattle.signal_travel.proofs.directions.move_less_twice.Goals as goal
 
-low : (l h z : ℤ) → neg_ℤ (pos 3106120348467200000) ≤ℤ l → l ≤ℤ h → h ≤ℤ pos 3106120348467200000 → z ≡ to_z w64 (of_z w64 (to_z w64 (of_z w64 (pos 0 -ℤ to_z w64 (of_z w64 h))) -ℤ pos 549755813888)) → z ≡ neg_ℤ h -ℤ pos 549755813888
+low : (l h z : ℤ) → neg_ℤ (pos 3106120348467200000) ≤ℤ l → l ≤ℤ h → h ≤ℤ pos 3106120348467200000
+    → z ≡ to_z w64 (of_z w64 (to_z w64 (of_z w64 (pos 0 -ℤ to_z w64 (of_z w64 h))) -ℤ pos 549755813888)) → z ≡ neg_ℤ h -ℤ pos 549755813888
 low l h z a b c e = omega (arith, ints)
 
 high : (l h z : ℤ) → neg_ℤ (pos 3106120348467200000) ≤ℤ l → l ≤ℤ h → h ≤ℤ pos 3106120348467200000 → z ≡ to_z w64 (of_z w64 (pos 549755813888 -ℤ to_z w64 (of_z w64 l))) → z ≡ pos 549755813888 -ℤ l
@@ -17,6 +18,8 @@ returns-clause-holds c = λ q m h s.
     let e = c.from_ends.ensures in
     let el = low x.lo x.hi c.from_ends.result.lo c.requires.0 x.ordered c.requires.1 e.lo in
     let eh = high x.lo x.hi c.from_ends.result.hi c.requires.0 x.ordered c.requires.1 e.hi in (
-      subst (λ (z : ℤ). (z *ℤ (pos m.den *ℤ (pos 1 *ℤ pos q.den))) ≤ℤ (((m.num *ℤ (pos 1 *ℤ pos q.den)) -ℤ ((pos 2 *ℤ q.num) *ℤ pos m.den)) *ℤ pos 34359738368)) (sym el) (move_low x.hi q.num (pos q.den) m.num (pos m.den) (pos_nn q.den) (pos_nn m.den) h.1 s.1),
-      subst (λ (z : ℤ). (((m.num *ℤ (pos 1 *ℤ pos q.den)) -ℤ ((pos 2 *ℤ q.num) *ℤ pos m.den)) *ℤ pos 34359738368) ≤ℤ (z *ℤ (pos m.den *ℤ (pos 1 *ℤ pos q.den)))) (sym eh) (move_high x.lo q.num (pos q.den) m.num (pos m.den) (pos_nn q.den) (pos_nn m.den) h.0 s.0),
+      subst (λ (z : ℤ). (z *ℤ (pos m.den *ℤ (pos 1 *ℤ pos q.den))) ≤ℤ (((m.num *ℤ (pos 1 *ℤ pos q.den)) -ℤ ((pos 2 *ℤ q.num) *ℤ pos m.den)) *ℤ pos 34359738368))
+          (sym el) (move_low x.hi q.num (pos q.den) m.num (pos m.den) (pos_nn q.den) (pos_nn m.den) h.1 s.1),
+      subst (λ (z : ℤ). (((m.num *ℤ (pos 1 *ℤ pos q.den)) -ℤ ((pos 2 *ℤ q.num) *ℤ pos m.den)) *ℤ pos 34359738368) ≤ℤ (z *ℤ (pos m.den *ℤ (pos 1 *ℤ pos q.den))))
+          (sym eh) (move_high x.lo q.num (pos q.den) m.num (pos m.den) (pos_nn q.den) (pos_nn m.den) h.0 s.0),
     )

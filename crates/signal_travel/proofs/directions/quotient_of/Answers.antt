@@ -28,7 +28,8 @@ pub unwrap-requires : goal.unwrap-requires
 unwrap-requires c =
     let y = c.args.sum.now in
     let w = ends c in
-    ok_of_quotient c.div_to.result (λ h. apart y.lo y.hi c.requires.least y.ordered (c.div_to.ensures.zero_inside.0 h)) (λ h. in_reach _ _ 16777244 (lit≤ tt) w.0 w.1 ((c.div_to.ensures.overwidth.0 h).1))
+    ok_of_quotient c.div_to.result (λ h. apart y.lo y.hi c.requires.least y.ordered (c.div_to.ensures.zero_inside.0 h))
+        (λ h. in_reach _ _ 16777244 (lit≤ tt) w.0 w.1 ((c.div_to.ensures.overwidth.0 h).1))
 
 pub returns-clause-size : goal.returns-clause-size
 returns-clause-size c =
@@ -36,7 +37,8 @@ returns-clause-size c =
     let d = IfOk-at_ok _ c.unwrap.ensures c.div_to.ensures.ends in
     (rw d.0 w.0, rw d.1 w.1)
 
-narrow : (w x y : ℤ) → x ≤ℤ pos (2 ^ 40 + 2 ^ 20) → y ≤ℤ pos (33 * 2 ^ 35 + 2 ^ 20) → (pos (9999991 * 2 ^ 36) *ℤ w) <ℤ (((pos 16777216 *ℤ x) +ℤ (pos 16777244 *ℤ y)) +ℤ (pos 2 *ℤ pos (9999991 * 2 ^ 36))) → w ≤ℤ pos 57
+narrow : (w x y : ℤ) → x ≤ℤ pos (2 ^ 40 + 2 ^ 20) → y ≤ℤ pos (33 * 2 ^ 35 + 2 ^ 20)
+    → (pos (9999991 * 2 ^ 36) *ℤ w) <ℤ (((pos 16777216 *ℤ x) +ℤ (pos 16777244 *ℤ y)) +ℤ (pos 2 *ℤ pos (9999991 * 2 ^ 36))) → w ≤ℤ pos 57
 narrow w x y h k l = omega (arith, ints)
 
 pub returns-clause-width : goal.returns-clause-width

@@ -17,6 +17,8 @@ returns-clause-holds c = λ r s h up down.
     let e = c.from_ends.ensures in
     let el = low x.lo x.hi c.from_ends.result.lo c.requires.far x.ordered c.requires.near e.lo in
     let eh = high x.lo x.hi c.from_ends.result.hi c.requires.far x.ordered c.requires.near e.hi in (
-      subst (λ (z : ℤ). (z *ℤ (pos r.den *ℤ pos s.den)) ≤ℤ (((r.num *ℤ pos s.den) +ℤ (s.num *ℤ pos r.den)) *ℤ pos 34359738368)) (sym el) (sum_low x.lo r.num (pos r.den) s.num (pos s.den) (pos_nn s.den) h.0 down),
-      subst (λ (z : ℤ). (((r.num *ℤ pos s.den) +ℤ (s.num *ℤ pos r.den)) *ℤ pos 34359738368) ≤ℤ (z *ℤ (pos r.den *ℤ pos s.den))) (sym eh) (sum_high x.hi r.num (pos r.den) s.num (pos s.den) (pos_nn s.den) h.1 up),
+      subst (λ (z : ℤ). (z *ℤ (pos r.den *ℤ pos s.den)) ≤ℤ (((r.num *ℤ pos s.den) +ℤ (s.num *ℤ pos r.den)) *ℤ pos 34359738368)) (sym el)
+          (sum_low x.lo r.num (pos r.den) s.num (pos s.den) (pos_nn s.den) h.0 down),
+      subst (λ (z : ℤ). (((r.num *ℤ pos s.den) +ℤ (s.num *ℤ pos r.den)) *ℤ pos 34359738368) ≤ℤ (z *ℤ (pos r.den *ℤ pos s.den))) (sym eh)
+          (sum_high x.hi r.num (pos r.den) s.num (pos s.den) (pos_nn s.den) h.1 up),
     )

@@ -9,4 +9,6 @@ plain : (g p : ℤ) → unsigned_abs g ≤ 8796093022209 → unsigned_abs p ≤ 
 plain g p h k = omega (arith, ints)
 
 pub returns-clause-value : goal.returns-clause-value
-returns-clause-value c = plain c.grid_of-grid.result c.args.coordinate c.grid_of-grid.ensures.size c.requires.size ∙ ap (λ (g : ℤ). (pos 625 *ℤ g) -ℤ (pos 8192 *ℤ c.args.coordinate)) c.grid_of-grid.ensures.value ∙ ap (λ (l : ℤ). offset l c.args.coordinate) (to_z-of_z w64 c.args.lo c.ranges.lo)
+returns-clause-value c = plain c.grid_of-grid.result c.args.coordinate c.grid_of-grid.ensures.size c.requires.size
+    ∙ ap (λ (g : ℤ). (pos 625 *ℤ g) -ℤ (pos 8192 *ℤ c.args.coordinate)) c.grid_of-grid.ensures.value
+    ∙ ap (λ (l : ℤ). offset l c.args.coordinate) (to_z-of_z w64 c.args.lo c.ranges.lo)

@@ -26,7 +26,8 @@ wide c w h =
     c.turned_box-place.ensures.width (pair_width d) w (c.turn_in-turn.ensures.width (pair_width d) (pair_enough d)) (place_enough d w (width_nn t.lo t.hi t.ordered) h)
 
 pub length_of-range-requires-clause-narrow : goal.length_of-range-requires-clause-narrow
-length_of-range-requires-clause-narrow c = c.vector_from-vector.ensures.width (pos (2 ^ 48 - 1)) (wide c (pos (2 ^ 48 - 1)) (any_width c.args.travel.now.lo c.args.travel.now.hi c.requires.0 c.requires.1))
+length_of-range-requires-clause-narrow c = c.vector_from-vector.ensures.width (pos (2 ^ 48 - 1))
+    (wide c (pos (2 ^ 48 - 1)) (any_width c.args.travel.now.lo c.args.travel.now.hi c.requires.0 c.requires.1))
 
 pub returns-clause-place : goal.returns-clause-place
 returns-clause-place c = λ p seen t h k s.
@@ -35,7 +36,8 @@ returns-clause-place c = λ p seen t h k s.
 pub returns-clause-range : goal.returns-clause-range
 returns-clause-range c = λ p seen t h k s.
     let q : Place = point_of c.args.point.now.x c.args.point.now.y c.args.point.now.z in
-    c.length_of-range.ensures.holds (difference seen q) (range_of t) (c.vector_from-vector.ensures.holds seen (returns-clause-place c p seen t h k s)) (range_root t (square (difference seen q)) s.travel_is)
+    c.length_of-range.ensures.holds (difference seen q) (range_of t) (c.vector_from-vector.ensures.holds seen (returns-clause-place c p seen t h k s))
+        (range_root t (square (difference seen q)) s.travel_is)
 
 pub returns-clause-time : goal.returns-clause-time
 returns-clause-time c = λ p seen t h k s. c.time_over-travel.ensures.holds t (returns-clause-range c p seen t h k s)

@@ -7,7 +7,8 @@ use Rattle.signal_travel.proofs.sent.sent_box.Goals as goal
 three : (c : goal.After-index-sv-2) → length c.args.sv.now.place ≡ 3
 three c = omega arith
 
-away : (c : goal.After-index-sv-2) → IsBetweenDistances 19000000 38000000 (get_or c.args.sv.now.place 0 c.index-sv-0.result) (get_or c.args.sv.now.place 1 c.index-sv-1.result) (get_or c.args.sv.now.place 2 c.index-sv-2.result)
+away : (c : goal.After-index-sv-2) → IsBetweenDistances 19000000 38000000 (get_or c.args.sv.now.place 0 c.index-sv-0.result)
+    (get_or c.args.sv.now.place 1 c.index-sv-1.result) (get_or c.args.sv.now.place 2 c.index-sv-2.result)
 away c = c.args.sv.now.away (get_or c.args.sv.now.place 0 c.index-sv-0.result) (get_or c.args.sv.now.place 1 c.index-sv-1.result) (get_or c.args.sv.now.place 2 c.index-sv-2.result)
     (three_is c.args.sv.now.place c.index-sv-0.result c.index-sv-1.result c.index-sv-2.result (three c))
 
@@ -16,6 +17,7 @@ invariant_of-result c =
     let l : length c.args.sv.now.place ≡ 3 = three c in
     record {
       narrow = (c.args.sv.now.narrow 0 c.index-sv-0.result (omega arith), c.args.sv.now.narrow 1 c.index-sv-1.result (omega arith), c.args.sv.now.narrow 2 c.index-sv-2.result (omega arith));
-      within = away_within 19000000 38000000 (get_or c.args.sv.now.place 0 c.index-sv-0.result) (get_or c.args.sv.now.place 1 c.index-sv-1.result) (get_or c.args.sv.now.place 2 c.index-sv-2.result) (away c);
+      within = away_within 19000000 38000000 (get_or c.args.sv.now.place 0 c.index-sv-0.result) (get_or c.args.sv.now.place 1 c.index-sv-1.result)
+          (get_or c.args.sv.now.place 2 c.index-sv-2.result) (away c);
       away = away c;
     }

@@ -62,8 +62,10 @@ pub returns-clause-width : goal.returns-clause-width
 returns-clause-width c = λ w v h k.
     let turn = c.args.turn.now in
     let z = c.args.sent.now in (
-      wide (size c.cos_part.result) (size c.sin_part.result) (size c.unwrap.result) (turn.cos.hi -ℤ turn.cos.lo) (turn.sin.hi -ℤ turn.sin.lo) w v c.cos_part.ensures.width c.sin_part.ensures.width (IfOk-at_ok _ c.unwrap.ensures c.add.ensures.width) h.0 h.1 k,
-      wide (size c.cos_part-2.result) (size c.sin_part-2.result) (size c.unwrap-2.result) (turn.cos.hi -ℤ turn.cos.lo) (turn.sin.hi -ℤ turn.sin.lo) w v c.cos_part-2.ensures.width c.sin_part-2.ensures.width (IfOk-at_ok _ c.unwrap-2.ensures c.sub.ensures.width) h.0 h.1 k,
+      wide (size c.cos_part.result) (size c.sin_part.result) (size c.unwrap.result) (turn.cos.hi -ℤ turn.cos.lo) (turn.sin.hi -ℤ turn.sin.lo) w v
+          c.cos_part.ensures.width c.sin_part.ensures.width (IfOk-at_ok _ c.unwrap.ensures c.add.ensures.width) h.0 h.1 k,
+      wide (size c.cos_part-2.result) (size c.sin_part-2.result) (size c.unwrap-2.result) (turn.cos.hi -ℤ turn.cos.lo) (turn.sin.hi -ℤ turn.sin.lo) w
+          v c.cos_part-2.ensures.width c.sin_part-2.ensures.width (IfOk-at_ok _ c.unwrap-2.ensures c.sub.ensures.width) h.0 h.1 k,
       same_wide (z.place.z.hi -ℤ z.place.z.lo) turn.cos.lo turn.cos.hi w v z.narrow.2 turn.cos.ordered h.0 k,
     )
   where

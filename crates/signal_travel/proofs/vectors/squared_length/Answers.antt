@@ -12,11 +12,13 @@ returns-clause-holds c = λ p h. IfOk-at_ok _ c.unwrap-2.ensures c.add-2.ensures
     (IfOk-at_ok _ c.unwrap.ensures c.add.ensures.holds (mul_r p.x p.x) (mul_r p.y p.y) (c.square_of-x.ensures.holds p.x h.0) (c.square_of-y.ensures.holds p.y h.1))
     (c.square_of-z.ensures.holds p.z h.2)
 
-below : (a b c x y z f g h s t : ℤ) → x ≡ f → y ≡ g → z ≡ h → a <ℤ ((f *ℤ pos 9223372036854775808) +ℤ pos 9223372036854775808) → b <ℤ ((g *ℤ pos 9223372036854775808) +ℤ pos 9223372036854775808) → c <ℤ ((h *ℤ pos 9223372036854775808) +ℤ pos 9223372036854775808) →
+below : (a b c x y z f g h s t : ℤ) → x ≡ f → y ≡ g → z ≡ h → a <ℤ ((f *ℤ pos 9223372036854775808) +ℤ pos 9223372036854775808) →
+    b <ℤ ((g *ℤ pos 9223372036854775808) +ℤ pos 9223372036854775808) → c <ℤ ((h *ℤ pos 9223372036854775808) +ℤ pos 9223372036854775808) →
     s ≡ x +ℤ y → t ≡ s +ℤ z → ((a +ℤ b) +ℤ c) ≤ℤ (pos 9223372036854775808 *ℤ (t +ℤ pos 3))
 below a b c x y z f g h s t ex ey ez ha hb hc es et = omega (arith, ints)
 
-above : (a b c x y z f g h s t : ℤ) → x ≡ f → y ≡ g → z ≡ h → (f *ℤ pos 9223372036854775808) <ℤ (a +ℤ pos 9223372036854775808) → (g *ℤ pos 9223372036854775808) <ℤ (b +ℤ pos 9223372036854775808) → (h *ℤ pos 9223372036854775808) <ℤ (c +ℤ pos 9223372036854775808) →
+above : (a b c x y z f g h s t : ℤ) → x ≡ f → y ≡ g → z ≡ h → (f *ℤ pos 9223372036854775808) <ℤ (a +ℤ pos 9223372036854775808) →
+    (g *ℤ pos 9223372036854775808) <ℤ (b +ℤ pos 9223372036854775808) → (h *ℤ pos 9223372036854775808) <ℤ (c +ℤ pos 9223372036854775808) →
     s ≡ x +ℤ y → t ≡ s +ℤ z → (pos 9223372036854775808 *ℤ (t -ℤ pos 3)) ≤ℤ ((a +ℤ b) +ℤ c)
 above a b c x y z f g h s t ex ey ez ha hb hc es et = omega (arith, ints)
 

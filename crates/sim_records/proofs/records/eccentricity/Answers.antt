@@ -23,4 +23,5 @@ pub returns-clause-range : goal.returns-clause-range
 returns-clause-range c =
     let is = to_z-of_z w64 c.number_of.result (record { sfits = c.number_of.type_inv }) in
     let n = c.number_of.result in
-    from_to (pos 0) (pos 3125) n 5 3 c.normal.result (subst (λ (z : ℤ). value_of c.normal.result ≈ decimal z 3) is c.normal.ensures.value) (low n (within c.args.k n c.requires c.number_of.ensures.value)) (high n (within c.args.k n c.requires c.number_of.ensures.value))
+    from_to (pos 0) (pos 3125) n 5 3 c.normal.result (subst (λ (z : ℤ). value_of c.normal.result ≈ decimal z 3) is c.normal.ensures.value)
+        (low n (within c.args.k n c.requires c.number_of.ensures.value)) (high n (within c.args.k n c.requires c.number_of.ensures.value))

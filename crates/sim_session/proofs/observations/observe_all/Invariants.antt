@@ -9,6 +9,7 @@ use Rattle.sim_session.proofs.observations.observe_all.Given as goal
 abbrev pub invariant-loop-k : goal.invariant-loop-k
 invariant-loop-k l = record {
   count : length l.sats.items ≡ l.k;
-  each : (j : ℕ) (s : Signals) → j < l.k → (e : Eph) (c : List ℤ) → IsObserved (constants_of l.world) l.tag.0 l.receiver.point l.receiver.clock (get_or l.records j e) (get_or l.cycles j c) (get_or l.sats.items j s);
+  each : (j : ℕ) (s : Signals) → j < l.k → (e : Eph) (c : List ℤ)
+      → IsObserved (constants_of l.world) l.tag.0 l.receiver.point l.receiver.clock (get_or l.records j e) (get_or l.cycles j c) (get_or l.sats.items j s);
   columns : All AreInColumns l.sats.items;
 }

@@ -10,7 +10,8 @@ unwrap-requires g c =
     let x = c.args.self.now in
     let y = c.args.other.now in
     ok_of c.sub.result (λ h. in_reach _ _ g.row.TO_SIZE c.requires.limit
-    (omega (arith, ints, x.within.0, x.within.1, y.within.0, y.within.1, c.requires.size)) (omega (arith, ints, x.within.0, x.within.1, y.within.0, y.within.1, c.requires.size)) (c.sub.ensures.refused.0 h))
+    (omega (arith, ints, x.within.0, x.within.1, y.within.0, y.within.1, c.requires.size))
+    (omega (arith, ints, x.within.0, x.within.1, y.within.0, y.within.1, c.requires.size)) (c.sub.ensures.refused.0 h))
 
 pub new-requires : goal.new-requires
 new-requires g c =

@@ -15,7 +15,8 @@ sats-preserved-then-does_go_on c =
     let below : c.sats.k < length (sats_at c.args.used.now c.pairs.at) = omega (arith, length_at c.args.used.now c.pairs.at c.index-used-at.result c.pairs-test.true, c.len-k-end.ensures) in
     let is : slice_get (sats_at c.args.used.now c.pairs.at) c.sats.k ≡ Some c.index.result.now = sat_at _ _ _ _ _ c.pairs-test.true below c.index.ensures in
     record {
-      done = done_skip (bands_of c.args.bands) c.args.jump c.args.least c.args.used.now c.pairs.at c.sats.k _ _ c.index.result.now (c.pairs.at - 1) is (omega arith) (sym c.if-does_go_on.ensures) c.sats.invariant.done;
+      done = done_skip (bands_of c.args.bands) c.args.jump c.args.least c.args.used.now c.pairs.at c.sats.k _ _ c.index.result.now (c.pairs.at - 1) is
+          (omega arith) (sym c.if-does_go_on.ensures) c.sats.invariant.done;
       marked = c.sats.invariant.marked;
     }
 
@@ -48,7 +49,8 @@ pairs-preserved c =
 
 pub returns-clause-kept : goal.returns-clause-kept
 returns-clause-kept c =
-    subst (λ (kept : List Arc). AreKept (bands_of c.args.bands) c.args.jump c.args.least c.args.used.now kept c.pairs.found.short) (sym c.new-2.ensures) (done_all _ _ _ _ _ _ _ (omega arith) c.pairs.invariant.done)
+    subst (λ (kept : List Arc). AreKept (bands_of c.args.bands) c.args.jump c.args.least c.args.used.now kept c.pairs.found.short)
+        (sym c.new-2.ensures) (done_all _ _ _ _ _ _ _ (omega arith) c.pairs.invariant.done)
 
 pub returns-clause-datums : goal.returns-clause-datums
 returns-clause-datums c = subst (λ (kept : List Arc). HaveDatums kept) (sym c.new-2.ensures) (have_datums _ _ _ c.pairs.invariant.marked)

@@ -22,9 +22,11 @@ loop-k-preserved c =
     let rover = c.cycles-rover in
     let is_base = λ (seed : ℕ) (e : c.args.self.now.state ≡ state_after seed 5). base.ensures.value seed (5 + 4 * k) (5 + 4 * sats + 2 * k) (now.state seed e) (now.later seed e) in
     let is_rover = λ (seed : ℕ) (e : c.args.self.now.state ≡ state_after seed 5). further_on rover.result seed sats l5 k
-    (rover.ensures.value seed (5 + 4 * k + 1 + 1) (5 + 4 * sats + 2 * k + 1) (base.ensures.moves seed (5 + 4 * k) (now.state seed e)) (base.ensures.later_moves seed (5 + 4 * sats + 2 * k) (now.later seed e))) in
+    (rover.ensures.value seed (5 + 4 * k + 1 + 1) (5 + 4 * sats + 2 * k + 1) (base.ensures.moves seed (5 + 4 * k) (now.state seed e))
+      (base.ensures.later_moves seed (5 + 4 * sats + 2 * k) (now.later seed e))) in
     record {
-      state = λ seed e. counted rover.new.self.state seed (5 + 4 * k + 1 + 1 + 1 + 1) (5 + 4 * (k + 1)) (omega arith) (rover.ensures.moves seed (5 + 4 * k + 1 + 1) (base.ensures.moves seed (5 + 4 * k) (now.state seed e)));
+      state = λ seed e. counted rover.new.self.state seed (5 + 4 * k + 1 + 1 + 1 + 1) (5 + 4 * (k + 1)) (omega arith)
+          (rover.ensures.moves seed (5 + 4 * k + 1 + 1) (base.ensures.moves seed (5 + 4 * k) (now.state seed e)));
       later = λ seed e. counted rover.new.later.state seed (5 + 4 * sats + 2 * k + 1 + 1) (5 + 4 * sats + 2 * (k + 1)) (omega arith)
           (rover.ensures.later_moves seed (5 + 4 * sats + 2 * k + 1) (base.ensures.later_moves seed (5 + 4 * sats + 2 * k) (now.later seed e)));
       base = λ seed e. c.in_ok-push.ensures.items ∙ one_more (base_cycles seed sats l5) k c.loop-k.all.base.items base.result (now.base seed e) (is_base seed e);
@@ -42,10 +44,13 @@ same : (k sats : ℕ) → k ≤ sats → sats ≤ k → k ≡ sats
 same k sats h l = omega arith
 
 pub returns-clause-base : goal.returns-clause-base
-returns-clause-base c = λ seed e. c.loop-k.invariant.base seed e ∙ ap (λ (n : ℕ). first_of (base_cycles seed c.args.sats c.args.l5) n) (same c.loop-k._k c.args.sats c.loop-k.auto._k-end c.loop-k-test.false)
+returns-clause-base c = λ seed e. c.loop-k.invariant.base seed e
+    ∙ ap (λ (n : ℕ). first_of (base_cycles seed c.args.sats c.args.l5) n) (same c.loop-k._k c.args.sats c.loop-k.auto._k-end c.loop-k-test.false)
 
 pub returns-clause-rover : goal.returns-clause-rover
-returns-clause-rover c = λ seed e. c.loop-k.invariant.rover seed e ∙ ap (λ (n : ℕ). first_of (rover_cycles seed c.args.sats c.args.l5) n) (same c.loop-k._k c.args.sats c.loop-k.auto._k-end c.loop-k-test.false)
+returns-clause-rover c = λ seed e. c.loop-k.invariant.rover seed e
+    ∙ ap (λ (n : ℕ). first_of (rover_cycles seed c.args.sats c.args.l5) n) (same c.loop-k._k c.args.sats c.loop-k.auto._k-end c.loop-k-test.false)
 
 pub returns-clause-truth : goal.returns-clause-truth
-returns-clause-truth c = λ seed e. c.loop-k.invariant.truth seed e ∙ ap (λ (n : ℕ). first_of (truth_of seed c.args.sats c.args.l5) n) (same c.loop-k._k c.args.sats c.loop-k.auto._k-end c.loop-k-test.false)
+returns-clause-truth c = λ seed e. c.loop-k.invariant.truth seed e
+    ∙ ap (λ (n : ℕ). first_of (truth_of seed c.args.sats c.args.l5) n) (same c.loop-k._k c.args.sats c.loop-k.auto._k-end c.loop-k-test.false)

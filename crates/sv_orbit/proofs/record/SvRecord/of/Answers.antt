@@ -17,8 +17,10 @@ invariant_of-result c =
       perigee_in = subst (λ (f : Eph). Holds c.decimal_box.result.held (value_of f.peri)) (sym e) (holds_own 56 c.decimal_box.result.held (value_of eph.peri) c.decimal_box.ensures);
       inclination_in = subst (λ (f : Eph). Holds c.decimal_box-2.result.held (value_of f.incl)) (sym e) (holds_own 56 c.decimal_box-2.result.held (value_of eph.incl) c.decimal_box-2.ensures);
       node_in = subst (λ (f : Eph). Holds c.decimal_box-3.result.held (value_of f.node)) (sym e) (holds_own 56 c.decimal_box-3.result.held (value_of eph.node) c.decimal_box-3.ensures);
-      inclination_rate_in = subst (λ (f : Eph). Holds c.decimal_box-4.result.held (times (10 ^ 4) (value_of f.incl_rate))) (sym e) (c.decimal_box-4.ensures.holds (times (10 ^ 4) (value_of eph.incl_rate)) refl);
-      node_rate_in = subst (λ (f : Eph). Holds c.decimal_box-5.result.held (times (10 ^ 4) (value_of f.node_rate))) (sym e) (c.decimal_box-5.ensures.holds (times (10 ^ 4) (value_of eph.node_rate)) refl);
+      inclination_rate_in = subst (λ (f : Eph). Holds c.decimal_box-4.result.held (times (10 ^ 4) (value_of f.incl_rate))) (sym e)
+          (c.decimal_box-4.ensures.holds (times (10 ^ 4) (value_of eph.incl_rate)) refl);
+      node_rate_in = subst (λ (f : Eph). Holds c.decimal_box-5.result.held (times (10 ^ 4) (value_of f.node_rate))) (sym e)
+          (c.decimal_box-5.ensures.holds (times (10 ^ 4) (value_of eph.node_rate)) refl);
       cuc_in = subst (λ (f : Eph). Holds c.decimal_box-6.result.held (value_of f.cuc)) (sym e) (holds_own 60 c.decimal_box-6.result.held (value_of eph.cuc) c.decimal_box-6.ensures);
       cus_in = subst (λ (f : Eph). Holds c.decimal_box-7.result.held (value_of f.cus)) (sym e) (holds_own 60 c.decimal_box-7.result.held (value_of eph.cus) c.decimal_box-7.ensures);
       cic_in = subst (λ (f : Eph). Holds c.decimal_box-8.result.held (value_of f.cic)) (sym e) (holds_own 60 c.decimal_box-8.result.held (value_of eph.cic) c.decimal_box-8.ensures);
