@@ -152,6 +152,6 @@ pub refused_told : (told : List ℕ → Option (List ℕ)) (left : ℕ → Optio
     → IsDelivered end result out err → AreRefusedWhole told left names given → HaveRefused told left names result (GainsUnlessFault err)
 refused_told told left names given end result out err same_status same_err (inl written) refused = λ is.
     told_any told left (λ text. given.err ≡ text) (GainsUnlessFault err) names
-        (λ text same. subst (GainsUnlessFault err) (same_err ∙ same) written.err_gains) (refused (sym same_status ∙ (sym written.same ∙ is)))
+    (λ text same. subst (GainsUnlessFault err) (same_err ∙ same) written.err_gains) (refused (sym same_status ∙ (sym written.same ∙ is)))
 refused_told told left names given end result out err same_status same_err (inr (inl by_out)) refused = λ is. absurd (cc (by_out.fault, is))
 refused_told told left names given end result out err same_status same_err (inr (inr by_err)) refused = λ is. absurd (cc (by_err.fault, is))

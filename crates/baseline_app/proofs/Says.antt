@@ -78,81 +78,81 @@ pub run_says_zero : (words : List (List ℕ)) (told : List ℕ → Option (List 
     → IsRun words told result out err → IsJob words (job.Zero rows) → SaysOfZero told rows result out
 run_says_zero words told rows result out err run asked =
     run_says words told (job.Zero rows) result out err (λ s. SaysOfZero told rows s out)
-        (record { usage = tt; refused = tt; read = tt; write = tt; memory = tt }) (λ end ends written. zero_says told rows end out ends written) run asked
+    (record { usage = tt; refused = tt; read = tt; write = tt; memory = tt }) (λ end ends written. zero_says told rows end out ends written) run asked
 
 pub run_says_list : (words : List (List ℕ)) (told : List ℕ → Option (List ℕ)) (obs : List ℕ) (result : Status) (out err : SinkChange)
     → IsRun words told result out err → IsJob words (job.List obs) → SaysOfList told obs result out
 run_says_list words told obs result out err run asked =
     run_says words told (job.List obs) result out err (λ s. SaysOfList told obs s out) (record { usage = tt; refused = tt; read = tt; write = tt; memory = tt })
-        (λ end ends written. list_says told obs end out ends written) run asked
+    (λ end ends written. list_says told obs end out ends written) run asked
 
 pub run_says_orbit : (words : List (List ℕ)) (told : List ℕ → Option (List ℕ)) (nav : List ℕ) (system sat : ℕ) (tick : Tick) (result : Status)
     (out err : SinkChange) → IsRun words told result out err → IsJob words (job.Orbit nav system sat tick)
     → SaysOfOrbit told nav system sat tick.0 result out
 run_says_orbit words told nav system sat tick result out err run asked =
     run_says words told (job.Orbit nav system sat tick) result out err (λ s. SaysOfOrbit told nav system sat tick.0 s out)
-        (record { usage = tt; refused = tt; read = tt; write = tt; memory = tt })
-        (λ end ends written. orbit_says told nav system sat tick.0 end out ends written) run asked
+    (record { usage = tt; refused = tt; read = tt; write = tt; memory = tt })
+    (λ end ends written. orbit_says told nav system sat tick.0 end out ends written) run asked
 
 pub run_says_sim : (words : List (List ℕ)) (told : List ℕ → Option (List ℕ)) (file : File) (seed epochs sats bands system : ℕ) (result : Status)
     (out err : SinkChange) → IsRun words told result out err → IsJob words (job.Sim (part.File file) seed epochs sats bands system)
     → SaysOfSim file seed epochs sats bands system result out
 run_says_sim words told file seed epochs sats bands system result out err run asked =
     run_says words told (job.Sim (part.File file) seed epochs sats bands system) result out err
-        (λ s. SaysOfSim file seed epochs sats bands system s out) (record { usage = tt; refused = tt; read = tt; write = tt; memory = tt })
-        (λ end ends written. sim_says file seed epochs sats bands system end out ends written) run asked
+    (λ s. SaysOfSim file seed epochs sats bands system s out) (record { usage = tt; refused = tt; read = tt; write = tt; memory = tt })
+    (λ end ends written. sim_says file seed epochs sats bands system end out ends written) run asked
 
 pub run_says_sim_run : (words : List (List ℕ)) (told : List ℕ → Option (List ℕ)) (seed epochs sats bands system : ℕ) (result : Status) (out err : SinkChange)
     → IsRun words told result out err → IsJob words (job.Sim part.Run seed epochs sats bands system)
     → SaysOfSimRun seed epochs sats bands system result out
 run_says_sim_run words told seed epochs sats bands system result out err run asked =
     run_says words told (job.Sim part.Run seed epochs sats bands system) result out err (λ s. SaysOfSimRun seed epochs sats bands system s out)
-        (record { usage = tt; refused = tt; read = tt; write = tt; memory = tt })
-        (λ end ends written. sim_run_says seed epochs sats bands system end out ends written) run asked
+    (record { usage = tt; refused = tt; read = tt; write = tt; memory = tt })
+    (λ end ends written. sim_run_says seed epochs sats bands system end out ends written) run asked
 
 pub run_says_check : (words : List (List ℕ)) (told : List ℕ → Option (List ℕ)) (cert : List ℕ) (result : Status) (out err : SinkChange)
     → IsRun words told result out err → IsJob words (job.Check cert) → SaysOfCheck told cert result out
 run_says_check words told cert result out err run asked =
     run_says words told (job.Check cert) result out err (λ s. SaysOfCheck told cert s out)
-        (record { usage = tt; refused = tt; read = tt; write = tt; memory = tt }) (λ end ends written. check_says told cert end out ends written) run asked
+    (record { usage = tt; refused = tt; read = tt; write = tt; memory = tt }) (λ end ends written. check_says told cert end out ends written) run asked
 
 pub run_says_residuals : (words : List (List ℕ)) (told : List ℕ → Option (List ℕ)) (cert : List ℕ) (result : Status) (out err : SinkChange)
     → IsRun words told result out err → IsJob words (job.Residuals cert) → SaysOfResiduals told cert result out
 run_says_residuals words told cert result out err run asked =
     run_says words told (job.Residuals cert) result out err (λ s. SaysOfResiduals told cert s out)
-        (record { usage = tt; refused = tt; read = tt; write = tt; memory = tt }) (λ end ends written. residuals_says told cert end out ends written) run asked
+    (record { usage = tt; refused = tt; read = tt; write = tt; memory = tt }) (λ end ends written. residuals_says told cert end out ends written) run asked
 
 pub run_says_migrate : (words : List (List ℕ)) (told : List ℕ → Option (List ℕ)) (cert : List ℕ) (result : Status) (out err : SinkChange)
     → IsRun words told result out err → IsJob words (job.Migrate cert) → SaysOfMigrate told cert result out
 run_says_migrate words told cert result out err run asked =
     run_says words told (job.Migrate cert) result out err (λ s. SaysOfMigrate told cert s out)
-        (record { usage = tt; refused = tt; read = tt; write = tt; memory = tt }) (λ end ends written. migrate_says told cert end out ends written) run asked
+    (record { usage = tt; refused = tt; read = tt; write = tt; memory = tt }) (λ end ends written. migrate_says told cert end out ends written) run asked
 
 pub run_says_arcs : (words : List (List ℕ)) (told : List ℕ → Option (List ℕ)) (base rover nav : List ℕ) (options : Options) (result : Status)
     (out err : SinkChange) → IsRun words told result out err → IsJob words (job.Arcs base rover nav options) → SaysOfArcs told base rover nav options result out
 run_says_arcs words told base rover nav options result out err run asked =
     run_says words told (job.Arcs base rover nav options) result out err (λ s. SaysOfArcs told base rover nav options s out)
-        (record { usage = tt; refused = tt; read = tt; write = tt; memory = tt })
-        (λ end ends written. arcs_says told base rover nav options end out ends written) run asked
+    (record { usage = tt; refused = tt; read = tt; write = tt; memory = tt })
+    (λ end ends written. arcs_says told base rover nav options end out ends written) run asked
 
 pub run_says_fix : (words : List (List ℕ)) (told : List ℕ → Option (List ℕ)) (base rover nav : List ℕ) (options : Options) (result : Status)
     (out err : SinkChange) → IsRun words told result out err → IsJob words (job.Fix base rover nav options) → SaysOfFix told base rover nav options result out
 run_says_fix words told base rover nav options result out err run asked =
     run_says words told (job.Fix base rover nav options) result out err (λ s. SaysOfFix told base rover nav options s out)
-        (record { usage = tt; refused = tt; read = tt; write = tt; memory = tt })
-        (λ end ends written. fix_says told base rover nav options end out ends written) run asked
+    (record { usage = tt; refused = tt; read = tt; write = tt; memory = tt })
+    (λ end ends written. fix_says told base rover nav options end out ends written) run asked
 
 pub run_says_track :
     (words : List (List ℕ)) (told : List ℕ → Option (List ℕ)) (base rover nav : List ℕ) (options : Options) (result : Status) (out err : SinkChange)
     → IsRun words told result out err → IsJob words (job.Track base rover nav options) → SaysOfTrack told base rover nav options result out
 run_says_track words told base rover nav options result out err run asked =
     run_says words told (job.Track base rover nav options) result out err (λ s. SaysOfTrack told base rover nav options s out)
-        (record { usage = tt; refused = tt; read = tt; write = tt; memory = tt })
-        (λ end ends written. track_says told base rover nav options end out ends written) run asked
+    (record { usage = tt; refused = tt; read = tt; write = tt; memory = tt })
+    (λ end ends written. track_says told base rover nav options end out ends written) run asked
 
 pub run_says_check_track : (words : List (List ℕ)) (told : List ℕ → Option (List ℕ)) (cert : List ℕ) (result : Status) (out err : SinkChange)
     → IsRun words told result out err → IsJob words (job.CheckTrack cert) → SaysOfCheckTrack told cert result out
 run_says_check_track words told cert result out err run asked =
     run_says words told (job.CheckTrack cert) result out err (λ s. SaysOfCheckTrack told cert s out)
-        (record { usage = tt; refused = tt; read = tt; write = tt; memory = tt })
-        (λ end ends written. check_track_says told cert end out ends written) run asked
+    (record { usage = tt; refused = tt; read = tt; write = tt; memory = tt })
+    (λ end ends written. check_track_says told cert end out ends written) run asked

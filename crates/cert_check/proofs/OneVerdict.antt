@@ -121,7 +121,7 @@ no_sum s d a is =
     let best = same_best a.form is.form a.best d.best form a.has.best_is is.best_is in
     let moved = same_move a.form is.form (first_of a.best) (first_of d.best) form best.first_is ∙ sym is.moved_is in
     is.low (subst (λ (m : List _). AreWide s.arcs (fine_signals s.signals) s.pairs (first_of d.best) m) moved
-          (subst (λ (z : List _). AreWide s.arcs (fine_signals s.signals) s.pairs z (move_of a.form (first_of a.best))) best.first_is a.wide))
+    (subst (λ (z : List _). AreWide s.arcs (fine_signals s.signals) s.pairs z (move_of a.form (first_of a.best))) best.first_is a.wide))
 
 not_wide : (s : Session) (d : Numbers) → (is : IsDecided s d) → HasWide (move_of is.form (first_of d.best)) → ⊥
 not_wide s d is wide = is.narrow (subst HasWide (sym is.moved_is) wide)

@@ -47,7 +47,7 @@ same_form s f g a b =
       h = h;
       columns = a.lowered.columns ∙ same.columns ∙ sym b.lowered.columns;
       baseline = ap (λ (p : List Factor × List Column). p.0) pair;
-      form = ap (λ (p : List Factor × List Column). p.1) pair
+      form = ap (λ (p : List Factor × List Column). p.1) pair;
     }
 
 -- ---- one decision
@@ -57,7 +57,7 @@ same_best f g b c same x y =
     let integers : integers_of g ≡ integers_of f = ap (λ (n : ℕ). n - 4) (sym same.columns) in
     let moved : TwoLeast (columns_of f) (pos (integers_of f)) (first_of c) (second_of c) =
     subst (λ (n : ℕ). TwoLeast (columns_of f) (pos n) (first_of c) (second_of c)) integers
-        (subst (λ (p : List Column). TwoLeast p (pos (integers_of g)) (first_of c) (second_of c)) (sym same.form) y.least) in
+    (subst (λ (p : List Column). TwoLeast p (pos (integers_of g)) (first_of c) (second_of c)) (sym same.form) y.least) in
     let first = first_unique (columns_of f) (pos (integers_of f)) (first_of b) (second_of b) (first_of c) (second_of c) x.least moved in
     let second = second_unique (columns_of f) (pos (integers_of f)) (first_of b) (second_of b) (first_of c) (second_of c) x.least moved in
     record {

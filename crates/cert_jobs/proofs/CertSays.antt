@@ -77,7 +77,7 @@ verdict_says told name text c Certified out is whole spelled verdict only visits
   only = only;
   visits = visits;
   best = best refl;
-  printed = written
+  printed = written;
 }
 verdict_says told name text c (Not cause) out is whole spelled verdict only visits best written = record {
   text = text;
@@ -89,7 +89,7 @@ verdict_says told name text c (Not cause) out is whole spelled verdict only visi
   not_certified = verdict;
   only = only;
   visits = visits;
-  printed = written
+  printed = written;
 }
 
 -- what is written of an ending is what it says of the file
@@ -99,7 +99,7 @@ check_says told cert end out (inl by_text) written = elim (by_text.ends_so) [
   | inl by_cert ↦
       let e = by_cert.ends_so in
       says_at told cert end _ out e.end_is (verdict_says told cert by_text.text by_cert.cert e.verdict out by_text.is by_cert.whole by_cert.spelled
-            e.is e.only e.visits e.best (subst (λ (t : Ending). Appends out.old out.new t.out) e.end_is written))
+      e.is e.only e.visits e.best (subst (λ (t : Ending). Appends out.old out.new t.out) e.end_is written))
   | inr refused ↦ says_at told cert end _ out refused.end_is tt
 ]
 check_says told cert end out (inr (inl large)) written = says_at told cert end _ out large.end_is tt
@@ -138,7 +138,7 @@ pub residuals_says : (told : List ℕ → Option (List ℕ)) (cert : List ℕ) (
 residuals_says told cert end out (inl by_text) written = elim (by_text.ends_so) [
   | inl by_cert ↦ left_at told cert end _ out by_cert.ends_so
       (left_says told cert by_text.text by_cert.cert (has_vectors by_cert.cert.tail) out by_text.is by_cert.whole by_cert.spelled refl
-        (subst (λ (t : Ending). Appends out.old out.new t.out) by_cert.ends_so written))
+      (subst (λ (t : Ending). Appends out.old out.new t.out) by_cert.ends_so written))
   | inr refused ↦ left_at told cert end _ out refused.end_is tt
 ]
 residuals_says told cert end out (inr (inl large)) written = left_at told cert end _ out large.end_is tt

@@ -164,8 +164,8 @@ next_taken rows old new s has takes = record {
     of_before r lt true e =
         let it : s ≡ r = same_setting s r e in
         let own : numbers_for s new ≡ takes.numbers =
-            numbers s ∙ ap (λ (ns : List ℕ). ns ++ numbers_for s (map (given_with s) takes.numbers)) (has.behind s (omega arith))
-            ∙ own_numbers s takes.numbers in
+        numbers s ∙ ap (λ (ns : List ℕ). ns ++ numbers_for s (map (given_with s) takes.numbers)) (has.behind s (omega arith))
+        ∙ own_numbers s takes.numbers in
         subst (λ (t : Setting). AreNumbers t (values_in (name_of t) rows) (numbers_for t new)) it (subst (λ (ns : List ℕ). AreNumbers s (values_in (name_of s) rows) ns) (sym own) takes.are)
     of_before r lt false e =
         let kept : numbers_for r new ≡ numbers_for r old = numbers r ∙ ap (λ (ns : List ℕ). numbers_for r old ++ ns) (other_numbers s r takes.numbers e) ∙ append-nil (numbers_for r old) in

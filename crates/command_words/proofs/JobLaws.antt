@@ -83,7 +83,7 @@ split_account words command rows is =
     let its = its_command command is.options is.found in
     let named_so = named commands command command is.options is.found in (
       ap (λ (ws : List Text). fault_of (app_with commands) ws) is.words_are ∙ program_fails_as commands command is.options is.rest named_so
-      ∙ leaf_passes (built_shape (command, is.options)) is.options is.rest rows its is.ends,
+          ∙ leaf_passes (built_shape (command, is.options)) is.options is.rest rows its is.ends,
       ap (λ (ws : List Text). subcommand_of (app_with commands) ws) is.words_are ∙ program_gives commands command is.options is.rest named_so
           ∙ ap (λ (rs : List Row). Some (command, rs)) (leaf_rows (built_shape (command, is.options)) is.options is.rest rows its is.ends),
     )
@@ -246,7 +246,7 @@ clap_job : (command : Text) (behind plain : List Text) (given : List Given) → 
 clap_job command behind plain given table parted =
     let sh = built_shape (command, table.options) in
     let p = passes sh table.options [] [] None 0 false parted.pieces parted.behind parted.further (its_command command table.options table.found)
-        (nothing_pending sh [] 0) parted.are_pieces parted.is_behind
+    (nothing_pending sh [] 0) parted.are_pieces parted.is_behind
     (subst (λ (g : List Given). AreKnown table.options g) parted.given_are table.known) in
     record {
       rows = p.final;

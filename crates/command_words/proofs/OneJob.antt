@@ -63,7 +63,7 @@ one_signals : (given : List Given) (k l b c : ℕ) → IsSignalChoice given k b 
 one_signals given k l b c first second =
     let system : k ≡ l = one_choice (numbers_for System given) IsSystem GPS k l first.system_is second.system_is in
     let also : IsChosenBy (numbers_for Bands given) (AreBandsOf k) (default_bands k) c =
-        subst (λ (n : ℕ). IsChosenBy (numbers_for Bands given) (AreBandsOf n) (default_bands n) c) (sym system) second.bands_are in
+    subst (λ (n : ℕ). IsChosenBy (numbers_for Bands given) (AreBandsOf n) (default_bands n) c) (sym system) second.bands_are in
     (system, one_choice (numbers_for Bands given) (AreBandsOf k) (default_bands k) b c first.bands_are also)
 
 one_sim : (s r : Sim) (c : List ℕ) (p : List (List ℕ)) (g : List Given) → IsSimJob s c p g → IsSimJob r c p g
@@ -336,7 +336,7 @@ same_command words a b first second = ap (λ (ws : List (List ℕ)). get_or ws 0
 pub one_job : (words : List (List ℕ)) (a b : Job) → IsJob words a → IsJob words b → a ≡ b
 one_job words a b first second =
     let parts = one_parting first.behind first.plain second.plain first.given second.given first.parted
-        (subst (λ (ws : List (List ℕ)). AreParted ws second.plain second.given) (same_behind words a b first second) second.parted) in
+    (subst (λ (ws : List (List ℕ)). AreParted ws second.plain second.given) (same_behind words a b first second) second.parted) in
     one_of first.command first.plain first.given a b first.asked
     (subst (λ (c : List ℕ). IsJobOf c first.plain first.given b) (same_command words a b first second)
     (subst (λ (p : List (List ℕ)). IsJobOf second.command p first.given b) (sym parts.0)

@@ -117,7 +117,7 @@ all_left : (pieces : List Piece) (rest plain : List (List ℕ)) (given : List Gi
 all_left [] rest plain given are parted = record { plain_rest = plain; given_rest = given; parted = parted; plain_are = refl; given_are = refl }
 all_left (p ∷ pieces) rest plain given are parted =
     let split : AreParted (words_of_piece p ++ (words_of pieces ++ rest)) plain given =
-        subst (λ (ws : List (List ℕ)). AreParted ws plain given) (append_assoc (words_of_piece p) (words_of pieces) rest) parted in
+    subst (λ (ws : List (List ℕ)). AreParted ws plain given) (append_assoc (words_of_piece p) (words_of pieces) rest) parted in
     let first = left p (words_of pieces ++ rest) plain given are.0 split in
     let more = all_left pieces rest first.plain_rest first.given_rest are.1 first.parted in
     record {
@@ -153,8 +153,7 @@ one_parting words plain other given others first second =
     let left = all_left first.pieces first.behind other others first.are_pieces (subst (λ (ws : List (List ℕ)). AreParted ws other others) first.words_are second) in
     let rest = left.parted in
     let all = behind_parted first.behind first.further left.plain_rest left.given_rest rest.pieces rest.behind rest.further first.is_behind
-        rest.words_are rest.are_pieces rest.is_behind rest.plain_are rest.given_are in
-    (
+    rest.words_are rest.are_pieces rest.is_behind rest.plain_are rest.given_are in (
       first.plain_are ∙ ap (λ (ws : List (List ℕ)). plain_of first.pieces ++ ws) (sym all.plain_are) ∙ sym left.plain_are,
       first.given_are ∙ sym (append-nil (given_of first.pieces)) ∙ ap (λ (gs : List Given). given_of first.pieces ++ gs) (sym all.none_given) ∙ sym left.given_are,
     )

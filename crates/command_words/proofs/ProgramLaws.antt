@@ -47,7 +47,7 @@ raw_are (e ∷ entries) id = go (bytes_eq e.0.now id) refl (raw_are entries id)
   where
     go : (b : Bool) → bytes_eq e.0.now id ≡ b
         → unwrap_or (option_map raw_values (option_map (λ (x : Entry). x.1) (find (λ (x : Entry). bytes_eq x.0.now id) entries))) []
-            ≡ unwrap_or (option_map (λ (r : Row). r.values) (find (λ (r : Row). bytes_eq r.id id) (map row_of entries))) []
+        ≡ unwrap_or (option_map (λ (r : Row). r.values) (find (λ (r : Row). bytes_eq r.id id) (map row_of entries))) []
         → unwrap_or (option_map raw_values (option_map (λ (x : Entry). x.1) (find (λ (x : Entry). bytes_eq x.0.now id) (e ∷ entries)))) []
         ≡ unwrap_or (option_map (λ (r : Row). r.values) (find (λ (r : Row). bytes_eq r.id id) (map row_of (e ∷ entries)))) []
     go true same rest = rw same refl

@@ -35,14 +35,14 @@ no_numbers words command rows split none j is =
     let so = job_split words j is in
     let same = one_split words command is.command rows so.rows split so.split in
     none (λ s. subst (λ (rs : List Row). AreAll s (values_in (name_of s) rs)) (sym same.rows_are)
-          (all_numbers s (values_in (name_of s) so.rows) (numbers_for s is.given) (added_numbers so.rows is.plain is.given so.adds s)))
+    (all_numbers s (values_in (name_of s) so.rows) (numbers_for s is.given) (added_numbers so.rows is.plain is.given so.adds s)))
 
 pub is_job : (words : List Text) (command : Text) (rows : List Row) (given : List Given) → IsSplit words command rows → HasNumbers rows given
     → (j : Job) → IsJobOf command (values_in word_id rows) given j → IsJob words j
 is_job words command rows given split has j asked =
     let f = split_parted words command rows split (λ s. all_numbers s (values_in (name_of s) rows) (numbers_for s given) (has s)) in
     let same : (s : Setting) → numbers_for s given ≡ numbers_for s f.given =
-        λ s. one_numbers s (values_in (name_of s) rows) (numbers_for s given) (numbers_for s f.given) (has s) (added_numbers rows f.plain f.given f.adds s) in
+    λ s. one_numbers s (values_in (name_of s) rows) (numbers_for s given) (numbers_for s f.given) (has s) (added_numbers rows f.plain f.given f.adds s) in
     record {
       command = command;
       behind = split.rest;

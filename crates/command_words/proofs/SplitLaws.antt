@@ -139,8 +139,8 @@ adds_option rows final s d n plain given is more = record {
     texts_of r true e =
         let it : s ≡ r = same_setting s r e in
         let put_it : values_in (name_of r) (put (name_of s) d rows) ≡ values_in (name_of r) rows ++ d ∷ [] =
-            subst (λ (t : Setting). values_in (name_of r) (put (name_of t) d rows) ≡ values_in (name_of r) rows ++ d ∷ []) (sym it)
-                (put_same (name_of r) d rows) in
+        subst (λ (t : Setting). values_in (name_of r) (put (name_of t) d rows) ≡ values_in (name_of r) rows ++ d ∷ []) (sym it)
+        (put_same (name_of r) d rows) in
         more.texts_are r ∙ ap (λ (ws : List Text). ws ++ more.texts r) put_it ∙ append_assoc (values_in (name_of r) rows) (d ∷ []) (more.texts r)
         ∙ ap (λ (b : Bool). values_in (name_of r) rows ++ (if b then d ∷ more.texts r else more.texts r)) (sym e)
     texts_of r false e =
@@ -256,7 +256,7 @@ passes sh options r rows p skip was_word (Plain word ∷ pieces) behind further 
     }
 passes sh options r rows p skip was_word (Apart s d n ∷ pieces) behind further is settled are is_behind known =
     let rest = passes sh options rows (put (name_of s) d rows) (Some (name_of s, d ∷ [])) skip false pieces behind further is
-        (option_pending sh options (name_of s) rows skip d is known.0) are.1 is_behind known.1 in
+    (option_pending sh options (name_of s) rows skip d is known.0) are.1 is_behind known.1 in
     record {
       final = rest.final;
       ends = ends_before sh _ _ (45 ∷ 45 ∷ name_of s) (d ∷ (words_of pieces ++ behind)) rest.final
@@ -266,11 +266,11 @@ passes sh options r rows p skip was_word (Apart s d n ∷ pieces) behind further
     }
 passes sh options r rows p skip was_word (Joined s d n ∷ pieces) behind further is settled are is_behind known =
     let rest = passes sh options (put (name_of s) d rows) (put (name_of s) d rows) None skip false pieces behind further is
-        (nothing_pending sh (put (name_of s) d rows) skip) are.1 is_behind known.1 in
+    (nothing_pending sh (put (name_of s) d rows) skip) are.1 is_behind known.1 in
     record {
       final = rest.final;
       ends = ends_before sh _ _ (45 ∷ 45 ∷ (name_of s ++ 61 ∷ d)) (words_of pieces ++ behind) rest.final (joined_steps sh options r rows p skip
-            was_word (45 ∷ 45 ∷ (name_of s ++ 61 ∷ d)) (name_of s) d is settled (joined_word s d).0 (joined_word s d).1 known.0) rest.ends;
+          was_word (45 ∷ 45 ∷ (name_of s ++ 61 ∷ d)) (name_of s) d is settled (joined_word s d).0 (joined_word s d).1 known.0) rest.ends;
       adds = adds_option rows rest.final s d n (plain_of pieces ++ further) (given_of pieces) are.0 rest.adds;
     }
 
@@ -382,7 +382,7 @@ plain_found sh options final skip word words knows rest ordinary no_short r rows
       plain = word ∷ found.plain;
       given = found.given;
       parted = one_piece (Plain word) words (put word_id word rows) final found ordinary;
-      adds = adds_word rows final word found.plain found.given found.adds
+      adds = adds_word rows final word found.plain found.given found.adds;
     }
 
 separator_found : (sh : Shape) (options : List Text) (final : List Row) (skip : ℕ) (words : List Text) → Knows sh options final
@@ -402,7 +402,7 @@ joined_found : (sh : Shape) (options : List Text) (final : List Row) (skip : ℕ
 joined_found sh options final skip s value words knows rest among no_short r rows p was_word settled ends =
     let found = rest (put (name_of s) value rows) (put (name_of s) value rows) None false (nothing_pending sh (put (name_of s) value rows) skip) no_short
     (ends_after sh _ _ (45 ∷ 45 ∷ (name_of s ++ 61 ∷ value)) words final (joined_steps sh options r rows p skip was_word
-        (45 ∷ 45 ∷ (name_of s ++ 61 ∷ value)) (name_of s) value knows.is settled (joined_word s value).0 (joined_word s value).1 among) ends) in
+    (45 ∷ 45 ∷ (name_of s ++ 61 ∷ value)) (name_of s) value knows.is settled (joined_word s value).0 (joined_word s value).1 among) ends) in
     let number = its_number rows final s value found.plain found.given found.adds (knows.numbers s) in
     record {
       plain = found.plain;
@@ -417,7 +417,7 @@ apart_found : (sh : Shape) (options : List Text) (final : List Row) (skip : ℕ)
     → Ends sh (at r p skip (free was_word) false) ((45 ∷ 45 ∷ name_of s) ∷ value ∷ words) final → Found ((45 ∷ 45 ∷ name_of s) ∷ value ∷ words) rows final
 apart_found sh options final skip s value words knows rest among no_short ordinary r rows p was_word settled ends =
     let waits = ends_after sh _ _ (45 ∷ 45 ∷ name_of s) (value ∷ words) final
-        (name_steps sh options r rows p skip was_word (45 ∷ 45 ∷ name_of s) (name_of s) knows.is settled (named_word s).0 (named_word s).1 among) ends in
+    (name_steps sh options r rows p skip was_word (45 ∷ 45 ∷ name_of s) (name_of s) knows.is settled (named_word s).0 (named_word s).1 among) ends in
     let found = rest rows (put (name_of s) value rows) (Some (name_of s, value ∷ [])) false (option_pending sh options (name_of s) rows skip value knows.is among) no_short
     (ends_after sh _ _ value words final (value_steps sh options rows skip (name_of s) value knows.is among (plain_word value ordinary)) waits) in
     let number = its_number rows final s value found.plain found.given found.adds (knows.numbers s) in
@@ -474,7 +474,7 @@ option_found : (sh : Shape) (options : List Text) (final : List Row) (skip : ℕ
     → Ends sh (at r p skip (free was_word) false) ((45 ∷ 45 ∷ name_of s) ∷ words) final → Found ((45 ∷ 45 ∷ name_of s) ∷ words) rows final
 option_found sh options final skip s words knows rest among no_short r rows p was_word settled ends =
     go words rest no_short ends (ends_after sh _ _ (45 ∷ 45 ∷ name_of s) words final
-          (name_steps sh options r rows p skip was_word (45 ∷ 45 ∷ name_of s) (name_of s) knows.is settled (named_word s).0 (named_word s).1 among) ends)
+    (name_steps sh options r rows p skip was_word (45 ∷ 45 ∷ name_of s) (name_of s) knows.is settled (named_word s).0 (named_word s).1 among) ends)
   where
     behind_it : (v : Text) (more : List Text) → FoundAt sh final skip more → has_short (v ∷ more) ≡ false → Ends sh (at r p skip (free was_word) false) ((45 ∷ 45 ∷ name_of s) ∷ v ∷ more) final
         → Ends sh (at rows (Some (name_of s, [])) skip (option (name_of s)) false) (v ∷ more) final
@@ -483,7 +483,7 @@ option_found sh options final skip s words knows rest among no_short r rows p wa
         (neither v more (plain_word v ordinary).no_separator none).1 ordinary r rows p was_word settled all
     behind_it v more again none all behind (inr (inl short)) = never_short v more short none
     behind_it v more again none all behind (inr (inr dashes)) = absurd (flag_behind sh options final skip s dashes.0 more knows among rows
-          (subst (λ (w : Text). Ends sh (at rows (Some (name_of s, [])) skip (option (name_of s)) false) (w ∷ more) final) dashes.1 behind))
+        (subst (λ (w : Text). Ends sh (at rows (Some (name_of s, [])) skip (option (name_of s)) false) (w ∷ more) final) dashes.1 behind))
 
     go : (ws : List Text) → ((v : Text) (more : List Text) → ws ≡ v ∷ more → FoundAt sh final skip more) → has_short ws ≡ false
         → Ends sh (at r p skip (free was_word) false) ((45 ∷ 45 ∷ name_of s) ∷ ws) final
@@ -502,14 +502,14 @@ long_found sh options final skip name value text words knows rest behind apart l
     known : (s : Setting) (v : Option Text) → is_among (name_of s) options ≡ true → text ≡ with_value (name_of s) v → Found ((45 ∷ 45 ∷ text) ∷ words) rows final
     known s None among e = subst (λ (t : Text). Found ((45 ∷ 45 ∷ t) ∷ words) rows final) (sym e)
         (option_found sh options final skip s words knows behind among no_short r rows p was_word settled
-          (subst (λ (t : Text). Ends sh (at r p skip (free was_word) false) ((45 ∷ 45 ∷ t) ∷ words) final) e ends))
+        (subst (λ (t : Text). Ends sh (at r p skip (free was_word) false) ((45 ∷ 45 ∷ t) ∷ words) final) e ends))
     known s (Some v) among e = subst (λ (t : Text). Found ((45 ∷ 45 ∷ t) ∷ words) rows final) (sym e)
         (joined_found sh options final skip s v words knows rest among no_short r rows p was_word settled
-          (subst (λ (t : Text). Ends sh (at r p skip (free was_word) false) ((45 ∷ 45 ∷ t) ∷ words) final) e ends))
+        (subst (λ (t : Text). Ends sh (at r p skip (free was_word) false) ((45 ∷ 45 ∷ t) ∷ words) final) e ends))
 
     go : (b : Bool) → is_among name options ≡ b → Found ((45 ∷ 45 ∷ text) ∷ words) rows final
     go false none = absurd (fails_at sh (at r p skip (free was_word) false) (45 ∷ 45 ∷ text) words final
-          (unknown_fails sh options r p skip was_word (45 ∷ 45 ∷ text) name value knows.is apart long none) ends)
+        (unknown_fails sh options r p skip was_word (45 ∷ 45 ∷ text) name value knows.is apart long none) ends)
     go true among =
         let it = knows.setting name among in
         known it.0 value (subst (λ (n : Text). is_among n options ≡ true) it.1 among) (text_is ∙ ap (λ (n : Text). with_value n value) it.1)
@@ -523,7 +523,7 @@ step_found sh options final skip word words knows rest behind r rows p was_word 
     dashed (b ∷ bs) none all =
         let c = cut (b ∷ bs) in
         long_found sh options final skip c.name c.value (b ∷ bs) words knows rest behind refl (ap (λ (q : Text × Option Text). Some q) c.cut_is)
-            c.text_is (neither (45 ∷ 45 ∷ b ∷ bs) words refl none).1 r rows p was_word settled all
+        c.text_is (neither (45 ∷ 45 ∷ b ∷ bs) words refl none).1 r rows p was_word settled all
 
     go : IsTrue (is_ordinary word) ⊎ ((is_short word ≡ true) ⊎ ((text : Text) × (word ≡ 45 ∷ 45 ∷ text))) → Found (word ∷ words) rows final
     go (inl ordinary) = plain_found sh options final skip word words knows rest ordinary (neither word words (plain_word word ordinary).no_separator no_short).1 r rows p was_word settled ends
@@ -545,4 +545,4 @@ found sh options final skip knows (word ∷ []) = step_found sh options final sk
 found sh options final skip knows (word ∷ v ∷ words) =
     let again = found sh options final skip knows words in
     step_found sh options final skip word (v ∷ words) knows (found sh options final skip knows (v ∷ words))
-        (λ w rest e. subst (λ (ws : List Text). FoundAt sh final skip ws) (ap (λ (ws : List Text). drop 1 ws) e) again)
+    (λ w rest e. subst (λ (ws : List Text). FoundAt sh final skip ws) (ap (λ (ws : List Text). drop 1 ws) e) again)

@@ -176,13 +176,13 @@ separator_waits s r skip name = record { passes = refl; goes = refl }
 pub separator_for_value : (s : Shape) (options : List Text) (r rows : List Row) (skip : ℕ) (name : Text) (words : List Text) → IsCommand s options → is_among name options ≡ true
     → Ends s (at r (Some (name, [])) skip (option name) false) ((45 ∷ 45 ∷ []) ∷ words) rows → ⊥
 separator_for_value s options r rows skip name words is among ends = go words (ends_after s (at r (Some (name, [])) skip (option name) false)
-      (at r (Some (name, [])) skip (option name) true) (45 ∷ 45 ∷ []) words rows (separator_waits s r skip name) ends)
+    (at r (Some (name, [])) skip (option name) true) (45 ∷ 45 ∷ []) words rows (separator_waits s r skip name) ends)
   where
     fails : (word : Text) → turn_fault s [] (at r (Some (name, [])) skip (option name) true) word ≡ [] → ⊥
     fails word h =
         let h' : Held = record { rows = r; pending = Some (name, []); skip = skip } in
         let settles : settle_fault s.rules s.args_override_self h' ≡ [] =
-            sym (never (is_pending built_word (Some (name, []))) [] (settle_fault s.rules s.args_override_self h')) ∙ (rw (is.place) at h) in
+        sym (never (is_pending built_word (Some (name, []))) [] (settle_fault s.rules s.args_override_self h')) ∙ (rw (is.place) at h) in
         absurd (cc (sym (unsettled s options r skip name is among) ∙ settles))
 
     go : (words : List Text) → Ends s (at r (Some (name, [])) skip (option name) true) words rows → ⊥

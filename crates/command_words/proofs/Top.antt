@@ -150,7 +150,7 @@ pub program_fails_as : (table : List (Text × List Text)) (name : Text) (options
 program_fails_as table name options rest is =
     ap (λ (a : App). built_fault a nothing_held (name ∷ rest)) (app_built table)
     ∙ ap (λ (w : Walk). level_fault built_top (names_of (built_app table)) nothing_held (name ∷ rest) (is_some (entered (built_app table) w.stopped))
-          (entered_fault (built_app table) w.stopped)) (whole_walk (names_of (built_app table)) name rest is.label)
+    (entered_fault (built_app table) w.stopped)) (whole_walk (names_of (built_app table)) name rest is.label)
     ∙ rw (is.shape) (top_level (names_of (built_app table)) name rest (level_fault (built_shape (name, options)) [] nothing_held rest false []) is.label)
 
 pub program_gives : (table : List (Text × List Text)) (name : Text) (options rest : List Text) → IsNamed table name options
@@ -212,7 +212,7 @@ separator_first : (table : List (Text × List Text)) (rest : List Text) → find
 separator_first table [] none h = separator_alone table none h
 separator_first table (v ∷ rest) none h = stray_behind (names_of (built_app table)) v
     (subst (λ (w : Walk). turn_fault built_top (names_of (built_app table)) w v ≡ []) (trails (names_of (built_app table)) none)
-      (walk_second built_top (names_of (built_app table)) (45 ∷ 45 ∷ []) v rest _ _ h))
+    (walk_second built_top (names_of (built_app table)) (45 ∷ 45 ∷ []) v rest _ _ h))
 
 no_words : (table : List (Text × List Text)) → built_fault (built_app table) nothing_held [] ≡ [] → ⊥
 unfolding walk_fault defaults_fault
@@ -242,7 +242,7 @@ no_command table word rest none no_short h = go (bytes_eq word (45 ∷ 45 ∷ []
     go false other =
         let single : (is_short word || has_short rest) ≡ false = rw other at no_short in
         stray (names_of (built_app table)) word (unnamed table word none) other (not_short word (left (is_short word) (has_short rest) single))
-            (walk_first built_top (names_of (built_app table)) word rest _ _ h)
+        (walk_first built_top (names_of (built_app table)) word rest _ _ h)
 
 pub runs : (table : List (Text × List Text)) (words : List Text) → has_short words ≡ false → fault_of (app_with table) words ≡ [] → Runs table words
 runs table [] no_short h = absurd (no_words table (sym (ap (λ (a : App). built_fault a nothing_held []) (app_built table)) ∙ h))

@@ -124,7 +124,7 @@ abbrev pub setting_of : List ℕ → Option Setting
 setting_of [] = None
 setting_of (b ∷ bs) =
     if b == 114 then Some Ratio else (if b == 98 then (if get_or bs 0 0 == 117 then Some Budget else Some Bands)
-          else (if b == 109 then Some Mask else (if b == 103 then Some Gap else (if b == 106 then Some Jump else (if b == 97 then Some Arc
+    else (if b == 109 then Some Mask else (if b == 103 then Some Gap else (if b == 106 then Some Jump else (if b == 97 then Some Arc
     else (if b == 115 then (if get_or bs 0 0 == 116 then Some Step else Some System) else (if b == 102 then Some First else (if b == 99 then Some Count else None))))))))
 
 -- what is found of the numbers for a setting

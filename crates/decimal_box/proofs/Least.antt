@@ -47,14 +47,14 @@ least_ratio_of k n d value d0 is = record {
   where
     equal : (p q : Rational) → IsRatio p n (pos d) → IsRatio q n (pos d) → p ≈ q
     equal p q e f = mul_eq_cancel (p.num *ℤ pos q.den) (q.num *ℤ pos p.den) d d0 (turned p.num (pos q.den) (pos d) ∙ ap (λ z. z *ℤ pos q.den) e
-          ∙ turned n (pos p.den) (pos q.den) ∙ ap (λ z. z *ℤ pos p.den) (sym f) ∙ turned q.num (pos d) (pos p.den))
+        ∙ turned n (pos p.den) (pos q.den) ∙ ap (λ z. z *ℤ pos p.den) (sym f) ∙ turned q.num (pos d) (pos p.den))
       where
         turned : (a b c : ℤ) → a *ℤ b *ℤ c ≡ a *ℤ c *ℤ b
         turned a b c = same_by (a ∷ b ∷ c ∷ []) (λ a b c. (a ⊗ b ⊗ c, a ⊗ c ⊗ b)) refl
 
     same_ratio : (x : Rational) → x ≈ value → IsRatio x n (pos d)
     same_ratio x e = mul_eq_cancel (x.num *ℤ pos d) (n *ℤ pos x.den) value.den value.positive (turned x.num (pos d) (pos value.den)
-          ∙ ap (λ z. z *ℤ pos d) e ∙ turned value.num (pos x.den) (pos d) ∙ ap (λ z. z *ℤ pos x.den) is ∙ turned n (pos value.den) (pos x.den))
+        ∙ ap (λ z. z *ℤ pos d) e ∙ turned value.num (pos x.den) (pos d) ∙ ap (λ z. z *ℤ pos x.den) is ∙ turned n (pos value.den) (pos x.den))
       where
         turned : (a b c : ℤ) → a *ℤ b *ℤ c ≡ a *ℤ c *ℤ b
         turned a b c = same_by (a ∷ b ∷ c ∷ []) (λ a b c. (a ⊗ b ⊗ c, a ⊗ c ⊗ b)) refl
@@ -130,9 +130,10 @@ least_cut_of : (k : ℕ) (m : ℤ) (d : ℕ) (value : Rational) → IsCut (m *�
 least_cut_of k m d value c is =
     let n : ℤ = m *ℤ pos (2 ^ k) in
     record {
-      holds = λ x e. InBox-along k (floor_div n d) (ceil_div n d) value x (sym e)
-          (subst (λ (z : ℤ). (floor_div n d *ℤ pos value.den) ≤ℤ (z *ℤ pos (2 ^ k))) (sym is) (under n d value.den c),
-            subst (λ (z : ℤ). (z *ℤ pos (2 ^ k)) ≤ℤ (ceil_div n d *ℤ pos value.den)) (sym is) (over n d value.den c));
+      holds = λ x e. InBox-along k (floor_div n d) (ceil_div n d) value x (sym e) (
+        subst (λ (z : ℤ). (floor_div n d *ℤ pos value.den) ≤ℤ (z *ℤ pos (2 ^ k))) (sym is) (under n d value.den c),
+        subst (λ (z : ℤ). (z *ℤ pos (2 ^ k)) ≤ℤ (ceil_div n d *ℤ pos value.den)) (sym is) (over n d value.den c),
+      );
       least = λ l h i. (
         least_under n l d value.den c (subst (λ (z : ℤ). (l *ℤ pos value.den) ≤ℤ (z *ℤ pos (2 ^ k))) is i.0),
         least_over n h d value.den c (subst (λ (z : ℤ). (z *ℤ pos (2 ^ k)) ≤ℤ (h *ℤ pos value.den)) is i.1),
@@ -167,7 +168,7 @@ zero_of m p t t1 p1 h g = by_lt_z (pos 0) m
     (λ l. absurd (too_large p (m *ℤ p *ℤ t) p1 (large m p t (above l) (from p1) t1) h))
     (λ l. by_lt_z m (pos 0)
     (λ k. absurd (too_large p (neg_ℤ (m *ℤ p) *ℤ t) p1
-        (subst (λ (z : ℤ). p ≤ℤ z) (same_by (m ∷ p ∷ t ∷ []) (λ m p t. (ng m ⊗ p ⊗ t, ng (m ⊗ p) ⊗ t)) refl) (large (neg_ℤ m) p t (below k) (from p1) t1)) g))
+    (subst (λ (z : ℤ). p ≤ℤ z) (same_by (m ∷ p ∷ t ∷ []) (λ m p t. (ng m ⊗ p ⊗ t, ng (m ⊗ p) ⊗ t)) refl) (large (neg_ℤ m) p t (below k) (from p1) t1)) g))
     (λ k. between l k))
   where
     too_large : (p v : ℤ) → pos (10 ^ 19) ≤ℤ p → p ≤ℤ v → v ≤ℤ pos (2 ^ 62) → ⊥

@@ -72,7 +72,7 @@ scaled_value u m e n s f h = rw f (scaled_is u m e s h)
 -- what is at most size units in size is at most 2^62 of them
 pub in_reach : (k size : ℕ) (p q : Rational) → size ≤ 2 ^ 62 → p ≈ q → IsAtMostInSize (of_scale k (pos size)) p → IsAtMostInSize (of_scale k (pos (2 ^ 62))) q
 in_reach k size p q h e s = size_along (of_scale k (pos (2 ^ 62))) p q e (size_looser (of_scale k (pos size)) (of_scale k (pos (2 ^ 62))) p
-      (mul_le_right (pos (2 ^ k)) (pos size) (pos (2 ^ 62)) (pos_nn (2 ^ k)) (le_pos size (2 ^ 62) h)) s)
+    (mul_le_right (pos (2 ^ k)) (pos size) (pos (2 ^ 62)) (pos_nn (2 ^ k)) (le_pos size (2 ^ 62) h)) s)
 
 -- its least box has its ends there
 pub ends_of : (k size : ℕ) (b : Iv k) (p q : Rational) → p ≈ q → IsLeastBox b q → IsAtMostInSize (of_scale k (pos size)) p → (neg_ℤ (pos size) ≤ℤ b.lo) × (b.hi ≤ℤ pos size)

@@ -79,8 +79,15 @@ exp_is text e = by e.power e.spelled
         rw (not_blank_text text e.negative e.whole e.part fixed, fixed-unmarked text e.negative e.whole e.part fixed, walk-fixed text e.negative e.whole e.part fixed, none) refl
     by power (inr (below, digits, marked, value)) =
         let m : SomeMarked text = record { negative = e.negative; whole = e.whole; part = e.part; below = below; power = digits; marked = marked } in
-        rw (marked_not_blank text marked.tail (marked_behind text m), marked_behind text m, marked_before text m,
-              walk-fixed marked.front e.negative e.whole e.part marked.number, marked.next_to, power_is marked.tail below digits marked.exponent, value) refl
+        rw (
+          marked_not_blank text marked.tail (marked_behind text m),
+          marked_behind text m,
+          marked_before text m,
+          walk-fixed marked.front e.negative e.whole e.part marked.number,
+          marked.next_to,
+          power_is marked.tail below digits marked.exponent,
+          value,
+        ) refl
 
 of_form : (text : List ℕ) → IsReadAsDec text (dec_of text)
 of_form text = by_blank (are_blank text) refl
@@ -108,7 +115,7 @@ of_form text = by_blank (are_blank text) refl
           number = f.fixed;
           next_to = next;
           marks = marks;
-          exponent = took.signed_is
+          exponent = took.signed_is;
         } in
         let e : IsExp text = record { negative = f.negative; whole = f.whole; part = f.part; power = z; spelled = inr (took.negative, took.power, m, took.value) } in
         subst (IsReadAsDec text) (sym (exp_is text e)) (given_form text e)

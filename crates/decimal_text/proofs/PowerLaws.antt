@@ -98,7 +98,7 @@ digits_took (b ∷ bs) at n k m most is = by_digit (is_digit b) refl (λ less e.
           some = omega (arith, t.some);
           few = omega (arith, t.few);
           blank = t.blank;
-          value = t.value
+          value = t.value;
         }
 
     by_some : is_digit b ≡ false → (t : Bool) → (k == 0) ≡ t → DigitsTook (b ∷ bs) n k m
@@ -132,7 +132,7 @@ blanks_fail (b ∷ bs) at n i is = by (is_blank b) refl (λ e. blanks_fail bs (a
           p = 1 + t.p;
           at_is = omega (arith, t.at_is);
           fails = fails_behind AreBlank AreBlank (b ∷ [])
-              (λ u h. both (is_blank b) (are_blank u) blank h) (λ u h. (first_and (is_blank b) (are_blank u) h).1) bs t.p t.fails
+              (λ u h. both (is_blank b) (are_blank u) blank h) (λ u h. (first_and (is_blank b) (are_blank u) h).1) bs t.p t.fails;
         }
     by false blank later =
         let step : only_blanks (b ∷ bs) at n ≡ Err at = rw blank refl in
@@ -146,8 +146,8 @@ blanks_fail (b ∷ bs) at n i is = by (is_blank b) refl (λ e. blanks_fail bs (a
             text_is = refl;
             at_is = refl;
             begun = record { further = []; whole = refl };
-            stuck = λ begun. cc (blank, (first_and (is_blank b) (are_blank begun.further) begun.whole).0)
-          }
+            stuck = λ begun. cc (blank, (first_and (is_blank b) (are_blank begun.further) begun.whole).0);
+          };
         }
 
 -- what the first byte is of a rest of an exponent
@@ -209,7 +209,7 @@ with_digit k b u h digit = record {
   digits = both (is_digit b) (are_digits h.power) digit h.digits;
   some = omega arith;
   few = omega (arith, h.few);
-  blank = h.blank
+  blank = h.blank;
 }
 
 digits_fail : (text : List ℕ) (at n k i : ℕ) → k ≤ 3 → power_digits text at n k ≡ Err i → PlaceOf (IsRestOfPower k) text at i
@@ -232,8 +232,8 @@ digits_fail [] at n k i most is = by (k == 0) refl
             begun = record { further = 48 ∷ []; whole = one_digit k (omega arith) };
             stuck = λ h.
                 let len = ap length h.text_is in
-                omega (arith, h.some, length-append h.power h.after)
-          }
+                omega (arith, h.some, length-append h.power h.after);
+          };
         }
     by false some = let step : power_digits [] at n k ≡ Ok n = rw some refl in absurd (cc (step, is))
 digits_fail (b ∷ bs) at n k i most is = by_digit (is_digit b) refl (λ less e. digits_fail bs (at + 1) (10 * n + (b - 48)) (k + 1) i less e)
@@ -253,8 +253,8 @@ digits_fail (b ∷ bs) at n k i most is = by_digit (is_digit b) refl (λ less e.
             text_is = refl;
             at_is = refl;
             begun = record { further = []; whole = no_digits k (omega arith) (omega arith) [] refl };
-            stuck = λ begun. no_room b begun.further (subst (λ j. IsRestOfPower j (b ∷ begun.further)) three begun.whole) digit
-          }
+            stuck = λ begun. no_room b begun.further (subst (λ j. IsRestOfPower j (b ∷ begun.further)) three begun.whole) digit;
+          };
         }
     by_room later digit false room =
         let step : power_digits (b ∷ bs) at n k ≡ power_digits bs (at + 1) (10 * n + (b - 48)) (k + 1) = rw (digit, room) refl in
@@ -264,7 +264,7 @@ digits_fail (b ∷ bs) at n k i most is = by_digit (is_digit b) refl (λ less e.
           p = 1 + t.p;
           at_is = omega (arith, t.at_is);
           fails = fails_behind (IsRestOfPower (k + 1)) (IsRestOfPower k) (b ∷ [])
-              (λ u h. with_digit k b u h digit) (λ u h. first_digit k b u h digit less) bs t.p t.fails
+              (λ u h. with_digit k b u h digit) (λ u h. first_digit k b u h digit less) bs t.p t.fails;
         }
 
     by_some : is_digit b ≡ false → (t : Bool) → (k == 0) ≡ t → PlaceOf (IsRestOfPower k) (b ∷ bs) at i
@@ -281,8 +281,8 @@ digits_fail (b ∷ bs) at n k i most is = by_digit (is_digit b) refl (λ less e.
             text_is = refl;
             at_is = refl;
             begun = record { further = 48 ∷ []; whole = one_digit k (omega arith) };
-            stuck = λ begun. no_first b begun.further (subst (λ j. IsRestOfPower j (b ∷ begun.further)) zero_is begun.whole) digit
-          }
+            stuck = λ begun. no_first b begun.further (subst (λ j. IsRestOfPower j (b ∷ begun.further)) zero_is begun.whole) digit;
+          };
         }
     by_some digit false some =
         let step : power_digits (b ∷ bs) at n k ≡ only_blanks (b ∷ bs) at n = rw (digit, some) refl in
@@ -372,7 +372,7 @@ power_fails [] i is =
       text_is = refl;
       at_is = refl;
       begun = record { further = 48 ∷ []; whole = record { negative = false; power = 48 ∷ []; signed_is = inr one_power } };
-      stuck = λ h. nothing h.negative h.power h.signed_is
+      stuck = λ h. nothing h.negative h.power h.signed_is;
     })
   where
     nothing : (negative : Bool) (power : List ℕ) → IsSignedPower [] negative power → ⊥
@@ -392,21 +392,21 @@ power_fails (b ∷ bs) i is = by_plus (b == 43) refl
         let at_45 : b ≡ 45 = grind (arith, nat_tests) in
         let step : power_of (b ∷ bs) ≡ signed_power true (power_digits bs 1 0 0) = rw (no_plus_sign, sign) refl in
         rw at_45 (place bs 1 (digits_fail bs 1 0 0 i (omega arith) (signed_err true (power_digits bs 1 0 0) i (sym step ∙ is))) refl 45
-              (λ v h. record { negative = true; power = h.power; signed_is = (v, refl, from_rest v h) }) behind_minus)
+        (λ v h. record { negative = true; power = h.power; signed_is = (v, refl, from_rest v h) }) behind_minus)
     by_minus false no_plus_sign no_minus_sign =
         let step : power_of (b ∷ bs) ≡ signed_power false (power_digits (b ∷ bs) 0 0 0) = rw (no_plus_sign, no_minus_sign) refl in
         let t = digits_fail (b ∷ bs) 0 0 0 i (omega arith) (signed_err false (power_digits (b ∷ bs) 0 0 0) i (sym step ∙ is)) in
         let same : t.p ≡ i = omega (arith, t.at_is) in
         subst (FailsFirst IsSomePower (b ∷ bs)) same
-            (fails_alike (IsRestOfPower 0) IsSomePower b (λ v h. record { negative = false; power = h.power; signed_is = inr (from_rest v h) })
-              (λ v h. unsigned b v no_plus_sign no_minus_sign h) bs t.p t.fails)
+        (fails_alike (IsRestOfPower 0) IsSomePower b (λ v h. record { negative = false; power = h.power; signed_is = inr (from_rest v h) })
+        (λ v h. unsigned b v no_plus_sign no_minus_sign h) bs t.p t.fails)
 
     by_plus : (t : Bool) → (b == 43) ≡ t → FailsFirst IsSomePower (b ∷ bs) i
     by_plus true sign =
         let at_43 : b ≡ 43 = grind (arith, nat_tests) in
         let step : power_of (b ∷ bs) ≡ signed_power false (power_digits bs 1 0 0) = rw sign refl in
         rw at_43 (place bs 1 (digits_fail bs 1 0 0 i (omega arith) (signed_err false (power_digits bs 1 0 0) i (sym step ∙ is))) refl 43
-              (λ v h. record { negative = false; power = h.power; signed_is = inl (v, refl, from_rest v h) }) behind_plus)
+        (λ v h. record { negative = false; power = h.power; signed_is = inl (v, refl, from_rest v h) }) behind_plus)
     by_plus false no_plus_sign = by_minus (b == 45) no_plus_sign refl
 
 power_digits_is : (t power : List ℕ) (at : ℕ) → IsPower t power → power_digits t at 0 0 ≡ Ok (digit_sum power)

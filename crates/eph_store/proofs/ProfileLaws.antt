@@ -91,7 +91,7 @@ toc_in_range raw u = usable_range raw 2 u (omega arith)
 pub none_out : (raw : Raw) (fields : List Field) (number : ℕ) → All (λ f. InRange f raw) fields → IsFirstOut raw fields number → ⊥
 none_out raw fields number all out =
     let here : get_or fields (length out.front) out.field ≡ out.field =
-        ap (λ (fs : List Field). get_or fs (length out.front) out.field) out.order ∙ get_or-append_seam out.front out.field out.rest out.field in
+    ap (λ (fs : List Field). get_or fs (length out.front) out.field) out.order ∙ get_or-append_seam out.front out.field out.rest out.field in
     let inside : length out.front < length fields = omega (arith, ap length out.order, length-append out.front (out.field ∷ out.rest)) in
     out.out (rw (← here) (all (length out.front) out.field inside))
 
@@ -99,7 +99,7 @@ not_before : (raw : Raw) (fields : List Field) (n m : ℕ) (s : IsFirstOut raw f
 not_before raw fields n m s t less =
     let here : get_or fields (length s.front) s.field ≡ s.field = ap (λ (fs : List Field). get_or fs (length s.front) s.field) s.order ∙ get_or-append_seam s.front s.field s.rest s.field in
     let there : get_or fields (length s.front) s.field ≡ get_or t.front (length s.front) s.field =
-        ap (λ (fs : List Field). get_or fs (length s.front) s.field) t.order ∙ get_or-append t.front (t.field ∷ t.rest) s.field (length s.front) less in
+    ap (λ (fs : List Field). get_or fs (length s.front) s.field) t.order ∙ get_or-append t.front (t.field ∷ t.rest) s.field (length s.front) less in
     s.out (rw (← here) (rw there (t.before (length s.front) s.field less)))
 
 -- there is one first

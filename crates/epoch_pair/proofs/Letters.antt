@@ -70,7 +70,7 @@ pub one_more : (base rover : List Bool) (n l2 l5 : ℕ) → IsBandsNumber n → 
     → IsLetterFor (is_among (bands_of n) 2) (letter_on base rover 2) l5 → IsTrue (not ((l2 == 0) && (l5 == 0)))
 one_more base rover n l2 l5 number is also =
     each_number (λ (m : ℕ). IsLetterFor (is_among (bands_of m) 1) (letter_on base rover 1) l2
-          → IsLetterFor (is_among (bands_of m) 2) (letter_on base rover 2) l5 → IsTrue (not ((l2 == 0) && (l5 == 0))))
+    → IsLetterFor (is_among (bands_of m) 2) (letter_on base rover 2) l5 → IsTrue (not ((l2 == 0) && (l5 == 0))))
     (λ two five. used_band L2_LETTERS l2 (l5 == 0) refl (on_used base rover 1 l2 BANDS_L1_L2 refl two))
     (λ two five. used_band_too L5_LETTERS l5 (l2 == 0) refl (on_used base rover 2 l5 BANDS_L1_L5 refl five))
     (λ two five. used_band L2_LETTERS l2 (l5 == 0) refl (on_used base rover 1 l2 BANDS_L1_L2_L5 refl two)) n number is also

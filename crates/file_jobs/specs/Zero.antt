@@ -13,7 +13,7 @@ optimal_line z sum = codes "optimal " ++ (signed_decimal z ++ (codes " sum " ++ 
 
 abbrev pub beaten_line : ℤ → ℤ → ℤ → ℤ → List ℕ
 beaten_line z sum by least = codes "beaten " ++ (signed_decimal z
-      ++ (codes " sum " ++ (signed_decimal sum ++ (codes " by " ++ (signed_decimal by ++ (codes " sum " ++ (signed_decimal least ++ codes "\n")))))))
+    ++ (codes " sum " ++ (signed_decimal sum ++ (codes " by " ++ (signed_decimal by ++ (codes " sum " ++ (signed_decimal least ++ codes "\n")))))))
 
 -- every other whole number has a greater sum
 pub record IsOptimal (z : ℤ) (ds : List ℤ) (end : Ending) : Type 0 where

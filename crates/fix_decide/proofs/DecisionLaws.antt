@@ -61,6 +61,6 @@ best_from_bounds s h p ratio t z1 z2 m fine entries bounds least upper r k separ
   entries = entries;
   best = λ (observed : List (List Observed)) (f : AreData (signals_of s) s.pairs observed) (w : List ℤ) (e : length w ≡ integer_count s.arcs (signals_of s)) (n : w ≢ z1) (b : Baseline).
       below (sum_of_squares s.arcs (signals_of s) s.pairs z1 (moved m) observed) (sum_of_squares s.arcs (signals_of s) s.pairs w b observed) h t
-          (value p z2) (value p w) (room t ratio (value p z2) r k separated)
+      (value p z2) (value p w) (room t ratio (value p z2) r k separated)
       (second_value p (len z1) z1 z2 w least (len_is w ∙ ap pos (e ∙ sym entries) ∙ sym (len_is z1)) n) (upper.above observed f) (bounds.below w b observed e f);
 }

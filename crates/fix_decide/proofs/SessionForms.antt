@@ -101,7 +101,7 @@ least_of f b two = subst (λ (k : ℤ). TwoLeast (columns_of f) k (first_of b) (
 
 pub first_small : (n : ℕ) (z : List ℤ) → IsSmall z → All (IsBelow (2 ^ 30)) (take n z)
 first_small n z h k d inside = subst (λ (x : ℤ). unsigned_abs x < 2 ^ 30) (sym
-      (get_or_default (take n z) k d (pos 0) inside ∙ get_or-take n z k (pos 0) (within (length z) (subst (λ (m : ℕ). k < m) (length-take n z) inside)))) (h k)
+    (get_or_default (take n z) k d (pos 0) inside ∙ get_or-take n z k (pos 0) (within (length z) (subst (λ (m : ℕ). k < m) (length-take n z) inside)))) (h k)
   where
     within : (m : ℕ) → k < min n m → k < n
     within m g = omega arith

@@ -97,7 +97,7 @@ pub top_stays_at_most : (h : ℕ) (arcs : List Arc) (ss : List ℕ) (pairs : Lis
 top_stays_at_most h arcs ss pairs z m e = record {
   above = λ (observed : List (List Observed)) (f : AreData ss pairs observed).
       wider (sum_of_squares arcs ss pairs z (moved m) observed) (upper_sum arcs ss pairs z m) (pos (2 ^ h) *ℤ top h arcs ss pairs z m)
-          ((stays_at_most arcs ss pairs z m e).above observed f) (ceil_close (upper_sum arcs ss pairs z m) (2 ^ h) (pow_pos h));
+      ((stays_at_most arcs ss pairs z m e).above observed f) (ceil_close (upper_sum arcs ss pairs z m) (2 ^ h) (pow_pos h));
 }
   where
     wider : (q : Rational) (u t : ℤ) → q ≤ʳ of_whole u → u ≤ℤ t → q ≤ʳ of_whole t

@@ -55,14 +55,14 @@ certified_again base rover nav options outcome cert is full fix =
     let d : Numbers = numbers fix.h fix.moved fix.best fix.top in
     let again : IsFixed cert.session options.ratio d = decided_again rules options.ratio options.budget outcome.rounds cert.session cert.tail cert fix fix.tail_is ends.ends in
     let says : Says cert.tail d =
-        subst (λ (t : Tail). Says t d) (sym fix.tail_is)
-            (record { h_is = refl; moved_is = refl; best_is = record { first_is = refl; second_is = refl; p1_is = refl; p2_is = refl }; top_is = refl }) in
+    subst (λ (t : Tail). Says t d) (sym fix.tail_is)
+    (record { h_is = refl; moved_is = refl; best_is = record { first_is = refl; second_is = refl; p1_is = refl; p2_is = refl }; top_is = refl }) in
     (d, (subst (λ (n : ℕ). IsFixed cert.session n d) (sym ends.ratio) again, says))
 
 -- each verdict on it is that one, or that the search gave up
 pub no_other : (cert : Cert) → IsVerdictOf cert.session cert.ratio cert.budget cert.tail Certified → (v : Verdict)
     → IsVerdictOf cert.session cert.ratio cert.budget cert.tail v → (v ≡ Certified) ⊎ IsGivenUp v
 no_other cert certified v is = elim (one_verdict cert.session cert.ratio cert.budget cert.tail v Certified is certified) [
-  inl same ↦ inl same
+  | inl same ↦ inl same
   | inr given_up ↦ elim (given_up) [ inl here ↦ inr here | inr there ↦ absurd there ]
 ]

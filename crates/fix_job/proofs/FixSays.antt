@@ -120,7 +120,7 @@ fix_says told base rover nav o end out (inl session) written = elim (session.end
   | inl outcome ↦
       let printed : Appends out.old out.new (answer_text outcome.outcome.answer) = subst (λ (e : Ending). Appends out.old out.new e.out) outcome.end_is written in
       let have : HaveOutcome told base rover nav o outcome.outcome =
-          record { base_file = session.base_file; rover_file = session.rover_file; records = session.records; are_files = session.are; is = outcome.is } in
+      record { base_file = session.base_file; rover_file = session.rover_file; records = session.records; are_files = session.are; is = outcome.is } in
       says_at told base rover nav o end _ out outcome.end_is (outcome_says told base rover nav o outcome.outcome out (is_fixed outcome.outcome.answer) refl have outcome.best outcome.whole printed)
   | inr refused ↦ says_at told base rover nav o end _ out refused.end_is tt
 ]

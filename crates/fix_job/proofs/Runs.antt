@@ -44,5 +44,5 @@ stands_for b r n o outcome cert is full =
       taken = is.taken;
       taken_are = is.taken_are;
       stands = subst (λ (k : ℕ). StandsForFiles (setting_of b n is.signals o.mask (world_of o.system)) b.epochs r.epochs is.taken (bands_of o.bands)
-            o.jump o.arc o.system is.position is.signals s.point (map (λ (a : Arc). a.shift) s.arcs) k s) cert.fine stands;
+          o.jump o.arc o.system is.position is.signals s.point (map (λ (a : Arc). a.shift) s.arcs) k s) cert.fine stands;
     }

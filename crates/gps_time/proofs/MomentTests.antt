@@ -52,8 +52,11 @@ is_gps_date-holds y m d is =
     let e3 : (ys && m1 && m2) ≡ true = first _ d1 e4 in
     let e2 : (ys && m1) ≡ true = first _ m2 e3 in
     record {
-      civil = ((below (negsuc 9998) (pos y) refl, below (pos y) (pos 9999) (first ys m1 e2)), (no_more 1 m (second ys m1 e2), no_more m 12 (second _ m2 e3)),
-            (no_more 1 d (second _ d1 e4), no_more d (days_in_month (pos y) m) (second _ d2 e5)));
+      civil = (
+        (below (negsuc 9998) (pos y) refl, below (pos y) (pos 9999) (first ys m1 e2)),
+        (no_more 1 m (second ys m1 e2), no_more m 12 (second _ m2 e3)),
+        (no_more 1 d (second _ d1 e4), no_more d (days_in_month (pos y) m) (second _ d2 e5)),
+      );
       from_first = below first_day (days_from_civil (pos y) m d) (second _ f e6);
       to_last = below (days_from_civil (pos y) m d) last_day (second _ l is);
     }

@@ -70,7 +70,7 @@ unloaded_whole told left name end (inr fault) = fault_whole told left (name ∷ 
 
 -- that of a file whose text is none of the form
 pub refusal_whole : {X : Type 0} {gives : List (List ℕ) → Result X At} {IsFile : List (List ℕ) → Type 0} (told : List ℕ → Option (List ℕ)) (left : ℕ
-      → Option (List ℕ)) (name text : List ℕ) (end : Ending) → IsReadToEnd told left name → IsRefusal gives IsFile name text end
+    → Option (List ℕ)) (name text : List ℕ) (end : Ending) → IsReadToEnd told left name → IsRefusal gives IsFile name text end
     → IsRefusedWhole told left (name ∷ []) end
 refusal_whole told left name text end read refusal = read_whole told left name refusal.at end read refusal.end_is
 

@@ -16,89 +16,145 @@ pub upper : (en ed sn sd mn md nn nd pn pd tn td dn dd x r h : ℤ)
     → (((nn *ℤ (pd *ℤ td)) +ℤ ((pn *ℤ tn) *ℤ nd)) *ℤ (pos 72057594037927936)) ≤ℤ (h *ℤ (nd *ℤ (pd *ℤ td)))
     → (((en *ℤ (pd *ℤ sd)) -ℤ ((pn *ℤ sn) *ℤ ed)) *ℤ md) ≤ℤ (mn *ℤ (ed *ℤ (pd *ℤ sd))) → (((mn *ℤ nd) -ℤ (nn *ℤ md)) *ℤ dd) ≤ℤ (dn *ℤ (md *ℤ nd))
     → (((sn *ℤ td) -ℤ (tn *ℤ sd)) *ℤ ((ed *ℤ (pos 72057594037927936)) *ℤ (pos 147573952589676412928)))
-      ≤ℤ (((((pos 2) *ℤ ((en *ℤ (pos 72057594037927936)) -ℤ (x *ℤ ed))) *ℤ (pos 147573952589676412928)) +ℤ ((pos 1) *ℤ (ed *ℤ (pos 72057594037927936))))
-      *ℤ (sd *ℤ td)) → ((pos 32) *ℤ pn) ≤ℤ pd → (pos 0) ≤ℤ pn → (((pos 16) *ℤ (h -ℤ x)) +ℤ (pos 1)) ≤ℤ ((pos 15) *ℤ r)
+    ≤ℤ (((((pos 2) *ℤ ((en *ℤ (pos 72057594037927936)) -ℤ (x *ℤ ed))) *ℤ (pos 147573952589676412928)) +ℤ ((pos 1) *ℤ (ed *ℤ (pos 72057594037927936))))
+    *ℤ (sd *ℤ td)) → ((pos 32) *ℤ pn) ≤ℤ pd → (pos 0) ≤ℤ pn → (((pos 16) *ℤ (h -ℤ x)) +ℤ (pos 1)) ≤ℤ ((pos 15) *ℤ r)
     → (pos 0) ≤ℤ ((en *ℤ (pos 72057594037927936)) -ℤ (x *ℤ ed)) → (pos 0) <ℤ ed → (pos 0) <ℤ sd → (pos 0) <ℤ md → (pos 0) <ℤ nd → (pos 0) <ℤ pd → (pos 0) <ℤ td
     → (pos 0) <ℤ dd → ((pos 15) *ℤ (((en *ℤ (pos 72057594037927936)) -ℤ ((x +ℤ r) *ℤ ed)) *ℤ dd)) ≤ℤ ((pos 16) *ℤ (dn *ℤ (ed *ℤ (pos 72057594037927936))))
 upper en ed sn sd mn md nn nd pn pd tn td dn dd x r h h0 h1 h2 h3 h4 h5 h6 h7 h8 h9 h10 h11 h12 h13 h14 =
     cancel ((pos 9223372036854775808) *ℤ (md *ℤ (nd *ℤ (pd *ℤ (sd *ℤ td)))))
-        ((pos 15) *ℤ (((en *ℤ (pos 72057594037927936)) -ℤ ((x +ℤ r) *ℤ ed)) *ℤ dd)) ((pos 16) *ℤ (dn *ℤ (ed *ℤ (pos 72057594037927936))))
-        (mul_positive (pos 9223372036854775808) (md *ℤ (nd *ℤ (pd *ℤ (sd *ℤ td)))) (lt_pos 0 9223372036854775808 (lit< tt)) (mul_positive md
-            (nd *ℤ (pd *ℤ (sd *ℤ td))) h10 (mul_positive nd (pd *ℤ (sd *ℤ td)) h11 (mul_positive pd (sd *ℤ td) h12 (mul_positive sd td h9 h13)))))
-        (cert (en ∷ ed ∷ sn ∷ sd ∷ mn ∷ md ∷ nn ∷ nd ∷ pn ∷ pd ∷ tn ∷ td ∷ dn ∷ dd ∷ x ∷ r ∷ h ∷ [])
-          ((((((va 6) ⊗ ((va 9) ⊗ (va 11))) ⊕ (((va 8) ⊗ (va 10)) ⊗ (va 7))) ⊗ (ko (pos 72057594037927936))) ≼ ((va 16) ⊗ ((va 7) ⊗ ((va 9) ⊗ (va 11)))))
-            ∷ (((((va 0) ⊗ ((va 9) ⊗ (va 3))) ⊖ (((va 8) ⊗ (va 2)) ⊗ (va 1))) ⊗ (va 5)) ≼ ((va 4) ⊗ ((va 1) ⊗ ((va 9) ⊗ (va 3)))))
-            ∷ (((((va 4) ⊗ (va 7)) ⊖ ((va 6) ⊗ (va 5))) ⊗ (va 13)) ≼ ((va 12) ⊗ ((va 5) ⊗ (va 7))))
-            ∷ (((((va 2) ⊗ (va 11)) ⊖ ((va 10) ⊗ (va 3))) ⊗ (((va 1) ⊗ (ko (pos 72057594037927936))) ⊗ (ko (pos 147573952589676412928))))
-              ≼ (((((ko (pos 2)) ⊗ (((va 0) ⊗ (ko (pos 72057594037927936))) ⊖ ((va 14) ⊗ (va 1)))) ⊗ (ko (pos 147573952589676412928)))
-                ⊕ ((ko (pos 1)) ⊗ ((va 1) ⊗ (ko (pos 72057594037927936))))) ⊗ ((va 3) ⊗ (va 11)))) ∷ (((ko (pos 32)) ⊗ (va 8)) ≼ (va 9))
-            ∷ ((ko (pos 0)) ≼ (va 8)) ∷ ((((ko (pos 16)) ⊗ ((va 16) ⊖ (va 14))) ⊕ (ko (pos 1))) ≼ ((ko (pos 15)) ⊗ (va 15)))
-            ∷ ((ko (pos 0)) ≼ (((va 0) ⊗ (ko (pos 72057594037927936))) ⊖ ((va 14) ⊗ (va 1)))) ∷ ((ko (pos 0)) ≼ (va 1)) ∷ ((ko (pos 0)) ≼ (va 3))
-            ∷ ((ko (pos 0)) ≼ (va 5)) ∷ ((ko (pos 0)) ≼ (va 7)) ∷ ((ko (pos 0)) ≼ (va 9)) ∷ ((ko (pos 0)) ≼ (va 11)) ∷ ((ko (pos 0)) ≼ (va 13)) ∷ [])
-          (((ko (pos 9223372036854775808)) ⊗ ((va 5) ⊗ ((va 7) ⊗ ((va 9) ⊗ ((va 3) ⊗ (va 11))))))
-            ⊗ ((ko (pos 15)) ⊗ ((((va 0) ⊗ (ko (pos 72057594037927936))) ⊖ (((va 14) ⊕ (va 15)) ⊗ (va 1))) ⊗ (va 13)))) (((ko (pos 9223372036854775808))
-            ⊗ ((va 5) ⊗ ((va 7) ⊗ ((va 9) ⊗ ((va 3) ⊗ (va 11)))))) ⊗ ((ko (pos 16)) ⊗ ((va 12) ⊗ ((va 1) ⊗ (ko (pos 72057594037927936))))))
-          (((((((((((((nm 147573952589676412928) ⊠ (hy 0)) ⊠ (hy 8)) ⊠ (hy 14)) ⊠ (hy 10)) ⊠ (hy 9)) ⊞ (((((nm 10633823966279326983230456482242756608) ⊠ (hy 1))
-              ⊠ (hy 14)) ⊠ (hy 11)) ⊠ (hy 13))) ⊞ ((((((nm 10633823966279326983230456482242756608) ⊠ (hy 2)) ⊠ (hy 8)) ⊠ (hy 12)) ⊠ (hy 9)) ⊠ (hy 13)))
-            ⊞ ((((((nm 1) ⊠ (hy 5)) ⊠ (hy 3)) ⊠ (hy 14)) ⊠ (hy 10)) ⊠ (hy 11))) ⊞ ((((((((nm 9223372036854775808) ⊠ (hy 4)) ⊠ (hy 7)) ⊠ (hy 14)) ⊠ (hy 10))
-              ⊠ (hy 11)) ⊠ (hy 9)) ⊠ (hy 13))) ⊞ ((((((((nm 2251799813685248) ⊠ (hy 4)) ⊠ (hy 8)) ⊠ (hy 14)) ⊠ (hy 10)) ⊠ (hy 11)) ⊠ (hy 9)) ⊠ (hy 13)))
-            ⊞ (((((((((nm 9223372036854775808) ⊠ (hy 6)) ⊠ (hy 8)) ⊠ (hy 14)) ⊠ (hy 10)) ⊠ (hy 11)) ⊠ (hy 12)) ⊠ (hy 9)) ⊠ (hy 13)))
-            ⊞ ((((((((nm 9221120237041090560) ⊠ (hy 8)) ⊠ (hy 14)) ⊠ (hy 10)) ⊠ (hy 11)) ⊠ (hy 12)) ⊠ (hy 9)) ⊠ (hy 13))) refl
-          (h0, (h1, (h2, (h3, (h4, (h5, (h6, (h7, (weak (pos 0) ed h8, (weak (pos 0) sd h9,
-                    (weak (pos 0) md h10, (weak (pos 0) nd h11, (weak (pos 0) pd h12, (weak (pos 0) td h13, (weak (pos 0) dd h14, tt))))))))))))))))
+    ((pos 15) *ℤ (((en *ℤ (pos 72057594037927936)) -ℤ ((x +ℤ r) *ℤ ed)) *ℤ dd)) ((pos 16) *ℤ (dn *ℤ (ed *ℤ (pos 72057594037927936))))
+    (mul_positive (pos 9223372036854775808) (md *ℤ (nd *ℤ (pd *ℤ (sd *ℤ td)))) (lt_pos 0 9223372036854775808 (lit< tt)) (mul_positive md
+    (nd *ℤ (pd *ℤ (sd *ℤ td))) h10 (mul_positive nd (pd *ℤ (sd *ℤ td)) h11 (mul_positive pd (sd *ℤ td) h12 (mul_positive sd td h9 h13)))))
+    (cert (en ∷ ed ∷ sn ∷ sd ∷ mn ∷ md ∷ nn ∷ nd ∷ pn ∷ pd ∷ tn ∷ td ∷ dn ∷ dd ∷ x ∷ r ∷ h ∷ [])
+    ((((((va 6) ⊗ ((va 9) ⊗ (va 11))) ⊕ (((va 8) ⊗ (va 10)) ⊗ (va 7))) ⊗ (ko (pos 72057594037927936))) ≼ ((va 16) ⊗ ((va 7) ⊗ ((va 9) ⊗ (va 11)))))
+    ∷ (((((va 0) ⊗ ((va 9) ⊗ (va 3))) ⊖ (((va 8) ⊗ (va 2)) ⊗ (va 1))) ⊗ (va 5)) ≼ ((va 4) ⊗ ((va 1) ⊗ ((va 9) ⊗ (va 3)))))
+    ∷ (((((va 4) ⊗ (va 7)) ⊖ ((va 6) ⊗ (va 5))) ⊗ (va 13)) ≼ ((va 12) ⊗ ((va 5) ⊗ (va 7))))
+    ∷ (((((va 2) ⊗ (va 11)) ⊖ ((va 10) ⊗ (va 3))) ⊗ (((va 1) ⊗ (ko (pos 72057594037927936))) ⊗ (ko (pos 147573952589676412928))))
+    ≼ (((((ko (pos 2)) ⊗ (((va 0) ⊗ (ko (pos 72057594037927936))) ⊖ ((va 14) ⊗ (va 1)))) ⊗ (ko (pos 147573952589676412928)))
+    ⊕ ((ko (pos 1)) ⊗ ((va 1) ⊗ (ko (pos 72057594037927936))))) ⊗ ((va 3) ⊗ (va 11)))) ∷ (((ko (pos 32)) ⊗ (va 8)) ≼ (va 9))
+    ∷ ((ko (pos 0)) ≼ (va 8)) ∷ ((((ko (pos 16)) ⊗ ((va 16) ⊖ (va 14))) ⊕ (ko (pos 1))) ≼ ((ko (pos 15)) ⊗ (va 15)))
+    ∷ ((ko (pos 0)) ≼ (((va 0) ⊗ (ko (pos 72057594037927936))) ⊖ ((va 14) ⊗ (va 1)))) ∷ ((ko (pos 0)) ≼ (va 1)) ∷ ((ko (pos 0)) ≼ (va 3))
+    ∷ ((ko (pos 0)) ≼ (va 5)) ∷ ((ko (pos 0)) ≼ (va 7)) ∷ ((ko (pos 0)) ≼ (va 9)) ∷ ((ko (pos 0)) ≼ (va 11)) ∷ ((ko (pos 0)) ≼ (va 13)) ∷ [])
+    (((ko (pos 9223372036854775808)) ⊗ ((va 5) ⊗ ((va 7) ⊗ ((va 9) ⊗ ((va 3) ⊗ (va 11))))))
+    ⊗ ((ko (pos 15)) ⊗ ((((va 0) ⊗ (ko (pos 72057594037927936))) ⊖ (((va 14) ⊕ (va 15)) ⊗ (va 1))) ⊗ (va 13)))) (((ko (pos 9223372036854775808))
+    ⊗ ((va 5) ⊗ ((va 7) ⊗ ((va 9) ⊗ ((va 3) ⊗ (va 11)))))) ⊗ ((ko (pos 16)) ⊗ ((va 12) ⊗ ((va 1) ⊗ (ko (pos 72057594037927936))))))
+    (((((((((((((nm 147573952589676412928) ⊠ (hy 0)) ⊠ (hy 8)) ⊠ (hy 14)) ⊠ (hy 10)) ⊠ (hy 9)) ⊞ (((((nm 10633823966279326983230456482242756608) ⊠ (hy 1))
+    ⊠ (hy 14)) ⊠ (hy 11)) ⊠ (hy 13))) ⊞ ((((((nm 10633823966279326983230456482242756608) ⊠ (hy 2)) ⊠ (hy 8)) ⊠ (hy 12)) ⊠ (hy 9)) ⊠ (hy 13)))
+    ⊞ ((((((nm 1) ⊠ (hy 5)) ⊠ (hy 3)) ⊠ (hy 14)) ⊠ (hy 10)) ⊠ (hy 11))) ⊞ ((((((((nm 9223372036854775808) ⊠ (hy 4)) ⊠ (hy 7)) ⊠ (hy 14)) ⊠ (hy 10))
+    ⊠ (hy 11)) ⊠ (hy 9)) ⊠ (hy 13))) ⊞ ((((((((nm 2251799813685248) ⊠ (hy 4)) ⊠ (hy 8)) ⊠ (hy 14)) ⊠ (hy 10)) ⊠ (hy 11)) ⊠ (hy 9)) ⊠ (hy 13)))
+    ⊞ (((((((((nm 9223372036854775808) ⊠ (hy 6)) ⊠ (hy 8)) ⊠ (hy 14)) ⊠ (hy 10)) ⊠ (hy 11)) ⊠ (hy 12)) ⊠ (hy 9)) ⊠ (hy 13)))
+    ⊞ ((((((((nm 9221120237041090560) ⊠ (hy 8)) ⊠ (hy 14)) ⊠ (hy 10)) ⊠ (hy 11)) ⊠ (hy 12)) ⊠ (hy 9)) ⊠ (hy 13))) refl (
+      h0,
+      (
+        h1,
+        (
+          h2,
+          (
+            h3,
+            (
+              h4,
+              (
+                h5,
+                (
+                  h6,
+                  (
+                    h7,
+                    (
+                      weak (pos 0) ed h8,
+                      (
+                        weak (pos 0) sd h9,
+                        (weak (pos 0) md h10, (weak (pos 0) nd h11, (weak (pos 0) pd h12, (weak (pos 0) td h13, (weak (pos 0) dd h14, tt))))),
+                      ),
+                    ),
+                  ),
+                ),
+              ),
+            ),
+          ),
+        ),
+      ),
+    ))
 
 pub lower : (en ed sn sd mn md nn nd pn pd tn td dn dd x r h : ℤ)
     → (h *ℤ (nd *ℤ (pd *ℤ td))) ≤ℤ (((nn *ℤ (pd *ℤ td)) +ℤ ((pn *ℤ tn) *ℤ nd)) *ℤ (pos 72057594037927936))
     → (mn *ℤ (ed *ℤ (pd *ℤ sd))) ≤ℤ (((en *ℤ (pd *ℤ sd)) -ℤ ((pn *ℤ sn) *ℤ ed)) *ℤ md) → (((nn *ℤ md) -ℤ (mn *ℤ nd)) *ℤ dd) ≤ℤ (dn *ℤ (nd *ℤ md))
     → (((tn *ℤ sd) -ℤ (sn *ℤ td)) *ℤ ((ed *ℤ (pos 72057594037927936)) *ℤ (pos 147573952589676412928)))
-      ≤ℤ (((((pos 2) *ℤ ((x *ℤ ed) -ℤ (en *ℤ (pos 72057594037927936)))) *ℤ (pos 147573952589676412928)) +ℤ ((pos 1) *ℤ (ed *ℤ (pos 72057594037927936))))
-      *ℤ (td *ℤ sd)) → ((pos 32) *ℤ pn) ≤ℤ pd → (pos 0) ≤ℤ pn → (((pos 16) *ℤ (x -ℤ h)) +ℤ (pos 1)) ≤ℤ ((pos 15) *ℤ r)
+    ≤ℤ (((((pos 2) *ℤ ((x *ℤ ed) -ℤ (en *ℤ (pos 72057594037927936)))) *ℤ (pos 147573952589676412928)) +ℤ ((pos 1) *ℤ (ed *ℤ (pos 72057594037927936))))
+    *ℤ (td *ℤ sd)) → ((pos 32) *ℤ pn) ≤ℤ pd → (pos 0) ≤ℤ pn → (((pos 16) *ℤ (x -ℤ h)) +ℤ (pos 1)) ≤ℤ ((pos 15) *ℤ r)
     → (pos 0) ≤ℤ ((x *ℤ ed) -ℤ (en *ℤ (pos 72057594037927936))) → (pos 0) <ℤ ed → (pos 0) <ℤ sd → (pos 0) <ℤ md → (pos 0) <ℤ nd → (pos 0) <ℤ pd → (pos 0) <ℤ td
     → (pos 0) <ℤ dd → ((pos 15) *ℤ ((((x -ℤ r) *ℤ ed) -ℤ (en *ℤ (pos 72057594037927936))) *ℤ dd)) ≤ℤ ((pos 16) *ℤ (dn *ℤ (ed *ℤ (pos 72057594037927936))))
 lower en ed sn sd mn md nn nd pn pd tn td dn dd x r h h0 h1 h2 h3 h4 h5 h6 h7 h8 h9 h10 h11 h12 h13 h14 =
     cancel ((pos 9223372036854775808) *ℤ (md *ℤ (nd *ℤ (pd *ℤ (sd *ℤ td)))))
-        ((pos 15) *ℤ ((((x -ℤ r) *ℤ ed) -ℤ (en *ℤ (pos 72057594037927936))) *ℤ dd)) ((pos 16) *ℤ (dn *ℤ (ed *ℤ (pos 72057594037927936))))
-        (mul_positive (pos 9223372036854775808) (md *ℤ (nd *ℤ (pd *ℤ (sd *ℤ td)))) (lt_pos 0 9223372036854775808 (lit< tt)) (mul_positive md
-            (nd *ℤ (pd *ℤ (sd *ℤ td))) h10 (mul_positive nd (pd *ℤ (sd *ℤ td)) h11 (mul_positive pd (sd *ℤ td) h12 (mul_positive sd td h9 h13)))))
-        (cert (en ∷ ed ∷ sn ∷ sd ∷ mn ∷ md ∷ nn ∷ nd ∷ pn ∷ pd ∷ tn ∷ td ∷ dn ∷ dd ∷ x ∷ r ∷ h ∷ [])
-          ((((va 16) ⊗ ((va 7) ⊗ ((va 9) ⊗ (va 11)))) ≼ ((((va 6) ⊗ ((va 9) ⊗ (va 11))) ⊕ (((va 8) ⊗ (va 10)) ⊗ (va 7))) ⊗ (ko (pos 72057594037927936))))
-            ∷ (((va 4) ⊗ ((va 1) ⊗ ((va 9) ⊗ (va 3)))) ≼ ((((va 0) ⊗ ((va 9) ⊗ (va 3))) ⊖ (((va 8) ⊗ (va 2)) ⊗ (va 1))) ⊗ (va 5)))
-            ∷ (((((va 6) ⊗ (va 5)) ⊖ ((va 4) ⊗ (va 7))) ⊗ (va 13)) ≼ ((va 12) ⊗ ((va 7) ⊗ (va 5))))
-            ∷ (((((va 10) ⊗ (va 3)) ⊖ ((va 2) ⊗ (va 11))) ⊗ (((va 1) ⊗ (ko (pos 72057594037927936))) ⊗ (ko (pos 147573952589676412928))))
-              ≼ (((((ko (pos 2)) ⊗ (((va 14) ⊗ (va 1)) ⊖ ((va 0) ⊗ (ko (pos 72057594037927936))))) ⊗ (ko (pos 147573952589676412928)))
-                ⊕ ((ko (pos 1)) ⊗ ((va 1) ⊗ (ko (pos 72057594037927936))))) ⊗ ((va 11) ⊗ (va 3)))) ∷ (((ko (pos 32)) ⊗ (va 8)) ≼ (va 9))
-            ∷ ((ko (pos 0)) ≼ (va 8)) ∷ ((((ko (pos 16)) ⊗ ((va 14) ⊖ (va 16))) ⊕ (ko (pos 1))) ≼ ((ko (pos 15)) ⊗ (va 15)))
-            ∷ ((ko (pos 0)) ≼ (((va 14) ⊗ (va 1)) ⊖ ((va 0) ⊗ (ko (pos 72057594037927936))))) ∷ ((ko (pos 0)) ≼ (va 1)) ∷ ((ko (pos 0)) ≼ (va 3))
-            ∷ ((ko (pos 0)) ≼ (va 5)) ∷ ((ko (pos 0)) ≼ (va 7)) ∷ ((ko (pos 0)) ≼ (va 9)) ∷ ((ko (pos 0)) ≼ (va 11)) ∷ ((ko (pos 0)) ≼ (va 13)) ∷ [])
-          (((ko (pos 9223372036854775808)) ⊗ ((va 5) ⊗ ((va 7) ⊗ ((va 9) ⊗ ((va 3) ⊗ (va 11))))))
-            ⊗ ((ko (pos 15)) ⊗ (((((va 14) ⊖ (va 15)) ⊗ (va 1)) ⊖ ((va 0) ⊗ (ko (pos 72057594037927936)))) ⊗ (va 13)))) (((ko (pos 9223372036854775808))
-            ⊗ ((va 5) ⊗ ((va 7) ⊗ ((va 9) ⊗ ((va 3) ⊗ (va 11)))))) ⊗ ((ko (pos 16)) ⊗ ((va 12) ⊗ ((va 1) ⊗ (ko (pos 72057594037927936))))))
-          (((((((((((((nm 147573952589676412928) ⊠ (hy 0)) ⊠ (hy 8)) ⊠ (hy 14)) ⊠ (hy 10)) ⊠ (hy 9)) ⊞ (((((nm 10633823966279326983230456482242756608) ⊠ (hy 1))
-              ⊠ (hy 14)) ⊠ (hy 11)) ⊠ (hy 13))) ⊞ ((((((nm 10633823966279326983230456482242756608) ⊠ (hy 2)) ⊠ (hy 8)) ⊠ (hy 12)) ⊠ (hy 9)) ⊠ (hy 13)))
-            ⊞ ((((((nm 1) ⊠ (hy 5)) ⊠ (hy 3)) ⊠ (hy 14)) ⊠ (hy 10)) ⊠ (hy 11))) ⊞ ((((((((nm 9223372036854775808) ⊠ (hy 4)) ⊠ (hy 7)) ⊠ (hy 14)) ⊠ (hy 10))
-              ⊠ (hy 11)) ⊠ (hy 9)) ⊠ (hy 13))) ⊞ ((((((((nm 2251799813685248) ⊠ (hy 4)) ⊠ (hy 8)) ⊠ (hy 14)) ⊠ (hy 10)) ⊠ (hy 11)) ⊠ (hy 9)) ⊠ (hy 13)))
-            ⊞ (((((((((nm 9223372036854775808) ⊠ (hy 6)) ⊠ (hy 8)) ⊠ (hy 14)) ⊠ (hy 10)) ⊠ (hy 11)) ⊠ (hy 12)) ⊠ (hy 9)) ⊠ (hy 13)))
-            ⊞ ((((((((nm 9221120237041090560) ⊠ (hy 8)) ⊠ (hy 14)) ⊠ (hy 10)) ⊠ (hy 11)) ⊠ (hy 12)) ⊠ (hy 9)) ⊠ (hy 13))) refl
-          (h0, (h1, (h2, (h3, (h4, (h5, (h6, (h7, (weak (pos 0) ed h8, (weak (pos 0) sd h9,
-                    (weak (pos 0) md h10, (weak (pos 0) nd h11, (weak (pos 0) pd h12, (weak (pos 0) td h13, (weak (pos 0) dd h14, tt))))))))))))))))
+    ((pos 15) *ℤ ((((x -ℤ r) *ℤ ed) -ℤ (en *ℤ (pos 72057594037927936))) *ℤ dd)) ((pos 16) *ℤ (dn *ℤ (ed *ℤ (pos 72057594037927936))))
+    (mul_positive (pos 9223372036854775808) (md *ℤ (nd *ℤ (pd *ℤ (sd *ℤ td)))) (lt_pos 0 9223372036854775808 (lit< tt)) (mul_positive md
+    (nd *ℤ (pd *ℤ (sd *ℤ td))) h10 (mul_positive nd (pd *ℤ (sd *ℤ td)) h11 (mul_positive pd (sd *ℤ td) h12 (mul_positive sd td h9 h13)))))
+    (cert (en ∷ ed ∷ sn ∷ sd ∷ mn ∷ md ∷ nn ∷ nd ∷ pn ∷ pd ∷ tn ∷ td ∷ dn ∷ dd ∷ x ∷ r ∷ h ∷ [])
+    ((((va 16) ⊗ ((va 7) ⊗ ((va 9) ⊗ (va 11)))) ≼ ((((va 6) ⊗ ((va 9) ⊗ (va 11))) ⊕ (((va 8) ⊗ (va 10)) ⊗ (va 7))) ⊗ (ko (pos 72057594037927936))))
+    ∷ (((va 4) ⊗ ((va 1) ⊗ ((va 9) ⊗ (va 3)))) ≼ ((((va 0) ⊗ ((va 9) ⊗ (va 3))) ⊖ (((va 8) ⊗ (va 2)) ⊗ (va 1))) ⊗ (va 5)))
+    ∷ (((((va 6) ⊗ (va 5)) ⊖ ((va 4) ⊗ (va 7))) ⊗ (va 13)) ≼ ((va 12) ⊗ ((va 7) ⊗ (va 5))))
+    ∷ (((((va 10) ⊗ (va 3)) ⊖ ((va 2) ⊗ (va 11))) ⊗ (((va 1) ⊗ (ko (pos 72057594037927936))) ⊗ (ko (pos 147573952589676412928))))
+    ≼ (((((ko (pos 2)) ⊗ (((va 14) ⊗ (va 1)) ⊖ ((va 0) ⊗ (ko (pos 72057594037927936))))) ⊗ (ko (pos 147573952589676412928)))
+    ⊕ ((ko (pos 1)) ⊗ ((va 1) ⊗ (ko (pos 72057594037927936))))) ⊗ ((va 11) ⊗ (va 3)))) ∷ (((ko (pos 32)) ⊗ (va 8)) ≼ (va 9))
+    ∷ ((ko (pos 0)) ≼ (va 8)) ∷ ((((ko (pos 16)) ⊗ ((va 14) ⊖ (va 16))) ⊕ (ko (pos 1))) ≼ ((ko (pos 15)) ⊗ (va 15)))
+    ∷ ((ko (pos 0)) ≼ (((va 14) ⊗ (va 1)) ⊖ ((va 0) ⊗ (ko (pos 72057594037927936))))) ∷ ((ko (pos 0)) ≼ (va 1)) ∷ ((ko (pos 0)) ≼ (va 3))
+    ∷ ((ko (pos 0)) ≼ (va 5)) ∷ ((ko (pos 0)) ≼ (va 7)) ∷ ((ko (pos 0)) ≼ (va 9)) ∷ ((ko (pos 0)) ≼ (va 11)) ∷ ((ko (pos 0)) ≼ (va 13)) ∷ [])
+    (((ko (pos 9223372036854775808)) ⊗ ((va 5) ⊗ ((va 7) ⊗ ((va 9) ⊗ ((va 3) ⊗ (va 11))))))
+    ⊗ ((ko (pos 15)) ⊗ (((((va 14) ⊖ (va 15)) ⊗ (va 1)) ⊖ ((va 0) ⊗ (ko (pos 72057594037927936)))) ⊗ (va 13)))) (((ko (pos 9223372036854775808))
+    ⊗ ((va 5) ⊗ ((va 7) ⊗ ((va 9) ⊗ ((va 3) ⊗ (va 11)))))) ⊗ ((ko (pos 16)) ⊗ ((va 12) ⊗ ((va 1) ⊗ (ko (pos 72057594037927936))))))
+    (((((((((((((nm 147573952589676412928) ⊠ (hy 0)) ⊠ (hy 8)) ⊠ (hy 14)) ⊠ (hy 10)) ⊠ (hy 9)) ⊞ (((((nm 10633823966279326983230456482242756608) ⊠ (hy 1))
+    ⊠ (hy 14)) ⊠ (hy 11)) ⊠ (hy 13))) ⊞ ((((((nm 10633823966279326983230456482242756608) ⊠ (hy 2)) ⊠ (hy 8)) ⊠ (hy 12)) ⊠ (hy 9)) ⊠ (hy 13)))
+    ⊞ ((((((nm 1) ⊠ (hy 5)) ⊠ (hy 3)) ⊠ (hy 14)) ⊠ (hy 10)) ⊠ (hy 11))) ⊞ ((((((((nm 9223372036854775808) ⊠ (hy 4)) ⊠ (hy 7)) ⊠ (hy 14)) ⊠ (hy 10))
+    ⊠ (hy 11)) ⊠ (hy 9)) ⊠ (hy 13))) ⊞ ((((((((nm 2251799813685248) ⊠ (hy 4)) ⊠ (hy 8)) ⊠ (hy 14)) ⊠ (hy 10)) ⊠ (hy 11)) ⊠ (hy 9)) ⊠ (hy 13)))
+    ⊞ (((((((((nm 9223372036854775808) ⊠ (hy 6)) ⊠ (hy 8)) ⊠ (hy 14)) ⊠ (hy 10)) ⊠ (hy 11)) ⊠ (hy 12)) ⊠ (hy 9)) ⊠ (hy 13)))
+    ⊞ ((((((((nm 9221120237041090560) ⊠ (hy 8)) ⊠ (hy 14)) ⊠ (hy 10)) ⊠ (hy 11)) ⊠ (hy 12)) ⊠ (hy 9)) ⊠ (hy 13))) refl (
+      h0,
+      (
+        h1,
+        (
+          h2,
+          (
+            h3,
+            (
+              h4,
+              (
+                h5,
+                (
+                  h6,
+                  (
+                    h7,
+                    (
+                      weak (pos 0) ed h8,
+                      (
+                        weak (pos 0) sd h9,
+                        (weak (pos 0) md h10, (weak (pos 0) nd h11, (weak (pos 0) pd h12, (weak (pos 0) td h13, (weak (pos 0) dd h14, tt))))),
+                      ),
+                    ),
+                  ),
+                ),
+              ),
+            ),
+          ),
+        ),
+      ),
+    ))
 
 pub upper_easy : (en ed dn dd x r : ℤ) → (en *ℤ (pos 72057594037927936)) ≤ℤ (x *ℤ ed) → (pos 0) ≤ℤ r → (pos 0) ≤ℤ dn → (pos 0) ≤ℤ ed → (pos 0) ≤ℤ dd
     → ((pos 15) *ℤ (((en *ℤ (pos 72057594037927936)) -ℤ ((x +ℤ r) *ℤ ed)) *ℤ dd)) ≤ℤ ((pos 16) *ℤ (dn *ℤ (ed *ℤ (pos 72057594037927936))))
 upper_easy en ed dn dd x r h0 h1 h2 h3 h4 =
     cert (en ∷ ed ∷ dn ∷ dd ∷ x ∷ r ∷ [])
-        ((((va 0) ⊗ (ko (pos 72057594037927936))) ≼ ((va 4) ⊗ (va 1))) ∷ ((ko (pos 0)) ≼ (va 5)) ∷ ((ko (pos 0)) ≼ (va 2)) ∷ ((ko (pos 0)) ≼ (va 1))
-          ∷ ((ko (pos 0)) ≼ (va 3)) ∷ []) ((ko (pos 15)) ⊗ ((((va 0) ⊗ (ko (pos 72057594037927936))) ⊖ (((va 4) ⊕ (va 5)) ⊗ (va 1))) ⊗ (va 3)))
-        ((ko (pos 16)) ⊗ ((va 2) ⊗ ((va 1) ⊗ (ko (pos 72057594037927936))))) (((((nm 15) ⊠ (hy 4)) ⊠ (hy 0)) ⊞ ((((nm 15) ⊠ (hy 4)) ⊠ (hy 3)) ⊠ (hy 1)))
-          ⊞ (((nm 1152921504606846976) ⊠ (hy 2)) ⊠ (hy 3))) refl (h0, (h1, (h2, (h3, (h4, tt)))))
+    ((((va 0) ⊗ (ko (pos 72057594037927936))) ≼ ((va 4) ⊗ (va 1))) ∷ ((ko (pos 0)) ≼ (va 5)) ∷ ((ko (pos 0)) ≼ (va 2)) ∷ ((ko (pos 0)) ≼ (va 1))
+    ∷ ((ko (pos 0)) ≼ (va 3)) ∷ []) ((ko (pos 15)) ⊗ ((((va 0) ⊗ (ko (pos 72057594037927936))) ⊖ (((va 4) ⊕ (va 5)) ⊗ (va 1))) ⊗ (va 3)))
+    ((ko (pos 16)) ⊗ ((va 2) ⊗ ((va 1) ⊗ (ko (pos 72057594037927936))))) (((((nm 15) ⊠ (hy 4)) ⊠ (hy 0)) ⊞ ((((nm 15) ⊠ (hy 4)) ⊠ (hy 3)) ⊠ (hy 1)))
+    ⊞ (((nm 1152921504606846976) ⊠ (hy 2)) ⊠ (hy 3))) refl (h0, (h1, (h2, (h3, (h4, tt)))))
 
 pub lower_easy : (en ed dn dd x r : ℤ) → (x *ℤ ed) ≤ℤ (en *ℤ (pos 72057594037927936)) → (pos 0) ≤ℤ r → (pos 0) ≤ℤ dn → (pos 0) ≤ℤ ed → (pos 0) ≤ℤ dd
     → ((pos 15) *ℤ ((((x -ℤ r) *ℤ ed) -ℤ (en *ℤ (pos 72057594037927936))) *ℤ dd)) ≤ℤ ((pos 16) *ℤ (dn *ℤ (ed *ℤ (pos 72057594037927936))))
 lower_easy en ed dn dd x r h0 h1 h2 h3 h4 =
     cert (en ∷ ed ∷ dn ∷ dd ∷ x ∷ r ∷ [])
-        ((((va 4) ⊗ (va 1)) ≼ ((va 0) ⊗ (ko (pos 72057594037927936)))) ∷ ((ko (pos 0)) ≼ (va 5)) ∷ ((ko (pos 0)) ≼ (va 2)) ∷ ((ko (pos 0)) ≼ (va 1))
-          ∷ ((ko (pos 0)) ≼ (va 3)) ∷ []) ((ko (pos 15)) ⊗ (((((va 4) ⊖ (va 5)) ⊗ (va 1)) ⊖ ((va 0) ⊗ (ko (pos 72057594037927936)))) ⊗ (va 3)))
-        ((ko (pos 16)) ⊗ ((va 2) ⊗ ((va 1) ⊗ (ko (pos 72057594037927936))))) (((((nm 15) ⊠ (hy 4)) ⊠ (hy 0)) ⊞ ((((nm 15) ⊠ (hy 4)) ⊠ (hy 3)) ⊠ (hy 1)))
-          ⊞ (((nm 1152921504606846976) ⊠ (hy 2)) ⊠ (hy 3))) refl (h0, (h1, (h2, (h3, (h4, tt)))))
+    ((((va 4) ⊗ (va 1)) ≼ ((va 0) ⊗ (ko (pos 72057594037927936)))) ∷ ((ko (pos 0)) ≼ (va 5)) ∷ ((ko (pos 0)) ≼ (va 2)) ∷ ((ko (pos 0)) ≼ (va 1))
+    ∷ ((ko (pos 0)) ≼ (va 3)) ∷ []) ((ko (pos 15)) ⊗ (((((va 4) ⊖ (va 5)) ⊗ (va 1)) ⊖ ((va 0) ⊗ (ko (pos 72057594037927936)))) ⊗ (va 3)))
+    ((ko (pos 16)) ⊗ ((va 2) ⊗ ((va 1) ⊗ (ko (pos 72057594037927936))))) (((((nm 15) ⊠ (hy 4)) ⊠ (hy 0)) ⊞ ((((nm 15) ⊠ (hy 4)) ⊠ (hy 3)) ⊠ (hy 1)))
+    ⊞ (((nm 1152921504606846976) ⊠ (hy 2)) ⊠ (hy 3))) refl (h0, (h1, (h2, (h3, (h4, tt)))))
 
 pub own_near : (z w : ℤ) → (pos 0) ≤ℤ z → (z *ℤ w) ≤ℤ (z *ℤ w)
 own_near z w h0 =
@@ -111,7 +167,7 @@ back_near a b w h0 h1 =
 pub back_turned : (a b u w : ℤ) → (pos 0) ≤ℤ (a -ℤ b) → (pos 0) ≤ℤ (u *ℤ w) → ((b -ℤ a) *ℤ (u *ℤ w)) ≤ℤ ((a -ℤ b) *ℤ (w *ℤ u))
 back_turned a b u w h0 h1 =
     cert (a ∷ b ∷ u ∷ w ∷ []) (((ko (pos 0)) ≼ ((va 0) ⊖ (va 1))) ∷ ((ko (pos 0)) ≼ ((va 2) ⊗ (va 3))) ∷ []) (((va 1) ⊖ (va 0)) ⊗ ((va 2) ⊗ (va 3)))
-        (((va 0) ⊖ (va 1)) ⊗ ((va 3) ⊗ (va 2))) (((nm 2) ⊠ (hy 0)) ⊠ (hy 1)) refl (h0, (h1, tt))
+    (((va 0) ⊖ (va 1)) ⊗ ((va 3) ⊗ (va 2))) (((nm 2) ⊠ (hy 0)) ⊠ (hy 1)) refl (h0, (h1, tt))
 
 -- ---- the solution, seen from x
 pub record IsSeen (x r lo hi : ℤ) (d mean other e angle c s t : Rational) : Type 0 where
@@ -145,9 +201,11 @@ above_is x r lo hi d mean other e angle c s c' t g k = by_lt_z (angle.num *ℤ p
     let z0 : pos 0 ≤ℤ z = apart_nn (angle.num *ℤ pos (2 ^ 56)) (x *ℤ pos angle.den) l in
     let w : ℤ = pos angle.den *ℤ pos (2 ^ 56) in
     let far : Rational = record { num = z; den = angle.den * 2 ^ 56; positive = mul-pos angle.positive (pow_pos 56) } in
-    let n : AreWithin far angle (of_scale 56 x) =
-        (own_near z (pos angle.den *ℤ pos (2 ^ 56)) z0, back_turned (angle.num *ℤ pos (2 ^ 56)) (x *ℤ pos angle.den) (pos angle.den) (pos (2 ^ 56)) z0
-          (weak _ _ (lt_pos 0 (angle.den * 2 ^ 56) far.positive))) in
+    let n : AreWithin far angle (of_scale 56 x) = (
+      own_near z (pos angle.den *ℤ pos (2 ^ 56)) z0,
+      back_turned (angle.num *ℤ pos (2 ^ 56)) (x *ℤ pos angle.den) (pos angle.den) (pos (2 ^ 56)) z0
+          (weak _ _ (lt_pos 0 (angle.den * 2 ^ 56) far.positive)),
+    ) in
     let law = sharp_law 5 far angle (of_scale 56 x) c s c' t (lit≤ tt) g.is_anomaly.is_pair k n in
     upper angle.num (pos angle.den) s.num (pos s.den) mean.num (pos mean.den) other.num (pos other.den) e.num (pos e.den) t.num (pos t.den) d.num (pos d.den) x r hi
     g.held.1 (le_of (sym g.is_anomaly.equation)) g.near.0 law.1.0 g.e_high g.e_low g.above z0 (positive_of angle) (positive_of s) (positive_of mean)
@@ -161,9 +219,10 @@ below_is x r lo hi d mean other e angle c s c' t g k = by_lt_z (x *ℤ pos angle
     let z : ℤ = (x *ℤ pos angle.den) -ℤ (angle.num *ℤ pos (2 ^ 56)) in
     let z0 : pos 0 ≤ℤ z = apart_nn (x *ℤ pos angle.den) (angle.num *ℤ pos (2 ^ 56)) l in
     let far : Rational = record { num = z; den = angle.den * 2 ^ 56; positive = mul-pos angle.positive (pow_pos 56) } in
-    let n : AreWithin far angle (of_scale 56 x) =
-        (back_near (x *ℤ pos angle.den) (angle.num *ℤ pos (2 ^ 56)) (pos angle.den *ℤ pos (2 ^ 56)) z0 (weak _ _ (lt_pos 0 (angle.den * 2 ^ 56) far.positive)),
-          turned z (pos angle.den) (pos (2 ^ 56))) in
+    let n : AreWithin far angle (of_scale 56 x) = (
+      back_near (x *ℤ pos angle.den) (angle.num *ℤ pos (2 ^ 56)) (pos angle.den *ℤ pos (2 ^ 56)) z0 (weak _ _ (lt_pos 0 (angle.den * 2 ^ 56) far.positive)),
+      turned z (pos angle.den) (pos (2 ^ 56)),
+    ) in
     let law = sharp_law 5 far angle (of_scale 56 x) c s c' t (lit≤ tt) g.is_anomaly.is_pair k n in
     lower angle.num (pos angle.den) s.num (pos s.den) mean.num (pos mean.den) other.num (pos other.den) e.num (pos e.den) t.num (pos t.den) d.num (pos d.den) x r lo
     g.held.0 (le_of g.is_anomaly.equation) g.near.1 law.1.1 g.e_high g.e_low g.below z0 (positive_of angle) (positive_of s) (positive_of mean)
@@ -173,74 +232,74 @@ below_is x r lo hi d mean other e angle c s c' t g k = by_lt_z (x *ℤ pos angle
     turned z a b = le_of (ring (z ∷ a ∷ b ∷ []) (va 0 ⊗ (va 1 ⊗ va 2)) (va 0 ⊗ (va 2 ⊗ va 1)) refl)
 
 pub plain_high : (en ed x r : ℤ) → ((pos 15) *ℤ (((en *ℤ (pos 72057594037927936)) -ℤ ((x +ℤ r) *ℤ ed)) *ℤ (pos 1)))
-      ≤ℤ ((pos 16) *ℤ ((pos 0) *ℤ (ed *ℤ (pos 72057594037927936)))) → (en *ℤ (pos 72057594037927936)) ≤ℤ ((x +ℤ r) *ℤ ed)
+    ≤ℤ ((pos 16) *ℤ ((pos 0) *ℤ (ed *ℤ (pos 72057594037927936)))) → (en *ℤ (pos 72057594037927936)) ≤ℤ ((x +ℤ r) *ℤ ed)
 plain_high en ed x r h0 =
     cancel (pos 15) (en *ℤ (pos 72057594037927936)) ((x +ℤ r) *ℤ ed) (omega (arith, ints))
-        (cert (en ∷ ed ∷ x ∷ r ∷ []) ((((ko (pos 15)) ⊗ ((((va 0) ⊗ (ko (pos 72057594037927936))) ⊖ (((va 2) ⊕ (va 3)) ⊗ (va 1))) ⊗ (ko (pos 1))))
-            ≼ ((ko (pos 16)) ⊗ ((ko (pos 0)) ⊗ ((va 1) ⊗ (ko (pos 72057594037927936)))))) ∷ []) ((ko (pos 15)) ⊗ ((va 0) ⊗ (ko (pos 72057594037927936))))
-          ((ko (pos 15)) ⊗ (((va 2) ⊕ (va 3)) ⊗ (va 1))) (hy 0) refl (h0, tt))
+    (cert (en ∷ ed ∷ x ∷ r ∷ []) ((((ko (pos 15)) ⊗ ((((va 0) ⊗ (ko (pos 72057594037927936))) ⊖ (((va 2) ⊕ (va 3)) ⊗ (va 1))) ⊗ (ko (pos 1))))
+    ≼ ((ko (pos 16)) ⊗ ((ko (pos 0)) ⊗ ((va 1) ⊗ (ko (pos 72057594037927936)))))) ∷ []) ((ko (pos 15)) ⊗ ((va 0) ⊗ (ko (pos 72057594037927936))))
+    ((ko (pos 15)) ⊗ (((va 2) ⊕ (va 3)) ⊗ (va 1))) (hy 0) refl (h0, tt))
 
 pub plain_low : (en ed x r : ℤ) → ((pos 15) *ℤ ((((x -ℤ r) *ℤ ed) -ℤ (en *ℤ (pos 72057594037927936))) *ℤ (pos 1)))
-      ≤ℤ ((pos 16) *ℤ ((pos 0) *ℤ (ed *ℤ (pos 72057594037927936)))) → ((x -ℤ r) *ℤ ed) ≤ℤ (en *ℤ (pos 72057594037927936))
+    ≤ℤ ((pos 16) *ℤ ((pos 0) *ℤ (ed *ℤ (pos 72057594037927936)))) → ((x -ℤ r) *ℤ ed) ≤ℤ (en *ℤ (pos 72057594037927936))
 plain_low en ed x r h0 =
     cancel (pos 15) ((x -ℤ r) *ℤ ed) (en *ℤ (pos 72057594037927936)) (omega (arith, ints))
-        (cert (en ∷ ed ∷ x ∷ r ∷ []) ((((ko (pos 15)) ⊗ (((((va 2) ⊖ (va 3)) ⊗ (va 1)) ⊖ ((va 0) ⊗ (ko (pos 72057594037927936)))) ⊗ (ko (pos 1))))
-            ≼ ((ko (pos 16)) ⊗ ((ko (pos 0)) ⊗ ((va 1) ⊗ (ko (pos 72057594037927936)))))) ∷ []) ((ko (pos 15)) ⊗ (((va 2) ⊖ (va 3)) ⊗ (va 1)))
-          ((ko (pos 15)) ⊗ ((va 0) ⊗ (ko (pos 72057594037927936)))) (hy 0) refl (h0, tt))
+    (cert (en ∷ ed ∷ x ∷ r ∷ []) ((((ko (pos 15)) ⊗ (((((va 2) ⊖ (va 3)) ⊗ (va 1)) ⊖ ((va 0) ⊗ (ko (pos 72057594037927936)))) ⊗ (ko (pos 1))))
+    ≼ ((ko (pos 16)) ⊗ ((ko (pos 0)) ⊗ ((va 1) ⊗ (ko (pos 72057594037927936)))))) ∷ []) ((ko (pos 15)) ⊗ (((va 2) ⊖ (va 3)) ⊗ (va 1)))
+    ((ko (pos 15)) ⊗ ((va 0) ⊗ (ko (pos 72057594037927936)))) (hy 0) refl (h0, tt))
 
 pub high_near : (en ed dn dd x r : ℤ)
     → ((pos 15) *ℤ (((en *ℤ (pos 72057594037927936)) -ℤ ((x +ℤ r) *ℤ ed)) *ℤ dd)) ≤ℤ ((pos 16) *ℤ (dn *ℤ (ed *ℤ (pos 72057594037927936)))) → (pos 0) ≤ℤ dn
     → (pos 0) ≤ℤ ed → (((en *ℤ (pos 72057594037927936)) -ℤ ((x +ℤ r) *ℤ ed)) *ℤ dd) ≤ℤ (((pos 2) *ℤ dn) *ℤ (ed *ℤ (pos 72057594037927936)))
 high_near en ed dn dd x r h0 h1 h2 =
     cancel (pos 15) (((en *ℤ (pos 72057594037927936)) -ℤ ((x +ℤ r) *ℤ ed)) *ℤ dd) (((pos 2) *ℤ dn) *ℤ (ed *ℤ (pos 72057594037927936))) (omega (arith, ints))
-        (cert (en ∷ ed ∷ dn ∷ dd ∷ x ∷ r ∷ []) ((((ko (pos 15)) ⊗ ((((va 0) ⊗ (ko (pos 72057594037927936))) ⊖ (((va 4) ⊕ (va 5)) ⊗ (va 1))) ⊗ (va 3)))
-            ≼ ((ko (pos 16)) ⊗ ((va 2) ⊗ ((va 1) ⊗ (ko (pos 72057594037927936)))))) ∷ ((ko (pos 0)) ≼ (va 2)) ∷ ((ko (pos 0)) ≼ (va 1)) ∷ [])
-          ((ko (pos 15)) ⊗ ((((va 0) ⊗ (ko (pos 72057594037927936))) ⊖ (((va 4) ⊕ (va 5)) ⊗ (va 1))) ⊗ (va 3)))
-          ((ko (pos 15)) ⊗ (((ko (pos 2)) ⊗ (va 2)) ⊗ ((va 1) ⊗ (ko (pos 72057594037927936)))))
-          ((hy 0) ⊞ (((nm 1008806316530991104) ⊠ (hy 1)) ⊠ (hy 2))) refl (h0, (h1, (h2, tt))))
+    (cert (en ∷ ed ∷ dn ∷ dd ∷ x ∷ r ∷ []) ((((ko (pos 15)) ⊗ ((((va 0) ⊗ (ko (pos 72057594037927936))) ⊖ (((va 4) ⊕ (va 5)) ⊗ (va 1))) ⊗ (va 3)))
+    ≼ ((ko (pos 16)) ⊗ ((va 2) ⊗ ((va 1) ⊗ (ko (pos 72057594037927936)))))) ∷ ((ko (pos 0)) ≼ (va 2)) ∷ ((ko (pos 0)) ≼ (va 1)) ∷ [])
+    ((ko (pos 15)) ⊗ ((((va 0) ⊗ (ko (pos 72057594037927936))) ⊖ (((va 4) ⊕ (va 5)) ⊗ (va 1))) ⊗ (va 3)))
+    ((ko (pos 15)) ⊗ (((ko (pos 2)) ⊗ (va 2)) ⊗ ((va 1) ⊗ (ko (pos 72057594037927936)))))
+    ((hy 0) ⊞ (((nm 1008806316530991104) ⊠ (hy 1)) ⊠ (hy 2))) refl (h0, (h1, (h2, tt))))
 
 pub high_back : (en ed dn dd x r : ℤ) → ((x +ℤ r) *ℤ ed) ≤ℤ (en *ℤ (pos 72057594037927936)) → (pos 0) ≤ℤ dn → (pos 0) ≤ℤ ed → (pos 0) ≤ℤ dd
     → ((((x +ℤ r) *ℤ ed) -ℤ (en *ℤ (pos 72057594037927936))) *ℤ dd) ≤ℤ (((pos 2) *ℤ dn) *ℤ ((pos 72057594037927936) *ℤ ed))
 high_back en ed dn dd x r h0 h1 h2 h3 =
     cert (en ∷ ed ∷ dn ∷ dd ∷ x ∷ r ∷ []) (((((va 4) ⊕ (va 5)) ⊗ (va 1)) ≼ ((va 0) ⊗ (ko (pos 72057594037927936)))) ∷ ((ko (pos 0)) ≼ (va 2))
-          ∷ ((ko (pos 0)) ≼ (va 1)) ∷ ((ko (pos 0)) ≼ (va 3)) ∷ []) (((((va 4) ⊕ (va 5)) ⊗ (va 1)) ⊖ ((va 0) ⊗ (ko (pos 72057594037927936)))) ⊗ (va 3))
-        (((ko (pos 2)) ⊗ (va 2)) ⊗ ((ko (pos 72057594037927936)) ⊗ (va 1))) (((hy 0) ⊠ (hy 3)) ⊞ (((nm 144115188075855872) ⊠ (hy 1)) ⊠ (hy 2))) refl
-        (h0, (h1, (h2, (h3, tt))))
+    ∷ ((ko (pos 0)) ≼ (va 1)) ∷ ((ko (pos 0)) ≼ (va 3)) ∷ []) (((((va 4) ⊕ (va 5)) ⊗ (va 1)) ⊖ ((va 0) ⊗ (ko (pos 72057594037927936)))) ⊗ (va 3))
+    (((ko (pos 2)) ⊗ (va 2)) ⊗ ((ko (pos 72057594037927936)) ⊗ (va 1))) (((hy 0) ⊠ (hy 3)) ⊞ (((nm 144115188075855872) ⊠ (hy 1)) ⊠ (hy 2))) refl
+    (h0, (h1, (h2, (h3, tt))))
 
 pub low_near : (en ed dn dd x r : ℤ)
     → ((pos 15) *ℤ ((((x -ℤ r) *ℤ ed) -ℤ (en *ℤ (pos 72057594037927936))) *ℤ dd)) ≤ℤ ((pos 16) *ℤ (dn *ℤ (ed *ℤ (pos 72057594037927936)))) → (pos 0) ≤ℤ dn
     → (pos 0) ≤ℤ ed → ((((x -ℤ r) *ℤ ed) -ℤ (en *ℤ (pos 72057594037927936))) *ℤ dd) ≤ℤ (((pos 2) *ℤ dn) *ℤ ((pos 72057594037927936) *ℤ ed))
 low_near en ed dn dd x r h0 h1 h2 =
     cancel (pos 15) ((((x -ℤ r) *ℤ ed) -ℤ (en *ℤ (pos 72057594037927936))) *ℤ dd) (((pos 2) *ℤ dn) *ℤ ((pos 72057594037927936) *ℤ ed)) (omega (arith, ints))
-        (cert (en ∷ ed ∷ dn ∷ dd ∷ x ∷ r ∷ []) ((((ko (pos 15)) ⊗ (((((va 4) ⊖ (va 5)) ⊗ (va 1)) ⊖ ((va 0) ⊗ (ko (pos 72057594037927936)))) ⊗ (va 3)))
-            ≼ ((ko (pos 16)) ⊗ ((va 2) ⊗ ((va 1) ⊗ (ko (pos 72057594037927936)))))) ∷ ((ko (pos 0)) ≼ (va 2)) ∷ ((ko (pos 0)) ≼ (va 1)) ∷ [])
-          ((ko (pos 15)) ⊗ (((((va 4) ⊖ (va 5)) ⊗ (va 1)) ⊖ ((va 0) ⊗ (ko (pos 72057594037927936)))) ⊗ (va 3)))
-          ((ko (pos 15)) ⊗ (((ko (pos 2)) ⊗ (va 2)) ⊗ ((ko (pos 72057594037927936)) ⊗ (va 1))))
-          ((hy 0) ⊞ (((nm 1008806316530991104) ⊠ (hy 1)) ⊠ (hy 2))) refl (h0, (h1, (h2, tt))))
+    (cert (en ∷ ed ∷ dn ∷ dd ∷ x ∷ r ∷ []) ((((ko (pos 15)) ⊗ (((((va 4) ⊖ (va 5)) ⊗ (va 1)) ⊖ ((va 0) ⊗ (ko (pos 72057594037927936)))) ⊗ (va 3)))
+    ≼ ((ko (pos 16)) ⊗ ((va 2) ⊗ ((va 1) ⊗ (ko (pos 72057594037927936)))))) ∷ ((ko (pos 0)) ≼ (va 2)) ∷ ((ko (pos 0)) ≼ (va 1)) ∷ [])
+    ((ko (pos 15)) ⊗ (((((va 4) ⊖ (va 5)) ⊗ (va 1)) ⊖ ((va 0) ⊗ (ko (pos 72057594037927936)))) ⊗ (va 3)))
+    ((ko (pos 15)) ⊗ (((ko (pos 2)) ⊗ (va 2)) ⊗ ((ko (pos 72057594037927936)) ⊗ (va 1))))
+    ((hy 0) ⊞ (((nm 1008806316530991104) ⊠ (hy 1)) ⊠ (hy 2))) refl (h0, (h1, (h2, tt))))
 
 pub low_back : (en ed dn dd x r : ℤ) → (en *ℤ (pos 72057594037927936)) ≤ℤ ((x -ℤ r) *ℤ ed) → (pos 0) ≤ℤ dn → (pos 0) ≤ℤ ed → (pos 0) ≤ℤ dd
     → (((en *ℤ (pos 72057594037927936)) -ℤ ((x -ℤ r) *ℤ ed)) *ℤ dd) ≤ℤ (((pos 2) *ℤ dn) *ℤ (ed *ℤ (pos 72057594037927936)))
 low_back en ed dn dd x r h0 h1 h2 h3 =
     cert (en ∷ ed ∷ dn ∷ dd ∷ x ∷ r ∷ []) ((((va 0) ⊗ (ko (pos 72057594037927936))) ≼ (((va 4) ⊖ (va 5)) ⊗ (va 1))) ∷ ((ko (pos 0)) ≼ (va 2))
-          ∷ ((ko (pos 0)) ≼ (va 1)) ∷ ((ko (pos 0)) ≼ (va 3)) ∷ []) ((((va 0) ⊗ (ko (pos 72057594037927936))) ⊖ (((va 4) ⊖ (va 5)) ⊗ (va 1))) ⊗ (va 3))
-        (((ko (pos 2)) ⊗ (va 2)) ⊗ ((va 1) ⊗ (ko (pos 72057594037927936)))) (((hy 0) ⊠ (hy 3)) ⊞ (((nm 144115188075855872) ⊠ (hy 1)) ⊠ (hy 2))) refl
-        (h0, (h1, (h2, (h3, tt))))
+    ∷ ((ko (pos 0)) ≼ (va 1)) ∷ ((ko (pos 0)) ≼ (va 3)) ∷ []) ((((va 0) ⊗ (ko (pos 72057594037927936))) ⊖ (((va 4) ⊖ (va 5)) ⊗ (va 1))) ⊗ (va 3))
+    (((ko (pos 2)) ⊗ (va 2)) ⊗ ((va 1) ⊗ (ko (pos 72057594037927936)))) (((hy 0) ⊠ (hy 3)) ⊞ (((nm 144115188075855872) ⊠ (hy 1)) ⊠ (hy 2))) refl
+    (h0, (h1, (h2, (h3, tt))))
 
 pub own_two : (n w dn dd : ℤ) → (pos 0) ≤ℤ dn → (pos 0) ≤ℤ w → (((n *ℤ w) -ℤ (n *ℤ w)) *ℤ dd) ≤ℤ (((pos 2) *ℤ dn) *ℤ (w *ℤ w))
 own_two n w dn dd h0 h1 =
     cert (n ∷ w ∷ dn ∷ dd ∷ []) (((ko (pos 0)) ≼ (va 2)) ∷ ((ko (pos 0)) ≼ (va 1)) ∷ []) ((((va 0) ⊗ (va 1)) ⊖ ((va 0) ⊗ (va 1))) ⊗ (va 3))
-        (((ko (pos 2)) ⊗ (va 2)) ⊗ ((va 1) ⊗ (va 1))) (((nm 2) ⊠ (hy 0)) ⊠ (sq (va 1))) refl (h0, (h1, tt))
+    (((ko (pos 2)) ⊗ (va 2)) ⊗ ((va 1) ⊗ (va 1))) (((nm 2) ⊠ (hy 0)) ⊠ (sq (va 1))) refl (h0, (h1, tt))
 
 pub looser : (g dn dd w : ℤ)
     → (g *ℤ (dd *ℤ (pos 147573952589676412928))) ≤ℤ (((((pos 2) *ℤ ((pos 2) *ℤ dn)) *ℤ (pos 147573952589676412928)) +ℤ ((pos 1) *ℤ dd)) *ℤ w) → (pos 0) ≤ℤ dd
     → (pos 0) ≤ℤ w → (g *ℤ (dd *ℤ (pos 1152921504606846976))) ≤ℤ (((((pos 4) *ℤ dn) *ℤ (pos 1152921504606846976)) +ℤ ((pos 1) *ℤ dd)) *ℤ w)
 looser g dn dd w h0 h1 h2 =
     cancel (pos 128) (g *ℤ (dd *ℤ (pos 1152921504606846976))) (((((pos 4) *ℤ dn) *ℤ (pos 1152921504606846976)) +ℤ ((pos 1) *ℤ dd)) *ℤ w) (omega (arith, ints))
-        (cert (g ∷ dn ∷ dd ∷ w ∷ []) ((((va 0) ⊗ ((va 2) ⊗ (ko (pos 147573952589676412928))))
-            ≼ (((((ko (pos 2)) ⊗ ((ko (pos 2)) ⊗ (va 1))) ⊗ (ko (pos 147573952589676412928))) ⊕ ((ko (pos 1)) ⊗ (va 2))) ⊗ (va 3)))
-            ∷ ((ko (pos 0)) ≼ (va 2)) ∷ ((ko (pos 0)) ≼ (va 3)) ∷ []) ((ko (pos 128)) ⊗ ((va 0) ⊗ ((va 2) ⊗ (ko (pos 1152921504606846976)))))
-          ((ko (pos 128)) ⊗ (((((ko (pos 4)) ⊗ (va 1)) ⊗ (ko (pos 1152921504606846976))) ⊕ ((ko (pos 1)) ⊗ (va 2))) ⊗ (va 3)))
-          ((hy 0) ⊞ (((nm 127) ⊠ (hy 1)) ⊠ (hy 2))) refl (h0, (h1, (h2, tt))))
+    (cert (g ∷ dn ∷ dd ∷ w ∷ []) ((((va 0) ⊗ ((va 2) ⊗ (ko (pos 147573952589676412928))))
+    ≼ (((((ko (pos 2)) ⊗ ((ko (pos 2)) ⊗ (va 1))) ⊗ (ko (pos 147573952589676412928))) ⊕ ((ko (pos 1)) ⊗ (va 2))) ⊗ (va 3)))
+    ∷ ((ko (pos 0)) ≼ (va 2)) ∷ ((ko (pos 0)) ≼ (va 3)) ∷ []) ((ko (pos 128)) ⊗ ((va 0) ⊗ ((va 2) ⊗ (ko (pos 1152921504606846976)))))
+    ((ko (pos 128)) ⊗ (((((ko (pos 4)) ⊗ (va 1)) ⊗ (ko (pos 1152921504606846976))) ⊕ ((ko (pos 1)) ⊗ (va 2))) ⊗ (va 3)))
+    ((hy 0) ⊞ (((nm 127) ⊠ (hy 1)) ⊠ (hy 2))) refl (h0, (h1, (h2, tt))))
 
 pub zero_near : (n w : ℤ) → (((n *ℤ w) -ℤ (n *ℤ w)) *ℤ (pos 1)) ≤ℤ ((pos 0) *ℤ (w *ℤ w))
 zero_near n w =
@@ -249,15 +308,15 @@ zero_near n w =
 pub e_bound : (n d h : ℤ) → (n *ℤ (pos 1152921504606846976)) ≤ℤ (h *ℤ d) → h ≤ℤ (pos 36028797018963968) → (pos 0) ≤ℤ d → ((pos 32) *ℤ n) ≤ℤ d
 e_bound n d h h0 h1 h2 =
     cancel (pos 36028797018963968) ((pos 32) *ℤ n) d (omega (arith, ints))
-        (cert (n ∷ d ∷ h ∷ []) ((((va 0) ⊗ (ko (pos 1152921504606846976))) ≼ ((va 2) ⊗ (va 1))) ∷ ((va 2) ≼ (ko (pos 36028797018963968)))
-            ∷ ((ko (pos 0)) ≼ (va 1)) ∷ []) ((ko (pos 36028797018963968)) ⊗ ((ko (pos 32)) ⊗ (va 0))) ((ko (pos 36028797018963968)) ⊗ (va 1))
-          ((hy 0) ⊞ ((hy 2) ⊠ (hy 1))) refl (h0, (h1, (h2, tt))))
+    (cert (n ∷ d ∷ h ∷ []) ((((va 0) ⊗ (ko (pos 1152921504606846976))) ≼ ((va 2) ⊗ (va 1))) ∷ ((va 2) ≼ (ko (pos 36028797018963968)))
+    ∷ ((ko (pos 0)) ≼ (va 1)) ∷ []) ((ko (pos 36028797018963968)) ⊗ ((ko (pos 32)) ⊗ (va 0))) ((ko (pos 36028797018963968)) ⊗ (va 1))
+    ((hy 0) ⊞ ((hy 2) ⊠ (hy 1))) refl (h0, (h1, (h2, tt))))
 
 pub e_sign : (n d l : ℤ) → (l *ℤ d) ≤ℤ (n *ℤ (pos 1152921504606846976)) → (pos 0) ≤ℤ l → (pos 0) ≤ℤ d → (pos 0) ≤ℤ n
 e_sign n d l h0 h1 h2 =
     cancel (pos 1152921504606846976) (pos 0) n (omega (arith, ints))
-        (cert (n ∷ d ∷ l ∷ []) ((((va 2) ⊗ (va 1)) ≼ ((va 0) ⊗ (ko (pos 1152921504606846976)))) ∷ ((ko (pos 0)) ≼ (va 2)) ∷ ((ko (pos 0)) ≼ (va 1)) ∷ [])
-          ((ko (pos 1152921504606846976)) ⊗ (ko (pos 0))) ((ko (pos 1152921504606846976)) ⊗ (va 0)) ((hy 0) ⊞ ((hy 1) ⊠ (hy 2))) refl (h0, (h1, (h2, tt))))
+    (cert (n ∷ d ∷ l ∷ []) ((((va 2) ⊗ (va 1)) ≼ ((va 0) ⊗ (ko (pos 1152921504606846976)))) ∷ ((ko (pos 0)) ≼ (va 2)) ∷ ((ko (pos 0)) ≼ (va 1)) ∷ [])
+    ((ko (pos 1152921504606846976)) ⊗ (ko (pos 0))) ((ko (pos 1152921504606846976)) ⊗ (va 0)) ((hy 0) ⊞ ((hy 1) ⊠ (hy 2))) refl (h0, (h1, (h2, tt))))
 
 -- ---- what the code has at hand: the boxes m and e, the angle x, the box (a, b) of its sine, the right side (fl, fh), and the answer
 pub record IsFound (ml mh el eh x r a b fl fh al ah cl ch sl sh : ℤ) : Type 0 where
@@ -377,7 +436,7 @@ clamp x r al ah d angle q i r0 d0 e f h k =
 
 pub found_near : (ml mh el eh x r a b fl fh al ah cl ch sl sh : ℤ) (d mean e angle c s : Rational) → IsFound ml mh el eh x r a b fl fh al ah cl ch sl sh →
     IsNearBox 56 ml mh d mean → InBox 60 el eh e → SolvesKepler mean e angle c s → IsNearBox 56 al ah (times 2 d) angle
-        × IsNearBox 60 cl ch (add_r (times 4 d) (two_to_minus 60)) c × IsNearBox 60 sl sh (add_r (times 4 d) (two_to_minus 60)) s
+    × IsNearBox 60 cl ch (add_r (times 4 d) (two_to_minus 60)) c × IsNearBox 60 sl sh (add_r (times 4 d) (two_to_minus 60)) s
 found_near ml mh el eh x r a b fl fh al ah cl ch sl sh d mean e angle c s f h k g =
     let q = contraction ml mh el eh x r a b fl fh al ah cl ch sl sh d mean h.inside e angle c s f h.held h.near k g in
     let d0 = d_nn d mean h.inside h.near in

@@ -71,8 +71,10 @@ sum_fits p q a b ml mh pl ph h m0 m1 el eh = let e = product_ends p q a b h in g
 
 -- ---- boxes
 pub point_holds : (x l h : ℤ) → l ≡ x → h ≡ x → InBox 56 l h (of_scale 56 x)
-point_holds x l h e f = (subst (λ (z : ℤ). (z *ℤ pos (2 ^ 56)) ≤ℤ (x *ℤ pos (2 ^ 56))) (sym e) (same (x *ℤ pos (2 ^ 56))),
-      subst (λ (z : ℤ). (x *ℤ pos (2 ^ 56)) ≤ℤ (z *ℤ pos (2 ^ 56))) (sym f) (same (x *ℤ pos (2 ^ 56))))
+point_holds x l h e f = (
+  subst (λ (z : ℤ). (z *ℤ pos (2 ^ 56)) ≤ℤ (x *ℤ pos (2 ^ 56))) (sym e) (same (x *ℤ pos (2 ^ 56))),
+  subst (λ (z : ℤ). (x *ℤ pos (2 ^ 56)) ≤ℤ (z *ℤ pos (2 ^ 56))) (sym f) (same (x *ℤ pos (2 ^ 56))),
+)
   where
     same : (z : ℤ) → z ≤ℤ z
     same z = omega (arith, lins)
@@ -143,19 +145,19 @@ pub corner_high : (p q e t w : ℤ) → (w -ℤ t) ≤ℤ (pos 256) → (p -ℤ 
     → w ≤ℤ (pos 2305843009213693952) → (p *ℤ w) ≤ℤ ((e *ℤ t) +ℤ (pos 18446744073709551616))
 corner_high p q e t w h0 h1 h2 h3 h4 h5 =
     cert (p ∷ q ∷ e ∷ t ∷ w ∷ []) ((((va 4) ⊖ (va 3)) ≼ (ko (pos 256))) ∷ (((va 0) ⊖ (va 2)) ≼ (ko (pos 2))) ∷ ((va 2) ≼ (va 0))
-          ∷ ((ko (pos 0)) ≼ (va 2)) ∷ ((va 2) ≼ (ko (pos 36028797018963968))) ∷ ((va 4) ≼ (ko (pos 2305843009213693952))) ∷ []) ((va 0) ⊗ (va 4))
-        (((va 2) ⊗ (va 3)) ⊕ (ko (pos 18446744073709551616)))
-        ((((((hy 3) ⊠ (hy 0)) ⊞ ((nm 256) ⊠ (hy 4))) ⊞ ((hy 2) ⊠ (hy 5))) ⊞ ((nm 2305843009213693952) ⊠ (hy 1))) ⊞ (nm 4611686018427387904)) refl
-        (h0, (h1, (h2, (h3, (h4, (h5, tt))))))
+    ∷ ((ko (pos 0)) ≼ (va 2)) ∷ ((va 2) ≼ (ko (pos 36028797018963968))) ∷ ((va 4) ≼ (ko (pos 2305843009213693952))) ∷ []) ((va 0) ⊗ (va 4))
+    (((va 2) ⊗ (va 3)) ⊕ (ko (pos 18446744073709551616)))
+    ((((((hy 3) ⊠ (hy 0)) ⊞ ((nm 256) ⊠ (hy 4))) ⊞ ((hy 2) ⊠ (hy 5))) ⊞ ((nm 2305843009213693952) ⊠ (hy 1))) ⊞ (nm 4611686018427387904)) refl
+    (h0, (h1, (h2, (h3, (h4, (h5, tt))))))
 
 pub corner_low : (p q e t w : ℤ) → (t -ℤ w) ≤ℤ (pos 256) → (p -ℤ e) ≤ℤ (pos 2) → e ≤ℤ p → (pos 0) ≤ℤ e → e ≤ℤ (pos 36028797018963968)
     → ((pos 0) -ℤ (pos 2305843009213693952)) ≤ℤ w → ((e *ℤ t) -ℤ (pos 18446744073709551616)) ≤ℤ (p *ℤ w)
 corner_low p q e t w h0 h1 h2 h3 h4 h5 =
     cert (p ∷ q ∷ e ∷ t ∷ w ∷ []) ((((va 3) ⊖ (va 4)) ≼ (ko (pos 256))) ∷ (((va 0) ⊖ (va 2)) ≼ (ko (pos 2))) ∷ ((va 2) ≼ (va 0))
-          ∷ ((ko (pos 0)) ≼ (va 2)) ∷ ((va 2) ≼ (ko (pos 36028797018963968))) ∷ (((ko (pos 0)) ⊖ (ko (pos 2305843009213693952))) ≼ (va 4)) ∷ [])
-        (((va 2) ⊗ (va 3)) ⊖ (ko (pos 18446744073709551616))) ((va 0) ⊗ (va 4))
-        ((((((hy 3) ⊠ (hy 0)) ⊞ ((nm 256) ⊠ (hy 4))) ⊞ ((hy 2) ⊠ (hy 5))) ⊞ ((nm 2305843009213693952) ⊠ (hy 1))) ⊞ (nm 4611686018427387904)) refl
-        (h0, (h1, (h2, (h3, (h4, (h5, tt))))))
+    ∷ ((ko (pos 0)) ≼ (va 2)) ∷ ((va 2) ≼ (ko (pos 36028797018963968))) ∷ (((ko (pos 0)) ⊖ (ko (pos 2305843009213693952))) ≼ (va 4)) ∷ [])
+    (((va 2) ⊗ (va 3)) ⊖ (ko (pos 18446744073709551616))) ((va 0) ⊗ (va 4))
+    ((((((hy 3) ⊠ (hy 0)) ⊞ ((nm 256) ⊠ (hy 4))) ⊞ ((hy 2) ⊠ (hy 5))) ⊞ ((nm 2305843009213693952) ⊠ (hy 1))) ⊞ (nm 4611686018427387904)) refl
+    (h0, (h1, (h2, (h3, (h4, (h5, tt))))))
 
 pub record IsReached (ml mh el eh m x a b fl fh : ℤ) : Type 0 where
   pub sized : IsSizedProduct el eh a b

@@ -20,29 +20,29 @@ pub sine_gap : (n m t x y u d : ℤ) → ((t -ℤ (pos 256)) *ℤ m) ≤ℤ (n *
     → (t -ℤ u) ≤ℤ ((pos 512) +ℤ ((pos 32) *ℤ d))
 sine_gap n m t x y u d h0 h1 h2 h3 h4 =
     cancel (m *ℤ y) (t -ℤ u) ((pos 512) +ℤ ((pos 32) *ℤ d)) (mul_positive m y h3 h4)
-        (cert (n ∷ m ∷ t ∷ x ∷ y ∷ u ∷ d ∷ []) (((((va 2) ⊖ (ko (pos 256))) ⊗ (va 1)) ≼ ((va 0) ⊗ (ko (pos 1152921504606846976))))
-            ∷ (((va 3) ⊗ (ko (pos 1152921504606846976))) ≼ (((va 5) ⊕ (ko (pos 256))) ⊗ (va 4))) ∷
-            (((((va 0) ⊗ (va 4)) ⊖ ((va 3) ⊗ (va 1))) ⊗ (ko (pos 72057594037927936))) ≼ (((ko (pos 2)) ⊗ (va 6)) ⊗ ((va 1) ⊗ (va 4)))) ∷ ((ko (pos 0)) ≼ (va 1))
-            ∷ ((ko (pos 0)) ≼ (va 4)) ∷ []) (((va 1) ⊗ (va 4)) ⊗ ((va 2) ⊖ (va 5))) (((va 1) ⊗ (va 4)) ⊗ ((ko (pos 512)) ⊕ ((ko (pos 32)) ⊗ (va 6))))
-          ((((hy 4) ⊠ (hy 0)) ⊞ ((hy 3) ⊠ (hy 1))) ⊞ ((nm 16) ⊠ (hy 2))) refl (h0, (h1, (h2, (weak (pos 0) m h3, (weak (pos 0) y h4, tt))))))
+    (cert (n ∷ m ∷ t ∷ x ∷ y ∷ u ∷ d ∷ []) (((((va 2) ⊖ (ko (pos 256))) ⊗ (va 1)) ≼ ((va 0) ⊗ (ko (pos 1152921504606846976))))
+    ∷ (((va 3) ⊗ (ko (pos 1152921504606846976))) ≼ (((va 5) ⊕ (ko (pos 256))) ⊗ (va 4))) ∷
+    (((((va 0) ⊗ (va 4)) ⊖ ((va 3) ⊗ (va 1))) ⊗ (ko (pos 72057594037927936))) ≼ (((ko (pos 2)) ⊗ (va 6)) ⊗ ((va 1) ⊗ (va 4)))) ∷ ((ko (pos 0)) ≼ (va 1))
+    ∷ ((ko (pos 0)) ≼ (va 4)) ∷ []) (((va 1) ⊗ (va 4)) ⊗ ((va 2) ⊖ (va 5))) (((va 1) ⊗ (va 4)) ⊗ ((ko (pos 512)) ⊕ ((ko (pos 32)) ⊗ (va 6))))
+    ((((hy 4) ⊠ (hy 0)) ⊞ ((hy 3) ⊠ (hy 1))) ⊞ ((nm 16) ⊠ (hy 2))) refl (h0, (h1, (h2, (weak (pos 0) m h3, (weak (pos 0) y h4, tt))))))
 
 -- and the steps to which they lead
 pub step_gap : (e t u a b d : ℤ) → (a *ℤ (pos 18446744073709551616)) ≤ℤ (e *ℤ t) → (e *ℤ u) ≤ℤ ((b *ℤ (pos 18446744073709551616)) +ℤ (pos 18446744073709551616))
     → (t -ℤ u) ≤ℤ ((pos 512) +ℤ ((pos 32) *ℤ d)) → (pos 0) ≤ℤ e → e ≤ℤ (pos 36028797018963968) → (pos 0) ≤ℤ d → ((pos 16) *ℤ (a -ℤ b)) ≤ℤ (d +ℤ (pos 32))
 step_gap e t u a b d h0 h1 h2 h3 h4 h5 =
     cancel (pos 1152921504606846976) ((pos 16) *ℤ (a -ℤ b)) (d +ℤ (pos 32)) (omega (arith, ints))
-        (cert (e ∷ t ∷ u ∷ a ∷ b ∷ d ∷ []) ((((va 3) ⊗ (ko (pos 18446744073709551616))) ≼ ((va 0) ⊗ (va 1)))
-            ∷ (((va 0) ⊗ (va 2)) ≼ (((va 4) ⊗ (ko (pos 18446744073709551616))) ⊕ (ko (pos 18446744073709551616)))) ∷ (((va 1) ⊖ (va 2))
-              ≼ ((ko (pos 512)) ⊕ ((ko (pos 32)) ⊗ (va 5)))) ∷ ((ko (pos 0)) ≼ (va 0)) ∷ ((va 0) ≼ (ko (pos 36028797018963968))) ∷ ((ko (pos 0)) ≼ (va 5)) ∷ [])
-          ((ko (pos 1152921504606846976)) ⊗ ((ko (pos 16)) ⊗ ((va 3) ⊖ (va 4)))) ((ko (pos 1152921504606846976)) ⊗ ((va 5) ⊕ (ko (pos 32))))
-          ((((hy 0) ⊞ (hy 1)) ⊞ ((hy 3) ⊠ (hy 2))) ⊞ ((hy 4) ⊠ ((nm 512) ⊞ ((nm 32) ⊠ (hy 5))))) refl (h0, (h1, (h2, (h3, (h4, (h5, tt)))))))
+    (cert (e ∷ t ∷ u ∷ a ∷ b ∷ d ∷ []) ((((va 3) ⊗ (ko (pos 18446744073709551616))) ≼ ((va 0) ⊗ (va 1)))
+    ∷ (((va 0) ⊗ (va 2)) ≼ (((va 4) ⊗ (ko (pos 18446744073709551616))) ⊕ (ko (pos 18446744073709551616)))) ∷ (((va 1) ⊖ (va 2))
+    ≼ ((ko (pos 512)) ⊕ ((ko (pos 32)) ⊗ (va 5)))) ∷ ((ko (pos 0)) ≼ (va 0)) ∷ ((va 0) ≼ (ko (pos 36028797018963968))) ∷ ((ko (pos 0)) ≼ (va 5)) ∷ [])
+    ((ko (pos 1152921504606846976)) ⊗ ((ko (pos 16)) ⊗ ((va 3) ⊖ (va 4)))) ((ko (pos 1152921504606846976)) ⊗ ((va 5) ⊕ (ko (pos 32))))
+    ((((hy 0) ⊞ (hy 1)) ⊞ ((hy 3) ⊠ (hy 2))) ⊞ ((hy 4) ⊠ ((nm 512) ⊞ ((nm 32) ⊠ (hy 5))))) refl (h0, (h1, (h2, (h3, (h4, (h5, tt)))))))
 
 pub angles_near : (x y d : ℤ) → (x -ℤ y) ≤ℤ d → (((x *ℤ (pos 72057594037927936)) -ℤ (y *ℤ (pos 72057594037927936))) *ℤ (pos 72057594037927936))
-      ≤ℤ (d *ℤ ((pos 72057594037927936) *ℤ (pos 72057594037927936)))
+    ≤ℤ (d *ℤ ((pos 72057594037927936) *ℤ (pos 72057594037927936)))
 angles_near x y d h0 =
     cert (x ∷ y ∷ d ∷ []) ((((va 0) ⊖ (va 1)) ≼ (va 2)) ∷ [])
-        ((((va 0) ⊗ (ko (pos 72057594037927936))) ⊖ ((va 1) ⊗ (ko (pos 72057594037927936)))) ⊗ (ko (pos 72057594037927936)))
-        ((va 2) ⊗ ((ko (pos 72057594037927936)) ⊗ (ko (pos 72057594037927936)))) ((nm 5192296858534827628530496329220096) ⊠ (hy 0)) refl (h0, tt)
+    ((((va 0) ⊗ (ko (pos 72057594037927936))) ⊖ ((va 1) ⊗ (ko (pos 72057594037927936)))) ⊗ (ko (pos 72057594037927936)))
+    ((va 2) ⊗ ((ko (pos 72057594037927936)) ⊗ (ko (pos 72057594037927936)))) ((nm 5192296858534827628530496329220096) ⊠ (hy 0)) refl (h0, tt)
 
 -- the range of the code's angles
 pub in_range : (x : ℤ) → neg_ℤ (pos (2 ^ 60)) ≤ℤ x → x ≤ℤ pos (2 ^ 60) → InRange 5 (of_scale 56 x)
@@ -67,7 +67,7 @@ one_side m e x y a b d rx ry e0 e1 d0 w p q =
     let i : ℤ = floor_div (e *ℤ p.sine) (2 ^ 64) in
     let j : ℤ = floor_div (e *ℤ q.sine) (2 ^ 64) in
     let r = step_gap e p.sine q.sine i j d (floor_le (e *ℤ p.sine) (2 ^ 64) (lit< tt))
-        (weak (e *ℤ q.sine) ((j *ℤ pos (2 ^ 64)) +ℤ pos (2 ^ 64)) (lt_floor (e *ℤ q.sine) (2 ^ 64) (lit< tt))) gap e0 e1 d0 in
+    (weak (e *ℤ q.sine) ((j *ℤ pos (2 ^ 64)) +ℤ pos (2 ^ 64)) (lt_floor (e *ℤ q.sine) (2 ^ 64) (lit< tt))) gap e0 e1 d0 in
     subst (λ (z : ℤ). (pos 16 *ℤ z) ≤ℤ (d +ℤ pos 32)) (sym (move m i j a b p.next_is q.next_is)) r
 
 -- 16 |next(x) - next(y)| ≤ |x - y| + 32
@@ -107,8 +107,8 @@ pub round : (z d w : ℤ) → ((pos 16) *ℤ z) ≤ℤ (d +ℤ (pos 32)) → (d 
     → (z *ℤ (w *ℤ (pos 16))) ≤ℤ ((pos 9007199254740992) +ℤ ((pos 3) *ℤ (w *ℤ (pos 16))))
 round z d w h0 h1 h2 =
     cert (z ∷ d ∷ w ∷ []) ((((ko (pos 16)) ⊗ (va 0)) ≼ ((va 1) ⊕ (ko (pos 32)))) ∷ (((va 1) ⊗ (va 2)) ≼ ((ko (pos 9007199254740992)) ⊕ ((ko (pos 3)) ⊗ (va 2))))
-          ∷ ((ko (pos 0)) ≼ (va 2)) ∷ []) ((va 0) ⊗ ((va 2) ⊗ (ko (pos 16)))) ((ko (pos 9007199254740992)) ⊕ ((ko (pos 3)) ⊗ ((va 2) ⊗ (ko (pos 16)))))
-        ((((hy 2) ⊠ (hy 0)) ⊞ (hy 1)) ⊞ ((nm 13) ⊠ (hy 2))) refl (h0, (h1, (h2, tt)))
+    ∷ ((ko (pos 0)) ≼ (va 2)) ∷ []) ((va 0) ⊗ ((va 2) ⊗ (ko (pos 16)))) ((ko (pos 9007199254740992)) ⊕ ((ko (pos 3)) ⊗ ((va 2) ⊗ (ko (pos 16)))))
+    ((((hy 2) ⊠ (hy 0)) ⊞ (hy 1)) ⊞ ((nm 13) ⊠ (hy 2))) refl (h0, (h1, (h2, tt)))
 
 record IsMagnitude (x y d : ℤ) : Type 0 where
   pub nn : pos 0 ≤ℤ d
@@ -145,7 +145,7 @@ settled_step j i m e x y ij e0 e1 rx ry h p z q =
     let s = steps_shrink m e y x z y d.0 ry rx e0 e1 d.1.nn d.1.within q p in
     let old = h y p in
     let b : (d.0 *ℤ pos (16 ^ j)) ≤ℤ (pos (2 ^ 53) +ℤ (pos 3 *ℤ pos (16 ^ j))) =
-        choose (λ (d : ℤ). (d *ℤ pos (16 ^ j)) ≤ℤ (pos (2 ^ 53) +ℤ (pos 3 *ℤ pos (16 ^ j)))) d.0 (y -ℤ x) (x -ℤ y) old.0 old.1 d.1.either in
+    choose (λ (d : ℤ). (d *ℤ pos (16 ^ j)) ≤ℤ (pos (2 ^ 53) +ℤ (pos 3 *ℤ pos (16 ^ j)))) d.0 (y -ℤ x) (x -ℤ y) old.0 old.1 d.1.either in
     let w0 : pos 0 ≤ℤ pos (16 ^ j) = le_pos 0 (16 ^ j) (omega arith) in
     let k : 16 ^ j * 16 ≡ 16 ^ i = sym (ap (λ (n : ℕ). 16 ^ n) (ij ∙ add-one j) ∙ pow-suc 16 j) in (
       subst (λ (n : ℕ). ((z -ℤ y) *ℤ pos n) ≤ℤ (pos (2 ^ 53) +ℤ (pos 3 *ℤ pos n))) k (round (z -ℤ y) d.0 (pos (16 ^ j)) s.0 b w0),

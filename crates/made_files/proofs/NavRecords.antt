@@ -200,7 +200,7 @@ record_is system k e is normal few =
       toe_s = further_5 second_number e.cic e.node e.cis second_room;
       cic = further_24 second_number e.cic e.node e.cis (room e.cic (pos 0) 0 normal.cic is.cic (omega arith) (omega arith));
       node = further_43 second_number e.cic e.node e.cis (room e.node (node k) 2 normal.node is.node
-            (small_node (slice_index_or longitudes k (pos 0)) (anomaly k) (small_longitude k) (small_anomaly k)) (omega arith));
+          (small_node (slice_index_or longitudes k (pos 0)) (anomaly k) (small_longitude k) (small_anomaly k)) (omega arith));
       cis = further_62 second_number e.cic e.node e.cis (room e.cis (pos 0) 0 normal.cis is.cis (omega arith) (omega arith));
       incl = further_5 e.incl e.crc e.peri e.node_rate (room e.incl (pos 96) 2 normal.incl is.incl (omega arith) (omega arith));
       crc = further_24 e.incl e.crc e.peri e.node_rate (room e.crc (pos 200) 0 normal.crc is.crc (omega arith) (omega arith));

@@ -39,7 +39,7 @@ printed_fixed width z places small =
     printed-append (replicate (width - length (fixed_text z places)) 32) (fixed_text z places) (printed_blanks (width - length (fixed_text z places)))
     (printed-append (sign_text z) (decimal (size_of z / 10 ^ places) ++ part_text places (size_of z)) (printed_sign z)
     (printed-append (decimal (size_of z / 10 ^ places)) (part_text places (size_of z))
-      (digits_printed (decimal (size_of z / 10 ^ places)) (decimal_digits (size_of z / 10 ^ places) small)) (printed_part places (size_of z))))
+    (digits_printed (decimal (size_of z / 10 ^ places)) (decimal_digits (size_of z / 10 ^ places) small)) (printed_part places (size_of z))))
 
 -- ---- read again
 count_below : (n : ℕ) → n ≤ 99 → n / 10 ^ 0 < 2 ^ 64

@@ -4,7 +4,7 @@ use Rattle.std.proofs.lemmas.Int.{ints}
 use Rattle.whole_math.proofs.Ring.{◌⊕◌, ◌⊖◌, ◌⊗◌}
 use Rattle.whole_math.proofs.Order.{abs_mul_le}
 use Rattle.whole_math.proofs.Inequalities.{same_by, nat}
-use Rattle.form_tables.proofs.Words.{size_add}
+use Rattle.whole_math.proofs.Words.{size_add}
 
 pub times_nothing : (w x : ℤ) → x ≡ pos 0 → w *ℤ x ≡ pos 0
 times_nothing w x e = ap (λ z. w *ℤ z) e ∙ same_by (w ∷ []) (λ w. (w ⊗ nat 0, nat 0)) refl

@@ -139,7 +139,7 @@ fresh_at ss k z are inside =
     apart : (j : ℕ) (d : SatObs) → j < k → nat_eq (get_or ss k z).number (get_or (take k ss) j d).number ≡ false
     apart j d short =
         rw get_or-take (elim (eqb_tells (get_or ss k z).number (get_or ss j d).number) [
-          inl p ↦ absurd (are.once j k d short inside (sym p.1 ∙ ap (λ (t : SatObs). t.number) (get_or_default ss k z d inside)))
+          | inl p ↦ absurd (are.once j k d short inside (sym p.1 ∙ ap (λ (t : SatObs). t.number) (get_or_default ss k z d inside)))
           | inr p ↦ p.0
         ])
 

@@ -82,8 +82,8 @@ stored_push sats sats' values values' s count all is stored =
     let t : StoredSat = record { number = s.number; count = count } in
     let whole : take count stored.added ≡ stored.added = ap (λ n. take n stored.added) (sym stored.as_many) ∙ take-length stored.added in
     let same : first_satellite t stored.added ≡ s =
-        ap (λ (l : List (Option Value)). let o : SatObs = record { number = s.number; values = l } in o)
-            (ap (values_with missing_values) whole ∙ stored.values_are) in
+    ap (λ (l : List (Option Value)). let o : SatObs = record { number = s.number; values = l } in o)
+    (ap (values_with missing_values) whole ∙ stored.values_are) in
     rw (is, stored.new_are) (satellites_in-push sats values stored.added t all stored.as_many ∙ ap (λ (o : SatObs). satellites_in sats values ++ o ∷ []) same)
 
 pub are_stored_push : (sats sats' : List StoredSat) (values values' : List StoredValue) (s : SatObs) (count : ℕ) → AreStored sats values
@@ -158,8 +158,43 @@ slot_from n (kind ∷ kinds) (suc k) d are inside = omega (arith, slot_from (n +
 pub slot_at : (k : ℕ) (d : ObsType) → k < 26 → slot_of (get_or kept_types k d) ≡ k
 slot_at k d inside =
     let is : slot_of (get_or kept_types k d) ≡ 0 + k =
-        slot_from 0 kept_types k d (refl, (refl, (refl, (refl, (refl, (refl, (refl, (refl, (refl, (refl, (refl, (refl,
-                    (refl, (refl, (refl, (refl, (refl, (refl, (refl, (refl, (refl, (refl, (refl, (refl, (refl, (refl, tt)))))))))))))))))))))))))) inside in
+    slot_from 0 kept_types k d (
+      refl,
+      (
+        refl,
+        (
+          refl,
+          (
+            refl,
+            (
+              refl,
+              (
+                refl,
+                (
+                  refl,
+                  (
+                    refl,
+                    (
+                      refl,
+                      (
+                        refl,
+                        (
+                          refl,
+                          (
+                            refl,
+                            (refl, (refl, (refl, (refl, (refl, (refl, (refl, (refl, (refl, (refl, (refl, (refl, (refl, (refl, tt)))))))))))))),
+                          ),
+                        ),
+                      ),
+                    ),
+                  ),
+                ),
+              ),
+            ),
+          ),
+        ),
+      ),
+    ) inside in
     omega (arith, is)
 
 -- the first k values, and none in the others' places

@@ -89,8 +89,10 @@ clock_limit b = add_r (add_r (add_r (decimal (pos 1) 2) (mul_r (decimal (pos 1) 
     (mul_r (mul_r (mul_r (decimal (pos 4442807633) 19) (decimal (pos 3125) 5)) (of_whole (pos 6000))) (add_r (of_whole (pos 1)) (two_to_minus 16)))
 
 relativity_size : (rel : ℤ) → neg_ℤ (pos 4442807633) ≤ℤ rel → rel ≤ℤ neg_ℤ (pos 4442807309) → IsAtMostInSize (decimal (pos 4442807633) 19) (decimal rel 19)
-relativity_size rel l h = (mul_le_right (pos (10 ^ 19)) rel (pos 4442807633) (pos_nn (10 ^ 19)) (omega (arith, ints, l, h)),
-      mul_le_right (pos (10 ^ 19)) (neg_ℤ rel) (pos 4442807633) (pos_nn (10 ^ 19)) (omega (arith, ints, l, h)))
+relativity_size rel l h = (
+  mul_le_right (pos (10 ^ 19)) rel (pos 4442807633) (pos_nn (10 ^ 19)) (omega (arith, ints, l, h)),
+  mul_le_right (pos (10 ^ 19)) (neg_ℤ rel) (pos 4442807633) (pos_nn (10 ^ 19)) (omega (arith, ints, l, h)),
+)
 
 -- the relativistic term
 pub effect_size : (eph : Eph) (world : World) (x c s : Rational) → IsAnglePair 5 x c s →
@@ -103,7 +105,7 @@ effect_size eph world x c s p =
     let a = size_of_decimal 6000 0 eph.root_a (from_to_within 4500 6000 0 eph.root_a eph.root_a_in) in
     let six : decimal (pos 6000) 0 ≤ʳ of_whole (pos 6000) = omega (arith, ints) in
     size_mul (mul_r (mul_r (decimal (pos 4442807633) 19) (decimal (pos 3125) 5)) (of_whole (pos 6000))) (add_r (of_whole (pos 1)) (two_to_minus 16))
-        (mul_r (mul_r (constants_of world).relativity (elements_of eph).ecc) (elements_of eph).root_a) s
+    (mul_r (mul_r (constants_of world).relativity (elements_of eph).ecc) (elements_of eph).root_a) s
     (size_mul (mul_r (decimal (pos 4442807633) 19) (decimal (pos 3125) 5)) (of_whole (pos 6000)) (mul_r (constants_of world).relativity (elements_of eph).ecc) (elements_of eph).root_a
     (size_mul (decimal (pos 4442807633) 19) (decimal (pos 3125) 5) (constants_of world).relativity (elements_of eph).ecc f e)
     (size_looser (decimal (pos 6000) 0) (of_whole (pos 6000)) (elements_of eph).root_a six a))
@@ -122,10 +124,10 @@ clock_size eph world sent b q s h =
     let three = size_add (add_r (decimal (pos 1) 2) (mul_r (decimal (pos 1) 7) b)) (mul_r (decimal (pos 1) 12) (mul_r b b)) (add_r d.af0 (mul_r d.af1 x)) (mul_r d.af2 (mul_r x x)) two aging in
     let value : Rational = add_r (add_r (add_r d.af0 (mul_r d.af1 x)) (mul_r d.af2 (mul_r x x))) (mul_r (mul_r (mul_r (constants_of world).relativity d.ecc) d.root_a) q.eccentric_pair.sin) in
     let four : IsAtMostInSize (clock_limit b) value =
-        size_add (add_r (add_r (decimal (pos 1) 2) (mul_r (decimal (pos 1) 7) b)) (mul_r (decimal (pos 1) 12) (mul_r b b)))
-            (mul_r (mul_r (mul_r (decimal (pos 4442807633) 19) (decimal (pos 3125) 5)) (of_whole (pos 6000))) (add_r (of_whole (pos 1)) (two_to_minus 16)))
-            (add_r (add_r d.af0 (mul_r d.af1 x)) (mul_r d.af2 (mul_r x x)))
-            (mul_r (mul_r (mul_r (constants_of world).relativity d.ecc) d.root_a) q.eccentric_pair.sin) three effect in
+    size_add (add_r (add_r (decimal (pos 1) 2) (mul_r (decimal (pos 1) 7) b)) (mul_r (decimal (pos 1) 12) (mul_r b b)))
+    (mul_r (mul_r (mul_r (decimal (pos 4442807633) 19) (decimal (pos 3125) 5)) (of_whole (pos 6000))) (add_r (of_whole (pos 1)) (two_to_minus 16)))
+    (add_r (add_r d.af0 (mul_r d.af1 x)) (mul_r d.af2 (mul_r x x)))
+    (mul_r (mul_r (mul_r (constants_of world).relativity d.ecc) d.root_a) q.eccentric_pair.sin) three effect in
     size_along (clock_limit b) value q.clock (≈_sym q.clock value s.clock_correction) four
 
 -- ---- toe and toc are at most two hours apart
@@ -144,12 +146,12 @@ sent_size tag toe code n l h = let a = apart tag toe n in (high tag toe code a.0
 
     high : (t e : ℕ) (c : ℤ) → t ≤ e + 72010000000 → pos 0 ≤ℤ c
         → ((((pos t *ℤ pos 149896229 -ℤ c *ℤ pos 5000) *ℤ pos 10000000) -ℤ (pos e *ℤ pos 1498962290000000)) *ℤ pos 100)
-          ≤ℤ (pos 720134 *ℤ pos (1498962290000000 * 10000000))
+        ≤ℤ (pos 720134 *ℤ pos (1498962290000000 * 10000000))
     high t e c h l = omega (arith, ints, h, l)
 
     low : (t e : ℕ) (c : ℤ) → e ≤ t + 72010000000 → c ≤ℤ pos (10 ^ 11)
         → (neg_ℤ (((pos t *ℤ pos 149896229 -ℤ c *ℤ pos 5000) *ℤ pos 10000000) -ℤ (pos e *ℤ pos 1498962290000000)) *ℤ pos 100)
-          ≤ℤ (pos 720134 *ℤ pos (1498962290000000 * 10000000))
+        ≤ℤ (pos 720134 *ℤ pos (1498962290000000 * 10000000))
     low t e c h l = omega (arith, ints, h, l)
 
 -- ---- the bounds
@@ -164,7 +166,7 @@ clock_small eph world sent q s near =
     let pull = size_mul (decimal (pos 3125) 5) one_and d.ecc q.eccentric_pair.sin e sine.1 in
     let angle = size_of_angle q.eccentric s.kepler.is_pair.in_range in
     let mean = size_along (add_r (of_whole (pos 16)) (mul_r (decimal (pos 3125) 5) one_and)) (sub_r q.eccentric (mul_r d.ecc q.eccentric_pair.sin))
-        q.mean (≈_sym q.mean (sub_r q.eccentric (mul_r d.ecc q.eccentric_pair.sin)) s.kepler.equation)
+    q.mean (≈_sym q.mean (sub_r q.eccentric (mul_r d.ecc q.eccentric_pair.sin)) s.kepler.equation)
     (size_sub (of_whole (pos 16)) (mul_r (decimal (pos 3125) 5) one_and) q.eccentric (mul_r d.ecc q.eccentric_pair.sin) angle pull) in
     let turn_limit : Rational = add_r (add_r (of_whole (pos 16)) (mul_r (decimal (pos 3125) 5) one_and)) (decimal (pos 65) 1) in
     let turn = size_along turn_limit (sub_r q.mean d.m0) (mul_r q.tk q.motion) (turned q.mean d.m0 q.motion q.tk s.mean_anomaly)
@@ -176,12 +178,12 @@ clock_small eph world sent q s near =
     let gap = epochs_size eph.toe.0 eph.toc.0 eph.toc_late_enough eph.toc_early_enough in
     let far = size_along (of_whole (pos 252200)) (add_r q.tk (sub_r d.toe d.toc)) (sub_r q.t d.toc) (since q.t q.tk d.toe d.toc s.time_from_epoch)
     (size_looser (add_r (of_whole (pos 245000)) (of_whole (pos 7200))) (of_whole (pos 252200)) (add_r q.tk (sub_r d.toe d.toc)) (le_pos _ _ (lit≤ tt))
-      (size_add (of_whole (pos 245000)) (of_whole (pos 7200)) q.tk (sub_r d.toe d.toc) time gap)) in
+    (size_add (of_whole (pos 245000)) (of_whole (pos 7200)) q.tk (sub_r d.toe d.toc) time gap)) in
     let first = size_looser (clock_limit (of_whole (pos 252200))) (of_scale 3 (pos 1)) q.clock (le_pos _ _ (lit≤ tt)) (clock_size eph world sent (of_whole (pos 252200)) q s far) in
     let close_limit : Rational = add_r (add_r sent_limit (of_scale 3 (pos 1))) (of_whole (pos 7200)) in
     let close = size_along close_limit (add_r (sub_r (sub_r sent d.toe) q.clock) (sub_r d.toe d.toc)) (sub_r q.t d.toc) (sent_since sent q.t q.clock d.toe d.toc s.time_of_sending)
     (size_add (add_r sent_limit (of_scale 3 (pos 1))) (of_whole (pos 7200)) (sub_r (sub_r sent d.toe) q.clock) (sub_r d.toe d.toc)
-      (size_sub sent_limit (of_scale 3 (pos 1)) (sub_r sent d.toe) q.clock near first) gap) in
+    (size_sub sent_limit (of_scale 3 (pos 1)) (sub_r sent d.toe) q.clock near first) gap) in
     size_looser (clock_limit close_limit) (of_scale 60 (pos (2 ^ 54))) q.clock (le_pos _ _ (lit≤ tt)) (clock_size eph world sent close_limit q s close)
   where
     turned : (m m0 n t : Rational) → m ≈ add_r m0 (mul_r n t) → sub_r m m0 ≈ mul_r t n

@@ -51,7 +51,7 @@ mean_gap m m0 n sent toe k t tk d e f g =
     let step : Ex = (va 10 ⊖ va 11) ⊕ va 12 in
     equal_r (m0 ∷ n ∷ sent ∷ toe ∷ k ∷ d ∷ m ∷ tk ∷ t ∷ times 10000 n ∷ part (sub_r sent toe) ∷ part d ∷ part (sub_r d k) ∷ [])
     ((va 6 ≐ va 0 ⊕ va 1 ⊗ va 7) ∷ (va 7 ≐ va 8 ⊖ va 3) ∷ (va 8 ≐ va 2 ⊖ va 4) ∷ (va 9 ≐ ko (pos 10000) ⊗ va 1)
-      ∷ (va 10 ⊗ ko (pos 10000) ≐ va 2 ⊖ va 3) ∷ (va 11 ⊗ ko (pos 10000) ≐ va 5) ∷ (va 12 ⊗ ko (pos 10000) ≐ va 5 ⊖ va 4) ∷ [])
+    ∷ (va 10 ⊗ ko (pos 10000) ≐ va 2 ⊖ va 3) ∷ (va 11 ⊗ ko (pos 10000) ≐ va 5) ∷ (va 12 ⊗ ko (pos 10000) ≐ va 5 ⊖ va 4) ∷ [])
     (ng (ko (pos 1)) ∷ ng (va 1) ∷ ng (va 1) ∷ step ∷ va 1 ∷ ng (va 1) ∷ va 1 ∷ [])
     (va 9 ⊗ va 12) (va 6 ⊖ (va 0 ⊕ va 9 ⊗ (va 10 ⊖ va 11))) refl
     (e, (f, (g, (times_is 10000 n, (part_is (sub_r sent toe), (part_is d, (part_is (sub_r d k), tt)))))))
@@ -76,17 +76,17 @@ mean_near m m0 n sent toe k t tk lo hi p nl nh e f g i a b j nlow nhigh =
     let far = middle_near lo hi p (pos 224698263227) k i a b in
     let share : IsAtMostInSize (mul_r (record { num = pos 1; den = 10000; positive = lit< tt }) (of_scale 61 (pos 224698263227))) (part (sub_r d k)) =
     size_along (mul_r (record { num = pos 1; den = 10000; positive = lit< tt }) (of_scale 61 (pos 224698263227)))
-        (mul_r (record { num = pos 1; den = 10000; positive = lit< tt }) (sub_r d k)) (part (sub_r d k)) (tenth_is (sub_r d k))
+    (mul_r (record { num = pos 1; den = 10000; positive = lit< tt }) (sub_r d k)) (part (sub_r d k)) (tenth_is (sub_r d k))
     (size_mul (record { num = pos 1; den = 10000; positive = lit< tt }) (of_scale 61 (pos 224698263227)) (record { num = pos 1; den = 10000; positive = lit< tt }) (sub_r d k) (own, negative) far) in
     let fast = size_of_box 60 2527203938098207432 nl nh (times 10000 n) nlow nhigh j in
     let gap = size_along
-        (mul_r (of_scale 60 (pos 2527203938098207432)) (mul_r (record { num = pos 1; den = 10000; positive = lit< tt }) (of_scale 61 (pos 224698263227))))
-        (mul_r (times 10000 n) (part (sub_r d k))) (sub_r m (mean_at m0 n sent toe d)) (mean_gap m m0 n sent toe k t tk d e f g)
+    (mul_r (of_scale 60 (pos 2527203938098207432)) (mul_r (record { num = pos 1; den = 10000; positive = lit< tt }) (of_scale 61 (pos 224698263227))))
+    (mul_r (times 10000 n) (part (sub_r d k))) (sub_r m (mean_at m0 n sent toe d)) (mean_gap m m0 n sent toe k t tk d e f g)
     (size_mul (of_scale 60 (pos 2527203938098207432)) (mul_r (record { num = pos 1; den = 10000; positive = lit< tt }) (of_scale 61 (pos 224698263227)))
-      (times 10000 n) (part (sub_r d k)) fast share) in
+    (times 10000 n) (part (sub_r d k)) fast share) in
     let small = size_looser
-        (mul_r (of_scale 60 (pos 2527203938098207432)) (mul_r (record { num = pos 1; den = 10000; positive = lit< tt }) (of_scale 61 (pos 224698263227))))
-        (two_to_minus 35) (sub_r m (mean_at m0 n sent toe d)) (le_pos _ _ (lit≤ tt)) gap in
+    (mul_r (of_scale 60 (pos 2527203938098207432)) (mul_r (record { num = pos 1; den = 10000; positive = lit< tt }) (of_scale 61 (pos 224698263227))))
+    (two_to_minus 35) (sub_r m (mean_at m0 n sent toe d)) (le_pos _ _ (lit≤ tt)) gap in
     (small.0, order_r (m ∷ mean_at m0 n sent toe d ∷ two_to_minus 35 ∷ []) ((ng (va 0 ⊖ va 1) ≼ va 2) ∷ []) [] (va 1 ⊖ va 0) (va 2) (hy 0) [] refl (small.1, tt) tt)
   where
     own : (pos 1 *ℤ pos 10000) ≤ℤ (pos 1 *ℤ pos 10000)

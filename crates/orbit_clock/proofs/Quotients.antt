@@ -30,7 +30,7 @@ quotient_room n d k size h l d0 d1 w =
     let s : unsigned_abs (n *ℤ pos (2 ^ k)) < 2 ^ 126 = small (n *ℤ pos (2 ^ k)) (pos size *ℤ d) w.0 w.1 p in
     let m : unsigned_abs (n *ℤ pos (2 ^ k)) ≡ unsigned_abs n * 2 ^ k = unsigned_abs-mul n (pos (2 ^ k)) in
     below (unsigned_abs n) (2 ^ (126 - k)) (mul_lt_cancel (pos (unsigned_abs n)) (pos (2 ^ (126 - k))) (2 ^ k) (pow_pos k)
-          (scaled (unsigned_abs n * 2 ^ k) (2 ^ (126 - k) * 2 ^ k) (unsigned_abs (n *ℤ pos (2 ^ k))) m e s))
+    (scaled (unsigned_abs n * 2 ^ k) (2 ^ (126 - k) * 2 ^ k) (unsigned_abs (n *ℤ pos (2 ^ k))) m e s))
   where
     whole : (k : ℕ) → k ≤ 60 → (126 - k) + k ≡ 126
     whole k h = omega arith

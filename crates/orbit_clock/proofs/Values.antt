@@ -44,8 +44,8 @@ low_of_nn k places b q h l =
     let v : Rational = times (10 ^ 0) q in
     let own = l.holds v refl in
     let from : of_scale k (pos 0) ≤ʳ v =
-        ≤ʳ_trans (of_scale k (pos 0)) (decimal (pos 0) places) v
-            (zeros (2 ^ k) (10 ^ places)) (≤ʳ_trans (decimal (pos 0) places) q v h (≤ʳ_from_same q v (own_value q))) in
+    ≤ʳ_trans (of_scale k (pos 0)) (decimal (pos 0) places) v
+    (zeros (2 ^ k) (10 ^ places)) (≤ʳ_trans (decimal (pos 0) places) q v h (≤ʳ_from_same q v (own_value q))) in
     (l.least (pos 0) b.hi (from, own.1)).0
   where
     zeros : (m n : ℕ) → (pos 0 *ℤ pos n) ≤ℤ (pos 0 *ℤ pos m)
@@ -57,14 +57,14 @@ square_least a h = order_r (a ∷ []) ((ko (pos 4500) ≼ va 0) ∷ []) [] (ko (
 
 pub axis_least : (b : Iv 36) (a : Rational) → of_whole (pos 4500) ≤ʳ a → Holds b (mul_r a a) → width_of b ≤ℤ pos 4 → pos (20249999 * 2 ^ 36) ≤ℤ b.lo
 axis_least b a h i w = step (low_end 36 b.lo b.hi (pos 4) (pos (20250000 * 2 ^ 36)) (mul_r a a) w
-      (≤ʳ_trans (of_scale 36 (pos (20250000 * 2 ^ 36))) (of_whole (pos 20250000)) (mul_r a a) (le_pos _ _ (lit≤ tt)) (square_least a h)) i)
+    (≤ʳ_trans (of_scale 36 (pos (20250000 * 2 ^ 36))) (of_whole (pos 20250000)) (mul_r a a) (le_pos _ _ (lit≤ tt)) (square_least a h)) i)
   where
     step : (pos (20250000 * 2 ^ 36) -ℤ pos 4) ≤ℤ b.lo → pos (20249999 * 2 ^ 36) ≤ℤ b.lo
     step l = omega (arith, ints)
 
 pub cube_least : (b : Iv 24) (a : Rational) → of_whole (pos 4500) ≤ʳ a → Holds b (mul_r (mul_r a a) a) → width_of b ≤ℤ pos 10 → pos (91124999999 * 2 ^ 24) ≤ℤ b.lo
 cube_least b a h i w = step (low_end 24 b.lo b.hi (pos 10) (pos (91125000000 * 2 ^ 24)) (mul_r (mul_r a a) a) w
-      (≤ʳ_trans (of_scale 24 (pos (91125000000 * 2 ^ 24))) (of_whole (pos 91125000000)) (mul_r (mul_r a a) a) (le_pos _ _ (lit≤ tt)) product) i)
+    (≤ʳ_trans (of_scale 24 (pos (91125000000 * 2 ^ 24))) (of_whole (pos 91125000000)) (mul_r (mul_r a a) a) (le_pos _ _ (lit≤ tt)) product) i)
   where
     product : of_whole (pos 91125000000) ≤ʳ mul_r (mul_r a a) a
     product = order_r (a ∷ mul_r a a ∷ []) ((ko (pos 4500) ≼ va 0) ∷ (ko (pos 20250000) ≼ va 1) ∷ []) [] (ko (pos 91125000000)) (va 1 ⊗ va 0)
@@ -96,8 +96,10 @@ part_is x = same_by (x.num ∷ pos x.den ∷ []) (λ a d. (a ⊗ nat 10000 ⊗ d
 -- (tag - epoch) - code / c, over 10^4 s
 pub sent_ratio : (t e : ℕ) (code n d : ℤ) → n ≡ (pos t -ℤ pos e) *ℤ pos 149896229 -ℤ code *ℤ pos 5000 → d ≡ pos 14989622900000000000 → IsRatio (part (sub_r (sent_at t code) (seconds e))) n d
 sent_ratio t e code n d f g = rw (f, g)
-    (same_by (pos t ∷ pos e ∷ code ∷ []) (λ t e k. (((t ⊗ nat 149896229 ⊖ k ⊗ nat 5000) ⊗ nat 10000000 ⊖ e ⊗ nat 1498962290000000) ⊗ nat 14989622900000000000,
-          ((t ⊖ e) ⊗ nat 149896229 ⊖ k ⊗ nat 5000) ⊗ (nat 10000 ⊗ (nat 1498962290000000 ⊗ nat 10000000)))) refl)
+    (same_by (pos t ∷ pos e ∷ code ∷ []) (λ t e k. (
+      ((t ⊗ nat 149896229 ⊖ k ⊗ nat 5000) ⊗ nat 10000000 ⊖ e ⊗ nat 1498962290000000) ⊗ nat 14989622900000000000,
+      ((t ⊖ e) ⊗ nat 149896229 ⊖ k ⊗ nat 5000) ⊗ (nat 10000 ⊗ (nat 1498962290000000 ⊗ nat 10000000)),
+    )) refl)
 
 -- the correction by steps: with the time over 10^4, the drift times 10^4 and the aging times 10^8
 abbrev pub stepped : Rational → Rational → Rational → Rational → Rational → Rational

@@ -48,9 +48,10 @@ pub seen_distance : (sent point seen : Place) (t : Rational) → IsSentPlace sen
 seen_distance sent point seen t s h =
     let x : Place = turned_back h.turn sent in
     let b = loosely (square x) (turned_square sent _ h.turn s h.turn_is) in
-    let e = ≈_sym (square seen) (square x) (square_same seen x h.seen_is) in
-    (≤ʳ_along (of_whole (pos 357210000000000)) (of_whole (pos 357210000000000)) (square x) (square seen) refl e b.low,
-      ≤ʳ_along (square x) (square seen) (of_whole (pos 1451610000000000)) (of_whole (pos 1451610000000000)) e refl b.high)
+    let e = ≈_sym (square seen) (square x) (square_same seen x h.seen_is) in (
+      ≤ʳ_along (of_whole (pos 357210000000000)) (of_whole (pos 357210000000000)) (square x) (square seen) refl e b.low,
+      ≤ʳ_along (square x) (square seen) (of_whole (pos 1451610000000000)) (of_whole (pos 1451610000000000)) e refl b.high,
+    )
 
 -- ---- the travel time
 pub travel_nn : (sent point seen : Place) (t : Rational) → IsSeenPlace sent point t seen → of_whole (pos 0) ≤ʳ t

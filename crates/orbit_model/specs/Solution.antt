@@ -113,4 +113,4 @@ pub record IsSatelliteSolution (world : Constants) (eph : Elements) (sent : Rati
   pub earth_fixed_z : q.z ≈ mul_r q.plane_y q.inclination_pair.sin
   -- Δt = af0 + af1 (t - toc) + af2 (t - toc)² + F e √A sin E
   pub clock_correction : q.clock ≈ add_r (add_r (add_r eph.af0 (mul_r eph.af1 (sub_r q.t eph.toc)))
-        (mul_r eph.af2 (mul_r (sub_r q.t eph.toc) (sub_r q.t eph.toc)))) (mul_r (mul_r (mul_r world.relativity eph.ecc) eph.root_a) q.eccentric_pair.sin)
+      (mul_r eph.af2 (mul_r (sub_r q.t eph.toc) (sub_r q.t eph.toc)))) (mul_r (mul_r (mul_r world.relativity eph.ecc) eph.root_a) q.eccentric_pair.sin)

@@ -20,7 +20,7 @@ use Rattle.orbit_place.specs.Directions.{Point, IsNearSphere, HasPointNearSphere
 pub near_in_box : (b : Iv 36) (x y : Rational) → width_of b ≤ℤ pos (2 ^ 18) → Holds b x → Holds b y → sub_r x y ≤ʳ one
 near_in_box b x y w h k =
     order_r (x ∷ y ∷ of_scale 36 b.lo ∷ of_scale 36 b.hi ∷ []) ((va 0 ≼ va 3) ∷ (va 2 ≼ va 1) ∷ (va 3 ⊖ va 2 ≼ nat 1) ∷ []) [] (va 0 ⊖ va 1) (nat 1)
-        (hy 0 ⊞ hy 1 ⊞ hy 2) [] refl (h.1, (k.0, (ends b.lo b.hi w, tt))) tt
+    (hy 0 ⊞ hy 1 ⊞ hy 2) [] refl (h.1, (k.0, (ends b.lo b.hi w, tt))) tt
   where
     ends : (l h : ℤ) → (h -ℤ l) ≤ℤ pos (2 ^ 18) → sub_r (of_scale 36 h) (of_scale 36 l) ≤ʳ one
     ends l h w = omega (arith, ints)

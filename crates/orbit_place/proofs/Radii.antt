@@ -19,7 +19,7 @@ low_in {k} b = end_in k b.lo b.hi b.lo (omega (arith, ints)) b.ordered
 pub radius_least : (axis : Iv 36) (share : Iv 60) (change radius : Iv 36) → pos (20249999 * 2 ^ 36) ≤ℤ axis.lo → pos (2 ^ 60 - 1025 * 2 ^ 45) ≤ℤ share.lo → IsWithin (20020 * 2 ^ 36) change →
     width_of radius ≤ℤ pos 143 → ((x y z : Rational) → Holds axis x → Holds share y → Holds change z → Holds radius (add_r (mul_r x y) z)) → pos (19590000 * 2 ^ 36) ≤ℤ radius.lo
 radius_least axis share change radius h k s w holds = down radius.lo (low_end 36 radius.lo radius.hi (pos 143)
-      (pos (19590001 * 2 ^ 36)) (add_r (mul_r x y) z) w above (holds x y z (low_in axis) (low_in share) (low_in change)))
+    (pos (19590001 * 2 ^ 36)) (add_r (mul_r x y) z) w above (holds x y z (low_in axis) (low_in share) (low_in change)))
   where
     x : Rational
     x = of_scale 36 axis.lo
@@ -52,9 +52,16 @@ radius_least axis share change radius h k s w holds = down radius.lo (low_end 36
     above : least ≤ʳ add_r (mul_r x y) z
     above = order_r (x ∷ y ∷ z ∷ a ∷ b ∷ c ∷ least ∷ [])
         ((va 3 ≼ va 0) ∷ (va 4 ≼ va 1) ∷ (ng (va 2) ≼ va 5) ∷ (nat 0 ≼ va 3) ∷ (nat 0 ≼ va 4) ∷ (va 6 ⊕ va 5 ≼ va 3 ⊗ va 4) ∷ []) []
-        (va 6) (va 0 ⊗ va 1 ⊕ va 2) (hy 5 ⊞ hy 2 ⊞ hy 0 ⊠ hy 1 ⊞ hy 0 ⊠ hy 4 ⊞ hy 3 ⊠ hy 1) [] refl
-        (axis_high axis.lo h, (share_high share.lo k, ((size_of_box 36 (20020 * 2 ^ 36) change.lo change.hi z s.0 s.1 (low_in change)).1,
-              (le_pos _ _ (lit≤ tt), (le_pos _ _ (lit≤ tt), (le_pos _ _ (lit≤ tt), tt)))))) tt
+        (va 6) (va 0 ⊗ va 1 ⊕ va 2) (hy 5 ⊞ hy 2 ⊞ hy 0 ⊠ hy 1 ⊞ hy 0 ⊠ hy 4 ⊞ hy 3 ⊠ hy 1) [] refl (
+          axis_high axis.lo h,
+          (
+            share_high share.lo k,
+            (
+              (size_of_box 36 (20020 * 2 ^ 36) change.lo change.hi z s.0 s.1 (low_in change)).1,
+              (le_pos _ _ (lit≤ tt), (le_pos _ _ (lit≤ tt), (le_pos _ _ (lit≤ tt), tt))),
+            ),
+          ),
+        ) tt
 
     down : (lo : ℤ) → (pos (19590001 * 2 ^ 36) -ℤ pos 143) ≤ℤ lo → pos (19590000 * 2 ^ 36) ≤ℤ lo
     down lo h = omega (arith, ints)

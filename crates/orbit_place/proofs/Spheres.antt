@@ -27,9 +27,11 @@ rests a b c bound h =
     let x : Ex = va 0 ⊗ va 0 in
     let y : Ex = va 1 ⊗ va 1 in
     let z : Ex = va 2 ⊗ va 2 in
-    let hs : List Hy = (x ⊕ y ⊕ z ⊖ nat 1 ≼ va 3) ∷ [] in
-    (order_r r hs [] (x ⊕ (y ⊕ z) ⊖ nat 1) (va 3) (hy 0) [] refl (h, tt) tt, order_r r hs [] (y ⊕ (x ⊕ z) ⊖ nat 1) (va 3) (hy 0) [] refl (h, tt) tt,
-      order_r r hs [] (z ⊕ (x ⊕ y) ⊖ nat 1) (va 3) (hy 0) [] refl (h, tt) tt)
+    let hs : List Hy = (x ⊕ y ⊕ z ⊖ nat 1 ≼ va 3) ∷ [] in (
+      order_r r hs [] (x ⊕ (y ⊕ z) ⊖ nat 1) (va 3) (hy 0) [] refl (h, tt) tt,
+      order_r r hs [] (y ⊕ (x ⊕ z) ⊖ nat 1) (va 3) (hy 0) [] refl (h, tt) tt,
+      order_r r hs [] (z ⊕ (x ⊕ y) ⊖ nat 1) (va 3) (hy 0) [] refl (h, tt) tt,
+    )
 
 nonneg : (a b : Rational) → of_whole (pos 0) ≤ʳ add_r (mul_r a a) (mul_r b b)
 nonneg a b = order_r (a ∷ b ∷ []) [] [] (nat 0) (va 0 ⊗ va 0 ⊕ va 1 ⊗ va 1) (sq (va 0) ⊞ sq (va 1)) [] refl tt tt
@@ -86,8 +88,25 @@ direction_near u i n hu hi hn = (
         ∷ (nat 12 ⊗ va 6 ≼ va 9) ∷ (nat 58 ⊗ va 6 ≼ nat 1) ∷ (va 6 ≼ nat 1) ∷ (nat 0 ≼ va 6) ∷ []
 
     known : AreGiven numbers orders
-    known = (hn.0, (hn.1, (le_pos _ _ (lit≤ tt), (hu.0, (hu.1, (le_pos _ _ (lit≤ tt),
-                    (hi.0, (hi.1, (le_pos _ _ (lit≤ tt), (le_pos _ _ (lit≤ tt), (le_pos _ _ (lit≤ tt), (le_pos _ _ (lit≤ tt), tt))))))))))))
+    known = (
+      hn.0,
+      (
+        hn.1,
+        (
+          le_pos _ _ (lit≤ tt),
+          (
+            hu.0,
+            (
+              hu.1,
+              (
+                le_pos _ _ (lit≤ tt),
+                (hi.0, (hi.1, (le_pos _ _ (lit≤ tt), (le_pos _ _ (lit≤ tt), (le_pos _ _ (lit≤ tt), (le_pos _ _ (lit≤ tt), tt)))))),
+              ),
+            ),
+          ),
+        ),
+      ),
+    )
 
     -- 6 - 4 P - sin²u
     room : Ce
@@ -102,5 +121,5 @@ has_direction uc us ic is nc ns a b c holds hu hi hn =
     ∥∥₁_elim hu ∥∥₁_prop (λ x. ∥∥₁_elim hi ∥∥₁_prop (λ y. ∥∥₁_map hn (λ z. record {
       point = direction x.pair y.pair z.pair;
       held = holds x.pair y.pair z.pair x.held y.held z.held;
-      near = direction_near x.pair y.pair z.pair x.near y.near z.near
+      near = direction_near x.pair y.pair z.pair x.near y.near z.near;
     })))

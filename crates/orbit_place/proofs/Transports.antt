@@ -35,7 +35,7 @@ pub inclination_with : (inclination start change other rate time : Rational) →
     inclination ≈ add_r (add_r start other) (mul_r (times 10000 rate) (divided time 10000 (lit< tt)))
 inclination_with i s c d r t e f =
     equal_r (i ∷ s ∷ c ∷ d ∷ mul_r r t ∷ mul_r (times 10000 r) (divided t 10000 (lit< tt)) ∷ [])
-        ((va 0 ≐ va 1 ⊕ va 2 ⊕ va 4) ∷ (va 2 ≐ va 3) ∷ (va 5 ≐ va 4) ∷ []) (ko (pos 1) ∷ ko (pos 1) ∷ ng (ko (pos 1)) ∷ [])
+    ((va 0 ≐ va 1 ⊕ va 2 ⊕ va 4) ∷ (va 2 ≐ va 3) ∷ (va 5 ≐ va 4) ∷ []) (ko (pos 1) ∷ ko (pos 1) ∷ ng (ko (pos 1)) ∷ [])
     (va 0) (va 1 ⊕ va 3 ⊕ va 5) refl (e, (f, (scaled_product r t, tt)))
 
 -- Ω0 + (Ωdot - Ωe) tk - Ωe toe
@@ -43,7 +43,7 @@ pub node_with : (node start rate earth time second whole : Rational) → node �
     node ≈ sub_r (add_r start (mul_r (sub_r (times 10000 rate) (times 10000 earth)) (divided time 10000 (lit< tt)))) (mul_r earth whole)
 node_with n s r o t u w e f =
     equal_r (n ∷ s ∷ mul_r (sub_r r o) t ∷ mul_r (sub_r (times 10000 r) (times 10000 o)) (divided t 10000 (lit< tt)) ∷ o ∷ u ∷ w ∷ [])
-        ((va 0 ≐ va 1 ⊕ va 2 ⊖ va 4 ⊗ va 5) ∷ (va 3 ≐ va 2) ∷ (va 5 ≐ va 6) ∷ []) (ko (pos 1) ∷ ng (ko (pos 1)) ∷ ng (va 4) ∷ [])
+    ((va 0 ≐ va 1 ⊕ va 2 ⊖ va 4 ⊗ va 5) ∷ (va 3 ≐ va 2) ∷ (va 5 ≐ va 6) ∷ []) (ko (pos 1) ∷ ng (ko (pos 1)) ∷ ng (va 4) ∷ [])
     (va 0) (va 1 ⊕ va 3 ⊖ va 4 ⊗ va 6) refl (e, (scaled_difference r o t, (f, tt)))
 
 -- ---- the place: the radius times the direction

@@ -2,7 +2,7 @@
 use Rattle.std.proofs.Common.{◌≡◌, ◌++◌, ◌<◌, ◌≤◌, ◌^◌, ℕ, ℤ, ◌+ℤ◌, ◌-ℤ◌, unsigned_abs, to_z, of_z, List, ap, ◌∙◌, append_assoc, arith}
 use Rattle.std.specs.Int.{w64}
 use Rattle.std.proofs.lemmas.Int.{ints}
-use Rattle.form_tables.proofs.Words.{as_w64}
+use Rattle.whole_math.proofs.Words.{as_w64}
 use Rattle.obs_rows.specs.Ranges.{IsBelow, IsWithin}
 use Rattle.outcome_report.specs.Baselines.{in_tenths, from_base}
 

@@ -75,17 +75,20 @@ decided d e h ratio z1 z2 z' m b gs ts p i j g f s t r c k o =
     room : (h t r q : ℤ) → pos 1 ≤ℤ h → pos 1000 ≤ℤ r → (pos 64 *ℤ (r *ℤ t)) <ℤ (pos 1000 *ℤ q) → pos 0 ≤ℤ (h *ℤ t) → (pos 64 *ℤ (h *ℤ t)) <ℤ (h *ℤ q)
     room h t r q h₀ h₁ h₂ h₃ = mul_lt_cancel (pos 64 *ℤ (h *ℤ t)) (h *ℤ q) 1000 (omega arith)
         (strict h₀ (le_by (h ∷ t ∷ q ∷ r ∷ []) (λ h t q r.
-              (nat 64 ⊗ (h ⊗ t) ⊗ nat 1000 ⊕ h, h ⊗ q ⊗ nat 1000, h ⊗ (nat 1000 ⊗ q ⊖ (nat 64 ⊗ (r ⊗ t) ⊕ nat 1)) ⊕ nat 64 ⊗ ((r ⊖ nat 1000) ⊗ (h ⊗ t)))) refl
-            (both_nn (prod_nn (one_nn h₀) (less_nn (later h₂))) (prod_nn (pos_nn 64) (prod_nn (less_nn h₁) h₃)))))
+        (nat 64 ⊗ (h ⊗ t) ⊗ nat 1000 ⊕ h, h ⊗ q ⊗ nat 1000, h ⊗ (nat 1000 ⊗ q ⊖ (nat 64 ⊗ (r ⊗ t) ⊕ nat 1)) ⊕ nat 64 ⊗ ((r ⊖ nat 1000) ⊗ (h ⊗ t)))) refl
+        (both_nn (prod_nn (one_nn h₀) (less_nn (later h₂))) (prod_nn (pos_nn 64) (prod_nn (less_nn h₁) h₃)))))
 
     step : (d e h t r q v a b : ℤ) → pos 1 ≤ℤ d → pos 1 ≤ℤ e → pos 1 ≤ℤ h → pos 1000 ≤ℤ r → (pos 64 *ℤ (r *ℤ t)) <ℤ (pos 1000 *ℤ q) → pos 0 ≤ℤ (h *ℤ t) → q ≤ℤ v →
         a ≤ℤ (d *ℤ pos (2 ^ 16) *ℤ (d *ℤ pos (2 ^ 16)) *ℤ (h *ℤ t)) → (d *ℤ e *ℤ (d *ℤ e) *ℤ (h *ℤ v)) ≤ℤ (pos 64 *ℤ b) → (a *ℤ (e *ℤ e)) <ℤ (b *ℤ (pos (2 ^ 16) *ℤ pos (2 ^ 16)))
     step d e h t r q v a b h₁ h₂ h₃ h₄ h₅ h₆ h₇ h₈ h₉ = mul_lt_cancel (a *ℤ (e *ℤ e)) (b *ℤ (pos (2 ^ 16) *ℤ pos (2 ^ 16))) 64 (omega arith)
         (strict (ones (d *ℤ e *ℤ (d *ℤ e)) (pos (2 ^ 32)) (ones _ _ (ones d e h₁ h₂) (ones d e h₁ h₂)) (pos_one (2 ^ 32) (pow_pos 32)))
         (le_by (a ∷ e ∷ d ∷ b ∷ h ∷ v ∷ q ∷ t ∷ [])
-          (λ a e d b h v q t. (a ⊗ (e ⊗ e) ⊗ nat 64 ⊕ d ⊗ e ⊗ (d ⊗ e) ⊗ nat (2 ^ 32), b ⊗ (nat (2 ^ 16) ⊗ nat (2 ^ 16)) ⊗ nat 64,
-              nat (2 ^ 32) ⊗ (nat 64 ⊗ b ⊖ d ⊗ e ⊗ (d ⊗ e) ⊗ (h ⊗ v)) ⊕ d ⊗ e ⊗ (d ⊗ e) ⊗ nat (2 ^ 32) ⊗ (h ⊗ (v ⊖ q)) ⊕ (d ⊗ e ⊗ (d ⊗ e) ⊗ nat
-                (2 ^ 32) ⊗ (h ⊗ q ⊖ (nat 64 ⊗ (h ⊗ t) ⊕ nat 1)) ⊕ nat 64 ⊗ (e ⊗ e ⊗ (d ⊗ nat (2 ^ 16) ⊗ (d ⊗ nat (2 ^ 16)) ⊗ (h ⊗ t) ⊖ a))))) refl (both_nn
-            (both_nn (prod_nn (pos_nn (2 ^ 32)) (less_nn h₉)) (prod_nn (prod_nn (square_nn (d *ℤ e)) (pos_nn (2 ^ 32))) (prod_nn (one_nn h₃) (less_nn h₇))))
-            (both_nn (prod_nn (prod_nn (square_nn (d *ℤ e)) (pos_nn (2 ^ 32))) (less_nn (later (room h t r q h₃ h₄ h₅ h₆))))
-              (prod_nn (pos_nn 64) (prod_nn (square_nn e) (less_nn h₈)))))))
+        (λ a e d b h v q t. (
+          a ⊗ (e ⊗ e) ⊗ nat 64 ⊕ d ⊗ e ⊗ (d ⊗ e) ⊗ nat (2 ^ 32),
+          b ⊗ (nat (2 ^ 16) ⊗ nat (2 ^ 16)) ⊗ nat 64,
+          nat (2 ^ 32) ⊗ (nat 64 ⊗ b ⊖ d ⊗ e ⊗ (d ⊗ e) ⊗ (h ⊗ v)) ⊕ d ⊗ e ⊗ (d ⊗ e) ⊗ nat (2 ^ 32) ⊗ (h ⊗ (v ⊖ q)) ⊕ (d ⊗ e ⊗ (d ⊗ e) ⊗ nat
+              (2 ^ 32) ⊗ (h ⊗ q ⊖ (nat 64 ⊗ (h ⊗ t) ⊕ nat 1)) ⊕ nat 64 ⊗ (e ⊗ e ⊗ (d ⊗ nat (2 ^ 16) ⊗ (d ⊗ nat (2 ^ 16)) ⊗ (h ⊗ t) ⊖ a))),
+        )) refl (both_nn
+        (both_nn (prod_nn (pos_nn (2 ^ 32)) (less_nn h₉)) (prod_nn (prod_nn (square_nn (d *ℤ e)) (pos_nn (2 ^ 32))) (prod_nn (one_nn h₃) (less_nn h₇))))
+        (both_nn (prod_nn (prod_nn (square_nn (d *ℤ e)) (pos_nn (2 ^ 32))) (less_nn (later (room h t r q h₃ h₄ h₅ h₆))))
+        (prod_nn (pos_nn 64) (prod_nn (square_nn e) (less_nn h₈)))))))

@@ -36,8 +36,8 @@ rounded_below m n b x h e k = rw (← quad_times (pos m) (rounded m n b) x)
   where
     step : (m n l t i j : ℤ) → pos 0 ≤ℤ m → pos 0 ≤ℤ l → l ≤ℤ n → pos 0 ≤ℤ t → ((pos 2 *ℤ (m *ℤ n) +ℤ m -ℤ m *ℤ l) *ℤ t) ≤ℤ (pos 2 *ℤ (i -ℤ j)) → j ≤ℤ i
     step m n l t i j h₀ h₁ h₂ h₃ h₄ = halve (le_by (j ∷ i ∷ m ∷ n ∷ l ∷ t ∷ [])
-          (λ j i m n l t. (nat 2 ⊗ j, nat 2 ⊗ i, nat 2 ⊗ (i ⊖ j) ⊖ (nat 2 ⊗ (m ⊗ n) ⊕ m ⊖ m ⊗ l) ⊗ t ⊕ m ⊗ (nat 2 ⊗ (n ⊖ l) ⊕ l ⊕ nat 1) ⊗ t)) refl
-          (both_nn (less_nn h₄) (prod_nn (prod_nn h₀ (both_nn (both_nn (prod_nn (pos_nn 2) (less_nn h₂)) h₁) (pos_nn 1))) h₃)))
+        (λ j i m n l t. (nat 2 ⊗ j, nat 2 ⊗ i, nat 2 ⊗ (i ⊖ j) ⊖ (nat 2 ⊗ (m ⊗ n) ⊕ m ⊖ m ⊗ l) ⊗ t ⊕ m ⊗ (nat 2 ⊗ (n ⊖ l) ⊕ l ⊕ nat 1) ⊗ t)) refl
+        (both_nn (less_nn h₄) (prod_nn (prod_nn h₀ (both_nn (both_nn (prod_nn (pos_nn 2) (less_nn h₂)) h₁) (pos_nn 1))) h₃)))
 
 -- ---- the factors
 -- K yᵢ - a Lᵢ, times vᵢ
@@ -88,10 +88,13 @@ factors_close a r v h = step (pos a) (dot (factors a r) v) (dot r v) (len (misse
     step : (a l r i n q t s : ℤ) → t ≡ pos (2 ^ 30) *ℤ r -ℤ a *ℤ l → pos 0 ≤ℤ i → i ≤ℤ n → pos 0 ≤ℤ s → (pos 4 *ℤ q) ≤ℤ (a *ℤ a *ℤ s) → pos 0 ≤ℤ (i *ℤ q -ℤ t *ℤ t) →
         (pos 4 *ℤ ((a *ℤ l -ℤ pos (2 ^ 30) *ℤ r) *ℤ (a *ℤ l -ℤ pos (2 ^ 30) *ℤ r))) ≤ℤ (n *ℤ (a *ℤ a *ℤ s))
     step a l r i n q t s e h₀ h₁ h₂ h₃ h₄ = le_by (a ∷ l ∷ r ∷ n ∷ s ∷ i ∷ q ∷ [])
-        (λ a l r n s i q. (nat 4 ⊗ ((a ⊗ l ⊖ nat (2 ^ 30) ⊗ r) ⊗ (a ⊗ l ⊖ nat (2 ^ 30) ⊗ r)), n ⊗ (a ⊗ a ⊗ s),
-            (n ⊖ i) ⊗ (a ⊗ a ⊗ s) ⊕ i ⊗ (a ⊗ a ⊗ s ⊖ nat 4 ⊗ q) ⊕ nat 4 ⊗ (i ⊗ q ⊖ (nat (2 ^ 30) ⊗ r ⊖ a ⊗ l) ⊗ (nat (2 ^ 30) ⊗ r ⊖ a ⊗ l)))) refl
+        (λ a l r n s i q. (
+          nat 4 ⊗ ((a ⊗ l ⊖ nat (2 ^ 30) ⊗ r) ⊗ (a ⊗ l ⊖ nat (2 ^ 30) ⊗ r)),
+          n ⊗ (a ⊗ a ⊗ s),
+          (n ⊖ i) ⊗ (a ⊗ a ⊗ s) ⊕ i ⊗ (a ⊗ a ⊗ s ⊖ nat 4 ⊗ q) ⊕ nat 4 ⊗ (i ⊗ q ⊖ (nat (2 ^ 30) ⊗ r ⊖ a ⊗ l) ⊗ (nat (2 ^ 30) ⊗ r ⊖ a ⊗ l)),
+        )) refl
         (both_nn (both_nn (prod_nn (less_nn h₁) (prod_nn (square_nn a) h₂)) (prod_nn h₀ (less_nn h₃)))
-          (prod_nn (pos_nn 4) (subst (λ (z : ℤ). pos 0 ≤ℤ (i *ℤ q -ℤ z *ℤ z)) e h₄)))
+        (prod_nn (pos_nn 4) (subst (λ (z : ℤ). pos 0 ≤ℤ (i *ℤ q -ℤ z *ℤ z)) e h₄)))
 
 -- ---- the form that is left
 others_close : (a : ℕ) (p : ℤ) (r t : List ℤ) → 0 < a → len t ≡ len r →
@@ -124,7 +127,7 @@ next_above a n (p ∷ r) (c ∷ m) h e k = (
   where
     own : (a n g o w q : ℤ) → w ≤ℤ (a *ℤ q) → (pos 2 *ℤ (a *ℤ n +ℤ a *ℤ g)) ≤ℤ (pos 2 *ℤ (a *ℤ o +ℤ negsuc 0 *ℤ w -ℤ a *ℤ (o -ℤ q -ℤ n -ℤ g)))
     own a n g o w q h = le_by (a ∷ n ∷ g ∷ o ∷ w ∷ q ∷ []) (λ a n g o w q.
-          (nat 2 ⊗ (a ⊗ n ⊕ a ⊗ g), nat 2 ⊗ (a ⊗ o ⊕ ko (negsuc 0) ⊗ w ⊖ a ⊗ (o ⊖ q ⊖ n ⊖ g)), nat 2 ⊗ (a ⊗ q ⊖ w))) refl (prod_nn (pos_nn 2) (less_nn h))
+        (nat 2 ⊗ (a ⊗ n ⊕ a ⊗ g), nat 2 ⊗ (a ⊗ o ⊕ ko (negsuc 0) ⊗ w ⊖ a ⊗ (o ⊖ q ⊖ n ⊖ g)), nat 2 ⊗ (a ⊗ q ⊖ w))) refl (prod_nn (pos_nn 2) (less_nn h))
 
 -- a quad(M) - (r·v)² ≥ a quad(M') + a G |v|²
 pub next_below : (a : ℕ) (n : ℤ) (r : List ℤ) (m : List Column) (v : List ℤ) → 0 < a → len r ≡ len m → Shaped m → len m ≡ len v → len v ≤ℤ n →
@@ -147,11 +150,14 @@ next_below a n r m v h e k f i = step (pos a) n (ceil_div (n *ℤ pos a) (2 ^ 42
     step : (a n g l s q r w i j : ℤ) → i ≡ a *ℤ q +ℤ negsuc 0 *ℤ (r *ℤ r) → j ≡ a *ℤ w → pos 0 ≤ℤ a → pos 0 ≤ℤ l → l ≤ℤ n → pos 0 ≤ℤ s →
         ((pos 2 *ℤ (a *ℤ n +ℤ a *ℤ g) +ℤ a -ℤ a *ℤ l) *ℤ s) ≤ℤ (pos 2 *ℤ (i -ℤ j)) →
         (r *ℤ r +ℤ a *ℤ w +ℤ a *ℤ g *ℤ s) ≤ℤ (a *ℤ q)
-    step a n g l s q r w i j d f h₀ h₁ h₂ h₃ h₄ = halve (le_by (r ∷ a ∷ w ∷ g ∷ s ∷ q ∷ n ∷ l ∷ []) (λ r a w g s q n l. (nat 2 ⊗ (r ⊗ r ⊕ a ⊗ w ⊕ a ⊗ g ⊗ s),
-              nat 2 ⊗ (a ⊗ q), nat 2 ⊗ (a ⊗ q ⊕ ko (negsuc 0) ⊗ (r ⊗ r) ⊖ a ⊗ w) ⊖ (nat 2 ⊗ (a ⊗ n ⊕ a ⊗ g) ⊕ a ⊖ a ⊗ l) ⊗ s ⊕ a ⊗ (n ⊖ l ⊕ n ⊕ nat 1) ⊗ s))
-          refl (both_nn (less_nn (subst (λ (z : ℤ). ((pos 2 *ℤ (a *ℤ n +ℤ a *ℤ g) +ℤ a -ℤ a *ℤ l) *ℤ s) ≤ℤ (pos 2 *ℤ (a *ℤ q +ℤ negsuc 0 *ℤ (r *ℤ r) -ℤ z))) f
-                (subst (λ (z : ℤ). ((pos 2 *ℤ (a *ℤ n +ℤ a *ℤ g) +ℤ a -ℤ a *ℤ l) *ℤ s) ≤ℤ (pos 2 *ℤ (z -ℤ j))) d h₄)))
-            (prod_nn (prod_nn h₀ (both_nn (both_nn (less_nn h₂) (up_nn h₁ h₂)) (pos_nn 1))) h₃)))
+    step a n g l s q r w i j d f h₀ h₁ h₂ h₃ h₄ = halve (le_by (r ∷ a ∷ w ∷ g ∷ s ∷ q ∷ n ∷ l ∷ []) (λ r a w g s q n l. (
+      nat 2 ⊗ (r ⊗ r ⊕ a ⊗ w ⊕ a ⊗ g ⊗ s),
+      nat 2 ⊗ (a ⊗ q),
+      nat 2 ⊗ (a ⊗ q ⊕ ko (negsuc 0) ⊗ (r ⊗ r) ⊖ a ⊗ w) ⊖ (nat 2 ⊗ (a ⊗ n ⊕ a ⊗ g) ⊕ a ⊖ a ⊗ l) ⊗ s ⊕ a ⊗ (n ⊖ l ⊕ n ⊕ nat 1) ⊗ s,
+    ))
+        refl (both_nn (less_nn (subst (λ (z : ℤ). ((pos 2 *ℤ (a *ℤ n +ℤ a *ℤ g) +ℤ a -ℤ a *ℤ l) *ℤ s) ≤ℤ (pos 2 *ℤ (a *ℤ q +ℤ negsuc 0 *ℤ (r *ℤ r) -ℤ z))) f
+        (subst (λ (z : ℤ). ((pos 2 *ℤ (a *ℤ n +ℤ a *ℤ g) +ℤ a -ℤ a *ℤ l) *ℤ s) ≤ℤ (pos 2 *ℤ (z -ℤ j))) d h₄)))
+        (prod_nn (prod_nn h₀ (both_nn (both_nn (less_nn h₂) (up_nn h₁ h₂)) (pos_nn 1))) h₃)))
       where
         up_nn : {l n : ℤ} → pos 0 ≤ℤ l → l ≤ℤ n → pos 0 ≤ℤ n
         up_nn h k = omega (arith, lins)
@@ -168,7 +174,7 @@ step_below a r m x v h e k f =
     (squared_norm_nonneg v)
     (next_below a (len r) r m v h e k f (le_eq i))
     (subst (λ (z : ℤ). (pos 4 *ℤ ((pos a *ℤ dot (factors a r) v -ℤ pos (2 ^ 30) *ℤ dot r v) *ℤ (pos a *ℤ dot (factors a r) v -ℤ pos (2 ^ 30) *ℤ dot r v)))
-        ≤ℤ (z *ℤ (pos a *ℤ pos a *ℤ squared_norm v))) i (factors_close a r v h))
+    ≤ℤ (z *ℤ (pos a *ℤ pos a *ℤ squared_norm v))) i (factors_close a r v h))
     (ceil_close (len r *ℤ pos a) (2 ^ 42) (omega arith))
     (square_share a c (pos (2 ^ 20)) (pos (2 ^ 30) *ℤ (pos a *ℤ x +ℤ dot r v)) (pos a *ℤ dot (factors a r) v -ℤ pos (2 ^ 30) *ℤ dot r v)
     (share_pos a h) (share_le a) (ceil_close (pos a) (2 ^ 20) (omega arith)))
@@ -185,25 +191,28 @@ step_below a r m x v h e k f =
     step : (a : ℕ) (x r l q w g s n c : ℤ) → 0 < a → pos 0 ≤ℤ s → (r *ℤ r +ℤ pos a *ℤ w +ℤ pos a *ℤ g *ℤ s) ≤ℤ (pos a *ℤ q) →
         (pos 4 *ℤ ((pos a *ℤ l -ℤ pos (2 ^ 30) *ℤ r) *ℤ (pos a *ℤ l -ℤ pos (2 ^ 30) *ℤ r))) ≤ℤ (n *ℤ (pos a *ℤ pos a *ℤ s)) → (n *ℤ pos a) ≤ℤ (pos (2 ^ 42) *ℤ g) →
         ((pos a -ℤ c) *ℤ ((pos (2 ^ 30) *ℤ (pos a *ℤ x +ℤ r) +ℤ (pos a *ℤ l -ℤ pos (2 ^ 30) *ℤ r)) *ℤ (pos (2 ^ 30) *ℤ (pos a *ℤ x +ℤ r)
-              +ℤ (pos a *ℤ l -ℤ pos (2 ^ 30) *ℤ r)))) ≤ℤ (pos a *ℤ (pos (2 ^ 30) *ℤ (pos a *ℤ x +ℤ r) *ℤ (pos (2 ^ 30) *ℤ (pos a *ℤ x +ℤ r)))
-              +ℤ pos (2 ^ 20) *ℤ pos a *ℤ ((pos a *ℤ l -ℤ pos (2 ^ 30) *ℤ r) *ℤ (pos a *ℤ l -ℤ pos (2 ^ 30) *ℤ r))) →
+        +ℤ (pos a *ℤ l -ℤ pos (2 ^ 30) *ℤ r)))) ≤ℤ (pos a *ℤ (pos (2 ^ 30) *ℤ (pos a *ℤ x +ℤ r) *ℤ (pos (2 ^ 30) *ℤ (pos a *ℤ x +ℤ r)))
+        +ℤ pos (2 ^ 20) *ℤ pos a *ℤ ((pos a *ℤ l -ℤ pos (2 ^ 30) *ℤ r) *ℤ (pos a *ℤ l -ℤ pos (2 ^ 30) *ℤ r))) →
         ((pos a -ℤ c) *ℤ ((pos (2 ^ 30) *ℤ x +ℤ l) *ℤ (pos (2 ^ 30) *ℤ x +ℤ l)) +ℤ pos (2 ^ 60) *ℤ w) ≤ℤ (pos (2 ^ 60) *ℤ (pos a *ℤ (x *ℤ x) +ℤ pos 2 *ℤ (x *ℤ r) +ℤ q))
     step a x r l q w g s n c h₀ h₁ h₂ h₃ h₄ h₅ = cancel_square a (pos (2 ^ 60) *ℤ (pos a *ℤ (x *ℤ x) +ℤ pos 2 *ℤ (x *ℤ r) +ℤ q))
         ((pos a -ℤ c) *ℤ ((pos (2 ^ 30) *ℤ x +ℤ l) *ℤ (pos (2 ^ 30) *ℤ x +ℤ l)) +ℤ pos (2 ^ 60) *ℤ w) h₀
-        (le_by (pos a ∷ c ∷ x ∷ l ∷ w ∷ r ∷ q ∷ g ∷ s ∷ n ∷ []) (λ a c x l w r q g s n. (a ⊗ a ⊗ ((a ⊖ c) ⊗ ((nat (2 ^ 30) ⊗ x ⊕ l) ⊗ (nat (2 ^ 30) ⊗ x ⊕ l))
-                ⊕ nat (2 ^ 60) ⊗ w), a ⊗ a ⊗ (nat (2 ^ 60) ⊗ (a ⊗ (x ⊗ x) ⊕ nat 2 ⊗ (x ⊗ r) ⊕ q)),
-              a ⊗ (nat (2 ^ 30) ⊗ (a ⊗ x ⊕ r) ⊗ (nat (2 ^ 30) ⊗ (a ⊗ x ⊕ r))) ⊕ nat (2 ^ 20) ⊗ a ⊗ ((a ⊗ l ⊖ nat (2 ^ 30) ⊗ r) ⊗ (a ⊗ l ⊖ nat (2 ^ 30) ⊗ r))
+        (le_by (pos a ∷ c ∷ x ∷ l ∷ w ∷ r ∷ q ∷ g ∷ s ∷ n ∷ []) (λ a c x l w r q g s n. (
+          a ⊗ a ⊗ ((a ⊖ c) ⊗ ((nat (2 ^ 30) ⊗ x ⊕ l) ⊗ (nat (2 ^ 30) ⊗ x ⊕ l))
+              ⊕ nat (2 ^ 60) ⊗ w),
+          a ⊗ a ⊗ (nat (2 ^ 60) ⊗ (a ⊗ (x ⊗ x) ⊕ nat 2 ⊗ (x ⊗ r) ⊕ q)),
+          a ⊗ (nat (2 ^ 30) ⊗ (a ⊗ x ⊕ r) ⊗ (nat (2 ^ 30) ⊗ (a ⊗ x ⊕ r))) ⊕ nat (2 ^ 20) ⊗ a ⊗ ((a ⊗ l ⊖ nat (2 ^ 30) ⊗ r) ⊗ (a ⊗ l ⊖ nat (2 ^ 30) ⊗ r))
               ⊖ (a ⊖ c) ⊗ ((nat (2 ^ 30) ⊗ (a ⊗ x ⊕ r) ⊕ (a ⊗ l ⊖ nat (2 ^ 30) ⊗ r)) ⊗ (nat (2 ^ 30) ⊗ (a ⊗ x ⊕ r) ⊕ (a ⊗ l ⊖ nat (2 ^ 30) ⊗ r)))
               ⊕ nat (2 ^ 60) ⊗ a ⊗ (a ⊗ q ⊖ (r ⊗ r ⊕ a ⊗ w ⊕ a ⊗ g ⊗ s)) ⊕ (nat (2 ^ 18) ⊗ a ⊗ a ⊗ s ⊗ (nat (2 ^ 42) ⊗ g ⊖ n ⊗ a)
-                ⊕ nat (2 ^ 18) ⊗ a ⊗ (n ⊗ (a ⊗ a ⊗ s) ⊖ nat 4 ⊗ ((a ⊗ l ⊖ nat (2 ^ 30) ⊗ r) ⊗ (a ⊗ l ⊖ nat (2 ^ 30) ⊗ r)))))) refl
-          (both_nn (both_nn (less_nn h₅) (prod_nn (prod_nn (pos_nn (2 ^ 60)) (pos_nn a)) (less_nn h₂)))
-            (both_nn (prod_nn (prod_nn (prod_nn (prod_nn (pos_nn (2 ^ 18)) (pos_nn a)) (pos_nn a)) h₁) (less_nn h₄))
-              (prod_nn (prod_nn (pos_nn (2 ^ 18)) (pos_nn a)) (less_nn h₃)))))
+              ⊕ nat (2 ^ 18) ⊗ a ⊗ (n ⊗ (a ⊗ a ⊗ s) ⊖ nat 4 ⊗ ((a ⊗ l ⊖ nat (2 ^ 30) ⊗ r) ⊗ (a ⊗ l ⊖ nat (2 ^ 30) ⊗ r)))),
+        )) refl
+        (both_nn (both_nn (less_nn h₅) (prod_nn (prod_nn (pos_nn (2 ^ 60)) (pos_nn a)) (less_nn h₂)))
+        (both_nn (prod_nn (prod_nn (prod_nn (prod_nn (pos_nn (2 ^ 18)) (pos_nn a)) (pos_nn a)) h₁) (less_nn h₄))
+        (prod_nn (prod_nn (pos_nn (2 ^ 18)) (pos_nn a)) (less_nn h₃)))))
 
 -- ---- what a step keeps
 pub kept_nonneg : (a : ℕ) → pos 0 ≤ℤ kept a
 kept_nonneg a = less_nn (ceil_least (pos a) (pos a) (2 ^ 20) (omega arith)
-      (le_by (pos a ∷ []) (λ a. (a, a ⊗ nat (2 ^ 20), a ⊗ (nat (2 ^ 20) ⊖ nat 1))) refl (prod_nn (pos_nn a) (pos_nn (2 ^ 20 - 1)))))
+    (le_by (pos a ∷ []) (λ a. (a, a ⊗ nat (2 ^ 20), a ⊗ (nat (2 ^ 20) ⊖ nat 1))) refl (prod_nn (pos_nn a) (pos_nn (2 ^ 20 - 1)))))
 
 pub next_len : (a : ℕ) (n : ℤ) (r : List ℤ) (m : List Column) → len r ≡ len m → len (next a n r m) ≡ len m
 next_len a n [] [] e = refl

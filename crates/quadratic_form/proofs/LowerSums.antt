@@ -34,7 +34,7 @@ drop_all (x ∷ z) = drop_all z
 pub lower_sum_below : (p : List Column) (z : List ℤ) (fs : List Factor) (g : ℤ) → Shaped p → len p ≡ len (z ++ (pos 1 ∷ [])) → len fs ≡ len z →
     steps 0 (length z) p ≡ Ok (fs, record { own = g; others = [] } ∷ []) → lower_sum g fs z ≤ℤ (pos (2 ^ 60) *ℤ value p z)
 lower_sum_below p z fs g s e f h = rw (low_is g fs z f) (step (squares fs x) (quad (record { own = g; others = [] } ∷ []) (drop (length z) x)) g
-      (value p z) last (steps_below 0 (length z) p x (fs, record { own = g; others = [] } ∷ []) h s e).1)
+    (value p z) last (steps_below 0 (length z) p x (fs, record { own = g; others = [] } ∷ []) h s e).1)
   where
     x : List ℤ
     x = z ++ (pos 1 ∷ [])
@@ -68,7 +68,7 @@ large_first p z fs g s e h = step (squares fs x) (quad (record { own = g; others
     step : (s q g v : ℤ) → q ≡ g → pos 0 ≤ℤ s → (s +ℤ pos (2 ^ 60) *ℤ q) ≤ℤ (pos (2 ^ 60) *ℤ v) → g ≤ℤ v
     step s q g v e h k = mul_le_cancel g v (2 ^ 60) (omega arith)
         (le_by (g ∷ v ∷ s ∷ q ∷ []) (λ g v s q. (g ⊗ nat (2 ^ 60), v ⊗ nat (2 ^ 60), nat (2 ^ 60) ⊗ v ⊖ (s ⊕ nat (2 ^ 60) ⊗ q) ⊕ (s ⊕ nat (2 ^ 60) ⊗ (q ⊖ g))))
-          refl (both_nn (less_nn k) (both_nn h (prod_nn (pos_nn (2 ^ 60)) (less_nn (le_eq (sym e)))))))
+        refl (both_nn (less_nn k) (both_nn h (prod_nn (pos_nn (2 ^ 60)) (less_nn (le_eq (sym e)))))))
 
 -- what is kept of an own entry that a step takes
 pub d_range : (a : ℕ) → 2 ^ 20 ≤ a → a < 2 ^ 52 → (pos (2 ^ 20 - 1) ≤ℤ kept a) × (kept a <ℤ pos (2 ^ 52))
@@ -112,7 +112,7 @@ zero_value zero (c ∷ p) s e = go c.own (dot c.others []) (quad p []) (none c.o
 
     go : (o r q : ℤ) → r ≡ pos 0 → q ≡ pos 0 → Small o → (o *ℤ (pos 1 *ℤ pos 1) +ℤ pos 2 *ℤ (pos 1 *ℤ r) +ℤ q) <ℤ pos (2 ^ 52)
     go o r q e f s = subst (λ (z : ℤ). z <ℤ pos (2 ^ 52)) (same_by (o ∷ []) (λ o. (o, o ⊗ (nat 1 ⊗ nat 1) ⊕ nat 2 ⊗ (nat 1 ⊗ nat 0) ⊕ nat 0)) refl
-          ∙ ap₂ (λ r q. o *ℤ (pos 1 *ℤ pos 1) +ℤ pos 2 *ℤ (pos 1 *ℤ r) +ℤ q) (sym e) (sym f)) s.1
+        ∙ ap₂ (λ r q. o *ℤ (pos 1 *ℤ pos 1) +ℤ pos 2 *ℤ (pos 1 *ℤ r) +ℤ q) (sym e) (sym f)) s.1
 zero_value (suc n) (c ∷ p) s e = subst (λ (z : ℤ). z <ℤ pos (2 ^ 52)) (go c.own (dot c.others v) (quad p v)) (zero_value n p s.2 (len_tail (len p) (len v) e))
   where
     v : List ℤ
@@ -131,7 +131,7 @@ small_second n (c ∷ p) (x ∷ z) z2 s f e t = by_lt_z x (pos 1)
     (second_value (c ∷ p) (len (zeros (suc n))) (x ∷ z) z2 (pos 1 ∷ zeros n) t refl (λ (i : (pos 1 ∷ zeros n) ≡ x ∷ z). one_not x h (head (pos 1) x (zeros n) z i))) one)
     (λ (h : pos 1 ≤ℤ x). under (value (c ∷ p) z2) (value (c ∷ p) (zeros (suc n)))
     (second_value (c ∷ p) (len (zeros (suc n))) (x ∷ z) z2 (zeros (suc n)) t refl
-      (λ (i : (pos 0 ∷ zeros n) ≡ x ∷ z). zero_not x h (head (pos 0) x (zeros n) z i))) (wide (zero_value (suc n) (c ∷ p) s e)))
+    (λ (i : (pos 0 ∷ zeros n) ≡ x ∷ z). zero_not x h (head (pos 0) x (zeros n) z i))) (wide (zero_value (suc n) (c ∷ p) s e)))
   where
     v : List ℤ
     v = zeros n ++ (pos 1 ∷ [])
@@ -155,9 +155,12 @@ small_second n (c ∷ p) (x ∷ z) z2 s f e t = by_lt_z x (pos 1)
     wide h = omega (arith, lins)
 
     sum3 : (o r q : ℤ) → o <ℤ pos (2 ^ 52) → r <ℤ pos (2 ^ 52) → q <ℤ pos (2 ^ 52) → (o *ℤ (pos 1 *ℤ pos 1) +ℤ pos 2 *ℤ (pos 1 *ℤ r) +ℤ q) <ℤ pos (2 ^ 54)
-    sum3 o r q h₁ h₂ h₃ = strict {b = pos 1} (pos_one 1 (omega arith)) (le_by (o ∷ r ∷ q ∷ []) (λ o r q. (o ⊗ (nat 1 ⊗ nat 1) ⊕ nat 2 ⊗ (nat 1 ⊗ r) ⊕ q ⊕ nat 1,
-              nat (2 ^ 54), nat (2 ^ 52) ⊖ (o ⊕ nat 1) ⊕ (nat 2 ⊗ (nat (2 ^ 52) ⊖ (r ⊕ nat 1)) ⊕ (nat (2 ^ 52) ⊖ (q ⊕ nat 1)) ⊕ nat 3))) refl
-          (both_nn (less_nn (later h₁)) (both_nn (both_nn (prod_nn (pos_nn 2) (less_nn (later h₂))) (less_nn (later h₃))) (pos_nn 3))))
+    sum3 o r q h₁ h₂ h₃ = strict {b = pos 1} (pos_one 1 (omega arith)) (le_by (o ∷ r ∷ q ∷ []) (λ o r q. (
+      o ⊗ (nat 1 ⊗ nat 1) ⊕ nat 2 ⊗ (nat 1 ⊗ r) ⊕ q ⊕ nat 1,
+      nat (2 ^ 54),
+      nat (2 ^ 52) ⊖ (o ⊕ nat 1) ⊕ (nat 2 ⊗ (nat (2 ^ 52) ⊖ (r ⊕ nat 1)) ⊕ (nat (2 ^ 52) ⊖ (q ⊕ nat 1)) ⊕ nat 3),
+    )) refl
+        (both_nn (less_nn (later h₁)) (both_nn (both_nn (prod_nn (pos_nn 2) (less_nn (later h₂))) (less_nn (later h₃))) (pos_nn 3))))
 
     one : value (c ∷ p) (pos 1 ∷ zeros n) <ℤ pos (2 ^ 54)
     one = sum3 c.own (dot c.others v) (quad p v) s.0.1 (unit_at n c.others (f.0 ∙ g) s.1).1 (zero_value n p s.2 g)

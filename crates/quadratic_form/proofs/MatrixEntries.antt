@@ -59,7 +59,7 @@ group_form i g h = form_same (group_entry g)
     ∙ ap (λ a. times (share g) a) (form_plus (λ r c. n *ℤ product_sum g.rows r c) (λ r c. negsuc 0 *ℤ (coefficient_sum g.rows r *ℤ coefficient_sum g.rows c)) 0 (columns i)
     ∙ ap₂ (λ a b. plus a b) (form_times n (product_sum g.rows) 0 (columns i) ∙ ap (λ a. times n a) (product_form i g.rows h))
     (form_times (negsuc 0) (λ r c. coefficient_sum g.rows r *ℤ coefficient_sum g.rows c) 0 (columns i)
-      ∙ ap (λ a. times (negsuc 0) a) (form_outer (coefficient_sum g.rows) 0 (columns i) ∙ ap (λ s. outer s) (sum_list i g.rows h))))
+    ∙ ap (λ a. times (negsuc 0) a) (form_outer (coefficient_sum g.rows) 0 (columns i) ∙ ap (λ s. outer s) (sum_list i g.rows h))))
   where
     n : ℤ
     n = len g.rows

@@ -33,10 +33,12 @@ split d e z b r t f = step d e t.y r.y t.u1 r.u1 b.b1 t.u2 r.u2 b.b2 t.u3 r.u3 b
   where
     step : (d e y c p u i q v j s w k m : ℤ)
         → y *ℤ e -ℤ (p *ℤ i +ℤ (q *ℤ j +ℤ s *ℤ k)) +ℤ d *ℤ e *ℤ m ≡ d *ℤ (neg_ℤ u *ℤ i +ℤ (neg_ℤ v *ℤ j +ℤ (neg_ℤ w *ℤ k +ℤ (e *ℤ m +ℤ c *ℤ e))))
-          +ℤ ((y -ℤ d *ℤ c) *ℤ e -ℤ ((p -ℤ d *ℤ u) *ℤ i +ℤ ((q -ℤ d *ℤ v) *ℤ j +ℤ (s -ℤ d *ℤ w) *ℤ k)))
+        +ℤ ((y -ℤ d *ℤ c) *ℤ e -ℤ ((p -ℤ d *ℤ u) *ℤ i +ℤ ((q -ℤ d *ℤ v) *ℤ j +ℤ (s -ℤ d *ℤ w) *ℤ k)))
     step d e y c p u i q v j s w k m = same_by (y ∷ e ∷ p ∷ i ∷ q ∷ j ∷ s ∷ k ∷ d ∷ m ∷ u ∷ v ∷ w ∷ c ∷ [])
-        (λ y e p i q j s k d m u v w c. (y ⊗ e ⊖ (p ⊗ i ⊕ (q ⊗ j ⊕ s ⊗ k)) ⊕ d ⊗ e ⊗ m,
-            d ⊗ (ng u ⊗ i ⊕ (ng v ⊗ j ⊕ (ng w ⊗ k ⊕ (e ⊗ m ⊕ c ⊗ e)))) ⊕ ((y ⊖ d ⊗ c) ⊗ e ⊖ ((p ⊖ d ⊗ u) ⊗ i ⊕ ((q ⊖ d ⊗ v) ⊗ j ⊕ (s ⊖ d ⊗ w) ⊗ k))))) refl
+        (λ y e p i q j s k d m u v w c. (
+          y ⊗ e ⊖ (p ⊗ i ⊕ (q ⊗ j ⊕ s ⊗ k)) ⊕ d ⊗ e ⊗ m,
+          d ⊗ (ng u ⊗ i ⊕ (ng v ⊗ j ⊕ (ng w ⊗ k ⊕ (e ⊗ m ⊕ c ⊗ e)))) ⊕ ((y ⊖ d ⊗ c) ⊗ e ⊖ ((p ⊖ d ⊗ u) ⊗ i ⊕ ((q ⊖ d ⊗ v) ⊗ j ⊕ (s ⊖ d ⊗ w) ⊗ k))),
+        )) refl
 
 -- the squares of the radii at the columns
 abbrev slack : ℤ → WholeBaseline → SignalRow → ℤ
@@ -54,14 +56,16 @@ reach d e b r t h = step d e (t.y -ℤ (d *ℤ r.y)) (t.u1 -ℤ (d *ℤ r.u1)) (
         ((y *ℤ e -ℤ (p *ℤ i +ℤ (q *ℤ j +ℤ s *ℤ k))) *ℤ (y *ℤ e -ℤ (p *ℤ i +ℤ (q *ℤ j +ℤ s *ℤ k))))
         ≤ℤ (pos 4 *ℤ (d *ℤ d *ℤ (a *ℤ a *ℤ (e *ℤ e) +ℤ (f *ℤ f *ℤ (i *ℤ i) +ℤ (g *ℤ g *ℤ (j *ℤ j) +ℤ l *ℤ l *ℤ (k *ℤ k))))))
     step d e y p q s i j k a f g l h₁ h₂ h₃ h₄ = le_by (y ∷ e ∷ p ∷ i ∷ q ∷ j ∷ s ∷ k ∷ d ∷ a ∷ f ∷ g ∷ l ∷ [])
-        (λ y e p i q j s k d a f g l. ((y ⊗ e ⊖ (p ⊗ i ⊕ (q ⊗ j ⊕ s ⊗ k))) ⊗ (y ⊗ e ⊖ (p ⊗ i ⊕ (q ⊗ j ⊕ s ⊗ k))),
-            nat 4 ⊗ (d ⊗ d ⊗ (a ⊗ a ⊗ (e ⊗ e) ⊕ (f ⊗ f ⊗ (i ⊗ i) ⊕ (g ⊗ g ⊗ (j ⊗ j) ⊕ l ⊗ l ⊗ (k ⊗ k))))),
-            nat 4 ⊗ (y ⊗ e ⊗ (y ⊗ e) ⊕ ng (p ⊗ i) ⊗ ng (p ⊗ i) ⊕ ng (q ⊗ j) ⊗ ng (q ⊗ j) ⊕ ng (s ⊗ k) ⊗ ng (s ⊗ k))
-            ⊖ (y ⊗ e ⊕ ng (p ⊗ i) ⊕ ng (q ⊗ j) ⊕ ng (s ⊗ k)) ⊗ (y ⊗ e ⊕ ng (p ⊗ i) ⊕ ng (q ⊗ j) ⊕ ng (s ⊗ k)) ⊕ nat 4 ⊗ ((d ⊗ a ⊗ (d ⊗ a) ⊖ y ⊗ y) ⊗ (e ⊗ e)
-              ⊕ (d ⊗ f ⊗ (d ⊗ f) ⊖ p ⊗ p) ⊗ (i ⊗ i) ⊕ ((d ⊗ g ⊗ (d ⊗ g) ⊖ q ⊗ q) ⊗ (j ⊗ j) ⊕ (d ⊗ l ⊗ (d ⊗ l) ⊖ s ⊗ s) ⊗ (k ⊗ k))))) refl
+        (λ y e p i q j s k d a f g l. (
+          (y ⊗ e ⊖ (p ⊗ i ⊕ (q ⊗ j ⊕ s ⊗ k))) ⊗ (y ⊗ e ⊖ (p ⊗ i ⊕ (q ⊗ j ⊕ s ⊗ k))),
+          nat 4 ⊗ (d ⊗ d ⊗ (a ⊗ a ⊗ (e ⊗ e) ⊕ (f ⊗ f ⊗ (i ⊗ i) ⊕ (g ⊗ g ⊗ (j ⊗ j) ⊕ l ⊗ l ⊗ (k ⊗ k))))),
+          nat 4 ⊗ (y ⊗ e ⊗ (y ⊗ e) ⊕ ng (p ⊗ i) ⊗ ng (p ⊗ i) ⊕ ng (q ⊗ j) ⊗ ng (q ⊗ j) ⊕ ng (s ⊗ k) ⊗ ng (s ⊗ k))
+              ⊖ (y ⊗ e ⊕ ng (p ⊗ i) ⊕ ng (q ⊗ j) ⊕ ng (s ⊗ k)) ⊗ (y ⊗ e ⊕ ng (p ⊗ i) ⊕ ng (q ⊗ j) ⊕ ng (s ⊗ k)) ⊕ nat 4 ⊗ ((d ⊗ a ⊗ (d ⊗ a) ⊖ y ⊗ y) ⊗ (e ⊗ e)
+              ⊕ (d ⊗ f ⊗ (d ⊗ f) ⊖ p ⊗ p) ⊗ (i ⊗ i) ⊕ ((d ⊗ g ⊗ (d ⊗ g) ⊖ q ⊗ q) ⊗ (j ⊗ j) ⊕ (d ⊗ l ⊗ (d ⊗ l) ⊖ s ⊗ s) ⊗ (k ⊗ k))),
+        )) refl
         (both_nn (less_nn (four_squares (y *ℤ e) (neg_ℤ (p *ℤ i)) (neg_ℤ (q *ℤ j)) (neg_ℤ (s *ℤ k))))
-          (prod_nn (pos_nn 4) (both_nn (both_nn (prod_nn (less_nn h₁) (square_nn e)) (prod_nn (less_nn h₂) (square_nn i)))
-              (both_nn (prod_nn (less_nn h₃) (square_nn j)) (prod_nn (less_nn h₄) (square_nn k))))))
+        (prod_nn (pos_nn 4) (both_nn (both_nn (prod_nn (less_nn h₁) (square_nn e)) (prod_nn (less_nn h₂) (square_nn i)))
+        (both_nn (prod_nn (less_nn h₃) (square_nn j)) (prod_nn (less_nn h₄) (square_nn k))))))
 
 -- ---- the rows of a group
 abbrev pub values : List ℤ → List SignalRow → List ℤ
@@ -198,10 +202,13 @@ group_below d e z b g ts h k w o f = rw (split_all d e z b g.rows ts f o)
         s ≡ d *ℤ d *ℤ v → t ≤ℤ (n *ℤ q) → q ≤ℤ (pos 4 *ℤ (d *ℤ d *ℤ l)) →
         (d *ℤ d *ℤ (pos 63 *ℤ (f *ℤ v) -ℤ pos 16128 *ℤ (pos 360360 *ℤ w *ℤ l))) ≤ℤ (pos 64 *ℤ (f *ℤ u))
     step d f w u s v t n q l h₀ h₁ e₁ h₂ e₂ h₃ h₄ = rw (← e₁)
-        (le_by (d ∷ f ∷ v ∷ n ∷ l ∷ u ∷ t ∷ q ∷ []) (λ d f v n l u t q. (d ⊗ d ⊗ (nat 63 ⊗ (f ⊗ v) ⊖ nat 16128 ⊗ (f ⊗ n ⊗ l)), nat 64 ⊗ (f ⊗ u),
-              f ⊗ (nat 64 ⊗ u ⊖ (nat 63 ⊗ (d ⊗ d ⊗ v) ⊖ nat 4032 ⊗ t)) ⊕ nat 4032 ⊗ f ⊗ (n ⊗ q ⊖ t) ⊕ nat 4032 ⊗ f ⊗ n ⊗ (nat 4 ⊗ (d ⊗ d ⊗ l) ⊖ q))) refl
-          (both_nn (both_nn (prod_nn h₀ (less_nn (subst (λ (z : ℤ). (pos 63 *ℤ z -ℤ pos 4032 *ℤ t) ≤ℤ (pos 64 *ℤ u)) e₂ h₂)))
-              (prod_nn (prod_nn (pos_nn 4032) h₀) (less_nn h₃))) (prod_nn (prod_nn (prod_nn (pos_nn 4032) h₀) h₁) (less_nn h₄))))
+        (le_by (d ∷ f ∷ v ∷ n ∷ l ∷ u ∷ t ∷ q ∷ []) (λ d f v n l u t q. (
+          d ⊗ d ⊗ (nat 63 ⊗ (f ⊗ v) ⊖ nat 16128 ⊗ (f ⊗ n ⊗ l)),
+          nat 64 ⊗ (f ⊗ u),
+          f ⊗ (nat 64 ⊗ u ⊖ (nat 63 ⊗ (d ⊗ d ⊗ v) ⊖ nat 4032 ⊗ t)) ⊕ nat 4032 ⊗ f ⊗ (n ⊗ q ⊖ t) ⊕ nat 4032 ⊗ f ⊗ n ⊗ (nat 4 ⊗ (d ⊗ d ⊗ l) ⊖ q),
+        )) refl
+        (both_nn (both_nn (prod_nn h₀ (less_nn (subst (λ (z : ℤ). (pos 63 *ℤ z -ℤ pos 4032 *ℤ t) ≤ℤ (pos 64 *ℤ u)) e₂ h₂)))
+        (prod_nn (prod_nn (pos_nn 4032) h₀) (less_nn h₃))) (prod_nn (prod_nn (prod_nn (pos_nn 4032) h₀) h₁) (less_nn h₄))))
 
 -- ---- all groups
 abbrev radii_at : ℤ → WholeBaseline → Radii → ℤ
@@ -212,7 +219,7 @@ add_radii_at e b p q = step p.r1 p.r2 p.r3 p.ry q.r1 q.r2 q.r3 q.ry (b.b1 *ℤ b
   where
     step : (p q r s i j k l a f g h : ℤ) → (p +ℤ i) *ℤ a +ℤ ((q +ℤ j) *ℤ f +ℤ ((r +ℤ k) *ℤ g +ℤ (s +ℤ l) *ℤ h)) ≡ p *ℤ a +ℤ (q *ℤ f +ℤ (r *ℤ g +ℤ s *ℤ h)) +ℤ (i *ℤ a +ℤ (j *ℤ f +ℤ (k *ℤ g +ℤ l *ℤ h)))
     step p q r s i j k l a f g h = same_by (p ∷ i ∷ a ∷ q ∷ j ∷ f ∷ r ∷ k ∷ g ∷ s ∷ l ∷ h ∷ []) (λ p i a q j f r k g s l h.
-          ((p ⊕ i) ⊗ a ⊕ ((q ⊕ j) ⊗ f ⊕ ((r ⊕ k) ⊗ g ⊕ (s ⊕ l) ⊗ h)), p ⊗ a ⊕ (q ⊗ f ⊕ (r ⊗ g ⊕ s ⊗ h)) ⊕ (i ⊗ a ⊕ (j ⊗ f ⊕ (k ⊗ g ⊕ l ⊗ h))))) refl
+        ((p ⊕ i) ⊗ a ⊕ ((q ⊕ j) ⊗ f ⊕ ((r ⊕ k) ⊗ g ⊕ (s ⊕ l) ⊗ h)), p ⊗ a ⊕ (q ⊗ f ⊕ (r ⊗ g ⊕ s ⊗ h)) ⊕ (i ⊗ a ⊕ (j ⊗ f ⊕ (k ⊗ g ⊕ l ⊗ h))))) refl
 
 none_at : (e : ℤ) (b : WholeBaseline) → radii_at e b no_radii ≡ pos 0
 none_at e b = step (b.b1 *ℤ b.b1) (b.b2 *ℤ b.b2) (b.b3 *ℤ b.b3) (e *ℤ e)
@@ -226,15 +233,18 @@ row_radii_at e b w (r ∷ rs) = add_radii_at e b (record {
   r1 = pos 360360 *ℤ w *ℤ (r.ru1 *ℤ r.ru1);
   r2 = pos 360360 *ℤ w *ℤ (r.ru2 *ℤ r.ru2);
   r3 = pos 360360 *ℤ w *ℤ (r.ru3 *ℤ r.ru3);
-  ry = pos 360360 *ℤ w *ℤ (r.ry *ℤ r.ry)
+  ry = pos 360360 *ℤ w *ℤ (r.ry *ℤ r.ry);
 }) (row_radii w rs)
     ∙ ap₂ (λ s t. s +ℤ t) (step w (r.ru1 *ℤ r.ru1) (r.ru2 *ℤ r.ru2) (r.ru3 *ℤ r.ru3) (r.ry *ℤ r.ry) (b.b1 *ℤ b.b1) (b.b2 *ℤ b.b2) (b.b3 *ℤ b.b3) (e *ℤ e)) (row_radii_at e b w rs)
     ∙ last w (slack e b r) (slacks e b rs)
   where
     step : (w p q r s a f g h : ℤ) → pos 360360 *ℤ w *ℤ p *ℤ a +ℤ (pos 360360 *ℤ w *ℤ q *ℤ f +ℤ (pos 360360 *ℤ w *ℤ r *ℤ g +ℤ pos 360360 *ℤ w *ℤ s *ℤ h))
-          ≡ pos 360360 *ℤ w *ℤ (s *ℤ h +ℤ (p *ℤ a +ℤ (q *ℤ f +ℤ r *ℤ g)))
-    step w p q r s a f g h = same_by (w ∷ p ∷ a ∷ q ∷ f ∷ r ∷ g ∷ s ∷ h ∷ []) (λ w p a q f r g s h. (nat 360360 ⊗ w ⊗ p ⊗ a
-            ⊕ (nat 360360 ⊗ w ⊗ q ⊗ f ⊕ (nat 360360 ⊗ w ⊗ r ⊗ g ⊕ nat 360360 ⊗ w ⊗ s ⊗ h)), nat 360360 ⊗ w ⊗ (s ⊗ h ⊕ (p ⊗ a ⊕ (q ⊗ f ⊕ r ⊗ g))))) refl
+        ≡ pos 360360 *ℤ w *ℤ (s *ℤ h +ℤ (p *ℤ a +ℤ (q *ℤ f +ℤ r *ℤ g)))
+    step w p q r s a f g h = same_by (w ∷ p ∷ a ∷ q ∷ f ∷ r ∷ g ∷ s ∷ h ∷ []) (λ w p a q f r g s h. (
+      nat 360360 ⊗ w ⊗ p ⊗ a
+          ⊕ (nat 360360 ⊗ w ⊗ q ⊗ f ⊕ (nat 360360 ⊗ w ⊗ r ⊗ g ⊕ nat 360360 ⊗ w ⊗ s ⊗ h)),
+      nat 360360 ⊗ w ⊗ (s ⊗ h ⊕ (p ⊗ a ⊕ (q ⊗ f ⊕ r ⊗ g))),
+    )) refl
 
     last : (w s t : ℤ) → pos 360360 *ℤ w *ℤ s +ℤ pos 360360 *ℤ w *ℤ t ≡ pos 360360 *ℤ w *ℤ (s +ℤ t)
     last w s t = same_by (w ∷ s ∷ t ∷ []) (λ w s t. (nat 360360 ⊗ w ⊗ s ⊕ nat 360360 ⊗ w ⊗ t, nat 360360 ⊗ w ⊗ (s ⊕ t))) refl
@@ -255,12 +265,14 @@ bounding_form_at e z b c r = quad_plus (times (pos 63) c) (diagonal w1) (columns
     ∙ step (pos 63 *ℤ quad c (columns_at e z b)) r.r1 r.r2 r.r3 r.ry b.b1 b.b2 b.b3 e
   where
     step : (q p r s t i j k e : ℤ) → q +ℤ (negsuc 16127 *ℤ p *ℤ (i *ℤ i) +ℤ pos 2 *ℤ (i *ℤ pos 0) +ℤ (negsuc 16127 *ℤ r *ℤ (j *ℤ j)
-            +ℤ pos 2 *ℤ (j *ℤ pos 0) +ℤ (negsuc 16127 *ℤ s *ℤ (k *ℤ k) +ℤ pos 2 *ℤ (k *ℤ pos 0) +ℤ negsuc 16127 *ℤ t *ℤ (e *ℤ e))))
-          ≡ q -ℤ pos 16128 *ℤ (p *ℤ (i *ℤ i) +ℤ (r *ℤ (j *ℤ j) +ℤ (s *ℤ (k *ℤ k) +ℤ t *ℤ (e *ℤ e))))
+        +ℤ pos 2 *ℤ (j *ℤ pos 0) +ℤ (negsuc 16127 *ℤ s *ℤ (k *ℤ k) +ℤ pos 2 *ℤ (k *ℤ pos 0) +ℤ negsuc 16127 *ℤ t *ℤ (e *ℤ e))))
+        ≡ q -ℤ pos 16128 *ℤ (p *ℤ (i *ℤ i) +ℤ (r *ℤ (j *ℤ j) +ℤ (s *ℤ (k *ℤ k) +ℤ t *ℤ (e *ℤ e))))
     step q p r s t i j k e = same_by (q ∷ p ∷ i ∷ r ∷ j ∷ s ∷ k ∷ t ∷ e ∷ [])
-        (λ q p i r j s k t e. (q ⊕ (ko (negsuc 16127) ⊗ p ⊗ (i ⊗ i) ⊕ nat 2 ⊗ (i ⊗ nat 0) ⊕ (ko (negsuc 16127) ⊗ r ⊗ (j ⊗ j) ⊕ nat 2 ⊗ (j ⊗ nat 0)
-                ⊕ (ko (negsuc 16127) ⊗ s ⊗ (k ⊗ k) ⊕ nat 2 ⊗ (k ⊗ nat 0) ⊕ ko (negsuc 16127) ⊗ t ⊗ (e ⊗ e)))),
-            q ⊖ nat 16128 ⊗ (p ⊗ (i ⊗ i) ⊕ (r ⊗ (j ⊗ j) ⊕ (s ⊗ (k ⊗ k) ⊕ t ⊗ (e ⊗ e)))))) refl
+        (λ q p i r j s k t e. (
+          q ⊕ (ko (negsuc 16127) ⊗ p ⊗ (i ⊗ i) ⊕ nat 2 ⊗ (i ⊗ nat 0) ⊕ (ko (negsuc 16127) ⊗ r ⊗ (j ⊗ j) ⊕ nat 2 ⊗ (j ⊗ nat 0)
+              ⊕ (ko (negsuc 16127) ⊗ s ⊗ (k ⊗ k) ⊕ nat 2 ⊗ (k ⊗ nat 0) ⊕ ko (negsuc 16127) ⊗ t ⊗ (e ⊗ e)))),
+          q ⊖ nat 16128 ⊗ (p ⊗ (i ⊗ i) ⊕ (r ⊗ (j ⊗ j) ⊕ (s ⊗ (k ⊗ k) ⊕ t ⊗ (e ⊗ e)))),
+        )) refl
 
     v : List ℤ
     v = scaled e z ++ (e ∷ [])
@@ -289,8 +301,11 @@ groups_below d e z b (g ∷ gs) (t ∷ ts) h f = rw (add_radii_at e b (row_radii
   where
     step : (d p q r s t u : ℤ) → (d *ℤ d *ℤ (pos 63 *ℤ p -ℤ pos 16128 *ℤ q)) ≤ℤ (pos 64 *ℤ r) → (d *ℤ d *ℤ (pos 63 *ℤ s -ℤ pos 16128 *ℤ t)) ≤ℤ (pos 64 *ℤ u)
         → (d *ℤ d *ℤ (pos 63 *ℤ (p +ℤ s) -ℤ pos 16128 *ℤ (q +ℤ t))) ≤ℤ (pos 64 *ℤ (r +ℤ u))
-    step d p q r s t u h k = le_by (d ∷ p ∷ s ∷ q ∷ t ∷ r ∷ u ∷ []) (λ d p s q t r u. (d ⊗ d ⊗ (nat 63 ⊗ (p ⊕ s) ⊖ nat 16128 ⊗ (q ⊕ t)), nat 64 ⊗ (r ⊕ u),
-            nat 64 ⊗ r ⊖ d ⊗ d ⊗ (nat 63 ⊗ p ⊖ nat 16128 ⊗ q) ⊕ (nat 64 ⊗ u ⊖ d ⊗ d ⊗ (nat 63 ⊗ s ⊖ nat 16128 ⊗ t)))) refl (both_nn (less_nn h) (less_nn k))
+    step d p q r s t u h k = le_by (d ∷ p ∷ s ∷ q ∷ t ∷ r ∷ u ∷ []) (λ d p s q t r u. (
+      d ⊗ d ⊗ (nat 63 ⊗ (p ⊕ s) ⊖ nat 16128 ⊗ (q ⊕ t)),
+      nat 64 ⊗ (r ⊕ u),
+      nat 64 ⊗ r ⊖ d ⊗ d ⊗ (nat 63 ⊗ p ⊖ nat 16128 ⊗ q) ⊕ (nat 64 ⊗ u ⊖ d ⊗ d ⊗ (nat 63 ⊗ s ⊖ nat 16128 ⊗ t)),
+    )) refl (both_nn (less_nn h) (less_nn k))
 
 -- for all data in the boxes, over d, all baselines over e and all integers z
 pub bounding_form_below : (d e : ℤ) (z : List ℤ) (b : WholeBaseline) (gs : List SignalGroup) (ts : List (List WholeData)) → GroupsOf (len z) gs → WholeFitsAll d gs ts →

@@ -90,7 +90,7 @@ sumsq_over k (n ∷ t) (q ∷ s) h = over_add (k *ℤ k) (n *ℤ n) (squared_nor
 spread_over : (k : ℤ) (t : List ℤ) (s : List Rational) → OverList k t s → Over (k *ℤ k) (spread t) (spread_of_rationals s)
 spread_over k t s h = over_sub (k *ℤ k) (len t *ℤ squared_norm t) (sum t *ℤ sum t) (mul_r (of_whole (len s)) (squared_norm_of_rationals s)) (mul_r (sum_of_rationals s) (sum_of_rationals s))
     (subst (λ (n : ℤ). Over (k *ℤ k) (len t *ℤ squared_norm t) (mul_r (of_whole n) (squared_norm_of_rationals s))) (list_len k t s h)
-      (over_times (k *ℤ k) (len t) (squared_norm t) (squared_norm_of_rationals s) (sumsq_over k t s h)))
+    (over_times (k *ℤ k) (len t) (squared_norm t) (squared_norm_of_rationals s) (sumsq_over k t s h)))
     (over_mul k k (sum t) (sum t) (sum_of_rationals s) (sum_of_rationals s) (sum_over k t s h) (sum_over k t s h))
 
 pub F_over : (d e : ℤ) (z : List ℤ) (c : WholeBaseline) (b : Baseline) (gs : List SignalGroup) (ts : List (List WholeData)) (qs : List (List RowData)) → OverAll d ts qs → OverBase e c b →
@@ -220,7 +220,7 @@ common_base b = record {
   is = record {
     b1 = one b.b1.num (pos b.b1.den) (pos b.b2.den) (pos b.b3.den);
     b2 = two b.b2.num (pos b.b1.den) (pos b.b2.den) (pos b.b3.den);
-    b3 = three b.b3.num (pos b.b1.den) (pos b.b2.den) (pos b.b3.den)
+    b3 = three b.b3.num (pos b.b1.den) (pos b.b2.den) (pos b.b3.den);
   };
 }
   where
@@ -245,7 +245,7 @@ fits_over d (r ∷ rs) (t ∷ ts) (q ∷ qs) i h f = (
     u1 = over_box d t.u1 r.u1 r.ru1 q.u1 i h.0.u1 f.0.0;
     u2 = over_box d t.u2 r.u2 r.ru2 q.u2 i h.0.u2 f.0.1;
     u3 = over_box d t.u3 r.u3 r.ru3 q.u3 i h.0.u3 f.0.2;
-    y = over_box d t.y r.y r.ry q.y i h.0.y f.0.3
+    y = over_box d t.y r.y r.ry q.y i h.0.y f.0.3;
   },
   fits_over d rs ts qs i h.1 f.1,
 )
@@ -335,7 +335,7 @@ pub decided_best : (h : ℕ) (ratio : ℤ) (z1 z2 : List ℤ) (m : WholeBaseline
     pos 1000 ≤ℤ ratio → (pos 64 *ℤ (ratio *ℤ top h z1 m gs)) <ℤ (pos 1000 *ℤ value p.1 z2) → IsBest gs z1 m
 decided_best h ratio z1 z2 m gs p g s t r c = record {
   best = λ (qs : List (List RowData)) (f : FitsAll gs qs) (v : List ℤ) (k : len v ≡ len z1) (o : v ≡ z1 → ⊥) (b : Baseline).
-      go qs f v k o b (common qs) (common_base b)
+      go qs f v k o b (common qs) (common_base b);
 }
   where
     go : (qs : List (List RowData)) → FitsAll gs qs → (v : List ℤ) → len v ≡ len z1 → (v ≡ z1 → ⊥) → (b : Baseline) → CommonAll qs → CommonBase b →
@@ -352,5 +352,8 @@ decided_best h ratio z1 z2 m gs p g s t r c = record {
 
         last : (d : ℕ) (e a b : ℤ) → 0 < d → (a *ℤ (e *ℤ e)) <ℤ (b *ℤ (pos (2 ^ 16) *ℤ pos (2 ^ 16))) → (a *ℤ (pos d *ℤ e *ℤ (pos d *ℤ e))) <ℤ (b *ℤ (pos d *ℤ pos (2 ^ 16) *ℤ (pos d *ℤ pos (2 ^ 16))))
         last d e a b h i = strict (pos_one (d * d) (mul-pos h h))
-            (le_by (a ∷ pos d ∷ e ∷ b ∷ []) (λ a d e b. (a ⊗ (d ⊗ e ⊗ (d ⊗ e)) ⊕ d ⊗ d, b ⊗ (d ⊗ nat (2 ^ 16) ⊗ (d ⊗ nat (2 ^ 16))),
-                  d ⊗ d ⊗ (b ⊗ (nat (2 ^ 16) ⊗ nat (2 ^ 16)) ⊖ (a ⊗ (e ⊗ e) ⊕ nat 1)))) refl (prod_nn (pos_nn (d * d)) (less_nn (later i))))
+            (le_by (a ∷ pos d ∷ e ∷ b ∷ []) (λ a d e b. (
+              a ⊗ (d ⊗ e ⊗ (d ⊗ e)) ⊕ d ⊗ d,
+              b ⊗ (d ⊗ nat (2 ^ 16) ⊗ (d ⊗ nat (2 ^ 16))),
+              d ⊗ d ⊗ (b ⊗ (nat (2 ^ 16) ⊗ nat (2 ^ 16)) ⊖ (a ⊗ (e ⊗ e) ⊕ nat 1)),
+            )) refl (prod_nn (pos_nn (d * d)) (less_nn (later i))))

@@ -75,7 +75,7 @@ sized_matrix z (g ∷ gs) h = both (cols (len z)) (group_matrix (length z) g) (m
 
     one : Sized (cols (len z)) (group_matrix (length z) g)
     one = more n _ _ (both n _ _ (more n (len g.rows) (sum_outer (length z) g.rows) (sized_sum_outer z g.rows h.3))
-          (more n (negsuc 0) (outer (sum_coefficients (length z) g.rows)) (product n (sum_coefficients (length z) g.rows) (len_sum_coefficients z g.rows h.3))))
+        (more n (negsuc 0) (outer (sum_coefficients (length z) g.rows)) (product n (sum_coefficients (length z) g.rows) (len_sum_coefficients z g.rows h.3))))
 
 pub sized_bounding_form : (z : List ℤ) (gs : List SignalGroup) (r : Radii) → GroupsOf (len z) gs → Sized (cols (len z)) (bounding_form (length z) (matrix (length z) gs) r)
 sized_bounding_form z gs r h = both (cols (len z)) (times (pos 63) (matrix (length z) gs)) (diagonal w) (more (cols (len z)) (pos 63) (matrix (length z) gs) (sized_matrix z gs h))

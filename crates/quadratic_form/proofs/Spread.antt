@@ -44,7 +44,7 @@ spread_shift k s t e = rw (len_added s (scaled k t) (e ∙ sym (len_scaled k t))
   where
     step : (k n a q c b r : ℤ) → n *ℤ (q +ℤ pos 2 *ℤ k *ℤ c +ℤ k *ℤ k *ℤ r) -ℤ (a +ℤ k *ℤ b) *ℤ (a +ℤ k *ℤ b) ≡ n *ℤ q -ℤ a *ℤ a +ℤ pos 2 *ℤ k *ℤ (n *ℤ c -ℤ a *ℤ b) +ℤ k *ℤ k *ℤ (n *ℤ r -ℤ b *ℤ b)
     step k n a q c b r = same_by (n ∷ q ∷ k ∷ c ∷ r ∷ a ∷ b ∷ []) (λ n q k c r a b.
-          (n ⊗ (q ⊕ nat 2 ⊗ k ⊗ c ⊕ k ⊗ k ⊗ r) ⊖ (a ⊕ k ⊗ b) ⊗ (a ⊕ k ⊗ b), n ⊗ q ⊖ a ⊗ a ⊕ nat 2 ⊗ k ⊗ (n ⊗ c ⊖ a ⊗ b) ⊕ k ⊗ k ⊗ (n ⊗ r ⊖ b ⊗ b))) refl
+        (n ⊗ (q ⊕ nat 2 ⊗ k ⊗ c ⊕ k ⊗ k ⊗ r) ⊖ (a ⊕ k ⊗ b) ⊗ (a ⊕ k ⊗ b), n ⊗ q ⊖ a ⊗ a ⊕ nat 2 ⊗ k ⊗ (n ⊗ c ⊖ a ⊗ b) ⊕ k ⊗ k ⊗ (n ⊗ r ⊖ b ⊗ b))) refl
 
 pub spread_scale : (k : ℤ) (s : List ℤ) → spread (scaled k s) ≡ k *ℤ k *ℤ spread s
 spread_scale k s = rw (len_scaled k s, sum_scale k s, sumsq_scale k s) (step k (len s) (sum s) (squared_norm s))
@@ -77,5 +77,8 @@ perturb a d e = step (spread a) (spread d) (cross_spread a d) (spread (added a d
     one a d e = subst (λ (z : List ℤ). spread (added a z) ≡ spread a +ℤ pos 2 *ℤ pos 1 *ℤ cross_spread a d +ℤ pos 1 *ℤ pos 1 *ℤ spread d) (scaled_one d) (spread_shift (pos 1) a d e)
 
     step : (s t c u w : ℤ) → u ≡ s +ℤ pos 2 *ℤ pos 1 *ℤ c +ℤ pos 1 *ℤ pos 1 *ℤ t → w ≡ s +ℤ pos 2 *ℤ pos 64 *ℤ c +ℤ pos 64 *ℤ pos 64 *ℤ t → pos 0 ≤ℤ w → (pos 63 *ℤ s -ℤ pos 4032 *ℤ t) ≤ℤ (pos 64 *ℤ u)
-    step s t c u w e f h = rw e (le_by (s ∷ t ∷ c ∷ []) (λ s t c. (nat 63 ⊗ s ⊖ nat 4032 ⊗ t, nat 64 ⊗ (s ⊕ nat 2 ⊗ nat 1 ⊗ c ⊕ nat 1 ⊗ nat 1 ⊗ t),
-              s ⊕ nat 2 ⊗ nat 64 ⊗ c ⊕ nat 64 ⊗ nat 64 ⊗ t)) refl (subst (λ (z : ℤ). pos 0 ≤ℤ z) f h))
+    step s t c u w e f h = rw e (le_by (s ∷ t ∷ c ∷ []) (λ s t c. (
+      nat 63 ⊗ s ⊖ nat 4032 ⊗ t,
+      nat 64 ⊗ (s ⊕ nat 2 ⊗ nat 1 ⊗ c ⊕ nat 1 ⊗ nat 1 ⊗ t),
+      s ⊕ nat 2 ⊗ nat 64 ⊗ c ⊕ nat 64 ⊗ nat 64 ⊗ t,
+    )) refl (subst (λ (z : ℤ). pos 0 ≤ℤ z) f h))

@@ -47,7 +47,7 @@ step_taken j c m p e = first (int_lt c.own (pos (2 ^ 20))) refl e
 
     second : int_lt c.own (pos (2 ^ 20)) ≡ false → (t : Bool) → all_small l ≡ t →
         elim t as (λ b. Result (Factor × List Column) Refusal) [
-          false ↦ Err wide_factor
+          | false ↦ Err wide_factor
           | true ↦ elim (form_small rest) [ false ↦ Err wide_entry | true ↦ Ok (record { d = kept a; l = l }, rest) ]
         ] ≡ Ok p → Taken c m p
     second o false s e = absurd cc
@@ -98,9 +98,12 @@ steps_below j (suc k) (c ∷ m) (x ∷ v) p e s f =
 
     both : (d y w z t b : ℤ) → (d *ℤ (y *ℤ y) +ℤ pos (2 ^ 60) *ℤ w) ≤ℤ b → pos 0 ≤ℤ d → pos 0 ≤ℤ t → (t +ℤ pos (2 ^ 60) *ℤ z) ≤ℤ (pos (2 ^ 60) *ℤ w)
         → (pos 0 ≤ℤ (d *ℤ (y *ℤ y) +ℤ t)) × ((d *ℤ (y *ℤ y) +ℤ t +ℤ pos (2 ^ 60) *ℤ z) ≤ℤ b)
-    both d y w z t b h₀ h₁ h₂ h₃ = (both_nn (prod_nn h₁ (square_nn y)) h₂, le_by (d ∷ y ∷ t ∷ z ∷ b ∷ w ∷ [])
+    both d y w z t b h₀ h₁ h₂ h₃ = (
+      both_nn (prod_nn h₁ (square_nn y)) h₂,
+      le_by (d ∷ y ∷ t ∷ z ∷ b ∷ w ∷ [])
           (λ d y t z b w. (d ⊗ (y ⊗ y) ⊕ t ⊕ nat (2 ^ 60) ⊗ z, b, b ⊖ (d ⊗ (y ⊗ y) ⊕ nat (2 ^ 60) ⊗ w) ⊕ (nat (2 ^ 60) ⊗ w ⊖ (t ⊕ nat (2 ^ 60) ⊗ z)))) refl
-          (both_nn (less_nn h₀) (less_nn h₃)))
+          (both_nn (less_nn h₀) (less_nn h₃)),
+    )
 
     done : (u : Factor × List Column) (q : List Factor × List Column) → Taken c m u → Covered u.1 k v q → Covered (c ∷ m) (suc k) (x ∷ v) (u.0 ∷ q.0, q.1)
     done u q t ih = both u.0.d (pos (2 ^ 30) *ℤ x +ℤ dot u.0.l v) (quad u.1 v) (quad q.1 (drop k v)) (squares q.0 v) (pos (2 ^ 60) *ℤ quad (c ∷ m) (x ∷ v))

@@ -29,9 +29,9 @@ within_times m t b h = go m t (size b) b h (size_within b)
     go : (m t a b : ℤ) → Within m t → Within a b → Within (m *ℤ a) (t *ℤ b)
     go m t a b h k = (
       halve (le_by (m ∷ a ∷ t ∷ b ∷ []) (λ m a t b. (nat 2 ⊗ ng (m ⊗ a), nat 2 ⊗ (t ⊗ b), (m ⊖ t) ⊗ (a ⊖ b) ⊕ (t ⊖ ng m) ⊗ (b ⊖ ng a))) refl
-            (both_nn (prod_nn (less_nn h.1) (less_nn k.1)) (prod_nn (less_nn h.0) (less_nn k.0)))),
+          (both_nn (prod_nn (less_nn h.1) (less_nn k.1)) (prod_nn (less_nn h.0) (less_nn k.0)))),
       halve (le_by (t ∷ b ∷ m ∷ a ∷ []) (λ t b m a. (nat 2 ⊗ (t ⊗ b), nat 2 ⊗ (m ⊗ a), (m ⊖ t) ⊗ (b ⊖ ng a) ⊕ (t ⊖ ng m) ⊗ (a ⊖ b))) refl
-            (both_nn (prod_nn (less_nn h.1) (less_nn k.0)) (prod_nn (less_nn h.0) (less_nn k.1)))),
+          (both_nn (prod_nn (less_nn h.1) (less_nn k.0)) (prod_nn (less_nn h.0) (less_nn k.1)))),
     )
 
 floor_part : (x : ℤ) (n : ℕ) → 0 < n → ((pos n *ℤ floor_div x n) ≤ℤ x) × (x ≤ℤ (pos n *ℤ (floor_div x n +ℤ pos 1)))
@@ -60,29 +60,34 @@ in_reach d z m r t h k =
         Within (d *ℤ j *ℤ k) ((p -ℤ d *ℤ u) *ℤ i) → Within (d *ℤ n *ℤ o) ((q -ℤ d *ℤ v) *ℤ l) → Within (d *ℤ e *ℤ z) ((s -ℤ d *ℤ w) *ℤ b) →
         Within (d *ℤ pos (2 ^ 16) *ℤ (a +ℤ g +ℤ pos 1)) (y *ℤ pos (2 ^ 16) -ℤ (p *ℤ i +ℤ (q *ℤ l +ℤ s *ℤ b)) +ℤ d *ℤ pos (2 ^ 16) *ℤ t -ℤ d *ℤ pos (2 ^ 16) *ℤ (f +ℤ t))
     step d y c a p u i j k q v l n o s w b e z t f g h h₁ h₂ h₃ h₄ h₅ h₆ = (
-      le_by (d ∷ a ∷ g ∷ y ∷ p ∷ i ∷ q ∷ l ∷ s ∷ b ∷ t ∷ f ∷ c ∷ j ∷ k ∷ u ∷ n ∷ o ∷ v ∷ e ∷ z ∷ w ∷ []) (λ d a g y p i q l s b t f c j k u n o v e z w.
-            (ng (d ⊗ nat (2 ^ 16) ⊗ (a ⊕ g ⊕ nat 1)), y ⊗ nat (2 ^ 16) ⊖ (p ⊗ i ⊕ (q ⊗ l ⊕ s ⊗ b)) ⊕ d ⊗ nat (2 ^ 16) ⊗ t ⊖ d ⊗ nat (2 ^ 16) ⊗ (f ⊕ t),
-              (y ⊖ d ⊗ c ⊖ ng (d ⊗ a)) ⊗ nat (2 ^ 16) ⊕ (d ⊗ j ⊗ k ⊖ (p ⊖ d ⊗ u) ⊗ i ⊕ (d ⊗ n ⊗ o ⊖ (q ⊖ d ⊗ v) ⊗ l ⊕ (d ⊗ e ⊗ z ⊖ (s ⊖ d ⊗ w) ⊗ b))) ⊕ (d ⊗
-                (c ⊗ nat (2 ^ 16) ⊖ (u ⊗ i ⊕ (v ⊗ l ⊕ w ⊗ b)) ⊖ nat (2 ^ 16) ⊗ f) ⊕ (d ⊗ (nat (2 ^ 16) ⊗ g ⊖ (j ⊗ k ⊕ (n ⊗ o ⊕ e ⊗ z))) ⊕ d ⊗ nat (2 ^ 16)))))
+      le_by (d ∷ a ∷ g ∷ y ∷ p ∷ i ∷ q ∷ l ∷ s ∷ b ∷ t ∷ f ∷ c ∷ j ∷ k ∷ u ∷ n ∷ o ∷ v ∷ e ∷ z ∷ w ∷ []) (λ d a g y p i q l s b t f c j k u n o v e z w. (
+        ng (d ⊗ nat (2 ^ 16) ⊗ (a ⊕ g ⊕ nat 1)),
+        y ⊗ nat (2 ^ 16) ⊖ (p ⊗ i ⊕ (q ⊗ l ⊕ s ⊗ b)) ⊕ d ⊗ nat (2 ^ 16) ⊗ t ⊖ d ⊗ nat (2 ^ 16) ⊗ (f ⊕ t),
+        (y ⊖ d ⊗ c ⊖ ng (d ⊗ a)) ⊗ nat (2 ^ 16) ⊕ (d ⊗ j ⊗ k ⊖ (p ⊖ d ⊗ u) ⊗ i ⊕ (d ⊗ n ⊗ o ⊖ (q ⊖ d ⊗ v) ⊗ l ⊕ (d ⊗ e ⊗ z ⊖ (s ⊖ d ⊗ w) ⊗ b))) ⊕ (d ⊗
+            (c ⊗ nat (2 ^ 16) ⊖ (u ⊗ i ⊕ (v ⊗ l ⊕ w ⊗ b)) ⊖ nat (2 ^ 16) ⊗ f) ⊕ (d ⊗ (nat (2 ^ 16) ⊗ g ⊖ (j ⊗ k ⊕ (n ⊗ o ⊕ e ⊗ z))) ⊕ d ⊗ nat (2 ^ 16))),
+      ))
           refl (both_nn (both_nn (prod_nn (less_nn h₃.0) (pos_nn (2 ^ 16))) (both_nn (less_nn h₄.1) (both_nn (less_nn h₅.1) (less_nn h₆.1))))
-            (both_nn (prod_nn h (less_nn h₁.0)) (both_nn (prod_nn h (less_nn h₂)) (prod_nn h (pos_nn (2 ^ 16)))))),
-      le_by (y ∷ p ∷ i ∷ q ∷ l ∷ s ∷ b ∷ d ∷ t ∷ f ∷ a ∷ g ∷ c ∷ u ∷ j ∷ k ∷ v ∷ n ∷ o ∷ w ∷ e ∷ z ∷ []) (λ y p i q l s b d t f a g c u j k v n o w e z.
-            (y ⊗ nat (2 ^ 16) ⊖ (p ⊗ i ⊕ (q ⊗ l ⊕ s ⊗ b)) ⊕ d ⊗ nat (2 ^ 16) ⊗ t ⊖ d ⊗ nat (2 ^ 16) ⊗ (f ⊕ t), d ⊗ nat (2 ^ 16) ⊗ (a ⊕ g ⊕ nat 1), (d ⊗ a
-                ⊖ (y ⊖ d ⊗ c)) ⊗ nat (2 ^ 16) ⊕ ((p ⊖ d ⊗ u) ⊗ i ⊖ ng (d ⊗ j ⊗ k) ⊕ ((q ⊖ d ⊗ v) ⊗ l ⊖ ng (d ⊗ n ⊗ o) ⊕ ((s ⊖ d ⊗ w) ⊗ b ⊖ ng (d ⊗ e ⊗ z))))
-              ⊕ (d ⊗ (nat (2 ^ 16) ⊗ (f ⊕ nat 1) ⊖ (c ⊗ nat (2 ^ 16) ⊖ (u ⊗ i ⊕ (v ⊗ l ⊕ w ⊗ b)))) ⊕ d ⊗ (nat (2 ^ 16) ⊗ g ⊖ (j ⊗ k ⊕ (n ⊗ o ⊕ e ⊗ z)))))) refl
+          (both_nn (prod_nn h (less_nn h₁.0)) (both_nn (prod_nn h (less_nn h₂)) (prod_nn h (pos_nn (2 ^ 16)))))),
+      le_by (y ∷ p ∷ i ∷ q ∷ l ∷ s ∷ b ∷ d ∷ t ∷ f ∷ a ∷ g ∷ c ∷ u ∷ j ∷ k ∷ v ∷ n ∷ o ∷ w ∷ e ∷ z ∷ []) (λ y p i q l s b d t f a g c u j k v n o w e z. (
+        y ⊗ nat (2 ^ 16) ⊖ (p ⊗ i ⊕ (q ⊗ l ⊕ s ⊗ b)) ⊕ d ⊗ nat (2 ^ 16) ⊗ t ⊖ d ⊗ nat (2 ^ 16) ⊗ (f ⊕ t),
+        d ⊗ nat (2 ^ 16) ⊗ (a ⊕ g ⊕ nat 1),
+        (d ⊗ a
+            ⊖ (y ⊖ d ⊗ c)) ⊗ nat (2 ^ 16) ⊕ ((p ⊖ d ⊗ u) ⊗ i ⊖ ng (d ⊗ j ⊗ k) ⊕ ((q ⊖ d ⊗ v) ⊗ l ⊖ ng (d ⊗ n ⊗ o) ⊕ ((s ⊖ d ⊗ w) ⊗ b ⊖ ng (d ⊗ e ⊗ z))))
+            ⊕ (d ⊗ (nat (2 ^ 16) ⊗ (f ⊕ nat 1) ⊖ (c ⊗ nat (2 ^ 16) ⊖ (u ⊗ i ⊕ (v ⊗ l ⊕ w ⊗ b)))) ⊕ d ⊗ (nat (2 ^ 16) ⊗ g ⊖ (j ⊗ k ⊕ (n ⊗ o ⊕ e ⊗ z)))),
+      )) refl
           (both_nn (both_nn (prod_nn (less_nn h₃.1) (pos_nn (2 ^ 16))) (both_nn (less_nn h₄.0) (both_nn (less_nn h₅.0) (less_nn h₆.0))))
-            (both_nn (prod_nn h (less_nn h₁.1)) (prod_nn h (less_nn h₂)))),
+          (both_nn (prod_nn h (less_nn h₁.1)) (prod_nn h (less_nn h₂)))),
     )
 
 -- two residuals
 two_rows : (d : ℤ) (z : List ℤ) (m : WholeBaseline) (r s : SignalRow) (t u : WholeData) → pos 0 ≤ℤ d → WholeInBoxes d r t → WholeInBoxes d s u →
     ((whole_residual d (pos (2 ^ 16)) z m r t -ℤ whole_residual d (pos (2 ^ 16)) z m s u)
-      *ℤ (whole_residual d (pos (2 ^ 16)) z m r t -ℤ whole_residual d (pos (2 ^ 16)) z m s u))
+    *ℤ (whole_residual d (pos (2 ^ 16)) z m r t -ℤ whole_residual d (pos (2 ^ 16)) z m s u))
     ≤ℤ (d *ℤ pos (2 ^ 16) *ℤ (d *ℤ pos (2 ^ 16)) *ℤ (gap z m r s *ℤ gap z m r s))
 two_rows d z m r s t u h i j =
     le_trans_ℤ (square_within (d *ℤ pos (2 ^ 16) *ℤ gap z m r s) (whole_residual d (pos (2 ^ 16)) z m r t -ℤ whole_residual d (pos (2 ^ 16)) z m s u)
     (step (d *ℤ pos (2 ^ 16)) (whole_residual d (pos (2 ^ 16)) z m r t) (whole_residual d (pos (2 ^ 16)) z m s u) (centre z m r) (centre z m s)
-      (rad m r) (rad m s) (size (centre z m r -ℤ centre z m s))
+    (rad m r) (rad m s) (size (centre z m r -ℤ centre z m s))
     (prod_nn h (pos_nn (2 ^ 16))) (size_within (centre z m r -ℤ centre z m s)) (in_reach d z m r t h i) (in_reach d z m s u h j)))
     (last (d *ℤ pos (2 ^ 16)) (gap z m r s))
   where

@@ -48,12 +48,12 @@ pub less_chain : (p : List Column) (u v w : List ℤ) → Less p u v → Less p 
 less_chain p u v w h k = ⊎_elim
     (λ (q : value p u <ℤ value p v). ⊎_elim (λ (r : value p v <ℤ value p w). inl (chain _ _ _ q r)) (λ (r : (value p v ≡ value p w) × Before v w). inl (subst (λ (t : ℤ). value p u <ℤ t) r.0 q)) k)
     (λ (q : (value p u ≡ value p v) × Before u v). ⊎_elim (λ (r : value p v <ℤ value p w). inl (subst (λ (t : ℤ). t <ℤ value p w) (sym q.0) r))
-      (λ (r : (value p v ≡ value p w) × Before v w). inr (q.0 ∙ r.0, before_chain u v w q.1 r.1)) k) h
+    (λ (r : (value p v ≡ value p w) × Before v w). inr (q.0 ∙ r.0, before_chain u v w q.1 r.1)) k) h
 
 pub less_total : (p : List Column) (v w : List ℤ) → len v ≡ len w → (v ≡ w) ⊎ (Less p v w ⊎ Less p w v)
 less_total p v w e = by_lt_z (value p v) (value p w) (λ (h : value p v <ℤ value p w). inr (inl (inl h)))
     (λ (h : value p w ≤ℤ value p v). by_lt_z (value p w) (value p v) (λ (k : value p w <ℤ value p v). inr (inr (inl k)))
-      (λ (k : value p v ≤ℤ value p w). go (same (value p v) (value p w) h k) (before_total v w e)))
+    (λ (k : value p v ≤ℤ value p w). go (same (value p v) (value p w) h k) (before_total v w e)))
   where
     same : (x y : ℤ) → y ≤ℤ x → x ≤ℤ y → x ≡ y
     same x y h k = omega (arith, lins)
@@ -68,7 +68,7 @@ first_less p n z1 z2 v t e d = ⊎_elim (λ (i : v ≡ z2). subst (λ (s : List 
   where
     decide : (v w : List ℤ) → len v ≡ len w → (v ≡ w) ⊎ (v ≡ w → ⊥)
     decide v w e = ⊎_elim (λ (i : v ≡ w). inl i) (λ (q : Before v w ⊎ Before w v). inr (λ (i : v ≡ w). before_never w
-            (⊎_elim (λ (r : Before v w). subst (λ (s : List ℤ). Before s w) i r) (λ (r : Before w v). subst (λ (s : List ℤ). Before w s) i r) q)))
+        (⊎_elim (λ (r : Before v w). subst (λ (s : List ℤ). Before s w) i r) (λ (r : Before w v). subst (λ (s : List ℤ). Before w s) i r) q)))
         (before_total v w e)
 
 pub first_unique : (p : List Column) (n : ℤ) (z1 z2 w1 w2 : List ℤ) → TwoLeast p n z1 z2 → TwoLeast p n w1 w2 → z1 ≡ w1

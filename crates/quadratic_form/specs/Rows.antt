@@ -120,7 +120,7 @@ row_radii w (r ∷ rs) = add_radii (record {
   r1 = pos 360360 *ℤ w *ℤ (r.ru1 *ℤ r.ru1);
   r2 = pos 360360 *ℤ w *ℤ (r.ru2 *ℤ r.ru2);
   r3 = pos 360360 *ℤ w *ℤ (r.ru3 *ℤ r.ru3);
-  ry = pos 360360 *ℤ w *ℤ (r.ry *ℤ r.ry)
+  ry = pos 360360 *ℤ w *ℤ (r.ry *ℤ r.ry);
 }) (row_radii w rs)
 
 abbrev pub radii : List SignalGroup → Radii

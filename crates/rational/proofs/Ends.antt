@@ -20,8 +20,11 @@ size_of_box k m lo hi q l h i =
     turned a b c d e f h = omega (arith, lins)
 
 pub box_of_size : (k m : ℕ) (q : Rational) → IsAtMostInSize (of_scale k (pos m)) q → InBox k (neg_ℤ (pos m)) (pos m) q
-box_of_size k m q h = (turned (q.num *ℤ pos (2 ^ k)) (neg_ℤ q.num *ℤ pos (2 ^ k)) (pos m *ℤ pos q.den) (neg_ℤ (pos m) *ℤ pos q.den)
-      (neg_mul_ℤ q.num (pos (2 ^ k))) (neg_mul_ℤ (pos m) (pos q.den)) h.1, h.0)
+box_of_size k m q h = (
+  turned (q.num *ℤ pos (2 ^ k)) (neg_ℤ q.num *ℤ pos (2 ^ k)) (pos m *ℤ pos q.den) (neg_ℤ (pos m) *ℤ pos q.den)
+      (neg_mul_ℤ q.num (pos (2 ^ k))) (neg_mul_ℤ (pos m) (pos q.den)) h.1,
+  h.0,
+)
   where
     turned : (a b c d : ℤ) → b ≡ neg_ℤ a → d ≡ neg_ℤ c → b ≤ℤ c → d ≤ℤ a
     turned a b c d e f h = omega (arith, lins)
@@ -36,9 +39,9 @@ box_of_near k lo hi p d q l n =
     let high : q ≤ʳ add_r (of_scale k hi) (of_scale k p) =
     order_r r ((va 1 ≼ va 5) ∷ (va 0 ⊖ va 1 ≼ va 2) ∷ (va 2 ≼ va 3) ∷ []) [] (va 0) (va 5 ⊕ va 3) (hy 0 ⊞ hy 1 ⊞ hy 2) [] refl (n.held.1, (n.near.0, (l, tt))) tt in (
       ≤ʳ_trans (of_scale k (lo -ℤ p)) (sub_r (of_scale k lo) (of_scale k p)) q (≤ʳ_from_same (of_scale k (lo -ℤ p)) (sub_r (of_scale k lo) (of_scale k p))
-            (same_by (lo ∷ p ∷ pos (2 ^ k) ∷ []) (λ l p s. ((l ⊖ p) ⊗ (s ⊗ s), (l ⊗ s ⊖ p ⊗ s) ⊗ s)) refl)) low,
+          (same_by (lo ∷ p ∷ pos (2 ^ k) ∷ []) (λ l p s. ((l ⊖ p) ⊗ (s ⊗ s), (l ⊗ s ⊖ p ⊗ s) ⊗ s)) refl)) low,
       ≤ʳ_trans q (add_r (of_scale k hi) (of_scale k p)) (of_scale k (hi +ℤ p)) high (≤ʳ_from_same (add_r (of_scale k hi) (of_scale k p))
-            (of_scale k (hi +ℤ p)) (same_by (hi ∷ p ∷ pos (2 ^ k) ∷ []) (λ h p s. ((h ⊗ s ⊕ p ⊗ s) ⊗ s, (h ⊕ p) ⊗ (s ⊗ s))) refl)),
+          (of_scale k (hi +ℤ p)) (same_by (hi ∷ p ∷ pos (2 ^ k) ∷ []) (λ h p s. ((h ⊗ s ⊕ p ⊗ s) ⊗ s, (h ⊕ p) ⊗ (s ⊗ s))) refl)),
     )
 
 -- ---- a narrow box that holds a number has ends near it

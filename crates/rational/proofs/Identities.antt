@@ -129,7 +129,7 @@ numerator_is k ns qs h (ng a) = over_neg (pos (k ^ degree a)) (ev (pos k ∷ ns)
 
 over_same : (k : ℕ) (n : ℤ) (p q : Rational) → 0 < k → Over (pos k) n p → Over (pos k) n q → p ≈ q
 over_same k n p q h e f = mul_eq_cancel (p.num *ℤ pos q.den) (q.num *ℤ pos p.den) k h (first (pos k) p.num (pos q.den) ∙ ap (λ z. z *ℤ pos q.den) e
-      ∙ turned n (pos p.den) (pos q.den) ∙ ap (λ z. z *ℤ pos p.den) (sym f) ∙ sym (first (pos k) q.num (pos p.den)))
+    ∙ turned n (pos p.den) (pos q.den) ∙ ap (λ z. z *ℤ pos p.den) (sym f) ∙ sym (first (pos k) q.num (pos p.den)))
   where
     first : (k a d : ℤ) → a *ℤ d *ℤ k ≡ a *ℤ k *ℤ d
     first k a d = same_by (k ∷ a ∷ d ∷ []) (λ k a d. (a ⊗ d ⊗ k, a ⊗ k ⊗ d)) refl

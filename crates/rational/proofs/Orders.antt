@@ -66,7 +66,7 @@ nn_difference p q h = diff_nn (p.num *ℤ pos q.den) (q.num *ℤ pos p.den) h
 
 nn_along : (p q : Rational) → p ≈ q → pos 0 ≤ℤ q.num → pos 0 ≤ℤ p.num
 nn_along p q e h = mul_le_cancel (pos 0) p.num q.den q.positive (step (p.num *ℤ pos q.den) (q.num *ℤ pos p.den) (pos 0 *ℤ pos q.den)
-      (mul_nn q.num (pos p.den) h (pos_nn p.den)) e (same_by (pos q.den ∷ []) (λ d. (ko (pos 0) ⊗ d, ko (pos 0))) refl))
+    (mul_nn q.num (pos p.den) h (pos_nn p.den)) e (same_by (pos q.den ∷ []) (λ d. (ko (pos 0) ⊗ d, ko (pos 0))) refl))
   where
     step : (a b c : ℤ) → pos 0 ≤ℤ b → a ≡ b → c ≡ pos 0 → c ≤ℤ a
     step a b c h e f = omega (arith, lins)
@@ -101,7 +101,7 @@ order_r r hs es l u d cs e g h =
 -- a factor above 0 cancels
 pub cancel_r : (c p q : Rational) → pos 0 <ℤ c.num → mul_r c p ≤ʳ mul_r c q → p ≤ʳ q
 cancel_r c p q h k = of_difference p q (cancel c.num (pos 0) (sub_r q p).num h
-      (step (c.num *ℤ pos 0) (c.num *ℤ (sub_r q p).num) (same_by (c.num ∷ []) (λ c. (c ⊗ ko (pos 0), ko (pos 0))) refl) product))
+    (step (c.num *ℤ pos 0) (c.num *ℤ (sub_r q p).num) (same_by (c.num ∷ []) (λ c. (c ⊗ ko (pos 0), ko (pos 0))) refl) product))
   where
     product : pos 0 ≤ℤ (c.num *ℤ (sub_r q p).num)
     product = nn_along (mul_r c (sub_r q p)) (sub_r (mul_r c q) (mul_r c p))

@@ -95,10 +95,10 @@ over_box k n c r q h e i = step k n c r q.num q.den q.positive h e i.0 i.1
     step : (k n c r a : ℤ) (d : ℕ) → 0 < d → pos 0 ≤ℤ k → a *ℤ k ≡ n *ℤ pos d → ((c -ℤ r) *ℤ pos d) ≤ℤ (a *ℤ pos 1) → (a *ℤ pos 1) ≤ℤ ((c +ℤ r) *ℤ pos d) → Within (k *ℤ r) (n -ℤ (k *ℤ c))
     step k n c r a d h₀ h e i j = (
       mul_le_cancel (neg_ℤ (k *ℤ r)) (n -ℤ (k *ℤ c)) d h₀ (le_by (k ∷ r ∷ pos d ∷ n ∷ c ∷ a ∷ []) (λ k r d n c a.
-              (ng (k ⊗ r) ⊗ d, (n ⊖ k ⊗ c) ⊗ d, n ⊗ d ⊖ a ⊗ k ⊕ k ⊗ (a ⊗ nat 1 ⊖ (c ⊖ r) ⊗ d))) refl (both_nn (less_nn (le_eq e)) (prod_nn h (less_nn i)))),
+          (ng (k ⊗ r) ⊗ d, (n ⊖ k ⊗ c) ⊗ d, n ⊗ d ⊖ a ⊗ k ⊕ k ⊗ (a ⊗ nat 1 ⊖ (c ⊖ r) ⊗ d))) refl (both_nn (less_nn (le_eq e)) (prod_nn h (less_nn i)))),
       mul_le_cancel (n -ℤ (k *ℤ c)) (k *ℤ r) d h₀
           (le_by (n ∷ k ∷ c ∷ pos d ∷ r ∷ a ∷ []) (λ n k c d r a. ((n ⊖ k ⊗ c) ⊗ d, k ⊗ r ⊗ d, a ⊗ k ⊖ n ⊗ d ⊕ k ⊗ ((c ⊕ r) ⊗ d ⊖ a ⊗ nat 1))) refl
-            (both_nn (less_nn (le_eq (sym e))) (prod_nn h (less_nn j)))),
+          (both_nn (less_nn (le_eq (sym e))) (prod_nn h (less_nn j)))),
     )
 
 -- ---- one denominator for a list: the product of all

@@ -20,7 +20,7 @@ from_zero x h = step x.num (pos x.den) h (same_by (pos x.den ∷ []) (λ d. (ko 
 pub positive_above : (c q : Rational) → pos 0 <ℤ c.num → c ≤ʳ q → pos 0 <ℤ q.num
 positive_above c q h l = by_lt_z (pos 0) q.num (λ k. k)
     (λ k. absurd (step (c.num *ℤ pos q.den) (q.num *ℤ pos c.den) (mul_positive c.num (pos q.den) h (lt_pos 0 q.den q.positive))
-        (mul_le_right (pos c.den) q.num (pos 0) (pos_nn c.den) k) (same_by (pos c.den ∷ []) (λ d. (ko (pos 0) ⊗ d, ko (pos 0))) refl) l))
+    (mul_le_right (pos c.den) q.num (pos 0) (pos_nn c.den) k) (same_by (pos c.den ∷ []) (λ d. (ko (pos 0) ⊗ d, ko (pos 0))) refl) l))
   where
     step : (a b : ℤ) → pos 0 <ℤ a → b ≤ℤ (pos 0 *ℤ pos c.den) → pos 0 *ℤ pos c.den ≡ pos 0 → a ≤ℤ b → ⊥
     step a b h k e l = omega (arith, lins)

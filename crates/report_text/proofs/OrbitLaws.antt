@@ -85,7 +85,7 @@ numbers_hold b n q are h =
 pub numbers_narrow : (b : SvBox) (n : OrbitNumbers) → AreNumbersOf b n → AreNarrow n
 numbers_narrow b n are =
     let narrow : All (λ (i : Iv 36). width_of i ≤ℤ pos (2 ^ 18)) (are.first ∷ are.second ∷ are.third ∷ []) =
-        subst (λ (p : List (Iv 36)). All (λ (i : Iv 36). width_of i ≤ℤ pos (2 ^ 18)) p) are.place b.narrow in
+    subst (λ (p : List (Iv 36)). All (λ (i : Iv 36). width_of i ≤ℤ pos (2 ^ 18)) p) are.place b.narrow in
     record {
       x = subst (λ (e : Ends). AreApart 5 e) (sym are.x) (axis_apart are.first (narrow 0 are.first (omega arith)));
       y = subst (λ (e : Ends). AreApart 5 e) (sym are.y) (axis_apart are.second (narrow 1 are.second (omega arith)));

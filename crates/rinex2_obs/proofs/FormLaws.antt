@@ -58,7 +58,7 @@ rows_taken : (rows more : List (List ℕ)) (h : Header) (epochs : List Epoch) (t
     (names : List (Option ℕ)) (at : ℕ) (before after : List (Option Value)) (n : ℕ)
     → AreRows (kept_of h.types) name at rows before after → length rows + at ≡ rows_of h.types
     → walk obs2_rules (rows ++ more) n (more_rows h epochs tag power sats name names at before)
-        ≡ walk obs2_rules more (n + length rows) (more_sats h epochs tag power (with_satellite sats name after) names)
+    ≡ walk obs2_rules more (n + length rows) (more_sats h epochs tag power (with_satellite sats name after) names)
 rows_taken [] more h epochs tag power sats name names at before after n are count =
     let all = rows_all h epochs tag power sats name names at before (omega (arith, count)) in
     rw (all, are, add-zero) refl
@@ -73,7 +73,7 @@ rows_taken (bytes ∷ rows) more h epochs tag power sats name names at before af
 -- and so are those of the satellites of an epoch
 sats_taken : (parts : List SatPart) (more : List (List ℕ)) (h : Header) (epochs : List Epoch) (tag : Tick) (power : Bool) (sats : List SatObs) (n : ℕ) → AreSats h.types parts
     → walk obs2_rules (sat_lines parts ++ more) n (more_sats h epochs tag power sats (numbers_of parts))
-        ≡ walk obs2_rules more (n + length (sat_lines parts)) (Body h (epochs ++ epoch_of tag power (sats ++ satellites_of parts) ∷ []))
+    ≡ walk obs2_rules more (n + length (sat_lines parts)) (Body h (epochs ++ epoch_of tag power (sats ++ satellites_of parts) ∷ []))
 sats_taken [] more h epochs tag power sats n are = rw (add-zero, append-nil sats) refl
 sats_taken (p ∷ parts) more h epochs tag power sats n are =
     let behind = sat_lines parts ++ more in
@@ -95,7 +95,7 @@ names_taken (bytes ∷ lines) more h epochs tag power names left all n are =
     let list = are.2.0 in
     let further : n + suc (length lines) ≡ n + 1 + length lines = omega arith in
     let admits : admit (more_names h epochs tag power names left) bytes ≡ Ok (more_names h epochs tag power list.names list.left) =
-        admit_names h epochs tag power names left bytes are.0 ∙ rw (are.2.1) refl in
+    admit_names h epochs tag power names left bytes are.0 ∙ rw (are.2.1) refl in
     walk-takes obs2_rules (more_names h epochs tag power names left) (more_names h epochs tag power list.names list.left) bytes (lines ++ more) n are.1 admits
     ∙ names_taken lines more h epochs tag power list.names list.left all (n + 1) are.2.2 ∙ rw further refl
 

@@ -145,7 +145,7 @@ names_done zero h epochs tag power names (suc k) le = absurd (omega (arith, le))
 names_done (suc fuel) h epochs tag power names (suc k) le =
     let step = names_step h epochs tag power names (suc k) in
     with_line obs2_rules (Names h epochs tag power names (suc k)) (more_names h epochs tag power step.0 (suc k - 12)) other_names (lit≤ tt) step.1
-        (names_done fuel h epochs tag power step.0 (suc k - 12) (omega (arith, le)))
+    (names_done fuel h epochs tag power step.0 (suc k - 12) (omega (arith, le)))
 
 -- ---- events, whose lines are empty
 
@@ -321,10 +321,10 @@ completed (Body h epochs) = body_done h epochs
 completed (Names h epochs tag power names n) =
     let step = names_step h epochs tag power names n in
     with_line obs2_rules (Names h epochs tag power names n) (more_names h epochs tag power step.0 (n - 12)) other_names (lit≤ tt) step.1
-        (names_done (n - 12) h epochs tag power step.0 (n - 12) (omega arith))
+    (names_done (n - 12) h epochs tag power step.0 (n - 12) (omega arith))
 completed (Row h epochs tag power sats name names at values) =
     row_done h epochs tag power sats name names at values
-        (λ set. rows_done (rows_of h.types) h epochs tag power sats name names (at + 1) set (omega arith) (λ sats. sats_done names h epochs tag power sats))
+    (λ set. rows_done (rows_of h.types) h epochs tag power sats name names (at + 1) set (omega arith) (λ sats. sats_done names h epochs tag power sats))
 completed (Further h epochs n rows) = with_line obs2_rules (Further h epochs n rows) (more_slips h epochs (n - 1) rows) [] (lit≤ tt) (empty_mark h epochs n rows) (slips_done h epochs (n - 1) rows)
 completed (Skip h epochs changes n) = with_line obs2_rules (Skip h epochs changes n) (more_lines h epochs changes (n - 1)) [] (lit≤ tt)
     (empty_line h epochs changes n) (lines_done h epochs changes (n - 1))

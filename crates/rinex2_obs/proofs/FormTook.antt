@@ -214,14 +214,17 @@ body_line bytes lines took h epochs n whole gives = by_part (epoch_line_of epoch
         record {
           parts = Slips part ∷ rest.parts;
           lines_are = ap (λ (l : List (List ℕ)). bytes ∷ l) lines_are;
-          each = (record {
-            short = first.short;
-            says = says;
-            further_count = sym marked.count;
-            further = marked.are;
-            rows_count = sym rest.count;
-            rows = are_short false rest.event_lines rest.are
-          }, rest.each);
+          each = (
+            record {
+              short = first.short;
+              says = says;
+              further_count = sym marked.count;
+              further = marked.are;
+              rows_count = sym rest.count;
+              rows = are_short false rest.event_lines rest.are;
+            },
+            rest.each,
+          );
           whole_is = rest.whole_is;
         }
     by_part (Ok (line.Epoch tag power list)) says gives =
@@ -234,12 +237,15 @@ body_line bytes lines took h epochs n whole gives = by_part (epoch_line_of epoch
         record {
           parts = Epoch_ part ∷ rest.parts;
           lines_are = ap (λ (l : List (List ℕ)). bytes ∷ l) lines_are;
-          each = (record {
-            short = first.short;
-            says = says;
-            names = subst (λ (all : List (Option ℕ)). AreFurtherNames named.further list.names list.left all) rest.numbers named.are;
-            sats = rest.are
-          }, rest.each);
+          each = (
+            record {
+              short = first.short;
+              says = says;
+              names = subst (λ (all : List (Option ℕ)). AreFurtherNames named.further list.names list.left all) rest.numbers named.are;
+              sats = rest.are;
+            },
+            rest.each,
+          );
           whole_is = rest.whole_is;
         }
     by_part (Err flaw) says gives = absurd cc
@@ -264,7 +270,7 @@ names_line bytes lines took h epochs tag power names k n whole gives = by_part (
           rest = rest.rest;
           lines_are = ap (λ (l : List (List ℕ)). bytes ∷ l) rest.lines_are;
           are = (omega arith, first.short, (list, says, rest.are));
-          behind = rest.behind
+          behind = rest.behind;
         }
     by_part (Err flaw) says gives = absurd cc
 
@@ -289,7 +295,7 @@ row_line bytes lines took h epochs tag power sats name names at values n whole l
           lines_are = ap (λ (l : List (List ℕ)). bytes ∷ l) rest.lines_are;
           count = omega (arith, rest.count);
           are = (first.short, (set, says, rest.are));
-          behind = rest.behind
+          behind = rest.behind;
         }
     by_part (Err flaw) says gives = absurd cc
 
@@ -315,7 +321,7 @@ slips_line bytes lines took h epochs k rows n whole gives = by_part (further_mar
           lines_are = ap (λ (l : List (List ℕ)). bytes ∷ l) rest.lines_are;
           count = ap suc rest.count;
           are = (first.short, says, rest.are);
-          behind = rest.behind
+          behind = rest.behind;
         }
     by_part (Err flaw) says gives = absurd cc
 

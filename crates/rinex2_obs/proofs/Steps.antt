@@ -97,14 +97,14 @@ finish_rows h epochs tag power sats name names at values less = rw (rows_due h e
 pub admit_rows : (h : Header) (epochs : List Epoch) (tag : Tick) (power : Bool) (sats : List SatObs) (name : Option ℕ) (names : List (Option ℕ))
     (at : ℕ) (values : List (Option Value)) (bytes : List ℕ) → at < rows_of h.types
     → admit (more_rows h epochs tag power sats name names at values) bytes
-        ≡ and_then (row_of (kept_of h.types) name at bytes values) (λ set. Ok (more_rows h epochs tag power sats name names (at + 1) set))
+    ≡ and_then (row_of (kept_of h.types) name at bytes values) (λ set. Ok (more_rows h epochs tag power sats name names (at + 1) set))
 admit_rows h epochs tag power sats name names at values bytes less = rw (rows_due h epochs tag power sats name names at values less) refl
 
 -- the same for a satellite of GPS, with the kept types of the header's list
 pub admit_mine : (kept : List KeptType) (h : Header) (epochs : List Epoch) (tag : Tick) (power : Bool) (sats : List SatObs) (number : ℕ)
     (names : List (Option ℕ)) (at : ℕ) (values : List (Option Value)) (bytes : List ℕ) → kept ≡ kept_of h.types → at < rows_of h.types
     → admit (more_rows h epochs tag power sats (Some number) names at values) bytes
-        ≡ and_then (values_in Rinex2 at kept bytes values) (λ set. Ok (more_rows h epochs tag power sats (Some number) names (at + 1) set))
+    ≡ and_then (values_in Rinex2 at kept bytes values) (λ set. Ok (more_rows h epochs tag power sats (Some number) names (at + 1) set))
 unfolding row_of
 admit_mine kept h epochs tag power sats number names at values bytes same less = rw same (admit_rows h epochs tag power sats (Some number) names at values bytes less)
 

@@ -48,7 +48,7 @@ walk-stops {S} {F} rules s n (line ∷ lines) at e = by_first (λ next. walk-sto
           split = refl;
           last = s;
           reach = λ more. rw add-zero refl;
-          fails = rw (add-zero, is) (ap (λ (a : At). Err a) same)
+          fails = rw (add-zero, is) (ap (λ (a : At). Err a) same);
         }
     by_first again (Ok next) is gives =
         let later = again next gives in

@@ -38,7 +38,7 @@ goes_on rules s next part f x old new number line gives is answer then_is =
 
 -- the part gives x, and x has a flaw here
 pub stops_after : {S F X : Type 0} (rules : Rules S F) (s : S) (part : Result X Flaw) (f : X
-      → Result S Flaw) (x : X) (flaw : Flaw) (old new : Reading) (number : ℕ) (line : List ℕ) → GivesLine old new number line
+    → Result S Flaw) (x : X) (flaw : Flaw) (old new : Reading) (number : ℕ) (line : List ℕ) → GivesLine old new number line
     → rules.admit s line ≡ and_then part f → Ok x ≡ part → f x ≡ Err flaw → rest_gives rules old s ≡ Err (place number flaw.column flaw.what)
 stops_after rules s part f x flaw old new number line gives is answer then_is =
     refuses rules s flaw old new number line gives (is ∙ rw (← answer) then_is)

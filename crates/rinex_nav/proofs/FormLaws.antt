@@ -146,19 +146,19 @@ module _ (system : System) where
       let q6 : List Quad = second_of r ∷ third_of r ∷ fourth_of r ∷ fifth_of r ∷ sixth_of r ∷ seventh_of r ∷ [] in
       walk-takes (nav_rules system) (Body raws skipping) (Further raws s []) l.first (further_of l ++ more) n (short 0 [] (omega arith)) (takes_first raws skipping l r room is)
       ∙ walk-takes (nav_rules system) (Further raws s q0) (Further raws s q1) l.second (l.third ∷ l.fourth ∷ l.fifth ∷ l.sixth ∷ l.seventh ∷ l.eighth ∷ more)
-          (n + 1) (short 1 [] (omega arith)) (takes_quad raws s q0 l.second (second_of r) (Further raws s q1) (second_says l r is) refl)
+      (n + 1) (short 1 [] (omega arith)) (takes_quad raws s q0 l.second (second_of r) (Further raws s q1) (second_says l r is) refl)
       ∙ walk-takes (nav_rules system) (Further raws s q1) (Further raws s q2) l.third (l.fourth ∷ l.fifth ∷ l.sixth ∷ l.seventh ∷ l.eighth ∷ more)
-          (n + 1 + 1) (short 2 [] (omega arith)) (takes_quad raws s q1 l.third (third_of r) (Further raws s q2) (third_says l r is) refl)
+      (n + 1 + 1) (short 2 [] (omega arith)) (takes_quad raws s q1 l.third (third_of r) (Further raws s q2) (third_says l r is) refl)
       ∙ walk-takes (nav_rules system) (Further raws s q2) (Further raws s q3) l.fourth (l.fifth ∷ l.sixth ∷ l.seventh ∷ l.eighth ∷ more)
-          (n + 1 + 1 + 1) (short 3 [] (omega arith)) (takes_quad raws s q2 l.fourth (fourth_of r) (Further raws s q3) (fourth_says l r is) refl)
+      (n + 1 + 1 + 1) (short 3 [] (omega arith)) (takes_quad raws s q2 l.fourth (fourth_of r) (Further raws s q3) (fourth_says l r is) refl)
       ∙ walk-takes (nav_rules system) (Further raws s q3) (Further raws s q4) l.fifth (l.sixth ∷ l.seventh ∷ l.eighth ∷ more) (n + 1 + 1 + 1 + 1)
-          (short 4 [] (omega arith)) (takes_quad raws s q3 l.fifth (fifth_of r) (Further raws s q4) (fifth_says l r is) refl)
+      (short 4 [] (omega arith)) (takes_quad raws s q3 l.fifth (fifth_of r) (Further raws s q4) (fifth_says l r is) refl)
       ∙ walk-takes (nav_rules system) (Further raws s q4) (Further raws s q5) l.sixth (l.seventh ∷ l.eighth ∷ more) (n + 1 + 1 + 1 + 1 + 1)
-          (short 5 [] (omega arith)) (takes_quad raws s q4 l.sixth (sixth_of r) (Further raws s q5) (sixth_says l r is) refl)
+      (short 5 [] (omega arith)) (takes_quad raws s q4 l.sixth (sixth_of r) (Further raws s q5) (sixth_says l r is) refl)
       ∙ walk-takes (nav_rules system) (Further raws s q5) (Further raws s q6) l.seventh (l.eighth ∷ more) (n + 1 + 1 + 1 + 1 + 1 + 1) (short 6 [] (omega arith))
-          (takes_quad raws s q5 l.seventh (seventh_of r) (Further raws s q6) (seventh_says l r is) refl)
+      (takes_quad raws s q5 l.seventh (seventh_of r) (Further raws s q6) (seventh_says l r is) refl)
       ∙ walk-takes (nav_rules system) (Further raws s q6) (Body (raws ++ r ∷ []) false) l.eighth more (n + 1 + 1 + 1 + 1 + 1 + 1 + 1) (short 7 [] (omega arith))
-          (takes_quad raws s q6 l.eighth (eighth_of r) (Body (raws ++ r ∷ []) false) (eighth_says l r is) refl)
+      (takes_quad raws s q6 l.eighth (eighth_of r) (Body (raws ++ r ∷ []) false) (eighth_says l r is) refl)
 
   -- ---- the body
 
@@ -177,7 +177,7 @@ module _ (system : System) where
   parts_taken [] raws skipping n short are few = walk-end (nav_rules system) (Body raws skipping) n ∙ rw (append-nil raws) refl
   parts_taken (Blank line ∷ parts) raws skipping n short are few =
       walk-takes (nav_rules system) (Body raws skipping) (Body raws skipping) line (body_lines parts) n (short 0 [] (omega arith))
-          (takes_blank raws skipping line (All-head (IsPart system) (Blank line) parts are))
+      (takes_blank raws skipping line (All-head (IsPart system) (Blank line) parts are))
       ∙ parts_taken parts raws skipping (n + 1) (All-tail IsShort line (body_lines parts) short) (All-tail (IsPart system) (Blank line) parts are) few
   parts_taken (Other first further ∷ parts) raws skipping n short are few =
       let is = All-head (IsPart system) (Other first further) parts are in
@@ -191,7 +191,7 @@ module _ (system : System) where
       let fits : length (raws ++ r ∷ []) + length (records_of parts) ≤ 4096 = omega arith in
       record_taken lines r (body_lines parts) raws skipping n is (omega arith) short
       ∙ parts_taken parts (raws ++ r ∷ []) false (n + 1 + 1 + 1 + 1 + 1 + 1 + 1 + 1)
-          (All-behind IsShort (lines.first ∷ further_of lines) (body_lines parts) short) (All-tail (IsPart system) (Read lines r) parts are) fits
+      (All-behind IsShort (lines.first ∷ further_of lines) (body_lines parts) short) (All-tail (IsPart system) (Read lines r) parts are) fits
       ∙ rw (append_assoc raws (r ∷ []) (records_of parts)) refl
 
   -- ---- the header and the file

@@ -59,8 +59,12 @@ module _ (system : System) where
 
   zero_says : (place : ℕ) → continuation_of place zero_line ≡ Ok zeros
   unfolding continuation_of quad_in
-  zero_says place = rw (zero_if (reads_first place) 5 zero_first, zero_if (reads_second place) 24 zero_second,
-        zero_if (reads_third place) 43 zero_third, zero_if (reads_fourth place) 62 zero_fourth) refl
+  zero_says place = rw (
+    zero_if (reads_first place) 5 zero_first,
+    zero_if (reads_second place) 24 zero_second,
+    zero_if (reads_third place) 43 zero_third,
+    zero_if (reads_fourth place) 62 zero_fourth,
+  ) refl
 
   -- so many further lines are read: another one is expected, or the record is whole
   abbrev Behind : List Raw → Start → List Quad → Type 0
@@ -83,7 +87,7 @@ module _ (system : System) where
       → (length quads < 7 → Completes (nav_rules system) (behind raws s (quads ++ zeros ∷ []))) → Completes (nav_rules system) (behind raws s quads)
   by_count raws s quads (inl is) again =
       subst (λ (e : Expected). Completes (nav_rules system) e) (sym is.1) (with_line (nav_rules system) (Further raws s quads)
-            (behind raws s (quads ++ zeros ∷ [])) zero_line (lit≤ tt) (takes_zeros raws s quads) (again is.0))
+      (behind raws s (quads ++ zeros ∷ [])) zero_line (lit≤ tt) (takes_zeros raws s quads) (again is.0))
   by_count raws s quads (inr is) again = subst (λ (e : Expected). Completes (nav_rules system) e) (sym is.1) (body_done (raws ++ is.0 ∷ []) false)
 
   further_done : (due : ℕ) (raws : List Raw) (s : Start) (quads : List Quad) → 7 ≤ length quads + due → Completes (nav_rules system) (behind raws s quads)

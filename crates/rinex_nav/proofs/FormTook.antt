@@ -119,7 +119,7 @@ module _ (system : System) where
           subst (λ (k : BodyLine). Says count skipping bytes k) same (begins, other)
 
       by_blank : (t : Bool) → (column bytes 1 == 32) ≡ t → (if t then (if skipping || are_blank bytes then Ok line.Passed else flawed 1 BadField)
-            else (if column bytes 1 == letter_of system then record_line_of system count bytes else Ok line.Other)) ≡ Ok l → Says count skipping bytes l
+          else (if column bytes 1 == letter_of system then record_line_of system count bytes else Ok line.Other)) ≡ Ok l → Says count skipping bytes l
       by_blank true is e = by_pass (skipping || are_blank bytes) refl (grind (arith, nat_tests)) e
       by_blank false is e = by_letter (column bytes 1 == letter_of system) refl (grind (arith, nat_tests)) e
 
@@ -192,9 +192,9 @@ module _ (system : System) where
           letter = letter;
           behind = All-cons IsFurther t2.bytes (t3.bytes ∷ t4.bytes ∷ t5.bytes ∷ t6.bytes ∷ t7.bytes ∷ t8.bytes ∷ []) l2.blank
               (All-cons IsFurther t3.bytes (t4.bytes ∷ t5.bytes ∷ t6.bytes ∷ t7.bytes ∷ t8.bytes ∷ []) l3.blank
-                (All-cons IsFurther t4.bytes (t5.bytes ∷ t6.bytes ∷ t7.bytes ∷ t8.bytes ∷ []) l4.blank
-                  (All-cons IsFurther t5.bytes (t6.bytes ∷ t7.bytes ∷ t8.bytes ∷ []) l5.blank (All-cons IsFurther t6.bytes (t7.bytes ∷ t8.bytes ∷ []) l6.blank
-                      (All-cons IsFurther t7.bytes (t8.bytes ∷ []) l7.blank (All-cons IsFurther t8.bytes ([]) l8.blank (All-nil IsFurther)))))));
+              (All-cons IsFurther t4.bytes (t5.bytes ∷ t6.bytes ∷ t7.bytes ∷ t8.bytes ∷ []) l4.blank
+              (All-cons IsFurther t5.bytes (t6.bytes ∷ t7.bytes ∷ t8.bytes ∷ []) l5.blank (All-cons IsFurther t6.bytes (t7.bytes ∷ t8.bytes ∷ []) l6.blank
+              (All-cons IsFurther t7.bytes (t8.bytes ∷ []) l7.blank (All-cons IsFurther t8.bytes ([]) l8.blank (All-nil IsFurther)))))));
           sat = l1.sat;
           toc = l1.toc;
           af0 = l1.af0;
@@ -219,9 +219,17 @@ module _ (system : System) where
           week = l6.third;
           health = l7.second;
         };
-        shorter = omega (arith, ap (λ (l : List (List ℕ)). length l) t2.lines_are, ap (λ (l : List (List ℕ)). length l) t3.lines_are,
-              ap (λ (l : List (List ℕ)). length l) t4.lines_are, ap (λ (l : List (List ℕ)). length l) t5.lines_are, ap (λ (l : List (List ℕ)). length l)
-              t6.lines_are, ap (λ (l : List (List ℕ)). length l) t7.lines_are, ap (λ (l : List (List ℕ)). length l) t8.lines_are);
+        shorter = omega (
+          arith,
+          ap (λ (l : List (List ℕ)). length l) t2.lines_are,
+          ap (λ (l : List (List ℕ)). length l) t3.lines_are,
+          ap (λ (l : List (List ℕ)). length l) t4.lines_are,
+          ap (λ (l : List (List ℕ)). length l) t5.lines_are,
+          ap (λ (l : List (List ℕ)). length l)
+              t6.lines_are,
+          ap (λ (l : List (List ℕ)). length l) t7.lines_are,
+          ap (λ (l : List (List ℕ)). length l) t8.lines_are,
+        );
         number = n + 1 + 1 + 1 + 1 + 1 + 1 + 1;
         gives = t8.gives;
       }
@@ -317,7 +325,7 @@ module _ (system : System) where
             lines_are = ap (λ (l : List (List ℕ)). first ∷ l) rest.lines_are;
             are = All-cons (IsPart system) (Blank first) rest.parts says.1 rest.are;
             whole_is = rest.whole_is;
-            few = rest.few
+            few = rest.few;
           }
       by_line line.Other says next = other_took first lines raws (n + 1) whole (again lines (omega arith)) says.0 says.1 (others (Body raws true) next)
       by_line (line.Record s) says next = gps_took first lines raws s (n + 1) whole again says.0 says.1 says.2 (others (Further raws s []) next)
@@ -346,7 +354,7 @@ module _ (system : System) where
             behind = All-cons IsFurther first rest.further says.0 rest.behind;
             are = rest.are;
             whole_is = rest.whole_is;
-            few = rest.few
+            few = rest.few;
           }
       by_line line.Other says next = begins_anew (first ∷ lines) raws whole (other_took first lines raws (n + 1) whole (again lines (omega arith)) says.0 says.1 (others (Body raws true) next))
       by_line (line.Record s) says next = begins_anew (first ∷ lines) raws whole (gps_took first lines raws s (n + 1) whole again says.0 says.1 says.2 (others (Further raws s []) next))

@@ -33,7 +33,7 @@ module _ (system : System) where
   sats_taken : (lines : List (List ℕ)) (found : List (Option SatObs)) (more : List (List ℕ)) (h : Header) (epochs : List Epoch) (tag : Tick)
       (power : Bool) (sats : List SatObs) (n : ℕ) → AreSatLines h.system (kept_from h.system 0 h.types) sats lines found
       → walk (obs_rules system) (lines ++ more) n (more_sats h epochs tag power sats (length lines))
-          ≡ walk (obs_rules system) more (n + length lines) (Body h (epochs ++ epoch_of tag power (sats ++ satellites_of found) ∷ []))
+      ≡ walk (obs_rules system) more (n + length lines) (Body h (epochs ++ epoch_of tag power (sats ++ satellites_of found) ∷ []))
   sats_taken [] [] more h epochs tag power sats n are = rw (add-zero, append-nil sats) refl
   sats_taken [] (f ∷ found) more h epochs tag power sats n are = absurd are
   sats_taken (bytes ∷ lines) [] more h epochs tag power sats n are = absurd are
@@ -91,7 +91,7 @@ module _ (system : System) where
             ∙ ap (λ (l : List (List ℕ)). walk (obs_rules system) (is.first ∷ l) 0 (First h.system)) (regroup (head_lines is.before) is.list is.further (head_lines is.after) is.last more)
             ∙ walk-takes (obs_rules system) (First h.system) (Head version) is.first behind_first 0 is.first_short first_admits
             ∙ header_given (head_rules system h.system h.hundredths) is.before is.after is.list is.last is.further more h.types None zero_delta
-                (0 + 1) is.before_are is.types is.after_are is.last_short is.ends
+            (0 + 1) is.before_are is.types is.after_are is.last_short is.ends
             ∙ ap (λ (w : Header). walk (obs_rules system) more number (Body w [])) whole;
       }
 

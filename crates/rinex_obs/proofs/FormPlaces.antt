@@ -52,7 +52,7 @@ module _ (system : System) where
       let one_less : suc k - 1 ≡ k = omega arith in
       let next : ℕ → Result Expected Flaw = λ j. Ok (more_sats h epochs tag power sats j) in
       with_line (obs_rules system) (Sats h epochs tag power sats (suc k)) (more_sats h epochs tag power sats k) (codes "R01") (lit≤ tt)
-          (other_system h epochs tag power sats (suc k) ∙ ap next one_less) (sats_done h epochs tag power sats k)
+      (other_system h epochs tag power sats (suc k) ∙ ap next one_less) (sats_done h epochs tag power sats k)
 
   empty_line : (h : Header) (epochs : List Epoch) (changes : Bool) (n : ℕ) → admit (Skip h epochs changes n) [] ≡ Ok (more_lines h epochs changes (n - 1))
   unfolding event_line_of label_in trimmed

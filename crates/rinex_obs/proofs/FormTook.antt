@@ -143,7 +143,7 @@ module _ (system : System) where
       further : (after : List SatObs) → more_sats h epochs tag power after (suc k - 1) ≡ first.next → TookSats lines h epochs tag power after k whole
       further after next = of_more_sats lines took h epochs tag power after k (n + 1) whole
           (subst (λ (s : Expected). walk (obs_rules system) lines (n + 1) s ≡ Ok whole)
-            (sym next ∙ ap (λ (j : ℕ). more_sats h epochs tag power after j) one_less) first.others)
+          (sym next ∙ ap (λ (j : ℕ). more_sats h epochs tag power after j) one_less) first.others)
 
       by_part : (r : Result (Option SatObs) Flaw) → satellite_line_of h.system (kept_from h.system 0 h.types) sats bytes ≡ r
           → and_then r (λ s. Ok (more_sats h epochs tag power (with_satellite sats s) (suc k - 1))) ≡ Ok first.next
@@ -193,7 +193,7 @@ module _ (system : System) where
       by_part (Ok u) says gives =
           let next : more_lines h epochs changes (suc k - 1) ≡ first.next = cc (gives) in
           let rest = of_more_lines lines took h epochs changes k (n + 1) whole (subst (λ (s : Expected). walk (obs_rules system) lines (n + 1) s ≡ Ok whole)
-                (sym next ∙ ap (λ (j : ℕ). more_lines h epochs changes j) one_less) first.others) in
+          (sym next ∙ ap (λ (j : ℕ). more_lines h epochs changes j) one_less) first.others) in
           record {
             event_lines = bytes ∷ rest.event_lines;
             parts = rest.parts;
@@ -233,10 +233,10 @@ module _ (system : System) where
           let next : Head (bare_header system v) ≡ first.next = cc (gives) in
           let zero_delta = pos 0 ∷ pos 0 ∷ pos 0 ∷ [] in
           let head = header_took (head_rules system system v) lines None zero_delta (0 + 1) file
-              (subst (λ (s : Expected). walk (obs_rules system) lines (0 + 1) s ≡ Ok file) (sym next) first.others) in
+          (subst (λ (s : Expected). walk (obs_rules system) lines (0 + 1) s ≡ Ok file) (sym next) first.others) in
           let end = head.end in
           let header = whole_header (so_far system v (last_position (last_position None head.before) end.after)
-                (last_delta (last_delta zero_delta head.before) end.after) (Some head.types)) head.types in
+          (last_delta (last_delta zero_delta head.before) end.after) (Some head.types)) head.types in
           let body = (took end.rest).body header [] end.number file end.gives in
           let header_lines = bytes ∷ (head_lines head.before ++ (head.list ∷ (head.further ++ (head_lines end.after ++ (end.last ∷ []))))) in
           let grouped = ap (λ (l : List (List ℕ)). bytes ∷ l) (regroup (head_lines head.before) head.list head.further (head_lines end.after) end.last (body_lines body.parts)) in

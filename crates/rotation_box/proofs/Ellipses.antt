@@ -60,9 +60,9 @@ pub record IsOnEllipse (e w : Rational) (p v : Pair) : Type 0 where
 pub true_near : (e w : Rational) (p v : Pair) → IsOnEllipse e w p v → IsNearCircle 2 v
 true_near e w p v h = (
   cancel_r factor (sub_r norm one) bound above (order_r numbers orders equations (f ⊗ (k ⊗ k ⊕ l ⊗ l ⊖ nat 1)) (f ⊗ va 8) (apart (hy 0) (hy 2))
-        (ng first ∷ ng second ∷ []) refl known (h.anomaly.0, (h.anomaly.1, tt))),
+      (ng first ∷ ng second ∷ []) refl known (h.anomaly.0, (h.anomaly.1, tt))),
   cancel_r factor (sub_r one norm) bound above (order_r numbers orders equations (f ⊗ (nat 1 ⊖ (k ⊗ k ⊕ l ⊗ l))) (f ⊗ va 8) (apart (hy 1) (hy 3))
-        (first ∷ second ∷ []) refl known (h.anomaly.0, (h.anomaly.1, tt))),
+      (first ∷ second ∷ []) refl known (h.anomaly.0, (h.anomaly.1, tt))),
 )
   where
     norm : Rational
@@ -110,8 +110,25 @@ true_near e w p v h = (
         ∷ (va 0 ≼ nat 1) ∷ (ng (va 0) ≼ nat 1) ∷ (va 6 ≼ nat 1) ∷ (nat 4 ⊗ va 7 ≼ va 6) ∷ (nat 0 ≼ va 7) ∷ (va 9 ≼ q) ∷ (nat 15 ≼ nat 16 ⊗ va 9) ∷ (va 6 ⊕ va 6 ≼ va 8) ∷ []
 
     known : AreGiven numbers orders
-    known = (h.near_circle.0, (h.near_circle.1, (h.near_root.0, (h.near_root.1, (h.high, (h.low,
-                    (le_pos _ _ (lit≤ tt), (le_pos _ _ (lit≤ tt), (le_pos _ _ (lit≤ tt), (h.far, (le_pos _ _ (lit≤ tt), (le_pos _ _ (lit≤ tt), tt))))))))))))
+    known = (
+      h.near_circle.0,
+      (
+        h.near_circle.1,
+        (
+          h.near_root.0,
+          (
+            h.near_root.1,
+            (
+              h.high,
+              (
+                h.low,
+                (le_pos _ _ (lit≤ tt), (le_pos _ _ (lit≤ tt), (le_pos _ _ (lit≤ tt), (h.far, (le_pos _ _ (lit≤ tt), (le_pos _ _ (lit≤ tt), tt)))))),
+              ),
+            ),
+          ),
+        ),
+      ),
+    )
 
     equations : List Equation
     equations = (k ⊗ q ≐ c ⊖ va 0) ∷ (l ⊗ q ≐ va 3 ⊗ va 2) ∷ []
@@ -170,7 +187,7 @@ has_true_pair ecc c s root radius cos sin b has = ∥∥₁_map has go
             high = ≤ʳ_trans e limit one n.0 under_one;
             low = ≤ʳ_trans (neg_r e) limit one n.1 under_one;
             far = far;
-            anomaly = (k.is, l.is)
+            anomaly = (k.is, l.is);
           });
         }
       where

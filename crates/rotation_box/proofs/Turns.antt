@@ -29,7 +29,7 @@ both_along a b c d p e f h = subst₂ (λ (x y : Iv 60). HoldsBoth x y p) (sym e
 pub has_turned : (a b c : ℕ) (k l m n cos sin : Iv 60) → a + b + 1 ≤ c → a ≤ 32 → b ≤ 32 → ((p q : Pair) → HoldsBoth k l p → HoldsBoth m n q → HoldsBoth cos sin (turned p q)) →
     ∥ HasPairNearCircle a k l ∥₁ → ∥ HasPairNearCircle b m n ∥₁ → ∥ HasPairNearCircle c cos sin ∥₁
 has_turned a b c k l m n cos sin h i j all has other = ∥∥₁_elim has ∥∥₁_prop (λ x. ∥∥₁_map other
-      (λ y. record { pair = turned x.pair y.pair; held = all x.pair y.pair x.held y.held; near = turned_near a b c x.pair y.pair h i j x.near y.near }))
+    (λ y. record { pair = turned x.pair y.pair; held = all x.pair y.pair x.held y.held; near = turned_near a b c x.pair y.pair h i j x.near y.near }))
 
 -- ---- doubles
 pub double_held : (c s both neither half cos sin : Iv 60) → ((x : Rational) → Holds c x → Holds both (mul_r x x)) → ((x : Rational) → Holds s x → Holds neither (mul_r x x)) → HoldsAll mul_r s c half →

@@ -99,7 +99,7 @@ coarse_declines rules point arcs made s tail h k d = inr (
       before = h.before;
       reached = coarse_session rules point arcs made h s k;
       stands = k.stands;
-      declined = subst (λ (b : Bool). IsRoundDeclined b s tail) (sym (coarse_last rules point arcs made h s k)) d
+      declined = subst (λ (b : Bool). IsRoundDeclined b s tail) (sym (coarse_last rules point arcs made h s k)) d;
     };
   },
 )
@@ -196,7 +196,7 @@ fine_reached rules point arcs coarse_made made h = record {
   coarse_made = plus_zero coarse_made (rounds_at 14 h.before) h.coarse_count;
   fine_made = sym h.count;
   few_coarse = h.few_coarse;
-  few_fine = h.few
+  few_fine = h.few;
 }
 
 fine_session : (rules : Rules) (point : List ℤ) (arcs : List Arc) (coarse_made made : ℕ) (h : FineSoFar rules point arcs coarse_made made) (s : Session)

@@ -1,11 +1,11 @@
 -- Arcs whose shifts grow.
 use Rattle.std.proofs.Common.{◌≡◌, ℕ, zero, suc, ◌+◌, ◌-◌, ◌*◌, ◌^◌, ◌<◌, ◌≤◌, ◌⊎◌, ⊎_elim, List, [], ◌∷◌, ◌++◌, length, map, drop, take, get_or, All, Some, cond, ℤ, pos, ◌+ℤ◌, unsigned_abs, to_z, of_z, arith, sym, ap, ap₂, ◌∙◌, refl, subst}
 use Rattle.std.specs.Prelude.{slice_get}
-use Rattle.std.proofs.lemmas.Option.{slice_get_within}
+use Rattle.std.proofs.lemmas.Option.{slice_get_within, same_Some}
 use Rattle.std.proofs.lemmas.Int.{ints}
 use Rattle.std.specs.Int.{w64}
 use Rattle.obs_rows.specs.declared.arcs.Arc.{Arc}
-use Rattle.std.proofs.lemmas.List.{length-map, length-drop, take_all, get_or_default, get_or-drop}
+use Rattle.std.proofs.lemmas.List.{length-map, length-drop, take_all, get_or_default, get_or-drop, length_push}
 use Rattle.std.proofs.lemmas.List.Sums.{sum_by-cons}
 use Rattle.obs_rows.specs.Ranges.{IsBelow}
 use Rattle.obs_rows.specs.Arcs.{is_free, free_count}
@@ -13,9 +13,7 @@ use Rattle.form_tables.specs.declared.sizes.TheConstants.{MOST_INTEGERS}
 use Rattle.obs_rows.specs.declared.units.TheConstants.{PHASES, MOST_FREE_ARCS}
 use Rattle.integer_form.specs.FloatPoint.{item}
 use Rattle.round_steps.specs.Shifts.{grown_arc, AreGrown, AreShiftsBelow, without_shifts, AreSameArcs}
-
-some_inj : (a b : Arc) → Some a ≡ Some b → a ≡ b
-some_inj a b e = cc
+use Rattle.whole_math.proofs.Lists.{before_push, last_push}
 
 -- a number of a list whose numbers are below m, and 0 behind its end
 pub small_item : (s : List ℤ) (k m : ℕ) → All (IsBelow m) s → 0 < m → unsigned_abs (get_or s k (pos 0)) < m
@@ -65,19 +63,6 @@ pub record AreGrownTo (k : ℕ) (arcs : List Arc) (ss : List ℕ) (x : List ℤ)
   pub as_many : length after ≡ k
   pub each : (j : ℕ) (a : Arc) → j < k → slice_get arcs j ≡ Some a → slice_get after j ≡ Some (grown_arc arcs ss x j a)
 
-before_push : (xs : List Arc) (y : Arc) (j : ℕ) → j < length xs → slice_get (xs ++ y ∷ []) j ≡ slice_get xs j
-before_push [] y j h = absurd (omega arith)
-before_push (x ∷ xs) y zero h = refl
-before_push (x ∷ xs) y (suc j) h = before_push xs y j (omega arith)
-
-last_push : (xs : List Arc) (y : Arc) → slice_get (xs ++ y ∷ []) (length xs) ≡ Some y
-last_push [] y = refl
-last_push (x ∷ xs) y = last_push xs y
-
-length_push : (xs : List Arc) (y : Arc) → length (xs ++ y ∷ []) ≡ length xs + 1
-length_push [] y = refl
-length_push (x ∷ xs) y = let e : length (xs ++ y ∷ []) ≡ length xs + 1 = length_push xs y in omega arith
-
 pub more_grown : (k : ℕ) (arcs : List Arc) (ss : List ℕ) (x : List ℤ) (after after' : List Arc) (a : Arc) → AreGrownTo k arcs ss x after
     → slice_get arcs k ≡ Some a → after' ≡ after ++ grown_arc arcs ss x k a ∷ [] → AreGrownTo (k + 1) arcs ss x after'
 more_grown k arcs ss x after after' a h e p = record {
@@ -91,7 +76,7 @@ more_grown k arcs ss x after after' a h e p = record {
 
     here : (j : ℕ) (b : Arc) → j ≡ k → slice_get arcs j ≡ Some b → slice_get after' j ≡ Some (grown_arc arcs ss x j b)
     here j b q g =
-        let same : a ≡ b = some_inj a b (sym e ∙ ap (slice_get arcs) (sym q) ∙ g) in
+        let same : a ≡ b = same_Some a b (sym e ∙ ap (slice_get arcs) (sym q) ∙ g) in
         ap (slice_get after') (q ∙ sym h.as_many) ∙ ap (λ l. slice_get l (length after)) p ∙ last_push after (grown_arc arcs ss x k a) ∙ ap₂ (λ n c. Some (grown_arc arcs ss x n c)) (sym q) same
 
 pub all_grown : (k : ℕ) (arcs : List Arc) (ss : List ℕ) (x : List ℤ) (after : List Arc) → AreGrownTo k arcs ss x after → k ≡ length arcs → AreGrown arcs ss x after
@@ -109,7 +94,7 @@ same_lists (x ∷ xs) [] e h = absurd (omega arith)
 same_lists (x ∷ xs) (y ∷ ys) e h = ap₂ (λ a l. a ∷ l) (first (h 0 x refl)) (same_lists xs ys (omega arith) (λ k a g. h (suc k) a g))
   where
     first : ((b : Arc) × ((Some y ≡ Some b) × (without_shifts b ≡ without_shifts x))) → without_shifts y ≡ without_shifts x
-    first (b, (p, q)) = ap without_shifts (some_inj y b p) ∙ q
+    first (b, (p, q)) = ap without_shifts (same_Some y b p) ∙ q
 
 pub grown_same : (arcs : List Arc) (ss : List ℕ) (x : List ℤ) (after : List Arc) → AreGrown arcs ss x after → AreSameArcs arcs after
 grown_same arcs ss x after h = same_lists arcs after h.as_many (λ k a g. (grown_arc arcs ss x k a, (h.each k a g, refl)))

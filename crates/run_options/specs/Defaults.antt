@@ -44,5 +44,5 @@ numbers_of o = record {
   arc = o.arc;
   step = o.step;
   first = o.first;
-  count = o.count
+  count = o.count;
 }

@@ -8,9 +8,7 @@ use Rattle.obs_rows.specs.declared.used.UsedPair.{UsedPair}
 use Rattle.slip_arcs.specs.Runs.{Run, run_of, AreKept}
 use Rattle.slip_arcs.specs.Linked.{SharePair, AreNeighbours, IsChain, AreLinked, IsFirstLinked, HaveDatums, IsCutOf}
 use Rattle.round_steps.specs.Shifts.{without_shifts, AreSameArcs}
-
-some_inj : (a b : Arc) → Some a ≡ Some b → a ≡ b
-some_inj a b e = cc
+use Rattle.std.proofs.lemmas.Option.{same_Some}
 
 -- the arc of number k in the one list has its like in the other
 pub record Like (arcs : List Arc) (k : ℕ) (a : Arc) : Type 0 where
@@ -24,7 +22,7 @@ like (x ∷ xs) [] e k a h = absurd cc
 like (x ∷ xs) (y ∷ ys) e zero a h = record {
   arc = y;
   arc_is = refl;
-  same = heads (without_shifts y) (without_shifts x) (map without_shifts ys) (map without_shifts xs) e ∙ ap without_shifts (some_inj x a h)
+  same = heads (without_shifts y) (without_shifts x) (map without_shifts ys) (map without_shifts xs) e ∙ ap without_shifts (same_Some x a h);
 }
   where
     heads : (p q : Arc) (ps qs : List Arc) → p ∷ ps ≡ q ∷ qs → p ≡ q
@@ -92,7 +90,7 @@ cut_along used xs ys e h = record {
   least = h.least;
   short = h.short;
   kept = kept_along h.bands h.jump h.least h.short used xs ys e h.kept;
-  datums = datums_along xs ys e h.datums
+  datums = datums_along xs ys e h.datums;
 }
 
 -- ---- free arcs
@@ -101,7 +99,7 @@ free_at [] k a h d = absurd cc
 free_at (x ∷ xs) zero a h d =
     let f : Arc → ℕ = λ y. cond (is_free y) 1 0 in
     let e : free_count (x ∷ xs) ≡ cond (not x.datum) 1 0 + free_count xs = sum_by-cons f x xs in
-    let b : x.datum ≡ false = ap (λ (y : Arc). y.datum) (some_inj x a h) ∙ d in
+    let b : x.datum ≡ false = ap (λ (y : Arc). y.datum) (same_Some x a h) ∙ d in
     more (free_count (x ∷ xs)) (free_count xs) (e ∙ ap (λ (t : Bool). cond (not t) 1 0 + free_count xs) b)
   where
     more : (n m : ℕ) → n ≡ 1 + m → 1 ≤ n

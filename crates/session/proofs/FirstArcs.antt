@@ -1,7 +1,7 @@
 -- The arcs with their first shifts, one by one.
 use Rattle.std.proofs.Common.{◌≡◌, ℕ, zero, suc, ◌+◌, ◌<◌, ◌⊎◌, ⊎_elim, List, [], ◌∷◌, ◌++◌, length, Some, ℤ, arith, sym, ap, ap₂, ◌∙◌, refl, subst}
 use Rattle.std.specs.Prelude.{slice_get}
-use Rattle.std.proofs.lemmas.Option.{slice_get_within}
+use Rattle.std.proofs.lemmas.Option.{slice_get_within, same_Some}
 use Rattle.obs_rows.specs.declared.arcs.Arc.{Arc}
 use Rattle.obs_rows.specs.declared.bands.Signals.{Signals}
 use Rattle.screening.specs.declared.sv_pair.SvPair.{SvPair}
@@ -9,6 +9,8 @@ use Rattle.row_build.specs.Rows.{setting}
 use Rattle.row_build.specs.Shifts.{AreFirstShifts}
 use Rattle.round_steps.specs.Shifts.{AreSameArcs, without_shifts}
 use Rattle.session.specs.FileRules.{HaveFirstShifts}
+use Rattle.std.proofs.lemmas.List.{length_push}
+use Rattle.whole_math.proofs.Lists.{before_push, last_push}
 
 -- arc a with first shifts
 pub record IsFirst (boxes : List SvPair) (kept : List Arc) (position point : List ℤ) (signals : Signals) (a b : Arc) : Type 0 where
@@ -19,22 +21,6 @@ pub record IsFirst (boxes : List SvPair) (kept : List Arc) (position point : Lis
 pub record AreFirstTo (boxes : List SvPair) (kept : List Arc) (position point : List ℤ) (signals : Signals) (n : ℕ) (arcs : List Arc) : Type 0 where
   pub as_many : length arcs ≡ n
   pub each : (k : ℕ) (a b : Arc) → slice_get kept k ≡ Some a → slice_get arcs k ≡ Some b → IsFirst boxes kept position point signals a b
-
-before_push : (xs : List Arc) (y : Arc) (j : ℕ) → j < length xs → slice_get (xs ++ y ∷ []) j ≡ slice_get xs j
-before_push [] y j h = absurd (omega arith)
-before_push (x ∷ xs) y zero h = refl
-before_push (x ∷ xs) y (suc j) h = before_push xs y j (omega arith)
-
-last_push : (xs : List Arc) (y : Arc) → slice_get (xs ++ y ∷ []) (length xs) ≡ Some y
-last_push [] y = refl
-last_push (x ∷ xs) y = last_push xs y
-
-length_push : (xs : List Arc) (y : Arc) → length (xs ++ y ∷ []) ≡ length xs + 1
-length_push [] y = refl
-length_push (x ∷ xs) y = let e : length (xs ++ y ∷ []) ≡ length xs + 1 = length_push xs y in omega arith
-
-some_inj : (a b : Arc) → Some a ≡ Some b → a ≡ b
-some_inj a b e = cc
 
 pub more_first : (boxes : List SvPair) (kept : List Arc) (position point : List ℤ) (signals : Signals) (n : ℕ) (arcs after : List Arc) (x : Arc) → AreFirstTo boxes kept position point signals n arcs →
     ((a : Arc) → slice_get kept n ≡ Some a → IsFirst boxes kept position point signals a x) → after ≡ arcs ++ x ∷ [] → AreFirstTo boxes kept position point signals (n + 1) after
@@ -53,7 +39,7 @@ more_first boxes kept position point signals n arcs after x h f e = record {
     here : (k : ℕ) (a b : Arc) → k ≡ length arcs → slice_get kept k ≡ Some a → slice_get after k ≡ Some b → IsFirst boxes kept position point signals a b
     here k a b q g i =
         let at : slice_get kept n ≡ Some a = ap (slice_get kept) (sym (q ∙ h.as_many)) ∙ g in
-        let is : x ≡ b = some_inj x b (sym (last_push arcs x) ∙ ap (λ l. slice_get l (length arcs)) (sym e) ∙ ap (slice_get after) (sym q) ∙ i) in
+        let is : x ≡ b = same_Some x b (sym (last_push arcs x) ∙ ap (λ l. slice_get l (length arcs)) (sym e) ∙ ap (slice_get after) (sym q) ∙ i) in
         subst (IsFirst boxes kept position point signals a) is (f a at)
 
 same_lists : (xs ys : List Arc) → length ys ≡ length xs → ((k : ℕ) (a b : Arc) → slice_get xs k ≡ Some a → slice_get ys k ≡ Some b → without_shifts b ≡ without_shifts a) → AreSameArcs xs ys

@@ -34,7 +34,7 @@ pub record AreScreened (base rover : ObsFile) (nav : Records) (o : Options) (pos
 abbrev pub StandsAsItIs : ObsFile → ObsFile → Records → Options → List ℤ → Signals → List PairOf → Session → Type 0
 StandsAsItIs base rover nav o position signals taken s =
     StandsForFiles (setting_of base nav signals o.mask (world_of o.system)) base.epochs rover.epochs taken (bands_of o.bands) o.jump o.arc o.system
-        position signals s.point (map (λ a. a.shift) s.arcs) s.scale s
+    position signals s.point (map (λ a. a.shift) s.arcs) s.scale s
 
 -- The counts, and the answer of a run over the kept arcs with its rounds. Each session that a round of the run may have stands for the files
 pub record IsOutcome (base rover : ObsFile) (nav : Records) (o : Options) (out : Outcome) : Type 0 where

@@ -81,7 +81,7 @@ weak_of_steps j (suc k) (c ∷ m) i p s e =
     let l : List ℤ = factors (unsigned_abs c.own) c.others in
     let rest : List Column = next (unsigned_abs c.own) (len c.others) c.others m in
     cases (int_lt c.own (pos (2 ^ 20))) (all_small l) (form_small rest) j k i c.own p (record { d = kept (unsigned_abs c.own); l = l }, rest) refl
-        (small_own c m s) (λ n t h. weak_of_steps (suc j) k n i p t h) e
+    (small_own c m s) (λ n t h. weak_of_steps (suc j) k n i p t h) e
 
 pub weak_of : (b : Bool) (k : ℕ) (a : List Column) (i : ℕ) (p : ℤ) → b ≡ form_small a → elim b as (λ x. Answers) [ true ↦ steps 0 k a | false ↦ Err wide_entry ] ≡ Err (weak i p) → IsPivot 0 k i p
 weak_of true k a i p f e = weak_of_steps 0 k a i p (sym f) e

@@ -32,15 +32,21 @@ grid_high lo = let h = floor_le lo (2 ^ 19) (lit< tt) in go lo (floor_div lo (2 
 
 near_above : (g n m l : ℤ) → (g *ℤ pos 524288) ≤ℤ (l +ℤ pos 524288) → (l *ℤ m) ≤ℤ (n *ℤ pos 68719476736) → pos 0 ≤ℤ m → (((g *ℤ m) -ℤ (n *ℤ pos 131072)) *ℤ pos 131072) ≤ℤ (pos 1 *ℤ (pos 131072 *ℤ m))
 near_above g n m l h k m0 = cancel (pos 524288) (((g *ℤ m) -ℤ (n *ℤ pos 131072)) *ℤ pos 131072) (pos 1 *ℤ (pos 131072 *ℤ m)) (omega (arith, ints))
-    (le_by (g ∷ n ∷ m ∷ l ∷ []) (λ g n m l. (nat 524288 ⊗ ((g ⊗ m ⊖ n ⊗ nat 131072) ⊗ nat 131072), nat 524288 ⊗ (nat 1 ⊗ (nat 131072 ⊗ m)),
-          nat 131072 ⊗ (m ⊗ (l ⊕ nat 524288 ⊖ g ⊗ nat 524288) ⊕ (n ⊗ nat 68719476736 ⊖ l ⊗ m)))) refl
+    (le_by (g ∷ n ∷ m ∷ l ∷ []) (λ g n m l. (
+      nat 524288 ⊗ ((g ⊗ m ⊖ n ⊗ nat 131072) ⊗ nat 131072),
+      nat 524288 ⊗ (nat 1 ⊗ (nat 131072 ⊗ m)),
+      nat 131072 ⊗ (m ⊗ (l ⊕ nat 524288 ⊖ g ⊗ nat 524288) ⊕ (n ⊗ nat 68719476736 ⊖ l ⊗ m)),
+    )) refl
     (prod_nn (pos_nn 131072) (both_nn (prod_nn m0 (less_nn h)) (less_nn k))))
 
 near_below : (g n m l h : ℤ) → l <ℤ (g *ℤ pos 524288) → (h -ℤ l) ≤ℤ pos 524288 → (n *ℤ pos 68719476736) ≤ℤ (h *ℤ m) → pos 0 ≤ℤ m
     → (((n *ℤ pos 131072) -ℤ (g *ℤ m)) *ℤ pos 131072) ≤ℤ (pos 1 *ℤ (m *ℤ pos 131072))
 near_below g n m l h a w k m0 = cancel (pos 524288) (((n *ℤ pos 131072) -ℤ (g *ℤ m)) *ℤ pos 131072) (pos 1 *ℤ (m *ℤ pos 131072)) (omega (arith, ints))
-    (le_by (g ∷ n ∷ m ∷ h ∷ []) (λ g n m h. (nat 524288 ⊗ ((n ⊗ nat 131072 ⊖ g ⊗ m) ⊗ nat 131072), nat 524288 ⊗ (nat 1 ⊗ (m ⊗ nat 131072)),
-          nat 131072 ⊗ (m ⊗ (g ⊗ nat 524288 ⊕ nat 524288 ⊖ h) ⊕ (h ⊗ m ⊖ n ⊗ nat 68719476736)))) refl
+    (le_by (g ∷ n ∷ m ∷ h ∷ []) (λ g n m h. (
+      nat 524288 ⊗ ((n ⊗ nat 131072 ⊖ g ⊗ m) ⊗ nat 131072),
+      nat 524288 ⊗ (nat 1 ⊗ (m ⊗ nat 131072)),
+      nat 131072 ⊗ (m ⊗ (g ⊗ nat 524288 ⊕ nat 524288 ⊖ h) ⊕ (h ⊗ m ⊖ n ⊗ nat 68719476736)),
+    )) refl
     (prod_nn (pos_nn 131072) (both_nn (prod_nn m0 (less_nn (reach g l h a w))) (less_nn k))))
   where
     reach : (g l h : ℤ) → l <ℤ (g *ℤ pos 524288) → (h -ℤ l) ≤ℤ pos 524288 → h ≤ℤ ((g *ℤ pos 524288) +ℤ pos 524288)
@@ -71,7 +77,7 @@ pub record AreSides (mask : ℕ) (d s t : ℤ) (seen point : Place) : Type 0 whe
 
 pub sides : (mask : ℕ) (x y z p q r : ℤ) →
     AreSides mask (dot3 (offset x p) (offset y q) (offset z r) p q r)
-        (dot3 (offset x p) (offset y q) (offset z r) (offset x p) (offset y q) (offset z r)) (dot3 p q r p q r) (grid_place x y z) (point_of p q r)
+    (dot3 (offset x p) (offset y q) (offset z r) (offset x p) (offset y q) (offset z r)) (dot3 p q r p q r) (grid_place x y z) (point_of p q r)
 sides mask x y z p q r =
     let g : Place = grid_place x y z in
     let w : Place = point_of p q r in
@@ -106,21 +112,24 @@ is_above mask d s t seen point e d0 h = (
     positive d h = omega (arith, ints)
 
     scaled : (m s t d : ℤ) → ((m *ℤ s) *ℤ t) ≤ℤ ((pos 1000 *ℤ d) *ℤ (pos 1000 *ℤ d)) → ((m *ℤ (s *ℤ t)) *ℤ pos 671088640000000000000000) ≤ℤ ((pos 1000000 *ℤ (d *ℤ d)) *ℤ pos 671088640000000000000000)
-    scaled m s t d h = le_by (m ∷ s ∷ t ∷ d ∷ []) (λ m s t d. (m ⊗ (s ⊗ t) ⊗ nat 671088640000000000000000, nat 1000000 ⊗ (d ⊗ d) ⊗ nat 671088640000000000000000,
-            nat 671088640000000000000000 ⊗ (nat 1000 ⊗ d ⊗ (nat 1000 ⊗ d) ⊖ m ⊗ s ⊗ t))) refl (prod_nn (pos_nn 671088640000000000000000) (less_nn h))
+    scaled m s t d h = le_by (m ∷ s ∷ t ∷ d ∷ []) (λ m s t d. (
+      m ⊗ (s ⊗ t) ⊗ nat 671088640000000000000000,
+      nat 1000000 ⊗ (d ⊗ d) ⊗ nat 671088640000000000000000,
+      nat 671088640000000000000000 ⊗ (nat 1000 ⊗ d ⊗ (nat 1000 ⊗ d) ⊖ m ⊗ s ⊗ t),
+    )) refl (prod_nn (pos_nn 671088640000000000000000) (less_nn h))
 
 pub falls : (mask : ℕ) (d s t : ℤ) (seen point : Place) → AreSides mask d s t seen point → d <ℤ pos 0 → IsBelowMask mask seen point
 falls mask d s t seen point e h = inl (over_lt 819200000000 819200000000 d (pos 0) (dot (difference seen point) point) (of_whole (pos 0)) (lit< tt)
-      (lit< tt) e.rise (over_zero (pos 819200000000)) (negative d h))
+    (lit< tt) e.rise (over_zero (pos 819200000000)) (negative d h))
   where
     negative : (d : ℤ) → d <ℤ pos 0 → (d *ℤ pos 819200000000) <ℤ (pos 0 *ℤ pos 819200000000)
     negative d h = omega (arith, ints)
 
 pub is_low : (mask : ℕ) (d s t : ℤ) (seen point : Place) → AreSides mask d s t seen point → ((pos 1000 *ℤ d) *ℤ (pos 1000 *ℤ d)) <ℤ ((pos (mask * mask) *ℤ s) *ℤ t) → IsBelowMask mask seen point
 is_low mask d s t seen point e h = inr (over_lt 671088640000000000000000 671088640000000000000000
-      (pos 1000000 *ℤ (d *ℤ d)) (pos (mask * mask) *ℤ (s *ℤ t)) (height_side seen point) (mask_side mask seen point) (lit< tt) (lit< tt) e.height_is e.mask_is
+    (pos 1000000 *ℤ (d *ℤ d)) (pos (mask * mask) *ℤ (s *ℤ t)) (height_side seen point) (mask_side mask seen point) (lit< tt) (lit< tt) e.height_is e.mask_is
     (subst₂ (λ (u v : ℤ). (u *ℤ pos 671088640000000000000000) <ℤ (v *ℤ pos 671088640000000000000000)) (left d) (right (pos (mask * mask)) s t)
-      (wide ((pos 1000 *ℤ d) *ℤ (pos 1000 *ℤ d)) ((pos (mask * mask) *ℤ s) *ℤ t) h)))
+    (wide ((pos 1000 *ℤ d) *ℤ (pos 1000 *ℤ d)) ((pos (mask * mask) *ℤ s) *ℤ t) h)))
   where
     wide : (u v : ℤ) → u <ℤ v → (u *ℤ pos 671088640000000000000000) <ℤ (v *ℤ pos 671088640000000000000000)
     wide u v h = omega (arith, ints)

@@ -28,7 +28,7 @@ pub sum_low : (l r d s e : ℤ) → pos 0 ≤ℤ e → (l *ℤ d) ≤ℤ (r *ℤ
 sum_low l r d s e h0 h1 h2 =
     cert (l ∷ r ∷ d ∷ s ∷ e ∷ [])
     ((ko (pos 0) ≼ va 4) ∷ ((va 0 ⊗ va 2) ≼ (va 1 ⊗ ko (pos 68719476736))) ∷ (((((ko (pos 2) ⊗ va 1) ⊗ ko (pos 1)) ⊖ (ko (pos 33) ⊗ (ko (pos 1) ⊗ va 2)))
-        ⊗ (ko (pos 1) ⊗ va 4)) ≼ ((ko (pos 2) ⊗ va 3) ⊗ ((ko (pos 1) ⊗ va 2) ⊗ ko (pos 1)))) ∷ [])
+    ⊗ (ko (pos 1) ⊗ va 4)) ≼ ((ko (pos 2) ⊗ va 3) ⊗ ((ko (pos 1) ⊗ va 2) ⊗ ko (pos 1)))) ∷ [])
     ((va 0 ⊖ ko (pos 566935683072)) ⊗ (va 2 ⊗ va 4)) (((va 1 ⊗ va 4) ⊕ (va 3 ⊗ va 2)) ⊗ ko (pos 34359738368))
     (((hy 0) ⊠ (hy 1)) ⊞ ((nm 17179869184) ⊠ (hy 2))) refl (h0, (h1, (h2, tt)))
 
@@ -38,7 +38,7 @@ pub sum_high : (h r d s e : ℤ) → pos 0 ≤ℤ e → (r *ℤ pos 68719476736)
 sum_high h r d s e h0 h1 h2 =
     cert (h ∷ r ∷ d ∷ s ∷ e ∷ [])
     ((ko (pos 0) ≼ va 4) ∷ ((va 1 ⊗ ko (pos 68719476736)) ≼ (va 0 ⊗ va 2)) ∷ (((ko (pos 2) ⊗ va 3) ⊗ ((ko (pos 1) ⊗ va 2) ⊗ ko (pos 1)))
-        ≼ ((((ko (pos 2) ⊗ va 1) ⊗ ko (pos 1)) ⊕ (ko (pos 33) ⊗ (ko (pos 1) ⊗ va 2))) ⊗ (ko (pos 1) ⊗ va 4))) ∷ [])
+    ≼ ((((ko (pos 2) ⊗ va 1) ⊗ ko (pos 1)) ⊕ (ko (pos 33) ⊗ (ko (pos 1) ⊗ va 2))) ⊗ (ko (pos 1) ⊗ va 4))) ∷ [])
     (((va 1 ⊗ va 4) ⊕ (va 3 ⊗ va 2)) ⊗ ko (pos 34359738368)) ((va 0 ⊕ ko (pos 566935683072)) ⊗ (va 2 ⊗ va 4))
     (((hy 0) ⊠ (hy 1)) ⊞ ((nm 17179869184) ⊠ (hy 2))) refl (h0, (h1, (h2, tt)))
 
@@ -96,12 +96,12 @@ ratio_size a b c d p t c0 cd l u =
 pub in_spread_low : (l v n d : ℤ) → v ≤ℤ l → pos 0 ≤ℤ d → (l *ℤ d) ≤ℤ (n *ℤ pos 16777216) → (v *ℤ (pos 1 *ℤ d)) ≤ℤ ((pos 16777216 *ℤ n) *ℤ pos 1)
 in_spread_low l v n d h0 h1 h2 =
     cert (l ∷ v ∷ n ∷ d ∷ []) ((va 1 ≼ va 0) ∷ (ko (pos 0) ≼ va 3) ∷ ((va 0 ⊗ va 3) ≼ (va 2 ⊗ ko (pos 16777216))) ∷ []) (va 1 ⊗ (ko (pos 1) ⊗ va 3))
-        ((ko (pos 16777216) ⊗ va 2) ⊗ ko (pos 1)) (((hy 0) ⊠ (hy 1)) ⊞ (hy 2)) refl (h0, (h1, (h2, tt)))
+    ((ko (pos 16777216) ⊗ va 2) ⊗ ko (pos 1)) (((hy 0) ⊠ (hy 1)) ⊞ (hy 2)) refl (h0, (h1, (h2, tt)))
 
 pub in_spread_high : (h v n d : ℤ) → h ≤ℤ v → pos 0 ≤ℤ d → (n *ℤ pos 16777216) ≤ℤ (h *ℤ d) → ((pos 16777216 *ℤ n) *ℤ pos 1) ≤ℤ (v *ℤ (pos 1 *ℤ d))
 in_spread_high h v n d h0 h1 h2 =
     cert (h ∷ v ∷ n ∷ d ∷ []) ((va 0 ≼ va 1) ∷ (ko (pos 0) ≼ va 3) ∷ ((va 2 ⊗ ko (pos 16777216)) ≼ (va 0 ⊗ va 3)) ∷ [])
-        ((ko (pos 16777216) ⊗ va 2) ⊗ ko (pos 1)) (va 1 ⊗ (ko (pos 1) ⊗ va 3)) (((hy 0) ⊠ (hy 1)) ⊞ (hy 2)) refl (h0, (h1, (h2, tt)))
+    ((ko (pos 16777216) ⊗ va 2) ⊗ ko (pos 1)) (va 1 ⊗ (ko (pos 1) ⊗ va 3)) (((hy 0) ⊠ (hy 1)) ⊞ (hy 2)) refl (h0, (h1, (h2, tt)))
 
 -- ---- the vectors from the point to the places of a box
 pub seen_square : (b : VectorBox) (p : Point) (q : Place) → IsBetweenDistances 18900000 38100000 b.x b.y b.z → HoldsVector b q

@@ -40,8 +40,8 @@ away_within l m x y z away =
       ends x m (coordinates a b c m low).1 (coordinates d b c m (away d b c (high_held x) (low_held y) (low_held z)).1).0,
       ends y m (coordinates b a c m (≤ʳ_trans (add_r (add_r (mul_r b b) (mul_r a a)) (mul_r c c)) (add_r (add_r (mul_r a a) (mul_r b b)) (mul_r c c)) most (turned_round a b c) low)).1
           (coordinates e a c m (≤ʳ_trans (add_r (add_r (mul_r e e) (mul_r a a)) (mul_r c c)) (add_r (add_r (mul_r a a) (mul_r e e)) (mul_r c c)) most
-              (turned_round a e c) (away a e c (low_held x) (high_held y) (low_held z)).1)).0,
+          (turned_round a e c) (away a e c (low_held x) (high_held y) (low_held z)).1)).0,
       ends z m (coordinates c b a m (≤ʳ_trans (add_r (add_r (mul_r c c) (mul_r b b)) (mul_r a a)) (add_r (add_r (mul_r a a) (mul_r b b)) (mul_r c c)) most (turned_about a b c) low)).1
           (coordinates f b a m (≤ʳ_trans (add_r (add_r (mul_r f f) (mul_r b b)) (mul_r a a)) (add_r (add_r (mul_r a a) (mul_r b b)) (mul_r f f)) most
-              (turned_about a b f) (away a b f (low_held x) (low_held y) (high_held z)).1)).0,
+          (turned_about a b f) (away a b f (low_held x) (low_held y) (high_held z)).1)).0,
     )

@@ -67,15 +67,15 @@ chain_stays arcs k a order is fresh (m ∷ ms) j n from chain =
     let share = near.share in
     let low : a.first ≤ near.one.first =
     ⊎_elim (λ (same : k ≡ j).
-          let one : Some a ≡ Some near.one = sym is ∙ ap (λ (i : ℕ). slice_get arcs i) same ∙ near.one_is in
-          subst (λ (b : Arc). a.first ≤ b.first) (same_Some a near.one one) (omega arith))
-        (λ (other : k ≡ j → ⊥). order.rising k j a near.one (omega arith) is near.one_is) (cases_eq k j) in
+    let one : Some a ≡ Some near.one = sym is ∙ ap (λ (i : ℕ). slice_get arcs i) same ∙ near.one_is in
+    subst (λ (b : Arc). a.first ≤ b.first) (same_Some a near.one one) (omega arith))
+    (λ (other : k ≡ j → ⊥). order.rising k j a near.one (omega arith) is near.one_is) (cases_eq k j) in
     let next : k ≤ m =
     ⊎_elim (λ (less : m < k).
-          let l : near.other.last < a.first = fresh m near.other less near.other_is in
-          let p = share.1 in
-          let q = share.4 in
-          absurd (omega arith)) (λ (more : k ≤ m). more) (cases_lt m k) in
+    let l : near.other.last < a.first = fresh m near.other less near.other_is in
+    let p = share.1 in
+    let q = share.4 in
+    absurd (omega arith)) (λ (more : k ≤ m). more) (cases_lt m k) in
     chain_stays arcs k a order is fresh ms m n next chain.1
 
 -- an earlier arc that ends no earlier than this begins
@@ -146,7 +146,7 @@ linked_to (suc bound) arcs d k e a marked at datum is low high none =
     (λ (more : d ≤ m). more) (cases_lt m d) in
     let before : m < k = r.before in
     linked_through arcs k m d (linked_next arcs k m near) (linked_to bound arcs d m e r.arc marked at datum r.is below (omega (arith, before))
-          (λ j b from to found. none j b from (omega (arith, before)) found)))
+    (λ j b from to found. none j b from (omega (arith, before)) found)))
     (cases_eq d k)
 
 -- the last datum at or before arc k is the datum of its linked set

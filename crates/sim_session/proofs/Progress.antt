@@ -41,7 +41,7 @@ one_epoch t world step i point clock records cycles text further sats b o e = re
   count = length_push b.values sats ∙ ap (λ (n : ℕ). n + 1) b.count;
   text_is = e ∙ ap (λ (own : List ℕ). own ++ epoch_text t (step * i) sats) b.text_is ∙ append_assoc (header_text t) (epochs_text t step 0 b.values) (epoch_text t (step * i) sats)
       ∙ ap (λ (own : List ℕ). header_text t ++ own) (ap (λ (n : ℕ). epochs_text t step 0 b.values ++ epoch_text t (step * n) sats) (counted b.values i b.count)
-            ∙ sym (epochs_text-push t step 0 b.values sats));
+      ∙ sym (epochs_text-push t step 0 b.values sats));
   observed = one_more (λ j s. AreObserved world (tag_of step j) point clock records cycles s) b.values sats i b.count b.observed o;
 }
   where

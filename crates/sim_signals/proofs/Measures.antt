@@ -42,7 +42,7 @@ phase_low : (f d n clock : ℤ) → f ≤ℤ pos 2000000000 → (pos 2 *ℤ (n *
     mul_r (of_whole (pos 299792458)) (of_whole n) ≤ʳ add_r (mul_r (of_whole f) (add_r (mul_r (of_whole (pos 1000)) (of_scale 36 (d -ℤ pos 1))) (of_whole clock))) (of_whole (pos 299792458))
 phase_low f d n clock small h = half _ _
     (cert (f ∷ d ∷ n ∷ clock ∷ []) ((va 0 ≼ ko (pos 2000000000)) ∷ (ko (pos 2) ⊗ (va 2 ⊗ ko (pos (299792458 * 2 ^ 36)))
-          ≼ ko (pos 2) ⊗ ((ko (pos 1000) ⊗ va 1 ⊕ va 3 ⊗ ko (pos (2 ^ 36))) ⊗ va 0) ⊕ ko (pos (299792458 * 2 ^ 36))) ∷ [])
+    ≼ ko (pos 2) ⊗ ((ko (pos 1000) ⊗ va 1 ⊕ va 3 ⊗ ko (pos (2 ^ 36))) ⊗ va 0) ⊕ ko (pos (299792458 * 2 ^ 36))) ∷ [])
     (ko (pos 2) ⊗ ((ko (pos 299792458) ⊗ va 2) ⊗ ko (pos (2 ^ 36))))
     (ko (pos 2) ⊗ (((va 0 ⊗ ((ko (pos 1000) ⊗ (va 1 ⊖ ko (pos 1))) ⊗ ko (pos 1) ⊕ va 3 ⊗ ko (pos (2 ^ 36)))) ⊗ ko (pos 1) ⊕ ko (pos 299792458) ⊗ ko (pos (2 ^ 36))) ⊗ ko (pos 1)))
     (hy 1 ⊞ nm 2000 ⊠ hy 0 ⊞ nm 20601576843159257088) refl (small, (h, tt)))
@@ -52,7 +52,7 @@ phase_high : (f d n clock : ℤ) → f ≤ℤ pos 2000000000 →
     mul_r (of_whole f) (add_r (mul_r (of_whole (pos 1000)) (of_scale 36 (d +ℤ pos (2 ^ 20)))) (of_whole clock)) ≤ʳ add_r (mul_r (of_whole (pos 299792458)) (of_whole n)) (of_whole (pos 299792458))
 phase_high f d n clock small h = half _ _
     (cert (f ∷ d ∷ n ∷ clock ∷ []) ((va 0 ≼ ko (pos 2000000000)) ∷ (ko (pos 2) ⊗ ((ko (pos 1000) ⊗ va 1 ⊕ va 3 ⊗ ko (pos (2 ^ 36))) ⊗ va 0) ⊕ ko
-          (pos (299792458 * 2 ^ 36)) ≼ ko (pos 2) ⊗ (va 2 ⊗ ko (pos (299792458 * 2 ^ 36))) ⊕ ko (pos 2) ⊗ ko (pos (299792458 * 2 ^ 36))) ∷ [])
+    (pos (299792458 * 2 ^ 36)) ≼ ko (pos 2) ⊗ (va 2 ⊗ ko (pos (299792458 * 2 ^ 36))) ⊕ ko (pos 2) ⊗ ko (pos (299792458 * 2 ^ 36))) ∷ [])
     (ko (pos 2) ⊗ ((va 0 ⊗ ((ko (pos 1000) ⊗ (va 1 ⊕ ko (pos (2 ^ 20)))) ⊗ ko (pos 1) ⊕ va 3 ⊗ ko (pos (2 ^ 36)))) ⊗ ko (pos 1)))
     (ko (pos 2) ⊗ (((ko (pos 299792458) ⊗ va 2) ⊗ ko (pos 1) ⊕ ko (pos 299792458) ⊗ ko (pos 1)) ⊗ ko (pos (2 ^ 36))))
     (hy 1 ⊞ nm (2000 * 2 ^ 20) ⊠ hy 0 ⊞ nm 16407276843159257088) refl (small, (weaker _ _ h, tt)))

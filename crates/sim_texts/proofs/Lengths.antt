@@ -83,8 +83,12 @@ length-satellite_line GalileoE1E5a n s h =
 pub length-satellite_lines : (t : Tracking) (n : ℕ) (sats : List Signals) → All AreInColumns sats → length (satellite_lines t n sats) ≤ 98 * length sats
 length-satellite_lines t n [] h = lit≤ tt
 length-satellite_lines t n (s ∷ sats) h =
-    omega (arith, length-append (satellite_line t (n + 1) s) (satellite_lines t (n + 1) sats),
-          length-satellite_line t (n + 1) s (All-head AreInColumns s sats h), length-satellite_lines t (n + 1) sats (All-tail AreInColumns s sats h))
+    omega (
+      arith,
+      length-append (satellite_line t (n + 1) s) (satellite_lines t (n + 1) sats),
+      length-satellite_line t (n + 1) s (All-head AreInColumns s sats h),
+      length-satellite_lines t (n + 1) sats (All-tail AreInColumns s sats h),
+    )
 
 pub length-header_text : (t : Tracking) → length (header_text t) ≡ 474
 unfolding header_text version_line types_line

@@ -2,7 +2,7 @@
 use Rattle.std.proofs.Common.{◌≡◌, ℕ, zero, suc, ◌+◌, ◌<◌, ◌^◌, ◌⊎◌, ⊎_elim, false, List, [], ◌∷◌, ◌++◌, length, get_or, All, Some, ℤ, unsigned_abs, arith, sym, ap, ap₂, ◌∙◌, refl, subst}
 use Rattle.std.specs.Prelude.{slice_get}
 use Rattle.std.proofs.lemmas.Bool.{false≢true}
-use Rattle.std.proofs.lemmas.Option.{slice_get_within}
+use Rattle.std.proofs.lemmas.Option.{slice_get_within, same_Some}
 use Rattle.obs_rows.specs.declared.arcs.Arc.{Arc}
 use Rattle.obs_rows.specs.Ranges.{IsBelow}
 use Rattle.row_build.specs.HeldArcs.{holds_pair}
@@ -11,6 +11,8 @@ use Rattle.round_steps.specs.Shifts.{AreSameArcs, without_shifts}
 use Rattle.session.proofs.CutLaws.{Like, like}
 use Rattle.track_trial.specs.PairRules.{TrackSetting, rows_setting}
 use Rattle.track_trial.specs.Trials.{IsTriedArc, AreTried, KeepsOthers}
+use Rattle.std.proofs.lemmas.List.{length_push}
+use Rattle.whole_math.proofs.Lists.{before_push, last_push}
 
 -- ---- one arc
 pub begun_arc : (t : TrackSetting) (begun : Type 0) (pair : ℕ) (point : List ℤ) (a b : Arc) → b ≡ a → begun → IsTriedArc t begun pair point a b
@@ -50,22 +52,6 @@ pub record AreTriedTo (t : TrackSetting) (arcs : List Arc) (begun : ℕ → Type
   pub as_many : length tried ≡ n
   pub each : (k : ℕ) (a b : Arc) → slice_get arcs k ≡ Some a → slice_get tried k ≡ Some b → IsTriedArc t (begun k) pair point a b
 
-before_push : (xs : List Arc) (y : Arc) (k : ℕ) → k < length xs → slice_get (xs ++ y ∷ []) k ≡ slice_get xs k
-before_push [] y k h = absurd (omega arith)
-before_push (x ∷ xs) y zero h = refl
-before_push (x ∷ xs) y (suc k) h = before_push xs y k (omega arith)
-
-last_push : (xs : List Arc) (y : Arc) → slice_get (xs ++ y ∷ []) (length xs) ≡ Some y
-last_push [] y = refl
-last_push (x ∷ xs) y = last_push xs y
-
-length_push : (xs : List Arc) (y : Arc) → length (xs ++ y ∷ []) ≡ length xs + 1
-length_push [] y = refl
-length_push (x ∷ xs) y = let e : length (xs ++ y ∷ []) ≡ length xs + 1 = length_push xs y in omega arith
-
-some_inj : (a b : Arc) → Some a ≡ Some b → a ≡ b
-some_inj a b e = cc
-
 pub more_tried : (t : TrackSetting) (arcs : List Arc) (begun : ℕ → Type 0) (pair : ℕ) (point : List ℤ) (n : ℕ) (tried after : List Arc) (x : Arc) →
     AreTriedTo t arcs begun pair point n tried → ((a : Arc) → slice_get arcs n ≡ Some a → IsTriedArc t (begun n) pair point a x) → after ≡ tried ++ x ∷ [] →
     AreTriedTo t arcs begun pair point (n + 1) after
@@ -83,7 +69,7 @@ more_tried t arcs begun pair point n tried after x h one e = record {
     here : (k : ℕ) (a b : Arc) → k ≡ length tried → slice_get arcs k ≡ Some a → slice_get after k ≡ Some b → IsTriedArc t (begun k) pair point a b
     here k a b q g i =
         let last : n ≡ k = sym (q ∙ h.as_many) in
-        let is : x ≡ b = some_inj x b (sym (last_push tried x) ∙ ap (λ l. slice_get l (length tried)) (sym e) ∙ ap (slice_get after) (sym q) ∙ i) in
+        let is : x ≡ b = same_Some x b (sym (last_push tried x) ∙ ap (λ l. slice_get l (length tried)) (sym e) ∙ ap (slice_get after) (sym q) ∙ i) in
         subst (λ (m : ℕ). IsTriedArc t (begun m) pair point a b) last
         (subst (λ (c : Arc). IsTriedArc t (begun n) pair point a c) is (one a (ap (slice_get arcs) last ∙ g)))
 

@@ -31,6 +31,12 @@ pub three_squares : (a b c : ℤ) → (((a +ℤ b) +ℤ c) *ℤ ((a +ℤ b) +ℤ
 three_squares a b c =
     let r : List ℤ = a ∷ b ∷ c ∷ [] in
     let s0 = square_nn (a -ℤ b) in let s1 = square_nn (a -ℤ c) in let s2 = square_nn (b -ℤ c) in
-    omega (arith, polys, norm_is r (((va 0 ⊕ va 1) ⊕ va 2) ⊗ ((va 0 ⊕ va 1) ⊕ va 2)),
-          norm_is r ((ko (pos 3)) ⊗ (((va 0 ⊗ va 0) ⊕ (va 1 ⊗ va 1)) ⊕ (va 2 ⊗ va 2))), norm_is r ((va 0 ⊖ va 1) ⊗ (va 0 ⊖ va 1)),
-          norm_is r ((va 0 ⊖ va 2) ⊗ (va 0 ⊖ va 2)), norm_is r ((va 1 ⊖ va 2) ⊗ (va 1 ⊖ va 2)))
+    omega (
+      arith,
+      polys,
+      norm_is r (((va 0 ⊕ va 1) ⊕ va 2) ⊗ ((va 0 ⊕ va 1) ⊕ va 2)),
+      norm_is r ((ko (pos 3)) ⊗ (((va 0 ⊗ va 0) ⊕ (va 1 ⊗ va 1)) ⊕ (va 2 ⊗ va 2))),
+      norm_is r ((va 0 ⊖ va 1) ⊗ (va 0 ⊖ va 1)),
+      norm_is r ((va 0 ⊖ va 2) ⊗ (va 0 ⊖ va 2)),
+      norm_is r ((va 1 ⊖ va 2) ⊗ (va 1 ⊖ va 2)),
+    )

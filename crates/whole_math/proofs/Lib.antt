@@ -10,4 +10,6 @@ pub mod Extremes
 pub mod Powers
 pub mod Sums
 pub mod Vectors
+pub mod Words
+pub mod Lists
 pub mod Examples

@@ -76,7 +76,7 @@ nearest_down n m q r h e z l = nearest_unique n q (unsigned_abs m) (abs_pos m h)
 pub nearest_up : (n m q r : ℤ) → pos 0 <ℤ m → n ≡ (q *ℤ m) +ℤ r → r <ℤ m → (m -ℤ r) ≤ℤ r → q +ℤ pos 1 ≡ nearest_div n (unsigned_abs m)
 nearest_up n m q r h e z l = nearest_unique n (q +ℤ pos 1) (unsigned_abs m) (abs_pos m h)
     (subst (λ (k : ℤ). ((pos 2 *ℤ ((q +ℤ pos 1) *ℤ k)) ≤ℤ ((pos 2 *ℤ n) +ℤ k)) × (((pos 2 *ℤ n) +ℤ k) <ℤ ((pos 2 *ℤ ((q +ℤ pos 1) *ℤ k)) +ℤ (pos 2 *ℤ k))))
-      (sym (pos_abs m (weak_of m h))) (rw (one_more q m) (step n m (q *ℤ m) r h e z l)))
+    (sym (pos_abs m (weak_of m h))) (rw (one_more q m) (step n m (q *ℤ m) r h e z l)))
   where
     step : (n m p r : ℤ) → pos 0 <ℤ m → n ≡ p +ℤ r → r <ℤ m → (m -ℤ r) ≤ℤ r → ((pos 2 *ℤ (p +ℤ m)) ≤ℤ ((pos 2 *ℤ n) +ℤ m)) × (((pos 2 *ℤ n) +ℤ m) <ℤ ((pos 2 *ℤ (p +ℤ m)) +ℤ (pos 2 *ℤ m)))
     step n m p r h e z l = (omega (arith, polys), omega (arith, polys))

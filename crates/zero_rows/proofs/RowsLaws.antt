@@ -53,7 +53,7 @@ behind-number_line word most line z e = by_test (bytes_eq (take (length word) li
           text = drop (length word) line;
           line_is = word_front word line (drop (length word) line) same refl;
           spelled = spelled-whole_of (drop (length word) line) z found.0;
-          in_range = found.1
+          in_range = found.1;
         }
     by_test false same is = absurd cc
 
@@ -201,7 +201,7 @@ completed Head = with_line rows_rules Head Claim (codes "zero 1") (lit≤ tt) re
     completed_claim = with_line rows_rules Claim (claimed (pos 0)) (codes "z 0") (lit≤ tt) refl (completed_diff (pos 0))
 completed Claim = with_line rows_rules Claim (claimed (pos 0)) (codes "z 0") (lit≤ tt) refl
     (with_line rows_rules (claimed (pos 0)) (with_diff (rows (pos 0) []) (pos 0)) (codes "diff 0") (lit≤ tt) refl
-      (with_end rows_rules (with_diff (rows (pos 0) []) (pos 0)) (rows (pos 0) (pos 0 ∷ [])) refl))
+    (with_end rows_rules (with_diff (rows (pos 0) []) (pos 0)) (rows (pos 0) (pos 0 ∷ [])) refl))
 completed (Diff so_far) = by_diffs so_far.diffs
   where
     by_diffs : (ds : List ℤ) → Completes rows_rules (Diff (rows so_far.claim ds))

@@ -17,9 +17,16 @@ exponent_box-held-requires g c =
     let own : e ≡ c.raised.result = omega (arith, ints) in
     let exp : c.args.d.exp +ℤ pos g.row.UP ≡ e = omega (arith, ints, c.raised.ensures.sum) in
     let same : times (10 ^ g.row.UP) (value_of c.args.d) ≈ with_exponent m e = scaled_value g.row.UP c.args.d.mant c.args.d.exp m e mant exp in
-    let small = small_enough g.row.BOUND g.row.PLACES g.row.UP g.row.K g.row.SIZE c.args.d c.requires.within c.requires.size in
-    (omega arith, (c.requires.scale, ((omega (arith, ints, own, c.raised.ensures.range.0), omega (arith, ints, own, c.raised.ensures.range.1)),
-          in_reach g.row.K g.row.SIZE (times (10 ^ g.row.UP) (value_of c.args.d)) (with_exponent m e) c.requires.limit same small)))
+    let small = small_enough g.row.BOUND g.row.PLACES g.row.UP g.row.K g.row.SIZE c.args.d c.requires.within c.requires.size in (
+      omega arith,
+      (
+        c.requires.scale,
+        (
+          (omega (arith, ints, own, c.raised.ensures.range.0), omega (arith, ints, own, c.raised.ensures.range.1)),
+          in_reach g.row.K g.row.SIZE (times (10 ^ g.row.UP) (value_of c.args.d)) (with_exponent m e) c.requires.limit same small,
+        ),
+      ),
+    )
 
 pub new-requires : goal.new-requires
 new-requires g c =
@@ -28,9 +35,17 @@ new-requires g c =
     let mant : m ≡ c.args.d.mant = omega (arith, ints) in
     let exp : c.args.d.exp +ℤ pos g.row.UP ≡ e = omega (arith, ints, c.raised.ensures.sum) in
     let same : times (10 ^ g.row.UP) (value_of c.args.d) ≈ with_exponent m e = scaled_value g.row.UP c.args.d.mant c.args.d.exp m e mant exp in
-    let small = small_enough g.row.BOUND g.row.PLACES g.row.UP g.row.K g.row.SIZE c.args.d c.requires.within c.requires.size in
-    (omega arith, (omega arith, (ends_of g.row.K g.row.SIZE c.exponent_box-held.result (times (10 ^ g.row.UP) (value_of c.args.d)) (with_exponent m e)
-          same c.exponent_box-held.ensures.least small, c.exponent_box-held.ensures.narrow)))
+    let small = small_enough g.row.BOUND g.row.PLACES g.row.UP g.row.K g.row.SIZE c.args.d c.requires.within c.requires.size in (
+      omega arith,
+      (
+        omega arith,
+        (
+          ends_of g.row.K g.row.SIZE c.exponent_box-held.result (times (10 ^ g.row.UP) (value_of c.args.d)) (with_exponent m e)
+              same c.exponent_box-held.ensures.least small,
+          c.exponent_box-held.ensures.narrow,
+        ),
+      ),
+    )
 
 pub returns : goal.returns
 returns g c =

@@ -10,7 +10,7 @@ use Rattle.kepler_box.proofs.anomaly_box.Goals as goal
 
 reached : (c : goal.After-hi-2) →
     IsReached c.args.m.now.lo c.args.m.now.hi c.args.e.now.lo c.args.e.now.hi c.middle_of.result c.settle-angle.result c.sine_of-sine.result.lo
-        c.sine_of-sine.result.hi c.right_side-right.result.lo c.right_side-right.result.hi
+    c.sine_of-sine.result.hi c.right_side-right.result.lo c.right_side-right.result.hi
 reached c =
     let t : ℤ = c.middle_of.result in
     let x : ℤ = c.settle-angle.result in
@@ -29,7 +29,7 @@ reached c =
         e_high = c.requires.eccentricity_high;
         ordered = c.args.e.now.ordered;
         a_size = c.sine_of-sine.ensures.lo_size;
-        b_size = c.sine_of-sine.ensures.hi_size
+        b_size = c.sine_of-sine.ensures.hi_size;
       };
       e_narrow = c.requires.eccentricity_narrow;
       sine = record {
@@ -49,7 +49,7 @@ reached c =
 pub residual_of-requires-clause-above : goal.residual_of-requires-clause-above
 residual_of-requires-clause-above c =
     let r = residual c.args.m.now.lo c.args.m.now.hi c.args.e.now.lo c.args.e.now.hi c.middle_of.result c.settle-angle.result c.sine_of-sine.result.lo
-        c.sine_of-sine.result.hi c.right_side-right.result.lo c.right_side-right.result.hi (reached c) in
+    c.sine_of-sine.result.hi c.right_side-right.result.lo c.right_side-right.result.hi (reached c) in
     let ex = to_z-of_z w64 c.settle-angle.result (record { sfits = c.settle-angle.type_inv }) in
     let eh = to_z-of_z w64 c.hi-2.result (record { sfits = c.hi-2.type_inv }) ∙ c.hi-2.ensures in
     subst₂ (λ (y z : ℤ). (y -ℤ z) ≤ℤ pos 14) (sym eh) (sym ex) r.0
@@ -57,14 +57,14 @@ residual_of-requires-clause-above c =
 pub residual_of-requires-clause-below : goal.residual_of-requires-clause-below
 residual_of-requires-clause-below c =
     let r = residual c.args.m.now.lo c.args.m.now.hi c.args.e.now.lo c.args.e.now.hi c.middle_of.result c.settle-angle.result c.sine_of-sine.result.lo
-        c.sine_of-sine.result.hi c.right_side-right.result.lo c.right_side-right.result.hi (reached c) in
+    c.sine_of-sine.result.hi c.right_side-right.result.lo c.right_side-right.result.hi (reached c) in
     let ex = to_z-of_z w64 c.settle-angle.result (record { sfits = c.settle-angle.type_inv }) in
     let el = to_z-of_z w64 c.lo-3.result (record { sfits = c.lo-3.type_inv }) ∙ c.lo-3.ensures in
     subst₂ (λ (y z : ℤ). (y -ℤ z) ≤ℤ pos 14) (sym ex) (sym el) r.1
 
 found : (c : goal.After-pairs_around) →
     IsFound c.args.m.now.lo c.args.m.now.hi c.args.e.now.lo c.args.e.now.hi c.settle-angle.result c.widened-radius.result c.sine_of-sine.result.lo
-        c.sine_of-sine.result.hi c.right_side-right.result.lo c.right_side-right.result.hi
+    c.sine_of-sine.result.hi c.right_side-right.result.lo c.right_side-right.result.hi
     c.pairs_around.result.angle.lo c.pairs_around.result.angle.hi c.pairs_around.result.cos.lo c.pairs_around.result.cos.hi c.pairs_around.result.sin.lo c.pairs_around.result.sin.hi
 found c =
     let x : ℤ = c.settle-angle.result in
@@ -78,7 +78,7 @@ found c =
     let eh = to_z-of_z w64 c.hi-2.result (record { sfits = c.hi-2.type_inv }) ∙ c.hi-2.ensures in
     let el = to_z-of_z w64 c.lo-3.result (record { sfits = c.lo-3.type_inv }) ∙ c.lo-3.ensures in
     let e = ends_of x r c.pairs_around.result.angle.lo c.pairs_around.result.angle.hi _ _ ex er c.settle-angle.ensures.angle.0 c.settle-angle.ensures.angle.1
-        c.widened-radius.ensures.low c.widened-radius.ensures.high c.pairs_around.ensures.lo c.pairs_around.ensures.hi in
+    c.widened-radius.ensures.low c.widened-radius.ensures.high c.pairs_around.ensures.lo c.pairs_around.ensures.hi in
     record {
       e_low = c.requires.eccentricity_low;
       e_high = c.requires.eccentricity_high;
@@ -105,8 +105,8 @@ returns-clause-range c =
     let ex = to_z-of_z w64 c.settle-angle.result (record { sfits = c.settle-angle.type_inv }) in
     let er = to_z-of_z w64 c.widened-radius.result (record { sfits = c.widened-radius.type_inv }) in
     let e = ends_of c.settle-angle.result c.widened-radius.result c.pairs_around.result.angle.lo c.pairs_around.result.angle.hi _ _ ex er
-        c.settle-angle.ensures.angle.0 c.settle-angle.ensures.angle.1 c.widened-radius.ensures.low c.widened-radius.ensures.high
-        c.pairs_around.ensures.lo c.pairs_around.ensures.hi in
+    c.settle-angle.ensures.angle.0 c.settle-angle.ensures.angle.1 c.widened-radius.ensures.low c.widened-radius.ensures.high
+    c.pairs_around.ensures.lo c.pairs_around.ensures.hi in
     (e.0, e.1)
 
 pub returns-clause-angle_width : goal.returns-clause-angle_width
@@ -114,8 +114,8 @@ returns-clause-angle_width c =
     let ex = to_z-of_z w64 c.settle-angle.result (record { sfits = c.settle-angle.type_inv }) in
     let er = to_z-of_z w64 c.widened-radius.result (record { sfits = c.widened-radius.type_inv }) in
     (ends_of c.settle-angle.result c.widened-radius.result c.pairs_around.result.angle.lo c.pairs_around.result.angle.hi _ _ ex er
-      c.settle-angle.ensures.angle.0 c.settle-angle.ensures.angle.1 c.widened-radius.ensures.low c.widened-radius.ensures.high
-      c.pairs_around.ensures.lo c.pairs_around.ensures.hi).2
+    c.settle-angle.ensures.angle.0 c.settle-angle.ensures.angle.1 c.widened-radius.ensures.low c.widened-radius.ensures.high
+    c.pairs_around.ensures.lo c.pairs_around.ensures.hi).2
 
 pub returns-clause-wide_angle : goal.returns-clause-wide_angle
 returns-clause-wide_angle c = promised_angle (c.pairs_around.result.angle.hi -ℤ c.pairs_around.result.angle.lo) (returns-clause-angle_width c)

@@ -24,8 +24,8 @@ returns-clause-step c =
       b_size = c.sine_of-sine.ensures.hi_size;
     } in
     let h = halves a b t (pos 256) (pos 0) c.sine_of-sine.ensures.narrow (subst₂ (λ (y z : ℤ). (t -ℤ y) ≤ℤ (z -ℤ t)) ea eb c.middle_of.ensures.nearer)
-        (subst₂ (λ (y z : ℤ). ((z -ℤ t) +ℤ (z -ℤ t)) ≤ℤ ((z -ℤ y) +ℤ pos 1)) ea eb c.middle_of.ensures.half) in
+    (subst₂ (λ (y z : ℤ). ((z -ℤ t) +ℤ (z -ℤ t)) ≤ℤ ((z -ℤ y) +ℤ pos 1)) ea eb c.middle_of.ensures.half) in
     step_is c.args.m c.args.e x a b t _ box (subst (λ (y : ℤ). y ≤ℤ t) ea c.middle_of.ensures.low) (subst (λ (y : ℤ). t ≤ℤ y) eb c.middle_of.ensures.high) h.0 h.1
     (plain_sum c.args.m c.pull_of.result (wider_low c.args.m c.requires.mean.0) (wider_high c.args.m c.requires.mean.1) c.pull_of.ensures.size.0 c.pull_of.ensures.size.1
     ∙ ap (λ (z : ℤ). c.args.m +ℤ z) (c.pull_of.ensures.value
-          ∙ ap₂ (λ (y z : ℤ). floor_div (y *ℤ z) (2 ^ 64)) (to_z-of_z w64 c.args.e c.ranges.e) (to_z-of_z w64 t (record { sfits = c.middle_of.type_inv }))))
+    ∙ ap₂ (λ (y z : ℤ). floor_div (y *ℤ z) (2 ^ 64)) (to_z-of_z w64 c.args.e c.ranges.e) (to_z-of_z w64 t (record { sfits = c.middle_of.type_inv }))))

@@ -36,8 +36,8 @@ returns-clause-away c = λ a b e h.
     let y = c.mul-y.result.held in
     let z = c.mul-z.result.held in
     let p : IsBetweenDistances 19000000 38000000 x y z =
-        away c.in_plane-plane.result.radius.held d.x.held d.y.held d.z.held x y z c.in_plane-plane.result.radius_least
-            c.in_plane-plane.result.radius.within d.near_sphere
+    away c.in_plane-plane.result.radius.held d.x.held d.y.held d.z.held x y z c.in_plane-plane.result.radius_least
+    c.in_plane-plane.result.radius.within d.near_sphere
     (narrower _ c.mul-x.result.narrow) (narrower _ c.mul-y.result.narrow) (narrower _ c.mul-z.result.narrow)
     (λ r t hr ht. (c.mul-x.ensures.holds r t.x hr ht.0, c.mul-y.ensures.holds r t.y hr ht.1, c.mul-z.ensures.holds r t.z hr ht.2)) in
     subst (λ (k : Iv 36). IsBetweenDistances 19000000 38000000 k b e) (first_is a b e x y z h)

@@ -13,7 +13,7 @@ returns-in-Err-obs_file-clause-stopped g c = ends_weaker c.in-Err-obs_file.stop 
 pub returns-in-Err-nav_file-clause-stopped : goal.returns-in-Err-nav_file-clause-stopped
 returns-in-Err-nav_file-clause-stopped g c = ends_weaker c.in-Err-nav_file.stop _ _
     (λ end stops. at_third c.args.system _ _ _ c.args.base.now c.args.rover.now c.args.nav.now c.in-Ok.file c.in-Ok-obs_file.file end
-      c.in-Ok.ensures.texts c.in-Ok-obs_file.ensures.texts c.in-Ok.ensures.read c.in-Ok-obs_file.ensures.read stops) c.in-Err-nav_file.ensures.stopped
+    c.in-Ok.ensures.texts c.in-Ok-obs_file.ensures.texts c.in-Ok.ensures.read c.in-Ok-obs_file.ensures.read stops) c.in-Err-nav_file.ensures.stopped
 
 pub returns-in-Err-nav_file-clause-sure : goal.returns-in-Err-nav_file-clause-sure
 returns-in-Err-nav_file-clause-sure g c = λ all.
@@ -26,12 +26,12 @@ returns-in-Err-clause-refused g c = ends_weaker c.in-Err.stop _ _
 pub returns-in-Err-obs_file-clause-refused : goal.returns-in-Err-obs_file-clause-refused
 returns-in-Err-obs_file-clause-refused g c = ends_weaker c.in-Err-obs_file.stop _ _
     (λ end refused. refused_at _ _ _ c.args.rover.now (c.args.base.now ∷ c.args.rover.now ∷ c.args.nav.now ∷ []) 1 end (omega arith) refl
-      c.in-Ok.ensures.texts refused) c.in-Err-obs_file.ensures.refused
+    c.in-Ok.ensures.texts refused) c.in-Err-obs_file.ensures.refused
 
 pub returns-in-Err-nav_file-clause-refused : goal.returns-in-Err-nav_file-clause-refused
 returns-in-Err-nav_file-clause-refused g c = ends_weaker c.in-Err-nav_file.stop _ _
     (λ end refused. refused_at _ _ _ c.args.nav.now (c.args.base.now ∷ c.args.rover.now ∷ c.args.nav.now ∷ []) 2 end (omega arith) refl
-      (same_twice _ _ _ c.in-Ok.ensures.texts c.in-Ok-obs_file.ensures.texts) refused) c.in-Err-nav_file.ensures.refused
+    (same_twice _ _ _ c.in-Ok.ensures.texts c.in-Ok-obs_file.ensures.texts) refused) c.in-Err-nav_file.ensures.refused
 
 pub returns-in-Err-clause-opened : goal.returns-in-Err-clause-opened
 returns-in-Err-clause-opened g c = fewer_at_most 1 3 _ _ (omega arith) c.in-Err.ensures.opened

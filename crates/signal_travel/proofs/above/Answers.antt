@@ -35,11 +35,11 @@ answer c p q r e =
     let y : Iv 36 = c.index-seen-1.result in
     let z : Iv 36 = c.index-seen-2.result in
     let ep : to_z w64 (of_z w64 (get_or c.args.point.now 0 (pos 0))) ≡ p =
-        plain_coordinate (get_or c.args.point.now 0 (pos 0)) (coordinate c.args.point.now 0 c.requires.point.1) ∙ ap (λ (s : List ℤ). get_or s 0 (pos 0)) e in
+    plain_coordinate (get_or c.args.point.now 0 (pos 0)) (coordinate c.args.point.now 0 c.requires.point.1) ∙ ap (λ (s : List ℤ). get_or s 0 (pos 0)) e in
     let eq : to_z w64 (of_z w64 (get_or c.args.point.now 1 (pos 0))) ≡ q =
-        plain_coordinate (get_or c.args.point.now 1 (pos 0)) (coordinate c.args.point.now 1 c.requires.point.1) ∙ ap (λ (s : List ℤ). get_or s 1 (pos 0)) e in
+    plain_coordinate (get_or c.args.point.now 1 (pos 0)) (coordinate c.args.point.now 1 c.requires.point.1) ∙ ap (λ (s : List ℤ). get_or s 1 (pos 0)) e in
     let er : to_z w64 (of_z w64 (get_or c.args.point.now 2 (pos 0))) ≡ r =
-        plain_coordinate (get_or c.args.point.now 2 (pos 0)) (coordinate c.args.point.now 2 c.requires.point.1) ∙ ap (λ (s : List ℤ). get_or s 2 (pos 0)) e in
+    plain_coordinate (get_or c.args.point.now 2 (pos 0)) (coordinate c.args.point.now 2 c.requires.point.1) ∙ ap (λ (s : List ℤ). get_or s 2 (pos 0)) e in
     let ex : to_z w64 (of_z w64 (get_or c.args.seen.now.place 0 x).lo) ≡ x.lo = ap (λ (b : Iv 36). to_z w64 (of_z w64 b.lo)) (sym c.index-seen-0.is) ∙ lo_fits x in
     let ey : to_z w64 (of_z w64 (get_or c.args.seen.now.place 1 y).lo) ≡ y.lo = ap (λ (b : Iv 36). to_z w64 (of_z w64 b.lo)) (sym c.index-seen-1.is) ∙ lo_fits y in
     let ez : to_z w64 (of_z w64 (get_or c.args.seen.now.place 2 z).lo) ≡ z.lo = ap (λ (b : Iv 36). to_z w64 (of_z w64 b.lo)) (sym c.index-seen-2.is) ∙ lo_fits z in

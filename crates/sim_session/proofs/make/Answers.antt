@@ -66,7 +66,7 @@ returns-clause-base c =
           c.tracking_of-tracking.ensures c.world_of-world.ensures own.ensures.point
           (own.ensures.clock ∙ clock_cast drawn.field-0.base_clock drawn.ensures.base_clock_size ∙ drawn.ensures.base_clock) c.deref-2.ensures.value
           (c.deref-3.ensures.value ∙ drawn.ensures.base_cycles
-            ∙ ap (λ (l5 : Bool). first_of (base_cycles c.args.seed c.args.sats l5) c.args.sats) c.has_l5.ensures) c.in_ok-base.ensures.text;
+          ∙ ap (λ (l5 : Bool). first_of (base_cycles c.args.seed c.args.sats l5) c.args.sats) c.has_l5.ensures) c.in_ok-base.ensures.text;
     }
 
 pub returns-clause-rover : goal.returns-clause-rover
@@ -90,7 +90,7 @@ returns-clause-rover c =
           c.tracking_of-tracking.ensures c.world_of-world.ensures (own.ensures.point ∙ there)
           (own.ensures.clock ∙ clock_cast drawn.field-0.rover_clock drawn.ensures.rover_clock_size ∙ drawn.ensures.rover_clock) c.deref-4.ensures.value
           (c.deref-5.ensures.value ∙ drawn.ensures.rover_cycles
-            ∙ ap (λ (l5 : Bool). first_of (rover_cycles c.args.seed c.args.sats l5) c.args.sats) c.has_l5.ensures) c.in_ok-rover.ensures.text;
+          ∙ ap (λ (l5 : Bool). first_of (rover_cycles c.args.seed c.args.sats l5) c.args.sats) c.has_l5.ensures) c.in_ok-rover.ensures.text;
     }
 
 pub returns-clause-nav : goal.returns-clause-nav

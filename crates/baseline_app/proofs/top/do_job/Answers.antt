@@ -50,8 +50,8 @@ returns-in-Migrate-clause-refused g c = asked_whole c.migrate.result _ _ _ _ _ _
 pub returns-in-Fix-clause-refused : goal.returns-in-Fix-clause-refused
 returns-in-Fix-clause-refused g c =
     subst (λ (j : Job).
-          IfEnded c.fix_by_words.result (AreRefusedWhole (g.F.Files.text_of c.args.files.now) (g.F.Files.unread c.fix_by_words.new.files) (file_words j)))
-        (sym c.in-Fix.is) c.fix_by_words.ensures.refused
+    IfEnded c.fix_by_words.result (AreRefusedWhole (g.F.Files.text_of c.args.files.now) (g.F.Files.unread c.fix_by_words.new.files) (file_words j)))
+    (sym c.in-Fix.is) c.fix_by_words.ensures.refused
 
 pub returns-in-CheckTrack-clause-refused : goal.returns-in-CheckTrack-clause-refused
 returns-in-CheckTrack-clause-refused g c = asked_whole c.check_track_file.result _ _ _ _ _ _ c.in-CheckTrack.is c.as_str-in-CheckTrack.ensures refl c.check_track_file.ensures.refused
@@ -59,14 +59,14 @@ returns-in-CheckTrack-clause-refused g c = asked_whole c.check_track_file.result
 pub returns-in-Track-clause-refused : goal.returns-in-Track-clause-refused
 returns-in-Track-clause-refused g c =
     subst (λ (j : Job).
-          IfEnded c.track_by_words.result (AreRefusedWhole (g.F.Files.text_of c.args.files.now) (g.F.Files.unread c.track_by_words.new.files) (file_words j)))
-        (sym c.in-Track.is) c.track_by_words.ensures.refused
+    IfEnded c.track_by_words.result (AreRefusedWhole (g.F.Files.text_of c.args.files.now) (g.F.Files.unread c.track_by_words.new.files) (file_words j)))
+    (sym c.in-Track.is) c.track_by_words.ensures.refused
 
 pub returns-in-Arcs-clause-refused : goal.returns-in-Arcs-clause-refused
 returns-in-Arcs-clause-refused g c =
     subst (λ (j : Job).
-          IfEnded c.arcs_by_words.result (AreRefusedWhole (g.F.Files.text_of c.args.files.now) (g.F.Files.unread c.arcs_by_words.new.files) (file_words j)))
-        (sym c.in-Arcs.is) c.arcs_by_words.ensures.refused
+    IfEnded c.arcs_by_words.result (AreRefusedWhole (g.F.Files.text_of c.args.files.now) (g.F.Files.unread c.arcs_by_words.new.files) (file_words j)))
+    (sym c.in-Arcs.is) c.arcs_by_words.ensures.refused
 
 pub returns-in-Fix-clause-opened : goal.returns-in-Fix-clause-opened
 returns-in-Fix-clause-opened g c =

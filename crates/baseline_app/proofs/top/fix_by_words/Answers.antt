@@ -10,7 +10,7 @@ returns-clause-ends g c =
     subst (λ (b : List ℕ). IfEnded c.fix.result (λ end. FixEnds (g.F.Files.text_of c.args.files.now) b c.args.rover.now c.args.nav.now c.args.options.now end)) c.as_str.ensures
     (subst (λ (r : List ℕ). IfEnded c.fix.result (λ end. FixEnds (g.F.Files.text_of c.args.files.now) c.as_str.result.now r c.args.nav.now c.args.options.now end)) c.as_str-2.ensures
     (subst (λ (n : List ℕ). IfEnded c.fix.result (λ end. FixEnds (g.F.Files.text_of c.args.files.now) c.as_str.result.now c.as_str-2.result.now n
-          c.args.options.now end)) c.as_str-3.ensures c.fix.ensures.ends))
+    c.args.options.now end)) c.as_str-3.ensures c.fix.ensures.ends))
 
 pub returns-clause-sure : goal.returns-clause-sure
 returns-clause-sure g c = λ all. c.fix.ensures.sure
@@ -22,9 +22,9 @@ pub returns-clause-refused : goal.returns-clause-refused
 returns-clause-refused g c =
     subst (λ (b : List ℕ). IfEnded c.fix.result (AreRefusedWhole (g.F.Files.text_of c.args.files.now) (g.F.Files.unread c.fix.new.files) (b ∷ c.args.rover.now ∷ c.args.nav.now ∷ []))) c.as_str.ensures
     (subst (λ (r : List ℕ). IfEnded c.fix.result (AreRefusedWhole (g.F.Files.text_of c.args.files.now) (g.F.Files.unread c.fix.new.files)
-          (c.as_str.result.now ∷ r ∷ c.args.nav.now ∷ []))) c.as_str-2.ensures
+    (c.as_str.result.now ∷ r ∷ c.args.nav.now ∷ []))) c.as_str-2.ensures
     (subst (λ (n : List ℕ). IfEnded c.fix.result (AreRefusedWhole (g.F.Files.text_of c.args.files.now) (g.F.Files.unread c.fix.new.files)
-          (c.as_str.result.now ∷ c.as_str-2.result.now ∷ n ∷ []))) c.as_str-3.ensures c.fix.ensures.refused))
+    (c.as_str.result.now ∷ c.as_str-2.result.now ∷ n ∷ []))) c.as_str-3.ensures c.fix.ensures.refused))
 
 pub returns-clause-named : goal.returns-clause-named
 returns-clause-named g c =

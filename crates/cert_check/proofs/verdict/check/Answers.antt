@@ -29,7 +29,7 @@ pub returns-in-Err-Overwidth-clause-verdict : goal.returns-in-Err-Overwidth-clau
 returns-in-Err-Overwidth-clause-verdict c =
     let x = c.in-Err-Overwidth in
     wide_refused c.args.cert.now.session c.args.cert.now.budget x.place (subst (IsRefused c.args.cert.now.session) x.field-0-is
-          (record { normal = c.sum-normal.result; of_rows = c.sum-normal.ensures.normal; told = x.ensures.refused }))
+    (record { normal = c.sum-normal.result; of_rows = c.sum-normal.ensures.normal; told = x.ensures.refused }))
 
 pub returns-in-Err-Overwidth-clause-visits : goal.returns-in-Err-Overwidth-clause-visits
 returns-in-Err-Overwidth-clause-visits c =
@@ -42,5 +42,5 @@ returns-in-Err-Overwidth-clause-only c = λ v is.
     let x = c.in-Err-Overwidth in
     let t = c.args.cert.now in
     let refused = wide_refused t.session t.budget x.place
-        (subst (IsRefused t.session) x.field-0-is (record { normal = c.sum-normal.result; of_rows = c.sum-normal.ensures.normal; told = x.ensures.refused })) in
+    (subst (IsRefused t.session) x.field-0-is (record { normal = c.sum-normal.result; of_rows = c.sum-normal.ensures.normal; told = x.ensures.refused })) in
     one_verdict t.session t.ratio t.budget t.tail v (Not (cause.Overwidth x.place)) is refused

@@ -12,7 +12,7 @@ returns-then-not-decision-clause-verdict c =
     let d = numbers c.args.form.now.h c.in-Ok.decision.moved c.args.best.now c.in-Ok.decision.top in
     let decided : IsDecided c.args.cert.now.session d =
     decided_by c.args.cert.now.session c.args.form.now c.args.best.now c.in-Ok.decision.moved c.in-Ok.decision.top c.requires.form c.requires.best
-        c.in-Ok.ensures.moved (λ w. absurd (c.in-Ok.ensures.float.1 w))
+    c.in-Ok.ensures.moved (λ w. absurd (c.in-Ok.ensures.float.1 w))
     (λ w. absurd (c.in-Ok.ensures.sum.1 w)) c.in-Ok.ensures.top in
     (d, record { decided = decided; near = λ far. absurd (not_true (c.in-Ok.ensures.fixed.1 far) c.if-not-decision.true) })
 
@@ -21,7 +21,7 @@ returns-then-says-clause-verdict c =
     let d = numbers c.args.form.now.h c.in-Ok.decision.moved c.args.best.now c.in-Ok.decision.top in
     let decided : IsDecided c.args.cert.now.session d =
     decided_by c.args.cert.now.session c.args.form.now c.args.best.now c.in-Ok.decision.moved c.in-Ok.decision.top c.requires.form c.requires.best
-        c.in-Ok.ensures.moved (λ w. absurd (c.in-Ok.ensures.float.1 w))
+    c.in-Ok.ensures.moved (λ w. absurd (c.in-Ok.ensures.float.1 w))
     (λ w. absurd (c.in-Ok.ensures.sum.1 w)) c.in-Ok.ensures.top in
     let fits : FitsSigned w128 c.in-Ok.decision.top = search rules in
     let said = rw (own_word128 c.in-Ok.decision.top fits) at c.says.ensures in
@@ -39,7 +39,7 @@ returns-else-says-clause-verdict c =
     let d = numbers c.args.form.now.h c.in-Ok.decision.moved c.args.best.now c.in-Ok.decision.top in
     let decided : IsDecided c.args.cert.now.session d =
     decided_by c.args.cert.now.session c.args.form.now c.args.best.now c.in-Ok.decision.moved c.in-Ok.decision.top c.requires.form c.requires.best
-        c.in-Ok.ensures.moved (λ w. absurd (c.in-Ok.ensures.float.1 w))
+    c.in-Ok.ensures.moved (λ w. absurd (c.in-Ok.ensures.float.1 w))
     (λ w. absurd (c.in-Ok.ensures.sum.1 w)) c.in-Ok.ensures.top in
     let fits : FitsSigned w128 c.in-Ok.decision.top = search rules in
     let said = rw (own_word128 c.in-Ok.decision.top fits) at c.says.ensures in

@@ -11,7 +11,7 @@ returns-in-Err-Spent-clause-verdict c = record {
   form = c.args.form.now;
   of_rows = c.requires;
   over = c.in-Err-Spent.ensures.spent (ap Err c.in-Err-Spent.field-0-is);
-  not_reduced = c.in-Err-Spent.ensures.reduced
+  not_reduced = c.in-Err-Spent.ensures.reduced;
 }
 
 pub returns-in-Err-Overwidth-clause-verdict : goal.returns-in-Err-Overwidth-clause-verdict
@@ -19,5 +19,5 @@ returns-in-Err-Overwidth-clause-verdict c = record {
   form = c.args.form.now;
   of_rows = c.requires;
   wide = c.in-Err-Overwidth.ensures.overwidth (ap Err c.in-Err-Overwidth.field-0-is);
-  not_reduced = c.in-Err-Overwidth.ensures.reduced
+  not_reduced = c.in-Err-Overwidth.ensures.reduced;
 }

@@ -2,7 +2,7 @@ use Rattle.std.proofs.Common.{◌≡◌, ◌+◌, ◌^◌, ◌≤◌, ◌∷◌,
 use Rattle.std.specs.Int.{w128}
 use Rattle.std.proofs.lemmas.List.{drop_more}
 use Rattle.whole_math.specs.Vectors.{sum}
-use Rattle.form_tables.proofs.Words.{as_w64, as_w128}
+use Rattle.whole_math.proofs.Words.{as_w64, as_w128}
 use Rattle.obs_rows.specs.declared.rows.Row.{Row}
 use Rattle.fix_decide.specs.UpperSums.{centre}
 use Rattle.cert_report.proofs.Sums.{behind}

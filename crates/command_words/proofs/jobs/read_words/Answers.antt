@@ -23,7 +23,7 @@ returns-in-Ok-clause-job c =
     let given = c.in-Ok.parted.given.items in
     IfOk-weaker c.job_of.result _ _ (λ j asked. is_job (texts_of c.args.words.now) command rows given c.in_ok-line.ensures.ok c.in-Ok.ensures.given j
     (subst (λ (name : Text). IsJobOf name (values_in word_id rows) given j) c.as_bytes.ensures.value
-      (subst (λ (ws : List Text). IsJobOf c.as_bytes.result.now ws given j) c.in-Ok.ensures.plain asked))) c.job_of.ensures.job
+    (subst (λ (ws : List Text). IsJobOf c.as_bytes.result.now ws given j) c.in-Ok.ensures.plain asked))) c.job_of.ensures.job
 
 pub returns-in-Ok-clause-range : goal.returns-in-Ok-clause-range
 returns-in-Ok-clause-range c = IfOk-weaker c.job_of.result _ _ (λ j asked. in_range _ _ _ j asked) c.job_of.ensures.job

@@ -13,4 +13,4 @@ pub loop-text-preserved : goal.loop-text-preserved
 loop-text-preserved c =
     let lt : c.loop-text.text-index < length c.args.texts.now = search rules in
     text_taken c.args.setting c.args.texts.now c.args.given.now.items c.loop-text.given.items c.push.new.given.items c.loop-text.text-index _ _
-        c.in-Some.number c.loop-text.invariant lt c.as_bytes.ensures.value c.in-Some.ensures c.in_ok-push.ensures
+    c.in-Some.number c.loop-text.invariant lt c.as_bytes.ensures.value c.in-Some.ensures c.in_ok-push.ensures

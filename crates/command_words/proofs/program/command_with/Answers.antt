@@ -7,4 +7,4 @@ pub loop-option-preserved : goal.loop-option-preserved
 loop-option-preserved c =
     let lt : c.loop-option.option-index < length c.args.options.now = search rules in
     option_added c.args.name.now c.args.options.now c.loop-option.option-index (record { ref_ptr = (0, 0); now = [] }) (app_of c.loop-option.command)
-        (app_of c.in_ok-command.command) lt c.loop-option.invariant c.in_ok-command.ensures
+    (app_of c.in_ok-command.command) lt c.loop-option.invariant c.in_ok-command.ensures

@@ -16,7 +16,7 @@ returns c =
     let pairs : map (λ o. o.now) c.as_slice-2.result.now ≡ pair_options = ap (λ (os : List (Bor Text)). map (λ o. o.now) os) c.as_slice-2.ensures in
     let signals : map (λ o. o.now) c.as_slice-3.result.now ≡ signal_options = ap (λ (os : List (Bor Text)). map (λ o. o.now) os) c.as_slice-3.ensures in
     let fix : app_of c.in_ok-program.program ≡ with_one (codes "fix") all_options bare_app =
-        c.in_ok-program.ensures ∙ ap₂ (λ (a : App) (os : List Text). with_one (codes "fix") os a) c.bare_program-program.ensures all in
+    c.in_ok-program.ensures ∙ ap₂ (λ (a : App) (os : List Text). with_one (codes "fix") os a) c.bare_program-program.ensures all in
     let arcs = c.in_ok-program-2.ensures ∙ ap₂ (λ (a : App) (os : List Text). with_one (codes "arcs") os a) fix pairs in
     let check = c.in_ok-program-3.ensures ∙ ap (λ (a : App). with_one (codes "check") [] a) arcs in
     let residuals = c.in_ok-program-4.ensures ∙ ap (λ (a : App). with_one (codes "residuals") [] a) check in

@@ -21,8 +21,8 @@ pub returns-in-Some-clause-ok : goal.returns-in-Some-clause-ok
 returns-in-Some-clause-ok c =
     let words : List Text = map (λ w. string_bytes w) c.args.words.now in
     let passes : fault_of (app_with commands) words ≡ [] =
-        sym (ap (λ (a : App). fault_of a words) c.in_ok-program.ensures)
-        ∙ c.in-Ok.ensures.kinds (ap is_simple_and_free c.in_ok-program.ensures ∙ commands_free) in
+    sym (ap (λ (a : App). fault_of a words) c.in_ok-program.ensures)
+    ∙ c.in-Ok.ensures.kinds (ap is_simple_and_free c.in_ok-program.ensures ∙ commands_free) in
     let gives = (c.in-Ok.ensures.matches (ap is_simple c.in_ok-program.ensures ∙ commands_simple)).1 ∙ ap (λ (a : App). subcommand_of a words) c.in_ok-program.ensures in
     let no_short : has_short words ≡ false = sym c.has_short_word.ensures ∙ c.if-has_short_word.false in
     is_split words _ _ no_short passes (sym gives ∙ pair_of _ _ _ _ _ c.in-Some.ensures.name c.in-Some.ensures.rows)

@@ -2,7 +2,7 @@ use Rattle.std.proofs.Common.{◌≤◌, ◌^◌, ◌*ℤ◌, arith, unsigned_ab
 use Rattle.std.proofs.lemmas.Int.{to_z-of_z}
 use Rattle.std.specs.Int.{w128}
 use Rattle.whole_math.proofs.Order.{abs_mul_le}
-use Rattle.form_tables.proofs.Words.{as_w128}
+use Rattle.whole_math.proofs.Words.{as_w128}
 use Rattle.elimination.proofs.entries.product.Goals as goal
 
 pub returns-clause-value : goal.returns-clause-value

@@ -8,7 +8,7 @@ use Rattle.form_tables.specs.Tables.{entry, IsZeroOutside}
 use Rattle.integer_form.specs.declared.front_form.FrontForm.{FrontForm}
 use Rattle.integer_form.specs.Factors.{stored}
 use Rattle.integer_form.specs.Kept.{form_of_table, IsZeroFrom}
-use Rattle.form_tables.proofs.Words.{as_w64, as_w128}
+use Rattle.whole_math.proofs.Words.{as_w64, as_w128}
 use Rattle.elimination.proofs.FinishLaws.{Finished, finished}
 use Rattle.elimination.proofs.finished.finish.Goals as goal
 

@@ -9,7 +9,7 @@ use Rattle.quadratic_form.proofs.Places.{list_same, form_same}
 use Rattle.form_tables.specs.Tables.{entry}
 use Rattle.elimination.specs.StepEntries.{is_small, factor_entry, new_entry}
 use Rattle.elimination.specs.Stops.{column_at, form_after}
-use Rattle.form_tables.proofs.Words.{as_w128}
+use Rattle.whole_math.proofs.Words.{as_w128}
 use Rattle.elimination.proofs.NewEntries.{positive_is}
 use Rattle.elimination.proofs.SmallEntries.{list_small, list_wide, form_all_small, form_wide, small_entry}
 use Rattle.elimination.proofs.StepLaws.{step_tests, factors_are, next_is, above}

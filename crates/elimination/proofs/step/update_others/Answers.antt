@@ -4,7 +4,7 @@ use Rattle.std.specs.Int.{w128}
 use Rattle.whole_math.specs.Rounding.{nearest_div}
 use Rattle.form_tables.specs.Tables.{entry}
 use Rattle.elimination.specs.StepEntries.{is_small, other_entry}
-use Rattle.form_tables.proofs.Words.{as_w128}
+use Rattle.whole_math.proofs.Words.{as_w128}
 use Rattle.elimination.proofs.step.update_others.Goals as goal
 
 -- the entry that is read, as a word

@@ -3,7 +3,7 @@ use Rattle.std.proofs.lemmas.Int.{to_z-of_z}
 use Rattle.std.specs.Int.{w128}
 use Rattle.form_tables.specs.Tables.{entry}
 use Rattle.elimination.specs.StepEntries.{is_small, own_entry, other_entry, new_entry}
-use Rattle.form_tables.proofs.Words.{as_w128}
+use Rattle.whole_math.proofs.Words.{as_w128}
 use Rattle.elimination.proofs.NewEntries.{new_own, new_other, other_same, own_is, positive_is, count_word, from_own}
 use Rattle.elimination.proofs.step.update_row.Goals as goal
 

@@ -4,7 +4,7 @@ use Rattle.std.specs.Int.{w64, w128}
 use Rattle.whole_math.specs.Rounding.{nearest_div}
 use Rattle.form_tables.specs.Tables.{entry}
 use Rattle.elimination.specs.StepEntries.{is_small, factor_entry}
-use Rattle.form_tables.proofs.Words.{as_w64, as_w128}
+use Rattle.whole_math.proofs.Words.{as_w64, as_w128}
 use Rattle.elimination.proofs.SmallEntries.{small_size}
 use Rattle.elimination.proofs.step.write_factors.Goals as goal
 

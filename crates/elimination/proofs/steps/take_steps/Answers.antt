@@ -9,7 +9,7 @@ use Rattle.elimination.specs.Stops.{refusal_of, column_at, form_after}
 use Rattle.integer_form.specs.Factors.{factor_at}
 use Rattle.integer_form.specs.Factors.{stored}
 use Rattle.elimination.specs.Taken.{before}
-use Rattle.form_tables.proofs.Words.{as_w64, as_w128}
+use Rattle.whole_math.proofs.Words.{as_w64, as_w128}
 use Rattle.elimination.proofs.StoredLaws.{before_last, before_ok, before_err, stored_last, steps_ok, steps_err}
 use Rattle.integer_form.proofs.StoredPlaces.{stored_same}
 use Rattle.elimination.proofs.steps.take_steps.Goals as goal

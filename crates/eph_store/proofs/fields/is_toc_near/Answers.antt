@@ -10,6 +10,6 @@ returns c =
       week_is = c.in-Some.ensures.1;
       week_in = c.in-Some.ensures.0;
       second_is = c.in-Some-whole_up_to.ensures.1;
-      second_in = c.in-Some-whole_up_to.ensures.0
+      second_in = c.in-Some-whole_up_to.ensures.0;
     }) c.week_tick-toe.ensures c.abs_diff.ensures in
     (λ t. s.0 (search rules), λ n. let h = s.1 n in search rules)

@@ -14,7 +14,7 @@ returns c =
     let written = c.in_ok-write_orbit.ensures in
     let box = c.sv_with-held.result in
     let of_record = subst (λ (k : Constants). (q : Quantities) → IsSatelliteSolution k (elements_of c.args.eph.now) (sent_at c.args.tag.0 (pos 0)) q
-          → HoldsSolution box q) c.world_of.ensures c.sv_with-held.ensures in
+    → HoldsSolution box q) c.world_of.ensures c.sv_with-held.ensures in
     record {
       box = box;
       of_record = of_record;

@@ -51,14 +51,14 @@ pub is_separated-requires-clause-p2_to : goal.is_separated-requires-clause-p2_to
 is_separated-requires-clause-p2_to c =
     let fits : FitsSigned w128 c.args.best.now.p2 = search rules in
     subst (λ (x : ℤ). x ≤ℤ pos (2 ^ 62)) (sym (own_word c.args.best.now.p2 fits))
-        (small c.args.best.now.p2 (second_small c.args.session.now c.args.form.now c.args.best.now c.requires.form c.requires.fine c.requires.best))
+    (small c.args.best.now.p2 (second_small c.args.session.now c.args.form.now c.args.best.now c.requires.form c.requires.fine c.requires.best))
 
 pub returns-clause-fixed : goal.returns-clause-fixed
 returns-clause-fixed c =
     let fits : FitsSigned w128 c.args.best.now.p2 = search rules in
     let t : ℤ = to_z w128 (of_z w128 c.in_ok-top.top) in
     subst (λ (x : ℤ). (IsTrue c.is_separated.result → IsSeparated (pos c.args.ratio) t x) × (IsSeparated (pos c.args.ratio) t x → IsTrue c.is_separated.result))
-        (own_word c.args.best.now.p2 fits) c.is_separated.ensures
+    (own_word c.args.best.now.p2 fits) c.is_separated.ensures
 
 pub returns-clause-strictly_best : goal.returns-clause-strictly_best
 returns-clause-strictly_best c =
@@ -76,7 +76,7 @@ returns-clause-strictly_best c =
     λ yes. best_from_bounds s f.h (columns_of f) (pos c.args.ratio) c.in_ok-top.top (first_of b) (second_of b) c.in_ok-moved.moved c.requires.fine entries
     (bounds_of s f c.requires.form) (least_of f b c.requires.best) above (at_least c.args.ratio c.requires.ratio_from) c.in_ok-top.ensures.from
     (subst (λ (x : ℤ). IsSeparated (pos c.args.ratio) x (value_of f (second_of b))) t
-      (subst (λ (x : ℤ). IsSeparated (pos c.args.ratio) (to_z w128 (of_z w128 c.in_ok-top.top)) x) second (c.is_separated.ensures.0 yes)))
+    (subst (λ (x : ℤ). IsSeparated (pos c.args.ratio) (to_z w128 (of_z w128 c.in_ok-top.top)) x) second (c.is_separated.ensures.0 yes)))
 
 pub returns-clause-float : goal.returns-clause-float
 returns-clause-float c = (λ e. absurd e, λ w. false≢true (c.in_ok-moved.ensures.refused.1 w))

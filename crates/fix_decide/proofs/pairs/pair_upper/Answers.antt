@@ -35,7 +35,7 @@ loop-signal-preserved c =
     let q : ℤ = c.in_ok-sum.field-0 in
     let t : Step (to_z w128 (of_z w128 (s +ℤ to_z w128 (of_z w128 q)))) s q k (2 ^ 104) =
     step s q k (2 ^ 104) c.loop-signal.invariant.from c.loop-signal.invariant.to c.in_ok-sum.ensures.from c.in_ok-sum.ensures.to
-        (times_below (k + 1) (length signals) (2 ^ 104) (omega arith) (omega arith) (omega arith)) in
+    (times_below (k + 1) (length signals) (2 ^ 104) (omega arith) (omega arith) (omega arith)) in
     record {
       value = next s _ q (f (get_or signals k 0)) (sum (map f (drop (k + 1) signals))) (sum (map f signals))
           (ap (λ (x : List ℕ). s +ℤ sum (map f x)) (sym e) ∙ c.loop-signal.invariant.value) c.in_ok-sum.ensures.value t.is;

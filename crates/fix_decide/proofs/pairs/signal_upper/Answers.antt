@@ -27,7 +27,7 @@ overflow_mul-result c =
     let f : Row → Reach = reach_of c.args.arcs.now c.args.signals.now c.args.z.now c.args.moved.now c.args.signal in
     fits_product c.share.result c.gaps.result
     (weighted_rows c.as_slice-rows.result.now c.args.pair.now.rows f c.as_slice.result.now c.share.result c.gaps.result c.as_slice-rows.ensures
-      (c.as_slice.ensures.value ∙ c.in_ok-reaches.ensures.value)
+    (c.as_slice.ensures.value ∙ c.in_ok-reaches.ensures.value)
     c.args.pair.now.some_rows c.args.pair.now.few_rows c.share.ensures.from c.share.ensures.to c.gaps.ensures.from c.gaps.ensures.to)
 
 pub returns-clause-value : goal.returns-clause-value
@@ -38,14 +38,14 @@ returns-clause-value c =
     (weighted_rows c.as_slice-rows.result.now c.args.pair.now.rows f c.as_slice.result.now c.share.result c.gaps.result c.as_slice-rows.ensures same
     c.args.pair.now.some_rows c.args.pair.now.few_rows c.share.ensures.from c.share.ensures.to c.gaps.ensures.from c.gaps.ensures.to)
     ∙ ap₂ (λ (a b : ℤ). a *ℤ b) (c.share.ensures.value ∙ ap (λ (l : List Row). share (length l) c.args.signal) c.as_slice-rows.ensures)
-        (c.gaps.ensures.value ∙ ap gaps (same ∙ ap (map f) c.as_slice-rows.ensures))
+    (c.gaps.ensures.value ∙ ap gaps (same ∙ ap (map f) c.as_slice-rows.ensures))
 
 pub returns-clause-from : goal.returns-clause-from
 returns-clause-from c =
     let f : Row → Reach = reach_of c.args.arcs.now c.args.signals.now c.args.z.now c.args.moved.now c.args.signal in
     let w : Weighted c.share.result c.gaps.result =
     weighted_rows c.as_slice-rows.result.now c.args.pair.now.rows f c.as_slice.result.now c.share.result c.gaps.result c.as_slice-rows.ensures
-        (c.as_slice.ensures.value ∙ c.in_ok-reaches.ensures.value)
+    (c.as_slice.ensures.value ∙ c.in_ok-reaches.ensures.value)
     c.args.pair.now.some_rows c.args.pair.now.few_rows c.share.ensures.from c.share.ensures.to c.gaps.ensures.from c.gaps.ensures.to in
     subst (λ (x : ℤ). pos 0 ≤ℤ x) (sym (product_word c.share.result c.gaps.result w)) w.from
 
@@ -54,7 +54,7 @@ returns-clause-to c =
     let f : Row → Reach = reach_of c.args.arcs.now c.args.signals.now c.args.z.now c.args.moved.now c.args.signal in
     let w : Weighted c.share.result c.gaps.result =
     weighted_rows c.as_slice-rows.result.now c.args.pair.now.rows f c.as_slice.result.now c.share.result c.gaps.result c.as_slice-rows.ensures
-        (c.as_slice.ensures.value ∙ c.in_ok-reaches.ensures.value)
+    (c.as_slice.ensures.value ∙ c.in_ok-reaches.ensures.value)
     c.args.pair.now.some_rows c.args.pair.now.few_rows c.share.ensures.from c.share.ensures.to c.gaps.ensures.from c.gaps.ensures.to in
     subst (λ (x : ℤ). x ≤ℤ pos (2 ^ 104)) (sym (product_word c.share.result c.gaps.result w)) w.to
 

@@ -5,7 +5,7 @@ use Rattle.whole_math.specs.Rounding.{floor_div}
 use Rattle.obs_rows.specs.Data.{number_at}
 use Rattle.obs_rows.specs.Integers.{integer}
 use Rattle.obs_rows.specs.Signals.{cycle}
-use Rattle.form_tables.proofs.Words.{as_w64, as_w128}
+use Rattle.whole_math.proofs.Words.{as_w64, as_w128}
 use Rattle.fix_decide.specs.UpperSums.{scalar_product}
 use Rattle.fix_decide.proofs.Words.{difference_word}
 use Rattle.fix_decide.proofs.reaches.centre_of.Goals as goal

@@ -3,7 +3,7 @@ use Rattle.std.proofs.lemmas.Int.{ints}
 use Rattle.std.specs.Int.{w128}
 use Rattle.whole_math.specs.Rounding.{ceil_div}
 use Rattle.quadratic_form.specs.UpperSum.{size}
-use Rattle.form_tables.proofs.Words.{as_w128}
+use Rattle.whole_math.proofs.Words.{as_w128}
 use Rattle.fix_decide.specs.UpperSums.{scalar_product}
 use Rattle.fix_decide.proofs.Words.{radius_word}
 use Rattle.fix_decide.proofs.Radii.{product_nonneg, ceil_nonneg}
@@ -40,8 +40,8 @@ returns-clause-from c =
     let p : pos 0 ≤ℤ scalar_product c.args.row.now.ru (map size c.args.moved.now) =
     product_nonneg c.args.row.now.ru c.args.moved.now (c.args.row.now.ru_in 0 (pos 0) l0).0 (c.args.row.now.ru_in 1 (pos 0) l1).0 (c.args.row.now.ru_in 2 (pos 0) l2).0 in
     let u : pos 0 ≤ℤ c.rounded_up.result =
-        subst (λ (x : ℤ). pos 0 ≤ℤ x) (sym (c.rounded_up.ensures.value ∙ ap (λ x. ceil_div x (2 ^ 16)) e))
-            (ceil_nonneg (scalar_product c.args.row.now.ru (map size c.args.moved.now)) (2 ^ 16) p) in
+    subst (λ (x : ℤ). pos 0 ≤ℤ x) (sym (c.rounded_up.ensures.value ∙ ap (λ x. ceil_div x (2 ^ 16)) e))
+    (ceil_nonneg (scalar_product c.args.row.now.ru (map size c.args.moved.now)) (2 ^ 16) p) in
     subst (λ (x : ℤ). pos 0 ≤ℤ x) (sym (radius_word c.args.row.now.ry c.rounded_up.result c.args.row.now.ry_in.0 c.args.row.now.ry_in.1 c.rounded_up.ensures.size))
     (at_least_one c.args.row.now.ry c.rounded_up.result c.args.row.now.ry_in.0 u)
 

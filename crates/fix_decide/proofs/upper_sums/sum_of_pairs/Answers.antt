@@ -40,6 +40,8 @@ loop-pair-preserved c =
     }
 
 pub returns-clause-refused : goal.returns-clause-refused
-returns-clause-refused c =
-    (λ e. absurd (false≢true e), λ (k, x, inside, is, w).
-      absurd (c.loop-pair.invariant.narrow k (omega arith) x (subst (IsWide c.args.arcs.now c.args.signals.now c.args.z.now c.args.moved.now) (sym is) w)))
+returns-clause-refused c = (
+  λ e. absurd (false≢true e),
+  λ (k, x, inside, is, w).
+      absurd (c.loop-pair.invariant.narrow k (omega arith) x (subst (IsWide c.args.arcs.now c.args.signals.now c.args.z.now c.args.moved.now) (sym is) w)),
+)

@@ -9,7 +9,7 @@ use Rattle.fix_decide.specs.UpperSums.{upper_sum, top}
 use Rattle.fix_decide.specs.Bounds.{StaysAtMost}
 use Rattle.fix_decide.specs.Widths.{AreWide}
 use Rattle.obs_rows.specs.Signals.{fine_signals}
-use Rattle.form_tables.proofs.Words.{as_w128}
+use Rattle.whole_math.proofs.Words.{as_w128}
 use Rattle.fix_decide.proofs.Words.{small_w128}
 use Rattle.fix_decide.proofs.UpperLaws.{top_stays_at_most}
 use Rattle.fix_decide.proofs.upper_sums.upper_sum.Goals as goal
@@ -45,8 +45,8 @@ returns-clause-above c =
     ∙ ap (λ (x : List ℕ). upper_sum arcs x pairs z m) c.fine_signals.ensures.value in
     let t_is : t ≡ top h arcs ss pairs z m = c.ceil_shift.ensures.value ∙ ap (λ x. ceil_div x (2 ^ h)) (u_word ∙ u_is) in
     let t_word : to_z w128 (of_z w128 t) ≡ t =
-        as_w128 t (smaller t u c.in_ok-sum.ensures.from c.in_ok-sum.ensures.to
-              (subst (λ (x : ℤ). unsigned_abs t ≤ unsigned_abs x) u_word c.ceil_shift.ensures.size)) in
+    as_w128 t (smaller t u c.in_ok-sum.ensures.from c.in_ok-sum.ensures.to
+    (subst (λ (x : ℤ). unsigned_abs t ≤ unsigned_abs x) u_word c.ceil_shift.ensures.size)) in
     subst (λ (x : ℤ). StaysAtMost arcs ss pairs z m (pos (2 ^ h) *ℤ x)) (sym (t_word ∙ t_is)) (top_stays_at_most h arcs ss pairs z m c.requires.entries)
 
 pub returns-clause-refused : goal.returns-clause-refused

@@ -1,7 +1,7 @@
 use Rattle.std.proofs.Common.{◌≡◌, ℕ, ◌-◌, ◌^◌, ◌<◌, ◌≤◌, List, [], ◌∷◌, ℤ, unsigned_abs, to_z, of_z, arith, ap, ap₂, ◌∙◌, refl, subst}
 use Rattle.std.specs.Int.{w64}
 use Rattle.integer_form.specs.FloatPoint.{item, baseline_at, HasWide}
-use Rattle.form_tables.proofs.Words.{as_w64}
+use Rattle.whole_math.proofs.Words.{as_w64}
 use Rattle.integer_form.proofs.FloatLaws.{baseline_is, baseline_wide, narrow_three, not_wide}
 use Rattle.integer_form.proofs.float_point.baseline_from.Goals as goal
 

@@ -5,7 +5,7 @@ use Rattle.quadratic_form.specs.Places.{list_from}
 use Rattle.form_tables.specs.declared.sizes.TheConstants.{MOST_COLUMNS}
 use Rattle.form_tables.specs.Tables.{entry}
 use Rattle.integer_form.specs.FloatPoint.{item}
-use Rattle.form_tables.proofs.Words.{as_w64, as_w128, size_add}
+use Rattle.whole_math.proofs.Words.{as_w64, as_w128, size_add}
 use Rattle.integer_form.proofs.PlaceLaws.{dot_more}
 use Rattle.integer_form.proofs.FloatLaws.{sum_with_constant}
 use Rattle.integer_form.proofs.float_point.factor_sum.Goals as goal

@@ -1,7 +1,7 @@
 use Rattle.std.proofs.Common.{◌≡◌, ◌^◌, ◌+◌, ◌≤◌, ℤ, pos, ◌+ℤ◌, ◌*ℤ◌, unsigned_abs, to_z, of_z, arith, ap, ap₂, ◌∙◌}
 use Rattle.std.proofs.lemmas.Int.{to_z-of_z, ints}
 use Rattle.std.specs.Int.{w64, w128}
-use Rattle.form_tables.proofs.Words.{as_w128, size_add}
+use Rattle.whole_math.proofs.Words.{as_w128, size_add}
 use Rattle.integer_form.proofs.products.column_value.Goals as goal
 
 twice : (b : ℤ) → unsigned_abs b ≤ 2 ^ 118 → unsigned_abs (pos 2 *ℤ b) ≤ 2 ^ 119

@@ -2,7 +2,7 @@ use Rattle.std.proofs.Common.{◌≡◌, ℕ, suc, ◌+◌, ◌*◌, ◌^◌, �
 use Rattle.std.proofs.Math.Nat.{pow-succ'}
 use Rattle.std.proofs.lemmas.Int.{ints, to_z-of_z}
 use Rattle.std.specs.Int.{w128}
-use Rattle.form_tables.proofs.Words.{as_w128}
+use Rattle.whole_math.proofs.Words.{as_w128}
 use Rattle.whole_math.specs.Rounding.{floor_div, nearest_div}
 use Rattle.whole_math.proofs.Rounding.{nearest_size}
 use Rattle.lower_form.proofs.first_entries.nearest_shift.Goals as goal

@@ -2,7 +2,7 @@ use Rattle.std.proofs.Common.{rules, ◌≡◌, ℕ, ◌+◌, ◌^◌, ◌<◌, 
 use Rattle.std.specs.Int.{w64}
 use Rattle.obs_rows.specs.Data.{number_at}
 use Rattle.form_tables.specs.declared.sizes.TheConstants.{MOST_COLUMNS}
-use Rattle.form_tables.proofs.Words.{as_w64}
+use Rattle.whole_math.proofs.Words.{as_w64}
 use Rattle.normal_sum.specs.Places.{put_at}
 use Rattle.normal_sum.proofs.Words.{neg_w64, size_neg}
 use Rattle.normal_sum.proofs.CoefficientPlaces.{coefficients_are, coefficients_within, nothing_elsewhere}

@@ -2,7 +2,7 @@ use Rattle.std.proofs.Common.{rules, ◌≡◌, ℕ, ◌<◌, ◌≤◌, ◌^◌
 use Rattle.std.proofs.lemmas.Int.{ints}
 use Rattle.std.specs.Int.{w64}
 use Rattle.form_tables.specs.declared.sizes.TheConstants.{MOST_COLUMNS}
-use Rattle.form_tables.proofs.Words.{as_w64}
+use Rattle.whole_math.proofs.Words.{as_w64}
 use Rattle.normal_sum.proofs.ColumnLaws.{none_added, one_more, untouched, all_added}
 use Rattle.normal_sum.proofs.columns.add_values.Goals as goal
 

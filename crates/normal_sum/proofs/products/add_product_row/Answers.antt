@@ -1,7 +1,7 @@
 use Rattle.std.proofs.Common.{◌≡◌, ◌≤◌, ◌^◌, ℤ, pos, arith, unsigned_abs, slice_index_or, to_z, of_z}
 use Rattle.std.proofs.lemmas.Int.{to_z-of_z}
 use Rattle.std.specs.Int.{w64, w128}
-use Rattle.form_tables.proofs.Words.{as_w64, as_w128}
+use Rattle.whole_math.proofs.Words.{as_w64, as_w128}
 use Rattle.normal_sum.proofs.products.add_product_row.Goals as goal
 
 pub returns-clause-added : goal.returns-clause-added

@@ -3,7 +3,7 @@ use Rattle.std.proofs.lemmas.Int.{to_z-of_z}
 use Rattle.std.specs.Int.{w64, w128}
 use Rattle.form_tables.specs.declared.sizes.TheConstants.{MOST_COLUMNS}
 use Rattle.form_tables.specs.Tables.{entry}
-use Rattle.form_tables.proofs.Words.{as_w64}
+use Rattle.whole_math.proofs.Words.{as_w64}
 use Rattle.normal_sum.proofs.RowSums.{times_nothing}
 use Rattle.normal_sum.proofs.ColumnLaws.{none_added, one_more, untouched, all_added}
 use Rattle.normal_sum.proofs.products.add_to_row.Goals as goal

@@ -2,7 +2,7 @@ use Rattle.std.proofs.Common.{◌≡◌, ◌+◌, ◌≤◌, ◌^◌, ◌+ℤ◌
 use Rattle.std.proofs.lemmas.Int.{to_z-of_z}
 use Rattle.std.specs.Int.{w64, w128}
 use Rattle.whole_math.proofs.Order.{abs_mul_le}
-use Rattle.form_tables.proofs.Words.{as_w128, size_add}
+use Rattle.whole_math.proofs.Words.{as_w128, size_add}
 use Rattle.normal_sum.proofs.products.plus_times.Goals as goal
 
 pub returns : goal.returns

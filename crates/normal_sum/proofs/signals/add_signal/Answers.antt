@@ -11,7 +11,7 @@ use Rattle.form_tables.specs.Tables.{entry}
 use Rattle.obs_rows.specs.Signals.{weight}
 use Rattle.obs_rows.specs.SignalGroups.{signal_row, signal_group}
 use Rattle.normal_sum.specs.Places.{ArePlaces}
-use Rattle.form_tables.proofs.Words.{as_w64}
+use Rattle.whole_math.proofs.Words.{as_w64}
 use Rattle.normal_sum.proofs.RowSums.{group_is, group_size}
 use Rattle.normal_sum.proofs.WeightLaws.{share_size, share_within}
 use Rattle.normal_sum.proofs.signals.add_signal.Goals as goal

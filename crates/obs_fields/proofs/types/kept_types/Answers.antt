@@ -21,4 +21,4 @@ pub returns : goal.returns
 returns c =
     let few : length c.args.names.now ≤ c.loop-number.number = rw (← c.as_slice-name-items.ensures.value) c.loop-number-test.false in
     sym (c.loop-number.invariant ∙ ap (λ (l : List _). c.loop-number.kept.items ++ l)
-          (kept_done c.args.system c.args.names.now c.loop-number.number c.loop-number.number few) ∙ append-nil c.loop-number.kept.items)
+    (kept_done c.args.system c.args.names.now c.loop-number.number c.loop-number.number few) ∙ append-nil c.loop-number.kept.items)

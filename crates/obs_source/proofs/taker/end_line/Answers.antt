@@ -8,7 +8,7 @@ use Rattle.obs_source.proofs.taker.end_line.Goals as goal
 pub begin-requires-clause-first : goal.begin-requires-clause-first
 begin-requires-clause-first c =
     first_joined c.args.line.now c.as_slice.result.now c.args.front.now c.args.piece.now c.requires.ends.0
-        (c.as_slice.ensures.value ∙ c.in-Ok.ensures.added) c.requires.goes_on c.requires.front c.requires.ends.1
+    (c.as_slice.ensures.value ∙ c.in-Ok.ensures.added) c.requires.goes_on c.requires.front c.requires.ends.1
 
 pub feed_of-requires-clause-reads : goal.feed_of-requires-clause-reads
 feed_of-requires-clause-reads c =

@@ -22,7 +22,7 @@ returns g c = λ x h.
     let low = c.share_below-low in
     let high = c.share_above-high in
     let k = below a.lo low.result c.from_ends.result.lo a.low (through a.lo a.hi (pos (2 ^ 62)) a.ordered a.high) low.ensures.low
-        (c.from_ends.ensures.lo ∙ to_z-of_z w64 low.result (record { sfits = low.type_inv })) in
+    (c.from_ends.ensures.lo ∙ to_z-of_z w64 low.result (record { sfits = low.type_inv })) in
     let m = above a.hi high.result c.from_ends.result.hi (through (neg_ℤ (pos (2 ^ 62))) a.lo a.hi a.low a.ordered) a.high high.ensures.low
-        (c.from_ends.ensures.hi ∙ to_z-of_z w64 high.result (record { sfits = high.type_inv })) in
+    (c.from_ends.ensures.hi ∙ to_z-of_z w64 high.result (record { sfits = high.type_inv })) in
     subst (λ (b : Iv 60). Holds b (part x)) (sym c.new.ensures) (share_holds a.lo a.hi c.from_ends.result.lo c.from_ends.result.hi x h k m)

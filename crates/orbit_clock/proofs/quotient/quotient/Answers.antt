@@ -14,16 +14,24 @@ use Rattle.orbit_clock.proofs.quotient.quotient.Goals as goal
 pub ratio-requires : goal.ratio-requires
 ratio-requires g c =
     let num = to_z-of_z w128 c.args.num c.ranges.num in
-    let den = to_z-of_z w128 c.args.den c.ranges.den in
-    (lit< tt, (c.requires.scale, (rw den c.requires.positive, rw num
-          (quotient_room c.args.num c.args.den g.row.K g.row.SIZE c.requires.scale c.requires.limit c.requires.positive c.requires.small c.requires.size))))
+    let den = to_z-of_z w128 c.args.den c.ranges.den in (
+      lit< tt,
+      (
+        c.requires.scale,
+        (
+          rw den c.requires.positive,
+          rw num
+              (quotient_room c.args.num c.args.den g.row.K g.row.SIZE c.requires.scale c.requires.limit c.requires.positive c.requires.small c.requires.size),
+        ),
+      ),
+    )
 
 pub unwrap-requires : goal.unwrap-requires
 unwrap-requires g c =
     let num = to_z-of_z w128 c.args.num c.ranges.num in
     let den = to_z-of_z w128 c.args.den c.ranges.den in
     ok_of c.ratio.result (λ h. not_past _ _ g.row.SIZE c.requires.limit
-          (same_ends c.args.num c.args.den _ _ g.row.K g.row.SIZE num den c.requires.positive c.requires.size) (c.ratio.ensures.refused.0 h))
+    (same_ends c.args.num c.args.den _ _ g.row.K g.row.SIZE num den c.requires.positive c.requires.size) (c.ratio.ensures.refused.0 h))
 
 pub new-requires : goal.new-requires
 new-requires g c =
@@ -33,9 +41,17 @@ new-requires g c =
     let den = to_z-of_z w128 c.args.den c.ranges.den in
     let e = same_ends c.args.num c.args.den n d g.row.K g.row.SIZE num den c.requires.positive c.requires.size in
     let at = IfOk-at_ok (λ r. (r.lo ≡ floor_div (n *ℤ pos (2 ^ g.row.K)) (unsigned_abs d)) × (r.hi ≡ ceil_div (n *ℤ pos (2 ^ g.row.K)) (unsigned_abs d))) c.unwrap.ensures c.ratio.ensures.ends in
-    let w = IfOk-at_ok (λ r. width_of r ≤ℤ pos 1) c.unwrap.ensures c.ratio.ensures.width in
-    (lit< tt, (lit< tt, (same_within c.unwrap.result.lo c.unwrap.result.hi (floor_div (n *ℤ pos (2 ^ g.row.K)) (unsigned_abs d))
-          (ceil_div (n *ℤ pos (2 ^ g.row.K)) (unsigned_abs d)) g.row.SIZE at.0 at.1 e.0 e.1, w)))
+    let w = IfOk-at_ok (λ r. width_of r ≤ℤ pos 1) c.unwrap.ensures c.ratio.ensures.width in (
+      lit< tt,
+      (
+        lit< tt,
+        (
+          same_within c.unwrap.result.lo c.unwrap.result.hi (floor_div (n *ℤ pos (2 ^ g.row.K)) (unsigned_abs d))
+              (ceil_div (n *ℤ pos (2 ^ g.row.K)) (unsigned_abs d)) g.row.SIZE at.0 at.1 e.0 e.1,
+          w,
+        ),
+      ),
+    )
 
 pub returns : goal.returns
 returns g c = λ x h.

@@ -13,7 +13,7 @@ returns c = λ sent q s.
     let tens = c.mul-tens.ensures.holds q.root_mu (of_whole (pos 10000)) (c.root_of_mu.ensures q.root_mu s.root_of_mu) c.ten_thousand.ensures.holds in
     let cube = c.cube.ensures.holds q.axis s.semi_major_axis in
     let computed = c.div-computed.ensures.holds (mul_r q.root_mu (of_whole (pos 10000))) (mul_r q.axis a) (times 10000 q.computed_motion) tens cube
-        (scaled_motion q.computed_motion q.axis a q.root_mu s.computed_mean_motion) in
+    (scaled_motion q.computed_motion q.axis a q.root_mu s.computed_mean_motion) in
     let sum = c.add.ensures.holds (times 10000 q.computed_motion) (times 10000 dn) computed (c.decimal_box-change.ensures.holds (times 10000 dn) refl) in
     InBox-along 60 c.add.result.held.lo c.add.result.held.hi (add_r (times 10000 q.computed_motion) (times 10000 dn)) (times 10000 q.motion)
-        (scaled_sum q.motion q.computed_motion dn s.corrected_mean_motion) sum
+    (scaled_sum q.motion q.computed_motion dn s.corrected_mean_motion) sum

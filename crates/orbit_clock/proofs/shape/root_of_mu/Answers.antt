@@ -13,8 +13,8 @@ new-requires c =
     let s : ℤ = c.scaled_mu-scaled.result in
     let own = to_z-of_z w64 s (record { sfits = c.scaled_mu-scaled.type_inv }) in
     let r = root_box s c.from_ends-mu.result.lo c.from_ends-mu.result.hi c.root_to.result.lo c.root_to.result.hi
-        (c.from_ends-mu.ensures.lo ∙ own) (c.from_ends-mu.ensures.hi ∙ own) c.scaled_mu-scaled.ensures.high c.root_to.ensures.not_negative
-        c.root_to.result.ordered c.root_to.ensures.near_low c.root_to.ensures.near_high in
+    (c.from_ends-mu.ensures.lo ∙ own) (c.from_ends-mu.ensures.hi ∙ own) c.scaled_mu-scaled.ensures.high c.root_to.ensures.not_negative
+    c.root_to.result.ordered c.root_to.ensures.near_low c.root_to.ensures.near_high in
     (lit< tt, (lit< tt, ((r.0, r.1), r.2)))
 
 pub returns : goal.returns
@@ -22,5 +22,5 @@ returns c = λ r near.
     let s : ℤ = c.scaled_mu-scaled.result in
     let own = to_z-of_z w64 s (record { sfits = c.scaled_mu-scaled.type_inv }) in
     let held = c.root_to.ensures.holds (of_whole c.args.world.now.mu) r (point_of_mu c.args.world.now.mu s c.from_ends-mu.result.lo
-          c.from_ends-mu.result.hi c.scaled_mu-scaled.ensures.value (c.from_ends-mu.ensures.lo ∙ own) (c.from_ends-mu.ensures.hi ∙ own)) near in
+    c.from_ends-mu.result.hi c.scaled_mu-scaled.ensures.value (c.from_ends-mu.ensures.lo ∙ own) (c.from_ends-mu.ensures.hi ∙ own)) near in
     subst (λ (b : Iv 36). Holds b r) (sym c.new.ensures) held

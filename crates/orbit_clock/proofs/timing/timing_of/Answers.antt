@@ -11,8 +11,8 @@ use Rattle.orbit_clock.proofs.timing.timing_of.Goals as goal
 pub returns : goal.returns
 returns c = λ q s.
     let own : IsSatelliteSolution (constants_of c.args.world.now) (elements_of c.args.eph.now) (sent_at c.args.tag.0 (to_z w64 (of_z w64 c.args.code))) q =
-        subst (λ (k : ℤ). IsSatelliteSolution (constants_of c.args.world.now) (elements_of c.args.eph.now) (sent_at c.args.tag.0 k) q)
-            (sym (to_z-of_z w64 c.args.code c.ranges.code)) s in
+    subst (λ (k : ℤ). IsSatelliteSolution (constants_of c.args.world.now) (elements_of c.args.eph.now) (sent_at c.args.tag.0 k) q)
+    (sym (to_z-of_z w64 c.args.code c.ranges.code)) s in
     c.timing_at.ensures q
-        (subst₂ (λ (w : World) (e : Eph). IsSatelliteSolution (constants_of w) (elements_of e) (sent_at c.args.tag.0 (to_z w64 (of_z w64 c.args.code))) q)
-          (sym c.of.ensures.world) (sym c.of.ensures.eph) own)
+    (subst₂ (λ (w : World) (e : Eph). IsSatelliteSolution (constants_of w) (elements_of e) (sent_at c.args.tag.0 (to_z w64 (of_z w64 c.args.code))) q)
+    (sym c.of.ensures.world) (sym c.of.ensures.eph) own)

@@ -9,5 +9,5 @@ returns c = record {
       let rate : Rational = sub_r r (times 10000 earth_rate) in
       let turn : Rational = mul_r earth_rate (of_whole (pos c.args.second)) in
       c.sub.ensures.holds (add_r n (mul_r rate t)) turn (c.add-drifted.ensures.holds n (mul_r rate t) hn
-            (c.mul-drift.ensures.holds rate t (c.sub-relative.ensures.holds r (times 10000 earth_rate) hr c.earth_rate.ensures) ht)) c.earth_turn.ensures;
+      (c.mul-drift.ensures.holds rate t (c.sub-relative.ensures.holds r (times 10000 earth_rate) hr c.earth_rate.ensures) ht)) c.earth_turn.ensures;
 }

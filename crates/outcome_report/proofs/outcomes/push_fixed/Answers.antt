@@ -7,4 +7,4 @@ pub returns : goal.returns
 returns c =
     let s = c.args.session.now in
     then_more c.args.text.now.items c.push_place.new.text.items c.push_verdict_line.new.text.items (baseline_line (baseline_of s.point s.base c.args.moved.now))
-        (codes "verdict fixed\n") c.in_ok-push_place.ensures c.in_ok-push_verdict_line.ensures
+    (codes "verdict fixed\n") c.in_ok-push_place.ensures c.in_ok-push_verdict_line.ensures

@@ -3,7 +3,7 @@ use Rattle.std.proofs.lemmas.Bool.{cases_eq}
 use Rattle.std.specs.Int.{w64, w128}
 use Rattle.form_tables.specs.Tables.{entry}
 use Rattle.reduced_form.specs.Transformed.{whole_entry}
-use Rattle.form_tables.proofs.Words.{as_w128}
+use Rattle.whole_math.proofs.Words.{as_w128}
 use Rattle.reduced_form.proofs.Words.{form_word}
 use Rattle.reduced_form.proofs.coordinates.write_row.Goals as goal
 

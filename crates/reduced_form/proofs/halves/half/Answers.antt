@@ -5,7 +5,7 @@ use Rattle.form_tables.specs.Tables.{entry}
 use Rattle.reduced_form.specs.Sums.{total}
 use Rattle.reduced_form.specs.Transformed.{with_constant}
 use Rattle.reduced_form.proofs.TotalLaws.{total_last}
-use Rattle.form_tables.proofs.Words.{as_w128}
+use Rattle.whole_math.proofs.Words.{as_w128}
 use Rattle.reduced_form.proofs.Words.{map_word, form_word, sum_word, sum_size}
 use Rattle.reduced_form.proofs.halves.half.Goals as goal
 

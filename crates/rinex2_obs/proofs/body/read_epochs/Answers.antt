@@ -34,7 +34,7 @@ epochs-preserved-in-Ok c =
     let gives = rw c.in-Ok-Some.field-0-is at c.in-Ok-Some.ensures in
     let answer = rw c.in-Ok-Event.field-0-is at c.in-Ok-Event.ensures.value in
     c.epochs.invariant ∙ goes_on obs2_rules (Body h epochs) (more_lines h epochs changes n) (epoch_line_of epochs bytes) (λ l.
-          Ok (after_epoch h epochs l)) (line.Event changes n) _ _ _ bytes gives refl answer refl
+    Ok (after_epoch h epochs l)) (line.Event changes n) _ _ _ bytes gives refl answer refl
     ∙ (rw c.in-Ok-Event.field-0-is at (c.in-Ok.ensures.reads h epochs))
 
 pub returns-in-Err-skip_lines : goal.returns-in-Err-skip_lines
@@ -47,7 +47,7 @@ returns-in-Err-skip_lines c =
     let gives = rw c.in-Ok-Some.field-0-is at c.in-Ok-Some.ensures in
     let answer = rw c.in-Ok-Event.field-0-is at c.in-Ok-Event.ensures.value in
     c.epochs.invariant ∙ goes_on obs2_rules (Body h epochs) (more_lines h epochs changes n) (epoch_line_of epochs bytes) (λ l.
-          Ok (after_epoch h epochs l)) (line.Event changes n) _ _ _ bytes gives refl answer refl
+    Ok (after_epoch h epochs l)) (line.Event changes n) _ _ _ bytes gives refl answer refl
     ∙ (rw c.in-Ok-Event.field-0-is at (c.in-Err-skip_lines.ensures.reads h epochs))
 
 pub epochs-preserved-in-Ok-skip_slips : goal.epochs-preserved-in-Ok-skip_slips
@@ -85,7 +85,7 @@ returns-in-Err-read_epoch c =
     let gives = rw c.in-Ok-Some.field-0-is at c.in-Ok-Some.ensures in
     let answer = rw c.in-Ok-Epoch.field-0-is at c.in-Ok-Epoch.ensures.value in
     handed_on _ _ c.in-Err-read_epoch.fault (c.epochs.invariant ∙ goes_on obs2_rules (Body h epochs) (more_names h epochs tag power list.names list.left)
-          (epoch_line_of epochs bytes) (λ l. Ok (after_epoch h epochs l)) (line.Epoch tag power list) _ _ _ bytes gives refl answer refl)
+    (epoch_line_of epochs bytes) (λ l. Ok (after_epoch h epochs l)) (line.Epoch tag power list) _ _ _ bytes gives refl answer refl)
     (rw c.in-Ok-Epoch.field-0-is at (c.in-Err-read_epoch.ensures.reads epochs tag power))
 
 pub epochs-preserved : goal.epochs-preserved
@@ -100,7 +100,7 @@ epochs-preserved c =
     let answer = rw c.in-Ok-Epoch.field-0-is at c.in-Ok-Epoch.ensures.value in
     let added = rw c.in-Ok-Epoch.field-0-is at c.in-Ok-push.ensures.added in
     rw added (c.epochs.invariant ∙ goes_on obs2_rules (Body h epochs) (more_names h epochs tag power list.names list.left)
-          (epoch_line_of epochs bytes) (λ l. Ok (after_epoch h epochs l)) (line.Epoch tag power list) _ _ _ bytes gives refl answer refl
+    (epoch_line_of epochs bytes) (λ l. Ok (after_epoch h epochs l)) (line.Epoch tag power list) _ _ _ bytes gives refl answer refl
     ∙ (rw c.in-Ok-Epoch.field-0-is at (c.in-Ok-read_epoch.ensures.reads epochs tag power)))
 
 pub returns-in-Err-epoch_line : goal.returns-in-Err-epoch_line

@@ -20,8 +20,8 @@ skipped-preserved c =
     record {
       reads = λ h epochs. c.skipped.invariant.reads h epochs
           ∙ goes_on obs2_rules (more_lines h epochs changes n) (more_lines h epochs changes (n - 1)) (event_line_of Rinex2 changes bytes)
-              (λ u. Ok (more_lines h epochs changes (n - 1))) tt _ _ _ bytes c.in-Ok.ensures
-              (admit_lines h epochs changes n bytes c.skipped-test.true) c.in-Ok-event_line.ensures refl;
+          (λ u. Ok (more_lines h epochs changes (n - 1))) tt _ _ _ bytes c.in-Ok.ensures
+          (admit_lines h epochs changes n bytes c.skipped-test.true) c.in-Ok-event_line.ensures refl;
       less = omega arith;
     }
 
@@ -32,4 +32,4 @@ returns-in-Err-event_line-clause-reads c = λ h epochs.
     let changes = c.args.changes in
     rw c.at.ensures (c.skipped.invariant.reads h epochs
     ∙ stops obs2_rules (more_lines h epochs changes n) (event_line_of Rinex2 changes bytes) (λ u. Ok (more_lines h epochs changes (n - 1))) _ _ _ _
-        bytes c.in-Ok.ensures (admit_lines h epochs changes n bytes c.skipped-test.true) c.in-Err-event_line.ensures)
+    bytes c.in-Ok.ensures (admit_lines h epochs changes n bytes c.skipped-test.true) c.in-Err-event_line.ensures)

@@ -19,8 +19,8 @@ further-preserved c =
     record {
       reads = λ h epochs rows. c.further.invariant.reads h epochs rows
           ∙ goes_on obs2_rules (more_slips h epochs n rows) (more_slips h epochs (n - 1) rows) (further_mark_of bytes)
-              (λ u. Ok (more_slips h epochs (n - 1) rows)) tt _ _ _ bytes c.in-Ok.ensures (admit_slips h epochs n rows bytes c.further-test.true)
-              c.in-Ok-further_mark.ensures refl;
+          (λ u. Ok (more_slips h epochs (n - 1) rows)) tt _ _ _ bytes c.in-Ok.ensures (admit_slips h epochs n rows bytes c.further-test.true)
+          c.in-Ok-further_mark.ensures refl;
       less = omega arith;
     }
 
@@ -30,7 +30,7 @@ returns-in-Err-further_mark-clause-reads c = λ h epochs rows.
     let n = c.further.left in
     rw c.at.ensures (c.further.invariant.reads h epochs rows
     ∙ stops obs2_rules (more_slips h epochs n rows) (further_mark_of bytes) (λ u. Ok (more_slips h epochs (n - 1) rows)) _ _ _ _ bytes c.in-Ok.ensures
-        (admit_slips h epochs n rows bytes c.further-test.true) c.in-Err-further_mark.ensures)
+    (admit_slips h epochs n rows bytes c.further-test.true) c.in-Err-further_mark.ensures)
 
 pub returns-clause-reads : goal.returns-clause-reads
 returns-clause-reads c = λ h epochs rows. c.further.invariant.reads h epochs rows

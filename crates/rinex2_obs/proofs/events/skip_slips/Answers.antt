@@ -10,7 +10,7 @@ returns-in-Ok-clause-reads c = λ epochs.
     let h = c.args.header.now in
     let rows = c.args.count * c.rows.result in
     let same : more_slips h epochs (further_lines_of c.args.count) (c.args.count * rows_of h.types) ≡ more_slips h epochs c.further_lines.result rows =
-        rw (c.further_lines.ensures, c.rows.ensures) refl in
+    rw (c.further_lines.ensures, c.rows.ensures) refl in
     let skipped = ap (λ (s : Expected). rest_gives obs2_rules c.args.lines.now s) same ∙ c.in-Ok.ensures.reads h epochs rows in
     reads_then obs2_rules (more_slips h epochs (further_lines_of c.args.count) (c.args.count * rows_of h.types)) (more_lines h epochs false rows)
-        (λ u. Body h epochs) _ _ _ c.skip_lines.result skipped (c.skip_lines.ensures.reads h epochs)
+    (λ u. Body h epochs) _ _ _ c.skip_lines.result skipped (c.skip_lines.ensures.reads h epochs)

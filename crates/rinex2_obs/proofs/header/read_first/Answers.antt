@@ -13,7 +13,7 @@ returns-in-Ok-first_line c =
     let bytes = c.in-Ok.line.bytes.now in
     let version = c.in-Ok-first_line.hundredths in
     goes_on obs2_rules First (Head (bare_header version)) (first_line_of bytes) (λ hundredths. Ok (Head (bare_header hundredths))) version _ _ _ bytes
-        c.in-Ok.ensures refl c.in-Ok-first_line.ensures refl
+    c.in-Ok.ensures refl c.in-Ok-first_line.ensures refl
 
 pub returns-in-Err-first_line : goal.returns-in-Err-first_line
 returns-in-Err-first_line c =

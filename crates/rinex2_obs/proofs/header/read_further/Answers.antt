@@ -18,7 +18,7 @@ returns-in-Err-further_types-clause-reads c = λ h.
     let n = c.lines.list.left in
     rw c.at.ensures (c.lines.invariant.reads h
     ∙ stops obs2_rules (more_types h names n) (further_types_of Rinex2 bytes names n) (λ list. Ok (more_types h list.names list.left)) _ _ _ _ bytes
-        c.in-Ok.ensures (admit_more h names n bytes c.lines-test.true) c.in-Err-further_types.ensures.value)
+    c.in-Ok.ensures (admit_more h names n bytes c.lines-test.true) c.in-Err-further_types.ensures.value)
 
 pub lines-preserved : goal.lines-preserved
 lines-preserved c =
@@ -30,8 +30,8 @@ lines-preserved c =
     record {
       reads = λ h. c.lines.invariant.reads h
           ∙ goes_on obs2_rules (more_types h names n) (more_types h list.names list.left) (further_types_of Rinex2 bytes names n)
-              (λ list. Ok (more_types h list.names list.left)) list _ _ _ bytes c.in-Ok.ensures (admit_more h names n bytes c.lines-test.true)
-              c.in-Ok-further_types.ensures.value refl;
+          (λ list. Ok (more_types h list.names list.left)) list _ _ _ bytes c.in-Ok.ensures (admit_more h names n bytes c.lines-test.true)
+          c.in-Ok-further_types.ensures.value refl;
       less = omega arith;
       room = c.in-Ok-further_types.ensures.room;
     }

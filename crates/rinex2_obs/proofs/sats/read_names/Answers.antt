@@ -21,8 +21,8 @@ returns-in-Err-further_names-clause-reads c = λ h epochs tag power.
     let n = c.names.list.left in
     rw c.at.ensures (c.names.invariant.reads h epochs tag power
     ∙ stops obs2_rules (more_names h epochs tag power names n) (further_names_of bytes names n)
-        (λ list. Ok (more_names h epochs tag power list.names list.left)) _ _ _ _ bytes c.in-Ok.ensures
-        (admit_names h epochs tag power names n bytes c.names-test.true) c.in-Err-further_names.ensures.value)
+    (λ list. Ok (more_names h epochs tag power list.names list.left)) _ _ _ _ bytes c.in-Ok.ensures
+    (admit_names h epochs tag power names n bytes c.names-test.true) c.in-Err-further_names.ensures.value)
 
 pub names-preserved : goal.names-preserved
 names-preserved c =
@@ -34,8 +34,8 @@ names-preserved c =
     record {
       reads = λ h epochs tag power. c.names.invariant.reads h epochs tag power
           ∙ goes_on obs2_rules (more_names h epochs tag power names n) (more_names h epochs tag power list.names list.left)
-              (further_names_of bytes names n) (λ list. Ok (more_names h epochs tag power list.names list.left)) list _ _ _ bytes c.in-Ok.ensures
-              (admit_names h epochs tag power names n bytes c.names-test.true) c.in-Ok-further_names.ensures.value refl;
+          (further_names_of bytes names n) (λ list. Ok (more_names h epochs tag power list.names list.left)) list _ _ _ bytes c.in-Ok.ensures
+          (admit_names h epochs tag power names n bytes c.names-test.true) c.in-Ok-further_names.ensures.value refl;
       less = omega arith;
       room = c.in-Ok-further_names.ensures.room;
     }

@@ -10,7 +10,7 @@ abbrev pub invariant-names : goal.invariant-names
 invariant-names l = record {
   reads : (h : Header) (epochs : List Epoch) (tag : Tick) (power : Bool)
       → rest_gives obs2_rules l.fn.lines (more_names h epochs tag power l.fn.list.names l.fn.list.left)
-        ≡ rest_gives obs2_rules l.lines (more_names h epochs tag power l.list.names l.list.left);
+      ≡ rest_gives obs2_rules l.lines (more_names h epochs tag power l.list.names l.list.left);
   less : length l.lines.left ≤ length l.fn.lines.left;
   room : length l.list.names + l.list.left ≤ 999;
 }

@@ -16,7 +16,7 @@ returns-in-Err-clause-reads c = λ epochs tag power sats names.
     let less : at < rows_of h.types = subst (λ (n : ℕ). at < n) c.rows-at-end.ensures c.loop-at-test.true in
     c.loop-at.invariant.reads epochs tag power sats names
     ∙ has_none obs2_rules (more_rows h epochs tag power sats (Some c.args.number) names at values) _ _ Truncated _
-        (finish_rows h epochs tag power sats (Some c.args.number) names at values less) c.in-Err.ensures
+    (finish_rows h epochs tag power sats (Some c.args.number) names at values less) c.in-Err.ensures
 
 pub returns-in-Err-set_values-clause-reads : goal.returns-in-Err-set_values-clause-reads
 returns-in-Err-set_values-clause-reads c = λ epochs tag power sats names.
@@ -28,7 +28,7 @@ returns-in-Err-set_values-clause-reads c = λ epochs tag power sats names.
     let less : at < rows_of h.types = subst (λ (n : ℕ). at < n) c.rows-at-end.ensures c.loop-at-test.true in
     rw c.at.ensures (c.loop-at.invariant.reads epochs tag power sats names
     ∙ stops obs2_rules (more_rows h epochs tag power sats (Some c.args.number) names at values) (values_in Rinex2 at kept bytes values)
-        (λ set. Ok (more_rows h epochs tag power sats (Some c.args.number) names (at + 1) set)) _ _ _ _ bytes c.in-Ok.ensures
+    (λ set. Ok (more_rows h epochs tag power sats (Some c.args.number) names (at + 1) set)) _ _ _ _ bytes c.in-Ok.ensures
     (admit_mine kept h epochs tag power sats c.args.number names at values bytes c.requires less) (sym c.in-Err-set_values.ensures.err))
 
 pub loop-at-preserved : goal.loop-at-preserved
@@ -44,8 +44,8 @@ loop-at-preserved c =
     record {
       reads = λ epochs tag power sats names. c.loop-at.invariant.reads epochs tag power sats names
           ∙ goes_on obs2_rules (more_rows h epochs tag power sats (Some c.args.number) names at values)
-              (more_rows h epochs tag power sats (Some c.args.number) names (at + 1) set) (values_in Rinex2 at kept bytes values)
-              (λ set. Ok (more_rows h epochs tag power sats (Some c.args.number) names (at + 1) set)) set _ _ _ bytes c.in-Ok.ensures
+          (more_rows h epochs tag power sats (Some c.args.number) names (at + 1) set) (values_in Rinex2 at kept bytes values)
+          (λ set. Ok (more_rows h epochs tag power sats (Some c.args.number) names (at + 1) set)) set _ _ _ bytes c.in-Ok.ensures
           (admit_mine kept h epochs tag power sats c.args.number names at values bytes c.requires less) (sym c.in-Ok-set_values.ensures.ok) refl;
       same = c.loop-at.invariant.same;
       less = omega (arith, fewer, c.loop-at.invariant.less);

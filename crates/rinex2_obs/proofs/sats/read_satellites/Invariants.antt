@@ -9,7 +9,7 @@ use Rattle.rinex2_obs.proofs.sats.read_satellites.Given as goal
 abbrev pub invariant-loop-name : goal.invariant-loop-name
 invariant-loop-name l = record {
   reads : (epochs : List Epoch) (tag : Tick) (power : Bool) → rest_gives obs2_rules l.fn.lines (more_sats l.header epochs tag power [] l.names)
-        ≡ rest_gives obs2_rules l.lines (more_sats l.header epochs tag power l.sats (drop l.name-index l.names));
+      ≡ rest_gives obs2_rules l.lines (more_sats l.header epochs tag power l.sats (drop l.name-index l.names));
   named : AreNames (drop l.name-index l.names);
   new : AreNew l.sats (drop l.name-index l.names);
   less : length l.lines.left ≤ length l.fn.lines.left;

@@ -24,7 +24,7 @@ loop-at-preserved c =
     record {
       reads = λ epochs tag power sats names. c.loop-at.invariant.reads epochs tag power sats names
           ∙ takes obs2_rules (more_rows h epochs tag power sats None names at missing_values) (more_rows h epochs tag power sats None names
-                (at + 1) missing_values) _ _ _ _ c.in-Ok.ensures (admit_other h epochs tag power sats names at missing_values _ less);
+          (at + 1) missing_values) _ _ _ _ c.in-Ok.ensures (admit_other h epochs tag power sats names at missing_values _ less);
       less = omega (arith, fewer, c.loop-at.invariant.less);
       end = c.loop-at.invariant.end;
     }

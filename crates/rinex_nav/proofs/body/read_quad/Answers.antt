@@ -14,10 +14,10 @@ returns-in-Ok-continuation-clause-reads c = λ system raws s quads at.
     let bytes = c.in-Ok.line.bytes.now in
     let q = c.in-Ok-continuation.quad in
     goes_on (nav_rules system) (Further raws s quads) (behind raws s (quads ++ q ∷ [])) (continuation_of (length quads) bytes)
-        (λ p. Ok (behind raws s (quads ++ p ∷ []))) q _ _ _ bytes c.in-Ok.ensures refl (rw at c.in-Ok-continuation.ensures) refl
+    (λ p. Ok (behind raws s (quads ++ p ∷ []))) q _ _ _ bytes c.in-Ok.ensures refl (rw at c.in-Ok-continuation.ensures) refl
 
 pub returns-in-Err-continuation-clause-reads : goal.returns-in-Err-continuation-clause-reads
 returns-in-Err-continuation-clause-reads c = λ system raws s quads at.
     let bytes = c.in-Ok.line.bytes.now in
     rw c.at.ensures (stops (nav_rules system) (Further raws s quads) (continuation_of (length quads) bytes)
-          (λ p. Ok (behind raws s (quads ++ p ∷ []))) _ _ _ _ bytes c.in-Ok.ensures refl (rw at c.in-Err-continuation.ensures))
+    (λ p. Ok (behind raws s (quads ++ p ∷ []))) _ _ _ _ bytes c.in-Ok.ensures refl (rw at c.in-Err-continuation.ensures))

@@ -23,7 +23,7 @@ records-preserved-in-Ok-Passed c =
     let gives = rw c.in-Ok-Some.field-0-is at c.in-Ok-Some.ensures in
     let count : length raws ≡ length c.all.result.now = ap (λ (rs : List Raw). length rs) (sym c.all.ensures) in
     c.records.invariant ∙ goes_on (nav_rules c.args.system) (Body raws skipping) (Body raws skipping) (body_line_of c.args.system (length raws) skipping bytes)
-        (λ l. Ok (after_body raws skipping l)) line.Passed _ _ _ bytes gives refl (rw count (rw c.in-Ok-Passed.field-0-is at c.in-Ok-Passed.ensures)) refl
+    (λ l. Ok (after_body raws skipping l)) line.Passed _ _ _ bytes gives refl (rw count (rw c.in-Ok-Passed.field-0-is at c.in-Ok-Passed.ensures)) refl
 
 pub records-preserved-in-Ok-Other : goal.records-preserved-in-Ok-Other
 records-preserved-in-Ok-Other c =
@@ -33,7 +33,7 @@ records-preserved-in-Ok-Other c =
     let gives = rw c.in-Ok-Some.field-0-is at c.in-Ok-Some.ensures in
     let count : length raws ≡ length c.all.result.now = ap (λ (rs : List Raw). length rs) (sym c.all.ensures) in
     c.records.invariant ∙ goes_on (nav_rules c.args.system) (Body raws skipping) (Body raws true) (body_line_of c.args.system (length raws) skipping bytes)
-        (λ l. Ok (after_body raws skipping l)) line.Other _ _ _ bytes gives refl (rw count (rw c.in-Ok-Other.field-0-is at c.in-Ok-Other.ensures)) refl
+    (λ l. Ok (after_body raws skipping l)) line.Other _ _ _ bytes gives refl (rw count (rw c.in-Ok-Other.field-0-is at c.in-Ok-Other.ensures)) refl
 
 pub records-preserved : goal.records-preserved
 records-preserved c =
@@ -45,8 +45,8 @@ records-preserved c =
     let s = c.in-Ok-Record.start in
     let added = c.in-Ok-push.ensures.added in
     rw added (c.records.invariant
-          ∙ goes_on (nav_rules c.args.system) (Body raws skipping) (Further raws s []) (body_line_of c.args.system (length raws) skipping bytes) (λ l.
-            Ok (after_body raws skipping l)) (line.Record s) _ _ _ bytes gives refl (rw count (rw c.in-Ok-Record.field-0-is at c.in-Ok-Record.ensures)) refl
+    ∙ goes_on (nav_rules c.args.system) (Body raws skipping) (Further raws s []) (body_line_of c.args.system (length raws) skipping bytes) (λ l.
+    Ok (after_body raws skipping l)) (line.Record s) _ _ _ bytes gives refl (rw count (rw c.in-Ok-Record.field-0-is at c.in-Ok-Record.ensures)) refl
     ∙ (rw c.in-Ok-Record.field-0-is at (c.in-Ok.ensures.reads c.args.system raws)))
 
 pub returns-in-Err-read_record : goal.returns-in-Err-read_record
@@ -58,7 +58,7 @@ returns-in-Err-read_record c =
     let count : length raws ≡ length c.all.result.now = ap (λ (rs : List Raw). length rs) (sym c.all.ensures) in
     let s = c.in-Ok-Record.start in
     c.records.invariant ∙ goes_on (nav_rules c.args.system) (Body raws skipping) (Further raws s []) (body_line_of c.args.system (length raws) skipping bytes)
-        (λ l. Ok (after_body raws skipping l)) (line.Record s) _ _ _ bytes gives refl (rw count (rw c.in-Ok-Record.field-0-is at c.in-Ok-Record.ensures)) refl
+    (λ l. Ok (after_body raws skipping l)) (line.Record s) _ _ _ bytes gives refl (rw count (rw c.in-Ok-Record.field-0-is at c.in-Ok-Record.ensures)) refl
     ∙ (rw c.in-Ok-Record.field-0-is at (c.in-Err-read_record.ensures.reads c.args.system raws))
 
 pub returns-in-Err-body_line : goal.returns-in-Err-body_line
@@ -69,4 +69,4 @@ returns-in-Err-body_line c =
     let gives = rw c.in-Ok-Some.field-0-is at c.in-Ok-Some.ensures in
     let count : length raws ≡ length c.all.result.now = ap (λ (rs : List Raw). length rs) (sym c.all.ensures) in
     rw c.at.ensures (c.records.invariant ∙ stops (nav_rules c.args.system) (Body raws skipping) (body_line_of c.args.system (length raws) skipping bytes) (λ l.
-            Ok (after_body raws skipping l)) _ _ _ _ bytes gives refl (rw count c.in-Err-body_line.ensures))
+    Ok (after_body raws skipping l)) _ _ _ _ bytes gives refl (rw count c.in-Err-body_line.ensures))

@@ -18,9 +18,9 @@ returns-in-Err c = λ system. c.header.invariant system ∙ has_none (nav_rules 
 pub returns-then-is_last : goal.returns-then-is_last
 returns-then-is_last c = λ system.
     c.header.invariant system ∙ takes (nav_rules system) Head (Body [] false) _ _ _ c.in-Ok.line.bytes.now c.in-Ok.ensures
-        (at_end system c.in-Ok.line.bytes.now true (sym c.if-is_last.true ∙ c.is_last.ensures))
+    (at_end system c.in-Ok.line.bytes.now true (sym c.if-is_last.true ∙ c.is_last.ensures))
 
 pub header-preserved : goal.header-preserved
 header-preserved c = λ system.
     c.header.invariant system ∙ takes (nav_rules system) Head Head _ _ _ c.in-Ok.line.bytes.now c.in-Ok.ensures
-        (at_end system c.in-Ok.line.bytes.now false (sym c.if-is_last.false ∙ c.is_last.ensures))
+    (at_end system c.in-Ok.line.bytes.now false (sym c.if-is_last.false ∙ c.is_last.ensures))

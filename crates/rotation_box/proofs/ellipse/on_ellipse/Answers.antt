@@ -32,6 +32,6 @@ returns-clause-true_anomaly c = λ e w p v h k r i.
     let sin = c.div-sin.result.held in
     both_along c.new-true_anomaly.result.cos c.new-true_anomaly.result.sin cos sin v c.new-true_anomaly.ensures.cos c.new-true_anomaly.ensures.sin
     (quotients_held ecc.held a.cos a.sin c.cosine.result.held c.sine.result.held c.root_of_rest-root.result.held c.radius_of-radius.result.held
-      c.sub-shifted.result.held c.mul-shortened.result.held cos sin
+    c.sub-shifted.result.held c.mul-shortened.result.held cos sin
     c.cosine.ensures c.sine.ensures c.radius_of-radius.ensures.holds c.sub-shifted.ensures.holds c.mul-shortened.ensures.holds c.div-cos.ensures.holds c.div-sin.ensures.holds
     e w p v h k (c.root_of_rest-root.ensures.holds e w h r) i)

@@ -20,7 +20,7 @@ new-requires c =
       ordered = r.ordered;
       not_negative = c.root_to.ensures.not_negative;
       near_low = c.root_to.ensures.near_low;
-      near_high = c.root_to.ensures.near_high
+      near_high = c.root_to.ensures.near_high;
     } in
     let low : neg_ℤ (pos (1025 * 2 ^ 50)) ≤ℤ r.lo = omega (arith, ints, c.root_to.ensures.not_negative) in
     (omega arith, (omega arith, ((low, root_high n.lo n.hi r.lo r.hi b), root_narrow n.lo n.hi r.lo r.hi b)))
@@ -41,7 +41,7 @@ returns-clause-near c = λ e h.
       ordered = r.ordered;
       not_negative = c.root_to.ensures.not_negative;
       near_low = c.root_to.ensures.near_low;
-      near_high = c.root_to.ensures.near_high
+      near_high = c.root_to.ensures.near_high;
     } in
     subst (λ (b : Iv 60). AreWithin (two_to_minus 50) (mul_r (of_scale 60 b.lo) (of_scale 60 b.lo)) (sub_r one (mul_r e e))) (sym c.new.ensures)
     (root_near n.lo n.hi r.lo r.hi (sub_r one (mul_r e e)) b (c.rest_of.ensures.holds e h))

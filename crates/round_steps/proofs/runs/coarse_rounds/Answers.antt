@@ -15,7 +15,7 @@ returns-in-Ok-Settled g c =
 pub rounds-smaller : goal.rounds-smaller
 rounds-smaller g c =
     let m : (nat_eq c.rounds.made (most_rounds 14) ≡ false) × IsMoved c.in-Some.session c.in-Ok-Moved.field-0-1 c.in-Ok-Moved.moved =
-        subst (IsStep (nat_eq c.rounds.made (most_rounds 14)) c.in-Some.session) c.in-Ok-Moved.field-0-is c.in-Ok-Moved.ensures.step in
+    subst (IsStep (nat_eq c.rounds.made (most_rounds 14)) c.in-Some.session) c.in-Ok-Moved.field-0-is c.in-Ok-Moved.ensures.step in
     less c.rounds.made (one_more c.rounds.made (most_rounds 14) c.rounds.invariant.few m.0)
   where
     less : (n : ℕ) → n + 1 ≤ most_rounds 14 → most_rounds 14 - (n + 1) < most_rounds 14 - n
@@ -27,7 +27,7 @@ rounds-preserved g c =
     let s = c.in-Some.session in
     let k : IsSessionOf rules (coarse c.rounds.point c.args.arcs.now) s = session_at rules (coarse c.rounds.point c.args.arcs.now) c.in_ok-session.field-0 s c.in-Some.is c.in_ok-session.ensures in
     let m : (nat_eq c.rounds.made (most_rounds 14) ≡ false) × IsMoved s c.in-Ok-Moved.field-0-1 c.in-Ok-Moved.moved =
-        subst (IsStep (nat_eq c.rounds.made (most_rounds 14)) s) c.in-Ok-Moved.field-0-is c.in-Ok-Moved.ensures.step in
+    subst (IsStep (nat_eq c.rounds.made (most_rounds 14)) s) c.in-Ok-Moved.field-0-is c.in-Ok-Moved.ensures.step in
     coarse_moves rules c.rounds.point c.args.arcs.now c.rounds.made s c.in-Ok-Moved.field-0-1 c.in-Ok-Moved.moved c.rounds.invariant k m.0 m.1
 
 pub returns-in-Err : goal.returns-in-Err

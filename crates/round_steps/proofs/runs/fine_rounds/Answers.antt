@@ -28,7 +28,7 @@ returns-in_default-clause-end g c =
     let rules : Rules = g.R.Rounds.rules c.args.rounds.now in
     fine_at_y rules c.rounds.point c.rounds.arcs.items c.args.coarse c.rounds.fine c.rounds.invariant
     (subst (IsSessionAt rules (fine c.rounds.point c.rounds.arcs.items)) c.in_default.is
-      (subst (λ (a : List Arc). IsSessionAt rules (fine c.rounds.point a) c.in_ok-session.field-0) c.as_slice.ensures.value c.in_ok-session.ensures))
+    (subst (λ (a : List Arc). IsSessionAt rules (fine c.rounds.point a) c.in_ok-session.field-0) c.as_slice.ensures.value c.in_ok-session.ensures))
 
 pub returns-in-Ok-Settled-clause-end : goal.returns-in-Ok-Settled-clause-end
 returns-in-Ok-Settled-clause-end g c =
@@ -36,16 +36,16 @@ returns-in-Ok-Settled-clause-end g c =
     let s = c.in-Some.session in
     let a : List Arc = c.rounds.arcs.items in
     let k : IsSessionOf rules (fine c.rounds.point a) s =
-        session_at rules (fine c.rounds.point a) c.in_ok-session.field-0 s c.in-Some.is
-            (subst (λ (a : List Arc). IsSessionAt rules (fine c.rounds.point a) c.in_ok-session.field-0) c.as_slice.ensures.value c.in_ok-session.ensures) in
+    session_at rules (fine c.rounds.point a) c.in_ok-session.field-0 s c.in-Some.is
+    (subst (λ (a : List Arc). IsSessionAt rules (fine c.rounds.point a) c.in_ok-session.field-0) c.as_slice.ensures.value c.in_ok-session.ensures) in
     let t : IsSettledForm s c.in-Ok-Settled.form = subst (IsStep (nat_eq c.rounds.fine (most_rounds 0)) s) c.in-Ok-Settled.field-0-is c.in-Ok-Settled.ensures.step in
     fine_decides rules c.rounds.point a c.args.coarse c.rounds.fine c.args.ratio c.args.budget s c.in-Ok-Settled.form c.decide_settled-tail.result
-        c.rounds.invariant k t c.decide_settled-tail.ensures.decision
+    c.rounds.invariant k t c.decide_settled-tail.ensures.decision
 
 pub grown-requires-clause-numbers : goal.grown-requires-clause-numbers
 grown-requires-clause-numbers g c =
     let m : (nat_eq c.rounds.fine (most_rounds 0) ≡ false) × IsMoved c.in-Some.session c.in-Ok-Moved.numbers c.in-Ok-Moved.moved =
-        subst (IsStep (nat_eq c.rounds.fine (most_rounds 0)) c.in-Some.session) c.in-Ok-Moved.field-0-is c.in-Ok-Moved.ensures.step in
+    subst (IsStep (nat_eq c.rounds.fine (most_rounds 0)) c.in-Some.session) c.in-Ok-Moved.field-0-is c.in-Ok-Moved.ensures.step in
     let f = m.1.unsettled.float in
     narrow_numbers f.form c.in-Ok-Moved.numbers f.numbers f.narrow
 
@@ -59,8 +59,8 @@ returns-in-Err-clause-end g c =
     let s = c.in-Some.session in
     let a : List Arc = c.rounds.arcs.items in
     let k : IsSessionOf rules (fine c.rounds.point a) s =
-        session_at rules (fine c.rounds.point a) c.in_ok-session.field-0 s c.in-Some.is
-            (subst (λ (a : List Arc). IsSessionAt rules (fine c.rounds.point a) c.in_ok-session.field-0) c.as_slice.ensures.value c.in_ok-session.ensures) in
+    session_at rules (fine c.rounds.point a) c.in_ok-session.field-0 s c.in-Some.is
+    (subst (λ (a : List Arc). IsSessionAt rules (fine c.rounds.point a) c.in_ok-session.field-0) c.as_slice.ensures.value c.in_ok-session.ensures) in
     fine_declines rules c.rounds.point a c.args.coarse c.rounds.fine c.args.ratio c.args.budget s c.in-Err.tail c.rounds.invariant k c.in-Err.ensures.declined
 
 pub rounds-preserved : goal.rounds-preserved
@@ -69,10 +69,10 @@ rounds-preserved g c =
     let s = c.in-Some.session in
     let a : List Arc = c.rounds.arcs.items in
     let k : IsSessionOf rules (fine c.rounds.point a) s =
-        session_at rules (fine c.rounds.point a) c.in_ok-session.field-0 s c.in-Some.is
-            (subst (λ (a : List Arc). IsSessionAt rules (fine c.rounds.point a) c.in_ok-session.field-0) c.as_slice.ensures.value c.in_ok-session.ensures) in
+    session_at rules (fine c.rounds.point a) c.in_ok-session.field-0 s c.in-Some.is
+    (subst (λ (a : List Arc). IsSessionAt rules (fine c.rounds.point a) c.in_ok-session.field-0) c.as_slice.ensures.value c.in_ok-session.ensures) in
     let m : (nat_eq c.rounds.fine (most_rounds 0) ≡ false) × IsMoved s c.in-Ok-Moved.numbers c.in-Ok-Moved.moved =
-        subst (IsStep (nat_eq c.rounds.fine (most_rounds 0)) s) c.in-Ok-Moved.field-0-is c.in-Ok-Moved.ensures.step in
+    subst (IsStep (nat_eq c.rounds.fine (most_rounds 0)) s) c.in-Ok-Moved.field-0-is c.in-Ok-Moved.ensures.step in
     let v = c.as_slice-in-Ok-Moved.ensures.value in
     fine_moves rules c.rounds.point a c.args.coarse c.rounds.fine s c.in-Ok-Moved.numbers c.in-Ok-Moved.moved c.in_ok-arcs-in-Ok-Moved.arcs.items c.rounds.invariant k m.0 m.1
     (subst (λ (ss : List ℕ). AreGrown a ss c.in-Ok-Moved.numbers c.in_ok-arcs-in-Ok-Moved.arcs.items) c.fine_signals.ensures.value

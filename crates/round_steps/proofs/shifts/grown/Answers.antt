@@ -18,7 +18,7 @@ loop-k-preserved c =
       grown = more_grown k arcs c.args.signals.now c.args.numbers.now c.loop-k.after.items c.push.new.self.items (get_or arcs k d) c.loop-k.invariant.grown (slice_get-get_or arcs k d inside)
           (pushed ∙ ap (λ (r : Arc). c.loop-k.after.items ++ r ∷ []) c.grown_arc.ensures.grown);
       below = λ m h z. subst (AreShiftsBelow (m + 2 ^ 30)) (sym pushed) (All-push (λ (b : Arc). All (IsBelow (m + 2 ^ 30)) b.shift)
-            c.loop-k.after.items c.grown_arc.result (c.loop-k.invariant.below m h z) (c.grown_arc.ensures.below m (h k d inside) z));
+          c.loop-k.after.items c.grown_arc.result (c.loop-k.invariant.below m h z) (c.grown_arc.ensures.below m (h k d inside) z));
     }
 
 pub returns-clause-grown : goal.returns-clause-grown

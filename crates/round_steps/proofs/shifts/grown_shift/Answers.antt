@@ -14,7 +14,7 @@ integer_of-number-requires-clause-entries c =
     let whole : length c.args.numbers.now ≡ 63 = search rules in
     let room : length (take 60 (drop 3 c.args.numbers.now)) ≡ 60 = ap length (behind c.args.numbers.now 3 60 whole) ∙ length-drop 3 c.args.numbers.now ∙ ap (λ (n : ℕ). n - 3) whole in
     few_integers (length (phases c.args.signals.now)) (free_count c.args.arcs.now) (length (take 60 (drop 3 c.args.numbers.now)))
-        c.requires.counted.phases_few c.requires.few_free (subst (λ (n : ℕ). 60 ≤ n) (sym room) (omega arith))
+    c.requires.counted.phases_few c.requires.few_free (subst (λ (n : ℕ). 60 ≤ n) (sym room) (omega arith))
 
 pub growth-requires : goal.growth-requires
 growth-requires c =
@@ -22,7 +22,7 @@ growth-requires c =
     let n : ℤ = c.integer_of-number.result in
     let small : unsigned_abs n < 2 ^ 46 =
     c.integer_of-number.ensures.size (2 ^ 46) (subst (All (IsBelow (2 ^ 46))) (sym (behind c.args.numbers.now 3 60 whole))
-          (small_drop c.args.numbers.now 3 (2 ^ 46) c.requires.numbers)) (omega arith) in
+    (small_drop c.args.numbers.now 3 (2 ^ 46) c.requires.numbers)) (omega arith) in
     subst (λ (x : ℤ). unsigned_abs x < 2 ^ 46) (sym (word n small)) small
 
 pub returns-clause-value : goal.returns-clause-value

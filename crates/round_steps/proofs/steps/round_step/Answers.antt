@@ -9,8 +9,7 @@ use Rattle.round_steps.proofs.steps.round_step.Goals as goal
 pub returns-then-last-clause-declined : goal.returns-then-last-clause-declined
 returns-then-last-clause-declined c =
     let float : IsFloatOf c.args.session.now c.in-Ok.solved.numbers =
-        record { form = c.in-Ok.solved.form; of_rows = c.in-Ok.ensures.form; narrow = c.in-Ok.ensures.narrow; numbers = c.in-Ok.ensures.numbers } in
-    (
+    record { form = c.in-Ok.solved.form; of_rows = c.in-Ok.ensures.form; narrow = c.in-Ok.ensures.narrow; numbers = c.in-Ok.ensures.numbers } in (
       c.if-last.true,
       (
         c.in-Ok.solved.numbers,
@@ -25,7 +24,7 @@ returns-then-last-clause-declined c =
 pub returns-then-not-is_receiver_point-clause-declined : goal.returns-then-not-is_receiver_point-clause-declined
 returns-then-not-is_receiver_point-clause-declined c =
     let float : IsFloatOf c.args.session.now c.in-Ok.solved.numbers =
-        record { form = c.in-Ok.solved.form; of_rows = c.in-Ok.ensures.form; narrow = c.in-Ok.ensures.narrow; numbers = c.in-Ok.ensures.numbers } in
+    record { form = c.in-Ok.solved.form; of_rows = c.in-Ok.ensures.form; narrow = c.in-Ok.ensures.narrow; numbers = c.in-Ok.ensures.numbers } in
     inr (inr (
       refl,
       (
@@ -42,8 +41,7 @@ returns-then-not-is_receiver_point-clause-declined c =
 pub returns-clause-step : goal.returns-clause-step
 returns-clause-step c =
     let float : IsFloatOf c.args.session.now c.in-Ok.solved.numbers =
-        record { form = c.in-Ok.solved.form; of_rows = c.in-Ok.ensures.form; narrow = c.in-Ok.ensures.narrow; numbers = c.in-Ok.ensures.numbers } in
-    (
+    record { form = c.in-Ok.solved.form; of_rows = c.in-Ok.ensures.form; narrow = c.in-Ok.ensures.narrow; numbers = c.in-Ok.ensures.numbers } in (
       c.if-last.false,
       record {
         entry = c.in-Some.entry;

@@ -27,7 +27,7 @@ returns-in-Ok-Early-clause-answer g c =
       not_many = λ h. false≢true (c.if-are_many.ensures.1 (subst AreMany (sym c.requires.arcs) h));
     } in
     let e : EndsEarly rules c.in-Ok-Early.made c.in-Ok-Early.stage c.in-Ok-Early.tail =
-        subst (IsEnd rules c.args.options.now.ratio c.args.options.now.budget) c.in-Ok-Early.field-0-is c.in-Ok-Early.ensures.end in
+    subst (IsEnd rules c.args.options.now.ratio c.args.options.now.budget) c.in-Ok-Early.field-0-is c.in-Ok-Early.ensures.end in
     (on, e)
 
 pub returns-in-Ok-Full-clause-answer : goal.returns-in-Ok-Full-clause-answer
@@ -38,7 +38,7 @@ returns-in-Ok-Full-clause-answer g c =
       not_many = λ h. false≢true (c.if-are_many.ensures.1 (subst AreMany (sym c.requires.arcs) h));
     } in
     let e : EndsFull rules c.args.options.now.ratio c.args.options.now.budget c.in-Ok-Full.made c.in-Ok-Full.session c.in-Ok-Full.tail =
-        subst (IsEnd rules c.args.options.now.ratio c.args.options.now.budget) c.in-Ok-Full.field-0-is c.in-Ok-Full.ensures.end in
+    subst (IsEnd rules c.args.options.now.ratio c.args.options.now.budget) c.in-Ok-Full.field-0-is c.in-Ok-Full.ensures.end in
     (on, record { ratio = refl; budget = refl; ends = e })
 
 pub run-requires-clause-ready : goal.run-requires-clause-ready

@@ -59,7 +59,7 @@ returns-in-Ok-outcome-clause-outcome c = record {
   kept_is = c.in-Ok-outcome.ensures.kept ∙ ap (λ (l : List Arc). length l) c.as_slice.ensures;
   kept_few = subst (λ (n : ℕ). n ≤ 54000) (sym (c.in-Ok-outcome.ensures.kept ∙ ap (λ (l : List Arc). length l) c.as_slice.ensures)) (few_kept c.in-Ok-screened.rounds c.in-Ok-screened.ensures.cut);
   delta_is = subst (λ (b : Bool). (IsTrue b → HasDelta c.args.base.now ⊎ HasDelta c.args.rover.now)
-        × (HasDelta c.args.base.now ⊎ HasDelta c.args.rover.now → IsTrue b)) (sym c.in-Ok-outcome.ensures.delta) c.have_delta-delta.ensures;
+      × (HasDelta c.args.base.now ⊎ HasDelta c.args.rover.now → IsTrue b)) (sym c.in-Ok-outcome.ensures.delta) c.have_delta-delta.ensures;
   answer_is = c.in-Ok-outcome.ensures.answer;
 }
 

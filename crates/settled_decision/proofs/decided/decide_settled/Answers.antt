@@ -28,7 +28,7 @@ found_of s f budget d b same moved narrow two kept upper bounded = record {
   narrow = λ w. narrow (subst HasWide moved w);
   top_is = upper ∙ ap (λ (x : TwoBest). top f.h s.arcs (fine_signals s.signals) s.pairs (first_of x) d.moved) (sym same);
   bounded = λ w. bounded (subst (λ (m : List ℤ). AreWide s.arcs (fine_signals s.signals) s.pairs (first_of b) m) moved
-        (subst (λ (x : TwoBest). AreWide s.arcs (fine_signals s.signals) s.pairs (first_of x) d.moved) same w));
+      (subst (λ (x : TwoBest). AreWide s.arcs (fine_signals s.signals) s.pairs (first_of x) d.moved) same w));
 }
 
 pub returns-in-Ok-decide-clause-decision : goal.returns-in-Ok-decide-clause-decision
@@ -40,11 +40,11 @@ returns-in-Ok-decide-clause-decision c =
     let same : d.best ≡ b = c.in-Ok-decide.ensures.best in
     let narrow : HasWide (move_of f (first_of b)) → ⊥ = c.in-Ok-decide.ensures.float.1 in
     let found : AreFound s f c.args.budget f.h d.moved d.best d.top =
-        found_of s f c.args.budget d b same c.in-Ok-decide.ensures.moved narrow c.in-Ok.ensures.found c.in-Ok.ensures.visits
-            c.in-Ok-decide.ensures.top (λ w. c.in-Ok-decide.ensures.sum.1 (narrow, w)) in
+    found_of s f c.args.budget d b same c.in-Ok-decide.ensures.moved narrow c.in-Ok.ensures.found c.in-Ok.ensures.visits
+    c.in-Ok-decide.ensures.top (λ w. c.in-Ok-decide.ensures.sum.1 (narrow, w)) in
     let word : to_z w128 (of_z w128 d.top) ≡ d.top = top_word d.top c.in-Ok-decide.ensures.top_from c.in-Ok-decide.ensures.top_to in
     told_decision s f c.args.ratio c.args.budget f.h d.moved d.best d.top d.fixed c.of_vectors.result
-        (subst (λ (t : ℤ). c.of_vectors.result ≡ tail_of_vectors d.fixed f.h d.moved d.best t) word c.of_vectors.ensures.value) found
+    (subst (λ (t : ℤ). c.of_vectors.result ≡ tail_of_vectors d.fixed f.h d.moved d.best t) word c.of_vectors.ensures.value) found
     (λ h. subst (λ (x : TwoBest). IsSeparated (pos c.args.ratio) d.top x.p2) (sym same) (c.in-Ok-decide.ensures.fixed.0 h))
     (λ h. c.in-Ok-decide.ensures.fixed.1 (subst (λ (x : TwoBest). IsSeparated (pos c.args.ratio) d.top x.p2) same h))
 
@@ -52,7 +52,7 @@ pub returns-in-Ok-decide-clause-strictly_best : goal.returns-in-Ok-decide-clause
 returns-in-Ok-decide-clause-strictly_best c =
     let d = c.in-Ok-decide.decision in
     told_best c.args.session.now c.args.form.now.h d.moved d.best c.in-Ok.best (to_z w128 (of_z w128 d.top)) d.fixed c.of_vectors.result
-        c.of_vectors.ensures.value c.in-Ok-decide.ensures.best c.in-Ok-decide.ensures.strictly_best
+    c.of_vectors.ensures.value c.in-Ok-decide.ensures.best c.in-Ok-decide.ensures.strictly_best
 
 pub returns-in-Ok-decide-clause-fits : goal.returns-in-Ok-decide-clause-fits
 returns-in-Ok-decide-clause-fits c =
@@ -62,8 +62,8 @@ returns-in-Ok-decide-clause-fits c =
     let b = c.in-Ok.best in
     let narrow : HasWide (move_of f (first_of b)) → ⊥ = c.in-Ok-decide.ensures.float.1 in
     let found : AreFound s f c.args.budget f.h d.moved d.best d.top =
-        found_of s f c.args.budget d b c.in-Ok-decide.ensures.best c.in-Ok-decide.ensures.moved narrow c.in-Ok.ensures.found c.in-Ok.ensures.visits
-            c.in-Ok-decide.ensures.top (λ w. c.in-Ok-decide.ensures.sum.1 (narrow, w)) in
+    found_of s f c.args.budget d b c.in-Ok-decide.ensures.best c.in-Ok-decide.ensures.moved narrow c.in-Ok.ensures.found c.in-Ok.ensures.visits
+    c.in-Ok-decide.ensures.top (λ w. c.in-Ok-decide.ensures.sum.1 (narrow, w)) in
     let word : to_z w128 (of_z w128 d.top) ≡ d.top = top_word d.top c.in-Ok-decide.ensures.top_from c.in-Ok-decide.ensures.top_to in
     c.of_vectors.ensures.fits (fine_signals s.signals) s.arcs c.args.budget
     (subst (λ (t : ℤ). AreVectors (fine_signals s.signals) s.arcs f.h d.moved d.best t) (sym word)

@@ -26,4 +26,4 @@ quotient_of-requires-clause-high c = high c.args.range.now.lo c.args.x.now.lo c.
 pub returns : goal.returns
 returns c = λ q m r s u hq hr hm up down e.
     c.spread_of.ensures u (c.quotient_of.ensures.holds (sub_r m (mul_r (of_whole (pos 2)) q)) (add_r r s) u
-          (c.move_less_twice.ensures.holds q m hq hm) (c.sum_of_ranges.ensures.holds r s hr up down) e)
+    (c.move_less_twice.ensures.holds q m hq hm) (c.sum_of_ranges.ensures.holds r s hr up down) e)

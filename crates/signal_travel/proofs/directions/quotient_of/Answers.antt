@@ -29,7 +29,7 @@ unwrap-requires c =
     let y = c.args.sum.now in
     let w = ends c in
     ok_of_quotient c.div_to.result (λ h. apart y.lo y.hi c.requires.least y.ordered (c.div_to.ensures.zero_inside.0 h))
-        (λ h. in_reach _ _ 16777244 (lit≤ tt) w.0 w.1 ((c.div_to.ensures.overwidth.0 h).1))
+    (λ h. in_reach _ _ 16777244 (lit≤ tt) w.0 w.1 ((c.div_to.ensures.overwidth.0 h).1))
 
 pub returns-clause-size : goal.returns-clause-size
 returns-clause-size c =

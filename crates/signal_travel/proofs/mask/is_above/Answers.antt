@@ -20,11 +20,11 @@ returns c =
     let eq = to_z-of_z w64 q c.ranges.q in
     let er = to_z-of_z w64 r c.ranges.r in
     let plain : to_z w128 (of_z w128 c.dot_of-rise.result) ≡ dot3 a b d p q r =
-        to_z-of_z w128 c.dot_of-rise.result (record { sfits = c.dot_of-rise.type_inv }) ∙ c.dot_of-rise.ensures.value
-        ∙ same_dot a b d p q r _ _ _ _ _ _ ea eb ed ep eq er in
+    to_z-of_z w128 c.dot_of-rise.result (record { sfits = c.dot_of-rise.type_inv }) ∙ c.dot_of-rise.ensures.value
+    ∙ same_dot a b d p q r _ _ _ _ _ _ ea eb ed ep eq er in
     let squared : to_z w128 (of_z w128 c.square_of.result) ≡ dot3 a b d a b d =
-        to_z-of_z w128 c.square_of.result (record { sfits = c.square_of.type_inv }) ∙ c.square_of.ensures.value
-        ∙ same_dot a b d a b d _ _ _ _ _ _ ea eb ed ea eb ed in
+    to_z-of_z w128 c.square_of.result (record { sfits = c.square_of.type_inv }) ∙ c.square_of.ensures.value
+    ∙ same_dot a b d a b d _ _ _ _ _ _ ea eb ed ea eb ed in
     let own = to_z-of_z w128 c.square_of-2.result (record { sfits = c.square_of-2.type_inv }) in
     let pointed : to_z w128 (of_z w128 c.square_of-2.result) ≡ dot3 p q r p q r = own ∙ c.square_of-2.ensures.value ∙ same_dot p q r p q r _ _ _ _ _ _ ep eq er ep eq er in
     decided (IsTrue c.is_at_least.result) c.args.mask c.mask_side.result c.height-height.result _ (dot3 a b d p q r) (dot3 a b d a b d) (dot3 p q r p q r) c.is_at_least.ensures

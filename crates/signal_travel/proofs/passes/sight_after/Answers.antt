@@ -37,7 +37,7 @@ pub returns-clause-range : goal.returns-clause-range
 returns-clause-range c = λ p seen t h k s.
     let q : Place = point_of c.args.point.now.x c.args.point.now.y c.args.point.now.z in
     c.length_of-range.ensures.holds (difference seen q) (range_of t) (c.vector_from-vector.ensures.holds seen (returns-clause-place c p seen t h k s))
-        (range_root t (square (difference seen q)) s.travel_is)
+    (range_root t (square (difference seen q)) s.travel_is)
 
 pub returns-clause-time : goal.returns-clause-time
 returns-clause-time c = λ p seen t h k s. c.time_over-travel.ensures.holds t (returns-clause-range c p seen t h k s)

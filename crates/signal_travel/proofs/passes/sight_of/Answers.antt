@@ -26,7 +26,7 @@ third c p seen t h s =
     let q : Place = point_of c.args.point.now.x c.args.point.now.y c.args.point.now.z in
     let sent = c.args.sent.now.away p.x p.y p.z h.0 h.1 h.2 in
     let zero = any c.any_travel.result.lo c.any_travel.result.hi t c.any_travel.ensures.lo c.any_travel.ensures.hi (travel_nn p q seen t s)
-        (travel_most p q seen t sent (point_place c.args.point.now) s) in
+    (travel_most p q seen t sent (point_place c.args.point.now) s) in
     let one = c.sight_after-first.ensures.time p seen t h zero s in
     let two = c.sight_after-second.ensures.time p seen t h one s in
     c.sight_after-third.ensures.time p seen t h two s
@@ -50,7 +50,7 @@ last c =
     let b = c.sight_after-second in
     let d = c.sight_after-third in
     let one = first_time (a.result.range.hi -ℤ a.result.range.lo) (a.result.travel.hi -ℤ a.result.travel.lo) (a.ensures.range_width (pos 212559274712979)
-          (width c.any_travel.result.lo c.any_travel.result.hi c.any_travel.ensures.lo c.any_travel.ensures.hi)) a.ensures.time_width in
+    (width c.any_travel.result.lo c.any_travel.result.hi c.any_travel.ensures.lo c.any_travel.ensures.hi)) a.ensures.time_width in
     let two = second_time (b.result.range.hi -ℤ b.result.range.lo) (b.result.travel.hi -ℤ b.result.travel.lo) (b.ensures.range_width (pos 23027875089) one) b.ensures.time_width in
     third_time (d.result.range.hi -ℤ d.result.range.lo) (d.result.travel.hi -ℤ d.result.travel.lo) (d.ensures.range_width (pos 2759538) two) d.ensures.time_width
 

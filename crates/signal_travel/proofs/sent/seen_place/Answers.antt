@@ -16,8 +16,11 @@ pub invariant_of-result : goal.invariant_of-result
 invariant_of-result c =
     let l : length c.args.seen.now.place ≡ 3 = three c in
     record {
-      narrow = (c.args.seen.now.narrow 0 c.index-seen-0.result (omega arith), c.args.seen.now.narrow 1 c.index-seen-1.result (omega arith),
-            c.args.seen.now.narrow 2 c.index-seen-2.result (omega arith));
+      narrow = (
+        c.args.seen.now.narrow 0 c.index-seen-0.result (omega arith),
+        c.args.seen.now.narrow 1 c.index-seen-1.result (omega arith),
+        c.args.seen.now.narrow 2 c.index-seen-2.result (omega arith),
+      );
       within = away_within 18900000 38100000 (get_or c.args.seen.now.place 0 c.index-seen-0.result)
           (get_or c.args.seen.now.place 1 c.index-seen-1.result) (get_or c.args.seen.now.place 2 c.index-seen-2.result) (away c);
       away = away c;

@@ -9,7 +9,7 @@ unwrap-requires c =
     let x = c.args.cos.now in
     let y = c.args.x.now in
     let w = product_within x.lo x.hi y.lo y.hi 1152991873351024640 2611340115968000000 2611505042712166400 (2 ^ 60) (lit< tt) x.ordered y.ordered
-        c.requires.cos_size.0 c.requires.cos_size.1 c.requires.size.0 c.requires.size.1 (lit≤ tt) in
+    c.requires.cos_size.0 c.requires.cos_size.1 c.requires.size.0 c.requires.size.1 (lit≤ tt) in
     ok_of c.mul_to.result (λ h. in_reach _ _ 2611505042712166400 (lit≤ tt) w.0 w.1 (c.mul_to.ensures.refused.0 h))
 
 pub returns-clause-size : goal.returns-clause-size
@@ -17,7 +17,7 @@ returns-clause-size c =
     let x = c.args.cos.now in
     let y = c.args.x.now in
     let w = product_within x.lo x.hi y.lo y.hi 1152991873351024640 2611340115968000000 2611505042712166400 (2 ^ 60) (lit< tt) x.ordered y.ordered
-        c.requires.cos_size.0 c.requires.cos_size.1 c.requires.size.0 c.requires.size.1 (lit≤ tt) in
+    c.requires.cos_size.0 c.requires.cos_size.1 c.requires.size.0 c.requires.size.1 (lit≤ tt) in
     let e = IfOk-at_ok _ c.unwrap.ensures c.mul_to.ensures.ends in
     same_within c.unwrap.result.lo c.unwrap.result.hi _ _ 2611505042712166400 e.0 e.1 w.0 w.1
 
@@ -30,4 +30,4 @@ returns-clause-width c =
     let x = c.args.cos.now in
     let y = c.args.x.now in
     narrow (c.unwrap.result.hi -ℤ c.unwrap.result.lo) (y.hi -ℤ y.lo) (x.hi -ℤ x.lo)
-        (IfOk-at_ok _ c.unwrap.ensures c.mul_to.ensures.width 1152991873351024640 2611340115968000000 c.requires.cos_size c.requires.size) c.requires.narrow
+    (IfOk-at_ok _ c.unwrap.ensures c.mul_to.ensures.width 1152991873351024640 2611340115968000000 c.requires.cos_size c.requires.size) c.requires.narrow

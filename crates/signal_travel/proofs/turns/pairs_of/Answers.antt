@@ -16,9 +16,10 @@ narrow w l h x e f k = omega (arith, ints)
 pub returns-clause-narrow : goal.returns-clause-narrow
 returns-clause-narrow c =
     let w = c.pair_box.ensures.width_of_five refl in
-    let r = c.from_ends in
-    (narrow _ r.result.lo r.result.hi (to_z w64 (of_z w64 c.args.angle)) r.ensures.lo r.ensures.hi w.0,
-      narrow _ r.result.lo r.result.hi (to_z w64 (of_z w64 c.args.angle)) r.ensures.lo r.ensures.hi w.1)
+    let r = c.from_ends in (
+      narrow _ r.result.lo r.result.hi (to_z w64 (of_z w64 c.args.angle)) r.ensures.lo r.ensures.hi w.0,
+      narrow _ r.result.lo r.result.hi (to_z w64 (of_z w64 c.args.angle)) r.ensures.lo r.ensures.hi w.1,
+    )
 
 pairs : (c : goal.After-pair_box) → ArePairs c.args.angle c.pair_box.result.cos.lo c.pair_box.result.cos.hi c.pair_box.result.sin.lo c.pair_box.result.sin.hi
 pairs c =

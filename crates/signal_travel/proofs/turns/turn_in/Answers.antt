@@ -13,7 +13,7 @@ nn : (l m : ℤ) → pos 0 ≤ℤ l → l ≤ℤ m → pos 0 ≤ℤ m
 nn l m h k = omega (arith, ints)
 
 radius : (c : goal.After-padded-arg-2-1) → to_z w64 (of_z w64 (to_z w64 (of_z w64 c.args.travel.now.hi) -ℤ to_z w64 (of_z w64 c.middle_of-middle.result)))
-      ≡ c.args.travel.now.hi -ℤ c.middle_of-middle.result
+    ≡ c.args.travel.now.hi -ℤ c.middle_of-middle.result
 radius c = plain_radius c.middle_of-middle.result c.args.travel.now.hi
     (nn c.args.travel.now.lo c.middle_of-middle.result c.requires.0 c.middle_of-middle.ensures.low) c.middle_of-middle.ensures.high c.requires.1
 
@@ -87,5 +87,5 @@ returns-clause-width c = λ w h.
       padded_width x.cos.lo x.cos.hi c.padded.result.lo c.padded.result.hi c.pad_for-pad.result d t w (c.padded.ensures.lo ∙ ap (λ (p : ℤ). x.cos.lo -ℤ p) e)
           (c.padded.ensures.hi ∙ ap (λ (p : ℤ). x.cos.hi +ℤ p) e) c.pairs_of-pair.ensures.narrow.0 m a h,
       padded_width x.sin.lo x.sin.hi c.padded-2.result.lo c.padded-2.result.hi c.pad_for-pad.result d t w (c.padded-2.ensures.lo
-            ∙ ap (λ (p : ℤ). x.sin.lo -ℤ p) e) (c.padded-2.ensures.hi ∙ ap (λ (p : ℤ). x.sin.hi +ℤ p) e) c.pairs_of-pair.ensures.narrow.1 m a h,
+          ∙ ap (λ (p : ℤ). x.sin.lo -ℤ p) e) (c.padded-2.ensures.hi ∙ ap (λ (p : ℤ). x.sin.hi +ℤ p) e) c.pairs_of-pair.ensures.narrow.1 m a h,
     )

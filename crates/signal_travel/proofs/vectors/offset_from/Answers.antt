@@ -20,9 +20,10 @@ unwrap-requires c = ok_of c.sub.result (λ h. in_reach _ _ 3106120348467200000 (
 
 pub returns-clause-size : goal.returns-clause-size
 returns-clause-size c =
-    let e = IfOk-at_ok _ c.unwrap.ensures c.sub.ensures.ends in
-    (rw e.0 (low c.args.x.now.lo c.coordinate_box.result.hi c.requires.x_size.0 c.coordinate_box.ensures.size.1),
-      rw e.1 (high c.args.x.now.hi c.coordinate_box.result.lo c.requires.x_size.1 c.coordinate_box.ensures.size.0))
+    let e = IfOk-at_ok _ c.unwrap.ensures c.sub.ensures.ends in (
+      rw e.0 (low c.args.x.now.lo c.coordinate_box.result.hi c.requires.x_size.0 c.coordinate_box.ensures.size.1),
+      rw e.1 (high c.args.x.now.hi c.coordinate_box.result.lo c.requires.x_size.1 c.coordinate_box.ensures.size.0),
+    )
 
 pub returns-clause-holds : goal.returns-clause-holds
 returns-clause-holds c = λ q h. IfOk-at_ok _ c.unwrap.ensures c.sub.ensures.holds q (coordinate_of c.args.coordinate) h

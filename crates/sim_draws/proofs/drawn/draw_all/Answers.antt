@@ -15,14 +15,14 @@ returns-clause-rover_clock c =
 pub returns-clause-base_cycles : goal.returns-clause-base_cycles
 returns-clause-base_cycles c =
     c.in_ok-cycles.ensures.base c.args.seed (c.draw_within-rover_clock.ensures.moves c.args.seed 4
-          (c.draw_within-base_clock.ensures.moves c.args.seed 3 (c.offset-offset.ensures.moves c.args.seed c.new-draws.ensures)))
+    (c.draw_within-base_clock.ensures.moves c.args.seed 3 (c.offset-offset.ensures.moves c.args.seed c.new-draws.ensures)))
 
 pub returns-clause-rover_cycles : goal.returns-clause-rover_cycles
 returns-clause-rover_cycles c =
     c.in_ok-cycles.ensures.rover c.args.seed (c.draw_within-rover_clock.ensures.moves c.args.seed 4
-          (c.draw_within-base_clock.ensures.moves c.args.seed 3 (c.offset-offset.ensures.moves c.args.seed c.new-draws.ensures)))
+    (c.draw_within-base_clock.ensures.moves c.args.seed 3 (c.offset-offset.ensures.moves c.args.seed c.new-draws.ensures)))
 
 pub returns-clause-truth : goal.returns-clause-truth
 returns-clause-truth c =
     c.in_ok-cycles.ensures.truth c.args.seed (c.draw_within-rover_clock.ensures.moves c.args.seed 4
-          (c.draw_within-base_clock.ensures.moves c.args.seed 3 (c.offset-offset.ensures.moves c.args.seed c.new-draws.ensures)))
+    (c.draw_within-base_clock.ensures.moves c.args.seed 3 (c.offset-offset.ensures.moves c.args.seed c.new-draws.ensures)))

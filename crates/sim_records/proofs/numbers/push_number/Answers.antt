@@ -13,5 +13,16 @@ returns c =
     let digits = c.size_of-size.ensures ∙ ap (λ (z : ℤ). size_of z) mant in
     let second_sign = c.sign_of-2.ensures ∙ ap (λ (z : ℤ). sign_or 43 z) exponent in
     let power = c.size_of.ensures ∙ ap (λ (z : ℤ). size_of z) exponent in
-    rw (c.in_ok-push_digits-3.ensures, c.in_ok-push-4.ensures.items, c.in_ok-push-3.ensures.items, c.in_ok-push_digits-2.ensures, c.in_ok-push-2.ensures.items,
-          c.in_ok-push_digits.ensures, c.in_ok-push.ensures.items, first_sign, digits, second_sign, power) (simp append_assoc)
+    rw (
+      c.in_ok-push_digits-3.ensures,
+      c.in_ok-push-4.ensures.items,
+      c.in_ok-push-3.ensures.items,
+      c.in_ok-push_digits-2.ensures,
+      c.in_ok-push-2.ensures.items,
+      c.in_ok-push_digits.ensures,
+      c.in_ok-push.ensures.items,
+      first_sign,
+      digits,
+      second_sign,
+      power,
+    ) (simp append_assoc)

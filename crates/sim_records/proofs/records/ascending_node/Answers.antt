@@ -21,4 +21,4 @@ returns-clause-range c =
     let is = to_z-of_z w64 c.node_hundredths.result (record { sfits = c.node_hundredths.type_inv }) in
     let n = c.node_hundredths.result in
     from_to (neg_ℤ (pos 65)) (pos 65) n 1 2 c.normal.result (subst (λ (z : ℤ). value_of c.normal.result ≈ decimal z 2) is c.normal.ensures.value)
-        (low n (c.node_hundredths.ensures.size)) (high n (c.node_hundredths.ensures.size))
+    (low n (c.node_hundredths.ensures.size)) (high n (c.node_hundredths.ensures.size))

@@ -21,4 +21,4 @@ returns-clause-range c =
     let is = to_z-of_z w64 c.number_of.result (record { sfits = c.number_of.type_inv }) in
     let n = c.number_of.result in
     from_to (neg_ℤ (pos 1)) (pos 1) n 2 5 c.normal.result (subst (λ (z : ℤ). value_of c.normal.result ≈ decimal z 5) is c.normal.ensures.value)
-        (low n (c.number_of.ensures.size)) (high n (c.number_of.ensures.size))
+    (low n (c.number_of.ensures.size)) (high n (c.number_of.ensures.size))

@@ -24,4 +24,4 @@ returns-clause-range c =
     let is = to_z-of_z w64 c.number_of.result (record { sfits = c.number_of.type_inv }) in
     let n = c.number_of.result in
     from_to (pos 0) (pos 3125) n 5 3 c.normal.result (subst (λ (z : ℤ). value_of c.normal.result ≈ decimal z 3) is c.normal.ensures.value)
-        (low n (within c.args.k n c.requires c.number_of.ensures.value)) (high n (within c.args.k n c.requires c.number_of.ensures.value))
+    (low n (within c.args.k n c.requires c.number_of.ensures.value)) (high n (within c.args.k n c.requires c.number_of.ensures.value))

@@ -21,4 +21,4 @@ returns-clause-range c =
     let is = to_z-of_z w64 c.anomaly_tenths.result (record { sfits = c.anomaly_tenths.type_inv }) in
     let n = c.anomaly_tenths.result in
     from_to (neg_ℤ (pos 65)) (pos 65) n 1 1 c.normal.result (subst (λ (z : ℤ). value_of c.normal.result ≈ decimal z 1) is c.normal.ensures.value)
-        (low n (c.anomaly_tenths.ensures.size)) (high n (c.anomaly_tenths.ensures.size))
+    (low n (c.anomaly_tenths.ensures.size)) (high n (c.anomaly_tenths.ensures.size))

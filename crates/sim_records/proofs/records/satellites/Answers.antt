@@ -15,6 +15,6 @@ loop-k-preserved c =
     record {
       records = subst (λ (es : List Eph). AreSatellites c.args.letter 0 es) (sym c.in_ok-push.ensures.items)
           (one_more c.args.letter 0 all e c.loop-k.invariant.records (subst (λ (i : ℕ). IsSatellite c.args.letter i e)
-              (counted c.loop-k.k (length all) c.loop-k.invariant.count) c.satellite.ensures.values) c.satellite.ensures.normal);
+          (counted c.loop-k.k (length all) c.loop-k.invariant.count) c.satellite.ensures.values) c.satellite.ensures.normal);
       count = ap (λ (es : List Eph). length es) c.in_ok-push.ensures.items ∙ length_push all e ∙ ap (λ (n : ℕ). n + 1) c.loop-k.invariant.count;
     }

@@ -23,7 +23,7 @@ returns-in-Ok-clause-ends c =
     told.base told.rover told.nav session.base session.rover session.nav (still_fits _ _ c.in_ok-base.field-0.base.ok.0 session.base_size)
     (still_fits _ _ c.in_ok-base.field-0.rover.ok.0 session.rover_size) (still_fits _ _ c.in_ok-base.field-0.nav.ok.0 session.nav_size) in
     ended_weaker c.answer_files.result _ _ (λ end ends. ends_found a.seed a.epochs a.sats a.bands a.system _ o _ _ _ _ end made on admitted
-          c.of_letter-system.ensures c.in-Ok.ensures.read ends) c.answer_files.ensures
+    c.of_letter-system.ensures c.in-Ok.ensures.read ends) c.answer_files.ensures
 
 pub returns-in-Ok-clause-no_fault : goal.returns-in-Ok-clause-no_fault
 returns-in-Ok-clause-no_fault c = ended_weaker c.answer_files.result _ _ (λ end ends. end_no_fault _ _ _ _ _ _ _ _ end ends) c.answer_files.ensures

@@ -35,7 +35,7 @@ loop-k-preserved c =
       count = ap (λ (xs : List Signals). length xs) c.in_ok-push.ensures.items ∙ length_push sats own ∙ ap (λ (n : ℕ). n + 1) now.count;
       each = λ j s l e d. subst (λ (xs : List Signals). IsObserved world tag receiver.point receiver.clock (get_or records j e) (get_or all j d) (get_or xs j s)) (sym c.in_ok-push.ensures.items)
           (one_more (λ (i : ℕ) (x : Signals). (e : Eph) (d : List ℤ)
-              → IsObserved world tag receiver.point receiver.clock (get_or records i e) (get_or all i d) x) sats own k now.count now.each here j s l e d);
+          → IsObserved world tag receiver.point receiver.clock (get_or records i e) (get_or all i d) x) sats own k now.count now.each here j s l e d);
       columns = subst (λ (xs : List Signals). All AreInColumns xs) (sym c.in_ok-push.ensures.items) (All-push AreInColumns sats own now.columns c.observe.ensures.columns);
     }
 

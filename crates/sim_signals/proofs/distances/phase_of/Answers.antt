@@ -36,7 +36,7 @@ returns-clause-near c = λ v h.
     let n = c.whole_thousandths in
     let d = c.args.distance.now.units in
     let length = to_z-of_z w128 c.with_clock-length.result (record { sfits = c.with_clock-length.type_inv }) ∙ c.with_clock-length.ensures.value
-        ∙ ap (λ (z : ℤ). (pos 1000 *ℤ d) +ℤ (z *ℤ pos (2 ^ 36))) (to_z-of_z w64 c.args.clock c.ranges.clock) in
+    ∙ ap (λ (z : ℤ). (pos 1000 *ℤ d) +ℤ (z *ℤ pos (2 ^ 36))) (to_z-of_z w64 c.args.clock c.ranges.clock) in
     let product = to_z-of_z w128 c.scaled.result (record { sfits = c.scaled.type_inv }) ∙ c.scaled.ensures.value ∙ ap (λ (z : ℤ). z *ℤ pos c.args.frequency) length in
     phase_near c.args.frequency d n.result c.args.clock c.args.cycles _ v c.requires.most (plain n.result c.args.cycles n.ensures.low n.ensures.high c.requires.cycles)
     (subst (λ (z : ℤ). IsNearest z (299792458 * 2 ^ 36) n.result) product n.ensures.nearest) h

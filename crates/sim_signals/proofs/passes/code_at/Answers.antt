@@ -15,7 +15,7 @@ loop-pass-preserved c =
     record {
       reached = subst (λ (z : ℤ). IsReachedIn (c.loop-pass._pass + 1) (constants_of c.args.world.now) c.args.eph.now c.args.tag.0 receiver.point receiver.clock z) kept
           (subst (λ (n : ℕ). IsReachedIn n (constants_of c.args.world.now) c.args.eph.now c.args.tag.0 receiver.point receiver.clock after)
-            (sym (add-one c.loop-pass._pass)) (before, (c.loop-pass.invariant.reached, c.code_after-code.ensures.near)));
+          (sym (add-one c.loop-pass._pass)) (before, (c.loop-pass.invariant.reached, c.code_after-code.ensures.near)));
       low = subst (λ (z : ℤ). pos 0 ≤ℤ z) kept low;
       high = subst (λ (z : ℤ). z ≤ℤ pos (10 ^ 11)) kept high;
     }
@@ -27,4 +27,4 @@ pub returns-clause-reached : goal.returns-clause-reached
 returns-clause-reached c =
     let receiver = c.args.receiver.now in
     subst (λ (n : ℕ). IsReachedIn n (constants_of c.args.world.now) c.args.eph.now c.args.tag.0 receiver.point receiver.clock (to_z w64 c.loop-pass.code-bits))
-        (six c.loop-pass._pass c.loop-pass.auto._pass-end c.loop-pass-test.false) c.loop-pass.invariant.reached
+    (six c.loop-pass._pass c.loop-pass.auto._pass-end c.loop-pass-test.false) c.loop-pass.invariant.reached

@@ -18,7 +18,7 @@ returns-in-GpsL1L2 c =
     let l2 = plain s.l2 c.requires.l2 in
     let same : to_z w64 (of_z w64 s.l1) ∷ to_z w64 (of_z w64 s.code) ∷ to_z w64 (of_z w64 s.l2) ∷ [] ≡ s.l1 ∷ s.code ∷ s.l2 ∷ [] = rw (code, l1, l2) refl in
     rw c.in-GpsL1L2.is (written c.write_further.result c.args.out.now.items c.push_fixed.new.out.items c.write_further.new.out.items
-          (to_z w64 (of_z w64 s.code)) s.code _ _ code same c.in_ok-push_fixed.ensures c.write_further.ensures)
+    (to_z w64 (of_z w64 s.code)) s.code _ _ code same c.in_ok-push_fixed.ensures c.write_further.ensures)
 
 pub returns-in-GpsL1L2L5 : goal.returns-in-GpsL1L2L5
 returns-in-GpsL1L2L5 c =
@@ -28,11 +28,11 @@ returns-in-GpsL1L2L5 c =
     let l2 = plain s.l2 c.requires.l2 in
     let l5 = plain s.l5 c.requires.l5 in
     let same : to_z w64 (of_z w64 s.l1) ∷ to_z w64 (of_z w64 s.code) ∷ to_z w64 (of_z w64 s.l2) ∷ to_z w64 (of_z w64 s.code) ∷ to_z w64 (of_z w64 s.l5) ∷ []
-        ≡ s.l1 ∷ s.code ∷ s.l2 ∷ s.code ∷ s.l5 ∷ [] =
-        rw (code, l1, l2, l5) refl in
+    ≡ s.l1 ∷ s.code ∷ s.l2 ∷ s.code ∷ s.l5 ∷ [] =
+    rw (code, l1, l2, l5) refl in
     let further = c.write_further-in-GpsL1L2L5 in
     rw c.in-GpsL1L2L5.is (written further.result c.args.out.now.items c.push_fixed.new.out.items further.new.out.items (to_z w64 (of_z w64 s.code))
-          s.code _ _ code same c.in_ok-push_fixed.ensures further.ensures)
+    s.code _ _ code same c.in_ok-push_fixed.ensures further.ensures)
 
 pub returns-in-GalileoE1E5a : goal.returns-in-GalileoE1E5a
 returns-in-GalileoE1E5a c =
@@ -43,4 +43,4 @@ returns-in-GalileoE1E5a c =
     let same : to_z w64 (of_z w64 s.l1) ∷ to_z w64 (of_z w64 s.code) ∷ to_z w64 (of_z w64 s.l5) ∷ [] ≡ s.l1 ∷ s.code ∷ s.l5 ∷ [] = rw (code, l1, l5) refl in
     let further = c.write_further-in-GalileoE1E5a in
     rw c.in-GalileoE1E5a.is (written further.result c.args.out.now.items c.push_fixed.new.out.items further.new.out.items (to_z w64 (of_z w64 s.code))
-          s.code _ _ code same c.in_ok-push_fixed.ensures further.ensures)
+    s.code _ _ code same c.in_ok-push_fixed.ensures further.ensures)

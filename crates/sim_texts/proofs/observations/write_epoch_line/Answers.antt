@@ -14,6 +14,15 @@ unfolding epoch_line
 returns c =
     let s = second c.args.seconds in
     let n = count c.args.sats c.ranges.sats.fits in
-    rw (c.in_ok-extend_from_slice-4.ensures.items, c.in_ok-push_fixed-2.ensures, c.in_ok-extend_from_slice-3.ensures.items,
-          c.in_ok-push_fixed.ensures, c.in_ok-push_digits-2.ensures, c.in_ok-extend_from_slice-2.ensures.items, c.in_ok-push_digits.ensures,
-          c.in_ok-extend_from_slice.ensures.items, s, n) (simp append_assoc)
+    rw (
+      c.in_ok-extend_from_slice-4.ensures.items,
+      c.in_ok-push_fixed-2.ensures,
+      c.in_ok-extend_from_slice-3.ensures.items,
+      c.in_ok-push_fixed.ensures,
+      c.in_ok-push_digits-2.ensures,
+      c.in_ok-extend_from_slice-2.ensures.items,
+      c.in_ok-push_digits.ensures,
+      c.in_ok-extend_from_slice.ensures.items,
+      s,
+      n,
+    ) (simp append_assoc)

@@ -5,8 +5,14 @@ use Rattle.sim_texts.proofs.observations.write_header.Goals as goal
 
 pub returns-clause-written : goal.returns-clause-written
 unfolding header_text
-returns-clause-written c = rw (c.in_ok-extend_from_slice-4.ensures.items, c.in_ok-extend_from_slice-3.ensures.items, c.in_ok-write_types.ensures,
-      c.in_ok-extend_from_slice-2.ensures.items, c.in_ok-extend_from_slice.ensures.items, c.in_ok-write_version.ensures) (simp append_assoc)
+returns-clause-written c = rw (
+  c.in_ok-extend_from_slice-4.ensures.items,
+  c.in_ok-extend_from_slice-3.ensures.items,
+  c.in_ok-write_types.ensures,
+  c.in_ok-extend_from_slice-2.ensures.items,
+  c.in_ok-extend_from_slice.ensures.items,
+  c.in_ok-write_version.ensures,
+) (simp append_assoc)
 
 pub returns-clause-size : goal.returns-clause-size
 returns-clause-size c =

@@ -11,7 +11,7 @@ unwrap-requires g c =
     let y = c.args.other.now in
     let p : ℕ = 2 ^ (g.row.TO + g.row.A - g.row.K) in
     let w = quotient_within x.held.lo x.held.hi y.held.lo y.held.hi g.row.SIZE p g.row.TO_SIZE g.row.LEAST x.held.ordered y.held.ordered x.within.0
-        x.within.1 c.requires.positive c.requires.least c.requires.size in
+    x.within.1 c.requires.positive c.requires.least c.requires.size in
     ok_of_quotient c.div_to.result
     (λ h. absurd (omega (arith, ints, (c.div_to.ensures.zero_inside.0 h).0, c.requires.least, c.requires.positive)))
     (λ h. in_reach _ _ g.row.TO_SIZE c.requires.limit w.0 w.1 ((c.div_to.ensures.overwidth.0 h).1))
@@ -23,9 +23,9 @@ new-requires g c =
     let p : ℕ = 2 ^ (g.row.TO + g.row.A - g.row.K) in
     let e = IfOk-at_ok (λ r. (r.lo ≡ low_quotient g.row.TO x.held y.held) × (r.hi ≡ high_quotient g.row.TO x.held y.held)) c.unwrap.ensures c.div_to.ensures.ends in
     let w = IfOk-at_ok (λ r. (d q : ℕ) → 0 < d → pos d ≤ℤ y.held.lo → IsRatioWithin p q x.held y.held → (pos d *ℤ width_of r)
-            <ℤ (((pos p *ℤ width_of x.held) +ℤ (pos q *ℤ width_of y.held)) +ℤ (pos 2 *ℤ pos d))) c.unwrap.ensures c.div_to.ensures.width in
+    <ℤ (((pos p *ℤ width_of x.held) +ℤ (pos q *ℤ width_of y.held)) +ℤ (pos 2 *ℤ pos d))) c.unwrap.ensures c.div_to.ensures.width in
     let q = quotient_within x.held.lo x.held.hi y.held.lo y.held.hi g.row.SIZE p g.row.TO_SIZE g.row.LEAST x.held.ordered y.held.ordered x.within.0
-        x.within.1 c.requires.positive c.requires.least c.requires.size in
+    x.within.1 c.requires.positive c.requires.least c.requires.size in
     let r = ratio_within x.held.lo x.held.hi y.held.lo g.row.SIZE p g.row.TO_SIZE g.row.LEAST x.held.ordered x.within.0 x.within.1 c.requires.least c.requires.size in (
       omega arith,
       (

@@ -50,7 +50,7 @@ pairs-preserved c =
 pub returns-clause-kept : goal.returns-clause-kept
 returns-clause-kept c =
     subst (λ (kept : List Arc). AreKept (bands_of c.args.bands) c.args.jump c.args.least c.args.used.now kept c.pairs.found.short)
-        (sym c.new-2.ensures) (done_all _ _ _ _ _ _ _ (omega arith) c.pairs.invariant.done)
+    (sym c.new-2.ensures) (done_all _ _ _ _ _ _ _ (omega arith) c.pairs.invariant.done)
 
 pub returns-clause-datums : goal.returns-clause-datums
 returns-clause-datums c = subst (λ (kept : List Arc). HaveDatums kept) (sym c.new-2.ensures) (have_datums _ _ _ c.pairs.invariant.marked)

@@ -14,7 +14,7 @@ returns-clause-strictly_best c = λ e.
     let t = cert.track in
     let certified : c.said_of.result ≡ Certified = cc in
     best_said t.arcs (fine_signals t.signals) t.pairs c.in_ok-decided.decided cert.tail c.in_ok-decided.ensures.strictly_best
-        (subst (IsSaidOf c.in_ok-decided.decided cert.tail) certified c.said_of.ensures)
+    (subst (IsSaidOf c.in_ok-decided.decided cert.tail) certified c.said_of.ensures)
 
 pub returns-clause-only : goal.returns-clause-only
 returns-clause-only c =

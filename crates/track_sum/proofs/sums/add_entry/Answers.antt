@@ -1,7 +1,7 @@
 use Rattle.std.proofs.Common.{◌≡◌, ℕ, ◌+◌, ◌*◌, ◌^◌, ◌≤◌, ℤ, ◌+ℤ◌, unsigned_abs, arith, to_z, of_z, sym, ap₂, ◌∙◌, subst}
 use Rattle.std.specs.Int.{w128}
 use Rattle.form_tables.specs.Tables.{entry}
-use Rattle.form_tables.proofs.Words.{as_w128}
+use Rattle.whole_math.proofs.Words.{as_w128}
 use Rattle.track_sum.proofs.sums.add_entry.Goals as goal
 
 -- the sum that is read, as a word

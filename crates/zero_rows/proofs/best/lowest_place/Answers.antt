@@ -10,7 +10,7 @@ overflow_cast-result c = omega (arith, ints, c.ceil.ensures.size)
 pub returns-clause-place : goal.returns-clause-place
 returns-clause-place c =
     ceil_same _ (unsigned_abs (to_z w128 (of_z w128 (pos 60 *ℤ to_z w128 c.args.count)))) c.ceil.result c.ceil.ensures.bounds (omega (arith, ints))
-        (omega (arith, ints)) (omega (arith, ints, c.ceil.ensures.size))
+    (omega (arith, ints)) (omega (arith, ints, c.ceil.ensures.size))
 
 pub returns-clause-low : goal.returns-clause-low
 returns-clause-low c = omega (arith, ints, c.ceil.ensures.size)

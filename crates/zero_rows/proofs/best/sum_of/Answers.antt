@@ -11,7 +11,7 @@ diffs-preserved c =
     let d = get_or c.diffs.rest.now 0 (pos 0) in
     let same_w : to_z w64 (of_z w64 c.args.w) ≡ c.args.w = to_z-of_z w64 c.args.w c.ranges.w in
     let same_left : to_z w128 (of_z w128 c.misfit-left.result) ≡ d -ℤ pos 60 *ℤ c.args.w =
-        omega (arith, ints, p.low, p.high, c.misfit-left.ensures.value, c.misfit-left.ensures.low, c.misfit-left.ensures.high) in
+    omega (arith, ints, p.low, p.high, c.misfit-left.ensures.value, c.misfit-left.ensures.low, c.misfit-left.ensures.high) in
     let added = c.square_of-square.ensures.value ∙ ap square same_left in
     let so_far = rw same_w at c.diffs.invariant.value in
     rw same_w (record {

@@ -39,7 +39,7 @@ lines-preserved c =
           let so_far = rows z c.lines.diffs.items in
           c.lines.invariant.reads z
           ∙ goes_on rows_rules (Diff so_far) (with_diff so_far diff) (number_behind (codes "diff ") 1000000000 line) (λ d. Ok (with_diff so_far d))
-              diff _ _ _ line gives (admits_diff so_far line few) c.in-Ok.ensures refl
+          diff _ _ _ line gives (admits_diff so_far line few) c.in-Ok.ensures refl
           ∙ ap (λ (ds : List ℤ). rest_gives rows_rules c.line_or_end.new.lines (Diff (rows z ds))) (sym items);
       in_range = rw items (All-push (λ d. size_of d ≤ 1000000000) c.lines.diffs.items diff c.lines.invariant.in_range small);
       few = omega (arith, few);

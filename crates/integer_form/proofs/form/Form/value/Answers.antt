@@ -11,7 +11,7 @@ use Rattle.form_tables.specs.declared.sizes.TheConstants.{MOST_FORM_COLUMNS, MOS
 use Rattle.form_tables.specs.Tables.{entry}
 use Rattle.integer_form.specs.declared.form.Form.{Form}
 use Rattle.integer_form.specs.FloatPoint.{item}
-use Rattle.form_tables.proofs.Words.{as_w64, as_w128, size_add}
+use Rattle.whole_math.proofs.Words.{as_w64, as_w128, size_add}
 use Rattle.integer_form.proofs.form.Form.value.Goals as goal
 
 -- one more column at the front: row r has k columns after it

@@ -19,7 +19,7 @@ invariant_of-self-2 c =
     subst (λ (l : List StoredValue). AreStoredBehind l c.store_values-count.new.stored.items count s.values) c.in_ok-reserve-2.ensures.items c.store_values-count.ensures in
     let fresh : has_satellite s.number c.args.self.now ≡ false = c.requires.once in
     are_stored_push sats c.push_reserved.new.self.items values c.store_values-count.new.stored.items s count c.self.invariant pushed stored
-        c.requires.from_first c.requires.to_last (rw (← c.self.view_is) at fresh)
+    c.requires.from_first c.requires.to_last (rw (← c.self.view_is) at fresh)
 
 pub returns-clause-added : goal.returns-clause-added
 returns-clause-added c =

@@ -7,7 +7,7 @@ use Rattle.rinex_obs.proofs.feed.Feed.finish.Goals as goal
 pub returns-in-Open-clause-answers : goal.returns-in-Open-clause-answers
 returns-in-Open-clause-answers c = λ text stands.
     fed_answers c.args.self.system (gives_behind c.args.self.system c.in-Open.text) c.args.self.taken text c.finish.result
-        (subst (λ (s : FeedState). StandsFor c.args.self.system s c.args.self.taken text) c.in-Open.is stands) (c.finish.ensures c.args.self.system)
+    (subst (λ (s : FeedState). StandsFor c.args.self.system s c.args.self.taken text) c.in-Open.is stands) (c.finish.ensures c.args.self.system)
 
 pub returns-in-Refused-clause-answers : goal.returns-in-Refused-clause-answers
 returns-in-Refused-clause-answers c = λ text stands.

@@ -11,12 +11,12 @@ returns-in-Ok-clause-stands c = λ text stands.
     let system = c.args.self.now.system in
     let taken = c.args.self.now.taken in
     fed_more system (gives_behind system c.in-Open.text) (gives_behind system c.take.new.self) taken text c.args.piece.now
-        (c.in-Ok.ensures.takes system) (subst (λ (s : FeedState). StandsFor system s taken text) c.in-Open.is stands)
+    (c.in-Ok.ensures.takes system) (subst (λ (s : FeedState). StandsFor system s taken text) c.in-Open.is stands)
 
 pub returns-in-Err-Refused-clause-stands : goal.returns-in-Err-Refused-clause-stands
 returns-in-Err-Refused-clause-stands c = λ text stands.
     let system = c.args.self.now.system in
     let taken = c.args.self.now.taken in
     let refused = subst (λ (fault : TextFault). TakesAll c.args.piece.now (gives_behind system c.in-Open.text) (gives_behind system c.take.new.self)
-          (Err fault)) c.in-Err-Refused.field-0-is (c.in-Err-Refused.ensures.takes system) in
+    (Err fault)) c.in-Err-Refused.field-0-is (c.in-Err-Refused.ensures.takes system) in
     fed_more system (gives_behind system c.in-Open.text) _ taken text c.args.piece.now refused (subst (λ (s : FeedState). StandsFor system s taken text) c.in-Open.is stands)

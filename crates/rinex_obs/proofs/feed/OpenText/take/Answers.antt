@@ -25,6 +25,6 @@ returns-in-Err-clause-takes c = λ system.
     let text = c.lines.self in
     let new = c.end_line.new.self in
     fails_on system c.args.piece.now c.lines.rest.now (gives_behind system c.args.self.now) (gives_behind system text) (gives_behind system text)
-        (gives_behind system new) c.in-Err.fault (c.lines.invariant.gives system)
+    (gives_behind system new) c.in-Err.fault (c.lines.invariant.gives system)
     (step_fails system text.number text.line c.lines.rest.now c.in-Some.bytes.now c.in-Some.behind.now (expected_in text.file) (expected_in new.file)
-      c.in-Err.fault c.in-Some.ensures.ends c.in-Err.ensures.taken)
+    c.in-Err.fault c.in-Some.ensures.ends c.in-Err.ensures.taken)

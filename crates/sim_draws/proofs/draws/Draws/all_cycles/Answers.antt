@@ -23,7 +23,7 @@ loop-k-preserved c =
     let is_base = λ (seed : ℕ) (e : c.args.self.now.state ≡ state_after seed 5). base.ensures.value seed (5 + 4 * k) (5 + 4 * sats + 2 * k) (now.state seed e) (now.later seed e) in
     let is_rover = λ (seed : ℕ) (e : c.args.self.now.state ≡ state_after seed 5). further_on rover.result seed sats l5 k
     (rover.ensures.value seed (5 + 4 * k + 1 + 1) (5 + 4 * sats + 2 * k + 1) (base.ensures.moves seed (5 + 4 * k) (now.state seed e))
-      (base.ensures.later_moves seed (5 + 4 * sats + 2 * k) (now.later seed e))) in
+    (base.ensures.later_moves seed (5 + 4 * sats + 2 * k) (now.later seed e))) in
     record {
       state = λ seed e. counted rover.new.self.state seed (5 + 4 * k + 1 + 1 + 1 + 1) (5 + 4 * (k + 1)) (omega arith)
           (rover.ensures.moves seed (5 + 4 * k + 1 + 1) (base.ensures.moves seed (5 + 4 * k) (now.state seed e)));
