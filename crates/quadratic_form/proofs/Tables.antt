@@ -1,5 +1,5 @@
 -- A symmetric table is a form, and a form at a mapped vector is the form of the transformed table.
-use Rattle.std.proofs.Common.{ℕ, zero, suc, ◌≡◌, [], ◌∷◌, ℤ, ap, refl}
+use Rattle.std.proofs.Common.{ℕ, zero, suc, ◌≡◌, ◌∷◌, ℤ, ap, refl}
 use Rattle.quadratic_form.specs.Places.{list_from}
 
 -- ---- the form of a symmetric table

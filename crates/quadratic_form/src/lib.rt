@@ -11,7 +11,7 @@
 //! all data (`decision_law`).
 #![tactic(auto)]
 
-ghost use Rattle.std.specs.Prelude.{◌≡◌, ℕ, ◌^◌, ◌<◌, List, [], ◌∷◌, ◌++◌, length, ℤ, pos, ◌+ℤ◌, ◌*ℤ◌, ◌≤ℤ◌, ◌<ℤ◌, Ok};
+ghost use Rattle.std.specs.Prelude.{◌≡◌, ℕ, ◌^◌, ◌<◌, List, length, ℤ, pos, ◌+ℤ◌, ◌*ℤ◌, ◌≤ℤ◌, ◌<ℤ◌, Ok};
 ghost use Rattle.rational.specs.Rational.{of_whole, mul_r, ◌≤ʳ◌};
 ghost use Rattle.whole_math.specs.Vectors.{len, dot};
 ghost use Rattle.quadratic_form.specs.Forms.{Column, Shaped, quad};

@@ -1,8 +1,9 @@
 -- Orders over ℤ by certificates: the greater side less the lesser is a sum of products of what is not negative.
 use Rattle.std.proofs.Common.{◌≡◌, ℕ, zero, suc, List, [], ◌∷◌, ℤ, pos, ◌+ℤ◌, ◌-ℤ◌, ◌*ℤ◌, ◌≤ℤ◌, ◌<ℤ◌, arith, refl}
-use Rattle.std.proofs.lemmas.Int.{ints, by_lt_z}
+use Rattle.std.proofs.lemmas.Int.{by_lt_z}
 use Rattle.whole_math.proofs.Ring.{ring, Ex, va, ko, ◌⊕◌, ◌⊖◌, ◌⊗◌, ev, norm}
 use Rattle.whole_math.proofs.Order.{lins, mul_nn, add_nn, square_nn, diff_nn, mul_le_left}
+use Rattle.whole_math.proofs.Inequalities.{pos_nn}
 
 -- a hypothesis
 infix 5 ◌≼◌
@@ -35,9 +36,6 @@ as_ex hs (nm n) = ko (pos n)
 as_ex hs (sq e) = e ⊗ e
 as_ex hs (a ⊞ b) = as_ex hs a ⊕ as_ex hs b
 as_ex hs (a ⊠ b) = as_ex hs a ⊗ as_ex hs b
-
-pos_nn : (n : ℕ) → pos 0 ≤ℤ pos n
-pos_nn n = omega (arith, ints)
 
 gap_nn : (r : List ℤ) (hs : List Hy) (i : ℕ) → Given r hs → pos 0 ≤ℤ ev r (gap_of hs i)
 gap_nn r [] i g = pos_nn 0

@@ -1,10 +1,10 @@
 //! The laws of whole numbers that the crates above rest on. Each function has an empty body: its
 //! contract states a law, and the check proves it.
 
-ghost use Rattle.std.specs.Prelude.{◌≡◌, ◌↔◌, ℕ, ◌+◌, ◌-◌, ◌*◌, ◌^◌, ◌<◌, ◌≤◌, List, ◌++◌, ℤ, pos, ◌+ℤ◌, ◌-ℤ◌, ◌*ℤ◌, ◌≤ℤ◌, ◌<ℤ◌, unsigned_abs};
+ghost use Rattle.std.specs.Prelude.{◌≡◌, ◌↔◌, ℕ, ◌+◌, ◌-◌, ◌*◌, ◌^◌, ◌<◌, ◌≤◌, List, ◌++◌, ℤ, pos, ◌+ℤ◌, ◌*ℤ◌, ◌≤ℤ◌, ◌<ℤ◌, unsigned_abs};
 ghost use Rattle.whole_math.specs.Rounding.{floor_div, ceil_div, nearest_div, IsFloor, IsCeil, IsNearest};
 ghost use Rattle.whole_math.specs.Sums.{sum_of};
-ghost use Rattle.whole_math.specs.Vectors.{len, sum, squared_norm, dot, scaled, added};
+ghost use Rattle.whole_math.specs.Vectors.{sum, squared_norm, dot, scaled, added};
 
 /// The roundings are those numbers that their inequalities say, and no others.
 pub fn rounding_laws()
