@@ -1,9 +1,8 @@
 -- What the functions of the code need.
-use Rattle.std.proofs.Common.{◌≡◌, ◌*◌, ◌^◌, ◌≤◌, [], ◌∷◌, ℤ, pos, ◌+ℤ◌, ◌-ℤ◌, ◌*ℤ◌, neg_ℤ, ◌≤ℤ◌, ◌<ℤ◌, inl, inr, arith, sym, subst, refl, lit<, unsigned_abs}
+use Rattle.std.proofs.Common.{◌≡◌, ◌*◌, ◌^◌, ◌≤◌, ℤ, pos, ◌+ℤ◌, ◌-ℤ◌, ◌*ℤ◌, neg_ℤ, ◌≤ℤ◌, ◌<ℤ◌, inl, inr, arith, sym, subst, refl, lit<, unsigned_abs}
 use Rattle.std.proofs.lemmas.Int.{ints}
-use Rattle.whole_math.proofs.Ring.{va, ko, ◌⊕◌, ◌⊖◌, ◌⊗◌}
 use Rattle.whole_math.proofs.Order.{lins, mul_le_right, abs_mul_le}
-use Rattle.whole_math.proofs.Certificates.{cert, weak, ◌≼◌, hy, nm, ◌⊞◌, ◌⊠◌}
+use Rattle.whole_math.proofs.Certificates.{weak}
 use Rattle.whole_math.specs.Rounding.{floor_div, ceil_div}
 use Rattle.whole_math.proofs.Rounding.{floor_le, lt_floor, floor_greatest, ceil_least}
 use Rattle.rational.specs.Rational.{Rational, InBox, of_scale}
@@ -16,6 +15,7 @@ use Rattle.std.specs.Int.{w64}
 use Rattle.iv_core.specs.Boxes.{least_corner, most_corner, Past}
 use Rattle.whole_math.proofs.Extremes.{least_case, most_case}
 use Rattle.kepler_box.proofs.Steps.{in_range}
+use Rattle.kepler_box.proofs.PartCertificates.{corner_high, corner_low}
 
 -- ---- results that are no refusals
 pub ok_of : {T E : Type 0} → (r : Result T E) → (IsErr r → ⊥) → IsOk r
@@ -140,24 +140,6 @@ pub wider_high : (m : ℤ) → m ≤ℤ pos (12 * 2 ^ 56) → m ≤ℤ pos (13 *
 wider_high m h = omega (arith, ints)
 
 -- ---- the residual
-
-pub corner_high : (p q e t w : ℤ) → (w -ℤ t) ≤ℤ (pos 256) → (p -ℤ e) ≤ℤ (pos 2) → e ≤ℤ p → (pos 0) ≤ℤ e → e ≤ℤ (pos 36028797018963968)
-    → w ≤ℤ (pos 2305843009213693952) → (p *ℤ w) ≤ℤ ((e *ℤ t) +ℤ (pos 18446744073709551616))
-corner_high p q e t w h0 h1 h2 h3 h4 h5 =
-    cert (p ∷ q ∷ e ∷ t ∷ w ∷ []) ((((va 4) ⊖ (va 3)) ≼ (ko (pos 256))) ∷ (((va 0) ⊖ (va 2)) ≼ (ko (pos 2))) ∷ ((va 2) ≼ (va 0))
-    ∷ ((ko (pos 0)) ≼ (va 2)) ∷ ((va 2) ≼ (ko (pos 36028797018963968))) ∷ ((va 4) ≼ (ko (pos 2305843009213693952))) ∷ []) ((va 0) ⊗ (va 4))
-    (((va 2) ⊗ (va 3)) ⊕ (ko (pos 18446744073709551616)))
-    ((((((hy 3) ⊠ (hy 0)) ⊞ ((nm 256) ⊠ (hy 4))) ⊞ ((hy 2) ⊠ (hy 5))) ⊞ ((nm 2305843009213693952) ⊠ (hy 1))) ⊞ (nm 4611686018427387904)) refl
-    (h0, (h1, (h2, (h3, (h4, (h5, tt))))))
-
-pub corner_low : (p q e t w : ℤ) → (t -ℤ w) ≤ℤ (pos 256) → (p -ℤ e) ≤ℤ (pos 2) → e ≤ℤ p → (pos 0) ≤ℤ e → e ≤ℤ (pos 36028797018963968)
-    → ((pos 0) -ℤ (pos 2305843009213693952)) ≤ℤ w → ((e *ℤ t) -ℤ (pos 18446744073709551616)) ≤ℤ (p *ℤ w)
-corner_low p q e t w h0 h1 h2 h3 h4 h5 =
-    cert (p ∷ q ∷ e ∷ t ∷ w ∷ []) ((((va 3) ⊖ (va 4)) ≼ (ko (pos 256))) ∷ (((va 0) ⊖ (va 2)) ≼ (ko (pos 2))) ∷ ((va 2) ≼ (va 0))
-    ∷ ((ko (pos 0)) ≼ (va 2)) ∷ ((va 2) ≼ (ko (pos 36028797018963968))) ∷ (((ko (pos 0)) ⊖ (ko (pos 2305843009213693952))) ≼ (va 4)) ∷ [])
-    (((va 2) ⊗ (va 3)) ⊖ (ko (pos 18446744073709551616))) ((va 0) ⊗ (va 4))
-    ((((((hy 3) ⊠ (hy 0)) ⊞ ((nm 256) ⊠ (hy 4))) ⊞ ((hy 2) ⊠ (hy 5))) ⊞ ((nm 2305843009213693952) ⊠ (hy 1))) ⊞ (nm 4611686018427387904)) refl
-    (h0, (h1, (h2, (h3, (h4, (h5, tt))))))
 
 pub record IsReached (ml mh el eh m x a b fl fh : ℤ) : Type 0 where
   pub sized : IsSizedProduct el eh a b

@@ -5,7 +5,7 @@
 //! memory and is never refused.
 #![tactic(auto)]
 
-ghost use Rattle.std.specs.Prelude.{◌≡◌, ℕ, ◌+◌, ◌-◌, ◌*◌, ◌^◌, ◌<◌, ◌≤◌, pos, ◌+ℤ◌, ◌-ℤ◌, ◌*ℤ◌, neg_ℤ, ℤ, ◌≤ℤ◌, unsigned_abs};
+ghost use Rattle.std.specs.Prelude.{◌≡◌, ◌+◌, ◌-◌, ◌*◌, ◌^◌, ◌<◌, ◌≤◌, pos, ◌+ℤ◌, ◌-ℤ◌, ◌*ℤ◌, ℤ, ◌≤ℤ◌, unsigned_abs};
 ghost use Rattle.whole_math.specs.Rounding.{floor_div, ceil_div};
 ghost use Rattle.whole_math.specs.Bounds.{Within};
 ghost use Rattle.rational.specs.Rational.{Rational, add_r, mul_r, of_scale, IsNearBox};

@@ -1,14 +1,14 @@
 -- The box of the near-roots of μ: how far it reaches and how wide it is.
-use Rattle.std.proofs.Common.{◌≡◌, ◌-◌, ◌*◌, ◌^◌, [], ◌∷◌, ℤ, pos, ◌+ℤ◌, ◌-ℤ◌, ◌*ℤ◌, neg_ℤ, ◌≤ℤ◌, ◌<ℤ◌, inl, inr, arith, refl, subst, to_z, of_z}
+use Rattle.std.proofs.Common.{◌≡◌, ◌-◌, ◌*◌, ◌^◌, ℤ, pos, ◌+ℤ◌, ◌-ℤ◌, ◌*ℤ◌, neg_ℤ, ◌≤ℤ◌, ◌<ℤ◌, inl, inr, arith, subst, to_z, of_z}
 use Rattle.std.proofs.Math.Logic.{∥∥₁_elim}
 use Rattle.std.proofs.Props.{props}
 use Rattle.std.specs.Int.{w64}
 use Rattle.std.proofs.lemmas.Int.{ints, by_lt_z}
 use Rattle.whole_math.proofs.Order.{lins, mul_le_right}
-use Rattle.whole_math.proofs.Ring.{va, ko, ◌⊕◌, ◌⊗◌}
-use Rattle.whole_math.proofs.Certificates.{cert, cancel, weak, square_root, ◌≼◌, hy, nm, ◌⊞◌, ◌⊠◌}
+use Rattle.whole_math.proofs.Certificates.{weak, square_root}
 use Rattle.rational.specs.Rational.{InBox, of_whole}
 use Rattle.orbit_clock.specs.Worlds.{IsWorld}
+use Rattle.orbit_clock.proofs.RootOfMuCertificates.{not_high, not_wide}
 
 -- ---- the two systems
 pub record AreBounded (mu rel : ℤ) : Type 0 where
@@ -30,25 +30,6 @@ pub record IsRootBox (n l h : ℤ) : Type 0 where
   pub ordered : l ≤ℤ h
   pub near_low : (n *ℤ (pos (2 ^ 60) -ℤ pos 1)) <ℤ (((l +ℤ pos 1) *ℤ (l +ℤ pos 1)) *ℤ pos (2 ^ 60))
   pub near_high : pos 0 <ℤ h → (((h -ℤ pos 1) *ℤ (h -ℤ pos 1)) *ℤ pos (2 ^ 60)) <ℤ (n *ℤ (pos (2 ^ 60) +ℤ pos 1))
-
-pub not_high : (n x : ℤ) → ((x *ℤ x) *ℤ (pos 1152921504606846976)) ≤ℤ (n *ℤ (pos 1152921504606846977))
-    → n ≤ℤ (pos 1882337641255082017001832448000000000) → (x *ℤ x) ≤ℤ (pos 1882397634623893373688885373462118401)
-not_high n x h0 h1 =
-    cancel (pos 1152921504606846976) (x *ℤ x) (pos 1882397634623893373688885373462118401) (omega (arith, ints))
-    (cert (n ∷ x ∷ []) (((((va 1) ⊗ (va 1)) ⊗ (ko (pos 1152921504606846976))) ≼ ((va 0) ⊗ (ko (pos 1152921504606846977))))
-    ∷ ((va 0) ≼ (ko (pos 1882337641255082017001832448000000000))) ∷ []) ((ko (pos 1152921504606846976)) ⊗ ((va 1) ⊗ (va 1)))
-    ((ko (pos 1152921504606846976)) ⊗ (ko (pos 1882397634623893373688885373462118401)))
-    (((hy 0) ⊞ ((nm 1152921504606846977) ⊠ (hy 1))) ⊞ (nm 69167645036420956023099416298871073802610200805376)) refl (h0, (h1, tt)))
-
-pub not_wide : (n y x : ℤ) → ((x *ℤ x) *ℤ (pos 1152921504606846976)) ≤ℤ (n *ℤ (pos 1152921504606846977))
-    → (n *ℤ (pos 1152921504606846975)) ≤ℤ ((y *ℤ y) *ℤ (pos 1152921504606846976)) → (y +ℤ (pos 2)) ≤ℤ x → (pos 0) ≤ℤ y
-    → y ≤ℤ (pos 2305843009213693950) → (pos 5316911983139663487003542222693990400) ≤ℤ (pos 0)
-not_wide n y x h0 h1 h2 h3 h4 =
-    cert (n ∷ y ∷ x ∷ []) (((((va 2) ⊗ (va 2)) ⊗ (ko (pos 1152921504606846976))) ≼ ((va 0) ⊗ (ko (pos 1152921504606846977))))
-    ∷ (((va 0) ⊗ (ko (pos 1152921504606846975))) ≼ (((va 1) ⊗ (va 1)) ⊗ (ko (pos 1152921504606846976)))) ∷ (((va 1) ⊕ (ko (pos 2))) ≼ (va 2))
-    ∷ ((ko (pos 0)) ≼ (va 1)) ∷ ((va 1) ≼ (ko (pos 2305843009213693950))) ∷ []) (ko (pos 5316911983139663487003542222693990400)) (ko (pos 0))
-    (((((nm 1152921504606846975) ⊠ (hy 0)) ⊞ ((nm 1152921504606846977) ⊠ (hy 1))) ⊞ ((nm 1329227995784915871750885555673497600)
-    ⊠ ((hy 2) ⊠ (((hy 2) ⊞ ((nm 2) ⊠ (hy 3))) ⊞ (nm 4))))) ⊞ ((nm 2305843009213693952) ⊠ ((hy 3) ⊠ (hy 4)))) refl (h0, (h1, (h2, (h3, (h4, tt)))))
 
 pub root_high : (n l h : ℤ) → IsRootBox n l h → n ≤ℤ pos (398600500000000 * 2 ^ 72) → h ≤ℤ pos (19965300 * 2 ^ 36)
 root_high n l h b m = by_lt_z (pos 0) h

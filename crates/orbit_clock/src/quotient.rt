@@ -1,5 +1,5 @@
 //! Boxes of quotients of whole numbers.
-ghost use Rattle.std.specs.Prelude.{ℕ, ◌*◌, ◌^◌, ◌<◌, ◌≤◌, pos, ◌*ℤ◌, ◌<ℤ◌};
+ghost use Rattle.std.specs.Prelude.{◌*◌, ◌^◌, ◌<◌, ◌≤◌, pos, ◌*ℤ◌, ◌<ℤ◌};
 ghost use Rattle.whole_math.specs.Bounds.{Within};
 ghost use Rattle.rational.specs.Rational.{Rational, IsRatio};
 ghost use Rattle.iv_core.specs.Intervals.{Holds};

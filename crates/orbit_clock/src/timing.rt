@@ -1,20 +1,18 @@
 //! The clock by three passes of its correction, and the mean anomaly at the time that it gives.
-ghost use Rattle.std.specs.Prelude.{◌≡◌, ◌+◌, ◌*◌, ◌^◌, ◌<◌, ◌≤◌, pos, ◌+ℤ◌, ◌-ℤ◌, ◌*ℤ◌, neg_ℤ, ◌≤ℤ◌};
+ghost use Rattle.std.specs.Prelude.{◌+◌, ◌*◌, ◌^◌, ◌<◌, ◌≤◌, pos, ◌+ℤ◌, ◌-ℤ◌, neg_ℤ, ◌≤ℤ◌};
 ghost use Rattle.std.specs.Int.{abs_diff};
-ghost use Rattle.rational.specs.Rational.{Rational, add_r, sub_r, mul_r, times, of_scale, two_to_minus, IsNearBox, IsAtMostInSize};
+ghost use Rattle.rational.specs.Rational.{Rational, add_r, sub_r, mul_r, of_scale, two_to_minus, IsNearBox, IsAtMostInSize};
 ghost use Rattle.iv_core.specs.Intervals.{Holds};
 ghost use Rattle.kepler_box.specs.Kepler.{SolvesKepler};
-ghost use Rattle.orbit_model.specs.Elements.{Elements, sent_at};
+ghost use Rattle.orbit_model.specs.Elements.{sent_at};
 ghost use Rattle.orbit_model.specs.Solution.{Quantities, IsSatelliteSolution};
-ghost use Rattle.orbit_clock.specs.Records.{elements_of, constants_of, seconds};
+ghost use Rattle.orbit_clock.specs.Records.{elements_of, constants_of};
 ghost use Rattle.orbit_clock.specs.Terms.{part};
 ghost use Rattle.orbit_clock.specs.Timings.{HoldsTiming};
 
-use crate::World;
 use crate::correction::{CLOCK, EFFECT, SHARE, Terms, pass, share_of, time_since};
 use crate::record::ClockRecord;
 use crate::shape::ECCENTRICITY;
-use eph_store::Eph;
 use gps_time::Tick;
 use iv_core::Iv;
 use kepler_box::anomaly_box;
@@ -195,14 +193,4 @@ pub fn timing_at(made: &ClockRecord, tag: Tick, code: i64) -> Timing
         epoch_time,
         mean,
     }
-}
-
-/// The same from the record itself and the constants of its system.
-pub fn timing_of(eph: &Eph, tag: Tick, code: i64, world: &World) -> Timing
-    requires near { abs_diff tag.0 eph.now.toe.0 ≤ 72010000000 }
-    requires code_low { pos 0 ≤ℤ code }
-    requires code_high { code ≤ℤ pos (10 ^ 11) }
-    ensures { (q : Quantities) → IsSatelliteSolution (constants_of world.now) (elements_of eph.now) (sent_at tag.0 code) q → HoldsTiming result q }
-{
-    timing_at(&ClockRecord::of(eph, world), tag, code)
 }

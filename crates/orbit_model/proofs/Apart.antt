@@ -7,7 +7,7 @@ use Rattle.rational.proofs.Laws.{≤ʳ_trans}
 use Rattle.trig_box.specs.AnglePairs.{Pair, IsAnglePair}
 use Rattle.trig_box.proofs.PairLaws.{norm_law_5}
 use Rattle.orbit_model.specs.SeenPlaces.{Place, difference, square, turned_back, IsSentPlace, IsReceiverPlace}
-use Rattle.orbit_model.proofs.Distances.{turned_far, turned_near, vector_far, vector_near}
+use Rattle.orbit_model.proofs.DistanceCertificates.{turned_far, turned_near, vector_far, vector_near}
 
 pub record IsBetween (least most : ℕ) (q : Rational) : Type 0 where
   pub low : of_whole (pos least) ≤ʳ q

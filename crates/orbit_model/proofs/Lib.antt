@@ -1,7 +1,10 @@
 pub mod Orders
-pub mod Distances
+pub mod DistanceCertificates
 pub mod NearRoots
+pub mod NearRootCertificates
 pub mod Apart
 pub mod Changes
+pub mod ChangeCertificates
 pub mod Exists
+pub mod BisectionCertificates
 pub mod Seen

@@ -1,45 +1,13 @@
 -- What a near-root is, as two inequalities.
-use Rattle.std.proofs.Common.{◌≡◌, ℕ, ◌*◌, ◌^◌, [], ◌∷◌, ℤ, pos, negsuc, ◌-ℤ◌, ◌*ℤ◌, neg_ℤ, ◌≤ℤ◌, ◌<ℤ◌, unsigned_abs, arith, refl, sym, subst₂}
+use Rattle.std.proofs.Common.{◌≡◌, ℕ, ◌*◌, ◌^◌, [], ◌∷◌, ℤ, pos, negsuc, ◌-ℤ◌, ◌*ℤ◌, neg_ℤ, ◌≤ℤ◌, unsigned_abs, arith, refl, sym, subst₂}
 use Rattle.std.proofs.lemmas.Int.{ints}
-use Rattle.whole_math.proofs.Ring.{va, ko, ◌⊖◌, ◌⊗◌, ng}
+use Rattle.whole_math.proofs.Ring.{◌⊖◌, ◌⊗◌}
 use Rattle.whole_math.proofs.Order.{lt_pos}
 use Rattle.whole_math.proofs.Inequalities.{same_by, nat, pos_nn}
 use Rattle.whole_math.proofs.Absolute.{abs_times_le}
-use Rattle.whole_math.proofs.Certificates.{cert, cancel, weak, ◌≼◌, hy, ◌⊠◌}
 use Rattle.rational.specs.Rational.{Rational, ◌≤ʳ◌, of_whole, sub_r, mul_r, IsNearRoot}
 use Rattle.orbit_model.specs.SeenPlaces.{over_light_speed_squared, range_of}
-
-pub high : (a d n e : ℤ) → (pos 0) ≤ℤ e → ((((a *ℤ a) *ℤ e) -ℤ (n *ℤ (d *ℤ d))) *ℤ (pos 1152921504606846976)) ≤ℤ (n *ℤ (d *ℤ d))
-    → (((pos 1152921504606846976) *ℤ (((a *ℤ a) *ℤ e) -ℤ (n *ℤ (d *ℤ d)))) *ℤ e) ≤ℤ (n *ℤ ((pos 1) *ℤ ((d *ℤ d) *ℤ e)))
-high a d n e h0 h1 =
-    cert (a ∷ d ∷ n ∷ e ∷ []) (((ko (pos 0)) ≼ (va 3)) ∷ ((((((va 0) ⊗ (va 0)) ⊗ (va 3)) ⊖ ((va 2) ⊗ ((va 1) ⊗ (va 1)))) ⊗ (ko (pos 1152921504606846976)))
-    ≼ ((va 2) ⊗ ((va 1) ⊗ (va 1)))) ∷ []) (((ko (pos 1152921504606846976)) ⊗ ((((va 0) ⊗ (va 0)) ⊗ (va 3)) ⊖ ((va 2) ⊗ ((va 1) ⊗ (va 1))))) ⊗ (va 3))
-    ((va 2) ⊗ ((ko (pos 1)) ⊗ (((va 1) ⊗ (va 1)) ⊗ (va 3)))) ((hy 0) ⊠ (hy 1)) refl (h0, (h1, tt))
-
-pub low : (a d n e : ℤ) → (pos 0) ≤ℤ e → ((neg_ℤ (((a *ℤ a) *ℤ e) -ℤ (n *ℤ (d *ℤ d)))) *ℤ (pos 1152921504606846976)) ≤ℤ (n *ℤ (d *ℤ d))
-    → (((pos 1152921504606846976) *ℤ ((n *ℤ (d *ℤ d)) -ℤ ((a *ℤ a) *ℤ e))) *ℤ e) ≤ℤ (n *ℤ ((pos 1) *ℤ (e *ℤ (d *ℤ d))))
-low a d n e h0 h1 =
-    cert (a ∷ d ∷ n ∷ e ∷ []) (((ko (pos 0)) ≼ (va 3)) ∷ (((ng ((((va 0) ⊗ (va 0)) ⊗ (va 3)) ⊖ ((va 2) ⊗ ((va 1) ⊗ (va 1))))) ⊗ (ko (pos 1152921504606846976)))
-    ≼ ((va 2) ⊗ ((va 1) ⊗ (va 1)))) ∷ []) (((ko (pos 1152921504606846976)) ⊗ (((va 2) ⊗ ((va 1) ⊗ (va 1))) ⊖ (((va 0) ⊗ (va 0)) ⊗ (va 3)))) ⊗ (va 3))
-    ((va 2) ⊗ ((ko (pos 1)) ⊗ ((va 3) ⊗ ((va 1) ⊗ (va 1))))) ((hy 0) ⊠ (hy 1)) refl (h0, (h1, tt))
-
-pub from_high : (a d n e : ℤ) → (((pos 1152921504606846976) *ℤ (((a *ℤ a) *ℤ e) -ℤ (n *ℤ (d *ℤ d)))) *ℤ e) ≤ℤ (n *ℤ ((pos 1) *ℤ ((d *ℤ d) *ℤ e)))
-    → (pos 0) <ℤ e → ((((a *ℤ a) *ℤ e) -ℤ (n *ℤ (d *ℤ d))) *ℤ (pos 1152921504606846976)) ≤ℤ (n *ℤ (d *ℤ d))
-from_high a d n e h0 h1 =
-    cancel e ((((a *ℤ a) *ℤ e) -ℤ (n *ℤ (d *ℤ d))) *ℤ (pos 1152921504606846976)) (n *ℤ (d *ℤ d)) h1
-    (cert (a ∷ d ∷ n ∷ e ∷ []) (((((ko (pos 1152921504606846976)) ⊗ ((((va 0) ⊗ (va 0)) ⊗ (va 3)) ⊖ ((va 2) ⊗ ((va 1) ⊗ (va 1))))) ⊗ (va 3))
-    ≼ ((va 2) ⊗ ((ko (pos 1)) ⊗ (((va 1) ⊗ (va 1)) ⊗ (va 3))))) ∷ ((ko (pos 0)) ≼ (va 3)) ∷ [])
-    ((va 3) ⊗ (((((va 0) ⊗ (va 0)) ⊗ (va 3)) ⊖ ((va 2) ⊗ ((va 1) ⊗ (va 1)))) ⊗ (ko (pos 1152921504606846976))))
-    ((va 3) ⊗ ((va 2) ⊗ ((va 1) ⊗ (va 1)))) (hy 0) refl (h0, (weak (pos 0) e h1, tt)))
-
-pub from_low : (a d n e : ℤ) → (((pos 1152921504606846976) *ℤ ((n *ℤ (d *ℤ d)) -ℤ ((a *ℤ a) *ℤ e))) *ℤ e) ≤ℤ (n *ℤ ((pos 1) *ℤ (e *ℤ (d *ℤ d))))
-    → (pos 0) <ℤ e → ((neg_ℤ (((a *ℤ a) *ℤ e) -ℤ (n *ℤ (d *ℤ d)))) *ℤ (pos 1152921504606846976)) ≤ℤ (n *ℤ (d *ℤ d))
-from_low a d n e h0 h1 =
-    cancel e ((neg_ℤ (((a *ℤ a) *ℤ e) -ℤ (n *ℤ (d *ℤ d)))) *ℤ (pos 1152921504606846976)) (n *ℤ (d *ℤ d)) h1
-    (cert (a ∷ d ∷ n ∷ e ∷ []) (((((ko (pos 1152921504606846976)) ⊗ (((va 2) ⊗ ((va 1) ⊗ (va 1))) ⊖ (((va 0) ⊗ (va 0)) ⊗ (va 3)))) ⊗ (va 3))
-    ≼ ((va 2) ⊗ ((ko (pos 1)) ⊗ ((va 3) ⊗ ((va 1) ⊗ (va 1)))))) ∷ ((ko (pos 0)) ≼ (va 3)) ∷ [])
-    ((va 3) ⊗ ((ng ((((va 0) ⊗ (va 0)) ⊗ (va 3)) ⊖ ((va 2) ⊗ ((va 1) ⊗ (va 1))))) ⊗ (ko (pos 1152921504606846976))))
-    ((va 3) ⊗ ((va 2) ⊗ ((va 1) ⊗ (va 1)))) (hy 0) refl (h0, (weak (pos 0) e h1, tt)))
+use Rattle.orbit_model.proofs.NearRootCertificates.{high, low, from_high, from_low}
 
 pub root_nn : (r q : Rational) → IsNearRoot r q → of_whole (pos 0) ≤ʳ r
 root_nn r q h = go r.num r.den h.0

@@ -6,7 +6,7 @@ use Rattle.orbit_model.proofs.Orders.{root_r}
 use Rattle.orbit_model.specs.SeenPlaces.{Place, difference, square, turned_back, AreSamePlace, IsSeenPlace, IsSentPlace, IsReceiverPlace, HasLengthBetween, over_light_speed_squared, range_of}
 use Rattle.orbit_model.proofs.Apart.{IsBetween, turned_square, loosely, vector_square, whole_le}
 use Rattle.orbit_model.proofs.NearRoots.{range_root, near_high, root_nn}
-use Rattle.orbit_model.proofs.Distances.{time_square}
+use Rattle.orbit_model.proofs.DistanceCertificates.{time_square}
 
 -- ---- equal places have equal lengths
 add_both : (p q r s : Rational) → p ≈ q → r ≈ s → add_r p r ≈ add_r q s

@@ -1,6 +1,6 @@
 //! The inclination and the longitude of the ascending node at the time of sending.
-ghost use Rattle.std.specs.Prelude.{◌≡◌, ◌*◌, ◌^◌, ◌<◌, ◌≤◌, pos, ◌≤ℤ◌};
-ghost use Rattle.rational.specs.Rational.{Rational, ◌≈◌, add_r, sub_r, mul_r, times, of_whole};
+ghost use Rattle.std.specs.Prelude.{◌*◌, ◌<◌, pos};
+ghost use Rattle.rational.specs.Rational.{Rational, add_r, sub_r, mul_r, times, of_whole};
 ghost use Rattle.iv_core.specs.Intervals.{Holds};
 ghost use Rattle.orbit_model.specs.Elements.{earth_rate};
 ghost use Rattle.rotation_box.specs.Rotations.{HoldsBoth};

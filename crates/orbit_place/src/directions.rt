@@ -1,6 +1,6 @@
 //! The direction from the Earth's centre to a satellite.
-ghost use Rattle.std.specs.Prelude.{◌≡◌, ◌+◌, ◌*◌, ◌^◌, ◌≤◌, pos, ◌≤ℤ◌};
-ghost use Rattle.iv_core.specs.Intervals.{Holds, width_of, IsWithin};
+ghost use Rattle.std.specs.Prelude.{◌≡◌, ◌≤◌, pos, ◌≤ℤ◌};
+ghost use Rattle.iv_core.specs.Intervals.{width_of};
 ghost use Rattle.trig_box.specs.AnglePairs.{Pair};
 ghost use Rattle.rotation_box.specs.Rotations.{HoldsBoth};
 ghost use Rattle.orbit_place.specs.Directions.{direction, HoldsPoint, HasPointNearSphere};

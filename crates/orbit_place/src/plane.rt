@@ -1,5 +1,5 @@
 //! The place in the plane of the orbit: the argument of latitude and the radius, both corrected.
-ghost use Rattle.std.specs.Prelude.{◌≡◌, ◌+◌, ◌-◌, ◌*◌, ◌^◌, ◌≤◌, pos, ◌≤ℤ◌};
+ghost use Rattle.std.specs.Prelude.{◌-◌, ◌*◌, ◌^◌, ◌≤◌, pos, ◌≤ℤ◌};
 ghost use Rattle.rational.specs.Rational.{Rational, add_r, mul_r};
 ghost use Rattle.iv_core.specs.Intervals.{Holds};
 ghost use Rattle.trig_box.specs.AnglePairs.{Pair};

@@ -3,4 +3,5 @@ pub mod Reaches
 pub mod Turns
 pub mod Angles
 pub mod Roots
+pub mod RootCertificates
 pub mod Ellipses

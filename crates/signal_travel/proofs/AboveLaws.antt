@@ -1,11 +1,11 @@
 -- From what the code reads of the boxes and the point to places.
-use Rattle.std.proofs.Common.{◌≡◌, ℕ, zero, suc, ◌*◌, ◌^◌, ◌≤◌, ◌↔◌, List, [], ◌∷◌, ℤ, pos, ◌+ℤ◌, ◌*ℤ◌, ◌≤ℤ◌, neg_ℤ, unsigned_abs, get_or, All, lit<, arith, to_z, of_z, sym, subst}
+use Rattle.std.proofs.Common.{◌≡◌, ℕ, ◌^◌, ◌<◌, ◌≤◌, ◌↔◌, List, [], ◌∷◌, length, ℤ, pos, ◌≤ℤ◌, neg_ℤ, unsigned_abs, get_or, All, lit<, arith, to_z, of_z, sym, subst}
 use Rattle.std.proofs.lemmas.Int.{ints, to_z-of_z}
 use Rattle.std.specs.Int.{w64}
 use mir.Val.{SFits}
-use Rattle.whole_math.specs.Vectors.{squared_norm}
-use Rattle.whole_math.proofs.Order.{lins, square_nn}
-use Rattle.obs_rows.proofs.ReceiverPointLaws.{norm_nn, size_of_square}
+use Rattle.whole_math.proofs.Words.{as_w64}
+use Rattle.obs_rows.specs.ReceiverPoints.{IsReceiverPoint}
+use Rattle.obs_rows.proofs.ReceiverPointLaws.{receiver_is_point}
 use Rattle.rational.specs.Rational.{Rational, AreWithin, two_to_minus, of_scale}
 use Rattle.iv_core.specs.declared.Iv.{Iv}
 use Rattle.iv_core.specs.Intervals.{Holds, width_of}
@@ -14,35 +14,15 @@ use Rattle.signal_travel.specs.Boxes.{IsNearPlaces, HasNearPlace}
 use Rattle.signal_travel.specs.Grid.{grid, offset, dot3, IsAboveWhole}
 use Rattle.signal_travel.proofs.GridPlaces.{grid_place, grid_near, sides, is_above, decided_place}
 
--- ---- an entry of a vector
-entry_square : (s : List ℤ) (i : ℕ) → (get_or s i (pos 0) *ℤ get_or s i (pos 0)) ≤ℤ squared_norm s
-entry_square [] i = omega (arith, ints)
-entry_square (x ∷ s) zero = let b = norm_nn s in go (x *ℤ x) (squared_norm s) b
-  where
-    go : (a b : ℤ) → pos 0 ≤ℤ b → a ≤ℤ (a +ℤ b)
-    go a b h = omega (arith, lins)
-entry_square (x ∷ s) (suc i) = go (x *ℤ x) (squared_norm s) (get_or s i (pos 0) *ℤ get_or s i (pos 0)) (square_nn x) (entry_square s i)
-  where
-    go : (a b c : ℤ) → pos 0 ≤ℤ a → c ≤ℤ b → c ≤ℤ (a +ℤ b)
-    go a b c h k = omega (arith, lins)
-
-pub coordinate : (s : List ℤ) (i : ℕ) → squared_norm s ≤ℤ pos (70000000000 * 70000000000) → unsigned_abs (get_or s i (pos 0)) ≤ 70000000000
-coordinate s i h = size_of_square (get_or s i (pos 0)) 70000000000 (through (get_or s i (pos 0) *ℤ get_or s i (pos 0)) (squared_norm s) (pos (70000000000 * 70000000000)) (entry_square s i) h)
-  where
-    through : (a b c : ℤ) → a ≤ℤ b → b ≤ℤ c → a ≤ℤ c
-    through a b c h k = omega (arith, lins)
-
-fits : (z : ℤ) → unsigned_abs z ≤ 70000000000 → SFits w64 z
-fits z h = omega (arith, ints)
+-- ---- a coordinate of a point
+pub coordinate : (s : List ℤ) (i : ℕ) → i < length s → IsReceiverPoint s → unsigned_abs (get_or s i (pos 0)) ≤ 70000000000
+coordinate s i inside point = receiver_is_point s point i (pos 0) inside
 
 pub plain_coordinate : (z : ℤ) → unsigned_abs z ≤ 70000000000 → to_z w64 (of_z w64 z) ≡ z
-plain_coordinate z h = to_z-of_z w64 z (fits z h)
+plain_coordinate z small = as_w64 z (omega (arith, small))
 
 pub cast_size : (z : ℤ) (n : ℕ) → 70000000000 ≤ n → unsigned_abs z ≤ 70000000000 → unsigned_abs (to_z w64 (of_z w64 z)) ≤ n
-cast_size z n k h = subst (λ (y : ℤ). unsigned_abs y ≤ n) (sym (plain_coordinate z h)) (go (unsigned_abs z) n h k)
-  where
-    go : (a n : ℕ) → a ≤ 70000000000 → 70000000000 ≤ n → a ≤ n
-    go a n h k = omega arith
+cast_size z n room small = subst (λ (y : ℤ). unsigned_abs y ≤ n) (sym (plain_coordinate z small)) (omega (arith, room, small))
 
 -- ---- the place on the grid is near every place of the boxes
 pub near_places : (boxes : List (Iv 36)) (x y z : Iv 36) → x ≡ get_or boxes 0 x → y ≡ get_or boxes 1 y → z ≡ get_or boxes 2 z → All (λ b. width_of b ≤ℤ pos (2 ^ 19)) boxes →

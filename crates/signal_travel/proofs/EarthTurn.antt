@@ -1,72 +1,19 @@
 -- The Earth's turn in a box of times: its angles, its pairs, and the places that it turns.
-use Rattle.std.proofs.Common.{◌≡◌, ℕ, zero, suc, ◌+◌, ◌*◌, ◌^◌, ◌≤◌, [], ◌∷◌, ℤ, pos, ◌+ℤ◌, ◌-ℤ◌, ◌*ℤ◌, neg_ℤ, ◌≤ℤ◌, ◌<ℤ◌, unsigned_abs, arith, sym, ap, subst, ◌∙◌, refl, lit<, lit≤, to_z, of_z}
+use Rattle.std.proofs.Common.{◌≡◌, ℕ, zero, suc, ◌+◌, ◌*◌, ◌^◌, ◌≤◌, [], ◌∷◌, ℤ, pos, ◌+ℤ◌, ◌-ℤ◌, ◌*ℤ◌, neg_ℤ, ◌≤ℤ◌, unsigned_abs, arith, sym, ap, subst, ◌∙◌, refl, lit<, lit≤, to_z, of_z}
 use Rattle.std.proofs.lemmas.Int.{ints}
 use Rattle.std.specs.Int.{w64}
 use Rattle.whole_math.proofs.Ring.{va, ko, ◌⊕◌, ◌⊖◌, ◌⊗◌, ng}
 use Rattle.whole_math.proofs.Order.{lins, mul_le_cancel, le_pos, lt_pos}
-use Rattle.whole_math.proofs.Certificates.{cert, cancel, weak, ◌≼◌, hy, nm, ◌⊞◌, ◌⊠◌}
+use Rattle.whole_math.proofs.Certificates.{cert, weak, ◌≼◌, hy}
 use Rattle.whole_math.proofs.Inequalities.{same_by}
 use Rattle.whole_math.specs.Rounding.{floor_div}
 use Rattle.whole_math.proofs.Rounding.{floor_le, lt_floor}
 use Rattle.rational.specs.Rational.{Rational, ◌≈◌, ◌≤ʳ◌, of_whole, of_scale, add_r, sub_r, mul_r, neg_r, times, two_to_minus, AreWithin, InBox}
 use Rattle.rational.proofs.Laws.{≤ʳ_trans, ≤ʳ_from_same}
-use Rattle.orbit_model.proofs.Orders.{cert_r}
 use Rattle.trig_box.specs.AnglePairs.{Pair, doubled, taylor_pair, part, IsAnglePair, IsCanonicalPair}
 use Rattle.trig_box.proofs.PairLaws.{canonical_exists, canonical_is_pair, canonical_law, sharp_law, size_law_5}
 use Rattle.orbit_model.specs.Elements.{earth_rate}
-
--- the angle of a time of the box against that of its middle, rounded
-pub angle_up : (t u h m r a p : ℤ) → (t *ℤ (pos 1152921504606846976)) ≤ℤ (h *ℤ u) → (h -ℤ m) ≤ℤ r
-    → ((pos 72921151467) *ℤ m) ≤ℤ ((a *ℤ (pos 16000000000000000)) +ℤ (pos 16000000000000000)) → (r +ℤ (pos 135168)) ≤ℤ ((pos 4096) *ℤ p) → (pos 0) ≤ℤ r
-    → (pos 0) ≤ℤ u → (((((pos 72921151467) *ℤ t) *ℤ (pos 72057594037927936)) -ℤ (a *ℤ ((pos 1000000000000000) *ℤ u))) *ℤ (pos 2305843009213693952))
-    ≤ℤ ((p -ℤ (pos 1)) *ℤ (((pos 1000000000000000) *ℤ u) *ℤ (pos 72057594037927936)))
-angle_up t u h m r a p h0 h1 h2 h3 h4 h5 =
-    cancel (pos 4096) (((((pos 72921151467) *ℤ t) *ℤ (pos 72057594037927936)) -ℤ (a *ℤ ((pos 1000000000000000) *ℤ u))) *ℤ (pos 2305843009213693952))
-    ((p -ℤ (pos 1)) *ℤ (((pos 1000000000000000) *ℤ u) *ℤ (pos 72057594037927936))) (omega (arith, ints))
-    (cert (t ∷ u ∷ h ∷ m ∷ r ∷ a ∷ p ∷ []) ((((va 0) ⊗ (ko (pos 1152921504606846976))) ≼ ((va 2) ⊗ (va 1))) ∷ (((va 2) ⊖ (va 3)) ≼ (va 4))
-    ∷ (((ko (pos 72921151467)) ⊗ (va 3)) ≼ (((va 5) ⊗ (ko (pos 16000000000000000))) ⊕ (ko (pos 16000000000000000))))
-    ∷ (((va 4) ⊕ (ko (pos 135168))) ≼ ((ko (pos 4096)) ⊗ (va 6))) ∷ ((ko (pos 0)) ≼ (va 4)) ∷ ((ko (pos 0)) ≼ (va 1)) ∷ [])
-    ((ko (pos 4096)) ⊗ (((((ko (pos 72921151467)) ⊗ (va 0)) ⊗ (ko (pos 72057594037927936))) ⊖ ((va 5) ⊗ ((ko (pos 1000000000000000)) ⊗ (va 1))))
-    ⊗ (ko (pos 2305843009213693952))))
-    ((ko (pos 4096)) ⊗ (((va 6) ⊖ (ko (pos 1))) ⊗ (((ko (pos 1000000000000000)) ⊗ (va 1)) ⊗ (ko (pos 72057594037927936)))))
-    ((((((nm 43045050197502682430559699861504) ⊠ (hy 0)) ⊞ (((nm 43045050197502682430559699861504) ⊠ (hy 5)) ⊠ (hy 1)))
-    ⊞ (((nm 590295810358705651712) ⊠ (hy 5)) ⊠ (hy 2))) ⊞ (((nm 72057594037927936000000000000000) ⊠ (hy 5)) ⊠ (hy 3)))
-    ⊞ (((nm 29012543840425253569440300138496) ⊠ (hy 5)) ⊠ (hy 4))) refl (h0, (h1, (h2, (h3, (h4, (h5, tt)))))))
-
-pub angle_down : (t u l m r a p : ℤ) → (l *ℤ u) ≤ℤ (t *ℤ (pos 1152921504606846976)) → (m -ℤ l) ≤ℤ r
-    → (a *ℤ (pos 16000000000000000)) ≤ℤ ((pos 72921151467) *ℤ m) → (r +ℤ (pos 135168)) ≤ℤ ((pos 4096) *ℤ p) → (pos 0) ≤ℤ r → (pos 0) ≤ℤ u
-    → (((a *ℤ ((pos 1000000000000000) *ℤ u)) -ℤ (((pos 72921151467) *ℤ t) *ℤ (pos 72057594037927936))) *ℤ (pos 2305843009213693952))
-    ≤ℤ ((p -ℤ (pos 1)) *ℤ ((pos 72057594037927936) *ℤ ((pos 1000000000000000) *ℤ u)))
-angle_down t u l m r a p h0 h1 h2 h3 h4 h5 =
-    cancel (pos 4096) (((a *ℤ ((pos 1000000000000000) *ℤ u)) -ℤ (((pos 72921151467) *ℤ t) *ℤ (pos 72057594037927936))) *ℤ (pos 2305843009213693952))
-    ((p -ℤ (pos 1)) *ℤ ((pos 72057594037927936) *ℤ ((pos 1000000000000000) *ℤ u))) (omega (arith, ints))
-    (cert (t ∷ u ∷ l ∷ m ∷ r ∷ a ∷ p ∷ []) ((((va 2) ⊗ (va 1)) ≼ ((va 0) ⊗ (ko (pos 1152921504606846976)))) ∷ (((va 3) ⊖ (va 2)) ≼ (va 4))
-    ∷ (((va 5) ⊗ (ko (pos 16000000000000000))) ≼ ((ko (pos 72921151467)) ⊗ (va 3))) ∷ (((va 4) ⊕ (ko (pos 135168))) ≼ ((ko (pos 4096)) ⊗ (va 6)))
-    ∷ ((ko (pos 0)) ≼ (va 4)) ∷ ((ko (pos 0)) ≼ (va 1)) ∷ []) ((ko (pos 4096)) ⊗ ((((va 5) ⊗ ((ko (pos 1000000000000000)) ⊗ (va 1)))
-    ⊖ (((ko (pos 72921151467)) ⊗ (va 0)) ⊗ (ko (pos 72057594037927936)))) ⊗ (ko (pos 2305843009213693952))))
-    ((ko (pos 4096)) ⊗ (((va 6) ⊖ (ko (pos 1))) ⊗ ((ko (pos 72057594037927936)) ⊗ ((ko (pos 1000000000000000)) ⊗ (va 1)))))
-    (((((((nm 43045050197502682430559699861504) ⊠ (hy 0)) ⊞ (((nm 43045050197502682430559699861504) ⊠ (hy 5)) ⊠ (hy 1))) ⊞ (((nm 590295810358705651712)
-    ⊠ (hy 5)) ⊠ (hy 2))) ⊞ (((nm 72057594037927936000000000000000) ⊠ (hy 5)) ⊠ (hy 3))) ⊞ (((nm 29012543840425253569440300138496) ⊠ (hy 5)) ⊠ (hy 4)))
-    ⊞ ((nm 9444732965739290427392000000000000000) ⊠ (hy 5))) refl (h0, (h1, (h2, (h3, (h4, (h5, tt)))))))
-
-pub pad_low : (c s d l p : Rational) → l ≤ʳ s → (sub_r s c) ≤ʳ d → d ≤ʳ p → (sub_r l p) ≤ʳ c
-pad_low c s d l p h0 h1 h2 =
-    cert_r (c ∷ s ∷ d ∷ l ∷ p ∷ []) (((va 3) ≼ (va 1)) ∷ (((va 1) ⊖ (va 0)) ≼ (va 2)) ∷ ((va 2) ≼ (va 4)) ∷ []) ((va 3) ⊖ (va 4)) (va 0) (((hy 0) ⊞ (hy 1)) ⊞ (hy 2)) refl (h0, (h1, (h2, tt)))
-
-pub pad_high : (c s d h p : Rational) → s ≤ʳ h → (sub_r c s) ≤ʳ d → d ≤ʳ p → c ≤ʳ (add_r h p)
-pad_high c s d h p h0 h1 h2 =
-    cert_r (c ∷ s ∷ d ∷ h ∷ p ∷ []) (((va 1) ≼ (va 3)) ∷ (((va 0) ⊖ (va 1)) ≼ (va 2)) ∷ ((va 2) ≼ (va 4)) ∷ []) (va 0) ((va 3) ⊕ (va 4)) (((hy 0) ⊞ (hy 1)) ⊞ (hy 2)) refl (h0, (h1, (h2, tt)))
-
-pub zero_right : (n d e p q : ℤ) → (((n *ℤ e) -ℤ ((pos 0) *ℤ d)) *ℤ q) ≤ℤ (p *ℤ (d *ℤ e)) → (pos 0) <ℤ e → (n *ℤ q) ≤ℤ (p *ℤ d)
-zero_right n d e p q h0 h1 =
-    cancel e (n *ℤ q) (p *ℤ d) h1 (cert (n ∷ d ∷ e ∷ p ∷ q ∷ []) ((((((va 0) ⊗ (va 2)) ⊖ ((ko (pos 0)) ⊗ (va 1))) ⊗ (va 4)) ≼ ((va 3) ⊗ ((va 1) ⊗ (va 2))))
-    ∷ ((ko (pos 0)) ≼ (va 2)) ∷ []) ((va 2) ⊗ ((va 0) ⊗ (va 4))) ((va 2) ⊗ ((va 3) ⊗ (va 1))) (hy 0) refl (h0, (weak (pos 0) e h1, tt)))
-
-pub zero_left : (n d e p q : ℤ) → ((((pos 0) *ℤ d) -ℤ (n *ℤ e)) *ℤ q) ≤ℤ (p *ℤ (e *ℤ d)) → (pos 0) <ℤ e → ((neg_ℤ (n)) *ℤ q) ≤ℤ (p *ℤ d)
-zero_left n d e p q h0 h1 =
-    cancel e ((neg_ℤ (n)) *ℤ q) (p *ℤ d) h1
-    (cert (n ∷ d ∷ e ∷ p ∷ q ∷ []) ((((((ko (pos 0)) ⊗ (va 1)) ⊖ ((va 0) ⊗ (va 2))) ⊗ (va 4)) ≼ ((va 3) ⊗ ((va 2) ⊗ (va 1))))
-    ∷ ((ko (pos 0)) ≼ (va 2)) ∷ []) ((va 2) ⊗ ((ng (va 0)) ⊗ (va 4))) ((va 2) ⊗ ((va 3) ⊗ (va 1))) (hy 0) refl (h0, (weak (pos 0) e h1, tt)))
+use Rattle.signal_travel.proofs.EarthTurnCertificates.{angle_up, angle_down, pad_low, pad_high, zero_right, zero_left}
 
 -- ---- a pair of a time of the box lies within the pad of the canonical pair of the middle
 within : (t : Rational) (l h m r a p : ℤ) → InBox 60 l h t → (m -ℤ l) ≤ℤ r → (h -ℤ m) ≤ℤ r → a ≡ floor_div (pos 72921151467 *ℤ m) 16000000000000000 →

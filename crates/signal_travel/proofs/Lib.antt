@@ -4,9 +4,13 @@ pub mod GridPlaces
 pub mod AboveLaws
 pub mod PlaceLists
 pub mod Lengths
+pub mod LengthCertificates
 pub mod EarthTurn
+pub mod EarthTurnCertificates
 pub mod PlaceBoxes
 pub mod Times
+pub mod TimeCertificates
 pub mod Sights
 pub mod Handed
 pub mod MeanDirections
+pub mod MeanDirectionCertificates

@@ -1,11 +1,10 @@
 -- The sum of two ranges, a move less twice a vector, and their quotient, in whole numbers; and the vector to a seen place.
-use Rattle.std.proofs.Common.{◌≡◌, ℕ, ◌<◌, [], ◌∷◌, ℤ, pos, ◌+ℤ◌, ◌-ℤ◌, ◌*ℤ◌, neg_ℤ, ◌≤ℤ◌, ◌<ℤ◌, unsigned_abs, arith, lit≤, ap, refl}
+use Rattle.std.proofs.Common.{◌≡◌, ℕ, ◌<◌, [], ◌∷◌, ℤ, pos, ◌*ℤ◌, neg_ℤ, ◌≤ℤ◌, ◌<ℤ◌, unsigned_abs, arith, lit≤, ap, refl}
 use Rattle.std.proofs.lemmas.Int.{ints}
 use Rattle.whole_math.specs.Rounding.{floor_div, ceil_div}
-use Rattle.whole_math.proofs.Ring.{va, ko, ◌⊕◌, ◌⊖◌, ◌⊗◌, ng}
+use Rattle.whole_math.proofs.Ring.{◌⊗◌, ng}
 use Rattle.whole_math.proofs.Order.{lins, mul_le_left}
 use Rattle.whole_math.proofs.Inequalities.{pos_nn, same_by}
-use Rattle.whole_math.proofs.Certificates.{cert, ◌≼◌, hy, nm, ◌⊞◌, ◌⊠◌}
 use Rattle.whole_math.proofs.Rounding.{floor_greatest, ceil_least}
 use Rattle.whole_math.proofs.Extremes.{min_case, max_case}
 use Rattle.rational.specs.Rational.{Rational, ◌≤ʳ◌, of_whole, add_r, mul_r, IsAtMostInSize}
@@ -20,44 +19,6 @@ use Rattle.signal_travel.specs.declared.places.VectorBox.{VectorBox}
 use Rattle.signal_travel.specs.declared.places.Point.{Point}
 use Rattle.signal_travel.specs.VectorBoxes.{HoldsVector, HasVectorBetween}
 use Rattle.signal_travel.proofs.Sights.{lowest, lowest_held, point_place}
-
--- ---- r + s, for r in a box and s within 33/2 of it, over numerators and denominators
-pub sum_low : (l r d s e : ℤ) → pos 0 ≤ℤ e → (l *ℤ d) ≤ℤ (r *ℤ pos 68719476736) →
-    ((((pos 2 *ℤ r) *ℤ pos 1) -ℤ (pos 33 *ℤ (pos 1 *ℤ d))) *ℤ (pos 1 *ℤ e)) ≤ℤ ((pos 2 *ℤ s) *ℤ ((pos 1 *ℤ d) *ℤ pos 1)) →
-    ((l -ℤ pos 566935683072) *ℤ (d *ℤ e)) ≤ℤ (((r *ℤ e) +ℤ (s *ℤ d)) *ℤ pos 34359738368)
-sum_low l r d s e h0 h1 h2 =
-    cert (l ∷ r ∷ d ∷ s ∷ e ∷ [])
-    ((ko (pos 0) ≼ va 4) ∷ ((va 0 ⊗ va 2) ≼ (va 1 ⊗ ko (pos 68719476736))) ∷ (((((ko (pos 2) ⊗ va 1) ⊗ ko (pos 1)) ⊖ (ko (pos 33) ⊗ (ko (pos 1) ⊗ va 2)))
-    ⊗ (ko (pos 1) ⊗ va 4)) ≼ ((ko (pos 2) ⊗ va 3) ⊗ ((ko (pos 1) ⊗ va 2) ⊗ ko (pos 1)))) ∷ [])
-    ((va 0 ⊖ ko (pos 566935683072)) ⊗ (va 2 ⊗ va 4)) (((va 1 ⊗ va 4) ⊕ (va 3 ⊗ va 2)) ⊗ ko (pos 34359738368))
-    (((hy 0) ⊠ (hy 1)) ⊞ ((nm 17179869184) ⊠ (hy 2))) refl (h0, (h1, (h2, tt)))
-
-pub sum_high : (h r d s e : ℤ) → pos 0 ≤ℤ e → (r *ℤ pos 68719476736) ≤ℤ (h *ℤ d) →
-    ((pos 2 *ℤ s) *ℤ ((pos 1 *ℤ d) *ℤ pos 1)) ≤ℤ ((((pos 2 *ℤ r) *ℤ pos 1) +ℤ (pos 33 *ℤ (pos 1 *ℤ d))) *ℤ (pos 1 *ℤ e)) →
-    (((r *ℤ e) +ℤ (s *ℤ d)) *ℤ pos 34359738368) ≤ℤ ((h +ℤ pos 566935683072) *ℤ (d *ℤ e))
-sum_high h r d s e h0 h1 h2 =
-    cert (h ∷ r ∷ d ∷ s ∷ e ∷ [])
-    ((ko (pos 0) ≼ va 4) ∷ ((va 1 ⊗ ko (pos 68719476736)) ≼ (va 0 ⊗ va 2)) ∷ (((ko (pos 2) ⊗ va 3) ⊗ ((ko (pos 1) ⊗ va 2) ⊗ ko (pos 1)))
-    ≼ ((((ko (pos 2) ⊗ va 1) ⊗ ko (pos 1)) ⊕ (ko (pos 33) ⊗ (ko (pos 1) ⊗ va 2))) ⊗ (ko (pos 1) ⊗ va 4))) ∷ [])
-    (((va 1 ⊗ va 4) ⊕ (va 3 ⊗ va 2)) ⊗ ko (pos 34359738368)) ((va 0 ⊕ ko (pos 566935683072)) ⊗ (va 2 ⊗ va 4))
-    (((hy 0) ⊠ (hy 1)) ⊞ ((nm 17179869184) ⊠ (hy 2))) refl (h0, (h1, (h2, tt)))
-
--- ---- m − 2 q, for q in a box and m of at most 16 in size
-pub move_low : (h q d m e : ℤ) → pos 0 ≤ℤ d → pos 0 ≤ℤ e → (q *ℤ pos 68719476736) ≤ℤ (h *ℤ d) → (neg_ℤ m *ℤ pos 1) ≤ℤ (pos 16 *ℤ e) →
-    ((neg_ℤ h -ℤ pos 549755813888) *ℤ (e *ℤ (pos 1 *ℤ d))) ≤ℤ (((m *ℤ (pos 1 *ℤ d)) -ℤ ((pos 2 *ℤ q) *ℤ e)) *ℤ pos 34359738368)
-move_low h q d m e h0 h1 h2 h3 =
-    cert (h ∷ q ∷ d ∷ m ∷ e ∷ [])
-    ((ko (pos 0) ≼ va 2) ∷ (ko (pos 0) ≼ va 4) ∷ ((va 1 ⊗ ko (pos 68719476736)) ≼ (va 0 ⊗ va 2)) ∷ ((ng (va 3) ⊗ ko (pos 1)) ≼ (ko (pos 16) ⊗ va 4)) ∷ [])
-    ((ng (va 0) ⊖ ko (pos 549755813888)) ⊗ (va 4 ⊗ (ko (pos 1) ⊗ va 2))) (((va 3 ⊗ (ko (pos 1) ⊗ va 2)) ⊖ ((ko (pos 2) ⊗ va 1) ⊗ va 4)) ⊗ ko (pos 34359738368))
-    (((hy 1) ⊠ (hy 2)) ⊞ (((nm 34359738368) ⊠ (hy 0)) ⊠ (hy 3))) refl (h0, (h1, (h2, (h3, tt))))
-
-pub move_high : (l q d m e : ℤ) → pos 0 ≤ℤ d → pos 0 ≤ℤ e → (l *ℤ d) ≤ℤ (q *ℤ pos 68719476736) → (m *ℤ pos 1) ≤ℤ (pos 16 *ℤ e) →
-    (((m *ℤ (pos 1 *ℤ d)) -ℤ ((pos 2 *ℤ q) *ℤ e)) *ℤ pos 34359738368) ≤ℤ ((pos 549755813888 -ℤ l) *ℤ (e *ℤ (pos 1 *ℤ d)))
-move_high l q d m e h0 h1 h2 h3 =
-    cert (l ∷ q ∷ d ∷ m ∷ e ∷ [])
-    ((ko (pos 0) ≼ va 2) ∷ (ko (pos 0) ≼ va 4) ∷ ((va 0 ⊗ va 2) ≼ (va 1 ⊗ ko (pos 68719476736))) ∷ ((va 3 ⊗ ko (pos 1)) ≼ (ko (pos 16) ⊗ va 4)) ∷ [])
-    (((va 3 ⊗ (ko (pos 1) ⊗ va 2)) ⊖ ((ko (pos 2) ⊗ va 1) ⊗ va 4)) ⊗ ko (pos 34359738368)) ((ko (pos 549755813888) ⊖ va 0) ⊗ (va 4 ⊗ (ko (pos 1) ⊗ va 2)))
-    (((hy 1) ⊠ (hy 2)) ⊞ (((nm 34359738368) ⊠ (hy 0)) ⊠ (hy 3))) refl (h0, (h1, (h2, (h3, tt))))
 
 -- ---- quotients of a to b, times p, that are at most t times the least divisor in size
 pub ratio_size : (a b c d : ℤ) (p t : ℕ) → pos 0 <ℤ c → c ≤ℤ d → neg_ℤ (pos t *ℤ c) ≤ℤ (a *ℤ pos p) → (b *ℤ pos p) ≤ℤ (pos t *ℤ c) →
@@ -91,17 +52,6 @@ ratio_size a b c d p t c0 cd l u =
         let o : pos t *ℤ pos (unsigned_abs y) ≡ pos t *ℤ y = ap (λ z. pos t *ℤ z) f.1 in
         let m : (pos t *ℤ c) ≤ℤ (pos t *ℤ y) = mul_le_left (pos t) c y (pos_nn t) k in
         ceil_least (b *ℤ pos p) (pos t) (unsigned_abs y) f.0 (omega (arith, lins, o, m, u))
-
--- ---- the bounds of a number, from those of its box
-pub in_spread_low : (l v n d : ℤ) → v ≤ℤ l → pos 0 ≤ℤ d → (l *ℤ d) ≤ℤ (n *ℤ pos 16777216) → (v *ℤ (pos 1 *ℤ d)) ≤ℤ ((pos 16777216 *ℤ n) *ℤ pos 1)
-in_spread_low l v n d h0 h1 h2 =
-    cert (l ∷ v ∷ n ∷ d ∷ []) ((va 1 ≼ va 0) ∷ (ko (pos 0) ≼ va 3) ∷ ((va 0 ⊗ va 3) ≼ (va 2 ⊗ ko (pos 16777216))) ∷ []) (va 1 ⊗ (ko (pos 1) ⊗ va 3))
-    ((ko (pos 16777216) ⊗ va 2) ⊗ ko (pos 1)) (((hy 0) ⊠ (hy 1)) ⊞ (hy 2)) refl (h0, (h1, (h2, tt)))
-
-pub in_spread_high : (h v n d : ℤ) → h ≤ℤ v → pos 0 ≤ℤ d → (n *ℤ pos 16777216) ≤ℤ (h *ℤ d) → ((pos 16777216 *ℤ n) *ℤ pos 1) ≤ℤ (v *ℤ (pos 1 *ℤ d))
-in_spread_high h v n d h0 h1 h2 =
-    cert (h ∷ v ∷ n ∷ d ∷ []) ((va 0 ≼ va 1) ∷ (ko (pos 0) ≼ va 3) ∷ ((va 2 ⊗ ko (pos 16777216)) ≼ (va 0 ⊗ va 3)) ∷ [])
-    ((ko (pos 16777216) ⊗ va 2) ⊗ ko (pos 1)) (va 1 ⊗ (ko (pos 1) ⊗ va 3)) (((hy 0) ⊠ (hy 1)) ⊞ (hy 2)) refl (h0, (h1, (h2, tt)))
 
 -- ---- the vectors from the point to the places of a box
 pub seen_square : (b : VectorBox) (p : Point) (q : Place) → IsBetweenDistances 18900000 38100000 b.x b.y b.z → HoldsVector b q

@@ -3,6 +3,7 @@ ghost use Rattle.std.specs.Prelude.{◌≡◌, ◌+◌, ◌*◌, ◌^◌, ◌≤
 ghost use Rattle.rational.specs.Rational.{Rational, ◌≈◌, ◌≤ʳ◌, of_whole, add_r, sub_r, mul_r, IsAtMostInSize};
 ghost use Rattle.iv_core.specs.Intervals.{Holds, width_of, IsWithin};
 ghost use Rattle.orbit_model.specs.SeenPlaces.{Place, point_of, IsDisplacement, IsMeanDirection};
+ghost use Rattle.obs_rows.specs.declared.units.TheConstants.{DIRECTION_EXPONENT};
 ghost use Rattle.signal_travel.specs.VectorBoxes.{HoldsVector};
 ghost use Rattle.signal_travel.specs.Directions.{IsInSpread};
 
@@ -11,14 +12,15 @@ use crate::sent::SeenPlace;
 use crate::spread::Spread;
 use crate::vectors::{length_of, vector_from};
 use iv_core::Iv;
+use obs_rows::DIRECTION_EXPONENT;
 
 // A move is at most 16 m long, and changes the range by at most 33/2 m: both in metres at 2^-35
 const LONGEST_MOVE: i64 = 16 << 35;
 
 const MOST_CHANGE: i64 = 33 << 34;
 
-/// 1, in units of 2^-24
-const UNIT: i64 = 1 << 24;
+// 1 as a row's direction
+const UNIT: i64 = 1 << DIRECTION_EXPONENT;
 
 // The sum of the ranges before and after a move: what is the range at 2^-36 is twice the range at 2^-35.
 fn sum_of_ranges(before: &Iv<36>) -> Iv<35>
@@ -44,22 +46,22 @@ fn move_less_twice(x: &Iv<36>) -> Iv<35>
 }
 
 // The quotient, which is at most 28 units past 1 in size and at most 57 wide.
-fn quotient_of(change: &Iv<35>, sum: &Iv<35>) -> Iv<24>
+fn quotient_of(change: &Iv<35>, sum: &Iv<35>) -> Iv<DIRECTION_EXPONENT>
     requires least { pos (9999991 * 2 ^ 36) ≤ℤ sum.now.lo }
     requires low { neg_ℤ (sum.now.lo +ℤ pos (66 * 2 ^ 34)) ≤ℤ change.now.lo }
     requires high { change.now.hi ≤ℤ (sum.now.lo +ℤ pos (66 * 2 ^ 34)) }
     requires change_width { width_of change.now ≤ℤ pos (2 ^ 40 + 2 ^ 20) }
     requires sum_width { width_of sum.now ≤ℤ pos (33 * 2 ^ 35 + 2 ^ 20) }
     ensures holds { (x y z : Rational) → Holds change.now x → Holds sum.now y → mul_r z y ≈ x → Holds result z }
-    ensures size { IsWithin (2 ^ 24 + 28) result }
+    ensures size { IsWithin (2 ^ DIRECTION_EXPONENT + 28) result }
     ensures width { width_of result ≤ℤ pos 57 }
 {
-    change.div_to::<35, 24>(sum).unwrap()
+    change.div_to::<35, DIRECTION_EXPONENT>(sum).unwrap()
 }
 
 // The middle of the box, rounded down
-fn middle_of(x: &Iv<24>) -> i64
-    requires size { IsWithin (2 ^ 24 + 28) x.now }
+fn middle_of(x: &Iv<DIRECTION_EXPONENT>) -> i64
+    requires size { IsWithin (2 ^ DIRECTION_EXPONENT + 28) x.now }
     requires width { width_of x.now ≤ℤ pos 57 }
     ensures low { x.now.lo ≤ℤ result }
     ensures high { result ≤ℤ x.now.hi }
@@ -70,10 +72,10 @@ fn middle_of(x: &Iv<24>) -> i64
 }
 
 // The middle, or the nearest number that is at most 1 in size
-fn centre_of(x: &Iv<24>) -> i64
-    requires size { IsWithin (2 ^ 24 + 28) x.now }
+fn centre_of(x: &Iv<DIRECTION_EXPONENT>) -> i64
+    requires size { IsWithin (2 ^ DIRECTION_EXPONENT + 28) x.now }
     requires width { width_of x.now ≤ℤ pos 57 }
-    ensures size { unsigned_abs result ≤ 2 ^ 24 }
+    ensures size { unsigned_abs result ≤ 2 ^ DIRECTION_EXPONENT }
     ensures low { (result -ℤ x.now.lo) ≤ℤ pos 32 }
     ensures high { (x.now.hi -ℤ result) ≤ℤ pos 32 }
 {
@@ -81,8 +83,8 @@ fn centre_of(x: &Iv<24>) -> i64
 }
 
 // The box by its centre and the distance of that from the farther end
-fn spread_of(x: &Iv<24>) -> Spread
-    requires size { IsWithin (2 ^ 24 + 28) x.now }
+fn spread_of(x: &Iv<DIRECTION_EXPONENT>) -> Spread
+    requires size { IsWithin (2 ^ DIRECTION_EXPONENT + 28) x.now }
     requires width { width_of x.now ≤ℤ pos 57 }
     ensures { (q : Rational) → Holds x.now q → IsInSpread result q }
 {

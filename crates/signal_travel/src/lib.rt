@@ -2,16 +2,16 @@
 //!
 //! `seen_from` holds every seen place, range and travel time of every place in its box, for every solution of the
 //! equations (`place`, `range`, `time`), and every place of the box has one (`exists`). The type `SeenBox` keeps the
-//! widths, at most 2^-17 m for each coordinate and the range, a range of at least 10,000 km, and the distance from
-//! the Earth's centre; the call takes no memory and is never refused. `above` says whether a satellite is high
-//! enough, exactly, at a place within 2^-17 m of every place in its box (`kept`, `left_out`; a mask of 1000
-//! included). `mean_direction` holds the mean direction from a point, which may be another one than the box was made
-//! with, for every place of the box and every displacement of at most 16 m; its type `Spread` keeps each centre at
-//! most 1 in size and each radius at most 32 units of 2^-24. `is_receiver_point` tests exactly what these calls ask
-//! of a point.
+//! widths, at most 2^-17 m for each coordinate and the range and 2^-45 s for the time, a range of at least 10,000 km,
+//! and the distance from the Earth's centre; the call takes no memory and is never refused. `above` says whether a
+//! satellite is above the elevation mask, exactly, at a place within 2^-17 m of every place in its box (`kept`,
+//! `left_out`; a mask of 1000 included). `mean_direction` holds the mean direction from a point, which may be another
+//! one than the box was made with, for every place of the box and every displacement of at most 16 m; its type
+//! `Spread` keeps each centre at most 1 in size and each radius at most 32 units of 2^-24. `is_receiver_point` tests
+//! exactly what these calls ask of a point.
 #![tactic(auto)]
 
-ghost use Rattle.std.specs.Prelude.{◌≡◌, ℕ, ◌*◌, ◌^◌, ◌≤◌, ℤ, pos, ◌≤ℤ◌, [], ◌∷◌, All, IsTrue, false};
+ghost use Rattle.std.specs.Prelude.{◌≡◌, ◌*◌, ◌^◌, ◌≤◌, ℤ, pos, ◌≤ℤ◌, [], ◌∷◌, All, IsTrue, false};
 ghost use Rattle.iv_core.specs.declared.Iv.{Iv};
 ghost use Rattle.iv_core.specs.Intervals.{Holds, width_of};
 ghost use Rattle.orbit_model.specs.Places.{IsBetweenDistances};
@@ -43,8 +43,8 @@ use sv_orbit::SvBox;
 /// Where a receiver sees a satellite, in metres at scale 2^-36 and in the Earth-fixed frame of the moment of reception, with its
 /// range in metres at 2^-36 and the signal's travel time in seconds at 2^-60.
 ///
-/// Each coordinate and the range are at most 2^-17 m wide; the range is at least 10,000 km, and every place in the box is from
-/// 18,900 km to 38,100 km from the Earth's centre.
+/// Each coordinate and the range are at most 2^-17 m wide, and the travel time 2^-45 s; the range is at least 10,000 km, and every
+/// place in the box is from 18,900 km to 38,100 km from the Earth's centre.
 #[derive(Clone, Copy, Debug)]
 pub struct SeenBox {
     pub place: [Iv<36>; 3],
@@ -54,6 +54,7 @@ pub struct SeenBox {
     pub ghost away: { (a b c : Iv 36) → place ≡ a ∷ b ∷ c ∷ [] → IsBetweenDistances 18900000 38100000 a b c },
     pub ghost range_narrow: { width_of range ≤ℤ pos (2 ^ 19) },
     pub ghost range_far: { pos (10000000 * 2 ^ 36) ≤ℤ range.lo },
+    pub ghost travel_narrow: { width_of travel ≤ℤ pos (2 ^ 15) },
 }
 
 /// Boxes of every place where a receiver at `point`, in units of 0.1 mm, sees a satellite that sent from a place of `sv`, with the
@@ -78,9 +79,9 @@ pub fn seen_from(sv: &SvBox, point: &[i64; 3]) -> SeenBox
     }
 }
 
-/// Whether the satellite is high enough at `point`, in units of 0.1 mm: whether the sine of its elevation, above the plane across
-/// the line from the Earth's centre, is at least `mask` / 1000. It is decided exactly at one place, which is within 2^-17 m in each
-/// coordinate of every place in the box.
+/// Whether the satellite is above the elevation mask at `point`, in units of 0.1 mm: whether the sine of its elevation, above the
+/// plane across the line from the Earth's centre, is at least `mask` / 1000. It is decided exactly at one place, which is within
+/// 2^-17 m in each coordinate of every place in the box.
 pub fn above(seen: &SeenBox, point: &[i64; 3], mask: u32) -> bool
     requires point { IsReceiverPoint point.now }
     requires mask { mask ≤ 1000 }

@@ -1,6 +1,5 @@
 //! The mask's rule, decided exactly at a place on a grid of 2^-17 m.
-ghost use Rattle.std.specs.Prelude.{◌≡◌, ℕ, ◌+◌, ◌*◌, ◌^◌, ◌<◌, ◌≤◌, ◌↔◌, ◌⊎◌, ℤ, pos, ◌+ℤ◌, ◌-ℤ◌, ◌*ℤ◌, ◌≤ℤ◌, ◌<ℤ◌, unsigned_abs, IsTrue};
-ghost use Rattle.whole_math.specs.Rounding.{floor_div};
+ghost use Rattle.std.specs.Prelude.{◌≡◌, ◌+◌, ◌*◌, ◌^◌, ◌<◌, ◌≤◌, ◌↔◌, ℤ, pos, ◌+ℤ◌, ◌*ℤ◌, ◌≤ℤ◌, unsigned_abs, IsTrue};
 ghost use Rattle.signal_travel.specs.Grid.{grid, offset, dot3, IsAboveWhole};
 
 use crate::wide::is_at_least;

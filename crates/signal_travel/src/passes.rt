@@ -1,39 +1,40 @@
 //! The travel time, from a box of it to a narrower one.
 ghost use Rattle.std.specs.Prelude.{◌≡◌, ◌+◌, ◌*◌, ◌^◌, ◌<◌, ◌≤◌, ℤ, pos, ◌+ℤ◌, ◌*ℤ◌, ◌≤ℤ◌};
 ghost use Rattle.rational.specs.Rational.{Rational};
-ghost use Rattle.iv_core.specs.Intervals.{Holds, width_of, IsWithin};
+ghost use Rattle.iv_core.specs.Intervals.{Holds, width_of};
 ghost use Rattle.orbit_model.specs.Places.{IsBetweenDistances};
 ghost use Rattle.orbit_model.specs.SeenPlaces.{Place, point_of, IsSeenPlace, range_of};
-ghost use Rattle.signal_travel.specs.VectorBoxes.{HoldsVector, IsVectorWithin, IsVectorAtMostWide, IsTravel};
+ghost use Rattle.signal_travel.specs.VectorBoxes.{HoldsVector, IsVectorAtMostWide, IsTravel};
 
 use crate::places::{Point, VectorBox};
 use crate::sent::SentBox;
 use crate::turns::{turn_in, turned_box};
 use crate::vectors::{length_of, vector_from};
 use iv_core::Iv;
+use obs_rows::LIGHT_SPEED;
 
-// In m/s. It is divided by in two digits at 2^24: the divisor is known when the program is built, which then multiplies in place
-// of dividing 128 bits.
-const LIGHT_SPEED: u64 = 299_792_458;
+// The speed of light in m/s. It is divided by in two digits at 2^24: the divisor is known when the program is built, which then
+// multiplies in place of dividing 128 bits.
+const SPEED: u64 = LIGHT_SPEED as u64;
 
 const DIGIT: u64 = 1 << 24;
 
 // ⌊range · 2^24 / c⌋
 fn time_below(range: u64) -> u64
     requires { range ≤ 45200000 * 2 ^ 36 }
-    ensures low { result * 299792458 ≤ range * 2 ^ 24 }
-    ensures high { range * 2 ^ 24 < result * 299792458 + 299792458 }
+    ensures low { result * SPEED ≤ range * 2 ^ 24 }
+    ensures high { range * 2 ^ 24 < result * SPEED + SPEED }
 {
-    range / LIGHT_SPEED * DIGIT + range % LIGHT_SPEED * DIGIT / LIGHT_SPEED
+    range / SPEED * DIGIT + range % SPEED * DIGIT / SPEED
 }
 
 // ⌈range · 2^24 / c⌉
 fn time_above(range: u64) -> u64
     requires { range ≤ 45200000 * 2 ^ 36 }
-    ensures low { range * 2 ^ 24 ≤ result * 299792458 }
-    ensures high { result * 299792458 < range * 2 ^ 24 + 299792458 }
+    ensures low { range * 2 ^ 24 ≤ result * SPEED }
+    ensures high { result * SPEED < range * 2 ^ 24 + SPEED }
 {
-    range / LIGHT_SPEED * DIGIT + (range % LIGHT_SPEED * DIGIT + LIGHT_SPEED - 1) / LIGHT_SPEED
+    range / SPEED * DIGIT + (range % SPEED * DIGIT + SPEED - 1) / SPEED
 }
 
 // The time in which light goes so far
@@ -42,7 +43,7 @@ fn time_over(range: &Iv<36>) -> Iv<60>
     requires high { range.now.hi ≤ℤ pos (45200000 * 2 ^ 36) }
     ensures holds { (t : Rational) → Holds range.now (range_of t) → Holds result t }
     ensures travel { IsTravel result }
-    ensures width { (pos 299792458 *ℤ width_of result) ≤ℤ ((pos (2 ^ 24) *ℤ width_of range.now) +ℤ pos (2 * 299792458)) }
+    ensures width { (pos SPEED *ℤ width_of result) ≤ℤ ((pos (2 ^ 24) *ℤ width_of range.now) +ℤ pos (2 * SPEED)) }
 {
     let low = time_below(range.lo as u64);
     let high = time_above(range.hi as u64);
@@ -73,7 +74,7 @@ pub fn sight_after(sent: &SentBox, point: &Point, travel: &Iv<60>) -> Sight
     ensures width { (w : ℤ) → (width_of travel.now +ℤ pos (904 * 264813)) ≤ℤ (pos 904 *ℤ w) → IsVectorAtMostWide w result.place }
     ensures range_width { (w : ℤ) → (width_of travel.now +ℤ pos (904 * 264813)) ≤ℤ (pos 904 *ℤ w) →
         (pos 4 *ℤ width_of result.range) ≤ℤ ((pos 7 *ℤ w) +ℤ pos 807) }
-    ensures time_width { (pos 299792458 *ℤ width_of result.travel) ≤ℤ ((pos (2 ^ 24) *ℤ width_of result.range) +ℤ pos (2 * 299792458)) }
+    ensures time_width { (pos SPEED *ℤ width_of result.travel) ≤ℤ ((pos (2 ^ 24) *ℤ width_of result.range) +ℤ pos (2 * SPEED)) }
     ensures away { IsVectorAtMostWide (pos (2 ^ 19)) result.place →
         IsBetweenDistances 18900000 38100000 result.place.x result.place.y result.place.z }
 {
@@ -107,6 +108,7 @@ pub fn sight_of(sent: &SentBox, point: &Point) -> Sight
         IsSeenPlace p (point_of point.now.x point.now.y point.now.z) t seen → Holds result.travel t }
     ensures narrow { IsVectorAtMostWide (pos (2 ^ 19)) result.place }
     ensures range_narrow { width_of result.range ≤ℤ pos (2 ^ 19) }
+    ensures time_narrow { width_of result.travel ≤ℤ pos (2 ^ 15) }
     ensures far { pos (10000000 * 2 ^ 36) ≤ℤ result.range.lo }
     ensures away { IsBetweenDistances 18900000 38100000 result.place.x result.place.y result.place.z }
 {

@@ -1,5 +1,6 @@
 //! Points, and boxes of places and of vectors, in metres at scale 2^-36.
-ghost use Rattle.std.specs.Prelude.{◌*◌, ◌≤◌, pos, ◌+ℤ◌, ◌*ℤ◌, ◌≤ℤ◌, unsigned_abs};
+ghost use Rattle.std.specs.Prelude.{[], ◌∷◌};
+ghost use Rattle.obs_rows.specs.ReceiverPoints.{IsReceiverPoint};
 
 use iv_core::Iv;
 
@@ -11,15 +12,11 @@ pub struct VectorBox {
     pub z: Iv<36>,
 }
 
-/// A point in units of 0.1 mm, from 6,000 km to 7,000 km from the Earth's centre.
+/// A point where a receiver may be, in units of 0.1 mm.
 #[derive(Clone, Copy)]
 pub struct Point {
     pub x: i64,
     pub y: i64,
     pub z: i64,
-    pub ghost x_size: { unsigned_abs x ≤ 70000000000 },
-    pub ghost y_size: { unsigned_abs y ≤ 70000000000 },
-    pub ghost z_size: { unsigned_abs z ≤ 70000000000 },
-    pub ghost far: { pos (60000000000 * 60000000000) ≤ℤ (((x *ℤ x) +ℤ (y *ℤ y)) +ℤ (z *ℤ z)) },
-    pub ghost near: { (((x *ℤ x) +ℤ (y *ℤ y)) +ℤ (z *ℤ z)) ≤ℤ pos (70000000000 * 70000000000) },
+    pub ghost receiver: { IsReceiverPoint (x ∷ y ∷ z ∷ []) },
 }

@@ -1,5 +1,5 @@
 //! The place and the clock of a record's satellite.
-ghost use Rattle.std.specs.Prelude.{◌≡◌, ◌*◌, ◌^◌, ◌<◌, ◌≤◌, pos, neg_ℤ, ◌≤ℤ◌};
+ghost use Rattle.std.specs.Prelude.{◌≡◌, ◌*◌, ◌^◌, ◌<◌, ◌≤◌, pos, ◌≤ℤ◌};
 ghost use Rattle.std.specs.Int.{abs_diff};
 ghost use Rattle.rational.specs.Rational.{Rational, ◌≈◌, mul_r, times};
 ghost use Rattle.iv_core.specs.Intervals.{Holds};
@@ -106,7 +106,7 @@ fn orbit_of(made: &SvRecord, timing: &Timing) -> Orbit
     }
 }
 
-/// The place and the clock of the record's satellite when it sent what was received at the tag with a code of so many mm:
+/// The place and the clock of the record's satellite when it sent what was received at the tag with the code, in mm:
 /// tag less code over c, by the satellite's own clock. The boxes hold every solution with the constants of its system.
 ///
 /// The tag is at most 7201 s from the ephemeris' time.
@@ -136,7 +136,7 @@ pub fn sv_with(eph: &Eph, tag: Tick, code: i64, world: &World) -> SvBox
     sv_from(&SvRecord::of(eph, world), tag, code)
 }
 
-/// The same with the constants of IS-GPS-200.
+/// The same with the constants of IS-GPS-200. It serves tests alone.
 pub fn sv_at(eph: &Eph, tag: Tick, code: i64) -> SvBox
     requires near { abs_diff tag.0 eph.now.toe.0 ≤ 72010000000 }
     requires code_low { pos 0 ≤ℤ code }

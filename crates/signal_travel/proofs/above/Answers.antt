@@ -1,4 +1,4 @@
-use Rattle.std.proofs.Common.{◌≡◌, [], ◌∷◌, List, ℤ, pos, IsTrue, Bool, false, get_or, to_z, of_z, ap, ap₂, sym, ◌∙◌, ◌↔◌, lit≤}
+use Rattle.std.proofs.Common.{◌≡◌, [], ◌∷◌, List, ℤ, pos, IsTrue, Bool, false, get_or, to_z, of_z, ap, ap₂, sym, ◌∙◌, ◌↔◌, lit≤, arith}
 use Rattle.std.proofs.lemmas.Int.{to_z-of_z}
 use Rattle.std.proofs.lemmas.Bool.{false≢true}
 use Rattle.std.specs.Int.{w64}
@@ -8,22 +8,22 @@ use Rattle.signal_travel.proofs.AboveLaws.{coordinate, plain_coordinate, cast_si
 use Rattle.signal_travel.proofs.above.Goals as goal
 
 pub offset_of-requires-clause-size : goal.offset_of-requires-clause-size
-offset_of-requires-clause-size c = cast_size (get_or c.args.point.now 0 (pos 0)) 70000000000 (lit≤ tt) (coordinate c.args.point.now 0 c.requires.point.1)
+offset_of-requires-clause-size c = cast_size (get_or c.args.point.now 0 (pos 0)) 70000000000 (lit≤ tt) (coordinate c.args.point.now 0 (omega arith) c.requires.point)
 
 pub offset_of-requires-2-clause-size : goal.offset_of-requires-2-clause-size
-offset_of-requires-2-clause-size c = cast_size (get_or c.args.point.now 1 (pos 0)) 70000000000 (lit≤ tt) (coordinate c.args.point.now 1 c.requires.point.1)
+offset_of-requires-2-clause-size c = cast_size (get_or c.args.point.now 1 (pos 0)) 70000000000 (lit≤ tt) (coordinate c.args.point.now 1 (omega arith) c.requires.point)
 
 pub offset_of-requires-3-clause-size : goal.offset_of-requires-3-clause-size
-offset_of-requires-3-clause-size c = cast_size (get_or c.args.point.now 2 (pos 0)) 70000000000 (lit≤ tt) (coordinate c.args.point.now 2 c.requires.point.1)
+offset_of-requires-3-clause-size c = cast_size (get_or c.args.point.now 2 (pos 0)) 70000000000 (lit≤ tt) (coordinate c.args.point.now 2 (omega arith) c.requires.point)
 
 pub is_above-requires-clause-p_size : goal.is_above-requires-clause-p_size
-is_above-requires-clause-p_size c = cast_size (get_or c.args.point.now 0 (pos 0)) 6100000000000000 (lit≤ tt) (coordinate c.args.point.now 0 c.requires.point.1)
+is_above-requires-clause-p_size c = cast_size (get_or c.args.point.now 0 (pos 0)) 6100000000000000 (lit≤ tt) (coordinate c.args.point.now 0 (omega arith) c.requires.point)
 
 pub is_above-requires-clause-q_size : goal.is_above-requires-clause-q_size
-is_above-requires-clause-q_size c = cast_size (get_or c.args.point.now 1 (pos 0)) 6100000000000000 (lit≤ tt) (coordinate c.args.point.now 1 c.requires.point.1)
+is_above-requires-clause-q_size c = cast_size (get_or c.args.point.now 1 (pos 0)) 6100000000000000 (lit≤ tt) (coordinate c.args.point.now 1 (omega arith) c.requires.point)
 
 pub is_above-requires-clause-r_size : goal.is_above-requires-clause-r_size
-is_above-requires-clause-r_size c = cast_size (get_or c.args.point.now 2 (pos 0)) 6100000000000000 (lit≤ tt) (coordinate c.args.point.now 2 c.requires.point.1)
+is_above-requires-clause-r_size c = cast_size (get_or c.args.point.now 2 (pos 0)) 6100000000000000 (lit≤ tt) (coordinate c.args.point.now 2 (omega arith) c.requires.point)
 
 not_true : (b : Bool) → b ≡ false → IsTrue b → ⊥
 not_true b f t = false≢true (sym f ∙ t)
@@ -35,11 +35,11 @@ answer c p q r e =
     let y : Iv 36 = c.index-seen-1.result in
     let z : Iv 36 = c.index-seen-2.result in
     let ep : to_z w64 (of_z w64 (get_or c.args.point.now 0 (pos 0))) ≡ p =
-    plain_coordinate (get_or c.args.point.now 0 (pos 0)) (coordinate c.args.point.now 0 c.requires.point.1) ∙ ap (λ (s : List ℤ). get_or s 0 (pos 0)) e in
+    plain_coordinate (get_or c.args.point.now 0 (pos 0)) (coordinate c.args.point.now 0 (omega arith) c.requires.point) ∙ ap (λ (s : List ℤ). get_or s 0 (pos 0)) e in
     let eq : to_z w64 (of_z w64 (get_or c.args.point.now 1 (pos 0))) ≡ q =
-    plain_coordinate (get_or c.args.point.now 1 (pos 0)) (coordinate c.args.point.now 1 c.requires.point.1) ∙ ap (λ (s : List ℤ). get_or s 1 (pos 0)) e in
+    plain_coordinate (get_or c.args.point.now 1 (pos 0)) (coordinate c.args.point.now 1 (omega arith) c.requires.point) ∙ ap (λ (s : List ℤ). get_or s 1 (pos 0)) e in
     let er : to_z w64 (of_z w64 (get_or c.args.point.now 2 (pos 0))) ≡ r =
-    plain_coordinate (get_or c.args.point.now 2 (pos 0)) (coordinate c.args.point.now 2 c.requires.point.1) ∙ ap (λ (s : List ℤ). get_or s 2 (pos 0)) e in
+    plain_coordinate (get_or c.args.point.now 2 (pos 0)) (coordinate c.args.point.now 2 (omega arith) c.requires.point) ∙ ap (λ (s : List ℤ). get_or s 2 (pos 0)) e in
     let ex : to_z w64 (of_z w64 (get_or c.args.seen.now.place 0 x).lo) ≡ x.lo = ap (λ (b : Iv 36). to_z w64 (of_z w64 b.lo)) (sym c.index-seen-0.is) ∙ lo_fits x in
     let ey : to_z w64 (of_z w64 (get_or c.args.seen.now.place 1 y).lo) ≡ y.lo = ap (λ (b : Iv 36). to_z w64 (of_z w64 b.lo)) (sym c.index-seen-1.is) ∙ lo_fits y in
     let ez : to_z w64 (of_z w64 (get_or c.args.seen.now.place 2 z).lo) ≡ z.lo = ap (λ (b : Iv 36). to_z w64 (of_z w64 b.lo)) (sym c.index-seen-2.is) ∙ lo_fits z in

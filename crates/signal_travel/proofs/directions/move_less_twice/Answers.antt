@@ -2,7 +2,7 @@ use Rattle.std.proofs.Common.{◌≡◌, ℤ, pos, ◌-ℤ◌, ◌*ℤ◌, ◌�
 use Rattle.std.proofs.lemmas.Int.{ints}
 use Rattle.std.specs.Int.{w64}
 use Rattle.whole_math.proofs.Inequalities.{pos_nn}
-use Rattle.signal_travel.proofs.MeanDirections.{move_low, move_high}
+use Rattle.signal_travel.proofs.MeanDirectionCertificates.{move_low, move_high}
 use Rattle.signal_travel.proofs.directions.move_less_twice.Goals as goal
 
 low : (l h z : ℤ) → neg_ℤ (pos 3106120348467200000) ≤ℤ l → l ≤ℤ h → h ≤ℤ pos 3106120348467200000

@@ -2,7 +2,7 @@ use Rattle.std.proofs.Common.{◌≡◌, ℤ, pos, ◌+ℤ◌, ◌-ℤ◌, ◌*�
 use Rattle.std.proofs.lemmas.Int.{ints}
 use Rattle.std.specs.Int.{w64}
 use Rattle.whole_math.proofs.Inequalities.{pos_nn}
-use Rattle.signal_travel.proofs.MeanDirections.{sum_low, sum_high}
+use Rattle.signal_travel.proofs.MeanDirectionCertificates.{sum_low, sum_high}
 use Rattle.signal_travel.proofs.directions.sum_of_ranges.Goals as goal
 
 low : (l h z : ℤ) → pos 687194767360000000 ≤ℤ l → l ≤ℤ h → h ≤ℤ pos 3106120348467200000 → z ≡ to_z w64 (of_z w64 (to_z w64 (of_z w64 l) -ℤ pos 566935683072)) → z ≡ l -ℤ pos 566935683072

@@ -6,7 +6,7 @@ use Rattle.orbit_model.specs.SeenPlaces.{Place, point_of, IsSeenPlace}
 use Rattle.orbit_model.proofs.Seen.{travel_nn, travel_most}
 use Rattle.signal_travel.specs.VectorBoxes.{HoldsVector}
 use Rattle.signal_travel.proofs.Sights.{point_place}
-use Rattle.signal_travel.proofs.Times.{first_time, second_time, third_time, last_range}
+use Rattle.signal_travel.proofs.Times.{first_time, second_time, third_time, last_range, last_time}
 use Rattle.signal_travel.proofs.passes.sight_of.Goals as goal
 
 any : (l h : ℤ) (t : Rational) → l ≡ pos 0 → h ≡ pos 192153584101141163 → of_whole (pos 0) ≤ʳ t → mul_r (of_whole (pos 6)) t ≤ʳ of_whole (pos 1) → InBox 60 l h t
@@ -62,6 +62,11 @@ returns-clause-narrow c = let w = c.sight_after.ensures.width (pos 265112) (last
 
 pub returns-clause-range_narrow : goal.returns-clause-range_narrow
 returns-clause-range_narrow c = let r = c.sight_after.result.range in last_range (r.hi -ℤ r.lo) (c.sight_after.ensures.range_width (pos 265112) (last c))
+
+pub returns-clause-time_narrow : goal.returns-clause-time_narrow
+returns-clause-time_narrow c =
+    let sight = c.sight_after.result in
+    last_time (sight.range.hi -ℤ sight.range.lo) (sight.travel.hi -ℤ sight.travel.lo) (returns-clause-range_narrow c) c.sight_after.ensures.time_width
 
 pub returns-clause-away : goal.returns-clause-away
 returns-clause-away c = c.sight_after.ensures.away (returns-clause-narrow c)

@@ -1,4 +1,6 @@
--- How far a turned place, a vector from a point and a place near another may be.
+-- Inequalities of the distances of a turned place, a vector from a point and a place near another, each by a certificate.
+-- The terms are made: tools/inequality_certificate.py writes a lemma from its claim and the products of its hypotheses,
+-- h0, h1, .. in the order in which they stand. Who changes a claim writes its term anew there; the check proves what is written.
 use Rattle.std.proofs.Common.{[], ◌∷◌, pos, refl, arith}
 use Rattle.std.proofs.lemmas.Int.{ints}
 use Rattle.whole_math.proofs.Ring.{va, ko, ◌⊕◌, ◌⊖◌, ◌⊗◌}
