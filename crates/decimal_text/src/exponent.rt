@@ -1,5 +1,5 @@
 //! Numbers with an exponent.
-ghost use Rattle.std.specs.Prelude.{◌≡◌, ◌+◌, ◌*◌, ◌≤◌, ◌<◌, ◌^◌, ◌≤ℤ◌, ℤ, pos, negsuc, length, Ok, Err, Result, MatchOption, IfOk, IfErr, None};
+ghost use Rattle.std.specs.Prelude.{◌≡◌, ◌+◌, ◌*◌, ◌≤◌, ◌<◌, ◌^◌, ℤ, length, Ok, Err, Result, MatchOption, IfOk, IfErr, None};
 ghost use Rattle.decimal_text.specs.declared.exponent.Dec.{Dec};
 ghost use Rattle.decimal_text.specs.declared.fixed.NumberFault.{NumberFault};
 ghost use Rattle.decimal_text.specs.Whole.{size_of};
@@ -130,6 +130,8 @@ fn scanned_dec(read: Scan, power: i32) -> Result<Dec, NumberFault>
     })
 }
 
+// What the text gives, by the definition that walks over it. The form's clauses of `read_exp` follow from this one, once
+// and not at each of its answers.
 fn read_marked(text: &[u8]) -> Result<Dec, NumberFault>
     requires { length text.now ≤ 4096 }
     ensures { result ≡ dec_of text.now }

@@ -116,7 +116,7 @@ pub record Tells (raw : Raw) (r : Result Eph Unfit) : Type 0 where
   pub unhealthy : (r ≡ Err Unhealthy) ↔ (IsHealthy raw → ⊥)
   pub range : (n : ℕ) → (r ≡ Err (Range n)) ↔ (IsHealthy raw × IsFirstOut raw fields_in_order n)
 
--- what `of` tells of a number out of its range
+-- what `of` says of a number out of its range
 pub tells_range : (raw : Raw) (field : ℕ) → IsHealthy raw → IsFirstOut raw fields_in_order field → Tells raw (Err (Range field))
 tells_range raw field healthy first = record {
   value = tt;

@@ -23,7 +23,7 @@ joined x y u v p q s t = record { up = λ h. t.up (s.up h); up_back = λ h. s.up
 turned : (x y u v : ℕ) → SameOrder x y u v → SameOrder y x v u
 turned x y u v s = record { up = s.down; up_back = s.down_back; down = s.up; down_back = s.up_back }
 
--- a common factor tells nothing
+-- a common factor changes nothing
 factor_out : (x y p : ℕ) → 0 < p → SameOrder (x * p) (y * p) x y
 factor_out x y p h = record { up = λ k. le_of_mul-le-mul_right k h; up_back = λ k. mul-le-mul_right p k; down = λ k. le_of_mul-le-mul_right k h; down_back = λ k. mul-le-mul_right p k }
 

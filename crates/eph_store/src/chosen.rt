@@ -1,5 +1,5 @@
 //! The chosen record of a satellite at a time.
-ghost use Rattle.std.specs.Prelude.{◌≡◌, MatchOption};
+ghost use Rattle.std.specs.Prelude.{MatchOption};
 ghost use Rattle.eph_store.specs.Chosen.{IsChosenRecord, HasNoCandidate};
 
 use crate::fields::TWO_HOURS;

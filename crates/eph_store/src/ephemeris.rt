@@ -1,5 +1,5 @@
 //! A usable record.
-ghost use Rattle.std.specs.Prelude.{◌≡◌, ℕ, pos, ◌+◌, ◌*◌, ◌/◌, ◌<◌, ◌≤◌};
+ghost use Rattle.std.specs.Prelude.{◌≡◌, pos, ◌+◌, ◌*◌, ◌/◌, ◌<◌, ◌≤◌};
 ghost use Rattle.eph_store.specs.Decimals.{IsFromTo, IsWithin};
 
 use decimal_text::Dec;

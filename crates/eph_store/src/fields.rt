@@ -1,5 +1,5 @@
 //! The numbers of a record that have a range, and their ranges.
-ghost use Rattle.std.specs.Prelude.{◌≡◌, ◌≤◌, ◌↔◌, IsTrue};
+ghost use Rattle.std.specs.Prelude.{◌↔◌, IsTrue};
 ghost use Rattle.eph_store.specs.declared.fields.Field.TheVariants.{Toc};
 ghost use Rattle.eph_store.specs.Profile.{InRange};
 

@@ -1,5 +1,5 @@
 //! Which records are usable.
-ghost use Rattle.std.specs.Prelude.{◌≡◌, ℕ, ◌<◌, pos, length, ◌↔◌, IsOk, IfOk, Err, Result, MatchOption, All};
+ghost use Rattle.std.specs.Prelude.{◌≡◌, ℕ, ◌<◌, length, ◌↔◌, IsOk, IfOk, Err, Result, MatchOption, All};
 ghost use Rattle.eph_store.specs.declared.profile.Unfit.{Unfit};
 ghost use Rattle.eph_store.specs.declared.profile.Unfit.TheVariants.{Unhealthy, Range};
 ghost use Rattle.eph_store.specs.Profile.{IsHealthy, InRange, IsTimeOf, IsUsable, IsFirstOut, fields_in_order};

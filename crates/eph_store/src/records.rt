@@ -1,5 +1,5 @@
 //! The records of a navigation file.
-ghost use Rattle.std.specs.Prelude.{◌≡◌, [], ◌∷◌, ◌++◌, length, OnOk, OnErr};
+ghost use Rattle.std.specs.Prelude.{◌≡◌, [], ◌∷◌, ◌++◌, OnOk, OnErr};
 
 use crate::{Eph, Raw};
 use std::alloc::{AllocError, Global};

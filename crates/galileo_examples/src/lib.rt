@@ -2,6 +2,6 @@
 #![tactic(auto)]
 
 #[cfg(test)]
-mod gal_nav_tests;
+mod navigation_tests;
 #[cfg(test)]
-mod gal_obs_tests;
+mod observation_tests;

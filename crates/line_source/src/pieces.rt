@@ -1,5 +1,5 @@
 //! Files that are handed on in pieces.
-ghost use Rattle.std.specs.Prelude.{◌≡◌, ◌≢◌, ◌+◌, ◌≤◌, ◌<◌, ◌++◌, ℕ, List, [], length, IfSome, OnOk, OnErr, IsErrOf, None, ⊤};
+ghost use Rattle.std.specs.Prelude.{◌≡◌, ◌≢◌, ◌+◌, ◌≤◌, ◌<◌, ◌++◌, ℕ, List, [], length, IfSome, OnOk, OnErr, IsErrOf, ⊤};
 ghost use Rattle.line_source.specs.Causes.{Rose, OpensOne, OpensAtMost};
 ghost use Rattle.line_source.specs.Told.{Same, Stays, IsReadToEnd};
 ghost use Rattle.line_source.specs.Pieces.{IsTakenWhole};

@@ -37,11 +37,7 @@ abbrev pub further_mark_in : Layout → List ℕ → List ℕ
 further_mark_in Rinex2 line = columns line 1 6
 further_mark_in Rinex3 line = columns line 1 1
 
--- the line of an epoch or an event: the columns of its flag and its count, and that at which a bad date is refused
-abbrev pub flag_column_of : Layout → ℕ
-flag_column_of Rinex2 = 29
-flag_column_of Rinex3 = 32
-
+-- the line of an epoch or an event: the column of its count, and that at which a bad date is refused
 abbrev pub count_column_of : Layout → ℕ
 count_column_of Rinex2 = 30
 count_column_of Rinex3 = 33

@@ -1,6 +1,5 @@
 //! Fields of the line of an epoch or an event.
 ghost use Rattle.std.specs.Prelude.{◌≡◌, ◌<◌, IfSome, IsTrue};
-ghost use Rattle.obs_fields.specs.Layouts.{count_column_of, date_column_of};
 ghost use Rattle.obs_fields.specs.EpochFields.{count_in, moment_of, is_later};
 
 use crate::Layout;
@@ -13,11 +12,8 @@ pub fn count(layout: Layout, line: &[u8]) -> Result<u16, Flaw>
     ensures value { result ≡ count_in layout line.now }
 {
     let first = layout.count_column();
-    match whole_number(&field::<3>(line, first as usize), first) {
-        Ok(Some(count)) => Ok(count),
-        Ok(None) => Ok(0),
-        Err(flaw) => Err(flaw),
-    }
+    let count = whole_number(&field::<3>(line, first as usize), first)?;
+    Ok(count.unwrap_or(0))
 }
 
 /// The tag of a date and a time, with the ticks within its minute.

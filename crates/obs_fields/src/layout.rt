@@ -1,6 +1,6 @@
 //! What the two formats of observation files place differently.
 ghost use Rattle.std.specs.Prelude.{◌≡◌, ◌≤◌, IfSome};
-ghost use Rattle.obs_fields.specs.Layouts.{first_name_of, name_step_of, names_in_line_of, count_column_of, flag_column_of, date_column_of, value_column};
+ghost use Rattle.obs_fields.specs.Layouts.{first_name_of, name_step_of, names_in_line_of, count_column_of, date_column_of, value_column};
 
 /// The format of an observation file, for what RINEX 2 and RINEX 3 say alike in other columns.
 #[derive(Clone, Copy, Debug, PartialEq, Eq)]
@@ -47,16 +47,6 @@ impl Layout {
         match self {
             Layout::Rinex2 => 30,
             Layout::Rinex3 => 33,
-        }
-    }
-
-    /// The column of the flag in such a line.
-    pub fn flag_column(self) -> u32
-        ensures { result ≡ flag_column_of self }
-    {
-        match self {
-            Layout::Rinex2 => 29,
-            Layout::Rinex3 => 32,
         }
     }
 

@@ -1,6 +1,14 @@
 //! What one line of an observation file says, whichever format of RINEX and satellite system it is of: labels, offsets,
 //! lists of types, and the fields of epochs and satellites. What the formats place differently is in [`Layout`].
 //!
+//! Each call says exactly what its definition in specs/ says of the line, whose columns past its end are blank. A line is
+//! refused at the column and for the reason of its first failing check: `BadField` where columns spell no number,
+//! `BadSat` at a satellite's name, `BadDate` at a date or time that is none, `Types` at a list's count, a name that stands
+//! twice or a line in the place of a further one, `Changed` at a line of an event that changes what the header says.
+//! `satellite` gives nothing for a satellite of another system, `value` nothing for a blank amount or for 0. After an `Err`
+//! of `set_values` no clause says which of the values are set. Only `kept_types` takes memory, and its `Err` means that
+//! there was none.
+//!
 //! What the lines of a header give behind its first one (`HeaderLine`, specs/HeadParts.antt) is the same in both formats.
 //! proofs/HeaderLaws.antt has its laws, for each reader whose rules are `HeadRules`: lines of the form are taken
 //! (`header_given`), and lines that are taken are of the form (`header_took`).

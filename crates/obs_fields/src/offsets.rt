@@ -1,5 +1,5 @@
 //! The position and the antenna's delta in a header.
-ghost use Rattle.std.specs.Prelude.{◌≡◌, ◌+◌, ◌≤◌, length};
+ghost use Rattle.std.specs.Prelude.{◌≡◌, ◌≤◌, length};
 ghost use Rattle.rinex_head.specs.Fields.{fixed_in};
 ghost use Rattle.obs_fields.specs.Offsets.{length_in, offset_in, position_in, delta_in};
 

@@ -1,8 +1,8 @@
 //! Fields of the lines of satellites: names, values and their loss-of-lock digits.
-ghost use Rattle.std.specs.Prelude.{◌≡◌, ◌+◌, ◌≤◌, IfOk, IfSome, IfErr, OnOk, Ok, Err, true};
+ghost use Rattle.std.specs.Prelude.{◌≡◌, ◌+◌, ◌≤◌, IfOk, IfSome, IfErr, OnOk, Ok, Err};
 ghost use Rattle.decimal_text.specs.Fixed.{fixed_of};
 ghost use Rattle.rinex_head.specs.Columns.{columns};
-ghost use Rattle.rinex_head.specs.Systems.{letter_of, last_number_of};
+ghost use Rattle.rinex_head.specs.Systems.{last_number_of};
 ghost use Rattle.obs_fields.specs.SatFields.{is_letter, digit_of, number_at, letter_at, satellite_at, has_no_digit_above_0, amount_in, lock_of, value_in, values_in};
 
 use crate::amounts::usual_amount;

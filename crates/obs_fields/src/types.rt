@@ -3,9 +3,8 @@ ghost use Rattle.std.specs.Prelude.{◌≡◌, ◌+◌, ◌-◌, ◌*◌, ◌<�
 ghost use Rattle.decimal_text.specs.Fixed.{are_blank};
 ghost use Rattle.rinex_head.specs.Columns.{columns};
 ghost use Rattle.rinex_head.specs.Fields.{whole_of};
-ghost use Rattle.obs_fields.specs.Layouts.{first_name_of, name_step_of, names_in_line_of, name_in, types_column_of, types_count_in, further_mark_in};
+ghost use Rattle.obs_fields.specs.Layouts.{first_name_of, name_in, types_column_of, types_count_in, further_mark_in};
 ghost use Rattle.obs_fields.specs.Types.{is_listed, names_from, with_line, count_from, first_types_of, further_types_of, keeps, kept_type_in, kept_at, kept_from, is_kept_name, listed_of};
-ghost use Rattle.obs_store.specs.Kinds.{kept_type_of};
 
 use crate::{Label, Layout, label_of_line};
 use arrayvec::ArrayVec;
@@ -181,17 +180,11 @@ pub fn first_types(layout: Layout, line: &[u8]) -> Result<TypeList, Flaw>
     ensures value { result ≡ first_types_of layout line.now }
     ensures room { IfOk result (λ all. length all.names + all.left ≤ 200) }
 {
-    match type_count(layout, line) {
-        Ok(left) => add_line(
-            layout,
-            line,
-            TypeList {
-                names: TypeNames::new(),
-                left,
-            },
-        ),
-        Err(flaw) => Err(flaw),
-    }
+    let list = TypeList {
+        names: TypeNames::new(),
+        left: type_count(layout, line)?,
+    };
+    add_line(layout, line, list)
 }
 
 // Whether the columns are blank that a list's first line fills.

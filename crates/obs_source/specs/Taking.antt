@@ -44,7 +44,7 @@ IsFirstOf first text = (more : List ℕ) → (others : List (List ℕ)) × (line
 abbrev pub IsReadBy : (List (List ℕ) → Result ObsFile At) → List ℕ → Type 0
 IsReadBy reads text = (more : List ℕ) → any_of Gps (lines_of (text ++ more)) ≡ reads (lines_of (text ++ more))
 
--- the text is a line without an end; a feed stands for it, or it is kept; after a want of memory there is none
+-- the text is a line without an end; a feed stands for it, or it is kept; after running out of memory there is none
 abbrev pub StandsForText : Source → List ℕ → Type 0
 StandsForText (source.Begun line) text = text ≡ line
 StandsForText (source.Three feed) text = StandsFor feed.system feed.state feed.taken text × IsReadBy (λ lines. obs_of Gps lines) text

@@ -186,7 +186,7 @@ impl Taker for ObsTaker {
 
     ghost stands_for = { λ s text. StandsForText s.source text };
 
-    /// Takes the next piece. After a want of memory it answers so again, and so does `finish`.
+    /// Takes the next piece. After running out of memory it answers so again, and so does `finish`.
     fn take(&mut self, piece: &[u8]) -> Result<(), AllocError>
         requires { self.old.taken + length piece.now ≤ 67108864 }
         ensures counted { OnOk result (self.new.taken ≡ self.old.taken + length piece.now) }

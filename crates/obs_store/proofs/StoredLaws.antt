@@ -16,7 +16,7 @@ use Rattle.obs_store.specs.declared.values.SatObs.{SatObs}
 use Rattle.obs_store.specs.declared.stored.StoredSat.{StoredSat}
 use Rattle.obs_store.specs.declared.stored.StoredValue.{StoredValue}
 use Rattle.obs_store.specs.declared.kinds.ObsType.{ObsType}
-use Rattle.obs_store.specs.Kinds.{slot_of, kept_types}
+use Rattle.obs_store.specs.Kinds.{slot_of, slot_count, kept_types}
 use Rattle.obs_store.specs.Satellites.{has_satellite, IsNumber, AreSatellites}
 use Rattle.obs_store.specs.Seen.{numbers_of}
 use Rattle.obs_store.specs.Missing.{missing_values}
@@ -155,7 +155,7 @@ slot_from n [] k d are inside = absurd (omega arith)
 slot_from n (kind ∷ kinds) zero d are inside = omega (arith, are.0)
 slot_from n (kind ∷ kinds) (suc k) d are inside = omega (arith, slot_from (n + 1) kinds k d are.1 (omega arith))
 
-pub slot_at : (k : ℕ) (d : ObsType) → k < 26 → slot_of (get_or kept_types k d) ≡ k
+pub slot_at : (k : ℕ) (d : ObsType) → k < slot_count → slot_of (get_or kept_types k d) ≡ k
 slot_at k d inside =
     let is : slot_of (get_or kept_types k d) ≡ 0 + k =
     slot_from 0 kept_types k d (
@@ -221,16 +221,16 @@ all_values k values is = rw is (append-nil (take (length values) values) ∙ tak
 
 -- ---- storing them one by one
 
--- the values so far of the 26
+-- the values so far of all slots
 abbrev pub so_many : ℕ → List (Option Value) → List (Option Value)
-so_many k values = first_values k (26 - k) values
+so_many k values = first_values k (slot_count - k) values
 
 pub none_stored : (old : List StoredValue) (values : List (Option Value)) → AreStoredBehind old old 0 (so_many 0 values)
 unfolding first_values
 none_stored old values = record { added = []; new_are = sym (append-nil old); as_many = refl; values_are = refl }
 
 pub stored_some : (old now new : List StoredValue) (count k : ℕ) (values : List (Option Value)) (v : StoredValue) (d : Option Value) → AreStoredBehind old now count (so_many k values)
-    → k < 26 → length values ≡ 26 → new ≡ now ++ v ∷ [] → slot_of v.kind ≡ k → get_or values k d ≡ Some (value_in v) → AreStoredBehind old new (count + 1) (so_many (k + 1) values)
+    → k < slot_count → length values ≡ slot_count → new ≡ now ++ v ∷ [] → slot_of v.kind ≡ k → get_or values k d ≡ Some (value_in v) → AreStoredBehind old new (count + 1) (so_many (k + 1) values)
 stored_some old now new count k values v d stored inside all is slot value = record {
   added = stored.added ++ v ∷ [];
   new_are = is ∙ ap (λ l. l ++ v ∷ []) stored.new_are ∙ append_assoc old stored.added (v ∷ []);
@@ -248,7 +248,7 @@ stored_some old now new count k values v d stored inside all is slot value = rec
     one_set = rw (slot, before, behind, add-one) (first_set k (25 - k) values (Some (value_in v)) d (omega arith) value)
 
 pub stored_none : (old now : List StoredValue) (count k : ℕ) (values : List (Option Value)) (d : Option Value) → AreStoredBehind old now count (so_many k values)
-    → k < 26 → length values ≡ 26 → get_or values k d ≡ None → AreStoredBehind old now count (so_many (k + 1) values)
+    → k < slot_count → length values ≡ slot_count → get_or values k d ≡ None → AreStoredBehind old now count (so_many (k + 1) values)
 stored_none old now count k values d stored inside all value = record {
   added = stored.added;
   new_are = stored.new_are;
@@ -262,8 +262,8 @@ stored_none old now count k values d stored inside all value = record {
     behind : 26 - (k + 1) ≡ 25 - k
     behind = omega arith
 
-pub all_stored : (old now : List StoredValue) (count k : ℕ) (values : List (Option Value)) → AreStoredBehind old now count (so_many k values) → k ≡ 26
-    → length values ≡ 26 → AreStoredBehind old now count values
+pub all_stored : (old now : List StoredValue) (count k : ℕ) (values : List (Option Value)) → AreStoredBehind old now count (so_many k values) → k ≡ slot_count
+    → length values ≡ slot_count → AreStoredBehind old now count values
 all_stored old now count k values stored is all = record {
   added = stored.added;
   new_are = stored.new_are;

@@ -1,5 +1,4 @@
 //! The file.
-ghost use Rattle.std.specs.Prelude.{◌≡◌, []};
 
 use crate::{Epochs, SLOTS};
 use std::alloc::Global;

@@ -1,5 +1,5 @@
 //! The epochs of a file.
-ghost use Rattle.std.specs.Prelude.{◌≡◌, ◌≤◌, ◌<◌, [], ◌∷◌, ◌++◌, length, slice_index, IfSome, OnOk, OnErr};
+ghost use Rattle.std.specs.Prelude.{◌≡◌, ◌<◌, [], ◌∷◌, ◌++◌, length, slice_index, IfSome, OnOk, OnErr};
 ghost use Rattle.obs_store.specs.Epochs.{AreEpochs, tags_of, last_tag_of};
 
 use crate::Satellites;

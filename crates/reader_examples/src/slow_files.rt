@@ -4,7 +4,7 @@ ghost use Rattle.std.specs.Prelude.{None};
 use line_source::{Failed, FileId, Files};
 use std::alloc::{AllocError, Global};
 
-// A file that gives at most so many bytes a call, and whose calls fail from that number of reads on.
+/// A file that gives at most so many bytes a call, and whose calls fail from that number of reads on. It serves tests alone.
 #[derive(Drop)]
 pub struct Slow {
     text: Vec<u8>,
@@ -15,6 +15,7 @@ pub struct Slow {
 }
 
 impl Slow {
+    /// A file of this text, at its beginning. It serves tests alone.
     pub fn new(text: Vec<u8>, most: usize, reads: u64) -> Slow {
         Slow {
             text,
@@ -55,7 +56,7 @@ impl Files for Slow {
     }
 }
 
-// The text with CR before each LF.
+/// The text with CR before each LF. It serves tests alone.
 pub fn with_returns(alloc: Global, text: &str) -> Result<String, AllocError> {
     let mut returns = String::new(alloc);
     for c in text.chars() {

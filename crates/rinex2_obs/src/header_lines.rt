@@ -1,6 +1,6 @@
 //! What stands in a line of the header (RINEX 2.11, observation file header).
-ghost use Rattle.std.specs.Prelude.{◌≡◌, ◌+◌, ◌≤◌};
-ghost use Rattle.rinex2_obs.specs.HeaderLines.{factor_in, factors_in, line_of_label, header_line_of};
+ghost use Rattle.std.specs.Prelude.{◌≡◌, ◌≤◌};
+ghost use Rattle.rinex2_obs.specs.HeaderLines.{factor_in, factors_in, header_line_of};
 
 use crate::header::flaw;
 use line_source::Line;

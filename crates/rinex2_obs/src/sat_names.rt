@@ -1,5 +1,5 @@
 //! The names of the satellites in the line of an epoch and in further lines of names (RINEX 2.11, epoch record).
-ghost use Rattle.std.specs.Prelude.{◌≡◌, ◌+◌, ◌*◌, ◌≤◌, length, IfOk, OnOk, IfErr, Ok, Err};
+ghost use Rattle.std.specs.Prelude.{◌≡◌, ◌+◌, ◌≤◌, length, IfOk, OnOk, IfErr, Ok, Err};
 ghost use Rattle.rinex2_obs.specs.SatNumbers.{FitsBehind};
 ghost use Rattle.rinex2_obs.specs.SatNames.{name_in, names_from, with_line, first_names_of, further_mark_of, further_names_of};
 

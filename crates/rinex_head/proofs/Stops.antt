@@ -32,7 +32,7 @@ FailsHere-number : {S F : Type 0} (rules : Rules S F) (s : S) (n : ℕ) (rest : 
 FailsHere-number rules s n [] at e = at_line-number (n + 1) (rules.finish s) at e
 FailsHere-number rules s n (line ∷ lines) at e = at_line-number (n + 1) (admitted rules s line) at e
 
--- a walk that refuses the lines stops at one of them, or behind the last
+-- a walk that refuses the lines stops at one of them, or after the last
 pub walk-stops : {S F : Type 0} (rules : Rules S F) (s : S) (n : ℕ) (lines : List (List ℕ)) (at : At) → walk rules lines n s ≡ Err at → Stops rules s n lines at
 unfolding walk
 walk-stops rules s n [] at e = record { front = []; rest = []; split = refl; last = s; reach = λ more. rw add-zero refl; fails = rw add-zero e }

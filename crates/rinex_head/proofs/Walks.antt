@@ -97,7 +97,7 @@ pub ends_well : {S F : Type 0} (rules : Rules S F) (s : S) (old new : Reading) (
 unfolding walk
 ends_well rules s old new whole ended is = rw (ended.none, is) refl
 
--- a refusal is handed on, and so is want of memory
+-- a refusal is handed on, and so is running out of memory
 pub handed_on : {F : Type 0} (a b : Result F At) (fault : TextFault) → a ≡ b → FailsBy b fault → FailsBy a fault
 handed_on a b (Refused at) same given = same ∙ given
 handed_on a b NoMemory same given = tt

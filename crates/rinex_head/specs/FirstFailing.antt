@@ -12,7 +12,7 @@ abbrev pub IsStuck : (List (List ℕ) → Type 0) → List (List ℕ) → List (
 IsStuck IsFile front [] = IsFile front → ⊥
 IsStuck IsFile front (line ∷ lines) = Begins IsFile (front ++ line ∷ []) → ⊥
 
--- The lines before that line begin a file, and with it none does. Behind the last line stands the end.
+-- The lines before that line begin a file, and with it none does. After the last line stands the end.
 pub record IsFirstFailing (IsFile : List (List ℕ) → Type 0) (lines : List (List ℕ)) (number : ℕ) : Type 0 where
   pub front : List (List ℕ)
   pub rest : List (List ℕ)

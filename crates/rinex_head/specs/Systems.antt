@@ -11,7 +11,7 @@ abbrev pub letter_of : System → ℕ
 letter_of Gps = 71
 letter_of Galileo = 69
 
--- the system of one of these letters
+-- the system of a letter, GPS for all but Galileo's
 abbrev pub system_of : ℕ → System
 system_of letter = if letter == 69 then Galileo else Gps
 

@@ -19,7 +19,7 @@ pub record Rules (S F : Type 0) : Type 0 where
 abbrev pub admitted : {S F : Type 0} → Rules S F → S → List ℕ → Result S Flaw
 admitted rules s line = if nat_lt 4096 (length line) then flawed 1 LongLine else rules.admit s line
 
--- What the lines give where s is expected and n lines stand before them: each must be admitted, and the end behind the last.
+-- What the lines give where s is expected and n lines stand before them: each must be admitted, and the end after the last.
 unfoldable pub walk : {S F : Type 0} → Rules S F → List (List ℕ) → ℕ → S → Result F At
 walk rules [] n s = at_line (n + 1) (rules.finish s)
 walk rules (line ∷ lines) n s = and_then (at_line (n + 1) (admitted rules s line)) (λ next. walk rules lines (n + 1) next)
@@ -32,7 +32,7 @@ text_gives rules lines = walk rules lines 0 rules.start
 abbrev pub rest_gives : {S F : Type 0} → Rules S F → Reading → S → Result F At
 rest_gives rules reading s = walk rules reading.left reading.given s
 
--- The text is refused so. Want of memory says nothing of the text.
+-- The text is refused so. Running out of memory says nothing of the text.
 abbrev pub FailsBy : {F : Type 0} → Result F At → TextFault → Type 0
 FailsBy given (Refused at) = given ≡ Err at
 FailsBy given NoMemory = Unit {0}

@@ -8,7 +8,7 @@ ghost use Rattle.rinex_head.specs.Fields.{without_blanks, whole_of, filled_of, r
 
 use crate::columns::field;
 use crate::place::{Flaw, What};
-use decimal_text::{Dec, NumberFault, read_exp, read_fixed};
+use decimal_text::{Dec, read_exp, read_fixed};
 
 fn skip_blanks(text: &[u8]) -> &[u8]
     ensures value { result.now ≡ without_blanks text.now }
@@ -78,10 +78,9 @@ pub fn whole_number(field: &[u8], first: u32) -> Result<Option<u16>, Flaw>
     ensures small { IfOk result (λ found. IfSome found (λ n. n ≤ 9999)) }
     ensures of_two { length field.now ≤ 2 → IfOk result (λ found. IfSome found (λ n. n ≤ 99)) }
 {
-    match wide_number(field, first) {
-        Ok(Some(number)) => Ok(Some(number as u16)),
-        Ok(None) => Ok(None),
-        Err(flaw) => Err(flaw),
+    match wide_number(field, first)? {
+        Some(number) => Ok(Some(number as u16)),
+        None => Ok(None),
     }
 }
 
@@ -92,10 +91,9 @@ pub fn filled_number(field: &[u8], first: u32) -> Result<u16, Flaw>
     ensures small { IfOk result (λ n. n ≤ 9999) }
     ensures of_two { length field.now ≤ 2 → IfOk result (λ n. n ≤ 99) }
 {
-    match whole_number(field, first) {
-        Ok(Some(number)) => Ok(number),
-        Ok(None) => Err(bad_field(first)),
-        Err(flaw) => Err(flaw),
+    match whole_number(field, first)? {
+        Some(number) => Ok(number),
+        None => Err(bad_field(first)),
     }
 }
 
@@ -106,26 +104,16 @@ pub fn two_digits(line: &[u8], first: u32) -> Result<u8, Flaw>
     ensures value { result ≡ filled_of first (columns line.now first 2) }
     ensures small { IfOk result (λ n. n ≤ 99) }
 {
-    match filled_number(&field::<2>(line, first as usize), first) {
-        Ok(number) => Ok(number as u8),
-        Err(flaw) => Err(flaw),
-    }
+    let number = filled_number(&field::<2>(line, first as usize), first)?;
+    Ok(number as u8)
 }
 
-/// The number with a point that the text spells, times 10^places.
-pub fn fixed(text: &[u8], places: u32) -> Result<i64, NumberFault>
-    requires { places ≤ 9 }
-    ensures { result ≡ fixed_of text.now places }
-{
-    read_fixed(text, places)
-}
-
-/// The same in a field that begins at this column, where it must be there.
+/// The number with a point, times 10^places, in a field that begins at this column, where it must be there.
 pub fn fixed_number(field: &[u8], first: u32, places: u32) -> Result<i64, Flaw>
     requires { places ≤ 9 }
     ensures { result ≡ readable first (fixed_of field.now places) }
 {
-    match fixed(field, places) {
+    match read_fixed(field, places) {
         Ok(number) => Ok(number),
         Err(_) => Err(bad_field(first)),
     }

@@ -24,10 +24,6 @@
 //! the label or a version from 3.00 to 3.05. What the formats say of GPS and of Galileo is by cases of `System`. The
 //! numbers in fixed columns, which both readers of RINEX take (`whole_number`, `filled_number`, `two_digits`,
 //! `fixed_number`, `exponent_number`), are exactly those that the bytes spell, or a bad field at its first column.
-//!
-//! The closed list of reasons with their texts, the place of a refusal, and the walk over lines that every reader of
-//! a text has in its contract (`Reads`, `Gives`). Its proofs are generic: a reader states two tables, and gets that a
-//! text is refused at the first line that no rule admits, by the form alone (`first_failing`).
 #![tactic(auto)]
 
 mod columns;
@@ -38,8 +34,9 @@ mod system;
 mod walk;
 
 pub use columns::{byte_in, field};
+pub use decimal_text::read_fixed as fixed;
 pub use fields::{
-    bad_field, exponent_number, filled_number, fixed, fixed_number, is_blank_line, two_digits,
+    bad_field, exponent_number, filled_number, fixed_number, is_blank_line, two_digits,
     whole_number, wide_number,
 };
 pub use head::{FIRST_LABEL, HeadLine, Version, head_line, version_of};

@@ -1,5 +1,5 @@
 //! The satellite systems of the files that are read.
-ghost use Rattle.std.specs.Prelude.{◌≡◌, ◌⊎◌};
+ghost use Rattle.std.specs.Prelude.{◌≡◌};
 ghost use Rattle.rinex_head.specs.Systems.{letter_of, last_number_of, names_time, none_listed, scaled, bad_version, system_of};
 
 use crate::place::What;
@@ -12,9 +12,8 @@ pub enum System {
 }
 
 impl System {
-    /// The system of that letter (RINEX 3, satellite system identifier).
+    /// The system of that letter (RINEX 3, satellite system identifier); Galileo's is E, and any other stands for GPS.
     pub fn of_letter(letter: u8) -> System
-        requires { (letter ≡ 71) ⊎ (letter ≡ 69) }
         ensures { result ≡ system_of letter }
     {
         match letter {

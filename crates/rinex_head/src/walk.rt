@@ -1,7 +1,6 @@
 //! The next line of a text that is read.
 ghost use Rattle.std.specs.Prelude.{◌≡◌, MatchOption, MatchResult};
 ghost use Rattle.line_source.specs.Lines.{GivesLine, IsAtEnd};
-ghost use Rattle.rinex_head.specs.Places.{place};
 ghost use Rattle.rinex_head.specs.Walk.{HasNoLine, IsLongLine};
 
 use crate::place::{At, Flaw, What};

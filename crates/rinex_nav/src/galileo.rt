@@ -15,7 +15,8 @@ use std::alloc::Global;
 
 /// The records of Galileo in a navigation file (RINEX 3.00 to 3.05), or the first place at which the text is none.
 ///
-/// A record's numbers are decimals in the units of the file. Records of other systems are skipped.
+/// A record's numbers are decimals in the units of the file. Records of other systems are skipped. It
+/// serves tests alone: the program calls `read_records_of`.
 pub fn read_gal_nav(alloc: Global, text: &[u8]) -> Result<NavFile, TextFault>
     requires { length text.now ≤ 67_108_864 }
     ensures ok { IfOk result (λ file. IsNavFile Galileo (lines_of text.now) file.all) }

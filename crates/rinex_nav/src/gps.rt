@@ -13,7 +13,8 @@ use std::alloc::Global;
 
 /// The GPS records of a navigation file (RINEX 3.00 to 3.05), or the first place at which the text is none.
 ///
-/// A record's numbers are decimals in the units of the file. Records of other systems are skipped.
+/// A record's numbers are decimals in the units of the file. Records of other systems are skipped. It
+/// serves tests alone: the program calls `read_records_of`.
 pub fn read_nav(alloc: Global, text: &[u8]) -> Result<NavFile, TextFault>
     requires { length text.now ≤ 67_108_864 }
     ensures ok { IfOk result (λ file. IsNavFile (lines_of text.now) file.all) }

@@ -1,5 +1,5 @@
 //! The lines of the body (RINEX 3, navigation message records).
-ghost use Rattle.std.specs.Prelude.{◌≡◌, ◌≤◌, length, Ok};
+ghost use Rattle.std.specs.Prelude.{◌≡◌, ◌≤◌, Ok};
 ghost use Rattle.rinex_nav.specs.RecordLines.{number_in, satellite_in, moment_of, toc_in, start_in, record_line_of, body_line_of, number_if, quad_in, continuation_of};
 
 use decimal_text::Dec;

@@ -24,8 +24,8 @@ LinesWithin-prop state.NoMemory taken = Prim.hlevel props
 abbrev pub gives_behind : System → OpenText → List ℕ → Result ObsFile At
 gives_behind system t more = gives_with system t.number t.line (expected_in t.file) more
 
--- The texts of so many bytes whose answer is, whatever follows them, the one of the state. After a want of memory there
--- is none.
+-- The texts of so many bytes whose answer is, whatever follows them, the one of the state. After running out of
+-- memory there is none.
 abbrev pub StandsFor : System → FeedState → ℕ → List ℕ → Type 0
 StandsFor system (state.Open t) taken text = IsFed system (gives_behind system t) taken text
 StandsFor system (state.Refused at) taken text = IsFed system (λ more. Err at) taken text

@@ -191,7 +191,7 @@ impl Taker for Feed {
 
     ghost stands_for = { λ s text. StandsFor s.system s.state s.taken text };
 
-    /// Takes the next piece. Behind a line that is refused it drops what follows. After a want of memory it answers so
+    /// Takes the next piece. Behind a line that is refused it drops what follows. After running out of memory it answers so
     /// again, and so does `finish`.
     fn take(&mut self, piece: &[u8]) -> Result<(), AllocError>
         requires { self.old.taken + length piece.now ≤ 67108864 }

@@ -1,6 +1,6 @@
 //! What stands in a line of the header (RINEX 3, observation file header).
 ghost use Rattle.std.specs.Prelude.{◌≡◌};
-ghost use Rattle.rinex_obs.specs.HeaderLines.{line_of_label, header_line_of};
+ghost use Rattle.rinex_obs.specs.HeaderLines.{header_line_of};
 
 use crate::header::flaw;
 use line_source::Line;

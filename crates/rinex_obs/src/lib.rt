@@ -23,9 +23,11 @@ mod open_header;
 mod reader;
 mod sat_lines;
 mod started;
+mod system_feed;
 
 pub use feed::{Feed, FeedState};
-pub use galileo::{GalFeed, read_gal_obs};
-pub use gps::{ObsFeed, read_obs};
+pub use galileo::read_gal_obs;
+pub use gps::read_obs;
 pub use rinex_head::TextFault as ObsFault;
 pub use started::{Overlong, StartedLine, split_line};
+pub use system_feed::{GalFeed, ObsFeed, OfGalileo, OfGps, OneSystem, SystemFeed};

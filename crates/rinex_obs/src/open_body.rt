@@ -1,8 +1,7 @@
 //! A body of which more may follow.
-ghost use Rattle.std.specs.Prelude.{◌≡◌, ◌-◌, ◌<◌, ◌≤◌, ◌++◌, ◌∷◌, [], length, IfSome, OnOk, IfErr, Ok, Err, false};
+ghost use Rattle.std.specs.Prelude.{◌≡◌, ◌-◌, ◌<◌, ◌≤◌, [], length, IfSome, OnOk, Ok, Err, false};
 ghost use Rattle.obs_store.specs.Epochs.{last_tag_of};
 ghost use Rattle.obs_store.specs.Satellites.{has_satellite};
-ghost use Rattle.rinex_head.specs.Places.{at_line};
 ghost use Rattle.obs_fields.specs.Types.{kept_from};
 ghost use Rattle.rinex_obs.specs.Parts.{FitsBehind, FitsBehind-prop};
 ghost use Rattle.rinex_obs.specs.ObsRules.{Body, Sats, Skip, more_sats, more_lines, with_satellite, admit, finish};

@@ -1,6 +1,5 @@
 //! An observation file of which more may follow.
 ghost use Rattle.std.specs.Prelude.{◌≡◌, IfOk, []};
-ghost use Rattle.rinex_head.specs.Places.{at_line};
 ghost use Rattle.rinex_obs.specs.ObsRules.{Body, admit, finish};
 ghost use Rattle.rinex_obs.specs.Opened.{expected_in, expected_in_body};
 ghost use Rattle.rinex_obs.specs.Feeding.{Takes};

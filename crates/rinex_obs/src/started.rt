@@ -1,6 +1,5 @@
 //! The bytes of a line that has begun, and where it ends.
-ghost use Rattle.std.specs.Prelude.{◌≡◌, ◌+◌, ◌≤◌, ◌<◌, ◌++◌, ◌∷◌, ℕ, List, [], length, take, IfSome, IfNone, OnOk, OnErr};
-ghost use Rattle.line_source.specs.Lines.{lines_from};
+ghost use Rattle.std.specs.Prelude.{◌≡◌, ◌+◌, ◌≤◌, ◌<◌, ◌++◌, ℕ, List, [], length, take, IfSome, IfNone, OnOk, OnErr};
 ghost use Rattle.rinex_obs.specs.Started.{EndsLine, GoesOn};
 
 use arrayvec::ArrayVec;

@@ -2,7 +2,7 @@
 use Rattle.std.proofs.Common.{◌≡◌, ◌∙◌, ap, sym, arith, Some, None}
 use Rattle.obs_store.specs.declared.values.Value.{Value}
 use Rattle.obs_store.specs.declared.kinds.ObsType.TheVariants.{C1C}
-use Rattle.obs_store.specs.Kinds.{slot_of}
+use Rattle.obs_store.specs.Kinds.{slot_of, slot_count}
 use Rattle.obs_store.proofs.StoredLaws.{none_stored, stored_some, stored_none, all_stored, slot_at}
 use Rattle.obs_store.proofs.stored.store_values.Goals as goal
 use Rattle.obs_store.proofs.stored.store_values.Goals.{in-Some, in-None}
@@ -29,5 +29,5 @@ loop-slot-preserved c = elim c.match-values-slot.branch [
 
 pub returns : goal.returns
 returns c =
-    let last : c.loop-slot.slot ≡ 26 = omega arith in
+    let last : c.loop-slot.slot ≡ slot_count = omega arith in
     all_stored c.args.stored.now.items c.loop-slot.stored.items c.loop-slot.count c.loop-slot.slot c.args.values.now c.loop-slot.invariant.stored last c.told-values
