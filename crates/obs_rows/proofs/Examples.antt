@@ -34,7 +34,7 @@ four_integers = refl
 no_integers : integer_count three_arcs COARSE_SIGNALS ≡ 0
 no_integers = refl
 
--- the last arc's integers stand behind those of the first, L1 and L2
+-- the last arc's integers stand after those of the first, L1 and L2
 place_on_l1 : integer_place three_arcs SIGNALS_12 2 0 ≡ Some 2
 place_on_l1 = refl
 

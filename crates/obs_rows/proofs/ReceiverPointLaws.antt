@@ -5,6 +5,7 @@ use Rattle.std.specs.Int.{w64, w128}
 use Rattle.whole_math.specs.Vectors.{squared_norm}
 use Rattle.whole_math.proofs.Absolute.{abs_square}
 use Rattle.whole_math.proofs.Order.{square_nn, lins}
+use Rattle.whole_math.proofs.Words.{as_w64}
 use Rattle.obs_rows.specs.Ranges.{IsPoint}
 use Rattle.obs_rows.specs.ReceiverPoints.{IsReceiverPoint}
 
@@ -49,7 +50,7 @@ pub three_words : (a b c : ℤ) → pos 0 ≤ℤ a → a ≤ℤ pos (2 ^ 80) →
 three_words a b c h₁ h₂ h₃ h₄ h₅ h₆ = omega (arith, ints)
 
 pub plain : (x : ℤ) → unsigned_abs x ≤ 70000000000 → to_z w64 (of_z w64 x) ≡ x
-plain x h = omega (arith, ints)
+plain x small = as_w64 x (omega (arith, small))
 
 -- the norm by its three coordinates
 pub norm_of : (p : List ℤ) (a b c x y z : ℤ) → length p ≡ 3 → x ≡ get_or p 0 (pos 0) → y ≡ get_or p 1 (pos 0) → z ≡ get_or p 2 (pos 0) → a ≡ x *ℤ x → b ≡ y *ℤ y → c ≡ z *ℤ z →

@@ -1,4 +1,4 @@
--- The sets of bands that a run may use, by the numbers that tell them.
+-- The sets of bands that a run may use, by their numbers.
 use Rattle.std.specs.Prelude.{ℕ, ◌==◌, ◌||◌, if◌then◌else◌, IsTrue, List, slice_index_or}
 use Rattle.obs_rows.specs.declared.units.TheConstants.{BANDS_12, BANDS_15, BANDS_125}
 use Rattle.obs_rows.specs.declared.band_sets.TheConstants.{BANDS_L1_L2, BANDS_L1_L5, BANDS_L1_L2_L5, BAND_DIGITS, PHASE_SIGNALS}

@@ -1,5 +1,5 @@
 //! The numbers of the sets of bands, and the bands of each.
-ghost use Rattle.std.specs.Prelude.{◌≡◌, ◌<◌, ◌↔◌, ℕ, [], ◌∷◌, All, IsTrue, map, codes};
+ghost use Rattle.std.specs.Prelude.{◌≡◌, ◌<◌, ◌↔◌, ℕ, All, IsTrue, map, codes};
 ghost use Rattle.std.specs.Fmt.{decimal};
 ghost use Rattle.obs_rows.specs.declared.units.TheConstants.{PHASES, SIGNALS};
 ghost use Rattle.obs_rows.specs.Signals as signals;
@@ -23,7 +23,7 @@ pub const BAND_DIGITS: [u8; PHASES] = [b'1', b'2', b'5'];
 /// The phase on each band, by its number among the signals of a row.
 pub const PHASE_SIGNALS: [usize; PHASES] = [0, 1, 4];
 
-/// Whether a number tells a set of bands.
+/// Whether a number is that of a set of bands.
 pub fn is_bands_number(number: u16) -> bool
     ensures { IsTrue result ↔ IsBandsNumber number }
 {

@@ -1,6 +1,6 @@
 //! Which signals count, and where the integers of an arc stand.
-ghost use Rattle.std.specs.Prelude.{◌≡◌, ◌<◌, ◌≤◌, ℕ, All, IsTrue, ◌↔◌, length, take, position, ◌==◌, IfSome};
-ghost use Rattle.obs_rows.specs.Arcs.{IsOfPair, free_count, free_before};
+ghost use Rattle.std.specs.Prelude.{◌≡◌, ◌<◌, ◌≤◌, All, IsTrue, ◌↔◌, length, position, ◌==◌, IfSome};
+ghost use Rattle.obs_rows.specs.Arcs.{IsOfPair, free_count};
 ghost use Rattle.obs_rows.specs.Pairs.{HasItsArcs};
 ghost use Rattle.obs_rows.specs.declared.units.TheConstants.{SIGNALS};
 ghost use Rattle.obs_rows.specs.Signals.{fine_signals, counted, phases, AreCounted};
@@ -37,7 +37,7 @@ pub fn counted_signals(signals: Signals, scale: u32) -> &'static [usize]
     }
 }
 
-/// Whether the row's arc is one of these and holds the pair.
+/// Whether the row's arc is one of these and holds the pair. No command asks: the call serves tests alone.
 pub fn is_of_pair(arcs: &[Arc], number: u32, row: &Row) -> bool
     ensures { IsTrue result ↔ IsOfPair arcs.now number row.now }
 {
@@ -47,7 +47,7 @@ pub fn is_of_pair(arcs: &[Arc], number: u32, row: &Row) -> bool
     arc.first <= number && number <= arc.last
 }
 
-/// Whether this holds for each row of a pair.
+/// Whether this holds for each row of a pair. The call serves tests alone.
 pub fn has_its_arcs(arcs: &[Arc], pair: &PairRows) -> bool
     ensures { IsTrue result ↔ HasItsArcs arcs.now pair.now }
 {
@@ -93,7 +93,7 @@ pub fn phase_place(signals: &[usize], signal: usize) -> Option<usize>
         .position(|s| *s == signal)
 }
 
-/// The place of the integer of an arc and a signal among all: behind those of the free arcs before it, in the order
+/// The place of the integer of an arc and a signal among all: after those of the free arcs before it, in the order
 /// of the phases. A datum and a code have none.
 #[tactic(auto, using(crate::proofs::IntegerPlaces::free_before_le, crate::proofs::IntegerPlaces::place_below))]
 pub fn integer_place(arcs: &[Arc], signals: &[usize], arc: usize, signal: usize) -> Option<usize>

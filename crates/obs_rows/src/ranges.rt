@@ -1,6 +1,6 @@
 //! Tests of the ranges that rows, arcs and sessions keep.
-ghost use Rattle.std.specs.Prelude.{◌≡◌, ◌↔◌, ◌^◌, ◌≤◌, All, IsTrue, IsSome, IfSome};
-ghost use Rattle.obs_rows.specs.Ranges.{IsWithin, IsBelow, IsRadius, IsSystem, IsPoint};
+ghost use Rattle.std.specs.Prelude.{◌↔◌, All, IsTrue};
+ghost use Rattle.obs_rows.specs.Ranges.{IsWithin, IsRadius, IsSystem, IsPoint};
 ghost use Rattle.obs_rows.specs.Arcs.{IsArcInRange, AreArcs};
 
 use crate::{Arc, MOST_FREE_ARCS, free_arcs};
@@ -40,7 +40,7 @@ pub fn is_point(point: &[i64; 3]) -> bool
     are_within(point, 70_000_000_000)
 }
 
-/// Whether an arc's numbers are in range.
+/// Whether an arc's numbers are in range. The call serves tests alone.
 pub fn is_arc_in_range(arc: &Arc) -> bool
     ensures { IsTrue result ↔ IsArcInRange arc.now }
 {
@@ -48,7 +48,8 @@ pub fn is_arc_in_range(arc: &Arc) -> bool
     1 <= arc.sat && arc.sat <= 36 && arc.first <= arc.last && arc.last < 3600 && shifts
 }
 
-/// Whether these are the arcs of a session: 2 to 200, of which 1 to 20 are free, with their numbers in range.
+/// Whether these are the arcs of a session: 2 to 200, of which 1 to 20 are free, with their numbers in range. The
+/// call serves tests alone.
 pub fn are_arcs(arcs: &[Arc]) -> bool
     ensures { IsTrue result ↔ AreArcs arcs.now }
 {

@@ -1,5 +1,5 @@
 //! Arcs that are cut at jumps and where power failed, and what links them.
-ghost use Rattle.std.specs.Prelude.{◌≡◌, ◌+◌, ◌<◌, ◌≤◌, ◌^◌, unsigned_abs, vec_len, All, IfOk, OnOk};
+ghost use Rattle.std.specs.Prelude.{◌≡◌, ◌+◌, ◌<◌, ◌^◌, unsigned_abs, vec_len, All, IfOk, OnOk};
 ghost use Rattle.obs_rows.specs.UsedSats.{IsInRange};
 
 use obs_rows::{Arc, BANDS_L1_L2, are_within, is_bands_number};

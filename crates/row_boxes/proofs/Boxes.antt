@@ -16,7 +16,7 @@ use Rattle.obs_rows.specs.Signals.{wavelength, is_phase}
 use Rattle.obs_rows.specs.declared.units.TheConstants.{LIGHT_SPEED, ROW_EXPONENT}
 use Rattle.row_boxes.specs.declared.pseudoranges.TheConstants.{UNITS, PARTS}
 use Rattle.row_boxes.specs.declared.prefits.TheConstants.{UNITS as MM_UNITS}
-use Rattle.row_boxes.specs.Terms.{prefit_width, y_width, metre, light_speed, pseudorange, observed, row_unit, in_row_unit}
+use Rattle.row_boxes.specs.Terms.{prefit_width, y_width, metre, light_speed, pseudorange, observed, row_unit, in_row_unit, iota_exponent}
 use Rattle.row_boxes.specs.YBoxes.{most_radius, MeetsOne}
 use Rattle.row_boxes.proofs.Scaling.{scaled_box}
 use Rattle.row_boxes.proofs.Ends.{scale_cases}
@@ -72,7 +72,7 @@ finer lo hi r h = (
 pub pseudorange_holds : (rl rh tl th f g : ℤ) (r t : Rational) →
     IsFloor (((rl *ℤ pos (2 ^ 24)) -ℤ (th *ℤ LIGHT_SPEED)) *ℤ pos UNITS) (PARTS * 2 ^ 39) f →
     IsCeil (((rh *ℤ pos (2 ^ 24)) -ℤ (tl *ℤ LIGHT_SPEED)) *ℤ pos UNITS) (PARTS * 2 ^ 39) g →
-    InBox 36 rl rh r → InBox 60 tl th t → InBox 15 f g (pseudorange r t)
+    InBox 36 rl rh r → InBox 60 tl th t → InBox iota_exponent f g (pseudorange r t)
 pseudorange_holds rl rh tl th f g r t k l h i =
     scaled_box 60 15 ((rl *ℤ pos (2 ^ 24)) -ℤ (th *ℤ LIGHT_SPEED)) ((rh *ℤ pos (2 ^ 24)) -ℤ (tl *ℤ LIGHT_SPEED)) (pos UNITS) f g (PARTS * 2 ^ 39) metre (sub_r r (mul_r light_speed t))
     (lit< tt) (pos_nn UNITS) refl k l (sub_holds 60 (rl *ℤ pos (2 ^ 24)) (rh *ℤ pos (2 ^ 24)) (tl *ℤ LIGHT_SPEED) (th *ℤ LIGHT_SPEED) r (mul_r light_speed t) (finer rl rh r h) (of_light tl th t i))
@@ -81,15 +81,16 @@ pseudorange_holds rl rh tl th f g r t k l h i =
 whole_in : (a : ℤ) → InBox 0 a a (of_whole a)
 whole_in a = (le_refl_ℤ (a *ℤ pos 1), le_refl_ℤ (a *ℤ pos 1))
 
-pub observed_code : (s : ℕ) (a f g : ℤ) → IsTrue (not (is_phase s)) → IsFloor (a *ℤ MM_UNITS) PARTS f → IsCeil (a *ℤ MM_UNITS) PARTS g → InBox 15 f g (observed s a)
+pub observed_code : (s : ℕ) (a f g : ℤ) → IsTrue (not (is_phase s)) → IsFloor (a *ℤ MM_UNITS) PARTS f → IsCeil (a *ℤ MM_UNITS) PARTS g → InBox iota_exponent f g (observed s a)
 observed_code s a f g c k l = by_kind (is_phase s) c
   where
-    by_kind : (b : Bool) → IsTrue (not b) → InBox 15 f g (mul_r (cond b (divided (of_whole (wavelength s)) 1000 (lit< tt)) (divided metre 1000 (lit< tt))) (of_whole a))
+    by_kind : (b : Bool) → IsTrue (not b) → InBox iota_exponent f g (mul_r (cond b (divided (of_whole (wavelength s)) 1000 (lit< tt)) (divided metre 1000 (lit< tt))) (of_whole a))
     by_kind true h = absurd (false≢true h)
     by_kind false h = scaled_box 0 15 a a MM_UNITS f g PARTS (divided metre 1000 (lit< tt)) (of_whole a) (lit< tt) (pos_nn 35620120166400) refl k l (whole_in a)
 
 -- ---- observed less computed
-pub prefit_holds : (hl hh bl bh rl rh : ℤ) (o b r : Rational) → InBox 15 hl hh o → InBox 15 bl bh b → InBox 15 rl rh r → InBox 15 (hl -ℤ (rh -ℤ bl)) (hh -ℤ (rl -ℤ bh)) (sub_r o (sub_r r b))
+pub prefit_holds : (hl hh bl bh rl rh : ℤ) (o b r : Rational) → InBox iota_exponent hl hh o → InBox iota_exponent bl bh b
+    → InBox iota_exponent rl rh r → InBox iota_exponent (hl -ℤ (rh -ℤ bl)) (hh -ℤ (rl -ℤ bh)) (sub_r o (sub_r r b))
 prefit_holds hl hh bl bh rl rh o b r h i j = sub_holds 15 hl hh (rl -ℤ bh) (rh -ℤ bl) o (sub_r r b) h (sub_holds 15 rl rh bl bh r b j i)
 
 -- ---- in the unit of a row
@@ -97,7 +98,7 @@ unit_is : (s : ℕ) → IsScale s → (pos 1 *ℤ pos (2 ^ s)) *ℤ pos (2 ^ 15)
 unit_is s h = ⊎_elim (λ (e : s ≡ 0). subst (λ (i : ℕ). (pos 1 *ℤ pos (2 ^ i)) *ℤ pos (2 ^ 15) ≡ (pos (2 ^ ROW_EXPONENT) *ℤ pos (2 ^ 0)) *ℤ pos (2 ^ (i + 2))) (sym e) refl)
     (λ (e : s ≡ 14). subst (λ (i : ℕ). (pos 1 *ℤ pos (2 ^ i)) *ℤ pos (2 ^ 15) ≡ (pos (2 ^ ROW_EXPONENT) *ℤ pos (2 ^ 0)) *ℤ pos (2 ^ (i + 2))) (sym e) refl) (scale_cases s h)
 
-pub whole_at : (w : ℤ) → InBox 15 (w *ℤ pos 32768) (w *ℤ pos 32768) (of_whole w)
+pub whole_at : (w : ℤ) → InBox iota_exponent (w *ℤ pos 32768) (w *ℤ pos 32768) (of_whole w)
 whole_at w = (same (w *ℤ pos 32768), same' (w *ℤ pos 32768))
   where
     same : (x : ℤ) → (x *ℤ pos 1) ≤ℤ x
@@ -115,7 +116,7 @@ pub record AreYEnds (s : ℕ) (lo hi w c r : ℤ) : Type 0 where
   pub bottom : (c -ℤ r) ≤ℤ floor_div (lo -ℤ (w *ℤ pos 32768)) (2 ^ (s + 2))
   pub half : (pos 2 *ℤ r) ≤ℤ ((ceil_div (hi -ℤ (w *ℤ pos 32768)) (2 ^ (s + 2)) -ℤ floor_div (lo -ℤ (w *ℤ pos 32768)) (2 ^ (s + 2))) +ℤ pos 1)
 
-pub y_holds : (s : ℕ) (lo hi w c r : ℤ) (q : Rational) → AreYEnds s lo hi w c r → InBox 15 lo hi q → Near c r (in_row_unit s (sub_r q (of_whole w)))
+pub y_holds : (s : ℕ) (lo hi w c r : ℤ) (q : Rational) → AreYEnds s lo hi w c r → InBox iota_exponent lo hi q → Near c r (in_row_unit s (sub_r q (of_whole w)))
 y_holds s lo hi w c r q a h =
     let e : ℕ = 2 ^ (s + 2) in
     let l : ℤ = lo -ℤ (w *ℤ pos 32768) in

@@ -9,6 +9,7 @@ use Rattle.obs_rows.specs.Ranges.{IsScale}
 use Rattle.obs_rows.specs.declared.units.TheConstants.{LIGHT_SPEED}
 use Rattle.row_boxes.specs.declared.pseudoranges.TheConstants.{UNITS, PARTS}
 use Rattle.row_boxes.specs.Terms.{pseudorange_width, prefit_width}
+use Rattle.whole_math.proofs.Words.{as_w64}
 
 -- ---- as the code reads them
 pub plain64 : (x : ℤ) → neg_ℤ (pos (2 ^ 62)) ≤ℤ x → x ≤ℤ pos (2 ^ 62) → to_z w64 (of_z w64 x) ≡ x
@@ -18,7 +19,7 @@ pub plain_size : (x : ℤ) (m : ℕ) → m ≤ 2 ^ 100 → unsigned_abs x ≤ m 
 plain_size x m h k = omega (arith, ints)
 
 pub read_small : (x : ℤ) → unsigned_abs x < 2 ^ 48 → to_z w64 (of_z w64 x) ≡ x
-read_small x h = omega (arith, ints)
+read_small x small = as_w64 x (omega (arith, small))
 
 pub through : (x y z : ℤ) → x ≤ℤ y → y ≤ℤ z → x ≤ℤ z
 through x y z h k = omega (arith, ints)

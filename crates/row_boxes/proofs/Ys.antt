@@ -15,11 +15,12 @@ use Rattle.orbit_model.specs.SeenPlaces.{range_of}
 use Rattle.std.specs.Prelude.{slice_get}
 use Rattle.obs_rows.specs.Signals.{wavelength, band, is_phase}
 use Rattle.obs_rows.specs.Data.{number_at}
-use Rattle.row_boxes.specs.Terms.{prefit_width, pseudorange, observed, in_row_unit, row_unit}
+use Rattle.row_boxes.specs.Terms.{prefit_width, pseudorange, observed, in_row_unit, row_unit, iota_exponent}
 use Rattle.row_boxes.specs.Sightings.{Sighting, computed, y_of, y_in_rows}
 use Rattle.row_boxes.specs.YBoxes.{Pairing, HasSightings, HoldsY, HasFarSignal, IsFar, IsWithinHalf, most_radius}
 use Rattle.row_boxes.proofs.Values.{computed_is}
 use Rattle.row_boxes.proofs.Boxes.{whole_at}
+use Rattle.obs_rows.specs.declared.units.TheConstants.{SIGNALS}
 
 -- observed less the difference of two pseudoranges
 abbrev pub less_pseudoranges : ℕ → ℤ → Sighting → Sighting → Rational
@@ -81,7 +82,7 @@ half_cycle lo hi g k n m e h i =
     high x y t e f h k = omega (arith, ints)
 
 pub within_half : (n lo hi w : ℤ) (q : Rational) →
-    (neg_ℤ (n *ℤ pos (2 ^ 14)) ≤ℤ (lo -ℤ (w *ℤ pos 32768))) × ((hi -ℤ (w *ℤ pos 32768)) ≤ℤ ((n *ℤ pos (2 ^ 14)) +ℤ prefit_width)) → InBox 15 lo hi q → IsWithinHalf n (sub_r q (of_whole w))
+    (neg_ℤ (n *ℤ pos (2 ^ 14)) ≤ℤ (lo -ℤ (w *ℤ pos 32768))) × ((hi -ℤ (w *ℤ pos 32768)) ≤ℤ ((n *ℤ pos (2 ^ 14)) +ℤ prefit_width)) → InBox iota_exponent lo hi q → IsWithinHalf n (sub_r q (of_whole w))
 within_half n lo hi w q h i = wider 15 (lo -ℤ (w *ℤ pos 32768)) (hi -ℤ (w *ℤ pos 32768)) (neg_ℤ (n *ℤ pos (2 ^ 14))) ((n *ℤ pos (2 ^ 14)) +ℤ prefit_width) (sub_r q (of_whole w)) h.0 h.1
     (sub_holds 15 lo hi (w *ℤ pos 32768) (w *ℤ pos 32768) q (of_whole w) i (whole_at w))
 
@@ -175,7 +176,7 @@ pub zero_off : (y : List ℤ) (s t : ℕ) (c : ℤ) → (s ≡ t → ⊥) → nu
 zero_off y s t c n z = get_or-set_other y s t c (pos 0) (λ (e : t ≡ s). n (sym e)) ∙ z
 
 -- ---- phases
-pub cycle_units : (s : ℕ) → s < 6 → IsTrue (is_phase s) → pos (unsigned_abs (wavelength s) * 2 ^ 15) ≡ wavelength s *ℤ pos (2 ^ 15)
+pub cycle_units : (s : ℕ) → s < SIGNALS → IsTrue (is_phase s) → pos (unsigned_abs (wavelength s) * 2 ^ 15) ≡ wavelength s *ℤ pos (2 ^ 15)
 cycle_units zero h p = refl
 cycle_units (suc zero) h p = refl
 cycle_units (suc (suc zero)) h p = absurd (false≢true p)
@@ -184,7 +185,7 @@ cycle_units (suc (suc (suc (suc zero)))) h p = refl
 cycle_units (suc (suc (suc (suc (suc zero))))) h p = absurd (false≢true p)
 cycle_units (suc (suc (suc (suc (suc (suc s)))))) h p = absurd (omega arith)
 
-pub long_cycle : (s : ℕ) → s < 6 → IsTrue (is_phase s) → pos 1000 ≤ℤ wavelength s
+pub long_cycle : (s : ℕ) → s < SIGNALS → IsTrue (is_phase s) → pos 1000 ≤ℤ wavelength s
 long_cycle zero h p = omega (arith, ints)
 long_cycle (suc zero) h p = omega (arith, ints)
 long_cycle (suc (suc zero)) h p = absurd (false≢true p)

@@ -35,6 +35,11 @@ row_unit scale = record { num = pos (2 ^ ROW_EXPONENT); den = 2 ^ scale; positiv
 abbrev pub in_row_unit : ℕ → Rational → Rational
 in_row_unit scale q = mul_r (row_unit scale) q
 
+-- ---- the unit of what is computed
+-- lengths are in 2^-15 ι until they are in the unit of a row
+abbrev pub iota_exponent : ℕ
+iota_exponent = 15
+
 -- ---- how wide boxes are
 -- the greatest width of a pseudorange, in 2^-15 ι
 abbrev pub pseudorange_width : ℤ

@@ -6,7 +6,7 @@ use Rattle.orbit_model.specs.SeenPlaces.{range_of}
 use Rattle.obs_rows.specs.declared.units.TheConstants.{ROW_EXPONENT}
 use Rattle.obs_rows.specs.Data.{number_at}
 use Rattle.obs_rows.specs.Signals.{wavelength, band}
-use Rattle.row_boxes.specs.Terms.{prefit_width, pseudorange}
+use Rattle.row_boxes.specs.Terms.{prefit_width, pseudorange, iota_exponent}
 use Rattle.row_boxes.specs.Sightings.{Sighting, IsSighting, HasSighting, y_in_rows}
 use Rattle.row_boxes.specs.declared.pseudoranges.Pseudorange.{Pseudorange}
 
@@ -29,7 +29,7 @@ pub record HasSightings (p : Pairing) : Type 0 where
 
 -- the box holds the pseudorange of every sighting
 abbrev pub HoldsPseudoranges : SvBox → List ℤ → Pseudorange → Type 0
-HoldsPseudoranges sv point b = (s : Sighting) → IsSighting sv point s → InBox 15 b.lo b.hi (pseudorange (range_of s.travel) s.clock)
+HoldsPseudoranges sv point b = (s : Sighting) → IsSighting sv point s → InBox iota_exponent b.lo b.hi (pseudorange (range_of s.travel) s.clock)
 
 -- of both receivers
 pub record HoldsBoth (p : Pairing) (base rover : Pseudorange) : Type 0 where
@@ -85,7 +85,7 @@ pub record HasFarSignal (p : Pairing) (ss : List ℕ) (scale : ℕ) (amounts : L
 -- ---- what is nearest
 -- at most n/2 ι in size, and the width of an observation less computed more above
 abbrev pub IsWithinHalf : ℤ → Rational → Type 0
-IsWithinHalf n q = InBox 15 (neg_ℤ (n *ℤ pos (2 ^ 14))) ((n *ℤ pos (2 ^ 14)) +ℤ prefit_width) q
+IsWithinHalf n q = InBox iota_exponent (neg_ℤ (n *ℤ pos (2 ^ 14))) ((n *ℤ pos (2 ^ 14)) +ℤ prefit_width) q
 
 -- from -λ to λ, in ι
 abbrev pub IsWithinCycle : ℕ → Rational → Type 0

@@ -6,10 +6,11 @@ ghost use Rattle.obs_rows.specs.declared.units.TheConstants.{SIGNALS};
 ghost use Rattle.obs_rows.specs.Signals.{wavelength, is_phase};
 ghost use Rattle.row_boxes.specs.declared.pseudoranges.TheConstants.{PARTS};
 ghost use Rattle.row_boxes.specs.declared.prefits.TheConstants.{UNITS, L1_CYCLE, L2_CYCLE, L5_CYCLE};
-ghost use Rattle.row_boxes.specs.Terms.{prefit_width, observed};
+ghost use Rattle.row_boxes.specs.Terms.{prefit_width, observed, iota_exponent};
 
 use crate::Pseudorange;
 use crate::pseudoranges::{PARTS, over_parts};
+use crate::y_boxes::IOTA_EXPONENT;
 use obs_rows::{UNIT_FREQUENCY, WAVELENGTHS};
 
 /// Observed less computed of one signal, the rover's less the base's, in 2^-15 ι, from `lo` to `hi`.
@@ -24,16 +25,16 @@ pub struct Prefit {
 }
 
 /// The wavelength on L1, in 2^-15 ι.
-pub const L1_CYCLE: i128 = (WAVELENGTHS[0] as i128) << 15;
+pub const L1_CYCLE: i128 = (WAVELENGTHS[0] as i128) << IOTA_EXPONENT;
 
 /// That on L2.
-pub const L2_CYCLE: i128 = (WAVELENGTHS[1] as i128) << 15;
+pub const L2_CYCLE: i128 = (WAVELENGTHS[1] as i128) << IOTA_EXPONENT;
 
 /// That on L5.
-pub const L5_CYCLE: i128 = (WAVELENGTHS[4] as i128) << 15;
+pub const L5_CYCLE: i128 = (WAVELENGTHS[4] as i128) << IOTA_EXPONENT;
 
 /// One millimetre is `UNITS` / `PARTS` units of 2^-15 ι.
-pub const UNITS: i128 = (UNIT_FREQUENCY as i128 / 2000) << 15;
+pub const UNITS: i128 = (UNIT_FREQUENCY as i128 / 2000) << IOTA_EXPONENT;
 
 // 2^40 cycles in thousandths, and PARTS · 2^21 mm, which make an amount positive
 const RAISED: i64 = 1000 << 40;
@@ -109,7 +110,7 @@ fn between(low: i128, opposite: i128) -> Observed
 fn observed_box(signal: usize, amount: i64) -> Observed
     requires signal { signal < SIGNALS }
     requires size { unsigned_abs amount < 2 ^ 48 }
-    ensures holds { InBox 15 result.lo result.hi (observed signal amount) }
+    ensures holds { InBox iota_exponent result.lo result.hi (observed signal amount) }
     ensures lo_size { unsigned_abs result.lo ≤ 2 ^ 67 }
     ensures hi_size { unsigned_abs result.hi ≤ 2 ^ 67 }
     ensures phase { IsTrue (is_phase signal) → 1000 * unsigned_abs result.lo ≤ unsigned_abs (wavelength signal) * 2 ^ 63 + 1000 }
@@ -137,8 +138,8 @@ fn less(observed: i128, rover: i128, base: i128) -> i128
 pub fn prefit_of(signal: usize, amount: i64, base: &Pseudorange, rover: &Pseudorange) -> Prefit
     requires signal { signal < SIGNALS }
     requires size { unsigned_abs amount < 2 ^ 48 }
-    ensures holds { (b r : Rational) → InBox 15 base.now.lo base.now.hi b → InBox 15 rover.now.lo rover.now.hi r →
-        InBox 15 result.lo result.hi (sub_r (observed signal amount) (sub_r r b)) }
+    ensures holds { (b r : Rational) → InBox iota_exponent base.now.lo base.now.hi b → InBox iota_exponent rover.now.lo rover.now.hi r →
+        InBox iota_exponent result.lo result.hi (sub_r (observed signal amount) (sub_r r b)) }
     ensures phase { IsTrue (is_phase signal) → 1000 * unsigned_abs result.lo ≤ unsigned_abs (wavelength signal) * 2 ^ 63 + 1000 * 2 ^ 57 }
     ensures code { IsTrue (not (is_phase signal)) → unsigned_abs amount < 2 ^ 37 → unsigned_abs result.lo ≤ 2 ^ 57 }
 {

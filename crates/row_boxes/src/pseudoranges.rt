@@ -1,11 +1,11 @@
 //! What one receiver would observe if its own clock were right.
-ghost use Rattle.std.specs.Prelude.{◌≡◌, ◌+◌, ◌-◌, ◌*◌, ◌^◌, ◌<◌, ◌≤◌, ℤ, pos, ◌+ℤ◌, ◌-ℤ◌, ◌*ℤ◌, ◌≤ℤ◌, unsigned_abs};
+ghost use Rattle.std.specs.Prelude.{◌≡◌, ◌+◌, ◌*◌, ◌^◌, ◌<◌, ◌≤◌, ℤ, pos, ◌+ℤ◌, ◌-ℤ◌, ◌*ℤ◌, ◌≤ℤ◌, unsigned_abs};
 ghost use Rattle.whole_math.specs.Rounding.{IsFloor, IsCeil};
 ghost use Rattle.rational.specs.Rational.{Rational, InBox};
 ghost use Rattle.iv_core.specs.Intervals.{Holds, width_of, IsWithin};
 ghost use Rattle.obs_rows.specs.declared.units.TheConstants.{LIGHT_SPEED};
 ghost use Rattle.row_boxes.specs.declared.pseudoranges.TheConstants.{UNITS, PARTS};
-ghost use Rattle.row_boxes.specs.Terms.{pseudorange_width, pseudorange};
+ghost use Rattle.row_boxes.specs.Terms.{pseudorange_width, pseudorange, iota_exponent};
 
 use iv_core::Iv;
 use obs_rows::{LIGHT_SPEED, UNIT_FREQUENCY};
@@ -91,7 +91,7 @@ pub fn pseudorange_of(range: &Iv<36>, clock: &Iv<60>) -> Pseudorange
     requires range_narrow { width_of range.now ≤ℤ pos (2 ^ 19) }
     requires clock_narrow { width_of clock.now ≤ℤ pos (2 ^ 10) }
     requires clock_small { IsWithin (2 ^ 54) clock.now }
-    ensures { (r t : Rational) → Holds range.now r → Holds clock.now t → InBox 15 result.lo result.hi (pseudorange r t) }
+    ensures { (r t : Rational) → Holds range.now r → Holds clock.now t → InBox iota_exponent result.lo result.hi (pseudorange r t) }
 {
     Pseudorange {
         lo: below(less_clock(range.lo, clock.hi)),

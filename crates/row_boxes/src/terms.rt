@@ -1,5 +1,5 @@
 //! The observations of one satellite in one pair.
-ghost use Rattle.std.specs.Prelude.{◌≡◌, ◌⊎◌, ◌+◌, ◌*◌, ◌^◌, ◌<◌, ◌≤◌, None, All, ℤ, pos, ◌+ℤ◌, ◌*ℤ◌, ◌≤ℤ◌, unsigned_abs, IfSome};
+ghost use Rattle.std.specs.Prelude.{◌≡◌, ◌⊎◌, ◌-◌, ◌^◌, ◌<◌, ◌≤◌, None, All, ℤ, pos, ◌+ℤ◌, ◌*ℤ◌, ◌≤ℤ◌, unsigned_abs, IfSome};
 ghost use Rattle.obs_rows.specs.declared.units.TheConstants.{SIGNALS};
 ghost use Rattle.obs_rows.specs.Ranges.{IsScale, IsWithin, IsBelow};
 ghost use Rattle.obs_rows.specs.Data.{number_at};
@@ -10,7 +10,7 @@ ghost use Rattle.row_boxes.specs.YBoxes.{Pairing, HoldsBoth, HasSightings, Holds
 use crate::Pseudorange;
 use crate::prefits::prefit_of;
 use crate::y_boxes::{YBox, y_box};
-use obs_rows::{PHASES, SIGNALS, WAVELENGTHS};
+use obs_rows::{BANDS, PHASES, SIGNALS, WAVELENGTHS};
 
 /// The centre of the y box of each signal, and the radius that all of them have, in a row's unit.
 #[derive(Clone, Copy, Debug)]
@@ -22,7 +22,27 @@ pub struct Observations {
     pub ghost ry_most: { ry ≤ℤ most_radius 0 },
 }
 
-// group + λ · shift of the band, and the group alone for a code
+// The shift of the signal's band
+fn shift_on(signal: usize, shift: &[i64; PHASES]) -> i64
+    requires signal { signal < SIGNALS }
+    requires shift { All (IsBelow (2 ^ 40)) shift.now }
+    ensures value { result ≡ number_at shift.now (band signal) }
+    ensures size { unsigned_abs result < 2 ^ 40 }
+{
+    shift[BANDS[signal]]
+}
+
+// λ times a number of cycles. A code has none: its λ is 0
+fn cycles_of(signal: usize, cycles: i64) -> i64
+    requires signal { signal < SIGNALS }
+    requires cycles { unsigned_abs cycles < 2 ^ 40 }
+    ensures value { result ≡ wavelength signal *ℤ cycles }
+    ensures size { unsigned_abs result ≤ 2 ^ 51 - 2 ^ 43 }
+{
+    WAVELENGTHS[signal] * cycles
+}
+
+// group + λ · shift of the band
 fn whole_of(signal: usize, group: i64, shift: &[i64; PHASES]) -> i64
     requires signal { signal < SIGNALS }
     requires group { unsigned_abs group ≤ 2 ^ 43 }
@@ -30,12 +50,7 @@ fn whole_of(signal: usize, group: i64, shift: &[i64; PHASES]) -> i64
     ensures value { result ≡ group +ℤ (wavelength signal *ℤ number_at shift.now (band signal)) }
     ensures size { unsigned_abs result ≤ 2 ^ 51 }
 {
-    match signal {
-        0 => group + WAVELENGTHS[0] * shift[0],
-        1 => group + WAVELENGTHS[1] * shift[1],
-        4 => group + WAVELENGTHS[4] * shift[2],
-        _ => group,
-    }
+    group + cycles_of(signal, shift_on(signal, shift))
 }
 
 // The y box of one signal

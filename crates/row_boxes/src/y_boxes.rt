@@ -1,8 +1,8 @@
 //! The y boxes of rows, and the group of a pair.
-ghost use Rattle.std.specs.Prelude.{◌≡◌, ◌+◌, ◌*◌, ◌^◌, ◌<◌, ◌≤◌, ℤ, pos, ◌+ℤ◌, ◌-ℤ◌, ◌*ℤ◌, ◌≤ℤ◌, unsigned_abs, IfSome, None};
+ghost use Rattle.std.specs.Prelude.{◌≡◌, ◌+◌, ◌^◌, ◌<◌, ◌≤◌, ℤ, pos, ◌+ℤ◌, ◌-ℤ◌, ◌*ℤ◌, ◌≤ℤ◌, unsigned_abs, IfSome, None};
 ghost use Rattle.rational.specs.Rational.{Rational, InBox, Near, of_whole, sub_r};
 ghost use Rattle.obs_rows.specs.Ranges.{IsScale};
-ghost use Rattle.row_boxes.specs.Terms.{y_width, in_row_unit};
+ghost use Rattle.row_boxes.specs.Terms.{y_width, in_row_unit, iota_exponent};
 ghost use Rattle.row_boxes.specs.YBoxes.{most_radius};
 
 use crate::prefits::Prefit;
@@ -21,14 +21,17 @@ pub struct YBox {
 pub fn less_whole(end: i128, whole: i64) -> i128
     requires end { unsigned_abs end ≤ 2 ^ 68 }
     requires whole { unsigned_abs whole ≤ 2 ^ 51 }
-    ensures value { result ≡ end -ℤ (whole *ℤ pos (2 ^ 15)) }
+    ensures value { result ≡ end -ℤ (whole *ℤ pos (2 ^ iota_exponent)) }
     ensures size { unsigned_abs result ≤ 2 ^ 71 }
 {
     end - whole as i128 * IOTA
 }
 
-/// One ι in units of 2^-15 ι.
-pub const IOTA: i128 = 1 << 15;
+/// What is computed is in units of 2^-15 ι.
+pub const IOTA_EXPONENT: u32 = 15;
+
+/// One ι in these units.
+pub const IOTA: i128 = 1 << IOTA_EXPONENT;
 
 // By how many bits a row's unit is coarser than 2^-15 ι.
 fn coarser_by(scale: u32) -> u32
@@ -71,7 +74,7 @@ fn around(lo: i128, hi: i128) -> YBox
 pub fn y_box(prefit: &Prefit, whole: i64, scale: u32) -> YBox
     requires whole { unsigned_abs whole ≤ 2 ^ 51 }
     requires scale { IsScale scale }
-    ensures holds { (q : Rational) → InBox 15 prefit.now.lo prefit.now.hi q →
+    ensures holds { (q : Rational) → InBox iota_exponent prefit.now.lo prefit.now.hi q →
         Near result.centre result.radius (in_row_unit scale (sub_r q (of_whole whole))) }
     ensures radius { result.radius ≤ℤ most_radius scale }
 {

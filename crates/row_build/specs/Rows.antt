@@ -13,6 +13,7 @@ use Rattle.obs_rows.specs.declared.units.TheConstants.{DIRECTION_EXPONENT}
 use Rattle.screening.specs.declared.sv_pair.SvPair.{SvPair}
 use Rattle.row_boxes.specs.Sightings.{Sighting, IsSighting, place_at}
 use Rattle.row_boxes.specs.YBoxes.{Pairing, HoldsYs, most_radius}
+use Rattle.row_build.specs.declared.sources.RowSource.{RowSource}
 use Rattle.row_build.specs.Entries.{IsEntry}
 
 -- what rows are made from: what was screened, the arcs, the two points, the signals and the scale
@@ -26,6 +27,10 @@ pub record RowSetting : Type 0 where
 
 abbrev pub setting : List SvPair → List Arc → List ℤ → List ℤ → Signals → ℕ → RowSetting
 setting boxes arcs base point signals scale = record { boxes = boxes; arcs = arcs; base = base; point = point; signals = signals; scale = scale }
+
+-- the same by what rows are made from
+abbrev pub setting_from : RowSource → ℕ → RowSetting
+setting_from from scale = setting from.screened.now.boxes from.arcs.now from.base.now from.point.now from.signals scale
 
 -- the signals that count
 abbrev pub counted_in : RowSetting → List ℕ

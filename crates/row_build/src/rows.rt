@@ -3,7 +3,7 @@ ghost use Rattle.std.specs.Prelude.{◌≡◌, ◌^◌, ◌<◌, ◌≤◌, None
 ghost use Rattle.obs_rows.specs.declared.units.TheConstants.{SIGNALS};
 ghost use Rattle.obs_rows.specs.Ranges.{IsScale, IsBelow};
 ghost use Rattle.obs_rows.specs.Unused.{IsZeroOff};
-ghost use Rattle.row_boxes.specs.YBoxes.{Pairing, HoldsYs, HasFarSignal, most_radius};
+ghost use Rattle.row_boxes.specs.YBoxes.{HoldsYs, HasFarSignal, most_radius};
 ghost use Rattle.obs_rows.specs.ReceiverPoints.{IsReceiverPoint};
 ghost use Rattle.signal_travel.specs.Boxes.{HoldsPlace};
 ghost use Rattle.orbit_model.specs.SeenPlaces.{Place, IsDisplacement, IsMeanDirection};

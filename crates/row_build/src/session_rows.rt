@@ -1,5 +1,5 @@
 //! The rows of all pairs.
-ghost use Rattle.std.specs.Prelude.{◌≡◌, ◌<◌, ◌++◌, [], All, Err, length, IfOk, IfSome, OnOk};
+ghost use Rattle.std.specs.Prelude.{◌≡◌, ◌++◌, [], All, Err, length, IfOk, IfSome, OnOk};
 ghost use Rattle.obs_rows.specs.ReceiverPoints.{IsReceiverPoint};
 ghost use Rattle.obs_rows.specs.Ranges.{IsScale, IsSystem};
 ghost use Rattle.obs_rows.specs.Arcs.{AreArcs};
@@ -8,13 +8,12 @@ ghost use Rattle.obs_rows.specs.Signals.{fine_signals};
 ghost use Rattle.obs_rows.specs.Unused.{HasUsedRows, HasUsedShifts};
 ghost use Rattle.slip_arcs.specs.Linked.{IsCutOf};
 ghost use Rattle.row_build.specs.Halves.{AreBaseHalves};
-ghost use Rattle.row_build.specs.Rows.{setting};
+ghost use Rattle.row_build.specs.Rows.{setting, setting_from};
 ghost use Rattle.row_build.specs.SessionRows.{AreSessionRows, HasFarPair, listed};
 
-use crate::RowFault;
 use crate::pairs::pair_rows_with;
+use crate::{RowFault, RowSource};
 use obs_rows::{Arc, ArcList, PairRows, Session, SessionBuilder, Signals};
-use row_boxes::Pseudorange;
 use screening::Screened;
 use std::alloc::{AllocError, Global};
 
@@ -37,50 +36,35 @@ fn add_pair(session: &mut SessionBuilder, rows: Option<PairRows>) -> Result<(), 
     }
 }
 
-/// The session of `rows_at`, with the base's halves that are kept, each in the place of its entry: `base_halves` makes them once for
-/// all points of a run. What is not kept is made, so the session is the same with none. It is refused as that of `rows_at`.
+/// The session of `rows_at`, with the base's halves that are kept. It is refused as that of `rows_at`.
 pub fn rows_with(
     alloc: Global,
-    screened: &Screened,
-    halves: &[Pseudorange],
-    arcs: &[Arc],
-    base: &[i64; 3],
-    point: &[i64; 3],
-    signals: Signals,
+    from: &RowSource<'_>,
     scale: u32,
     system: u8,
 ) -> Result<Session, RowFault>
-    requires cut { IsCutOf screened.now.used arcs.now }
-    requires arcs { AreArcs arcs.now }
-    requires halves { AreBaseHalves screened.now.boxes base.now halves.now }
-    requires base { IsReceiverPoint base.now }
-    requires point { IsReceiverPoint point.now }
+    requires cut { IsCutOf from.now.screened.now.used from.now.arcs.now }
+    requires arcs { AreArcs from.now.arcs.now }
+    requires halves { AreBaseHalves from.now.screened.now.boxes from.now.base.now from.now.halves.now }
+    requires base { IsReceiverPoint from.now.base.now }
+    requires point { IsReceiverPoint from.now.point.now }
     requires scale { IsScale scale }
     requires system { IsSystem system }
-    requires shifts { All (HasUsedShifts (fine_signals signals)) arcs.now }
+    requires shifts { All (HasUsedShifts (fine_signals from.now.signals)) from.now.arcs.now }
     ensures scale { IfOk result (λ s. s.scale ≡ scale) }
     ensures system { IfOk result (λ s. s.system ≡ system) }
-    ensures base { IfOk result (λ s. s.base ≡ base.now) }
-    ensures point { IfOk result (λ s. s.point ≡ point.now) }
-    ensures signals { IfOk result (λ s. s.signals ≡ signals) }
-    ensures arcs { IfOk result (λ s. s.arcs ≡ arcs.now) }
-    ensures rows { IfOk result (λ s. AreSessionRows (setting screened.now.boxes arcs.now base.now point.now signals scale) (length screened.now.used) s.pairs) }
-    ensures overwidth { result ≡ Err RowFault.Overwidth → HasFarPair (setting screened.now.boxes arcs.now base.now point.now signals scale) }
+    ensures base { IfOk result (λ s. s.base ≡ from.now.base.now) }
+    ensures point { IfOk result (λ s. s.point ≡ from.now.point.now) }
+    ensures signals { IfOk result (λ s. s.signals ≡ from.now.signals) }
+    ensures arcs { IfOk result (λ s. s.arcs ≡ from.now.arcs.now) }
+    ensures rows { IfOk result (λ s. AreSessionRows (setting_from from.now scale) (length from.now.screened.now.used) s.pairs) }
+    ensures overwidth { result ≡ Err RowFault.Overwidth → HasFarPair (setting_from from.now scale) }
 {
-    let held = ArcList::new(Vec::from_slice(alloc, arcs)?);
-    let mut session = SessionBuilder::new(alloc, scale, system, *base, *point, signals, held);
-    for pair in 0..screened.used.len() {
-        match pair_rows_with(
-            alloc,
-            screened,
-            halves,
-            arcs,
-            pair as u32,
-            base,
-            point,
-            signals,
-            scale,
-        ) {
+    let held = ArcList::new(Vec::from_slice(alloc, from.arcs)?);
+    let (base, point) = (*from.base, *from.point);
+    let mut session = SessionBuilder::new(alloc, scale, system, base, point, from.signals, held);
+    for pair in 0..from.screened.used.len() {
+        match pair_rows_with(alloc, from, pair as u32, scale) {
             Ok(rows) => add_pair(&mut session, rows)?,
             Err(fault) => return Err(fault),
         }
@@ -89,7 +73,7 @@ pub fn rows_with(
 }
 
 /// The session of these arcs at these points, in units of 0.1 mm, for a system, G or E: the rows of `pair_rows` of every pair. It is
-/// refused where they are.
+/// refused where they are. The call serves tests alone: programs keep the halves and call `rows_with`.
 pub fn rows_at(
     alloc: Global,
     screened: &Screened,
@@ -116,15 +100,13 @@ pub fn rows_at(
     ensures rows { IfOk result (λ s. AreSessionRows (setting screened.now.boxes arcs.now base.now point.now signals scale) (length screened.now.used) s.pairs) }
     ensures overwidth { result ≡ Err RowFault.Overwidth → HasFarPair (setting screened.now.boxes arcs.now base.now point.now signals scale) }
 {
-    rows_with(
-        alloc,
+    let from = RowSource {
         screened,
-        &[],
+        halves: &[],
         arcs,
         base,
         point,
         signals,
-        scale,
-        system,
-    )
+    };
+    rows_with(alloc, &from, scale, system)
 }

@@ -13,10 +13,11 @@ ghost use Rattle.row_boxes.specs.Sightings.{Sighting, y_of};
 ghost use Rattle.row_boxes.specs.YBoxes.{AreSightings, HasSightings, HoldsPseudoranges, IsWithinHalf, IsAllowedGroup};
 ghost use Rattle.row_build.specs.HeldArcs.{holds_pair, arcs_at};
 ghost use Rattle.row_build.specs.Halves.{IsBaseHalf, AreBaseHalves};
-ghost use Rattle.row_build.specs.Rows.{RowSetting, setting, seen_by};
+ghost use Rattle.row_build.specs.Rows.{setting, setting_from, seen_by};
 ghost use Rattle.row_build.specs.Far.{IsFirstEntry};
 ghost use Rattle.row_build.specs.Shifts.{counts, AreFirstShifts};
 
+use crate::RowSource;
 use crate::arcs::{first_held, holds};
 use crate::entries::{Entry, entry_of};
 use obs_rows::{Arc, PHASES, Signals, fine_signals};
@@ -24,23 +25,18 @@ use row_boxes::{Pseudorange, first_group, first_shift, sight_of};
 use screening::Screened;
 
 /// The entry of the satellite of a pair's first row.
-pub fn first_entry(
-    screened: &Screened,
-    halves: &[Pseudorange],
-    arcs: &[Arc],
-    pair: u32,
-    base: &[i64; 3],
-) -> Entry
-    requires cut { IsCutOf screened.now.used arcs.now }
-    requires few { length arcs.now ≤ 200 }
-    requires held { arcs_at arcs.now pair ≢ [] }
-    requires halves { AreBaseHalves screened.now.boxes base.now halves.now }
-    requires base { IsReceiverPoint base.now }
-    ensures entry { IsFirstEntry screened.now.boxes arcs.now pair result.sv }
-    ensures half { IsBaseHalf result.sv base.now result.half }
+pub fn first_entry(from: &RowSource<'_>, pair: u32) -> Entry
+    requires cut { IsCutOf from.now.screened.now.used from.now.arcs.now }
+    requires few { length from.now.arcs.now ≤ 200 }
+    requires held { arcs_at from.now.arcs.now pair ≢ [] }
+    requires halves { AreBaseHalves from.now.screened.now.boxes from.now.base.now from.now.halves.now }
+    requires base { IsReceiverPoint from.now.base.now }
+    ensures entry { IsFirstEntry from.now.screened.now.boxes from.now.arcs.now pair result.sv }
+    ensures half { IsBaseHalf result.sv from.now.base.now result.half }
 {
+    let arcs = from.arcs;
     let first = first_held(arcs, pair).unwrap();
-    entry_of(screened, halves, pair, arcs[first].sat, base)
+    entry_of(from, pair, arcs[first].sat)
 }
 
 /// The group of a pair, from the entry of its first row's satellite.
@@ -97,63 +93,40 @@ fn shifts_of(ss: &[usize], entry: &Entry, group: i64, point: &[i64; 3]) -> [i64;
 }
 
 // Of a satellite that the pair uses
-fn first_shifts(
-    screened: &Screened,
-    halves: &[Pseudorange],
-    arcs: &[Arc],
-    sat: u8,
-    pair: u32,
-    base: &[i64; 3],
-    point: &[i64; 3],
-    signals: Signals,
-) -> [i64; PHASES]
-    requires cut { IsCutOf screened.now.used arcs.now }
-    requires few { length arcs.now ≤ 200 }
-    requires held { arcs_at arcs.now pair ≢ [] }
-    requires used { is_used screened.now.used sat pair ≡ true }
-    requires halves { AreBaseHalves screened.now.boxes base.now halves.now }
-    requires base { IsReceiverPoint base.now }
-    requires point { IsReceiverPoint point.now }
-    ensures near { AreFirstShifts (setting screened.now.boxes arcs.now base.now point.now signals 0) pair sat result }
+fn first_shifts(from: &RowSource<'_>, sat: u8, pair: u32) -> [i64; PHASES]
+    requires cut { IsCutOf from.now.screened.now.used from.now.arcs.now }
+    requires few { length from.now.arcs.now ≤ 200 }
+    requires held { arcs_at from.now.arcs.now pair ≢ [] }
+    requires used { is_used from.now.screened.now.used sat pair ≡ true }
+    requires halves { AreBaseHalves from.now.screened.now.boxes from.now.base.now from.now.halves.now }
+    requires base { IsReceiverPoint from.now.base.now }
+    requires point { IsReceiverPoint from.now.point.now }
+    ensures near { AreFirstShifts (setting_from from.now 0) pair sat result }
     ensures size { All (IsBelow (2 ^ 39)) result }
 {
-    let first = first_entry(screened, halves, arcs, pair, base);
-    let entry = entry_of(screened, halves, pair, sat, base);
-    shifts_of(
-        fine_signals(signals),
-        &entry,
-        group_of(&first, point),
-        point,
-    )
+    let first = first_entry(from, pair);
+    let entry = entry_of(from, pair, sat);
+    let group = group_of(&first, from.point);
+    shifts_of(fine_signals(from.signals), &entry, group, from.point)
 }
 
-/// The shifts of `shift_at`, with the base's halves that are kept, each in the place of its entry: `base_halves` makes them once for
-/// all pairs and points of a run. What is not kept is made, so the shifts are as good with none.
-pub fn shift_with(
-    screened: &Screened,
-    halves: &[Pseudorange],
-    arcs: &[Arc],
-    arc: u16,
-    pair: u32,
-    base: &[i64; 3],
-    point: &[i64; 3],
-    signals: Signals,
-) -> Option<[i64; PHASES]>
-    requires cut { IsCutOf screened.now.used arcs.now }
-    requires few { length arcs.now ≤ 200 }
-    requires arc { arc < length arcs.now }
-    requires pair { pair < length screened.now.used }
-    requires halves { AreBaseHalves screened.now.boxes base.now halves.now }
-    requires base { IsReceiverPoint base.now }
-    requires point { IsReceiverPoint point.now }
-    ensures none { (a : Arc) → slice_get arcs.now arc ≡ Some a → (result ≡ None) ↔ (holds_pair a pair ≡ false) }
-    ensures near { (a : Arc) → slice_get arcs.now arc ≡ Some a → IfSome result (λ shift.
-        AreFirstShifts (setting screened.now.boxes arcs.now base.now point.now signals 0) pair a.sat shift) }
+/// The shifts of `shift_at`, with the base's halves that are kept.
+pub fn shift_with(from: &RowSource<'_>, arc: u16, pair: u32) -> Option<[i64; PHASES]>
+    requires cut { IsCutOf from.now.screened.now.used from.now.arcs.now }
+    requires few { length from.now.arcs.now ≤ 200 }
+    requires arc { arc < length from.now.arcs.now }
+    requires pair { pair < length from.now.screened.now.used }
+    requires halves { AreBaseHalves from.now.screened.now.boxes from.now.base.now from.now.halves.now }
+    requires base { IsReceiverPoint from.now.base.now }
+    requires point { IsReceiverPoint from.now.point.now }
+    ensures none { (a : Arc) → slice_get from.now.arcs.now arc ≡ Some a → (result ≡ None) ↔ (holds_pair a pair ≡ false) }
+    ensures near { (a : Arc) → slice_get from.now.arcs.now arc ≡ Some a → IfSome result (λ shift.
+        AreFirstShifts (setting_from from.now 0) pair a.sat shift) }
     ensures size { IfSome result (λ shift. All (IsBelow (2 ^ 39)) shift) }
 {
-    let held = arcs[arc as usize];
+    let held = from.arcs[arc as usize];
     if holds(&held, pair) {
-        Some(first_shifts(screened, halves, arcs, held.sat, pair, base, point, signals))
+        Some(first_shifts(from, held.sat, pair))
     } else {
         None
     }
@@ -182,5 +155,13 @@ pub fn shift_at(
         AreFirstShifts (setting screened.now.boxes arcs.now base.now point.now signals 0) pair a.sat shift) }
     ensures size { IfSome result (λ shift. All (IsBelow (2 ^ 39)) shift) }
 {
-    shift_with(screened, &[], arcs, arc, pair, base, point, signals)
+    let from = RowSource {
+        screened,
+        halves: &[],
+        arcs,
+        base,
+        point,
+        signals,
+    };
+    shift_with(&from, arc, pair)
 }

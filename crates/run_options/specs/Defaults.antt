@@ -1,13 +1,17 @@
 -- The options of a run that is asked for nothing in particular.
-use Rattle.std.specs.Prelude.{◌≡◌, ℕ}
-use Rattle.run_options.specs.declared.defaults.TheConstants.{DEFAULT_RATIO, DEFAULT_BUDGET, DEFAULT_MASK, DEFAULT_GAP, DEFAULT_JUMP, DEFAULT_ARC, DEFAULT_STEP, DEFAULT_FIRST, DEFAULT_COUNT}
-use Rattle.obs_rows.specs.declared.band_sets.TheConstants.{BANDS_L1_L2}
-use Rattle.run_options.specs.declared.options.TheConstants.{GPS}
+use Rattle.std.specs.Prelude.{◌≡◌, ℕ, ◌==◌, if◌then◌else◌}
+use Rattle.run_options.specs.declared.defaults.TheConstants.{DEFAULT_SYSTEM, DEFAULT_RATIO, DEFAULT_BUDGET, DEFAULT_MASK, DEFAULT_GAP, DEFAULT_JUMP, DEFAULT_ARC, DEFAULT_STEP, DEFAULT_FIRST, DEFAULT_COUNT}
+use Rattle.obs_rows.specs.declared.band_sets.TheConstants.{BANDS_L1_L2, BANDS_L1_L5}
+use Rattle.run_options.specs.declared.options.TheConstants.{GALILEO}
 use Rattle.run_options.specs.declared.options.Options.{Options}
 
+-- the bands of a run that isn't told which: L1 and L5 of Galileo, L1 and L2 of GPS
+abbrev pub default_bands : ℕ → ℕ
+default_bands system = if system == GALILEO then BANDS_L1_L5 else BANDS_L1_L2
+
 pub record AreDefaults (o : Options) : Type 0 where
-  pub bands : o.bands ≡ BANDS_L1_L2
-  pub system : o.system ≡ GPS
+  pub bands : o.bands ≡ default_bands DEFAULT_SYSTEM
+  pub system : o.system ≡ DEFAULT_SYSTEM
   pub ratio : o.ratio ≡ DEFAULT_RATIO
   pub budget : o.budget ≡ DEFAULT_BUDGET
   pub mask : o.mask ≡ DEFAULT_MASK

@@ -1,4 +1,23 @@
 //! What a run uses that is asked for nothing in particular.
+ghost use Rattle.std.specs.Prelude.{◌≡◌};
+ghost use Rattle.run_options.specs.Defaults.{default_bands};
+
+use crate::{GALILEO, GPS};
+use obs_rows::{BANDS_L1_L2, BANDS_L1_L5};
+
+/// The satellite system, by its letter.
+pub const DEFAULT_SYSTEM: u8 = GPS;
+
+/// The bands of a system: L1 and L5 of Galileo, L1 and L2 of GPS.
+pub const fn default_bands(system: u8) -> u16
+    ensures { result ≡ default_bands system }
+{
+    if system == GALILEO {
+        BANDS_L1_L5
+    } else {
+        BANDS_L1_L2
+    }
+}
 
 /// The least ratio of the second best value to the best, in thousandths.
 pub const DEFAULT_RATIO: u32 = 2_000;

@@ -28,11 +28,11 @@ pub struct Options {
     pub jump: u32,
     /// The least number of pairs of a kept arc.
     pub arc: u32,
-    /// Each so-many-th pair is taken.
+    /// Every Nth pair is taken.
     pub step: u32,
     /// The number of the first pair that is taken.
     pub first: u32,
-    /// At most so many pairs are taken.
+    /// At most this many pairs are taken.
     pub count: u32,
     pub ghost on_bands: { IsBandsNumber bands },
     pub ghost of_system: { IsSystem system },

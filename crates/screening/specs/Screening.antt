@@ -60,7 +60,7 @@ abbrev pub AreEnoughBelow : ℕ → List UsedSat → Type 0
 AreEnoughBelow sat sats = (length sats ≡ 15) × All (λ u. u.sat < sat) sats
 
 -- the used satellites of a pair, in rising number: of those that it sees and that the mask keeps the fifteen of lowest numbers.
--- One that it sees is missing only where the mask may leave it out, or behind fifteen others
+-- One that it sees is missing only where the mask may leave it out, or after fifteen others
 pub record AreUsedSats (setting : Setting) (base rover : Epoch) (epochs : Passed) (sats : List UsedSat) : Type 0 where
   pub few : length sats ≤ 15
   pub rising : AllPairs (λ u v. u.sat < v.sat) sats

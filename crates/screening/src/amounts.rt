@@ -1,12 +1,12 @@
 //! What a receiver observed of a satellite, and whether it may be used.
-ghost use Rattle.std.specs.Prelude.{◌≡◌, ◌^◌, ◌<◌, ◌≤◌, ◌≤ℤ◌, pos, IfSome, All, unsigned_abs};
+ghost use Rattle.std.specs.Prelude.{◌≡◌, ◌^◌, ◌<◌, ◌≤ℤ◌, pos, IfSome, All};
 ghost use Rattle.std.specs.Option.{option_copied};
 ghost use Rattle.obs_rows.specs.declared.units.TheConstants.{SIGNALS};
 ghost use Rattle.obs_rows.specs.Signals.{fine_signals};
 ghost use Rattle.screening.specs.Sightings.{code_of};
-ghost use Rattle.screening.specs.Amounts.{types_of, value_in, value_of, is_usable_phase, is_usable_code, is_usable, usable_amount, amount_in, are_usable, amounts_of, amounts_at, AreUsable};
+ghost use Rattle.screening.specs.Amounts.{types_of, value_in, value_of, is_usable_phase, is_usable_code, is_usable, usable_amount, amount_in, amounts_in, are_usable, amounts_of, amounts_at, AreUsable};
 
-use obs_rows::{SIGNALS, Signals, WAVELENGTHS, fine_signals};
+use obs_rows::{BAND_DIGITS, SIGNALS, Signals, WAVELENGTHS, fine_signals};
 use obs_store::{Epoch, ObsType, SatObs, Value};
 
 /// The letters of the bands and the observation type of each signal.
@@ -20,15 +20,16 @@ pub struct SignalTypes {
 pub fn types_of(signals: Signals) -> SignalTypes
     ensures { result ≡ types_of signals }
 {
+    let [l1, l2, l5] = BAND_DIGITS;
     SignalTypes {
         signals,
         kinds: [
-            ObsType::named(&[b'L', b'1', signals.l1]),
-            ObsType::named(&[b'L', b'2', signals.l2]),
-            ObsType::named(&[b'C', b'1', signals.l1]),
-            ObsType::named(&[b'C', b'2', signals.l2]),
-            ObsType::named(&[b'L', b'5', signals.l5]),
-            ObsType::named(&[b'C', b'5', signals.l5]),
+            ObsType::named(&[b'L', l1, signals.l1]),
+            ObsType::named(&[b'L', l2, signals.l2]),
+            ObsType::named(&[b'C', l1, signals.l1]),
+            ObsType::named(&[b'C', l2, signals.l2]),
+            ObsType::named(&[b'L', l5, signals.l5]),
+            ObsType::named(&[b'C', l5, signals.l5]),
         ],
     }
 }
@@ -103,6 +104,17 @@ fn are_usable(ss: &[usize], types: &SignalTypes, sat: &SatObs) -> bool
     ss.iter().all(|s| usable(types, sat, *s).is_some())
 }
 
+// Of all signals.
+fn amounts_in(types: &SignalTypes, sat: &SatObs) -> [i64; SIGNALS]
+    ensures { result ≡ amounts_in types.now sat.now }
+{
+    let mut amounts = [0; SIGNALS];
+    for signal in 0..SIGNALS {
+        amounts[signal] = amount_in(types, sat, signal);
+    }
+    amounts
+}
+
 fn amounts_of(types: &SignalTypes, sat: Option<&SatObs>) -> Option<[i64; SIGNALS]>
     ensures value { result ≡ amounts_of types.now (option_copied sat.entry) }
     ensures usable { IfSome result (AreUsable (fine_signals types.now.signals)) }
@@ -113,14 +125,7 @@ fn amounts_of(types: &SignalTypes, sat: Option<&SatObs>) -> Option<[i64; SIGNALS
     if !are_usable(fine_signals(types.signals), types, sat) {
         return None;
     }
-    Some([
-        amount_in(types, sat, 0),
-        amount_in(types, sat, 1),
-        amount_in(types, sat, 2),
-        amount_in(types, sat, 3),
-        amount_in(types, sat, 4),
-        amount_in(types, sat, 5),
-    ])
+    Some(amounts_in(types, sat))
 }
 
 /// What an epoch says of a satellite, where all of it may be used on the bands that are used.

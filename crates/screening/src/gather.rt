@@ -84,7 +84,7 @@ fn add_sat(
     Ok(())
 }
 
-// The used satellites of a pair, in rising number. Their entries go behind the earlier ones.
+// The used satellites of a pair, in rising number. Their entries go after the earlier ones.
 fn sats_of(
     alloc: Global,
     rules: &Rules,
@@ -104,7 +104,7 @@ fn sats_of(
     Ok(sats)
 }
 
-/// What a pair uses. The entries of its satellites go behind the earlier ones.
+/// What a pair uses. The entries of its satellites go after the earlier ones.
 pub fn gather(
     alloc: Global,
     rules: &Rules,

@@ -1,5 +1,5 @@
 //! A satellite that both receivers of a pair observe, with its boxes.
-ghost use Rattle.std.specs.Prelude.{◌≡◌, ◌+◌, ◌^◌, ◌≤◌, ◌<◌, pos, ◌-ℤ◌, ◌≤ℤ◌, IsTrue, false, MatchOption, unsigned_abs};
+ghost use Rattle.std.specs.Prelude.{◌≡◌, ◌≤◌, ◌<◌, IsTrue, false, MatchOption, unsigned_abs};
 ghost use Rattle.std.specs.Int.{abs_diff};
 ghost use Rattle.orbit_model.specs.SeenPlaces.{IsAboveMask, IsBelowMask};
 ghost use Rattle.obs_rows.specs.declared.units.TheConstants.{SIGNALS};
@@ -46,14 +46,11 @@ fn differences(base: &[i64; SIGNALS], rover: &[i64; SIGNALS]) -> [i64; SIGNALS]
     ensures value { result ≡ differences base.now rover.now }
     ensures below { AreAmountsBelow result }
 {
-    [
-        difference(base, rover, 0),
-        difference(base, rover, 1),
-        difference(base, rover, 2),
-        difference(base, rover, 3),
-        difference(base, rover, 4),
-        difference(base, rover, 5),
-    ]
+    let mut differences = [0; SIGNALS];
+    for signal in 0..SIGNALS {
+        differences[signal] = difference(base, rover, signal);
+    }
+    differences
 }
 
 /// What a pair of epochs says of a satellite that it may use. The boxes of the record and of a receiver are made once.

@@ -1,28 +1,13 @@
 -- The datums of the arcs that are kept so far, and that these are the first of their linked sets.
-use Rattle.std.proofs.Common.{◌≡◌, ℕ, zero, suc, ◌+◌, ◌<◌, ◌≤◌, ◌⊎◌, ◌↔◌, max, true, false, Some, List, [], ◌∷◌, ◌++◌, length, All, pos, IsTrue, arith, refl, sym, ◌∙◌, ap, subst, inl, inr, ⊎_elim}
+use Rattle.std.proofs.Common.{◌≡◌, ℕ, ◌+◌, ◌<◌, ◌≤◌, ◌⊎◌, ◌↔◌, max, true, false, Some, List, [], ◌∷◌, ◌++◌, length, All, IsTrue, arith, refl, sym, ◌∙◌, ap, subst, inr, ⊎_elim}
 use Rattle.std.specs.Prelude.{slice_get, nat_le}
 use Rattle.std.proofs.lemmas.Bool.{cases_lt, cases_eq, cases_Bool, le-leb, leb-true}
 use Rattle.std.proofs.lemmas.List.Elements.{All-push}
-use Rattle.std.proofs.lemmas.Option.{none-some, same_Some, slice_get_within}
+use Rattle.std.proofs.lemmas.Option.{same_Some, slice_get_within}
+use Rattle.whole_math.proofs.Lists.{push_get, push_before, last_push}
 use Rattle.obs_rows.specs.declared.arcs.Arc.{Arc}
-use Rattle.slip_arcs.specs.Runs.{Run, is_long, IsAdded}
+use Rattle.slip_arcs.specs.Runs.{Run, is_long, no_shift, IsAdded}
 use Rattle.slip_arcs.specs.Linked.{AreNeighbours, IsChain, HaveDatums}
-
--- an element after one is pushed is an old one or that one
-push_cases : (xs : List Arc) (y a : Arc) (k : ℕ) → slice_get (xs ++ y ∷ []) k ≡ Some a → (slice_get xs k ≡ Some a) ⊎ ((k ≡ length xs) × (y ≡ a))
-push_cases [] y a zero is = inr (refl, same_Some y a is)
-push_cases [] y a (suc k) is = absurd (none-some a is)
-push_cases (x ∷ xs) y a zero is = inl is
-push_cases (x ∷ xs) y a (suc k) is = ⊎_elim (λ (old : slice_get xs k ≡ Some a). inl old) (λ (new : (k ≡ length xs) × (y ≡ a)). inr (ap (λ (n : ℕ). suc n) new.0, new.1)) (push_cases xs y a k is)
-
-push_old : (xs : List Arc) (y a : Arc) (k : ℕ) → slice_get xs k ≡ Some a → slice_get (xs ++ y ∷ []) k ≡ Some a
-push_old [] y a k is = absurd (none-some a is)
-push_old (x ∷ xs) y a zero is = is
-push_old (x ∷ xs) y a (suc k) is = push_old xs y a k is
-
-push_new : (xs : List Arc) (y : Arc) → slice_get (xs ++ y ∷ []) (length xs) ≡ Some y
-push_new [] y = refl
-push_new (x ∷ xs) y = push_new xs y
 
 -- all earlier arcs end before arc k
 abbrev pub IsFresh : List Arc → ℕ → Arc → Type 0
@@ -30,7 +15,7 @@ IsFresh arcs k a = (m : ℕ) (b : Arc) → m < k → slice_get arcs m ≡ Some b
 
 -- the arcs begin by pair at and end before reach, in order, and just those that are fresh are datums
 pub record Marked (at : ℕ) (arcs : List Arc) (reach : ℕ) : Type 0 where
-  pub shifts : All (λ a. a.shift ≡ pos 0 ∷ pos 0 ∷ pos 0 ∷ []) arcs
+  pub shifts : All (λ a. a.shift ≡ no_shift) arcs
   pub order : (k : ℕ) (a : Arc) → slice_get arcs k ≡ Some a → (a.first ≤ a.last) × (a.first ≤ at) × (a.last < reach)
   pub rising : (m k : ℕ) (b a : Arc) → m < k → slice_get arcs m ≡ Some b → slice_get arcs k ≡ Some a → b.first ≤ a.first
   pub datums : (k : ℕ) (a : Arc) → slice_get arcs k ≡ Some a → IsTrue a.datum ↔ IsFresh arcs k a
@@ -50,13 +35,13 @@ marked_next at arcs reach marked =
 fresh_old : (arcs : List Arc) (y : Arc) (k : ℕ) (a : Arc) → slice_get arcs k ≡ Some a → IsFresh arcs k a → IsFresh (arcs ++ y ∷ []) k a
 fresh_old arcs y k a is fresh m b before found =
     let inside = slice_get_within arcs k a is in
-    ⊎_elim (λ (old : slice_get arcs m ≡ Some b). fresh m b before old) (λ (new : (m ≡ length arcs) × (y ≡ b)). absurd (let here = new.0 in omega arith)) (push_cases arcs y b m found)
+    ⊎_elim (λ (old : slice_get arcs m ≡ Some b). fresh m b before old) (λ (new : (m ≡ length arcs) × (y ≡ b)). absurd (let here = new.0 in omega arith)) (push_get arcs y b m found)
 
 fresh_back : (arcs : List Arc) (y : Arc) (k : ℕ) (a : Arc) → IsFresh (arcs ++ y ∷ []) k a → IsFresh arcs k a
-fresh_back arcs y k a fresh m b before found = fresh m b before (push_old arcs y b m found)
+fresh_back arcs y k a fresh m b before found = fresh m b before (push_before arcs y b m found)
 
 abbrev new_arc : ℕ → ℕ → ℕ → ℕ → Arc
-new_arc reach sat at last = record { sat = sat; first = at; last = last; datum = nat_le reach at; shift = pos 0 ∷ pos 0 ∷ pos 0 ∷ [] }
+new_arc reach sat at last = record { sat = sat; first = at; last = last; datum = nat_le reach at; shift = no_shift }
 
 -- the new arc is a datum just where it is fresh
 new_datum : (at : ℕ) (arcs : List Arc) (reach sat last : ℕ) → Marked at arcs reach
@@ -65,12 +50,12 @@ new_datum at arcs reach sat last marked = (
   λ is m b before found.
       let within : reach ≤ at = leb-true reach at is in
       ⊎_elim (λ (old : slice_get arcs m ≡ Some b). let o = marked.order m b old in let l : b.last < reach = o.2 in omega arith)
-      (λ (new : (m ≡ length arcs) × (new_arc reach sat at last ≡ b)). absurd (let here = new.0 in omega arith)) (push_cases arcs (new_arc reach sat at last) b m found),
+      (λ (new : (m ≡ length arcs) × (new_arc reach sat at last ≡ b)). absurd (let here = new.0 in omega arith)) (push_get arcs (new_arc reach sat at last) b m found),
   λ fresh.
       le-leb reach at
       (⊎_elim (λ (none : reach ≡ 0). omega arith)
       (λ (some : (m : ℕ) × (b : Arc) × (slice_get arcs m ≡ Some b) × (reach ≡ b.last + 1)).
-      let l : some.1.last < at = fresh some.0 some.1 (slice_get_within arcs some.0 some.1 some.2) (push_old arcs (new_arc reach sat at last) some.1 some.0 some.2) in
+      let l : some.1.last < at = fresh some.0 some.1 (slice_get_within arcs some.0 some.1 some.2) (push_before arcs (new_arc reach sat at last) some.1 some.0 some.2) in
       let e = some.3 in
       omega arith)
       marked.reached),
@@ -80,22 +65,22 @@ marked_push : (at : ℕ) (arcs : List Arc) (reach sat last : ℕ) → at ≤ las
 marked_push at arcs reach sat last order marked =
     let y : Arc = new_arc reach sat at last in
     record {
-      shifts = All-push (λ a. a.shift ≡ pos 0 ∷ pos 0 ∷ pos 0 ∷ []) arcs y marked.shifts refl;
+      shifts = All-push (λ a. a.shift ≡ no_shift) arcs y marked.shifts refl;
       order = λ k a is.
           ⊎_elim (λ (old : slice_get arcs k ≡ Some a). let o = marked.order k a old in (o.0, o.1, omega arith))
           (λ (new : (k ≡ length arcs) × (y ≡ a)). subst (λ (b : Arc). (b.first ≤ b.last) × (b.first ≤ at) × (b.last < max reach (last + 1))) new.1 (order, omega arith, omega arith))
-          (push_cases arcs y a k is);
+          (push_get arcs y a k is);
       rising = λ m k b a before first second.
           ⊎_elim
           (λ (old : slice_get arcs k ≡ Some a).
           let inside = slice_get_within arcs k a old in
           ⊎_elim (λ (older : slice_get arcs m ≡ Some b). marked.rising m k b a before older old) (λ (new : (m ≡ length arcs) × (y ≡ b)). absurd (let here = new.0 in omega arith))
-          (push_cases arcs y b m first))
+          (push_get arcs y b m first))
           (λ (new : (k ≡ length arcs) × (y ≡ a)).
           subst (λ (c : Arc). b.first ≤ c.first) new.1
           (⊎_elim (λ (older : slice_get arcs m ≡ Some b). (marked.order m b older).1)
-          (λ (same : (m ≡ length arcs) × (y ≡ b)). absurd (let here = new.0 in let there = same.0 in omega arith)) (push_cases arcs y b m first)))
-          (push_cases arcs y a k second);
+          (λ (same : (m ≡ length arcs) × (y ≡ b)). absurd (let here = new.0 in let there = same.0 in omega arith)) (push_get arcs y b m first)))
+          (push_get arcs y a k second);
       datums = λ k a is.
           ⊎_elim
           (λ (old : slice_get arcs k ≡ Some a).
@@ -104,12 +89,13 @@ marked_push at arcs reach sat last order marked =
           (λ (new : (k ≡ length arcs) × (y ≡ a)).
           subst (λ (n : ℕ). IsTrue a.datum ↔ IsFresh (arcs ++ y ∷ []) n a) (sym new.0)
           (subst (λ (c : Arc). IsTrue c.datum ↔ IsFresh (arcs ++ y ∷ []) (length arcs) c) new.1 (new_datum at arcs reach sat last marked)))
-          (push_cases arcs y a k is);
+          (push_get arcs y a k is);
       reached = inr
-          (⊎_elim (λ (less : reach < last + 1). (length arcs, y, push_new arcs y, omega arith))
+          (⊎_elim (λ (less : reach < last + 1). (length arcs, y, last_push arcs y, omega arith))
           (λ (more : last + 1 ≤ reach).
           ⊎_elim (λ (none : reach ≡ 0). absurd (omega arith))
-          (λ (some : (m : ℕ) × (b : Arc) × (slice_get arcs m ≡ Some b) × (reach ≡ b.last + 1)). (some.0, some.1, push_old arcs y some.1 some.0 some.2, let e = some.3 in omega arith)) marked.reached)
+          (λ (some : (m : ℕ) × (b : Arc) × (slice_get arcs m ≡ Some b) × (reach ≡ b.last + 1)).
+          (some.0, some.1, push_before arcs y some.1 some.0 some.2, let e = some.3 in omega arith)) marked.reached)
           (cases_lt reach (last + 1)));
     }
 

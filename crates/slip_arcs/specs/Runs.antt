@@ -1,5 +1,5 @@
 -- Arcs as maximal runs, all of them in order, and those that are kept.
-use Rattle.std.specs.Prelude.{◌≡◌, ℕ, ◌+◌, ◌-◌, ◌<◌, ◌≤◌, ◌⊎◌, Bool, true, false, not, nat_le, max, pos, List, [], ◌∷◌, ◌++◌, map, filter, count_by, All, AllPairs, Contains}
+use Rattle.std.specs.Prelude.{◌≡◌, ℕ, ℤ, ◌+◌, ◌-◌, ◌<◌, ◌≤◌, ◌⊎◌, Bool, true, false, not, nat_le, max, pos, List, [], ◌∷◌, ◌++◌, map, filter, count_by, All, AllPairs, Contains}
 use Rattle.obs_rows.specs.declared.used.UsedPair.{UsedPair}
 use Rattle.obs_rows.specs.declared.arcs.Arc.{Arc}
 use Rattle.slip_arcs.specs.Used.{is_used, is_cut_after}
@@ -45,9 +45,13 @@ pub record AreKept (bands : List ℕ) (jump least : ℕ) (used : List UsedPair) 
   pub kept_are : map run_of kept ≡ filter (is_long least) runs
   pub short_is : short ≡ count_by (λ r. not (is_long least r)) runs
 
+-- the shift of an arc from which no cycles are taken off: 0 on each band
+abbrev pub no_shift : List ℤ
+no_shift = pos 0 ∷ pos 0 ∷ pos 0 ∷ []
+
 -- a long run gains an arc, which is a datum where all earlier ones end before it, and any other is counted
 pub record IsAdded (least : ℕ) (r : Run) (kept kept' : List Arc) (short short' reach reach' : ℕ) : Type 0 where
   pub long : is_long least r ≡ true
-      → (kept' ≡ kept ++ record { sat = r.sat; first = r.first; last = r.last; datum = nat_le reach r.first; shift = pos 0 ∷ pos 0 ∷ pos 0 ∷ [] } ∷ []) × (short' ≡ short) ×
+      → (kept' ≡ kept ++ record { sat = r.sat; first = r.first; last = r.last; datum = nat_le reach r.first; shift = no_shift } ∷ []) × (short' ≡ short) ×
       (reach' ≡ max reach (r.last + 1))
   pub brief : is_long least r ≡ false → (kept' ≡ kept) × (short' ≡ short + 1) × (reach' ≡ reach)

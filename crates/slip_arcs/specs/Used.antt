@@ -43,9 +43,13 @@ growth b before now = wavelength (phase_of b) *ℤ change b before now
 abbrev pub jump_of : ℕ → ℕ → UsedSat → UsedSat → ℕ
 jump_of b c before now = unsigned_abs (growth b before now -ℤ growth c before now)
 
--- the phase on one of these bands jumps against that on L1 by more than so many κ, and one κ is 23 ι. L1's own never does
+-- one κ, 23 ι, in thousandths of ι
+abbrev pub kappa : ℕ
+kappa = 23000
+
+-- the phase on one of these bands jumps against that on L1 by more than so many κ. L1's own never does
 abbrev pub does_jump : ℕ → List ℕ → UsedSat → UsedSat → Bool
-does_jump jump bands before now = list_any (λ b. nat_lt (23000 * jump) (jump_of 0 b before now)) bands
+does_jump jump bands before now = list_any (λ b. nat_lt (kappa * jump) (jump_of 0 b before now)) bands
 
 -- there is a cut between a satellite's entries in one pair and in the next, at which the power may have failed
 abbrev pub is_cut : List ℕ → ℕ → Bool → UsedSat → UsedSat → Bool

@@ -1,8 +1,8 @@
 //! The arcs of all satellites, in one pass over the pairs.
-ghost use Rattle.std.specs.Prelude.{◌≡◌, ◌≤◌, pos, [], ◌∷◌, length, IfOk, All};
+ghost use Rattle.std.specs.Prelude.{◌≡◌, ◌≤◌, length, IfOk, All};
 ghost use Rattle.obs_rows.specs.BandSets.{IsBandsNumber, bands_of};
 ghost use Rattle.obs_rows.specs.UsedSats.{IsInRange};
-ghost use Rattle.slip_arcs.specs.Runs.{AreKept};
+ghost use Rattle.slip_arcs.specs.Runs.{AreKept, no_shift};
 ghost use Rattle.slip_arcs.specs.Linked.{HaveDatums};
 
 use crate::entries::{does_go_on, last_of};
@@ -18,7 +18,7 @@ pub struct Arcs {
 }
 
 /// The arcs of at least `least` pairs, with a cut where power failed, where lock was lost, and where the phase on one of
-/// the bands jumps by more than `jump` κ against that on L1. All shifts are 0. Refused only for want of memory.
+/// the bands jumps by more than `jump` κ against that on L1. All shifts are 0. Refused only where it is out of memory.
 ///
 /// An arc is looked at from its first pair to its last and never again, so the work grows with the entries alone.
 pub fn cut(
@@ -33,7 +33,7 @@ pub fn cut(
     requires ranges { All IsInRange used.now }
     ensures kept { IfOk result (λ arcs. AreKept (bands_of bands) jump least used.now arcs.kept arcs.short) }
     ensures datums { IfOk result (λ arcs. HaveDatums arcs.kept) }
-    ensures shifts { IfOk result (λ arcs. All (λ a. a.shift ≡ pos 0 ∷ pos 0 ∷ pos 0 ∷ []) arcs.kept) }
+    ensures shifts { IfOk result (λ arcs. All (λ a. a.shift ≡ no_shift) arcs.kept) }
 {
     let mut found = Found {
         kept: Vec::new(alloc),

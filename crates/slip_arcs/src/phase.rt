@@ -2,9 +2,16 @@
 ghost use Rattle.std.specs.Prelude.{◌≡◌, ◌*◌, ◌<◌, ◌≤◌, ◌^◌, All, unsigned_abs};
 ghost use Rattle.obs_rows.specs.declared.units.TheConstants.{PHASES};
 ghost use Rattle.obs_rows.specs.UsedSats.{IsSmall};
+ghost use Rattle.slip_arcs.specs.declared.phase.TheConstants.{LONGEST};
 ghost use Rattle.slip_arcs.specs.Used.{change, growth, jump_of, does_jump};
 
 use obs_rows::{UsedSat, WAVELENGTHS, phase_of};
+
+/// One κ, 23 ι, in thousandths of ι: a cycle on L1 is 60 κ and one on L2 77.
+const KAPPA: u64 = 23_000;
+
+/// The longest wavelength, that on L5, in ι.
+const LONGEST: u64 = WAVELENGTHS[4] as u64;
 
 // By how much the phase on a band grows.
 fn change_on(before: &UsedSat, now: &UsedSat, band: usize) -> i64
@@ -23,7 +30,7 @@ fn growth_on(before: &UsedSat, now: &UsedSat, band: usize) -> i64
     requires now { IsSmall now.now }
     requires band { band < PHASES }
     ensures value { result ≡ growth band before.now now.now }
-    ensures small { unsigned_abs result ≤ 1848 * 2 ^ 51 }
+    ensures small { unsigned_abs result ≤ LONGEST * 2 ^ 51 }
 {
     WAVELENGTHS[phase_of(band)] * change_on(before, now, band)
 }
@@ -47,7 +54,7 @@ pub fn does_jump(before: &UsedSat, now: &UsedSat, bands: &[usize], jump: u32) ->
     requires bands { All (λ b. b < PHASES) bands.now }
     ensures { result ≡ does_jump jump bands.now before.now now.now }
 {
-    let most = 23_000 * u64::from(jump);
+    let most = KAPPA * u64::from(jump);
     bands
         .iter()
         .any(|b| size_of_jump(before, now, 0, *b) > most)

@@ -6,7 +6,7 @@ use Rattle.rational.specs.Rational.{of_whole, sub_r, InBox}
 use Rattle.rational.proofs.Boxes.{InBox-along, Near-along}
 use Rattle.orbit_model.specs.SeenPlaces.{range_of}
 use Rattle.obs_rows.specs.Signals.{wavelength}
-use Rattle.row_boxes.specs.Terms.{prefit_width, pseudorange, in_row_unit}
+use Rattle.row_boxes.specs.Terms.{prefit_width, pseudorange, in_row_unit, iota_exponent}
 use Rattle.row_boxes.specs.Sightings.{Sighting, y_of, y_in_rows}
 use Rattle.row_boxes.specs.YBoxes.{Pairing, AreSightings, HoldsBoth, IsWithinHalf, IsAllowedGroup}
 use Rattle.row_boxes.proofs.Ends.{plain_size}
@@ -18,8 +18,8 @@ nearest : (c : goal.After-nearest_iota) → IsNearest c.prefit_of-prefit.result.
 nearest c = subst (λ (z : ℤ). IsNearest z (2 ^ 15) c.nearest_iota.result) (plain_size c.prefit_of-prefit.result.lo (2 ^ 68) (lit≤ tt) c.prefit_of-prefit.result.lo_size) c.nearest_iota.ensures.nearest
 
 held : (c : goal.After-nearest_iota) (p : Pairing) → HoldsBoth p c.args.base.now c.args.rover.now → (b r : Sighting) → AreSightings p b r →
-    InBox 15 c.prefit_of-prefit.result.lo c.prefit_of-prefit.result.hi (less_pseudoranges 2 c.args.amount b r)
-held c p h b r a = subst (λ (z : ℤ). InBox 15 c.prefit_of-prefit.result.lo c.prefit_of-prefit.result.hi (less_pseudoranges 2 z b r)) (to_z-of_z w64 c.args.amount c.ranges.amount)
+    InBox iota_exponent c.prefit_of-prefit.result.lo c.prefit_of-prefit.result.hi (less_pseudoranges 2 c.args.amount b r)
+held c p h b r a = subst (λ (z : ℤ). InBox iota_exponent c.prefit_of-prefit.result.lo c.prefit_of-prefit.result.hi (less_pseudoranges 2 z b r)) (to_z-of_z w64 c.args.amount c.ranges.amount)
     (c.prefit_of-prefit.ensures.holds (pseudorange (range_of b.travel) b.clock) (pseudorange (range_of r.travel) r.clock) (h.base_held b a.base_is) (h.rover_held r a.rover_is))
 
 no_shift : (g : ℤ) → g ≡ g +ℤ (wavelength 2 *ℤ pos 0)

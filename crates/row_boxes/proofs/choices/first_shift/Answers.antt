@@ -6,7 +6,7 @@ use Rattle.rational.specs.Rational.{Rational, of_whole, sub_r, InBox}
 use Rattle.rational.proofs.Boxes.{InBox-along}
 use Rattle.orbit_model.specs.SeenPlaces.{range_of}
 use Rattle.obs_rows.specs.Signals.{wavelength}
-use Rattle.row_boxes.specs.Terms.{pseudorange}
+use Rattle.row_boxes.specs.Terms.{pseudorange, iota_exponent}
 use Rattle.row_boxes.specs.Sightings.{Sighting, y_of}
 use Rattle.row_boxes.specs.YBoxes.{Pairing, AreSightings, HoldsBoth, IsWithinHalf}
 use Rattle.row_boxes.proofs.Ends.{plain_size}
@@ -21,8 +21,9 @@ nearest : (c : goal.After-nearest_cycle) → IsNearest (c.prefit_of-prefit.resul
 nearest c = subst (λ (z : ℤ). IsNearest z (unsigned_abs (wavelength c.args.signal) * 2 ^ 15) c.nearest_cycle.result) (end_is c) c.nearest_cycle.ensures.nearest
 
 held : (c : goal.After-nearest_cycle) (p : Pairing) → HoldsBoth p c.args.base.now c.args.rover.now → (b r : Sighting) → AreSightings p b r →
-    InBox 15 c.prefit_of-prefit.result.lo c.prefit_of-prefit.result.hi (less_pseudoranges c.args.signal c.args.amount b r)
-held c p h b r a = subst (λ (z : ℤ). InBox 15 c.prefit_of-prefit.result.lo c.prefit_of-prefit.result.hi (less_pseudoranges c.args.signal z b r)) (to_z-of_z w64 c.args.amount c.ranges.amount)
+    InBox iota_exponent c.prefit_of-prefit.result.lo c.prefit_of-prefit.result.hi (less_pseudoranges c.args.signal c.args.amount b r)
+held c p h b r a = subst (λ (z : ℤ). InBox iota_exponent c.prefit_of-prefit.result.lo c.prefit_of-prefit.result.hi (less_pseudoranges c.args.signal z b r))
+    (to_z-of_z w64 c.args.amount c.ranges.amount)
     (c.prefit_of-prefit.ensures.holds (pseudorange (range_of b.travel) b.clock) (pseudorange (range_of r.travel) r.clock) (h.base_held b a.base_is) (h.rover_held r a.rover_is))
 
 result_is : (c : goal.After-nearest_cycle) → to_z w64 (of_z w64 c.nearest_cycle.result) ≡ c.nearest_cycle.result

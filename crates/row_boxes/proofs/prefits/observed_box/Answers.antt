@@ -1,4 +1,4 @@
-use Rattle.std.proofs.Common.{◌≡◌, ℕ, zero, suc, Bool, true, false, IsTrue, not, refl, ◌*◌, ◌<◌, ◌*ℤ◌, ◌≤ℤ◌, ℤ, pos, arith, sym, subst}
+use Rattle.std.proofs.Common.{◌≡◌, ℕ, zero, suc, Bool, true, false, IsTrue, not, refl, ◌<◌, ◌*ℤ◌, ◌≤ℤ◌, ℤ, pos, arith, sym, subst}
 use Rattle.std.proofs.lemmas.Int.{ints}
 use Rattle.std.proofs.lemmas.Bool.{false≢true}
 use Rattle.whole_math.specs.Rounding.{IsFloor, IsCeil}
@@ -6,9 +6,10 @@ use Rattle.rational.specs.Rational.{InBox}
 use Rattle.obs_rows.specs.Signals.{wavelength, is_phase}
 use Rattle.row_boxes.specs.declared.pseudoranges.TheConstants.{PARTS}
 use Rattle.row_boxes.specs.declared.prefits.TheConstants.{UNITS}
-use Rattle.row_boxes.specs.Terms.{observed}
+use Rattle.row_boxes.specs.Terms.{observed, iota_exponent}
 use Rattle.row_boxes.proofs.Boxes.{observed_code}
 use Rattle.row_boxes.proofs.prefits.observed_box.Goals as goal
+use Rattle.obs_rows.specs.declared.units.TheConstants.{SIGNALS}
 
 pub returns-in-0-clause-holds : goal.returns-in-0-clause-holds
 returns-in-0-clause-holds c =
@@ -18,7 +19,7 @@ returns-in-0-clause-holds c =
     let b = c.between in
     let low : (b.result.lo *ℤ pos 1000) ≤ℤ ((wavelength 0 *ℤ c.args.amount) *ℤ pos 32768) = omega (arith, ints, s, f.0, f.1, b.ensures.low) in
     let high : ((wavelength 0 *ℤ c.args.amount) *ℤ pos 32768) ≤ℤ (b.result.hi *ℤ pos 1000) = omega (arith, ints, s, g.0, g.1, b.ensures.high) in
-    subst (λ (n : ℕ). InBox 15 b.result.lo b.result.hi (observed n c.args.amount)) (sym c.in-0.is) (low, high)
+    subst (λ (n : ℕ). InBox iota_exponent b.result.lo b.result.hi (observed n c.args.amount)) (sym c.in-0.is) (low, high)
 
 pub returns-in-1-clause-holds : goal.returns-in-1-clause-holds
 returns-in-1-clause-holds c =
@@ -28,7 +29,7 @@ returns-in-1-clause-holds c =
     let b = c.between-in-1 in
     let low : (b.result.lo *ℤ pos 1000) ≤ℤ ((wavelength 1 *ℤ c.args.amount) *ℤ pos 32768) = omega (arith, ints, s, f.0, f.1, b.ensures.low) in
     let high : ((wavelength 1 *ℤ c.args.amount) *ℤ pos 32768) ≤ℤ (b.result.hi *ℤ pos 1000) = omega (arith, ints, s, g.0, g.1, b.ensures.high) in
-    subst (λ (n : ℕ). InBox 15 b.result.lo b.result.hi (observed n c.args.amount)) (sym c.in-1.is) (low, high)
+    subst (λ (n : ℕ). InBox iota_exponent b.result.lo b.result.hi (observed n c.args.amount)) (sym c.in-1.is) (low, high)
 
 pub returns-in-4-clause-holds : goal.returns-in-4-clause-holds
 returns-in-4-clause-holds c =
@@ -38,10 +39,10 @@ returns-in-4-clause-holds c =
     let b = c.between-in-4 in
     let low : (b.result.lo *ℤ pos 1000) ≤ℤ ((wavelength 4 *ℤ c.args.amount) *ℤ pos 32768) = omega (arith, ints, s, f.0, f.1, b.ensures.low) in
     let high : ((wavelength 4 *ℤ c.args.amount) *ℤ pos 32768) ≤ℤ (b.result.hi *ℤ pos 1000) = omega (arith, ints, s, g.0, g.1, b.ensures.high) in
-    subst (λ (n : ℕ). InBox 15 b.result.lo b.result.hi (observed n c.args.amount)) (sym c.in-4.is) (low, high)
+    subst (λ (n : ℕ). InBox iota_exponent b.result.lo b.result.hi (observed n c.args.amount)) (sym c.in-4.is) (low, high)
 
 -- a signal that is none of the three phases
-code : (s : ℕ) → s < 6 → (s ≡ 0 → ⊥) → (s ≡ 1 → ⊥) → (s ≡ 4 → ⊥) → IsTrue (not (is_phase s))
+code : (s : ℕ) → s < SIGNALS → (s ≡ 0 → ⊥) → (s ≡ 1 → ⊥) → (s ≡ 4 → ⊥) → IsTrue (not (is_phase s))
 code zero h a b d = absurd (a refl)
 code (suc zero) h a b d = absurd (b refl)
 code (suc (suc zero)) h a b d = refl

@@ -3,7 +3,7 @@ use Rattle.std.proofs.lemmas.Int.{to_z-of_z}
 use Rattle.std.specs.Int.{w64, w128}
 use Rattle.rational.specs.Rational.{InBox, sub_r}
 use Rattle.obs_rows.specs.Signals.{wavelength}
-use Rattle.row_boxes.specs.Terms.{observed}
+use Rattle.row_boxes.specs.Terms.{observed, iota_exponent}
 use Rattle.row_boxes.specs.declared.pseudoranges.Pseudorange.{Pseudorange}
 use Rattle.row_boxes.proofs.Ends.{ArePrefitEnds, prefit_ordered, prefit_narrow, prefit_size, prefit_phase}
 use Rattle.row_boxes.proofs.Boxes.{prefit_holds}
@@ -45,11 +45,11 @@ returns-clause-holds c = λ b r i j.
     let h = c.observed_box-held in
     let x : Pseudorange = c.args.base.now in
     let y : Pseudorange = c.args.rover.now in
-    let held : InBox 15 (h.result.lo -ℤ (y.hi -ℤ x.lo)) (h.result.hi -ℤ (y.lo -ℤ x.hi)) (sub_r (observed c.args.signal c.args.amount) (sub_r r b)) =
+    let held : InBox iota_exponent (h.result.lo -ℤ (y.hi -ℤ x.lo)) (h.result.hi -ℤ (y.lo -ℤ x.hi)) (sub_r (observed c.args.signal c.args.amount) (sub_r r b)) =
     prefit_holds h.result.lo h.result.hi x.lo x.hi y.lo y.hi (observed c.args.signal c.args.amount) b r
-    (subst (λ (z : ℤ). InBox 15 h.result.lo h.result.hi (observed c.args.signal z)) (plain_amount c.before) h.ensures.holds) i j in
-    subst (λ (z : ℤ). InBox 15 z (to_z w128 (of_z w128 c.less-2.result)) (sub_r (observed c.args.signal c.args.amount) (sub_r r b))) (sym (lo_is c.before))
-    (subst (λ (z : ℤ). InBox 15 (h.result.lo -ℤ (y.hi -ℤ x.lo)) z (sub_r (observed c.args.signal c.args.amount) (sub_r r b))) (sym (hi_is c.before)) held)
+    (subst (λ (z : ℤ). InBox iota_exponent h.result.lo h.result.hi (observed c.args.signal z)) (plain_amount c.before) h.ensures.holds) i j in
+    subst (λ (z : ℤ). InBox iota_exponent z (to_z w128 (of_z w128 c.less-2.result)) (sub_r (observed c.args.signal c.args.amount) (sub_r r b))) (sym (lo_is c.before))
+    (subst (λ (z : ℤ). InBox iota_exponent (h.result.lo -ℤ (y.hi -ℤ x.lo)) z (sub_r (observed c.args.signal c.args.amount) (sub_r r b))) (sym (hi_is c.before)) held)
 
 pub returns-clause-code : goal.returns-clause-code
 returns-clause-code c = λ s a.

@@ -5,7 +5,7 @@ use Rattle.whole_math.specs.Rounding.{IsFloor, IsCeil}
 use Rattle.rational.specs.Rational.{InBox}
 use Rattle.obs_rows.specs.declared.units.TheConstants.{LIGHT_SPEED}
 use Rattle.row_boxes.specs.declared.pseudoranges.TheConstants.{UNITS, PARTS}
-use Rattle.row_boxes.specs.Terms.{pseudorange}
+use Rattle.row_boxes.specs.Terms.{pseudorange, iota_exponent}
 use Rattle.row_boxes.proofs.Ends.{plain64, through, pseudorange_ordered, pseudorange_narrow}
 use Rattle.row_boxes.proofs.Boxes.{pseudorange_holds}
 use Rattle.row_boxes.proofs.pseudoranges.pseudorange_of.Goals as goal
@@ -66,7 +66,8 @@ pub returns : goal.returns
 returns c = λ r t h i.
     let x = c.args.range.now in
     let y = c.args.clock.now in
-    let held : InBox 15 c.before.below.result c.before.above.result (pseudorange r t) = pseudorange_holds x.lo x.hi y.lo y.hi c.before.below.result c.before.above.result r t (is_floor c.before)
+    let held : InBox iota_exponent c.before.below.result c.before.above.result (pseudorange r t) =
+    pseudorange_holds x.lo x.hi y.lo y.hi c.before.below.result c.before.above.result r t (is_floor c.before)
     (is_ceil c.before) h i in
-    subst (λ (z : ℤ). InBox 15 z (to_z w128 (of_z w128 c.above.result)) (pseudorange r t)) (sym (lo_is c.before))
-    (subst (λ (z : ℤ). InBox 15 c.below.result z (pseudorange r t)) (sym (hi_is c.before)) held)
+    subst (λ (z : ℤ). InBox iota_exponent z (to_z w128 (of_z w128 c.above.result)) (pseudorange r t)) (sym (lo_is c.before))
+    (subst (λ (z : ℤ). InBox iota_exponent c.below.result z (pseudorange r t)) (sym (hi_is c.before)) held)

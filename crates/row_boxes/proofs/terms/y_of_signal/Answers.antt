@@ -6,11 +6,12 @@ use Rattle.rational.proofs.Boxes.{Near-along}
 use Rattle.orbit_model.specs.SeenPlaces.{range_of}
 use Rattle.obs_rows.specs.Signals.{wavelength, band}
 use Rattle.obs_rows.specs.Data.{number_at}
-use Rattle.row_boxes.specs.Terms.{pseudorange, in_row_unit}
+use Rattle.row_boxes.specs.Terms.{pseudorange, in_row_unit, iota_exponent}
 use Rattle.row_boxes.specs.Sightings.{y_in_rows}
 use Rattle.row_boxes.proofs.Ends.{read_small}
 use Rattle.row_boxes.proofs.Ys.{less_pseudoranges, y_in_rows_is}
 use Rattle.row_boxes.proofs.terms.y_of_signal.Goals as goal
+use Rattle.obs_rows.specs.declared.units.TheConstants.{SIGNALS}
 
 whole_is : (c : goal.After-y_box) → to_z w64 (of_z w64 c.whole_of.result) ≡ c.args.group +ℤ (wavelength c.args.signal *ℤ number_at c.args.shift.now (band c.args.signal))
 whole_is c = to_z-of_z w64 c.whole_of.result (record { sfits = c.whole_of.type_inv }) ∙ c.whole_of.ensures.value ∙
@@ -18,7 +19,7 @@ whole_is c = to_z-of_z w64 c.whole_of.result (record { sfits = c.whole_of.type_i
 
 read_amount : (c : goal.After-y_box) → to_z w64 (of_z w64 (number_at c.args.amounts.now c.args.signal)) ≡ number_at c.args.amounts.now c.args.signal
 read_amount c =
-    let l : length c.args.amounts.now ≡ 6 = omega arith in
+    let l : length c.args.amounts.now ≡ SIGNALS = omega arith in
     let i : c.args.signal < length c.args.amounts.now = omega arith in
     read_small (number_at c.args.amounts.now c.args.signal) (c.requires.amounts c.args.signal (pos 0) i)
 
@@ -27,8 +28,8 @@ returns-clause-holds c = λ p h base rover a.
     let s : ℕ = c.args.signal in
     let n : ℤ = number_at c.args.amounts.now s in
     let w : ℤ = to_z w64 (of_z w64 c.whole_of.result) in
-    let held : InBox 15 c.prefit_of-prefit.result.lo c.prefit_of-prefit.result.hi (less_pseudoranges s n base rover) =
-    subst (λ (z : ℤ). InBox 15 c.prefit_of-prefit.result.lo c.prefit_of-prefit.result.hi (less_pseudoranges s z base rover)) (read_amount c)
+    let held : InBox iota_exponent c.prefit_of-prefit.result.lo c.prefit_of-prefit.result.hi (less_pseudoranges s n base rover) =
+    subst (λ (z : ℤ). InBox iota_exponent c.prefit_of-prefit.result.lo c.prefit_of-prefit.result.hi (less_pseudoranges s z base rover)) (read_amount c)
     (c.prefit_of-prefit.ensures.holds (pseudorange (range_of base.travel) base.clock) (pseudorange (range_of rover.travel) rover.clock) (h.base_held base a.base_is) (h.rover_held rover a.rover_is)) in
     Near-along c.y_box.result.centre c.y_box.result.radius (in_row_unit c.args.scale (sub_r (less_pseudoranges s n base rover) (of_whole w)))
     (y_in_rows c.args.scale s n c.args.group (number_at c.args.shift.now (band s)) base rover)

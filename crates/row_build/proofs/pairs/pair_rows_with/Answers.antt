@@ -10,7 +10,7 @@ use Rattle.row_boxes.specs.Sightings.{Sighting, y_of}
 use Rattle.row_boxes.specs.YBoxes.{AreSightings, IsWithinHalf}
 use Rattle.row_build.specs.declared.faults.RowFault.TheVariants.{Overwidth}
 use Rattle.row_build.specs.HeldArcs.{arcs_at}
-use Rattle.row_build.specs.Rows.{setting, seen_by, IsRow}
+use Rattle.row_build.specs.Rows.{setting_from, seen_by, IsRow}
 use Rattle.row_build.specs.Far.{IsGroup, HasFarRow}
 use Rattle.row_build.proofs.FirstRow.{first_meets}
 use Rattle.row_build.proofs.pairs.pair_rows_with.Goals as goal
@@ -20,13 +20,13 @@ row_in P rows r all e = subst P (get_or_from_slice_get rows 0 r r e) (all 0 r (s
 
 pub returns-in-Ok-clause-rows : goal.returns-in-Ok-clause-rows
 returns-in-Ok-clause-rows c =
-    let t = setting c.args.screened.now.boxes c.args.arcs.now c.args.base.now c.args.point.now c.args.signals c.args.scale in
+    let t = setting_from c.args.from.now c.args.scale in
     let p = c.finish.result in
     let f = c.first_entry-first.result.sv in
     let g : ℤ = c.group_of-group.result in
     let plain : to_z w64 (of_z w64 g) ≡ g = to_z-of_z w64 g (record { sfits = c.group_of-group.type_inv }) in
     let group : p.group ≡ g = c.finish.ensures.group ∙ c.in-Ok.ensures.group ∙ c.new-rows.ensures.group ∙ plain in
-    let arcs : map (λ (r : Row). r.arc) p.rows ≡ arcs_at c.args.arcs.now c.args.pair =
+    let arcs : map (λ (r : Row). r.arc) p.rows ≡ arcs_at c.args.from.now.arcs.now c.args.pair =
     ap (λ (rs : List Row). map (λ (r : Row). r.arc) rs) c.finish.ensures.rows ∙ c.in-Ok.ensures.arcs ∙ c.as_slice-held.ensures.value ∙ c.in_ok-held.ensures in
     let rows : All (IsRow t c.args.pair p.group) p.rows =
     subst (λ (rs : List Row). All (IsRow t c.args.pair p.group) rs) (sym c.finish.ensures.rows)
@@ -43,16 +43,17 @@ returns-in-Ok-clause-rows c =
       arcs = arcs;
       rows = rows;
       group = λ r e.
-          first_meets c.args.screened.now.used t c.args.pair p.group r f c.args.screened.now.matched c.args.screened.now.ranges c.first_entry-first.ensures.entry
+          first_meets c.args.from.now.screened.now.used t c.args.pair p.group r f c.args.from.now.screened.now.matched c.args.from.now.screened.now.ranges c.first_entry-first.ensures.entry
           (ap (λ (xs : List ℕ). slice_get xs 0) (sym arcs) ∙ slice_get-map (λ (q : Row). q.arc) p.rows 0 ∙ ap (λ (o : Option Row). option_map (λ (q : Row). q.arc) o) e)
-          (row_in (IsRow t c.args.pair p.group) p.rows r rows e) (c.group_of-group.ensures.exists c.args.base.now c.first_entry-first.ensures.half)
-          (subst (λ (k : ℤ). (b q : Sighting) → AreSightings (seen_by f c.args.base.now c.args.point.now) b q → IsWithinHalf (pos 1) (y_of 2 (number_at f.observed 2) k (pos 0) b q)) (sym group)
-          (c.group_of-group.ensures.near c.args.base.now c.first_entry-first.ensures.half));
+          (row_in (IsRow t c.args.pair p.group) p.rows r rows e) (c.group_of-group.ensures.exists c.args.from.now.base.now c.first_entry-first.ensures.half)
+          (subst (λ (k : ℤ). (b q : Sighting) → AreSightings (seen_by f c.args.from.now.base.now c.args.from.now.point.now) b q
+          → IsWithinHalf (pos 1) (y_of 2 (number_at f.observed 2) k (pos 0) b q)) (sym group)
+          (c.group_of-group.ensures.near c.args.from.now.base.now c.first_entry-first.ensures.half));
     }
 
 pub returns-clause-overwidth : goal.returns-clause-overwidth
 returns-clause-overwidth c = λ e.
-    let t = setting c.args.screened.now.boxes c.args.arcs.now c.args.base.now c.args.point.now c.args.signals c.args.scale in
+    let t = setting_from c.args.from.now c.args.scale in
     let g : ℤ = c.group_of-group.result in
     let plain : to_z w64 (of_z w64 g) ≡ g = to_z-of_z w64 g (record { sfits = c.group_of-group.type_inv }) in
     let fault : c.in-Err.fault ≡ Overwidth = cc in
@@ -60,7 +61,7 @@ returns-clause-overwidth c = λ e.
       entry = c.first_entry-first.result.sv;
       entry_is = c.first_entry-first.ensures.entry;
       allowed =
-          c.group_of-group.ensures.allowed c.args.base.now c.first_entry-first.ensures.half c.args.scale c.requires.scale;
+          c.group_of-group.ensures.allowed c.args.from.now.base.now c.first_entry-first.ensures.half c.args.scale c.requires.scale;
     } in
     subst (λ (n : ℕ). HasFarRow t n) c.new-rows.ensures.number
     (c.in-Err.ensures.far (cc) (subst₂ (λ (n : ℕ) (k : ℤ). IsGroup t n k) (sym c.new-rows.ensures.number) (sym (c.new-rows.ensures.group ∙ plain)) allowed))

@@ -16,33 +16,34 @@ use Rattle.row_build.proofs.pairs.row_at.Goals as goal
 pub entry_of-entry-requires-clause-used : goal.entry_of-entry-requires-clause-used
 entry_of-entry-requires-clause-used c =
     let h = c.requires.number in
-    subst (λ (a : Arc). is_used c.args.screened.now.used a.sat c.args.pair ≡ true) (sym (get_or_from_slice_get c.args.arcs.now c.args.number h.arc _ h.is))
-    (held_sat c.args.screened.now.used c.args.arcs.now c.args.number c.args.pair h.arc c.requires.cut h.is h.held)
+    subst (λ (a : Arc). is_used c.args.from.now.screened.now.used a.sat c.args.pair ≡ true) (sym (get_or_from_slice_get c.args.from.now.arcs.now c.args.number h.arc _ h.is))
+    (held_sat c.args.from.now.screened.now.used c.args.from.now.arcs.now c.args.number c.args.pair h.arc c.requires.cut h.is h.held)
 
 pub row_of-requires-clause-shift : goal.row_of-requires-clause-shift
 row_of-requires-clause-shift c =
     let h = c.requires.number in
-    (c.requires.arcs.ranges c.args.number (record { sat = 0; first = 0; last = 0; datum = false; shift = [] }) (slice_get_within c.args.arcs.now c.args.number h.arc h.is)).shifts_in
+    (c.requires.arcs.ranges c.args.number (record { sat = 0; first = 0; last = 0; datum = false; shift = [] }) (slice_get_within c.args.from.now.arcs.now c.args.number h.arc h.is)).shifts_in
 
 pub returns-in-Some-clause-row : goal.returns-in-Some-clause-row
 returns-in-Some-clause-row c =
     let h = c.requires.number in
     let r = c.in-Some.row in
     let v = c.entry_of-entry.result.sv in
-    let e = get_or_from_slice_get c.args.arcs.now c.args.number h.arc _ h.is in
+    let e = get_or_from_slice_get c.args.from.now.arcs.now c.args.number h.arc _ h.is in
     record {
       arc = h.arc;
-      arc_is = subst (λ (k : ℕ). slice_get c.args.arcs.now k ≡ Some h.arc) (sym c.in-Some.ensures.arc) h.is;
+      arc_is = subst (λ (k : ℕ). slice_get c.args.from.now.arcs.now k ≡ Some h.arc) (sym c.in-Some.ensures.arc) h.is;
       entry = v;
-      entry_is = subst (λ (a : Arc). IsEntry c.args.screened.now.boxes c.args.pair a.sat v) e c.entry_of-entry.ensures.entry;
-      y = subst (λ (a : Arc). HoldsYs (seen_by v c.args.base.now c.args.point.now) (counted c.args.signals c.args.scale) c.args.scale v.observed c.args.group a.shift r.y r.ry) e
-          (subst (λ (g : ℤ). HoldsYs (seen_by v c.args.base.now c.args.point.now) (counted c.args.signals c.args.scale) c.args.scale v.observed g
-          (get_or c.args.arcs.now c.args.number (record { sat = 0; first = 0; last = 0; datum = false; shift = [] })).shift r.y r.ry) (to_z-of_z w64 c.args.group c.ranges.group)
-          (subst (λ (ss : List ℕ). HoldsYs (seen_by v c.args.base.now c.args.point.now) ss c.args.scale v.observed (to_z w64 (of_z w64 c.args.group))
-          (get_or c.args.arcs.now c.args.number (record { sat = 0; first = 0; last = 0; datum = false; shift = [] })).shift r.y r.ry) c.counted_signals.ensures.value
-          (c.in-Some.ensures.y c.args.base.now c.entry_of-entry.ensures.half)));
+      entry_is = subst (λ (a : Arc). IsEntry c.args.from.now.screened.now.boxes c.args.pair a.sat v) e c.entry_of-entry.ensures.entry;
+      y = subst (λ (a : Arc). HoldsYs (seen_by v c.args.from.now.base.now c.args.from.now.point.now) (counted c.args.from.now.signals c.args.scale)
+          c.args.scale v.observed c.args.group a.shift r.y r.ry) e
+          (subst (λ (g : ℤ). HoldsYs (seen_by v c.args.from.now.base.now c.args.from.now.point.now) (counted c.args.from.now.signals c.args.scale) c.args.scale v.observed g
+          (get_or c.args.from.now.arcs.now c.args.number (record { sat = 0; first = 0; last = 0; datum = false; shift = [] })).shift r.y r.ry) (to_z-of_z w64 c.args.group c.ranges.group)
+          (subst (λ (ss : List ℕ). HoldsYs (seen_by v c.args.from.now.base.now c.args.from.now.point.now) ss c.args.scale v.observed (to_z w64 (of_z w64 c.args.group))
+          (get_or c.args.from.now.arcs.now c.args.number (record { sat = 0; first = 0; last = 0; datum = false; shift = [] })).shift r.y r.ry) c.counted_signals-signals.ensures.value
+          (c.in-Some.ensures.y c.args.from.now.base.now c.entry_of-entry.ensures.half)));
       radius = c.in-Some.ensures.radius;
-      others = subst (λ (ss : List ℕ). IsZeroOff ss r.y) c.counted_signals.ensures.value c.in-Some.ensures.others;
+      others = subst (λ (ss : List ℕ). IsZeroOff ss r.y) c.counted_signals-signals.ensures.value c.in-Some.ensures.others;
       u = c.in-Some.ensures.u;
       narrow = c.in-Some.ensures.narrow;
     }
@@ -51,7 +52,7 @@ pub returns-in-None-clause-far : goal.returns-in-None-clause-far
 returns-in-None-clause-far c = λ g.
     let h = c.requires.number in
     let v = c.entry_of-entry.result.sv in
-    let e = get_or_from_slice_get c.args.arcs.now c.args.number h.arc _ h.is in
+    let e = get_or_from_slice_get c.args.from.now.arcs.now c.args.number h.arc _ h.is in
     record {
       group = c.args.group;
       group_is = g;
@@ -60,11 +61,12 @@ returns-in-None-clause-far c = λ g.
       arc_is = h.is;
       held = h.held;
       entry = v;
-      entry_is = subst (λ (a : Arc). IsEntry c.args.screened.now.boxes c.args.pair a.sat v) e c.entry_of-entry.ensures.entry;
-      far = subst (λ (a : Arc). HasFarSignal (seen_by v c.args.base.now c.args.point.now) (counted c.args.signals c.args.scale) c.args.scale v.observed c.args.group a.shift) e
-          (subst (λ (i : ℤ). HasFarSignal (seen_by v c.args.base.now c.args.point.now) (counted c.args.signals c.args.scale) c.args.scale v.observed i
-          (get_or c.args.arcs.now c.args.number (record { sat = 0; first = 0; last = 0; datum = false; shift = [] })).shift) (to_z-of_z w64 c.args.group c.ranges.group)
-          (subst (λ (ss : List ℕ). HasFarSignal (seen_by v c.args.base.now c.args.point.now) ss c.args.scale v.observed (to_z w64 (of_z w64 c.args.group))
-          (get_or c.args.arcs.now c.args.number (record { sat = 0; first = 0; last = 0; datum = false; shift = [] })).shift) c.counted_signals.ensures.value
-          (c.in-None.ensures.far refl c.args.base.now c.entry_of-entry.ensures.half)));
+      entry_is = subst (λ (a : Arc). IsEntry c.args.from.now.screened.now.boxes c.args.pair a.sat v) e c.entry_of-entry.ensures.entry;
+      far = subst (λ (a : Arc). HasFarSignal (seen_by v c.args.from.now.base.now c.args.from.now.point.now)
+          (counted c.args.from.now.signals c.args.scale) c.args.scale v.observed c.args.group a.shift) e
+          (subst (λ (i : ℤ). HasFarSignal (seen_by v c.args.from.now.base.now c.args.from.now.point.now) (counted c.args.from.now.signals c.args.scale) c.args.scale v.observed i
+          (get_or c.args.from.now.arcs.now c.args.number (record { sat = 0; first = 0; last = 0; datum = false; shift = [] })).shift) (to_z-of_z w64 c.args.group c.ranges.group)
+          (subst (λ (ss : List ℕ). HasFarSignal (seen_by v c.args.from.now.base.now c.args.from.now.point.now) ss c.args.scale v.observed (to_z w64 (of_z w64 c.args.group))
+          (get_or c.args.from.now.arcs.now c.args.number (record { sat = 0; first = 0; last = 0; datum = false; shift = [] })).shift) c.counted_signals-signals.ensures.value
+          (c.in-None.ensures.far refl c.args.from.now.base.now c.entry_of-entry.ensures.half)));
     }

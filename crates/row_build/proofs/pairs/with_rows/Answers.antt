@@ -1,32 +1,32 @@
 use Rattle.std.proofs.Common.{◌≡◌, ℕ, ◌+◌, ◌^◌, ◌<◌, ◌≤◌, Some, List, take, length, get_or, ℤ, unsigned_abs, arith, to_z, of_z, sym, subst, subst₂, ap, ◌∙◌}
 use Rattle.std.specs.Prelude.{slice_get}
-use Rattle.std.proofs.lemmas.Int.{ints}
 use Rattle.std.specs.Int.{w64}
 use Rattle.std.proofs.lemmas.Option.{slice_get-get_or}
 use Rattle.obs_rows.specs.declared.rows.Row.{Row}
 use Rattle.obs_rows.specs.Rows.{AreBelow}
 use Rattle.row_build.specs.HeldArcs.{IsHeld}
-use Rattle.row_build.specs.Rows.{setting, IsRow}
+use Rattle.row_build.specs.Rows.{setting_from, IsRow}
 use Rattle.row_build.specs.Far.{IsGroup, HasFarRow}
 use Rattle.row_build.proofs.ArcLaws.{held_number}
 use Rattle.row_build.proofs.FewRows.{held_few}
 use Rattle.row_build.proofs.RowLists.{AreFirstRows, few_so_far, in_order, one_row_more}
 use Rattle.row_build.proofs.pairs.with_rows.Goals as goal
+use Rattle.whole_math.proofs.Words.{as_w64}
 
 read_group : (z : ℤ) → unsigned_abs z < 2 ^ 55 → to_z w64 (of_z w64 z) ≡ z
-read_group z h = omega (arith, ints)
+read_group z small = as_w64 z (omega (arith, small))
 
 pub row_at-requires-clause-number : goal.row_at-requires-clause-number
 row_at-requires-clause-number c =
     let m : ℕ = get_or c.args.held.now c.loop-place.place 0 in
     let at : slice_get c.args.held.now c.loop-place.place ≡ Some m = slice_get-get_or c.args.held.now c.loop-place.place 0 c.loop-place-test.true in
-    subst (λ (n : ℕ). IsHeld c.args.arcs.now n m) (sym c.loop-place.invariant.0)
-    (held_number c.args.arcs.now c.args.rows.number c.loop-place.place m (ap (λ (xs : List ℕ). slice_get xs c.loop-place.place) (sym c.requires.held) ∙ at))
+    subst (λ (n : ℕ). IsHeld c.args.from.now.arcs.now n m) (sym c.loop-place.invariant.0)
+    (held_number c.args.from.now.arcs.now c.args.rows.number c.loop-place.place m (ap (λ (xs : List ℕ). slice_get xs c.loop-place.place) (sym c.requires.held) ∙ at))
 
 pub push-requires-clause-room : goal.push-requires-clause-room
 push-requires-clause-room c =
     let l : length c.args.held.now ≤ 15 = subst (λ (xs : List ℕ). length xs ≤ 15) (sym c.requires.held)
-    (held_few c.args.screened.now.used c.args.arcs.now c.args.rows.number c.requires.cut c.args.screened.now.ranges c.requires.pair) in
+    (held_few c.args.from.now.screened.now.used c.args.from.now.arcs.now c.args.rows.number c.requires.cut c.args.from.now.screened.now.ranges c.requires.pair) in
     few_so_far c.args.held.now c.loop-place.rows.rows c.loop-place.place c.loop-place.invariant.3.arcs c.loop-place-test.true l
 
 pub push-requires-clause-order : goal.push-requires-clause-order
@@ -34,18 +34,18 @@ push-requires-clause-order c =
     let m : ℕ = get_or c.args.held.now c.loop-place.place 0 in
     let at : slice_get c.args.held.now c.loop-place.place ≡ Some m = slice_get-get_or c.args.held.now c.loop-place.place 0 c.loop-place-test.true in
     subst (λ (k : ℕ). AreBelow c.loop-place.rows.rows k) (sym c.in-Ok.ensures.arc)
-    (in_order c.args.arcs.now c.args.rows.number c.args.held.now c.loop-place.rows.rows c.loop-place.place m c.requires.held c.loop-place.invariant.3.arcs at)
+    (in_order c.args.from.now.arcs.now c.args.rows.number c.args.held.now c.loop-place.rows.rows c.loop-place.place m c.requires.held c.loop-place.invariant.3.arcs at)
 
 pub returns-in-Err-clause-far : goal.returns-in-Err-clause-far
 returns-in-Err-clause-far c = λ _ g.
-    let t = setting c.args.screened.now.boxes c.args.arcs.now c.args.base.now c.args.point.now c.args.signals c.args.scale in
+    let t = setting_from c.args.from.now c.args.scale in
     let i = c.loop-place.invariant in
     subst (λ (n : ℕ). HasFarRow t n) i.0
     (c.in-Err.ensures.far (subst₂ (λ (n : ℕ) (k : ℤ). IsGroup t n k) (sym i.0) (sym (read_group c.loop-place.rows.group c.loop-place.rows.group_in ∙ i.2)) g))
 
 pub loop-place-preserved : goal.loop-place-preserved
 loop-place-preserved c =
-    let t = setting c.args.screened.now.boxes c.args.arcs.now c.args.base.now c.args.point.now c.args.signals c.args.scale in
+    let t = setting_from c.args.from.now c.args.scale in
     let i = c.loop-place.invariant in
     let m : ℕ = get_or c.args.held.now c.loop-place.place 0 in
     let at : slice_get c.args.held.now c.loop-place.place ≡ Some m = slice_get-get_or c.args.held.now c.loop-place.place 0 c.loop-place-test.true in

@@ -5,9 +5,10 @@ use Rattle.row_boxes.specs.YBoxes.{HoldsYs, HasFarSignal}
 use Rattle.row_build.specs.Rows.{seen_by}
 use Rattle.row_build.proofs.Amounts.{amounts_below}
 use Rattle.row_build.proofs.rows.geometry_of.Goals as goal
+use Rattle.obs_rows.specs.declared.units.TheConstants.{SIGNALS}
 
 pub observations_of-requires-clause-amounts : goal.observations_of-requires-clause-amounts
-observations_of-requires-clause-amounts c = let l : length c.args.entry.now.sv.observed ≡ 6 = omega arith in amounts_below c.args.entry.now.sv.observed l c.args.entry.now.sv.observed_in
+observations_of-requires-clause-amounts c = let l : length c.args.entry.now.sv.observed ≡ SIGNALS = omega arith in amounts_below c.args.entry.now.sv.observed l c.args.entry.now.sv.observed_in
 
 pub returns-in_err-held-clause-far : goal.returns-in_err-held-clause-far
 returns-in_err-held-clause-far c = λ _ base known.

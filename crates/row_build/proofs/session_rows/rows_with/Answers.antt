@@ -5,45 +5,47 @@ use Rattle.obs_rows.specs.declared.bands.Signals.{Signals}
 use Rattle.obs_rows.specs.Pairs.{IsAfter, HasItsArcs}
 use Rattle.obs_rows.specs.Signals.{fine_signals}
 use Rattle.obs_rows.specs.Unused.{HasUsedRows, HasUsedShifts}
-use Rattle.row_build.specs.Rows.{setting}
+use Rattle.row_build.specs.Rows.{setting_from}
 use Rattle.row_build.specs.PairRows.{ArePairRows}
 use Rattle.row_build.specs.SessionRows.{AreSessionRows}
-use Rattle.row_build.proofs.SessionLaws.{has_arcs, is_after, with_listed, some_pair, some_weaker, some_at, point_within}
+use Rattle.row_build.proofs.SessionLaws.{has_arcs, is_after, with_listed, some_pair, some_weaker, some_at}
+use Rattle.obs_rows.proofs.ReceiverPointLaws.{receiver_is_point}
 use Rattle.row_build.proofs.UnusedLaws.{used_rows}
 use Rattle.row_build.proofs.session_rows.rows_with.Goals as goal
 
 pub new-session-requires-clause-base : goal.new-session-requires-clause-base
-new-session-requires-clause-base c = point_within c.args.base.now c.requires.base.1
+new-session-requires-clause-base c = receiver_is_point c.args.from.now.base.now c.requires.base
 
 pub new-session-requires-clause-point : goal.new-session-requires-clause-point
-new-session-requires-clause-point c = point_within c.args.point.now c.requires.point.1
+new-session-requires-clause-point c = receiver_is_point c.args.from.now.point.now c.requires.point
 
 pub add_pair-requires-clause-order : goal.add_pair-requires-clause-order
 add_pair-requires-clause-order c =
-    let t = setting c.args.screened.now.boxes c.args.arcs.now c.args.base.now c.args.point.now c.args.signals c.args.scale in
+    let t = setting_from c.args.from.now c.args.scale in
     some_weaker c.in-Ok.rows (λ (p : PairRows). ArePairRows t c.loop-pair.pair p) (λ (p : PairRows). IsAfter c.loop-pair.session.pairs p.number)
     (λ p a. is_after t c.loop-pair.pair c.loop-pair.session.pairs p.number c.loop-pair.invariant.6 (sym a.number)) c.in-Ok.ensures.rows
 
 pub add_pair-requires-clause-arcs : goal.add_pair-requires-clause-arcs
 add_pair-requires-clause-arcs c =
-    let t = setting c.args.screened.now.boxes c.args.arcs.now c.args.base.now c.args.point.now c.args.signals c.args.scale in
-    let e : c.loop-pair.session.arcs ≡ c.args.arcs.now = c.loop-pair.invariant.5 ∙ c.new-session.ensures.arcs ∙ c.new-held.ensures ∙ c.in_ok-from_slice.ensures.items in
+    let t = setting_from c.args.from.now c.args.scale in
+    let e : c.loop-pair.session.arcs ≡ c.args.from.now.arcs.now = c.loop-pair.invariant.5 ∙ c.new-session.ensures.arcs ∙ c.new-held.ensures ∙ c.in_ok-from_slice.ensures.items in
     some_weaker c.in-Ok.rows (λ (p : PairRows). ArePairRows t c.loop-pair.pair p) (λ (p : PairRows). HasItsArcs c.loop-pair.session.arcs p)
     (λ p a. subst (λ (xs : List Arc). HasItsArcs xs p) (sym e) (has_arcs t c.loop-pair.pair p a)) c.in-Ok.ensures.rows
 
 pub new-session-requires-clause-shifts : goal.new-session-requires-clause-shifts
-new-session-requires-clause-shifts c = subst (λ (xs : List Arc). All (HasUsedShifts (fine_signals c.args.signals)) xs) (sym (c.new-held.ensures ∙ c.in_ok-from_slice.ensures.items)) c.requires.shifts
+new-session-requires-clause-shifts c = subst (λ (xs : List Arc). All (HasUsedShifts (fine_signals c.args.from.now.signals)) xs)
+    (sym (c.new-held.ensures ∙ c.in_ok-from_slice.ensures.items)) c.requires.shifts
 
 pub add_pair-requires-clause-rows : goal.add_pair-requires-clause-rows
 add_pair-requires-clause-rows c =
-    let t = setting c.args.screened.now.boxes c.args.arcs.now c.args.base.now c.args.point.now c.args.signals c.args.scale in
-    let e : c.loop-pair.session.signals ≡ c.args.signals = c.loop-pair.invariant.4 ∙ c.new-session.ensures.signals in
+    let t = setting_from c.args.from.now c.args.scale in
+    let e : c.loop-pair.session.signals ≡ c.args.from.now.signals = c.loop-pair.invariant.4 ∙ c.new-session.ensures.signals in
     some_weaker c.in-Ok.rows (λ (p : PairRows). ArePairRows t c.loop-pair.pair p) (λ (p : PairRows). HasUsedRows (fine_signals c.loop-pair.session.signals) p)
     (λ p a. subst (λ (q : Signals). HasUsedRows (fine_signals q) p) (sym e) (used_rows t c.loop-pair.pair p a)) c.in-Ok.ensures.rows
 
 pub loop-pair-preserved : goal.loop-pair-preserved
 loop-pair-preserved c =
-    let t = setting c.args.screened.now.boxes c.args.arcs.now c.args.base.now c.args.point.now c.args.signals c.args.scale in
+    let t = setting_from c.args.from.now c.args.scale in
     let i = c.loop-pair.invariant in
     let a = c.add_pair.ensures in (
       a.scale ∙ i.0,
@@ -58,7 +60,7 @@ loop-pair-preserved c =
 
 pub finish-requires : goal.finish-requires
 finish-requires c =
-    let t = setting c.args.screened.now.boxes c.args.arcs.now c.args.base.now c.args.point.now c.args.signals c.args.scale in
-    let e : c.loop-pair.pair ≡ length c.args.screened.now.used = omega arith in
-    some_pair c.args.screened.now.used c.args.arcs.now t c.loop-pair.session.pairs refl c.requires.cut c.requires.arcs.some
+    let t = setting_from c.args.from.now c.args.scale in
+    let e : c.loop-pair.pair ≡ length c.args.from.now.screened.now.used = omega arith in
+    some_pair c.args.from.now.screened.now.used c.args.from.now.arcs.now t c.loop-pair.session.pairs refl c.requires.cut c.requires.arcs.some
     (subst (λ (n : ℕ). AreSessionRows t n c.loop-pair.session.pairs) e c.loop-pair.invariant.6)

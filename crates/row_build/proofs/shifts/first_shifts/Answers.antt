@@ -16,7 +16,7 @@ pub returns-clause-near : goal.returns-clause-near
 returns-clause-near c =
     let f = c.first_entry-first.result.sv in
     let n = c.entry_of-entry.result.sv in
-    let g : ℤ = c.group_of.result in
+    let g : ℤ = c.group_of-group.result in
     record {
       first = f;
       first_is = c.first_entry-first.ensures.entry;
@@ -24,10 +24,11 @@ returns-clause-near c =
       entry_is = c.entry_of-entry.ensures.entry;
       within = λ group a s h phase among b r q.
           shift_within s (number_at n.observed s) g group (number_at c.shifts_of.result (band s)) b r (long_cycle s h phase)
-          (allowed_close (seen_by f c.args.base.now c.args.point.now) (number_at f.observed 2) g group a (c.group_of.ensures.exists c.args.base.now c.first_entry-first.ensures.half)
-          (c.group_of.ensures.near c.args.base.now c.first_entry-first.ensures.half))
+          (allowed_close (seen_by f c.args.from.now.base.now c.args.from.now.point.now) (number_at f.observed 2) g group a
+          (c.group_of-group.ensures.exists c.args.from.now.base.now c.first_entry-first.ensures.half)
+          (c.group_of-group.ensures.near c.args.from.now.base.now c.first_entry-first.ensures.half))
           (subst (λ (m : ℤ). IsWithinHalf (wavelength s) (y_of s (number_at n.observed s) m (number_at c.shifts_of.result (band s)) b r))
-          (to_z-of_z w64 g (record { sfits = c.group_of.type_inv })) (c.shifts_of.ensures.near c.args.base.now c.entry_of-entry.ensures.half s h phase
+          (to_z-of_z w64 g (record { sfits = c.group_of-group.type_inv })) (c.shifts_of.ensures.near c.args.from.now.base.now c.entry_of-entry.ensures.half s h phase
           (subst (λ (ss : List ℕ). IsTrue (counts ss s)) (sym c.fine_signals.ensures.value) among) b r q));
       unused = subst (λ (ss : List ℕ). IsZeroOff (phase_bands ss) c.shifts_of.result) c.fine_signals.ensures.value c.shifts_of.ensures.unused;
     }

@@ -1,9 +1,9 @@
-use Rattle.std.proofs.Common.{◌≡◌, ℕ, ◌+◌, ◌-◌, ◌<◌, ◌≤◌, Some, false, List, [], ◌∷◌, All, pos, length, sym, ◌∙◌, subst, arith}
+use Rattle.std.proofs.Common.{◌≡◌, ℕ, ◌+◌, ◌-◌, ◌<◌, ◌≤◌, Some, false, List, All, length, sym, ◌∙◌, subst, arith}
 use Rattle.std.specs.Prelude.{slice_get}
 use Rattle.obs_rows.specs.declared.arcs.Arc.{Arc}
 use Rattle.obs_rows.specs.BandSets.{bands_of}
 use Rattle.slip_arcs.specs.Used.{sats_at, goes_on}
-use Rattle.slip_arcs.specs.Runs.{AreKept}
+use Rattle.slip_arcs.specs.Runs.{AreKept, no_shift}
 use Rattle.slip_arcs.specs.Linked.{HaveDatums}
 use Rattle.slip_arcs.proofs.Starts.{done_skip, done_add, done_next, done_all, length_at, sat_at, rising_at, few_at}
 use Rattle.slip_arcs.proofs.Datums.{marked_add, marked_next, have_datums}
@@ -56,4 +56,4 @@ pub returns-clause-datums : goal.returns-clause-datums
 returns-clause-datums c = subst (λ (kept : List Arc). HaveDatums kept) (sym c.new-2.ensures) (have_datums _ _ _ c.pairs.invariant.marked)
 
 pub returns-clause-shifts : goal.returns-clause-shifts
-returns-clause-shifts c = subst (λ (kept : List Arc). All (λ a. a.shift ≡ pos 0 ∷ pos 0 ∷ pos 0 ∷ []) kept) (sym c.new-2.ensures) c.pairs.invariant.marked.shifts
+returns-clause-shifts c = subst (λ (kept : List Arc). All (λ a. a.shift ≡ no_shift) kept) (sym c.new-2.ensures) c.pairs.invariant.marked.shifts

@@ -1,0 +1,22 @@
+//! What rows are made from.
+use obs_rows::{Arc, Signals};
+use row_boxes::Pseudorange;
+use screening::Screened;
+
+/// What the rows of a point are made from.
+#[derive(Clone, Copy)]
+pub struct RowSource<'a> {
+    /// The satellites that the pairs use, with their boxes.
+    pub screened: &'a Screened,
+    /// The base's halves that are kept, each in the place of its entry: `base_halves` makes them once for all points of a run.
+    /// What is not kept is made, so the rows are the same with none.
+    pub halves: &'a [Pseudorange],
+    /// The arcs with their shifts.
+    pub arcs: &'a [Arc],
+    /// The base's position, in units of 0.1 mm.
+    pub base: &'a [i64; 3],
+    /// The rover's point, in units of 0.1 mm.
+    pub point: &'a [i64; 3],
+    /// The signals that `screened` was made of.
+    pub signals: Signals,
+}
