@@ -4,19 +4,24 @@ ghost use Rattle.integer_form.specs.Told.{IsToldAs};
 ghost use Rattle.elimination.specs.Finish.{IsFinishOf, finish_of};
 
 use crate::steps::take_steps;
-use crate::tables::{kept_list, normal_table};
-use form_tables::BASELINE_COLUMNS;
-use integer_form::{Form, FrontForm, LowerFault, factor_table};
+use crate::tables::{kept_list, put_form};
+use form_tables::{BASELINE_COLUMNS, FactorTable, NormalTable};
+use integer_form::{Form, FrontForm, LowerFault, put_factors};
 
 /// The steps of the integer columns, from the form that the front left.
+// Never inlined: these tables would then lie on the stack for as long as its caller runs.
+#[inline(never)]
 pub fn finish(front: &FrontForm) -> Result<Form, LowerFault>
     ensures finished { IfOk result (λ f. IsFinishOf front.now f) }
     ensures refused { IfErr result (λ e. IsToldAs e (finish_of front.now)) }
 {
     let columns = front.columns;
     let end = columns - 1;
-    let mut table = normal_table(&front.p, columns - BASELINE_COLUMNS);
-    let mut l = factor_table(&front.l);
+    // Filled where they stand: a table that a call gives is copied.
+    let mut table = NormalTable::zeros();
+    put_form(&front.p, &mut table, columns - BASELINE_COLUMNS);
+    let mut l = FactorTable::zeros();
+    put_factors(&front.l, &mut l);
     let mut d = kept_list(&front.d);
     match take_steps(&mut table, &mut l, &mut d, BASELINE_COLUMNS, end, columns) {
         Ok(()) => Ok(Form {

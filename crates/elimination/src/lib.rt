@@ -3,6 +3,11 @@
 //! On a table, in place, a row of steps (`take_steps`) is exactly that of the definition, and stops exactly where
 //! that does, for the same reason; it leaves all other factors as they were. `finish` takes the steps of the integer
 //! columns from the form that those of the baseline left, entry by entry (`IsFinishOf`).
+//!
+//! The steps stop in the first column whose pivot is below 2^20 (`Stop::Weak`), that has a factor of 2^52 or more in
+//! size (`WideFactor`), or whose step gives such an entry (`WideEntry`); `Stopped::fault` and `finish` report it as a
+//! `LowerFault`. What steps that stop leave in their tables no clause says. `form_table`, `front_factors` and
+//! `first_kept` hand on what the steps of the baseline's columns left. No memory is taken.
 #![tactic(auto)]
 
 mod entries;

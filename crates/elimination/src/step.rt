@@ -1,6 +1,6 @@
 //! One step of the elimination, in place: it reads the row of its column and writes only rows and columns after it.
 //! Of a table only the entries on the diagonal and after it are read and written.
-ghost use Rattle.std.specs.Prelude.{◌≡◌, ◌≢◌, ◌⊎◌, ℕ, ◌+◌, ◌-◌, ◌^◌, ◌<◌, ◌≤◌, pos, ◌*ℤ◌, ◌<ℤ◌, unsigned_abs, true, false, IfOk, IfErr, Ok, Err};
+ghost use Rattle.std.specs.Prelude.{◌≡◌, ◌≢◌, ◌⊎◌, ℕ, ◌+◌, ◌-◌, ◌^◌, ◌<◌, ◌≤◌, pos, ◌<ℤ◌, unsigned_abs, true, false, IfOk, IfErr, Ok, Err};
 ghost use Rattle.quadratic_form.specs.Elimination.{step as elimination};
 ghost use Rattle.form_tables.specs.Tables.{entry};
 ghost use Rattle.elimination.specs.StepEntries.{is_small, factor_entry, other_entry, new_entry};

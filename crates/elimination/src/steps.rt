@@ -1,5 +1,5 @@
 //! The elimination of several columns.
-ghost use Rattle.std.specs.Prelude.{◌≡◌, ◌⊎◌, ℕ, ◌+◌, ◌-◌, ◌^◌, ◌<◌, ◌≤◌, pos, slice_index_or, unsigned_abs, OnOk, IfErr, Ok, Err};
+ghost use Rattle.std.specs.Prelude.{◌≡◌, ◌⊎◌, ℕ, ◌-◌, ◌^◌, ◌<◌, ◌≤◌, pos, slice_index_or, unsigned_abs, OnOk, IfErr, Ok, Err};
 ghost use Rattle.quadratic_form.specs.Elimination.{steps};
 ghost use Rattle.quadratic_form.specs.Places.{form_from};
 ghost use Rattle.form_tables.specs.Tables.{entry};
@@ -20,7 +20,7 @@ pub struct Stopped {
 }
 
 impl Stopped {
-    /// The fault that is told of it.
+    /// The fault that reports it.
     pub fn fault(self) -> LowerFault
         requires column_in { self.column ≤ MOST_COLUMNS }
         requires pivot_size { unsigned_abs self.pivot ≤ 2 ^ 52 }

@@ -75,18 +75,16 @@ fn copy_row_back(p: &FormTable, table: &mut NormalTable, r: usize, n: usize)
     }
 }
 
-/// A table with this form of n columns behind the baseline's columns, on the diagonal and after it.
-pub(crate) fn normal_table(p: &FormTable, n: usize) -> NormalTable
+/// Writes this form of n columns behind the baseline's columns, on the diagonal and after it.
+pub(crate) fn put_form(p: &FormTable, table: &mut NormalTable, n: usize)
     requires columns_in { n ≤ MOST_FORM_COLUMNS }
     requires entries { EntriesBelow (2 ^ 52) p.now }
-    ensures form { form_from (entry result) 3 n ≡ form_of_table p.now n }
-    ensures entries { (r c : ℕ) → 3 ≤ r → r ≤ c → c < 3 + n → unsigned_abs (entry result r c) ≤ 2 ^ 52 }
+    ensures form { form_from (entry table.new) 3 n ≡ form_of_table p.now n }
+    ensures entries { (r c : ℕ) → 3 ≤ r → r ≤ c → c < 3 + n → unsigned_abs (entry table.new r c) ≤ 2 ^ 52 }
 {
-    let mut table = NormalTable::zeros();
     for r in 0..n {
-        copy_row_back(p, &mut table, r, n);
+        copy_row_back(p, table, r, n);
     }
-    table
 }
 
 /// Writes row r of the factors of the baseline's columns.

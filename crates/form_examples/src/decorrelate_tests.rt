@@ -1,7 +1,7 @@
 //! Maps of drawn forms.
 ghost use Rattle.std.specs.Prelude.{ℕ, ◌+◌, ◌-◌, ◌*◌, ◌^◌, ◌<◌, ◌≤◌, unsigned_abs};
 ghost use Rattle.form_tables.specs.declared.sizes.TheConstants.{MOST_INTEGERS, MOST_COLUMNS, MOST_FACTORS};
-ghost use Rattle.decorrelate.specs.Inverses.{EntriesBelow};
+ghost use Rattle.form_tables.specs.Matrices.{EntriesBelow};
 ghost use Rattle.decorrelate.specs.Starts.{AreWeightsBehind};
 
 use crate::decorrelate_cases::{CASES, Case};

@@ -1,5 +1,5 @@
 -- What a table of zeros has.
-use Rattle.std.proofs.Common.{◌≡◌, ℕ, zero, suc, [], ℤ, pos, get_or, replicate, refl}
+use Rattle.std.proofs.Common.{◌≡◌, ℕ, zero, suc, [], pos, get_or, replicate, refl}
 use Rattle.std.proofs.lemmas.List.{length-replicate, get_or-replicate}
 use Rattle.form_tables.specs.Tables.{entry, HasShape, zero_rows}
 
@@ -10,7 +10,7 @@ zero_item (suc n) zero = refl
 zero_item (suc n) (suc i) = zero_item n i
 
 pub zero_shape : (n k : ℕ) → HasShape n k (zero_rows n k)
-zero_shape n k = record { rows = length-replicate n (replicate k (pos 0)); columns = λ i h. rw (get_or-replicate n i (replicate k (pos 0)) [] h) (length-replicate k (pos 0)) }
+zero_shape n k = record { rows = length-replicate n (replicate k (pos 0)); columns = λ i inside. rw (get_or-replicate n i (replicate k (pos 0)) [] inside) (length-replicate k (pos 0)) }
 
 -- each entry of a table of zeros is 0, also past its ends
 pub zero_entry : (n k i j : ℕ) → entry (zero_rows n k) i j ≡ pos 0

@@ -1,7 +1,9 @@
 //! The sizes of the forms and tables of the search for integers, and tables of whole numbers of these sizes.
 //!
 //! `Table` and `NormalTable` are seen in contracts as the list of their rows. `zeros`, `at` and `set` are exact: `set`
-//! changes one entry and no other. `sizes_law` says what the sizes are.
+//! changes one entry and no other. Both ask for a row and a column inside, so that nothing is refused; definitions take
+//! an entry past the ends as 0 (`entry`). No memory is taken. `sizes_law` says what the sizes are. No clause says how a
+//! table prints.
 #![tactic(auto)]
 
 mod laws;

@@ -27,6 +27,7 @@ impl Model for NormalTable {
 }
 
 impl NormalTable {
+    /// A table of zeros.
     pub fn zeros() -> Self
         ensures zeros { result ≡ zero_rows MOST_COLUMNS MOST_COLUMNS }
         ensures shape { HasShape MOST_COLUMNS MOST_COLUMNS result }
@@ -36,6 +37,7 @@ impl NormalTable {
         }
     }
 
+    /// The entry in this row and column.
     pub fn at(&self, row: usize, column: usize) -> i128
         requires row_in { row < MOST_COLUMNS }
         requires column_in { column < MOST_COLUMNS }
@@ -46,6 +48,7 @@ impl NormalTable {
         of_row[column]
     }
 
+    /// Puts a value in this row and column.
     pub fn set(&mut self, row: usize, column: usize, value: i128)
         requires row_in { row < MOST_COLUMNS }
         requires column_in { column < MOST_COLUMNS }

@@ -38,6 +38,7 @@ impl<const ROWS: usize, const COLUMNS: usize> Model for Table<ROWS, COLUMNS> {
 }
 
 impl<const ROWS: usize, const COLUMNS: usize> Table<ROWS, COLUMNS> {
+    /// A table of zeros.
     pub fn zeros() -> Self
         ensures zeros { result ≡ zero_rows ROWS COLUMNS }
         ensures shape { HasShape ROWS COLUMNS result }
@@ -47,6 +48,7 @@ impl<const ROWS: usize, const COLUMNS: usize> Table<ROWS, COLUMNS> {
         }
     }
 
+    /// The entry in this row and column.
     pub fn at(&self, row: usize, column: usize) -> i64
         requires row_in { row < ROWS }
         requires column_in { column < COLUMNS }
@@ -57,6 +59,7 @@ impl<const ROWS: usize, const COLUMNS: usize> Table<ROWS, COLUMNS> {
         of_row[column]
     }
 
+    /// Puts a value in this row and column.
     pub fn set(&mut self, row: usize, column: usize, value: i64)
         requires row_in { row < ROWS }
         requires column_in { column < COLUMNS }

@@ -1,6 +1,6 @@
 -- Vectors under a map, place by place.
 use Rattle.std.proofs.Common.{◌≡◌, ◌≢◌, ◌⊎◌, inl, inr, ◌^◌, lit<, unsigned_abs, subst, ℕ, zero, suc, ◌+◌, ◌<◌, ◌≤◌, List, [], ◌∷◌, length, get_or, drop, take, ℤ, pos, ◌+ℤ◌, ◌*ℤ◌, arith}
-use Rattle.std.proofs.Common.{refl, ap, ap₂, sym, ◌∙◌, add-one, length-take, replicate, set, below_more, get_or-set_same, get_or-set_other}
+use Rattle.std.proofs.Common.{refl, ap, ap₂, sym, ◌∙◌, add-one, length-take, set, below_more, get_or-set_same, get_or-set_other}
 use Rattle.std.proofs.lemmas.Int.{ints}
 use Rattle.whole_math.specs.Vectors.{dot}
 use Rattle.quadratic_form.specs.Maps.{apply}

@@ -1,5 +1,5 @@
 //! Vectors in other coordinates.
-ghost use Rattle.std.specs.Prelude.{◌≡◌, ℕ, ◌^◌, ◌<◌, ◌≤◌, List, [], ℤ, pos, ◌*ℤ◌, unsigned_abs, slice_index_or, length, MatchOption};
+ghost use Rattle.std.specs.Prelude.{◌≡◌, ℕ, ◌^◌, ◌<◌, ◌≤◌, List, [], ℤ, ◌*ℤ◌, unsigned_abs, slice_index_or, length, MatchOption};
 ghost use Rattle.whole_math.specs.Vectors.{dot};
 ghost use Rattle.form_tables.specs.declared.sizes.TheConstants.{MOST_INTEGERS};
 ghost use Rattle.suffix_search.specs.PlainCount.{HasLarge};

@@ -4,7 +4,7 @@ use Rattle.whole_math.proofs.Ring.{◌⊕◌, ◌⊗◌}
 use Rattle.whole_math.proofs.Inequalities.{same_by, nat}
 use Rattle.whole_math.specs.Vectors.{dot}
 use Rattle.quadratic_form.specs.Places.{list_from}
-use Rattle.integer_form.specs.FloatPoint.{item}
+use Rattle.form_tables.specs.Tables.{item}
 
 nothing : (j : ℕ) → j + 0 ≡ j
 nothing j = omega arith

@@ -1,13 +1,11 @@
 -- The float point of a form, and the baseline of an integer vector, in units of 2^-16.
-use Rattle.std.specs.Prelude.{ℕ, ◌-◌, ◌^◌, ◌<◌, ◌≤◌, List, [], ◌∷◌, ◌++◌, take, ℤ, pos, neg_ℤ, unsigned_abs, slice_index_or}
+use Rattle.std.specs.Prelude.{ℕ, ◌-◌, ◌^◌, ◌<◌, ◌≤◌, List, [], ◌∷◌, ◌++◌, take, ℤ, pos, neg_ℤ, unsigned_abs}
 use Rattle.whole_math.specs.Rounding.{nearest_div}
 use Rattle.whole_math.specs.Vectors.{dot, scaled}
 use Rattle.quadratic_form.specs.Elimination.{Factor}
+pub use Rattle.form_tables.specs.Tables.{item}
 use Rattle.integer_form.specs.declared.form.Form.{Form}
 use Rattle.integer_form.specs.Factors.{stored}
-
-abbrev pub item : List ℤ → ℕ → ℤ
-item s i = slice_index_or s i (pos 0)
 
 -- the number of a column with the factors l, where s are the numbers of the later columns; that of the constant is 1
 abbrev pub next_number : List ℤ → List ℤ → ℤ

@@ -1,4 +1,4 @@
--- A refusal of the definition as the fault that is told.
+-- A refusal of the definition, and the fault that reports it.
 use Rattle.std.specs.Prelude.{◌≡◌, List, Result, Err}
 use Rattle.quadratic_form.specs.Forms.{Column}
 use Rattle.quadratic_form.specs.Elimination.{Factor, Refusal, weak, wide_factor, wide_entry}
@@ -11,6 +11,6 @@ told (weak j a) = Weak j a
 told wide_factor = Overwidth PlaceOfFactor
 told wide_entry = Overwidth PlaceOfEntry
 
--- the answer is a refusal, and this fault tells it
+-- the answer is a refusal, and this fault reports it
 abbrev pub IsToldAs : LowerFault → Result (List Factor × List Column) Refusal → Type 0
 IsToldAs fault answer = (refusal : Refusal) × ((answer ≡ Err refusal) × (fault ≡ told refusal))

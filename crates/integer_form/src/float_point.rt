@@ -1,14 +1,13 @@
 //! The float point of a form and the baseline of an integer vector, column by column from the last one.
-ghost use Rattle.std.specs.Prelude.{◌≡◌, ◌↔◌, ℕ, suc, ◌+◌, ◌-◌, ◌^◌, ◌<◌, ◌≤◌, List, ℤ, length, pos, neg_ℤ, [], ◌∷◌, ◌++◌, unsigned_abs, nat_lt, OnOk, IfOk, IfErr, IsErr};
-ghost use Rattle.whole_math.specs.Rounding.{nearest_div};
+ghost use Rattle.std.specs.Prelude.{◌≡◌, ◌↔◌, ℕ, suc, ◌+◌, ◌-◌, ◌^◌, ◌<◌, ◌≤◌, List, ℤ, length, pos, [], ◌∷◌, ◌++◌, unsigned_abs, nat_lt, OnOk, IfOk, IfErr, IsErr};
 ghost use Rattle.whole_math.specs.Vectors.{dot, scaled};
 ghost use Rattle.quadratic_form.specs.Places.{list_from};
-ghost use Rattle.form_tables.specs.Tables.{entry};
+ghost use Rattle.form_tables.specs.Tables.{entry, item};
 ghost use Rattle.form_tables.specs.Matrices.{EntriesBelow};
 ghost use Rattle.integer_form.specs.Factors.{stored};
 ghost use Rattle.integer_form.specs.Forms.{integers_of};
 ghost use Rattle.integer_form.specs.declared.faults.Place.TheVariants.{Float};
-ghost use Rattle.integer_form.specs.FloatPoint.{item, next_number, solved, float_point, baseline_at, HasWide, HasWideBefore};
+ghost use Rattle.integer_form.specs.FloatPoint.{next_number, solved, float_point, baseline_at, HasWide, HasWideBefore};
 
 use crate::products::times;
 use crate::tables::factor_table;
@@ -121,10 +120,8 @@ fn baseline_from(
     ensures place { IfErr result (λ e. e.place ≡ Float) }
 {
     let mut numbers = integer_numbers(z);
-    match solve(l, &mut numbers, BASELINE_COLUMNS, columns) {
-        Ok(()) => Ok([numbers[0], numbers[1], numbers[2]]),
-        Err(fault) => Err(fault),
-    }
+    solve(l, &mut numbers, BASELINE_COLUMNS, columns)?;
+    Ok([numbers[0], numbers[1], numbers[2]])
 }
 
 impl Form {
@@ -138,10 +135,8 @@ impl Form {
         ensures place { IfErr result (λ e. e.place ≡ Float) }
     {
         let mut numbers = [0; MOST_FACTORS];
-        match solve(&self.l, &mut numbers, self.columns - 1, self.columns) {
-            Ok(()) => Ok(numbers),
-            Err(fault) => Err(fault),
-        }
+        solve(&self.l, &mut numbers, self.columns - 1, self.columns)?;
+        Ok(numbers)
     }
 
     /// The baseline at the integers z, by the same rule, in units of 2^(scale - 5) ι.

@@ -1,5 +1,5 @@
 //! The integer form: what the whole elimination gives.
-ghost use Rattle.std.specs.Prelude.{◌-◌, ◌^◌, ◌<◌, ◌≤◌};
+ghost use Rattle.std.specs.Prelude.{◌-◌, ◌^◌, ◌≤◌};
 ghost use Rattle.form_tables.specs.Tables.{IsZeroOutside};
 ghost use Rattle.form_tables.specs.declared.sizes.TheConstants.{MOST_COLUMNS};
 ghost use Rattle.form_tables.specs.Matrices.{IsSymmetric, EntriesBelow};

@@ -1,5 +1,5 @@
 //! The form of the integers and the constant that the steps of the baseline's columns leave.
-ghost use Rattle.std.specs.Prelude.{◌≡◌, ◌-◌, ◌^◌, ◌<◌, ◌≤◌, pos, replicate};
+ghost use Rattle.std.specs.Prelude.{◌≡◌, ◌-◌, ◌^◌, ◌≤◌, pos, replicate};
 ghost use Rattle.form_tables.specs.Tables.{IsZeroOutside, zero_rows};
 ghost use Rattle.form_tables.specs.declared.sizes.TheConstants.{MOST_COLUMNS, BASELINE_COLUMNS};
 ghost use Rattle.form_tables.specs.Matrices.{IsSymmetric, EntriesBelow};

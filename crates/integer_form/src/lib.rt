@@ -6,7 +6,7 @@
 //! value, and no value is below g. `Form::value` is exactly the value at an integer vector. `Form::float_of` is
 //! exactly the float point and both `baseline_of` exactly the baseline at given integers, and they are refused
 //! exactly where one of these numbers is 2^46 or more in size. `FrontForm::of` has the given fields, and
-//! `is_form_table` tells whether a table may be given. The crate stands below lower_form, which hands its types on.
+//! `is_form_table`, which serves tests alone, says whether a table may be given. The crate stands below lower_form, which hands its types on.
 #![tactic(auto)]
 
 mod faults;
@@ -22,4 +22,4 @@ pub use faults::{LowerFault, Overwidth, Place};
 pub use form::Form;
 pub use front_form::FrontForm;
 pub use laws::lower_sum_law;
-pub use tables::{factor_table, is_form_table};
+pub use tables::{factor_table, is_form_table, put_factors};

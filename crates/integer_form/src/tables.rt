@@ -22,15 +22,23 @@ fn copy_factors_back(front: &FrontTable, factors: &mut FactorTable, r: usize)
     }
 }
 
+/// Writes these factors of the baseline's columns into a table of all factors.
+pub fn put_factors(front: &FrontTable, factors: &mut FactorTable)
+    ensures same { (r c : ℕ) → r < MOST_COLUMNS → c < BASELINE_COLUMNS → entry factors.new r c ≡ entry front.now r c }
+    ensures others { (r c : ℕ) → (MOST_COLUMNS ≤ r) ⊎ (BASELINE_COLUMNS ≤ c) → entry factors.new r c ≡ entry factors.old r c }
+{
+    for r in 0..MOST_COLUMNS {
+        copy_factors_back(front, factors, r);
+    }
+}
+
 /// A table with these factors of the baseline's columns.
 pub fn factor_table(front: &FrontTable) -> FactorTable
     ensures same { (r c : ℕ) → r < MOST_COLUMNS → c < BASELINE_COLUMNS → entry result r c ≡ entry front.now r c }
     ensures outside { IsZeroOutside MOST_COLUMNS BASELINE_COLUMNS result }
 {
     let mut factors = FactorTable::zeros();
-    for r in 0..MOST_COLUMNS {
-        copy_factors_back(front, &mut factors, r);
-    }
+    put_factors(front, &mut factors);
     factors
 }
 
@@ -54,14 +62,14 @@ fn is_form_row(p: &FormTable, r: usize, n: usize) -> bool
 }
 
 /// Whether a table is the matrix of a form of n columns: symmetric, its entries below 2^52 in size, and 0 outside the
-/// columns.
+/// columns. It serves tests alone, which make such tables.
 pub fn is_form_table(p: &FormTable, n: usize) -> bool
     ensures symmetric { result ≡ true → IsSymmetric p.now }
     ensures entries { result ≡ true → EntriesBelow (2 ^ 52) p.now }
     ensures outside { result ≡ true → IsZeroOutside n n p.now }
     ensures only { IsSymmetric p.now → EntriesBelow (2 ^ 52) p.now → IsZeroOutside n n p.now → result ≡ true }
 {
-    // A read tells the shape of the table, so that nothing stands behind its ends.
+    // A read says the shape of the table, so that nothing stands behind its ends.
     let _first = p.at(0, 0);
     for r in 0..MOST_FORM_COLUMNS {
         if !is_form_row(p, r, n) {

@@ -2,9 +2,8 @@
 ghost use Rattle.std.specs.Prelude.{◌≡◌, ℕ, suc, ◌+◌, ◌-◌, ◌^◌, ◌<◌, ◌≤◌, length, pos, [], ◌∷◌, ◌++◌, unsigned_abs};
 ghost use Rattle.whole_math.specs.Vectors.{dot};
 ghost use Rattle.quadratic_form.specs.Places.{list_from};
-ghost use Rattle.form_tables.specs.Tables.{entry};
+ghost use Rattle.form_tables.specs.Tables.{entry, item};
 ghost use Rattle.form_tables.specs.Matrices.{EntriesBelow};
-ghost use Rattle.integer_form.specs.FloatPoint.{item};
 ghost use Rattle.integer_form.specs.Forms.{integers_of, value_of};
 
 use crate::Form;

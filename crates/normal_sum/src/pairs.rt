@@ -1,18 +1,19 @@
 //! What the rows of a pair add to the normal matrix, over all signals that count.
-ghost use Rattle.std.specs.Prelude.{◌≡◌, ℕ, ◌+◌, ◌*◌, ◌^◌, ◌<◌, ◌≤◌, ◌+ℤ◌, List, unsigned_abs};
+ghost use Rattle.std.specs.Prelude.{◌≡◌, ℕ, ◌+◌, ◌*◌, ◌^◌, ◌<◌, ◌≤◌, pos, ◌+ℤ◌, ◌*ℤ◌, ◌≤ℤ◌, List, map, unsigned_abs};
+ghost use Rattle.whole_math.specs.Vectors.{sum};
 ghost use Rattle.quadratic_form.specs.Rows.{add_radii, radii};
 ghost use Rattle.quadratic_form.specs.MatrixEntries.{matrix_entry};
 ghost use Rattle.obs_rows.specs.declared.arcs.Arc.{Arc};
 ghost use Rattle.obs_rows.specs.Arcs.{free_count};
 ghost use Rattle.form_tables.specs.Tables.{entry};
-ghost use Rattle.obs_rows.specs.Signals.{AreCounted};
+ghost use Rattle.obs_rows.specs.Signals.{AreCounted, weight};
 ghost use Rattle.obs_rows.specs.Integers.{integer_count};
 ghost use Rattle.normal_sum.specs.Pairs.{HaveArcs, pair_groups};
 ghost use Rattle.normal_sum.specs.RadiusSums.{radii_of, IsAtMost};
 
 use crate::places::{first_places, places_of};
 use crate::radii::{RadiusSums, add_radii_of};
-use crate::signals::add_signal;
+use crate::signals::{add_signal, row_weight};
 use form_tables::{MOST_COLUMNS, MOST_INTEGERS, NormalTable};
 use obs_rows::{Arc, MOST_FREE_ARCS, PairRows, phase_place};
 
@@ -40,16 +41,26 @@ pub(crate) fn add_pair(
     }
 }
 
-/// The sums with the radii of a pair's rows more.
+/// 360360 times the weights of these signals together.
+fn total_weight(signals: &[usize]) -> i64
+    requires counted { AreCounted signals.now }
+    ensures value { result ≡ pos 360360 *ℤ sum (map weight signals.now) }
+    ensures from { pos 0 ≤ℤ result }
+    ensures to { result ≤ℤ pos (2 ^ 35) }
+{
+    let mut total = 0;
+    for signal in signals {
+        total += row_weight(*signal);
+    }
+    total
+}
+
+/// The sums with the radii of a pair's rows more. They are the same for each signal, so one pass weighs them for all.
 pub(crate) fn add_pair_radii(start: RadiusSums, signals: &[usize], pair: &PairRows) -> RadiusSums
     requires sums { IsAtMost (2 ^ 99) start }
     requires counted { AreCounted signals.now }
     ensures value { (arcs : List Arc) → radii_of result ≡ add_radii (radii_of start) (radii (pair_groups arcs signals.now pair.now)) }
     ensures size { (m : ℕ) → IsAtMost m start → IsAtMost (m + 2 ^ 79) result }
 {
-    let mut sums = start;
-    for signal in signals {
-        sums = add_radii_of(sums, pair.rows.as_slice(), *signal);
-    }
-    sums
+    add_radii_of(start, pair.rows.as_slice(), total_weight(signals))
 }

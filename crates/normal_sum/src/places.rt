@@ -1,11 +1,11 @@
 //! The places of the integers of a pair's rows.
-ghost use Rattle.std.specs.Prelude.{◌≡◌, ◌==◌, ℕ, ◌<◌, ◌≤◌, List, length, position, slice_index_or, Option, IfSome, None};
+ghost use Rattle.std.specs.Prelude.{◌≡◌, ℕ, ◌<◌, ◌≤◌, length, slice_index_or, Option, IfSome, None};
 ghost use Rattle.obs_rows.specs.declared.arcs.Arc.{Arc};
 ghost use Rattle.obs_rows.specs.declared.rows.Row.{Row};
 ghost use Rattle.obs_rows.specs.Arcs.{free_count};
 ghost use Rattle.obs_rows.specs.Signals.{AreCounted, phases};
 ghost use Rattle.normal_sum.specs.Pairs.{HaveArcs};
-ghost use Rattle.normal_sum.specs.Places.{first_place, place_from, ArePlaces};
+ghost use Rattle.normal_sum.specs.Places.{first_place, place_from};
 
 use form_tables::MOST_INTEGERS;
 use obs_rows::{Arc, MOST_FREE_ARCS, PHASES, Row, free_arcs, phase_count};
@@ -29,11 +29,7 @@ fn first_place(arcs: &[Arc], phases: usize, arc: usize) -> Option<usize>
 }
 
 /// The place of the first integer of each row's arc.
-pub(crate) fn first_places(
-    arcs: &[Arc],
-    signals: &[usize],
-    rows: &[Row],
-) -> [Option<usize>; MOST_ROWS]
+pub fn first_places(arcs: &[Arc], signals: &[usize], rows: &[Row]) -> [Option<usize>; MOST_ROWS]
     requires have_arcs { HaveArcs arcs.now rows.now }
     requires few_rows { length rows.now ≤ MOST_ROWS }
     requires free { free_count arcs.now ≤ MOST_FREE_ARCS }
@@ -60,7 +56,7 @@ fn place_from(first: Option<usize>, phase: Option<usize>) -> Option<usize>
 }
 
 /// The place of each row's integer as one phase sees it. A code has none.
-pub(crate) fn places_of(
+pub fn places_of(
     firsts: &[Option<usize>; MOST_ROWS],
     phase: Option<usize>,
 ) -> [Option<usize>; MOST_ROWS]

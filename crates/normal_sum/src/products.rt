@@ -1,6 +1,6 @@
 //! Weighted products of the coefficients of a row, added to a table in the columns that the row has, on and above the
 //! diagonal alone.
-ghost use Rattle.std.specs.Prelude.{◌≡◌, ◌≢◌, ◌⊎◌, ℕ, ◌^◌, ◌<◌, ◌≤◌, pos, ◌+ℤ◌, ◌*ℤ◌, unsigned_abs, slice_index_or};
+ghost use Rattle.std.specs.Prelude.{◌≡◌, ◌≢◌, ◌⊎◌, ℕ, ◌^◌, ◌<◌, ◌≤◌, pos, ◌+ℤ◌, ◌*ℤ◌, IsTrue, unsigned_abs, slice_index_or};
 ghost use Rattle.form_tables.specs.Tables.{entry};
 ghost use Rattle.normal_sum.specs.Columns.{AreColumnsOf, AreColumnsFrom};
 
@@ -8,10 +8,10 @@ use form_tables::{MOST_COLUMNS, NormalTable};
 
 /// weight · value
 pub(crate) fn times(weight: i64, value: i64) -> i128
-    requires weight_size { unsigned_abs weight ≤ 2 ^ 32 }
+    requires weight_size { unsigned_abs weight ≤ 2 ^ 35 }
     requires value_size { unsigned_abs value ≤ 2 ^ 40 }
     ensures value { result ≡ weight *ℤ value }
-    ensures size { unsigned_abs result ≤ 2 ^ 72 }
+    ensures size { unsigned_abs result ≤ 2 ^ 75 }
 {
     weight as i128 * value as i128
 }
@@ -19,11 +19,38 @@ pub(crate) fn times(weight: i64, value: i64) -> i128
 /// sum + factor · value
 fn plus_times(sum: i128, factor: i128, value: i64) -> i128
     requires sum_size { unsigned_abs sum ≤ 2 ^ 120 }
-    requires factor_size { unsigned_abs factor ≤ 2 ^ 72 }
+    requires factor_size { unsigned_abs factor ≤ 2 ^ 75 }
     requires value_size { unsigned_abs value ≤ 2 ^ 38 }
     ensures { result ≡ sum +ℤ (factor *ℤ value) }
 {
     sum + factor * value as i128
+}
+
+/// Whether weight · value fits 64 bits, whatever the weight.
+fn is_short(value: i64) -> bool
+    ensures { IsTrue result → unsigned_abs value ≤ 2 ^ 30 }
+{
+    value.unsigned_abs() <= 1 << 30
+}
+
+/// weight · value
+fn short_times(weight: i64, value: i64) -> i64
+    requires weight_size { unsigned_abs weight ≤ 2 ^ 32 }
+    requires value_size { unsigned_abs value ≤ 2 ^ 30 }
+    ensures value { result ≡ weight *ℤ value }
+    ensures size { unsigned_abs result ≤ 2 ^ 62 }
+{
+    weight * value
+}
+
+/// sum + factor · value, by one multiplication in place of three.
+fn plus_short(sum: i128, factor: i64, value: i64) -> i128
+    requires sum_size { unsigned_abs sum ≤ 2 ^ 120 }
+    requires factor_size { unsigned_abs factor ≤ 2 ^ 62 }
+    requires value_size { unsigned_abs value ≤ 2 ^ 38 }
+    ensures { result ≡ sum +ℤ (factor *ℤ value) }
+{
+    sum + factor as i128 * value as i128
 }
 
 /// Adds factor · value to one entry.
@@ -31,7 +58,7 @@ fn plus_times(sum: i128, factor: i128, value: i64) -> i128
 fn add_to_entry(table: &mut NormalTable, row: usize, column: usize, factor: i128, value: i64)
     requires row_in { row < MOST_COLUMNS }
     requires column_in { column < MOST_COLUMNS }
-    requires factor_size { unsigned_abs factor ≤ 2 ^ 72 }
+    requires factor_size { unsigned_abs factor ≤ 2 ^ 75 }
     requires value_size { unsigned_abs value ≤ 2 ^ 38 }
     requires entry_size { unsigned_abs (entry table.old row column) ≤ 2 ^ 120 }
     ensures there { entry table.new row column ≡ entry table.old row column +ℤ (factor *ℤ value) }
@@ -52,7 +79,7 @@ fn add_to_row(
 )
     requires row_in { row < MOST_COLUMNS }
     requires columns { AreColumnsFrom row values.now columns.now }
-    requires factor_size { unsigned_abs factor ≤ 2 ^ 72 }
+    requires factor_size { unsigned_abs factor ≤ 2 ^ 75 }
     requires value_size { (j : ℕ) → j < MOST_COLUMNS → unsigned_abs (slice_index_or values.now j (pos 0)) ≤ 2 ^ 38 }
     requires entry_size { (j : ℕ) → row ≤ j → j < MOST_COLUMNS → unsigned_abs (entry table.old row j) ≤ 2 ^ 120 }
     ensures added { (j : ℕ) → row ≤ j → j < MOST_COLUMNS → entry table.new row j ≡ entry table.old row j +ℤ (factor *ℤ slice_index_or values.now j (pos 0)) }
@@ -60,6 +87,43 @@ fn add_to_row(
 {
     for column in columns {
         add_to_entry(table, row, *column, factor, values[*column]);
+    }
+}
+
+/// Adds factor · value to one entry, where the factor fits 64 bits.
+#[inline(always)]
+fn add_short_to_entry(table: &mut NormalTable, row: usize, column: usize, factor: i64, value: i64)
+    requires row_in { row < MOST_COLUMNS }
+    requires column_in { column < MOST_COLUMNS }
+    requires factor_size { unsigned_abs factor ≤ 2 ^ 62 }
+    requires value_size { unsigned_abs value ≤ 2 ^ 38 }
+    requires entry_size { unsigned_abs (entry table.old row column) ≤ 2 ^ 120 }
+    ensures there { entry table.new row column ≡ entry table.old row column +ℤ (factor *ℤ value) }
+    ensures others { (i j : ℕ) → (i ≢ row) ⊎ (j ≢ column) → entry table.new i j ≡ entry table.old i j }
+{
+    let sum = plus_short(table.at(row, column), factor, value);
+    table.set(row, column, sum);
+}
+
+/// Adds factor times the values to a row, from the diagonal on, where the factor fits 64 bits.
+#[inline(always)]
+fn add_short_to_row(
+    table: &mut NormalTable,
+    row: usize,
+    factor: i64,
+    values: &[i64; MOST_COLUMNS],
+    columns: &[usize],
+)
+    requires row_in { row < MOST_COLUMNS }
+    requires columns { AreColumnsFrom row values.now columns.now }
+    requires factor_size { unsigned_abs factor ≤ 2 ^ 62 }
+    requires value_size { (j : ℕ) → j < MOST_COLUMNS → unsigned_abs (slice_index_or values.now j (pos 0)) ≤ 2 ^ 38 }
+    requires entry_size { (j : ℕ) → row ≤ j → j < MOST_COLUMNS → unsigned_abs (entry table.old row j) ≤ 2 ^ 120 }
+    ensures added { (j : ℕ) → row ≤ j → j < MOST_COLUMNS → entry table.new row j ≡ entry table.old row j +ℤ (factor *ℤ slice_index_or values.now j (pos 0)) }
+    ensures others { (i j : ℕ) → i ≢ row → entry table.new i j ≡ entry table.old i j }
+{
+    for column in columns {
+        add_short_to_entry(table, row, *column, factor, values[*column]);
     }
 }
 
@@ -80,7 +144,12 @@ fn add_product_row(
     ensures added { (j : ℕ) → row ≤ j → j < MOST_COLUMNS → entry table.new row j ≡ entry table.old row j +ℤ ((weight *ℤ slice_index_or values.now row (pos 0)) *ℤ slice_index_or values.now j (pos 0)) }
     ensures others { (i j : ℕ) → i ≢ row → entry table.new i j ≡ entry table.old i j }
 {
-    add_to_row(table, row, times(weight, values[row]), values, columns);
+    let value = values[row];
+    if is_short(value) {
+        add_short_to_row(table, row, short_times(weight, value), values, columns);
+    } else {
+        add_to_row(table, row, times(weight, value), values, columns);
+    }
 }
 
 /// Adds weight · values · valuesᵀ on and above the diagonal, in the columns of the values.

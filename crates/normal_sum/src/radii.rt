@@ -1,16 +1,13 @@
 //! The weighted squares of the radii of the rows.
-ghost use Rattle.std.specs.Prelude.{◌≡◌, ℕ, ◌+◌, ◌*◌, ◌^◌, ◌<◌, ◌≤◌, List, ◌+ℤ◌, ◌*ℤ◌, ◌≤ℤ◌, pos, length, map};
+ghost use Rattle.std.specs.Prelude.{◌≡◌, ℕ, ◌+◌, ◌*◌, ◌^◌, ◌≤◌, List, ℤ, ◌+ℤ◌, ◌*ℤ◌, ◌≤ℤ◌, pos, length, map};
 ghost use Rattle.quadratic_form.specs.Rows.{add_radii, row_radii};
 ghost use Rattle.obs_rows.specs.declared.arcs.Arc.{Arc};
-ghost use Rattle.obs_rows.specs.Data.{number_at};
-ghost use Rattle.obs_rows.specs.Signals.{weight};
 ghost use Rattle.obs_rows.specs.SignalGroups.{signal_row};
 ghost use Rattle.normal_sum.specs.RadiusSums.{radii_of, IsAtMost, squares_of};
 
 use crate::places::MOST_ROWS;
 use crate::products::times;
-use crate::signals::row_weight;
-use obs_rows::{Row, SIGNALS};
+use obs_rows::Row;
 
 /// Sums of weighted squares of the radii of the three directions and of the observations.
 #[derive(Clone, Copy)]
@@ -35,12 +32,12 @@ fn square(radius: i64) -> i64
 /// weight · radius²
 fn weighted_square(weight: i64, radius: i64) -> i128
     requires weight_from { pos 0 ≤ℤ weight }
-    requires weight_to { weight ≤ℤ pos (2 ^ 32) }
+    requires weight_to { weight ≤ℤ pos (2 ^ 35) }
     requires from { pos 0 ≤ℤ radius }
     requires to { radius ≤ℤ pos (2 ^ 20) }
     ensures value { result ≡ weight *ℤ (radius *ℤ radius) }
     ensures from { pos 0 ≤ℤ result }
-    ensures to { result ≤ℤ pos (2 ^ 72) }
+    ensures to { result ≤ℤ pos (2 ^ 75) }
 {
     times(weight, square(radius))
 }
@@ -50,12 +47,12 @@ fn plus_square(sum: i128, weight: i64, radius: i64) -> i128
     requires sum_from { pos 0 ≤ℤ sum }
     requires sum_to { sum ≤ℤ pos (2 ^ 110) }
     requires weight_from { pos 0 ≤ℤ weight }
-    requires weight_to { weight ≤ℤ pos (2 ^ 32) }
+    requires weight_to { weight ≤ℤ pos (2 ^ 35) }
     requires from { pos 0 ≤ℤ radius }
     requires to { radius ≤ℤ pos (2 ^ 20) }
     ensures value { result ≡ sum +ℤ (weight *ℤ (radius *ℤ radius)) }
     ensures from { pos 0 ≤ℤ result }
-    ensures to { result ≤ℤ (sum +ℤ pos (2 ^ 72)) }
+    ensures to { result ≤ℤ (sum +ℤ pos (2 ^ 75)) }
 {
     sum + weighted_square(weight, radius)
 }
@@ -63,10 +60,10 @@ fn plus_square(sum: i128, weight: i64, radius: i64) -> i128
 /// The sums with one row more.
 fn add_row(sums: RadiusSums, row: &Row, weight: i64) -> RadiusSums
     requires weight_from { pos 0 ≤ℤ weight }
-    requires weight_to { weight ≤ℤ pos (2 ^ 32) }
+    requires weight_to { weight ≤ℤ pos (2 ^ 35) }
     requires sums { IsAtMost (2 ^ 110) sums }
     ensures value { radii_of result ≡ add_radii (radii_of sums) (squares_of weight row.now) }
-    ensures size { (m : ℕ) → IsAtMost m sums → IsAtMost (m + 2 ^ 72) result }
+    ensures size { (m : ℕ) → IsAtMost m sums → IsAtMost (m + 2 ^ 75) result }
 {
     RadiusSums {
         u1: plus_square(sums.u1, weight, row.ru[0]),
@@ -76,17 +73,18 @@ fn add_row(sums: RadiusSums, row: &Row, weight: i64) -> RadiusSums
     }
 }
 
-/// The sums with the rows of a pair more, as one signal weighs them.
-pub(crate) fn add_radii_of(start: RadiusSums, rows: &[Row], signal: usize) -> RadiusSums
+/// The sums with the rows of a pair more, at this weight.
+pub(crate) fn add_radii_of(start: RadiusSums, rows: &[Row], weight: i64) -> RadiusSums
     requires few_rows { length rows.now ≤ MOST_ROWS }
-    requires signal { signal < SIGNALS }
-    requires sums { IsAtMost (2 ^ 100) start }
-    ensures value { (arcs : List Arc) (ss : List ℕ) → radii_of result ≡ add_radii (radii_of start) (row_radii (weight signal) (map (signal_row arcs ss signal) rows.now)) }
-    ensures size { (m : ℕ) → IsAtMost m start → IsAtMost (m + (MOST_ROWS * 2 ^ 72)) result }
+    requires weight_from { pos 0 ≤ℤ weight }
+    requires weight_to { weight ≤ℤ pos (2 ^ 35) }
+    requires sums { IsAtMost (2 ^ 99) start }
+    ensures value { (w : ℤ) (arcs : List Arc) (ss : List ℕ) (s : ℕ) → weight ≡ pos 360360 *ℤ w → radii_of result ≡ add_radii (radii_of start) (row_radii w (map (signal_row arcs ss s) rows.now)) }
+    ensures size { (m : ℕ) → IsAtMost m start → IsAtMost (m + (MOST_ROWS * 2 ^ 75)) result }
 {
     let mut sums = start;
     for row in rows {
-        sums = add_row(sums, row, row_weight(signal));
+        sums = add_row(sums, row, weight);
     }
     sums
 }

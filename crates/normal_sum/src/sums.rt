@@ -1,7 +1,6 @@
 //! The normal matrix of one pair's rows and of a session.
-ghost use Rattle.std.specs.Prelude.{◌≡◌, ◌∷◌, [], ◌≤◌, length, All};
+ghost use Rattle.std.specs.Prelude.{◌∷◌, [], ◌≤◌, length, All};
 ghost use Rattle.obs_rows.specs.Arcs.{free_count};
-ghost use Rattle.form_tables.specs.Tables.{HasShape};
 ghost use Rattle.obs_rows.specs.Pairs.{HasItsArcs};
 ghost use Rattle.obs_rows.specs.Signals.{AreCounted, counted};
 ghost use Rattle.normal_sum.specs.Normals.{IsNormalOf};
@@ -14,15 +13,6 @@ use crate::radii::RadiusSums;
 use form_tables::{BASELINE_COLUMNS, MOST_COLUMNS, NormalTable};
 use obs_rows::{Arc, MOST_FREE_ARCS, PairRows, Session, Signals, counted_signals, integer_count};
 use std::slice;
-
-/// The same table. Every table has the shape that a read of it tells.
-fn shaped(table: NormalTable) -> NormalTable
-    ensures same { result ≡ table }
-    ensures shape { HasShape MOST_COLUMNS MOST_COLUMNS table }
-{
-    let _first = table.at(0, 0);
-    table
-}
 
 /// The sums over all these pairs.
 fn sum_pairs(arcs: &[Arc], signals: &[usize], pairs: &[PairRows]) -> Normal
@@ -45,11 +35,12 @@ fn sum_pairs(arcs: &[Arc], signals: &[usize], pairs: &[PairRows]) -> Normal
         radii = add_pair_radii(radii, signals, pair);
     }
     mirror(&mut table);
-    let c = shaped(table);
+    // Every table has the shape that a read of it tells.
+    let _first = table.at(0, 0);
     let r = [radii.u1, radii.u2, radii.u3, radii.y];
     Normal {
         columns: BASELINE_COLUMNS + integers + 1,
-        c,
+        c: table,
         r,
     }
 }

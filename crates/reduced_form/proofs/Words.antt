@@ -2,22 +2,23 @@
 use Rattle.std.proofs.Common.{◌≡◌, ℕ, ◌+◌, ◌*◌, ◌^◌, ◌<◌, ◌≤◌, ℤ, ◌+ℤ◌, unsigned_abs, arith, to_z, of_z}
 use Rattle.std.proofs.lemmas.Int.{ints}
 use Rattle.std.specs.Int.{w64, w128}
+use Rattle.whole_math.proofs.Words.{as_w64}
 use Rattle.form_tables.specs.declared.sizes.TheConstants.{MOST_FORM_COLUMNS}
 
 pub map_word : (x : ℤ) → unsigned_abs x ≤ 2 ^ 30 → to_z w64 (of_z w64 x) ≡ x
-map_word x h = omega (arith, ints)
+map_word x small = as_w64 x (omega (arith, small))
 
 pub form_word : (x : ℤ) → unsigned_abs x < 2 ^ 52 → to_z w64 (of_z w64 x) ≡ x
-form_word x h = omega (arith, ints)
+form_word x narrow = as_w64 x (omega (arith, narrow))
 
 pub sum_word : (x y : ℤ) (c : ℕ) → c < MOST_FORM_COLUMNS → unsigned_abs x ≤ c * 2 ^ 82 → unsigned_abs y ≤ 2 ^ 82 → to_z w128 (of_z w128 (x +ℤ y)) ≡ x +ℤ y
-sum_word x y c h g k = omega (arith, ints)
+sum_word x y c inside first second = omega (arith, ints)
 
 pub sum_size : (x y : ℤ) (c : ℕ) → unsigned_abs x ≤ c * 2 ^ 82 → unsigned_abs y ≤ 2 ^ 82 → unsigned_abs (x +ℤ y) ≤ (c + 1) * 2 ^ 82
-sum_size x y c g k = omega (arith, ints)
+sum_size x y c first second = omega (arith, ints)
 
 pub wide_sum_word : (x y : ℤ) (c : ℕ) → c < MOST_FORM_COLUMNS → unsigned_abs x ≤ c * 2 ^ 118 → unsigned_abs y ≤ 2 ^ 118 → to_z w128 (of_z w128 (x +ℤ y)) ≡ x +ℤ y
-wide_sum_word x y c h g k = omega (arith, ints)
+wide_sum_word x y c inside first second = omega (arith, ints)
 
 pub wide_sum_size : (x y : ℤ) (c : ℕ) → unsigned_abs x ≤ c * 2 ^ 118 → unsigned_abs y ≤ 2 ^ 118 → unsigned_abs (x +ℤ y) ≤ (c + 1) * 2 ^ 118
-wide_sum_size x y c g k = omega (arith, ints)
+wide_sum_size x y c first second = omega (arith, ints)

@@ -1,5 +1,5 @@
 //! The matrix of a form times a map.
-ghost use Rattle.std.specs.Prelude.{◌≡◌, ◌≢◌, ℕ, ◌+◌, ◌*◌, ◌^◌, ◌<◌, ◌≤◌, unsigned_abs};
+ghost use Rattle.std.specs.Prelude.{◌≡◌, ◌≢◌, ℕ, ◌+◌, ◌^◌, ◌<◌, ◌≤◌, unsigned_abs};
 ghost use Rattle.form_tables.specs.Tables.{entry};
 ghost use Rattle.form_tables.specs.declared.sizes.TheConstants.{MOST_INTEGERS};
 ghost use Rattle.form_tables.specs.Matrices.{EntriesBelow};
@@ -55,17 +55,15 @@ fn write_half_row(halves: &mut NormalTable, p: &FormTable, map: &MapTable, n: us
     }
 }
 
-/// The matrix times the map.
-pub(crate) fn halves(p: &FormTable, map: &MapTable, n: usize) -> NormalTable
+/// Writes the matrix times the map.
+pub(crate) fn write_halves(halves: &mut NormalTable, p: &FormTable, map: &MapTable, n: usize)
     requires size { n ≤ MOST_INTEGERS }
     requires form { EntriesBelow (2 ^ 52) p.now }
     requires map { EntriesBelow (2 ^ 30) map.now }
-    ensures value { (a j : ℕ) → a < n + 1 → j < n + 1 → entry result a j ≡ half_entry n (entry map.now) (entry p.now) a j }
-    ensures sizes { (a j : ℕ) → a < n + 1 → j < n + 1 → unsigned_abs (entry result a j) ≤ 2 ^ 88 }
+    ensures value { (a j : ℕ) → a < n + 1 → j < n + 1 → entry halves.new a j ≡ half_entry n (entry map.now) (entry p.now) a j }
+    ensures sizes { (a j : ℕ) → a < n + 1 → j < n + 1 → unsigned_abs (entry halves.new a j) ≤ 2 ^ 88 }
 {
-    let mut halves = NormalTable::zeros();
     for a in 0..n + 1 {
-        write_half_row(&mut halves, p, map, n, a);
+        write_half_row(halves, p, map, n, a);
     }
-    halves
 }

@@ -1,5 +1,5 @@
 //! The fronts of single pairs.
-ghost use Rattle.std.specs.Prelude.{◌≡◌, ◌⊎◌, ℕ, ◌-◌, ◌<◌, ◌≤◌, ◌∷◌, [], length, All, IfOk, IfErr, get_or};
+ghost use Rattle.std.specs.Prelude.{◌≡◌, ℕ, ◌-◌, ◌<◌, ◌≤◌, ◌∷◌, [], length, All, IfOk, IfErr, get_or};
 ghost use Rattle.obs_rows.specs.declared.pair_rows.PairRows.{PairRows};
 ghost use Rattle.obs_rows.specs.declared.units.TheConstants.{MOST_FREE_ARCS};
 ghost use Rattle.obs_rows.specs.Arcs.{free_count};

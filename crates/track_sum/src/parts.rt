@@ -1,5 +1,5 @@
 //! What the front of one pair adds to the form of a track, entry by entry.
-ghost use Rattle.std.specs.Prelude.{◌≡◌, ◌≢◌, ℕ, ◌+◌, ◌-◌, ◌*◌, ◌^◌, ◌<◌, ◌≤◌, pos, ◌+ℤ◌, ◌-ℤ◌, unsigned_abs};
+ghost use Rattle.std.specs.Prelude.{◌≡◌, ℕ, ◌+◌, ◌-◌, ◌*◌, ◌^◌, ◌<◌, ◌≤◌, pos, ◌-ℤ◌, unsigned_abs};
 ghost use Rattle.whole_math.specs.Rounding.{floor_div, nearest_div};
 ghost use Rattle.form_tables.specs.Tables.{entry};
 ghost use Rattle.form_tables.specs.declared.sizes.TheConstants.{MOST_FORM_COLUMNS};

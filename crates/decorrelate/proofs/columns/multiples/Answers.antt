@@ -1,21 +1,13 @@
 use Rattle.std.proofs.Common.{◌≡◌, ℕ, ◌+◌, ◌*◌, ◌^◌, ◌<◌, ◌≤◌, ℤ, pos, ◌+ℤ◌, ◌*ℤ◌, unsigned_abs, arith, to_z, of_z, ap, ap₂, sym, ◌∙◌, subst}
 use Rattle.std.proofs.lemmas.Int.{ints}
 use Rattle.std.specs.Int.{w64, w128}
-use Rattle.form_tables.specs.Tables.{entry}
+use Rattle.form_tables.specs.Tables.{entry, item}
 use Rattle.form_tables.specs.declared.sizes.TheConstants.{MOST_FORM_COLUMNS}
-use Rattle.decorrelate.specs.States.{item}
 use Rattle.decorrelate.specs.Moving.{taken}
+use Rattle.whole_math.proofs.Words.{as_w128}
+use Rattle.decorrelate.proofs.Words.{small_w64, multiple_w64}
 use Rattle.decorrelate.proofs.MovedRows.{taken_more}
 use Rattle.decorrelate.proofs.columns.multiples.Goals as goal
-
-as_multiple : (x : ℤ) → unsigned_abs x ≤ 2 ^ 33 → to_z w64 (of_z w64 x) ≡ x
-as_multiple x h = omega (arith, ints)
-
-as_small : (x : ℤ) → unsigned_abs x < 2 ^ 30 → to_z w64 (of_z w64 x) ≡ x
-as_small x h = omega (arith, ints)
-
-as_product : (x : ℤ) → unsigned_abs x ≤ 2 ^ 63 → to_z w128 (of_z w128 x) ≡ x
-as_product x h = omega (arith, ints)
 
 as_sum : (x y : ℤ) (c : ℕ) → c < MOST_FORM_COLUMNS → unsigned_abs x ≤ c * 2 ^ 63 → unsigned_abs y ≤ 2 ^ 63 → to_z w128 (of_z w128 (x +ℤ y)) ≡ x +ℤ y
 as_sum x y c h g k = omega (arith, ints)
@@ -27,9 +19,9 @@ pub loop-c-preserved : goal.loop-c-preserved
 loop-c-preserved c =
     let i : ℕ = c.loop-c.c in
     let s : ℤ = to_z w128 c.loop-c.sum-bits in
-    let ek : to_z w64 (of_z w64 (item c.args.ks.now i)) ≡ item c.args.ks.now i = as_multiple (item c.args.ks.now i) (c.requires.ks_size i (omega arith)) in
-    let em : to_z w64 (of_z w64 (entry c.args.map.now c.args.row i)) ≡ entry c.args.map.now c.args.row i = as_small (entry c.args.map.now c.args.row i) (c.requires.small i) in
-    let wp : to_z w128 (of_z w128 c.product-sum.result) ≡ c.product-sum.result = as_product c.product-sum.result c.product-sum.ensures.size in
+    let ek : to_z w64 (of_z w64 (item c.args.ks.now i)) ≡ item c.args.ks.now i = multiple_w64 (item c.args.ks.now i) (c.requires.ks_size i (omega arith)) in
+    let em : to_z w64 (of_z w64 (entry c.args.map.now c.args.row i)) ≡ entry c.args.map.now c.args.row i = small_w64 (entry c.args.map.now c.args.row i) (c.requires.small i) in
+    let wp : to_z w128 (of_z w128 c.product-sum.result) ≡ c.product-sum.result = as_w128 c.product-sum.result (omega (arith, c.product-sum.ensures.size)) in
     let ws : to_z w128 (of_z w128 (s +ℤ to_z w128 (of_z w128 c.product-sum.result))) ≡ s +ℤ c.product-sum.result =
     ap (λ z. to_z w128 (of_z w128 (s +ℤ z))) wp ∙ as_sum s c.product-sum.result i (omega (arith, c.requires.place)) c.loop-c.invariant.size c.product-sum.ensures.size in
     let v : c.product-sum.result ≡ item c.args.ks.now i *ℤ entry c.args.map.now c.args.row i = rw (c.at.ensures.value, ek, em) at c.product-sum.ensures.value in

@@ -3,8 +3,9 @@ use Rattle.std.proofs.lemmas.Int.{ints}
 use Rattle.std.specs.Int.{w64, w128}
 use Rattle.quadratic_form.specs.Elimination.{steps}
 use Rattle.quadratic_form.specs.Places.{form_from}
-use Rattle.form_tables.specs.declared.sizes.TheConstants.{BASELINE_COLUMNS, MOST_COLUMNS}
-use Rattle.form_tables.specs.Tables.{entry, IsZeroOutside}
+use Rattle.form_tables.specs.declared.sizes.TheConstants.{BASELINE_COLUMNS, MOST_COLUMNS, MOST_FACTORS}
+use Rattle.form_tables.specs.Tables.{entry, zero_rows, IsZeroOutside}
+use Rattle.form_tables.proofs.TableLaws.{zero_entry}
 use Rattle.integer_form.specs.declared.front_form.FrontForm.{FrontForm}
 use Rattle.integer_form.specs.Factors.{stored}
 use Rattle.integer_form.specs.Kept.{form_of_table, IsZeroFrom}
@@ -26,15 +27,21 @@ facts r d d' l l' t t' x a b e f g h i j k = subst (λ (z : ℤ). Finished r.col
     (record { from = r.columns_from; to = r.columns_to; front_in = r.factors_in; front_outside = r.factors_outside; factors_same = a; factors_zero = b; kept_same = e; kept_zero = f })
     (record { factors = g; kept = h }) r.entries_in i j)
 
+-- the factors of the baseline's columns stand in a table of zeros
+outside : (zeros l : List (List ℤ)) → zeros ≡ zero_rows MOST_COLUMNS MOST_FACTORS → ((i c : ℕ) → (MOST_COLUMNS ≤ i) ⊎ (BASELINE_COLUMNS ≤ c) → entry l i c ≡ entry zeros i c) →
+    IsZeroOutside MOST_COLUMNS BASELINE_COLUMNS l
+outside zeros l are others i c past = others i c past ∙ ap (λ (t : List (List ℤ)). entry t i c) are ∙ zero_entry MOST_COLUMNS MOST_FACTORS i c
+
 word : (x : ℤ) → unsigned_abs x < 2 ^ 52 → to_z w64 (of_z w64 (to_z w128 (of_z w128 x))) ≡ x
 word x h = ap (λ z. to_z w64 (of_z w64 z)) (as_w128 x (omega (arith, h))) ∙ as_w64 x (omega (arith, h))
 
 pub overflow_cast-result : goal.overflow_cast-result
 overflow_cast-result c =
     let f : Finished c.args.front.now.columns c.args.front.now.d c.args.front.now.l c.args.front.now.p c.take_steps.new.kept c.take_steps.new.factors c.at.result =
-    facts c.args.front.now c.kept_list-d.result c.take_steps.new.kept c.factor_table-l.result c.take_steps.new.factors c.normal_table-table.result c.take_steps.new.table c.at.result
-    c.factor_table-l.ensures.same c.factor_table-l.ensures.outside c.kept_list-d.ensures.same c.kept_list-d.ensures.outside c.take_steps.ensures.factors_outside
-    c.take_steps.ensures.kept_outside c.normal_table-table.ensures.form c.in-Ok.ensures.taken c.at.ensures.value in
+    facts c.args.front.now c.kept_list-d.result c.take_steps.new.kept c.put_factors.new.factors c.take_steps.new.factors c.put_form.new.table c.take_steps.new.table c.at.result
+    c.put_factors.ensures.same (outside c.zeros-l.result c.put_factors.new.factors c.zeros-l.ensures.zeros c.put_factors.ensures.others)
+    c.kept_list-d.ensures.same c.kept_list-d.ensures.outside c.take_steps.ensures.factors_outside
+    c.take_steps.ensures.kept_outside c.put_form.ensures.form c.in-Ok.ensures.taken c.at.ensures.value in
     let w : to_z w128 (of_z w128 c.at.result) ≡ c.at.result = as_w128 c.at.result (omega (arith, f.last)) in
     rw w (omega (arith, ints, f.last))
 
@@ -42,9 +49,10 @@ pub invariant_of-result : goal.invariant_of-result
 invariant_of-result c =
     let r : FrontForm = c.args.front.now in
     let f : Finished c.args.front.now.columns c.args.front.now.d c.args.front.now.l c.args.front.now.p c.take_steps.new.kept c.take_steps.new.factors c.at.result =
-    facts c.args.front.now c.kept_list-d.result c.take_steps.new.kept c.factor_table-l.result c.take_steps.new.factors c.normal_table-table.result c.take_steps.new.table c.at.result
-    c.factor_table-l.ensures.same c.factor_table-l.ensures.outside c.kept_list-d.ensures.same c.kept_list-d.ensures.outside c.take_steps.ensures.factors_outside
-    c.take_steps.ensures.kept_outside c.normal_table-table.ensures.form c.in-Ok.ensures.taken c.at.ensures.value in
+    facts c.args.front.now c.kept_list-d.result c.take_steps.new.kept c.put_factors.new.factors c.take_steps.new.factors c.put_form.new.table c.take_steps.new.table c.at.result
+    c.put_factors.ensures.same (outside c.zeros-l.result c.put_factors.new.factors c.zeros-l.ensures.zeros c.put_factors.ensures.others)
+    c.kept_list-d.ensures.same c.kept_list-d.ensures.outside c.take_steps.ensures.factors_outside
+    c.take_steps.ensures.kept_outside c.put_form.ensures.form c.in-Ok.ensures.taken c.at.ensures.value in
     let g : Finished c.args.front.now.columns c.args.front.now.d c.args.front.now.l c.args.front.now.p c.take_steps.new.kept c.take_steps.new.factors
     (to_z w64 (of_z w64 (to_z w128 (of_z w128 c.at.result)))) =
     subst (λ (z : ℤ). Finished c.args.front.now.columns c.args.front.now.d c.args.front.now.l c.args.front.now.p c.take_steps.new.kept c.take_steps.new.factors z) (sym (word c.at.result f.last)) f in
@@ -65,9 +73,10 @@ invariant_of-result c =
 pub returns-in-Ok-clause-finished : goal.returns-in-Ok-clause-finished
 returns-in-Ok-clause-finished c =
     let f : Finished c.args.front.now.columns c.args.front.now.d c.args.front.now.l c.args.front.now.p c.take_steps.new.kept c.take_steps.new.factors c.at.result =
-    facts c.args.front.now c.kept_list-d.result c.take_steps.new.kept c.factor_table-l.result c.take_steps.new.factors c.normal_table-table.result c.take_steps.new.table c.at.result
-    c.factor_table-l.ensures.same c.factor_table-l.ensures.outside c.kept_list-d.ensures.same c.kept_list-d.ensures.outside c.take_steps.ensures.factors_outside
-    c.take_steps.ensures.kept_outside c.normal_table-table.ensures.form c.in-Ok.ensures.taken c.at.ensures.value in
+    facts c.args.front.now c.kept_list-d.result c.take_steps.new.kept c.put_factors.new.factors c.take_steps.new.factors c.put_form.new.table c.take_steps.new.table c.at.result
+    c.put_factors.ensures.same (outside c.zeros-l.result c.put_factors.new.factors c.zeros-l.ensures.zeros c.put_factors.ensures.others)
+    c.kept_list-d.ensures.same c.kept_list-d.ensures.outside c.take_steps.ensures.factors_outside
+    c.take_steps.ensures.kept_outside c.put_form.ensures.form c.in-Ok.ensures.taken c.at.ensures.value in
     let g : Finished c.args.front.now.columns c.args.front.now.d c.args.front.now.l c.args.front.now.p c.take_steps.new.kept c.take_steps.new.factors
     (to_z w64 (of_z w64 (to_z w128 (of_z w128 c.at.result)))) =
     subst (λ (z : ℤ). Finished c.args.front.now.columns c.args.front.now.d c.args.front.now.l c.args.front.now.p c.take_steps.new.kept c.take_steps.new.factors z) (sym (word c.at.result f.last)) f in

@@ -1,6 +1,7 @@
 use Rattle.std.proofs.Common.{◌≡◌, ℕ, ◌+◌, ◌<◌, length}
 use Rattle.form_tables.specs.declared.sizes.TheConstants.{MOST_FACTORS}
-use Rattle.decorrelate.specs.States.{item, IsWeight}
+use Rattle.form_tables.specs.Tables.{item}
+use Rattle.decorrelate.specs.States.{IsWeight}
 use Rattle.form_examples.proofs.decorrelate_tests.drawn_weights.Given as goal
 
 abbrev pub invariant-loop-i : goal.invariant-loop-i

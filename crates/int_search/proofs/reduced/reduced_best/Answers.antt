@@ -16,17 +16,25 @@ use Rattle.int_search.specs.ReducedCounts.{HasCountIn, HasReducedCount}
 use Rattle.int_search.proofs.ReducedLaws.{IsDecorrelated, reduced_can, reduced_found, reduced_visits, reduced_fault, count_as}
 use Rattle.int_search.proofs.reduced.reduced_best.Goals as goal
 
-integers : (f : Form) → 4 < f.columns → (f.columns - 3) - 1 ≡ integers_of f
-integers f h = omega arith
+-- the map is the one that the reduction of the form leaves
+record IsReductionOf (f : Form) (u : Unimodular) : Type 0 where
+  size : u.size ≡ integers_of f
+  reduced : IsReduced (integers_of f) f.d f.l u
+
+reduction_of : (f : Form) (u : Unimodular) → 4 < f.columns → u.size ≡ (f.columns - 3) - 1 → IsReduced ((f.columns - 3) - 1) f.d f.l u → IsReductionOf f u
+reduction_of f u some size reduced = record { size = size ∙ count; reduced = subst (λ (k : ℕ). IsReduced k f.d f.l u) count reduced }
+  where
+    count : (f.columns - 3) - 1 ≡ integers_of f
+    count = omega arith
 
 fewer : (a b n : ℕ) → a ≡ b → b ≡ n + 4 → a - 4 ≡ n
-fewer a b n e g = omega arith
+fewer a b n same count = omega arith
 
 more : (f : Form) (a b : ℕ) → 4 < f.columns → a ≡ b → b ≡ integers_of f + 4 → 4 < a
-more f a b h e g = omega arith
+more f a b some same count = omega arith
 
 apart : (p : List Factor × List Column) (r : Refusal) → (let x : Result (List Factor × List Column) Refusal = Ok p in x) ≡ Err r → ⊥
-apart p r e = cc
+apart p r same = cc
 
 -- the steps of the front are those of the form in the coordinates of the map
 same_steps : (n : ℕ) (map p : List (List ℤ)) (r : FrontForm) → IsTransformed n map p r → finish_of r ≡ steps 3 n (transformed_form n map p)
@@ -48,77 +56,64 @@ count f n u r h = count_as f n h.change.map u.map (λ i k a b. (reduced_same (in
 
 pub returns-in_default-clause-found : goal.returns-in_default-clause-found
 returns-in_default-clause-found c =
-    let f : Form = c.args.form.now in
-    let u : Unimodular = c.reduce-change.result in
-    let e : (f.columns - 3) - 1 ≡ integers_of f = integers f c.requires in
-    let size : u.size ≡ integers_of f = c.reduce-change.ensures.size ∙ e in
-    let red : IsReduced (integers_of f) f.d f.l u = subst (λ (k : ℕ). IsReduced k f.d f.l u) e c.reduce-change.ensures.reduced in
-    λ h. c.in_default.ensures.form (count f c.args.budget u red h).small
+    let change : IsReductionOf c.args.form.now c.reduce-change.result =
+    reduction_of c.args.form.now c.reduce-change.result c.requires c.reduce-change.ensures.size c.reduce-change.ensures.reduced in
+    λ counted. c.in_default.ensures.form (count c.args.form.now c.args.budget c.reduce-change.result change.reduced counted).small
 
 pub returns-in_default-finish-clause-found : goal.returns-in_default-finish-clause-found
 returns-in_default-finish-clause-found c =
+    let change : IsReductionOf c.args.form.now c.reduce-change.result =
+    reduction_of c.args.form.now c.reduce-change.result c.requires c.reduce-change.ensures.size c.reduce-change.ensures.reduced in
     let f : Form = c.args.form.now in
     let u : Unimodular = c.reduce-change.result in
-    let e : (f.columns - 3) - 1 ≡ integers_of f = integers f c.requires in
-    let size : u.size ≡ integers_of f = c.reduce-change.ensures.size ∙ e in
-    let red : IsReduced (integers_of f) f.d f.l u = subst (λ (k : ℕ). IsReduced k f.d f.l u) e c.reduce-change.ensures.reduced in
-    let t : IsTransformed (integers_of f) u.map f.p c.in-Some.front = c.in-Some.ensures.form in
-    λ h.
-    let k : HasCountIn f c.args.budget u.map = count f c.args.budget u red h in
-    let w = c.in_default-finish.ensures.refused in
-    apart (k.factors, constant_form k.g) w.0 (sym (same_steps (integers_of f) u.map f.p c.in-Some.front t ∙ k.taken) ∙ w.1.0)
+    λ counted.
+    let k : HasCountIn f c.args.budget u.map = count f c.args.budget u change.reduced counted in
+    let told = c.in_default-finish.ensures.refused in
+    apart (k.factors, constant_form k.g) told.0 (sym (same_steps (integers_of f) u.map f.p c.in-Some.front c.in-Some.ensures.form ∙ k.taken) ∙ told.1.0)
 
 pub search-requires : goal.search-requires
 search-requires c =
-    let f : Form = c.args.form.now in
+    let change : IsReductionOf c.args.form.now c.reduce-change.result =
+    reduction_of c.args.form.now c.reduce-change.result c.requires c.reduce-change.ensures.size c.reduce-change.ensures.reduced in
+    let form : IsDecorrelated c.args.form.now c.in-Ok.reduced c.reduce-change.result =
+    decorrelated_is c.args.form.now c.in-Ok.reduced c.in-Some.front c.reduce-change.result c.requires change.size c.at.ensures.shape.rows c.in-Some.ensures.form c.in-Ok.ensures.finished in
     let u : Unimodular = c.reduce-change.result in
-    let e : (f.columns - 3) - 1 ≡ integers_of f = integers f c.requires in
-    let size : u.size ≡ integers_of f = c.reduce-change.ensures.size ∙ e in
-    let red : IsReduced (integers_of f) f.d f.l u = subst (λ (k : ℕ). IsReduced k f.d f.l u) e c.reduce-change.ensures.reduced in
-    let t : IsTransformed (integers_of f) u.map f.p c.in-Some.front = c.in-Some.ensures.form in
-    let fin : IsFinishOf c.in-Some.front c.in-Ok.reduced = c.in-Ok.ensures.finished in
-    let d : IsDecorrelated f c.in-Ok.reduced u = decorrelated_is f c.in-Ok.reduced c.in-Some.front u c.requires size c.at.ensures.shape.rows t fin in
-    reduced_can c.in-Ok.reduced u.map u.back (more f c.in-Ok.reduced.columns c.in-Some.front.columns c.requires fin.columns t.columns) (record { shape = c.at.ensures.shape; entries = u.map_small })
-    (subst (λ (k : ℕ). Undoes k u.back u.map) (size ∙ sym d.integers) u.one_to_one)
+    reduced_can c.in-Ok.reduced u.map u.back
+    (more c.args.form.now c.in-Ok.reduced.columns c.in-Some.front.columns c.requires c.in-Ok.ensures.finished.columns c.in-Some.ensures.form.columns)
+    (record { shape = c.at.ensures.shape; entries = u.map_small }) (subst (λ (k : ℕ). Undoes k u.back u.map) (change.size ∙ sym form.integers) u.one_to_one)
 
 pub returns-in-Ok-search-clause-found : goal.returns-in-Ok-search-clause-found
 returns-in-Ok-search-clause-found c =
-    let f : Form = c.args.form.now in
-    let u : Unimodular = c.reduce-change.result in
-    let e : (f.columns - 3) - 1 ≡ integers_of f = integers f c.requires in
-    let size : u.size ≡ integers_of f = c.reduce-change.ensures.size ∙ e in
-    let red : IsReduced (integers_of f) f.d f.l u = subst (λ (k : ℕ). IsReduced k f.d f.l u) e c.reduce-change.ensures.reduced in
-    let t : IsTransformed (integers_of f) u.map f.p c.in-Some.front = c.in-Some.ensures.form in
-    let fin : IsFinishOf c.in-Some.front c.in-Ok.reduced = c.in-Ok.ensures.finished in
-    let d : IsDecorrelated f c.in-Ok.reduced u = decorrelated_is f c.in-Ok.reduced c.in-Some.front u c.requires size c.at.ensures.shape.rows t fin in
-    reduced_found f c.in-Ok.reduced u c.args.budget c.in-Ok-search.best d c.in-Ok-search.ensures
+    let change : IsReductionOf c.args.form.now c.reduce-change.result =
+    reduction_of c.args.form.now c.reduce-change.result c.requires c.reduce-change.ensures.size c.reduce-change.ensures.reduced in
+    let form : IsDecorrelated c.args.form.now c.in-Ok.reduced c.reduce-change.result =
+    decorrelated_is c.args.form.now c.in-Ok.reduced c.in-Some.front c.reduce-change.result c.requires change.size c.at.ensures.shape.rows c.in-Some.ensures.form c.in-Ok.ensures.finished in
+    reduced_found c.args.form.now c.in-Ok.reduced c.reduce-change.result c.args.budget c.in-Ok-search.best form c.in-Ok-search.ensures
 
 pub returns-in-Ok-search-clause-visits : goal.returns-in-Ok-search-clause-visits
 returns-in-Ok-search-clause-visits c =
+    let change : IsReductionOf c.args.form.now c.reduce-change.result =
+    reduction_of c.args.form.now c.reduce-change.result c.requires c.reduce-change.ensures.size c.reduce-change.ensures.reduced in
+    let form : IsDecorrelated c.args.form.now c.in-Ok.reduced c.reduce-change.result =
+    decorrelated_is c.args.form.now c.in-Ok.reduced c.in-Some.front c.reduce-change.result c.requires change.size c.at.ensures.shape.rows c.in-Some.ensures.form c.in-Ok.ensures.finished in
     let f : Form = c.args.form.now in
     let u : Unimodular = c.reduce-change.result in
-    let e : (f.columns - 3) - 1 ≡ integers_of f = integers f c.requires in
-    let size : u.size ≡ integers_of f = c.reduce-change.ensures.size ∙ e in
-    let red : IsReduced (integers_of f) f.d f.l u = subst (λ (k : ℕ). IsReduced k f.d f.l u) e c.reduce-change.ensures.reduced in
-    let t : IsTransformed (integers_of f) u.map f.p c.in-Some.front = c.in-Some.ensures.form in
-    let fin : IsFinishOf c.in-Some.front c.in-Ok.reduced = c.in-Ok.ensures.finished in
-    let d : IsDecorrelated f c.in-Ok.reduced u = decorrelated_is f c.in-Ok.reduced c.in-Some.front u c.requires size c.at.ensures.shape.rows t fin in
     record {
       change = u;
-      reduced = red;
-      visits = reduced_visits f c.in-Ok.reduced u c.args.budget c.in-Ok-search.best d (sym (same_steps (integers_of f) u.map f.p c.in-Some.front t) ∙ fin.taken) c.in-Ok-search.ensures;
+      reduced = change.reduced;
+      visits = reduced_visits f c.in-Ok.reduced u c.args.budget c.in-Ok-search.best form
+          (sym (same_steps (integers_of f) u.map f.p c.in-Some.front c.in-Some.ensures.form) ∙ c.in-Ok.ensures.finished.taken) c.in-Ok-search.ensures;
     }
 
 pub returns-in-Err-clause-found : goal.returns-in-Err-clause-found
 returns-in-Err-clause-found c =
+    let change : IsReductionOf c.args.form.now c.reduce-change.result =
+    reduction_of c.args.form.now c.reduce-change.result c.requires c.reduce-change.ensures.size c.reduce-change.ensures.reduced in
+    let form : IsDecorrelated c.args.form.now c.in-Ok.reduced c.reduce-change.result =
+    decorrelated_is c.args.form.now c.in-Ok.reduced c.in-Some.front c.reduce-change.result c.requires change.size c.at.ensures.shape.rows c.in-Some.ensures.form c.in-Ok.ensures.finished in
     let f : Form = c.args.form.now in
     let u : Unimodular = c.reduce-change.result in
-    let e : (f.columns - 3) - 1 ≡ integers_of f = integers f c.requires in
-    let size : u.size ≡ integers_of f = c.reduce-change.ensures.size ∙ e in
-    let red : IsReduced (integers_of f) f.d f.l u = subst (λ (k : ℕ). IsReduced k f.d f.l u) e c.reduce-change.ensures.reduced in
-    let t : IsTransformed (integers_of f) u.map f.p c.in-Some.front = c.in-Some.ensures.form in
-    let fin : IsFinishOf c.in-Some.front c.in-Ok.reduced = c.in-Ok.ensures.finished in
-    let d : IsDecorrelated f c.in-Ok.reduced u = decorrelated_is f c.in-Ok.reduced c.in-Some.front u c.requires size c.at.ensures.shape.rows t fin in
-    λ h.
-    let k : HasCountIn f c.args.budget u.map = count f c.args.budget u red h in
-    reduced_fault f c.in-Ok.reduced u c.args.budget _ k d (sym k.taken ∙ sym (same_steps (integers_of f) u.map f.p c.in-Some.front t) ∙ fin.taken) c.in-Err.ensures
+    λ counted.
+    let k : HasCountIn f c.args.budget u.map = count f c.args.budget u change.reduced counted in
+    reduced_fault f c.in-Ok.reduced u c.args.budget _ k form
+    (sym k.taken ∙ sym (same_steps (integers_of f) u.map f.p c.in-Some.front c.in-Some.ensures.form) ∙ c.in-Ok.ensures.finished.taken) c.in-Err.ensures

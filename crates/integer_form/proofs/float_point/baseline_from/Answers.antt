@@ -1,6 +1,9 @@
-use Rattle.std.proofs.Common.{◌≡◌, ℕ, ◌-◌, ◌^◌, ◌<◌, ◌≤◌, List, [], ◌∷◌, ℤ, unsigned_abs, to_z, of_z, arith, ap, ap₂, ◌∙◌, refl, subst}
+use Rattle.std.proofs.Common.{◌≡◌, ℕ, ◌-◌, ◌^◌, ◌<◌, ◌≤◌, List, [], ◌∷◌, ℤ, unsigned_abs, to_z, of_z, arith, ap, ap₂, ◌∙◌, subst}
+use Rattle.std.specs.Result.{is_err}
+use Rattle.std.proofs.lemmas.Result.{err_from_is_err_and}
 use Rattle.std.specs.Int.{w64}
-use Rattle.integer_form.specs.FloatPoint.{item, baseline_at, HasWide}
+use Rattle.form_tables.specs.Tables.{item}
+use Rattle.integer_form.specs.FloatPoint.{baseline_at, HasWide}
 use Rattle.whole_math.proofs.Words.{as_w64}
 use Rattle.integer_form.proofs.FloatLaws.{baseline_is, baseline_wide, narrow_three, not_wide}
 use Rattle.integer_form.proofs.float_point.baseline_from.Goals as goal
@@ -24,22 +27,26 @@ narrow d l columns x z h e = not_wide (baseline_at d l columns z)
 inside : (columns i : ℕ) → 4 ≤ columns → i < 3 → i < columns - 1
 inside columns i h g = omega arith
 
-pub returns-in-Ok-clause-ok : goal.returns-in-Ok-clause-ok
-returns-in-Ok-clause-ok c = λ d. three c.solve.new.numbers (λ i h. c.in-Ok.ensures.narrow i (inside c.args.columns i c.requires.columns_from h))
+pub returns-clause-ok : goal.returns-clause-ok
+returns-clause-ok c = λ d. three c.solve.new.numbers (λ i h. c.in_ok-solve.ensures.narrow i (inside c.args.columns i c.requires.columns_from h))
     ∙ baseline_is d c.args.l.now c.args.columns c.solve.new.numbers c.integer_numbers-numbers.result c.args.z.now c.requires.columns_from c.requires.count
-    c.integer_numbers-numbers.ensures.list (c.in-Ok.ensures.solved d)
+    c.integer_numbers-numbers.ensures.list (c.in_ok-solve.ensures.solved d)
 
-pub returns-in-Ok-clause-refused : goal.returns-in-Ok-clause-refused
-returns-in-Ok-clause-refused c = λ d.
+pub returns-clause-refused : goal.returns-clause-refused
+returns-clause-refused c = λ d.
     let e : (item c.solve.new.numbers 0 ∷ (item c.solve.new.numbers 1 ∷ (item c.solve.new.numbers 2 ∷ []))) ≡ baseline_at d c.args.l.now c.args.columns c.args.z.now =
     baseline_is d c.args.l.now c.args.columns c.solve.new.numbers c.integer_numbers-numbers.result c.args.z.now c.requires.columns_from c.requires.count
-    c.integer_numbers-numbers.ensures.list (c.in-Ok.ensures.solved d) in
-    (λ h. absurd cc, λ w. absurd (narrow d c.args.l.now c.args.columns c.solve.new.numbers c.args.z.now (λ i h. c.in-Ok.ensures.narrow i (inside c.args.columns i c.requires.columns_from h)) e w))
+    c.integer_numbers-numbers.ensures.list (c.in_ok-solve.ensures.solved d) in (
+      λ h. absurd cc,
+      λ w. absurd (narrow d c.args.l.now c.args.columns c.solve.new.numbers c.args.z.now
+          (λ i h. c.in_ok-solve.ensures.narrow i (inside c.args.columns i c.requires.columns_from h)) e w),
+    )
 
-pub returns-in-Err-clause-refused : goal.returns-in-Err-clause-refused
-returns-in-Err-clause-refused c =
+pub returns-in_err-solve-clause-refused : goal.returns-in_err-solve-clause-refused
+returns-in_err-solve-clause-refused c =
+    let fault = err_from_is_err_and c.from_residual.result c.from_residual.ensures.1 in
     λ d. (
       λ h. baseline_wide d c.args.l.now c.args.columns c.integer_numbers-numbers.result c.args.z.now c.requires.count c.requires.columns_from c.integer_numbers-numbers.ensures.list
-          (c.in-Err.ensures.wide d),
-      λ w. refl,
+          (c.in_err-solve.ensures.wide d),
+      λ w. ap (λ r. is_err r) fault.1,
     )

@@ -2,7 +2,8 @@ use Rattle.std.proofs.Common.{◌≡◌, ℕ, ◌-◌, ◌^◌, ◌<◌, ◌≤�
 use Rattle.quadratic_form.specs.Places.{list_from}
 use Rattle.form_tables.specs.declared.sizes.TheConstants.{MOST_FACTORS}
 use Rattle.integer_form.specs.Factors.{stored}
-use Rattle.integer_form.specs.FloatPoint.{item, solved}
+use Rattle.form_tables.specs.Tables.{item}
+use Rattle.integer_form.specs.FloatPoint.{solved}
 use Rattle.integer_form.proofs.float_point.solve.Given as goal
 
 abbrev pub invariant-loop-k : goal.invariant-loop-k

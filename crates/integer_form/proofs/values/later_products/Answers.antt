@@ -4,8 +4,7 @@ use Rattle.whole_math.proofs.Order.{abs_mul_le}
 use Rattle.whole_math.specs.Vectors.{dot}
 use Rattle.quadratic_form.specs.Places.{list_from}
 use Rattle.form_tables.specs.declared.sizes.TheConstants.{MOST_FORM_COLUMNS}
-use Rattle.form_tables.specs.Tables.{entry}
-use Rattle.integer_form.specs.FloatPoint.{item}
+use Rattle.form_tables.specs.Tables.{entry, item}
 use Rattle.whole_math.proofs.Words.{as_w64, as_w128, size_add}
 use Rattle.integer_form.proofs.PlaceLaws.{dot_more}
 use Rattle.integer_form.proofs.values.later_products.Goals as goal

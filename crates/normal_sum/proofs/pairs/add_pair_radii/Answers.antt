@@ -1,33 +1,25 @@
-use Rattle.std.proofs.Common.{◌≡◌, ℕ, ◌+◌, ◌*◌, ◌^◌, ◌<◌, ◌≤◌, ◌∷◌, List, length, map, drop, get_or, arith, sym, ap, ◌∙◌, rules}
-use Rattle.std.proofs.lemmas.List.{drop_more}
-use Rattle.quadratic_form.specs.Rows.{Radii, add_radii, row_radii, radii}
+use Rattle.std.proofs.Common.{ℕ, ◌+◌, ◌*◌, ◌^◌, ◌≤◌, List, ℤ, map, arith, ap, ◌∙◌}
+use Rattle.whole_math.specs.Vectors.{sum}
+use Rattle.quadratic_form.specs.Rows.{add_radii, row_radii}
 use Rattle.obs_rows.specs.declared.rows.Row.{Row}
 use Rattle.obs_rows.specs.Signals.{weight}
-use Rattle.obs_rows.specs.SignalGroups.{signal_row, signal_group}
+use Rattle.obs_rows.specs.SignalGroups.{signal_row}
 use Rattle.normal_sum.specs.declared.places.TheConstants.{MOST_ROWS}
 use Rattle.normal_sum.specs.RadiusSums.{radii_of}
-use Rattle.normal_sum.proofs.RadiusLaws.{radii_assoc, at_most_wider}
+use Rattle.normal_sum.proofs.Words.{small_w64}
+use Rattle.normal_sum.proofs.RadiusLaws.{radii_together, at_most_wider}
 use Rattle.normal_sum.proofs.pairs.add_pair_radii.Goals as goal
 
-one_more : (m i : ℕ) → (m + (i * (MOST_ROWS * 2 ^ 72))) + (MOST_ROWS * 2 ^ 72) ≤ m + ((i + 1) * (MOST_ROWS * 2 ^ 72))
-one_more m i = omega arith
+within : (m : ℕ) → m + (MOST_ROWS * 2 ^ 75) ≤ m + 2 ^ 79
+within m = omega arith
 
-pub loop-signal-preserved : goal.loop-signal-preserved
-loop-signal-preserved c =
-    let signals : List ℕ = c.args.signals.now in
-    let k : ℕ = c.loop-signal.signal-index in
-    let s : ℕ = get_or signals k 0 in
-    let later : List ℕ = drop (k + 1) signals in
-    let inside : k < length signals = search rules in
-    let e : drop k signals ≡ s ∷ later = drop_more signals k 0 inside in
-    record {
-      value = λ arcs. ap (λ (p : Radii). add_radii p (radii (map (signal_group arcs c.args.signals.now c.args.pair.now) later)))
-          (c.add_radii_of-sums.ensures.value arcs c.args.signals.now
-          ∙ ap (λ (l : List Row). add_radii (radii_of c.loop-signal.sums) (row_radii (weight s) (map (signal_row arcs c.args.signals.now s) l))) c.as_slice.ensures)
-          ∙ radii_assoc (radii_of c.loop-signal.sums) (row_radii (weight s) (map (signal_row arcs c.args.signals.now s) c.args.pair.now.rows))
-          (radii (map (signal_group arcs c.args.signals.now c.args.pair.now) later))
-          ∙ ap (λ (l : List ℕ). add_radii (radii_of c.loop-signal.sums) (radii (map (signal_group arcs c.args.signals.now c.args.pair.now) l))) (sym e)
-          ∙ c.loop-signal.invariant.value arcs;
-      size = λ m h. at_most_wider ((m + (k * (MOST_ROWS * 2 ^ 72))) + (MOST_ROWS * 2 ^ 72)) (m + ((k + 1) * (MOST_ROWS * 2 ^ 72))) _ (one_more m k)
-          (c.add_radii_of-sums.ensures.size (m + (k * (MOST_ROWS * 2 ^ 72))) (c.loop-signal.invariant.size m h));
-    }
+pub returns-clause-value : goal.returns-clause-value
+returns-clause-value c = λ arcs.
+    let ss : List ℕ = c.args.signals.now in
+    let w : ℤ = sum (map weight c.args.signals.now) in
+    c.add_radii_of.ensures.value w arcs ss 0 (small_w64 c.total_weight.result c.total_weight.ensures.from c.total_weight.ensures.to ∙ c.total_weight.ensures.value)
+    ∙ ap (λ (l : List Row). add_radii (radii_of c.args.start) (row_radii w (map (signal_row arcs ss 0) l))) c.as_slice.ensures
+    ∙ ap (add_radii (radii_of c.args.start)) (radii_together arcs ss c.args.pair.now ss)
+
+pub returns-clause-size : goal.returns-clause-size
+returns-clause-size c = λ m most. at_most_wider (m + (MOST_ROWS * 2 ^ 75)) (m + 2 ^ 79) c.add_radii_of.result (within m) (c.add_radii_of.ensures.size m most)

@@ -4,11 +4,20 @@ use Rattle.std.specs.Int.{w64, w128}
 use Rattle.whole_math.proofs.Words.{as_w64, as_w128}
 use Rattle.normal_sum.proofs.products.add_product_row.Goals as goal
 
-pub returns-clause-added : goal.returns-clause-added
-returns-clause-added c =
+pub returns-then-is_short-clause-added : goal.returns-then-is_short-clause-added
+returns-then-is_short-clause-added c =
     let v : ℤ = slice_index_or c.args.values.now c.args.row (pos 0) in
-    let s : unsigned_abs v ≤ 2 ^ 38 = c.requires.value_size c.args.row c.requires.row_in in
-    let e : to_z w64 (of_z w64 v) ≡ v = as_w64 v (omega arith) in
-    let t = (rw (to_z-of_z w64 c.args.weight c.ranges.weight, e) at c.times.ensures.value) in
-    let w : to_z w128 (of_z w128 c.times.result) ≡ c.times.result = as_w128 c.times.result (omega (arith, c.times.ensures.size)) in
-    λ j m h. rw (w, t) at (c.add_to_row.ensures.added j m h)
+    let small : unsigned_abs v ≤ 2 ^ 38 = c.requires.value_size c.args.row c.requires.row_in in
+    let as_read : to_z w64 (of_z w64 v) ≡ v = as_w64 v (omega arith) in
+    let product = (rw (to_z-of_z w64 c.args.weight c.ranges.weight, as_read) at c.short_times.ensures.value) in
+    let as_word : to_z w64 (of_z w64 c.short_times.result) ≡ c.short_times.result = as_w64 c.short_times.result (omega (arith, c.short_times.ensures.size)) in
+    λ j from inside. rw (as_word, product) at (c.add_short_to_row.ensures.added j from inside)
+
+pub returns-else-is_short-clause-added : goal.returns-else-is_short-clause-added
+returns-else-is_short-clause-added c =
+    let v : ℤ = slice_index_or c.args.values.now c.args.row (pos 0) in
+    let small : unsigned_abs v ≤ 2 ^ 38 = c.requires.value_size c.args.row c.requires.row_in in
+    let as_read : to_z w64 (of_z w64 v) ≡ v = as_w64 v (omega arith) in
+    let product = (rw (to_z-of_z w64 c.args.weight c.ranges.weight, as_read) at c.times.ensures.value) in
+    let as_word : to_z w128 (of_z w128 c.times.result) ≡ c.times.result = as_w128 c.times.result (omega (arith, c.times.ensures.size)) in
+    λ j from inside. rw (as_word, product) at (c.add_to_row.ensures.added j from inside)

@@ -5,7 +5,7 @@ use Rattle.normal_sum.proofs.Words.{from_w64, to_w64, from_w128, to_w128}
 use Rattle.normal_sum.proofs.RadiusLaws.{radii_same, up_to, Added, added_is}
 use Rattle.normal_sum.proofs.radii.add_row.Goals as goal
 
-weak : (r : ℤ) → r ≤ℤ pos (2 ^ 20) → r ≤ℤ pos (2 ^ 32)
+weak : (r : ℤ) → r ≤ℤ pos (2 ^ 20) → r ≤ℤ pos (2 ^ 35)
 weak r h = omega (arith, lins)
 
 pub plus_square-requires-clause-sum_from : goal.plus_square-requires-clause-sum_from

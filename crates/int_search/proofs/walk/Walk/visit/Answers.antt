@@ -1,6 +1,7 @@
 use Rattle.std.proofs.Common.{◌≡◌, ◌<◌, ◌+◌, ◌-◌, ◌^◌, List, ◌∷◌, length, set, drop, ℤ, arith, refl, ap, ap₂, sym, ◌∙◌, unsigned_abs, to_z, of_z, w64}
 use Rattle.std.specs.Int.{w128}
 use Rattle.std.proofs.lemmas.Int.{ints, to_z-of_z}
+use Rattle.whole_math.proofs.Words.{as_w64}
 use Rattle.suffix_search.specs.Suffixes.{SearchForm, rest}
 use Rattle.int_search.specs.Vectors.{suffix}
 use Rattle.int_search.specs.SearchedForm.{search_form}
@@ -13,7 +14,7 @@ use Rattle.int_search.proofs.WalkLaws.{walk_inner, leaf_visit, drop_length}
 use Rattle.int_search.proofs.walk.Walk.visit.Goals as goal
 
 entry_is : (x : ℤ) → unsigned_abs x < 2 ^ 30 → to_z w64 (of_z w64 x) ≡ x
-entry_is x h = omega (arith, ints)
+entry_is x small = as_w64 x (omega (arith, small))
 
 pub offer-requires-clause-small : goal.offer-requires-clause-small
 offer-requires-clause-small c = small_set c.args.self.now.z _ _ c.requires.walk.small (rw (entry_is c.args.reach.now.choice.entry c.requires.small) c.requires.small)

@@ -1,10 +1,13 @@
-use Rattle.std.proofs.Common.{◌≡◌, ℕ, ◌-◌, ◌^◌, ◌<◌, ◌≤◌, List, [], ℤ, pos, unsigned_abs, arith, sym, ap, ◌∙◌, refl, subst, ◌⊎◌, ⊎_elim, replicate}
+use Rattle.std.proofs.Common.{◌≡◌, ℕ, ◌-◌, ◌^◌, ◌<◌, ◌≤◌, List, [], ℤ, pos, unsigned_abs, arith, sym, ap, ◌∙◌, subst, ◌⊎◌, ⊎_elim, replicate}
+use Rattle.std.specs.Result.{is_err}
+use Rattle.std.proofs.lemmas.Result.{err_from_is_err_and}
 use Rattle.quadratic_form.specs.Places.{list_from}
 use Rattle.form_tables.specs.declared.sizes.TheConstants.{MOST_FACTORS}
 use Rattle.form_tables.proofs.TableLaws.{zero_item}
 use Rattle.integer_form.specs.declared.form.Form.{Form}
 use Rattle.integer_form.specs.Factors.{stored}
-use Rattle.integer_form.specs.FloatPoint.{item, solved, float_point, HasWide, HasWideBefore}
+use Rattle.form_tables.specs.Tables.{item}
+use Rattle.integer_form.specs.FloatPoint.{solved, float_point, HasWide, HasWideBefore}
 use Rattle.integer_form.proofs.FloatLaws.{float_item, not_wide}
 use Rattle.integer_form.proofs.form.Form.float_of.Goals as goal
 
@@ -28,21 +31,23 @@ narrow f x e h z = not_wide (float_point f) (λ i. subst (λ (a : ℤ). unsigned
     either : (i n : ℕ) → (i < n) ⊎ (n ≤ i)
     either i n = grind arith
 
-pub returns-in-Ok-clause-ok : goal.returns-in-Ok-clause-ok
-returns-in-Ok-clause-ok c = float_item (c.args.self.now.columns - 1) c.solve.new.numbers (float_point c.args.self.now)
-    (whole c.args.self.now c.solve.new.numbers (replicate MOST_FACTORS (pos 0)) (c.in-Ok.ensures.solved c.args.self.now.d))
-    (λ i h. c.in-Ok.ensures.outside i h ∙ zero_item MOST_FACTORS i)
+pub returns-clause-ok : goal.returns-clause-ok
+returns-clause-ok c = float_item (c.args.self.now.columns - 1) c.solve.new.numbers (float_point c.args.self.now)
+    (whole c.args.self.now c.solve.new.numbers (replicate MOST_FACTORS (pos 0)) (c.in_ok-solve.ensures.solved c.args.self.now.d))
+    (λ i h. c.in_ok-solve.ensures.outside i h ∙ zero_item MOST_FACTORS i)
 
-pub returns-in-Ok-clause-refused : goal.returns-in-Ok-clause-refused
-returns-in-Ok-clause-refused c =
-    let zero : (i : ℕ) → c.args.self.now.columns - 1 ≤ i → item c.solve.new.numbers i ≡ pos 0 = λ i h. c.in-Ok.ensures.outside i h ∙ zero_item MOST_FACTORS i in
+pub returns-clause-refused : goal.returns-clause-refused
+returns-clause-refused c =
+    let zero : (i : ℕ) → c.args.self.now.columns - 1 ≤ i → item c.solve.new.numbers i ≡ pos 0 = λ i h. c.in_ok-solve.ensures.outside i h ∙ zero_item MOST_FACTORS i in
     let e : (j : ℕ) → item c.solve.new.numbers j ≡ item (float_point c.args.self.now) j =
     float_item (c.args.self.now.columns - 1) c.solve.new.numbers (float_point c.args.self.now)
-    (whole c.args.self.now c.solve.new.numbers (replicate MOST_FACTORS (pos 0)) (c.in-Ok.ensures.solved c.args.self.now.d)) zero in
-    (λ h. absurd cc, λ w. absurd (narrow c.args.self.now c.solve.new.numbers e c.in-Ok.ensures.narrow zero w))
+    (whole c.args.self.now c.solve.new.numbers (replicate MOST_FACTORS (pos 0)) (c.in_ok-solve.ensures.solved c.args.self.now.d)) zero in
+    (λ h. absurd cc, λ w. absurd (narrow c.args.self.now c.solve.new.numbers e c.in_ok-solve.ensures.narrow zero w))
 
-pub returns-in-Err-clause-refused : goal.returns-in-Err-clause-refused
-returns-in-Err-clause-refused c = (λ h. wide c.args.self.now (replicate MOST_FACTORS (pos 0)) (c.in-Err.ensures.wide c.args.self.now.d), λ w. refl)
+pub returns-in_err-solve-clause-refused : goal.returns-in_err-solve-clause-refused
+returns-in_err-solve-clause-refused c =
+    let fault = err_from_is_err_and c.from_residual.result c.from_residual.ensures.1 in
+    (λ h. wide c.args.self.now (replicate MOST_FACTORS (pos 0)) (c.in_err-solve.ensures.wide c.args.self.now.d), λ w. ap (λ r. is_err r) fault.1)
   where
     wide : (f : Form) (y : List ℤ) → HasWideBefore (f.columns - 1)
         (solved (stored f.d f.l f.columns 0 (f.columns - 1)) (list_from (item y) (f.columns - 1) (f.columns - 1 - (f.columns - 1)))) → HasWide (float_point f)

@@ -1,4 +1,5 @@
-use Rattle.std.proofs.Common.{◌≡◌, ◌↔◌, ◌⊎◌, ⊎_elim, inl, inr, ℕ, ◌<◌, ◌≤◌, List, ℤ, Result, Ok, Err, IfOk, IsErr, arith, sym, ap, ◌∙◌, subst, take, pos, ◌^◌, refl}
+use Rattle.std.proofs.Common.{◌≡◌, ◌↔◌, ◌⊎◌, ⊎_elim, inl, inr, ℕ, ◌<◌, ◌≤◌, List, ℤ, IsErr, arith, sym, ap, ◌∙◌, subst, take, pos, ◌^◌, refl}
+use Rattle.std.proofs.lemmas.Result.{IfOk-weaker}
 use Rattle.whole_math.specs.Vectors.{scaled}
 use Rattle.quadratic_form.specs.Elimination.{Factor}
 use Rattle.form_tables.specs.declared.sizes.TheConstants.{BASELINE_COLUMNS, MOST_COLUMNS}
@@ -7,10 +8,6 @@ use Rattle.integer_form.specs.declared.front_form.FrontForm.{FrontForm}
 use Rattle.integer_form.specs.FloatPoint.{solved, baseline_at, HasWide}
 use Rattle.integer_form.proofs.StoredPlaces.{stored_same}
 use Rattle.integer_form.proofs.front_form.FrontForm.baseline_of.Goals as goal
-
-if_ok : {A E : Type 0} {P Q : A → Type 0} (r : Result A E) → ((a : A) → P a → Q a) → IfOk r P → IfOk r Q
-if_ok (Ok a) f p = f a p
-if_ok (Err e) f p = p
 
 -- by the table of all factors
 same : (f : FrontForm) (l : List (List ℤ)) (z : List ℤ) → ((r c : ℕ) → r < MOST_COLUMNS → c < BASELINE_COLUMNS → entry l r c ≡ entry f.l r c) →
@@ -27,7 +24,7 @@ same f l z h o = ap (λ (s : List Factor). take 3 (solved s (scaled (pos (2 ^ 16
     place r i b = ⊎_elim (λ (a : r < MOST_COLUMNS). h r i a b) (λ (a : MOST_COLUMNS ≤ r). o r i (inl a) ∙ sym (f.factors_outside r i (inr (past r f.columns f.columns_to a)))) (either r)
 
 pub returns-clause-ok : goal.returns-clause-ok
-returns-clause-ok c = if_ok _ (λ (b : List ℤ) (h : (d : List ℤ) → b ≡ baseline_at d c.factor_table.result c.args.self.now.columns c.args.z.now). h c.args.self.now.d
+returns-clause-ok c = IfOk-weaker _ _ _ (λ (b : List ℤ) (h : (d : List ℤ) → b ≡ baseline_at d c.factor_table.result c.args.self.now.columns c.args.z.now). h c.args.self.now.d
     ∙ same c.args.self.now c.factor_table.result c.args.z.now c.factor_table.ensures.same c.factor_table.ensures.outside) c.baseline_from.ensures.ok
 
 pub returns-clause-refused : goal.returns-clause-refused

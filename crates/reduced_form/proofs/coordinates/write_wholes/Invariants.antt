@@ -2,7 +2,7 @@ use Rattle.std.proofs.Common.{◌≡◌, ℕ, ◌+◌, ◌^◌, ◌<◌}
 use Rattle.form_tables.specs.Tables.{entry, IsZeroOutside}
 use Rattle.form_tables.specs.Matrices.{EntriesBelow}
 use Rattle.reduced_form.specs.Transformed.{whole_entry}
-use Rattle.reduced_form.proofs.coordinates.wholes.Given as goal
+use Rattle.reduced_form.proofs.coordinates.write_wholes.Given as goal
 
 abbrev pub invariant-loop-i : goal.invariant-loop-i
 invariant-loop-i l = record {

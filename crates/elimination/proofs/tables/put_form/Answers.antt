@@ -1,7 +1,7 @@
 use Rattle.std.proofs.Common.{◌≡◌, ℕ, ◌+◌, ◌-◌, ◌^◌, ◌<◌, ◌≤◌, ℤ, unsigned_abs, arith, sym, ap₂, ◌∙◌, subst}
 use Rattle.form_tables.specs.Tables.{entry}
 use Rattle.elimination.proofs.TableLaws.{form_moved}
-use Rattle.elimination.proofs.tables.normal_table.Goals as goal
+use Rattle.elimination.proofs.tables.put_form.Goals as goal
 
 pub returns-clause-form : goal.returns-clause-form
 returns-clause-form c = form_moved (entry c.loop-r.table) (entry c.args.p.now) 3 0 c.args.n

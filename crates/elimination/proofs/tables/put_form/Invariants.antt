@@ -1,6 +1,6 @@
 use Rattle.std.proofs.Common.{◌≡◌, ℕ, ◌+◌, ◌<◌, ◌≤◌}
 use Rattle.form_tables.specs.Tables.{entry}
-use Rattle.elimination.proofs.tables.normal_table.Given as goal
+use Rattle.elimination.proofs.tables.put_form.Given as goal
 
 abbrev pub invariant-loop-r : goal.invariant-loop-r
 invariant-loop-r l = record {

@@ -1,7 +1,7 @@
 use Rattle.std.proofs.Common.{◌≡◌, ℕ, ◌+◌, ◌^◌, ◌<◌, ◌≤◌, unsigned_abs}
 use Rattle.form_tables.specs.Tables.{entry}
 use Rattle.reduced_form.specs.Transformed.{half_entry}
-use Rattle.reduced_form.proofs.halves.halves.Given as goal
+use Rattle.reduced_form.proofs.halves.write_halves.Given as goal
 
 abbrev pub invariant-loop-a : goal.invariant-loop-a
 invariant-loop-a l = record {
