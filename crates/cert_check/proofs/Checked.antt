@@ -1,7 +1,5 @@
 -- What the steps of a check say.
-use Rattle.std.proofs.Common.{◌≡◌, ◌⊎◌, inl, inr, ℕ, ℤ, List, FitsSigned, to_z, of_z, w64, refl, sym, subst, arith}
-use Rattle.std.specs.Int.{w128}
-use Rattle.std.proofs.lemmas.Int.{ints}
+use Rattle.std.proofs.Common.{◌≡◌, ◌⊎◌, inl, inr, ℕ, ℤ, List, refl, sym, subst}
 use Rattle.obs_rows.specs.declared.sessions.Session.{Session}
 use Rattle.obs_rows.specs.Signals.{fine_signals}
 use Rattle.obs_rows.specs.Best.{IsStrictlyBest}
@@ -57,12 +55,6 @@ wide_decision s budget f b place of_rows best move sum (inl is) =
 wide_decision s budget f b place of_rows best move sum (inr is) =
     let both = sum is in
     subst (IsWideAt s budget) (sym is) (record { form = f; best = b; has = record { of_rows = of_rows; best_is = best }; narrow = both.0; wide = both.1 })
-
-pub own_word64 : (x : ℤ) → FitsSigned w64 x → to_z w64 (of_z w64 x) ≡ x
-own_word64 x h = omega (arith, ints)
-
-pub own_word128 : (x : ℤ) → FitsSigned w128 x → to_z w128 (of_z w128 x) ≡ x
-own_word128 x h = omega (arith, ints)
 
 -- whatever the verdict on two best vectors is, it rests on a search within the budget
 pub rests : (s : Session) (budget : ℕ) (v : Verdict) → IsSearchedWithin s budget → RestsWithin s budget v

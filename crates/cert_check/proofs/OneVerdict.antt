@@ -20,16 +20,11 @@ use Rattle.cert_data.specs.declared.verdicts.Verdict.TheVariants.{Certified, Not
 use Rattle.cert_data.specs.declared.verdicts.Cause.TheVariants as cause
 use Rattle.cert_check.specs.Decided.{Numbers, IsDecided, AreSame, Says}
 use Rattle.settled_decision.specs.Decided.{IsRefused}
-use Rattle.cert_check.specs.Verdicts.{HasBest, IsMoveWide, IsSumWide, IsWideAt, IsVerdictOf, IsGivenUp, IsSameVerdict}
+use Rattle.cert_check.specs.Verdicts.{HasBest, IsMoveWide, IsSumWide, IsWideAt, IsVerdictOf, IsGivenUp, IsSameVerdict, verdict_of}
 use Rattle.cert_check.specs.Visits.{RestsWithin}
 use Rattle.lower_form.proofs.Exponents.{has_exponent}
 use Rattle.lower_form.proofs.OneForm.{one_elimination, one_exponent}
 use Rattle.cert_check.proofs.SameForms.{same_form, same_best, same_move, one_decision, says_too}
-
--- the verdict of a form that is refused
-abbrev of_fault : LowerFault → Verdict
-of_fault (fault.Weak column pivot) = Not (cause.Weak column pivot)
-of_fault (fault.Overwidth place) = Not (cause.Overwidth place)
 
 -- the verdict of a decision
 data Final (ratio : ℕ) (t : Tail) (d : Numbers) (v : Verdict) : Type 0 where
@@ -40,7 +35,7 @@ data Final (ratio : ℕ) (t : Tail) (d : Numbers) (v : Verdict) : Type 0 where
 -- where the decision ends
 data Ends (s : Session) (ratio : ℕ) (t : Tail) (v : Verdict) : Type 0 where
   given_up : IsGivenUp v → Ends s ratio t v
-  refused : (why : LowerFault) → IsRefused s why → v ≡ of_fault why → Ends s ratio t v
+  refused : (why : LowerFault) → IsRefused s why → v ≡ verdict_of why → Ends s ratio t v
   wide_move : IsMoveWide s → v ≡ Not (cause.Overwidth Float) → Ends s ratio t v
   wide_sum : IsSumWide s → v ≡ Not (cause.Overwidth Sum) → Ends s ratio t v
   decided : (d : Numbers) → IsDecided s d → Final ratio t d v → Ends s ratio t v
@@ -80,7 +75,7 @@ refused_place : (s : Session) (place : Place) → IsRefused s (fault.Overwidth p
 refused_place s place a f g = let some = has_exponent (form_of a.normal) in let one = a.told some.0 some.1 in other_place place one.0 one.1.1 f g
 
 -- no form is refused for another place
-pub wide_refused : (s : Session) (budget : ℕ) (place : Place) → IsRefused s (fault.Overwidth place) → IsWideAt s budget place
+wide_refused : (s : Session) (budget : ℕ) (place : Place) → IsRefused s (fault.Overwidth place) → IsWideAt s budget place
 wide_refused s budget Y a = a
 wide_refused s budget FactorPlace a = a
 wide_refused s budget Entry a = a
@@ -90,7 +85,7 @@ wide_refused s budget Search a = absurd (refused_place s Search a (λ e. absurd 
 wide_refused s budget Sum a = absurd (refused_place s Sum a (λ e. absurd cc) (λ e. absurd cc))
 
 -- and where it is, no search was
-pub rests_refused : (s : Session) (budget : ℕ) (place : Place) → IsRefused s (fault.Overwidth place) → RestsWithin s budget (Not (cause.Overwidth place))
+rests_refused : (s : Session) (budget : ℕ) (place : Place) → IsRefused s (fault.Overwidth place) → RestsWithin s budget (Not (cause.Overwidth place))
 rests_refused s budget Y a = tt
 rests_refused s budget FactorPlace a = tt
 rests_refused s budget Entry a = tt
@@ -98,6 +93,19 @@ rests_refused s budget Float a = absurd (refused_place s Float a (λ e. absurd c
 rests_refused s budget Point a = tt
 rests_refused s budget Search a = tt
 rests_refused s budget Sum a = absurd (refused_place s Sum a (λ e. absurd cc) (λ e. absurd cc))
+
+-- the verdict of a refusal is one of the rows
+pub fault_verdict : (s : Session) (ratio budget : ℕ) (t : Tail) (why : LowerFault) → IsRefused s why → IsVerdictOf s ratio budget t (verdict_of why)
+fault_verdict s ratio budget t (fault.Weak column pivot) refused_so = refused_so
+fault_verdict s ratio budget t (fault.Overwidth place) refused_so = wide_refused s budget place refused_so
+
+pub fault_rests : (s : Session) (budget : ℕ) (why : LowerFault) → IsRefused s why → RestsWithin s budget (verdict_of why)
+fault_rests s budget (fault.Weak column pivot) refused_so = tt
+fault_rests s budget (fault.Overwidth place) refused_so = rests_refused s budget place refused_so
+
+pub not_certified : (why : LowerFault) → verdict_of why ≡ Certified → ⊥
+not_certified (fault.Weak column pivot) certain = absurd cc
+not_certified (fault.Overwidth place) certain = absurd cc
 
 -- a form that is refused is none
 no_form : (s : Session) (why : LowerFault) (f : Form) → IsRefused s why → IsFormOf s f → ⊥
@@ -148,7 +156,7 @@ same_final ratio t d e v w same back (near close is) (near close_too is_too) = i
 pair_up : (s : Session) (ratio : ℕ) (t : Tail) (v w : Verdict) → Ends s ratio t v → Ends s ratio t w → IsSameVerdict v w
 pair_up s ratio t v w (given_up a) b = inr (inl a)
 pair_up s ratio t v w (refused why a is) (given_up b) = inr (inr b)
-pair_up s ratio t v w (refused why a is) (refused too b is_too) = inl (is ∙ ap of_fault (same_refusal s why too a b) ∙ sym is_too)
+pair_up s ratio t v w (refused why a is) (refused too b is_too) = inl (is ∙ ap verdict_of (same_refusal s why too a b) ∙ sym is_too)
 pair_up s ratio t v w (refused why a is) (wide_move b is_too) = absurd (no_form s why b.form a b.has.of_rows)
 pair_up s ratio t v w (refused why a is) (wide_sum b is_too) = absurd (no_form s why b.form a b.has.of_rows)
 pair_up s ratio t v w (refused why a is) (decided d b final) = absurd (no_form s why b.form a b.of_rows)

@@ -2,6 +2,7 @@
 use Rattle.std.specs.Prelude.{◌≡◌, ◌⊎◌, ℕ, pos}
 use Rattle.obs_rows.specs.declared.sessions.Session.{Session}
 use Rattle.obs_rows.specs.Signals.{fine_signals}
+use Rattle.integer_form.specs.declared.faults.LowerFault.{LowerFault}
 use Rattle.integer_form.specs.declared.faults.LowerFault.TheVariants as fault
 use Rattle.integer_form.specs.declared.faults.Place.{Place}
 use Rattle.integer_form.specs.declared.faults.Place.TheVariants.{Float, Search, Sum}
@@ -74,6 +75,11 @@ IsVerdictOf s ratio budget t (Not (cause.Overwidth place)) = IsWideAt s budget p
 IsVerdictOf s ratio budget t (Not cause.Spent) = IsSpent s budget
 IsVerdictOf s ratio budget t (Not cause.Unseparated) = (d : Numbers) × IsUnseparated s ratio d
 IsVerdictOf s ratio budget t (Not cause.Tail) = (d : Numbers) × (IsFixed s ratio d × (Says t d → ⊥))
+
+-- a refusal of the elimination as a verdict
+abbrev pub verdict_of : LowerFault → Verdict
+verdict_of (fault.Weak column pivot) = Not (cause.Weak column pivot)
+verdict_of (fault.Overwidth place) = Not (cause.Overwidth place)
 
 -- the search gave up
 abbrev pub IsGivenUp : Verdict → Type 0

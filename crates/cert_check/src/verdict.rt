@@ -5,15 +5,25 @@ ghost use Rattle.fix_decide.specs.Decisions.{IsFormOf};
 ghost use Rattle.cert_data.specs.declared.verdicts.Verdict.{Verdict};
 ghost use Rattle.cert_data.specs.declared.verdicts.Verdict.TheVariants.{Certified};
 ghost use Rattle.cert_check.specs.Decided.{IsBestIn};
-ghost use Rattle.cert_check.specs.Verdicts.{IsVerdictOf, IsSameVerdict};
+ghost use Rattle.cert_check.specs.Verdicts.{IsVerdictOf, IsSameVerdict, verdict_of};
 ghost use Rattle.cert_check.specs.Visits.{RestsWithin};
 
 use crate::tails::says;
 use cert_data::{Cause, Cert, Place, TwoBest, Verdict};
 use fix_decide::decide;
 use int_search::{SearchFault, two_best};
-use lower_form::{Form, LowerFault, lower};
-use normal_sum::sum;
+use lower_form::{Form, LowerFault};
+use settled_decision::form_of_rows;
+
+// A refusal of the elimination as a verdict.
+fn verdict_of(fault: LowerFault) -> Verdict
+    ensures { result ≡ verdict_of fault }
+{
+    match fault {
+        LowerFault::Weak { column, pivot } => Verdict::Not(Cause::Weak { column, pivot }),
+        LowerFault::Overwidth { place } => Verdict::Not(Cause::Overwidth { place }),
+    }
+}
 
 // The verdict by the two best vectors of the form.
 fn check_best(cert: &Cert, form: &Form, best: &TwoBest) -> Verdict
@@ -57,16 +67,17 @@ fn check_form(cert: &Cert, form: &Form) -> Verdict
 /// Where they do, the tail's first integers with its move are strictly best: whatever the data in the boxes of the rows
 /// are, each other integer vector, with any baseline, has a greater weighted sum of squares. Nothing of the tail is read
 /// before the rows are decided.
+///
+/// It isn't inlined, so that its form doesn't lie on the stack of the other jobs.
+#[inline(never)]
 pub fn check(cert: &Cert) -> Verdict
     ensures verdict { IsVerdictOf cert.now.session cert.now.ratio cert.now.budget cert.now.tail result }
     ensures visits { RestsWithin cert.now.session cert.now.budget result }
     ensures strictly_best { result ≡ Certified → IsBestIn cert.now.session cert.now.tail }
     ensures only { (v : Verdict) → IsVerdictOf cert.now.session cert.now.ratio cert.now.budget cert.now.tail v → IsSameVerdict v result }
 {
-    let normal = sum(&cert.session);
-    match lower(&normal) {
+    match form_of_rows(&cert.session) {
         Ok(form) => check_form(cert, &form),
-        Err(LowerFault::Weak { column, pivot }) => Verdict::Not(Cause::Weak { column, pivot }),
-        Err(LowerFault::Overwidth { place }) => Verdict::Not(Cause::Overwidth { place }),
+        Err(fault) => verdict_of(fault),
     }
 }

@@ -18,7 +18,7 @@ use Rattle.job_answers.specs.declared.status.Status.TheVariants.{Done, Declined}
 use Rattle.job_answers.specs.Endings.{IsTextOf}
 use Rattle.job_answers.specs.Delivered.{SinkChange}
 
--- The text spells a certificate, its rows are fixed and its tail says so, and out tells it. No other verdict holds of it,
+-- The text spells a certificate, its rows are fixed and its tail says so, and out says it. No other verdict holds of it,
 -- but where a search gives up, and the search kept the certificate's budget. Whoever wrote it: each other integer vector, with any baseline, has a greater sum of squares
 -- for all data in the boxes of the rows.
 pub record SaysCertified (told : List ℕ → Option (List ℕ)) (name : List ℕ) (out : SinkChange) : Type 0 where
@@ -66,7 +66,7 @@ SaysOfResiduals told name Done out = SaysLeft told name true out
 SaysOfResiduals told name Declined out = SaysLeft told name false out
 SaysOfResiduals told name _ out = Unit {0}
 
--- the file is told, and is a certificate
+-- the text of the file is known, and is a certificate
 pub record IsCertAdmitted (told : List ℕ → Option (List ℕ)) (name : List ℕ) : Type 0 where
   pub text : List ℕ
   pub told_is : told name ≡ Some text

@@ -16,7 +16,7 @@ use Rattle.cert_jobs.specs.Migrations.{status_of}
 
 -- The text spells a certificate of version 1, and out has gained the spelling of a lifted one, of which the whole law
 -- holds: the old boxes' data are data of the new ones, the sums of squares are the old ones in the present unit, the tail
--- is the decision of the new rows, and what is fixed is strictly best in the old boxes. The status tells whether it is.
+-- is the decision of the new rows, and what is fixed is strictly best in the old boxes. The status says whether it is.
 pub record SaysMigrated (told : List ℕ → Option (List ℕ)) (name : List ℕ) (status : Status) (out : SinkChange) : Type 0 where
   pub text : List ℕ
   pub is : IsTextOf told name text
@@ -34,7 +34,7 @@ SaysOfMigrate told name Done out = SaysMigrated told name Done out
 SaysOfMigrate told name Declined out = SaysMigrated told name Declined out
 SaysOfMigrate told name _ out = Unit {0}
 
--- the file is told, and is a certificate of version 1
+-- the text of the file is known, and is a certificate of version 1
 pub record IsOldAdmitted (told : List ℕ → Option (List ℕ)) (name : List ℕ) : Type 0 where
   pub text : List ℕ
   pub told_is : told name ≡ Some text

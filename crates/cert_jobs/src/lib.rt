@@ -107,10 +107,8 @@ pub fn check_file<F: Files>(alloc: Global, files: &mut F, name: &str) -> Result<
     ensures fault { IfEnded result (λ end. end.status ≡ Status.ReadFault → Rose (F.faults files.old) (F.faults files.new)) }
     ensures sure { F.is_sure_name files.old name.now → IfEnded result (λ end. end.status ≢ Status.ReadFault) }
 {
-    match load_file(alloc, files, name) {
-        Ok(text) => check_text(alloc, name, &text),
-        Err(stop) => Err(stop),
-    }
+    let text = load_file(alloc, files, name)?;
+    check_text(alloc, name, &text)
 }
 
 /// What is left of the observations of the certificate's rows, at its tail's first integers.
@@ -122,8 +120,6 @@ pub fn residuals<F: Files>(alloc: Global, files: &mut F, name: &str) -> Result<A
     ensures fault { IfEnded result (λ end. end.status ≡ Status.ReadFault → Rose (F.faults files.old) (F.faults files.new)) }
     ensures sure { F.is_sure_name files.old name.now → IfEnded result (λ end. end.status ≢ Status.ReadFault) }
 {
-    match load_file(alloc, files, name) {
-        Ok(text) => residuals_text(alloc, name, &text),
-        Err(stop) => Err(stop),
-    }
+    let text = load_file(alloc, files, name)?;
+    residuals_text(alloc, name, &text)
 }

@@ -19,6 +19,7 @@ use Rattle.cert_lines.specs.declared.version.Version.{Version}
 use Rattle.cert_lines.specs.declared.version.Version.TheVariants.{One, Two}
 use Rattle.cert_lines.specs.Places.{select, spread, put_within}
 use Rattle.obs_rows.specs.Signals.{phase_bands, used_signals}
+use Rattle.cert_words.specs.declared.numbers.TheConstants.{MOST_NUMBERS}
 use Rattle.cert_words.specs.declared.ranges.Range.{Range}
 use Rattle.cert_words.specs.Numbers.{IsIn, Part, part, some_then, behind_text, at_end, more_numbers, number_in, number_at, numbers_behind, natural_within, within_range, all_within, IsBetween}
 use Rattle.cert_words.proofs.RangeLaws.{AreIn, natural_holds, within_holds, placed_within}
@@ -52,7 +53,7 @@ numbers_length (z ∷ zs) small =
     let both = length-append (signed_decimal z) (behind_blanks zs) in
     omega (arith, one, rest, both)
 
-pub line_length : (word : List ℕ) (zs : List ℤ) → length word ≤ 100 → length zs ≤ 60 → AreSmall zs → length (word ++ behind_blanks zs) ≤ 4096
+pub line_length : (word : List ℕ) (zs : List ℤ) → length word ≤ 100 → length zs ≤ MOST_NUMBERS → AreSmall zs → length (word ++ behind_blanks zs) ≤ 4096
 line_length word zs short few small =
     let numbers = numbers_length zs small in
     let both = length-append word (behind_blanks zs) in

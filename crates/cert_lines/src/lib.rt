@@ -1,10 +1,11 @@
 //! The lines of a certificate, each by itself: how it is spelled, and what it says where it stands in its place.
 //!
-//! Each line of a certificate by itself. A reader of a line (`count_in`, `triple_in`, `vector_in`, `letters_in`,
-//! `arc_in`, `pair_in`, `row_in`, `weak_in`, `values_in` and others) answers exactly what the form of that line gives in its place, its first flaw
-//! included (`value`), and where it answers a value, the line is that value's spelling (`spelled`), with all ranges
-//! (`in_range`, `of_pair` and others). A writer (`push_arcs`, `push_pair_lines` and others) appends exactly the
-//! spelling.
+//! A reader of a line (`count_in`, `triple_in`, `vector_in`, `system_in`, `signals_in`, `arc_in`, `pair_in`, `row_in`,
+//! `weak_in`, `values_in`, `last_in`) answers exactly what the form of that line gives in its place, or its first flaw
+//! (`value`): `BadLine` at column 1 where the line isn't of the form, `BadRange` at the first number outside its range.
+//! Where it answers a value, the line is that value's spelling (`spelled`), with all ranges (`in_range`, `of_pair` and
+//! others). A writer (`push_arcs`, `push_pair_lines` and others) appends exactly the spelling, and fails only where it
+//! runs out of memory. `ranges_law` says what the ranges are.
 #![tactic(auto)]
 
 mod arcs;

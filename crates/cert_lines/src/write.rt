@@ -57,6 +57,7 @@ pub fn push_signals_line(out: &mut Vec<u8>, signals: Signals) -> Result<(), Allo
 }
 
 /// Appends the line of an arc, whose shifts are as many as there are bands, with the shift of each band that is used.
+/// Outside this crate it serves tests alone.
 pub fn push_arc_line(out: &mut Vec<u8>, signals: Signals, arc: &Arc) -> Result<(), AllocError>
     ensures text { OnOk result (out.new.items ≡ out.old.items ++ text_of_lines (arc_line (fine_signals signals) arc.now ∷ [])) }
     ensures whole { OnOk result (IsWholeArc arc.now) }

@@ -1,6 +1,5 @@
 -- Lifted arcs: their counts, their ranges, and the places of their integers.
-use Rattle.std.proofs.Common.{◌≡◌, ℕ, zero, suc, ◌+◌, ◌*◌, ◌≤◌, ◌^◌, Bool, true, false, cond, if◌then◌else◌, Option, Some}
-use Rattle.std.proofs.Common.{None, List, [], ◌∷◌, take, map, All, ℤ, pos, arith, refl, sym, ap, ap₂, ◌∙◌, subst}
+use Rattle.std.proofs.Common.{◌≡◌, ℕ, zero, suc, ◌+◌, ◌*◌, ◌≤◌, ◌^◌, Bool, true, false, cond, if◌then◌else◌, Option, Some, None, List, [], ◌∷◌, take, map, All, ℤ, pos, arith, refl, sym, ap, ap₂, ◌∙◌, subst}
 use Rattle.std.specs.Prelude.{slice_get}
 use Rattle.std.specs.Option.{option_map}
 use Rattle.std.proofs.lemmas.List.{length-map, take-map}

@@ -1,6 +1,5 @@
 -- What is moved out of a session in the form of version 1 keeps the ranges of that version.
-use Rattle.std.proofs.Common.{◌≡◌, ℕ, ◌+◌, ◌*◌, ◌<◌, ◌≤◌, ◌^◌, ◌==◌, ◌||◌, ◌&&◌, not, cond, Bool, true, false, IsTrue}
-use Rattle.std.proofs.Common.{Option, Some, None, List, [], ◌∷◌, length, map, All, ℤ, pos, arith, refl, sym, ap, ◌∙◌, subst}
+use Rattle.std.proofs.Common.{◌≡◌, ℕ, ◌+◌, ◌*◌, ◌<◌, ◌≤◌, ◌^◌, ◌==◌, ◌||◌, ◌&&◌, not, cond, Bool, true, false, IsTrue, Option, Some, None, List, [], ◌∷◌, length, map, All, ℤ, pos, arith, refl, sym, ap, ◌∙◌, subst}
 use Rattle.std.specs.Prelude.{slice_get}
 use Rattle.std.specs.List.{AllZip, AllPairs}
 use Rattle.std.specs.Option.{option_map}

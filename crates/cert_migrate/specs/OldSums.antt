@@ -1,7 +1,6 @@
 -- The data of a session of version 1, its weighted sum of squares, and what it means that integers are best in it. All of
 -- it stands here, whatever later versions say: the unit κ, of which the wavelengths are 60 and 77, and rows in 2^-18 κ.
-use Rattle.std.specs.Prelude.{◌≡◌, ◌≢◌, ℕ, ◌*◌, ◌/◌, ◌+◌, ◌^◌, ℤ, pos, ◌*ℤ◌, Bool, false, if◌then◌else◌, nat_lt, Option, Some, None, List, [], ◌∷◌, ◌++◌, length}
-use Rattle.std.specs.Prelude.{take, map, All, slice_get, slice_index_or}
+use Rattle.std.specs.Prelude.{◌≡◌, ◌≢◌, ℕ, ◌*◌, ◌/◌, ◌+◌, ◌^◌, ℤ, pos, ◌*ℤ◌, Bool, false, if◌then◌else◌, nat_lt, Option, Some, None, List, [], ◌∷◌, ◌++◌, length, take, map, All, slice_get, slice_index_or}
 use Rattle.std.specs.List.{AllZip}
 use Rattle.rational.specs.Rational.{Rational, Near, ◌<ʳ◌, of_whole, add_r, sub_r, mul_r}
 use Rattle.quadratic_form.specs.RationalData.{Baseline, sum_of_rationals, spread_of_rationals}

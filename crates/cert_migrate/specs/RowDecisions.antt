@@ -7,7 +7,7 @@ use Rattle.fix_decide.specs.Decisions.{IsFormOf}
 use Rattle.cert_data.specs.declared.tails.Tail.{Tail}
 use Rattle.settled_decision.specs.Decided.{IsRefused, IsDecision, tail_of}
 
--- the elimination is refused, and the tail tells the refusal
+-- the elimination is refused, and the tail says the refusal
 pub record IsDecidedByFault (s : Session) (tail : Tail) : Type 0 where
   pub fault : LowerFault
   pub refused : IsRefused s fault

@@ -6,10 +6,8 @@ ghost use Rattle.settled_decision.specs.Decided.{IsBestWhereFixed};
 ghost use Rattle.cert_migrate.specs.RowDecisions.{IsRowDecision};
 
 use cert_data::Tail;
-use lower_form::lower;
-use normal_sum::sum;
 use obs_rows::Session;
-use settled_decision::{decide_settled, tail_of};
+use settled_decision::{decide_settled, form_of_rows, tail_of};
 
 /// Decides the rows of a fine session at a ratio in thousandths, whatever its point: the elimination, the search, the
 /// baseline of the least integers, their upper sum and the ratio. It isn't asked whether the point is settled.
@@ -21,8 +19,7 @@ pub(crate) fn decide_rows(session: &Session, ratio: u32, budget: u64) -> Tail
     ensures strictly_best { IsBestWhereFixed session.now result }
     ensures fits { IsTailOf (fine_signals session.now.signals) session.now.arcs budget result }
 {
-    let normal = sum(session);
-    match lower(&normal) {
+    match form_of_rows(session) {
         Ok(form) => decide_settled(session, &form, ratio, budget),
         Err(fault) => tail_of(fault),
     }

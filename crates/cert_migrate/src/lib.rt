@@ -35,4 +35,5 @@ pub use old_rows::OldRow;
 pub use old_sessions::{OldSession, OldSignals};
 pub use old_tails::{OldBest, OldTail};
 pub use read::read_old;
+/// What a reader fails with, by a name that serves tests alone.
 pub use rinex_head::TextFault as CertFault;

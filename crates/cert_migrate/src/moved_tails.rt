@@ -1,6 +1,5 @@
 //! A tail that was read, moved into the types of the first version.
 ghost use Rattle.std.specs.Prelude.{◌≡◌, ◌≤◌, take};
-ghost use Rattle.form_tables.specs.declared.sizes.TheConstants.{MOST_INTEGERS};
 ghost use Rattle.cert_migrate.specs.Carriers.{IsBestOf, IsEndOf, HasFewEntries};
 
 use crate::{OldBest, OldTail};

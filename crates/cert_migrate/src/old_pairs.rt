@@ -1,5 +1,5 @@
 //! Pairs as the first version has them.
-ghost use Rattle.std.specs.Prelude.{◌≡◌, ◌^◌, ◌<◌, ◌≤◌, length, unsigned_abs, AllPairs};
+ghost use Rattle.std.specs.Prelude.{◌^◌, ◌<◌, ◌≤◌, length, unsigned_abs, AllPairs};
 
 use crate::OldRow;
 use gps_time::Tick;

@@ -1,5 +1,5 @@
 //! Rows as the first version has them.
-ghost use Rattle.std.specs.Prelude.{◌≡◌, ◌^◌, All};
+ghost use Rattle.std.specs.Prelude.{◌^◌, All};
 ghost use Rattle.obs_rows.specs.Ranges.{IsWithin};
 ghost use Rattle.cert_migrate.specs.OldRanges.{IsOldRadius};
 

@@ -4,6 +4,7 @@ use Rattle.std.proofs.lemmas.List.Elements.{All-head, All-tail}
 use Rattle.obs_rows.specs.declared.arcs.Arc.{Arc}
 use Rattle.obs_rows.specs.declared.rows.Row.{Row}
 use Rattle.obs_rows.specs.declared.pair_rows.PairRows.{PairRows}
+use Rattle.obs_rows.specs.declared.units.TheConstants.{SIGNALS}
 use Rattle.obs_rows.specs.Ranges.{IsSystem}
 use Rattle.obs_rows.specs.Pairs.{HasItsArcs}
 use Rattle.cert_text.specs.Rules.{Point, Tail, Frame, cert_rules, admit, frame, behind_budget, Form, Ratio, Budget, SystemLine, Base, Letters, ArcCount, PairCount, NextPair, before_arcs, before_pairs, before_rows, reading_as}
@@ -41,11 +42,11 @@ use Rattle.cert_text.proofs.LineLaws.{arcs_taken, rows_taken}
 abbrev HasGroupOf : Version → PairRows → Type 0
 HasGroupOf version p = unsigned_abs p.group < group_limit version
 
-pairs_accepted : (f : Frame) (arcs : List Arc) (least : ℕ) (pairs : List PairRows) (rest : List (List ℕ)) → length f.ss ≤ 6 → length arcs ≤ 200 → All (HasItsArcs arcs) pairs
+pairs_accepted : (f : Frame) (arcs : List Arc) (least : ℕ) (pairs : List PairRows) (rest : List (List ℕ)) → length f.ss ≤ SIGNALS → length arcs ≤ 200 → All (HasItsArcs arcs) pairs
     → All IsWholePair pairs → All (HasGroupOf f.version) pairs → RisesFrom (λ p. p.number) least pairs
     → AreAccepted cert_rules (Tail f arcs) rest → AreAccepted cert_rules (before_pairs f arcs (length pairs) least) (all_pair_lines f.ss pairs ++ rest)
-pairs_accepted f arcs least [] rest six few has whole groups rising behind = behind
-pairs_accepted f arcs least (p ∷ pairs) rest six few has whole groups rising behind =
+pairs_accepted f arcs least [] rest signals few has whole groups rising behind = behind
+pairs_accepted f arcs least (p ∷ pairs) rest signals few has whole groups rising behind =
     let own = All-head (HasItsArcs arcs) p pairs has in
     let wide = All-head IsWholePair p pairs whole in
     let group = All-head (HasGroupOf f.version) p pairs groups in
@@ -57,10 +58,10 @@ pairs_accepted f arcs least (p ∷ pairs) rest six few has whole groups rising b
     ap (λ a. and_then a (λ h. Ok (before_rows f arcs (suc (length pairs) - 1) h.number h.count 0)))
     (pair_spells f.version least p.number p.tag.0 (length p.rows) p.group rising.0 p.number_in p.tag_in group p.some_rows p.few_rows)
     ∙ ap (λ (n : ℕ). Ok (before_rows f arcs n p.number (length p.rows) 0)) fewer in
-    let later = pairs_accepted f arcs (p.number + 1) pairs rest six few (All-tail (HasItsArcs arcs) p pairs has) (All-tail IsWholePair p pairs whole)
+    let later = pairs_accepted f arcs (p.number + 1) pairs rest signals few (All-tail (HasItsArcs arcs) p pairs has) (All-tail IsWholePair p pairs whole)
     (All-tail (HasGroupOf f.version) p pairs groups) rising.1 behind in
     let rows = rows_accepted cert_rules f.ss arcs p.number (λ (left least : ℕ). before_rows f arcs (length pairs) p.number left least) (before_pairs f arcs (length pairs) (p.number + 1)) 0 p.rows
-    (all_pair_lines f.ss pairs ++ rest) (rows_taken f arcs (length pairs) p.number) six few own wide
+    (all_pair_lines f.ss pairs ++ rest) (rows_taken f arcs (length pairs) p.number) signals few own wide
     (rises (λ (r : Row). r.arc) 0 p.rows p.arcs_rise (λ d some. omega arith)) later in
     let split : (pair_lines f.ss p ++ all_pair_lines f.ss pairs) ++ rest ≡ line ∷ others = append_assoc (pair_lines f.ss p) (all_pair_lines f.ss pairs) rest in
     subst (AreAccepted cert_rules (NextPair f arcs (suc (length pairs)) least)) (sym split)
@@ -101,11 +102,11 @@ cert_accepted version c whole of_version =
     let ss = fine_signals s.signals in
     let budget = c.budget in
     let f = frame version budget ss in
-    let six : length ss ≤ 6 = (signals_good s.signals.l2 s.signals.l5).few in
+    let few_signals : length ss ≤ SIGNALS = (signals_good s.signals.l2 s.signals.l5).few in
     let tail = tail_accepted f s.arcs c.tail c.budget_to c.tail_fits of_version.column whole.tail in
     let pair_lines_rest = all_pair_lines ss s.pairs ++ tail_lines c.tail in
     let after_arcs = counted_pairs ss s.pairs ++ tail_lines c.tail in
-    let c1 = pairs_accepted f s.arcs 0 s.pairs (tail_lines c.tail) six s.arcs_in.few s.pairs_in.rows_have_arcs whole.session.pairs of_version.groups
+    let c1 = pairs_accepted f s.arcs 0 s.pairs (tail_lines c.tail) few_signals s.arcs_in.few s.pairs_in.rows_have_arcs whole.session.pairs of_version.groups
     (rises (λ (p : PairRows). p.number) 0 s.pairs s.pairs_in.rising (λ d some. omega arith)) tail in
     let c2 : AreAccepted cert_rules (PairCount f s.arcs) after_arcs =
     step cert_rules (PairCount f s.arcs) (before_pairs f s.arcs (length s.pairs) 0) (count_line (codes "pairs") (length s.pairs)) pair_lines_rest

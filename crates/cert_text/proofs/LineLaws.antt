@@ -12,8 +12,7 @@ use Rattle.cert_lines.specs.Versions.{form_line}
 use Rattle.grammar_lines.specs.LineParts.{word_in, TakesLine}
 use Rattle.grammar_lines.specs.Parts.{ArcsAreTaken, RowsAreTaken}
 use Rattle.cert_text.specs.TailForms.{declined_in}
-use Rattle.cert_text.specs.Rules.{Expected, Frame, frame, behind_budget, Form, Ratio, Budget, Base, Point, Letters, ArcCount, PairCount, Tail, Second, Move, Values, Last, End}
-use Rattle.cert_text.specs.Rules.{cert_rules, admit, before_arcs, before_pairs, before_rows}
+use Rattle.cert_text.specs.Rules.{Expected, Frame, frame, behind_budget, Form, Ratio, Budget, Base, Point, Letters, ArcCount, PairCount, Tail, Second, Move, Values, Last, End, cert_rules, admit, before_arcs, before_pairs, before_rows}
 
 -- ---- where a line of the head is expected
 

@@ -1,14 +1,11 @@
 //! The arcs of a certificate.
-ghost use Rattle.std.specs.Prelude.{◌≡◌, ◌≤◌, ◌+◌, ◌-◌, ◌++◌, ◌∷◌, [], ℕ, List, All, length, IfOk, IsTrue};
-ghost use Rattle.obs_rows.specs.declared.arcs.Arc.{Arc};
-ghost use Rattle.obs_rows.specs.Arcs.{IsArcInRange, AreArcs, free_count};
+ghost use Rattle.std.specs.Prelude.{◌≡◌, ◌≤◌, ◌++◌, ℕ, All, IfOk};
+ghost use Rattle.obs_rows.specs.Arcs.{AreArcs};
 ghost use Rattle.obs_rows.specs.Signals.{fine_signals};
 ghost use Rattle.obs_rows.specs.Unused.{HasUsedShifts};
 ghost use Rattle.cert_lines.specs.Versions.{most_sat};
-ghost use Rattle.rinex_head.specs.Walk.{Reads, ReadsFree};
-ghost use Rattle.cert_lines.specs.Lines.{arc_line};
-ghost use Rattle.cert_lines.specs.Forms.{may_stand};
-ghost use Rattle.cert_lines.specs.Lines.{arc_lines, counted_arcs};
+ghost use Rattle.rinex_head.specs.Walk.{Reads};
+ghost use Rattle.cert_lines.specs.Lines.{counted_arcs};
 ghost use Rattle.cert_lines.specs.Lengths.{IsWholeArc};
 ghost use Rattle.cert_text.specs.Rules.{cert_rules, frame, ArcCount, PairCount};
 

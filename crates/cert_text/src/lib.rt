@@ -2,10 +2,11 @@
 //!
 //! `read_cert` answers the certificate whose spelling the text is (`ok`), the only one with that spelling (`only`),
 //! or refuses a text that is the spelling of none (`refused`), at the first line and check that fails (`exact`); no
-//! certificate's text begins with the lines up to that one (`stuck`). Want of memory is told as that alone. So what
+//! certificate's text begins with the lines up to that one (`stuck`). `NoMemory` says nothing of the text. So what
 //! `write_cert` wrote is read again, and no other text gives it. Two certificates with one spelling are the same
 //! (`one_spelling_law`). `read_as` says the same of a text in the form of either version, and of the certificates that
-//! this form can say.
+//! this form can say. That some certificate begins with the lines before the refused one is said by no clause: a number
+//! of pairs or of rows that was announced may be one that the text can't meet any more.
 #![tactic(auto)]
 
 mod arcs;
@@ -24,4 +25,5 @@ pub use cert_lines::Version;
 pub use cert_spelling::write_cert;
 pub use laws::one_spelling_law;
 pub use reader::{read_as, read_cert};
+/// What a reader fails with, by a name that serves tests alone.
 pub use rinex_head::TextFault as CertFault;

@@ -1,17 +1,14 @@
 //! The pairs of a certificate, with their rows.
-ghost use Rattle.std.specs.Prelude.{◌≡◌, ◌≤◌, ◌<◌, ◌+◌, ◌-◌, ◌^◌, ◌++◌, ◌∷◌, [], ℕ, List, All, length, unsigned_abs, IfOk};
-ghost use Rattle.obs_rows.specs.declared.arcs.Arc.{Arc};
-ghost use Rattle.obs_rows.specs.Arcs.{IsOfPair};
+ghost use Rattle.std.specs.Prelude.{◌≡◌, ◌≤◌, ◌<◌, ◌+◌, ◌-◌, ◌++◌, [], ℕ, All, length, unsigned_abs, IfOk};
 ghost use Rattle.obs_rows.specs.Pairs.{HasItsArcs};
 ghost use Rattle.obs_rows.specs.Signals.{fine_signals};
-ghost use Rattle.obs_rows.specs.Unused.{IsZeroOff, HasUsedRows};
-ghost use Rattle.cert_lines.specs.declared.version.Version.{Version};
+ghost use Rattle.obs_rows.specs.Unused.{HasUsedRows};
 ghost use Rattle.cert_lines.specs.Versions.{group_limit};
-ghost use Rattle.rinex_head.specs.Walk.{Reads, ReadsFree};
-ghost use Rattle.cert_lines.specs.Lines.{pair_line, row_line, row_lines, pair_lines};
+ghost use Rattle.rinex_head.specs.Walk.{Reads};
+ghost use Rattle.cert_lines.specs.Lines.{pair_lines};
 ghost use Rattle.cert_spelling.specs.Spelling.{all_pair_lines, counted_pairs};
-ghost use Rattle.cert_lines.specs.Lengths.{IsWholeRow, IsWholePair};
-ghost use Rattle.cert_text.specs.Rules.{cert_rules, frame, before_pairs, before_rows, PairCount, Tail};
+ghost use Rattle.cert_lines.specs.Lengths.{IsWholePair};
+ghost use Rattle.cert_text.specs.Rules.{cert_rules, frame, before_pairs, PairCount, Tail};
 
 use crate::grammar::CertText;
 use cert_lines::Version;

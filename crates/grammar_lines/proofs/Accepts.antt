@@ -7,6 +7,8 @@ use Rattle.std.proofs.lemmas.List.Sums.{sum_by-append}
 use Rattle.obs_rows.specs.declared.arcs.Arc.{Arc}
 use Rattle.obs_rows.specs.declared.rows.Row.{Row}
 use Rattle.obs_rows.specs.Arcs.{IsArcInRange, IsOfPair, is_free, free_count, AreArcs}
+use Rattle.obs_rows.specs.declared.units.TheConstants.{MOST_FREE_ARCS, PHASES, SIGNALS}
+use Rattle.cert_words.specs.declared.numbers.TheConstants.{MOST_NUMBERS}
 use Rattle.cert_words.specs.Spelling.{behind_blanks}
 use Rattle.cert_words.proofs.NumberLaws.{AreSmall}
 use Rattle.cert_lines.specs.Lines.{arc_line, kind_text, row_numbers, row_lines, arc_lines, counted_arcs, count_line, row_line}
@@ -62,19 +64,19 @@ rises key least (x ∷ xs) rising first = (first x (omega arith), rises key (key
 -- ---- the rows of a pair
 
 pub rows_accepted : {S : Type 0} (rules : Rules S (Unit {0})) (ss : List ℕ) (arcs : List Arc) (number : ℕ) (before : ℕ → ℕ → S) (after : S) (least : ℕ) (rows : List Row) (rest : List (List ℕ))
-    → RowsAreTaken rules ss arcs number before after → length ss ≤ 6 → length arcs ≤ 200 → All (IsOfPair arcs number) rows → All IsWholeRow rows → RisesFrom (λ (r : Row). r.arc) least rows
+    → RowsAreTaken rules ss arcs number before after → length ss ≤ SIGNALS → length arcs ≤ 200 → All (IsOfPair arcs number) rows → All IsWholeRow rows → RisesFrom (λ (r : Row). r.arc) least rows
     → AreAccepted rules after rest → AreAccepted rules (before (length rows) least) (row_lines ss rows ++ rest)
-rows_accepted {S} rules ss arcs number before after least [] rest taken six few of_pair whole rising behind = subst (λ (s : S). AreAccepted rules s rest) (sym (taken.ends least)) behind
-rows_accepted {S} rules ss arcs number before after least (r ∷ rows) rest taken six few of_pair whole rising behind =
+rows_accepted {S} rules ss arcs number before after least [] rest taken signals few of_pair whole rising behind = subst (λ (s : S). AreAccepted rules s rest) (sym (taken.ends least)) behind
+rows_accepted {S} rules ss arcs number before after least (r ∷ rows) rest taken signals few of_pair whole rising behind =
     let is = All-head (IsOfPair arcs number) r rows of_pair in
     let wide = All-head IsWholeRow r rows whole in
     let zs = row_small ss arcs number r few is in
-    let count : length (row_numbers ss r) ≤ 60 = omega (arith, row_count ss r wide, six) in
+    let count : length (row_numbers ss r) ≤ MOST_NUMBERS = omega (arith, row_count ss r wide, signals) in
     let short = line_length (codes "row") (row_numbers ss r) (lit≤ tt) count zs in
     let left : ℕ = suc (length rows) in
     let fewer : suc (length rows) - 1 ≡ length rows = omega arith in
     let reads = row_spells ss arcs number least r few is wide rising.0 in
-    let later = rows_accepted rules ss arcs number before after (r.arc + 1) rows rest taken six few
+    let later = rows_accepted rules ss arcs number before after (r.arc + 1) rows rest taken signals few
     (All-tail (IsOfPair arcs number) r rows of_pair) (All-tail IsWholeRow r rows whole) rising.1 behind in
     let next = subst (λ (n : ℕ). AreAccepted rules (before n (r.arc + 1)) (row_lines ss rows ++ rest)) (sym fewer) later in
     line_accepted rules (before left least) (row_in ss arcs number least) (λ (k : ℕ). before (left - 1) (k + 1)) r.arc (row_line ss r) (row_lines ss rows ++ rest)
@@ -82,8 +84,8 @@ rows_accepted {S} rules ss arcs number before after least (r ∷ rows) rest take
 
 -- ---- arcs
 
-arc_length : (ss : List ℕ) (a : Arc) → IsArcInRange a → length (phase_bands ss) ≤ 3 → length (arc_line ss a) ≤ 4096
-arc_length ss a is three_bands =
+arc_length : (ss : List ℕ) (a : Arc) → IsArcInRange a → length (phase_bands ss) ≤ PHASES → length (arc_line ss a) ≤ 4096
+arc_length ss a is bands =
     let own = select (phase_bands ss) a.shift in
     let whole : length own ≡ length (phase_bands ss) = length-map (phase_bands ss) (λ p. get_or a.shift p (pos 0)) in
     let three : List ℤ = pos a.sat ∷ pos a.first ∷ pos a.last ∷ [] in
@@ -96,7 +98,7 @@ arc_length ss a is three_bands =
     let two = length-append (behind_blanks three) (kind_text a.datum ++ behind_blanks own) in
     let last = length-append (kind_text a.datum) (behind_blanks own) in
     let sizes : length three ≤ 3 = lit≤ tt in
-    omega (arith, front, back, kind, one, two, last, whole, three_bands, sizes)
+    omega (arith, front, back, kind, one, two, last, whole, bands, sizes)
   where
     kind_length : (d : Bool) → length (kind_text d) ≤ 6
     kind_length true = lit≤ tt
@@ -105,7 +107,7 @@ arc_length ss a is three_bands =
 free_more : (a : Arc) (arcs : List Arc) → free_count (a ∷ arcs) ≡ free_by a.datum + free_count arcs
 free_more a arcs = sum_by-append (λ (x : Arc). cond (is_free x) 1 0) (a ∷ []) arcs ∙ ap (λ (n : ℕ). n + free_count arcs) (free_push [] a ∙ (omega arith))
 
-stands : (free left more : ℕ) (datum : Bool) → 1 ≤ left → (free + free_by datum) + more ≤ 20 → 1 ≤ (free + free_by datum) + more → (left ≤ 1 → more ≡ 0) → may_stand free left datum ≡ true
+stands : (free left more : ℕ) (datum : Bool) → 1 ≤ left → (free + free_by datum) + more ≤ MOST_FREE_ARCS → 1 ≤ (free + free_by datum) + more → (left ≤ 1 → more ≡ 0) → may_stand free left datum ≡ true
 stands free left more true some few has last = by_left (nat_lt 1 left) refl
   where
     by_left : (t : Bool) → nat_lt 1 left ≡ t → (t || nat_lt 0 free) ≡ true
@@ -115,14 +117,14 @@ stands free left more true some few has last = by_left (nat_lt 1 left) refl
         let none = last short in
         let some_free : 0 < free = omega (arith, none, has) in
         grind (arith, nat_tests, some_free)
-stands free left more false some few has last = let room : free < 20 = omega (arith, few) in grind (arith, nat_tests, room)
+stands free left more false some few has last = let room : free < MOST_FREE_ARCS = omega (arith, few) in grind (arith, nat_tests, room)
 
 abbrev pub HasSatOf : Version → Arc → Type 0
 HasSatOf version a = a.sat ≤ most_sat version
 
 pub arcs_accepted : {S : Type 0} (rules : Rules S (Unit {0})) (version : Version) (l2 l5 : ℕ) (before : ℕ → List Arc → S) (done arcs : List Arc) (rest : List (List ℕ))
     → ArcsAreTaken rules version (used_signals l2 l5) before → All IsArcInRange arcs → All (HasSatOf version) arcs → All (HasUsedShifts (used_signals l2 l5)) arcs → All IsWholeArc arcs
-    → free_count done + free_count arcs ≤ 20 → 1 ≤ free_count done + free_count arcs
+    → free_count done + free_count arcs ≤ MOST_FREE_ARCS → 1 ≤ free_count done + free_count arcs
     → AreAccepted rules (before 0 (done ++ arcs)) rest → AreAccepted rules (before (length arcs) done) (arc_lines (used_signals l2 l5) arcs ++ rest)
 arcs_accepted rules version l2 l5 before done [] rest taken ranges sats used whole few some behind = subst (λ (l : List Arc). AreAccepted rules (before 0 l) rest) (append-nil done) behind
 arcs_accepted rules version l2 l5 before done (a ∷ arcs) rest taken ranges sats used whole few some behind =

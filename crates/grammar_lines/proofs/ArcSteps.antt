@@ -3,10 +3,10 @@ use Rattle.std.proofs.Common.{◌≡◌, ◌+◌, ◌-◌, ◌≤◌, ◌⊎◌,
 use Rattle.std.proofs.lemmas.Bool.Decides.{nat_tests}
 use Rattle.std.proofs.lemmas.List.Sums.{sum_by-append}
 use Rattle.obs_rows.specs.declared.arcs.Arc.{Arc}
+use Rattle.obs_rows.specs.declared.units.TheConstants.{MOST_FREE_ARCS}
 use Rattle.obs_rows.specs.Arcs.{is_free, free_count}
-use Rattle.cert_lines.specs.Lines.{arc_line}
+use Rattle.cert_lines.specs.Lines.{arc_line, arc_lines}
 use Rattle.cert_lines.specs.Forms.{may_stand}
-use Rattle.cert_lines.specs.Lines.{arc_lines}
 use Rattle.grammar_lines.specs.Parts.{free_by}
 
 pub arcs_took : (ss : List ℕ) (arcs : List Arc) (a : Arc) (rest : List (List ℕ)) → arc_lines ss arcs ++ arc_line ss a ∷ rest ≡ arc_lines ss (arcs ++ a ∷ []) ++ rest
@@ -20,7 +20,7 @@ free_push arcs a = sum_by-append (λ (x : Arc). cond (is_free x) 1 0) arcs (a �
     one true = refl
     one false = refl
 
-pub few_stand : (free left : ℕ) (datum : Bool) → IsTrue (may_stand free left datum) → free ≤ 20 → free + free_by datum ≤ 20
+pub few_stand : (free left : ℕ) (datum : Bool) → IsTrue (may_stand free left datum) → free ≤ MOST_FREE_ARCS → free + free_by datum ≤ MOST_FREE_ARCS
 few_stand free left true stands few = omega arith
 few_stand free left false stands few = grind (arith, nat_tests)
 

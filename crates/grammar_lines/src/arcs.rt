@@ -1,14 +1,14 @@
 //! The arcs of a certificate.
-ghost use Rattle.std.specs.Prelude.{◌≡◌, ◌≤◌, ◌+◌, ◌-◌, ◌++◌, ◌∷◌, [], ℕ, List, All, codes, length, IfOk, IsTrue};
+ghost use Rattle.std.specs.Prelude.{◌≡◌, ◌≤◌, ◌+◌, ◌++◌, ◌∷◌, [], ℕ, List, All, codes, length, IfOk, IsTrue};
 ghost use Rattle.obs_rows.specs.declared.arcs.Arc.{Arc};
-ghost use Rattle.obs_rows.specs.Arcs.{IsArcInRange, AreArcs, free_count};
+ghost use Rattle.obs_rows.specs.Arcs.{IsArcInRange, AreArcs};
+ghost use Rattle.obs_rows.specs.declared.units.TheConstants.{MOST_FREE_ARCS};
 ghost use Rattle.obs_rows.specs.Signals.{fine_signals};
 ghost use Rattle.obs_rows.specs.Unused.{HasUsedShifts};
 ghost use Rattle.cert_lines.specs.Versions.{most_sat};
 ghost use Rattle.rinex_head.specs.Walk.{Reads, ReadsFree};
-ghost use Rattle.cert_lines.specs.Lines.{arc_line};
+ghost use Rattle.cert_lines.specs.Lines.{arc_line, arc_lines, counted_arcs};
 ghost use Rattle.cert_lines.specs.Forms.{count_in, arc_in, may_stand};
-ghost use Rattle.cert_lines.specs.Lines.{arc_lines, counted_arcs};
 ghost use Rattle.grammar_lines.specs.LineParts.{TakesLine};
 ghost use Rattle.cert_lines.specs.Lengths.{IsWholeArc};
 ghost use Rattle.grammar_lines.specs.Parts.{free_by, ArcsAreTaken};
@@ -46,7 +46,7 @@ fn next_arc<G: Grammar>(
 
 // How many free arcs there are with this one.
 fn free_with(free: usize, datum: bool) -> usize
-    requires { free ≤ 20 }
+    requires { free ≤ MOST_FREE_ARCS }
     ensures { result ≡ free + free_by datum }
 {
     if datum { free } else { free + 1 }

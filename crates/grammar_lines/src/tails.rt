@@ -67,7 +67,7 @@ pub fn place_in(words: &[u8], line: &[u8]) -> Result<Place, Flaw>
     }
 }
 
-/// Nothing stands behind the last line.
+/// Nothing stands after the last line.
 pub fn read_end<G: Grammar>(lines: &mut TextLines<'_>) -> Result<(), At>
     ensures { (s : G.State) → IsEnd G.rules s → MatchResult result
         (λ u. (rest_gives G.rules lines.old s ≡ Ok tt) × (lines.old.left ≡ []))

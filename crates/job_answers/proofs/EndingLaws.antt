@@ -1,4 +1,4 @@
--- The statuses of endings, and what a file that is told and admitted ends with.
+-- The statuses of endings, and what a file whose text is known and admitted ends with.
 use Rattle.std.proofs.Common.{◌≡◌, ◌≢◌, ◌⊎◌, inl, inr, ◌<◌, ℕ, List, [], ◌∷◌, length, Some, Option, Result, Ok, Err, refl, sym, ap, ◌∙◌, subst, arith, IfSome}
 use Rattle.line_source.specs.Told.{IsReadToEnd}
 use Rattle.job_answers.specs.declared.answer.Answer.{Answer}
@@ -16,7 +16,7 @@ use Rattle.job_answers.specs.Delivered.{SinkChange, IsDelivered}
 told_at : (told : List ℕ → Option (List ℕ)) (name bytes : List ℕ) (P : List ℕ → Type 0) → told name ≡ Some bytes → IfSome (told name) P → P bytes
 told_at told name bytes P is holds = subst (λ (o : Option (List ℕ)). IfSome o P) is holds
 
--- A file that is told and admitted ends with what its text ends with, or with a read fault.
+-- A file whose text is known and admitted ends with what its text ends with, or with a read fault.
 pub admitted_ends : (told : List ℕ → Option (List ℕ)) (name : List ℕ) (IsFile : List (List ℕ) → Type 0) (ends : List ℕ → Ending → Type 0) (end : Ending)
     → (file : IsAdmitted told name IsFile) → end.status ≢ ReadFault → EndsByFile told name ends end → ends file.text end
 admitted_ends told name IsFile ends end file no_fault (inl by_text) =

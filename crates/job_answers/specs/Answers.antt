@@ -8,7 +8,7 @@ use Rattle.job_answers.specs.Endings.{Ending, ending}
 abbrev pub ending_of : Answer → Ending
 ending_of a = ending a.status a.out.items a.err.items
 
--- what holds of the end of a job that stops, and of one that stops or not; want of memory is free
+-- what holds of the end of a job that stops, and of one that stops or not; running out of memory is free
 abbrev pub IfEnds : Stop → (Ending → Type 0) → Type 0
 IfEnds (Ended a) P = P (ending_of a)
 IfEnds NoMemory P = Unit {0}

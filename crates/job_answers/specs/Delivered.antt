@@ -10,7 +10,7 @@ use Rattle.job_answers.specs.Statuses.{IsVerdictStatus}
 use Rattle.job_answers.specs.Texts.{write_fault_line}
 use Rattle.job_answers.specs.Endings.{Ending}
 
--- what a sink held and holds, where it tells, and its count of faults
+-- what a sink held and holds, where it reports them, and its count of faults
 pub record SinkChange : Type 0 where
   pub old : Option (List ℕ)
   pub new : Option (List ℕ)
@@ -32,7 +32,7 @@ pub record EndsWritten (end : Ending) (result : Status) (out err : SinkChange) :
   pub err_gains : GainsUnlessFault err end.err
   pub err_whole : IsVerdictStatus end.status → Appends err.old err.new end.err
 
--- out had a fault, where a verdict's text was wanted whole, and err was told of it, once
+-- out had a fault, where a verdict's text was wanted whole, which was reported on err, once
 pub record EndsByOut (end : Ending) (result : Status) (out err : SinkChange) : Type 0 where
   pub fault : result ≡ WriteFault
   pub rose : Rose out.before out.now

@@ -17,7 +17,7 @@ pub record Ending : Type 0 where
 abbrev pub ending : Status → List ℕ → List ℕ → Ending
 ending status out err = record { status = status; out = out; err = err }
 
--- the text of the file, which is what is told of it where something is told
+-- the text of the file, which is what is known of it where something is
 pub record IsTextOf (told : List ℕ → Option (List ℕ)) (name text : List ℕ) : Type 0 where
   pub told_is : IfSome (told name) (λ bytes. text ≡ bytes)
   pub fits : length text ≤ 67108864
@@ -55,20 +55,20 @@ pub record EndsByText (told : List ℕ → Option (List ℕ)) (name : List ℕ) 
 abbrev pub EndsByFile : (List ℕ → Option (List ℕ)) → List ℕ → (List ℕ → Ending → Type 0) → Ending → Type 0
 EndsByFile told name ends end = EndsByText told name ends end ⊎ EndsUnloaded told name end
 
--- the file is told, and is one of this form
+-- the text of the file is known, and is one of this form
 pub record IsAdmitted (told : List ℕ → Option (List ℕ)) (name : List ℕ) (IsFile : List (List ℕ) → Type 0) : Type 0 where
   pub text : List ℕ
   pub told_is : told name ≡ Some text
   pub fits : length text ≤ 67108864
   pub file : IsFile (lines_of text)
 
--- The file's refusal is told, and the file was read to its end: a read fault would have come before.
+-- The file's refusal is reported, and the file was read to its end: a read fault would have come before.
 pub record IsReadAndRefused (told : List ℕ → Option (List ℕ)) (left : ℕ → Option (List ℕ)) (tells : List ℕ → Type 0) (name : List ℕ) : Type 0 where
   pub at : At
   pub line : tells (refusal_line name at)
   pub read : IsReadToEnd told left name
 
--- It is told that the file is too large, and it is.
+-- It is reported that the file is too large, and it is.
 pub record IsRefusedAsLarge (told : List ℕ → Option (List ℕ)) (tells : List ℕ → Type 0) (name : List ℕ) : Type 0 where
   pub line : tells (too_large_line name)
   pub large : HasTooManyBytes told name

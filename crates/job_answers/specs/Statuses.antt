@@ -18,7 +18,7 @@ IsVerdictStatus Done = Unit {0}
 IsVerdictStatus Declined = Unit {0}
 IsVerdictStatus _ = ⊥
 
--- The statuses of jobs. Wrong words, a fault of a sink and want of memory come of no job.
+-- The statuses of jobs. A usage error, a fault of a sink and running out of memory come of no job.
 abbrev pub IsJobStatus : Status → Type 0
 IsJobStatus Done = Unit {0}
 IsJobStatus Declined = Unit {0}

@@ -19,7 +19,7 @@ fn tell<E: Sink>(err: &mut E, line: &[u8])
     let _ = put_all(err, line);
 }
 
-/// Writes the two texts, out first. Only a verdict has a text for out; where out has a fault, err is told of it, once.
+/// Writes the two texts, out first. Only a verdict has a text for out; a fault of out is reported on err, once.
 pub fn deliver<O: Sink, E: Sink>(
     status: Status,
     out_text: &[u8],

@@ -1,19 +1,19 @@
 //! How a job stops, and the ends of all jobs whose file isn't read.
-ghost use Rattle.std.specs.Prelude.{◌≡◌, ◌≢◌, ◌≤◌, [], ◌∷◌, length, vec_len, IfOk, OnOk, string_bytes};
+ghost use Rattle.std.specs.Prelude.{◌≡◌, ◌≢◌, ◌≤◌, [], ◌∷◌, IfOk, OnOk, string_bytes};
 ghost use Rattle.line_source.specs.Causes.{Rose, OpensAtMost};
 ghost use Rattle.line_source.specs.Told.{Same, Stays, IsReadToEnd};
 ghost use Rattle.job_answers.specs.Statuses.{IsVerdictStatus};
 ghost use Rattle.job_answers.specs.declared.stop.Stop.TheVariants.{NoMemory};
 ghost use Rattle.job_answers.specs.Texts.{refusal_line, too_large_line, read_fault_line, usage_line};
 ghost use Rattle.job_answers.specs.Endings.{ending, IsTextOf, EndsUnloaded, IsRefusedWhole};
-ghost use Rattle.job_answers.specs.Answers.{ending_of, IfEnds, IfStopped};
+ghost use Rattle.job_answers.specs.Answers.{ending_of, IfStopped};
 
 use crate::{Answer, Status};
 use line_source::{Files, LoadFault, load};
 use rinex_head::At;
 use std::alloc::{AllocError, Global};
 
-/// Why a job is not done to its end: it ends before, or memory was refused.
+/// Why a job is not done to its end: it ends before, or runs out of memory.
 #[derive(Drop)]
 pub enum Stop {
     Ended(Answer),
@@ -53,7 +53,7 @@ impl Answer {
     }
 }
 
-/// The end of a run whose words ask for no job.
+/// The end of a run with a usage error: its words are no job.
 pub fn usage(alloc: Global) -> Result<Answer, AllocError>
     ensures { IfOk result (λ a. ending_of a ≡ ending Status.Usage [] usage_line) }
 {

@@ -1,15 +1,12 @@
 -- The baseline of a fix in 0.1 mm, and how it is printed.
-use Rattle.std.specs.Prelude.{ℕ, ◌*◌, ◌/◌, ◌^◌, ℤ, ◌+ℤ◌, ◌-ℤ◌, ◌*ℤ◌, unsigned_abs, List, [], ◌∷◌, ◌++◌, codes}
+use Rattle.std.specs.Prelude.{ℕ, ℤ, ◌+ℤ◌, ◌-ℤ◌, ◌*ℤ◌, List, [], ◌∷◌, ◌++◌, codes}
 use Rattle.whole_math.specs.Rounding.{nearest_div}
-use Rattle.obs_rows.specs.declared.units.TheConstants.{UNIT_FREQUENCY, LIGHT_SPEED, MOVE_EXPONENT}
+use Rattle.obs_rows.specs.declared.units.TheConstants.{LIGHT_SPEED}
 use Rattle.integer_form.specs.FloatPoint.{item}
+use Rattle.cert_data.specs.Moves.{parts}
 use Rattle.decimal_text.specs.Write.{fixed_text}
 
--- A number of a move is in 2^-5 ι, and ι is the speed of light over the unit's frequency. So in 0.1 mm it is so many times the
--- speed of light over this
-abbrev pub parts : ℕ
-parts = (unsigned_abs UNIT_FREQUENCY / 10 ^ 4) * 2 ^ MOVE_EXPONENT
-
+-- a number of a move in 0.1 mm
 abbrev pub in_tenths : ℤ → ℤ
 in_tenths m = nearest_div (m *ℤ LIGHT_SPEED) parts
 

@@ -20,7 +20,7 @@ stage_word Coarse = codes "coarse"
 stage_word Fine = codes "fine"
 
 -- Why a run is declined in a round of this stage without a session to print. No run ends so with integers or with a spent
--- budget, which both need such a session; of them the stage alone would be told.
+-- budget, which both need such a session; of them the stage alone would be printed.
 abbrev pub early_text : Stage → Tail → List ℕ
 early_text stage (tail.Weak column pivot) = codes "weak " ++ (stage_word stage ++ (codes " " ++ (decimal column ++ (codes " " ++ signed_decimal pivot))))
 early_text stage (tail.Overwidth place) = codes "overwidth " ++ (stage_word stage ++ (codes " " ++ name_of_place place))
@@ -33,7 +33,7 @@ early_text stage (tail.Spent budget) = stage_word stage
 abbrev pub decline_line : List ℕ → ℕ → List ℕ
 decline_line word count = codes "declined " ++ (word ++ (codes " " ++ (decimal count ++ codes "\n")))
 
--- the text for out: the certificate, or one line that tells why there is none
+-- the text for out: the certificate, or one line that says why there is none
 abbrev pub answer_text : Answer → List ℕ
 answer_text (Few pairs) = decline_line (codes "few") pairs
 answer_text (Arcs free) = decline_line (codes "arcs") free
@@ -49,7 +49,7 @@ IsWholeAnswer _ = Unit {0}
 abbrev pub counts_text : ℕ → ℕ → ℕ → List ℕ
 counts_text taken all kept = codes "pairs " ++ (decimal taken ++ (codes " of " ++ (decimal all ++ (codes "\narcs " ++ (decimal kept ++ codes "\n")))))
 
--- the deltas of the headers aren't applied: where there is one, that is told
+-- the deltas of the headers aren't applied: where there is one, that is printed
 abbrev pub delta_text : Bool → List ℕ
 delta_text true = codes "note antenna delta not applied\n"
 delta_text false = []

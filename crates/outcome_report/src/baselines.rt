@@ -3,14 +3,11 @@ ghost use Rattle.std.specs.Prelude.{◌≡◌, ◌^◌, ◌<◌, ◌≤◌, ◌-
 ghost use Rattle.obs_rows.specs.Ranges.{IsPoint, IsBelow, IsWithin};
 ghost use Rattle.outcome_report.specs.Baselines.{in_tenths, from_base, baseline_of, metres_behind_blanks, place_line};
 
+use cert_data::PARTS;
 use decimal_text::write_fixed;
-use obs_rows::{LIGHT_SPEED, MOVE_EXPONENT, UNIT_FREQUENCY};
+use obs_rows::LIGHT_SPEED;
 use std::alloc::{AllocError, Global};
 use whole_math::nearest;
-
-/// A number of a move is 2^-5 ι, and ι is the speed of light over the unit's frequency; in 0.1 mm it is the speed of light
-/// over this.
-const PARTS: i128 = (UNIT_FREQUENCY / 10_000 * (1 << MOVE_EXPONENT)) as i128;
 
 // A number of a move in 0.1 mm.
 fn in_tenths(number: i64) -> i64

@@ -138,7 +138,7 @@ fn push_verdict(alloc: Global, text: &mut Vec<u8>, answer: &Answer) -> Result<()
     }
 }
 
-/// Appends what is printed of the end of a run: to `out` the certificate, or the line that tells why there is none; to
+/// Appends what is printed of the end of a run: to `out` the certificate, or the line that says why there is none; to
 /// `err` the numbers of pairs and arcs, the baseline of a fix, and the verdict. After an `Err` a part of the texts may
 /// have been appended.
 pub fn write_outcome(

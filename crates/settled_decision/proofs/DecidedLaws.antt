@@ -30,13 +30,13 @@ use Rattle.settled_decision.specs.Decided.{AreFound, IsTooWide, IsBaselineWide, 
 pub top_word : (x : ℤ) → pos 0 ≤ℤ x → x ≤ℤ pos (2 ^ 119) → to_z w128 (of_z w128 x) ≡ x
 top_word x l g = omega (arith, ints)
 
--- a decision told as a tail
+-- a decision as a tail
 pub told_decision : (s : Session) (f : Form) (ratio budget h : ℕ) (m : List ℤ) (best : TwoBest) (top : ℤ) (fixed : Bool) (t : Tail) → t ≡ cond fixed (Fixed h m best top) (Unseparated h m best top) →
     AreFound s f budget h m best top → (IsTrue fixed → IsSeparated (pos ratio) top best.p2) → (IsSeparated (pos ratio) top best.p2 → IsTrue fixed) → IsDecision s f ratio budget t
 told_decision s f ratio budget h m best top true t e found there back = subst (IsDecision s f ratio budget) (sym e) (found, there refl)
 told_decision s f ratio budget h m best top false t e found there back = subst (IsDecision s f ratio budget) (sym e) (found, λ x. false≢true (back x))
 
--- where a decision is told as fixed, its integers are strictly best
+-- where a decision is given as fixed, its integers are strictly best
 pub told_best : (s : Session) (h : ℕ) (m : List ℤ) (best b : TwoBest) (top : ℤ) (fixed : Bool) (t : Tail) → t ≡ tail_of_vectors fixed h m best top → best ≡ b →
     (IsTrue fixed → IsStrictlyBest s (first_of b) m) → IsBestWhereFixed s t
 told_best s h m best b top true t e same is = subst (IsBestWhereFixed s) (sym e) (subst (λ (x : TwoBest). IsStrictlyBest s (first_of x) m) (sym same) (is refl))

@@ -1,16 +1,30 @@
 //! What a session's rows are decided to say.
-ghost use Rattle.std.specs.Prelude.{◌≡◌, ◌^◌, ◌≤◌, List, ℤ, length, pos, neg_ℤ, ◌≤ℤ◌};
+ghost use Rattle.std.specs.Prelude.{◌≡◌, ◌^◌, ◌≤◌, List, ℤ, length, pos, neg_ℤ, ◌≤ℤ◌, IfOk, IfErr};
 ghost use Rattle.obs_rows.specs.Signals.{fine_signals};
 ghost use Rattle.integer_form.specs.Forms.{integers_of, value_of};
 ghost use Rattle.cert_data.specs.Tails.{IsTailOf};
 ghost use Rattle.fix_decide.specs.Decisions.{IsFormOf};
-ghost use Rattle.settled_decision.specs.Decided.{IsDecision, IsBestWhereFixed, tail_of};
+ghost use Rattle.settled_decision.specs.Decided.{IsRefused, IsDecision, IsBestWhereFixed, tail_of};
 
 use cert_data::Tail;
 use fix_decide::decide;
 use int_search::{SearchFault, two_best};
 use integer_form::{Form, LowerFault, Place, lower_sum_law};
+use lower_form::lower;
+use normal_sum::sum;
 use obs_rows::Session;
+
+/// The form of a session's rows, or why the elimination of their normal matrix is refused.
+///
+/// It isn't inlined, so that the normal matrix has left the stack before the form is searched.
+#[inline(never)]
+pub fn form_of_rows(session: &Session) -> Result<Form, LowerFault>
+    ensures form { IfOk result (IsFormOf session.now) }
+    ensures refused { IfErr result (IsRefused session.now) }
+{
+    let normal = sum(session);
+    lower(&normal)
+}
 
 /// A refusal of the elimination as a tail.
 pub fn tail_of(fault: LowerFault) -> Tail

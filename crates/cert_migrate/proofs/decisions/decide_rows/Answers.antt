@@ -9,21 +9,21 @@ use Rattle.settled_decision.proofs.WeakLaws.{weak_fits}
 use Rattle.obs_rows.specs.Signals.{fine_signals}
 use Rattle.cert_migrate.proofs.decisions.decide_rows.Goals as goal
 
-fault_fits : (s : Session) (ss : List ℕ) (budget : ℕ) (f : LowerFault) → IsRefused s f → IsTailOf ss s.arcs budget (tail_of f)
-fault_fits s ss budget (Weak column pivot) h = weak_fits s column pivot h
-fault_fits s ss budget (Overwidth place) h = tt
+fault_fits : (s : Session) (ss : List ℕ) (budget : ℕ) (fault : LowerFault) → IsRefused s fault → IsTailOf ss s.arcs budget (tail_of fault)
+fault_fits s ss budget (Weak column pivot) refused = weak_fits s column pivot refused
+fault_fits s ss budget (Overwidth place) refused = tt
 
 pub returns-in-Ok-clause-decision : goal.returns-in-Ok-clause-decision
 returns-in-Ok-clause-decision c = inr (record {
   form = c.in-Ok.form;
-  of_rows = record { normal = c.sum-normal.result; of_rows = c.sum-normal.ensures.normal; lowered = c.in-Ok.ensures.lower };
+  of_rows = c.in-Ok.ensures.form;
   decision = c.decide_settled.ensures.decision;
 })
 
 pub returns-in-Err-clause-decision : goal.returns-in-Err-clause-decision
 returns-in-Err-clause-decision c = inl (record {
   fault = c.in-Err.fault;
-  refused = record { normal = c.sum-normal.result; of_rows = c.sum-normal.ensures.normal; told = c.in-Err.ensures.refused };
+  refused = c.in-Err.ensures.refused;
   tail_is = c.tail_of.ensures;
 })
 
@@ -31,4 +31,4 @@ pub returns-in-Err-clause-fits : goal.returns-in-Err-clause-fits
 returns-in-Err-clause-fits c =
     let s : Session = c.args.session.now in
     subst (λ (t : Tail). IsTailOf (fine_signals s.signals) s.arcs c.args.budget t) (sym c.tail_of.ensures)
-    (fault_fits s (fine_signals s.signals) c.args.budget c.in-Err.fault (record { normal = c.sum-normal.result; of_rows = c.sum-normal.ensures.normal; told = c.in-Err.ensures.refused }))
+    (fault_fits s (fine_signals s.signals) c.args.budget c.in-Err.fault c.in-Err.ensures.refused)

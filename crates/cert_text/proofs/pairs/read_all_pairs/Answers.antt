@@ -1,6 +1,5 @@
-use Rattle.std.proofs.Common.{sym, ap, ◌∙◌}
+use Rattle.std.proofs.Common.{sym, ap, ◌∙◌, ◌++◌, ◌<◌, ℕ, List, unsigned_abs, arith}
 use Rattle.std.proofs.lemmas.Result.{err_from_is_err_and}
-use Rattle.std.proofs.Common.{◌++◌, ◌<◌, ℕ, List, unsigned_abs, arith}
 use Rattle.std.proofs.lemmas.List.{length_push}
 use Rattle.obs_rows.specs.declared.pair_rows.PairRows.{PairRows}
 use Rattle.rinex_head.proofs.Walks.{handed_on}

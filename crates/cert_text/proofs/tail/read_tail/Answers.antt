@@ -1,6 +1,5 @@
-use Rattle.std.proofs.Common.{Ok, sym, ◌∙◌, refl}
+use Rattle.std.proofs.Common.{Ok, sym, ◌∙◌, refl, ℤ, List, take, codes, Err}
 use Rattle.std.proofs.lemmas.Result.{err_from_is_err_and}
-use Rattle.std.proofs.Common.{ℤ, List, take, codes, Err}
 use Rattle.rinex_head.specs.declared.place.What.TheVariants.{BadLine}
 use Rattle.rinex_head.proofs.Walks.{has_none, goes_on, stops, reads_then}
 use Rattle.cert_lines.specs.Forms.{vector_in}

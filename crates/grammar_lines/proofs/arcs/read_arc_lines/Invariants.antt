@@ -1,6 +1,7 @@
 use Rattle.std.proofs.Common.{◌≡◌, ◌+◌, ◌≤◌, ◌⊎◌, ◌++◌, ℕ, List, [], length, All}
 use Rattle.rinex_head.specs.Walk.{rest_gives}
 use Rattle.obs_rows.specs.Arcs.{IsArcInRange, free_count}
+use Rattle.obs_rows.specs.declared.units.TheConstants.{MOST_FREE_ARCS}
 use Rattle.cert_lines.specs.Lines.{arc_lines}
 use Rattle.cert_lines.specs.Lengths.{IsWholeArc}
 use Rattle.grammar_lines.specs.Parts.{ArcsAreTaken}
@@ -17,7 +18,7 @@ invariant-arcs g l = record {
   took : l.fn.lines.left ≡ arc_lines (fine_signals l.signals) l.arcs.items ++ l.lines.left;
   count : length l.arcs.items + l.left ≡ l.count;
   free : l.free ≡ free_count l.arcs.items;
-  few_free : l.free ≤ 20;
+  few_free : l.free ≤ MOST_FREE_ARCS;
   some_free : (1 ≤ l.left) ⊎ (1 ≤ l.free);
   ranges : All IsArcInRange l.arcs.items;
   of_version : All (λ a. a.sat ≤ most_sat l.version) l.arcs.items;

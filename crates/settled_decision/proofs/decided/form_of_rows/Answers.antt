@@ -1,0 +1,10 @@
+use Rattle.std.proofs.lemmas.Result.{IfOk-weaker, IfErr-weaker}
+use Rattle.settled_decision.proofs.decided.form_of_rows.Goals as goal
+
+pub returns-clause-form : goal.returns-clause-form
+returns-clause-form c =
+    IfOk-weaker c.lower.result _ _ (λ form lowered. record { normal = c.sum-normal.result; of_rows = c.sum-normal.ensures.normal; lowered = lowered }) c.lower.ensures.lower
+
+pub returns-clause-refused : goal.returns-clause-refused
+returns-clause-refused c =
+    IfErr-weaker c.lower.result _ _ (λ fault told. record { normal = c.sum-normal.result; of_rows = c.sum-normal.ensures.normal; told = told }) c.lower.ensures.refused
