@@ -1,6 +1,6 @@
-//! Changes of the texts of made-up observation files.
+//! Changes of the texts of observation files of simulated sessions.
 use decimal_text::{read_fixed, write_fixed};
-use std::alloc::{AllocError, Global};
+use std::alloc::Global;
 use std::test::Fail;
 
 // Half a cycle in the thousandths that a file has.

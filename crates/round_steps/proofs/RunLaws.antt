@@ -4,6 +4,7 @@ use Rattle.std.proofs.lemmas.Bool.Decides.{nat_tests}
 use Rattle.std.proofs.lemmas.List.Sums.{sum_by-cons}
 use Rattle.obs_rows.specs.declared.arcs.Arc.{Arc}
 use Rattle.obs_rows.specs.declared.sessions.Session.{Session}
+use Rattle.obs_rows.specs.declared.units.TheConstants.{COARSE_SCALE}
 use Rattle.obs_rows.specs.Signals.{fine_signals}
 use Rattle.obs_rows.specs.Unused.{HasUsedShifts}
 use Rattle.integer_form.specs.declared.form.Form.{Form}
@@ -28,119 +29,127 @@ with_session : (scale : ℕ) (s : Session) (before : List Session) → rounds_wi
 with_session scale s before = turned (rounds_at scale (s ∷ before)) (cond (nat_eq s.scale scale) 1 0) (rounds_at scale before) (with_one scale s before)
   where
     turned : (m b n : ℕ) → m ≡ b + n → n + b ≡ m
-    turned m b n e = omega arith
+    turned m b n sum = omega arith
 
 more_at : (scale : ℕ) (s : Session) (before : List Session) → s.scale ≡ scale → nat_eq scale scale ≡ true → rounds_at scale (s ∷ before) ≡ rounds_at scale before + 1
-more_at scale s before e same = turned (rounds_at scale (s ∷ before)) (rounds_at scale before)
-    (with_one scale s before ∙ ap (λ (b : Bool). cond b 1 0 + rounds_at scale before) (ap (λ (n : ℕ). nat_eq n scale) e ∙ same))
+more_at scale s before scaled same = turned (rounds_at scale (s ∷ before)) (rounds_at scale before)
+    (with_one scale s before ∙ ap (λ (b : Bool). cond b 1 0 + rounds_at scale before) (ap (λ (n : ℕ). nat_eq n scale) scaled ∙ same))
   where
     turned : (m n : ℕ) → m ≡ 1 + n → m ≡ n + 1
-    turned m n e = omega arith
+    turned m n one = omega arith
 
 no_more_at : (scale other : ℕ) (s : Session) (before : List Session) → s.scale ≡ other → nat_eq other scale ≡ false → rounds_at scale (s ∷ before) ≡ rounds_at scale before
-no_more_at scale other s before e apart = without_zero (rounds_at scale (s ∷ before)) (rounds_at scale before)
-    (with_one scale s before ∙ ap (λ (b : Bool). cond b 1 0 + rounds_at scale before) (ap (λ (n : ℕ). nat_eq n scale) e ∙ apart))
+no_more_at scale other s before scaled apart = without_zero (rounds_at scale (s ∷ before)) (rounds_at scale before)
+    (with_one scale s before ∙ ap (λ (b : Bool). cond b 1 0 + rounds_at scale before) (ap (λ (n : ℕ). nat_eq n scale) scaled ∙ apart))
   where
     without_zero : (a b : ℕ) → a ≡ 0 + b → a ≡ b
-    without_zero a b e = omega arith
+    without_zero a b none = omega arith
 
 -- a round that isn't the last that is allowed leaves one more
 pub one_more : (made most : ℕ) → made ≤ most → nat_eq made most ≡ false → made + 1 ≤ most
-one_more made most h e = grind (arith, nat_tests)
+one_more made most few not_last = grind (arith, nat_tests)
 
 plus_zero : (a b : ℕ) → b ≡ a → a ≡ b + 0
-plus_zero a b e = omega arith
+plus_zero a b same = omega arith
 
 pub session_at : (rules : Rules) (r : Round) (o : Option Session) (s : Session) → o ≡ Some s → IsSessionAt rules r o → IsSessionOf rules r s
-session_at rules r o s e h = subst (IsSessionAt rules r) e h
+session_at rules r o s found at = subst (IsSessionAt rules r) found at
 
 scale_is : (rules : Rules) (r : Round) (s : Session) → IsSessionOf rules r s → s.scale ≡ r.scale
-scale_is rules r s h = ap (λ (q : Round). q.scale) h.round_is
+scale_is rules r s session_is = ap (λ (q : Round). q.scale) session_is.round_is
 
 point_is : (rules : Rules) (r : Round) (s : Session) → IsSessionOf rules r s → s.point ≡ r.point
-point_is rules r s h = ap (λ (q : Round). q.point) h.round_is
+point_is rules r s session_is = ap (λ (q : Round). q.point) session_is.round_is
 
 arcs_are : (rules : Rules) (r : Round) (s : Session) → IsSessionOf rules r s → s.arcs ≡ r.arcs
-arcs_are rules r s h = ap (λ (q : Round). q.arcs) h.round_is
+arcs_are rules r s session_is = ap (λ (q : Round). q.arcs) session_is.round_is
 
 -- ---- coarse rounds
 -- so many coarse rounds were made, with the one at this point
 pub record CoarseSoFar (rules : Rules) (point : List ℤ) (arcs : List Arc) (made : ℕ) : Type 0 where
   pub before : List Session
   pub run : IsRunTo rules before (coarse point arcs)
-  pub count : rounds_at 14 before + 1 ≡ made
-  pub few : made ≤ most_rounds 14
+  pub count : rounds_at COARSE_SCALE before + 1 ≡ made
+  pub few : made ≤ most_rounds COARSE_SCALE
   pub none_fine : rounds_at 0 before ≡ 0
   pub in_reach : IsReceiverPoint point
 
-coarse_reached : (rules : Rules) (point : List ℤ) (arcs : List Arc) (made : ℕ) (h : CoarseSoFar rules point arcs made) → Reaches rules (coarse_alone made) h.before (coarse point arcs)
-coarse_reached rules point arcs made h = record { run = h.run; coarse_made = sym h.count; fine_made = plus_zero 0 (rounds_at 0 h.before) h.none_fine; few_coarse = h.few; few_fine = omega arith }
+coarse_reached : (rules : Rules) (point : List ℤ) (arcs : List Arc) (made : ℕ) (so_far : CoarseSoFar rules point arcs made) → Reaches rules (coarse_alone made) so_far.before (coarse point arcs)
+coarse_reached rules point arcs made so_far = record {
+  run = so_far.run;
+  coarse_made = sym so_far.count;
+  fine_made = plus_zero 0 (rounds_at 0 so_far.before) so_far.none_fine;
+  few_coarse = so_far.few;
+  few_fine = omega arith;
+}
 
-coarse_session : (rules : Rules) (point : List ℤ) (arcs : List Arc) (made : ℕ) (h : CoarseSoFar rules point arcs made) (s : Session)
-    → IsSessionOf rules (coarse point arcs) s → Reaches rules (coarse_alone made) h.before (round_of s)
-coarse_session rules point arcs made h s k = subst (Reaches rules (coarse_alone made) h.before) (sym k.round_is) (coarse_reached rules point arcs made h)
+coarse_session : (rules : Rules) (point : List ℤ) (arcs : List Arc) (made : ℕ) (so_far : CoarseSoFar rules point arcs made) (s : Session)
+    → IsSessionOf rules (coarse point arcs) s → Reaches rules (coarse_alone made) so_far.before (round_of s)
+coarse_session rules point arcs made so_far s session_is = subst (Reaches rules (coarse_alone made) so_far.before) (sym session_is.round_is) (coarse_reached rules point arcs made so_far)
 
-coarse_last : (rules : Rules) (point : List ℤ) (arcs : List Arc) (made : ℕ) (h : CoarseSoFar rules point arcs made) (s : Session)
-    → IsSessionOf rules (coarse point arcs) s → is_last s.scale h.before ≡ nat_eq made (most_rounds 14)
-coarse_last rules point arcs made h s k = ap (λ (n : ℕ). is_last n h.before) (scale_is rules (coarse point arcs) s k) ∙ ap (λ (n : ℕ). nat_eq n (most_rounds 14)) h.count
+coarse_last : (rules : Rules) (point : List ℤ) (arcs : List Arc) (made : ℕ) (so_far : CoarseSoFar rules point arcs made) (s : Session)
+    → IsSessionOf rules (coarse point arcs) s → is_last s.scale so_far.before ≡ nat_eq made (most_rounds COARSE_SCALE)
+coarse_last rules point arcs made so_far s session_is =
+    ap (λ (n : ℕ). is_last n so_far.before) (scale_is rules (coarse point arcs) s session_is) ∙ ap (λ (n : ℕ). nat_eq n (most_rounds COARSE_SCALE)) so_far.count
 
 pub coarse_at_y : (rules : Rules) (point : List ℤ) (arcs : List Arc) (made : ℕ) → CoarseSoFar rules point arcs made
     → rules.may_be_wide (coarse point arcs) → EndsEarly rules (coarse_alone made) Coarse (Tail.Overwidth Place.Y)
-coarse_at_y rules point arcs made h w = inl (refl, record { before = h.before; round = coarse point arcs; scale_is = refl; reached = coarse_reached rules point arcs made h; wide = w })
+coarse_at_y rules point arcs made so_far wide = inl
+    (refl, record { before = so_far.before; round = coarse point arcs; scale_is = refl; reached = coarse_reached rules point arcs made so_far; wide = wide })
 
 pub coarse_declines : (rules : Rules) (point : List ℤ) (arcs : List Arc) (made : ℕ) (s : Session) (tail : Tail) → CoarseSoFar rules point arcs made
-    → IsSessionOf rules (coarse point arcs) s → IsRoundDeclined (nat_eq made (most_rounds 14)) s tail → EndsEarly rules (coarse_alone made) Coarse tail
-coarse_declines rules point arcs made s tail h k d = inr (
+    → IsSessionOf rules (coarse point arcs) s → IsRoundDeclined (nat_eq made (most_rounds COARSE_SCALE)) s tail → EndsEarly rules (coarse_alone made) Coarse tail
+coarse_declines rules point arcs made s tail so_far session_is declined = inr (
   refl,
   record {
     session = s;
-    is_coarse = scale_is rules (coarse point arcs) s k;
+    is_coarse = scale_is rules (coarse point arcs) s session_is;
     ends = record {
-      before = h.before;
-      reached = coarse_session rules point arcs made h s k;
-      stands = k.stands;
-      declined = subst (λ (b : Bool). IsRoundDeclined b s tail) (sym (coarse_last rules point arcs made h s k)) d;
+      before = so_far.before;
+      reached = coarse_session rules point arcs made so_far s session_is;
+      stands = session_is.stands;
+      declined = subst (λ (b : Bool). IsRoundDeclined b s tail) (sym (coarse_last rules point arcs made so_far s session_is)) declined;
     };
   },
 )
 
 pub coarse_settles : (rules : Rules) (point : List ℤ) (arcs : List Arc) (made : ℕ) (s : Session) (form : Form) → CoarseSoFar rules point arcs made
     → IsSessionOf rules (coarse point arcs) s → IsSettledForm s form → SettlesAt rules made point
-coarse_settles rules point arcs made s form h k g = record {
-  before = h.before;
+coarse_settles rules point arcs made s form so_far session_is settled_form = record {
+  before = so_far.before;
   session = s;
-  is_coarse = scale_is rules (coarse point arcs) s k;
-  point_is = point_is rules (coarse point arcs) s k;
-  reached = coarse_session rules point arcs made h s k;
-  stands = k.stands;
+  is_coarse = scale_is rules (coarse point arcs) s session_is;
+  point_is = point_is rules (coarse point arcs) s session_is;
+  reached = coarse_session rules point arcs made so_far s session_is;
+  stands = session_is.stands;
   form = form;
-  settled = g;
-  in_reach = h.in_reach;
+  settled = settled_form;
+  in_reach = so_far.in_reach;
 }
 
 pub coarse_moves : (rules : Rules) (point : List ℤ) (arcs : List Arc) (made : ℕ) (s : Session) (numbers next : List ℤ) → CoarseSoFar rules point arcs made
-    → IsSessionOf rules (coarse point arcs) s → nat_eq made (most_rounds 14) ≡ false → IsMoved s numbers next → CoarseSoFar rules next arcs (made + 1)
-coarse_moves rules point arcs made s numbers next h k b m =
-    let e : s.scale ≡ 14 = scale_is rules (coarse point arcs) s k in
+    → IsSessionOf rules (coarse point arcs) s → nat_eq made (most_rounds COARSE_SCALE) ≡ false → IsMoved s numbers next → CoarseSoFar rules next arcs (made + 1)
+coarse_moves rules point arcs made s numbers next so_far session_is not_last moves =
+    let scaled : s.scale ≡ COARSE_SCALE = scale_is rules (coarse point arcs) s session_is in
     record {
-      before = s ∷ h.before;
+      before = s ∷ so_far.before;
       run = (
-        (coarse_session rules point arcs made h s k).run,
+        (coarse_session rules point arcs made so_far s session_is).run,
         (
-          k.stands,
+          session_is.stands,
           inl (record {
-            is_coarse = e;
+            is_coarse = scaled;
             numbers = numbers;
             point = next;
-            moved = m;
-            next_is = ap (coarse next) (sym (arcs_are rules (coarse point arcs) s k));
+            moved = moves;
+            next_is = ap (coarse next) (sym (arcs_are rules (coarse point arcs) s session_is));
           }),
         ),
       );
-      count = ap (λ (n : ℕ). n + 1) (more_at 14 s h.before e refl ∙ h.count);
-      few = one_more made (most_rounds 14) h.few b;
-      none_fine = no_more_at 0 14 s h.before e refl ∙ h.none_fine;
-      in_reach = m.in_reach;
+      count = ap (λ (n : ℕ). n + 1) (more_at COARSE_SCALE s so_far.before scaled refl ∙ so_far.count);
+      few = one_more made (most_rounds COARSE_SCALE) so_far.few not_last;
+      none_fine = no_more_at 0 COARSE_SCALE s so_far.before scaled refl ∙ so_far.none_fine;
+      in_reach = moves.in_reach;
     }
 
 -- ---- fine rounds
@@ -148,8 +157,8 @@ coarse_moves rules point arcs made s numbers next h k b m =
 pub record FineSoFar (rules : Rules) (point : List ℤ) (arcs : List Arc) (coarse_made made : ℕ) : Type 0 where
   pub before : List Session
   pub run : IsRunTo rules before (fine point arcs)
-  pub coarse_count : rounds_at 14 before ≡ coarse_made
-  pub few_coarse : coarse_made ≤ most_rounds 14
+  pub coarse_count : rounds_at COARSE_SCALE before ≡ coarse_made
+  pub few_coarse : coarse_made ≤ most_rounds COARSE_SCALE
   pub count : rounds_at 0 before + 1 ≡ made
   pub few : made ≤ most_rounds 0
   pub in_reach : IsReceiverPoint point
@@ -160,27 +169,27 @@ pub record FineSoFar (rules : Rules) (point : List ℤ) (arcs : List Arc) (coars
 pub fine_begins : (rules : Rules) (point : List ℤ) (arcs : List Arc) (coarse_made : ℕ) → SettlesAt rules coarse_made point → rules.begins point arcs →
     AreSameArcs rules.arcs arcs → AreShiftsBelow (2 ^ 39) arcs →
     All (HasUsedShifts (fine_signals rules.signals)) arcs → FineSoFar rules point arcs coarse_made 1
-fine_begins rules point arcs coarse_made h b same below used = record {
-  before = h.session ∷ h.before;
+fine_begins rules point arcs coarse_made settles first_shifts same below used = record {
+  before = settles.session ∷ settles.before;
   run = (
-    h.reached.run,
+    settles.reached.run,
     (
-      h.stands,
+      settles.stands,
       inr (inl (record {
-        is_coarse = h.is_coarse;
-        form = h.form;
-        settled = h.settled;
+        is_coarse = settles.is_coarse;
+        form = settles.form;
+        settled = settles.settled;
         arcs = arcs;
-        begins = subst (λ (p : List ℤ). rules.begins p arcs) (sym h.point_is) b;
-        next_is = ap (λ (p : List ℤ). fine p arcs) (sym h.point_is);
+        begins = subst (λ (p : List ℤ). rules.begins p arcs) (sym settles.point_is) first_shifts;
+        next_is = ap (λ (p : List ℤ). fine p arcs) (sym settles.point_is);
       })),
     ),
   );
-  coarse_count = sym (h.reached.coarse_made ∙ with_session 14 h.session h.before);
-  few_coarse = h.reached.few_coarse;
-  count = ap (λ (n : ℕ). n + 1) (sym (h.reached.fine_made ∙ with_session 0 h.session h.before));
+  coarse_count = sym (settles.reached.coarse_made ∙ with_session COARSE_SCALE settles.session settles.before);
+  few_coarse = settles.reached.few_coarse;
+  count = ap (λ (n : ℕ). n + 1) (sym (settles.reached.fine_made ∙ with_session 0 settles.session settles.before));
   few = omega arith;
-  in_reach = h.in_reach;
+  in_reach = settles.in_reach;
   same = same;
   below = below;
   used = used;
@@ -189,89 +198,91 @@ fine_begins rules point arcs coarse_made h b same below used = record {
 abbrev made_of : ℕ → ℕ → RoundCounts
 made_of coarse_made made = record { coarse = coarse_made; fine = made }
 
-fine_reached : (rules : Rules) (point : List ℤ) (arcs : List Arc) (coarse_made made : ℕ) (h : FineSoFar rules point arcs coarse_made made)
-    → Reaches rules (made_of coarse_made made) h.before (fine point arcs)
-fine_reached rules point arcs coarse_made made h = record {
-  run = h.run;
-  coarse_made = plus_zero coarse_made (rounds_at 14 h.before) h.coarse_count;
-  fine_made = sym h.count;
-  few_coarse = h.few_coarse;
-  few_fine = h.few;
+fine_reached : (rules : Rules) (point : List ℤ) (arcs : List Arc) (coarse_made made : ℕ) (so_far : FineSoFar rules point arcs coarse_made made)
+    → Reaches rules (made_of coarse_made made) so_far.before (fine point arcs)
+fine_reached rules point arcs coarse_made made so_far = record {
+  run = so_far.run;
+  coarse_made = plus_zero coarse_made (rounds_at COARSE_SCALE so_far.before) so_far.coarse_count;
+  fine_made = sym so_far.count;
+  few_coarse = so_far.few_coarse;
+  few_fine = so_far.few;
 }
 
-fine_session : (rules : Rules) (point : List ℤ) (arcs : List Arc) (coarse_made made : ℕ) (h : FineSoFar rules point arcs coarse_made made) (s : Session)
-    → IsSessionOf rules (fine point arcs) s → Reaches rules (made_of coarse_made made) h.before (round_of s)
-fine_session rules point arcs coarse_made made h s k = subst (Reaches rules (made_of coarse_made made) h.before) (sym k.round_is) (fine_reached rules point arcs coarse_made made h)
+fine_session : (rules : Rules) (point : List ℤ) (arcs : List Arc) (coarse_made made : ℕ) (so_far : FineSoFar rules point arcs coarse_made made) (s : Session)
+    → IsSessionOf rules (fine point arcs) s → Reaches rules (made_of coarse_made made) so_far.before (round_of s)
+fine_session rules point arcs coarse_made made so_far s session_is =
+    subst (Reaches rules (made_of coarse_made made) so_far.before) (sym session_is.round_is) (fine_reached rules point arcs coarse_made made so_far)
 
-fine_last : (rules : Rules) (point : List ℤ) (arcs : List Arc) (coarse_made made : ℕ) (h : FineSoFar rules point arcs coarse_made made) (s : Session)
-    → IsSessionOf rules (fine point arcs) s → is_last s.scale h.before ≡ nat_eq made (most_rounds 0)
-fine_last rules point arcs coarse_made made h s k = ap (λ (n : ℕ). is_last n h.before) (scale_is rules (fine point arcs) s k) ∙ ap (λ (n : ℕ). nat_eq n (most_rounds 0)) h.count
+fine_last : (rules : Rules) (point : List ℤ) (arcs : List Arc) (coarse_made made : ℕ) (so_far : FineSoFar rules point arcs coarse_made made) (s : Session)
+    → IsSessionOf rules (fine point arcs) s → is_last s.scale so_far.before ≡ nat_eq made (most_rounds 0)
+fine_last rules point arcs coarse_made made so_far s session_is =
+    ap (λ (n : ℕ). is_last n so_far.before) (scale_is rules (fine point arcs) s session_is) ∙ ap (λ (n : ℕ). nat_eq n (most_rounds 0)) so_far.count
 
 pub fine_at_y : (rules : Rules) (point : List ℤ) (arcs : List Arc) (coarse_made made : ℕ) → FineSoFar rules point arcs coarse_made made
     → rules.may_be_wide (fine point arcs) → EndsEarly rules (made_of coarse_made made) Fine (Tail.Overwidth Place.Y)
-fine_at_y rules point arcs coarse_made made h w =
-    inl (refl, record { before = h.before; round = fine point arcs; scale_is = refl; reached = fine_reached rules point arcs coarse_made made h; wide = w })
+fine_at_y rules point arcs coarse_made made so_far wide =
+    inl (refl, record { before = so_far.before; round = fine point arcs; scale_is = refl; reached = fine_reached rules point arcs coarse_made made so_far; wide = wide })
 
 pub fine_declines : (rules : Rules) (point : List ℤ) (arcs : List Arc) (coarse_made made ratio budget : ℕ) (s : Session) (tail : Tail)
     → FineSoFar rules point arcs coarse_made made → IsSessionOf rules (fine point arcs) s → IsRoundDeclined (nat_eq made (most_rounds 0)) s tail
     → EndsFull rules ratio budget (made_of coarse_made made) s tail
-fine_declines rules point arcs coarse_made made ratio budget s tail h k d = (
-  scale_is rules (fine point arcs) s k,
+fine_declines rules point arcs coarse_made made ratio budget s tail so_far session_is declined = (
+  scale_is rules (fine point arcs) s session_is,
   inl (record {
-    before = h.before;
-    reached = fine_session rules point arcs coarse_made made h s k;
-    stands = k.stands;
-    declined = subst (λ (b : Bool). IsRoundDeclined b s tail) (sym (fine_last rules point arcs coarse_made made h s k)) d;
+    before = so_far.before;
+    reached = fine_session rules point arcs coarse_made made so_far s session_is;
+    stands = session_is.stands;
+    declined = subst (λ (b : Bool). IsRoundDeclined b s tail) (sym (fine_last rules point arcs coarse_made made so_far s session_is)) declined;
   }),
 )
 
 pub fine_decides : (rules : Rules) (point : List ℤ) (arcs : List Arc) (coarse_made made ratio budget : ℕ) (s : Session) (form : Form) (tail : Tail)
     → FineSoFar rules point arcs coarse_made made → IsSessionOf rules (fine point arcs) s → IsSettledForm s form → IsDecision s form ratio budget tail
     → EndsFull rules ratio budget (made_of coarse_made made) s tail
-fine_decides rules point arcs coarse_made made ratio budget s form tail h k g d = (
-  scale_is rules (fine point arcs) s k,
+fine_decides rules point arcs coarse_made made ratio budget s form tail so_far session_is settled_form decided = (
+  scale_is rules (fine point arcs) s session_is,
   inr (record {
-    before = h.before;
-    reached = fine_session rules point arcs coarse_made made h s k;
-    stands = k.stands;
+    before = so_far.before;
+    reached = fine_session rules point arcs coarse_made made so_far s session_is;
+    stands = session_is.stands;
     form = form;
-    settled = g;
-    decision = d;
+    settled = settled_form;
+    decision = decided;
   }),
 )
 
 pub fine_moves : (rules : Rules) (point : List ℤ) (arcs : List Arc) (coarse_made made : ℕ) (s : Session) (numbers next : List ℤ) (after : List Arc) →
     FineSoFar rules point arcs coarse_made made → IsSessionOf rules (fine point arcs) s → nat_eq made (most_rounds 0) ≡ false → IsMoved s numbers next →
     AreGrown arcs (fine_signals s.signals) numbers after → ((m : ℕ) → AreShiftsBelow m arcs → 0 < m → AreShiftsBelow (m + 2 ^ 30) after) → FineSoFar rules next after coarse_made (made + 1)
-fine_moves rules point arcs coarse_made made s numbers next after h k b m g below =
-    let e : s.scale ≡ 0 = scale_is rules (fine point arcs) s k in
+fine_moves rules point arcs coarse_made made s numbers next after so_far session_is not_last moves grow below =
+    let scaled : s.scale ≡ 0 = scale_is rules (fine point arcs) s session_is in
     record {
-      before = s ∷ h.before;
+      before = s ∷ so_far.before;
       run = (
-        (fine_session rules point arcs coarse_made made h s k).run,
+        (fine_session rules point arcs coarse_made made so_far s session_is).run,
         (
-          k.stands,
+          session_is.stands,
           inr (inr (record {
-            is_fine = e;
+            is_fine = scaled;
             numbers = numbers;
             point = next;
             arcs = after;
-            moved = m;
-            grown = subst (λ (a : List Arc). AreGrown a (fine_signals s.signals) numbers after) (sym (arcs_are rules (fine point arcs) s k)) g;
+            moved = moves;
+            grown = subst (λ (a : List Arc). AreGrown a (fine_signals s.signals) numbers after) (sym (arcs_are rules (fine point arcs) s session_is)) grow;
             next_is = refl;
           })),
         ),
       );
-      coarse_count = no_more_at 14 0 s h.before e refl ∙ h.coarse_count;
-      few_coarse = h.few_coarse;
-      count = ap (λ (n : ℕ). n + 1) (more_at 0 s h.before e refl ∙ h.count);
-      few = one_more made (most_rounds 0) h.few b;
-      in_reach = m.in_reach;
-      same = grown_same arcs (fine_signals s.signals) numbers after g ∙ h.same;
-      below = subst (λ (n : ℕ). AreShiftsBelow n after) (one_wider made (rounds_at 0 h.before) h.count) (below (2 ^ 39 + 2 ^ 30 * (made - 1)) h.below (omega arith));
-      used = let e : fine_signals s.signals ≡ fine_signals rules.signals = ap fine_signals k.signals_are in
-          grown_used arcs (fine_signals rules.signals) numbers after (subst (λ (ss : List ℕ). AreGrown arcs ss numbers after) e g) h.used;
+      coarse_count = no_more_at COARSE_SCALE 0 s so_far.before scaled refl ∙ so_far.coarse_count;
+      few_coarse = so_far.few_coarse;
+      count = ap (λ (n : ℕ). n + 1) (more_at 0 s so_far.before scaled refl ∙ so_far.count);
+      few = one_more made (most_rounds 0) so_far.few not_last;
+      in_reach = moves.in_reach;
+      same = grown_same arcs (fine_signals s.signals) numbers after grow ∙ so_far.same;
+      below = subst (λ (n : ℕ). AreShiftsBelow n after) (one_wider made (rounds_at 0 so_far.before) so_far.count) (below (2 ^ 39 + 2 ^ 30 * (made - 1)) so_far.below (omega arith));
+      used = let same : fine_signals s.signals ≡ fine_signals rules.signals = ap fine_signals session_is.signals_are in
+          grown_used arcs (fine_signals rules.signals) numbers after (subst (λ (ss : List ℕ). AreGrown arcs ss numbers after) same grow) so_far.used;
     }
   where
     one_wider : (m n : ℕ) → n + 1 ≡ m → 2 ^ 39 + 2 ^ 30 * (m - 1) + 2 ^ 30 ≡ 2 ^ 39 + 2 ^ 30 * (m + 1 - 1)
-    one_wider m n e = omega arith
+    one_wider m n counted = omega arith

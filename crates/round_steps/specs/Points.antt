@@ -1,13 +1,9 @@
 -- How a point moves by a baseline.
-use Rattle.std.specs.Prelude.{ℕ, ◌^◌, ◌*◌, ◌/◌, List, [], ◌∷◌, ℤ, pos, ◌+ℤ◌, ◌*ℤ◌, unsigned_abs}
+use Rattle.std.specs.Prelude.{ℕ, ◌^◌, ◌*◌, List, [], ◌∷◌, ℤ, pos, ◌+ℤ◌, ◌*ℤ◌, unsigned_abs}
 use Rattle.whole_math.specs.Rounding.{nearest_div}
-use Rattle.obs_rows.specs.declared.units.TheConstants.{UNIT_FREQUENCY, LIGHT_SPEED, MOVE_EXPONENT}
+use Rattle.obs_rows.specs.declared.units.TheConstants.{LIGHT_SPEED}
 use Rattle.integer_form.specs.FloatPoint.{item}
-
--- A number of a fine baseline is in 2^-5 ι, and ι is the speed of light over the unit's frequency. So in 0.1 mm it is so many
--- times the speed of light over this
-abbrev pub parts : ℕ
-parts = (unsigned_abs UNIT_FREQUENCY / 10 ^ 4) * 2 ^ MOVE_EXPONENT
+use Rattle.cert_data.specs.Moves.{parts}
 
 -- a coordinate p in 0.1 mm moved by a number f of a baseline at this scale
 abbrev pub moved_coordinate : ℕ → ℤ → ℤ → ℤ

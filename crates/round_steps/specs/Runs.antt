@@ -4,6 +4,7 @@ use Rattle.std.specs.Prelude.{◌≡◌, ℕ, Option, Some, None, ◌+◌, ◌�
 use Rattle.obs_rows.specs.declared.arcs.Arc.{Arc}
 use Rattle.obs_rows.specs.declared.bands.Signals.{Signals}
 use Rattle.obs_rows.specs.declared.sessions.Session.{Session}
+use Rattle.obs_rows.specs.declared.units.TheConstants.{COARSE_SCALE}
 use Rattle.obs_rows.specs.Signals.{fine_signals}
 use Rattle.integer_form.specs.declared.form.Form.{Form}
 use Rattle.integer_form.specs.declared.faults.Place.TheVariants as Place
@@ -53,14 +54,14 @@ round_at scale point arcs = record { scale = scale; point = point; arcs = arcs }
 
 -- coarse rounds use the code on L1 alone, fine ones all signals
 abbrev pub coarse : List ℤ → List Arc → Round
-coarse point arcs = record { scale = 14; point = point; arcs = arcs }
+coarse point arcs = record { scale = COARSE_SCALE; point = point; arcs = arcs }
 
 abbrev pub fine : List ℤ → List Arc → Round
 fine point arcs = record { scale = 0; point = point; arcs = arcs }
 
 -- a coarse round that isn't settled moves the point
 pub record MovesCoarse (s : Session) (next : Round) : Type 0 where
-  pub is_coarse : s.scale ≡ 14
+  pub is_coarse : s.scale ≡ COARSE_SCALE
   pub numbers : List ℤ
   pub point : List ℤ
   pub moved : IsMoved s numbers point
@@ -68,7 +69,7 @@ pub record MovesCoarse (s : Session) (next : Round) : Type 0 where
 
 -- a settled coarse round leaves the point, and the fine rounds begin
 pub record BeginsFine (rules : Rules) (s : Session) (next : Round) : Type 0 where
-  pub is_coarse : s.scale ≡ 14
+  pub is_coarse : s.scale ≡ COARSE_SCALE
   pub form : Form
   pub settled : IsSettledForm s form
   pub arcs : List Arc
@@ -114,9 +115,9 @@ is_last scale before = (rounds_at scale before + 1) == most_rounds scale
 -- allowed
 pub record Reaches (rules : Rules) (made : RoundCounts) (before : List Session) (r : Round) : Type 0 where
   pub run : IsRunTo rules before r
-  pub coarse_made : made.coarse ≡ rounds_with 14 before r
+  pub coarse_made : made.coarse ≡ rounds_with COARSE_SCALE before r
   pub fine_made : made.fine ≡ rounds_with 0 before r
-  pub few_coarse : made.coarse ≤ most_rounds 14
+  pub few_coarse : made.coarse ≤ most_rounds COARSE_SCALE
   pub few_fine : made.fine ≤ most_rounds 0
 
 -- the run ends in a round without a session, since a centre of y may be out of range
@@ -144,13 +145,13 @@ pub record DecidesAt (rules : Rules) (ratio budget : ℕ) (made : RoundCounts) (
   pub decision : IsDecision s form ratio budget tail
 
 abbrev pub scale_of : Stage → ℕ
-scale_of Coarse = 14
+scale_of Coarse = COARSE_SCALE
 scale_of Fine = 0
 
 -- a coarse round that is declined
 pub record EndsCoarse (rules : Rules) (made : RoundCounts) (tail : Tail) : Type 0 where
   pub session : Session
-  pub is_coarse : session.scale ≡ 14
+  pub is_coarse : session.scale ≡ COARSE_SCALE
   pub ends : EndsAt rules made session tail
 
 -- the run ends without a session to print: at a centre of y, or in a coarse round
@@ -184,7 +185,7 @@ coarse_alone made = record { coarse = made; fine = 0 }
 pub record SettlesAt (rules : Rules) (made : ℕ) (point : List ℤ) : Type 0 where
   pub before : List Session
   pub session : Session
-  pub is_coarse : session.scale ≡ 14
+  pub is_coarse : session.scale ≡ COARSE_SCALE
   pub point_is : session.point ≡ point
   pub reached : Reaches rules (coarse_alone made) before (round_of session)
   pub stands : rules.stands session

@@ -3,7 +3,8 @@ ghost use Rattle.std.specs.Prelude.{◌≡◌, ◌*◌, ◌+ℤ◌, ◌*ℤ◌, 
 ghost use Rattle.whole_math.specs.Rounding.{nearest_div};
 ghost use Rattle.obs_rows.specs.declared.units.TheConstants.{UNIT_FREQUENCY, MOVE_EXPONENT, COARSE_SCALE};
 ghost use Rattle.round_steps.specs.Limits.{limit};
-ghost use Rattle.round_steps.specs.Points.{moved_coordinate, parts};
+ghost use Rattle.cert_data.specs.Moves.{parts};
+ghost use Rattle.round_steps.specs.Points.{moved_coordinate};
 
 /// This project's limits of a settled round, and the unit in which a point moves.
 pub fn limits_law()

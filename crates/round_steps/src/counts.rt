@@ -1,5 +1,6 @@
 //! Whether there are arcs enough, and few enough.
-ghost use Rattle.std.specs.Prelude.{◌≡◌, ◌↔◌, IsTrue};
+ghost use Rattle.std.specs.Prelude.{◌≡◌, ◌≤◌, ◌↔◌, IsTrue, length};
+ghost use Rattle.obs_rows.specs.Arcs.{free_count};
 ghost use Rattle.round_steps.specs.Counts.{held, AreFew, AreMany};
 
 use obs_rows::{Arc, MOST_FREE_ARCS, free_arcs};
@@ -29,6 +30,14 @@ pub fn are_few(pairs: u32, arcs: &[Arc]) -> bool
         }
     }
     true
+}
+
+/// How many of the arcs are free.
+pub fn free_count(arcs: &[Arc]) -> u32
+    requires { length arcs.now ≤ 54_000 }
+    ensures { result ≡ free_count arcs.now }
+{
+    free_arcs(arcs) as u32
 }
 
 /// Whether over 20 arcs are free, or there are over 200.

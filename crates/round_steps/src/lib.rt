@@ -20,7 +20,7 @@ mod shifts;
 mod steps;
 
 pub use constants::limits_law;
-pub use counts::{LEAST_SATELLITES, are_few, are_many, held};
+pub use counts::{LEAST_SATELLITES, are_few, are_many, free_count, held};
 pub use obs_rows::is_receiver_point;
 pub use runs::{CoarseEnd, End, Rounds, coarse_rounds, run};
 pub use shifts::grown;

@@ -4,14 +4,13 @@ ghost use Rattle.whole_math.specs.Rounding.{nearest_div};
 ghost use Rattle.obs_rows.specs.Ranges.{IsScale, IsPoint, IsBelow, IsWithin};
 ghost use Rattle.obs_rows.specs.declared.units.TheConstants.{LIGHT_SPEED, COARSE_SCALE};
 ghost use Rattle.integer_form.specs.FloatPoint.{item};
-ghost use Rattle.round_steps.specs.Points.{moved_coordinate, moved_point, parts};
+ghost use Rattle.cert_data.specs.Moves.{parts};
+ghost use Rattle.round_steps.specs.Points.{moved_coordinate, moved_point};
 
+use cert_data::PARTS;
 use form_tables::MOST_FACTORS;
-use obs_rows::{COARSE_SCALE, LIGHT_SPEED, MOVE_EXPONENT, UNIT_FREQUENCY};
+use obs_rows::{COARSE_SCALE, LIGHT_SPEED};
 use whole_math::nearest;
-
-/// A number of a fine baseline is 2^-5 ι; in 0.1 mm it is the speed of light over this.
-const PARTS: i128 = (UNIT_FREQUENCY / 10_000 * (1 << MOVE_EXPONENT)) as i128;
 
 /// 2^scale times the speed of light.
 fn unit(scale: u32) -> i64

@@ -10,7 +10,7 @@ ghost use Rattle.round_steps.specs.Shifts.{growth, grown_shift, grown_arc, AreGr
 use crate::limits::THREE_QUARTERS;
 use fix_decide::integer_of;
 use form_tables::{BASELINE_COLUMNS, MOST_FACTORS};
-use obs_rows::{Arc, BANDS};
+use obs_rows::{Arc, BANDS, PHASES, phase_of};
 use std::alloc::{AllocError, Global};
 use whole_math::nearest;
 
@@ -69,20 +69,22 @@ fn grown_arc(
     ensures grown { result ≡ grown_arc arcs.now signals.now numbers.now k arc.now }
     ensures below { (m : ℕ) → All (IsBelow m) arc.now.shift → 0 < m → All (IsBelow (m + 2 ^ 30)) result.shift }
 {
-    let l1 = grown_shift(arcs, signals, k, arc, 0, numbers);
-    let l2 = grown_shift(arcs, signals, k, arc, 1, numbers);
-    let l5 = grown_shift(arcs, signals, k, arc, 4, numbers);
+    let mut shift = [0; PHASES];
+    for band in 0..PHASES {
+        let phase = phase_of(band);
+        shift[band] = grown_shift(arcs, signals, k, arc, phase, numbers);
+    }
     Arc {
         sat: arc.sat,
         first: arc.first,
         last: arc.last,
         datum: arc.datum,
-        shift: [l1, l2, l5],
+        shift,
     }
 }
 
 /// The arcs with their shifts grown by a float point over these signals: that of each integer which is over three quarters of
-/// a cycle, by the nearest whole number of cycles.
+/// a cycle, by the nearest whole number of cycles. `run` calls it; that it is public serves tests alone.
 pub fn grown(
     alloc: Global,
     arcs: &[Arc],

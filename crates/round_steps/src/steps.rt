@@ -58,17 +58,15 @@ fn solve(session: &Session) -> Result<Solved, Tail>
 
 /// What a round makes of its session, or the tail with which it ends the run.
 ///
-/// `last` says that no further round at its scale is allowed, so that one that isn't settled ends the run.
+/// `last` says that no further round at its scale is allowed, so that one that isn't settled ends the run. `run` and
+/// `coarse_rounds` call it, and no other crate does.
 pub fn round_step(session: &Session, last: bool) -> Result<Step, Tail>
     ensures step { IfOk result (IsStep last session.now) }
     ensures declined { IfErr result (IsRoundDeclined last session.now) }
     ensures never_fixed { IfErr result (IsBestWhereFixed session.now) }
     ensures fits { IfErr result (λ t. (ss : List ℕ) (budget : ℕ) → IsTailOf ss session.now.arcs budget t) }
 {
-    let solved = match solve(session) {
-        Ok(solved) => solved,
-        Err(tail) => return Err(tail),
-    };
+    let solved = solve(session)?;
     let Some(entry) = first_over(session.scale, &solved.numbers) else {
         return Ok(Step::Settled { form: solved.form });
     };

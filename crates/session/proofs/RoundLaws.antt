@@ -1,6 +1,7 @@
 -- However a run ends, it had no more rounds than are allowed.
 use Rattle.std.proofs.Common.{◌≡◌, ◌≤◌, inl, inr, ℕ, arith}
 use Rattle.obs_rows.specs.declared.sessions.Session.{Session}
+use Rattle.obs_rows.specs.declared.units.TheConstants.{COARSE_SCALE}
 use Rattle.cert_data.specs.declared.tails.Tail.{Tail}
 use Rattle.cert_data.specs.declared.outcomes.Answer.{Answer}
 use Rattle.cert_data.specs.declared.outcomes.Answer.TheVariants.{Few, Arcs, Early, Full}
@@ -11,10 +12,10 @@ use Rattle.run_options.specs.declared.options.Options.{Options}
 use Rattle.session.specs.Answers.{AreAllowed, AreNone, IsAnswer}
 
 none_allowed : (rounds : RoundCounts) → AreNone rounds → AreAllowed rounds
-none_allowed rounds none = (zero_most rounds.coarse (most_rounds 14) none.0, zero_most rounds.fine (most_rounds 0) none.1)
+none_allowed rounds none = (zero_most rounds.coarse (most_rounds COARSE_SCALE) none.0, zero_most rounds.fine (most_rounds 0) none.1)
   where
     zero_most : (n most : ℕ) → n ≡ 0 → n ≤ most
-    zero_most n most e = omega arith
+    zero_most n most none = omega arith
 
 early_allowed : (rules : Rules) (rounds : RoundCounts) (stage : Stage) (tail : Tail) → EndsEarly rules rounds stage tail → AreAllowed rounds
 early_allowed rules rounds stage tail ends = elim ends [

@@ -2,6 +2,7 @@
 use Rattle.std.specs.Prelude.{◌≡◌, ◌≢◌, ◌≤◌, ℕ, Any, pos}
 use Rattle.obs_store.specs.declared.file.ObsFile.{ObsFile}
 use Rattle.obs_rows.specs.Arcs.{free_count}
+use Rattle.obs_rows.specs.declared.units.TheConstants.{COARSE_SCALE}
 use Rattle.cert_data.specs.declared.certs.Cert.{Cert}
 use Rattle.cert_data.specs.declared.outcomes.RoundCounts.{RoundCounts}
 use Rattle.cert_data.specs.declared.outcomes.Answer.{Answer}
@@ -24,7 +25,7 @@ pub record IsEndCert (rules : Rules) (o : Options) (rounds : RoundCounts) (cert 
 
 -- at most ten coarse rounds and at most six fine ones
 abbrev pub AreAllowed : RoundCounts → Type 0
-AreAllowed rounds = (rounds.coarse ≤ most_rounds 14) × (rounds.fine ≤ most_rounds 0)
+AreAllowed rounds = (rounds.coarse ≤ most_rounds COARSE_SCALE) × (rounds.fine ≤ most_rounds 0)
 
 -- no round was made
 abbrev pub AreNone : RoundCounts → Type 0

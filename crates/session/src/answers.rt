@@ -1,6 +1,5 @@
 //! The answer of a run over the arcs that were kept.
 ghost use Rattle.std.specs.Prelude.{◌≡◌, ◌≤◌, ◌^◌, length, All, IfOk};
-ghost use Rattle.obs_rows.specs.Arcs.{free_count};
 ghost use Rattle.obs_rows.specs.Signals.{fine_signals};
 ghost use Rattle.obs_rows.specs.Unused.{HasUsedShifts};
 ghost use Rattle.obs_rows.specs.ReceiverPoints.{IsReceiverPoint};
@@ -8,8 +7,8 @@ ghost use Rattle.round_steps.specs.Shifts.{AreShiftsBelow};
 ghost use Rattle.session.specs.Answers.{GoesOn, IsAnswer, IsBestAnswer};
 
 use cert_data::{Answer, Cert, RoundCounts};
-use obs_rows::{Arc, free_arcs};
-use round_steps::{End, Rounds, are_few, are_many, run};
+use obs_rows::Arc;
+use round_steps::{End, Rounds, are_few, are_many, free_count, run};
 use session_begin::Options;
 use std::alloc::{AllocError, Global};
 
@@ -22,14 +21,6 @@ pub struct Answered {
 
 /// No round is made where the arcs are too few or too many.
 const NO_ROUNDS: RoundCounts = RoundCounts { coarse: 0, fine: 0 };
-
-/// How many of the arcs are free.
-fn free_count(arcs: &[Arc]) -> u32
-    requires { length arcs.now ≤ 54_000 }
-    ensures { result ≡ free_count arcs.now }
-{
-    free_arcs(arcs) as u32
-}
 
 /// Too few satellites, too many arcs, or the end of the run.
 pub fn answer<R: Rounds>(
@@ -64,18 +55,16 @@ pub fn answer<R: Rounds>(
             },
         });
     }
-    match run(alloc, rounds, kept, base, options.ratio, options.budget) {
-        Ok(End::Early { made, stage, tail }) => Ok(Answered {
+    match run(alloc, rounds, kept, base, options.ratio, options.budget)? {
+        End::Early { made, stage, tail } => Ok(Answered {
             rounds: made,
             answer: Answer::Early { stage, tail },
         }),
-        Ok(
-            End::Full {
-                made,
-                session,
-                tail,
-            },
-        ) => Ok(Answered {
+        End::Full {
+            made,
+            session,
+            tail,
+        } => Ok(Answered {
             rounds: made,
             answer: Answer::Full(Cert {
                 ratio: options.ratio,
@@ -84,6 +73,5 @@ pub fn answer<R: Rounds>(
                 tail,
             }),
         }),
-        Err(fault) => Err(fault),
     }
 }

@@ -1,5 +1,5 @@
 //! The rounds of a run over what was screened of two files.
-ghost use Rattle.std.specs.Prelude.{◌≡◌, ◌<◌, ◌≤◌, ◌^◌, length, All, IfOk, Some, slice_get, pos, [], ◌∷◌};
+ghost use Rattle.std.specs.Prelude.{◌≡◌, ◌<◌, ◌^◌, length, All, Some, slice_get};
 ghost use Rattle.obs_rows.specs.Arcs.{AreArcs};
 ghost use Rattle.obs_rows.specs.Ranges.{IsBelow, IsSystem};
 ghost use Rattle.obs_rows.specs.Signals.{fine_signals};
@@ -9,12 +9,12 @@ ghost use Rattle.slip_arcs.specs.Linked.{IsCutOf};
 ghost use Rattle.row_build.specs.Halves.{AreBaseHalves};
 ghost use Rattle.row_build.specs.Rows.{setting};
 ghost use Rattle.row_build.specs.Shifts.{AreFirstShifts};
-ghost use Rattle.round_steps.specs.Shifts.{AreSameArcs, AreShiftsBelow, without_shifts};
-ghost use Rattle.session.specs.FileRules.{rules_of, HaveFirstShifts};
+ghost use Rattle.round_steps.specs.Shifts.{without_shifts};
+ghost use Rattle.session.specs.FileRules.{rules_of};
 
 use obs_rows::{Arc, ArcList, PHASES, Session, Signals};
 use round_steps::Rounds;
-use row_build::{Pseudorange, RowFault, Screened, rows_with, shift_at};
+use row_build::{Pseudorange, RowFault, RowSource, Screened, rows_with, shift_with};
 use std::alloc::{AllocError, Global};
 
 /// What was screened of two files, with the arcs that were kept.
@@ -43,17 +43,15 @@ impl Rounds for FileRounds {
         point: &[i64; 3],
         scale: u32,
     ) -> Result<Option<Session>, AllocError> {
-        match rows_with(
-            alloc,
-            &self.screened,
-            self.halves.as_slice(),
+        let from = RowSource {
+            screened: &self.screened,
+            halves: self.halves.as_slice(),
             arcs,
-            &self.position,
+            base: &self.position,
             point,
-            self.signals,
-            scale,
-            self.system,
-        ) {
+            signals: self.signals,
+        };
+        match rows_with(alloc, &from, scale, self.system) {
             Ok(session) => Ok(Some(session)),
             Err(RowFault::Overwidth) => Ok(None),
             Err(RowFault::NoMemory) => Err(AllocError),
@@ -61,26 +59,12 @@ impl Rounds for FileRounds {
     }
 
     fn first_shifts(&self, alloc: Global, point: &[i64; 3]) -> Result<Vec<Arc>, AllocError> {
-        first_arcs(alloc, self, point)
+        let mut arcs = Vec::new(alloc);
+        for k in 0..self.kept.len() {
+            arcs.push(first_arc(self, k, point))?;
+        }
+        Ok(arcs)
     }
-}
-
-/// The kept arcs with the shifts that their first pairs give.
-fn first_arcs(alloc: Global, files: &FileRounds, point: &[i64; 3]) -> Result<Vec<Arc>, AllocError>
-    requires cut { IsCutOf files.now.screened.used files.now.kept }
-    requires arcs { AreArcs files.now.kept }
-    requires base { IsReceiverPoint files.now.position }
-    requires point { IsReceiverPoint point.now }
-    ensures begins { IfOk result (λ v. HaveFirstShifts files.now.screened.boxes files.now.kept files.now.position point.now files.now.signals v.items) }
-    ensures same { IfOk result (λ v. AreSameArcs files.now.kept v.items) }
-    ensures size { IfOk result (λ v. AreShiftsBelow (2 ^ 39) v.items) }
-    ensures used { IfOk result (λ v. All (HasUsedShifts (fine_signals files.now.signals)) v.items) }
-{
-    let mut arcs = Vec::new(alloc);
-    for k in 0..files.kept.len() {
-        arcs.push(first_arc(files, k, point))?;
-    }
-    Ok(arcs)
 }
 
 /// Kept arc k with the shifts that its first pair gives.
@@ -88,6 +72,7 @@ fn first_arc(files: &FileRounds, k: usize, point: &[i64; 3]) -> Arc
     requires cut { IsCutOf files.now.screened.used files.now.kept }
     requires arcs { AreArcs files.now.kept }
     requires base { IsReceiverPoint files.now.position }
+    requires halves { AreBaseHalves files.now.screened.boxes files.now.position files.now.halves.items }
     requires point { IsReceiverPoint point.now }
     requires inside { k < length files.now.kept }
     ensures same { (a : Arc) → slice_get files.now.kept k ≡ Some a → without_shifts result ≡ without_shifts a }
@@ -97,17 +82,16 @@ fn first_arc(files: &FileRounds, k: usize, point: &[i64; 3]) -> Arc
 {
     let kept = files.kept.as_slice();
     let arc = kept[k];
-    let found = shift_at(
-        &files.screened,
-        kept,
-        k as u16,
-        arc.first,
-        &files.position,
+    let from = RowSource {
+        screened: &files.screened,
+        halves: files.halves.as_slice(),
+        arcs: kept,
+        base: &files.position,
         point,
-        files.signals,
-    );
+        signals: files.signals,
+    };
     // The arc holds its first pair.
-    let shift = match found {
+    let shift = match shift_with(&from, k as u16, arc.first) {
         Some(shift) => shift,
         None => [0; PHASES],
     };

@@ -9,7 +9,8 @@
 //! that a round of that run may have stands for the files (`IsOutcome.stands`), and a certificate has the session of
 //! the last fine round, the ratio and the budget of the options (`IsEndCert`). Where an answer says fixed, the
 //! integers with their move are strictly best for all data (`strictly_best`). `screened` gives what such a run begins
-//! with: the used satellites of the taken pairs and exactly the arcs that are kept of them (`screened`, `cut`). Running out of memory is the only failure without a stated cause.
+//! with: the used satellites of the taken pairs and exactly the arcs that are kept of them (`screened`, `cut`).
+//! Running out of memory is the only failure without a stated cause.
 #![tactic(auto)]
 
 mod answers;

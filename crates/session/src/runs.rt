@@ -1,5 +1,5 @@
 //! The whole run of two files.
-ghost use Rattle.std.specs.Prelude.{◌≡◌, ◌≤◌, All, AllPairs, length, IfOk, IfErr};
+ghost use Rattle.std.specs.Prelude.{◌≤◌, All, AllPairs, length, IfOk, IfErr};
 ghost use Rattle.obs_store.specs.Epochs.{tags_of};
 ghost use Rattle.epoch_pair.specs.Pairs.{Follows, IsNearPair};
 ghost use Rattle.slip_arcs.specs.Linked.{IsCutOf};
@@ -18,7 +18,8 @@ use slip_arcs::cut;
 use std::alloc::{AllocError, Global};
 use sv_orbit::world_of;
 
-/// The used satellites of the taken pairs, and the arcs that are kept of them.
+/// The used satellites of the taken pairs, and the arcs that are kept of them. `process` begins with it; that it is public serves
+/// tests alone.
 pub fn screened(
     alloc: Global,
     base: &ObsFile,
@@ -37,7 +38,7 @@ pub fn screened(
 {
     let taken = begun.taken.as_slice();
     let world = world_of(options.system);
-    let screened = match screen_in(
+    let screened = screen_in(
         alloc,
         base,
         rover,
@@ -46,28 +47,18 @@ pub fn screened(
         taken,
         options.mask,
         &world,
-    ) {
-        Ok(screened) => screened,
-        Err(fault) => return Err(fault),
-    };
+    )?;
     let halves = base_halves(alloc, &screened, &begun.position)?;
-    match cut(
-        alloc,
-        screened.used.as_slice(),
-        options.bands,
-        options.jump,
-        options.arc,
-    ) {
-        Ok(arcs) => Ok(FileRounds {
-            screened,
-            kept: arcs.kept,
-            position: begun.position,
-            signals: begun.signals,
-            system: options.system,
-            halves,
-        }),
-        Err(fault) => Err(fault),
-    }
+    let used = screened.used.as_slice();
+    let arcs = cut(alloc, used, options.bands, options.jump, options.arc)?;
+    Ok(FileRounds {
+        screened,
+        kept: arcs.kept,
+        position: begun.position,
+        signals: begun.signals,
+        system: options.system,
+        halves,
+    })
 }
 
 /// The outcome of the files of two receivers: the end of a run of rounds over the satellites that both used, or why the
@@ -86,24 +77,10 @@ pub fn process(
     ensures rounds { IfOk result (λ o. AreAllowed o.rounds) }
     ensures strictly_best { IfOk result (λ o. IsBestAnswer o.answer) }
 {
-    let begun = match begin(alloc, base, rover, options) {
-        Ok(begun) => begun,
-        Err(fault) => return Err(fault),
-    };
-    let rounds = match screened(alloc, base, rover, nav, &begun, options) {
-        Ok(rounds) => rounds,
-        Err(_) => return Err(SessionFault::NoMemory),
-    };
+    let begun = begin(alloc, base, rover, options)?;
+    let rounds = screened(alloc, base, rover, nav, &begun, options)?;
+    let kept = rounds.kept.as_slice();
     let delta = have_delta(base, rover);
-    match outcome(
-        alloc,
-        &rounds,
-        &begun,
-        rounds.kept.as_slice(),
-        delta,
-        options,
-    ) {
-        Ok(outcome) => Ok(outcome),
-        Err(_) => Err(SessionFault::NoMemory),
-    }
+    let out = outcome(alloc, &rounds, &begun, kept, delta, options)?;
+    Ok(out)
 }

@@ -40,7 +40,7 @@ pub(crate) fn screened_arcs(
 {
     let taken = begun.taken.as_slice();
     let world = world_of(options.system);
-    let screened = match screen_in(
+    let screened = screen_in(
         alloc,
         base,
         rover,
@@ -49,21 +49,11 @@ pub(crate) fn screened_arcs(
         taken,
         options.mask,
         &world,
-    ) {
-        Ok(screened) => screened,
-        Err(fault) => return Err(fault),
-    };
-    match cut(
-        alloc,
-        screened.used.as_slice(),
-        options.bands,
-        options.jump,
-        options.arc,
-    ) {
-        Ok(arcs) => Ok(ScreenedArcs {
-            screened,
-            kept: arcs.kept,
-        }),
-        Err(fault) => Err(fault),
-    }
+    )?;
+    let used = screened.used.as_slice();
+    let arcs = cut(alloc, used, options.bands, options.jump, options.arc)?;
+    Ok(ScreenedArcs {
+        screened,
+        kept: arcs.kept,
+    })
 }

@@ -1,8 +1,7 @@
 //! The outcome of a run over the files of a base and a moving rover.
-ghost use Rattle.std.specs.Prelude.{◌≡◌, ◌≤◌, ℕ, ℤ, List, [], ◌∷◌, length, All, IfOk, IfErr, pos};
+ghost use Rattle.std.specs.Prelude.{◌≡◌, ℤ, List, [], ◌∷◌, length, All, IfOk, IfErr, pos};
 ghost use Rattle.obs_rows.specs.declared.arcs.Arc.{Arc};
 ghost use Rattle.obs_rows.specs.declared.bands.Signals.{Signals};
-ghost use Rattle.obs_rows.specs.Arcs.{free_count};
 ghost use Rattle.obs_rows.specs.ReceiverPoints.{IsReceiverPoint};
 ghost use Rattle.slip_arcs.specs.Linked.{IsCutOf};
 ghost use Rattle.screening.specs.declared.screened.Screened.{Screened};
@@ -12,9 +11,9 @@ ghost use Rattle.track_job.specs.TrackOutcomes.{IsTrackable, IsTrackAnswer, IsTr
 
 use crate::files::{ScreenedArcs, screened_arcs};
 use eph_store::NavFile;
-use obs_rows::{Arc, free_arcs};
+use obs_rows::Arc;
 use obs_store::ObsFile;
-use round_steps::{are_few, are_many};
+use round_steps::{are_few, are_many, free_count};
 use session::have_delta;
 use session_begin::{Begun, Options, SessionFault, begin};
 use std::alloc::{AllocError, Global};
@@ -28,14 +27,6 @@ use track_rows::track_at;
 pub(crate) struct TrackAnswered {
     pub lost: Items<Lost>,
     pub answer: TrackAnswer,
-}
-
-/// How many of the arcs are free.
-fn free_count(arcs: &[Arc]) -> u32
-    requires { length arcs.now ≤ 54_000 }
-    ensures { result ≡ free_count arcs.now }
-{
-    free_arcs(arcs) as u32
 }
 
 // Where no pair was tried, none is lost.
@@ -102,17 +93,15 @@ fn answer(
             },
         });
     }
-    match track_at(
+    let tracked = track_at(
         alloc,
         &files.screened,
         kept,
         &begun.position,
         begun.signals,
         options.system,
-    ) {
-        Ok(tracked) => decided(alloc, tracked, taken, options),
-        Err(fault) => Err(fault),
-    }
+    )?;
+    decided(alloc, tracked, taken, options)
 }
 
 /// The outcome of the files of a base and a moving rover: which pairs are tracked and what is decided of them together, or why
@@ -127,25 +116,17 @@ pub(crate) fn track_outcome(
     ensures refused { IfErr result (IsSessionFault base.now rover.now options.now) }
     ensures outcome { IfOk result (IsTrackOutcome base.now rover.now nav.now options.now) }
 {
-    let begun = match begin(alloc, base, rover, options) {
-        Ok(begun) => begun,
-        Err(fault) => return Err(fault),
-    };
-    let files = match screened_arcs(alloc, base, rover, nav, &begun, options) {
-        Ok(files) => files,
-        Err(_) => return Err(SessionFault::NoMemory),
-    };
+    let begun = begin(alloc, base, rover, options)?;
+    let files = screened_arcs(alloc, base, rover, nav, &begun, options)?;
     let taken = begun.taken.len() as u32;
     let delta = have_delta(base, rover);
-    match answer(alloc, &files, &begun, taken, options) {
-        Ok(answered) => Ok(TrackOutcome {
-            taken,
-            all: begun.all,
-            kept: files.kept.len() as u32,
-            delta,
-            lost: answered.lost,
-            answer: answered.answer,
-        }),
-        Err(_) => Err(SessionFault::NoMemory),
-    }
+    let answered = answer(alloc, &files, &begun, taken, options)?;
+    Ok(TrackOutcome {
+        taken,
+        all: begun.all,
+        kept: files.kept.len() as u32,
+        delta,
+        lost: answered.lost,
+        answer: answered.answer,
+    })
 }

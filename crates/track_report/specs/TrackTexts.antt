@@ -1,5 +1,5 @@
 -- What is printed of a track: on out its certificate, or why there is none; on err how much of the files went into it,
--- which pairs are lost, and what came of it.
+-- which pairs are lost, and the places and the verdict.
 use Rattle.std.specs.Prelude.{ℕ, ℤ, Bool, true, false, List, [], ◌∷◌, ◌++◌, codes}
 use Rattle.std.specs.Fmt.{decimal}
 use Rattle.obs_rows.specs.declared.pair_rows.PairRows.{PairRows}

@@ -14,7 +14,8 @@ use Rattle.track_data.specs.declared.lost.Lost.{Lost}
 use Rattle.track_trial.specs.PairRules.{TrackSetting, AreUnshifted}
 use Rattle.track_rows.specs.Tracks.{unshifted}
 use Rattle.track_rows.specs.Walks.{IsWalked}
-use Rattle.track_rows.proofs.SameArcs.{its_arcs_same, unshifted_same}
+use Rattle.track_trial.proofs.KeptArcs.{has_kept}
+use Rattle.track_rows.proofs.SameArcs.{unshifted_same}
 
 -- ---- the arcs without shifts
 are_unshifted : (arcs : List Arc) → AreUnshifted (map unshifted arcs)
@@ -35,7 +36,7 @@ pub walked_pairs : (t : TrackSetting) (count : ℕ) (arcs : List Arc) (begun : L
 walked_pairs t count arcs begun points tracked lost w most = record {
   few = below (length tracked) w.few;
   rising = w.is_track.tracked_rise;
-  rows_have_arcs = λ k d i. its_arcs_same t.kept arcs (get_or tracked k d) w.is_track.same (w.fit.rows_have_arcs k d i);
+  rows_have_arcs = λ k d i. has_kept arcs t.kept (get_or tracked k d) (sym w.is_track.same) (w.fit.rows_have_arcs k d i);
 }
   where
     below : (n : ℕ) → n ≤ count → n ≤ 3600

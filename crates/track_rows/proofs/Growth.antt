@@ -1,5 +1,5 @@
 -- How a track grows by one pair, tracked or lost: so a walk over the pairs makes one.
-use Rattle.std.proofs.Common.{◌≡◌, ◌≢◌, inl, inr, ⊎_elim, ℕ, suc, ◌+◌, ◌<◌, true, false, Bool, Some, List, [], ◌∷◌, ◌++◌, length, get_or, All, Any, ℤ, arith, sym, ◌∙◌, refl, subst, ap}
+use Rattle.std.proofs.Common.{◌≡◌, ◌≢◌, inl, inr, ⊎_elim, ℕ, ◌+◌, ◌<◌, true, false, Bool, Some, List, [], ◌∷◌, ◌++◌, length, get_or, All, Any, ℤ, arith, sym, ◌∙◌, refl, subst, ap}
 use Rattle.std.specs.Prelude.{slice_get}
 use Rattle.std.proofs.lemmas.Bool.{cases_eq, cases_Bool}
 use Rattle.std.proofs.lemmas.List.Elements.{All-push}
@@ -18,7 +18,8 @@ use Rattle.track_data.specs.declared.lost.LostCause.TheVariants.{Rows, Coarse, U
 use Rattle.track_trial.specs.PairRules.{TrackSetting, rows_setting}
 use Rattle.track_trial.specs.Trials.{AreTried, KeepsOthers, IsTried, HasTriedRows, IsLost, IsTrackedBy}
 use Rattle.track_rows.specs.Tracks.{no_shifts, HasRow, HasBegun, IsTrack}
-use Rattle.track_rows.proofs.Lists.{any_more, any_in, push_get, push_last, length_push}
+use Rattle.std.proofs.lemmas.List.{length_push}
+use Rattle.whole_math.proofs.Lists.{any_more, any_in, push_get}
 use Rattle.track_rows.proofs.SameArcs.{held_in, held_back, agree_at}
 
 -- ---- which arcs have begun
@@ -207,7 +208,7 @@ pub tracked_more : (t : TrackSetting) (count : ℕ) (arcs next : List Arc) (poin
     IsTrack t (count + 1) next (points ++ point ∷ []) (tracked ++ new ∷ []) lost
 tracked_more t count arcs next points tracked lost point new is by others = record {
   same = n.after;
-  point_each = length_push points point ∙ ap (λ (m : ℕ). suc m) is.point_each ∙ sym (length_push tracked new);
+  point_each = length_push points point ∙ ap (λ (m : ℕ). m + 1) is.point_each ∙ sym (length_push tracked new);
   are_tracked = λ i q p point_is pair_is. ⊎_elim
       (λ (old : slice_get tracked i ≡ Some p). tracked_still t count arcs next tracked new i q p n number old (earlier i p old) (is.are_tracked i q p (old_point i q p old point_is) old))
       (λ (fresh : (i ≡ length tracked) × (new ≡ p)). subst (λ (x : PairRows). IsTrackedBy t next (HasBegun t.kept (tracked ++ new ∷ []) x.number) x.number q x next) fresh.1
@@ -264,4 +265,7 @@ tracked_more t count arcs next points tracked lost point new is by others = reco
         (push_get points point q i e)
 
     new_point : (i : ℕ) (q : List ℤ) → i ≡ length tracked → slice_get (points ++ point ∷ []) i ≡ Some q → point ≡ q
-    new_point i q e f = same_Some point q (sym (push_last points point i (e ∙ sym is.point_each)) ∙ f)
+    new_point i q last there = ⊎_elim
+        (λ (old : slice_get points i ≡ Some q). absurd (apart_from (length points) i i (last ∙ sym is.point_each) (slice_get_within points i q old) refl))
+        (λ (fresh : (i ≡ length points) × (point ≡ q)). fresh.1)
+        (push_get points point q i there)

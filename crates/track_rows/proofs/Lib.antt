@@ -1,4 +1,3 @@
-pub mod Lists
 pub mod SameArcs
 pub mod Growth
 pub mod Marks

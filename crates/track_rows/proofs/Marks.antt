@@ -10,20 +10,21 @@ use Rattle.row_build.specs.HeldArcs.{holds_pair, IsHeld}
 use Rattle.round_steps.specs.Shifts.{AreSameArcs}
 use Rattle.track_rows.specs.Tracks.{HasRow}
 use Rattle.track_rows.specs.Walks.{AreFlags, AreMarked}
-use Rattle.track_rows.proofs.Lists.{any_more, any_in, push_get, push_before, push_last, length_push}
+use Rattle.std.proofs.lemmas.List.{length_push}
+use Rattle.whole_math.proofs.Lists.{any_more, any_in, push_get, push_before, last_push}
 use Rattle.track_rows.proofs.SameArcs.{held_in}
 
 or_cases : (b c : Bool) → (b || c) ≡ true → (b ≡ true) ⊎ (c ≡ true)
-or_cases true c e = inl refl
-or_cases false c e = inr e
+or_cases true c either = inl refl
+or_cases false c either = inr either
 
 or_left : (b c : Bool) → b ≡ true → (b || c) ≡ true
-or_left true c e = refl
-or_left false c e = absurd (false≢true e)
+or_left true c is = refl
+or_left false c is = absurd (false≢true is)
 
 or_right : (b c : Bool) → c ≡ true → (b || c) ≡ true
-or_right true c e = refl
-or_right false c e = e
+or_right true c is = refl
+or_right false c is = is
 
 -- the flags of the first n arcs
 pub record AreMarkedTo (n : ℕ) (begun : List Bool) (arcs : List Arc) (pair : ℕ) (flags : List Bool) : Type 0 where
@@ -31,74 +32,74 @@ pub record AreMarkedTo (n : ℕ) (begun : List Bool) (arcs : List Arc) (pair : �
   pub each : (k : ℕ) → (slice_get flags k ≡ Some true) ↔ ((k < n) × ((slice_get begun k ≡ Some true) ⊎ IsHeld arcs pair k))
 
 pub none_marked : (begun : List Bool) (arcs : List Arc) (pair : ℕ) → AreMarkedTo 0 begun arcs pair []
-none_marked begun arcs pair = record { count = refl; each = λ k. (λ e. absurd (none-some true e), λ h. absurd (omega (arith, h.0))) }
+none_marked begun arcs pair = record { count = refl; each = λ k. (λ flag. absurd (none-some true flag), λ held. absurd (omega (arith, held.0))) }
 
 pub more_marked : (n : ℕ) (begun : List Bool) (arcs : List Arc) (pair : ℕ) (flags more : List Bool) (a : Arc) (b m : Bool) → AreMarkedTo n begun arcs pair flags →
     slice_get arcs n ≡ Some a → slice_get begun n ≡ Some b → m ≡ (b || holds_pair a pair) → more ≡ flags ++ m ∷ [] → AreMarkedTo (n + 1) begun arcs pair more
-more_marked n begun arcs pair flags more a b m h is_a is_b m_is e = subst (AreMarkedTo (n + 1) begun arcs pair) (sym e) (record {
-  count = long (length flags) (length (flags ++ m ∷ [])) (length_push flags m) h.count;
+more_marked n begun arcs pair flags more a b m so_far is_a is_b m_is pushed = subst (AreMarkedTo (n + 1) begun arcs pair) (sym pushed) (record {
+  count = length_push flags m ∙ ap (λ (x : ℕ). x + 1) so_far.count;
   each = λ k. (λ p. forth k p, λ p. back k p.0 p.1);
 })
   where
-    long : (x y : ℕ) → y ≡ suc x → x ≡ n → y ≡ n + 1
-    long x y p q = omega (arith, p, q)
-
     wider : (k : ℕ) → k < n → k < n + 1
-    wider k l = omega (arith, l)
+    wider k less = omega (arith, less)
 
     own : (k : ℕ) → k ≡ n → k < n + 1
-    own k l = omega (arith, l)
+    own k last = omega (arith, last)
 
-    less : (k : ℕ) → k < n + 1 → (k ≡ n → ⊥) → k < n
-    less k l d = omega (arith, l, d)
+    earlier : (k : ℕ) → k < n + 1 → (k ≡ n → ⊥) → k < n
+    earlier k within other = omega (arith, within, other)
 
     held : (k : ℕ) → k ≡ n → holds_pair a pair ≡ true → IsHeld arcs pair k
-    held k q t = record { arc = a; is = subst (λ (i : ℕ). slice_get arcs i ≡ Some a) (sym q) is_a; held = t }
+    held k last holds = record { arc = a; is = subst (λ (i : ℕ). slice_get arcs i ≡ Some a) (sym last) is_a; held = holds }
 
     forth : (k : ℕ) → slice_get (flags ++ m ∷ []) k ≡ Some true → (k < n + 1) × ((slice_get begun k ≡ Some true) ⊎ IsHeld arcs pair k)
-    forth k p = ⊎_elim
-        (λ (old : slice_get flags k ≡ Some true). let o = (h.each k).0 old in (wider k o.0, o.1))
-        (λ (new : (k ≡ length flags) × (m ≡ true)). let q : k ≡ n = new.0 ∙ h.count in (
-          own k q,
+    forth k flag = ⊎_elim
+        (λ (old : slice_get flags k ≡ Some true). let o = (so_far.each k).0 old in (wider k o.0, o.1))
+        (λ (new : (k ≡ length flags) × (m ≡ true)). let last : k ≡ n = new.0 ∙ so_far.count in (
+          own k last,
           ⊎_elim
-              (λ (t : b ≡ true). inl (subst (λ (i : ℕ). slice_get begun i ≡ Some true) (sym q) (subst (λ (x : Bool). slice_get begun n ≡ Some x) t is_b)))
-              (λ (t : holds_pair a pair ≡ true). inr (held k q t))
+              (λ (before : b ≡ true). inl (subst (λ (i : ℕ). slice_get begun i ≡ Some true) (sym last) (subst (λ (x : Bool). slice_get begun n ≡ Some x) before is_b)))
+              (λ (holds : holds_pair a pair ≡ true). inr (held k last holds))
               (or_cases b (holds_pair a pair) (sym m_is ∙ new.1)),
         ))
-        (push_get flags m true k p)
+        (push_get flags m true k flag)
 
     is_marked : (k : ℕ) → k ≡ n → (slice_get begun k ≡ Some true) ⊎ IsHeld arcs pair k → m ≡ true
-    is_marked k q (inl t) = m_is ∙ or_left b (holds_pair a pair) (same_Some b true (sym is_b ∙ subst (λ (i : ℕ). slice_get begun i ≡ Some true) q t))
-    is_marked k q (inr t) = m_is ∙ or_right b (holds_pair a pair)
-        (subst (λ (x : Arc). holds_pair x pair ≡ true) (same_Some t.arc a (sym t.is ∙ subst (λ (i : ℕ). slice_get arcs i ≡ Some a) (sym q) is_a)) t.held)
+    is_marked k last (inl before) = m_is ∙ or_left b (holds_pair a pair) (same_Some b true (sym is_b ∙ subst (λ (i : ℕ). slice_get begun i ≡ Some true) last before))
+    is_marked k last (inr h) = m_is ∙ or_right b (holds_pair a pair)
+        (subst (λ (x : Arc). holds_pair x pair ≡ true) (same_Some h.arc a (sym h.is ∙ subst (λ (i : ℕ). slice_get arcs i ≡ Some a) (sym last) is_a)) h.held)
+
+    marked_last : (k : ℕ) → k ≡ length flags → slice_get (flags ++ m ∷ []) k ≡ Some m
+    marked_last k last = subst (λ (i : ℕ). slice_get (flags ++ m ∷ []) i ≡ Some m) (sym last) (last_push flags m)
 
     back : (k : ℕ) → k < n + 1 → (slice_get begun k ≡ Some true) ⊎ IsHeld arcs pair k → slice_get (flags ++ m ∷ []) k ≡ Some true
-    back k l p = ⊎_elim
-        (λ (q : k ≡ n). push_last flags m k (q ∙ sym h.count) ∙ ap (λ (x : Bool). Some x) (is_marked k q p))
-        (λ (d : k ≡ n → ⊥). push_before flags m true k ((h.each k).1 (less k l d, p)))
+    back k within p = ⊎_elim
+        (λ (last : k ≡ n). marked_last k (last ∙ sym so_far.count) ∙ ap (λ (x : Bool). Some x) (is_marked k last p))
+        (λ (other : k ≡ n → ⊥). push_before flags m true k ((so_far.each k).1 (earlier k within other, p)))
         (cases_eq k n)
 
 pub all_marked : (n : ℕ) (begun : List Bool) (arcs : List Arc) (pair : ℕ) (flags : List Bool) →
     AreMarkedTo n begun arcs pair flags → length begun ≡ n → length arcs ≡ n → AreMarked begun arcs pair flags
-all_marked n begun arcs pair flags h e f = record {
-  count = h.count ∙ sym e;
-  each = λ k. (λ p. ((h.each k).0 p).1, λ p. (h.each k).1 (inside k p, p));
+all_marked n begun arcs pair flags so_far all_flags all_arcs = record {
+  count = so_far.count ∙ sym all_flags;
+  each = λ k. (λ p. ((so_far.each k).0 p).1, λ p. (so_far.each k).1 (inside k p, p));
 }
   where
     inside : (k : ℕ) → (slice_get begun k ≡ Some true) ⊎ IsHeld arcs pair k → k < n
-    inside k (inl t) = subst (λ (i : ℕ). k < i) e (slice_get_within begun k true t)
-    inside k (inr t) = subst (λ (i : ℕ). k < i) f (slice_get_within arcs k t.arc t.is)
+    inside k (inl before) = subst (λ (i : ℕ). k < i) all_flags (slice_get_within begun k true before)
+    inside k (inr h) = subst (λ (i : ℕ). k < i) all_arcs (slice_get_within arcs k h.arc h.is)
 
 -- ---- flags of a track
 no_flag : (n k : ℕ) → slice_get (replicate n false) k ≡ Some true → ⊥
-no_flag zero k e = none-some true e
-no_flag (suc n) zero e = false≢true (same_Some false true e)
-no_flag (suc n) (suc k) e = no_flag n k e
+no_flag zero k flag = none-some true flag
+no_flag (suc n) zero flag = false≢true (same_Some false true flag)
+no_flag (suc n) (suc k) flag = no_flag n k flag
 
 pub no_flags : (kept : List Arc) (begun : List Bool) → begun ≡ replicate (length kept) false → length begun ≡ length kept → AreFlags kept [] begun
-no_flags kept begun e l = record {
-  count = l;
-  each = λ k. (λ p. absurd (no_flag (length kept) k (subst (λ (xs : List Bool). slice_get xs k ≡ Some true) e p)), λ (some : HasRow kept [] k). absurd (omega (arith, some.2)));
+no_flags kept begun all_false long = record {
+  count = long;
+  each = λ k. (λ p. absurd (no_flag (length kept) k (subst (λ (xs : List Bool). slice_get xs k ≡ Some true) all_false p)), λ (some : HasRow kept [] k). absurd (omega (arith, some.2)));
 }
 
 pub flags_more : (kept arcs : List Arc) (tracked : List PairRows) (new : PairRows) (begun flags : List Bool) →

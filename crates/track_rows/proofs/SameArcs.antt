@@ -1,20 +1,13 @@
 -- Arcs that are the same but for their shifts hold the same pairs.
-use Rattle.std.proofs.Common.{◌≡◌, ◌<◌, ◌≤◌, ℕ, suc, true, Some, List, [], ◌∷◌, map, get_or, sym, ap, ◌∙◌, refl, subst}
+use Rattle.std.proofs.Common.{◌≡◌, ℕ, suc, true, Some, List, [], ◌∷◌, map, sym, ap, ◌∙◌, refl, subst}
 use Rattle.std.specs.Prelude.{slice_get}
 use Rattle.std.proofs.lemmas.Option.{same_Some}
 use Rattle.obs_rows.specs.declared.arcs.Arc.{Arc}
-use Rattle.obs_rows.specs.declared.rows.Row.{Row}
-use Rattle.obs_rows.specs.declared.pair_rows.PairRows.{PairRows}
-use Rattle.obs_rows.specs.Arcs.{IsOfPair}
-use Rattle.obs_rows.specs.Pairs.{HasItsArcs}
 use Rattle.row_build.specs.HeldArcs.{holds_pair, IsHeld, AgreeAt}
 use Rattle.round_steps.specs.Shifts.{AreSameArcs, without_shifts}
-use Rattle.round_steps.proofs.ShiftLaws.{length_same}
 use Rattle.session.proofs.CutLaws.{Like, like}
+use Rattle.track_trial.proofs.TriedArcs.{same_holds}
 use Rattle.track_rows.specs.Tracks.{unshifted}
-
-same_holds : (a b : Arc) (pair : ℕ) → without_shifts a ≡ without_shifts b → holds_pair a pair ≡ holds_pair b pair
-same_holds a b pair e = ap (λ (x : Arc). holds_pair x pair) e
 
 -- an arc that holds the pair holds it in the other list
 pub held_in : (kept arcs : List Arc) (pair k : ℕ) (b : Arc) → AreSameArcs kept arcs → slice_get arcs k ≡ Some b → holds_pair b pair ≡ true → IsHeld kept pair k
@@ -48,18 +41,3 @@ agree_at pair (x ∷ xs) (y ∷ ys) e f = (
 pub unshifted_same : (arcs : List Arc) → AreSameArcs arcs (map unshifted arcs)
 unshifted_same [] = refl
 unshifted_same (a ∷ arcs) = ap (λ (xs : List Arc). without_shifts a ∷ xs) (unshifted_same arcs)
-
--- ---- rows of these arcs
-row_of_same : (arcs others : List Arc) (number : ℕ) (r : Row) → AreSameArcs arcs others → IsOfPair arcs number r → IsOfPair others number r
-row_of_same arcs others number r same h = record {
-  arc_in = subst (λ (n : ℕ). r.arc < n) (sym (length_same arcs others same)) h.arc_in;
-  from_first = λ b is.
-      let l : Like arcs r.arc b = like others arcs (sym same) r.arc b is in
-      subst (λ (n : ℕ). n ≤ number) (ap (λ (x : Arc). x.first) l.same) (h.from_first l.arc l.arc_is);
-  to_last = λ b is.
-      let l : Like arcs r.arc b = like others arcs (sym same) r.arc b is in
-      subst (λ (n : ℕ). number ≤ n) (ap (λ (x : Arc). x.last) l.same) (h.to_last l.arc l.arc_is);
-}
-
-pub its_arcs_same : (arcs others : List Arc) (p : PairRows) → AreSameArcs arcs others → HasItsArcs arcs p → HasItsArcs others p
-its_arcs_same arcs others p same h = λ k d i. row_of_same arcs others p.number (get_or p.rows k d) same (h k d i)

@@ -1,6 +1,6 @@
 -- A step of the walk: from what became of a pair to a track of one pair more.
-use Rattle.std.proofs.Common.{◌≡◌, ℕ, suc, ◌+◌, ◌≤◌, Bool, List, [], ◌∷◌, ◌++◌, length, replicate, ℤ, false, arith, sym, ap, ◌∙◌, subst}
-use Rattle.std.proofs.lemmas.List.{length-replicate}
+use Rattle.std.proofs.Common.{◌≡◌, ℕ, ◌+◌, ◌≤◌, Bool, List, [], ◌∷◌, ◌++◌, length, replicate, ℤ, false, arith, sym, ap, ◌∙◌, subst}
+use Rattle.std.proofs.lemmas.List.{length-replicate, length_push}
 use Rattle.std.proofs.lemmas.Option.{same_Some}
 use Rattle.std.proofs.lemmas.List.Elements.{All-nil, All-push}
 use Rattle.obs_rows.specs.declared.arcs.Arc.{Arc}
@@ -16,8 +16,7 @@ use Rattle.track_trial.specs.PairRules.{TrackSetting, AreUnshifted}
 use Rattle.track_trial.specs.Trials.{flagged, AreTried, KeepsOthers, IsLost, IsTrackedBy, FitsTrack}
 use Rattle.track_rows.specs.Tracks.{HasBegun}
 use Rattle.track_rows.specs.Walks.{AreMarked, IsWalked}
-use Rattle.track_rows.proofs.Lists.{length_push}
-use Rattle.track_rows.proofs.SameArcs.{its_arcs_same}
+use Rattle.track_trial.proofs.KeptArcs.{has_kept}
 use Rattle.track_rows.proofs.Growth.{begun_row, row_begun, tried_along, tried_by, lost_by, no_pairs, lost_more, tracked_more}
 use Rattle.track_rows.proofs.Marks.{no_flags, flags_more}
 
@@ -71,7 +70,7 @@ lost_step t count arcs begun points tracked lost new w number is =
     }
   where
     more : (n : ℕ) → n ≤ count → n ≤ count + 1
-    more n h = omega (arith, h)
+    more n few_before = omega (arith, few_before)
 
 -- ---- a pair that is tracked
 pub tracked_step : (t : TrackSetting) (count : ℕ) (arcs next : List Arc) (begun flags : List Bool) (points : List (List ℤ)) (tracked : List PairRows)
@@ -92,11 +91,11 @@ tracked_step t count arcs next begun flags points tracked lost point new w is ot
         arcs_in = fit.arcs_in;
         shifts_used = fit.shifts_used;
         points_in = All-push IsPoint points point w.fit.points_in fit.point_in;
-        rows_have_arcs = All-push (HasItsArcs t.kept) tracked new w.fit.rows_have_arcs (its_arcs_same next t.kept new (sym is.is_tried.are_tried.same) fit.rows_have_arcs);
+        rows_have_arcs = All-push (HasItsArcs t.kept) tracked new w.fit.rows_have_arcs (has_kept t.kept next new is.is_tried.are_tried.same fit.rows_have_arcs);
         rows_used = All-push (HasUsedRows (fine_signals t.signals)) tracked new w.fit.rows_used fit.rows_used;
       };
       few = more (length tracked) (length (tracked ++ new ∷ [])) (length_push tracked new) w.few;
     }
   where
-    more : (n m : ℕ) → m ≡ suc n → n ≤ count → m ≤ count + 1
-    more n m e h = omega (arith, e, h)
+    more : (n m : ℕ) → m ≡ n + 1 → n ≤ count → m ≤ count + 1
+    more n m longer few_before = omega (arith, longer, few_before)

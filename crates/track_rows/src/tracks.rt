@@ -1,5 +1,5 @@
 //! The track of the pairs that were screened.
-ghost use Rattle.std.specs.Prelude.{◌≡◌, map, All, IfOk};
+ghost use Rattle.std.specs.Prelude.{◌≡◌, map, IfOk};
 ghost use Rattle.obs_rows.specs.ReceiverPoints.{IsReceiverPoint};
 ghost use Rattle.obs_rows.specs.Ranges.{IsSystem};
 ghost use Rattle.obs_rows.specs.Arcs.{AreArcs};
@@ -39,7 +39,7 @@ fn unshifted_arcs(alloc: Global, arcs: &[Arc]) -> Result<Vec<Arc>, AllocError>
 }
 
 /// The track of the pairs that were screened, over the arcs that were kept of them, and the pairs that it hasn't got, each with its
-/// cause. Refused only for want of memory.
+/// cause. It is refused only where memory runs out.
 ///
 /// Every pair has coarse rounds of its own from the base, which is at `base` in units of 0.1 mm; the signals are those that `screened`
 /// was made of, and the system is G or E. The arcs may be handed in with any shifts: those of the track are taken anew.

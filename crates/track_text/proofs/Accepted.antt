@@ -2,7 +2,9 @@
 use Rattle.std.proofs.Common.{◌≡◌, ◌+◌, ◌-◌, ◌<◌, ◌≤◌, ◌^◌, ℕ, ℤ, suc, pos, Bool, true, false, List, [], ◌∷◌, ◌++◌, length, take, codes, All, Result, Ok, Err, refl, sym, ap, ◌∙◌, subst, lit≤, arith, append_assoc}
 use Rattle.std.proofs.lemmas.List.{append-nil, length-take-le}
 use Rattle.std.proofs.lemmas.List.Elements.{All-head, All-tail}
+use Rattle.form_tables.specs.declared.sizes.TheConstants.{MOST_INTEGERS}
 use Rattle.obs_rows.specs.declared.arcs.Arc.{Arc}
+use Rattle.obs_rows.specs.declared.units.TheConstants.{SIGNALS}
 use Rattle.obs_rows.specs.declared.rows.Row.{Row}
 use Rattle.obs_rows.specs.declared.pair_rows.PairRows.{PairRows}
 use Rattle.obs_rows.specs.Pairs.{HasItsArcs}
@@ -52,14 +54,14 @@ use Rattle.track_text.proofs.TailSpells.{move_spells, weak_read, spent_read, pla
 
 -- ---- pairs with their points
 
-pairs_accepted : (f : Frame) (arcs : List Arc) (least : ℕ) (pairs : List PairRows) (points : List (List ℤ)) (numbers : List ℕ) (rest : List (List ℕ)) → length f.ss ≤ 6 → length arcs ≤ 200
+pairs_accepted : (f : Frame) (arcs : List Arc) (least : ℕ) (pairs : List PairRows) (points : List (List ℤ)) (numbers : List ℕ) (rest : List (List ℕ)) → length f.ss ≤ SIGNALS → length arcs ≤ 200
     → length points ≡ length pairs → All (HasItsArcs arcs) pairs → All IsWholePair pairs → All IsPoint points → AreTriples points → RisesFrom (λ (p : PairRows). p.number) least pairs
     → AreAccepted track_rules (Tail f arcs (numbers ++ numbers_of pairs)) rest
     → AreAccepted track_rules (before_pairs f arcs (length pairs) least numbers) (all_placed_pairs f.ss pairs points ++ rest)
-pairs_accepted f arcs least [] points numbers rest six few each has whole are triples rising behind =
+pairs_accepted f arcs least [] points numbers rest few_signals few each has whole are triples rising behind =
     subst (λ (ns : List ℕ). AreAccepted track_rules (Tail f arcs ns) rest) (append-nil numbers) behind
-pairs_accepted f arcs least (p ∷ pairs) [] numbers rest six few each has whole are triples rising behind = absurd (omega (arith, each))
-pairs_accepted f arcs least (p ∷ pairs) (x ∷ points) numbers rest six few each has whole are triples rising behind =
+pairs_accepted f arcs least (p ∷ pairs) [] numbers rest few_signals few each has whole are triples rising behind = absurd (omega (arith, each))
+pairs_accepted f arcs least (p ∷ pairs) (x ∷ points) numbers rest few_signals few each has whole are triples rising behind =
     let own = All-head (HasItsArcs arcs) p pairs has in
     let wide = All-head IsWholePair p pairs whole in
     let point = All-head IsPoint x points are in
@@ -73,10 +75,10 @@ pairs_accepted f arcs least (p ∷ pairs) (x ∷ points) numbers rest six few ea
     let head = pair_line p.number p.tag.0 p.group count in
     let at_point = vector_line (codes "at") x in
     let with_this = subst (λ (ns : List ℕ). AreAccepted track_rules (Tail f arcs ns) rest) (sym (append_assoc numbers (p.number ∷ []) (numbers_of pairs))) behind in
-    let later = pairs_accepted f arcs (p.number + 1) pairs points now rest six few (omega (arith, each)) (All-tail (HasItsArcs arcs) p pairs has) (All-tail IsWholePair p pairs whole)
+    let later = pairs_accepted f arcs (p.number + 1) pairs points now rest few_signals few (omega (arith, each)) (All-tail (HasItsArcs arcs) p pairs has) (All-tail IsWholePair p pairs whole)
     (All-tail IsPoint x points are) (All-tail (λ (m : List ℤ). length m ≡ 3) x points triples) rising.1 with_this in
     let c1 = rows_accepted track_rules f.ss arcs p.number (λ (n k : ℕ). before_rows f arcs (length pairs) p.number n k numbers) (before_pairs f arcs (length pairs) (p.number + 1) now) 0 p.rows others
-    (rows_taken f arcs (length pairs) p.number numbers) six few own wide (rises (λ (r : Row). r.arc) 0 p.rows p.arcs_rise (λ d some. omega arith)) later in
+    (rows_taken f arcs (length pairs) p.number numbers) few_signals few own wide (rises (λ (r : Row). r.arc) 0 p.rows p.arcs_rise (λ d some. omega arith)) later in
     let c2 = line_accepted track_rules (PairPoint f arcs (length pairs) p.number count numbers) (vector_in (codes "at") 3 COORDINATES)
     (λ (z : List ℤ). before_rows f arcs (length pairs) p.number count 0 numbers) x at_point (rows ++ others)
     (point_taken f arcs (length pairs) p.number count numbers) (point_length (codes "at") x (lit≤ tt) three point) (point_spells (codes "at") x three point) c1 in
@@ -97,7 +99,7 @@ moves_accepted (p ∷ pairs) (m ∷ moves) rest each are triples behind =
     let is = All-head IsMove m moves are in
     let three = All-head (λ (z : List ℤ). length z ≡ 3) m moves triples in
     let later = moves_accepted pairs moves rest (omega (arith, each)) (All-tail IsMove m moves are) (All-tail (λ (z : List ℤ). length z ≡ 3) m moves triples) behind in
-    let few : length (pos p.number ∷ m) ≤ 60 = omega (arith, three) in
+    let few : length (pos p.number ∷ m) ≤ MOST_INTEGERS = omega (arith, three) in
     let short = line_length (codes "move") (pos p.number ∷ m) (lit≤ tt) few (move_small p m is) in
     line_accepted track_rules (before_moves (p.number ∷ numbers_of pairs)) (move_in p.number) (λ (z : List ℤ). before_moves (numbers_of pairs)) m (move_line p.number m)
     (move_lines pairs moves ++ rest)
@@ -176,11 +178,11 @@ track_accepted c whole =
     let budget = c.budget in
     let f = frame budget ss in
     let n = length t.pairs in
-    let six : length ss ≤ 6 = (signals_good t.signals.l2 t.signals.l5).few in
+    let few_signals : length ss ≤ SIGNALS = (signals_good t.signals.l2 t.signals.l5).few in
     let ends = track_tail_lines t.pairs c.tail in
     let after_arcs = counted_placed_pairs ss t.pairs t.points ++ ends in
     let tail = tail_accepted f t.arcs t.pairs c.tail c.budget_to c.tail_fits whole.tail in
-    let c1 = pairs_accepted f t.arcs 0 t.pairs t.points [] ends six t.arcs_in.few t.point_each t.pairs_in.rows_have_arcs whole.track.pairs t.points_in whole.track.points
+    let c1 = pairs_accepted f t.arcs 0 t.pairs t.points [] ends few_signals t.arcs_in.few t.point_each t.pairs_in.rows_have_arcs whole.track.pairs t.points_in whole.track.points
     (rises (λ (p : PairRows). p.number) 0 t.pairs t.pairs_in.rising (λ d some. omega arith)) tail in
     let few_pairs : n < 2 ^ 126 = omega (arith, t.pairs_in.few) in
     let c2 = line_accepted track_rules (PairCount f t.arcs) (count_in (codes "pairs") 1 3600) (λ (k : ℕ). before_pairs f t.arcs k 0 []) n (count_line (codes "pairs") n)

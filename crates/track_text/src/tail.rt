@@ -1,5 +1,5 @@
 //! The tail of the certificate of a track.
-ghost use Rattle.std.specs.Prelude.{◌≡◌, ◌≤◌, ◌++◌, ◌∷◌, ℕ, List, take, length, codes, IfOk};
+ghost use Rattle.std.specs.Prelude.{◌≡◌, ◌≤◌, ◌++◌, ◌∷◌, ℕ, List, take, codes, IfOk};
 ghost use Rattle.obs_rows.specs.declared.arcs.Arc.{Arc};
 ghost use Rattle.obs_rows.specs.Integers.{integer_count};
 ghost use Rattle.int_search.specs.Vectors.{IsSmall, IsZeroFrom};

@@ -1,4 +1,4 @@
-mod KeptArcs
+pub mod KeptArcs
 mod PairSessions
-mod TriedArcs
+pub mod TriedArcs
 mod Outcomes

@@ -12,7 +12,8 @@ use Rattle.cert_data.specs.declared.tails.Tail.{Tail}
 use Rattle.cert_data.specs.declared.outcomes.Stage.{Stage}
 use Rattle.row_build.specs.PairRows.{ArePairRows}
 use Rattle.row_build.specs.Far.{HasFarRow}
-use Rattle.row_build.proofs.SessionLaws.{has_arcs, point_within}
+use Rattle.row_build.proofs.SessionLaws.{has_arcs}
+use Rattle.obs_rows.proofs.ReceiverPointLaws.{receiver_is_point}
 use Rattle.row_build.proofs.UnusedLaws.{used_rows}
 use Rattle.round_steps.specs.Counts.{held}
 use Rattle.round_steps.specs.Runs.{EndsEarly, coarse_alone}
@@ -71,7 +72,7 @@ tracked_by t arcs begun pair point tried rows f trial are front = record { is_tr
 pub fits_track : (t : TrackSetting) (pair : ℕ) (point : List ℤ) (tried : List Arc) (rows : PairRows) → IsSettledAt t pair point → AreArcs tried → All (HasUsedShifts (fine_signals t.signals)) tried →
     ArePairRows (rows_setting t tried point 0) pair rows → FitsTrack t.signals point rows tried
 fits_track t pair point tried rows settles arcs used are = record {
-  point_in = point_within point settles.1.in_reach.1;
+  point_in = receiver_is_point point settles.1.in_reach;
   arcs_in = arcs;
   shifts_used = used;
   rows_have_arcs = has_arcs (rows_setting t tried point 0) pair rows are;

@@ -14,7 +14,7 @@ ghost use Rattle.track_trial.specs.PairRules.{rows_setting, rules_of_pair, setti
 
 use crate::TrackFiles;
 use obs_rows::{Arc, ArcList, PairRows, Session, SessionBuilder};
-use row_build::{RowFault, pair_rows_with};
+use row_build::{RowFault, RowSource, pair_rows_with};
 use std::alloc::Global;
 
 /// The rows of a pair that four arcs hold.
@@ -36,18 +36,16 @@ pub fn rows_of(
     ensures rows { IfOk result (ArePairRows (rows_setting (setting_of files.now) arcs.now point.now scale) pair) }
     ensures far { result ≡ Err RowFault.Overwidth → HasFarRow (rows_setting (setting_of files.now) arcs.now point.now scale) pair }
 {
-    let found = pair_rows_with(
-        alloc,
-        files.screened,
-        files.halves,
+    let from = RowSource {
+        screened: files.screened,
+        halves: files.halves,
         arcs,
-        pair,
-        &files.position,
+        base: &files.position,
         point,
-        files.signals,
-        scale,
-    );
-    match found {
+        signals: files.signals,
+    };
+    match pair_rows_with(alloc, &from, pair, scale) {
+        // Four arcs hold the pair, so it has rows.
         Ok(rows) => Ok(rows.unwrap()),
         Err(fault) => Err(fault),
     }

@@ -12,7 +12,7 @@ ghost use Rattle.track_trial.specs.Trials.{IsTriedArc, AreTried, KeepsOthers, fl
 
 use crate::TrackFiles;
 use obs_rows::Arc;
-use row_build::shift_with;
+use row_build::{RowSource, shift_with};
 use std::alloc::{AllocError, Global};
 
 /// The arc of number k with which the pair is tried.
@@ -41,17 +41,15 @@ fn tried_arc(
     if begun[k] {
         return arc;
     }
-    let taken = shift_with(
-        files.screened,
-        files.halves,
-        files.kept,
-        k as u16,
-        pair,
-        &files.position,
+    let from = RowSource {
+        screened: files.screened,
+        halves: files.halves,
+        arcs: files.kept,
+        base: &files.position,
         point,
-        files.signals,
-    );
-    match taken {
+        signals: files.signals,
+    };
+    match shift_with(&from, k as u16, pair) {
         Some(shift) => Arc {
             sat: arc.sat,
             first: arc.first,

@@ -89,7 +89,7 @@ fn try_at(
 
 /// Tries the pair of this number among those that were taken. The arcs are the kept ones with their shifts so far; flags
 /// say which of them have a row in a tracked pair before. They keep their shifts, and other arcs of the pair take ones of
-/// this pair. Refused only for want of memory.
+/// this pair. It is refused only where memory runs out.
 pub fn try_pair(
     alloc: Global,
     files: &TrackFiles<'_>,

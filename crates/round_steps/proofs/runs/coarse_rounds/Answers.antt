@@ -1,4 +1,5 @@
 use Rattle.std.proofs.Common.{◌≡◌, ◌<◌, ◌≤◌, ◌+◌, ◌-◌, false, nat_eq, ℕ, arith, subst}
+use Rattle.obs_rows.specs.declared.units.TheConstants.{COARSE_SCALE}
 use Rattle.round_steps.specs.Steps.{IsStep, IsSettledForm, IsMoved}
 use Rattle.round_steps.specs.Runs.{Rules, IsSessionOf, coarse, most_rounds}
 use Rattle.round_steps.proofs.RunLaws.{session_at, one_more, coarse_settles, coarse_declines, coarse_moves}
@@ -9,16 +10,16 @@ returns-in-Ok-Settled g c =
     let rules : Rules = g.R.Rounds.rules c.args.rounds.now in
     let s = c.in-Some.session in
     let k : IsSessionOf rules (coarse c.rounds.point c.args.arcs.now) s = session_at rules (coarse c.rounds.point c.args.arcs.now) c.in_ok-session.field-0 s c.in-Some.is c.in_ok-session.ensures in
-    let t : IsSettledForm s c.in-Ok-Settled.field-0-0 = subst (IsStep (nat_eq c.rounds.made (most_rounds 14)) s) c.in-Ok-Settled.field-0-is c.in-Ok-Settled.ensures.step in
+    let t : IsSettledForm s c.in-Ok-Settled.field-0-0 = subst (IsStep (nat_eq c.rounds.made (most_rounds COARSE_SCALE)) s) c.in-Ok-Settled.field-0-is c.in-Ok-Settled.ensures.step in
     coarse_settles rules c.rounds.point c.args.arcs.now c.rounds.made s c.in-Ok-Settled.field-0-0 c.rounds.invariant k t
 
 pub rounds-smaller : goal.rounds-smaller
 rounds-smaller g c =
-    let m : (nat_eq c.rounds.made (most_rounds 14) ≡ false) × IsMoved c.in-Some.session c.in-Ok-Moved.field-0-1 c.in-Ok-Moved.moved =
-    subst (IsStep (nat_eq c.rounds.made (most_rounds 14)) c.in-Some.session) c.in-Ok-Moved.field-0-is c.in-Ok-Moved.ensures.step in
-    less c.rounds.made (one_more c.rounds.made (most_rounds 14) c.rounds.invariant.few m.0)
+    let m : (nat_eq c.rounds.made (most_rounds COARSE_SCALE) ≡ false) × IsMoved c.in-Some.session c.in-Ok-Moved.field-0-1 c.in-Ok-Moved.moved =
+    subst (IsStep (nat_eq c.rounds.made (most_rounds COARSE_SCALE)) c.in-Some.session) c.in-Ok-Moved.field-0-is c.in-Ok-Moved.ensures.step in
+    less c.rounds.made (one_more c.rounds.made (most_rounds COARSE_SCALE) c.rounds.invariant.few m.0)
   where
-    less : (n : ℕ) → n + 1 ≤ most_rounds 14 → most_rounds 14 - (n + 1) < most_rounds 14 - n
+    less : (n : ℕ) → n + 1 ≤ most_rounds COARSE_SCALE → most_rounds COARSE_SCALE - (n + 1) < most_rounds COARSE_SCALE - n
     less n h = omega arith
 
 pub rounds-preserved : goal.rounds-preserved
@@ -26,8 +27,8 @@ rounds-preserved g c =
     let rules : Rules = g.R.Rounds.rules c.args.rounds.now in
     let s = c.in-Some.session in
     let k : IsSessionOf rules (coarse c.rounds.point c.args.arcs.now) s = session_at rules (coarse c.rounds.point c.args.arcs.now) c.in_ok-session.field-0 s c.in-Some.is c.in_ok-session.ensures in
-    let m : (nat_eq c.rounds.made (most_rounds 14) ≡ false) × IsMoved s c.in-Ok-Moved.field-0-1 c.in-Ok-Moved.moved =
-    subst (IsStep (nat_eq c.rounds.made (most_rounds 14)) s) c.in-Ok-Moved.field-0-is c.in-Ok-Moved.ensures.step in
+    let m : (nat_eq c.rounds.made (most_rounds COARSE_SCALE) ≡ false) × IsMoved s c.in-Ok-Moved.field-0-1 c.in-Ok-Moved.moved =
+    subst (IsStep (nat_eq c.rounds.made (most_rounds COARSE_SCALE)) s) c.in-Ok-Moved.field-0-is c.in-Ok-Moved.ensures.step in
     coarse_moves rules c.rounds.point c.args.arcs.now c.rounds.made s c.in-Ok-Moved.field-0-1 c.in-Ok-Moved.moved c.rounds.invariant k m.0 m.1
 
 pub returns-in-Err : goal.returns-in-Err

@@ -3,6 +3,8 @@ use Rattle.std.specs.Prelude.{slice_get, pos}
 use Rattle.std.proofs.lemmas.Bool.{false≢true}
 use Rattle.std.proofs.lemmas.Option.{slice_get-get_or, get_or_from_slice_get}
 use Rattle.obs_rows.specs.declared.arcs.Arc.{Arc}
+use Rattle.row_boxes.specs.declared.pseudoranges.Pseudorange.{Pseudorange}
+use Rattle.row_build.specs.Halves.{AreBaseHalves}
 use Rattle.row_build.specs.Rows.{setting}
 use Rattle.row_build.specs.HeldArcs.{holds_pair}
 use Rattle.row_build.specs.Shifts.{AreFirstShifts}
@@ -11,52 +13,58 @@ use Rattle.round_steps.proofs.ShiftLaws.{three_below}
 use Rattle.session.proofs.RangeLaws.{first_inside, holds_first, zeros_off}
 use Rattle.session.proofs.file_rounds.first_arc.Goals as goal
 
-pub shift_at-found-requires-clause-pair : goal.shift_at-found-requires-clause-pair
-shift_at-found-requires-clause-pair c =
+pub shift_with-requires-clause-pair : goal.shift_with-requires-clause-pair
+shift_with-requires-clause-pair c =
     let kept : List Arc = c.args.files.now.kept in
-    let e : Arc = record { sat = 0; first = 0; last = 0; datum = false; shift = [] } in
-    subst (λ (l : List Arc). (get_or l c.args.k e).first < length c.args.files.now.screened.used) (sym c.as_slice-kept.ensures)
-    (first_inside c.args.files.now.screened.used kept c.args.k (get_or kept c.args.k e) c.requires.cut c.args.files.now.screened.numbered (slice_get-get_or kept c.args.k e c.requires.inside))
+    let unread : Arc = record { sat = 0; first = 0; last = 0; datum = false; shift = [] } in
+    subst (λ (l : List Arc). (get_or l c.args.k unread).first < length c.args.files.now.screened.used) (sym c.as_slice-kept.ensures)
+    (first_inside c.args.files.now.screened.used kept c.args.k (get_or kept c.args.k unread) c.requires.cut c.args.files.now.screened.numbered
+    (slice_get-get_or kept c.args.k unread c.requires.inside))
+
+pub shift_with-requires-clause-halves : goal.shift_with-requires-clause-halves
+shift_with-requires-clause-halves c =
+    let f = c.args.files.now in
+    subst (λ (halves : List Pseudorange). AreBaseHalves f.screened.boxes f.position halves) (sym c.as_slice.ensures.value) c.requires.halves
 
 pub returns-in-Some-clause-same : goal.returns-in-Some-clause-same
-returns-in-Some-clause-same c = λ a h.
+returns-in-Some-clause-same c = λ a at.
     let kept : List Arc = c.args.files.now.kept in
-    let e : Arc = record { sat = 0; first = 0; last = 0; datum = false; shift = [] } in
-    ap without_shifts (ap (λ (l : List Arc). get_or l c.args.k e) c.as_slice-kept.ensures ∙ get_or_from_slice_get kept c.args.k a e h)
+    let unread : Arc = record { sat = 0; first = 0; last = 0; datum = false; shift = [] } in
+    ap without_shifts (ap (λ (l : List Arc). get_or l c.args.k unread) c.as_slice-kept.ensures ∙ get_or_from_slice_get kept c.args.k a unread at)
 
 pub returns-in-None-clause-same : goal.returns-in-None-clause-same
-returns-in-None-clause-same c = λ a h.
+returns-in-None-clause-same c = λ a at.
     let kept : List Arc = c.args.files.now.kept in
-    let e : Arc = record { sat = 0; first = 0; last = 0; datum = false; shift = [] } in
-    ap without_shifts (ap (λ (l : List Arc). get_or l c.args.k e) c.as_slice-kept.ensures ∙ get_or_from_slice_get kept c.args.k a e h)
+    let unread : Arc = record { sat = 0; first = 0; last = 0; datum = false; shift = [] } in
+    ap without_shifts (ap (λ (l : List Arc). get_or l c.args.k unread) c.as_slice-kept.ensures ∙ get_or_from_slice_get kept c.args.k a unread at)
 
 pub returns-in-Some-clause-near : goal.returns-in-Some-clause-near
-returns-in-Some-clause-near c = λ a h.
+returns-in-Some-clause-near c = λ a at.
     let kept : List Arc = c.args.files.now.kept in
     let f = c.args.files.now in
     let s : List Arc = c.as_slice-kept.result.now in
-    let e : Arc = record { sat = 0; first = 0; last = 0; datum = false; shift = [] } in
-    let q : get_or s c.args.k e ≡ a = ap (λ (l : List Arc). get_or l c.args.k e) c.as_slice-kept.ensures ∙ get_or_from_slice_get kept c.args.k a e h in
-    let near : AreFirstShifts (setting f.screened.boxes s f.position c.args.point.now f.signals 0) (get_or s c.args.k e).first a.sat c.in-Some.shift =
-    c.in-Some.ensures.near a (subst (λ (l : List Arc). slice_get l c.args.k ≡ Some a) (sym c.as_slice-kept.ensures) h) in
-    subst (λ (n : ℕ). AreFirstShifts (setting f.screened.boxes kept f.position c.args.point.now f.signals 0) n a.sat c.in-Some.shift) (ap (λ (x : Arc). x.first) q)
-    (subst (λ (l : List Arc). AreFirstShifts (setting f.screened.boxes l f.position c.args.point.now f.signals 0) (get_or s c.args.k e).first a.sat c.in-Some.shift) c.as_slice-kept.ensures near)
+    let unread : Arc = record { sat = 0; first = 0; last = 0; datum = false; shift = [] } in
+    let same : get_or s c.args.k unread ≡ a = ap (λ (l : List Arc). get_or l c.args.k unread) c.as_slice-kept.ensures ∙ get_or_from_slice_get kept c.args.k a unread at in
+    let near : AreFirstShifts (setting f.screened.boxes s f.position c.args.point.now f.signals 0) (get_or s c.args.k unread).first a.sat c.in-Some.shift =
+    c.in-Some.ensures.near a (subst (λ (l : List Arc). slice_get l c.args.k ≡ Some a) (sym c.as_slice-kept.ensures) at) in
+    subst (λ (n : ℕ). AreFirstShifts (setting f.screened.boxes kept f.position c.args.point.now f.signals 0) n a.sat c.in-Some.shift) (ap (λ (x : Arc). x.first) same)
+    (subst (λ (l : List Arc). AreFirstShifts (setting f.screened.boxes l f.position c.args.point.now f.signals 0) (get_or s c.args.k unread).first a.sat c.in-Some.shift) c.as_slice-kept.ensures near)
 
 pub returns-in-None-clause-near : goal.returns-in-None-clause-near
-returns-in-None-clause-near c = λ a h.
+returns-in-None-clause-near c = λ a at.
     let kept : List Arc = c.args.files.now.kept in
     let s : List Arc = c.as_slice-kept.result.now in
-    let e : Arc = record { sat = 0; first = 0; last = 0; datum = false; shift = [] } in
-    let q : get_or s c.args.k e ≡ a = ap (λ (l : List Arc). get_or l c.args.k e) c.as_slice-kept.ensures ∙ get_or_from_slice_get kept c.args.k a e h in
-    let none : holds_pair a (get_or s c.args.k e).first ≡ false = (c.in-None.ensures.none a (subst (λ (l : List Arc). slice_get l c.args.k ≡ Some a) (sym c.as_slice-kept.ensures) h)).0 refl in
-    absurd (false≢true (sym (subst (λ (n : ℕ). holds_pair a n ≡ false) (ap (λ (x : Arc). x.first) q) none) ∙ holds_first kept c.args.k a c.requires.arcs h))
+    let unread : Arc = record { sat = 0; first = 0; last = 0; datum = false; shift = [] } in
+    let same : get_or s c.args.k unread ≡ a = ap (λ (l : List Arc). get_or l c.args.k unread) c.as_slice-kept.ensures ∙ get_or_from_slice_get kept c.args.k a unread at in
+    let none : holds_pair a (get_or s c.args.k unread).first ≡ false = (c.in-None.ensures.none a (subst (λ (l : List Arc). slice_get l c.args.k ≡ Some a) (sym c.as_slice-kept.ensures) at)).0 refl in
+    absurd (false≢true (sym (subst (λ (n : ℕ). holds_pair a n ≡ false) (ap (λ (x : Arc). x.first) same) none) ∙ holds_first kept c.args.k a c.requires.arcs at))
 
 pub returns-in-Some-clause-used : goal.returns-in-Some-clause-used
 returns-in-Some-clause-used c =
     let kept : List Arc = c.args.files.now.kept in
-    let e : Arc = record { sat = 0; first = 0; last = 0; datum = false; shift = [] } in
-    let a : Arc = get_or kept c.args.k e in
-    (c.in-Some.ensures.near a (subst (λ (l : List Arc). slice_get l c.args.k ≡ Some a) (sym c.as_slice-kept.ensures) (slice_get-get_or kept c.args.k e c.requires.inside))).unused
+    let unread : Arc = record { sat = 0; first = 0; last = 0; datum = false; shift = [] } in
+    let a : Arc = get_or kept c.args.k unread in
+    (c.in-Some.ensures.near a (subst (λ (l : List Arc). slice_get l c.args.k ≡ Some a) (sym c.as_slice-kept.ensures) (slice_get-get_or kept c.args.k unread c.requires.inside))).unused
 
 pub returns-in-None-clause-used : goal.returns-in-None-clause-used
 returns-in-None-clause-used c = zeros_off _

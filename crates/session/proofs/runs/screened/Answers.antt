@@ -13,8 +13,8 @@ use Rattle.session.proofs.runs.screened.Goals as goal
 pub base_halves-requires : goal.base_halves-requires
 base_halves-requires c = c.requires.position.in_reach
 
-pub returns-in-Ok-cut-clause-screened : goal.returns-in-Ok-cut-clause-screened
-returns-in-Ok-cut-clause-screened c =
+pub returns-clause-screened : goal.returns-clause-screened
+returns-clause-screened c =
     let o = c.args.options.now in
     let base = c.args.base.now in
     let rover = c.args.rover.now in
@@ -25,18 +25,18 @@ returns-in-Ok-cut-clause-screened c =
       position_is = refl;
       signals_are = refl;
       system_is = refl;
-      used_are = subst (λ (w : Constants). AreUsedPairs (rules w) base.epochs rover.epochs c.args.begun.now.taken.items c.in-Ok.screened.used) of_system
-          (subst (λ (t : List PairOf). AreUsedPairs (rules world) base.epochs rover.epochs t c.in-Ok.screened.used) c.as_slice-taken.ensures.value c.in-Ok.ensures.used);
-      boxes_are = subst (λ (w : Constants). All (IsSvPair (rules w) base.epochs rover.epochs c.args.begun.now.taken.items) c.in-Ok.screened.boxes) of_system
-          (subst (λ (t : List PairOf). All (IsSvPair (rules world) base.epochs rover.epochs t) c.in-Ok.screened.boxes) c.as_slice-taken.ensures.value c.in-Ok.ensures.boxes);
-      short = c.in-Ok-cut.arcs.short;
-      kept_are = subst (λ (u : List UsedPair). AreKept (bands_of o.bands) o.jump o.arc u c.in-Ok-cut.arcs.kept c.in-Ok-cut.arcs.short) c.as_slice.ensures c.in-Ok-cut.ensures.kept;
-      datums = c.in-Ok-cut.ensures.datums;
-      shifts = c.in-Ok-cut.ensures.shifts;
+      used_are = subst (λ (w : Constants). AreUsedPairs (rules w) base.epochs rover.epochs c.args.begun.now.taken.items c.in_ok-screened.screened.used) of_system
+          (subst (λ (t : List PairOf). AreUsedPairs (rules world) base.epochs rover.epochs t c.in_ok-screened.screened.used) c.as_slice-taken.ensures.value c.in_ok-screened.ensures.used);
+      boxes_are = subst (λ (w : Constants). All (IsSvPair (rules w) base.epochs rover.epochs c.args.begun.now.taken.items) c.in_ok-screened.screened.boxes) of_system
+          (subst (λ (t : List PairOf). All (IsSvPair (rules world) base.epochs rover.epochs t) c.in_ok-screened.screened.boxes) c.as_slice-taken.ensures.value c.in_ok-screened.ensures.boxes);
+      short = c.in_ok-arcs.arcs.short;
+      kept_are = subst (λ (u : List UsedPair). AreKept (bands_of o.bands) o.jump o.arc u c.in_ok-arcs.arcs.kept c.in_ok-arcs.arcs.short) c.as_slice-used.ensures c.in_ok-arcs.ensures.kept;
+      datums = c.in_ok-arcs.ensures.datums;
+      shifts = c.in_ok-arcs.ensures.shifts;
     }
 
-pub returns-in-Ok-cut-clause-cut : goal.returns-in-Ok-cut-clause-cut
-returns-in-Ok-cut-clause-cut c =
+pub returns-clause-cut : goal.returns-clause-cut
+returns-clause-cut c =
     let o = c.args.options.now in
-    subst (λ (u : List UsedPair). IsCutOf u c.in-Ok-cut.arcs.kept) c.as_slice.ensures
-    (record { bands = bands_of o.bands; jump = o.jump; least = o.arc; short = c.in-Ok-cut.arcs.short; kept = c.in-Ok-cut.ensures.kept; datums = c.in-Ok-cut.ensures.datums })
+    subst (λ (u : List UsedPair). IsCutOf u c.in_ok-arcs.arcs.kept) c.as_slice-used.ensures
+    (record { bands = bands_of o.bands; jump = o.jump; least = o.arc; short = c.in_ok-arcs.arcs.short; kept = c.in_ok-arcs.ensures.kept; datums = c.in_ok-arcs.ensures.datums })

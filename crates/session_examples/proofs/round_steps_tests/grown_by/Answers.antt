@@ -1,4 +1,4 @@
-use Rattle.std.proofs.Common.{◌^◌, ◌<◌, arith}
+use Rattle.std.proofs.Common.{◌^◌, arith}
 use Rattle.round_steps.proofs.ShiftLaws.{small_item}
 use Rattle.session_examples.proofs.round_steps_tests.grown_by.Goals as goal
 

@@ -1,5 +1,5 @@
-use Rattle.std.proofs.Common.{◌^◌, ◌≤◌, List, All, ℕ, ℤ, pos, ◌≤ℤ◌, ◌<ℤ◌, FitsSigned, length, arith, sym, ap, ◌∙◌, subst, rules, to_z, of_z}
-use Rattle.std.proofs.lemmas.Int.{ints}
+use Rattle.std.proofs.Common.{◌^◌, ◌≤◌, List, All, ℕ, ℤ, pos, ◌≤ℤ◌, ◌<ℤ◌, SFits, length, arith, sym, ap, ◌∙◌, subst, rules, to_z, of_z}
+use Rattle.std.proofs.lemmas.Int.{ints, to_z-of_z}
 use Rattle.std.specs.Int.{w128}
 use Rattle.obs_rows.specs.Ranges.{IsBelow}
 use Rattle.obs_rows.specs.Signals.{fine_signals}
@@ -7,7 +7,6 @@ use Rattle.integer_form.specs.Forms.{integers_of}
 use Rattle.fix_decide.specs.Decisions.{first_of}
 use Rattle.fix_decide.proofs.SessionForms.{first_length, first_small}
 use Rattle.settled_decision.proofs.DecidedLaws.{top_word}
-use Rattle.cert_check.proofs.Checked.{own_word128}
 use Rattle.integer_form.specs.declared.faults.Place.TheVariants.{Sum}
 use Rattle.track_form.specs.Uppers.{IsSomeWide}
 use Rattle.track_form.proofs.Ranges.{integers_are, some_integers, second_small, move_each, moves_small}
@@ -40,22 +39,22 @@ is_separated-fixed-requires-clause-p2_to c =
     let t = c.args.track.now in
     let b = c.args.best.now in
     let f = c.args.form.now in
-    let fits : FitsSigned w128 b.p2 = search rules in
+    let fits : SFits w128 b.p2 = search rules in
     let some : 1 ≤ integers_of f = subst (λ (n : ℕ). 1 ≤ n) (sym (integers_are t.arcs (fine_signals t.signals) t.pairs c.requires.form.0 f c.requires.form.1.0))
     (some_integers t.arcs t.signals t.arcs_in.some_free) in
-    subst (λ (x : ℤ). x ≤ℤ pos (2 ^ 62)) (sym (own_word128 b.p2 fits)) (small b.p2 (second_small f b some c.requires.best))
+    subst (λ (x : ℤ). x ≤ℤ pos (2 ^ 62)) (sym (to_z-of_z w128 b.p2 fits)) (small b.p2 (second_small f b some c.requires.best))
 
 pub returns-in-Ok : goal.returns-in-Ok
 returns-in-Ok c =
     let t = c.args.track.now in
     let b = c.args.best.now in
-    let fits : FitsSigned w128 b.p2 = search rules in
+    let fits : SFits w128 b.p2 = search rules in
     let up = c.in-Ok.ensures in
     let told : IsTold t.arcs t.signals t.pairs c.args.ratio c.args.form.now b c.of_vectors.result =
     vectors_told t.arcs t.signals t.pairs c.args.ratio c.requires.form.0 c.args.form.now b c.args.moves.items c.new.result c.as_slice.result.now c.in-Ok.top
     (to_z w128 (of_z w128 c.in-Ok.top)) (to_z w128 (of_z w128 b.p2)) c.is_separated-fixed.result c.of_vectors.result
     t.arcs_in.some_free c.requires.form.1.0 c.requires.best c.requires.form.1.1 c.requires.narrow up.bounded up.value up.from up.to c.as_slice.ensures.value c.new.ensures
-    (top_word c.in-Ok.top up.from up.to) (own_word128 b.p2 fits) c.of_vectors.ensures.value
+    (top_word c.in-Ok.top up.from up.to) (to_z-of_z w128 b.p2 fits) c.of_vectors.ensures.value
     c.is_separated-fixed.ensures.0 c.is_separated-fixed.ensures.1 c.values_from.ensures c.requires.ratio_from in
     record { decision = told.decision; strictly_best = told.strictly_best; fits = told.fits }
 

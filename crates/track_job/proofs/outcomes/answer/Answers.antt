@@ -19,8 +19,8 @@ track_at-requires-clause-arcs c =
     let f = c.args.files.now in
     let of_slice = c.as_slice-kept.ensures in
     let on : IsTrackable f.kept c.args.taken = record {
-      not_few = λ h. false≢true (c.if-are_few.ensures.1 (subst (AreFew c.args.taken) (sym of_slice) h));
-      not_many = λ h. false≢true (c.if-are_many.ensures.1 (subst AreMany (sym of_slice) h));
+      not_few = λ few. false≢true (c.if-are_few.ensures.1 (subst (AreFew c.args.taken) (sym of_slice) few));
+      not_many = λ many. false≢true (c.if-are_many.ensures.1 (subst AreMany (sym of_slice) many));
     } in
     subst AreArcs (sym of_slice) (trackable_arcs f.screened f.kept c.args.taken c.requires.cut c.requires.shifts on)
 
@@ -32,19 +32,19 @@ returns-then-are_many c =
     let of_slice = c.as_slice-kept.ensures in (
       c.free_count.ensures ∙ ap free_count of_slice,
       (
-        λ h. false≢true (c.if-are_few.ensures.1 (subst (AreFew c.args.taken) (sym of_slice) h)),
+        λ few. false≢true (c.if-are_few.ensures.1 (subst (AreFew c.args.taken) (sym of_slice) few)),
         (subst AreMany of_slice (c.if-are_many.ensures.0 refl), c.none_lost-then-are_many.ensures),
       ),
     )
 
-pub returns-in-Ok : goal.returns-in-Ok
-returns-in-Ok c =
+pub returns : goal.returns
+returns c =
     let f = c.args.files.now in
     let begun = c.args.begun.now in
     let of_slice = c.as_slice-kept.ensures in
     let on : IsTrackable f.kept c.args.taken = record {
-      not_few = λ h. false≢true (c.if-are_few.ensures.1 (subst (AreFew c.args.taken) (sym of_slice) h));
-      not_many = λ h. false≢true (c.if-are_many.ensures.1 (subst AreMany (sym of_slice) h));
+      not_few = λ few. false≢true (c.if-are_few.ensures.1 (subst (AreFew c.args.taken) (sym of_slice) few));
+      not_many = λ many. false≢true (c.if-are_many.ensures.1 (subst AreMany (sym of_slice) many));
     } in
     c.decided.ensures f.screened f.kept begun.position begun.signals on
-    (subst (λ (l : List Arc). IsTrackOf f.screened l begun.position begun.signals c.args.options.now.system c.in-Ok.tracked) of_slice c.in-Ok.ensures.track)
+    (subst (λ (l : List Arc). IsTrackOf f.screened l begun.position begun.signals c.args.options.now.system c.in_ok-tracked.tracked) of_slice c.in_ok-tracked.ensures.track)

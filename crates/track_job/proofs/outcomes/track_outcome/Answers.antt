@@ -1,30 +1,43 @@
 use Rattle.std.proofs.Common.{◌∙◌, arith}
+use Rattle.std.proofs.lemmas.Result.{err_from_is_err_and}
 use Rattle.session.proofs.FewArcs.{kept_few}
 use Rattle.track_job.proofs.outcomes.track_outcome.Goals as goal
 
 pub overflow_cast-result : goal.overflow_cast-result
 overflow_cast-result c =
-    let f = c.in-Ok-screened_arcs.files in
-    let few = kept_few f.screened.used f.kept c.in-Ok-screened_arcs.ensures.cut f.screened.ranges f.screened.numbered f.screened.few in
+    let f = c.in_ok-files.files in
+    let few = kept_few f.screened.used f.kept c.in_ok-files.ensures.cut f.screened.ranges f.screened.numbered f.screened.few in
     omega (arith, few, c.len.ensures)
 
-pub returns-in-Ok-answer-clause-outcome : goal.returns-in-Ok-answer-clause-outcome
-returns-in-Ok-answer-clause-outcome c =
-    let f = c.in-Ok-screened_arcs.files in
+pub returns-clause-outcome : goal.returns-clause-outcome
+returns-clause-outcome c =
+    let f = c.in_ok-files.files in
     record {
-      position = c.in-Ok.begun.position;
-      position_is = c.in-Ok.ensures.position;
-      signals = c.in-Ok.begun.signals;
-      signals_are = c.in-Ok.ensures.signals;
-      sparse = c.in-Ok.ensures.sparse;
-      taken = c.in-Ok.begun.taken.items;
-      taken_are = c.in-Ok.ensures.taken;
+      position = c.in_ok-begun.begun.position;
+      position_is = c.in_ok-begun.ensures.position;
+      signals = c.in_ok-begun.begun.signals;
+      signals_are = c.in_ok-begun.ensures.signals;
+      sparse = c.in_ok-begun.ensures.sparse;
+      taken = c.in_ok-begun.begun.taken.items;
+      taken_are = c.in_ok-begun.ensures.taken;
       screened = f.screened;
       kept = f.kept;
-      arcs_are = c.in-Ok-screened_arcs.ensures.screened;
-      taken_is = c.len-taken.ensures ∙ c.in-Ok.begun.taken.ok.0;
-      all_is = c.in-Ok.ensures.all;
+      arcs_are = c.in_ok-files.ensures.screened;
+      taken_is = c.len-taken.ensures ∙ c.in_ok-begun.begun.taken.ok.0;
+      all_is = c.in_ok-begun.ensures.all;
       kept_is = c.len.ensures;
       delta_is = c.have_delta-delta.ensures;
-      answer_is = c.in-Ok-answer.ensures;
+      answer_is = c.in_ok-answered.ensures;
     }
+
+pub returns-in_err-files-clause-refused : goal.returns-in_err-files-clause-refused
+returns-in_err-files-clause-refused c =
+    let p = err_from_is_err_and c.from_residual-in_err-files.result c.from_residual-in_err-files.ensures.1 in
+    rw (p.1, p.2)
+    ((c.in_ok-begun.begun.position, c.in_ok-begun.ensures.position), ((c.in_ok-begun.begun.signals, c.in_ok-begun.ensures.signals), c.in_ok-begun.ensures.sparse))
+
+pub returns-in_err-answered-clause-refused : goal.returns-in_err-answered-clause-refused
+returns-in_err-answered-clause-refused c =
+    let p = err_from_is_err_and c.from_residual-in_err-answered.result c.from_residual-in_err-answered.ensures.1 in
+    rw (p.1, p.2)
+    ((c.in_ok-begun.begun.position, c.in_ok-begun.ensures.position), ((c.in_ok-begun.begun.signals, c.in_ok-begun.ensures.signals), c.in_ok-begun.ensures.sparse))

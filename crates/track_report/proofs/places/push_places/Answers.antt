@@ -1,4 +1,4 @@
-use Rattle.std.proofs.Common.{◌≡◌, ◌<◌, length, arith}
+use Rattle.std.proofs.Common.{◌<◌, length, arith}
 use Rattle.track_report.proofs.PairPlaces.{place_pushed}
 use Rattle.track_report.proofs.places.push_places.Goals as goal
 

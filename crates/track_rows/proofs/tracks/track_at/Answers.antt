@@ -8,7 +8,7 @@ use Rattle.obs_rows.specs.Ranges.{IsPoint}
 use Rattle.obs_rows.specs.Signals.{fine_signals}
 use Rattle.obs_rows.specs.Unused.{HasUsedRows, HasUsedShifts}
 use Rattle.row_build.specs.Halves.{AreBaseHalves}
-use Rattle.row_build.proofs.SessionLaws.{point_within}
+use Rattle.obs_rows.proofs.ReceiverPointLaws.{receiver_is_point}
 use Rattle.track_rows.specs.Tracks.{unshifted}
 use Rattle.track_rows.proofs.Ends.{kept_unshifted, kept_cut, kept_arcs, walked_pairs, track_same}
 use Rattle.track_rows.proofs.tracks.track_at.Goals as goal
@@ -33,7 +33,7 @@ invariant_of-track c =
     let ss : List ℕ = fine_signals c.args.signals in
     record {
       system_is = c.requires.system;
-      base_in = point_within c.args.base.now c.requires.base.1;
+      base_in = receiver_is_point c.args.base.now c.requires.base;
       arcs_in = subst AreArcs (sym c.new.ensures) w.fit.arcs_in;
       points_in = subst (All IsPoint) (sym c.new-2.ensures) w.fit.points_in;
       point_each = ap (λ (xs : List (List ℤ)). length xs) c.new-2.ensures ∙ w.is_track.point_each ∙ sym (ap (λ (xs : List PairRows). length xs) c.new-3.ensures);

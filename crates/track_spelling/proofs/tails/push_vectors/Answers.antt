@@ -1,7 +1,7 @@
-use Rattle.std.proofs.Common.{[], ◌∷◌, codes, take, FitsSigned, rules}
+use Rattle.std.proofs.Common.{[], ◌∷◌, codes, take, SFits, rules}
 use Rattle.std.specs.Int.{w128}
 use Rattle.cert_lines.specs.Lines.{vector_line, values_line, last_line}
-use Rattle.cert_lines.proofs.Appends.{own_word}
+use Rattle.std.proofs.lemmas.Int.{to_z-of_z}
 use Rattle.cert_spelling.proofs.Texts.{then_lines, then_written, anyway}
 use Rattle.track_spelling.specs.Spelling.{move_lines, track_vectors_lines}
 use Rattle.track_spelling.proofs.tails.push_vectors.Goals as goal
@@ -14,10 +14,10 @@ returns-clause-text c =
     let moves = c.args.moves.now in
     let z1 = vector_line (codes "z1") (take b.size b.first) in
     let z2 = vector_line (codes "z2") (take b.size b.second) in
-    let fits1 : FitsSigned w128 b.p1 = search rules in
-    let fits2 : FitsSigned w128 b.p2 = search rules in
-    let fits3 : FitsSigned w128 c.args.top = search rules in
-    let values = rw (own_word b.p1 fits1, own_word b.p2 fits2, own_word c.args.top fits3) at c.in_ok-push_values_line.ensures in
+    let p1_fits : SFits w128 b.p1 = search rules in
+    let p2_fits : SFits w128 b.p2 = search rules in
+    let top_fits : SFits w128 c.args.top = search rules in
+    let values = rw (to_z-of_z w128 b.p1 p1_fits, to_z-of_z w128 b.p2 p2_fits, to_z-of_z w128 c.args.top top_fits) at c.in_ok-push_values_line.ensures in
     let two = then_lines o _ _ (z1 ∷ []) (z2 ∷ []) c.in_ok-push_vector_line.ensures c.in_ok-push_vector_line-2.ensures in
     let three = then_lines o _ _ (z1 ∷ z2 ∷ []) (move_lines pairs moves) two c.in_ok-push_move_lines.ensures.text in
     let four = then_lines o _ _ (z1 ∷ z2 ∷ move_lines pairs moves) (values_line c.args.h b.p1 b.p2 c.args.top ∷ []) three values in

@@ -6,8 +6,8 @@ use Rattle.track_trial.proofs.KeptArcs.{some_held}
 use Rattle.track_trial.proofs.PairSessions.{is_there}
 use Rattle.track_trial.proofs.rows.rows_of.Goals as goal
 
-pub pair_rows_with-found-requires-clause-cut : goal.pair_rows_with-found-requires-clause-cut
-pair_rows_with-found-requires-clause-cut c = cut_along c.args.files.now.screened.now.used c.args.files.now.kept.now c.args.arcs.now c.requires.same c.requires.ready.cut
+pub pair_rows_with-requires-clause-cut : goal.pair_rows_with-requires-clause-cut
+pair_rows_with-requires-clause-cut c = cut_along c.args.files.now.screened.now.used c.args.files.now.kept.now c.args.arcs.now c.requires.same c.requires.ready.cut
 
 pub unwrap-requires : goal.unwrap-requires
 unwrap-requires c = is_there c.in-Ok.rows (λ none. some_held c.args.files.now.kept.now c.args.arcs.now c.args.pair c.requires.same c.requires.enough (c.in-Ok.ensures.none.0 none))

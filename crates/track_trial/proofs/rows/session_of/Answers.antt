@@ -6,17 +6,18 @@ use Rattle.obs_rows.specs.Arcs.{AreArcs}
 use Rattle.obs_rows.specs.Pairs.{HasItsArcs}
 use Rattle.obs_rows.specs.Signals.{fine_signals}
 use Rattle.obs_rows.specs.Unused.{HasUsedRows, HasUsedShifts}
-use Rattle.row_build.proofs.SessionLaws.{has_arcs, point_within}
+use Rattle.row_build.proofs.SessionLaws.{has_arcs}
+use Rattle.obs_rows.proofs.ReceiverPointLaws.{receiver_is_point}
 use Rattle.row_build.proofs.UnusedLaws.{used_rows}
 use Rattle.track_trial.specs.PairRules.{TrackSetting, rows_setting, setting_of}
 use Rattle.track_trial.proofs.PairSessions.{made_session}
 use Rattle.track_trial.proofs.rows.session_of.Goals as goal
 
 pub new-session-requires-clause-base : goal.new-session-requires-clause-base
-new-session-requires-clause-base c = point_within c.args.files.now.position c.requires.ready.position_in.1
+new-session-requires-clause-base c = receiver_is_point c.args.files.now.position c.requires.ready.position_in
 
 pub new-session-requires-clause-point : goal.new-session-requires-clause-point
-new-session-requires-clause-point c = point_within c.args.point.now c.requires.point.1
+new-session-requires-clause-point c = receiver_is_point c.args.point.now c.requires.point
 
 pub new-session-requires-clause-arcs : goal.new-session-requires-clause-arcs
 new-session-requires-clause-arcs c = subst AreArcs (sym (c.new-held.ensures ∙ c.in_ok-from_slice.ensures.items)) c.requires.arcs

@@ -6,15 +6,15 @@ use Rattle.obs_rows.specs.Signals.{fine_signals}
 use Rattle.obs_rows.specs.Unused.{HasUsedShifts}
 use Rattle.round_steps.specs.Shifts.{AreShiftsBelow}
 use Rattle.session.proofs.FirstArcs.{more_first, begins, same_first}
-use Rattle.session.proofs.file_rounds.first_arcs.Goals as goal
+use Rattle.session.proofs.file_rounds.FileRoundsRounds.first_shifts.Goals as goal
 
 pub loop-k-preserved : goal.loop-k-preserved
 loop-k-preserved c =
-    let f = c.args.files.now in
+    let f = c.args.self.now in
     let pushed : c.push.new.self.items ≡ c.loop-k.arcs.items ++ c.first_arc.result ∷ [] = c.in_ok-push.ensures.items in
     record {
       first = more_first f.screened.boxes f.kept f.position c.args.point.now f.signals c.loop-k.k c.loop-k.arcs.items c.push.new.self.items c.first_arc.result c.loop-k.invariant.first
-          (λ a e. record { same = c.first_arc.ensures.same a e; near = c.first_arc.ensures.near a e }) pushed;
+          (λ a at. record { same = c.first_arc.ensures.same a at; near = c.first_arc.ensures.near a at }) pushed;
       size = subst (AreShiftsBelow (2 ^ 39)) (sym pushed)
           (All-push (λ (b : Arc). All (IsBelow (2 ^ 39)) b.shift) c.loop-k.arcs.items c.first_arc.result c.loop-k.invariant.size c.first_arc.ensures.size);
       used = subst (All (HasUsedShifts (fine_signals f.signals))) (sym pushed)
@@ -23,12 +23,12 @@ loop-k-preserved c =
 
 pub returns-clause-begins : goal.returns-clause-begins
 returns-clause-begins c =
-    let f = c.args.files.now in
-    let e : c.loop-k.k ≡ length c.args.files.now.kept = omega (arith, c.len-k-end.ensures) in
-    begins f.screened.boxes f.kept f.position c.args.point.now f.signals c.loop-k.k c.loop-k.arcs.items c.loop-k.invariant.first e
+    let f = c.args.self.now in
+    let all : c.loop-k.k ≡ length c.args.self.now.kept = omega (arith, c.len-k-end.ensures) in
+    begins f.screened.boxes f.kept f.position c.args.point.now f.signals c.loop-k.k c.loop-k.arcs.items c.loop-k.invariant.first all
 
-pub returns-clause-same : goal.returns-clause-same
-returns-clause-same c =
-    let f = c.args.files.now in
-    let e : c.loop-k.k ≡ length c.args.files.now.kept = omega (arith, c.len-k-end.ensures) in
-    same_first f.screened.boxes f.kept f.position c.args.point.now f.signals c.loop-k.k c.loop-k.arcs.items c.loop-k.invariant.first e
+pub returns-clause-arcs : goal.returns-clause-arcs
+returns-clause-arcs c =
+    let f = c.args.self.now in
+    let all : c.loop-k.k ≡ length c.args.self.now.kept = omega (arith, c.len-k-end.ensures) in
+    same_first f.screened.boxes f.kept f.position c.args.point.now f.signals c.loop-k.k c.loop-k.arcs.items c.loop-k.invariant.first all

@@ -1,7 +1,7 @@
 use Rattle.std.proofs.Common.{◌≤◌, length, arith}
 use Rattle.std.proofs.lemmas.List.Sums.{count_by-le-length}
 use Rattle.obs_rows.specs.Arcs.{is_free, free_count}
-use Rattle.session.proofs.answers.free_count.Goals as goal
+use Rattle.round_steps.proofs.counts.free_count.Goals as goal
 
 pub overflow_cast-result : goal.overflow_cast-result
 overflow_cast-result c =
