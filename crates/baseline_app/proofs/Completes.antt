@@ -1,4 +1,4 @@
--- A job whose files are told and admitted ends with status 0 or 1, and the other statuses come with their causes.
+-- A job whose files are there and admitted ends with status 0 or 1, and the other statuses come with their causes.
 use Rattle.std.proofs.Common.{◌≡◌, ◌≢◌, ◌⊎◌, inl, inr, ℕ, List, [], ◌∷◌, Option, Result, Any, sym, ap, ◌∙◌, subst}
 use Rattle.line_source.specs.Causes.{Rose}
 use Rattle.job_answers.specs.declared.status.Status.{Status}
@@ -126,7 +126,7 @@ run_write words told result out err run is = elim (run.written) [
   | inr (inr by_err) ↦ inr by_err.rose
 ]
 
--- that of a job with one file, of which the words tell the name
+-- that of a job with one file, whose name the words give
 pub asked_whole : (r : Result Answer Stop) (told : List ℕ → Option (List ℕ)) (left : ℕ → Option (List ℕ)) (job asked : Job) (name word : List ℕ)
     → job ≡ asked → name ≡ word → file_words asked ≡ word ∷ []
     → IfEnded r (IsRefusedWhole told left (name ∷ [])) → IfEnded r (AreRefusedWhole told left (file_words job))
@@ -134,7 +134,7 @@ asked_whole r told left job asked name word is same words refused =
     let names : name ∷ [] ≡ file_words job = ap (λ (n : List ℕ). n ∷ []) same ∙ (sym words ∙ ap file_words (sym is)) in
     ended_weaker r _ _ (λ end whole. stop_whole told left (file_words job) end (subst (λ (ns : List (List ℕ)). IsRefusedWhole told left ns end) names whole)) refused
 
--- ---- the refusal that is told
+-- ---- the refusal that is said
 told_file : (told : List ℕ → Option (List ℕ)) (left : ℕ → Option (List ℕ)) (P Q : List ℕ → Type 0) (name : List ℕ)
     → ((text : List ℕ) → P text → Q text) → IsRefusedFile told left P name → IsRefusedFile told left Q name
 told_file told left P Q name more (inl refused) = inl (record { at = refused.at; line = more _ refused.line; read = refused.read })

@@ -1,4 +1,4 @@
--- Each job tells a read fault of the file that had it.
+-- Each job's read fault names the file that had it.
 use Rattle.std.proofs.Common.{◌≡◌, ◌≢◌, inl, inr, ℕ, Bool, true, false, List, [], ◌∷◌, Option, Result, Any, sym, ap, ◌∙◌, subst}
 use Rattle.job_answers.specs.declared.answer.Answer.{Answer}
 use Rattle.job_answers.specs.declared.stop.Stop.{Stop}
@@ -71,7 +71,7 @@ pub check_track_no_fault : (name text : List ℕ) (end : Ending) → CheckTrackE
 check_track_no_fault name text end (inl by_cert) = verdict_no_fault end (verdict_at end _ by_cert.ends_so.end_is (certs.verdict_status by_cert.ends_so.verdict))
 check_track_no_fault name text end (inr refused) = refused_no_fault end _ refused.end_is
 
--- ---- a job with one file, of which the words tell the name
+-- ---- a job with one file, whose name the words give
 pub asked_fault : (r : Result Answer Stop) (sure : List ℕ → Type 0) (told : List ℕ → Option (List ℕ)) (job asked : Job) (name word : List ℕ) (ends : List ℕ → Ending → Type 0)
     → job ≡ asked → name ≡ word → file_words asked ≡ word ∷ [] → ((text : List ℕ) (end : Ending) → ends text end → end.status ≢ ReadFault) → IfEnded r (EndsByFile told name ends)
     → (sure name → IfEnded r (λ end. end.status ≢ ReadFault)) → IfEnded r (IsFaultOf sure (file_words job))
@@ -79,7 +79,7 @@ asked_fault r sure told job asked name word ends is same words none by_file neve
     let names : name ∷ [] ≡ file_words job = ap (λ (n : List ℕ). n ∷ []) same ∙ (sym words ∙ ap file_words (sym is)) in
     subst (λ (ns : List (List ℕ)). IfEnded r (IsFaultOf sure ns)) names (fault_of_one r sure told name ends none by_file never)
 
--- ---- the fault that is told
+-- ---- the fault that is named
 told_fault : (sure : List ℕ → Type 0) (P Q : List ℕ → Type 0) (names : List (List ℕ)) → ((text : List ℕ) → P text → Q text) → Any (IsTold sure P) names → Any (IsTold sure Q) names
 told_fault sure P Q names more found = (found.0, found.1, found.2, found.3, record { line = more _ found.4.line; unsure = found.4.unsure })
 

@@ -1,4 +1,4 @@
--- What each job ends with, on what is told of the files. A command adds its cases.
+-- What each job ends with, by what its files hold. A command adds its cases.
 use Rattle.std.specs.Prelude.{◌≡◌, ◌⊎◌, ℕ, List, []}
 use Rattle.std.specs.declared.option.Option.{Option}
 use Rattle.zero_rows.specs.Rows.{IsZeroFile}
@@ -48,7 +48,7 @@ JobEnds (job.CheckTrack cert) told end = EndsByFile told cert (CheckTrackEnds ce
 JobEnds (job.Arcs base rover nav options) told end = ArcsEnds told base rover nav options end
 JobEnds (job.Sim part seed epochs sats bands system) told end = PartEnds part seed epochs sats bands system end
 
--- All files of the job are told and admitted, and those of a session aren't refused together. Observations may be in either
+-- All files of the job are there and admitted, and those of a session aren't refused together. Observations may be in either
 -- format of RINEX, where the system has both; `list` reads those of GPS.
 abbrev pub IsReadable : Job → (List ℕ → Option (List ℕ)) → Type 0
 IsReadable (job.Zero rows) told = IsAdmitted told rows IsZeroFile
@@ -74,6 +74,6 @@ pub record AnswersUsage (words : List (List ℕ)) (end : Ending) : Type 0 where
   pub none : (job : Job) → IsJob words job → ⊥
   pub end_is : end ≡ ending Usage [] usage_line
 
--- what the words end with; want of memory may come in the place of either
+-- what the words end with; out of memory may come in the place of either
 abbrev pub IsAnswer : List (List ℕ) → (List ℕ → Option (List ℕ)) → Ending → Type 0
 IsAnswer words told end = AnswersJob words told end ⊎ (AnswersUsage words end ⊎ (end ≡ ending NoMemory [] no_memory_line))

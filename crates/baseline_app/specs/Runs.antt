@@ -26,6 +26,6 @@ pub record EndsWell (job : Job) (told : List ℕ → Option (List ℕ)) (result 
   pub out_whole : Appends out.old out.new end.out
   pub err_whole : Appends err.old err.new end.err
 
--- that, or want of memory, or a sink's count rose
+-- that, or out of memory, or a sink's count rose
 abbrev pub IsComplete : Job → (List ℕ → Option (List ℕ)) → Status → SinkChange → SinkChange → Type 0
 IsComplete job told result out err = EndsWell job told result out err ⊎ ((result ≡ NoMemory) ⊎ ((result ≡ WriteFault) × (Rose out.before out.now ⊎ Rose err.before err.now)))

@@ -1,4 +1,4 @@
-//! A run of `fix` on a made-up session, each of whose calls on the world fails once.
+//! A run of `fix` on a simulated session, each of whose calls on the world fails once.
 use crate::tests::{Fails, Ran, expect_run, named, run_over};
 use job_answers::Status;
 use line_source::MemFiles;
@@ -21,7 +21,7 @@ fn run_fix(alloc: Global, made: &Made, room: usize, fails: Fails) -> Result<Ran,
     run_over(alloc, &words, &mut files, room, 4096, fails.out, fails.err)
 }
 
-// The name in the line that tells of a fault of reading, as its place in the words, or 3 for any other text.
+// The name in the line about a read fault, as its place in the words, or 3 for any other text.
 fn name_told(err: &[u8]) -> usize {
     [
         b"read fault: B\n".as_slice(),
@@ -62,7 +62,7 @@ fn each_call_on_the_files_fails(rt: HostRuntime) -> Result<(), Fail> {
         *calls = calls.saturating_add(1);
     }
     assert!(rt; finished);
-    // a name is told once at least for its opening, for its bytes and for its end
+    // a name stands there once at least for its opening, for its bytes and for its end
     assert!(rt; told[0] >= 3 && told[1] >= 3 && told[2] >= 3);
     assert_eq!(rt; told[3], 0);
     Ok(())

@@ -1,4 +1,4 @@
-//! Which fault is told where several stand together.
+//! Which fault is reported where several stand together.
 use crate::tests::{Fails, expect_run, run_on};
 use job_answers::Status;
 use std::test::Fail;

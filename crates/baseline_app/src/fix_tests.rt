@@ -1,4 +1,4 @@
-//! Runs of `fix` over made-up sessions in memory.
+//! Runs of `fix` over simulated sessions in memory.
 use crate::tests::{Ran, expect_run, named, run_over};
 use decimal_text::read_fixed;
 use job_answers::Status;

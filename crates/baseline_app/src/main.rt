@@ -1,38 +1,45 @@
-//! Reads a job from the words of the command line, and does it. What a run may answer and write is `run`'s contract:
-//! the texts of `out` and of `err` are definitions on the words and the bytes of the files.
+//! Reads a job from the words of the command line, and does it. `main` hands the system's words, files and sinks to `run`, whose
+//! contract says all that is proved of the program; what `main` does with the system is outside of it.
+//!
+//! A run answers words and bytes: the words ask for one job or for none, the job ends in a status and two texts that are
+//! definitions on the bytes of its files, and each sink gains a first part of its text, the whole text unless its count of
+//! faults rose (`run`). Out of memory (status 6) may come in the place of any end.
+//!
+//! # Statuses
+//!
+//! Status 2 is a usage error, and comes only where the words are no job (`usage`), 4 only where a file's count of faults
+//! rose (`read`), and never for sure names (`sure`), 5 only where a sink's count did (`write`). A read fault names a file
+//! of the job whose name isn't sure (`named`); a refusal names one that was read to its end or is too large, or the two
+//! observation files together (`refused`). Words without files leave all files as they are (`untouched`); each file of a
+//! job is opened once at most (`opened`). Where all files of a job are there and of its form, and nothing fails, it ends
+//! with status 0 or 1 and its text is written, or memory is out (`complete`); `sim` and `sim run` need no file for that.
+//!
+//! # Jobs
+//!
+//! With status 0 out has gained, with status 1:
+//! - `zero`: every other whole number has a greater sum than the printed one; the printed rival has the least.
+//! - `list`: what the observation file holds, of RINEX 3 or of RINEX 2; never.
+//! - `orbit`: numbers that hold every solution of the satellite's equations, with its system's constants, for the record
+//!   that is chosen at the tick; none is chosen.
+//! - `fix`, `track`: the certificate of integers that, with their move or moves, are strictly best for all rational data in
+//!   the printed boxes, and of a session that stands for the files (`SaysOfFix`, `SaysOfTrack`); the text of an outcome
+//!   that is no fix, with its cause.
+//! - `check`, `check-track`: `certified`, where the integers of the text are so; `not certified` and why.
+//! - `residuals`: what is left of each row's observations; the certificate has no vectors.
+//! - `migrate`: the spelling of the lifted certificate, whose tail is fixed, and strictly best in the old boxes; the same
+//!   where its tail isn't fixed (`SaysOfMigrate`).
+//! - `arcs`: the kept arcs of the files; never.
+//! - `sim`: a file of a session of the seed; never.
+//! - `sim run`: the four lines about a session whose outcome is a fix; whose outcome is none. `match yes` stands exactly
+//!   where it is a fix with the integers of the truth.
 //!
 //! # How a command is added
 //!
 //! A command has a variant of `Job` with its words (crate command_words), and a module of a job's crate, as
-//! `orbits` of file_jobs, with what it ends with, what a run of it says, and the lemmas on its statuses. Here it has cases of `JobEnds` and
-//! `IsReadable` (specs/Jobs.antt), of `readable_ends` and `job_status` (proofs/Completes.antt), a clause of `run` with
-//! its lemma (proofs/Says.antt), and an arm in `do_job`. What is said of statuses, sinks, faults and completeness
+//! `orbits` of file_jobs, with what it ends with, what a run of it says, and the lemmas on its statuses. Here it has cases of
+//! `JobEnds` and `IsReadable` (specs/Jobs.antt), of `readable_ends` and `job_status` (proofs/Completes.antt), a clause of
+//! `run` with its lemma (proofs/Says.antt), and an arm in `do_job`. What is said of statuses, sinks, faults and completeness
 //! (specs/Runs.antt) stays as it is.
-//!
-//! The contract of `run` has what a run may answer and write. `run`: the words are a job or none, the job ends in a
-//! status and two texts that are defined on the bytes of its file, and each sink holds what it held and a first part
-//! of its text, whole unless its count of faults rose. `zero`: with status 0 every other whole number has a greater
-//! sum than the printed one, with status 1 the printed rival is the least. `list`: with status 0 the text stands for
-//! an observation file, of RINEX 3 or of RINEX 2, and out has gained what is listed of it; `list` is never declined.
-//! `orbit`: with status 0 the text stands for a navigation file of the satellite's system, and the printed numbers hold
-//! every solution of the satellite's equations, with that system's constants, for the record that is chosen at the tick;
-//! with status 1 none is chosen. `sim`, `check`, `residuals`, `arcs`: the same for these, as told above; the files of
-//! `sim` and `arcs` are never declined. `fix`: with status 0 out has gained a certificate whose integers with their move
-//! are strictly best for all rational data in the printed boxes, and whose session stands for the files on the bands
-//! and with the constants of the system of the options; with status 1 the text of an outcome of the files that is no
-//! fix, with its cause (`SaysOfFix`). `track`: with status 0 out has gained the certificate of a track whose integers with
-//! their moves, one for each tracked pair, are strictly best for all rational data in the printed boxes, and which stands
-//! for the files, each pair from a point of its own; with status 1 the text of an outcome that is no fix, with its cause
-//! (`SaysOfTrack`). `check_track`: as `check`, of the certificate of a track (`SaysOfCheckTrack`). `migrate`: the text spells a certificate of version 1, and out has gained the
-//! spelling of a lifted one, of which the whole law holds (`SaysOfMigrate`); with status 0 exactly where its tail is
-//! fixed, which is then strictly best in the old boxes. `sim_run`: with status 0 the simulated texts stand for a session whose outcome is
-//! a fix, with status 1 for one whose outcome is none, and out has gained the four lines, with `match yes` exactly where
-//! it is a fix with the integers of the truth. `usage`, `read`, `sure`, `write`: statuses 2, 4 and 5 come only with
-//! their cause, and 4 never for sure names. `named`: a read fault is told of a file word that is no sure name.
-//! `untouched`: words that ask for no job, or for one without files, leave all files as they are. `complete`: where the
-//! file is told and is of the job's form, for the system that is asked for and in either format where the system has
-//! both, and no count rises, the job's text is written with status 0 or 1, or memory was refused; `sim` and `sim run`
-//! need no file for that.
 #![tactic(auto)]
 
 #[cfg(test)]

@@ -1,5 +1,5 @@
 //! The program over any files and sinks.
-ghost use Rattle.std.specs.Prelude.{◌≡◌, ◌≢◌, ◌⊎◌, ◌≤◌, [], ◌∷◌, ℕ, List, length, IfOk, All};
+ghost use Rattle.std.specs.Prelude.{◌≡◌, ◌≢◌, ◌⊎◌, [], ◌∷◌, ℕ, List, length, IfOk, All};
 ghost use Rattle.line_source.specs.Causes.{Rose, OpensAtMost};
 ghost use Rattle.gps_time.specs.declared.Tick.{Tick};
 ghost use Rattle.job_answers.specs.Answers.{ending_of, IfEnded};
@@ -225,7 +225,7 @@ fn answer_of<F: Files>(alloc: Global, words: &[String], files: &mut F) -> Result
 
 /// Does what the words after the program's name ask for, and writes its two texts, `out` first.
 /// Words that ask for no job, or for one without files, leave the files as they are. Each file word of a job is opened once
-/// at most. The file whose refusal is told was read to its end, or is too large; that of which a read fault is told is none
+/// at most. The file that a refusal names was read to its end, or is too large; the file that a read fault names is none
 /// that can't fail.
 pub fn run<F: Files, O: Sink, E: Sink>(
     alloc: Global,

@@ -10,8 +10,9 @@ use Rattle.command_words.specs.declared.settings.Given.{Given}
 use Rattle.command_words.specs.declared.jobs.Job.{Job}
 use Rattle.command_words.specs.declared.jobs.Job.TheVariants as job
 use Rattle.obs_rows.specs.Ranges.{IsSystem}
-use Rattle.run_options.specs.declared.options.TheConstants.{GPS}
-use Rattle.command_words.specs.Settings.{name_of, place_of, is_same, numbers_for, default_bands, AreBandsOf, IsChosenBy, IsSetBy, IsSignalChoice, IsValue, AreOptions}
+use Rattle.run_options.specs.declared.defaults.TheConstants.{DEFAULT_SYSTEM, DEFAULT_RATIO, DEFAULT_BUDGET, DEFAULT_MASK, DEFAULT_GAP, DEFAULT_JUMP, DEFAULT_ARC, DEFAULT_STEP, DEFAULT_FIRST, DEFAULT_COUNT}
+use Rattle.run_options.specs.Defaults.{default_bands}
+use Rattle.command_words.specs.Settings.{name_of, place_of, is_same, numbers_for, AreBandsOf, IsChosenBy, IsSetBy, IsSignalChoice, IsValue, AreOptions}
 use Rattle.command_words.specs.Words.{IsPlainJob, IsJobOf}
 use Rattle.run_options.specs.declared.options.Options.{Options}
 use Rattle.command_words.proofs.SettingLaws.{one_value}
@@ -37,21 +38,21 @@ none_left (g ∷ given) none = absurd (cc (rw (is_itself g.setting) at (none g.s
 module _ (g h : List Given) (same : (s : Setting) → numbers_for s g ≡ numbers_for s h) where
   same_choice : (system bands : ℕ) → IsSignalChoice g system bands → IsSignalChoice h system bands
   same_choice system bands is = record {
-    system_is = subst (λ (vs : List ℕ). IsChosenBy vs IsSystem GPS system) (same System) is.system_is;
+    system_is = subst (λ (vs : List ℕ). IsChosenBy vs IsSystem DEFAULT_SYSTEM system) (same System) is.system_is;
     bands_are = subst (λ (vs : List ℕ). IsChosenBy vs (AreBandsOf system) (default_bands system) bands) (same Bands) is.bands_are;
   }
 
   same_options : (o : Options) → AreOptions g o → AreOptions h o
   same_options o is = record {
-    ratio = subst (λ (vs : List ℕ). IsSetBy vs 1000 100000 2000 o.ratio) (same Ratio) is.ratio;
-    budget = subst (λ (vs : List ℕ). IsSetBy vs 1 100000000 1000000 o.budget) (same Budget) is.budget;
-    mask = subst (λ (vs : List ℕ). IsSetBy vs 0 900 200 o.mask) (same Mask) is.mask;
-    gap = subst (λ (vs : List ℕ). IsSetBy vs 0 5000000 100000 o.gap) (same Gap) is.gap;
-    jump = subst (λ (vs : List ℕ). IsSetBy vs 1 1000 12 o.jump) (same Jump) is.jump;
-    arc = subst (λ (vs : List ℕ). IsSetBy vs 2 3600 5 o.arc) (same Arc) is.arc;
-    step = subst (λ (vs : List ℕ). IsSetBy vs 1 1000 1 o.step) (same Step) is.step;
-    first = subst (λ (vs : List ℕ). IsSetBy vs 0 19999 0 o.first) (same First) is.first;
-    count = subst (λ (vs : List ℕ). IsSetBy vs 1 3600 3600 o.count) (same Count) is.count;
+    ratio = subst (λ (vs : List ℕ). IsSetBy vs 1000 100000 DEFAULT_RATIO o.ratio) (same Ratio) is.ratio;
+    budget = subst (λ (vs : List ℕ). IsSetBy vs 1 100000000 DEFAULT_BUDGET o.budget) (same Budget) is.budget;
+    mask = subst (λ (vs : List ℕ). IsSetBy vs 0 900 DEFAULT_MASK o.mask) (same Mask) is.mask;
+    gap = subst (λ (vs : List ℕ). IsSetBy vs 0 5000000 DEFAULT_GAP o.gap) (same Gap) is.gap;
+    jump = subst (λ (vs : List ℕ). IsSetBy vs 1 1000 DEFAULT_JUMP o.jump) (same Jump) is.jump;
+    arc = subst (λ (vs : List ℕ). IsSetBy vs 2 3600 DEFAULT_ARC o.arc) (same Arc) is.arc;
+    step = subst (λ (vs : List ℕ). IsSetBy vs 1 1000 DEFAULT_STEP o.step) (same Step) is.step;
+    first = subst (λ (vs : List ℕ). IsSetBy vs 0 19999 DEFAULT_FIRST o.first) (same First) is.first;
+    count = subst (λ (vs : List ℕ). IsSetBy vs 1 3600 DEFAULT_COUNT o.count) (same Count) is.count;
     choice = same_choice o.system o.bands is.choice;
   }
 

@@ -18,8 +18,9 @@ use Rattle.run_options.proofs.OneOptions.{one_options}
 use Rattle.command_words.specs.declared.settings.Setting.{Setting}
 use Rattle.command_words.specs.declared.settings.Setting.TheVariants.{Ratio, Budget, Mask, Gap, Jump, Arc, Step, First, Count, Bands, System}
 use Rattle.obs_rows.specs.Ranges.{IsSystem}
-use Rattle.run_options.specs.declared.options.TheConstants.{GPS}
-use Rattle.command_words.specs.Settings.{numbers_for, default_bands, AreBandsOf, IsChosenBy, IsSet, IsSignalChoice, AreOptions}
+use Rattle.run_options.specs.declared.defaults.TheConstants.{DEFAULT_SYSTEM, DEFAULT_RATIO, DEFAULT_BUDGET, DEFAULT_MASK, DEFAULT_GAP, DEFAULT_JUMP, DEFAULT_ARC, DEFAULT_STEP, DEFAULT_FIRST, DEFAULT_COUNT}
+use Rattle.run_options.specs.Defaults.{default_bands}
+use Rattle.command_words.specs.Settings.{numbers_for, AreBandsOf, IsChosenBy, IsSet, IsSignalChoice, AreOptions}
 use Rattle.command_words.proofs.SettingLaws.{one_number, one_system, one_satellite, one_choice, choice_admitted}
 use Rattle.command_words.proofs.PartLaws.{one_parting}
 
@@ -61,7 +62,7 @@ one_part p q same = same_Some p q (sym (is_part_name p) ∙ ap part_with_letter 
 -- one system and one set of bands are chosen
 one_signals : (given : List Given) (k l b c : ℕ) → IsSignalChoice given k b → IsSignalChoice given l c → (k ≡ l) × (b ≡ c)
 one_signals given k l b c first second =
-    let system : k ≡ l = one_choice (numbers_for System given) IsSystem GPS k l first.system_is second.system_is in
+    let system : k ≡ l = one_choice (numbers_for System given) IsSystem DEFAULT_SYSTEM k l first.system_is second.system_is in
     let also : IsChosenBy (numbers_for Bands given) (AreBandsOf k) (default_bands k) c =
     subst (λ (n : ℕ). IsChosenBy (numbers_for Bands given) (AreBandsOf n) (default_bands n) c) (sym system) second.bands_are in
     (system, one_choice (numbers_for Bands given) (AreBandsOf k) (default_bands k) b c first.bands_are also)
@@ -86,15 +87,15 @@ one_setting given s least most plain m n first second = one_choice (numbers_for 
 
 one_of_options : (given : List Given) (o p : Options) → AreOptions given o → AreOptions given p → o ≡ p
 one_of_options given o p first second =
-    let ratio : o.ratio ≡ p.ratio = one_setting given Ratio 1000 100000 2000 o.ratio p.ratio first.ratio second.ratio in
-    let budget : o.budget ≡ p.budget = one_setting given Budget 1 100000000 1000000 o.budget p.budget first.budget second.budget in
-    let mask : o.mask ≡ p.mask = one_setting given Mask 0 900 200 o.mask p.mask first.mask second.mask in
-    let gap : o.gap ≡ p.gap = one_setting given Gap 0 5000000 100000 o.gap p.gap first.gap second.gap in
-    let jump : o.jump ≡ p.jump = one_setting given Jump 1 1000 12 o.jump p.jump first.jump second.jump in
-    let arc : o.arc ≡ p.arc = one_setting given Arc 2 3600 5 o.arc p.arc first.arc second.arc in
-    let step : o.step ≡ p.step = one_setting given Step 1 1000 1 o.step p.step first.step second.step in
-    let first_pair : o.first ≡ p.first = one_setting given First 0 19999 0 o.first p.first first.first second.first in
-    let count : o.count ≡ p.count = one_setting given Count 1 3600 3600 o.count p.count first.count second.count in
+    let ratio : o.ratio ≡ p.ratio = one_setting given Ratio 1000 100000 DEFAULT_RATIO o.ratio p.ratio first.ratio second.ratio in
+    let budget : o.budget ≡ p.budget = one_setting given Budget 1 100000000 DEFAULT_BUDGET o.budget p.budget first.budget second.budget in
+    let mask : o.mask ≡ p.mask = one_setting given Mask 0 900 DEFAULT_MASK o.mask p.mask first.mask second.mask in
+    let gap : o.gap ≡ p.gap = one_setting given Gap 0 5000000 DEFAULT_GAP o.gap p.gap first.gap second.gap in
+    let jump : o.jump ≡ p.jump = one_setting given Jump 1 1000 DEFAULT_JUMP o.jump p.jump first.jump second.jump in
+    let arc : o.arc ≡ p.arc = one_setting given Arc 2 3600 DEFAULT_ARC o.arc p.arc first.arc second.arc in
+    let step : o.step ≡ p.step = one_setting given Step 1 1000 DEFAULT_STEP o.step p.step first.step second.step in
+    let first_pair : o.first ≡ p.first = one_setting given First 0 19999 DEFAULT_FIRST o.first p.first first.first second.first in
+    let count : o.count ≡ p.count = one_setting given Count 1 3600 DEFAULT_COUNT o.count p.count first.count second.count in
     let signals = one_signals given o.system p.system o.bands p.bands first.choice second.choice in
     let same : numbers_of o ≡ numbers_of p = cc (ratio, budget, mask, gap, jump, arc, step, first_pair, count, signals.0, signals.1) in
     one_options o p same
@@ -401,8 +402,8 @@ no_sim part seed epochs sats given none job asked =
 
 -- ---- ranges
 
-gps_bands : IsTrue ((GPS == 71) || (GPS == 69))
-gps_bands = refl
+default_system : IsSystem DEFAULT_SYSTEM
+default_system = refl
 
 default_admitted : (system : ℕ) → AreBandsOf system (default_bands system)
 default_admitted system = go (system == 69) refl
@@ -413,7 +414,7 @@ default_admitted system = go (system == 69) refl
 
 pub signals_in_range : (given : List Given) (system bands : ℕ) → IsSignalChoice given system bands → IsSystem system × AreBandsOf system bands
 signals_in_range given system bands is = (
-  choice_admitted (numbers_for System given) IsSystem GPS system gps_bands is.system_is,
+  choice_admitted (numbers_for System given) IsSystem DEFAULT_SYSTEM system default_system is.system_is,
   choice_admitted (numbers_for Bands given) (AreBandsOf system) (default_bands system) bands (default_admitted system) is.bands_are,
 )
 

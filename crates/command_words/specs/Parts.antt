@@ -1,4 +1,4 @@
--- How the words behind the command are parted: ordinary words, and options with their values.
+-- How the words after the command are parted: ordinary words, and options with their values.
 use Rattle.std.specs.Prelude.{◌≡◌, ℕ, ◌==◌, Bool, true, not, IsTrue, List, [], ◌∷◌, ◌++◌}
 use Rattle.command_words.specs.declared.settings.Setting.{Setting}
 use Rattle.command_words.specs.declared.settings.Given.{Given}
@@ -10,7 +10,7 @@ is_ordinary [] = true
 is_ordinary (b ∷ []) = true
 is_ordinary (b ∷ c ∷ bs) = not (b == 45)
 
--- an ordinary word; `--name` with the value in the word behind it; `--name=value`
+-- an ordinary word; `--name` with the value in the word after it; `--name=value`
 pub data Piece : Type 0 where
   Plain : List ℕ → Piece
   Apart : Setting → List ℕ → ℕ → Piece

@@ -1,10 +1,11 @@
 -- The options: how they are spelled, and what is set by those that are given.
 use Rattle.std.specs.Prelude.{◌≡◌, ℕ, ◌==◌, ◌&&◌, ◌≤◌, Bool, true, false, List, [], ◌∷◌, codes, get_or, if◌then◌else◌, None, Some}
 use Rattle.std.specs.declared.option.Option.{Option}
-use Rattle.run_options.specs.declared.defaults.TheConstants.{DEFAULT_RATIO, DEFAULT_BUDGET, DEFAULT_MASK, DEFAULT_GAP, DEFAULT_JUMP, DEFAULT_ARC, DEFAULT_STEP, DEFAULT_FIRST, DEFAULT_COUNT}
-use Rattle.run_options.specs.declared.options.TheConstants.{GPS, GALILEO}
+use Rattle.run_options.specs.declared.defaults.TheConstants.{DEFAULT_RATIO, DEFAULT_BUDGET, DEFAULT_MASK, DEFAULT_GAP, DEFAULT_JUMP, DEFAULT_ARC, DEFAULT_STEP, DEFAULT_FIRST, DEFAULT_COUNT, DEFAULT_SYSTEM}
+use Rattle.run_options.specs.declared.options.TheConstants.{GALILEO}
+use Rattle.run_options.specs.Defaults.{default_bands}
 use Rattle.run_options.specs.declared.options.Options.{Options}
-use Rattle.obs_rows.specs.declared.band_sets.TheConstants.{BANDS_L1_L2, BANDS_L1_L5}
+use Rattle.obs_rows.specs.declared.band_sets.TheConstants.{BANDS_L1_L5}
 use Rattle.obs_rows.specs.BandSets.{IsBandsNumber}
 use Rattle.obs_rows.specs.Ranges.{IsSystem}
 use Rattle.command_words.specs.declared.settings.Setting.{Setting}
@@ -71,13 +72,9 @@ pub record AreBandsOf (system bands : ℕ) : Type 0 where
   pub number : IsBandsNumber bands
   pub galileo : system ≡ GALILEO → bands ≡ BANDS_L1_L5
 
--- those of a run that isn't told
-abbrev pub default_bands : ℕ → ℕ
-default_bands system = if system == GALILEO then BANDS_L1_L5 else BANDS_L1_L2
-
--- the system that is given, or GPS; and the bands that are given and go with it, or its default, in whichever order the two are given
+-- the system that is given, or the default; and the bands that are given and go with it, or its default, in whichever order the two are given
 pub record IsSignalChoice (given : List Given) (system bands : ℕ) : Type 0 where
-  pub system_is : IsChosenBy (numbers_for System given) IsSystem GPS system
+  pub system_is : IsChosenBy (numbers_for System given) IsSystem DEFAULT_SYSTEM system
   pub bands_are : IsChosenBy (numbers_for Bands given) (AreBandsOf system) (default_bands system) bands
 
 -- the options with their ranges and defaults

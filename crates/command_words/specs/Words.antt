@@ -88,7 +88,7 @@ IsJobOf command plain given (job.CheckTrack cert) = IsPlainJob (codes "check-tra
 IsJobOf command plain given (job.Arcs base rover nav options) = IsArcsJob base rover nav options command plain given
 IsJobOf command plain given (job.Sim part seed epochs sats bands system) = IsSimJob (sim_with part seed epochs sats bands system) command plain given
 
--- the first word is the command, and the words behind it are parted into those
+-- the first word is the command, and the words after it are parted into those
 pub record IsJob (words : List (List ℕ)) (job : Job) : Type 0 where
   pub command : List ℕ
   pub behind : List (List ℕ)

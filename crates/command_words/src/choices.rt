@@ -1,12 +1,13 @@
 //! The system and the bands by what is given.
 ghost use Rattle.std.specs.Prelude.{◌≡◌, ℕ, ◌↔◌, IsTrue, IfSome, MatchOption};
 ghost use Rattle.obs_rows.specs.Ranges.{IsSystem};
-ghost use Rattle.run_options.specs.declared.options.TheConstants.{GPS};
-ghost use Rattle.command_words.specs.Settings.{numbers_for, default_bands, AreBandsOf, IsChosenBy, IsSignalChoice, IsSimChoice};
+ghost use Rattle.run_options.specs.declared.defaults.TheConstants.{DEFAULT_SYSTEM};
+ghost use Rattle.run_options.specs.Defaults.{default_bands};
+ghost use Rattle.command_words.specs.Settings.{numbers_for, AreBandsOf, IsChosenBy, IsSignalChoice, IsSimChoice};
 
 use crate::settings::{Found, Given, Setting, are_of_sim, numbers_found};
-use obs_rows::{BANDS_L1_L2, BANDS_L1_L5, is_bands_number};
-use run_options::{GALILEO, GPS};
+use obs_rows::{BANDS_L1_L5, is_bands_number};
+use run_options::{DEFAULT_SYSTEM, GALILEO, GPS, default_bands};
 
 /// A satellite system by its letter, and the number of the bands that are used of it.
 #[derive(Clone, Copy, Debug)]
@@ -17,27 +18,17 @@ pub struct SignalChoice {
     pub ghost on_bands: { AreBandsOf system bands },
 }
 
-// The system that is given, or GPS.
+// The system that is given, or the default.
 fn system_for(given: &[Given]) -> Option<u8>
-    ensures set { MatchOption result ((n : ℕ) → IsChosenBy (numbers_for Setting.System given.now) IsSystem GPS n → ⊥)
-        (λ n. IsChosenBy (numbers_for Setting.System given.now) IsSystem GPS n) }
+    ensures set { MatchOption result ((n : ℕ) → IsChosenBy (numbers_for Setting.System given.now) IsSystem DEFAULT_SYSTEM n → ⊥)
+        (λ n. IsChosenBy (numbers_for Setting.System given.now) IsSystem DEFAULT_SYSTEM n) }
     ensures system { IfSome result IsSystem }
 {
     match numbers_found(given, Setting::System) {
-        Found::Nothing => Some(GPS),
+        Found::Nothing => Some(DEFAULT_SYSTEM),
         Found::One(letter) if letter == GPS as u64 => Some(GPS),
         Found::One(letter) if letter == GALILEO as u64 => Some(GALILEO),
         _ => None,
-    }
-}
-
-fn default_bands(system: u8) -> u16
-    ensures { result ≡ default_bands system }
-{
-    if system == GALILEO {
-        BANDS_L1_L5
-    } else {
-        BANDS_L1_L2
     }
 }
 
@@ -63,7 +54,7 @@ fn bands_for(given: &[Given], system: u8) -> Option<u16>
     }
 }
 
-/// The system and its bands: GPS where none is given, and its default bands where none are.
+/// The system and its bands: the default system where none is given, and its default bands where none are.
 pub fn signal_choice_of(given: &[Given]) -> Option<SignalChoice>
     ensures { MatchOption result ((system bands : ℕ) → IsSignalChoice given.now system bands → ⊥) (λ c. IsSignalChoice given.now c.system c.bands) }
 {

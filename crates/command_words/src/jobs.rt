@@ -90,10 +90,8 @@ pub fn read_words(alloc: Global, words: &[String]) -> Result<Job, WordFault>
     ensures usage { IsErrOf result WordFault.Usage → (job : Job) → IsJob (texts_of words.now) job → ⊥ }
 {
     let line = split(alloc, words)?;
-    match parted_of(alloc, &line.matches) {
-        Ok(parted) => job_of(alloc, line.command.as_bytes(), &parted),
-        Err(fault) => Err(fault),
-    }
+    let parted = parted_of(alloc, &line.matches)?;
+    job_of(alloc, line.command.as_bytes(), &parted)
 }
 
 // The job of a command with these words.

@@ -3,7 +3,7 @@
 //!
 //! `read_words` answers a job exactly where the words ask for one, and says `Usage` exactly where they ask for none
 //! (`job`, `usage`); words ask for one job at most (`proofs/OneJob.antt`). The rules are a grammar over the whole
-//! list of words: ordinary words, options in one word or two, and `--`, behind which all words are ordinary. The body
+//! list of words: ordinary words, options in one word or two, and `--`, after which all words are ordinary. The body
 //! splits the words with `clap`; the grammar knows nothing of it, and that `clap`'s own account of the program
 //! answers as the grammar does is proved (`proofs/SplitLaws.antt`, `JobLaws.antt`, `ReadLaws.antt`).
 #![tactic(auto)]

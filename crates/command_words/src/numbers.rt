@@ -1,7 +1,6 @@
 //! Numbers, systems and satellites as words.
-ghost use Rattle.std.specs.Prelude.{◌≡◌, ℕ, ◌^◌, ◌<◌, ◌≤◌, true, length, IfSome, MatchOption};
+ghost use Rattle.std.specs.Prelude.{◌≡◌, ℕ, ◌≤◌, true, length, MatchOption};
 ghost use Rattle.decimal_text.specs.Whole.{are_digits, number_from};
-ghost use Rattle.obs_rows.specs.Ranges.{IsSystem};
 ghost use Rattle.command_words.specs.Numbers.{IsNumber, IsLetter, IsSatellite};
 ghost use Rattle.command_words.specs.Settings.{IsValue};
 

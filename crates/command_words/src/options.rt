@@ -1,5 +1,5 @@
 //! The options of a run by what is given.
-ghost use Rattle.std.specs.Prelude.{◌≡◌, MatchOption};
+ghost use Rattle.std.specs.Prelude.{MatchOption};
 ghost use Rattle.run_options.specs.declared.options.Options.{Options};
 ghost use Rattle.command_words.specs.Settings.{AreOptions, ArePairOptions};
 

@@ -1,4 +1,4 @@
-//! The ordinary words and the options of what clap found behind a command.
+//! The ordinary words and the options of what clap found after a command.
 ghost use Rattle.std.specs.Prelude.{◌≡◌, ◌++◌, ◌∷◌, [], map, IfOk, IsErrOf, OnOk};
 ghost use Rattle.clap.specs.Matches.{found_of};
 ghost use Rattle.clap.specs.Walk.{rows_of};

@@ -1,5 +1,5 @@
 //! What is asked of a simulated session.
-ghost use Rattle.std.specs.Prelude.{◌≡◌, ℕ, ◌<◌, ◌≤◌, ◌^◌, IfSome, MatchOption};
+ghost use Rattle.std.specs.Prelude.{◌≡◌, ℕ, IfSome, MatchOption};
 ghost use Rattle.command_words.specs.declared.sims.Part.{Part};
 ghost use Rattle.command_words.specs.declared.sims.Sim.{Sim};
 ghost use Rattle.command_words.specs.Numbers.{IsNumberIn};

@@ -1,5 +1,5 @@
 //! The words as clap splits them.
-ghost use Rattle.std.specs.Prelude.{◌≡◌, ◌≢◌, IfOk, IsErrOf, List, ℕ, map, string_bytes};
+ghost use Rattle.std.specs.Prelude.{◌≡◌, ◌≢◌, IfOk, IsErrOf, List, map, string_bytes};
 ghost use Rattle.clap.specs.Matches.{found_of};
 ghost use Rattle.clap.specs.Values.{kind_of};
 ghost use Rattle.clap.specs.Walk.{Row, Text, rows_of};
@@ -12,7 +12,7 @@ use clap::error::ErrorKind;
 use clap::{ArgMatches, Error};
 use std::alloc::Global;
 
-/// A command, and what clap found behind it.
+/// A command, and what clap found after it.
 #[derive(Drop)]
 pub struct CommandLine<'a> {
     pub command: &'a str,

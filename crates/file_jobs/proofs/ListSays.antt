@@ -18,7 +18,7 @@ text_status name end text (inr refusal) = job_status_at end _ refusal.end_is tt
 pub list_status : (told : List ℕ → Option (List ℕ)) (obs : List ℕ) (end : Ending) → EndsByFile told obs (ListEnds obs) end → IsJobStatus end.status
 list_status told obs end ends = file_status told obs (ListEnds obs) end (text_status obs end) ends
 
--- a file that is told and admitted has a verdict
+-- a file that is there and admitted has a verdict
 pub list_verdict : (told : List ℕ → Option (List ℕ)) (obs : List ℕ) (end : Ending) → IsAdmitted told obs (HasObservation Gps) → end.status ≢ ReadFault
     → EndsByFile told obs (ListEnds obs) end → IsVerdictStatus end.status
 list_verdict told obs end file no_fault ends = elim (admitted_ends told obs (HasObservation Gps) (ListEnds obs) end file no_fault ends) [

@@ -31,7 +31,7 @@ orbit_whole told left name text system sat tag end read (inl by_records) = elim 
 ]
 orbit_whole told left name text system sat tag end read (inr refusal) = refusal_whole told left name text end read refusal
 
--- a file that is told and admitted has a verdict
+-- a file that is there and admitted has a verdict
 pub orbit_verdict : (told : List ℕ → Option (List ℕ)) (nav : List ℕ) (system sat tag : ℕ) (end : Ending) → IsAdmitted told nav (HasNavFile (system_of system))
     → end.status ≢ ReadFault → EndsByFile told nav (OrbitEnds nav system sat tag) end → IsVerdictStatus end.status
 orbit_verdict told nav system sat tag end file no_fault ends = elim (admitted_ends told nav (HasNavFile (system_of system)) (OrbitEnds nav system sat tag) end file no_fault ends) [

@@ -30,7 +30,7 @@ zero_whole told left name text end read (inl by_rows) = elim (by_rows.verdict) [
 ]
 zero_whole told left name text end read (inr refusal) = refusal_whole told left name text end read refusal
 
--- a file that is told and admitted has a verdict
+-- a file that is there and admitted has a verdict
 pub zero_verdict : (told : List ℕ → Option (List ℕ)) (rows : List ℕ) (end : Ending) → IsAdmitted told rows IsZeroFile → end.status ≢ ReadFault
     → EndsByFile told rows (ZeroEnds rows) end → IsVerdictStatus end.status
 zero_verdict told rows end file no_fault ends = elim (admitted_ends told rows IsZeroFile (ZeroEnds rows) end file no_fault ends) [

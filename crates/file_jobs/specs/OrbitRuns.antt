@@ -36,7 +36,7 @@ pub record SaysPlaced (told : List ℕ → Option (List ℕ)) (name : List ℕ) 
   pub narrow : AreNarrow numbers
   pub printed : Appends out.old out.new (orbit_lines numbers)
 
--- the text stands for a navigation file, none of its usable records of the system is chosen at that tag, and out tells so
+-- the text stands for a navigation file, none of its usable records of the system is chosen at that tag, and out says so
 pub record SaysNoRecord (told : List ℕ → Option (List ℕ)) (name : List ℕ) (system sat tag : ℕ) (out : SinkChange) : Type 0 where
   pub text : List ℕ
   pub is : IsTextOf told name text

@@ -41,6 +41,7 @@ fn answer_text(alloc: Global, name: &str, text: &[u8]) -> Result<Answer, Stop>
 }
 
 /// Whether the number that the file claims is strictly best for its differences.
+#[inline(never)]
 pub fn zero<F: Files>(alloc: Global, files: &mut F, name: &str) -> Result<Answer, Stop>
     ensures ends { IfEnded result (λ end. EndsByFile (F.text_of files.old) name.now (ZeroEnds name.now) end) }
     ensures refused { IfEnded result (IsRefusedWhole (F.text_of files.old) (F.unread files.new) (name.now ∷ [])) }

@@ -28,6 +28,7 @@ fn answer_file(alloc: Global, file: &ObsFile) -> Result<Answer, AllocError>
 }
 
 /// What an observation file holds of GPS: its version, its epochs and its satellites.
+#[inline(never)]
 pub fn list<F: Files>(alloc: Global, files: &mut F, name: &str) -> Result<Answer, Stop>
     ensures ends { IfEnded result (λ end. EndsByFile (F.text_of files.old) name.now (ListEnds name.now) end) }
     ensures refused { IfEnded result (IsRefusedWhole (F.text_of files.old) (F.unread files.new) (name.now ∷ [])) }
@@ -36,8 +37,6 @@ pub fn list<F: Files>(alloc: Global, files: &mut F, name: &str) -> Result<Answer
     ensures fault { IfEnded result (λ end. end.status ≡ Status.ReadFault → Rose (F.faults files.old) (F.faults files.new)) }
     ensures sure { F.is_sure_name files.old name.now → IfEnded result (λ end. end.status ≢ Status.ReadFault) }
 {
-    match obs_file(alloc, files, System::Gps, name) {
-        Ok(file) => Ok(answer_file(alloc, &file)?),
-        Err(stop) => Err(stop),
-    }
+    let file = obs_file(alloc, files, System::Gps, name)?;
+    Ok(answer_file(alloc, &file)?)
 }

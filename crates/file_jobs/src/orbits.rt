@@ -1,5 +1,4 @@
 //! The command `orbit`: where a satellite of a navigation file is at a time, and what its clock is ahead.
-ghost use Rattle.rinex_head.specs.Systems.{system_of};
 ghost use Rattle.std.specs.Prelude.{◌≡◌, ◌≢◌, ◌≤◌, [], length, IfOk, ◌∷◌};
 ghost use Rattle.line_source.specs.Causes.{Rose, OpensAtMost};
 ghost use Rattle.eph_store.specs.Chosen.{distance};
@@ -17,16 +16,6 @@ use rinex_head::{System, TextFault};
 use rinex_nav::read_records_of;
 use std::alloc::{AllocError, Global};
 use sv_orbit::{sv_with, world_of};
-
-// The system with that letter: Galileo for E, else GPS.
-fn system_of(letter: u8) -> System
-    ensures { result ≡ system_of letter }
-{
-    match letter {
-        b'E' => System::Galileo,
-        _ => System::Gps,
-    }
-}
 
 // What the record's satellite ends with.
 fn answer_placed(alloc: Global, system: u8, eph: &Eph, tag: Tick) -> Result<Answer, AllocError>
@@ -83,7 +72,7 @@ fn answer_text(
     requires { length text.now ≤ 67108864 }
     ensures { IfEnded result (λ end. OrbitEnds name.now system sat tag.0 text.now end) }
 {
-    match read_records_of(alloc, system_of(system), text) {
+    match read_records_of(alloc, System::of_letter(system), text) {
         Ok(file) => Ok(answer_file(alloc, &file, system, sat, tag)?),
         Err(TextFault::Refused(at)) => Ok(refused(alloc, name, at)?),
         Err(TextFault::NoMemory) => Err(Stop::NoMemory),
@@ -91,6 +80,7 @@ fn answer_text(
 }
 
 /// Where the satellite of the system with that letter and that number is at the tag by its own clock, by the record that is chosen at that time.
+#[inline(never)]
 pub fn orbit<F: Files>(
     alloc: Global,
     files: &mut F,

@@ -1,6 +1,6 @@
 //! Simulated sessions as files: what `make` writes is read as what it was made of.
 //!
-//! A number of at most 18 digits that `fixed_text` gives, behind any blanks, is read by the form of a number with a point
+//! A number of at most 18 digits that `fixed_text` gives, after any blanks, is read by the form of a number with a point
 //! as that number (`fixed_law`); digits are read as their number (`digits_law`); a text without control bytes and a line
 //! feed are a line (`line_law`); each time of 2024-01-01 is a moment with its ticks (`new_year_law`). The text of made
 //! satellites of a system is a navigation file by the reader's own form, whose records are theirs, each number as it
@@ -10,7 +10,7 @@
 //! with the values that they were made of (`reading_law`, over the clauses of `make`).
 #![tactic(auto)]
 
-ghost use Rattle.std.specs.Prelude.{ℕ, ◌≤◌, List, IfOk};
+ghost use Rattle.std.specs.Prelude.{ℕ, ◌≤◌, List};
 ghost use Rattle.obs_rows.specs.Ranges.{IsSystem};
 ghost use Rattle.sim_session.specs.Texts.{IsBaseText, IsRoverText, IsNavigationText};
 ghost use Rattle.made_files.specs.Reads.{ReadsAsBase, ReadsAsRover, ReadsAsRecords};

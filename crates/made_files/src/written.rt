@@ -8,7 +8,7 @@ ghost use Rattle.line_source.specs.Lines.{lines_of};
 ghost use Rattle.rinex_head.specs.Fields.{whole_of};
 ghost use Rattle.made_files.specs.Printed.{are_printed};
 
-/// A number of at most 18 digits that is written with a point, behind any blanks, is read as that number.
+/// A number of at most 18 digits that is written with a point, after any blanks, is read as that number.
 pub fn fixed_law()
     ensures { (blanks places : ℕ) (z : ℤ) → places ≤ 9 → size_of z < 10 ^ 18 → IsReadAs (replicate blanks 32 ++ fixed_text z places) places (Ok z) }
 {}
@@ -18,7 +18,7 @@ pub fn digits_law()
     ensures { (column k n : ℕ) → n < 10 ^ suc k → whole_of column (last_digits (suc k) n) ≡ Ok (Some n) }
 {}
 
-/// A text without control bytes and a line feed are a line, whatever stands behind them.
+/// A text without control bytes and a line feed are a line, whatever follows.
 pub fn line_law()
     ensures { (line rest : List ℕ) → are_printed line ≡ true → lines_of (line ++ 10 ∷ rest) ≡ line ∷ lines_of rest }
 {}

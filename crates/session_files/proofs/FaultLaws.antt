@@ -1,4 +1,4 @@
--- A read fault is told of the file that had it.
+-- A read fault names the file that had it.
 use Rattle.std.proofs.Common.{◌≡◌, ◌≢◌, inl, inr, ℕ, ◌<◌, List, [], ◌∷◌, Option, Result, Ok, Err, length, refl, ap, subst, arith}
 use Rattle.std.specs.Prelude.{slice_index_or}
 use Rattle.rinex_head.specs.declared.system.System.{System}
@@ -41,7 +41,7 @@ pub nav_fault_line : (system : System) (told : List ℕ → Option (List ℕ)) (
 nav_fault_line system told name end stops is =
     fault_line told name (IsRefusal (nav_of system) (HasNavFile system) name) end (λ text refusal. refused_no_fault end _ refusal.end_is) stops is
 
--- a fault of the file at a place is told of it
+-- a fault of the file at a place names it
 pub fault_at : (why : Stop) (sure : List ℕ → Type 0) (names : List (List ℕ)) (k : ℕ) (name : List ℕ) (stops : Ending → Type 0) → k < length names → slice_index_or names k name ≡ name
     → ((end : Ending) → stops end → end.status ≡ ReadFault → end.err ≡ read_fault_line name) → IfEnds why stops → (sure name → IfEnds why (λ end. end.status ≢ ReadFault))
     → IfEnds why (IsFaultOf sure names)

@@ -1,4 +1,4 @@
--- What is told of files after others were read, and what files that are admitted end with.
+-- What files hold after others were read, and what files that are admitted end with.
 use Rattle.std.proofs.Common.{◌≡◌, ◌≢◌, inl, inr, zero, suc, ◌<◌, ℕ, List, [], ◌∷◌, Option, length, IfSome, IfOk, Result, Ok, Err, sym, subst, ◌∙◌, arith}
 use Rattle.std.specs.Prelude.{slice_index_or, Some}
 use Rattle.obs_store.specs.declared.file.ObsFile.{ObsFile}

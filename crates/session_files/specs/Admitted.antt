@@ -11,7 +11,7 @@ use Rattle.session_begin.specs.Beginnings.{HasPosition, HaveSignals, AreSparse}
 use Rattle.job_answers.specs.Endings.{IsAdmitted}
 use Rattle.session_files.specs.SessionFiles.{IsObsOf}
 
--- all files are told and admitted, and the two aren't refused
+-- all files are there and admitted, and the two aren't refused
 pub record AreAdmitted (told : List ℕ → Option (List ℕ)) (base rover nav : List ℕ) (o : Options) : Type 0 where
   pub base_is : IsAdmitted told base (HasObservation (system_of o.system))
   pub rover_is : IsAdmitted told rover (HasObservation (system_of o.system))

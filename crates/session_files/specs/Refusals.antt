@@ -1,4 +1,4 @@
--- What is told of two observation files that are refused.
+-- What is said of two observation files that are refused.
 use Rattle.std.specs.Prelude.{◌≡◌, ◌⊎◌, ℕ, true, false, List, [], ◌++◌, codes, Any}
 use Rattle.std.specs.declared.option.Option.{Option}
 use Rattle.std.specs.Fmt.{decimal}

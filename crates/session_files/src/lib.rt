@@ -1,8 +1,12 @@
 //! The three files of a session of one system, read one after the other. An observation file may be of either format of
 //! RINEX.
 //!
-//! `read_session` gives the three, or ends at the first that can't be had. Two observation files of which no session is
-//! made are refused with one line (`refused_pair`).
+//! `read_session` gives the three, or stops at the first that can't be had: one that can't be read (status 4, only where
+//! the files' count of faults rose, and never for a name that is sure not to fail), one that is too large, or one whose
+//! text is none of its form (status 3, with the place where its lines leave the form). The line on err names that file
+//! (`named`), and a file is refused only after it was read to its end (`refused`). Each is opened once at most. `obs_file`
+//! says the same of one observation file. Out of memory may come in the place of any answer. Two observation files of
+//! which no session is made are refused with one line (`refused_pair`).
 #![tactic(auto)]
 
 ghost use Rattle.std.specs.Prelude.{◌≡◌, ◌≢◌, ◌≤◌, ℕ, List, [], ◌∷◌, length, IfOk, OnOk, All};
@@ -121,17 +125,13 @@ pub fn obs_file<F: Files>(
     match system {
         System::Gps => {
             let mut taker = ObsTaker::new(alloc);
-            match take_file(alloc, files, name, &mut taker) {
-                Ok(()) => file_of(alloc, name, taker.finish()),
-                Err(stop) => Err(stop),
-            }
+            take_file(alloc, files, name, &mut taker)?;
+            file_of(alloc, name, taker.finish())
         }
         System::Galileo => {
             let mut feed = GalFeed::new(alloc);
-            match take_file(alloc, files, name, &mut feed) {
-                Ok(()) => file_of(alloc, name, feed.finish()),
-                Err(stop) => Err(stop),
-            }
+            take_file(alloc, files, name, &mut feed)?;
+            file_of(alloc, name, feed.finish())
         }
     }
 }
@@ -151,10 +151,8 @@ fn nav_file<F: Files>(
     ensures fault { IfStopped result (λ end. end.status ≡ Status.ReadFault → Rose (F.faults files.old) (F.faults files.new)) }
     ensures sure { F.is_sure_name files.old name.now → IfStopped result (λ end. end.status ≢ Status.ReadFault) }
 {
-    match load_file(alloc, files, name) {
-        Ok(text) => nav_in(alloc, system, name, &text),
-        Err(stop) => Err(stop),
-    }
+    let text = load_file(alloc, files, name)?;
+    nav_in(alloc, system, name, &text)
 }
 
 /// Reads the three files in this order, for the satellites of the system, each whole before the next and opened once, or stops at the first that can't be had
@@ -176,20 +174,12 @@ pub fn read_session<F: Files>(
     ensures sure { All (F.is_sure_name files.old) (base.now ∷ rover.now ∷ nav.now ∷ []) → IfStopped result (λ end. end.status ≢ Status.ReadFault) }
     ensures named { IfStopped result (IsFaultOf (F.is_sure_name files.old) (base.now ∷ rover.now ∷ nav.now ∷ [])) }
 {
-    let base_file = match obs_file(alloc, files, system, base) {
-        Ok(file) => file,
-        Err(stop) => return Err(stop),
-    };
-    let rover_file = match obs_file(alloc, files, system, rover) {
-        Ok(file) => file,
-        Err(stop) => return Err(stop),
-    };
-    match nav_file(alloc, files, system, nav) {
-        Ok(file) => Ok(SessionFiles {
-            base: base_file,
-            rover: rover_file,
-            nav: file,
-        }),
-        Err(stop) => Err(stop),
-    }
+    let base_file = obs_file(alloc, files, system, base)?;
+    let rover_file = obs_file(alloc, files, system, rover)?;
+    let records = nav_file(alloc, files, system, nav)?;
+    Ok(SessionFiles {
+        base: base_file,
+        rover: rover_file,
+        nav: records,
+    })
 }

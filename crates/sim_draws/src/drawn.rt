@@ -43,7 +43,7 @@ impl Draws {
         [x, y, z]
     }
 
-    // The draws behind those of L1 and L2 for so many satellites
+    // The draws after those of L1 and L2 for so many satellites
     fn behind(self, sats: u32) -> Draws
         ensures { (seed n : ℕ) → self.state ≡ state_after seed n → result.state ≡ state_after seed (n + 4 * sats) }
     {

@@ -1,12 +1,12 @@
 //! The sequence of draws.
-ghost use Rattle.std.specs.Prelude.{◌≡◌, ℕ, ◌+◌, ◌*◌, ◌/◌, ◌^◌, ◌≤◌, unsigned_abs};
-ghost use Rattle.sim_draws.specs.Sequence.{next_state, state_after, draw, drawn_within};
+ghost use Rattle.std.specs.Prelude.{◌≡◌, ℕ, ◌+◌, ◌/◌, ◌^◌, ◌≤◌, unsigned_abs};
+ghost use Rattle.sim_draws.specs.Sequence.{next_state, state_after, drawn_within};
 
 const MULTIPLIER: u128 = 6_364_136_223_846_793_005;
 
 const INCREMENT: u128 = 1_442_695_040_888_963_407;
 
-/// A sequence of draws, by the state behind the last one.
+/// A sequence of draws, by the state after the last one.
 #[derive(Clone, Copy, Debug)]
 pub struct Draws {
     pub state: u64,

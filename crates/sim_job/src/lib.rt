@@ -1,4 +1,10 @@
-//! The command `sim`: a simulated session to try the program on.
+//! The command `sim`: a file of a simulated session to try the program on.
+//!
+//! `sim` ends with status 0, and on out with exactly the file that is asked for, of a session of the seed that has all
+//! three (`SimEnds`; crate sim_session says what such a session is). A run with status 0 has written that text, and
+//! `sim` is never declined (`specs/SimRuns.antt`). The one error is out of memory. Who calls owes at most 3600 epochs and
+//! 15 satellites, a set of bands and a system, and for Galileo the bands L1 and L5. The codes and phases of a file are a
+//! choice within the bounds of crate sim_signals, so no clause says that two calls with one seed give the same text.
 #![tactic(auto)]
 
 ghost use Rattle.std.specs.Prelude.{◌≡◌, ◌≤◌, IfOk};
@@ -25,6 +31,7 @@ fn text_of(file: File, made: Made) -> Vec<u8>
 
 /// The file of the session that the seed makes: of so many epochs, 1 to 3600, and satellites, 4 to 15, for a run with these bands
 /// and of the system with that letter.
+#[inline(never)]
 pub fn sim(
     alloc: Global,
     file: File,

@@ -4,7 +4,7 @@ use Rattle.decimal_text.specs.Whole.{size_of}
 use Rattle.decimal_text.specs.Write.{last_digits}
 use Rattle.decimal_text.specs.declared.exponent.Dec.{Dec}
 
--- 13 digits of which the first isn't 0, or 0 itself with the exponent 0 behind its first digit
+-- 13 digits of which the first isn't 0, or 0 itself with the exponent 0 after its first digit
 abbrev pub IsNormal : Dec → Type 0
 IsNormal d = ((10 ^ 12 ≤ size_of d.mant) × (size_of d.mant < 10 ^ 13)) ⊎ ((d.mant ≡ pos 0) × (d.exp ≡ negsuc 11))
 

@@ -1,6 +1,6 @@
 //! The text of a navigation file.
-ghost use Rattle.std.specs.Prelude.{◌≡◌, ◌+◌, ◌*◌, ◌≤◌, ◌++◌, length, OnOk};
-ghost use Rattle.sim_records.specs.Navigation.{navigation_header, first_line, further_line, record_text, record_texts, navigation_text};
+ghost use Rattle.std.specs.Prelude.{◌≡◌, ◌+◌, ◌*◌, ◌++◌, length, OnOk};
+ghost use Rattle.sim_records.specs.Navigation.{navigation_header, first_line, further_line, record_text, navigation_text};
 
 use crate::numbers::push_number;
 use decimal_text::{Dec, push_digits};

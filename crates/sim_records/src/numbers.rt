@@ -51,7 +51,7 @@ fn size_of(value: i64) -> u64
     value.unsigned_abs()
 }
 
-// The exponent behind the first digit
+// The exponent after the first digit
 fn exponent_of(d: Dec) -> i64
     ensures { result ≡ d.exp +ℤ pos 12 }
 {

@@ -1,5 +1,5 @@
 //! The satellites' records.
-ghost use Rattle.std.specs.Prelude.{◌≡◌, ◌+◌, ◌<◌, ◌≤◌, ℤ, pos, unsigned_abs, length, IfOk};
+ghost use Rattle.std.specs.Prelude.{◌≡◌, ◌+◌, ◌<◌, ◌≤◌, pos, unsigned_abs, length, IfOk};
 ghost use Rattle.rational.specs.Rational.{◌≈◌};
 ghost use Rattle.eph_store.specs.Decimals.{decimal, value_of, IsFromTo, IsWithin};
 ghost use Rattle.sim_records.specs.Numbers.{IsNormal};

@@ -1,4 +1,4 @@
--- The simulated texts are told, are files, and aren't refused together.
+-- The simulated texts are there, are files, and aren't refused together.
 use Rattle.std.proofs.Common.{◌≡◌, ◌∙◌, inl, ℕ, zero, suc, ◌+◌, ◌*◌, ◌^◌, ◌<◌, ◌≤◌, Bool, true, false, ◌==◌, nat_le, if◌then◌else◌, pos, ◌≤ℤ◌, List, [], ◌∷◌, length, slice_index, Option, Some, IfSome, codes, refl, sym, ap, subst, arith}
 use Rattle.std.proofs.Math.Nat.{mul-add}
 use Rattle.std.proofs.lemmas.Bool.{eqb-true}
@@ -37,7 +37,7 @@ use Rattle.session_files.specs.SessionFiles.{IsObsOf}
 use Rattle.session_files.specs.Admitted.{AreAdmitted}
 use Rattle.sim_run_job.specs.SimRunJobs.{AreOptionsOn}
 
--- ---- what is told of a text
+-- ---- what a text is
 text_told : (told : List ℕ → Option (List ℕ)) (name text other : List ℕ) → told name ≡ Some text → IsTextOf told name other → other ≡ text
 text_told told name text other is of = subst (λ (o : Option (List ℕ)). IfSome o (λ bytes. other ≡ bytes)) is of.told_is
 

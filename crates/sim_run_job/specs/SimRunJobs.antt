@@ -24,7 +24,7 @@ use Rattle.session_files.specs.Refusals.{IsPairRefused}
 use Rattle.fix_job.specs.FixJobs.{status_of}
 use Rattle.sim_match.specs.Matches.{IsMatched}
 
--- under these three names the files of a session of the seed are told, with these bands of the system with that letter
+-- under these three names the files of a session of the seed stand, with these bands of the system with that letter
 pub record AreMadeFiles (seed epochs sats bands system : ℕ) (told : List ℕ → Option (List ℕ)) : Type 0 where
   pub session : Made
   pub made : IsMade seed epochs sats bands system session

@@ -126,6 +126,7 @@ fn answer_files(
 
 /// What the session of this seed is found to say, of so many epochs, 1 to 3600, and satellites, 4 to 15, with these bands of the
 /// system with that letter: of Galileo with the bands L1 and L5 alone.
+#[inline(never)]
 pub fn sim_run(
     alloc: Global,
     seed: u32,
@@ -159,8 +160,6 @@ pub fn sim_run(
     let options = options_on(bands, system);
     let mut files = files_of(alloc, base, rover, nav)?;
     let system = System::of_letter(options.system);
-    match read_session(alloc, &mut files, system, "base", "rover", "nav") {
-        Ok(read) => answer_files(alloc, &asked, &read, &options),
-        Err(stop) => Err(stop),
-    }
+    let read = read_session(alloc, &mut files, system, "base", "rover", "nav")?;
+    answer_files(alloc, &asked, &read, &options)
 }

@@ -1,6 +1,7 @@
 -- Cycles are small wherever they are looked up, and so are clock terms.
 use Rattle.std.proofs.Common.{◌≡◌, ℕ, zero, suc, ◌≤◌, List, [], ◌∷◌, get_or, ℤ, unsigned_abs, All, w64, to_z, of_z, arith}
 use Rattle.std.proofs.lemmas.Int.{ints}
+use Rattle.whole_math.proofs.Words.{as_w64}
 use Rattle.std.proofs.lemmas.List.Elements.{All-nil, All-head, All-tail}
 use Rattle.sim_draws.specs.Values.{AreSmall}
 use Rattle.sim_signals.proofs.Smalls.{IsSmall}
@@ -11,7 +12,7 @@ cycles_at (c ∷ cs) zero h = All-head AreSmall c cs h
 cycles_at (c ∷ cs) (suc k) h = cycles_at cs k (All-tail AreSmall c cs h)
 
 pub clock_cast : (z : ℤ) → unsigned_abs z ≤ 100000 → to_z w64 (of_z w64 z) ≡ z
-clock_cast z h = omega (arith, ints)
+clock_cast z small = as_w64 z (omega (arith, small))
 
 pub still_clock : (z : ℤ) → unsigned_abs z ≤ 100000 → unsigned_abs (to_z w64 (of_z w64 z)) ≤ 100000
-still_clock z h = omega (arith, ints)
+still_clock z small = omega (arith, ints)

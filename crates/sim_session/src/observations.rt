@@ -1,8 +1,8 @@
 //! A receiver's observation file.
-ghost use Rattle.std.specs.Prelude.{◌≡◌, ◌+◌, ◌*◌, ◌^◌, ◌<◌, ◌≤◌, length, All, IfOk};
+ghost use Rattle.std.specs.Prelude.{◌≡◌, ◌+◌, ◌^◌, ◌<◌, ◌≤◌, length, All, IfOk};
 ghost use Rattle.orbit_clock.specs.Records.{constants_of};
 ghost use Rattle.sim_draws.specs.Values.{AreSmall};
-ghost use Rattle.sim_session.specs.Observations.{step_of, tag_of, AreObserved, IsObservationText};
+ghost use Rattle.sim_session.specs.Observations.{step_of, AreObserved, IsObservationText};
 ghost use Rattle.sim_session.specs.Limits.{IsOnTime};
 
 use eph_store::Eph;

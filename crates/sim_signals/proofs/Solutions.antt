@@ -1,6 +1,7 @@
 -- What holds of every solution, said of the numbers that the code hands on.
 use Rattle.std.proofs.Common.{◌≡◌, ℕ, List, [], ◌∷◌, ℤ, pos, ◌*ℤ◌, ◌≤ℤ◌, ◌≤◌, ◌^◌, unsigned_abs, arith, w64, to_z, of_z}
 use Rattle.std.proofs.lemmas.Int.{ints}
+use Rattle.whole_math.proofs.Words.{as_w64}
 use Rattle.rational.specs.Rational.{Rational, of_whole, add_r, AreWithin}
 use Rattle.iv_core.specs.declared.Iv.{Iv}
 use Rattle.eph_store.specs.declared.ephemeris.Eph.{Eph}
@@ -32,7 +33,7 @@ phase_is frequency world eph tag code given point units clock own cycles passed 
     rw (← e, ← f, ← g, h) (λ q a b c seen travel at s v. near (distance travel q.clock) (all q a b c seen travel at s v))
 
 pub small_cast : (z : ℤ) → unsigned_abs z ≤ 100000 → to_z w64 (of_z w64 z) ≡ z
-small_cast z h = omega (arith, ints)
+small_cast z small = as_w64 z (omega (arith, small))
 
 pub code_cast : (z : ℤ) → pos 0 ≤ℤ z → z ≤ℤ pos (10 ^ 11) → to_z w64 (of_z w64 z) ≡ z
-code_cast z h k = omega (arith, ints)
+code_cast z low high = as_w64 z (omega (arith, ints, low, high))

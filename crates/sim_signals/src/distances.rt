@@ -1,14 +1,14 @@
 //! Distances, and what is measured of them.
-ghost use Rattle.std.specs.Prelude.{◌≡◌, ◌*◌, ◌^◌, ◌≤◌, ℤ, pos, ◌+ℤ◌, ◌*ℤ◌, ◌≤ℤ◌, ◌<ℤ◌, unsigned_abs};
+ghost use Rattle.std.specs.Prelude.{◌≡◌, ◌*◌, ◌^◌, ◌≤◌, pos, ◌+ℤ◌, ◌*ℤ◌, ◌≤ℤ◌, ◌<ℤ◌, unsigned_abs};
 ghost use Rattle.rational.specs.Rational.{Rational, of_whole, add_r, sub_r, mul_r, AreWithin};
 ghost use Rattle.iv_core.specs.Intervals.{Holds, width_of, IsWithin};
 ghost use Rattle.whole_math.specs.Rounding.{IsFloor, IsNearest};
+ghost use Rattle.obs_rows.specs.declared.units.TheConstants.{LIGHT_SPEED};
 ghost use Rattle.sim_signals.specs.Observed.{IsDistance, measured, thousandths};
 
 use iv_core::Iv;
+use obs_rows::LIGHT_SPEED;
 use whole_math::{floor_shift, nearest};
-
-const LIGHT_SPEED: i128 = 299_792_458;
 
 /// A distance in units of 2^-36 m.
 #[derive(Clone, Copy, Debug)]
@@ -21,10 +21,10 @@ pub struct Distance {
 // c times what the satellite's clock is ahead, in units of 2^-36 m and rounded down
 fn ahead_of(clock: &Iv<60>) -> i64
     requires { IsWithin (2 ^ 54) clock.now }
-    ensures floor { IsFloor (pos 299792458 *ℤ clock.now.hi) (2 ^ 24) result }
+    ensures floor { IsFloor (LIGHT_SPEED *ℤ clock.now.hi) (2 ^ 24) result }
     ensures size { unsigned_abs result ≤ 2 ^ 59 }
 {
-    floor_shift(LIGHT_SPEED * clock.hi as i128, 24) as i64
+    floor_shift(LIGHT_SPEED as i128 * clock.hi as i128, 24) as i64
 }
 
 /// The range less c times what the satellite's clock is ahead, from boxes of both: at most a unit too much and 2^20 units too little,
@@ -34,7 +34,7 @@ pub fn distance_of(range: &Iv<36>, clock: &Iv<60>) -> Distance
     requires range_far { pos (10000000 * 2 ^ 36) ≤ℤ range.now.lo }
     requires clock_narrow { width_of clock.now ≤ℤ pos (2 ^ 10) }
     requires clock_small { IsWithin (2 ^ 54) clock.now }
-    ensures { (r t : Rational) → Holds range.now r → Holds clock.now t → IsDistance result.units (sub_r r (mul_r (of_whole (pos 299792458)) t)) }
+    ensures { (r t : Rational) → Holds range.now r → Holds clock.now t → IsDistance result.units (sub_r r (mul_r (of_whole LIGHT_SPEED) t)) }
 {
     Distance {
         units: range.lo - ahead_of(clock),
@@ -88,11 +88,11 @@ fn scaled(length: i128, frequency: u32) -> i128
 fn whole_thousandths(scaled: i128) -> i64
     requires low { pos (4900000000 * 2 ^ 36 * 1000000000) ≤ℤ scaled }
     requires high { scaled ≤ℤ pos (73000000000 * 2 ^ 36 * 2000000000) }
-    ensures nearest { IsNearest scaled (299792458 * 2 ^ 36) result }
+    ensures nearest { IsNearest scaled (unsigned_abs LIGHT_SPEED * 2 ^ 36) result }
     ensures low { pos 16000000000 ≤ℤ result }
     ensures high { result ≤ℤ pos 490000000000 }
 {
-    nearest(scaled, LIGHT_SPEED * (1 << 36)) as i64
+    nearest(scaled, LIGHT_SPEED as i128 * (1 << 36)) as i64
 }
 
 /// What is measured of a distance with a clock term in mm, over the wavelength of a carrier of so many Hz and with so many whole

@@ -1,5 +1,5 @@
 //! A satellite's observations.
-ghost use Rattle.std.specs.Prelude.{◌^◌, ◌≤◌, ℤ, pos, ◌≤ℤ◌, unsigned_abs, All};
+ghost use Rattle.std.specs.Prelude.{◌^◌, ◌≤◌, pos, ◌≤ℤ◌, unsigned_abs, All};
 ghost use Rattle.std.specs.Int.{abs_diff};
 ghost use Rattle.orbit_clock.specs.Records.{constants_of};
 ghost use Rattle.sim_texts.specs.Observations.{AreInColumns};
@@ -9,6 +9,7 @@ use crate::Receiver;
 use crate::distances::{Distance, code_of, distance_of, phase_of};
 use eph_store::Eph;
 use gps_time::Tick;
+use obs_rows::{UNIT_FREQUENCY, WAVELENGTHS};
 use orbit_clock::World;
 use signal_travel::seen_from;
 use sim_texts::Signals;
@@ -20,12 +21,12 @@ const FIRST_CODE: i64 = 25_000_000_000;
 /// How often the code is made anew.
 const PASSES: u32 = 6;
 
-/// The carriers in Hz: 154, 120 and 115 times 10.23 MHz.
-const L1: u32 = 1_575_420_000;
+/// The carriers in Hz: so often does their wavelength go into the way of light in a second.
+const L1: u32 = (UNIT_FREQUENCY / WAVELENGTHS[0]) as u32;
 
-const L2: u32 = 1_227_600_000;
+const L2: u32 = (UNIT_FREQUENCY / WAVELENGTHS[1]) as u32;
 
-const L5: u32 = 1_176_450_000;
+const L5: u32 = (UNIT_FREQUENCY / WAVELENGTHS[4]) as u32;
 
 // How far the satellite is seen at the tag with a code of so many mm, less what its clock is ahead
 fn distance_at(world: &World, eph: &Eph, tag: Tick, code: i64, receiver: &Receiver) -> Distance

@@ -26,7 +26,7 @@ header_text t =
     ++ (codes "  2024     1     1     0     0    0.0000000     GPS         TIME OF FIRST OBS\n"
     ++ codes "                                                            END OF HEADER\n"))))
 
--- an epoch of flag 0, so many seconds behind midnight, with the number of its satellites
+-- an epoch of flag 0, so many seconds after midnight, with the number of its satellites
 unfoldable pub epoch_line : ℕ → ℕ → List ℕ
 epoch_line seconds sats =
     codes "> 2024 01 01 " ++ (last_digits 2 (seconds / 3600) ++ (codes " " ++ (last_digits 2 (seconds / 60 % 60)
@@ -41,7 +41,7 @@ abbrev pub fields_text : List ℤ → List ℕ
 fields_text [] = []
 fields_text (z ∷ zs) = fixed_in 14 z 3 ++ further_fields zs
 
--- a satellite's number with two digits behind the system's letter, and its amounts
+-- a satellite's number with two digits after the system's letter, and its amounts
 unfoldable pub satellite_line : Tracking → ℕ → Signals → List ℕ
 satellite_line t number s = system_letter t ∷ (last_digits 2 number ++ (fields_text (amounts_of t s) ++ codes "\n"))
 

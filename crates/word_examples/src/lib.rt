@@ -2,7 +2,7 @@
 #![tactic(auto)]
 
 #[cfg(test)]
-mod arc_report_tests;
+mod arcs_job_tests;
 #[cfg(test)]
 mod command_words_option_tests;
 #[cfg(test)]

@@ -2,38 +2,39 @@ use Rattle.obs_source.proofs.TakerLaws.{galileo_answers}
 use Rattle.session_files.proofs.FileLaws.{answer_as, taken_is, taken_stops, taken_refused}
 use Rattle.session_files.proofs.obs_file.Goals as goal
 
-pub returns-in-Ok-clause-read : goal.returns-in-Ok-clause-read
-returns-in-Ok-clause-read g c =
+pub returns-in_ok-take_file-in-Gps-clause-read : goal.returns-in_ok-take_file-in-Gps-clause-read
+returns-in_ok-take_file-in-Gps-clause-read g c =
     let answer = c.finish.result in
-    taken_is c.args.system (g.F.Files.text_of c.args.files.now) c.args.name.now _ _ answer c.file_of.result c.in-Ok.ensures.taken
+    taken_is c.args.system (g.F.Files.text_of c.args.files.now) c.args.name.now _ _ answer c.file_of.result c.in_ok-take_file-in-Gps.ensures.taken
     (λ text stands. answer_as _ _ text answer c.in-Gps.is (c.finish.ensures.answers text stands)) c.file_of.ensures.file
 
-pub returns-in-Ok-clause-stopped : goal.returns-in-Ok-clause-stopped
-returns-in-Ok-clause-stopped g c =
+pub returns-in_ok-take_file-in-Gps-clause-stopped : goal.returns-in_ok-take_file-in-Gps-clause-stopped
+returns-in_ok-take_file-in-Gps-clause-stopped g c =
     let answer = c.finish.result in
-    taken_stops c.args.system (g.F.Files.text_of c.args.files.now) c.args.name.now _ _ answer c.file_of.result c.in-Ok.ensures.taken
+    taken_stops c.args.system (g.F.Files.text_of c.args.files.now) c.args.name.now _ _ answer c.file_of.result c.in_ok-take_file-in-Gps.ensures.taken
     (λ text stands. answer_as _ _ text answer c.in-Gps.is (c.finish.ensures.answers text stands)) c.file_of.ensures.stopped
 
-pub returns-in-Ok-clause-refused : goal.returns-in-Ok-clause-refused
-returns-in-Ok-clause-refused g c =
+pub returns-in_ok-take_file-in-Gps-clause-refused : goal.returns-in_ok-take_file-in-Gps-clause-refused
+returns-in_ok-take_file-in-Gps-clause-refused g c =
     let answer = c.finish.result in
-    taken_refused c.args.system (g.F.Files.text_of c.args.files.now) _ c.args.name.now _ _ answer c.file_of.result c.in-Ok.ensures.taken c.in-Ok.ensures.whole
+    taken_refused c.args.system (g.F.Files.text_of c.args.files.now) _ c.args.name.now _ _ answer c.file_of.result c.in_ok-take_file-in-Gps.ensures.taken c.in_ok-take_file-in-Gps.ensures.whole
     (λ text stands. answer_as _ _ text answer c.in-Gps.is (c.finish.ensures.answers text stands)) c.file_of.ensures.stopped
 
-pub returns-in-Ok-take_file-clause-read : goal.returns-in-Ok-take_file-clause-read
-returns-in-Ok-take_file-clause-read g c =
-    let answer = c.finish-in-Ok-take_file.result in
-    taken_is c.args.system (g.F.Files.text_of c.args.files.now) c.args.name.now _ _ answer c.file_of-in-Ok-take_file.result c.in-Ok-take_file.ensures.taken
-    (λ text stands. answer_as _ _ text answer c.in-Galileo.is (galileo_answers text answer (c.finish-in-Ok-take_file.ensures.answers text stands))) c.file_of-in-Ok-take_file.ensures.file
+pub returns-in_ok-take_file-in-Galileo-clause-read : goal.returns-in_ok-take_file-in-Galileo-clause-read
+returns-in_ok-take_file-in-Galileo-clause-read g c =
+    let answer = c.finish-in-Galileo.result in
+    taken_is c.args.system (g.F.Files.text_of c.args.files.now) c.args.name.now _ _ answer c.file_of-in-Galileo.result c.in_ok-take_file-in-Galileo.ensures.taken
+    (λ text stands. answer_as _ _ text answer c.in-Galileo.is (galileo_answers text answer (c.finish-in-Galileo.ensures.answers text stands))) c.file_of-in-Galileo.ensures.file
 
-pub returns-in-Ok-take_file-clause-stopped : goal.returns-in-Ok-take_file-clause-stopped
-returns-in-Ok-take_file-clause-stopped g c =
-    let answer = c.finish-in-Ok-take_file.result in
-    taken_stops c.args.system (g.F.Files.text_of c.args.files.now) c.args.name.now _ _ answer c.file_of-in-Ok-take_file.result c.in-Ok-take_file.ensures.taken
-    (λ text stands. answer_as _ _ text answer c.in-Galileo.is (galileo_answers text answer (c.finish-in-Ok-take_file.ensures.answers text stands))) c.file_of-in-Ok-take_file.ensures.stopped
+pub returns-in_ok-take_file-in-Galileo-clause-stopped : goal.returns-in_ok-take_file-in-Galileo-clause-stopped
+returns-in_ok-take_file-in-Galileo-clause-stopped g c =
+    let answer = c.finish-in-Galileo.result in
+    taken_stops c.args.system (g.F.Files.text_of c.args.files.now) c.args.name.now _ _ answer c.file_of-in-Galileo.result c.in_ok-take_file-in-Galileo.ensures.taken
+    (λ text stands. answer_as _ _ text answer c.in-Galileo.is (galileo_answers text answer (c.finish-in-Galileo.ensures.answers text stands))) c.file_of-in-Galileo.ensures.stopped
 
-pub returns-in-Ok-take_file-clause-refused : goal.returns-in-Ok-take_file-clause-refused
-returns-in-Ok-take_file-clause-refused g c =
-    let answer = c.finish-in-Ok-take_file.result in
-    taken_refused c.args.system (g.F.Files.text_of c.args.files.now) _ c.args.name.now _ _ answer c.file_of-in-Ok-take_file.result c.in-Ok-take_file.ensures.taken c.in-Ok-take_file.ensures.whole
-    (λ text stands. answer_as _ _ text answer c.in-Galileo.is (galileo_answers text answer (c.finish-in-Ok-take_file.ensures.answers text stands))) c.file_of-in-Ok-take_file.ensures.stopped
+pub returns-in_ok-take_file-in-Galileo-clause-refused : goal.returns-in_ok-take_file-in-Galileo-clause-refused
+returns-in_ok-take_file-in-Galileo-clause-refused g c =
+    let answer = c.finish-in-Galileo.result in
+    taken_refused c.args.system (g.F.Files.text_of c.args.files.now) _ c.args.name.now _ _ answer c.file_of-in-Galileo.result
+    c.in_ok-take_file-in-Galileo.ensures.taken c.in_ok-take_file-in-Galileo.ensures.whole
+    (λ text stands. answer_as _ _ text answer c.in-Galileo.is (galileo_answers text answer (c.finish-in-Galileo.ensures.answers text stands))) c.file_of-in-Galileo.ensures.stopped

@@ -12,33 +12,35 @@ use Rattle.command_words.proofs.jobs.read_words.Goals as goal
 
 pub returns-in_err-line-clause-usage : goal.returns-in_err-line-clause-usage
 returns-in_err-line-clause-usage c = λ is.
-    let p = err_from_is_err_and c.from_residual.result c.from_residual.ensures.1 in
-    let fault : c.in_err-line.field-0.0 ≡ Usage = cc (is, p.1, p.2) in
+    let answered = err_from_is_err_and c.from_residual.result c.from_residual.ensures.1 in
+    let fault : c.in_err-line.field-0.0 ≡ Usage = cc (is, answered.1, answered.2) in
     not_split (texts_of c.args.words.now) (c.in_err-line.ensures.usage (err_is c.in_err-line.field-0.0 Usage fault))
 
-pub returns-in-Ok-clause-job : goal.returns-in-Ok-clause-job
-returns-in-Ok-clause-job c =
+pub returns-clause-job : goal.returns-clause-job
+returns-clause-job c =
     let command = c.in_ok-line.line.command.now in
     let rows = rows_of (found_of c.in_ok-line.line.matches) in
-    let given = c.in-Ok.parted.given.items in
-    IfOk-weaker c.job_of.result _ _ (λ j asked. is_job (texts_of c.args.words.now) command rows given c.in_ok-line.ensures.ok c.in-Ok.ensures.given j
+    let given = c.in_ok-parted.parted.given.items in
+    IfOk-weaker c.job_of.result _ _ (λ j asked. is_job (texts_of c.args.words.now) command rows given c.in_ok-line.ensures.ok c.in_ok-parted.ensures.given j
     (subst (λ (name : Text). IsJobOf name (values_in word_id rows) given j) c.as_bytes.ensures.value
-    (subst (λ (ws : List Text). IsJobOf c.as_bytes.result.now ws given j) c.in-Ok.ensures.plain asked))) c.job_of.ensures.job
+    (subst (λ (ws : List Text). IsJobOf c.as_bytes.result.now ws given j) c.in_ok-parted.ensures.plain asked))) c.job_of.ensures.job
 
-pub returns-in-Ok-clause-range : goal.returns-in-Ok-clause-range
-returns-in-Ok-clause-range c = IfOk-weaker c.job_of.result _ _ (λ j asked. in_range _ _ _ j asked) c.job_of.ensures.job
-
-pub returns-in-Ok-clause-usage : goal.returns-in-Ok-clause-usage
-returns-in-Ok-clause-usage c = λ is.
-    let command = c.in_ok-line.line.command.now in
-    let rows = rows_of (found_of c.in_ok-line.line.matches) in
-    let given = c.in-Ok.parted.given.items in
-    not_asked_so (texts_of c.args.words.now) command rows given c.in_ok-line.ensures.ok c.in-Ok.ensures.given
-    (subst (λ (name : Text). (j : Job) → IsJobOf name (values_in word_id rows) given j → ⊥) c.as_bytes.ensures.value
-    (subst (λ (ws : List Text). (j : Job) → IsJobOf c.as_bytes.result.now ws given j → ⊥) c.in-Ok.ensures.plain (c.job_of.ensures.usage is)))
+pub returns-clause-range : goal.returns-clause-range
+returns-clause-range c = IfOk-weaker c.job_of.result _ _ (λ j asked. in_range _ _ _ j asked) c.job_of.ensures.job
 
 pub returns-clause-usage : goal.returns-clause-usage
 returns-clause-usage c = λ is.
-    let same : c.in-Err.fault ≡ Usage = cc is in
+    let command = c.in_ok-line.line.command.now in
+    let rows = rows_of (found_of c.in_ok-line.line.matches) in
+    let given = c.in_ok-parted.parted.given.items in
+    not_asked_so (texts_of c.args.words.now) command rows given c.in_ok-line.ensures.ok c.in_ok-parted.ensures.given
+    (subst (λ (name : Text). (j : Job) → IsJobOf name (values_in word_id rows) given j → ⊥) c.as_bytes.ensures.value
+    (subst (λ (ws : List Text). (j : Job) → IsJobOf c.as_bytes.result.now ws given j → ⊥) c.in_ok-parted.ensures.plain (c.job_of.ensures.usage is)))
+
+pub returns-in_err-parted-clause-usage : goal.returns-in_err-parted-clause-usage
+returns-in_err-parted-clause-usage c = λ is.
+    let residual = c.from_residual-in_err-parted in
+    let answered = err_from_is_err_and residual.result residual.ensures.1 in
+    let fault : c.in_err-parted.field-0.0 ≡ Usage = cc (is, answered.1, answered.2) in
     no_numbers (texts_of c.args.words.now) c.in_ok-line.line.command.now (rows_of (found_of c.in_ok-line.line.matches)) c.in_ok-line.ensures.ok
-    (c.in-Err.ensures.usage (err_is c.in-Err.fault Usage same))
+    (c.in_err-parted.ensures.usage (err_is c.in_err-parted.field-0.0 Usage fault))

@@ -1,6 +1,7 @@
 use Rattle.std.proofs.Common.{◌≡◌, ◌*◌, ◌^◌, ◌≤◌, ℤ, pos, ◌+ℤ◌, ◌*ℤ◌, ◌≤ℤ◌, ◌<ℤ◌, unsigned_abs, w64, FitsSigned, to_z, of_z, arith, ap, subst, ◌∙◌}
 use Rattle.std.specs.Int.{w128}
 use Rattle.std.proofs.lemmas.Int.{ints, to_z-of_z}
+use Rattle.obs_rows.specs.declared.units.TheConstants.{LIGHT_SPEED}
 use Rattle.whole_math.specs.Rounding.{IsNearest}
 use Rattle.sim_signals.proofs.Measures.{phase_near}
 use Rattle.sim_signals.proofs.distances.phase_of.Goals as goal
@@ -39,4 +40,4 @@ returns-clause-near c = λ v h.
     ∙ ap (λ (z : ℤ). (pos 1000 *ℤ d) +ℤ (z *ℤ pos (2 ^ 36))) (to_z-of_z w64 c.args.clock c.ranges.clock) in
     let product = to_z-of_z w128 c.scaled.result (record { sfits = c.scaled.type_inv }) ∙ c.scaled.ensures.value ∙ ap (λ (z : ℤ). z *ℤ pos c.args.frequency) length in
     phase_near c.args.frequency d n.result c.args.clock c.args.cycles _ v c.requires.most (plain n.result c.args.cycles n.ensures.low n.ensures.high c.requires.cycles)
-    (subst (λ (z : ℤ). IsNearest z (299792458 * 2 ^ 36) n.result) product n.ensures.nearest) h
+    (subst (λ (z : ℤ). IsNearest z (unsigned_abs LIGHT_SPEED * 2 ^ 36) n.result) product n.ensures.nearest) h

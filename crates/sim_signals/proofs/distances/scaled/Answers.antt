@@ -1,12 +1,13 @@
 use Rattle.std.proofs.Common.{◌≡◌, ℕ, ◌*◌, ◌≤◌, ◌∷◌, [], ℤ, pos, ◌*ℤ◌, ◌≤ℤ◌, FitsSigned, to_z, of_z, arith, refl}
 use Rattle.std.specs.Int.{w128}
 use Rattle.std.proofs.lemmas.Int.{ints}
+use Rattle.whole_math.proofs.Words.{as_w128}
 use Rattle.whole_math.proofs.Ring.{va, ko, ◌⊗◌}
 use Rattle.whole_math.proofs.Certificates.{cert, ◌≼◌, hy, nm, ◌⊞◌, ◌⊠◌}
 use Rattle.sim_signals.proofs.distances.scaled.Goals as goal
 
 cast : (m : ℤ) → pos 336725436006400000000 ≤ℤ m → m ≤ℤ pos 5016521801728000000000 → to_z w128 (of_z w128 m) ≡ m
-cast m h k = omega (arith, ints)
+cast m low high = as_w128 m (omega (arith, ints, low, high))
 
 frequency_cast : (f : ℕ) → f ≤ 2000000000 → to_z w128 f ≡ pos f
 frequency_cast f h = omega (arith, ints)
@@ -30,7 +31,7 @@ fits : (p : ℤ) → pos (336725436006400000000 * 1000000000) ≤ℤ p → p ≤
 fits p h k = omega (arith, ints)
 
 plain : (p : ℤ) → pos (336725436006400000000 * 1000000000) ≤ℤ p → p ≤ℤ pos (5016521801728000000000 * 2000000000) → to_z w128 (of_z w128 p) ≡ p
-plain p h k = omega (arith, ints)
+plain p low high = as_w128 p (omega (arith, ints, low, high))
 
 pub overflow_mul-result : goal.overflow_mul-result
 overflow_mul-result c =

@@ -1,7 +1,7 @@
 use Rattle.std.proofs.Common.{ℤ, pos, get_or, w64, to_z, of_z, refl, sym, subst}
 use Rattle.std.proofs.lemmas.Int.{to_z-of_z}
 use Rattle.orbit_clock.specs.Records.{constants_of}
-use Rattle.sim_signals.specs.Observed.{IsReachedIn}
+use Rattle.sim_signals.specs.Observed.{carrier, IsReachedIn}
 use Rattle.sim_signals.proofs.Smalls.{small_at, cycles_cast, still_small}
 use Rattle.sim_signals.proofs.Solutions.{phase_is, small_cast, code_cast}
 use Rattle.sim_signals.proofs.passes.observe.Goals as goal
@@ -28,15 +28,15 @@ returns-clause-observed c =
     record {
       code = subst (λ (z : ℤ). IsReachedIn 6 world c.args.eph.now c.args.tag.0 receiver.point receiver.clock z)
           (sym (code_cast code c.code_at-code.ensures.low c.code_at-code.ensures.high)) c.code_at-code.ensures.reached;
-      l1 = phase_is 1575420000 world c.args.eph.now c.args.tag.0 (to_z w64 (of_z w64 code)) (to_z w64 (of_z w64 code)) receiver.point units clock
+      l1 = phase_is (carrier 0) world c.args.eph.now c.args.tag.0 (to_z w64 (of_z w64 code)) (to_z w64 (of_z w64 code)) receiver.point units clock
           receiver.clock (to_z w64 (of_z w64 (get_or cycles 0 (pos 0)))) (get_or cycles 0 (pos 0))
           c.phase_of.result (to_z w64 (of_z w64 c.phase_of.result)) refl own (cycles_cast (get_or cycles 0 (pos 0)) (small_at cycles 0 c.requires.cycles))
           (to_z-of_z w64 c.phase_of.result (record { sfits = c.phase_of.type_inv })) is c.phase_of.ensures.near;
-      l2 = phase_is 1227600000 world c.args.eph.now c.args.tag.0 (to_z w64 (of_z w64 code)) (to_z w64 (of_z w64 code)) receiver.point units clock
+      l2 = phase_is (carrier 1) world c.args.eph.now c.args.tag.0 (to_z w64 (of_z w64 code)) (to_z w64 (of_z w64 code)) receiver.point units clock
           receiver.clock (to_z w64 (of_z w64 (get_or cycles 1 (pos 0)))) (get_or cycles 1 (pos 0))
           c.phase_of-2.result (to_z w64 (of_z w64 c.phase_of-2.result)) refl own (cycles_cast (get_or cycles 1 (pos 0)) (small_at cycles 1 c.requires.cycles))
           (to_z-of_z w64 c.phase_of-2.result (record { sfits = c.phase_of-2.type_inv })) is c.phase_of-2.ensures.near;
-      l5 = phase_is 1176450000 world c.args.eph.now c.args.tag.0 (to_z w64 (of_z w64 code)) (to_z w64 (of_z w64 code)) receiver.point units clock
+      l5 = phase_is (carrier 4) world c.args.eph.now c.args.tag.0 (to_z w64 (of_z w64 code)) (to_z w64 (of_z w64 code)) receiver.point units clock
           receiver.clock (to_z w64 (of_z w64 (get_or cycles 2 (pos 0)))) (get_or cycles 2 (pos 0))
           c.phase_of-3.result (to_z w64 (of_z w64 c.phase_of-3.result)) refl own (cycles_cast (get_or cycles 2 (pos 0)) (small_at cycles 2 c.requires.cycles))
           (to_z-of_z w64 c.phase_of-3.result (record { sfits = c.phase_of-3.type_inv })) is c.phase_of-3.ensures.near;
