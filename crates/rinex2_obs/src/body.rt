@@ -44,10 +44,7 @@ pub fn read_epochs(
                 Err(at) => return Err(TextFault::Refused(at)),
             },
             Ok(EpochLine::Epoch { tag, power, list }) => {
-                let sats = match read_epoch(alloc, lines, header, kept, list) {
-                    Ok(sats) => sats,
-                    Err(fault) => return Err(fault),
-                };
+                let sats = read_epoch(alloc, lines, header, kept, list)?;
                 match epochs.push(Epoch { tag, power, sats }) {
                     Ok(()) => {}
                     Err(_) => return Err(TextFault::NoMemory),

@@ -19,10 +19,7 @@ pub fn skip_lines(lines: &mut Lines<'_>, changes: bool, count: u32) -> Result<()
 {
     let mut left = count;
     'skipped: while left > 0 {
-        let line = match next_line(lines, What::Truncated) {
-            Ok(line) => line,
-            Err(at) => return Err(at),
-        };
+        let line = next_line(lines, What::Truncated)?;
         left -= 1;
         match event_line(Layout::Rinex2, &line, changes) {
             Ok(()) => {}
@@ -39,10 +36,7 @@ fn skip_names(lines: &mut Lines<'_>, count: u16) -> Result<(), At>
 {
     let mut left = count;
     'further: while left > 0 {
-        let line = match next_line(lines, What::Truncated) {
-            Ok(line) => line,
-            Err(at) => return Err(at),
-        };
+        let line = next_line(lines, What::Truncated)?;
         left -= 1;
         match further_mark(line.bytes) {
             Ok(()) => {}
@@ -63,8 +57,6 @@ pub fn skip_slips(lines: &mut Lines<'_>, header: &Header, count: u16) -> Result<
     ensures reads { (epochs : List Epoch) → ReadsFree obs2_rules lines.old lines.new (more_slips header.now epochs (further_lines_of count) (count * rows_of header.now.types)) (λ u. Body header.now epochs) result }
     ensures less { length lines.new.left ≤ length lines.old.left }
 {
-    match skip_names(lines, further_lines(count)) {
-        Ok(()) => skip_lines(lines, false, count as u32 * header.rows() as u32),
-        Err(at) => Err(at),
-    }
+    skip_names(lines, further_lines(count))?;
+    skip_lines(lines, false, count as u32 * header.rows() as u32)
 }

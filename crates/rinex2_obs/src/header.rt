@@ -77,10 +77,7 @@ pub fn first_line(line: &Line<'_>) -> Result<u16, Flaw>
 fn read_first(lines: &mut Lines<'_>) -> Result<u16, At>
     ensures { ReadsFree obs2_rules lines.old lines.new First (λ hundredths. Head (bare_header hundredths)) result }
 {
-    let line = match next_line(lines, What::ObsVersion) {
-        Ok(line) => line,
-        Err(at) => return Err(at),
-    };
+    let line = next_line(lines, What::ObsVersion)?;
     match first_line(&line) {
         Ok(hundredths) => Ok(hundredths),
         Err(flaw) => Err(flaw.at(line.number)),
@@ -95,10 +92,7 @@ fn read_further(lines: &mut Lines<'_>, list: TypeList) -> Result<TypeNames, At>
 {
     let mut list = list;
     'lines: while list.left > 0 {
-        let line = match next_line(lines, What::NoEnd) {
-            Ok(line) => line,
-            Err(at) => return Err(at),
-        };
+        let line = next_line(lines, What::NoEnd)?;
         list = match further_types(Layout::Rinex2, &line, list) {
             Ok(list) => list,
             Err(flaw) => return Err(flaw.at(line.number)),
@@ -114,10 +108,7 @@ fn read_lines(lines: &mut Lines<'_>, hundredths: u16) -> Result<Header, At>
     let mut delta: [i64; 3] = [0; 3];
     let mut types: Option<TypeNames> = None;
     'header: loop {
-        let line = match next_line(lines, What::NoEnd) {
-            Ok(line) => line,
-            Err(at) => return Err(at),
-        };
+        let line = next_line(lines, What::NoEnd)?;
         match header_line(&line) {
             Ok(HeaderLine::Skipped) => {}
             Ok(HeaderLine::Position(found)) => position = found,
@@ -151,8 +142,6 @@ fn read_lines(lines: &mut Lines<'_>, hundredths: u16) -> Result<Header, At>
 pub fn read_header(lines: &mut Lines<'_>) -> Result<Header, At>
     ensures { ReadsFree obs2_rules lines.old lines.new First (λ h. Body h []) result }
 {
-    match read_first(lines) {
-        Ok(hundredths) => read_lines(lines, hundredths),
-        Err(at) => Err(at),
-    }
+    let hundredths = read_first(lines)?;
+    read_lines(lines, hundredths)
 }

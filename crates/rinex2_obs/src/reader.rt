@@ -26,10 +26,7 @@ fn read_lines(alloc: Global, mut lines: Lines<'_>) -> Result<ObsFile, TextFault>
         Ok(kept) => kept,
         Err(AllocError) => return Err(TextFault::NoMemory),
     };
-    let epochs = match read_epochs(alloc, &mut lines, &header, &kept) {
-        Ok(epochs) => epochs,
-        Err(fault) => return Err(fault),
-    };
+    let epochs = read_epochs(alloc, &mut lines, &header, &kept)?;
     Ok(ObsFile {
         hundredths: header.hundredths,
         position: header.position,

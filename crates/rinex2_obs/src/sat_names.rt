@@ -45,10 +45,7 @@ fn add_names(line: &[u8], count: u16, names: &mut SatNames) -> Result<(), Flaw>
     let mut first: u32 = 33;
     let mut left = count;
     'names: while left > 0 {
-        let name = match name_at(line, first, names) {
-            Ok(name) => name,
-            Err(flaw) => return Err(flaw),
-        };
+        let name = name_at(line, first, names)?;
         names.push(name);
         first += 3;
         left -= 1;
@@ -62,13 +59,9 @@ fn add_line(line: &[u8], mut list: NameList) -> Result<NameList, Flaw>
     ensures room { IfOk result (λ all. length all.names + all.left ≤ 999) }
 {
     let count = list.left.min(NAMES_IN_LINE);
-    match add_names(line, count, &mut list.names) {
-        Ok(()) => {
-            list.left -= count;
-            Ok(list)
-        }
-        Err(flaw) => Err(flaw),
-    }
+    add_names(line, count, &mut list.names)?;
+    list.left -= count;
+    Ok(list)
 }
 
 /// The names in the line of an epoch of so many satellites.
@@ -103,8 +96,6 @@ pub fn further_names(line: &[u8], list: NameList) -> Result<NameList, Flaw>
     ensures value { result ≡ further_names_of line.now list.names list.left }
     ensures room { IfOk result (λ all. length all.names + all.left ≤ 999) }
 {
-    match further_mark(line) {
-        Ok(()) => add_line(line, list),
-        Err(flaw) => Err(flaw),
-    }
+    further_mark(line)?;
+    add_line(line, list)
 }

@@ -27,10 +27,7 @@ fn read_names(lines: &mut Lines<'_>, list: NameList) -> Result<SatNames, At>
 {
     let mut list = list;
     'names: while list.left > 0 {
-        let line = match next_line(lines, What::Truncated) {
-            Ok(line) => line,
-            Err(at) => return Err(at),
-        };
+        let line = next_line(lines, What::Truncated)?;
         list = match further_names(line.bytes, list) {
             Ok(list) => list,
             Err(flaw) => return Err(flaw.at(line.number)),
@@ -53,10 +50,7 @@ fn read_rows(
 {
     let mut sat = SatObs::missing(number);
     for at in 0..header.rows() {
-        let line = match next_line(lines, What::Truncated) {
-            Ok(line) => line,
-            Err(at) => return Err(at),
-        };
+        let line = next_line(lines, What::Truncated)?;
         match set_values(Layout::Rinex2, at, line.bytes, kept, &mut sat.values) {
             Ok(()) => {}
             Err(flaw) => return Err(flaw.at(line.number)),
@@ -71,10 +65,7 @@ fn skip_rows(lines: &mut Lines<'_>, header: &Header) -> Result<(), At>
     ensures less { length lines.new.left ≤ length lines.old.left }
 {
     for _at in 0..header.rows() {
-        match next_line(lines, What::Truncated) {
-            Ok(_) => {}
-            Err(at) => return Err(at),
-        }
+        next_line(lines, What::Truncated)?;
     }
     Ok(())
 }
@@ -125,10 +116,7 @@ fn read_satellites(
 {
     let mut sats = Satellites::new(alloc);
     for name in names {
-        match read_satellite(lines, header, kept, *name, &mut sats) {
-            Ok(()) => {}
-            Err(fault) => return Err(fault),
-        }
+        read_satellite(lines, header, kept, *name, &mut sats)?;
     }
     Ok(sats)
 }

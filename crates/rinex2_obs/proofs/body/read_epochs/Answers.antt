@@ -1,4 +1,5 @@
 use Rattle.std.proofs.Common.{◌*◌, Ok, refl, ◌∙◌}
+use Rattle.std.proofs.lemmas.Result.{err_from_is_err_and}
 use Rattle.rinex_head.proofs.Walks.{goes_on, stops, has_long, ends_well, handed_on}
 use Rattle.rinex2_obs.specs.Rows.{rows_of, further_lines_of}
 use Rattle.rinex2_obs.specs.EpochLines.{epoch_line_of}
@@ -74,8 +75,8 @@ returns-in-Err-skip_slips c =
     c.epochs.invariant ∙ goes_on obs2_rules (Body h epochs) behind (epoch_line_of epochs bytes) (λ l. Ok (after_epoch h epochs l)) (line.Slips n) _ _ _ bytes gives refl answer refl
     ∙ (rw c.in-Ok-Slips.field-0-is at (c.in-Err-skip_slips.ensures.reads epochs))
 
-pub returns-in-Err-read_epoch : goal.returns-in-Err-read_epoch
-returns-in-Err-read_epoch c =
+pub returns-in_err-sats-in-Ok-Epoch : goal.returns-in_err-sats-in-Ok-Epoch
+returns-in_err-sats-in-Ok-Epoch c =
     let h = c.args.header.now in
     let epochs = c.epochs.epochs in
     let bytes = c.in-Ok-Some.line.bytes.now in
@@ -84,9 +85,10 @@ returns-in-Err-read_epoch c =
     let list = c.in-Ok-Epoch.list in
     let gives = rw c.in-Ok-Some.field-0-is at c.in-Ok-Some.ensures in
     let answer = rw c.in-Ok-Epoch.field-0-is at c.in-Ok-Epoch.ensures.value in
-    handed_on _ _ c.in-Err-read_epoch.fault (c.epochs.invariant ∙ goes_on obs2_rules (Body h epochs) (more_names h epochs tag power list.names list.left)
+    let p = err_from_is_err_and c.from_residual.result c.from_residual.ensures.1 in
+    rw (p.1, p.2) (handed_on _ _ c.in_err-sats-in-Ok-Epoch.field-0.0 (c.epochs.invariant ∙ goes_on obs2_rules (Body h epochs) (more_names h epochs tag power list.names list.left)
     (epoch_line_of epochs bytes) (λ l. Ok (after_epoch h epochs l)) (line.Epoch tag power list) _ _ _ bytes gives refl answer refl)
-    (rw c.in-Ok-Epoch.field-0-is at (c.in-Err-read_epoch.ensures.reads epochs tag power))
+    (rw c.in-Ok-Epoch.field-0-is at (c.in_err-sats-in-Ok-Epoch.ensures.reads epochs tag power)))
 
 pub epochs-preserved : goal.epochs-preserved
 epochs-preserved c =
@@ -101,7 +103,7 @@ epochs-preserved c =
     let added = rw c.in-Ok-Epoch.field-0-is at c.in-Ok-push.ensures.added in
     rw added (c.epochs.invariant ∙ goes_on obs2_rules (Body h epochs) (more_names h epochs tag power list.names list.left)
     (epoch_line_of epochs bytes) (λ l. Ok (after_epoch h epochs l)) (line.Epoch tag power list) _ _ _ bytes gives refl answer refl
-    ∙ (rw c.in-Ok-Epoch.field-0-is at (c.in-Ok-read_epoch.ensures.reads epochs tag power)))
+    ∙ (rw c.in-Ok-Epoch.field-0-is at (c.in_ok-sats-in-Ok-Epoch.ensures.reads epochs tag power)))
 
 pub returns-in-Err-epoch_line : goal.returns-in-Err-epoch_line
 returns-in-Err-epoch_line c =

@@ -1,16 +1,25 @@
 use Rattle.std.proofs.Common.{◌≡◌, ◌*◌, refl, ap, ◌∙◌, false}
+use Rattle.std.proofs.lemmas.Result.{err_from_is_err_and}
 use Rattle.rinex_head.specs.Walk.{rest_gives}
 use Rattle.rinex_head.proofs.Walks.{reads_then}
 use Rattle.rinex2_obs.specs.Rows.{rows_of, further_lines_of}
 use Rattle.rinex2_obs.specs.Obs2Rules.{Expected, Body, more_lines, more_slips, obs2_rules}
 use Rattle.rinex2_obs.proofs.events.skip_slips.Goals as goal
 
-pub returns-in-Ok-clause-reads : goal.returns-in-Ok-clause-reads
-returns-in-Ok-clause-reads c = λ epochs.
+pub returns-in_err-skip_names-clause-reads : goal.returns-in_err-skip_names-clause-reads
+returns-in_err-skip_names-clause-reads c = λ epochs.
+    let h = c.args.header.now in
+    let rows = c.args.count * rows_of h.types in
+    let same : more_slips h epochs (further_lines_of c.args.count) rows ≡ more_slips h epochs c.further_lines.result rows = rw c.further_lines.ensures refl in
+    let p = err_from_is_err_and c.from_residual.result c.from_residual.ensures.1 in
+    rw (p.1, p.2) (ap (λ (s : Expected). rest_gives obs2_rules c.args.lines.now s) same ∙ c.in_err-skip_names.ensures.reads h epochs rows)
+
+pub returns-clause-reads : goal.returns-clause-reads
+returns-clause-reads c = λ epochs.
     let h = c.args.header.now in
     let rows = c.args.count * c.rows.result in
     let same : more_slips h epochs (further_lines_of c.args.count) (c.args.count * rows_of h.types) ≡ more_slips h epochs c.further_lines.result rows =
     rw (c.further_lines.ensures, c.rows.ensures) refl in
-    let skipped = ap (λ (s : Expected). rest_gives obs2_rules c.args.lines.now s) same ∙ c.in-Ok.ensures.reads h epochs rows in
+    let skipped = ap (λ (s : Expected). rest_gives obs2_rules c.args.lines.now s) same ∙ c.in_ok-skip_names.ensures.reads h epochs rows in
     reads_then obs2_rules (more_slips h epochs (further_lines_of c.args.count) (c.args.count * rows_of h.types)) (more_lines h epochs false rows)
     (λ u. Body h epochs) _ _ _ c.skip_lines.result skipped (c.skip_lines.ensures.reads h epochs)

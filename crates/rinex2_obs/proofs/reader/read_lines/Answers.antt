@@ -1,5 +1,8 @@
+use Rattle.std.proofs.lemmas.Result.{err_from_is_err_and}
 use Rattle.rinex_head.proofs.Walks.{handed_on}
 use Rattle.rinex2_obs.proofs.reader.read_lines.Goals as goal
 
-pub returns-in-Err-read_epochs : goal.returns-in-Err-read_epochs
-returns-in-Err-read_epochs c = handed_on _ _ c.in-Err-read_epochs.fault c.in-Ok.ensures c.in-Err-read_epochs.ensures
+pub returns-in_err-epochs : goal.returns-in_err-epochs
+returns-in_err-epochs c =
+    let p = err_from_is_err_and c.from_residual.result c.from_residual.ensures.1 in
+    rw (p.1, p.2) (handed_on _ _ c.in_err-epochs.field-0.0 c.in-Ok.ensures c.in_err-epochs.ensures)

@@ -1,4 +1,5 @@
 use Rattle.std.proofs.Common.{Ok, refl, ap, ◌∙◌, arith}
+use Rattle.std.proofs.lemmas.Result.{err_from_is_err_and}
 use Rattle.rinex_head.specs.declared.place.What.TheVariants.{Truncated}
 use Rattle.rinex_head.specs.Walk.{rest_gives}
 use Rattle.rinex_head.proofs.Walks.{goes_on, stops, has_none, gives_less}
@@ -7,37 +8,38 @@ use Rattle.rinex2_obs.specs.Obs2Rules.{Expected, more_names, obs2_rules}
 use Rattle.rinex2_obs.proofs.Steps.{finish_names, admit_names, names_all}
 use Rattle.rinex2_obs.proofs.sats.read_names.Goals as goal
 
-pub returns-in-Err-clause-reads : goal.returns-in-Err-clause-reads
-returns-in-Err-clause-reads c = λ h epochs tag power.
+pub returns-in_err-line-clause-reads : goal.returns-in_err-line-clause-reads
+returns-in_err-line-clause-reads c = λ h epochs tag power.
     let names = c.names.list.names in
     let n = c.names.list.left in
-    c.names.invariant.reads h epochs tag power
-    ∙ has_none obs2_rules (more_names h epochs tag power names n) _ _ Truncated _ (finish_names h epochs tag power names n c.names-test.true) c.in-Err.ensures
+    let p = err_from_is_err_and c.from_residual.result c.from_residual.ensures.1 in
+    rw (p.1, p.2) (c.names.invariant.reads h epochs tag power
+    ∙ has_none obs2_rules (more_names h epochs tag power names n) _ _ Truncated _ (finish_names h epochs tag power names n c.names-test.true) c.in_err-line.ensures)
 
-pub returns-in-Err-further_names-clause-reads : goal.returns-in-Err-further_names-clause-reads
-returns-in-Err-further_names-clause-reads c = λ h epochs tag power.
-    let bytes = c.in-Ok.line.bytes.now in
+pub returns-in-Err-clause-reads : goal.returns-in-Err-clause-reads
+returns-in-Err-clause-reads c = λ h epochs tag power.
+    let bytes = c.in_ok-line.line.bytes.now in
     let names = c.names.list.names in
     let n = c.names.list.left in
     rw c.at.ensures (c.names.invariant.reads h epochs tag power
     ∙ stops obs2_rules (more_names h epochs tag power names n) (further_names_of bytes names n)
-    (λ list. Ok (more_names h epochs tag power list.names list.left)) _ _ _ _ bytes c.in-Ok.ensures
-    (admit_names h epochs tag power names n bytes c.names-test.true) c.in-Err-further_names.ensures.value)
+    (λ list. Ok (more_names h epochs tag power list.names list.left)) _ _ _ _ bytes c.in_ok-line.ensures
+    (admit_names h epochs tag power names n bytes c.names-test.true) c.in-Err.ensures.value)
 
 pub names-preserved : goal.names-preserved
 names-preserved c =
-    let bytes = c.in-Ok.line.bytes.now in
+    let bytes = c.in_ok-line.line.bytes.now in
     let names = c.names.list.names in
     let n = c.names.list.left in
-    let list = c.in-Ok-further_names.list in
-    let less = gives_less _ _ _ _ c.in-Ok.ensures in
+    let list = c.in-Ok.list in
+    let less = gives_less _ _ _ _ c.in_ok-line.ensures in
     record {
       reads = λ h epochs tag power. c.names.invariant.reads h epochs tag power
           ∙ goes_on obs2_rules (more_names h epochs tag power names n) (more_names h epochs tag power list.names list.left)
-          (further_names_of bytes names n) (λ list. Ok (more_names h epochs tag power list.names list.left)) list _ _ _ bytes c.in-Ok.ensures
-          (admit_names h epochs tag power names n bytes c.names-test.true) c.in-Ok-further_names.ensures.value refl;
+          (further_names_of bytes names n) (λ list. Ok (more_names h epochs tag power list.names list.left)) list _ _ _ bytes c.in_ok-line.ensures
+          (admit_names h epochs tag power names n bytes c.names-test.true) c.in-Ok.ensures.value refl;
       less = omega arith;
-      room = c.in-Ok-further_names.ensures.room;
+      room = c.in-Ok.ensures.room;
     }
 
 pub returns-clause-reads : goal.returns-clause-reads

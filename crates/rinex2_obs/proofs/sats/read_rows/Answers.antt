@@ -1,4 +1,5 @@
 use Rattle.std.proofs.Common.{◌<◌, ◌+◌, ℕ, Some, Ok, refl, sym, ◌∙◌, subst, arith}
+use Rattle.std.proofs.lemmas.Result.{err_from_is_err_and}
 use Rattle.rinex_head.specs.declared.place.What.TheVariants.{Truncated}
 use Rattle.rinex_head.proofs.Walks.{goes_on, stops, has_none, gives_less}
 use Rattle.obs_fields.specs.declared.layout.Layout.TheVariants.{Rinex2}
@@ -8,28 +9,29 @@ use Rattle.rinex2_obs.specs.Obs2Rules.{more_rows, obs2_rules}
 use Rattle.rinex2_obs.proofs.Steps.{finish_rows, admit_mine}
 use Rattle.rinex2_obs.proofs.sats.read_rows.Goals as goal
 
+pub returns-in_err-line-clause-reads : goal.returns-in_err-line-clause-reads
+returns-in_err-line-clause-reads c = λ epochs tag power sats names.
+    let h = c.args.header.now in
+    let at = c.loop-at.at in
+    let values = c.loop-at.sat.values in
+    let less : at < rows_of h.types = subst (λ (n : ℕ). at < n) c.rows-at-end.ensures c.loop-at-test.true in
+    let p = err_from_is_err_and c.from_residual.result c.from_residual.ensures.1 in
+    rw (p.1, p.2) (c.loop-at.invariant.reads epochs tag power sats names
+    ∙ has_none obs2_rules (more_rows h epochs tag power sats (Some c.args.number) names at values) _ _ Truncated _
+    (finish_rows h epochs tag power sats (Some c.args.number) names at values less) c.in_err-line.ensures)
+
 pub returns-in-Err-clause-reads : goal.returns-in-Err-clause-reads
 returns-in-Err-clause-reads c = λ epochs tag power sats names.
     let h = c.args.header.now in
     let at = c.loop-at.at in
     let values = c.loop-at.sat.values in
-    let less : at < rows_of h.types = subst (λ (n : ℕ). at < n) c.rows-at-end.ensures c.loop-at-test.true in
-    c.loop-at.invariant.reads epochs tag power sats names
-    ∙ has_none obs2_rules (more_rows h epochs tag power sats (Some c.args.number) names at values) _ _ Truncated _
-    (finish_rows h epochs tag power sats (Some c.args.number) names at values less) c.in-Err.ensures
-
-pub returns-in-Err-set_values-clause-reads : goal.returns-in-Err-set_values-clause-reads
-returns-in-Err-set_values-clause-reads c = λ epochs tag power sats names.
-    let h = c.args.header.now in
-    let at = c.loop-at.at in
-    let values = c.loop-at.sat.values in
-    let bytes = c.in-Ok.line.bytes.now in
+    let bytes = c.in_ok-line.line.bytes.now in
     let kept = c.args.kept.now in
     let less : at < rows_of h.types = subst (λ (n : ℕ). at < n) c.rows-at-end.ensures c.loop-at-test.true in
     rw c.at.ensures (c.loop-at.invariant.reads epochs tag power sats names
     ∙ stops obs2_rules (more_rows h epochs tag power sats (Some c.args.number) names at values) (values_in Rinex2 at kept bytes values)
-    (λ set. Ok (more_rows h epochs tag power sats (Some c.args.number) names (at + 1) set)) _ _ _ _ bytes c.in-Ok.ensures
-    (admit_mine kept h epochs tag power sats c.args.number names at values bytes c.requires less) (sym c.in-Err-set_values.ensures.err))
+    (λ set. Ok (more_rows h epochs tag power sats (Some c.args.number) names (at + 1) set)) _ _ _ _ bytes c.in_ok-line.ensures
+    (admit_mine kept h epochs tag power sats c.args.number names at values bytes c.requires less) (sym c.in-Err.ensures.err))
 
 pub loop-at-preserved : goal.loop-at-preserved
 loop-at-preserved c =
@@ -37,16 +39,16 @@ loop-at-preserved c =
     let at = c.loop-at.at in
     let values = c.loop-at.sat.values in
     let set = c.set_values.new.values in
-    let bytes = c.in-Ok.line.bytes.now in
+    let bytes = c.in_ok-line.line.bytes.now in
     let kept = c.args.kept.now in
     let less : at < rows_of h.types = subst (λ (n : ℕ). at < n) c.rows-at-end.ensures c.loop-at-test.true in
-    let fewer = gives_less _ _ _ _ c.in-Ok.ensures in
+    let fewer = gives_less _ _ _ _ c.in_ok-line.ensures in
     record {
       reads = λ epochs tag power sats names. c.loop-at.invariant.reads epochs tag power sats names
           ∙ goes_on obs2_rules (more_rows h epochs tag power sats (Some c.args.number) names at values)
           (more_rows h epochs tag power sats (Some c.args.number) names (at + 1) set) (values_in Rinex2 at kept bytes values)
-          (λ set. Ok (more_rows h epochs tag power sats (Some c.args.number) names (at + 1) set)) set _ _ _ bytes c.in-Ok.ensures
-          (admit_mine kept h epochs tag power sats c.args.number names at values bytes c.requires less) (sym c.in-Ok-set_values.ensures.ok) refl;
+          (λ set. Ok (more_rows h epochs tag power sats (Some c.args.number) names (at + 1) set)) set _ _ _ bytes c.in_ok-line.ensures
+          (admit_mine kept h epochs tag power sats c.args.number names at values bytes c.requires less) (sym c.in-Ok.ensures.ok) refl;
       same = c.loop-at.invariant.same;
       less = omega (arith, fewer, c.loop-at.invariant.less);
       end = c.loop-at.invariant.end;

@@ -1,4 +1,5 @@
 use Rattle.std.proofs.Common.{◌≡◌, ◌+◌, ◌∷◌, ℕ, List, Option, None, drop, get_or, refl, ap, ◌∙◌, subst, arith}
+use Rattle.std.proofs.lemmas.Result.{err_from_is_err_and}
 use Rattle.std.proofs.lemmas.List.{drop_more}
 use Rattle.rinex_head.specs.Walk.{rest_gives}
 use Rattle.rinex_head.proofs.Walks.{handed_on}
@@ -15,15 +16,16 @@ loop-name-init c = record {
   less = omega arith;
 }
 
-pub returns-in-Err-clause-reads : goal.returns-in-Err-clause-reads
-returns-in-Err-clause-reads c = λ epochs tag power.
+pub returns-in_err-read_satellite-clause-reads : goal.returns-in_err-read_satellite-clause-reads
+returns-in_err-read_satellite-clause-reads c = λ epochs tag power.
     let h = c.args.header.now in
     let names = c.args.names.now in
     let i = c.loop-name.name-index in
     let later = drop (i + 1) names in
     let split : drop i names ≡ get_or names i None ∷ later = drop_more names i None c.loop-name-test.true in
     let same = ap (λ (l : List (Option ℕ)). rest_gives obs2_rules c.loop-name.lines (more_sats h epochs tag power c.loop-name.sats l)) split in
-    handed_on _ _ c.in-Err.fault (c.loop-name.invariant.reads epochs tag power ∙ same) (c.in-Err.ensures.reads epochs tag power later)
+    let p = err_from_is_err_and c.from_residual.result c.from_residual.ensures.1 in
+    rw (p.1, p.2) (handed_on _ _ c.in_err-read_satellite.field-0.0 (c.loop-name.invariant.reads epochs tag power ∙ same) (c.in_err-read_satellite.ensures.reads epochs tag power later))
 
 pub loop-name-preserved : goal.loop-name-preserved
 loop-name-preserved c =
@@ -38,8 +40,8 @@ loop-name-preserved c =
     record {
       reads = λ epochs tag power. c.loop-name.invariant.reads epochs tag power
           ∙ ap (λ (l : List (Option ℕ)). rest_gives obs2_rules c.loop-name.lines (more_sats h epochs tag power c.loop-name.sats l)) split
-          ∙ c.in-Ok.ensures.reads epochs tag power later;
+          ∙ c.in_ok-read_satellite.ensures.reads epochs tag power later;
       named = names_behind name later named;
-      new = next_new name later c.loop-name.sats c.read_satellite.new.sats named new c.in-Ok.ensures.added;
-      less = omega (arith, c.in-Ok.ensures.less, c.loop-name.invariant.less);
+      new = next_new name later c.loop-name.sats c.read_satellite.new.sats named new c.in_ok-read_satellite.ensures.added;
+      less = omega (arith, c.in_ok-read_satellite.ensures.less, c.loop-name.invariant.less);
     }
