@@ -34,33 +34,35 @@ fn row_reaches(moved: &[i64; 3], rows: &[Row]) -> ArrayVec<RowReach, MOST_ROWS>
     moves
 }
 
-/// Where the residuals of these rows may lie, as a signal sees them.
+/// Puts where the residuals of these rows may lie, as a signal sees them.
 ///
-/// `moves` has what the move gives of each row, and `places` where the integer of each stands in z.
-fn reaches_of(
+/// `moves` has what the move gives of each row, and `places` where the integer of each stands in z. The room for the
+/// reaches is the caller's, since to hand them back would copy them for each signal.
+fn put_reaches(
+    reaches: &mut ArrayVec<Reach, MOST_ROWS>,
     rows: &[Row],
     moves: &[RowReach],
     places: &[Option<usize>; MOST_ROWS],
     z: &[i64],
     signal: usize,
-) -> Result<ArrayVec<Reach, MOST_ROWS>, Overwidth>
+) -> Result<(), Overwidth>
+    requires empty { reaches.old.items ≡ [] }
     requires few_rows { length rows.now ≤ MOST_ROWS }
     requires moves { length moves.now ≡ length rows.now }
     requires modest { All IsModest moves.now }
     requires places { (k : ℕ) → IfSome (slice_index_or places.now k None) (λ i. i < length z.now) }
     requires signal { signal < SIGNALS }
     requires z_size { All (IsBelow (2 ^ 30)) z.now }
-    ensures value { (arcs : List Arc) (ss : List ℕ) (m : List ℤ) → AreSeen arcs ss m signal rows.now places.now moves.now → IfOk result (λ v. v.items ≡ map (reach_of arcs ss z.now m signal) rows.now) }
-    ensures length { IfOk result (λ v. length v.items ≡ length rows.now) }
-    ensures narrow { IfOk result (λ v. All IsNarrow v.items) }
+    ensures value { (arcs : List Arc) (ss : List ℕ) (m : List ℤ) → AreSeen arcs ss m signal rows.now places.now moves.now → OnOk result (reaches.new.items ≡ map (reach_of arcs ss z.now m signal) rows.now) }
+    ensures length { OnOk result (length reaches.new.items ≡ length rows.now) }
+    ensures narrow { OnOk result (All IsNarrow reaches.new.items) }
     ensures place { IfErr result (λ e. e.place ≡ Place.Sum) }
     ensures wide { (arcs : List Arc) (ss : List ℕ) (m : List ℤ) → AreSeen arcs ss m signal rows.now places.now moves.now → OnErr result (IsWideFor arcs ss z.now m rows.now signal) }
 {
-    let mut reaches = ArrayVec::new();
     for k in 0..rows.len() {
         reaches.push(reach_at(&rows[k], moves[k], z, places[k], signal)?);
     }
-    Ok(reaches)
+    Ok(())
 }
 
 /// The upper sum of a pair's rows as one signal sees them.
@@ -84,7 +86,8 @@ fn signal_upper(
     ensures narrow { (arcs : List Arc) (ss : List ℕ) (m : List ℤ) → AreSeen arcs ss m signal pair.now.rows places.now moves.now → OnOk result (IsWideFor arcs ss z.now m pair.now.rows signal → ⊥) }
 {
     let rows = pair.rows.as_slice();
-    let reaches = reaches_of(rows, moves, places, z, signal)?;
+    let mut reaches = ArrayVec::new();
+    put_reaches(&mut reaches, rows, moves, places, z, signal)?;
     Ok(share(rows.len(), signal) as i128 * gaps(reaches.as_slice()))
 }
 

@@ -48,7 +48,8 @@ signal_upper-requires-clause-places c =
     let s : ℕ = get_or ss c.loop-signal.signal-index 0 in
     let rows : List Row = c.as_slice-rows.result.now in
     let are : ArePlaces c.args.arcs.now c.args.signals.now s c.as_slice-rows.result.now c.places_of-places.result =
-    are_places c.args.arcs.now ss s rows c.first_places-firsts.result c.places_of-places.result c.phase_place.result c.phase_place.ensures c.first_places-firsts.ensures.value c.places_of-places.ensures in
+    are_places c.args.arcs.now ss s rows c.first_places-firsts.result c.places_of-places.result c.phase_place.result c.phase_place.ensures
+    c.first_places-firsts.ensures.value c.places_of-places.ensures in
     subst (λ (n : ℕ). (k : ℕ) → IfSome (slice_index_or c.places_of-places.result k None) (λ i. i < n)) (sym c.requires.entries)
     (are_within c.args.arcs.now ss s rows c.first_places-firsts.result c.places_of-places.result c.phase_place.result are c.first_places-firsts.ensures.none c.places_of-places.ensures)
 
@@ -57,7 +58,8 @@ returns-in_err-sum-clause-refused c =
     let k : ℕ = c.loop-signal.signal-index in
     let inside : k < length c.args.signals.now = search rules in
     let x : ℕ = get_or c.args.signals.now k 0 in
-    let told : AreSeen c.args.arcs.now c.args.signals.now c.args.moved.now (get_or c.args.signals.now c.loop-signal.signal-index 0) c.args.pair.now.rows c.places_of-places.result c.as_slice.result.now =
+    let told : AreSeen c.args.arcs.now c.args.signals.now c.args.moved.now (get_or c.args.signals.now c.loop-signal.signal-index 0) c.args.pair.now.rows
+    c.places_of-places.result c.as_slice.result.now =
     seen c.args.arcs.now c.args.signals.now c.args.moved.now (get_or c.args.signals.now c.loop-signal.signal-index 0) c.as_slice-rows.result.now c.args.pair.now.rows
     c.first_places-firsts.result c.places_of-places.result c.phase_place.result c.row_reaches-moves.result.items c.as_slice.result.now c.as_slice-rows.ensures c.phase_place.ensures
     c.first_places-firsts.ensures.value c.places_of-places.ensures c.row_reaches-moves.ensures.value c.as_slice.ensures.value in
@@ -70,7 +72,8 @@ loop-signal-preserved c =
     let f : ℕ → ℤ = signal_upper c.args.arcs.now signals c.args.z.now c.args.moved.now c.args.pair.now in
     let inside : k < length signals = search rules in
     let few = c.requires.counted.few in
-    let told : AreSeen c.args.arcs.now c.args.signals.now c.args.moved.now (get_or c.args.signals.now c.loop-signal.signal-index 0) c.args.pair.now.rows c.places_of-places.result c.as_slice.result.now =
+    let told : AreSeen c.args.arcs.now c.args.signals.now c.args.moved.now (get_or c.args.signals.now c.loop-signal.signal-index 0) c.args.pair.now.rows
+    c.places_of-places.result c.as_slice.result.now =
     seen c.args.arcs.now c.args.signals.now c.args.moved.now (get_or c.args.signals.now c.loop-signal.signal-index 0) c.as_slice-rows.result.now c.args.pair.now.rows
     c.first_places-firsts.result c.places_of-places.result c.phase_place.result c.row_reaches-moves.result.items c.as_slice.result.now c.as_slice-rows.ensures c.phase_place.ensures
     c.first_places-firsts.ensures.value c.places_of-places.ensures c.row_reaches-moves.ensures.value c.as_slice.ensures.value in

@@ -18,17 +18,17 @@ weighted_rows all rows reaches k g told same some few from to g_from g_to = weig
     (subst (λ (n : ℕ). 1 ≤ n) (sym (ap length told)) some) (subst (λ (n : ℕ). n ≤ 15) (sym (ap length told)) few) from to g_from
     (subst (λ (n : ℕ). g ≤ℤ pos (n * 2 ^ 72)) same g_to)
 
-pub returns-in_err-reaches-clause-wide : goal.returns-in_err-reaches-clause-wide
-returns-in_err-reaches-clause-wide c = λ arcs ss m seen.
+pub returns-in_err-put_reaches-clause-wide : goal.returns-in_err-put_reaches-clause-wide
+returns-in_err-put_reaches-clause-wide c = λ arcs ss m seen.
     let told : AreSeen arcs ss m c.args.signal c.as_slice-rows.result.now c.args.places.now c.args.moves.now =
     subst (λ (l : List Row). AreSeen arcs ss m c.args.signal l c.args.places.now c.args.moves.now) (sym c.as_slice-rows.ensures) seen in
     on_err c.from_residual.result
-    (subst (λ (l : List Row). IsWideFor arcs ss c.args.z.now m l c.args.signal) c.as_slice-rows.ensures (c.in_err-reaches.ensures.wide arcs ss m told))
+    (subst (λ (l : List Row). IsWideFor arcs ss c.args.z.now m l c.args.signal) c.as_slice-rows.ensures (c.in_err-put_reaches.ensures.wide arcs ss m told))
 
 pub overflow_mul-result : goal.overflow_mul-result
 overflow_mul-result c = fits_product c.share.result c.gaps.result
     (weighted_rows c.as_slice-rows.result.now c.args.pair.now.rows c.as_slice.result.now c.share.result c.gaps.result c.as_slice-rows.ensures
-    (ap length c.as_slice.ensures.value ∙ c.in_ok-reaches.ensures.length)
+    (ap length c.as_slice.ensures.value ∙ c.in_ok-put_reaches.ensures.length)
     c.args.pair.now.some_rows c.args.pair.now.few_rows c.share.ensures.from c.share.ensures.to c.gaps.ensures.from c.gaps.ensures.to)
 
 pub returns-clause-value : goal.returns-clause-value
@@ -36,10 +36,10 @@ returns-clause-value c = λ arcs ss m seen.
     let f : Row → Reach = reach_of arcs ss c.args.z.now m c.args.signal in
     let told : AreSeen arcs ss m c.args.signal c.as_slice-rows.result.now c.args.places.now c.args.moves.now =
     subst (λ (l : List Row). AreSeen arcs ss m c.args.signal l c.args.places.now c.args.moves.now) (sym c.as_slice-rows.ensures) seen in
-    let same : c.as_slice.result.now ≡ map f c.as_slice-rows.result.now = c.as_slice.ensures.value ∙ c.in_ok-reaches.ensures.value arcs ss m told in
+    let same : c.as_slice.result.now ≡ map f c.as_slice-rows.result.now = c.as_slice.ensures.value ∙ c.in_ok-put_reaches.ensures.value arcs ss m told in
     product_word c.share.result c.gaps.result
     (weighted_rows c.as_slice-rows.result.now c.args.pair.now.rows c.as_slice.result.now c.share.result c.gaps.result c.as_slice-rows.ensures
-    (ap length c.as_slice.ensures.value ∙ c.in_ok-reaches.ensures.length)
+    (ap length c.as_slice.ensures.value ∙ c.in_ok-put_reaches.ensures.length)
     c.args.pair.now.some_rows c.args.pair.now.few_rows c.share.ensures.from c.share.ensures.to c.gaps.ensures.from c.gaps.ensures.to)
     ∙ ap₂ (λ (a b : ℤ). a *ℤ b) (c.share.ensures.value ∙ ap (λ (l : List Row). share (length l) c.args.signal) c.as_slice-rows.ensures)
     (c.gaps.ensures.value ∙ ap gaps (same ∙ ap (map f) c.as_slice-rows.ensures))
@@ -48,7 +48,7 @@ pub returns-clause-from : goal.returns-clause-from
 returns-clause-from c =
     let w : Weighted c.share.result c.gaps.result =
     weighted_rows c.as_slice-rows.result.now c.args.pair.now.rows c.as_slice.result.now c.share.result c.gaps.result c.as_slice-rows.ensures
-    (ap length c.as_slice.ensures.value ∙ c.in_ok-reaches.ensures.length)
+    (ap length c.as_slice.ensures.value ∙ c.in_ok-put_reaches.ensures.length)
     c.args.pair.now.some_rows c.args.pair.now.few_rows c.share.ensures.from c.share.ensures.to c.gaps.ensures.from c.gaps.ensures.to in
     subst (λ (x : ℤ). pos 0 ≤ℤ x) (sym (product_word c.share.result c.gaps.result w)) w.from
 
@@ -56,7 +56,7 @@ pub returns-clause-to : goal.returns-clause-to
 returns-clause-to c =
     let w : Weighted c.share.result c.gaps.result =
     weighted_rows c.as_slice-rows.result.now c.args.pair.now.rows c.as_slice.result.now c.share.result c.gaps.result c.as_slice-rows.ensures
-    (ap length c.as_slice.ensures.value ∙ c.in_ok-reaches.ensures.length)
+    (ap length c.as_slice.ensures.value ∙ c.in_ok-put_reaches.ensures.length)
     c.args.pair.now.some_rows c.args.pair.now.few_rows c.share.ensures.from c.share.ensures.to c.gaps.ensures.from c.gaps.ensures.to in
     subst (λ (x : ℤ). x ≤ℤ pos (2 ^ 104)) (sym (product_word c.share.result c.gaps.result w)) w.to
 
@@ -65,4 +65,4 @@ returns-clause-narrow c = λ arcs ss m seen.
     let f : Row → Reach = reach_of arcs ss c.args.z.now m c.args.signal in
     let told : AreSeen arcs ss m c.args.signal c.as_slice-rows.result.now c.args.places.now c.args.moves.now =
     subst (λ (l : List Row). AreSeen arcs ss m c.args.signal l c.args.places.now c.args.moves.now) (sym c.as_slice-rows.ensures) seen in
-    narrow_not_wide f c.args.pair.now.rows (subst (All IsNarrow) (c.in_ok-reaches.ensures.value arcs ss m told ∙ ap (map f) c.as_slice-rows.ensures) c.in_ok-reaches.ensures.narrow)
+    narrow_not_wide f c.args.pair.now.rows (subst (All IsNarrow) (c.in_ok-put_reaches.ensures.value arcs ss m told ∙ ap (map f) c.as_slice-rows.ensures) c.in_ok-put_reaches.ensures.narrow)

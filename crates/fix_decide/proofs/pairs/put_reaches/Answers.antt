@@ -1,6 +1,6 @@
 use Rattle.std.proofs.Common.{◌≡◌, ◌^◌, ◌≤◌, ◌++◌, ◌∷◌, [], List, length, map, get_or, All, pos, ◌≤ℤ◌, arith, sym, ap, ap₂, ◌∙◌, subst, rules}
 use Rattle.std.proofs.lemmas.List.{map_more, take_all}
-use Rattle.std.proofs.lemmas.List.Elements.{All-push}
+use Rattle.std.proofs.lemmas.List.Elements.{All-push, All-nil}
 use Rattle.obs_rows.specs.declared.rows.Row.{Row}
 use Rattle.fix_decide.specs.declared.reaches.Reach.{Reach}
 use Rattle.fix_decide.specs.declared.reaches.RowReach.{RowReach}
@@ -8,10 +8,17 @@ use Rattle.fix_decide.specs.Reaches.{extent, IsNarrow}
 use Rattle.fix_decide.specs.UpperSums.{reach_of}
 use Rattle.fix_decide.proofs.Wide.{on_err}
 use Rattle.fix_decide.proofs.RowReachLaws.{seen_row}
-use Rattle.fix_decide.proofs.pairs.reaches_of.Goals as goal
+use Rattle.fix_decide.proofs.pairs.put_reaches.Goals as goal
 
 abbrev none : RowReach
 none = record { advance = pos 0; rad = pos 0 }
+
+pub loop-k-init : goal.loop-k-init
+loop-k-init c = record {
+  value = λ arcs ss m seen. c.requires.empty;
+  full = ap length c.requires.empty;
+  narrow = subst (All IsNarrow) (sym c.requires.empty) (All-nil IsNarrow);
+}
 
 pub returns-in_err-reach_at-clause-wide : goal.returns-in_err-reach_at-clause-wide
 returns-in_err-reach_at-clause-wide c = λ arcs ss m seen.

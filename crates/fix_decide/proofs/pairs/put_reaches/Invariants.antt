@@ -3,7 +3,7 @@ use Rattle.obs_rows.specs.declared.arcs.Arc.{Arc}
 use Rattle.fix_decide.specs.Reaches.{IsNarrow}
 use Rattle.fix_decide.specs.RowReaches.{AreSeen}
 use Rattle.fix_decide.specs.UpperSums.{reach_of}
-use Rattle.fix_decide.proofs.pairs.reaches_of.Given as goal
+use Rattle.fix_decide.proofs.pairs.put_reaches.Given as goal
 
 abbrev pub invariant-loop-k : goal.invariant-loop-k
 invariant-loop-k l = record {
