@@ -3,6 +3,7 @@ pub mod GapSums
 pub mod Radii
 pub mod Wide
 pub mod Products
+pub mod RowReachLaws
 pub mod UpperLaws
 pub mod SessionForms
 pub mod DecisionLaws

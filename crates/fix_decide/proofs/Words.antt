@@ -11,6 +11,11 @@ radius_word y u h g k = omega (arith, ints)
 pub difference_word : (a b : ℤ) → unsigned_abs a ≤ 2 ^ 60 → unsigned_abs b ≤ 2 ^ 60 → to_z w64 (of_z w64 (to_z w64 (of_z w64 a) -ℤ to_z w64 (of_z w64 b))) ≡ a -ℤ b
 difference_word a b h g = omega (arith, ints)
 
+-- y - a - λ · N
+pub centre_word : (y a n : ℤ) → unsigned_abs y ≤ 2 ^ 34 → unsigned_abs a ≤ 2 ^ 56 → unsigned_abs n ≤ 2 ^ 55 →
+    to_z w64 (of_z w64 (to_z w64 (of_z w64 (to_z w64 (of_z w64 y) -ℤ to_z w64 (of_z w64 a))) -ℤ to_z w64 (of_z w64 n))) ≡ (y -ℤ a) -ℤ n
+centre_word y a n h g k = omega (arith, ints)
+
 -- a running sum of numbers from 0 on
 pub sum_word : (s q : ℤ) → pos 0 ≤ℤ s → s ≤ℤ pos (2 ^ 125) → pos 0 ≤ℤ q → q ≤ℤ pos (2 ^ 125) → to_z w128 (of_z w128 (s +ℤ to_z w128 (of_z w128 q))) ≡ s +ℤ q
 sum_word s q h g i j = omega (arith, ints)

@@ -1,20 +1,22 @@
 //! Where the residual of a row may lie, whatever the data in its boxes are.
-ghost use Rattle.std.specs.Prelude.{◌≡◌, ◌+◌, ◌*◌, ◌^◌, ◌<◌, ◌≤◌, map, length, All, pos, ◌+ℤ◌, ◌-ℤ◌, ◌*ℤ◌, ◌≤ℤ◌, unsigned_abs, IfOk, IfErr, OnErr};
-ghost use Rattle.whole_math.specs.Rounding.{floor_div, ceil_div};
+ghost use Rattle.std.specs.Prelude.{◌≡◌, ◌+◌, ◌*◌, ◌^◌, ◌<◌, ◌≤◌, map, length, All, pos, ◌+ℤ◌, ◌-ℤ◌, ◌*ℤ◌, ◌≤ℤ◌, unsigned_abs, IfSome, IfOk, IfErr, OnErr};
+ghost use Rattle.whole_math.specs.Rounding.{ceil_div};
 ghost use Rattle.obs_rows.specs.declared.units.TheConstants.{MOST_FREE_ARCS};
 ghost use Rattle.obs_rows.specs.Arcs.{free_count};
 ghost use Rattle.obs_rows.specs.Ranges.{IsWithin, IsBelow, IsRadius};
 ghost use Rattle.obs_rows.specs.Signals.{cycle, AreCounted};
 ghost use Rattle.obs_rows.specs.Integers.{integer_count};
+ghost use Rattle.obs_rows.specs.Data.{number_at};
 ghost use Rattle.obs_rows.specs.Best.{move_exponent};
 ghost use Rattle.quadratic_form.specs.UpperSum.{size};
 ghost use Rattle.fix_decide.specs.Reaches.{IsNarrow, extent};
-ghost use Rattle.fix_decide.specs.UpperSums.{scalar_product, centre, rad, reach_of};
+ghost use Rattle.fix_decide.specs.UpperSums.{scalar_product, centre, rad};
+ghost use Rattle.fix_decide.specs.RowReaches.{IsModest, row_reach, reach_at};
 
-use crate::integers::integer_of;
+use crate::integers::{integer_at, integer_of};
 use integer_form::{Overwidth, Place};
 use obs_rows::{Arc, DIRECTION_EXPONENT, MOVE_EXPONENT, ROW_EXPONENT, Row, SIGNALS, WAVELENGTHS};
-use whole_math::{ceil_shift, floor_shift};
+use whole_math::ceil_shift;
 
 /// A direction times a move is in 2^-16 of the unit of a row.
 const FINER: u32 = MOVE_EXPONENT + DIRECTION_EXPONENT - ROW_EXPONENT;
@@ -26,6 +28,14 @@ const WIDE: i64 = 1 << 33;
 #[derive(Clone, Copy, Debug, Default)]
 pub(crate) struct Reach {
     pub(crate) centre: i64,
+    pub(crate) rad: i64,
+}
+
+/// What a move gives of a row, the same for each signal: how far it brings the row, and how far from its centre the
+/// residual may lie, in the unit of the rows.
+#[derive(Clone, Copy, Debug, Default)]
+pub(crate) struct RowReach {
+    pub(crate) advance: i64,
     pub(crate) rad: i64,
 }
 
@@ -60,15 +70,6 @@ fn scalar_product(u: &[i64; 3], m: &[i64; 3]) -> i128
     plus(times(u[0], m[0]), rest)
 }
 
-/// ⌊n / 2^16⌋
-fn rounded_down(n: i128) -> i64
-    requires { unsigned_abs n ≤ 2 ^ 72 }
-    ensures value { result ≡ floor_div n (2 ^ move_exponent) }
-    ensures size { unsigned_abs result ≤ 2 ^ 56 }
-{
-    floor_shift(n, FINER) as i64
-}
-
 /// ⌈n / 2^16⌉
 fn rounded_up(n: i128) -> i64
     requires { unsigned_abs n ≤ 2 ^ 72 }
@@ -76,6 +77,16 @@ fn rounded_up(n: i128) -> i64
     ensures size { unsigned_abs result ≤ 2 ^ 56 }
 {
     ceil_shift(n, FINER) as i64
+}
+
+/// ⌈u · m / 2^16⌉
+fn rounded_product(u: &[i64; 3], m: &[i64; 3]) -> i64
+    requires u_size { All (IsWithin (2 ^ 24)) u.now }
+    requires m_size { All (IsWithin (2 ^ 46)) m.now }
+    ensures value { result ≡ ceil_div (scalar_product u.now m.now) (2 ^ move_exponent) }
+    ensures size { unsigned_abs result ≤ 2 ^ 56 }
+{
+    rounded_up(scalar_product(u, m))
 }
 
 /// |n|
@@ -106,14 +117,17 @@ fn cycles(signal: usize, integer: i64) -> i64
     WAVELENGTHS[signal] * (1 << ROW_EXPONENT) * integer
 }
 
-/// y - u · m, in 2^-16 of the unit of the rows.
-fn finer(y: i64, advance: i128) -> i128
-    requires y_size { unsigned_abs y ≤ 2 ^ 34 }
-    requires size { unsigned_abs advance ≤ 3 * 2 ^ 70 }
-    ensures value { result ≡ (y *ℤ pos (2 ^ move_exponent)) -ℤ advance }
-    ensures size { unsigned_abs result ≤ 2 ^ 72 }
+/// The residual of the centres of a row's boxes, rounded down, where a move brings the row so far.
+///
+/// y is whole in the unit of the rows, so ⌊y - u · m / 2^16⌋ is y - ⌈u · m / 2^16⌉.
+fn centre_at(row: &Row, signal: usize, advance: i64, integer: i64) -> i64
+    requires signal { signal < SIGNALS }
+    requires advance_size { unsigned_abs advance ≤ 2 ^ 56 }
+    requires integer_size { unsigned_abs integer ≤ 2 ^ 30 }
+    ensures value { result ≡ (number_at row.now.y signal -ℤ advance) -ℤ (cycle signal *ℤ integer) }
+    ensures size { unsigned_abs result ≤ 2 ^ 57 }
 {
-    y as i128 * (1 << FINER) - advance
+    row.y[signal] - advance - cycles(signal, integer)
 }
 
 /// The residual of the centres of the boxes, rounded down, in the unit of the rows, at the integers z of these signals and a
@@ -137,8 +151,7 @@ pub fn centre_of(
     ensures size { unsigned_abs result ≤ 2 ^ 57 }
 {
     let integer = integer_of(arcs, signals, z, row.arc as usize, signal);
-    let residual = finer(row.y[signal], scalar_product(&row.u, moved));
-    rounded_down(residual) - cycles(signal, integer)
+    centre_at(row, signal, rounded_product(&row.u, moved), integer)
 }
 
 /// How far from there the residual may lie.
@@ -148,35 +161,44 @@ fn radius_of(moved: &[i64; 3], row: &Row) -> i64
     ensures from { pos 0 ≤ℤ result }
     ensures to { result ≤ℤ pos (2 ^ 57) }
 {
-    let spread = scalar_product(&row.ru, &sizes(moved));
-    row.ry + rounded_up(spread) + 1
+    row.ry + rounded_product(&row.ru, &sizes(moved)) + 1
 }
 
-/// Where the residual of a row may lie, as a signal sees it.
-pub(crate) fn reach_of(
-    arcs: &[Arc],
-    signals: &[usize],
-    z: &[i64],
-    moved: &[i64; 3],
+/// What a move gives of a row.
+pub(crate) fn row_reach(moved: &[i64; 3], row: &Row) -> RowReach
+    requires { All (IsWithin (2 ^ 46)) moved.now }
+    ensures value { result ≡ row_reach moved.now row.now }
+    ensures modest { IsModest result }
+{
+    RowReach {
+        advance: rounded_product(&row.u, moved),
+        rad: radius_of(moved, row),
+    }
+}
+
+/// Where the residual of a row may lie, as a signal sees it whose integer has this place.
+pub(crate) fn reach_at(
     row: &Row,
+    moved: RowReach,
+    z: &[i64],
+    place: Option<usize>,
     signal: usize,
 ) -> Result<Reach, Overwidth>
-    requires arc { row.now.arc < length arcs.now }
+    requires moved { IsModest moved }
+    requires within { IfSome place (λ i. i < length z.now) }
     requires signal { signal < SIGNALS }
-    requires free { free_count arcs.now ≤ MOST_FREE_ARCS }
-    requires counted { AreCounted signals.now }
-    requires entries { length z.now ≡ integer_count arcs.now signals.now }
     requires z_size { All (IsBelow (2 ^ 30)) z.now }
-    requires moved_size { All (IsWithin (2 ^ 46)) moved.now }
-    ensures value { IfOk result (λ p. p ≡ reach_of arcs.now signals.now z.now moved.now signal row.now) }
+    ensures value { IfOk result (λ p. p ≡ reach_at z.now signal row.now moved place) }
     ensures narrow { IfOk result IsNarrow }
     ensures place { IfErr result (λ e. e.place ≡ Place.Sum) }
-    ensures wide { OnErr result (pos (2 ^ 33) ≤ℤ extent (reach_of arcs.now signals.now z.now moved.now signal row.now)) }
+    ensures wide { OnErr result (pos (2 ^ 33) ≤ℤ extent (reach_at z.now signal row.now moved place)) }
 {
-    let centre = centre_of(arcs, signals, z, moved, row, signal);
-    let rad = radius_of(moved, row);
-    if size(centre) + rad >= WIDE {
+    let centre = centre_at(row, signal, moved.advance, integer_at(z, place));
+    if size(centre) + moved.rad >= WIDE {
         return Err(Overwidth { place: Place::Sum });
     }
-    Ok(Reach { centre, rad })
+    Ok(Reach {
+        centre,
+        rad: moved.rad,
+    })
 }

@@ -1,9 +1,7 @@
-use Rattle.std.proofs.Common.{◌≡◌, ◌^◌, ◌<◌, ◌≤◌, length, map, ℤ, pos, ◌+ℤ◌, ◌≤ℤ◌, unsigned_abs, to_z, of_z, arith, sym, ap, ◌∙◌, subst, rules}
+use Rattle.std.proofs.Common.{◌≡◌, ◌^◌, ◌<◌, ◌≤◌, List, length, map, ℤ, pos, ◌+ℤ◌, ◌≤ℤ◌, unsigned_abs, arith, sym, ap, ◌∙◌, subst, rules}
 use Rattle.std.proofs.lemmas.Int.{ints}
-use Rattle.std.specs.Int.{w128}
 use Rattle.whole_math.specs.Rounding.{ceil_div}
 use Rattle.quadratic_form.specs.UpperSum.{size}
-use Rattle.whole_math.proofs.Words.{as_w128}
 use Rattle.fix_decide.specs.UpperSums.{scalar_product}
 use Rattle.fix_decide.proofs.Words.{radius_word}
 use Rattle.fix_decide.proofs.Radii.{product_nonneg, ceil_nonneg}
@@ -19,32 +17,29 @@ pub overflow_add-result-2 : goal.overflow_add-result-2
 overflow_add-result-2 c =
     let r0 = c.args.row.now.ry_in.0 in
     let r1 = c.args.row.now.ry_in.1 in
-    omega (arith, ints, c.rounded_up.ensures.size)
+    omega (arith, ints, c.rounded_product.ensures.size)
 
 pub returns-clause-value : goal.returns-clause-value
 returns-clause-value c =
-    let s : ℤ = c.scalar_product-spread.result in
-    let e : to_z w128 (of_z w128 s) ≡ scalar_product c.args.row.now.ru (map size c.args.moved.now) =
-    as_w128 s (omega (arith, c.scalar_product-spread.ensures.size)) ∙ c.scalar_product-spread.ensures.value ∙ ap (scalar_product c.args.row.now.ru) c.sizes.ensures.value in
-    radius_word c.args.row.now.ry c.rounded_up.result c.args.row.now.ry_in.0 c.args.row.now.ry_in.1 c.rounded_up.ensures.size
-    ∙ ap (λ u. (c.args.row.now.ry +ℤ u) +ℤ pos 1) (c.rounded_up.ensures.value ∙ ap (λ x. ceil_div x (2 ^ 16)) e)
+    let ru : List ℤ = c.args.row.now.ru in
+    radius_word c.args.row.now.ry c.rounded_product.result c.args.row.now.ry_in.0 c.args.row.now.ry_in.1 c.rounded_product.ensures.size
+    ∙ ap (λ u. (c.args.row.now.ry +ℤ u) +ℤ pos 1) (c.rounded_product.ensures.value ∙ ap (λ (l : List ℤ). ceil_div (scalar_product ru l) (2 ^ 16)) c.sizes.ensures.value)
 
 pub returns-clause-from : goal.returns-clause-from
 returns-clause-from c =
-    let s : ℤ = c.scalar_product-spread.result in
+    let ru : List ℤ = c.args.row.now.ru in
     let l0 : 0 < length c.args.row.now.ru = search rules in
     let l1 : 1 < length c.args.row.now.ru = search rules in
     let l2 : 2 < length c.args.row.now.ru = search rules in
-    let e : to_z w128 (of_z w128 s) ≡ scalar_product c.args.row.now.ru (map size c.args.moved.now) =
-    as_w128 s (omega (arith, c.scalar_product-spread.ensures.size)) ∙ c.scalar_product-spread.ensures.value ∙ ap (scalar_product c.args.row.now.ru) c.sizes.ensures.value in
-    let p : pos 0 ≤ℤ scalar_product c.args.row.now.ru (map size c.args.moved.now) =
-    product_nonneg c.args.row.now.ru c.args.moved.now (c.args.row.now.ru_in 0 (pos 0) l0).0 (c.args.row.now.ru_in 1 (pos 0) l1).0 (c.args.row.now.ru_in 2 (pos 0) l2).0 in
-    let u : pos 0 ≤ℤ c.rounded_up.result =
-    subst (λ (x : ℤ). pos 0 ≤ℤ x) (sym (c.rounded_up.ensures.value ∙ ap (λ x. ceil_div x (2 ^ 16)) e))
-    (ceil_nonneg (scalar_product c.args.row.now.ru (map size c.args.moved.now)) (2 ^ 16) p) in
-    subst (λ (x : ℤ). pos 0 ≤ℤ x) (sym (radius_word c.args.row.now.ry c.rounded_up.result c.args.row.now.ry_in.0 c.args.row.now.ry_in.1 c.rounded_up.ensures.size))
-    (at_least_one c.args.row.now.ry c.rounded_up.result c.args.row.now.ry_in.0 u)
+    let e : c.rounded_product.result ≡ ceil_div (scalar_product ru (map size c.args.moved.now)) (2 ^ 16) =
+    c.rounded_product.ensures.value ∙ ap (λ (l : List ℤ). ceil_div (scalar_product ru l) (2 ^ 16)) c.sizes.ensures.value in
+    let p : pos 0 ≤ℤ scalar_product ru (map size c.args.moved.now) =
+    product_nonneg ru c.args.moved.now (c.args.row.now.ru_in 0 (pos 0) l0).0 (c.args.row.now.ru_in 1 (pos 0) l1).0 (c.args.row.now.ru_in 2 (pos 0) l2).0 in
+    let u : pos 0 ≤ℤ c.rounded_product.result = subst (λ (x : ℤ). pos 0 ≤ℤ x) (sym e) (ceil_nonneg (scalar_product ru (map size c.args.moved.now)) (2 ^ 16) p) in
+    subst (λ (x : ℤ). pos 0 ≤ℤ x) (sym (radius_word c.args.row.now.ry c.rounded_product.result c.args.row.now.ry_in.0 c.args.row.now.ry_in.1 c.rounded_product.ensures.size))
+    (at_least_one c.args.row.now.ry c.rounded_product.result c.args.row.now.ry_in.0 u)
 
 pub returns-clause-to : goal.returns-clause-to
-returns-clause-to c = subst (λ (x : ℤ). x ≤ℤ pos (2 ^ 57)) (sym (radius_word c.args.row.now.ry c.rounded_up.result c.args.row.now.ry_in.0 c.args.row.now.ry_in.1 c.rounded_up.ensures.size))
-    (at_most c.args.row.now.ry c.rounded_up.result c.args.row.now.ry_in.0 c.args.row.now.ry_in.1 c.rounded_up.ensures.size)
+returns-clause-to c =
+    subst (λ (x : ℤ). x ≤ℤ pos (2 ^ 57)) (sym (radius_word c.args.row.now.ry c.rounded_product.result c.args.row.now.ry_in.0 c.args.row.now.ry_in.1 c.rounded_product.ensures.size))
+    (at_most c.args.row.now.ry c.rounded_product.result c.args.row.now.ry_in.0 c.args.row.now.ry_in.1 c.rounded_product.ensures.size)
