@@ -123,10 +123,10 @@ impl OpenText {
         ensures { (system : System) → Gives (gives_behind system self []) (λ file. file) result }
     {
         self.take_last(alloc)?;
-        match self.file.finish() {
-            Ok(file) => Ok(file),
-            Err(flaw) => Err(TextFault::Refused(flaw.at(self.number + 1))),
-        }
+        let end = self.number + 1;
+        self.file
+            .finish()
+            .map_err(|flaw| TextFault::Refused(flaw.at(end)))
     }
 }
 
