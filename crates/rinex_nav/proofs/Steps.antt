@@ -8,7 +8,7 @@ use Rattle.rinex_head.specs.declared.system.System.{System}
 use Rattle.rinex_head.specs.Walk.{rest_gives, ReadsFree}
 use Rattle.rinex_nav.specs.NavRules.{Expected, nav_rules}
 
-pub hands_on : (system : System) (s : Expected) (next : Raw → Expected) (old new : Reading) (r : Result Raw At) (at : At) → IsErrAnd r (λ e. e ≡ at)
+pub hands_on : {X : Type 0} (system : System) (s : Expected) (next : X → Expected) (old new : Reading) (r : Result X At) (at : At) → IsErrAnd r (λ e. e ≡ at)
     → rest_gives (nav_rules system) old s ≡ Err at → ReadsFree (nav_rules system) old new s next r
-hands_on system s next old new (Ok raw) at is given = absurd is
+hands_on system s next old new (Ok x) at is given = absurd is
 hands_on system s next old new (Err e) at is given = let err : At → Result (List Raw) At = λ a. Err a in given ∙ ap err (sym is)

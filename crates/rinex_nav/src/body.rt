@@ -20,10 +20,7 @@ fn read_quad(lines: &mut Lines<'_>, place: u8) -> Result<Quad, At>
         → ReadsFree (nav_rules system) lines.old lines.new (Further raws s quads) (λ q. behind raws s (quads ++ q ∷ [])) result }
     ensures less { length lines.new.left ≤ length lines.old.left }
 {
-    let line = match next_line(lines, What::Truncated) {
-        Ok(line) => line,
-        Err(at) => return Err(at),
-    };
+    let line = next_line(lines, What::Truncated)?;
     match continuation(line.bytes, place) {
         Ok(quad) => Ok(quad),
         Err(flaw) => Err(flaw.at(line.number)),

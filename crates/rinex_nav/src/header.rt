@@ -33,22 +33,18 @@ fn kind_of(system: System, version: Version) -> Result<(), Flaw>
 fn first_line(system: System, line: &Line<'_>) -> Result<(), At>
     ensures { result ≡ at_line line.now.number (first_line_of system line.now.bytes.now) }
 {
-    match version_of(line) {
-        Ok(version) => match kind_of(system, version) {
-            Ok(()) => Ok(()),
-            Err(flaw) => Err(flaw.at(line.number)),
-        },
-        Err(at) => Err(at),
+    let version = version_of(line)?;
+    match kind_of(system, version) {
+        Ok(()) => Ok(()),
+        Err(flaw) => Err(flaw.at(line.number)),
     }
 }
 
 fn read_first(system: System, lines: &mut Lines<'_>) -> Result<(), At>
     ensures { ReadsFree (nav_rules system) lines.old lines.new First (λ u. Head) result }
 {
-    match next_line(lines, What::Version) {
-        Ok(line) => first_line(system, &line),
-        Err(at) => Err(at),
-    }
+    let line = next_line(lines, What::Version)?;
+    first_line(system, &line)
 }
 
 fn is_last(line: &Line<'_>) -> bool
@@ -61,10 +57,7 @@ fn read_lines(lines: &mut Lines<'_>) -> Result<(), At>
     ensures { (system : System) → ReadsFree (nav_rules system) lines.old lines.new Head (λ u. Body [] false) result }
 {
     'header: loop {
-        let line = match next_line(lines, What::NoEnd) {
-            Ok(line) => line,
-            Err(at) => return Err(at),
-        };
+        let line = next_line(lines, What::NoEnd)?;
         if is_last(&line) {
             return Ok(());
         }
@@ -75,8 +68,6 @@ fn read_lines(lines: &mut Lines<'_>) -> Result<(), At>
 pub fn read_header(system: System, lines: &mut Lines<'_>) -> Result<(), At>
     ensures { ReadsFree (nav_rules system) lines.old lines.new First (λ u. Body [] false) result }
 {
-    match read_first(system, lines) {
-        Ok(()) => read_lines(lines),
-        Err(at) => Err(at),
-    }
+    read_first(system, lines)?;
+    read_lines(lines)
 }

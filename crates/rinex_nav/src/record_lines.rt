@@ -121,10 +121,7 @@ fn first_line(system: System, line: &[u8], count: usize) -> Result<BodyLine, Fla
     if count >= MOST {
         return Err(flaw(1, What::TooMany));
     }
-    match first_part(system, line) {
-        Ok(start) => Ok(BodyLine::Record(start)),
-        Err(flaw) => Err(flaw),
-    }
+    Ok(BodyLine::Record(first_part(system, line)?))
 }
 
 /// What a line says where a record may begin behind so many records of the system, the last record of another system or not.

@@ -10,7 +10,6 @@ use Rattle.rinex_head.specs.Walk.{walk}
 use Rattle.rinex_head.proofs.Walks.{walk-takes, walk-end}
 use Rattle.obs_fields.specs.Types.{kept_from}
 use Rattle.rinex_obs.specs.declared.header.Header.{Header}
-use Rattle.obs_fields.specs.declared.header_line.HeaderLine.TheVariants as header
 use Rattle.rinex_obs.specs.ObsRules.{First, Head, Body, Sats, Skip, so_far, bare_header, whole_header, file_of, epoch_of, more_sats, more_lines, admit, obs_rules}
 use Rattle.obs_fields.specs.HeadParts.{head_lines, last_position, last_delta}
 use Rattle.obs_fields.proofs.HeaderLaws.{regroup, header_given}

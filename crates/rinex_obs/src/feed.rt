@@ -67,13 +67,9 @@ impl OpenText {
             Err(Overlong) => return Err(TextFault::Refused(long_line(self.number))),
         }
         let line = without_return(self.line.as_slice());
-        match take_line(alloc, &mut self.file, self.number, line) {
-            Ok(()) => {
-                self.line.clear();
-                Ok(())
-            }
-            Err(fault) => Err(fault),
-        }
+        take_line(alloc, &mut self.file, self.number, line)?;
+        self.line.clear();
+        Ok(())
     }
 
     // The line that has begun goes on with these bytes.
@@ -98,10 +94,8 @@ impl OpenText {
     {
         let mut rest = piece;
         'lines: while let Some((bytes, behind)) = split_line(rest) {
-            match self.end_line(alloc, bytes) {
-                Ok(()) => rest = behind,
-                Err(fault) => return Err(fault),
-            }
+            self.end_line(alloc, bytes)?;
+            rest = behind;
         }
         match self.go_on(rest) {
             Ok(()) => Ok(()),
@@ -128,14 +122,11 @@ impl OpenText {
         requires { self.number ≤ 67108864 }
         ensures { (system : System) → Gives (gives_behind system self []) (λ file. file) result }
     {
-        match self.take_last(alloc) {
-            Ok(()) => {}
-            Err(fault) => return Err(fault),
-        }
-        match self.file.finish() {
-            Ok(file) => Ok(file),
-            Err(flaw) => Err(TextFault::Refused(flaw.at(self.number + 1))),
-        }
+        self.take_last(alloc)?;
+        let end = self.number + 1;
+        self.file
+            .finish()
+            .map_err(|flaw| TextFault::Refused(flaw.at(end)))
     }
 }
 

@@ -76,8 +76,6 @@ impl OpenFile {
 fn begin_body(alloc: Global, header: Header) -> Result<OpenBody, AllocError>
     ensures { IfOk result (λ body. expected_in_body body ≡ Body header []) }
 {
-    match kept_types(alloc, header.system, &header.types) {
-        Ok(kept) => Ok(OpenBody::new(alloc, header, kept)),
-        Err(AllocError) => Err(AllocError),
-    }
+    let kept = kept_types(alloc, header.system, &header.types)?;
+    Ok(OpenBody::new(alloc, header, kept))
 }

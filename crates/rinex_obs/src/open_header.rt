@@ -45,10 +45,10 @@ impl OpenHeader {
         ensures err { IfErr result (λ flaw. admit (expected_in_header self.old) line.now.bytes.now ≡ Err flaw) }
     {
         match self.list.take() {
-            Some(list) => match self.take_further(line, list) {
-                Ok(()) => Ok(None),
-                Err(flaw) => Err(flaw),
-            },
+            Some(list) => {
+                self.take_further(line, list)?;
+                Ok(None)
+            }
             None => self.take_other(line),
         }
     }
@@ -60,13 +60,9 @@ impl OpenHeader {
         ensures ok { OnOk result (admit (More (said_so_far self.old) list.names list.left) line.now.bytes.now ≡ Ok (expected_in_header self.new)) }
         ensures err { IfErr result (λ flaw. admit (More (said_so_far self.old) list.names list.left) line.now.bytes.now ≡ Err flaw) }
     {
-        match further_types(Layout::Rinex3, line, list) {
-            Ok(list) => {
-                self.expect_types(list);
-                Ok(())
-            }
-            Err(flaw) => Err(flaw),
-        }
+        let list = further_types(Layout::Rinex3, line, list)?;
+        self.expect_types(list);
+        Ok(())
     }
 
     fn take_other(&mut self, line: &Line<'_>) -> Result<Option<Header>, Flaw>
@@ -74,25 +70,21 @@ impl OpenHeader {
         ensures ok { IfOk result (λ found. admit (Head (said_so_far self.old)) line.now.bytes.now ≡ Ok (behind_line self.new found)) }
         ensures err { IfErr result (λ flaw. admit (Head (said_so_far self.old)) line.now.bytes.now ≡ Err flaw) }
     {
-        match header_line(self.system, line) {
-            Ok(HeaderLine::Skipped) => Ok(None),
-            Ok(HeaderLine::Position(found)) => {
+        match header_line(self.system, line)? {
+            HeaderLine::Skipped => Ok(None),
+            HeaderLine::Position(found) => {
                 self.position = found;
                 Ok(None)
             }
-            Ok(HeaderLine::Delta(found)) => {
+            HeaderLine::Delta(found) => {
                 self.delta = found;
                 Ok(None)
             }
-            Ok(HeaderLine::Types) => match self.begin_list(line.bytes) {
-                Ok(()) => Ok(None),
-                Err(flaw) => Err(flaw),
-            },
-            Ok(HeaderLine::End) => match self.end() {
-                Ok(header) => Ok(Some(header)),
-                Err(flaw) => Err(flaw),
-            },
-            Err(flaw) => Err(flaw),
+            HeaderLine::Types => {
+                self.begin_list(line.bytes)?;
+                Ok(None)
+            }
+            HeaderLine::End => Ok(Some(self.end()?)),
         }
     }
 
@@ -105,13 +97,9 @@ impl OpenHeader {
         if self.types.is_some() {
             return Err(flaw(1, What::Types));
         }
-        match first_types(Layout::Rinex3, line) {
-            Ok(list) => {
-                self.expect_types(list);
-                Ok(())
-            }
-            Err(flaw) => Err(flaw),
-        }
+        let list = first_types(Layout::Rinex3, line)?;
+        self.expect_types(list);
+        Ok(())
     }
 
     // The list of types has these names, and others are due or not.
