@@ -23,8 +23,6 @@ pub fn read_old(alloc: Global, text: &[u8]) -> Result<OldCert, TextFault>
     ensures stuck { IfRefused result (λ at. NoneBegins IsOldCertificate text.now at.line) }
     ensures exact { Gives (reading_as One text.now) (λ c. tt) result }
 {
-    match read_as(alloc, Version::One, text) {
-        Ok(cert) => Ok(old_cert(alloc, &cert)?),
-        Err(fault) => Err(fault),
-    }
+    let cert = read_as(alloc, Version::One, text)?;
+    Ok(old_cert(alloc, &cert)?)
 }

@@ -28,8 +28,6 @@ pub fn lower(normal: &Normal) -> Result<Form, LowerFault>
     ensures refused { IfErr result (λ e. (h : ℕ) → IsExponent h (form_of normal.now) → IsToldAs e (elimination_of h normal.now)) }
     ensures bound { IfOk result (λ f. (arcs : List Arc) (ss : List ℕ) (pairs : List PairRows) → IsNormalOf arcs ss pairs normal.now → BoundsAllData arcs ss pairs f.h (columns_of f)) }
 {
-    match front(normal) {
-        Ok(first) => finish(&first),
-        Err(fault) => Err(fault),
-    }
+    let first = front(normal)?;
+    finish(&first)
 }

@@ -64,10 +64,8 @@ pub fn rows_with(
     let (base, point) = (*from.base, *from.point);
     let mut session = SessionBuilder::new(alloc, scale, system, base, point, from.signals, held);
     for pair in 0..from.screened.used.len() {
-        match pair_rows_with(alloc, from, pair as u32, scale) {
-            Ok(rows) => add_pair(&mut session, rows)?,
-            Err(fault) => return Err(fault),
-        }
+        let rows = pair_rows_with(alloc, from, pair as u32, scale)?;
+        add_pair(&mut session, rows)?;
     }
     Ok(session.finish())
 }

@@ -44,11 +44,9 @@ pub fn rows_of(
         point,
         signals: files.signals,
     };
-    match pair_rows_with(alloc, &from, pair, scale) {
-        // Four arcs hold the pair, so it has rows.
-        Ok(rows) => Ok(rows.unwrap()),
-        Err(fault) => Err(fault),
-    }
+    let rows = pair_rows_with(alloc, &from, pair, scale)?;
+    // Four arcs hold the pair, so it has rows.
+    Ok(rows.unwrap())
 }
 
 /// The session of a pair that four arcs hold, and of no other.
@@ -71,10 +69,7 @@ pub fn session_of(
     ensures session { IfOk result (IsSessionOf (rules_of_pair (setting_of files.now) pair) (round_at scale point.now arcs.now)) }
     ensures far { result ≡ Err RowFault.Overwidth → HasFarRow (rows_setting (setting_of files.now) arcs.now point.now scale) pair }
 {
-    let rows = match rows_of(alloc, files, arcs, pair, point, scale) {
-        Ok(rows) => rows,
-        Err(fault) => return Err(fault),
-    };
+    let rows = rows_of(alloc, files, arcs, pair, point, scale)?;
     let held = ArcList::new(Vec::from_slice(alloc, arcs)?);
     let mut session = SessionBuilder::new(
         alloc,

@@ -1,4 +1,5 @@
 use Rattle.std.proofs.Common.{Err, sym, ◌∙◌}
+use Rattle.std.proofs.lemmas.Result.{err_from_is_err_and}
 use Rattle.rinex_head.specs.declared.place.At.{At}
 use Rattle.rinex_head.specs.declared.place.TextFault.{TextFault}
 use Rattle.rinex_head.specs.declared.place.TextFault.TheVariants.{Refused, NoMemory}
@@ -16,18 +17,27 @@ stuck : (P Q : At → Type 0) (f : TextFault) → ((at : At) → P at → Q at) 
 stuck P Q (Refused at) more h = more at h
 stuck P Q NoMemory more h = tt
 
-pub returns-in_ok-old_cert-in-Ok-clause-ok : goal.returns-in_ok-old_cert-in-Ok-clause-ok
-returns-in_ok-old_cert-in-Ok-clause-ok c =
-    c.in-Ok.ensures.ok ∙ sym (spelled_old c.in-Ok.cert c.in_ok-old_cert-in-Ok.field-0 c.in-Ok.ensures.of_version c.in_ok-old_cert-in-Ok.ensures)
+pub returns-clause-ok : goal.returns-clause-ok
+returns-clause-ok c =
+    c.in_ok-cert.ensures.ok ∙ sym (spelled_old c.in_ok-cert.cert c.in_ok-old_cert.field-0 c.in_ok-cert.ensures.of_version c.in_ok-old_cert.ensures)
 
-pub returns-in_ok-old_cert-in-Ok-clause-whole : goal.returns-in_ok-old_cert-in-Ok-clause-whole
-returns-in_ok-old_cert-in-Ok-clause-whole c = read_whole c.in-Ok.cert c.in_ok-old_cert-in-Ok.field-0 c.in_ok-old_cert-in-Ok.ensures c.in-Ok.ensures.whole
+pub returns-clause-whole : goal.returns-clause-whole
+returns-clause-whole c = read_whole c.in_ok-cert.cert c.in_ok-old_cert.field-0 c.in_ok-old_cert.ensures c.in_ok-cert.ensures.whole
 
-pub returns-in_ok-old_cert-in-Ok-clause-only : goal.returns-in_ok-old_cert-in-Ok-clause-only
-returns-in_ok-old_cert-in-Ok-clause-only c = read_only c.args.text.now c.in-Ok.cert c.in_ok-old_cert-in-Ok.field-0 c.in_ok-old_cert-in-Ok.ensures c.in-Ok.ensures.only
+pub returns-clause-only : goal.returns-clause-only
+returns-clause-only c = read_only c.args.text.now c.in_ok-cert.cert c.in_ok-old_cert.field-0 c.in_ok-old_cert.ensures c.in_ok-cert.ensures.only
 
-pub returns-in-Err-clause-refused : goal.returns-in-Err-clause-refused
-returns-in-Err-clause-refused c = refused _ _ c.in-Err.fault (none_read c.args.text.now) c.in-Err.ensures.refused
+pub returns-in_err-cert-clause-refused : goal.returns-in_err-cert-clause-refused
+returns-in_err-cert-clause-refused c =
+    let answered = err_from_is_err_and c.from_residual.result c.from_residual.ensures.1 in
+    rw (answered.1, answered.2) (refused _ _ c.in_err-cert.field-0.0 (none_read c.args.text.now) c.in_err-cert.ensures.refused)
 
-pub returns-in-Err-clause-stuck : goal.returns-in-Err-clause-stuck
-returns-in-Err-clause-stuck c = stuck _ _ c.in-Err.fault (λ at. none_begins c.args.text.now at.line) c.in-Err.ensures.stuck
+pub returns-in_err-cert-clause-stuck : goal.returns-in_err-cert-clause-stuck
+returns-in_err-cert-clause-stuck c =
+    let answered = err_from_is_err_and c.from_residual.result c.from_residual.ensures.1 in
+    rw (answered.1, answered.2) (stuck _ _ c.in_err-cert.field-0.0 (λ at. none_begins c.args.text.now at.line) c.in_err-cert.ensures.stuck)
+
+pub returns-in_err-cert-clause-exact : goal.returns-in_err-cert-clause-exact
+returns-in_err-cert-clause-exact c =
+    let answered = err_from_is_err_and c.from_residual.result c.from_residual.ensures.1 in
+    rw (answered.1, answered.2) c.in_err-cert.ensures.exact

@@ -1,4 +1,5 @@
 use Rattle.std.proofs.Common.{Result, Ok, Err, IfOk, IfErr}
+use Rattle.std.proofs.lemmas.Result.{err_from_is_err_and}
 use Rattle.normal_sum.specs.declared.normal.Normal.{Normal}
 use Rattle.integer_form.specs.declared.front_form.FrontForm.{FrontForm}
 use Rattle.integer_form.specs.declared.form.Form.{Form}
@@ -21,14 +22,16 @@ Halves n f = (r : FrontForm) × (IsFrontOf n r × IsFinishOf r f)
 halves : (n : Normal) (r : FrontForm) (f : Form) → IsFrontOf n r → IsFinishOf r f → Halves n f
 halves n r f a b = (r, (a, b))
 
-pub returns-in-Ok-clause-lower : goal.returns-in-Ok-clause-lower
-returns-in-Ok-clause-lower c = if_ok _ (λ f b. lower_is c.args.normal.now c.in-Ok.first f c.in-Ok.ensures.front b) c.finish.ensures.finished
+pub returns-clause-lower : goal.returns-clause-lower
+returns-clause-lower c = if_ok _ (λ f b. lower_is c.args.normal.now c.in_ok-first.first f c.in_ok-first.ensures.front b) c.finish.ensures.finished
 
-pub returns-in-Ok-clause-halves : goal.returns-in-Ok-clause-halves
-returns-in-Ok-clause-halves c = if_ok _ (λ f b. halves c.args.normal.now c.in-Ok.first f c.in-Ok.ensures.front b) c.finish.ensures.finished
+pub returns-clause-halves : goal.returns-clause-halves
+returns-clause-halves c = if_ok _ (λ f b. halves c.args.normal.now c.in_ok-first.first f c.in_ok-first.ensures.front b) c.finish.ensures.finished
 
-pub returns-in-Ok-clause-refused : goal.returns-in-Ok-clause-refused
-returns-in-Ok-clause-refused c = if_err _ (λ e t. finish_told c.args.normal.now c.in-Ok.first e c.in-Ok.ensures.front t) c.finish.ensures.refused
+pub returns-clause-refused : goal.returns-clause-refused
+returns-clause-refused c = if_err _ (λ e t. finish_told c.args.normal.now c.in_ok-first.first e c.in_ok-first.ensures.front t) c.finish.ensures.refused
 
-pub returns-in-Err-clause-refused : goal.returns-in-Err-clause-refused
-returns-in-Err-clause-refused c = front_told c.args.normal.now c.in-Err.fault c.in-Err.ensures.refused
+pub returns-in_err-first-clause-refused : goal.returns-in_err-first-clause-refused
+returns-in_err-first-clause-refused c =
+    let answered = err_from_is_err_and c.from_residual.result c.from_residual.ensures.1 in
+    rw (answered.1, answered.2) (front_told c.args.normal.now c.in_err-first.field-0.0 c.in_err-first.ensures.refused)

@@ -2,13 +2,13 @@ use Rattle.std.proofs.Common.{◌≡◌, ℕ, Option, Some, All, List, map, ℤ,
 use Rattle.std.specs.Prelude.{slice_get}
 use Rattle.std.specs.Option.{option_map}
 use Rattle.std.proofs.lemmas.Int.{to_z-of_z}
+use Rattle.std.proofs.lemmas.Result.{err_from_is_err_and}
 use Rattle.std.specs.Int.{w64}
 use Rattle.std.proofs.lemmas.Option.{slice_get-map, slice_get_within, get_or_from_slice_get}
 use Rattle.obs_rows.specs.declared.rows.Row.{Row}
 use Rattle.obs_rows.specs.Data.{number_at}
 use Rattle.row_boxes.specs.Sightings.{Sighting, y_of}
 use Rattle.row_boxes.specs.YBoxes.{AreSightings, IsWithinHalf}
-use Rattle.row_build.specs.declared.faults.RowFault.TheVariants.{Overwidth}
 use Rattle.row_build.specs.HeldArcs.{arcs_at}
 use Rattle.row_build.specs.Rows.{setting_from, seen_by, IsRow}
 use Rattle.row_build.specs.Far.{IsGroup, HasFarRow}
@@ -18,27 +18,27 @@ use Rattle.row_build.proofs.pairs.pair_rows_with.Goals as goal
 row_in : (P : Row → Type 0) (rows : List Row) (r : Row) → All P rows → slice_get rows 0 ≡ Some r → P r
 row_in P rows r all e = subst P (get_or_from_slice_get rows 0 r r e) (all 0 r (slice_get_within rows 0 r e))
 
-pub returns-in-Ok-clause-rows : goal.returns-in-Ok-clause-rows
-returns-in-Ok-clause-rows c =
+pub returns-clause-rows : goal.returns-clause-rows
+returns-clause-rows c =
     let t = setting_from c.args.from.now c.args.scale in
     let p = c.finish.result in
     let f = c.first_entry-first.result.sv in
     let g : ℤ = c.group_of-group.result in
     let plain : to_z w64 (of_z w64 g) ≡ g = to_z-of_z w64 g (record { sfits = c.group_of-group.type_inv }) in
-    let group : p.group ≡ g = c.finish.ensures.group ∙ c.in-Ok.ensures.group ∙ c.new-rows.ensures.group ∙ plain in
+    let group : p.group ≡ g = c.finish.ensures.group ∙ c.in_ok-rows.ensures.group ∙ c.new-rows.ensures.group ∙ plain in
     let arcs : map (λ (r : Row). r.arc) p.rows ≡ arcs_at c.args.from.now.arcs.now c.args.pair =
-    ap (λ (rs : List Row). map (λ (r : Row). r.arc) rs) c.finish.ensures.rows ∙ c.in-Ok.ensures.arcs ∙ c.as_slice-held.ensures.value ∙ c.in_ok-held.ensures in
+    ap (λ (rs : List Row). map (λ (r : Row). r.arc) rs) c.finish.ensures.rows ∙ c.in_ok-rows.ensures.arcs ∙ c.as_slice-held.ensures.value ∙ c.in_ok-held.ensures in
     let rows : All (IsRow t c.args.pair p.group) p.rows =
     subst (λ (rs : List Row). All (IsRow t c.args.pair p.group) rs) (sym c.finish.ensures.rows)
-    (subst₂ (λ (n : ℕ) (k : ℤ). All (IsRow t n k) c.in-Ok.rows.rows) c.new-rows.ensures.number (sym (c.finish.ensures.group ∙ c.in-Ok.ensures.group)) c.in-Ok.ensures.rows) in
+    (subst₂ (λ (n : ℕ) (k : ℤ). All (IsRow t n k) c.in_ok-rows.rows.rows) c.new-rows.ensures.number (sym (c.finish.ensures.group ∙ c.in_ok-rows.ensures.group)) c.in_ok-rows.ensures.rows) in
     record {
-      number = c.finish.ensures.number ∙ c.in-Ok.ensures.number ∙ c.new-rows.ensures.number;
+      number = c.finish.ensures.number ∙ c.in_ok-rows.ensures.number ∙ c.new-rows.ensures.number;
       tag = record {
         sat = c.first_entry-first.ensures.entry.arc.sat;
         entry = f;
         entry_is = c.first_entry-first.ensures.entry.entry_is;
         tag_is =
-            sym (c.finish.ensures.tag ∙ c.in-Ok.ensures.tag ∙ c.new-rows.ensures.tag);
+            sym (c.finish.ensures.tag ∙ c.in_ok-rows.ensures.tag ∙ c.new-rows.ensures.tag);
       };
       arcs = arcs;
       rows = rows;
@@ -51,12 +51,12 @@ returns-in-Ok-clause-rows c =
           (c.group_of-group.ensures.near c.args.from.now.base.now c.first_entry-first.ensures.half));
     }
 
-pub returns-clause-overwidth : goal.returns-clause-overwidth
-returns-clause-overwidth c = λ e.
+pub returns-in_err-rows-clause-overwidth : goal.returns-in_err-rows-clause-overwidth
+returns-in_err-rows-clause-overwidth c = λ e.
+    let answered = err_from_is_err_and c.from_residual-in_err-rows.result c.from_residual-in_err-rows.ensures.1 in
     let t = setting_from c.args.from.now c.args.scale in
     let g : ℤ = c.group_of-group.result in
     let plain : to_z w64 (of_z w64 g) ≡ g = to_z-of_z w64 g (record { sfits = c.group_of-group.type_inv }) in
-    let fault : c.in-Err.fault ≡ Overwidth = cc in
     let allowed : IsGroup t c.args.pair g = record {
       entry = c.first_entry-first.result.sv;
       entry_is = c.first_entry-first.ensures.entry;
@@ -64,4 +64,4 @@ returns-clause-overwidth c = λ e.
           c.group_of-group.ensures.allowed c.args.from.now.base.now c.first_entry-first.ensures.half c.args.scale c.requires.scale;
     } in
     subst (λ (n : ℕ). HasFarRow t n) c.new-rows.ensures.number
-    (c.in-Err.ensures.far (cc) (subst₂ (λ (n : ℕ) (k : ℤ). IsGroup t n k) (sym c.new-rows.ensures.number) (sym (c.new-rows.ensures.group ∙ plain)) allowed))
+    (c.in_err-rows.ensures.far (cc (answered.1, answered.2, e)) (subst₂ (λ (n : ℕ) (k : ℤ). IsGroup t n k) (sym c.new-rows.ensures.number) (sym (c.new-rows.ensures.group ∙ plain)) allowed))

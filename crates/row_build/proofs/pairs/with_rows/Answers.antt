@@ -33,15 +33,15 @@ pub push-requires-clause-order : goal.push-requires-clause-order
 push-requires-clause-order c =
     let m : ℕ = get_or c.args.held.now c.loop-place.place 0 in
     let at : slice_get c.args.held.now c.loop-place.place ≡ Some m = slice_get-get_or c.args.held.now c.loop-place.place 0 c.loop-place-test.true in
-    subst (λ (k : ℕ). AreBelow c.loop-place.rows.rows k) (sym c.in-Ok.ensures.arc)
+    subst (λ (k : ℕ). AreBelow c.loop-place.rows.rows k) (sym c.in_ok-row.ensures.arc)
     (in_order c.args.from.now.arcs.now c.args.rows.number c.args.held.now c.loop-place.rows.rows c.loop-place.place m c.requires.held c.loop-place.invariant.3.arcs at)
 
-pub returns-in-Err-clause-far : goal.returns-in-Err-clause-far
-returns-in-Err-clause-far c = λ _ g.
+pub returns-in_err-row-clause-far : goal.returns-in_err-row-clause-far
+returns-in_err-row-clause-far c = λ _ g.
     let t = setting_from c.args.from.now c.args.scale in
     let i = c.loop-place.invariant in
     subst (λ (n : ℕ). HasFarRow t n) i.0
-    (c.in-Err.ensures.far (subst₂ (λ (n : ℕ) (k : ℤ). IsGroup t n k) (sym i.0) (sym (read_group c.loop-place.rows.group c.loop-place.rows.group_in ∙ i.2)) g))
+    (c.in_err-row.ensures.far (subst₂ (λ (n : ℕ) (k : ℤ). IsGroup t n k) (sym i.0) (sym (read_group c.loop-place.rows.group c.loop-place.rows.group_in ∙ i.2)) g))
 
 pub loop-place-preserved : goal.loop-place-preserved
 loop-place-preserved c =
@@ -49,11 +49,11 @@ loop-place-preserved c =
     let i = c.loop-place.invariant in
     let m : ℕ = get_or c.args.held.now c.loop-place.place 0 in
     let at : slice_get c.args.held.now c.loop-place.place ≡ Some m = slice_get-get_or c.args.held.now c.loop-place.place 0 c.loop-place-test.true in
-    let row : IsRow t c.args.rows.number c.args.rows.group c.in-Ok.row = subst₂ (λ (n : ℕ) (k : ℤ). IsRow t n k c.in-Ok.row) i.0
-    (read_group c.loop-place.rows.group c.loop-place.rows.group_in ∙ i.2) c.in-Ok.ensures.row in (
+    let row : IsRow t c.args.rows.number c.args.rows.group c.in_ok-row.row = subst₂ (λ (n : ℕ) (k : ℤ). IsRow t n k c.in_ok-row.row) i.0
+    (read_group c.loop-place.rows.group c.loop-place.rows.group_in ∙ i.2) c.in_ok-row.ensures.row in (
       c.push.ensures.number ∙ i.0,
       c.push.ensures.tag ∙ i.1,
       c.push.ensures.group ∙ i.2,
-      subst (λ (rs : List Row). AreFirstRows t c.args.rows.number c.args.rows.group (take (c.loop-place.place + 1) c.args.held.now) rs) (sym c.in_ok-push-in-Ok.ensures.added)
-          (one_row_more t c.args.rows.number c.args.rows.group c.args.held.now c.loop-place.rows.rows c.loop-place.place m c.in-Ok.row i.3 at c.in-Ok.ensures.arc row),
+      subst (λ (rs : List Row). AreFirstRows t c.args.rows.number c.args.rows.group (take (c.loop-place.place + 1) c.args.held.now) rs) (sym c.in_ok-push.ensures.added)
+          (one_row_more t c.args.rows.number c.args.rows.group c.args.held.now c.loop-place.rows.rows c.loop-place.place m c.in_ok-row.row i.3 at c.in_ok-row.ensures.arc row),
     )

@@ -22,15 +22,15 @@ new-session-requires-clause-point c = receiver_is_point c.args.from.now.point.no
 pub add_pair-requires-clause-order : goal.add_pair-requires-clause-order
 add_pair-requires-clause-order c =
     let t = setting_from c.args.from.now c.args.scale in
-    some_weaker c.in-Ok.rows (λ (p : PairRows). ArePairRows t c.loop-pair.pair p) (λ (p : PairRows). IsAfter c.loop-pair.session.pairs p.number)
-    (λ p a. is_after t c.loop-pair.pair c.loop-pair.session.pairs p.number c.loop-pair.invariant.6 (sym a.number)) c.in-Ok.ensures.rows
+    some_weaker c.in_ok-rows.rows (λ (p : PairRows). ArePairRows t c.loop-pair.pair p) (λ (p : PairRows). IsAfter c.loop-pair.session.pairs p.number)
+    (λ p a. is_after t c.loop-pair.pair c.loop-pair.session.pairs p.number c.loop-pair.invariant.6 (sym a.number)) c.in_ok-rows.ensures.rows
 
 pub add_pair-requires-clause-arcs : goal.add_pair-requires-clause-arcs
 add_pair-requires-clause-arcs c =
     let t = setting_from c.args.from.now c.args.scale in
     let e : c.loop-pair.session.arcs ≡ c.args.from.now.arcs.now = c.loop-pair.invariant.5 ∙ c.new-session.ensures.arcs ∙ c.new-held.ensures ∙ c.in_ok-from_slice.ensures.items in
-    some_weaker c.in-Ok.rows (λ (p : PairRows). ArePairRows t c.loop-pair.pair p) (λ (p : PairRows). HasItsArcs c.loop-pair.session.arcs p)
-    (λ p a. subst (λ (xs : List Arc). HasItsArcs xs p) (sym e) (has_arcs t c.loop-pair.pair p a)) c.in-Ok.ensures.rows
+    some_weaker c.in_ok-rows.rows (λ (p : PairRows). ArePairRows t c.loop-pair.pair p) (λ (p : PairRows). HasItsArcs c.loop-pair.session.arcs p)
+    (λ p a. subst (λ (xs : List Arc). HasItsArcs xs p) (sym e) (has_arcs t c.loop-pair.pair p a)) c.in_ok-rows.ensures.rows
 
 pub new-session-requires-clause-shifts : goal.new-session-requires-clause-shifts
 new-session-requires-clause-shifts c = subst (λ (xs : List Arc). All (HasUsedShifts (fine_signals c.args.from.now.signals)) xs)
@@ -40,8 +40,8 @@ pub add_pair-requires-clause-rows : goal.add_pair-requires-clause-rows
 add_pair-requires-clause-rows c =
     let t = setting_from c.args.from.now c.args.scale in
     let e : c.loop-pair.session.signals ≡ c.args.from.now.signals = c.loop-pair.invariant.4 ∙ c.new-session.ensures.signals in
-    some_weaker c.in-Ok.rows (λ (p : PairRows). ArePairRows t c.loop-pair.pair p) (λ (p : PairRows). HasUsedRows (fine_signals c.loop-pair.session.signals) p)
-    (λ p a. subst (λ (q : Signals). HasUsedRows (fine_signals q) p) (sym e) (used_rows t c.loop-pair.pair p a)) c.in-Ok.ensures.rows
+    some_weaker c.in_ok-rows.rows (λ (p : PairRows). ArePairRows t c.loop-pair.pair p) (λ (p : PairRows). HasUsedRows (fine_signals c.loop-pair.session.signals) p)
+    (λ p a. subst (λ (q : Signals). HasUsedRows (fine_signals q) p) (sym e) (used_rows t c.loop-pair.pair p a)) c.in_ok-rows.ensures.rows
 
 pub loop-pair-preserved : goal.loop-pair-preserved
 loop-pair-preserved c =
@@ -54,8 +54,8 @@ loop-pair-preserved c =
       a.point ∙ i.3,
       a.signals ∙ i.4,
       a.arcs ∙ i.5,
-      with_listed t c.loop-pair.pair c.loop-pair.session.pairs c.add_pair.new.session.pairs c.in-Ok.rows i.6 c.in-Ok.ensures.none
-          (some_at c.in-Ok.rows (λ (p : PairRows). ArePairRows t c.loop-pair.pair p) c.in-Ok.ensures.rows) c.in_ok-add_pair-in-Ok.ensures.added,
+      with_listed t c.loop-pair.pair c.loop-pair.session.pairs c.add_pair.new.session.pairs c.in_ok-rows.rows i.6 c.in_ok-rows.ensures.none
+          (some_at c.in_ok-rows.rows (λ (p : PairRows). ArePairRows t c.loop-pair.pair p) c.in_ok-rows.ensures.rows) c.in_ok-add_pair.ensures.added,
     )
 
 pub finish-requires : goal.finish-requires
