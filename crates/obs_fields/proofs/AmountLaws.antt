@@ -1,11 +1,11 @@
 -- Numbers in the usual spelling.
-use Rattle.std.proofs.Common.{◌≡◌, ℕ, ℤ, zero, suc, ◌+◌, ◌*◌, ◌^◌, ◌-◌, ◌<◌, ◌≤◌, ◌&&◌, Bool, true, false, true≢false, ◌==◌, List, [], ◌∷◌, ◌++◌, length, take, drop, get_or, Ok, refl, sym, ap, subst, ◌∙◌, arith, append_assoc, inr}
+use Rattle.std.proofs.Common.{◌≡◌, ℕ, zero, suc, ◌+◌, ◌*◌, ◌^◌, ◌-◌, ◌<◌, ◌≤◌, ◌&&◌, Bool, true, false, true≢false, ◌==◌, List, [], ◌∷◌, ◌++◌, length, take, drop, get_or, Ok, refl, sym, ap, subst, ◌∙◌, arith, append_assoc, inr}
 use Rattle.std.proofs.Math.Nat.{pow-suc, mul-le-mul_right, pow-le-pow_right, one-le-pow, le-mul_of_pos_right}
 use Rattle.std.proofs.lemmas.List.{append-nil, take-append-drop, drop_more, length-drop}
 use Rattle.std.proofs.Math.Seq.{take-length}
 use Rattle.decimal_text.specs.Whole.{is_digit, are_digits, digit_sum, number_from}
 use Rattle.decimal_text.specs.Fixed.{are_blank, signed, fixed_of}
-use Rattle.decimal_text.specs.FixedForm.{IsNumber, IsSigned, IsFixed, size_with}
+use Rattle.decimal_text.specs.FixedForm.{IsNumber, IsSigned, size_with}
 use Rattle.decimal_text.proofs.Numbers.{number_from-sum, digits_are}
 use Rattle.decimal_text.proofs.FixedReads.{read_only}
 use Rattle.rinex_head.specs.Columns.{padded, columns}

@@ -133,13 +133,9 @@ fn add_line(layout: Layout, line: &[u8], mut list: TypeList) -> Result<TypeList,
     ensures room { IfOk result (λ all. length all.names + all.left ≤ 200) }
 {
     let count = list.left.min(layout.names_in_line());
-    match add_names(layout, line, count, &mut list.names) {
-        Ok(()) => {
-            list.left -= count;
-            Ok(list)
-        }
-        Err(flaw) => Err(flaw),
-    }
+    add_names(layout, line, count, &mut list.names)?;
+    list.left -= count;
+    Ok(list)
 }
 
 fn count_field(layout: Layout, line: &[u8]) -> Result<Option<u32>, Flaw>

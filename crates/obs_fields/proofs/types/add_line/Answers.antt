@@ -1,5 +1,5 @@
 use Rattle.std.proofs.Common.{arith}
 use Rattle.obs_fields.proofs.types.add_line.Goals as goal
 
-pub returns-in-Ok-clause-room : goal.returns-in-Ok-clause-room
-returns-in-Ok-clause-room c = omega (arith, c.in-Ok.ensures.longer, c.min-count.ensures)
+pub returns-clause-room : goal.returns-clause-room
+returns-clause-room c = omega (arith, c.in_ok-add_names.ensures.longer, c.min-count.ensures)

@@ -1,5 +1,4 @@
-use Rattle.std.proofs.Common.{◌≢◌, ◌<◌, length, ap, List, ℕ, arith, ◌∙◌, get_or-set_other, get_or-set_same, below_more, length-set}
-use Rattle.obs_fields.specs.Types.{is_listed}
+use Rattle.std.proofs.Common.{◌≢◌, ◌<◌, length, arith, ◌∙◌, get_or-set_other, get_or-set_same, below_more, length-set}
 use Rattle.obs_fields.proofs.TypeLists.{listed_is}
 use Rattle.obs_fields.proofs.types.listed_types.Goals as goal
 
