@@ -15,7 +15,8 @@ unwrap-requires c = is_there c.in_ok-rows.rows (λ none. some_held c.args.files.
 
 pub returns-clause-rows : goal.returns-clause-rows
 returns-clause-rows c =
-    some_at c.in_ok-rows.rows (ArePairRows (rows_setting (setting_of c.args.files.now) c.args.arcs.now c.args.point.now c.args.scale) c.args.pair) c.in_ok-rows.ensures.rows c.unwrap.result c.unwrap.ensures
+    some_at c.in_ok-rows.rows (ArePairRows (rows_setting (setting_of c.args.files.now) c.args.arcs.now c.args.point.now c.args.scale) c.args.pair)
+    c.in_ok-rows.ensures.rows c.unwrap.result c.unwrap.ensures
 
 pub returns-in_err-rows-clause-far : goal.returns-in_err-rows-clause-far
 returns-in_err-rows-clause-far c = λ e.
