@@ -50,8 +50,6 @@ pub fn check_track_file<F: Files>(alloc: Global, files: &mut F, name: &str) -> R
     ensures fault { IfEnded result (λ end. end.status ≡ Status.ReadFault → Rose (F.faults files.old) (F.faults files.new)) }
     ensures sure { F.is_sure_name files.old name.now → IfEnded result (λ end. end.status ≢ Status.ReadFault) }
 {
-    match load_file(alloc, files, name) {
-        Ok(text) => check_track_text(alloc, name, &text),
-        Err(stop) => Err(stop),
-    }
+    let text = load_file(alloc, files, name)?;
+    check_track_text(alloc, name, &text)
 }

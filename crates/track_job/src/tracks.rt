@@ -83,8 +83,6 @@ pub fn track<F: Files>(
     ensures named { IfEnded result (IsFaultOf (F.is_sure_name files.old) (base.now ∷ rover.now ∷ nav.now ∷ [])) }
 {
     let system = System::of_letter(options.system);
-    match read_session(alloc, files, system, base, rover, nav) {
-        Ok(read) => answer_session(alloc, &read.base, &read.rover, &read.nav, options),
-        Err(stop) => Err(stop),
-    }
+    let read = read_session(alloc, files, system, base, rover, nav)?;
+    answer_session(alloc, &read.base, &read.rover, &read.nav, options)
 }
