@@ -1,5 +1,5 @@
 //! The system and the bands by what is given.
-ghost use Rattle.std.specs.Prelude.{◌≡◌, ℕ, ◌↔◌, IsTrue, IfSome, MatchOption};
+ghost use Rattle.std.specs.Prelude.{ℕ, ◌↔◌, IsTrue, IfSome, MatchOption};
 ghost use Rattle.obs_rows.specs.Ranges.{IsSystem};
 ghost use Rattle.run_options.specs.declared.defaults.TheConstants.{DEFAULT_SYSTEM};
 ghost use Rattle.run_options.specs.Defaults.{default_bands};

@@ -1,5 +1,5 @@
 //! Numbers with an exponent.
-ghost use Rattle.std.specs.Prelude.{◌≡◌, ◌+◌, ◌*◌, ◌≤◌, ◌<◌, ◌^◌, ℤ, length, Ok, Err, Result, MatchOption, IfOk, IfErr, None};
+ghost use Rattle.std.specs.Prelude.{◌≡◌, ◌+◌, ◌*◌, ◌≤◌, ◌<◌, length, Ok, Err, Result, MatchOption, IfOk, IfErr, None};
 ghost use Rattle.decimal_text.specs.declared.exponent.Dec.{Dec};
 ghost use Rattle.decimal_text.specs.declared.fixed.NumberFault.{NumberFault};
 ghost use Rattle.decimal_text.specs.Whole.{size_of};

@@ -11,6 +11,7 @@ use Rattle.obs_rows.specs.declared.rows.Row.{Row}
 use Rattle.obs_rows.specs.Signals.{cycle}
 use Rattle.obs_rows.specs.Integers.{integer_place, integer}
 use Rattle.obs_rows.specs.Data.{number_at}
+use Rattle.obs_rows.specs.Best.{move_exponent}
 use Rattle.fix_decide.specs.declared.reaches.Reach.{Reach}
 use Rattle.fix_decide.specs.declared.reaches.RowReach.{RowReach}
 use Rattle.fix_decide.specs.RowReaches.{row_reach, reach_at, AreSeen}
@@ -32,8 +33,8 @@ floor_by_ceil y p m h =
     high a b p m h = omega (arith, lins)
 
 pub centre_is : (arcs : List Arc) (ss : List ℕ) (z m : List ℤ) (s : ℕ) (r : Row) →
-    (number_at r.y s -ℤ ceil_div (scalar_product r.u m) (2 ^ 16)) -ℤ (cycle s *ℤ integer arcs ss z r.arc s) ≡ centre arcs ss z m s r
-centre_is arcs ss z m s r = ap (λ x. x -ℤ (cycle s *ℤ integer arcs ss z r.arc s)) (sym (floor_by_ceil (number_at r.y s) (scalar_product r.u m) (2 ^ 16) (pow_pos 16)))
+    (number_at r.y s -ℤ ceil_div (scalar_product r.u m) (2 ^ move_exponent)) -ℤ (cycle s *ℤ integer arcs ss z r.arc s) ≡ centre arcs ss z m s r
+centre_is arcs ss z m s r = ap (λ x. x -ℤ (cycle s *ℤ integer arcs ss z r.arc s)) (sym (floor_by_ceil (number_at r.y s) (scalar_product r.u m) (2 ^ move_exponent) (pow_pos move_exponent)))
 
 reach_is : (arcs : List Arc) (ss : List ℕ) (z m : List ℤ) (s : ℕ) (r : Row) (a : RowReach) (place : Option ℕ) → a ≡ row_reach m r → place ≡ integer_place arcs ss r.arc s →
     reach_at z s r a place ≡ reach_of arcs ss z m s r

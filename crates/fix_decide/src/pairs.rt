@@ -1,5 +1,5 @@
 //! The upper sum of the rows of one pair.
-ghost use Rattle.std.specs.Prelude.{◌≡◌, ℕ, ◌*◌, ◌^◌, ◌<◌, ◌≤◌, ◌↔◌, ◌∷◌, [], ℤ, List, map, length, All, pos, ◌*ℤ◌, ◌≤ℤ◌, slice_index_or, IfSome, None, IsErr, IfOk, IfErr, OnOk, OnErr};
+ghost use Rattle.std.specs.Prelude.{◌≡◌, ℕ, ◌*◌, ◌^◌, ◌<◌, ◌≤◌, ◌↔◌, ◌∷◌, [], ℤ, List, map, length, All, pos, ◌≤ℤ◌, slice_index_or, IfSome, None, IsErr, IfOk, IfErr, OnOk, OnErr};
 ghost use Rattle.obs_rows.specs.declared.arcs.Arc.{Arc};
 ghost use Rattle.obs_rows.specs.declared.units.TheConstants.{MOST_FREE_ARCS};
 ghost use Rattle.obs_rows.specs.Arcs.{free_count};

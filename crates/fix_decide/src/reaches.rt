@@ -3,7 +3,7 @@ ghost use Rattle.std.specs.Prelude.{◌≡◌, ◌+◌, ◌*◌, ◌^◌, ◌<�
 ghost use Rattle.whole_math.specs.Rounding.{ceil_div};
 ghost use Rattle.obs_rows.specs.declared.units.TheConstants.{MOST_FREE_ARCS};
 ghost use Rattle.obs_rows.specs.Arcs.{free_count};
-ghost use Rattle.obs_rows.specs.Ranges.{IsWithin, IsBelow, IsRadius};
+ghost use Rattle.obs_rows.specs.Ranges.{IsWithin, IsBelow};
 ghost use Rattle.obs_rows.specs.Signals.{cycle, AreCounted};
 ghost use Rattle.obs_rows.specs.Integers.{integer_count};
 ghost use Rattle.obs_rows.specs.Data.{number_at};

@@ -4,7 +4,7 @@ ghost use Rattle.line_source.specs.Causes.{Rose, OpensOne, OpensAtMost};
 ghost use Rattle.line_source.specs.Told.{Same, Stays, IsReadToEnd};
 ghost use Rattle.line_source.specs.Pieces.{IsTakenWhole};
 
-use crate::{Failed, FileId, Files, LoadFault, MAX_FILE};
+use crate::{Failed, Files, LoadFault, MAX_FILE};
 use std::alloc::AllocError;
 
 /// Takes a text of at most [`MAX_FILE`] bytes piece by piece. It need not keep the text.

@@ -8,7 +8,7 @@ ghost use Rattle.normal_sum.specs.Values.{form_of};
 ghost use Rattle.elimination.specs.StepEntries.{is_small};
 ghost use Rattle.lower_form.specs.FirstRounding.{first_entry as first_entry_of, first_form};
 
-use crate::first_entries::{first_entry, times_63};
+use crate::first_entries::first_entry;
 use elimination::is_small;
 use form_tables::{MOST_COLUMNS, NormalTable};
 use normal_sum::Normal;

@@ -10,7 +10,7 @@ use crate::Normal;
 use crate::mirror::mirror;
 use crate::pairs::{add_pair, add_pair_radii};
 use crate::radii::RadiusSums;
-use form_tables::{BASELINE_COLUMNS, MOST_COLUMNS, NormalTable};
+use form_tables::{BASELINE_COLUMNS, NormalTable};
 use obs_rows::{Arc, MOST_FREE_ARCS, PairRows, Session, Signals, counted_signals, integer_count};
 use std::slice;
 

@@ -1,7 +1,6 @@
 //! The list of the observation types of a system (`SYS / # / OBS TYPES`, in RINEX 2 `# / TYPES OF OBSERV`).
 ghost use Rattle.std.specs.Prelude.{◌≡◌, ◌+◌, ◌-◌, ◌*◌, ◌<◌, ◌≤◌, ◌++◌, ◌∷◌, [], min, length, IfOk, OnOk, IfErr, Ok, Err};
 ghost use Rattle.decimal_text.specs.Fixed.{are_blank};
-ghost use Rattle.rinex_head.specs.Columns.{columns};
 ghost use Rattle.rinex_head.specs.Fields.{whole_of};
 ghost use Rattle.obs_fields.specs.Layouts.{first_name_of, name_in, types_column_of, types_count_in, further_mark_in};
 ghost use Rattle.obs_fields.specs.Types.{is_listed, names_from, with_line, count_from, first_types_of, further_types_of, keeps, kept_type_in, kept_at, kept_from, is_kept_name, listed_of};

@@ -1,7 +1,6 @@
 //! The file.
 
 use crate::{Epochs, SLOTS};
-use std::alloc::Global;
 
 /// An observation file: what its header says of GPS, and its epochs. Lengths are in 0.1 mm.
 #[derive(Debug, Drop)]

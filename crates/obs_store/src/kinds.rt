@@ -1,5 +1,5 @@
 //! The observation types that are kept.
-ghost use Rattle.std.specs.Prelude.{◌≡◌, ◌<◌, codes};
+ghost use Rattle.std.specs.Prelude.{◌≡◌, ◌<◌};
 ghost use Rattle.obs_store.specs.Kinds.{name_of, slot_count, slot_of, kept_type_of};
 
 /// How many observation types are kept of each satellite.

@@ -8,9 +8,7 @@ ghost use Rattle.rotation_box.specs.Rotations.{HoldsBoth};
 ghost use Rattle.orbit_place.specs.Held.{ForSolutions};
 
 use crate::{ANGLE, AXIS, Orbit, RADIUS_CHANGE, SMALL};
-use rotation_box::{
-    OnEllipse, RADIUS, RADIUS_WIDTH, Rotation, TRUE_WIDTH, on_ellipse, rotation_of,
-};
+use rotation_box::{RADIUS, RADIUS_WIDTH, Rotation, TRUE_WIDTH, on_ellipse, rotation_of};
 use sized_box::SizedBox;
 
 const PERIGEE_WIDTH: u64 = 544;

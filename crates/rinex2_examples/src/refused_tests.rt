@@ -1,6 +1,6 @@
 //! Files that are refused, with the place and the reason.
 use crate::sample::{
-    END, EPOCH, FACTORS, SAT_5, SAT_12, TEN_TYPES, THIRTEEN, TIME, TYPES, read, read_changed,
+    END, EPOCH, FACTORS, SAT_5, SAT_12, TEN_TYPES, THIRTEEN, TIME, TYPES, read_changed,
 };
 use rinex_head::{At, What};
 use std::test::Fail;

@@ -1,5 +1,5 @@
 //! Numbers in the fields of a line.
-ghost use Rattle.std.specs.Prelude.{◌≡◌, ◌+◌, ◌<◌, ◌≤◌, ◌^◌, length, IfOk, IfSome, true};
+ghost use Rattle.std.specs.Prelude.{◌≡◌, ◌+◌, ◌<◌, ◌≤◌, length, IfOk, IfSome, true};
 ghost use Rattle.decimal_text.specs.Whole.{are_digits, number_from};
 ghost use Rattle.decimal_text.specs.Fixed.{fixed_of, are_blank};
 ghost use Rattle.decimal_text.specs.Exp.{dec_of};

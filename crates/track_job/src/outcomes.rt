@@ -1,5 +1,5 @@
 //! The outcome of a run over the files of a base and a moving rover.
-ghost use Rattle.std.specs.Prelude.{◌≡◌, ℤ, List, [], ◌∷◌, length, All, IfOk, IfErr, pos};
+ghost use Rattle.std.specs.Prelude.{◌≡◌, ℤ, List, [], ◌∷◌, All, IfOk, IfErr, pos};
 ghost use Rattle.obs_rows.specs.declared.arcs.Arc.{Arc};
 ghost use Rattle.obs_rows.specs.declared.bands.Signals.{Signals};
 ghost use Rattle.obs_rows.specs.ReceiverPoints.{IsReceiverPoint};

@@ -5,7 +5,7 @@ ghost use Rattle.form_tables.specs.Tables.{entry};
 ghost use Rattle.form_tables.specs.declared.sizes.TheConstants.{MOST_FORM_COLUMNS};
 ghost use Rattle.track_sum.specs.Parts.{part_at};
 
-use form_tables::{BASELINE_COLUMNS, MOST_FORM_COLUMNS, NormalTable};
+use form_tables::{BASELINE_COLUMNS, MOST_FORM_COLUMNS};
 use integer_form::FrontForm;
 use lower_form::nearest_shift;
 use whole_math::floor_shift;

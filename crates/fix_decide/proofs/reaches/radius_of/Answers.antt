@@ -6,6 +6,7 @@ use Rattle.fix_decide.specs.UpperSums.{scalar_product}
 use Rattle.fix_decide.proofs.Words.{radius_word}
 use Rattle.fix_decide.proofs.Radii.{product_nonneg, ceil_nonneg}
 use Rattle.fix_decide.proofs.reaches.radius_of.Goals as goal
+use Rattle.obs_rows.specs.Best.{move_exponent}
 
 at_least_one : (y u : ℤ) → pos 0 ≤ℤ y → pos 0 ≤ℤ u → pos 0 ≤ℤ ((y +ℤ u) +ℤ pos 1)
 at_least_one y u h g = omega (arith, ints)
@@ -23,7 +24,7 @@ pub returns-clause-value : goal.returns-clause-value
 returns-clause-value c =
     let ru : List ℤ = c.args.row.now.ru in
     radius_word c.args.row.now.ry c.rounded_product.result c.args.row.now.ry_in.0 c.args.row.now.ry_in.1 c.rounded_product.ensures.size
-    ∙ ap (λ u. (c.args.row.now.ry +ℤ u) +ℤ pos 1) (c.rounded_product.ensures.value ∙ ap (λ (l : List ℤ). ceil_div (scalar_product ru l) (2 ^ 16)) c.sizes.ensures.value)
+    ∙ ap (λ u. (c.args.row.now.ry +ℤ u) +ℤ pos 1) (c.rounded_product.ensures.value ∙ ap (λ (l : List ℤ). ceil_div (scalar_product ru l) (2 ^ move_exponent)) c.sizes.ensures.value)
 
 pub returns-clause-from : goal.returns-clause-from
 returns-clause-from c =
@@ -31,11 +32,11 @@ returns-clause-from c =
     let l0 : 0 < length c.args.row.now.ru = search rules in
     let l1 : 1 < length c.args.row.now.ru = search rules in
     let l2 : 2 < length c.args.row.now.ru = search rules in
-    let e : c.rounded_product.result ≡ ceil_div (scalar_product ru (map size c.args.moved.now)) (2 ^ 16) =
-    c.rounded_product.ensures.value ∙ ap (λ (l : List ℤ). ceil_div (scalar_product ru l) (2 ^ 16)) c.sizes.ensures.value in
+    let e : c.rounded_product.result ≡ ceil_div (scalar_product ru (map size c.args.moved.now)) (2 ^ move_exponent) =
+    c.rounded_product.ensures.value ∙ ap (λ (l : List ℤ). ceil_div (scalar_product ru l) (2 ^ move_exponent)) c.sizes.ensures.value in
     let p : pos 0 ≤ℤ scalar_product ru (map size c.args.moved.now) =
     product_nonneg ru c.args.moved.now (c.args.row.now.ru_in 0 (pos 0) l0).0 (c.args.row.now.ru_in 1 (pos 0) l1).0 (c.args.row.now.ru_in 2 (pos 0) l2).0 in
-    let u : pos 0 ≤ℤ c.rounded_product.result = subst (λ (x : ℤ). pos 0 ≤ℤ x) (sym e) (ceil_nonneg (scalar_product ru (map size c.args.moved.now)) (2 ^ 16) p) in
+    let u : pos 0 ≤ℤ c.rounded_product.result = subst (λ (x : ℤ). pos 0 ≤ℤ x) (sym e) (ceil_nonneg (scalar_product ru (map size c.args.moved.now)) (2 ^ move_exponent) p) in
     subst (λ (x : ℤ). pos 0 ≤ℤ x) (sym (radius_word c.args.row.now.ry c.rounded_product.result c.args.row.now.ry_in.0 c.args.row.now.ry_in.1 c.rounded_product.ensures.size))
     (at_least_one c.args.row.now.ry c.rounded_product.result c.args.row.now.ry_in.0 u)
 
