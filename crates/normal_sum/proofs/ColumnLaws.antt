@@ -7,7 +7,7 @@ use Rattle.std.proofs.lemmas.List.{get_or_append_left, get_or_past, get_or_push,
 use Rattle.std.proofs.lemmas.List.Elements.{All-from_recursion, All-push}
 use Rattle.std.proofs.lemmas.List.Kept.{AllPairs-from_increasing}
 use Rattle.whole_math.proofs.Order.{lins}
-use Rattle.form_tables.specs.declared.sizes.TheConstants.{MOST_COLUMNS, MOST_INTEGERS}
+use Rattle.form_tables.specs.declared.sizes.TheConstants.{BASELINE_COLUMNS, MOST_COLUMNS, MOST_INTEGERS}
 use Rattle.normal_sum.specs.Columns.{AreColumnsOf, AreColumnsFrom}
 
 -- ---- a column that is one of the list, or none of it
@@ -75,12 +75,15 @@ at_or_behind columns k zero r h = subst (λ (i : ℕ). slice_index columns k ≤
     plain k = omega arith
 at_or_behind columns k (suc m) r h = let below : slice_index columns k < slice_index columns (k + suc m) = AllPairs-from_increasing columns r k (k + suc m) 0 (omega arith) h in omega (arith, below)
 
-pub columns_from : (values : List ℤ) (columns : List ℕ) (k : ℕ) → AreColumnsOf values columns → k < length columns → AreColumnsFrom (slice_index columns k) values (drop k columns)
-columns_from values columns k are h = record {
-  inside = λ m d l. inside_at m d l;
-  from = λ m d l. from_at m d l;
-  rising = λ m l. rising_at m l;
-  others = λ j g f. are.others j (λ i l e. none_at j g f i l e (side i k));
+-- behind the columns of the baseline, where k is one of them, and else from k on
+pub columns_from : (values : List ℤ) (columns : List ℕ) (k m : ℕ) → AreColumnsOf values columns → k < length columns → k ≤ m → BASELINE_COLUMNS ≤ m → (k < BASELINE_COLUMNS → m ≡ BASELINE_COLUMNS) →
+    (BASELINE_COLUMNS ≤ k → m ≡ k) → AreColumnsFrom (slice_index columns k) values (drop m columns)
+columns_from values columns k m are h past apart low high = record {
+  inside = λ i d l. inside_at i d l;
+  from = λ i d l. from_at i d l;
+  behind = λ i d l. behind_at i d l;
+  rising = λ i l. rising_at i l;
+  others = λ j g b f. are.others j (λ i l e. none_at j g b f i l e (side i m));
 }
   where
     side : (i n : ℕ) → (i < n) ⊎ (n ≤ i)
@@ -89,24 +92,39 @@ columns_from values columns k are h = record {
     plain : (i k : ℕ) → k ≤ i → k + (i - k) ≡ i
     plain i k h = omega arith
 
-    read_at : (m d : ℕ) → m < length (drop k columns) → slice_index_or (drop k columns) m d ≡ slice_index columns (k + m)
-    read_at m d l = get_or-drop k columns m d ∙ get_or_default columns (k + m) d 0 (later_length columns k m (omega arith) l)
+    inner : (i : ℕ) → i < length (drop m columns) → m + i < length columns
+    inner i l = omega (arith, length-drop m columns)
 
-    inside_at : (m d : ℕ) → m < length (drop k columns) → slice_index_or (drop k columns) m d < MOST_COLUMNS
-    inside_at m d l = subst (λ (c : ℕ). c < MOST_COLUMNS) (sym (read_at m d l)) (are.inside (k + m) 0 (later_length columns k m (omega arith) l))
+    read_at : (i d : ℕ) → i < length (drop m columns) → slice_index_or (drop m columns) i d ≡ slice_index columns (m + i)
+    read_at i d l = get_or-drop m columns i d ∙ get_or_default columns (m + i) d 0 (inner i l)
 
-    from_at : (m d : ℕ) → m < length (drop k columns) → slice_index columns k ≤ slice_index_or (drop k columns) m d
-    from_at m d l = subst (λ (c : ℕ). slice_index columns k ≤ c) (sym (read_at m d l)) (at_or_behind columns k m are.rising (later_length columns k m (omega arith) l))
+    inside_at : (i d : ℕ) → i < length (drop m columns) → slice_index_or (drop m columns) i d < MOST_COLUMNS
+    inside_at i d l = subst (λ (c : ℕ). c < MOST_COLUMNS) (sym (read_at i d l)) (are.inside (m + i) 0 (inner i l))
 
-    rising_at : (m : ℕ) → m + 1 < length (drop k columns) → slice_index (drop k columns) m < slice_index (drop k columns) (m + 1)
-    rising_at m l = subst (λ (c : ℕ). c < slice_index (drop k columns) (m + 1)) (sym (later_index columns k m))
-        (subst (λ (c : ℕ). slice_index columns (k + m) < c) (sym (later_index columns k (m + 1)))
-        (AllPairs-from_increasing columns are.rising (k + m) (k + (m + 1)) 0 (omega arith) (later_length columns k (m + 1) (omega arith) l)))
+    in_order : (a b : ℕ) → a ≤ b → b < length columns → slice_index columns a ≤ slice_index columns b
+    in_order a b g l = subst (λ (i : ℕ). slice_index columns a ≤ slice_index columns i) (plain b a g) (at_or_behind columns a (b - a) are.rising (omega arith))
 
-    none_at : (j : ℕ) → slice_index columns k ≤ j → ((m : ℕ) → m < length (drop k columns) → slice_index (drop k columns) m ≢ j) → (i : ℕ) → i < length columns → slice_index columns i ≡ j →
-        (i < k) ⊎ (k ≤ i) → ⊥
-    none_at j g f i l e (inl b) = let below : slice_index columns i < slice_index columns k = AllPairs-from_increasing columns are.rising i k 0 b h in omega (arith, below, e, g)
-    none_at j g f i l e (inr b) = f (i - k) (omega (arith, length-drop k columns)) (later_index columns k (i - k) ∙ ap (slice_index columns) (plain i k b) ∙ e)
+    from_at : (i d : ℕ) → i < length (drop m columns) → slice_index columns k ≤ slice_index_or (drop m columns) i d
+    from_at i d l = subst (λ (c : ℕ). slice_index columns k ≤ c) (sym (read_at i d l)) (in_order k (m + i) (omega arith) (inner i l))
+
+    -- the last of the baseline's columns stands before it
+    behind_at : (i d : ℕ) → i < length (drop m columns) → BASELINE_COLUMNS ≤ slice_index_or (drop m columns) i d
+    behind_at i d l =
+        let before : slice_index columns 2 < slice_index columns (m + i) = AllPairs-from_increasing columns are.rising 2 (m + i) 0 (omega arith) (inner i l) in
+        subst (λ (c : ℕ). BASELINE_COLUMNS ≤ c) (sym (read_at i d l)) (omega (arith, before, are.baseline 2 (omega arith)))
+
+    rising_at : (i : ℕ) → i + 1 < length (drop m columns) → slice_index (drop m columns) i < slice_index (drop m columns) (i + 1)
+    rising_at i l = subst (λ (c : ℕ). c < slice_index (drop m columns) (i + 1)) (sym (later_index columns m i))
+        (subst (λ (c : ℕ). slice_index columns (m + i) < c) (sym (later_index columns m (i + 1)))
+        (AllPairs-from_increasing columns are.rising (m + i) (m + (i + 1)) 0 (omega arith) (inner (i + 1) l)))
+
+    none_at : (j : ℕ) → slice_index columns k ≤ j → BASELINE_COLUMNS ≤ j → ((i : ℕ) → i < length (drop m columns) → slice_index (drop m columns) i ≢ j) → (i : ℕ) → i < length columns →
+        slice_index columns i ≡ j → (i < m) ⊎ (m ≤ i) → ⊥
+    none_at j g b f i l e (inl ahead) = ⊎_elim
+        (λ (few : k < BASELINE_COLUMNS). omega (arith, low few, ahead, are.baseline i (omega (arith, low few)), e, b))
+        (λ (many : BASELINE_COLUMNS ≤ k). let below : slice_index columns i < slice_index columns k = AllPairs-from_increasing columns are.rising i k 0 (omega (arith, high many)) h in omega (arith, below, e, g))
+        (side k BASELINE_COLUMNS)
+    none_at j g b f i l e (inr after) = f (i - m) (omega (arith, length-drop m columns)) (later_index columns m (i - m) ∙ ap (slice_index columns) (plain i m after) ∙ e)
 
 -- ---- the columns of a row: three of the baseline, of its integer if it has one, and of the constant
 first_columns : (a b : ℕ) → 3 ≤ a → a < b → IsStrictlyIncreasing (0 ∷ 1 ∷ 2 ∷ a ∷ b ∷ [])
@@ -125,9 +143,17 @@ first_of_code b h (suc (suc (suc k))) l = absurd (omega arith)
 behind : (j : ℕ) → 0 ≢ j → 1 ≢ j → 2 ≢ j → 3 ≤ j
 behind j a b c = grind arith
 
+first_three : (a b d : ℕ) (rest : List ℕ) (k : ℕ) → a ≡ 0 → b ≡ 1 → d ≡ 2 → k < BASELINE_COLUMNS → slice_index (a ∷ b ∷ d ∷ rest) k ≡ k
+first_three a b d rest zero e f g h = e
+first_three a b d rest (suc zero) e f g h = f
+first_three a b d rest (suc (suc zero)) e f g h = g
+first_three a b d rest (suc (suc (suc k))) e f g h = absurd (omega arith)
+
 pub columns_of_phase : (values : List ℤ) (n i : ℕ) → n ≤ MOST_INTEGERS → i < n → ((j : ℕ) → 3 ≤ j → j ≢ 3 + n → j ≢ 3 + i → slice_index_or values j (pos 0) ≡ pos 0) →
     AreColumnsOf values (0 ∷ 1 ∷ 2 ∷ (3 + i) ∷ (3 + n) ∷ [])
 columns_of_phase values n i few h z = record {
+  baseline = λ k l. first_three 0 1 2 ((3 + i) ∷ (3 + n) ∷ []) k refl refl refl l;
+  enough = omega arith;
   inside = All-from_recursion (λ (c : ℕ). c < MOST_COLUMNS) (0 ∷ 1 ∷ 2 ∷ (3 + i) ∷ (3 + n) ∷ []) (omega arith, (omega arith, (omega arith, (omega arith, (omega arith, tt)))));
   rising = first_columns (3 + i) (3 + n) (omega arith) (omega arith);
   others = λ j f. z j (behind j (f 0 (omega arith)) (f 1 (omega arith)) (f 2 (omega arith))) (λ e. f 4 (omega arith) (sym e)) (λ e. f 3 (omega arith) (sym e));
@@ -136,6 +162,8 @@ columns_of_phase values n i few h z = record {
 pub columns_of_code : (values : List ℤ) (n : ℕ) → n ≤ MOST_INTEGERS → ((j : ℕ) → 3 ≤ j → j ≢ 3 + n → slice_index_or values j (pos 0) ≡ pos 0) →
     AreColumnsOf values (0 ∷ 1 ∷ 2 ∷ (3 + n) ∷ [])
 columns_of_code values n few z = record {
+  baseline = λ k l. first_three 0 1 2 ((3 + n) ∷ []) k refl refl refl l;
+  enough = omega arith;
   inside = All-from_recursion (λ (c : ℕ). c < MOST_COLUMNS) (0 ∷ 1 ∷ 2 ∷ (3 + n) ∷ []) (omega arith, (omega arith, (omega arith, (omega arith, tt))));
   rising = first_of_code (3 + n) (omega arith);
   others = λ j f. z j (behind j (f 0 (omega arith)) (f 1 (omega arith)) (f 2 (omega arith))) (λ e. f 3 (omega arith) (sym e));
@@ -143,15 +171,30 @@ columns_of_code values n few z = record {
 
 -- ---- the columns so far, where they are sought one after another
 pub record AreUsed (values : List ℤ) (j : ℕ) (used : List ℕ) : Type 0 where
+  pub baseline : (k : ℕ) → k < BASELINE_COLUMNS → slice_index used k ≡ k
+  pub enough : BASELINE_COLUMNS ≤ length used
   pub below : All (λ c. c < j) used
   pub rising : IsStrictlyIncreasing used
   pub others : (k : ℕ) → k < j → ((m : ℕ) → m < length used → slice_index used m ≢ k) → slice_index_or values k (pos 0) ≡ pos 0
 
-pub none_used : (values : List ℤ) → AreUsed values 0 []
-none_used values = record { below = λ i d h. absurd (omega arith); rising = λ k h. absurd (omega arith); others = λ k h f. absurd (omega arith) }
+pub baseline_used : (values : List ℤ) → AreUsed values BASELINE_COLUMNS (0 ∷ 1 ∷ 2 ∷ [])
+baseline_used values = record {
+  baseline = λ k l. first_three 0 1 2 [] k refl refl refl l;
+  enough = omega arith;
+  below = All-from_recursion (λ (c : ℕ). c < BASELINE_COLUMNS) (0 ∷ 1 ∷ 2 ∷ []) (omega arith, (omega arith, (omega arith, tt)));
+  rising = rising;
+  others = λ k h f. absurd (f k (omega arith) (first_three 0 1 2 [] k refl refl refl h));
+}
+  where
+    rising : IsStrictlyIncreasing (0 ∷ 1 ∷ 2 ∷ [])
+    rising zero l = omega arith
+    rising (suc zero) l = omega arith
+    rising (suc (suc k)) l = absurd (omega arith)
 
 pub not_used : (values : List ℤ) (j : ℕ) (used : List ℕ) → AreUsed values j used → slice_index_or values j (pos 0) ≡ pos 0 → AreUsed values (j + 1) used
 not_used values j used u z = record {
+  baseline = u.baseline;
+  enough = u.enough;
   below = λ i d h. omega (arith, u.below i d h);
   rising = u.rising;
   others = below_more (λ (k : ℕ). ((m : ℕ) → m < length used → slice_index used m ≢ k) → slice_index_or values k (pos 0) ≡ pos 0) j u.others (λ f. z);
@@ -159,6 +202,8 @@ not_used values j used u z = record {
 
 pub one_used : (values : List ℤ) (j : ℕ) (used : List ℕ) → AreUsed values j used → AreUsed values (j + 1) (used ++ j ∷ [])
 one_used values j used u = record {
+  baseline = λ k h. get_or_append_left used (j ∷ []) 0 k (omega (arith, u.enough)) ∙ u.baseline k h;
+  enough = omega (arith, u.enough, length-append used (j ∷ []));
   below = All-push (λ (c : ℕ). c < j + 1) used j (λ i d h. omega (arith, u.below i d h)) (omega arith);
   rising = λ k h. next k (side (k + 1) (length used)) h;
   others = below_more (λ (k : ℕ). ((m : ℕ) → m < length (used ++ j ∷ []) → slice_index (used ++ j ∷ []) m ≢ k) → slice_index_or values k (pos 0) ≡ pos 0) j
@@ -180,6 +225,8 @@ one_used values j used u = record {
 
 pub all_used : (values : List ℤ) (used : List ℕ) → length values ≡ MOST_COLUMNS → AreUsed values MOST_COLUMNS used → AreColumnsOf values used
 all_used values used full u = record {
+  baseline = u.baseline;
+  enough = u.enough;
   inside = u.below;
   rising = u.rising;
   others = λ j f. ⊎_elim (λ (h : j < MOST_COLUMNS). u.others j h f) (λ (g : MOST_COLUMNS ≤ j). get_or_past values j (pos 0) (omega arith)) (side j MOST_COLUMNS);

@@ -3,6 +3,7 @@ pub mod PlaceLaws
 pub mod Words
 pub mod CoefficientPlaces
 pub mod RowSums
+pub mod DirectionLaws
 pub mod RadiusLaws
 pub mod WeightLaws
 pub mod NormalLaws

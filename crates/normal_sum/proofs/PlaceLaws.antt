@@ -1,13 +1,15 @@
 -- The places of the integers of rows.
-use Rattle.std.proofs.Common.{◌≡◌, ◌⊎◌, ⊎_elim, ℕ, zero, suc, ◌+◌, ◌*◌, ◌<◌, ◌≤◌, Bool, true, false, cond, Option, Some, None, IfSome, List, [], ◌∷◌, length, arith, sym, ap, ap₂, ◌∙◌, refl, subst, slice_index_or}
+use Rattle.std.proofs.Common.{◌≡◌, ◌⊎◌, ⊎_elim, ℕ, zero, suc, ◌+◌, ◌-◌, ◌*◌, ◌<◌, ◌≤◌, Bool, true, false, cond, Option, Some, None, IfSome, List, [], ◌∷◌, length, take, drop, arith, sym, ap, ap₂, ◌∙◌, refl, subst, slice_index_or}
 use Rattle.std.specs.Prelude.{slice_get, position, ◌==◌}
 use Rattle.std.specs.Option.{option_map}
 use Rattle.std.proofs.lemmas.List.Quantifiers.{position-Some}
+use Rattle.std.proofs.lemmas.List.Sums.{sum_by-append}
+use Rattle.std.proofs.Math.Seq.{take-add}
 use Rattle.form_tables.specs.declared.sizes.TheConstants.{MOST_INTEGERS}
 use Rattle.obs_rows.specs.declared.arcs.Arc.{Arc}
 use Rattle.obs_rows.specs.declared.rows.Row.{Row}
 use Rattle.obs_rows.specs.declared.units.TheConstants.{PHASES, MOST_FREE_ARCS}
-use Rattle.obs_rows.specs.Arcs.{free_before, free_count}
+use Rattle.obs_rows.specs.Arcs.{is_free, free_before, free_count}
 use Rattle.obs_rows.specs.Signals.{phases, AreCounted}
 use Rattle.obs_rows.specs.Integers.{integer_count, integer_place, is_some_free}
 use Rattle.obs_rows.proofs.IntegerPlaces.{place_below, free_before_le}
@@ -26,6 +28,14 @@ count_within arcs ss h g = product_within (length (phases ss)) (free_count arcs)
 
 pub first_within : (arcs : List Arc) (n k : ℕ) → n ≤ PHASES → free_count arcs ≤ MOST_FREE_ARCS → n * free_before arcs k ≤ MOST_INTEGERS
 first_within arcs n k h g = product_within n (free_before arcs k) h (omega (arith, free_before_le arcs k))
+
+-- the free arcs before arc k, from those before another one and those between
+pub free_between : (arcs : List Arc) (from k : ℕ) → from ≤ k → free_before arcs k ≡ free_before arcs from + free_count (take (k - from) (drop from arcs))
+free_between arcs from k h = ap (λ (n : ℕ). free_count (take n arcs)) (plain from k h) ∙ ap (λ (l : List Arc). free_count l) (take-add from (k - from) arcs)
+    ∙ sum_by-append (λ (x : Arc). cond (is_free x) 1 0) (take from arcs) (take (k - from) (drop from arcs))
+  where
+    plain : (i n : ℕ) → i ≤ n → n ≡ i + (n - i)
+    plain i n h = omega arith
 
 pub place_is : (arcs : List Arc) (ss : List ℕ) (k s : ℕ) → place_from (first_place arcs (length (phases ss)) k) (position (λ t. t == s) (phases ss)) ≡ integer_place arcs ss k s
 place_is arcs ss k s = go (is_some_free (slice_get arcs k))

@@ -1,5 +1,6 @@
 pub mod Places
 pub mod Columns
+pub mod Directions
 pub mod Pairs
 pub mod RadiusSums
 pub mod Matrices

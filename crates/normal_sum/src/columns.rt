@@ -1,17 +1,20 @@
-//! The columns in which a row has a coefficient: at most five, so a product adds to at most 15 entries on and above the
-//! diagonal of the matrix.
+//! The columns in which a row has a coefficient: at most five, so a product adds to at most nine entries on and above the
+//! diagonal of the matrix after the columns of the baseline.
 ghost use Rattle.std.specs.Prelude.{◌≡◌, ℕ, ◌<◌, ◌≤◌, ◌^◌, ◌+ℤ◌, pos, unsigned_abs, slice_index_or};
 ghost use Rattle.normal_sum.specs.Columns.{AreColumnsOf};
 
 use arrayvec::ArrayVec;
-use form_tables::MOST_COLUMNS;
+use form_tables::{BASELINE_COLUMNS, MOST_COLUMNS};
 
-/// The columns in which values aren't 0.
+/// The columns of the baseline, and those after them in which values aren't 0.
 pub(crate) fn used_columns(values: &[i64; MOST_COLUMNS]) -> ArrayVec<usize, MOST_COLUMNS>
     ensures { AreColumnsOf values.now result.items }
 {
     let mut used = ArrayVec::new();
-    for j in 0..MOST_COLUMNS {
+    used.push(0);
+    used.push(1);
+    used.push(2);
+    for j in BASELINE_COLUMNS..MOST_COLUMNS {
         if values[j] != 0 {
             used.push(j);
         }

@@ -12,6 +12,7 @@
 
 mod coefficients;
 mod columns;
+mod directions;
 mod mirror;
 mod normal;
 mod pairs;

@@ -1,5 +1,5 @@
 //! What the rows of a pair add to the normal matrix, over all signals that count.
-ghost use Rattle.std.specs.Prelude.{◌≡◌, ℕ, ◌+◌, ◌*◌, ◌^◌, ◌<◌, ◌≤◌, pos, ◌+ℤ◌, ◌*ℤ◌, ◌≤ℤ◌, List, map, unsigned_abs};
+ghost use Rattle.std.specs.Prelude.{◌≡◌, ℕ, ◌+◌, ◌*◌, ◌/◌, ◌^◌, ◌<◌, ◌≤◌, pos, ◌+ℤ◌, ◌*ℤ◌, ◌≤ℤ◌, List, map, unsigned_abs};
 ghost use Rattle.whole_math.specs.Vectors.{sum};
 ghost use Rattle.quadratic_form.specs.Rows.{add_radii, radii};
 ghost use Rattle.quadratic_form.specs.MatrixEntries.{matrix_entry};
@@ -11,9 +11,10 @@ ghost use Rattle.obs_rows.specs.Integers.{integer_count};
 ghost use Rattle.normal_sum.specs.Pairs.{HaveArcs, pair_groups};
 ghost use Rattle.normal_sum.specs.RadiusSums.{radii_of, IsAtMost};
 
-use crate::places::{first_places, places_of};
+use crate::directions::add_directions;
+use crate::places::{MOST_ROWS, first_places, places_of};
 use crate::radii::{RadiusSums, add_radii_of};
-use crate::signals::{add_signal, row_weight};
+use crate::signals::{add_signal, share};
 use form_tables::{MOST_COLUMNS, MOST_INTEGERS, NormalTable};
 use obs_rows::{Arc, MOST_FREE_ARCS, PairRows, phase_place};
 
@@ -39,18 +40,22 @@ pub(crate) fn add_pair(
         let places = places_of(&firsts, phase_place(signals, *signal));
         add_signal(table, pair, *signal, &places, integers);
     }
+    let rows = pair.rows.as_slice();
+    add_directions(table, rows, total_share(rows.len(), signals));
 }
 
-/// 360360 times the weights of these signals together.
-fn total_weight(signals: &[usize]) -> i64
+/// 360360 times the weights of these signals together, over this number of rows.
+fn total_share(rows: usize, signals: &[usize]) -> i64
+    requires some { 1 ≤ rows }
+    requires few { rows ≤ MOST_ROWS }
     requires counted { AreCounted signals.now }
-    ensures value { result ≡ pos 360360 *ℤ sum (map weight signals.now) }
+    ensures value { result ≡ pos (360360 / rows) *ℤ sum (map weight signals.now) }
     ensures from { pos 0 ≤ℤ result }
     ensures to { result ≤ℤ pos (2 ^ 35) }
 {
     let mut total = 0;
     for signal in signals {
-        total += row_weight(*signal);
+        total += share(rows, *signal);
     }
     total
 }
@@ -62,5 +67,5 @@ pub(crate) fn add_pair_radii(start: RadiusSums, signals: &[usize], pair: &PairRo
     ensures value { (arcs : List Arc) → radii_of result ≡ add_radii (radii_of start) (radii (pair_groups arcs signals.now pair.now)) }
     ensures size { (m : ℕ) → IsAtMost m start → IsAtMost (m + 2 ^ 79) result }
 {
-    add_radii_of(start, pair.rows.as_slice(), total_weight(signals))
+    add_radii_of(start, pair.rows.as_slice(), total_share(1, signals))
 }

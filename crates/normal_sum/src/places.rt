@@ -2,7 +2,7 @@
 ghost use Rattle.std.specs.Prelude.{◌≡◌, ℕ, ◌<◌, ◌≤◌, length, slice_index_or, Option, IfSome, None};
 ghost use Rattle.obs_rows.specs.declared.arcs.Arc.{Arc};
 ghost use Rattle.obs_rows.specs.declared.rows.Row.{Row};
-ghost use Rattle.obs_rows.specs.Arcs.{free_count};
+ghost use Rattle.obs_rows.specs.Arcs.{free_before, free_count};
 ghost use Rattle.obs_rows.specs.Signals.{AreCounted, phases};
 ghost use Rattle.normal_sum.specs.Pairs.{HaveArcs};
 ghost use Rattle.normal_sum.specs.Places.{first_place, place_from};
@@ -13,18 +13,36 @@ use obs_rows::{Arc, MOST_FREE_ARCS, PHASES, Row, free_arcs, phase_count};
 /// The most rows of a pair.
 pub const MOST_ROWS: usize = 15;
 
-/// The place of an arc's first integer, where each free arc has as many as there are phases; None for a datum.
-fn first_place(arcs: &[Arc], phases: usize, arc: usize) -> Option<usize>
+/// The free arcs before an arc, where those before another one were counted. The arcs of a pair's rows rise, so few are left
+/// to count.
+#[tactic(auto, using(crate::proofs::PlaceLaws::free_between))]
+fn free_before(arcs: &[Arc], from: usize, counted: usize, arc: usize) -> usize
+    requires from { from ≤ length arcs.now }
+    requires counted { counted ≡ free_before arcs.now from }
+    requires arc { arc ≤ length arcs.now }
+    ensures value { result ≡ free_before arcs.now arc }
+{
+    if from <= arc {
+        counted + free_arcs(&arcs[from..arc])
+    } else {
+        free_arcs(&arcs[..arc])
+    }
+}
+
+/// The place of an arc's first integer, where each free arc has as many as there are phases and this many stand before it;
+/// None for a datum.
+fn first_place(arcs: &[Arc], phases: usize, arc: usize, before: usize) -> Option<usize>
     requires arc { arc < length arcs.now }
     requires free { free_count arcs.now ≤ MOST_FREE_ARCS }
     requires phases { phases ≤ PHASES }
+    requires before { before ≡ free_before arcs.now arc }
     ensures value { result ≡ first_place arcs.now phases arc }
     ensures few { IfSome result (λ i. i ≤ MOST_INTEGERS) }
 {
     if arcs[arc].datum {
         None
     } else {
-        Some(phases * free_arcs(&arcs[..arc]))
+        Some(phases * before)
     }
 }
 
@@ -40,8 +58,13 @@ pub fn first_places(arcs: &[Arc], signals: &[usize], rows: &[Row]) -> [Option<us
 {
     let phases = phase_count(signals);
     let mut places = [None; MOST_ROWS];
+    let mut from = 0;
+    let mut before = 0;
     for k in 0..rows.len() {
-        places[k] = first_place(arcs, phases, rows[k].arc as usize);
+        let arc = rows[k].arc as usize;
+        before = free_before(arcs, from, before, arc);
+        from = arc;
+        places[k] = first_place(arcs, phases, arc, before);
     }
     places
 }

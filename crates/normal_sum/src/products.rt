@@ -1,10 +1,11 @@
 //! Weighted products of the coefficients of a row, added to a table in the columns that the row has, on and above the
-//! diagonal alone.
+//! diagonal alone. The entries of the baseline's columns, which are the same for each signal, are left out.
 ghost use Rattle.std.specs.Prelude.{◌≡◌, ◌≢◌, ◌⊎◌, ℕ, ◌^◌, ◌<◌, ◌≤◌, pos, ◌+ℤ◌, ◌*ℤ◌, IsTrue, unsigned_abs, slice_index_or};
 ghost use Rattle.form_tables.specs.Tables.{entry};
+ghost use Rattle.form_tables.specs.declared.sizes.TheConstants.{BASELINE_COLUMNS};
 ghost use Rattle.normal_sum.specs.Columns.{AreColumnsOf, AreColumnsFrom};
 
-use form_tables::{MOST_COLUMNS, NormalTable};
+use form_tables::{BASELINE_COLUMNS, MOST_COLUMNS, NormalTable};
 
 /// weight · value
 pub(crate) fn times(weight: i64, value: i64) -> i128
@@ -68,7 +69,7 @@ fn add_to_entry(table: &mut NormalTable, row: usize, column: usize, factor: i128
     table.set(row, column, sum);
 }
 
-/// Adds factor times the values to a row, from the diagonal on.
+/// Adds factor times the values to a row, from the diagonal on, after the columns of the baseline.
 #[inline(always)]
 fn add_to_row(
     table: &mut NormalTable,
@@ -81,8 +82,9 @@ fn add_to_row(
     requires columns { AreColumnsFrom row values.now columns.now }
     requires factor_size { unsigned_abs factor ≤ 2 ^ 75 }
     requires value_size { (j : ℕ) → j < MOST_COLUMNS → unsigned_abs (slice_index_or values.now j (pos 0)) ≤ 2 ^ 38 }
-    requires entry_size { (j : ℕ) → row ≤ j → j < MOST_COLUMNS → unsigned_abs (entry table.old row j) ≤ 2 ^ 120 }
-    ensures added { (j : ℕ) → row ≤ j → j < MOST_COLUMNS → entry table.new row j ≡ entry table.old row j +ℤ (factor *ℤ slice_index_or values.now j (pos 0)) }
+    requires entry_size { (j : ℕ) → row ≤ j → BASELINE_COLUMNS ≤ j → j < MOST_COLUMNS → unsigned_abs (entry table.old row j) ≤ 2 ^ 120 }
+    ensures added { (j : ℕ) → row ≤ j → BASELINE_COLUMNS ≤ j → j < MOST_COLUMNS → entry table.new row j ≡ entry table.old row j +ℤ (factor *ℤ slice_index_or values.now j (pos 0)) }
+    ensures baseline { (j : ℕ) → j < BASELINE_COLUMNS → entry table.new row j ≡ entry table.old row j }
     ensures others { (i j : ℕ) → i ≢ row → entry table.new i j ≡ entry table.old i j }
 {
     for column in columns {
@@ -92,7 +94,13 @@ fn add_to_row(
 
 /// Adds factor · value to one entry, where the factor fits 64 bits.
 #[inline(always)]
-fn add_short_to_entry(table: &mut NormalTable, row: usize, column: usize, factor: i64, value: i64)
+pub(crate) fn add_short_to_entry(
+    table: &mut NormalTable,
+    row: usize,
+    column: usize,
+    factor: i64,
+    value: i64,
+)
     requires row_in { row < MOST_COLUMNS }
     requires column_in { column < MOST_COLUMNS }
     requires factor_size { unsigned_abs factor ≤ 2 ^ 62 }
@@ -105,7 +113,7 @@ fn add_short_to_entry(table: &mut NormalTable, row: usize, column: usize, factor
     table.set(row, column, sum);
 }
 
-/// Adds factor times the values to a row, from the diagonal on, where the factor fits 64 bits.
+/// Adds factor times the values to a row, from the diagonal on, after the columns of the baseline, where the factor fits 64 bits.
 #[inline(always)]
 fn add_short_to_row(
     table: &mut NormalTable,
@@ -118,8 +126,9 @@ fn add_short_to_row(
     requires columns { AreColumnsFrom row values.now columns.now }
     requires factor_size { unsigned_abs factor ≤ 2 ^ 62 }
     requires value_size { (j : ℕ) → j < MOST_COLUMNS → unsigned_abs (slice_index_or values.now j (pos 0)) ≤ 2 ^ 38 }
-    requires entry_size { (j : ℕ) → row ≤ j → j < MOST_COLUMNS → unsigned_abs (entry table.old row j) ≤ 2 ^ 120 }
-    ensures added { (j : ℕ) → row ≤ j → j < MOST_COLUMNS → entry table.new row j ≡ entry table.old row j +ℤ (factor *ℤ slice_index_or values.now j (pos 0)) }
+    requires entry_size { (j : ℕ) → row ≤ j → BASELINE_COLUMNS ≤ j → j < MOST_COLUMNS → unsigned_abs (entry table.old row j) ≤ 2 ^ 120 }
+    ensures added { (j : ℕ) → row ≤ j → BASELINE_COLUMNS ≤ j → j < MOST_COLUMNS → entry table.new row j ≡ entry table.old row j +ℤ (factor *ℤ slice_index_or values.now j (pos 0)) }
+    ensures baseline { (j : ℕ) → j < BASELINE_COLUMNS → entry table.new row j ≡ entry table.old row j }
     ensures others { (i j : ℕ) → i ≢ row → entry table.new i j ≡ entry table.old i j }
 {
     for column in columns {
@@ -127,7 +136,7 @@ fn add_short_to_row(
     }
 }
 
-/// Adds weight · `values[row]` times the values to a row, from the diagonal on.
+/// Adds weight · `values[row]` times the values to a row, from the diagonal on, after the columns of the baseline.
 #[inline(always)]
 fn add_product_row(
     table: &mut NormalTable,
@@ -140,8 +149,9 @@ fn add_product_row(
     requires columns { AreColumnsFrom row values.now columns.now }
     requires weight_size { unsigned_abs weight ≤ 2 ^ 32 }
     requires value_size { (j : ℕ) → j < MOST_COLUMNS → unsigned_abs (slice_index_or values.now j (pos 0)) ≤ 2 ^ 38 }
-    requires entry_size { (j : ℕ) → row ≤ j → j < MOST_COLUMNS → unsigned_abs (entry table.old row j) ≤ 2 ^ 120 }
-    ensures added { (j : ℕ) → row ≤ j → j < MOST_COLUMNS → entry table.new row j ≡ entry table.old row j +ℤ ((weight *ℤ slice_index_or values.now row (pos 0)) *ℤ slice_index_or values.now j (pos 0)) }
+    requires entry_size { (j : ℕ) → row ≤ j → BASELINE_COLUMNS ≤ j → j < MOST_COLUMNS → unsigned_abs (entry table.old row j) ≤ 2 ^ 120 }
+    ensures added { (j : ℕ) → row ≤ j → BASELINE_COLUMNS ≤ j → j < MOST_COLUMNS → entry table.new row j ≡ entry table.old row j +ℤ ((weight *ℤ slice_index_or values.now row (pos 0)) *ℤ slice_index_or values.now j (pos 0)) }
+    ensures baseline { (j : ℕ) → j < BASELINE_COLUMNS → entry table.new row j ≡ entry table.old row j }
     ensures others { (i j : ℕ) → i ≢ row → entry table.new i j ≡ entry table.old i j }
 {
     let value = values[row];
@@ -152,7 +162,7 @@ fn add_product_row(
     }
 }
 
-/// Adds weight · values · valuesᵀ on and above the diagonal, in the columns of the values.
+/// Adds weight · values · valuesᵀ on and above the diagonal, in the columns of the values after those of the baseline.
 ///
 /// It and what it calls stand in their callers' code: where the columns are a row's five, the loops become straight code.
 #[inline(always)]
@@ -165,10 +175,12 @@ pub(crate) fn add_product(
     requires columns { AreColumnsOf values.now columns.now }
     requires weight_size { unsigned_abs weight ≤ 2 ^ 32 }
     requires value_size { (j : ℕ) → j < MOST_COLUMNS → unsigned_abs (slice_index_or values.now j (pos 0)) ≤ 2 ^ 38 }
-    requires entry_size { (i j : ℕ) → i ≤ j → j < MOST_COLUMNS → unsigned_abs (entry table.old i j) ≤ 2 ^ 120 }
-    ensures { (i j : ℕ) → i ≤ j → j < MOST_COLUMNS → entry table.new i j ≡ entry table.old i j +ℤ ((weight *ℤ slice_index_or values.now i (pos 0)) *ℤ slice_index_or values.now j (pos 0)) }
+    requires entry_size { (i j : ℕ) → i ≤ j → BASELINE_COLUMNS ≤ j → j < MOST_COLUMNS → unsigned_abs (entry table.old i j) ≤ 2 ^ 120 }
+    ensures added { (i j : ℕ) → i ≤ j → BASELINE_COLUMNS ≤ j → j < MOST_COLUMNS → entry table.new i j ≡ entry table.old i j +ℤ ((weight *ℤ slice_index_or values.now i (pos 0)) *ℤ slice_index_or values.now j (pos 0)) }
+    ensures baseline { (i j : ℕ) → j < BASELINE_COLUMNS → entry table.new i j ≡ entry table.old i j }
 {
     for k in 0..columns.len() {
-        add_product_row(table, columns[k], values, &columns[k..], weight);
+        let later = k.max(BASELINE_COLUMNS);
+        add_product_row(table, columns[k], values, &columns[later..], weight);
     }
 }

@@ -1,4 +1,4 @@
-//! What the rows of a pair add to the normal matrix, as one signal sees them.
+//! What the rows of a pair add to the normal matrix after the columns of the baseline, as one signal sees them.
 ghost use Rattle.std.specs.Prelude.{◌≡◌, ◌≢◌, ℕ, ◌+◌, ◌*◌, ◌/◌, ◌^◌, ◌<◌, ◌≤◌, ◌+ℤ◌, ◌*ℤ◌, ◌≤ℤ◌, List, pos, length, map, replicate, unsigned_abs, slice_index_or, IfSome, None};
 ghost use Rattle.quadratic_form.specs.MatrixEntries.{coefficient, coefficient_sum, product_sum, group_entry};
 ghost use Rattle.obs_rows.specs.declared.arcs.Arc.{Arc};
@@ -19,18 +19,7 @@ use form_tables::{BASELINE_COLUMNS, MOST_COLUMNS, MOST_INTEGERS, NormalTable};
 use obs_rows::{PairRows, Row, SIGNALS, WEIGHTS};
 
 /// 360360 times a weight is whole over each number of rows from 1 to 15.
-pub(crate) const COMMON_MULTIPLE: i64 = 360_360;
-
-/// The weight of a signal, over one row.
-pub(crate) fn row_weight(signal: usize) -> i64
-    requires { signal < SIGNALS }
-    ensures value { result ≡ pos 360360 *ℤ weight signal }
-    ensures from { pos 0 ≤ℤ result }
-    ensures to { result ≤ℤ pos (2 ^ 32) }
-    ensures size { unsigned_abs result ≤ 2 ^ 32 }
-{
-    COMMON_MULTIPLE * WEIGHTS[signal]
-}
+const COMMON_MULTIPLE: i64 = 360_360;
 
 /// 360360 times the weight of a signal, over this number of rows.
 pub fn share(rows: usize, signal: usize) -> i64
@@ -40,6 +29,7 @@ pub fn share(rows: usize, signal: usize) -> i64
     ensures value { result ≡ share rows signal }
     ensures from { pos 0 ≤ℤ result }
     ensures to { (result *ℤ pos rows) ≤ℤ pos (2 ^ 32) }
+    ensures size { unsigned_abs result ≤ 2 ^ 32 }
 {
     COMMON_MULTIPLE / rows as i64 * WEIGHTS[signal]
 }
@@ -54,7 +44,7 @@ fn turned_share(rows: usize, signal: usize) -> i64
     -share(rows, signal)
 }
 
-/// Adds the weighted products of values to a table, and the values to a total.
+/// Adds the weighted products of values to a table, after the columns of the baseline, and the values to a total.
 #[inline(always)]
 fn add_in(
     table: &mut NormalTable,
@@ -66,12 +56,13 @@ fn add_in(
     requires columns { AreColumnsOf values.now columns.now }
     requires weight_size { unsigned_abs weight ≤ 2 ^ 32 }
     requires value_size { (j : ℕ) → unsigned_abs (slice_index_or values.now j (pos 0)) ≤ 2 ^ 34 }
-    requires entry_size { (i j : ℕ) → i ≤ j → j < MOST_COLUMNS → unsigned_abs (entry table.old i j) ≤ 2 ^ 120 }
+    requires entry_size { (i j : ℕ) → i ≤ j → BASELINE_COLUMNS ≤ j → j < MOST_COLUMNS → unsigned_abs (entry table.old i j) ≤ 2 ^ 120 }
     requires total_size { (j : ℕ) → j < MOST_COLUMNS → unsigned_abs (slice_index_or total.old j (pos 0)) ≤ 2 ^ 40 }
-    ensures products { (i j : ℕ) → i ≤ j → j < MOST_COLUMNS →
+    ensures products { (i j : ℕ) → i ≤ j → BASELINE_COLUMNS ≤ j → j < MOST_COLUMNS →
         entry table.new i j ≡ entry table.old i j +ℤ ((weight *ℤ slice_index_or values.now i (pos 0)) *ℤ slice_index_or values.now j (pos 0)) }
     ensures sums { (j : ℕ) → j < MOST_COLUMNS → slice_index_or total.new j (pos 0) ≡ slice_index_or total.old j (pos 0) +ℤ slice_index_or values.now j (pos 0) }
-    ensures table_size { (i j : ℕ) → i ≤ j → j < MOST_COLUMNS → unsigned_abs (entry table.new i j) ≤ unsigned_abs (entry table.old i j) + 2 ^ 100 }
+    ensures table_size { (i j : ℕ) → i ≤ j → BASELINE_COLUMNS ≤ j → j < MOST_COLUMNS → unsigned_abs (entry table.new i j) ≤ unsigned_abs (entry table.old i j) + 2 ^ 100 }
+    ensures baseline { (i j : ℕ) → j < BASELINE_COLUMNS → entry table.new i j ≡ entry table.old i j }
     ensures sum_size { (j : ℕ) → j < MOST_COLUMNS → unsigned_abs (slice_index_or total.new j (pos 0)) ≤ unsigned_abs (slice_index_or total.old j (pos 0)) + 2 ^ 34 }
 {
     add_product(table, values, columns, weight);
@@ -94,12 +85,13 @@ fn add_used(
         slice_index_or values.now j (pos 0) ≡ pos 0 }
     requires weight_size { unsigned_abs weight ≤ 2 ^ 32 }
     requires value_size { (j : ℕ) → unsigned_abs (slice_index_or values.now j (pos 0)) ≤ 2 ^ 34 }
-    requires entry_size { (i j : ℕ) → i ≤ j → j < MOST_COLUMNS → unsigned_abs (entry table.old i j) ≤ 2 ^ 120 }
+    requires entry_size { (i j : ℕ) → i ≤ j → BASELINE_COLUMNS ≤ j → j < MOST_COLUMNS → unsigned_abs (entry table.old i j) ≤ 2 ^ 120 }
     requires total_size { (j : ℕ) → j < MOST_COLUMNS → unsigned_abs (slice_index_or total.old j (pos 0)) ≤ 2 ^ 40 }
-    ensures products { (i j : ℕ) → i ≤ j → j < MOST_COLUMNS →
+    ensures products { (i j : ℕ) → i ≤ j → BASELINE_COLUMNS ≤ j → j < MOST_COLUMNS →
         entry table.new i j ≡ entry table.old i j +ℤ ((weight *ℤ slice_index_or values.now i (pos 0)) *ℤ slice_index_or values.now j (pos 0)) }
     ensures sums { (j : ℕ) → j < MOST_COLUMNS → slice_index_or total.new j (pos 0) ≡ slice_index_or total.old j (pos 0) +ℤ slice_index_or values.now j (pos 0) }
-    ensures table_size { (i j : ℕ) → i ≤ j → j < MOST_COLUMNS → unsigned_abs (entry table.new i j) ≤ unsigned_abs (entry table.old i j) + 2 ^ 100 }
+    ensures table_size { (i j : ℕ) → i ≤ j → BASELINE_COLUMNS ≤ j → j < MOST_COLUMNS → unsigned_abs (entry table.new i j) ≤ unsigned_abs (entry table.old i j) + 2 ^ 100 }
+    ensures baseline { (i j : ℕ) → j < BASELINE_COLUMNS → entry table.new i j ≡ entry table.old i j }
     ensures sum_size { (j : ℕ) → j < MOST_COLUMNS → unsigned_abs (slice_index_or total.new j (pos 0)) ≤ unsigned_abs (slice_index_or total.old j (pos 0)) + 2 ^ 34 }
 {
     let last = BASELINE_COLUMNS + integers;
@@ -130,19 +122,20 @@ fn add_row(
     requires signal { signal < SIGNALS }
     requires place { IfSome place (λ i. i < integers) }
     requires few { integers ≤ MOST_INTEGERS }
-    requires entry_size { (i j : ℕ) → i ≤ j → j < MOST_COLUMNS → unsigned_abs (entry table.old i j) ≤ 2 ^ 120 }
+    requires entry_size { (i j : ℕ) → i ≤ j → BASELINE_COLUMNS ≤ j → j < MOST_COLUMNS → unsigned_abs (entry table.old i j) ≤ 2 ^ 120 }
     requires total_size { (j : ℕ) → j < MOST_COLUMNS → unsigned_abs (slice_index_or total.old j (pos 0)) ≤ 2 ^ 40 }
     ensures products { (arcs : List Arc) (ss : List ℕ) → place ≡ integer_place arcs ss row.now.arc signal → integers ≡ integer_count arcs ss →
-        (i j : ℕ) → i ≤ j → j < MOST_COLUMNS →
+        (i j : ℕ) → i ≤ j → BASELINE_COLUMNS ≤ j → j < MOST_COLUMNS →
         entry table.new i j ≡ entry table.old i j +ℤ (((pos 360360 *ℤ weight signal) *ℤ coefficient (signal_row arcs ss signal row.now) i) *ℤ coefficient (signal_row arcs ss signal row.now) j) }
     ensures sums { (arcs : List Arc) (ss : List ℕ) → place ≡ integer_place arcs ss row.now.arc signal → integers ≡ integer_count arcs ss →
         (j : ℕ) → j < MOST_COLUMNS → slice_index_or total.new j (pos 0) ≡ slice_index_or total.old j (pos 0) +ℤ coefficient (signal_row arcs ss signal row.now) j }
-    ensures table_size { (i j : ℕ) → i ≤ j → j < MOST_COLUMNS → unsigned_abs (entry table.new i j) ≤ unsigned_abs (entry table.old i j) + 2 ^ 100 }
+    ensures table_size { (i j : ℕ) → i ≤ j → BASELINE_COLUMNS ≤ j → j < MOST_COLUMNS → unsigned_abs (entry table.new i j) ≤ unsigned_abs (entry table.old i j) + 2 ^ 100 }
+    ensures baseline { (i j : ℕ) → j < BASELINE_COLUMNS → entry table.new i j ≡ entry table.old i j }
     ensures sum_size { (j : ℕ) → j < MOST_COLUMNS → unsigned_abs (slice_index_or total.new j (pos 0)) ≤ unsigned_abs (slice_index_or total.old j (pos 0)) + 2 ^ 34 }
     ensures zeros { values.new ≡ replicate MOST_COLUMNS (pos 0) }
 {
     put_coefficients(values, row, signal, place, integers);
-    add_used(table, total, values, place, integers, row_weight(signal));
+    add_used(table, total, values, place, integers, share(1, signal));
     clear_coefficients(values, place, integers);
 }
 
@@ -158,12 +151,13 @@ fn add_rows(
     requires signal { signal < SIGNALS }
     requires places { (k : ℕ) → IfSome (slice_index_or places.now k None) (λ i. i < integers) }
     requires few { integers ≤ MOST_INTEGERS }
-    requires entry_size { (i j : ℕ) → i ≤ j → j < MOST_COLUMNS → unsigned_abs (entry table.old i j) ≤ 3600 * 2 ^ 108 }
+    requires entry_size { (i j : ℕ) → i ≤ j → BASELINE_COLUMNS ≤ j → j < MOST_COLUMNS → unsigned_abs (entry table.old i j) ≤ 3600 * 2 ^ 108 }
     ensures products { (arcs : List Arc) (ss : List ℕ) → ArePlaces arcs ss signal rows.now places.now → integers ≡ integer_count arcs ss →
-        (i j : ℕ) → i ≤ j → j < MOST_COLUMNS → entry table.new i j ≡ entry table.old i j +ℤ ((pos 360360 *ℤ weight signal) *ℤ product_sum (map (signal_row arcs ss signal) rows.now) i j) }
+        (i j : ℕ) → i ≤ j → BASELINE_COLUMNS ≤ j → j < MOST_COLUMNS → entry table.new i j ≡ entry table.old i j +ℤ ((pos 360360 *ℤ weight signal) *ℤ product_sum (map (signal_row arcs ss signal) rows.now) i j) }
     ensures sums { (arcs : List Arc) (ss : List ℕ) → ArePlaces arcs ss signal rows.now places.now → integers ≡ integer_count arcs ss →
         (j : ℕ) → j < MOST_COLUMNS → slice_index_or result j (pos 0) ≡ coefficient_sum (map (signal_row arcs ss signal) rows.now) j }
-    ensures table_size { (i j : ℕ) → i ≤ j → j < MOST_COLUMNS → unsigned_abs (entry table.new i j) ≤ unsigned_abs (entry table.old i j) + (length rows.now * 2 ^ 100) }
+    ensures table_size { (i j : ℕ) → i ≤ j → BASELINE_COLUMNS ≤ j → j < MOST_COLUMNS → unsigned_abs (entry table.new i j) ≤ unsigned_abs (entry table.old i j) + (length rows.now * 2 ^ 100) }
+    ensures baseline { (i j : ℕ) → j < BASELINE_COLUMNS → entry table.new i j ≡ entry table.old i j }
     ensures sum_size { (j : ℕ) → j < MOST_COLUMNS → unsigned_abs (slice_index_or result j (pos 0)) ≤ length rows.now * 2 ^ 34 }
 {
     let mut total = [0; MOST_COLUMNS];
@@ -182,7 +176,7 @@ fn add_rows(
     total
 }
 
-/// Adds the entries of a pair's rows as one signal sees them.
+/// Adds the entries of a pair's rows as one signal sees them, after the columns of the baseline.
 pub(crate) fn add_signal(
     table: &mut NormalTable,
     pair: &PairRows,
@@ -193,10 +187,11 @@ pub(crate) fn add_signal(
     requires signal { signal < SIGNALS }
     requires places { (k : ℕ) → IfSome (slice_index_or places.now k None) (λ i. i < integers) }
     requires few { integers ≤ MOST_INTEGERS }
-    requires entry_size { (i j : ℕ) → i ≤ j → j < MOST_COLUMNS → unsigned_abs (entry table.old i j) ≤ 3600 * 2 ^ 108 }
+    requires entry_size { (i j : ℕ) → i ≤ j → BASELINE_COLUMNS ≤ j → j < MOST_COLUMNS → unsigned_abs (entry table.old i j) ≤ 3600 * 2 ^ 108 }
     ensures added { (arcs : List Arc) (ss : List ℕ) → ArePlaces arcs ss signal pair.now.rows places.now → integers ≡ integer_count arcs ss →
-        (i j : ℕ) → i ≤ j → j < MOST_COLUMNS → entry table.new i j ≡ entry table.old i j +ℤ group_entry (signal_group arcs ss pair.now signal) i j }
-    ensures size { (i j : ℕ) → i ≤ j → j < MOST_COLUMNS → unsigned_abs (entry table.new i j) ≤ unsigned_abs (entry table.old i j) + 2 ^ 105 }
+        (i j : ℕ) → i ≤ j → BASELINE_COLUMNS ≤ j → j < MOST_COLUMNS → entry table.new i j ≡ entry table.old i j +ℤ group_entry (signal_group arcs ss pair.now signal) i j }
+    ensures size { (i j : ℕ) → i ≤ j → BASELINE_COLUMNS ≤ j → j < MOST_COLUMNS → unsigned_abs (entry table.new i j) ≤ unsigned_abs (entry table.old i j) + 2 ^ 105 }
+    ensures baseline { (i j : ℕ) → j < BASELINE_COLUMNS → entry table.new i j ≡ entry table.old i j }
 {
     let rows = pair.rows.as_slice();
     let total = add_rows(table, rows, signal, places, integers);

@@ -1,14 +1,22 @@
-use Rattle.std.proofs.Common.{◌≡◌, ℕ, ◌+◌, ◌*◌, ◌^◌, ◌<◌, ◌≤◌, ◌∷◌, List, ◌+ℤ◌, length, map, drop, get_or, slice_index_or, Option, None, IfSome, arith, sym, ap, ◌∙◌, subst, rules}
-use Rattle.std.proofs.lemmas.List.{drop_more}
+use Rattle.std.proofs.Common.{◌≡◌, ◌⊎◌, ⊎_elim, ℕ, ◌+◌, ◌*◌, ◌/◌, ◌^◌, ◌<◌, ◌≤◌, [], ◌∷◌, List, ℤ, pos, ◌+ℤ◌, ◌*ℤ◌, to_z, of_z, length, map, drop, get_or, slice_index_or, Option, None, IfSome, arith, sym, ap, ◌∙◌, subst, rules}
+use Rattle.std.proofs.lemmas.List.{drop_more, drop_all}
+use Rattle.std.specs.Int.{w64}
+use Rattle.whole_math.specs.Vectors.{sum}
+use Rattle.whole_math.proofs.Order.{lins}
 use Rattle.quadratic_form.specs.Rows.{SignalGroup}
 use Rattle.quadratic_form.specs.MatrixEntries.{group_entry, matrix_entry}
+use Rattle.form_tables.specs.declared.sizes.TheConstants.{BASELINE_COLUMNS}
 use Rattle.form_tables.specs.Tables.{entry}
 use Rattle.obs_rows.specs.declared.arcs.Arc.{Arc}
 use Rattle.obs_rows.specs.declared.rows.Row.{Row}
 use Rattle.obs_rows.specs.declared.units.TheConstants.{PHASES}
+use Rattle.obs_rows.specs.Signals.{weight}
 use Rattle.obs_rows.specs.SignalGroups.{signal_group}
 use Rattle.normal_sum.specs.Places.{ArePlaces}
+use Rattle.normal_sum.specs.Directions.{direction_spread}
+use Rattle.normal_sum.proofs.Words.{small_w64}
 use Rattle.normal_sum.proofs.RowSums.{next_sum}
+use Rattle.normal_sum.proofs.DirectionLaws.{baseline_entries}
 use Rattle.normal_sum.proofs.PlaceLaws.{are_places, are_within, phase_within}
 use Rattle.normal_sum.proofs.pairs.add_pair.Goals as goal
 
@@ -44,8 +52,34 @@ loop-signal-preserved c =
     (are_places arcs signals s c.as_slice.result.now c.first_places-firsts.result c.places_of-places.result c.phase_place.result c.phase_place.ensures c.first_places-firsts.ensures.value
     c.places_of-places.ensures) in
     record {
-      sums = λ i j hi hj. next_sum (entry c.loop-signal.table i j) (entry c.add_signal.new.table i j) (group_entry (f s) i j) (matrix_entry (map f (drop (k + 1) signals)) i j) _
-          (ap (λ (l : List ℕ). entry c.loop-signal.table i j +ℤ matrix_entry (map f l) i j) (sym e) ∙ c.loop-signal.invariant.sums i j hi hj)
-          (c.add_signal.ensures.added arcs signals are c.requires.integers i j hi hj);
-      size = λ i j hi hj. larger _ _ _ k (c.add_signal.ensures.size i j hi hj) (c.loop-signal.invariant.size i j hi hj);
+      sums = λ i j hi b hj. next_sum (entry c.loop-signal.table i j) (entry c.add_signal.new.table i j) (group_entry (f s) i j) (matrix_entry (map f (drop (k + 1) signals)) i j) _
+          (ap (λ (l : List ℕ). entry c.loop-signal.table i j +ℤ matrix_entry (map f l) i j) (sym e) ∙ c.loop-signal.invariant.sums i j hi b hj)
+          (c.add_signal.ensures.added arcs signals are c.requires.integers i j hi b hj);
+      size = λ i j hi b hj. larger _ _ _ k (c.add_signal.ensures.size i j hi b hj) (c.loop-signal.invariant.size i j hi b hj);
+      baseline = λ i j h. c.add_signal.ensures.baseline i j h ∙ c.loop-signal.invariant.baseline i j h;
     }
+
+no_more : (x a : ℤ) → x +ℤ pos 0 ≡ a → x ≡ a
+no_more x a whole = omega (arith, lins)
+
+side : (i n : ℕ) → (i < n) ⊎ (n ≤ i)
+side i n = grind arith
+
+pub returns-clause-added : goal.returns-clause-added
+returns-clause-added c =
+    let arcs : List Arc = c.args.arcs.now in
+    let signals : List ℕ = c.args.signals.now in
+    let rows : List Row = c.as_slice-rows.result.now in
+    let past : drop c.loop-signal.signal-index signals ≡ [] = drop_all c.loop-signal.signal-index signals (omega arith) in
+    let share : to_z w64 (of_z w64 c.total_share.result) ≡ pos (360360 / length c.as_slice-rows.result.now) *ℤ sum (map weight c.args.signals.now) =
+    small_w64 c.total_share.result c.total_share.ensures.from c.total_share.ensures.to ∙ c.total_share.ensures.value in
+    λ i j h g. ⊎_elim
+    (λ (b : j < BASELINE_COLUMNS). c.add_directions.ensures.added i j h b
+    ∙ ap (λ z. z +ℤ (direction_spread rows i j *ℤ to_z w64 (of_z w64 c.total_share.result))) (c.loop-signal.invariant.baseline i j b)
+    ∙ ap (λ z. entry c.args.table.now i j +ℤ (direction_spread rows i j *ℤ z)) share
+    ∙ ap (λ (l : List Row). entry c.args.table.now i j +ℤ (direction_spread l i j *ℤ (pos (360360 / length l) *ℤ sum (map weight signals)))) c.as_slice-rows.ensures
+    ∙ ap (λ z. entry c.args.table.now i j +ℤ z) (sym (baseline_entries arcs signals c.args.pair.now signals i j (omega arith) b)))
+    (λ (b : BASELINE_COLUMNS ≤ j). c.add_directions.ensures.behind i j b
+    ∙ no_more _ _ (ap (λ (l : List ℕ). entry c.loop-signal.table i j +ℤ matrix_entry (map (signal_group arcs signals c.args.pair.now) l) i j) (sym past)
+    ∙ c.loop-signal.invariant.sums i j h b g))
+    (side j BASELINE_COLUMNS)

@@ -17,7 +17,7 @@ pub returns-clause-value : goal.returns-clause-value
 returns-clause-value c = λ arcs.
     let ss : List ℕ = c.args.signals.now in
     let w : ℤ = sum (map weight c.args.signals.now) in
-    c.add_radii_of.ensures.value w arcs ss 0 (small_w64 c.total_weight.result c.total_weight.ensures.from c.total_weight.ensures.to ∙ c.total_weight.ensures.value)
+    c.add_radii_of.ensures.value w arcs ss 0 (small_w64 c.total_share.result c.total_share.ensures.from c.total_share.ensures.to ∙ c.total_share.ensures.value)
     ∙ ap (λ (l : List Row). add_radii (radii_of c.args.start) (row_radii w (map (signal_row arcs ss 0) l))) c.as_slice.ensures
     ∙ ap (add_radii (radii_of c.args.start)) (radii_together arcs ss c.args.pair.now ss)
 

@@ -31,9 +31,10 @@ pub loop-k-init : goal.loop-k-init
 loop-k-init c = record {
   full = refl;
   zeros = refl;
-  products = λ arcs ss p n i j h g. refl;
+  products = λ arcs ss p n i j h b g. refl;
   sums = λ arcs ss p n j h. zero_first _ _ (zero_item MOST_COLUMNS j);
-  table_size = λ i j h g. omega arith;
+  table_size = λ i j h b g. omega arith;
+  baseline = λ i j h. refl;
   sum_size = λ j h. size_zero _ (zero_item MOST_COLUMNS j);
 }
 
@@ -46,7 +47,7 @@ total_fits a k h l = omega arith
 pub add_row-requires-clause-entry_size : goal.add_row-requires-clause-entry_size
 add_row-requires-clause-entry_size c =
     let few : c.loop-k.k ≤ MOST_ROWS = omega (arith, c.loop-k-test.true, c.requires.few_rows) in
-    λ i j h g. entry_fits _ _ c.loop-k.k (c.loop-k.invariant.table_size i j h g) (c.requires.entry_size i j h g) few
+    λ i j h b g. entry_fits _ _ c.loop-k.k (c.loop-k.invariant.table_size i j h b g) (c.requires.entry_size i j h b g) few
 
 pub add_row-requires-clause-total_size : goal.add_row-requires-clause-total_size
 add_row-requires-clause-total_size c =
@@ -63,14 +64,14 @@ loop-k-preserved c =
     record {
       full = search rules;
       zeros = c.add_row.ensures.zeros;
-      products = λ arcs ss p n i j h g.
+      products = λ arcs ss p n i j h b g.
           let f : Row → SignalRow = signal_row arcs ss c.args.signal in
           let place : slice_index_or c.args.places.now c.loop-k.k None ≡ integer_place arcs ss c.index-rows-k.result.arc c.args.signal = p c.loop-k.k x inside
           ∙ ap (λ (r : Row). integer_place arcs ss r.arc c.args.signal) (sym c.index-rows-k.is) in
           next_product (entry c.loop-k.table i j) (entry c.add_row.new.table i j) (entry c.args.table.now i j) k (coefficient (f x) i) (coefficient (f x) j) (product_sum (map f later) i j)
           (product_sum (map f c.args.rows.now) i j)
-          (ap (λ (l : List Row). entry c.loop-k.table i j +ℤ (k *ℤ product_sum (map f l) i j)) (sym e) ∙ c.loop-k.invariant.products arcs ss p n i j h g)
-          (c.add_row.ensures.products arcs ss place n i j h g);
+          (ap (λ (l : List Row). entry c.loop-k.table i j +ℤ (k *ℤ product_sum (map f l) i j)) (sym e) ∙ c.loop-k.invariant.products arcs ss p n i j h b g)
+          (c.add_row.ensures.products arcs ss place n i j h b g);
       sums = λ arcs ss p n j h.
           let f : Row → SignalRow = signal_row arcs ss c.args.signal in
           let place : slice_index_or c.args.places.now c.loop-k.k None ≡ integer_place arcs ss c.index-rows-k.result.arc c.args.signal = p c.loop-k.k x inside
@@ -79,6 +80,7 @@ loop-k-preserved c =
           (coefficient_sum (map f c.args.rows.now) j)
           (ap (λ (l : List Row). slice_index_or c.loop-k.total j (pos 0) +ℤ coefficient_sum (map f l) j) (sym e) ∙ c.loop-k.invariant.sums arcs ss p n j h)
           (c.add_row.ensures.sums arcs ss place n j h);
-      table_size = λ i j h g. larger _ _ _ _ (c.add_row.ensures.table_size i j h g) (c.loop-k.invariant.table_size i j h g);
+      table_size = λ i j h b g. larger _ _ _ _ (c.add_row.ensures.table_size i j h b g) (c.loop-k.invariant.table_size i j h b g);
+      baseline = λ i j h. c.add_row.ensures.baseline i j h ∙ c.loop-k.invariant.baseline i j h;
       sum_size = λ j h. larger_sum _ _ _ (c.add_row.ensures.sum_size j h) (c.loop-k.invariant.sum_size j h);
     }

@@ -43,14 +43,14 @@ returns-clause-added c =
     share_of rows c.as_slice-rows.result.now c.args.signal c.turned_share-share.result e c.turned_share-share.ensures in
     let s : unsigned_abs c.turned_share-share.result ≤ 2 ^ 32 = share_within (length rows) c.args.signal c.turned_share-share.result c.args.pair.now.some_rows v in
     let w : to_z w64 (of_z w64 c.turned_share-share.result) ≡ c.turned_share-share.result = as_w64 c.turned_share-share.result (omega arith) in
-    λ arcs ss places integers i j hi hj.
+    λ arcs ss places integers i j hi b hj.
     let f : Row → SignalRow = signal_row arcs ss c.args.signal in
     let n : length (map f rows) ≡ length rows = same_length f rows in
     let read : ArePlaces arcs ss c.args.signal c.as_slice-rows.result.now c.args.places.now = subst (λ (l : List Row). ArePlaces arcs ss c.args.signal l c.args.places.now) (sym e) places in
     group_is (entry c.add_rows-total.new.table i j) (entry c.add_product.new.table i j) (entry c.args.table.now i j) (pos 360360 *ℤ weight c.args.signal)
     (pos (360360 / length (map f rows)) *ℤ weight c.args.signal) (len (map f rows)) (product_sum (map f rows) i j) (coefficient_sum (map f rows) i) (coefficient_sum (map f rows) j) t
-    (c.add_rows-total.ensures.products arcs ss read integers i j hi hj ∙ ap (λ (l : List Row). entry c.args.table.now i j +ℤ ((pos 360360 *ℤ weight c.args.signal) *ℤ product_sum (map f l) i j)) e)
-    (c.add_product.ensures i j hi hj
+    (c.add_rows-total.ensures.products arcs ss read integers i j hi b hj ∙ ap (λ (l : List Row). entry c.args.table.now i j +ℤ ((pos 360360 *ℤ weight c.args.signal) *ℤ product_sum (map f l) i j)) e)
+    (c.add_product.ensures.added i j hi b hj
     ∙ ap (λ z. entry c.add_rows-total.new.table i j +ℤ ((z *ℤ slice_index_or c.add_rows-total.result i (pos 0)) *ℤ slice_index_or c.add_rows-total.result j (pos 0))) w
     ∙ ap (λ z. entry c.add_rows-total.new.table i j +ℤ ((t *ℤ z) *ℤ slice_index_or c.add_rows-total.result j (pos 0))) (c.add_rows-total.ensures.sums arcs ss read integers i (before i j hi hj)
     ∙ ap (λ (l : List Row). coefficient_sum (map f l) i) e)
@@ -68,10 +68,10 @@ returns-clause-size c =
     share_of rows c.as_slice-rows.result.now c.args.signal c.turned_share-share.result e c.turned_share-share.ensures in
     let s : unsigned_abs c.turned_share-share.result ≤ 2 ^ 32 = share_within (length rows) c.args.signal c.turned_share-share.result c.args.pair.now.some_rows v in
     let w : to_z w64 (of_z w64 c.turned_share-share.result) ≡ c.turned_share-share.result = as_w64 c.turned_share-share.result (omega arith) in
-    λ i j hi hj. group_size (entry c.add_rows-total.new.table i j) (entry c.add_product.new.table i j) (entry c.args.table.now i j) (to_z w64 (of_z w64 c.turned_share-share.result))
-    (slice_index_or c.add_rows-total.result i (pos 0)) (slice_index_or c.add_rows-total.result j (pos 0)) (length rows) c.args.pair.now.few_rows (c.add_product.ensures i j hi hj)
+    λ i j hi b hj. group_size (entry c.add_rows-total.new.table i j) (entry c.add_product.new.table i j) (entry c.args.table.now i j) (to_z w64 (of_z w64 c.turned_share-share.result))
+    (slice_index_or c.add_rows-total.result i (pos 0)) (slice_index_or c.add_rows-total.result j (pos 0)) (length rows) c.args.pair.now.few_rows (c.add_product.ensures.added i j hi b hj)
     (subst (λ (l : List Row). unsigned_abs (entry c.add_rows-total.new.table i j) ≤ unsigned_abs (entry c.args.table.now i j) + (length l * 2 ^ 100)) e
-    (c.add_rows-total.ensures.table_size i j hi hj))
+    (c.add_rows-total.ensures.table_size i j hi b hj))
     (subst (λ (z : ℤ). unsigned_abs z * length rows ≤ 2 ^ 32) (sym w) (share_size (length rows) c.args.signal c.turned_share-share.result v))
     (subst (λ (l : List Row). unsigned_abs (slice_index_or c.add_rows-total.result i (pos 0)) ≤ length l * 2 ^ 34) e (c.add_rows-total.ensures.sum_size i (before i j hi hj)))
     (subst (λ (l : List Row). unsigned_abs (slice_index_or c.add_rows-total.result j (pos 0)) ≤ length l * 2 ^ 34) e (c.add_rows-total.ensures.sum_size j hj))
