@@ -22,12 +22,12 @@
 //! - `orbit`: numbers that hold every solution of the satellite's equations, with its system's constants, for the record
 //!   that is chosen at the tick; none is chosen.
 //! - `fix`, `track`: the certificate of integers that, with their move or moves, are strictly best for all rational data in
-//!   the printed boxes, and of a session that stands for the files (`SaysOfFix`, `SaysOfTrack`); the text of an outcome
-//!   that is no fix, with its cause.
+//!   the printed boxes, and best by the ratio, and of a session that stands for the files (`SaysOfFix`, `SaysOfTrack`);
+//!   the text of an outcome that is no fix, with its cause.
 //! - `check`, `check-track`: `certified`, where the integers of the text are so; `not certified` and why.
 //! - `residuals`: what is left of each row's observations; the certificate has no vectors.
-//! - `migrate`: the spelling of the lifted certificate, whose tail is fixed, and strictly best in the old boxes; the same
-//!   where its tail isn't fixed (`SaysOfMigrate`).
+//! - `migrate`: the spelling of the lifted certificate, whose tail is fixed, and strictly best in the old boxes, and best by
+//!   the ratio; the same where its tail isn't fixed (`SaysOfMigrate`).
 //! - `arcs`: the kept arcs of the files; never.
 //! - `sim`: a file of a session of the seed; never.
 //! - `sim run`: the four lines about a session whose outcome is a fix; whose outcome is none. `match yes` stands exactly

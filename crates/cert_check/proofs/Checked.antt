@@ -12,13 +12,15 @@ use Rattle.int_search.specs.Answers.{IsTwoBest}
 use Rattle.fix_decide.specs.UpperSums.{top}
 use Rattle.fix_decide.specs.Widths.{AreWide}
 use Rattle.fix_decide.specs.Decisions.{IsFormOf, first_of, move_of}
+use Rattle.fix_decide.specs.Ratios.{IsBestByRatio}
+use Rattle.fix_decide.proofs.DecisionLaws.{best_by_ratio}
 use Rattle.cert_data.specs.declared.tails.Tail.{Tail}
 use Rattle.cert_data.specs.declared.tails.Tail.TheVariants.{Fixed, Unseparated, Weak, Overwidth, Unsettled, Spent}
-use Rattle.cert_check.specs.Decided.{Numbers, IsDecided, numbers, Says, IsBestIn}
+use Rattle.cert_check.specs.Decided.{Numbers, IsDecided, IsFixed, numbers, Says, IsBestIn, IsBestByRatioIn}
 use Rattle.cert_data.specs.declared.verdicts.Verdict.{Verdict}
 use Rattle.cert_data.specs.declared.verdicts.Verdict.TheVariants.{Certified, Not}
 use Rattle.cert_data.specs.declared.verdicts.Cause.TheVariants as cause
-use Rattle.cert_check.specs.Verdicts.{IsWideAt}
+use Rattle.cert_check.specs.Verdicts.{IsWideAt, IsVerdictOf}
 use Rattle.cert_check.specs.Visits.{IsSearchedWithin, RestsWithin}
 
 -- what is strictly best is so in a tail that says it
@@ -30,6 +32,23 @@ best_said s (Weak column pivot) d said is = absurd said
 best_said s (Overwidth place) d said is = absurd said
 best_said s (Unsettled entry) d said is = absurd said
 best_said s (Spent budget) d said is = absurd said
+
+ratio_said : (s : Session) (ratio : ℕ) (t : Tail) (d : Numbers) → Says t d → IsBestByRatio ratio s (first_of d.best) d.moved → IsBestByRatioIn ratio s t
+ratio_said s ratio (Fixed h moved best u) d said is = subst (λ (z : List ℤ). IsBestByRatio ratio s z moved) (sym said.best_is.first_is)
+    (subst (λ (m : List ℤ). IsBestByRatio ratio s (first_of d.best) m) (sym said.moved_is) is)
+ratio_said s ratio (Unseparated h moved best u) d said is = absurd said
+ratio_said s ratio (Weak column pivot) d said is = absurd said
+ratio_said s ratio (Overwidth place) d said is = absurd said
+ratio_said s ratio (Unsettled entry) d said is = absurd said
+ratio_said s ratio (Spent budget) d said is = absurd said
+
+-- what is certified is best by the ratio
+pub certified_by_ratio : (s : Session) (ratio budget : ℕ) (t : Tail) → s.scale ≡ 0 → IsVerdictOf s ratio budget t Certified → IsBestByRatioIn ratio s t
+certified_by_ratio s ratio budget t fine is =
+    let d : Numbers = is.0 in
+    let fixed : IsFixed s ratio d = is.1.0 in
+    let rows : IsDecided s d = fixed.decided in
+    ratio_said s ratio t d is.1.1 (best_by_ratio s rows.form d.best ratio d.top d.moved fine rows.of_rows rows.best_is rows.top_is fixed.separated)
 
 -- what a decision that isn't refused says
 pub decided_by : (s : Session) (f : Form) (b : TwoBest) (m : List ℤ) (t : ℤ) → IsFormOf s f → IsTwoBest f b → m ≡ move_of f (first_of b) → (HasWide (move_of f (first_of b)) → ⊥) →

@@ -10,6 +10,7 @@ use Rattle.int_search.specs.Answers.{IsTwoBest}
 use Rattle.fix_decide.specs.UpperSums.{top}
 use Rattle.fix_decide.specs.Widths.{AreWide}
 use Rattle.fix_decide.specs.Decisions.{IsFormOf, IsSeparated, first_of, second_of, move_of}
+use Rattle.fix_decide.specs.Ratios.{IsBestByRatio}
 use Rattle.cert_data.specs.declared.tails.Tail.{Tail}
 use Rattle.cert_data.specs.declared.tails.Tail.TheVariants.{Fixed}
 
@@ -63,3 +64,8 @@ Says _ d = ⊥
 abbrev pub IsBestIn : Session → Tail → Type 0
 IsBestIn s (Fixed h moved best t) = IsStrictlyBest s (first_of best) moved
 IsBestIn s _ = ⊥
+
+-- and best by the ratio
+abbrev pub IsBestByRatioIn : ℕ → Session → Tail → Type 0
+IsBestByRatioIn ratio s (Fixed h moved best t) = IsBestByRatio ratio s (first_of best) moved
+IsBestByRatioIn ratio s _ = ⊥

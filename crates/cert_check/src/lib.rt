@@ -4,7 +4,8 @@
 //! condition on the rows (`verdict`), and no other verdict's condition holds, but where a search gave up (`only`); it
 //! gives up only where the form of the rows has no reduced count within the budget. So `Certified` comes exactly
 //! where the rows are fixed and the tail says their numbers; and then the tail's first integers with its move are
-//! strictly best for the rows, whoever wrote the text (`strictly_best`). `are_same_best` compares two pairs of least vectors.
+//! strictly best for the rows, and best by the ratio, whoever wrote the text (`strictly_best`, `by_ratio`).
+//! `are_same_best` compares two pairs of least vectors.
 #![tactic(auto)]
 
 mod tails;

@@ -4,7 +4,7 @@ ghost use Rattle.int_search.specs.Answers.{IsTwoBest};
 ghost use Rattle.fix_decide.specs.Decisions.{IsFormOf};
 ghost use Rattle.cert_data.specs.declared.verdicts.Verdict.{Verdict};
 ghost use Rattle.cert_data.specs.declared.verdicts.Verdict.TheVariants.{Certified};
-ghost use Rattle.cert_check.specs.Decided.{IsBestIn};
+ghost use Rattle.cert_check.specs.Decided.{IsBestIn, IsBestByRatioIn};
 ghost use Rattle.cert_check.specs.Verdicts.{IsVerdictOf, IsSameVerdict, verdict_of};
 ghost use Rattle.cert_check.specs.Visits.{RestsWithin};
 
@@ -65,8 +65,8 @@ fn check_form(cert: &Cert, form: &Form) -> Verdict
 /// Whether the rows of a certificate, decided again, say what its tail says of a fix.
 ///
 /// Where they do, the tail's first integers with its move are strictly best: whatever the data in the boxes of the rows
-/// are, each other integer vector, with any baseline, has a greater weighted sum of squares. Nothing of the tail is read
-/// before the rows are decided.
+/// are, each other integer vector, with any baseline, has a weighted sum of squares that is greater, and greater by the
+/// certificate's ratio. Nothing of the tail is read before the rows are decided.
 ///
 /// It isn't inlined, so that its form doesn't lie on the stack of the other jobs.
 #[inline(never)]
@@ -74,6 +74,7 @@ pub fn check(cert: &Cert) -> Verdict
     ensures verdict { IsVerdictOf cert.now.session cert.now.ratio cert.now.budget cert.now.tail result }
     ensures visits { RestsWithin cert.now.session cert.now.budget result }
     ensures strictly_best { result ≡ Certified → IsBestIn cert.now.session cert.now.tail }
+    ensures by_ratio { result ≡ Certified → IsBestByRatioIn cert.now.ratio cert.now.session cert.now.tail }
     ensures only { (v : Verdict) → IsVerdictOf cert.now.session cert.now.ratio cert.now.budget cert.now.tail v → IsSameVerdict v result }
 {
     match form_of_rows(&cert.session) {

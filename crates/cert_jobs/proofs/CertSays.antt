@@ -10,6 +10,7 @@ use Rattle.cert_spelling.specs.Lengths.{IsWhole}
 use Rattle.cert_check.specs.Decided.{IsBestIn}
 use Rattle.cert_check.specs.Visits.{RestsWithin}
 use Rattle.cert_check.specs.Verdicts.{IsVerdictOf, IsSameVerdict}
+use Rattle.cert_check.proofs.Checked.{certified_by_ratio}
 use Rattle.cert_report.specs.VerdictText.{verdict_text}
 use Rattle.cert_report.specs.Residuals.{has_vectors, residuals_text}
 use Rattle.job_answers.specs.declared.status.Status.TheVariants.{ReadFault}
@@ -77,6 +78,7 @@ verdict_says told name text c Certified out is whole spelled verdict only visits
   only = only;
   visits = visits;
   best = best refl;
+  by_ratio = certified_by_ratio c.session c.ratio c.budget c.tail c.fine verdict;
   printed = written;
 }
 verdict_says told name text c (Not cause) out is whole spelled verdict only visits best written = record {

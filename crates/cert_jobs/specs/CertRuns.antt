@@ -8,7 +8,7 @@ use Rattle.cert_data.specs.declared.verdicts.Verdict.TheVariants.{Certified, Not
 use Rattle.cert_data.specs.declared.verdicts.Cause.{Cause}
 use Rattle.cert_spelling.specs.Spelling.{spelling}
 use Rattle.cert_spelling.specs.Lengths.{IsWhole, IsCertificate}
-use Rattle.cert_check.specs.Decided.{IsBestIn}
+use Rattle.cert_check.specs.Decided.{IsBestIn, IsBestByRatioIn}
 use Rattle.cert_check.specs.Visits.{RestsWithin}
 use Rattle.cert_check.specs.Verdicts.{IsVerdictOf, IsSameVerdict}
 use Rattle.cert_report.specs.VerdictText.{verdict_text}
@@ -20,7 +20,7 @@ use Rattle.job_answers.specs.Delivered.{SinkChange}
 
 -- The text spells a certificate, its rows are fixed and its tail says so, and out says it. No other verdict holds of it,
 -- but where a search gives up, and the search kept the certificate's budget. Whoever wrote it: each other integer vector, with any baseline, has a greater sum of squares
--- for all data in the boxes of the rows.
+-- for all data in the boxes of the rows, and one that is greater by the certificate's ratio.
 pub record SaysCertified (told : List ℕ → Option (List ℕ)) (name : List ℕ) (out : SinkChange) : Type 0 where
   pub text : List ℕ
   pub is : IsTextOf told name text
@@ -31,6 +31,7 @@ pub record SaysCertified (told : List ℕ → Option (List ℕ)) (name : List �
   pub only : (v : Verdict) → IsVerdictOf cert.session cert.ratio cert.budget cert.tail v → IsSameVerdict v Certified
   pub visits : RestsWithin cert.session cert.budget Certified
   pub best : IsBestIn cert.session cert.tail
+  pub by_ratio : IsBestByRatioIn cert.ratio cert.session cert.tail
   pub printed : Appends out.old out.new (codes "certified\n")
 
 -- It isn't, for this cause and no other, but where a search gave up. A search that the cause rests on kept the budget.

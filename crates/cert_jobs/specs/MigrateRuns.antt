@@ -16,7 +16,8 @@ use Rattle.cert_jobs.specs.Migrations.{status_of}
 
 -- The text spells a certificate of version 1, and out has gained the spelling of a lifted one, of which the whole law
 -- holds: the old boxes' data are data of the new ones, the sums of squares are the old ones in the present unit, the tail
--- is the decision of the new rows, and what is fixed is strictly best in the old boxes. The status says whether it is.
+-- is the decision of the new rows, and what is fixed is strictly best in the old boxes, and best by the ratio. The status
+-- says whether it is.
 pub record SaysMigrated (told : List ℕ → Option (List ℕ)) (name : List ℕ) (status : Status) (out : SinkChange) : Type 0 where
   pub text : List ℕ
   pub is : IsTextOf told name text

@@ -1,8 +1,8 @@
--- What is strictly best in a lifted session is strictly best in the old one.
-use Rattle.std.proofs.Common.{◌≡◌, ℕ, ◌*◌, ◌^◌, if◌then◌else◌, ◌==◌, List, [], ◌∷◌, ℤ, pos, ◌*ℤ◌, refl, sym, ap, ap₂, ◌∙◌, subst}
+-- What is strictly best in a lifted session, or best by a ratio, is so in the old one.
+use Rattle.std.proofs.Common.{◌≡◌, inl, inr, ℕ, ◌*◌, ◌^◌, if◌then◌else◌, ◌==◌, List, [], ◌∷◌, ℤ, pos, ◌*ℤ◌, refl, sym, ap, ap₂, ◌∙◌, subst}
 use Rattle.whole_math.proofs.Ring.{◌⊗◌}
 use Rattle.whole_math.proofs.Inequalities.{same_by, nat, pos_nn}
-use Rattle.rational.specs.Rational.{◌<ʳ◌, mul_r}
+use Rattle.rational.specs.Rational.{Rational, ◌≈◌, ◌<ʳ◌, mul_r, times}
 use Rattle.obs_rows.specs.declared.arcs.Arc.{Arc}
 use Rattle.obs_rows.specs.declared.sessions.Session.{Session}
 use Rattle.obs_rows.specs.declared.units.TheConstants.{COARSE_SIGNALS}
@@ -11,14 +11,20 @@ use Rattle.obs_rows.specs.Integers.{integer_count}
 use Rattle.obs_rows.specs.Data.{AreData}
 use Rattle.obs_rows.specs.SumOfSquares.{sum_of_squares}
 use Rattle.obs_rows.specs.Best.{moved, IsStrictlyBest}
+use Rattle.integer_form.specs.declared.faults.LowerFault.{LowerFault}
+use Rattle.integer_form.specs.declared.faults.LowerFault.TheVariants as fault
+use Rattle.int_search.specs.declared.answer.TwoBest.{TwoBest}
 use Rattle.fix_decide.specs.Decisions.{first_of}
+use Rattle.fix_decide.specs.Ratios.{IsBestByRatio}
+use Rattle.fix_decide.proofs.DecisionLaws.{best_by_ratio}
 use Rattle.cert_data.specs.declared.tails.Tail.{Tail}
 use Rattle.cert_data.specs.declared.tails.Tail.TheVariants.{Fixed, Unseparated, Weak, Overwidth, Unsettled, Spent}
-use Rattle.settled_decision.specs.Decided.{IsBestWhereFixed}
+use Rattle.settled_decision.specs.Decided.{IsBestWhereFixed, tail_of}
 use Rattle.cert_migrate.specs.declared.old_sessions.OldSession.{OldSession}
 use Rattle.cert_migrate.specs.OldTails.{old_integer_count}
-use Rattle.cert_migrate.specs.OldSums.{at, old_sum, IsOldBest}
-use Rattle.cert_migrate.specs.Lifted.{IsLiftedSession, unit_ratio, scaled, scaled_baseline, in_old_unit, IsOldBestWhereFixed}
+use Rattle.cert_migrate.specs.OldSums.{at, old_sum, IsOldBest, IsOldBestByRatio}
+use Rattle.cert_migrate.specs.Lifted.{IsLiftedSession, unit_ratio, scaled, scaled_baseline, in_old_unit, IsOldBestWhereFixed, IsOldBestByRatioWhereFixed}
+use Rattle.cert_migrate.specs.RowDecisions.{IsRowDecision}
 use Rattle.cert_migrate.proofs.Scaling.{AreScaledBaselines, less_back}
 use Rattle.cert_migrate.proofs.LiftedArcs.{count_same}
 use Rattle.cert_migrate.proofs.LiftedData.{signals_are, data_scaled}
@@ -60,3 +66,46 @@ best_where_fixed old s (Weak column pivot) i d = tt
 best_where_fixed old s (Overwidth place) i d = tt
 best_where_fixed old s (Unsettled entry) i d = tt
 best_where_fixed old s (Spent budget) i d = tt
+
+-- ---- by the ratio
+-- n times what is scaled
+times_scaled : (n : ℕ) (f p q : Rational) → q ≈ mul_r f p → times n q ≈ mul_r f (times n p)
+times_scaled n f p q e = step (pos n) q.num (pos (f.den * p.den)) f.num p.num (pos q.den) e
+  where
+    step : (n a d b c e : ℤ) → a *ℤ d ≡ (b *ℤ c) *ℤ e → (n *ℤ a) *ℤ d ≡ (b *ℤ (n *ℤ c)) *ℤ e
+    step n a d b c e h =
+        same_by (n ∷ a ∷ d ∷ []) (λ n a d. ((n ⊗ a) ⊗ d, n ⊗ (a ⊗ d))) refl
+        ∙ ap (λ x. n *ℤ x) h
+        ∙ same_by (n ∷ b ∷ c ∷ e ∷ []) (λ n b c e. (n ⊗ ((b ⊗ c) ⊗ e), (b ⊗ (n ⊗ c)) ⊗ e)) refl
+
+ratio_lifted : (old : OldSession) (s : Session) (ratio : ℕ) (z m : List ℤ) → IsLiftedSession old s → IsBestByRatio ratio s z m → IsOldBestByRatio ratio old z (in_old_unit m)
+ratio_lifted old s ratio z m i best = record {
+  entries = best.entries ∙ integers_are old s i;
+  best = λ observed held w entries other b.
+      let f : Rational = mul_r unit_ratio unit_ratio in
+      let ss = counted_are s i.scale in
+      let ours : Rational = sum_of_squares s.arcs (fine_signals s.signals) s.pairs z (moved m) (scaled observed) in
+      let theirs : Rational = sum_of_squares s.arcs (fine_signals s.signals) s.pairs w (scaled_baseline b) (scaled observed) in
+      let new : times ratio ours <ʳ times 1000 theirs =
+      subst (λ (ss : List ℕ). times ratio (sum_of_squares s.arcs ss s.pairs z (moved m) (scaled observed)) <ʳ times 1000 (sum_of_squares s.arcs ss s.pairs w (scaled_baseline b) (scaled observed))) ss
+      (best.best (scaled observed) (subst (λ (ss : List ℕ). AreData ss s.pairs (scaled observed)) (sym ss) (data_scaled old s i observed held)) w (entries ∙ sym (integers_are old s i)) other
+      (scaled_baseline b)) in
+      less_back f (times ratio (old_sum old.arcs old.pairs z (in_old_unit m) observed)) (times 1000 (old_sum old.arcs old.pairs w b observed)) (times ratio ours) (times 1000 theirs) (pos_nn 529)
+      (times_scaled ratio f (old_sum old.arcs old.pairs z (in_old_unit m) observed) ours (sum_lifted old s z (in_old_unit m) (moved m) observed i (move_scaled m)))
+      (times_scaled 1000 f (old_sum old.arcs old.pairs w b observed) theirs (sum_lifted old s w b (scaled_baseline b) observed i (baseline_scaled b))) new;
+}
+
+never_fixed : (why : LowerFault) (h : ℕ) (m : List ℤ) (best : TwoBest) (top : ℤ) → Fixed h m best top ≡ tail_of why → ⊥
+never_fixed (fault.Weak column pivot) h m best top e = cc
+never_fixed (fault.Overwidth place) h m best top e = cc
+
+pub ratio_where_fixed : (old : OldSession) (s : Session) (ratio budget : ℕ) (t : Tail) → IsLiftedSession old s → IsRowDecision s ratio budget t → IsOldBestByRatioWhereFixed ratio old t
+ratio_where_fixed old s ratio budget (Fixed h m best top) i (inl refused) = absurd (never_fixed refused.fault h m best top refused.tail_is)
+ratio_where_fixed old s ratio budget (Fixed h m best top) i (inr decided) =
+    let found = decided.decision.0 in
+    ratio_lifted old s ratio (first_of best) m i (best_by_ratio s decided.form best ratio top m i.scale decided.of_rows found.best_is found.top_is decided.decision.1)
+ratio_where_fixed old s ratio budget (Unseparated h m best top) i d = tt
+ratio_where_fixed old s ratio budget (Weak column pivot) i d = tt
+ratio_where_fixed old s ratio budget (Overwidth place) i d = tt
+ratio_where_fixed old s ratio budget (Unsettled entry) i d = tt
+ratio_where_fixed old s ratio budget (Spent spent) i d = tt

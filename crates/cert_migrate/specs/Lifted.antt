@@ -1,5 +1,5 @@
 -- A session of version 1 in the unit that is kept now: κ is 23 ι, so 2^-18 κ is 23/32 of 2^-13 ι.
-use Rattle.std.specs.Prelude.{◌≡◌, ◌*◌, ◌^◌, ℤ, pos, ◌+ℤ◌, ◌*ℤ◌, List, [], ◌∷◌, map}
+use Rattle.std.specs.Prelude.{◌≡◌, ℕ, ◌*◌, ◌^◌, ℤ, pos, ◌+ℤ◌, ◌*ℤ◌, List, [], ◌∷◌, map}
 use Rattle.std.specs.List.{AllZip}
 use Rattle.std.proofs.Common.{lit<}
 use Rattle.whole_math.specs.Rounding.{nearest_div, ceil_div}
@@ -19,7 +19,7 @@ use Rattle.cert_migrate.specs.declared.old_arcs.OldArc.{OldArc}
 use Rattle.cert_migrate.specs.declared.old_rows.OldRow.{OldRow}
 use Rattle.cert_migrate.specs.declared.old_pairs.OldPair.{OldPair}
 use Rattle.cert_migrate.specs.declared.old_sessions.OldSession.{OldSession}
-use Rattle.cert_migrate.specs.OldSums.{OldObserved, at, AreOldData, old_sum, IsOldBest}
+use Rattle.cert_migrate.specs.OldSums.{OldObserved, at, AreOldData, old_sum, IsOldBest, IsOldBestByRatio}
 
 -- ---- numbers
 -- the nearest to 23/32 of it
@@ -102,3 +102,12 @@ IsOldBestWhereFixed old (Weak column pivot) = Unit {0}
 IsOldBestWhereFixed old (Overwidth place) = Unit {0}
 IsOldBestWhereFixed old (Unsettled entry) = Unit {0}
 IsOldBestWhereFixed old (Spent budget) = Unit {0}
+
+-- and best by the ratio
+abbrev pub IsOldBestByRatioWhereFixed : ℕ → OldSession → Tail → Type 0
+IsOldBestByRatioWhereFixed ratio old (Fixed h moved best top) = IsOldBestByRatio ratio old (first_of best) (in_old_unit moved)
+IsOldBestByRatioWhereFixed ratio old (Unseparated h moved best top) = Unit {0}
+IsOldBestByRatioWhereFixed ratio old (Weak column pivot) = Unit {0}
+IsOldBestByRatioWhereFixed ratio old (Overwidth place) = Unit {0}
+IsOldBestByRatioWhereFixed ratio old (Unsettled entry) = Unit {0}
+IsOldBestByRatioWhereFixed ratio old (Spent budget) = Unit {0}

@@ -2,11 +2,11 @@
 use Rattle.std.specs.Prelude.{◌≡◌}
 use Rattle.cert_data.specs.declared.certs.Cert.{Cert}
 use Rattle.cert_migrate.specs.declared.old_certs.OldCert.{OldCert}
-use Rattle.cert_migrate.specs.Lifted.{IsLiftedSession, HasScaledData, HasScaledSums, IsOldBestWhereFixed}
+use Rattle.cert_migrate.specs.Lifted.{IsLiftedSession, HasScaledData, HasScaledSums, IsOldBestWhereFixed, IsOldBestByRatioWhereFixed}
 use Rattle.cert_migrate.specs.RowDecisions.{IsRowDecision}
 
 -- The session is lifted and the rows are decided again. The old boxes' data are data of the new ones, the sums of squares
--- are those of the old session in the new unit, and what is fixed is strictly best in the old boxes.
+-- are those of the old session in the new unit, and what is fixed is strictly best in the old boxes, and best by the ratio.
 pub record IsMigrated (old : OldCert) (new : Cert) : Type 0 where
   pub ratio : new.ratio ≡ old.ratio
   pub budget : new.budget ≡ old.budget
@@ -15,3 +15,4 @@ pub record IsMigrated (old : OldCert) (new : Cert) : Type 0 where
   pub boxes : HasScaledData old.session new.session
   pub sums : HasScaledSums old.session new.session
   pub best : IsOldBestWhereFixed old.session new.tail
+  pub by_ratio : IsOldBestByRatioWhereFixed new.ratio old.session new.tail

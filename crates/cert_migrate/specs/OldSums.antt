@@ -2,7 +2,7 @@
 -- it stands here, whatever later versions say: the unit κ, of which the wavelengths are 60 and 77, and rows in 2^-18 κ.
 use Rattle.std.specs.Prelude.{◌≡◌, ◌≢◌, ℕ, ◌*◌, ◌/◌, ◌+◌, ◌^◌, ℤ, pos, ◌*ℤ◌, Bool, false, if◌then◌else◌, nat_lt, Option, Some, None, List, [], ◌∷◌, ◌++◌, length, take, map, All, slice_get, slice_index_or}
 use Rattle.std.specs.List.{AllZip}
-use Rattle.rational.specs.Rational.{Rational, Near, ◌<ʳ◌, of_whole, add_r, sub_r, mul_r}
+use Rattle.rational.specs.Rational.{Rational, Near, ◌<ʳ◌, of_whole, add_r, sub_r, mul_r, times}
 use Rattle.quadratic_form.specs.RationalData.{Baseline, sum_of_rationals, spread_of_rationals}
 use Rattle.cert_migrate.specs.declared.old_arcs.OldArc.{OldArc}
 use Rattle.cert_migrate.specs.declared.old_rows.OldRow.{OldRow}
@@ -100,3 +100,10 @@ pub record IsOldBest (s : OldSession) (z : List ℤ) (m : Baseline) : Type 0 whe
   pub best : (observed : List (List OldObserved)) → AreOldData s.pairs observed →
       (w : List ℤ) → length w ≡ old_integer_count s.arcs → w ≢ z → (b : Baseline) →
       old_sum s.arcs s.pairs z m observed <ʳ old_sum s.arcs s.pairs w b observed
+
+-- the same by a ratio in thousandths: ratio times the sum of squares of z with m is less than 1000 times the other's
+pub record IsOldBestByRatio (ratio : ℕ) (s : OldSession) (z : List ℤ) (m : Baseline) : Type 0 where
+  pub entries : length z ≡ old_integer_count s.arcs
+  pub best : (observed : List (List OldObserved)) → AreOldData s.pairs observed →
+      (w : List ℤ) → length w ≡ old_integer_count s.arcs → w ≢ z → (b : Baseline) →
+      times ratio (old_sum s.arcs s.pairs z m observed) <ʳ times 1000 (old_sum s.arcs s.pairs w b observed)

@@ -9,7 +9,8 @@
 //! `lift` brings its rows into the present unit, in boxes that hold all that the old ones held, and decides them again.
 //! The law of its contract: data of the old boxes times 23/32 are data of the new ones (`boxes`), the weighted sum of
 //! squares there is (23/32)² times the old one, for all integers and baselines (`sums`), and so where the new tail is
-//! fixed, its integers with its move are strictly best in the old boxes (`best`). The old tail is read and dropped.
+//! fixed, its integers with its move are strictly best in the old boxes (`best`), and best by the ratio (`by_ratio`). The
+//! old tail is read and dropped.
 #![tactic(auto)]
 
 mod decisions;

@@ -1,6 +1,6 @@
 //! A certificate of the first version, lifted to the present one.
 ghost use Rattle.std.specs.Prelude.{◌≡◌, map, IfOk};
-ghost use Rattle.cert_migrate.specs.Lifted.{lifted_arc, IsLiftedSession, HasScaledData, HasScaledSums, IsOldBestWhereFixed};
+ghost use Rattle.cert_migrate.specs.Lifted.{lifted_arc, IsLiftedSession, HasScaledData, HasScaledSums, IsOldBestWhereFixed, IsOldBestByRatioWhereFixed};
 ghost use Rattle.cert_migrate.specs.RowDecisions.{IsRowDecision};
 
 use crate::decisions::decide_rows;
@@ -59,6 +59,7 @@ pub fn lift(alloc: Global, old: &OldCert) -> Result<Cert, AllocError>
     ensures boxes { IfOk result (λ c. HasScaledData old.now.session c.session) }
     ensures sums { IfOk result (λ c. HasScaledSums old.now.session c.session) }
     ensures best { IfOk result (λ c. IsOldBestWhereFixed old.now.session c.tail) }
+    ensures by_ratio { IfOk result (λ c. IsOldBestByRatioWhereFixed c.ratio old.now.session c.tail) }
 {
     let session = lifted_session(alloc, &old.session)?;
     let tail = decide_rows(&session, old.ratio, old.budget);

@@ -1,5 +1,5 @@
--- Where the values are separated, the least integers are strictly best for all data.
-use Rattle.std.proofs.Common.{◌≡◌, ◌≢◌, ℕ, ◌^◌, List, [], ◌∷◌, length, ℤ, pos, ◌*ℤ◌, ◌≤ℤ◌, ◌<ℤ◌, arith, sym, ap, ◌∙◌, refl, pow_pos}
+-- Where the values are separated by a ratio, the least integers are best by it for all data, and so strictly best.
+use Rattle.std.proofs.Common.{◌≡◌, ◌≢◌, ℕ, ◌^◌, List, [], ◌∷◌, length, ℤ, pos, ◌*ℤ◌, ◌≤ℤ◌, ◌<ℤ◌, arith, sym, ap, ◌∙◌, refl, subst, pow_pos}
 use Rattle.whole_math.specs.Vectors.{len}
 use Rattle.whole_math.proofs.Vectors.{len_is}
 use Rattle.whole_math.proofs.Order.{mul_lt_cancel}
@@ -12,55 +12,106 @@ use Rattle.quadratic_form.specs.RationalData.{Baseline}
 use Rattle.quadratic_form.specs.TwoLeast.{TwoLeast}
 use Rattle.quadratic_form.proofs.Decision.{second_value}
 use Rattle.obs_rows.specs.declared.sessions.Session.{Session}
-use Rattle.obs_rows.specs.Signals.{counted}
+use Rattle.obs_rows.specs.Signals.{fine_signals, counted}
 use Rattle.obs_rows.specs.Integers.{integer_count}
 use Rattle.obs_rows.specs.Data.{Observed, AreData}
 use Rattle.obs_rows.specs.SumOfSquares.{sum_of_squares}
 use Rattle.obs_rows.specs.Best.{moved, IsStrictlyBest}
+use Rattle.integer_form.specs.declared.form.Form.{Form}
+use Rattle.integer_form.specs.Forms.{columns_of}
 use Rattle.lower_form.specs.Fronts.{BoundsAllData}
+use Rattle.int_search.specs.declared.answer.TwoBest.{TwoBest}
+use Rattle.int_search.specs.Answers.{IsTwoBest}
+use Rattle.fix_decide.specs.UpperSums.{top}
 use Rattle.fix_decide.specs.Bounds.{StaysAtMost}
-use Rattle.fix_decide.specs.Decisions.{IsSeparated}
+use Rattle.fix_decide.specs.Decisions.{IsFormOf, IsSeparated, first_of, second_of}
+use Rattle.fix_decide.specs.Ratios.{IsLessByRatio, IsBestByRatio}
+use Rattle.fix_decide.proofs.UpperLaws.{top_stays_at_most}
+use Rattle.fix_decide.proofs.SessionForms.{bounds_of, integers_are, first_length, least_of}
 
--- a separated second value is more than 64 times the upper sum
-pub room : (t r q : ℤ) → pos 1000 ≤ℤ r → pos 0 ≤ℤ t → IsSeparated r t q → (pos 64 *ℤ t) <ℤ q
-room t r q h g k = mul_lt_cancel (pos 64 *ℤ t) q 1000 (omega arith)
-    (strict (pos_one 1 (omega arith)) (le_by (t ∷ r ∷ q ∷ []) (λ t r q. (nat 64 ⊗ t ⊗ nat 1000 ⊕ nat 1, q ⊗ nat 1000, (nat 1000 ⊗ q ⊖ (nat 64 ⊗ (r ⊗ t) ⊕ nat 1)) ⊕ nat 64 ⊗ ((r ⊖ nat 1000) ⊗ t))) refl
-    (both_nn (less_nn (later k)) (prod_nn (pos_nn 64) (prod_nn (less_nn h) g)))))
+-- what is separated by a ratio of 1000 or more is so by 1000
+pub room : (t r q : ℤ) → pos 1000 ≤ℤ r → pos 0 ≤ℤ t → IsSeparated r t q → IsSeparated (pos 1000) t q
+room t r q h g k =
+    strict (pos_one 1 (omega arith)) (le_by (t ∷ r ∷ q ∷ []) (λ t r q. (nat 64 ⊗ (nat 1000 ⊗ t) ⊕ nat 1, nat 1000 ⊗ q, (nat 1000 ⊗ q ⊖ (nat 64 ⊗ (r ⊗ t) ⊕ nat 1)) ⊕ nat 64 ⊗ ((r ⊖ nat 1000) ⊗ t))) refl
+    (both_nn (less_nn (later k)) (prod_nn (pos_nn 64) (prod_nn (less_nn h) g))))
 
--- what is at most h t is less than what 64 times is at least h v, where 64 t < q ≤ v
-between : (n d m e h t q v : ℤ) → pos 1 ≤ℤ d → pos 1 ≤ℤ e → pos 1 ≤ℤ h → (pos 64 *ℤ t) <ℤ q → q ≤ℤ v →
-    (n *ℤ pos 1) ≤ℤ (h *ℤ t *ℤ d) → (h *ℤ v *ℤ (pos 1 *ℤ e)) ≤ℤ (pos 64 *ℤ m *ℤ pos 1) → (n *ℤ e) <ℤ (m *ℤ d)
-between n d m e h t q v h₁ h₂ h₃ h₄ h₅ h₆ h₇ = mul_lt_cancel (n *ℤ e) (m *ℤ d) 64 (omega arith)
-    (strict (ones e d h₂ h₁) (le_by (n ∷ e ∷ d ∷ m ∷ h ∷ v ∷ q ∷ t ∷ []) (λ n e d m h v q t. (
-      n ⊗ e ⊗ nat 64 ⊕ e ⊗ d,
-      m ⊗ d ⊗ nat 64,
-      ((nat 64 ⊗ m ⊗ nat 1 ⊖ h ⊗ v ⊗ (nat 1 ⊗ e)) ⊗ d ⊕ h ⊗ (v ⊖ q) ⊗ (e ⊗ d)) ⊕ (h ⊗ (e ⊗ d) ⊗ (q ⊖ (nat 64 ⊗ t ⊕ nat 1)) ⊕ ((h ⊖ nat 1) ⊗ (e ⊗ d) ⊕ nat 64 ⊗ (e ⊗ (h ⊗ t ⊗ d ⊖ n ⊗ nat 1)))),
+-- what is at most h t, times r, is less than 1000 times what 64 times is at least h v, where 64 r t < 1000 q and q ≤ v
+between : (n d m e h t q v r : ℤ) → pos 1 ≤ℤ d → pos 1 ≤ℤ e → pos 1 ≤ℤ h → pos 0 ≤ℤ r → IsSeparated r t q → q ≤ℤ v →
+    (n *ℤ pos 1) ≤ℤ (h *ℤ t *ℤ d) → (h *ℤ v *ℤ (pos 1 *ℤ e)) ≤ℤ (pos 64 *ℤ m *ℤ pos 1) → (r *ℤ n *ℤ e) <ℤ (pos 1000 *ℤ m *ℤ d)
+between n d m e h t q v r h₁ h₂ h₃ h₄ h₅ h₆ h₇ h₈ = mul_lt_cancel (r *ℤ n *ℤ e) (pos 1000 *ℤ m *ℤ d) 64 (omega arith)
+    (strict (ones e d h₂ h₁) (le_by (n ∷ e ∷ d ∷ m ∷ h ∷ v ∷ q ∷ t ∷ r ∷ []) (λ n e d m h v q t r. (
+      r ⊗ n ⊗ e ⊗ nat 64 ⊕ e ⊗ d,
+      nat 1000 ⊗ m ⊗ d ⊗ nat 64,
+      (nat 1000 ⊗ ((nat 64 ⊗ m ⊗ nat 1 ⊖ h ⊗ v ⊗ (nat 1 ⊗ e)) ⊗ d) ⊕ nat 1000 ⊗ (h ⊗ (v ⊖ q) ⊗ (e ⊗ d)))
+          ⊕ (h ⊗ (e ⊗ d) ⊗ (nat 1000 ⊗ q ⊖ (nat 64 ⊗ (r ⊗ t) ⊕ nat 1)) ⊕ ((h ⊖ nat 1) ⊗ (e ⊗ d) ⊕ nat 64 ⊗ (r ⊗ (e ⊗ (h ⊗ t ⊗ d ⊖ n ⊗ nat 1))))),
     )) refl
-    (both_nn (both_nn (prod_nn (less_nn h₇) (one_nn h₁)) (prod_nn (prod_nn (one_nn h₃) (less_nn h₅)) (prod_nn (one_nn h₂) (one_nn h₁))))
-    (both_nn (prod_nn (prod_nn (one_nn h₃) (prod_nn (one_nn h₂) (one_nn h₁))) (less_nn (later h₄)))
-    (both_nn (prod_nn (less_nn h₃) (prod_nn (one_nn h₂) (one_nn h₁))) (prod_nn (pos_nn 64) (prod_nn (one_nn h₂) (less_nn h₆))))))))
+    (both_nn (both_nn (prod_nn (pos_nn 1000) (prod_nn (less_nn h₈) (one_nn h₁))) (prod_nn (pos_nn 1000) (prod_nn (prod_nn (one_nn h₃) (less_nn h₆)) (prod_nn (one_nn h₂) (one_nn h₁)))))
+    (both_nn (prod_nn (prod_nn (one_nn h₃) (prod_nn (one_nn h₂) (one_nn h₁))) (less_nn (later h₅)))
+    (both_nn (prod_nn (less_nn h₃) (prod_nn (one_nn h₂) (one_nn h₁))) (prod_nn (pos_nn 64) (prod_nn h₄ (prod_nn (one_nn h₂) (less_nn h₇)))))))))
   where
     ones : (a b : ℤ) → pos 1 ≤ℤ a → pos 1 ≤ℤ b → pos 1 ≤ℤ (a *ℤ b)
     ones a b h k = le_by (a ∷ b ∷ []) (λ a b. (nat 1, a ⊗ b, (a ⊖ nat 1) ⊗ (b ⊖ nat 1) ⊕ (a ⊖ nat 1 ⊕ (b ⊖ nat 1)))) refl (both_nn (prod_nn (less_nn h) (less_nn k)) (both_nn (less_nn h) (less_nn k)))
 
--- what stays at most h t is less than what 64 times is at least h v
-pub below : (f g : Rational) (h : ℕ) (t q v : ℤ) → (pos 64 *ℤ t) <ℤ q → q ≤ℤ v → f ≤ʳ of_whole (pos (2 ^ h) *ℤ t) → of_whole (pos (2 ^ h) *ℤ v) ≤ʳ mul_r (of_whole (pos 64)) g → f <ʳ g
-below f g h t q v k l upper lower =
-    between f.num (pos f.den) g.num (pos g.den) (pos (2 ^ h)) t q v (pos_one f.den f.positive) (pos_one g.den g.positive) (pos_one (2 ^ h) (pow_pos h)) k l upper lower
+-- what stays at most h t is less by the ratio than what 64 times is at least h v
+pub below_by_ratio : (f g : Rational) (ratio h : ℕ) (t q v : ℤ) → IsSeparated (pos ratio) t q → q ≤ℤ v → f ≤ʳ of_whole (pos (2 ^ h) *ℤ t) → of_whole (pos (2 ^ h) *ℤ v) ≤ʳ mul_r (of_whole (pos 64)) g →
+    IsLessByRatio ratio f g
+below_by_ratio f g ratio h t q v k l upper lower =
+    between f.num (pos f.den) g.num (pos g.den) (pos (2 ^ h)) t q v (pos ratio) (pos_one f.den f.positive) (pos_one g.den g.positive) (pos_one (2 ^ h) (pow_pos h)) (pos_nn ratio) k l upper lower
+
+-- what is less by a ratio of 1000 is less
+pub less_by_1000 : (f g : Rational) → IsLessByRatio 1000 f g → f <ʳ g
+less_by_1000 f g less = cancelled f.num (pos f.den) g.num (pos g.den) less
+  where
+    cancelled : (n d m e : ℤ) → (pos 1000 *ℤ n *ℤ e) <ℤ (pos 1000 *ℤ m *ℤ d) → (n *ℤ e) <ℤ (m *ℤ d)
+    cancelled n d m e h = mul_lt_cancel (n *ℤ e) (m *ℤ d) 1000 (omega arith)
+        (strict (pos_one 1 (omega arith)) (le_by (n ∷ e ∷ m ∷ d ∷ []) (λ n e m d. (n ⊗ e ⊗ nat 1000 ⊕ nat 1, m ⊗ d ⊗ nat 1000, nat 1000 ⊗ m ⊗ d ⊖ (nat 1000 ⊗ n ⊗ e ⊕ nat 1))) refl (less_nn (later h))))
 
 -- the signals that count in a session
 abbrev pub signals_of : Session → List ℕ
 signals_of s = counted s.signals s.scale
 
+-- what is best by a ratio of 1000 is strictly best
+pub best_by_1000 : (s : Session) (z m : List ℤ) → IsBestByRatio 1000 s z m → IsStrictlyBest s z m
+best_by_1000 s z m best = record {
+  fine = best.fine;
+  entries = best.entries;
+  best = λ (observed : List (List Observed)) (f : AreData (signals_of s) s.pairs observed) (w : List ℤ) (e : length w ≡ integer_count s.arcs (signals_of s)) (n : w ≢ z) (b : Baseline).
+      less_by_1000 (sum_of_squares s.arcs (signals_of s) s.pairs z (moved m) observed) (sum_of_squares s.arcs (signals_of s) s.pairs w b observed) (best.best observed f w e n b);
+}
+
 -- from the bound of the form, the two least vectors, and the upper sum of the first
-pub best_from_bounds : (s : Session) (h : ℕ) (p : List Column) (ratio t : ℤ) (z1 z2 m : List ℤ) → s.scale ≡ 0 → length z1 ≡ integer_count s.arcs (signals_of s) →
+pub best_from_bounds : (s : Session) (h : ℕ) (p : List Column) (ratio : ℕ) (t : ℤ) (z1 z2 m : List ℤ) → s.scale ≡ 0 → length z1 ≡ integer_count s.arcs (signals_of s) →
     BoundsAllData s.arcs (signals_of s) s.pairs h p → TwoLeast p (len z1) z1 z2 → StaysAtMost s.arcs (signals_of s) s.pairs z1 m (pos (2 ^ h) *ℤ t) →
-    pos 1000 ≤ℤ ratio → pos 0 ≤ℤ t → IsSeparated ratio t (value p z2) → IsStrictlyBest s z1 m
-best_from_bounds s h p ratio t z1 z2 m fine entries bounds least upper r k separated = record {
+    IsSeparated (pos ratio) t (value p z2) → IsBestByRatio ratio s z1 m
+best_from_bounds s h p ratio t z1 z2 m fine entries bounds least upper separated = record {
   fine = fine;
   entries = entries;
   best = λ (observed : List (List Observed)) (f : AreData (signals_of s) s.pairs observed) (w : List ℤ) (e : length w ≡ integer_count s.arcs (signals_of s)) (n : w ≢ z1) (b : Baseline).
-      below (sum_of_squares s.arcs (signals_of s) s.pairs z1 (moved m) observed) (sum_of_squares s.arcs (signals_of s) s.pairs w b observed) h t
-      (value p z2) (value p w) (room t ratio (value p z2) r k separated)
+      below_by_ratio (sum_of_squares s.arcs (signals_of s) s.pairs z1 (moved m) observed) (sum_of_squares s.arcs (signals_of s) s.pairs w b observed) ratio h t
+      (value p z2) (value p w) separated
       (second_value p (len z1) z1 z2 w least (len_is w ∙ ap pos (e ∙ sym entries) ∙ sym (len_is z1)) n) (upper.above observed f) (bounds.below w b observed e f);
 }
+
+-- from the form of the rows, its two least vectors, and the upper sum of the first
+pub best_by_ratio : (s : Session) (f : Form) (b : TwoBest) (ratio : ℕ) (t : ℤ) (m : List ℤ) → s.scale ≡ 0 → IsFormOf s f → IsTwoBest f b →
+    t ≡ top f.h s.arcs (fine_signals s.signals) s.pairs (first_of b) m → IsSeparated (pos ratio) t b.p2 → IsBestByRatio ratio s (first_of b) m
+best_by_ratio s f b ratio t m fine of_rows two top_is separated =
+    best_from_bounds s f.h (columns_of f) ratio t (first_of b) (second_of b) m fine (entries ∙ ap (integer_count s.arcs) same) (bounds_of s f of_rows) (least_of f b two) above
+    (subst (λ (x : ℤ). IsSeparated (pos ratio) t x) two.p2 separated)
+  where
+    same : fine_signals s.signals ≡ counted s.signals s.scale
+    same = ap (counted s.signals) (sym fine)
+
+    entries : length (first_of b) ≡ integer_count s.arcs (fine_signals s.signals)
+    entries = first_length f b two ∙ two.size ∙ integers_are s f of_rows fine
+
+    above : StaysAtMost s.arcs (counted s.signals s.scale) s.pairs (first_of b) m (pos (2 ^ f.h) *ℤ t)
+    above = subst (λ (ss : List ℕ). StaysAtMost s.arcs ss s.pairs (first_of b) m (pos (2 ^ f.h) *ℤ t)) same
+        (subst (λ (x : ℤ). StaysAtMost s.arcs (fine_signals s.signals) s.pairs (first_of b) m (pos (2 ^ f.h) *ℤ x)) (sym top_is)
+        (top_stays_at_most f.h s.arcs (fine_signals s.signals) s.pairs (first_of b) m entries))
+
+-- and where the ratio is 1000 or more
+pub strictly_best : (s : Session) (f : Form) (b : TwoBest) (ratio : ℤ) (t : ℤ) (m : List ℤ) → s.scale ≡ 0 → IsFormOf s f → IsTwoBest f b →
+    t ≡ top f.h s.arcs (fine_signals s.signals) s.pairs (first_of b) m → pos 1000 ≤ℤ ratio → pos 0 ≤ℤ t → IsSeparated ratio t b.p2 → IsStrictlyBest s (first_of b) m
+strictly_best s f b ratio t m fine of_rows two top_is large from separated =
+    best_by_1000 s (first_of b) m (best_by_ratio s f b 1000 t m fine of_rows two top_is (room t ratio b.p2 large from separated))

@@ -7,3 +7,4 @@ pub mod RowReachLaws
 pub mod UpperLaws
 pub mod SessionForms
 pub mod DecisionLaws
+pub mod RatioLaws

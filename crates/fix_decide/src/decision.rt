@@ -8,6 +8,7 @@ ghost use Rattle.fix_decide.specs.UpperSums.{top};
 ghost use Rattle.fix_decide.specs.Widths.{AreWide};
 ghost use Rattle.int_search.specs.Answers.{IsTwoBest};
 ghost use Rattle.fix_decide.specs.Decisions.{IsFormOf, IsSeparated, first_of, move_of};
+ghost use Rattle.fix_decide.specs.Ratios.{IsBestByRatio};
 
 use crate::upper_sums::upper_sum;
 use int_search::TwoBest;
@@ -17,7 +18,7 @@ use obs_rows::Session;
 /// Whether the integers at which a session's form is least are fixed, with the numbers that say so.
 #[derive(Clone, Copy, Debug, PartialEq, Eq)]
 pub struct Decision {
-    /// Whether 1000 · p2 > 64 · ratio · top. Then the first integers with the move are strictly best for all data.
+    /// Whether 1000 · p2 > 64 · ratio · top. Then the first integers with the move are best by the ratio for all data.
     pub fixed: bool,
     /// The two least vectors of the form, with its values there.
     pub best: TwoBest,
@@ -58,9 +59,9 @@ pub fn is_separated(ratio: u32, top: i128, p2: i128) -> bool
 /// Decides whether the least integers of a fine session's form are fixed, at a ratio in thousandths.
 ///
 /// Where they are, they are with their move strictly best: whatever the data in the boxes are, each other integer vector,
-/// with any baseline, has a greater weighted sum of squares. Refused by the place `Float` exactly where a number of the
-/// baseline is 2^46 or more in size, and else by the place `Sum` exactly where the residual of some row may lie 2^33 or
-/// more from 0.
+/// with any baseline, has a weighted sum of squares that is greater, and greater by the ratio. Refused by the place
+/// `Float` exactly where a number of the baseline is 2^46 or more in size, and else by the place `Sum` exactly where the
+/// residual of some row may lie 2^33 or more from 0.
 pub fn decide(
     session: &Session,
     form: &Form,
@@ -80,6 +81,7 @@ pub fn decide(
     ensures top_to { IfOk result (λ d. d.top ≤ℤ pos (2 ^ 119)) }
     ensures fixed { IfOk result (λ d. IsTrue d.fixed ↔ IsSeparated (pos ratio) d.top best.now.p2) }
     ensures strictly_best { IfOk result (λ d. IsTrue d.fixed → IsStrictlyBest session.now (first_of best.now) d.moved) }
+    ensures by_ratio { IfOk result (λ d. IsTrue d.fixed → IsBestByRatio ratio session.now (first_of best.now) d.moved) }
 
     ensures float { IsErrAnd result (λ e. e.place ≡ Float) ↔ HasWide (move_of form.now (first_of best.now)) }
     ensures sum { IsErrAnd result (λ e. e.place ≡ Sum) ↔ ((HasWide (move_of form.now (first_of best.now)) → ⊥) × AreWide session.now.arcs (fine_signals session.now.signals) session.now.pairs (first_of best.now) (move_of form.now (first_of best.now))) }

@@ -12,6 +12,8 @@ use Rattle.eph_store.specs.File.{Records}
 use Rattle.obs_store.specs.declared.file.ObsFile.{ObsFile}
 use Rattle.run_options.specs.declared.options.Options.{Options}
 use Rattle.settled_decision.specs.Decided.{IsBestWhereFixed}
+use Rattle.cert_check.specs.Decided.{IsBestByRatioIn}
+use Rattle.cert_check.proofs.Checked.{certified_by_ratio}
 use Rattle.session.specs.Answers.{IsBestAnswer}
 use Rattle.outcome_report.specs.OutcomeText.{answer_text, IsWholeAnswer, is_fixed, is_fixed_tail}
 use Rattle.job_answers.specs.declared.status.Status.TheVariants.{Done, Declined, ReadFault}
@@ -106,6 +108,7 @@ outcome_says told base rover nav o outcome out true is have best whole printed =
       answer_is = c.is;
       whole = subst IsWholeAnswer c.is whole;
       fix = c.fix;
+      by_ratio = subst (IsBestByRatioIn c.cert.ratio c.cert.session) c.fix.tail_is (certified_by_ratio c.cert.session c.cert.ratio c.cert.budget c.cert.tail c.cert.fine certified);
       certified = certified;
       only = no_other c.cert certified;
       stands = stands_for have.base_file have.rover_file have.records o outcome c.cert have.is c.is;

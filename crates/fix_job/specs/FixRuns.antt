@@ -13,6 +13,7 @@ use Rattle.screening.specs.Screening.{setting_of}
 use Rattle.row_build.specs.Stands.{StandsForFiles}
 use Rattle.int_search.specs.declared.answer.TwoBest.{TwoBest}
 use Rattle.fix_decide.specs.Decisions.{first_of}
+use Rattle.fix_decide.specs.Ratios.{IsBestByRatio}
 use Rattle.cert_data.specs.declared.certs.Cert.{Cert}
 use Rattle.cert_data.specs.declared.outcomes.Outcome.{Outcome}
 use Rattle.cert_data.specs.declared.outcomes.Answer.TheVariants.{Full}
@@ -66,8 +67,9 @@ pub record HaveOutcome (told : List ℕ → Option (List ℕ)) (base rover nav :
   pub are_files : AreFilesOf (system_of o.system) told base rover nav base_file rover_file records
   pub is : IsOutcome base_file rover_file records o outcome
 
--- Out has gained a certificate that says `fixed`, of a session that stands for the files. Its text is no other's, and a check
--- of it says that it is certified, or its search gives up.
+-- Out has gained a certificate that says `fixed`, of a session that stands for the files. All other integers have a sum of
+-- squares that is greater by the ratio. Its text is no other's, and a check of it says that it is certified, or its search
+-- gives up.
 pub record SaysFixed (told : List ℕ → Option (List ℕ)) (base rover nav : List ℕ) (o : Options) (out : SinkChange) : Type 0 where
   pub outcome : Outcome
   pub have : HaveOutcome told base rover nav o outcome
@@ -75,6 +77,7 @@ pub record SaysFixed (told : List ℕ → Option (List ℕ)) (base rover nav : L
   pub answer_is : outcome.answer ≡ Full cert
   pub whole : IsWhole cert
   pub fix : IsFix cert
+  pub by_ratio : IsBestByRatio cert.ratio cert.session (first_of fix.best) fix.moved
   pub certified : IsVerdictOf cert.session cert.ratio cert.budget cert.tail Certified
   pub only : (v : Verdict) → IsVerdictOf cert.session cert.ratio cert.budget cert.tail v → (v ≡ Certified) ⊎ IsGivenUp v
   pub stands : StandsForIts have.base_file have.rover_file have.records o cert

@@ -3,9 +3,9 @@
 //! `fix` reads the three files of a session of the options' system, each whole before the next, and ends with the first
 //! that can't be had or is refused, with the refusal of the two files, or with the texts of the outcome, done for a fix
 //! and else declined (`ends`). `SaysOfFix` is what a run of it says: of a fix, that its integers with its move are
-//! strictly best for all data in the printed boxes, that its session stands for the files, and that a check of it answers
-//! `Certified` or its search gives up (`certified`, `only`). The printed certificate is the only one with its text
-//! (`whole`, with `one_spelling_law` of cert_text).
+//! strictly best for all data in the printed boxes, and best by the ratio of the options (`by_ratio`), that its session
+//! stands for the files, and that a check of it answers `Certified` or its search gives up (`certified`, `only`). The
+//! printed certificate is the only one with its text (`whole`, with `one_spelling_law` of cert_text).
 #![tactic(auto)]
 
 ghost use Rattle.std.specs.Prelude.{◌≡◌, ◌≢◌, [], ◌∷◌, IfOk, All};

@@ -12,9 +12,10 @@ use Rattle.cert_check.specs.Verdicts.{IsGivenUp, IsSameVerdict}
 use Rattle.cert_check.specs.Decided.{AreSameBest}
 use Rattle.track_data.specs.declared.tails.TrackTail.{TrackTail}
 use Rattle.track_data.specs.declared.tails.TrackTail.TheVariants.{Fixed, Unseparated, Weak, Overwidth, Spent}
-use Rattle.track_sum.specs.Decided.{IsStrictlyBest}
-use Rattle.track_form.specs.Decided.{AreSameNumbers, IsSameTail, HasGivenUp, IsTrackBestWhereFixed}
-use Rattle.track_form.specs.Verdicts.{IsSaidOf, IsTrackVerdict, IsTrackBestIn}
+use Rattle.track_sum.specs.Decided.{IsStrictlyBest, IsBestByRatio}
+use Rattle.track_sum.proofs.StrictlyBest.{track_best_by_ratio}
+use Rattle.track_form.specs.Decided.{AreSameNumbers, IsSameTail, HasGivenUp, IsTrackDecision, IsTrackBestWhereFixed}
+use Rattle.track_form.specs.Verdicts.{IsSaidOf, IsTrackVerdict, IsTrackBestIn, IsTrackBestByRatioIn}
 use Rattle.track_form.proofs.OneDecision.{one_decision}
 
 -- ---- the same numbers
@@ -96,3 +97,20 @@ best_said arcs ss pairs (Unseparated h ms b x) t best said = absurd cc
 best_said arcs ss pairs (Weak column pivot) t best said = absurd cc
 best_said arcs ss pairs (Overwidth place) t best said = absurd cc
 best_said arcs ss pairs (Spent budget) t best said = absurd cc
+
+-- what is certified is best by the ratio
+pub certified_by_ratio : (arcs : List Arc) (ss : List ℕ) (pairs : List PairRows) (ratio budget : ℕ) (t : TrackTail) → IsTrackVerdict arcs ss pairs ratio budget t Certified →
+    IsTrackBestByRatioIn ratio arcs ss pairs t
+certified_by_ratio arcs ss pairs ratio budget t is = by_ratio is.decided t is.decision is.said
+  where
+    by_ratio : (d u : TrackTail) → IsTrackDecision arcs ss pairs ratio budget d → IsSaidOf d u Certified → IsTrackBestByRatioIn ratio arcs ss pairs u
+    by_ratio (Fixed h ms b x) (Fixed k ns c y) decision said = subst (λ (z : List ℤ). IsBestByRatio ratio arcs ss pairs z ns) (sym said.best_is.first_is)
+        (subst (λ (moves : List (List ℤ)). IsBestByRatio ratio arcs ss pairs (first_of b) moves) (sym said.moves_are) (track_best_by_ratio arcs ss pairs ratio budget h ms b x decision.0 decision.1))
+    by_ratio (Fixed h ms b x) (Unseparated k ns c y) decision said = absurd said
+    by_ratio (Fixed h ms b x) (Weak column pivot) decision said = absurd said
+    by_ratio (Fixed h ms b x) (Overwidth place) decision said = absurd said
+    by_ratio (Fixed h ms b x) (Spent spent) decision said = absurd said
+    by_ratio (Unseparated h ms b x) u decision said = absurd cc
+    by_ratio (Weak column pivot) u decision said = absurd cc
+    by_ratio (Overwidth place) u decision said = absurd cc
+    by_ratio (Spent spent) u decision said = absurd cc

@@ -8,7 +8,7 @@ use Rattle.cert_data.specs.declared.verdicts.Verdict.TheVariants.{Certified, Not
 use Rattle.cert_data.specs.declared.verdicts.Cause.TheVariants as cause
 use Rattle.track_data.specs.declared.tails.TrackTail.{TrackTail}
 use Rattle.track_data.specs.declared.tails.TrackTail.TheVariants.{Fixed, Unseparated, Weak, Overwidth, Spent}
-use Rattle.track_sum.specs.Decided.{IsStrictlyBest}
+use Rattle.track_sum.specs.Decided.{IsStrictlyBest, IsBestByRatio}
 use Rattle.track_form.specs.Decided.{IsTrackDecision, IsSameTail}
 
 -- What is said of rows that are decided to say d, where a text says t: certified where d is fixed and t is the same,
@@ -32,3 +32,8 @@ pub record IsTrackVerdict (arcs : List Arc) (ss : List ℕ) (pairs : List PairRo
 abbrev pub IsTrackBestIn : List Arc → List ℕ → List PairRows → TrackTail → Type 0
 IsTrackBestIn arcs ss pairs (Fixed h moves best top) = IsStrictlyBest arcs ss pairs (first_of best) moves
 IsTrackBestIn arcs ss pairs _ = ⊥
+
+-- and best by the ratio
+abbrev pub IsTrackBestByRatioIn : ℕ → List Arc → List ℕ → List PairRows → TrackTail → Type 0
+IsTrackBestByRatioIn ratio arcs ss pairs (Fixed h moves best top) = IsBestByRatio ratio arcs ss pairs (first_of best) moves
+IsTrackBestByRatioIn ratio arcs ss pairs _ = ⊥

@@ -8,8 +8,8 @@
 //!
 //! `check_track` decides the rows of a certificate again and reads nothing of its tail before. `Certified` comes exactly
 //! where the rows are fixed and the tail says the same numbers (`verdict`, `only`); and then the tail's first integers
-//! with its moves are strictly best for the rows, whoever wrote the text (`strictly_best`). Both are refused where memory
-//! runs out, and never else.
+//! with its moves are strictly best for the rows, and best by the ratio, whoever wrote the text (`strictly_best`,
+//! `by_ratio`). Both are refused where memory runs out, and never else.
 #![tactic(auto)]
 
 mod decided;

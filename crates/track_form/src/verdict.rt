@@ -4,7 +4,7 @@ ghost use Rattle.obs_rows.specs.Signals.{fine_signals};
 ghost use Rattle.cert_data.specs.declared.verdicts.Verdict.{Verdict};
 ghost use Rattle.cert_data.specs.declared.verdicts.Verdict.TheVariants.{Certified};
 ghost use Rattle.cert_check.specs.Verdicts.{IsSameVerdict};
-ghost use Rattle.track_form.specs.Verdicts.{IsSaidOf, IsTrackVerdict, IsTrackBestIn};
+ghost use Rattle.track_form.specs.Verdicts.{IsSaidOf, IsTrackVerdict, IsTrackBestIn, IsTrackBestByRatioIn};
 
 use crate::decided::decide_track;
 use crate::tails::says;
@@ -41,11 +41,12 @@ fn said_of(decided: &TrackTail, tail: &TrackTail) -> Verdict
 /// Whether the rows of a track's certificate, decided again, say what its tail says of a fix.
 ///
 /// Where they do, the tail's first integers with its moves are strictly best: whatever the data in the boxes of the rows
-/// are, each other integer vector, with any list of baselines, one for each pair, has a greater sum of the pairs' weighted
-/// sums of squares. Nothing of the tail is read before the rows are decided.
+/// are, each other integer vector, with any list of baselines, one for each pair, has a sum of the pairs' weighted sums of
+/// squares that is greater, and greater by the certificate's ratio. Nothing of the tail is read before the rows are decided.
 pub fn check_track(alloc: Global, cert: &TrackCert) -> Result<Verdict, AllocError>
     ensures verdict { IfOk result (IsTrackVerdict cert.now.track.arcs (fine_signals cert.now.track.signals) cert.now.track.pairs cert.now.ratio cert.now.budget cert.now.tail) }
     ensures strictly_best { result ≡ Ok Certified → IsTrackBestIn cert.now.track.arcs (fine_signals cert.now.track.signals) cert.now.track.pairs cert.now.tail }
+    ensures by_ratio { result ≡ Ok Certified → IsTrackBestByRatioIn cert.now.ratio cert.now.track.arcs (fine_signals cert.now.track.signals) cert.now.track.pairs cert.now.tail }
     ensures only { IfOk result (λ v. (w : Verdict) → IsTrackVerdict cert.now.track.arcs (fine_signals cert.now.track.signals) cert.now.track.pairs cert.now.ratio cert.now.budget cert.now.tail w → IsSameVerdict w v) }
 {
     let decided = decide_track(alloc, &cert.track, cert.ratio, cert.budget)?;

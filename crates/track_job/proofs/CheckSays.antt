@@ -2,6 +2,7 @@
 use Rattle.std.proofs.Common.{◌≡◌, ◌≢◌, inl, inr, ℕ, List, [], ◌∷◌, Option, refl, sym, subst}
 use Rattle.std.specs.Io.KnownBytes.{Appends}
 use Rattle.line_source.specs.Told.{IsReadToEnd}
+use Rattle.obs_rows.specs.Signals.{fine_signals}
 use Rattle.cert_data.specs.declared.verdicts.Verdict.{Verdict}
 use Rattle.cert_data.specs.declared.verdicts.Verdict.TheVariants.{Certified, Not}
 use Rattle.cert_check.specs.Verdicts.{IsSameVerdict}
@@ -16,7 +17,8 @@ use Rattle.job_answers.proofs.EndingLaws.{admitted_ends, verdict_at, job_status_
 use Rattle.track_data.specs.declared.certs.TrackCert.{TrackCert}
 use Rattle.track_spelling.specs.Spelling.{track_spelling}
 use Rattle.track_spelling.specs.Lengths.{IsWholeTrackCert}
-use Rattle.track_job.specs.CheckJobs.{IsVerdictOn, IsBestFor, CheckTrackEnds}
+use Rattle.track_form.proofs.OneVerdict.{certified_by_ratio}
+use Rattle.track_job.specs.CheckJobs.{IsVerdictOn, IsBestFor, IsBestByItsRatio, CheckTrackEnds}
 use Rattle.track_job.specs.CheckRuns.{SaysOfCheckTrack, IsTrackAdmitted}
 
 text_status : (name : List ℕ) (end : Ending) (text : List ℕ) → CheckTrackEnds name text end → IsJobStatus end.status
@@ -49,7 +51,10 @@ verdict_says : (told : List ℕ → Option (List ℕ)) (name text : List ℕ) (c
     → text ≡ track_spelling c → IsVerdictOn c v
     → ((w : Verdict) → IsVerdictOn c w → IsSameVerdict w v) → (v ≡ Certified → IsBestFor c) → Appends out.old out.new (verdict_text v) → SaysOfCheckTrack told name (status_of v) out
 verdict_says told name text c Certified out is whole spelled verdict only best written =
-    record { text = text; is = is; cert = c; whole = whole; spelled = spelled; certified = verdict; only = only; best = best refl; printed = written }
+    record { text = text; is = is; cert = c; whole = whole; spelled = spelled; certified = verdict; only = only; best = best refl; by_ratio = by_ratio; printed = written }
+  where
+    by_ratio : IsBestByItsRatio c
+    by_ratio = certified_by_ratio c.track.arcs (fine_signals c.track.signals) c.track.pairs c.ratio c.budget c.tail verdict
 verdict_says told name text c (Not cause) out is whole spelled verdict only best written =
     record { text = text; is = is; cert = c; whole = whole; spelled = spelled; cause = cause; not_certified = verdict; only = only; printed = written }
 

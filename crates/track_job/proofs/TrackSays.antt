@@ -26,7 +26,8 @@ use Rattle.track_data.specs.declared.certs.TrackCert.{TrackCert}
 use Rattle.track_data.specs.declared.tails.TrackTail.{TrackTail}
 use Rattle.track_data.specs.declared.tails.TrackTail.TheVariants as tail
 use Rattle.track_form.specs.Decided.{IsTrackDecision, IsSameDecision, IsTrackBestWhereFixed}
-use Rattle.track_form.specs.Verdicts.{IsTrackVerdict}
+use Rattle.track_form.specs.Verdicts.{IsTrackVerdict, IsTrackBestByRatioIn}
+use Rattle.track_form.proofs.OneVerdict.{certified_by_ratio}
 use Rattle.track_report.specs.declared.outcomes.TrackOutcome.{TrackOutcome}
 use Rattle.track_report.specs.declared.outcomes.TrackAnswer.{TrackAnswer}
 use Rattle.track_report.specs.declared.outcomes.TrackAnswer.TheVariants as answer
@@ -136,6 +137,8 @@ outcome_says told base rover nav o outcome out true is have whole printed =
       answer_is = c.is;
       whole = subst IsWholeTrackAnswer c.is whole;
       fix = fix;
+      by_ratio = subst (IsTrackBestByRatioIn c.cert.ratio c.cert.track.arcs (fine_signals c.cert.track.signals) c.cert.track.pairs) fix.tail_is
+          (certified_by_ratio c.cert.track.arcs (fine_signals c.cert.track.signals) c.cert.track.pairs c.cert.ratio c.cert.budget c.cert.tail again.certified);
       certified = again.certified;
       only = again.only;
       stands = track_stands_for have.base_file have.rover_file have.records o outcome c.cert have.is c.is;

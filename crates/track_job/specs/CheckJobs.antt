@@ -13,7 +13,7 @@ use Rattle.job_answers.specs.Endings.{Ending, ending}
 use Rattle.track_data.specs.declared.certs.TrackCert.{TrackCert}
 use Rattle.track_spelling.specs.Spelling.{track_spelling}
 use Rattle.track_spelling.specs.Lengths.{IsWholeTrackCert, IsTrackCertificate}
-use Rattle.track_form.specs.Verdicts.{IsTrackVerdict, IsTrackBestIn}
+use Rattle.track_form.specs.Verdicts.{IsTrackVerdict, IsTrackBestIn, IsTrackBestByRatioIn}
 use Rattle.grammar_lines.specs.Beginnings.{NoneBegins}
 use Rattle.track_text.specs.Rules.{track_reading}
 
@@ -24,6 +24,10 @@ IsVerdictOn cert v = IsTrackVerdict cert.track.arcs (fine_signals cert.track.sig
 -- the tail says that the rows are fixed, and its first integers with its moves are strictly best for them
 abbrev pub IsBestFor : TrackCert → Type 0
 IsBestFor cert = IsTrackBestIn cert.track.arcs (fine_signals cert.track.signals) cert.track.pairs cert.tail
+
+-- and best by the certificate's ratio
+abbrev pub IsBestByItsRatio : TrackCert → Type 0
+IsBestByItsRatio cert = IsTrackBestByRatioIn cert.ratio cert.track.arcs (fine_signals cert.track.signals) cert.track.pairs cert.tail
 
 -- The text is no certificate of a track, and is refused at the first place at which the rules fail. None begins with its
 -- lines up to that one.

@@ -14,11 +14,11 @@ use Rattle.job_answers.specs.Delivered.{SinkChange}
 use Rattle.track_data.specs.declared.certs.TrackCert.{TrackCert}
 use Rattle.track_spelling.specs.Spelling.{track_spelling}
 use Rattle.track_spelling.specs.Lengths.{IsWholeTrackCert, IsTrackCertificate}
-use Rattle.track_job.specs.CheckJobs.{IsVerdictOn, IsBestFor}
+use Rattle.track_job.specs.CheckJobs.{IsVerdictOn, IsBestFor, IsBestByItsRatio}
 
 -- The text spells the certificate of a track, its rows are fixed and its tail says so, and out tells it. No other verdict holds of
 -- it, but where a search gives up. Whoever wrote it: each other integer vector, with any baselines, one for each pair, has a greater
--- sum of squares for all data in the boxes of the rows.
+-- sum of squares for all data in the boxes of the rows, and one that is greater by the certificate's ratio.
 pub record SaysTrackCertified (told : List ℕ → Option (List ℕ)) (name : List ℕ) (out : SinkChange) : Type 0 where
   pub text : List ℕ
   pub is : IsTextOf told name text
@@ -28,6 +28,7 @@ pub record SaysTrackCertified (told : List ℕ → Option (List ℕ)) (name : Li
   pub certified : IsVerdictOn cert Certified
   pub only : (v : Verdict) → IsVerdictOn cert v → IsSameVerdict v Certified
   pub best : IsBestFor cert
+  pub by_ratio : IsBestByItsRatio cert
   pub printed : Appends out.old out.new (codes "certified\n")
 
 -- It isn't, for this cause and no other, but where a search gave up.

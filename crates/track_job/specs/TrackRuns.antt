@@ -26,7 +26,7 @@ use Rattle.track_data.specs.declared.certs.TrackCert.{TrackCert}
 use Rattle.track_data.specs.declared.tails.TrackTail.TheVariants.{Fixed}
 use Rattle.track_spelling.specs.Spelling.{track_spelling}
 use Rattle.track_spelling.specs.Lengths.{IsWholeTrackCert}
-use Rattle.track_sum.specs.Decided.{IsStrictlyBest}
+use Rattle.track_sum.specs.Decided.{IsStrictlyBest, IsBestByRatio}
 use Rattle.track_form.specs.Verdicts.{IsTrackVerdict}
 use Rattle.track_rows.specs.Stands.{TrackStands}
 use Rattle.track_report.specs.declared.outcomes.TrackOutcome.{TrackOutcome}
@@ -66,8 +66,8 @@ pub record HaveTrackOutcome (told : List ℕ → Option (List ℕ)) (base rover 
   pub are_files : AreFilesOf (system_of o.system) told base rover nav base_file rover_file records
   pub is : IsTrackOutcome base_file rover_file records o outcome
 
--- Out has gained the certificate of a track that says `fixed` and stands for the files. Its text is no other's, and a check of it
--- says that it is certified, or its search gives up.
+-- Out has gained the certificate of a track that says `fixed` and stands for the files. All other integers have a sum of squares
+-- that is greater by the ratio. Its text is no other's, and a check of it says that it is certified, or its search gives up.
 pub record SaysTrackFixed (told : List ℕ → Option (List ℕ)) (base rover nav : List ℕ) (o : Options) (out : SinkChange) : Type 0 where
   pub outcome : TrackOutcome
   pub have : HaveTrackOutcome told base rover nav o outcome
@@ -75,6 +75,7 @@ pub record SaysTrackFixed (told : List ℕ → Option (List ℕ)) (base rover na
   pub answer_is : outcome.answer ≡ Full cert
   pub whole : IsWholeTrackCert cert
   pub fix : IsTrackFix cert
+  pub by_ratio : IsBestByRatio cert.ratio cert.track.arcs (fine_signals cert.track.signals) cert.track.pairs (first_of fix.best) fix.moves
   pub certified : IsTrackVerdict cert.track.arcs (fine_signals cert.track.signals) cert.track.pairs cert.ratio cert.budget cert.tail Certified
   pub only : (v : Verdict) → IsTrackVerdict cert.track.arcs (fine_signals cert.track.signals) cert.track.pairs cert.ratio cert.budget cert.tail v → (v ≡ Certified) ⊎ IsGivenUp v
   pub stands : TrackStandsForIts have.base_file have.rover_file have.records o cert

@@ -11,3 +11,4 @@ pub mod OneForm
 pub mod SumTables
 mod Results
 pub mod StrictlyBest
+pub mod RatioLaws

@@ -1,4 +1,4 @@
--- Where a track's second value is far enough above the upper sum, the least integers with the moves are strictly best.
+-- Where a track's second value is far enough above the upper sum, the least integers with the moves are best by the ratio.
 use Rattle.std.proofs.Common.{◌≡◌, ℕ, ◌+◌, ◌-◌, ◌≤◌, Bool, true, false, Result, Ok, Err, List, [], ◌∷◌, length, map, get_or, All, ℤ, pos, ◌+ℤ◌, ◌≤ℤ◌, arith, sym, ap, ap₂, ◌∙◌, subst}
 use Rattle.std.specs.List.{AllZip}
 use Rattle.std.proofs.lemmas.Slice.Zip.{AllZip-long}
@@ -27,11 +27,12 @@ use Rattle.fix_decide.specs.UpperSums.{pair_upper}
 use Rattle.fix_decide.specs.Widths.{IsWide}
 use Rattle.fix_decide.specs.Decisions.{IsSeparated, first_of, second_of}
 use Rattle.fix_decide.proofs.UpperLaws.{stays_at_most}
+use Rattle.fix_decide.proofs.DecisionLaws.{room}
 use Rattle.track_sum.specs.Fronts.{Front, track_form, track_top}
 use Rattle.track_sum.specs.Best.{IsBoundedBy, AreBoundedAbove}
 use Rattle.track_sum.specs.PairFronts.{IsFrontOfPair, AreFronts, brief}
-use Rattle.track_sum.specs.Decided.{IsSumOfFronts, AreFound, pair_uppers, pair_sum, IsPairData, IsStrictlyBest}
-use Rattle.track_sum.proofs.Best.{track_best}
+use Rattle.track_sum.specs.Decided.{IsSumOfFronts, AreFound, pair_uppers, pair_sum, IsPairData, IsStrictlyBest, IsBestByRatio}
+use Rattle.track_sum.proofs.Best.{best_by_ratio, best_by_1000}
 
 abbrev Answer : Type 0
 Answer = Result (List Factor × List Column) Refusal
@@ -84,13 +85,12 @@ above_each arcs ss z (p ∷ ps) (m ∷ ms) entries are = (λ d data_are. one.abo
     one = subst (λ (u : ℤ). StaysAtMost arcs ss (p ∷ []) z m u) (none_more (pair_upper arcs ss z m p)) (stays_at_most arcs ss (p ∷ []) z m entries)
 
 -- ---- the decision
-pub track_strictly_best : (arcs : List Arc) (ss : List ℕ) (pairs : List PairRows) (ratio budget h : ℕ) (moves : List (List ℤ)) (best : TwoBest) (top : ℤ) →
-    AreFound arcs ss pairs budget h moves best top →
-    1000 ≤ ratio → pos 0 ≤ℤ top → IsSeparated (pos ratio) top best.p2 → IsStrictlyBest arcs ss pairs (first_of best) moves
-track_strictly_best arcs ss pairs ratio budget h moves best top found large from far = record {
+pub track_best_by_ratio : (arcs : List Arc) (ss : List ℕ) (pairs : List PairRows) (ratio budget h : ℕ) (moves : List (List ℤ)) (best : TwoBest) (top : ℤ) →
+    AreFound arcs ss pairs budget h moves best top → IsSeparated (pos ratio) top best.p2 → IsBestByRatio ratio arcs ss pairs (first_of best) moves
+track_best_by_ratio arcs ss pairs ratio budget h moves best top found far = record {
   entries = entries;
   move_each = AllZip-long (λ p m. IsWide arcs ss z1 m p → ⊥) pairs moves found.bounded;
-  best = track_best (pair_sum arcs ss) (IsPairData ss) n h pairs (map brief found.fronts) (map moved moves) us (pos ratio) z1 z2 over one_more least (at_least ratio large) top_from separated
+  best = best_by_ratio (pair_sum arcs ss) (IsPairData ss) n h pairs (map brief found.fronts) (map moved moves) us ratio z1 z2 over one_more least separated
       (bounded_each arcs ss n z1 pairs found.fronts order entries sum.of_pairs) (above_each arcs ss z1 pairs moves entries found.bounded);
 }
   where
@@ -121,9 +121,6 @@ track_strictly_best arcs ss pairs ratio budget h moves best top found large from
     exponent : found.of_rows.sum.h ≡ h
     exponent = sym found.of_rows.finished.h ∙ sym found.h_is
 
-    at_least : (r : ℕ) → 1000 ≤ r → pos 1000 ≤ℤ pos r
-    at_least r l = omega (arith, lins)
-
     whole : (a b : ℕ) → pos a ≡ pos b → a ≡ b
     whole a b e = omega (arith, lins)
 
@@ -152,9 +149,18 @@ track_strictly_best arcs ss pairs ratio budget h moves best top found large from
         weaker : (a e b c : ℕ) → a + e ≤ b → b ≡ c → a ≤ c
         weaker a e b c l i = omega (arith, l, i)
 
-    top_from : pos 0 ≤ℤ track_top h us
-    top_from = subst (λ (t : ℤ). pos 0 ≤ℤ t) found.top_is from
-
     separated : IsSeparated (pos ratio) (track_top h us) (value (track_form n h (map brief found.fronts)) z2)
     separated = subst (λ (t : ℤ). IsSeparated (pos ratio) t (value (track_form n h (map brief found.fronts)) z2)) found.top_is
         (subst (λ (x : ℤ). IsSeparated (pos ratio) top x) (found.best_is.p2 ∙ ap (λ (a : List Column). value a z2) form_is) far)
+
+-- and where the ratio is 1000 or more
+pub track_strictly_best : (arcs : List Arc) (ss : List ℕ) (pairs : List PairRows) (ratio budget h : ℕ) (moves : List (List ℤ)) (best : TwoBest) (top : ℤ) →
+    AreFound arcs ss pairs budget h moves best top →
+    1000 ≤ ratio → pos 0 ≤ℤ top → IsSeparated (pos ratio) top best.p2 → IsStrictlyBest arcs ss pairs (first_of best) moves
+track_strictly_best arcs ss pairs ratio budget h moves best top found large from far =
+    let by_ratio : IsBestByRatio 1000 arcs ss pairs (first_of best) moves =
+    track_best_by_ratio arcs ss pairs 1000 budget h moves best top found (room top (pos ratio) best.p2 (at_least ratio large) from far) in
+    record { entries = by_ratio.entries; move_each = by_ratio.move_each; best = best_by_1000 (pair_sum arcs ss) (IsPairData ss) pairs (first_of best) (map moved moves) by_ratio.best }
+  where
+    at_least : (r : ℕ) → 1000 ≤ r → pos 1000 ≤ℤ pos r
+    at_least r l = omega (arith, lins)

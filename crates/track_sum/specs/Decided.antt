@@ -26,7 +26,7 @@ use Rattle.fix_decide.specs.Widths.{IsWide}
 use Rattle.fix_decide.specs.Decisions.{first_of}
 use Rattle.track_sum.specs.Fronts.{AreExponents, track_form, track_top}
 use Rattle.track_sum.specs.PairFronts.{AreFronts, brief, move_at}
-use Rattle.track_sum.specs.Best.{IsTrackBest}
+use Rattle.track_sum.specs.Best.{IsTrackBest, IsTrackBestByRatio}
 
 -- the fronts of all pairs, brought over one power of 2 and added, with no factors of the baseline's columns
 pub record IsSumOfFronts (arcs : List Arc) (ss : List ℕ) (pairs : List PairRows) (fs : List FrontForm) (sum : FrontForm) : Type 0 where
@@ -107,3 +107,9 @@ pub record IsStrictlyBest (arcs : List Arc) (ss : List ℕ) (pairs : List PairRo
   pub entries : length z ≡ integer_count arcs ss
   pub move_each : length moves ≡ length pairs
   pub best : IsTrackBest (pair_sum arcs ss) (IsPairData ss) pairs z (map moved moves)
+
+-- the same, where each such sum of squares is greater by a ratio in thousandths
+pub record IsBestByRatio (ratio : ℕ) (arcs : List Arc) (ss : List ℕ) (pairs : List PairRows) (z : List ℤ) (moves : List (List ℤ)) : Type 0 where
+  pub entries : length z ≡ integer_count arcs ss
+  pub move_each : length moves ≡ length pairs
+  pub best : IsTrackBestByRatio ratio (pair_sum arcs ss) (IsPairData ss) pairs z (map moved moves)

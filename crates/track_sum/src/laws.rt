@@ -7,7 +7,10 @@ ghost use Rattle.quadratic_form.specs.Rows.{value};
 ghost use Rattle.quadratic_form.specs.RationalData.{sum_of_rationals};
 ghost use Rattle.quadratic_form.specs.TwoLeast.{TwoLeast};
 ghost use Rattle.fix_decide.specs.Decisions.{IsSeparated};
+ghost use Rattle.obs_rows.specs.declared.arcs.Arc.{Arc};
+ghost use Rattle.obs_rows.specs.declared.pair_rows.PairRows.{PairRows};
 ghost use Rattle.track_sum.specs.Fronts.{Front, track_entry, track_form, track_top, AreExponents, IsSmallFront, BoundsPair, IsAtMost};
+ghost use Rattle.track_sum.specs.Decided.{IsStrictlyBest, IsBestByRatio};
 
 /// Where 64 times each pair's sum is at least 2^h_k times the value of its form at the integers z, 64 times the sum of all is at
 /// least 2^h times the value of the track's form there. The pairs' sums may be of any data and baselines.
@@ -33,4 +36,9 @@ pub fn track_decision_law()
     ensures { (n h : ℕ) (fs : List Front) (ratio : ℤ) (us : List ℤ) (z1 z2 w : List ℤ) (ours theirs : List Rational) → All (λ f. f.h ≤ h) fs → (pos 1 +ℤ len z1) ≡ pos n →
         TwoLeast (track_form n h fs) (len z1) z1 z2 → pos 1000 ≤ℤ ratio → pos 0 ≤ℤ track_top h us → IsSeparated ratio (track_top h us) (value (track_form n h fs) z2) →
         len w ≡ len z1 → w ≢ z1 → AllZip IsAtMost ours us → AllZip (BoundsPair n w) fs theirs → sum_of_rationals ours <ʳ sum_of_rationals theirs }
+{}
+
+/// What is best by a ratio of 1000 or more is strictly best.
+pub fn track_ratio_law()
+    ensures { (ratio : ℕ) (arcs : List Arc) (ss : List ℕ) (pairs : List PairRows) (z : List ℤ) (moves : List (List ℤ)) → 1000 ≤ ratio → IsBestByRatio ratio arcs ss pairs z moves → IsStrictlyBest arcs ss pairs z moves }
 {}

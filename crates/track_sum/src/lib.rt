@@ -8,7 +8,8 @@
 //!
 //! `laws` names what the sum says: 64 times the pairs' sums of squares together are at least 2^h times the value of the
 //! track's form, each entry of it is below 2^52 in size, the upper sum stays above the pairs' sums, and where the second
-//! value is far enough above it, the least integers with the moves are strictly best.
+//! value is far enough above it, the least integers with the moves are strictly best. They are best by the ratio too
+//! (`track_best_by_ratio` of the proofs), of which strictly best follows (`track_ratio_law`).
 #![tactic(auto)]
 
 mod factors;

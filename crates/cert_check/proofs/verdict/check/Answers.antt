@@ -2,8 +2,14 @@ use Rattle.std.proofs.Common.{sym, ◌∙◌, subst}
 use Rattle.cert_data.specs.declared.verdicts.Verdict.{Verdict}
 use Rattle.cert_check.specs.Verdicts.{IsVerdictOf}
 use Rattle.cert_check.specs.Visits.{RestsWithin}
+use Rattle.cert_check.proofs.Checked.{certified_by_ratio}
 use Rattle.cert_check.proofs.OneVerdict.{one_verdict, fault_verdict, fault_rests, not_certified}
 use Rattle.cert_check.proofs.verdict.check.Goals as goal
+
+pub returns-in-Ok-clause-by_ratio : goal.returns-in-Ok-clause-by_ratio
+returns-in-Ok-clause-by_ratio c = λ certified.
+    let t = c.args.cert.now in
+    certified_by_ratio t.session t.ratio t.budget t.tail t.fine (subst (λ (v : Verdict). IsVerdictOf t.session t.ratio t.budget t.tail v) certified c.check_form.ensures.verdict)
 
 pub returns-in-Ok-clause-only : goal.returns-in-Ok-clause-only
 returns-in-Ok-clause-only c = λ v is.
@@ -23,6 +29,9 @@ returns-in-Err-clause-visits c =
 
 pub returns-in-Err-clause-strictly_best : goal.returns-in-Err-clause-strictly_best
 returns-in-Err-clause-strictly_best c = λ certified. absurd (not_certified c.in-Err.fault (sym c.verdict_of.ensures ∙ certified))
+
+pub returns-in-Err-clause-by_ratio : goal.returns-in-Err-clause-by_ratio
+returns-in-Err-clause-by_ratio c = λ certified. absurd (not_certified c.in-Err.fault (sym c.verdict_of.ensures ∙ certified))
 
 pub returns-in-Err-clause-only : goal.returns-in-Err-clause-only
 returns-in-Err-clause-only c = λ v is.

@@ -12,6 +12,6 @@ returns c =
     record {
       cert = cert;
       whole = c.in_ok-write_cert.ensures.whole;
-      migrated = record { ratio = law.ratio; budget = law.budget; session = law.session; tail = law.tail; boxes = law.boxes; sums = law.sums; best = law.best };
+      migrated = record { ratio = law.ratio; budget = law.budget; session = law.session; tail = law.tail; boxes = law.boxes; sums = law.sums; best = law.best; by_ratio = law.by_ratio };
       end_is = λ i. ending (c.status_of.ensures.value i) (out i) (c.new.ensures.items i);
     }

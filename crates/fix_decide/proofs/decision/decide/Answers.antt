@@ -1,21 +1,18 @@
-use Rattle.std.proofs.Common.{◌≡◌, ℕ, ◌^◌, ◌≤◌, List, length, All, ℤ, pos, ◌*ℤ◌, ◌≤ℤ◌, ◌<ℤ◌, IsTrue, FitsSigned, to_z, of_z, arith, sym, ap, ◌∙◌, refl, subst, rules}
+use Rattle.std.proofs.Common.{◌≡◌, ℕ, ◌^◌, ◌≤◌, List, All, ℤ, pos, ◌≤ℤ◌, ◌<ℤ◌, IsTrue, FitsSigned, to_z, of_z, arith, sym, refl, subst, rules}
 use Rattle.std.proofs.lemmas.Bool.{false≢true}
 use Rattle.std.proofs.lemmas.Int.{ints}
 use Rattle.std.proofs.lemmas.Result.{err_from_is_err_and}
 use Rattle.std.specs.Int.{w128}
 use Rattle.std.specs.Prelude.{IsErrAnd}
 use Rattle.obs_rows.specs.Ranges.{IsBelow}
-use Rattle.obs_rows.specs.Signals.{fine_signals, counted}
-use Rattle.obs_rows.specs.Integers.{integer_count}
+use Rattle.obs_rows.specs.Signals.{fine_signals}
 use Rattle.integer_form.specs.declared.faults.Overwidth.{Overwidth}
 use Rattle.integer_form.specs.declared.faults.Place.TheVariants.{Sum}
-use Rattle.integer_form.specs.Forms.{columns_of, value_of}
-use Rattle.fix_decide.specs.Bounds.{StaysAtMost}
 use Rattle.fix_decide.specs.Widths.{AreWide}
-use Rattle.fix_decide.specs.Decisions.{IsSeparated, first_of, second_of, move_of}
+use Rattle.fix_decide.specs.Decisions.{IsSeparated, first_of, move_of}
 use Rattle.fix_decide.proofs.Words.{small_w128}
-use Rattle.fix_decide.proofs.SessionForms.{bounds_of, integers_are, second_small, first_length, least_of, first_small, all_narrow}
-use Rattle.fix_decide.proofs.DecisionLaws.{best_from_bounds}
+use Rattle.fix_decide.proofs.SessionForms.{second_small, first_small, all_narrow}
+use Rattle.fix_decide.proofs.DecisionLaws.{best_by_ratio, strictly_best}
 use Rattle.fix_decide.proofs.decision.decide.Goals as goal
 
 -- a value below 2^54 that fits its word
@@ -60,23 +57,25 @@ returns-clause-fixed c =
     subst (λ (x : ℤ). (IsTrue c.is_separated.result → IsSeparated (pos c.args.ratio) t x) × (IsSeparated (pos c.args.ratio) t x → IsTrue c.is_separated.result))
     (own_word c.args.best.now.p2 fits) c.is_separated.ensures
 
+-- the words that are compared are the numbers
+in_words : (ratio top p2 : ℤ) → pos 0 ≤ℤ top → top ≤ℤ pos (2 ^ 119) → FitsSigned w128 p2 → IsSeparated ratio (to_z w128 (of_z w128 top)) (to_z w128 (of_z w128 p2)) → IsSeparated ratio top p2
+in_words ratio top p2 from to fits far = subst (λ (x : ℤ). IsSeparated ratio x p2) (small_w128 top from (weaker top to))
+    (subst (λ (x : ℤ). IsSeparated ratio (to_z w128 (of_z w128 top)) x) (own_word p2 fits) far)
+
+pub returns-clause-by_ratio : goal.returns-clause-by_ratio
+returns-clause-by_ratio c =
+    let top = c.in_ok-top.ensures in
+    let fits : FitsSigned w128 c.args.best.now.p2 = search rules in
+    λ yes. best_by_ratio c.args.session.now c.args.form.now c.args.best.now c.args.ratio c.in_ok-top.top c.in_ok-moved.moved c.requires.fine c.requires.form c.requires.best top.value
+    (in_words (pos c.args.ratio) c.in_ok-top.top c.args.best.now.p2 top.from top.to fits (c.is_separated.ensures.0 yes))
+
 pub returns-clause-strictly_best : goal.returns-clause-strictly_best
 returns-clause-strictly_best c =
-    let s = c.args.session.now in
-    let f = c.args.form.now in
-    let b = c.args.best.now in
+    let top = c.in_ok-top.ensures in
     let fits : FitsSigned w128 c.args.best.now.p2 = search rules in
-    let second : to_z w128 (of_z w128 c.args.best.now.p2) ≡ value_of f (second_of b) = own_word c.args.best.now.p2 fits ∙ c.requires.best.p2 in
-    let t : to_z w128 (of_z w128 c.in_ok-top.top) ≡ c.in_ok-top.top = small_w128 c.in_ok-top.top c.in_ok-top.ensures.from (weaker c.in_ok-top.top c.in_ok-top.ensures.to) in
-    let same : fine_signals s.signals ≡ counted s.signals s.scale = ap (counted s.signals) (sym c.requires.fine) in
-    let entries : length (first_of b) ≡ integer_count s.arcs (counted s.signals s.scale) =
-    first_length f b c.requires.best ∙ c.requires.best.size ∙ integers_are s f c.requires.form c.requires.fine ∙ ap (integer_count s.arcs) same in
-    let above : StaysAtMost s.arcs (counted s.signals s.scale) s.pairs (first_of b) c.in_ok-moved.moved (pos (2 ^ f.h) *ℤ c.in_ok-top.top) =
-    subst (λ (ss : List ℕ). StaysAtMost s.arcs ss s.pairs (first_of b) c.in_ok-moved.moved (pos (2 ^ f.h) *ℤ c.in_ok-top.top)) same c.in_ok-top.ensures.above in
-    λ yes. best_from_bounds s f.h (columns_of f) (pos c.args.ratio) c.in_ok-top.top (first_of b) (second_of b) c.in_ok-moved.moved c.requires.fine entries
-    (bounds_of s f c.requires.form) (least_of f b c.requires.best) above (at_least c.args.ratio c.requires.ratio_from) c.in_ok-top.ensures.from
-    (subst (λ (x : ℤ). IsSeparated (pos c.args.ratio) x (value_of f (second_of b))) t
-    (subst (λ (x : ℤ). IsSeparated (pos c.args.ratio) (to_z w128 (of_z w128 c.in_ok-top.top)) x) second (c.is_separated.ensures.0 yes)))
+    λ yes. strictly_best c.args.session.now c.args.form.now c.args.best.now (pos c.args.ratio) c.in_ok-top.top c.in_ok-moved.moved c.requires.fine c.requires.form c.requires.best top.value
+    (at_least c.args.ratio c.requires.ratio_from) top.from
+    (in_words (pos c.args.ratio) c.in_ok-top.top c.args.best.now.p2 top.from top.to fits (c.is_separated.ensures.0 yes))
 
 pub returns-clause-float : goal.returns-clause-float
 returns-clause-float c = (λ e. absurd e, λ w. false≢true (c.in_ok-moved.ensures.refused.1 w))

@@ -2,7 +2,7 @@ use Rattle.std.proofs.Common.{◌≡◌, subst}
 use Rattle.obs_rows.specs.Signals.{fine_signals}
 use Rattle.cert_data.specs.declared.verdicts.Verdict.TheVariants.{Certified}
 use Rattle.track_form.specs.Verdicts.{IsSaidOf, IsTrackVerdict}
-use Rattle.track_form.proofs.OneVerdict.{one_verdict, best_said}
+use Rattle.track_form.proofs.OneVerdict.{one_verdict, best_said, certified_by_ratio}
 use Rattle.track_form.proofs.verdict.check_track.Goals as goal
 
 pub returns-clause-verdict : goal.returns-clause-verdict
@@ -15,6 +15,14 @@ returns-clause-strictly_best c = λ e.
     let certified : c.said_of.result ≡ Certified = cc in
     best_said t.arcs (fine_signals t.signals) t.pairs c.in_ok-decided.decided cert.tail c.in_ok-decided.ensures.strictly_best
     (subst (IsSaidOf c.in_ok-decided.decided cert.tail) certified c.said_of.ensures)
+
+pub returns-clause-by_ratio : goal.returns-clause-by_ratio
+returns-clause-by_ratio c = λ e.
+    let cert = c.args.cert.now in
+    let t = cert.track in
+    let certified : c.said_of.result ≡ Certified = cc in
+    certified_by_ratio t.arcs (fine_signals t.signals) t.pairs cert.ratio cert.budget cert.tail
+    (record { decided = c.in_ok-decided.decided; decision = c.in_ok-decided.ensures.decision; said = subst (IsSaidOf c.in_ok-decided.decided cert.tail) certified c.said_of.ensures })
 
 pub returns-clause-only : goal.returns-clause-only
 returns-clause-only c =
