@@ -17,7 +17,7 @@ use Rattle.trig_box.proofs.PairLaws.{size_law_5}
 use Rattle.eph_store.specs.Decimals.{decimal, value_of, IsWithin}
 use Rattle.eph_store.specs.declared.ephemeris.Eph.{Eph}
 use Rattle.orbit_model.specs.Elements.{Elements, sent_at}
-use Rattle.orbit_model.specs.Solution.{Quantities, IsSatelliteSolution}
+use Rattle.orbit_model.specs.Solution.{Quantities, IsNearSolution, with_share}
 use Rattle.orbit_clock.specs.declared.world.World.{World}
 use Rattle.orbit_clock.specs.Records.{elements_of, constants_of, seconds}
 use Rattle.orbit_clock.proofs.Values.{from_to_within}
@@ -84,11 +84,15 @@ motion_least n n0 dn e h s = parted 923 (10 ^ 7) (lit< tt) n
     (ko (pos 923)) (ko (pos 10000000) ⊗ va 0) (hy 0 ⊞ nm 10000000 ⊠ hy 1 ⊞ hy 2) (ko (pos 10000000) ∷ []) refl (h, (s.1, (omega (arith, ints), tt))) (e, tt))
 
 -- ---- the polynomial
+-- of af0 and a share of af2
+abbrev pub bias_limit : Rational
+bias_limit = add_r (decimal (pos 1) 2) (mul_r (decimal (pos 1) 12) (two_to_minus 44))
+
 abbrev pub clock_limit : Rational → Rational
-clock_limit b = add_r (add_r (add_r (decimal (pos 1) 2) (mul_r (decimal (pos 1) 7) b)) (mul_r (decimal (pos 1) 12) (mul_r b b)))
+clock_limit b = add_r (add_r (add_r bias_limit (mul_r (decimal (pos 1) 7) b)) (mul_r (decimal (pos 1) 12) (mul_r b b)))
     (mul_r (mul_r (mul_r (decimal (pos 4442807633) 19) (decimal (pos 3125) 5)) (of_whole (pos 6000))) (add_r (of_whole (pos 1)) (two_to_minus 16)))
 
-relativity_size : (rel : ℤ) → neg_ℤ (pos 4442807633) ≤ℤ rel → rel ≤ℤ neg_ℤ (pos 4442807309) → IsAtMostInSize (decimal (pos 4442807633) 19) (decimal rel 19)
+pub relativity_size : (rel : ℤ) → neg_ℤ (pos 4442807633) ≤ℤ rel → rel ≤ℤ neg_ℤ (pos 4442807309) → IsAtMostInSize (decimal (pos 4442807633) 19) (decimal rel 19)
 relativity_size rel l h = (
   mul_le_right (pos (10 ^ 19)) rel (pos 4442807633) (pos_nn (10 ^ 19)) (omega (arith, ints, l, h)),
   mul_le_right (pos (10 ^ 19)) (neg_ℤ rel) (pos 4442807633) (pos_nn (10 ^ 19)) (omega (arith, ints, l, h)),
@@ -111,27 +115,29 @@ effect_size eph world x c s p =
     (size_looser (decimal (pos 6000) 0) (of_whole (pos 6000)) (elements_of eph).root_a six a))
     (size_law_5 x c s p).1
 
-clock_size : (eph : Eph) (world : World) (sent b : Rational) (q : Quantities) → IsSatelliteSolution (constants_of world) (elements_of eph) sent q
+clock_size : (eph : Eph) (world : World) (sent b : Rational) (q : Quantities) → IsNearSolution (constants_of world) (elements_of eph) sent q
     → IsAtMostInSize b (sub_r q.t (elements_of eph).toc) → IsAtMostInSize (clock_limit b) q.clock
-clock_size eph world sent b q s h =
-    let d : Elements = elements_of eph in
+clock_size eph world sent b q near h =
+    let d : Elements = with_share (elements_of eph) near.share in
+    let s = near.solves in
     let x : Rational = sub_r q.t d.toc in
-    let bias = size_of_decimal 1 2 eph.af0 eph.af0_in in
+    let bias = size_add (decimal (pos 1) 2) (mul_r (decimal (pos 1) 12) (two_to_minus 44)) (elements_of eph).af0 (mul_r (elements_of eph).af2 near.share) (size_of_decimal 1 2 eph.af0 eph.af0_in)
+    (size_mul (decimal (pos 1) 12) (two_to_minus 44) (elements_of eph).af2 near.share (size_of_decimal 1 12 eph.af2 eph.af2_in) near.small) in
     let drift = size_mul (decimal (pos 1) 7) b d.af1 x (size_of_decimal 1 7 eph.af1 eph.af1_in) h in
     let aging = size_mul (decimal (pos 1) 12) (mul_r b b) d.af2 (mul_r x x) (size_of_decimal 1 12 eph.af2 eph.af2_in) (size_mul b b x x h h) in
     let effect = effect_size eph world q.eccentric q.eccentric_pair.cos q.eccentric_pair.sin s.kepler.is_pair in
-    let two = size_add (decimal (pos 1) 2) (mul_r (decimal (pos 1) 7) b) d.af0 (mul_r d.af1 x) bias drift in
-    let three = size_add (add_r (decimal (pos 1) 2) (mul_r (decimal (pos 1) 7) b)) (mul_r (decimal (pos 1) 12) (mul_r b b)) (add_r d.af0 (mul_r d.af1 x)) (mul_r d.af2 (mul_r x x)) two aging in
+    let two = size_add bias_limit (mul_r (decimal (pos 1) 7) b) d.af0 (mul_r d.af1 x) bias drift in
+    let three = size_add (add_r bias_limit (mul_r (decimal (pos 1) 7) b)) (mul_r (decimal (pos 1) 12) (mul_r b b)) (add_r d.af0 (mul_r d.af1 x)) (mul_r d.af2 (mul_r x x)) two aging in
     let value : Rational = add_r (add_r (add_r d.af0 (mul_r d.af1 x)) (mul_r d.af2 (mul_r x x))) (mul_r (mul_r (mul_r (constants_of world).relativity d.ecc) d.root_a) q.eccentric_pair.sin) in
     let four : IsAtMostInSize (clock_limit b) value =
-    size_add (add_r (add_r (decimal (pos 1) 2) (mul_r (decimal (pos 1) 7) b)) (mul_r (decimal (pos 1) 12) (mul_r b b)))
+    size_add (add_r (add_r bias_limit (mul_r (decimal (pos 1) 7) b)) (mul_r (decimal (pos 1) 12) (mul_r b b)))
     (mul_r (mul_r (mul_r (decimal (pos 4442807633) 19) (decimal (pos 3125) 5)) (of_whole (pos 6000))) (add_r (of_whole (pos 1)) (two_to_minus 16)))
     (add_r (add_r d.af0 (mul_r d.af1 x)) (mul_r d.af2 (mul_r x x)))
     (mul_r (mul_r (mul_r (constants_of world).relativity d.ecc) d.root_a) q.eccentric_pair.sin) three effect in
     size_along (clock_limit b) value q.clock (≈_sym q.clock value s.clock_correction) four
 
 -- ---- toe and toc are at most two hours apart
-epochs_size : (a b : ℕ) → a ≤ b + 72000000000 → b ≤ a + 72000000000 → IsAtMostInSize (of_whole (pos 7200)) (sub_r (seconds a) (seconds b))
+pub epochs_size : (a b : ℕ) → a ≤ b + 72000000000 → b ≤ a + 72000000000 → IsAtMostInSize (of_whole (pos 7200)) (sub_r (seconds a) (seconds b))
 epochs_size a b h g = (omega (arith, ints, h), omega (arith, ints, g))
 
 abbrev pub sent_limit : Rational
@@ -155,10 +161,11 @@ sent_size tag toe code n l h = let a = apart tag toe n in (high tag toe code a.0
     low t e c h l = omega (arith, ints, h, l)
 
 -- ---- the bounds
-pub clock_small : (eph : Eph) (world : World) (sent : Rational) (q : Quantities) → IsSatelliteSolution (constants_of world) (elements_of eph) sent q
+pub clock_small : (eph : Eph) (world : World) (sent : Rational) (q : Quantities) → IsNearSolution (constants_of world) (elements_of eph) sent q
     → IsAtMostInSize sent_limit (sub_r sent (elements_of eph).toe) → IsAtMostInSize (of_scale 60 (pos (2 ^ 54))) q.clock
-clock_small eph world sent q s near =
+clock_small eph world sent q is near =
     let d : Elements = elements_of eph in
+    let s = is.solves in
     let w : AreBounded world.mu world.rel = bounded world.mu world.rel world.known in
     let sine = size_law_5 q.eccentric q.eccentric_pair.cos q.eccentric_pair.sin s.kepler.is_pair in
     let one_and : Rational = add_r (of_whole (pos 1)) (two_to_minus 16) in
@@ -179,12 +186,12 @@ clock_small eph world sent q s near =
     let far = size_along (of_whole (pos 252200)) (add_r q.tk (sub_r d.toe d.toc)) (sub_r q.t d.toc) (since q.t q.tk d.toe d.toc s.time_from_epoch)
     (size_looser (add_r (of_whole (pos 245000)) (of_whole (pos 7200))) (of_whole (pos 252200)) (add_r q.tk (sub_r d.toe d.toc)) (le_pos _ _ (lit≤ tt))
     (size_add (of_whole (pos 245000)) (of_whole (pos 7200)) q.tk (sub_r d.toe d.toc) time gap)) in
-    let first = size_looser (clock_limit (of_whole (pos 252200))) (of_scale 3 (pos 1)) q.clock (le_pos _ _ (lit≤ tt)) (clock_size eph world sent (of_whole (pos 252200)) q s far) in
+    let first = size_looser (clock_limit (of_whole (pos 252200))) (of_scale 3 (pos 1)) q.clock (le_pos _ _ (lit≤ tt)) (clock_size eph world sent (of_whole (pos 252200)) q is far) in
     let close_limit : Rational = add_r (add_r sent_limit (of_scale 3 (pos 1))) (of_whole (pos 7200)) in
     let close = size_along close_limit (add_r (sub_r (sub_r sent d.toe) q.clock) (sub_r d.toe d.toc)) (sub_r q.t d.toc) (sent_since sent q.t q.clock d.toe d.toc s.time_of_sending)
     (size_add (add_r sent_limit (of_scale 3 (pos 1))) (of_whole (pos 7200)) (sub_r (sub_r sent d.toe) q.clock) (sub_r d.toe d.toc)
     (size_sub sent_limit (of_scale 3 (pos 1)) (sub_r sent d.toe) q.clock near first) gap) in
-    size_looser (clock_limit close_limit) (of_scale 60 (pos (2 ^ 54))) q.clock (le_pos _ _ (lit≤ tt)) (clock_size eph world sent close_limit q s close)
+    size_looser (clock_limit close_limit) (of_scale 60 (pos (2 ^ 54))) q.clock (le_pos _ _ (lit≤ tt)) (clock_size eph world sent close_limit q is close)
   where
     turned : (m m0 n t : Rational) → m ≈ add_r m0 (mul_r n t) → sub_r m m0 ≈ mul_r t n
     turned m m0 n t e = equal_r (m ∷ m0 ∷ n ∷ t ∷ []) ((va 0 ≐ va 1 ⊕ va 2 ⊗ va 3) ∷ []) (ko (pos 1) ∷ []) (va 0 ⊖ va 1) (va 3 ⊗ va 2) refl (e, tt)

@@ -67,25 +67,25 @@ middle_near lo hi p w k i a b =
       order_r r ((va 3 ≼ va 1) ∷ (va 1 ⊖ va 2 ≼ va 4) ∷ []) [] (ng (va 2 ⊖ va 3)) (va 4) (hy 0 ⊞ hy 1) [] refl (i.1, (half_gap hi p w a, tt)) tt,
     )
 
--- within 2^-35 of the mean anomaly, where the clock is within 224698263227 / 2^61 of d
+-- within 2^-35 of the mean anomaly, where the clock is within 224698263229 / 2^61 of d
 pub mean_near : (m m0 n sent toe k t tk : Rational) (lo hi p nl nh : ℤ) → m ≈ add_r m0 (mul_r n tk) → tk ≈ sub_r t toe → t ≈ sub_r sent k →
-    InBox 60 lo hi k → ((hi -ℤ p) +ℤ (hi -ℤ p)) ≤ℤ pos 224698263227 → ((p -ℤ lo) +ℤ (p -ℤ lo)) ≤ℤ pos 224698263227 →
+    InBox 60 lo hi k → ((hi -ℤ p) +ℤ (hi -ℤ p)) ≤ℤ pos 224698263229 → ((p -ℤ lo) +ℤ (p -ℤ lo)) ≤ℤ pos 224698263229 →
     InBox 60 nl nh (times 10000 n) → neg_ℤ (pos 2527203938098207432) ≤ℤ nl → nh ≤ℤ pos 2527203938098207432 → AreWithin (two_to_minus 35) m (mean_at m0 n sent toe (of_scale 60 p))
 mean_near m m0 n sent toe k t tk lo hi p nl nh e f g i a b j nlow nhigh =
     let d : Rational = of_scale 60 p in
-    let far = middle_near lo hi p (pos 224698263227) k i a b in
-    let share : IsAtMostInSize (mul_r (record { num = pos 1; den = 10000; positive = lit< tt }) (of_scale 61 (pos 224698263227))) (part (sub_r d k)) =
-    size_along (mul_r (record { num = pos 1; den = 10000; positive = lit< tt }) (of_scale 61 (pos 224698263227)))
+    let far = middle_near lo hi p (pos 224698263229) k i a b in
+    let share : IsAtMostInSize (mul_r (record { num = pos 1; den = 10000; positive = lit< tt }) (of_scale 61 (pos 224698263229))) (part (sub_r d k)) =
+    size_along (mul_r (record { num = pos 1; den = 10000; positive = lit< tt }) (of_scale 61 (pos 224698263229)))
     (mul_r (record { num = pos 1; den = 10000; positive = lit< tt }) (sub_r d k)) (part (sub_r d k)) (tenth_is (sub_r d k))
-    (size_mul (record { num = pos 1; den = 10000; positive = lit< tt }) (of_scale 61 (pos 224698263227)) (record { num = pos 1; den = 10000; positive = lit< tt }) (sub_r d k) (own, negative) far) in
+    (size_mul (record { num = pos 1; den = 10000; positive = lit< tt }) (of_scale 61 (pos 224698263229)) (record { num = pos 1; den = 10000; positive = lit< tt }) (sub_r d k) (own, negative) far) in
     let fast = size_of_box 60 2527203938098207432 nl nh (times 10000 n) nlow nhigh j in
     let gap = size_along
-    (mul_r (of_scale 60 (pos 2527203938098207432)) (mul_r (record { num = pos 1; den = 10000; positive = lit< tt }) (of_scale 61 (pos 224698263227))))
+    (mul_r (of_scale 60 (pos 2527203938098207432)) (mul_r (record { num = pos 1; den = 10000; positive = lit< tt }) (of_scale 61 (pos 224698263229))))
     (mul_r (times 10000 n) (part (sub_r d k))) (sub_r m (mean_at m0 n sent toe d)) (mean_gap m m0 n sent toe k t tk d e f g)
-    (size_mul (of_scale 60 (pos 2527203938098207432)) (mul_r (record { num = pos 1; den = 10000; positive = lit< tt }) (of_scale 61 (pos 224698263227)))
+    (size_mul (of_scale 60 (pos 2527203938098207432)) (mul_r (record { num = pos 1; den = 10000; positive = lit< tt }) (of_scale 61 (pos 224698263229)))
     (times 10000 n) (part (sub_r d k)) fast share) in
     let small = size_looser
-    (mul_r (of_scale 60 (pos 2527203938098207432)) (mul_r (record { num = pos 1; den = 10000; positive = lit< tt }) (of_scale 61 (pos 224698263227))))
+    (mul_r (of_scale 60 (pos 2527203938098207432)) (mul_r (record { num = pos 1; den = 10000; positive = lit< tt }) (of_scale 61 (pos 224698263229))))
     (two_to_minus 35) (sub_r m (mean_at m0 n sent toe d)) (le_pos _ _ (lit≤ tt)) gap in
     (small.0, order_r (m ∷ mean_at m0 n sent toe d ∷ two_to_minus 35 ∷ []) ((ng (va 0 ⊖ va 1) ≼ va 2) ∷ []) [] (va 1 ⊖ va 0) (va 2) (hy 0) [] refl (small.1, tt) tt)
   where

@@ -1,9 +1,10 @@
 //! The clock's correction: IS-GPS-200, 20.3.3.3.3.1. Times are over 10^4 s, so the drift is times 10^4 and the aging times 10^8.
 ghost use Rattle.std.specs.Prelude.{◌≡◌, ◌+◌, ◌*◌, ◌^◌, ◌<◌, ◌≤◌, pos, ◌+ℤ◌, ◌-ℤ◌, ◌*ℤ◌, ◌≤ℤ◌, ◌<ℤ◌, unsigned_abs};
 ghost use Rattle.std.specs.Int.{abs_diff};
-ghost use Rattle.rational.specs.Rational.{Rational, sub_r};
+ghost use Rattle.rational.specs.Rational.{Rational, sub_r, two_to_minus, IsAtMostInSize};
 ghost use Rattle.iv_core.specs.Intervals.{Holds};
 ghost use Rattle.orbit_model.specs.Elements.{Elements, sent_at};
+ghost use Rattle.orbit_model.specs.Solution.{with_share};
 ghost use Rattle.orbit_clock.specs.Records.{elements_of, seconds};
 ghost use Rattle.orbit_clock.specs.Terms.{HoldsTerms, part, correction};
 
@@ -15,8 +16,10 @@ use sized_box::SizedBox;
 
 const ONE: u64 = 1 << 60;
 
-// Limits of size, at 2^-60: 0.01, 10^-3, 10^-4 and 1.4402 for the terms
-pub const BIAS: u64 = ONE / 100 + 1;
+// Limits of size, at 2^-60: 0.01, 10^-3, 10^-4 and 1.4402 for the terms; that of af0 a unit wider on both sides
+pub const OWN_BIAS: u64 = ONE / 100 + 1;
+
+pub const BIAS: u64 = ONE / 100 + 2;
 
 pub const DRIFT: u64 = ONE / 1_000 + 1;
 
@@ -46,8 +49,8 @@ const SUM: u64 = ONE / 100_000 * 1_169;
 /// Boxes of the terms of the clock's correction at a time of sending.
 #[derive(Clone, Copy, Debug)]
 pub struct Terms {
-    /// af0, in s
-    pub bias: SizedBox<60, BIAS, 1>,
+    /// af0 and each share of af2, in s
+    pub bias: SizedBox<60, BIAS, 3>,
     /// af1, in 10^-4
     pub drift: SizedBox<60, DRIFT, 1>,
     /// af2, in 10^-8 1/s
@@ -122,7 +125,7 @@ impl Terms {
         requires near { abs_diff tag.0 made.now.eph.toe.0 ≤ 72010000000 }
         requires code_low { pos 0 ≤ℤ code }
         requires code_high { code ≤ℤ pos (10 ^ 11) }
-        ensures { HoldsTerms result (elements_of made.now.eph) (sent_at tag.0 code) }
+        ensures { (share : Rational) → IsAtMostInSize (two_to_minus 44) share → HoldsTerms result (with_share (elements_of made.now.eph) share) (sent_at tag.0 code) }
     {
         Terms {
             bias: made.bias,
@@ -155,7 +158,7 @@ pub fn pass<
     requires aged { AGING * TIME_WIDTH + TIME * 1 + 2 * 2 ^ 60 ≤ (AGED_WIDTH + 1) * 2 ^ 60 }
     requires slope { AGED_WIDTH + 1 ≤ SLOPE_WIDTH }
     requires turn { TIME * SLOPE_WIDTH + SLOPE * TIME_WIDTH + 2 * 2 ^ 60 ≤ (TURN_WIDTH + 1) * 2 ^ 60 }
-    requires sum { TURN_WIDTH + 1 ≤ SUM_WIDTH }
+    requires sum { TURN_WIDTH + 3 ≤ SUM_WIDTH }
     requires width { SUM_WIDTH + EFFECT_WIDTH ≤ TO_WIDTH }
     ensures { (eph : Elements) (sent x y : Rational) → HoldsTerms terms.now eph sent →
         Holds clock.now.held x → Holds effect.now.held y → Holds result.held (correction eph sent x y) }

@@ -1,19 +1,21 @@
 //! What a record and a system say at every time.
 ghost use Rattle.std.specs.Prelude.{◌≡◌, ◌^◌, pos, ◌≤ℤ◌};
-ghost use Rattle.rational.specs.Rational.{Rational, mul_r, times};
+ghost use Rattle.rational.specs.Rational.{Rational, add_r, mul_r, times, of_scale, two_to_minus, IsAtMostInSize};
 ghost use Rattle.iv_core.specs.Intervals.{Holds};
-ghost use Rattle.orbit_model.specs.Solution.{Quantities, IsSatelliteSolution};
+ghost use Rattle.orbit_model.specs.Solution.{Quantities, IsNearSolution, with_share};
 ghost use Rattle.orbit_clock.specs.Records.{elements_of, constants_of};
 
 use crate::World;
-use crate::correction::{AGING, BIAS, DRIFT};
+use crate::correction::{AGING, BIAS, DRIFT, OWN_BIAS};
 use crate::quotient::quotient;
 use crate::shape::{
     ECCENTRICITY, MOTION, MOTION_WIDTH, TEN_THOUSAND, eccentricity, mean_motion, root_of_axis,
     ten_thousand,
 };
 use decimal_box::decimal_box;
+use decimal_text::Dec;
 use eph_store::Eph;
+use iv_core::Iv;
 use sized_box::SizedBox;
 
 /// 6.5 at 2^-56
@@ -34,8 +36,8 @@ pub const RELATIVITY: u64 = 96_100_000_000;
 pub struct ClockRecord {
     pub eph: Eph,
     pub world: World,
-    /// af0, in s
-    pub bias: SizedBox<60, BIAS, 1>,
+    /// af0 and each share of af2 that a near solution has, in s
+    pub bias: SizedBox<60, BIAS, 3>,
     /// af1, in 10^-4
     pub drift: SizedBox<60, DRIFT, 1>,
     /// af2, in 10^-8 1/s
@@ -48,13 +50,13 @@ pub struct ClockRecord {
     pub motion: SizedBox<60, MOTION, MOTION_WIDTH>,
     /// F e √A, in s
     pub relativity: SizedBox<60, RELATIVITY, 2>,
-    pub ghost bias_in: { Holds bias.held (elements_of eph).af0 },
+    pub ghost bias_in: { (share : Rational) → IsAtMostInSize (two_to_minus 44) share → Holds bias.held (with_share (elements_of eph) share).af0 },
     pub ghost drift_in: { Holds drift.held (times (10 ^ 4) (elements_of eph).af1) },
     pub ghost aging_in: { Holds aging.held (times (10 ^ 8) (elements_of eph).af2) },
     pub ghost eccentricity_in: { Holds eccentricity.held (elements_of eph).ecc },
     pub ghost eccentricity_low: { pos 0 ≤ℤ eccentricity.held.lo },
     pub ghost start_in: { Holds start.held (elements_of eph).m0 },
-    pub ghost motion_in: { (sent : Rational) (q : Quantities) → IsSatelliteSolution (constants_of world) (elements_of eph) sent q → Holds motion.held (times 10000 q.motion) },
+    pub ghost motion_in: { (sent : Rational) (q : Quantities) → IsNearSolution (constants_of world) (elements_of eph) sent q → Holds motion.held (times 10000 q.motion) },
     pub ghost relativity_in: { Holds relativity.held (mul_r (mul_r (constants_of world).relativity (elements_of eph).ecc) (elements_of eph).root_a) },
 }
 
@@ -75,6 +77,32 @@ fn factor_of(world: &World) -> SizedBox<60, FACTOR, 1>
     quotient(world.rel as i128, 1_000_000_000_000_000)
 }
 
+// A unit wider on both sides
+fn widened(bias: &SizedBox<60, OWN_BIAS, 1>) -> SizedBox<60, BIAS, 3>
+    ensures { (x y : Rational) → Holds bias.now.held x → IsAtMostInSize (of_scale 60 (pos 1)) y → Holds result.held (add_r x y) }
+{
+    SizedBox::new(Iv::from_ends(bias.held.lo() - 1, bias.held.hi() + 1))
+}
+
+fn mantissa_of(number: &Dec) -> i64
+    ensures { result ≡ number.now.mant }
+{
+    number.mant
+}
+
+// af0 and each share of af2 that a near solution has. Where af2 is 0 it is no wider than af0's own box.
+fn bias_of(eph: &Eph) -> SizedBox<60, BIAS, 3>
+    ensures { (share : Rational) → IsAtMostInSize (two_to_minus 44) share → Holds result.held (with_share (elements_of eph.now) share).af0 }
+{
+    let own = decimal_box::<60, 1, 2, 0, OWN_BIAS>(eph.af0);
+    let aging = mantissa_of(&eph.af2);
+    if aging == 0 {
+        own.loose()
+    } else {
+        widened(&own)
+    }
+}
+
 impl ClockRecord {
     /// The boxes of a record, with the constants of its system.
     pub fn of(eph: &Eph, world: &World) -> ClockRecord
@@ -84,7 +112,7 @@ impl ClockRecord {
         ClockRecord {
             eph: *eph,
             world: *world,
-            bias: decimal_box::<60, 1, 2, 0, BIAS>(eph.af0),
+            bias: bias_of(eph),
             drift: decimal_box::<60, 1, 7, 4, DRIFT>(eph.af1),
             aging: decimal_box::<60, 1, 12, 8, AGING>(eph.af2),
             eccentricity: eccentricity(eph),

@@ -2,7 +2,7 @@
 ghost use Rattle.std.specs.Prelude.{◌≡◌, ◌*◌, ◌^◌, pos, ◌*ℤ◌, ◌≤ℤ◌};
 ghost use Rattle.rational.specs.Rational.{Rational, ◌≈◌, of_whole, times, mul_r, IsNearRoot};
 ghost use Rattle.iv_core.specs.Intervals.{Holds};
-ghost use Rattle.orbit_model.specs.Solution.{Quantities, IsSatelliteSolution};
+ghost use Rattle.orbit_model.specs.Solution.{Quantities, IsNearSolution};
 ghost use Rattle.orbit_clock.specs.Records.{elements_of, constants_of};
 
 use crate::World;
@@ -103,7 +103,7 @@ fn root_of_mu(world: &World) -> SizedBox<36, ROOT_OF_MU, 3>
 
 /// The corrected mean motion, in 10^-4 rad/s.
 pub fn mean_motion(eph: &Eph, world: &World) -> SizedBox<60, MOTION, MOTION_WIDTH>
-    ensures { (sent : Rational) (q : Quantities) → IsSatelliteSolution (constants_of world.now) (elements_of eph.now) sent q →
+    ensures { (sent : Rational) (q : Quantities) → IsNearSolution (constants_of world.now) (elements_of eph.now) sent q →
         Holds result.held (times 10000 q.motion) }
 {
     let tens: SizedBox<24, TENS, 9> = root_of_mu(world).mul(&ten_thousand());

@@ -5,7 +5,7 @@ ghost use Rattle.rational.specs.Rational.{Rational, add_r, sub_r, mul_r, of_scal
 ghost use Rattle.iv_core.specs.Intervals.{Holds};
 ghost use Rattle.kepler_box.specs.Kepler.{SolvesKepler};
 ghost use Rattle.orbit_model.specs.Elements.{sent_at};
-ghost use Rattle.orbit_model.specs.Solution.{Quantities, IsSatelliteSolution};
+ghost use Rattle.orbit_model.specs.Solution.{Quantities, IsNearSolution};
 ghost use Rattle.orbit_clock.specs.Records.{elements_of, constants_of};
 ghost use Rattle.orbit_clock.specs.Terms.{part};
 ghost use Rattle.orbit_clock.specs.Timings.{HoldsTiming};
@@ -38,12 +38,12 @@ const SINE_WIDTH: u64 = 1_600 + (1 << 28) + 2;
 
 const EFFECT_WIDTH: u64 = 26;
 
-const FIRST_WIDTH: u64 = 224_698_263_226;
+const FIRST_WIDTH: u64 = 224_698_263_228;
 
-const SECOND_WIDTH: u64 = 29_336;
+const SECOND_WIDTH: u64 = 29_338;
 
 /// The width of the clock, at 2^-60 s.
-pub const CLOCK_WIDTH: u64 = 34;
+pub const CLOCK_WIDTH: u64 = 36;
 
 /// When a satellite sent, and what Kepler's equation is asked with.
 #[derive(Clone, Copy, Debug)]
@@ -92,7 +92,7 @@ fn sine_near(
 
 fn half_of(width: i64) -> i64
     requires low { pos 0 ≤ℤ width }
-    requires high { width ≤ℤ pos 224698263226 }
+    requires high { width ≤ℤ pos 224698263228 }
     ensures below { (result +ℤ result) ≤ℤ width }
     ensures near { width ≤ℤ ((result +ℤ result) +ℤ pos 1) }
 {
@@ -103,8 +103,8 @@ fn half_of(width: i64) -> i64
 fn middle_of(clock: &SizedBox<60, CLOCK, FIRST_WIDTH>) -> i64
     ensures low { clock.now.held.lo ≤ℤ result }
     ensures high { result ≤ℤ clock.now.held.hi }
-    ensures above { ((clock.now.held.hi -ℤ result) +ℤ (clock.now.held.hi -ℤ result)) ≤ℤ pos 224698263227 }
-    ensures below { ((result -ℤ clock.now.held.lo) +ℤ (result -ℤ clock.now.held.lo)) ≤ℤ pos 224698263227 }
+    ensures above { ((clock.now.held.hi -ℤ result) +ℤ (clock.now.held.hi -ℤ result)) ≤ℤ pos 224698263229 }
+    ensures below { ((result -ℤ clock.now.held.lo) +ℤ (result -ℤ clock.now.held.lo)) ≤ℤ pos 224698263229 }
 {
     let lo = clock.held.lo();
     let hi = clock.held.hi();
@@ -140,7 +140,7 @@ fn effect_of(
     sent: &SizedBox<60, SENT, 1>,
     first: &SizedBox<60, CLOCK, FIRST_WIDTH>,
 ) -> SizedBox<60, EFFECT, EFFECT_WIDTH>
-    ensures { (s : Rational) (q : Quantities) → IsSatelliteSolution (constants_of made.now.world) (elements_of made.now.eph) s q →
+    ensures { (s : Rational) (q : Quantities) → IsNearSolution (constants_of made.now.world) (elements_of made.now.eph) s q →
         Holds sent.now.held (part (sub_r s (elements_of made.now.eph).toe)) → Holds first.now.held q.clock →
         Holds result.held (mul_r (mul_r (mul_r (constants_of made.now.world).relativity (elements_of made.now.eph).ecc) (elements_of made.now.eph).root_a) q.eccentric_pair.sin) }
 {
@@ -151,12 +151,12 @@ fn effect_of(
 }
 
 /// When a satellite sent what was received at a tag with a code, in mm, and what Kepler's equation is asked with: boxes of
-/// every solution. The tag is at most 7201 s from the ephemeris' time.
+/// every near solution. The tag is at most 7201 s from the ephemeris' time.
 pub fn timing_at(made: &ClockRecord, tag: Tick, code: i64) -> Timing
     requires near { abs_diff tag.0 made.now.eph.toe.0 ≤ 72010000000 }
     requires code_low { pos 0 ≤ℤ code }
     requires code_high { code ≤ℤ pos (10 ^ 11) }
-    ensures { (q : Quantities) → IsSatelliteSolution (constants_of made.now.world) (elements_of made.now.eph) (sent_at tag.0 code) q → HoldsTiming result q }
+    ensures { (q : Quantities) → IsNearSolution (constants_of made.now.world) (elements_of made.now.eph) (sent_at tag.0 code) q → HoldsTiming result q }
 {
     let sent = time_since::<72_010_000_000, SENT>(made.eph.toe, tag, code);
     let terms = Terms::of(made, tag, code);
@@ -167,7 +167,7 @@ pub fn timing_at(made: &ClockRecord, tag: Tick, code: i64) -> Timing
         360_287_973,
         360_287_974,
         4_698_263_225,
-        4_698_263_226,
+        4_698_263_228,
         220_000_000_000,
         FIRST_WIDTH,
     >(&terms, &any_clock(), &any_effect());
@@ -179,11 +179,11 @@ pub fn timing_at(made: &ClockRecord, tag: Tick, code: i64) -> Timing
         2_250,
         2_251,
         29_309,
-        29_310,
+        29_312,
         EFFECT_WIDTH,
         SECOND_WIDTH,
     >(&terms, &first, &effect);
-    let clock = pass::<SECOND_WIDTH, 4, 5, 3, 4, 7, 8, EFFECT_WIDTH, CLOCK_WIDTH>(
+    let clock = pass::<SECOND_WIDTH, 4, 5, 3, 4, 7, 10, EFFECT_WIDTH, CLOCK_WIDTH>(
         &terms, &second, &effect,
     );
     let epoch_time = time_at(&sent, &clock);

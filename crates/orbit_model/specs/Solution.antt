@@ -1,6 +1,6 @@
 -- A satellite's place and clock by the user algorithm of IS-GPS-200, as a set of equations over rationals.
 use Rattle.std.specs.Prelude.{pos}
-use Rattle.rational.specs.Rational.{Rational, ◌≈◌, of_whole, add_r, sub_r, mul_r, IsNearRoot}
+use Rattle.rational.specs.Rational.{Rational, ◌≈◌, of_whole, add_r, sub_r, mul_r, two_to_minus, IsAtMostInSize, IsNearRoot}
 use Rattle.trig_box.specs.AnglePairs.{Pair, IsAnglePair, double}
 use Rattle.kepler_box.specs.Kepler.{SolvesKepler}
 use Rattle.orbit_model.specs.Elements.{Elements, Constants, earth_rate}
@@ -114,3 +114,14 @@ pub record IsSatelliteSolution (world : Constants) (eph : Elements) (sent : Rati
   -- Δt = af0 + af1 (t - toc) + af2 (t - toc)² + F e √A sin E
   pub clock_correction : q.clock ≈ add_r (add_r (add_r eph.af0 (mul_r eph.af1 (sub_r q.t eph.toc)))
       (mul_r eph.af2 (mul_r (sub_r q.t eph.toc) (sub_r q.t eph.toc)))) (mul_r (mul_r (mul_r world.relativity eph.ecc) eph.root_a) q.eccentric_pair.sin)
+
+-- the record with af0 + share af2 for af0
+abbrev pub with_share : Elements → Rational → Elements
+with_share eph share = record eph { af0 = add_r eph.af0 (mul_r eph.af2 share) }
+
+-- a near solution: a solution of the record whose af0 has changed by a share of af2, of at most 2^-44 s² in size. So each line holds
+-- exactly, but for 2^-44 s² times |af2| in the clock's; where af2 is 0 it is a solution
+pub record IsNearSolution (world : Constants) (eph : Elements) (sent : Rational) (q : Quantities) : Type 0 where
+  pub share : Rational
+  pub small : IsAtMostInSize (two_to_minus 44) share
+  pub solves : IsSatelliteSolution world (with_share eph share) sent q

@@ -6,7 +6,7 @@ use Rattle.obs_rows.specs.declared.units.TheConstants.{UNIT_FREQUENCY, LIGHT_SPE
 use Rattle.obs_rows.specs.Signals.{wavelength}
 use Rattle.eph_store.specs.declared.ephemeris.Eph.{Eph}
 use Rattle.orbit_model.specs.Elements.{Constants, sent_at}
-use Rattle.orbit_model.specs.Solution.{Quantities, IsSatelliteSolution}
+use Rattle.orbit_model.specs.Solution.{Quantities, IsNearSolution}
 use Rattle.orbit_clock.specs.Records.{elements_of}
 use Rattle.sim_texts.specs.declared.signals.Signals.{Signals}
 use Rattle.orbit_model.specs.SeenPlaces.{Place, point_of, IsSeenPlace, range_of}
@@ -22,7 +22,7 @@ distance travel clock = sub_r (range_of travel) (mul_r (of_whole LIGHT_SPEED) cl
 -- P holds of that distance for every solution by a system's constants at the tag with a code of so many mm, seen from the point
 abbrev pub ForSolutions : Constants → Eph → ℕ → ℤ → List ℤ → (Rational → Type 0) → Type 0
 ForSolutions world eph tag code point P = (q : Quantities) (a b c : ℤ) (seen : Place) (travel : Rational) → point ≡ a ∷ b ∷ c ∷ [] →
-    IsSatelliteSolution world (elements_of eph) (sent_at tag code) q → IsSeenPlace (sent_place q) (point_of a b c) travel seen → P (distance travel q.clock)
+    IsNearSolution world (elements_of eph) (sent_at tag code) q → IsSeenPlace (sent_place q) (point_of a b c) travel seen → P (distance travel q.clock)
 
 -- what the receiver measures of a distance, with its own clock term, in mm
 abbrev pub measured : ℤ → Rational → Rational

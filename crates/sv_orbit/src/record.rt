@@ -4,7 +4,7 @@ ghost use Rattle.std.specs.Int.{abs_diff};
 ghost use Rattle.rational.specs.Rational.{Rational, ◌≈◌, mul_r, times};
 ghost use Rattle.iv_core.specs.Intervals.{Holds};
 ghost use Rattle.orbit_model.specs.Elements.{Constants, sent_at};
-ghost use Rattle.orbit_model.specs.Solution.{Quantities, IsSatelliteSolution};
+ghost use Rattle.orbit_model.specs.Solution.{Quantities, IsNearSolution, with_share};
 ghost use Rattle.orbit_clock.specs.Records.{elements_of, constants_of};
 ghost use Rattle.orbit_clock.specs.Timings.{HoldsTiming};
 ghost use Rattle.orbit_place.specs.Held.{HoldsOrbit};
@@ -82,8 +82,8 @@ impl SvRecord {
 
 // What the place is made from
 fn orbit_of(made: &SvRecord, timing: &Timing) -> Orbit
-    ensures { (sent : Rational) (world : Constants) (q : Quantities) → IsSatelliteSolution world (elements_of made.now.clock.eph) sent q →
-        HoldsTiming timing.now q → HoldsOrbit result (elements_of made.now.clock.eph) q }
+    ensures { (sent : Rational) (world : Constants) (q : Quantities) (near : IsNearSolution world (elements_of made.now.clock.eph) sent q) →
+        HoldsTiming timing.now q → HoldsOrbit result (with_share (elements_of made.now.clock.eph) near.share) q }
 {
     let shape = made.clock.eccentricity;
     Orbit {
@@ -114,7 +114,7 @@ pub fn sv_from(made: &SvRecord, tag: Tick, code: i64) -> SvBox
     requires near { abs_diff tag.0 made.now.clock.eph.toe.0 ≤ 72010000000 }
     requires code_low { pos 0 ≤ℤ code }
     requires code_high { code ≤ℤ pos (10 ^ 11) }
-    ensures { (q : Quantities) → IsSatelliteSolution (constants_of made.now.clock.world) (elements_of made.now.clock.eph) (sent_at tag.0 code) q →
+    ensures { (q : Quantities) → IsNearSolution (constants_of made.now.clock.world) (elements_of made.now.clock.eph) (sent_at tag.0 code) q →
         HoldsSolution result q }
 {
     let timing = timing_at(&made.clock, tag, code);
@@ -130,7 +130,7 @@ pub fn sv_with(eph: &Eph, tag: Tick, code: i64, world: &World) -> SvBox
     requires near { abs_diff tag.0 eph.now.toe.0 ≤ 72010000000 }
     requires code_low { pos 0 ≤ℤ code }
     requires code_high { code ≤ℤ pos (10 ^ 11) }
-    ensures { (q : Quantities) → IsSatelliteSolution (constants_of world.now) (elements_of eph.now) (sent_at tag.0 code) q →
+    ensures { (q : Quantities) → IsNearSolution (constants_of world.now) (elements_of eph.now) (sent_at tag.0 code) q →
         HoldsSolution result q }
 {
     sv_from(&SvRecord::of(eph, world), tag, code)
@@ -141,7 +141,7 @@ pub fn sv_at(eph: &Eph, tag: Tick, code: i64) -> SvBox
     requires near { abs_diff tag.0 eph.now.toe.0 ≤ 72010000000 }
     requires code_low { pos 0 ≤ℤ code }
     requires code_high { code ≤ℤ pos (10 ^ 11) }
-    ensures { (q : Quantities) → IsSatelliteSolution gps (elements_of eph.now) (sent_at tag.0 code) q → HoldsSolution result q }
+    ensures { (q : Quantities) → IsNearSolution gps (elements_of eph.now) (sent_at tag.0 code) q → HoldsSolution result q }
 {
     sv_with(eph, tag, code, &World::gps())
 }

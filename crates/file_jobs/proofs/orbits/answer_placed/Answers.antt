@@ -1,6 +1,6 @@
 use Rattle.std.proofs.Common.{◌≡◌, ◌++◌, ◌∙◌, ℕ, List, pos, ap, ap₂, subst}
 use Rattle.orbit_model.specs.Elements.{Constants, sent_at}
-use Rattle.orbit_model.specs.Solution.{Quantities, IsSatelliteSolution}
+use Rattle.orbit_model.specs.Solution.{Quantities, IsNearSolution}
 use Rattle.orbit_clock.specs.Records.{elements_of}
 use Rattle.sv_orbit.specs.Solutions.{HoldsSolution}
 use Rattle.report_text.specs.Orbit.{orbit_lines}
@@ -13,7 +13,7 @@ pub returns : goal.returns
 returns c =
     let written = c.in_ok-write_orbit.ensures in
     let box = c.sv_with-held.result in
-    let of_record = subst (λ (k : Constants). (q : Quantities) → IsSatelliteSolution k (elements_of c.args.eph.now) (sent_at c.args.tag.0 (pos 0)) q
+    let of_record = subst (λ (k : Constants). (q : Quantities) → IsNearSolution k (elements_of c.args.eph.now) (sent_at c.args.tag.0 (pos 0)) q
     → HoldsSolution box q) c.world_of.ensures c.sv_with-held.ensures in
     record {
       box = box;

@@ -7,7 +7,8 @@ use Rattle.orbit_clock.proofs.Values.{scaled_motion, scaled_sum}
 use Rattle.orbit_clock.proofs.shape.mean_motion.Goals as goal
 
 pub returns : goal.returns
-returns c = λ sent q s.
+returns c = λ sent q n.
+    let s = n.solves in
     let a : Rational = value_of c.args.eph.now.root_a in
     let dn : Rational = value_of c.args.eph.now.dn in
     let tens = c.mul-tens.ensures.holds q.root_mu (of_whole (pos 10000)) (c.root_of_mu.ensures q.root_mu s.root_of_mu) c.ten_thousand.ensures.holds in

@@ -11,9 +11,10 @@ use Rattle.orbit_clock.proofs.NearMean.{mean_at, mean_near}
 use Rattle.orbit_clock.proofs.timing.effect_of.Goals as goal
 
 pub returns : goal.returns
-returns c = λ s q sol hs hf.
+returns c = λ s q near_sol hs hf.
     let r = c.args.made.now in
-    let hm = r.motion_in s q sol in
+    let hm = r.motion_in s q near_sol in
+    let sol = near_sol.solves in
     let p : ℤ = c.middle_of.result in
     let toe : Rational = seconds r.eph.toe.0 in
     let m0 : Rational = value_of r.eph.m0 in

@@ -14,8 +14,9 @@ pub eccentric_pair-requires-clause-eccentricity_narrow : goal.eccentric_pair-req
 eccentric_pair-requires-clause-eccentricity_narrow c = let n = c.args.made.now.clock.eccentricity.narrow in omega (arith, ints, n)
 
 pub returns : goal.returns
-returns c = λ sent world q s t.
+returns c = λ sent world q n t.
     let r = c.args.made.now in
+    let s = n.solves in
     record {
       eccentricity = r.clock.eccentricity_in;
       anomaly = c.eccentric_pair.ensures.holds q.mean (value_of r.clock.eph.ecc) q.eccentric q.eccentric_pair t.mean r.clock.eccentricity_in s.kepler;

@@ -5,7 +5,7 @@ use Rattle.std.specs.Int.{w64}
 use Rattle.rational.specs.Rational.{of_whole}
 use Rattle.eph_store.specs.Decimals.{decimal}
 use Rattle.orbit_model.specs.Elements.{Elements, Constants, sent_at}
-use Rattle.orbit_model.specs.Solution.{IsSatelliteSolution}
+use Rattle.orbit_model.specs.Solution.{IsNearSolution}
 use Rattle.orbit_clock.specs.Records.{elements_of, constants_of}
 use Rattle.sv_orbit.specs.Solutions.{gps}
 use Rattle.sv_orbit.proofs.record.sv_at.Goals as goal
@@ -14,5 +14,5 @@ pub returns : goal.returns
 returns c = λ q s.
     let d : Elements = elements_of c.args.eph.now in
     let same : constants_of c.gps.result ≡ gps = ap₂ (λ (m r : ℤ). let k : Constants = record { mu = of_whole m; relativity = decimal r 19 } in k) c.gps.ensures.mu c.gps.ensures.rel in
-    c.sv_with.ensures q (subst (λ (k : ℤ). IsSatelliteSolution (constants_of c.gps.result) d (sent_at c.args.tag.0 k) q) (sym (to_z-of_z w64 c.args.code c.ranges.code))
-    (subst (λ (w : Constants). IsSatelliteSolution w d (sent_at c.args.tag.0 c.args.code) q) (sym same) s))
+    c.sv_with.ensures q (subst (λ (k : ℤ). IsNearSolution (constants_of c.gps.result) d (sent_at c.args.tag.0 k) q) (sym (to_z-of_z w64 c.args.code c.ranges.code))
+    (subst (λ (w : Constants). IsNearSolution w d (sent_at c.args.tag.0 c.args.code) q) (sym same) s))

@@ -4,7 +4,7 @@ use Rattle.std.proofs.lemmas.Int.{to_z-of_z}
 use Rattle.std.specs.Int.{w64}
 use Rattle.rational.specs.Rational.{Rational}
 use Rattle.orbit_model.specs.Elements.{Elements, Constants, sent_at}
-use Rattle.orbit_model.specs.Solution.{IsSatelliteSolution}
+use Rattle.orbit_model.specs.Solution.{IsNearSolution, with_share}
 use Rattle.orbit_clock.specs.Records.{elements_of, constants_of}
 use Rattle.sv_orbit.proofs.record.sv_from.Goals as goal
 
@@ -13,5 +13,5 @@ returns c = λ q s.
     let w : Constants = constants_of c.args.made.now.clock.world in
     let d : Elements = elements_of c.args.made.now.clock.eph in
     let sent : Rational = sent_at c.args.tag.0 c.args.code in
-    let t = c.timing_at-timing.ensures q (subst (λ (k : ℤ). IsSatelliteSolution w d (sent_at c.args.tag.0 k) q) (sym (to_z-of_z w64 c.args.code c.ranges.code)) s) in
-    record { place = c.place_of.ensures.holds w d sent q (c.orbit_of-orbit.ensures sent w q s t) s; clock = t.clock }
+    let t = c.timing_at-timing.ensures q (subst (λ (k : ℤ). IsNearSolution w d (sent_at c.args.tag.0 k) q) (sym (to_z-of_z w64 c.args.code c.ranges.code)) s) in
+    record { place = c.place_of.ensures.holds w (with_share d s.share) sent q (c.orbit_of-orbit.ensures sent w q s t) s.solves; clock = t.clock }

@@ -4,15 +4,15 @@ use Rattle.std.proofs.lemmas.Int.{to_z-of_z}
 use Rattle.std.specs.Int.{w64}
 use Rattle.eph_store.specs.declared.ephemeris.Eph.{Eph}
 use Rattle.orbit_model.specs.Elements.{sent_at}
-use Rattle.orbit_model.specs.Solution.{IsSatelliteSolution}
+use Rattle.orbit_model.specs.Solution.{IsNearSolution}
 use Rattle.orbit_clock.specs.declared.world.World.{World}
 use Rattle.orbit_clock.specs.Records.{elements_of, constants_of}
 use Rattle.sv_orbit.proofs.record.sv_with.Goals as goal
 
 pub returns : goal.returns
 returns c = λ q s.
-    let own : IsSatelliteSolution (constants_of c.args.world.now) (elements_of c.args.eph.now) (sent_at c.args.tag.0 (to_z w64 (of_z w64 c.args.code))) q =
-    subst (λ (k : ℤ). IsSatelliteSolution (constants_of c.args.world.now) (elements_of c.args.eph.now) (sent_at c.args.tag.0 k) q) (sym (to_z-of_z w64 c.args.code c.ranges.code)) s in
+    let own : IsNearSolution (constants_of c.args.world.now) (elements_of c.args.eph.now) (sent_at c.args.tag.0 (to_z w64 (of_z w64 c.args.code))) q =
+    subst (λ (k : ℤ). IsNearSolution (constants_of c.args.world.now) (elements_of c.args.eph.now) (sent_at c.args.tag.0 k) q) (sym (to_z-of_z w64 c.args.code c.ranges.code)) s in
     c.sv_from.ensures q
-    (subst₂ (λ (w : World) (e : Eph). IsSatelliteSolution (constants_of w) (elements_of e) (sent_at c.args.tag.0 (to_z w64 (of_z w64 c.args.code))) q)
+    (subst₂ (λ (w : World) (e : Eph). IsNearSolution (constants_of w) (elements_of e) (sent_at c.args.tag.0 (to_z w64 (of_z w64 c.args.code))) q)
     (sym c.of.ensures.world) (sym c.of.ensures.eph) own)

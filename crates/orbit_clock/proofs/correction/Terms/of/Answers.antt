@@ -9,8 +9,8 @@ use Rattle.orbit_clock.specs.Terms.{part}
 use Rattle.orbit_clock.proofs.correction.Terms.of.Goals as goal
 
 pub returns : goal.returns
-returns c = record {
-  bias = c.args.made.now.bias_in;
+returns c = λ share small. record {
+  bias = c.args.made.now.bias_in share small;
   drift = c.args.made.now.drift_in;
   aging = c.args.made.now.aging_in;
   offset = subst (λ (k : ℤ). Holds c.time_since.result.held (part (sub_r (sent_at c.args.tag.0 k) (seconds c.args.made.now.eph.toc.0)))) (to_z-of_z w64 c.args.code c.ranges.code) c.time_since.ensures;

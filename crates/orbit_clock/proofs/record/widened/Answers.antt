@@ -1,0 +1,27 @@
+use Rattle.std.proofs.Common.{◌≡◌, [], ◌∷◌, ℤ, pos, ◌+ℤ◌, ◌-ℤ◌, arith, refl, sym, subst, subst₂, lit≤}
+use Rattle.std.proofs.lemmas.Int.{ints}
+use Rattle.whole_math.proofs.Ring.{va, ◌⊕◌, ◌⊖◌, ng}
+use Rattle.whole_math.proofs.Order.{le_pos}
+use Rattle.whole_math.proofs.Certificates.{◌≼◌, hy}
+use Rattle.rational.specs.Rational.{Rational, InBox, add_r, of_scale, IsAtMostInSize, AreWithin}
+use Rattle.rational.proofs.Orders.{order_r}
+use Rattle.rational.proofs.Ends.{box_of_near}
+use Rattle.iv_core.specs.declared.Iv.{Iv}
+use Rattle.iv_core.specs.Intervals.{Holds}
+use Rattle.orbit_clock.proofs.record.widened.Goals as goal
+
+-- a + x is within d of a where |x| ≤ d
+within : (a x d : Rational) → IsAtMostInSize d x → AreWithin d (add_r a x) a
+within a x d h = (
+  order_r (a ∷ x ∷ d ∷ []) ((va 1 ≼ va 2) ∷ []) [] ((va 0 ⊕ va 1) ⊖ va 0) (va 2) (hy 0) [] refl (h.0, tt) tt,
+  order_r (a ∷ x ∷ d ∷ []) ((ng (va 1) ≼ va 2) ∷ []) [] (va 0 ⊖ (va 0 ⊕ va 1)) (va 2) (hy 0) [] refl (h.1, tt) tt,
+)
+
+pub returns : goal.returns
+returns c = λ x y held small.
+    let b : Iv 60 = c.args.bias.now.held in
+    let lo : c.from_ends.result.lo ≡ b.lo -ℤ pos 1 = omega (arith, ints, c.from_ends.ensures.lo, c.lo.ensures) in
+    let hi : c.from_ends.result.hi ≡ b.hi +ℤ pos 1 = omega (arith, ints, c.from_ends.ensures.hi, c.hi.ensures) in
+    let inside : InBox 60 (b.lo -ℤ pos 1) (b.hi +ℤ pos 1) (add_r x y) =
+    box_of_near 60 b.lo b.hi (pos 1) (of_scale 60 (pos 1)) (add_r x y) (le_pos _ _ (lit≤ tt)) (record { inside = x; held = held; near = within x y (of_scale 60 (pos 1)) small }) in
+    subst (λ (h : Iv 60). Holds h (add_r x y)) (sym c.new.ensures) (subst₂ (λ (l h : ℤ). InBox 60 l h (add_r x y)) (sym lo) (sym hi) inside)
