@@ -84,6 +84,6 @@ nearest_up n m q r h e z l = nearest_unique n (q +ℤ pos 1) (unsigned_abs m) (a
     one_more : (q m : ℤ) → (q +ℤ pos 1) *ℤ m ≡ (q *ℤ m) +ℤ m
     one_more q m = ring (q ∷ m ∷ []) ((va 0 ⊕ ko (pos 1)) ⊗ va 1) ((va 0 ⊗ va 1) ⊕ va 1) refl
 
--- the quotient and what is left, of numbers that are equal to n and m
-pub taken_apart : (n' m' n m q r : ℤ) → n' ≡ n → m' ≡ m → q ≡ floor_div n' (unsigned_abs m') → n' ≡ (floor_div n' (unsigned_abs m') *ℤ m') +ℤ r → n ≡ (q *ℤ m) +ℤ r
-taken_apart n' m' n m q r a b e v = sym a ∙ v ∙ ap₂ (λ x y. (x *ℤ y) +ℤ r) (sym e) b
+-- the quotient and what is left, of numbers that are equal to n, q and m
+pub taken_apart : (n' q' m' n q m r : ℤ) → n' ≡ n → q' ≡ q → m' ≡ m → n' ≡ (q' *ℤ m') +ℤ r → n ≡ (q *ℤ m) +ℤ r
+taken_apart n' q' m' n q m r a b c v = sym a ∙ v ∙ ap₂ (λ x y. (x *ℤ y) +ℤ r) b c

@@ -33,6 +33,17 @@ pub fn remainder(n: i128, m: i128) -> i128
     n.rem_euclid(m)
 }
 
+// What is left of n where m is taken `down` = ⌊n / m⌋ times. The product alone might not fit.
+fn left_of(n: i128, down: i128, m: i128) -> i128
+    requires positive { pos 0 <ℤ m }
+    requires down { IsFloor n (unsigned_abs m) down }
+    ensures value { n ≡ (down *ℤ m) +ℤ result }
+    ensures low { pos 0 ≤ℤ result }
+    ensures high { result <ℤ m }
+{
+    n.wrapping_sub(down.wrapping_mul(m))
+}
+
 /// ⌈n / m⌉, the least whole number that is at least n / m.
 pub fn ceil(n: i128, m: i128) -> i128
     requires positive { pos 0 <ℤ m }
@@ -41,7 +52,7 @@ pub fn ceil(n: i128, m: i128) -> i128
     ensures size { unsigned_abs result ≤ unsigned_abs n }
 {
     let down = floor(n, m);
-    let rest = remainder(n, m);
+    let rest = left_of(n, down, m);
     if rest == 0 { down } else { down + 1 }
 }
 
@@ -53,7 +64,7 @@ pub fn nearest(n: i128, m: i128) -> i128
     ensures size { unsigned_abs result ≤ unsigned_abs n }
 {
     let down = floor(n, m);
-    let rest = remainder(n, m);
+    let rest = left_of(n, down, m);
     // Twice the rest might not fit.
     if rest < m - rest { down } else { down + 1 }
 }

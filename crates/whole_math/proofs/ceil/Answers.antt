@@ -11,10 +11,10 @@ pub returns-then-rest-eq0-clause-value : goal.returns-then-rest-eq0-clause-value
 returns-then-rest-eq0-clause-value c =
     let n : to_z w128 (of_z w128 c.args.n) ≡ c.args.n = to_z-of_z w128 c.args.n c.ranges.n in
     let m : to_z w128 (of_z w128 c.args.m) ≡ c.args.m = to_z-of_z w128 c.args.m c.ranges.m in
-    let q : to_z w128 (of_z w128 c.floor-down.result) ≡ c.floor-down.result = grind (arith, to_z-of_z) in
-    let r : c.remainder-rest.result ≡ pos 0 = omega (arith, ints, c.if-rest-eq0.true) in
-    q ∙ ceil_exact c.args.n c.args.m c.floor-down.result c.remainder-rest.result c.requires.positive
-    (taken_apart _ _ _ _ c.floor-down.result c.remainder-rest.result n m c.floor-down.ensures.value c.remainder-rest.ensures.value) r
+    let d : to_z w128 (of_z w128 c.floor-down.result) ≡ c.floor-down.result = grind (arith, to_z-of_z) in
+    let r : c.left_of-rest.result ≡ pos 0 = omega (arith, ints, c.if-rest-eq0.true) in
+    d ∙ ceil_exact c.args.n c.args.m c.floor-down.result c.left_of-rest.result c.requires.positive
+    (taken_apart _ _ _ _ _ _ c.left_of-rest.result n d m c.left_of-rest.ensures.value) r
 
 pub returns-then-rest-eq0-clause-bounds : goal.returns-then-rest-eq0-clause-bounds
 returns-then-rest-eq0-clause-bounds c = subst (λ (q : ℤ). IsCeil c.args.n (unsigned_abs c.args.m) q) (sym (returns-then-rest-eq0-clause-value c))
@@ -24,11 +24,12 @@ pub returns-else-rest-eq0-clause-value : goal.returns-else-rest-eq0-clause-value
 returns-else-rest-eq0-clause-value c =
     let n : to_z w128 (of_z w128 c.args.n) ≡ c.args.n = to_z-of_z w128 c.args.n c.ranges.n in
     let m : to_z w128 (of_z w128 c.args.m) ≡ c.args.m = to_z-of_z w128 c.args.m c.ranges.m in
+    let d : to_z w128 (of_z w128 c.floor-down.result) ≡ c.floor-down.result = grind (arith, to_z-of_z) in
     let q : to_z w128 (of_z w128 (to_z w128 (of_z w128 c.floor-down.result) +ℤ pos 1)) ≡ c.floor-down.result +ℤ pos 1 = grind (arith, to_z-of_z) in
-    let r : pos 0 <ℤ c.remainder-rest.result = omega (arith, ints, c.if-rest-eq0.false, c.remainder-rest.ensures.low) in
-    let l : c.remainder-rest.result <ℤ c.args.m = subst (λ (k : ℤ). c.remainder-rest.result <ℤ k) m c.remainder-rest.ensures.high in
-    q ∙ ceil_next c.args.n c.args.m c.floor-down.result c.remainder-rest.result c.requires.positive
-    (taken_apart _ _ _ _ c.floor-down.result c.remainder-rest.result n m c.floor-down.ensures.value c.remainder-rest.ensures.value) r l
+    let r : pos 0 <ℤ c.left_of-rest.result = omega (arith, ints, c.if-rest-eq0.false, c.left_of-rest.ensures.low) in
+    let l : c.left_of-rest.result <ℤ c.args.m = subst (λ (k : ℤ). c.left_of-rest.result <ℤ k) m c.left_of-rest.ensures.high in
+    q ∙ ceil_next c.args.n c.args.m c.floor-down.result c.left_of-rest.result c.requires.positive
+    (taken_apart _ _ _ _ _ _ c.left_of-rest.result n d m c.left_of-rest.ensures.value) r l
 
 pub returns-else-rest-eq0-clause-bounds : goal.returns-else-rest-eq0-clause-bounds
 returns-else-rest-eq0-clause-bounds c = subst (λ (q : ℤ). IsCeil c.args.n (unsigned_abs c.args.m) q) (sym (returns-else-rest-eq0-clause-value c))

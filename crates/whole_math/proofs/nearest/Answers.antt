@@ -11,10 +11,10 @@ pub returns-then-rest-m-clause-value : goal.returns-then-rest-m-clause-value
 returns-then-rest-m-clause-value c =
     let n : to_z w128 (of_z w128 c.args.n) ≡ c.args.n = to_z-of_z w128 c.args.n c.ranges.n in
     let m : to_z w128 (of_z w128 c.args.m) ≡ c.args.m = to_z-of_z w128 c.args.m c.ranges.m in
-    let q : to_z w128 (of_z w128 c.floor-down.result) ≡ c.floor-down.result = grind (arith, to_z-of_z) in
-    let r : c.remainder-rest.result <ℤ (c.args.m -ℤ c.remainder-rest.result) = omega (arith, ints, c.if-rest-m.true, c.remainder-rest.ensures.low, c.remainder-rest.ensures.high) in
-    q ∙ nearest_down c.args.n c.args.m c.floor-down.result c.remainder-rest.result c.requires.positive
-    (taken_apart _ _ _ _ c.floor-down.result c.remainder-rest.result n m c.floor-down.ensures.value c.remainder-rest.ensures.value) c.remainder-rest.ensures.low r
+    let d : to_z w128 (of_z w128 c.floor-down.result) ≡ c.floor-down.result = grind (arith, to_z-of_z) in
+    let r : c.left_of-rest.result <ℤ (c.args.m -ℤ c.left_of-rest.result) = omega (arith, ints, c.if-rest-m.true, c.left_of-rest.ensures.low, c.left_of-rest.ensures.high) in
+    d ∙ nearest_down c.args.n c.args.m c.floor-down.result c.left_of-rest.result c.requires.positive
+    (taken_apart _ _ _ _ _ _ c.left_of-rest.result n d m c.left_of-rest.ensures.value) c.left_of-rest.ensures.low r
 
 pub returns-then-rest-m-clause-bounds : goal.returns-then-rest-m-clause-bounds
 returns-then-rest-m-clause-bounds c = subst (λ (q : ℤ). IsNearest c.args.n (unsigned_abs c.args.m) q) (sym (returns-then-rest-m-clause-value c))
@@ -24,11 +24,12 @@ pub returns-else-rest-m-clause-value : goal.returns-else-rest-m-clause-value
 returns-else-rest-m-clause-value c =
     let n : to_z w128 (of_z w128 c.args.n) ≡ c.args.n = to_z-of_z w128 c.args.n c.ranges.n in
     let m : to_z w128 (of_z w128 c.args.m) ≡ c.args.m = to_z-of_z w128 c.args.m c.ranges.m in
+    let d : to_z w128 (of_z w128 c.floor-down.result) ≡ c.floor-down.result = grind (arith, to_z-of_z) in
     let q : to_z w128 (of_z w128 (to_z w128 (of_z w128 c.floor-down.result) +ℤ pos 1)) ≡ c.floor-down.result +ℤ pos 1 = grind (arith, to_z-of_z) in
-    let r : (c.args.m -ℤ c.remainder-rest.result) ≤ℤ c.remainder-rest.result = omega (arith, ints, c.if-rest-m.false, c.remainder-rest.ensures.low, c.remainder-rest.ensures.high) in
-    let l : c.remainder-rest.result <ℤ c.args.m = subst (λ (k : ℤ). c.remainder-rest.result <ℤ k) m c.remainder-rest.ensures.high in
-    q ∙ nearest_up c.args.n c.args.m c.floor-down.result c.remainder-rest.result c.requires.positive
-    (taken_apart _ _ _ _ c.floor-down.result c.remainder-rest.result n m c.floor-down.ensures.value c.remainder-rest.ensures.value) l r
+    let r : (c.args.m -ℤ c.left_of-rest.result) ≤ℤ c.left_of-rest.result = omega (arith, ints, c.if-rest-m.false, c.left_of-rest.ensures.low, c.left_of-rest.ensures.high) in
+    let l : c.left_of-rest.result <ℤ c.args.m = subst (λ (k : ℤ). c.left_of-rest.result <ℤ k) m c.left_of-rest.ensures.high in
+    q ∙ nearest_up c.args.n c.args.m c.floor-down.result c.left_of-rest.result c.requires.positive
+    (taken_apart _ _ _ _ _ _ c.left_of-rest.result n d m c.left_of-rest.ensures.value) l r
 
 pub returns-else-rest-m-clause-bounds : goal.returns-else-rest-m-clause-bounds
 returns-else-rest-m-clause-bounds c = subst (λ (q : ℤ). IsNearest c.args.n (unsigned_abs c.args.m) q) (sym (returns-else-rest-m-clause-value c))
