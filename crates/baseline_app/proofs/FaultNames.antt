@@ -19,7 +19,8 @@ use Rattle.file_jobs.specs.Zero.{ZeroEnds}
 use Rattle.file_jobs.specs.Listing.{ListEnds}
 use Rattle.file_jobs.specs.Orbits.{OrbitEnds}
 use Rattle.track_job.specs.CheckJobs.{CheckTrackEnds}
-use Rattle.session_files.specs.FaultNames.{IsTold, HaveFault, IsFaultOf}
+use Rattle.session_files.specs.FaultNames.{IsFaultOf}
+use Rattle.job_answers.specs.Works.{IsTold, HaveFault}
 use Rattle.session_files.proofs.FaultLaws.{verdict_no_fault, refused_no_fault, fault_of_one}
 use Rattle.command_words.specs.declared.jobs.Job.{Job}
 use Rattle.command_words.specs.Words.{file_words}

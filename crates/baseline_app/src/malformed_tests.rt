@@ -3,7 +3,7 @@ ghost use Rattle.std.specs.Prelude.{None};
 
 use crate::tests::{Fails, NAV, Ran, expect_run, run_on, run_plainly};
 use job_answers::Status;
-use line_source::{Failed, FileId, Files};
+use line_source::{Failed, FileId, Files, Opening, OpeningLog};
 use std::alloc::{AllocError, Global};
 use std::process::Abort;
 use std::test::Fail;
@@ -99,6 +99,16 @@ fn refuses_too_many_epochs(rt: HostRuntime) -> Result<(), Fail> {
 #[derive(Drop)]
 struct LongFile {
     left: usize,
+    openings: OpeningLog,
+}
+
+impl LongFile {
+    fn new(left: usize) -> LongFile {
+        LongFile {
+            left,
+            openings: OpeningLog::new(),
+        }
+    }
 }
 
 impl Files for LongFile {
@@ -108,12 +118,16 @@ impl Files for LongFile {
 
     ghost faults = { λ _. 0 };
 
+    ghost openings = { λ s. s.openings.all };
+
     ghost is_sure_name = { λ _ _. ⊥ };
 
     ghost is_sure_id = { λ _ _. ⊥ };
 
-    fn open_file(&mut self, _name: &str) -> Result<FileId, Failed> {
-        Ok(FileId(0))
+    fn open_file(&mut self, name: &str) -> Result<FileId, Failed> {
+        let id = FileId(0);
+        self.openings = self.openings.and(&Opening { name, id });
+        Ok(id)
     }
 
     fn read(&mut self, _id: FileId, into: &mut [u8]) -> Result<usize, Failed> {
@@ -127,14 +141,17 @@ impl Files for LongFile {
 #[test]
 fn largest_file(rt: HostRuntime) -> Result<(), Fail> {
     let alloc = rt.alloc();
-    let mut most = LongFile { left: 67_108_864 };
+    let mut most = LongFile::new(67_108_864);
     let ran = run_plainly(alloc, &["list", "F"], &mut most)?;
     let place = "line 1 column 1: version not 2.10 to 2.11 or 3.00 to 3.05";
     refused_at(&rt, alloc, &ran, place)?;
-    let mut more = LongFile { left: 67_108_865 };
-    let ran = run_plainly(alloc, &["list", "F"], &mut more)?;
-    let told = "refused: F: file too large\n";
-    expect_run(&rt, &ran, Status::Refused, "", told);
+    // one is read in pieces, and the other is loaded
+    for command in ["list", "check"] {
+        let mut more = LongFile::new(67_108_865);
+        let ran = run_plainly(alloc, &[command, "F"], &mut more)?;
+        let told = "refused: F: file too large\n";
+        expect_run(&rt, &ran, Status::Refused, "", told);
+    }
     Ok(())
 }
 

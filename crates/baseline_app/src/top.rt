@@ -16,7 +16,8 @@ ghost use Rattle.sim_run_job.specs.SimRunSays.{SaysOfSimRun};
 ghost use Rattle.run_options.specs.declared.options.Options.{Options};
 ghost use Rattle.cert_jobs.specs.CertRuns.{SaysOfCheck, SaysOfResiduals};
 ghost use Rattle.cert_jobs.specs.MigrateRuns.{SaysOfMigrate};
-ghost use Rattle.session_files.specs.FaultNames.{HaveFault, IsFaultOf};
+ghost use Rattle.session_files.specs.FaultNames.{IsFaultOf};
+ghost use Rattle.job_answers.specs.Works.{HaveFault};
 ghost use Rattle.session_files.specs.Refusals.{HaveRefused, AreRefusedWhole};
 ghost use Rattle.arcs_job.specs.ArcJobs.{ArcsEnds};
 ghost use Rattle.arcs_job.specs.ArcRuns.{SaysOfArcs};
@@ -235,57 +236,57 @@ pub fn run<F: Files, O: Sink, E: Sink>(
     err: &mut E,
 ) -> Status
     ensures run { IsRun (texts_of words.now) (F.text_of files.old) result
-        (sink_change (O.contents out.old) (O.contents out.new) (O.faults out.old) (O.faults out.new))
-        (sink_change (E.contents err.old) (E.contents err.new) (E.faults err.old) (E.faults err.new)) }
+        (sink_change O.Sink out.old out.new)
+        (sink_change E.Sink err.old err.new) }
     ensures read { result ≡ Status.ReadFault → Rose (F.faults files.old) (F.faults files.new) }
     ensures refused { (job : Job) → IsJob (texts_of words.now) job
         → HaveRefused (F.text_of files.old) (F.unread files.new) (file_words job) result
-        (GainsUnlessFault (sink_change (E.contents err.old) (E.contents err.new) (E.faults err.old) (E.faults err.new))) }
+        (GainsUnlessFault (sink_change E.Sink err.old err.new)) }
     ensures opened { (job : Job) → IsJob (texts_of words.now) job → OpensAtMost (length (file_words job)) (F.opened files.old) (F.opened files.new) }
     ensures sure { (job : Job) → IsJob (texts_of words.now) job → All (F.is_sure_name files.old) (file_words job)
         → result ≢ Status.ReadFault }
     ensures named { (job : Job) → IsJob (texts_of words.now) job
         → HaveFault (F.is_sure_name files.old) (file_words job) result
-        (GainsUnlessFault (sink_change (E.contents err.old) (E.contents err.new) (E.faults err.old) (E.faults err.new))) }
+        (GainsUnlessFault (sink_change E.Sink err.old err.new)) }
     ensures untouched { ((job : Job) → IsJob (texts_of words.now) job → file_words job ≡ []) → files.new ≡ files.old }
     ensures write { result ≡ Status.WriteFault → Rose (O.faults out.old) (O.faults out.new) ⊎ Rose (E.faults err.old) (E.faults err.new) }
     ensures zero { (rows : List ℕ) → IsJob (texts_of words.now) (Job.Zero rows) → SaysOfZero (F.text_of files.old) rows result
-        (sink_change (O.contents out.old) (O.contents out.new) (O.faults out.old) (O.faults out.new)) }
+        (sink_change O.Sink out.old out.new) }
     ensures list { (obs : List ℕ) → IsJob (texts_of words.now) (Job.List obs) → SaysOfList (F.text_of files.old) obs result
-        (sink_change (O.contents out.old) (O.contents out.new) (O.faults out.old) (O.faults out.new)) }
+        (sink_change O.Sink out.old out.new) }
     ensures orbit { (nav : List ℕ) (system sat : ℕ) (tick : Tick) → IsJob (texts_of words.now) (Job.Orbit nav system sat tick)
         → SaysOfOrbit (F.text_of files.old) nav system sat tick.0 result
-        (sink_change (O.contents out.old) (O.contents out.new) (O.faults out.old) (O.faults out.new)) }
+        (sink_change O.Sink out.old out.new) }
     ensures sim { (file : File) (seed epochs sats bands system : ℕ)
         → IsJob (texts_of words.now) (Job.Sim (Part.File file) seed epochs sats bands system)
         → SaysOfSim file seed epochs sats bands system result
-        (sink_change (O.contents out.old) (O.contents out.new) (O.faults out.old) (O.faults out.new)) }
+        (sink_change O.Sink out.old out.new) }
     ensures sim_run { (seed epochs sats bands system : ℕ) → IsJob (texts_of words.now) (Job.Sim Part.Run seed epochs sats bands system)
         → SaysOfSimRun seed epochs sats bands system result
-        (sink_change (O.contents out.old) (O.contents out.new) (O.faults out.old) (O.faults out.new)) }
+        (sink_change O.Sink out.old out.new) }
     ensures check { (cert : List ℕ) → IsJob (texts_of words.now) (Job.Check cert) → SaysOfCheck (F.text_of files.old) cert result
-        (sink_change (O.contents out.old) (O.contents out.new) (O.faults out.old) (O.faults out.new)) }
+        (sink_change O.Sink out.old out.new) }
     ensures residuals { (cert : List ℕ) → IsJob (texts_of words.now) (Job.Residuals cert) → SaysOfResiduals (F.text_of files.old) cert result
-        (sink_change (O.contents out.old) (O.contents out.new) (O.faults out.old) (O.faults out.new)) }
+        (sink_change O.Sink out.old out.new) }
     ensures migrate { (cert : List ℕ) → IsJob (texts_of words.now) (Job.Migrate cert) → SaysOfMigrate (F.text_of files.old) cert result
-        (sink_change (O.contents out.old) (O.contents out.new) (O.faults out.old) (O.faults out.new)) }
+        (sink_change O.Sink out.old out.new) }
     ensures arcs { (base rover nav : List ℕ) (options : Options) → IsJob (texts_of words.now) (Job.Arcs base rover nav options)
         → SaysOfArcs (F.text_of files.old) base rover nav options result
-        (sink_change (O.contents out.old) (O.contents out.new) (O.faults out.old) (O.faults out.new)) }
+        (sink_change O.Sink out.old out.new) }
     ensures fix { (base rover nav : List ℕ) (options : Options) → IsJob (texts_of words.now) (Job.Fix base rover nav options)
         → SaysOfFix (F.text_of files.old) base rover nav options result
-        (sink_change (O.contents out.old) (O.contents out.new) (O.faults out.old) (O.faults out.new)) }
+        (sink_change O.Sink out.old out.new) }
     ensures track { (base rover nav : List ℕ) (options : Options) → IsJob (texts_of words.now) (Job.Track base rover nav options)
         → SaysOfTrack (F.text_of files.old) base rover nav options result
-        (sink_change (O.contents out.old) (O.contents out.new) (O.faults out.old) (O.faults out.new)) }
+        (sink_change O.Sink out.old out.new) }
     ensures check_track { (cert : List ℕ) → IsJob (texts_of words.now) (Job.CheckTrack cert) → SaysOfCheckTrack (F.text_of files.old) cert result
-        (sink_change (O.contents out.old) (O.contents out.new) (O.faults out.old) (O.faults out.new)) }
+        (sink_change O.Sink out.old out.new) }
     ensures usage { result ≡ Status.Usage → (job : Job) → IsJob (texts_of words.now) job → ⊥ }
     ensures complete { (job : Job) → IsJob (texts_of words.now) job → IsReadable job (F.text_of files.old)
         → All (F.is_sure_name files.old) (file_words job) ⊎ (Rose (F.faults files.old) (F.faults files.new) → ⊥)
         → IsComplete job (F.text_of files.old) result
-        (sink_change (O.contents out.old) (O.contents out.new) (O.faults out.old) (O.faults out.new))
-        (sink_change (E.contents err.old) (E.contents err.new) (E.faults err.old) (E.faults err.new)) }
+        (sink_change O.Sink out.old out.new)
+        (sink_change E.Sink err.old err.new) }
 {
     write_answer(alloc, words, files, out, err)
 }
@@ -299,18 +300,18 @@ fn write_answer<F: Files, O: Sink, E: Sink>(
     err: &mut E,
 ) -> Status
     ensures run { IsRun (texts_of words.now) (F.text_of files.old) result
-        (sink_change (O.contents out.old) (O.contents out.new) (O.faults out.old) (O.faults out.new))
-        (sink_change (E.contents err.old) (E.contents err.new) (E.faults err.old) (E.faults err.new)) }
+        (sink_change O.Sink out.old out.new)
+        (sink_change E.Sink err.old err.new) }
     ensures read { result ≡ Status.ReadFault → Rose (F.faults files.old) (F.faults files.new) }
     ensures refused { (job : Job) → IsJob (texts_of words.now) job
         → HaveRefused (F.text_of files.old) (F.unread files.new) (file_words job) result
-        (GainsUnlessFault (sink_change (E.contents err.old) (E.contents err.new) (E.faults err.old) (E.faults err.new))) }
+        (GainsUnlessFault (sink_change E.Sink err.old err.new)) }
     ensures opened { (job : Job) → IsJob (texts_of words.now) job → OpensAtMost (length (file_words job)) (F.opened files.old) (F.opened files.new) }
     ensures sure { (job : Job) → IsJob (texts_of words.now) job → All (F.is_sure_name files.old) (file_words job)
         → result ≢ Status.ReadFault }
     ensures named { (job : Job) → IsJob (texts_of words.now) job
         → HaveFault (F.is_sure_name files.old) (file_words job) result
-        (GainsUnlessFault (sink_change (E.contents err.old) (E.contents err.new) (E.faults err.old) (E.faults err.new))) }
+        (GainsUnlessFault (sink_change E.Sink err.old err.new)) }
     ensures untouched { ((job : Job) → IsJob (texts_of words.now) job → file_words job ≡ []) → files.new ≡ files.old }
 {
     match answer_of(alloc, words, files) {

@@ -1,5 +1,5 @@
 -- The statuses of endings, and what a file whose text is known and admitted ends with.
-use Rattle.std.proofs.Common.{◌≡◌, ◌≢◌, ◌⊎◌, inl, inr, ◌<◌, ℕ, List, [], ◌∷◌, length, Some, Option, Result, Ok, Err, refl, sym, ap, ◌∙◌, subst, arith, IfSome}
+use Rattle.std.proofs.Common.{◌≡◌, ◌≢◌, inl, inr, ◌<◌, ℕ, List, [], ◌∷◌, length, Some, Option, Result, Ok, Err, refl, sym, ap, ◌∙◌, subst, arith, IfSome}
 use Rattle.line_source.specs.Told.{IsReadToEnd}
 use Rattle.job_answers.specs.declared.answer.Answer.{Answer}
 use Rattle.job_answers.specs.declared.stop.Stop.{Stop}
@@ -10,7 +10,7 @@ use Rattle.job_answers.specs.declared.status.Status.TheVariants.{Refused, ReadFa
 use Rattle.job_answers.specs.Answers.{ending_of, IfEnds, IfStopped, IfEnded}
 use Rattle.job_answers.specs.Statuses.{IsVerdictStatus, IsJobStatus}
 use Rattle.job_answers.specs.Texts.{refusal_line}
-use Rattle.job_answers.specs.Endings.{Ending, ending, EndsByFile, EndsUnloaded, IsTooLarge, IsReadFault, IsRefusal, IsAdmitted, IsRefusedWhole}
+use Rattle.job_answers.specs.Endings.{Ending, ending, EndsByFile, IsTooLarge, IsRefusal, IsAdmitted, IsRefusedWhole}
 use Rattle.job_answers.specs.Delivered.{SinkChange, IsDelivered}
 
 told_at : (told : List ℕ → Option (List ℕ)) (name bytes : List ℕ) (P : List ℕ → Type 0) → told name ≡ Some bytes → IfSome (told name) P → P bytes
@@ -51,10 +51,6 @@ delivered_status end result status out err (inr (inr by_err)) is other = absurd 
 pub verdict_whole : (told : List ℕ → Option (List ℕ)) (left : ℕ → Option (List ℕ)) (names : List (List ℕ)) (end : Ending) → IsVerdictStatus end.status → IsRefusedWhole told left names end
 verdict_whole told left names end verdict = λ refused. absurd (subst IsVerdictStatus refused verdict)
 
--- a read fault is none
-pub fault_whole : (told : List ℕ → Option (List ℕ)) (left : ℕ → Option (List ℕ)) (names : List (List ℕ)) (name : List ℕ) (end : Ending) → IsReadFault name end → IsRefusedWhole told left names end
-fault_whole told left names name end fault = λ refused. let s = ap (λ (e : Ending). e.status) fault in absurd (cc (s, refused))
-
 -- that of a file that was read to its end
 pub read_whole : (told : List ℕ → Option (List ℕ)) (left : ℕ → Option (List ℕ)) (name : List ℕ) (at : At) (end : Ending) → IsReadToEnd told left name
     → end ≡ ending Refused [] (refusal_line name at) → IsRefusedWhole told left (name ∷ []) end
@@ -64,26 +60,11 @@ read_whole told left name at end read is = λ refused. (0, name, omega arith, re
 pub large_whole : (told : List ℕ → Option (List ℕ)) (left : ℕ → Option (List ℕ)) (name : List ℕ) (end : Ending) → IsTooLarge told name end → IsRefusedWhole told left (name ∷ []) end
 large_whole told left name end large = λ refused. (0, name, omega arith, refl, inr (record { line = ap (λ (e : Ending). e.err) large.end_is; large = large.large }))
 
-pub unloaded_whole : (told : List ℕ → Option (List ℕ)) (left : ℕ → Option (List ℕ)) (name : List ℕ) (end : Ending) → EndsUnloaded told name end → IsRefusedWhole told left (name ∷ []) end
-unloaded_whole told left name end (inl large) = large_whole told left name end large
-unloaded_whole told left name end (inr fault) = fault_whole told left (name ∷ []) name end fault
-
 -- that of a file whose text is none of the form
 pub refusal_whole : {X : Type 0} {gives : List (List ℕ) → Result X At} {IsFile : List (List ℕ) → Type 0} (told : List ℕ → Option (List ℕ)) (left : ℕ
     → Option (List ℕ)) (name text : List ℕ) (end : Ending) → IsReadToEnd told left name → IsRefusal gives IsFile name text end
     → IsRefusedWhole told left (name ∷ []) end
 refusal_whole told left name text end read refusal = read_whole told left name refusal.at end read refusal.end_is
-
--- ---- what holds of each ending holds of that of a job
-pub ended_so : (r : Result Answer Stop) (P : Ending → Type 0) → ((end : Ending) → P end) → IfEnded r P
-ended_so (Ok a) P each = each (ending_of a)
-ended_so (Err (stop.Ended a)) P each = each (ending_of a)
-ended_so (Err stop.NoMemory) P each = tt
-
-pub stopped_so : {T : Type 0} (r : Result T Stop) (P : Ending → Type 0) → ((end : Ending) → P end) → IfStopped r P
-stopped_so (Ok x) P each = tt
-stopped_so (Err (stop.Ended a)) P each = each (ending_of a)
-stopped_so (Err stop.NoMemory) P each = tt
 
 -- ---- what is weaker holds too
 pub ends_weaker : (stop : Stop) (P Q : Ending → Type 0) → ((end : Ending) → P end → Q end) → IfEnds stop P → IfEnds stop Q

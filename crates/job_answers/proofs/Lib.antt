@@ -1,1 +1,3 @@
 pub mod EndingLaws
+pub mod WorkLaws
+pub mod TextLaws

@@ -2,6 +2,7 @@
 use Rattle.std.specs.Prelude.{◌≡◌, ◌⊎◌, ℕ, List}
 use Rattle.std.specs.declared.option.Option.{Option}
 use Rattle.std.specs.Io.KnownBytes.{Appends}
+use Rattle.line_source.specs.declared.Sink.{Ghosts}
 use Rattle.line_source.specs.Causes.{Rose}
 use Rattle.line_source.specs.Told.{AppendsPrefix}
 use Rattle.job_answers.specs.declared.status.Status.{Status}
@@ -17,8 +18,8 @@ pub record SinkChange : Type 0 where
   pub before : ℕ
   pub now : ℕ
 
-abbrev pub sink_change : Option (List ℕ) → Option (List ℕ) → ℕ → ℕ → SinkChange
-sink_change old new before now = record { old = old; new = new; before = before; now = now }
+abbrev pub sink_change : {S : Type 0} → Ghosts S → S → S → SinkChange
+sink_change sink old new = record { old = sink.contents old; new = sink.contents new; before = sink.faults old; now = sink.faults new }
 
 -- the sink has gained a first part of the text, all of it unless its count rose
 pub record GainsUnlessFault (sink : SinkChange) (text : List ℕ) : Type 0 where

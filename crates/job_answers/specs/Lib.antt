@@ -3,3 +3,5 @@ pub mod Texts
 pub mod Endings
 pub mod Answers
 pub mod Delivered
+pub mod Works
+pub mod TextJobs

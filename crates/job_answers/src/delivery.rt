@@ -29,8 +29,8 @@ pub fn deliver<O: Sink, E: Sink>(
 ) -> Status
     requires { (IsVerdictStatus status → ⊥) → length out_text.now ≡ 0 }
     ensures { IsDelivered (ending status out_text.now err_text.now) result
-        (sink_change (O.contents out.old) (O.contents out.new) (O.faults out.old) (O.faults out.new))
-        (sink_change (E.contents err.old) (E.contents err.new) (E.faults err.old) (E.faults err.new)) }
+        (sink_change O.Sink out.old out.new)
+        (sink_change E.Sink err.old err.new) }
 {
     if put_all(out, out_text).is_err() {
         tell(err, b"write fault\n");

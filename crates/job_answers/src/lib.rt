@@ -12,8 +12,10 @@ mod answer;
 mod delivery;
 mod status;
 mod stop;
+mod text_command;
 
 pub use answer::Answer;
 pub use delivery::deliver;
 pub use status::Status;
 pub use stop::{Stop, load_file, read_fault, refused, too_large, usage};
+pub use text_command::{TextCommand, answer_file};

@@ -1,6 +1,7 @@
 //! Files that are handed on in pieces.
-ghost use Rattle.std.specs.Prelude.{◌≡◌, ◌≢◌, ◌+◌, ◌≤◌, ◌<◌, ◌++◌, ℕ, List, [], length, IfSome, OnOk, OnErr, IsErrOf, ⊤};
+ghost use Rattle.std.specs.Prelude.{◌≡◌, ◌≢◌, ◌+◌, ◌≤◌, ◌<◌, ◌++◌, ℕ, List, [], ◌∷◌, length, IfSome, OnOk, OnErr, IsErrOf, ⊤};
 ghost use Rattle.line_source.specs.Causes.{Rose, OpensOne, OpensAtMost};
+ghost use Rattle.line_source.specs.Openings.{OpensIt, OpensFirst, IsReadThrough};
 ghost use Rattle.line_source.specs.Told.{Same, Stays, IsReadToEnd};
 ghost use Rattle.line_source.specs.Pieces.{IsTakenWhole};
 
@@ -34,6 +35,7 @@ pub const MAX_PIECE: usize = 65_536;
 /// `ReadFault` comes only where the count of faults rose, and never for a sure name; `BigFile` exactly where the file has
 /// more than [`MAX_FILE`] bytes, of which no more than that many are handed on; `NoMemory` only where the taker was
 /// refused memory. The file is opened once at most, and read to its end where it is all handed on.
+#[tactic(auto, using(crate::proofs::OpeningLaws::none_first, crate::proofs::OpeningLaws::one_first, crate::proofs::OpeningLaws::read_through))]
 pub fn load_into<F: Files, T: Taker>(
     files: &mut F,
     name: &str,
@@ -45,6 +47,9 @@ pub fn load_into<F: Files, T: Taker>(
     ensures ended { OnOk result (IsReadToEnd (F.text_of files.old) (F.unread files.new) name.now) }
     ensures big { IfSome (F.text_of files.old name.now) (λ text. IsErrOf result LoadFault.BigFile → MAX_FILE < length text) }
     ensures big_taken { IsErrOf result LoadFault.BigFile → T.taken taker.new ≤ MAX_FILE }
+    ensures first { OpensFirst (name.now ∷ []) (F.openings files.old) (F.openings files.new) }
+    ensures opens { result ≢ Err LoadFault.ReadFault → OpensIt name.now (F.openings files.old) (F.openings files.new) }
+    ensures through { OnOk result (IsReadThrough (F.text_of files.old) (F.openings files.new) (F.unread files.new) name.now) }
     ensures opened { OpensAtMost 1 (F.opened files.old) (F.opened files.new) }
     ensures memory { IsErrOf result LoadFault.NoMemory → T.is_refused taker.new }
     ensures memory_opened { IsErrOf result LoadFault.NoMemory → OpensOne (F.opened files.old) (F.opened files.new) }

@@ -186,6 +186,8 @@ impl Taker for ObsTaker {
 
     ghost stands_for = { λ s text. StandsForText s.source text };
 
+    ghost is_refused = { λ s. HasNoMemory s.source };
+
     /// Takes the next piece. After running out of memory it answers so again, and so does `finish`.
     fn take(&mut self, piece: &[u8]) -> Result<(), AllocError>
         requires { self.old.taken + length piece.now ≤ 67108864 }

@@ -2,7 +2,8 @@
 ghost use Rattle.std.specs.Prelude.{◌≡◌, length, None, ⊤};
 
 use line_source::{
-    Failed, FileId, Files, LoadFault, MAX_FILE, MAX_PIECE, MemFiles, Named, Taker, load, load_into,
+    Failed, FileId, Files, LoadFault, MAX_FILE, MAX_PIECE, MemFiles, Named, Opening, OpeningLog,
+    Taker, load, load_into,
 };
 use std::alloc::{AllocError, Global};
 use std::test::Fail;
@@ -50,6 +51,16 @@ impl Taker for Counted {
 #[derive(Drop)]
 struct LongFile {
     left: usize,
+    openings: OpeningLog,
+}
+
+impl LongFile {
+    fn new(left: usize) -> LongFile {
+        LongFile {
+            left,
+            openings: OpeningLog::new(),
+        }
+    }
 }
 
 impl Files for LongFile {
@@ -59,12 +70,16 @@ impl Files for LongFile {
 
     ghost faults = { λ _. 0 };
 
+    ghost openings = { λ s. s.openings.all };
+
     ghost is_sure_name = { λ _ _. ⊤ };
 
     ghost is_sure_id = { λ _ _. ⊤ };
 
-    fn open_file(&mut self, _name: &str) -> Result<FileId, Failed> {
-        Ok(FileId(0))
+    fn open_file(&mut self, name: &str) -> Result<FileId, Failed> {
+        let id = FileId(0);
+        self.openings = self.openings.and(&Opening { name, id });
+        Ok(id)
     }
 
     fn read(&mut self, _id: FileId, into: &mut [u8]) -> Result<usize, Failed> {
@@ -130,7 +145,7 @@ fn limits_the_file_and_the_memory(rt: HostRuntime) -> Result<(), Fail> {
         (MAX_PIECE + 1, MAX_PIECE, Err(LoadFault::NoMemory)),
     ];
     for (long, limit, want) in rows {
-        let mut files = LongFile { left: long };
+        let mut files = LongFile::new(long);
         let mut counted = Counted { taken: 0, limit };
         assert_eq!(rt; load_into(&mut files, "a", &mut counted), want);
         assert_eq!(rt; counted.taken, if want.is_err() { long - 1 } else { long });

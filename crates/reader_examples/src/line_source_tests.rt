@@ -1,7 +1,7 @@
 //! Whole files, sinks and the lines of a text.
 use line_source::{
-    HostFiles, HostSink, Lines, LoadFault, MemFiles, MemSink, Named, SureFiles, SureSink,
-    WriteFault, load, put_all,
+    Failed, FileId, Files, HostFiles, HostSink, Lines, LoadFault, MemFiles, MemSink, Named,
+    SureFiles, SureSink, WriteFault, load, put_all,
 };
 use std::alloc::{AllocError, Global};
 use std::fs;
@@ -73,6 +73,71 @@ fn reads_host_files(rt: HostRuntime) -> Result<(), Fail> {
         load(alloc, &mut files, "not here").err(),
         Some(LoadFault::ReadFault)
     );
+    Ok(())
+}
+
+#[test]
+fn tells_host_names_apart(rt: HostRuntime) -> Result<(), Fail> {
+    let alloc = rt.alloc();
+    fs::write(&rt, "x", "one")?;
+    fs::write(&rt, "x ", "two")?;
+    let mut files = HostFiles::new(rt);
+    assert_eq!(rt; load(alloc, &mut files, "x ")?.as_slice(), b"two".as_slice());
+    assert_eq!(rt; load(alloc, &mut files, "x")?.as_slice(), b"one".as_slice());
+    Ok(())
+}
+
+// The numbers 0 to 250 again and again.
+fn many_bytes(alloc: Global, count: usize) -> Result<Vec<u8>, AllocError> {
+    let mut bytes = vec![in alloc; 0u8; count]?;
+    for (i, byte) in bytes.iter_mut().enumerate() {
+        *byte = (i % 251) as u8;
+    }
+    Ok(bytes)
+}
+
+// The whole file, in slices of that length.
+fn read_by<F: Files>(
+    alloc: Global,
+    files: &mut F,
+    id: FileId,
+    most: usize,
+) -> Result<Option<Vec<u8>>, AllocError> {
+    let mut bytes = Vec::new(alloc);
+    let mut piece = vec![in alloc; 0u8; most]?;
+    for _ in 0..10_000 {
+        match files.read(id, &mut piece) {
+            Ok(0) => return Ok(Some(bytes)),
+            Ok(count) => bytes.extend_from_slice(&piece[..count])?,
+            Err(Failed) => return Ok(None),
+        }
+    }
+    Ok(None)
+}
+
+#[test]
+fn reads_host_files_in_any_pieces(rt: HostRuntime) -> Result<(), Fail> {
+    let alloc = rt.alloc();
+    let text = many_bytes(alloc, 9_001)?;
+    fs::write(&rt, "odd", text.as_slice())?;
+    let mut files = HostFiles::new(rt);
+    for most in [1, 3, 4_095, 4_097, 9_001, 10_000] {
+        let id = files.open_file("odd")?;
+        let found = read_by(alloc, &mut files, id, most)?;
+        assert!(rt; found.as_deref() == Some(text.as_slice()));
+    }
+    Ok(())
+}
+
+#[test]
+fn writes_much_to_a_host_file(rt: HostRuntime) -> Result<(), Fail> {
+    let alloc = rt.alloc();
+    let text = many_bytes(alloc, 2_097_152)?;
+    let mut sink = HostSink::new(fs::create(&rt, "much")?);
+    assert_eq!(rt; put_all(&mut sink, &text), Ok(()));
+    let mut files = HostFiles::new(rt);
+    let found = load(alloc, &mut files, "much")?;
+    assert!(rt; found == text);
     Ok(())
 }
 

@@ -1,7 +1,7 @@
 //! Files that are read in small pieces.
 ghost use Rattle.std.specs.Prelude.{None};
 
-use line_source::{Failed, FileId, Files};
+use line_source::{Failed, FileId, Files, Opening, OpeningLog};
 use std::alloc::{AllocError, Global};
 
 /// A file that gives at most so many bytes a call, and whose calls fail from that number of reads on. It serves tests alone.
@@ -12,6 +12,7 @@ pub struct Slow {
     most: usize,
     reads: u64,
     faults: u64,
+    openings: OpeningLog,
 }
 
 impl Slow {
@@ -23,6 +24,7 @@ impl Slow {
             most,
             reads,
             faults: 0,
+            openings: OpeningLog::new(),
         }
     }
 }
@@ -34,13 +36,17 @@ impl Files for Slow {
 
     ghost faults = { λ s. s.faults };
 
+    ghost openings = { λ s. s.openings.all };
+
     ghost is_sure_name = { λ _ _. ⊥ };
 
     ghost is_sure_id = { λ _ _. ⊥ };
 
-    fn open_file(&mut self, _name: &str) -> Result<FileId, Failed> {
+    fn open_file(&mut self, name: &str) -> Result<FileId, Failed> {
         self.at = 0;
-        Ok(FileId(0))
+        let id = FileId(0);
+        self.openings = self.openings.and(&Opening { name, id });
+        Ok(id)
     }
 
     fn read(&mut self, _id: FileId, into: &mut [u8]) -> Result<usize, Failed> {

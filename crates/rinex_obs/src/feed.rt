@@ -182,6 +182,8 @@ impl Taker for Feed {
 
     ghost stands_for = { λ s text. StandsFor s.system s.state s.taken text };
 
+    ghost is_refused = { λ s. HasNoMemory s.state };
+
     /// Takes the next piece. Behind a line that is refused it drops what follows. After running out of memory it answers so
     /// again, and so does `finish`.
     fn take(&mut self, piece: &[u8]) -> Result<(), AllocError>

@@ -87,6 +87,8 @@ impl<S: OneSystem> Taker for SystemFeed<S> {
 
     ghost stands_for = { λ s text. ⟦<Feed as Taker>⟧.stands_for s.feed text };
 
+    ghost is_refused = { λ s. HasNoMemory s.feed.state };
+
     /// Takes the next piece. After a line that is refused it drops what follows. After running out of memory it answers
     /// so again, and so does `finish`.
     fn take(&mut self, piece: &[u8]) -> Result<(), AllocError>

@@ -2,3 +2,4 @@ pub mod FaultNames
 pub mod SessionFiles
 pub mod Refusals
 pub mod Admitted
+pub mod SessionJobs

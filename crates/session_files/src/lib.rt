@@ -25,8 +25,10 @@ ghost use Rattle.job_answers.specs.Endings.{EndsUnloaded, IsRefusal, IsRefusedWh
 ghost use Rattle.session_files.specs.FaultNames.{IsFaultOf};
 ghost use Rattle.session_files.specs.SessionFiles.{IsObsOf, IsNavOf, StopsAtObs, StopsAtNav, StopsAtFiles, AreFilesOf};
 
+mod commands;
 mod refusals;
 
+pub use commands::{SessionCommand, answer_session};
 use eph_store::NavFile;
 use job_answers::{Status, Stop, load_file, read_fault, refused, too_large};
 use line_source::{Files, LoadFault, Taker, load_into};

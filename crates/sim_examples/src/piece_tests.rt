@@ -1,7 +1,7 @@
 //! A simulated observation file is read the same however it is cut.
 ghost use Rattle.std.specs.Prelude.{None};
 
-use line_source::{Failed, FileId, Files, load_into};
+use line_source::{Failed, FileId, Files, Opening, OpeningLog, load_into};
 use rinex_obs::{ObsFeed, read_obs};
 use sim_session::make;
 use std::test::Fail;
@@ -12,6 +12,7 @@ struct Pieces {
     text: Vec<u8>,
     at: usize,
     most: usize,
+    openings: OpeningLog,
 }
 
 impl Files for Pieces {
@@ -21,12 +22,16 @@ impl Files for Pieces {
 
     ghost faults = { λ _. 0 };
 
+    ghost openings = { λ s. s.openings.all };
+
     ghost is_sure_name = { λ _ _. ⊥ };
 
     ghost is_sure_id = { λ _ _. ⊥ };
 
-    fn open_file(&mut self, _name: &str) -> Result<FileId, Failed> {
-        Ok(FileId(0))
+    fn open_file(&mut self, name: &str) -> Result<FileId, Failed> {
+        let id = FileId(0);
+        self.openings = self.openings.and(&Opening { name, id });
+        Ok(id)
     }
 
     fn read(&mut self, _id: FileId, into: &mut [u8]) -> Result<usize, Failed> {
@@ -51,6 +56,7 @@ fn reads_the_same_in_pieces(rt: HostRuntime) -> Result<(), Fail> {
             text: made.base.as_slice().to_vec(alloc)?,
             at: 0,
             most,
+            openings: OpeningLog::new(),
         };
         let mut feed = ObsFeed::new(alloc);
         load_into(&mut files, "", &mut feed)?;

@@ -41,3 +41,21 @@ fn loads_a_file(rt: HostRuntime) -> Result<(), Fail> {
     assert_eq!(rt; text.map(|t| t.len()), Some(0));
     Ok(())
 }
+
+// The numbers that a script sees.
+static NUMBERS: [(Status, u8); 7] = [
+    (Status::Done, 0),
+    (Status::Declined, 1),
+    (Status::Usage, 2),
+    (Status::Refused, 3),
+    (Status::ReadFault, 4),
+    (Status::WriteFault, 5),
+    (Status::NoMemory, 6),
+];
+
+#[test]
+fn numbers_each_status(rt: HostRuntime) {
+    for (status, number) in NUMBERS.iter() {
+        assert_eq!(rt; status.number(), *number);
+    }
+}

@@ -1,0 +1,54 @@
+//! The commands on one file.
+ghost use Rattle.std.specs.Prelude.{◌≤◌, [], ◌∷◌, length, IfOk};
+ghost use Rattle.rinex_head.specs.Walk.{IfRefused};
+ghost use Rattle.job_answers.specs.Answers.{ending_of, IfEnded};
+ghost use Rattle.job_answers.specs.Works.{file_work, NoLine, IsDoneOver};
+ghost use Rattle.job_answers.specs.TextJobs.{TextJob, IsAnswered, IsRefusedAt, EndsOnText, TextEnds};
+
+use crate::{Answer, Stop, load_file, refused};
+use line_source::Files;
+use rinex_head::TextFault;
+use std::alloc::Global;
+
+/// A command on one file, by what it answers of a text.
+pub trait TextCommand {
+    /// Which texts it takes, where it refuses another one, and what it answers.
+    ghost job: { Self → TextJob };
+
+    /// A verdict on a text that it takes, or the place at which another one is refused.
+    fn answer(&self, alloc: Global, text: &[u8]) -> Result<Answer, TextFault>
+        requires { length text.now ≤ 67108864 }
+        ensures answered { IfOk result (λ a. IsAnswered (job self.now) text.now (ending_of a)) }
+        ensures refused { IfRefused result (IsRefusedAt (job self.now) text.now) };
+}
+
+// What it ends with by the text of its file.
+fn answer_bytes<C: TextCommand>(
+    alloc: Global,
+    command: &C,
+    name: &str,
+    text: &[u8],
+) -> Result<Answer, Stop>
+    requires { length text.now ≤ 67108864 }
+    ensures { IfEnded result (EndsOnText (C.job command.now) name.now text.now) }
+{
+    match command.answer(alloc, text) {
+        Ok(answer) => Ok(answer),
+        Err(TextFault::Refused(at)) => Ok(refused(alloc, name, at)?),
+        Err(TextFault::NoMemory) => Err(Stop::NoMemory),
+    }
+}
+
+/// What the command ends with over the file of that name, which is opened once and read to its end.
+#[inline(never)]
+pub fn answer_file<C: TextCommand, F: Files>(
+    alloc: Global,
+    files: &mut F,
+    command: &C,
+    name: &str,
+) -> Result<Answer, Stop>
+    ensures { IsDoneOver (file_work F.Files files.old files.new) (name.now ∷ []) NoLine (TextEnds (C.job command.now) (F.text_of files.old) name.now) result }
+{
+    let text = load_file(alloc, files, name)?;
+    answer_bytes(alloc, command, name, &text)
+}

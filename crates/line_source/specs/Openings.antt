@@ -1,0 +1,23 @@
+-- Which files were opened: each name with the id that was answered.
+use Rattle.std.specs.Prelude.{◌≡◌, ℕ, List, [], ◌∷◌, ◌++◌, map, take, Some, IfSome}
+use Rattle.std.specs.declared.option.Option.{Option}
+use Rattle.std.specs.Io.KnownBytes.{IsAtEnd}
+
+abbrev pub names_of : List (List ℕ × ℕ) → List (List ℕ)
+names_of openings = map (λ opening. opening.0) openings
+
+-- the file under this name was opened, and no other
+abbrev pub OpensIt : List ℕ → List (List ℕ × ℕ) → List (List ℕ × ℕ) → Type 0
+OpensIt name before now = (id : ℕ) × (now ≡ before ++ (name, id) ∷ [])
+
+-- The files under a first part of these names were opened, each name once and in this order, and no other.
+abbrev pub OpensFirst : List (List ℕ) → List (List ℕ × ℕ) → List (List ℕ × ℕ) → Type 0
+OpensFirst names before now = (n : ℕ) × (names_of now ≡ names_of before ++ take n names)
+
+-- The file that was opened last is the one under this name, and of it no byte is left.
+pub record IsReadThrough (told : List ℕ → Option (List ℕ)) (openings : List (List ℕ × ℕ)) (left : ℕ → Option (List ℕ)) (name : List ℕ) : Type 0 where
+  pub earlier : List (List ℕ × ℕ)
+  pub id : ℕ
+  pub last : openings ≡ earlier ++ (name, id) ∷ []
+  pub at_end : IsAtEnd (left id)
+  pub whole : IfSome (told name) (λ text. left id ≡ Some [])

@@ -1,0 +1,69 @@
+//! The commands on the three files of a session.
+ghost use Rattle.std.specs.Prelude.{[], ◌∷◌, IfOk};
+ghost use Rattle.session_begin.specs.Beginnings.{IsSessionFault};
+ghost use Rattle.session_begin.specs.declared.faults.SessionFault.TheVariants as fault;
+ghost use Rattle.job_answers.specs.Answers.{ending_of, IfEnded};
+ghost use Rattle.job_answers.specs.Works.{file_work, IsDoneOver};
+ghost use Rattle.session_files.specs.SessionJobs.{SessionAnswers, AreAnswered, EndsOnFiles, SessionEnds, IsPairLine, IfPairRefused};
+
+use crate::{SessionFiles, read_session, refused_pair};
+use eph_store::NavFile;
+use job_answers::{Answer, Stop};
+use line_source::Files;
+use obs_store::ObsFile;
+use rinex_head::System;
+use run_options::Options;
+use session_begin::SessionFault;
+use std::alloc::Global;
+
+/// A command on the three files of a session, by what it answers of them.
+pub trait SessionCommand {
+    ghost answers: { SessionAnswers };
+
+    /// A verdict on the files, or why the two observation files are refused.
+    fn answer(
+        &self,
+        alloc: Global,
+        base: &ObsFile,
+        rover: &ObsFile,
+        nav: &NavFile,
+        options: &Options,
+    ) -> Result<Answer, SessionFault>
+        ensures answered { IfOk result (λ a. AreAnswered answers options.now base.now rover.now nav.now (ending_of a)) }
+        ensures refused { IfPairRefused result (λ what. IsSessionFault base.now rover.now options.now (fault.Refused what)) };
+}
+
+// What it ends with by the three files.
+fn answer_files<C: SessionCommand>(
+    alloc: Global,
+    command: &C,
+    read: &SessionFiles,
+    options: &Options,
+) -> Result<Answer, Stop>
+    ensures { IfEnded result (EndsOnFiles C.answers options.now read.now.base read.now.rover read.now.nav) }
+{
+    match command.answer(alloc, &read.base, &read.rover, &read.nav, options) {
+        Ok(answer) => Ok(answer),
+        Err(SessionFault::Refused(what)) => Ok(refused_pair(alloc, what)?),
+        Err(SessionFault::NoMemory) => Err(Stop::NoMemory),
+    }
+}
+
+/// What the command ends with over the files of these names, for the satellites of the options' system: each whole before the
+/// next and opened once.
+#[inline(never)]
+pub fn answer_session<C: SessionCommand, F: Files>(
+    alloc: Global,
+    files: &mut F,
+    command: &C,
+    base: &str,
+    rover: &str,
+    nav: &str,
+    options: &Options,
+) -> Result<Answer, Stop>
+    ensures { IsDoneOver (file_work F.Files files.old files.new) (base.now ∷ rover.now ∷ nav.now ∷ []) IsPairLine (SessionEnds C.answers (F.text_of files.old) base.now rover.now nav.now options.now) result }
+{
+    let system = System::of_letter(options.system);
+    let read = read_session(alloc, files, system, base, rover, nav)?;
+    answer_files(alloc, command, &read, options)
+}
