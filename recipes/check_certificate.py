@@ -167,7 +167,7 @@ class Certificate:
         return (first, second, moves, values) if is_fixed else None
 
 
-# ---- the form: DEFINITIONS, "Quadratic forms", "The integer form and its bound over all data"
+# ---- the form: DEFINITIONS, "The normal matrix and the integer form"
 
 
 def column_of(cert, arc, band):
@@ -236,7 +236,7 @@ def front(cert, pairs):
     return h, *steps(form, 3, 0)[1:]
 
 
-# ---- the two least vectors: DEFINITIONS, "The search for the two least vectors", "Reduction"
+# ---- the two least vectors: DEFINITIONS, "The search and the reduction"
 
 
 def better_coordinates(kept, factors):
@@ -306,7 +306,7 @@ class Search:
             self.descend(j - 1, lower)
 
 
-# ---- the decision: DEFINITIONS, "The upper sum and the decision", "The form of a track"
+# ---- the decision: DEFINITIONS, "The upper sum and the decision", "Tracks"
 
 
 def baseline_at(factors, z):
