@@ -6,8 +6,8 @@ use Rattle.orbit_model.specs.SeenPlaces.{Place, point_of, IsSeenPlace}
 use Rattle.orbit_model.proofs.Seen.{travel_nn, travel_most}
 use Rattle.signal_travel.specs.VectorBoxes.{HoldsVector}
 use Rattle.signal_travel.proofs.Sights.{point_place}
-use Rattle.signal_travel.proofs.Times.{first_time, second_time, third_time, last_range, last_time}
-use Rattle.signal_travel.proofs.passes.sight_of.Goals as goal
+use Rattle.signal_travel.proofs.Times.{first_time, second_time, third_time}
+use Rattle.signal_travel.proofs.passes.times_by_passes.Goals as goal
 
 any : (l h : ℤ) (t : Rational) → l ≡ pos 0 → h ≡ pos 192153584101141163 → of_whole (pos 0) ≤ʳ t → mul_r (of_whole (pos 6)) t ≤ʳ of_whole (pos 1) → InBox 60 l h t
 any l h t el eh a b = go l h t.num (pos t.den) el eh a b
@@ -20,9 +20,8 @@ any l h t el eh a b = go l h t.num (pos t.den) el eh a b
             → ((pos 0 *ℤ d) ≤ℤ (n *ℤ pos 1152921504606846976)) × ((n *ℤ pos 1152921504606846976) ≤ℤ (pos 192153584101141163 *ℤ d))
         step n d a b = (omega (arith, ints), omega (arith, ints))
 
-third : (c : goal.After-sight_after) (p seen : Place) (t : Rational) → HoldsVector c.args.sent.now.place p
-    → IsSeenPlace p (point_of c.args.point.now.x c.args.point.now.y c.args.point.now.z) t seen → Holds c.sight_after-third.result.travel t
-third c p seen t h s =
+pub returns-clause-holds : goal.returns-clause-holds
+returns-clause-holds c = λ p seen t h s.
     let q : Place = point_of c.args.point.now.x c.args.point.now.y c.args.point.now.z in
     let sent = c.args.sent.now.away p.x p.y p.z h.0 h.1 h.2 in
     let zero = any c.any_travel.result.lo c.any_travel.result.hi t c.any_travel.ensures.lo c.any_travel.ensures.hi (travel_nn p q seen t s)
@@ -31,21 +30,11 @@ third c p seen t h s =
     let two = c.sight_after-second.ensures.time p seen t h one s in
     c.sight_after-third.ensures.time p seen t h two s
 
-pub returns-clause-place : goal.returns-clause-place
-returns-clause-place c = λ p seen t h s. c.sight_after.ensures.place p seen t h (third c p seen t h s) s
-
-pub returns-clause-range : goal.returns-clause-range
-returns-clause-range c = λ p seen t h s. c.sight_after.ensures.range p seen t h (third c p seen t h s) s
-
-pub returns-clause-time : goal.returns-clause-time
-returns-clause-time c = λ p seen t h s. c.sight_after.ensures.time p seen t h (third c p seen t h s) s
-
 width : (l h : ℤ) → l ≡ pos 0 → h ≡ pos 192153584101141163 → ((h -ℤ l) +ℤ pos (904 * 264813)) ≤ℤ (pos 904 *ℤ pos 212559274712979)
 width l h e f = omega (arith, ints)
 
--- the width of the last box of times
-last : (c : goal.After-sight_after) → ((c.sight_after-third.result.travel.hi -ℤ c.sight_after-third.result.travel.lo) +ℤ pos (904 * 264813)) ≤ℤ (pos 904 *ℤ pos 265112)
-last c =
+pub returns-clause-width : goal.returns-clause-width
+returns-clause-width c =
     let a = c.sight_after-first in
     let b = c.sight_after-second in
     let d = c.sight_after-third in
@@ -53,20 +42,3 @@ last c =
     (width c.any_travel.result.lo c.any_travel.result.hi c.any_travel.ensures.lo c.any_travel.ensures.hi)) a.ensures.time_width in
     let two = second_time (b.result.range.hi -ℤ b.result.range.lo) (b.result.travel.hi -ℤ b.result.travel.lo) (b.ensures.range_width (pos 23027875089) one) b.ensures.time_width in
     third_time (d.result.range.hi -ℤ d.result.range.lo) (d.result.travel.hi -ℤ d.result.travel.lo) (d.ensures.range_width (pos 2759538) two) d.ensures.time_width
-
-under : (a : ℤ) → a ≤ℤ pos 265112 → a ≤ℤ pos 524288
-under a h = omega (arith, ints)
-
-pub returns-clause-narrow : goal.returns-clause-narrow
-returns-clause-narrow c = let w = c.sight_after.ensures.width (pos 265112) (last c) in (under _ w.0, under _ w.1, under _ w.2)
-
-pub returns-clause-range_narrow : goal.returns-clause-range_narrow
-returns-clause-range_narrow c = let r = c.sight_after.result.range in last_range (r.hi -ℤ r.lo) (c.sight_after.ensures.range_width (pos 265112) (last c))
-
-pub returns-clause-time_narrow : goal.returns-clause-time_narrow
-returns-clause-time_narrow c =
-    let sight = c.sight_after.result in
-    last_time (sight.range.hi -ℤ sight.range.lo) (sight.travel.hi -ℤ sight.travel.lo) (returns-clause-range_narrow c) c.sight_after.ensures.time_width
-
-pub returns-clause-away : goal.returns-clause-away
-returns-clause-away c = c.sight_after.ensures.away (returns-clause-narrow c)

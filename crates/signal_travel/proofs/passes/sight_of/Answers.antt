@@ -1,0 +1,111 @@
+use Rattle.std.proofs.Common.{◌≡◌, ℤ, pos, ◌+ℤ◌, ◌-ℤ◌, ◌*ℤ◌, ◌≤ℤ◌, arith}
+use Rattle.std.proofs.lemmas.Int.{ints, to_z-of_z}
+use Rattle.std.proofs.Common.{to_z, of_z}
+use Rattle.std.specs.Int.{w64}
+use Rattle.signal_travel.proofs.SeenAfterLaws.{all_around, around_width}
+use Rattle.signal_travel.proofs.Times.{last_place, last_range, last_time}
+use Rattle.signal_travel.proofs.passes.sight_of.Goals as goal
+
+under : (a : ℤ) → a ≤ℤ pos 265393 → a ≤ℤ pos 524288
+under a h = omega (arith, ints)
+
+least : (g x : ℤ) → x ≡ g → pos 262144 ≤ℤ g → pos 262144 ≤ℤ x
+least g x e h = omega (arith, ints)
+
+most : (g x : ℤ) → x ≡ g → (g +ℤ pos 262144) ≤ℤ pos 192153584101141163 → (x +ℤ pos 262144) ≤ℤ pos 192153584101141163
+most g x e h = omega (arith, ints)
+
+started : (g x : ℤ) → x ≡ g → pos 262144 ≤ℤ g → pos 0 ≤ℤ x
+started g x e h = omega (arith, ints)
+
+pub is_settled-requires-clause-low : goal.is_settled-requires-clause-low
+is_settled-requires-clause-low c =
+    let g = c.time_near-time in
+    started g.result (to_z w64 (of_z w64 g.result)) (to_z-of_z w64 g.result (record { sfits = g.type_inv })) g.ensures.low
+
+pub returns-then-is_settled-clause-place : goal.returns-then-is_settled-clause-place
+returns-then-is_settled-clause-place c =
+    let g = c.time_near-time in
+    let e = to_z-of_z w64 g.result (record { sfits = g.type_inv }) in
+    let x : ℤ = to_z w64 (of_z w64 g.result) in
+    let b = c.times_around in
+    let held = all_around c.args.sent.now c.args.point.now b.result c.sight_after-sight.result.travel x (least g.result x e g.ensures.low) (most g.result x e g.ensures.high)
+    b.ensures.lo b.ensures.hi c.sight_after-sight.ensures.light (c.is_settled.ensures.above c.if-is_settled.true) (c.is_settled.ensures.below c.if-is_settled.true) in
+    λ p seen t h s. c.sight_after-sight.ensures.place p seen t h (held p seen t h s) s
+
+pub returns-then-is_settled-clause-range : goal.returns-then-is_settled-clause-range
+returns-then-is_settled-clause-range c =
+    let g = c.time_near-time in
+    let e = to_z-of_z w64 g.result (record { sfits = g.type_inv }) in
+    let x : ℤ = to_z w64 (of_z w64 g.result) in
+    let b = c.times_around in
+    let held = all_around c.args.sent.now c.args.point.now b.result c.sight_after-sight.result.travel x (least g.result x e g.ensures.low) (most g.result x e g.ensures.high)
+    b.ensures.lo b.ensures.hi c.sight_after-sight.ensures.light (c.is_settled.ensures.above c.if-is_settled.true) (c.is_settled.ensures.below c.if-is_settled.true) in
+    λ p seen t h s. c.sight_after-sight.ensures.range p seen t h (held p seen t h s) s
+
+pub returns-then-is_settled-clause-time : goal.returns-then-is_settled-clause-time
+returns-then-is_settled-clause-time c =
+    let g = c.time_near-time in
+    let e = to_z-of_z w64 g.result (record { sfits = g.type_inv }) in
+    let x : ℤ = to_z w64 (of_z w64 g.result) in
+    let b = c.times_around in
+    let held = all_around c.args.sent.now c.args.point.now b.result c.sight_after-sight.result.travel x (least g.result x e g.ensures.low) (most g.result x e g.ensures.high)
+    b.ensures.lo b.ensures.hi c.sight_after-sight.ensures.light (c.is_settled.ensures.above c.if-is_settled.true) (c.is_settled.ensures.below c.if-is_settled.true) in
+    λ p seen t h s. c.sight_after-sight.ensures.time p seen t h (held p seen t h s) s
+
+pub returns-then-is_settled-clause-narrow : goal.returns-then-is_settled-clause-narrow
+returns-then-is_settled-clause-narrow c =
+    let b = c.times_around in
+    let t = around_width b.result.lo b.result.hi (to_z w64 (of_z w64 c.time_near-time.result)) b.ensures.lo b.ensures.hi in
+    let w = c.sight_after-sight.ensures.width (pos 265393) (last_place (b.result.hi -ℤ b.result.lo) t) in
+    (under _ w.0, under _ w.1, under _ w.2)
+
+pub returns-then-is_settled-clause-range_narrow : goal.returns-then-is_settled-clause-range_narrow
+returns-then-is_settled-clause-range_narrow c =
+    let b = c.times_around in
+    let t = around_width b.result.lo b.result.hi (to_z w64 (of_z w64 c.time_near-time.result)) b.ensures.lo b.ensures.hi in
+    let r = c.sight_after-sight.result.range in
+    last_range (r.hi -ℤ r.lo) (c.sight_after-sight.ensures.range_width (pos 265393) (last_place (b.result.hi -ℤ b.result.lo) t))
+
+pub returns-then-is_settled-clause-time_narrow : goal.returns-then-is_settled-clause-time_narrow
+returns-then-is_settled-clause-time_narrow c =
+    let sight = c.sight_after-sight.result in
+    last_time (sight.range.hi -ℤ sight.range.lo) (sight.travel.hi -ℤ sight.travel.lo) (returns-then-is_settled-clause-range_narrow c) c.sight_after-sight.ensures.time_width
+
+pub returns-then-is_settled-clause-away : goal.returns-then-is_settled-clause-away
+returns-then-is_settled-clause-away c = c.sight_after-sight.ensures.away (returns-then-is_settled-clause-narrow c)
+
+pub returns-else-is_settled-clause-place : goal.returns-else-is_settled-clause-place
+returns-else-is_settled-clause-place c =
+    let held = c.times_by_passes.ensures.holds in
+    λ p seen t h s. c.sight_after.ensures.place p seen t h (held p seen t h s) s
+
+pub returns-else-is_settled-clause-range : goal.returns-else-is_settled-clause-range
+returns-else-is_settled-clause-range c =
+    let held = c.times_by_passes.ensures.holds in
+    λ p seen t h s. c.sight_after.ensures.range p seen t h (held p seen t h s) s
+
+pub returns-else-is_settled-clause-time : goal.returns-else-is_settled-clause-time
+returns-else-is_settled-clause-time c =
+    let held = c.times_by_passes.ensures.holds in
+    λ p seen t h s. c.sight_after.ensures.time p seen t h (held p seen t h s) s
+
+pub returns-else-is_settled-clause-narrow : goal.returns-else-is_settled-clause-narrow
+returns-else-is_settled-clause-narrow c =
+    let b = c.times_by_passes in
+    let w = c.sight_after.ensures.width (pos 265393) (last_place (b.result.hi -ℤ b.result.lo) b.ensures.width) in
+    (under _ w.0, under _ w.1, under _ w.2)
+
+pub returns-else-is_settled-clause-range_narrow : goal.returns-else-is_settled-clause-range_narrow
+returns-else-is_settled-clause-range_narrow c =
+    let b = c.times_by_passes in
+    let r = c.sight_after.result.range in
+    last_range (r.hi -ℤ r.lo) (c.sight_after.ensures.range_width (pos 265393) (last_place (b.result.hi -ℤ b.result.lo) b.ensures.width))
+
+pub returns-else-is_settled-clause-time_narrow : goal.returns-else-is_settled-clause-time_narrow
+returns-else-is_settled-clause-time_narrow c =
+    let sight = c.sight_after.result in
+    last_time (sight.range.hi -ℤ sight.range.lo) (sight.travel.hi -ℤ sight.travel.lo) (returns-else-is_settled-clause-range_narrow c) c.sight_after.ensures.time_width
+
+pub returns-else-is_settled-clause-away : goal.returns-else-is_settled-clause-away
+returns-else-is_settled-clause-away c = c.sight_after.ensures.away (returns-else-is_settled-clause-narrow c)
