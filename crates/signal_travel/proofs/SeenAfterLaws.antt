@@ -133,19 +133,19 @@ light_after sent point l h l0 l1 =
 is_after : (sent point seen : Place) (t : Rational) → IsSeenPlace sent point t seen → IsSeenAfter sent point t t seen
 is_after sent point seen t h = record { turn = h.turn; turn_is = h.turn_is; seen_is = h.seen_is; travel_is = h.travel_is }
 
-reach_enough : add_r (mul_r (of_whole (pos 1000)) (of_scale 60 (pos 261120))) (two_to_minus 50) ≤ʳ mul_r (of_whole (pos 999)) (of_scale 60 (pos 262144))
+reach_enough : add_r (mul_r (of_whole (pos 1000)) (of_scale 60 (pos 4080))) (two_to_minus 50) ≤ʳ mul_r (of_whole (pos 999)) (of_scale 60 (pos 4096))
 reach_enough = omega (arith, ints)
 
 pub settled : (sent point seen : Place) (g lo hi l h : ℤ) (t : Rational) → AreApart sent point → pos 0 ≤ℤ g → g ≤ℤ pos 192153584101141163 →
-    l ≡ g -ℤ pos 262144 → h ≡ g +ℤ pos 262144 →
+    l ≡ g -ℤ pos 4096 → h ≡ g +ℤ pos 4096 →
     ((other : Place) (s : Rational) → IsSeenAfter sent point (of_scale 60 g) s other → InBox 60 lo hi s) →
-    (hi -ℤ g) ≤ℤ pos 261120 → (g -ℤ lo) ≤ℤ pos 261120 → IsSeenPlace sent point t seen → InBox 60 l h t
+    (hi -ℤ g) ≤ℤ pos 4080 → (g -ℤ lo) ≤ℤ pos 4080 → IsSeenPlace sent point t seen → InBox 60 l h t
 settled sent point seen g lo hi l h t k g0 g1 el eh holds above below is =
     let light = light_after sent point g k g0 g1 in
     let s : Rational = light.travel in
     let c : Rational = of_scale 60 g in
-    let a : Rational = of_scale 60 (pos 261120) in
-    let r : Rational = of_scale 60 (pos 262144) in
+    let a : Rational = of_scale 60 (pos 4080) in
+    let r : Rational = of_scale 60 (pos 4096) in
     let v : Rational = two_to_minus 50 in
     let b = holds light.seen s light.is_seen in
     let x = is_after sent point seen t is in
@@ -157,34 +157,34 @@ settled sent point seen g lo hi l h t k g0 g1 el eh holds above below is =
     (closer sent point light.seen seen (sub_r c t) c t s t k (less_least c t o) (≤ʳ_from_same (sub_r c t) (sub_r c t) refl, less_back c t o) light.is_seen x)
     (≤ʳ_trans (sub_r c a) (of_scale 60 lo) s (down lo g below) b.0) reach_enough)
   where
-    up : (hi g : ℤ) → (hi -ℤ g) ≤ℤ pos 261120 → of_scale 60 hi ≤ʳ add_r (of_scale 60 g) (of_scale 60 (pos 261120))
+    up : (hi g : ℤ) → (hi -ℤ g) ≤ℤ pos 4080 → of_scale 60 hi ≤ʳ add_r (of_scale 60 g) (of_scale 60 (pos 4080))
     up hi g h = omega (arith, ints)
 
-    down : (lo g : ℤ) → (g -ℤ lo) ≤ℤ pos 261120 → sub_r (of_scale 60 g) (of_scale 60 (pos 261120)) ≤ʳ of_scale 60 lo
+    down : (lo g : ℤ) → (g -ℤ lo) ≤ℤ pos 4080 → sub_r (of_scale 60 g) (of_scale 60 (pos 4080)) ≤ʳ of_scale 60 lo
     down lo g h = omega (arith, ints)
 
-    high : (g h : ℤ) → h ≡ g +ℤ pos 262144 → add_r (of_scale 60 g) (of_scale 60 (pos 262144)) ≤ʳ of_scale 60 h
+    high : (g h : ℤ) → h ≡ g +ℤ pos 4096 → add_r (of_scale 60 g) (of_scale 60 (pos 4096)) ≤ʳ of_scale 60 h
     high g h e = omega (arith, ints)
 
-    low : (g l : ℤ) → l ≡ g -ℤ pos 262144 → of_scale 60 l ≤ʳ sub_r (of_scale 60 g) (of_scale 60 (pos 262144))
+    low : (g l : ℤ) → l ≡ g -ℤ pos 4096 → of_scale 60 l ≤ʳ sub_r (of_scale 60 g) (of_scale 60 (pos 4096))
     low g l e = omega (arith, ints)
 
-    least : (g l : ℤ) → l ≡ g -ℤ pos 262144 → of_scale 60 l ≤ʳ of_scale 60 g
+    least : (g l : ℤ) → l ≡ g -ℤ pos 4096 → of_scale 60 l ≤ʳ of_scale 60 g
     least g l e = omega (arith, ints)
 
-    most : (g h : ℤ) → h ≡ g +ℤ pos 262144 → of_scale 60 g ≤ʳ of_scale 60 h
+    most : (g h : ℤ) → h ≡ g +ℤ pos 4096 → of_scale 60 g ≤ʳ of_scale 60 h
     most g h e = omega (arith, ints)
 
-    go : (of_scale 60 g ≤ʳ t) ⊎ (t ≤ʳ of_scale 60 g) → (of_scale 60 g ≤ʳ t → t ≤ʳ add_r (of_scale 60 g) (of_scale 60 (pos 262144)))
-        → (t ≤ʳ of_scale 60 g → sub_r (of_scale 60 g) (of_scale 60 (pos 262144)) ≤ʳ t) → InBox 60 l h t
-    go (inl o) late early = (≤ʳ_trans (of_scale 60 l) (of_scale 60 g) t (least g l el) o, ≤ʳ_trans t (add_r (of_scale 60 g) (of_scale 60 (pos 262144))) (of_scale 60 h) (late o) (high g h eh))
-    go (inr o) late early = (≤ʳ_trans (of_scale 60 l) (sub_r (of_scale 60 g) (of_scale 60 (pos 262144))) t (low g l el) (early o), ≤ʳ_trans t (of_scale 60 g) (of_scale 60 h) o (most g h eh))
+    go : (of_scale 60 g ≤ʳ t) ⊎ (t ≤ʳ of_scale 60 g) → (of_scale 60 g ≤ʳ t → t ≤ʳ add_r (of_scale 60 g) (of_scale 60 (pos 4096)))
+        → (t ≤ʳ of_scale 60 g → sub_r (of_scale 60 g) (of_scale 60 (pos 4096)) ≤ʳ t) → InBox 60 l h t
+    go (inl o) late early = (≤ʳ_trans (of_scale 60 l) (of_scale 60 g) t (least g l el) o, ≤ʳ_trans t (add_r (of_scale 60 g) (of_scale 60 (pos 4096))) (of_scale 60 h) (late o) (high g h eh))
+    go (inr o) late early = (≤ʳ_trans (of_scale 60 l) (sub_r (of_scale 60 g) (of_scale 60 (pos 4096))) t (low g l el) (early o), ≤ʳ_trans t (of_scale 60 g) (of_scale 60 h) o (most g h eh))
 
 -- ---- in the code's terms: a pass from the times around x leads near x, so that the times around it are all
-pub all_around : (sent : SentBox) (point : Point) (box travel : Iv 60) (x : ℤ) → pos 262144 ≤ℤ x → (x +ℤ pos 262144) ≤ℤ pos 192153584101141163 →
-    box.lo ≡ x -ℤ pos 262144 → box.hi ≡ x +ℤ pos 262144 →
+pub all_around : (sent : SentBox) (point : Point) (box travel : Iv 60) (x : ℤ) → pos 4096 ≤ℤ x → (x +ℤ pos 4096) ≤ℤ pos 192153584101141163 →
+    box.lo ≡ x -ℤ pos 4096 → box.hi ≡ x +ℤ pos 4096 →
     ((p seen : Place) (u t : Rational) → HoldsVector sent.place p → Holds box u → IsSeenAfter p (point_of point.x point.y point.z) u t seen → Holds travel t) →
-    (travel.hi -ℤ x) ≤ℤ pos 261120 → (x -ℤ travel.lo) ≤ℤ pos 261120 →
+    (travel.hi -ℤ x) ≤ℤ pos 4080 → (x -ℤ travel.lo) ≤ℤ pos 4080 →
     (p seen : Place) (t : Rational) → HoldsVector sent.place p → IsSeenPlace p (point_of point.x point.y point.z) t seen → Holds box t
 all_around sent point box travel x low high el eh light above below p seen t h s =
     let q : Place = point_of point.x point.y point.z in
@@ -192,17 +192,17 @@ all_around sent point box travel x low high el eh light above below p seen t h s
     (least x low) (most x high) el eh
     (λ other u r. light p other (of_scale 60 x) u h (end_in 60 box.lo box.hi x (first box.lo x el) (last box.hi x eh)) r) above below s
   where
-    least : (x : ℤ) → pos 262144 ≤ℤ x → pos 0 ≤ℤ x
+    least : (x : ℤ) → pos 4096 ≤ℤ x → pos 0 ≤ℤ x
     least x h = omega (arith, ints)
 
-    most : (x : ℤ) → (x +ℤ pos 262144) ≤ℤ pos 192153584101141163 → x ≤ℤ pos 192153584101141163
+    most : (x : ℤ) → (x +ℤ pos 4096) ≤ℤ pos 192153584101141163 → x ≤ℤ pos 192153584101141163
     most x h = omega (arith, ints)
 
-    first : (l x : ℤ) → l ≡ x -ℤ pos 262144 → l ≤ℤ x
+    first : (l x : ℤ) → l ≡ x -ℤ pos 4096 → l ≤ℤ x
     first l x e = omega (arith, ints)
 
-    last : (h x : ℤ) → h ≡ x +ℤ pos 262144 → x ≤ℤ h
+    last : (h x : ℤ) → h ≡ x +ℤ pos 4096 → x ≤ℤ h
     last h x e = omega (arith, ints)
 
-pub around_width : (l h x : ℤ) → l ≡ x -ℤ pos 262144 → h ≡ x +ℤ pos 262144 → (h -ℤ l) ≤ℤ pos (2 ^ 19)
+pub around_width : (l h x : ℤ) → l ≡ x -ℤ pos 4096 → h ≡ x +ℤ pos 4096 → (h -ℤ l) ≤ℤ pos (2 ^ 19)
 around_width l h x el eh = omega (arith, ints)

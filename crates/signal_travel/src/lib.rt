@@ -76,7 +76,7 @@ pub fn seen_from(sv: &SvBox, point: &[i64; 3]) -> SeenBox
     seen_by_guess(sv, point, travel_guess(&sent_box(sv), &point_at(point)))
 }
 
-/// `seen_from` with a guess of the travel time, in seconds at 2^-60: one within 10^-13 s saves most of the work, and any other gives
+/// `seen_from` with a guess of the travel time, in seconds at 2^-60: one within 3 · 10^-15 s saves most of the work, and any other gives
 /// boxes that hold the same.
 pub fn seen_by_guess(sv: &SvBox, point: &[i64; 3], guess: i64) -> SeenBox
     requires { IsReceiverPoint point.now }

@@ -24,7 +24,7 @@ const DIGIT: u64 = 1 << 24;
 const LATEST: i64 = 192_153_584_101_141_163;
 
 // How far a guess may be off, in 2^-60 s
-const REACH: i64 = 1 << 18;
+const REACH: i64 = 1 << 12;
 
 // How far a pass from a time may lead, so that no travel time is further than `REACH` from that time: what a pass leads to moves by less
 // than a 256th of what the time moves by

@@ -1,7 +1,10 @@
-use Rattle.std.proofs.Common.{◌≡◌, ℤ, pos, ◌+ℤ◌, ◌-ℤ◌, ◌*ℤ◌, ◌≤ℤ◌, arith}
+use Rattle.std.proofs.Common.{◌≡◌, ℤ, pos, ◌+ℤ◌, ◌-ℤ◌, ◌≤ℤ◌, arith, to_z, of_z}
 use Rattle.std.proofs.lemmas.Int.{ints, to_z-of_z}
-use Rattle.std.proofs.Common.{to_z, of_z}
 use Rattle.std.specs.Int.{w64}
+use Rattle.rational.specs.Rational.{Rational}
+use Rattle.iv_core.specs.Intervals.{Holds}
+use Rattle.orbit_model.specs.SeenPlaces.{Place, point_of, IsSeenPlace}
+use Rattle.signal_travel.specs.VectorBoxes.{HoldsVector}
 use Rattle.signal_travel.proofs.SeenAfterLaws.{all_around, around_width}
 use Rattle.signal_travel.proofs.Times.{last_place, last_range, last_time}
 use Rattle.signal_travel.proofs.passes.sight_of.Goals as goal
@@ -9,13 +12,13 @@ use Rattle.signal_travel.proofs.passes.sight_of.Goals as goal
 under : (a : ℤ) → a ≤ℤ pos 265393 → a ≤ℤ pos 524288
 under a h = omega (arith, ints)
 
-least : (g x : ℤ) → x ≡ g → pos 262144 ≤ℤ g → pos 262144 ≤ℤ x
+least : (g x : ℤ) → x ≡ g → pos 4096 ≤ℤ g → pos 4096 ≤ℤ x
 least g x e h = omega (arith, ints)
 
-most : (g x : ℤ) → x ≡ g → (g +ℤ pos 262144) ≤ℤ pos 192153584101141163 → (x +ℤ pos 262144) ≤ℤ pos 192153584101141163
+most : (g x : ℤ) → x ≡ g → (g +ℤ pos 4096) ≤ℤ pos 192153584101141163 → (x +ℤ pos 4096) ≤ℤ pos 192153584101141163
 most g x e h = omega (arith, ints)
 
-started : (g x : ℤ) → x ≡ g → pos 262144 ≤ℤ g → pos 0 ≤ℤ x
+started : (g x : ℤ) → x ≡ g → pos 4096 ≤ℤ g → pos 0 ≤ℤ x
 started g x e h = omega (arith, ints)
 
 pub is_settled-requires-clause-low : goal.is_settled-requires-clause-low
@@ -23,35 +26,25 @@ is_settled-requires-clause-low c =
     let g = c.time_near-time in
     started g.result (to_z w64 (of_z w64 g.result)) (to_z-of_z w64 g.result (record { sfits = g.type_inv })) g.ensures.low
 
-pub returns-then-is_settled-clause-place : goal.returns-then-is_settled-clause-place
-returns-then-is_settled-clause-place c =
+-- where the pass led near the time, the times around it are all
+all_near : (c : goal.Then-is_settled) (p seen : Place) (t : Rational) → HoldsVector c.args.sent.now.place p
+    → IsSeenPlace p (point_of c.args.point.now.x c.args.point.now.y c.args.point.now.z) t seen → Holds c.times_around.result t
+all_near c =
     let g = c.time_near-time in
     let e = to_z-of_z w64 g.result (record { sfits = g.type_inv }) in
     let x : ℤ = to_z w64 (of_z w64 g.result) in
     let b = c.times_around in
-    let held = all_around c.args.sent.now c.args.point.now b.result c.sight_after-sight.result.travel x (least g.result x e g.ensures.low) (most g.result x e g.ensures.high)
-    b.ensures.lo b.ensures.hi c.sight_after-sight.ensures.light (c.is_settled.ensures.above c.if-is_settled.true) (c.is_settled.ensures.below c.if-is_settled.true) in
-    λ p seen t h s. c.sight_after-sight.ensures.place p seen t h (held p seen t h s) s
+    all_around c.args.sent.now c.args.point.now b.result c.sight_after-sight.result.travel x (least g.result x e g.ensures.low) (most g.result x e g.ensures.high)
+    b.ensures.lo b.ensures.hi c.sight_after-sight.ensures.light (c.is_settled.ensures.above c.if-is_settled.true) (c.is_settled.ensures.below c.if-is_settled.true)
+
+pub returns-then-is_settled-clause-place : goal.returns-then-is_settled-clause-place
+returns-then-is_settled-clause-place c = λ p seen t h s. c.sight_after-sight.ensures.place p seen t h (all_near c p seen t h s) s
 
 pub returns-then-is_settled-clause-range : goal.returns-then-is_settled-clause-range
-returns-then-is_settled-clause-range c =
-    let g = c.time_near-time in
-    let e = to_z-of_z w64 g.result (record { sfits = g.type_inv }) in
-    let x : ℤ = to_z w64 (of_z w64 g.result) in
-    let b = c.times_around in
-    let held = all_around c.args.sent.now c.args.point.now b.result c.sight_after-sight.result.travel x (least g.result x e g.ensures.low) (most g.result x e g.ensures.high)
-    b.ensures.lo b.ensures.hi c.sight_after-sight.ensures.light (c.is_settled.ensures.above c.if-is_settled.true) (c.is_settled.ensures.below c.if-is_settled.true) in
-    λ p seen t h s. c.sight_after-sight.ensures.range p seen t h (held p seen t h s) s
+returns-then-is_settled-clause-range c = λ p seen t h s. c.sight_after-sight.ensures.range p seen t h (all_near c p seen t h s) s
 
 pub returns-then-is_settled-clause-time : goal.returns-then-is_settled-clause-time
-returns-then-is_settled-clause-time c =
-    let g = c.time_near-time in
-    let e = to_z-of_z w64 g.result (record { sfits = g.type_inv }) in
-    let x : ℤ = to_z w64 (of_z w64 g.result) in
-    let b = c.times_around in
-    let held = all_around c.args.sent.now c.args.point.now b.result c.sight_after-sight.result.travel x (least g.result x e g.ensures.low) (most g.result x e g.ensures.high)
-    b.ensures.lo b.ensures.hi c.sight_after-sight.ensures.light (c.is_settled.ensures.above c.if-is_settled.true) (c.is_settled.ensures.below c.if-is_settled.true) in
-    λ p seen t h s. c.sight_after-sight.ensures.time p seen t h (held p seen t h s) s
+returns-then-is_settled-clause-time c = λ p seen t h s. c.sight_after-sight.ensures.time p seen t h (all_near c p seen t h s) s
 
 pub returns-then-is_settled-clause-narrow : goal.returns-then-is_settled-clause-narrow
 returns-then-is_settled-clause-narrow c =
@@ -76,19 +69,13 @@ pub returns-then-is_settled-clause-away : goal.returns-then-is_settled-clause-aw
 returns-then-is_settled-clause-away c = c.sight_after-sight.ensures.away (returns-then-is_settled-clause-narrow c)
 
 pub returns-else-is_settled-clause-place : goal.returns-else-is_settled-clause-place
-returns-else-is_settled-clause-place c =
-    let held = c.times_by_passes.ensures.holds in
-    λ p seen t h s. c.sight_after.ensures.place p seen t h (held p seen t h s) s
+returns-else-is_settled-clause-place c = λ p seen t h s. c.sight_after.ensures.place p seen t h (c.times_by_passes.ensures.holds p seen t h s) s
 
 pub returns-else-is_settled-clause-range : goal.returns-else-is_settled-clause-range
-returns-else-is_settled-clause-range c =
-    let held = c.times_by_passes.ensures.holds in
-    λ p seen t h s. c.sight_after.ensures.range p seen t h (held p seen t h s) s
+returns-else-is_settled-clause-range c = λ p seen t h s. c.sight_after.ensures.range p seen t h (c.times_by_passes.ensures.holds p seen t h s) s
 
 pub returns-else-is_settled-clause-time : goal.returns-else-is_settled-clause-time
-returns-else-is_settled-clause-time c =
-    let held = c.times_by_passes.ensures.holds in
-    λ p seen t h s. c.sight_after.ensures.time p seen t h (held p seen t h s) s
+returns-else-is_settled-clause-time c = λ p seen t h s. c.sight_after.ensures.time p seen t h (c.times_by_passes.ensures.holds p seen t h s) s
 
 pub returns-else-is_settled-clause-narrow : goal.returns-else-is_settled-clause-narrow
 returns-else-is_settled-clause-narrow c =
