@@ -1,5 +1,4 @@
-use Rattle.std.proofs.Common.{◌≡◌, ◌^◌, ℤ, pos, ◌+ℤ◌, ◌-ℤ◌, neg_ℤ, ◌≤ℤ◌, arith, to_z, of_z, sym, ◌∙◌, subst₂}
-use Rattle.std.specs.Int.{w64}
+use Rattle.std.proofs.Common.{arith, sym, subst₂}
 use Rattle.std.proofs.lemmas.Int.{ints}
 use Rattle.rational.specs.Rational.{Rational, InBox, add_r}
 use Rattle.iv_core.proofs.SumLaws.{add_holds}

@@ -1,4 +1,4 @@
-use Rattle.std.proofs.Common.{◌*◌, ◌+◌, ◌≤◌, ◌<◌, ◌^◌, arith}
+use Rattle.std.proofs.Common.{◌*◌, ◌≤◌, ◌<◌, ◌^◌, arith}
 use Rattle.iv_core.proofs.NaturalRoots.{below_square, root_bound}
 use Rattle.iv_core.proofs.natural_roots.root_near.Goals as goal
 use Rattle.iv_core.proofs.natural_roots.root_near.Goals.{then-n-known, else-n-known}

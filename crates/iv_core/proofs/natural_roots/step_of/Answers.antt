@@ -1,4 +1,4 @@
-use Rattle.std.proofs.Common.{◌/◌, ◌^◌, arith}
+use Rattle.std.proofs.Common.{arith}
 use Rattle.iv_core.proofs.NaturalRoots.{small_step}
 use Rattle.iv_core.proofs.natural_roots.step_of.Goals as goal
 
