@@ -18,7 +18,7 @@ use Rattle.job_answers.specs.Delivered.{SinkChange}
 use Rattle.file_jobs.specs.Orbits.{HoldsSatellite, IsBoxOf}
 
 -- The text stands for a navigation file, one of its usable records of the system is the chosen one at that tag, and out has gained the
--- numbers of a box of it, each end rounded outward by less than a unit. They hold every solution of the equations.
+-- numbers of a box of it, each end rounded outward by less than a unit. They hold every solution of the equations, and there is one.
 pub record SaysPlaced (told : List ℕ → Option (List ℕ)) (name : List ℕ) (system sat tag : ℕ) (out : SinkChange) : Type 0 where
   pub text : List ℕ
   pub is : IsTextOf told name text

@@ -3,6 +3,7 @@ use Rattle.std.specs.Prelude.{◌≡◌, ◌⊎◌, ℕ, pos, List, []}
 use Rattle.line_source.specs.Lines.{lines_of}
 use Rattle.orbit_model.specs.Elements.{sent_at}
 use Rattle.orbit_model.specs.Solution.{Quantities, IsNearSolution}
+use Rattle.orbit_exists.specs.Usable.{HasNearSolution}
 use Rattle.orbit_clock.specs.Records.{elements_of}
 use Rattle.eph_store.specs.declared.record.Raw.{Raw}
 use Rattle.eph_store.specs.declared.ephemeris.Eph.{Eph}
@@ -19,17 +20,18 @@ use Rattle.job_answers.specs.declared.status.Status.TheVariants.{Done, Declined}
 use Rattle.job_answers.specs.Endings.{Ending, ending, IsRefusal}
 
 -- The numbers hold the satellite of the record, of the system with that letter, at that tag by the satellite's clock, as received with a code of 0: every
--- solution of the equations has its place and its clock between them.
-abbrev pub HoldsSatellite : ℕ → Eph → ℕ → OrbitNumbers → Type 0
-HoldsSatellite system eph tag n = (q : Quantities) → IsNearSolution (world_of system) (elements_of eph) (sent_at tag (pos 0)) q → HoldsQuantities n q
+-- solution of the equations has its place and its clock between them, and there is one.
+pub record HoldsSatellite (system : ℕ) (eph : Eph) (tag : ℕ) (n : OrbitNumbers) : Type 0 where
+  pub exists : HasNearSolution (world_of system) (elements_of eph) (sent_at tag (pos 0))
+  pub every : (q : Quantities) → IsNearSolution (world_of system) (elements_of eph) (sent_at tag (pos 0)) q → HoldsQuantities n q
 
 -- The box holds the satellite of the record at that tag: every solution of the equations. By its type it is narrow, and as
--- far from the Earth's centre as the satellites are, also where the equations have no solution in rationals.
+-- far from the Earth's centre as the satellites are.
 abbrev pub IsBoxOf : ℕ → Eph → ℕ → SvBox → Type 0
 IsBoxOf system eph tag box = (q : Quantities) → IsNearSolution (world_of system) (elements_of eph) (sent_at tag (pos 0)) q → HoldsSolution box q
 
 -- The numbers of such a box of the record are printed, each end rounded outward by less than a unit. They hold each
--- solution, and lie near each other.
+-- solution, there is one, and they lie near each other.
 pub record IsPlacedBy (system : ℕ) (eph : Eph) (tag : ℕ) (end : Ending) : Type 0 where
   pub box : SvBox
   pub of_record : IsBoxOf system eph tag box

@@ -2,7 +2,7 @@
 //!
 //! Each says what it ends with on the bytes of its file. `orbit`: the record is the one that is chosen at the tick, by
 //! comparison with all usable records of the file, and every solution of the user algorithm for it lies between the
-//! printed numbers; `no record` comes exactly where no record is chosen.
+//! printed numbers, and there is one; `no record` comes exactly where no record is chosen.
 #![tactic(auto)]
 
 mod claims;

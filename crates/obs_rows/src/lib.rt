@@ -41,6 +41,10 @@ pub use band_sets::{
 };
 pub use bands::{L1_LETTERS, L2_LETTERS, L5_LETTERS, Signals};
 pub use constants::{letters_law, signals_law, sizes_law};
+pub use form_tables::{
+    FactorTable, FormTable, FrontTable, MOST_COLUMNS, MOST_FACTORS, MOST_FORM_COLUMNS,
+    MOST_INTEGERS, MapTable, NormalTable,
+};
 pub use items::Items;
 pub use laws::{best_law, bound_law, centres_law, groups_law};
 pub use pair_builder::PairBuilder;

@@ -9,7 +9,7 @@ use Rattle.whole_math.proofs.Powers.{pow_suc}
 use Rattle.rational.specs.Rational.{Rational, ◌≈◌, ◌≤ʳ◌, of_whole, add_r, sub_r, mul_r, neg_r, times, divided, two_to_minus, AreWithin, IsAtMostInSize}
 use Rattle.rational.proofs.Laws.{≤ʳ_total, ≤ʳ_trans, ≤ʳ_from_same, ≈_sym}
 use Rattle.orbit_model.proofs.Orders.{cert_r, root_r}
-use Rattle.trig_box.specs.AnglePairs.{Pair, doubled, taylor_pair, part, IsCanonicalPair}
+use Rattle.trig_box.specs.AnglePairs.{Pair, doubled, taylor_pair, part, IsAnglePair, IsCanonicalPair}
 use Rattle.trig_box.proofs.PairLaws.{canonical_law, canonical_is_pair, size_law_5}
 use Rattle.orbit_model.specs.Elements.{earth_rate}
 use Rattle.orbit_model.specs.SeenPlaces.{Place, difference, square, turned_back, HasSeenPlace, IsSentPlace, IsReceiverPlace, range_of}
@@ -54,9 +54,9 @@ canonical_at t h = record { in_range = go t.num t.den h.not_negative h.most; cos
     go n d h k = omega (arith, ints)
 
 -- the distances
-record AreApart (sent point : Place) : Type 0 where
-  is_sent : IsSentPlace sent
-  is_receiver : IsReceiverPlace point
+pub record AreApart (sent point : Place) : Type 0 where
+  pub is_sent : IsSentPlace sent
+  pub is_receiver : IsReceiverPlace point
 
 pub coordinates : (x y z : Rational) (b : ℕ) → add_r (add_r (mul_r x x) (mul_r y y)) (mul_r z z) ≤ʳ mul_r (of_whole (pos b)) (of_whole (pos b))
     → (x ≤ʳ of_whole (pos b)) × (neg_r x ≤ʳ of_whole (pos b))
@@ -68,7 +68,7 @@ coordinates x y z b h =
     go : (b : ℕ) → (pos 0 *ℤ pos 1) ≤ℤ (pos b *ℤ pos 1)
     go b = omega (arith, ints)
 
-both_within : (d p q : Rational) → AreWithin (times 2 d) p q → (sub_r p q ≤ʳ mul_r (of_whole (pos 2)) d) × (sub_r q p ≤ʳ mul_r (of_whole (pos 2)) d)
+pub both_within : (d p q : Rational) → AreWithin (times 2 d) p q → (sub_r p q ≤ʳ mul_r (of_whole (pos 2)) d) × (sub_r q p ≤ʳ mul_r (of_whole (pos 2)) d)
 both_within d p q h = (≤ʳ_trans (sub_r p q) (times 2 d) (mul_r (of_whole (pos 2)) d) h.0 twice, ≤ʳ_trans (sub_r q p) (times 2 d) (mul_r (of_whole (pos 2)) d) h.1 twice)
   where
     twice : times 2 d ≤ʳ mul_r (of_whole (pos 2)) d
@@ -86,12 +86,12 @@ rate_low = le_pos 0 72921151467 (lit≤ tt)
 rate_high : earth_rate ≤ʳ of_whole (pos 1)
 rate_high = le_pos 72921151467 1000000000000000 (lit≤ tt)
 
--- what the laws say of two times
-record AreTurns (d : Rational) (p q : Pair) : Type 0 where
-  cos_up : sub_r p.cos q.cos ≤ʳ mul_r (of_whole (pos 2)) d
-  cos_down : sub_r q.cos p.cos ≤ʳ mul_r (of_whole (pos 2)) d
-  sin_up : sub_r p.sin q.sin ≤ʳ mul_r (of_whole (pos 2)) d
-  sin_down : sub_r q.sin p.sin ≤ʳ mul_r (of_whole (pos 2)) d
+-- what the laws say of the pairs of two angles
+pub record AreTurns (d : Rational) (p q : Pair) : Type 0 where
+  pub cos_up : sub_r p.cos q.cos ≤ʳ mul_r (of_whole (pos 2)) d
+  pub cos_down : sub_r q.cos p.cos ≤ʳ mul_r (of_whole (pos 2)) d
+  pub sin_up : sub_r p.sin q.sin ≤ʳ mul_r (of_whole (pos 2)) d
+  pub sin_down : sub_r q.sin p.sin ≤ʳ mul_r (of_whole (pos 2)) d
 
 turns : (a b : Rational) → IsTime a → IsTime b → a ≤ʳ b → AreTurns (sub_r b a) (pair_at b) (pair_at a)
 turns a b ha hb o =
@@ -123,38 +123,43 @@ sized sent point h = record {
     along : (q : Rational) (b : ℕ) → q ≤ʳ of_whole (pos (b * b)) → q ≤ʳ mul_r (of_whole (pos b)) (of_whole (pos b))
     along q b h = ≤ʳ_trans q (of_whole (pos (b * b))) (mul_r (of_whole (pos b)) (of_whole (pos b))) h (≤ʳ_from_same (of_whole (pos (b * b))) (mul_r (of_whole (pos b)) (of_whole (pos b))) refl)
 
--- the squared distance changes slowly
-slow : (sent point : Place) (a b : Rational) → AreApart sent point → IsTime a → IsTime b → a ≤ʳ b
-    → sub_r (gap_at sent point a) (gap_at sent point b) ≤ʳ mul_r (of_whole (pos 96672000000000000)) (sub_r b a)
-slow sent point a b h ha hb o =
+-- the squared distance changes slowly with the pair by which the Earth turns
+pub moves_slowly : (sent point : Place) (d x y : Rational) (p q : Pair) → AreApart sent point → IsAnglePair 5 x p.cos p.sin → IsAnglePair 5 y q.cos q.sin → AreTurns d p q
+    → sub_r (square (difference (turned_back q sent) point)) (square (difference (turned_back p sent) point)) ≤ʳ mul_r (of_whole (pos 96672000000000000)) d
+moves_slowly sent point d x y p q h hp hq t =
     let z = sized sent point h in
-    let t = turns a b ha hb o in
-    let d : Rational = sub_r b a in
-    let c : Rational = (pair_at b).cos in
-    let s : Rational = (pair_at b).sin in
-    let e : Rational = (pair_at a).cos in
-    let f : Rational = (pair_at a).sin in
-    let nb = size_law_5 (mul_r earth_rate b) c s (canonical_is_pair 5 (mul_r earth_rate b) c s (canonical_at b hb)) in
-    let na = size_law_5 (mul_r earth_rate a) e f (canonical_is_pair 5 (mul_r earth_rate a) e f (canonical_at a ha)) in
-    let cb = at_most_two c nb.0 in
-    let sb = at_most_two s nb.1 in
-    let ca = at_most_two e na.0 in
-    let sa = at_most_two f na.1 in
+    let c : Rational = p.cos in
+    let s : Rational = p.sin in
+    let e : Rational = q.cos in
+    let f : Rational = q.sin in
+    let np = size_law_5 x c s hp in
+    let nq = size_law_5 y e f hq in
+    let cp = at_most_two c np.0 in
+    let sp = at_most_two s np.1 in
+    let cq = at_most_two e nq.0 in
+    let sq = at_most_two f nq.1 in
     let u : Rational = add_r (mul_r c sent.x) (mul_r s sent.y) in
     let v : Rational = add_r (mul_r e sent.x) (mul_r f sent.y) in
     let w : Rational = sub_r (mul_r c sent.y) (mul_r s sent.x) in
-    let y : Rational = sub_r (mul_r e sent.y) (mul_r f sent.x) in
-    sum_move u v w y sent.z point.x point.y point.z d
+    let v2 : Rational = sub_r (mul_r e sent.y) (mul_r f sent.x) in
+    sum_move u v w v2 sent.z point.x point.y point.z d
     (square_move u v point.x d
     (first_move c s e f sent.x sent.y d t.cos_up t.cos_down t.sin_up t.sin_down z.x.0 z.x.1 z.y.0 z.y.1)
     (first_back c s e f sent.x sent.y d t.cos_up t.cos_down t.sin_up t.sin_down z.x.0 z.x.1 z.y.0 z.y.1)
-    (first_size e f sent.x sent.y ca.0 ca.1 sa.0 sa.1 z.x.0 z.x.1 z.y.0 z.y.1) (first_neg e f sent.x sent.y ca.0 ca.1 sa.0 sa.1 z.x.0 z.x.1 z.y.0 z.y.1)
-    (first_size c s sent.x sent.y cb.0 cb.1 sb.0 sb.1 z.x.0 z.x.1 z.y.0 z.y.1) (first_neg c s sent.x sent.y cb.0 cb.1 sb.0 sb.1 z.x.0 z.x.1 z.y.0 z.y.1) z.p.0 z.p.1)
-    (square_move w y point.y d
+    (first_size e f sent.x sent.y cq.0 cq.1 sq.0 sq.1 z.x.0 z.x.1 z.y.0 z.y.1) (first_neg e f sent.x sent.y cq.0 cq.1 sq.0 sq.1 z.x.0 z.x.1 z.y.0 z.y.1)
+    (first_size c s sent.x sent.y cp.0 cp.1 sp.0 sp.1 z.x.0 z.x.1 z.y.0 z.y.1) (first_neg c s sent.x sent.y cp.0 cp.1 sp.0 sp.1 z.x.0 z.x.1 z.y.0 z.y.1) z.p.0 z.p.1)
+    (square_move w v2 point.y d
     (second_move c s e f sent.x sent.y d t.cos_up t.cos_down t.sin_up t.sin_down z.x.0 z.x.1 z.y.0 z.y.1)
     (second_back c s e f sent.x sent.y d t.cos_up t.cos_down t.sin_up t.sin_down z.x.0 z.x.1 z.y.0 z.y.1)
-    (second_size e f sent.x sent.y ca.0 ca.1 sa.0 sa.1 z.x.0 z.x.1 z.y.0 z.y.1) (second_neg e f sent.x sent.y ca.0 ca.1 sa.0 sa.1 z.x.0 z.x.1 z.y.0 z.y.1)
-    (second_size c s sent.x sent.y cb.0 cb.1 sb.0 sb.1 z.x.0 z.x.1 z.y.0 z.y.1) (second_neg c s sent.x sent.y cb.0 cb.1 sb.0 sb.1 z.x.0 z.x.1 z.y.0 z.y.1) z.q.0 z.q.1)
+    (second_size e f sent.x sent.y cq.0 cq.1 sq.0 sq.1 z.x.0 z.x.1 z.y.0 z.y.1) (second_neg e f sent.x sent.y cq.0 cq.1 sq.0 sq.1 z.x.0 z.x.1 z.y.0 z.y.1)
+    (second_size c s sent.x sent.y cp.0 cp.1 sp.0 sp.1 z.x.0 z.x.1 z.y.0 z.y.1) (second_neg c s sent.x sent.y cp.0 cp.1 sp.0 sp.1 z.x.0 z.x.1 z.y.0 z.y.1) z.q.0 z.q.1)
+
+slow : (sent point : Place) (a b : Rational) → AreApart sent point → IsTime a → IsTime b → a ≤ʳ b
+    → sub_r (gap_at sent point a) (gap_at sent point b) ≤ʳ mul_r (of_whole (pos 96672000000000000)) (sub_r b a)
+slow sent point a b h ha hb o =
+    moves_slowly sent point (sub_r b a) (mul_r earth_rate b) (mul_r earth_rate a) (pair_at b) (pair_at a) h
+    (canonical_is_pair 5 (mul_r earth_rate b) (pair_at b).cos (pair_at b).sin (canonical_at b hb))
+    (canonical_is_pair 5 (mul_r earth_rate a) (pair_at a).cos (pair_at a).sin (canonical_at a ha)) (turns a b ha hb o)
 
 -- ---- the bisection
 -- light would be early at the one time and late at the other, which are at most 1/(6·2^n) s apart

@@ -45,6 +45,7 @@ row_carried boxes arcs others base point signals scale pair group r agree held r
       arc_is = same_arc arcs others pair r.arc row.arc agree row.arc_is (subst (λ (a : Arc). holds_pair a pair ≡ true) same held.held);
       entry = row.entry;
       entry_is = row.entry_is;
+      seen = row.seen;
       y = row.y;
       radius = row.radius;
       others = row.others;

@@ -25,15 +25,15 @@ use Rattle.obs_rows.specs.declared.used.UsedPair.{UsedPair}
 use Rattle.slip_arcs.specs.Runs.{AreKept}
 use Rattle.slip_arcs.specs.Linked.{HaveDatums}
 use Rattle.screening.specs.declared.sv_pair.SvPair.{SvPair}
-use Rattle.screening.specs.Sightings.{Setting, Sent, place_of, code_of}
+use Rattle.screening.specs.Sightings.{Setting, Sent, WasSent, place_of, code_of}
 use Rattle.screening.specs.Screening.{AreEpochsOf, AreUsedPairs, IsSvPair}
-use Rattle.row_boxes.specs.Sightings.{Sighting, IsSighting, y_in_rows}
+use Rattle.row_boxes.specs.Sightings.{Sighting, IsSighting, HasSighting, y_in_rows}
 use Rattle.row_build.specs.Entries.{IsEntry}
 use Rattle.row_build.specs.Rows.{setting, IsRow}
 use Rattle.row_build.specs.PairRows.{ArePairRows}
 use Rattle.row_build.specs.SessionRows.{AreSessionRows, pairs_held}
 use Rattle.row_build.specs.HeldArcs.{arcs_at}
-use Rattle.row_build.specs.Stands.{IsSolved, StandsForRow, StandsForPair, StandsForFiles}
+use Rattle.row_build.specs.Stands.{IsSolved, HasSolved, StandsForRow, StandsForPair, StandsForFiles}
 
 -- ---- a solution lies in the boxes that hold it
 held_place : (s : List (Iv 36)) (q : Quantities) → HoldsCoordinates s q → HoldsPlace s (place_of q)
@@ -51,6 +51,17 @@ solved t eph tag code point b s holds h =
       sent_in = subst (λ (p : Place). HoldsPlace b.place p) (sym h.place) (held_place b.place h.solution k.place);
       clock_in = subst (λ (c : Rational). Holds b.clock c) (sym h.clock) k.clock;
       seen_is = h.seen;
+    }
+
+-- the solution that there is, seen from its place in the box
+has_solved : (t : Setting) (eph : Eph) (tag : ℕ) (code : ℤ) (point : List ℤ) (b : SvBox) → ((q : Quantities) → Sent t eph tag code q → HoldsSolution b q) → WasSent t eph tag code →
+    HasSighting b point → HasSolved t eph tag code point
+has_solved t eph tag code point b holds was seen =
+    let q : Quantities = was.quantities in
+    let there = seen.every (place_of q) (held_place b.place q (holds q was.is).place) in
+    record {
+      sighting = record { sent = place_of q; clock = q.clock; seen = there.seen; travel = there.travel };
+      is = record { solution = q; sent = was.is; place = refl; clock = refl; seen = there.is_seen };
     }
 
 -- ---- the entry of the row's satellite
@@ -82,6 +93,8 @@ row_stands t base rover taken boxes arcs position point signals scale n group pa
     let made : StandsForRow t x.base_epoch x.rover_epoch v.sat position point (counted signals scale) scale group row.arc.shift r = record {
       observed = x.entry.sighting;
       are = x.entry.seen;
+      base_sees = has_solved t x.entry.sighting.eph x.base_epoch.tag.0 (code_of x.entry.sighting.base) position v.base x.entry.base_holds x.entry.base_sent row.seen.base;
+      rover_sees = has_solved t x.entry.sighting.eph x.rover_epoch.tag.0 (code_of x.entry.sighting.rover) point v.rover x.entry.rover_holds x.entry.rover_sent row.seen.rover;
       y = λ s w hs hw. subst (λ (xs : List ℤ). HoldsAll (counted signals scale) scale group row.arc.shift r s w xs) x.entry.observed (λ k d l. row.y k d l s w (record {
         base_is = solved t x.entry.sighting.eph x.base_epoch.tag.0 (code_of x.entry.sighting.base) position v.base s x.entry.base_holds hs;
         rover_is = solved t x.entry.sighting.eph x.rover_epoch.tag.0 (code_of x.entry.sighting.rover) point v.rover w x.entry.rover_holds hw;

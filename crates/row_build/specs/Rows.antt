@@ -12,7 +12,7 @@ use Rattle.obs_rows.specs.Unused.{IsZeroOff}
 use Rattle.obs_rows.specs.declared.units.TheConstants.{DIRECTION_EXPONENT}
 use Rattle.screening.specs.declared.sv_pair.SvPair.{SvPair}
 use Rattle.row_boxes.specs.Sightings.{Sighting, IsSighting, place_at}
-use Rattle.row_boxes.specs.YBoxes.{Pairing, HoldsYs, most_radius}
+use Rattle.row_boxes.specs.YBoxes.{Pairing, HasSightings, HoldsYs, most_radius}
 use Rattle.row_build.specs.declared.sources.RowSource.{RowSource}
 use Rattle.row_build.specs.Entries.{IsEntry}
 
@@ -58,6 +58,8 @@ pub record IsRow (t : RowSetting) (pair : ℕ) (group : ℤ) (r : Row) : Type 0 
   pub arc_is : slice_get t.arcs r.arc ≡ Some arc
   pub entry : SvPair
   pub entry_is : IsEntry t.boxes pair arc.sat entry
+  -- both receivers see the satellite
+  pub seen : HasSightings (pairing_of t entry)
   -- each counted signal's y box holds its observation for all places and clocks
   pub y : HoldsYs (pairing_of t entry) (counted_in t) t.scale entry.observed group arc.shift r.y r.ry
   pub radius : r.ry ≤ℤ most_radius t.scale

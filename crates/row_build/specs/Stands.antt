@@ -35,11 +35,18 @@ pub record IsSolved (setting : Setting) (eph : Eph) (tag : ℕ) (code : ℤ) (po
   pub clock : s.clock ≡ solution.clock
   pub seen : IsSeenPlace s.sent (place_at point) s.travel s.seen
 
--- a row of the satellite in the pair of these epochs: each counted y box holds observed - computed - group - λ shift for every solution
+-- there is such a sighting
+pub record HasSolved (setting : Setting) (eph : Eph) (tag : ℕ) (code : ℤ) (point : List ℤ) : Type 0 where
+  pub sighting : Sighting
+  pub is : IsSolved setting eph tag code point sighting
+
+-- a row of the satellite in the pair of these epochs: both receivers see it in some solution, each counted y box holds observed - computed - group - λ shift for every solution
 -- of either receiver, and each u box the mean direction for every one of the rover and every displacement
 pub record StandsForRow (setting : Setting) (base rover : Epoch) (sat : ℕ) (position point : List ℤ) (ss : List ℕ) (scale : ℕ) (group : ℤ) (shift : List ℤ) (r : Row) : Type 0 where
   pub observed : Observed
   pub are : AreObserved setting base rover sat observed
+  pub base_sees : HasSolved setting observed.eph base.tag.0 (code_of observed.base) position
+  pub rover_sees : HasSolved setting observed.eph rover.tag.0 (code_of observed.rover) point
   pub y : (b q : Sighting) → IsSolved setting observed.eph base.tag.0 (code_of observed.base) position b → IsSolved setting observed.eph rover.tag.0 (code_of observed.rover) point q →
       All (λ s. Near (number_at r.y s) r.ry (y_in_rows scale s (number_at (differences observed.base observed.rover) s) group (number_at shift (band s)) b q)) ss
   pub u : (q : Sighting) (move direction : Place) → IsSolved setting observed.eph rover.tag.0 (code_of observed.rover) point q → IsDisplacement move →

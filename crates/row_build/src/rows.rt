@@ -7,7 +7,7 @@ ghost use Rattle.row_boxes.specs.YBoxes.{HoldsYs, HasFarSignal, most_radius};
 ghost use Rattle.obs_rows.specs.ReceiverPoints.{IsReceiverPoint};
 ghost use Rattle.signal_travel.specs.Boxes.{HoldsPlace};
 ghost use Rattle.orbit_model.specs.SeenPlaces.{Place, IsDisplacement, IsMeanDirection};
-ghost use Rattle.row_boxes.specs.Sightings.{Sighting, IsSighting, place_at};
+ghost use Rattle.row_boxes.specs.Sightings.{Sighting, IsSighting, HasSighting, place_at};
 ghost use Rattle.row_build.specs.Halves.{IsBaseHalf};
 ghost use Rattle.row_build.specs.Rows.{HoldsU, IsInU, seen_by};
 
@@ -40,6 +40,7 @@ fn geometry_of(
     ensures radius { IfSome result (λ g. g.held.ry ≤ℤ most_radius scale) }
     ensures others { IfSome result (λ g. IsZeroOff ss.now g.held.y) }
     ensures seen { IfSome result (λ g. (s : Sighting) → IsSighting entry.now.sv.rover point.now s → HoldsPlace g.seen.place s.seen) }
+    ensures exists { HasSighting entry.now.sv.rover point.now }
     ensures far { result ≡ None → (base : List ℤ) → IsBaseHalf entry.now.sv base entry.now.half → HasFarSignal (seen_by entry.now.sv base point.now) ss.now scale entry.now.sv.observed group shift.now }
 {
     // All six, which the proof names.
@@ -101,6 +102,7 @@ pub fn row_of(
     ensures others { IfSome result (λ r. IsZeroOff ss.now r.y) }
     ensures u { IfSome result (λ r. HoldsU entry.now.sv.rover point.now r.u r.ru) }
     ensures narrow { IfSome result (λ r. All (λ n. n ≤ℤ pos 32) r.ru) }
+    ensures exists { HasSighting entry.now.sv.rover point.now }
     ensures far { result ≡ None → (base : List ℤ) → IsBaseHalf entry.now.sv base entry.now.half → HasFarSignal (seen_by entry.now.sv base point.now) ss.now scale entry.now.sv.observed group shift.now }
 {
     let geometry = geometry_of(ss, shift, entry, group, point, scale)?;

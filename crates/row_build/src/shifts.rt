@@ -82,6 +82,7 @@ fn shifts_of(ss: &[usize], entry: &Entry, group: i64, point: &[i64; 3]) -> [i64;
     requires point { IsReceiverPoint point.now }
     ensures near { (base : List ℤ) → IsBaseHalf entry.now.sv base entry.now.half → (s : ℕ) → s < SIGNALS → IsTrue (is_phase s) → IsTrue (counts ss.now s) → (b r : Sighting) → AreSightings (seen_by entry.now.sv base point.now) b r →
         IsWithinHalf (wavelength s) (y_of s (number_at entry.now.sv.observed s) group (number_at result (band s)) b r) }
+    ensures exists { (base : List ℤ) → IsBaseHalf entry.now.sv base entry.now.half → HasSightings (seen_by entry.now.sv base point.now) }
     ensures unused { IsZeroOff (phase_bands ss.now) result }
     ensures size { All (IsBelow (2 ^ 39)) result }
 {

@@ -1,9 +1,10 @@
 //! A satellite that both receivers of a pair observe, with its boxes.
 ghost use Rattle.std.specs.Prelude.{◌≡◌, ◌≤◌, ◌<◌, IsTrue, false, MatchOption, unsigned_abs};
 ghost use Rattle.std.specs.Int.{abs_diff};
-ghost use Rattle.orbit_model.specs.SeenPlaces.{IsAboveMask, IsBelowMask};
+ghost use Rattle.orbit_model.specs.SeenPlaces.{Place, HasSeenPlace, IsAboveMask, IsBelowMask};
 ghost use Rattle.obs_rows.specs.declared.units.TheConstants.{SIGNALS};
 ghost use Rattle.sv_orbit.specs.Solutions.{HoldsSolution};
+ghost use Rattle.signal_travel.specs.Boxes.{HoldsPlace};
 ghost use Rattle.screening.specs.Amounts.{AreAmounts, difference, differences};
 ghost use Rattle.screening.specs.Entries.{IsSatNumber};
 ghost use Rattle.screening.specs.Observed.{AreAmountsBelow, size_of};
@@ -26,6 +27,7 @@ const L1_CODE: usize = 2;
 fn is_high(rules: &Rules, sv: &SvBox) -> bool
     ensures kept { IsTrue result → SeesNear (HoldsSolution sv.now) (point_at rules.now.point) (λ p. IsAboveMask rules.now.mask p (point_at rules.now.point)) }
     ensures left_out { result ≡ false → SeesNear (HoldsSolution sv.now) (point_at rules.now.point) (λ p. IsBelowMask rules.now.mask p (point_at rules.now.point)) }
+    ensures seen { (sent : Place) → HoldsPlace sv.now.place sent → HasSeenPlace sent (point_at rules.now.point) }
 {
     above(&seen_from(sv, &rules.point), &rules.point, rules.mask)
 }

@@ -11,6 +11,8 @@ pub mod PlaceBoxes
 pub mod Times
 pub mod TimeCertificates
 pub mod Sights
+pub mod SeenAfterLaws
+pub mod SeenAfterCertificates
 pub mod Handed
 pub mod MeanDirections
 pub mod MeanDirectionCertificates

@@ -52,11 +52,11 @@ point_place p = go (p.x *ℤ p.x) (p.y *ℤ p.y) (p.z *ℤ p.z) p.receiver
     go a b c receiver = (omega (arith, ints, receiver.0), omega (arith, ints, receiver.1))
 
 -- a travel time of the box has a pair of the Earth's turn
-record IsSomeTurn (t : Rational) : Type 0 where
+pub record IsSomeTurn (t : Rational) : Type 0 where
   pub turn : Pair
   pub is_pair : IsAnglePair 5 (mul_r earth_rate t) turn.cos turn.sin
 
-some_turn : (l : ℤ) → pos 0 ≤ℤ l → l ≤ℤ pos 192153584101141163 → IsSomeTurn (of_scale 60 l)
+pub some_turn : (l : ℤ) → pos 0 ≤ℤ l → l ≤ℤ pos 192153584101141163 → IsSomeTurn (of_scale 60 l)
 some_turn l h k =
     let x = canonical_exists 5 (mul_r earth_rate (of_scale 60 l)) (go l h k) in
     record { turn = record { cos = x.0; sin = x.1 }; is_pair = canonical_is_pair 5 (mul_r earth_rate (of_scale 60 l)) x.0 x.1 x.2 }

@@ -28,7 +28,7 @@ place_enough t w h k = go t (floor_div (t +ℤ pos 2379776) 4096) w h k (floor_l
 pub any_width : (l h : ℤ) → pos 0 ≤ℤ l → h ≤ℤ pos 192153584101141163 → ((h -ℤ l) +ℤ pos (904 * 264813)) ≤ℤ (pos 904 *ℤ pos (2 ^ 48 - 1))
 any_width l h a b = omega (arith, ints)
 
--- ---- four passes: the widths that each leaves
+-- ---- three passes: the widths that each leaves
 pub first_time : (r t : ℤ) → (pos 4 *ℤ r) ≤ℤ ((pos 7 *ℤ pos 212559274712979) +ℤ pos 807)
     → (pos SPEED *ℤ t) ≤ℤ ((pos (2 ^ 24) *ℤ r) +ℤ pos (2 * SPEED)) → (t +ℤ pos (904 * 264813)) ≤ℤ (pos 904 *ℤ pos 23027875089)
 first_time r t h k = omega (arith, ints)
@@ -38,10 +38,14 @@ pub second_time : (r t : ℤ) → (pos 4 *ℤ r) ≤ℤ ((pos 7 *ℤ pos 2302787
 second_time r t h k = omega (arith, ints)
 
 pub third_time : (r t : ℤ) → (pos 4 *ℤ r) ≤ℤ ((pos 7 *ℤ pos 2759538) +ℤ pos 807)
-    → (pos SPEED *ℤ t) ≤ℤ ((pos (2 ^ 24) *ℤ r) +ℤ pos (2 * SPEED)) → (t +ℤ pos (904 * 264813)) ≤ℤ (pos 904 *ℤ pos 265112)
+    → (pos SPEED *ℤ t) ≤ℤ ((pos (2 ^ 24) *ℤ r) +ℤ pos (2 * SPEED)) → t ≤ℤ pos (2 ^ 19)
 third_time r t h k = omega (arith, ints)
 
-pub last_range : (r : ℤ) → (pos 4 *ℤ r) ≤ℤ ((pos 7 *ℤ pos 265112) +ℤ pos 807) → r ≤ℤ pos (2 ^ 19)
+-- ---- the last pass, from a box of 2^19 units: a coordinate is at most 265,393 wide
+pub last_place : (t : ℤ) → t ≤ℤ pos (2 ^ 19) → (t +ℤ pos (904 * 264813)) ≤ℤ (pos 904 *ℤ pos 265393)
+last_place t h = omega (arith, ints)
+
+pub last_range : (r : ℤ) → (pos 4 *ℤ r) ≤ℤ ((pos 7 *ℤ pos 265393) +ℤ pos 807) → r ≤ℤ pos (2 ^ 19)
 last_range r h = omega (arith, ints)
 
 pub last_time : (r t : ℤ) → r ≤ℤ pos (2 ^ 19) → (pos SPEED *ℤ t) ≤ℤ ((pos (2 ^ 24) *ℤ r) +ℤ pos (2 * SPEED)) → t ≤ℤ pos (2 ^ 15)

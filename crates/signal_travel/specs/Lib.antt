@@ -1,4 +1,5 @@
 pub mod Boxes
 pub mod Directions
 pub mod Grid
+pub mod SeenAfter
 pub mod VectorBoxes

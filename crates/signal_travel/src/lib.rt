@@ -21,6 +21,7 @@ ghost use Rattle.obs_rows.specs.ReceiverPoints.{IsReceiverPoint};
 ghost use Rattle.signal_travel.specs.Boxes.{HoldsPlace, HasNearPlace};
 ghost use Rattle.signal_travel.specs.Directions.{HoldsDirection};
 
+mod aims;
 mod directions;
 mod mask;
 mod passes;
@@ -31,6 +32,7 @@ mod turns;
 mod vectors;
 mod wide;
 
+use aims::travel_guess;
 use directions::direction_to;
 use iv_core::Iv;
 use mask::{is_above, offset_of};
@@ -71,7 +73,21 @@ pub fn seen_from(sv: &SvBox, point: &[i64; 3]) -> SeenBox
     // The equations of each place of `sv` have a solution.
     ensures exists { (a b c : ℤ) (sent : Place) → point.now ≡ a ∷ b ∷ c ∷ [] → HoldsPlace sv.now.place sent → HasSeenPlace sent (point_of a b c) }
 {
-    let sight = sight_of(&sent_box(sv), &point_at(point));
+    seen_by_guess(sv, point, travel_guess(&sent_box(sv), &point_at(point)))
+}
+
+/// `seen_from` with a guess of the travel time, in seconds at 2^-60: one within 3 · 10^-15 s saves most of the work, and any other gives
+/// boxes that hold the same.
+pub fn seen_by_guess(sv: &SvBox, point: &[i64; 3], guess: i64) -> SeenBox
+    requires { IsReceiverPoint point.now }
+    ensures place { (a b c : ℤ) (sent seen : Place) (travel : Rational) → point.now ≡ a ∷ b ∷ c ∷ [] →
+        HoldsPlace sv.now.place sent → IsSeenPlace sent (point_of a b c) travel seen → HoldsPlace result.place seen }
+    ensures range { (a b c : ℤ) (sent seen : Place) (travel : Rational) → point.now ≡ a ∷ b ∷ c ∷ [] →
+        HoldsPlace sv.now.place sent → IsSeenPlace sent (point_of a b c) travel seen → Holds result.range (range_of travel) }
+    ensures time { (a b c : ℤ) (sent seen : Place) (travel : Rational) → point.now ≡ a ∷ b ∷ c ∷ [] →
+        HoldsPlace sv.now.place sent → IsSeenPlace sent (point_of a b c) travel seen → Holds result.travel travel }
+{
+    let sight = sight_of(&sent_box(sv), &point_at(point), guess);
     SeenBox {
         place: [sight.place.x, sight.place.y, sight.place.z],
         range: sight.range,

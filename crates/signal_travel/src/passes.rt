@@ -1,9 +1,10 @@
 //! The travel time, from a box of it to a narrower one.
-ghost use Rattle.std.specs.Prelude.{◌≡◌, ◌+◌, ◌*◌, ◌^◌, ◌<◌, ◌≤◌, ℤ, pos, ◌+ℤ◌, ◌*ℤ◌, ◌≤ℤ◌};
+ghost use Rattle.std.specs.Prelude.{◌≡◌, ◌+◌, ◌*◌, ◌^◌, ◌<◌, ◌≤◌, ℤ, pos, ◌+ℤ◌, ◌-ℤ◌, ◌*ℤ◌, ◌≤ℤ◌, true};
 ghost use Rattle.rational.specs.Rational.{Rational};
 ghost use Rattle.iv_core.specs.Intervals.{Holds, width_of};
 ghost use Rattle.orbit_model.specs.Places.{IsBetweenDistances};
 ghost use Rattle.orbit_model.specs.SeenPlaces.{Place, point_of, IsSeenPlace, range_of};
+ghost use Rattle.signal_travel.specs.SeenAfter.{IsSeenAfter};
 ghost use Rattle.signal_travel.specs.VectorBoxes.{HoldsVector, IsVectorAtMostWide, IsTravel};
 
 use crate::places::{Point, VectorBox};
@@ -18,6 +19,16 @@ use obs_rows::LIGHT_SPEED;
 const SPEED: u64 = LIGHT_SPEED as u64;
 
 const DIGIT: u64 = 1 << 24;
+
+// 1/6 s, which is later than any signal arrives, in 2^-60 s
+const LATEST: i64 = 192_153_584_101_141_163;
+
+// How far a guess may be off, in 2^-60 s
+const REACH: i64 = 1 << 12;
+
+// How far a pass from a time may lead, so that no travel time is further than `REACH` from that time: what a pass leads to moves by less
+// than a 256th of what the time moves by
+const SETTLED: i64 = REACH - REACH / 256;
 
 // ⌊range · 2^24 / c⌋
 fn time_below(range: u64) -> u64
@@ -67,6 +78,9 @@ pub fn sight_after(sent: &SentBox, point: &Point, travel: &Iv<60>) -> Sight
         IsSeenPlace p (point_of point.now.x point.now.y point.now.z) t seen → Holds result.range (range_of t) }
     ensures time { (p seen : Place) (t : Rational) → HoldsVector sent.now.place p → Holds travel.now t →
         IsSeenPlace p (point_of point.now.x point.now.y point.now.z) t seen → Holds result.travel t }
+    // Light takes a time of `travel` after a turn in any time of the box, not only in its own.
+    ensures light { (p seen : Place) (u t : Rational) → HoldsVector sent.now.place p → Holds travel.now u →
+        IsSeenAfter p (point_of point.now.x point.now.y point.now.z) u t seen → Holds result.travel t }
     ensures travel { IsTravel result.travel }
     ensures far { pos (10000000 * 2 ^ 36) ≤ℤ result.range.lo }
 
@@ -93,13 +107,61 @@ pub fn sight_after(sent: &SentBox, point: &Point, travel: &Iv<60>) -> Sight
 // From 0 to 1/6 s: every travel time that there is
 fn any_travel() -> Iv<60>
     ensures lo { result.lo ≡ pos 0 }
-    ensures hi { result.hi ≡ pos 192153584101141163 }
+    ensures hi { result.hi ≡ LATEST }
 {
-    Iv::from_ends(0, 192_153_584_101_141_163)
+    Iv::from_ends(0, LATEST)
 }
 
-/// The sights at the point.
-pub fn sight_of(sent: &SentBox, point: &Point) -> Sight
+// Every travel time, by three passes
+fn times_by_passes(sent: &SentBox, point: &Point) -> Iv<60>
+    ensures holds { (p seen : Place) (t : Rational) → HoldsVector sent.now.place p →
+        IsSeenPlace p (point_of point.now.x point.now.y point.now.z) t seen → Holds result t }
+    ensures travel { IsTravel result }
+    ensures width { width_of result ≤ℤ pos (2 ^ 19) }
+{
+    let first = sight_after(sent, point, &any_travel());
+    let second = sight_after(sent, point, &first.travel);
+    let third = sight_after(sent, point, &second.travel);
+    third.travel
+}
+
+// The guess, or the nearest time that is `REACH` away from the first and the last
+fn time_near(guess: i64) -> i64
+    ensures low { REACH ≤ℤ result }
+    ensures high { (result +ℤ REACH) ≤ℤ LATEST }
+{
+    if guess < REACH {
+        REACH
+    } else if guess > LATEST - REACH {
+        LATEST - REACH
+    } else {
+        guess
+    }
+}
+
+// The times within `REACH` of a time
+fn times_around(time: i64) -> Iv<60>
+    requires low { REACH ≤ℤ time }
+    requires high { (time +ℤ REACH) ≤ℤ LATEST }
+    ensures lo { result.lo ≡ time -ℤ REACH }
+    ensures hi { result.hi ≡ time +ℤ REACH }
+{
+    Iv::from_ends(time - REACH, time + REACH)
+}
+
+// Whether a pass led so near the time that it began with that every travel time is within `REACH` of it
+fn is_settled(travel: &Iv<60>, time: i64) -> bool
+    requires travel { IsTravel travel.now }
+    requires low { pos 0 ≤ℤ time }
+    requires high { time ≤ℤ LATEST }
+    ensures above { result ≡ true → (travel.now.hi -ℤ time) ≤ℤ SETTLED }
+    ensures below { result ≡ true → (time -ℤ travel.now.lo) ≤ℤ SETTLED }
+{
+    travel.hi - time <= SETTLED && time - travel.lo <= SETTLED
+}
+
+/// The sights at the point, by one pass from the guess, or by four where the guess is poor.
+pub fn sight_of(sent: &SentBox, point: &Point, guess: i64) -> Sight
     ensures place { (p seen : Place) (t : Rational) → HoldsVector sent.now.place p →
         IsSeenPlace p (point_of point.now.x point.now.y point.now.z) t seen → HoldsVector result.place seen }
     ensures range { (p seen : Place) (t : Rational) → HoldsVector sent.now.place p →
@@ -112,8 +174,11 @@ pub fn sight_of(sent: &SentBox, point: &Point) -> Sight
     ensures far { pos (10000000 * 2 ^ 36) ≤ℤ result.range.lo }
     ensures away { IsBetweenDistances 18900000 38100000 result.place.x result.place.y result.place.z }
 {
-    let first = sight_after(sent, point, &any_travel());
-    let second = sight_after(sent, point, &first.travel);
-    let third = sight_after(sent, point, &second.travel);
-    sight_after(sent, point, &third.travel)
+    let time = time_near(guess);
+    let sight = sight_after(sent, point, &times_around(time));
+    if is_settled(&sight.travel, time) {
+        sight
+    } else {
+        sight_after(sent, point, &times_by_passes(sent, point))
+    }
 }

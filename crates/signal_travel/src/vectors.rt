@@ -24,7 +24,7 @@ fn raised_units(raised: u64) -> u64
 }
 
 // ⌊coordinate · 2^36 / 10^4⌋, which is ⌊coordinate · 2^32 / 625⌋
-fn units_of(coordinate: i64) -> i64
+pub fn units_of(coordinate: i64) -> i64
     requires { unsigned_abs coordinate ≤ 70000000000 }
     ensures low { (result *ℤ pos 10000) ≤ℤ (coordinate *ℤ pos (2 ^ 36)) }
     ensures high { (coordinate *ℤ pos (2 ^ 36)) <ℤ ((result *ℤ pos 10000) +ℤ pos 10000) }

@@ -7,8 +7,8 @@
 //! is measured is the range less c times what the satellite's clock is ahead, and the receiver's clock term: it has
 //! neither noise nor atmosphere. Each number has room in its columns (`columns`), and no call fails. Who calls owes a tag
 //! within 7201 s of the record's time and cycles of at most 1,000,000; a `Receiver` is on the Earth, and its clock term
-//! at most 100 m, by its type. No clause says which of the numbers within these bounds comes, nor anything
-//! where an equation has no rational solution.
+//! at most 100 m, by its type. No clause says which of the numbers within these bounds comes. That there is a solution is
+//! a law of orbit_laws.
 #![tactic(auto)]
 
 mod distances;

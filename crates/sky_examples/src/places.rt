@@ -4,7 +4,7 @@
 pub type Placed = (usize, u64, i64, [i64; 3], i64);
 
 // With the constants of GPS, at tags up to 7,201 s from the ephemeris' time.
-pub const PLACES: [Placed; 48] = [
+pub static PLACES: [Placed; 48] = [
     (
         0,
         7_964_351_990_000_000,
@@ -524,7 +524,7 @@ pub const PLACES: [Placed; 48] = [
 ];
 
 // With those of Galileo.
-pub const OF_GALILEO: [Placed; 6] = [
+pub static OF_GALILEO: [Placed; 6] = [
     (
         15,
         7_964_424_000_000_000,

@@ -1,5 +1,5 @@
 // Ten records of examples/geonet.nav, five whose numbers are at the ends of their ranges, and one of an orbit of Galileo's size.
-pub const LINES: [&str; 130] = [
+pub static LINES: [&str; 130] = [
     "     3.04           N: GNSS NAV DATA    G: GPS              RINEX VERSION / TYPE",
     "                                                            END OF HEADER       ",
     "G01 2005 04 02 02 00 00 3.966595977540D-04 1.705302565820D-12 0.000000000000D+00",

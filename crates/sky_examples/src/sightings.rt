@@ -13,7 +13,7 @@ pub type Sighting = (
     [[i64; 3]; 3],
 );
 
-pub const SIGHTINGS: [Sighting; 30] = [
+pub static SIGHTINGS: [Sighting; 30] = [
     (
         (0, 7_964_351_990_000_000, 0),
         [-39_782_424_348, 33_828_411_715, 36_499_027_667],

@@ -5,49 +5,58 @@ use Rattle.std.proofs.Common.{[], ◌∷◌, ℤ, pos, ◌+ℤ◌, ◌-ℤ◌, �
 use Rattle.std.proofs.lemmas.Int.{ints}
 use Rattle.whole_math.proofs.Ring.{va, ko, ◌⊕◌, ◌⊖◌, ◌⊗◌}
 use Rattle.whole_math.proofs.Certificates.{cert, cancel, mul_positive, weak, ◌≼◌, hy, nm, sq, ◌⊞◌, ◌⊠◌}
+use Rattle.whole_math.proofs.Inequalities.{le_by, nat, both_nn, prod_nn, less_nn, pos_nn}
 use Rattle.std.proofs.Common.{lit<}
 use Rattle.trig_box.proofs.Base.{lt_pos}
 
--- a nest in units of 2^-62 stays within 2 of the exact one
-pub nest_round_high : (z g e d a b n w : ℤ) → ((e *ℤ d) *ℤ pos 4611686018427387904) ≤ℤ (z *ℤ g)
-    → (z *ℤ g) ≤ℤ (((e *ℤ d) *ℤ pos 4611686018427387904) +ℤ (d *ℤ pos 4611686018427387904)) → (z *ℤ b) ≤ℤ (pos 4611686018427387904 *ℤ a)
-    → (pos 4611686018427387904 *ℤ a) ≤ℤ ((z *ℤ b) +ℤ b) → ((pos 4611686018427387904 *ℤ n) -ℤ (g *ℤ w)) ≤ℤ (pos 2 *ℤ w)
-    → ((g *ℤ w) -ℤ (pos 4611686018427387904 *ℤ n)) ≤ℤ (pos 2 *ℤ w) → (pos 0) ≤ℤ n → n ≤ℤ w → (pos 0) ≤ℤ b → (pos 2) ≤ℤ d → (pos 0) ≤ℤ z
-    → z ≤ℤ pos 1152921504606846976
-    → ((pos 4611686018427387904 *ℤ (((d *ℤ b) *ℤ w) -ℤ (a *ℤ n))) -ℤ ((pos 4611686018427387904 -ℤ e) *ℤ ((d *ℤ b) *ℤ w))) ≤ℤ (pos 2 *ℤ ((d *ℤ b) *ℤ w))
-nest_round_high z g e d a b n w h0 h1 h2 h3 h4 h5 h6 h7 h8 h9 h10 h11 =
-    cancel (pos 4611686018427387904) ((pos 4611686018427387904 *ℤ (((d *ℤ b) *ℤ w) -ℤ (a *ℤ n))) -ℤ ((pos 4611686018427387904 -ℤ e) *ℤ ((d *ℤ b) *ℤ w)))
-    (pos 2 *ℤ ((d *ℤ b) *ℤ w)) (omega (arith, ints)) (cert (z ∷ g ∷ e ∷ d ∷ a ∷ b ∷ n ∷ w ∷ []) ((((va 2 ⊗ va 3) ⊗ ko (pos 4611686018427387904))
-    ≼ (va 0 ⊗ va 1)) ∷ ((va 0 ⊗ va 1) ≼ (((va 2 ⊗ va 3) ⊗ ko (pos 4611686018427387904)) ⊕ (va 3 ⊗ ko (pos 4611686018427387904))))
-    ∷ ((va 0 ⊗ va 5) ≼ (ko (pos 4611686018427387904) ⊗ va 4)) ∷ ((ko (pos 4611686018427387904) ⊗ va 4) ≼ ((va 0 ⊗ va 5) ⊕ va 5))
-    ∷ (((ko (pos 4611686018427387904) ⊗ va 6) ⊖ (va 1 ⊗ va 7)) ≼ (ko (pos 2) ⊗ va 7))
-    ∷ (((va 1 ⊗ va 7) ⊖ (ko (pos 4611686018427387904) ⊗ va 6)) ≼ (ko (pos 2) ⊗ va 7)) ∷ (ko (pos 0) ≼ va 6) ∷ (va 6 ≼ va 7) ∷ (ko (pos 0) ≼ va 5)
-    ∷ (ko (pos 2) ≼ va 3) ∷ (ko (pos 0) ≼ va 0) ∷ (va 0 ≼ ko (pos 1152921504606846976)) ∷ []) (ko (pos 4611686018427387904)
-    ⊗ ((ko (pos 4611686018427387904) ⊗ (((va 3 ⊗ va 5) ⊗ va 7) ⊖ (va 4 ⊗ va 6))) ⊖ ((ko (pos 4611686018427387904) ⊖ va 2) ⊗ ((va 3 ⊗ va 5) ⊗ va 7))))
-    (ko (pos 4611686018427387904) ⊗ (ko (pos 2) ⊗ ((va 3 ⊗ va 5) ⊗ va 7)))
-    (((((hy 8 ⊠ (hy 6 ⊞ hy 7)) ⊠ hy 0) ⊞ ((hy 8 ⊠ hy 10) ⊠ hy 5)) ⊞ ((nm 4611686018427387904 ⊠ hy 6) ⊠ hy 2))
-    ⊞ (((nm 2 ⊠ hy 8) ⊠ (hy 6 ⊞ hy 7)) ⊠ (((nm 4611686018427387904 ⊠ hy 9) ⊞ nm 8070450532247928832) ⊞ hy 11))) refl
-    (h0, (h1, (h2, (h3, (h4, (h5, (h6, (h7, (h8, (h9, (h10, (h11, tt)))))))))))))
+-- a sum's coefficient less z times the rest, where the rest is near a nest: p d g over the nest n / w of 2^62, and k over 2^62 / p
+pub sum_round_high : (z g q k p d a b n w : ℤ) → (q *ℤ pos 4611686018427387904) ≤ℤ (z *ℤ g) → (z *ℤ b) ≤ℤ (pos 4611686018427387904 *ℤ a) → (((p *ℤ d) *ℤ g) *ℤ w -ℤ pos 4611686018427387904 *ℤ n) ≤ℤ ((pos 2 *ℤ (p *ℤ d)) *ℤ w)
+    → pos 9223372036854775808 ≤ℤ ((pos 2 *ℤ k) *ℤ p +ℤ p) → pos 0 ≤ℤ n → pos 0 ≤ℤ b → pos 0 ≤ℤ w → pos 0 ≤ℤ p → pos 0 ≤ℤ d → pos 0 ≤ℤ z → z ≤ℤ pos 1152921504606846976
+    → (pos 4611686018427387904 *ℤ ((d *ℤ b) *ℤ w -ℤ a *ℤ n) -ℤ (p *ℤ (k -ℤ q)) *ℤ ((d *ℤ b) *ℤ w)) ≤ℤ (p *ℤ ((d *ℤ b) *ℤ w))
+sum_round_high z g q k p d a b n w h0 h1 h2 h3 n0 b0 w0 p0 d0 z0 z1 =
+    let bw : pos 0 ≤ℤ (b *ℤ w) = prod_nn b0 w0 in
+    let pd : pos 0 ≤ℤ (p *ℤ d) = prod_nn p0 d0 in
+    let pdbw : pos 0 ≤ℤ ((p *ℤ d) *ℤ (b *ℤ w)) = prod_nn pd bw in
+    cancel (pos 9223372036854775808) (pos 4611686018427387904 *ℤ ((d *ℤ b) *ℤ w -ℤ a *ℤ n) -ℤ (p *ℤ (k -ℤ q)) *ℤ ((d *ℤ b) *ℤ w)) (p *ℤ ((d *ℤ b) *ℤ w)) (lt_pos 0 9223372036854775808 (lit< tt))
+    (le_by (z ∷ g ∷ q ∷ k ∷ p ∷ d ∷ a ∷ b ∷ n ∷ w ∷ []) (λ z g q k p d a b n w. (
+      nat 9223372036854775808 ⊗ (nat 4611686018427387904 ⊗ ((d ⊗ b) ⊗ w ⊖ a ⊗ n) ⊖ (p ⊗ (k ⊖ q)) ⊗ ((d ⊗ b) ⊗ w)),
+      nat 9223372036854775808 ⊗ (p ⊗ ((d ⊗ b) ⊗ w)),
+      ((((nat 2 ⊗ k) ⊗ p ⊕ p) ⊖ nat 9223372036854775808) ⊗ ((d ⊗ (b ⊗ w)) ⊗ nat 4611686018427387904))
+          ⊕ (z ⊗ g ⊖ q ⊗ nat 4611686018427387904) ⊗ (nat 2 ⊗ ((p ⊗ d) ⊗ (b ⊗ w)))
+          ⊕ (((nat 2 ⊗ (p ⊗ d)) ⊗ w) ⊖ (((p ⊗ d) ⊗ g) ⊗ w ⊖ nat 4611686018427387904 ⊗ n)) ⊗ (nat 2 ⊗ (z ⊗ b))
+          ⊕ (nat 1152921504606846976 ⊖ z) ⊗ (nat 4 ⊗ ((p ⊗ d) ⊗ (b ⊗ w)))
+          ⊕ (nat 4611686018427387904 ⊗ a ⊖ z ⊗ b) ⊗ (nat 9223372036854775808 ⊗ n),
+    )) refl
+    (both_nn (both_nn (both_nn (both_nn (prod_nn (less_nn h3) (prod_nn (prod_nn d0 bw) (pos_nn 4611686018427387904)))
+    (prod_nn (less_nn h0) (prod_nn (pos_nn 2) pdbw)))
+    (prod_nn (less_nn h2) (prod_nn (pos_nn 2) (prod_nn z0 b0))))
+    (prod_nn (less_nn z1) (prod_nn (pos_nn 4) pdbw)))
+    (prod_nn (less_nn h1) (prod_nn (pos_nn 9223372036854775808) n0))))
 
-pub nest_round_low : (z g e d a b n w : ℤ) → ((e *ℤ d) *ℤ pos 4611686018427387904) ≤ℤ (z *ℤ g)
-    → (z *ℤ g) ≤ℤ (((e *ℤ d) *ℤ pos 4611686018427387904) +ℤ (d *ℤ pos 4611686018427387904)) → (z *ℤ b) ≤ℤ (pos 4611686018427387904 *ℤ a)
-    → (pos 4611686018427387904 *ℤ a) ≤ℤ ((z *ℤ b) +ℤ b) → ((pos 4611686018427387904 *ℤ n) -ℤ (g *ℤ w)) ≤ℤ (pos 2 *ℤ w)
-    → ((g *ℤ w) -ℤ (pos 4611686018427387904 *ℤ n)) ≤ℤ (pos 2 *ℤ w) → (pos 0) ≤ℤ n → n ≤ℤ w → (pos 0) ≤ℤ b → (pos 2) ≤ℤ d → (pos 0) ≤ℤ z
-    → z ≤ℤ pos 1152921504606846976
-    → (((pos 4611686018427387904 -ℤ e) *ℤ ((d *ℤ b) *ℤ w)) -ℤ (pos 4611686018427387904 *ℤ (((d *ℤ b) *ℤ w) -ℤ (a *ℤ n)))) ≤ℤ (pos 2 *ℤ ((d *ℤ b) *ℤ w))
-nest_round_low z g e d a b n w h0 h1 h2 h3 h4 h5 h6 h7 h8 h9 h10 h11 =
-    cancel (pos 4611686018427387904) (((pos 4611686018427387904 -ℤ e) *ℤ ((d *ℤ b) *ℤ w)) -ℤ (pos 4611686018427387904 *ℤ (((d *ℤ b) *ℤ w) -ℤ (a *ℤ n))))
-    (pos 2 *ℤ ((d *ℤ b) *ℤ w)) (omega (arith, ints)) (cert (z ∷ g ∷ e ∷ d ∷ a ∷ b ∷ n ∷ w ∷ []) ((((va 2 ⊗ va 3) ⊗ ko (pos 4611686018427387904))
-    ≼ (va 0 ⊗ va 1)) ∷ ((va 0 ⊗ va 1) ≼ (((va 2 ⊗ va 3) ⊗ ko (pos 4611686018427387904)) ⊕ (va 3 ⊗ ko (pos 4611686018427387904))))
-    ∷ ((va 0 ⊗ va 5) ≼ (ko (pos 4611686018427387904) ⊗ va 4)) ∷ ((ko (pos 4611686018427387904) ⊗ va 4) ≼ ((va 0 ⊗ va 5) ⊕ va 5))
-    ∷ (((ko (pos 4611686018427387904) ⊗ va 6) ⊖ (va 1 ⊗ va 7)) ≼ (ko (pos 2) ⊗ va 7))
-    ∷ (((va 1 ⊗ va 7) ⊖ (ko (pos 4611686018427387904) ⊗ va 6)) ≼ (ko (pos 2) ⊗ va 7)) ∷ (ko (pos 0) ≼ va 6) ∷ (va 6 ≼ va 7) ∷ (ko (pos 0) ≼ va 5)
-    ∷ (ko (pos 2) ≼ va 3) ∷ (ko (pos 0) ≼ va 0) ∷ (va 0 ≼ ko (pos 1152921504606846976)) ∷ []) (ko (pos 4611686018427387904)
-    ⊗ (((ko (pos 4611686018427387904) ⊖ va 2) ⊗ ((va 3 ⊗ va 5) ⊗ va 7)) ⊖ (ko (pos 4611686018427387904) ⊗ (((va 3 ⊗ va 5) ⊗ va 7) ⊖ (va 4 ⊗ va 6)))))
-    (ko (pos 4611686018427387904) ⊗ (ko (pos 2) ⊗ ((va 3 ⊗ va 5) ⊗ va 7)))
-    (((((hy 8 ⊠ (hy 6 ⊞ hy 7)) ⊠ hy 1) ⊞ ((hy 8 ⊠ hy 10) ⊠ hy 4)) ⊞ ((nm 4611686018427387904 ⊠ hy 6) ⊠ hy 3)) ⊞ (hy 8 ⊠ ((((nm 4611686018427387904 ⊠ hy 9)
-    ⊠ (hy 6 ⊞ hy 7)) ⊞ (nm 4611686018427387904 ⊠ hy 7)) ⊞ ((nm 2305843009213693952 ⊞ (nm 2 ⊠ hy 11)) ⊠ (hy 6 ⊞ hy 7))))) refl
-    (h0, (h1, (h2, (h3, (h4, (h5, (h6, (h7, (h8, (h9, (h10, (h11, tt)))))))))))))
+pub sum_round_low : (z g q k p d a b n w : ℤ) → (z *ℤ g) ≤ℤ (q *ℤ pos 4611686018427387904 +ℤ pos 4611686018427387904) → (pos 4611686018427387904 *ℤ a) ≤ℤ (z *ℤ b +ℤ b) → (pos 4611686018427387904 *ℤ n -ℤ ((p *ℤ d) *ℤ g) *ℤ w) ≤ℤ ((p *ℤ d) *ℤ w)
+    → (pos 4 *ℤ (k *ℤ (p *ℤ d)) +ℤ pos 4) ≤ℤ (pos 3 *ℤ (p *ℤ d) +ℤ pos 4 *ℤ (pos 4611686018427387904 *ℤ d)) → pos 0 ≤ℤ n → n ≤ℤ w → pos 0 ≤ℤ b → pos 0 ≤ℤ w → pos 0 ≤ℤ p → pos 0 ≤ℤ d → pos 0 ≤ℤ z → z ≤ℤ pos 1152921504606846976
+    → ((p *ℤ (k -ℤ q)) *ℤ ((d *ℤ b) *ℤ w) -ℤ pos 4611686018427387904 *ℤ ((d *ℤ b) *ℤ w -ℤ a *ℤ n)) ≤ℤ ((pos 2 *ℤ p) *ℤ ((d *ℤ b) *ℤ w))
+sum_round_low z g q k p d a b n w h0 h1 h2 h3 n0 nw b0 w0 p0 d0 z0 z1 =
+    let bw : pos 0 ≤ℤ (b *ℤ w) = prod_nn b0 w0 in
+    let pd : pos 0 ≤ℤ (p *ℤ d) = prod_nn p0 d0 in
+    let pdbw : pos 0 ≤ℤ ((p *ℤ d) *ℤ (b *ℤ w)) = prod_nn pd bw in
+    cancel (pos 18446744073709551616) ((p *ℤ (k -ℤ q)) *ℤ ((d *ℤ b) *ℤ w) -ℤ pos 4611686018427387904 *ℤ ((d *ℤ b) *ℤ w -ℤ a *ℤ n)) ((pos 2 *ℤ p) *ℤ ((d *ℤ b) *ℤ w)) (lt_pos 0 18446744073709551616 (lit< tt))
+    (le_by (z ∷ g ∷ q ∷ k ∷ p ∷ d ∷ a ∷ b ∷ n ∷ w ∷ []) (λ z g q k p d a b n w. (
+      nat 18446744073709551616 ⊗ ((p ⊗ (k ⊖ q)) ⊗ ((d ⊗ b) ⊗ w) ⊖ nat 4611686018427387904 ⊗ ((d ⊗ b) ⊗ w ⊖ a ⊗ n)),
+      nat 18446744073709551616 ⊗ ((nat 2 ⊗ p) ⊗ ((d ⊗ b) ⊗ w)),
+      ((nat 3 ⊗ (p ⊗ d) ⊕ nat 4 ⊗ (nat 4611686018427387904 ⊗ d)) ⊖ (nat 4 ⊗ (k ⊗ (p ⊗ d)) ⊕ nat 4)) ⊗ ((b ⊗ w) ⊗ nat 4611686018427387904)
+          ⊕ (q ⊗ nat 4611686018427387904 ⊕ nat 4611686018427387904 ⊖ z ⊗ g) ⊗ (nat 4 ⊗ ((p ⊗ d) ⊗ (b ⊗ w)))
+          ⊕ (((p ⊗ d) ⊗ w) ⊖ (nat 4611686018427387904 ⊗ n ⊖ ((p ⊗ d) ⊗ g) ⊗ w)) ⊗ (nat 4 ⊗ (z ⊗ b))
+          ⊕ (nat 1152921504606846976 ⊖ z) ⊗ (nat 4 ⊗ ((p ⊗ d) ⊗ (b ⊗ w)))
+          ⊕ (z ⊗ b ⊕ b ⊖ nat 4611686018427387904 ⊗ a) ⊗ (nat 18446744073709551616 ⊗ n)
+          ⊕ (w ⊖ n) ⊗ (nat 18446744073709551616 ⊗ b),
+    )) refl
+    (both_nn (both_nn (both_nn (both_nn (both_nn (prod_nn (less_nn h3) (prod_nn bw (pos_nn 4611686018427387904)))
+    (prod_nn (less_nn h0) (prod_nn (pos_nn 4) pdbw)))
+    (prod_nn (less_nn h2) (prod_nn (pos_nn 4) (prod_nn z0 b0))))
+    (prod_nn (less_nn z1) (prod_nn (pos_nn 4) pdbw)))
+    (prod_nn (less_nn h1) (prod_nn (pos_nn 18446744073709551616) n0)))
+    (prod_nn (less_nn nw) (prod_nn (pos_nn 18446744073709551616) b0))))
 
 pub sine_round_high : (p q g s n w : ℤ) → ((pos 4611686018427387904 *ℤ n) -ℤ (g *ℤ w)) ≤ℤ (pos 2 *ℤ w)
     → ((g *ℤ w) -ℤ (pos 4611686018427387904 *ℤ n)) ≤ℤ (pos 2 *ℤ w) → (pos 2 *ℤ p) ≤ℤ q → (pos 0) ≤ℤ (q +ℤ (pos 2 *ℤ p)) → (p *ℤ g) ≤ℤ ((s *ℤ q) +ℤ q)

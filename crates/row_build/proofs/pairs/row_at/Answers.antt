@@ -42,6 +42,7 @@ returns-in-Some-clause-row c =
           (subst (λ (ss : List ℕ). HoldsYs (seen_by v c.args.from.now.base.now c.args.from.now.point.now) ss c.args.scale v.observed (to_z w64 (of_z w64 c.args.group))
           (get_or c.args.from.now.arcs.now c.args.number (record { sat = 0; first = 0; last = 0; datum = false; shift = [] })).shift r.y r.ry) c.counted_signals-signals.ensures.value
           (c.in-Some.ensures.y c.args.from.now.base.now c.entry_of-entry.ensures.half)));
+      seen = record { base = c.entry_of-entry.ensures.half.exists; rover = c.row_of.ensures.exists };
       radius = c.in-Some.ensures.radius;
       others = subst (λ (ss : List ℕ). IsZeroOff ss r.y) c.counted_signals-signals.ensures.value c.in-Some.ensures.others;
       u = c.in-Some.ensures.u;

@@ -20,8 +20,10 @@ returns-clause-near c =
     record {
       first = f;
       first_is = c.first_entry-first.ensures.entry;
+      first_seen = c.group_of-group.ensures.exists c.args.from.now.base.now c.first_entry-first.ensures.half;
       entry = n;
       entry_is = c.entry_of-entry.ensures.entry;
+      seen = c.shifts_of.ensures.exists c.args.from.now.base.now c.entry_of-entry.ensures.half;
       within = λ group a s h phase among b r q.
           shift_within s (number_at n.observed s) g group (number_at c.shifts_of.result (band s)) b r (long_cycle s h phase)
           (allowed_close (seen_by f c.args.from.now.base.now c.args.from.now.point.now) (number_at f.observed 2) g group a

@@ -29,6 +29,9 @@ returns-clause-near c = λ base known. three (λ (s : ℕ). IsTrue (counts c.arg
     plain s k b r e h = subst (λ (z : ℤ). IsWithinHalf (wavelength s) (y_of s (number_at c.args.entry.now.sv.observed s) c.args.group z b r)) (sym e)
         (subst (λ (g : ℤ). IsWithinHalf (wavelength s) (y_of s (number_at c.args.entry.now.sv.observed s) g k b r)) (to_z-of_z w64 c.args.group c.ranges.group) h)
 
+pub returns-clause-exists : goal.returns-clause-exists
+returns-clause-exists c = λ base known. record { base = known.exists; rover = c.sight_of.ensures.exists }
+
 pub returns-clause-unused : goal.returns-clause-unused
 returns-clause-unused c = bands_off c.args.ss.now _ _ _
     (λ e. plain c.shift_of-l1.result (c.shift_of-l1.ensures.unused e)) (λ e. plain c.shift_of-l2.result (c.shift_of-l2.ensures.unused e))

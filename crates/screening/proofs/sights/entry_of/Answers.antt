@@ -1,8 +1,7 @@
 use Rattle.std.proofs.Common.{refl, sym, ◌∙◌}
-use Rattle.sv_orbit.specs.Solutions.{HoldsSolution}
-use Rattle.screening.specs.Sightings.{Setting, Sighting, IsSighting, Sent, setting_with, code_of}
+use Rattle.screening.specs.Sightings.{Setting, Sighting, IsSighting, WasSent, setting_with, code_of}
 use Rattle.screening.proofs.ChosenOnce.{none_chosen}
-use Rattle.screening.proofs.SightLaws.{match_none, match_some, code_range, from_record, fewer, left_out_as}
+use Rattle.screening.proofs.SightLaws.{match_none, match_some, code_range, from_record, sees_sent, was_sent, base_near, rover_near, left_out_as}
 use Rattle.screening.proofs.sights.entry_of.Goals as goal
 
 pub returns-in_err-eph : goal.returns-in_err-eph
@@ -24,7 +23,8 @@ returns-then-not-is_high c =
     let clock = c.of-record.result.clock in
     let holds = from_record _ clock.world g.eph clock.eph _ (code_of g.base) _ range c.of-record.ensures.world c.of-record.ensures.eph c.sv_from-from_base.ensures in
     left_out_as s c.args.base.now c.args.rover.now c.args.number g seen
-    (fewer (Sent s g.eph c.args.base.now.tag.0 (code_of g.base)) (HoldsSolution c.sv_from-from_base.result) _ _ holds (c.is_high.ensures.left_out c.if-not-is_high.true))
+    (sees_sent s g.eph c.args.base.now.tag.0 (code_of g.base) c.sv_from-from_base.result _ (was_sent s c.args.rules.now.world g.eph c.args.base.now.tag.0 (code_of g.base) refl (base_near c.args.base.now.tag.0 g.eph.toe.0 seen.chosen.candidate.near) range)
+    holds c.is_high.ensures.seen (c.is_high.ensures.left_out c.if-not-is_high.true))
 
 pub returns : goal.returns
 returns c =
@@ -40,16 +40,21 @@ returns c =
     let range_too = code_range c.amounts_at-2.result g.rover c.in_ok-at_rover.was c.amounts_at-2.ensures.code_from c.amounts_at-2.ensures.code_to in
     let clock = c.of-record.result.clock in
     let holds = from_record _ clock.world g.eph clock.eph _ (code_of g.base) _ range c.of-record.ensures.world c.of-record.ensures.eph c.sv_from-from_base.ensures in
+    let sent : WasSent s g.eph c.args.base.now.tag.0 (code_of g.base) =
+    was_sent s c.args.rules.now.world g.eph c.args.base.now.tag.0 (code_of g.base) refl (base_near c.args.base.now.tag.0 g.eph.toe.0 seen.chosen.candidate.near) range in
     record {
       pair_is = refl;
       sat_is = refl;
       entry = record {
         sighting = g;
         seen = seen;
-        kept = fewer (Sent s g.eph c.args.base.now.tag.0 (code_of g.base)) (HoldsSolution c.sv_from-from_base.result) _ _ holds (c.is_high.ensures.kept c.if-not-is_high.false);
+        kept = sees_sent s g.eph c.args.base.now.tag.0 (code_of g.base) c.sv_from-from_base.result _ sent holds c.is_high.ensures.seen (c.is_high.ensures.kept c.if-not-is_high.false);
         tag = refl;
         observed = c.differences.ensures.value;
         base_holds = holds;
         rover_holds = from_record _ clock.world g.eph clock.eph _ (code_of g.rover) _ range_too c.of-record.ensures.world c.of-record.ensures.eph c.sv_from.ensures;
+        base_sent = sent;
+        rover_sent = was_sent s c.args.rules.now.world g.eph c.args.rover.now.tag.0 (code_of g.rover) refl
+            (rover_near c.args.base.now.tag.0 c.args.rover.now.tag.0 g.eph.toe.0 seen.chosen.candidate.near c.requires.near) range_too;
       };
     }

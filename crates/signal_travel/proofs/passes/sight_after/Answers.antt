@@ -39,6 +39,14 @@ returns-clause-range c = λ p seen t h k s.
     c.length_of-range.ensures.holds (difference seen q) (range_of t) (c.vector_from-vector.ensures.holds seen (returns-clause-place c p seen t h k s))
     (range_root t (square (difference seen q)) s.travel_is)
 
+pub returns-clause-light : goal.returns-clause-light
+returns-clause-light c = λ p seen u t h k s.
+    let q : Place = point_of c.args.point.now.x c.args.point.now.y c.args.point.now.z in
+    let held = held_along c.turned_box-place.result seen (turned_back s.turn p) s.seen_is
+    (c.turned_box-place.ensures.holds p s.turn h (c.turn_in-turn.ensures.holds u s.turn.cos s.turn.sin k s.turn_is)) in
+    c.time_over-travel.ensures.holds t (c.length_of-range.ensures.holds (difference seen q) (range_of t) (c.vector_from-vector.ensures.holds seen held)
+    (range_root t (square (difference seen q)) s.travel_is))
+
 pub returns-clause-time : goal.returns-clause-time
 returns-clause-time c = λ p seen t h k s. c.time_over-travel.ensures.holds t (returns-clause-range c p seen t h k s)
 

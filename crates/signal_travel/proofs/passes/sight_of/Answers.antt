@@ -1,72 +1,98 @@
-use Rattle.std.proofs.Common.{◌≡◌, ◌*◌, ℤ, pos, ◌+ℤ◌, ◌-ℤ◌, ◌*ℤ◌, ◌≤ℤ◌, arith}
-use Rattle.std.proofs.lemmas.Int.{ints}
-use Rattle.rational.specs.Rational.{Rational, ◌≤ʳ◌, of_whole, mul_r, InBox}
+use Rattle.std.proofs.Common.{◌≡◌, ℤ, pos, ◌+ℤ◌, ◌-ℤ◌, ◌≤ℤ◌, arith, to_z, of_z}
+use Rattle.std.proofs.lemmas.Int.{ints, to_z-of_z}
+use Rattle.std.specs.Int.{w64}
+use Rattle.rational.specs.Rational.{Rational}
 use Rattle.iv_core.specs.Intervals.{Holds}
 use Rattle.orbit_model.specs.SeenPlaces.{Place, point_of, IsSeenPlace}
-use Rattle.orbit_model.proofs.Seen.{travel_nn, travel_most}
 use Rattle.signal_travel.specs.VectorBoxes.{HoldsVector}
-use Rattle.signal_travel.proofs.Sights.{point_place}
-use Rattle.signal_travel.proofs.Times.{first_time, second_time, third_time, last_range, last_time}
+use Rattle.signal_travel.proofs.SeenAfterLaws.{all_around, around_width}
+use Rattle.signal_travel.proofs.Times.{last_place, last_range, last_time}
 use Rattle.signal_travel.proofs.passes.sight_of.Goals as goal
 
-any : (l h : ℤ) (t : Rational) → l ≡ pos 0 → h ≡ pos 192153584101141163 → of_whole (pos 0) ≤ʳ t → mul_r (of_whole (pos 6)) t ≤ʳ of_whole (pos 1) → InBox 60 l h t
-any l h t el eh a b = go l h t.num (pos t.den) el eh a b
-  where
-    go : (l h n d : ℤ) → l ≡ pos 0 → h ≡ pos 192153584101141163 → (pos 0 *ℤ d) ≤ℤ (n *ℤ pos 1) → ((pos 6 *ℤ n) *ℤ pos 1) ≤ℤ (pos 1 *ℤ (pos 1 *ℤ d))
-        → ((l *ℤ d) ≤ℤ (n *ℤ pos 1152921504606846976)) × ((n *ℤ pos 1152921504606846976) ≤ℤ (h *ℤ d))
-    go l h n d el eh a b = rw (el, eh) (step n d a b)
-      where
-        step : (n d : ℤ) → (pos 0 *ℤ d) ≤ℤ (n *ℤ pos 1) → ((pos 6 *ℤ n) *ℤ pos 1) ≤ℤ (pos 1 *ℤ (pos 1 *ℤ d))
-            → ((pos 0 *ℤ d) ≤ℤ (n *ℤ pos 1152921504606846976)) × ((n *ℤ pos 1152921504606846976) ≤ℤ (pos 192153584101141163 *ℤ d))
-        step n d a b = (omega (arith, ints), omega (arith, ints))
-
-third : (c : goal.After-sight_after) (p seen : Place) (t : Rational) → HoldsVector c.args.sent.now.place p
-    → IsSeenPlace p (point_of c.args.point.now.x c.args.point.now.y c.args.point.now.z) t seen → Holds c.sight_after-third.result.travel t
-third c p seen t h s =
-    let q : Place = point_of c.args.point.now.x c.args.point.now.y c.args.point.now.z in
-    let sent = c.args.sent.now.away p.x p.y p.z h.0 h.1 h.2 in
-    let zero = any c.any_travel.result.lo c.any_travel.result.hi t c.any_travel.ensures.lo c.any_travel.ensures.hi (travel_nn p q seen t s)
-    (travel_most p q seen t sent (point_place c.args.point.now) s) in
-    let one = c.sight_after-first.ensures.time p seen t h zero s in
-    let two = c.sight_after-second.ensures.time p seen t h one s in
-    c.sight_after-third.ensures.time p seen t h two s
-
-pub returns-clause-place : goal.returns-clause-place
-returns-clause-place c = λ p seen t h s. c.sight_after.ensures.place p seen t h (third c p seen t h s) s
-
-pub returns-clause-range : goal.returns-clause-range
-returns-clause-range c = λ p seen t h s. c.sight_after.ensures.range p seen t h (third c p seen t h s) s
-
-pub returns-clause-time : goal.returns-clause-time
-returns-clause-time c = λ p seen t h s. c.sight_after.ensures.time p seen t h (third c p seen t h s) s
-
-width : (l h : ℤ) → l ≡ pos 0 → h ≡ pos 192153584101141163 → ((h -ℤ l) +ℤ pos (904 * 264813)) ≤ℤ (pos 904 *ℤ pos 212559274712979)
-width l h e f = omega (arith, ints)
-
--- the width of the last box of times
-last : (c : goal.After-sight_after) → ((c.sight_after-third.result.travel.hi -ℤ c.sight_after-third.result.travel.lo) +ℤ pos (904 * 264813)) ≤ℤ (pos 904 *ℤ pos 265112)
-last c =
-    let a = c.sight_after-first in
-    let b = c.sight_after-second in
-    let d = c.sight_after-third in
-    let one = first_time (a.result.range.hi -ℤ a.result.range.lo) (a.result.travel.hi -ℤ a.result.travel.lo) (a.ensures.range_width (pos 212559274712979)
-    (width c.any_travel.result.lo c.any_travel.result.hi c.any_travel.ensures.lo c.any_travel.ensures.hi)) a.ensures.time_width in
-    let two = second_time (b.result.range.hi -ℤ b.result.range.lo) (b.result.travel.hi -ℤ b.result.travel.lo) (b.ensures.range_width (pos 23027875089) one) b.ensures.time_width in
-    third_time (d.result.range.hi -ℤ d.result.range.lo) (d.result.travel.hi -ℤ d.result.travel.lo) (d.ensures.range_width (pos 2759538) two) d.ensures.time_width
-
-under : (a : ℤ) → a ≤ℤ pos 265112 → a ≤ℤ pos 524288
+under : (a : ℤ) → a ≤ℤ pos 265393 → a ≤ℤ pos 524288
 under a h = omega (arith, ints)
 
-pub returns-clause-narrow : goal.returns-clause-narrow
-returns-clause-narrow c = let w = c.sight_after.ensures.width (pos 265112) (last c) in (under _ w.0, under _ w.1, under _ w.2)
+least : (g x : ℤ) → x ≡ g → pos 4096 ≤ℤ g → pos 4096 ≤ℤ x
+least g x e h = omega (arith, ints)
 
-pub returns-clause-range_narrow : goal.returns-clause-range_narrow
-returns-clause-range_narrow c = let r = c.sight_after.result.range in last_range (r.hi -ℤ r.lo) (c.sight_after.ensures.range_width (pos 265112) (last c))
+most : (g x : ℤ) → x ≡ g → (g +ℤ pos 4096) ≤ℤ pos 192153584101141163 → (x +ℤ pos 4096) ≤ℤ pos 192153584101141163
+most g x e h = omega (arith, ints)
 
-pub returns-clause-time_narrow : goal.returns-clause-time_narrow
-returns-clause-time_narrow c =
+started : (g x : ℤ) → x ≡ g → pos 4096 ≤ℤ g → pos 0 ≤ℤ x
+started g x e h = omega (arith, ints)
+
+pub is_settled-requires-clause-low : goal.is_settled-requires-clause-low
+is_settled-requires-clause-low c =
+    let g = c.time_near-time in
+    started g.result (to_z w64 (of_z w64 g.result)) (to_z-of_z w64 g.result (record { sfits = g.type_inv })) g.ensures.low
+
+-- where the pass led near the time, the times around it are all
+all_near : (c : goal.Then-is_settled) (p seen : Place) (t : Rational) → HoldsVector c.args.sent.now.place p
+    → IsSeenPlace p (point_of c.args.point.now.x c.args.point.now.y c.args.point.now.z) t seen → Holds c.times_around.result t
+all_near c =
+    let g = c.time_near-time in
+    let e = to_z-of_z w64 g.result (record { sfits = g.type_inv }) in
+    let x : ℤ = to_z w64 (of_z w64 g.result) in
+    let b = c.times_around in
+    all_around c.args.sent.now c.args.point.now b.result c.sight_after-sight.result.travel x (least g.result x e g.ensures.low) (most g.result x e g.ensures.high)
+    b.ensures.lo b.ensures.hi c.sight_after-sight.ensures.light (c.is_settled.ensures.above c.if-is_settled.true) (c.is_settled.ensures.below c.if-is_settled.true)
+
+pub returns-then-is_settled-clause-place : goal.returns-then-is_settled-clause-place
+returns-then-is_settled-clause-place c = λ p seen t h s. c.sight_after-sight.ensures.place p seen t h (all_near c p seen t h s) s
+
+pub returns-then-is_settled-clause-range : goal.returns-then-is_settled-clause-range
+returns-then-is_settled-clause-range c = λ p seen t h s. c.sight_after-sight.ensures.range p seen t h (all_near c p seen t h s) s
+
+pub returns-then-is_settled-clause-time : goal.returns-then-is_settled-clause-time
+returns-then-is_settled-clause-time c = λ p seen t h s. c.sight_after-sight.ensures.time p seen t h (all_near c p seen t h s) s
+
+pub returns-then-is_settled-clause-narrow : goal.returns-then-is_settled-clause-narrow
+returns-then-is_settled-clause-narrow c =
+    let b = c.times_around in
+    let t = around_width b.result.lo b.result.hi (to_z w64 (of_z w64 c.time_near-time.result)) b.ensures.lo b.ensures.hi in
+    let w = c.sight_after-sight.ensures.width (pos 265393) (last_place (b.result.hi -ℤ b.result.lo) t) in
+    (under _ w.0, under _ w.1, under _ w.2)
+
+pub returns-then-is_settled-clause-range_narrow : goal.returns-then-is_settled-clause-range_narrow
+returns-then-is_settled-clause-range_narrow c =
+    let b = c.times_around in
+    let t = around_width b.result.lo b.result.hi (to_z w64 (of_z w64 c.time_near-time.result)) b.ensures.lo b.ensures.hi in
+    let r = c.sight_after-sight.result.range in
+    last_range (r.hi -ℤ r.lo) (c.sight_after-sight.ensures.range_width (pos 265393) (last_place (b.result.hi -ℤ b.result.lo) t))
+
+pub returns-then-is_settled-clause-time_narrow : goal.returns-then-is_settled-clause-time_narrow
+returns-then-is_settled-clause-time_narrow c =
+    let sight = c.sight_after-sight.result in
+    last_time (sight.range.hi -ℤ sight.range.lo) (sight.travel.hi -ℤ sight.travel.lo) (returns-then-is_settled-clause-range_narrow c) c.sight_after-sight.ensures.time_width
+
+pub returns-then-is_settled-clause-away : goal.returns-then-is_settled-clause-away
+returns-then-is_settled-clause-away c = c.sight_after-sight.ensures.away (returns-then-is_settled-clause-narrow c)
+
+pub returns-else-is_settled-clause-place : goal.returns-else-is_settled-clause-place
+returns-else-is_settled-clause-place c = λ p seen t h s. c.sight_after.ensures.place p seen t h (c.times_by_passes.ensures.holds p seen t h s) s
+
+pub returns-else-is_settled-clause-range : goal.returns-else-is_settled-clause-range
+returns-else-is_settled-clause-range c = λ p seen t h s. c.sight_after.ensures.range p seen t h (c.times_by_passes.ensures.holds p seen t h s) s
+
+pub returns-else-is_settled-clause-time : goal.returns-else-is_settled-clause-time
+returns-else-is_settled-clause-time c = λ p seen t h s. c.sight_after.ensures.time p seen t h (c.times_by_passes.ensures.holds p seen t h s) s
+
+pub returns-else-is_settled-clause-narrow : goal.returns-else-is_settled-clause-narrow
+returns-else-is_settled-clause-narrow c =
+    let b = c.times_by_passes in
+    let w = c.sight_after.ensures.width (pos 265393) (last_place (b.result.hi -ℤ b.result.lo) b.ensures.width) in
+    (under _ w.0, under _ w.1, under _ w.2)
+
+pub returns-else-is_settled-clause-range_narrow : goal.returns-else-is_settled-clause-range_narrow
+returns-else-is_settled-clause-range_narrow c =
+    let b = c.times_by_passes in
+    let r = c.sight_after.result.range in
+    last_range (r.hi -ℤ r.lo) (c.sight_after.ensures.range_width (pos 265393) (last_place (b.result.hi -ℤ b.result.lo) b.ensures.width))
+
+pub returns-else-is_settled-clause-time_narrow : goal.returns-else-is_settled-clause-time_narrow
+returns-else-is_settled-clause-time_narrow c =
     let sight = c.sight_after.result in
-    last_time (sight.range.hi -ℤ sight.range.lo) (sight.travel.hi -ℤ sight.travel.lo) (returns-clause-range_narrow c) c.sight_after.ensures.time_width
+    last_time (sight.range.hi -ℤ sight.range.lo) (sight.travel.hi -ℤ sight.travel.lo) (returns-else-is_settled-clause-range_narrow c) c.sight_after.ensures.time_width
 
-pub returns-clause-away : goal.returns-clause-away
-returns-clause-away c = c.sight_after.ensures.away (returns-clause-narrow c)
+pub returns-else-is_settled-clause-away : goal.returns-else-is_settled-clause-away
+returns-else-is_settled-clause-away c = c.sight_after.ensures.away (returns-else-is_settled-clause-narrow c)

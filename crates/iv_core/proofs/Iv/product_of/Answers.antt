@@ -1,0 +1,84 @@
+use Rattle.std.proofs.Common.{◌≡◌, ℕ, ◌+◌, ◌-◌, ◌^◌, ℤ, pos, ◌+ℤ◌, ◌-ℤ◌, ◌*ℤ◌, ◌≤ℤ◌, ◌<ℤ◌, arith, to_z, of_z, pow_pos, sym, subst₂}
+use Rattle.std.specs.Int.{w128}
+use Rattle.std.proofs.lemmas.Int.{ints, to_z-of_z}
+use Rattle.rational.specs.Rational.{Rational, InBox, mul_r}
+use Rattle.iv_core.specs.Boxes.{least_corner, most_corner}
+use Rattle.whole_math.specs.Rounding.{floor_div, ceil_div}
+use Rattle.whole_math.proofs.Rounding.{floor_le_ceil}
+use Rattle.iv_core.specs.Intervals.{IsWithin, width_of}
+use Rattle.iv_core.proofs.ProductLaws.{least_le_most, mul_holds}
+use Rattle.iv_core.proofs.Widths.{product_width}
+use Rattle.iv_core.proofs.Iv.product_of.Goals as goal
+
+pub overflow_cast-lo : goal.overflow_cast-lo
+overflow_cast-lo g c =
+    let a = c.args.self.now in
+    let b = c.args.other.now in
+    let s : ℕ = 2 ^ (g.row.K + g.row.A - g.row.B) in
+    let u : ℤ = floor_div (least_corner a.lo a.hi b.lo b.hi) s in
+    let v : ℤ = ceil_div (most_corner a.lo a.hi b.lo b.hi) s in
+    let lo : to_z w128 (of_z w128 c.floor_shift-lo.result) ≡ u = grind (arith, to_z-of_z) in
+    let o : u ≤ℤ v = floor_le_ceil (least_corner a.lo a.hi b.lo b.hi) (most_corner a.lo a.hi b.lo b.hi) s (pow_pos (g.row.K + g.row.A - g.row.B)) (least_le_most a.lo a.hi b.lo b.hi) in
+    omega (arith, ints, lo, o, c.requires.low, c.requires.high)
+
+pub overflow_cast-hi : goal.overflow_cast-hi
+overflow_cast-hi g c =
+    let a = c.args.self.now in
+    let b = c.args.other.now in
+    let s : ℕ = 2 ^ (g.row.K + g.row.A - g.row.B) in
+    let u : ℤ = floor_div (least_corner a.lo a.hi b.lo b.hi) s in
+    let v : ℤ = ceil_div (most_corner a.lo a.hi b.lo b.hi) s in
+    let hi : to_z w128 (of_z w128 c.ceil_shift-hi.result) ≡ v = grind (arith, to_z-of_z) in
+    let o : u ≤ℤ v = floor_le_ceil (least_corner a.lo a.hi b.lo b.hi) (most_corner a.lo a.hi b.lo b.hi) s (pow_pos (g.row.K + g.row.A - g.row.B)) (least_le_most a.lo a.hi b.lo b.hi) in
+    omega (arith, ints, hi, o, c.requires.low, c.requires.high)
+
+pub from_ends-requires : goal.from_ends-requires
+from_ends-requires g c =
+    let a = c.args.self.now in
+    let b = c.args.other.now in
+    let s : ℕ = 2 ^ (g.row.K + g.row.A - g.row.B) in
+    let u : ℤ = floor_div (least_corner a.lo a.hi b.lo b.hi) s in
+    let v : ℤ = ceil_div (most_corner a.lo a.hi b.lo b.hi) s in
+    let lo : to_z w128 (of_z w128 c.floor_shift-lo.result) ≡ u = grind (arith, to_z-of_z) in
+    let hi : to_z w128 (of_z w128 c.ceil_shift-hi.result) ≡ v = grind (arith, to_z-of_z) in
+    let o : u ≤ℤ v = floor_le_ceil (least_corner a.lo a.hi b.lo b.hi) (most_corner a.lo a.hi b.lo b.hi) s (pow_pos (g.row.K + g.row.A - g.row.B)) (least_le_most a.lo a.hi b.lo b.hi) in (
+      omega arith,
+      (c.requires.scale, (omega (arith, ints, lo, hi, o, c.requires.low, c.requires.high), (omega (arith, ints, lo, hi, o, c.requires.low, c.requires.high), omega (arith, ints, lo, hi, o, c.requires.low, c.requires.high)))),
+    )
+
+pub returns-clause-lo : goal.returns-clause-lo
+returns-clause-lo g c =
+    let a = c.args.self.now in
+    let b = c.args.other.now in
+    let s : ℕ = 2 ^ (g.row.K + g.row.A - g.row.B) in
+    let u : ℤ = floor_div (least_corner a.lo a.hi b.lo b.hi) s in
+    let v : ℤ = ceil_div (most_corner a.lo a.hi b.lo b.hi) s in
+    let lo : to_z w128 (of_z w128 c.floor_shift-lo.result) ≡ u = grind (arith, to_z-of_z) in
+    let o : u ≤ℤ v = floor_le_ceil (least_corner a.lo a.hi b.lo b.hi) (most_corner a.lo a.hi b.lo b.hi) s (pow_pos (g.row.K + g.row.A - g.row.B)) (least_le_most a.lo a.hi b.lo b.hi) in
+    omega (arith, ints, lo, o, c.requires.low, c.requires.high, c.from_ends.ensures.lo)
+
+pub returns-clause-hi : goal.returns-clause-hi
+returns-clause-hi g c =
+    let a = c.args.self.now in
+    let b = c.args.other.now in
+    let s : ℕ = 2 ^ (g.row.K + g.row.A - g.row.B) in
+    let u : ℤ = floor_div (least_corner a.lo a.hi b.lo b.hi) s in
+    let v : ℤ = ceil_div (most_corner a.lo a.hi b.lo b.hi) s in
+    let hi : to_z w128 (of_z w128 c.ceil_shift-hi.result) ≡ v = grind (arith, to_z-of_z) in
+    let o : u ≤ℤ v = floor_le_ceil (least_corner a.lo a.hi b.lo b.hi) (most_corner a.lo a.hi b.lo b.hi) s (pow_pos (g.row.K + g.row.A - g.row.B)) (least_le_most a.lo a.hi b.lo b.hi) in
+    omega (arith, ints, hi, o, c.requires.low, c.requires.high, c.from_ends.ensures.hi)
+
+pub returns-clause-holds : goal.returns-clause-holds
+returns-clause-holds g c =
+    let a = c.args.self.now in
+    let b = c.args.other.now in
+    subst₂ (λ l h. (x y : Rational) → InBox g.row.K a.lo a.hi x → InBox g.row.A b.lo b.hi y → InBox g.row.B l h (mul_r x y)) (sym (returns-clause-lo g c)) (sym (returns-clause-hi g c))
+    (mul_holds g.row.K g.row.A g.row.B a.lo a.hi b.lo b.hi c.requires.coarser)
+
+pub returns-clause-width : goal.returns-clause-width
+returns-clause-width g c =
+    let a = c.args.self.now in
+    let b = c.args.other.now in
+    let s : ℕ = 2 ^ (g.row.K + g.row.A - g.row.B) in
+    subst₂ (λ l h. (m n : ℕ) → IsWithin m a → IsWithin n b → (pos s *ℤ (h -ℤ l)) <ℤ (((pos m *ℤ width_of b) +ℤ (pos n *ℤ width_of a)) +ℤ (pos 2 *ℤ pos s))) (sym (returns-clause-lo g c)) (sym (returns-clause-hi g c))
+    (λ m n i j. product_width a.lo a.hi b.lo b.hi s m n (pow_pos (g.row.K + g.row.A - g.row.B)) a.ordered b.ordered i.0 i.1 j.0 j.1)

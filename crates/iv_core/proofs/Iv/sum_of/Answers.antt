@@ -1,0 +1,34 @@
+use Rattle.std.proofs.Common.{arith, sym, subst₂}
+use Rattle.std.proofs.lemmas.Int.{ints}
+use Rattle.rational.specs.Rational.{Rational, InBox, add_r}
+use Rattle.iv_core.proofs.SumLaws.{add_holds}
+use Rattle.iv_core.proofs.Iv.sum_of.Goals as goal
+
+pub returns-clause-lo : goal.returns-clause-lo
+returns-clause-lo g c =
+    let a = c.args.self.now in
+    let b = c.args.other.now in
+    let h₁ = a.low in let h₂ = a.high in let h₃ = a.ordered in let k₁ = b.low in let k₂ = b.high in let k₃ = b.ordered in
+    let l = c.requires.low in let h = c.requires.high in
+    omega (arith, ints, c.from_ends.ensures.lo)
+
+pub returns-clause-hi : goal.returns-clause-hi
+returns-clause-hi g c =
+    let a = c.args.self.now in
+    let b = c.args.other.now in
+    let h₁ = a.low in let h₂ = a.high in let h₃ = a.ordered in let k₁ = b.low in let k₂ = b.high in let k₃ = b.ordered in
+    let l = c.requires.low in let h = c.requires.high in
+    omega (arith, ints, c.from_ends.ensures.hi)
+
+pub returns-clause-holds : goal.returns-clause-holds
+returns-clause-holds g c =
+    let a = c.args.self.now in
+    let b = c.args.other.now in
+    subst₂ (λ l h. (x y : Rational) → InBox g.row.K a.lo a.hi x → InBox g.row.K b.lo b.hi y → InBox g.row.K l h (add_r x y)) (sym (returns-clause-lo g c)) (sym (returns-clause-hi g c))
+    (add_holds g.row.K a.lo a.hi b.lo b.hi)
+
+pub returns-clause-width : goal.returns-clause-width
+returns-clause-width g c =
+    let a = c.args.self.now in
+    let b = c.args.other.now in
+    omega (arith, ints, returns-clause-lo g c, returns-clause-hi g c)

@@ -1,0 +1,208 @@
+-- How little the time of light depends on the time in which the Earth turns, and what a pass says of every travel time by that.
+use Rattle.std.proofs.Common.{◌≡◌, ◌*◌, ◌^◌, [], ◌∷◌, ◌⊎◌, inl, inr, ℤ, pos, ◌+ℤ◌, ◌-ℤ◌, ◌*ℤ◌, ◌≤ℤ◌, ◌<ℤ◌, arith, refl, lit≤}
+use Rattle.std.proofs.lemmas.Int.{ints}
+use Rattle.whole_math.proofs.Ring.{◌⊕◌, ◌⊗◌}
+use Rattle.whole_math.proofs.Inequalities.{same_by, nat}
+use Rattle.whole_math.proofs.Order.{le_pos, lt_pos}
+use Rattle.rational.specs.Rational.{Rational, ◌≈◌, ◌≤ʳ◌, of_whole, of_scale, add_r, sub_r, mul_r, times, two_to_minus, AreWithin, InBox}
+use Rattle.rational.proofs.Boxes.{end_in}
+use Rattle.rational.proofs.Laws.{≈_sym, ≤ʳ_trans, ≤ʳ_total, ≤ʳ_from_same}
+use Rattle.iv_core.specs.declared.Iv.{Iv}
+use Rattle.iv_core.specs.Intervals.{Holds}
+use Rattle.trig_box.specs.AnglePairs.{Pair, IsAnglePair}
+use Rattle.trig_box.proofs.PairLaws.{sharp_law}
+use Rattle.orbit_model.specs.Elements.{earth_rate}
+use Rattle.orbit_model.specs.SeenPlaces.{Place, difference, square, turned_back, point_of, IsSeenPlace, over_light_speed_squared, range_of}
+use Rattle.orbit_model.proofs.Orders.{root_r}
+use Rattle.orbit_model.proofs.NearRoots.{range_root, near_high, near_low, root_nn}
+use Rattle.orbit_model.proofs.Apart.{IsBetween, turned_square, loosely, vector_square}
+use Rattle.orbit_model.proofs.Seen.{square_same, difference_same}
+use Rattle.orbit_model.proofs.Exists.{AreApart, AreTurns, moves_slowly, both_within}
+use Rattle.orbit_exists.proofs.Roots.{near_root_exists}
+use Rattle.signal_travel.specs.declared.places.Point.{Point}
+use Rattle.signal_travel.specs.declared.sent.SentBox.{SentBox}
+use Rattle.signal_travel.specs.SeenAfter.{IsSeenAfter}
+use Rattle.signal_travel.specs.VectorBoxes.{HoldsVector}
+use Rattle.signal_travel.proofs.Sights.{some_turn, point_place}
+use Rattle.signal_travel.proofs.SeenAfterCertificates.{rate_times, rate_enough, range_least, times_square, sum_least, times_apart, less_least, less_back, both_least, not_late, not_early}
+
+-- ---- the turns of two times
+rate_least : of_whole (pos 0) ≤ʳ earth_rate
+rate_least = le_pos 0 72921151467 (lit≤ tt)
+
+-- half of what the parts of the pairs of two times within d are apart at most
+half_move : Rational → Rational
+half_move d = add_r (mul_r earth_rate d) (two_to_minus 68)
+
+-- twice a sum with the slack of the law of pairs
+twice_sum : (e : Rational) → add_r (times 2 e) (two_to_minus 67) ≤ʳ times 2 (add_r e (two_to_minus 68))
+twice_sum e = ≤ʳ_from_same (add_r (times 2 e) (two_to_minus 67)) (times 2 (add_r e (two_to_minus 68)))
+    (same_by (e.num ∷ pos e.den ∷ []) (λ n d. (
+      (nat 2 ⊗ n ⊗ nat 147573952589676412928 ⊕ nat 1 ⊗ d) ⊗ (d ⊗ nat 295147905179352825856),
+      nat 2 ⊗ (n ⊗ nat 295147905179352825856 ⊕ nat 1 ⊗ d) ⊗ (d ⊗ nat 147573952589676412928),
+    )) refl)
+
+near_turns : (d a b : Rational) (p q : Pair) → AreWithin d a b → IsAnglePair 5 (mul_r earth_rate a) p.cos p.sin → IsAnglePair 5 (mul_r earth_rate b) q.cos q.sin → AreTurns (half_move d) p q
+unfolding half_move
+near_turns d a b p q w hp hq =
+    let e : Rational = mul_r earth_rate d in
+    let law = sharp_law 5 e (mul_r earth_rate a) (mul_r earth_rate b) p.cos p.sin q.cos q.sin (lit≤ tt) hp hq
+    (rate_times earth_rate d a b rate_least w.0, rate_times earth_rate d b a rate_least w.1) in
+    let cos = both_within (add_r e (two_to_minus 68)) p.cos q.cos (loosely_within e p.cos q.cos law.0) in
+    let sin = both_within (add_r e (two_to_minus 68)) p.sin q.sin (loosely_within e p.sin q.sin law.1) in
+    record { cos_up = cos.0; cos_down = cos.1; sin_up = sin.0; sin_down = sin.1 }
+  where
+    loosely_within : (e p q : Rational) → AreWithin (add_r (times 2 e) (two_to_minus 67)) p q → AreWithin (times 2 (add_r e (two_to_minus 68))) p q
+    loosely_within e p q h = (
+      ≤ʳ_trans (sub_r p q) (add_r (times 2 e) (two_to_minus 67)) (times 2 (add_r e (two_to_minus 68))) h.0 (twice_sum e),
+      ≤ʳ_trans (sub_r q p) (add_r (times 2 e) (two_to_minus 67)) (times 2 (add_r e (two_to_minus 68))) h.1 (twice_sum e),
+    )
+
+-- ---- the times of light after them
+-- the squared distance, with the Earth turned and at the seen place
+record IsGap (sent point : Place) (turn : Pair) (seen : Place) : Type 0 where
+  bounds : IsBetween 141000000000000 2040000000000000 (square (difference (turned_back turn sent) point))
+  same : square (difference seen point) ≈ square (difference (turned_back turn sent) point)
+
+gap : (sent point seen : Place) (a t : Rational) → AreApart sent point → (x : IsSeenAfter sent point a t seen) → IsGap sent point x.turn seen
+gap sent point seen a t h x =
+    let place : Place = turned_back x.turn sent in
+    record {
+      bounds = vector_square place point (loosely (square place) (turned_square sent (mul_r earth_rate a) x.turn h.is_sent x.turn_is)) h.is_receiver;
+      same = square_same (difference seen point) (difference place point) (difference_same seen place point x.seen_is);
+    }
+
+rate_most : mul_r (of_whole (pos 1000000000000000)) earth_rate ≤ʳ of_whole (pos 72921151467)
+rate_most = le_pos (1000000000000000 * 72921151467) (72921151467 * 1000000000000000) (lit≤ tt)
+
+-- 1000 |t - s| ≤ d + 2^-50 for times of light t and s after turns in times within d of each other
+pub closer : (sent point seen other : Place) (d a b t s : Rational) → AreApart sent point → of_whole (pos 0) ≤ʳ d → AreWithin d a b →
+    IsSeenAfter sent point a t seen → IsSeenAfter sent point b s other → mul_r (of_whole (pos 1000)) (sub_r t s) ≤ʳ add_r d (two_to_minus 50)
+unfolding half_move
+closer sent point seen other d a b t s h o w x y =
+    let u : Rational = half_move d in
+    let v : Rational = two_to_minus 50 in
+    let gx = gap sent point seen a t h x in
+    let gy = gap sent point other b s h y in
+    let ga : Rational = square (difference (turned_back x.turn sent) point) in
+    let gb : Rational = square (difference (turned_back y.turn sent) point) in
+    let qa : Rational = square (difference seen point) in
+    let qb : Rational = square (difference other point) in
+    let most : Rational = of_whole (pos 2040000000000000) in
+    let above : qa ≤ʳ ga = ≤ʳ_from_same qa ga gx.same in
+    let below : gb ≤ʳ qb = ≤ʳ_from_same gb qb (≈_sym qb gb gy.same) in
+    let range = range_root s qb y.travel_is in
+    let low = near_low (range_of s) qb range in
+    let far = root_r (of_whole (pos 11800000)) (range_of s) (root_nn (range_of s) qb range)
+    (range_least (range_of s) qb low (≤ʳ_trans (of_whole (pos 141000000000000)) gb qb gy.bounds.low below)) in
+    let nn = both_least d v o (le_pos 0 1 (lit≤ tt)) in
+    times_apart t s d v
+    (root_r (mul_r (of_whole (pos 1000)) (range_of t)) (add_r (mul_r (of_whole (pos 1000)) (range_of s)) (mul_r (of_whole (pos 299792458)) (add_r d v)))
+    (sum_least s d v far nn)
+    (times_square t s d v u ga gb qa qb (near_high (range_of t) qa (range_root t qa x.travel_is)) low
+    (moves_slowly sent point u (mul_r earth_rate b) (mul_r earth_rate a) y.turn x.turn h y.turn_is x.turn_is (near_turns d b a y.turn x.turn (w.1, w.0) y.turn_is x.turn_is))
+    (enough d o) above below (≤ʳ_trans qa ga most above gx.bounds.high)
+    (≤ʳ_trans qb gb most (≤ʳ_from_same qb gb gy.same) gy.bounds.high) far nn))
+  where
+    enough : (d : Rational) → of_whole (pos 0) ≤ʳ d → add_r (mul_r (of_whole (pos 1152921504606846976)) (mul_r (of_whole (pos 96672000000000000)) (half_move d))) (of_whole (pos 4080000000000000))
+        ≤ʳ mul_r (of_whole (pos 8157037253232621494131805388800)) (add_r d (two_to_minus 50))
+    enough d o = rate_enough d earth_rate (two_to_minus 68) (two_to_minus 50) o rate_most (le_pos (2 ^ 68) (2 ^ 68) (lit≤ tt)) (le_pos (2 ^ 50) (2 ^ 50) (lit≤ tt))
+
+-- ---- light comes from somewhere after each turn
+record HasLight (sent point : Place) (turned : Rational) : Type 0 where
+  seen : Place
+  travel : Rational
+  is_seen : IsSeenAfter sent point turned travel seen
+
+light_after : (sent point : Place) (l : ℤ) → AreApart sent point → pos 0 ≤ℤ l → l ≤ℤ pos 192153584101141163 → HasLight sent point (of_scale 60 l)
+light_after sent point l h l0 l1 =
+    let s = some_turn l l0 l1 in
+    let place : Place = turned_back s.turn sent in
+    let q : Rational = square (difference place point) in
+    let bounds = vector_square place point (loosely (square place) (turned_square sent (mul_r earth_rate (of_scale 60 l)) s.turn h.is_sent s.is_pair)) h.is_receiver in
+    let r = near_root_exists (over_light_speed_squared q) (positive q bounds.low) in
+    record { seen = place; travel = r.root; is_seen = record { turn = s.turn; turn_is = s.is_pair; seen_is = (refl, refl, refl); travel_is = r.is_root } }
+  where
+    positive : (q : Rational) → of_whole (pos 141000000000000) ≤ʳ q → pos 0 <ℤ q.num
+    positive q h = go q.num (pos q.den) (lt_pos 0 q.den q.positive) h
+      where
+        go : (n d : ℤ) → pos 0 <ℤ d → (pos 141000000000000 *ℤ d) ≤ℤ (n *ℤ pos 1) → pos 0 <ℤ n
+        go n d p h = omega (arith, ints)
+
+-- ---- a pass that leads near where it began
+is_after : (sent point seen : Place) (t : Rational) → IsSeenPlace sent point t seen → IsSeenAfter sent point t t seen
+is_after sent point seen t h = record { turn = h.turn; turn_is = h.turn_is; seen_is = h.seen_is; travel_is = h.travel_is }
+
+reach_enough : add_r (mul_r (of_whole (pos 1000)) (of_scale 60 (pos 4080))) (two_to_minus 50) ≤ʳ mul_r (of_whole (pos 999)) (of_scale 60 (pos 4096))
+reach_enough = omega (arith, ints)
+
+pub settled : (sent point seen : Place) (g lo hi l h : ℤ) (t : Rational) → AreApart sent point → pos 0 ≤ℤ g → g ≤ℤ pos 192153584101141163 →
+    l ≡ g -ℤ pos 4096 → h ≡ g +ℤ pos 4096 →
+    ((other : Place) (s : Rational) → IsSeenAfter sent point (of_scale 60 g) s other → InBox 60 lo hi s) →
+    (hi -ℤ g) ≤ℤ pos 4080 → (g -ℤ lo) ≤ℤ pos 4080 → IsSeenPlace sent point t seen → InBox 60 l h t
+settled sent point seen g lo hi l h t k g0 g1 el eh holds above below is =
+    let light = light_after sent point g k g0 g1 in
+    let s : Rational = light.travel in
+    let c : Rational = of_scale 60 g in
+    let a : Rational = of_scale 60 (pos 4080) in
+    let r : Rational = of_scale 60 (pos 4096) in
+    let v : Rational = two_to_minus 50 in
+    let b = holds light.seen s light.is_seen in
+    let x = is_after sent point seen t is in
+    go (≤ʳ_total c t)
+    (λ o. not_late t s c a r v
+    (closer sent point seen light.seen (sub_r t c) t c t s k (less_least t c o) (≤ʳ_from_same (sub_r t c) (sub_r t c) refl, less_back t c o) x light.is_seen)
+    (≤ʳ_trans s (of_scale 60 hi) (add_r c a) b.1 (up hi g above)) reach_enough)
+    (λ o. not_early t s c a r v
+    (closer sent point light.seen seen (sub_r c t) c t s t k (less_least c t o) (≤ʳ_from_same (sub_r c t) (sub_r c t) refl, less_back c t o) light.is_seen x)
+    (≤ʳ_trans (sub_r c a) (of_scale 60 lo) s (down lo g below) b.0) reach_enough)
+  where
+    up : (hi g : ℤ) → (hi -ℤ g) ≤ℤ pos 4080 → of_scale 60 hi ≤ʳ add_r (of_scale 60 g) (of_scale 60 (pos 4080))
+    up hi g h = omega (arith, ints)
+
+    down : (lo g : ℤ) → (g -ℤ lo) ≤ℤ pos 4080 → sub_r (of_scale 60 g) (of_scale 60 (pos 4080)) ≤ʳ of_scale 60 lo
+    down lo g h = omega (arith, ints)
+
+    high : (g h : ℤ) → h ≡ g +ℤ pos 4096 → add_r (of_scale 60 g) (of_scale 60 (pos 4096)) ≤ʳ of_scale 60 h
+    high g h e = omega (arith, ints)
+
+    low : (g l : ℤ) → l ≡ g -ℤ pos 4096 → of_scale 60 l ≤ʳ sub_r (of_scale 60 g) (of_scale 60 (pos 4096))
+    low g l e = omega (arith, ints)
+
+    least : (g l : ℤ) → l ≡ g -ℤ pos 4096 → of_scale 60 l ≤ʳ of_scale 60 g
+    least g l e = omega (arith, ints)
+
+    most : (g h : ℤ) → h ≡ g +ℤ pos 4096 → of_scale 60 g ≤ʳ of_scale 60 h
+    most g h e = omega (arith, ints)
+
+    go : (of_scale 60 g ≤ʳ t) ⊎ (t ≤ʳ of_scale 60 g) → (of_scale 60 g ≤ʳ t → t ≤ʳ add_r (of_scale 60 g) (of_scale 60 (pos 4096)))
+        → (t ≤ʳ of_scale 60 g → sub_r (of_scale 60 g) (of_scale 60 (pos 4096)) ≤ʳ t) → InBox 60 l h t
+    go (inl o) late early = (≤ʳ_trans (of_scale 60 l) (of_scale 60 g) t (least g l el) o, ≤ʳ_trans t (add_r (of_scale 60 g) (of_scale 60 (pos 4096))) (of_scale 60 h) (late o) (high g h eh))
+    go (inr o) late early = (≤ʳ_trans (of_scale 60 l) (sub_r (of_scale 60 g) (of_scale 60 (pos 4096))) t (low g l el) (early o), ≤ʳ_trans t (of_scale 60 g) (of_scale 60 h) o (most g h eh))
+
+-- ---- in the code's terms: a pass from the times around x leads near x, so that the times around it are all
+pub all_around : (sent : SentBox) (point : Point) (box travel : Iv 60) (x : ℤ) → pos 4096 ≤ℤ x → (x +ℤ pos 4096) ≤ℤ pos 192153584101141163 →
+    box.lo ≡ x -ℤ pos 4096 → box.hi ≡ x +ℤ pos 4096 →
+    ((p seen : Place) (u t : Rational) → HoldsVector sent.place p → Holds box u → IsSeenAfter p (point_of point.x point.y point.z) u t seen → Holds travel t) →
+    (travel.hi -ℤ x) ≤ℤ pos 4080 → (x -ℤ travel.lo) ≤ℤ pos 4080 →
+    (p seen : Place) (t : Rational) → HoldsVector sent.place p → IsSeenPlace p (point_of point.x point.y point.z) t seen → Holds box t
+all_around sent point box travel x low high el eh light above below p seen t h s =
+    let q : Place = point_of point.x point.y point.z in
+    settled p q seen x travel.lo travel.hi box.lo box.hi t (record { is_sent = sent.away p.x p.y p.z h.0 h.1 h.2; is_receiver = point_place point })
+    (least x low) (most x high) el eh
+    (λ other u r. light p other (of_scale 60 x) u h (end_in 60 box.lo box.hi x (first box.lo x el) (last box.hi x eh)) r) above below s
+  where
+    least : (x : ℤ) → pos 4096 ≤ℤ x → pos 0 ≤ℤ x
+    least x h = omega (arith, ints)
+
+    most : (x : ℤ) → (x +ℤ pos 4096) ≤ℤ pos 192153584101141163 → x ≤ℤ pos 192153584101141163
+    most x h = omega (arith, ints)
+
+    first : (l x : ℤ) → l ≡ x -ℤ pos 4096 → l ≤ℤ x
+    first l x e = omega (arith, ints)
+
+    last : (h x : ℤ) → h ≡ x +ℤ pos 4096 → x ≤ℤ h
+    last h x e = omega (arith, ints)
+
+pub around_width : (l h x : ℤ) → l ≡ x -ℤ pos 4096 → h ≡ x +ℤ pos 4096 → (h -ℤ l) ≤ℤ pos (2 ^ 19)
+around_width l h x el eh = omega (arith, ints)

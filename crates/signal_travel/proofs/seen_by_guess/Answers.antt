@@ -1,0 +1,35 @@
+use Rattle.std.proofs.Common.{◌≡◌, ◌^◌, [], ◌∷◌, ℤ, pos, sym, subst}
+use Rattle.rational.specs.Rational.{Rational}
+use Rattle.orbit_model.specs.SeenPlaces.{Place, point_of, IsSeenPlace}
+use Rattle.signal_travel.proofs.Handed.{same_point, held, all_narrow, all_between}
+use Rattle.signal_travel.proofs.seen_by_guess.Goals as goal
+
+seen_there : (c : goal.After-result-6-1) (x y z : ℤ) (sent seen : Place) (t : Rational) → c.args.point.now ≡ x ∷ y ∷ z ∷ []
+    → IsSeenPlace sent (point_of x y z) t seen → IsSeenPlace sent (point_of c.point_at.result.x c.point_at.result.y c.point_at.result.z) t seen
+seen_there c x y z sent seen t e s = subst (λ (p : Place). IsSeenPlace sent p t seen)
+    (sym (same_point c.args.point.now x y z c.point_at.result.x c.point_at.result.y c.point_at.result.z e c.point_at.ensures)) s
+
+pub returns-clause-place : goal.returns-clause-place
+returns-clause-place c = λ x y z sent seen t e h s.
+    let k = c.sight_of-sight.ensures.place sent seen t (held c.args.sv.now.place c.sent_box.result.place sent c.sent_box.ensures h) (seen_there c x y z sent seen t e s) in
+    (k.0, (k.1, (k.2, tt)))
+
+pub returns-clause-range : goal.returns-clause-range
+returns-clause-range c = λ x y z sent seen t e h s.
+    c.sight_of-sight.ensures.range sent seen t (held c.args.sv.now.place c.sent_box.result.place sent c.sent_box.ensures h) (seen_there c x y z sent seen t e s)
+
+pub returns-clause-time : goal.returns-clause-time
+returns-clause-time c = λ x y z sent seen t e h s.
+    c.sight_of-sight.ensures.time sent seen t (held c.args.sv.now.place c.sent_box.result.place sent c.sent_box.ensures h) (seen_there c x y z sent seen t e s)
+
+pub invariant_of-result : goal.invariant_of-result
+invariant_of-result c =
+    let s = c.sight_of-sight in
+    let p = s.result.place in
+    record {
+      narrow = all_narrow p.x p.y p.z (pos (2 ^ 19)) s.ensures.narrow;
+      away = λ x y z e. all_between 18900000 38100000 p.x p.y p.z x y z e s.ensures.away;
+      range_narrow = s.ensures.range_narrow;
+      range_far = s.ensures.far;
+      travel_narrow = s.ensures.time_narrow;
+    }

@@ -1,0 +1,100 @@
+//! About how long a signal travels. Nothing is claimed of it, so its sums may wrap: it is only where the passes begin.
+ghost use Rattle.std.specs.Prelude.{◌^◌, pos, ◌≤ℤ◌};
+
+use crate::places::Point;
+use crate::sent::SentBox;
+use crate::vectors::units_of;
+use iv_core::Iv;
+
+// The Earth's rate over the speed of light in rad/m, at 2^-102
+const RATE_OVER_SPEED: i64 = 1_233_367_137_294_376_911;
+
+// 2^90 over the speed of light
+const PER_SPEED: i64 = 4_129_323_491_137_926_742;
+
+// A place in 2^-26 m
+#[derive(Clone, Copy)]
+struct Rough {
+    x: i64,
+    y: i64,
+    z: i64,
+}
+
+// About the middle of the box
+fn middle_of(x: &Iv<36>) -> i64 {
+    (x.lo >> 11) + (x.hi >> 11)
+}
+
+fn rough_place(sent: &SentBox) -> Rough {
+    Rough {
+        x: middle_of(&sent.place.x),
+        y: middle_of(&sent.place.y),
+        z: middle_of(&sent.place.z),
+    }
+}
+
+fn rough_point(point: &Point) -> Rough {
+    Rough {
+        x: units_of(point.x) >> 10,
+        y: units_of(point.y) >> 10,
+        z: units_of(point.z) >> 10,
+    }
+}
+
+fn product(a: i64, b: i64) -> i128 {
+    (a as i128).wrapping_mul(b as i128)
+}
+
+// x · y + z · u
+fn sum_of_products(x: i64, y: i64, z: i64, u: i64) -> i128 {
+    product(x, y).wrapping_add(product(z, u))
+}
+
+// |a − b|² in 2^-52 m²
+fn squared_distance(a: &Rough, b: &Rough) -> i128 {
+    let x = a.x.wrapping_sub(b.x);
+    let y = a.y.wrapping_sub(b.y);
+    let z = a.z.wrapping_sub(b.z);
+    sum_of_products(x, x, y, y).wrapping_add(product(z, z))
+}
+
+// An area in 2^-52 m² times the Earth's rate over the speed of light, in 2^-26 m
+fn over_turn(area: i128) -> i128 {
+    (area >> 38).wrapping_mul(RATE_OVER_SPEED as i128) >> 90
+}
+
+// The number, or 0 where it is negative or greater than an end of a box may be
+fn narrowed(x: i128) -> i64
+    ensures low { pos 0 ≤ℤ result }
+    ensures high { result ≤ℤ pos (2 ^ 62) }
+{
+    if x < 0 || x > 1 << 62 { 0 } else { x as i64 }
+}
+
+// The root of a square in 2^-9 m², in 2^-26 m
+fn root_of(square: i64) -> i64
+    requires low { pos 0 ≤ℤ square }
+    requires high { square ≤ℤ pos (2 ^ 62) }
+{
+    Iv::<9>::from_ends(square, square).root_to::<34>().lo >> 8
+}
+
+// The range in 2^-26 m with the Earth's turn in it to the second order: with a = ω (y p − x q) / c and b = ω (x p + y q) / c it is
+// √(D² + a² + ω D² b / c) − a, where D is the distance without a turn.
+fn range_between(a: &Rough, b: &Rough) -> i128 {
+    let square = squared_distance(a, b);
+    let across = over_turn(product(a.y, b.x).wrapping_sub(product(a.x, b.y)));
+    let along = over_turn(sum_of_products(a.x, b.x, a.y, b.y));
+    let share = along.wrapping_mul(RATE_OVER_SPEED as i128) >> 66;
+    let growth = (square >> 52).wrapping_mul(share) >> 10;
+    let whole = square
+        .wrapping_add(across.wrapping_mul(across))
+        .wrapping_add(growth);
+    (root_of(narrowed(whole >> 43)) as i128).wrapping_sub(across)
+}
+
+/// About the travel time in 2^-60 s.
+pub fn travel_guess(sent: &SentBox, point: &Point) -> i64 {
+    let range = range_between(&rough_place(sent), &rough_point(point));
+    narrowed(range.wrapping_mul(PER_SPEED as i128) >> 56)
+}
