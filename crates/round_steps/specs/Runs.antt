@@ -197,3 +197,13 @@ pub record SettlesAt (rules : Rules) (made : ℕ) (point : List ℤ) : Type 0 wh
 abbrev pub IsCoarseEnd : Rules → CoarseEnd → Type 0
 IsCoarseEnd rules (CoarseEnd.Settled made point) = SettlesAt rules made point
 IsCoarseEnd rules (CoarseEnd.Declined made tail) = EndsEarly rules (coarse_alone made) Coarse tail
+
+-- how many sessions the coarse rounds made that end so, one for each
+abbrev pub coarse_sessions : CoarseEnd → ℕ
+coarse_sessions (CoarseEnd.Settled made point) = made
+coarse_sessions (CoarseEnd.Declined made tail) = made
+
+-- how many sessions a run made that ends so, one for each of its rounds
+abbrev pub sessions_of : End → ℕ
+sessions_of (End.Early made stage tail) = made.coarse + made.fine
+sessions_of (End.Full made s tail) = made.coarse + made.fine

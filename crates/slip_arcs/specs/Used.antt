@@ -6,6 +6,7 @@ use Rattle.obs_rows.specs.Data.{number_at}
 use Rattle.obs_rows.specs.declared.used.UsedSat.{UsedSat}
 use Rattle.obs_rows.specs.declared.used.UsedPair.{UsedPair}
 use Rattle.obs_rows.specs.BandSets.{phase_of}
+use Rattle.slip_arcs.specs.declared.phase.TheConstants.{KAPPA}
 
 -- the satellites that pair i uses
 abbrev pub sats_at : List UsedPair → ℕ → List UsedSat
@@ -43,9 +44,9 @@ growth b before now = wavelength (phase_of b) *ℤ change b before now
 abbrev pub jump_of : ℕ → ℕ → UsedSat → UsedSat → ℕ
 jump_of b c before now = unsigned_abs (growth b before now -ℤ growth c before now)
 
--- one κ, 23 ι, in thousandths of ι
+-- one κ in thousandths of ι
 abbrev pub kappa : ℕ
-kappa = 23000
+kappa = KAPPA
 
 -- the phase on one of these bands jumps against that on L1 by more than so many κ. L1's own never does
 abbrev pub does_jump : ℕ → List ℕ → UsedSat → UsedSat → Bool

@@ -5,10 +5,12 @@
 //! their lengths, so that its text is no other's (`whole`). `is_track_fixed` says exactly whether a track is a fix.
 #![tactic(auto)]
 
+mod laws;
 mod lost;
 mod outcomes;
 mod places;
 mod texts;
 
+pub use laws::lost_words_law;
 pub use outcomes::{TrackAnswer, TrackOutcome};
 pub use texts::{is_track_fixed, write_track_outcome};
