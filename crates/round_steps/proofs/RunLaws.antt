@@ -55,10 +55,6 @@ plus_zero a b same = omega arith
 pub session_at : (rules : Rules) (r : Round) (o : Option Session) (s : Session) → o ≡ Some s → IsSessionAt rules r o → IsSessionOf rules r s
 session_at rules r o s found at = subst (IsSessionAt rules r) found at
 
--- no session changes what the run keeps to
-pub same_session : (now rules : Rules) → now ≡ rules → (r : Round) (o : Option Session) → IsSessionAt now r o → IsSessionAt rules r o
-same_session now rules same r o at = subst (λ (q : Rules). IsSessionAt q r o) same at
-
 scale_is : (rules : Rules) (r : Round) (s : Session) → IsSessionOf rules r s → s.scale ≡ r.scale
 scale_is rules r s session_is = ap (λ (q : Round). q.scale) session_is.round_is
 

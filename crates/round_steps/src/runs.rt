@@ -7,7 +7,7 @@ ghost use Rattle.obs_rows.specs.Unused.{HasUsedShifts};
 ghost use Rattle.obs_rows.specs.declared.units.TheConstants.{COARSE_SCALE, MOST_FREE_ARCS};
 ghost use Rattle.obs_rows.specs.ReceiverPoints.{IsReceiverPoint};
 ghost use Rattle.round_steps.specs.Shifts.{AreSameArcs, AreShiftsBelow};
-ghost use Rattle.round_steps.specs.Runs.{Rules, IsSessionAt, SettlesAt, IsCoarseEnd, IsEnd, FitsEnd, IsBestEnd, round_at, most_rounds, coarse_sessions, sessions_of};
+ghost use Rattle.round_steps.specs.Runs.{Rules, StayTheSame, IsSessionAt, SettlesAt, IsCoarseEnd, IsEnd, FitsEnd, IsBestEnd, round_at, most_rounds, coarse_sessions, sessions_of};
 
 use crate::{Step, grown, round_step};
 use cert_data::{RoundCounts, Stage, Tail};
@@ -43,7 +43,7 @@ pub trait Rounds {
         requires shifts { AreShiftsBelow (2 ^ 40) arcs.now }
         requires used { All (HasUsedShifts (fine_signals (rules self.old).signals)) arcs.now }
         ensures session { IfOk result (IsSessionAt (rules self.old) (round_at scale point.now arcs.now)) }
-        ensures rules { rules self.new ≡ rules self.old }
+        ensures rules { StayTheSame (rules self.old) (rules self.new) }
         ensures ready { ready self.new }
         ensures made { made self.new ≡ made self.old + 1 };
 
@@ -106,7 +106,7 @@ pub fn coarse_rounds<R: Rounds>(
     requires shifts { AreShiftsBelow (2 ^ 40) arcs.now }
     requires used { All (HasUsedShifts (fine_signals (R.rules rounds.old).signals)) arcs.now }
     ensures end { IfOk result (IsCoarseEnd (R.rules rounds.old)) }
-    ensures rules { R.rules rounds.new ≡ R.rules rounds.old }
+    ensures rules { StayTheSame (R.rules rounds.old) (R.rules rounds.new) }
     ensures ready { R.ready rounds.new }
     ensures made { IfOk result (λ end. R.made rounds.new ≡ coarse_sessions end) }
 {

@@ -1,14 +1,14 @@
-//! The words of the causes for which a pair is lost.
+//! The words of the causes for which a pair is lost, in the lines `lost N WORD` of the summary.
 ghost use Rattle.std.specs.Prelude.{◌≡◌, codes};
 ghost use Rattle.track_data.specs.declared.lost.LostCause.TheVariants.{Rows, Coarse, Unsettled, Y, Weak, Wide};
-ghost use Rattle.track_report.specs.TrackTexts.{lost_line};
+ghost use Rattle.track_report.specs.TrackTexts.{cause_word};
 
-/// The line of pair 7 for each cause, as the format of the summary has it.
+/// Each cause has its own word.
 pub fn lost_words_law()
-    ensures rows { lost_line (record { pair = 7; cause = Rows }) ≡ codes "lost 7 rows\n" }
-    ensures coarse { lost_line (record { pair = 7; cause = Coarse }) ≡ codes "lost 7 coarse\n" }
-    ensures unsettled { lost_line (record { pair = 7; cause = Unsettled }) ≡ codes "lost 7 unsettled\n" }
-    ensures y { lost_line (record { pair = 7; cause = Y }) ≡ codes "lost 7 y\n" }
-    ensures weak { lost_line (record { pair = 7; cause = Weak }) ≡ codes "lost 7 weak\n" }
-    ensures wide { lost_line (record { pair = 7; cause = Wide }) ≡ codes "lost 7 wide\n" }
+    ensures rows { cause_word Rows ≡ codes "rows" }
+    ensures coarse { cause_word Coarse ≡ codes "coarse" }
+    ensures unsettled { cause_word Unsettled ≡ codes "unsettled" }
+    ensures y { cause_word Y ≡ codes "y" }
+    ensures weak { cause_word Weak ≡ codes "weak" }
+    ensures wide { cause_word Wide ≡ codes "wide" }
 {}
