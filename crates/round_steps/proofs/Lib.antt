@@ -2,3 +2,4 @@ pub mod StepLaws
 pub mod ShiftLaws
 pub mod RunLaws
 pub mod UsedShifts
+pub mod SameRules

@@ -1,6 +1,6 @@
 -- Runs of rounds, from the first coarse round to the end. What a session has to stand for is given by the files; here it
 -- is a part of the rules.
-use Rattle.std.specs.Prelude.{◌≡◌, ℕ, Option, Some, None, ◌+◌, ◌≤◌, ◌⊎◌, ◌==◌, Bool, if◌then◌else◌, List, [], ◌∷◌, count_by, ℤ}
+use Rattle.std.specs.Prelude.{◌≡◌, ℕ, Option, Some, None, ◌+◌, ◌≤◌, ◌⊎◌, ◌↔◌, ◌==◌, Bool, if◌then◌else◌, List, [], ◌∷◌, count_by, ℤ}
 use Rattle.obs_rows.specs.declared.arcs.Arc.{Arc}
 use Rattle.obs_rows.specs.declared.bands.Signals.{Signals}
 use Rattle.obs_rows.specs.declared.sessions.Session.{Session}
@@ -35,6 +35,15 @@ pub record Rules : Type 1 where
   pub stands : Session → Type 0
   pub begins : List ℤ → List Arc → Type 0
   pub may_be_wide : Round → Type 0
+
+-- what a run keeps to, before and after one of its sessions was made
+pub record StayTheSame (old new : Rules) : Type 0 where
+  pub base : new.base ≡ old.base
+  pub arcs : new.arcs ≡ old.arcs
+  pub signals : new.signals ≡ old.signals
+  pub stands : (s : Session) → new.stands s ↔ old.stands s
+  pub begins : (point : List ℤ) (arcs : List Arc) → new.begins point arcs ↔ old.begins point arcs
+  pub may_be_wide : (r : Round) → new.may_be_wide r ↔ old.may_be_wide r
 
 abbrev pub round_of : Session → Round
 round_of s = record { scale = s.scale; point = s.point; arcs = s.arcs }
@@ -197,3 +206,13 @@ pub record SettlesAt (rules : Rules) (made : ℕ) (point : List ℤ) : Type 0 wh
 abbrev pub IsCoarseEnd : Rules → CoarseEnd → Type 0
 IsCoarseEnd rules (CoarseEnd.Settled made point) = SettlesAt rules made point
 IsCoarseEnd rules (CoarseEnd.Declined made tail) = EndsEarly rules (coarse_alone made) Coarse tail
+
+-- how many sessions the coarse rounds made that end so, one for each
+abbrev pub coarse_sessions : CoarseEnd → ℕ
+coarse_sessions (CoarseEnd.Settled made point) = made
+coarse_sessions (CoarseEnd.Declined made tail) = made
+
+-- how many sessions a run made that ends so, one for each of its rounds
+abbrev pub sessions_of : End → ℕ
+sessions_of (End.Early made stage tail) = made.coarse + made.fine
+sessions_of (End.Full made s tail) = made.coarse + made.fine

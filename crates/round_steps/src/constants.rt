@@ -5,6 +5,7 @@ ghost use Rattle.obs_rows.specs.declared.units.TheConstants.{UNIT_FREQUENCY, MOV
 ghost use Rattle.round_steps.specs.Limits.{limit};
 ghost use Rattle.cert_data.specs.Moves.{parts};
 ghost use Rattle.round_steps.specs.Points.{moved_coordinate};
+ghost use Rattle.round_steps.specs.Runs.{most_rounds};
 
 /// This project's limits of a settled round, and the unit in which a point moves.
 pub fn limits_law()
@@ -20,4 +21,7 @@ pub fn limits_law()
     ensures a_millimetre { (p : ℤ) → moved_coordinate 0 p (pos 232) ≡ p +ℤ pos 10 }
     ensures a_coarse_unit { (p : ℤ) → moved_coordinate COARSE_SCALE p (pos 1) ≡ p +ℤ pos 706 }
     ensures parts { parts * 10 ^ 4 ≡ 2_174_079_600_000 * 2 ^ 5 }
+    // at most ten rounds are coarse, and at most six fine
+    ensures coarse_rounds { most_rounds COARSE_SCALE ≡ 10 }
+    ensures fine_rounds { most_rounds 0 ≡ 6 }
 {}

@@ -1,13 +1,13 @@
 //! The rounds of a run.
-ghost use Rattle.std.specs.Prelude.{◌≡◌, ◌^◌, ◌≤◌, length, All, IfOk};
+ghost use Rattle.std.specs.Prelude.{◌≡◌, ◌+◌, ◌^◌, ◌<◌, ◌≤◌, ℕ, length, All, IfOk};
 ghost use Rattle.obs_rows.specs.Arcs.{free_count};
 ghost use Rattle.obs_rows.specs.Ranges.{IsScale};
 ghost use Rattle.obs_rows.specs.Signals.{fine_signals};
 ghost use Rattle.obs_rows.specs.Unused.{HasUsedShifts};
-ghost use Rattle.obs_rows.specs.declared.units.TheConstants.{MOST_FREE_ARCS};
+ghost use Rattle.obs_rows.specs.declared.units.TheConstants.{COARSE_SCALE, MOST_FREE_ARCS};
 ghost use Rattle.obs_rows.specs.ReceiverPoints.{IsReceiverPoint};
 ghost use Rattle.round_steps.specs.Shifts.{AreSameArcs, AreShiftsBelow};
-ghost use Rattle.round_steps.specs.Runs.{Rules, IsSessionAt, SettlesAt, IsCoarseEnd, IsEnd, FitsEnd, IsBestEnd, round_at};
+ghost use Rattle.round_steps.specs.Runs.{Rules, StayTheSame, IsSessionAt, SettlesAt, IsCoarseEnd, IsEnd, FitsEnd, IsBestEnd, round_at, most_rounds, coarse_sessions, sessions_of};
 
 use crate::{Step, grown, round_step};
 use cert_data::{RoundCounts, Stage, Tail};
@@ -16,7 +16,7 @@ use obs_rows::{Arc, COARSE_SCALE, Session, fine_signals};
 use settled_decision::decide_settled;
 use std::alloc::{AllocError, Global};
 
-/// What gives a run its sessions.
+/// What gives a run its sessions, and counts them.
 pub trait Rounds {
     /// What the run keeps to: its sessions stand for these files and options.
     ghost rules: { Self → Rules };
@@ -24,21 +24,28 @@ pub trait Rounds {
     /// What its calls rest on.
     ghost ready: { Self → Type 0 };
 
+    /// How many sessions were asked for. No run needs more than sixteen.
+    ghost made: { Self → ℕ };
+
     /// The session of the round at this point with these arcs, or `None` where a centre of y may be out of range.
     fn session(
-        &self,
+        &mut self,
         alloc: Global,
         arcs: &[Arc],
         point: &[i64; 3],
         scale: u32,
     ) -> Result<Option<Session>, AllocError>
-        requires ready { ready self.now }
+        requires ready { ready self.old }
+        requires few { made self.old < most_rounds COARSE_SCALE + most_rounds 0 }
         requires scale { IsScale scale }
         requires point { IsReceiverPoint point.now }
-        requires arcs { AreSameArcs (rules self.now).arcs arcs.now }
+        requires arcs { AreSameArcs (rules self.old).arcs arcs.now }
         requires shifts { AreShiftsBelow (2 ^ 40) arcs.now }
-        requires used { All (HasUsedShifts (fine_signals (rules self.now).signals)) arcs.now }
-        ensures { IfOk result (IsSessionAt (rules self.now) (round_at scale point.now arcs.now)) };
+        requires used { All (HasUsedShifts (fine_signals (rules self.old).signals)) arcs.now }
+        ensures session { IfOk result (IsSessionAt (rules self.old) (round_at scale point.now arcs.now)) }
+        ensures rules { StayTheSame (rules self.old) (rules self.new) }
+        ensures ready { ready self.new }
+        ensures made { made self.new ≡ made self.old + 1 };
 
     /// The arcs with shifts that the first fine round may have at this point.
     fn first_shifts(&self, alloc: Global, point: &[i64; 3]) -> Result<Vec<Arc>, AllocError>
@@ -84,20 +91,24 @@ const FINE_ROUNDS: u32 = 6;
 /// No session, since a centre of y may be out of range.
 const AT_Y: Tail = Tail::Overwidth { place: Place::Y };
 
-/// The coarse rounds, of which the first is at the base.
+/// The coarse rounds, of which the first is at the base. One session is made for each.
 pub fn coarse_rounds<R: Rounds>(
     alloc: Global,
-    rounds: &R,
+    rounds: &mut R,
     arcs: &[Arc],
     base: &[i64; 3],
 ) -> Result<CoarseEnd, AllocError>
-    requires ready { R.ready rounds.now }
-    requires base { base.now ≡ (R.rules rounds.now).base }
-    requires arcs { arcs.now ≡ (R.rules rounds.now).arcs }
+    requires ready { R.ready rounds.old }
+    requires fresh { R.made rounds.old ≡ 0 }
+    requires base { base.now ≡ (R.rules rounds.old).base }
+    requires arcs { arcs.now ≡ (R.rules rounds.old).arcs }
     requires point { IsReceiverPoint base.now }
     requires shifts { AreShiftsBelow (2 ^ 40) arcs.now }
-    requires used { All (HasUsedShifts (fine_signals (R.rules rounds.now).signals)) arcs.now }
-    ensures { IfOk result (IsCoarseEnd (R.rules rounds.now)) }
+    requires used { All (HasUsedShifts (fine_signals (R.rules rounds.old).signals)) arcs.now }
+    ensures end { IfOk result (IsCoarseEnd (R.rules rounds.old)) }
+    ensures rules { StayTheSame (R.rules rounds.old) (R.rules rounds.new) }
+    ensures ready { R.ready rounds.new }
+    ensures made { IfOk result (λ end. R.made rounds.new ≡ coarse_sessions end) }
 {
     let mut point = *base;
     let mut made = 1;
@@ -119,19 +130,21 @@ pub fn coarse_rounds<R: Rounds>(
 /// The fine rounds, after so many coarse ones that settled at this point.
 fn fine_rounds<R: Rounds>(
     alloc: Global,
-    rounds: &R,
+    rounds: &mut R,
     coarse: u32,
     first: &[i64; 3],
     ratio: u32,
     budget: u64,
 ) -> Result<End, AllocError>
-    requires ready { R.ready rounds.now }
-    requires first { SettlesAt (R.rules rounds.now) coarse first.now }
-    requires few { length (R.rules rounds.now).arcs ≤ 200 }
-    requires free { free_count (R.rules rounds.now).arcs ≤ MOST_FREE_ARCS }
+    requires ready { R.ready rounds.old }
+    requires made { R.made rounds.old ≡ coarse }
+    requires first { SettlesAt (R.rules rounds.old) coarse first.now }
+    requires few { length (R.rules rounds.old).arcs ≤ 200 }
+    requires free { free_count (R.rules rounds.old).arcs ≤ MOST_FREE_ARCS }
     requires ratio_from { 1000 ≤ ratio }
     requires ratio_to { ratio ≤ 100_000 }
-    ensures end { IfOk result (IsEnd (R.rules rounds.now) ratio budget) }
+    ensures end { IfOk result (IsEnd (R.rules rounds.old) ratio budget) }
+    ensures made { IfOk result (λ end. R.made rounds.new ≡ sessions_of end) }
     ensures fits { IfOk result (FitsEnd budget) }
     ensures strictly_best { IfOk result IsBestEnd }
 {
@@ -182,26 +195,28 @@ fn fine_rounds<R: Rounds>(
     }
 }
 
-/// The rounds of a run, to its end.
+/// The rounds of a run, to its end. One session is made for each, and no other.
 pub fn run<R: Rounds>(
     alloc: Global,
-    rounds: &R,
+    rounds: &mut R,
     arcs: &[Arc],
     base: &[i64; 3],
     ratio: u32,
     budget: u64,
 ) -> Result<End, AllocError>
-    requires ready { R.ready rounds.now }
-    requires base { base.now ≡ (R.rules rounds.now).base }
-    requires arcs { arcs.now ≡ (R.rules rounds.now).arcs }
+    requires ready { R.ready rounds.old }
+    requires fresh { R.made rounds.old ≡ 0 }
+    requires base { base.now ≡ (R.rules rounds.old).base }
+    requires arcs { arcs.now ≡ (R.rules rounds.old).arcs }
     requires point { IsReceiverPoint base.now }
     requires shifts { AreShiftsBelow (2 ^ 40) arcs.now }
-    requires used { All (HasUsedShifts (fine_signals (R.rules rounds.now).signals)) arcs.now }
+    requires used { All (HasUsedShifts (fine_signals (R.rules rounds.old).signals)) arcs.now }
     requires few { length arcs.now ≤ 200 }
     requires free { free_count arcs.now ≤ MOST_FREE_ARCS }
     requires ratio_from { 1000 ≤ ratio }
     requires ratio_to { ratio ≤ 100_000 }
-    ensures end { IfOk result (IsEnd (R.rules rounds.now) ratio budget) }
+    ensures end { IfOk result (IsEnd (R.rules rounds.old) ratio budget) }
+    ensures made { IfOk result (λ end. R.made rounds.new ≡ sessions_of end) }
     ensures fits { IfOk result (FitsEnd budget) }
     ensures strictly_best { IfOk result IsBestEnd }
 {

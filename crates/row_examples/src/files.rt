@@ -13,7 +13,7 @@ use rinex_nav::{read_gal_nav, read_nav};
 use rinex_obs::{read_gal_obs, read_obs};
 use round_steps::Rounds;
 use run_options::Options;
-use session::{FileRounds, screened};
+use session::{FileRounds, FileRun, screened};
 use session_begin::begin;
 use signal_travel::is_receiver_point;
 use sim_session::{Made, make};
@@ -141,5 +141,9 @@ pub fn with_shifts(alloc: Global, files: &Files, point: &[i64; 3]) -> Result<Vec
     requires point { IsReceiverPoint point.now }
     ensures { IfOk result (λ arcs. IsCutOf files.now.rounds.screened.used arcs.items) }
 {
-    files.rounds.first_shifts(alloc, point)
+    let run = FileRun {
+        files: &files.rounds,
+        made: 0,
+    };
+    run.first_shifts(alloc, point)
 }

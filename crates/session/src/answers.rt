@@ -1,5 +1,5 @@
 //! The answer of a run over the arcs that were kept.
-ghost use Rattle.std.specs.Prelude.{◌≡◌, ◌≤◌, ◌^◌, length, All, IfOk};
+ghost use Rattle.std.specs.Prelude.{◌≡◌, ◌+◌, ◌≤◌, ◌^◌, length, All, IfOk};
 ghost use Rattle.obs_rows.specs.Signals.{fine_signals};
 ghost use Rattle.obs_rows.specs.Unused.{HasUsedShifts};
 ghost use Rattle.obs_rows.specs.ReceiverPoints.{IsReceiverPoint};
@@ -22,23 +22,25 @@ pub struct Answered {
 /// No round is made where the arcs are too few or too many.
 const NO_ROUNDS: RoundCounts = RoundCounts { coarse: 0, fine: 0 };
 
-/// Too few satellites, too many arcs, or the end of the run.
+/// Too few satellites, too many arcs, or the end of the run. One session is made for each round, and no other.
 pub fn answer<R: Rounds>(
     alloc: Global,
-    rounds: &R,
+    rounds: &mut R,
     kept: &[Arc],
     taken: u32,
     base: &[i64; 3],
     options: &Options,
 ) -> Result<Answered, AllocError>
-    requires ready { GoesOn (R.rules rounds.now) taken → R.ready rounds.now }
-    requires base { base.now ≡ (R.rules rounds.now).base }
-    requires arcs { kept.now ≡ (R.rules rounds.now).arcs }
+    requires ready { GoesOn (R.rules rounds.old) taken → R.ready rounds.old }
+    requires fresh { R.made rounds.old ≡ 0 }
+    requires base { base.now ≡ (R.rules rounds.old).base }
+    requires arcs { kept.now ≡ (R.rules rounds.old).arcs }
     requires point { IsReceiverPoint base.now }
     requires shifts { AreShiftsBelow (2 ^ 40) kept.now }
-    requires used { All (HasUsedShifts (fine_signals (R.rules rounds.now).signals)) kept.now }
+    requires used { All (HasUsedShifts (fine_signals (R.rules rounds.old).signals)) kept.now }
     requires few { length kept.now ≤ 54_000 }
-    ensures answer { IfOk result (λ a. IsAnswer (R.rules rounds.now) taken options.now a.rounds a.answer) }
+    ensures answer { IfOk result (λ a. IsAnswer (R.rules rounds.old) taken options.now a.rounds a.answer) }
+    ensures made { IfOk result (λ a. R.made rounds.new ≡ a.rounds.coarse + a.rounds.fine) }
     ensures strictly_best { IfOk result (λ a. IsBestAnswer a.answer) }
 {
     if are_few(taken, kept) {

@@ -31,27 +31,39 @@ pub struct FileRounds {
     pub halves: Vec<Pseudorange>,
 }
 
-impl Rounds for FileRounds {
-    ghost rules = { λ f. rules_of f.screened.boxes (length f.screened.used) f.kept f.position f.signals f.system };
+/// The rounds of a run over these files.
+#[derive(Debug, Drop)]
+pub struct FileRun<'a> {
+    pub files: &'a FileRounds,
+    /// How many sessions were made.
+    pub made: u32,
+}
 
-    ghost ready = { λ f. IsCutOf f.screened.used f.kept × (AreArcs f.kept × IsReceiverPoint f.position) × (AreBaseHalves f.screened.boxes f.position f.halves.items × IsSystem f.system) };
+impl<'a> Rounds for FileRun<'a> {
+    ghost rules = { λ r. rules_of r.files.now.screened.boxes (length r.files.now.screened.used) r.files.now.kept r.files.now.position r.files.now.signals r.files.now.system };
+
+    ghost ready = { λ r. IsCutOf r.files.now.screened.used r.files.now.kept × (AreArcs r.files.now.kept × IsReceiverPoint r.files.now.position) × (AreBaseHalves r.files.now.screened.boxes r.files.now.position r.files.now.halves.items × IsSystem r.files.now.system) };
+
+    ghost made = { λ r. r.made };
 
     fn session(
-        &self,
+        &mut self,
         alloc: Global,
         arcs: &[Arc],
         point: &[i64; 3],
         scale: u32,
     ) -> Result<Option<Session>, AllocError> {
+        self.made += 1;
+        let files = self.files;
         let from = RowSource {
-            screened: &self.screened,
-            halves: self.halves.as_slice(),
+            screened: &files.screened,
+            halves: files.halves.as_slice(),
             arcs,
-            base: &self.position,
+            base: &files.position,
             point,
-            signals: self.signals,
+            signals: files.signals,
         };
-        match rows_with(alloc, &from, scale, self.system) {
+        match rows_with(alloc, &from, scale, files.system) {
             Ok(session) => Ok(Some(session)),
             Err(RowFault::Overwidth) => Ok(None),
             Err(RowFault::NoMemory) => Err(AllocError),
@@ -60,8 +72,8 @@ impl Rounds for FileRounds {
 
     fn first_shifts(&self, alloc: Global, point: &[i64; 3]) -> Result<Vec<Arc>, AllocError> {
         let mut arcs = Vec::new(alloc);
-        for k in 0..self.kept.len() {
-            arcs.push(first_arc(self, k, point))?;
+        for k in 0..self.files.kept.len() {
+            arcs.push(first_arc(self.files, k, point))?;
         }
         Ok(arcs)
     }

@@ -20,7 +20,7 @@ mod runs;
 
 pub use answers::{Answered, answer};
 pub use cert_data::{Answer, Cert, Outcome, RoundCounts, Stage, Tail};
-pub use file_rounds::FileRounds;
+pub use file_rounds::{FileRounds, FileRun};
 pub use outcomes::{have_delta, outcome};
 pub use runs::{process, screened};
 pub use session_begin::{Begun, Options, PairWhat, SessionFault, begin};

@@ -1,5 +1,5 @@
 //! The counts of an outcome, with its answer.
-ghost use Rattle.std.specs.Prelude.{◌≡◌, ◌≤◌, ◌^◌, ◌⊎◌, ◌↔◌, length, All, IsTrue, IfOk};
+ghost use Rattle.std.specs.Prelude.{◌≡◌, ◌+◌, ◌≤◌, ◌^◌, ◌⊎◌, ◌↔◌, length, All, IsTrue, IfOk};
 ghost use Rattle.obs_rows.specs.Signals.{fine_signals};
 ghost use Rattle.obs_rows.specs.Unused.{HasUsedShifts};
 ghost use Rattle.obs_rows.specs.ReceiverPoints.{IsReceiverPoint};
@@ -30,25 +30,27 @@ pub fn have_delta(base: &ObsFile, rover: &ObsFile) -> bool
 /// The outcome of a run that begins so, over the arcs that were kept.
 pub fn outcome<R: Rounds>(
     alloc: Global,
-    rounds: &R,
+    rounds: &mut R,
     begun: &Begun,
     kept: &[Arc],
     delta: bool,
     options: &Options,
 ) -> Result<Outcome, AllocError>
-    requires ready { GoesOn (R.rules rounds.now) (length begun.now.taken.items) → R.ready rounds.now }
-    requires base { begun.now.position ≡ (R.rules rounds.now).base }
-    requires arcs { kept.now ≡ (R.rules rounds.now).arcs }
+    requires ready { GoesOn (R.rules rounds.old) (length begun.now.taken.items) → R.ready rounds.old }
+    requires fresh { R.made rounds.old ≡ 0 }
+    requires base { begun.now.position ≡ (R.rules rounds.old).base }
+    requires arcs { kept.now ≡ (R.rules rounds.old).arcs }
     requires point { IsReceiverPoint begun.now.position }
     requires shifts { AreShiftsBelow (2 ^ 40) kept.now }
-    requires used { All (HasUsedShifts (fine_signals (R.rules rounds.now).signals)) kept.now }
+    requires used { All (HasUsedShifts (fine_signals (R.rules rounds.old).signals)) kept.now }
     requires few { length begun.now.taken.items ≤ 3600 }
     requires few_arcs { length kept.now ≤ 54_000 }
     ensures taken { IfOk result (λ o. o.taken ≡ length begun.now.taken.items) }
     ensures all { IfOk result (λ o. o.all ≡ begun.now.all) }
     ensures kept { IfOk result (λ o. o.kept ≡ length kept.now) }
     ensures delta { IfOk result (λ o. o.delta ≡ delta) }
-    ensures answer { IfOk result (λ o. IsAnswer (R.rules rounds.now) o.taken options.now o.rounds o.answer) }
+    ensures answer { IfOk result (λ o. IsAnswer (R.rules rounds.old) o.taken options.now o.rounds o.answer) }
+    ensures made { IfOk result (λ o. R.made rounds.new ≡ o.rounds.coarse + o.rounds.fine) }
     ensures strictly_best { IfOk result (λ o. IsBestAnswer o.answer) }
 {
     let taken = begun.taken.len() as u32;

@@ -8,7 +8,7 @@ ghost use Rattle.session_begin.specs.Beginnings.{IsPosition, IsSessionFault};
 ghost use Rattle.session.specs.Answers.{AreAllowed, IsBestAnswer};
 ghost use Rattle.session.specs.Outcomes.{AreScreened, IsOutcome};
 
-use crate::{FileRounds, have_delta, outcome};
+use crate::{FileRounds, FileRun, have_delta, outcome};
 use cert_data::Outcome;
 use eph_store::NavFile;
 use obs_store::ObsFile;
@@ -81,6 +81,10 @@ pub fn process(
     let rounds = screened(alloc, base, rover, nav, &begun, options)?;
     let kept = rounds.kept.as_slice();
     let delta = have_delta(base, rover);
-    let out = outcome(alloc, &rounds, &begun, kept, delta, options)?;
+    let mut run = FileRun {
+        files: &rounds,
+        made: 0,
+    };
+    let out = outcome(alloc, &mut run, &begun, kept, delta, options)?;
     Ok(out)
 }

@@ -30,6 +30,8 @@ pub(crate) struct PairRounds<'a> {
     pub files: &'a TrackFiles<'a>,
     /// The number of the pair among those that were taken.
     pub pair: u32,
+    /// How many sessions were made.
+    pub made: u32,
 }
 
 impl<'a> Rounds for PairRounds<'a> {
@@ -37,13 +39,16 @@ impl<'a> Rounds for PairRounds<'a> {
 
     ghost ready = { λ p. AreReady p.files.now × ((p.pair < length p.files.now.screened.now.used) × (4 ≤ held p.files.now.kept.now p.pair)) };
 
+    ghost made = { λ p. p.made };
+
     fn session(
-        &self,
+        &mut self,
         alloc: Global,
         arcs: &[Arc],
         point: &[i64; 3],
         scale: u32,
     ) -> Result<Option<Session>, AllocError> {
+        self.made += 1;
         match session_of(alloc, self.files, arcs, self.pair, point, scale) {
             Ok(session) => Ok(Some(session)),
             Err(RowFault::Overwidth) => Ok(None),

@@ -109,8 +109,12 @@ pub fn try_pair(
     if held(files.kept, pair) < LEAST_SATELLITES {
         return Ok(Trial::Lost(LostCause::Rows));
     }
-    let rounds = PairRounds { files, pair };
-    match coarse_rounds(alloc, &rounds, files.kept, &files.position)? {
+    let mut rounds = PairRounds {
+        files,
+        pair,
+        made: 0,
+    };
+    match coarse_rounds(alloc, &mut rounds, files.kept, &files.position)? {
         CoarseEnd::Settled { point, .. } => try_at(alloc, files, arcs, begun, pair, &point),
         CoarseEnd::Declined { tail, .. } => Ok(Trial::Lost(cause_of(&tail))),
     }

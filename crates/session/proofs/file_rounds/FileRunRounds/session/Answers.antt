@@ -3,15 +3,15 @@ use Rattle.row_boxes.specs.declared.pseudoranges.Pseudorange.{Pseudorange}
 use Rattle.row_build.specs.Halves.{AreBaseHalves}
 use Rattle.session.proofs.CutLaws.{cut_along}
 use Rattle.session.proofs.RangeLaws.{arcs_along}
-use Rattle.session.proofs.file_rounds.FileRoundsRounds.session.Goals as goal
+use Rattle.session.proofs.file_rounds.FileRunRounds.session.Goals as goal
 
 pub rows_with-requires-clause-cut : goal.rows_with-requires-clause-cut
-rows_with-requires-clause-cut c = cut_along c.args.self.now.screened.used c.args.self.now.kept c.args.arcs.now c.requires.arcs c.requires.ready.0
+rows_with-requires-clause-cut c = cut_along c.args.self.now.files.now.screened.used c.args.self.now.files.now.kept c.args.arcs.now c.requires.arcs c.requires.ready.0
 
 pub rows_with-requires-clause-arcs : goal.rows_with-requires-clause-arcs
-rows_with-requires-clause-arcs c = arcs_along c.args.self.now.kept c.args.arcs.now c.requires.arcs c.requires.ready.1.0 c.requires.shifts
+rows_with-requires-clause-arcs c = arcs_along c.args.self.now.files.now.kept c.args.arcs.now c.requires.arcs c.requires.ready.1.0 c.requires.shifts
 
 pub rows_with-requires-clause-halves : goal.rows_with-requires-clause-halves
 rows_with-requires-clause-halves c =
-    let f = c.args.self.now in
+    let f = c.args.self.now.files.now in
     subst (λ (halves : List Pseudorange). AreBaseHalves f.screened.boxes f.position halves) (sym c.as_slice.ensures.value) c.requires.ready.2.0

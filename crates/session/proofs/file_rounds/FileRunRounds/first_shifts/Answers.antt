@@ -6,11 +6,11 @@ use Rattle.obs_rows.specs.Signals.{fine_signals}
 use Rattle.obs_rows.specs.Unused.{HasUsedShifts}
 use Rattle.round_steps.specs.Shifts.{AreShiftsBelow}
 use Rattle.session.proofs.FirstArcs.{more_first, begins, same_first}
-use Rattle.session.proofs.file_rounds.FileRoundsRounds.first_shifts.Goals as goal
+use Rattle.session.proofs.file_rounds.FileRunRounds.first_shifts.Goals as goal
 
 pub loop-k-preserved : goal.loop-k-preserved
 loop-k-preserved c =
-    let f = c.args.self.now in
+    let f = c.args.self.now.files.now in
     let pushed : c.push.new.self.items ≡ c.loop-k.arcs.items ++ c.first_arc.result ∷ [] = c.in_ok-push.ensures.items in
     record {
       first = more_first f.screened.boxes f.kept f.position c.args.point.now f.signals c.loop-k.k c.loop-k.arcs.items c.push.new.self.items c.first_arc.result c.loop-k.invariant.first
@@ -23,12 +23,12 @@ loop-k-preserved c =
 
 pub returns-clause-begins : goal.returns-clause-begins
 returns-clause-begins c =
-    let f = c.args.self.now in
-    let all : c.loop-k.k ≡ length c.args.self.now.kept = omega (arith, c.len-k-end.ensures) in
+    let f = c.args.self.now.files.now in
+    let all : c.loop-k.k ≡ length c.args.self.now.files.now.kept = omega (arith, c.len-k-end.ensures) in
     begins f.screened.boxes f.kept f.position c.args.point.now f.signals c.loop-k.k c.loop-k.arcs.items c.loop-k.invariant.first all
 
 pub returns-clause-arcs : goal.returns-clause-arcs
 returns-clause-arcs c =
-    let f = c.args.self.now in
-    let all : c.loop-k.k ≡ length c.args.self.now.kept = omega (arith, c.len-k-end.ensures) in
+    let f = c.args.self.now.files.now in
+    let all : c.loop-k.k ≡ length c.args.self.now.files.now.kept = omega (arith, c.len-k-end.ensures) in
     same_first f.screened.boxes f.kept f.position c.args.point.now f.signals c.loop-k.k c.loop-k.arcs.items c.loop-k.invariant.first all

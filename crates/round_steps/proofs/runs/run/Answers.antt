@@ -1,0 +1,21 @@
+use Rattle.std.proofs.Common.{IfOk, Result, Ok, Err, subst}
+use Rattle.round_steps.specs.declared.runs.End.{End}
+use Rattle.round_steps.specs.Runs.{Rules, SettlesAt, IsCoarseEnd, IsEnd}
+use Rattle.round_steps.proofs.SameRules.{stayed, settles, ends}
+use Rattle.round_steps.proofs.runs.run.Goals as goal
+
+if_ok : {A E : Type 0} {P Q : A → Type 0} (r : Result A E) → ((a : A) → P a → Q a) → IfOk r P → IfOk r Q
+if_ok (Ok a) f p = f a p
+if_ok (Err e) f p = p
+
+pub fine_rounds-requires-clause-first : goal.fine_rounds-requires-clause-first
+fine_rounds-requires-clause-first g c =
+    let old : Rules = g.R.Rounds.rules c.args.rounds.now in
+    let at : SettlesAt old c.in-Settled.made c.in-Settled.point = subst (IsCoarseEnd old) c.in-Settled.is c.in_ok-made.ensures.end in
+    settles old (g.R.Rounds.rules c.coarse_rounds.new.rounds) c.coarse_rounds.ensures.rules c.in-Settled.made c.in-Settled.point at
+
+pub returns-in-Settled-clause-end : goal.returns-in-Settled-clause-end
+returns-in-Settled-clause-end g c =
+    let old : Rules = g.R.Rounds.rules c.args.rounds.now in
+    let new : Rules = g.R.Rounds.rules c.coarse_rounds.new.rounds in
+    if_ok c.fine_rounds.result (ends new old (stayed old new c.coarse_rounds.ensures.rules) c.args.ratio c.args.budget) c.fine_rounds.ensures.end
