@@ -94,10 +94,6 @@ pub less_back : (t g : Rational) → g ≤ʳ t → (sub_r g t) ≤ʳ (sub_r t g)
 less_back t g h0 =
     cert_r (t ∷ g ∷ []) ((va 1 ≼ va 0) ∷ []) ((va 1) ⊖ (va 0)) ((va 0) ⊖ (va 1)) ((hy 0) ⊞ (hy 0)) refl (h0, tt)
 
-pub less_same : (t g : Rational) → (sub_r t g) ≤ʳ (sub_r t g)
-less_same t g =
-    cert_r (t ∷ g ∷ []) ([]) ((va 0) ⊖ (va 1)) ((va 0) ⊖ (va 1)) (nm 0) refl tt
-
 pub both_least : (d v : Rational) → (of_whole (pos 0)) ≤ʳ d → (of_whole (pos 0)) ≤ʳ v → (of_whole (pos 0)) ≤ʳ (add_r d v)
 both_least d v h0 h1 =
     cert_r (d ∷ v ∷ []) ((ko (pos 0) ≼ va 0) ∷ (ko (pos 0) ≼ va 1) ∷ []) (ko (pos 0)) ((va 0) ⊕ (va 1)) ((hy 0) ⊞ (hy 1)) refl (h0, (h1, tt))

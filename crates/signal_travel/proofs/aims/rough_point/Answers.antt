@@ -1,4 +1,4 @@
-use Rattle.std.proofs.Common.{◌≤◌, lit≤}
+use Rattle.std.proofs.Common.{lit≤}
 use Rattle.signal_travel.proofs.AboveLaws.{cast_size}
 use Rattle.signal_travel.proofs.PlaceLists.{coordinates}
 use Rattle.signal_travel.proofs.aims.rough_point.Goals as goal

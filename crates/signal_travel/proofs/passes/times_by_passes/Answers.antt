@@ -1,10 +1,8 @@
 use Rattle.std.proofs.Common.{◌≡◌, ◌*◌, ℤ, pos, ◌+ℤ◌, ◌-ℤ◌, ◌*ℤ◌, ◌≤ℤ◌, arith}
 use Rattle.std.proofs.lemmas.Int.{ints}
 use Rattle.rational.specs.Rational.{Rational, ◌≤ʳ◌, of_whole, mul_r, InBox}
-use Rattle.iv_core.specs.Intervals.{Holds}
-use Rattle.orbit_model.specs.SeenPlaces.{Place, point_of, IsSeenPlace}
+use Rattle.orbit_model.specs.SeenPlaces.{Place, point_of}
 use Rattle.orbit_model.proofs.Seen.{travel_nn, travel_most}
-use Rattle.signal_travel.specs.VectorBoxes.{HoldsVector}
 use Rattle.signal_travel.proofs.Sights.{point_place}
 use Rattle.signal_travel.proofs.Times.{first_time, second_time, third_time}
 use Rattle.signal_travel.proofs.passes.times_by_passes.Goals as goal
