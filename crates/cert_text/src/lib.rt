@@ -19,7 +19,7 @@ mod tail;
 mod tail_lines;
 
 pub use cert_data::{
-    Answer, Cause, Cert, Outcome, Place, Stage, Tail, TwoBest, Verdict, name_of_place,
+    Answer, Cause, Cert, Outcome, Place, RoundCounts, Stage, Tail, TwoBest, Verdict, name_of_place,
 };
 pub use cert_lines::Version;
 pub use cert_spelling::write_cert;
