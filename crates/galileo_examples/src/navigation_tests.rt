@@ -1,7 +1,7 @@
 //! Navigation files of Galileo: a real record, the numbers of satellites, and the places of refusals.
 use decimal_text::Dec;
+use gal_nav::{NavFault, read_gal_nav};
 use rinex_head::{At, What};
-use rinex_nav::{NavFault, read_gal_nav};
 use std::alloc::{AllocError, Global};
 use std::test::Fail;
 

@@ -1,8 +1,8 @@
 //! Observation files of Galileo: a real one, the numbers of satellites, and the places of refusals.
+use gal_obs::{ObsFault, read_gal_obs};
 use gps_time::Tick;
 use obs_store::{ObsFile, ObsType, Value};
 use rinex_head::{At, What};
-use rinex_obs::{ObsFault, read_gal_obs};
 use std::alloc::{AllocError, Global};
 use std::process::Abort;
 use std::test::Fail;

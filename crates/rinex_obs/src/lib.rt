@@ -1,4 +1,4 @@
-//! RINEX 3 observation files: the reader of GPS and that of Galileo, for a whole text or for its pieces.
+//! RINEX 3 observation files: the reader of each satellite system, for a whole text or for its pieces.
 //!
 //! obs_fields says what one line of an observation file says, for either format of RINEX (`Layout`) and each satellite
 //! system. Here stand the form of a RINEX 3 file of one system, its rules and the feed (`Feed`), and the calls of each
@@ -7,13 +7,12 @@
 //! the reason of the first failing check in that line (`exact`). `ObsFeed` takes the text in pieces and keeps at most
 //! 4,097 bytes of it, those of the line that has begun; its `finish` gives this answer for every text for which the feed
 //! stands, and so for all its pieces together, however they were cut (`answers`). After running out of memory it answers
-//! that alone (`no_memory`, `again`). `read_gal_obs` and `GalFeed` are the same for Galileo's E1 and E5a. The grammar, in
-//! RINEX's words, is in docs/FORMATS.md.
+//! that alone (`no_memory`, `again`). `read_obs_of` and `SystemFeed` are the same for either system; gal_obs has the calls of
+//! Galileo. The grammar, in RINEX's words, is in docs/FORMATS.md.
 #![tactic(auto)]
 
 mod epoch_lines;
 mod feed;
-mod galileo;
 mod gps;
 mod header;
 mod header_lines;
@@ -26,8 +25,8 @@ mod started;
 mod system_feed;
 
 pub use feed::{Feed, FeedState};
-pub use galileo::read_gal_obs;
 pub use gps::read_obs;
+pub use reader::read_obs_of;
 pub use rinex_head::TextFault as ObsFault;
 pub use started::{Overlong, StartedLine, split_line};
 pub use system_feed::{GalFeed, ObsFeed, OfGalileo, OfGps, OneSystem, SystemFeed};

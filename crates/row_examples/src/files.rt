@@ -7,10 +7,12 @@ ghost use Rattle.obs_rows.specs.ReceiverPoints.{IsReceiverPoint};
 ghost use Rattle.slip_arcs.specs.Linked.{IsCutOf};
 
 use eph_store::NavFile;
+use gal_nav::read_gal_nav;
+use gal_obs::read_gal_obs;
 use obs_rows::{Arc, are_arcs, is_system};
 use obs_store::ObsFile;
-use rinex_nav::{read_gal_nav, read_nav};
-use rinex_obs::{read_gal_obs, read_obs};
+use rinex_nav::read_nav;
+use rinex_obs::read_obs;
 use round_steps::Rounds;
 use run_options::Options;
 use session::{FileRounds, FileRun, screened};

@@ -2,10 +2,12 @@
 ghost use Rattle.std.specs.Prelude.{◌≤◌, length};
 
 use crate::cases::{CUTS, CYCLES, Case, Edit, End, SHORT, UNCUT_POINT, Verdict};
+use gal_nav::read_gal_nav;
+use gal_obs::read_gal_obs;
 use obs_rows::Arc;
 use obs_store::ObsFile;
-use rinex_nav::{read_gal_nav, read_nav};
-use rinex_obs::{read_gal_obs, read_obs};
+use rinex_nav::read_nav;
+use rinex_obs::read_obs;
 use run_options::{GALILEO, GPS, Options};
 use session::{Answer, Cert, Outcome, Tail, process};
 use sim_session::{Made, make};

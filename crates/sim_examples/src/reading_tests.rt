@@ -1,8 +1,10 @@
 //! Simulated files are read.
+use gal_nav::read_gal_nav;
+use gal_obs::read_gal_obs;
 use gps_time::Tick;
 use obs_store::{ObsFile, ObsType, Value};
-use rinex_nav::{read_gal_nav, read_nav};
-use rinex_obs::{read_gal_obs, read_obs};
+use rinex_nav::read_nav;
+use rinex_obs::read_obs;
 use sim_session::make;
 use std::process::Abort;
 use std::test::Fail;

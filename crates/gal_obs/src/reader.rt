@@ -2,15 +2,13 @@
 ghost use Rattle.std.specs.Prelude.{◌≡◌, ◌≤◌, length, IfOk};
 ghost use Rattle.line_source.specs.Lines.{lines_of};
 ghost use Rattle.obs_store.specs.declared.file.ObsFile.{ObsFile};
-ghost use Rattle.rinex_obs.specs.ObsForm.{IsObsFile, HasObsFile};
-ghost use Rattle.rinex_obs.specs.ObsRules.{obs_of};
-ghost use Rattle.rinex_head.specs.declared.system.System.TheVariants.{Galileo};
+ghost use Rattle.gal_obs.specs.GalForm.{IsObsFile, HasObsFile, obs_of};
 ghost use Rattle.rinex_head.specs.FirstFailing.{IsFirstFailing};
 ghost use Rattle.rinex_head.specs.Walk.{Gives, OnRefusal, IfRefused};
 
-use crate::reader::read_obs_of;
 use obs_store::ObsFile;
 use rinex_head::{System, TextFault};
+use rinex_obs::read_obs_of;
 use std::alloc::Global;
 
 /// The observation file that a text stands for (RINEX 3.00 to 3.05), or the first place at which it stands for none.
@@ -19,11 +17,11 @@ use std::alloc::Global;
 /// metre or a cycle, tags in ticks of 100 ns. It serves tests alone: the program takes files in pieces.
 pub fn read_gal_obs(alloc: Global, text: &[u8]) -> Result<ObsFile, TextFault>
     requires { length text.now ≤ 67_108_864 }
-    ensures ok { IfOk result (λ file. IsObsFile Galileo (lines_of text.now) file) }
-    ensures only { IfOk result (λ file. (other : ObsFile) → IsObsFile Galileo (lines_of text.now) other → other ≡ file) }
-    ensures refused { OnRefusal result (HasObsFile Galileo (lines_of text.now) → ⊥) }
-    ensures first { IfRefused result (λ at. IsFirstFailing (HasObsFile Galileo) (lines_of text.now) at.line) }
-    ensures exact { Gives (obs_of Galileo (lines_of text.now)) (λ file. file) result }
+    ensures ok { IfOk result (λ file. IsObsFile (lines_of text.now) file) }
+    ensures only { IfOk result (λ file. (other : ObsFile) → IsObsFile (lines_of text.now) other → other ≡ file) }
+    ensures refused { OnRefusal result (HasObsFile (lines_of text.now) → ⊥) }
+    ensures first { IfRefused result (λ at. IsFirstFailing HasObsFile (lines_of text.now) at.line) }
+    ensures exact { Gives (obs_of (lines_of text.now)) (λ file. file) result }
 {
     read_obs_of(alloc, System::Galileo, text)
 }
