@@ -43,6 +43,8 @@
 #![tactic(auto)]
 
 #[cfg(test)]
+mod decline_tests;
+#[cfg(test)]
 mod failing_tests;
 #[cfg(test)]
 mod fault_order_tests;
@@ -55,10 +57,16 @@ mod malformed_tests;
 #[cfg(test)]
 mod migrate_tests;
 #[cfg(test)]
+mod session_texts;
+#[cfg(test)]
 mod sim_run_tests;
+#[cfg(test)]
+mod small_cert_tests;
 #[cfg(test)]
 mod tests;
 mod top;
+#[cfg(test)]
+mod track_tests;
 
 use job_answers::Status;
 use line_source::{HostFiles, HostSink};

@@ -95,6 +95,21 @@ fn refuses_too_many_epochs(rt: HostRuntime) -> Result<(), Fail> {
     Ok(())
 }
 
+// Behind 26 epochs without satellites the antenna moved at line 31, and behind 33 the last of 40 lines leaves out a satellite.
+#[test]
+fn refuses_in_the_midst_and_at_the_end(rt: HostRuntime) -> Result<(), Fail> {
+    let alloc = rt.alloc();
+    let mut moved = empty_epochs(alloc, 26)?;
+    moved.push_str("> 2024 01 01 00 00 59.0000000  2  0\n")?;
+    let place = "line 31 column 32: antenna moved";
+    refused_at(&rt, alloc, &list(alloc, &moved)?, place)?;
+    let mut cut = empty_epochs(alloc, 33)?;
+    cut.push_str("> 2024 01 01 00 00 59.0000000  0  3\nG01\nG02\n")?;
+    let place = "line 41 column 1: file ends early";
+    refused_at(&rt, alloc, &list(alloc, &cut)?, place)?;
+    Ok(())
+}
+
 // One file of so many bytes, which takes no memory.
 #[derive(Drop)]
 struct LongFile {

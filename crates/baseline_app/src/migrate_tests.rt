@@ -4,7 +4,7 @@ use job_answers::Status;
 use std::test::Fail;
 
 // A certificate of the first version, but for its tail.
-const OLD: &str =
+pub(crate) const OLD: &str =
     "baseline-cert 1\nratio 2000\nbudget 1000\nbase 63781370000 0 0\npoint 63781370000 0 0\nsignals C W\n\
 arcs 2\narc 3 0 0 datum 0 0\narc 5 0 0 free 0 0\npairs 1\npair 0 13881024000000000 0 2\n\
 row 0 0 0 0 0 0 0 0 0 0 0 0\nrow 1 0 0 0 0 0 0 0 0 0 0 0\n";

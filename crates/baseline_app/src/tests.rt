@@ -37,7 +37,7 @@ impl Fails {
     }
 }
 
-fn words_of(alloc: Global, words: &[&str]) -> Result<Vec<String>, AllocError> {
+pub(crate) fn words_of(alloc: Global, words: &[&str]) -> Result<Vec<String>, AllocError> {
     let mut list = Vec::new(alloc);
     for word in words {
         list.push(String::from_str(alloc, *word)?)?;
@@ -497,7 +497,7 @@ fn finds_what_was_made(rt: HostRuntime) -> Result<(), Fail> {
     Ok(())
 }
 
-const CERT: &str =
+pub(crate) const CERT: &str =
     "baseline-cert 2\nratio 2000\nbudget 1000\nsystem G\nbase 63781370000 0 0\npoint 63781370000 0 0\n\
 signals 12 C W\narcs 2\narc 3 0 0 datum 0 0\narc 5 0 0 free 0 0\npairs 1\npair 0 13881024000000000 0 2\n\
 row 0 0 0 0 0 0 0 0 0 0 0 0\nrow 1 0 0 0 0 0 0 0 0 0 0 0\n";

@@ -4,7 +4,7 @@ ghost use Rattle.obs_rows.specs.Ranges.{IsBelow};
 
 use crate::drawn_sessions::{Case, arc, drawn_session, later_session, signals_of};
 use elimination::finish;
-use fix_decide::{Decision, decide, integer_of, pair_upper, upper_sum};
+use fix_decide::{Decision, decide, integer_of, is_separated, pair_upper, upper_sum};
 use form_tables::FormTable;
 use gps_time::Tick;
 use int_search::two_best;
@@ -244,6 +244,13 @@ fn a_ratio_decides(rt: HostRuntime) -> Result<(), AllocError> {
         assert_eq!(rt; decision.fixed, fixed);
     }
     Ok(())
+}
+
+// 64 · 2000 · 23 is 2,944,000.
+#[test]
+fn a_tie_is_not_separated(rt: HostRuntime) {
+    assert_eq!(rt; is_separated(2000, 23, 3000), true);
+    assert_eq!(rt; is_separated(2000, 23, 2944), false);
 }
 
 // A clock that all rows share doesn't change the form. 2^33 units of it leave the upper sum no room.

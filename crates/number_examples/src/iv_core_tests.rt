@@ -140,6 +140,8 @@ fn joins_and_meets(rt: HostRuntime) -> Result<(), Fail> {
     let middle = between(2, 4)?;
     let high = between(3, 5)?;
     assert_eq!(rt; low.meet(&high).map(|found| (found.lo, found.hi)), None);
+    let (first, second) = (between(0, 1)?, between(2, 3)?);
+    assert!(rt; first.meet(&second).is_none());
     assert_eq!(rt;
         low.meet(&middle).map(|found| (found.lo, found.hi)),
         Some((2, 2))

@@ -83,7 +83,13 @@ fn sats_of(alloc: Global, all: &[SatObs]) -> Result<Satellites, AllocError> {
 }
 
 // Adds an epoch, where it is later than the last.
-fn add(alloc: Global, epochs: &mut Epochs, tag: u64, all: &[SatObs]) -> Result<(), AllocError> {
+fn add(
+    alloc: Global,
+    epochs: &mut Epochs,
+    tag: u64,
+    power: bool,
+    all: &[SatObs],
+) -> Result<(), AllocError> {
     if epochs.len() >= Epochs::MOST {
         return Ok(());
     }
@@ -94,7 +100,7 @@ fn add(alloc: Global, epochs: &mut Epochs, tag: u64, all: &[SatObs]) -> Result<(
     }
     epochs.push(Epoch {
         tag: Tick(tag),
-        power: false,
+        power,
         sats: sats_of(alloc, all)?,
     })
 }
@@ -116,19 +122,20 @@ fn alone(alloc: Global, sat: SatObs) -> Result<ObsFile, AllocError>
     ensures { IfOk result (λ file. HasPosition file.position) }
 {
     let mut epochs = Epochs::new(alloc);
-    add(alloc, &mut epochs, 0, &[sat])?;
+    add(alloc, &mut epochs, 0, false, &[sat])?;
     Ok(receiver(epochs))
 }
 
-// Twenty epochs of two satellites, half a minute apart; in one the first satellite's phase on L2 lost lock.
-fn series(alloc: Global, lost: u64) -> Result<ObsFile, AllocError>
+// Twenty epochs of two satellites, half a minute apart; in one the first satellite's phase on L2 lost lock, and before one power
+// failed.
+fn series(alloc: Global, lost: u64, failed: u64) -> Result<ObsFile, AllocError>
     ensures { IfOk result (λ file. HasPosition file.position) }
 {
     let mut epochs = Epochs::new(alloc);
     for k in 0..20u64 {
         let lock = if k == lost { 1 } else { 0 };
         let all = [observed(1, 0, lock, CODE), observed(2, 0, 0, CODE)];
-        add(alloc, &mut epochs, 300_000_000 * k, &all)?;
+        add(alloc, &mut epochs, 300_000_000 * k, k == failed, &all)?;
     }
     Ok(receiver(epochs))
 }
@@ -174,8 +181,8 @@ fn is_arc(arc: &Arc, sat: u8, first: u32, last: u32) -> bool {
 // Lock is lost in epoch 6, which with each fourth pair isn't taken.
 #[test]
 fn lost_lock_cuts_one_satellite(rt: HostRuntime) -> Result<(), Fail> {
-    let base = series(rt.alloc(), 6)?;
-    let rover = series(rt.alloc(), 20)?;
+    let base = series(rt.alloc(), 6, 20)?;
+    let rover = series(rt.alloc(), 20, 20)?;
     let nav = records(rt.alloc(), 2)?;
     let all = screened(rt.alloc(), &base, &rover, &nav, 1)?;
     let arcs = cut(rt.alloc(), all.used.as_slice(), BANDS_L1_L2, 12, 5)?;
@@ -189,6 +196,23 @@ fn lost_lock_cuts_one_satellite(rt: HostRuntime) -> Result<(), Fail> {
     assert!(rt; is_arc(&arcs.kept.as_slice()[0], 1, 0, 1));
     assert!(rt; is_arc(&arcs.kept.as_slice()[1], 2, 0, 4));
     assert!(rt; is_arc(&arcs.kept.as_slice()[2], 1, 2, 4));
+    Ok(())
+}
+
+// Power failed at the rover before epoch 6, which with each fourth pair isn't taken.
+#[test]
+fn power_failure_cuts_every_satellite(rt: HostRuntime) -> Result<(), Fail> {
+    let base = series(rt.alloc(), 20, 20)?;
+    let rover = series(rt.alloc(), 20, 6)?;
+    let nav = records(rt.alloc(), 2)?;
+    for (step, least, last, first, end) in [(1, 5, 5, 6, 19), (4, 2, 1, 2, 4)] {
+        let found = screened(rt.alloc(), &base, &rover, &nav, step)?;
+        let arcs = cut(rt.alloc(), found.used.as_slice(), BANDS_L1_L2, 12, least)?;
+        let kept = arcs.kept.as_slice();
+        assert_eq!(rt; kept.len(), 4);
+        assert!(rt; is_arc(&kept[0], 1, 0, last) && is_arc(&kept[1], 2, 0, last));
+        assert!(rt; is_arc(&kept[2], 1, first, end) && is_arc(&kept[3], 2, first, end));
+    }
     Ok(())
 }
 
@@ -236,7 +260,7 @@ fn fifteen_above_the_mask(rt: HostRuntime) -> Result<(), Fail> {
         all.push(observed(number, 0, 0, CODE))?;
     }
     let mut epochs = Epochs::new(rt.alloc());
-    add(rt.alloc(), &mut epochs, 0, &all)?;
+    add(rt.alloc(), &mut epochs, 0, false, &all)?;
     let file = receiver(epochs);
     let high = screened(rt.alloc(), &file, &file, &records(rt.alloc(), 16)?, 1)?;
     assert_eq!(rt; high.boxes.len(), 15);

@@ -100,6 +100,18 @@ fn reads_values(rt: HostRuntime) -> Result<(), Fail> {
     Ok(())
 }
 
+// An epoch at which power didn't fail, with one satellite.
+#[test]
+fn reads_an_epoch_line(rt: HostRuntime) -> Result<(), Fail> {
+    let line = "> 2024 01 01 00 00 30.0000000  0  1\n";
+    let file = read_well(&rt, rt.alloc(), &[FIRST, TYPES, END, line, "G05\n"])?;
+    assert_eq!(rt; file.epochs.len(), 1);
+    let epoch = &file.epochs.as_slice()[0];
+    let found = (epoch.tag, epoch.power, epoch.sats.len());
+    assert_eq!(rt; found, (Tick(13_881_024_300_000_000), false, 1));
+    Ok(())
+}
+
 #[test]
 fn skips_other_systems_and_events(rt: HostRuntime) -> Result<(), Fail> {
     let parts = [
@@ -128,7 +140,7 @@ fn skips_other_systems_and_events(rt: HostRuntime) -> Result<(), Fail> {
     Ok(())
 }
 
-const BAD_BODIES: [(&str, u32, u32, What); 14] = [
+const BAD_BODIES: [(&str, u32, u32, What); 16] = [
     ("> 2024 01 01 00 00  0.0000000  7  0\n", 5, 32, What::Flag),
     ("> 2024 01 01 00 00  0.0000000  2  0\n", 5, 32, What::Moving),
     ("> 2024 01 01 00 00 60.0000000  0  0\n", 5, 3, What::BadDate),
@@ -198,6 +210,18 @@ const BAD_BODIES: [(&str, u32, u32, What); 14] = [
         3,
         What::Order,
     ),
+    (
+        "> 2024 01 01 00 00  0.0000000  4  1\nG    1 C1C                                                  SYS / # / OBS TYPES\n",
+        6,
+        61,
+        What::Changed,
+    ),
+    (
+        "> 2024 01 01 00 00  0.0000000  4  1\nG  10                                                       SYS / SCALE FACTOR\n",
+        6,
+        61,
+        What::Changed,
+    ),
 ];
 
 #[test]
@@ -257,6 +281,37 @@ fn refuses_headers(rt: HostRuntime) -> Result<(), Fail> {
             Ok(_) => panic!(&rt; "read"),
             Err(at) => assert_eq!(rt; at, At { line, column, what }),
         }
+    }
+    Ok(())
+}
+
+const L5_TYPES: &str =
+    "G    4 C1C L1C C5Q L5X                                      SYS / # / OBS TYPES\n";
+
+// The code stands in columns 36 to 49, the phase in 52 to 65 with its digit behind it.
+const BAD_L5: [(&str, u32); 3] = [
+    ("G05                                 123x\n", 36),
+    (
+        "G05                                                 1234567.8901\n",
+        52,
+    ),
+    (
+        "G05                                                         1.0008\n",
+        66,
+    ),
+];
+
+#[test]
+fn refuses_fields_of_l5(rt: HostRuntime) -> Result<(), Fail> {
+    for row in BAD_L5.iter() {
+        let (line, column) = *row;
+        let want = At {
+            line: 5,
+            column,
+            what: What::BadField,
+        };
+        let found = place_of(&rt, rt.alloc(), &[FIRST, L5_TYPES, END, EPOCH, line])?;
+        assert_eq!(rt; found, Some(want));
     }
     Ok(())
 }
@@ -324,6 +379,12 @@ fn keeps_20_000_epochs(rt: HostRuntime) -> Result<(), Fail> {
     }
     let file = read_well(&rt, alloc, &[text.as_str()])?;
     assert_eq!(rt; file.epochs.len(), 20_000);
+    assert!(rt;
+        file.epochs
+            .as_slice()
+            .iter()
+            .all(|epoch| epoch.sats.len() == 0)
+    );
     let what = What::TooMany;
     let more = [text.as_str(), EPOCH];
     assert_eq!(rt;

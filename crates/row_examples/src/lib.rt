@@ -1,6 +1,8 @@
-//! The rows of whole sessions, against an independent model. There is nothing here but tests.
+//! The rows of whole sessions, against an independent model, and a certificate that is made of them. There is nothing here but tests.
 #![tactic(auto)]
 
+#[cfg(test)]
+mod certificate_tests;
 #[cfg(test)]
 mod expected;
 #[cfg(test)]

@@ -310,7 +310,7 @@ fn copy_agrees(rt: &impl Abort, alloc: Global, session: &Session) -> Result<(), 
 }
 
 // Whether the shifts of bands that aren't used are 0.
-fn are_used(signals: Signals, arcs: &[Arc]) -> bool
+pub(crate) fn are_used(signals: Signals, arcs: &[Arc]) -> bool
     ensures { IsTrue result → All (HasUsedShifts (fine_signals signals)) arcs.now }
 {
     arcs.iter().all(|a| has_used_shifts(signals, a))

@@ -1,8 +1,9 @@
 //! A simulated observation file is read the same however it is cut.
 ghost use Rattle.std.specs.Prelude.{None};
 
+use gal_obs::read_gal_obs;
 use line_source::{Failed, FileId, Files, Opening, OpeningLog, load_into};
-use rinex_obs::{ObsFeed, read_obs};
+use rinex_obs::{GalFeed, ObsFeed, read_obs};
 use sim_session::make;
 use std::test::Fail;
 
@@ -59,6 +60,29 @@ fn reads_the_same_in_pieces(rt: HostRuntime) -> Result<(), Fail> {
             openings: OpeningLog::new(),
         };
         let mut feed = ObsFeed::new(alloc);
+        load_into(&mut files, "", &mut feed)?;
+        let file = feed.finish()?;
+        let found = format!(in alloc; "{file:?}")?;
+        assert_eq!(rt; found.as_str(), want.as_str());
+    }
+    Ok(())
+}
+
+#[test]
+fn reads_galileo_the_same_in_pieces(rt: HostRuntime) -> Result<(), Fail> {
+    let alloc = rt.alloc();
+    let made = make(alloc, 1, 6, 8, 15, b'E')?;
+    assert!(rt; made.base.len() <= 67_108_864);
+    let whole = read_gal_obs(alloc, &made.base)?;
+    assert_eq!(rt; whole.epochs.len(), 6);
+    let want = format!(in alloc; "{whole:?}")?;
+    for most in [1, 7, 65_536] {
+        let mut files = Pieces {
+            text: made.base.as_slice().to_vec(alloc)?,
+            at: 0,
+            most,
+        };
+        let mut feed = GalFeed::new(alloc);
         load_into(&mut files, "", &mut feed)?;
         let file = feed.finish()?;
         let found = format!(in alloc; "{file:?}")?;

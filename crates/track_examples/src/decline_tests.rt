@@ -1,15 +1,10 @@
 //! Runs of `track` that are declined, with their causes from an independent model.
 use crate::runs::{OFFSET, are_places, check_text, is_certified, standing, track_texts};
-use crate::texts::{C1C, Epochs, with_lost_lock, with_more, with_three_satellites};
+use crate::texts::{ALL, C1C, Epochs, with_lost_lock, with_more, with_three_satellites};
 use job_answers::Status;
 use run_options::Options;
 use sim_session::make;
 use std::test::Fail;
-
-const ALL: Epochs = Epochs {
-    first: 0,
-    behind: 3600,
-};
 
 #[test]
 fn declines_before_a_form(rt: HostRuntime) -> Result<(), Fail> {

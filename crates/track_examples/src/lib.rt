@@ -3,9 +3,13 @@
 #![tactic(auto)]
 
 #[cfg(test)]
+mod band_tests;
+#[cfg(test)]
 mod certificate_tests;
 #[cfg(test)]
 mod decline_tests;
+#[cfg(test)]
+mod forged_tests;
 #[cfg(test)]
 mod runs;
 #[cfg(test)]

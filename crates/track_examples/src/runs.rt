@@ -87,6 +87,11 @@ pub(crate) struct Walk {
     pub second: [i64; 3],
 }
 
+/// An offset in mm in 0.1 mm.
+pub(crate) fn in_tenths([x, y, z]: [i64; 3]) -> [i64; 3] {
+    [x.wrapping_mul(10), y.wrapping_mul(10), z.wrapping_mul(10)]
+}
+
 /// A rover that stands still at this place.
 pub(crate) fn standing(count: usize, place: [i64; 3]) -> Walk {
     Walk {

@@ -11,6 +11,12 @@ pub(crate) struct Epochs {
     pub behind: u32,
 }
 
+/// All epochs.
+pub(crate) const ALL: Epochs = Epochs {
+    first: 0,
+    behind: 3600,
+};
+
 impl Epochs {
     // Whether the last of so many epochs is one of these.
     fn has_last_of(self, so_far: u32) -> bool {
@@ -31,7 +37,8 @@ pub(crate) const C1C: Field = Field { from: 3, to: 17 };
 /// The code on L2.
 pub(crate) const C2W: Field = Field { from: 35, to: 49 };
 
-const L1C: Field = Field { from: 19, to: 33 };
+/// The phase on L1.
+pub(crate) const L1C: Field = Field { from: 19, to: 33 };
 
 const L2W: Field = Field { from: 51, to: 65 };
 

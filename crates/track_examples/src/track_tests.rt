@@ -1,6 +1,8 @@
 //! Runs of `track` that fix. Expected places are the generator's own offset; which pairs are lost, and why, comes from an
 //! independent model.
-use crate::runs::{OFFSET, Walk, are_places, check_text, is_certified, standing, track_texts};
+use crate::runs::{
+    OFFSET, Walk, are_places, check_text, in_tenths, is_certified, standing, track_texts,
+};
 use crate::texts::{C1C, C2W, Epochs, moved, with_line, with_more, with_three_satellites};
 use job_answers::Status;
 use run_options::Options;
@@ -20,11 +22,6 @@ fn tracks_each_pair(rt: HostRuntime) -> Result<(), Fail> {
     are_places(&rt, &answer.err, &standing(60, OFFSET))?;
     is_certified(&rt, alloc, &answer.out)?;
     Ok(())
-}
-
-// An offset in mm in 0.1 mm.
-fn in_tenths([x, y, z]: [i64; 3]) -> [i64; 3] {
-    [x.wrapping_mul(10), y.wrapping_mul(10), z.wrapping_mul(10)]
 }
 
 // From the thirtieth epoch on the rover is where another session has it, a kilometre away, with its own cycles.
