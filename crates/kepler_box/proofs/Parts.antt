@@ -233,3 +233,10 @@ promised_pair w h = omega (arith, ints)
 
 pub wider_pair : (w : ℤ) → w ≤ℤ pos 1600 → w ≤ℤ pos (2 ^ 13)
 wider_pair w h = omega (arith, ints)
+
+-- ---- what is in reach of a mean anomaly
+pub reached_low : (m x : ℤ) → neg_ℤ (pos (12 * 2 ^ 56)) ≤ℤ m → AreNear (pos (2 ^ 52)) x m → neg_ℤ (pos (13 * 2 ^ 56)) ≤ℤ x
+reached_low m x h n = let k = n.1 in omega (arith, ints)
+
+pub reached_high : (m x : ℤ) → m ≤ℤ pos (12 * 2 ^ 56) → AreNear (pos (2 ^ 52)) x m → x ≤ℤ pos (13 * 2 ^ 56)
+reached_high m x h n = let k = n.0 in omega (arith, ints)

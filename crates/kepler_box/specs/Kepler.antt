@@ -1,9 +1,11 @@
 -- Kepler's equation over rationals, and what a box of its solutions holds.
-use Rattle.std.specs.Prelude.{ℤ, ◌≤ℤ◌}
+use Rattle.std.specs.Prelude.{◌*◌, ◌^◌, ℤ, ◌≤ℤ◌}
 use Rattle.rational.specs.Rational.{Rational, sub_r, mul_r, add_r, ◌≈◌, times, two_to_minus, IsNearBox}
-use Rattle.iv_core.specs.Intervals.{Holds, width_of}
+use Rattle.iv_core.specs.Intervals.{Holds, width_of, IsWithin}
 use Rattle.trig_box.specs.AnglePairs.{IsAnglePair}
+use Rattle.iv_core.specs.declared.Iv.{Iv}
 use Rattle.kepler_box.specs.declared.Anomaly.{Anomaly}
+use Rattle.kepler_box.specs.Steps.{angle_width_limit, pair_width_limit}
 
 -- M = E - e sin E, where (c, s) is a 5-pair of E
 pub record SolvesKepler (mean eccentricity angle c s : Rational) : Type 0 where
@@ -24,3 +26,14 @@ IsNearAnomaly d b angle c s =
 -- neither box of the pair is wider than w, in units of 2^-60
 abbrev pub IsPairAtMostWide : ℤ → Anomaly → Type 0
 IsPairAtMostWide w b = (width_of b.cos ≤ℤ w) × (width_of b.sin ≤ℤ w)
+
+-- b holds every solution for a mean anomaly in m and an eccentricity in e, and every pair of its angles; near it lie the solutions for
+-- mean anomalies nearby; and how wide and how far out it is
+pub record IsAnomalyBox (m : Iv 56) (e : Iv 60) (b : Anomaly) : Type 0 where
+  pub holds : (mean eccentricity angle c s : Rational) → Holds m mean → Holds e eccentricity → SolvesKepler mean eccentricity angle c s → HoldsAnomaly b angle c s
+  pub pairs : (angle c s : Rational) → Holds b.angle angle → IsAnglePair 5 angle c s → Holds b.cos c × Holds b.sin s
+  pub near : (d mean eccentricity angle c s : Rational) → IsNearBox 56 m.lo m.hi d mean → Holds e eccentricity → SolvesKepler mean eccentricity angle c s → IsNearAnomaly d b angle c s
+  pub range : IsWithin (2 ^ 60) b.angle
+  pub angle_width : width_of b.angle ≤ℤ angle_width_limit
+  pub pair_width : IsPairAtMostWide pair_width_limit b
+  pub ends : IsWithin (9 * 2 ^ 57) b.cos × IsWithin (9 * 2 ^ 57) b.sin

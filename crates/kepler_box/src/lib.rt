@@ -5,18 +5,18 @@
 //! memory and is never refused.
 #![tactic(auto)]
 
-ghost use Rattle.std.specs.Prelude.{◌≡◌, ◌+◌, ◌-◌, ◌*◌, ◌^◌, ◌<◌, ◌≤◌, pos, ◌+ℤ◌, ◌-ℤ◌, ◌*ℤ◌, ℤ, ◌≤ℤ◌, unsigned_abs};
+ghost use Rattle.std.specs.Prelude.{◌≡◌, ◌+◌, ◌-◌, ◌*◌, ◌^◌, ◌<◌, ◌≤◌, pos, ◌+ℤ◌, ◌-ℤ◌, ◌*ℤ◌, ℤ, ◌≤ℤ◌, unsigned_abs, IfSome};
 ghost use Rattle.whole_math.specs.Rounding.{floor_div, ceil_div};
 ghost use Rattle.whole_math.specs.Bounds.{Within};
 ghost use Rattle.rational.specs.Rational.{Rational, add_r, mul_r, of_scale, IsNearBox};
 ghost use Rattle.iv_core.specs.Boxes.{least_corner, most_corner};
 ghost use Rattle.iv_core.specs.Intervals.{Holds, width_of, IsWithin};
 ghost use Rattle.trig_box.specs.AnglePairs.{IsAnglePair};
-ghost use Rattle.kepler_box.specs.Kepler.{SolvesKepler, HoldsAnomaly, IsNearAnomaly, IsPairAtMostWide};
+ghost use Rattle.kepler_box.specs.Kepler.{SolvesKepler, HoldsAnomaly, IsNearAnomaly, IsPairAtMostWide, IsAnomalyBox};
 ghost use Rattle.kepler_box.specs.Steps.{IsMeanAnomaly, IsAngle, IsEccentricity, IsStep, AreNear, last_step, residual_limit, radius_limit, angle_width_limit, pair_width_limit};
 
 use iv_core::Iv;
-use trig_box::{PairBox, pair_box};
+use trig_box::{PairBox, pair_box, rough_pair};
 
 // After these many a further step leads at most 3 units away, wherever the first began.
 const ROUNDS: u32 = 14;
@@ -75,6 +75,12 @@ fn coarse(z: i128) -> i64
     (z >> 64) as i64
 }
 
+// The upper half of a product
+fn high(a: i64, b: i64) -> i64
+{
+    (a as i128 * b as i128 >> 64) as i64
+}
+
 // e · sine in units of 2^-56, rounded down
 fn pull_of(e: i64, sine: i64) -> i64
     requires eccentricity { IsEccentricity e }
@@ -96,6 +102,9 @@ fn step(m: i64, e: i64, angle: i64) -> i64
     let sine = sine_of(angle);
     m + pull_of(e, middle_of(sine.lo(), sine.hi()))
 }
+
+// How far the right side of the equation may lie from an angle that is taken, in units of 2^-56
+const RESIDUAL: i64 = 14;
 
 // How far from the mean anomaly the steps may begin, in units of 2^-56: as far as a step leads at most
 const REACH: i64 = 1 << 52;
@@ -150,6 +159,26 @@ fn nearer(m: i64, e: i64, angle: i64) -> i64
     let first = drawn_out(change, pull, change);
     let second = drawn_out(change, pull, first);
     in_reach(m, angle + drawn_out(change, pull, second))
+}
+
+// The next angle by Newton's rule, from a rough pair
+fn rough_step(m: i64, e: i64, angle: i64) -> i64
+{
+    let (cos, sin) = rough_pair(angle);
+    let change = m.wrapping_add(high(e, sin) >> 2).wrapping_sub(angle);
+    // change / (1 - pull), by three terms more; pull is in units of 2^-64
+    let pull = high(e, cos) << 6;
+    let first = change.wrapping_add(high(change, pull));
+    let second = change.wrapping_add(high(first, pull));
+    angle.wrapping_add(change.wrapping_add(high(second, pull)))
+}
+
+// About the solution, in reach of m. Nothing more is claimed of it: it is where a solution is looked for first.
+fn aimed(m: i64, e: i64) -> i64
+    requires mean { IsMeanAnomaly m }
+    ensures { IsAngle result }
+{
+    in_reach(m, rough_step(m, e, rough_step(m, e, rough_step(m, e, m))))
 }
 
 // The angle from which a further step leads at most 3 units away. Newton's rule leads near it.
@@ -255,6 +284,44 @@ fn pairs_around(angle: i64, radius: i64) -> Anomaly
     }
 }
 
+// The boxes about an angle, if the right side of the equation lies near enough to it
+fn found_at(m: &Iv<56>, e: &Iv<60>, angle: i64) -> Option<Anomaly>
+    requires mean { IsWithin (12 * 2 ^ 56) m.now }
+    requires e_low { pos 0 ≤ℤ e.now.lo }
+    requires e_high { e.now.hi ≤ℤ pos (2 ^ 55) }
+    requires angle { IsAngle angle }
+    ensures { IfSome result (λ b. IsAnomalyBox m.now e.now b) }
+{
+    let sine = sine_of(angle);
+    let right = right_side(m, e, &sine);
+    let lo = right.lo();
+    let hi = right.hi();
+    if hi - angle > RESIDUAL {
+        return None;
+    }
+    if angle - lo > RESIDUAL {
+        return None;
+    }
+    let radius = widened(residual_of(angle, lo, hi));
+    Some(pairs_around(angle, radius))
+}
+
+/// `anomaly_box` by steps from box to box, which come near enough to every solution. It serves where a rough start does not.
+pub fn anomaly_by_steps(m: &Iv<56>, e: &Iv<60>) -> Anomaly
+    requires mean { IsWithin (12 * 2 ^ 56) m.now }
+    requires mean_narrow { width_of m.now ≤ℤ pos (2 ^ 4) }
+    requires eccentricity_low { pos 0 ≤ℤ e.now.lo }
+    requires eccentricity_high { e.now.hi ≤ℤ pos (2 ^ 55) }
+    requires eccentricity_narrow { width_of e.now ≤ℤ pos 2 }
+    ensures { IsAnomalyBox m.now e.now result }
+{
+    let angle = settle(middle_of(m.lo(), m.hi()), e.lo());
+    let sine = sine_of(angle);
+    let right = right_side(m, e, &sine);
+    let radius = widened(residual_of(angle, right.lo(), right.hi()));
+    pairs_around(angle, radius)
+}
+
 /// Boxes of every solution of Kepler's equation for a mean anomaly in `m` and an eccentricity in `e`.
 ///
 /// `m` is at most 12 in size and 2^-52 wide; `e` lies from 0 to 1/32 and is at most 2^-59 wide.
@@ -293,9 +360,8 @@ pub fn anomaly_box(m: &Iv<56>, e: &Iv<60>) -> Anomaly
     // No end of the pair is over 9/8 in size.
     ensures ends { IsWithin (9 * 2 ^ 57) result.cos × IsWithin (9 * 2 ^ 57) result.sin }
 {
-    let angle = settle(middle_of(m.lo(), m.hi()), e.lo());
-    let sine = sine_of(angle);
-    let right = right_side(m, e, &sine);
-    let radius = widened(residual_of(angle, right.lo(), right.hi()));
-    pairs_around(angle, radius)
+    match found_at(m, e, aimed(middle_of(m.lo(), m.hi()), e.lo())) {
+        Some(found) => found,
+        None => anomaly_by_steps(m, e),
+    }
 }

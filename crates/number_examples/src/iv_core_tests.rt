@@ -45,9 +45,12 @@ fn adds_and_subtracts_ends(rt: HostRuntime) -> Result<(), Fail> {
     Ok(())
 }
 
-const PRODUCTS: [(i64, i64, i64, i64, Option<(i64, i64)>); 7] = [
+const PRODUCTS: [(i64, i64, i64, i64, Option<(i64, i64)>); 10] = [
     (-2, 3, 4, 5, Some((-10, 15))),
     (-3, -2, 4, 5, Some((-15, -8))),
+    (2, 3, 4, 5, Some((8, 15))),
+    (2, 3, -5, -4, Some((-15, -8))),
+    (-3, -2, -5, -4, Some((8, 15))),
     (-2, 3, -5, 4, Some((-15, 12))),
     (MOST, MOST, -1, 1, Some((-MOST, MOST))),
     (MOST - 1, MOST, 1, 1, Some((MOST - 1, MOST))),
@@ -190,6 +193,31 @@ fn finds_roots(rt: HostRuntime) -> Result<(), Fail> {
         assert!(rt; 0 <= n && n <= MOST);
         let found = Iv::<0>::from_ends(n, n).root_to::<30>();
         assert_eq!(rt; (found.lo, found.hi), (lo, hi), "the root of {n}");
+    }
+    Ok(())
+}
+
+// The first is of no use, nor are the last two; the others lie near 2^30 times 10^9.
+const GUESSES: [u64; 6] = [
+    0,
+    1_073_741_823_999_900_000,
+    1_073_741_823_999_999_999,
+    1_073_741_824_000_100_000,
+    1 << 60,
+    u64::MAX,
+];
+
+// The ends do not depend on the guess: one that is far off makes the root be found without it.
+#[test]
+fn finds_roots_from_guesses(rt: HostRuntime) -> Result<(), Fail> {
+    for guess in GUESSES.iter() {
+        let squares = Iv::<0>::from_ends(1_000_000_000_000_000_000, 1_000_000_000_000_000_000);
+        let found = squares.root_by::<30>(*guess);
+        assert_eq!(rt;
+            (found.lo, found.hi),
+            (1_073_741_823_999_999_999, 1_073_741_824_000_000_001),
+            "from {guess}"
+        );
     }
     Ok(())
 }

@@ -11,5 +11,13 @@ fn rounds(rt: HostRuntime) {
         nearest(i128::MAX, 2),
         85070591730234615865843651857942052864
     );
+    // Three times the quotient alone would not fit.
+    assert_eq!(rt;
+        (ceil(i128::MIN, 3), nearest(i128::MIN, 3)),
+        (
+            -56713727820156410577229101238628035242,
+            -56713727820156410577229101238628035243,
+        )
+    );
     assert_eq!(rt; (floor_shift(-7, 1), ceil_shift(-7, 1)), (-4, -3));
 }

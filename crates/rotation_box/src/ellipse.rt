@@ -73,7 +73,7 @@ fn radius_of(
     ensures least { pos (2 ^ 60 - 1025 * 2 ^ 45) ≤ℤ result.held.lo }
 {
     let pull: SizedBox<60, PULL, PULL_WIDTH> = eccentricity.mul(&anomaly.cosine());
-    SizedBox::new(one().sub(&pull.held).unwrap())
+    SizedBox::new(one().difference_of(&pull.held))
 }
 
 // 1 - e²
@@ -84,7 +84,7 @@ fn rest_of(eccentricity: &SizedBox<60, ECCENTRICITY, 1>) -> Iv<60>
     ensures narrow { width_of result ≤ℤ pos 2 }
 {
     let square: SizedBox<60, SQUARE, 2> = eccentricity.square();
-    one().sub(&square.held).unwrap()
+    one().difference_of(&square.held)
 }
 
 // Near-roots of 1 - e²; the lower end is one of them, but for 2^-50

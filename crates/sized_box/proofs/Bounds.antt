@@ -27,6 +27,9 @@ pub in_reach : (lo hi : ℤ) (t : ℕ) → t ≤ 2 ^ 62 → neg_ℤ (pos t) ≤�
 in_reach lo hi t l h k (inl p) = omega (arith, ints)
 in_reach lo hi t l h k (inr p) = omega (arith, ints)
 
+pub reached : (lo hi : ℤ) (t : ℕ) → t ≤ 2 ^ 62 → neg_ℤ (pos t) ≤ℤ lo → hi ≤ℤ pos t → (neg_ℤ (pos (2 ^ 62)) ≤ℤ lo) × (hi ≤ℤ pos (2 ^ 62))
+reached lo hi t l h k = (omega (arith, ints), omega (arith, ints))
+
 -- ---- products
 -- a number of at most t s in size, over s, rounded either way
 rounded_within : (z : ℤ) (t s : ℕ) → 0 < s → neg_ℤ (pos (t * s)) ≤ℤ z → z ≤ℤ pos (t * s) → (neg_ℤ (pos t) ≤ℤ floor_div z s) × (ceil_div z s ≤ℤ pos t)

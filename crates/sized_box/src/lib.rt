@@ -51,7 +51,7 @@ impl<const K: u32, const SIZE: u64, const WIDTH: u64> SizedBox<K, SIZE, WIDTH> {
         ensures holds { (x y : Rational) →
             Holds self.now.held x → Holds other.now.held y → Holds result.held (add_r x y) }
     {
-        SizedBox::new(self.held.add(&other.held).unwrap())
+        SizedBox::new(self.held.sum_of(&other.held))
     }
 
     /// Holds all differences.
@@ -67,7 +67,7 @@ impl<const K: u32, const SIZE: u64, const WIDTH: u64> SizedBox<K, SIZE, WIDTH> {
         ensures holds { (x y : Rational) →
             Holds self.now.held x → Holds other.now.held y → Holds result.held (sub_r x y) }
     {
-        SizedBox::new(self.held.sub(&other.held).unwrap())
+        SizedBox::new(self.held.difference_of(&other.held))
     }
 
     /// Holds all products.
@@ -87,7 +87,7 @@ impl<const K: u32, const SIZE: u64, const WIDTH: u64> SizedBox<K, SIZE, WIDTH> {
         ensures holds { (x y : Rational) →
             Holds self.now.held x → Holds other.now.held y → Holds result.held (mul_r x y) }
     {
-        SizedBox::new(self.held.mul_to::<A, TO>(&other.held).unwrap())
+        SizedBox::new(self.held.product_of::<A, TO>(&other.held))
     }
 
     /// Holds all squares.
@@ -101,7 +101,7 @@ impl<const K: u32, const SIZE: u64, const WIDTH: u64> SizedBox<K, SIZE, WIDTH> {
         requires width { 2 * SIZE * WIDTH + 2 * 2 ^ (K + K - TO) ≤ (TO_WIDTH + 1) * 2 ^ (K + K - TO) }
         ensures holds { (x : Rational) → Holds self.now.held x → Holds result.held (mul_r x x) }
     {
-        SizedBox::new(self.held.square_to::<TO>().unwrap())
+        SizedBox::new(self.held.square_of::<TO>())
     }
 
     /// Holds all quotients by a box whose lower end is at least LEAST.

@@ -1,6 +1,5 @@
 use Rattle.std.proofs.Common.{sym, subst}
-use Rattle.std.proofs.lemmas.Result.{IfOk-at_ok}
-use Rattle.rational.specs.Rational.{Rational, sub_r, mul_r}
+use Rattle.rational.specs.Rational.{sub_r, mul_r}
 use Rattle.iv_core.specs.declared.Iv.{Iv}
 use Rattle.iv_core.specs.Intervals.{Holds}
 use Rattle.orbit_model.specs.Solution.{one}
@@ -11,6 +10,5 @@ pub returns-clause-holds : goal.returns-clause-holds
 returns-clause-holds c = λ e p h k.
     let a = c.args.anomaly.now in
     let cos : Holds c.cosine.result.held p.cos = subst (λ (b : Iv 60). Holds b p.cos) (sym c.cosine.ensures) k.0 in
-    let d = IfOk-at_ok (λ (r : Iv 60). (x y : Rational) → Holds c.one.result x → Holds c.mul-pull.result.held y → Holds r (sub_r x y)) c.unwrap.ensures c.sub.ensures.holds in
     subst (λ (b : Iv 60). Holds b (sub_r one (mul_r e p.cos))) (sym c.new.ensures)
-    (d one (mul_r e p.cos) (one_held c.one.result c.one.ensures.lo c.one.ensures.hi) (c.mul-pull.ensures.holds e p.cos h cos))
+    (c.difference_of.ensures.holds one (mul_r e p.cos) (one_held c.one.result c.one.ensures.lo c.one.ensures.hi) (c.mul-pull.ensures.holds e p.cos h cos))

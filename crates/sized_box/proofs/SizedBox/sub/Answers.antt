@@ -1,33 +1,29 @@
 use Rattle.std.proofs.Common.{◌≡◌, ◌+ℤ◌, ◌-ℤ◌, arith}
 use Rattle.std.proofs.lemmas.Int.{ints}
-use Rattle.std.proofs.lemmas.Result.{IfOk-at_ok}
-use Rattle.iv_core.specs.Intervals.{width_of}
-use Rattle.sized_box.proofs.Bounds.{ok_of, in_reach, same_within}
+use Rattle.sized_box.proofs.Bounds.{reached, same_within}
 use Rattle.sized_box.proofs.SizedBox.sub.Goals as goal
 
-pub unwrap-requires : goal.unwrap-requires
-unwrap-requires g c =
+pub difference_of-requires : goal.difference_of-requires
+difference_of-requires g c =
     let x = c.args.self.now in
     let y = c.args.other.now in
-    ok_of c.sub.result (λ h. in_reach _ _ g.row.TO_SIZE c.requires.limit
+    let r = reached (x.held.lo -ℤ y.held.hi) (x.held.hi -ℤ y.held.lo) g.row.TO_SIZE c.requires.limit
     (omega (arith, ints, x.within.0, x.within.1, y.within.0, y.within.1, c.requires.size))
-    (omega (arith, ints, x.within.0, x.within.1, y.within.0, y.within.1, c.requires.size)) (c.sub.ensures.refused.0 h))
+    (omega (arith, ints, x.within.0, x.within.1, y.within.0, y.within.1, c.requires.size)) in
+    (omega arith, r)
 
 pub new-requires : goal.new-requires
 new-requires g c =
     let x = c.args.self.now in
     let y = c.args.other.now in
-    let a = x.held in
-    let b = y.held in
-    let e = IfOk-at_ok (λ r. (r.lo ≡ (a.lo -ℤ b.hi)) × (r.hi ≡ (a.hi -ℤ b.lo))) c.unwrap.ensures c.sub.ensures.ends in
-    let w = IfOk-at_ok (λ r. width_of r ≡ (width_of a +ℤ width_of b)) c.unwrap.ensures c.sub.ensures.width in (
+    let b = c.difference_of.result in (
       omega arith,
       (
         omega arith,
         (
-          same_within c.unwrap.result.lo c.unwrap.result.hi (a.lo -ℤ b.hi) (a.hi -ℤ b.lo) g.row.TO_SIZE e.0 e.1
+          same_within b.lo b.hi (x.held.lo -ℤ y.held.hi) (x.held.hi -ℤ y.held.lo) g.row.TO_SIZE c.difference_of.ensures.lo c.difference_of.ensures.hi
               (omega (arith, ints, x.within.0, x.within.1, y.within.0, y.within.1, c.requires.size)) (omega (arith, ints, x.within.0, x.within.1, y.within.0, y.within.1, c.requires.size)),
-          omega (arith, ints, w, x.narrow, y.narrow, c.requires.width),
+          omega (arith, ints, c.difference_of.ensures.width, x.narrow, y.narrow, c.requires.width),
         ),
       ),
     )

@@ -1,0 +1,57 @@
+use Rattle.std.proofs.Common.{ℤ, pos, ◌+ℤ◌, ◌-ℤ◌, ◌≤ℤ◌, subst, subst₂, sym, ◌∙◌}
+use Rattle.std.proofs.lemmas.Int.{to_z-of_z}
+use Rattle.std.specs.Int.{w64}
+use Rattle.rational.specs.Rational.{Rational, InBox, of_scale}
+use Rattle.trig_box.specs.AnglePairs.{IsAnglePair}
+use Rattle.kepler_box.proofs.Contract.{IsFound, found_holds, found_near}
+use Rattle.kepler_box.proofs.Parts.{wide_of, ends_of}
+use Rattle.kepler_box.proofs.found_at.Goals as goal
+
+found : (c : goal.After-pairs_around) →
+    IsFound c.args.m.now.lo c.args.m.now.hi c.args.e.now.lo c.args.e.now.hi c.args.angle c.widened-radius.result c.sine_of-sine.result.lo
+    c.sine_of-sine.result.hi c.right_side-right.result.lo c.right_side-right.result.hi
+    c.pairs_around.result.angle.lo c.pairs_around.result.angle.hi c.pairs_around.result.cos.lo c.pairs_around.result.cos.hi c.pairs_around.result.sin.lo c.pairs_around.result.sin.hi
+found c =
+    let x : ℤ = c.args.angle in
+    let r : ℤ = c.widened-radius.result in
+    let a : ℤ = c.sine_of-sine.result.lo in
+    let b : ℤ = c.sine_of-sine.result.hi in
+    let n : ℤ = c.residual_of.result in
+    let ex = to_z-of_z w64 x c.ranges.angle in
+    let er = to_z-of_z w64 r (record { sfits = c.widened-radius.type_inv }) in
+    let en = to_z-of_z w64 n (record { sfits = c.residual_of.type_inv }) in
+    let eh = to_z-of_z w64 c.hi-hi.result (record { sfits = c.hi-hi.type_inv }) ∙ c.hi-hi.ensures in
+    let el = to_z-of_z w64 c.lo-lo.result (record { sfits = c.lo-lo.type_inv }) ∙ c.lo-lo.ensures in
+    let e = ends_of x r c.pairs_around.result.angle.lo c.pairs_around.result.angle.hi _ _ ex er c.requires.angle.0 c.requires.angle.1
+    c.widened-radius.ensures.low c.widened-radius.ensures.high c.pairs_around.ensures.lo c.pairs_around.ensures.hi in
+    record {
+      e_low = c.requires.e_low;
+      e_high = c.requires.e_high;
+      sine = subst (λ (z : ℤ). (c s : Rational) → IsAnglePair 5 (of_scale 56 z) c s → InBox 60 a b s) ex c.sine_of-sine.ensures.holds;
+      right = c.right_side-right.ensures.holds;
+      above = wide_of _ n _ r (subst₂ (λ (y z : ℤ). (y -ℤ z) ≤ℤ n) eh ex c.residual_of.ensures.above) en c.widened-radius.ensures.wide;
+      below = wide_of _ n _ r (subst₂ (λ (y z : ℤ). (y -ℤ z) ≤ℤ n) ex el c.residual_of.ensures.below) en c.widened-radius.ensures.wide;
+      radius = c.widened-radius.ensures.low;
+      low_is = e.3;
+      high_is = e.4;
+      low_end = e.0;
+      high_end = e.1;
+      pair = c.pairs_around.ensures.pairs;
+    }
+
+pub returns : goal.returns
+returns c =
+    let ex = to_z-of_z w64 c.args.angle c.ranges.angle in
+    let er = to_z-of_z w64 c.widened-radius.result (record { sfits = c.widened-radius.type_inv }) in
+    let e = ends_of c.args.angle c.widened-radius.result c.pairs_around.result.angle.lo c.pairs_around.result.angle.hi _ _ ex er
+    c.requires.angle.0 c.requires.angle.1 c.widened-radius.ensures.low c.widened-radius.ensures.high
+    c.pairs_around.ensures.lo c.pairs_around.ensures.hi in
+    record {
+      holds = λ mean e angle cos sin h k g. found_holds _ _ _ _ _ _ _ _ _ _ _ _ _ _ _ _ mean e angle cos sin (found c) h k g;
+      pairs = c.pairs_around.ensures.pairs;
+      near = λ d mean e angle cos sin h k g. found_near _ _ _ _ _ _ _ _ _ _ _ _ _ _ _ _ d mean e angle cos sin (found c) h k g;
+      range = (e.0, e.1);
+      angle_width = e.2;
+      pair_width = c.pairs_around.ensures.pair_width;
+      ends = c.pairs_around.ensures.ends;
+    }
