@@ -76,8 +76,7 @@ fn coarse(z: i128) -> i64
 }
 
 // The upper half of a product
-fn high(a: i64, b: i64) -> i64
-{
+fn high(a: i64, b: i64) -> i64 {
     (a as i128 * b as i128 >> 64) as i64
 }
 
@@ -162,8 +161,7 @@ fn nearer(m: i64, e: i64, angle: i64) -> i64
 }
 
 // The next angle by Newton's rule, from a rough pair
-fn rough_step(m: i64, e: i64, angle: i64) -> i64
-{
+fn rough_step(m: i64, e: i64, angle: i64) -> i64 {
     let (cos, sin) = rough_pair(angle);
     let change = m.wrapping_add(high(e, sin) >> 2).wrapping_sub(angle);
     // change / (1 - pull), by three terms more; pull is in units of 2^-64
