@@ -2,6 +2,8 @@
 #![tactic(auto)]
 
 #[cfg(test)]
+mod galileo_places;
+#[cfg(test)]
 mod places;
 #[cfg(test)]
 mod records;
