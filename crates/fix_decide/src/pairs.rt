@@ -6,7 +6,7 @@ ghost use Rattle.obs_rows.specs.Arcs.{free_count};
 ghost use Rattle.obs_rows.specs.Ranges.{IsBelow, IsWithin};
 ghost use Rattle.obs_rows.specs.Pairs.{HasItsArcs};
 ghost use Rattle.obs_rows.specs.Integers.{integer_count};
-ghost use Rattle.obs_rows.specs.Signals.{AreCounted};
+ghost use Rattle.obs_rows.specs.Signals.{AreCounted, fine_signals};
 ghost use Rattle.fix_decide.specs.Reaches.{IsNarrow};
 ghost use Rattle.fix_decide.specs.RowReaches.{IsModest, row_reach, AreSeen};
 ghost use Rattle.fix_decide.specs.UpperSums.{reach_of, signal_upper, pair_upper};
@@ -18,7 +18,7 @@ use crate::reaches::{Reach, RowReach, reach_at, row_reach};
 use arrayvec::ArrayVec;
 use integer_form::{Overwidth, Place};
 use normal_sum::{MOST_ROWS, first_places, places_of, share};
-use obs_rows::{Arc, PairRows, Row, SIGNALS, phase_place};
+use obs_rows::{Arc, PairRows, Row, SIGNALS, Signals, fine_signals, phase_place};
 
 /// What a move gives of each of these rows.
 fn row_reaches(moved: &[i64; 3], rows: &[Row]) -> ArrayVec<RowReach, MOST_ROWS>
@@ -91,11 +91,8 @@ fn signal_upper(
     Ok(share(rows.len(), signal) as i128 * gaps(reaches.as_slice()))
 }
 
-/// What the weighted sum of squares of a pair's rows over these signals is at most, at the integers z and a move in 2^-5 ι.
-///
-/// z has an entry for each free arc of the list and each phase of the signals. Refused by the place `Sum` exactly where the
-/// residual of some row may lie 2^33 or more from 0, as some of the signals sees it.
-pub fn pair_upper(
+/// What `pair_upper` gives, over a list of signals.
+pub(crate) fn upper_over(
     arcs: &[Arc],
     signals: &[usize],
     pair: &PairRows,
@@ -124,4 +121,31 @@ pub fn pair_upper(
         sum += signal_upper(pair, moves.as_slice(), &places, z, *signal)?;
     }
     Ok(sum)
+}
+
+/// What the weighted sum of squares of a pair's rows is at most, at the integers z and a move in 2^-5 ι: in a fine session, of
+/// all signals of the bands that are used.
+///
+/// z has an entry for each free arc of the list and each phase of the signals. Refused by the place `Sum` exactly where the
+/// residual of some row may lie 2^33 or more from 0, as some of the signals sees it.
+pub fn pair_upper(
+    arcs: &[Arc],
+    signals: Signals,
+    pair: &PairRows,
+    z: &[i64],
+    moved: &[i64; 3],
+) -> Result<i128, Overwidth>
+    requires arcs { HasItsArcs arcs.now pair.now }
+    requires free { free_count arcs.now ≤ MOST_FREE_ARCS }
+    requires entries { length z.now ≡ integer_count arcs.now (fine_signals signals) }
+    requires z_size { All (IsBelow (2 ^ 30)) z.now }
+    requires moved_size { All (IsBelow (2 ^ 46)) moved.now }
+    ensures value { IfOk result (λ u. u ≡ pair_upper arcs.now (fine_signals signals) z.now moved.now pair.now) }
+    ensures above { IfOk result (StaysAtMost arcs.now (fine_signals signals) (pair.now ∷ []) z.now moved.now) }
+    ensures from { IfOk result (λ u. pos 0 ≤ℤ u) }
+    ensures to { IfOk result (λ u. u ≤ℤ pos (2 ^ 107)) }
+    ensures refused { IsErr result ↔ IsWide arcs.now (fine_signals signals) z.now moved.now pair.now }
+    ensures place { IfErr result (λ e. e.place ≡ Place.Sum) }
+{
+    upper_over(arcs, fine_signals(signals), pair, z, moved)
 }

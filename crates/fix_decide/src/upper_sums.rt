@@ -10,7 +10,7 @@ ghost use Rattle.fix_decide.specs.UpperSums.{upper_sum as upper_sum_of, top};
 ghost use Rattle.fix_decide.specs.Bounds.{StaysAtMost};
 ghost use Rattle.fix_decide.specs.Widths.{AreWide};
 
-use crate::pairs::pair_upper;
+use crate::pairs::upper_over;
 use integer_form::{Form, Overwidth, Place};
 use obs_rows::{Arc, PairRows, Session, fine_signals};
 use whole_math::ceil_shift;
@@ -38,7 +38,7 @@ fn sum_of_pairs(
 {
     let mut sum = 0;
     for pair in pairs {
-        sum += pair_upper(arcs, signals, pair, z, moved)?;
+        sum += upper_over(arcs, signals, pair, z, moved)?;
     }
     Ok(sum)
 }

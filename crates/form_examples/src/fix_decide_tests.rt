@@ -319,8 +319,8 @@ fn pair_of(
     z: &[i64],
     moved: &[i64; 3],
 ) -> Option<Result<i128, Overwidth>> {
-    let signals = fine_signals(signals_of(125));
-    if free_arcs(arcs) > 20 || z.len() != integer_count(arcs, signals) {
+    let signals = signals_of(125);
+    if free_arcs(arcs) > 20 || z.len() != integer_count(arcs, fine_signals(signals)) {
         return None;
     }
     if !has_its_arcs(arcs, pair) || !are_below(z, 1 << 30) || !are_below(moved, 1 << 46) {

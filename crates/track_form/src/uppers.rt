@@ -7,7 +7,7 @@ ghost use Rattle.obs_rows.specs.Arcs.{free_count};
 ghost use Rattle.obs_rows.specs.Ranges.{IsBelow};
 ghost use Rattle.obs_rows.specs.Pairs.{HasItsArcs};
 ghost use Rattle.obs_rows.specs.Integers.{integer_count};
-ghost use Rattle.obs_rows.specs.Signals.{fine_signals, AreCounted};
+ghost use Rattle.obs_rows.specs.Signals.{fine_signals};
 ghost use Rattle.fix_decide.specs.Widths.{IsWide};
 ghost use Rattle.track_sum.specs.Fronts.{track_top};
 ghost use Rattle.track_sum.specs.Decided.{pair_uppers};
@@ -15,14 +15,14 @@ ghost use Rattle.track_form.specs.Uppers.{IsSomeWide};
 
 use fix_decide::pair_upper;
 use integer_form::{Overwidth, Place};
-use obs_rows::{Arc, PairRows, fine_signals};
+use obs_rows::{Arc, PairRows, Signals};
 use track_data::Track;
 use whole_math::ceil_shift;
 
 /// U of all these pairs, each with a move of its own.
 fn sum_of_uppers(
     arcs: &[Arc],
-    signals: &[usize],
+    signals: Signals,
     pairs: &[PairRows],
     z: &[i64],
     moves: &[[i64; 3]],
@@ -30,16 +30,15 @@ fn sum_of_uppers(
     requires arcs { All (HasItsArcs arcs.now) pairs.now }
     requires few { length pairs.now ≤ 3600 }
     requires free { free_count arcs.now ≤ MOST_FREE_ARCS }
-    requires counted { AreCounted signals.now }
     requires move_each { length moves.now ≡ length pairs.now }
-    requires entries { length z.now ≡ integer_count arcs.now signals.now }
+    requires entries { length z.now ≡ integer_count arcs.now (fine_signals signals) }
     requires z_size { All (IsBelow (2 ^ 30)) z.now }
     requires moves_size { All (All (IsBelow (2 ^ 46))) moves.now }
-    ensures value { IfOk result (λ u. u ≡ sum (pair_uppers arcs.now signals.now z.now pairs.now moves.now)) }
+    ensures value { IfOk result (λ u. u ≡ sum (pair_uppers arcs.now (fine_signals signals) z.now pairs.now moves.now)) }
     ensures from { IfOk result (λ u. pos 0 ≤ℤ u) }
     ensures to { IfOk result (λ u. u ≤ℤ pos (2 ^ 119)) }
-    ensures bounded { IfOk result (λ u. AllZip (λ p m. IsWide arcs.now signals.now z.now m p → ⊥) pairs.now moves.now) }
-    ensures wide { OnErr result (IsSomeWide arcs.now signals.now z.now pairs.now moves.now) }
+    ensures bounded { IfOk result (λ u. AllZip (λ p m. IsWide arcs.now (fine_signals signals) z.now m p → ⊥) pairs.now moves.now) }
+    ensures wide { OnErr result (IsSomeWide arcs.now (fine_signals signals) z.now pairs.now moves.now) }
     ensures place { IfErr result (λ e. e.place ≡ Place.Sum) }
 {
     let mut sum = 0;
@@ -74,7 +73,7 @@ pub(crate) fn track_upper(
 {
     let sum = sum_of_uppers(
         track.arcs.as_slice(),
-        fine_signals(track.signals),
+        track.signals,
         track.pairs.as_slice(),
         z,
         moves,

@@ -5,6 +5,7 @@ use Rattle.std.specs.Int.{w128}
 use Rattle.whole_math.specs.Vectors.{sum}
 use Rattle.whole_math.proofs.Order.{lins}
 use Rattle.obs_rows.specs.declared.pair_rows.PairRows.{PairRows}
+use Rattle.obs_rows.specs.Signals.{fine_signals}
 use Rattle.fix_decide.specs.UpperSums.{pair_upper}
 use Rattle.fix_decide.specs.Widths.{IsWide}
 use Rattle.fix_decide.proofs.GapSums.{next, Step, step}
@@ -28,8 +29,8 @@ loop-k-preserved c =
     let within : k < length moves = same_place k (length pairs) (length moves) inside c.requires.move_each in
     let p : PairRows = c.index-pairs-k.result in
     let m : List ℤ = get_or moves k [] in
-    let upper : List ℤ → PairRows → ℤ = pair_upper c.args.arcs.now c.args.signals.now c.args.z.now in
-    let uppers : List PairRows → List (List ℤ) → List ℤ = pair_uppers c.args.arcs.now c.args.signals.now c.args.z.now in
+    let upper : List ℤ → PairRows → ℤ = pair_upper c.args.arcs.now (fine_signals c.args.signals) c.args.z.now in
+    let uppers : List PairRows → List (List ℤ) → List ℤ = pair_uppers c.args.arcs.now (fine_signals c.args.signals) c.args.z.now in
     let rest : ℤ = sum (uppers (drop (k + 1) pairs) (drop (k + 1) moves)) in
     let e : drop k pairs ≡ p ∷ drop (k + 1) pairs = drop_more pairs k p inside ∙ ap (λ (x : PairRows). x ∷ drop (k + 1) pairs) (sym c.index-pairs-k.is) in
     let f : drop k moves ≡ m ∷ drop (k + 1) moves = drop_more moves k [] within in
@@ -37,7 +38,7 @@ loop-k-preserved c =
     let q : ℤ = c.in_ok-sum.field-0 in
     let t : Step (to_z w128 (of_z w128 (s +ℤ to_z w128 (of_z w128 q)))) s q k (2 ^ 107) =
     step s q k (2 ^ 107) c.loop-k.invariant.from c.loop-k.invariant.to c.in_ok-sum.ensures.from c.in_ok-sum.ensures.to (few k (length pairs) inside c.requires.few) in
-    let W : List ℤ → PairRows → Type 0 = IsWide c.args.arcs.now c.args.signals.now c.args.z.now in
+    let W : List ℤ → PairRows → Type 0 = IsWide c.args.arcs.now (fine_signals c.args.signals) c.args.z.now in
     record {
       value = next s _ q (upper m p) rest (sum (uppers pairs moves)) (ap₂ (λ (xs : List PairRows) (ys : List (List ℤ)). s +ℤ sum (uppers xs ys)) (sym e) (sym f) ∙ c.loop-k.invariant.value)
           c.in_ok-sum.ensures.value t.is;
@@ -56,7 +57,7 @@ returns-in_err-sum-clause-wide c =
     let inside : k < length pairs = c.loop-k-test.true in
     let within : k < length moves = same_place k (length pairs) (length moves) inside c.requires.move_each in
     let p : PairRows = c.index-pairs-k.result in
-    let W : List ℤ → PairRows → Type 0 = IsWide c.args.arcs.now c.args.signals.now c.args.z.now in
+    let W : List ℤ → PairRows → Type 0 = IsWide c.args.arcs.now (fine_signals c.args.signals) c.args.z.now in
     on_err c.from_residual.result (record {
       place = k;
       inside = inside;
@@ -75,11 +76,11 @@ returns-clause-value c =
     let pairs : List PairRows = c.args.pairs.now in
     let moves : List (List ℤ) = c.args.moves.now in
     let k : ℕ = c.loop-k.k in
-    let uppers : List PairRows → List (List ℤ) → List ℤ = pair_uppers c.args.arcs.now c.args.signals.now c.args.z.now in
+    let uppers : List PairRows → List (List ℤ) → List ℤ = pair_uppers c.args.arcs.now (fine_signals c.args.signals) c.args.z.now in
     let s : ℤ = to_z w128 c.loop-k.sum-bits in
     let past : drop k pairs ≡ [] = drop_all k pairs c.loop-k-test.false in
     no_more s (sum (uppers pairs moves)) (ap (λ (xs : List PairRows). s +ℤ sum (uppers xs (drop k moves))) (sym past) ∙ c.loop-k.invariant.value)
 
 pub returns-clause-bounded : goal.returns-clause-bounded
-returns-clause-bounded c = all_zip_from (λ (p : PairRows) (m : List ℤ). IsWide c.args.arcs.now c.args.signals.now c.args.z.now m p → ⊥) c.args.pairs.now c.args.moves.now c.requires.move_each
+returns-clause-bounded c = all_zip_from (λ (p : PairRows) (m : List ℤ). IsWide c.args.arcs.now (fine_signals c.args.signals) c.args.z.now m p → ⊥) c.args.pairs.now c.args.moves.now c.requires.move_each
     (λ k inside p m. c.loop-k.invariant.narrow k (omega (arith, inside, c.loop-k-test.false)) p m)

@@ -2,7 +2,7 @@ use Rattle.std.proofs.Common.{◌≡◌, ℕ, ◌*◌, ◌^◌, ◌<◌, map, dr
 use Rattle.whole_math.specs.Vectors.{sum}
 use Rattle.fix_decide.specs.UpperSums.{signal_upper}
 use Rattle.fix_decide.specs.Widths.{IsWideFor}
-use Rattle.fix_decide.proofs.pairs.pair_upper.Given as goal
+use Rattle.fix_decide.proofs.pairs.upper_over.Given as goal
 
 abbrev pub invariant-loop-signal : goal.invariant-loop-signal
 invariant-loop-signal l = record {
