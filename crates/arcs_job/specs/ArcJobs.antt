@@ -1,6 +1,5 @@
 -- What the command `arcs` ends with.
-use Rattle.std.specs.Prelude.{◌≡◌, ◌⊎◌, ℕ, ℤ, List, []}
-use Rattle.std.specs.declared.option.Option.{Option}
+use Rattle.std.specs.Prelude.{◌≡◌, ℕ, ℤ, List, []}
 use Rattle.obs_store.specs.declared.file.ObsFile.{ObsFile}
 use Rattle.eph_store.specs.File.{Records}
 use Rattle.obs_rows.specs.declared.arcs.Arc.{Arc}
@@ -13,13 +12,10 @@ use Rattle.sv_orbit.specs.Worlds.{world_of}
 use Rattle.screening.specs.Screening.{setting_of, AreUsedPairs}
 use Rattle.run_options.specs.declared.options.Options.{Options}
 use Rattle.obs_rows.specs.BandSets.{bands_of}
-use Rattle.rinex_head.specs.Systems.{system_of}
 use Rattle.session_begin.specs.Beginnings.{IsPosition, AreSignals, AreSparse, AreTaken}
-use Rattle.session_files.specs.Refusals.{IsPairRefused}
 use Rattle.arcs_job.specs.ArcLines.{arcs_text}
 use Rattle.job_answers.specs.declared.status.Status.TheVariants.{Done}
 use Rattle.job_answers.specs.Endings.{Ending, ending}
-use Rattle.session_files.specs.SessionFiles.{EndsBySession}
 
 -- The kept arcs of the files: of the pairs that are taken the used satellites, by the base's position and the solutions of
 -- the satellites' records with the constants of the system; and of these the arcs on the bands of the options that are long
@@ -37,15 +33,8 @@ pub record AreArcsOf (b r : ObsFile) (n : Records) (o : Options) (kept : List Ar
   pub kept_are : AreKept (bands_of o.bands) o.jump o.arc used kept short
   pub datums : HaveDatums kept
 
-pub record EndsWithArcs (b r : ObsFile) (n : Records) (o : Options) (end : Ending) : Type 0 where
+pub record AnswersArcs (o : Options) (b r : ObsFile) (n : Records) (end : Ending) : Type 0 where
   pub kept : List Arc
   pub short : ℕ
   pub are : AreArcsOf b r n o kept short
   pub end_is : end ≡ ending Done (arcs_text o.system kept short) []
-
--- what the three files end with
-abbrev pub ArcsEnd : Options → ObsFile → ObsFile → Records → Ending → Type 0
-ArcsEnd o b r n end = EndsWithArcs b r n o end ⊎ IsPairRefused b r o end
-
-abbrev pub ArcsEnds : (List ℕ → Option (List ℕ)) → List ℕ → List ℕ → List ℕ → Options → Ending → Type 0
-ArcsEnds told base rover nav o end = EndsBySession (system_of o.system) told base rover nav (ArcsEnd o) end

@@ -1,3 +1,2 @@
 pub mod ArcJobs
-pub mod ArcRuns
 pub mod ArcLines

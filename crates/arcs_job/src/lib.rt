@@ -5,31 +5,22 @@
 //! are too dense.
 #![tactic(auto)]
 
-ghost use Rattle.std.specs.Prelude.{◌≡◌, ◌≢◌, [], ◌∷◌, IfOk, All};
-ghost use Rattle.line_source.specs.Causes.{Rose, OpensAtMost};
-ghost use Rattle.job_answers.specs.Answers.{ending_of, IfEnded};
-ghost use Rattle.job_answers.specs.Endings.{ending};
+ghost use Rattle.std.specs.Prelude.{IfOk};
 ghost use Rattle.obs_rows.specs.BandSets.{bands_of};
-ghost use Rattle.obs_rows.specs.Ranges.{IsSystem};
 ghost use Rattle.session_begin.specs.Beginnings.{IsPosition, AreSignals, AreSparse, AreTaken};
 ghost use Rattle.screening.specs.Screening.{ArePairsOf};
-ghost use Rattle.arcs_job.specs.ArcLines.{arcs_text};
-ghost use Rattle.session_files.specs.FaultNames.{IsFaultOf};
-ghost use Rattle.session_files.specs.Refusals.{AreRefusedWhole};
-ghost use Rattle.arcs_job.specs.ArcJobs.{AreArcsOf, ArcsEnd, ArcsEnds};
+ghost use Rattle.arcs_job.specs.ArcJobs.{AreArcsOf, AnswersArcs};
 
 mod report;
 
 use eph_store::NavFile;
-use job_answers::{Answer, Status, Stop};
-use line_source::Files;
+use job_answers::{Answer, Status};
 use obs_store::ObsFile;
 pub use report::write_arcs;
-use rinex_head::System;
 use run_options::Options;
 use screening::screen_in;
 use session_begin::{Begun, SessionFault, begin};
-use session_files::{read_session, refused_pair};
+use session_files::SessionCommand;
 use slip_arcs::{Arcs, cut};
 use std::alloc::{AllocError, Global};
 use sv_orbit::world_of;
@@ -70,57 +61,29 @@ fn arcs_of(
     Ok(arcs)
 }
 
-fn answer_arcs(alloc: Global, arcs: &Arcs, system: u8) -> Result<Answer, AllocError>
-    requires { IsSystem system }
-    ensures { IfOk result (λ a. ending_of a ≡ ending Status.Done (arcs_text system arcs.now.kept arcs.now.short) []) }
-{
-    let mut out = Vec::new(alloc);
-    write_arcs(alloc, &mut out, arcs, system)?;
-    Ok(Answer {
-        status: Status::Done,
-        out,
-        err: Vec::new(alloc),
-    })
-}
-
-// What the three files end with.
-fn answer_session(
-    alloc: Global,
-    base: &ObsFile,
-    rover: &ObsFile,
-    nav: &NavFile,
-    options: &Options,
-) -> Result<Answer, Stop>
-    ensures { IfEnded result (λ end. ArcsEnd options.now base.now rover.now nav.now end) }
-{
-    match begin(alloc, base, rover, options) {
-        Ok(begun) => {
-            let arcs = arcs_of(alloc, &begun, base, rover, nav, options)?;
-            Ok(answer_arcs(alloc, &arcs, options.system)?)
-        }
-        Err(SessionFault::Refused(what)) => Ok(refused_pair(alloc, what)?),
-        Err(SessionFault::NoMemory) => Err(Stop::NoMemory),
-    }
-}
-
 /// The kept arcs of a session of two receivers.
-#[inline(never)]
-pub fn arcs<F: Files>(
-    alloc: Global,
-    files: &mut F,
-    base: &str,
-    rover: &str,
-    nav: &str,
-    options: &Options,
-) -> Result<Answer, Stop>
-    ensures ends { IfEnded result (λ end. ArcsEnds (F.text_of files.old) base.now rover.now nav.now options.now end) }
-    ensures refused { IfEnded result (AreRefusedWhole (F.text_of files.old) (F.unread files.new) (base.now ∷ rover.now ∷ nav.now ∷ [])) }
-    ensures opened { OpensAtMost 3 (F.opened files.old) (F.opened files.new) }
-    ensures fault { IfEnded result (λ end. end.status ≡ Status.ReadFault → Rose (F.faults files.old) (F.faults files.new)) }
-    ensures sure { All (F.is_sure_name files.old) (base.now ∷ rover.now ∷ nav.now ∷ []) → IfEnded result (λ end. end.status ≢ Status.ReadFault) }
-    ensures named { IfEnded result (IsFaultOf (F.is_sure_name files.old) (base.now ∷ rover.now ∷ nav.now ∷ [])) }
-{
-    let system = System::of_letter(options.system);
-    let read = read_session(alloc, files, system, base, rover, nav)?;
-    answer_session(alloc, &read.base, &read.rover, &read.nav, options)
+#[derive(Clone, Copy, Debug)]
+pub struct KeptArcs;
+
+impl SessionCommand for KeptArcs {
+    ghost answers = { AnswersArcs };
+
+    fn answer(
+        &self,
+        alloc: Global,
+        base: &ObsFile,
+        rover: &ObsFile,
+        nav: &NavFile,
+        options: &Options,
+    ) -> Result<Answer, SessionFault> {
+        let begun = begin(alloc, base, rover, options)?;
+        let arcs = arcs_of(alloc, &begun, base, rover, nav, options)?;
+        let mut out = Vec::new(alloc);
+        write_arcs(alloc, &mut out, &arcs, options.system)?;
+        Ok(Answer {
+            status: Status::Done,
+            out,
+            err: Vec::new(alloc),
+        })
+    }
 }

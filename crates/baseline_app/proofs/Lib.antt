@@ -1,5 +1,6 @@
-pub mod Parts
 pub mod Completes
 pub mod Says
-pub mod Openings
-pub mod FaultNames
+pub mod Files
+pub mod FormerSays
+pub mod FormerEnds
+pub mod FormerLaws

@@ -1,13 +1,15 @@
 -- A run of the program, whatever the job.
-use Rattle.std.specs.Prelude.{◌≡◌, ◌⊎◌, ℕ, List}
+use Rattle.std.specs.Prelude.{◌≡◌, ◌≢◌, ◌⊎◌, ℕ, List, length, All}
 use Rattle.std.specs.declared.option.Option.{Option}
 use Rattle.std.specs.Io.KnownBytes.{Appends}
-use Rattle.line_source.specs.Causes.{Rose}
+use Rattle.line_source.specs.Causes.{Rose, OpensAtMost}
 use Rattle.job_answers.specs.declared.status.Status.{Status}
-use Rattle.job_answers.specs.declared.status.Status.TheVariants.{WriteFault, NoMemory}
+use Rattle.job_answers.specs.declared.status.Status.TheVariants.{ReadFault, WriteFault, NoMemory}
 use Rattle.job_answers.specs.Statuses.{IsVerdictStatus}
 use Rattle.job_answers.specs.Endings.{Ending}
-use Rattle.job_answers.specs.Delivered.{SinkChange, IsDelivered}
+use Rattle.job_answers.specs.Delivered.{SinkChange, GainsUnlessFault, IsDelivered}
+use Rattle.job_answers.specs.Works.{FileWork, HaveFault}
+use Rattle.session_files.specs.Refusals.{HaveRefused}
 use Rattle.command_words.specs.declared.jobs.Job.{Job}
 use Rattle.baseline_app.specs.Jobs.{JobEnds, IsAnswer}
 
@@ -29,3 +31,11 @@ pub record EndsWell (job : Job) (told : List ℕ → Option (List ℕ)) (result 
 -- that, or out of memory, or a sink's count rose
 abbrev pub IsComplete : Job → (List ℕ → Option (List ℕ)) → Status → SinkChange → SinkChange → Type 0
 IsComplete job told result out err = EndsWell job told result out err ⊎ ((result ≡ NoMemory) ⊎ ((result ≡ WriteFault) × (Rose out.before out.now ⊎ Rose err.before err.now)))
+
+-- What a run of a job does with its files. Each is opened once at most. The file that a refusal names was read to its end, or
+-- is too large, or it names two together; the file that a read fault names isn't sure, and there is none where all are.
+pub record UsesFiles (work : FileWork) (names : List (List ℕ)) (result : Status) (err : SinkChange) : Type 0 where
+  pub opened : OpensAtMost (length names) work.opened work.opened_now
+  pub refused : HaveRefused work.told work.left names result (GainsUnlessFault err)
+  pub named : HaveFault work.sure names result (GainsUnlessFault err)
+  pub sure : All work.sure names → result ≢ ReadFault

@@ -8,38 +8,41 @@
 //! # Statuses
 //!
 //! Status 2 is a usage error, and comes only where the words are no job (`usage`), 4 only where a file's count of faults
-//! rose (`read`), and never for sure names (`sure`), 5 only where a sink's count did (`write`). A read fault names a file
-//! of the job whose name isn't sure (`named`); a refusal names one that was read to its end or is too large, or the two
-//! observation files together (`refused`). Words without files leave all files as they are (`untouched`); each file of a
-//! job is opened once at most (`opened`). Where all files of a job are there and of its form, and nothing fails, it ends
-//! with status 0 or 1 and its text is written, or memory is out (`complete`); `sim` and `sim run` need no file for that.
+//! rose (`read`), 5 only where a sink's count did (`write`). What a job does with its files is one clause (`files`, of
+//! `UsesFiles`): each is opened once at most; a refusal names one that was read to its end or is too large, or the two
+//! observation files together; a read fault names one whose name isn't sure, and with sure names there is none. Words
+//! without files leave all files as they are (`untouched`). Where all files of a job are there and of its form, and nothing
+//! fails, it ends with status 0 or 1 and its text is written, or memory is out (`complete`); `sim` and `sim run` need no
+//! file for that.
 //!
 //! # Jobs
 //!
-//! With status 0 out has gained, with status 1:
+//! What is said of each command is one clause (`says`, of `SaysOfJob`). With status 0 out has gained, with status 1:
 //! - `zero`: every other whole number has a greater sum than the printed one; the printed rival has the least.
 //! - `list`: what the observation file holds, of RINEX 3 or of RINEX 2; never.
 //! - `orbit`: numbers that hold every solution of the satellite's equations, with its system's constants, for the record
 //!   that is chosen at the tick; none is chosen.
 //! - `fix`, `track`: the certificate of integers that, with their move or moves, are strictly best for all rational data in
-//!   the printed boxes, and best by the ratio, and of a session that stands for the files (`SaysOfFix`, `SaysOfTrack`);
+//!   the printed boxes, and best by the ratio, and of a session that stands for the files (`AnswersFix`, `AnswersTrack`);
 //!   the text of an outcome that is no fix, with its cause.
 //! - `check`, `check-track`: `certified`, where the integers of the text are so; `not certified` and why.
 //! - `residuals`: what is left of each row's observations; the certificate has no vectors.
 //! - `migrate`: the spelling of the lifted certificate, whose tail is fixed, and strictly best in the old boxes, and best by
-//!   the ratio; the same where its tail isn't fixed (`SaysOfMigrate`).
+//!   the ratio; the same where its tail isn't fixed (`migrate_job`).
 //! - `arcs`: the kept arcs of the files; never.
 //! - `sim`: a file of a session of the seed; never.
 //! - `sim run`: the four lines about a session whose outcome is a fix; whose outcome is none. `match yes` stands exactly
 //!   where it is a fix with the integers of the truth.
 //!
+//! What `run` said in clauses of earlier forms follows from these (`former_law` of `laws`).
+//!
 //! # How a command is added
 //!
-//! A command has a variant of `Job` with its words (crate command_words), and a module of a job's crate, as
-//! `orbits` of file_jobs, with what it ends with, what a run of it says, and the lemmas on its statuses. Here it has cases of
-//! `JobEnds` and `IsReadable` (specs/Jobs.antt), of `readable_ends` and `job_status` (proofs/Completes.antt), a clause of
-//! `run` with its lemma (proofs/Says.antt), and an arm in `do_job`. What is said of statuses, sinks, faults and completeness
-//! (specs/Runs.antt) stays as it is.
+//! A command has a variant of `Job` with its words (crate command_words), and in a crate of commands a struct with one
+//! method: a `TextCommand` on one file, as `Orbit` of file_jobs, or a `SessionCommand` on the three of a session, as `Fix` of
+//! fix_job, with what it answers in specs/. Here it has cases of `JobEnds`, `IsReadable` and `SaysOfJob` (specs/Jobs.antt), of
+//! the three lemmas over them (proofs/Completes.antt, proofs/Says.antt), and an arm in `do_job` with its answer. What is said
+//! of statuses, sinks, files, faults and completeness (specs/Runs.antt) stays as it is.
 #![tactic(auto)]
 
 #[cfg(test)]
@@ -52,6 +55,7 @@ mod fault_order_tests;
 mod fix_tests;
 #[cfg(test)]
 mod forged_tests;
+mod laws;
 #[cfg(test)]
 mod malformed_tests;
 #[cfg(test)]

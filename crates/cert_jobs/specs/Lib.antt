@@ -1,4 +1,2 @@
 pub mod CertJobs
-pub mod CertRuns
 pub mod Migrations
-pub mod MigrateRuns

@@ -1,5 +1,5 @@
 -- What `migrate` ends with.
-use Rattle.std.specs.Prelude.{◌≡◌, ◌⊎◌, ℕ, List, [], Err}
+use Rattle.std.specs.Prelude.{◌≡◌, ℕ, List, [], Err}
 use Rattle.rinex_head.specs.declared.place.At.{At}
 use Rattle.cert_data.specs.declared.certs.Cert.{Cert}
 use Rattle.cert_data.specs.declared.tails.Tail.{Tail}
@@ -13,9 +13,9 @@ use Rattle.cert_migrate.specs.declared.old_certs.OldCert.{OldCert}
 use Rattle.cert_migrate.specs.OldSpelling.{old_spelling, IsWholeOld, IsOldCertificate}
 use Rattle.cert_migrate.specs.Migrated.{IsMigrated}
 use Rattle.job_answers.specs.declared.status.Status.{Status}
-use Rattle.job_answers.specs.declared.status.Status.TheVariants.{Done, Declined, Refused}
-use Rattle.job_answers.specs.Texts.{refusal_line}
+use Rattle.job_answers.specs.declared.status.Status.TheVariants.{Done, Declined}
 use Rattle.job_answers.specs.Endings.{Ending, ending}
+use Rattle.job_answers.specs.TextJobs.{TextJob}
 
 -- 0 exactly where the tail is fixed
 abbrev pub status_of : Tail → Status
@@ -33,22 +33,17 @@ pub record MigrateEnd (old : OldCert) (end : Ending) : Type 0 where
   pub migrated : IsMigrated old cert
   pub end_is : end ≡ ending (status_of cert.tail) (spelling cert) []
 
--- the text spells a certificate of version 1, which ends so
-pub record EndsByOld (text : List ℕ) (end : Ending) : Type 0 where
+-- the first place at which the rules of version 1 fail: none begins with the text's lines up to that one
+pub record IsOldRefused (text : List ℕ) (at : At) : Type 0 where
+  pub stuck : NoneBegins IsOldCertificate text at.line
+  pub gives_is : reading_as One text ≡ Err at
+
+-- the text spells a certificate of version 1, which has this answer
+pub record AnswersOld (text : List ℕ) (end : Ending) : Type 0 where
   pub old : OldCert
   pub whole : IsWholeOld old
   pub spelled : text ≡ old_spelling old
-  pub ends_so : MigrateEnd old end
+  pub answer : MigrateEnd old end
 
--- The text is none, and is refused at the first place at which the rules of version 1 fail. None begins with its lines up
--- to that one.
-pub record IsOldRefused (name text : List ℕ) (end : Ending) : Type 0 where
-  pub at : At
-  pub none : IsOldCertificate text → ⊥
-  pub stuck : NoneBegins IsOldCertificate text at.line
-  pub gives_is : reading_as One text ≡ Err at
-  pub end_is : end ≡ ending Refused [] (refusal_line name at)
-
--- what a file of that name and text ends with
-abbrev pub MigrateEnds : List ℕ → List ℕ → Ending → Type 0
-MigrateEnds name text end = EndsByOld text end ⊎ IsOldRefused name text end
+abbrev pub migrate_job : TextJob
+migrate_job = record { IsFile = IsOldCertificate; refuses = IsOldRefused; answers = AnswersOld }

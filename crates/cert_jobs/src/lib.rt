@@ -8,24 +8,20 @@
 //! the head of its module.
 #![tactic(auto)]
 
-ghost use Rattle.std.specs.Prelude.{◌≡◌, ◌≢◌, ◌≤◌, [], length, IfOk, ◌∷◌};
-ghost use Rattle.line_source.specs.Causes.{Rose, OpensAtMost};
+ghost use Rattle.std.specs.Prelude.{◌≡◌, ◌++◌};
 ghost use Rattle.job_answers.specs.Statuses.{IsVerdictStatus};
-ghost use Rattle.job_answers.specs.Answers.{ending_of, IfEnded};
-ghost use Rattle.job_answers.specs.Endings.{EndsByFile, IsRefusedWhole};
-ghost use Rattle.cert_jobs.specs.CertJobs.{status_of, shown_status, CheckEnd, ResidualsEnd, CheckEnds, ResidualsEnds};
+ghost use Rattle.cert_jobs.specs.CertJobs.{status_of, shown_status, check_job, residuals_job};
 
 mod migrations;
 
 use cert_check::check;
-use cert_data::{Cert, Verdict};
+use cert_data::Verdict;
 use cert_report::{write_residuals, write_verdict};
 use cert_text::read_cert;
-use job_answers::{Answer, Status, Stop, load_file, refused};
-use line_source::Files;
-pub use migrations::migrate;
+use job_answers::{Answer, Status, TextCommand};
+pub use migrations::Migration;
 use rinex_head::TextFault;
-use std::alloc::{AllocError, Global};
+use std::alloc::Global;
 
 /// Done where the verdict is `Certified`, else declined.
 pub fn status_of(verdict: &Verdict) -> Status
@@ -49,78 +45,41 @@ fn shown_status(shown: bool) -> Status
     }
 }
 
-// What a certificate ends with that is checked.
-fn answer_check(alloc: Global, cert: &Cert) -> Result<Answer, AllocError>
-    ensures { IfOk result (λ a. CheckEnd cert.now (ending_of a)) }
-{
-    let verdict = check(cert);
-    let mut out = Vec::new(alloc);
-    write_verdict(alloc, &mut out, &verdict)?;
-    Ok(Answer {
-        status: status_of(&verdict),
-        out,
-        err: Vec::new(alloc),
-    })
-}
-
-// What it ends with where its residuals are shown.
-fn answer_residuals(alloc: Global, cert: &Cert) -> Result<Answer, AllocError>
-    ensures { IfOk result (λ a. ResidualsEnd cert.now (ending_of a)) }
-{
-    let mut out = Vec::new(alloc);
-    let shown = write_residuals(alloc, &mut out, cert)?;
-    Ok(Answer {
-        status: shown_status(shown),
-        out,
-        err: Vec::new(alloc),
-    })
-}
-
-// What a file of this text ends with.
-fn check_text(alloc: Global, name: &str, text: &[u8]) -> Result<Answer, Stop>
-    requires { length text.now ≤ 67108864 }
-    ensures { IfEnded result (λ end. CheckEnds name.now text.now end) }
-{
-    match read_cert(alloc, text) {
-        Ok(cert) => Ok(answer_check(alloc, &cert)?),
-        Err(TextFault::Refused(at)) => Ok(refused(alloc, name, at)?),
-        Err(TextFault::NoMemory) => Err(Stop::NoMemory),
-    }
-}
-
-fn residuals_text(alloc: Global, name: &str, text: &[u8]) -> Result<Answer, Stop>
-    requires { length text.now ≤ 67108864 }
-    ensures { IfEnded result (λ end. ResidualsEnds name.now text.now end) }
-{
-    match read_cert(alloc, text) {
-        Ok(cert) => Ok(answer_residuals(alloc, &cert)?),
-        Err(TextFault::Refused(at)) => Ok(refused(alloc, name, at)?),
-        Err(TextFault::NoMemory) => Err(Stop::NoMemory),
-    }
-}
-
 /// Whether the rows of the certificate say what its tail says of a fix.
-pub fn check_file<F: Files>(alloc: Global, files: &mut F, name: &str) -> Result<Answer, Stop>
-    ensures ends { IfEnded result (λ end. EndsByFile (F.text_of files.old) name.now (CheckEnds name.now) end) }
-    ensures refused { IfEnded result (IsRefusedWhole (F.text_of files.old) (F.unread files.new) (name.now ∷ [])) }
-    ensures opened { OpensAtMost 1 (F.opened files.old) (F.opened files.new) }
-    ensures cause { F.faults files.old ≤ F.faults files.new }
-    ensures fault { IfEnded result (λ end. end.status ≡ Status.ReadFault → Rose (F.faults files.old) (F.faults files.new)) }
-    ensures sure { F.is_sure_name files.old name.now → IfEnded result (λ end. end.status ≢ Status.ReadFault) }
-{
-    let text = load_file(alloc, files, name)?;
-    check_text(alloc, name, &text)
+#[derive(Clone, Copy, Debug)]
+pub struct CertCheck;
+
+impl TextCommand for CertCheck {
+    ghost job = { λ _. check_job };
+
+    fn answer(&self, alloc: Global, text: &[u8]) -> Result<Answer, TextFault> {
+        let cert = read_cert(alloc, text)?;
+        let verdict = check(&cert);
+        let mut out = Vec::new(alloc);
+        write_verdict(alloc, &mut out, &verdict)?;
+        Ok(Answer {
+            status: status_of(&verdict),
+            out,
+            err: Vec::new(alloc),
+        })
+    }
 }
 
 /// What is left of the observations of the certificate's rows, at its tail's first integers.
-pub fn residuals<F: Files>(alloc: Global, files: &mut F, name: &str) -> Result<Answer, Stop>
-    ensures ends { IfEnded result (λ end. EndsByFile (F.text_of files.old) name.now (ResidualsEnds name.now) end) }
-    ensures refused { IfEnded result (IsRefusedWhole (F.text_of files.old) (F.unread files.new) (name.now ∷ [])) }
-    ensures opened { OpensAtMost 1 (F.opened files.old) (F.opened files.new) }
-    ensures cause { F.faults files.old ≤ F.faults files.new }
-    ensures fault { IfEnded result (λ end. end.status ≡ Status.ReadFault → Rose (F.faults files.old) (F.faults files.new)) }
-    ensures sure { F.is_sure_name files.old name.now → IfEnded result (λ end. end.status ≢ Status.ReadFault) }
-{
-    let text = load_file(alloc, files, name)?;
-    residuals_text(alloc, name, &text)
+#[derive(Clone, Copy, Debug)]
+pub struct Residuals;
+
+impl TextCommand for Residuals {
+    ghost job = { λ _. residuals_job };
+
+    fn answer(&self, alloc: Global, text: &[u8]) -> Result<Answer, TextFault> {
+        let cert = read_cert(alloc, text)?;
+        let mut out = Vec::new(alloc);
+        let shown = write_residuals(alloc, &mut out, &cert)?;
+        Ok(Answer {
+            status: shown_status(shown),
+            out,
+            err: Vec::new(alloc),
+        })
+    }
 }

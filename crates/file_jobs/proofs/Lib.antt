@@ -1,4 +1,1 @@
-pub mod ListSays
 pub mod ListEndings
-pub mod OrbitSays
-pub mod ZeroSays

@@ -1,11 +1,47 @@
--- How `list` ends where its file is not read.
-use Rattle.std.proofs.Common.{inl, inr, ℕ, List, Option}
+-- How `list` ends.
+use Rattle.std.proofs.Common.{◌≡◌, ◌≢◌, inl, inr, ℕ, List, [], ◌∷◌, Option, Err, refl, arith}
+use Rattle.line_source.specs.Causes.{Rose, OpensAtMost}
+use Rattle.obs_store.specs.declared.file.ObsFile.{ObsFile}
 use Rattle.rinex_head.specs.declared.system.System.TheVariants.{Gps}
-use Rattle.obs_source.specs.Formats.{any_of, HasObservation}
-use Rattle.job_answers.specs.Endings.{Ending, IsRefusal, EndsByFile}
-use Rattle.file_jobs.specs.Listing.{ListEnds}
+use Rattle.report_text.specs.List.{list_text}
+use Rattle.job_answers.specs.declared.stop.Stop.{Stop}
+use Rattle.job_answers.specs.declared.stop.Stop.TheVariants as stop
+use Rattle.job_answers.specs.declared.status.Status.TheVariants.{Done, ReadFault}
+use Rattle.job_answers.specs.Answers.{ending_of, IfEnds}
+use Rattle.job_answers.specs.Endings.{Ending, ending, IsRefusedWhole}
+use Rattle.job_answers.specs.Works.{FileWork, NoLine, IsDoneOver}
+use Rattle.job_answers.specs.TextJobs.{EndsOnText, TextEnds}
+use Rattle.job_answers.proofs.EndingLaws.{verdict_at}
+use Rattle.session_files.specs.SessionFiles.{IsObsOf, StopsAtObs}
+use Rattle.session_files.proofs.FaultLaws.{obs_fault_line}
+use Rattle.file_jobs.specs.Listing.{list_job}
 
-pub not_listed : (told : List ℕ → Option (List ℕ)) (name : List ℕ) (end : Ending)
-    → EndsByFile told name (IsRefusal (any_of Gps) (HasObservation Gps) name) end → EndsByFile told name (ListEnds name) end
-not_listed told name end (inl by_text) = inl (record { text = by_text.text; is = by_text.is; ends_so = inr by_text.ends_so })
-not_listed told name end (inr unloaded) = inr unloaded
+-- a file that was read is listed
+pub listed : (text : List ℕ) (name : List ℕ) (file : ObsFile) (told : List ℕ → Option (List ℕ)) (end : Ending) → (is : IsObsOf Gps told name file)
+    → end ≡ ending Done (list_text file) [] → EndsOnText list_job name is.text end
+listed text name file told end is end_is = inl (record { verdict = verdict_at end _ end_is tt; answer = record { file = file; is = is.is_file; end_is = end_is } })
+
+-- a file that isn't
+stops : (told : List ℕ → Option (List ℕ)) (name : List ℕ) (end : Ending) → StopsAtObs Gps told name end → TextEnds list_job told name end
+stops told name end (inl by_text) =
+    let r = by_text.ends_so in
+    inl (record {
+      text = by_text.text;
+      is = by_text.is;
+      ends_so = inr (record { at = r.at; refused = record { none = r.none; place = record { first = r.first; gives_is = r.gives_is } }; end_is = r.end_is });
+    })
+stops told name end (inr unloaded) = inr unloaded
+
+pub list_stop : (work : FileWork) (name : List ℕ) (why : Stop) → OpensAtMost 1 work.opened work.opened_now → IfEnds why (StopsAtObs Gps work.told name)
+    → IfEnds why (IsRefusedWhole work.told work.left (name ∷ [])) → IfEnds why (λ end. end.status ≡ ReadFault → Rose work.faults work.faults_now)
+    → (work.sure name → IfEnds why (λ end. end.status ≢ ReadFault)) → IsDoneOver work (name ∷ []) NoLine (TextEnds list_job work.told name) (Err why)
+list_stop work name (stop.Ended a) opens stopped refused rose never = record {
+  opened = opens;
+  ended = record {
+    ends_so = stops work.told name (ending_of a) stopped;
+    refused = λ is. inl (refused is);
+    fault = rose;
+    named = λ is. (0, name, omega arith, refl, record { line = obs_fault_line Gps work.told name (ending_of a) stopped is; unsure = λ sure. never sure is });
+  };
+}
+list_stop work name stop.NoMemory opens stopped refused rose never = record { opened = opens; ended = tt }

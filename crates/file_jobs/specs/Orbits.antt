@@ -17,7 +17,8 @@ use Rattle.rinex_nav.specs.NavForm.{IsNavFile, HasNavFile}
 use Rattle.rinex_nav.specs.NavRules.{nav_of}
 use Rattle.report_text.specs.Orbit.{OrbitNumbers, HoldsQuantities, AreNarrow, AreNumbersOf, orbit_lines, no_record_line}
 use Rattle.job_answers.specs.declared.status.Status.TheVariants.{Done, Declined}
-use Rattle.job_answers.specs.Endings.{Ending, ending, IsRefusal}
+use Rattle.job_answers.specs.Endings.{Ending, ending}
+use Rattle.job_answers.specs.TextJobs.{TextJob, form_job}
 
 -- The numbers hold the satellite of the record, of the system with that letter, at that tag by the satellite's clock, as received with a code of 0: every
 -- solution of the equations has its place and its clock between them, and there is one.
@@ -63,6 +64,5 @@ pub record EndsByRecords (system sat tag : ℕ) (text : List ℕ) (end : Ending)
   pub are_fit : AreFit records fit
   pub found : IsFound fit system sat tag end
 
--- what a file of that name and text ends with
-abbrev pub OrbitEnds : List ℕ → ℕ → ℕ → ℕ → List ℕ → Ending → Type 0
-OrbitEnds name system sat tag text end = EndsByRecords system sat tag text end ⊎ IsRefusal (nav_of (system_of system)) (HasNavFile (system_of system)) name text end
+abbrev pub orbit_job : ℕ → ℕ → ℕ → TextJob
+orbit_job system sat tag = form_job (nav_of (system_of system)) (HasNavFile (system_of system)) (EndsByRecords system sat tag)

@@ -6,7 +6,8 @@ use Rattle.zero_rows.specs.Rows.{Rows, rows, AreRows, IsZeroFile}
 use Rattle.zero_rows.specs.RowsRules.{rows_of}
 use Rattle.zero_rows.specs.Sums.{sum_at, IsBest, IsRival}
 use Rattle.job_answers.specs.declared.status.Status.TheVariants.{Done, Declined}
-use Rattle.job_answers.specs.Endings.{Ending, ending, IsRefusal}
+use Rattle.job_answers.specs.Endings.{Ending, ending}
+use Rattle.job_answers.specs.TextJobs.{TextJob, form_job}
 
 abbrev pub optimal_line : ℤ → ℤ → List ℕ
 optimal_line z sum = codes "optimal " ++ (signed_decimal z ++ (codes " sum " ++ (signed_decimal sum ++ codes "\n")))
@@ -37,6 +38,5 @@ pub record EndsByRows (text : List ℕ) (end : Ending) : Type 0 where
   pub are : AreRows (lines_of text) z ds
   pub verdict : IsVerdictOf (rows z ds) end
 
--- what a file of that name and text ends with
-abbrev pub ZeroEnds : List ℕ → List ℕ → Ending → Type 0
-ZeroEnds name text end = EndsByRows text end ⊎ IsRefusal rows_of IsZeroFile name text end
+abbrev pub zero_job : TextJob
+zero_job = form_job rows_of IsZeroFile EndsByRows

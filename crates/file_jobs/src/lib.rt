@@ -9,6 +9,6 @@ mod claims;
 mod listing;
 mod orbits;
 
-pub use claims::zero;
+pub use claims::Claim;
 pub use listing::list;
-pub use orbits::orbit;
+pub use orbits::Orbit;

@@ -1,10 +1,11 @@
 //! The command `list`: what an observation file holds of GPS.
-ghost use Rattle.std.specs.Prelude.{◌≡◌, ◌≢◌, ◌≤◌, [], IfOk, ◌∷◌};
-ghost use Rattle.line_source.specs.Causes.{Rose, OpensAtMost};
+ghost use Rattle.std.specs.Prelude.{◌≡◌, [], IfOk, ◌∷◌};
 ghost use Rattle.report_text.specs.List.{list_text};
-ghost use Rattle.job_answers.specs.Answers.{ending_of, IfEnded};
-ghost use Rattle.job_answers.specs.Endings.{ending, EndsByFile, IsRefusedWhole};
-ghost use Rattle.file_jobs.specs.Listing.{ListEnds};
+ghost use Rattle.job_answers.specs.Answers.{ending_of};
+ghost use Rattle.job_answers.specs.Endings.{ending};
+ghost use Rattle.job_answers.specs.Works.{file_work, NoLine, IsDoneOver};
+ghost use Rattle.job_answers.specs.TextJobs.{TextEnds};
+ghost use Rattle.file_jobs.specs.Listing.{list_job};
 
 use job_answers::{Answer, Status, Stop};
 use line_source::Files;
@@ -30,12 +31,7 @@ fn answer_file(alloc: Global, file: &ObsFile) -> Result<Answer, AllocError>
 /// What an observation file holds of GPS: its version, its epochs and its satellites.
 #[inline(never)]
 pub fn list<F: Files>(alloc: Global, files: &mut F, name: &str) -> Result<Answer, Stop>
-    ensures ends { IfEnded result (λ end. EndsByFile (F.text_of files.old) name.now (ListEnds name.now) end) }
-    ensures refused { IfEnded result (IsRefusedWhole (F.text_of files.old) (F.unread files.new) (name.now ∷ [])) }
-    ensures opened { OpensAtMost 1 (F.opened files.old) (F.opened files.new) }
-    ensures cause { F.faults files.old ≤ F.faults files.new }
-    ensures fault { IfEnded result (λ end. end.status ≡ Status.ReadFault → Rose (F.faults files.old) (F.faults files.new)) }
-    ensures sure { F.is_sure_name files.old name.now → IfEnded result (λ end. end.status ≢ Status.ReadFault) }
+    ensures { IsDoneOver (file_work F.Files files.old files.new) (name.now ∷ []) NoLine (TextEnds list_job (F.text_of files.old) name.now) result }
 {
     let file = obs_file(alloc, files, System::Gps, name)?;
     Ok(answer_file(alloc, &file)?)

@@ -1,11 +1,12 @@
 //! Runs of `fix` over texts in memory, and what their certificates say.
-use cert_jobs::check_file;
+use cert_jobs::CertCheck;
 use cert_text::{Cert, Tail, TwoBest, read_cert};
 use decimal_text::read_fixed;
-use fix_job::fix;
-use job_answers::{Answer, Status, Stop};
+use fix_job::Fix;
+use job_answers::{Answer, Status, Stop, answer_file};
 use line_source::{MemFiles, Named};
 use run_options::Options;
+use session_files::answer_session;
 use std::alloc::{AllocError, Global};
 use std::process::Abort;
 use std::test::Fail;
@@ -41,7 +42,7 @@ pub(crate) fn fix_failing(
         named(alloc, "N", nav)?,
     ]?;
     let mut files = MemFiles::new(list, fails);
-    answer_of(fix(alloc, &mut files, "B", "R", "N", options))
+    answer_of(answer_session(alloc, &mut files, &Fix, "B", "R", "N", options))
 }
 
 /// `fix B R N` on these texts.
@@ -58,7 +59,7 @@ pub(crate) fn fix_texts(
 /// Fails unless a check of this text says that it is certified.
 pub(crate) fn is_certified(rt: &impl Abort, alloc: Global, text: &[u8]) -> Result<(), AllocError> {
     let mut files = MemFiles::new(vec![in alloc; named(alloc, "C", text)?]?, Vec::new(alloc));
-    let checked = answer_of(check_file(alloc, &mut files, "C"))?;
+    let checked = answer_of(answer_file(alloc, &mut files, &CertCheck, "C"))?;
     assert_eq!(rt; checked.out.as_slice(), b"certified\n".as_slice());
     assert_eq!(rt; checked.status, Status::Done);
     Ok(())

@@ -21,7 +21,7 @@ use Rattle.run_options.specs.declared.options.Options.{Options}
 use Rattle.session.specs.FileRules.{rules_of}
 use Rattle.session.specs.Answers.{IsAnswer}
 use Rattle.session.specs.Outcomes.{IsOutcome}
-use Rattle.fix_job.specs.FixRuns.{IsFix}
+use Rattle.fix_job.specs.FixJobs.{IsFix}
 
 -- the numbers of a decided tail are those of the rows
 decided_again : (rules : Rules) (ratio budget : ℕ) (made : RoundCounts) (s : Session) (tail : Tail) (cert : Cert) (fix : IsFix cert)

@@ -18,7 +18,7 @@ use Rattle.run_options.specs.declared.options.Options.{Options}
 use Rattle.session.specs.FileRules.{rules_of}
 use Rattle.session.specs.Answers.{IsAnswer}
 use Rattle.session.specs.Outcomes.{IsOutcome}
-use Rattle.fix_job.specs.FixRuns.{StandsForIts}
+use Rattle.fix_job.specs.FixJobs.{StandsForIts}
 
 -- a run ends in a session that its rules have
 full_stands : (rules : Rules) (ratio budget : ℕ) (made : RoundCounts) (s : Session) (tail : Tail) → EndsFull rules ratio budget made s tail → rules.stands s

@@ -1,36 +1,78 @@
--- What the command `fix` ends with.
-use Rattle.std.specs.Prelude.{◌≡◌, ◌⊎◌, ℕ, if◌then◌else◌, List}
-use Rattle.std.specs.declared.option.Option.{Option}
+-- What the command `fix` answers of its files.
+use Rattle.std.specs.Prelude.{◌≡◌, ◌⊎◌, ℕ, true, if◌then◌else◌, List, map, ℤ}
 use Rattle.obs_store.specs.declared.file.ObsFile.{ObsFile}
 use Rattle.eph_store.specs.File.{Records}
+use Rattle.obs_rows.specs.declared.arcs.Arc.{Arc}
+use Rattle.obs_rows.specs.declared.bands.Signals.{Signals}
+use Rattle.obs_rows.specs.Best.{IsStrictlyBest}
+use Rattle.epoch_pair.specs.declared.pairs.PairOf.{PairOf}
+use Rattle.sv_orbit.specs.Worlds.{world_of}
+use Rattle.screening.specs.Screening.{setting_of}
+use Rattle.row_build.specs.Stands.{StandsForFiles}
+use Rattle.int_search.specs.declared.answer.TwoBest.{TwoBest}
+use Rattle.fix_decide.specs.Decisions.{first_of}
+use Rattle.fix_decide.specs.Ratios.{IsBestByRatio}
+use Rattle.cert_data.specs.declared.certs.Cert.{Cert}
 use Rattle.cert_data.specs.declared.outcomes.Outcome.{Outcome}
 use Rattle.cert_data.specs.declared.outcomes.Answer.{Answer}
+use Rattle.cert_data.specs.declared.outcomes.Answer.TheVariants.{Full}
+use Rattle.cert_data.specs.declared.tails.Tail.TheVariants.{Fixed}
+use Rattle.cert_data.specs.declared.verdicts.Verdict.{Verdict}
+use Rattle.cert_data.specs.declared.verdicts.Verdict.TheVariants.{Certified}
+use Rattle.cert_check.specs.Verdicts.{IsVerdictOf, IsGivenUp}
 use Rattle.run_options.specs.declared.options.Options.{Options}
-use Rattle.session.specs.Answers.{IsBestAnswer}
+use Rattle.obs_rows.specs.BandSets.{bands_of}
+use Rattle.session_begin.specs.Beginnings.{IsPosition, AreSignals, AreTaken}
 use Rattle.session.specs.Outcomes.{IsOutcome}
 use Rattle.outcome_report.specs.OutcomeText.{answer_text, IsWholeAnswer, outcome_text, is_fixed}
 use Rattle.job_answers.specs.declared.status.Status.{Status}
 use Rattle.job_answers.specs.declared.status.Status.TheVariants.{Done, Declined}
 use Rattle.job_answers.specs.Endings.{Ending, ending}
-use Rattle.rinex_head.specs.Systems.{system_of}
-use Rattle.session_files.specs.SessionFiles.{EndsBySession}
-use Rattle.session_files.specs.Refusals.{IsPairRefused}
+
+-- A certificate says `fixed`: for all rational observations and directions in the boxes of its session, its first integers
+-- with its move have a lesser sum of squares than all other integers with any rational baseline.
+pub record IsFix (cert : Cert) : Type 0 where
+  pub h : ℕ
+  pub moved : List ℤ
+  pub best : TwoBest
+  pub top : ℤ
+  pub tail_is : cert.tail ≡ Fixed h moved best top
+  pub strictly_best : IsStrictlyBest cert.session (first_of best) moved
+
+-- The certificate's session stands for the files: it has exactly one row for each used observation on the bands of the
+-- options, and each box holds all solutions of the user algorithm with the constants of the options' system, seen from the
+-- base's position and from the session's point.
+pub record StandsForIts (b r : ObsFile) (n : Records) (o : Options) (cert : Cert) : Type 0 where
+  pub ratio_is : cert.ratio ≡ o.ratio
+  pub budget_is : cert.budget ≡ o.budget
+  pub position : List ℤ
+  pub position_is : IsPosition b position
+  pub signals : Signals
+  pub signals_are : AreSignals (bands_of o.bands) b r signals
+  pub taken : List PairOf
+  pub taken_are : AreTaken b r o taken
+  pub stands : StandsForFiles (setting_of b n signals o.mask (world_of o.system)) b.epochs r.epochs taken (bands_of o.bands) o.jump o.arc o.system
+      position signals cert.session.point (map (λ (a : Arc). a.shift) cert.session.arcs) 0 cert.session
+
+-- The answer is a certificate that says `fixed`, of a session that stands for the files. All other integers have a sum of
+-- squares that is greater by the ratio. A check of it says that it is certified, or its search gives up.
+pub record IsFixedFor (b r : ObsFile) (n : Records) (o : Options) (answer : Answer) : Type 0 where
+  pub cert : Cert
+  pub answer_is : answer ≡ Full cert
+  pub fix : IsFix cert
+  pub by_ratio : IsBestByRatio cert.ratio cert.session (first_of fix.best) fix.moved
+  pub certified : IsVerdictOf cert.session cert.ratio cert.budget cert.tail Certified
+  pub only : (v : Verdict) → IsVerdictOf cert.session cert.ratio cert.budget cert.tail v → (v ≡ Certified) ⊎ IsGivenUp v
+  pub stands : StandsForIts b r n o cert
 
 -- done for a fix, else declined
 abbrev pub status_of : Answer → Status
 status_of a = if is_fixed a then Done else Declined
 
--- the outcome of the files, in its two texts
-pub record EndsWithOutcome (b r : ObsFile) (n : Records) (o : Options) (end : Ending) : Type 0 where
+-- The outcome of the files, in its two texts. A certificate that is printed is the only one with its text.
+pub record AnswersFix (o : Options) (b r : ObsFile) (n : Records) (end : Ending) : Type 0 where
   pub outcome : Outcome
   pub is : IsOutcome b r n o outcome
-  pub best : IsBestAnswer outcome.answer
+  pub fixed : is_fixed outcome.answer ≡ true → IsFixedFor b r n o outcome.answer
   pub whole : IsWholeAnswer outcome.answer
   pub end_is : end ≡ ending (status_of outcome.answer) (answer_text outcome.answer) (outcome_text outcome)
-
--- what the three files end with
-abbrev pub FixEnd : Options → ObsFile → ObsFile → Records → Ending → Type 0
-FixEnd o b r n end = EndsWithOutcome b r n o end ⊎ IsPairRefused b r o end
-
-abbrev pub FixEnds : (List ℕ → Option (List ℕ)) → List ℕ → List ℕ → List ℕ → Options → Ending → Type 0
-FixEnds told base rover nav o end = EndsBySession (system_of o.system) told base rover nav (FixEnd o) end

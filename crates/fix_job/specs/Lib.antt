@@ -1,2 +1,1 @@
 pub mod FixJobs
-pub mod FixRuns

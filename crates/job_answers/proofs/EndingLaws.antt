@@ -47,10 +47,6 @@ delivered_status end result status out err (inr (inl by_out)) is other = absurd 
 delivered_status end result status out err (inr (inr by_err)) is other = absurd (other (sym is ∙ by_err.fault))
 
 -- ---- refusals
--- a verdict is none
-pub verdict_whole : (told : List ℕ → Option (List ℕ)) (left : ℕ → Option (List ℕ)) (names : List (List ℕ)) (end : Ending) → IsVerdictStatus end.status → IsRefusedWhole told left names end
-verdict_whole told left names end verdict = λ refused. absurd (subst IsVerdictStatus refused verdict)
-
 -- that of a file that was read to its end
 pub read_whole : (told : List ℕ → Option (List ℕ)) (left : ℕ → Option (List ℕ)) (name : List ℕ) (at : At) (end : Ending) → IsReadToEnd told left name
     → end ≡ ending Refused [] (refusal_line name at) → IsRefusedWhole told left (name ∷ []) end

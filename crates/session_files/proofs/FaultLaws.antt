@@ -1,30 +1,21 @@
 -- A read fault names the file that had it.
-use Rattle.std.proofs.Common.{◌≡◌, ◌≢◌, inl, inr, ℕ, ◌<◌, List, [], ◌∷◌, Option, Result, Ok, Err, length, refl, ap, subst, arith}
+use Rattle.std.proofs.Common.{◌≡◌, ◌≢◌, inl, inr, ℕ, ◌<◌, List, [], Option, length, ap}
 use Rattle.std.specs.Prelude.{slice_index_or}
 use Rattle.rinex_head.specs.declared.system.System.{System}
 use Rattle.obs_source.specs.Formats.{any_of, HasObservation}
 use Rattle.rinex_nav.specs.NavForm.{HasNavFile}
 use Rattle.rinex_nav.specs.NavRules.{nav_of}
-use Rattle.job_answers.specs.declared.answer.Answer.{Answer}
 use Rattle.job_answers.specs.declared.stop.Stop.{Stop}
 use Rattle.job_answers.specs.declared.stop.Stop.TheVariants as stop
 use Rattle.job_answers.specs.declared.status.Status.TheVariants.{Refused, ReadFault}
-use Rattle.job_answers.specs.Statuses.{IsVerdictStatus}
-use Rattle.job_answers.specs.Answers.{ending_of, IfEnds, IfEnded}
+use Rattle.job_answers.specs.Answers.{ending_of, IfEnds}
 use Rattle.job_answers.specs.Texts.{read_fault_line}
 use Rattle.job_answers.specs.Endings.{Ending, ending, EndsByFile, IsRefusal}
 use Rattle.session_files.specs.FaultNames.{IsFaultOf}
 use Rattle.session_files.specs.SessionFiles.{StopsAtObs, StopsAtNav}
 
--- ---- endings that are no read fault
-pub verdict_no_fault : (end : Ending) → IsVerdictStatus end.status → end.status ≢ ReadFault
-verdict_no_fault end verdict = λ is. subst IsVerdictStatus is verdict
-
 pub refused_no_fault : (end : Ending) (line : List ℕ) → end ≡ ending Refused [] line → end.status ≢ ReadFault
 refused_no_fault end line same = λ is. let s = ap (λ (e : Ending). e.status) same in absurd (cc (s, is))
-
-pub none_told : (sure : List ℕ → Type 0) (names : List (List ℕ)) (end : Ending) → end.status ≢ ReadFault → IsFaultOf sure names end
-none_told sure names end none = λ is. absurd (none is)
 
 -- ---- the line of a fault
 pub fault_line : (told : List ℕ → Option (List ℕ)) (name : List ℕ) (ends : List ℕ → Ending → Type 0) (end : Ending) → ((text : List ℕ) → ends text end → end.status ≢ ReadFault)
@@ -48,15 +39,3 @@ pub fault_at : (why : Stop) (sure : List ℕ → Type 0) (names : List (List ℕ
 fault_at (stop.Ended answer) sure names k name stops inside at line given never = λ is.
     (k, name, inside, at, record { line = line (ending_of answer) given is; unsure = λ s. never s is })
 fault_at stop.NoMemory sure names k name stops inside at line given never = tt
-
--- that of the one file of a job
-one_told : (sure : List ℕ → Type 0) (told : List ℕ → Option (List ℕ)) (name : List ℕ) (ends : List ℕ → Ending → Type 0) (end : Ending) → ((text : List ℕ) → ends text end → end.status ≢ ReadFault)
-    → EndsByFile told name ends end → (sure name → end.status ≢ ReadFault) → IsFaultOf sure (name ∷ []) end
-one_told sure told name ends end none by_file never = λ is. (0, name, omega arith, refl, record { line = fault_line told name ends end none by_file is; unsure = λ s. never s is })
-
-pub fault_of_one : (r : Result Answer Stop) (sure : List ℕ → Type 0) (told : List ℕ → Option (List ℕ)) (name : List ℕ) (ends : List ℕ → Ending → Type 0)
-    → ((text : List ℕ) (end : Ending) → ends text end → end.status ≢ ReadFault) → IfEnded r (EndsByFile told name ends) → (sure name → IfEnded r (λ end. end.status ≢ ReadFault))
-    → IfEnded r (IsFaultOf sure (name ∷ []))
-fault_of_one (Ok a) sure told name ends none by_file never = one_told sure told name ends (ending_of a) (λ text. none text (ending_of a)) by_file never
-fault_of_one (Err (stop.Ended a)) sure told name ends none by_file never = one_told sure told name ends (ending_of a) (λ text. none text (ending_of a)) by_file never
-fault_of_one (Err stop.NoMemory) sure told name ends none by_file never = tt

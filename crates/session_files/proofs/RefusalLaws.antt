@@ -1,5 +1,5 @@
 -- Files that a session is made of are not refused.
-use Rattle.std.proofs.Common.{◌≡◌, inl, inr, ℕ, ◌+◌, ◌-◌, ◌*◌, ◌<◌, List, Option, Bool, true, false, length, slice_index, sym, ap, subst, arith}
+use Rattle.std.proofs.Common.{◌≡◌, ℕ, ◌+◌, ◌-◌, ◌*◌, ◌<◌, List, Option, Bool, true, false, length, slice_index, sym, subst, arith}
 use Rattle.obs_store.specs.declared.file.ObsFile.{ObsFile}
 use Rattle.obs_store.specs.Epochs.{tags_of}
 use Rattle.eph_store.specs.File.{Records}
@@ -13,9 +13,9 @@ use Rattle.obs_rows.specs.BandSets.{bands_of}
 use Rattle.session_begin.specs.Beginnings.{HasPosition, HaveSignals, AreSparse, IsSessionFault}
 use Rattle.session_begin.proofs.BeginLaws.{no_lack}
 use Rattle.rinex_head.specs.Systems.{system_of}
-use Rattle.job_answers.specs.Endings.{Ending, IsRefusedWhole}
+use Rattle.job_answers.specs.Endings.{Ending}
 use Rattle.session_files.specs.SessionFiles.{AreFilesOf}
-use Rattle.session_files.specs.Refusals.{IsPairRefused, AreRefusedWhole}
+use Rattle.session_files.specs.Refusals.{IsPairRefused}
 use Rattle.session_files.specs.Admitted.{AreAdmitted}
 
 -- tags that are apart have none that is close
@@ -41,12 +41,3 @@ pub never_refused : (told : List ℕ → Option (List ℕ)) (base rover nav : Li
     → AreAdmitted told base rover nav o → AreFilesOf (system_of o.system) told base rover nav b r n → IsPairRefused b r o end → ⊥
 never_refused told base rover nav o b r n end admitted are refused =
     not_refused b r o refused.what (admitted.position b are.base_is) (admitted.signals b r are.base_is are.rover_is) (admitted.sparse b r are.base_is are.rover_is) refused.why
-
--- ---- a refusal is that of one of the files
-pub stop_whole : (told : List ℕ → Option (List ℕ)) (left : ℕ → Option (List ℕ)) (names : List (List ℕ)) (end : Ending) → IsRefusedWhole told left names end → AreRefusedWhole told left names end
-stop_whole told left names end refused = λ is. inl (refused is)
-
--- or of the two together
-pub pair_whole : (told : List ℕ → Option (List ℕ)) (left : ℕ → Option (List ℕ)) (names : List (List ℕ)) (b r : ObsFile) (o : Options) (end : Ending) → IsPairRefused b r o end
-    → AreRefusedWhole told left names end
-pair_whole told left names b r o end refused = λ is. inr (refused.what, ap (λ (e : Ending). e.err) refused.end_is)

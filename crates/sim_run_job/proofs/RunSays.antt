@@ -7,9 +7,8 @@ use Rattle.job_answers.specs.Statuses.{IsVerdictStatus, IsJobStatus}
 use Rattle.job_answers.specs.Endings.{Ending}
 use Rattle.job_answers.specs.Delivered.{SinkChange}
 use Rattle.job_answers.proofs.EndingLaws.{verdict_at, job_status_at}
-use Rattle.fix_job.specs.FixRuns.{HaveOutcome}
 use Rattle.sim_run_job.specs.SimRunJobs.{run_text, SimRunEnds}
-use Rattle.sim_run_job.specs.SimRunSays.{SaysMatch, SaysOfSimRun}
+use Rattle.sim_run_job.specs.SimRunSays.{HaveOutcome, SaysMatch, SaysOfSimRun}
 
 -- ---- statuses
 verdict_of : (fixed : Bool) → IsVerdictStatus (if fixed then Done else Declined)

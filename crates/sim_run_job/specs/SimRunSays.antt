@@ -9,9 +9,21 @@ use Rattle.outcome_report.specs.OutcomeText.{is_fixed}
 use Rattle.job_answers.specs.declared.status.Status.{Status}
 use Rattle.job_answers.specs.declared.status.Status.TheVariants.{Done, Declined}
 use Rattle.job_answers.specs.Delivered.{SinkChange}
-use Rattle.fix_job.specs.FixRuns.{HaveOutcome}
+use Rattle.obs_store.specs.declared.file.ObsFile.{ObsFile}
+use Rattle.eph_store.specs.File.{Records}
+use Rattle.rinex_head.specs.Systems.{system_of}
+use Rattle.session.specs.Outcomes.{IsOutcome}
+use Rattle.session_files.specs.SessionFiles.{AreFilesOf}
 use Rattle.sim_match.specs.Matches.{IsMatched}
 use Rattle.sim_run_job.specs.SimRunJobs.{AreMadeFiles, AreOptionsOn, truth_in, run_text}
+
+-- the three texts stand for a session of the options' system, whose outcome is this
+pub record HaveOutcome (told : List ℕ → Option (List ℕ)) (base rover nav : List ℕ) (o : Options) (outcome : Outcome) : Type 0 where
+  pub base_file : ObsFile
+  pub rover_file : ObsFile
+  pub records : Records
+  pub are_files : AreFilesOf (system_of o.system) told base rover nav base_file rover_file records
+  pub is : IsOutcome base_file rover_file records o outcome
 
 -- the made texts stand for a session, whose outcome is a fix or not; out has gained what it is, and `match yes` exactly where
 -- it is a fix with the integers of the truth

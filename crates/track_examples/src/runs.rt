@@ -1,13 +1,14 @@
 //! Runs of `track` and `check-track` over texts in memory, and the places that are printed.
 use decimal_text::read_fixed;
-use job_answers::{Answer, Status, Stop};
+use job_answers::{Answer, Status, Stop, answer_file};
 use line_source::{MemFiles, Named};
 use run_options::Options;
+use session_files::answer_session;
 use sim_session::Made;
 use std::alloc::{AllocError, Global};
 use std::process::Abort;
 use std::test::Fail;
-use track_job::{check_track_file, track};
+use track_job::{MovingRover, TrackCheck};
 
 /// The offset that seed 1 draws, in 0.1 mm.
 pub(crate) const OFFSET: [i64; 3] = [-1_656_800, 9_436_070, -6_595_000];
@@ -41,13 +42,13 @@ pub(crate) fn track_texts(
         named(alloc, "N", &made.nav)?,
     ]?;
     let mut files = MemFiles::new(list, Vec::new(alloc));
-    answer_of(track(alloc, &mut files, "B", "R", "N", options))
+    answer_of(answer_session(alloc, &mut files, &MovingRover, "B", "R", "N", options))
 }
 
 /// `check-track C` on this text.
 pub(crate) fn check_text(alloc: Global, text: &[u8]) -> Result<Answer, AllocError> {
     let mut files = MemFiles::new(vec![in alloc; named(alloc, "C", text)?]?, Vec::new(alloc));
-    answer_of(check_track_file(alloc, &mut files, "C"))
+    answer_of(answer_file(alloc, &mut files, &TrackCheck, "C"))
 }
 
 /// Fails unless a check of this text says that it is certified.

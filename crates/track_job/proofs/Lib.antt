@@ -1,4 +1,3 @@
 pub mod StandsLaws
 pub mod Certified
 pub mod TrackSays
-pub mod CheckSays

@@ -17,7 +17,7 @@ use Rattle.track_report.specs.declared.outcomes.TrackAnswer.{TrackAnswer}
 use Rattle.track_report.specs.declared.outcomes.TrackAnswer.TheVariants.{Full}
 use Rattle.track_rows.proofs.StandsLaws.{track_stands}
 use Rattle.track_job.specs.TrackOutcomes.{IsTrackable, IsTrackAnswer, IsTrackOutcome, tracked_with}
-use Rattle.track_job.specs.TrackRuns.{TrackStandsForIts}
+use Rattle.track_job.specs.TrackJobs.{TrackStandsForIts}
 
 pub some_length : {X : Type 0} (xs : List X) → (xs ≡ [] → ⊥) → 1 ≤ length xs
 some_length [] none = absurd (none refl)

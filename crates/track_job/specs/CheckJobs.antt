@@ -1,5 +1,5 @@
 -- What the command `check-track` ends with.
-use Rattle.std.specs.Prelude.{◌≡◌, ◌⊎◌, ℕ, List, [], Err}
+use Rattle.std.specs.Prelude.{◌≡◌, ℕ, List, [], Err}
 use Rattle.rinex_head.specs.declared.place.At.{At}
 use Rattle.obs_rows.specs.Signals.{fine_signals}
 use Rattle.cert_data.specs.declared.verdicts.Verdict.{Verdict}
@@ -7,9 +7,8 @@ use Rattle.cert_data.specs.declared.verdicts.Verdict.TheVariants.{Certified}
 use Rattle.cert_check.specs.Verdicts.{IsSameVerdict}
 use Rattle.cert_report.specs.VerdictText.{verdict_text}
 use Rattle.cert_jobs.specs.CertJobs.{status_of}
-use Rattle.job_answers.specs.declared.status.Status.TheVariants.{Refused}
-use Rattle.job_answers.specs.Texts.{refusal_line}
 use Rattle.job_answers.specs.Endings.{Ending, ending}
+use Rattle.job_answers.specs.TextJobs.{TextJob}
 use Rattle.track_data.specs.declared.certs.TrackCert.{TrackCert}
 use Rattle.track_spelling.specs.Spelling.{track_spelling}
 use Rattle.track_spelling.specs.Lengths.{IsWholeTrackCert, IsTrackCertificate}
@@ -29,31 +28,28 @@ IsBestFor cert = IsTrackBestIn cert.track.arcs (fine_signals cert.track.signals)
 abbrev pub IsBestByItsRatio : TrackCert → Type 0
 IsBestByItsRatio cert = IsTrackBestByRatioIn cert.ratio cert.track.arcs (fine_signals cert.track.signals) cert.track.pairs cert.tail
 
--- The text is no certificate of a track, and is refused at the first place at which the rules fail. None begins with its
--- lines up to that one.
-pub record IsTrackRefused (name text : List ℕ) (end : Ending) : Type 0 where
-  pub at : At
-  pub none : IsTrackCertificate text → ⊥
+-- the first place at which the rules fail: no certificate of a track begins with the text's lines up to that one
+pub record IsTrackRefused (text : List ℕ) (at : At) : Type 0 where
   pub stuck : NoneBegins IsTrackCertificate text at.line
   pub gives_is : track_reading text ≡ Err at
-  pub end_is : end ≡ ending Refused [] (refusal_line name at)
 
 -- The rows are decided again, and the tail is compared with what they say. No other verdict holds of them, but where a search
--- gave up.
+-- gave up. Where it is `Certified`, each other integer vector, with any baselines, one for each pair, has a greater sum of
+-- squares for all data in the boxes of the rows, and one that is greater by the certificate's ratio, whoever wrote it.
 pub record CheckTrackEnd (cert : TrackCert) (end : Ending) : Type 0 where
   pub verdict : Verdict
   pub is : IsVerdictOn cert verdict
   pub only : (v : Verdict) → IsVerdictOn cert v → IsSameVerdict v verdict
   pub best : verdict ≡ Certified → IsBestFor cert
+  pub by_ratio : verdict ≡ Certified → IsBestByItsRatio cert
   pub end_is : end ≡ ending (status_of verdict) (verdict_text verdict) []
 
--- the text spells the certificate of a track, which ends so
-pub record EndsByTrackCert (text : List ℕ) (end : Ending) : Type 0 where
+-- the text spells the certificate of a track, which has this answer
+pub record AnswersTrackCert (text : List ℕ) (end : Ending) : Type 0 where
   pub cert : TrackCert
   pub whole : IsWholeTrackCert cert
   pub spelled : text ≡ track_spelling cert
-  pub ends_so : CheckTrackEnd cert end
+  pub answer : CheckTrackEnd cert end
 
--- what a file of that name and text ends with
-abbrev pub CheckTrackEnds : List ℕ → List ℕ → Ending → Type 0
-CheckTrackEnds name text end = EndsByTrackCert text end ⊎ IsTrackRefused name text end
+abbrev pub check_track_job : TextJob
+check_track_job = record { IsFile = IsTrackCertificate; refuses = IsTrackRefused; answers = AnswersTrackCert }

@@ -1,5 +1,3 @@
 pub mod TrackOutcomes
 pub mod TrackJobs
-pub mod TrackRuns
 pub mod CheckJobs
-pub mod CheckRuns

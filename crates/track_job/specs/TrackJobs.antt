@@ -1,34 +1,77 @@
--- What the command `track` ends with.
-use Rattle.std.specs.Prelude.{◌≡◌, ◌⊎◌, ℕ, if◌then◌else◌, List}
-use Rattle.std.specs.declared.option.Option.{Option}
+-- What the command `track` answers of its files.
+use Rattle.std.specs.Prelude.{◌≡◌, ◌⊎◌, ℕ, true, if◌then◌else◌, List, ℤ}
 use Rattle.obs_store.specs.declared.file.ObsFile.{ObsFile}
 use Rattle.eph_store.specs.File.{Records}
+use Rattle.obs_rows.specs.declared.bands.Signals.{Signals}
+use Rattle.obs_rows.specs.Signals.{fine_signals}
+use Rattle.epoch_pair.specs.declared.pairs.PairOf.{PairOf}
+use Rattle.sv_orbit.specs.Worlds.{world_of}
+use Rattle.screening.specs.Screening.{setting_of}
+use Rattle.int_search.specs.declared.answer.TwoBest.{TwoBest}
+use Rattle.fix_decide.specs.Decisions.{first_of}
+use Rattle.cert_data.specs.declared.verdicts.Verdict.{Verdict}
+use Rattle.cert_data.specs.declared.verdicts.Verdict.TheVariants.{Certified}
+use Rattle.cert_check.specs.Verdicts.{IsGivenUp}
 use Rattle.run_options.specs.declared.options.Options.{Options}
+use Rattle.obs_rows.specs.BandSets.{bands_of}
+use Rattle.session_begin.specs.Beginnings.{IsPosition, AreSignals, AreTaken}
 use Rattle.job_answers.specs.declared.status.Status.{Status}
 use Rattle.job_answers.specs.declared.status.Status.TheVariants.{Done, Declined}
 use Rattle.job_answers.specs.Endings.{Ending, ending}
-use Rattle.rinex_head.specs.Systems.{system_of}
-use Rattle.session_files.specs.SessionFiles.{EndsBySession}
-use Rattle.session_files.specs.Refusals.{IsPairRefused}
+use Rattle.track_data.specs.declared.certs.TrackCert.{TrackCert}
+use Rattle.track_data.specs.declared.tails.TrackTail.TheVariants.{Fixed}
+use Rattle.track_sum.specs.Decided.{IsStrictlyBest, IsBestByRatio}
+use Rattle.track_form.specs.Verdicts.{IsTrackVerdict}
+use Rattle.track_rows.specs.Stands.{TrackStands}
 use Rattle.track_report.specs.declared.outcomes.TrackOutcome.{TrackOutcome}
 use Rattle.track_report.specs.declared.outcomes.TrackAnswer.{TrackAnswer}
+use Rattle.track_report.specs.declared.outcomes.TrackAnswer.TheVariants.{Full}
 use Rattle.track_report.specs.TrackTexts.{track_answer_text, IsWholeTrackAnswer, track_outcome_text, is_track_fixed}
 use Rattle.track_job.specs.TrackOutcomes.{IsTrackOutcome}
+
+-- The certificate of a track says `fixed`: for all rational observations and directions in the boxes of its rows, its first
+-- integers with its moves have a lesser sum of squares than all other integers with any rational baselines, one for each pair.
+pub record IsTrackFix (cert : TrackCert) : Type 0 where
+  pub h : ℕ
+  pub moves : List (List ℤ)
+  pub best : TwoBest
+  pub top : ℤ
+  pub tail_is : cert.tail ≡ Fixed h moves best top
+  pub strictly_best : IsStrictlyBest cert.track.arcs (fine_signals cert.track.signals) cert.track.pairs (first_of best) moves
+
+-- The certificate's track stands for the files: each of its pairs has exactly one row for each kept arc that holds it, and each
+-- box holds all solutions of the user algorithm with the constants of the options' system, seen from the base's position and
+-- from the pair's own point.
+pub record TrackStandsForIts (b r : ObsFile) (n : Records) (o : Options) (cert : TrackCert) : Type 0 where
+  pub ratio_is : cert.ratio ≡ o.ratio
+  pub budget_is : cert.budget ≡ o.budget
+  pub position : List ℤ
+  pub position_is : IsPosition b position
+  pub signals : Signals
+  pub signals_are : AreSignals (bands_of o.bands) b r signals
+  pub taken : List PairOf
+  pub taken_are : AreTaken b r o taken
+  pub stands : TrackStands (setting_of b n signals o.mask (world_of o.system)) b.epochs r.epochs taken (bands_of o.bands) o.jump o.arc o.system position signals cert.track
+
+-- The answer is the certificate of a track that says `fixed` and stands for the files. All other integers have a sum of squares
+-- that is greater by the ratio. A check of it says that it is certified, or its search gives up.
+pub record IsTrackFixedFor (b r : ObsFile) (n : Records) (o : Options) (answer : TrackAnswer) : Type 0 where
+  pub cert : TrackCert
+  pub answer_is : answer ≡ Full cert
+  pub fix : IsTrackFix cert
+  pub by_ratio : IsBestByRatio cert.ratio cert.track.arcs (fine_signals cert.track.signals) cert.track.pairs (first_of fix.best) fix.moves
+  pub certified : IsTrackVerdict cert.track.arcs (fine_signals cert.track.signals) cert.track.pairs cert.ratio cert.budget cert.tail Certified
+  pub only : (v : Verdict) → IsTrackVerdict cert.track.arcs (fine_signals cert.track.signals) cert.track.pairs cert.ratio cert.budget cert.tail v → (v ≡ Certified) ⊎ IsGivenUp v
+  pub stands : TrackStandsForIts b r n o cert
 
 -- done for a fix, else declined
 abbrev pub track_status_of : TrackAnswer → Status
 track_status_of a = if is_track_fixed a then Done else Declined
 
--- the outcome of the files, in its two texts
-pub record EndsWithTrack (b r : ObsFile) (n : Records) (o : Options) (end : Ending) : Type 0 where
+-- The outcome of the files, in its two texts. A certificate that is printed is the only one with its text.
+pub record AnswersTrack (o : Options) (b r : ObsFile) (n : Records) (end : Ending) : Type 0 where
   pub outcome : TrackOutcome
   pub is : IsTrackOutcome b r n o outcome
+  pub fixed : is_track_fixed outcome.answer ≡ true → IsTrackFixedFor b r n o outcome.answer
   pub whole : IsWholeTrackAnswer outcome.answer
   pub end_is : end ≡ ending (track_status_of outcome.answer) (track_answer_text outcome.answer) (track_outcome_text outcome)
-
--- what the three files end with
-abbrev pub TrackEnd : Options → ObsFile → ObsFile → Records → Ending → Type 0
-TrackEnd o b r n end = EndsWithTrack b r n o end ⊎ IsPairRefused b r o end
-
-abbrev pub TrackEnds : (List ℕ → Option (List ℕ)) → List ℕ → List ℕ → List ℕ → Options → Ending → Type 0
-TrackEnds told base rover nav o end = EndsBySession (system_of o.system) told base rover nav (TrackEnd o) end

@@ -1,16 +1,15 @@
-use Rattle.std.proofs.Common.{refl}
-use Rattle.job_answers.specs.Answers.{ending_of}
-use Rattle.job_answers.specs.declared.status.Status.TheVariants.{ReadFault}
-use Rattle.job_answers.proofs.EndingLaws.{delivered_status}
-use Rattle.baseline_app.proofs.Completes.{refused_told}
-use Rattle.baseline_app.proofs.FaultNames.{fault_told}
+use Rattle.job_answers.specs.Works.{file_work}
+use Rattle.command_words.specs.Words.{texts_of}
+use Rattle.baseline_app.proofs.Files.{run_ends, files_used, run_read}
 use Rattle.baseline_app.proofs.top.write_answer.Goals as goal
 
-pub returns-in-Ok-clause-sure : goal.returns-in-Ok-clause-sure
-returns-in-Ok-clause-sure g c = λ job asked sure is. c.in-Ok.ensures.sure job asked sure (delivered_status _ _ ReadFault _ _ c.deliver.ensures is (λ e. absurd (cc e)))
+pub returns-clause-run : goal.returns-clause-run
+returns-clause-run g c = run_ends _ _ c.answer_of-end.result _ _ _ c.answer_of-end.ensures.answer c.write_end.ensures
 
-pub returns-in-Ok-clause-refused : goal.returns-in-Ok-clause-refused
-returns-in-Ok-clause-refused g c = λ job asked. refused_told _ _ _ (ending_of c.in-Ok.answer) _ _ _ _ refl c.deref-in-Ok.ensures.value c.deliver.ensures (c.in-Ok.ensures.refused job asked)
+pub returns-clause-files : goal.returns-clause-files
+returns-clause-files g c = λ job asked. files_used _ job c.answer_of-end.result _ _ _ (c.answer_of-end.ensures.done job asked) c.write_end.ensures
 
-pub returns-in-Ok-clause-named : goal.returns-in-Ok-clause-named
-returns-in-Ok-clause-named g c = λ job asked. fault_told _ _ (ending_of c.in-Ok.answer) _ _ _ _ refl c.deref-in-Ok.ensures.value c.deliver.ensures (c.in-Ok.ensures.named job asked)
+pub returns-clause-read : goal.returns-clause-read
+returns-clause-read g c =
+    let work = file_work g.F.Files c.args.files.now c.answer_of-end.new.files in
+    run_read (texts_of c.args.words.now) work c.answer_of-end.result _ _ _ c.answer_of-end.ensures.answer c.answer_of-end.ensures.done c.write_end.ensures

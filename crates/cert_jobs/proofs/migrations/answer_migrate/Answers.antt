@@ -4,8 +4,8 @@ use Rattle.cert_spelling.specs.Spelling.{spelling}
 use Rattle.job_answers.specs.Endings.{ending}
 use Rattle.cert_jobs.proofs.migrations.answer_migrate.Goals as goal
 
-pub returns : goal.returns
-returns c =
+pub returns-clause-answer : goal.returns-clause-answer
+returns-clause-answer c =
     let cert : Cert = c.in_ok-cert.cert in
     let law = c.in_ok-cert.ensures in
     let out : c.write_cert.new.out.items ≡ spelling cert = c.in_ok-write_cert.ensures.text ∙ ap (λ (text : List ℕ). text ++ spelling cert) c.new-out.ensures.items in

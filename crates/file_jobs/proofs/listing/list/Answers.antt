@@ -1,11 +1,24 @@
 use Rattle.std.proofs.lemmas.Result.{err_from_is_err_and}
-use Rattle.job_answers.proofs.EndingLaws.{ends_weaker}
-use Rattle.file_jobs.proofs.ListEndings.{not_listed}
+use Rattle.job_answers.specs.Works.{file_work}
+use Rattle.job_answers.proofs.WorkLaws.{text_done}
+use Rattle.file_jobs.specs.Listing.{list_job}
+use Rattle.file_jobs.proofs.ListEndings.{listed, list_stop}
 use Rattle.file_jobs.proofs.listing.list.Goals as goal
 
-pub returns-in_err-file-clause-ends : goal.returns-in_err-file-clause-ends
-returns-in_err-file-clause-ends g c =
+pub returns-in_err-file : goal.returns-in_err-file
+returns-in_err-file g c =
     let answered = err_from_is_err_and c.from_residual.result c.from_residual.ensures.1 in
-    let stop = c.in_err-file.field-0.0 in
-    rw (answered.1, answered.2)
-    (ends_weaker stop _ _ (λ end stops. not_listed (g.F.Files.text_of c.args.files.now) c.args.name.now end stops) c.in_err-file.ensures.stopped)
+    let f = c.args.files.now in
+    let n = c.obs_file.new.files in
+    let work = file_work g.F.Files f n in
+    let stopped = c.in_err-file.ensures in
+    rw (answered.1, answered.2) (list_stop work c.args.name.now c.in_err-file.field-0.0 stopped.opened stopped.stopped stopped.refused stopped.fault stopped.sure)
+
+pub returns : goal.returns
+returns g c =
+    let f = c.args.files.now in
+    let n = c.obs_file.new.files in
+    let work = file_work g.F.Files f n in
+    let read = c.in_ok-file.ensures in
+    text_done work c.args.name.now read.read.text list_job _ read.read.is read.whole read.opened
+    (listed read.read.text c.args.name.now c.in_ok-file.file (g.F.Files.text_of f) _ read.read c.in_ok-answer_file.ensures)

@@ -13,8 +13,8 @@ use Rattle.job_answers.specs.declared.status.Status.TheVariants.{Done}
 use Rattle.job_answers.specs.Endings.{ending}
 use Rattle.file_jobs.proofs.orbits.answer_placed.Goals as goal
 
-pub returns : goal.returns
-returns c =
+pub returns-clause-answer : goal.returns-clause-answer
+returns-clause-answer c =
     let written = c.in_ok-write_orbit.ensures in
     let box = c.sv_with-held.result in
     let of_record = subst (λ (k : Constants). (q : Quantities) → IsNearSolution k (elements_of c.args.eph.now) (sent_at c.args.tag.0 (pos 0)) q

@@ -1,0 +1,176 @@
+-- What a job ends with now is what it ended with before, and what a run says with it.
+use Rattle.std.proofs.Common.{◌≡◌, ◌⊎◌, inl, inr, ℕ, List, Option, Result, true, refl, sym, ap, ◌∙◌, subst}
+use Rattle.rinex_head.specs.declared.place.At.{At}
+use Rattle.rinex_head.specs.declared.system.System.{System}
+use Rattle.rinex_head.specs.declared.system.System.TheVariants.{Gps}
+use Rattle.rinex_head.specs.Systems.{system_of}
+use Rattle.obs_store.specs.declared.file.ObsFile.{ObsFile}
+use Rattle.obs_source.specs.Formats.{any_of, HasObservation}
+use Rattle.obs_rows.specs.Best.{IsStrictlyBest}
+use Rattle.fix_decide.specs.Decisions.{first_of}
+use Rattle.eph_store.specs.File.{Records}
+use Rattle.rinex_nav.specs.NavForm.{HasNavFile}
+use Rattle.rinex_nav.specs.NavRules.{nav_of}
+use Rattle.zero_rows.specs.Rows.{IsZeroFile}
+use Rattle.zero_rows.specs.RowsRules.{rows_of}
+use Rattle.cert_data.specs.declared.certs.Cert.{Cert}
+use Rattle.cert_data.specs.declared.outcomes.Answer.{Answer}
+use Rattle.cert_data.specs.declared.outcomes.Answer.TheVariants as answer
+use Rattle.cert_data.specs.declared.tails.Tail.{Tail}
+use Rattle.cert_data.specs.declared.tails.Tail.TheVariants as tail
+use Rattle.settled_decision.specs.Decided.{IsBestWhereFixed}
+use Rattle.run_options.specs.declared.options.Options.{Options}
+use Rattle.session.specs.Answers.{IsBestAnswer}
+use Rattle.outcome_report.specs.OutcomeText.{is_fixed}
+use Rattle.job_answers.specs.declared.status.Status.{Status}
+use Rattle.job_answers.specs.Endings.{Ending, EndsByFile, IsAdmitted}
+use Rattle.job_answers.specs.Delivered.{SinkChange}
+use Rattle.job_answers.specs.TextJobs.{TextJob, EndsOnText, IsTextAdmitted, form_job}
+use Rattle.session_files.specs.SessionFiles.{EndsBySession}
+use Rattle.session_files.specs.SessionJobs.{EndsOnFiles}
+use Rattle.session_files.specs.Refusals.{IsPairRefused}
+use Rattle.file_jobs.specs.Zero.{EndsByRows}
+use Rattle.file_jobs.specs.Listing.{EndsByObs}
+use Rattle.file_jobs.specs.Orbits.{EndsByRecords}
+use Rattle.cert_jobs.specs.CertJobs.{CheckEnd, ResidualsEnd, AnswersCert, check_job, residuals_job}
+use Rattle.cert_jobs.specs.Migrations.{AnswersOld, migrate_job}
+use Rattle.cert_spelling.specs.Lengths.{IsCertificate}
+use Rattle.cert_text.specs.Rules.{reading_of, reading_as}
+use Rattle.cert_lines.specs.declared.version.Version.TheVariants.{One}
+use Rattle.cert_migrate.specs.OldSpelling.{IsOldCertificate}
+use Rattle.track_spelling.specs.Lengths.{IsTrackCertificate}
+use Rattle.track_text.specs.Rules.{track_reading}
+use Rattle.arcs_job.specs.ArcJobs.{AnswersArcs}
+use Rattle.fix_job.specs.FixJobs.{AnswersFix, IsFixedFor}
+use Rattle.track_job.specs.TrackJobs.{AnswersTrack}
+use Rattle.track_job.specs.CheckJobs.{AnswersTrackCert, check_track_job}
+use Rattle.command_words.specs.declared.jobs.Job.{Job}
+use Rattle.command_words.specs.declared.jobs.Job.TheVariants as job
+use Rattle.baseline_app.specs.Jobs as present
+use Rattle.baseline_app.specs.Runs as runs
+use Rattle.baseline_app.specs.Former.{FormEnds, CertEnds, EndsWithOutcome, EndsWithTrack, JobEnds, IsCertAdmitted, IsFormerReadable, IsAnswer, IsRun, IsComplete}
+
+-- ---- by the text of one file
+ends_at : (told : List ℕ → Option (List ℕ)) (name : List ℕ) (P Q : List ℕ → Ending → Type 0) (end : Ending) → ((text : List ℕ) → P text end → Q text end) → EndsByFile told name P end
+    → EndsByFile told name Q end
+ends_at told name P Q end each (inl by_text) = inl (record { text = by_text.text; is = by_text.is; ends_so = each by_text.text by_text.ends_so })
+ends_at told name P Q end each (inr unloaded) = inr unloaded
+
+form_ends : {F : Type 0} (gives : List (List ℕ) → Result F At) (IsFile : List (List ℕ) → Type 0) (answers : List ℕ → Ending → Type 0) (name : List ℕ) (end : Ending) (text : List ℕ)
+    → EndsOnText (form_job gives IsFile answers) name text end → FormEnds gives IsFile answers name text end
+form_ends gives IsFile answers name end text (inl answered) = inl answered.answer
+form_ends gives IsFile answers name end text (inr r) =
+    inr (record { at = r.at; none = r.refused.none; first = r.refused.place.first; gives_is = r.refused.place.gives_is; end_is = r.end_is })
+
+check_ends : (name : List ℕ) (end : Ending) (text : List ℕ) → EndsOnText check_job name text end → CertEnds reading_of IsCertificate (AnswersCert CheckEnd) name text end
+check_ends name end text (inl answered) = inl answered.answer
+check_ends name end text (inr r) = inr (record { at = r.at; none = r.refused.none; stuck = r.refused.place.stuck; gives_is = r.refused.place.gives_is; end_is = r.end_is })
+
+residuals_ends : (name : List ℕ) (end : Ending) (text : List ℕ) → EndsOnText residuals_job name text end → CertEnds reading_of IsCertificate (AnswersCert ResidualsEnd) name text end
+residuals_ends name end text (inl answered) = inl answered.answer
+residuals_ends name end text (inr r) = inr (record { at = r.at; none = r.refused.none; stuck = r.refused.place.stuck; gives_is = r.refused.place.gives_is; end_is = r.end_is })
+
+migrate_ends : (name : List ℕ) (end : Ending) (text : List ℕ) → EndsOnText migrate_job name text end → CertEnds (reading_as One) IsOldCertificate AnswersOld name text end
+migrate_ends name end text (inl answered) = inl answered.answer
+migrate_ends name end text (inr r) = inr (record { at = r.at; none = r.refused.none; stuck = r.refused.place.stuck; gives_is = r.refused.place.gives_is; end_is = r.end_is })
+
+check_track_ends : (name : List ℕ) (end : Ending) (text : List ℕ) → EndsOnText check_track_job name text end → CertEnds track_reading IsTrackCertificate AnswersTrackCert name text end
+check_track_ends name end text (inl answered) = inl answered.answer
+check_track_ends name end text (inr r) = inr (record { at = r.at; none = r.refused.none; stuck = r.refused.place.stuck; gives_is = r.refused.place.gives_is; end_is = r.end_is })
+
+-- ---- by the files of a session
+session_at : (system : System) (told : List ℕ → Option (List ℕ)) (base rover nav : List ℕ) (P Q : ObsFile → ObsFile → Records → Ending → Type 0) (end : Ending)
+    → ((b r : ObsFile) (n : Records) → P b r n end → Q b r n end) → EndsBySession system told base rover nav P end → EndsBySession system told base rover nav Q end
+session_at system told base rover nav P Q end each (inl s) =
+    inl (record { base_file = s.base_file; rover_file = s.rover_file; records = s.records; are = s.are; ends_so = each s.base_file s.rover_file s.records s.ends_so })
+session_at system told base rover nav P Q end each (inr stops) = inr stops
+
+arcs_ends : (o : Options) (end : Ending) (b r : ObsFile) (n : Records) → EndsOnFiles AnswersArcs o b r n end → AnswersArcs o b r n end ⊎ IsPairRefused b r o end
+arcs_ends o end b r n (inl answered) = inl answered.answer
+arcs_ends o end b r n (inr refused) = inr refused
+
+-- a fix with its move is strictly best
+fixed_tail : (b r : ObsFile) (n : Records) (o : Options) (cert : Cert) (t : Tail) → cert.tail ≡ t → (is_fixed (answer.Full cert) ≡ true → IsFixedFor b r n o (answer.Full cert))
+    → IsBestWhereFixed cert.session t
+fixed_tail b r n o cert (tail.Fixed h moved best top) is fixed =
+    let f : IsFixedFor b r n o (answer.Full cert) = fixed (rw is refl) in
+    let same : f.cert ≡ cert = let e = f.answer_is in cc in
+    let strictly : (c : Cert) → f.cert ≡ c → IsStrictlyBest c.session (first_of f.fix.best) f.fix.moved = λ c e. subst (λ (x : Cert). IsStrictlyBest x.session (first_of f.fix.best) f.fix.moved) e f.fix.strictly_best in
+    let tails : tail.Fixed h moved best top ≡ tail.Fixed f.fix.h f.fix.moved f.fix.best f.fix.top = sym is ∙ (sym (ap (λ (x : Cert). x.tail) same) ∙ f.fix.tail_is) in
+    subst (λ (u : Tail). IsBestWhereFixed cert.session u) (sym tails) (strictly cert same)
+fixed_tail b r n o cert (tail.Unseparated h moved best top) is fixed = tt
+fixed_tail b r n o cert (tail.Weak column pivot) is fixed = tt
+fixed_tail b r n o cert (tail.Overwidth place) is fixed = tt
+fixed_tail b r n o cert (tail.Unsettled entry) is fixed = tt
+fixed_tail b r n o cert (tail.Spent budget) is fixed = tt
+
+best_answer : (b r : ObsFile) (n : Records) (o : Options) (a : Answer) → (is_fixed a ≡ true → IsFixedFor b r n o a) → IsBestAnswer a
+best_answer b r n o (answer.Few pairs) fixed = tt
+best_answer b r n o (answer.Arcs free) fixed = tt
+best_answer b r n o (answer.Early stage why) fixed = tt
+best_answer b r n o (answer.Full cert) fixed = fixed_tail b r n o cert cert.tail refl fixed
+
+fix_ends : (o : Options) (end : Ending) (b r : ObsFile) (n : Records) → EndsOnFiles AnswersFix o b r n end → EndsWithOutcome b r n o end ⊎ IsPairRefused b r o end
+fix_ends o end b r n (inl answered) =
+    let a = answered.answer in
+    inl (record { outcome = a.outcome; is = a.is; best = best_answer b r n o a.outcome.answer a.fixed; whole = a.whole; end_is = a.end_is })
+fix_ends o end b r n (inr refused) = inr refused
+
+track_ends : (o : Options) (end : Ending) (b r : ObsFile) (n : Records) → EndsOnFiles AnswersTrack o b r n end → EndsWithTrack b r n o end ⊎ IsPairRefused b r o end
+track_ends o end b r n (inl answered) = let a = answered.answer in inl (record { outcome = a.outcome; is = a.is; whole = a.whole; end_is = a.end_is })
+track_ends o end b r n (inr refused) = inr refused
+
+-- ---- each job
+pub job_ends : (j : Job) (told : List ℕ → Option (List ℕ)) (end : Ending) → present.JobEnds j told end → JobEnds j told end
+job_ends (job.Zero rows) told end = ends_at told rows _ _ end (form_ends rows_of IsZeroFile EndsByRows rows end)
+job_ends (job.List obs) told end = ends_at told obs _ _ end (form_ends (any_of Gps) (HasObservation Gps) EndsByObs obs end)
+job_ends (job.Orbit nav system sat tick) told end =
+    ends_at told nav _ _ end (form_ends (nav_of (system_of system)) (HasNavFile (system_of system)) (EndsByRecords system sat tick.0) nav end)
+job_ends (job.Check cert) told end = ends_at told cert _ _ end (check_ends cert end)
+job_ends (job.Residuals cert) told end = ends_at told cert _ _ end (residuals_ends cert end)
+job_ends (job.Migrate cert) told end = ends_at told cert _ _ end (migrate_ends cert end)
+job_ends (job.Fix base rover nav o) told end = session_at (system_of o.system) told base rover nav _ _ end (fix_ends o end)
+job_ends (job.Track base rover nav o) told end = session_at (system_of o.system) told base rover nav _ _ end (track_ends o end)
+job_ends (job.CheckTrack cert) told end = ends_at told cert _ _ end (check_track_ends cert end)
+job_ends (job.Arcs base rover nav o) told end = session_at (system_of o.system) told base rover nav _ _ end (arcs_ends o end)
+job_ends (job.Sim part seed epochs sats bands system) told end = λ ends. ends
+
+-- ---- files that were admitted are
+form_admitted : {F : Type 0} (gives : List (List ℕ) → Result F At) (IsFile : List (List ℕ) → Type 0) (answers : List ℕ → Ending → Type 0) (told : List ℕ → Option (List ℕ)) (name : List ℕ)
+    → IsAdmitted told name IsFile → IsTextAdmitted (form_job gives IsFile answers) told name
+form_admitted gives IsFile answers told name a = record { text = a.text; told_is = a.told_is; fits = a.fits; file = a.file }
+
+cert_admitted : (text_job : TextJob) (told : List ℕ → Option (List ℕ)) (name : List ℕ) → IsCertAdmitted text_job.IsFile told name → IsTextAdmitted text_job told name
+cert_admitted text_job told name a = record { text = a.text; told_is = a.told_is; fits = a.fits; file = a.is }
+
+pub still_readable : (j : Job) (told : List ℕ → Option (List ℕ)) → IsFormerReadable j told → present.IsReadable j told
+still_readable (job.Zero rows) told = form_admitted rows_of IsZeroFile EndsByRows told rows
+still_readable (job.List obs) told = form_admitted (any_of Gps) (HasObservation Gps) EndsByObs told obs
+still_readable (job.Orbit nav system sat tick) told = form_admitted (nav_of (system_of system)) (HasNavFile (system_of system)) (EndsByRecords system sat tick.0) told nav
+still_readable (job.Check cert) told = cert_admitted check_job told cert
+still_readable (job.Residuals cert) told = cert_admitted residuals_job told cert
+still_readable (job.Migrate cert) told = cert_admitted migrate_job told cert
+still_readable (job.Fix base rover nav options) told = λ readable. readable
+still_readable (job.Track base rover nav options) told = λ readable. readable
+still_readable (job.CheckTrack cert) told = cert_admitted check_track_job told cert
+still_readable (job.Arcs base rover nav options) told = λ readable. readable
+still_readable (job.Sim part seed epochs sats bands system) told = λ readable. readable
+
+-- ---- a run
+is_answer : (words : List (List ℕ)) (told : List ℕ → Option (List ℕ)) (end : Ending) → present.IsAnswer words told end → IsAnswer words told end
+is_answer words told end (inl answers) = inl (record { job = answers.job; asked = answers.asked; ends = job_ends answers.job told end answers.ends })
+is_answer words told end (inr other) = inr other
+
+pub is_run : (words : List (List ℕ)) (told : List ℕ → Option (List ℕ)) (result : Status) (out err : SinkChange) → runs.IsRun words told result out err → IsRun words told result out err
+is_run words told result out err run = record { end = run.end; answer = is_answer words told run.end run.answer; written = run.written }
+
+pub is_complete : (j : Job) (told : List ℕ → Option (List ℕ)) (result : Status) (out err : SinkChange) → runs.IsComplete j told result out err → IsComplete j told result out err
+is_complete j told result out err (inl well) = inl (record {
+  end = well.end;
+  ends = job_ends j told well.end well.ends;
+  verdict = well.verdict;
+  same = well.same;
+  out_whole = well.out_whole;
+  err_whole = well.err_whole;
+})
+is_complete j told result out err (inr other) = inr other

@@ -1,0 +1,64 @@
+-- Each former clause of `run` follows from those of now.
+use Rattle.std.proofs.Common.{ℕ, List}
+use Rattle.job_answers.specs.declared.status.Status.{Status}
+use Rattle.job_answers.specs.declared.status.Status.TheVariants.{Done, Declined, Usage, Refused, ReadFault, WriteFault, NoMemory}
+use Rattle.job_answers.specs.Statuses.{IsVerdictStatus}
+use Rattle.job_answers.specs.Delivered.{SinkChange}
+use Rattle.job_answers.specs.Works.{FileWork}
+use Rattle.sim_job.specs.SimRuns.{SaysOfSim}
+use Rattle.sim_run_job.specs.SimRunSays.{SaysOfSimRun}
+use Rattle.command_words.specs.declared.sims.File.{File}
+use Rattle.command_words.specs.declared.jobs.Job.TheVariants as job
+use Rattle.command_words.specs.declared.sims.Part.TheVariants as part
+use Rattle.baseline_app.specs.Former.{SaysOfZero, SaysOfList, SaysOfOrbit, SaysOfCheck, SaysOfResiduals, SaysMigrated, SaysOfArcs, SaysOfFix, SaysOfTrack, SaysOfCheckTrack, SaysNow, SaidBefore}
+use Rattle.baseline_app.proofs.FormerEnds.{is_run, is_complete, still_readable}
+use Rattle.baseline_app.proofs.FormerSays.{said_each, zero_said, list_said, orbit_said, check_said, residuals_said, migrate_said, check_track_said, arcs_said, fix_said, track_said}
+
+-- a simulated session
+sim_said : (file : File) (seed epochs sats bands system : ℕ) (status : Status) (out : SinkChange) → (IsVerdictStatus status → SaysOfSim file seed epochs sats bands system status out)
+    → SaysOfSim file seed epochs sats bands system status out
+sim_said file seed epochs sats bands system Done out says = says tt
+sim_said file seed epochs sats bands system Declined out says = says tt
+sim_said file seed epochs sats bands system Usage out says = tt
+sim_said file seed epochs sats bands system Refused out says = tt
+sim_said file seed epochs sats bands system ReadFault out says = tt
+sim_said file seed epochs sats bands system WriteFault out says = tt
+sim_said file seed epochs sats bands system NoMemory out says = tt
+
+sim_run_said : (seed epochs sats bands system : ℕ) (status : Status) (out : SinkChange) → (IsVerdictStatus status → SaysOfSimRun seed epochs sats bands system status out)
+    → SaysOfSimRun seed epochs sats bands system status out
+sim_run_said seed epochs sats bands system Done out says = says tt
+sim_run_said seed epochs sats bands system Declined out says = says tt
+sim_run_said seed epochs sats bands system Usage out says = tt
+sim_run_said seed epochs sats bands system Refused out says = tt
+sim_run_said seed epochs sats bands system ReadFault out says = tt
+sim_run_said seed epochs sats bands system WriteFault out says = tt
+sim_run_said seed epochs sats bands system NoMemory out says = tt
+
+pub said_before : (words : List (List ℕ)) (work : FileWork) (result : Status) (out err : SinkChange) → SaysNow words work result out err → SaidBefore words work result out err
+said_before words work result out err s = record {
+  run = is_run words work.told result out err s.run;
+  refused = λ j asked. (s.files j asked).refused;
+  opened = λ j asked. (s.files j asked).opened;
+  sure = λ j asked. (s.files j asked).sure;
+  named = λ j asked. (s.files j asked).named;
+  zero = λ rows asked. said_each (λ (st : Status). SaysOfZero work.told rows st out) result (λ verdict. zero_said work.told rows result out (s.says (job.Zero rows) asked verdict));
+  list = λ obs asked. said_each (λ (st : Status). SaysOfList work.told obs st out) result (λ verdict. list_said work.told obs result out (s.says (job.List obs) asked verdict));
+  orbit = λ nav system sat tick asked. said_each (λ (st : Status). SaysOfOrbit work.told nav system sat tick.0 st out) result
+      (λ verdict. orbit_said work.told nav system sat tick.0 result out (s.says (job.Orbit nav system sat tick) asked verdict));
+  sim = λ file seed epochs sats bands system asked. sim_said file seed epochs sats bands system result out (s.says (job.Sim (part.File file) seed epochs sats bands system) asked);
+  sim_run = λ seed epochs sats bands system asked. sim_run_said seed epochs sats bands system result out (s.says (job.Sim part.Run seed epochs sats bands system) asked);
+  check = λ cert asked. said_each (λ (st : Status). SaysOfCheck work.told cert st out) result (λ verdict. check_said work.told cert result out (s.says (job.Check cert) asked verdict));
+  residuals = λ cert asked. said_each (λ (st : Status). SaysOfResiduals work.told cert st out) result
+      (λ verdict. residuals_said work.told cert result out (s.says (job.Residuals cert) asked verdict));
+  migrate = λ cert asked. said_each (λ (st : Status). SaysMigrated work.told cert st out) result (λ verdict. migrate_said work.told cert result out (s.says (job.Migrate cert) asked verdict));
+  arcs = λ base rover nav o asked. said_each (λ (st : Status). SaysOfArcs work.told base rover nav o st out) result
+      (λ verdict. arcs_said work.told base rover nav o result out (s.says (job.Arcs base rover nav o) asked verdict));
+  fix = λ base rover nav o asked. said_each (λ (st : Status). SaysOfFix work.told base rover nav o st out) result
+      (λ verdict. fix_said work.told base rover nav o result out (s.says (job.Fix base rover nav o) asked verdict));
+  track = λ base rover nav o asked. said_each (λ (st : Status). SaysOfTrack work.told base rover nav o st out) result
+      (λ verdict. track_said work.told base rover nav o result out (s.says (job.Track base rover nav o) asked verdict));
+  check_track = λ cert asked. said_each (λ (st : Status). SaysOfCheckTrack work.told cert st out) result
+      (λ verdict. check_track_said work.told cert result out (s.says (job.CheckTrack cert) asked verdict));
+  complete = λ j asked readable sure. is_complete j work.told result out err (s.complete j asked (still_readable j work.told readable) sure);
+}

@@ -1,0 +1,304 @@
+-- What `run` says of a command now says what it said before.
+use Rattle.std.proofs.Common.{◌≡◌, inl, inr, ℕ, List, Option, Bool, true, false, if◌then◌else◌, refl, sym, ap, ◌∙◌, subst}
+use Rattle.std.specs.Io.KnownBytes.{Appends}
+use Rattle.cert_data.specs.declared.certs.Cert.{Cert}
+use Rattle.cert_data.specs.declared.outcomes.Answer.{Answer}
+use Rattle.cert_data.specs.declared.verdicts.Verdict.{Verdict}
+use Rattle.cert_data.specs.declared.verdicts.Verdict.TheVariants.{Certified, Not}
+use Rattle.cert_spelling.specs.Spelling.{spelling}
+use Rattle.cert_spelling.specs.Lengths.{IsWhole}
+use Rattle.cert_check.specs.Decided.{IsBestIn, IsBestByRatioIn}
+use Rattle.cert_check.specs.Visits.{RestsWithin}
+use Rattle.cert_check.specs.Verdicts.{IsVerdictOf, IsSameVerdict}
+use Rattle.cert_report.specs.VerdictText.{verdict_text}
+use Rattle.cert_report.specs.Residuals.{has_vectors, residuals_text}
+use Rattle.run_options.specs.declared.options.Options.{Options}
+use Rattle.outcome_report.specs.OutcomeText.{answer_text, IsWholeAnswer, is_fixed}
+use Rattle.track_data.specs.declared.certs.TrackCert.{TrackCert}
+use Rattle.track_spelling.specs.Spelling.{track_spelling}
+use Rattle.track_spelling.specs.Lengths.{IsWholeTrackCert}
+use Rattle.track_report.specs.declared.outcomes.TrackAnswer.{TrackAnswer}
+use Rattle.track_report.specs.TrackTexts.{track_answer_text, IsWholeTrackAnswer, is_track_fixed}
+use Rattle.job_answers.specs.declared.status.Status.{Status}
+use Rattle.job_answers.specs.declared.status.Status.TheVariants.{Done, Declined, Usage, Refused, ReadFault, WriteFault, NoMemory}
+use Rattle.job_answers.specs.Statuses.{IsVerdictStatus}
+use Rattle.job_answers.specs.Endings.{Ending, IsTextOf}
+use Rattle.job_answers.specs.Delivered.{SinkChange}
+use Rattle.job_answers.specs.TextJobs.{SaysOfText}
+use Rattle.session_files.specs.SessionJobs.{SaysOfSession}
+use Rattle.file_jobs.specs.Zero.{zero_job}
+use Rattle.file_jobs.specs.Listing.{list_job}
+use Rattle.file_jobs.specs.Orbits.{orbit_job}
+use Rattle.cert_jobs.specs.CertJobs.{status_of, shown_status, check_job, residuals_job}
+use Rattle.cert_jobs.specs.Migrations.{migrate_job}
+use Rattle.arcs_job.specs.ArcJobs.{AnswersArcs}
+use Rattle.fix_job.specs.FixJobs.{AnswersFix, IsFixedFor}
+use Rattle.track_job.specs.TrackJobs.{AnswersTrack, IsTrackFixedFor}
+use Rattle.track_job.specs.CheckJobs.{IsVerdictOn, IsBestFor, IsBestByItsRatio, check_track_job}
+use Rattle.baseline_app.specs.Former.{Said, SaysOfZero, SaysOfList, SaysOfOrbit, SaysOfCheck, SaysOfResiduals, SaysMigrated, SaysOfArcs, SaysOfFix, SaysOfTrack, SaysOfCheckTrack}
+
+-- what is said of a verdict alone is said of each status, since nothing is said of the others
+pub said_each : (P : Status → Type 0) (status : Status) → (IsVerdictStatus status → P status) → Said (P Done) (P Declined) status
+said_each P Done says = says tt
+said_each P Declined says = says tt
+said_each P Usage says = tt
+said_each P Refused says = tt
+said_each P ReadFault says = tt
+said_each P WriteFault says = tt
+said_each P NoMemory says = tt
+
+-- what is said at an ending's status is said at that of the run
+said_at : (P : Status → Type 0) (end t : Ending) (status : Status) → end ≡ t → end.status ≡ status → P t.status → P status
+said_at P end t status same is says = subst P (sym (ap (λ (e : Ending). e.status) same) ∙ is) says
+
+-- the text of that ending is what out has gained
+gained : (end t : Ending) (out : SinkChange) → end ≡ t → Appends out.old out.new end.out → Appends out.old out.new t.out
+gained end t out same printed = subst (λ (e : Ending). Appends out.old out.new e.out) same printed
+
+-- ---- commands on one file
+pub zero_said : (told : List ℕ → Option (List ℕ)) (name : List ℕ) (status : Status) (out : SinkChange) → SaysOfText zero_job told name status out → SaysOfZero told name status out
+zero_said told name status out s = elim (s.answer.verdict) [
+  | inl optimal ↦ said_at (λ (st : Status). SaysOfZero told name st out) s.end _ status optimal.end_is s.status_is (record {
+    text = s.text;
+    is = s.is;
+    z = s.answer.z;
+    ds = s.answer.ds;
+    are = s.answer.are;
+    best = optimal.best;
+    printed = gained s.end _ out optimal.end_is s.printed;
+  })
+  | inr beaten ↦ said_at (λ (st : Status). SaysOfZero told name st out) s.end _ status beaten.end_is s.status_is (record {
+    text = s.text;
+    is = s.is;
+    z = s.answer.z;
+    ds = s.answer.ds;
+    are = s.answer.are;
+    by = beaten.by;
+    rival = beaten.rival;
+    no_more = beaten.no_more;
+    printed = gained s.end _ out beaten.end_is s.printed;
+  })
+]
+
+pub list_said : (told : List ℕ → Option (List ℕ)) (name : List ℕ) (status : Status) (out : SinkChange) → SaysOfText list_job told name status out → SaysOfList told name status out
+list_said told name status out s = said_at (λ (st : Status). SaysOfList told name st out) s.end _ status s.answer.end_is s.status_is (record {
+  text = s.text;
+  is = s.is;
+  file = s.answer.file;
+  is_file = s.answer.is;
+  printed = gained s.end _ out s.answer.end_is s.printed;
+})
+
+pub orbit_said : (told : List ℕ → Option (List ℕ)) (name : List ℕ) (system sat tag : ℕ) (status : Status) (out : SinkChange) → SaysOfText (orbit_job system sat tag) told name status out
+    → SaysOfOrbit told name system sat tag status out
+orbit_said told name system sat tag status out s = elim (s.answer.found) [
+  | inl placed ↦ said_at (λ (st : Status). SaysOfOrbit told name system sat tag st out) s.end _ status placed.placed.end_is s.status_is (record {
+    text = s.text;
+    is = s.is;
+    records = s.answer.records;
+    is_file = s.answer.is;
+    fit = s.answer.fit;
+    are_fit = s.answer.are_fit;
+    eph = placed.eph;
+    chosen = placed.chosen;
+    box = placed.placed.box;
+    of_record = placed.placed.of_record;
+    numbers = placed.placed.numbers;
+    are = placed.placed.are;
+    holds = placed.placed.holds;
+    narrow = placed.placed.narrow;
+    printed = gained s.end _ out placed.placed.end_is s.printed;
+  })
+  | inr without ↦ said_at (λ (st : Status). SaysOfOrbit told name system sat tag st out) s.end _ status without.end_is s.status_is (record {
+    text = s.text;
+    is = s.is;
+    records = s.answer.records;
+    is_file = s.answer.is;
+    fit = s.answer.fit;
+    are_fit = s.answer.are_fit;
+    none = without.none;
+    printed = gained s.end _ out without.end_is s.printed;
+  })
+]
+
+-- ---- commands on a certificate
+check_verdict : (told : List ℕ → Option (List ℕ)) (name text : List ℕ) (c : Cert) (v : Verdict) (out : SinkChange) → IsTextOf told name text → IsWhole c → text ≡ spelling c
+    → IsVerdictOf c.session c.ratio c.budget c.tail v → ((w : Verdict) → IsVerdictOf c.session c.ratio c.budget c.tail w → IsSameVerdict w v) → RestsWithin c.session c.budget v
+    → (v ≡ Certified → IsBestIn c.session c.tail) → (v ≡ Certified → IsBestByRatioIn c.ratio c.session c.tail) → Appends out.old out.new (verdict_text v)
+    → SaysOfCheck told name (status_of v) out
+check_verdict told name text c Certified out is whole spelled verdict only visits best by_ratio written = record {
+  text = text;
+  is = is;
+  cert = c;
+  whole = whole;
+  spelled = spelled;
+  certified = verdict;
+  only = only;
+  visits = visits;
+  best = best refl;
+  by_ratio = by_ratio refl;
+  printed = written;
+}
+check_verdict told name text c (Not cause) out is whole spelled verdict only visits best by_ratio written = record {
+  text = text;
+  is = is;
+  cert = c;
+  whole = whole;
+  spelled = spelled;
+  cause = cause;
+  not_certified = verdict;
+  only = only;
+  visits = visits;
+  printed = written;
+}
+
+pub check_said : (told : List ℕ → Option (List ℕ)) (name : List ℕ) (status : Status) (out : SinkChange) → SaysOfText check_job told name status out → SaysOfCheck told name status out
+check_said told name status out s =
+    let a = s.answer in
+    let e = a.answer in
+    said_at (λ (st : Status). SaysOfCheck told name st out) s.end _ status e.end_is s.status_is
+    (check_verdict told name s.text a.cert e.verdict out s.is a.whole a.spelled e.is e.only e.visits e.best e.by_ratio (gained s.end _ out e.end_is s.printed))
+
+left_shown : (told : List ℕ → Option (List ℕ)) (name text : List ℕ) (c : Cert) (shown : Bool) (out : SinkChange) → IsTextOf told name text → IsWhole c → text ≡ spelling c
+    → has_vectors c.tail ≡ shown → Appends out.old out.new (residuals_text c) → SaysOfResiduals told name (shown_status shown) out
+left_shown told name text c true out is whole spelled vectors written = record { text = text; is = is; cert = c; whole = whole; spelled = spelled; vectors = vectors; printed = written }
+left_shown told name text c false out is whole spelled vectors written = record { text = text; is = is; cert = c; whole = whole; spelled = spelled; vectors = vectors; printed = written }
+
+pub residuals_said : (told : List ℕ → Option (List ℕ)) (name : List ℕ) (status : Status) (out : SinkChange) → SaysOfText residuals_job told name status out
+    → SaysOfResiduals told name status out
+residuals_said told name status out s =
+    let a = s.answer in
+    said_at (λ (st : Status). SaysOfResiduals told name st out) s.end _ status a.answer s.status_is
+    (left_shown told name s.text a.cert (has_vectors a.cert.tail) out s.is a.whole a.spelled refl (gained s.end _ out a.answer s.printed))
+
+pub migrate_said : (told : List ℕ → Option (List ℕ)) (name : List ℕ) (status : Status) (out : SinkChange) → SaysOfText migrate_job told name status out → SaysMigrated told name status out
+migrate_said told name status out s =
+    let a = s.answer in
+    let e = a.answer in
+    record {
+      text = s.text;
+      is = s.is;
+      old = a.old;
+      old_whole = a.whole;
+      spelled = a.spelled;
+      cert = e.cert;
+      whole = e.whole;
+      migrated = e.migrated;
+      status_is = sym (ap (λ (x : Ending). x.status) e.end_is) ∙ s.status_is;
+      printed = gained s.end _ out e.end_is s.printed;
+    }
+
+check_track_verdict : (told : List ℕ → Option (List ℕ)) (name text : List ℕ) (c : TrackCert) (v : Verdict) (out : SinkChange) → IsTextOf told name text → IsWholeTrackCert c
+    → text ≡ track_spelling c → IsVerdictOn c v → ((w : Verdict) → IsVerdictOn c w → IsSameVerdict w v) → (v ≡ Certified → IsBestFor c) → (v ≡ Certified → IsBestByItsRatio c)
+    → Appends out.old out.new (verdict_text v) → SaysOfCheckTrack told name (status_of v) out
+check_track_verdict told name text c Certified out is whole spelled verdict only best by_ratio written = record {
+  text = text;
+  is = is;
+  cert = c;
+  whole = whole;
+  spelled = spelled;
+  certified = verdict;
+  only = only;
+  best = best refl;
+  by_ratio = by_ratio refl;
+  printed = written;
+}
+check_track_verdict told name text c (Not cause) out is whole spelled verdict only best by_ratio written = record {
+  text = text;
+  is = is;
+  cert = c;
+  whole = whole;
+  spelled = spelled;
+  cause = cause;
+  not_certified = verdict;
+  only = only;
+  printed = written;
+}
+
+pub check_track_said : (told : List ℕ → Option (List ℕ)) (name : List ℕ) (status : Status) (out : SinkChange) → SaysOfText check_track_job told name status out
+    → SaysOfCheckTrack told name status out
+check_track_said told name status out s =
+    let a = s.answer in
+    let e = a.answer in
+    said_at (λ (st : Status). SaysOfCheckTrack told name st out) s.end _ status e.end_is s.status_is
+    (check_track_verdict told name s.text a.cert e.verdict out s.is a.whole a.spelled e.is e.only e.best e.by_ratio (gained s.end _ out e.end_is s.printed))
+
+-- ---- commands on a session
+pub arcs_said : (told : List ℕ → Option (List ℕ)) (base rover nav : List ℕ) (o : Options) (status : Status) (out : SinkChange) → SaysOfSession AnswersArcs told base rover nav o status out
+    → SaysOfArcs told base rover nav o status out
+arcs_said told base rover nav o status out s =
+    let a = s.answer in
+    said_at (λ (st : Status). SaysOfArcs told base rover nav o st out) s.end _ status a.end_is s.status_is (record {
+      base_file = s.base_file;
+      rover_file = s.rover_file;
+      records = s.records;
+      are_files = s.are_files;
+      kept = a.kept;
+      short = a.short;
+      are = a.are;
+      printed = gained s.end _ out a.end_is s.printed;
+    })
+
+fix_outcome : (told : List ℕ → Option (List ℕ)) (base rover nav : List ℕ) (o : Options) (status : Status) (out : SinkChange)
+    (s : SaysOfSession AnswersFix told base rover nav o status out) → Appends out.old out.new (answer_text s.answer.outcome.answer) → (fixed : Bool)
+    → is_fixed s.answer.outcome.answer ≡ fixed → SaysOfFix told base rover nav o (if fixed then Done else Declined) out
+fix_outcome told base rover nav o status out s printed true fixed =
+    let f : IsFixedFor s.base_file s.rover_file s.records o s.answer.outcome.answer = s.answer.fixed fixed in
+    record {
+      outcome = s.answer.outcome;
+      have = record { base_file = s.base_file; rover_file = s.rover_file; records = s.records; are_files = s.are_files; is = s.answer.is };
+      cert = f.cert;
+      answer_is = f.answer_is;
+      whole = subst IsWholeAnswer f.answer_is s.answer.whole;
+      fix = f.fix;
+      by_ratio = f.by_ratio;
+      certified = f.certified;
+      only = f.only;
+      stands = f.stands;
+      printed = subst (λ (t : Answer). Appends out.old out.new (answer_text t)) f.answer_is printed;
+    }
+fix_outcome told base rover nav o status out s printed false none = record {
+  outcome = s.answer.outcome;
+  have = record { base_file = s.base_file; rover_file = s.rover_file; records = s.records; are_files = s.are_files; is = s.answer.is };
+  none = none;
+  whole = s.answer.whole;
+  printed = printed;
+}
+
+pub fix_said : (told : List ℕ → Option (List ℕ)) (base rover nav : List ℕ) (o : Options) (status : Status) (out : SinkChange) → SaysOfSession AnswersFix told base rover nav o status out
+    → SaysOfFix told base rover nav o status out
+fix_said told base rover nav o status out s =
+    said_at (λ (st : Status). SaysOfFix told base rover nav o st out) s.end _ status s.answer.end_is s.status_is
+    (fix_outcome told base rover nav o status out s (gained s.end _ out s.answer.end_is s.printed) (is_fixed s.answer.outcome.answer) refl)
+
+track_outcome : (told : List ℕ → Option (List ℕ)) (base rover nav : List ℕ) (o : Options) (status : Status) (out : SinkChange)
+    (s : SaysOfSession AnswersTrack told base rover nav o status out) → Appends out.old out.new (track_answer_text s.answer.outcome.answer) → (fixed : Bool)
+    → is_track_fixed s.answer.outcome.answer ≡ fixed → SaysOfTrack told base rover nav o (if fixed then Done else Declined) out
+track_outcome told base rover nav o status out s printed true fixed =
+    let f : IsTrackFixedFor s.base_file s.rover_file s.records o s.answer.outcome.answer = s.answer.fixed fixed in
+    record {
+      outcome = s.answer.outcome;
+      have = record { base_file = s.base_file; rover_file = s.rover_file; records = s.records; are_files = s.are_files; is = s.answer.is };
+      cert = f.cert;
+      answer_is = f.answer_is;
+      whole = subst IsWholeTrackAnswer f.answer_is s.answer.whole;
+      fix = f.fix;
+      by_ratio = f.by_ratio;
+      certified = f.certified;
+      only = f.only;
+      stands = f.stands;
+      printed = subst (λ (t : TrackAnswer). Appends out.old out.new (track_answer_text t)) f.answer_is printed;
+    }
+track_outcome told base rover nav o status out s printed false none = record {
+  outcome = s.answer.outcome;
+  have = record { base_file = s.base_file; rover_file = s.rover_file; records = s.records; are_files = s.are_files; is = s.answer.is };
+  none = none;
+  whole = s.answer.whole;
+  printed = printed;
+}
+
+pub track_said : (told : List ℕ → Option (List ℕ)) (base rover nav : List ℕ) (o : Options) (status : Status) (out : SinkChange) → SaysOfSession AnswersTrack told base rover nav o status out
+    → SaysOfTrack told base rover nav o status out
+track_said told base rover nav o status out s =
+    said_at (λ (st : Status). SaysOfTrack told base rover nav o st out) s.end _ status s.answer.end_is s.status_is
+    (track_outcome told base rover nav o status out s (gained s.end _ out s.answer.end_is s.printed) (is_track_fixed s.answer.outcome.answer) refl)

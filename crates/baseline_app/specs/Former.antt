@@ -1,0 +1,440 @@
+-- What `run` said before its clauses on commands were one, in the words of then: a law (`former_law`) has each of them follow from
+-- those of now. The clauses `untouched`, `read`, `write` and `usage` stand as they stood.
+use Rattle.std.specs.Prelude.{◌≡◌, ◌≢◌, ◌⊎◌, ℕ, ℤ, ◌≤ℤ◌, ◌≤◌, Bool, true, false, List, [], length, All, codes, Result, Err, Some}
+use Rattle.std.specs.declared.option.Option.{Option}
+use Rattle.std.specs.Io.KnownBytes.{Appends}
+use Rattle.line_source.specs.Lines.{lines_of}
+use Rattle.line_source.specs.Causes.{Rose, OpensAtMost}
+use Rattle.gps_time.specs.declared.Tick.{Tick}
+use Rattle.rinex_head.specs.declared.place.At.{At}
+use Rattle.rinex_head.specs.declared.system.System.TheVariants.{Gps}
+use Rattle.rinex_head.specs.Systems.{system_of}
+use Rattle.grammar_lines.specs.Beginnings.{NoneBegins}
+use Rattle.obs_store.specs.declared.file.ObsFile.{ObsFile}
+use Rattle.obs_source.specs.Formats.{any_of, IsObservation, HasObservation}
+use Rattle.eph_store.specs.File.{Records}
+use Rattle.eph_store.specs.declared.record.Raw.{Raw}
+use Rattle.eph_store.specs.declared.ephemeris.Eph.{Eph}
+use Rattle.eph_store.specs.Records.{AreFit}
+use Rattle.eph_store.specs.Chosen.{IsChosenRecord, HasNoCandidate}
+use Rattle.sv_orbit.specs.declared.place.SvBox.{SvBox}
+use Rattle.rinex_nav.specs.NavForm.{IsNavFile, HasNavFile}
+use Rattle.rinex_nav.specs.NavRules.{nav_of}
+use Rattle.report_text.specs.List.{list_text}
+use Rattle.report_text.specs.Orbit.{OrbitNumbers, AreNarrow, AreNumbersOf, orbit_lines, no_record_line}
+use Rattle.zero_rows.specs.Rows.{AreRows, IsZeroFile}
+use Rattle.zero_rows.specs.RowsRules.{rows_of}
+use Rattle.zero_rows.specs.Sums.{sum_at, IsBest, IsRival}
+use Rattle.obs_rows.specs.declared.arcs.Arc.{Arc}
+use Rattle.obs_rows.specs.Signals.{fine_signals}
+use Rattle.fix_decide.specs.Decisions.{first_of}
+use Rattle.fix_decide.specs.Ratios.{IsBestByRatio}
+use Rattle.cert_data.specs.declared.certs.Cert.{Cert}
+use Rattle.cert_data.specs.declared.outcomes.Outcome.{Outcome}
+use Rattle.cert_data.specs.declared.outcomes.Answer.TheVariants as answer
+use Rattle.cert_data.specs.declared.verdicts.Verdict.{Verdict}
+use Rattle.cert_data.specs.declared.verdicts.Verdict.TheVariants.{Certified, Not}
+use Rattle.cert_data.specs.declared.verdicts.Cause.{Cause}
+use Rattle.cert_lines.specs.declared.version.Version.TheVariants.{One}
+use Rattle.cert_spelling.specs.Spelling.{spelling}
+use Rattle.cert_spelling.specs.Lengths.{IsWhole, IsCertificate}
+use Rattle.cert_text.specs.Rules.{reading_of, reading_as}
+use Rattle.cert_check.specs.Decided.{IsBestIn, IsBestByRatioIn}
+use Rattle.cert_check.specs.Visits.{RestsWithin}
+use Rattle.cert_check.specs.Verdicts.{IsVerdictOf, IsSameVerdict, IsGivenUp}
+use Rattle.cert_report.specs.VerdictText.{verdict_text}
+use Rattle.cert_report.specs.Residuals.{has_vectors, residuals_text}
+use Rattle.cert_migrate.specs.declared.old_certs.OldCert.{OldCert}
+use Rattle.cert_migrate.specs.OldSpelling.{old_spelling, IsWholeOld, IsOldCertificate}
+use Rattle.cert_migrate.specs.Migrated.{IsMigrated}
+use Rattle.run_options.specs.declared.options.Options.{Options}
+use Rattle.session.specs.Answers.{IsBestAnswer}
+use Rattle.session.specs.Outcomes.{IsOutcome}
+use Rattle.outcome_report.specs.OutcomeText.{answer_text, IsWholeAnswer, outcome_text, is_fixed}
+use Rattle.track_data.specs.declared.certs.TrackCert.{TrackCert}
+use Rattle.track_spelling.specs.Spelling.{track_spelling}
+use Rattle.track_spelling.specs.Lengths.{IsWholeTrackCert, IsTrackCertificate}
+use Rattle.track_text.specs.Rules.{track_reading}
+use Rattle.track_sum.specs.Decided as track_sum
+use Rattle.track_form.specs.Verdicts.{IsTrackVerdict}
+use Rattle.track_report.specs.declared.outcomes.TrackOutcome.{TrackOutcome}
+use Rattle.track_report.specs.declared.outcomes.TrackAnswer.TheVariants as track_answer
+use Rattle.track_report.specs.TrackTexts.{track_answer_text, IsWholeTrackAnswer, track_outcome_text, is_track_fixed}
+use Rattle.job_answers.specs.declared.status.Status.{Status}
+use Rattle.job_answers.specs.declared.status.Status.TheVariants.{Done, Declined, Refused, ReadFault, WriteFault, NoMemory}
+use Rattle.job_answers.specs.Statuses.{IsVerdictStatus}
+use Rattle.job_answers.specs.Texts.{refusal_line, no_memory_line}
+use Rattle.job_answers.specs.Endings.{Ending, ending, IsTextOf, IsRefusal, EndsByFile, IsAdmitted}
+use Rattle.job_answers.specs.Delivered.{SinkChange, GainsUnlessFault, IsDelivered}
+use Rattle.job_answers.specs.Works.{FileWork, HaveFault}
+use Rattle.session_files.specs.SessionFiles.{AreFilesOf, EndsBySession}
+use Rattle.session_files.specs.Refusals.{IsPairRefused, HaveRefused}
+use Rattle.session_files.specs.Admitted.{AreAdmitted}
+use Rattle.file_jobs.specs.Zero.{optimal_line, beaten_line, EndsByRows}
+use Rattle.file_jobs.specs.Listing.{EndsByObs}
+use Rattle.file_jobs.specs.Orbits.{HoldsSatellite, IsBoxOf, EndsByRecords}
+use Rattle.cert_jobs.specs.CertJobs.{AnswersCert, CheckEnd, ResidualsEnd}
+use Rattle.cert_jobs.specs.Migrations.{status_of, AnswersOld}
+use Rattle.arcs_job.specs.ArcLines.{arcs_text}
+use Rattle.arcs_job.specs.ArcJobs.{AreArcsOf, AnswersArcs}
+use Rattle.fix_job.specs.FixJobs as fix_job
+use Rattle.fix_job.specs.FixJobs.{IsFix, StandsForIts}
+use Rattle.track_job.specs.TrackOutcomes.{IsTrackOutcome}
+use Rattle.track_job.specs.TrackJobs.{IsTrackFix, TrackStandsForIts, track_status_of}
+use Rattle.track_job.specs.CheckJobs.{IsVerdictOn, IsBestFor, IsBestByItsRatio, AnswersTrackCert}
+use Rattle.sim_job.specs.SimRuns.{SaysOfSim}
+use Rattle.sim_run_job.specs.SimRunSays.{HaveOutcome, SaysOfSimRun}
+use Rattle.command_words.specs.declared.sims.File.{File}
+use Rattle.command_words.specs.declared.jobs.Job.{Job}
+use Rattle.command_words.specs.declared.jobs.Job.TheVariants as job
+use Rattle.command_words.specs.declared.sims.Part.TheVariants as part
+use Rattle.command_words.specs.Words.{file_words, IsJob}
+use Rattle.baseline_app.specs.Jobs.{PartEnds, AnswersUsage, IsReadable, SaysOfJob}
+use Rattle.baseline_app.specs.Runs as runs
+
+-- what is said with status 0, and what with status 1
+abbrev pub Said : Type 0 → Type 0 → Status → Type 0
+Said done declined Done = done
+Said done declined Declined = declined
+Said done declined _ = Unit {0}
+
+-- ---- `zero`
+pub record SaysOptimal (told : List ℕ → Option (List ℕ)) (name : List ℕ) (out : SinkChange) : Type 0 where
+  pub text : List ℕ
+  pub is : IsTextOf told name text
+  pub z : ℤ
+  pub ds : List ℤ
+  pub are : AreRows (lines_of text) z ds
+  pub best : IsBest ds z
+  pub printed : Appends out.old out.new (optimal_line z (sum_at ds z))
+
+pub record SaysBeaten (told : List ℕ → Option (List ℕ)) (name : List ℕ) (out : SinkChange) : Type 0 where
+  pub text : List ℕ
+  pub is : IsTextOf told name text
+  pub z : ℤ
+  pub ds : List ℤ
+  pub are : AreRows (lines_of text) z ds
+  pub by : ℤ
+  pub rival : IsRival ds z by
+  pub no_more : sum_at ds by ≤ℤ sum_at ds z
+  pub printed : Appends out.old out.new (beaten_line z (sum_at ds z) by (sum_at ds by))
+
+abbrev pub SaysOfZero : (List ℕ → Option (List ℕ)) → List ℕ → Status → SinkChange → Type 0
+SaysOfZero told name status out = Said (SaysOptimal told name out) (SaysBeaten told name out) status
+
+-- ---- `list`, which is never declined
+pub record SaysListed (told : List ℕ → Option (List ℕ)) (name : List ℕ) (out : SinkChange) : Type 0 where
+  pub text : List ℕ
+  pub is : IsTextOf told name text
+  pub file : ObsFile
+  pub is_file : IsObservation Gps (lines_of text) file
+  pub printed : Appends out.old out.new (list_text file)
+
+abbrev pub SaysOfList : (List ℕ → Option (List ℕ)) → List ℕ → Status → SinkChange → Type 0
+SaysOfList told name status out = Said (SaysListed told name out) ⊥ status
+
+-- ---- `orbit`
+pub record SaysPlaced (told : List ℕ → Option (List ℕ)) (name : List ℕ) (system sat tag : ℕ) (out : SinkChange) : Type 0 where
+  pub text : List ℕ
+  pub is : IsTextOf told name text
+  pub records : List Raw
+  pub is_file : IsNavFile (system_of system) (lines_of text) records
+  pub fit : List Eph
+  pub are_fit : AreFit records fit
+  pub eph : Eph
+  pub chosen : IsChosenRecord fit sat tag eph
+  pub box : SvBox
+  pub of_record : IsBoxOf system eph tag box
+  pub numbers : OrbitNumbers
+  pub are : AreNumbersOf box numbers
+  pub holds : HoldsSatellite system eph tag numbers
+  pub narrow : AreNarrow numbers
+  pub printed : Appends out.old out.new (orbit_lines numbers)
+
+pub record SaysNoRecord (told : List ℕ → Option (List ℕ)) (name : List ℕ) (system sat tag : ℕ) (out : SinkChange) : Type 0 where
+  pub text : List ℕ
+  pub is : IsTextOf told name text
+  pub records : List Raw
+  pub is_file : IsNavFile (system_of system) (lines_of text) records
+  pub fit : List Eph
+  pub are_fit : AreFit records fit
+  pub none : HasNoCandidate fit sat tag
+  pub printed : Appends out.old out.new no_record_line
+
+abbrev pub SaysOfOrbit : (List ℕ → Option (List ℕ)) → List ℕ → ℕ → ℕ → ℕ → Status → SinkChange → Type 0
+SaysOfOrbit told name system sat tag status out = Said (SaysPlaced told name system sat tag out) (SaysNoRecord told name system sat tag out) status
+
+-- ---- `check`
+pub record SaysCertified (told : List ℕ → Option (List ℕ)) (name : List ℕ) (out : SinkChange) : Type 0 where
+  pub text : List ℕ
+  pub is : IsTextOf told name text
+  pub cert : Cert
+  pub whole : IsWhole cert
+  pub spelled : text ≡ spelling cert
+  pub certified : IsVerdictOf cert.session cert.ratio cert.budget cert.tail Certified
+  pub only : (v : Verdict) → IsVerdictOf cert.session cert.ratio cert.budget cert.tail v → IsSameVerdict v Certified
+  pub visits : RestsWithin cert.session cert.budget Certified
+  pub best : IsBestIn cert.session cert.tail
+  pub by_ratio : IsBestByRatioIn cert.ratio cert.session cert.tail
+  pub printed : Appends out.old out.new (codes "certified\n")
+
+pub record SaysNotCertified (told : List ℕ → Option (List ℕ)) (name : List ℕ) (out : SinkChange) : Type 0 where
+  pub text : List ℕ
+  pub is : IsTextOf told name text
+  pub cert : Cert
+  pub whole : IsWhole cert
+  pub spelled : text ≡ spelling cert
+  pub cause : Cause
+  pub not_certified : IsVerdictOf cert.session cert.ratio cert.budget cert.tail (Not cause)
+  pub only : (v : Verdict) → IsVerdictOf cert.session cert.ratio cert.budget cert.tail v → IsSameVerdict v (Not cause)
+  pub visits : RestsWithin cert.session cert.budget (Not cause)
+  pub printed : Appends out.old out.new (verdict_text (Not cause))
+
+abbrev pub SaysOfCheck : (List ℕ → Option (List ℕ)) → List ℕ → Status → SinkChange → Type 0
+SaysOfCheck told name status out = Said (SaysCertified told name out) (SaysNotCertified told name out) status
+
+-- ---- `residuals`
+pub record SaysLeft (told : List ℕ → Option (List ℕ)) (name : List ℕ) (shown : Bool) (out : SinkChange) : Type 0 where
+  pub text : List ℕ
+  pub is : IsTextOf told name text
+  pub cert : Cert
+  pub whole : IsWhole cert
+  pub spelled : text ≡ spelling cert
+  pub vectors : has_vectors cert.tail ≡ shown
+  pub printed : Appends out.old out.new (residuals_text cert)
+
+abbrev pub SaysOfResiduals : (List ℕ → Option (List ℕ)) → List ℕ → Status → SinkChange → Type 0
+SaysOfResiduals told name status out = Said (SaysLeft told name true out) (SaysLeft told name false out) status
+
+-- ---- `migrate`
+pub record SaysMigrated (told : List ℕ → Option (List ℕ)) (name : List ℕ) (status : Status) (out : SinkChange) : Type 0 where
+  pub text : List ℕ
+  pub is : IsTextOf told name text
+  pub old : OldCert
+  pub old_whole : IsWholeOld old
+  pub spelled : text ≡ old_spelling old
+  pub cert : Cert
+  pub whole : IsWhole cert
+  pub migrated : IsMigrated old cert
+  pub status_is : status_of cert.tail ≡ status
+  pub printed : Appends out.old out.new (spelling cert)
+
+abbrev pub SaysOfMigrate : (List ℕ → Option (List ℕ)) → List ℕ → Status → SinkChange → Type 0
+SaysOfMigrate told name status out = Said (SaysMigrated told name Done out) (SaysMigrated told name Declined out) status
+
+-- ---- `arcs`, which is never declined
+pub record SaysArcs (told : List ℕ → Option (List ℕ)) (base rover nav : List ℕ) (o : Options) (out : SinkChange) : Type 0 where
+  pub base_file : ObsFile
+  pub rover_file : ObsFile
+  pub records : Records
+  pub are_files : AreFilesOf (system_of o.system) told base rover nav base_file rover_file records
+  pub kept : List Arc
+  pub short : ℕ
+  pub are : AreArcsOf base_file rover_file records o kept short
+  pub printed : Appends out.old out.new (arcs_text o.system kept short)
+
+abbrev pub SaysOfArcs : (List ℕ → Option (List ℕ)) → List ℕ → List ℕ → List ℕ → Options → Status → SinkChange → Type 0
+SaysOfArcs told base rover nav o status out = Said (SaysArcs told base rover nav o out) ⊥ status
+
+-- ---- `fix`
+pub record SaysFixed (told : List ℕ → Option (List ℕ)) (base rover nav : List ℕ) (o : Options) (out : SinkChange) : Type 0 where
+  pub outcome : Outcome
+  pub have : HaveOutcome told base rover nav o outcome
+  pub cert : Cert
+  pub answer_is : outcome.answer ≡ answer.Full cert
+  pub whole : IsWhole cert
+  pub fix : IsFix cert
+  pub by_ratio : IsBestByRatio cert.ratio cert.session (first_of fix.best) fix.moved
+  pub certified : IsVerdictOf cert.session cert.ratio cert.budget cert.tail Certified
+  pub only : (v : Verdict) → IsVerdictOf cert.session cert.ratio cert.budget cert.tail v → (v ≡ Certified) ⊎ IsGivenUp v
+  pub stands : StandsForIts have.base_file have.rover_file have.records o cert
+  pub printed : Appends out.old out.new (spelling cert)
+
+pub record SaysDeclined (told : List ℕ → Option (List ℕ)) (base rover nav : List ℕ) (o : Options) (out : SinkChange) : Type 0 where
+  pub outcome : Outcome
+  pub have : HaveOutcome told base rover nav o outcome
+  pub none : is_fixed outcome.answer ≡ false
+  pub whole : IsWholeAnswer outcome.answer
+  pub printed : Appends out.old out.new (answer_text outcome.answer)
+
+abbrev pub SaysOfFix : (List ℕ → Option (List ℕ)) → List ℕ → List ℕ → List ℕ → Options → Status → SinkChange → Type 0
+SaysOfFix told base rover nav o status out = Said (SaysFixed told base rover nav o out) (SaysDeclined told base rover nav o out) status
+
+-- ---- `track`
+pub record HaveTrackOutcome (told : List ℕ → Option (List ℕ)) (base rover nav : List ℕ) (o : Options) (outcome : TrackOutcome) : Type 0 where
+  pub base_file : ObsFile
+  pub rover_file : ObsFile
+  pub records : Records
+  pub are_files : AreFilesOf (system_of o.system) told base rover nav base_file rover_file records
+  pub is : IsTrackOutcome base_file rover_file records o outcome
+
+pub record SaysTrackFixed (told : List ℕ → Option (List ℕ)) (base rover nav : List ℕ) (o : Options) (out : SinkChange) : Type 0 where
+  pub outcome : TrackOutcome
+  pub have : HaveTrackOutcome told base rover nav o outcome
+  pub cert : TrackCert
+  pub answer_is : outcome.answer ≡ track_answer.Full cert
+  pub whole : IsWholeTrackCert cert
+  pub fix : IsTrackFix cert
+  pub by_ratio : track_sum.IsBestByRatio cert.ratio cert.track.arcs (fine_signals cert.track.signals) cert.track.pairs (first_of fix.best) fix.moves
+  pub certified : IsTrackVerdict cert.track.arcs (fine_signals cert.track.signals) cert.track.pairs cert.ratio cert.budget cert.tail Certified
+  pub only : (v : Verdict) → IsTrackVerdict cert.track.arcs (fine_signals cert.track.signals) cert.track.pairs cert.ratio cert.budget cert.tail v → (v ≡ Certified) ⊎ IsGivenUp v
+  pub stands : TrackStandsForIts have.base_file have.rover_file have.records o cert
+  pub printed : Appends out.old out.new (track_spelling cert)
+
+pub record SaysTrackDeclined (told : List ℕ → Option (List ℕ)) (base rover nav : List ℕ) (o : Options) (out : SinkChange) : Type 0 where
+  pub outcome : TrackOutcome
+  pub have : HaveTrackOutcome told base rover nav o outcome
+  pub none : is_track_fixed outcome.answer ≡ false
+  pub whole : IsWholeTrackAnswer outcome.answer
+  pub printed : Appends out.old out.new (track_answer_text outcome.answer)
+
+abbrev pub SaysOfTrack : (List ℕ → Option (List ℕ)) → List ℕ → List ℕ → List ℕ → Options → Status → SinkChange → Type 0
+SaysOfTrack told base rover nav o status out = Said (SaysTrackFixed told base rover nav o out) (SaysTrackDeclined told base rover nav o out) status
+
+-- ---- `check-track`
+pub record SaysTrackCertified (told : List ℕ → Option (List ℕ)) (name : List ℕ) (out : SinkChange) : Type 0 where
+  pub text : List ℕ
+  pub is : IsTextOf told name text
+  pub cert : TrackCert
+  pub whole : IsWholeTrackCert cert
+  pub spelled : text ≡ track_spelling cert
+  pub certified : IsVerdictOn cert Certified
+  pub only : (v : Verdict) → IsVerdictOn cert v → IsSameVerdict v Certified
+  pub best : IsBestFor cert
+  pub by_ratio : IsBestByItsRatio cert
+  pub printed : Appends out.old out.new (codes "certified\n")
+
+pub record SaysTrackNotCertified (told : List ℕ → Option (List ℕ)) (name : List ℕ) (out : SinkChange) : Type 0 where
+  pub text : List ℕ
+  pub is : IsTextOf told name text
+  pub cert : TrackCert
+  pub whole : IsWholeTrackCert cert
+  pub spelled : text ≡ track_spelling cert
+  pub cause : Cause
+  pub not_certified : IsVerdictOn cert (Not cause)
+  pub only : (v : Verdict) → IsVerdictOn cert v → IsSameVerdict v (Not cause)
+  pub printed : Appends out.old out.new (verdict_text (Not cause))
+
+abbrev pub SaysOfCheckTrack : (List ℕ → Option (List ℕ)) → List ℕ → Status → SinkChange → Type 0
+SaysOfCheckTrack told name status out = Said (SaysTrackCertified told name out) (SaysTrackNotCertified told name out) status
+
+-- ---- what each job ends with
+-- a text that is no certificate is refused at the first place at which the rules fail; none begins with its lines up to that one
+pub record IsCertRefused {F : Type 0} (gives : List ℕ → Result F At) (IsFile : List ℕ → Type 0) (name text : List ℕ) (end : Ending) : Type 0 where
+  pub at : At
+  pub none : IsFile text → ⊥
+  pub stuck : NoneBegins IsFile text at.line
+  pub gives_is : gives text ≡ Err at
+  pub end_is : end ≡ ending Refused [] (refusal_line name at)
+
+-- the two ways in which a file's text ends
+abbrev pub FormEnds : {F : Type 0} → (List (List ℕ) → Result F At) → (List (List ℕ) → Type 0) → (List ℕ → Ending → Type 0) → List ℕ → List ℕ → Ending → Type 0
+FormEnds gives IsFile answers name text end = answers text end ⊎ IsRefusal gives IsFile name text end
+
+abbrev pub CertEnds : {F : Type 0} → (List ℕ → Result F At) → (List ℕ → Type 0) → (List ℕ → Ending → Type 0) → List ℕ → List ℕ → Ending → Type 0
+CertEnds gives IsFile answers name text end = answers text end ⊎ IsCertRefused gives IsFile name text end
+
+pub record EndsWithOutcome (b r : ObsFile) (n : Records) (o : Options) (end : Ending) : Type 0 where
+  pub outcome : Outcome
+  pub is : IsOutcome b r n o outcome
+  pub best : IsBestAnswer outcome.answer
+  pub whole : IsWholeAnswer outcome.answer
+  pub end_is : end ≡ ending (fix_job.status_of outcome.answer) (answer_text outcome.answer) (outcome_text outcome)
+
+pub record EndsWithTrack (b r : ObsFile) (n : Records) (o : Options) (end : Ending) : Type 0 where
+  pub outcome : TrackOutcome
+  pub is : IsTrackOutcome b r n o outcome
+  pub whole : IsWholeTrackAnswer outcome.answer
+  pub end_is : end ≡ ending (track_status_of outcome.answer) (track_answer_text outcome.answer) (track_outcome_text outcome)
+
+abbrev pub JobEnds : Job → (List ℕ → Option (List ℕ)) → Ending → Type 0
+JobEnds (job.Zero rows) told end = EndsByFile told rows (FormEnds rows_of IsZeroFile EndsByRows rows) end
+JobEnds (job.List obs) told end = EndsByFile told obs (FormEnds (any_of Gps) (HasObservation Gps) EndsByObs obs) end
+JobEnds (job.Orbit nav system sat tick) told end = EndsByFile told nav (FormEnds (nav_of (system_of system)) (HasNavFile (system_of system)) (EndsByRecords system sat tick.0) nav) end
+JobEnds (job.Check cert) told end = EndsByFile told cert (CertEnds reading_of IsCertificate (AnswersCert CheckEnd) cert) end
+JobEnds (job.Residuals cert) told end = EndsByFile told cert (CertEnds reading_of IsCertificate (AnswersCert ResidualsEnd) cert) end
+JobEnds (job.Migrate cert) told end = EndsByFile told cert (CertEnds (reading_as One) IsOldCertificate AnswersOld cert) end
+JobEnds (job.Fix base rover nav o) told end = EndsBySession (system_of o.system) told base rover nav (λ b r n e. EndsWithOutcome b r n o e ⊎ IsPairRefused b r o e) end
+JobEnds (job.Track base rover nav o) told end = EndsBySession (system_of o.system) told base rover nav (λ b r n e. EndsWithTrack b r n o e ⊎ IsPairRefused b r o e) end
+JobEnds (job.CheckTrack cert) told end = EndsByFile told cert (CertEnds track_reading IsTrackCertificate AnswersTrackCert cert) end
+JobEnds (job.Arcs base rover nav o) told end = EndsBySession (system_of o.system) told base rover nav (λ b r n e. AnswersArcs o b r n e ⊎ IsPairRefused b r o e) end
+JobEnds (job.Sim part seed epochs sats bands system) told end = PartEnds part seed epochs sats bands system end
+
+-- ---- which files are admitted
+pub record IsCertAdmitted (IsFile : List ℕ → Type 0) (told : List ℕ → Option (List ℕ)) (name : List ℕ) : Type 0 where
+  pub text : List ℕ
+  pub told_is : told name ≡ Some text
+  pub fits : length text ≤ 67108864
+  pub is : IsFile text
+
+abbrev pub IsFormerReadable : Job → (List ℕ → Option (List ℕ)) → Type 0
+IsFormerReadable (job.Zero rows) told = IsAdmitted told rows IsZeroFile
+IsFormerReadable (job.List obs) told = IsAdmitted told obs (HasObservation Gps)
+IsFormerReadable (job.Orbit nav system sat tick) told = IsAdmitted told nav (HasNavFile (system_of system))
+IsFormerReadable (job.Check cert) told = IsCertAdmitted IsCertificate told cert
+IsFormerReadable (job.Residuals cert) told = IsCertAdmitted IsCertificate told cert
+IsFormerReadable (job.Migrate cert) told = IsCertAdmitted IsOldCertificate told cert
+IsFormerReadable (job.Fix base rover nav options) told = AreAdmitted told base rover nav options
+IsFormerReadable (job.Track base rover nav options) told = AreAdmitted told base rover nav options
+IsFormerReadable (job.CheckTrack cert) told = IsCertAdmitted IsTrackCertificate told cert
+IsFormerReadable (job.Arcs base rover nav options) told = AreAdmitted told base rover nav options
+IsFormerReadable (job.Sim part seed epochs sats bands system) told = Unit {0}
+
+-- ---- a run
+pub record AnswersJob (words : List (List ℕ)) (told : List ℕ → Option (List ℕ)) (end : Ending) : Type 0 where
+  pub job : Job
+  pub asked : IsJob words job
+  pub ends : JobEnds job told end
+
+abbrev pub IsAnswer : List (List ℕ) → (List ℕ → Option (List ℕ)) → Ending → Type 0
+IsAnswer words told end = AnswersJob words told end ⊎ (AnswersUsage words end ⊎ (end ≡ ending NoMemory [] no_memory_line))
+
+pub record IsRun (words : List (List ℕ)) (told : List ℕ → Option (List ℕ)) (result : Status) (out err : SinkChange) : Type 0 where
+  pub end : Ending
+  pub answer : IsAnswer words told end
+  pub written : IsDelivered end result out err
+
+pub record EndsWell (job : Job) (told : List ℕ → Option (List ℕ)) (result : Status) (out err : SinkChange) : Type 0 where
+  pub end : Ending
+  pub ends : JobEnds job told end
+  pub verdict : IsVerdictStatus result
+  pub same : result ≡ end.status
+  pub out_whole : Appends out.old out.new end.out
+  pub err_whole : Appends err.old err.new end.err
+
+abbrev pub IsComplete : Job → (List ℕ → Option (List ℕ)) → Status → SinkChange → SinkChange → Type 0
+IsComplete job told result out err = EndsWell job told result out err ⊎ ((result ≡ NoMemory) ⊎ ((result ≡ WriteFault) × (Rose out.before out.now ⊎ Rose err.before err.now)))
+
+-- all names are sure, or no count of faults rose
+abbrev pub IsSure : FileWork → List (List ℕ) → Type 0
+IsSure work names = All work.sure names ⊎ (Rose work.faults work.faults_now → ⊥)
+
+-- ---- the clauses
+-- what `run` says now
+pub record SaysNow (words : List (List ℕ)) (work : FileWork) (result : Status) (out err : SinkChange) : Type 0 where
+  pub run : runs.IsRun words work.told result out err
+  pub files : (job : Job) → IsJob words job → runs.UsesFiles work (file_words job) result err
+  pub says : (job : Job) → IsJob words job → IsVerdictStatus result → SaysOfJob job work.told result out
+  pub complete : (job : Job) → IsJob words job → IsReadable job work.told → IsSure work (file_words job) → runs.IsComplete job work.told result out err
+
+-- what it said
+pub record SaidBefore (words : List (List ℕ)) (work : FileWork) (result : Status) (out err : SinkChange) : Type 0 where
+  pub run : IsRun words work.told result out err
+  pub refused : (job : Job) → IsJob words job → HaveRefused work.told work.left (file_words job) result (GainsUnlessFault err)
+  pub opened : (job : Job) → IsJob words job → OpensAtMost (length (file_words job)) work.opened work.opened_now
+  pub sure : (job : Job) → IsJob words job → All work.sure (file_words job) → result ≢ ReadFault
+  pub named : (job : Job) → IsJob words job → HaveFault work.sure (file_words job) result (GainsUnlessFault err)
+  pub zero : (rows : List ℕ) → IsJob words (job.Zero rows) → SaysOfZero work.told rows result out
+  pub list : (obs : List ℕ) → IsJob words (job.List obs) → SaysOfList work.told obs result out
+  pub orbit : (nav : List ℕ) (system sat : ℕ) (tick : Tick) → IsJob words (job.Orbit nav system sat tick) → SaysOfOrbit work.told nav system sat tick.0 result out
+  pub sim : (file : File) (seed epochs sats bands system : ℕ) → IsJob words (job.Sim (part.File file) seed epochs sats bands system)
+      → SaysOfSim file seed epochs sats bands system result out
+  pub sim_run : (seed epochs sats bands system : ℕ) → IsJob words (job.Sim part.Run seed epochs sats bands system) → SaysOfSimRun seed epochs sats bands system result out
+  pub check : (cert : List ℕ) → IsJob words (job.Check cert) → SaysOfCheck work.told cert result out
+  pub residuals : (cert : List ℕ) → IsJob words (job.Residuals cert) → SaysOfResiduals work.told cert result out
+  pub migrate : (cert : List ℕ) → IsJob words (job.Migrate cert) → SaysOfMigrate work.told cert result out
+  pub arcs : (base rover nav : List ℕ) (options : Options) → IsJob words (job.Arcs base rover nav options) → SaysOfArcs work.told base rover nav options result out
+  pub fix : (base rover nav : List ℕ) (options : Options) → IsJob words (job.Fix base rover nav options) → SaysOfFix work.told base rover nav options result out
+  pub track : (base rover nav : List ℕ) (options : Options) → IsJob words (job.Track base rover nav options) → SaysOfTrack work.told base rover nav options result out
+  pub check_track : (cert : List ℕ) → IsJob words (job.CheckTrack cert) → SaysOfCheckTrack work.told cert result out
+  pub complete : (job : Job) → IsJob words job → IsFormerReadable job work.told → IsSure work (file_words job) → IsComplete job work.told result out err

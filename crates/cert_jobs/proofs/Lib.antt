@@ -1,2 +1,0 @@
-pub mod CertSays
-pub mod MigrateSays
