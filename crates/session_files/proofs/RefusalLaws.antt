@@ -1,5 +1,6 @@
 -- Files that a session is made of are not refused.
 use Rattle.std.proofs.Common.{◌≡◌, inl, inr, ℕ, ◌+◌, ◌-◌, ◌*◌, ◌<◌, List, Option, Bool, true, false, length, slice_index, sym, ap, subst, arith}
+use Rattle.line_source.specs.Openings.{Unread}
 use Rattle.obs_store.specs.declared.file.ObsFile.{ObsFile}
 use Rattle.obs_store.specs.Epochs.{tags_of}
 use Rattle.eph_store.specs.File.{Records}
@@ -43,10 +44,10 @@ never_refused told base rover nav o b r n end admitted are refused =
     not_refused b r o refused.what (admitted.position b are.base_is) (admitted.signals b r are.base_is are.rover_is) (admitted.sparse b r are.base_is are.rover_is) refused.why
 
 -- ---- a refusal is that of one of the files
-pub stop_whole : (told : List ℕ → Option (List ℕ)) (left : ℕ → Option (List ℕ)) (names : List (List ℕ)) (end : Ending) → IsRefusedWhole told left names end → AreRefusedWhole told left names end
+pub stop_whole : (told : List ℕ → Option (List ℕ)) (left : Unread) (names : List (List ℕ)) (end : Ending) → IsRefusedWhole told left names end → AreRefusedWhole told left names end
 stop_whole told left names end refused = λ is. inl (refused is)
 
 -- or of the two together
-pub pair_whole : (told : List ℕ → Option (List ℕ)) (left : ℕ → Option (List ℕ)) (names : List (List ℕ)) (b r : ObsFile) (o : Options) (end : Ending) → IsPairRefused b r o end
+pub pair_whole : (told : List ℕ → Option (List ℕ)) (left : Unread) (names : List (List ℕ)) (b r : ObsFile) (o : Options) (end : Ending) → IsPairRefused b r o end
     → AreRefusedWhole told left names end
 pair_whole told left names b r o end refused = λ is. inr (refused.what, ap (λ (e : Ending). e.err) refused.end_is)
