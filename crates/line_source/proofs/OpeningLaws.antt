@@ -22,7 +22,7 @@ pub next_first : (name : List ℕ) (names : List (List ℕ)) (before mid now : L
 next_first name names before mid now opens then = (
   suc then.0,
   then.1 ∙ ap (λ (front : List (List ℕ)). front ++ take then.0 names) (one_name name before mid opens)
-  ∙ append_assoc (names_of before) (name ∷ []) (take then.0 names),
+      ∙ append_assoc (names_of before) (name ∷ []) (take then.0 names),
 )
 
 abbrev no_names : List (List ℕ)

@@ -82,7 +82,10 @@ fn tells_host_names_apart(rt: HostRuntime) -> Result<(), Fail> {
     fs::write(&rt, "x", "one")?;
     fs::write(&rt, "x ", "two")?;
     let mut files = HostFiles::new(rt);
-    assert_eq!(rt; load(alloc, &mut files, "x ")?.as_slice(), b"two".as_slice());
+    assert_eq!(rt;
+        load(alloc, &mut files, "x ")?.as_slice(),
+        b"two".as_slice()
+    );
     assert_eq!(rt; load(alloc, &mut files, "x")?.as_slice(), b"one".as_slice());
     Ok(())
 }
