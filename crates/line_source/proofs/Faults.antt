@@ -1,5 +1,5 @@
 -- Counts of faults.
-use Rattle.std.proofs.Common.{◌≡◌, ℕ, ◌≤◌, Bool, arith}
+use Rattle.std.proofs.Common.{◌≡◌, ℕ, Bool, arith}
 use Rattle.line_source.specs.Causes.{next_count, Rose, StopsAtFault}
 
 pub stop_rose : {before now : ℕ} {failed : Bool} → StopsAtFault before now failed → Rose before now

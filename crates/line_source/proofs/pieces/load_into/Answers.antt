@@ -1,4 +1,4 @@
-use Rattle.std.proofs.Common.{◌≡◌, ◌≤◌, ◌++◌, ℕ, Option, sym, subst, take, drop, length, length-take, arith, rules}
+use Rattle.std.proofs.Common.{◌≡◌, ◌≤◌, ◌++◌, take, drop, length, length-take, arith, rules}
 use Rattle.std.proofs.lemmas.List.{take-append-le}
 use Rattle.line_source.proofs.Rests.{IsTakenSoFar-more}
 use Rattle.line_source.proofs.pieces.load_into.Goals as goal
