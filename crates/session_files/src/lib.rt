@@ -4,7 +4,7 @@
 //! `read_session` gives the three, or stops at the first that can't be had: one that can't be read (status 4, only where
 //! the files' count of faults rose, and never for a name that is sure not to fail), one that is too large, or one whose
 //! text is none of its form (status 3, with the place where its lines leave the form). The line on err names that file
-//! (`named`), and a file is refused only after it was read to its end (`refused`). Each is opened once at most. `obs_file`
+//! (`named`), and a file is refused only after it was read to its end (`refused`). They are opened in this order, each once. `obs_file`
 //! says the same of one observation file. Out of memory may come in the place of any answer. Two observation files of
 //! which no session is made are refused with one line (`refused_pair`).
 #![tactic(auto)]
