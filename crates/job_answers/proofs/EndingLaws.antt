@@ -1,6 +1,6 @@
 -- The statuses of endings, and what a file whose text is known and admitted ends with.
 use Rattle.std.proofs.Common.{◌≡◌, ◌≢◌, inl, inr, ◌<◌, ℕ, List, [], ◌∷◌, length, Some, Option, Result, Ok, Err, refl, sym, ap, ◌∙◌, subst, arith, IfSome}
-use Rattle.line_source.specs.Told.{IsReadToEnd}
+use Rattle.line_source.specs.Openings.{Unread, IsReadToEnd}
 use Rattle.job_answers.specs.declared.answer.Answer.{Answer}
 use Rattle.job_answers.specs.declared.stop.Stop.{Stop}
 use Rattle.job_answers.specs.declared.stop.Stop.TheVariants as stop
@@ -48,17 +48,16 @@ delivered_status end result status out err (inr (inr by_err)) is other = absurd 
 
 -- ---- refusals
 -- that of a file that was read to its end
-pub read_whole : (told : List ℕ → Option (List ℕ)) (left : ℕ → Option (List ℕ)) (name : List ℕ) (at : At) (end : Ending) → IsReadToEnd told left name
+pub read_whole : (told : List ℕ → Option (List ℕ)) (left : Unread) (name : List ℕ) (at : At) (end : Ending) → IsReadToEnd told left name
     → end ≡ ending Refused [] (refusal_line name at) → IsRefusedWhole told left (name ∷ []) end
 read_whole told left name at end read is = λ refused. (0, name, omega arith, refl, inl (record { at = at; line = ap (λ (e : Ending). e.err) is; read = read }))
 
 -- that of a file that is too large
-pub large_whole : (told : List ℕ → Option (List ℕ)) (left : ℕ → Option (List ℕ)) (name : List ℕ) (end : Ending) → IsTooLarge told name end → IsRefusedWhole told left (name ∷ []) end
+pub large_whole : (told : List ℕ → Option (List ℕ)) (left : Unread) (name : List ℕ) (end : Ending) → IsTooLarge told name end → IsRefusedWhole told left (name ∷ []) end
 large_whole told left name end large = λ refused. (0, name, omega arith, refl, inr (record { line = ap (λ (e : Ending). e.err) large.end_is; large = large.large }))
 
 -- that of a file whose text is none of the form
-pub refusal_whole : {X : Type 0} {gives : List (List ℕ) → Result X At} {IsFile : List (List ℕ) → Type 0} (told : List ℕ → Option (List ℕ)) (left : ℕ
-    → Option (List ℕ)) (name text : List ℕ) (end : Ending) → IsReadToEnd told left name → IsRefusal gives IsFile name text end
+pub refusal_whole : {X : Type 0} {gives : List (List ℕ) → Result X At} {IsFile : List (List ℕ) → Type 0} (told : List ℕ → Option (List ℕ)) (left : Unread) (name text : List ℕ) (end : Ending) → IsReadToEnd told left name → IsRefusal gives IsFile name text end
     → IsRefusedWhole told left (name ∷ []) end
 refusal_whole told left name text end read refusal = read_whole told left name refusal.at end read refusal.end_is
 

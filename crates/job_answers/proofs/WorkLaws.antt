@@ -1,7 +1,7 @@
 -- What a job does with its files.
 use Rattle.std.proofs.Common.{◌≡◌, ◌≢◌, inl, inr, ℕ, List, [], ◌∷◌, Result, Err, refl, ap, subst, arith}
-use Rattle.line_source.specs.Told.{IsReadToEnd}
-use Rattle.line_source.specs.Causes.{Rose, OpensAtMost}
+use Rattle.line_source.specs.Causes.{Rose}
+use Rattle.line_source.specs.Openings.{OpensFirst, IsReadToEnd}
 use Rattle.job_answers.specs.declared.answer.Answer.{Answer}
 use Rattle.job_answers.specs.declared.stop.Stop.{Stop}
 use Rattle.job_answers.specs.declared.stop.Stop.TheVariants as stop
@@ -37,7 +37,7 @@ text_over work name text job end is read (inr refused) =
     }
 
 pub text_done : (work : FileWork) (name text : List ℕ) (job : TextJob) (r : Result Answer Stop) → IsTextOf work.told name text → IsReadToEnd work.told work.left name
-    → OpensAtMost 1 work.opened work.opened_now → IfEnded r (EndsOnText job name text) → IsDoneOver work (name ∷ []) NoLine (TextEnds job work.told name) r
+    → OpensFirst (name ∷ []) work.openings work.left.openings → IfEnded r (EndsOnText job name text) → IsDoneOver work (name ∷ []) NoLine (TextEnds job work.told name) r
 text_done work name text job r is read opens ends = record {
   opened = opens;
   ended = ended_weaker r (EndsOnText job name text) (EndsOver work (name ∷ []) NoLine (TextEnds job work.told name)) (λ end so. text_over work name text job end is read so) ends;
@@ -63,7 +63,7 @@ unloaded_over work name job end (inr fault) rose never =
       named = λ is. (0, name, omega arith, refl, record { line = ap (λ (e : Ending). e.err) fault; unsure = λ sure. never sure is });
     }
 
-pub stop_done : (work : FileWork) (name : List ℕ) (job : TextJob) (why : Stop) → OpensAtMost 1 work.opened work.opened_now → IfEnds why (EndsUnloaded work.told name)
+pub stop_done : (work : FileWork) (name : List ℕ) (job : TextJob) (why : Stop) → OpensFirst (name ∷ []) work.openings work.left.openings → IfEnds why (EndsUnloaded work.told name)
     → IfEnds why (λ end. end.status ≡ ReadFault → Rose work.faults work.faults_now) → (work.sure name → IfEnds why (λ end. end.status ≢ ReadFault))
     → IsDoneOver work (name ∷ []) NoLine (TextEnds job work.told name) (Err why)
 stop_done work name job (stop.Ended a) opens ends rose never = record { opened = opens; ended = unloaded_over work name job (ending_of a) ends rose never }

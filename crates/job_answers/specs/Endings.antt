@@ -2,7 +2,7 @@
 use Rattle.std.specs.Prelude.{◌≡◌, ◌⊎◌, ℕ, ◌<◌, ◌≤◌, List, [], length, IfSome, Result, Err, Some, Any}
 use Rattle.std.specs.declared.option.Option.{Option}
 use Rattle.line_source.specs.Lines.{lines_of}
-use Rattle.line_source.specs.Told.{IsReadToEnd}
+use Rattle.line_source.specs.Openings.{Unread, IsReadToEnd}
 use Rattle.rinex_head.specs.declared.place.At.{At}
 use Rattle.rinex_head.specs.FirstFailing.{IsFirstFailing}
 use Rattle.job_answers.specs.declared.status.Status.{Status}
@@ -63,7 +63,7 @@ pub record IsAdmitted (told : List ℕ → Option (List ℕ)) (name : List ℕ) 
   pub file : IsFile (lines_of text)
 
 -- The file's refusal is reported, and the file was read to its end: a read fault would have come before.
-pub record IsReadAndRefused (told : List ℕ → Option (List ℕ)) (left : ℕ → Option (List ℕ)) (tells : List ℕ → Type 0) (name : List ℕ) : Type 0 where
+pub record IsReadAndRefused (told : List ℕ → Option (List ℕ)) (left : Unread) (tells : List ℕ → Type 0) (name : List ℕ) : Type 0 where
   pub at : At
   pub line : tells (refusal_line name at)
   pub read : IsReadToEnd told left name
@@ -73,9 +73,9 @@ pub record IsRefusedAsLarge (told : List ℕ → Option (List ℕ)) (tells : Lis
   pub line : tells (too_large_line name)
   pub large : HasTooManyBytes told name
 
-abbrev pub IsRefusedFile : (List ℕ → Option (List ℕ)) → (ℕ → Option (List ℕ)) → (List ℕ → Type 0) → List ℕ → Type 0
+abbrev pub IsRefusedFile : (List ℕ → Option (List ℕ)) → Unread → (List ℕ → Type 0) → List ℕ → Type 0
 IsRefusedFile told left tells name = IsReadAndRefused told left tells name ⊎ IsRefusedAsLarge told tells name
 
 -- a refusal is that of one of the files
-abbrev pub IsRefusedWhole : (List ℕ → Option (List ℕ)) → (ℕ → Option (List ℕ)) → List (List ℕ) → Ending → Type 0
+abbrev pub IsRefusedWhole : (List ℕ → Option (List ℕ)) → Unread → List (List ℕ) → Ending → Type 0
 IsRefusedWhole told left names end = end.status ≡ Refused → Any (IsRefusedFile told left (λ text. end.err ≡ text)) names

@@ -1,8 +1,9 @@
 -- What a job does with its files, whatever the job.
-use Rattle.std.specs.Prelude.{◌≡◌, ◌⊎◌, ℕ, List, length, Any, Result}
+use Rattle.std.specs.Prelude.{◌≡◌, ◌⊎◌, ℕ, List, Any, Result}
 use Rattle.std.specs.declared.option.Option.{Option}
 use Rattle.line_source.specs.declared.Files.{Ghosts}
-use Rattle.line_source.specs.Causes.{Rose, OpensAtMost}
+use Rattle.line_source.specs.Causes.{Rose}
+use Rattle.line_source.specs.Openings.{Unread, unread, OpensFirst}
 use Rattle.job_answers.specs.declared.answer.Answer.{Answer}
 use Rattle.job_answers.specs.declared.stop.Stop.{Stop}
 use Rattle.job_answers.specs.declared.status.Status.{Status}
@@ -11,26 +12,24 @@ use Rattle.job_answers.specs.Answers.{IfEnded}
 use Rattle.job_answers.specs.Texts.{read_fault_line}
 use Rattle.job_answers.specs.Endings.{Ending, IsRefusedFile}
 
--- What is told of files before a job: the bytes under each name, the names that can't fail, the counts of faults and of
--- opened files; and after it: what is left of each opened file, and the two counts.
+-- What is told of files before a job: the bytes under each name, the names that can't fail, the count of faults and what
+-- was opened; and after it: what was opened and is left of it, and the count.
 pub record FileWork : Type 1 where
   pub told : List ℕ → Option (List ℕ)
   pub sure : List ℕ → Type 0
-  pub left : ℕ → Option (List ℕ)
+  pub openings : List (List ℕ × ℕ)
+  pub left : Unread
   pub faults : ℕ
   pub faults_now : ℕ
-  pub opened : Option ℕ
-  pub opened_now : Option ℕ
 
 abbrev pub file_work : {F : Type 0} → Ghosts F → F → F → FileWork
 file_work files before after = record {
   told = files.text_of before;
   sure = files.is_sure_name before;
-  left = files.unread after;
+  openings = files.openings before;
+  left = unread (files.openings after) (files.unread after);
   faults = files.faults before;
   faults_now = files.faults after;
-  opened = files.opened before;
-  opened_now = files.opened after;
 }
 
 -- a fault names this file, and the name isn't one that can't fail
@@ -54,7 +53,7 @@ pub record EndsOver (work : FileWork) (names : List (List ℕ)) (IsLine : List �
   pub fault : end.status ≡ ReadFault → Rose work.faults work.faults_now
   pub named : HaveFault work.sure names end.status (λ text. end.err ≡ text)
 
--- Each file was opened once at most, and the job ends so, or ran out of memory.
+-- The files under a first part of the names were opened, each name once, and the job ends so, or ran out of memory.
 pub record IsDoneOver (work : FileWork) (names : List (List ℕ)) (IsLine : List ℕ → Type 0) (ends : Ending → Type 0) (result : Result Answer Stop) : Type 0 where
-  pub opened : OpensAtMost (length names) work.opened work.opened_now
+  pub opened : OpensFirst names work.openings work.left.openings
   pub ended : IfEnded result (EndsOver work names IsLine ends)

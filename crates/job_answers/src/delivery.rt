@@ -1,20 +1,15 @@
 //! How an answer is written.
-ghost use Rattle.std.specs.Prelude.{◌≡◌, ◌⊎◌, ◌≤◌, length};
-ghost use Rattle.std.specs.Io.KnownBytes.{Appends};
-ghost use Rattle.line_source.specs.Causes.{Rose};
-ghost use Rattle.line_source.specs.Told.{AppendsPrefix};
+ghost use Rattle.std.specs.Prelude.{◌≡◌, length};
 ghost use Rattle.job_answers.specs.Statuses.{IsVerdictStatus};
 ghost use Rattle.job_answers.specs.Endings.{ending};
-ghost use Rattle.job_answers.specs.Delivered.{sink_change, IsDelivered};
+ghost use Rattle.job_answers.specs.Delivered.{sink_change, GainsUnlessFault, IsDelivered};
 
 use crate::Status;
 use line_source::{Sink, put_all};
 
 // Writes a line about a fault. Its own fault changes nothing.
 fn tell<E: Sink>(err: &mut E, line: &[u8])
-    ensures prefix { AppendsPrefix (E.contents err.old) (E.contents err.new) line.now }
-    ensures later { E.faults err.old ≤ E.faults err.new }
-    ensures whole { Appends (E.contents err.old) (E.contents err.new) line.now ⊎ Rose (E.faults err.old) (E.faults err.new) }
+    ensures { GainsUnlessFault (sink_change E.Sink err.old err.new) line.now }
 {
     let _ = put_all(err, line);
 }

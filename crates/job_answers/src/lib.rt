@@ -3,7 +3,8 @@
 //! `Answer` is a status and two texts, of which that for out is empty unless the status is a verdict's. `load_file` gives a
 //! file's bytes, read to its end, or the job's end where they can't be had: the file is too large, or a read fault, whose
 //! count rose. `refused`, `too_large`, `read_fault` and `usage` give exactly their lines. `deliver` writes the two texts,
-//! out first, each whole unless its sink's count of faults rose, and reports a fault of out on err, once.
+//! out first: each whole, where its sink's count of faults stays, or a first part of it and then one fault, after which
+//! nothing is tried on that sink. A fault of out is reported on err, once.
 //!
 //! That a call runs out of memory is said by no clause: `Stop::NoMemory` and `AllocError` are free answers.
 #![tactic(auto)]

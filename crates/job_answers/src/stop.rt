@@ -1,7 +1,8 @@
 //! How a job stops, and the ends of all jobs whose file isn't read.
 ghost use Rattle.std.specs.Prelude.{◌≡◌, ◌≢◌, ◌≤◌, [], ◌∷◌, IfOk, OnOk, string_bytes};
-ghost use Rattle.line_source.specs.Causes.{Rose, OpensAtMost};
-ghost use Rattle.line_source.specs.Told.{Same, Stays, IsReadToEnd};
+ghost use Rattle.line_source.specs.Causes.{Rose};
+ghost use Rattle.line_source.specs.Openings.{OpensIt, OpensFirst, IsReadToEnd, unread};
+ghost use Rattle.line_source.specs.Told.{Same, Stays};
 ghost use Rattle.job_answers.specs.Statuses.{IsVerdictStatus};
 ghost use Rattle.job_answers.specs.declared.stop.Stop.TheVariants.{NoMemory};
 ghost use Rattle.job_answers.specs.Texts.{refusal_line, too_large_line, read_fault_line, usage_line};
@@ -95,9 +96,10 @@ pub fn read_fault(alloc: Global, name: &str) -> Result<Answer, AllocError>
 pub fn load_file<F: Files>(alloc: Global, files: &mut F, name: &str) -> Result<Vec<u8>, Stop>
     ensures text { IfOk result (λ v. IsTextOf (F.text_of files.old) name.now v.items) }
     ensures stopped { IfStopped result (λ end. EndsUnloaded (F.text_of files.old) name.now end) }
-    ensures whole { OnOk result (IsReadToEnd (F.text_of files.old) (F.unread files.new) name.now) }
-    ensures refused { IfStopped result (IsRefusedWhole (F.text_of files.old) (F.unread files.new) (name.now ∷ [])) }
-    ensures opened { OpensAtMost 1 (F.opened files.old) (F.opened files.new) }
+    ensures whole { OnOk result (IsReadToEnd (F.text_of files.old) (unread (F.openings files.new) (F.unread files.new)) name.now) }
+    ensures refused { IfStopped result (IsRefusedWhole (F.text_of files.old) (unread (F.openings files.new) (F.unread files.new)) (name.now ∷ [])) }
+    ensures opened { OpensFirst (name.now ∷ []) (F.openings files.old) (F.openings files.new) }
+    ensures opens { OnOk result (OpensIt name.now (F.openings files.old) (F.openings files.new)) }
     ensures cause { F.faults files.old ≤ F.faults files.new }
     ensures fault { IfStopped result (λ end. end.status ≡ Status.ReadFault → Rose (F.faults files.old) (F.faults files.new)) }
     ensures sure { F.is_sure_name files.old name.now → IfStopped result (λ end. end.status ≢ Status.ReadFault) }

@@ -1,10 +1,10 @@
 -- Which files were opened.
-use Rattle.std.proofs.Common.{◌≡◌, ℕ, suc, List, [], ◌∷◌, ◌++◌, map, take, ap, sym, ◌∙◌, append-nil, append_assoc}
+use Rattle.std.proofs.Common.{◌≡◌, ℕ, zero, suc, List, [], ◌∷◌, ◌++◌, map, take, refl, ap, sym, ◌∙◌, append-nil, append_assoc}
 use Rattle.std.specs.Prelude.{None, Some, IfSome}
 use Rattle.std.specs.declared.option.Option.{Option}
 use Rattle.std.specs.Io.KnownBytes.{IsAtEnd}
 use Rattle.std.proofs.lemmas.List.{map-append}
-use Rattle.line_source.specs.Openings.{names_of, OpensIt, OpensFirst, IsReadThrough}
+use Rattle.line_source.specs.Openings.{names_of, OpensIt, OpensFirst, Unread, IsReadToEnd}
 use Rattle.line_source.proofs.Rests.{IsSplit}
 
 pub none_first : (names : List (List ℕ)) (before now : List (List ℕ × ℕ)) → now ≡ before → OpensFirst names before now
@@ -25,6 +25,18 @@ next_first name names before mid now opens then = (
       ∙ append_assoc (names_of before) (name ∷ []) (take then.0 names),
 )
 
+abbrev no_names : List (List ℕ)
+no_names = []
+
+take-none : (n : ℕ) → take n no_names ≡ []
+take-none zero = refl
+take-none (suc n) = refl
+
+-- at most one was opened, and none of the others
+pub fewer_first : (name : List ℕ) (names : List (List ℕ)) (before now : List (List ℕ × ℕ)) → OpensFirst (name ∷ []) before now → OpensFirst (name ∷ names) before now
+fewer_first name names before now (zero, same) = (zero, same)
+fewer_first name names before now (suc n, same) = (1, same ∙ ap (λ (rest : List (List ℕ)). names_of before ++ name ∷ rest) (take-none n))
+
 at_end : (text front : List ℕ) (left : Option (List ℕ)) → IsAtEnd left → IsSplit text front left → left ≡ Some []
 at_end text front None end split = absurd (cc (split.told))
 at_end text front (Some rest) end split = ap (λ (xs : List ℕ). Some xs) end
@@ -35,8 +47,8 @@ whole None front left end split = tt
 whole (Some text) front left end split = at_end text front left end split
 
 -- the file that was opened last has no byte left, and this part of it was read
-pub read_through : (told : List ℕ → Option (List ℕ)) (openings earlier : List (List ℕ × ℕ)) (left : ℕ → Option (List ℕ)) (name front : List ℕ) (id : ℕ)
-    → openings ≡ earlier ++ (name, id) ∷ [] → IsAtEnd (left id) → IfSome (told name) (λ text. IsSplit text front (left id))
-    → IsReadThrough told openings left name
-read_through told openings earlier left name front id last end split =
-    record { earlier = earlier; id = id; last = last; at_end = end; whole = whole (told name) front (left id) end split }
+pub read_to_end : (told : List ℕ → Option (List ℕ)) (left : Unread) (earlier : List (List ℕ × ℕ)) (name front : List ℕ) (id : ℕ)
+    → left.openings ≡ earlier ++ (name, id) ∷ [] → IsAtEnd (left.bytes id) → IfSome (told name) (λ text. IsSplit text front (left.bytes id))
+    → IsReadToEnd told left name
+read_to_end told left earlier name front id last end split =
+    record { earlier = earlier; id = id; last = last; at_end = end; whole = whole (told name) front (left.bytes id) end split }

@@ -14,10 +14,18 @@ OpensIt name before now = (id : ℕ) × (now ≡ before ++ (name, id) ∷ [])
 abbrev pub OpensFirst : List (List ℕ) → List (List ℕ × ℕ) → List (List ℕ × ℕ) → Type 0
 OpensFirst names before now = (n : ℕ) × (names_of now ≡ names_of before ++ take n names)
 
+-- what was opened, and the bytes of each id that no read has given yet
+pub record Unread : Type 0 where
+  pub openings : List (List ℕ × ℕ)
+  pub bytes : ℕ → Option (List ℕ)
+
+abbrev pub unread : List (List ℕ × ℕ) → (ℕ → Option (List ℕ)) → Unread
+unread openings bytes = record { openings = openings; bytes = bytes }
+
 -- The file that was opened last is the one under this name, and of it no byte is left.
-pub record IsReadThrough (told : List ℕ → Option (List ℕ)) (openings : List (List ℕ × ℕ)) (left : ℕ → Option (List ℕ)) (name : List ℕ) : Type 0 where
+pub record IsReadToEnd (told : List ℕ → Option (List ℕ)) (left : Unread) (name : List ℕ) : Type 0 where
   pub earlier : List (List ℕ × ℕ)
   pub id : ℕ
-  pub last : openings ≡ earlier ++ (name, id) ∷ []
-  pub at_end : IsAtEnd (left id)
-  pub whole : IfSome (told name) (λ text. left id ≡ Some [])
+  pub last : left.openings ≡ earlier ++ (name, id) ∷ []
+  pub at_end : IsAtEnd (left.bytes id)
+  pub whole : IfSome (told name) (λ text. left.bytes id ≡ Some [])

@@ -1,8 +1,8 @@
 //! Files that are handed on in pieces.
 ghost use Rattle.std.specs.Prelude.{◌≡◌, ◌≢◌, ◌+◌, ◌≤◌, ◌<◌, ◌++◌, ℕ, List, [], ◌∷◌, length, IfSome, OnOk, OnErr, IsErrOf, ⊤};
-ghost use Rattle.line_source.specs.Causes.{Rose, OpensOne, OpensAtMost};
-ghost use Rattle.line_source.specs.Openings.{OpensIt, OpensFirst, IsReadThrough};
-ghost use Rattle.line_source.specs.Told.{Same, Stays, IsReadToEnd};
+ghost use Rattle.line_source.specs.Causes.{Rose};
+ghost use Rattle.line_source.specs.Openings.{OpensIt, OpensFirst, IsReadToEnd, unread};
+ghost use Rattle.line_source.specs.Told.{Same, Stays};
 ghost use Rattle.line_source.specs.Pieces.{IsTakenWhole};
 
 use crate::{Failed, Files, LoadFault, MAX_FILE};
@@ -35,7 +35,7 @@ pub const MAX_PIECE: usize = 65_536;
 /// `ReadFault` comes only where the count of faults rose, and never for a sure name; `BigFile` exactly where the file has
 /// more than [`MAX_FILE`] bytes, of which no more than that many are handed on; `NoMemory` only where the taker was
 /// refused memory. The file is opened once at most, and read to its end where it is all handed on.
-#[tactic(auto, using(crate::proofs::OpeningLaws::none_first, crate::proofs::OpeningLaws::one_first, crate::proofs::OpeningLaws::read_through))]
+#[tactic(auto, using(crate::proofs::OpeningLaws::none_first, crate::proofs::OpeningLaws::one_first, crate::proofs::OpeningLaws::read_to_end))]
 pub fn load_into<F: Files, T: Taker>(
     files: &mut F,
     name: &str,
@@ -44,15 +44,12 @@ pub fn load_into<F: Files, T: Taker>(
     requires none_taken { T.taken taker.old ≡ 0 }
     requires stands_for_none { T.stands_for taker.old [] }
     ensures whole { OnOk result (IsTakenWhole (F.text_of files.old name.now) (T.taken taker.new) (T.stands_for taker.new)) }
-    ensures ended { OnOk result (IsReadToEnd (F.text_of files.old) (F.unread files.new) name.now) }
     ensures big { IfSome (F.text_of files.old name.now) (λ text. IsErrOf result LoadFault.BigFile → MAX_FILE < length text) }
     ensures big_taken { IsErrOf result LoadFault.BigFile → T.taken taker.new ≤ MAX_FILE }
-    ensures first { OpensFirst (name.now ∷ []) (F.openings files.old) (F.openings files.new) }
+    ensures opened { OpensFirst (name.now ∷ []) (F.openings files.old) (F.openings files.new) }
     ensures opens { result ≢ Err LoadFault.ReadFault → OpensIt name.now (F.openings files.old) (F.openings files.new) }
-    ensures through { OnOk result (IsReadThrough (F.text_of files.old) (F.openings files.new) (F.unread files.new) name.now) }
-    ensures opened { OpensAtMost 1 (F.opened files.old) (F.opened files.new) }
+    ensures ended { OnOk result (IsReadToEnd (F.text_of files.old) (unread (F.openings files.new) (F.unread files.new)) name.now) }
     ensures memory { IsErrOf result LoadFault.NoMemory → T.is_refused taker.new }
-    ensures memory_opened { IsErrOf result LoadFault.NoMemory → OpensOne (F.opened files.old) (F.opened files.new) }
     ensures cause { F.faults files.old ≤ F.faults files.new }
     ensures fault { IsErrOf result LoadFault.ReadFault → Rose (F.faults files.old) (F.faults files.new) }
     ensures sure { F.is_sure_name files.old name.now → result ≢ Err LoadFault.ReadFault }

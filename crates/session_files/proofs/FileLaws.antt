@@ -1,6 +1,7 @@
 -- What files hold after others were read, and what files that are admitted end with.
 use Rattle.std.proofs.Common.{◌≡◌, ◌≢◌, inl, inr, zero, suc, ◌<◌, ℕ, List, [], ◌∷◌, Option, length, IfSome, IfOk, Result, Ok, Err, sym, subst, ◌∙◌, arith}
 use Rattle.std.specs.Prelude.{slice_index_or, Some}
+use Rattle.line_source.specs.Openings.{Unread, IsReadToEnd}
 use Rattle.obs_store.specs.declared.file.ObsFile.{ObsFile}
 use Rattle.rinex_head.specs.declared.system.System.{System}
 use Rattle.rinex_head.specs.declared.place.TextFault.{TextFault}
@@ -9,7 +10,7 @@ use Rattle.obs_source.specs.Taking.{IsAnswer}
 use Rattle.rinex_nav.specs.NavForm.{HasNavFile}
 use Rattle.rinex_nav.specs.NavRules.{nav_of}
 use Rattle.line_source.specs.Lines.{lines_of}
-use Rattle.line_source.specs.Told.{Same, IsReadToEnd}
+use Rattle.line_source.specs.Told.{Same}
 use Rattle.line_source.specs.Pieces.{IsTakenWhole}
 use Rattle.job_answers.specs.declared.status.Status.TheVariants.{ReadFault}
 use Rattle.job_answers.specs.declared.stop.Stop.{Stop}
@@ -86,7 +87,7 @@ taken_stops system told name taken stands_for answer r whole answers stops = sto
 })) (stops system whole.text (answers whole.text whole.stands))
 
 -- and its refusal is that of a file that was read to its end
-pub taken_refused : (system : System) (told : List ℕ → Option (List ℕ)) (left : ℕ → Option (List ℕ)) (name : List ℕ) (taken : ℕ)
+pub taken_refused : (system : System) (told : List ℕ → Option (List ℕ)) (left : Unread) (name : List ℕ) (taken : ℕ)
     (stands_for : List ℕ → Type 0) (answer : Result ObsFile TextFault) (r : Result ObsFile Stop)
     → IsTakenWhole (told name) taken stands_for → IsReadToEnd told left name → ((text : List ℕ) → stands_for text → IsAnswer system text answer)
     → ((s : System) (text : List ℕ) → IsAnswer s text answer → IfStopped r (λ end. IsRefusal (any_of s) (HasObservation s) name text end)) → IfStopped r (IsRefusedWhole told left (name ∷ []))
@@ -108,13 +109,19 @@ at_third system told later last base rover nav b r end same again is also stops 
 }))
 
 -- ---- a refusal among the files
-pub read_along : (told later : List ℕ → Option (List ℕ)) (left : ℕ → Option (List ℕ)) (name : List ℕ) → Same told later → IsReadToEnd later left name → IsReadToEnd told left name
-read_along told later left name same whole = subst (λ (o : Option (List ℕ)). IfSome o (λ text. (id : ℕ) × (left id ≡ Some []))) (same name) whole
+pub read_along : (told later : List ℕ → Option (List ℕ)) (left : Unread) (name : List ℕ) → Same told later → IsReadToEnd later left name → IsReadToEnd told left name
+read_along told later left name same read = record {
+  earlier = read.earlier;
+  id = read.id;
+  last = read.last;
+  at_end = read.at_end;
+  whole = subst (λ (o : Option (List ℕ)). IfSome o (λ text. left.bytes read.id ≡ Some [])) (same name) read.whole;
+}
 
-read_at : (told later : List ℕ → Option (List ℕ)) (left : ℕ → Option (List ℕ)) (name other : List ℕ) → Same told later → other ≡ name → IsReadToEnd later left other → IsReadToEnd told left name
+read_at : (told later : List ℕ → Option (List ℕ)) (left : Unread) (name other : List ℕ) → Same told later → other ≡ name → IsReadToEnd later left other → IsReadToEnd told left name
 read_at told later left name other same is whole = read_along told later left name same (subst (λ (n : List ℕ). IsReadToEnd later left n) is whole)
 
-one_whole : (told later : List ℕ → Option (List ℕ)) (left : ℕ → Option (List ℕ)) (tells : List ℕ → Type 0) (name other : List ℕ) → Same told later
+one_whole : (told later : List ℕ → Option (List ℕ)) (left : Unread) (tells : List ℕ → Type 0) (name other : List ℕ) → Same told later
     → other ≡ name → IsRefusedFile later left tells other → IsRefusedFile told left tells name
 one_whole told later left tells name other same is (inl refused) = inl (record {
   at = refused.at;
@@ -133,7 +140,7 @@ the_one name x zero inside at = sym at
 the_one name x (suc k) inside at = absurd (omega arith)
 
 -- what holds of the file at a place, after others were read, holds among all
-pub refused_at : (told later : List ℕ → Option (List ℕ)) (left : ℕ → Option (List ℕ)) (name : List ℕ) (names : List (List ℕ)) (k : ℕ) (end : Ending)
+pub refused_at : (told later : List ℕ → Option (List ℕ)) (left : Unread) (name : List ℕ) (names : List (List ℕ)) (k : ℕ) (end : Ending)
     → k < length names → slice_index_or names k name ≡ name → Same told later
     → IsRefusedWhole later left (name ∷ []) end → IsRefusedWhole told left names end
 refused_at told later left name names k end inside at same refused = λ is.

@@ -1,7 +1,8 @@
 -- What a job on the three files of a session does with them, its statuses, and what it says.
 use Rattle.std.proofs.Common.{◌≡◌, ◌≢◌, inl, inr, ℕ, List, [], ◌∷◌, Option, Result, Err, refl, ap, subst}
 use Rattle.std.specs.Io.KnownBytes.{Appends}
-use Rattle.line_source.specs.Causes.{Rose, OpensAtMost}
+use Rattle.line_source.specs.Causes.{Rose}
+use Rattle.line_source.specs.Openings.{OpensFirst}
 use Rattle.obs_store.specs.declared.file.ObsFile.{ObsFile}
 use Rattle.eph_store.specs.File.{Records}
 use Rattle.rinex_head.specs.Systems.{system_of}
@@ -42,7 +43,7 @@ files_over work base rover nav answers o b r n end are (inr refused) =
     }
 
 pub files_done : (work : FileWork) (base rover nav : List ℕ) (answers : SessionAnswers) (o : Options) (b r : ObsFile) (n : Records) (result : Result Answer Stop)
-    → OpensAtMost 3 work.opened work.opened_now → AreFilesOf (system_of o.system) work.told base rover nav b r n → IfEnded result (EndsOnFiles answers o b r n)
+    → OpensFirst (base ∷ rover ∷ nav ∷ []) work.openings work.left.openings → AreFilesOf (system_of o.system) work.told base rover nav b r n → IfEnded result (EndsOnFiles answers o b r n)
     → IsDoneOver work (base ∷ rover ∷ nav ∷ []) IsPairLine (SessionEnds answers work.told base rover nav o) result
 files_done work base rover nav answers o b r n result opens are ends = record {
   opened = opens;
@@ -51,7 +52,7 @@ files_done work base rover nav answers o b r n result opens are ends = record {
 }
 
 -- ---- a file at which it stops
-pub files_stop : (work : FileWork) (base rover nav : List ℕ) (answers : SessionAnswers) (o : Options) (why : Stop) → OpensAtMost 3 work.opened work.opened_now
+pub files_stop : (work : FileWork) (base rover nav : List ℕ) (answers : SessionAnswers) (o : Options) (why : Stop) → OpensFirst (base ∷ rover ∷ nav ∷ []) work.openings work.left.openings
     → IfEnds why (StopsAtFiles (system_of o.system) work.told base rover nav) → IfEnds why (IsRefusedWhole work.told work.left (base ∷ rover ∷ nav ∷ []))
     → IfEnds why (λ end. end.status ≡ ReadFault → Rose work.faults work.faults_now) → IfEnds why (IsFaultOf work.sure (base ∷ rover ∷ nav ∷ []))
     → IsDoneOver work (base ∷ rover ∷ nav ∷ []) IsPairLine (SessionEnds answers work.told base rover nav o) (Err why)

@@ -2,6 +2,7 @@
 use Rattle.std.specs.Prelude.{◌≡◌, ◌⊎◌, ℕ, true, false, List, [], ◌++◌, codes, Any}
 use Rattle.std.specs.declared.option.Option.{Option}
 use Rattle.std.specs.Fmt.{decimal}
+use Rattle.line_source.specs.Openings.{Unread}
 use Rattle.obs_store.specs.declared.file.ObsFile.{ObsFile}
 use Rattle.run_options.specs.declared.options.Options.{Options}
 use Rattle.session_begin.specs.declared.faults.PairWhat.{PairWhat}
@@ -29,8 +30,8 @@ pub record IsPairRefused (b r : ObsFile) (o : Options) (end : Ending) : Type 0 w
   pub end_is : end ≡ ending Refused [] (pair_line what)
 
 -- A refusal is that of one of the files, or of the two together.
-abbrev pub HaveRefused : (List ℕ → Option (List ℕ)) → (ℕ → Option (List ℕ)) → List (List ℕ) → Status → (List ℕ → Type 0) → Type 0
+abbrev pub HaveRefused : (List ℕ → Option (List ℕ)) → Unread → List (List ℕ) → Status → (List ℕ → Type 0) → Type 0
 HaveRefused told left names status tells = status ≡ Refused → Any (IsRefusedFile told left tells) names ⊎ ((what : PairWhat) × tells (pair_line what))
 
-abbrev pub AreRefusedWhole : (List ℕ → Option (List ℕ)) → (ℕ → Option (List ℕ)) → List (List ℕ) → Ending → Type 0
+abbrev pub AreRefusedWhole : (List ℕ → Option (List ℕ)) → Unread → List (List ℕ) → Ending → Type 0
 AreRefusedWhole told left names end = HaveRefused told left names end.status (λ text. end.err ≡ text)

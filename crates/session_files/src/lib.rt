@@ -4,14 +4,15 @@
 //! `read_session` gives the three, or stops at the first that can't be had: one that can't be read (status 4, only where
 //! the files' count of faults rose, and never for a name that is sure not to fail), one that is too large, or one whose
 //! text is none of its form (status 3, with the place where its lines leave the form). The line on err names that file
-//! (`named`), and a file is refused only after it was read to its end (`refused`). Each is opened once at most. `obs_file`
+//! (`named`), and a file is refused only after it was read to its end (`refused`). They are opened in this order, each once. `obs_file`
 //! says the same of one observation file. Out of memory may come in the place of any answer. Two observation files of
 //! which no session is made are refused with one line (`refused_pair`).
 #![tactic(auto)]
 
 ghost use Rattle.std.specs.Prelude.{◌≡◌, ◌≢◌, ◌≤◌, ℕ, List, [], ◌∷◌, length, IfOk, OnOk, All};
-ghost use Rattle.line_source.specs.Causes.{Rose, OpensAtMost};
-ghost use Rattle.line_source.specs.Told.{Same, Stays, IsReadToEnd};
+ghost use Rattle.line_source.specs.Causes.{Rose};
+ghost use Rattle.line_source.specs.Openings.{OpensIt, OpensFirst, IsReadToEnd, unread};
+ghost use Rattle.line_source.specs.Told.{Same, Stays};
 ghost use Rattle.line_source.specs.Pieces.{IsTakenWhole};
 ghost use Rattle.line_source.specs.Lines.{lines_of};
 ghost use Rattle.rinex_head.specs.declared.system.System.{System};
@@ -59,9 +60,10 @@ fn take_file<F: Files, T: Taker>(
     requires stands_for_none { T.stands_for taker.old [] }
     ensures taken { OnOk result (IsTakenWhole (F.text_of files.old name.now) (T.taken taker.new) (T.stands_for taker.new)) }
     ensures stopped { IfStopped result (λ end. EndsUnloaded (F.text_of files.old) name.now end) }
-    ensures whole { OnOk result (IsReadToEnd (F.text_of files.old) (F.unread files.new) name.now) }
-    ensures refused { IfStopped result (IsRefusedWhole (F.text_of files.old) (F.unread files.new) (name.now ∷ [])) }
-    ensures opened { OpensAtMost 1 (F.opened files.old) (F.opened files.new) }
+    ensures whole { OnOk result (IsReadToEnd (F.text_of files.old) (unread (F.openings files.new) (F.unread files.new)) name.now) }
+    ensures refused { IfStopped result (IsRefusedWhole (F.text_of files.old) (unread (F.openings files.new) (F.unread files.new)) (name.now ∷ [])) }
+    ensures opened { OpensFirst (name.now ∷ []) (F.openings files.old) (F.openings files.new) }
+    ensures opens { OnOk result (OpensIt name.now (F.openings files.old) (F.openings files.new)) }
     ensures cause { F.faults files.old ≤ F.faults files.new }
     ensures fault { IfStopped result (λ end. end.status ≡ Status.ReadFault → Rose (F.faults files.old) (F.faults files.new)) }
     ensures sure { F.is_sure_name files.old name.now → IfStopped result (λ end. end.status ≢ Status.ReadFault) }
@@ -115,9 +117,10 @@ pub fn obs_file<F: Files>(
 ) -> Result<ObsFile, Stop>
     ensures read { IfOk result (λ file. IsObsOf system (F.text_of files.old) name.now file) }
     ensures stopped { IfStopped result (λ end. StopsAtObs system (F.text_of files.old) name.now end) }
-    ensures whole { OnOk result (IsReadToEnd (F.text_of files.old) (F.unread files.new) name.now) }
-    ensures refused { IfStopped result (IsRefusedWhole (F.text_of files.old) (F.unread files.new) (name.now ∷ [])) }
-    ensures opened { OpensAtMost 1 (F.opened files.old) (F.opened files.new) }
+    ensures whole { OnOk result (IsReadToEnd (F.text_of files.old) (unread (F.openings files.new) (F.unread files.new)) name.now) }
+    ensures refused { IfStopped result (IsRefusedWhole (F.text_of files.old) (unread (F.openings files.new) (F.unread files.new)) (name.now ∷ [])) }
+    ensures opened { OpensFirst (name.now ∷ []) (F.openings files.old) (F.openings files.new) }
+    ensures opens { OnOk result (OpensIt name.now (F.openings files.old) (F.openings files.new)) }
     ensures cause { F.faults files.old ≤ F.faults files.new }
     ensures fault { IfStopped result (λ end. end.status ≡ Status.ReadFault → Rose (F.faults files.old) (F.faults files.new)) }
     ensures sure { F.is_sure_name files.old name.now → IfStopped result (λ end. end.status ≢ Status.ReadFault) }
@@ -146,9 +149,9 @@ fn nav_file<F: Files>(
 ) -> Result<NavFile, Stop>
     ensures read { IfOk result (λ file. IsNavOf system (F.text_of files.old) name.now file) }
     ensures stopped { IfStopped result (λ end. StopsAtNav system (F.text_of files.old) name.now end) }
-    ensures whole { OnOk result (IsReadToEnd (F.text_of files.old) (F.unread files.new) name.now) }
-    ensures refused { IfStopped result (IsRefusedWhole (F.text_of files.old) (F.unread files.new) (name.now ∷ [])) }
-    ensures opened { OpensAtMost 1 (F.opened files.old) (F.opened files.new) }
+    ensures whole { OnOk result (IsReadToEnd (F.text_of files.old) (unread (F.openings files.new) (F.unread files.new)) name.now) }
+    ensures refused { IfStopped result (IsRefusedWhole (F.text_of files.old) (unread (F.openings files.new) (F.unread files.new)) (name.now ∷ [])) }
+    ensures opened { OpensFirst (name.now ∷ []) (F.openings files.old) (F.openings files.new) }
     ensures cause { F.faults files.old ≤ F.faults files.new }
     ensures fault { IfStopped result (λ end. end.status ≡ Status.ReadFault → Rose (F.faults files.old) (F.faults files.new)) }
     ensures sure { F.is_sure_name files.old name.now → IfStopped result (λ end. end.status ≢ Status.ReadFault) }
@@ -169,9 +172,9 @@ pub fn read_session<F: Files>(
 ) -> Result<SessionFiles, Stop>
     ensures read { IfOk result (λ s. AreFilesOf system (F.text_of files.old) base.now rover.now nav.now s.base s.rover s.nav) }
     ensures stopped { IfStopped result (λ end. StopsAtFiles system (F.text_of files.old) base.now rover.now nav.now end) }
-    ensures whole { OnOk result (IsReadToEnd (F.text_of files.old) (F.unread files.new) nav.now) }
-    ensures refused { IfStopped result (IsRefusedWhole (F.text_of files.old) (F.unread files.new) (base.now ∷ rover.now ∷ nav.now ∷ [])) }
-    ensures opened { OpensAtMost 3 (F.opened files.old) (F.opened files.new) }
+    ensures whole { OnOk result (IsReadToEnd (F.text_of files.old) (unread (F.openings files.new) (F.unread files.new)) nav.now) }
+    ensures refused { IfStopped result (IsRefusedWhole (F.text_of files.old) (unread (F.openings files.new) (F.unread files.new)) (base.now ∷ rover.now ∷ nav.now ∷ [])) }
+    ensures opened { OpensFirst (base.now ∷ rover.now ∷ nav.now ∷ []) (F.openings files.old) (F.openings files.new) }
     ensures fault { IfStopped result (λ end. end.status ≡ Status.ReadFault → Rose (F.faults files.old) (F.faults files.new)) }
     ensures sure { All (F.is_sure_name files.old) (base.now ∷ rover.now ∷ nav.now ∷ []) → IfStopped result (λ end. end.status ≢ Status.ReadFault) }
     ensures named { IfStopped result (IsFaultOf (F.is_sure_name files.old) (base.now ∷ rover.now ∷ nav.now ∷ [])) }

@@ -2,8 +2,7 @@ use Rattle.std.proofs.Common.{arith, refl, [], ◌∷◌}
 use Rattle.std.proofs.lemmas.Result.{err_from_is_err_and}
 use Rattle.job_answers.proofs.EndingLaws.{ends_weaker}
 use Rattle.session_files.proofs.FileLaws.{obs_along, nav_along, at_rover, at_third, refused_at, same_twice, read_along}
-use Rattle.line_source.proofs.Openings.{more_at_most}
-use Rattle.session_files.proofs.Openings.{fewer_at_most}
+use Rattle.line_source.proofs.OpeningLaws.{fewer_first, next_first}
 use Rattle.session_files.proofs.FaultLaws.{obs_fault_line, nav_fault_line, fault_at}
 use Rattle.session_files.proofs.read_session.Goals as goal
 
@@ -58,16 +57,22 @@ returns-in_err-records-clause-refused g c =
     (same_twice _ _ _ c.in_ok-base_file.ensures.texts c.in_ok-rover_file.ensures.texts) refused) c.in_err-records.ensures.refused)
 
 pub returns-in_err-base_file-clause-opened : goal.returns-in_err-base_file-clause-opened
-returns-in_err-base_file-clause-opened g c = fewer_at_most 1 3 _ _ (omega arith) c.in_err-base_file.ensures.opened
+returns-in_err-base_file-clause-opened g c = fewer_first c.args.base.now (c.args.rover.now ∷ c.args.nav.now ∷ []) _ _ c.in_err-base_file.ensures.opened
 
 pub returns-in_err-rover_file-clause-opened : goal.returns-in_err-rover_file-clause-opened
-returns-in_err-rover_file-clause-opened g c = fewer_at_most 2 3 _ _ (omega arith) (more_at_most 1 1 _ _ _ c.in_ok-base_file.ensures.opened c.in_err-rover_file.ensures.opened)
+returns-in_err-rover_file-clause-opened g c =
+    next_first c.args.base.now (c.args.rover.now ∷ c.args.nav.now ∷ []) _ _ _ c.in_ok-base_file.ensures.opens
+    (fewer_first c.args.rover.now (c.args.nav.now ∷ []) _ _ c.in_err-rover_file.ensures.opened)
 
 pub returns-in_err-records-clause-opened : goal.returns-in_err-records-clause-opened
-returns-in_err-records-clause-opened g c = more_at_most 2 1 _ _ _ (more_at_most 1 1 _ _ _ c.in_ok-base_file.ensures.opened c.in_ok-rover_file.ensures.opened) c.in_err-records.ensures.opened
+returns-in_err-records-clause-opened g c =
+    next_first c.args.base.now (c.args.rover.now ∷ c.args.nav.now ∷ []) _ _ _ c.in_ok-base_file.ensures.opens
+    (next_first c.args.rover.now (c.args.nav.now ∷ []) _ _ _ c.in_ok-rover_file.ensures.opens c.in_err-records.ensures.opened)
 
 pub returns-clause-opened : goal.returns-clause-opened
-returns-clause-opened g c = more_at_most 2 1 _ _ _ (more_at_most 1 1 _ _ _ c.in_ok-base_file.ensures.opened c.in_ok-rover_file.ensures.opened) c.in_ok-records.ensures.opened
+returns-clause-opened g c =
+    next_first c.args.base.now (c.args.rover.now ∷ c.args.nav.now ∷ []) _ _ _ c.in_ok-base_file.ensures.opens
+    (next_first c.args.rover.now (c.args.nav.now ∷ []) _ _ _ c.in_ok-rover_file.ensures.opens c.in_ok-records.ensures.opened)
 
 pub returns-clause-whole : goal.returns-clause-whole
 returns-clause-whole g c = read_along _ _ _ c.args.nav.now (same_twice _ _ _ c.in_ok-base_file.ensures.texts c.in_ok-rover_file.ensures.texts) c.in_ok-records.ensures.whole

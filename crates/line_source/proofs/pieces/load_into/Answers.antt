@@ -1,5 +1,4 @@
-use Rattle.std.proofs.Common.{◌≡◌, ◌≤◌, ◌++◌, ℕ, Option, sym, subst, take, drop, length, length-take, arith, rules}
-use Rattle.line_source.specs.Causes.{OpensOne}
+use Rattle.std.proofs.Common.{◌≡◌, ◌≤◌, ◌++◌, take, drop, length, length-take, arith, rules}
 use Rattle.std.proofs.lemmas.List.{take-append-le}
 use Rattle.line_source.proofs.Rests.{IsTakenSoFar-more}
 use Rattle.line_source.proofs.pieces.load_into.Goals as goal
@@ -15,8 +14,7 @@ pieces-preserved g c =
       within = omega arith;
       so_far = IsTakenSoFar-more _ _ _ (g.T.Taker.taken c.pieces.taker) _ c.pieces.done count (g.T.Taker.stands_for c.pieces.taker) _ _ got same long
           c.in-Ok-read.ensures.bytes.0 c.in-Ok-take.ensures.counted c.in-Ok-take.ensures.stands c.pieces.invariant.so_far;
-      opened = subst (λ (now : Option ℕ). OpensOne (g.F.Files.opened c.args.files.now) now) (sym c.in-Ok-read.ensures.opens) c.pieces.invariant.opened;
-      logged = search rules;
+      opened = search rules;
       later = search rules;
       sure = search rules;
       texts = search rules;

@@ -1,5 +1,4 @@
 use Rattle.std.proofs.Common.{◌≡◌, [], ◌∷◌, ◌++◌, ◌≤◌, ◌-◌}
-use Rattle.line_source.specs.Causes.{OpensOne}
 use Rattle.line_source.specs.Told.{Same, Stays}
 use Rattle.line_source.proofs.Rests.{IsTakenSoFar}
 use Rattle.line_source.proofs.pieces.load_into.Given as goal
@@ -8,8 +7,7 @@ abbrev pub invariant-pieces : goal.invariant-pieces
 invariant-pieces g l = record {
   within : l.done ≤ 67108864;
   so_far : IsTakenSoFar (g.F.Files.text_of l.fn.files l.name) (g.F.Files.unread l.files l.id.0) (g.T.Taker.taken l.taker) l.done (g.T.Taker.stands_for l.taker);
-  opened : OpensOne (g.F.Files.opened l.fn.files) (g.F.Files.opened l.files);
-  logged : g.F.Files.openings l.files ≡ g.F.Files.openings l.fn.files ++ (l.name, l.id.0) ∷ [];
+  opened : g.F.Files.openings l.files ≡ g.F.Files.openings l.fn.files ++ (l.name, l.id.0) ∷ [];
   later : g.F.Files.faults l.fn.files ≤ g.F.Files.faults l.files;
   sure : g.F.Files.is_sure_name l.fn.files l.name → g.F.Files.is_sure_id l.files l.id.0;
   texts : Same (g.F.Files.text_of l.fn.files) (g.F.Files.text_of l.files);
