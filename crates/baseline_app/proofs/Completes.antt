@@ -1,5 +1,7 @@
 -- A job whose files are there and admitted ends with status 0 or 1, and the other statuses come with their causes.
 use Rattle.std.proofs.Common.{◌≡◌, ◌≢◌, ◌⊎◌, inl, inr, ℕ, List, Option, Any, sym, ap, ◌∙◌, subst}
+use Rattle.line_source.proofs.Faults.{stop_rose}
+use Rattle.line_source.specs.Openings.{Unread}
 use Rattle.line_source.specs.Causes.{Rose}
 use Rattle.job_answers.specs.declared.status.Status.{Status}
 use Rattle.job_answers.specs.declared.status.Status.TheVariants.{Usage, ReadFault, WriteFault, NoMemory}
@@ -88,8 +90,8 @@ run_complete job words told result out err run asked readable no_fault = elim (r
       err_whole = written.err_whole well.1;
     })
   ]
-  | inr (inl by_out) ↦ inr (inr (by_out.fault, inl by_out.rose))
-  | inr (inr by_err) ↦ inr (inr (by_err.fault, inr by_err.rose))
+  | inr (inl by_out) ↦ inr (inr (by_out.fault, inl (stop_rose by_out.out_part.stops)))
+  | inr (inr by_err) ↦ inr (inr (by_err.fault, inr (stop_rose by_err.err_part.stops)))
 ]
 
 -- usage comes only where the words ask for no job
@@ -114,24 +116,33 @@ run_write words told result out err run is = elim (run.written) [
     | inr (inl usage) ↦ let s = ap (λ (e : Ending). e.status) usage.end_is in absurd (cc (s, written.same, is))
     | inr (inr none) ↦ let s = ap (λ (e : Ending). e.status) none in absurd (cc (s, written.same, is))
   ]
-  | inr (inl by_out) ↦ inl by_out.rose
-  | inr (inr by_err) ↦ inr by_err.rose
+  | inr (inl by_out) ↦ inl (stop_rose by_out.out_part.stops)
+  | inr (inr by_err) ↦ inr (stop_rose by_err.err_part.stops)
+]
+
+-- a verdict comes only where neither sink had a fault
+pub run_steady : (words : List (List ℕ)) (told : List ℕ → Option (List ℕ)) (result : Status) (out err : SinkChange) → IsRun words told result out err
+    → IsVerdictStatus result → (out.now ≡ out.before) × (err.now ≡ err.before)
+run_steady words told result out err run verdict = elim (run.written) [
+  | inl written ↦ (written.out_whole.steady, (written.err_whole (subst IsVerdictStatus written.same verdict)).steady)
+  | inr (inl by_out) ↦ absurd (subst IsVerdictStatus by_out.fault verdict)
+  | inr (inr by_err) ↦ absurd (subst IsVerdictStatus by_err.fault verdict)
 ]
 
 -- ---- the refusal that is said
-told_file : (told : List ℕ → Option (List ℕ)) (left : ℕ → Option (List ℕ)) (P Q : List ℕ → Type 0) (name : List ℕ)
+told_file : (told : List ℕ → Option (List ℕ)) (left : Unread) (P Q : List ℕ → Type 0) (name : List ℕ)
     → ((text : List ℕ) → P text → Q text) → IsRefusedFile told left P name → IsRefusedFile told left Q name
 told_file told left P Q name more (inl refused) = inl (record { at = refused.at; line = more _ refused.line; read = refused.read })
 told_file told left P Q name more (inr large) = inr (record { line = more _ large.line; large = large.large })
 
-told_any : (told : List ℕ → Option (List ℕ)) (left : ℕ → Option (List ℕ)) (P Q : List ℕ → Type 0) (names : List (List ℕ))
+told_any : (told : List ℕ → Option (List ℕ)) (left : Unread) (P Q : List ℕ → Type 0) (names : List (List ℕ))
     → ((text : List ℕ) → P text → Q text) → Any (IsRefusedFile told left P) names ⊎ ((what : PairWhat) × P (pair_line what))
     → Any (IsRefusedFile told left Q) names ⊎ ((what : PairWhat) × Q (pair_line what))
 told_any told left P Q names more (inl found) = inl (found.0, found.1, found.2, found.3, told_file told left P Q found.1 more found.4)
 told_any told left P Q names more (inr pair) = inr (pair.0, more _ pair.1)
 
 -- a refusal that is written is that of the ending
-pub refused_told : (told : List ℕ → Option (List ℕ)) (left : ℕ → Option (List ℕ)) (names : List (List ℕ)) (end : Ending) (result : Status)
+pub refused_told : (told : List ℕ → Option (List ℕ)) (left : Unread) (names : List (List ℕ)) (end : Ending) (result : Status)
     (out err : SinkChange) → IsDelivered end result out err → AreRefusedWhole told left names end → HaveRefused told left names result (GainsUnlessFault err)
 refused_told told left names end result out err (inl written) refused = λ is.
     told_any told left (λ text. end.err ≡ text) (GainsUnlessFault err) names (λ text same. subst (GainsUnlessFault err) same written.err_gains) (refused (sym written.same ∙ is))

@@ -1,7 +1,8 @@
 -- What each job does with its files.
 use Rattle.std.proofs.Common.{◌≡◌, ◌≢◌, ◌⊎◌, inl, inr, ℕ, List, [], ◌∷◌, Option, Result, Ok, Err, Any, All, length, refl, sym, ap, ◌∙◌, subst}
-use Rattle.line_source.specs.Causes.{Rose, OpensAtMost}
-use Rattle.line_source.proofs.Openings.{none_at_most}
+use Rattle.line_source.specs.Causes.{Rose}
+use Rattle.line_source.specs.Openings.{OpensFirst}
+use Rattle.line_source.proofs.OpeningLaws.{none_first}
 use Rattle.job_answers.specs.declared.answer.Answer.{Answer}
 use Rattle.job_answers.specs.declared.stop.Stop.{Stop}
 use Rattle.job_answers.specs.declared.status.Status.{Status}
@@ -52,10 +53,10 @@ pub job_asked : (work : FileWork) (r : Result Answer Stop) (job asked : Job) →
 job_asked work r job asked is done = subst (λ (j : Job). IsDoneOver work (file_words j) IsPairLine (JobEnds j work.told) r) (sym is) done
 
 -- a part of a simulated session opens none
-pub part_done : (work : FileWork) (r : Result Answer Stop) (part : Part) (seed epochs sats bands system : ℕ) → work.opened_now ≡ work.opened
+pub part_done : (work : FileWork) (r : Result Answer Stop) (part : Part) (seed epochs sats bands system : ℕ) → work.left.openings ≡ work.openings
     → IfEnded r (PartEnds part seed epochs sats bands system) → IsDoneOver work [] IsPairLine (PartEnds part seed epochs sats bands system) r
 part_done work r part seed epochs sats bands system same ends = record {
-  opened = none_at_most 0 work.opened work.opened_now same;
+  opened = none_first [] work.openings work.left.openings same;
   ended = ended_weaker r _ _ (λ end so. verdict_over work [] IsPairLine (PartEnds part seed epochs sats bands system) end (part_verdict part seed epochs sats bands system end so) so) ends;
 }
 
@@ -76,7 +77,7 @@ fault_told sure names end result out err (inr (inl by_out)) fault = λ is. absur
 fault_told sure names end result out err (inr (inr by_err)) fault = λ is. absurd (cc (by_err.fault, is))
 
 -- ---- what a run does with files
-files_over : (work : FileWork) (job : Job) (end : Ending) (result : Status) (out err : SinkChange) → OpensAtMost (length (file_words job)) work.opened work.opened_now
+files_over : (work : FileWork) (job : Job) (end : Ending) (result : Status) (out err : SinkChange) → OpensFirst (file_words job) work.openings work.left.openings
     → EndsOver work (file_words job) IsPairLine (JobEnds job work.told) end → IsDelivered end result out err → UsesFiles work (file_words job) result err
 files_over work job end result out err opens over written =
     let named : HaveFault work.sure (file_words job) result (GainsUnlessFault err) = fault_told work.sure (file_words job) end result out err written over.named in

@@ -170,7 +170,7 @@ is_complete j told result out err (inl well) = inl (record {
   ends = job_ends j told well.end well.ends;
   verdict = well.verdict;
   same = well.same;
-  out_whole = well.out_whole;
-  err_whole = well.err_whole;
+  out_whole = well.out_whole.whole;
+  err_whole = well.err_whole.whole;
 })
 is_complete j told result out err (inr other) = inr other

@@ -49,7 +49,7 @@ run_says words told job result out err run asked verdict = elim (run.written) [
   | inl written ↦ elim (run.answer) [
     | inl answer ↦
         let ends = subst (λ (j : Job). JobEnds j told run.end) (one_job words answer.job job answer.asked asked) answer.ends in
-        subst (λ (s : Status). SaysOfJob job told s out) (sym written.same) (job_says job told run.end out ends (subst IsVerdictStatus written.same verdict) written.out_whole)
+        subst (λ (s : Status). SaysOfJob job told s out) (sym written.same) (job_says job told run.end out ends (subst IsVerdictStatus written.same verdict) written.out_whole.whole)
     | inr (inl usage) ↦ absurd (usage.none job asked)
     | inr (inr none) ↦ absurd (subst IsVerdictStatus (written.same ∙ ap (λ (e : Ending). e.status) none) verdict)
   ]

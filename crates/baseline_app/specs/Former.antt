@@ -4,7 +4,8 @@ use Rattle.std.specs.Prelude.{◌≡◌, ◌≢◌, ◌⊎◌, ℕ, ℤ, ◌≤�
 use Rattle.std.specs.declared.option.Option.{Option}
 use Rattle.std.specs.Io.KnownBytes.{Appends}
 use Rattle.line_source.specs.Lines.{lines_of}
-use Rattle.line_source.specs.Causes.{Rose, OpensAtMost}
+use Rattle.line_source.specs.Causes.{Rose}
+use Rattle.line_source.specs.Openings.{OpensFirst}
 use Rattle.gps_time.specs.declared.Tick.{Tick}
 use Rattle.rinex_head.specs.declared.place.At.{At}
 use Rattle.rinex_head.specs.declared.system.System.TheVariants.{Gps}
@@ -421,7 +422,7 @@ pub record SaysNow (words : List (List ℕ)) (work : FileWork) (result : Status)
 pub record SaidBefore (words : List (List ℕ)) (work : FileWork) (result : Status) (out err : SinkChange) : Type 0 where
   pub run : IsRun words work.told result out err
   pub refused : (job : Job) → IsJob words job → HaveRefused work.told work.left (file_words job) result (GainsUnlessFault err)
-  pub opened : (job : Job) → IsJob words job → OpensAtMost (length (file_words job)) work.opened work.opened_now
+  pub opened : (job : Job) → IsJob words job → OpensFirst (file_words job) work.openings work.left.openings
   pub sure : (job : Job) → IsJob words job → All work.sure (file_words job) → result ≢ ReadFault
   pub named : (job : Job) → IsJob words job → HaveFault work.sure (file_words job) result (GainsUnlessFault err)
   pub zero : (rows : List ℕ) → IsJob words (job.Zero rows) → SaysOfZero work.told rows result out

@@ -1,16 +1,18 @@
 -- A run of the program, whatever the job.
-use Rattle.std.specs.Prelude.{◌≡◌, ◌≢◌, ◌⊎◌, ℕ, List, length, All}
+use Rattle.std.specs.Prelude.{◌≡◌, ◌≢◌, ◌⊎◌, ℕ, List, [], All}
 use Rattle.std.specs.declared.option.Option.{Option}
-use Rattle.std.specs.Io.KnownBytes.{Appends}
-use Rattle.line_source.specs.Causes.{Rose, OpensAtMost}
+use Rattle.line_source.specs.Causes.{Rose}
+use Rattle.line_source.specs.Openings.{OpensFirst}
 use Rattle.job_answers.specs.declared.status.Status.{Status}
 use Rattle.job_answers.specs.declared.status.Status.TheVariants.{ReadFault, WriteFault, NoMemory}
-use Rattle.job_answers.specs.Statuses.{IsVerdictStatus}
-use Rattle.job_answers.specs.Endings.{Ending}
-use Rattle.job_answers.specs.Delivered.{SinkChange, GainsUnlessFault, IsDelivered}
+use Rattle.job_answers.specs.Statuses.{number_of, IsVerdictStatus}
+use Rattle.job_answers.specs.Texts.{no_memory_line}
+use Rattle.job_answers.specs.Endings.{Ending, ending}
+use Rattle.job_answers.specs.Delivered.{SinkChange, GainsWhole, GainsUnlessFault, IsDelivered}
 use Rattle.job_answers.specs.Works.{FileWork, HaveFault}
 use Rattle.session_files.specs.Refusals.{HaveRefused}
 use Rattle.command_words.specs.declared.jobs.Job.{Job}
+use Rattle.command_words.specs.Words.{file_words, IsJob}
 use Rattle.baseline_app.specs.Jobs.{JobEnds, IsAnswer}
 
 -- A run: the words end in a status with two texts, which are written.
@@ -25,17 +27,30 @@ pub record EndsWell (job : Job) (told : List ℕ → Option (List ℕ)) (result 
   pub ends : JobEnds job told end
   pub verdict : IsVerdictStatus result
   pub same : result ≡ end.status
-  pub out_whole : Appends out.old out.new end.out
-  pub err_whole : Appends err.old err.new end.err
+  pub out_whole : GainsWhole out end.out
+  pub err_whole : GainsWhole err end.err
 
 -- that, or out of memory, or a sink's count rose
 abbrev pub IsComplete : Job → (List ℕ → Option (List ℕ)) → Status → SinkChange → SinkChange → Type 0
 IsComplete job told result out err = EndsWell job told result out err ⊎ ((result ≡ NoMemory) ⊎ ((result ≡ WriteFault) × (Rose out.before out.now ⊎ Rose err.before err.now)))
 
--- What a run of a job does with its files. Each is opened once at most. The file that a refusal names was read to its end, or
+-- What a run of a job does with its files. A first part of them is opened, each once and in this order. The file that a refusal names was read to its end, or
 -- is too large, or it names two together; the file that a read fault names isn't sure, and there is none where all are.
 pub record UsesFiles (work : FileWork) (names : List (List ℕ)) (result : Status) (err : SinkChange) : Type 0 where
-  pub opened : OpensAtMost (length names) work.opened work.opened_now
+  pub opened : OpensFirst names work.openings work.left.openings
   pub refused : HaveRefused work.told work.left names result (GainsUnlessFault err)
   pub named : HaveFault work.sure names result (GainsUnlessFault err)
   pub sure : All work.sure names → result ≢ ReadFault
+
+-- A run whose status the process ends with, as a number.
+pub record IsStarted (words : List (List ℕ)) (work : FileWork) (result : ℕ) (out err : SinkChange) : Type 0 where
+  pub status : Status
+  pub number : result ≡ number_of status
+  pub run : IsRun words work.told status out err
+  pub files : (job : Job) → IsJob words job → UsesFiles work (file_words job) status err
+
+-- where the words couldn't be had, memory is out
+pub record HasNoWords (result : ℕ) (out err : SinkChange) : Type 0 where
+  pub status : Status
+  pub number : result ≡ number_of status
+  pub written : IsDelivered (ending NoMemory [] no_memory_line) status out err

@@ -1,5 +1,6 @@
-//! Reads a job from the words of the command line, and does it. `main` hands the system's words, files and sinks to `run`, whose
-//! contract says all that is proved of the program; what `main` does with the system is outside of it.
+//! Reads a job from the words of the command line, and does it. `main` hands the system's words, files and sinks to `start`, which
+//! gives the number of the status of `run`, whose contract says all that is proved of the program; what `main` does with the
+//! system is outside of it.
 //!
 //! A run answers words and bytes: the words ask for one job or for none, the job ends in a status and two texts that are
 //! definitions on the bytes of its files, and each sink gains a first part of its text, the whole text unless its count of
@@ -8,8 +9,8 @@
 //! # Statuses
 //!
 //! Status 2 is a usage error, and comes only where the words are no job (`usage`), 4 only where a file's count of faults
-//! rose (`read`), 5 only where a sink's count did (`write`). What a job does with its files is one clause (`files`, of
-//! `UsesFiles`): each is opened once at most; a refusal names one that was read to its end or is too large, or the two
+//! rose (`read`), 5 only where a sink's count did (`write`); with status 0 or 1 neither sink's did (`steady`). What a job does with its files is one clause (`files`, of
+//! `UsesFiles`): a first part of them is opened, each once and in order; a refusal names one that was read to its end or is too large, or the two
 //! observation files together; a read fault names one whose name isn't sure, and with sure names there is none. Words
 //! without files leave all files as they are (`untouched`). Where all files of a job are there and of its form, and nothing
 //! fails, it ends with status 0 or 1 and its text is written, or memory is out (`complete`); `sim` and `sim run` need no
@@ -72,7 +73,6 @@ mod top;
 #[cfg(test)]
 mod track_tests;
 
-use job_answers::Status;
 use line_source::{HostFiles, HostSink};
 use std::alloc::AllocError;
 use std::process::ExitCode;
@@ -85,13 +85,9 @@ fn main(rt: HostRuntime) -> ExitCode {
         // a word that is no text makes the words no job, as no words do
         Err(_) => Ok(Vec::new(rt.alloc())),
     };
-    let Ok(words) = words else {
-        return ExitCode::from(Status::NoMemory.number());
-    };
     let mut out = HostSink::new(rt.stdout());
     let mut err = HostSink::new(rt.stderr());
     let alloc = rt.alloc();
     let mut files = HostFiles::new(rt);
-    let status = top::run(alloc, &words, &mut files, &mut out, &mut err);
-    ExitCode::from(status.number())
+    ExitCode::from(top::start(alloc, words, &mut files, &mut out, &mut err))
 }

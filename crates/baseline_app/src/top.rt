@@ -1,5 +1,5 @@
 //! The program over any files and sinks.
-ghost use Rattle.std.specs.Prelude.{◌≡◌, ◌≢◌, ◌⊎◌, [], ◌∷◌, All};
+ghost use Rattle.std.specs.Prelude.{◌≡◌, ◌≢◌, ◌⊎◌, [], ◌∷◌, All, IfOk, IsErr};
 ghost use Rattle.line_source.specs.Causes.{Rose};
 ghost use Rattle.job_answers.specs.Statuses.{IsVerdictStatus};
 ghost use Rattle.job_answers.specs.Answers.{IfEnded};
@@ -9,7 +9,7 @@ ghost use Rattle.command_words.specs.declared.jobs.Job.{Job};
 ghost use Rattle.command_words.specs.Words.{texts_of, file_words, IsJob, IsInRange, IsSimInRange};
 ghost use Rattle.session_files.specs.SessionJobs.{SessionEnds, IsPairLine};
 ghost use Rattle.baseline_app.specs.Jobs.{PartEnds, JobEnds, IsReadable, SaysOfJob, AnswersJob, AnswersUsage, stop_end, end_of};
-ghost use Rattle.baseline_app.specs.Runs.{IsRun, UsesFiles, IsComplete};
+ghost use Rattle.baseline_app.specs.Runs.{IsRun, UsesFiles, IsComplete, IsStarted, HasNoWords};
 
 use arcs_job::KeptArcs;
 use cert_jobs::{CertCheck, Migration, Residuals};
@@ -22,7 +22,7 @@ use run_options::Options;
 use session_files::{SessionCommand, answer_session};
 use sim_job::sim;
 use sim_run_job::sim_run;
-use std::alloc::Global;
+use std::alloc::{AllocError, Global};
 use track_job::{MovingRover, TrackCheck};
 
 // A command on the three files of a session by its words.
@@ -135,9 +135,27 @@ fn answer_of<F: Files>(alloc: Global, words: &[String], files: &mut F) -> Result
     }
 }
 
+/// What `main` calls: it does what the words ask for, where they could be had, and gives the number that the process ends
+/// with.
+pub fn start<F: Files, O: Sink, E: Sink>(
+    alloc: Global,
+    words: Result<Vec<String>, AllocError>,
+    files: &mut F,
+    out: &mut O,
+    err: &mut E,
+) -> u8
+    ensures started { IfOk words (λ ws. IsStarted (texts_of ws.items) (file_work F.Files files.old files.new) result (sink_change O.Sink out.old out.new) (sink_change E.Sink err.old err.new)) }
+    ensures no_words { IsErr words → HasNoWords result (sink_change O.Sink out.old out.new) (sink_change E.Sink err.old err.new) }
+{
+    match words {
+        Ok(words) => run(alloc, &words, files, out, err).number(),
+        Err(AllocError) => deliver(Status::NoMemory, b"", b"no memory\n", out, err).number(),
+    }
+}
+
 /// Does what the words after the program's name ask for, and writes its two texts, `out` first.
-/// Words that ask for no job, or for one without files, leave the files as they are. Each file word of a job is opened once
-/// at most. The file that a refusal names was read to its end, or is too large; the file that a read fault names is none
+/// Words that ask for no job, or for one without files, leave the files as they are. The files under a first part of a job's
+/// file words are opened, each word once and in this order. The file that a refusal names was read to its end, or is too large; the file that a read fault names is none
 /// that can't fail.
 pub fn run<F: Files, O: Sink, E: Sink>(
     alloc: Global,
@@ -151,6 +169,7 @@ pub fn run<F: Files, O: Sink, E: Sink>(
     ensures untouched { ((job : Job) → IsJob (texts_of words.now) job → file_words job ≡ []) → files.new ≡ files.old }
     ensures read { result ≡ Status.ReadFault → Rose (F.faults files.old) (F.faults files.new) }
     ensures write { result ≡ Status.WriteFault → Rose (O.faults out.old) (O.faults out.new) ⊎ Rose (E.faults err.old) (E.faults err.new) }
+    ensures steady { IsVerdictStatus result → (O.faults out.new ≡ O.faults out.old) × (E.faults err.new ≡ E.faults err.old) }
     ensures usage { result ≡ Status.Usage → (job : Job) → IsJob (texts_of words.now) job → ⊥ }
     ensures says { (job : Job) → IsJob (texts_of words.now) job → IsVerdictStatus result → SaysOfJob job (F.text_of files.old) result (sink_change O.Sink out.old out.new) }
     ensures complete { (job : Job) → IsJob (texts_of words.now) job → IsReadable job (F.text_of files.old)

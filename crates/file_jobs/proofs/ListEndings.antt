@@ -1,6 +1,7 @@
 -- How `list` ends.
 use Rattle.std.proofs.Common.{◌≡◌, ◌≢◌, inl, inr, ℕ, List, [], ◌∷◌, Option, Err, refl, arith}
-use Rattle.line_source.specs.Causes.{Rose, OpensAtMost}
+use Rattle.line_source.specs.Causes.{Rose}
+use Rattle.line_source.specs.Openings.{OpensFirst}
 use Rattle.obs_store.specs.declared.file.ObsFile.{ObsFile}
 use Rattle.rinex_head.specs.declared.system.System.TheVariants.{Gps}
 use Rattle.report_text.specs.List.{list_text}
@@ -32,7 +33,7 @@ stops told name end (inl by_text) =
     })
 stops told name end (inr unloaded) = inr unloaded
 
-pub list_stop : (work : FileWork) (name : List ℕ) (why : Stop) → OpensAtMost 1 work.opened work.opened_now → IfEnds why (StopsAtObs Gps work.told name)
+pub list_stop : (work : FileWork) (name : List ℕ) (why : Stop) → OpensFirst (name ∷ []) work.openings work.left.openings → IfEnds why (StopsAtObs Gps work.told name)
     → IfEnds why (IsRefusedWhole work.told work.left (name ∷ [])) → IfEnds why (λ end. end.status ≡ ReadFault → Rose work.faults work.faults_now)
     → (work.sure name → IfEnds why (λ end. end.status ≢ ReadFault)) → IsDoneOver work (name ∷ []) NoLine (TextEnds list_job work.told name) (Err why)
 list_stop work name (stop.Ended a) opens stopped refused rose never = record {

@@ -1,10 +1,13 @@
 use Rattle.std.proofs.Common.{inl, inr}
-use Rattle.baseline_app.proofs.Completes.{run_complete, run_usage, run_write}
+use Rattle.baseline_app.proofs.Completes.{run_complete, run_steady, run_usage, run_write}
 use Rattle.baseline_app.proofs.Says.{run_says}
 use Rattle.baseline_app.proofs.top.run.Goals as goal
 
 pub returns-clause-write : goal.returns-clause-write
 returns-clause-write g c = run_write _ _ _ _ _ c.write_answer.ensures.run
+
+pub returns-clause-steady : goal.returns-clause-steady
+returns-clause-steady g c = run_steady _ _ _ _ _ c.write_answer.ensures.run
 
 pub returns-clause-usage : goal.returns-clause-usage
 returns-clause-usage g c = run_usage _ _ _ _ _ c.write_answer.ensures.run

@@ -1,0 +1,19 @@
+use Rattle.std.proofs.Common.{ℕ, List, subst}
+use Rattle.std.specs.Prelude.{String}
+use Rattle.std.specs.declared.alloc.Global.{Global}
+use Rattle.job_answers.specs.Delivered.{sink_change}
+use Rattle.job_answers.specs.Works.{file_work}
+use Rattle.command_words.specs.Words.{texts_of}
+use Rattle.baseline_app.specs.Runs.{IsStarted}
+use Rattle.baseline_app.proofs.top.start.Goals as goal
+
+pub returns-in-Ok-clause-started : goal.returns-in-Ok-clause-started
+returns-in-Ok-clause-started g c =
+    let work = file_work g.F.Files c.args.files.now c.run.new.files in
+    let out = sink_change g.O.Sink c.args.out.now c.run.new.out in
+    let err = sink_change g.E.Sink c.args.err.now c.run.new.err in
+    subst (λ (words : List (String Global)). IsStarted (texts_of words) work c.number.result out err) c.deref.ensures.value
+    (record { status = c.run.result; number = c.number.ensures; run = c.run.ensures.run; files = c.run.ensures.files })
+
+pub returns-in-Err-clause-no_words : goal.returns-in-Err-clause-no_words
+returns-in-Err-clause-no_words g c = λ failed. record { status = c.deliver.result; number = c.number-in-Err.ensures; written = c.deliver.ensures }
