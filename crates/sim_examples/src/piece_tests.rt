@@ -81,6 +81,7 @@ fn reads_galileo_the_same_in_pieces(rt: HostRuntime) -> Result<(), Fail> {
             text: made.base.as_slice().to_vec(alloc)?,
             at: 0,
             most,
+            openings: OpeningLog::new(),
         };
         let mut feed = GalFeed::new(alloc);
         load_into(&mut files, "", &mut feed)?;
