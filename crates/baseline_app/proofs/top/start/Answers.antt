@@ -12,8 +12,10 @@ returns-in-Ok-clause-started g c =
     let work = file_work g.F.Files c.args.files.now c.run.new.files in
     let out = sink_change g.O.Sink c.args.out.now c.run.new.out in
     let err = sink_change g.E.Sink c.args.err.now c.run.new.err in
+    let started : IsStarted (texts_of c.in-Ok.words.items) work c.number.result out err =
     subst (λ (words : List (String Global)). IsStarted (texts_of words) work c.number.result out err) c.deref.ensures.value
-    (record { status = c.run.result; number = c.number.ensures; run = c.run.ensures.run; files = c.run.ensures.files })
+    (record { status = c.run.result; number = c.number.ensures; run = c.run.ensures.run; files = c.run.ensures.files }) in
+    rw c.in-Ok.is started
 
 pub returns-in-Err-clause-no_words : goal.returns-in-Err-clause-no_words
 returns-in-Err-clause-no_words g c = λ failed. record { status = c.deliver.result; number = c.number-in-Err.ensures; written = c.deliver.ensures }
