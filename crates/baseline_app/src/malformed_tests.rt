@@ -1,6 +1,7 @@
 //! Texts that nothing admits, at the place of the first flaw. The texts are written by hand from the forms.
 ghost use Rattle.std.specs.Prelude.{None};
 
+use crate::session_texts::{run_on_session, wrong_end};
 use crate::tests::{Fails, NAV, Ran, expect_run, run_on, run_plainly};
 use job_answers::Status;
 use line_source::{Failed, FileId, Files, Opening, OpeningLog};
@@ -107,6 +108,32 @@ fn refuses_in_the_midst_and_at_the_end(rt: HostRuntime) -> Result<(), Fail> {
     cut.push_str("> 2024 01 01 00 00 59.0000000  0  3\nG01\nG02\n")?;
     let place = "line 41 column 1: file ends early";
     refused_at(&rt, alloc, &list(alloc, &cut)?, place)?;
+    Ok(())
+}
+
+const NEAR: &str = "> 2024 01 01 00 00  0.0000000  0  0\n> 2024 01 01 00 00  0.0200000  0  0\n";
+
+const APART: &str = "> 2024 01 01 00 00  0.0000000  0  0\n> 2024 01 01 00 00  0.0200001  0  0\n";
+
+// With a gap of 10 ms, tags that are 20 ms apart are too dense at either receiver. The base is looked at first.
+static DENSE: [(&str, &str, &str); 3] = [
+    (NEAR, APART, "refused: base epochs too dense at 1\n"),
+    (APART, NEAR, "refused: rover epochs too dense at 1\n"),
+    (NEAR, NEAR, "refused: base epochs too dense at 1\n"),
+];
+
+#[test]
+fn refuses_dense_epochs(rt: HostRuntime) -> Result<(), Fail> {
+    let alloc = rt.alloc();
+    for row in DENSE.iter() {
+        let (at_base, at_rover, told) = *row;
+        let base = format!(in alloc; "{HEADER}{at_base}")?;
+        let rover = format!(in alloc; "{HEADER}{at_rover}")?;
+        let words = ["fix", "B", "R", "N"];
+        let (base, rover, nav) = (base.as_bytes(), rover.as_bytes(), NAV.as_bytes());
+        let ran = run_on_session(alloc, &words, base, rover, nav)?;
+        assert_eq!(rt; wrong_end(&ran, Status::Refused, "", told), None);
+    }
     Ok(())
 }
 

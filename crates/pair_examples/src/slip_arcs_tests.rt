@@ -108,7 +108,8 @@ fn cuts_where_power_failed(rt: HostRuntime) -> Result<(), Fail> {
 
 // In thousandths of a cycle, how far the phases rise, and whether the arc is cut with a jump of 12 κ, which is 276,000: rises
 // of 4000 and 3000 on L1 and L5 are 24,000 apart, of 4000 and 5000 on L1 and L2 3,335,000. A band that isn't used may jump,
-// and L5 isn't held against L2: 155 on L2 is 274,505, and -149 on L5 is -275,352.
+// and L5 isn't held against L2: 155 on L2 is 274,505, and -149 on L5 is -275,352. 200 on L1 is the whole jump, and the least
+// above it are 276,023 against L2 and 276,012 against L5.
 #[test]
 fn holds_each_band_against_l1(rt: HostRuntime) -> Result<(), Fail> {
     for (bands, rise, arcs) in [
@@ -120,6 +121,9 @@ fn holds_each_band_against_l1(rt: HostRuntime) -> Result<(), Fail> {
         (125, [0, 155, -149], 1),
         (125, [0, 155, -150], 2),
         (125, [0, 156, -149], 2),
+        (125, [200, 0, 0], 1),
+        (12, [209, 7, 0], 2),
+        (15, [275, 0, 56], 2),
     ] {
         if !is_bands_number(bands) || !are_within(&rise, 1_000_000) {
             continue;

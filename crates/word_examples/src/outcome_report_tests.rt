@@ -54,6 +54,31 @@ fn prints_declines(rt: HostRuntime) -> Result<(), Fail> {
     Ok(())
 }
 
+// Each place at which a number may be too large, by its name.
+static PLACES: [(Place, &str); 7] = [
+    (Place::Y, "declined overwidth coarse y\n"),
+    (Place::Factor, "declined overwidth coarse factor\n"),
+    (Place::Entry, "declined overwidth coarse entry\n"),
+    (Place::Float, "declined overwidth coarse float\n"),
+    (Place::Point, "declined overwidth coarse point\n"),
+    (Place::Search, "declined overwidth coarse search\n"),
+    (Place::Sum, "declined overwidth coarse sum\n"),
+];
+
+#[test]
+fn prints_each_place(rt: HostRuntime) -> Result<(), Fail> {
+    let alloc = rt.alloc();
+    for row in PLACES.iter() {
+        let (place, want) = *row;
+        let wide = Answer::Early {
+            stage: Stage::Coarse,
+            tail: Tail::Overwidth { place },
+        };
+        prints(&rt, alloc, wide, want)?;
+    }
+    Ok(())
+}
+
 // 232 numbers of a move are 9.9972 of 0.1 mm, and 1,000 are 43.09: m is 299792458 · m / 6957054720 of them.
 #[test]
 fn prints_places(rt: HostRuntime) -> Result<(), Fail> {
