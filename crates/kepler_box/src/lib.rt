@@ -18,7 +18,7 @@ ghost use Rattle.kepler_box.specs.Steps.{IsMeanAnomaly, IsAngle, IsEccentricity,
 use iv_core::Iv;
 use trig_box::{PairBox, pair_box, rough_pair};
 
-// After these many a further step leads at most 3 units away, wherever the first began.
+// After fourteen a further step leads at most 3 units away, wherever the first began.
 const ROUNDS: u32 = 14;
 
 fn half_of(width: i64) -> i64
@@ -160,23 +160,29 @@ fn nearer(m: i64, e: i64, angle: i64) -> i64
     in_reach(m, angle + drawn_out(change, pull, second))
 }
 
-// The next angle by Newton's rule, from a rough pair
-fn rough_step(m: i64, e: i64, angle: i64) -> i64 {
+// The next angle by Newton's rule, from a rough pair. `means` and `shapes` are the sums of the ends of the mean anomaly's box and of the
+// eccentricity's, so that the right side's middle is meant. The change is in units of 2^-60, so that only the last sum is rounded.
+fn rough_step(means: i64, shapes: i64, angle: i64) -> i64 {
     let (cos, sin) = rough_pair(angle);
-    let change = m.wrapping_add(high(e, sin) >> 2).wrapping_sub(angle);
+    let apart = means.wrapping_sub(angle.wrapping_mul(2));
+    let change = apart
+        .wrapping_mul(8)
+        .wrapping_add(high(shapes, sin).wrapping_mul(2));
     // change / (1 - pull), by three terms more; pull is in units of 2^-64
-    let pull = high(e, cos) << 6;
+    let pull = high(shapes, cos) << 5;
     let first = change.wrapping_add(high(change, pull));
     let second = change.wrapping_add(high(first, pull));
-    angle.wrapping_add(change.wrapping_add(high(second, pull)))
+    let sum = change.wrapping_add(high(second, pull));
+    angle.wrapping_add(sum.wrapping_add(8) >> 4)
 }
 
 // About the solution, in reach of m. Nothing more is claimed of it: it is where a solution is looked for first.
-fn aimed(m: i64, e: i64) -> i64
+fn aimed(m: i64, means: i64, shapes: i64) -> i64
     requires mean { IsMeanAnomaly m }
     ensures { IsAngle result }
 {
-    in_reach(m, rough_step(m, e, rough_step(m, e, rough_step(m, e, m))))
+    let near = rough_step(means, shapes, rough_step(means, shapes, m));
+    in_reach(m, rough_step(means, shapes, near))
 }
 
 // The angle from which a further step leads at most 3 units away. Newton's rule leads near it.
@@ -215,7 +221,7 @@ fn right_side(m: &Iv<56>, e: &Iv<60>, sine: &Iv<60>) -> Iv<56>
     m.add(&product).unwrap()
 }
 
-// A little over 16/15 of the residual
+// A little over 16/15 of the residual, which is at most 14: the least radius that is enough
 fn widened(residual: i64) -> i64
     requires low { pos 0 ≤ℤ residual }
     requires high { residual ≤ℤ residual_limit }
@@ -223,7 +229,7 @@ fn widened(residual: i64) -> i64
     ensures low { pos 0 ≤ℤ result }
     ensures high { result ≤ℤ radius_limit }
 {
-    residual + (residual >> 3) + 2
+    residual + 1
 }
 
 // How far the ends lo and hi lie from the angle at most
@@ -358,7 +364,10 @@ pub fn anomaly_box(m: &Iv<56>, e: &Iv<60>) -> Anomaly
     // No end of the pair is over 9/8 in size.
     ensures ends { IsWithin (9 * 2 ^ 57) result.cos × IsWithin (9 * 2 ^ 57) result.sin }
 {
-    match found_at(m, e, aimed(middle_of(m.lo(), m.hi()), e.lo())) {
+    let means = m.lo().wrapping_add(m.hi());
+    let shapes = e.lo().wrapping_add(e.hi());
+    let guess = aimed(middle_of(m.lo(), m.hi()), means, shapes);
+    match found_at(m, e, guess) {
         Some(found) => found,
         None => anomaly_by_steps(m, e),
     }

@@ -93,7 +93,7 @@ fn range_between(a: &Rough, b: &Rough) -> i128 {
     (root_of(narrowed(whole >> 43)) as i128).wrapping_sub(across)
 }
 
-/// About the travel time in 2^-60 s.
+/// About the travel time in 2^-60 s. Nothing is claimed of it: the pass that begins there tests itself.
 pub fn travel_guess(sent: &SentBox, point: &Point) -> i64 {
     let range = range_between(&rough_place(sent), &rough_point(point));
     narrowed(range.wrapping_mul(PER_SPEED as i128) >> 56)
