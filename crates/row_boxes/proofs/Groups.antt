@@ -9,18 +9,18 @@ use Rattle.rational.proofs.Laws.{≤ʳ_along}
 use Rattle.rational.proofs.Boxes.{Near-along}
 use Rattle.rational.proofs.Orders.{equal_r, ◌≐◌}
 use Rattle.obs_rows.specs.Signals.{wavelength}
-use Rattle.row_boxes.specs.Terms.{prefit_width, y_width, observed, in_row_unit, row_unit}
+use Rattle.row_boxes.specs.Terms.{prefit_width, observed, in_row_unit, row_unit}
 use Rattle.row_boxes.specs.Sightings.{Sighting, computed, y_of, y_in_rows}
-use Rattle.row_boxes.specs.YBoxes.{Pairing, AreSightings, HasSightings, MeetsOne, IsAllowedGroup, IsWithinHalf, IsWithinCycle, most_radius}
+use Rattle.row_boxes.specs.YBoxes.{Pairing, AreSightings, HasSightings, MeetsOne, IsRowGroup, IsWithinHalf, IsWithinCycle, row_radius}
 use Rattle.row_boxes.proofs.Ys.{group_moved, whole_sum}
 
 -- what is within half an ι is at most this, in 2^-15 ι
 abbrev half_more : ℤ
 half_more = pos (2 ^ 14) +ℤ prefit_width
 
--- the far end of a box that meets that from -1 to 1 ι, in the unit of a fine row
+-- the far end of a row's box that meets that from -1 to 1 ι, in the unit of a fine row
 abbrev reach : ℤ
-reach = pos (2 ^ 13) +ℤ y_width
+reach = pos (2 ^ 13) +ℤ (pos 2 *ℤ row_radius 0)
 
 -- both, in 2^-15 ι
 abbrev both_reach : ℤ
@@ -56,7 +56,7 @@ meets_one scale c r q h n = (
     high : (x z : ℤ) → x ≡ z → neg_ℤ (pos 16384) ≤ℤ (pos 4 *ℤ z) → neg_ℤ (pos (2 ^ 13)) ≤ℤ x
     high x z e h = omega (arith, ints)
 
--- ---- another allowed group is at most 1 away
+-- ---- another group of a row is at most 2 away
 moved_in_rows : (scale s : ℕ) (amount group other shift : ℤ) (base rover : Sighting) → y_in_rows scale s amount other shift base rover ≈ in_row_unit scale
     (sub_r (y_of s amount group shift base rover) (of_whole (other -ℤ group)))
 moved_in_rows scale s amount group other shift base rover =
@@ -67,9 +67,9 @@ moved_in_rows scale s amount group other shift base rover =
     sum : (a b : ℤ) → a ≡ b +ℤ (a -ℤ b)
     sum a b = omega (arith, ints)
 
-close : (c r n k : ℤ) (d : ℕ) → 0 < d → r ≤ℤ most_radius 0 → (pos 1 *ℤ (c -ℤ r)) ≤ℤ pos 8192 → neg_ℤ (pos 8192) ≤ℤ (pos 1 *ℤ (c +ℤ r)) →
+close : (c r n k : ℤ) (d : ℕ) → 0 < d → r ≤ℤ row_radius 0 → (pos 1 *ℤ (c -ℤ r)) ≤ℤ pos 8192 → neg_ℤ (pos 8192) ≤ℤ (pos 1 *ℤ (c +ℤ r)) →
     ((c -ℤ r) *ℤ pos (1 * (d * 1))) ≤ℤ ((pos 8192 *ℤ ((n *ℤ pos 1) -ℤ (k *ℤ pos d))) *ℤ pos 1) → ((pos 8192 *ℤ ((n *ℤ pos 1) -ℤ (k *ℤ pos d))) *ℤ pos 1) ≤ℤ ((c +ℤ r) *ℤ pos (1 * (d * 1))) →
-    (neg_ℤ (pos 16384) *ℤ pos d) ≤ℤ (n *ℤ pos 32768) → (n *ℤ pos 32768) ≤ℤ (half_more *ℤ pos d) → (neg_ℤ (pos 1) ≤ℤ k) × (k ≤ℤ pos 1)
+    (neg_ℤ (pos 16384) *ℤ pos d) ≤ℤ (n *ℤ pos 32768) → (n *ℤ pos 32768) ≤ℤ (half_more *ℤ pos d) → (neg_ℤ (pos 2) ≤ℤ k) × (k ≤ℤ pos 2)
 close c r n k d h small low high l u nl nu =
     let up : ((c +ℤ r) *ℤ pos d) ≤ℤ (reach *ℤ pos d) = mul_le_right (pos d) (c +ℤ r) reach (pos_nn d) (top c r small low) in
     let down : (neg_ℤ reach *ℤ pos d) ≤ℤ ((c -ℤ r) *ℤ pos d) = mul_le_right (pos d) (neg_ℤ reach) (c -ℤ r) (pos_nn d) (bottom c r small high) in (
@@ -81,10 +81,10 @@ close c r n k d h small low high l u nl nu =
     one : (d : ℕ) → 1 * (d * 1) ≡ d
     one d = omega arith
 
-    top : (c r : ℤ) → r ≤ℤ most_radius 0 → (pos 1 *ℤ (c -ℤ r)) ≤ℤ pos 8192 → (c +ℤ r) ≤ℤ reach
+    top : (c r : ℤ) → r ≤ℤ row_radius 0 → (pos 1 *ℤ (c -ℤ r)) ≤ℤ pos 8192 → (c +ℤ r) ≤ℤ reach
     top c r h k = omega (arith, ints)
 
-    bottom : (c r : ℤ) → r ≤ℤ most_radius 0 → neg_ℤ (pos 8192) ≤ℤ (pos 1 *ℤ (c +ℤ r)) → neg_ℤ reach ≤ℤ (c -ℤ r)
+    bottom : (c r : ℤ) → r ≤ℤ row_radius 0 → neg_ℤ (pos 8192) ≤ℤ (pos 1 *ℤ (c +ℤ r)) → neg_ℤ reach ≤ℤ (c -ℤ r)
     bottom c r h k = omega (arith, ints)
 
     product : (k d : ℤ) → (pos 32768 *ℤ k) *ℤ d ≡ pos 32768 *ℤ (k *ℤ d)
@@ -97,16 +97,16 @@ close c r n k d h small low high l u nl nu =
     second : (a n y d z : ℤ) → (neg_ℤ reach *ℤ d) ≤ℤ a → a ≤ℤ ((pos 8192 *ℤ ((n *ℤ pos 1) -ℤ y)) *ℤ pos 1) → (n *ℤ pos 32768) ≤ℤ (half_more *ℤ d) → z ≡ pos 32768 *ℤ y → z ≤ℤ (both_reach *ℤ d)
     second a n y d z h i j e = omega (arith, ints)
 
-    low_of : (k : ℤ) → neg_ℤ both_reach ≤ℤ (pos 32768 *ℤ k) → neg_ℤ (pos 1) ≤ℤ k
+    low_of : (k : ℤ) → neg_ℤ both_reach ≤ℤ (pos 32768 *ℤ k) → neg_ℤ (pos 2) ≤ℤ k
     low_of k h = omega (arith, ints)
 
-    high_of : (k : ℤ) → (pos 32768 *ℤ k) ≤ℤ both_reach → k ≤ℤ pos 1
+    high_of : (k : ℤ) → (pos 32768 *ℤ k) ≤ℤ both_reach → k ≤ℤ pos 2
     high_of k h = omega (arith, ints)
 
-pub allowed_close : (p : Pairing) (amount group other : ℤ) → IsAllowedGroup p 0 amount other → HasSightings p →
+pub row_close : (p : Pairing) (amount group other : ℤ) → IsRowGroup p 0 amount other → HasSightings p →
     ((b r : Sighting) → AreSightings p b r → IsWithinHalf (pos 1) (y_of 2 amount group (pos 0) b r)) →
-    (neg_ℤ (pos 1) ≤ℤ (other -ℤ group)) × ((other -ℤ group) ≤ℤ pos 1)
-allowed_close p amount group other a has near =
+    (neg_ℤ (pos 2) ≤ℤ (other -ℤ group)) × ((other -ℤ group) ≤ℤ pos 2)
+row_close p amount group other a has near =
     let b : Sighting = has.base.sighting in
     let r : Sighting = has.rover.sighting in
     let s : AreSightings p b r = record { base_is = has.base.is; rover_is = has.rover.is } in
@@ -116,14 +116,14 @@ allowed_close p amount group other a has near =
     (in_row_unit 0 (sub_r q (of_whole (other -ℤ group)))) (moved_in_rows 0 2 amount group other (pos 0) b r) (a.holds b r s) in
     close a.centre a.radius q.num (other -ℤ group) q.den q.positive a.narrow a.meets.0 a.meets.1 n.0 n.1 w.0 w.1
 
--- ---- a first shift under another allowed group
-within : (l n k : ℤ) (d : ℕ) → pos 1000 ≤ℤ l → neg_ℤ (pos 1) ≤ℤ k → k ≤ℤ pos 1 → (neg_ℤ (l *ℤ pos 16384) *ℤ pos d) ≤ℤ (n *ℤ pos 32768) →
+-- ---- a first shift under another group of a row
+within : (l n k : ℤ) (d : ℕ) → pos 1000 ≤ℤ l → neg_ℤ (pos 2) ≤ℤ k → k ≤ℤ pos 2 → (neg_ℤ (l *ℤ pos 16384) *ℤ pos d) ≤ℤ (n *ℤ pos 32768) →
     (n *ℤ pos 32768) ≤ℤ (((l *ℤ pos 16384) +ℤ prefit_width) *ℤ pos d) →
     ((neg_ℤ l *ℤ pos (d * 1)) ≤ℤ (((n *ℤ pos 1) -ℤ (k *ℤ pos d)) *ℤ pos 1)) × ((((n *ℤ pos 1) -ℤ (k *ℤ pos d)) *ℤ pos 1) ≤ℤ (l *ℤ pos (d * 1)))
 within l n k d least k0 k1 lo hi =
     let x0 : (pos 1000 *ℤ pos d) ≤ℤ (l *ℤ pos d) = mul_le_right (pos d) (pos 1000) l (pos_nn d) least in
-    let y0 : (neg_ℤ (pos 1) *ℤ pos d) ≤ℤ (k *ℤ pos d) = mul_le_right (pos d) (neg_ℤ (pos 1)) k (pos_nn d) k0 in
-    let y1 : (k *ℤ pos d) ≤ℤ (pos 1 *ℤ pos d) = mul_le_right (pos d) k (pos 1) (pos_nn d) k1 in
+    let y0 : (neg_ℤ (pos 2) *ℤ pos d) ≤ℤ (k *ℤ pos d) = mul_le_right (pos d) (neg_ℤ (pos 2)) k (pos_nn d) k0 in
+    let y1 : (k *ℤ pos d) ≤ℤ (pos 2 *ℤ pos d) = mul_le_right (pos d) k (pos 2) (pos_nn d) k1 in
     let d0 : pos 0 ≤ℤ pos d = pos_nn d in
     rw (one d) (low (l *ℤ pos d) n (k *ℤ pos d) (pos d) _ _ x0 y1 d0 (neg_of l (pos d)) (neg_half l (pos d)) lo, high (l *ℤ pos d) n (k *ℤ pos d) (pos d) _ x0 y0 d0 (half l (pos d)) hi)
   where
@@ -139,13 +139,13 @@ within l n k d least k0 k1 lo hi =
     half : (l d : ℤ) → ((l *ℤ pos 16384) +ℤ prefit_width) *ℤ d ≡ (pos 16384 *ℤ (l *ℤ d)) +ℤ (prefit_width *ℤ d)
     half l d = same_by (l ∷ d ∷ []) (λ l d. (((l ⊗ ko (pos 16384)) ⊕ ko (prefit_width)) ⊗ d, (ko (pos 16384) ⊗ (l ⊗ d)) ⊕ (ko (prefit_width) ⊗ d))) refl
 
-    low : (x n y d u v : ℤ) → (pos 1000 *ℤ d) ≤ℤ x → y ≤ℤ (pos 1 *ℤ d) → pos 0 ≤ℤ d → u ≡ neg_ℤ x → v ≡ neg_ℤ (pos 16384 *ℤ x) → v ≤ℤ (n *ℤ pos 32768) → u ≤ℤ (((n *ℤ pos 1) -ℤ y) *ℤ pos 1)
+    low : (x n y d u v : ℤ) → (pos 1000 *ℤ d) ≤ℤ x → y ≤ℤ (pos 2 *ℤ d) → pos 0 ≤ℤ d → u ≡ neg_ℤ x → v ≡ neg_ℤ (pos 16384 *ℤ x) → v ≤ℤ (n *ℤ pos 32768) → u ≤ℤ (((n *ℤ pos 1) -ℤ y) *ℤ pos 1)
     low x n y d u v a b c e f g = omega (arith, ints)
 
-    high : (x n y d v : ℤ) → (pos 1000 *ℤ d) ≤ℤ x → (neg_ℤ (pos 1) *ℤ d) ≤ℤ y → pos 0 ≤ℤ d → v ≡ (pos 16384 *ℤ x) +ℤ (prefit_width *ℤ d) → (n *ℤ pos 32768) ≤ℤ v → (((n *ℤ pos 1) -ℤ y) *ℤ pos 1) ≤ℤ x
+    high : (x n y d v : ℤ) → (pos 1000 *ℤ d) ≤ℤ x → (neg_ℤ (pos 2) *ℤ d) ≤ℤ y → pos 0 ≤ℤ d → v ≡ (pos 16384 *ℤ x) +ℤ (prefit_width *ℤ d) → (n *ℤ pos 32768) ≤ℤ v → (((n *ℤ pos 1) -ℤ y) *ℤ pos 1) ≤ℤ x
     high x n y d v a b c e g = omega (arith, ints)
 
-pub shift_within : (s : ℕ) (amount group other shift : ℤ) (b r : Sighting) → pos 1000 ≤ℤ wavelength s → (neg_ℤ (pos 1) ≤ℤ (other -ℤ group)) × ((other -ℤ group) ≤ℤ pos 1) →
+pub shift_within : (s : ℕ) (amount group other shift : ℤ) (b r : Sighting) → pos 1000 ≤ℤ wavelength s → (neg_ℤ (pos 2) ≤ℤ (other -ℤ group)) × ((other -ℤ group) ≤ℤ pos 2) →
     IsWithinHalf (wavelength s) (y_of s amount group shift b r) → IsWithinCycle s (y_of s amount other shift b r)
 shift_within s amount group other shift b r l c h =
     let q : Rational = y_of s amount group shift b r in

@@ -46,22 +46,35 @@ HoldsY p scale s amount group shift centre radius = (base rover : Sighting) → 
 abbrev pub HoldsYs : Pairing → List ℕ → ℕ → List ℤ → ℤ → List ℤ → List ℤ → ℤ → Type 0
 HoldsYs p ss scale amounts group shift y ry = All (λ s. HoldsY p scale s (number_at amounts s) group (number_at shift (band s)) (number_at y s) ry) ss
 
--- the greatest radius of a y box: half of the greatest width, which is 940 of the fine unit and 2 of the coarse one, rounded up
+-- the greatest radius of a y box that is made here: half of the greatest width, which is 940 of the fine unit and 2 of the coarse
+-- one, rounded up
 abbrev pub most_radius : ℕ → ℤ
 most_radius scale = if scale == 0 then pos 470 else pos 1
+
+-- the greatest radius of a y box that a row may have
+abbrev pub row_radius : ℕ → ℤ
+row_radius scale = if scale == 0 then pos (2 ^ 11) else pos 2
 
 -- ---- groups
 -- the box, whose unit is 2^(scale - 13) ι, meets that from -1 to 1 ι
 abbrev pub MeetsOne : ℕ → ℤ → ℤ → Type 0
 MeetsOne scale centre radius = ((pos (2 ^ scale) *ℤ (centre -ℤ radius)) ≤ℤ pos (2 ^ ROW_EXPONENT)) × (neg_ℤ (pos (2 ^ ROW_EXPONENT)) ≤ℤ (pos (2 ^ scale) *ℤ (centre +ℤ radius)))
 
--- a whole number for which a y box of the code on L1, of the satellite of a pair's first row, meets -1 to 1 ι
-pub record IsAllowedGroup (p : Pairing) (scale : ℕ) (amount group : ℤ) : Type 0 where
+-- a whole number for which a y box of the code on L1, of the satellite of a pair's first row, of at most this radius, meets -1 to 1 ι
+pub record IsGroupUpTo (most : ℤ) (p : Pairing) (scale : ℕ) (amount group : ℤ) : Type 0 where
   pub centre : ℤ
   pub radius : ℤ
-  pub narrow : radius ≤ℤ most_radius scale
+  pub narrow : radius ≤ℤ most
   pub holds : HoldsY p scale 2 amount group (pos 0) centre radius
   pub meets : MeetsOne scale centre radius
+
+-- by a box that is as narrow as those that are made here
+abbrev pub IsAllowedGroup : Pairing → ℕ → ℤ → ℤ → Type 0
+IsAllowedGroup p scale amount group = IsGroupUpTo (most_radius scale) p scale amount group
+
+-- by any box that a row may have
+abbrev pub IsRowGroup : Pairing → ℕ → ℤ → ℤ → Type 0
+IsRowGroup p scale amount group = IsGroupUpTo (row_radius scale) p scale amount group
 
 -- ---- what is too far
 -- an observation past 2^34 - 2^12, in size

@@ -134,8 +134,8 @@ pub fn shift_with(from: &RowSource<'_>, arc: u16, pair: u32) -> Option<[i64; PHA
 }
 
 /// Shifts of an arc, in cycles, with which the observations of its phases that count in the pair lie from -λ to λ, in a fine session
-/// and for every group that the pair's first row allows. The shift of a band that isn't used is 0. There are none exactly where the
-/// arc doesn't hold the pair. The points are in units of 0.1 mm; the signals are those that `screened` was made of.
+/// and for every group that any box of the pair's first row allows, up to the greatest radius that a row may have. The shift of a band
+/// that isn't used is 0. There are none exactly where the arc doesn't hold the pair. The points are in units of 0.1 mm; the signals are those that `screened` was made of.
 /// It serves tests alone: programs keep the halves and call `shift_with`.
 pub fn shift_at(
     screened: &Screened,

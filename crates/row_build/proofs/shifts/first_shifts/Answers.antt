@@ -7,7 +7,7 @@ use Rattle.obs_rows.specs.Unused.{IsZeroOff}
 use Rattle.row_boxes.specs.Sightings.{y_of}
 use Rattle.row_boxes.specs.YBoxes.{IsWithinHalf}
 use Rattle.row_boxes.proofs.Ys.{long_cycle}
-use Rattle.row_boxes.proofs.Groups.{allowed_close, shift_within}
+use Rattle.row_boxes.proofs.Groups.{row_close, shift_within}
 use Rattle.row_build.specs.Rows.{seen_by}
 use Rattle.row_build.specs.Shifts.{counts}
 use Rattle.row_build.proofs.shifts.first_shifts.Goals as goal
@@ -26,7 +26,7 @@ returns-clause-near c =
       seen = c.shifts_of.ensures.exists c.args.from.now.base.now c.entry_of-entry.ensures.half;
       within = λ group a s h phase among b r q.
           shift_within s (number_at n.observed s) g group (number_at c.shifts_of.result (band s)) b r (long_cycle s h phase)
-          (allowed_close (seen_by f c.args.from.now.base.now c.args.from.now.point.now) (number_at f.observed 2) g group a
+          (row_close (seen_by f c.args.from.now.base.now c.args.from.now.point.now) (number_at f.observed 2) g group a
           (c.group_of-group.ensures.exists c.args.from.now.base.now c.first_entry-first.ensures.half)
           (c.group_of-group.ensures.near c.args.from.now.base.now c.first_entry-first.ensures.half))
           (subst (λ (m : ℤ). IsWithinHalf (wavelength s) (y_of s (number_at n.observed s) m (number_at c.shifts_of.result (band s)) b r))
