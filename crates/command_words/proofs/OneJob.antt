@@ -327,7 +327,7 @@ one_of c p g (job.CheckTrack cert) (job.Sim part' seed' epochs' sats' bands' sys
 one_of c p g (job.CheckTrack cert) (job.Track base' rover' nav' options') first second =
     absurd (omega (arith, one_mark c p g (job.CheckTrack cert) (job.Track base' rover' nav' options') first second))
 
--- the command and the words behind it are one
+-- the words have one command, and one list of words after it
 pub same_behind : (words : List (List ℕ)) (a b : Job) (first : IsJob words a) (second : IsJob words b) → second.behind ≡ first.behind
 same_behind words a b first second = ap (λ (ws : List (List ℕ)). drop 1 ws) (sym second.words_are ∙ first.words_are)
 

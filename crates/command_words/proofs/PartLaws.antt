@@ -74,12 +74,12 @@ no_words (Plain w) xs h = absurd (cc h)
 no_words (Apart s d n) xs h = absurd (cc h)
 no_words (Joined s d n) xs h = absurd (cc h)
 
--- nor does it begin what stands behind the pieces
+-- no piece begins what stands after the pieces
 no_behind : (p : Piece) (xs behind further : List (List ℕ)) → IsPiece p → IsBehind behind further → words_of_piece p ++ xs ≡ behind → ⊥
 no_behind p xs [] further is behind h = no_words p xs h
 no_behind p xs (w ∷ ws) further is behind h = no_separator p xs ws is (h ∙ ap (λ (t : List ℕ). t ∷ ws) behind.0)
 
--- what is left of parted words behind their first piece
+-- what is left of parted words after their first piece
 pub record IsLeft (p : Piece) (rest plain : List (List ℕ)) (given : List Given) : Type 0 where
   pub plain_rest : List (List ℕ)
   pub given_rest : List Given
@@ -105,7 +105,7 @@ pub left : (p : Piece) (rest plain : List (List ℕ)) (given : List Given) → I
 left p rest plain given is parted = left_of p rest _ plain given parted.pieces parted.behind parted.further is refl parted.words_are parted.are_pieces
     parted.is_behind parted.plain_are parted.given_are
 
--- what is left of parted words behind some pieces
+-- what is left of parted words after some pieces
 pub record AreLeft (pieces : List Piece) (rest plain : List (List ℕ)) (given : List Given) : Type 0 where
   pub plain_rest : List (List ℕ)
   pub given_rest : List Given

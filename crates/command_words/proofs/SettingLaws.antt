@@ -37,7 +37,7 @@ is_name System = refl
 pub one_name : (text : List ℕ) (s r : Setting) → setting_of text ≡ Some s → setting_of text ≡ Some r → s ≡ r
 one_name text s r first second = same_Some s r (sym first ∙ second)
 
--- no name is another with more behind it
+-- no name is another with more after it
 pub no_longer_name : (s : Setting) (digits : List ℕ) → name_of s ≡ name_of s ++ 61 ∷ digits → ⊥
 no_longer_name Ratio digits h = absurd (cc h)
 no_longer_name Budget digits h = absurd (cc h)
@@ -51,7 +51,7 @@ no_longer_name Count digits h = absurd (cc h)
 no_longer_name Bands digits h = absurd (cc h)
 no_longer_name System digits h = absurd (cc h)
 
--- what is behind a first part is one text
+-- only one text stands after a first part
 pub same_behind : (front xs ys : List ℕ) → front ++ xs ≡ front ++ ys → xs ≡ ys
 same_behind [] xs ys h = h
 same_behind (b ∷ front) xs ys h = same_behind front xs ys (ap (λ (t : List ℕ). drop 1 t) h)

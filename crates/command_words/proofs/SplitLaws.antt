@@ -440,7 +440,7 @@ sorted (b ∷ c ∷ bs) = go (b == 45) (c == 45) refl refl
     go true false e f = inr (inl (rw (e, f) refl))
     go true true e f = let first : b ≡ 45 = grind (arith, nat_tests) in let second : c ≡ 45 = grind (arith, nat_tests) in inr (inr (bs, ap₂ (λ (m n : ℕ). m ∷ n ∷ bs) first second))
 
--- no word behind is short, nor is this one
+-- neither this word nor a word after it is short
 pub neither : (word : Text) (words : List Text) → bytes_eq word (45 ∷ 45 ∷ []) ≡ false → has_short (word ∷ words) ≡ false → (is_short word ≡ false) × (has_short words ≡ false)
 neither word words apart h = both (is_short word) (has_short words) (rw apart at h)
   where

@@ -66,7 +66,7 @@ pub record IsPlainWord (word : Text) : Type 0 where
 abbrev with_word : Text → Bool → Held → Walk
 with_word word trailing h = record { held = pushed word_id word h; waiting = positional; position = 1; is_trailing = trailing; stopped = None }
 
--- an ordinary word, and the same behind `--`
+-- an ordinary word, and the same after `--`
 pub word_steps : (s : Shape) (options : List Text) (r rows : List Row) (p : Option (Text × List Text)) (skip : ℕ) (was_word : Bool) (word : Text) → IsCommand s options
     → IsSettled s (record { rows = r; pending = p; skip = skip }) rows → IsPlainWord word → Steps s (at r p skip (free was_word) false) word (at rows (Some (word_id, word ∷ [])) skip positional false)
 unfolding walked

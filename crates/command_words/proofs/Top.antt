@@ -1,4 +1,4 @@
--- What clap makes of the first word and of those behind it.
+-- What clap makes of the first word and of those after it.
 use Rattle.std.proofs.Common.{◌≡◌, ◌==◌, ◌&&◌, ◌||◌, Bool, true, false, List, [], ◌∷◌, ◌++◌, map, append_assoc, append-nil, Option, Some, None, is_some, if◌then◌else◌, refl, sym, ap, ap₂, ◌∙◌, subst}
 use Rattle.std.specs.Prelude.{fold, find, codes}
 use Rattle.std.specs.Str.{bytes_eq}
@@ -12,7 +12,7 @@ use Rattle.clap.proofs.FaultLemmas.{stopped_fault}
 use Rattle.command_words.specs.Commands.{built_rules, IsCommand, at, Ends, built_shape, command_shape, top_shape, built_top, built_app, app_with, start, is_short, has_short, command_named}
 use Rattle.command_words.proofs.Leaf.{rules_built}
 
--- ---- behind the command's name
+-- ---- after the command's name
 
 stopped_walk : (c : List Rule) (names : Names) (h : Held) (name : Text) (front words : List Text)
     → fold (walked c names) (record (walk_from h) { stopped = Some (name, front) }) words ≡ record (walk_from h) { stopped = Some (name, front ++ words) }

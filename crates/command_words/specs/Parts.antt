@@ -52,12 +52,12 @@ abbrev pub given_of : List Piece → List Given
 given_of [] = []
 given_of (p ∷ pieces) = given_of_piece p ++ given_of pieces
 
--- behind the pieces: nothing, or `--` and then ordinary words, whatever they are
+-- after the pieces stands nothing, or `--` and then ordinary words, whatever they are
 abbrev pub IsBehind : List (List ℕ) → List (List ℕ) → Type 0
 IsBehind [] further = further ≡ []
 IsBehind (word ∷ words) further = (word ≡ 45 ∷ 45 ∷ []) × (words ≡ further)
 
--- the words are pieces and what stands behind them, with these ordinary words and these options
+-- the words are pieces and what stands after them, with these ordinary words and these options
 pub record AreParted (words plain : List (List ℕ)) (given : List Given) : Type 0 where
   pub pieces : List Piece
   pub behind : List (List ℕ)

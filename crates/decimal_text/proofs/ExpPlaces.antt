@@ -87,7 +87,7 @@ marked_exp front mark tail f next marks p = record {
   spelled = inr (p.negative, p.power, record { front = front; mark = mark; tail = tail; text_is = refl; number = f.fixed; next_to = next; marks = marks; exponent = p.signed_is }, refl);
 }
 
--- nothing behind, or a mark
+-- nothing follows, or a mark does
 EndsOrMarks : List ℕ → Type 0
 EndsOrMarks [] = Unit {0}
 EndsOrMarks (b ∷ bs) = is_mark b ≡ true
@@ -125,7 +125,7 @@ pub fails_front : (front : List ℕ) (mark : ℕ) (tail : List ℕ) (at : ℕ) �
 unfolding EndsOrMarks
 fails_front front mark tail at none marks f = fails_before front (mark ∷ tail) at none marks f
 
--- a mark behind a blank
+-- a text fails at a mark that follows a blank
 pub fails_apart : (front : List ℕ) (mark : ℕ) (tail : List ℕ) → behind_mark front ≡ None → is_mark mark ≡ true → IsSomeFixed front
     → ends_blank front ≡ true → FailsFirst IsExp (front ++ mark ∷ tail) (length front)
 fails_apart front mark tail none marks f blank = record {

@@ -9,7 +9,7 @@ use Rattle.decimal_text.specs.FixedForm.{IsFixed}
 use Rattle.decimal_text.specs.Exp.{is_mark, before_mark, behind_mark}
 use Rattle.decimal_text.proofs.FixedWalks.{walk-fixed}
 
--- behind a front without a mark
+-- after a front without a mark, the mark is looked for in the rest
 pub before-append : (front rest : List ℕ) → behind_mark front ≡ None → before_mark (front ++ rest) ≡ front ++ before_mark rest
 before-append [] rest none = refl
 before-append (b ∷ bs) rest none = by (is_mark b) refl (λ e. before-append bs rest e)

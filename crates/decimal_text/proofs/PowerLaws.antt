@@ -37,7 +37,7 @@ blanks_took (b ∷ bs) at n m is = by (is_blank b) refl (λ e. blanks_took bs (a
         record { blank = both (is_blank b) (are_blank bs) blank t.blank; same = t.same }
     by false blank later = let step : only_blanks (b ∷ bs) at n ≡ Err at = rw blank refl in absurd (cc (step, is))
 
--- ---- digits behind k others
+-- ---- digits after k others
 
 -- further digits, up to three in all, and blanks
 record IsRestOfPower (k : ℕ) (text : List ℕ) : Type 0 where
@@ -174,7 +174,7 @@ only_blank k b t h digit = by h.power h.after h.text_is h.digits h.blank
         let first : is_digit c ≡ true = (first_and (is_digit c) (are_digits cs) digits).0 in
         absurd (cc (same, first, digit))
 
--- no digit has room behind three, and no digit is no exponent
+-- no digit has room after three, and no digit is no exponent
 no_room : (b : ℕ) (t : List ℕ) → IsRestOfPower 3 (b ∷ t) → is_digit b ≡ true → ⊥
 no_room b t h digit = by h.power h.after h.text_is h.few h.blank
   where

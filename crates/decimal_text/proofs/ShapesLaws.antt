@@ -7,7 +7,7 @@ use Rattle.decimal_text.specs.Shapes.{Begins, IsStuck, FailsFirst}
 pub one_more : (front : List ℕ) (b : ℕ) (further : List ℕ) → (front ++ b ∷ []) ++ further ≡ front ++ b ∷ further
 one_more front b further = append_assoc front (b ∷ []) further
 
--- two splits of one text, the second behind the first
+-- two splits of one text, the second after the first
 record IsLonger (r f₂ f₁ : List ℕ) : Type 0 where
   byte : ℕ
   rest : List ℕ
@@ -47,7 +47,7 @@ module _ (Is : List ℕ → Type 0) where
   pub fails_once : (text : List ℕ) (i j : ℕ) → FailsFirst Is text i → FailsFirst Is text j → i ≡ j
   fails_once text i j f g = elim (cases_order i j) [ inl same ↦ same | inr other ↦ elim other [ inl less ↦ absurd (not_before text i j f g less) | inr more ↦ absurd (not_before text j i g f more) ] ]
 
--- the form B is the form A behind these bytes
+-- the form B is these bytes and then the form A
 module _ (A B : List ℕ → Type 0) (pre : List ℕ) (to : (t : List ℕ) → A t → B (pre ++ t)) (back : (t : List ℕ) → B (pre ++ t) → A t) where
   begins-to : (front : List ℕ) → Begins A front → Begins B (pre ++ front)
   begins-to front b = record { further = b.further; whole = subst B (sym (append_assoc pre front b.further)) (to (front ++ b.further) b.whole) }

@@ -18,7 +18,7 @@ abbrev pub before_mark : List ℕ → List ℕ
 before_mark [] = []
 before_mark (b ∷ bs) = if is_mark b then [] else b ∷ before_mark bs
 
--- what stands behind it, if there is one
+-- what stands after it, if there is one
 abbrev pub behind_mark : List ℕ → Option (List ℕ)
 behind_mark [] = None
 behind_mark (b ∷ bs) = if is_mark b then Some bs else behind_mark bs
@@ -27,12 +27,12 @@ behind_mark (b ∷ bs) = if is_mark b then Some bs else behind_mark bs
 abbrev pub ends_blank : List ℕ → Bool
 ends_blank text = is_blank (slice_index text (length text - 1))
 
--- blanks to the end behind the number n, or the place of another byte
+-- blanks to the end after the number n, or the place of another byte
 abbrev pub only_blanks : List ℕ → ℕ → ℕ → Result ℕ ℕ
 only_blanks [] at n = Ok n
 only_blanks (b ∷ bs) at n = if is_blank b then only_blanks bs (at + 1) n else Err at
 
--- digits behind k others that stand for n, at most three in all, and blanks; or the place where that fails
+-- digits after k others that stand for n, at most three in all, and blanks; or the place where that fails
 abbrev pub power_digits : List ℕ → ℕ → ℕ → ℕ → Result ℕ ℕ
 power_digits [] at n k = if k == 0 then Err at else Ok n
 power_digits (b ∷ bs) at n k =
@@ -42,13 +42,13 @@ abbrev pub signed_power : Bool → Result ℕ ℕ → Result ℤ ℕ
 signed_power negative (Ok n) = Ok (signed negative n)
 signed_power negative (Err at) = Err at
 
--- what stands behind the mark: a sign or none, and such digits
+-- what stands after the mark: a sign or none, and such digits
 abbrev pub power_of : List ℕ → Result ℤ ℕ
 power_of [] = Err 0
 power_of (b ∷ bs) =
     if b == 43 then signed_power false (power_digits bs 1 0 0) else (if b == 45 then signed_power true (power_digits bs 1 0 0) else signed_power false (power_digits (b ∷ bs) 0 0 0))
 
--- the digits, with the exponent lessened by those behind the point
+-- the digits, with the exponent lessened by the number of those after the point
 abbrev pub dec_from : Outcome → ℤ → Result Dec NumberFault
 dec_from (Fails at) power = Err (BadChar at)
 dec_from (Ends negative n k) power =

@@ -41,7 +41,7 @@ abbrev pub HasPower : List ℕ → Bool → List ℕ → List ℕ → ℤ → Ty
 HasPower text negative whole part power =
     (IsFixed text negative whole part × (power ≡ pos 0)) ⊎ ((below : Bool) × (digits : List ℕ) × IsMarked text negative whole part below digits × (power ≡ signed below (digit_sum digits)))
 
--- the text is a number with that sign, those digits before the point and behind it, and that exponent
+-- the text is a number with that sign, those digits before the point and after it, and that exponent
 pub record IsExp (text : List ℕ) : Type 0 where
   pub negative : Bool
   pub whole : List ℕ

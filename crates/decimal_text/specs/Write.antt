@@ -12,11 +12,11 @@ abbrev pub sign_text : ℤ → List ℕ
 sign_text (pos n) = []
 sign_text (negsuc n) = 45 ∷ []
 
--- a point and so many digits, or nothing
+-- a point and one digit for each place, or nothing where there are no places
 abbrev pub part_text : ℕ → ℕ → List ℕ
 part_text zero n = []
 part_text (suc k) n = 46 ∷ last_digits (suc k) n
 
--- value/10^places, with exactly so many digits behind the point
+-- value/10^places, with exactly `places` digits after the point
 abbrev pub fixed_text : ℤ → ℕ → List ℕ
 fixed_text value places = sign_text value ++ (decimal (size_of value / 10 ^ places) ++ part_text places (size_of value))

@@ -10,7 +10,7 @@ ghost use Rattle.decimal_text.specs.Exp.{is_mark, behind_mark, ends_blank, only_
 use crate::fixed::{LIMIT, NumberFault, Scan, all_blank, is_blank_byte, scan_text, with_sign};
 use crate::whole::is_digit_byte;
 
-/// The number mant · 10^exp, where exp is the written exponent less the count of digits behind the point.
+/// The number mant · 10^exp, where exp is the written exponent less the count of digits after the point.
 #[derive(Clone, Copy, Debug, PartialEq, Eq)]
 pub struct Dec {
     pub mant: i64,
@@ -92,7 +92,7 @@ fn scan_digits(text: &[u8], from: usize) -> Result<u16, usize>
     if count == 0 { Err(at) } else { Ok(number) }
 }
 
-// What stands behind the mark.
+// Reads what stands after the mark.
 fn scan_power(text: &[u8]) -> Result<i32, usize>
     requires { length text.now ≤ 4096 }
     ensures value { result ≡ power_of text.now }

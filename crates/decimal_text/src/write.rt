@@ -38,7 +38,7 @@ fn push_fixed(text: &mut Vec<u8>, value: i64, places: u32) -> Result<(), AllocEr
     push_part(text, size, places)
 }
 
-/// Appends value/10^places with exactly so many digits behind the point, and `-` only before a value below 0. After an
+/// Appends value/10^places with exactly `places` digits after the point, and `-` only before a value below 0. After an
 /// `Err` the bytes are as before.
 pub fn write_fixed(
     alloc: Global,

@@ -6,7 +6,7 @@ use crate::{BASELINE_COLUMNS, MOST_COLUMNS, MOST_FACTORS, MOST_FORM_COLUMNS, MOS
 use std::fmt;
 use std::marker::Model;
 
-/// A table of so many rows and columns.
+/// A table of `ROWS` rows and `COLUMNS` columns.
 #[derive(Clone, Copy)]
 pub struct Table<const ROWS: usize, const COLUMNS: usize> {
     entries: [[i64; COLUMNS]; ROWS],

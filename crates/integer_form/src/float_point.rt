@@ -90,7 +90,7 @@ fn solve(
     Ok(())
 }
 
-/// The integers in units of 2^-16, behind the columns of the baseline.
+/// The integers in units of 2^-16, after the columns of the baseline.
 fn integer_numbers(z: &[i64]) -> [i64; MOST_FACTORS]
     requires count { length z.now ≤ MOST_INTEGERS }
     requires size { (i : ℕ) → i < length z.now → unsigned_abs (item z.now i) < 2 ^ 30 }
@@ -126,7 +126,7 @@ fn baseline_from(
 
 impl Form {
     /// The point with the least value over the rationals, as the factors have it: for each column but the constant its
-    /// number in units of 2^-16, rounded to the nearest from the last column to the first. Behind them the array is 0.
+    /// number in units of 2^-16, rounded to the nearest from the last column to the first. After them the array is 0.
     ///
     /// The baseline's numbers are in units of 2^(scale - 5) ι.
     pub fn float_of(&self) -> Result<[i64; MOST_FACTORS], Overwidth>

@@ -69,7 +69,7 @@ pub fn is_form_table(p: &FormTable, n: usize) -> bool
     ensures outside { result ≡ true → IsZeroOutside n n p.now }
     ensures only { IsSymmetric p.now → EntriesBelow (2 ^ 52) p.now → IsZeroOutside n n p.now → result ≡ true }
 {
-    // A read says the shape of the table, so that nothing stands behind its ends.
+    // A read says the shape of the table, so that nothing stands beyond its ends.
     let _first = p.at(0, 0);
     for r in 0..MOST_FORM_COLUMNS {
         if !is_form_row(p, r, n) {

@@ -149,7 +149,7 @@ number_in [] k z inside = absurd (omega arith)
 number_in (s ∷ ss) zero z inside = refl
 number_in (s ∷ ss) (suc k) z inside = number_in ss k z (omega arith)
 
--- the number stands among these, or goes behind them
+-- the number stands among these, or goes after them
 put_there : (n : ℕ) (xs : List ℕ) → list_any (nat_eq n) xs ≡ true → put n xs ≡ xs
 put_there n [] some = absurd (true≢false (sym some))
 put_there n (x ∷ xs) some =
@@ -181,7 +181,7 @@ present n (x ∷ xs) some = by (has_satellite n x.sats) refl (λ rest. present n
         let none : epochs_with n (x ∷ xs) ≡ 0 + epochs_with n xs = counts ∙ rw lacks refl in
         omega (arith, others rest)
 
--- the number goes behind the others exactly where no epoch has it yet
+-- the number goes after the others exactly where no epoch has it yet
 with_number-put : (n : ℕ) (es : List Epoch) → with_number (epochs_with n es) n (first_seen (all_numbers es)) ≡ put n (first_seen (all_numbers es))
 with_number-put n es = by (list_any (nat_eq n) (all_numbers es)) refl
   where
@@ -275,7 +275,7 @@ fresh_number order k distinct inside =
     apart j d short =
         rw (get_or-take, get_or_default order j d 0 (omega arith)) (flip (get_or order k 0) (get_or order j 0) (apart_from_distinct nat_eq order j k 0 distinct short inside))
 
--- a new key goes behind the others
+-- a new key goes after the others
 insert_new : (counts : List ℕ) (n v : ℕ) (ns : List ℕ) → list_any (nat_eq n) ns ≡ false → insert_entry nat_eq (numbered counts ns) n v ≡ numbered counts ns ++ (n, v) ∷ []
 insert_new counts n v [] none = refl
 insert_new counts n v (x ∷ xs) none =

@@ -23,7 +23,7 @@ use Rattle.obs_store.specs.Missing.{missing_values}
 use Rattle.obs_store.proofs.SeenLaws.{neither}
 use Rattle.obs_store.specs.Stored.{amount_in, value_in, values_with, first_satellite, satellites_in, count_of, AreStored, AreStoredBehind}
 
--- values that are set one behind another
+-- values that are set one after another
 pub values_with-append : (values : List (Option Value)) (xs ys : List StoredValue) → values_with values (xs ++ ys) ≡ values_with (values_with values xs) ys
 values_with-append values [] ys = refl
 values_with-append values (x ∷ xs) ys = values_with-append (slice_set values (slot_of x.kind) (Some (value_in x))) xs ys
@@ -52,7 +52,7 @@ tail_is first values = ap (λ n. take n (drop first values)) (sym (length-drop f
 count_of-cons : (s : StoredSat) (sats : List StoredSat) → count_of (s ∷ sats) ≡ s.count + count_of sats
 count_of-cons s sats = sum_by-cons (λ (t : StoredSat). t.count) s sats
 
--- one satellite more, whose values stand behind the others
+-- one satellite more, whose values stand after the others
 pub satellites_in-push : (sats : List StoredSat) (values added : List StoredValue) (s : StoredSat) → count_of sats ≡ length values → length added ≡ s.count
     → satellites_in (sats ++ s ∷ []) (values ++ added) ≡ satellites_in sats values ++ first_satellite s added ∷ []
 satellites_in-push [] [] added s all more = refl
@@ -75,7 +75,7 @@ satellites_push sats s are from to fresh = record {
   once = all_pairs_push (λ (t u : SatObs). t.number ≢ u.number) sats s are.once (none_of s.number sats fresh);
 }
 
--- what is stored behind others is read behind them
+-- what is stored after others is read after them
 pub stored_push : (sats sats' : List StoredSat) (values values' : List StoredValue) (s : SatObs) (count : ℕ) → count_of sats ≡ length values
     → sats' ≡ sats ++ record { number = s.number; count = count } ∷ [] → AreStoredBehind values values' count s.values → satellites_in sats' values' ≡ satellites_in sats values ++ s ∷ []
 stored_push sats sats' values values' s count all is stored =

@@ -3,7 +3,7 @@ use Rattle.std.specs.Prelude.{◌≡◌, ℕ, zero, suc, ◌≤◌, slice_index,
 use Rattle.obs_store.specs.declared.series.Epoch.{Epoch}
 use Rattle.obs_store.specs.Seen.{first_seen, all_numbers, epochs_with}
 
--- the numbers seen behind one more epoch that has this number, which so many had before
+-- the numbers seen after one more epoch, which has the number n; the first argument says how many had it before
 abbrev pub with_number : ℕ → ℕ → List ℕ → List ℕ
 with_number zero n order = order ++ n ∷ []
 with_number (suc before) n order = order

@@ -1,4 +1,4 @@
--- How the satellites of an epoch are stored: the values that are there, one satellite's behind another's.
+-- How the satellites of an epoch are stored: the values that are there, one satellite's after another's.
 use Rattle.std.specs.Prelude.{ℕ, ℤ, ◌≡◌, List, [], ◌∷◌, ◌++◌, take, drop, length, slice_set, sum_by, Some}
 use Rattle.std.specs.declared.option.Option.{Option}
 use Rattle.std.specs.Int.{w64, cast_signed, from_le_bytes}
@@ -25,7 +25,7 @@ values_with values (v ∷ vs) = values_with (slice_set values (slot_of v.kind) (
 abbrev pub first_satellite : StoredSat → List StoredValue → SatObs
 first_satellite s values = record { number = s.number; values = values_with missing_values (take s.count values) }
 
--- the satellites whose values these are, one satellite's behind another's
+-- the satellites whose values these are, one satellite's after another's
 abbrev pub satellites_in : List StoredSat → List StoredValue → List SatObs
 satellites_in [] values = []
 satellites_in (s ∷ sats) values = first_satellite s values ∷ satellites_in sats (drop s.count values)
@@ -39,7 +39,7 @@ pub record AreStored (sats : List StoredSat) (values : List StoredValue) : Type 
   pub all : count_of sats ≡ length values
   pub satellites : AreSatellites (satellites_in sats values)
 
--- behind these stand so many more, which are those that are there of a satellite's values
+-- after the old ones stand `count` more, which are those of a satellite's values that are there
 pub record AreStoredBehind (old new : List StoredValue) (count : ℕ) (values : List (Option Value)) : Type 0 where
   pub added : List StoredValue
   pub new_are : new ≡ old ++ added

@@ -7,7 +7,7 @@ ghost use Rattle.obs_store.specs.Stored.{value_in, values_with, first_satellite,
 
 use crate::{ObsType, SLOTS, SatObs, Value};
 
-/// A satellite, of which so many values are there.
+/// A satellite, and how many of its values are there.
 #[derive(Clone, Copy, Debug)]
 pub struct StoredSat {
     pub number: u8,
@@ -35,7 +35,7 @@ fn stored_value(kind: ObsType, value: Value) -> StoredValue
     }
 }
 
-/// Stores the values that are there behind others, where there is room for all, and answers how many.
+/// Adds the values that are there to the stored ones, where there is room for all, and answers how many.
 pub fn store_values(stored: &mut Vec<StoredValue>, values: &[Option<Value>; SLOTS]) -> u8
     requires { vec_len stored.old + slot_count ≤ vec_capacity stored.old }
     ensures { AreStoredBehind stored.old.items stored.new.items result values.now }

@@ -1,4 +1,4 @@
--- Texts behind texts, and sums in words.
+-- Texts after texts, and sums in words.
 use Rattle.std.proofs.Common.{◌≡◌, ◌++◌, ◌<◌, ◌≤◌, ◌^◌, ℕ, ℤ, ◌+ℤ◌, ◌-ℤ◌, unsigned_abs, to_z, of_z, List, ap, ◌∙◌, append_assoc, arith}
 use Rattle.std.specs.Int.{w64}
 use Rattle.std.proofs.lemmas.Int.{ints}
@@ -6,7 +6,7 @@ use Rattle.whole_math.proofs.Words.{as_w64}
 use Rattle.obs_rows.specs.Ranges.{IsBelow, IsWithin}
 use Rattle.outcome_report.specs.Baselines.{in_tenths, from_base}
 
--- a text that was written behind another
+-- a text that was written after another
 pub then_more : (o a b x y : List ℕ) → a ≡ o ++ x → b ≡ a ++ y → b ≡ o ++ (x ++ y)
 then_more o a b x y first second = second ∙ ap (λ (l : List ℕ). l ++ y) first ∙ append_assoc o x y
 

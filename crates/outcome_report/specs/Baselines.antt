@@ -19,7 +19,7 @@ abbrev pub baseline_of : List ℤ → List ℤ → List ℤ → List ℤ
 baseline_of point base moved =
     from_base (item point 0) (item base 0) (item moved 0) ∷ from_base (item point 1) (item base 1) (item moved 1) ∷ from_base (item point 2) (item base 2) (item moved 2) ∷ []
 
--- lengths in 0.1 mm as metres with four places, each behind one blank
+-- lengths in 0.1 mm as metres with four places, each after one blank
 abbrev pub metres_behind_blanks : List ℤ → List ℕ
 metres_behind_blanks [] = []
 metres_behind_blanks (n ∷ ns) = 32 ∷ (fixed_text n 4 ++ metres_behind_blanks ns)

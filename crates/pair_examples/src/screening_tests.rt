@@ -17,7 +17,7 @@ const ZERO: Dec = Dec { mant: 0, exp: 0 };
 
 const CODE: i64 = 25_000_000_000;
 
-// A satellite on a circle of 25,000 km over the equator, which at time 0 is so many hundredths of a radian east of Greenwich.
+// A satellite on a circle of 25,000 km over the equator, at time 0 east of Greenwich by these hundredths of a radian.
 fn record(sat: u8, hundredths: i64) -> Raw {
     Raw {
         sat,

@@ -65,7 +65,7 @@ arcs_are : (rules : Rules) (r : Round) (s : Session) → IsSessionOf rules r s �
 arcs_are rules r s session_is = ap (λ (q : Round). q.arcs) session_is.round_is
 
 -- ---- coarse rounds
--- so many coarse rounds were made, with the one at this point
+-- `made` coarse rounds were made, with the one at this point
 pub record CoarseSoFar (rules : Rules) (point : List ℤ) (arcs : List Arc) (made : ℕ) : Type 0 where
   pub before : List Session
   pub run : IsRunTo rules before (coarse point arcs)
@@ -153,7 +153,7 @@ coarse_moves rules point arcs made s numbers next so_far session_is not_last mov
     }
 
 -- ---- fine rounds
--- so many fine rounds were made, with the one at this point, after so many coarse ones
+-- `made` fine rounds were made, with the one at this point, after `coarse_made` coarse ones
 pub record FineSoFar (rules : Rules) (point : List ℤ) (arcs : List Arc) (coarse_made made : ℕ) : Type 0 where
   pub before : List Session
   pub run : IsRunTo rules before (fine point arcs)

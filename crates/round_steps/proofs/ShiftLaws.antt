@@ -15,19 +15,19 @@ use Rattle.integer_form.specs.FloatPoint.{item}
 use Rattle.round_steps.specs.Shifts.{grown_arc, AreGrown, AreShiftsBelow, without_shifts, AreSameArcs}
 use Rattle.whole_math.proofs.Lists.{before_push, last_push}
 
--- a number of a list whose numbers are below m, and 0 behind its end
+-- a number of a list whose numbers are below m is below m, and so is the 0 beyond its end
 pub small_item : (s : List ℤ) (k m : ℕ) → All (IsBelow m) s → 0 < m → unsigned_abs (get_or s k (pos 0)) < m
 small_item [] k m below some = some
 small_item (x ∷ s) zero m below some = below 0 (pos 0) (omega arith)
 small_item (x ∷ s) (suc k) m below some = small_item s k m (λ j d inside. below (suc j) d (omega arith)) some
 
 -- ---- the numbers of a float point
--- the numbers behind the first n
+-- the numbers after the first n are below m too
 small_drop : (x : List ℤ) (n m : ℕ) → ((j : ℕ) → unsigned_abs (item x j) < m) → All (IsBelow m) (drop n x)
 small_drop x n m small k d inside =
     subst (λ (a : ℤ). unsigned_abs a < m) (sym (get_or_default (drop n x) k d (pos 0) inside ∙ get_or-drop n x k (pos 0))) (small (n + k))
 
--- those of the integers are all that stand behind those of the baseline
+-- those of the integers are all that stand after those of the baseline
 pub integers_are : (x : List ℤ) → length x ≡ MOST_FACTORS → take MOST_INTEGERS (drop BASELINE_COLUMNS x) ≡ drop BASELINE_COLUMNS x
 integers_are x whole = take_all MOST_INTEGERS (drop BASELINE_COLUMNS x) (few (length (drop BASELINE_COLUMNS x)) (length-drop BASELINE_COLUMNS x))
   where

@@ -12,7 +12,7 @@ holds number a = nat_le a.first number && nat_le number a.last
 abbrev pub held : List Arc → ℕ → ℕ
 held arcs number = count_by (holds number) arcs
 
--- none of so many pairs has four satellites in the arcs
+-- none of the first `pairs` pairs has four satellites in the arcs
 abbrev pub AreFew : ℕ → List Arc → Type 0
 AreFew pairs arcs = (number : ℕ) → number < pairs → held arcs number < 4
 

@@ -120,8 +120,8 @@ most_rounds scale = if scale == 0 then 6 else 10
 abbrev pub is_last : ℕ → List Session → Bool
 is_last scale before = (rounds_at scale before + 1) == most_rounds scale
 
--- a run reaches this round after these others: with it so many rounds are coarse and so many fine, and no more than are
--- allowed
+-- a run reaches this round after these others: `made` counts the coarse and the fine rounds with it, which are no more
+-- than are allowed
 pub record Reaches (rules : Rules) (made : RoundCounts) (before : List Session) (r : Round) : Type 0 where
   pub run : IsRunTo rules before r
   pub coarse_made : made.coarse ≡ rounds_with COARSE_SCALE before r
@@ -186,11 +186,11 @@ abbrev pub IsBestEnd : End → Type 0
 IsBestEnd (End.Early made stage tail) = Unit {0}
 IsBestEnd (End.Full made s tail) = IsBestWhereFixed s tail
 
--- so many coarse rounds, and no fine one
+-- `made` coarse rounds, and no fine one
 abbrev pub coarse_alone : ℕ → RoundCounts
 coarse_alone made = record { coarse = made; fine = 0 }
 
--- a run reaches a coarse round that is settled at this point, after so many coarse rounds with it
+-- a run reaches a coarse round that is settled at this point, and with it `made` rounds are coarse
 pub record SettlesAt (rules : Rules) (made : ℕ) (point : List ℤ) : Type 0 where
   pub before : List Session
   pub session : Session

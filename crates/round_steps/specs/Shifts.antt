@@ -14,7 +14,7 @@ use Rattle.round_steps.specs.declared.limits.TheConstants.{THREE_QUARTERS}
 abbrev pub growth : ℤ → ℤ
 growth f = if nat_lt THREE_QUARTERS (unsigned_abs f) then nearest_div f (2 ^ 16) else pos 0
 
--- the integers' numbers stand behind those of the baseline
+-- the integers' numbers stand after those of the baseline
 abbrev pub integers : List ℤ → List ℤ
 integers x = drop BASELINE_COLUMNS x
 

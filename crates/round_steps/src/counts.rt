@@ -20,7 +20,7 @@ pub fn held(arcs: &[Arc], number: u32) -> usize
         .count()
 }
 
-/// Whether none of so many pairs has four satellites in the arcs.
+/// Whether none of the first `pairs` pairs has four satellites in the arcs.
 pub fn are_few(pairs: u32, arcs: &[Arc]) -> bool
     ensures { IsTrue result ↔ AreFew pairs arcs.now }
 {

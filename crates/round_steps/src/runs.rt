@@ -127,7 +127,7 @@ pub fn coarse_rounds<R: Rounds>(
     }
 }
 
-/// The fine rounds, after so many coarse ones that settled at this point.
+/// The fine rounds, after `coarse` coarse rounds that settled at this point.
 fn fine_rounds<R: Rounds>(
     alloc: Global,
     rounds: &mut R,

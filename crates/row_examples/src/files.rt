@@ -103,7 +103,7 @@ fn texts_of_galileo(rt: &impl Abort, alloc: Global, made: &Made) -> Result<Texts
     })
 }
 
-/// Of so many epochs and satellites made from a seed.
+/// The files of a session of `epochs` epochs and `sats` satellites, which is made from a seed.
 pub fn files_of(
     rt: &impl Abort,
     alloc: Global,

@@ -32,7 +32,7 @@ abbrev pub AreNone : RoundCounts → Type 0
 AreNone rounds = (rounds.coarse ≡ 0) × (rounds.fine ≡ 0)
 
 -- Few exactly where no taken pair has four satellites in kept arcs, else Arcs exactly where the arcs are too many, both
--- before any round; else the end of a run of so many rounds
+-- before any round; else the end of a run with these counts of rounds
 abbrev pub IsAnswer : Rules → ℕ → Options → RoundCounts → Answer → Type 0
 IsAnswer rules taken o rounds (Few pairs) = (pairs ≡ taken) × (AreFew taken rules.arcs × AreNone rounds)
 IsAnswer rules taken o rounds (Arcs free) = (free ≡ free_count rules.arcs) × ((AreFew taken rules.arcs → ⊥) × (AreMany rules.arcs × AreNone rounds))

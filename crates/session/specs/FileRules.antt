@@ -10,7 +10,7 @@ use Rattle.row_build.specs.Shifts.{AreFirstShifts}
 use Rattle.round_steps.specs.Shifts.{AreSameArcs}
 use Rattle.round_steps.specs.Runs.{Rules, Round}
 
--- the session of this system has the kept arcs, with shifts of its own, and exactly the rows of so many pairs, whose
+-- the session of this system has the kept arcs, with shifts of its own, and exactly the rows of `count` pairs, whose
 -- satellites have these boxes
 pub record HasRowsOf (boxes : List SvPair) (count : ℕ) (kept : List Arc) (position : List ℤ) (signals : Signals) (system : ℕ) (s : Session) : Type 0 where
   pub system_is : s.system ≡ system

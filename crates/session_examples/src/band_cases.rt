@@ -78,7 +78,7 @@ pub static BANDS: [BandCase; 4] = [
     },
 ];
 
-// What is done at the rover to G03 in the third of five epochs, on which band, and where its arc begins anew: behind the epoch if it
+// What is done at the rover to G03 in the third of five epochs, on which band, and where its arc begins anew: after the epoch if it
 // can't be used there, else with it.
 pub struct Gap {
     pub what: &'static str,

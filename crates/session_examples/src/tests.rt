@@ -247,7 +247,7 @@ fn cut_agrees(
     Ok(())
 }
 
-// With so many satellites cut all arcs are linked, since two satellites aren't cut.
+// With these satellites cut all arcs are linked, since two satellites aren't cut.
 #[test]
 fn twenty_arcs_are_free(rt: HostRuntime) -> Result<(), Fail> {
     let made = make(rt.alloc(), 1, 4, 12, 12, GPS)?;

@@ -21,7 +21,7 @@ l5_cycles l5 seed n = if l5 then drawn_within 1000000 seed n else pos 0
 abbrev pub cycles_from : Bool → ℕ → ℕ → ℕ → List ℤ
 cycles_from l5 seed n m = drawn_within 1000000 seed n ∷ drawn_within 1000000 seed (n + 1) ∷ l5_cycles l5 seed m ∷ []
 
--- those of satellite k + 1 of so many at the base and at the rover: L5 is drawn after L1 and L2 of all satellites
+-- those of satellite k + 1 of `sats` at the base and at the rover: L5 is drawn after L1 and L2 of all satellites
 abbrev pub base_cycles : ℕ → ℕ → Bool → ℕ → List ℤ
 base_cycles seed sats l5 k = cycles_from l5 seed (5 + 4 * k) (5 + 4 * sats + 2 * k)
 

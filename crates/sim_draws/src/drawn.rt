@@ -43,7 +43,7 @@ impl Draws {
         [x, y, z]
     }
 
-    // The draws after those of L1 and L2 for so many satellites
+    // The draws after those of L1 and L2 for `sats` satellites
     fn behind(self, sats: u32) -> Draws
         ensures { (seed n : ℕ) → self.state ≡ state_after seed n → result.state ≡ state_after seed (n + 4 * sats) }
     {
@@ -115,7 +115,7 @@ fn difference(rover: &[i64; 3], base: &[i64; 3]) -> [i64; 3]
     [a - x, b - y, c - z]
 }
 
-/// What is drawn from a seed for so many satellites. The cycles on L5 are 0 where it isn't used.
+/// What is drawn from a seed for `sats` satellites. The cycles on L5 are 0 where it isn't used.
 pub fn draw_all(alloc: Global, seed: u32, sats: u32, l5: bool) -> Result<Drawn, AllocError>
     ensures offset { IfOk result (λ d. d.offset ≡ offset_of seed) }
     ensures base_clock { IfOk result (λ d. d.base_clock ≡ base_clock_of seed) }

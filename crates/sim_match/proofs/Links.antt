@@ -7,7 +7,7 @@ use Rattle.obs_rows.specs.declared.arcs.Arc.{Arc}
 use Rattle.slip_arcs.specs.Linked.{AreNeighbours, IsChain, AreLinked, HaveDatums}
 use Rattle.sim_match.specs.Matches.{IsDatumOf, AreInOrder, AreMarked}
 
--- ---- links go both ways, and one behind another
+-- ---- links go both ways, and one after another
 neighbours_back : (arcs : List Arc) (k m : ℕ) → AreNeighbours arcs k m → AreNeighbours arcs m k
 neighbours_back arcs k m near =
     let s = near.share in
@@ -124,7 +124,7 @@ share_first arcs k m a b order is also before reaches = record {
   share = (a.first, omega arith, order.forward k a is, order.rising m k b a before also is, reaches);
 }
 
--- a chain from arc k back to the datum d, over at most so many arcs
+-- a chain from arc k back to the datum d, over at most `bound` arcs
 linked_to : (bound : ℕ) (arcs : List Arc) (d k : ℕ) (e a : Arc) → AreMarked arcs → slice_get arcs d ≡ Some e → IsTrue e.datum → slice_get arcs k ≡ Some a → d ≤ k → k ≤ bound
     → ((j : ℕ) (b : Arc) → d < j → j ≤ k → slice_get arcs j ≡ Some b → b.datum ≡ false) → AreLinked arcs k d
 linked_to zero arcs d k e a marked at datum is low high none = subst (λ (n : ℕ). AreLinked arcs k n) (let same : k ≡ d = omega arith in same) (linked_same arcs k)

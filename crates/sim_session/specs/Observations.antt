@@ -22,7 +22,7 @@ pub record AreObserved (world : Constants) (tag : ℕ) (point : List ℤ) (clock
       IsObserved world tag point clock (slice_index_or records k e) (slice_index_or cycles k c) (slice_index_or sats k s)
   pub columns : All AreInColumns sats
 
--- the text of a receiver's observations of what it tracks, at so many epochs
+-- the text of a receiver's observations of what it tracks, at `epochs` epochs
 pub record IsObservationText (epochs : ℕ) (t : Tracking) (world : Constants) (point : List ℤ) (clock : ℤ) (records : List Eph) (cycles : List (List ℤ)) (text : List ℕ) : Type 0 where
   pub values : List (List Signals)
   pub count : length values ≡ epochs

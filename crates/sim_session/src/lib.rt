@@ -59,8 +59,8 @@ fn tracking_of(bands: u16, system: u8) -> Tracking
     }
 }
 
-/// Makes a session of so many epochs and satellites from a seed, for a run with these bands and of the system with that letter:
-/// of Galileo with the bands L1 and L5 alone, which are E1 and E5a.
+/// Makes a session of `epochs` epochs and `sats` satellites from a seed, for a run with these bands and of the system with
+/// that letter: of Galileo with the bands L1 and L5 alone, which are E1 and E5a.
 pub fn make(
     alloc: Global,
     seed: u32,

@@ -46,7 +46,7 @@ fn observe_all(
     Ok(sats)
 }
 
-/// A receiver's observation file of so many epochs, with what it tracks.
+/// A receiver's observation file of `epochs` epochs, with what it tracks.
 pub fn observation_file(
     alloc: Global,
     epochs: u32,

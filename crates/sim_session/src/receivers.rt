@@ -18,7 +18,7 @@ pub fn base_receiver(clock: i64) -> Receiver
     }
 }
 
-/// The rover, which lies so many mm off the base.
+/// The rover, which lies off the base by x, y and z mm.
 pub fn rover_receiver(x: i64, y: i64, z: i64, clock: i64) -> Receiver
     requires x { unsigned_abs x ≤ 1000000 }
     requires y { unsigned_abs y ≤ 1000000 }

@@ -19,7 +19,7 @@ sent_place q = record { x = q.x; y = q.y; z = q.z }
 abbrev pub distance : Rational → Rational → Rational
 distance travel clock = sub_r (range_of travel) (mul_r (of_whole LIGHT_SPEED) clock)
 
--- P holds of that distance for every solution by a system's constants at the tag with a code of so many mm, seen from the point
+-- P holds of that distance for every solution by a system's constants at the tag with this code in mm, seen from the point
 abbrev pub ForSolutions : Constants → Eph → ℕ → ℤ → List ℤ → (Rational → Type 0) → Type 0
 ForSolutions world eph tag code point P = (q : Quantities) (a b c : ℤ) (seen : Place) (travel : Rational) → point ≡ a ∷ b ∷ c ∷ [] →
     IsNearSolution world (elements_of eph) (sent_at tag code) q → IsSeenPlace (sent_place q) (point_of a b c) travel seen → P (distance travel q.clock)
@@ -32,16 +32,16 @@ measured clock v = add_r (mul_r (of_whole (pos 1000)) v) (of_whole clock)
 abbrev pub IsCodeAfter : Constants → Eph → ℕ → List ℤ → ℤ → ℤ → ℤ → Type 0
 IsCodeAfter world eph tag point clock before after = ForSolutions world eph tag before point (λ v. AreWithin (of_whole (pos 2)) (of_whole after) (measured clock v))
 
--- the code is reached from 25,000 km in so many such steps
+-- the code is reached from 25,000 km in n such steps
 abbrev pub IsReachedIn : ℕ → Constants → Eph → ℕ → List ℤ → ℤ → ℤ → Type 0
 IsReachedIn zero world eph tag point clock code = code ≡ pos 25000000000
 IsReachedIn (suc n) world eph tag point clock code = (before : ℤ) × (IsReachedIn n world eph tag point clock before × IsCodeAfter world eph tag point clock before code)
 
--- a length in mm over the wavelength of a carrier of so many Hz, in thousandths of a cycle: the wavelength is c / frequency
+-- a length in mm over the wavelength of a carrier of `frequency` Hz, in thousandths of a cycle: the wavelength is c / frequency
 abbrev pub thousandths : ℕ → Rational → Rational
 thousandths frequency mm = divided (mul_r (of_whole (pos frequency)) mm) (unsigned_abs LIGHT_SPEED) (lit< tt)
 
--- the phase is within 2 thousandths of a cycle of what is measured in every solution with that code, and so many whole cycles
+-- the phase is within 2 thousandths of a cycle of what is measured in every solution with that code, and these whole cycles
 abbrev pub IsPhase : ℕ → Constants → Eph → ℕ → List ℤ → ℤ → ℤ → ℤ → ℤ → Type 0
 IsPhase frequency world eph tag point clock code cycles phase = ForSolutions world eph tag code point
     (λ v. AreWithin (of_whole (pos 2)) (of_whole phase) (add_r (thousandths frequency (measured clock v)) (of_whole (pos 1000 *ℤ cycles))))
@@ -59,6 +59,6 @@ pub record IsObserved (world : Constants) (tag : ℕ) (point : List ℤ) (clock 
   pub l2 : IsPhase (carrier 1) world eph tag point clock s.code (slice_index_or cycles 1 (pos 0)) s.l2
   pub l5 : IsPhase (carrier 4) world eph tag point clock s.code (slice_index_or cycles 2 (pos 0)) s.l5
 
--- the distance is less than a unit of 2^-36 m below so many of them, and at most 2^20 above: within 2^-16 m
+-- the distance is less than a unit of 2^-36 m below `units` of them, and at most 2^20 above: within 2^-16 m
 abbrev pub IsDistance : ℤ → Rational → Type 0
 IsDistance units v = InBox 36 (units -ℤ pos 1) (units +ℤ pos (2 ^ 20)) v

@@ -95,8 +95,8 @@ fn whole_thousandths(scaled: i128) -> i64
     nearest(scaled, LIGHT_SPEED as i128 * (1 << 36)) as i64
 }
 
-/// What is measured of a distance with a clock term in mm, over the wavelength of a carrier of so many Hz and with so many whole
-/// cycles, in thousandths of a cycle.
+/// What is measured of a distance with a clock term in mm, over the wavelength of a carrier of `frequency` Hz and with `cycles`
+/// whole cycles, in thousandths of a cycle.
 pub fn phase_of(distance: &Distance, clock: i64, frequency: u32, cycles: i64) -> i64
     requires clock { unsigned_abs clock ≤ 100000 }
     requires least { 1000000000 ≤ frequency }

@@ -28,7 +28,7 @@ const L2: u32 = (UNIT_FREQUENCY / WAVELENGTHS[1]) as u32;
 
 const L5: u32 = (UNIT_FREQUENCY / WAVELENGTHS[4]) as u32;
 
-// How far the satellite is seen at the tag with a code of so many mm, less what its clock is ahead
+// How far the satellite is seen at the tag with this code in mm, less what its clock is ahead
 fn distance_at(world: &World, eph: &Eph, tag: Tick, code: i64, receiver: &Receiver) -> Distance
     requires near { abs_diff tag.0 eph.now.toe.0 ≤ 72010000000 }
     requires code_low { pos 0 ≤ℤ code }
@@ -66,7 +66,7 @@ fn code_at(world: &World, eph: &Eph, tag: Tick, receiver: &Receiver) -> i64
     code
 }
 
-/// What a receiver observes of a satellite at the tag by the constants of a system, with so many whole cycles in its phases on L1,
+/// What a receiver observes of a satellite at the tag by the constants of a system, with these whole cycles in its phases on L1,
 /// L2 and L5. The tag is at most 7201 s from the ephemeris' time.
 pub fn observe(
     world: &World,

@@ -26,7 +26,7 @@ header_text t =
     ++ (codes "  2024     1     1     0     0    0.0000000     GPS         TIME OF FIRST OBS\n"
     ++ codes "                                                            END OF HEADER\n"))))
 
--- an epoch of flag 0, so many seconds after midnight, with the number of its satellites
+-- an epoch of flag 0, `seconds` seconds after midnight, with the number of its satellites
 unfoldable pub epoch_line : ℕ → ℕ → List ℕ
 epoch_line seconds sats =
     codes "> 2024 01 01 " ++ (last_digits 2 (seconds / 3600) ++ (codes " " ++ (last_digits 2 (seconds / 60 % 60)
@@ -53,7 +53,7 @@ satellite_lines t n (s ∷ sats) = satellite_line t (n + 1) s ++ satellite_lines
 abbrev pub epoch_text : Tracking → ℕ → List Signals → List ℕ
 epoch_text t seconds sats = epoch_line seconds (length sats) ++ satellite_lines t 0 sats
 
--- epochs from number i on, which are so many seconds apart
+-- epochs from number i on, which are `step` seconds apart
 abbrev pub epochs_text : Tracking → ℕ → ℕ → List (List Signals) → List ℕ
 epochs_text t step i [] = []
 epochs_text t step i (sats ∷ epochs) = epoch_text t (step * i) sats ++ epochs_text t step (i + 1) epochs

@@ -23,7 +23,7 @@ fn push_right(out: &mut Vec<u8>, text: &[u8], width: usize) -> Result<(), AllocE
     Ok(())
 }
 
-/// Appends value/10^places with so many places, at the right end of so many columns.
+/// Appends value/10^places with `places` digits after the point, at the right end of `width` columns.
 #[tactic(auto, unfolding(crate::specs::Columns::fixed_in))]
 pub fn push_fixed(
     alloc: Global,

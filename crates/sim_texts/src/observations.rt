@@ -138,8 +138,8 @@ fn write_satellites(
     Ok(())
 }
 
-/// Appends an epoch of flag 0, so many seconds after 2024-01-01 00:00:00, with the satellites from number 1 on. After an `Err` a part
-/// of it may have been appended.
+/// Appends an epoch of flag 0, `seconds` seconds after 2024-01-01 00:00:00, with the satellites from number 1 on. After an `Err` a
+/// part of it may have been appended.
 pub fn write_epoch(
     alloc: Global,
     out: &mut Vec<u8>,

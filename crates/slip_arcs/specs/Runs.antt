@@ -31,7 +31,7 @@ pub record AreArcs (bands : List ℕ) (jump : ℕ) (used : List UsedPair) (runs 
   pub complete : (r : Run) → IsArc bands jump used r → Contains runs r
   pub order : AllPairs Precedes runs
 
--- the run has at least so many pairs
+-- the run has at least `least` pairs
 abbrev pub is_long : ℕ → Run → Bool
 is_long least r = nat_le least (r.last + 1 - r.first)
 

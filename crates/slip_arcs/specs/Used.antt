@@ -48,7 +48,7 @@ jump_of b c before now = unsigned_abs (growth b before now -ℤ growth c before 
 abbrev pub kappa : ℕ
 kappa = KAPPA
 
--- the phase on one of these bands jumps against that on L1 by more than so many κ. L1's own never does
+-- the phase on one of these bands jumps against that on L1 by more than `jump` κ. L1's own never does
 abbrev pub does_jump : ℕ → List ℕ → UsedSat → UsedSat → Bool
 does_jump jump bands before now = list_any (λ b. nat_lt (kappa * jump) (jump_of 0 b before now)) bands
 

@@ -47,7 +47,7 @@ fn size_of_jump(before: &UsedSat, now: &UsedSat, first: usize, second: usize) ->
     (growth_on(before, now, first) - growth_on(before, now, second)).unsigned_abs()
 }
 
-/// Whether the phase on one of these bands jumps against that on L1 by more than so many κ.
+/// Whether the phase on one of these bands jumps against that on L1 by more than `jump` κ.
 pub fn does_jump(before: &UsedSat, now: &UsedSat, bands: &[usize], jump: u32) -> bool
     requires before { IsSmall before.now }
     requires now { IsSmall now.now }

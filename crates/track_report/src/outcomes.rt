@@ -20,11 +20,11 @@ pub struct TrackOutcome {
 /// What was found.
 #[derive(Debug, Drop)]
 pub enum TrackAnswer {
-    /// So many pairs were taken, and none has four satellites in kept arcs.
+    /// `pairs` pairs were taken, and none has four satellites in kept arcs.
     Few { pairs: u32 },
-    /// There are so many free arcs.
+    /// There are `free` free arcs.
     Arcs { free: u32 },
-    /// So many pairs were taken, and none is tracked.
+    /// `pairs` pairs were taken, and none is tracked.
     Lost { pairs: u32 },
     /// Decided on the rows of the tracked pairs.
     Full(TrackCert),

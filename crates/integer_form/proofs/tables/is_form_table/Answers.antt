@@ -7,7 +7,7 @@ use Rattle.integer_form.proofs.tables.is_form_table.Goals as goal
 either : (i : ℕ) → (i < MOST_FORM_COLUMNS) ⊎ (MOST_FORM_COLUMNS ≤ i)
 either i = grind arith
 
--- nothing stands behind the ends of a table
+-- nothing stands beyond the ends of a table
 past : (t : List (List ℤ)) → HasShape MOST_FORM_COLUMNS MOST_FORM_COLUMNS t → (i j : ℕ) → (MOST_FORM_COLUMNS ≤ i) ⊎ (MOST_FORM_COLUMNS ≤ j) → entry t i j ≡ pos 0
 past t s i j h = ⊎_elim below right h
   where

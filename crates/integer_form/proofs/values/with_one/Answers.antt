@@ -4,7 +4,7 @@ use Rattle.form_tables.specs.Tables.{item}
 use Rattle.integer_form.proofs.PlaceLaws.{list_last, list_whole}
 use Rattle.integer_form.proofs.values.with_one.Goals as goal
 
--- the entries of z and 1 behind them
+-- the entries of z, and 1 after them
 ends : (x z : List ℤ) (i : ℕ) → length z < length x → length z ≤ i → ((k : ℕ) → k < i → item x k ≡ item z k) → list_from (item (set x (length z) (pos 1))) 0 (suc (length z)) ≡ z ++ (pos 1 ∷ [])
 ends x z i l m h = list_last (item (set x (length z) (pos 1))) 0 (length z)
     ∙ ap₂ (λ (s : List ℤ) (y : ℤ). s ++ (y ∷ [])) (list_whole (item (set x (length z) (pos 1))) z 0 (λ k g. first k g))

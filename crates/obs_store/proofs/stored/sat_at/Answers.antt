@@ -1,4 +1,4 @@
--- The satellite whose values stand behind those before.
+-- The satellite whose values stand after those of the satellites before it.
 use Rattle.std.proofs.Common.{◌≡◌, ◌∙◌, ap, take, arith}
 use Rattle.obs_store.specs.Stored.{count_of}
 use Rattle.obs_store.proofs.StoredLaws.{read_stored}

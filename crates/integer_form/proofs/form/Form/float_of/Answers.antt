@@ -19,7 +19,7 @@ whole : (f : Form) (x y : List ℤ) → list_from (item x) 0 (f.columns - 1) ≡
     (list_from (item y) (f.columns - 1) (f.columns - 1 - (f.columns - 1))) → list_from (item x) 0 (f.columns - 1) ≡ float_point f
 whole f x y e = e ∙ ap (λ (s : List ℤ). solved (stored f.d f.l f.columns 0 (f.columns - 1)) s) (nothing (f.columns - 1) y)
 
--- each number is narrow, those behind the columns too
+-- each number is narrow, those after the columns too
 narrow : (f : Form) (x : List ℤ) → ((j : ℕ) → item x j ≡ item (float_point f) j) → ((i : ℕ) → i < f.columns - 1 → unsigned_abs (item x i) < 2 ^ 46) →
     ((i : ℕ) → f.columns - 1 ≤ i → item x i ≡ pos 0) → HasWide (float_point f) → ⊥
 narrow f x e h z = not_wide (float_point f) (λ i. subst (λ (a : ℤ). unsigned_abs a < 2 ^ 46) (e i)

@@ -1,4 +1,4 @@
--- One satellite more, whose values are stored behind the others.
+-- One satellite more, whose values are stored after the others.
 use Rattle.std.proofs.Common.{◌≡◌, ◌∙◌, ◌++◌, [], ◌∷◌, false, ap, subst, List}
 use Rattle.obs_store.specs.declared.stored.StoredSat.{StoredSat}
 use Rattle.obs_store.specs.declared.stored.StoredValue.{StoredValue}
