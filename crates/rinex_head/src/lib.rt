@@ -29,6 +29,7 @@
 mod columns;
 mod fields;
 mod head;
+mod laws;
 mod place;
 mod system;
 mod walk;
@@ -40,6 +41,7 @@ pub use fields::{
     whole_number, wide_number,
 };
 pub use head::{FIRST_LABEL, HeadLine, Version, head_line, version_of};
+pub use laws::{own_flaw_law, text_lines_law};
 pub use place::{At, Flaw, TextFault, What};
 pub use system::System;
 pub use walk::{line_or_end, next_line};
