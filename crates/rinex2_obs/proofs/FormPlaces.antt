@@ -125,7 +125,7 @@ other_at (suc (suc (suc (suc (suc (suc (suc (suc (suc (suc zero)))))))))) less =
 other_at (suc (suc (suc (suc (suc (suc (suc (suc (suc (suc (suc zero))))))))))) less = refl
 other_at (suc (suc (suc (suc (suc (suc (suc (suc (suc (suc (suc (suc j)))))))))))) less = absurd (omega (arith, less))
 
--- so many names from number j on are taken
+-- m names from number j on are taken
 others_taken : (j m : ℕ) (names : List (Option ℕ)) → j + m ≤ 12 → (all : List (Option ℕ)) × (SatNames.names_from other_names (33 + 3 * j) m names ≡ Ok all)
 unfolding SatNames.names_from
 others_taken j zero names few = (names, refl)
@@ -254,7 +254,7 @@ fresh_name c j m is =
     let at : 11 + 6 * j - 1 ≡ suc (suc (suc (suc (suc (suc (4 + 6 * j)))))) = omega arith in
     rw (at, fields_from c 48 j m 9 is) refl
 
--- so many names from number j on are taken
+-- m names from number j on are taken
 types_taken : (c j m : ℕ) (names : List (List ℕ)) → j + m ≤ 9 → AreApart c (48 + j) names → (all : List (List ℕ)) × (names_from Rinex2 (fresh_line c) (11 + 6 * j) m names ≡ Ok all)
 unfolding names_from
 types_taken c j zero names few are = (names, refl)

@@ -6,7 +6,7 @@ use Rattle.rinex_head.specs.Places.{and_then}
 use Rattle.rinex_head.specs.Walk.{Rules, walk}
 use Rattle.rinex_head.proofs.Walks.{walk-took}
 
--- what holds of each element holds of those behind some
+-- what holds of each element holds of those after some
 pub All-behind : {X : Type 0} (P : X → Type 0) (xs ys : List X) → All P (xs ++ ys) → All P ys
 All-behind P [] ys all = all
 All-behind P (x ∷ xs) ys all = All-behind P xs ys (All-tail P x (xs ++ ys) all)
@@ -16,7 +16,7 @@ pub and_then_took : {A B : Type 0} (r : Result A Flaw) (f : A → Result B Flaw)
 and_then_took (Ok x) f y e = (x, refl, e)
 and_then_took (Err flaw) f y e = absurd cc
 
--- the same where the second part only says what is expected behind the line
+-- the same where the second part only says what is expected after the line
 pub then_took : {A S : Type 0} (r : Result A Flaw) (next : A → S) (s : S) → and_then r (λ x. Ok (next x)) ≡ Ok s → (x : A) × (r ≡ Ok x) × (next x ≡ s)
 then_took (Ok x) next s e = (x, refl, cc (e))
 then_took (Err flaw) next s e = absurd cc

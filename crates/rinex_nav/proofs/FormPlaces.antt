@@ -66,7 +66,7 @@ module _ (system : System) where
     zero_if (reads_fourth place) 62 zero_fourth,
   ) refl
 
-  -- so many further lines are read: another one is expected, or the record is whole
+  -- after the further lines that were read another one is expected, or the record is whole
   abbrev Behind : List Raw → Start → List Quad → Type 0
   Behind raws s quads = ((length quads < 7) × (behind raws s quads ≡ Further raws s quads)) ⊎ ((raw : Raw) × (behind raws s quads ≡ Body (raws ++ raw ∷ []) false))
 

@@ -147,7 +147,7 @@ module _ (system : System) where
       let at : 8 + 4 * j - 1 ≡ suc (suc (suc (suc (suc (suc (suc (4 * j))))))) = omega arith in
       rw (at, fields_from c 48 j (suc m) 13 is) refl
 
-  -- so many names from number j on are taken
+  -- m names from number j on are taken
   names_taken : (c j m : ℕ) (names : List (List ℕ)) → j + m ≤ 13 → AreApart c (48 + j) names → (all : List (List ℕ)) × (names_from Rinex3 (fresh_line c) (8 + 4 * j) m names ≡ Ok all)
   unfolding names_from
   names_taken c j zero names few are = (names, refl)

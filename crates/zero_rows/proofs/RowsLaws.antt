@@ -18,7 +18,7 @@ use Rattle.zero_rows.specs.Rows.{Rows, rows, AreDiffLines, AreRows, IsNumberLine
 use Rattle.zero_rows.specs.RowsRules.{Expected, Head, Claim, Diff, claimed, with_diff, with_some, admit, finish, within, number_behind, rows_rules, rows_of}
 use Rattle.zero_rows.proofs.RowsSteps.{admits_diff, finish_some}
 
--- a line with the word is the word and what stands behind it
+-- a line with the word is the word and what stands after it
 word_front : (word line text : List ℕ) → bytes_eq (take (length word) line) word ≡ true → text ≡ drop (length word) line → line ≡ word ++ text
 word_front word line text same is =
     let front = (bytes_eq-Decides (take (length word) line) word).0 same in
@@ -189,7 +189,7 @@ file_of_rules lines file = (rows file.0 file.1, rows_of-form lines file.0 file.1
 pub rules_of_file : (lines : List (List ℕ)) → IsFileOf rows_rules lines → IsZeroFile lines
 rules_of_file lines found = (found.0.claim, found.0.diffs, form-rows_of lines found.0 found.1)
 
--- behind whatever was read stands a rest that makes a file of it
+-- after whatever was read stands a rest that makes a file of it
 completed : (s : Expected) → Completes rows_rules s
 unfolding whole_of
 completed Head = with_line rows_rules Head Claim (codes "zero 1") refl (lit≤ tt) refl (completed_claim)
