@@ -1,11 +1,11 @@
 -- Names of types that aren't listed yet: among bytes there is always a first one with which no name of a short list begins.
-use Rattle.std.proofs.Common.{◌≡◌, ◌≢◌, ◌<◌, ◌≤◌, ◌+◌, ◌-◌, ◌⊎◌, inl, inr, ◌==◌, ◌&&◌, ◌||◌, ℕ, zero, suc, Bool, true, false, List, [], ◌∷◌, ◌++◌, length, All, nat_le, min, Result, Ok, Err, Option, Some, None, refl, sym, ◌∙◌, subst, arith, length-append, if◌then◌else◌}
+use Rattle.std.proofs.Common.{◌≡◌, ◌≢◌, ◌<◌, ◌≤◌, ◌+◌, ◌-◌, ◌⊎◌, inl, inr, ◌==◌, ◌&&◌, ◌||◌, ℕ, zero, suc, Bool, true, false, List, [], ◌∷◌, ◌++◌, length, All, nat_le, min, Result, Ok, Err, Option, Some, None, refl, subst, arith, length-append, if◌then◌else◌}
 use Rattle.std.proofs.lemmas.Bool.Decides.{nat_tests}
 use Rattle.std.specs.Str.{bytes_eq}
 use Rattle.std.proofs.lemmas.List.Elements.{All-nil, All-cons, All-head, All-tail}
 use Rattle.rinex_head.specs.declared.place.Flaw.{Flaw}
 use Rattle.rinex_head.specs.declared.place.What.TheVariants.{Types}
-use Rattle.rinex_head.specs.Places.{and_then, flawed}
+use Rattle.rinex_head.specs.Places.{flawed}
 use Rattle.rinex_head.specs.Fields.{whole_of}
 use Rattle.rinex_head.proofs.TakenLines.{and_then_took, then_took}
 use Rattle.decimal_text.specs.Fixed.{are_blank}

@@ -1,8 +1,7 @@
 -- A file whose text is known is read as one thing.
-use Rattle.std.proofs.Common.{◌≡◌, ℕ, List, Option, Some, None, Ok, IfSome, sym, ◌∙◌, subst}
+use Rattle.std.proofs.Common.{◌≡◌, ℕ, List, Option, Some, IfSome, sym, ◌∙◌, subst}
 use Rattle.line_source.specs.Lines.{lines_of}
 use Rattle.obs_store.specs.declared.file.ObsFile.{ObsFile}
-use Rattle.eph_store.specs.declared.record.Raw.{Raw}
 use Rattle.eph_store.specs.File.{Records}
 use Rattle.rinex_head.specs.declared.system.System.{System}
 use Rattle.obs_source.specs.Formats.{IsObservation}

@@ -1,4 +1,4 @@
-use Rattle.std.proofs.Common.{◌≡◌, Ok, sym, ◌∙◌, ap}
+use Rattle.std.proofs.Common.{◌≡◌, sym, ◌∙◌, ap}
 use Rattle.zero_rows.specs.Rows.{Rows, rows}
 use Rattle.zero_rows.proofs.RowsLaws.{rows_of-form}
 use Rattle.zero_rows.proofs.laws.one_rows_law.Goals as goal
