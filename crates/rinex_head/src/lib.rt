@@ -19,7 +19,8 @@
 //! (specs/FirstFailing.antt), is `first_failing` of proofs/Stops.antt: it asks for a rest of a text, in bytes,
 //! after every state that can be reached (`CanEnd`; `with_line`, one line more), and for a law between the form and the
 //! rules. Lines of bytes are the lines of a text (`text_lines_law`). The column and the reason of a refusal are those of
-//! the check of its own line, where the lines before are admitted in turn (`own_flaw_law`).
+//! the check of its own line, where the lines before are admitted in turn (specs/OwnFlaws.antt, `own_flaw` of
+//! proofs/OwnFlawLaws.antt): each form has a law that says so.
 //!
 //! `head_line` gives content and label of a header line and `version_of` the version, kind and system of a first
 //! line, both exactly, with columns past the end of a line blank; `version_of` refuses exactly the lines that lack
@@ -43,7 +44,7 @@ pub use fields::{
     whole_number, wide_number,
 };
 pub use head::{FIRST_LABEL, HeadLine, Version, head_line, version_of};
-pub use laws::{own_flaw_law, text_lines_law};
+pub use laws::text_lines_law;
 pub use place::{At, Flaw, TextFault, What};
 pub use system::System;
 pub use walk::{line_or_end, next_line};

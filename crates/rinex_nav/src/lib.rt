@@ -16,6 +16,6 @@ mod reader;
 mod record_lines;
 
 pub use gps::read_nav;
-pub use laws::one_nav_law;
+pub use laws::{nav_flaw_law, one_nav_law};
 pub use reader::read_records_of;
 pub use rinex_head::TextFault as NavFault;

@@ -14,5 +14,5 @@ mod laws;
 mod rows;
 
 pub use best::{Verdict, decide};
-pub use laws::one_rows_law;
+pub use laws::{one_rows_law, rows_flaw_law};
 pub use rows::{MAX_DIFFS, ZeroRows, read_rows};
