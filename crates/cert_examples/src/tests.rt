@@ -19,7 +19,7 @@ fn push_lines(text: &mut String, lines: &[&str]) -> Result<(), AllocError> {
     Ok(())
 }
 
-// The text of these lines behind a ratio of 2 and a budget.
+// The text of these lines after a ratio of 2 and a budget.
 fn text_of(
     alloc: Global,
     budget: &str,

@@ -153,7 +153,7 @@ values_at range [] (z ∷ zs) have inside = absurd have
 values_at range (n ∷ ns) [] have inside = absurd have
 values_at range (n ∷ ns) (z ∷ zs) have inside = rw (range_at range n z have.0 inside.0, values_at range ns zs have.1 inside.1) refl
 
--- the numbers of a list and those behind it
+-- the numbers of a list and those after it
 pub split_values : (ns : List Number) (xs ys : List ℤ) → HaveValues ns (xs ++ ys) → HaveValues (take (length xs) ns) xs × HaveValues (drop (length xs) ns) ys
 split_values ns [] ys have = (tt, have)
 split_values [] (x ∷ xs) ys have = absurd have
@@ -219,7 +219,7 @@ arc_at_spelled arcs number least r n is of_pair from = by_get (slice_get arcs r.
         let to_last : nat_le number a.last ≡ true = grind (arith, nat_tests, of_pair.to_last a e) in
         rw (found, e, from_first, to_last) refl
 
--- so many numbers stand in a row's line
+-- how many numbers stand in a row's line
 pub row_count : (ss : List ℕ) (r : Row) → IsWholeRow r → length (row_numbers ss r) ≡ behind_y ss + 7
 row_count ss r whole =
     let y = select ss r.y in

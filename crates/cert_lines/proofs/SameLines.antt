@@ -38,7 +38,7 @@ split_same (x ∷ xs) ys (z ∷ zs) ws l e =
     let rest = split_same xs ys zs ws (omega (arith, l)) parts.1 in
     ((λ i. parts.0 i ∷ rest.0 i), rest.1)
 
--- ---- numbers behind a word
+-- ---- numbers after a word
 
 pub numbers_same : (word : List ℕ) (n : ℕ) (xs ys : List ℤ) → length xs ≡ n → length ys ≡ n → AreSmall xs → AreSmall ys → word ++ behind_blanks xs ≡ word ++ behind_blanks ys → xs ≡ ys
 numbers_same word n xs ys lx ly sx sy e =

@@ -137,7 +137,7 @@ row_value ss arcs number least line ns s yn un rn x v arc y ry u ru read same ax
     ap (λ (l : List Number). all_within RADII (take 3 (drop (behind_y ss + 4) l))) (sym same) ∙ ap (λ (l : List Number). all_within RADII l) (sym ar) ∙ sym pr in
     rw (sym read, arc_is, y_is, ry_is, u_is, ru_is) refl
 
--- ---- letters behind a word
+-- ---- letters after a word
 
 pub one_spelled : (word line letters : List ℕ) → bytes_eq (take (length word) line) word ≡ true → letters ≡ drop (length word) line → length letters ≡ 2 → get_or letters 0 0 ≡ 32
     → line ≡ word ++ (32 ∷ get_or letters 1 0 ∷ [])

@@ -45,7 +45,7 @@ values_read line ns s w x y z h p1 p2 top read many same aw vw sw ax vx sx ay vy
 pub word126 : (x : ℤ) → IsBelow (2 ^ 126) x → to_z w128 (of_z w128 x) ≡ x
 word126 x h = omega (arith, ints)
 
--- what stands behind these words is the rest of the line
+-- what stands after these words is the rest of the line
 pub name_read : (words line name : List ℕ) → bytes_eq (take (length words) line) words ≡ true → name ≡ drop (length words) line → line ≡ named_line words name
 name_read words line name test behind =
     let front : take (length words) line ≡ words = (bytes_eq-Decides (take (length words) line) words).0 test in

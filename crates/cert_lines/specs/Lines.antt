@@ -1,4 +1,4 @@
--- How the lines of a certificate are spelled: a word, and numbers as `itoa` writes them, each behind one blank.
+-- How the lines of a certificate are spelled: a word, and numbers as `itoa` writes them, each after one blank.
 use Rattle.std.specs.Prelude.{ℕ, ℤ, pos, ◌==◌, Bool, if◌then◌else◌, List, [], ◌∷◌, ◌++◌, length, codes}
 use Rattle.obs_rows.specs.declared.arcs.Arc.{Arc}
 use Rattle.obs_rows.specs.declared.pair_rows.PairRows.{PairRows}
@@ -21,7 +21,7 @@ vector_line word zs = word ++ behind_blanks zs
 abbrev pub system_line : ℕ → List ℕ
 system_line letter = codes "system" ++ 32 ∷ letter ∷ []
 
--- letters, each behind one blank
+-- letters, each after one blank
 abbrev pub letters_text : List ℕ → List ℕ
 letters_text [] = []
 letters_text (x ∷ xs) = 32 ∷ x ∷ letters_text xs
@@ -79,6 +79,6 @@ weak_line words column pivot = words ++ behind_blanks (pos column ∷ pivot ∷ 
 abbrev pub named_line : List ℕ → List ℕ → List ℕ
 named_line words name = words ++ name
 
--- the last line behind two vectors
+-- the last line after two vectors
 abbrev pub last_line : Bool → List ℕ
 last_line fixed = if fixed then codes "fixed" else codes "declined unseparated"

@@ -24,7 +24,7 @@ weak_in words last_column line =
     and_then (natural_within 0 last_column (number_at ns 0)) (λ column.
     and_then (within_range PIVOTS (number_at ns 1)) (λ pivot. Ok (weak_pivot column pivot))))
 
--- what stands behind these words
+-- what stands after these words
 abbrev pub name_in : List ℕ → List ℕ → Result (List ℕ) Flaw
 name_in words line = if begins words line then Ok (drop (length words) line) else flawed 1 BadLine
 

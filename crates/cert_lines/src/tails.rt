@@ -52,7 +52,7 @@ pub fn weak_in(words: &[u8], last_column: u64, line: &[u8]) -> Result<WeakPivot,
     })
 }
 
-/// What stands in a line behind these words, which end with a blank.
+/// What stands in a line after these words, which end with a blank.
 pub fn name_in<'a>(words: &[u8], line: &'a [u8]) -> Result<&'a [u8], Flaw>
     ensures value { MatchResult result
         (λ name. name_in words.now line.now ≡ Ok name.now)
@@ -97,7 +97,7 @@ pub fn values_in(line: &[u8]) -> Result<FormValues, Flaw>
     })
 }
 
-/// Whether the integers are fixed, by the last line behind the vectors.
+/// Whether the integers are fixed, by the last line after the vectors.
 pub fn last_in(line: &[u8]) -> Result<bool, Flaw>
     ensures value { result ≡ last_in line.now }
     ensures spelled { IfOk result (λ fixed. line.now ≡ last_line fixed) }
@@ -160,7 +160,7 @@ fn last_text(fixed: bool) -> &'static [u8]
     }
 }
 
-/// Appends the last line behind two vectors.
+/// Appends the last line after two vectors.
 pub fn push_last_line(out: &mut Vec<u8>, fixed: bool) -> Result<(), AllocError>
     ensures { OnOk result (out.new.items ≡ out.old.items ++ text_of_lines (last_line fixed ∷ [])) }
 {

@@ -28,7 +28,7 @@ pub record CanShow (arcs : List Arc) (ss : List ℕ) (z m : List ℤ) : Type 0 w
   pub z_size : All (IsBelow (2 ^ 30)) z
   pub m_size : All (IsWithin (2 ^ 46)) m
 
--- so many of a row's units of 2^-13 ι are ten times the speed of light in micrometres, since ι is that speed over the unit's
+-- this number of a row's units of 2^-13 ι is ten times the speed of light in micrometres, since ι is that speed over the unit's
 -- frequency
 abbrev pub units : ℕ
 units = (unsigned_abs UNIT_FREQUENCY / 10 ^ 5) * 2 ^ ROW_EXPONENT

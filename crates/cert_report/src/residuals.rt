@@ -21,13 +21,13 @@ use obs_rows::{
 use std::alloc::{AllocError, Global};
 use whole_math::nearest;
 
-/// So many micrometres ..
+/// This number of micrometres ..
 const MICROMETRES: i128 = (10 * LIGHT_SPEED) as i128;
 
-/// .. are so many units of a row.
+/// .. is this number of units of a row.
 const UNITS: i128 = (UNIT_FREQUENCY / 100_000 * (1 << ROW_EXPONENT)) as i128;
 
-// A length in the unit of the rows, so many times, over that count, in micrometres.
+// A length in the unit of the rows, times a number, over a count, in micrometres.
 fn micrometres(times: i128, count: usize) -> i128
     requires times { unsigned_abs times ≤ 2 ^ 62 }
     requires some { 1 ≤ count }
@@ -103,7 +103,7 @@ fn residual_of(
     micrometres(apart(rows.len(), own, all), rows.len())
 }
 
-// Each number behind one blank.
+// Each number after one blank.
 fn push_each(out: &mut Vec<u8>, numbers: &[i128]) -> Result<(), AllocError>
     ensures { OnOk result (out.new.items ≡ out.old.items ++ behind_blanks numbers.now) }
 {

@@ -1,4 +1,4 @@
--- Lines behind lines.
+-- Lines after lines.
 use Rattle.std.proofs.Common.{◌≡◌, ◌+◌, ◌<◌, ℕ, List, [], ◌∷◌, ◌++◌, length, drop, get_or, Result, Ok, Err, OnOk, refl, sym, ap, ◌∙◌, append_assoc}
 use Rattle.std.proofs.lemmas.List.{drop_more}
 use Rattle.obs_rows.specs.declared.pair_rows.PairRows.{PairRows}
@@ -10,7 +10,7 @@ pub text_append : (xs ys : List (List ℕ)) → text_of_lines (xs ++ ys) ≡ tex
 text_append [] ys = refl
 text_append (x ∷ xs) ys = ap (λ (l : List ℕ). x ++ 10 ∷ l) (text_append xs ys) ∙ sym (append_assoc x (10 ∷ text_of_lines xs) (text_of_lines ys))
 
--- lines that were written behind others
+-- lines that were written after others
 pub then_lines : (o a b : List ℕ) (xs ys : List (List ℕ)) → a ≡ o ++ text_of_lines xs → b ≡ a ++ text_of_lines ys → b ≡ o ++ text_of_lines (xs ++ ys)
 then_lines o a b xs ys first second =
     second ∙ ap (λ (l : List ℕ). l ++ text_of_lines ys) first ∙ append_assoc o (text_of_lines xs) (text_of_lines ys) ∙ ap (λ (l : List ℕ). o ++ l) (sym (text_append xs ys))
@@ -27,7 +27,7 @@ block_pushed a b whole block rest pushed so_far =
     ap (λ (l : List ℕ). l ++ text_of_lines rest) pushed ∙ append_assoc a (text_of_lines block) (text_of_lines rest)
     ∙ ap (λ (l : List ℕ). a ++ l) (sym (text_append block rest)) ∙ so_far
 
--- a pair and those behind it
+-- a pair and those after it
 pub pair_pushed : (ss : List ℕ) (a b whole : List ℕ) (pairs : List PairRows) (i : ℕ) (p : PairRows) → i < length pairs → p ≡ get_or pairs i p → b ≡ a ++ text_of_lines (pair_lines ss p)
     → a ++ text_of_lines (all_pair_lines ss (drop i pairs)) ≡ whole → b ++ text_of_lines (all_pair_lines ss (drop (i + 1) pairs)) ≡ whole
 pair_pushed ss a b whole pairs i p inside is pushed so_far =

@@ -86,7 +86,7 @@ form_length Two = lit≤ tt
 
 -- ---- the whole
 
--- the lines of a certificate, one behind the other
+-- the lines of a certificate, one after the other
 pub regrouped : (version : Version) (c : Cert) → lines_of_cert version c ≡ form_line version ∷ count_line (codes "ratio") c.ratio ∷ count_line (codes "budget") c.budget
     ∷ (system_lines version c.session.system ++ vector_line (codes "base") c.session.base ∷ vector_line
     (codes "point") c.session.point ∷ signals_line version c.session.signals.l1 c.session.signals.l2 c.session.signals.l5

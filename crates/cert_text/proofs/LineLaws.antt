@@ -67,7 +67,7 @@ rows_taken f arcs pairs number = record { takes = λ left least some. row_taken 
 pub pair_count_taken : (f : Frame) (arcs : List Arc) → TakesLine cert_rules (PairCount f arcs) (count_in (codes "pairs") 1 3600) (λ n. before_pairs f arcs n 0)
 pair_count_taken f arcs = record { admits = λ line. refl; ends = refl }
 
--- ---- where a line of a tail behind its first is expected
+-- ---- where a line of a tail after its first is expected
 
 pub second_taken : (n : ℕ) → TakesLine cert_rules (Second n) (vector_in (codes "z2") n ENTRIES) (λ z. Move)
 second_taken n = record { admits = λ line. refl; ends = refl }

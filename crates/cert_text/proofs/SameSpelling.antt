@@ -111,7 +111,7 @@ tails_same ss arcs budget t u (single line one read) (single line' one' read') e
 
 -- ---- certificates
 
--- the lines of the system and those behind them
+-- the lines of the system and those after them
 systems_same : (version : Version) (s t : ℕ) (xs ys : List (List ℕ)) → (version ≡ One → s ≡ t) → system_lines version s ++ xs ≡ system_lines version t ++ ys → (s ≡ t) × (xs ≡ ys)
 systems_same One s t xs ys same e = (same refl, e)
 systems_same Two s t xs ys same e =

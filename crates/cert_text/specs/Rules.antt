@@ -1,4 +1,4 @@
--- What each line of a certificate must be in its place, and what is expected behind it.
+-- What each line of a certificate must be in its place, and what is expected after it.
 use Rattle.std.specs.Prelude.{ℕ, zero, suc, ◌+◌, ◌-◌, if◌then◌else◌, List, [], ◌∷◌, ◌++◌, codes, Result, Ok}
 use Rattle.obs_rows.specs.declared.arcs.Arc.{Arc}
 use Rattle.obs_rows.specs.Arcs.{free_count}
@@ -18,7 +18,7 @@ use Rattle.cert_lines.specs.TailForms.{begins, values_in, last_in}
 use Rattle.grammar_lines.specs.LineParts.{word_in}
 use Rattle.cert_text.specs.TailForms.{declined_in}
 
--- what the head says of the lines behind it: the form of the text, the budget, and the signals that count
+-- what the head says of the lines after it: the form of the text, the budget, and the signals that count
 pub record Frame : Type 0 where
   pub version : Version
   pub budget : ℕ
@@ -27,8 +27,8 @@ pub record Frame : Type 0 where
 abbrev pub frame : Version → ℕ → List ℕ → Frame
 frame version budget ss = record { version = version; budget = budget; ss = ss }
 
--- What may be expected: the lines of the head, with the budget from its line on; so many arcs behind these; the number
--- of pairs; so many pairs, with numbers from a least one on; so many rows of a pair of a number before so many other
+-- What may be expected: the lines of the head, with the budget from its line on; further arcs after these; the number
+-- of pairs; pairs, with numbers from a least one on; rows of a pair of a number before other
 -- pairs, with arcs from a least one on; the lines of the tail; the end.
 pub data Expected : Type 0 where
   Form : Version → Expected
@@ -55,17 +55,17 @@ abbrev pub behind_budget : Version → ℕ → Expected
 behind_budget One budget = Base One budget
 behind_budget Two budget = SystemLine budget
 
--- so many arcs are to come
+-- by how many arcs are to come
 abbrev pub before_arcs : Frame → ℕ → List Arc → Expected
 before_arcs f zero arcs = PairCount f arcs
 before_arcs f (suc left) arcs = NextArc f (suc left) arcs
 
--- so many pairs are to come
+-- by how many pairs are to come
 abbrev pub before_pairs : Frame → List Arc → ℕ → ℕ → Expected
 before_pairs f arcs zero least = Tail f arcs
 before_pairs f arcs (suc left) least = NextPair f arcs (suc left) least
 
--- so many rows of a pair are to come
+-- by how many rows of a pair are to come
 abbrev pub before_rows : Frame → List Arc → ℕ → ℕ → ℕ → ℕ → Expected
 before_rows f arcs pairs number zero least = before_pairs f arcs pairs (number + 1)
 before_rows f arcs pairs number (suc left) least = NextRow f arcs pairs number (suc left) least
@@ -96,7 +96,7 @@ admit Values line = and_then (values_in line) (λ v. Ok Last)
 admit Last line = and_then (last_in line) (λ f. Ok End)
 admit End line = flawed 1 BadLine
 
--- the text may end behind its tail alone
+-- the text may end after its tail alone
 abbrev pub finish : Expected → Result (Unit {0}) Flaw
 finish End = Ok tt
 finish other = flawed 1 BadLine

@@ -23,7 +23,7 @@ pub use cert_data::{
 };
 pub use cert_lines::Version;
 pub use cert_spelling::write_cert;
-pub use laws::one_spelling_law;
+pub use laws::{cert_flaw_law, one_spelling_law};
 pub use reader::{read_as, read_cert};
 /// What a reader fails with, by a name that serves tests alone.
 pub use rinex_head::TextFault as CertFault;

@@ -18,7 +18,7 @@ use obs_rows::{Arc, PairRows, Session, SessionBuilder, Signals};
 use rinex_head::TextFault;
 use std::alloc::Global;
 
-// The next pair, whose number is at least `least`, where so many pairs are to come with it.
+// The next pair, whose number is at least `least`, by how many pairs are to come with it.
 fn next_pair(
     alloc: Global,
     lines: &mut TextLines<'_>,
@@ -43,7 +43,7 @@ fn next_pair(
     read_rows::<CertText>(alloc, lines, signals, arcs, head)
 }
 
-// So many pairs.
+// The pairs, by their number.
 fn read_all_pairs(
     alloc: Global,
     lines: &mut TextLines<'_>,

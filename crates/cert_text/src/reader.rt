@@ -20,7 +20,7 @@ use obs_rows::{SessionBuilder, fine_signals, integer_count};
 use rinex_head::{At, TextFault};
 use std::alloc::Global;
 
-// Nothing stands behind a tail.
+// Nothing stands after a tail.
 fn read_end(lines: &mut TextLines<'_>) -> Result<(), At>
     ensures { MatchResult result
         (λ u. (rest_gives cert_rules lines.old End ≡ Ok tt) × (lines.old.left ≡ []))

@@ -21,7 +21,7 @@ use form_tables::MOST_INTEGERS;
 use grammar_lines::{integers_in, next_integers, next_last, next_triple, next_values};
 use rinex_head::At;
 
-// A tail with vectors, behind its first line.
+// A tail with vectors, after its first line.
 fn read_vectors(
     lines: &mut TextLines<'_>,
     count: usize,
@@ -50,7 +50,7 @@ fn read_vectors(
     Ok(Tail::of_vectors(fixed, values.h, moved, best, values.top))
 }
 
-/// Reads the tail of a certificate of so many integers.
+/// Reads the tail of a certificate, by the number of its integers.
 pub(crate) fn read_tail(
     lines: &mut TextLines<'_>,
     version: Version,

@@ -16,14 +16,14 @@ first_digit b is =
     let back : 48 + (b - 48) ≡ b = omega (arith, digit.0) in
     decimal_digit (b - 48) (omega (arith, digit.1)) ∙ ap (λ (x : ℕ). x ∷ []) back
 
--- a digit behind a number that isn't 0 is its next
+-- a digit after a number that isn't 0 is its next
 pub next_digit : (n b : ℕ) (after : List ℕ) → 0 < n → n < 2 ^ 63 → is_digit b ≡ true → decimal (10 * n + (b - 48)) ++ after ≡ decimal n ++ (b ∷ after)
 next_digit n b after some small is =
     let are : are_digits (b ∷ []) ≡ true = rw is refl in
     let digit = digit_from b is in
     ap (λ (ds : List ℕ). ds ++ after) (decimal_after n (b ∷ []) some are (omega (arith, digit.1))) ∙ append_assoc (decimal n) (b ∷ []) after
 
--- digits behind a sign
+-- digits after a sign
 pub minus_digits : (n : ℕ) (digits left : List ℕ) → 0 < n → digits ≡ decimal n ++ left → 45 ∷ digits ≡ signed_decimal (neg_ℤ (pos n)) ++ left
 minus_digits zero digits left some is = absurd (omega (arith, some))
 minus_digits (suc n) digits left some is = ap (λ (ds : List ℕ). 45 ∷ ds) is
@@ -73,7 +73,7 @@ four_rest (a ∷ b ∷ c ∷ d ∷ rest) some =
     let whole : take (length (a ∷ b ∷ c ∷ d ∷ rest) - 4) rest ≡ rest = take_all (length (a ∷ b ∷ c ∷ d ∷ rest) - 4) rest (omega arith) in
     ap (λ (l : List ℕ). a ∷ b ∷ c ∷ d ∷ l) (sym whole)
 
--- four digits behind a number that isn't 0 are its next
+-- four digits after a number that isn't 0 are its next
 pub next_four : (n m a b c d : ℕ) (after : List ℕ) → 0 < n → n ≤ 900_000_000_000_000 → is_digit a ≡ true → is_digit b ≡ true → is_digit c ≡ true → is_digit d ≡ true
     → m ≡ 1000 * (a - 48) + 100 * (b - 48) + 10 * (c - 48) + (d - 48) → decimal (10000 * n + m) ++ after ≡ decimal n ++ (a ∷ (b ∷ (c ∷ (d ∷ after))))
 next_four n m a b c d after some small ia ib ic id is =

@@ -7,14 +7,14 @@ ghost use Rattle.cert_words.specs.Spelling.{behind_blanks};
 
 use decimal_text::is_digit_byte;
 
-// Behind a number up to this one there is room for one more digit in 63 bits.
+// After a number up to this one there is room for one more digit in 63 bits.
 const LAST_SHORT: u64 = 900_000_000_000_000_000;
 
-// Behind one up to this there is room for four.
+// After one up to this there is room for four.
 const LAST_BEFORE_FOUR: u64 = 900_000_000_000_000;
 
-/// The numbers at the head of a text, so many and each behind one blank, with 0 behind them in the array; and the text
-/// behind them.
+/// The numbers at the head of a text, by their count and each after one blank, with 0 after them in the array; and the text
+/// after them.
 pub fn leading_numbers<const N: usize>(text: &[u8], count: usize) -> Option<([i64; N], &[u8])>
     requires { count ≤ N }
     ensures count { IfSome result (λ r. length r.0 ≡ N) }
@@ -30,7 +30,7 @@ pub fn leading_numbers<const N: usize>(text: &[u8], count: usize) -> Option<([i6
     Some((values, left))
 }
 
-/// The number behind a blank at the head of a text, and the text behind it.
+/// The number after a blank at the head of a text, and the text after it.
 pub fn leading_number(text: &[u8]) -> Option<(i64, &[u8])>
     ensures small { IfSome result (λ r. size_of r.0 < 2 ^ 63) }
     ensures spelled { IfSome result (λ r. text.now ≡ 32 ∷ (signed_decimal r.0 ++ r.1.now)) }
@@ -41,7 +41,7 @@ pub fn leading_number(text: &[u8]) -> Option<(i64, &[u8])>
     leading_whole(word)
 }
 
-// The number at the head of a text, with its sign, and the text behind it.
+// The number at the head of a text, with its sign, and the text after it.
 pub(crate) fn leading_whole(text: &[u8]) -> Option<(i64, &[u8])>
     ensures spelled { IfSome result (λ r. text.now ≡ signed_decimal r.0 ++ r.1.now) }
     ensures small { IfSome result (λ r. size_of r.0 < 2 ^ 63) }
@@ -78,7 +78,7 @@ fn leading_natural(text: &[u8]) -> Option<(u64, &[u8])>
     further_digits((*b - b'0') as u64, rest)
 }
 
-// The number that begins with this digit and goes on at the head of a text, and the text behind it.
+// The number that begins with this digit and goes on at the head of a text, and the text after it.
 fn further_digits(first: u64, text: &[u8]) -> Option<(u64, &[u8])>
     requires from { 0 < first }
     requires to { first < 10 }

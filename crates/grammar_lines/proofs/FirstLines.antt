@@ -10,7 +10,7 @@ at_number : {A : Type 0} (n : ℕ) (r : Result A Flaw) (at : At) → at_line n r
 at_number n (Ok x) at e = absurd cc
 at_number n (Err flaw) at e = let same : place n flaw.column flaw.what ≡ at = cc in ap (λ (a : At). a.line) (sym same)
 
--- the place is behind the lines that were read before
+-- the place is after the lines that were read before
 behind_read : {S F : Type 0} (rules : Rules S F) (lines : List (List ℕ)) (n : ℕ) (s : S) (at : At) → walk rules lines n s ≡ Err at → n < at.line
 unfolding walk
 behind_read rules [] n s at e = let number = at_number (n + 1) (rules.finish s) at e in omega (arith, number)
@@ -21,7 +21,7 @@ behind_read {S} {F} rules (line ∷ lines) n s at e = by_first (λ next. behind_
     by_first later (Ok next) gives = let behind = later next gives in omega (arith, behind)
     by_first later (Err flaw) gives = let same : place (n + 1) flaw.column flaw.what ≡ at = cc in let number = ap (λ (a : At). a.line) same in omega (arith, number)
 
--- so many lines are the same, up to the place
+-- the lines are the same, up to the place
 agree : {S F : Type 0} (rules : Rules S F) (lines others : List (List ℕ)) (n m : ℕ) (s : S) (at : At) (whole : F) → at.line ≡ n + m → walk rules lines n s ≡ Err at → walk rules others n s ≡ Ok whole
     → take m others ≡ take m lines → ⊥
 agree rules lines others n zero s at whole number refuses takes same = let behind = behind_read rules lines n s at refuses in absurd (omega (arith, behind, number))

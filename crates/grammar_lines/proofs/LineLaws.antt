@@ -50,7 +50,7 @@ agrees false u is fails = absurd (cc (is, fails))
 
 -- ---- parts of a text
 
--- a part behind another
+-- a part after another
 pub reads_behind : {S F X : Type 0} (rules : Rules S F) (s middle : S) (next : X → S) (old between new : Reading) (r : Result X TextFault)
     → rest_gives rules old s ≡ rest_gives rules between middle → Reads rules between new middle next r → Reads rules old new s next r
 reads_behind rules s middle next old between new (Ok x) first second = first ∙ second

@@ -20,7 +20,7 @@ found_passes {X} test (y ∷ ys) x e = by_test (test y) refl e (found_passes tes
 named : (name : List ℕ) (place : Place) → place_of_name name ≡ Some place → name_of_place place ≡ name
 named name place e = (bytes_eq-Decides (name_of_place place) name).0 (found_passes (λ (p : Place). bytes_eq (name_of_place p) name) places place e)
 
--- a place by its name behind the words of its line
+-- a place by its name after the words of its line
 pub place_read : (words line name : List ℕ) (place : Place) → line ≡ named_line words name → Some place ≡ place_of_name name → line ≡ named_line words (name_of_place place)
 place_read words line name place behind found = behind ∙ ap (named_line words) (sym (named name place (sym found)))
 

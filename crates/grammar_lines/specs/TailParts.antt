@@ -12,6 +12,6 @@ abbrev pub at_place : Option Place → Result Place Flaw
 at_place None = flawed 1 BadLine
 at_place (Some place) = Ok place
 
--- the place whose name stands behind these words
+-- the place whose name stands after these words
 abbrev pub place_in : List ℕ → List ℕ → Result Place Flaw
 place_in words line = and_then (name_in words line) (λ name. at_place (place_of_name name))

@@ -21,7 +21,7 @@ use obs_rows::{Arc, ArcList, Signals};
 use rinex_head::{At, TextFault};
 use std::alloc::Global;
 
-// The next arc behind so many free ones, where so many arcs are to come with it.
+// The next arc, by the numbers of free ones before it and of arcs that are to come with it.
 fn next_arc<G: Grammar>(
     lines: &mut TextLines<'_>,
     version: Version,
@@ -52,7 +52,7 @@ fn free_with(free: usize, datum: bool) -> usize
     if datum { free } else { free + 1 }
 }
 
-// So many arcs, each on a line of its own.
+// A number of arcs, each on a line of its own.
 fn read_arc_lines<G: Grammar>(
     alloc: Global,
     lines: &mut TextLines<'_>,

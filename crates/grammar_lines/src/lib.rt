@@ -3,7 +3,7 @@
 //!
 //! A reader of a line (`next_count`, `next_triple` and others) takes the next line where a line of its form is expected
 //! (`TakesLine`), or the text is refused there (`reads`); and the line is the spelling of what it answers (`took`).
-//! `read_arcs` and `read_rows` say the same of arcs and of a pair's rows, where so many are to come, and `read_end` of the
+//! `read_arcs` and `read_rows` say the same of arcs and of a pair's rows, of which a number is to come, and `read_end` of the
 //! end. `place_in` and `integers_in` read a line that was taken already.
 #![tactic(auto)]
 

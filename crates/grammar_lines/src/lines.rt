@@ -132,7 +132,7 @@ pub fn next_values<G: Grammar>(lines: &mut TextLines<'_>) -> Result<FormValues, 
     }
 }
 
-/// The last line behind two vectors: whether the integers are fixed.
+/// The last line after two vectors: whether the integers are fixed.
 pub fn next_last<G: Grammar>(lines: &mut TextLines<'_>) -> Result<bool, At>
     ensures reads { (s : G.State) (next : Bool → G.State) → TakesLine G.rules s last_in next → ReadsFree G.rules lines.old lines.new s next result }
     ensures took { IfOk result (λ fixed. lines.old.left ≡ last_line fixed ∷ lines.new.left) }

@@ -17,7 +17,7 @@ use cert_words::{BAD_LINE, TextLines, line_or_end, next_line};
 use form_tables::MOST_INTEGERS;
 use rinex_head::{At, Flaw};
 
-/// The integers of a line of a word, and 0 behind them.
+/// The integers of a line of a word, and 0 after them.
 pub fn next_integers<G: Grammar>(
     lines: &mut TextLines<'_>,
     word: &[u8],
@@ -33,7 +33,7 @@ pub fn next_integers<G: Grammar>(
     integers_in(word, count, line.bytes, line.number)
 }
 
-/// The integers of this line, and 0 behind them.
+/// The integers of this line, and 0 after them.
 pub fn integers_in(
     word: &[u8],
     count: usize,
@@ -55,7 +55,7 @@ pub fn integers_in(
     }
 }
 
-/// The place whose name stands in a line behind these words, which end with a blank.
+/// The place whose name stands in a line after these words, which end with a blank.
 pub fn place_in(words: &[u8], line: &[u8]) -> Result<Place, Flaw>
     ensures value { result ≡ place_in words.now line.now }
     ensures spelled { IfOk result (λ place. line.now ≡ named_line words.now (name_of_place place)) }

@@ -22,7 +22,7 @@ blank_more (c ∷ bs) b blank is = both (c == 32) refl (λ rest. blank_more bs b
 pub tail_is : (first : ℕ) (bs : List ℕ) → take (length bs - first) (drop first bs) ≡ drop first bs
 tail_is first bs = ap (λ n. take n (drop first bs)) (sym (length-drop first bs)) ∙ take-length (drop first bs)
 
--- the first byte and those behind it
+-- the first byte and those after it
 first_rest : (bs : List ℕ) → 1 ≤ length bs → bs ≡ get_or bs 0 0 ∷ take (length bs - 1) (drop 1 bs)
 first_rest bs some = drop_more bs 0 0 some ∙ ap (λ l. get_or bs 0 0 ∷ l) (sym (tail_is 1 bs))
 

@@ -1,4 +1,4 @@
--- The lines of a header behind its first one: what they give by rules is what the form says of them.
+-- The lines of a header after its first one: what they give by rules is what the form says of them.
 use Rattle.std.proofs.Common.{◌≡◌, ◌≤◌, ◌<◌, ◌+◌, ℕ, ℤ, zero, suc, List, [], ◌∷◌, ◌++◌, length, Result, Ok, Err, Option, Some, None, refl, sym, ap, ◌∙◌, subst, arith, append_assoc, add-zero}
 use Rattle.rinex_head.specs.declared.place.What.TheVariants.{NoEnd}
 use Rattle.rinex_head.specs.declared.place.Flaw.{Flaw}
@@ -12,8 +12,8 @@ use Rattle.obs_fields.specs.declared.layout.Layout.{Layout}
 use Rattle.obs_fields.specs.declared.types.TypeList.{TypeList}
 use Rattle.obs_fields.specs.HeadParts.{HeadPart, IsPlain, AreHeadParts, head_lines, position_by, delta_by, last_position, last_delta, AreFurther, IsTypeList}
 
--- Rules that read a header. Behind a position, a delta and perhaps a list of types, `head` is expected at a line of the header, and `due`
--- where so many types of the list that has begun are due; behind the end it is `body`. What a line says gives `next`.
+-- Rules that read a header. After a position, a delta and perhaps a list of types, `head` is expected at a line of the header, and `due`
+-- where a number of types of the list that has begun are due; after the end it is `body`. What a line says gives `next`.
 pub record HeadRules (S F : Type 0) : Type 0 where
   pub rules : Rules S F
   pub layout : Layout
@@ -36,7 +36,7 @@ pub record HeadRules (S F : Type 0) : Type 0 where
   pub no_end : (p : Option (List ℤ)) (d : List ℤ) (t : Option (List (List ℕ))) → rules.finish (head p d t) ≡ flawed 1 NoEnd
   pub no_types : (p : Option (List ℤ)) (d : List ℤ) (names : List (List ℕ)) (left : ℕ) → rules.finish (due p d names (suc left)) ≡ flawed 1 NoEnd
 
--- the lines of a header and those behind it, in groups
+-- the lines of a header and those after it, in groups
 pub regroup : (before : List (List ℕ)) (list : List ℕ) (further after : List (List ℕ)) (last : List ℕ) (more : List (List ℕ))
     → (before ++ (list ∷ (further ++ (after ++ (last ∷ []))))) ++ more ≡ before ++ (list ∷ (further ++ (after ++ (last ∷ more))))
 regroup before list further after last more = simp append_assoc
@@ -79,7 +79,7 @@ module _ {S F : Type 0} (r : HeadRules S F) where
       walk-takes r.rules (r.head p d t) (r.head p₂ d₂ t) part.bytes (head_lines parts ++ more) n are.0 admits
       ∙ plain_taken parts more p₂ d₂ t (n + 1) are.3 ∙ rw behind refl
 
-  -- all lines of a header behind its first one, whatever follows them
+  -- all lines of a header after its first one, whatever follows them
   pub header_given : (before after : List HeadPart) (list last : List ℕ) (further more types : List (List ℕ)) (p : Option (List ℤ)) (d : List ℤ) (n : ℕ)
       → AreHeadParts r.says before → IsTypeList r.layout r.says list further types → AreHeadParts r.says after → length last ≤ 4096 → r.says last ≡ Ok header.End
       → walk r.rules (head_lines before ++ (list ∷ (further ++ (head_lines after ++ (last ∷ more))))) n (r.head p d None)
@@ -132,7 +132,7 @@ module _ {S F : Type 0} (r : HeadRules S F) where
     pub is_list : IsTypeList r.layout r.says list further types
     pub end : TookEnd tail (last_position p before) (last_delta d before) types whole
 
-  -- what lines of a header are: behind the list of types, within it, and before it
+  -- what lines of a header are: after the list of types, within it, and before it
   record TookHead (lines : List (List ℕ)) : Type 0 where
     some : (p : Option (List ℤ)) (d : List ℤ) (types : List (List ℕ)) (n : ℕ) (whole : F) → walk r.rules lines n (r.head p d (Some types)) ≡ Ok whole → TookEnd lines p d types whole
     more : (p : Option (List ℤ)) (d : List ℤ) (names : List (List ℕ)) (left n : ℕ) (whole : F)

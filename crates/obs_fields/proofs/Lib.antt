@@ -2,3 +2,4 @@ pub mod TypeLists
 pub mod Moments
 pub mod AmountLaws
 pub mod HeaderLaws
+pub mod FreshNames

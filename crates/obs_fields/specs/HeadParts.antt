@@ -52,7 +52,7 @@ abbrev pub last_delta : List ℤ → List HeadPart → List ℤ
 last_delta before [] = before
 last_delta before (p ∷ ps) = last_delta (delta_by before p.says) ps
 
--- the further lines of a list of types, behind which all its names are there
+-- the further lines of a list of types, after which all its names are there
 abbrev pub AreFurther : Layout → List (List ℕ) → List (List ℕ) → ℕ → List (List ℕ) → Type 0
 AreFurther layout [] names left all = (left ≡ 0) × (names ≡ all)
 AreFurther layout (bytes ∷ lines) names left all =

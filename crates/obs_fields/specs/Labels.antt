@@ -35,6 +35,6 @@ changes_header label.FirstObs = false
 changes_header label.Comment = false
 changes_header label.Other = false
 
--- a line of an event, behind which the header may change or not
+-- a line of an event, after which the header may change or not
 unfoldable pub event_line_of : Layout → Bool → List ℕ → Result (Unit {0}) Flaw
 event_line_of layout changes bytes = if changes && changes_header (label_in layout bytes) then flawed 61 Changed else Ok tt

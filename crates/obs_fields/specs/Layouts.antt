@@ -18,7 +18,7 @@ abbrev pub names_in_line_of : Layout → ℕ
 names_in_line_of Rinex2 = 9
 names_in_line_of Rinex3 = 13
 
--- a name of two letters has a blank behind it
+-- a name of two letters has a blank after it
 abbrev pub name_in : Layout → List ℕ → ℕ → List ℕ
 name_in Rinex2 line first = columns line first 2 ++ 32 ∷ []
 name_in Rinex3 line first = columns line first 3

@@ -31,7 +31,7 @@ two_digits (Some tens) (Some ones) = 10 * tens + ones
 two_digits (Some tens) None = 0
 two_digits None ones = 0
 
--- the number in the two columns behind the letter's, or 0 where there is none
+-- the number in the two columns after the letter's, or 0 where there is none
 abbrev pub number_at : List ℕ → ℕ → ℕ
 number_at line first = two_digits (digit_of (column line (first + 1))) (digit_of (column line (first + 2)))
 
@@ -77,7 +77,7 @@ abbrev pub with_lock : List ℕ → ℕ → Option ℤ → Result (Option Value)
 with_lock line at None = Ok None
 with_lock line at (Some amount) = and_then (lock_of at (column line at)) (λ lock. Ok (Some (record { amount = amount; lock = lock })))
 
--- the value in 14 columns and the digit behind it, which isn't looked at where the value is missing
+-- the value in 14 columns and the digit after it, which isn't looked at where the value is missing
 unfoldable pub value_in : List ℕ → ℕ → Result (Option Value) Flaw
 value_in line first = and_then (amount_in line first) (λ amount. with_lock line (first + 14) amount)
 

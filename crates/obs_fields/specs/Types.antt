@@ -25,7 +25,7 @@ use Rattle.obs_fields.specs.declared.types.KeptType.{KeptType}
 unfoldable pub is_listed : List (List ℕ) → List ℕ → Bool
 is_listed names name = list_any (λ n. bytes_eq n name) names
 
--- so many further names, from this column on; none twice
+-- a number of further names, from this column on; none twice
 unfoldable pub names_from : Layout → List ℕ → ℕ → ℕ → List (List ℕ) → Result (List (List ℕ)) Flaw
 names_from layout line first zero names = Ok names
 names_from layout line first (suc n) names =

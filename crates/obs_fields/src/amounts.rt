@@ -1,4 +1,4 @@
-//! Amounts in the usual spelling: blanks, `-` or no sign, digits, and a point with three digits behind it. They are read in one pass.
+//! Amounts in the usual spelling: blanks, `-` or no sign, digits, and a point with three digits after it. They are read in one pass.
 ghost use Rattle.std.specs.Prelude.{◌≡◌, ◌<◌, ◌≤◌, ◌^◌, length, IfSome, Ok};
 ghost use Rattle.decimal_text.specs.Fixed.{signed, fixed_of};
 ghost use Rattle.obs_fields.specs.Amounts.{after_sign, StandsBehindBlanks, AreDigitsOf};

@@ -81,7 +81,7 @@ fn is_change(label: Label) -> bool
     matches!(label, Label::Types | Label::Factor)
 }
 
-/// A line of an event, behind which the header may change or not. It is skipped unless it changes what the header says.
+/// A line of an event, after which the header may change or not. It is skipped unless it changes what the header says.
 #[tactic(auto, unfolding(crate::specs::Labels::event_line_of))]
 pub fn event_line(layout: Layout, line: &Line<'_>, changes: bool) -> Result<(), Flaw>
     ensures { result ≡ event_line_of layout changes line.now.bytes.now }

@@ -9,7 +9,7 @@
 //! of `set_values` no clause says which of the values are set. Only `kept_types` takes memory, and its `Err` means that
 //! there was none.
 //!
-//! What the lines of a header give behind its first one (`HeaderLine`, specs/HeadParts.antt) is the same in both formats.
+//! What the lines of a header give after its first one (`HeaderLine`, specs/HeadParts.antt) is the same in both formats.
 //! proofs/HeaderLaws.antt has its laws, for each reader whose rules are `HeadRules`: lines of the form are taken
 //! (`header_given`), and lines that are taken are of the form (`header_took`).
 #![tactic(auto)]

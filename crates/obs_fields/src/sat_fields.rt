@@ -39,7 +39,7 @@ fn digit(b: u8) -> Option<u8>
     None
 }
 
-// The number in the two columns behind this one, or 0 where there is none.
+// The number in the two columns after this one, or 0 where there is none.
 fn number(line: &[u8], first: u32) -> u8
     requires from_one { 1 ≤ first }
     requires near { first ≤ 4900 }
@@ -135,7 +135,7 @@ fn lock_digit(b: u8, at: u32) -> Result<u8, Flaw>
     }
 }
 
-/// The value in the 14 columns from this one on, and the digit behind it.
+/// The value in the 14 columns from this one on, and the digit after it.
 #[tactic(auto, unfolding(crate::specs::SatFields::value_in))]
 pub fn value(line: &[u8], first: u32) -> Result<Option<Value>, Flaw>
     requires from_one { 1 ≤ first }

@@ -103,7 +103,7 @@ fn name_at(layout: Layout, line: &[u8], first: u32) -> [u8; 3]
     }
 }
 
-// So many further names of a line.
+// A number of further names of a line.
 fn add_names(layout: Layout, line: &[u8], count: u16, names: &mut TypeNames) -> Result<(), Flaw>
     requires room { length names.old + count ≤ 200 }
     requires few { count ≤ 13 }

@@ -127,7 +127,7 @@ module _ (t : Bool) (P Q : List (List ℕ) → Type 0) (wide : (lines : List (Li
     rest = first.rest;
     split = first.split;
     numbered = first.numbered;
-    begun = record { more = first.begun.more; file = wide (first.front ++ first.begun.more) first.begun.file };
+    begun = record { more = first.begun.more; are_lines = first.begun.are_lines; file = wide (first.front ++ first.begun.more) first.begun.file };
     stuck = stuck_wide first.front first.rest (ap is_two (sym first.split) ∙ is) first.stuck;
   }
 
@@ -140,10 +140,10 @@ only_2 lines is (file, inl three) = let other = is_3 Gps lines file three in abs
 only_2 lines is (file, inr two) = (file, two)
 
 fails_3 : (system : System) (lines : List (List ℕ)) (at : At) → obs_of system lines ≡ Err at → IsFirstFailing (HasObsFile system) lines at.line
-fails_3 system lines at gives = Stops.first_failing (obs_rules system) (HasObsFile system) (places3.file_of_rules system) (places3.rules_of_file system) (places3.completed system) lines at gives
+fails_3 system lines at gives = Stops.first_failing (obs_rules system) (HasObsFile system) (places3.file_of_rules system) (places3.rules_of_file system) (places3.ends system) lines at gives
 
 fails_2 : (lines : List (List ℕ)) (at : At) → obs2_of lines ≡ Err at → IsFirstFailing HasObs2File lines at.line
-fails_2 lines at gives = Stops.first_failing obs2_rules HasObs2File places2.file_of_rules places2.rules_of_file places2.completed lines at gives
+fails_2 lines at gives = Stops.first_failing obs2_rules HasObs2File places2.file_of_rules places2.rules_of_file places2.ends lines at gives
 
 pub first_failing : (system : System) (lines : List (List ℕ)) (at : At) → any_of system lines ≡ Err at → IsFirstFailing (HasObservation system) lines at.line
 first_failing Gps lines at gives = by_format (is_two lines) refl gives

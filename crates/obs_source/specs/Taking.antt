@@ -17,7 +17,7 @@ use Rattle.obs_source.specs.declared.taker.Source.{Source}
 use Rattle.obs_source.specs.declared.taker.Source.TheVariants as source
 use Rattle.obs_source.specs.Formats.{any_of, IsObservation, HasObservation}
 
--- What is kept is of so many bytes; a line that has begun has no end, and a feed reads GPS.
+-- What is kept is of this number of bytes; a line that has begun has no end, and a feed reads GPS.
 abbrev pub IsKeptOf : Source → ℕ → Type 0
 IsKeptOf (source.Begun line) taken = (length line ≡ taken) × GoesOn line
 IsKeptOf (source.Three feed) taken = (feed.taken ≡ taken) × (feed.system ≡ Gps)

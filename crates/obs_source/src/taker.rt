@@ -85,7 +85,7 @@ fn begin(alloc: Global, line: &[u8], rest: &[u8]) -> Result<Source, AllocError>
     }
 }
 
-// The first line ends in the piece, behind these bytes of it.
+// The first line ends in the piece, after these bytes of it.
 fn end_line(
     alloc: Global,
     line: &mut StartedLine,

@@ -47,7 +47,7 @@ impl Taker for Counted {
     }
 }
 
-// One file of so many bytes, which takes no memory.
+// One file of this length, which takes no memory.
 #[derive(Drop)]
 struct LongFile {
     left: usize,

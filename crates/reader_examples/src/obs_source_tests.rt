@@ -28,7 +28,7 @@ const REST_2: &str = "
  24  1  1  0  0 30.0000000  0  1G05
   22123456.789   116260123.45617";
 
-// What a text gives in pieces of so many bytes.
+// What a text gives in pieces of this length.
 fn taken(
     rt: &impl Abort,
     alloc: Global,
@@ -60,7 +60,7 @@ fn is_read_as(
     };
     assert_eq!(rt; file.epochs.len(), 1);
     let want = format!(in alloc; "{file:?}")?;
-    // 81 bytes end behind the CR of the first line
+    // 81 bytes end after the CR of the first line
     for most in [1, 7, 80, 81, 65_536] {
         let Ok(file) = taken(rt, alloc, text.as_bytes(), most)? else {
             panic!(rt; "not read in pieces");

@@ -7,7 +7,7 @@ use rinex_nav::{NavFault, read_nav};
 use std::alloc::{AllocError, Global};
 use std::test::Fail;
 
-// The last line ends behind the transmission time.
+// The last line ends after the transmission time.
 const LINES: [&str; 10] = [
     "     3.04           N: GNSS NAV DATA    M: MIXED            RINEX VERSION / TYPE",
     "                                                            END OF HEADER       ",
@@ -41,7 +41,7 @@ fn add_line(text: &mut Vec<u8>, line: &str) -> Result<(), AllocError> {
     Ok(())
 }
 
-// So many of the lines, with another one in a place.
+// The first lines, with another one in a place.
 fn text_of(alloc: Global, count: usize, at: usize, other: &str) -> Result<Vec<u8>, AllocError> {
     let mut text = Vec::new(alloc);
     for (k, line) in LINES.iter().enumerate() {

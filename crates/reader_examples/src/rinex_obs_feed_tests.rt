@@ -24,7 +24,7 @@ x                                                           COMMENT
 > 2024 01 01 00 00 30.0000000  1  1
 G08  22123456.789";
 
-// What a text gives in pieces of so many bytes, where so many calls don't fail.
+// What a text gives in pieces of this length, where this number of calls doesn't fail.
 fn fed(
     alloc: Global,
     text: &[u8],
@@ -50,7 +50,7 @@ fn gives_the_same_in_pieces(rt: HostRuntime) -> Result<(), Fail> {
         };
         let want = format!(in alloc; "{whole:?}")?;
         assert_eq!(rt; whole.epochs.len(), 2);
-        // 81 bytes end behind the CR of the first line
+        // 81 bytes end after the CR of the first line
         for most in [1, 7, 81, 65_536] {
             let Ok(Ok(file)) = fed(alloc, text.as_bytes(), most, 10_000)? else {
                 panic!(rt; "not read in pieces");

@@ -288,7 +288,7 @@ fn refuses_headers(rt: HostRuntime) -> Result<(), Fail> {
 const L5_TYPES: &str =
     "G    4 C1C L1C C5Q L5X                                      SYS / # / OBS TYPES\n";
 
-// The code stands in columns 36 to 49, the phase in 52 to 65 with its digit behind it.
+// The code stands in columns 36 to 49, the phase in 52 to 65 with its digit after it.
 const BAD_L5: [(&str, u32); 3] = [
     ("G05                                 123x\n", 36),
     (

@@ -4,7 +4,7 @@ ghost use Rattle.std.specs.Prelude.{None};
 use line_source::{Failed, FileId, Files, Opening, OpeningLog};
 use std::alloc::{AllocError, Global};
 
-/// A file that gives at most so many bytes a call, and whose calls fail from that number of reads on. It serves tests alone.
+/// A file that gives at most this number of bytes a call, and whose calls fail from that number of reads on. It serves tests alone.
 #[derive(Drop)]
 pub struct Slow {
     text: Vec<u8>,

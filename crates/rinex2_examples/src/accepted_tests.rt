@@ -9,7 +9,7 @@ use rinex_head::{At, What};
 use std::process::Abort;
 use std::test::Fail;
 
-// Lines behind so many of the sample's, before those behind so many; then the number of epochs, the tag of the first
+// Lines between the first of the sample's and its last, by the two counts; then the number of epochs, the tag of the first
 // one and how many satellites it has.
 type Row = (usize, &'static [&'static str], usize, usize, u64, usize);
 

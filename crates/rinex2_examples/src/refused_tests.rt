@@ -5,7 +5,7 @@ use crate::sample::{
 use rinex_head::{At, What};
 use std::test::Fail;
 
-// Lines behind so many of the sample's, before those behind so many; then the line, the column and the reason.
+// Lines between the first of the sample's and its last, by the two counts; then the line, the column and the reason.
 type Row = (usize, &'static [&'static str], usize, u32, u32, What);
 
 const HEADERS: [Row; 27] = [

@@ -84,7 +84,7 @@ pub fn read(rt: &impl Abort, alloc: Global, text: &str) -> Result<ObsFile, At> {
     }
 }
 
-/// What the sample gives with these lines behind so many of its own, before those behind so many. It serves tests alone: its
+/// What the sample gives with these lines between the first of its own and its last, by the two counts. It serves tests alone: its
 /// caller asserts what comes.
 pub fn read_changed(
     rt: &impl Abort,

@@ -9,7 +9,7 @@ use Rattle.rinex_head.proofs.ColumnLaws.{length-padded}
 use Rattle.obs_fields.specs.declared.layout.Layout.TheVariants.{Rinex2}
 use Rattle.obs_fields.specs.EpochFields.{count_in}
 
--- a digit, and those behind it
+-- a digit, and those after it
 digit_first : (b : ℕ) (bs : List ℕ) → are_digits (b ∷ bs) ≡ true → (b - 48 ≤ 9) × (are_digits bs ≡ true)
 digit_first b bs are = by_digit (is_digit b) refl are
   where

@@ -30,7 +30,7 @@ lines_taken (bytes ∷ lines) more h epochs changes n are =
     walk-takes obs2_rules (Skip h epochs changes (suc (length lines))) (more_lines h epochs changes (length lines)) bytes (lines ++ more) n are.0 admits
     ∙ lines_taken lines more h epochs changes (n + 1) are.2 ∙ rw further refl
 
--- lines behind which the header can't change are taken whatever they say
+-- lines after which the header can't change are taken whatever they say
 short_taken : (lines more : List (List ℕ)) (h : Header) (epochs : List Epoch) (n : ℕ) → AreShort lines
     → walk obs2_rules (lines ++ more) n (more_lines h epochs false (length lines)) ≡ walk obs2_rules more (n + length lines) (Body h epochs)
 short_taken [] more h epochs n are = rw add-zero refl

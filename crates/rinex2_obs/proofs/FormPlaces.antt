@@ -1,5 +1,5 @@
--- The place of a refusal is the first failing line by the grammar: every state can be completed to a file.
-use Rattle.std.proofs.Common.{◌≡◌, ◌<◌, ◌≤◌, ◌+◌, ◌-◌, ◌*◌, ◌/◌, ◌%◌, ℕ, zero, suc, nat_lt, Bool, true, false, ◌==◌, min, List, [], ◌∷◌, ◌++◌, drop, codes, Result, Ok, Err, Option, Some, None, refl, sym, ap, ◌∙◌, subst, arith, lit≤, add-zero, IfOk, slice_set}
+-- The place of a refusal is the first failing line by the grammar: every state that can be reached can be completed to a file.
+use Rattle.std.proofs.Common.{◌≡◌, ◌<◌, ◌≤◌, ◌+◌, ◌-◌, ◌*◌, ◌/◌, ◌%◌, ℕ, zero, suc, nat_lt, Bool, true, false, ◌==◌, min, List, [], ◌∷◌, ◌++◌, length, drop, codes, Result, Ok, Err, Option, Some, None, refl, sym, ap, ◌∙◌, subst, arith, lit≤, add-zero, IfOk, slice_set}
 use Rattle.std.proofs.lemmas.Bool.Decides.{nat_tests}
 use Rattle.gps_time.specs.declared.Tick.{Tick}
 use Rattle.obs_store.specs.declared.file.ObsFile.{ObsFile}
@@ -15,7 +15,7 @@ use Rattle.rinex_head.specs.Columns.{padded, columns}
 use Rattle.rinex_head.specs.Head.{trimmed}
 use Rattle.rinex_head.specs.Walk.{text_gives, Gives}
 use Rattle.rinex_head.specs.FirstFailing.{IsFileOf}
-use Rattle.rinex_head.proofs.Stops.{Completes, with_line, with_end}
+use Rattle.rinex_head.proofs.Stops.{Completes, CanEnd, is_line, with_line, with_end}
 use Rattle.obs_fields.specs.declared.labels.Label.TheVariants as label
 use Rattle.obs_fields.specs.declared.layout.Layout.TheVariants.{Rinex2}
 use Rattle.obs_fields.specs.declared.types.KeptType.{KeptType}
@@ -32,6 +32,8 @@ use Rattle.rinex2_obs.specs.declared.header.Header.{Header}
 use Rattle.obs_fields.specs.declared.header_line.HeaderLine.TheVariants as header
 use Rattle.rinex2_obs.specs.Obs2Rules.{HeaderSoFar, Expected, First, Head, More, Body, Names, Row, Further, Skip, bare_header, with_types, whole_header, file_of, more_types, more_sats, more_names, more_rows, more_lines, more_slips, with_satellite, admit, obs2_rules}
 use Rattle.rinex2_obs.specs.Obs2Form.{IsObs2File, HasObs2File}
+use Rattle.obs_fields.proofs.FreshNames.{AreApart, fresh, below_fresh, not_listed, a_first_byte, names_counted}
+use Rattle.rinex2_obs.proofs.ListedTypes.{Holds, kept}
 use Rattle.rinex2_obs.proofs.Steps.{types_there, rows_due, rows_all}
 use Rattle.rinex2_obs.proofs.FormLaws.{file_given}
 use Rattle.rinex2_obs.proofs.FormTook.{file_took}
@@ -81,7 +83,7 @@ row_done : (h : Header) (epochs : List Epoch) (tag : Tick) (power : Bool) (sats 
 row_done h epochs tag power sats name names at values rest =
     let row = empty_row (kept_of h.types) name at values in
     let admits : admit (Row h epochs tag power sats name names at values) [] ≡ Ok (more_rows h epochs tag power sats name names (at + 1) row.0) = rw (row.1) refl in
-    with_line obs2_rules (Row h epochs tag power sats name names at values) (more_rows h epochs tag power sats name names (at + 1) row.0) [] (lit≤ tt) admits (rest row.0)
+    with_line obs2_rules (Row h epochs tag power sats name names at values) (more_rows h epochs tag power sats name names (at + 1) row.0) [] refl (lit≤ tt) admits (rest row.0)
 
 rows_done : (fuel : ℕ) (h : Header) (epochs : List Epoch) (tag : Tick) (power : Bool) (sats : List SatObs) (name : Option ℕ) (names : List (Option ℕ))
     (at : ℕ) (values : List (Option Value)) → rows_of h.types ≤ at + fuel
@@ -123,7 +125,7 @@ other_at (suc (suc (suc (suc (suc (suc (suc (suc (suc (suc zero)))))))))) less =
 other_at (suc (suc (suc (suc (suc (suc (suc (suc (suc (suc (suc zero))))))))))) less = refl
 other_at (suc (suc (suc (suc (suc (suc (suc (suc (suc (suc (suc (suc j)))))))))))) less = absurd (omega (arith, less))
 
--- so many names from number j on are taken
+-- m names from number j on are taken
 others_taken : (j m : ℕ) (names : List (Option ℕ)) → j + m ≤ 12 → (all : List (Option ℕ)) × (SatNames.names_from other_names (33 + 3 * j) m names ≡ Ok all)
 unfolding SatNames.names_from
 others_taken j zero names few = (names, refl)
@@ -144,7 +146,7 @@ names_done fuel h epochs tag power names zero le = sats_done names h epochs tag 
 names_done zero h epochs tag power names (suc k) le = absurd (omega (arith, le))
 names_done (suc fuel) h epochs tag power names (suc k) le =
     let step = names_step h epochs tag power names (suc k) in
-    with_line obs2_rules (Names h epochs tag power names (suc k)) (more_names h epochs tag power step.0 (suc k - 12)) other_names (lit≤ tt) step.1
+    with_line obs2_rules (Names h epochs tag power names (suc k)) (more_names h epochs tag power step.0 (suc k - 12)) other_names refl (lit≤ tt) step.1
     (names_done fuel h epochs tag power step.0 (suc k - 12) (omega (arith, le)))
 
 -- ---- events, whose lines are empty
@@ -159,7 +161,7 @@ lines_done h epochs changes zero = body_done h epochs
 lines_done h epochs changes (suc k) =
     let one_less : suc k - 1 ≡ k = omega arith in
     let next : ℕ → Result Expected Flaw = λ j. Ok (more_lines h epochs changes j) in
-    with_line obs2_rules (Skip h epochs changes (suc k)) (more_lines h epochs changes k) [] (lit≤ tt) (empty_line h epochs changes (suc k) ∙ ap next one_less) (lines_done h epochs changes k)
+    with_line obs2_rules (Skip h epochs changes (suc k)) (more_lines h epochs changes k) [] refl (lit≤ tt) (empty_line h epochs changes (suc k) ∙ ap next one_less) (lines_done h epochs changes k)
 
 empty_mark : (h : Header) (epochs : List Epoch) (n rows : ℕ) → admit (Further h epochs n rows) [] ≡ Ok (more_slips h epochs (n - 1) rows)
 unfolding further_mark_of padded
@@ -170,7 +172,7 @@ slips_done h epochs zero rows = lines_done h epochs false rows
 slips_done h epochs (suc k) rows =
     let one_less : suc k - 1 ≡ k = omega arith in
     let next : ℕ → Result Expected Flaw = λ j. Ok (more_slips h epochs j rows) in
-    with_line obs2_rules (Further h epochs (suc k) rows) (more_slips h epochs k rows) [] (lit≤ tt) (empty_mark h epochs (suc k) rows ∙ ap next one_less) (slips_done h epochs k rows)
+    with_line obs2_rules (Further h epochs (suc k) rows) (more_slips h epochs k rows) [] refl (lit≤ tt) (empty_mark h epochs (suc k) rows ∙ ap next one_less) (slips_done h epochs k rows)
 
 -- ---- the header
 
@@ -198,7 +200,7 @@ version_line-says = refl
 listed_done : (h : HeaderSoFar) (types : List (List ℕ)) → h.types ≡ Some types → Completes obs2_rules (Head h)
 listed_done h types e =
     let admits : admit (Head h) end_line ≡ Ok (Body (whole_header h types) []) = rw end_line-says (types_there h end_line types e) in
-    with_line obs2_rules (Head h) (Body (whole_header h types) []) end_line (lit≤ tt) admits (body_done (whole_header h types) [])
+    with_line obs2_rules (Head h) (Body (whole_header h types) []) end_line refl (lit≤ tt) admits (body_done (whole_header h types) [])
 
 abbrev one_name : List (List ℕ)
 one_name = codes "C1 " ∷ []
@@ -212,122 +214,114 @@ head_done h = by_types h.types refl
   where
     by_types : (t : Option (List (List ℕ))) → h.types ≡ t → Completes obs2_rules (Head h)
     by_types (Some types) e = listed_done h types e
-    by_types None e = with_line obs2_rules (Head h) (Head (with_types h one_name)) types_line (lit≤ tt) (one_type h e) (listed_done (with_types h one_name) one_name refl)
+    by_types None e = with_line obs2_rules (Head h) (Head (with_types h one_name)) types_line refl (lit≤ tt) (one_type h e) (listed_done (with_types h one_name) one_name refl)
 
--- ---- further types: names that aren't listed yet
+-- ---- further types: names that aren't listed yet, all with the same first byte
 
--- each name begins below x
-abbrev AreBelow : ℕ → List (List ℕ) → Type 0
-AreBelow x [] = Unit {0}
-AreBelow x ([] ∷ names) = AreBelow x names
-AreBelow x ((b ∷ bs) ∷ names) = (b < x) × AreBelow x names
-
-AreBelow-more : (x y : ℕ) (names : List (List ℕ)) → x ≤ y → AreBelow x names → AreBelow y names
-AreBelow-more x y [] le are = tt
-AreBelow-more x y ([] ∷ names) le are = AreBelow-more x y names le are
-AreBelow-more x y ((b ∷ bs) ∷ names) le are = (omega (arith, are.0), AreBelow-more x y names le are.1)
-
-abbrev bound_of : List (List ℕ) → ℕ
-bound_of [] = 0
-bound_of ([] ∷ names) = bound_of names
-bound_of ((b ∷ bs) ∷ names) = b + 1 + bound_of names
-
-below_bound : (names : List (List ℕ)) → AreBelow (bound_of names) names
-below_bound [] = tt
-below_bound ([] ∷ names) = below_bound names
-below_bound ((b ∷ bs) ∷ names) = (omega arith, AreBelow-more (bound_of names) (b + 1 + bound_of names) names (omega arith) (below_bound names))
-
-abbrev fresh : ℕ → List ℕ
-fresh x = x ∷ 32 ∷ 32 ∷ []
-
-below_fresh : (x : ℕ) (names : List (List ℕ)) → AreBelow x names → AreBelow (x + 1) (names ++ fresh x ∷ [])
-below_fresh x [] are = (omega arith, tt)
-below_fresh x ([] ∷ names) are = below_fresh x names are
-below_fresh x ((b ∷ bs) ∷ names) are = (omega (arith, are.0), below_fresh x names are.1)
-
-not_listed : (x : ℕ) (names : List (List ℕ)) → AreBelow x names → is_listed names (fresh x) ≡ false
-unfolding is_listed
-not_listed x [] are = refl
-not_listed x ([] ∷ names) are = not_listed x names are
-not_listed x ((b ∷ bs) ∷ names) are = let other : (b == x) ≡ false = grind (arith, nat_tests, are.0) in rw other (not_listed x names are.1)
-
--- four blanks and a name of two letters, so many times, then the label
-abbrev fields : ℕ → ℕ → List ℕ
-fields x zero = codes "# / TYPES OF OBSERV"
-fields x (suc m) = 32 ∷ 32 ∷ 32 ∷ 32 ∷ x ∷ 32 ∷ fields (x + 1) m
+-- four blanks and a name of two letters from that second one on, then the label
+abbrev fields : ℕ → ℕ → ℕ → List ℕ
+fields c x zero = codes "# / TYPES OF OBSERV"
+fields c x (suc m) = 32 ∷ 32 ∷ 32 ∷ 32 ∷ c ∷ x ∷ fields c (x + 1) m
 
 abbrev fresh_line : ℕ → List ℕ
-fresh_line x = codes "      " ++ fields x 9
+fresh_line c = codes "      " ++ fields c 48 9
 
-fresh_line-label : (x : ℕ) → label_in Rinex2 (fresh_line x) ≡ label.Types
+fresh_line-label : (c : ℕ) → label_in Rinex2 (fresh_line c) ≡ label.Types
 unfolding label_in trimmed
-fresh_line-label x = refl
+fresh_line-label c = refl
+
+fresh_line-bytes : (c : ℕ) → 48 ≤ c → c < 256 → is_line (fresh_line c) ≡ true
+fresh_line-bytes c from below =
+    let byte : nat_lt c 256 ≡ true = grind (arith, nat_tests) in
+    let other : (c == 10) ≡ false = grind (arith, nat_tests) in
+    rw (byte, other) refl
 
 -- the fields from name number j on
-fields_from : (x j m k : ℕ) → j + suc m ≡ k → drop (4 + 6 * j) (fields x k) ≡ (x + j) ∷ 32 ∷ fields (x + j + 1) m
-fields_from x zero m k is =
+fields_from : (c x j m k : ℕ) → j + suc m ≡ k → drop (4 + 6 * j) (fields c x k) ≡ c ∷ (x + j) ∷ fields c (x + j + 1) m
+fields_from c x zero m k is =
     let here : x + 0 ≡ x = add-zero x in
     let same : k ≡ suc m = omega (arith, is) in
     rw (here, same) refl
-fields_from x (suc j) m zero is = absurd (omega (arith, is))
-fields_from x (suc j) m (suc k) is =
+fields_from c x (suc j) m zero is = absurd (omega (arith, is))
+fields_from c x (suc j) m (suc k) is =
     let six : 4 + 6 * suc j ≡ suc (suc (suc (suc (suc (suc (4 + 6 * j)))))) = omega arith in
     let same : x + suc j ≡ x + 1 + j = omega arith in
-    rw (six, same) (fields_from (x + 1) j m k (omega (arith, is)))
+    rw (six, same) (fields_from c (x + 1) j m k (omega (arith, is)))
 
-fresh_name : (x j m : ℕ) → j + suc m ≡ 9 → columns (fresh_line x) (11 + 6 * j) 2 ≡ (x + j) ∷ 32 ∷ []
+fresh_name : (c j m : ℕ) → j + suc m ≡ 9 → columns (fresh_line c) (11 + 6 * j) 2 ≡ c ∷ (48 + j) ∷ []
 unfolding padded
-fresh_name x j m is =
+fresh_name c j m is =
     let at : 11 + 6 * j - 1 ≡ suc (suc (suc (suc (suc (suc (4 + 6 * j)))))) = omega arith in
-    rw (at, fields_from x j m 9 is) refl
+    rw (at, fields_from c 48 j m 9 is) refl
 
--- so many names from number j on are taken
-types_taken : (x j m : ℕ) (names : List (List ℕ)) → j + m ≤ 9 → AreBelow (x + j) names → (all : List (List ℕ)) × (names_from Rinex2 (fresh_line x) (11 + 6 * j) m names ≡ Ok all)
+-- m names from number j on are taken
+types_taken : (c j m : ℕ) (names : List (List ℕ)) → j + m ≤ 9 → AreApart c (48 + j) names → (all : List (List ℕ)) × (names_from Rinex2 (fresh_line c) (11 + 6 * j) m names ≡ Ok all)
 unfolding names_from
-types_taken x j zero names few are = (names, refl)
-types_taken x j (suc m) names few are =
+types_taken c j zero names few are = (names, refl)
+types_taken c j (suc m) names few are =
     let k = 9 - j - 1 in
-    let name : columns (fresh_line x) (11 + 6 * j) 2 ≡ (x + j) ∷ 32 ∷ [] = fresh_name x j k (omega arith) in
+    let name : columns (fresh_line c) (11 + 6 * j) 2 ≡ c ∷ (48 + j) ∷ [] = fresh_name c j k (omega arith) in
     let next : 11 + 6 * j + 6 ≡ 11 + 6 * (j + 1) = omega arith in
-    let on : x + j + 1 ≡ x + (j + 1) = omega arith in
-    let below : AreBelow (x + (j + 1)) (names ++ fresh (x + j) ∷ []) = subst (λ (y : ℕ). AreBelow y (names ++ fresh (x + j) ∷ [])) on (below_fresh (x + j) names are) in
-    let rest = types_taken x (j + 1) m (names ++ fresh (x + j) ∷ []) (omega arith) below in
-    (rest.0, rw (name, not_listed (x + j) names are, next) rest.1)
+    let on : 48 + j + 1 ≡ 48 + (j + 1) = omega arith in
+    let below : AreApart c (48 + (j + 1)) (names ++ fresh c (48 + j) ∷ []) = subst (λ (y : ℕ). AreApart c y (names ++ fresh c (48 + j) ∷ [])) on (below_fresh c (48 + j) names are) in
+    let rest = types_taken c (j + 1) m (names ++ fresh c (48 + j) ∷ []) (omega arith) below in
+    (rest.0, rw (name, not_listed c (48 + j) names are, next) rest.1)
 
-more_step : (h : HeaderSoFar) (names : List (List ℕ)) (n : ℕ) → (all : List (List ℕ)) × (admit (More h names n) (fresh_line (bound_of names)) ≡ Ok (more_types h all (n - 9)))
+-- a line of names that aren't listed yet
+record FreshLine (h : HeaderSoFar) (names : List (List ℕ)) (n : ℕ) : Type 0 where
+  line : List ℕ
+  bytes : is_line line ≡ true
+  short : length line ≤ 4096
+  all : List (List ℕ)
+  few : length all + (n - 9) ≤ 200
+  admits : admit (More h names n) line ≡ Ok (more_types h all (n - 9))
+
+more_step : (h : HeaderSoFar) (names : List (List ℕ)) (n : ℕ) → length names + n ≤ 200 → FreshLine h names n
 unfolding padded
-more_step h names n =
-    let x = bound_of names in
-    let are : AreBelow (x + 0) names = subst (λ (y : ℕ). AreBelow y names) (sym (add-zero x)) (below_bound names) in
-    let taken = types_taken x 0 (min 9 n) names (omega arith) are in
-    (taken.0, rw (fresh_line-label x, taken.1) refl)
+more_step h names n few =
+    let first = a_first_byte names (omega (arith, few)) in
+    let c = first.byte in
+    let taken = types_taken c 0 (min 9 n) names (omega arith) first.apart in
+    let counted = names_counted Rinex2 (fresh_line c) 11 (min 9 n) names taken.0 taken.1 in
+    record {
+      line = fresh_line c;
+      bytes = fresh_line-bytes c first.from first.below;
+      short = lit≤ tt;
+      all = taken.0;
+      few = omega (arith, counted, few);
+      admits = rw (fresh_line-label c, taken.1) refl;
+    }
 
-more_done : (fuel : ℕ) (h : HeaderSoFar) (names : List (List ℕ)) (n : ℕ) → n ≤ fuel → Completes obs2_rules (more_types h names n)
-more_done fuel h names zero le = head_done (with_types h names)
-more_done zero h names (suc k) le = absurd (omega (arith, le))
-more_done (suc fuel) h names (suc k) le =
-    let step = more_step h names (suc k) in
-    with_line obs2_rules (More h names (suc k)) (more_types h step.0 (suc k - 9)) (fresh_line (bound_of names)) (lit≤ tt) step.1 (more_done fuel h step.0 (suc k - 9) (omega (arith, le)))
+more_done : (fuel : ℕ) (h : HeaderSoFar) (names : List (List ℕ)) (n : ℕ) → n ≤ fuel → length names + n ≤ 200 → Completes obs2_rules (more_types h names n)
+more_done fuel h names zero le few = head_done (with_types h names)
+more_done zero h names (suc k) le few = absurd (omega (arith, le))
+more_done (suc fuel) h names (suc k) le few =
+    let step = more_step h names (suc k) few in
+    with_line obs2_rules (More h names (suc k)) (more_types h step.all (suc k - 9)) step.line step.bytes step.short step.admits
+    (more_done fuel h step.all (suc k - 9) (omega (arith, le)) step.few)
 
-pub completed : (s : Expected) → Completes obs2_rules s
-completed First =
+completed : (s : Expected) → Holds s → Completes obs2_rules s
+completed First holds =
     let admits : admit First version_line ≡ Ok (Head (bare_header 211)) = rw version_line-says refl in
-    with_line obs2_rules First (Head (bare_header 211)) version_line (lit≤ tt) admits (head_done (bare_header 211))
-completed (Head h) = head_done h
-completed (More h names n) =
-    let step = more_step h names n in
-    with_line obs2_rules (More h names n) (more_types h step.0 (n - 9)) (fresh_line (bound_of names)) (lit≤ tt) step.1 (more_done (n - 9) h step.0 (n - 9) (omega arith))
-completed (Body h epochs) = body_done h epochs
-completed (Names h epochs tag power names n) =
+    with_line obs2_rules First (Head (bare_header 211)) version_line refl (lit≤ tt) admits (head_done (bare_header 211))
+completed (Head h) holds = head_done h
+completed (More h names n) holds =
+    let step = more_step h names n holds in
+    with_line obs2_rules (More h names n) (more_types h step.all (n - 9)) step.line step.bytes step.short step.admits (more_done (n - 9) h step.all (n - 9) (omega arith) step.few)
+completed (Body h epochs) holds = body_done h epochs
+completed (Names h epochs tag power names n) holds =
     let step = names_step h epochs tag power names n in
-    with_line obs2_rules (Names h epochs tag power names n) (more_names h epochs tag power step.0 (n - 12)) other_names (lit≤ tt) step.1
+    with_line obs2_rules (Names h epochs tag power names n) (more_names h epochs tag power step.0 (n - 12)) other_names refl (lit≤ tt) step.1
     (names_done (n - 12) h epochs tag power step.0 (n - 12) (omega arith))
-completed (Row h epochs tag power sats name names at values) =
+completed (Row h epochs tag power sats name names at values) holds =
     row_done h epochs tag power sats name names at values
     (λ set. rows_done (rows_of h.types) h epochs tag power sats name names (at + 1) set (omega arith) (λ sats. sats_done names h epochs tag power sats))
-completed (Further h epochs n rows) = with_line obs2_rules (Further h epochs n rows) (more_slips h epochs (n - 1) rows) [] (lit≤ tt) (empty_mark h epochs n rows) (slips_done h epochs (n - 1) rows)
-completed (Skip h epochs changes n) = with_line obs2_rules (Skip h epochs changes n) (more_lines h epochs changes (n - 1)) [] (lit≤ tt)
+completed (Further h epochs n rows) holds = with_line obs2_rules (Further h epochs n rows) (more_slips h epochs (n - 1) rows) [] refl (lit≤ tt) (empty_mark h epochs n rows) (slips_done h epochs (n - 1) rows)
+completed (Skip h epochs changes n) holds = with_line obs2_rules (Skip h epochs changes n) (more_lines h epochs changes (n - 1)) [] refl (lit≤ tt)
     (empty_line h epochs changes n) (lines_done h epochs changes (n - 1))
+
+pub ends : CanEnd obs2_rules
+ends = record { Holds = Holds; kept = kept; completed = completed }
 
 -- the grammar and the rules have the same files
 pub file_of_rules : (lines : List (List ℕ)) → HasObs2File lines → IsFileOf obs2_rules lines

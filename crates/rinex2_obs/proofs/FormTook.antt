@@ -40,7 +40,7 @@ record TookBody (lines : List (List ℕ)) (h : Header) (epochs : List Epoch) (wh
   each : AreParts h.types epochs parts
   whole_is : whole ≡ file_of h (epochs ++ epochs_of parts)
 
--- the satellites of the names, behind these ones of an epoch
+-- the satellites of the names, after these ones of an epoch
 record TookSats (lines : List (List ℕ)) (h : Header) (epochs : List Epoch) (tag : Tick) (power : Bool) (sats : List SatObs) (names : List (Option ℕ)) (whole : ObsFile) : Type 0 where
   others : List SatPart
   parts : List Part

@@ -5,4 +5,5 @@ pub mod CountLaws
 pub mod Headers
 pub mod FormLaws
 pub mod FormTook
+pub mod ListedTypes
 pub mod FormPlaces

@@ -27,7 +27,7 @@ unfolding names_from
 names_done line first zero names none = refl
 names_done line first (suc n) names none = absurd (omega arith)
 
--- a number that isn't there, behind one more name
+-- a number that isn't there, after one more name
 not_behind : (m : ℕ) (names : List (Option ℕ)) (name : Option ℕ) → is_named m names ≡ false → has_number m name ≡ false → is_named m (names ++ name ∷ []) ≡ false
 not_behind m [] name none other = rw other refl
 not_behind m (x ∷ names) name none other = by_first (has_number m x) refl none (λ none. not_behind m names name none other)
@@ -44,7 +44,7 @@ not_first n m names none = by_first (n == m) refl none
     by_first true is none = absurd cc
     by_first false is none = (grind (arith, nat_tests), none)
 
--- such a name stands behind the others
+-- such a name stands after the others
 pub names_added : (names : List (Option ℕ)) (name : Option ℕ) → AreNames names → FitsBehind names name → AreNames (names ++ name ∷ [])
 names_added [] None are fits = tt
 names_added [] (Some n) are fits = (fits.0, fits.1, refl, tt)
@@ -64,7 +64,7 @@ not_with n (t ∷ sats) s none other = by_first (n == t.number) refl none (λ no
     by_first true is none again = absurd cc
     by_first false is none again = rw is (again none)
 
--- the satellite of a name is another one than those of the names behind it
+-- the satellite of a name is another one than those of the names after it
 pub new_behind : (sats : List SatObs) (s : SatObs) (names : List (Option ℕ)) → AreNew sats names → is_named s.number names ≡ false → AreNew (sats ++ s ∷ []) names
 new_behind sats s [] are none = tt
 new_behind sats s (None ∷ names) are none = new_behind sats s names are none
@@ -78,7 +78,7 @@ new_at_first [] = tt
 new_at_first (None ∷ names) = new_at_first names
 new_at_first (Some n ∷ names) = (refl, new_at_first names)
 
--- behind the satellite of the first name
+-- after the satellite of the first name
 pub next_new : (name : Option ℕ) (names : List (Option ℕ)) (before after : List SatObs) → AreNames (name ∷ names) → AreNew before (name ∷ names) → IsWith name before after → AreNew after names
 next_new None names before after are new with = rw with new
 next_new (Some n) names before after are new with =

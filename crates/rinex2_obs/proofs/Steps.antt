@@ -115,7 +115,7 @@ pub admit_other : (h : Header) (epochs : List Epoch) (tag : Tick) (power : Bool)
 unfolding row_of
 admit_other h epochs tag power sats names at values bytes less = admit_rows h epochs tag power sats None names at values bytes less
 
--- the satellite of a name stands behind the others
+-- the satellite of a name stands after the others
 pub one_satellite : (sats : List SatObs) (name : Option ℕ) (values : List (Option Value)) (others : List SatObs) → with_satellite sats name values ++ others ≡ sats ++ (if_of_gps name values ++ others)
 one_satellite sats None values others = refl
 one_satellite sats (Some number) values others = append_assoc sats (if_of_gps (Some number) values) others
@@ -131,7 +131,7 @@ pub admit_lines : (h : Header) (epochs : List Epoch) (changes : Bool) (n : ℕ) 
 admit_lines h epochs changes zero bytes some = absurd (omega arith)
 admit_lines h epochs changes (suc n) bytes some = refl
 
--- a line behind which the header can't change
+-- a line after which the header can't change
 pub admit_skipped : (h : Header) (epochs : List Epoch) (n : ℕ) (bytes : List ℕ) → admit (Skip h epochs false n) bytes ≡ Ok (more_lines h epochs false (n - 1))
 unfolding event_line_of
 admit_skipped h epochs n bytes = refl
@@ -151,7 +151,7 @@ slips_all h epochs (suc n) rows none = absurd (omega arith)
 
 -- ---- parts of a text
 
--- a part that takes memory, behind one that takes none
+-- a part that takes memory, after one that takes none
 pub reads_after : (s middle : Expected) (next : List SatObs → Expected) (old between new : Reading) (r : Result (List SatObs) TextFault)
     → rest_gives obs2_rules old s ≡ rest_gives obs2_rules between middle → Reads obs2_rules between new middle next r → Reads obs2_rules old new s next r
 reads_after s middle next old between new (Ok sats) first second = first ∙ second

@@ -40,14 +40,14 @@ abbrev pub named_epoch : List ℕ → Bool → Tick → Result EpochLine Flaw
 named_epoch bytes power tag =
     and_then (count_in Rinex2 bytes) (λ n. and_then (first_names_of bytes n) (λ list. Ok (line.Epoch tag power list)))
 
--- an epoch behind these ones
+-- an epoch after these ones
 unfoldable pub epoch_in : List Epoch → List ℕ → Bool → Result EpochLine Flaw
 epoch_in epochs bytes power =
     if nat_le 20_000 (length epochs) then flawed 1 TooMany
     else and_then (tag_in bytes) (λ tag. if is_later (last_tag_of epochs) tag then named_epoch bytes power tag else flawed 2 Order)
 
--- Flag 0 is an epoch, flag 1 one before which power failed. With 2 and 3 the antenna moves. Behind 4 the header may
--- change; 5 is another event. 6 has cycle slips of so many satellites, in the form of an epoch.
+-- Flag 0 is an epoch, flag 1 one before which power failed. With 2 and 3 the antenna moves. After 4 the header may
+-- change; 5 is another event. 6 has cycle slips of a number of satellites, in the form of an epoch.
 abbrev pub by_flag : List Epoch → List ℕ → ℕ → Result EpochLine Flaw
 by_flag epochs bytes flag =
     if flag == 48 then epoch_in epochs bytes false else
@@ -57,7 +57,7 @@ by_flag epochs bytes flag =
     (if flag == 53 then event_in bytes false else
     (if flag == 54 then slips_in bytes else flawed 29 Flag)))))
 
--- where an epoch's line is expected behind these epochs
+-- where an epoch's line is expected after these epochs
 unfoldable pub epoch_line_of : List Epoch → List ℕ → Result EpochLine Flaw
 epoch_line_of epochs bytes =
     if are_blank bytes then Ok line.Blank

@@ -67,7 +67,7 @@ pub record EventPart : Type 0 where
   pub changes : Bool
   pub event_lines : List (List ℕ)
 
--- the line of the cycle slips of so many satellites, the further lines of their names, and their own lines
+-- the line of the cycle slips with the number of its satellites, the further lines of their names, and their own lines
 pub record SlipsPart : Type 0 where
   pub bytes : List ℕ
   pub count : ℕ
@@ -80,7 +80,7 @@ pub data Part : Type 0 where
   Slips : SlipsPart → Part
   Epoch_ : EpochPart → Part
 
--- the further lines of an epoch's names, behind which all its names are there
+-- the further lines of an epoch's names, after which all its names are there
 abbrev pub AreFurtherNames : List (List ℕ) → List (Option ℕ) → ℕ → List (Option ℕ) → Type 0
 AreFurtherNames [] names left all = (left ≡ 0) × (names ≡ all)
 AreFurtherNames (bytes ∷ lines) names left all =
@@ -116,7 +116,7 @@ abbrev pub satellites_of : List SatPart → List SatObs
 satellites_of [] = []
 satellites_of (p ∷ ps) = if_of_gps p.number p.values ++ satellites_of ps
 
--- behind these epochs
+-- after these epochs
 pub record IsEpochPart (types : List (List ℕ)) (epochs : List Epoch) (p : EpochPart) : Type 0 where
   pub short : length p.bytes ≤ 4096
   pub says : epoch_line_of epochs p.bytes ≡ Ok (line.Epoch p.tag p.power p.list)
@@ -152,7 +152,7 @@ pub record IsSlipsPart (types : List (List ℕ)) (epochs : List Epoch) (p : Slip
 abbrev pub epoch_in_part : EpochPart → Epoch
 epoch_in_part p = epoch_of p.tag p.power (satellites_of p.sats)
 
--- the parts of a body behind these epochs
+-- the parts of a body after these epochs
 abbrev pub AreParts : List (List ℕ) → List Epoch → List Part → Type 0
 AreParts types epochs [] = Unit {0}
 AreParts types epochs (Blank bytes ∷ parts) = (length bytes ≤ 4096) × (epoch_line_of epochs bytes ≡ Ok line.Blank) × AreParts types epochs parts

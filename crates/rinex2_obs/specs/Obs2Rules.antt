@@ -63,10 +63,10 @@ epoch_of tag power sats = record { tag = tag; power = power; sats = sats }
 abbrev pub satellite_of : ℕ → List (Option Value) → SatObs
 satellite_of number values = record { number = number; values = values }
 
--- What may be expected: the first line; a line of the header; so many further types, in a further line of the list; an
--- epoch or an event behind these epochs; so many further names of an epoch's satellites, in a further line of names;
--- the line of that number, from 0, of one of them, behind which stand the lines of others; so many further lines of
--- names and then so many lines of satellites, behind flag 6; so many lines of an event.
+-- What may be expected: the first line; a line of the header; further types, in a further line of the list, by their number; an
+-- epoch or an event after these epochs; further names of an epoch's satellites, in a further line of names;
+-- the line of that number, from 0, of one of them, after which stand the lines of others; further lines of
+-- names and then lines of satellites, after flag 6; lines of an event. What is due stands with its number.
 pub data Expected : Type 0 where
   First : Expected
   Head : HeaderSoFar → Expected
@@ -77,17 +77,17 @@ pub data Expected : Type 0 where
   Further : Header → List Epoch → ℕ → ℕ → Expected
   Skip : Header → List Epoch → Bool → ℕ → Expected
 
--- behind a list's line, where so many types are still due
+-- after a list's line, by the number of types that are still due
 abbrev pub more_types : HeaderSoFar → List (List ℕ) → ℕ → Expected
 more_types h names zero = Head (with_types h names)
 more_types h names (suc n) = More h names (suc n)
 
--- behind these satellites of an epoch, where those of the names are still due
+-- after these satellites of an epoch, where those of the names are still due
 abbrev pub more_sats : Header → List Epoch → Tick → Bool → List SatObs → List (Option ℕ) → Expected
 more_sats h epochs tag power sats [] = Body h (epochs ++ epoch_of tag power sats ∷ [])
 more_sats h epochs tag power sats (name ∷ names) = Row h epochs tag power sats name names 0 missing_values
 
--- behind a line of names, where so many names are still due
+-- after a line of names, by the number of names that are still due
 abbrev pub more_names : Header → List Epoch → Tick → Bool → List (Option ℕ) → ℕ → Expected
 more_names h epochs tag power names zero = more_sats h epochs tag power [] names
 more_names h epochs tag power names (suc n) = Names h epochs tag power names (suc n)
@@ -103,12 +103,12 @@ more_rows h epochs tag power sats name names at values =
     if nat_lt at (rows_of h.types) then Row h epochs tag power sats name names at values
     else more_sats h epochs tag power (with_satellite sats name values) names
 
--- behind an event's line, where so many lines follow
+-- after an event's line, by the number of lines that follow
 abbrev pub more_lines : Header → List Epoch → Bool → ℕ → Expected
 more_lines h epochs changes zero = Body h epochs
 more_lines h epochs changes (suc n) = Skip h epochs changes (suc n)
 
--- behind flag 6, where so many further lines of names and so many lines of satellites follow
+-- after flag 6, by the numbers of further lines of names and of lines of satellites that follow
 abbrev pub more_slips : Header → List Epoch → ℕ → ℕ → Expected
 more_slips h epochs zero rows = more_lines h epochs false rows
 more_slips h epochs (suc n) rows = Further h epochs (suc n) rows

@@ -9,7 +9,7 @@ use Rattle.obs_store.specs.Kinds.{kept_types, slot_of}
 use Rattle.obs_fields.specs.declared.types.KeptType.{KeptType}
 use Rattle.obs_fields.specs.Types.{kept_at}
 
--- The profile of the codes of RINEX 2, each with a blank behind it. A code on L1 is the civil one, one on L2 that of P(Y);
+-- The profile of the codes of RINEX 2, each with a blank after it. A code on L1 is the civil one, one on L2 that of P(Y);
 -- L2 is of P(Y) whichever way it was tracked. P1 and C2 aren't kept.
 abbrev pub kept_type_in : List ℕ → Option ObsType
 kept_type_in name =

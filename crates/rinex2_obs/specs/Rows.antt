@@ -11,7 +11,7 @@ use Rattle.obs_fields.specs.SatFields.{values_in}
 abbrev pub rows_of : List (List ℕ) → ℕ
 rows_of types = suc ((length types - 1) / 5)
 
--- how many further lines so many names need, twelve in a line
+-- how many further lines a number of names needs, twelve in a line
 abbrev pub further_lines_of : ℕ → ℕ
 further_lines_of count = (count - 1) / 12
 

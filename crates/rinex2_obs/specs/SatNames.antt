@@ -15,11 +15,11 @@ abbrev pub once : ℕ → List (Option ℕ) → Option ℕ → Result (Option �
 once first names None = Ok None
 once first names (Some n) = if is_named n names then flawed first Twice else Ok (Some n)
 
--- the number of the satellite whose name begins at this column, behind these ones, or nothing at one of another system
+-- the number of the satellite whose name begins at this column, after these ones, or nothing at one of another system
 abbrev pub name_in : List ℕ → ℕ → List (Option ℕ) → Result (Option ℕ) Flaw
 name_in line first names = and_then (satellite_at Gps true line first) (λ number. once first names number)
 
--- so many further names, from this column on
+-- a number of further names, from this column on
 unfoldable pub names_from : List ℕ → ℕ → ℕ → List (Option ℕ) → Result (List (Option ℕ)) Flaw
 names_from line first zero names = Ok names
 names_from line first (suc n) names = and_then (name_in line first names) (λ name. names_from line (first + 3) n (names ++ name ∷ []))
@@ -31,7 +31,7 @@ name_list names left = record { names = names; left = left }
 abbrev pub with_line : List ℕ → List (Option ℕ) → ℕ → Result NameList Flaw
 with_line line names left = and_then (names_from line 33 (min 12 left) names) (λ all. Ok (name_list all (left - 12)))
 
--- the names in the line of an epoch of so many satellites
+-- the names in the line of an epoch, by the number of its satellites
 abbrev pub first_names_of : List ℕ → ℕ → Result NameList Flaw
 first_names_of line count = with_line line [] count
 

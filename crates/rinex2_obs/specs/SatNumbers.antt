@@ -19,7 +19,7 @@ AreNames [] = Unit {0}
 AreNames (None ∷ names) = AreNames names
 AreNames (Some n ∷ names) = (1 ≤ n) × (n ≤ 32) × (is_named n names ≡ false) × AreNames names
 
--- such a name behind these ones
+-- such a name after these ones
 abbrev pub FitsBehind : List (Option ℕ) → Option ℕ → Type 0
 FitsBehind names None = Unit {0}
 FitsBehind names (Some n) = (1 ≤ n) × (n ≤ 32) × (is_named n names ≡ false)
@@ -30,7 +30,7 @@ AreNew sats [] = Unit {0}
 AreNew sats (None ∷ names) = AreNew sats names
 AreNew sats (Some n ∷ names) = (has_satellite n sats ≡ false) × AreNew sats names
 
--- behind some satellites stands the one of a name, or none where it is of another system
+-- after some satellites stands the one of a name, or none where it is of another system
 abbrev pub IsWith : Option ℕ → List SatObs → List SatObs → Type 0
 IsWith None before after = after ≡ before
 IsWith (Some n) before after = (s : SatObs) × (s.number ≡ n) × (after ≡ before ++ s ∷ [])

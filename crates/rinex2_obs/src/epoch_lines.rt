@@ -17,12 +17,12 @@ use rinex_head::{Flaw, What, bad_field, byte_in, field, fixed_number, is_blank_l
 #[derive(Drop)]
 pub enum EpochLine {
     Blank,
-    /// An event of so many lines, behind which the header may change.
+    /// An event with the number of its lines; after it the header may change.
     Event {
         changes: bool,
         count: u16,
     },
-    /// Cycle slips of so many satellites.
+    /// Cycle slips, with the number of the satellites.
     Slips {
         count: u16,
     },
@@ -127,7 +127,7 @@ fn flagged(line: &[u8], flag: u8, epochs: &Epochs) -> Result<EpochLine, Flaw>
     }
 }
 
-/// What a line says where an epoch's line is expected behind these epochs.
+/// What a line says where an epoch's line is expected after these epochs.
 #[tactic(auto, unfolding(crate::specs::EpochLines::epoch_line_of))]
 pub fn epoch_line(line: &[u8], epochs: &Epochs) -> Result<EpochLine, Flaw>
     ensures value { result ≡ epoch_line_of epochs.now line.now }

@@ -18,7 +18,7 @@ pub struct NameList {
     pub left: u16,
 }
 
-// The satellite whose name begins at this column, behind these ones.
+// The satellite whose name begins at this column, after these ones.
 fn name_at(line: &[u8], first: u32, names: &SatNames) -> Result<Option<u8>, Flaw>
     requires from_one { 1 ≤ first }
     requires near { first ≤ 100 }
@@ -34,7 +34,7 @@ fn name_at(line: &[u8], first: u32, names: &SatNames) -> Result<Option<u8>, Flaw
     Ok(Some(number))
 }
 
-// So many further names of a line.
+// A number of further names of a line.
 fn add_names(line: &[u8], count: u16, names: &mut SatNames) -> Result<(), Flaw>
     requires room { length names.old + count ≤ 999 }
     requires few { count ≤ 12 }
@@ -64,7 +64,7 @@ fn add_line(line: &[u8], mut list: NameList) -> Result<NameList, Flaw>
     Ok(list)
 }
 
-/// The names in the line of an epoch of so many satellites.
+/// The names in the line of an epoch, by the number of its satellites.
 pub fn first_names(line: &[u8], count: u16) -> Result<NameList, Flaw>
     requires { count ≤ 999 }
     ensures value { result ≡ first_names_of line.now count }

@@ -4,3 +4,5 @@ pub mod ColumnLaws
 pub mod HeadLaws
 pub mod TakenLines
 pub mod Letters
+pub mod OwnFlawLaws
+pub mod TextLines

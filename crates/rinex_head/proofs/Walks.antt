@@ -29,7 +29,7 @@ unfolding walk
 refuses rules s flaw old new number line gives is =
     rw (gives.next, gives.numbered, short_admitted rules s line gives.short, is) refl
 
--- the line is read by a part, which gives x, and behind it next is expected
+-- the line is read by a part, which gives x, and after it next is expected
 pub goes_on :
     {S F X : Type 0} (rules : Rules S F) (s next : S) (part : Result X Flaw) (f : X → Result S Flaw) (x : X) (old new : Reading) (number : ℕ) (line : List ℕ)
     → GivesLine old new number line → rules.admit s line ≡ and_then part f → Ok x ≡ part → f x ≡ Ok next → rest_gives rules old s ≡ rest_gives rules new next
@@ -56,7 +56,7 @@ pub reads_line : {S F X : Type 0} (rules : Rules S F) (s : S) (next : X → S) (
 reads_line rules s next old new number line (Ok x) r gives is answer = rw answer (takes rules s (next x) old new number line gives is)
 reads_line rules s next old new number line (Err flaw) r gives is answer = rw answer (refuses rules s flaw old new number line gives is)
 
--- two parts, one behind the other
+-- two parts, one after the other
 pub reads_then : {S F X : Type 0} (rules : Rules S F) (s middle : S) (next : X → S) (old between new : Reading) (r : Result X At)
     → rest_gives rules old s ≡ rest_gives rules between middle → ReadsFree rules between new middle next r → ReadsFree rules old new s next r
 reads_then rules s middle next old between new (Ok x) first second = first ∙ second

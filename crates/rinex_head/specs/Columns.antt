@@ -5,12 +5,12 @@ use Rattle.std.specs.Prelude.{ℕ, zero, suc, ◌-◌, List, [], ◌∷◌, drop
 abbrev pub column : List ℕ → ℕ → ℕ
 column line k = slice_index_or line (k - 1) 32
 
--- so many bytes of a list, with blanks behind its end
+-- the first bytes of a list, with blanks after its end
 unfoldable pub padded : List ℕ → ℕ → List ℕ
 padded bs zero = []
 padded [] (suc n) = 32 ∷ padded [] n
 padded (b ∷ bs) (suc n) = b ∷ padded bs n
 
--- the bytes in so many columns from one on
+-- the bytes in a number of columns from one on
 abbrev pub columns : List ℕ → ℕ → ℕ → List ℕ
 columns line first count = padded (drop (first - 1) line) count

@@ -15,7 +15,7 @@ abbrev pub without_blanks : List ℕ → List ℕ
 without_blanks [] = []
 without_blanks (b ∷ bs) = if b == 32 then without_blanks bs else b ∷ bs
 
--- A whole number in a field that begins at a column: digits behind blanks in place of zeros, or blanks alone.
+-- A whole number in a field that begins at a column: digits after blanks in place of zeros, or blanks alone.
 abbrev pub digits_of : ℕ → List ℕ → Result (Option ℕ) Flaw
 digits_of first [] = Ok None
 digits_of first (b ∷ bs) = if are_digits (b ∷ bs) then Ok (Some (number_from 0 (b ∷ bs))) else flawed first BadField
@@ -36,10 +36,10 @@ abbrev pub readable : {A : Type 0} → ℕ → Result A NumberFault → Result A
 readable first (Ok number) = Ok number
 readable first (Err fault) = flawed first BadField
 
--- the number with a point in so many columns from one on, times 10^places
+-- the number with a point in a number of columns from one on, times 10^places
 unfoldable pub fixed_in : List ℕ → ℕ → ℕ → ℕ → Result ℤ Flaw
 fixed_in line first count places = readable first (fixed_of (columns line first count) places)
 
--- the number with an exponent in so many columns from one on
+-- the number with an exponent in a number of columns from one on
 unfoldable pub exponent_in : List ℕ → ℕ → ℕ → Result Dec Flaw
 exponent_in line first count = readable first (dec_of (columns line first count))

@@ -3,6 +3,7 @@ pub mod Systems
 pub mod Places
 pub mod Walk
 pub mod FirstFailing
+pub mod OwnFlaws
 pub mod Columns
 pub mod Head
 pub mod Fields

@@ -1,4 +1,4 @@
--- A text is read a line at a time. The rules say what a line must be in its place, and what is expected behind it.
+-- A text is read a line at a time. The rules say what a line must be in its place, and what is expected after it.
 use Rattle.std.specs.Prelude.{◌≡◌, ◌⊎◌, ℕ, ◌+◌, nat_lt, List, [], ◌∷◌, length, Result, Ok, Err, if◌then◌else◌}
 use Rattle.line_source.specs.Lines.{Reading, IsTooLong, IsAtEnd}
 use Rattle.rinex_head.specs.declared.place.What.{What}
@@ -46,7 +46,7 @@ abbrev pub IfRefused : {X : Type 0} → Result X TextFault → (At → Type 0) �
 IfRefused (Err (Refused at)) P = P at
 IfRefused _ P = Unit {0}
 
--- A part of a text was read where s was expected. Behind it next is expected, by what was read in it.
+-- A part of a text was read where s was expected. After it next is expected, by what was read in it.
 abbrev pub Reads : {S F X : Type 0} → Rules S F → Reading → Reading → S → (X → S) → Result X TextFault → Type 0
 Reads rules old new s next (Ok x) = rest_gives rules old s ≡ rest_gives rules new (next x)
 Reads rules old new s next (Err fault) = FailsBy (rest_gives rules old s) fault

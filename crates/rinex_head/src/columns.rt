@@ -10,7 +10,7 @@ pub fn byte_in(line: &[u8], at: usize) -> u8
     if at <= line.len() { line[at - 1] } else { b' ' }
 }
 
-/// The bytes in so many columns from one on; those past the end of the line are blank.
+/// The bytes in a number of columns from one on; those past the end of the line are blank.
 pub fn field<const N: usize>(line: &[u8], first: usize) -> [u8; N]
     requires from_one { 1 ≤ first }
     requires fits { first + N ≤ 5000 }

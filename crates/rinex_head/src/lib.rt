@@ -4,20 +4,23 @@
 //! # How a reader uses the walk
 //!
 //! A reader states its form as `Rules` (specs/Walk.antt), two tables over a type of its own for what is expected
-//! next: `admit` says what a line must be in its place and what is expected behind it, `finish` whether the text
+//! next: `admit` says what a line must be in its place and what is expected after it, `finish` whether the text
 //! may end there. `walk` then says of the whole list of lines what they give, or their first failing place. Lines
 //! that are too long and the numbers of lines are its own and stand in no table.
 //!
 //! The code keeps no such state: it has its own loops over [`next_line`] and [`line_or_end`]. Each of its
-//! functions has one clause, `Reads rules lines.old lines.new before behind result`: where `before` was expected,
-//! the function has read a part of the text, and `behind` is expected now; or the text is refused there. The part
+//! functions has one clause, `Reads rules lines.old lines.new before after result`: where `before` was expected,
+//! the function has read a part of the text, and `after` is expected now; or the text is refused there. The part
 //! that reaches the end has `Gives (rest_gives rules lines.old before) view result`. Each loop has the invariant
 //! `rest_gives rules l.fn.lines before ≡ rest_gives rules l.lines now`, and each answer is the invariant and one
 //! step of proofs/Walks.antt: `goes_on`, `stops_after`, `stops`, `has_none`, `has_long`, `ends_well`, `handed_on`.
 //!
 //! That the place of a refusal is the first failing line by the form alone, which mentions no rules
-//! (specs/FirstFailing.antt), is `first_failing` of proofs/Stops.antt: it asks for a rest of a text behind every
-//! state (`with_line`, one line more), and for a law between the form and the rules.
+//! (specs/FirstFailing.antt), is `first_failing` of proofs/Stops.antt: it asks for a rest of a text, in bytes,
+//! after every state that can be reached (`CanEnd`; `with_line`, one line more), and for a law between the form and the
+//! rules. Lines of bytes are the lines of a text (`text_lines_law`). The column and the reason of a refusal are those of
+//! the check of its own line, where the lines before are admitted in turn (specs/OwnFlaws.antt, `own_flaw` of
+//! proofs/OwnFlawLaws.antt): each form has a law that says so.
 //!
 //! `head_line` gives content and label of a header line and `version_of` the version, kind and system of a first
 //! line, both exactly, with columns past the end of a line blank; `version_of` refuses exactly the lines that lack
@@ -29,6 +32,7 @@
 mod columns;
 mod fields;
 mod head;
+mod laws;
 mod place;
 mod system;
 mod walk;
@@ -40,6 +44,7 @@ pub use fields::{
     whole_number, wide_number,
 };
 pub use head::{FIRST_LABEL, HeadLine, Version, head_line, version_of};
+pub use laws::text_lines_law;
 pub use place::{At, Flaw, TextFault, What};
 pub use system::System;
 pub use walk::{line_or_end, next_line};

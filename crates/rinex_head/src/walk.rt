@@ -6,7 +6,7 @@ ghost use Rattle.rinex_head.specs.Walk.{HasNoLine, IsLongLine};
 use crate::place::{At, Flaw, What};
 use line_source::{Line, Lines};
 
-/// The next line, which must be there. Where there is none, the text is refused at column 1 of the line behind the
+/// The next line, which must be there. Where there is none, the text is refused at column 1 of the line after the
 /// last, for the given reason. A line that is too long is refused at its column 1, and nothing is left then.
 pub fn next_line<'a>(lines: &mut Lines<'a>, missing: What) -> Result<Line<'a>, At>
     ensures { MatchResult result

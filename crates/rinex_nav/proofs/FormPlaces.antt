@@ -9,7 +9,7 @@ use Rattle.rinex_head.specs.Fields.{exponent_in}
 use Rattle.rinex_head.specs.Head.{trimmed}
 use Rattle.rinex_head.specs.Walk.{text_gives, Gives}
 use Rattle.rinex_head.specs.FirstFailing.{IsFileOf}
-use Rattle.rinex_head.proofs.Stops.{Completes, with_line, with_end}
+use Rattle.rinex_head.proofs.Stops.{Completes, CanEnd, can_end, with_line, with_end}
 use Rattle.rinex_head.specs.declared.system.System.{System}
 use Rattle.rinex_head.specs.declared.system.System.TheVariants.{Gps, Galileo}
 use Rattle.rinex_nav.specs.FirstLine.{first_line_of, ends_header}
@@ -66,7 +66,7 @@ module _ (system : System) where
     zero_if (reads_fourth place) 62 zero_fourth,
   ) refl
 
-  -- so many further lines are read: another one is expected, or the record is whole
+  -- after the further lines that were read another one is expected, or the record is whole
   abbrev Behind : List Raw → Start → List Quad → Type 0
   Behind raws s quads = ((length quads < 7) × (behind raws s quads ≡ Further raws s quads)) ⊎ ((raw : Raw) × (behind raws s quads ≡ Body (raws ++ raw ∷ []) false))
 
@@ -87,7 +87,7 @@ module _ (system : System) where
       → (length quads < 7 → Completes (nav_rules system) (behind raws s (quads ++ zeros ∷ []))) → Completes (nav_rules system) (behind raws s quads)
   by_count raws s quads (inl is) again =
       subst (λ (e : Expected). Completes (nav_rules system) e) (sym is.1) (with_line (nav_rules system) (Further raws s quads)
-      (behind raws s (quads ++ zeros ∷ [])) zero_line (lit≤ tt) (takes_zeros raws s quads) (again is.0))
+      (behind raws s (quads ++ zeros ∷ [])) zero_line refl (lit≤ tt) (takes_zeros raws s quads) (again is.0))
   by_count raws s quads (inr is) again = subst (λ (e : Expected). Completes (nav_rules system) e) (sym is.1) (body_done (raws ++ is.0 ∷ []) false)
 
   further_done : (due : ℕ) (raws : List Raw) (s : Start) (quads : List Quad) → 7 ≤ length quads + due → Completes (nav_rules system) (behind raws s quads)
@@ -115,16 +115,19 @@ module _ (system : System) where
   head_done : Completes (nav_rules system) Head
   head_done =
       let admits : admit system Head end_line ≡ Ok (Body [] false) = rw end_line-ends refl in
-      with_line (nav_rules system) Head (Body [] false) end_line (lit≤ tt) admits (body_done [] false)
+      with_line (nav_rules system) Head (Body [] false) end_line refl (lit≤ tt) admits (body_done [] false)
 
-  pub completed : (s : Expected) → Completes (nav_rules system) s
+  completed : (s : Expected) → Completes (nav_rules system) s
   completed First =
       let admits : admit system First version_line ≡ Ok Head = rw (version_line-says system) refl in
-      with_line (nav_rules system) First Head version_line (lit≤ tt) admits head_done
+      with_line (nav_rules system) First Head version_line refl (lit≤ tt) admits head_done
   completed Head = head_done
   completed (Body raws skipping) = body_done raws skipping
-  completed (Further raws s quads) = with_line (nav_rules system) (Further raws s quads) (behind raws s (quads ++ zeros ∷ [])) zero_line (lit≤ tt)
+  completed (Further raws s quads) = with_line (nav_rules system) (Further raws s quads) (behind raws s (quads ++ zeros ∷ [])) zero_line refl (lit≤ tt)
       (takes_zeros raws s quads) (further_done 7 raws s (quads ++ zeros ∷ []) (omega arith))
+
+  pub ends : CanEnd (nav_rules system)
+  ends = can_end (nav_rules system) completed
 
   -- ---- the answers of the reader
 

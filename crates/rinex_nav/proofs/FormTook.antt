@@ -125,7 +125,7 @@ module _ (system : System) where
 
   -- ---- a record of GPS
 
-  -- where a further line is expected, one stands, and behind it the rest
+  -- where a further line is expected, one stands, and after it the rest
   record TookFurther (lines : List (List ℕ)) (raws : List Raw) (s : Start) (quads : List Quad) (n : ℕ) (whole : List Raw) : Type 0 where
     bytes : List ℕ
     rest : List (List ℕ)
@@ -149,7 +149,7 @@ module _ (system : System) where
         gives = subst (λ (e : Expected). walk (nav_rules system) lines (n + 1) e ≡ Ok whole) (sym q.2) first.others;
       }
 
-  -- seven lines, one behind the other
+  -- seven lines, one after the other
   joined : {a b c d e f g : List ℕ} {l0 l1 l2 l3 l4 l5 l6 l7 : List (List ℕ)} → l0 ≡ a ∷ l1 → l1 ≡ b ∷ l2 → l2 ≡ c ∷ l3 → l3 ≡ d ∷ l4 → l4 ≡ e ∷ l5
       → l5 ≡ f ∷ l6 → l6 ≡ g ∷ l7 → l0 ≡ a ∷ b ∷ c ∷ d ∷ e ∷ f ∷ g ∷ l7
   joined p q r s t u v = cc
@@ -256,7 +256,7 @@ module _ (system : System) where
     whole_is : whole ≡ raws ++ records_of parts
     few : length raws ≤ 4096 → length whole ≤ 4096
 
-  -- lines behind the first one of a record of another system
+  -- lines after the first one of a record of another system
   record TookOther (lines : List (List ℕ)) (raws : List Raw) (whole : List Raw) : Type 0 where
     further : List (List ℕ)
     parts : List Part
@@ -270,7 +270,7 @@ module _ (system : System) where
     body : (raws : List Raw) (n : ℕ) (whole : List Raw) → walk (nav_rules system) lines n (Body raws false) ≡ Ok whole → TookBody lines raws whole
     other : (raws : List Raw) (n : ℕ) (whole : List Raw) → walk (nav_rules system) lines n (Body raws true) ≡ Ok whole → TookOther lines raws whole
 
-  -- behind a record of another system a part of its own begins
+  -- after a record of another system a part of its own begins
   begins_anew : (lines : List (List ℕ)) (raws whole : List Raw) → TookBody lines raws whole → TookOther lines raws whole
   begins_anew lines raws whole t = record { further = []; parts = t.parts; lines_are = t.lines_are; behind = All-nil IsFurther; are = t.are; whole_is = t.whole_is; few = t.few }
 
@@ -364,7 +364,7 @@ module _ (system : System) where
       let same : raws ≡ whole = cc (sym (walk-end (nav_rules system) (Body raws skipping) n) ∙ gives) in
       record { parts = []; lines_are = refl; are = All-nil (IsPart system); whole_is = sym same ∙ sym (append-nil raws); few = λ le. rw (← same) le }
 
-  -- so many lines at most
+  -- lines, at most this number
   took : (fuel : ℕ) (lines : List (List ℕ)) → length lines ≤ fuel → Took lines
   took fuel [] le = record { body = λ raws n whole gives. ends_here raws false n whole gives; other = λ raws n whole gives. begins_anew [] raws whole (ends_here raws true n whole gives) }
   took zero (bytes ∷ lines) le = absurd (omega (arith, le))

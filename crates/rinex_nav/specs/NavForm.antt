@@ -18,7 +18,7 @@ pub record IsHeader (system : System) (lines : List (List ℕ)) : Type 0 where
   pub goes_on : All (λ line. ends_header line ≡ false) between
   pub ends : ends_header last ≡ true
 
--- column 1 is blank, as in each line of a record behind its first one
+-- column 1 is blank, as in each line of a record after its first one
 abbrev pub IsFurther : List ℕ → Type 0
 IsFurther line = column line 1 ≡ 32
 

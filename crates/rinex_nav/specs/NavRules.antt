@@ -14,8 +14,8 @@ use Rattle.rinex_nav.specs.declared.record_lines.Quad.{Quad}
 use Rattle.rinex_nav.specs.declared.record_lines.BodyLine.{BodyLine}
 use Rattle.rinex_nav.specs.declared.record_lines.BodyLine.TheVariants.{Passed, Other, Record}
 
--- What may be expected: the first line; a line of the header; a record behind these, the last one of another system
--- or not; a further line of a record behind these.
+-- What may be expected: the first line; a line of the header; a record after these, the last one of another system
+-- or not; a further line of a record after these.
 pub data Expected : Type 0 where
   First : Expected
   Head : Expected
@@ -50,7 +50,7 @@ raw_of s q2 q3 q4 q5 q6 q7 = record {
   health = q7.second;
 }
 
--- behind so many further lines of a record: another one, or the next record
+-- after these further lines of a record: another one, or the next record
 abbrev pub behind : List Raw → Start → List Quad → Expected
 behind raws s (q2 ∷ q3 ∷ q4 ∷ q5 ∷ q6 ∷ q7 ∷ q8 ∷ qs) = Body (raws ++ raw_of s q2 q3 q4 q5 q6 q7 ∷ []) false
 behind raws s quads = Further raws s quads

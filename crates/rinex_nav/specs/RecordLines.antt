@@ -53,11 +53,11 @@ start_in system line =
     and_then (number_in line 43) (λ af1.
     and_then (number_in line 62) (λ af2. Ok (record { sat = sat; toc = toc; af0 = af0; af1 = af1; af2 = af2 }))))))
 
--- the same behind so many records of the system
+-- the same after a number of records of the system
 abbrev pub record_line_of : System → ℕ → List ℕ → Result BodyLine Flaw
 record_line_of system count line = if nat_le 4096 count then flawed 1 TooMany else and_then (start_in system line) (λ start. Ok (Record start))
 
--- where a record may begin behind so many records of the system, the last record of another system or not
+-- where a record may begin after a number of records of the system, the last record of another system or not
 unfoldable pub body_line_of : System → ℕ → Bool → List ℕ → Result BodyLine Flaw
 body_line_of system count skipping line =
     if column line 1 == 32 then (if skipping || are_blank line then Ok Passed else flawed 1 BadField)

@@ -124,7 +124,7 @@ fn first_line(system: System, line: &[u8], count: usize) -> Result<BodyLine, Fla
     Ok(BodyLine::Record(first_part(system, line)?))
 }
 
-/// What a line says where a record may begin behind so many records of the system, the last record of another system or not.
+/// What a line says where a record may begin after a number of records of the system, the last record of another system or not.
 #[tactic(auto, unfolding(crate::specs::RecordLines::body_line_of))]
 pub fn body_line(
     system: System,

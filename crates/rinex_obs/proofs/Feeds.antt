@@ -17,7 +17,7 @@ use Rattle.obs_store.specs.declared.file.ObsFile.{ObsFile}
 use Rattle.obs_fields.proofs.AmountLaws.{tail_is}
 use Rattle.rinex_obs.specs.ObsRules.{Expected, obs_rules, obs_of, finish}
 use Rattle.rinex_obs.specs.ObsForm.{HasObsFile}
-use Rattle.rinex_obs.proofs.FormPlaces.{file_of_rules, rules_of_file, completed, ok_exit, only_exit}
+use Rattle.rinex_obs.proofs.FormPlaces.{file_of_rules, rules_of_file, ends, ok_exit, only_exit}
 use Rattle.memchr.specs.Find.{is_byte, Passes, Nowhere, NoneBefore}
 use Rattle.rinex_obs.specs.Started.{EndsLine, GoesOn}
 use Rattle.rinex_obs.specs.Feeding.{line_gives, gives_with, Takes, TakesAll, IsFed, IsAnswerTo}
@@ -160,7 +160,7 @@ module _ (system : System) where
     ok = ok_exit system (lines_of text) _ exact;
     only = only_exit system (lines_of text) _ exact;
     refused = refused_exit (obs_rules system) (HasObsFile system) (file_of_rules system) (lines_of text) _ _ exact;
-    first = first_exit (obs_rules system) (HasObsFile system) (file_of_rules system) (rules_of_file system) (completed system) (lines_of text) _ _ exact;
+    first = first_exit (obs_rules system) (HasObsFile system) (file_of_rules system) (rules_of_file system) (ends system) (lines_of text) _ _ exact;
     exact = exact;
   }
 

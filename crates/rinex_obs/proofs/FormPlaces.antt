@@ -1,5 +1,5 @@
--- The place of a refusal is the first failing line by the grammar: every state can be completed to a file.
-use Rattle.std.proofs.Common.{◌≡◌, ◌<◌, ◌≤◌, ◌+◌, ◌-◌, ◌*◌, ℕ, zero, suc, Bool, true, false, ◌==◌, min, List, [], ◌∷◌, ◌++◌, drop, codes, Result, Ok, Err, Option, Some, None, refl, sym, ap, ◌∙◌, subst, arith, lit≤, add-zero, IfOk}
+-- The place of a refusal is the first failing line by the grammar: every state that can be reached can be completed to a file.
+use Rattle.std.proofs.Common.{◌≡◌, ◌<◌, ◌≤◌, ◌+◌, ◌-◌, ◌*◌, ℕ, zero, suc, nat_lt, Bool, true, false, ◌==◌, min, List, [], ◌∷◌, ◌++◌, length, drop, codes, Result, Ok, Err, Option, Some, None, refl, sym, ap, ◌∙◌, subst, arith, lit≤, add-zero, IfOk}
 use Rattle.std.proofs.lemmas.Bool.Decides.{nat_tests}
 use Rattle.gps_time.specs.declared.Tick.{Tick}
 use Rattle.obs_store.specs.declared.file.ObsFile.{ObsFile}
@@ -14,7 +14,7 @@ use Rattle.rinex_head.specs.declared.system.System.TheVariants.{Gps, Galileo}
 use Rattle.rinex_head.specs.Systems.{letter_of}
 use Rattle.rinex_head.specs.Walk.{text_gives, Gives}
 use Rattle.rinex_head.specs.FirstFailing.{IsFileOf}
-use Rattle.rinex_head.proofs.Stops.{Completes, with_line, with_end}
+use Rattle.rinex_head.proofs.Stops.{Completes, CanEnd, is_line, with_line, with_end}
 use Rattle.rinex_obs.specs.FirstLine.{first_line_of}
 use Rattle.rinex_obs.specs.HeaderLines.{header_line_of}
 use Rattle.obs_fields.specs.Types.{is_listed, names_from}
@@ -27,7 +27,9 @@ use Rattle.obs_fields.specs.declared.header_line.HeaderLine.TheVariants as heade
 use Rattle.obs_fields.specs.declared.labels.Label.TheVariants as label
 use Rattle.rinex_obs.specs.ObsRules.{HeaderSoFar, Expected, First, Head, More, Body, Sats, Skip, bare_header, with_types, whole_header, file_of, more_types, more_sats, more_lines, admit, obs_rules}
 use Rattle.rinex_obs.specs.ObsForm.{IsObsFile, HasObsFile}
+use Rattle.obs_fields.proofs.FreshNames.{AreApart, fresh, below_fresh, not_listed, a_first_byte, names_counted}
 use Rattle.rinex_obs.proofs.Steps.{types_there}
+use Rattle.rinex_obs.proofs.ListedTypes.{Holds, kept}
 use Rattle.rinex_obs.proofs.FormLaws.{file_given}
 use Rattle.rinex_obs.proofs.FormTook.{file_took}
 
@@ -51,7 +53,7 @@ module _ (system : System) where
   sats_done h epochs tag power sats (suc k) =
       let one_less : suc k - 1 ≡ k = omega arith in
       let next : ℕ → Result Expected Flaw = λ j. Ok (more_sats h epochs tag power sats j) in
-      with_line (obs_rules system) (Sats h epochs tag power sats (suc k)) (more_sats h epochs tag power sats k) (codes "R01") (lit≤ tt)
+      with_line (obs_rules system) (Sats h epochs tag power sats (suc k)) (more_sats h epochs tag power sats k) (codes "R01") refl (lit≤ tt)
       (other_system h epochs tag power sats (suc k) ∙ ap next one_less) (sats_done h epochs tag power sats k)
 
   empty_line : (h : Header) (epochs : List Epoch) (changes : Bool) (n : ℕ) → admit (Skip h epochs changes n) [] ≡ Ok (more_lines h epochs changes (n - 1))
@@ -64,7 +66,7 @@ module _ (system : System) where
   lines_done h epochs changes (suc k) =
       let one_less : suc k - 1 ≡ k = omega arith in
       let next : ℕ → Result Expected Flaw = λ j. Ok (more_lines h epochs changes j) in
-      with_line (obs_rules system) (Skip h epochs changes (suc k)) (more_lines h epochs changes k) [] (lit≤ tt) (empty_line h epochs changes (suc k) ∙ ap next one_less) (lines_done h epochs changes k)
+      with_line (obs_rules system) (Skip h epochs changes (suc k)) (more_lines h epochs changes k) [] refl (lit≤ tt) (empty_line h epochs changes (suc k) ∙ ap next one_less) (lines_done h epochs changes k)
 
   abbrev end_line : List ℕ
   end_line = codes "                                                            END OF HEADER"
@@ -84,6 +86,10 @@ module _ (system : System) where
   types_line-says Gps = refl
   types_line-says Galileo = refl
 
+  types_line-bytes : (of : System) → is_line (types_line of) ≡ true
+  types_line-bytes Gps = refl
+  types_line-bytes Galileo = refl
+
   version_line-says : (of : System) → first_line_of of version_line ≡ Ok 304
   unfolding first_line_of trimmed padded
   version_line-says Gps = refl
@@ -92,7 +98,7 @@ module _ (system : System) where
   listed_done : (h : HeaderSoFar) (types : List (List ℕ)) → h.types ≡ Some types → Completes (obs_rules system) (Head h)
   listed_done h types e =
       let admits : admit (Head h) end_line ≡ Ok (Body (whole_header h types) []) = rw (end_line-says h.system) (types_there h end_line types e) in
-      with_line (obs_rules system) (Head h) (Body (whole_header h types) []) end_line (lit≤ tt) admits (body_done (whole_header h types) [])
+      with_line (obs_rules system) (Head h) (Body (whole_header h types) []) end_line refl (lit≤ tt) admits (body_done (whole_header h types) [])
 
   one_type : (h : HeaderSoFar) → h.types ≡ None → admit (Head h) (types_line h.system) ≡ Ok (Head (with_types h (codes "C1C" ∷ [])))
   unfolding names_from is_listed padded
@@ -103,113 +109,107 @@ module _ (system : System) where
     where
       by_types : (t : Option (List (List ℕ))) → h.types ≡ t → Completes (obs_rules system) (Head h)
       by_types (Some types) e = listed_done h types e
-      by_types None e = with_line (obs_rules system) (Head h) (Head (with_types h (codes "C1C" ∷ []))) (types_line h.system) (lit≤ tt) (one_type h e)
+      by_types None e = with_line (obs_rules system) (Head h) (Head (with_types h (codes "C1C" ∷ []))) (types_line h.system) (types_line-bytes h.system) (lit≤ tt) (one_type h e)
           (listed_done (with_types h (codes "C1C" ∷ [])) (codes "C1C" ∷ []) refl)
 
-  -- ---- further types: names that aren't listed yet
+  -- ---- further types: names that aren't listed yet, all with the same first byte
 
-  -- each name begins below x
-  abbrev AreBelow : ℕ → List (List ℕ) → Type 0
-  AreBelow x [] = Unit {0}
-  AreBelow x ([] ∷ names) = AreBelow x names
-  AreBelow x ((b ∷ bs) ∷ names) = (b < x) × AreBelow x names
-
-  AreBelow-more : (x y : ℕ) (names : List (List ℕ)) → x ≤ y → AreBelow x names → AreBelow y names
-  AreBelow-more x y [] le are = tt
-  AreBelow-more x y ([] ∷ names) le are = AreBelow-more x y names le are
-  AreBelow-more x y ((b ∷ bs) ∷ names) le are = (omega (arith, are.0), AreBelow-more x y names le are.1)
-
-  abbrev bound_of : List (List ℕ) → ℕ
-  bound_of [] = 0
-  bound_of ([] ∷ names) = bound_of names
-  bound_of ((b ∷ bs) ∷ names) = b + 1 + bound_of names
-
-  below_bound : (names : List (List ℕ)) → AreBelow (bound_of names) names
-  below_bound [] = tt
-  below_bound ([] ∷ names) = below_bound names
-  below_bound ((b ∷ bs) ∷ names) = (omega arith, AreBelow-more (bound_of names) (b + 1 + bound_of names) names (omega arith) (below_bound names))
-
-  abbrev fresh : ℕ → List ℕ
-  fresh x = x ∷ 32 ∷ 32 ∷ []
-
-  below_fresh : (x : ℕ) (names : List (List ℕ)) → AreBelow x names → AreBelow (x + 1) (names ++ fresh x ∷ [])
-  below_fresh x [] are = (omega arith, tt)
-  below_fresh x ([] ∷ names) are = below_fresh x names are
-  below_fresh x ((b ∷ bs) ∷ names) are = (omega (arith, are.0), below_fresh x names are.1)
-
-  not_listed : (x : ℕ) (names : List (List ℕ)) → AreBelow x names → is_listed names (fresh x) ≡ false
-  unfolding is_listed
-  not_listed x [] are = refl
-  not_listed x ([] ∷ names) are = not_listed x names are
-  not_listed x ((b ∷ bs) ∷ names) are = let other : (b == x) ≡ false = grind (arith, nat_tests, are.0) in rw other (not_listed x names are.1)
-
-  abbrev fields : ℕ → ℕ → List ℕ
-  fields x zero = 32 ∷ codes "SYS / # / OBS TYPES"
-  fields x (suc m) = x ∷ 32 ∷ 32 ∷ 32 ∷ fields (x + 1) m
+  -- the fields of a line from that second byte on
+  abbrev fields : ℕ → ℕ → ℕ → List ℕ
+  fields c x zero = 32 ∷ codes "SYS / # / OBS TYPES"
+  fields c x (suc m) = c ∷ x ∷ 32 ∷ 32 ∷ fields c (x + 1) m
 
   abbrev fresh_line : ℕ → List ℕ
-  fresh_line x = codes "       " ++ fields x 13
+  fresh_line c = codes "       " ++ fields c 48 13
 
-  fresh_line-label : (x : ℕ) → label_in Rinex3 (fresh_line x) ≡ label.Types
+  fresh_line-label : (c : ℕ) → label_in Rinex3 (fresh_line c) ≡ label.Types
   unfolding label_in trimmed
-  fresh_line-label x = refl
+  fresh_line-label c = refl
+
+  fresh_line-bytes : (c : ℕ) → 48 ≤ c → c < 256 → is_line (fresh_line c) ≡ true
+  fresh_line-bytes c from below =
+      let byte : nat_lt c 256 ≡ true = grind (arith, nat_tests) in
+      let other : (c == 10) ≡ false = grind (arith, nat_tests) in
+      rw (byte, other) refl
 
   -- the fields from number j on
-  fields_from : (x j m k : ℕ) → j + m ≡ k → drop (4 * j) (fields x k) ≡ fields (x + j) m
-  fields_from x zero m k is = let same : k ≡ m = omega (arith, is) in rw (add-zero, same) refl
-  fields_from x (suc j) m zero is = absurd (omega (arith, is))
-  fields_from x (suc j) m (suc k) is =
+  fields_from : (c x j m k : ℕ) → j + m ≡ k → drop (4 * j) (fields c x k) ≡ fields c (x + j) m
+  fields_from c x zero m k is = let same : k ≡ m = omega (arith, is) in rw (add-zero, same) refl
+  fields_from c x (suc j) m zero is = absurd (omega (arith, is))
+  fields_from c x (suc j) m (suc k) is =
       let four : 4 * suc j ≡ suc (suc (suc (suc (4 * j)))) = omega arith in
       let same : x + suc j ≡ x + 1 + j = omega arith in
-      rw (four, same) (fields_from (x + 1) j m k (omega (arith, is)))
+      rw (four, same) (fields_from c (x + 1) j m k (omega (arith, is)))
 
-  fresh_name : (x j m : ℕ) → j + suc m ≡ 13 → columns (fresh_line x) (8 + 4 * j) 3 ≡ fresh (x + j)
+  fresh_name : (c j m : ℕ) → j + suc m ≡ 13 → columns (fresh_line c) (8 + 4 * j) 3 ≡ fresh c (48 + j)
   unfolding padded
-  fresh_name x j m is =
+  fresh_name c j m is =
       let at : 8 + 4 * j - 1 ≡ suc (suc (suc (suc (suc (suc (suc (4 * j))))))) = omega arith in
-      rw (at, fields_from x j (suc m) 13 is) refl
+      rw (at, fields_from c 48 j (suc m) 13 is) refl
 
-  -- so many names from number j on are taken
-  names_taken : (x j m : ℕ) (names : List (List ℕ)) → j + m ≤ 13 → AreBelow (x + j) names → (all : List (List ℕ)) × (names_from Rinex3 (fresh_line x) (8 + 4 * j) m names ≡ Ok all)
+  -- m names from number j on are taken
+  names_taken : (c j m : ℕ) (names : List (List ℕ)) → j + m ≤ 13 → AreApart c (48 + j) names → (all : List (List ℕ)) × (names_from Rinex3 (fresh_line c) (8 + 4 * j) m names ≡ Ok all)
   unfolding names_from
-  names_taken x j zero names few are = (names, refl)
-  names_taken x j (suc m) names few are =
+  names_taken c j zero names few are = (names, refl)
+  names_taken c j (suc m) names few are =
       let k = 13 - j - 1 in
-      let name : columns (fresh_line x) (8 + 4 * j) 3 ≡ fresh (x + j) = fresh_name x j k (omega arith) in
+      let name : columns (fresh_line c) (8 + 4 * j) 3 ≡ fresh c (48 + j) = fresh_name c j k (omega arith) in
       let next : 8 + 4 * j + 4 ≡ 8 + 4 * (j + 1) = omega arith in
-      let on : x + j + 1 ≡ x + (j + 1) = omega arith in
-      let below : AreBelow (x + (j + 1)) (names ++ fresh (x + j) ∷ []) = subst (λ (y : ℕ). AreBelow y (names ++ fresh (x + j) ∷ [])) on (below_fresh (x + j) names are) in
-      let rest = names_taken x (j + 1) m (names ++ fresh (x + j) ∷ []) (omega arith) below in
-      (rest.0, rw (name, not_listed (x + j) names are, next) rest.1)
+      let on : 48 + j + 1 ≡ 48 + (j + 1) = omega arith in
+      let below : AreApart c (48 + (j + 1)) (names ++ fresh c (48 + j) ∷ []) = subst (λ (y : ℕ). AreApart c y (names ++ fresh c (48 + j) ∷ [])) on (below_fresh c (48 + j) names are) in
+      let rest = names_taken c (j + 1) m (names ++ fresh c (48 + j) ∷ []) (omega arith) below in
+      (rest.0, rw (name, not_listed c (48 + j) names are, next) rest.1)
 
-  more_step : (h : HeaderSoFar) (names : List (List ℕ)) (n : ℕ) → (all : List (List ℕ)) × (admit (More h names n) (fresh_line (bound_of names)) ≡ Ok (more_types h all (n - 13)))
+  -- a line of names that aren't listed yet
+  record FreshLine (h : HeaderSoFar) (names : List (List ℕ)) (n : ℕ) : Type 0 where
+    line : List ℕ
+    bytes : is_line line ≡ true
+    short : length line ≤ 4096
+    all : List (List ℕ)
+    few : length all + (n - 13) ≤ 200
+    admits : admit (More h names n) line ≡ Ok (more_types h all (n - 13))
+
+  more_step : (h : HeaderSoFar) (names : List (List ℕ)) (n : ℕ) → length names + n ≤ 200 → FreshLine h names n
   unfolding padded
-  more_step h names n =
-      let x = bound_of names in
-      let are : AreBelow (x + 0) names = subst (λ (y : ℕ). AreBelow y names) (sym (add-zero x)) (below_bound names) in
-      let taken = names_taken x 0 (min 13 n) names (omega arith) are in
-      (taken.0, rw (fresh_line-label x, taken.1) refl)
+  more_step h names n few =
+      let first = a_first_byte names (omega (arith, few)) in
+      let c = first.byte in
+      let taken = names_taken c 0 (min 13 n) names (omega arith) first.apart in
+      let counted = names_counted Rinex3 (fresh_line c) 8 (min 13 n) names taken.0 taken.1 in
+      record {
+        line = fresh_line c;
+        bytes = fresh_line-bytes c first.from first.below;
+        short = lit≤ tt;
+        all = taken.0;
+        few = omega (arith, counted, few);
+        admits = rw (fresh_line-label c, taken.1) refl;
+      }
 
-  more_done : (fuel : ℕ) (h : HeaderSoFar) (names : List (List ℕ)) (n : ℕ) → n ≤ fuel → Completes (obs_rules system) (more_types h names n)
-  more_done fuel h names zero le = head_done (with_types h names)
-  more_done zero h names (suc k) le = absurd (omega (arith, le))
-  more_done (suc fuel) h names (suc k) le =
-      let step = more_step h names (suc k) in
-      with_line (obs_rules system) (More h names (suc k)) (more_types h step.0 (suc k - 13)) (fresh_line (bound_of names)) (lit≤ tt) step.1 (more_done fuel h step.0 (suc k - 13) (omega (arith, le)))
+  more_done : (fuel : ℕ) (h : HeaderSoFar) (names : List (List ℕ)) (n : ℕ) → n ≤ fuel → length names + n ≤ 200 → Completes (obs_rules system) (more_types h names n)
+  more_done fuel h names zero le few = head_done (with_types h names)
+  more_done zero h names (suc k) le few = absurd (omega (arith, le))
+  more_done (suc fuel) h names (suc k) le few =
+      let step = more_step h names (suc k) few in
+      with_line (obs_rules system) (More h names (suc k)) (more_types h step.all (suc k - 13)) step.line step.bytes step.short step.admits
+      (more_done fuel h step.all (suc k - 13) (omega (arith, le)) step.few)
 
-  pub completed : (s : Expected) → Completes (obs_rules system) s
-  completed (First of) =
+  completed : (s : Expected) → Holds s → Completes (obs_rules system) s
+  completed (First of) holds =
       let admits : admit (First of) version_line ≡ Ok (Head (bare_header of 304)) = rw (version_line-says of) refl in
-      with_line (obs_rules system) (First of) (Head (bare_header of 304)) version_line (lit≤ tt) admits (head_done (bare_header of 304))
-  completed (Head h) = head_done h
-  completed (More h names n) =
-      let step = more_step h names n in
-      with_line (obs_rules system) (More h names n) (more_types h step.0 (n - 13)) (fresh_line (bound_of names)) (lit≤ tt) step.1 (more_done (n - 13) h step.0 (n - 13) (omega arith))
-  completed (Body h epochs) = body_done h epochs
-  completed (Sats h epochs tag power sats n) = with_line (obs_rules system) (Sats h epochs tag power sats n)
-      (more_sats h epochs tag power sats (n - 1)) (codes "R01") (lit≤ tt) (other_system h epochs tag power sats n) (sats_done h epochs tag power sats (n - 1))
-  completed (Skip h epochs changes n) = with_line (obs_rules system) (Skip h epochs changes n) (more_lines h epochs changes (n - 1)) [] (lit≤ tt)
+      with_line (obs_rules system) (First of) (Head (bare_header of 304)) version_line refl (lit≤ tt) admits (head_done (bare_header of 304))
+  completed (Head h) holds = head_done h
+  completed (More h names n) holds =
+      let step = more_step h names n holds in
+      with_line (obs_rules system) (More h names n) (more_types h step.all (n - 13)) step.line step.bytes step.short step.admits
+      (more_done (n - 13) h step.all (n - 13) (omega arith) step.few)
+  completed (Body h epochs) holds = body_done h epochs
+  completed (Sats h epochs tag power sats n) holds = with_line (obs_rules system) (Sats h epochs tag power sats n)
+      (more_sats h epochs tag power sats (n - 1)) (codes "R01") refl (lit≤ tt) (other_system h epochs tag power sats n) (sats_done h epochs tag power sats (n - 1))
+  completed (Skip h epochs changes n) holds = with_line (obs_rules system) (Skip h epochs changes n) (more_lines h epochs changes (n - 1)) [] refl (lit≤ tt)
       (empty_line h epochs changes n) (lines_done h epochs changes (n - 1))
+
+  pub ends : CanEnd (obs_rules system)
+  ends = record { Holds = Holds; kept = kept system; completed = completed }
 
   -- the grammar and the rules have the same files
   pub file_of_rules : (lines : List (List ℕ)) → HasObsFile system lines → IsFileOf (obs_rules system) lines

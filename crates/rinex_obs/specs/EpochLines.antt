@@ -30,13 +30,13 @@ event_in bytes changes = and_then (count_in Rinex3 bytes) (λ n. Ok (line.Event 
 abbrev pub counted_epoch : List ℕ → Bool → Tick → Result EpochLine Flaw
 counted_epoch bytes power tag = and_then (count_in Rinex3 bytes) (λ n. Ok (line.Epoch tag power n))
 
--- an epoch behind these ones
+-- an epoch after these ones
 unfoldable pub epoch_in : List Epoch → List ℕ → Bool → Result EpochLine Flaw
 epoch_in epochs bytes power =
     if nat_le 20_000 (length epochs) then flawed 1 TooMany
     else and_then (tag_in bytes) (λ tag. if is_later (last_tag_of epochs) tag then counted_epoch bytes power tag else flawed 3 Order)
 
--- Flag 0 is an epoch, flag 1 one before which power failed. With 2 and 3 the antenna moves. Behind 4 the header
+-- Flag 0 is an epoch, flag 1 one before which power failed. With 2 and 3 the antenna moves. After 4 the header
 -- may change; 5 and 6 are other events.
 abbrev pub by_flag : List Epoch → List ℕ → ℕ → Result EpochLine Flaw
 by_flag epochs bytes flag =
@@ -46,7 +46,7 @@ by_flag epochs bytes flag =
     (if flag == 52 then event_in bytes true else
     (if (flag == 53) || (flag == 54) then event_in bytes false else flawed 32 Flag))))
 
--- where an epoch's line is expected behind these epochs
+-- where an epoch's line is expected after these epochs
 unfoldable pub epoch_line_of : List Epoch → List ℕ → Result EpochLine Flaw
 epoch_line_of epochs bytes =
     if are_blank bytes then Ok line.Blank

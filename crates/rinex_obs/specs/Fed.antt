@@ -10,7 +10,7 @@ use Rattle.rinex_obs.specs.declared.feed.FeedState.TheVariants as state
 use Rattle.rinex_obs.specs.Opened.{expected_in}
 use Rattle.rinex_obs.specs.Feeding.{gives_with, IsFed}
 
--- its lines and the one that has begun are among so many bytes
+-- its lines and the one that has begun are among the bytes that were taken
 abbrev pub LinesWithin : FeedState → ℕ → Type 0
 LinesWithin (state.Open t) taken = t.number + length t.line ≤ taken
 LinesWithin (state.Refused at) taken = Unit {0}
@@ -24,7 +24,7 @@ LinesWithin-prop state.NoMemory taken = Prim.hlevel props
 abbrev pub gives_behind : System → OpenText → List ℕ → Result ObsFile At
 gives_behind system t more = gives_with system t.number t.line (expected_in t.file) more
 
--- The texts of so many bytes whose answer is, whatever follows them, the one of the state. After running out of
+-- The texts of this length whose answer is, whatever follows them, the one of the state. After running out of
 -- memory there is none.
 abbrev pub StandsFor : System → FeedState → ℕ → List ℕ → Type 0
 StandsFor system (state.Open t) taken text = IsFed system (gives_behind system t) taken text

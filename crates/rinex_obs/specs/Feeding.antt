@@ -18,7 +18,7 @@ use Rattle.rinex_obs.specs.ObsForm.{IsObsFile, HasObsFile}
 abbrev pub line_gives : Expected → List ℕ → Result Expected Flaw
 line_gives s line = if nat_lt 4096 (length line) then flawed 1 LongLine else admit s line
 
--- What a text gives by what follows, where n lines of it were read, a line has begun behind them, and s is expected.
+-- What a text gives by what follows, where n lines of it were read, a line has begun after them, and s is expected.
 abbrev pub gives_with : System → ℕ → List ℕ → Expected → List ℕ → Result ObsFile At
 gives_with system n line s more = walk (obs_rules system) (lines_from more line) n s
 
@@ -34,7 +34,7 @@ TakesAll bytes old new (Ok u) = (more : List ℕ) → old (bytes ++ more) ≡ ne
 TakesAll bytes old new (Err (Refused at)) = (more : List ℕ) → old (bytes ++ more) ≡ Err at
 TakesAll bytes old new (Err NoMemory) = Unit {0}
 
--- so many bytes were taken, and whatever follows the text, the answer is this
+-- this number of bytes was taken, and whatever follows the text, the answer is this
 pub record IsFed (system : System) (gives : List ℕ → Result ObsFile At) (taken : ℕ) (text : List ℕ) : Type 0 where
   pub counted : length text ≡ taken
   pub gives_so : (more : List ℕ) → obs_of system (lines_of (text ++ more)) ≡ gives more

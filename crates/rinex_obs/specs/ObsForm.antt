@@ -68,7 +68,7 @@ satellites_of [] = []
 satellites_of (None ∷ found) = satellites_of found
 satellites_of (Some s ∷ found) = s ∷ satellites_of found
 
--- each line gives this behind the satellites before it
+-- each line gives this after the satellites before it
 abbrev pub AreSatLines : System → List KeptType → List SatObs → List (List ℕ) → List (Option SatObs) → Type 0
 AreSatLines system kept before [] [] = Unit {0}
 AreSatLines system kept before [] (f ∷ found) = ⊥
@@ -82,7 +82,7 @@ abbrev pub AreEventLines : Bool → List (List ℕ) → Type 0
 AreEventLines changes [] = Unit {0}
 AreEventLines changes (bytes ∷ lines) = (length bytes ≤ 4096) × (event_line_of Rinex3 changes bytes ≡ Ok tt) × AreEventLines changes lines
 
--- behind these epochs
+-- after these epochs
 pub record IsEpochPart (system : System) (kept : List KeptType) (epochs : List Epoch) (p : EpochPart) : Type 0 where
   pub short : length p.bytes ≤ 4096
   pub says : epoch_line_of epochs p.bytes ≡ Ok (line.Epoch p.tag p.power (length p.sat_lines))
@@ -96,7 +96,7 @@ pub record IsEventPart (epochs : List Epoch) (p : EventPart) : Type 0 where
 abbrev pub epoch_in_part : EpochPart → Epoch
 epoch_in_part p = epoch_of p.tag p.power (satellites_of p.found)
 
--- the parts of a body behind these epochs
+-- the parts of a body after these epochs
 abbrev pub AreParts : System → List KeptType → List Epoch → List Part → Type 0
 AreParts system kept epochs [] = Unit {0}
 AreParts system kept epochs (Blank bytes ∷ parts) = (length bytes ≤ 4096) × (epoch_line_of epochs bytes ≡ Ok line.Blank) × AreParts system kept epochs parts

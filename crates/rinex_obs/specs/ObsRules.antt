@@ -59,8 +59,8 @@ file_of h epochs = record { hundredths = h.hundredths; position = h.position; de
 abbrev pub epoch_of : Tick → Bool → List SatObs → Epoch
 epoch_of tag power sats = record { tag = tag; power = power; sats = sats }
 
--- What may be expected: the first line, with which the reading of a system's satellites begins; a line of the header; so many further types, in a further line of the list;
--- an epoch or an event behind these epochs; so many lines of an epoch's satellites; so many lines of an event.
+-- What may be expected: the first line, with which the reading of a system's satellites begins; a line of the header; further types, in a further line of the list, by their number;
+-- an epoch or an event after these epochs; lines of an epoch's satellites, or of an event, by their number.
 pub data Expected : Type 0 where
   First : System → Expected
   Head : HeaderSoFar → Expected
@@ -69,17 +69,17 @@ pub data Expected : Type 0 where
   Sats : Header → List Epoch → Tick → Bool → List SatObs → ℕ → Expected
   Skip : Header → List Epoch → Bool → ℕ → Expected
 
--- behind a list's line, where so many types are still due
+-- after a list's line, by the number of types that are still due
 abbrev pub more_types : HeaderSoFar → List (List ℕ) → ℕ → Expected
 more_types h names zero = Head (with_types h names)
 more_types h names (suc n) = More h names (suc n)
 
--- behind an epoch's line, where so many lines follow
+-- after an epoch's line, by the number of lines that follow
 abbrev pub more_sats : Header → List Epoch → Tick → Bool → List SatObs → ℕ → Expected
 more_sats h epochs tag power sats zero = Body h (epochs ++ epoch_of tag power sats ∷ [])
 more_sats h epochs tag power sats (suc n) = Sats h epochs tag power sats (suc n)
 
--- behind an event's line, where so many lines follow
+-- after an event's line, by the number of lines that follow
 abbrev pub more_lines : Header → List Epoch → Bool → ℕ → Expected
 more_lines h epochs changes zero = Body h epochs
 more_lines h epochs changes (suc n) = Skip h epochs changes (suc n)

@@ -1,4 +1,4 @@
--- What is expected behind the lines that were read.
+-- What is expected after the lines that were read.
 use Rattle.std.specs.Prelude.{List, [], None, Some}
 use Rattle.std.specs.declared.option.Option.{Option}
 use Rattle.obs_store.specs.declared.series.Epoch.{Epoch}
@@ -23,7 +23,7 @@ in_header h (Some list) = More h list.names list.left
 abbrev pub expected_in_header : OpenHeader → Expected
 expected_in_header h = in_header (said_so_far h) h.list
 
--- what is expected behind a line of it, which may be its end
+-- what is expected after a line of it, which may be its end
 abbrev pub behind_line : OpenHeader → Option Header → Expected
 behind_line h None = expected_in_header h
 behind_line h (Some header) = Body header []

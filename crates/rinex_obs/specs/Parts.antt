@@ -6,7 +6,7 @@ use Rattle.obs_store.specs.Epochs.{last_tag_of}
 use Rattle.rinex_obs.specs.declared.open_body.Part.{Part}
 use Rattle.rinex_obs.specs.declared.open_body.Part.TheVariants as part
 
--- Lines are due in it, and an epoch may stand behind these ones.
+-- Lines are due in it, and an epoch may stand after these ones.
 abbrev pub FitsBehind : List Epoch → Part → Type 0
 FitsBehind epochs part.Between = Unit {0}
 FitsBehind epochs (part.Epoch e) = (0 < e.left) × (length epochs < 20_000) × IfSome (last_tag_of epochs) (λ last. last.0 < e.tag.0)

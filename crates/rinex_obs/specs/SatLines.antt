@@ -22,6 +22,6 @@ with_values kept sats line (Some number) =
     if has_satellite number sats then flawed 1 Twice
     else and_then (values_in Rinex3 0 kept line missing_values) (λ values. Ok (Some (satellite_of number values)))
 
--- the satellite of the system behind these ones of its epoch, or nothing at one of another system
+-- the satellite of the system after these ones of its epoch, or nothing at one of another system
 unfoldable pub satellite_line_of : System → List KeptType → List SatObs → List ℕ → Result (Option SatObs) Flaw
 satellite_line_of system kept sats line = and_then (satellite_at system false line 1) (λ number. with_values kept sats line number)

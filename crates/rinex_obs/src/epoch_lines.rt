@@ -16,9 +16,9 @@ use rinex_head::{
 #[derive(Clone, Copy, Debug)]
 pub enum EpochLine {
     Blank,
-    /// An event of so many lines, behind which the header may change.
+    /// An event with the number of its lines; after it the header may change.
     Event { changes: bool, count: u16 },
-    /// An epoch of so many satellites' lines; power may have failed before it.
+    /// An epoch with the number of its satellites' lines; power may have failed before it.
     Epoch { tag: Tick, power: bool, count: u16 },
 }
 
@@ -75,7 +75,7 @@ fn flagged(line: &[u8], flag: u8, epochs: &Epochs) -> Result<EpochLine, Flaw>
     }
 }
 
-/// What a line says where an epoch's line is expected behind these epochs.
+/// What a line says where an epoch's line is expected after these epochs.
 #[tactic(auto, unfolding(crate::specs::EpochLines::epoch_line_of))]
 pub fn epoch_line(line: &[u8], epochs: &Epochs) -> Result<EpochLine, Flaw>
     ensures value { result ≡ epoch_line_of epochs.now line.now }

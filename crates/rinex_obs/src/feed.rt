@@ -17,7 +17,7 @@ use obs_store::ObsFile;
 use rinex_head::{At, System, TextFault, What};
 use std::alloc::{AllocError, Global};
 
-/// A text of which more may follow: so many lines were read, and one may have begun.
+/// A text of which more may follow: the number of the lines that were read, and the one that has begun.
 #[derive(Drop)]
 pub struct OpenText {
     pub number: u32,
@@ -184,7 +184,7 @@ impl Taker for Feed {
 
     ghost is_refused = { λ s. HasNoMemory s.state };
 
-    /// Takes the next piece. Behind a line that is refused it drops what follows. After running out of memory it answers so
+    /// Takes the next piece. After a line that is refused it drops what follows. After running out of memory it answers so
     /// again, and so does `finish`.
     fn take(&mut self, piece: &[u8]) -> Result<(), AllocError>
         requires { self.old.taken + length piece.now ≤ 67108864 }

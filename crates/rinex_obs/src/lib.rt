@@ -4,7 +4,7 @@
 //! system. Here stand the form of a RINEX 3 file of one system, its rules and the feed (`Feed`), and the calls of each
 //! system. `read_obs` answers the observation file of GPS that a text stands for exactly where it stands for one (`ok`,
 //! `only`), and else refuses it at the first line with which no file begins (`refused`, `first`), at the column and for
-//! the reason of the first failing check in that line (`exact`). `ObsFeed` takes the text in pieces and keeps at most
+//! the reason of the first failing check in that line (`exact`, `obs_flaw_law`). `ObsFeed` takes the text in pieces and keeps at most
 //! 4,097 bytes of it, those of the line that has begun; its `finish` gives this answer for every text for which the feed
 //! stands, and so for all its pieces together, however they were cut (`answers`). After running out of memory it answers
 //! that alone (`no_memory`, `again`). `read_obs_of` and `SystemFeed` are the same for either system; gal_obs has the calls of
@@ -16,6 +16,7 @@ mod feed;
 mod gps;
 mod header;
 mod header_lines;
+mod laws;
 mod open_body;
 mod open_file;
 mod open_header;
@@ -26,6 +27,7 @@ mod system_feed;
 
 pub use feed::{Feed, FeedState};
 pub use gps::read_obs;
+pub use laws::obs_flaw_law;
 pub use reader::read_obs_of;
 pub use rinex_head::TextFault as ObsFault;
 pub use started::{Overlong, StartedLine, split_line};

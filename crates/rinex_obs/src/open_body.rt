@@ -17,7 +17,7 @@ use rinex_head::{Flaw, TextFault, What};
 use std::alloc::{AllocError, Global};
 use std::mem;
 
-/// An epoch of which so many lines are due.
+/// An epoch, and how many of its lines are due.
 #[derive(Drop)]
 pub struct OpenEpoch {
     pub tag: Tick,
@@ -49,10 +49,10 @@ impl OpenEpoch {
 /// Where the next line of a body stands.
 #[derive(Drop)]
 pub enum Part {
-    /// Behind the parts that were read.
+    /// After the parts that were read.
     Between,
     Epoch(OpenEpoch),
-    /// In an event, of which so many lines are due.
+    /// In an event, and how many of its lines are due.
     Event { changes: bool, left: u16 },
 }
 
@@ -71,7 +71,7 @@ impl OpenBody {
     ghost use Rattle.rinex_obs.specs.Opened.{expected_in_body};
     ghost use Rattle.rinex_obs.specs.Feeding.{Takes};
 
-    /// The body behind its header, whose kept types are these.
+    /// The body after its header, whose kept types are these.
     pub fn new(alloc: Global, header: Header, kept: Vec<KeptType>) -> OpenBody
         requires { kept.items ≡ kept_from header.system 0 header.types }
         ensures { expected_in_body result ≡ Body header [] }

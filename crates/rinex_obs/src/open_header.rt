@@ -25,7 +25,7 @@ pub struct OpenHeader {
 impl OpenHeader {
     ghost use Rattle.rinex_obs.specs.Opened.{said_so_far, expected_in_header, behind_line};
 
-    /// The header behind its first line.
+    /// The header after its first line.
     pub fn new(system: System, hundredths: u16) -> OpenHeader
         ensures { expected_in_header result ≡ Head (bare_header system hundredths) }
     {

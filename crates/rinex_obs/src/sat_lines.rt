@@ -8,7 +8,7 @@ use obs_fields::{KeptType, Layout, satellite, set_values};
 use obs_store::{SatObs, Satellites};
 use rinex_head::{Flaw, System, What};
 
-/// The satellite of the system in a line behind these ones of its epoch, or nothing at one of another system.
+/// The satellite of the system in a line after these ones of its epoch, or nothing at one of another system.
 #[tactic(auto, unfolding(crate::specs::SatLines::satellite_line_of))]
 pub fn satellite_line(
     system: System,

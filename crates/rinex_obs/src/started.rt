@@ -65,7 +65,7 @@ impl StartedLine {
     }
 }
 
-/// The bytes before the first line feed and those behind it, if there is one.
+/// The bytes before the first line feed and those after it, if there is one.
 #[tactic(auto, using(crate::proofs::Feeds::ends_slices, crate::proofs::Feeds::front_slices, crate::proofs::Feeds::goes_on))]
 pub fn split_line(bytes: &[u8]) -> Option<(&[u8], &[u8])>
     ensures ends { IfSome result (λ parts. EndsLine bytes.now parts.0.now parts.1.now) }

@@ -2,3 +2,4 @@ pub mod FaultLaws
 pub mod FileLaws
 pub mod RefusalLaws
 pub mod SessionLaws
+pub mod ReadingLaws

@@ -6,7 +6,8 @@
 //! text is none of its form (status 3, with the place where its lines leave the form). The line on err names that file
 //! (`named`), and a file is refused only after it was read to its end (`refused`). They are opened in this order, each once. `obs_file`
 //! says the same of one observation file. Out of memory may come in the place of any answer. Two observation files of
-//! which no session is made are refused with one line (`refused_pair`).
+//! which no session is made are refused with one line (`refused_pair`). A file whose text is known has one reading
+//! (`one_obs_law`, `one_nav_law`).
 #![tactic(auto)]
 
 ghost use Rattle.std.specs.Prelude.{◌≡◌, ◌≢◌, ◌≤◌, ℕ, List, [], ◌∷◌, length, IfOk, OnOk, All};
@@ -27,11 +28,13 @@ ghost use Rattle.session_files.specs.FaultNames.{IsFaultOf};
 ghost use Rattle.session_files.specs.SessionFiles.{IsObsOf, IsNavOf, StopsAtObs, StopsAtNav, StopsAtFiles, AreFilesOf};
 
 mod commands;
+mod laws;
 mod refusals;
 
 pub use commands::{SessionCommand, answer_session};
 use eph_store::NavFile;
 use job_answers::{Status, Stop, load_file, read_fault, refused, too_large};
+pub use laws::{one_nav_law, one_obs_law};
 use line_source::{Files, LoadFault, Taker, load_into};
 use obs_source::ObsTaker;
 use obs_store::ObsFile;

@@ -3,7 +3,7 @@ use Rattle.std.proofs.Common.{◌≡◌, ℤ, suc, pos, neg_ℤ, ◌-◌, ◌^�
 use Rattle.std.proofs.lemmas.List.{take_all}
 use Rattle.zero_rows.specs.Sums.{square, sum_at, total, AreSmall}
 
--- what is behind the first
+-- what is after the first
 abbrev pub others : List ℤ → List ℤ
 others rest = take (length rest - 1) (drop 1 rest)
 

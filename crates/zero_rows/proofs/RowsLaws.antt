@@ -13,12 +13,12 @@ use Rattle.rinex_head.specs.declared.place.TextFault.{TextFault}
 use Rattle.rinex_head.specs.Walk.{walk, Gives}
 use Rattle.rinex_head.specs.FirstFailing.{IsFileOf}
 use Rattle.rinex_head.proofs.Walks.{walk-takes, walk-end, walk-took}
-use Rattle.rinex_head.proofs.Stops.{Completes, with_line, with_end}
+use Rattle.rinex_head.proofs.Stops.{Completes, CanEnd, can_end, with_line, with_end}
 use Rattle.zero_rows.specs.Rows.{Rows, rows, AreDiffLines, AreRows, IsNumberLine, IsZeroFile}
 use Rattle.zero_rows.specs.RowsRules.{Expected, Head, Claim, Diff, claimed, with_diff, with_some, admit, finish, within, number_behind, rows_rules, rows_of}
 use Rattle.zero_rows.proofs.RowsSteps.{admits_diff, finish_some}
 
--- a line with the word is the word and what stands behind it
+-- a line with the word is the word and what stands after it
 word_front : (word line text : List ℕ) → bytes_eq (take (length word) line) word ≡ true → text ≡ drop (length word) line → line ≡ word ++ text
 word_front word line text same is =
     let front = (bytes_eq-Decides (take (length word) line) word).0 same in
@@ -189,25 +189,28 @@ file_of_rules lines file = (rows file.0 file.1, rows_of-form lines file.0 file.1
 pub rules_of_file : (lines : List (List ℕ)) → IsFileOf rows_rules lines → IsZeroFile lines
 rules_of_file lines found = (found.0.claim, found.0.diffs, form-rows_of lines found.0 found.1)
 
--- behind whatever was read stands a rest that makes a file of it
-pub completed : (s : Expected) → Completes rows_rules s
+-- after whatever was read stands a rest that makes a file of it
+completed : (s : Expected) → Completes rows_rules s
 unfolding whole_of
-completed Head = with_line rows_rules Head Claim (codes "zero 1") (lit≤ tt) refl (completed_claim)
+completed Head = with_line rows_rules Head Claim (codes "zero 1") refl (lit≤ tt) refl (completed_claim)
   where
     completed_diff : (z : ℤ) → Completes rows_rules (claimed z)
-    completed_diff z = with_line rows_rules (claimed z) (with_diff (rows z []) (pos 0)) (codes "diff 0") (lit≤ tt) refl (with_end rows_rules (with_diff (rows z []) (pos 0)) (rows z (pos 0 ∷ [])) refl)
+    completed_diff z = with_line rows_rules (claimed z) (with_diff (rows z []) (pos 0)) (codes "diff 0") refl (lit≤ tt) refl (with_end rows_rules (with_diff (rows z []) (pos 0)) (rows z (pos 0 ∷ [])) refl)
 
     completed_claim : Completes rows_rules Claim
-    completed_claim = with_line rows_rules Claim (claimed (pos 0)) (codes "z 0") (lit≤ tt) refl (completed_diff (pos 0))
-completed Claim = with_line rows_rules Claim (claimed (pos 0)) (codes "z 0") (lit≤ tt) refl
-    (with_line rows_rules (claimed (pos 0)) (with_diff (rows (pos 0) []) (pos 0)) (codes "diff 0") (lit≤ tt) refl
+    completed_claim = with_line rows_rules Claim (claimed (pos 0)) (codes "z 0") refl (lit≤ tt) refl (completed_diff (pos 0))
+completed Claim = with_line rows_rules Claim (claimed (pos 0)) (codes "z 0") refl (lit≤ tt) refl
+    (with_line rows_rules (claimed (pos 0)) (with_diff (rows (pos 0) []) (pos 0)) (codes "diff 0") refl (lit≤ tt) refl
     (with_end rows_rules (with_diff (rows (pos 0) []) (pos 0)) (rows (pos 0) (pos 0 ∷ [])) refl))
 completed (Diff so_far) = by_diffs so_far.diffs
   where
     by_diffs : (ds : List ℤ) → Completes rows_rules (Diff (rows so_far.claim ds))
-    by_diffs [] = with_line rows_rules (Diff (rows so_far.claim [])) (Diff (rows so_far.claim (pos 0 ∷ []))) (codes "diff 0") (lit≤ tt) refl
+    by_diffs [] = with_line rows_rules (Diff (rows so_far.claim [])) (Diff (rows so_far.claim (pos 0 ∷ []))) (codes "diff 0") refl (lit≤ tt) refl
         (with_end rows_rules (Diff (rows so_far.claim (pos 0 ∷ []))) (rows so_far.claim (pos 0 ∷ [])) refl)
     by_diffs (d ∷ ds) = with_end rows_rules (Diff (rows so_far.claim (d ∷ ds))) (rows so_far.claim (d ∷ ds)) refl
+
+pub ends : CanEnd rows_rules
+ends = can_end rows_rules completed
 
 -- an answer is the one file of the lines
 pub ok_exit : (lines : List (List ℕ)) (r : Result Rows TextFault) → Gives (rows_of lines) (λ found. found) r → IfOk r (λ found. AreRows lines found.claim found.diffs)

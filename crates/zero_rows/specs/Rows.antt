@@ -10,7 +10,7 @@ pub record Rows : Type 0 where
 abbrev pub rows : ℤ → List ℤ → Rows
 rows z ds = record { claim = z; diffs = ds }
 
--- the line is a word and behind it a number in its spelling, at most so large
+-- the line is a word and after it a number in its spelling, at most that large
 pub record IsNumberLine (word : List ℕ) (most : ℕ) (line : List ℕ) (number : ℤ) : Type 0 where
   pub text : List ℕ
   pub line_is : line ≡ word ++ text

@@ -10,7 +10,7 @@ use Rattle.rinex_head.specs.Places.{and_then, flawed}
 use Rattle.rinex_head.specs.Walk.{Rules, text_gives}
 use Rattle.zero_rows.specs.Rows.{Rows, rows}
 
--- the number in a line behind a word: first its shape, then its range
+-- the number in a line after a word: first its shape, then its range
 abbrev pub within : ℕ → ℕ → Option ℤ → Result ℤ Flaw
 within most column None = flawed 1 BadLine
 within most column (Some z) = if nat_le (size_of z) most then Ok z else flawed column BadRange
@@ -18,7 +18,7 @@ within most column (Some z) = if nat_le (size_of z) most then Ok z else flawed c
 abbrev pub number_behind : List ℕ → ℕ → List ℕ → Result ℤ Flaw
 number_behind word most line = if bytes_eq (take (length word) line) word then within most (length word + 1) (whole_of (drop (length word) line)) else flawed 1 BadLine
 
--- what can be expected: the first line, the claimed number, or a difference behind these rows
+-- what can be expected: the first line, the claimed number, or a difference after these rows
 pub data Expected : Type 0 where
   Head : Expected
   Claim : Expected
@@ -35,7 +35,7 @@ admit Head line = if bytes_eq line (codes "zero 1") then Ok Claim else flawed 1 
 admit Claim line = and_then (number_behind (codes "z ") 10000000 line) (λ z. Ok (claimed z))
 admit (Diff so_far) line = if nat_le 1000 (length so_far.diffs) then flawed 1 BadLine else and_then (number_behind (codes "diff ") 1000000000 line) (λ d. Ok (with_diff so_far d))
 
--- the text may end behind one difference or more
+-- the text may end after one difference or more
 abbrev pub with_some : ℤ → List ℤ → Result Rows Flaw
 with_some z [] = flawed 1 BadLine
 with_some z (d ∷ ds) = Ok (rows z (d ∷ ds))

@@ -59,7 +59,7 @@ const BAD_LINE: Flaw = Flaw {
     what: What::BadLine,
 };
 
-// The number in a line behind a word and a blank.
+// The number in a line after a word and a blank.
 fn number_in(word: &[u8], most: u32, line: &[u8]) -> Result<i64, Flaw>
     requires { length word.now ≤ 100 }
     ensures { result ≡ number_behind word.now most line.now }

@@ -9,7 +9,7 @@ use Rattle.cert_lines.specs.Lengths.{IsWholeArc}
 use Rattle.cert_lines.proofs.Appends.{line_pushed}
 use Rattle.cert_lines.proofs.write.push_arc_lines.Goals as goal
 
--- an arc and those behind it
+-- an arc and those after it
 arc_pushed : (ss a b whole : List ℕ) (arcs : List Arc) (i : ℕ) (d : Arc) → i < length arcs → b ≡ a ++ text_of_lines (arc_line ss (get_or arcs i d) ∷ [])
     → a ++ text_of_lines (arc_lines ss (drop i arcs)) ≡ whole → b ++ text_of_lines (arc_lines ss (drop (i + 1) arcs)) ≡ whole
 arc_pushed ss a b whole arcs i d inside pushed so_far =

@@ -1,4 +1,4 @@
--- Blanks, a sign or none, digits, and a point with three digits behind it.
+-- Blanks, a sign or none, digits, and a point with three digits after it.
 use Rattle.std.proofs.Common.{◌≡◌, ◌<◌, ◌-◌, ◌∙◌, ◌++◌, ◌∷◌, ℤ, List, Ok, Result, length, take, drop, get_or, w64, to_z, of_z, length-take, sym, ap, arith}
 use Rattle.std.proofs.lemmas.List.{length-drop}
 use Rattle.std.proofs.lemmas.Int.{to_z-of_z}

@@ -6,7 +6,7 @@ use Rattle.rinex_head.proofs.Walks.{gives_same}
 use Rattle.rinex_head.proofs.Stops.{refused_exit, first_exit}
 use Rattle.rinex2_obs.specs.Obs2Form.{HasObs2File}
 use Rattle.rinex2_obs.specs.Obs2Rules.{First, obs2_rules}
-use Rattle.rinex2_obs.proofs.FormPlaces.{file_of_rules, rules_of_file, completed, ok_exit, only_exit}
+use Rattle.rinex2_obs.proofs.FormPlaces.{file_of_rules, rules_of_file, ends, ok_exit, only_exit}
 use Rattle.rinex2_obs.proofs.reader.read_obs2.Goals as goal
 
 pub returns : goal.returns
@@ -18,6 +18,6 @@ returns c =
       ok = ok_exit lines _ exact;
       only = only_exit lines _ exact;
       refused = refused_exit obs2_rules HasObs2File file_of_rules lines _ _ exact;
-      first = first_exit obs2_rules HasObs2File file_of_rules rules_of_file completed lines _ _ exact;
+      first = first_exit obs2_rules HasObs2File file_of_rules rules_of_file ends lines _ _ exact;
       exact = exact;
     }

@@ -1,4 +1,4 @@
--- The seven further lines, one behind the other.
+-- The seven further lines, one after the other.
 use Rattle.std.proofs.Common.{◌++◌, ◌∙◌, ◌∷◌, [], false, refl}
 use Rattle.rinex_nav.specs.NavRules.{Further, Body}
 use Rattle.rinex_nav.proofs.Steps.{hands_on}

@@ -1,4 +1,4 @@
--- a record is expected behind those of the file
+-- a record is expected after those of the file
 use Rattle.std.proofs.Common.{◌≡◌, [], false, length}
 use Rattle.rinex_head.specs.Walk.{rest_gives}
 use Rattle.rinex_nav.specs.NavRules.{Body, nav_rules}

@@ -7,7 +7,7 @@ use Rattle.rinex_head.proofs.Walks.{gives_same}
 use Rattle.rinex_head.proofs.Stops.{refused_exit, first_exit}
 use Rattle.rinex_nav.specs.NavRules.{First, nav_rules}
 use Rattle.rinex_nav.specs.NavForm.{HasNavFile}
-use Rattle.rinex_nav.proofs.FormPlaces.{file_of_rules, rules_of_file, completed, ok_exit, only_exit}
+use Rattle.rinex_nav.proofs.FormPlaces.{file_of_rules, rules_of_file, ends, ok_exit, only_exit}
 use Rattle.rinex_nav.proofs.reader.read_records_of.Goals as goal
 
 pub returns : goal.returns
@@ -19,6 +19,6 @@ returns c =
       ok = ok_exit c.args.system lines _ exact;
       only = only_exit c.args.system lines _ exact;
       refused = refused_exit (nav_rules c.args.system) (HasNavFile c.args.system) (file_of_rules c.args.system) lines _ _ exact;
-      first = first_exit (nav_rules c.args.system) (HasNavFile c.args.system) (file_of_rules c.args.system) (rules_of_file c.args.system) (completed c.args.system) lines _ _ exact;
+      first = first_exit (nav_rules c.args.system) (HasNavFile c.args.system) (file_of_rules c.args.system) (rules_of_file c.args.system) (ends c.args.system) lines _ _ exact;
       exact = exact;
     }

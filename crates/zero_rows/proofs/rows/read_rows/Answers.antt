@@ -5,7 +5,7 @@ use Rattle.rinex_head.proofs.Walks.{gives_same}
 use Rattle.rinex_head.proofs.Stops.{refused_exit, first_exit}
 use Rattle.zero_rows.specs.Rows.{Rows, IsZeroFile}
 use Rattle.zero_rows.specs.RowsRules.{Head, rows_rules}
-use Rattle.zero_rows.proofs.RowsLaws.{file_of_rules, rules_of_file, completed, ok_exit, only_exit}
+use Rattle.zero_rows.proofs.RowsLaws.{file_of_rules, rules_of_file, ends, ok_exit, only_exit}
 use Rattle.zero_rows.proofs.rows.read_rows.Goals as goal
 
 pub returns : goal.returns
@@ -17,6 +17,6 @@ returns c =
       ok = ok_exit lines _ exact;
       only = only_exit lines _ exact;
       refused = refused_exit rows_rules IsZeroFile file_of_rules lines _ _ exact;
-      first = first_exit rows_rules IsZeroFile file_of_rules rules_of_file completed lines _ _ exact;
+      first = first_exit rows_rules IsZeroFile file_of_rules rules_of_file ends lines _ _ exact;
       exact = exact;
     }

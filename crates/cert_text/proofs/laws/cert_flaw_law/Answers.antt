@@ -1,0 +1,7 @@
+use Rattle.rinex_head.proofs.OwnFlawLaws.{own_flaw}
+use Rattle.cert_words.specs.TextLines.{ended_lines}
+use Rattle.cert_text.specs.Rules.{cert_rules}
+use Rattle.cert_text.proofs.laws.cert_flaw_law.Goals as goal
+
+pub returns : goal.returns
+returns c = λ text at gives. own_flaw cert_rules (ended_lines text) at gives

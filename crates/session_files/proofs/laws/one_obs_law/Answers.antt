@@ -1,0 +1,5 @@
+use Rattle.session_files.proofs.ReadingLaws.{obs_once}
+use Rattle.session_files.proofs.laws.one_obs_law.Goals as goal
+
+pub returns : goal.returns
+returns c = λ system told name text file other is a b. obs_once system told name text file other is a b
