@@ -68,8 +68,8 @@ fn add_sat(
     requires near { abs_diff at.now.base.now.tag.0 at.now.rover.now.tag.0 ≤ 5_000_000 }
     requires number { IsSatNumber number }
     ensures { OnOk result
-        (IsPassedOver (setting_with rules.now table.now.fit.now) at.now.base.now at.now.rover.now number sats.old.items sats.new.items boxes.old boxes.new
-        ⊎ IsAdded (setting_with rules.now table.now.fit.now) at.now.base.now at.now.rover.now (record { base = at.now.base_passed.now; rover = at.now.rover_passed.now })
+        (IsPassedOver (setting_with rules.now table.now) at.now.base.now at.now.rover.now number sats.old.items sats.new.items boxes.old boxes.new
+        ⊎ IsAdded (setting_with rules.now table.now) at.now.base.now at.now.rover.now (record { base = at.now.base_passed.now; rover = at.now.rover_passed.now })
         at.now.number number sats.old.items sats.new.items boxes.old boxes.new) }
 {
     if sats.len() >= MOST_SATS {
@@ -94,7 +94,7 @@ fn sats_of(
 ) -> Result<Vec<UsedSat>, AllocError>
     requires near { abs_diff at.now.base.now.tag.0 at.now.rover.now.tag.0 ≤ 5_000_000 }
     ensures { IfOk result (λ sats.
-        AreGathered (setting_with rules.now table.now.fit.now) at.now.base.now at.now.rover.now (record { base = at.now.base_passed.now; rover = at.now.rover_passed.now })
+        AreGathered (setting_with rules.now table.now) at.now.base.now at.now.rover.now (record { base = at.now.base_passed.now; rover = at.now.rover_passed.now })
         at.now.number 37 boxes.old sats.items boxes.new) }
 {
     let mut sats: Vec<UsedSat> = Vec::new(alloc);
@@ -114,7 +114,7 @@ pub fn gather(
 ) -> Result<UsedPair, AllocError>
     requires near { abs_diff at.now.base.now.tag.0 at.now.rover.now.tag.0 ≤ 5_000_000 }
     ensures { IfOk result (λ u.
-        IsGathered (setting_with rules.now table.now.fit.now) at.now.base.now at.now.rover.now (record { base = at.now.base_passed.now; rover = at.now.rover_passed.now })
+        IsGathered (setting_with rules.now table.now) at.now.base.now at.now.rover.now (record { base = at.now.base_passed.now; rover = at.now.rover_passed.now })
         at.now.number boxes.old u boxes.new) }
 {
     let power = power_up_to(at);

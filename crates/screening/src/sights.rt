@@ -18,7 +18,7 @@ use crate::rules::Rules;
 use obs_rows::SIGNALS;
 use obs_store::Epoch;
 use signal_travel::{above, seen_from};
-use sv_orbit::{SvBox, SvRecord, sv_from};
+use sv_orbit::{SvBox, sv_from};
 
 /// The signal by which a receiver's clock is known.
 const L1_CODE: usize = 2;
@@ -55,7 +55,7 @@ fn differences(base: &[i64; SIGNALS], rover: &[i64; SIGNALS]) -> [i64; SIGNALS]
     differences
 }
 
-/// What a pair of epochs says of a satellite that it may use. The boxes of the record and of a receiver are made once.
+/// What a pair of epochs says of a satellite that it may use. The boxes of a receiver are made once.
 pub fn entry_of(
     rules: &Rules,
     table: &RecordTable<'_>,
@@ -67,14 +67,13 @@ pub fn entry_of(
     requires near { abs_diff base.now.tag.0 rover.now.tag.0 ≤ 5_000_000 }
     requires number { IsSatNumber number }
     ensures { MatchOption result
-        (IsLeftOut (setting_with rules.now table.now.fit.now) base.now rover.now number)
-        (IsEntryAt (setting_with rules.now table.now.fit.now) base.now rover.now pair number) }
+        (IsLeftOut (setting_with rules.now table.now) base.now rover.now number)
+        (IsEntryAt (setting_with rules.now table.now) base.now rover.now pair number) }
 {
     let at_base = amounts_at(&rules.types, base, number)?;
     let at_rover = amounts_at(&rules.types, rover, number)?;
-    let eph = chosen(table, number, base.tag)?;
-    let record = SvRecord::of(eph, &rules.world);
-    let from_base = sv_from(&record, base.tag, at_base[L1_CODE]);
+    let record = chosen(table, number, base.tag)?;
+    let from_base = sv_from(record, base.tag, at_base[L1_CODE]);
     if !is_high(rules, &from_base) {
         return None;
     }
@@ -82,7 +81,7 @@ pub fn entry_of(
         pair,
         sat: number,
         base: from_base,
-        rover: sv_from(&record, rover.tag, at_rover[L1_CODE]),
+        rover: sv_from(record, rover.tag, at_rover[L1_CODE]),
         observed: differences(&at_base, &at_rover),
         tag: base.tag,
     })

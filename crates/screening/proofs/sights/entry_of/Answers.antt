@@ -1,47 +1,49 @@
-use Rattle.std.proofs.Common.{refl, sym, ◌∙◌}
+use Rattle.std.proofs.Common.{◌≡◌, refl, sym, ◌∙◌}
 use Rattle.screening.specs.Sightings.{Setting, Sighting, IsSighting, WasSent, setting_with, code_of}
 use Rattle.screening.proofs.ChosenOnce.{none_chosen}
-use Rattle.screening.proofs.SightLaws.{match_none, match_some, code_range, from_record, sees_sent, was_sent, base_near, rover_near, left_out_as}
+use Rattle.screening.proofs.SightLaws.{match_none, match_some, if_some, code_range, from_record, sees_sent, was_sent, base_near, rover_near, left_out_as}
 use Rattle.screening.proofs.sights.entry_of.Goals as goal
 
-pub returns-in_err-eph : goal.returns-in_err-eph
-returns-in_err-eph c =
-    rw c.from_residual-in_err-eph.ensures
-    (λ g is. absurd (none_chosen c.args.table.now.fit.now c.args.number c.args.base.now.tag.0 g.eph (match_none c.chosen.result _ _ c.in_err-eph.was c.chosen.ensures) is.chosen))
+pub returns-in_err-record : goal.returns-in_err-record
+returns-in_err-record c =
+    rw c.from_residual-in_err-record.ensures
+    (λ g is. absurd (none_chosen c.args.table.now.fit.now c.args.number c.args.base.now.tag.0 g.eph (match_none c.chosen.result _ _ c.in_err-record.was c.chosen.ensures.chosen) is.chosen))
 
 pub returns-then-not-is_high : goal.returns-then-not-is_high
 returns-then-not-is_high c =
-    let s : Setting = setting_with c.args.rules.now c.args.table.now.fit.now in
-    let g : Sighting = record { base = c.in_ok-at_base.at_base; rover = c.in_ok-at_rover.at_rover; eph = c.in_ok-eph.eph.now } in
+    let s : Setting = setting_with c.args.rules.now c.args.table.now in
+    let g : Sighting = record { base = c.in_ok-at_base.at_base; rover = c.in_ok-at_rover.at_rover; eph = c.in_ok-record.record.now.clock.eph } in
     let seen : IsSighting s c.args.base.now c.args.rover.now c.args.number g = record {
       number = c.requires.number;
       at_base = sym c.amounts_at.ensures.value ∙ c.in_ok-at_base.was;
       at_rover = sym c.amounts_at-2.ensures.value ∙ c.in_ok-at_rover.was;
-      chosen = match_some c.chosen.result _ _ c.in_ok-eph.eph c.in_ok-eph.was c.chosen.ensures;
+      chosen = match_some c.chosen.result _ _ c.in_ok-record.record c.in_ok-record.was c.chosen.ensures.chosen;
     } in
     let range = code_range c.amounts_at.result g.base c.in_ok-at_base.was c.amounts_at.ensures.code_from c.amounts_at.ensures.code_to in
-    let clock = c.of-record.result.clock in
-    let holds = from_record _ clock.world g.eph clock.eph _ (code_of g.base) _ range c.of-record.ensures.world c.of-record.ensures.eph c.sv_from-from_base.ensures in
+    let clock = c.in_ok-record.record.now.clock in
+    let same : clock.world ≡ c.args.table.now.world = if_some c.chosen.result _ c.in_ok-record.record c.in_ok-record.was c.chosen.ensures.world in
+    let holds = from_record _ clock.world g.eph clock.eph _ (code_of g.base) _ range same refl c.sv_from-from_base.ensures in
     left_out_as s c.args.base.now c.args.rover.now c.args.number g seen
-    (sees_sent s g.eph c.args.base.now.tag.0 (code_of g.base) c.sv_from-from_base.result _ (was_sent s c.args.rules.now.world g.eph c.args.base.now.tag.0 (code_of g.base) refl (base_near c.args.base.now.tag.0 g.eph.toe.0 seen.chosen.candidate.near) range)
+    (sees_sent s g.eph c.args.base.now.tag.0 (code_of g.base) c.sv_from-from_base.result _ (was_sent s c.args.table.now.world g.eph c.args.base.now.tag.0 (code_of g.base) refl (base_near c.args.base.now.tag.0 g.eph.toe.0 seen.chosen.candidate.near) range)
     holds c.is_high.ensures.seen (c.is_high.ensures.left_out c.if-not-is_high.true))
 
 pub returns : goal.returns
 returns c =
-    let s : Setting = setting_with c.args.rules.now c.args.table.now.fit.now in
-    let g : Sighting = record { base = c.in_ok-at_base.at_base; rover = c.in_ok-at_rover.at_rover; eph = c.in_ok-eph.eph.now } in
+    let s : Setting = setting_with c.args.rules.now c.args.table.now in
+    let g : Sighting = record { base = c.in_ok-at_base.at_base; rover = c.in_ok-at_rover.at_rover; eph = c.in_ok-record.record.now.clock.eph } in
     let seen : IsSighting s c.args.base.now c.args.rover.now c.args.number g = record {
       number = c.requires.number;
       at_base = sym c.amounts_at.ensures.value ∙ c.in_ok-at_base.was;
       at_rover = sym c.amounts_at-2.ensures.value ∙ c.in_ok-at_rover.was;
-      chosen = match_some c.chosen.result _ _ c.in_ok-eph.eph c.in_ok-eph.was c.chosen.ensures;
+      chosen = match_some c.chosen.result _ _ c.in_ok-record.record c.in_ok-record.was c.chosen.ensures.chosen;
     } in
     let range = code_range c.amounts_at.result g.base c.in_ok-at_base.was c.amounts_at.ensures.code_from c.amounts_at.ensures.code_to in
     let range_too = code_range c.amounts_at-2.result g.rover c.in_ok-at_rover.was c.amounts_at-2.ensures.code_from c.amounts_at-2.ensures.code_to in
-    let clock = c.of-record.result.clock in
-    let holds = from_record _ clock.world g.eph clock.eph _ (code_of g.base) _ range c.of-record.ensures.world c.of-record.ensures.eph c.sv_from-from_base.ensures in
+    let clock = c.in_ok-record.record.now.clock in
+    let same : clock.world ≡ c.args.table.now.world = if_some c.chosen.result _ c.in_ok-record.record c.in_ok-record.was c.chosen.ensures.world in
+    let holds = from_record _ clock.world g.eph clock.eph _ (code_of g.base) _ range same refl c.sv_from-from_base.ensures in
     let sent : WasSent s g.eph c.args.base.now.tag.0 (code_of g.base) =
-    was_sent s c.args.rules.now.world g.eph c.args.base.now.tag.0 (code_of g.base) refl (base_near c.args.base.now.tag.0 g.eph.toe.0 seen.chosen.candidate.near) range in
+    was_sent s c.args.table.now.world g.eph c.args.base.now.tag.0 (code_of g.base) refl (base_near c.args.base.now.tag.0 g.eph.toe.0 seen.chosen.candidate.near) range in
     record {
       pair_is = refl;
       sat_is = refl;
@@ -52,9 +54,9 @@ returns c =
         tag = refl;
         observed = c.differences.ensures.value;
         base_holds = holds;
-        rover_holds = from_record _ clock.world g.eph clock.eph _ (code_of g.rover) _ range_too c.of-record.ensures.world c.of-record.ensures.eph c.sv_from.ensures;
+        rover_holds = from_record _ clock.world g.eph clock.eph _ (code_of g.rover) _ range_too same refl c.sv_from.ensures;
         base_sent = sent;
-        rover_sent = was_sent s c.args.rules.now.world g.eph c.args.rover.now.tag.0 (code_of g.rover) refl
+        rover_sent = was_sent s c.args.table.now.world g.eph c.args.rover.now.tag.0 (code_of g.rover) refl
             (rover_near c.args.base.now.tag.0 c.args.rover.now.tag.0 g.eph.toe.0 seen.chosen.candidate.near c.requires.near) range_too;
       };
     }
