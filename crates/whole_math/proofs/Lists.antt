@@ -1,4 +1,4 @@
--- One more element behind a list; std's lemmas on lists have its length and `Any`.
+-- One more element after a list; std's lemmas on lists have its length and `Any`.
 use Rattle.std.proofs.Common.{◌≡◌, ◌⊎◌, inl, inr, ⊎_elim, ℕ, zero, suc, ◌<◌, ◌≤◌, Some, List, [], ◌∷◌, ◌++◌, length, get_or, Any, arith, sym, ◌∙◌, refl, subst}
 use Rattle.std.specs.Prelude.{slice_get}
 use Rattle.std.proofs.lemmas.Bool.{cases_lt}
