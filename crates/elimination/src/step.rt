@@ -7,7 +7,7 @@ ghost use Rattle.elimination.specs.StepEntries.{is_small, factor_entry, other_en
 ghost use Rattle.elimination.specs.Stops.{refusal_of, column_at, form_after};
 ghost use Rattle.integer_form.specs.Factors.{factor_at};
 
-use crate::entries::{factor_of, is_small, kept_of, other_after, own_after};
+use crate::entries::{Share, factor_of, is_small, kept_of, other_after, own_after, share_of};
 use form_tables::{FactorTable, MOST_COLUMNS, MOST_FACTORS, NormalTable};
 
 /// Why a step stops.
@@ -52,12 +52,20 @@ fn write_factors(
     true
 }
 
-/// Writes the entries of row r after its own; false where one is too large.
-fn update_others(table: &mut NormalTable, j: usize, r: usize, columns: usize, a: i128) -> bool
+/// Writes the entries of row r after its own, with the share of the entry of row j in the pivot; false where one is too large.
+fn update_others(
+    table: &mut NormalTable,
+    j: usize,
+    r: usize,
+    columns: usize,
+    a: i128,
+    share: &Share,
+) -> bool
     requires row { j < r }
     requires row_in { r < columns }
     requires columns_in { columns ≤ MOST_COLUMNS }
     requires positive { pos 0 <ℤ a }
+    requires pivot_size { unsigned_abs a ≤ 2 ^ 52 }
     requires pivots { (c : ℕ) → j < c → c < columns → unsigned_abs (entry table.old j c) ≤ 2 ^ 52 }
     requires entries { (c : ℕ) → r < c → c < columns → unsigned_abs (entry table.old r c) ≤ 2 ^ 52 }
     ensures value { result ≡ true → (c : ℕ) → r < c → c < columns → entry table.new r c ≡ other_entry table.old j (unsigned_abs a) r c }
@@ -67,7 +75,7 @@ fn update_others(table: &mut NormalTable, j: usize, r: usize, columns: usize, a:
     ensures others { (i c : ℕ) → i ≢ r → entry table.new i c ≡ entry table.old i c }
 {
     for c in r + 1..columns {
-        let other = other_after(table.at(r, c), table.at(j, r), table.at(j, c), a);
+        let other = other_after(table.at(r, c), table.at(j, r), table.at(j, c), a, share);
         if !is_small(other) {
             return false;
         }
@@ -96,7 +104,8 @@ fn update_row(table: &mut NormalTable, j: usize, r: usize, columns: usize, a: i1
         return false;
     }
     table.set(r, r, own);
-    update_others(table, j, r, columns, a)
+    let share = share_of(table.at(j, r), a);
+    update_others(table, j, r, columns, a, &share)
 }
 
 /// Writes all entries after column j; false where one is too large.
