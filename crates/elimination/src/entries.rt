@@ -28,16 +28,6 @@ fn product(p: i128, q: i128) -> i128
     p * q
 }
 
-/// p · 2^30 / a to the nearest: the factor of a column with the entry p in the column of the pivot a.
-pub(crate) fn factor_of(p: i128, a: i128) -> i128
-    requires p_size { unsigned_abs p ≤ 2 ^ 52 }
-    requires positive { pos 0 <ℤ a }
-    ensures value { result ≡ nearest_div (p *ℤ pos (2 ^ 30)) (unsigned_abs a) }
-    ensures size { unsigned_abs result ≤ 2 ^ 104 }
-{
-    nearest(product(p, 1 << FACTOR_EXPONENT), a)
-}
-
 /// entry - loss
 fn less(entry: i128, loss: i128) -> i128
     requires entry_size { unsigned_abs entry ≤ 2 ^ 52 }
@@ -85,15 +75,30 @@ fn within_52(x: i128) -> i128
     x.clamp(-LIMIT, LIMIT)
 }
 
-/// The share of p in the pivot a, to some 60 bits.
-pub(crate) fn share_of(p: i128, a: i128) -> Share
+/// The share of 2^30 in the pivot a, to some 60 bits. It takes the one division of a step.
+pub(crate) fn pivot_share(a: i128) -> Share
     requires { pos 0 <ℤ a }
 {
-    let more = 60 + p.unsigned_abs().leading_zeros();
-    let exponent = more.saturating_sub(a.leading_zeros()).min(74);
+    // 29 more than the bits of a
+    let exponent = 157_u32.saturating_sub(a.leading_zeros()).min(90);
+    let whole = 1_i128 << (FACTOR_EXPONENT + exponent);
     Share {
-        ratio: within_62((p << exponent) / a),
+        ratio: within_62(whole / a),
         exponent,
+    }
+}
+
+/// The share of p in a pivot, by that of 2^30.
+pub(crate) fn share_by(p: i128, pivot: &Share) -> Share {
+    let bits = 128_u32
+        .saturating_sub(p.unsigned_abs().leading_zeros())
+        .min(127);
+    let product = (pivot.ratio as i128).wrapping_mul(p);
+    Share {
+        ratio: within_62(product >> bits),
+        exponent: (pivot.exponent + FACTOR_EXPONENT)
+            .saturating_sub(bits)
+            .min(127),
     }
 }
 
@@ -132,6 +137,18 @@ fn twice_less(n: i128, m: i128) -> i128
     2 * (n - m)
 }
 
+/// p · 2^30 / a to the nearest: the factor of a column with the entry p in the column of the pivot a, with the share of
+/// 2^30 in a.
+pub(crate) fn factor_of(p: i128, a: i128, pivot: &Share) -> i128
+    requires p_size { unsigned_abs p ≤ 2 ^ 52 }
+    requires a_size { unsigned_abs a ≤ 2 ^ 52 }
+    requires positive { pos 0 <ℤ a }
+    ensures value { result ≡ nearest_div (p *ℤ pos (2 ^ 30)) (unsigned_abs a) }
+    ensures size { unsigned_abs result ≤ 2 ^ 104 }
+{
+    nearest_by(product(p, 1 << FACTOR_EXPONENT), a, guess_of(pivot, p))
+}
+
 /// An entry off the diagonal, less p · q / a to the nearest, with the share of p in a.
 pub(crate) fn other_after(entry: i128, p: i128, q: i128, a: i128, share: &Share) -> i128
     requires entry_size { unsigned_abs entry ≤ 2 ^ 52 }
@@ -142,10 +159,7 @@ pub(crate) fn other_after(entry: i128, p: i128, q: i128, a: i128, share: &Share)
     ensures value { result ≡ entry -ℤ nearest_div (p *ℤ q) (unsigned_abs a) }
     ensures size { unsigned_abs result ≤ 2 ^ 105 }
 {
-    less(
-        entry,
-        nearest_by(product(p, q), a, guess_of(share, q)),
-    )
+    less(entry, nearest_by(product(p, q), a, guess_of(share, q)))
 }
 
 /// n · a / 2^42 upward: what the rounding of the factors may take from an own entry.
