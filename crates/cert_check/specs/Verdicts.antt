@@ -31,7 +31,7 @@ pub record IsSpent (s : Session) (budget : ℕ) : Type 0 where
 pub record IsSearchWide (s : Session) (budget : ℕ) : Type 0 where
   pub form : Form
   pub of_rows : IsFormOf s form
-  pub wide : IsSearchTooWide form
+  pub wide : IsSearchTooWide form budget
   pub not_reduced : HasReducedCount form budget → ⊥
 
 -- the form of the rows and its two best vectors

@@ -17,6 +17,7 @@ level_fresh f s a h k l = record {
   above = k.above;
   under = k.under;
   apart = let e = k.apart in omega (arith, ints);
+  balanced = fresh_balanced a.up a.down (rest f s) a.up_offset a.down_offset k.apart k.up_offset_is k.down_offset_is k.above k.under;
   low_is = k.low_is;
   within = l;
   up_size = let e = k.up_size in omega arith;
@@ -24,6 +25,9 @@ level_fresh f s a h k l = record {
   up_offset_size = let e = k.up_offset_size in omega arith;
   down_offset_size = let e = k.down_offset_size in omega arith;
 }
+  where
+    fresh_balanced : (x y r u d : ℤ) → x ≡ y +ℤ pos 1 → u ≡ (pos (2 ^ 30) *ℤ x) +ℤ r → d ≡ (pos (2 ^ 30) *ℤ y) +ℤ r → pos 0 ≤ℤ u → d <ℤ pos 0 → unsigned_abs (u +ℤ d) ≤ 2 ^ 30
+    fresh_balanced x y r u d e g h p q = let w : u ≡ d +ℤ pos (2 ^ 30) = omega (arith, polys) in omega (arith, ints)
 
 pub fresh_free : (e l : ℤ) (a : Level) → IsFresh e l a → (y : ℤ) → IsFree a y
 fresh_free e l a k y = let m = k.apart in by_lt_z a.down y (λ p. inr (omega (arith, ints))) (λ p. inl p)
@@ -81,6 +85,7 @@ moved_level f a b s x c true h k m p q =
       above = let e = h.above in let g = m.1 in omega (arith, ints);
       under = let e = h.under in let g = m.3 in omega (arith, ints);
       apart = let e = h.apart in let g = m.0 in let w = m.2 in omega (arith, ints);
+      balanced = let e = h.balanced in let g = m.1 in let w = m.3 in let near = k.2 in omega (arith, ints);
       low_is = m.4 ∙ h.low_is;
       within = h.within;
       up_size = let e = k.0 in let g = m.0 in omega (arith, ints);
@@ -99,6 +104,7 @@ moved_level f a b s x c false h k m p q =
       above = let e = h.above in let g = m.3 in omega (arith, ints);
       under = let e = h.under in let g = m.1 in omega (arith, ints);
       apart = let e = h.apart in let g = m.0 in let w = m.2 in omega (arith, ints);
+      balanced = let e = h.balanced in let g = m.1 in let w = m.3 in let near = k.2 in omega (arith, ints);
       low_is = m.4 ∙ h.low_is;
       within = h.within;
       up_size = let e = h.up_size in let g = m.2 in omega (arith, ints);

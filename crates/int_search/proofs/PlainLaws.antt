@@ -1,5 +1,5 @@
 -- The search in the form's own coordinates, where the map leaves every vector as it is.
-use Rattle.std.proofs.Common.{◌≡◌, ◌⊎◌, ⊎_elim, ℕ, ◌≤◌, List, length, take, ℤ, pos, ◌<ℤ◌, arith, sym, ap, ◌∙◌, subst, Result, Ok, Err, IfOk, MatchResult}
+use Rattle.std.proofs.Common.{◌≡◌, ◌⊎◌, inl, inr, ⊎_elim, ℕ, ◌≤◌, List, length, take, ℤ, pos, ◌<ℤ◌, arith, sym, ap, ◌∙◌, subst, Result, Ok, Err, IfOk, MatchResult}
 use Rattle.whole_math.specs.Vectors.{len}
 use Rattle.whole_math.proofs.Vectors.{len_is}
 use Rattle.quadratic_form.specs.Rows.{value}
@@ -9,12 +9,14 @@ use Rattle.form_tables.specs.declared.sizes.TheConstants.{MOST_INTEGERS}
 use Rattle.integer_form.specs.declared.form.Form.{Form}
 use Rattle.integer_form.specs.Forms.{integers_of, columns_of, value_of}
 use Rattle.suffix_search.specs.Order.{IsLess}
+use Rattle.suffix_search.specs.PlainCount.{HasLarge}
 use Rattle.int_search.specs.Images.{image_of}
 use Rattle.int_search.specs.SearchedForm.{search_form}
-use Rattle.int_search.specs.Walk.{search_image}
-use Rattle.int_search.specs.Answers.{IsAnswer, IsFault, IsTwoBest, IsVisitedIn}
+use Rattle.int_search.specs.Walk.{search_image, IsTooWide}
+use Rattle.int_search.specs.Answers.{IsAnswer, IsFault, IsTwoBest, IsVisitedIn, IsSearchTooWide}
 use Rattle.int_search.specs.declared.answer.TwoBest.{TwoBest}
 use Rattle.int_search.specs.declared.answer.SearchFault.{SearchFault}
+use Rattle.int_search.specs.declared.answer.SearchFault.TheVariants.{Spent, Overwidth}
 use Rattle.int_search.proofs.SuffixArrays.{suffix-all}
 
 -- the map leaves every vector as it is
@@ -80,3 +82,13 @@ pub answer_visits : (form : Form) (map : List (List ℤ)) (budget : ℕ) → (r 
     MatchResult r (IsAnswer (search_form form) (search_image form map) budget) (IsFault (search_form form) (search_image form map) budget) → IfOk r (IsVisitedIn form budget)
 answer_visits form map budget (Ok b) h = h.visits
 answer_visits form map budget (Err e) h = tt
+
+pub answer_wide : (form : Form) (map : List (List ℤ)) (budget : ℕ) → IsOwn map → (r : Result TwoBest SearchFault) →
+    MatchResult r (IsAnswer (search_form form) (search_image form map) budget) (IsFault (search_form form) (search_image form map) budget) → r ≡ Err Overwidth → IsSearchTooWide form budget
+answer_wide form map budget o (Ok b) h e = absurd cc
+answer_wide form map budget o (Err Spent) h e = absurd cc
+answer_wide form map budget o (Err Overwidth) h e = own h
+  where
+    own : IsTooWide (search_form form) (search_image form map) budget → IsSearchTooWide form budget
+    own (inl w) = w
+    own (inr w) = record { wide = inr (w.vector, (w.counted, subst HasLarge (own_image form map w.vector o w.full) w.large, w.reached)) }

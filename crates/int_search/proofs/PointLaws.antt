@@ -1,4 +1,4 @@
--- The rounded point and its neighbour, and small arrays with zeros behind.
+-- The rounded point and its neighbour, and small arrays with zeros at the end.
 use Rattle.std.proofs.Common.{◌≡◌, ◌⊎◌, inl, inr, ℕ, zero, suc, ◌+◌, ◌-◌, ◌<◌, ◌≤◌, ◌^◌, List, [], ◌∷◌, ◌++◌, length, get_or, set, ℤ, pos, negsuc, ◌+ℤ◌, ◌*ℤ◌, neg_ℤ, ◌<ℤ◌, ◌≤ℤ◌, arith}
 use Rattle.std.proofs.Common.{unsigned_abs, refl, ap, ap₂, sym, ◌∙◌, subst, replicate, length-append}
 use Rattle.std.proofs.lemmas.Int.{ints, clamps}
@@ -6,7 +6,8 @@ use Rattle.whole_math.specs.Rounding.{nearest_div}
 use Rattle.whole_math.proofs.Order.{polys}
 use Rattle.quadratic_form.specs.Rows.{value}
 use Rattle.suffix_search.specs.Suffixes.{SearchForm, IsSearchable, rest, offset, low}
-use Rattle.suffix_search.specs.PlainCount.{rounded, neighbour, first_moved, side, top, Counts, IsWide}
+use Rattle.suffix_search.specs.PlainCount.{rounded, neighbour, first_moved, side, top, Counts}
+use Rattle.suffix_search.specs.VisitOrder.{IsWide}
 use Rattle.suffix_search.proofs.SuffixLaws.{low_grows}
 use Rattle.int_search.specs.Vectors.{IsSmall, IsZeroFrom, suffix}
 use Rattle.int_search.proofs.SuffixArrays.{suffix-set, suffix-none, suffix-cons}
@@ -46,7 +47,7 @@ pub top_small : (f : SearchForm) (p q : ℤ) → p ≡ value f.p (rounded f f.si
 unfolding top
 top_small f p q a b h k = omega (arith, ints, clamps)
 
-pub top_wide : (f : SearchForm) (v : List ℤ) → value f.p v ≤ℤ top f → pos (2 ^ 62) ≤ℤ value f.p v → IsWide f
+pub top_wide : (f : SearchForm) (v : List ℤ) → value f.p v ≤ℤ top f → pos (2 ^ 62) ≤ℤ value f.p v → IsWide f 0
 top_wide f v h k = record { wide = inl (omega (arith, ints)) }
 
 pub counts_end : (f : SearchForm) (t q : List ℤ) → IsSearchable f → length (t ++ q) ≡ f.size → 0 < length q → value f.p (t ++ q) ≤ℤ top f → Counts f q
@@ -59,13 +60,13 @@ counts_end f t q h k n m =
     last : (a b v t : ℤ) → a ≤ℤ b → b ≤ℤ (pos (2 ^ 60) *ℤ v) → v ≤ℤ t → a ≤ℤ (pos (2 ^ 60) *ℤ t)
     last a b v t h k l = omega (arith, polys)
 
-pub rounded_wide : (f : SearchForm) (k : ℕ) → IsSearchable f → k < f.size → 2 ^ 30 ≤ unsigned_abs (nearest_div (neg_ℤ (rest f (rounded f k))) (2 ^ 30)) → IsWide f
+pub rounded_wide : (f : SearchForm) (k : ℕ) → IsSearchable f → k < f.size → 2 ^ 30 ≤ unsigned_abs (nearest_div (neg_ℤ (rest f (rounded f k))) (2 ^ 30)) → IsWide f 0
 rounded_wide f k h m w =
     let r = rounded_split f (suc k) f.size (omega arith) in
     let e : length (r.0 ++ rounded f (suc k)) ≡ f.size = ap length (sym r.1) ∙ rounded_length f f.size in
     let v : value f.p (r.0 ++ rounded f (suc k)) ≤ℤ top f = subst (λ (s : List ℤ). value f.p s ≤ℤ top f) r.1 (top_first f) in
     let c : Counts f (rounded f (suc k)) = counts_end f r.0 (rounded f (suc k)) h e (let n : length (rounded f (suc k)) ≡ suc k = rounded_length f (suc k) in omega arith) v in
-    record { wide = inr (rounded f (suc k), (c, (0, at))) }
+    record { wide = inr (rounded f (suc k), (c, (0, at), inl (r.0, inl r.1))) }
   where
     at : 2 ^ 30 ≤ unsigned_abs (get_or (rounded f (suc k)) 0 (pos 0))
     at = rw (rounded-suc f k) w
@@ -74,12 +75,12 @@ pub neighbour_is : (f : SearchForm) (x : ℤ) (s : List ℤ) → rounded f f.siz
 unfolding neighbour
 neighbour_is f x s e = ap (first_moved f) e
 
-pub neighbour_wide : (f : SearchForm) (x y : ℤ) (s : List ℤ) → IsSearchable f → rounded f f.size ≡ x ∷ s → y ≡ x +ℤ side (offset f x s) → 2 ^ 30 ≤ unsigned_abs y → IsWide f
+pub neighbour_wide : (f : SearchForm) (x y : ℤ) (s : List ℤ) → IsSearchable f → rounded f f.size ≡ x ∷ s → y ≡ x +ℤ side (offset f x s) → 2 ^ 30 ≤ unsigned_abs y → IsWide f 0
 neighbour_wide f x y s h e m w =
     let n : neighbour f ≡ y ∷ s = neighbour_is f x s e ∙ ap (λ z. z ∷ s) (sym m) in
     let v : value f.p (y ∷ s) ≤ℤ top f = subst (λ (t : List ℤ). value f.p t ≤ℤ top f) n (top_second f) in
     let l : length (y ∷ s) ≡ f.size = sym (ap length e) ∙ rounded_length f f.size in
-    record { wide = inr (y ∷ s, (counts_end f [] (y ∷ s) h l (omega arith) v, (0, w))) }
+    record { wide = inr (y ∷ s, (counts_end f [] (y ∷ s) h l (omega arith) v, (0, w), inl ([], inr n))) }
 
 pub neighbour_length : (f : SearchForm) → 0 < f.size → length (neighbour f) ≡ f.size
 neighbour_length f h = go (rounded f f.size) refl (rounded_length f f.size)
@@ -132,7 +133,7 @@ rounded_next f z i x k h e g =
 
 pub rounded_is_wide : (f : SearchForm) (z : List ℤ) (i : ℕ) (x : ℤ) → IsSearchable f → i < f.size → suffix z (i + 1) f.size ≡ rounded f (f.size - (i + 1)) →
     x ≡ nearest_div (neg_ℤ (rest f (suffix z (i + 1) f.size))) (2 ^ 30) →
-    2 ^ 30 ≤ unsigned_abs x → IsWide f
+    2 ^ 30 ≤ unsigned_abs x → IsWide f 0
 rounded_is_wide f z i x k h e g w =
     let q : x ≡ nearest_div (neg_ℤ (rest f (rounded f (f.size - (i + 1))))) (2 ^ 30) = g ∙ ap (λ v. nearest_div (neg_ℤ (rest f v)) (2 ^ 30)) e in
     rounded_wide f (f.size - (i + 1)) k (omega arith) (subst (λ (y : ℤ). 2 ^ 30 ≤ unsigned_abs y) q w)

@@ -24,6 +24,7 @@ use Rattle.reduced_form.proofs.ImageLaws.{image_block, reduced_value}
 use Rattle.reduced_form.proofs.SameMaps.{AreSameInside, form_as, small_as, block_as}
 use Rattle.suffix_search.specs.Suffixes.{SearchForm}
 use Rattle.suffix_search.specs.PlainCount.{AreAtMost, Counts, HasLarge, IsOver, top}
+use Rattle.suffix_search.specs.VisitOrder.{IsReached}
 use Rattle.suffix_search.specs.Order.{IsLess}
 use Rattle.int_search.specs.Images.{image_of, IsMap}
 use Rattle.int_search.specs.SearchedForm.{search_form}
@@ -179,13 +180,13 @@ pub reduced_fault : (f r : Form) (u : Unimodular) (n : ℕ) (fault : SearchFault
     (let x : Result (List Factor × List Column) Refusal = Ok (c.factors, constant_form c.g) in x) ≡ Ok (factors_of r, constant_form r.g) →
     IsFault (search_form r) (search_image r u.map) n fault → ⊥
 reduced_fault f r u n Spent c d e h = c.counted (subst (λ (s : SearchForm). IsOver s n) (search_same f r u n c d e) h)
-reduced_fault f r u n Overwidth c d e h = wide (subst (λ (s : SearchForm). IsTooWide s (search_image r u.map)) (search_same f r u n c d e) h)
+reduced_fault f r u n Overwidth c d e h = wide (subst (λ (s : SearchForm). IsTooWide s (search_image r u.map) n) (search_same f r u n c d e) h)
   where
-    inside : (pos (2 ^ 62) ≤ℤ top (decorrelated f u.map c.factors c.g)) ⊎ ((s : List ℤ) × (Counts (decorrelated f u.map c.factors c.g) s × HasLarge s)) → ⊥
+    inside : (pos (2 ^ 62) ≤ℤ top (decorrelated f u.map c.factors c.g)) ⊎ ((s : List ℤ) × (Counts (decorrelated f u.map c.factors c.g) s × HasLarge s × IsReached (decorrelated f u.map c.factors c.g) n s)) → ⊥
     inside (inl w) = apart (top (decorrelated f u.map c.factors c.g)) (pos (2 ^ 62)) c.top_small w
     inside (inr w) = c.entries_small w.0 w.1.0 w.1.1
 
-    wide : IsTooWide (decorrelated f u.map c.factors c.g) (search_image r u.map) → ⊥
+    wide : IsTooWide (decorrelated f u.map c.factors c.g) (search_image r u.map) n → ⊥
     wide (inl w) = inside w.wide
     wide (inr w) = c.images_small w.vector w.full w.counted (subst HasLarge (image_is f r u w.vector d w.full) w.large)
 

@@ -1,12 +1,14 @@
 -- The rounded point and its neighbour as the first two best.
-use Rattle.std.proofs.Common.{◌≡◌, ◌^◌, List, [], length, ℤ, pos, ◌≤ℤ◌, ◌<ℤ◌, sym, ap, ◌∙◌, arith}
+use Rattle.std.proofs.Common.{◌≡◌, inl, inr, ℕ, ◌≤◌, ◌^◌, List, [], length, ℤ, pos, ◌≤ℤ◌, ◌<ℤ◌, sym, ap, ◌∙◌, arith}
 use Rattle.quadratic_form.specs.Rows.{value}
 use Rattle.suffix_search.specs.Suffixes.{SearchForm, IsSearchable}
-use Rattle.suffix_search.specs.PlainCount.{rounded, neighbour, top, IsWideIn, HasLarge}
+use Rattle.suffix_search.specs.PlainCount.{rounded, neighbour, top, HasLarge}
+use Rattle.suffix_search.specs.VisitOrder.{IsReached, IsWideIn}
 use Rattle.suffix_search.specs.Order.{IsOneToOne}
+use Rattle.suffix_search.proofs.VisitLaws.{wide_more, wide_image_more}
 use Rattle.int_search.specs.Vectors.{Holds, suffix}
 use Rattle.int_search.specs.Orders.{IsRankLess}
-use Rattle.int_search.specs.Walk.{IsFresh, BeginsWith}
+use Rattle.int_search.specs.Walk.{IsFresh, BeginsWith, IsTooWide}
 use Rattle.int_search.specs.declared.walk.Walk.{Walk}
 use Rattle.int_search.proofs.OfferLaws.{less_of}
 use Rattle.int_search.proofs.PointLaws.{counts_end, neighbour_differs, rounded_length, neighbour_length}
@@ -24,9 +26,14 @@ pub begins : (f : SearchForm) (im : List ℤ → List ℤ) (v u y x : List ℤ) 
 begins f im v u y x p q w a b l t g = g.begun im v u a.size b.size (less_of f im v u (suffix y 0 f.size) (suffix x 0 f.size) p q a.value_is b.value_is a.held.is b.held.is l) b.within t
     (record { first = a.held; second = b.held; p1 = a.value_is; p2 = b.value_is })
 
-pub wide_point : (f : SearchForm) (im : List ℤ → List ℤ) (v : List ℤ) → IsSearchable f → length v ≡ f.size → value f.p v ≤ℤ top f → HasLarge (im v) → IsWideIn f im
-wide_point f im v k e t l = record { vector = v; full = e; counted = counts_end f [] v k e (let s = k.some in omega arith) t; large = l }
+pub wide_point : (f : SearchForm) (im : List ℤ → List ℤ) (v : List ℤ) → IsSearchable f → length v ≡ f.size → value f.p v ≤ℤ top f → IsReached f 0 v → HasLarge (im v) →
+    IsWideIn f im 0
+wide_point f im v k e t r l = record { vector = v; full = e; counted = counts_end f [] v k e (let s = k.some in omega arith) t; large = l; reached = r }
 
 pub points_differ : (f : SearchForm) (im : List ℤ → List ℤ) (v u y x : List ℤ) → IsSearchable f → IsOneToOne f.size im → v ≡ rounded f f.size → u ≡ neighbour f → Holds f.size y (im v) →
     Holds f.size x (im u) → suffix y 0 f.size ≡ suffix x 0 f.size → ⊥
 points_differ f im v u y x k o a b g h e = neighbour_differs f k.some (sym a ∙ o.apart v u (ap length a ∙ rounded_length f f.size) (ap length b ∙ neighbour_length f k.some) (sym g.is ∙ e ∙ h.is) ∙ b)
+
+pub too_wide_more : (f : SearchForm) (im : List ℤ → List ℤ) (n m : ℕ) → n ≤ m → IsTooWide f im n → IsTooWide f im m
+too_wide_more f im n m h (inl w) = inl (wide_more f n m h w)
+too_wide_more f im n m h (inr w) = inr (wide_image_more f im n m h w)

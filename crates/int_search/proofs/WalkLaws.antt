@@ -7,7 +7,8 @@ use Rattle.whole_math.proofs.Order.{polys}
 use Rattle.quadratic_form.specs.Rows.{value}
 use Rattle.form_tables.specs.declared.sizes.TheConstants.{MOST_INTEGERS}
 use Rattle.suffix_search.specs.Suffixes.{SearchForm, IsSearchable, rest, low, weight}
-use Rattle.suffix_search.specs.PlainCount.{AreAtMost, top, IsOver, IsWide, IsWideIn, HasLarge}
+use Rattle.suffix_search.specs.PlainCount.{AreAtMost, top, IsOver, HasLarge}
+use Rattle.suffix_search.specs.VisitOrder.{IsWide, IsWideIn}
 use Rattle.suffix_search.specs.Order.{IsLess, IsOneToOne}
 use Rattle.suffix_search.specs.Levels.{tail_of, IsLevel, Takes}
 use Rattle.suffix_search.specs.Search.{IsSearch, IsOffered}
@@ -26,7 +27,7 @@ use Rattle.integer_form.specs.declared.form.Form.{Form}
 use Rattle.int_search.specs.SearchedForm.{search_form}
 use Rattle.int_search.proofs.FormNumbers.{searchable, weight_is}
 use Rattle.int_search.proofs.SuffixArrays.{suffix-set, suffix-above, suffix-tail, suffix-length, suffix-none}
-use Rattle.int_search.proofs.LevelMoves.{level_fresh, fresh_free, moved_takes, moved_level, chosen_nearest, chosen_free, low_chosen}
+use Rattle.int_search.proofs.LevelMoves.{level_fresh, fresh_free, moved_takes, moved_level, chosen_nearest, chosen_offset, chosen_free, low_chosen}
 
 -- ---- the state at its latest level
 pub focus : (f : SearchForm) (im : List ℤ → List ℤ) (w : Walk) (a : Level) (h : IsWalk f im w) → IsLatest w.stack a → IsSearch f im (a ∷ drop 1 w.stack) (here f w) h.one h.two w.visits
@@ -212,7 +213,7 @@ walk_leaf f im w new r b z st k mo h v sm mv n ez es small o =
 -- the image of the visited vector is too wide
 pub walk_wide_image : (f : SearchForm) (im : List ℤ → List ℤ) (w : Walk) (r : Reach) (z : List ℤ) → f.size ≤ MOST_INTEGERS → IsWalk f im w → IsReach f w r → f.size - length w.stack ≡ 0 →
     z ≡ set w.z 0 r.choice.entry →
-    HasLarge (im (suffix z 0 f.size)) → IsWideIn f im
+    HasLarge (im (suffix z 0 f.size)) → IsWideIn f im (w.visits + 1)
 walk_wide_image f im w r z mo h v n ez large =
     let s = focus f im w r.level h v.latest in
     let x : ℤ = r.choice.entry in
@@ -221,7 +222,8 @@ walk_wide_image f im w r z mo h v n ez large =
     let some = v.some in
     let sh : suffix z 0 f.size ≡ x ∷ here f w = ap (λ q. suffix q 0 f.size) ez ∙ subst (λ (j : ℕ). suffix (set w.z j x) j f.size ≡ x ∷ here f w) n (set_here f im w x mo h v.some) in
     let ln : length (here f w) ≡ f.size - (f.size + 1 - length w.stack) = suffix-length w.z (f.size + 1 - length w.stack) f.size (omega arith) in
-    search_wide_image f im r.level (drop 1 w.stack) x (here f w) h.one h.two w.visits s (omega arith) (reach_within f im w r h v) (subst (λ (q : List ℤ). HasLarge (im q)) sh large)
+    search_wide_image f im r.level (drop 1 w.stack) x r.choice.offset (here f w) h.one h.two w.visits (w.visits + 1) s (chosen_nearest r.level x r.choice.offset r.choice.is_up v.chosen)
+    (chosen_offset f r.level (here f w) x r.choice.offset r.choice.is_up v.level v.chosen) (omega arith) (omega arith) (reach_within f im w r h v) (subst (λ (q : List ℤ). HasLarge (im q)) sh large)
 
 -- ---- sizes
 pub low_size : (f : SearchForm) (im : List ℤ → List ℤ) (w : Walk) (a : Level) → IsSearchable f → IsWalk f im w → IsLatest w.stack a → unsigned_abs a.low ≤ 2 ^ 122
@@ -248,8 +250,10 @@ pub walk_over : (f : SearchForm) (im : List ℤ → List ℤ) (w : Walk) (r : Re
 walk_over f im w r h v = search_over f im r.level (drop 1 w.stack) r.choice.entry (here f w) h.one h.two w.visits (focus f im w r.level h v.latest)
     (chosen_free r.level r.choice.entry r.choice.offset r.choice.is_up v.chosen) (reach_within f im w r h v)
 
-pub walk_wide : (f : SearchForm) (im : List ℤ → List ℤ) (w : Walk) (r : Reach) → IsWalk f im w → IsReach f w r → 2 ^ 30 ≤ unsigned_abs r.choice.entry → IsWide f
-walk_wide f im w r h v s = search_wide f im r.level (drop 1 w.stack) r.choice.entry (here f w) h.one h.two w.visits (focus f im w r.level h v.latest) (reach_within f im w r h v) s
+pub walk_wide : (f : SearchForm) (im : List ℤ → List ℤ) (w : Walk) (r : Reach) (n : ℕ) → IsWalk f im w → IsReach f w r → w.visits < n → 2 ^ 30 ≤ unsigned_abs r.choice.entry → IsWide f n
+walk_wide f im w r n h v before s = search_wide f im r.level (drop 1 w.stack) r.choice.entry r.choice.offset (here f w) h.one h.two w.visits n (focus f im w r.level h v.latest)
+    (chosen_nearest r.level r.choice.entry r.choice.offset r.choice.is_up v.chosen)
+    (chosen_offset f r.level (here f w) r.choice.entry r.choice.offset r.choice.is_up v.level v.chosen) before (reach_within f im w r h v) s
 
 pub walk_end : (f : SearchForm) (im : List ℤ → List ℤ) (w : Walk) (budget : ℕ) → IsWalk f im w → length w.stack ≡ 0 → w.visits ≤ budget → HasFound f im budget w
 walk_end f im w budget h n v = record {
@@ -319,7 +323,8 @@ offers_best f im w p y b o l e k h = record {
 pub leaf_visit : (f : SearchForm) (im : List ℤ → List ℤ) (w new : Walk) (r : Reach) (b : Level) (z : List ℤ) (st : List Level) (o : Bool) → IsSearchable f → f.size ≤ MOST_INTEGERS →
     IsWalk f im w → IsReach f w r → unsigned_abs r.choice.entry < 2 ^ 30 →
     Moves r.level r.choice.is_up b → f.size - length w.stack ≡ 0 → z ≡ set w.z 0 r.choice.entry → st ≡ b ∷ drop 1 w.stack → IsSmall z →
-    MatchBool o (Offers f im (record w { z = z; stack = st; visits = w.visits + 1 }) new) (HasLarge (im (suffix z 0 f.size))) → MatchBool o (Visits f im w new) (IsWideIn f im)
+    MatchBool o (Offers f im (record w { z = z; stack = st; visits = w.visits + 1 }) new) (HasLarge (im (suffix z 0 f.size))) →
+    MatchBool o (Visits f im w new) (IsWideIn f im (w.visits + 1))
 leaf_visit f im w new r b z st true k mo h v sm mv n ez es small o = record {
   walk = walk_leaf f im w new r b z st k mo h v sm mv n ez es small o;
   visits = o.visits;

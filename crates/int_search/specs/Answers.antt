@@ -5,7 +5,8 @@ use Rattle.quadratic_form.specs.TwoLeast.{TwoLeast}
 use Rattle.integer_form.specs.declared.form.Form.{Form}
 use Rattle.integer_form.specs.Forms.{integers_of, columns_of, value_of}
 use Rattle.suffix_search.specs.Suffixes.{SearchForm}
-use Rattle.suffix_search.specs.PlainCount.{AreAtMost, IsOver, IsWide}
+use Rattle.suffix_search.specs.PlainCount.{AreAtMost, IsOver}
+use Rattle.suffix_search.specs.VisitOrder.{IsWide}
 use Rattle.suffix_search.specs.Order.{AreTwoLeast}
 use Rattle.int_search.specs.Vectors.{IsSmall, Holds}
 use Rattle.int_search.specs.SearchedForm.{search_form}
@@ -26,10 +27,10 @@ pub record IsAnswer (f : SearchForm) (image : List ℤ → List ℤ) (budget : �
   pub least : AreTwoLeast f image one two
   pub visits : AreAtMost f b.p2 budget
 
--- spent only where the plain count is over the budget, overwidth only where it has something too wide
+-- spent only where the plain count is over the budget, overwidth only where the search comes to something too wide within it
 abbrev pub IsFault : SearchForm → (List ℤ → List ℤ) → ℕ → SearchFault → Type 0
 IsFault f image budget Spent = IsOver f budget
-IsFault f image budget Overwidth = IsTooWide f image
+IsFault f image budget Overwidth = IsTooWide f image budget
 
 -- the two integer vectors at which the form is least, and its values there
 pub record IsTwoBest (f : Form) (b : TwoBest) : Type 0 where
@@ -44,9 +45,10 @@ pub record IsTwoBest (f : Form) (b : TwoBest) : Type 0 where
 abbrev pub IsPlainCountOver : Form → ℕ → Type 0
 IsPlainCountOver f n = IsOver (search_form f) n
 
--- the greater value of the rounded point and its neighbour is 2^62 or more, or a suffix of the plain count has an entry of 2^30 or more in size
-abbrev pub IsSearchTooWide : Form → Type 0
-IsSearchTooWide f = IsWide (search_form f)
+-- the greater value of the rounded point and its neighbour is 2^62 or more, or a suffix of the plain count has an entry of
+-- 2^30 or more in size, and one of these two points ends with it or the search comes to it within n visits
+abbrev pub IsSearchTooWide : Form → ℕ → Type 0
+IsSearchTooWide f n = IsWide (search_form f) n
 
 -- At most n suffixes have a lower sum of at most 2^60 times the second best value. A search whose bound never falls below
 -- that value visits each of them, so one that ends with n visits keeps this.

@@ -5,7 +5,8 @@ use Rattle.form_tables.specs.declared.sizes.TheConstants.{MOST_INTEGERS}
 use Rattle.integer_form.specs.declared.form.Form.{Form}
 use Rattle.integer_form.specs.Forms.{integers_of}
 use Rattle.suffix_search.specs.Suffixes.{SearchForm, low}
-use Rattle.suffix_search.specs.PlainCount.{top, AreAtMost, IsOver, IsWide, IsWideIn}
+use Rattle.suffix_search.specs.PlainCount.{top, AreAtMost, IsOver}
+use Rattle.suffix_search.specs.VisitOrder.{IsWide, IsWideIn}
 use Rattle.suffix_search.specs.Order.{AreTwoLeast, IsLess, IsOneToOne}
 use Rattle.suffix_search.specs.Levels.{IsLevel}
 use Rattle.suffix_search.specs.Search.{IsSearch}
@@ -88,9 +89,9 @@ pub record Visits (f : SearchForm) (image : List ℤ → List ℤ) (old new : Wa
   pub visits : new.visits ≡ old.visits + 1
   pub depth : length new.stack ≤ length old.stack + 1
 
--- the plain count has a vector with a large entry, here or in the coordinates of the answer
-abbrev pub IsTooWide : SearchForm → (List ℤ → List ℤ) → Type 0
-IsTooWide f image = IsWide f ⊎ IsWideIn f image
+-- within n visits the search comes to something too wide, here or in the coordinates of the answer
+abbrev pub IsTooWide : SearchForm → (List ℤ → List ℤ) → ℕ → Type 0
+IsTooWide f image n = IsWide f n ⊎ IsWideIn f image n
 
 -- what is left to do, at most
 abbrev pub left_of : ℕ → Walk → ℕ
@@ -110,4 +111,4 @@ abbrev pub Gives : SearchForm → (List ℤ → List ℤ) → ℕ → Walk → W
 Gives f image budget old new Going = IsWalk f image new × (new.visits ≤ budget) × (left_of budget new < left_of budget old)
 Gives f image budget old new Done = HasFound f image budget new
 Gives f image budget old new Spent = IsOver f budget
-Gives f image budget old new Wide = IsTooWide f image
+Gives f image budget old new Wide = IsTooWide f image budget

@@ -8,12 +8,14 @@
 //! `two_best` finds the two integer vectors at which an integer form is least. An
 //! answer has the least of all integer vectors, of whole numbers of any size, by the form's value and then by entries
 //! in order, the least of all others, their values, and only entries below 2^30 in size (clause `found`). An answer
-//! keeps the budget (`visits`): at most so many suffixes have a lower sum of at most 2^60 times the second value, in
-//! the form's own coordinates or in those of the reduction, and each depth-first search visits all of these, so a
-//! search that never gives up is refused. The search says that its budget is spent only where the plain count of the
+//! keeps the budget (`visits`): the suffixes whose lower sum is at most 2^60 times the second value are no more than the
+//! budget, in the form's own coordinates or in those of the reduction, and each depth-first search visits all of these,
+//! so a search that never gives up is refused. The search says that its budget is spent only where the plain count of the
 //! form is over it (`spent`), and that something is too wide only where a suffix of that count has an entry of 2^30
-//! or more in size or the greater value of the rounded point and its neighbour is 2^62 or more (`overwidth`). Where
-//! the form has a reduced count that is at most the budget, it answers (`reduced`): it searches in the coordinates of
+//! or more in size or the greater value of the rounded point and its neighbour is 2^62 or more (`overwidth`). Such a
+//! suffix is an end of one of these two points, or the search comes to it within its budget: an end of a suffix is
+//! visited before it, and of two entries the nearer to the centre comes first, so of the suffixes before it fewer than
+//! the budget are within the second value. Where both could be said, the budget is asked first. Where the form has a reduced count that is at most the budget, it answers (`reduced`): it searches in the coordinates of
 //! `reduce` first, and where that ends without an answer, in the form's own ones with the same budget. `plain_best`
 //! is the second search alone, with the first four clauses, `visits` in the form's own coordinates. No call takes
 //! memory. suffix_search has the definitions and the theory, over any form whose lower sums stay below its values;

@@ -1,6 +1,7 @@
 //! The rounded point and its neighbour.
 ghost use Rattle.std.specs.Prelude.{◌<◌, MatchOption};
-ghost use Rattle.suffix_search.specs.PlainCount.{rounded, neighbour, IsWide};
+ghost use Rattle.suffix_search.specs.PlainCount.{rounded, neighbour};
+ghost use Rattle.suffix_search.specs.VisitOrder.{IsWide};
 ghost use Rattle.integer_form.specs.Forms.{integers_of};
 ghost use Rattle.int_search.specs.Vectors.{Holds};
 ghost use Rattle.int_search.specs.SearchedForm.{search_form};
@@ -14,7 +15,7 @@ use integer_form::Form;
 /// entry is large.
 pub(crate) fn rounded_point(form: &Form) -> Option<[i64; MOST_INTEGERS]>
     requires { 4 < form.now.columns }
-    ensures { MatchOption result (IsWide (search_form form.now)) (λ z. Holds (integers_of form.now) z (rounded (search_form form.now) (integers_of form.now))) }
+    ensures { MatchOption result (IsWide (search_form form.now) 0) (λ z. Holds (integers_of form.now) z (rounded (search_form form.now) (integers_of form.now))) }
 {
     let integers = form.columns - BASELINE_COLUMNS - 1;
     let mut z = [0; MOST_INTEGERS];
@@ -34,7 +35,7 @@ pub(crate) fn rounded_point(form: &Form) -> Option<[i64; MOST_INTEGERS]>
 pub(crate) fn neighbour_point(form: &Form, z: &[i64; MOST_INTEGERS]) -> Option<[i64; MOST_INTEGERS]>
     requires some { 4 < form.now.columns }
     requires point { Holds (integers_of form.now) z.now (rounded (search_form form.now) (integers_of form.now)) }
-    ensures { MatchOption result (IsWide (search_form form.now)) (λ w. Holds (integers_of form.now) w (neighbour (search_form form.now))) }
+    ensures { MatchOption result (IsWide (search_form form.now) 0) (λ w. Holds (integers_of form.now) w (neighbour (search_form form.now))) }
 {
     let offset = offset_of(z[0], later_part(form, 0, z));
     let x = if offset <= 0 { z[0] + 1 } else { z[0] - 1 };

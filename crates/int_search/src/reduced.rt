@@ -25,7 +25,7 @@ fn reduced_best(form: &Form, budget: u64) -> Option<TwoBest>
     let Ok(reduced) = finish(&front) else {
         return None;
     };
-    // What the type of a table says is known behind a call of it.
+    // What the type of a table says is known after a call of it.
     let _ = change.map.at(0, 0);
     match search(&reduced, &change.map, budget) {
         Ok(best) => Some(best),
@@ -42,7 +42,7 @@ pub fn two_best(form: &Form, budget: u64) -> Result<TwoBest, SearchFault>
     ensures found { IfOk result (IsTwoBest form.now) }
     ensures visits { IfOk result (KeepsBudget form.now budget) }
     ensures spent { result ≡ Err SearchFault.Spent → IsPlainCountOver form.now budget }
-    ensures overwidth { result ≡ Err SearchFault.Overwidth → IsSearchTooWide form.now }
+    ensures overwidth { result ≡ Err SearchFault.Overwidth → IsSearchTooWide form.now budget }
     ensures reduced { HasReducedCount form.now budget → IfErr result (λ e. ⊥) }
 {
     match reduced_best(form, budget) {

@@ -45,7 +45,7 @@ pub fn plain_best(form: &Form, budget: u64) -> Result<TwoBest, SearchFault>
     ensures found { IfOk result (IsTwoBest form.now) }
     ensures visits { IfOk result (IsVisitedIn form.now budget) }
     ensures spent { result ≡ Err SearchFault.Spent → IsPlainCountOver form.now budget }
-    ensures overwidth { result ≡ Err SearchFault.Overwidth → IsSearchTooWide form.now }
+    ensures overwidth { result ≡ Err SearchFault.Overwidth → IsSearchTooWide form.now budget }
 {
     search(form, &identity(), budget)
 }

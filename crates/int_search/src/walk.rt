@@ -1,7 +1,8 @@
 //! The search, depth first from the last integer to the first, at each level the nearest entry first.
 ghost use Rattle.std.specs.Prelude.{◌≡◌, ◌+◌, ◌^◌, ◌<◌, ◌≤◌, length, unsigned_abs, MatchOption, MatchBool};
 ghost use Rattle.integer_form.specs.Forms.{integers_of};
-ghost use Rattle.suffix_search.specs.PlainCount.{HasLarge, IsWideIn};
+ghost use Rattle.suffix_search.specs.PlainCount.{HasLarge};
+ghost use Rattle.suffix_search.specs.VisitOrder.{IsWideIn};
 ghost use Rattle.int_search.specs.Vectors.{IsSmall, suffix};
 ghost use Rattle.int_search.specs.SearchedForm.{search_form};
 ghost use Rattle.int_search.specs.Walk.{CanSearch, search_image, IsWalk, IsFresh, BeginsWith, IsReach, IsPassed, IsPlainWalk, IsTooWide, Offers, Visits, Gives};
@@ -71,7 +72,7 @@ impl Walk {
     /// The search over a form, with the rounded point and its neighbour as its two best; None where one is too wide.
     pub(crate) fn start(form: &Form, map: &MapTable) -> Option<Walk>
         requires { CanSearch form.now map.now }
-        ensures { MatchOption result (IsTooWide (search_form form.now) (search_image form.now map.now)) (IsFresh (search_form form.now) (search_image form.now map.now)) }
+        ensures { MatchOption result (IsTooWide (search_form form.now) (search_image form.now map.now) 0) (IsFresh (search_form form.now) (search_image form.now map.now)) }
     {
         let size = form.columns - BASELINE_COLUMNS - 1;
         let z = rounded_point(form)?;
@@ -149,7 +150,7 @@ impl Walk {
         requires reach { IsReach (search_form form.now) self.old reach.now }
         requires small { unsigned_abs reach.now.choice.entry < 2 ^ 30 }
         requires visits { self.old.visits + 1 < 2 ^ 64 }
-        ensures { MatchBool result (Visits (search_form form.now) (search_image form.now map.now) self.old self.new) (IsWideIn (search_form form.now) (search_image form.now map.now)) }
+        ensures { MatchBool result (Visits (search_form form.now) (search_image form.now map.now) self.old self.new) (IsWideIn (search_form form.now) (search_image form.now map.now) (self.old.visits + 1)) }
     {
         let i = self.size - self.stack.len();
         self.visits += 1;

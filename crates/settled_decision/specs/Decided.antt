@@ -64,7 +64,7 @@ abbrev pub IsSpent : Form → ℕ → Type 0
 IsSpent form budget = IsPlainCountOver form budget × (HasReducedCount form budget → ⊥)
 
 abbrev pub IsTooWide : Form → ℕ → Type 0
-IsTooWide form budget = IsSearchTooWide form × (HasReducedCount form budget → ⊥)
+IsTooWide form budget = IsSearchTooWide form budget × (HasReducedCount form budget → ⊥)
 
 -- What a fine session with this form is decided to say: the search is spent or too wide, or else the baseline is too wide,
 -- or else the upper sum, or else the second value is far enough above it or it isn't

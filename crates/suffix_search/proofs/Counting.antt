@@ -5,6 +5,7 @@ use Rattle.std.proofs.lemmas.Int.{ints}
 use Rattle.suffix_search.specs.Suffixes.{SearchForm, low}
 use Rattle.suffix_search.specs.PlainCount.{AreAtMost, IsWithin}
 use Rattle.suffix_search.specs.Search.{HasVisited, IsMet}
+use Rattle.suffix_search.specs.declared.stack.Level.{Level}
 
 -- q is one of the list
 abbrev IsOneOf : List (List ℤ) → List ℤ → Type 0
@@ -58,6 +59,14 @@ met_within : (f : SearchForm) (p : ℤ) (s q : List ℤ) (qs : List (List ℤ)) 
 met_within f p s q qs w (inl c) = one_at qs q c.0 c.1 c.2
 met_within f p s q qs w (inr (inl g)) = absurd (not_past (pos (2 ^ 60) *ℤ p) (low f q) w.within g)
 met_within f p s q qs w (inr (inr o)) = absurd o
+
+-- different suffixes that a search has visited are at most as many as its visits
+pub within_most : (f : SearchForm) (p : ℤ) (fs : List Level) (s : List ℤ) (n : ℕ) (qs : List (List ℤ)) → AllPairs (λ q r. q ≢ r) qs → (v : HasVisited f p fs s n) →
+    All (Contains v.suffixes) qs → length qs ≤ n
+within_most f p fs s n qs d v w = let e = v.many in let l = at_most qs v.suffixes d (λ k q h. one (get_or qs k q) (w k q h)) in omega arith
+  where
+    one : (q : List ℤ) → Contains v.suffixes q → IsOneOf v.suffixes q
+    one q c = one_at v.suffixes q c.0 c.1 c.2
 
 -- where nothing is open, a search has visited each suffix that is within its bound
 pub visited_all : (f : SearchForm) (p : ℤ) (s : List ℤ) (n m : ℕ) → n ≤ m → HasVisited f p [] s n → AreAtMost f p m

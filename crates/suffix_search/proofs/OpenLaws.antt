@@ -1,5 +1,5 @@
 -- What a turn opens and closes.
-use Rattle.std.proofs.Common.{◌≡◌, ◌≢◌, ◌⊎◌, inl, inr, ℕ, ◌+◌, ◌<◌, List, [], ◌∷◌, ◌++◌, length, ℤ, pos, ◌*ℤ◌, ◌<ℤ◌, arith, refl, ap, sym, subst, ◌∙◌, ◌≤◌, ◌≤ℤ◌, length-append, append_assoc, ◌^◌, All}
+use Rattle.std.proofs.Common.{◌≡◌, ◌≢◌, ◌⊎◌, inl, inr, ℕ, ◌+◌, List, [], ◌∷◌, ◌++◌, length, ℤ, pos, ◌*ℤ◌, ◌<ℤ◌, arith, refl, ap, sym, subst, ◌∙◌, ◌≤◌, ◌≤ℤ◌, length-append, append_assoc, ◌^◌, All}
 use Rattle.std.specs.List.{Contains}
 use Rattle.whole_math.proofs.Order.{polys}
 use Rattle.std.proofs.lemmas.Int.{ints}
@@ -14,7 +14,7 @@ use Rattle.suffix_search.specs.declared.stack.Level.{Level}
 use Rattle.suffix_search.proofs.SuffixLaws.{past_second, low_grows}
 use Rattle.suffix_search.proofs.Counting.{contains_first, contains_later}
 
-same_heads : (a b : List ℤ) (x y : ℤ) (s : List ℤ) → a ++ (x ∷ s) ≡ b ++ (y ∷ s) → x ≡ y
+pub same_heads : (a b : List ℤ) (x y : ℤ) (s : List ℤ) → a ++ (x ∷ s) ≡ b ++ (y ∷ s) → x ≡ y
 same_heads [] [] x y s e = cc
 same_heads [] (z ∷ b) x y s e = absurd (omega (arith, simp length-append at (ap length e)))
 same_heads (z ∷ a) [] x y s e = absurd (omega (arith, simp length-append at (ap length e)))
@@ -23,11 +23,11 @@ same_heads (z ∷ a) (w ∷ b) x y s e = let t : a ++ (x ∷ s) ≡ b ++ (y ∷ 
 not_longer : (a : List ℤ) (x y : ℤ) (s : List ℤ) → x ∷ s ≡ a ++ (y ∷ (x ∷ s)) → ⊥
 not_longer a x y s e = omega (arith, simp length-append at (ap length e))
 
-between_not_free : (b : Level) (x : ℤ) → b.down <ℤ x → x <ℤ b.up → IsFree b x → ⊥
+pub between_not_free : (b : Level) (x : ℤ) → b.down <ℤ x → x <ℤ b.up → IsFree b x → ⊥
 between_not_free b x h k (inl f) = omega (arith, ints)
 between_not_free b x h k (inr f) = omega (arith, ints)
 
-along_free : (b : Level) (x y : ℤ) → x ≡ y → IsFree b x → IsFree b y
+pub along_free : (b : Level) (x y : ℤ) → x ≡ y → IsFree b x → IsFree b y
 along_free b x y e f = rw (← e) f
 
 -- no suffix through taken entries is open in the levels below
@@ -108,7 +108,7 @@ open_apart fs s q qs o h = λ k d l e. h k d l (subst (λ (v : List ℤ). IsOpen
 still_past : (p g l : ℤ) → g ≤ℤ p → (pos (2 ^ 60) *ℤ p) <ℤ l → (pos (2 ^ 60) *ℤ g) <ℤ l
 still_past p g l h k = omega (arith, polys)
 
--- a visit of q, behind which the bound may have fallen
+-- a visit of q, after which the bound may have fallen
 pub visited_more : (f : SearchForm) (p g : ℤ) (fs gs : List Level) (s t : List ℤ) (n : ℕ) (q : List ℤ) → IsOpen fs s q → Counts f q → (IsOpen gs t q → ⊥) →
     ((v : List ℤ) → IsOpen gs t v → IsOpen fs s v) →
     g ≤ℤ p → ((v : List ℤ) → length v ≤ f.size → IsOpen fs s v → (v ≡ q) ⊎ IsOpen gs t v) → HasVisited f p fs s n → HasVisited f g gs t (n + 1)

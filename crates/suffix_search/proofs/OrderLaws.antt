@@ -2,7 +2,7 @@
 use Rattle.std.proofs.Common.{◌≡◌, inl, inr, List, ℤ, ◌<ℤ◌, ◌≤ℤ◌, arith, sym, ◌∙◌, subst}
 use Rattle.whole_math.proofs.Order.{lins}
 use Rattle.quadratic_form.specs.Rows.{value}
-use Rattle.quadratic_form.proofs.VectorOrder.{before_chain}
+use Rattle.quadratic_form.proofs.VectorOrder.{before_chain, before_never}
 use Rattle.suffix_search.specs.Suffixes.{SearchForm}
 use Rattle.suffix_search.specs.Order.{IsLess}
 use Rattle.suffix_search.specs.Search.{IsSettled}
@@ -25,6 +25,16 @@ less_le f m v w (inr h) = same (value f.p v) (value f.p w) h.0
   where
     same : (a b : ℤ) → a ≡ b → a ≤ℤ b
     same a b h = omega (arith, lins)
+
+pub less_apart : (f : SearchForm) (m : List ℤ → List ℤ) (v w : List ℤ) → IsLess f m v w → v ≡ w → ⊥
+less_apart f m v w h e = never (subst (λ (u : List ℤ). IsLess f m v u) (sym e) h)
+  where
+    itself : (a : ℤ) → a <ℤ a → ⊥
+    itself a h = omega (arith, lins)
+
+    never : IsLess f m v v → ⊥
+    never (inl h) = itself (value f.p v) h
+    never (inr h) = before_never (m v) h.1
 
 -- ---- an offered vector z takes its place
 -- before the first

@@ -4,8 +4,9 @@ use Rattle.std.proofs.lemmas.Int.{ints}
 use Rattle.std.proofs.lemmas.List.Elements.{All-nil}
 use Rattle.whole_math.proofs.Order.{polys}
 use Rattle.quadratic_form.specs.Rows.{value}
-use Rattle.suffix_search.specs.Suffixes.{SearchForm, IsSearchable, low, weight}
-use Rattle.suffix_search.specs.PlainCount.{AreAtMost, Counts, IsOver, IsWide, IsWideIn, HasLarge, top}
+use Rattle.suffix_search.specs.Suffixes.{SearchForm, IsSearchable, low, offset, weight}
+use Rattle.suffix_search.specs.PlainCount.{AreAtMost, Counts, IsOver, HasLarge, top}
+use Rattle.suffix_search.specs.VisitOrder.{IsWide, IsWideIn}
 use Rattle.suffix_search.specs.Order.{IsLess, AreTwoLeast}
 use Rattle.suffix_search.specs.Levels.{tail_of, IsFree, IsOpenAt, IsOpen, IsLevel, AreUnder, AreLevels, Takes}
 use Rattle.suffix_search.specs.Search.{IsSettled, IsSearch, IsOffered}
@@ -15,6 +16,7 @@ use Rattle.suffix_search.proofs.SuffixLaws.{IsNearest, far_all}
 use Rattle.suffix_search.proofs.OpenLaws.{leaf_closed, leaf_before, leaf_after, inner_closed, inner_before, inner_after, HasLast, has_last, visited_more, visited_same, visited_over}
 use Rattle.suffix_search.proofs.OpenLaws.{pop_settles, pop_after}
 use Rattle.suffix_search.proofs.Counting.{visited_all}
+use Rattle.suffix_search.proofs.VisitLaws.{next_reached}
 
 -- a suffix that is not past the second counts
 pub counts_from : (f : SearchForm) (x : ℤ) (s two : List ℤ) → length s < f.size → low f (x ∷ s) ≤ℤ (pos (2 ^ 60) *ℤ value f.p two) → value f.p two ≤ℤ top f → Counts f (x ∷ s)
@@ -120,15 +122,22 @@ pub search_over : (f : SearchForm) (im : List ℤ → List ℤ) (a : Level) (r :
     low f (x ∷ s) ≤ℤ (pos (2 ^ 60) *ℤ value f.p two) → IsOver f n
 search_over f im a r x s one two n k h l = visited_over f (value f.p two) (a ∷ r) s n (x ∷ s) (open_head a r x s h) (counts_from f x s two k.levels.0.shorter l k.bound) k.visited
 
-pub search_wide : (f : SearchForm) (im : List ℤ → List ℤ) (a : Level) (r : List Level) (x : ℤ) (s one two : List ℤ) (n : ℕ) → IsSearch f im (a ∷ r) s one two n →
-    low f (x ∷ s) ≤ℤ (pos (2 ^ 60) *ℤ value f.p two) → 2 ^ 30 ≤ unsigned_abs x → IsWide f
-search_wide f im a r x s one two n k l w = record { wide = inr (x ∷ s, (counts_from f x s two k.levels.0.shorter l k.bound, (0, w))) }
+pub search_wide : (f : SearchForm) (im : List ℤ → List ℤ) (a : Level) (r : List Level) (x c : ℤ) (s one two : List ℤ) (n m : ℕ) → IsSearch f im (a ∷ r) s one two n → IsNearest a c →
+    offset f x s ≡ c → n < m → low f (x ∷ s) ≤ℤ (pos (2 ^ 60) *ℤ value f.p two) → 2 ^ 30 ≤ unsigned_abs x → IsWide f m
+search_wide f im a r x c s one two n m k e i h l w = record {
+  wide = inr (x ∷ s, (counts_from f x s two k.levels.0.shorter l k.bound, (0, w), inr (next_reached f im a r x c s one two n m k e i h)));
+}
 
 -- a full vector that is visited, and has a large entry in the coordinates of the answer
-pub search_wide_image : (f : SearchForm) (im : List ℤ → List ℤ) (a : Level) (r : List Level) (x : ℤ) (s one two : List ℤ) (n : ℕ) → IsSearch f im (a ∷ r) s one two n →
-    length s + 1 ≡ f.size → low f (x ∷ s) ≤ℤ (pos (2 ^ 60) *ℤ value f.p two) →
-    HasLarge (im (x ∷ s)) → IsWideIn f im
-search_wide_image f im a r x s one two n k e l w = record { vector = x ∷ s; full = omega arith; counted = counts_from f x s two k.levels.0.shorter l k.bound; large = w }
+pub search_wide_image : (f : SearchForm) (im : List ℤ → List ℤ) (a : Level) (r : List Level) (x c : ℤ) (s one two : List ℤ) (n m : ℕ) → IsSearch f im (a ∷ r) s one two n →
+    IsNearest a c → offset f x s ≡ c → n < m → length s + 1 ≡ f.size → low f (x ∷ s) ≤ℤ (pos (2 ^ 60) *ℤ value f.p two) → HasLarge (im (x ∷ s)) → IsWideIn f im m
+search_wide_image f im a r x c s one two n m k e i h g l w = record {
+  vector = x ∷ s;
+  full = omega arith;
+  counted = counts_from f x s two k.levels.0.shorter l k.bound;
+  large = w;
+  reached = inr (next_reached f im a r x c s one two n m k e i h);
+}
 
 pub search_end : (f : SearchForm) (im : List ℤ → List ℤ) (s one two : List ℤ) (n : ℕ) → IsSearch f im [] s one two n → AreTwoLeast f im one two
 search_end f im s one two n k = record { first_size = k.one_size; second_size = k.two_size; ordered = k.ordered; others = λ u g. go u (k.covered.each u g) }

@@ -1,5 +1,5 @@
 -- What the levels of a search leave open.
-use Rattle.std.specs.Prelude.{◌≡◌, ◌⊎◌, ◌<◌, ◌≤◌, ◌^◌, List, [], ◌∷◌, ◌++◌, length, ℤ, pos, ◌*ℤ◌, ◌<ℤ◌, ◌≤ℤ◌, unsigned_abs}
+use Rattle.std.specs.Prelude.{◌≡◌, ◌⊎◌, ◌<◌, ◌≤◌, ◌^◌, List, [], ◌∷◌, ◌++◌, length, ℤ, pos, ◌+ℤ◌, ◌*ℤ◌, ◌<ℤ◌, ◌≤ℤ◌, unsigned_abs}
 use Rattle.suffix_search.specs.Suffixes.{SearchForm, offset, low}
 use Rattle.suffix_search.specs.PlainCount.{top}
 use Rattle.suffix_search.specs.declared.stack.Level.{Level}
@@ -32,6 +32,8 @@ pub record IsLevel (f : SearchForm) (a : Level) (s : List ℤ) : Type 0 where
   pub above : pos 0 ≤ℤ a.up_offset
   pub under : a.down_offset <ℤ pos 0
   pub apart : a.down <ℤ a.up
+  -- of the ends none is more than one entry further than the other, so no entry that is taken is further than one that isn't
+  pub balanced : unsigned_abs (a.up_offset +ℤ a.down_offset) ≤ 2 ^ 30
   pub low_is : a.low ≡ low f s
   pub within : low f s ≤ℤ (pos (2 ^ 60) *ℤ top f)
   pub up_size : unsigned_abs a.up ≤ 2 ^ 61

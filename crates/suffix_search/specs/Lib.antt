@@ -1,5 +1,6 @@
 pub mod Suffixes
 pub mod PlainCount
+pub mod VisitOrder
 pub mod Order
 pub mod LatestLevel
 pub mod Levels

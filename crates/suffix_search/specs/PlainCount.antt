@@ -1,5 +1,5 @@
 -- How many suffixes have a lower sum of at most 2^60 times a value. For the greater value of the rounded point and its neighbour that is the plain count of a form.
-use Rattle.std.specs.Prelude.{◌≡◌, ◌≢◌, ◌⊎◌, ℕ, zero, suc, ◌+◌, ◌<◌, ◌≤◌, ◌^◌, List, [], ◌∷◌, length, ℤ, pos, negsuc, ◌+ℤ◌, ◌*ℤ◌, ◌≤ℤ◌, neg_ℤ, unsigned_abs, slice_index_or, All, AllPairs}
+use Rattle.std.specs.Prelude.{◌≡◌, ◌≢◌, ℕ, zero, suc, ◌+◌, ◌<◌, ◌≤◌, ◌^◌, List, [], ◌∷◌, length, ℤ, pos, negsuc, ◌+ℤ◌, ◌*ℤ◌, ◌≤ℤ◌, neg_ℤ, unsigned_abs, slice_index_or, All, AllPairs}
 use Rattle.std.specs.Int.{int_max}
 use Rattle.whole_math.specs.Rounding.{nearest_div}
 use Rattle.quadratic_form.specs.Rows.{value}
@@ -52,14 +52,3 @@ pub record IsOver (f : SearchForm) (n : ℕ) : Type 0 where
 -- an entry is 2^30 or more in size
 abbrev pub HasLarge : List ℤ → Type 0
 HasLarge s = (i : ℕ) × (2 ^ 30 ≤ unsigned_abs (slice_index_or s i (pos 0)))
-
--- the greater value is 2^62 or more, or a suffix that counts has a large entry
-pub record IsWide (f : SearchForm) : Type 0 where
-  pub wide : (pos (2 ^ 62) ≤ℤ top f) ⊎ ((s : List ℤ) × (Counts f s × HasLarge s))
-
--- a full vector that counts has a large entry in other coordinates
-pub record IsWideIn (f : SearchForm) (image : List ℤ → List ℤ) : Type 0 where
-  pub vector : List ℤ
-  pub full : length vector ≡ f.size
-  pub counted : Counts f vector
-  pub large : HasLarge (image vector)

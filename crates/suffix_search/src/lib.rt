@@ -11,7 +11,7 @@
 //! to each other: the definitions `IsFresh`, `Chooses` and `Moves` of int_search do, and `IsLevel` here.
 //!
 //! `specs/` has what int_search promises by: lower sums (`Suffixes`), the order of vectors and the two least (`Order`),
-//! the plain count (`PlainCount`), what levels leave open (`Levels`), what a search keeps from turn to turn (`Search`).
+//! the plain count (`PlainCount`), which suffix comes first (`VisitOrder`), what levels leave open (`Levels`), what a search keeps from turn to turn (`Search`).
 //! `proofs/` has their laws for every form whose lower sums stay below its values (`IsSearchable`).
 #![tactic(auto)]
 

@@ -1,4 +1,4 @@
-use Rattle.std.proofs.Common.{◌≡◌, ◌-◌, ◌^◌, ℕ, List, length, ℤ, pos, ◌<ℤ◌, arith, inl, inr, ap, ◌∙◌, subst, to_z, of_z}
+use Rattle.std.proofs.Common.{◌≡◌, ◌-◌, ◌^◌, ℕ, List, [], length, ℤ, pos, ◌<ℤ◌, arith, inl, inr, ap, sym, ◌∙◌, subst, to_z, of_z}
 use Rattle.std.specs.Int.{w128}
 use Rattle.std.proofs.lemmas.Int.{ints}
 use Rattle.quadratic_form.specs.Rows.{value}
@@ -53,7 +53,7 @@ returns-in_err-y c =
     let k = searchable c.args.form.now c.requires.some in
     let v : List ℤ = suffix c.in_ok-z.z 0 f.size in
     rw c.from_residual-in_err-y.ensures (inr (wide_point f (search_image c.args.form.now c.args.map.now) v k (ap length c.in_ok-z.ensures.is ∙ rounded_length f f.size)
-    (within_top f (rounded f f.size) v c.in_ok-z.ensures.is (top_first f)) (image_large c.args.form.now c.args.map.now c.in_ok-z.z c.in_err-y.ensures)))
+    (within_top f (rounded f f.size) v c.in_ok-z.ensures.is (top_first f)) (inl ([], inl (sym c.in_ok-z.ensures.is))) (image_large c.args.form.now c.args.map.now c.in_ok-z.z c.in_err-y.ensures)))
 
 pub returns-in_err-v : goal.returns-in_err-v
 returns-in_err-v c =
@@ -61,7 +61,7 @@ returns-in_err-v c =
     let k = searchable c.args.form.now c.requires.some in
     let v : List ℤ = suffix c.in_ok-w.w 0 f.size in
     rw c.from_residual-in_err-v.ensures (inr (wide_point f (search_image c.args.form.now c.args.map.now) v k (ap length c.in_ok-w.ensures.is ∙ neighbour_length f k.some)
-    (within_top f (neighbour f) v c.in_ok-w.ensures.is (top_second f)) (image_large c.args.form.now c.args.map.now c.in_ok-w.w c.in_err-v.ensures)))
+    (within_top f (neighbour f) v c.in_ok-w.ensures.is (top_second f)) (inl ([], inr (sym c.in_ok-w.ensures.is))) (image_large c.args.form.now c.args.map.now c.in_ok-w.w c.in_err-v.ensures)))
 
 pub unreachable-requires : goal.unreachable-requires
 unreachable-requires c =

@@ -1,8 +1,9 @@
-use Rattle.std.proofs.Common.{rules, ◌≡◌, ◌<◌, ◌+◌, ◌-◌, ◌*◌, ℕ, List, length, drop, ℤ, arith, inl, ap, sym, ◌∙◌, subst}
+use Rattle.std.proofs.Common.{rules, ◌≡◌, ◌<◌, ◌+◌, ◌-◌, ◌*◌, ℕ, List, length, drop, ℤ, arith, inl, inr, ap, sym, ◌∙◌, subst}
 use Rattle.std.proofs.lemmas.Int.{ints}
 use Rattle.suffix_search.specs.Suffixes.{SearchForm}
 use Rattle.suffix_search.specs.PlainCount.{IsOver}
 use Rattle.suffix_search.specs.declared.stack.Level.{Level}
+use Rattle.suffix_search.proofs.VisitLaws.{wide_image_more}
 use Rattle.int_search.specs.SearchedForm.{search_form}
 use Rattle.int_search.specs.Walk.{search_image, IsWalk, Visits}
 use Rattle.int_search.specs.declared.walk.Walk.{Walk}
@@ -24,7 +25,10 @@ pub returns-then-is_large : goal.returns-then-is_large
 returns-then-is_large c =
     let s = reach_entry (search_form c.args.form.now) c.args.self.now c.in-Some.reach c.in-Some.ensures in
     let b = c.is_large.ensures.yes (rw c.if-is_large.true (search rules)) in
-    inl (walk_wide (search_form c.args.form.now) (search_image c.args.form.now c.args.map.now) c.args.self.now c.in-Some.reach c.requires.walk c.in-Some.ensures (omega (arith, ints)))
+    let spent = c.if-self-budget.false in
+    let visits = c.requires.visits in
+    inl (walk_wide (search_form c.args.form.now) (search_image c.args.form.now c.args.map.now) c.args.self.now c.in-Some.reach c.args.budget c.requires.walk c.in-Some.ensures (omega arith)
+    (omega (arith, ints)))
 
 pub visit-requires-clause-small : goal.visit-requires-clause-small
 visit-requires-clause-small c =
@@ -56,3 +60,9 @@ returns-in_default c =
     let y : length (drop 1 w.stack) + 1 ≡ length w.stack = drop_length w.stack n in
     let g : length c.pop.new.self ≡ length (drop 1 w.stack) = ap length c.pop.ensures in
     (subst (λ (fs : List Level). IsWalk f im (record w { stack = fs })) (sym c.pop.ensures) m, c.requires.visits, omega arith)
+
+pub returns-else-visit : goal.returns-else-visit
+returns-else-visit c =
+    let spent = c.if-self-budget.false in
+    let visits = c.requires.visits in
+    inr (wide_image_more (search_form c.args.form.now) (search_image c.args.form.now c.args.map.now) (c.args.self.now.visits + 1) c.args.budget (omega arith) c.if-visit.ensures)
