@@ -32,7 +32,7 @@ length_zeros (suc n) = ap (λ k. suc k) (length_zeros n)
 item_set_zero : (t : List ℤ) (i k : ℕ) (v : ℤ) → k ≢ i → item t k ≡ pos 0 → item (set t i v) k ≡ pos 0
 item_set_zero t i k v n h = get_or-set_other t i k v (pos 0) n ∙ h
 
--- the last value behind the others
+-- the last value after the others
 written_last : (t s : List ℤ) (n : ℕ) (y : ℤ) → n < length t → length s ≡ n → ((k : ℕ) → k < n → item t k ≡ item s k) → ((k : ℕ) → n < k → item t k ≡ pos 0) →
     (k : ℕ) → item (set t n y) k ≡ item (s ++ (y ∷ [])) k
 written_last t s n y h l before after k = ⊎_elim
@@ -54,7 +54,7 @@ one_set t s i n v h l m f g k b = ⊎_elim
     (λ (e : k ≡ i → ⊥). item_set_zero t i k v e (f k) ∙ sym (item_set_zero s i k v e (g k)))
     (cases_eq k i)
 
--- behind the columns of the baseline
+-- after the columns of the baseline
 behind : (n : ℕ) (p : Option ℕ) (v y : ℤ) → n ≤ MOST_INTEGERS → IfSome p (λ i. i < n) → (k : ℕ) →
     item (set (elim p as (λ q. List ℤ) [ Some i ↦ set (replicate MOST_FORM_COLUMNS (pos 0)) i v | None ↦ replicate MOST_FORM_COLUMNS (pos 0) ]) n y) k ≡ item (only_at n p v ++ (y ∷ [])) k
 behind n None v y h i k = written_last (replicate MOST_FORM_COLUMNS (pos 0)) (zeros n) n y (omega (arith, length-replicate MOST_FORM_COLUMNS (pos 0))) (length_zeros n)
@@ -133,7 +133,7 @@ coefficients_within m w n p a b d v y e ha hb hd hv hy j = subst (λ (t : List �
     w3 : List ℤ
     w3 = set w2 2 d
 
--- ---- 0 behind the baseline, but at the integer and the constant
+-- ---- 0 after the baseline, but at the integer and the constant
 put_elsewhere : (t : List ℤ) (p : Option ℕ) (v : ℤ) (j : ℕ) → IfSome p (λ i. j ≢ 3 + i) → item (put_at t p v) j ≡ item t j
 put_elsewhere t None v j h = refl
 put_elsewhere t (Some i) v j h = get_or-set_other t (3 + i) j v (pos 0) h

@@ -75,7 +75,7 @@ at_or_behind columns k zero r h = subst (λ (i : ℕ). slice_index columns k ≤
     plain k = omega arith
 at_or_behind columns k (suc m) r h = let below : slice_index columns k < slice_index columns (k + suc m) = AllPairs-from_increasing columns r k (k + suc m) 0 (omega arith) h in omega (arith, below)
 
--- behind the columns of the baseline, where k is one of them, and else from k on
+-- after the columns of the baseline, where k is one of them, and else from k on
 pub columns_from : (values : List ℤ) (columns : List ℕ) (k m : ℕ) → AreColumnsOf values columns → k < length columns → k ≤ m → BASELINE_COLUMNS ≤ m → (k < BASELINE_COLUMNS → m ≡ BASELINE_COLUMNS) →
     (BASELINE_COLUMNS ≤ k → m ≡ k) → AreColumnsFrom (slice_index columns k) values (drop m columns)
 columns_from values columns k m are h past apart low high = record {
@@ -223,13 +223,16 @@ one_used values j used u = record {
         subst (λ (a : ℕ). a < slice_index (used ++ j ∷ []) (k + 1)) (sym (get_or_append_left used (j ∷ []) 0 k (omega arith)))
         (subst (λ (b : ℕ). slice_index used k < b) (sym (get_or_push used j 0 (k + 1) last)) (u.below k 0 (omega arith)))
 
-pub all_used : (values : List ℤ) (used : List ℕ) → length values ≡ MOST_COLUMNS → AreUsed values MOST_COLUMNS used → AreColumnsOf values used
-all_used values used full u = record {
+-- nothing else, where the values from place n on are 0
+pub all_used : (values : List ℤ) (n : ℕ) (used : List ℕ) → length values ≡ MOST_COLUMNS → n ≤ MOST_COLUMNS → ((j : ℕ) → n ≤ j → j < MOST_COLUMNS → slice_index_or values j (pos 0) ≡ pos 0) →
+    AreUsed values n used → AreColumnsOf values used
+all_used values n used full few beyond u = record {
   baseline = u.baseline;
   enough = u.enough;
-  inside = u.below;
+  inside = λ i d h. omega (arith, u.below i d h);
   rising = u.rising;
-  others = λ j f. ⊎_elim (λ (h : j < MOST_COLUMNS). u.others j h f) (λ (g : MOST_COLUMNS ≤ j). get_or_past values j (pos 0) (omega arith)) (side j MOST_COLUMNS);
+  others = λ j f. ⊎_elim (λ (h : j < n). u.others j h f)
+      (λ (g : n ≤ j). ⊎_elim (λ (h : j < MOST_COLUMNS). beyond j g h) (λ (h : MOST_COLUMNS ≤ j). get_or_past values j (pos 0) (omega arith)) (side j MOST_COLUMNS)) (side j n);
 }
   where
     side : (i n : ℕ) → (i < n) ⊎ (n ≤ i)

@@ -19,7 +19,7 @@ place_from None phase = None
 abbrev pub ArePlaces : List Arc → List ℕ → ℕ → List Row → List (Option ℕ) → Type 0
 ArePlaces arcs ss s rows places = (k : ℕ) (d : Row) → k < length rows → slice_index_or places k None ≡ integer_place arcs ss (slice_index_or rows k d).arc s
 
--- the value at the column of integer i, behind the three columns of the baseline
+-- the value at the column of integer i, after the three columns of the baseline
 abbrev pub put_at : List ℤ → Option ℕ → ℤ → List ℤ
 put_at values (Some i) value = set values (3 + i) value
 put_at values None value = values

@@ -1,20 +1,26 @@
 //! The columns in which a row has a coefficient: at most five, so a product adds to at most nine entries on and above the
 //! diagonal of the matrix after the columns of the baseline.
-ghost use Rattle.std.specs.Prelude.{◌≡◌, ℕ, ◌<◌, ◌≤◌, ◌^◌, ◌+ℤ◌, pos, unsigned_abs, slice_index_or};
+ghost use Rattle.std.specs.Prelude.{◌≡◌, ℕ, ◌+◌, ◌<◌, ◌≤◌, ◌^◌, ◌+ℤ◌, pos, unsigned_abs, slice_index_or};
+ghost use Rattle.form_tables.specs.declared.sizes.TheConstants.{MOST_INTEGERS};
 ghost use Rattle.normal_sum.specs.Columns.{AreColumnsOf};
 
 use arrayvec::ArrayVec;
 use form_tables::{BASELINE_COLUMNS, MOST_COLUMNS};
 
-/// The columns of the baseline, and those after them in which values aren't 0.
-pub(crate) fn used_columns(values: &[i64; MOST_COLUMNS]) -> ArrayVec<usize, MOST_COLUMNS>
+/// The columns of the baseline, and those of the integers and of the constant in which values aren't 0.
+pub(crate) fn used_columns(
+    values: &[i64; MOST_COLUMNS],
+    integers: usize,
+) -> ArrayVec<usize, MOST_COLUMNS>
+    requires few { integers ≤ MOST_INTEGERS }
+    requires beyond { (j : ℕ) → BASELINE_COLUMNS + integers < j → j < MOST_COLUMNS → slice_index_or values.now j (pos 0) ≡ pos 0 }
     ensures { AreColumnsOf values.now result.items }
 {
     let mut used = ArrayVec::new();
     used.push(0);
     used.push(1);
     used.push(2);
-    for j in BASELINE_COLUMNS..MOST_COLUMNS {
+    for j in BASELINE_COLUMNS..BASELINE_COLUMNS + integers + 1 {
         if values[j] != 0 {
             used.push(j);
         }

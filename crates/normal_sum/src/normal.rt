@@ -15,8 +15,8 @@ use form_tables::NormalTable;
 pub struct Normal {
     /// The number of columns.
     pub columns: usize,
-    /// The matrix C: the sum of squares at the centres is xᵀCx for x = (baseline, integers, 1). Behind the columns it
-    /// is 0.
+    /// The matrix C: the sum of squares at the centres is xᵀCx for x = (baseline, integers, 1). After the last
+    /// column it is 0.
     pub c: NormalTable,
     /// Σ 360360·w·ru² for the three columns of the baseline and Σ 360360·w·ry² for the constant.
     pub r: [i128; 4],

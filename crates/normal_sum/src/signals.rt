@@ -108,7 +108,7 @@ fn add_used(
 }
 
 /// Adds the weighted products of a row's coefficients to a table, and the coefficients to a total. `values` lends the
-/// room for the coefficients, and is zeros again behind the call: to clear it whole for each row costs more than these writes.
+/// room for the coefficients, and is zeros again after the call: to clear it whole for each row costs more than these writes.
 fn add_row(
     table: &mut NormalTable,
     total: &mut [i64; MOST_COLUMNS],
@@ -132,6 +132,7 @@ fn add_row(
     ensures table_size { (i j : ℕ) → i ≤ j → BASELINE_COLUMNS ≤ j → j < MOST_COLUMNS → unsigned_abs (entry table.new i j) ≤ unsigned_abs (entry table.old i j) + 2 ^ 100 }
     ensures baseline { (i j : ℕ) → j < BASELINE_COLUMNS → entry table.new i j ≡ entry table.old i j }
     ensures sum_size { (j : ℕ) → j < MOST_COLUMNS → unsigned_abs (slice_index_or total.new j (pos 0)) ≤ unsigned_abs (slice_index_or total.old j (pos 0)) + 2 ^ 34 }
+    ensures beyond { (j : ℕ) → BASELINE_COLUMNS + integers < j → j < MOST_COLUMNS → slice_index_or total.new j (pos 0) ≡ slice_index_or total.old j (pos 0) }
     ensures zeros { values.new ≡ replicate MOST_COLUMNS (pos 0) }
 {
     put_coefficients(values, row, signal, place, integers);
@@ -159,6 +160,7 @@ fn add_rows(
     ensures table_size { (i j : ℕ) → i ≤ j → BASELINE_COLUMNS ≤ j → j < MOST_COLUMNS → unsigned_abs (entry table.new i j) ≤ unsigned_abs (entry table.old i j) + (length rows.now * 2 ^ 100) }
     ensures baseline { (i j : ℕ) → j < BASELINE_COLUMNS → entry table.new i j ≡ entry table.old i j }
     ensures sum_size { (j : ℕ) → j < MOST_COLUMNS → unsigned_abs (slice_index_or result j (pos 0)) ≤ length rows.now * 2 ^ 34 }
+    ensures beyond { (j : ℕ) → BASELINE_COLUMNS + integers < j → j < MOST_COLUMNS → slice_index_or result j (pos 0) ≡ pos 0 }
 {
     let mut total = [0; MOST_COLUMNS];
     let mut values = [0; MOST_COLUMNS];
@@ -195,7 +197,7 @@ pub(crate) fn add_signal(
 {
     let rows = pair.rows.as_slice();
     let total = add_rows(table, rows, signal, places, integers);
-    let columns = used_columns(&total);
+    let columns = used_columns(&total, integers);
     let share = turned_share(rows.len(), signal);
     add_product(table, &total, columns.as_slice(), share);
 }

@@ -1,5 +1,6 @@
-use Rattle.std.proofs.Common.{rules, ◌≡◌, ℕ, ◌+◌, List, [], ◌∷◌, ◌++◌, ℤ, pos, slice_index_or, sym, subst}
-use Rattle.normal_sum.proofs.ColumnLaws.{AreUsed, one_used, not_used}
+use Rattle.std.proofs.Common.{rules, ◌≡◌, ℕ, ◌+◌, arith, List, [], ◌∷◌, ◌++◌, ℤ, pos, slice_index_or, sym, subst}
+use Rattle.form_tables.specs.declared.sizes.TheConstants.{BASELINE_COLUMNS}
+use Rattle.normal_sum.proofs.ColumnLaws.{AreUsed, one_used, not_used, all_used}
 use Rattle.normal_sum.proofs.columns.used_columns.Goals.{then-values-j-ne0, else-values-j-ne0}
 use Rattle.normal_sum.proofs.columns.used_columns.Goals as goal
 
@@ -17,3 +18,7 @@ loop-j-preserved c = record {
     | else-values-j-ne0 w ↦ left_out c.args.values.now c.loop-j.j c.loop-j.used.items c.if-values-j-ne0.used.items c.loop-j.invariant.used (search rules) (search rules)
   ];
 }
+
+pub returns : goal.returns
+returns c = all_used c.args.values.now (BASELINE_COLUMNS + c.args.integers + 1) c.loop-j.used.items (search rules) (omega (arith, c.requires.few)) (λ j h g. c.requires.beyond j (omega (arith, h)) g)
+    (subst (λ (n : ℕ). AreUsed c.args.values.now n c.loop-j.used.items) (omega arith) c.loop-j.invariant.used)

@@ -34,6 +34,7 @@ loop-k-init c = record {
   products = λ arcs ss p n i j h b g. refl;
   sums = λ arcs ss p n j h. zero_first _ _ (zero_item MOST_COLUMNS j);
   table_size = λ i j h b g. omega arith;
+  beyond = λ j h g. zero_item MOST_COLUMNS j;
   baseline = λ i j h. refl;
   sum_size = λ j h. size_zero _ (zero_item MOST_COLUMNS j);
 }
@@ -81,6 +82,7 @@ loop-k-preserved c =
           (ap (λ (l : List Row). slice_index_or c.loop-k.total j (pos 0) +ℤ coefficient_sum (map f l) j) (sym e) ∙ c.loop-k.invariant.sums arcs ss p n j h)
           (c.add_row.ensures.sums arcs ss place n j h);
       table_size = λ i j h b g. larger _ _ _ _ (c.add_row.ensures.table_size i j h b g) (c.loop-k.invariant.table_size i j h b g);
+      beyond = λ j h g. c.add_row.ensures.beyond j h g ∙ c.loop-k.invariant.beyond j h g;
       baseline = λ i j h. c.add_row.ensures.baseline i j h ∙ c.loop-k.invariant.baseline i j h;
       sum_size = λ j h. larger_sum _ _ _ (c.add_row.ensures.sum_size j h) (c.loop-k.invariant.sum_size j h);
     }
