@@ -59,7 +59,7 @@ pub fn form_table(table: &NormalTable, n: usize) -> FormTable
     p
 }
 
-/// Writes row r of a form of n columns, from its own entry on, behind the baseline's columns.
+/// Writes row r of a form of n columns, from its own entry on, after the baseline's columns.
 fn copy_row_back(p: &FormTable, table: &mut NormalTable, r: usize, n: usize)
     requires row_in { r < n }
     requires columns_in { n ≤ MOST_FORM_COLUMNS }
@@ -75,7 +75,7 @@ fn copy_row_back(p: &FormTable, table: &mut NormalTable, r: usize, n: usize)
     }
 }
 
-/// Writes this form of n columns behind the baseline's columns, on the diagonal and after it.
+/// Writes this form of n columns after the baseline's columns, on the diagonal and after it.
 pub(crate) fn put_form(p: &FormTable, table: &mut NormalTable, n: usize)
     requires columns_in { n ≤ MOST_FORM_COLUMNS }
     requires entries { EntriesBelow (2 ^ 52) p.now }

@@ -22,7 +22,7 @@ pub(crate) fn integer_at(z: &[i64], place: Option<usize>) -> i64
 
 /// The integer of an arc and a signal in the vector z: 0 for a datum and for a code.
 ///
-/// z has an entry for each free arc and each phase of the signals that count. What it has behind them is not read.
+/// z has an entry for each free arc and each phase of the signals that count. What it has after them is not read.
 pub fn integer_of(arcs: &[Arc], signals: &[usize], z: &[i64], arc: usize, signal: usize) -> i64
     requires free { free_count arcs.now ≤ MOST_FREE_ARCS }
     requires counted { AreCounted signals.now }

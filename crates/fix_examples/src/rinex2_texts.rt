@@ -19,7 +19,7 @@ fn push_part(out: &mut String, line: &str, first: usize, behind: usize) -> Resul
     Ok(())
 }
 
-// The year has two digits, and the satellites are named behind their count.
+// The year has two digits, and the satellites are named after their count.
 fn push_epoch(out: &mut String, line: &str) -> Result<(), Fail> {
     for (first, behind) in [(4, 6), (7, 9), (10, 12), (13, 15)] {
         out.push(' ')?;

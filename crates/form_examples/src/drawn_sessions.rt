@@ -69,7 +69,7 @@ pub(crate) fn signals_of(bands: u16) -> Signals {
     }
 }
 
-// The integers of arc k stand behind those of the arcs before it, of which the first is the datum.
+// The integers of arc k stand after those of the arcs before it, of which the first is the datum.
 fn integer_at(z: &[i64], phases: usize, k: u8, phase: usize) -> i64 {
     if k == 0 {
         return 0;

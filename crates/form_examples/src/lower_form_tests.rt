@@ -22,7 +22,7 @@ fn session_of(
     session_over(alloc, scale, signals, arcs, pairs)
 }
 
-// Pairs of so many rows, each list of rows a pair.
+// Pairs of N rows, each list of rows a pair.
 fn session_over<const N: usize>(
     alloc: Global,
     scale: u32,
@@ -445,7 +445,7 @@ fn refuses_the_greatest_radii(rt: HostRuntime) -> Result<(), AllocError> {
     Ok(())
 }
 
-// A form of so many columns with these entries on the diagonal and after it, row by row.
+// A form with this number of columns, with these entries on the diagonal and after it, row by row.
 fn form_of(columns: usize, entries: &[(usize, usize, i64)]) -> Option<FrontForm> {
     let mut p = FormTable::zeros();
     for (r, c, entry) in entries {

@@ -249,7 +249,7 @@ const L1_L5_ENTRIES: [(usize, usize, i128); 32] = [
     (7, 7, 1_418_737_922_809_469_767_445_230_229_940),
 ];
 
-// The integer of an arc on L5 stands behind that on L1.
+// The integer of an arc on L5 stands after that on L1.
 #[test]
 fn sums_a_session_of_l1_and_l5(rt: HostRuntime) -> Result<(), AllocError> {
     let Some(session) = session_at(rt.alloc(), 0, L1_AND_L5)? else {

@@ -44,7 +44,7 @@ both_transformed n m p w =
     (λ a x y. ap (λ z. c a i *ℤ z) (sym (exchange (λ b. p a b) w (λ j b. c b j) 0 k 0 k)))))
     ∙ exchange w v c 0 k 0 k
 
--- ---- vectors: z with 1 behind it
+-- ---- vectors: z with 1 after it
 unfoldable with_one : List ℤ → ℕ → ℤ
 with_one z c = get_or (z ++ (pos 1 ∷ [])) c (pos 0)
 
