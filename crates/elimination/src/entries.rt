@@ -1,5 +1,5 @@
 //! The new entries of one step of the elimination.
-ghost use Rattle.std.specs.Prelude.{◌≡◌, ◌^◌, ◌≤◌, pos, ◌-ℤ◌, ◌*ℤ◌, ◌<ℤ◌, ◌≤ℤ◌, unsigned_abs, nat_lt};
+ghost use Rattle.std.specs.Prelude.{◌≡◌, ◌^◌, ◌<◌, ◌≤◌, pos, ◌-ℤ◌, ◌*ℤ◌, ◌<ℤ◌, ◌≤ℤ◌, unsigned_abs, nat_lt};
 ghost use Rattle.whole_math.specs.Rounding.{nearest_div, ceil_div};
 ghost use Rattle.form_tables.specs.declared.sizes.TheConstants.{MOST_COLUMNS};
 
@@ -28,16 +28,6 @@ fn product(p: i128, q: i128) -> i128
     p * q
 }
 
-/// p · 2^30 / a to the nearest: the factor of a column with the entry p in the column of the pivot a.
-pub(crate) fn factor_of(p: i128, a: i128) -> i128
-    requires p_size { unsigned_abs p ≤ 2 ^ 52 }
-    requires positive { pos 0 <ℤ a }
-    ensures value { result ≡ nearest_div (p *ℤ pos (2 ^ 30)) (unsigned_abs a) }
-    ensures size { unsigned_abs result ≤ 2 ^ 104 }
-{
-    nearest(product(p, 1 << FACTOR_EXPONENT), a)
-}
-
 /// entry - loss
 fn less(entry: i128, loss: i128) -> i128
     requires entry_size { unsigned_abs entry ≤ 2 ^ 52 }
@@ -62,16 +52,114 @@ fn less_three(entry: i128, square: i128, count: i128, loss: i128) -> i128
     fewer - loss
 }
 
-/// An entry off the diagonal, less p · q / a to the nearest.
-pub(crate) fn other_after(entry: i128, p: i128, q: i128, a: i128) -> i128
+/// A whole number near p · 2^exponent / a, by which p · q / a is guessed for many q. Nothing is said of it: a guess is
+/// tested.
+#[derive(Clone, Copy, Debug)]
+pub(crate) struct Share {
+    ratio: i64,
+    exponent: u32,
+    pub ghost exponent_to: { exponent < 128 },
+}
+
+/// A number, or the nearest that is at most 2^62 in size.
+fn within_62(x: i128) -> i64
+    ensures { unsigned_abs result ≤ 2 ^ 62 }
+{
+    x.clamp(-(1 << 62), 1 << 62) as i64
+}
+
+/// A number, or the nearest that is at most 2^52 in size.
+fn within_52(x: i128) -> i128
+    ensures { unsigned_abs result ≤ 2 ^ 52 }
+{
+    x.clamp(-LIMIT, LIMIT)
+}
+
+/// The share of 2^30 in the pivot a, to some 60 bits. It takes the one division of a step.
+pub(crate) fn pivot_share(a: i128) -> Share
+    requires { pos 0 <ℤ a }
+{
+    // 29 more than the bits of a
+    let exponent = 157_u32.saturating_sub(a.leading_zeros()).min(90);
+    let whole = 1_i128 << (FACTOR_EXPONENT + exponent);
+    Share {
+        ratio: within_62(whole / a),
+        exponent,
+    }
+}
+
+/// The share of p in a pivot, by that of 2^30.
+pub(crate) fn share_by(p: i128, pivot: &Share) -> Share {
+    let bits = 128_u32
+        .saturating_sub(p.unsigned_abs().leading_zeros())
+        .min(127);
+    let product = (pivot.ratio as i128).wrapping_mul(p);
+    Share {
+        ratio: within_62(product >> bits),
+        exponent: (pivot.exponent + FACTOR_EXPONENT)
+            .saturating_sub(bits)
+            .min(127),
+    }
+}
+
+/// About p · q / a to the nearest, by the share of p in a.
+fn guess_of(share: &Share, q: i128) -> i128
+    ensures { unsigned_abs result ≤ 2 ^ 52 }
+{
+    let product = (share.ratio as i128).wrapping_mul(q);
+    let twice = within_62(product.wrapping_add(product) >> share.exponent);
+    within_52((twice as i128 + 1) >> 1)
+}
+
+/// n / a to the nearest: the guess where it is that, and else by a division.
+fn nearest_by(n: i128, a: i128, guess: i128) -> i128
+    requires n_size { unsigned_abs n ≤ 2 ^ 104 }
+    requires a_size { unsigned_abs a ≤ 2 ^ 52 }
+    requires positive { pos 0 <ℤ a }
+    requires guess_size { unsigned_abs guess ≤ 2 ^ 52 }
+    ensures value { result ≡ nearest_div n (unsigned_abs a) }
+    ensures size { unsigned_abs result ≤ 2 ^ 104 }
+{
+    let twice = twice_less(n, product(guess, a));
+    if -a <= twice && twice < a {
+        guess
+    } else {
+        nearest(n, a)
+    }
+}
+
+/// 2 · (n - m)
+fn twice_less(n: i128, m: i128) -> i128
+    requires n_size { unsigned_abs n ≤ 2 ^ 104 }
+    requires m_size { unsigned_abs m ≤ 2 ^ 104 }
+    ensures { result ≡ pos 2 *ℤ (n -ℤ m) }
+{
+    2 * (n - m)
+}
+
+/// p · 2^30 / a to the nearest: the factor of a column with the entry p in the column of the pivot a, with the share of
+/// 2^30 in a.
+pub(crate) fn factor_of(p: i128, a: i128, pivot: &Share) -> i128
+    requires p_size { unsigned_abs p ≤ 2 ^ 52 }
+    requires a_size { unsigned_abs a ≤ 2 ^ 52 }
+    requires positive { pos 0 <ℤ a }
+    ensures value { result ≡ nearest_div (p *ℤ pos (2 ^ 30)) (unsigned_abs a) }
+    ensures size { unsigned_abs result ≤ 2 ^ 104 }
+{
+    nearest_by(product(p, 1 << FACTOR_EXPONENT), a, guess_of(pivot, p))
+}
+
+/// An entry off the diagonal, less p · q / a to the nearest, with the share of p in a.
+pub(crate) fn other_after(entry: i128, p: i128, q: i128, a: i128, share: &Share) -> i128
     requires entry_size { unsigned_abs entry ≤ 2 ^ 52 }
     requires p_size { unsigned_abs p ≤ 2 ^ 52 }
     requires q_size { unsigned_abs q ≤ 2 ^ 52 }
+    requires a_size { unsigned_abs a ≤ 2 ^ 52 }
     requires positive { pos 0 <ℤ a }
     ensures value { result ≡ entry -ℤ nearest_div (p *ℤ q) (unsigned_abs a) }
     ensures size { unsigned_abs result ≤ 2 ^ 105 }
 {
-    less(entry, nearest(product(p, q), a))
+    less(entry, nearest_by(product(p, q), a, guess_of(share, q)))
 }
 
 /// n · a / 2^42 upward: what the rounding of the factors may take from an own entry.

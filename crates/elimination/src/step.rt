@@ -7,7 +7,9 @@ ghost use Rattle.elimination.specs.StepEntries.{is_small, factor_entry, other_en
 ghost use Rattle.elimination.specs.Stops.{refusal_of, column_at, form_after};
 ghost use Rattle.integer_form.specs.Factors.{factor_at};
 
-use crate::entries::{factor_of, is_small, kept_of, other_after, own_after};
+use crate::entries::{
+    Share, factor_of, is_small, kept_of, other_after, own_after, pivot_share, share_by,
+};
 use form_tables::{FactorTable, MOST_COLUMNS, MOST_FACTORS, NormalTable};
 
 /// Why a step stops.
@@ -24,18 +26,20 @@ pub enum Stop {
 /// A pivot is at least this.
 const LEAST_PIVOT: i128 = 1 << 20;
 
-/// Writes the factors of column j; false where one is too large.
+/// Writes the factors of column j, with the share of 2^30 in the pivot; false where one is too large.
 fn write_factors(
     table: &NormalTable,
     factors: &mut FactorTable,
     j: usize,
     columns: usize,
     a: i128,
+    pivot: &Share,
 ) -> bool
     requires column { j < columns }
     requires factor_in { j < MOST_FACTORS }
     requires columns_in { columns ≤ MOST_COLUMNS }
     requires positive { pos 0 <ℤ a }
+    requires pivot_size { unsigned_abs a ≤ 2 ^ 52 }
     requires entries { (c : ℕ) → j < c → c < columns → unsigned_abs (entry table.now j c) ≤ 2 ^ 52 }
     ensures value { result ≡ true → (c : ℕ) → j < c → c < columns → entry factors.new c j ≡ factor_entry table.now j (unsigned_abs a) c }
     ensures small { result ≡ true → (c : ℕ) → j < c → c < columns → is_small (factor_entry table.now j (unsigned_abs a) c) ≡ true }
@@ -43,7 +47,7 @@ fn write_factors(
     ensures others { (i c : ℕ) → (c ≢ j) ⊎ ((i ≤ j) ⊎ (columns ≤ i)) → entry factors.new i c ≡ entry factors.old i c }
 {
     for c in j + 1..columns {
-        let factor = factor_of(table.at(j, c), a);
+        let factor = factor_of(table.at(j, c), a, pivot);
         if !is_small(factor) {
             return false;
         }
@@ -52,12 +56,20 @@ fn write_factors(
     true
 }
 
-/// Writes the entries of row r after its own; false where one is too large.
-fn update_others(table: &mut NormalTable, j: usize, r: usize, columns: usize, a: i128) -> bool
+/// Writes the entries of row r after its own, with the share of the entry of row j in the pivot; false where one is too large.
+fn update_others(
+    table: &mut NormalTable,
+    j: usize,
+    r: usize,
+    columns: usize,
+    a: i128,
+    share: &Share,
+) -> bool
     requires row { j < r }
     requires row_in { r < columns }
     requires columns_in { columns ≤ MOST_COLUMNS }
     requires positive { pos 0 <ℤ a }
+    requires pivot_size { unsigned_abs a ≤ 2 ^ 52 }
     requires pivots { (c : ℕ) → j < c → c < columns → unsigned_abs (entry table.old j c) ≤ 2 ^ 52 }
     requires entries { (c : ℕ) → r < c → c < columns → unsigned_abs (entry table.old r c) ≤ 2 ^ 52 }
     ensures value { result ≡ true → (c : ℕ) → r < c → c < columns → entry table.new r c ≡ other_entry table.old j (unsigned_abs a) r c }
@@ -67,7 +79,7 @@ fn update_others(table: &mut NormalTable, j: usize, r: usize, columns: usize, a:
     ensures others { (i c : ℕ) → i ≢ r → entry table.new i c ≡ entry table.old i c }
 {
     for c in r + 1..columns {
-        let other = other_after(table.at(r, c), table.at(j, r), table.at(j, c), a);
+        let other = other_after(table.at(r, c), table.at(j, r), table.at(j, c), a, share);
         if !is_small(other) {
             return false;
         }
@@ -77,7 +89,14 @@ fn update_others(table: &mut NormalTable, j: usize, r: usize, columns: usize, a:
 }
 
 /// Writes the entries of row r from its own on; false where one is too large.
-fn update_row(table: &mut NormalTable, j: usize, r: usize, columns: usize, a: i128) -> bool
+fn update_row(
+    table: &mut NormalTable,
+    j: usize,
+    r: usize,
+    columns: usize,
+    a: i128,
+    pivot: &Share,
+) -> bool
     requires row { j < r }
     requires row_in { r < columns }
     requires columns_in { columns ≤ MOST_COLUMNS }
@@ -96,11 +115,12 @@ fn update_row(table: &mut NormalTable, j: usize, r: usize, columns: usize, a: i1
         return false;
     }
     table.set(r, r, own);
-    update_others(table, j, r, columns, a)
+    let share = share_by(table.at(j, r), pivot);
+    update_others(table, j, r, columns, a, &share)
 }
 
 /// Writes all entries after column j; false where one is too large.
-fn update(table: &mut NormalTable, j: usize, columns: usize, a: i128) -> bool
+fn update(table: &mut NormalTable, j: usize, columns: usize, a: i128, pivot: &Share) -> bool
     requires column { j < columns }
     requires columns_in { columns ≤ MOST_COLUMNS }
     requires positive { pos 0 <ℤ a }
@@ -113,7 +133,7 @@ fn update(table: &mut NormalTable, j: usize, columns: usize, a: i128) -> bool
     ensures before { (r c : ℕ) → r ≤ j → entry table.new r c ≡ entry table.old r c }
 {
     for r in j + 1..columns {
-        if !update_row(table, j, r, columns, a) {
+        if !update_row(table, j, r, columns, a, pivot) {
             return false;
         }
     }
@@ -141,10 +161,11 @@ pub(crate) fn step(
     if a < LEAST_PIVOT {
         return Err(Stop::Weak);
     }
-    if !write_factors(table, factors, j, columns, a) {
+    let pivot = pivot_share(a);
+    if !write_factors(table, factors, j, columns, a, &pivot) {
         return Err(Stop::WideFactor);
     }
-    if !update(table, j, columns, a) {
+    if !update(table, j, columns, a, &pivot) {
         return Err(Stop::WideEntry);
     }
     Ok(kept_of(a))

@@ -12,9 +12,9 @@ returns-clause-value c =
     let eq : to_z w128 (of_z w128 c.args.q) ≡ c.args.q = to_z-of_z w128 c.args.q c.ranges.q in
     let ea : to_z w128 (of_z w128 c.args.a) ≡ c.args.a = to_z-of_z w128 c.args.a c.ranges.a in
     let wp : to_z w128 (of_z w128 c.product.result) ≡ c.product.result = as_w128 c.product.result (omega (arith, c.product.ensures.size)) in
-    let wn : to_z w128 (of_z w128 c.nearest.result) ≡ c.nearest.result = as_w128 c.nearest.result (omega (arith, rw wp at c.nearest.ensures.size, c.product.ensures.size)) in
+    let wn : to_z w128 (of_z w128 c.nearest_by.result) ≡ c.nearest_by.result = as_w128 c.nearest_by.result (omega (arith, c.nearest_by.ensures.size)) in
     let wl : to_z w128 (of_z w128 c.less.result) ≡ c.less.result = as_w128 c.less.result (omega (arith, c.less.ensures.size)) in
     let p : c.product.result ≡ c.args.p *ℤ c.args.q = rw (ep, eq) at c.product.ensures.value in
-    let n : c.nearest.result ≡ nearest_div c.product.result (unsigned_abs c.args.a) = rw (wp, ea) at c.nearest.ensures.value in
-    let l : c.less.result ≡ c.args.entry -ℤ c.nearest.result = rw (ee, wn) at c.less.ensures.value in
+    let n : c.nearest_by.result ≡ nearest_div c.product.result (unsigned_abs c.args.a) = rw (wp, ea) at c.nearest_by.ensures.value in
+    let l : c.less.result ≡ c.args.entry -ℤ c.nearest_by.result = rw (ee, wn) at c.less.ensures.value in
     wl ∙ l ∙ ap (λ z. c.args.entry -ℤ z) (n ∙ ap (λ z. nearest_div z (unsigned_abs c.args.a)) p)
