@@ -25,8 +25,9 @@ use Rattle.cert_check.proofs.SameForms as sessions
 use Rattle.track_data.specs.declared.tails.TrackTail.{TrackTail}
 use Rattle.track_data.specs.declared.tails.TrackTail.TheVariants.{Fixed, Unseparated, Weak, Overwidth, Spent}
 use Rattle.track_sum.specs.Fronts.{track_top}
-use Rattle.track_sum.specs.PairFronts.{IsRefusedPair, move_at}
-use Rattle.track_sum.specs.Decided.{IsTrackForm, AreFound, IsMoveWide, IsSumWide, pair_uppers}
+use Rattle.track_sum.specs.PairFronts.{IsRefusedPair, HasFront, move_at}
+use Rattle.track_sum.specs.Decided.{IsTrackForm, IsFinishRefused, AreFound, IsMoveWide, IsSumWide, pair_uppers}
+use Rattle.track_sum.proofs.OneFront.{no_front}
 use Rattle.track_sum.proofs.OneForm.{SameForm, one_form, same_moves, no_fronts, no_form, one_first, one_finish}
 use Rattle.track_form.specs.Decided.{IsFormRefused, track_tail_of, IsTrackWideAt, IsTrackDecision, AreSameNumbers, IsSameTail, HasGivenUp, IsSameDecision}
 use Rattle.track_form.proofs.Lists.{not_mapped, any_mapped, not_all_and_any}
@@ -69,6 +70,14 @@ one_refusal arcs ss pairs why too (inl a) (inl b) = one_first arcs ss pairs why 
 one_refusal arcs ss pairs why too (inl a) (inr b) = absurd (no_fronts arcs ss pairs why b.fronts a b.of_fronts.of_pairs)
 one_refusal arcs ss pairs why too (inr a) (inl b) = absurd (no_fronts arcs ss pairs too a.fronts b a.of_fronts.of_pairs)
 one_refusal arcs ss pairs why too (inr a) (inr b) = one_finish arcs ss pairs why too a b
+
+-- where each pair has a front, the finish of their sum is refused
+pub finish_refused : (arcs : List Arc) (ss : List ℕ) (pairs : List PairRows) (why : LowerFault) → All (HasFront arcs ss) pairs → IsFormRefused arcs ss pairs why → IsFinishRefused arcs ss pairs why
+finish_refused arcs ss pairs why fronts (inl a) =
+    let p : PairRows = some_pair pairs a.place a.inside in
+    let front : HasFront arcs ss (get_or pairs a.place p) = fronts a.place p a.inside in
+    absurd (no_front arcs ss (get_or pairs a.place p) why front.0 (a.refused p) front.1)
+finish_refused arcs ss pairs why fronts (inr a) = a
 
 -- rows whose form is refused have none
 none_refused : (arcs : List Arc) (ss : List ℕ) (pairs : List PairRows) (why : LowerFault) (fs : List FrontForm) (f : Form) → IsFormRefused arcs ss pairs why → IsTrackForm arcs ss pairs fs f → ⊥

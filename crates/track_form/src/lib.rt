@@ -10,9 +10,13 @@
 //! where the rows are fixed and the tail says the same numbers (`verdict`, `only`); and then the tail's first integers
 //! with its moves are strictly best for the rows, and best by the ratio, whoever wrote the text (`strictly_best`,
 //! `by_ratio`). Both are refused where memory runs out, and never else.
+//!
+//! Where each pair has a front, as each tracked pair has, a refusal of the form is one of the finish of the fronts' sum
+//! (`finish_refused_law`).
 #![tactic(auto)]
 
 mod decided;
+pub mod laws;
 mod tails;
 mod uppers;
 mod verdict;

@@ -68,10 +68,12 @@ pub record IsTrackFixedFor (b r : ObsFile) (n : Records) (o : Options) (answer :
 abbrev pub track_status_of : TrackAnswer → Status
 track_status_of a = if is_track_fixed a then Done else Declined
 
--- The outcome of the files, in its two texts. A certificate that is printed is the only one with its text.
+-- The outcome of the files, in its two texts. A certificate that is printed stands for the files, whatever it says, and is the only
+-- one with its text.
 pub record AnswersTrack (o : Options) (b r : ObsFile) (n : Records) (end : Ending) : Type 0 where
   pub outcome : TrackOutcome
   pub is : IsTrackOutcome b r n o outcome
   pub fixed : is_track_fixed outcome.answer ≡ true → IsTrackFixedFor b r n o outcome.answer
+  pub stands : (cert : TrackCert) → outcome.answer ≡ Full cert → TrackStandsForIts b r n o cert
   pub whole : IsWholeTrackAnswer outcome.answer
   pub end_is : end ≡ ending (track_status_of outcome.answer) (track_answer_text outcome.answer) (track_outcome_text outcome)

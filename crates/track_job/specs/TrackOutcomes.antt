@@ -22,6 +22,7 @@ use Rattle.track_data.specs.declared.tails.TrackTail.{TrackTail}
 use Rattle.track_data.specs.declared.certs.TrackCert.{TrackCert}
 use Rattle.track_data.specs.declared.lost.Lost.{Lost}
 use Rattle.track_data.specs.declared.lost.Tracked.{Tracked}
+use Rattle.track_sum.specs.PairFronts.{HasFront}
 use Rattle.track_form.specs.Decided.{IsTrackDecision, IsSameDecision, IsTrackBestWhereFixed}
 use Rattle.track_report.specs.declared.outcomes.TrackOutcome.{TrackOutcome}
 use Rattle.track_report.specs.declared.outcomes.TrackAnswer.{TrackAnswer}
@@ -45,10 +46,12 @@ pub record IsTrackable (kept : List Arc) (taken : ℕ) : Type 0 where
 abbrev pub tracked_with : Track → List Lost → Tracked
 tracked_with track lost = record { track = track; lost = lost }
 
--- what is decided of the tracked pairs, whose rows the certificate has: one decision, but where a search gave up
+-- What is decided of the tracked pairs, whose rows the certificate has: one decision, but where a search gave up. Each of these pairs
+-- has a front, so no tail tells the refusal of one: a form is refused at the finish of the fronts' sum alone.
 pub record IsDecidedTrack (o : Options) (cert : TrackCert) : Type 0 where
   pub ratio_is : cert.ratio ≡ o.ratio
   pub budget_is : cert.budget ≡ o.budget
+  pub fronts : All (HasFront cert.track.arcs (fine_signals cert.track.signals)) cert.track.pairs
   pub decision : IsTrackDecision cert.track.arcs (fine_signals cert.track.signals) cert.track.pairs cert.ratio cert.budget cert.tail
   pub only : (t : TrackTail) → IsTrackDecision cert.track.arcs (fine_signals cert.track.signals) cert.track.pairs cert.ratio cert.budget t → IsSameDecision t cert.tail
   pub best : IsTrackBestWhereFixed cert.track.arcs (fine_signals cert.track.signals) cert.track.pairs cert.tail

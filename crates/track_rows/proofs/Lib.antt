@@ -4,3 +4,4 @@ pub mod Marks
 pub mod Steps
 pub mod Ends
 pub mod StandsLaws
+pub mod FrontLaws

@@ -1,6 +1,7 @@
 use Rattle.std.proofs.Common.{◌≡◌, ℕ, List, ◌++◌, ap, ◌∙◌}
 use Rattle.track_report.specs.TrackTexts.{track_answer_text, track_outcome_text}
 use Rattle.job_answers.specs.Endings.{ending}
+use Rattle.track_job.proofs.StandsLaws.{track_stands_for}
 use Rattle.track_job.proofs.TrackSays.{track_fixed_for}
 use Rattle.track_job.proofs.tracks.MovingRoverSessionCommand.answer.Goals as goal
 
@@ -17,6 +18,7 @@ returns-clause-answered c =
         outcome = outcome;
         is = is.outcome;
         fixed = track_fixed_for c.args.base.now c.args.rover.now c.args.nav.now c.args.options.now outcome is.outcome;
+        stands = λ cert full. track_stands_for c.args.base.now c.args.rover.now c.args.nav.now c.args.options.now outcome cert is.outcome full;
         whole = written.whole;
         end_is = λ i. ending (c.track_status_of.ensures.value i) (out i) (err i);
       };
