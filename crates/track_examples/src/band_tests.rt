@@ -37,7 +37,7 @@ const FIRST: Epochs = Epochs {
     behind: 1,
 };
 
-// A field of the first pair with so many thousandths more, and how the text on err begins then.
+// A field of the first pair, how many thousandths more it has, and how the text on err begins then.
 const LOST_FIRST: [(Field, i64, &str); 2] = [
     (C2W, 1_000_000, "pairs 10 of 10\narcs 5\nlost 0 y\nplace 1 "),
     (

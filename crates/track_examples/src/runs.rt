@@ -60,7 +60,7 @@ pub(crate) fn is_certified(rt: &impl Abort, alloc: Global, text: &[u8]) -> Resul
     Ok(())
 }
 
-// The three coordinates behind the number in the line of a place, in 0.1 mm.
+// The three coordinates after the number in the line of a place, in 0.1 mm.
 fn place_in(line: &str) -> Option<[i64; 3]> {
     let mut words = line.split(' ');
     let _name = words.next()?;
@@ -79,7 +79,7 @@ fn is_near(found: Option<[i64; 3]>, want: [i64; 3]) -> bool {
     }
 }
 
-/// Where a rover is in so many pairs: at the first place up to the pair in which it turns, and at the second from it on.
+/// Where a rover is in each of `count` pairs: at the first place up to the pair in which it turns, and at the second from it on.
 #[derive(Clone, Copy)]
 pub(crate) struct Walk {
     pub count: usize,

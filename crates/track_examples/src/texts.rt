@@ -18,7 +18,7 @@ pub(crate) const ALL: Epochs = Epochs {
 };
 
 impl Epochs {
-    // Whether the last of so many epochs is one of these.
+    // Whether the last of the first `so_far` epochs is one of these.
     fn has_last_of(self, so_far: u32) -> bool {
         self.first < so_far && so_far <= self.behind
     }
@@ -112,7 +112,7 @@ fn push_more(
     Ok(())
 }
 
-/// The text with so many thousandths more in a field of a satellite, in these epochs.
+/// The text with `more` thousandths more in a field of a satellite, in these epochs.
 pub(crate) fn with_more(
     alloc: Global,
     text: &[u8],

@@ -1,4 +1,4 @@
--- The line of a pair before those of the pairs behind it.
+-- The line of a pair before those of the pairs after it.
 use Rattle.std.proofs.Common.{◌≡◌, ◌+◌, ◌<◌, ℕ, ℤ, List, ◌∷◌, ◌++◌, length, drop, get_or, sym, ap, ◌∙◌, append_assoc}
 use Rattle.std.proofs.lemmas.List.{drop_more}
 use Rattle.obs_rows.specs.declared.pair_rows.PairRows.{PairRows}

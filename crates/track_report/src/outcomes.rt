@@ -20,11 +20,11 @@ pub struct TrackOutcome {
 /// What was found.
 #[derive(Debug, Drop)]
 pub enum TrackAnswer {
-    /// So many pairs were taken, and none has four satellites in kept arcs.
+    /// None of the taken pairs, of which there are `pairs`, has four satellites in kept arcs.
     Few { pairs: u32 },
-    /// There are so many free arcs.
+    /// The free arcs are too many: there are `free`.
     Arcs { free: u32 },
-    /// So many pairs were taken, and none is tracked.
+    /// None of the taken pairs, of which there are `pairs`, is tracked.
     Lost { pairs: u32 },
     /// Decided on the rows of the tracked pairs.
     Full(TrackCert),

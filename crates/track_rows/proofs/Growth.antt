@@ -41,14 +41,14 @@ pub row_begun : (kept : List Arc) (tracked : List PairRows) (count arc : ℕ) �
 row_begun kept tracked count arc before row =
     (row.0, row.1, row.2, row.3, (subst (λ (p : PairRows). p.number < count) row.3 (before row.0 row.1 row.2), row.4))
 
--- ---- the arcs behind a pair
+-- ---- the arcs after a pair
 -- those that have begun before it stay as they are
 pub record AreNext (t : TrackSetting) (arcs : List Arc) (tracked : List PairRows) (count : ℕ) (next : List Arc) : Type 0 where
   pub same : AreSameArcs t.kept arcs
   pub after : AreSameArcs t.kept next
   pub stays : (k : ℕ) (a b : Arc) → slice_get arcs k ≡ Some a → slice_get next k ≡ Some b → HasBegun t.kept tracked count k → b ≡ a
 
--- arcs with which a pair is tried are so behind a later pair too
+-- arcs with which a pair is tried are so after a later pair too
 pub tried_along : (t : TrackSetting) (arcs next : List Arc) (begun begun' : ℕ → Type 0) (pair : ℕ) (point : List ℤ) (tried : List Arc) → AreSameArcs t.kept arcs → AreSameArcs t.kept next →
     ((k : ℕ) → begun k → begun' k) → ((k : ℕ) → begun' k → begun k) → ((k : ℕ) (a b : Arc) → slice_get arcs k ≡ Some a → slice_get next k ≡ Some b → begun k → b ≡ a) →
     AreTried t arcs begun pair point tried → AreTried t next begun' pair point tried
@@ -76,7 +76,7 @@ rows_by t arcs next begun begun' pair rows along h = record {
   rows_are = h.rows_are;
 }
 
--- what is said of a lost pair holds behind a later one too
+-- what is said of a lost pair holds after a later one too
 pub lost_by : (t : TrackSetting) (arcs next : List Arc) (begun begun' : ℕ → Type 0) (pair : ℕ) (cause : LostCause) →
     ((point : List ℤ) (tried : List Arc) → AreTried t arcs begun pair point tried → AreTried t next begun' pair point tried) → IsLost t arcs begun pair cause → IsLost t next begun' pair cause
 lost_by t arcs next begun begun' pair Rows along l = l

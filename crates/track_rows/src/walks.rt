@@ -24,7 +24,7 @@ pub(crate) struct Walk {
     pub lost: Vec<Lost>,
 }
 
-/// Whether an arc has begun behind this pair, which is tracked.
+/// Whether an arc has begun after this pair, which is tracked.
 fn has_begun(before: bool, arc: &Arc, pair: u32) -> bool
     ensures { result ≡ (before || holds_pair arc.now pair) }
 {
@@ -69,7 +69,7 @@ impl Walk {
         Ok(())
     }
 
-    /// One more pair, which is tracked, with the arcs behind it.
+    /// One more pair, which is tracked, with the arcs after it.
     fn track(
         &mut self,
         alloc: Global,

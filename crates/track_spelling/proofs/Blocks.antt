@@ -1,4 +1,4 @@
--- The lines of a pair before those of the pairs behind it.
+-- The lines of a pair before those of the pairs after it.
 use Rattle.std.proofs.Common.{◌≡◌, ◌+◌, ◌<◌, ℕ, ℤ, pos, List, [], ◌∷◌, ◌++◌, length, drop, get_or, codes, Result, Ok, Err, OnOk, sym, ap, ◌∙◌, append_assoc}
 use Rattle.std.specs.Fmt.{signed_decimal}
 use Rattle.std.proofs.lemmas.List.{drop_more}
@@ -8,7 +8,7 @@ use Rattle.cert_lines.proofs.Appends.{line_pushed}
 use Rattle.cert_spelling.proofs.Texts.{block_pushed}
 use Rattle.track_spelling.specs.Spelling.{placed_pair_lines, all_placed_pairs, move_line, move_lines}
 
--- a pair with its point, and those behind it
+-- a pair with its point, and those after it
 pub placed_pushed : (ss a b whole : List ℕ) (pairs : List PairRows) (points : List (List ℤ)) (i : ℕ) (p : PairRows) (x : List ℤ) → i < length pairs → i < length points
     → p ≡ get_or pairs i p → b ≡ a ++ text_of_lines (placed_pair_lines ss p (get_or points i x))
     → a ++ text_of_lines (all_placed_pairs ss (drop i pairs) (drop i points)) ≡ whole
@@ -20,7 +20,7 @@ placed_pushed ss a b whole pairs points i p x inside within is pushed so_far =
     let placed = ap (λ (xs : List (List ℤ)). a ++ text_of_lines (all_placed_pairs ss (p ∷ later) xs)) (drop_more points i x within) in
     block_pushed a b whole (placed_pair_lines ss p (get_or points i x)) (all_placed_pairs ss later (drop (i + 1) points)) pushed (sym placed ∙ sym split ∙ so_far)
 
--- the move of a pair, and those behind it
+-- the move of a pair, and those after it
 pub move_pushed : (a b whole : List ℕ) (pairs : List PairRows) (moves : List (List ℤ)) (i : ℕ) (p : PairRows) (m : List ℤ) → i < length pairs → i < length moves
     → b ≡ a ++ text_of_lines (move_line (get_or pairs i p).number (get_or moves i m) ∷ [])
     → a ++ text_of_lines (move_lines (drop i pairs) (drop i moves)) ≡ whole

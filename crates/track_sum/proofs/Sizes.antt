@@ -58,7 +58,7 @@ rounded_size x q m k b is few small = by_size (unsigned_abs q) (whole (unsigned_
         one_more a n = omega arith
 
 -- ---- all pairs
--- k times the sum is at most so many times b + k
+-- k times the sum is at most b + k for each front
 sum_size : (f : Front → ℤ) (k b : ℕ) (fs : List Front) → All (λ g. unsigned_abs (f g) * k ≤ b + k) fs → unsigned_abs (sum (map f fs)) * k ≤ length fs * (b + k)
 sum_size f k b [] all = omega arith
 sum_size f k b (g ∷ fs) all = step (unsigned_abs (f g)) (unsigned_abs (sum (map f fs))) (unsigned_abs (f g +ℤ sum (map f fs))) (length fs) (b + k)

@@ -54,7 +54,7 @@ none_entry n h r c = by_place (nat_eq r c)
     by_place true = same_by (pos n ∷ []) (λ n. (nat 0 ⊖ nat 0 ⊗ n, nat 0)) refl
     by_place false = refl
 
--- a table of the sums, behind the baseline's columns
+-- a table of the sums, after the baseline's columns
 pub summed_form : (n h : ℕ) (fs : List Front) (t : List (List ℤ)) → ((r c : ℕ) → r ≤ c → c < n → entry t (3 + r) (3 + c) ≡ track_entry n h fs r c) → form_from (entry t) 3 n ≡ track_form n h fs
 summed_form n h fs t same = form_moved (entry t) (track_entry n h fs) 3 0 n (λ r c l b. same r c l b ∙ sym (ap₂ (λ i j. track_entry n h fs i j) (nothing r) (nothing c)))
   where

@@ -79,7 +79,7 @@ fn add_front(table: &mut NormalTable, front: &FrontForm, shift: u32)
     }
 }
 
-/// Adds what all pairs add to the form over 2^h, behind the baseline's columns, on the diagonal and after it, and keeps the
+/// Adds what all pairs add to the form over 2^h, after the baseline's columns, from the diagonal on, and keeps the
 /// factors of their fronts. The inner error is told of the first pair that has no front.
 fn add_fronts(
     alloc: Global,

@@ -163,7 +163,7 @@ tail_accepted f arcs pairs (Spent spent) few fits whole =
 
 -- ---- the whole
 
--- the lines of the certificate, one behind the other
+-- the lines of the certificate, one after the other
 pub regrouped : (c : TrackCert) → lines_of_track c ≡ track_form ∷ count_line (codes "ratio") c.ratio ∷ count_line (codes "budget") c.budget ∷ system_line c.track.system
     ∷ vector_line (codes "base") c.track.base ∷ signals_line Two c.track.signals.l1 c.track.signals.l2 c.track.signals.l5
     ∷ (counted_arcs (fine_signals c.track.signals) c.track.arcs

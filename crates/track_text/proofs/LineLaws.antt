@@ -73,7 +73,7 @@ pub rows_taken : (f : Frame) (arcs : List Arc) (pairs number : ℕ) (numbers : L
     → RowsAreTaken track_rules f.ss arcs number (λ left least. before_rows f arcs pairs number left least numbers) (before_pairs f arcs pairs (number + 1) (numbers ++ number ∷ []))
 rows_taken f arcs pairs number numbers = record { takes = λ left least some. row_taken f arcs pairs number left least numbers some; ends = λ least. refl }
 
--- ---- where a line of a tail behind its first is expected, or the end
+-- ---- where a line of a tail after its first is expected, or the end
 
 pub second_taken : (n : ℕ) (numbers : List ℕ) → TakesLine track_rules (Second n numbers) (vector_in (codes "z2") n ENTRIES) (λ z. before_moves numbers)
 second_taken n numbers = record { admits = λ line. refl; ends = refl }

@@ -45,7 +45,7 @@ record ArePlaced (ss : List ℕ) (arcs : List Arc) (pairs : List PairRows) (poin
   pub are : All IsPoint points
   pub triples : AreTriples points
 
--- those behind the first
+-- those after the first
 placed_tail : (ss : List ℕ) (arcs : List Arc) (p : PairRows) (pairs : List PairRows) (x : List ℤ) (points : List (List ℤ)) → ArePlaced ss arcs (p ∷ pairs) (x ∷ points) → ArePlaced ss arcs pairs points
 placed_tail ss arcs p pairs x points h = record {
   each = omega (arith, h.each);

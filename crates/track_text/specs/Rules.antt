@@ -1,4 +1,4 @@
--- What each line of the certificate of a track must be in its place, and what is expected behind it.
+-- What each line of the certificate of a track must be in its place, and what is expected after it.
 use Rattle.std.specs.Prelude.{ℕ, zero, suc, ◌+◌, ◌-◌, if◌then◌else◌, List, [], ◌∷◌, ◌++◌, map, codes, Result, Ok}
 use Rattle.obs_rows.specs.declared.arcs.Arc.{Arc}
 use Rattle.obs_rows.specs.declared.pair_rows.PairRows.{PairRows}
@@ -21,7 +21,7 @@ use Rattle.track_text.specs.TailForms.{move_in, declined_in}
 abbrev pub numbers_of : List PairRows → List ℕ
 numbers_of pairs = map (λ p. p.number) pairs
 
--- what the head says of the lines behind it: the budget, and the signals that count
+-- what the head says of the lines after it: the budget, and the signals that count
 pub record Frame : Type 0 where
   pub budget : ℕ
   pub ss : List ℕ
@@ -29,10 +29,10 @@ pub record Frame : Type 0 where
 abbrev pub frame : ℕ → List ℕ → Frame
 frame budget ss = record { budget = budget; ss = ss }
 
--- What may be expected: the lines of the head, with the budget from its line on; so many arcs behind these; the number
--- of pairs; so many pairs, with numbers from a least one on; so many other pairs behind the point and the rows of a pair
+-- What may be expected: the lines of the head, with the budget from its line on; a number of arcs after these; the number
+-- of pairs; a number of pairs, with numbers from a least one on; a number of other pairs after the point and the rows of a pair
 -- of a number, with arcs from a least one on; the lines of the tail; the end. The numbers of the pairs so far go along,
--- and behind the second vector those whose moves are due.
+-- and after the second vector those whose moves are due.
 pub data Expected : Type 0 where
   Form : Expected
   Ratio : Expected
@@ -53,17 +53,17 @@ pub data Expected : Type 0 where
   Last : Expected
   End : Expected
 
--- so many arcs are to come
+-- this number of arcs is to come
 abbrev pub before_arcs : Frame → ℕ → List Arc → Expected
 before_arcs f zero arcs = PairCount f arcs
 before_arcs f (suc left) arcs = NextArc f (suc left) arcs
 
--- so many pairs are to come behind those of these numbers
+-- this number of pairs is to come after those of these numbers
 abbrev pub before_pairs : Frame → List Arc → ℕ → ℕ → List ℕ → Expected
 before_pairs f arcs zero least numbers = Tail f arcs numbers
 before_pairs f arcs (suc left) least numbers = NextPair f arcs (suc left) least numbers
 
--- so many rows of a pair are to come
+-- this number of rows of a pair is to come
 abbrev pub before_rows : Frame → List Arc → ℕ → ℕ → ℕ → ℕ → List ℕ → Expected
 before_rows f arcs pairs number zero least numbers = before_pairs f arcs pairs (number + 1) (numbers ++ number ∷ [])
 before_rows f arcs pairs number (suc left) least numbers = NextRow f arcs pairs number (suc left) least numbers
@@ -101,7 +101,7 @@ admit Values line = and_then (values_in line) (λ v. Ok Last)
 admit Last line = and_then (last_in line) (λ f. Ok End)
 admit End line = flawed 1 BadLine
 
--- the text may end behind its tail alone
+-- the text may end after its tail alone
 abbrev pub finish : Expected → Result (Unit {0}) Flaw
 finish End = Ok tt
 finish other = flawed 1 BadLine

@@ -42,7 +42,7 @@ pub(crate) struct PlacedPairs {
     pub(crate) points: Items<[i64; 3]>,
 }
 
-// The lines before the rows of the next pair, whose number is at least `least`, where so many pairs are to come with it.
+// The lines before the rows of the next pair, whose number is at least `least`, where `left` pairs are to come with it.
 fn next_placed_head(lines: &mut TextLines<'_>, least: u32, left: u32) -> Result<PlacedHead, At>
     requires { 1 ≤ left }
     ensures reads { (budget : ℕ) (ss : List ℕ) (arcs : List Arc) (numbers : List ℕ) → ReadsFree track_rules lines.old lines.new (before_pairs (frame budget ss) arcs left least numbers) (λ p. before_rows (frame budget ss) arcs (left - 1) p.head.number p.head.count 0 numbers) result }
@@ -59,7 +59,7 @@ fn next_placed_head(lines: &mut TextLines<'_>, least: u32, left: u32) -> Result<
     Ok(PlacedHead { head, point })
 }
 
-// The next pair, whose number is at least `least`, where so many pairs are to come with it.
+// The next pair, whose number is at least `least`, where `left` pairs are to come with it.
 fn next_pair(
     alloc: Global,
     lines: &mut TextLines<'_>,

@@ -18,7 +18,7 @@ use rinex_head::{At, TextFault};
 use std::alloc::Global;
 use track_data::{Track, TrackCert};
 
-// Nothing stands behind a tail.
+// Nothing stands after a tail.
 fn read_end(lines: &mut TextLines<'_>) -> Result<(), At>
     ensures { MatchResult result
         (λ u. (rest_gives track_rules lines.old End ≡ Ok tt) × (lines.old.left ≡ []))

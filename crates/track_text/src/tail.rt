@@ -23,7 +23,7 @@ use rinex_head::TextFault;
 use std::alloc::Global;
 use track_data::TrackTail;
 
-// A tail with vectors, behind its first line.
+// A tail with vectors, after its first line.
 fn read_vectors(
     alloc: Global,
     lines: &mut TextLines<'_>,
@@ -53,7 +53,7 @@ fn read_vectors(
     Ok(TrackTail::of_vectors(fixed, values.h, moves, best, values.top))
 }
 
-/// Reads the tail of the certificate of a track of so many integers and these pairs.
+/// Reads the tail of the certificate of a track of these pairs, whose number of integers is `count`.
 pub(crate) fn read_tail(
     alloc: Global,
     lines: &mut TextLines<'_>,

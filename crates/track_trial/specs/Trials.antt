@@ -134,7 +134,7 @@ IsTrialOf t arcs begun pair (Lost cause) = IsLost t arcs begun pair cause
 IsTrialOf t arcs begun pair (Tracked point rows tried) = IsTrackedBy t arcs begun pair point rows tried.items × KeepsOthers arcs pair tried.items
 
 -- ---- ranges
--- what the type of a track asks of a tracked pair and of the arcs behind it
+-- what the type of a track asks of a tracked pair and of the arcs after it
 pub record FitsTrack (signals : Signals) (point : List ℤ) (rows : PairRows) (tried : List Arc) : Type 0 where
   pub point_in : IsPoint point
   pub arcs_in : AreArcs tried
