@@ -1,4 +1,4 @@
--- How a certificate of version 1 is spelled, line by line: a word, and numbers as `itoa` writes them, each behind one blank.
+-- How a certificate of version 1 is spelled, line by line: a word, and numbers as `itoa` writes them, each after one blank.
 use Rattle.std.specs.Prelude.{◌≡◌, ℕ, ℤ, pos, Bool, if◌then◌else◌, List, [], ◌∷◌, ◌++◌, length, take, map, All, codes}
 use Rattle.std.specs.List.{flat_map}
 use Rattle.cert_words.specs.Spelling.{behind_blanks, text_of_lines}

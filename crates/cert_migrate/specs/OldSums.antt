@@ -53,7 +53,7 @@ abbrev pub is_some_old_free : Option OldArc → Bool
 is_some_old_free (Some a) = is_old_free a
 is_some_old_free None = false
 
--- N: the integer of arc k and signal s in the vector z: behind those of the free arcs before it, that of L1 before that of
+-- N: the integer of arc k and signal s in the vector z: after those of the free arcs before it, that of L1 before that of
 -- L2. That of a datum is 0, and so is that of a code
 abbrev pub old_integer : List OldArc → List ℤ → ℕ → ℕ → ℤ
 old_integer arcs z k s =

@@ -7,9 +7,9 @@ use cert_data::Place;
 /// The two integer vectors at which the form of the old rows was least, with its values there.
 #[derive(Clone, Copy, Debug, PartialEq, Eq)]
 pub struct OldBest {
-    /// The entries of the least vector, and 0 behind them.
+    /// The entries of the least vector, and 0 after them.
     pub first: [i64; 40],
-    /// The entries of the least of all others, and 0 behind them.
+    /// The entries of the least of all others, and 0 after them.
     pub second: [i64; 40],
     pub p1: i128,
     pub p2: i128,
