@@ -6,7 +6,8 @@
 //! out first: each whole, where its sink's count of faults stays, or a first part of it and then one fault, after which
 //! nothing is tried on that sink. A fault of out is reported on err, once.
 //!
-//! That a call runs out of memory is said by no clause: `Stop::NoMemory` and `AllocError` are free answers.
+//! `load_file` doesn't run out of memory at an empty file that is read without a fault (`memory`). Elsewhere no clause says
+//! when a call does: `Stop::NoMemory` and `AllocError` are free answers.
 #![tactic(auto)]
 
 mod answer;

@@ -1,5 +1,5 @@
 //! How a job stops, and the ends of all jobs whose file isn't read.
-ghost use Rattle.std.specs.Prelude.{◌≡◌, ◌≢◌, ◌≤◌, [], ◌∷◌, IfOk, OnOk, string_bytes};
+ghost use Rattle.std.specs.Prelude.{◌≡◌, ◌≢◌, ◌⊎◌, ◌<◌, ◌≤◌, [], ◌∷◌, length, IfOk, IfSome, OnOk, IsErrOf, string_bytes};
 ghost use Rattle.line_source.specs.Causes.{Rose};
 ghost use Rattle.line_source.specs.Openings.{OpensIt, OpensFirst, IsReadToEnd, unread};
 ghost use Rattle.line_source.specs.Told.{Same, Stays};
@@ -92,7 +92,8 @@ pub fn read_fault(alloc: Global, name: &str) -> Result<Answer, AllocError>
     Ok(Answer::on_err(alloc, Status::ReadFault, err))
 }
 
-/// The whole file of a job, which is opened once, or the job's end where it can't be had.
+/// The whole file of a job, which is opened once, or the job's end where it can't be had. It runs out of memory only at a
+/// file with some bytes, or at the line about a fault.
 pub fn load_file<F: Files>(alloc: Global, files: &mut F, name: &str) -> Result<Vec<u8>, Stop>
     ensures text { IfOk result (λ v. IsTextOf (F.text_of files.old) name.now v.items) }
     ensures stopped { IfStopped result (λ end. EndsUnloaded (F.text_of files.old) name.now end) }
@@ -101,6 +102,7 @@ pub fn load_file<F: Files>(alloc: Global, files: &mut F, name: &str) -> Result<V
     ensures opened { OpensFirst (name.now ∷ []) (F.openings files.old) (F.openings files.new) }
     ensures opens { OnOk result (OpensIt name.now (F.openings files.old) (F.openings files.new)) }
     ensures cause { F.faults files.old ≤ F.faults files.new }
+    ensures memory { IfSome (F.text_of files.old name.now) (λ text. IsErrOf result Stop.NoMemory → (0 < length text) ⊎ Rose (F.faults files.old) (F.faults files.new)) }
     ensures fault { IfStopped result (λ end. end.status ≡ Status.ReadFault → Rose (F.faults files.old) (F.faults files.new)) }
     ensures sure { F.is_sure_name files.old name.now → IfStopped result (λ end. end.status ≢ Status.ReadFault) }
     ensures texts { Same (F.text_of files.old) (F.text_of files.new) }
