@@ -29,8 +29,8 @@ fn text_of(file: File, made: Made) -> Vec<u8>
     }
 }
 
-/// The file of the session that the seed makes: of so many epochs, 1 to 3600, and satellites, 4 to 15, for a run with these bands
-/// and of the system with that letter.
+/// The file of the session that the seed makes, of 1 to 3600 epochs and 4 to 15 satellites, for a run with these bands and
+/// of the system with that letter.
 #[inline(never)]
 pub fn sim(
     alloc: Global,

@@ -124,8 +124,8 @@ fn answer_files(
     }
 }
 
-/// What the session of this seed is found to say, of so many epochs, 1 to 3600, and satellites, 4 to 15, with these bands of the
-/// system with that letter: of Galileo with the bands L1 and L5 alone.
+/// What the session of this seed is found to say, of 1 to 3600 epochs and 4 to 15 satellites, with these bands of the system
+/// with that letter: of Galileo with the bands L1 and L5 alone.
 #[inline(never)]
 pub fn sim_run(
     alloc: Global,
