@@ -6,7 +6,7 @@ use crate::Status;
 
 /// What is to be written to out and to err, and how the program ends then. Only a verdict has a text for out.
 #[derive(Drop)]
-pub struct Answer {
+pub struct JobOutput {
     pub status: Status,
     pub out: Vec<u8>,
     pub err: Vec<u8>,
