@@ -14,7 +14,7 @@ ghost use Rattle.arcs_job.specs.ArcJobs.{AreArcsOf, AnswersArcs};
 mod report;
 
 use eph_store::NavFile;
-use job_answers::{Answer, Status};
+use job_answers::{JobOutput, Status};
 use obs_store::ObsFile;
 pub use report::write_arcs;
 use run_options::Options;
@@ -75,12 +75,12 @@ impl SessionCommand for KeptArcs {
         rover: &ObsFile,
         nav: &NavFile,
         options: &Options,
-    ) -> Result<Answer, SessionFault> {
+    ) -> Result<JobOutput, SessionFault> {
         let begun = begin(alloc, base, rover, options)?;
         let arcs = arcs_of(alloc, &begun, base, rover, nav, options)?;
         let mut out = Vec::new(alloc);
         write_arcs(alloc, &mut out, &arcs, options.system)?;
-        Ok(Answer {
+        Ok(JobOutput {
             status: Status::Done,
             out,
             err: Vec::new(alloc),

@@ -55,7 +55,7 @@ fn write_short(alloc: Global, out: &mut Vec<u8>, short: u32) -> Result<(), Alloc
 }
 
 /// Appends a line for each kept arc of satellites of a system, `G` or `E`, and how many arcs are too short. After an `Err`
-/// a part of the text may have been appended. Outside this crate the call serves tests alone.
+/// a part of the text may have been appended. Outside this crate the call is reached from report_text.
 pub fn write_arcs(
     alloc: Global,
     out: &mut Vec<u8>,

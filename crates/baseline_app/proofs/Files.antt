@@ -3,10 +3,10 @@ use Rattle.std.proofs.Common.{◌≡◌, ◌≢◌, ◌⊎◌, inl, inr, ℕ, Li
 use Rattle.line_source.specs.Causes.{Rose}
 use Rattle.line_source.specs.Openings.{OpensFirst}
 use Rattle.line_source.proofs.OpeningLaws.{none_first}
-use Rattle.job_answers.specs.declared.answer.Answer.{Answer}
-use Rattle.job_answers.specs.declared.stop.Stop.{Stop}
+use Rattle.job_answers.specs.declared.output.JobOutput.{JobOutput}
+use Rattle.job_answers.specs.declared.stop.JobStop.{JobStop}
 use Rattle.job_answers.specs.declared.status.Status.{Status}
-use Rattle.job_answers.specs.declared.stop.Stop.TheVariants as stop
+use Rattle.job_answers.specs.declared.stop.JobStop.TheVariants as stop
 use Rattle.job_answers.specs.declared.status.Status.TheVariants.{Refused, ReadFault, WriteFault, NoMemory}
 use Rattle.job_answers.specs.Texts.{no_memory_line}
 use Rattle.job_answers.specs.Answers.{ending_of, IfEnded}
@@ -35,7 +35,7 @@ one_over work names ends more end weaker over = record {
   named = over.named;
 }
 
-pub text_asked : (work : FileWork) (r : Result Answer Stop) (text : TextJob) (name word : List ℕ) (job asked : Job) → job ≡ asked → name ≡ word → file_words asked ≡ word ∷ []
+pub text_asked : (work : FileWork) (r : Result JobOutput JobStop) (text : TextJob) (name word : List ℕ) (job asked : Job) → job ≡ asked → name ≡ word → file_words asked ≡ word ∷ []
     → ((end : Ending) → TextEnds text work.told word end → JobEnds asked work.told end) → IsDoneOver work (name ∷ []) NoLine (TextEnds text work.told name) r
     → IsDoneOver work (file_words job) IsPairLine (JobEnds job work.told) r
 text_asked work r text name word job asked is same words weaker done =
@@ -48,12 +48,12 @@ text_asked work r text name word job asked is same words weaker done =
     (subst (λ (ns : List (List ℕ)). IsDoneOver work ns IsPairLine (JobEnds asked work.told) r) (sym words) so)
 
 -- any job, which the words give
-pub job_asked : (work : FileWork) (r : Result Answer Stop) (job asked : Job) → job ≡ asked → IsDoneOver work (file_words asked) IsPairLine (JobEnds asked work.told) r
+pub job_asked : (work : FileWork) (r : Result JobOutput JobStop) (job asked : Job) → job ≡ asked → IsDoneOver work (file_words asked) IsPairLine (JobEnds asked work.told) r
     → IsDoneOver work (file_words job) IsPairLine (JobEnds job work.told) r
 job_asked work r job asked is done = subst (λ (j : Job). IsDoneOver work (file_words j) IsPairLine (JobEnds j work.told) r) (sym is) done
 
 -- a part of a simulated session opens none
-pub part_done : (work : FileWork) (r : Result Answer Stop) (part : Part) (seed epochs sats bands system : ℕ) → work.left.openings ≡ work.openings
+pub part_done : (work : FileWork) (r : Result JobOutput JobStop) (part : Part) (seed epochs sats bands system : ℕ) → work.left.openings ≡ work.openings
     → IfEnded r (PartEnds part seed epochs sats bands system) → IsDoneOver work [] IsPairLine (PartEnds part seed epochs sats bands system) r
 part_done work r part seed epochs sats bands system same ends = record {
   opened = none_first [] work.openings work.left.openings same;
@@ -92,7 +92,7 @@ files_over work job end result out err opens over written =
 no_memory_status : (result status : Status) (out err : SinkChange) → IsDelivered (ending NoMemory [] no_memory_line) result out err → result ≡ status → status ≢ WriteFault → NoMemory ≡ status
 no_memory_status result status out err = delivered_status (ending NoMemory [] no_memory_line) result status out err
 
-pub files_used : (work : FileWork) (job : Job) (r : Result Answer Stop) (result : Status) (out err : SinkChange) → IsDoneOver work (file_words job) IsPairLine (JobEnds job work.told) r
+pub files_used : (work : FileWork) (job : Job) (r : Result JobOutput JobStop) (result : Status) (out err : SinkChange) → IsDoneOver work (file_words job) IsPairLine (JobEnds job work.told) r
     → IsDelivered (end_of r) result out err → UsesFiles work (file_words job) result err
 files_used work job (Ok a) result out err done written = files_over work job (ending_of a) result out err done.opened done.ended written
 files_used work job (Err (stop.Ended a)) result out err done written = files_over work job (ending_of a) result out err done.opened done.ended written
@@ -108,12 +108,12 @@ answered : (words : List (List ℕ)) (told : List ℕ → Option (List ℕ)) (en
 answered words told end (inl job) = inl job
 answered words told end (inr usage) = inr (inl usage)
 
-is_answer : (words : List (List ℕ)) (told : List ℕ → Option (List ℕ)) (r : Result Answer Stop) → IfEnded r (λ end. AnswersJob words told end ⊎ AnswersUsage words end) → IsAnswer words told (end_of r)
+is_answer : (words : List (List ℕ)) (told : List ℕ → Option (List ℕ)) (r : Result JobOutput JobStop) → IfEnded r (λ end. AnswersJob words told end ⊎ AnswersUsage words end) → IsAnswer words told (end_of r)
 is_answer words told (Ok a) ends = answered words told (ending_of a) ends
 is_answer words told (Err (stop.Ended a)) ends = answered words told (ending_of a) ends
 is_answer words told (Err stop.NoMemory) ends = inr (inr refl)
 
-pub run_ends : (words : List (List ℕ)) (told : List ℕ → Option (List ℕ)) (r : Result Answer Stop) (result : Status) (out err : SinkChange)
+pub run_ends : (words : List (List ℕ)) (told : List ℕ → Option (List ℕ)) (r : Result JobOutput JobStop) (result : Status) (out err : SinkChange)
     → IfEnded r (λ end. AnswersJob words told end ⊎ AnswersUsage words end) → IsDelivered (end_of r) result out err → IsRun words told result out err
 run_ends words told r result out err ends written = record { end = end_of r; answer = is_answer words told r ends; written = written }
 
@@ -128,7 +128,7 @@ fault_rose words work end result out err (inr usage) over written is =
     let t = ap (λ (e : Ending). e.status) usage.end_is in
     absurd (cc (s, t))
 
-pub run_read : (words : List (List ℕ)) (work : FileWork) (r : Result Answer Stop) (result : Status) (out err : SinkChange)
+pub run_read : (words : List (List ℕ)) (work : FileWork) (r : Result JobOutput JobStop) (result : Status) (out err : SinkChange)
     → IfEnded r (λ end. AnswersJob words work.told end ⊎ AnswersUsage words end)
     → ((job : Job) → IsJob words job → IsDoneOver work (file_words job) IsPairLine (JobEnds job work.told) r) → IsDelivered (end_of r) result out err → result ≡ ReadFault
     → Rose work.faults work.faults_now

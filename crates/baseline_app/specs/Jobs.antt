@@ -3,9 +3,9 @@ use Rattle.std.specs.Prelude.{◌≡◌, ◌⊎◌, ℕ, List, [], Result, Ok, E
 use Rattle.std.specs.declared.option.Option.{Option}
 use Rattle.job_answers.specs.declared.status.Status.{Status}
 use Rattle.job_answers.specs.declared.status.Status.TheVariants.{Usage, NoMemory}
-use Rattle.job_answers.specs.declared.answer.Answer.{Answer}
-use Rattle.job_answers.specs.declared.stop.Stop.{Stop}
-use Rattle.job_answers.specs.declared.stop.Stop.TheVariants as stop
+use Rattle.job_answers.specs.declared.output.JobOutput.{JobOutput}
+use Rattle.job_answers.specs.declared.stop.JobStop.{JobStop}
+use Rattle.job_answers.specs.declared.stop.JobStop.TheVariants as stop
 use Rattle.job_answers.specs.Answers.{ending_of}
 use Rattle.job_answers.specs.Texts.{usage_line, no_memory_line}
 use Rattle.job_answers.specs.Endings.{Ending, ending}
@@ -92,11 +92,11 @@ pub record AnswersUsage (words : List (List ℕ)) (end : Ending) : Type 0 where
   pub end_is : end ≡ ending Usage [] usage_line
 
 -- the end of a job, also where memory ran out
-abbrev pub stop_end : Stop → Ending
+abbrev pub stop_end : JobStop → Ending
 stop_end (stop.Ended a) = ending_of a
 stop_end stop.NoMemory = ending NoMemory [] no_memory_line
 
-abbrev pub end_of : Result Answer Stop → Ending
+abbrev pub end_of : Result JobOutput JobStop → Ending
 end_of (Ok a) = ending_of a
 end_of (Err s) = stop_end s
 

@@ -8,7 +8,7 @@ use std::alloc::{AllocError, Global};
 use std::process::Abort;
 use std::test::Fail;
 
-// A run on these files, with room for so many bytes of out.
+// A run on these files, with room for this number of bytes of out.
 fn run_on_files(
     alloc: Global,
     words: &[&str],

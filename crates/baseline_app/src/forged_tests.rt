@@ -188,7 +188,7 @@ fn widest_radii(rt: HostRuntime) -> Result<(), Fail> {
     Ok(())
 }
 
-// A certificate of 15 arcs with a row of zeros in each of 3,600 pairs. It has so many columns that the first pivot is -32.
+// A certificate of 15 arcs with a row of zeros in each of 3,600 pairs. It has enough columns for a first pivot of -32.
 fn most_rows(alloc: Global) -> Result<String, AllocError> {
     let mut text = String::from_str(
         alloc,

@@ -1,8 +1,16 @@
-//! What `run` said before its clauses were fewer, as the contract of a function that does nothing.
-ghost use Rattle.std.specs.Prelude.{List, ℕ};
+//! What `run` said before its clauses were fewer, and what the commands of `sim` have in common, as the contracts of functions
+//! that do nothing.
+ghost use Rattle.std.specs.Prelude.{◌≡◌, List, ℕ, Bool, Some, codes};
+ghost use Rattle.std.specs.declared.option.Option.{Option};
+ghost use Rattle.command_words.specs.declared.sims.File.TheVariants.{Base, Rover, Nav};
 ghost use Rattle.job_answers.specs.declared.status.Status.{Status};
 ghost use Rattle.job_answers.specs.Delivered.{SinkChange};
 ghost use Rattle.job_answers.specs.Works.{file_work};
+ghost use Rattle.sim_job.specs.SimRuns.{SaysMade};
+ghost use Rattle.sim_session.specs.Texts.{tracking_of};
+ghost use Rattle.sim_text_laws.specs.SameWords.{DifferInSignals};
+ghost use Rattle.sim_run_job.specs.SimRunJobs.{AreMadeFiles};
+ghost use Rattle.sim_run_job.specs.SimRunSays.{SaysMatch};
 ghost use Rattle.baseline_app.specs.Former.{SaysNow, SaidBefore};
 
 use line_source::Files;
@@ -11,4 +19,21 @@ use line_source::Files;
 /// files before and after, the status and the sinks.
 pub fn former_law<F: Files>(before: &F, after: &F)
     ensures { (words : List (List ℕ)) (result : Status) (out err : SinkChange) → SaysNow words (file_work F.Files before.now after.now) result out err → SaidBefore words (file_work F.Files before.now after.now) result out err }
+{}
+
+/// The texts that `sim base`, `sim rover` and `sim nav` have written of the same words are a session of which `sim run` speaks.
+/// `sim run` of these words has processed this navigation file, byte for byte, and observation files that differ from these in
+/// codes and phases alone.
+pub fn one_session_law()
+    ensures session { (seed epochs sats bands system : ℕ) (one other third : SinkChange) (told : List ℕ → Option (List ℕ))
+        → (base : SaysMade Base seed epochs sats bands system one) → (rover : SaysMade Rover seed epochs sats bands system other) → (nav : SaysMade Nav seed epochs sats bands system third)
+        → told (codes "base") ≡ Some base.text → told (codes "rover") ≡ Some rover.text → told (codes "nav") ≡ Some nav.text → AreMadeFiles seed epochs sats bands system told }
+    ensures nav { (seed epochs sats bands system : ℕ) (fixed : Bool) (one other : SinkChange)
+        → (nav : SaysMade Nav seed epochs sats bands system one) → (run : SaysMatch seed epochs sats bands system fixed other) → run.told (codes "nav") ≡ Some nav.text }
+    ensures base { (seed epochs sats bands system : ℕ) (fixed : Bool) (one other : SinkChange)
+        → (base : SaysMade Base seed epochs sats bands system one) → (run : SaysMatch seed epochs sats bands system fixed other)
+        → DifferInSignals epochs sats (tracking_of bands system) base.text run.made.session.base.items }
+    ensures rover { (seed epochs sats bands system : ℕ) (fixed : Bool) (one other : SinkChange)
+        → (rover : SaysMade Rover seed epochs sats bands system one) → (run : SaysMatch seed epochs sats bands system fixed other)
+        → DifferInSignals epochs sats (tracking_of bands system) rover.text run.made.session.rover.items }
 {}

@@ -35,7 +35,8 @@
 //! - `sim run`: the four lines about a session whose outcome is a fix; whose outcome is none. `match yes` stands exactly
 //!   where it is a fix with the integers of the truth.
 //!
-//! What `run` said in clauses of earlier forms follows from these (`former_law` of `laws`).
+//! What `run` said in clauses of earlier forms follows from these (`former_law` of `laws`), and what the commands of `sim`
+//! have in common (`one_session_law`).
 //!
 //! # How a command is added
 //!

@@ -72,7 +72,7 @@ fn refuses_observations(rt: HostRuntime) -> Result<(), Fail> {
     Ok(())
 }
 
-// The header and so many epochs without satellites, one a second.
+// The header and this number of epochs without satellites, one a second.
 fn empty_epochs(alloc: Global, count: u32) -> Result<String, AllocError> {
     let mut text = String::from_str(alloc, HEADER)?;
     for second in 0..count {
@@ -96,7 +96,7 @@ fn refuses_too_many_epochs(rt: HostRuntime) -> Result<(), Fail> {
     Ok(())
 }
 
-// Behind 26 epochs without satellites the antenna moved at line 31, and behind 33 the last of 40 lines leaves out a satellite.
+// After 26 epochs without satellites the antenna moved at line 31, and after 33 the last of 40 lines leaves out a satellite.
 #[test]
 fn refuses_in_the_midst_and_at_the_end(rt: HostRuntime) -> Result<(), Fail> {
     let alloc = rt.alloc();
@@ -137,7 +137,7 @@ fn refuses_dense_epochs(rt: HostRuntime) -> Result<(), Fail> {
     Ok(())
 }
 
-// One file of so many bytes, which takes no memory.
+// One file of this length in bytes, which takes no memory.
 #[derive(Drop)]
 struct LongFile {
     left: usize,

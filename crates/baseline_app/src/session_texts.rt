@@ -29,7 +29,7 @@ fn is_of(line: &str, first: u8, last: u8) -> bool {
     }
 }
 
-// The line with a 1 in column 34, behind its phase on L1.
+// The line with a 1 in column 34, after its phase on L1.
 fn push_lost(out: &mut String, line: &str) -> Result<(), AllocError> {
     out.push_str(line.get(..33).unwrap_or(""))?;
     out.push('1')?;

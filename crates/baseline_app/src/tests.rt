@@ -65,7 +65,7 @@ fn files_of(
     Ok(MemFiles::new(list, fails))
 }
 
-// The run of each test, with room for so many bytes of out, by sinks that take so many bytes a call.
+// The run of each test, with `room` bytes for out, by sinks that take at most `most` bytes a call.
 pub(crate) fn run_over<F: Files>(
     alloc: Global,
     words: &[&str],

@@ -16,7 +16,7 @@ use cert_jobs::{CertCheck, Migration, Residuals};
 use command_words::{Job, Part, Word, WordFault, read_words};
 use file_jobs::{Claim, Orbit, list};
 use fix_job::Fix;
-use job_answers::{Answer, Status, Stop, answer_file, deliver, usage};
+use job_answers::{JobOutput, JobStop, Status, answer_file, deliver, usage};
 use line_source::{Files, Sink};
 use run_options::Options;
 use session_files::{SessionCommand, answer_session};
@@ -34,7 +34,7 @@ fn session_by_words<C: SessionCommand, F: Files>(
     rover: &Word,
     nav: &Word,
     options: &Options,
-) -> Result<Answer, Stop>
+) -> Result<JobOutput, JobStop>
     ensures { IsDoneOver (file_work F.Files files.old files.new) (base.now ∷ rover.now ∷ nav.now ∷ []) IsPairLine (SessionEnds C.answers (F.text_of files.old) base.now rover.now nav.now options.now) result }
 {
     answer_session(
@@ -57,7 +57,7 @@ fn sim_part(
     sats: u32,
     bands: u16,
     system: u8,
-) -> Result<Answer, Stop>
+) -> Result<JobOutput, JobStop>
     requires { IsSimInRange epochs sats bands system }
     ensures { IfEnded result (λ end. PartEnds part seed epochs sats bands system end) }
 {
@@ -68,7 +68,7 @@ fn sim_part(
 }
 
 // What the job ends with.
-fn do_job<F: Files>(alloc: Global, job: &Job, files: &mut F) -> Result<Answer, Stop>
+fn do_job<F: Files>(alloc: Global, job: &Job, files: &mut F) -> Result<JobOutput, JobStop>
     requires { IsInRange job.now }
     ensures done { IsDoneOver (file_work F.Files files.old files.new) (file_words job.now) IsPairLine (JobEnds job.now (F.text_of files.old)) result }
     ensures untouched { file_words job.now ≡ [] → files.new ≡ files.old }
@@ -123,7 +123,7 @@ fn do_job<F: Files>(alloc: Global, job: &Job, files: &mut F) -> Result<Answer, S
 }
 
 // What the words ask for, as far as memory goes.
-fn answer_of<F: Files>(alloc: Global, words: &[String], files: &mut F) -> Result<Answer, Stop>
+fn answer_of<F: Files>(alloc: Global, words: &[String], files: &mut F) -> Result<JobOutput, JobStop>
     ensures answer { IfEnded result (λ end. AnswersJob (texts_of words.now) (F.text_of files.old) end ⊎ AnswersUsage (texts_of words.now) end) }
     ensures done { (job : Job) → IsJob (texts_of words.now) job → IsDoneOver (file_work F.Files files.old files.new) (file_words job) IsPairLine (JobEnds job (F.text_of files.old)) result }
     ensures untouched { ((job : Job) → IsJob (texts_of words.now) job → file_words job ≡ []) → files.new ≡ files.old }
@@ -131,7 +131,7 @@ fn answer_of<F: Files>(alloc: Global, words: &[String], files: &mut F) -> Result
     match read_words(alloc, words) {
         Ok(job) => do_job(alloc, &job, files),
         Err(WordFault::Usage) => Ok(usage(alloc)?),
-        Err(WordFault::NoMemory) => Err(Stop::NoMemory),
+        Err(WordFault::NoMemory) => Err(JobStop::NoMemory),
     }
 }
 
@@ -197,17 +197,17 @@ fn write_answer<F: Files, O: Sink, E: Sink>(
 }
 
 // Writes why there is no answer, as the words end then.
-fn write_stop<O: Sink, E: Sink>(stop: &Stop, out: &mut O, err: &mut E) -> Status
+fn write_stop<O: Sink, E: Sink>(stop: &JobStop, out: &mut O, err: &mut E) -> Status
     ensures { IsDelivered (stop_end stop.now) result (sink_change O.Sink out.old out.new) (sink_change E.Sink err.old err.new) }
 {
     match stop {
-        Stop::Ended(answer) => deliver(answer.status, &answer.out, &answer.err, out, err),
-        Stop::NoMemory => deliver(Status::NoMemory, b"", b"no memory\n", out, err),
+        JobStop::Ended(answer) => deliver(answer.status, &answer.out, &answer.err, out, err),
+        JobStop::NoMemory => deliver(Status::NoMemory, b"", b"no memory\n", out, err),
     }
 }
 
 // Writes what the words end with.
-fn write_end<O: Sink, E: Sink>(end: &Result<Answer, Stop>, out: &mut O, err: &mut E) -> Status
+fn write_end<O: Sink, E: Sink>(end: &Result<JobOutput, JobStop>, out: &mut O, err: &mut E) -> Status
     ensures { IsDelivered (end_of end.now) result (sink_change O.Sink out.old out.new) (sink_change E.Sink err.old err.new) }
 {
     match end {

@@ -14,7 +14,7 @@ const OFFSET: [i64; 3] = [-1_656_800, 9_436_070, -6_595_000];
 
 const NEAR: u64 = 100;
 
-// Whether the three numbers behind the line's first two words are near the offset.
+// Whether the three numbers after the line's first two words are near the offset.
 fn is_near(line: &str) -> bool {
     let mut words = line.split(' ').skip(2);
     for want in OFFSET.iter() {
@@ -31,7 +31,7 @@ fn is_near(line: &str) -> bool {
     true
 }
 
-// What is wrong of a track of so many pairs, whose text on err begins so.
+// What is wrong of a track of this number of pairs, whose text on err begins so.
 fn wrong_track(ran: &Ran, pairs: usize, told: &str) -> Option<&'static str> {
     let Ok(err) = str::from_utf8(ran.err.bytes()) else {
         return Some("err");

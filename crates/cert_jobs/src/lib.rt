@@ -18,7 +18,7 @@ use cert_check::check;
 use cert_data::Verdict;
 use cert_report::{write_residuals, write_verdict};
 use cert_text::read_cert;
-use job_answers::{Answer, Status, TextCommand};
+use job_answers::{JobOutput, Status, TextCommand};
 pub use migrations::Migration;
 use rinex_head::TextFault;
 use std::alloc::Global;
@@ -52,12 +52,12 @@ pub struct CertCheck;
 impl TextCommand for CertCheck {
     ghost job = { λ _. check_job };
 
-    fn answer(&self, alloc: Global, text: &[u8]) -> Result<Answer, TextFault> {
+    fn answer(&self, alloc: Global, text: &[u8]) -> Result<JobOutput, TextFault> {
         let cert = read_cert(alloc, text)?;
         let verdict = check(&cert);
         let mut out = Vec::new(alloc);
         write_verdict(alloc, &mut out, &verdict)?;
-        Ok(Answer {
+        Ok(JobOutput {
             status: status_of(&verdict),
             out,
             err: Vec::new(alloc),
@@ -72,11 +72,11 @@ pub struct Residuals;
 impl TextCommand for Residuals {
     ghost job = { λ _. residuals_job };
 
-    fn answer(&self, alloc: Global, text: &[u8]) -> Result<Answer, TextFault> {
+    fn answer(&self, alloc: Global, text: &[u8]) -> Result<JobOutput, TextFault> {
         let cert = read_cert(alloc, text)?;
         let mut out = Vec::new(alloc);
         let shown = write_residuals(alloc, &mut out, &cert)?;
-        Ok(Answer {
+        Ok(JobOutput {
             status: shown_status(shown),
             out,
             err: Vec::new(alloc),

@@ -13,7 +13,7 @@ ghost use Rattle.cert_jobs.specs.Migrations.{status_of, MigrateEnd, migrate_job}
 use cert_data::Tail;
 use cert_migrate::{OldCert, lift, read_old};
 use cert_spelling::write_cert;
-use job_answers::{Answer, Status, TextCommand};
+use job_answers::{JobOutput, Status, TextCommand};
 use rinex_head::TextFault;
 use std::alloc::{AllocError, Global};
 
@@ -28,14 +28,14 @@ fn status_of(tail: &Tail) -> Status
 }
 
 // What an old certificate is answered.
-fn answer_migrate(alloc: Global, old: &OldCert) -> Result<Answer, AllocError>
+fn answer_migrate(alloc: Global, old: &OldCert) -> Result<JobOutput, AllocError>
     ensures answer { IfOk result (λ a. MigrateEnd old.now (ending_of a)) }
     ensures verdict { IfOk result (λ a. IsVerdictStatus a.status) }
 {
     let cert = lift(alloc, old)?;
     let mut out = Vec::new(alloc);
     write_cert(alloc, &mut out, &cert)?;
-    Ok(Answer {
+    Ok(JobOutput {
         status: status_of(&cert.tail),
         out,
         err: Vec::new(alloc),
@@ -49,7 +49,7 @@ pub struct Migration;
 impl TextCommand for Migration {
     ghost job = { λ _. migrate_job };
 
-    fn answer(&self, alloc: Global, text: &[u8]) -> Result<Answer, TextFault> {
+    fn answer(&self, alloc: Global, text: &[u8]) -> Result<JobOutput, TextFault> {
         let old = read_old(alloc, text)?;
         Ok(answer_migrate(alloc, &old)?)
     }

@@ -5,8 +5,8 @@ use Rattle.line_source.specs.Openings.{OpensFirst}
 use Rattle.obs_store.specs.declared.file.ObsFile.{ObsFile}
 use Rattle.rinex_head.specs.declared.system.System.TheVariants.{Gps}
 use Rattle.report_text.specs.List.{list_text}
-use Rattle.job_answers.specs.declared.stop.Stop.{Stop}
-use Rattle.job_answers.specs.declared.stop.Stop.TheVariants as stop
+use Rattle.job_answers.specs.declared.stop.JobStop.{JobStop}
+use Rattle.job_answers.specs.declared.stop.JobStop.TheVariants as stop
 use Rattle.job_answers.specs.declared.status.Status.TheVariants.{Done, ReadFault}
 use Rattle.job_answers.specs.Answers.{ending_of, IfEnds}
 use Rattle.job_answers.specs.Endings.{Ending, ending, IsRefusedWhole}
@@ -33,7 +33,7 @@ stops told name end (inl by_text) =
     })
 stops told name end (inr unloaded) = inr unloaded
 
-pub list_stop : (work : FileWork) (name : List ℕ) (why : Stop) → OpensFirst (name ∷ []) work.openings work.left.openings → IfEnds why (StopsAtObs Gps work.told name)
+pub list_stop : (work : FileWork) (name : List ℕ) (why : JobStop) → OpensFirst (name ∷ []) work.openings work.left.openings → IfEnds why (StopsAtObs Gps work.told name)
     → IfEnds why (IsRefusedWhole work.told work.left (name ∷ [])) → IfEnds why (λ end. end.status ≡ ReadFault → Rose work.faults work.faults_now)
     → (work.sure name → IfEnds why (λ end. end.status ≢ ReadFault)) → IsDoneOver work (name ∷ []) NoLine (TextEnds list_job work.told name) (Err why)
 list_stop work name (stop.Ended a) opens stopped refused rose never = record {

@@ -4,13 +4,13 @@ ghost use Rattle.job_answers.specs.Statuses.{IsVerdictStatus};
 ghost use Rattle.job_answers.specs.Answers.{ending_of};
 ghost use Rattle.file_jobs.specs.Zero.{IsVerdictOf, zero_job};
 
-use job_answers::{Answer, Status, TextCommand};
+use job_answers::{JobOutput, Status, TextCommand};
 use rinex_head::TextFault;
 use std::alloc::{AllocError, Global};
 use zero_rows::{Verdict, ZeroRows, decide, read_rows};
 
 // What the rows are answered.
-fn answer_rows(alloc: Global, rows: &ZeroRows) -> Result<Answer, AllocError>
+fn answer_rows(alloc: Global, rows: &ZeroRows) -> Result<JobOutput, AllocError>
     ensures answer { IfOk result (λ a. IsVerdictOf rows.now (ending_of a)) }
     ensures verdict { IfOk result (λ a. IsVerdictStatus a.status) }
 {
@@ -18,11 +18,11 @@ fn answer_rows(alloc: Global, rows: &ZeroRows) -> Result<Answer, AllocError>
     match decide(rows) {
         Verdict::Optimal { sum } => {
             let out = format!(in alloc; "optimal {claim} sum {sum}\n")?;
-            Ok(Answer::on_out(alloc, Status::Done, out))
+            Ok(JobOutput::on_out(alloc, Status::Done, out))
         }
         Verdict::Beaten { sum, by, least } => {
             let out = format!(in alloc; "beaten {claim} sum {sum} by {by} sum {least}\n")?;
-            Ok(Answer::on_out(alloc, Status::Declined, out))
+            Ok(JobOutput::on_out(alloc, Status::Declined, out))
         }
     }
 }
@@ -34,7 +34,7 @@ pub struct Claim;
 impl TextCommand for Claim {
     ghost job = { λ _. zero_job };
 
-    fn answer(&self, alloc: Global, text: &[u8]) -> Result<Answer, TextFault> {
+    fn answer(&self, alloc: Global, text: &[u8]) -> Result<JobOutput, TextFault> {
         let rows = read_rows(alloc, text)?;
         Ok(answer_rows(alloc, &rows)?)
     }

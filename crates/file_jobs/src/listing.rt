@@ -7,7 +7,7 @@ ghost use Rattle.job_answers.specs.Works.{file_work, NoLine, IsDoneOver};
 ghost use Rattle.job_answers.specs.TextJobs.{TextEnds};
 ghost use Rattle.file_jobs.specs.Listing.{list_job};
 
-use job_answers::{Answer, Status, Stop};
+use job_answers::{JobOutput, JobStop, Status};
 use line_source::Files;
 use obs_store::ObsFile;
 use report_text::write_list;
@@ -16,12 +16,12 @@ use session_files::obs_file;
 use std::alloc::{AllocError, Global};
 
 // What an observation file ends with.
-fn answer_file(alloc: Global, file: &ObsFile) -> Result<Answer, AllocError>
+fn answer_file(alloc: Global, file: &ObsFile) -> Result<JobOutput, AllocError>
     ensures { IfOk result (λ a. ending_of a ≡ ending Status.Done (list_text file.now) []) }
 {
     let mut out = Vec::new(alloc);
     write_list(alloc, &mut out, file)?;
-    Ok(Answer {
+    Ok(JobOutput {
         status: Status::Done,
         out,
         err: Vec::new(alloc),
@@ -30,7 +30,7 @@ fn answer_file(alloc: Global, file: &ObsFile) -> Result<Answer, AllocError>
 
 /// What an observation file holds of GPS: its version, its epochs and its satellites.
 #[inline(never)]
-pub fn list<F: Files>(alloc: Global, files: &mut F, name: &str) -> Result<Answer, Stop>
+pub fn list<F: Files>(alloc: Global, files: &mut F, name: &str) -> Result<JobOutput, JobStop>
     ensures { IsDoneOver (file_work F.Files files.old files.new) (name.now ∷ []) NoLine (TextEnds list_job (F.text_of files.old) name.now) result }
 {
     let file = obs_file(alloc, files, System::Gps, name)?;

@@ -9,7 +9,7 @@ ghost use Rattle.file_jobs.specs.Orbits.{IsPlacedBy, IsFound, orbit_job};
 
 use eph_store::{Eph, NavFile};
 use gps_time::Tick;
-use job_answers::{Answer, Status, TextCommand};
+use job_answers::{JobOutput, Status, TextCommand};
 use report_text::write_orbit;
 use rinex_head::{System, TextFault};
 use rinex_nav::read_records_of;
@@ -17,7 +17,7 @@ use std::alloc::{AllocError, Global};
 use sv_orbit::{sv_with, world_of};
 
 // What the record's satellite ends with.
-fn answer_placed(alloc: Global, system: u8, eph: &Eph, tag: Tick) -> Result<Answer, AllocError>
+fn answer_placed(alloc: Global, system: u8, eph: &Eph, tag: Tick) -> Result<JobOutput, AllocError>
     requires { distance tag.0 eph.now ≤ 72_000_000_000 }
     ensures answer { IfOk result (λ a. IsPlacedBy system eph.now tag.0 (ending_of a)) }
     ensures verdict { IfOk result (λ a. IsVerdictStatus a.status) }
@@ -25,20 +25,20 @@ fn answer_placed(alloc: Global, system: u8, eph: &Eph, tag: Tick) -> Result<Answ
     let held = sv_with(eph, tag, 0, &world_of(system));
     let mut out = Vec::new(alloc);
     write_orbit(alloc, &mut out, Some(&held))?;
-    Ok(Answer {
+    Ok(JobOutput {
         status: Status::Done,
         out,
         err: Vec::new(alloc),
     })
 }
 
-fn answer_none(alloc: Global) -> Result<Answer, AllocError>
+fn answer_none(alloc: Global) -> Result<JobOutput, AllocError>
     ensures answer { IfOk result (λ a. ending_of a ≡ ending Status.Declined no_record_line []) }
     ensures verdict { IfOk result (λ a. IsVerdictStatus a.status) }
 {
     let mut out = Vec::new(alloc);
     write_orbit(alloc, &mut out, None)?;
-    Ok(Answer {
+    Ok(JobOutput {
         status: Status::Declined,
         out,
         err: Vec::new(alloc),
@@ -52,7 +52,7 @@ fn answer_records(
     system: u8,
     sat: u8,
     tag: Tick,
-) -> Result<Answer, AllocError>
+) -> Result<JobOutput, AllocError>
     ensures answer { IfOk result (λ a. IsFound file.now.fit system sat tag.0 (ending_of a)) }
     ensures verdict { IfOk result (λ a. IsVerdictStatus a.status) }
 {
@@ -74,7 +74,7 @@ pub struct Orbit {
 impl TextCommand for Orbit {
     ghost job = { λ o. orbit_job o.system o.sat o.tag.0 };
 
-    fn answer(&self, alloc: Global, text: &[u8]) -> Result<Answer, TextFault> {
+    fn answer(&self, alloc: Global, text: &[u8]) -> Result<JobOutput, TextFault> {
         let file = read_records_of(alloc, System::of_letter(self.system), text)?;
         Ok(answer_records(alloc, &file, self.system, self.sat, self.tag)?)
     }

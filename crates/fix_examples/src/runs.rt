@@ -3,7 +3,7 @@ use cert_jobs::CertCheck;
 use cert_text::{Cert, Tail, TwoBest, read_cert};
 use decimal_text::read_fixed;
 use fix_job::Fix;
-use job_answers::{Answer, Status, Stop, answer_file};
+use job_answers::{JobOutput, JobStop, Status, answer_file};
 use line_source::{MemFiles, Named};
 use run_options::Options;
 use session_files::answer_session;
@@ -19,11 +19,11 @@ fn named(alloc: Global, name: &str, text: &[u8]) -> Result<Named, AllocError> {
     })
 }
 
-fn answer_of(ended: Result<Answer, Stop>) -> Result<Answer, AllocError> {
+fn answer_of(ended: Result<JobOutput, JobStop>) -> Result<JobOutput, AllocError> {
     match ended {
         Ok(answer) => Ok(answer),
-        Err(Stop::Ended(answer)) => Ok(answer),
-        Err(Stop::NoMemory) => Err(AllocError),
+        Err(JobStop::Ended(answer)) => Ok(answer),
+        Err(JobStop::NoMemory) => Err(AllocError),
     }
 }
 
@@ -35,7 +35,7 @@ pub(crate) fn fix_failing(
     nav: &[u8],
     options: &Options,
     fails: Vec<u64>,
-) -> Result<Answer, AllocError> {
+) -> Result<JobOutput, AllocError> {
     let list = vec![in alloc;
         named(alloc, "B", base)?,
         named(alloc, "R", rover)?,
@@ -52,7 +52,7 @@ pub(crate) fn fix_texts(
     rover: &[u8],
     nav: &[u8],
     options: &Options,
-) -> Result<Answer, AllocError> {
+) -> Result<JobOutput, AllocError> {
     fix_failing(alloc, base, rover, nav, options, Vec::new(alloc))
 }
 

@@ -12,7 +12,7 @@ ghost use Rattle.job_answers.specs.Statuses.{IsVerdictStatus};
 ghost use Rattle.fix_job.specs.FixJobs.{status_of, AnswersFix};
 
 use eph_store::NavFile;
-use job_answers::{Answer, Status};
+use job_answers::{JobOutput, Status};
 use obs_store::ObsFile;
 use outcome_report::{is_fixed, write_outcome};
 use run_options::Options;
@@ -21,7 +21,7 @@ use session_files::SessionCommand;
 use std::alloc::Global;
 
 // Done for a fix, else declined.
-fn status_of(answer: &session::Answer) -> Status
+fn status_of(answer: &session::JobOutput) -> Status
     ensures value { result ≡ status_of answer.now }
     ensures verdict { IsVerdictStatus result }
 {
@@ -46,12 +46,12 @@ impl SessionCommand for Fix {
         rover: &ObsFile,
         nav: &NavFile,
         options: &Options,
-    ) -> Result<Answer, SessionFault> {
+    ) -> Result<JobOutput, SessionFault> {
         let outcome = process(alloc, base, rover, nav, options)?;
         let mut out = Vec::new(alloc);
         let mut err = Vec::new(alloc);
         write_outcome(alloc, &mut out, &mut err, &outcome)?;
-        Ok(Answer {
+        Ok(JobOutput {
             status: status_of(&outcome.answer),
             out,
             err,

@@ -1,9 +1,9 @@
 -- The statuses of endings, and what a file whose text is known and admitted ends with.
 use Rattle.std.proofs.Common.{◌≡◌, ◌≢◌, inl, inr, ◌<◌, ℕ, List, [], ◌∷◌, length, Some, Option, Result, Ok, Err, refl, sym, ap, ◌∙◌, subst, arith, IfSome}
 use Rattle.line_source.specs.Openings.{Unread, IsReadToEnd}
-use Rattle.job_answers.specs.declared.answer.Answer.{Answer}
-use Rattle.job_answers.specs.declared.stop.Stop.{Stop}
-use Rattle.job_answers.specs.declared.stop.Stop.TheVariants as stop
+use Rattle.job_answers.specs.declared.output.JobOutput.{JobOutput}
+use Rattle.job_answers.specs.declared.stop.JobStop.{JobStop}
+use Rattle.job_answers.specs.declared.stop.JobStop.TheVariants as stop
 use Rattle.job_answers.specs.declared.status.Status.{Status}
 use Rattle.rinex_head.specs.declared.place.At.{At}
 use Rattle.job_answers.specs.declared.status.Status.TheVariants.{Refused, ReadFault, WriteFault}
@@ -62,14 +62,14 @@ pub refusal_whole : {X : Type 0} {gives : List (List ℕ) → Result X At} {IsFi
 refusal_whole told left name text end read refusal = read_whole told left name refusal.at end read refusal.end_is
 
 -- ---- what is weaker holds too
-pub ends_weaker : (stop : Stop) (P Q : Ending → Type 0) → ((end : Ending) → P end → Q end) → IfEnds stop P → IfEnds stop Q
+pub ends_weaker : (stop : JobStop) (P Q : Ending → Type 0) → ((end : Ending) → P end → Q end) → IfEnds stop P → IfEnds stop Q
 ends_weaker (stop.Ended answer) P Q weaker holds = weaker (ending_of answer) holds
 ends_weaker stop.NoMemory P Q weaker holds = tt
 
-pub ended_weaker : (r : Result Answer Stop) (P Q : Ending → Type 0) → ((end : Ending) → P end → Q end) → IfEnded r P → IfEnded r Q
+pub ended_weaker : (r : Result JobOutput JobStop) (P Q : Ending → Type 0) → ((end : Ending) → P end → Q end) → IfEnded r P → IfEnded r Q
 ended_weaker (Ok a) P Q weaker holds = weaker (ending_of a) holds
 ended_weaker (Err why) P Q weaker holds = ends_weaker why P Q weaker holds
 
-pub stopped_weaker : {T : Type 0} (r : Result T Stop) (P Q : Ending → Type 0) → ((end : Ending) → P end → Q end) → IfStopped r P → IfStopped r Q
+pub stopped_weaker : {T : Type 0} (r : Result T JobStop) (P Q : Ending → Type 0) → ((end : Ending) → P end → Q end) → IfStopped r P → IfStopped r Q
 stopped_weaker (Ok x) P Q weaker holds = tt
 stopped_weaker (Err why) P Q weaker holds = ends_weaker why P Q weaker holds

@@ -2,9 +2,9 @@
 use Rattle.std.proofs.Common.{◌≡◌, ◌≢◌, inl, inr, ℕ, List, [], ◌∷◌, Result, Err, refl, ap, subst, arith}
 use Rattle.line_source.specs.Causes.{Rose}
 use Rattle.line_source.specs.Openings.{OpensFirst, IsReadToEnd}
-use Rattle.job_answers.specs.declared.answer.Answer.{Answer}
-use Rattle.job_answers.specs.declared.stop.Stop.{Stop}
-use Rattle.job_answers.specs.declared.stop.Stop.TheVariants as stop
+use Rattle.job_answers.specs.declared.output.JobOutput.{JobOutput}
+use Rattle.job_answers.specs.declared.stop.JobStop.{JobStop}
+use Rattle.job_answers.specs.declared.stop.JobStop.TheVariants as stop
 use Rattle.job_answers.specs.declared.status.Status.TheVariants.{ReadFault}
 use Rattle.job_answers.specs.Statuses.{IsVerdictStatus}
 use Rattle.job_answers.specs.Answers.{ending_of, IfEnds, IfEnded}
@@ -36,7 +36,7 @@ text_over work name text job end is read (inr refused) =
       named = λ fault. absurd (cc (s, fault));
     }
 
-pub text_done : (work : FileWork) (name text : List ℕ) (job : TextJob) (r : Result Answer Stop) → IsTextOf work.told name text → IsReadToEnd work.told work.left name
+pub text_done : (work : FileWork) (name text : List ℕ) (job : TextJob) (r : Result JobOutput JobStop) → IsTextOf work.told name text → IsReadToEnd work.told work.left name
     → OpensFirst (name ∷ []) work.openings work.left.openings → IfEnded r (EndsOnText job name text) → IsDoneOver work (name ∷ []) NoLine (TextEnds job work.told name) r
 text_done work name text job r is read opens ends = record {
   opened = opens;
@@ -63,7 +63,7 @@ unloaded_over work name job end (inr fault) rose never =
       named = λ is. (0, name, omega arith, refl, record { line = ap (λ (e : Ending). e.err) fault; unsure = λ sure. never sure is });
     }
 
-pub stop_done : (work : FileWork) (name : List ℕ) (job : TextJob) (why : Stop) → OpensFirst (name ∷ []) work.openings work.left.openings → IfEnds why (EndsUnloaded work.told name)
+pub stop_done : (work : FileWork) (name : List ℕ) (job : TextJob) (why : JobStop) → OpensFirst (name ∷ []) work.openings work.left.openings → IfEnds why (EndsUnloaded work.told name)
     → IfEnds why (λ end. end.status ≡ ReadFault → Rose work.faults work.faults_now) → (work.sure name → IfEnds why (λ end. end.status ≢ ReadFault))
     → IsDoneOver work (name ∷ []) NoLine (TextEnds job work.told name) (Err why)
 stop_done work name job (stop.Ended a) opens ends rose never = record { opened = opens; ended = unloaded_over work name job (ending_of a) ends rose never }

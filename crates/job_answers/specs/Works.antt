@@ -4,8 +4,8 @@ use Rattle.std.specs.declared.option.Option.{Option}
 use Rattle.line_source.specs.declared.Files.{Ghosts}
 use Rattle.line_source.specs.Causes.{Rose}
 use Rattle.line_source.specs.Openings.{Unread, unread, OpensFirst}
-use Rattle.job_answers.specs.declared.answer.Answer.{Answer}
-use Rattle.job_answers.specs.declared.stop.Stop.{Stop}
+use Rattle.job_answers.specs.declared.output.JobOutput.{JobOutput}
+use Rattle.job_answers.specs.declared.stop.JobStop.{JobStop}
 use Rattle.job_answers.specs.declared.status.Status.{Status}
 use Rattle.job_answers.specs.declared.status.Status.TheVariants.{Refused, ReadFault}
 use Rattle.job_answers.specs.Answers.{IfEnded}
@@ -54,6 +54,6 @@ pub record EndsOver (work : FileWork) (names : List (List ℕ)) (IsLine : List �
   pub named : HaveFault work.sure names end.status (λ text. end.err ≡ text)
 
 -- The files under a first part of the names were opened, each name once, and the job ends so, or ran out of memory.
-pub record IsDoneOver (work : FileWork) (names : List (List ℕ)) (IsLine : List ℕ → Type 0) (ends : Ending → Type 0) (result : Result Answer Stop) : Type 0 where
+pub record IsDoneOver (work : FileWork) (names : List (List ℕ)) (IsLine : List ℕ → Type 0) (ends : Ending → Type 0) (result : Result JobOutput JobStop) : Type 0 where
   pub opened : OpensFirst names work.openings work.left.openings
   pub ended : IfEnded result (EndsOver work names IsLine ends)

@@ -1,41 +1,41 @@
 //! How a job stops, and the ends of all jobs whose file isn't read.
-ghost use Rattle.std.specs.Prelude.{◌≡◌, ◌≢◌, ◌≤◌, [], ◌∷◌, IfOk, OnOk, string_bytes};
+ghost use Rattle.std.specs.Prelude.{◌≡◌, ◌≢◌, ◌⊎◌, ◌<◌, ◌≤◌, [], ◌∷◌, length, IfOk, IfSome, OnOk, IsErrOf, string_bytes};
 ghost use Rattle.line_source.specs.Causes.{Rose};
 ghost use Rattle.line_source.specs.Openings.{OpensIt, OpensFirst, IsReadToEnd, unread};
 ghost use Rattle.line_source.specs.Told.{Same, Stays};
 ghost use Rattle.job_answers.specs.Statuses.{IsVerdictStatus};
-ghost use Rattle.job_answers.specs.declared.stop.Stop.TheVariants.{NoMemory};
+ghost use Rattle.job_answers.specs.declared.stop.JobStop.TheVariants.{NoMemory};
 ghost use Rattle.job_answers.specs.Texts.{refusal_line, too_large_line, read_fault_line, usage_line};
 ghost use Rattle.job_answers.specs.Endings.{ending, IsTextOf, EndsUnloaded, IsRefusedWhole};
 ghost use Rattle.job_answers.specs.Answers.{ending_of, IfStopped};
 
-use crate::{Answer, Status};
+use crate::{JobOutput, Status};
 use line_source::{Files, LoadFault, load};
 use rinex_head::At;
 use std::alloc::{AllocError, Global};
 
 /// Why a job is not done to its end: it ends before, or runs out of memory.
 #[derive(Drop)]
-pub enum Stop {
-    Ended(Answer),
+pub enum JobStop {
+    Ended(JobOutput),
     NoMemory,
 }
 
-impl From<AllocError> for Stop {
+impl From<AllocError> for JobStop {
     ghost from_gives = { λ _ stop. stop ≡ NoMemory };
 
-    fn from(_: AllocError) -> Stop {
-        Stop::NoMemory
+    fn from(_: AllocError) -> JobStop {
+        JobStop::NoMemory
     }
 }
 
-impl Answer {
+impl JobOutput {
     /// A text for out alone, of a verdict.
-    pub fn on_out(alloc: Global, status: Status, out: String) -> Answer
+    pub fn on_out(alloc: Global, status: Status, out: String) -> JobOutput
         requires { IsVerdictStatus status }
         ensures { ending_of result ≡ ending status (string_bytes out) [] }
     {
-        Answer {
+        JobOutput {
             status,
             out: out.into_bytes(),
             err: Vec::new(alloc),
@@ -43,10 +43,10 @@ impl Answer {
     }
 
     /// A text for err alone.
-    pub fn on_err(alloc: Global, status: Status, err: String) -> Answer
+    pub fn on_err(alloc: Global, status: Status, err: String) -> JobOutput
         ensures { ending_of result ≡ ending status [] (string_bytes err) }
     {
-        Answer {
+        JobOutput {
             status,
             out: Vec::new(alloc),
             err: err.into_bytes(),
@@ -55,45 +55,46 @@ impl Answer {
 }
 
 /// The end of a run with a usage error: its words are no job.
-pub fn usage(alloc: Global) -> Result<Answer, AllocError>
+pub fn usage(alloc: Global) -> Result<JobOutput, AllocError>
     ensures { IfOk result (λ a. ending_of a ≡ ending Status.Usage [] usage_line) }
 {
     let err = String::from_str(
         alloc,
         "usage: baseline fix|check|residuals|zero|list|orbit|arcs|sim|migrate|track|check-track WORDS\n",
     )?;
-    Ok(Answer::on_err(alloc, Status::Usage, err))
+    Ok(JobOutput::on_err(alloc, Status::Usage, err))
 }
 
 /// The end of a job whose file is refused at that place.
-pub fn refused(alloc: Global, name: &str, at: At) -> Result<Answer, AllocError>
+pub fn refused(alloc: Global, name: &str, at: At) -> Result<JobOutput, AllocError>
     ensures { IfOk result (λ a. ending_of a ≡ ending Status.Refused [] (refusal_line name.now at)) }
 {
     let line = at.line;
     let column = at.column;
     let text = at.what.text();
     let err = format!(in alloc; "refused: {name} line {line} column {column}: {text}\n")?;
-    Ok(Answer::on_err(alloc, Status::Refused, err))
+    Ok(JobOutput::on_err(alloc, Status::Refused, err))
 }
 
 /// The end of a job whose file has more bytes than are read.
-pub fn too_large(alloc: Global, name: &str) -> Result<Answer, AllocError>
+pub fn too_large(alloc: Global, name: &str) -> Result<JobOutput, AllocError>
     ensures { IfOk result (λ a. ending_of a ≡ ending Status.Refused [] (too_large_line name.now)) }
 {
     let err = format!(in alloc; "refused: {name}: file too large\n")?;
-    Ok(Answer::on_err(alloc, Status::Refused, err))
+    Ok(JobOutput::on_err(alloc, Status::Refused, err))
 }
 
 /// The end of a job whose file could not be read.
-pub fn read_fault(alloc: Global, name: &str) -> Result<Answer, AllocError>
+pub fn read_fault(alloc: Global, name: &str) -> Result<JobOutput, AllocError>
     ensures { IfOk result (λ a. ending_of a ≡ ending Status.ReadFault [] (read_fault_line name.now)) }
 {
     let err = format!(in alloc; "read fault: {name}\n")?;
-    Ok(Answer::on_err(alloc, Status::ReadFault, err))
+    Ok(JobOutput::on_err(alloc, Status::ReadFault, err))
 }
 
-/// The whole file of a job, which is opened once, or the job's end where it can't be had.
-pub fn load_file<F: Files>(alloc: Global, files: &mut F, name: &str) -> Result<Vec<u8>, Stop>
+/// The whole file of a job, which is opened once, or the job's end where it can't be had. It runs out of memory only at a
+/// file with some bytes, or at the line about a fault.
+pub fn load_file<F: Files>(alloc: Global, files: &mut F, name: &str) -> Result<Vec<u8>, JobStop>
     ensures text { IfOk result (λ v. IsTextOf (F.text_of files.old) name.now v.items) }
     ensures stopped { IfStopped result (λ end. EndsUnloaded (F.text_of files.old) name.now end) }
     ensures whole { OnOk result (IsReadToEnd (F.text_of files.old) (unread (F.openings files.new) (F.unread files.new)) name.now) }
@@ -101,6 +102,7 @@ pub fn load_file<F: Files>(alloc: Global, files: &mut F, name: &str) -> Result<V
     ensures opened { OpensFirst (name.now ∷ []) (F.openings files.old) (F.openings files.new) }
     ensures opens { OnOk result (OpensIt name.now (F.openings files.old) (F.openings files.new)) }
     ensures cause { F.faults files.old ≤ F.faults files.new }
+    ensures memory { IfSome (F.text_of files.old name.now) (λ text. IsErrOf result JobStop.NoMemory → (0 < length text) ⊎ Rose (F.faults files.old) (F.faults files.new)) }
     ensures fault { IfStopped result (λ end. end.status ≡ Status.ReadFault → Rose (F.faults files.old) (F.faults files.new)) }
     ensures sure { F.is_sure_name files.old name.now → IfStopped result (λ end. end.status ≢ Status.ReadFault) }
     ensures texts { Same (F.text_of files.old) (F.text_of files.new) }
@@ -108,8 +110,8 @@ pub fn load_file<F: Files>(alloc: Global, files: &mut F, name: &str) -> Result<V
 {
     match load(alloc, files, name) {
         Ok(text) => Ok(text),
-        Err(LoadFault::BigFile) => Err(Stop::Ended(too_large(alloc, name)?)),
-        Err(LoadFault::ReadFault) => Err(Stop::Ended(read_fault(alloc, name)?)),
-        Err(LoadFault::NoMemory) => Err(Stop::NoMemory),
+        Err(LoadFault::BigFile) => Err(JobStop::Ended(too_large(alloc, name)?)),
+        Err(LoadFault::ReadFault) => Err(JobStop::Ended(read_fault(alloc, name)?)),
+        Err(LoadFault::NoMemory) => Err(JobStop::NoMemory),
     }
 }

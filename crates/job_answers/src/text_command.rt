@@ -5,7 +5,7 @@ ghost use Rattle.job_answers.specs.Answers.{ending_of, IfEnded};
 ghost use Rattle.job_answers.specs.Works.{file_work, NoLine, IsDoneOver};
 ghost use Rattle.job_answers.specs.TextJobs.{TextJob, IsAnswered, IsRefusedAt, EndsOnText, TextEnds};
 
-use crate::{Answer, Stop, load_file, refused};
+use crate::{JobOutput, JobStop, load_file, refused};
 use line_source::Files;
 use rinex_head::TextFault;
 use std::alloc::Global;
@@ -16,7 +16,7 @@ pub trait TextCommand {
     ghost job: { Self → TextJob };
 
     /// A verdict on a text that it takes, or the place at which another one is refused.
-    fn answer(&self, alloc: Global, text: &[u8]) -> Result<Answer, TextFault>
+    fn answer(&self, alloc: Global, text: &[u8]) -> Result<JobOutput, TextFault>
         requires { length text.now ≤ 67108864 }
         ensures answered { IfOk result (λ a. IsAnswered (job self.now) text.now (ending_of a)) }
         ensures refused { IfRefused result (IsRefusedAt (job self.now) text.now) };
@@ -28,14 +28,14 @@ fn answer_bytes<C: TextCommand>(
     command: &C,
     name: &str,
     text: &[u8],
-) -> Result<Answer, Stop>
+) -> Result<JobOutput, JobStop>
     requires { length text.now ≤ 67108864 }
     ensures { IfEnded result (EndsOnText (C.job command.now) name.now text.now) }
 {
     match command.answer(alloc, text) {
         Ok(answer) => Ok(answer),
         Err(TextFault::Refused(at)) => Ok(refused(alloc, name, at)?),
-        Err(TextFault::NoMemory) => Err(Stop::NoMemory),
+        Err(TextFault::NoMemory) => Err(JobStop::NoMemory),
     }
 }
 
@@ -46,7 +46,7 @@ pub fn answer_file<C: TextCommand, F: Files>(
     files: &mut F,
     command: &C,
     name: &str,
-) -> Result<Answer, Stop>
+) -> Result<JobOutput, JobStop>
     ensures { IsDoneOver (file_work F.Files files.old files.new) (name.now ∷ []) NoLine (TextEnds (C.job command.now) (F.text_of files.old) name.now) result }
 {
     let text = load_file(alloc, files, name)?;

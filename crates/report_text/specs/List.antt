@@ -8,7 +8,7 @@ use Rattle.obs_store.specs.declared.series.Epoch.{Epoch}
 use Rattle.obs_store.specs.Epochs.{last_tag_of}
 use Rattle.obs_store.specs.Seen.{seen_in}
 
--- the version of so many hundredths
+-- the version by its hundredths
 abbrev pub version_line : ℕ → List ℕ
 version_line n = codes "version " ++ (decimal (n / 100) ++ (codes "." ++ (decimal (n % 100 / 10) ++ (decimal (n % 10) ++ codes "\n"))))
 

@@ -63,7 +63,7 @@ pub record AreNumbersOf (b : SvBox) (n : OrbitNumbers) : Type 0 where
   pub z : n.z ≡ ends_of 6 third
   pub clock : n.clock ≡ ends_of 15 b.clock
 
--- the lines of a box's numbers are behind the text
+-- the lines of a box's numbers come after the text
 pub record AppendsOrbit (b : SvBox) (old new : List ℕ) : Type 0 where
   pub numbers : OrbitNumbers
   pub are : AreNumbersOf b numbers

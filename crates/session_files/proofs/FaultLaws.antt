@@ -5,8 +5,8 @@ use Rattle.rinex_head.specs.declared.system.System.{System}
 use Rattle.obs_source.specs.Formats.{any_of, HasObservation}
 use Rattle.rinex_nav.specs.NavForm.{HasNavFile}
 use Rattle.rinex_nav.specs.NavRules.{nav_of}
-use Rattle.job_answers.specs.declared.stop.Stop.{Stop}
-use Rattle.job_answers.specs.declared.stop.Stop.TheVariants as stop
+use Rattle.job_answers.specs.declared.stop.JobStop.{JobStop}
+use Rattle.job_answers.specs.declared.stop.JobStop.TheVariants as stop
 use Rattle.job_answers.specs.declared.status.Status.TheVariants.{Refused, ReadFault}
 use Rattle.job_answers.specs.Answers.{ending_of, IfEnds}
 use Rattle.job_answers.specs.Texts.{read_fault_line}
@@ -33,7 +33,7 @@ nav_fault_line system told name end stops is =
     fault_line told name (IsRefusal (nav_of system) (HasNavFile system) name) end (λ text refusal. refused_no_fault end _ refusal.end_is) stops is
 
 -- a fault of the file at a place names it
-pub fault_at : (why : Stop) (sure : List ℕ → Type 0) (names : List (List ℕ)) (k : ℕ) (name : List ℕ) (stops : Ending → Type 0) → k < length names → slice_index_or names k name ≡ name
+pub fault_at : (why : JobStop) (sure : List ℕ → Type 0) (names : List (List ℕ)) (k : ℕ) (name : List ℕ) (stops : Ending → Type 0) → k < length names → slice_index_or names k name ≡ name
     → ((end : Ending) → stops end → end.status ≡ ReadFault → end.err ≡ read_fault_line name) → IfEnds why stops → (sure name → IfEnds why (λ end. end.status ≢ ReadFault))
     → IfEnds why (IsFaultOf sure names)
 fault_at (stop.Ended answer) sure names k name stops inside at line given never = λ is.

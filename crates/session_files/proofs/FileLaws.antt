@@ -13,7 +13,7 @@ use Rattle.line_source.specs.Lines.{lines_of}
 use Rattle.line_source.specs.Told.{Same}
 use Rattle.line_source.specs.Pieces.{IsTakenWhole}
 use Rattle.job_answers.specs.declared.status.Status.TheVariants.{ReadFault}
-use Rattle.job_answers.specs.declared.stop.Stop.{Stop}
+use Rattle.job_answers.specs.declared.stop.JobStop.{JobStop}
 use Rattle.job_answers.specs.Answers.{IfStopped}
 use Rattle.job_answers.specs.Statuses.{IsJobStatus}
 use Rattle.job_answers.specs.Texts.{refusal_line, too_large_line}
@@ -67,7 +67,7 @@ answer_as system of text answer same is = subst (λ (s : System). IsAnswer s tex
 
 -- A file of which all was taken is what its reader answered of each text for which the taker stands, and stops a job where
 -- that is a refusal.
-pub taken_is : (system : System) (told : List ℕ → Option (List ℕ)) (name : List ℕ) (taken : ℕ) (stands_for : List ℕ → Type 0) (answer : Result ObsFile TextFault) (r : Result ObsFile Stop)
+pub taken_is : (system : System) (told : List ℕ → Option (List ℕ)) (name : List ℕ) (taken : ℕ) (stands_for : List ℕ → Type 0) (answer : Result ObsFile TextFault) (r : Result ObsFile JobStop)
     → IsTakenWhole (told name) taken stands_for → ((text : List ℕ) → stands_for text → IsAnswer system text answer)
     → ((s : System) (text : List ℕ) → IsAnswer s text answer → IfOk r (λ file. IsObservation s (lines_of text) file)) → IfOk r (λ file. IsObsOf system told name file)
 taken_is system told name taken stands_for answer (Ok file) whole answers is = record {
@@ -77,7 +77,7 @@ taken_is system told name taken stands_for answer (Ok file) whole answers is = r
 }
 taken_is system told name taken stands_for answer (Err stop) whole answers is = tt
 
-pub taken_stops : (system : System) (told : List ℕ → Option (List ℕ)) (name : List ℕ) (taken : ℕ) (stands_for : List ℕ → Type 0) (answer : Result ObsFile TextFault) (r : Result ObsFile Stop)
+pub taken_stops : (system : System) (told : List ℕ → Option (List ℕ)) (name : List ℕ) (taken : ℕ) (stands_for : List ℕ → Type 0) (answer : Result ObsFile TextFault) (r : Result ObsFile JobStop)
     → IsTakenWhole (told name) taken stands_for → ((text : List ℕ) → stands_for text → IsAnswer system text answer)
     → ((s : System) (text : List ℕ) → IsAnswer s text answer → IfStopped r (λ end. IsRefusal (any_of s) (HasObservation s) name text end)) → IfStopped r (λ end. StopsAtObs system told name end)
 taken_stops system told name taken stands_for answer r whole answers stops = stopped_weaker r _ _ (λ end refusal. inl (record {
@@ -88,7 +88,7 @@ taken_stops system told name taken stands_for answer r whole answers stops = sto
 
 -- and its refusal is that of a file that was read to its end
 pub taken_refused : (system : System) (told : List ℕ → Option (List ℕ)) (left : Unread) (name : List ℕ) (taken : ℕ)
-    (stands_for : List ℕ → Type 0) (answer : Result ObsFile TextFault) (r : Result ObsFile Stop)
+    (stands_for : List ℕ → Type 0) (answer : Result ObsFile TextFault) (r : Result ObsFile JobStop)
     → IsTakenWhole (told name) taken stands_for → IsReadToEnd told left name → ((text : List ℕ) → stands_for text → IsAnswer system text answer)
     → ((s : System) (text : List ℕ) → IsAnswer s text answer → IfStopped r (λ end. IsRefusal (any_of s) (HasObservation s) name text end)) → IfStopped r (IsRefusedWhole told left (name ∷ []))
 taken_refused system told left name taken stands_for answer r whole read answers stops =

@@ -7,9 +7,9 @@ use Rattle.obs_store.specs.declared.file.ObsFile.{ObsFile}
 use Rattle.eph_store.specs.File.{Records}
 use Rattle.rinex_head.specs.Systems.{system_of}
 use Rattle.run_options.specs.declared.options.Options.{Options}
-use Rattle.job_answers.specs.declared.answer.Answer.{Answer}
-use Rattle.job_answers.specs.declared.stop.Stop.{Stop}
-use Rattle.job_answers.specs.declared.stop.Stop.TheVariants as stop
+use Rattle.job_answers.specs.declared.output.JobOutput.{JobOutput}
+use Rattle.job_answers.specs.declared.stop.JobStop.{JobStop}
+use Rattle.job_answers.specs.declared.stop.JobStop.TheVariants as stop
 use Rattle.job_answers.specs.declared.status.Status.TheVariants.{ReadFault}
 use Rattle.job_answers.specs.Statuses.{IsVerdictStatus, IsJobStatus}
 use Rattle.job_answers.specs.Answers.{IfEnds, IfEnded}
@@ -42,7 +42,7 @@ files_over work base rover nav answers o b r n end are (inr refused) =
       named = λ fault. absurd (cc (s, fault));
     }
 
-pub files_done : (work : FileWork) (base rover nav : List ℕ) (answers : SessionAnswers) (o : Options) (b r : ObsFile) (n : Records) (result : Result Answer Stop)
+pub files_done : (work : FileWork) (base rover nav : List ℕ) (answers : SessionAnswers) (o : Options) (b r : ObsFile) (n : Records) (result : Result JobOutput JobStop)
     → OpensFirst (base ∷ rover ∷ nav ∷ []) work.openings work.left.openings → AreFilesOf (system_of o.system) work.told base rover nav b r n → IfEnded result (EndsOnFiles answers o b r n)
     → IsDoneOver work (base ∷ rover ∷ nav ∷ []) IsPairLine (SessionEnds answers work.told base rover nav o) result
 files_done work base rover nav answers o b r n result opens are ends = record {
@@ -52,7 +52,7 @@ files_done work base rover nav answers o b r n result opens are ends = record {
 }
 
 -- ---- a file at which it stops
-pub files_stop : (work : FileWork) (base rover nav : List ℕ) (answers : SessionAnswers) (o : Options) (why : Stop) → OpensFirst (base ∷ rover ∷ nav ∷ []) work.openings work.left.openings
+pub files_stop : (work : FileWork) (base rover nav : List ℕ) (answers : SessionAnswers) (o : Options) (why : JobStop) → OpensFirst (base ∷ rover ∷ nav ∷ []) work.openings work.left.openings
     → IfEnds why (StopsAtFiles (system_of o.system) work.told base rover nav) → IfEnds why (IsRefusedWhole work.told work.left (base ∷ rover ∷ nav ∷ []))
     → IfEnds why (λ end. end.status ≡ ReadFault → Rose work.faults work.faults_now) → IfEnds why (IsFaultOf work.sure (base ∷ rover ∷ nav ∷ []))
     → IsDoneOver work (base ∷ rover ∷ nav ∷ []) IsPairLine (SessionEnds answers work.told base rover nav o) (Err why)

@@ -8,7 +8,7 @@ ghost use Rattle.session_files.specs.SessionJobs.{SessionAnswers, AreAnswered, E
 
 use crate::{SessionFiles, read_session, refused_pair};
 use eph_store::NavFile;
-use job_answers::{Answer, Stop};
+use job_answers::{JobOutput, JobStop};
 use line_source::Files;
 use obs_store::ObsFile;
 use rinex_head::System;
@@ -28,7 +28,7 @@ pub trait SessionCommand {
         rover: &ObsFile,
         nav: &NavFile,
         options: &Options,
-    ) -> Result<Answer, SessionFault>
+    ) -> Result<JobOutput, SessionFault>
         ensures answered { IfOk result (λ a. AreAnswered answers options.now base.now rover.now nav.now (ending_of a)) }
         ensures refused { IfPairRefused result (λ what. IsSessionFault base.now rover.now options.now (fault.Refused what)) };
 }
@@ -39,13 +39,13 @@ fn answer_files<C: SessionCommand>(
     command: &C,
     read: &SessionFiles,
     options: &Options,
-) -> Result<Answer, Stop>
+) -> Result<JobOutput, JobStop>
     ensures { IfEnded result (EndsOnFiles C.answers options.now read.now.base read.now.rover read.now.nav) }
 {
     match command.answer(alloc, &read.base, &read.rover, &read.nav, options) {
         Ok(answer) => Ok(answer),
         Err(SessionFault::Refused(what)) => Ok(refused_pair(alloc, what)?),
-        Err(SessionFault::NoMemory) => Err(Stop::NoMemory),
+        Err(SessionFault::NoMemory) => Err(JobStop::NoMemory),
     }
 }
 
@@ -60,7 +60,7 @@ pub fn answer_session<C: SessionCommand, F: Files>(
     rover: &str,
     nav: &str,
     options: &Options,
-) -> Result<Answer, Stop>
+) -> Result<JobOutput, JobStop>
     ensures { IsDoneOver (file_work F.Files files.old files.new) (base.now ∷ rover.now ∷ nav.now ∷ []) IsPairLine (SessionEnds C.answers (F.text_of files.old) base.now rover.now nav.now options.now) result }
 {
     let system = System::of_letter(options.system);

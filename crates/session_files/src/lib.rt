@@ -33,7 +33,7 @@ mod refusals;
 
 pub use commands::{SessionCommand, answer_session};
 use eph_store::NavFile;
-use job_answers::{Status, Stop, load_file, read_fault, refused, too_large};
+use job_answers::{JobStop, Status, load_file, read_fault, refused, too_large};
 pub use laws::{one_nav_law, one_obs_law};
 use line_source::{Files, LoadFault, Taker, load_into};
 use obs_source::ObsTaker;
@@ -58,7 +58,7 @@ fn take_file<F: Files, T: Taker>(
     files: &mut F,
     name: &str,
     taker: &mut T,
-) -> Result<(), Stop>
+) -> Result<(), JobStop>
     requires none_taken { T.taken taker.old ≡ 0 }
     requires stands_for_none { T.stands_for taker.old [] }
     ensures taken { OnOk result (IsTakenWhole (F.text_of files.old name.now) (T.taken taker.new) (T.stands_for taker.new)) }
@@ -75,26 +75,30 @@ fn take_file<F: Files, T: Taker>(
 {
     match load_into(files, name, taker) {
         Ok(()) => Ok(()),
-        Err(LoadFault::BigFile) => Err(Stop::Ended(too_large(alloc, name)?)),
-        Err(LoadFault::ReadFault) => Err(Stop::Ended(read_fault(alloc, name)?)),
-        Err(LoadFault::NoMemory) => Err(Stop::NoMemory),
+        Err(LoadFault::BigFile) => Err(JobStop::Ended(too_large(alloc, name)?)),
+        Err(LoadFault::ReadFault) => Err(JobStop::Ended(read_fault(alloc, name)?)),
+        Err(LoadFault::NoMemory) => Err(JobStop::NoMemory),
     }
 }
 
 // The file of a text, by what its reader answered.
-fn file_of(alloc: Global, name: &str, answer: Result<ObsFile, TextFault>) -> Result<ObsFile, Stop>
+fn file_of(
+    alloc: Global,
+    name: &str,
+    answer: Result<ObsFile, TextFault>,
+) -> Result<ObsFile, JobStop>
     ensures file { (system : System) (text : List ℕ) → IsAnswer system text answer → IfOk result (λ file. IsObservation system (lines_of text) file) }
     ensures stopped { (system : System) (text : List ℕ) → IsAnswer system text answer → IfStopped result (λ end. IsRefusal (any_of system) (HasObservation system) name.now text end) }
     ensures status { IfStopped result (λ end. end.status ≡ Status.Refused) }
 {
     match answer {
         Ok(file) => Ok(file),
-        Err(TextFault::Refused(at)) => Err(Stop::Ended(refused(alloc, name, at)?)),
-        Err(TextFault::NoMemory) => Err(Stop::NoMemory),
+        Err(TextFault::Refused(at)) => Err(JobStop::Ended(refused(alloc, name, at)?)),
+        Err(TextFault::NoMemory) => Err(JobStop::NoMemory),
     }
 }
 
-fn nav_in(alloc: Global, system: System, name: &str, text: &[u8]) -> Result<NavFile, Stop>
+fn nav_in(alloc: Global, system: System, name: &str, text: &[u8]) -> Result<NavFile, JobStop>
     requires { length text.now ≤ 67108864 }
     ensures file { IfOk result (λ file. IsNavFile system (lines_of text.now) file.all) }
     ensures fit { IfOk result (λ file. AreFit file.all file.fit) }
@@ -105,8 +109,8 @@ fn nav_in(alloc: Global, system: System, name: &str, text: &[u8]) -> Result<NavF
             let _usable = file.fit();
             Ok(file)
         }
-        Err(TextFault::Refused(at)) => Err(Stop::Ended(refused(alloc, name, at)?)),
-        Err(TextFault::NoMemory) => Err(Stop::NoMemory),
+        Err(TextFault::Refused(at)) => Err(JobStop::Ended(refused(alloc, name, at)?)),
+        Err(TextFault::NoMemory) => Err(JobStop::NoMemory),
     }
 }
 
@@ -117,7 +121,7 @@ pub fn obs_file<F: Files>(
     files: &mut F,
     system: System,
     name: &str,
-) -> Result<ObsFile, Stop>
+) -> Result<ObsFile, JobStop>
     ensures read { IfOk result (λ file. IsObsOf system (F.text_of files.old) name.now file) }
     ensures stopped { IfStopped result (λ end. StopsAtObs system (F.text_of files.old) name.now end) }
     ensures whole { OnOk result (IsReadToEnd (F.text_of files.old) (unread (F.openings files.new) (F.unread files.new)) name.now) }
@@ -149,7 +153,7 @@ fn nav_file<F: Files>(
     files: &mut F,
     system: System,
     name: &str,
-) -> Result<NavFile, Stop>
+) -> Result<NavFile, JobStop>
     ensures read { IfOk result (λ file. IsNavOf system (F.text_of files.old) name.now file) }
     ensures stopped { IfStopped result (λ end. StopsAtNav system (F.text_of files.old) name.now end) }
     ensures whole { OnOk result (IsReadToEnd (F.text_of files.old) (unread (F.openings files.new) (F.unread files.new)) name.now) }
@@ -172,7 +176,7 @@ pub fn read_session<F: Files>(
     base: &str,
     rover: &str,
     nav: &str,
-) -> Result<SessionFiles, Stop>
+) -> Result<SessionFiles, JobStop>
     ensures read { IfOk result (λ s. AreFilesOf system (F.text_of files.old) base.now rover.now nav.now s.base s.rover s.nav) }
     ensures stopped { IfStopped result (λ end. StopsAtFiles system (F.text_of files.old) base.now rover.now nav.now end) }
     ensures whole { OnOk result (IsReadToEnd (F.text_of files.old) (unread (F.openings files.new) (F.unread files.new)) nav.now) }

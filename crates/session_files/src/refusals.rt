@@ -7,7 +7,7 @@ ghost use Rattle.job_answers.specs.Answers.{ending_of};
 ghost use Rattle.job_answers.specs.Endings.{ending};
 ghost use Rattle.session_files.specs.Refusals.{pair_line};
 
-use job_answers::{Answer, Status};
+use job_answers::{JobOutput, Status};
 use session_begin::PairWhat;
 use std::alloc::{AllocError, Global};
 
@@ -29,9 +29,9 @@ fn line_of(alloc: Global, what: PairWhat) -> Result<String, AllocError>
 }
 
 /// The end of a job whose two files are refused.
-pub fn refused_pair(alloc: Global, what: PairWhat) -> Result<Answer, AllocError>
+pub fn refused_pair(alloc: Global, what: PairWhat) -> Result<JobOutput, AllocError>
     ensures { IfOk result (λ a. ending_of a ≡ ending Status.Refused [] (pair_line what)) }
 {
     let line = line_of(alloc, what)?;
-    Ok(Answer::on_err(alloc, Status::Refused, line))
+    Ok(JobOutput::on_err(alloc, Status::Refused, line))
 }

@@ -7,7 +7,7 @@ use rinex_obs::{GalFeed, ObsFeed, read_obs};
 use sim_session::make;
 use std::test::Fail;
 
-// A file that gives at most so many bytes a call.
+// A file that gives at most `most` bytes a call.
 #[derive(Drop)]
 struct Pieces {
     text: Vec<u8>,

@@ -17,7 +17,7 @@ fn draws_in_order(rt: HostRuntime) -> Result<(), Fail> {
     Ok(())
 }
 
-// The draws of L5 come behind those of all satellites.
+// The draws of L5 come after those of all satellites.
 #[test]
 fn draws_l5_last(rt: HostRuntime) -> Result<(), Fail> {
     let drawn = draw_all(rt.alloc(), 1, 2, true)?;

@@ -15,7 +15,7 @@ ghost use Rattle.job_answers.specs.Answers.{ending_of};
 ghost use Rattle.sim_job.specs.Sims.{IsFileOf, SimEnds};
 
 use command_words::File;
-use job_answers::{Answer, Status};
+use job_answers::{JobOutput, Status};
 use sim_session::{Made, make};
 use std::alloc::{AllocError, Global};
 
@@ -29,8 +29,8 @@ fn text_of(file: File, made: Made) -> Vec<u8>
     }
 }
 
-/// The file of the session that the seed makes: of so many epochs, 1 to 3600, and satellites, 4 to 15, for a run with these bands
-/// and of the system with that letter.
+/// The file of the session that the seed makes, of 1 to 3600 epochs and 4 to 15 satellites, for a run with these bands and
+/// of the system with that letter.
 #[inline(never)]
 pub fn sim(
     alloc: Global,
@@ -40,7 +40,7 @@ pub fn sim(
     sats: u32,
     bands: u16,
     system: u8,
-) -> Result<Answer, AllocError>
+) -> Result<JobOutput, AllocError>
     requires epochs { epochs ≤ 3600 }
     requires sats { sats ≤ 15 }
     requires bands { IsBandsNumber bands }
@@ -50,7 +50,7 @@ pub fn sim(
 {
     let made = make(alloc, seed, epochs, sats, bands, system)?;
     let out = text_of(file, made);
-    Ok(Answer {
+    Ok(JobOutput {
         status: Status::Done,
         out,
         err: Vec::new(alloc),

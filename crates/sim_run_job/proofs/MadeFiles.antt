@@ -19,9 +19,9 @@ use Rattle.sim_texts.specs.declared.signals.Tracking.{Tracking}
 use Rattle.sim_texts.specs.declared.signals.Tracking.TheVariants.{GpsL1L2, GpsL1L2L5, GalileoE1E5a}
 use Rattle.sim_session.specs.Observations.{step_of}
 use Rattle.sim_session.specs.Texts.{has_l5, tracking_of, IsBaseText, IsRoverText, IsNavigationText}
-use Rattle.made_files.specs.NavRecords.{raws_of}
-use Rattle.made_files.specs.ObsFiles.{epochs_of, file_of}
-use Rattle.made_files.proofs.Readings.{base_reads, rover_reads, navigation_reads}
+use Rattle.sim_text_laws.specs.NavRecords.{raws_of}
+use Rattle.sim_text_laws.specs.ObsFiles.{epochs_of, file_of}
+use Rattle.sim_text_laws.proofs.Readings.{base_reads, rover_reads, navigation_reads}
 use Rattle.run_options.specs.declared.options.Options.{Options}
 use Rattle.run_options.specs.Defaults.{Numbers}
 use Rattle.obs_rows.specs.declared.band_sets.TheConstants.{BANDS_L1_L5}

@@ -7,8 +7,8 @@ use Rattle.rinex_head.specs.Systems.{system_of}
 use Rattle.rinex_head.specs.declared.system.System.{System}
 use Rattle.outcome_report.specs.OutcomeText.{is_fixed}
 use Rattle.job_answers.specs.declared.status.Status.TheVariants.{Done, Declined, Refused, ReadFault}
-use Rattle.job_answers.specs.declared.stop.Stop.{Stop}
-use Rattle.job_answers.specs.declared.stop.Stop.TheVariants.{Ended, NoMemory}
+use Rattle.job_answers.specs.declared.stop.JobStop.{JobStop}
+use Rattle.job_answers.specs.declared.stop.JobStop.TheVariants.{Ended, NoMemory}
 use Rattle.job_answers.specs.Answers.{ending_of, IfEnds}
 use Rattle.job_answers.specs.Endings.{Ending}
 use Rattle.session_files.specs.SessionFiles.{AreFilesOf, StopsAtFiles}
@@ -45,7 +45,7 @@ ends_found seed epochs sats bands system told o of b r n end made on admitted sa
     absurd (never_refused told (codes "base") (codes "rover") (codes "nav") o b r n end admitted files refused)
 
 -- the reading of files that are admitted, none of which fails, doesn't stop
-pub never_stops : (system : System) (told : List ℕ → Option (List ℕ)) (base rover nav : List ℕ) (o : Options) (stop : Stop) (P : Ending → Type 0)
+pub never_stops : (system : System) (told : List ℕ → Option (List ℕ)) (base rover nav : List ℕ) (o : Options) (stop : JobStop) (P : Ending → Type 0)
     → system ≡ system_of o.system → AreAdmitted told base rover nav o
     → IfEnds stop (λ end. StopsAtFiles system told base rover nav end) → IfEnds stop (λ end. end.status ≢ ReadFault) → IfEnds stop P
 never_stops system told base rover nav o (Ended answer) P same admitted stops no_fault =

@@ -10,8 +10,8 @@ ghost use Rattle.fix_job.specs.FixJobs.{status_of};
 ghost use Rattle.sim_run_job.specs.SimRunJobs.{AreOptionsOn, truth_in, run_text, SimRunEnd, SimRunEnds};
 
 use crate::report::run_text;
-use cert_data::Answer as Found;
-use job_answers::{Answer, Status, Stop};
+use cert_data::Answer;
+use job_answers::{JobOutput, JobStop, Status};
 use line_source::{Files, Named, SureFiles};
 use outcome_report::is_fixed;
 use rinex_head::System;
@@ -76,7 +76,7 @@ fn files_of(
 }
 
 // Done for a fix, else declined.
-fn status_of(answer: &Found) -> Status
+fn status_of(answer: &Answer) -> Status
     ensures value { result ≡ status_of answer.now }
     ensures verdict { IsVerdictStatus result }
 {
@@ -91,13 +91,13 @@ fn status_of(answer: &Found) -> Status
 fn answer_match(
     alloc: Global,
     asked: &Asked,
-    answer: &Found,
+    answer: &Answer,
     matched: bool,
-) -> Result<Answer, AllocError>
+) -> Result<JobOutput, AllocError>
     ensures { IfOk result (λ a. ending_of a ≡ ending (status_of answer.now) (run_text asked.now.seed asked.now.epochs asked.now.sats answer.now matched) []) }
 {
     let out = run_text(alloc, asked.seed, asked.epochs, asked.sats, answer, matched)?;
-    Ok(Answer {
+    Ok(JobOutput {
         status: status_of(answer),
         out,
         err: Vec::new(alloc),
@@ -110,7 +110,7 @@ fn answer_files(
     asked: &Asked,
     files: &SessionFiles,
     options: &Options,
-) -> Result<Answer, Stop>
+) -> Result<JobOutput, JobStop>
     requires { asked.now.truth.items ≡ truth_in asked.now.seed asked.now.sats asked.now.bands }
     ensures { IfEnded result (λ end. SimRunEnd options.now asked.now.seed asked.now.epochs asked.now.sats asked.now.bands files.now.base files.now.rover files.now.nav end) }
 {
@@ -120,12 +120,12 @@ fn answer_files(
             Ok(answer_match(alloc, asked, &outcome.answer, matched)?)
         }
         Err(SessionFault::Refused(what)) => Ok(refused_pair(alloc, what)?),
-        Err(SessionFault::NoMemory) => Err(Stop::NoMemory),
+        Err(SessionFault::NoMemory) => Err(JobStop::NoMemory),
     }
 }
 
-/// What the session of this seed is found to say, of so many epochs, 1 to 3600, and satellites, 4 to 15, with these bands of the
-/// system with that letter: of Galileo with the bands L1 and L5 alone.
+/// What the session of this seed is found to say, of 1 to 3600 epochs and 4 to 15 satellites, with these bands of the system
+/// with that letter: of Galileo with the bands L1 and L5 alone.
 #[inline(never)]
 pub fn sim_run(
     alloc: Global,
@@ -134,7 +134,7 @@ pub fn sim_run(
     sats: u32,
     bands: u16,
     system: u8,
-) -> Result<Answer, Stop>
+) -> Result<JobOutput, JobStop>
     requires epochs { epochs ≤ 3600 }
     requires sats { sats ≤ 15 }
     requires bands { IsBandsNumber bands }

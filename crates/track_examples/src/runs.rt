@@ -1,6 +1,6 @@
 //! Runs of `track` and `check-track` over texts in memory, and the places that are printed.
 use decimal_text::read_fixed;
-use job_answers::{Answer, Status, Stop, answer_file};
+use job_answers::{JobOutput, JobStop, Status, answer_file};
 use line_source::{MemFiles, Named};
 use run_options::Options;
 use session_files::answer_session;
@@ -21,11 +21,11 @@ fn named(alloc: Global, name: &str, text: &[u8]) -> Result<Named, AllocError> {
     })
 }
 
-fn answer_of(ended: Result<Answer, Stop>) -> Result<Answer, AllocError> {
+fn answer_of(ended: Result<JobOutput, JobStop>) -> Result<JobOutput, AllocError> {
     match ended {
         Ok(answer) => Ok(answer),
-        Err(Stop::Ended(answer)) => Ok(answer),
-        Err(Stop::NoMemory) => Err(AllocError),
+        Err(JobStop::Ended(answer)) => Ok(answer),
+        Err(JobStop::NoMemory) => Err(AllocError),
     }
 }
 
@@ -35,7 +35,7 @@ pub(crate) fn track_texts(
     made: &Made,
     rover: &[u8],
     options: &Options,
-) -> Result<Answer, AllocError> {
+) -> Result<JobOutput, AllocError> {
     let list = vec![in alloc;
         named(alloc, "B", &made.base)?,
         named(alloc, "R", rover)?,
@@ -46,7 +46,7 @@ pub(crate) fn track_texts(
 }
 
 /// `check-track C` on this text.
-pub(crate) fn check_text(alloc: Global, text: &[u8]) -> Result<Answer, AllocError> {
+pub(crate) fn check_text(alloc: Global, text: &[u8]) -> Result<JobOutput, AllocError> {
     let mut files = MemFiles::new(vec![in alloc; named(alloc, "C", text)?]?, Vec::new(alloc));
     answer_of(answer_file(alloc, &mut files, &TrackCheck, "C"))
 }

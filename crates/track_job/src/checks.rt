@@ -4,7 +4,7 @@ ghost use Rattle.track_job.specs.CheckJobs.{check_track_job};
 
 use cert_jobs::status_of;
 use cert_report::write_verdict;
-use job_answers::{Answer, TextCommand};
+use job_answers::{JobOutput, TextCommand};
 use rinex_head::TextFault;
 use std::alloc::Global;
 use track_form::check_track;
@@ -17,12 +17,12 @@ pub struct TrackCheck;
 impl TextCommand for TrackCheck {
     ghost job = { λ _. check_track_job };
 
-    fn answer(&self, alloc: Global, text: &[u8]) -> Result<Answer, TextFault> {
+    fn answer(&self, alloc: Global, text: &[u8]) -> Result<JobOutput, TextFault> {
         let cert = read_track(alloc, text)?;
         let verdict = check_track(alloc, &cert)?;
         let mut out = Vec::new(alloc);
         write_verdict(alloc, &mut out, &verdict)?;
-        Ok(Answer {
+        Ok(JobOutput {
             status: status_of(&verdict),
             out,
             err: Vec::new(alloc),

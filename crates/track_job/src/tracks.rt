@@ -5,7 +5,7 @@ ghost use Rattle.track_job.specs.TrackJobs.{track_status_of, AnswersTrack};
 
 use crate::outcomes::track_outcome;
 use eph_store::NavFile;
-use job_answers::{Answer, Status};
+use job_answers::{JobOutput, Status};
 use obs_store::ObsFile;
 use run_options::Options;
 use session_begin::SessionFault;
@@ -40,12 +40,12 @@ impl SessionCommand for MovingRover {
         rover: &ObsFile,
         nav: &NavFile,
         options: &Options,
-    ) -> Result<Answer, SessionFault> {
+    ) -> Result<JobOutput, SessionFault> {
         let outcome = track_outcome(alloc, base, rover, nav, options)?;
         let mut out = Vec::new(alloc);
         let mut err = Vec::new(alloc);
         write_track_outcome(alloc, &mut out, &mut err, &outcome)?;
-        Ok(Answer {
+        Ok(JobOutput {
             status: track_status_of(&outcome.answer),
             out,
             err,
