@@ -5,7 +5,7 @@
 //! (`IsNormal`). `write_navigation` appends exactly the file of any records (`navigation_text`), which has 155 bytes and 648
 //! for each record. A number is written as what it is where it is normal and its exponent has two digits, as in these
 //! records; of others no clause says what their text stands for. The one error is out of memory; after it a part of the
-//! text may have been appended. That the reader reads the file as its records is proved in crate made_files.
+//! text may have been appended. That the reader reads the file as its records is proved in crate sim_text_laws.
 #![tactic(auto)]
 
 mod navigation;

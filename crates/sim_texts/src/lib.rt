@@ -5,7 +5,7 @@
 //! epoch at most 36 and 98 for each satellite (`size`). Who calls owes amounts that have room in their 14 columns, from 0 to
 //! below 10^10 mm or cycles (`AreInColumns`), at most 99 satellites, and a second of one day. The one error is out of
 //! memory; after it a part of the text may have been appended. That the readers read such a text as what it was made of
-//! is proved in crate made_files.
+//! is proved in crate sim_text_laws.
 #![tactic(auto)]
 
 mod columns;
