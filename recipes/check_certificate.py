@@ -201,8 +201,8 @@ def add_square(matrix, row, factor):
 
 
 def steps(form, count, name, limit=2**52):
-    """So many steps of the elimination, the first of the column of that name: what is kept of each pivot, the factors of
-    each step with the later columns, and the form that is left."""
+    """`count` steps of the elimination, the first of the column `name`: what is kept of each pivot, the factors of each step
+    with the later columns, and the form that is left."""
     kept, factors = [], []
     for column in range(name, name + count):
         (pivot, *others), form = form[0], [row[1:] for row in form[1:]]
