@@ -1,3 +1,4 @@
 pub mod SameForms
 pub mod OneVerdict
 pub mod Checked
+pub mod SaidLaws

@@ -103,10 +103,6 @@ pub fault_rests : (s : Session) (budget : ℕ) (why : LowerFault) → IsRefused 
 fault_rests s budget (fault.Weak column pivot) refused_so = tt
 fault_rests s budget (fault.Overwidth place) refused_so = rests_refused s budget place refused_so
 
-pub not_certified : (why : LowerFault) → verdict_of why ≡ Certified → ⊥
-not_certified (fault.Weak column pivot) certain = absurd cc
-not_certified (fault.Overwidth place) certain = absurd cc
-
 -- a form that is refused is none
 no_form : (s : Session) (why : LowerFault) (f : Form) → IsRefused s why → IsFormOf s f → ⊥
 no_form s why f a b =

@@ -1,3 +1,4 @@
 pub mod Decided
+pub mod Said
 pub mod Verdicts
 pub mod Visits

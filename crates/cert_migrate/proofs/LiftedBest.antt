@@ -24,7 +24,7 @@ use Rattle.cert_migrate.specs.declared.old_sessions.OldSession.{OldSession}
 use Rattle.cert_migrate.specs.OldTails.{old_integer_count}
 use Rattle.cert_migrate.specs.OldSums.{at, old_sum, IsOldBest, IsOldBestByRatio}
 use Rattle.cert_migrate.specs.Lifted.{IsLiftedSession, unit_ratio, scaled, scaled_baseline, in_old_unit, IsOldBestWhereFixed, IsOldBestByRatioWhereFixed}
-use Rattle.cert_migrate.specs.RowDecisions.{IsRowDecision}
+use Rattle.settled_decision.specs.RowDecisions.{IsRowDecision}
 use Rattle.cert_migrate.proofs.Scaling.{AreScaledBaselines, less_back}
 use Rattle.cert_migrate.proofs.LiftedArcs.{count_same}
 use Rattle.cert_migrate.proofs.LiftedData.{signals_are, data_scaled}

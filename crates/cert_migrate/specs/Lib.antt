@@ -5,6 +5,5 @@ pub mod OldTails
 pub mod OldSums
 pub mod OldSpelling
 pub mod Lifted
-pub mod RowDecisions
 pub mod Migrated
 pub mod Carriers

@@ -13,7 +13,6 @@
 //! old tail is read and dropped.
 #![tactic(auto)]
 
-mod decisions;
 mod lifted_rows;
 mod lifting;
 mod moved;

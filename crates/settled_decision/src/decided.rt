@@ -5,6 +5,7 @@ ghost use Rattle.integer_form.specs.Forms.{integers_of, value_of};
 ghost use Rattle.cert_data.specs.Tails.{IsTailOf};
 ghost use Rattle.fix_decide.specs.Decisions.{IsFormOf};
 ghost use Rattle.settled_decision.specs.Decided.{IsRefused, IsDecision, IsBestWhereFixed, tail_of};
+ghost use Rattle.settled_decision.specs.RowDecisions.{IsRowDecision};
 
 use cert_data::Tail;
 use fix_decide::decide;
@@ -66,6 +67,25 @@ pub fn decide_settled(session: &Session, form: &Form, ratio: u32, budget: u64) -
             decision.top,
         ),
         Err(fault) => Tail::Overwidth { place: fault.place },
+    }
+}
+
+/// Decides the rows of a fine session at a ratio in thousandths, whatever its point: the elimination, the search, the
+/// baseline of the least integers, their upper sum and the ratio. It isn't asked whether the point is settled.
+///
+/// It isn't inlined, so that its form doesn't lie on the stack of its callers.
+#[inline(never)]
+pub fn decide_rows(session: &Session, ratio: u32, budget: u64) -> Tail
+    requires fine { session.now.scale ≡ 0 }
+    requires ratio_from { 1000 ≤ ratio }
+    requires ratio_to { ratio ≤ 100_000 }
+    ensures decision { IsRowDecision session.now ratio budget result }
+    ensures strictly_best { IsBestWhereFixed session.now result }
+    ensures fits { IsTailOf (fine_signals session.now.signals) session.now.arcs budget result }
+{
+    match form_of_rows(session) {
+        Ok(form) => decide_settled(session, &form, ratio, budget),
+        Err(fault) => tail_of(fault),
     }
 }
 

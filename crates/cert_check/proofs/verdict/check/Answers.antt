@@ -1,41 +1,37 @@
-use Rattle.std.proofs.Common.{sym, ◌∙◌, subst}
-use Rattle.cert_data.specs.declared.verdicts.Verdict.{Verdict}
+use Rattle.std.proofs.Common.{subst}
+use Rattle.cert_data.specs.declared.verdicts.Verdict.TheVariants.{Certified}
+use Rattle.cert_check.specs.Said.{IsSaidOf}
 use Rattle.cert_check.specs.Verdicts.{IsVerdictOf}
-use Rattle.cert_check.specs.Visits.{RestsWithin}
 use Rattle.cert_check.proofs.Checked.{certified_by_ratio}
-use Rattle.cert_check.proofs.OneVerdict.{one_verdict, fault_verdict, fault_rests, not_certified}
+use Rattle.cert_check.proofs.OneVerdict.{one_verdict}
+use Rattle.cert_check.proofs.SaidLaws.{said_verdict, said_rests, said_best}
 use Rattle.cert_check.proofs.verdict.check.Goals as goal
 
-pub returns-in-Ok-clause-by_ratio : goal.returns-in-Ok-clause-by_ratio
-returns-in-Ok-clause-by_ratio c = λ certified.
+pub returns-clause-verdict : goal.returns-clause-verdict
+returns-clause-verdict c =
     let t = c.args.cert.now in
-    certified_by_ratio t.session t.ratio t.budget t.tail t.fine (subst (λ (v : Verdict). IsVerdictOf t.session t.ratio t.budget t.tail v) certified c.check_form.ensures.verdict)
+    said_verdict t.session t.ratio t.budget c.decide_rows-decided.result t.tail c.said_of.result c.decide_rows-decided.ensures.decision c.said_of.ensures
 
-pub returns-in-Ok-clause-only : goal.returns-in-Ok-clause-only
-returns-in-Ok-clause-only c = λ v is.
+pub returns-clause-visits : goal.returns-clause-visits
+returns-clause-visits c =
     let t = c.args.cert.now in
-    one_verdict t.session t.ratio t.budget t.tail v c.check_form.result is c.check_form.ensures.verdict
+    said_rests t.session t.ratio t.budget c.decide_rows-decided.result t.tail c.said_of.result c.decide_rows-decided.ensures.decision c.said_of.ensures
 
-pub returns-in-Err-clause-verdict : goal.returns-in-Err-clause-verdict
-returns-in-Err-clause-verdict c =
+pub returns-clause-strictly_best : goal.returns-clause-strictly_best
+returns-clause-strictly_best c = λ certified.
     let t = c.args.cert.now in
-    subst (λ (v : Verdict). IsVerdictOf t.session t.ratio t.budget t.tail v) (sym c.verdict_of.ensures)
-    (fault_verdict t.session t.ratio t.budget t.tail c.in-Err.fault c.in-Err.ensures.refused)
+    said_best t.session c.decide_rows-decided.result t.tail c.decide_rows-decided.ensures.strictly_best (subst (IsSaidOf c.decide_rows-decided.result t.tail) certified c.said_of.ensures)
 
-pub returns-in-Err-clause-visits : goal.returns-in-Err-clause-visits
-returns-in-Err-clause-visits c =
+pub returns-clause-by_ratio : goal.returns-clause-by_ratio
+returns-clause-by_ratio c = λ certified.
     let t = c.args.cert.now in
-    subst (λ (v : Verdict). RestsWithin t.session t.budget v) (sym c.verdict_of.ensures) (fault_rests t.session t.budget c.in-Err.fault c.in-Err.ensures.refused)
+    certified_by_ratio t.session t.ratio t.budget t.tail t.fine
+    (said_verdict t.session t.ratio t.budget c.decide_rows-decided.result t.tail Certified c.decide_rows-decided.ensures.decision
+    (subst (IsSaidOf c.decide_rows-decided.result t.tail) certified c.said_of.ensures))
 
-pub returns-in-Err-clause-strictly_best : goal.returns-in-Err-clause-strictly_best
-returns-in-Err-clause-strictly_best c = λ certified. absurd (not_certified c.in-Err.fault (sym c.verdict_of.ensures ∙ certified))
-
-pub returns-in-Err-clause-by_ratio : goal.returns-in-Err-clause-by_ratio
-returns-in-Err-clause-by_ratio c = λ certified. absurd (not_certified c.in-Err.fault (sym c.verdict_of.ensures ∙ certified))
-
-pub returns-in-Err-clause-only : goal.returns-in-Err-clause-only
-returns-in-Err-clause-only c = λ v is.
+pub returns-clause-only : goal.returns-clause-only
+returns-clause-only c =
     let t = c.args.cert.now in
-    let found = subst (λ (w : Verdict). IsVerdictOf t.session t.ratio t.budget t.tail w) (sym c.verdict_of.ensures)
-    (fault_verdict t.session t.ratio t.budget t.tail c.in-Err.fault c.in-Err.ensures.refused) in
-    one_verdict t.session t.ratio t.budget t.tail v c.verdict_of.result is found
+    let verdict : IsVerdictOf t.session t.ratio t.budget t.tail c.said_of.result =
+    said_verdict t.session t.ratio t.budget c.decide_rows-decided.result t.tail c.said_of.result c.decide_rows-decided.ensures.decision c.said_of.ensures in
+    λ v is. one_verdict t.session t.ratio t.budget t.tail v c.said_of.result is verdict
