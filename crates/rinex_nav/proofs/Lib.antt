@@ -3,3 +3,4 @@ pub mod Steps
 pub mod FormLaws
 pub mod FormTook
 pub mod FormPlaces
+pub mod FitOnce
