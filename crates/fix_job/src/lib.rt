@@ -21,7 +21,7 @@ use session_files::SessionCommand;
 use std::alloc::Global;
 
 // Done for a fix, else declined.
-fn status_of(answer: &session::JobOutput) -> Status
+fn status_of(answer: &session::Answer) -> Status
     ensures value { result ≡ status_of answer.now }
     ensures verdict { IsVerdictStatus result }
 {
