@@ -347,10 +347,10 @@ fn by_steps(rt: HostRuntime) -> Result<(), Fail> {
 #[test]
 fn of_wide_boxes(rt: HostRuntime) -> Result<(), Fail> {
     for (m, e, angle, cos, sin) in MIDDLES {
-        assert!(rt; 8 - (12 << 56) <= m && m <= (12 << 56) - 8);
-        assert!(rt; 1 <= e && e < 1 << 55);
-        let mean: Iv<56> = Iv::from_ends(m - 8, m + 8);
-        let shape: Iv<60> = Iv::from_ends(e - 1, e + 1);
+        let mean: Iv<56> = Iv::point(m)?.add(&Iv { lo: -8, hi: 8 })?;
+        let shape: Iv<60> = Iv::point(e)?.add(&Iv { lo: -1, hi: 1 })?;
+        assert!(rt; -(12 << 56) <= mean.lo() && mean.hi() <= 12 << 56 && mean.width() <= 16);
+        assert!(rt; 0 <= shape.lo() && shape.hi() <= 1 << 55 && shape.width() <= 2);
         let stepped = anomaly_by_steps(&mean, &shape);
         assert_eq!(rt; fault_of(&stepped, angle, cos, sin), None, "at {m} and {e}");
         let found = anomaly_box(&mean, &shape);
