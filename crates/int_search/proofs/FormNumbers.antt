@@ -12,7 +12,7 @@ use Rattle.integer_form.specs.Factors.{factor_at, stored}
 use Rattle.integer_form.specs.Kept.{constant_form}
 use Rattle.integer_form.specs.Forms.{integers_of, columns_of, value_of, factors_of}
 use Rattle.integer_form.proofs.FormLaws.{lower_sums_below}
-use Rattle.suffix_search.specs.Suffixes.{IsSearchable, low, rest, weight, no_factor}
+use Rattle.int_search.specs.Suffixes.{IsSearchable, low, rest, weight, no_factor}
 use Rattle.int_search.specs.Vectors.{suffix}
 use Rattle.int_search.specs.SearchedForm.{search_form}
 use Rattle.int_search.proofs.SuffixArrays.{suffix-length}

@@ -3,7 +3,7 @@ use Rattle.std.proofs.Common.{◌≡◌, ◌+◌, ◌<◌, ◌≤◌, ◌^◌, �
 use Rattle.std.proofs.lemmas.Int.{ints}
 use Rattle.whole_math.specs.Rounding.{ceil_div}
 use Rattle.whole_math.proofs.Order.{lins, polys, mul_le_right, square_nn, mul_nn}
-use Rattle.suffix_search.proofs.SuffixLaws.{square_from}
+use Rattle.int_search.proofs.SuffixLaws.{square_from}
 use Rattle.int_search.specs.Steps.{IsFresh}
 use Rattle.int_search.proofs.Quotients.{ends_up, ends_down}
 

@@ -2,11 +2,11 @@
 use Rattle.std.proofs.Common.{◌≡◌, ◌⊎◌, inl, inr, ◌<◌, ◌≤◌, ◌^◌, List, ◌∷◌, length, ℤ, pos, ◌+ℤ◌, ◌*ℤ◌, ◌<ℤ◌, ◌≤ℤ◌, Bool, true, false, arith, unsigned_abs, ap, sym, ◌∙◌}
 use Rattle.std.proofs.lemmas.Int.{ints, by_lt_z}
 use Rattle.whole_math.proofs.Order.{lins, polys}
-use Rattle.suffix_search.specs.Suffixes.{SearchForm, IsSearchable, rest, offset, low, weight}
-use Rattle.suffix_search.specs.PlainCount.{top}
-use Rattle.suffix_search.specs.Levels.{IsFree, IsLevel, Takes}
-use Rattle.suffix_search.specs.declared.stack.Level.{Level}
-use Rattle.suffix_search.proofs.SuffixLaws.{low-cons, offset-is, IsNearest}
+use Rattle.int_search.specs.Suffixes.{SearchForm, IsSearchable, rest, offset, low, weight}
+use Rattle.int_search.specs.PlainCount.{top}
+use Rattle.int_search.specs.Levels.{IsFree, IsLevel, Takes}
+use Rattle.int_search.specs.declared.stack.Level.{Level}
+use Rattle.int_search.proofs.SuffixLaws.{low-cons, offset-is, IsNearest}
 use Rattle.int_search.specs.Steps.{IsFresh, Chooses, Moves}
 
 pub level_fresh : (f : SearchForm) (s : List ℤ) (a : Level) → length s < f.size → IsFresh (rest f s) (low f s) a → low f s ≤ℤ (pos (2 ^ 60) *ℤ top f) → IsLevel f a s

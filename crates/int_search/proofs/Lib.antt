@@ -12,3 +12,15 @@ pub mod StartLaws
 pub mod PlainLaws
 pub mod ReducedLaws
 pub mod TableLaws
+pub mod TotalLaws
+pub mod FormSums
+pub mod TransformedLaws
+pub mod Words
+pub mod MapImageLaws
+pub mod SameMaps
+pub mod SuffixLaws
+pub mod OrderLaws
+pub mod OpenLaws
+pub mod Counting
+pub mod VisitLaws
+pub mod SearchLaws

@@ -3,9 +3,9 @@ use Rattle.std.proofs.Common.{◌≡◌, ◌⊎◌, inl, inr, ℕ, List, length,
 use Rattle.std.specs.declared.cmp.Ordering.{Ordering}
 use Rattle.std.specs.declared.cmp.Ordering.TheVariants.{Less, Equal, Greater}
 use Rattle.quadratic_form.specs.Rows.{value}
-use Rattle.suffix_search.specs.Suffixes.{SearchForm}
-use Rattle.suffix_search.specs.Order.{IsLess, IsOneToOne}
-use Rattle.suffix_search.proofs.SearchLaws.{offer_first, offer_second, offer_none}
+use Rattle.int_search.specs.Suffixes.{SearchForm}
+use Rattle.int_search.specs.Order.{IsLess, IsOneToOne}
+use Rattle.int_search.proofs.SearchLaws.{offer_first, offer_second, offer_none}
 use Rattle.int_search.specs.Vectors.{Holds, suffix}
 use Rattle.int_search.specs.Orders.{IsRankLess, IsRankOrder}
 use Rattle.int_search.specs.Best.{HoldsBest, KeepsBest}

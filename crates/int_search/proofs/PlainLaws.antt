@@ -8,8 +8,8 @@ use Rattle.quadratic_form.proofs.VectorOrder.{less_never}
 use Rattle.form_tables.specs.declared.sizes.TheConstants.{MOST_INTEGERS}
 use Rattle.integer_form.specs.declared.form.Form.{Form}
 use Rattle.integer_form.specs.Forms.{integers_of, columns_of, value_of}
-use Rattle.suffix_search.specs.Order.{IsLess}
-use Rattle.suffix_search.specs.PlainCount.{HasLarge}
+use Rattle.int_search.specs.Order.{IsLess}
+use Rattle.int_search.specs.PlainCount.{HasLarge}
 use Rattle.int_search.specs.Images.{image_of}
 use Rattle.int_search.specs.SearchedForm.{search_form}
 use Rattle.int_search.specs.Walk.{search_image, IsTooWide}

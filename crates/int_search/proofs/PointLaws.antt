@@ -5,10 +5,10 @@ use Rattle.std.proofs.lemmas.Int.{ints, clamps}
 use Rattle.whole_math.specs.Rounding.{nearest_div}
 use Rattle.whole_math.proofs.Order.{polys}
 use Rattle.quadratic_form.specs.Rows.{value}
-use Rattle.suffix_search.specs.Suffixes.{SearchForm, IsSearchable, rest, offset, low}
-use Rattle.suffix_search.specs.PlainCount.{rounded, neighbour, first_moved, side, top, Counts}
-use Rattle.suffix_search.specs.VisitOrder.{IsWide}
-use Rattle.suffix_search.proofs.SuffixLaws.{low_grows}
+use Rattle.int_search.specs.Suffixes.{SearchForm, IsSearchable, rest, offset, low}
+use Rattle.int_search.specs.PlainCount.{rounded, neighbour, first_moved, side, top, Counts}
+use Rattle.int_search.specs.VisitOrder.{IsWide}
+use Rattle.int_search.proofs.SuffixLaws.{low_grows}
 use Rattle.int_search.specs.Vectors.{IsSmall, IsZeroFrom, suffix}
 use Rattle.int_search.proofs.SuffixArrays.{suffix-set, suffix-none, suffix-cons}
 

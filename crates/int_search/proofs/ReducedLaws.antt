@@ -19,13 +19,13 @@ use Rattle.decorrelate.proofs.InverseLaws.{inverse_of}
 use Rattle.integer_form.specs.declared.form.Form.{Form}
 use Rattle.integer_form.specs.Forms.{integers_of, columns_of, factors_of, value_of}
 use Rattle.integer_form.specs.Kept.{constant_form}
-use Rattle.reduced_form.specs.Transformed.{transformed_form}
-use Rattle.reduced_form.proofs.ImageLaws.{image_block, reduced_value}
-use Rattle.reduced_form.proofs.SameMaps.{AreSameInside, form_as, small_as, block_as}
-use Rattle.suffix_search.specs.Suffixes.{SearchForm}
-use Rattle.suffix_search.specs.PlainCount.{AreAtMost, Counts, HasLarge, IsOver, top}
-use Rattle.suffix_search.specs.VisitOrder.{IsReached}
-use Rattle.suffix_search.specs.Order.{IsLess}
+use Rattle.int_search.specs.Transformed.{transformed_form}
+use Rattle.int_search.proofs.MapImageLaws.{image_block, reduced_value}
+use Rattle.int_search.proofs.SameMaps.{AreSameInside, form_as, small_as, block_as}
+use Rattle.int_search.specs.Suffixes.{SearchForm}
+use Rattle.int_search.specs.PlainCount.{AreAtMost, Counts, HasLarge, IsOver, top}
+use Rattle.int_search.specs.VisitOrder.{IsReached}
+use Rattle.int_search.specs.Order.{IsLess}
 use Rattle.int_search.specs.Images.{image_of, IsMap}
 use Rattle.int_search.specs.SearchedForm.{search_form}
 use Rattle.int_search.specs.Walk.{CanSearch, search_image, IsTooWide}

@@ -1,11 +1,11 @@
 -- The rounded point and its neighbour as the first two best.
 use Rattle.std.proofs.Common.{◌≡◌, inl, inr, ℕ, ◌≤◌, ◌^◌, List, [], length, ℤ, pos, ◌≤ℤ◌, ◌<ℤ◌, sym, ap, ◌∙◌, arith}
 use Rattle.quadratic_form.specs.Rows.{value}
-use Rattle.suffix_search.specs.Suffixes.{SearchForm, IsSearchable}
-use Rattle.suffix_search.specs.PlainCount.{rounded, neighbour, top, HasLarge}
-use Rattle.suffix_search.specs.VisitOrder.{IsReached, IsWideIn}
-use Rattle.suffix_search.specs.Order.{IsOneToOne}
-use Rattle.suffix_search.proofs.VisitLaws.{wide_more, wide_image_more}
+use Rattle.int_search.specs.Suffixes.{SearchForm, IsSearchable}
+use Rattle.int_search.specs.PlainCount.{rounded, neighbour, top, HasLarge}
+use Rattle.int_search.specs.VisitOrder.{IsReached, IsWideIn}
+use Rattle.int_search.specs.Order.{IsOneToOne}
+use Rattle.int_search.proofs.VisitLaws.{wide_more, wide_image_more}
 use Rattle.int_search.specs.Vectors.{Holds, suffix}
 use Rattle.int_search.specs.Orders.{IsRankLess}
 use Rattle.int_search.specs.Walk.{IsFresh, BeginsWith, IsTooWide}

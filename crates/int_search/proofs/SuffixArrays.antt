@@ -4,7 +4,7 @@ use Rattle.std.proofs.Common.{length-drop, length-take}
 use Rattle.std.proofs.lemmas.Int.{ints}
 use Rattle.whole_math.specs.Vectors.{dot}
 use Rattle.quadratic_form.specs.Places.{list_from}
-use Rattle.suffix_search.specs.Levels.{tail_of}
+use Rattle.int_search.specs.Levels.{tail_of}
 use Rattle.int_search.specs.Vectors.{suffix}
 
 unfoldable cut : List ℤ → ℕ → ℕ → List ℤ

@@ -6,16 +6,16 @@ use Rattle.std.proofs.lemmas.Int.{ints}
 use Rattle.whole_math.proofs.Order.{polys}
 use Rattle.quadratic_form.specs.Rows.{value}
 use Rattle.form_tables.specs.declared.sizes.TheConstants.{MOST_INTEGERS}
-use Rattle.suffix_search.specs.Suffixes.{SearchForm, IsSearchable, rest, low, weight}
-use Rattle.suffix_search.specs.PlainCount.{AreAtMost, top, IsOver, HasLarge}
-use Rattle.suffix_search.specs.VisitOrder.{IsWide, IsWideIn}
-use Rattle.suffix_search.specs.Order.{IsLess, IsOneToOne}
-use Rattle.suffix_search.specs.Levels.{tail_of, IsLevel, Takes}
-use Rattle.suffix_search.specs.Search.{IsSearch, IsOffered}
-use Rattle.suffix_search.specs.LatestLevel.{IsLatest}
-use Rattle.suffix_search.specs.declared.stack.Level.{Level}
-use Rattle.suffix_search.proofs.SuffixLaws.{low-nil, low_from, value_from, weight_from, weight_to}
-use Rattle.suffix_search.proofs.SearchLaws.{search_pop, search_inner, search_leaf, search_over, search_wide, search_wide_image, search_start, search_done, search_visits}
+use Rattle.int_search.specs.Suffixes.{SearchForm, IsSearchable, rest, low, weight}
+use Rattle.int_search.specs.PlainCount.{AreAtMost, top, IsOver, HasLarge}
+use Rattle.int_search.specs.VisitOrder.{IsWide, IsWideIn}
+use Rattle.int_search.specs.Order.{IsLess, IsOneToOne}
+use Rattle.int_search.specs.Levels.{tail_of, IsLevel, Takes}
+use Rattle.int_search.specs.Search.{IsSearch, IsOffered}
+use Rattle.int_search.specs.LatestLevel.{IsLatest}
+use Rattle.int_search.specs.declared.stack.Level.{Level}
+use Rattle.int_search.proofs.SuffixLaws.{low-nil, low_from, value_from, weight_from, weight_to}
+use Rattle.int_search.proofs.SearchLaws.{search_pop, search_inner, search_leaf, search_over, search_wide, search_wide_image, search_start, search_done, search_visits}
 use Rattle.int_search.specs.Vectors.{IsSmall, Holds, suffix}
 use Rattle.int_search.specs.Steps.{IsFresh, Chooses, Moves, IsTermWithin}
 use Rattle.int_search.specs.Best.{HoldsBest, TakesOffer, KeepsBest}

@@ -4,10 +4,10 @@ use Rattle.quadratic_form.specs.Rows.{value}
 use Rattle.quadratic_form.specs.TwoLeast.{TwoLeast}
 use Rattle.integer_form.specs.declared.form.Form.{Form}
 use Rattle.integer_form.specs.Forms.{integers_of, columns_of, value_of}
-use Rattle.suffix_search.specs.Suffixes.{SearchForm}
-use Rattle.suffix_search.specs.PlainCount.{AreAtMost, IsOver}
-use Rattle.suffix_search.specs.VisitOrder.{IsWide}
-use Rattle.suffix_search.specs.Order.{AreTwoLeast}
+use Rattle.int_search.specs.Suffixes.{SearchForm}
+use Rattle.int_search.specs.PlainCount.{AreAtMost, IsOver}
+use Rattle.int_search.specs.VisitOrder.{IsWide}
+use Rattle.int_search.specs.Order.{AreTwoLeast}
 use Rattle.int_search.specs.Vectors.{IsSmall, Holds}
 use Rattle.int_search.specs.SearchedForm.{search_form}
 use Rattle.int_search.specs.Walk.{IsTooWide}

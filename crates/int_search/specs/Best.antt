@@ -1,9 +1,9 @@
 -- The two best vectors of a search so far.
 use Rattle.std.specs.Prelude.{◌≡◌, ℕ, List, length, ℤ}
 use Rattle.quadratic_form.specs.Rows.{value}
-use Rattle.suffix_search.specs.Suffixes.{SearchForm}
-use Rattle.suffix_search.specs.Order.{IsLess, IsOneToOne}
-use Rattle.suffix_search.specs.Search.{IsOffered}
+use Rattle.int_search.specs.Suffixes.{SearchForm}
+use Rattle.int_search.specs.Order.{IsLess, IsOneToOne}
+use Rattle.int_search.specs.Search.{IsOffered}
 use Rattle.int_search.specs.Vectors.{Holds}
 use Rattle.int_search.specs.declared.best.Best.{Best}
 

@@ -8,9 +8,9 @@ use Rattle.decorrelate.specs.Reducing.{IsReduced}
 use Rattle.integer_form.specs.declared.form.Form.{Form}
 use Rattle.integer_form.specs.Forms.{integers_of}
 use Rattle.integer_form.specs.Kept.{constant_form}
-use Rattle.reduced_form.specs.Transformed.{transformed_form, IsTransformedSmall}
-use Rattle.suffix_search.specs.Suffixes.{SearchForm}
-use Rattle.suffix_search.specs.PlainCount.{AreAtMost, Counts, HasLarge, IsOver, top}
+use Rattle.int_search.specs.Transformed.{transformed_form, IsTransformedSmall}
+use Rattle.int_search.specs.Suffixes.{SearchForm}
+use Rattle.int_search.specs.PlainCount.{AreAtMost, Counts, HasLarge, IsOver, top}
 use Rattle.int_search.specs.Answers.{IsVisitedIn}
 use Rattle.int_search.specs.declared.answer.TwoBest.{TwoBest}
 

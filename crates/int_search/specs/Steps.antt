@@ -1,6 +1,6 @@
 -- One level of a search, turn by turn.
 use Rattle.std.specs.Prelude.{◌≡◌, ◌≤◌, ◌^◌, ℤ, pos, ◌+ℤ◌, ◌-ℤ◌, ◌*ℤ◌, ◌<ℤ◌, ◌≤ℤ◌, neg_ℤ, unsigned_abs, Bool, true, false}
-use Rattle.suffix_search.specs.declared.stack.Level.{Level}
+use Rattle.int_search.specs.declared.stack.Level.{Level}
 
 -- a level where no entry is taken
 pub record IsFresh (rest low : ℤ) (a : Level) : Type 0 where

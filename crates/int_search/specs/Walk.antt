@@ -4,13 +4,13 @@ use Rattle.quadratic_form.specs.Rows.{value}
 use Rattle.form_tables.specs.declared.sizes.TheConstants.{MOST_INTEGERS}
 use Rattle.integer_form.specs.declared.form.Form.{Form}
 use Rattle.integer_form.specs.Forms.{integers_of}
-use Rattle.suffix_search.specs.Suffixes.{SearchForm, low}
-use Rattle.suffix_search.specs.PlainCount.{top, AreAtMost, IsOver}
-use Rattle.suffix_search.specs.VisitOrder.{IsWide, IsWideIn}
-use Rattle.suffix_search.specs.Order.{AreTwoLeast, IsLess, IsOneToOne}
-use Rattle.suffix_search.specs.Levels.{IsLevel}
-use Rattle.suffix_search.specs.Search.{IsSearch}
-use Rattle.suffix_search.specs.LatestLevel.{IsLatest}
+use Rattle.int_search.specs.Suffixes.{SearchForm, low}
+use Rattle.int_search.specs.PlainCount.{top, AreAtMost, IsOver}
+use Rattle.int_search.specs.VisitOrder.{IsWide, IsWideIn}
+use Rattle.int_search.specs.Order.{AreTwoLeast, IsLess, IsOneToOne}
+use Rattle.int_search.specs.Levels.{IsLevel}
+use Rattle.int_search.specs.Search.{IsSearch}
+use Rattle.int_search.specs.LatestLevel.{IsLatest}
 use Rattle.int_search.specs.Vectors.{IsSmall, suffix}
 use Rattle.int_search.specs.Images.{image_of, IsMap}
 use Rattle.int_search.specs.Steps.{Chooses}

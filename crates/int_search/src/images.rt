@@ -2,7 +2,7 @@
 ghost use Rattle.std.specs.Prelude.{◌≡◌, ℕ, ◌^◌, ◌<◌, ◌≤◌, List, [], ℤ, ◌*ℤ◌, unsigned_abs, slice_index_or, length, MatchOption};
 ghost use Rattle.whole_math.specs.Vectors.{dot};
 ghost use Rattle.form_tables.specs.declared.sizes.TheConstants.{MOST_INTEGERS};
-ghost use Rattle.suffix_search.specs.PlainCount.{HasLarge};
+ghost use Rattle.int_search.specs.PlainCount.{HasLarge};
 ghost use Rattle.int_search.specs.Vectors.{IsSmall, suffix, Holds};
 ghost use Rattle.int_search.specs.Images.{image_of, IsMap};
 

@@ -1,3 +1,4 @@
+//! ---- int_search
 //! The two integer vectors at which a form is least, found among all integer vectors.
 //!
 //! The search takes the entries of a vector from the last to the first and leaves out each suffix whose lower sum is past
@@ -20,20 +21,51 @@
 //! is the second search alone, with the first four clauses, `visits` in the form's own coordinates. No call takes
 //! memory. suffix_search has the definitions and the theory, over any form whose lower sums stay below its values;
 //! the engine takes a map to the coordinates of the answer, and `plain_best` gives it the identity.
+//! ---- reduced_form
+//! An integer form in the coordinates of a map: at each vector it has the value that the form has at the vector's image.
+//!
+//! `transformed` gives exactly the form of the integers and the constant in the coordinates of a map, with the matrix
+//! Mᵀ·p·M, where 1 stands for the constant, and the same h; it is refused exactly where an entry of this matrix is
+//! 2^52 or more in size. At each vector the new form has the value that the old one has at the vector's image
+//! (`value_law`). It takes no memory.
+//! ---- suffix_search
+//! The search for the two integer vectors at which a form is least, as a theory of suffixes, and its stack of levels.
+//!
+//! A suffix is the list of a vector's entries from one place on. Its lower sum is a lower bound of 2^60 times the form's
+//! value at each vector that ends with it, so a search that takes the entries from the last to the first can leave out a
+//! suffix whose lower sum is past the best values that it has met.
+//!
+//! `Stack` is seen in contracts as the list of its levels with the latest first, and its calls are exact: `push` puts a
+//! level before the others, of which there are fewer than 60 (`MOST_INTEGERS`), `pop` takes the latest away, `replace`
+//! puts one in its place, `top` is the latest and `len` the number of levels. Whoever calls `pop`, `replace` or `top`
+//! knows that there is one. Nothing is refused, and no memory is taken. No clause says what the numbers of a `Level` are
+//! to each other: the definitions `IsFresh`, `Chooses` and `Moves` of int_search do, and `IsLevel` here.
+//!
+//! `specs/` has what int_search promises by: lower sums (`Suffixes`), the order of vectors and the two least (`Order`),
+//! the plain count (`PlainCount`), which suffix comes first (`VisitOrder`), what levels leave open (`Levels`), what a search keeps from turn to turn (`Search`).
+//! `proofs/` has their laws for every form whose lower sums stay below its values (`IsSearchable`).
 #![tactic(auto)]
 
 mod answer;
 mod best;
+mod coordinates;
+mod halves;
 mod images;
+mod laws;
 mod orders;
 mod points;
+mod products;
 mod reduced;
 mod rests;
 mod search;
+mod stack;
 mod steps;
 mod values;
 mod walk;
 
 pub use answer::{SearchFault, TwoBest};
+pub use coordinates::transformed;
+pub use laws::value_law;
 pub use reduced::two_best;
 pub use search::plain_best;
+pub use stack::{Level, Stack};

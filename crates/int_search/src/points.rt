@@ -1,7 +1,7 @@
 //! The rounded point and its neighbour.
 ghost use Rattle.std.specs.Prelude.{◌<◌, MatchOption};
-ghost use Rattle.suffix_search.specs.PlainCount.{rounded, neighbour};
-ghost use Rattle.suffix_search.specs.VisitOrder.{IsWide};
+ghost use Rattle.int_search.specs.PlainCount.{rounded, neighbour};
+ghost use Rattle.int_search.specs.VisitOrder.{IsWide};
 ghost use Rattle.integer_form.specs.Forms.{integers_of};
 ghost use Rattle.int_search.specs.Vectors.{Holds};
 ghost use Rattle.int_search.specs.SearchedForm.{search_form};

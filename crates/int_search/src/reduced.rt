@@ -10,7 +10,7 @@ use decorrelate::reduce;
 use elimination::finish;
 use form_tables::BASELINE_COLUMNS;
 use integer_form::Form;
-use reduced_form::transformed;
+use crate::transformed;
 
 // The two least vectors, searched in the coordinates of the reduction; None where this attempt ends without an answer.
 fn reduced_best(form: &Form, budget: u64) -> Option<TwoBest>

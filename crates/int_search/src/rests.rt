@@ -1,6 +1,6 @@
 //! What the later entries of a vector and the constant give at an integer.
 ghost use Rattle.std.specs.Prelude.{◌≡◌, ◌+◌, ◌^◌, ◌<◌, ◌≤◌, ◌*ℤ◌, unsigned_abs};
-ghost use Rattle.suffix_search.specs.Suffixes.{rest};
+ghost use Rattle.int_search.specs.Suffixes.{rest};
 ghost use Rattle.integer_form.specs.Forms.{integers_of};
 ghost use Rattle.int_search.specs.Vectors.{IsSmall, suffix};
 ghost use Rattle.int_search.specs.SearchedForm.{search_form};

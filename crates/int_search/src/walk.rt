@@ -1,8 +1,8 @@
 //! The search, depth first from the last integer to the first, at each level the nearest entry first.
 ghost use Rattle.std.specs.Prelude.{◌≡◌, ◌+◌, ◌^◌, ◌<◌, ◌≤◌, length, unsigned_abs, MatchOption, MatchBool};
 ghost use Rattle.integer_form.specs.Forms.{integers_of};
-ghost use Rattle.suffix_search.specs.PlainCount.{HasLarge};
-ghost use Rattle.suffix_search.specs.VisitOrder.{IsWideIn};
+ghost use Rattle.int_search.specs.PlainCount.{HasLarge};
+ghost use Rattle.int_search.specs.VisitOrder.{IsWideIn};
 ghost use Rattle.int_search.specs.Vectors.{IsSmall, suffix};
 ghost use Rattle.int_search.specs.SearchedForm.{search_form};
 ghost use Rattle.int_search.specs.Walk.{CanSearch, search_image, IsWalk, IsFresh, BeginsWith, IsReach, IsPassed, IsPlainWalk, IsTooWide, Offers, Visits, Gives};
@@ -19,7 +19,7 @@ use crate::values::value_at;
 use form_tables::{BASELINE_COLUMNS, MOST_INTEGERS, MapTable};
 use integer_form::Form;
 use std::cmp::Ordering;
-use suffix_search::{Level, Stack};
+use crate::{Level, Stack};
 
 /// The state of a search.
 #[derive(Drop)]

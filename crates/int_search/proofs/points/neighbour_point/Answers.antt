@@ -1,9 +1,9 @@
 use Rattle.std.proofs.Common.{◌≡◌, ◌≤◌, ◌<◌, ◌^◌, List, get_or, ℤ, pos, negsuc, ◌+ℤ◌, ◌*ℤ◌, arith, sym, ◌∙◌, ap, unsigned_abs, to_z, w64, rules, length-set}
 use Rattle.std.proofs.lemmas.Int.{ints, to_z-of_z}
 use Rattle.integer_form.specs.Forms.{integers_of}
-use Rattle.suffix_search.specs.Suffixes.{SearchForm, offset}
-use Rattle.suffix_search.specs.PlainCount.{side}
-use Rattle.suffix_search.proofs.SuffixLaws.{offset-is}
+use Rattle.int_search.specs.Suffixes.{SearchForm, offset}
+use Rattle.int_search.specs.PlainCount.{side}
+use Rattle.int_search.proofs.SuffixLaws.{offset-is}
 use Rattle.int_search.specs.Vectors.{suffix}
 use Rattle.int_search.specs.SearchedForm.{search_form}
 use Rattle.int_search.proofs.FormNumbers.{searchable}

@@ -4,8 +4,8 @@ use Rattle.std.proofs.lemmas.Int.{ints, to_z-of_z}
 use Rattle.whole_math.specs.Rounding.{nearest_div}
 use Rattle.form_tables.specs.declared.sizes.TheConstants.{MOST_INTEGERS}
 use Rattle.integer_form.specs.Forms.{integers_of}
-use Rattle.suffix_search.specs.Suffixes.{SearchForm, rest}
-use Rattle.suffix_search.specs.PlainCount.{rounded}
+use Rattle.int_search.specs.Suffixes.{SearchForm, rest}
+use Rattle.int_search.specs.PlainCount.{rounded}
 use Rattle.int_search.specs.Vectors.{suffix}
 use Rattle.int_search.specs.SearchedForm.{search_form}
 use Rattle.int_search.proofs.FormNumbers.{searchable}

@@ -11,7 +11,7 @@ use Rattle.integer_form.specs.declared.front_form.FrontForm.{FrontForm}
 use Rattle.integer_form.specs.Forms.{integers_of}
 use Rattle.integer_form.specs.Kept.{form_of_table, constant_form}
 use Rattle.elimination.specs.Finish.{finish_of, IsFinishOf}
-use Rattle.reduced_form.specs.Transformed.{transformed_form, IsTransformed}
+use Rattle.int_search.specs.Transformed.{transformed_form, IsTransformed}
 use Rattle.int_search.specs.ReducedCounts.{HasCountIn, HasReducedCount}
 use Rattle.int_search.proofs.ReducedLaws.{IsDecorrelated, reduced_can, reduced_found, reduced_visits, reduced_fault, count_as}
 use Rattle.int_search.proofs.reduced.reduced_best.Goals as goal

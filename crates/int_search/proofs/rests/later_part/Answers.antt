@@ -8,7 +8,7 @@ use Rattle.form_tables.specs.declared.sizes.TheConstants.{MOST_INTEGERS}
 use Rattle.form_tables.specs.Tables.{entry}
 use Rattle.integer_form.specs.declared.form.Form.{Form}
 use Rattle.integer_form.specs.Forms.{integers_of}
-use Rattle.suffix_search.specs.Suffixes.{rest}
+use Rattle.int_search.specs.Suffixes.{rest}
 use Rattle.int_search.specs.Vectors.{suffix}
 use Rattle.int_search.specs.SearchedForm.{search_form}
 use Rattle.int_search.proofs.SuffixArrays.{affine_step, affine_end}

@@ -3,7 +3,7 @@ use Rattle.whole_math.specs.Vectors.{dot}
 use Rattle.quadratic_form.specs.Places.{list_from}
 use Rattle.form_tables.specs.Tables.{entry}
 use Rattle.integer_form.specs.Forms.{integers_of}
-use Rattle.suffix_search.specs.Suffixes.{rest}
+use Rattle.int_search.specs.Suffixes.{rest}
 use Rattle.int_search.specs.Vectors.{suffix}
 use Rattle.int_search.specs.SearchedForm.{search_form}
 use Rattle.int_search.proofs.rests.later_part.Given as goal

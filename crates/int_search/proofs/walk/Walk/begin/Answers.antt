@@ -2,7 +2,7 @@ use Rattle.std.proofs.Common.{◌≡◌, ◌+◌, ◌-◌, ◌^◌, [], ◌∷�
 use Rattle.std.specs.Int.{w128}
 use Rattle.std.proofs.lemmas.Int.{ints, to_z-of_z}
 use Rattle.form_tables.specs.declared.sizes.TheConstants.{MOST_INTEGERS}
-use Rattle.suffix_search.specs.Suffixes.{SearchForm, rest}
+use Rattle.int_search.specs.Suffixes.{SearchForm, rest}
 use Rattle.int_search.specs.Vectors.{suffix}
 use Rattle.int_search.specs.SearchedForm.{search_form}
 use Rattle.int_search.proofs.FormNumbers.{searchable}

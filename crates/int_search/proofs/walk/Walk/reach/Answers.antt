@@ -1,8 +1,8 @@
 use Rattle.std.proofs.Common.{◌≡◌, ◌≤◌, ◌+◌, ◌-◌, ◌^◌, get_or, pos, ◌+ℤ◌, ◌-ℤ◌, ◌*ℤ◌, ◌<ℤ◌, arith, unsigned_abs, to_z, of_z, w64}
 use Rattle.std.specs.Int.{w128}
 use Rattle.std.proofs.lemmas.Int.{ints, to_z-of_z}
-use Rattle.suffix_search.specs.Suffixes.{SearchForm}
-use Rattle.suffix_search.specs.declared.stack.Level.{Level}
+use Rattle.int_search.specs.Suffixes.{SearchForm}
+use Rattle.int_search.specs.declared.stack.Level.{Level}
 use Rattle.int_search.specs.SearchedForm.{search_form}
 use Rattle.int_search.specs.Steps.{IsTermWithin}
 use Rattle.int_search.specs.declared.walk.Walk.{Walk}

@@ -1,9 +1,9 @@
 use Rattle.std.proofs.Common.{rules, ◌≡◌, ◌<◌, ◌+◌, ◌-◌, ◌*◌, ℕ, List, length, drop, ℤ, arith, inl, inr, ap, sym, ◌∙◌, subst}
 use Rattle.std.proofs.lemmas.Int.{ints}
-use Rattle.suffix_search.specs.Suffixes.{SearchForm}
-use Rattle.suffix_search.specs.PlainCount.{IsOver}
-use Rattle.suffix_search.specs.declared.stack.Level.{Level}
-use Rattle.suffix_search.proofs.VisitLaws.{wide_image_more}
+use Rattle.int_search.specs.Suffixes.{SearchForm}
+use Rattle.int_search.specs.PlainCount.{IsOver}
+use Rattle.int_search.specs.declared.stack.Level.{Level}
+use Rattle.int_search.proofs.VisitLaws.{wide_image_more}
 use Rattle.int_search.specs.SearchedForm.{search_form}
 use Rattle.int_search.specs.Walk.{search_image, IsWalk, Visits}
 use Rattle.int_search.specs.declared.walk.Walk.{Walk}

@@ -1,0 +1,79 @@
+-- Different suffixes that all stand in a list are at most as many as the list has.
+use Rattle.std.proofs.Common.{◌≡◌, ◌≢◌, ◌⊎◌, inl, inr, ℕ, zero, suc, ◌+◌, ◌<◌, ◌≤◌, ◌^◌, List, [], ◌∷◌, length, get_or, ℤ, pos, ◌*ℤ◌, ◌<ℤ◌, ◌≤ℤ◌, arith, refl, sym, ◌∙◌, All}
+use Rattle.std.specs.List.{AllPairs, Contains}
+use Rattle.std.proofs.lemmas.Int.{ints}
+use Rattle.int_search.specs.Suffixes.{SearchForm, low}
+use Rattle.int_search.specs.PlainCount.{AreAtMost, IsWithin}
+use Rattle.int_search.specs.Search.{HasVisited, IsMet}
+use Rattle.int_search.specs.declared.stack.Level.{Level}
+
+-- q is one of the list
+abbrev IsOneOf : List (List ℤ) → List ℤ → Type 0
+IsOneOf [] q = ⊥
+IsOneOf (x ∷ xs) q = (x ≡ q) ⊎ IsOneOf xs q
+
+one_at : (xs : List (List ℤ)) (q : List ℤ) (k : ℕ) → k < length xs → get_or xs k q ≡ q → IsOneOf xs q
+one_at [] q k h e = absurd (omega arith)
+one_at (x ∷ xs) q zero h e = inl e
+one_at (x ∷ xs) q (suc k) h e = inr (one_at xs q k (omega arith) e)
+
+pub contains_first : (xs : List (List ℤ)) (q : List ℤ) → Contains (q ∷ xs) q
+contains_first xs q = (0, omega arith, refl)
+
+pub contains_later : (xs : List (List ℤ)) (x q : List ℤ) → Contains xs q → Contains (x ∷ xs) q
+contains_later xs x q c = (suc c.0, (let h = c.1 in omega arith), c.2)
+
+-- the list without that place
+without : (ys : List (List ℤ)) (q : List ℤ) → IsOneOf ys q → List (List ℤ)
+without [] q m = absurd m
+without (y ∷ ys) q (inl e) = ys
+without (y ∷ ys) q (inr m) = y ∷ without ys q m
+
+length-without : (ys : List (List ℤ)) (q : List ℤ) (m : IsOneOf ys q) → length (without ys q m) + 1 ≡ length ys
+unfolding without
+length-without [] q m = absurd m
+length-without (y ∷ ys) q (inl e) = omega arith
+length-without (y ∷ ys) q (inr m) = let r = length-without ys q m in omega arith
+
+still_there : (ys : List (List ℤ)) (q r : List ℤ) (m : IsOneOf ys q) → (q ≡ r → ⊥) → IsOneOf ys r → IsOneOf (without ys q m) r
+unfolding without
+still_there [] q r m d n = absurd m
+still_there (y ∷ ys) q r (inl e) d (inl g) = absurd (d (sym e ∙ g))
+still_there (y ∷ ys) q r (inl e) d (inr n) = n
+still_there (y ∷ ys) q r (inr m) d (inl g) = inl g
+still_there (y ∷ ys) q r (inr m) d (inr n) = inr (still_there ys q r m d n)
+
+at_most : (xs ys : List (List ℤ)) → AllPairs (λ s t. s ≢ t) xs → All (IsOneOf ys) xs → length xs ≤ length ys
+at_most [] ys d e = omega arith
+at_most (x ∷ xs) ys d e =
+    let m : IsOneOf ys x = e 0 x (omega arith) in
+    let n : length (without ys x m) + 1 ≡ length ys = length-without ys x m in
+    let r : length xs ≤ length (without ys x m) = at_most xs (without ys x m) (λ i j q l h. d (suc i) (suc j) q (omega arith) (omega arith))
+    (λ k q h. still_there ys x (get_or xs k q) m (d 0 (suc k) q (omega arith) (omega arith)) (e (suc k) q (omega arith))) in
+    omega arith
+
+not_past : (a l : ℤ) → l ≤ℤ a → a <ℤ l → ⊥
+not_past a l h k = omega (arith, ints)
+
+met_within : (f : SearchForm) (p : ℤ) (s q : List ℤ) (qs : List (List ℤ)) → IsWithin f p q → IsMet f p [] s qs q → IsOneOf qs q
+met_within f p s q qs w (inl c) = one_at qs q c.0 c.1 c.2
+met_within f p s q qs w (inr (inl g)) = absurd (not_past (pos (2 ^ 60) *ℤ p) (low f q) w.within g)
+met_within f p s q qs w (inr (inr o)) = absurd o
+
+-- different suffixes that a search has visited are at most as many as its visits
+pub within_most : (f : SearchForm) (p : ℤ) (fs : List Level) (s : List ℤ) (n : ℕ) (qs : List (List ℤ)) → AllPairs (λ q r. q ≢ r) qs → (v : HasVisited f p fs s n) →
+    All (Contains v.suffixes) qs → length qs ≤ n
+within_most f p fs s n qs d v w = let e = v.many in let l = at_most qs v.suffixes d (λ k q h. one (get_or qs k q) (w k q h)) in omega arith
+  where
+    one : (q : List ℤ) → Contains v.suffixes q → IsOneOf v.suffixes q
+    one q c = one_at v.suffixes q c.0 c.1 c.2
+
+-- where nothing is open, a search has visited each suffix that is within its bound
+pub visited_all : (f : SearchForm) (p : ℤ) (s : List ℤ) (n m : ℕ) → n ≤ m → HasVisited f p [] s n → AreAtMost f p m
+visited_all f p s n m h v = record { each = λ qs d w. most qs (at_most qs v.suffixes d (λ k q l. one (get_or qs k q) (w k q l))) }
+  where
+    one : (q : List ℤ) → IsWithin f p q → IsOneOf v.suffixes q
+    one q w = met_within f p s q v.suffixes w (v.met q w.some w.most)
+
+    most : (qs : List (List ℤ)) → length qs ≤ length v.suffixes → length qs ≤ m
+    most qs l = let e = v.many in omega arith

@@ -1,0 +1,185 @@
+-- The search's state over its turns.
+use Rattle.std.proofs.Common.{◌≡◌, ◌⊎◌, inl, inr, ℕ, ◌+◌, ◌<◌, ◌≤◌, ◌^◌, List, [], ◌∷◌, length, ℤ, pos, ◌+ℤ◌, ◌*ℤ◌, ◌<ℤ◌, ◌≤ℤ◌, arith, refl, ap, unsigned_abs}
+use Rattle.std.proofs.lemmas.Int.{ints}
+use Rattle.std.proofs.lemmas.List.Elements.{All-nil}
+use Rattle.whole_math.proofs.Order.{polys}
+use Rattle.quadratic_form.specs.Rows.{value}
+use Rattle.int_search.specs.Suffixes.{SearchForm, IsSearchable, low, offset, weight}
+use Rattle.int_search.specs.PlainCount.{AreAtMost, Counts, IsOver, HasLarge, top}
+use Rattle.int_search.specs.VisitOrder.{IsWide, IsWideIn}
+use Rattle.int_search.specs.Order.{IsLess, AreTwoLeast}
+use Rattle.int_search.specs.Levels.{tail_of, IsFree, IsOpenAt, IsOpen, IsLevel, AreUnder, AreLevels, Takes}
+use Rattle.int_search.specs.Search.{IsSettled, IsSearch, IsOffered}
+use Rattle.int_search.specs.declared.stack.Level.{Level}
+use Rattle.int_search.proofs.OrderLaws.{settled_first, settled_second, less_le}
+use Rattle.int_search.proofs.SuffixLaws.{IsNearest, far_all}
+use Rattle.int_search.proofs.OpenLaws.{leaf_closed, leaf_before, leaf_after, inner_closed, inner_before, inner_after, HasLast, has_last, visited_more, visited_same, visited_over}
+use Rattle.int_search.proofs.OpenLaws.{pop_settles, pop_after}
+use Rattle.int_search.proofs.Counting.{visited_all}
+use Rattle.int_search.proofs.VisitLaws.{next_reached}
+
+-- a suffix that is not past the second counts
+pub counts_from : (f : SearchForm) (x : ℤ) (s two : List ℤ) → length s < f.size → low f (x ∷ s) ≤ℤ (pos (2 ^ 60) *ℤ value f.p two) → value f.p two ≤ℤ top f → Counts f (x ∷ s)
+counts_from f x s two h k b = record { some = omega arith; most = omega arith; within = step (low f (x ∷ s)) (value f.p two) (top f) k b }
+  where
+    step : (l v t : ℤ) → l ≤ℤ (pos (2 ^ 60) *ℤ v) → v ≤ℤ t → l ≤ℤ (pos (2 ^ 60) *ℤ t)
+    step l v t h k = omega (arith, polys)
+
+-- the level and the second say that x::s is open
+pub open_head : (a : Level) (r : List Level) (x : ℤ) (s : List ℤ) → IsFree a x → IsOpen (a ∷ r) s (x ∷ s)
+open_head a r x s h = inl (record { head = x; front = []; split = refl; free = h })
+
+levels_tail : (f : SearchForm) (r : List Level) (s : List ℤ) → AreUnder f r s → AreLevels f r (tail_of s)
+levels_tail f [] s u = tt
+levels_tail f (b ∷ r) [] u = absurd u
+levels_tail f (b ∷ r) (x ∷ s) u = (u.0, u.2)
+
+pub search_pop : (f : SearchForm) (im : List ℤ → List ℤ) (a : Level) (r : List Level) (s one two : List ℤ) (n : ℕ) (c : ℤ) → IsSearchable f → IsSearch f im (a ∷ r) s one two n → IsNearest a c →
+    (pos (2 ^ 60) *ℤ value f.p two) <ℤ (low f s +ℤ (weight f s *ℤ (c *ℤ c))) → IsSearch f im r (tail_of s) one two n
+search_pop f im a r s one two n c h k m far = record {
+  one_size = k.one_size;
+  two_size = k.two_size;
+  ordered = k.ordered;
+  bound = k.bound;
+  levels = levels_tail f r s k.levels.1;
+  covered = record { each = λ v g. go v g (k.covered.each v g) };
+  visited = visited_same f (value f.p two) (a ∷ r) r s (tail_of s) n (λ v o. inr o) (λ v g. pop_after f (pos (2 ^ 60) *ℤ value f.p two) a r s v h g past) k.visited;
+}
+  where
+    past : (y : ℤ) → IsFree a y → (pos (2 ^ 60) *ℤ value f.p two) <ℤ low f (y ∷ s)
+    past = far_all f a s c (pos (2 ^ 60) *ℤ value f.p two) h k.levels.0 m far
+
+    go : (v : List ℤ) → length v ≡ f.size → IsSettled f im one two v ⊎ IsOpen (a ∷ r) s v → IsSettled f im one two v ⊎ IsOpen r (tail_of s) v
+    go v g (inl o) = inl o
+    go v g (inr o) = pop_settles f im a r s one two v h g past o
+
+le_same : (a : ℤ) → a ≤ℤ a
+le_same a = omega (arith, ints)
+
+pub search_inner : (f : SearchForm) (im : List ℤ → List ℤ) (a b c : Level) (r : List Level) (x : ℤ) (s one two : List ℤ) (n : ℕ) → IsSearch f im (a ∷ r) s one two n → Takes a x b →
+    IsLevel f b s → IsLevel f c (x ∷ s) → ((y : ℤ) → IsFree c y) →
+    low f (x ∷ s) ≤ℤ (pos (2 ^ 60) *ℤ value f.p two) → IsSearch f im (c ∷ b ∷ r) (x ∷ s) one two (n + 1)
+search_inner f im a b c r x s one two n k t fb fc all l = record {
+  one_size = k.one_size;
+  two_size = k.two_size;
+  ordered = k.ordered;
+  bound = k.bound;
+  levels = (fc, (fb, (t.above, t.under), k.levels.1));
+  covered = record { each = λ v g. go v g (k.covered.each v g) };
+  visited = visited_more f (value f.p two) (value f.p two) (a ∷ r) (c ∷ b ∷ r) s (x ∷ s) n (x ∷ s) (open_head a r x s t.was_free) (counts_from f x s two k.levels.0.shorter l k.bound)
+      (inner_closed f a b c r x s k.levels.1 t) (λ v. inner_before a b c r x s v t)
+      (le_same (value f.p two)) (λ v m. inner_after a b c r x s v t all) k.visited;
+}
+  where
+    longer : (v : List ℤ) → length v ≡ f.size → (v ≡ x ∷ s) ⊎ IsOpen (c ∷ b ∷ r) (x ∷ s) v → IsOpen (c ∷ b ∷ r) (x ∷ s) v
+    longer v g (inl e) = absurd (let m = fc.shorter in let w = ap length e in omega arith)
+    longer v g (inr o) = o
+
+    go : (v : List ℤ) → length v ≡ f.size → IsSettled f im one two v ⊎ IsOpen (a ∷ r) s v → IsSettled f im one two v ⊎ IsOpen (c ∷ b ∷ r) (x ∷ s) v
+    go v g (inl o) = inl o
+    go v g (inr o) = inr (longer v g (inner_after a b c r x s v t all o))
+
+le_chain : (a b c : ℤ) → a ≤ℤ b → b ≤ℤ c → a ≤ℤ c
+le_chain a b c h k = omega (arith, ints)
+
+pub offer_first : (f : SearchForm) (im : List ℤ → List ℤ) (one two z : List ℤ) → length one ≡ f.size → length z ≡ f.size → IsLess f im one two → IsLess f im z one → IsOffered f im one two z z one
+offer_first f im one two z a b o h = record { one_size = b; two_size = a; ordered = h; bound = less_le f im one two o; kept = λ v. settled_first f im one two z v o; offered = inl refl }
+
+pub offer_second : (f : SearchForm) (im : List ℤ → List ℤ) (one two z : List ℤ) → length one ≡ f.size → length z ≡ f.size → IsLess f im one z → IsLess f im z two → IsOffered f im one two z one z
+offer_second f im one two z a b o h = record { one_size = a; two_size = b; ordered = o; bound = less_le f im z two h; kept = λ v. settled_second f im one two z v h; offered = inr (inl refl) }
+
+pub offer_none : (f : SearchForm) (im : List ℤ → List ℤ) (one two z : List ℤ) → length one ≡ f.size → length two ≡ f.size → IsLess f im one two → IsSettled f im one two z →
+    IsOffered f im one two z one two
+offer_none f im one two z a b o h = record { one_size = a; two_size = b; ordered = o; bound = le_same (value f.p two); kept = λ v k. k; offered = h }
+
+pub search_leaf : (f : SearchForm) (im : List ℤ → List ℤ) (a b : Level) (r : List Level) (x : ℤ) (s one two new_one new_two : List ℤ) (n : ℕ) → IsSearch f im (a ∷ r) s one two n →
+    Takes a x b → IsLevel f b s → length s + 1 ≡ f.size →
+    low f (x ∷ s) ≤ℤ (pos (2 ^ 60) *ℤ value f.p two) → IsOffered f im one two (x ∷ s) new_one new_two → IsSearch f im (b ∷ r) s new_one new_two (n + 1)
+search_leaf f im a b r x s one two new_one new_two n k t fb e l o = record {
+  one_size = o.one_size;
+  two_size = o.two_size;
+  ordered = o.ordered;
+  bound = le_chain (value f.p new_two) (value f.p two) (top f) o.bound k.bound;
+  levels = (fb, k.levels.1);
+  covered = record { each = λ v g. go v g (k.covered.each v g) };
+  visited = visited_more f (value f.p two) (value f.p new_two) (a ∷ r) (b ∷ r) s s n (x ∷ s) (open_head a r x s t.was_free) (counts_from f x s two k.levels.0.shorter l k.bound)
+      (leaf_closed f a b r x s k.levels.1 t) (λ v. leaf_before a b r x s v t)
+      o.bound (λ v m. leaf_after a b r x s v f.size t e m) k.visited;
+}
+  where
+    along : (v : List ℤ) → v ≡ x ∷ s → IsSettled f im new_one new_two v
+    along v e = let P : List ℤ → Type 0 = λ w. IsSettled f im new_one new_two w in rw e o.offered
+
+    after : (v : List ℤ) → (v ≡ x ∷ s) ⊎ IsOpen (b ∷ r) s v → IsSettled f im new_one new_two v ⊎ IsOpen (b ∷ r) s v
+    after v (inl m) = inl (along v m)
+    after v (inr m) = inr m
+
+    go : (v : List ℤ) → length v ≡ f.size → IsSettled f im one two v ⊎ IsOpen (a ∷ r) s v → IsSettled f im new_one new_two v ⊎ IsOpen (b ∷ r) s v
+    go v g (inl m) = inl (o.kept v m)
+    go v g (inr m) = after v (leaf_after a b r x s v f.size t e (omega arith) m)
+
+pub search_over : (f : SearchForm) (im : List ℤ → List ℤ) (a : Level) (r : List Level) (x : ℤ) (s one two : List ℤ) (n : ℕ) → IsSearch f im (a ∷ r) s one two n → IsFree a x →
+    low f (x ∷ s) ≤ℤ (pos (2 ^ 60) *ℤ value f.p two) → IsOver f n
+search_over f im a r x s one two n k h l = visited_over f (value f.p two) (a ∷ r) s n (x ∷ s) (open_head a r x s h) (counts_from f x s two k.levels.0.shorter l k.bound) k.visited
+
+pub search_wide : (f : SearchForm) (im : List ℤ → List ℤ) (a : Level) (r : List Level) (x c : ℤ) (s one two : List ℤ) (n m : ℕ) → IsSearch f im (a ∷ r) s one two n → IsNearest a c →
+    offset f x s ≡ c → n < m → low f (x ∷ s) ≤ℤ (pos (2 ^ 60) *ℤ value f.p two) → 2 ^ 30 ≤ unsigned_abs x → IsWide f m
+search_wide f im a r x c s one two n m k e i h l w = record {
+  wide = inr (x ∷ s, (counts_from f x s two k.levels.0.shorter l k.bound, (0, w), inr (next_reached f im a r x c s one two n m k e i h)));
+}
+
+-- a full vector that is visited, and has a large entry in the coordinates of the answer
+pub search_wide_image : (f : SearchForm) (im : List ℤ → List ℤ) (a : Level) (r : List Level) (x c : ℤ) (s one two : List ℤ) (n m : ℕ) → IsSearch f im (a ∷ r) s one two n →
+    IsNearest a c → offset f x s ≡ c → n < m → length s + 1 ≡ f.size → low f (x ∷ s) ≤ℤ (pos (2 ^ 60) *ℤ value f.p two) → HasLarge (im (x ∷ s)) → IsWideIn f im m
+search_wide_image f im a r x c s one two n m k e i h g l w = record {
+  vector = x ∷ s;
+  full = omega arith;
+  counted = counts_from f x s two k.levels.0.shorter l k.bound;
+  large = w;
+  reached = inr (next_reached f im a r x c s one two n m k e i h);
+}
+
+pub search_end : (f : SearchForm) (im : List ℤ → List ℤ) (s one two : List ℤ) (n : ℕ) → IsSearch f im [] s one two n → AreTwoLeast f im one two
+search_end f im s one two n k = record { first_size = k.one_size; second_size = k.two_size; ordered = k.ordered; others = λ u g. go u (k.covered.each u g) }
+  where
+    go : (u : List ℤ) → IsSettled f im one two u ⊎ ⊥ → IsSettled f im one two u
+    go u (inl m) = m
+    go u (inr m) = absurd m
+
+pub search_start : (f : SearchForm) (im : List ℤ → List ℤ) (a : Level) (one two : List ℤ) → IsSearchable f → length one ≡ f.size → length two ≡ f.size → IsLess f im one two →
+    value f.p two ≤ℤ top f → IsLevel f a [] → ((y : ℤ) → IsFree a y) → IsSearch f im (a ∷ []) [] one two 0
+search_start f im a one two h p q o b fa all = record {
+  one_size = p;
+  two_size = q;
+  ordered = o;
+  bound = b;
+  levels = (fa, refl);
+  covered = record { each = λ v g. inr (inl (found v (full v g))) };
+  visited = record {
+    suffixes = [];
+    many = refl;
+    different = λ i j d k l. absurd (omega arith);
+    counted = All-nil (Counts f);
+    closed = All-nil (λ q. IsOpen (a ∷ []) [] q → ⊥);
+    met = λ q some most. inr (inr (inl (found q (ended q some))));
+  };
+}
+  where
+    ended : (q : List ℤ) → 0 < length q → HasLast q
+    ended [] g = absurd (omega arith)
+    ended (x ∷ q) g = has_last x q
+
+    full : (v : List ℤ) → length v ≡ f.size → HasLast v
+    full v g = ended v (let m = h.some in omega arith)
+
+    found : (v : List ℤ) → HasLast v → IsOpenAt a [] v
+    found v w = record { head = w.last; front = w.front; split = w.split; free = all w.last }
+
+pub search_done : (f : SearchForm) (im : List ℤ → List ℤ) (fs : List Level) (s one two : List ℤ) (n : ℕ) → length fs ≡ 0 → IsSearch f im fs s one two n → AreTwoLeast f im one two
+search_done f im [] s one two n e k = search_end f im s one two n k
+search_done f im (a ∷ fs) s one two n e k = absurd (omega arith)
+
+-- as many visits as it has made, each search makes at least that ends with the same second best value
+pub search_visits : (f : SearchForm) (im : List ℤ → List ℤ) (fs : List Level) (s one two : List ℤ) (n m : ℕ) → length fs ≡ 0 → n ≤ m → IsSearch f im fs s one two n → AreAtMost f (value f.p two) m
+search_visits f im [] s one two n m e l k = visited_all f (value f.p two) s n m l k.visited
+search_visits f im (a ∷ fs) s one two n m e l k = absurd (omega arith)
