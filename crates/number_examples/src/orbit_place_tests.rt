@@ -3,7 +3,7 @@ ghost use Rattle.std.specs.Prelude.{◌*◌, ◌^◌, ◌≤◌, pos, ◌≤ℤ�
 
 use iv_core::Iv;
 use orbit_place::{AXIS, Orbit, place_of};
-use rotation_box::eccentric_pair;
+use orbit_place::eccentric_pair;
 use sized_box::SizedBox;
 use std::process::Abort;
 

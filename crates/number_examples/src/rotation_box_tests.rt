@@ -1,6 +1,6 @@
 //! Sums, doubles and true anomalies as mpmath gives them.
 use iv_core::Iv;
-use rotation_box::{Rotation, eccentric_pair, on_ellipse, rotation_of, wide_rotation_of};
+use orbit_place::{Rotation, eccentric_pair, on_ellipse, rotation_of, wide_rotation_of};
 use sized_box::SizedBox;
 
 const LIMIT: u64 = 1 << 60;

@@ -3,3 +3,10 @@ pub mod Transports
 pub mod Spheres
 pub mod Turned
 pub mod Distances
+pub mod Circle
+pub mod Reaches
+pub mod Turns
+pub mod Angles
+pub mod Roots
+pub mod RootCertificates
+pub mod Ellipses

@@ -12,9 +12,9 @@ use Rattle.iv_core.specs.declared.Iv.{Iv}
 use Rattle.iv_core.specs.Intervals.{width_of, IsWithin}
 use Rattle.trig_box.specs.AnglePairs.{Pair}
 use Rattle.orbit_model.specs.Solution.{one}
-use Rattle.rotation_box.specs.Rotations.{HasPairNearCircle, HoldsBoth, IsNearCircle}
-use Rattle.rotation_box.proofs.Circle.{part_size}
-use Rattle.rotation_box.proofs.Reaches.{part_within}
+use Rattle.orbit_place.specs.Rotations.{HasPairNearCircle, HoldsBoth, IsNearCircle}
+use Rattle.orbit_place.proofs.Circle.{part_size}
+use Rattle.orbit_place.proofs.Reaches.{part_within}
 use Rattle.orbit_place.specs.Directions.{direction, HoldsPoint, IsNearSphere, HasPointNearSphere}
 
 -- ---- how far the boxes reach

@@ -10,7 +10,7 @@ use Rattle.iv_core.specs.declared.Iv.{Iv}
 use Rattle.iv_core.specs.Intervals.{Holds}
 use Rattle.trig_box.specs.AnglePairs.{Pair}
 use Rattle.orbit_model.specs.Solution.{ArePairs}
-use Rattle.rotation_box.specs.Rotations.{HoldsBoth}
+use Rattle.orbit_place.specs.Rotations.{HoldsBoth}
 
 pub held_along : {k : ℕ} (b : Iv k) (p q : Rational) → q ≈ p → Holds b p → Holds b q
 held_along {k} b p q e h = InBox-along k b.lo b.hi p q (≈_sym q p e) h

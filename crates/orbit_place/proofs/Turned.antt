@@ -3,8 +3,8 @@ use Rattle.std.proofs.Common.{◌≡◌, ℕ, sym, subst}
 use Rattle.rational.specs.Rational.{add_r, sub_r, mul_r}
 use Rattle.iv_core.specs.declared.Iv.{Iv}
 use Rattle.trig_box.specs.AnglePairs.{Pair}
-use Rattle.rotation_box.specs.Rotations.{HoldsBoth}
-use Rattle.rotation_box.proofs.Turns.{HoldsAll}
+use Rattle.orbit_place.specs.Rotations.{HoldsBoth}
+use Rattle.orbit_place.proofs.Turns.{HoldsAll}
 use Rattle.orbit_place.specs.Directions.{Point, direction, HoldsPoint}
 
 pub direction_held : (uc us ic is nc ns across first second third fourth x y z : Iv 60) →

@@ -6,7 +6,7 @@ use Rattle.iv_core.specs.declared.Iv.{Iv}
 use Rattle.iv_core.specs.Intervals.{Holds}
 use Rattle.orbit_model.specs.Elements.{Elements, Constants}
 use Rattle.orbit_model.specs.Solution.{Quantities, IsSatelliteSolution}
-use Rattle.rotation_box.specs.Rotations.{HoldsBoth}
+use Rattle.orbit_place.specs.Rotations.{HoldsBoth}
 use Rattle.orbit_place.specs.declared.orbit.Orbit.{Orbit}
 
 -- the boxes hold the numbers of a record and the quantities that the place is made from; times are over 10^4 s, and rates are times it

@@ -3,13 +3,13 @@ ghost use Rattle.std.specs.Prelude.{◌*◌, ◌<◌, pos};
 ghost use Rattle.rational.specs.Rational.{Rational, add_r, sub_r, mul_r, times, of_whole};
 ghost use Rattle.iv_core.specs.Intervals.{Holds};
 ghost use Rattle.orbit_model.specs.Elements.{earth_rate};
-ghost use Rattle.rotation_box.specs.Rotations.{HoldsBoth};
+ghost use Rattle.orbit_place.specs.Rotations.{HoldsBoth};
 ghost use Rattle.orbit_place.specs.Held.{ForSolutions};
 
 use crate::plane::{ANGLE_CHANGE, ANGLE_CHANGE_WIDTH, TWICE_WIDTH, angle_change};
 use crate::{ANGLE, EPOCH_TIME, Orbit, SMALL, TINY};
 use iv_core::Iv;
-use rotation_box::{Rotation, rotation_of, wide_rotation_of};
+use crate::{Rotation, rotation_of, wide_rotation_of};
 use sized_box::SizedBox;
 
 // What the inclination turns by since the reference epoch.

@@ -2,13 +2,13 @@
 ghost use Rattle.std.specs.Prelude.{◌≡◌, ◌≤◌, pos, ◌≤ℤ◌};
 ghost use Rattle.iv_core.specs.Intervals.{width_of};
 ghost use Rattle.trig_box.specs.AnglePairs.{Pair};
-ghost use Rattle.rotation_box.specs.Rotations.{HoldsBoth};
+ghost use Rattle.orbit_place.specs.Rotations.{HoldsBoth};
 ghost use Rattle.orbit_place.specs.Directions.{direction, HoldsPoint, HasPointNearSphere};
 
 use crate::angles::{INCLINATION_WIDTH, NODE_WIDTH};
 use crate::plane::CORRECTED_WIDTH;
 use iv_core::Iv;
-use rotation_box::{Rotation, SIZE};
+use crate::{Rotation, SIZE};
 use sized_box::SizedBox;
 
 // A product of two parts of pairs, and of three.

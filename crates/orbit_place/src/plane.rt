@@ -4,11 +4,11 @@ ghost use Rattle.rational.specs.Rational.{Rational, add_r, mul_r};
 ghost use Rattle.iv_core.specs.Intervals.{Holds};
 ghost use Rattle.trig_box.specs.AnglePairs.{Pair};
 ghost use Rattle.orbit_model.specs.Solution.{harmonic, turned, IsPairOf5};
-ghost use Rattle.rotation_box.specs.Rotations.{HoldsBoth};
+ghost use Rattle.orbit_place.specs.Rotations.{HoldsBoth};
 ghost use Rattle.orbit_place.specs.Held.{ForSolutions};
 
 use crate::{ANGLE, AXIS, Orbit, RADIUS_CHANGE, SMALL};
-use rotation_box::{RADIUS, RADIUS_WIDTH, Rotation, TRUE_WIDTH, on_ellipse, rotation_of};
+use crate::{RADIUS, RADIUS_WIDTH, Rotation, TRUE_WIDTH, on_ellipse, rotation_of};
 use sized_box::SizedBox;
 
 const PERIGEE_WIDTH: u64 = 544;

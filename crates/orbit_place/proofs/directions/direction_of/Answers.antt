@@ -1,4 +1,4 @@
-use Rattle.rotation_box.proofs.Turns.{both_along}
+use Rattle.orbit_place.proofs.Turns.{both_along}
 use Rattle.orbit_place.specs.Directions.{direction}
 use Rattle.orbit_place.proofs.Spheres.{has_direction}
 use Rattle.orbit_place.proofs.Turned.{direction_held, point_along}

@@ -1,7 +1,7 @@
 use Rattle.rational.specs.Rational.{add_r, sub_r, mul_r}
 use Rattle.trig_box.specs.AnglePairs.{double}
 use Rattle.orbit_model.specs.Solution.{one, harmonic, turned}
-use Rattle.rotation_box.specs.Rotations.{HoldsBoth}
+use Rattle.orbit_place.specs.Rotations.{HoldsBoth}
 use Rattle.orbit_place.specs.Held.{ForSolutions}
 use Rattle.orbit_place.proofs.Transports.{held_along, pair_along, radius_with}
 use Rattle.orbit_place.proofs.plane.in_plane.Goals as goal

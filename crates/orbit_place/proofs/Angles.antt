@@ -1,0 +1,56 @@
+-- The boxes of the pairs of the angles of a box hold one near the circle.
+use Rattle.std.proofs.Common.{ℕ, ◌+◌, ◌*◌, ◌^◌, ◌≤◌, ℤ, pos, ◌+ℤ◌, ◌*ℤ◌, neg_ℤ, ◌≤ℤ◌, arith, lit≤}
+use Rattle.std.proofs.lemmas.Int.{ints}
+use Rattle.whole_math.proofs.Order.{le_pos}
+use Rattle.rational.specs.Rational.{Rational, ◌≤ʳ◌, add_r, mul_r, of_scale, two_to_minus}
+use Rattle.rational.proofs.Boxes.{end_in}
+use Rattle.iv_core.specs.declared.Iv.{Iv}
+use Rattle.iv_core.specs.Intervals.{Holds, IsWithin}
+use Rattle.trig_box.specs.AnglePairs.{InRange, IsAnglePair}
+use Rattle.trig_box.proofs.PairLaws.{canonical_exists, canonical_is_pair, norm_law_5, norm_law_7}
+use Rattle.orbit_place.proofs.Circle.{near_looser}
+use Rattle.orbit_place.specs.Rotations.{HasPairNearCircle}
+
+-- the lower end of a box is an angle in it
+low_end_in : (b : Iv 56) → Holds b (of_scale 56 b.lo)
+low_end_in b = end_in 56 b.lo b.hi b.lo (omega (arith, ints)) b.ordered
+
+in_range_5 : (a : ℤ) → neg_ℤ (pos (2 ^ 60)) ≤ℤ a → a ≤ℤ pos (2 ^ 60) → InRange 5 (of_scale 56 a)
+in_range_5 a h k = omega (arith, ints)
+
+in_range_7 : (a : ℤ) → neg_ℤ (pos (2 ^ 62)) ≤ℤ a → a ≤ℤ pos (2 ^ 62) → InRange 7 (of_scale 56 a)
+in_range_7 a h k = omega (arith, ints)
+
+pub near_circle_5 : (b : Iv 56) (cos sin : Iv 60) → IsWithin (2 ^ 60) b → ((x c s : Rational) → Holds b x → IsAnglePair 5 x c s → Holds cos c × Holds sin s) → HasPairNearCircle 1 cos sin
+near_circle_5 b cos sin r h =
+    let x : Rational = of_scale 56 b.lo in
+    let e = canonical_exists 5 x (in_range_5 b.lo r.0 (below b.lo b.hi b.ordered r.1)) in
+    let p = canonical_is_pair 5 x e.0 e.1 e.2 in
+    record { pair = record { cos = e.0; sin = e.1 }; held = h x e.0 e.1 (low_end_in b) p; near = norm_law_5 x e.0 e.1 p }
+  where
+    below : (a b : ℤ) → a ≤ℤ b → b ≤ℤ pos (2 ^ 60) → a ≤ℤ pos (2 ^ 60)
+    below a b h k = omega (arith, ints)
+
+fourth : two_to_minus 14 ≤ʳ of_scale 16 (pos 4)
+fourth = le_pos _ _ (lit≤ tt)
+
+pub near_circle_7 : (b : Iv 56) (cos sin : Iv 60) → ((x c s : Rational) → Holds b x → IsAnglePair 7 x c s → Holds cos c × Holds sin s) → HasPairNearCircle 4 cos sin
+near_circle_7 b cos sin h =
+    let x : Rational = of_scale 56 b.lo in
+    let e = canonical_exists 7 x (in_range_7 b.lo b.low (below b.lo b.hi b.ordered b.high)) in
+    let p = canonical_is_pair 7 x e.0 e.1 e.2 in
+    let n = norm_law_7 x e.0 e.1 p in
+    record { pair = record { cos = e.0; sin = e.1 }; held = h x e.0 e.1 (low_end_in b) p; near = near_looser (two_to_minus 14) (of_scale 16 (pos 4)) (add_r (mul_r e.0 e.0) (mul_r e.1 e.1)) fourth n }
+  where
+    below : (a b : ℤ) → a ≤ℤ b → b ≤ℤ pos (2 ^ 62) → a ≤ℤ pos (2 ^ 62)
+    below a b h k = omega (arith, ints)
+
+-- ---- sizes and widths
+pub within_16 : (n : ℕ) (b : Iv 56) → IsWithin n b → n ≤ 2 ^ 60 → IsWithin (2 ^ 60) b
+within_16 n b h k = (omega (arith, ints, h.0, k), omega (arith, ints, h.1, k))
+
+pub narrow_5 : (w d : ℤ) (m n : ℕ) → w ≤ℤ pos m → d ≤ℤ (pos 512 +ℤ (pos 32 *ℤ w)) → 512 + 32 * m ≤ n → d ≤ℤ pos n
+narrow_5 w d m n h k l = omega (arith, ints)
+
+pub narrow_7 : (w d : ℤ) (m n : ℕ) → w ≤ℤ pos m → d ≤ℤ (pos 4096 +ℤ (pos 32 *ℤ w)) → 4096 + 32 * m ≤ n → d ≤ℤ pos n
+narrow_7 w d m n h k l = omega (arith, ints)

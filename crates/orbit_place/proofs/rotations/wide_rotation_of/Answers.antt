@@ -1,0 +1,25 @@
+use Rattle.std.proofs.Common.{arith, refl}
+use Rattle.orbit_place.proofs.Angles.{near_circle_7, narrow_7}
+use Rattle.orbit_place.proofs.Turns.{both_along}
+use Rattle.orbit_place.proofs.wide_rotation_of.Goals as goal
+
+pub new-requires : goal.new-requires
+new-requires g c =
+    let a = c.args.angle.now in
+    let b = c.pair_box-pair.result in
+    let w = c.pair_box-pair.ensures.width_of_seven refl in (
+      omega arith,
+      (
+        ∣ near_circle_7 a.held b.cos b.sin c.pair_box-pair.ensures.holds ∣₁,
+        (
+          narrow_7 _ _ g.row.ANGLE_WIDTH g.row.WIDTH a.narrow w.0 c.requires.width,
+          (narrow_7 _ _ g.row.ANGLE_WIDTH g.row.WIDTH a.narrow w.1 c.requires.width, (omega arith, c.requires.fine)),
+        ),
+      ),
+    )
+
+pub returns : goal.returns
+returns g c = record {
+  holds = λ x p h k. both_along c.new.result.cos c.new.result.sin c.pair_box-pair.result.cos c.pair_box-pair.result.sin p c.new.ensures.cos
+      c.new.ensures.sin (c.pair_box-pair.ensures.holds x p.cos p.sin h k);
+}
