@@ -4,7 +4,7 @@ use Rattle.std.specs.Int.{abs_diff}
 use Rattle.orbit_model.specs.Elements.{Constants, sent_at}
 use Rattle.orbit_model.specs.Solution.{Quantities, IsNearSolution}
 use Rattle.orbit_exists.specs.Usable.{HasNearSolution}
-use Rattle.orbit_laws.proofs.Ranges.{near}
+use Rattle.orbit_exists.proofs.Ranges.{near}
 use Rattle.orbit_clock.specs.Records.{elements_of}
 use Rattle.sv_orbit.specs.Solutions.{HoldsSolution}
 use Rattle.report_text.specs.Orbit.{orbit_lines}
