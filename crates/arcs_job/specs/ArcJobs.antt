@@ -12,7 +12,7 @@ use Rattle.sv_orbit.specs.Worlds.{world_of}
 use Rattle.screening.specs.Screening.{setting_of, AreUsedPairs}
 use Rattle.run_options.specs.declared.options.Options.{Options}
 use Rattle.obs_rows.specs.BandSets.{bands_of}
-use Rattle.session_begin.specs.Beginnings.{IsPosition, AreSignals, AreSparse, AreTaken}
+use Rattle.epoch_pair.specs.Beginnings.{IsPosition, AreSignals, AreSparse, AreTaken}
 use Rattle.arcs_job.specs.ArcLines.{arcs_text}
 use Rattle.job_answers.specs.declared.status.Status.TheVariants.{Done}
 use Rattle.job_answers.specs.Endings.{Ending, ending}

@@ -7,7 +7,7 @@
 
 ghost use Rattle.std.specs.Prelude.{IfOk};
 ghost use Rattle.obs_rows.specs.BandSets.{bands_of};
-ghost use Rattle.session_begin.specs.Beginnings.{IsPosition, AreSignals, AreSparse, AreTaken};
+ghost use Rattle.epoch_pair.specs.Beginnings.{IsPosition, AreSignals, AreSparse, AreTaken};
 ghost use Rattle.screening.specs.Screening.{ArePairsOf};
 ghost use Rattle.arcs_job.specs.ArcJobs.{AreArcsOf, AnswersArcs};
 
@@ -19,7 +19,7 @@ use obs_store::ObsFile;
 pub use report::write_arcs;
 use run_options::Options;
 use screening::screen_in;
-use session_begin::{Begun, SessionFault, begin};
+use epoch_pair::{Begun, SessionFault, begin};
 use session_files::SessionCommand;
 use slip_arcs::{Arcs, cut};
 use std::alloc::{AllocError, Global};

@@ -16,7 +16,7 @@ use rinex_obs::read_obs;
 use round_steps::Rounds;
 use run_options::Options;
 use session::{FileRounds, FileRun, screened};
-use session_begin::begin;
+use epoch_pair::begin;
 use signal_travel::is_receiver_point;
 use sim_session::{Made, make};
 use std::alloc::{AllocError, Global};

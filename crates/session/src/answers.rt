@@ -9,7 +9,7 @@ ghost use Rattle.session.specs.Answers.{GoesOn, IsAnswer, IsBestAnswer};
 use cert_data::{Answer, Cert, RoundCounts};
 use obs_rows::Arc;
 use round_steps::{End, Rounds, are_few, are_many, free_count, run};
-use session_begin::Options;
+use epoch_pair::Options;
 use std::alloc::{AllocError, Global};
 
 /// An answer, with the rounds that were made for it.

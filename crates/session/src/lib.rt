@@ -23,4 +23,4 @@ pub use cert_data::{Answer, Cert, Outcome, RoundCounts, Stage, Tail};
 pub use file_rounds::{FileRounds, FileRun};
 pub use outcomes::{have_delta, outcome};
 pub use runs::{process, screened};
-pub use session_begin::{Begun, Options, PairWhat, SessionFault, begin};
+pub use epoch_pair::{Begun, Options, PairWhat, SessionFault, begin};

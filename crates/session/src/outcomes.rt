@@ -11,7 +11,7 @@ use cert_data::Outcome;
 use obs_rows::Arc;
 use obs_store::ObsFile;
 use round_steps::Rounds;
-use session_begin::{Begun, Options};
+use epoch_pair::{Begun, Options};
 use std::alloc::{AllocError, Global};
 
 fn has_delta(file: &ObsFile) -> bool

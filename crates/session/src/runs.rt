@@ -4,7 +4,7 @@ ghost use Rattle.obs_store.specs.Epochs.{tags_of};
 ghost use Rattle.epoch_pair.specs.Pairs.{Follows, IsNearPair};
 ghost use Rattle.slip_arcs.specs.Linked.{IsCutOf};
 ghost use Rattle.row_build.specs.Halves.{AreBaseHalves};
-ghost use Rattle.session_begin.specs.Beginnings.{IsPosition, IsSessionFault};
+ghost use Rattle.epoch_pair.specs.Beginnings.{IsPosition, IsSessionFault};
 ghost use Rattle.session.specs.Answers.{AreAllowed, IsBestAnswer};
 ghost use Rattle.session.specs.Outcomes.{AreScreened, IsOutcome};
 
@@ -13,7 +13,7 @@ use cert_data::Outcome;
 use eph_store::NavFile;
 use obs_store::ObsFile;
 use row_build::{base_halves, screen_in};
-use session_begin::{Begun, Options, SessionFault, begin};
+use epoch_pair::{Begun, Options, SessionFault, begin};
 use slip_arcs::cut;
 use std::alloc::{AllocError, Global};
 use sv_orbit::world_of;

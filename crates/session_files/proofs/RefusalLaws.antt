@@ -6,12 +6,12 @@ use Rattle.eph_store.specs.File.{Records}
 use Rattle.epoch_pair.specs.Pairs.{AreApart, IsFirstClose}
 use Rattle.epoch_pair.specs.Faults.{IsDense}
 use Rattle.run_options.specs.declared.options.Options.{Options}
-use Rattle.session_begin.specs.declared.faults.PairWhat.{PairWhat}
-use Rattle.session_begin.specs.declared.faults.PairWhat.TheVariants.{NoBasePosition, NoSignal, Dense}
-use Rattle.session_begin.specs.declared.faults.SessionFault.TheVariants as fault
+use Rattle.epoch_pair.specs.declared.faults.PairWhat.{PairWhat}
+use Rattle.epoch_pair.specs.declared.faults.PairWhat.TheVariants.{NoBasePosition, NoSignal, Dense}
+use Rattle.epoch_pair.specs.declared.faults.SessionFault.TheVariants as fault
 use Rattle.obs_rows.specs.BandSets.{bands_of}
-use Rattle.session_begin.specs.Beginnings.{HasPosition, HaveSignals, AreSparse, IsSessionFault}
-use Rattle.session_begin.proofs.BeginLaws.{no_lack}
+use Rattle.epoch_pair.specs.Beginnings.{HasPosition, HaveSignals, AreSparse, IsSessionFault}
+use Rattle.epoch_pair.proofs.BeginLaws.{no_lack}
 use Rattle.rinex_head.specs.Systems.{system_of}
 use Rattle.job_answers.specs.Endings.{Ending}
 use Rattle.session_files.specs.SessionFiles.{AreFilesOf}

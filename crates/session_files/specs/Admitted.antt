@@ -7,7 +7,7 @@ use Rattle.obs_source.specs.Formats.{HasObservation}
 use Rattle.rinex_nav.specs.NavForm.{HasNavFile}
 use Rattle.run_options.specs.declared.options.Options.{Options}
 use Rattle.obs_rows.specs.BandSets.{bands_of}
-use Rattle.session_begin.specs.Beginnings.{HasPosition, HaveSignals, AreSparse}
+use Rattle.epoch_pair.specs.Beginnings.{HasPosition, HaveSignals, AreSparse}
 use Rattle.job_answers.specs.Endings.{IsAdmitted}
 use Rattle.session_files.specs.SessionFiles.{IsObsOf}
 

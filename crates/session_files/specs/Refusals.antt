@@ -5,10 +5,10 @@ use Rattle.std.specs.Fmt.{decimal}
 use Rattle.line_source.specs.Openings.{Unread}
 use Rattle.obs_store.specs.declared.file.ObsFile.{ObsFile}
 use Rattle.run_options.specs.declared.options.Options.{Options}
-use Rattle.session_begin.specs.declared.faults.PairWhat.{PairWhat}
-use Rattle.session_begin.specs.declared.faults.PairWhat.TheVariants.{NoBasePosition, NoSignal, Dense}
-use Rattle.session_begin.specs.declared.faults.SessionFault.TheVariants as fault
-use Rattle.session_begin.specs.Beginnings.{IsSessionFault}
+use Rattle.epoch_pair.specs.declared.faults.PairWhat.{PairWhat}
+use Rattle.epoch_pair.specs.declared.faults.PairWhat.TheVariants.{NoBasePosition, NoSignal, Dense}
+use Rattle.epoch_pair.specs.declared.faults.SessionFault.TheVariants as fault
+use Rattle.epoch_pair.specs.Beginnings.{IsSessionFault}
 use Rattle.job_answers.specs.declared.status.Status.{Status}
 use Rattle.job_answers.specs.declared.status.Status.TheVariants.{Refused}
 use Rattle.job_answers.specs.Endings.{Ending, ending, IsRefusedFile}

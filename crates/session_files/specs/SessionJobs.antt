@@ -6,9 +6,9 @@ use Rattle.obs_store.specs.declared.file.ObsFile.{ObsFile}
 use Rattle.eph_store.specs.File.{Records}
 use Rattle.rinex_head.specs.Systems.{system_of}
 use Rattle.run_options.specs.declared.options.Options.{Options}
-use Rattle.session_begin.specs.declared.faults.PairWhat.{PairWhat}
-use Rattle.session_begin.specs.declared.faults.SessionFault.{SessionFault}
-use Rattle.session_begin.specs.declared.faults.SessionFault.TheVariants.{Refused}
+use Rattle.epoch_pair.specs.declared.faults.PairWhat.{PairWhat}
+use Rattle.epoch_pair.specs.declared.faults.SessionFault.{SessionFault}
+use Rattle.epoch_pair.specs.declared.faults.SessionFault.TheVariants.{Refused}
 use Rattle.job_answers.specs.declared.status.Status.{Status}
 use Rattle.job_answers.specs.Statuses.{IsVerdictStatus}
 use Rattle.job_answers.specs.Endings.{Ending}

@@ -1,7 +1,7 @@
 //! The commands on the three files of a session.
 ghost use Rattle.std.specs.Prelude.{[], ◌∷◌, IfOk};
-ghost use Rattle.session_begin.specs.Beginnings.{IsSessionFault};
-ghost use Rattle.session_begin.specs.declared.faults.SessionFault.TheVariants as fault;
+ghost use Rattle.epoch_pair.specs.Beginnings.{IsSessionFault};
+ghost use Rattle.epoch_pair.specs.declared.faults.SessionFault.TheVariants as fault;
 ghost use Rattle.job_answers.specs.Answers.{ending_of, IfEnded};
 ghost use Rattle.job_answers.specs.Works.{file_work, IsDoneOver};
 ghost use Rattle.session_files.specs.SessionJobs.{SessionAnswers, AreAnswered, EndsOnFiles, SessionEnds, IsPairLine, IfPairRefused};
@@ -13,7 +13,7 @@ use line_source::Files;
 use obs_store::ObsFile;
 use rinex_head::System;
 use run_options::Options;
-use session_begin::SessionFault;
+use epoch_pair::SessionFault;
 use std::alloc::Global;
 
 /// A command on the three files of a session, by what it answers of them.

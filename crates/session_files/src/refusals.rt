@@ -8,7 +8,7 @@ ghost use Rattle.job_answers.specs.Endings.{ending};
 ghost use Rattle.session_files.specs.Refusals.{pair_line};
 
 use job_answers::{JobOutput, Status};
-use session_begin::PairWhat;
+use epoch_pair::PairWhat;
 use std::alloc::{AllocError, Global};
 
 // The line about two files that are refused.

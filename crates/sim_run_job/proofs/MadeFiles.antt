@@ -31,7 +31,7 @@ use Rattle.obs_rows.specs.Ranges.{IsSystem}
 use Rattle.obs_rows.specs.declared.units.TheConstants.{BANDS_12, BANDS_15, BANDS_125}
 use Rattle.obs_rows.specs.declared.bands.Signals.{Signals}
 use Rattle.epoch_pair.specs.Signals.{letter_on, letter_of, is_among, IsLetterFor}
-use Rattle.session_begin.specs.Beginnings.{HasPosition, HaveSignals, AreSparse}
+use Rattle.epoch_pair.specs.Beginnings.{HasPosition, HaveSignals, AreSparse}
 use Rattle.job_answers.specs.Endings.{IsTextOf}
 use Rattle.session_files.specs.SessionFiles.{IsObsOf}
 use Rattle.session_files.specs.Admitted.{AreAdmitted}

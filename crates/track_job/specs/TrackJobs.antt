@@ -14,7 +14,7 @@ use Rattle.cert_data.specs.declared.verdicts.Verdict.TheVariants.{Certified}
 use Rattle.cert_check.specs.Verdicts.{IsGivenUp}
 use Rattle.run_options.specs.declared.options.Options.{Options}
 use Rattle.obs_rows.specs.BandSets.{bands_of}
-use Rattle.session_begin.specs.Beginnings.{IsPosition, AreSignals, AreTaken}
+use Rattle.epoch_pair.specs.Beginnings.{IsPosition, AreSignals, AreTaken}
 use Rattle.job_answers.specs.declared.status.Status.{Status}
 use Rattle.job_answers.specs.declared.status.Status.TheVariants.{Done, Declined}
 use Rattle.job_answers.specs.Endings.{Ending, ending}

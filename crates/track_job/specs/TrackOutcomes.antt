@@ -15,7 +15,7 @@ use Rattle.screening.specs.declared.screened.Screened.{Screened}
 use Rattle.screening.specs.Screening.{setting_of, AreUsedPairs, IsSvPair}
 use Rattle.round_steps.specs.Counts.{AreFew, AreMany}
 use Rattle.run_options.specs.declared.options.Options.{Options}
-use Rattle.session_begin.specs.Beginnings.{IsPosition, AreSignals, AreSparse, AreTaken, pairs_of}
+use Rattle.epoch_pair.specs.Beginnings.{IsPosition, AreSignals, AreSparse, AreTaken, pairs_of}
 use Rattle.session.specs.Answers.{HasDelta}
 use Rattle.track_data.specs.declared.tracks.Track.{Track}
 use Rattle.track_data.specs.declared.tails.TrackTail.{TrackTail}

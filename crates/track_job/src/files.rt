@@ -3,14 +3,14 @@ ghost use Rattle.std.specs.Prelude.{◌≤◌, All, AllPairs, length, IfOk};
 ghost use Rattle.obs_store.specs.Epochs.{tags_of};
 ghost use Rattle.epoch_pair.specs.Pairs.{Follows, IsNearPair};
 ghost use Rattle.slip_arcs.specs.Linked.{IsCutOf};
-ghost use Rattle.session_begin.specs.Beginnings.{IsPosition};
+ghost use Rattle.epoch_pair.specs.Beginnings.{IsPosition};
 ghost use Rattle.track_job.specs.TrackOutcomes.{AreScreenedArcs};
 
 use eph_store::NavFile;
 use obs_rows::ArcList;
 use obs_store::ObsFile;
 use screening::{Screened, screen_in};
-use session_begin::{Begun, Options};
+use epoch_pair::{Begun, Options};
 use slip_arcs::cut;
 use std::alloc::{AllocError, Global};
 use sv_orbit::world_of;

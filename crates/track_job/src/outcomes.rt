@@ -5,7 +5,7 @@ ghost use Rattle.obs_rows.specs.declared.bands.Signals.{Signals};
 ghost use Rattle.obs_rows.specs.ReceiverPoints.{IsReceiverPoint};
 ghost use Rattle.slip_arcs.specs.Linked.{IsCutOf};
 ghost use Rattle.screening.specs.declared.screened.Screened.{Screened};
-ghost use Rattle.session_begin.specs.Beginnings.{IsSessionFault};
+ghost use Rattle.epoch_pair.specs.Beginnings.{IsSessionFault};
 ghost use Rattle.track_rows.specs.Tracks.{IsTrackOf};
 ghost use Rattle.track_job.specs.TrackOutcomes.{IsTrackable, IsTrackAnswer, IsTrackOutcome};
 
@@ -15,7 +15,7 @@ use obs_rows::Arc;
 use obs_store::ObsFile;
 use round_steps::{are_few, are_many, free_count};
 use session::have_delta;
-use session_begin::{Begun, Options, SessionFault, begin};
+use epoch_pair::{Begun, Options, SessionFault, begin};
 use std::alloc::{AllocError, Global};
 use track_data::{Items, Lost, TrackCert, Tracked};
 use track_form::decide_track;

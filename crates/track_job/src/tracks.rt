@@ -8,7 +8,7 @@ use eph_store::NavFile;
 use job_answers::{JobOutput, Status};
 use obs_store::ObsFile;
 use run_options::Options;
-use session_begin::SessionFault;
+use epoch_pair::SessionFault;
 use session_files::SessionCommand;
 use std::alloc::Global;
 use track_report::{TrackAnswer, is_track_fixed, write_track_outcome};

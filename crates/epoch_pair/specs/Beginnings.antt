@@ -11,9 +11,9 @@ use Rattle.epoch_pair.specs.Signals.{AreLettersOf, LacksLetter}
 use Rattle.obs_rows.specs.BandSets.{bands_of}
 use Rattle.run_options.specs.declared.options.Options.{Options}
 use Rattle.obs_rows.specs.ReceiverPoints.{IsReceiverPoint}
-use Rattle.session_begin.specs.declared.faults.PairWhat.TheVariants.{NoBasePosition, NoSignal, Dense}
-use Rattle.session_begin.specs.declared.faults.SessionFault.{SessionFault}
-use Rattle.session_begin.specs.declared.faults.SessionFault.TheVariants.{Refused, NoMemory}
+use Rattle.epoch_pair.specs.declared.faults.PairWhat.TheVariants.{NoBasePosition, NoSignal, Dense}
+use Rattle.epoch_pair.specs.declared.faults.SessionFault.{SessionFault}
+use Rattle.epoch_pair.specs.declared.faults.SessionFault.TheVariants.{Refused, NoMemory}
 
 -- the header has this position, from 6,000 km to 7,000 km from the Earth's centre
 pub record IsPosition (file : ObsFile) (p : List ℤ) : Type 0 where

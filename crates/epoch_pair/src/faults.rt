@@ -1,6 +1,6 @@
 //! Why two files are refused.
 ghost use Rattle.std.specs.Prelude.{◌≡◌};
-ghost use Rattle.session_begin.specs.declared.faults.SessionFault.TheVariants.{NoMemory};
+ghost use Rattle.epoch_pair.specs.declared.faults.SessionFault.TheVariants.{NoMemory};
 
 use std::alloc::AllocError;
 use thiserror::Error;

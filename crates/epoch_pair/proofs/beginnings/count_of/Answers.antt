@@ -1,8 +1,8 @@
 use Rattle.std.proofs.Common.{◌≡◌, ◌≤◌, length, arith}
 use Rattle.std.proofs.lemmas.List.{length-map}
 use Rattle.obs_store.specs.Epochs.{tags_of}
-use Rattle.session_begin.proofs.BeginLaws.{few_pairs}
-use Rattle.session_begin.proofs.beginnings.count_of.Goals as goal
+use Rattle.epoch_pair.proofs.BeginLaws.{few_pairs}
+use Rattle.epoch_pair.proofs.beginnings.count_of.Goals as goal
 
 pub overflow_cast-result : goal.overflow_cast-result
 overflow_cast-result c =

@@ -3,10 +3,10 @@ use Rattle.obs_store.specs.Epochs.{tags_of}
 use Rattle.epoch_pair.specs.declared.pairs.PairOf.{PairOf}
 use Rattle.epoch_pair.specs.Pairs.{Follows, IsTaken, IsNearPair}
 use Rattle.obs_rows.specs.BandSets.{bands_of}
-use Rattle.session_begin.specs.Beginnings.{HaveSignals}
+use Rattle.epoch_pair.specs.Beginnings.{HaveSignals}
 use Rattle.epoch_pair.proofs.Uses.{taken_all, taken_pairs}
-use Rattle.session_begin.proofs.BeginLaws.{refused_pair}
-use Rattle.session_begin.proofs.beginnings.begin.Goals as goal
+use Rattle.epoch_pair.proofs.BeginLaws.{refused_pair}
+use Rattle.epoch_pair.proofs.beginnings.begin.Goals as goal
 
 pub returns-in-Err-clause-refused : goal.returns-in-Err-clause-refused
 returns-in-Err-clause-refused c =

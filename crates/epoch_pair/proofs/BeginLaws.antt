@@ -8,8 +8,8 @@ use Rattle.epoch_pair.specs.declared.pairs.PairFault.{PairFault}
 use Rattle.epoch_pair.specs.declared.pairs.PairFault.TheVariants.{Dense, NoMemory}
 use Rattle.epoch_pair.specs.Faults.{IsPairFault}
 use Rattle.run_options.specs.declared.options.Options.{Options}
-use Rattle.session_begin.specs.declared.faults.SessionFault.{SessionFault}
-use Rattle.session_begin.specs.Beginnings.{HasPosition, HaveSignals, LackSignal, IsSessionFault, fault_of}
+use Rattle.epoch_pair.specs.declared.faults.SessionFault.{SessionFault}
+use Rattle.epoch_pair.specs.Beginnings.{HasPosition, HaveSignals, LackSignal, IsSessionFault, fault_of}
 use Rattle.obs_rows.specs.BandSets.{bands_of}
 use Rattle.epoch_pair.specs.Pairs.{Follows}
 use Rattle.epoch_pair.specs.Signals.{letter_on, letter_of, IsLetterFor}

@@ -3,10 +3,10 @@ ghost use Rattle.std.specs.Prelude.{◌≡◌, ◌<◌, ◌≤◌, All, AllPairs
 ghost use Rattle.obs_store.specs.Epochs.{tags_of};
 ghost use Rattle.epoch_pair.specs.Pairs.{Follows, IsNearPair};
 ghost use Rattle.obs_rows.specs.BandSets.{bands_of};
-ghost use Rattle.session_begin.specs.Beginnings.{IsPosition, LacksPosition, AreSignals, AreSparse, IsSessionFault, pairs_of, AreTaken, fault_of};
+ghost use Rattle.epoch_pair.specs.Beginnings.{IsPosition, LacksPosition, AreSignals, AreSparse, IsSessionFault, pairs_of, AreTaken, fault_of};
 
 use crate::{PairWhat, SessionFault};
-use epoch_pair::{PairFault, PairOf, pair, signals, take};
+use crate::{PairFault, PairOf, pair, signals, take};
 use obs_rows::{Signals, is_receiver_point};
 use obs_store::ObsFile;
 use run_options::Options;
