@@ -18,7 +18,7 @@ use Rattle.cert_data.specs.declared.outcomes.Answer.{Answer}
 use Rattle.cert_data.specs.declared.outcomes.Answer.TheVariants as answer
 use Rattle.cert_data.specs.declared.tails.Tail.{Tail}
 use Rattle.cert_data.specs.declared.tails.Tail.TheVariants as tail
-use Rattle.settled_decision.specs.Decided.{IsBestWhereFixed}
+use Rattle.cert_check.specs.Settled.{IsBestWhereFixed}
 use Rattle.run_options.specs.declared.options.Options.{Options}
 use Rattle.session.specs.Answers.{IsBestAnswer}
 use Rattle.outcome_report.specs.OutcomeText.{is_fixed}

@@ -2,3 +2,5 @@ pub mod SameForms
 pub mod OneVerdict
 pub mod Checked
 pub mod SaidLaws
+pub mod DecidedLaws
+pub mod WeakLaws

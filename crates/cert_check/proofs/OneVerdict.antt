@@ -19,7 +19,7 @@ use Rattle.cert_data.specs.declared.verdicts.Verdict.{Verdict}
 use Rattle.cert_data.specs.declared.verdicts.Verdict.TheVariants.{Certified, Not}
 use Rattle.cert_data.specs.declared.verdicts.Cause.TheVariants as cause
 use Rattle.cert_check.specs.Decided.{Numbers, IsDecided, AreSame, Says}
-use Rattle.settled_decision.specs.Decided.{IsRefused}
+use Rattle.cert_check.specs.Settled.{IsRefused}
 use Rattle.cert_check.specs.Verdicts.{HasBest, IsMoveWide, IsSumWide, IsWideAt, IsVerdictOf, IsGivenUp, IsSameVerdict, verdict_of}
 use Rattle.cert_check.specs.Visits.{RestsWithin}
 use Rattle.lower_form.proofs.Exponents.{has_exponent}

@@ -12,8 +12,8 @@ use Rattle.cert_data.specs.declared.tails.Tail.TheVariants.{Fixed, Unseparated, 
 use Rattle.cert_data.specs.declared.verdicts.Verdict.{Verdict}
 use Rattle.cert_data.specs.declared.verdicts.Verdict.TheVariants.{Certified, Not}
 use Rattle.cert_data.specs.declared.verdicts.Cause.TheVariants as cause
-use Rattle.settled_decision.specs.Decided.{AreFound, IsDecision, IsBestWhereFixed, tail_of}
-use Rattle.settled_decision.specs.RowDecisions.{IsDecidedByFault, IsRowDecision}
+use Rattle.cert_check.specs.Settled.{AreFound, IsDecision, IsBestWhereFixed, tail_of}
+use Rattle.cert_check.specs.RowDecisions.{IsDecidedByFault, IsRowDecision}
 use Rattle.cert_check.specs.Decided.{IsDecided, numbers, IsBestIn}
 use Rattle.cert_check.specs.Said.{IsSaidOf}
 use Rattle.cert_check.specs.Verdicts.{IsWideAt, IsVerdictOf, verdict_of}

@@ -17,7 +17,7 @@ use Rattle.cert_data.specs.declared.tails.Tail.{Tail}
 use Rattle.cert_data.specs.declared.verdicts.Verdict.{Verdict}
 use Rattle.cert_data.specs.declared.verdicts.Verdict.TheVariants.{Certified, Not}
 use Rattle.cert_data.specs.declared.verdicts.Cause.TheVariants as cause
-use Rattle.settled_decision.specs.Decided.{IsRefused}
+use Rattle.cert_check.specs.Settled.{IsRefused}
 use Rattle.cert_check.specs.Decided.{Numbers, IsDecided, IsFixed, Says}
 
 -- the plain count of the rows' form is over the budget, and no reduced count is within it

@@ -9,7 +9,7 @@ ghost use Rattle.cert_check.specs.Visits.{RestsWithin};
 
 use crate::tails::says;
 use cert_data::{Cause, Cert, Tail, Verdict};
-use settled_decision::decide_rows;
+use crate::decide_rows;
 
 /// What is said of rows that are decided so, where a text has this tail.
 fn said_of(decided: &Tail, tail: &Tail) -> Verdict

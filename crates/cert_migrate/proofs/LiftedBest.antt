@@ -19,12 +19,12 @@ use Rattle.fix_decide.specs.Ratios.{IsBestByRatio}
 use Rattle.fix_decide.proofs.DecisionLaws.{best_by_ratio}
 use Rattle.cert_data.specs.declared.tails.Tail.{Tail}
 use Rattle.cert_data.specs.declared.tails.Tail.TheVariants.{Fixed, Unseparated, Weak, Overwidth, Unsettled, Spent}
-use Rattle.settled_decision.specs.Decided.{IsBestWhereFixed, tail_of}
+use Rattle.cert_check.specs.Settled.{IsBestWhereFixed, tail_of}
 use Rattle.cert_migrate.specs.declared.old_sessions.OldSession.{OldSession}
 use Rattle.cert_migrate.specs.OldTails.{old_integer_count}
 use Rattle.cert_migrate.specs.OldSums.{at, old_sum, IsOldBest, IsOldBestByRatio}
 use Rattle.cert_migrate.specs.Lifted.{IsLiftedSession, unit_ratio, scaled, scaled_baseline, in_old_unit, IsOldBestWhereFixed, IsOldBestByRatioWhereFixed}
-use Rattle.settled_decision.specs.RowDecisions.{IsRowDecision}
+use Rattle.cert_check.specs.RowDecisions.{IsRowDecision}
 use Rattle.cert_migrate.proofs.Scaling.{AreScaledBaselines, less_back}
 use Rattle.cert_migrate.proofs.LiftedArcs.{count_same}
 use Rattle.cert_migrate.proofs.LiftedData.{signals_are, data_scaled}

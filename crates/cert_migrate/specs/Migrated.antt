@@ -3,7 +3,7 @@ use Rattle.std.specs.Prelude.{◌≡◌}
 use Rattle.cert_data.specs.declared.certs.Cert.{Cert}
 use Rattle.cert_migrate.specs.declared.old_certs.OldCert.{OldCert}
 use Rattle.cert_migrate.specs.Lifted.{IsLiftedSession, HasScaledData, HasScaledSums, IsOldBestWhereFixed, IsOldBestByRatioWhereFixed}
-use Rattle.settled_decision.specs.RowDecisions.{IsRowDecision}
+use Rattle.cert_check.specs.RowDecisions.{IsRowDecision}
 
 -- The session is lifted and the rows are decided again. The old boxes' data are data of the new ones, the sums of squares
 -- are those of the old session in the new unit, and what is fixed is strictly best in the old boxes, and best by the ratio.

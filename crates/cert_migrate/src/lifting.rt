@@ -1,13 +1,13 @@
 //! A certificate of the first version, lifted to the present one.
 ghost use Rattle.std.specs.Prelude.{◌≡◌, map, IfOk};
 ghost use Rattle.cert_migrate.specs.Lifted.{lifted_arc, IsLiftedSession, HasScaledData, HasScaledSums, IsOldBestWhereFixed, IsOldBestByRatioWhereFixed};
-ghost use Rattle.settled_decision.specs.RowDecisions.{IsRowDecision};
+ghost use Rattle.cert_check.specs.RowDecisions.{IsRowDecision};
 
 use crate::lifted_rows::lifted_pairs;
 use crate::{OldArc, OldCert, OldSession};
 use cert_data::Cert;
 use obs_rows::{Arc, ArcList, PairList, Session, Signals};
-use settled_decision::decide_rows;
+use cert_check::decide_rows;
 use std::alloc::{AllocError, Global};
 
 fn lifted_arc(arc: &OldArc) -> Arc

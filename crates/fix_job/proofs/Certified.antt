@@ -14,7 +14,7 @@ use Rattle.cert_data.specs.declared.verdicts.Verdict.TheVariants.{Certified}
 use Rattle.cert_check.specs.Decided.{Numbers, IsFixed, Says, numbers}
 use Rattle.cert_check.specs.Verdicts.{IsVerdictOf, IsGivenUp}
 use Rattle.cert_check.proofs.OneVerdict.{one_verdict}
-use Rattle.settled_decision.specs.Decided.{IsDecision}
+use Rattle.cert_check.specs.Settled.{IsDecision}
 use Rattle.round_steps.specs.Steps.{IsRoundDeclined}
 use Rattle.round_steps.specs.Runs.{Rules, EndsFull, is_last}
 use Rattle.run_options.specs.declared.options.Options.{Options}

@@ -10,7 +10,7 @@ use Rattle.cert_data.specs.declared.tails.Tail.TheVariants as tail
 use Rattle.eph_store.specs.File.{Records}
 use Rattle.obs_store.specs.declared.file.ObsFile.{ObsFile}
 use Rattle.run_options.specs.declared.options.Options.{Options}
-use Rattle.settled_decision.specs.Decided.{IsBestWhereFixed}
+use Rattle.cert_check.specs.Settled.{IsBestWhereFixed}
 use Rattle.cert_check.specs.Decided.{IsBestByRatioIn}
 use Rattle.cert_check.proofs.Checked.{certified_by_ratio}
 use Rattle.session.specs.Answers.{IsBestAnswer}

@@ -14,7 +14,7 @@ use Rattle.cert_data.specs.declared.outcomes.RoundCounts.{RoundCounts}
 use Rattle.cert_data.specs.declared.outcomes.Stage.TheVariants.{Coarse, Fine}
 use Rattle.obs_rows.specs.ReceiverPoints.{IsReceiverPoint}
 use Rattle.round_steps.specs.Shifts.{AreGrown, AreSameArcs, AreShiftsBelow}
-use Rattle.settled_decision.specs.Decided.{IsDecision}
+use Rattle.cert_check.specs.Settled.{IsDecision}
 use Rattle.round_steps.specs.Steps.{IsSettledForm, IsMoved, IsRoundDeclined}
 use Rattle.round_steps.specs.Runs.{Round, Rules, round_of, IsSessionOf, IsSessionAt, coarse, fine, IsRunTo, rounds_at, rounds_with, most_rounds, is_last, Reaches, EndsEarly, EndsFull, coarse_alone, SettlesAt}
 use Rattle.round_steps.proofs.ShiftLaws.{grown_same}

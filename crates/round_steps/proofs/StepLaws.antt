@@ -9,9 +9,9 @@ use Rattle.cert_data.specs.Tails.{IsTailOf}
 use Rattle.cert_data.specs.declared.tails.Tail.{Tail}
 use Rattle.cert_data.specs.declared.tails.Tail.TheVariants.{Fixed, Unseparated, Weak, Overwidth, Unsettled, Spent}
 use Rattle.round_steps.specs.Limits.{IsFirstOver}
-use Rattle.settled_decision.specs.Decided.{IsBestWhereFixed}
+use Rattle.cert_check.specs.Settled.{IsBestWhereFixed}
 use Rattle.round_steps.specs.Steps.{IsRoundDeclined, IsUnsettled}
-use Rattle.settled_decision.proofs.WeakLaws.{weak_fits}
+use Rattle.cert_check.proofs.WeakLaws.{weak_fits}
 use Rattle.whole_math.proofs.Words.{as_w64}
 
 -- a number that isn't wide fits its word

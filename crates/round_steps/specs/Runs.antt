@@ -17,7 +17,7 @@ use Rattle.round_steps.specs.declared.runs.End.{End}
 use Rattle.round_steps.specs.declared.runs.CoarseEnd.{CoarseEnd}
 use Rattle.round_steps.specs.Shifts.{AreGrown}
 use Rattle.obs_rows.specs.ReceiverPoints.{IsReceiverPoint}
-use Rattle.settled_decision.specs.Decided.{IsDecision, IsBestWhereFixed}
+use Rattle.cert_check.specs.Settled.{IsDecision, IsBestWhereFixed}
 use Rattle.round_steps.specs.Steps.{IsSettledForm, IsMoved, IsRoundDeclined}
 
 -- a round: its scale, the rover's point, and the arcs with their shifts

@@ -8,7 +8,7 @@ use Rattle.integer_form.specs.FloatPoint.{item, float_point, HasWide}
 use Rattle.fix_decide.specs.Decisions.{IsFormOf}
 use Rattle.cert_data.specs.declared.tails.Tail.{Tail}
 use Rattle.cert_data.specs.declared.tails.Tail.TheVariants.{Fixed, Unseparated, Weak, Overwidth, Unsettled, Spent}
-use Rattle.settled_decision.specs.Decided.{IsRefused}
+use Rattle.cert_check.specs.Settled.{IsRefused}
 use Rattle.round_steps.specs.declared.steps.Step.{Step}
 use Rattle.round_steps.specs.declared.steps.Step.TheVariants.{Settled, Moved}
 use Rattle.obs_rows.specs.ReceiverPoints.{IsReceiverPoint}

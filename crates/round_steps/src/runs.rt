@@ -13,7 +13,7 @@ use crate::{Step, grown, round_step};
 use cert_data::{RoundCounts, Stage, Tail};
 use integer_form::Place;
 use obs_rows::{Arc, COARSE_SCALE, Session, fine_signals};
-use settled_decision::decide_settled;
+use cert_check::decide_settled;
 use std::alloc::{AllocError, Global};
 
 /// What gives a run its sessions, and counts them.

@@ -3,7 +3,7 @@ ghost use Rattle.std.specs.Prelude.{◌≡◌, ℕ, ◌^◌, ◌<◌, Bool, List
 ghost use Rattle.integer_form.specs.FloatPoint.{item, float_point, HasWide};
 ghost use Rattle.fix_decide.specs.Decisions.{IsFormOf};
 ghost use Rattle.cert_data.specs.Tails.{IsTailOf};
-ghost use Rattle.settled_decision.specs.Decided.{IsBestWhereFixed};
+ghost use Rattle.cert_check.specs.Settled.{IsBestWhereFixed};
 ghost use Rattle.round_steps.specs.Steps.{IsStep, IsRoundDeclined};
 
 use crate::limits::first_over;
@@ -14,7 +14,7 @@ use integer_form::{Form, Place};
 use lower_form::lower;
 use normal_sum::sum;
 use obs_rows::{Session, is_receiver_point};
-use settled_decision::tail_of;
+use cert_check::tail_of;
 
 /// A session's form and the numbers of its float point.
 #[derive(Clone, Copy, Debug)]

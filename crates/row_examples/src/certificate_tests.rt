@@ -14,7 +14,7 @@ use cert_text::{read_cert, write_cert};
 use obs_rows::{Session, are_arcs};
 use row_build::rows_at;
 use run_options::Options;
-use settled_decision::{decide_settled, form_of_rows};
+use cert_check::{decide_settled, form_of_rows};
 use signal_travel::is_receiver_point;
 use std::alloc::Global;
 use std::process::Abort;

@@ -10,7 +10,7 @@ use Rattle.cert_data.specs.declared.outcomes.Answer.TheVariants.{Few, Arcs, Earl
 use Rattle.run_options.specs.declared.options.Options.{Options}
 use Rattle.round_steps.specs.Counts.{AreFew, AreMany}
 use Rattle.round_steps.specs.Runs.{Rules, most_rounds, EndsEarly, EndsFull}
-use Rattle.settled_decision.specs.Decided.{IsBestWhereFixed}
+use Rattle.cert_check.specs.Settled.{IsBestWhereFixed}
 
 -- four satellites are in kept arcs in some pair, and the arcs aren't too many
 pub record GoesOn (rules : Rules) (taken : ℕ) : Type 0 where

@@ -17,7 +17,7 @@ use Rattle.int_search.specs.declared.answer.TwoBest.{TwoBest}
 use Rattle.int_search.specs.Answers.{IsTwoBest}
 use Rattle.fix_decide.specs.Decisions.{first_of, second_of}
 use Rattle.fix_decide.proofs.SessionForms.{some_phases, small_value, first_length, all_narrow}
-use Rattle.settled_decision.proofs.DecidedLaws.{InRange, in_range, first_least}
+use Rattle.cert_check.proofs.DecidedLaws.{InRange, in_range, first_least}
 use Rattle.cert_data.specs.Tails.{IsMove}
 use Rattle.integer_form.specs.FloatPoint.{HasWide}
 use Rattle.track_data.specs.TrackTails.{AreTrackVectors}

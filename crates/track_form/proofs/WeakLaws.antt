@@ -20,7 +20,7 @@ use Rattle.lower_form.proofs.Exponents.{has_exponent}
 use Rattle.obs_rows.specs.declared.arcs.Arc.{Arc}
 use Rattle.obs_rows.specs.declared.pair_rows.PairRows.{PairRows}
 use Rattle.cert_data.specs.Tails.{IsWeak}
-use Rattle.settled_decision.proofs.WeakLaws.{IsPivot, weak_of, weak_of_steps, told_weak}
+use Rattle.cert_check.proofs.WeakLaws.{IsPivot, weak_of, weak_of_steps, told_weak}
 use Rattle.track_data.specs.TrackTails.{IsTrackTailOf}
 use Rattle.track_sum.specs.PairFronts.{IsRefusedPair}
 use Rattle.track_form.specs.Decided.{IsFormRefused, track_tail_of}

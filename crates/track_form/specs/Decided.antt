@@ -10,7 +10,7 @@ use Rattle.integer_form.specs.declared.faults.Place.{Place}
 use Rattle.integer_form.specs.declared.faults.Place.TheVariants.{Float, Search, Sum}
 use Rattle.int_search.specs.declared.answer.TwoBest.{TwoBest}
 use Rattle.fix_decide.specs.Decisions.{IsSeparated, first_of}
-use Rattle.settled_decision.specs.Decided.{IsSpent, IsTooWide}
+use Rattle.cert_check.specs.Settled.{IsSpent, IsTooWide}
 use Rattle.cert_check.specs.Decided.{AreSameBest}
 use Rattle.track_data.specs.declared.tails.TrackTail.{TrackTail}
 use Rattle.track_data.specs.declared.tails.TrackTail.TheVariants.{Fixed, Unseparated, Weak, Overwidth, Spent}

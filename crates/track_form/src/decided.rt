@@ -17,7 +17,7 @@ use crate::uppers::track_upper;
 use fix_decide::is_separated;
 use int_search::{SearchFault, TwoBest, two_best};
 use integer_form::{Form, LowerFault, Place};
-use settled_decision::values_from;
+use cert_check::values_from;
 use std::alloc::{AllocError, Global};
 use track_data::{Items, Track, TrackTail};
 use track_sum::{PairFactors, form_of_track, moves_at};

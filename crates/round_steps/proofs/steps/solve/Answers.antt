@@ -3,7 +3,7 @@ use Rattle.obs_rows.specs.declared.sessions.Session.{Session}
 use Rattle.integer_form.specs.declared.faults.LowerFault.{LowerFault}
 use Rattle.integer_form.specs.declared.faults.LowerFault.TheVariants.{Weak, Overwidth}
 use Rattle.cert_data.specs.declared.tails.Tail.{Tail}
-use Rattle.settled_decision.specs.Decided.{IsRefused, tail_of}
+use Rattle.cert_check.specs.Settled.{IsRefused, tail_of}
 use Rattle.round_steps.specs.Steps.{IsRoundDeclined}
 use Rattle.round_steps.proofs.StepLaws.{narrow_numbers}
 use Rattle.std.proofs.lemmas.Bool.{false≢true}

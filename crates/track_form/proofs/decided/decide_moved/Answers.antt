@@ -6,7 +6,7 @@ use Rattle.obs_rows.specs.Signals.{fine_signals}
 use Rattle.integer_form.specs.Forms.{integers_of}
 use Rattle.fix_decide.specs.Decisions.{first_of}
 use Rattle.fix_decide.proofs.SessionForms.{first_length, first_small}
-use Rattle.settled_decision.proofs.DecidedLaws.{top_word}
+use Rattle.cert_check.proofs.DecidedLaws.{top_word}
 use Rattle.integer_form.specs.declared.faults.Place.TheVariants.{Sum}
 use Rattle.track_form.specs.Uppers.{IsSomeWide}
 use Rattle.track_form.proofs.Ranges.{integers_are, some_integers, second_small, move_each, moves_small}

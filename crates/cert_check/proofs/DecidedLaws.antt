@@ -24,7 +24,7 @@ use Rattle.fix_decide.proofs.SessionForms.{integers_are, second_small, first_len
 use Rattle.cert_data.specs.Tails.{AreVectors, tail_of_vectors}
 use Rattle.cert_data.specs.declared.tails.Tail.{Tail}
 use Rattle.cert_data.specs.declared.tails.Tail.TheVariants.{Fixed, Unseparated}
-use Rattle.settled_decision.specs.Decided.{AreFound, IsTooWide, IsBaselineWide, IsSumWide, IsDecision, IsBestWhereFixed}
+use Rattle.cert_check.specs.Settled.{AreFound, IsTooWide, IsBaselineWide, IsSumWide, IsDecision, IsBestWhereFixed}
 
 -- an upper sum fits its word
 pub top_word : (x : ℤ) → pos 0 ≤ℤ x → x ≤ℤ pos (2 ^ 119) → to_z w128 (of_z w128 x) ≡ x

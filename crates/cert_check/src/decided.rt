@@ -4,8 +4,8 @@ ghost use Rattle.obs_rows.specs.Signals.{fine_signals};
 ghost use Rattle.integer_form.specs.Forms.{integers_of, value_of};
 ghost use Rattle.cert_data.specs.Tails.{IsTailOf};
 ghost use Rattle.fix_decide.specs.Decisions.{IsFormOf};
-ghost use Rattle.settled_decision.specs.Decided.{IsRefused, IsDecision, IsBestWhereFixed, tail_of};
-ghost use Rattle.settled_decision.specs.RowDecisions.{IsRowDecision};
+ghost use Rattle.cert_check.specs.Settled.{IsRefused, IsDecision, IsBestWhereFixed, tail_of};
+ghost use Rattle.cert_check.specs.RowDecisions.{IsRowDecision};
 
 use cert_data::Tail;
 use fix_decide::decide;

@@ -4,10 +4,10 @@ use Rattle.integer_form.specs.declared.faults.LowerFault.{LowerFault}
 use Rattle.integer_form.specs.declared.faults.LowerFault.TheVariants.{Weak, Overwidth}
 use Rattle.cert_data.specs.declared.tails.Tail.{Tail}
 use Rattle.cert_data.specs.Tails.{IsTailOf}
-use Rattle.settled_decision.specs.Decided.{IsRefused, tail_of}
-use Rattle.settled_decision.proofs.WeakLaws.{weak_fits}
+use Rattle.cert_check.specs.Settled.{IsRefused, tail_of}
+use Rattle.cert_check.proofs.WeakLaws.{weak_fits}
 use Rattle.obs_rows.specs.Signals.{fine_signals}
-use Rattle.settled_decision.proofs.decided.decide_rows.Goals as goal
+use Rattle.cert_check.proofs.decided.decide_rows.Goals as goal
 
 fault_fits : (s : Session) (ss : List ℕ) (budget : ℕ) (fault : LowerFault) → IsRefused s fault → IsTailOf ss s.arcs budget (tail_of fault)
 fault_fits s ss budget (Weak column pivot) refused = weak_fits s column pivot refused

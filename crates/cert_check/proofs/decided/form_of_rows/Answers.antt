@@ -1,5 +1,5 @@
 use Rattle.std.proofs.lemmas.Result.{IfOk-weaker, IfErr-weaker}
-use Rattle.settled_decision.proofs.decided.form_of_rows.Goals as goal
+use Rattle.cert_check.proofs.decided.form_of_rows.Goals as goal
 
 pub returns-clause-form : goal.returns-clause-form
 returns-clause-form c =

@@ -5,7 +5,7 @@ use Rattle.integer_form.specs.declared.form.Form.{Form}
 use Rattle.integer_form.specs.declared.faults.LowerFault.{LowerFault}
 use Rattle.fix_decide.specs.Decisions.{IsFormOf}
 use Rattle.cert_data.specs.declared.tails.Tail.{Tail}
-use Rattle.settled_decision.specs.Decided.{IsRefused, IsDecision, tail_of}
+use Rattle.cert_check.specs.Settled.{IsRefused, IsDecision, tail_of}
 
 -- the elimination is refused, and the tail says the refusal
 pub record IsDecidedByFault (s : Session) (tail : Tail) : Type 0 where

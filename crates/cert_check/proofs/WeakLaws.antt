@@ -15,7 +15,7 @@ use Rattle.lower_form.proofs.Exponents.{has_exponent}
 use Rattle.obs_rows.specs.declared.sessions.Session.{Session}
 use Rattle.form_tables.specs.declared.sizes.TheConstants.{MOST_COLUMNS, MOST_FACTORS}
 use Rattle.cert_data.specs.Tails.{IsWeak}
-use Rattle.settled_decision.specs.Decided.{IsRefused}
+use Rattle.cert_check.specs.Settled.{IsRefused}
 
 -- a pivot of one of k steps from the j-th on, below 2^52 in size
 pub record IsPivot (j k i : ℕ) (p : ℤ) : Type 0 where

@@ -12,9 +12,9 @@ use Rattle.fix_decide.specs.UpperSums.{top}
 use Rattle.fix_decide.specs.Widths.{AreWide}
 use Rattle.fix_decide.specs.Decisions.{IsSeparated, first_of, move_of}
 use Rattle.cert_data.specs.Tails.{AreVectors, tail_of_vectors}
-use Rattle.settled_decision.specs.Decided.{AreFound}
-use Rattle.settled_decision.proofs.DecidedLaws.{told_decision, refused_decision, vectors_fit, top_word, told_best}
-use Rattle.settled_decision.proofs.decided.decide_settled.Goals as goal
+use Rattle.cert_check.specs.Settled.{AreFound}
+use Rattle.cert_check.proofs.DecidedLaws.{told_decision, refused_decision, vectors_fit, top_word, told_best}
+use Rattle.cert_check.proofs.decided.decide_settled.Goals as goal
 
 found_of : (s : Session) (f : Form) (budget : ℕ) (d : Decision) (b : TwoBest) → d.best ≡ b → d.moved ≡ move_of f (first_of b) →
     (HasWide (move_of f (first_of b)) → ⊥) → IsTwoBest f b → KeepsBudget f budget b →

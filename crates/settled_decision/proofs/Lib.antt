@@ -1,2 +1,0 @@
-pub mod DecidedLaws
-pub mod WeakLaws
