@@ -11,10 +11,10 @@ use Rattle.round_steps.specs.Shifts.{AreSameArcs}
 use Rattle.session.proofs.CutLaws.{cut_along}
 use Rattle.session.proofs.RangeLaws.{arcs_along, no_shifts}
 use Rattle.track_data.specs.declared.lost.Lost.{Lost}
-use Rattle.track_trial.specs.PairRules.{TrackSetting, AreUnshifted}
+use Rattle.track_rows.specs.PairRules.{TrackSetting, AreUnshifted}
 use Rattle.track_rows.specs.Tracks.{unshifted}
 use Rattle.track_rows.specs.Walks.{IsWalked}
-use Rattle.track_trial.proofs.KeptArcs.{has_kept}
+use Rattle.track_rows.proofs.KeptArcs.{has_kept}
 use Rattle.track_rows.proofs.SameArcs.{unshifted_same}
 
 -- ---- the arcs without shifts

@@ -15,8 +15,8 @@ use Rattle.session.proofs.CutLaws.{Like, like}
 use Rattle.track_data.specs.declared.lost.Lost.{Lost}
 use Rattle.track_data.specs.declared.lost.LostCause.{LostCause}
 use Rattle.track_data.specs.declared.lost.LostCause.TheVariants.{Rows, Coarse, Unsettled, Y, Weak, Wide}
-use Rattle.track_trial.specs.PairRules.{TrackSetting, rows_setting}
-use Rattle.track_trial.specs.Trials.{AreTried, KeepsOthers, IsTried, HasTriedRows, IsLost, IsTrackedBy}
+use Rattle.track_rows.specs.PairRules.{TrackSetting, rows_setting}
+use Rattle.track_rows.specs.Trials.{AreTried, KeepsOthers, IsTried, HasTriedRows, IsLost, IsTrackedBy}
 use Rattle.track_rows.specs.Tracks.{no_shifts, HasRow, HasBegun, IsTrack}
 use Rattle.std.proofs.lemmas.List.{length_push}
 use Rattle.whole_math.proofs.Lists.{any_more, any_in, push_get}

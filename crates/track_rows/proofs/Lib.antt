@@ -5,3 +5,7 @@ pub mod Steps
 pub mod Ends
 pub mod StandsLaws
 pub mod FrontLaws
+pub mod KeptArcs
+mod PairSessions
+pub mod TriedArcs
+mod Outcomes

@@ -6,7 +6,7 @@ use Rattle.obs_rows.specs.declared.arcs.Arc.{Arc}
 use Rattle.row_build.specs.HeldArcs.{holds_pair, IsHeld, AgreeAt}
 use Rattle.round_steps.specs.Shifts.{AreSameArcs, without_shifts}
 use Rattle.session.proofs.CutLaws.{Like, like}
-use Rattle.track_trial.proofs.TriedArcs.{same_holds}
+use Rattle.track_rows.proofs.TriedArcs.{same_holds}
 use Rattle.track_rows.specs.Tracks.{unshifted}
 
 -- an arc that holds the pair holds it in the other list

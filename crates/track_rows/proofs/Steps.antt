@@ -12,11 +12,11 @@ use Rattle.obs_rows.specs.Signals.{fine_signals}
 use Rattle.obs_rows.specs.Unused.{HasUsedRows}
 use Rattle.session.proofs.RangeLaws.{none_unused}
 use Rattle.track_data.specs.declared.lost.Lost.{Lost}
-use Rattle.track_trial.specs.PairRules.{TrackSetting, AreUnshifted}
-use Rattle.track_trial.specs.Trials.{flagged, AreTried, KeepsOthers, IsLost, IsTrackedBy, FitsTrack}
+use Rattle.track_rows.specs.PairRules.{TrackSetting, AreUnshifted}
+use Rattle.track_rows.specs.Trials.{flagged, AreTried, KeepsOthers, IsLost, IsTrackedBy, FitsTrack}
 use Rattle.track_rows.specs.Tracks.{HasBegun}
 use Rattle.track_rows.specs.Walks.{AreMarked, IsWalked}
-use Rattle.track_trial.proofs.KeptArcs.{has_kept}
+use Rattle.track_rows.proofs.KeptArcs.{has_kept}
 use Rattle.track_rows.proofs.Growth.{begun_row, row_begun, tried_along, tried_by, lost_by, no_pairs, lost_more, tracked_more}
 use Rattle.track_rows.proofs.Marks.{no_flags, flags_more}
 

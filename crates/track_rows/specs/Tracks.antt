@@ -9,8 +9,8 @@ use Rattle.row_build.specs.HeldArcs.{IsHeld}
 use Rattle.round_steps.specs.Shifts.{AreSameArcs}
 use Rattle.track_data.specs.declared.lost.Lost.{Lost}
 use Rattle.track_data.specs.declared.lost.Tracked.{Tracked}
-use Rattle.track_trial.specs.PairRules.{TrackSetting}
-use Rattle.track_trial.specs.Trials.{IsTrackedBy, IsLost}
+use Rattle.track_rows.specs.PairRules.{TrackSetting}
+use Rattle.track_rows.specs.Trials.{IsTrackedBy, IsLost}
 
 abbrev pub no_shifts : List ℤ
 no_shifts = pos 0 ∷ pos 0 ∷ pos 0 ∷ []

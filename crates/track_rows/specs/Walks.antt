@@ -9,7 +9,7 @@ use Rattle.obs_rows.specs.Signals.{fine_signals}
 use Rattle.obs_rows.specs.Unused.{HasUsedRows, HasUsedShifts}
 use Rattle.row_build.specs.HeldArcs.{IsHeld}
 use Rattle.track_data.specs.declared.lost.Lost.{Lost}
-use Rattle.track_trial.specs.PairRules.{TrackSetting}
+use Rattle.track_rows.specs.PairRules.{TrackSetting}
 use Rattle.track_rows.specs.declared.walks.Walk.{Walk}
 use Rattle.track_rows.specs.Tracks.{HasRow, IsTrack}
 

@@ -12,7 +12,7 @@ use obs_rows::{Arc, ArcList, PHASES, PairList, Signals};
 use row_build::{Screened, base_halves};
 use std::alloc::{AllocError, Global};
 use track_data::{Items, Track, Tracked};
-use track_trial::TrackFiles;
+use crate::TrackFiles;
 
 /// The arc with no cycles taken off its phases.
 fn unshifted(arc: &Arc) -> Arc

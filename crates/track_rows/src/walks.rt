@@ -2,14 +2,14 @@
 ghost use Rattle.std.specs.Prelude.{◌≡◌, ◌+◌, ◌<◌, ◌||◌, length, IfOk, OnOk};
 ghost use Rattle.obs_rows.specs.Arcs.{AreArcs};
 ghost use Rattle.row_build.specs.HeldArcs.{holds_pair};
-ghost use Rattle.track_trial.specs.PairRules.{TrackSetting, setting_of, AreUnshifted, AreReady};
-ghost use Rattle.track_trial.specs.Trials.{IsTrialOf, Fits, flagged};
+ghost use Rattle.track_rows.specs.PairRules.{TrackSetting, setting_of, AreUnshifted, AreReady};
+ghost use Rattle.track_rows.specs.Trials.{IsTrialOf, Fits, flagged};
 ghost use Rattle.track_rows.specs.Walks.{AreMarked, IsWalk};
 
 use obs_rows::{Arc, PairRows};
 use std::alloc::{AllocError, Global};
 use track_data::{Lost, LostCause};
-use track_trial::{TrackFiles, Trial, try_pair};
+use crate::{TrackFiles, Trial, try_pair};
 
 /// The track of the pairs so far, and those of them that it hasn't got.
 #[derive(Debug, Drop)]

@@ -1,5 +1,5 @@
 use Rattle.std.proofs.Common.{◌≡◌, ℕ, length, arith, subst}
-use Rattle.track_trial.specs.PairRules.{setting_of}
+use Rattle.track_rows.specs.PairRules.{setting_of}
 use Rattle.track_rows.specs.Walks.{IsWalk}
 use Rattle.track_rows.proofs.walks.walked.Goals as goal
 

@@ -1,4 +1,4 @@
-use Rattle.track_trial.specs.PairRules.{setting_of}
+use Rattle.track_rows.specs.PairRules.{setting_of}
 use Rattle.track_rows.specs.Walks.{IsWalk}
 use Rattle.track_rows.proofs.walks.walked.Given as goal
 

@@ -2,9 +2,9 @@ use Rattle.std.proofs.Common.{Bool, List, sym, ◌∙◌, subst}
 use Rattle.std.proofs.lemmas.Result.{on_ok_weaker}
 use Rattle.obs_rows.specs.declared.arcs.Arc.{Arc}
 use Rattle.round_steps.proofs.ShiftLaws.{length_same}
-use Rattle.track_trial.specs.declared.trials.Trial.{Trial}
-use Rattle.track_trial.specs.PairRules.{setting_of}
-use Rattle.track_trial.specs.Trials.{IsTrialOf, Fits, flagged}
+use Rattle.track_rows.specs.declared.trials.Trial.{Trial}
+use Rattle.track_rows.specs.PairRules.{setting_of}
+use Rattle.track_rows.specs.Trials.{IsTrialOf, Fits, flagged}
 use Rattle.track_rows.proofs.walks.Walk.step.Goals as goal
 
 pub track-requires : goal.track-requires

@@ -1,0 +1,121 @@
+//! What becomes of a pair that is tried.
+ghost use Rattle.std.specs.Prelude.{◌≡◌, ◌<◌, ◌≤◌, All, length, IfOk};
+ghost use Rattle.obs_rows.specs.Arcs.{AreArcs};
+ghost use Rattle.obs_rows.specs.Signals.{fine_signals};
+ghost use Rattle.obs_rows.specs.Unused.{HasUsedShifts};
+ghost use Rattle.round_steps.specs.Counts.{held};
+ghost use Rattle.round_steps.specs.Shifts.{AreSameArcs};
+ghost use Rattle.track_rows.specs.PairRules.{setting_of, AreReady};
+ghost use Rattle.track_rows.specs.Trials.{IsSettledAt, IsTrialOf, Fits, cause_of, flagged};
+
+use crate::TrackFiles;
+use crate::files::PairRounds;
+use crate::rows::rows_of;
+use crate::shifts::tried_arcs;
+use cert_data::Tail;
+use lower_form::LowerFault;
+use obs_rows::{Arc, PairRows};
+use round_steps::{CoarseEnd, LEAST_SATELLITES, coarse_rounds, held};
+use row_build::RowFault;
+use std::alloc::{AllocError, Global};
+use track_data::LostCause;
+use track_sum::pair_front;
+
+/// What became of a pair that was tried.
+#[derive(Debug, Drop)]
+pub enum Trial {
+    /// The first cause that holds.
+    Lost(LostCause),
+    Tracked {
+        /// Where the coarse rounds settled, in units of 0.1 mm.
+        point: [i64; 3],
+        /// The pair's rows there, at the fine scale.
+        rows: PairRows,
+        /// All arcs, with the shifts of those of the pair as they are from now on.
+        arcs: Vec<Arc>,
+    },
+}
+
+/// By which cause a pair is lost whose coarse rounds end so.
+fn cause_of(tail: &Tail) -> LostCause
+    ensures { result ≡ cause_of tail.now }
+{
+    match tail {
+        Tail::Unsettled { .. } => LostCause::Unsettled,
+        Tail::Fixed { .. }
+        | Tail::Unseparated { .. }
+        | Tail::Weak { .. }
+        | Tail::Overwidth { .. }
+        | Tail::Spent { .. } => LostCause::Coarse,
+    }
+}
+
+/// Tries a pair at the point where its coarse rounds settle.
+fn try_at(
+    alloc: Global,
+    files: &TrackFiles<'_>,
+    arcs: &[Arc],
+    begun: &[bool],
+    pair: u32,
+    point: &[i64; 3],
+) -> Result<Trial, AllocError>
+    requires ready { AreReady files.now }
+    requires arcs { AreArcs arcs.now }
+    requires same { AreSameArcs files.now.kept.now arcs.now }
+    requires used { All (HasUsedShifts (fine_signals files.now.signals)) arcs.now }
+    requires flags { length begun.now ≡ length arcs.now }
+    requires pair { pair < length files.now.screened.now.used }
+    requires enough { 4 ≤ held files.now.kept.now pair }
+    requires settled { IsSettledAt (setting_of files.now) pair point.now }
+    ensures trial { IfOk result (IsTrialOf (setting_of files.now) arcs.now (flagged begun.now) pair) }
+    ensures fits { IfOk result (Fits files.now.signals) }
+{
+    let tried = tried_arcs(alloc, files, arcs, begun, pair, point)?;
+    let rows = match rows_of(alloc, files, tried.as_slice(), pair, point, 0) {
+        Ok(rows) => rows,
+        Err(RowFault::Overwidth) => return Ok(Trial::Lost(LostCause::Y)),
+        Err(RowFault::NoMemory) => return Err(AllocError),
+    };
+    match pair_front(files.kept, files.signals, &rows) {
+        Ok(_) => Ok(Trial::Tracked {
+            point: *point,
+            rows,
+            arcs: tried,
+        }),
+        Err(LowerFault::Weak { .. }) => Ok(Trial::Lost(LostCause::Weak)),
+        Err(LowerFault::Overwidth { .. }) => Ok(Trial::Lost(LostCause::Wide)),
+    }
+}
+
+/// Tries the pair of this number among those that were taken. The arcs are the kept ones with their shifts so far; flags
+/// say which of them have a row in a tracked pair before. They keep their shifts, and other arcs of the pair take ones of
+/// this pair. It is refused only where memory runs out.
+pub fn try_pair(
+    alloc: Global,
+    files: &TrackFiles<'_>,
+    arcs: &[Arc],
+    begun: &[bool],
+    pair: u32,
+) -> Result<Trial, AllocError>
+    requires ready { AreReady files.now }
+    requires arcs { AreArcs arcs.now }
+    requires same { AreSameArcs files.now.kept.now arcs.now }
+    requires used { All (HasUsedShifts (fine_signals files.now.signals)) arcs.now }
+    requires flags { length begun.now ≡ length arcs.now }
+    requires pair { pair < length files.now.screened.now.used }
+    ensures trial { IfOk result (IsTrialOf (setting_of files.now) arcs.now (flagged begun.now) pair) }
+    ensures fits { IfOk result (Fits files.now.signals) }
+{
+    if held(files.kept, pair) < LEAST_SATELLITES {
+        return Ok(Trial::Lost(LostCause::Rows));
+    }
+    let mut rounds = PairRounds {
+        files,
+        pair,
+        made: 0,
+    };
+    match coarse_rounds(alloc, &mut rounds, files.kept, &files.position)? {
+        CoarseEnd::Settled { point, .. } => try_at(alloc, files, arcs, begun, pair, &point),
+        CoarseEnd::Declined { tail, .. } => Ok(Trial::Lost(cause_of(&tail))),
+    }
+}

@@ -1,4 +1,0 @@
-pub mod KeptArcs
-mod PairSessions
-pub mod TriedArcs
-mod Outcomes

@@ -1,2 +1,0 @@
-pub mod PairRules
-pub mod Trials
