@@ -17,8 +17,8 @@ use Rattle.outcome_report.specs.OutcomeText.{answer_text, IsWholeAnswer, is_fixe
 use Rattle.track_data.specs.declared.certs.TrackCert.{TrackCert}
 use Rattle.track_spelling.specs.Spelling.{track_spelling}
 use Rattle.track_spelling.specs.Lengths.{IsWholeTrackCert}
-use Rattle.track_report.specs.declared.outcomes.TrackAnswer.{TrackAnswer}
-use Rattle.track_report.specs.TrackTexts.{track_answer_text, IsWholeTrackAnswer, is_track_fixed}
+use Rattle.track_job.specs.declared.answers.TrackAnswer.{TrackAnswer}
+use Rattle.track_job.specs.TrackTexts.{track_answer_text, IsWholeTrackAnswer, is_track_fixed}
 use Rattle.job_answers.specs.declared.status.Status.{Status}
 use Rattle.job_answers.specs.declared.status.Status.TheVariants.{Done, Declined, Usage, Refused, ReadFault, WriteFault, NoMemory}
 use Rattle.job_answers.specs.Statuses.{IsVerdictStatus}

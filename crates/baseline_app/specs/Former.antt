@@ -58,9 +58,9 @@ use Rattle.track_spelling.specs.Lengths.{IsWholeTrackCert, IsTrackCertificate}
 use Rattle.track_text.specs.Rules.{track_reading}
 use Rattle.track_sum.specs.Decided as track_sum
 use Rattle.track_form.specs.Verdicts.{IsTrackVerdict}
-use Rattle.track_report.specs.declared.outcomes.TrackOutcome.{TrackOutcome}
-use Rattle.track_report.specs.declared.outcomes.TrackAnswer.TheVariants as track_answer
-use Rattle.track_report.specs.TrackTexts.{track_answer_text, IsWholeTrackAnswer, track_outcome_text, is_track_fixed}
+use Rattle.track_job.specs.declared.answers.TrackOutcome.{TrackOutcome}
+use Rattle.track_job.specs.declared.answers.TrackAnswer.TheVariants as track_answer
+use Rattle.track_job.specs.TrackTexts.{track_answer_text, IsWholeTrackAnswer, track_outcome_text, is_track_fixed}
 use Rattle.job_answers.specs.declared.status.Status.{Status}
 use Rattle.job_answers.specs.declared.status.Status.TheVariants.{Done, Declined, Refused, ReadFault, WriteFault, NoMemory}
 use Rattle.job_answers.specs.Statuses.{IsVerdictStatus}

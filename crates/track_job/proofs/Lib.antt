@@ -1,3 +1,4 @@
 pub mod StandsLaws
 pub mod Certified
 pub mod TrackSays
+mod PairPlaces

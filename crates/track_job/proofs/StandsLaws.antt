@@ -12,9 +12,9 @@ use Rattle.obs_rows.specs.BandSets.{bands_of}
 use Rattle.run_options.specs.declared.options.Options.{Options}
 use Rattle.session.proofs.RangeLaws.{able, no_shifts}
 use Rattle.track_data.specs.declared.certs.TrackCert.{TrackCert}
-use Rattle.track_report.specs.declared.outcomes.TrackOutcome.{TrackOutcome}
-use Rattle.track_report.specs.declared.outcomes.TrackAnswer.{TrackAnswer}
-use Rattle.track_report.specs.declared.outcomes.TrackAnswer.TheVariants.{Full}
+use Rattle.track_job.specs.declared.answers.TrackOutcome.{TrackOutcome}
+use Rattle.track_job.specs.declared.answers.TrackAnswer.{TrackAnswer}
+use Rattle.track_job.specs.declared.answers.TrackAnswer.TheVariants.{Full}
 use Rattle.track_rows.proofs.StandsLaws.{track_stands}
 use Rattle.track_job.specs.TrackOutcomes.{IsTrackable, IsTrackAnswer, IsTrackOutcome, tracked_with}
 use Rattle.track_job.specs.TrackJobs.{TrackStandsForIts}

@@ -14,10 +14,10 @@ use Rattle.track_data.specs.declared.tails.TrackTail.TheVariants as tail
 use Rattle.track_form.specs.Decided.{IsTrackDecision, IsSameDecision, IsTrackBestWhereFixed}
 use Rattle.track_form.specs.Verdicts.{IsTrackVerdict, IsTrackBestByRatioIn}
 use Rattle.track_form.proofs.OneVerdict.{certified_by_ratio}
-use Rattle.track_report.specs.declared.outcomes.TrackOutcome.{TrackOutcome}
-use Rattle.track_report.specs.declared.outcomes.TrackAnswer.{TrackAnswer}
-use Rattle.track_report.specs.declared.outcomes.TrackAnswer.TheVariants as answer
-use Rattle.track_report.specs.TrackTexts.{is_fixed_track, is_track_fixed}
+use Rattle.track_job.specs.declared.answers.TrackOutcome.{TrackOutcome}
+use Rattle.track_job.specs.declared.answers.TrackAnswer.{TrackAnswer}
+use Rattle.track_job.specs.declared.answers.TrackAnswer.TheVariants as answer
+use Rattle.track_job.specs.TrackTexts.{is_fixed_track, is_track_fixed}
 use Rattle.track_job.specs.TrackOutcomes.{IsTrackAnswer, IsTrackOutcome}
 use Rattle.track_job.specs.TrackJobs.{IsTrackFix, IsTrackFixedFor}
 use Rattle.track_job.proofs.StandsLaws.{track_stands_for}

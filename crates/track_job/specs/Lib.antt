@@ -1,3 +1,4 @@
 pub mod TrackOutcomes
 pub mod TrackJobs
 pub mod CheckJobs
+pub mod TrackTexts

@@ -23,10 +23,10 @@ use Rattle.track_data.specs.declared.tails.TrackTail.TheVariants.{Fixed}
 use Rattle.track_sum.specs.Decided.{IsStrictlyBest, IsBestByRatio}
 use Rattle.track_form.specs.Verdicts.{IsTrackVerdict}
 use Rattle.track_rows.specs.Stands.{TrackStands}
-use Rattle.track_report.specs.declared.outcomes.TrackOutcome.{TrackOutcome}
-use Rattle.track_report.specs.declared.outcomes.TrackAnswer.{TrackAnswer}
-use Rattle.track_report.specs.declared.outcomes.TrackAnswer.TheVariants.{Full}
-use Rattle.track_report.specs.TrackTexts.{track_answer_text, IsWholeTrackAnswer, track_outcome_text, is_track_fixed}
+use Rattle.track_job.specs.declared.answers.TrackOutcome.{TrackOutcome}
+use Rattle.track_job.specs.declared.answers.TrackAnswer.{TrackAnswer}
+use Rattle.track_job.specs.declared.answers.TrackAnswer.TheVariants.{Full}
+use Rattle.track_job.specs.TrackTexts.{track_answer_text, IsWholeTrackAnswer, track_outcome_text, is_track_fixed}
 use Rattle.track_job.specs.TrackOutcomes.{IsTrackOutcome}
 
 -- The certificate of a track says `fixed`: for all rational observations and directions in the boxes of its rows, its first

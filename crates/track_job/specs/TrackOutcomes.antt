@@ -24,9 +24,9 @@ use Rattle.track_data.specs.declared.lost.Lost.{Lost}
 use Rattle.track_data.specs.declared.lost.Tracked.{Tracked}
 use Rattle.track_sum.specs.PairFronts.{HasFront}
 use Rattle.track_form.specs.Decided.{IsTrackDecision, IsSameDecision, IsTrackBestWhereFixed}
-use Rattle.track_report.specs.declared.outcomes.TrackOutcome.{TrackOutcome}
-use Rattle.track_report.specs.declared.outcomes.TrackAnswer.{TrackAnswer}
-use Rattle.track_report.specs.declared.outcomes.TrackAnswer.TheVariants.{Few, Arcs, Lost as NoneTracked, Full}
+use Rattle.track_job.specs.declared.answers.TrackOutcome.{TrackOutcome}
+use Rattle.track_job.specs.declared.answers.TrackAnswer.{TrackAnswer}
+use Rattle.track_job.specs.declared.answers.TrackAnswer.TheVariants.{Few, Arcs, Lost as NoneTracked, Full}
 use Rattle.track_rows.specs.Tracks.{IsTrackOf}
 
 -- the used satellites of the taken pairs with their boxes, and the arcs that are kept of them

@@ -19,7 +19,7 @@ use epoch_pair::{Begun, Options, SessionFault, begin};
 use std::alloc::{AllocError, Global};
 use track_data::{Items, Lost, TrackCert, Tracked};
 use track_form::decide_track;
-use track_report::{TrackAnswer, TrackOutcome};
+use crate::{TrackAnswer, TrackOutcome};
 use track_rows::track_at;
 
 /// An answer, with the pairs that are lost.

@@ -11,7 +11,7 @@ use run_options::Options;
 use epoch_pair::SessionFault;
 use session_files::SessionCommand;
 use std::alloc::Global;
-use track_report::{TrackAnswer, is_track_fixed, write_track_outcome};
+use crate::{TrackAnswer, is_track_fixed, write_track_outcome};
 
 // Done for a fix, else declined.
 fn track_status_of(answer: &TrackAnswer) -> Status

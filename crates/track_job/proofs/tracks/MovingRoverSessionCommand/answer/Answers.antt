@@ -1,5 +1,5 @@
 use Rattle.std.proofs.Common.{◌≡◌, ℕ, List, ◌++◌, ap, ◌∙◌}
-use Rattle.track_report.specs.TrackTexts.{track_answer_text, track_outcome_text}
+use Rattle.track_job.specs.TrackTexts.{track_answer_text, track_outcome_text}
 use Rattle.job_answers.specs.Endings.{ending}
 use Rattle.track_job.proofs.StandsLaws.{track_stands_for}
 use Rattle.track_job.proofs.TrackSays.{track_fixed_for}

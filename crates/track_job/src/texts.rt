@@ -1,7 +1,7 @@
 //! The two texts of the end of a run.
 ghost use Rattle.std.specs.Prelude.{◌≡◌, ◌++◌, OnOk, All, length};
 ghost use Rattle.cert_data.specs.Tails.{IsMove};
-ghost use Rattle.track_report.specs.TrackTexts.{track_answer_text, IsWholeTrackAnswer, tracked_text, decided_text, track_verdict_text, track_outcome_text, is_track_fixed};
+ghost use Rattle.track_job.specs.TrackTexts.{track_answer_text, IsWholeTrackAnswer, tracked_text, decided_text, track_verdict_text, track_outcome_text, is_track_fixed};
 
 use crate::lost::push_lost_lines;
 use crate::places::push_places;

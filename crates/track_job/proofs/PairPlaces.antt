@@ -3,7 +3,7 @@ use Rattle.std.proofs.Common.{◌≡◌, ◌+◌, ◌<◌, ℕ, ℤ, List, ◌�
 use Rattle.std.proofs.lemmas.List.{drop_more}
 use Rattle.obs_rows.specs.declared.pair_rows.PairRows.{PairRows}
 use Rattle.outcome_report.specs.Baselines.{baseline_of}
-use Rattle.track_report.specs.TrackTexts.{pair_place_line, place_lines}
+use Rattle.track_job.specs.TrackTexts.{pair_place_line, place_lines}
 
 pub place_pushed : (a b whole : List ℕ) (base : List ℤ) (pairs : List PairRows) (points moves : List (List ℤ)) (i : ℕ) (p : PairRows) (x m : List ℤ) → i < length pairs → i < length points
     → i < length moves

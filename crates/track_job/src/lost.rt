@@ -1,6 +1,6 @@
 //! The lines of the pairs that aren't tracked.
 ghost use Rattle.std.specs.Prelude.{◌≡◌, ◌++◌, OnOk};
-ghost use Rattle.track_report.specs.TrackTexts.{cause_word, lost_line, lost_lines};
+ghost use Rattle.track_job.specs.TrackTexts.{cause_word, lost_line, lost_lines};
 
 use std::alloc::{AllocError, Global};
 use track_data::{Lost, LostCause};

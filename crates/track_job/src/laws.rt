@@ -1,7 +1,7 @@
 //! The words of the causes for which a pair is lost, in the lines `lost N WORD` of the summary.
 ghost use Rattle.std.specs.Prelude.{◌≡◌, codes};
 ghost use Rattle.track_data.specs.declared.lost.LostCause.TheVariants.{Rows, Coarse, Unsettled, Y, Weak, Wide};
-ghost use Rattle.track_report.specs.TrackTexts.{cause_word};
+ghost use Rattle.track_job.specs.TrackTexts.{cause_word};
 
 /// Each cause has its own word.
 pub fn lost_words_law()

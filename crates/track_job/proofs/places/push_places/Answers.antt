@@ -1,6 +1,6 @@
 use Rattle.std.proofs.Common.{◌<◌, length, arith}
-use Rattle.track_report.proofs.PairPlaces.{place_pushed}
-use Rattle.track_report.proofs.places.push_places.Goals as goal
+use Rattle.track_job.proofs.PairPlaces.{place_pushed}
+use Rattle.track_job.proofs.places.push_places.Goals as goal
 
 pub push_pair_place-requires-clause-point : goal.push_pair_place-requires-clause-point
 push_pair_place-requires-clause-point c =

@@ -13,9 +13,9 @@ use Rattle.track_data.specs.declared.lost.LostCause.{LostCause}
 use Rattle.track_data.specs.declared.lost.LostCause.TheVariants.{Rows, Coarse, Unsettled, Y, Weak, Wide}
 use Rattle.track_spelling.specs.Spelling.{track_spelling}
 use Rattle.track_spelling.specs.Lengths.{IsWholeTrackCert}
-use Rattle.track_report.specs.declared.outcomes.TrackOutcome.{TrackOutcome}
-use Rattle.track_report.specs.declared.outcomes.TrackAnswer.{TrackAnswer}
-use Rattle.track_report.specs.declared.outcomes.TrackAnswer.TheVariants as answer
+use Rattle.track_job.specs.declared.answers.TrackOutcome.{TrackOutcome}
+use Rattle.track_job.specs.declared.answers.TrackAnswer.{TrackAnswer}
+use Rattle.track_job.specs.declared.answers.TrackAnswer.TheVariants as answer
 
 abbrev pub cause_word : LostCause → List ℕ
 cause_word Rows = codes "rows"

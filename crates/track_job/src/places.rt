@@ -3,7 +3,7 @@ ghost use Rattle.std.specs.Prelude.{◌≡◌, ◌^◌, ◌++◌, OnOk, All, len
 ghost use Rattle.obs_rows.specs.Ranges.{IsPoint, IsBelow};
 ghost use Rattle.cert_data.specs.Tails.{IsMove};
 ghost use Rattle.outcome_report.specs.Baselines.{baseline_of};
-ghost use Rattle.track_report.specs.TrackTexts.{pair_place_line, place_lines};
+ghost use Rattle.track_job.specs.TrackTexts.{pair_place_line, place_lines};
 
 use obs_rows::PairRows;
 use outcome_report::push_place;
