@@ -40,8 +40,8 @@ use Rattle.cert_lines.specs.declared.version.Version.TheVariants.{One}
 use Rattle.cert_migrate.specs.OldSpelling.{IsOldCertificate}
 use Rattle.track_spelling.specs.Lengths.{IsTrackCertificate}
 use Rattle.track_text.specs.Rules.{track_reading}
-use Rattle.arcs_job.specs.ArcJobs.{AnswersArcs}
-use Rattle.fix_job.specs.FixJobs.{AnswersFix, IsFixedFor}
+use Rattle.session_jobs.specs.ArcJobs.{AnswersArcs}
+use Rattle.session_jobs.specs.FixJobs.{AnswersFix, IsFixedFor}
 use Rattle.track_job.specs.TrackJobs.{AnswersTrack}
 use Rattle.track_job.specs.CheckJobs.{AnswersTrackCert, check_track_job}
 use Rattle.command_words.specs.declared.jobs.Job.{Job}

@@ -31,8 +31,8 @@ use Rattle.file_jobs.specs.Listing.{list_job}
 use Rattle.file_jobs.specs.Orbits.{orbit_job}
 use Rattle.cert_jobs.specs.CertJobs.{status_of, shown_status, check_job, residuals_job}
 use Rattle.cert_jobs.specs.Migrations.{migrate_job}
-use Rattle.arcs_job.specs.ArcJobs.{AnswersArcs}
-use Rattle.fix_job.specs.FixJobs.{AnswersFix, IsFixedFor}
+use Rattle.session_jobs.specs.ArcJobs.{AnswersArcs}
+use Rattle.session_jobs.specs.FixJobs.{AnswersFix, IsFixedFor}
 use Rattle.track_job.specs.TrackJobs.{AnswersTrack, IsTrackFixedFor}
 use Rattle.track_job.specs.CheckJobs.{IsVerdictOn, IsBestFor, IsBestByItsRatio, check_track_job}
 use Rattle.baseline_app.specs.Former.{Said, SaysOfZero, SaysOfList, SaysOfOrbit, SaysOfCheck, SaysOfResiduals, SaysMigrated, SaysOfArcs, SaysOfFix, SaysOfTrack, SaysOfCheckTrack}

@@ -17,8 +17,8 @@ use Rattle.file_jobs.specs.Listing.{list_job}
 use Rattle.file_jobs.specs.Orbits.{orbit_job}
 use Rattle.cert_jobs.specs.CertJobs.{check_job, residuals_job}
 use Rattle.cert_jobs.specs.Migrations.{migrate_job}
-use Rattle.arcs_job.specs.ArcJobs.{AnswersArcs}
-use Rattle.fix_job.specs.FixJobs.{AnswersFix}
+use Rattle.session_jobs.specs.ArcJobs.{AnswersArcs}
+use Rattle.session_jobs.specs.FixJobs.{AnswersFix}
 use Rattle.track_job.specs.TrackJobs.{AnswersTrack}
 use Rattle.track_job.specs.CheckJobs.{check_track_job}
 use Rattle.sim_job.proofs.SimSays.{sim_says}

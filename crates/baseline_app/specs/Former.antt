@@ -76,10 +76,10 @@ use Rattle.file_jobs.specs.Listing.{EndsByObs}
 use Rattle.file_jobs.specs.Orbits.{HoldsSatellite, IsBoxOf, EndsByRecords}
 use Rattle.cert_jobs.specs.CertJobs.{AnswersCert, CheckEnd, ResidualsEnd}
 use Rattle.cert_jobs.specs.Migrations.{status_of, AnswersOld}
-use Rattle.arcs_job.specs.ArcLines.{arcs_text}
-use Rattle.arcs_job.specs.ArcJobs.{AreArcsOf, AnswersArcs}
-use Rattle.fix_job.specs.FixJobs as fix_job
-use Rattle.fix_job.specs.FixJobs.{IsFix, StandsForIts}
+use Rattle.session_jobs.specs.ArcLines.{arcs_text}
+use Rattle.session_jobs.specs.ArcJobs.{AreArcsOf, AnswersArcs}
+use Rattle.session_jobs.specs.FixJobs as fix_job
+use Rattle.session_jobs.specs.FixJobs.{IsFix, StandsForIts}
 use Rattle.track_job.specs.TrackOutcomes.{IsTrackOutcome}
 use Rattle.track_job.specs.TrackJobs.{IsTrackFix, TrackStandsForIts, track_status_of}
 use Rattle.track_job.specs.CheckJobs.{IsVerdictOn, IsBestFor, IsBestByItsRatio, AnswersTrackCert}

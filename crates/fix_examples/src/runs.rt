@@ -2,7 +2,7 @@
 use cert_jobs::CertCheck;
 use cert_text::{Cert, Tail, TwoBest, read_cert};
 use decimal_text::read_fixed;
-use fix_job::Fix;
+use session_jobs::Fix;
 use job_answers::{JobOutput, JobStop, Status, answer_file};
 use line_source::{MemFiles, Named};
 use run_options::Options;

@@ -11,7 +11,7 @@
 mod list;
 mod orbit;
 
-pub use arcs_job::write_arcs;
+pub use session_jobs::write_arcs;
 pub use cert_report::{write_residuals, write_verdict};
 pub use list::write_list;
 pub use orbit::write_orbit;

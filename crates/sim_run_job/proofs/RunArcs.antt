@@ -13,7 +13,7 @@ use Rattle.cert_data.specs.declared.outcomes.Answer.TheVariants.{Few, Arcs, Earl
 use Rattle.obs_rows.specs.BandSets.{bands_of}
 use Rattle.run_options.specs.declared.options.Options.{Options}
 use Rattle.session.specs.Outcomes.{IsOutcome}
-use Rattle.fix_job.proofs.Runs.{stands_for}
+use Rattle.session_jobs.proofs.Runs.{stands_for}
 use Rattle.sim_match.specs.Matches.{AreInOrder, HasMarkedArcs}
 
 no_later : (r s : Run) → Precedes r s → r.first ≤ s.first

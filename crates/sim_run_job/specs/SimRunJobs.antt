@@ -21,7 +21,7 @@ use Rattle.outcome_report.specs.OutcomeText.{is_fixed}
 use Rattle.job_answers.specs.Endings.{Ending, ending}
 use Rattle.session_files.specs.SessionFiles.{AreFilesOf}
 use Rattle.session_files.specs.Refusals.{IsPairRefused}
-use Rattle.fix_job.specs.FixJobs.{status_of}
+use Rattle.session_jobs.specs.FixJobs.{status_of}
 use Rattle.sim_match.specs.Matches.{IsMatched}
 
 -- under these three names the files of a session of the seed stand, with these bands of the system with that letter

@@ -6,7 +6,7 @@ ghost use Rattle.job_answers.specs.Endings.{ending};
 ghost use Rattle.obs_rows.specs.declared.band_sets.TheConstants.{BANDS_L1_L5};
 ghost use Rattle.obs_rows.specs.BandSets.{IsBandsNumber};
 ghost use Rattle.obs_rows.specs.Ranges.{IsSystem};
-ghost use Rattle.fix_job.specs.FixJobs.{status_of};
+ghost use Rattle.session_jobs.specs.FixJobs.{status_of};
 ghost use Rattle.sim_run_job.specs.SimRunJobs.{AreOptionsOn, truth_in, run_text, SimRunEnd, SimRunEnds};
 
 use crate::report::run_text;

@@ -1,5 +1,5 @@
 //! Lists of arcs.
-use arcs_job::write_arcs;
+use session_jobs::write_arcs;
 use obs_rows::{Arc, ArcList};
 use slip_arcs::Arcs;
 use std::test::Fail;

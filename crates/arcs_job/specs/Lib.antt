@@ -1,2 +1,0 @@
-pub mod ArcJobs
-pub mod ArcLines

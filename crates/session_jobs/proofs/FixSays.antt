@@ -1,0 +1,56 @@
+-- What an outcome that is a fix says of its files.
+use Rattle.std.proofs.Common.{◌≡◌, true, refl, subst}
+use Rattle.std.proofs.lemmas.Bool.{false≢true}
+use Rattle.cert_data.specs.declared.certs.Cert.{Cert}
+use Rattle.cert_data.specs.declared.outcomes.Outcome.{Outcome}
+use Rattle.cert_data.specs.declared.outcomes.Answer.{Answer}
+use Rattle.cert_data.specs.declared.outcomes.Answer.TheVariants.{Few, Arcs, Early, Full}
+use Rattle.cert_data.specs.declared.tails.Tail.{Tail}
+use Rattle.cert_data.specs.declared.tails.Tail.TheVariants as tail
+use Rattle.eph_store.specs.File.{Records}
+use Rattle.obs_store.specs.declared.file.ObsFile.{ObsFile}
+use Rattle.run_options.specs.declared.options.Options.{Options}
+use Rattle.cert_check.specs.Settled.{IsBestWhereFixed}
+use Rattle.cert_check.specs.Decided.{IsBestByRatioIn}
+use Rattle.cert_check.proofs.Checked.{certified_by_ratio}
+use Rattle.session.specs.Answers.{IsBestAnswer}
+use Rattle.session.specs.Outcomes.{IsOutcome}
+use Rattle.outcome_report.specs.OutcomeText.{is_fixed, is_fixed_tail}
+use Rattle.session_jobs.specs.FixJobs.{IsFix, IsFixedFor}
+use Rattle.session_jobs.proofs.Runs.{stands_for}
+use Rattle.session_jobs.proofs.Certified.{certified_again, no_other}
+
+-- an answer that is fixed is a certificate that says so
+record IsFixedCert (a : Answer) : Type 0 where
+  cert : Cert
+  is : a ≡ Full cert
+  fix : IsFix cert
+
+fixed_tail : (cert : Cert) (t : Tail) → cert.tail ≡ t → is_fixed_tail t ≡ true → IsBestWhereFixed cert.session t → IsFix cert
+fixed_tail cert (tail.Fixed h moved best top) is fixed strictly = record { h = h; moved = moved; best = best; top = top; tail_is = is; strictly_best = strictly }
+fixed_tail cert (tail.Unseparated h moved best top) is fixed strictly = absurd (false≢true fixed)
+fixed_tail cert (tail.Weak column pivot) is fixed strictly = absurd (false≢true fixed)
+fixed_tail cert (tail.Overwidth place) is fixed strictly = absurd (false≢true fixed)
+fixed_tail cert (tail.Unsettled entry) is fixed strictly = absurd (false≢true fixed)
+fixed_tail cert (tail.Spent budget) is fixed strictly = absurd (false≢true fixed)
+
+fixed_cert : (a : Answer) → is_fixed a ≡ true → IsBestAnswer a → IsFixedCert a
+fixed_cert (Few pairs) fixed best = absurd (false≢true fixed)
+fixed_cert (Arcs free) fixed best = absurd (false≢true fixed)
+fixed_cert (Early stage why) fixed best = absurd (false≢true fixed)
+fixed_cert (Full cert) fixed best = record { cert = cert; is = refl; fix = fixed_tail cert cert.tail refl fixed best }
+
+pub fixed_for : (b r : ObsFile) (n : Records) (o : Options) (outcome : Outcome) → IsOutcome b r n o outcome → IsBestAnswer outcome.answer
+    → is_fixed outcome.answer ≡ true → IsFixedFor b r n o outcome.answer
+fixed_for b r n o outcome is best fixed =
+    let c : IsFixedCert outcome.answer = fixed_cert outcome.answer fixed best in
+    let certified = certified_again b r n o outcome c.cert is c.is c.fix in
+    record {
+      cert = c.cert;
+      answer_is = c.is;
+      fix = c.fix;
+      by_ratio = subst (IsBestByRatioIn c.cert.ratio c.cert.session) c.fix.tail_is (certified_by_ratio c.cert.session c.cert.ratio c.cert.budget c.cert.tail c.cert.fine certified);
+      certified = certified;
+      only = no_other c.cert certified;
+      stands = stands_for b r n o outcome c.cert is c.is;
+    }

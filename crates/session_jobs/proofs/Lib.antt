@@ -1,0 +1,4 @@
+pub mod Runs
+pub mod Certified
+pub mod FixSays
+pub mod ArcSays

@@ -1,0 +1,48 @@
+-- The session in which a run ends stands for the files.
+use Rattle.std.proofs.Common.{◌≡◌, inl, inr, ℕ, length, map, subst}
+use Rattle.obs_store.specs.declared.file.ObsFile.{ObsFile}
+use Rattle.eph_store.specs.File.{Records}
+use Rattle.obs_rows.specs.declared.arcs.Arc.{Arc}
+use Rattle.obs_rows.specs.declared.sessions.Session.{Session}
+use Rattle.sv_orbit.specs.Worlds.{world_of}
+use Rattle.obs_rows.specs.BandSets.{bands_of}
+use Rattle.screening.specs.Screening.{setting_of}
+use Rattle.row_build.specs.Stands.{StandsForFiles}
+use Rattle.cert_data.specs.declared.certs.Cert.{Cert}
+use Rattle.cert_data.specs.declared.tails.Tail.{Tail}
+use Rattle.cert_data.specs.declared.outcomes.Outcome.{Outcome}
+use Rattle.cert_data.specs.declared.outcomes.RoundCounts.{RoundCounts}
+use Rattle.cert_data.specs.declared.outcomes.Answer.TheVariants.{Full}
+use Rattle.round_steps.specs.Runs.{Rules, EndsFull}
+use Rattle.run_options.specs.declared.options.Options.{Options}
+use Rattle.session.specs.FileRules.{rules_of}
+use Rattle.session.specs.Answers.{IsAnswer}
+use Rattle.session.specs.Outcomes.{IsOutcome}
+use Rattle.session_jobs.specs.FixJobs.{StandsForIts}
+
+-- a run ends in a session that its rules have
+full_stands : (rules : Rules) (ratio budget : ℕ) (made : RoundCounts) (s : Session) (tail : Tail) → EndsFull rules ratio budget made s tail → rules.stands s
+full_stands rules ratio budget made s tail full = elim (full.1) [
+  | inl ends ↦ ends.stands
+  | inr decides ↦ decides.stands
+]
+
+pub stands_for : (b r : ObsFile) (n : Records) (o : Options) (outcome : Outcome) (cert : Cert) → IsOutcome b r n o outcome → outcome.answer ≡ Full cert → StandsForIts b r n o cert
+stands_for b r n o outcome cert is full =
+    let f = is.rounds in
+    let s : Session = cert.session in
+    let rules : Rules = rules_of f.screened.boxes (length f.screened.used) f.kept f.position f.signals f.system in
+    let ends = (subst (IsAnswer rules outcome.taken o outcome.rounds) full is.answer_is).1 in
+    let stands = is.stands s (full_stands rules o.ratio o.budget outcome.rounds s cert.tail ends.ends) in
+    record {
+      ratio_is = ends.ratio;
+      budget_is = ends.budget;
+      position = is.position;
+      position_is = is.position_is;
+      signals = is.signals;
+      signals_are = is.signals_are;
+      taken = is.taken;
+      taken_are = is.taken_are;
+      stands = subst (λ (k : ℕ). StandsForFiles (setting_of b n is.signals o.mask (world_of o.system)) b.epochs r.epochs is.taken (bands_of o.bands)
+          o.jump o.arc o.system is.position is.signals s.point (map (λ (a : Arc). a.shift) s.arcs) k s) cert.fine stands;
+    }

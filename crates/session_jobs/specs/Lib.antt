@@ -1,0 +1,3 @@
+pub mod FixJobs
+pub mod ArcJobs
+pub mod ArcLines
