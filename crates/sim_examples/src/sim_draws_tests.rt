@@ -1,5 +1,5 @@
 //! Draws of an independent model.
-use sim_draws::draw_all;
+use sim_session::draw_all;
 use std::test::Fail;
 
 #[test]

@@ -1,5 +1,5 @@
 //! Records of navigation files.
-use sim_records::{satellites, write_navigation};
+use sim_session::{satellites, write_navigation};
 use std::test::Fail;
 
 // The text of an independent model.

@@ -1,5 +1,5 @@
 //! Headers and epochs of observation files.
-use sim_texts::{Signals, Tracking, write_epoch, write_header};
+use sim_session::{Signals, Tracking, write_epoch, write_header};
 use std::test::Fail;
 
 // The texts of an independent model.

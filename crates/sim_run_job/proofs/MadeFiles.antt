@@ -14,9 +14,9 @@ use Rattle.rinex_obs.specs.ObsForm.{IsObsFile}
 use Rattle.obs_source.specs.Formats.{IsObservation}
 use Rattle.obs_source.proofs.FormatLaws.{file_given}
 use Rattle.rinex_nav.specs.NavForm.{IsNavFile}
-use Rattle.sim_texts.specs.declared.signals.Signals as made
-use Rattle.sim_texts.specs.declared.signals.Tracking.{Tracking}
-use Rattle.sim_texts.specs.declared.signals.Tracking.TheVariants.{GpsL1L2, GpsL1L2L5, GalileoE1E5a}
+use Rattle.sim_session.specs.declared.signals.Signals as made
+use Rattle.sim_session.specs.declared.signals.Tracking.{Tracking}
+use Rattle.sim_session.specs.declared.signals.Tracking.TheVariants.{GpsL1L2, GpsL1L2L5, GalileoE1E5a}
 use Rattle.sim_session.specs.Observations.{step_of}
 use Rattle.sim_session.specs.Texts.{has_l5, tracking_of, IsBaseText, IsRoverText, IsNavigationText}
 use Rattle.sim_text_laws.specs.NavRecords.{raws_of}

@@ -7,7 +7,7 @@ use Rattle.rinex_head.specs.Systems.{system_of}
 use Rattle.eph_store.specs.File.{Records}
 use Rattle.obs_rows.specs.Integers.{integer_count}
 use Rattle.obs_rows.specs.Signals.{fine_signals}
-use Rattle.sim_draws.specs.Values.{truth_of, first_of}
+use Rattle.sim_session.specs.Values.{truth_of, first_of}
 use Rattle.sim_session.specs.Texts.{has_l5, IsMade}
 use Rattle.sim_session.specs.declared.Made.{Made}
 use Rattle.cert_data.specs.declared.outcomes.Outcome.{Outcome}

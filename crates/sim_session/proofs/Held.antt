@@ -3,12 +3,12 @@ use Rattle.std.proofs.Common.{◌≡◌, ℕ, zero, suc, ◌+◌, List, [], ◌�
 use Rattle.std.proofs.lemmas.List.{length_push}
 use Rattle.std.proofs.lemmas.List.Elements.{All-nil, All-cons}
 use Rattle.eph_store.specs.declared.ephemeris.Eph.{Eph}
-use Rattle.sim_draws.specs.Values.{first_of}
+use Rattle.sim_session.specs.Values.{first_of}
 use Rattle.orbit_model.specs.Elements.{Constants}
-use Rattle.sim_texts.specs.declared.signals.Signals.{Signals}
-use Rattle.sim_texts.specs.declared.signals.Tracking.{Tracking}
-use Rattle.sim_records.specs.Satellites.{AreSatellites}
-use Rattle.sim_signals.specs.Observed.{IsObserved}
+use Rattle.sim_session.specs.declared.signals.Signals.{Signals}
+use Rattle.sim_session.specs.declared.signals.Tracking.{Tracking}
+use Rattle.sim_session.specs.Satellites.{AreSatellites}
+use Rattle.sim_session.specs.Observed.{IsObserved}
 use Rattle.sim_session.specs.Limits.{IsOnTime}
 use Rattle.sim_session.specs.Observations.{IsObservationText}
 

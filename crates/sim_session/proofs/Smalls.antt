@@ -3,8 +3,8 @@ use Rattle.std.proofs.Common.{◌≡◌, ℕ, zero, suc, ◌≤◌, List, [], �
 use Rattle.std.proofs.lemmas.Int.{ints}
 use Rattle.whole_math.proofs.Words.{as_w64}
 use Rattle.std.proofs.lemmas.List.Elements.{All-nil, All-head, All-tail}
-use Rattle.sim_draws.specs.Values.{AreSmall}
-use Rattle.sim_signals.proofs.Smalls.{IsSmall}
+use Rattle.sim_session.specs.Values.{AreSmall}
+use Rattle.sim_session.proofs.SignalSmalls.{IsSmall}
 
 pub cycles_at : (cs : List (List ℤ)) (k : ℕ) → All AreSmall cs → AreSmall (get_or cs k [])
 cycles_at [] k h = All-nil IsSmall

@@ -1,3 +1,12 @@
 pub mod Observations
 pub mod Texts
 pub mod Limits
+pub mod Sequence
+pub mod Values
+pub mod Columns
+pub mod ObservationText
+pub mod Tracked
+pub mod Observed
+pub mod Numbers
+pub mod Satellites
+pub mod Navigation

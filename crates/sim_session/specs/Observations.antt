@@ -2,10 +2,10 @@
 use Rattle.std.specs.Prelude.{◌≡◌, ℕ, ◌+◌, ◌*◌, ◌<◌, List, length, All, ℤ, slice_index_or, nat_le, if◌then◌else◌}
 use Rattle.eph_store.specs.declared.ephemeris.Eph.{Eph}
 use Rattle.orbit_model.specs.Elements.{Constants}
-use Rattle.sim_texts.specs.declared.signals.Signals.{Signals}
-use Rattle.sim_texts.specs.declared.signals.Tracking.{Tracking}
-use Rattle.sim_texts.specs.Observations.{observation_text, AreInColumns}
-use Rattle.sim_signals.specs.Observed.{IsObserved}
+use Rattle.sim_session.specs.declared.signals.Signals.{Signals}
+use Rattle.sim_session.specs.declared.signals.Tracking.{Tracking}
+use Rattle.sim_session.specs.ObservationText.{observation_text, AreInColumns}
+use Rattle.sim_session.specs.Observed.{IsObserved}
 
 -- the seconds from one epoch to the next: 30 in sessions of up to 240 epochs
 abbrev pub step_of : ℕ → ℕ

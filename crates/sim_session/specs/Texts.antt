@@ -3,12 +3,12 @@ use Rattle.std.specs.Prelude.{◌≡◌, Bool, not, ◌==◌, if◌then◌else�
 use Rattle.obs_rows.specs.declared.band_sets.TheConstants.{BANDS_L1_L2}
 use Rattle.eph_store.specs.declared.ephemeris.Eph.{Eph}
 use Rattle.sv_orbit.specs.Worlds.{world_of}
-use Rattle.sim_draws.specs.Sequence.{drawn_within}
-use Rattle.sim_draws.specs.Values.{base_clock_of, rover_clock_of, base_cycles, rover_cycles, first_of, offset_of, truth_of}
-use Rattle.sim_texts.specs.declared.signals.Tracking.{Tracking}
-use Rattle.sim_texts.specs.declared.signals.Tracking.TheVariants.{GpsL1L2, GpsL1L2L5, GalileoE1E5a}
-use Rattle.sim_records.specs.Satellites.{AreSatellites}
-use Rattle.sim_records.specs.Navigation.{navigation_text}
+use Rattle.sim_session.specs.Sequence.{drawn_within}
+use Rattle.sim_session.specs.Values.{base_clock_of, rover_clock_of, base_cycles, rover_cycles, first_of, offset_of, truth_of}
+use Rattle.sim_session.specs.declared.signals.Tracking.{Tracking}
+use Rattle.sim_session.specs.declared.signals.Tracking.TheVariants.{GpsL1L2, GpsL1L2L5, GalileoE1E5a}
+use Rattle.sim_session.specs.Satellites.{AreSatellites}
+use Rattle.sim_session.specs.Navigation.{navigation_text}
 use Rattle.sim_session.specs.Observations.{IsObservationText}
 use Rattle.sim_session.specs.declared.Made.{Made}
 

@@ -1,15 +1,15 @@
 //! A receiver's observation file.
 ghost use Rattle.std.specs.Prelude.{◌≡◌, ◌+◌, ◌^◌, ◌<◌, ◌≤◌, length, All, IfOk};
 ghost use Rattle.orbit_clock.specs.Records.{constants_of};
-ghost use Rattle.sim_draws.specs.Values.{AreSmall};
+ghost use Rattle.sim_session.specs.Values.{AreSmall};
 ghost use Rattle.sim_session.specs.Observations.{step_of, AreObserved, IsObservationText};
 ghost use Rattle.sim_session.specs.Limits.{IsOnTime};
 
 use eph_store::Eph;
 use gps_time::Tick;
 use orbit_clock::World;
-use sim_signals::{Receiver, observe};
-use sim_texts::{Signals, Tracking, write_epoch, write_header};
+use crate::{Receiver, observe};
+use crate::{Signals, Tracking, write_epoch, write_header};
 use std::alloc::{AllocError, Global};
 
 /// 2024-01-01 00:00:00.

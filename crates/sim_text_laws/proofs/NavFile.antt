@@ -14,8 +14,8 @@ use Rattle.rinex_head.specs.declared.system.System.{System}
 use Rattle.rinex_head.specs.declared.system.System.TheVariants.{Gps, Galileo}
 use Rattle.rinex_nav.specs.FirstLine.{first_line_of, ends_header}
 use Rattle.rinex_nav.specs.NavForm.{Part, Read, IsPart, IsHeader, IsNavFile, further_of, body_lines, records_of}
-use Rattle.sim_records.specs.Satellites.{AreSatellites}
-use Rattle.sim_records.specs.Navigation.{zero_number, second_number, week_number, navigation_header, record_texts, navigation_text}
+use Rattle.sim_session.specs.Satellites.{AreSatellites}
+use Rattle.sim_session.specs.Navigation.{zero_number, second_number, week_number, navigation_header, record_texts, navigation_text}
 use Rattle.sim_text_laws.specs.Printed.{are_printed}
 use Rattle.sim_text_laws.proofs.Printed.{line_first}
 use Rattle.sim_text_laws.specs.NavRecords.{raw_of, raws_of}

@@ -8,8 +8,8 @@ use Rattle.line_source.specs.Lines.{lines_of}
 use Rattle.rinex_head.specs.Columns.{padded, columns, column}
 use Rattle.rinex_head.specs.Fields.{exponent_in}
 use Rattle.rinex_nav.specs.RecordLines.{number_in}
-use Rattle.sim_records.specs.Numbers.{sign_or, number_text}
-use Rattle.sim_records.specs.Navigation.{first_line, further_line}
+use Rattle.sim_session.specs.Numbers.{sign_or, number_text}
+use Rattle.sim_session.specs.Navigation.{first_line, further_line}
 use Rattle.sim_text_laws.specs.Printed.{are_printed}
 use Rattle.sim_text_laws.proofs.Printed.{printed-append, line_first}
 use Rattle.sim_text_laws.proofs.Digits.{last_digits-digits, digits_printed}

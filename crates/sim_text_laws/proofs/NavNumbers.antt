@@ -10,7 +10,7 @@ use Rattle.decimal_text.specs.Exp.{ends_blank, dec_of}
 use Rattle.decimal_text.specs.ExpForm.{IsReadAsDec, IsPower, IsSignedPower}
 use Rattle.decimal_text.specs.declared.exponent.Dec.{Dec}
 use Rattle.decimal_text.proofs.ExpReads.{dec_only}
-use Rattle.sim_records.specs.Numbers.{sign_or, number_text}
+use Rattle.sim_session.specs.Numbers.{sign_or, number_text}
 use Rattle.sim_text_laws.proofs.Digits.{last_digits-digits, last_digits-sum, last_digits-value, length-last_digits, sum-append}
 
 -- the sign's meaning

@@ -16,8 +16,8 @@ use Rattle.rinex_head.specs.declared.system.System.{System}
 use Rattle.rinex_head.specs.declared.system.System.TheVariants.{Gps, Galileo}
 use Rattle.rinex_nav.specs.RecordLines.{satellite_of, satellite_in, moment_of, toc_in}
 use Rattle.rinex_nav.specs.NavForm.{EightLines, further_of, IsFurther, IsRecord}
-use Rattle.sim_records.specs.Satellites.{IsSatellite, AreNormal, anomalies, longitudes, anomaly, node, root_a_tenths}
-use Rattle.sim_records.specs.Navigation.{zero_number, second_number, week_number, first_line, further_line, record_text}
+use Rattle.sim_session.specs.Satellites.{IsSatellite, AreNormal, anomalies, longitudes, anomaly, node, root_a_tenths}
+use Rattle.sim_session.specs.Navigation.{zero_number, second_number, week_number, first_line, further_line, record_text}
 use Rattle.sim_text_laws.proofs.Printed.{first_and, second_and}
 use Rattle.sim_text_laws.proofs.Fields.{whole_digits}
 use Rattle.sim_text_laws.proofs.Dates.{moment_is, ticks_are}

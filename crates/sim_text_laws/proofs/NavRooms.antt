@@ -7,7 +7,7 @@ use Rattle.rational.specs.Rational.{◌≈◌}
 use Rattle.eph_store.specs.Decimals.{decimal, with_exponent, value_of}
 use Rattle.decimal_text.specs.Whole.{size_of}
 use Rattle.decimal_text.specs.declared.exponent.Dec.{Dec}
-use Rattle.sim_records.specs.Numbers.{IsNormal}
+use Rattle.sim_session.specs.Numbers.{IsNormal}
 use Rattle.sim_text_laws.proofs.NavNumbers.{HasRoom}
 
 size_is : (z : ℤ) → size_of z ≡ unsigned_abs z

@@ -24,11 +24,11 @@ use Rattle.rinex_obs.specs.ObsForm.{EpochPart, Part, Epoch_, IsEpochPart, AreSat
 use Rattle.rinex_obs.specs.ObsForm.{satellites_of as satellites_in, epochs_of as epochs_in}
 use Rattle.rinex_obs.specs.SatLines.{satellite_of}
 use Rattle.rinex_obs.specs.declared.epoch_lines.EpochLine.TheVariants as line
-use Rattle.sim_texts.specs.declared.signals.Signals.{Signals}
-use Rattle.sim_texts.specs.declared.signals.Tracking.{Tracking}
-use Rattle.sim_texts.specs.Columns.{fixed_in}
-use Rattle.sim_texts.specs.Observations.{epoch_line, satellite_line, satellite_lines, epoch_text, epochs_text, AreInColumns}
-use Rattle.sim_texts.proofs.Lengths.{length-second, length-count}
+use Rattle.sim_session.specs.declared.signals.Signals.{Signals}
+use Rattle.sim_session.specs.declared.signals.Tracking.{Tracking}
+use Rattle.sim_session.specs.Columns.{fixed_in}
+use Rattle.sim_session.specs.ObservationText.{epoch_line, satellite_line, satellite_lines, epoch_text, epochs_text, AreInColumns}
+use Rattle.sim_session.proofs.TextLengths.{length-second, length-count}
 use Rattle.sim_text_laws.specs.Printed.{are_printed}
 use Rattle.sim_text_laws.proofs.Printed.{printed-append, line_first}
 use Rattle.sim_text_laws.proofs.Fields.{drop-behind, get-behind, padded-front, padded-whole, whole_digits}

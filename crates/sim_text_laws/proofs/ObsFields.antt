@@ -13,9 +13,9 @@ use Rattle.rinex_head.specs.Columns.{column, columns, padded}
 use Rattle.obs_fields.specs.declared.layout.Layout.TheVariants.{Rinex3}
 use Rattle.obs_fields.specs.declared.types.KeptType.{KeptType}
 use Rattle.obs_fields.specs.SatFields.{unless_zero, amount_in, with_lock, value_in, values_in}
-use Rattle.sim_texts.specs.Columns.{fixed_in}
-use Rattle.sim_texts.specs.Observations.{further_fields, fields_text, IsInColumns}
-use Rattle.sim_texts.proofs.Lengths.{length-thousandths}
+use Rattle.sim_session.specs.Columns.{fixed_in}
+use Rattle.sim_session.specs.ObservationText.{further_fields, fields_text, IsInColumns}
+use Rattle.sim_session.proofs.TextLengths.{length-thousandths}
 use Rattle.sim_text_laws.specs.Printed.{are_printed}
 use Rattle.sim_text_laws.proofs.Printed.{printed-append}
 use Rattle.sim_text_laws.proofs.Fields.{drop-behind, get-behind, padded-front}

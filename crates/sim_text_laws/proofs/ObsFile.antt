@@ -8,10 +8,10 @@ use Rattle.obs_fields.specs.declared.types.KeptType.{KeptType}
 use Rattle.rinex_obs.specs.ObsRules.{file_of as file_with}
 use Rattle.rinex_obs.specs.ObsForm.{AreParts, IsObsFile}
 use Rattle.rinex_obs.specs.ObsForm.{epochs_of as epochs_in}
-use Rattle.sim_texts.specs.declared.signals.Signals.{Signals}
-use Rattle.sim_texts.specs.declared.signals.Tracking.{Tracking}
-use Rattle.sim_texts.specs.declared.signals.Tracking.TheVariants.{GpsL1L2, GpsL1L2L5, GalileoE1E5a}
-use Rattle.sim_texts.specs.Observations.{epochs_text, observation_text}
+use Rattle.sim_session.specs.declared.signals.Signals.{Signals}
+use Rattle.sim_session.specs.declared.signals.Tracking.{Tracking}
+use Rattle.sim_session.specs.declared.signals.Tracking.TheVariants.{GpsL1L2, GpsL1L2L5, GalileoE1E5a}
+use Rattle.sim_session.specs.ObservationText.{epochs_text, observation_text}
 use Rattle.sim_text_laws.specs.ObsFiles.{system_in, file_of, epochs_of, HaveRoom}
 use Rattle.sim_text_laws.proofs.ObsHeader.{lines, names, the_header, header_read, header_is, system_is, kept_are}
 use Rattle.sim_text_laws.proofs.ObsEpochs.{parts_of, epochs_read, epochs_are, parts_are}

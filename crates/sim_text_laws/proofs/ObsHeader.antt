@@ -15,10 +15,10 @@ use Rattle.rinex_obs.specs.HeaderLines.{header_line_of}
 use Rattle.rinex_obs.specs.ObsForm.{IsHeader}
 use Rattle.rinex_obs.specs.declared.header.Header.{Header}
 use Rattle.obs_fields.specs.declared.header_line.HeaderLine.TheVariants as header
-use Rattle.sim_texts.specs.declared.signals.Tracking.{Tracking}
-use Rattle.sim_texts.specs.declared.signals.Tracking.TheVariants.{GpsL1L2, GpsL1L2L5, GalileoE1E5a}
-use Rattle.sim_texts.specs.Tracked.{system_letter}
-use Rattle.sim_texts.specs.Observations.{version_line, types_line, header_text}
+use Rattle.sim_session.specs.declared.signals.Tracking.{Tracking}
+use Rattle.sim_session.specs.declared.signals.Tracking.TheVariants.{GpsL1L2, GpsL1L2L5, GalileoE1E5a}
+use Rattle.sim_session.specs.Tracked.{system_letter}
+use Rattle.sim_session.specs.ObservationText.{version_line, types_line, header_text}
 use Rattle.sim_text_laws.specs.Printed.{are_printed}
 use Rattle.sim_text_laws.proofs.Printed.{line_first}
 use Rattle.sim_text_laws.specs.ObsFiles.{system_in, types_of}

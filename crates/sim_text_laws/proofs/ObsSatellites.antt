@@ -20,11 +20,11 @@ use Rattle.obs_fields.specs.declared.layout.Layout.TheVariants.{Rinex3}
 use Rattle.obs_fields.specs.declared.types.KeptType.{KeptType}
 use Rattle.obs_fields.specs.SatFields.{values_in, digit_of, number_at, satellite_at}
 use Rattle.rinex_obs.specs.SatLines.{satellite_line_of, satellite_of}
-use Rattle.sim_texts.specs.declared.signals.Signals.{Signals}
-use Rattle.sim_texts.specs.declared.signals.Tracking.{Tracking}
-use Rattle.sim_texts.specs.declared.signals.Tracking.TheVariants.{GpsL1L2, GpsL1L2L5, GalileoE1E5a}
-use Rattle.sim_texts.specs.Observations.{fields_text, satellite_line, IsInColumns, AreInColumns}
-use Rattle.sim_texts.specs.Tracked.{system_letter, amounts_of}
+use Rattle.sim_session.specs.declared.signals.Signals.{Signals}
+use Rattle.sim_session.specs.declared.signals.Tracking.{Tracking}
+use Rattle.sim_session.specs.declared.signals.Tracking.TheVariants.{GpsL1L2, GpsL1L2L5, GalileoE1E5a}
+use Rattle.sim_session.specs.ObservationText.{fields_text, satellite_line, IsInColumns, AreInColumns}
+use Rattle.sim_session.specs.Tracked.{system_letter, amounts_of}
 use Rattle.sim_text_laws.specs.Printed.{are_printed}
 use Rattle.sim_text_laws.proofs.Printed.{printed-append, line_first}
 use Rattle.sim_text_laws.specs.ObsFiles.{system_in, types_of, values_of}

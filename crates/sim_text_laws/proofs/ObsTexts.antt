@@ -9,8 +9,8 @@ use Rattle.decimal_text.specs.Write.{last_digits, sign_text, part_text, fixed_te
 use Rattle.decimal_text.specs.Fixed.{fixed_of}
 use Rattle.decimal_text.proofs.Numbers.{digits_are}
 use Rattle.rinex_head.specs.Fields.{without_blanks, digits_of, whole_of}
-use Rattle.sim_texts.specs.Columns.{right_in, fixed_in}
-use Rattle.sim_texts.specs.Observations.{IsInColumns}
+use Rattle.sim_session.specs.Columns.{right_in, fixed_in}
+use Rattle.sim_session.specs.ObservationText.{IsInColumns}
 use Rattle.sim_text_laws.specs.Printed.{are_printed}
 use Rattle.sim_text_laws.proofs.Printed.{printed-append}
 use Rattle.sim_text_laws.proofs.Digits.{decimal_digits, decimal_value, digits_printed, last_digits-digits}

@@ -10,7 +10,7 @@ use Rattle.rational.proofs.Laws.{≈_sym, ≈_trans}
 use Rattle.eph_store.specs.Decimals.{with_exponent, value_of}
 use Rattle.decimal_text.specs.Whole.{size_of}
 use Rattle.decimal_text.specs.declared.exponent.Dec.{Dec}
-use Rattle.sim_records.specs.Numbers.{IsNormal}
+use Rattle.sim_session.specs.Numbers.{IsNormal}
 
 size_is : (z : ℤ) → size_of z ≡ unsigned_abs z
 size_is (pos n) = refl

@@ -11,11 +11,11 @@ use Rattle.obs_rows.specs.Ranges.{IsSystem}
 use Rattle.rinex_obs.specs.ObsForm.{IsObsFile}
 use Rattle.rinex_nav.specs.NavForm.{IsNavFile}
 use Rattle.sv_orbit.specs.Worlds.{world_of}
-use Rattle.sim_records.specs.Navigation.{navigation_text}
-use Rattle.sim_records.specs.Satellites.{AreSatellites}
-use Rattle.sim_texts.specs.declared.signals.Tracking.{Tracking}
-use Rattle.sim_texts.specs.declared.signals.Tracking.TheVariants.{GpsL1L2, GpsL1L2L5, GalileoE1E5a}
-use Rattle.sim_draws.specs.Values.{base_clock_of, rover_clock_of, base_cycles, rover_cycles, first_of}
+use Rattle.sim_session.specs.Navigation.{navigation_text}
+use Rattle.sim_session.specs.Satellites.{AreSatellites}
+use Rattle.sim_session.specs.declared.signals.Tracking.{Tracking}
+use Rattle.sim_session.specs.declared.signals.Tracking.TheVariants.{GpsL1L2, GpsL1L2L5, GalileoE1E5a}
+use Rattle.sim_session.specs.Values.{base_clock_of, rover_clock_of, base_cycles, rover_cycles, first_of}
 use Rattle.sim_session.specs.Observations.{step_of, IsObservationText}
 use Rattle.sim_session.specs.Texts.{base_point, rover_point, has_l5, tracking_of, IsBaseText, IsRoverText, IsNavigationText}
 use Rattle.sim_text_laws.specs.NavRecords.{raws_of}

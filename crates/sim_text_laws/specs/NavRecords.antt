@@ -2,7 +2,7 @@
 use Rattle.std.specs.Prelude.{List, map}
 use Rattle.eph_store.specs.declared.ephemeris.Eph.{Eph}
 use Rattle.eph_store.specs.declared.record.Raw.{Raw}
-use Rattle.sim_records.specs.Navigation.{zero_number, second_number, week_number}
+use Rattle.sim_session.specs.Navigation.{zero_number, second_number, week_number}
 
 -- the numbers of a satellite, the second 86400 of week 2295, and the health 0
 abbrev pub raw_of : Eph → Raw

@@ -13,11 +13,11 @@ use Rattle.obs_store.specs.Kinds.{kept_types, slot_of}
 use Rattle.obs_fields.specs.SatFields.{unless_zero}
 use Rattle.rinex_head.specs.declared.system.System.{System}
 use Rattle.rinex_head.specs.declared.system.System.TheVariants.{Gps, Galileo}
-use Rattle.sim_texts.specs.declared.signals.Signals.{Signals}
-use Rattle.sim_texts.specs.declared.signals.Tracking.{Tracking}
-use Rattle.sim_texts.specs.declared.signals.Tracking.TheVariants.{GpsL1L2, GpsL1L2L5, GalileoE1E5a}
-use Rattle.sim_texts.specs.Observations.{AreInColumns}
-use Rattle.sim_texts.specs.Tracked.{amounts_of}
+use Rattle.sim_session.specs.declared.signals.Signals.{Signals}
+use Rattle.sim_session.specs.declared.signals.Tracking.{Tracking}
+use Rattle.sim_session.specs.declared.signals.Tracking.TheVariants.{GpsL1L2, GpsL1L2L5, GalileoE1E5a}
+use Rattle.sim_session.specs.ObservationText.{AreInColumns}
+use Rattle.sim_session.specs.Tracked.{amounts_of}
 
 -- the system of the satellites
 abbrev pub system_in : Tracking → System

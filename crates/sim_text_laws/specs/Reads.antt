@@ -6,8 +6,8 @@ use Rattle.rinex_head.specs.Systems.{system_of}
 use Rattle.rinex_obs.specs.ObsForm.{IsObsFile}
 use Rattle.rinex_nav.specs.NavForm.{IsNavFile}
 use Rattle.sv_orbit.specs.Worlds.{world_of}
-use Rattle.sim_texts.specs.declared.signals.Signals.{Signals}
-use Rattle.sim_draws.specs.Values.{base_clock_of, rover_clock_of, base_cycles, rover_cycles, first_of}
+use Rattle.sim_session.specs.declared.signals.Signals.{Signals}
+use Rattle.sim_session.specs.Values.{base_clock_of, rover_clock_of, base_cycles, rover_cycles, first_of}
 use Rattle.sim_session.specs.Observations.{step_of, tag_of, AreObserved}
 use Rattle.sim_session.specs.Texts.{base_point, rover_point, has_l5, tracking_of, HasRecords}
 use Rattle.sim_text_laws.specs.NavRecords.{raws_of}

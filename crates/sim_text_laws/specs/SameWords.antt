@@ -1,8 +1,8 @@
 -- Two observation files of one receiver, of sessions of the same words.
 use Rattle.std.specs.Prelude.{◌≡◌, ℕ, List, length, All}
-use Rattle.sim_texts.specs.declared.signals.Signals.{Signals}
-use Rattle.sim_texts.specs.declared.signals.Tracking.{Tracking}
-use Rattle.sim_texts.specs.Observations.{observation_text}
+use Rattle.sim_session.specs.declared.signals.Signals.{Signals}
+use Rattle.sim_session.specs.declared.signals.Tracking.{Tracking}
+use Rattle.sim_session.specs.ObservationText.{observation_text}
 use Rattle.sim_session.specs.Observations.{step_of}
 
 -- signals of this number of satellites at each of this number of epochs

@@ -5,8 +5,8 @@ ghost use Rattle.line_source.specs.Lines.{lines_of};
 ghost use Rattle.rinex_nav.specs.NavForm.{IsNavFile};
 ghost use Rattle.rinex_head.specs.Systems.{letter_of};
 ghost use Rattle.rinex_head.specs.declared.system.System.{System};
-ghost use Rattle.sim_records.specs.Navigation.{navigation_text};
-ghost use Rattle.sim_records.specs.Satellites.{AreSatellites};
+ghost use Rattle.sim_session.specs.Navigation.{navigation_text};
+ghost use Rattle.sim_session.specs.Satellites.{AreSatellites};
 ghost use Rattle.sim_text_laws.specs.NavRecords.{raws_of};
 
 /// The text of made satellites of a system is a navigation file of it, and its records are theirs.

@@ -2,9 +2,9 @@
 ghost use Rattle.std.specs.Prelude.{◌*◌, ◌<◌, ◌≤◌, ℕ, List, length, All};
 ghost use Rattle.line_source.specs.Lines.{lines_of};
 ghost use Rattle.rinex_obs.specs.ObsForm.{IsObsFile};
-ghost use Rattle.sim_texts.specs.declared.signals.Signals.{Signals};
-ghost use Rattle.sim_texts.specs.declared.signals.Tracking.{Tracking};
-ghost use Rattle.sim_texts.specs.Observations.{observation_text};
+ghost use Rattle.sim_session.specs.declared.signals.Signals.{Signals};
+ghost use Rattle.sim_session.specs.declared.signals.Tracking.{Tracking};
+ghost use Rattle.sim_session.specs.ObservationText.{observation_text};
 ghost use Rattle.sim_text_laws.specs.ObsFiles.{system_in, file_of, HaveRoom};
 
 /// The text of signals at epochs of 2024-01-01, a step of seconds apart, is an observation file of the system that is

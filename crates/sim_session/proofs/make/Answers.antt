@@ -2,12 +2,12 @@ use Rattle.std.proofs.Common.{ℕ, Bool, List, ◌++◌, length, get_or, ℤ, po
 use Rattle.eph_store.specs.declared.ephemeris.Eph.{Eph}
 use Rattle.orbit_clock.specs.Records.{constants_of}
 use Rattle.sv_orbit.specs.Worlds.{world_of}
-use Rattle.sim_draws.specs.Sequence.{drawn_within}
-use Rattle.sim_draws.specs.Values.{base_clock_of, rover_clock_of, base_cycles, rover_cycles, truth_of, first_of, AreSmall}
-use Rattle.sim_records.specs.Navigation.{navigation_text}
+use Rattle.sim_session.specs.Sequence.{drawn_within}
+use Rattle.sim_session.specs.Values.{base_clock_of, rover_clock_of, base_cycles, rover_cycles, truth_of, first_of, AreSmall}
+use Rattle.sim_session.specs.Navigation.{navigation_text}
 use Rattle.sim_session.specs.Limits.{IsOnTime}
 use Rattle.sim_session.specs.Texts.{base_point, rover_point, has_l5, tracking_of}
-use Rattle.sim_signals.proofs.Smalls.{small_at, cycles_cast, still_small}
+use Rattle.sim_session.proofs.SignalSmalls.{small_at, cycles_cast, still_small}
 use Rattle.sim_session.proofs.Smalls.{clock_cast, still_clock}
 use Rattle.sim_session.proofs.Points.{point_along}
 use Rattle.sim_session.proofs.Held.{on_time, length-first_of, text_along}

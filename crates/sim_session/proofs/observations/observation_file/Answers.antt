@@ -1,7 +1,7 @@
 use Rattle.std.proofs.Common.{◌*◌, List, ◌++◌, length, ap, ◌∙◌, arith}
 use Rattle.orbit_clock.specs.Records.{constants_of}
-use Rattle.sim_texts.specs.declared.signals.Signals.{Signals}
-use Rattle.sim_texts.specs.Observations.{epoch_text}
+use Rattle.sim_session.specs.declared.signals.Signals.{Signals}
+use Rattle.sim_session.specs.ObservationText.{epoch_text}
 use Rattle.sim_session.proofs.Progress.{one_epoch}
 use Rattle.sim_session.proofs.observations.observation_file.Goals as goal
 

@@ -3,9 +3,9 @@ use Rattle.std.proofs.lemmas.List.{length_push, get_or_default}
 use Rattle.std.proofs.lemmas.List.Elements.{All-push}
 use Rattle.eph_store.specs.declared.ephemeris.Eph.{Eph}
 use Rattle.orbit_clock.specs.Records.{constants_of}
-use Rattle.sim_texts.specs.declared.signals.Signals.{Signals}
-use Rattle.sim_texts.specs.Observations.{AreInColumns}
-use Rattle.sim_signals.specs.Observed.{IsObserved}
+use Rattle.sim_session.specs.declared.signals.Signals.{Signals}
+use Rattle.sim_session.specs.ObservationText.{AreInColumns}
+use Rattle.sim_session.specs.Observed.{IsObserved}
 use Rattle.sim_session.proofs.Progress.{one_more}
 use Rattle.sim_session.proofs.Smalls.{cycles_at}
 use Rattle.sim_session.proofs.Held.{observed_is}

@@ -1,9 +1,9 @@
 use Rattle.std.proofs.Common.{◌≡◌, ℕ, ◌<◌, List, length, ℤ, All, get_or}
 use Rattle.orbit_clock.specs.Records.{constants_of}
 use Rattle.eph_store.specs.declared.ephemeris.Eph.{Eph}
-use Rattle.sim_texts.specs.declared.signals.Signals.{Signals}
-use Rattle.sim_texts.specs.Observations.{AreInColumns}
-use Rattle.sim_signals.specs.Observed.{IsObserved}
+use Rattle.sim_session.specs.declared.signals.Signals.{Signals}
+use Rattle.sim_session.specs.ObservationText.{AreInColumns}
+use Rattle.sim_session.specs.Observed.{IsObserved}
 use Rattle.sim_session.proofs.observations.observe_all.Given as goal
 
 abbrev pub invariant-loop-k : goal.invariant-loop-k

@@ -1,3 +1,0 @@
-mod Normals
-mod Lengths
-mod RecordLaws

@@ -1,9 +1,0 @@
-use Rattle.std.proofs.Common.{◌≡◌, length}
-use Rattle.sim_records.specs.Satellites.{AreSatellites}
-use Rattle.sim_records.proofs.records.satellites.Given as goal
-
-abbrev pub invariant-loop-k : goal.invariant-loop-k
-invariant-loop-k l = record {
-  records : AreSatellites l.letter 0 l.all.items;
-  count : length l.all.items ≡ l.k;
-}

@@ -1,4 +1,0 @@
-mod DistanceLaws
-mod Measures
-pub mod Smalls
-mod Solutions

@@ -1,2 +1,0 @@
-mod Amounts
-pub mod Lengths
