@@ -25,10 +25,10 @@ use Rattle.command_words.specs.declared.sims.Part.{Part}
 use Rattle.command_words.specs.declared.sims.Part.TheVariants as part
 use Rattle.command_words.specs.Words.{IsJob}
 use Rattle.command_words.proofs.OneJob.{one_job}
-use Rattle.sim_job.proofs.SimSays.{sim_status, sim_verdict}
+use Rattle.sim_jobs.proofs.SimSays.{sim_status, sim_verdict}
 use Rattle.epoch_pair.specs.declared.faults.PairWhat.{PairWhat}
 use Rattle.session_files.specs.Refusals.{pair_line, HaveRefused, AreRefusedWhole}
-use Rattle.sim_run_job.proofs.RunSays.{sim_run_status, sim_run_verdict}
+use Rattle.sim_jobs.proofs.RunSays.{sim_run_status, sim_run_verdict}
 use Rattle.baseline_app.specs.Jobs.{PartEnds, JobEnds, IsReadable, IsAnswer}
 use Rattle.baseline_app.specs.Runs.{IsRun, IsComplete}
 

@@ -5,8 +5,8 @@ use Rattle.job_answers.specs.declared.status.Status.TheVariants.{Done, Declined,
 use Rattle.job_answers.specs.Statuses.{IsVerdictStatus}
 use Rattle.job_answers.specs.Delivered.{SinkChange}
 use Rattle.job_answers.specs.Works.{FileWork}
-use Rattle.sim_job.specs.SimRuns.{SaysOfSim}
-use Rattle.sim_run_job.specs.SimRunSays.{SaysOfSimRun}
+use Rattle.sim_jobs.specs.SimRuns.{SaysOfSim}
+use Rattle.sim_jobs.specs.SimRunSays.{SaysOfSimRun}
 use Rattle.command_words.specs.declared.sims.File.{File}
 use Rattle.command_words.specs.declared.jobs.Job.TheVariants as job
 use Rattle.command_words.specs.declared.sims.Part.TheVariants as part

@@ -21,8 +21,8 @@ use Rattle.session_jobs.specs.ArcJobs.{AnswersArcs}
 use Rattle.session_jobs.specs.FixJobs.{AnswersFix}
 use Rattle.track_job.specs.TrackJobs.{AnswersTrack}
 use Rattle.track_job.specs.CheckJobs.{check_track_job}
-use Rattle.sim_job.proofs.SimSays.{sim_says}
-use Rattle.sim_run_job.proofs.RunSays.{sim_run_says}
+use Rattle.sim_jobs.proofs.SimSays.{sim_says}
+use Rattle.sim_jobs.proofs.RunSays.{sim_run_says}
 use Rattle.baseline_app.specs.Jobs.{JobEnds, SaysOfJob}
 use Rattle.baseline_app.specs.Runs.{IsRun}
 

@@ -83,8 +83,8 @@ use Rattle.session_jobs.specs.FixJobs.{IsFix, StandsForIts}
 use Rattle.track_job.specs.TrackOutcomes.{IsTrackOutcome}
 use Rattle.track_job.specs.TrackJobs.{IsTrackFix, TrackStandsForIts, track_status_of}
 use Rattle.track_job.specs.CheckJobs.{IsVerdictOn, IsBestFor, IsBestByItsRatio, AnswersTrackCert}
-use Rattle.sim_job.specs.SimRuns.{SaysOfSim}
-use Rattle.sim_run_job.specs.SimRunSays.{HaveOutcome, SaysOfSimRun}
+use Rattle.sim_jobs.specs.SimRuns.{SaysOfSim}
+use Rattle.sim_jobs.specs.SimRunSays.{HaveOutcome, SaysOfSimRun}
 use Rattle.command_words.specs.declared.sims.File.{File}
 use Rattle.command_words.specs.declared.jobs.Job.{Job}
 use Rattle.command_words.specs.declared.jobs.Job.TheVariants as job

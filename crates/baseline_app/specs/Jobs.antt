@@ -27,10 +27,10 @@ use Rattle.session_jobs.specs.ArcJobs.{AnswersArcs}
 use Rattle.session_jobs.specs.FixJobs.{AnswersFix}
 use Rattle.track_job.specs.TrackJobs.{AnswersTrack}
 use Rattle.track_job.specs.CheckJobs.{check_track_job}
-use Rattle.sim_job.specs.Sims.{SimEnds}
-use Rattle.sim_job.specs.SimRuns.{SaysOfSim}
-use Rattle.sim_run_job.specs.SimRunJobs.{SimRunEnds}
-use Rattle.sim_run_job.specs.SimRunSays.{SaysOfSimRun}
+use Rattle.sim_jobs.specs.Sims.{SimEnds}
+use Rattle.sim_jobs.specs.SimRuns.{SaysOfSim}
+use Rattle.sim_jobs.specs.SimRunJobs.{SimRunEnds}
+use Rattle.sim_jobs.specs.SimRunSays.{SaysOfSimRun}
 
 -- of a simulated session one of its files, or what the three are found to say
 abbrev pub PartEnds : Part → ℕ → ℕ → ℕ → ℕ → ℕ → Ending → Type 0

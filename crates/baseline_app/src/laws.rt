@@ -6,11 +6,11 @@ ghost use Rattle.command_words.specs.declared.sims.File.TheVariants.{Base, Rover
 ghost use Rattle.job_answers.specs.declared.status.Status.{Status};
 ghost use Rattle.job_answers.specs.Delivered.{SinkChange};
 ghost use Rattle.job_answers.specs.Works.{file_work};
-ghost use Rattle.sim_job.specs.SimRuns.{SaysMade};
+ghost use Rattle.sim_jobs.specs.SimRuns.{SaysMade};
 ghost use Rattle.sim_session.specs.Texts.{tracking_of};
-ghost use Rattle.sim_text_laws.specs.SameWords.{DifferInSignals};
-ghost use Rattle.sim_run_job.specs.SimRunJobs.{AreMadeFiles};
-ghost use Rattle.sim_run_job.specs.SimRunSays.{SaysMatch};
+ghost use Rattle.sim_jobs.specs.SameWords.{DifferInSignals};
+ghost use Rattle.sim_jobs.specs.SimRunJobs.{AreMadeFiles};
+ghost use Rattle.sim_jobs.specs.SimRunSays.{SaysMatch};
 ghost use Rattle.baseline_app.specs.Former.{SaysNow, SaidBefore};
 
 use line_source::Files;

@@ -20,8 +20,8 @@ use job_answers::{JobOutput, JobStop, Status, answer_file, deliver, usage};
 use line_source::{Files, Sink};
 use run_options::Options;
 use session_files::{SessionCommand, answer_session};
-use sim_job::sim;
-use sim_run_job::sim_run;
+use sim_jobs::sim;
+use sim_jobs::sim_run;
 use std::alloc::{AllocError, Global};
 use track_job::{MovingRover, TrackCheck};
 

@@ -1,6 +1,6 @@
 //! What `sim run` prints.
 use job_answers::Status;
-use sim_run_job::sim_run;
+use sim_jobs::sim_run;
 use std::test::Fail;
 
 // The texts are those of an independent model.

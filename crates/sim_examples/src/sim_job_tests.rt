@@ -1,7 +1,7 @@
 //! The command `sim`.
 use command_words::File;
 use job_answers::Status;
-use sim_job::sim;
+use sim_jobs::sim;
 use std::test::Fail;
 
 #[test]

@@ -1,2 +1,0 @@
-pub mod Sims
-pub mod SimRuns

@@ -1,0 +1,54 @@
+-- What the outcome of the made files ends with.
+use Rattle.std.proofs.Common.{◌≡◌, ◌≢◌, inl, inr, ℕ, List, Option, Bool, true, false, codes, if◌then◌else◌, sym, ap, ◌∙◌, subst}
+use Rattle.obs_store.specs.declared.file.ObsFile.{ObsFile}
+use Rattle.eph_store.specs.File.{Records}
+use Rattle.run_options.specs.declared.options.Options.{Options}
+use Rattle.rinex_head.specs.Systems.{system_of}
+use Rattle.rinex_head.specs.declared.system.System.{System}
+use Rattle.outcome_report.specs.OutcomeText.{is_fixed}
+use Rattle.job_answers.specs.declared.status.Status.TheVariants.{Done, Declined, Refused, ReadFault}
+use Rattle.job_answers.specs.declared.stop.JobStop.{JobStop}
+use Rattle.job_answers.specs.declared.stop.JobStop.TheVariants.{Ended, NoMemory}
+use Rattle.job_answers.specs.Answers.{ending_of, IfEnds}
+use Rattle.job_answers.specs.Endings.{Ending}
+use Rattle.session_files.specs.SessionFiles.{AreFilesOf, StopsAtFiles}
+use Rattle.session_files.proofs.FileLaws.{no_stop}
+use Rattle.session_files.specs.Admitted.{AreAdmitted}
+use Rattle.session_files.proofs.RefusalLaws.{never_refused}
+use Rattle.sim_jobs.specs.SimRunJobs.{AreMadeFiles, AreOptionsOn, SimRunEnd, SimRunEnds}
+
+no_read_fault : (fixed : Bool) → (if fixed then Done else Declined) ≢ ReadFault
+no_read_fault true e = absurd (cc e)
+no_read_fault false e = absurd (cc e)
+
+-- an outcome is no read fault, and neither is a refusal
+pub end_no_fault : (o : Options) (seed epochs sats bands : ℕ) (b r : ObsFile) (n : Records) (end : Ending) → SimRunEnd o seed epochs sats bands b r n end → end.status ≢ ReadFault
+end_no_fault o seed epochs sats bands b r n end (inl found) is = no_read_fault (is_fixed found.outcome.answer) (sym (ap (λ (e : Ending). e.status) found.end_is) ∙ is)
+end_no_fault o seed epochs sats bands b r n end (inr refused) is = let s : end.status ≡ Refused = ap (λ (e : Ending). e.status) refused.end_is in absurd (cc (s, is))
+
+pub ends_found : (seed epochs sats bands system : ℕ) (told : List ℕ → Option (List ℕ)) (o : Options) (of : System) (b r : ObsFile) (n : Records) (end : Ending)
+    → AreMadeFiles seed epochs sats bands system told → AreOptionsOn bands system o → AreAdmitted told (codes "base") (codes "rover") (codes "nav") o → of ≡ system_of o.system
+    → AreFilesOf of told (codes "base") (codes "rover") (codes "nav") b r n → SimRunEnd o seed epochs sats bands b r n end → SimRunEnds seed epochs sats bands system end
+ends_found seed epochs sats bands system told o of b r n end made on admitted same are (inl found) = record {
+  told = told;
+  made = made;
+  options = o;
+  options_are = on;
+  base_file = b;
+  rover_file = r;
+  records = n;
+  are_files = subst (λ (s : System). AreFilesOf s told (codes "base") (codes "rover") (codes "nav") b r n) same are;
+  ends = found;
+}
+ends_found seed epochs sats bands system told o of b r n end made on admitted same are (inr refused) =
+    let files = subst (λ (s : System). AreFilesOf s told (codes "base") (codes "rover") (codes "nav") b r n) same are in
+    absurd (never_refused told (codes "base") (codes "rover") (codes "nav") o b r n end admitted files refused)
+
+-- the reading of files that are admitted, none of which fails, doesn't stop
+pub never_stops : (system : System) (told : List ℕ → Option (List ℕ)) (base rover nav : List ℕ) (o : Options) (stop : JobStop) (P : Ending → Type 0)
+    → system ≡ system_of o.system → AreAdmitted told base rover nav o
+    → IfEnds stop (λ end. StopsAtFiles system told base rover nav end) → IfEnds stop (λ end. end.status ≢ ReadFault) → IfEnds stop P
+never_stops system told base rover nav o (Ended answer) P same admitted stops no_fault =
+    absurd (no_stop (system_of o.system) told base rover nav (ending_of answer) admitted.base_is admitted.rover_is admitted.nav_is no_fault
+    (subst (λ (s : System). StopsAtFiles s told base rover nav (ending_of answer)) same stops))
+never_stops system told base rover nav o NoMemory P same admitted stops no_fault = tt

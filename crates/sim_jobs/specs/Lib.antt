@@ -1,0 +1,10 @@
+pub mod SimRunJobs
+pub mod SimRunSays
+pub mod Sims
+pub mod SimRuns
+pub mod Matches
+pub mod Reads
+pub mod Printed
+pub mod NavRecords
+pub mod ObsFiles
+pub mod SameWords

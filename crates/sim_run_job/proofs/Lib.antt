@@ -1,4 +1,0 @@
-pub mod MadeFiles
-pub mod RunArcs
-pub mod RunEnds
-pub mod RunSays

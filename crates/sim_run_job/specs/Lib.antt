@@ -1,2 +1,0 @@
-pub mod SimRunJobs
-pub mod SimRunSays

@@ -1,8 +1,0 @@
-use Rattle.sim_text_laws.proofs.Dates.{moment_is, ticks_are}
-use Rattle.sim_text_laws.proofs.written.new_year_law.Goals as goal
-
-pub returns-clause-moment : goal.returns-clause-moment
-returns-clause-moment c = moment_is
-
-pub returns-clause-ticks : goal.returns-clause-ticks
-returns-clause-ticks c = ticks_are

@@ -1,5 +1,0 @@
-pub mod Reads
-pub mod Printed
-pub mod NavRecords
-pub mod ObsFiles
-pub mod SameWords
