@@ -42,7 +42,7 @@
 //!
 //! A command has a variant of `Job` with its words (crate command_words), and in a crate of commands a struct with one
 //! method: a `TextCommand` on one file, as `Orbit` of file_jobs, or a `SessionCommand` on the three of a session, as `Fix` of
-//! fix_job, with what it answers in specs/. Here it has cases of `JobEnds`, `IsReadable` and `SaysOfJob` (specs/Jobs.antt), of
+//! session_jobs, with what it answers in specs/. Here it has cases of `JobEnds`, `IsReadable` and `SaysOfJob` (specs/Jobs.antt), of
 //! the three lemmas over them (proofs/Completes.antt, proofs/Says.antt), and an arm in `do_job` with its answer. What is said
 //! of statuses, sinks, files, faults and completeness (specs/Runs.antt) stays as it is.
 #![tactic(auto)]

@@ -11,17 +11,15 @@ ghost use Rattle.session_files.specs.SessionJobs.{SessionEnds, IsPairLine};
 ghost use Rattle.baseline_app.specs.Jobs.{PartEnds, JobEnds, IsReadable, SaysOfJob, AnswersJob, AnswersUsage, stop_end, end_of};
 ghost use Rattle.baseline_app.specs.Runs.{IsRun, UsesFiles, IsComplete, IsStarted, HasNoWords};
 
-use session_jobs::KeptArcs;
 use cert_jobs::{CertCheck, Migration, Residuals};
 use command_words::{Job, Part, Word, WordFault, read_words};
 use file_jobs::{Claim, Orbit, list};
-use session_jobs::Fix;
 use job_answers::{JobOutput, JobStop, Status, answer_file, deliver, usage};
 use line_source::{Files, Sink};
 use run_options::Options;
 use session_files::{SessionCommand, answer_session};
-use sim_jobs::sim;
-use sim_jobs::sim_run;
+use session_jobs::{Fix, KeptArcs};
+use sim_jobs::{sim, sim_run};
 use std::alloc::{AllocError, Global};
 use track_job::{MovingRover, TrackCheck};
 

@@ -1,4 +1,3 @@
-//! ---- cert_check
 //! The check of a certificate: its rows are decided again, and its tail is compared with what they say.
 //!
 //! `check` decides the rows of a certificate again and reads nothing of its tail before. Each verdict has its
@@ -7,10 +6,8 @@
 //! where the rows are fixed and the tail says their numbers; and then the tail's first integers with its move are
 //! strictly best for the rows, and best by the ratio, whoever wrote the text (`strictly_best`, `by_ratio`).
 //! `are_same_best` compares two pairs of least vectors.
-//! ---- settled_decision
-//! The decision of a fine session's rows, as a tail.
 //!
-//! `form_of_rows` gives the form of a session's rows, or the refusal of their elimination. `decide_settled` takes a form
+//! The decision of a fine session's rows, as a tail: `form_of_rows` gives the form of a session's rows, or the refusal of their elimination. `decide_settled` takes a form
 //! that is known, searches its two least vectors and decides whether the first is fixed. Its answer is spent or too wide
 //! only where the form has no reduced count within the budget, and else says of the baseline, the upper sum and the ratio
 //! exactly what they are (`decision`). It is a tail that a certificate of the session may have (`fits`), and where it says

@@ -7,9 +7,9 @@ ghost use Rattle.cert_check.specs.Said.{IsSaidOf};
 ghost use Rattle.cert_check.specs.Verdicts.{IsVerdictOf, IsSameVerdict};
 ghost use Rattle.cert_check.specs.Visits.{RestsWithin};
 
+use crate::decided::decide_rows;
 use crate::tails::says;
 use cert_data::{Cause, Cert, Tail, Verdict};
-use crate::decide_rows;
 
 /// What is said of rows that are decided so, where a text has this tail.
 fn said_of(decided: &Tail, tail: &Tail) -> Verdict

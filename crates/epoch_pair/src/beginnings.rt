@@ -5,8 +5,10 @@ ghost use Rattle.epoch_pair.specs.Pairs.{Follows, IsNearPair};
 ghost use Rattle.obs_rows.specs.BandSets.{bands_of};
 ghost use Rattle.epoch_pair.specs.Beginnings.{IsPosition, LacksPosition, AreSignals, AreSparse, IsSessionFault, pairs_of, AreTaken, fault_of};
 
-use crate::{PairWhat, SessionFault};
-use crate::{PairFault, PairOf, pair, signals, take};
+use crate::faults::{PairWhat, SessionFault};
+use crate::pairs::{PairFault, PairOf, pair};
+use crate::shared::signals;
+use crate::taken::take;
 use obs_rows::{Signals, is_receiver_point};
 use obs_store::ObsFile;
 use run_options::Options;

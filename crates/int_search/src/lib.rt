@@ -1,10 +1,8 @@
-//! ---- int_search
 //! The two integer vectors at which a form is least, found among all integer vectors.
 //!
 //! The search takes the entries of a vector from the last to the first and leaves out each suffix whose lower sum is past
-//! the second best value so far (`suffix_search`). It answers in the form's own coordinates. `plain_best` searches in them as
-//! well, and `two_best` first in decorrelated ones (`decorrelate`, `reduced_form`), where a map gives the vectors of the
-//! answer.
+//! the second best value so far. It answers in the form's own coordinates. `plain_best` searches in them as well, and
+//! `two_best` first in decorrelated ones (`decorrelate`), where a map gives the vectors of the answer.
 //!
 //! `two_best` finds the two integer vectors at which an integer form is least. An
 //! answer has the least of all integer vectors, of whole numbers of any size, by the form's value and then by entries
@@ -19,29 +17,19 @@
 //! the budget are within the second value. Where both could be said, the budget is asked first. Where the form has a reduced count that is at most the budget, it answers (`reduced`): it searches in the coordinates of
 //! `reduce` first, and where that ends without an answer, in the form's own ones with the same budget. `plain_best`
 //! is the second search alone, with the first four clauses, `visits` in the form's own coordinates. No call takes
-//! memory. suffix_search has the definitions and the theory, over any form whose lower sums stay below its values;
-//! the engine takes a map to the coordinates of the answer, and `plain_best` gives it the identity.
-//! ---- reduced_form
-//! An integer form in the coordinates of a map: at each vector it has the value that the form has at the vector's image.
+//! memory. The engine takes a map to the coordinates of the answer, and `plain_best` gives it the identity.
 //!
-//! `transformed` gives exactly the form of the integers and the constant in the coordinates of a map, with the matrix
-//! Mᵀ·p·M, where 1 stands for the constant, and the same h; it is refused exactly where an entry of this matrix is
-//! 2^52 or more in size. At each vector the new form has the value that the old one has at the vector's image
-//! (`value_law`). It takes no memory.
-//! ---- suffix_search
-//! The search for the two integer vectors at which a form is least, as a theory of suffixes, and its stack of levels.
+//! `coordinates::transformed` gives exactly the form in the coordinates of a map, with the matrix Mᵀ·p·M, where 1 stands for
+//! the constant, and the same h; it is refused exactly where an entry of this matrix is 2^52 or more in size. At each vector
+//! the new form has the value that the old one has at the vector's image (`value_law`).
 //!
 //! A suffix is the list of a vector's entries from one place on. Its lower sum is a lower bound of 2^60 times the form's
 //! value at each vector that ends with it, so a search that takes the entries from the last to the first can leave out a
 //! suffix whose lower sum is past the best values that it has met.
 //!
-//! `Stack` is seen in contracts as the list of its levels with the latest first, and its calls are exact: `push` puts a
-//! level before the others, of which there are fewer than 60 (`MOST_INTEGERS`), `pop` takes the latest away, `replace`
-//! puts one in its place, `top` is the latest and `len` the number of levels. Whoever calls `pop`, `replace` or `top`
-//! knows that there is one. Nothing is refused, and no memory is taken. No clause says what the numbers of a `Level` are
-//! to each other: the definitions `IsFresh`, `Chooses` and `Moves` of int_search do, and `IsLevel` here.
+//! `stack::Stack` is seen in contracts as the list of its levels with the latest first.
 //!
-//! `specs/` has what int_search promises by: lower sums (`Suffixes`), the order of vectors and the two least (`Order`),
+//! `specs/` has what the search promises by: lower sums (`Suffixes`), the order of vectors and the two least (`Order`),
 //! the plain count (`PlainCount`), which suffix comes first (`VisitOrder`), what levels leave open (`Levels`), what a search keeps from turn to turn (`Search`).
 //! `proofs/` has their laws for every form whose lower sums stay below its values (`IsSearchable`).
 #![tactic(auto)]
@@ -64,8 +52,6 @@ mod values;
 mod walk;
 
 pub use answer::{SearchFault, TwoBest};
-pub use coordinates::transformed;
 pub use laws::value_law;
 pub use reduced::two_best;
 pub use search::plain_best;
-pub use stack::{Level, Stack};

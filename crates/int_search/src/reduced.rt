@@ -5,12 +5,12 @@ ghost use Rattle.int_search.specs.ReducedCounts.{HasReducedCount, IsVisitedReduc
 ghost use Rattle.int_search.specs.declared.answer.SearchFault.TheVariants as SearchFault;
 
 use crate::answer::{SearchFault, TwoBest};
+use crate::coordinates::transformed;
 use crate::search::{plain_best, search};
 use decorrelate::reduce;
 use elimination::finish;
 use form_tables::BASELINE_COLUMNS;
 use integer_form::Form;
-use crate::transformed;
 
 // The two least vectors, searched in the coordinates of the reduction; None where this attempt ends without an answer.
 fn reduced_best(form: &Form, budget: u64) -> Option<TwoBest>

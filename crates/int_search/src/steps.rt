@@ -3,7 +3,7 @@ ghost use Rattle.std.specs.Prelude.{◌≡◌, ◌+◌, ◌^◌, ◌<◌, ◌≤
 ghost use Rattle.int_search.specs.Steps.{IsFresh, Chooses, Moves, IsTermWithin};
 ghost use Rattle.whole_math.specs.Rounding.{floor_div, ceil_div, nearest_div};
 
-use crate::Level;
+use crate::stack::Level;
 
 /// The entry that comes next at a level.
 #[derive(Clone, Copy, Debug)]

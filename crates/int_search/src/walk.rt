@@ -12,6 +12,7 @@ use crate::images::image;
 use crate::orders::order;
 use crate::points::{neighbour_point, rounded_point};
 use crate::rests::later_part;
+use crate::stack::{Level, Stack};
 use crate::steps::{
     Choice, first_low, fresh, is_large, low_with, moved, nearest, room, term_within,
 };
@@ -19,7 +20,6 @@ use crate::values::value_at;
 use form_tables::{BASELINE_COLUMNS, MOST_INTEGERS, MapTable};
 use integer_form::Form;
 use std::cmp::Ordering;
-use crate::{Level, Stack};
 
 /// The state of a search.
 #[derive(Drop)]

@@ -9,7 +9,7 @@
 //! boxes of these elements alone. No call takes memory, and none is refused.
 //!
 //! The type `World` has two values, the constants of GPS and of Galileo. That a record's equations have a near solution is
-//! a law of orbit_laws.
+//! a law of orbit_exists.
 #![tactic(auto)]
 
 mod correction;

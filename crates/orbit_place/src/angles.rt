@@ -6,10 +6,10 @@ ghost use Rattle.orbit_model.specs.Elements.{earth_rate};
 ghost use Rattle.orbit_place.specs.Rotations.{HoldsBoth};
 ghost use Rattle.orbit_place.specs.Held.{ForSolutions};
 
+use crate::orbit::{ANGLE, EPOCH_TIME, Orbit, SMALL, TINY};
 use crate::plane::{ANGLE_CHANGE, ANGLE_CHANGE_WIDTH, TWICE_WIDTH, angle_change};
-use crate::{ANGLE, EPOCH_TIME, Orbit, SMALL, TINY};
+use crate::rotations::{Rotation, rotation_of, wide_rotation_of};
 use iv_core::Iv;
-use crate::{Rotation, rotation_of, wide_rotation_of};
 use sized_box::SizedBox;
 
 // What the inclination turns by since the reference epoch.

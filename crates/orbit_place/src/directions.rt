@@ -7,8 +7,8 @@ ghost use Rattle.orbit_place.specs.Directions.{direction, HoldsPoint, HasPointNe
 
 use crate::angles::{INCLINATION_WIDTH, NODE_WIDTH};
 use crate::plane::CORRECTED_WIDTH;
+use crate::rotations::{Rotation, SIZE};
 use iv_core::Iv;
-use crate::{Rotation, SIZE};
 use sized_box::SizedBox;
 
 // A product of two parts of pairs, and of three.

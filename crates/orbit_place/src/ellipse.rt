@@ -7,7 +7,7 @@ ghost use Rattle.orbit_model.specs.Solution.{one};
 ghost use Rattle.orbit_place.specs.Rotations.{HoldsBoth};
 ghost use Rattle.orbit_place.specs.Ellipses.{IsTrueAnomaly};
 
-use crate::{Rotation, SIZE};
+use crate::rotations::{Rotation, SIZE};
 use iv_core::Iv;
 use sized_box::SizedBox;
 

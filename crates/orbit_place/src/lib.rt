@@ -1,4 +1,3 @@
-//! ---- orbit_place
 //! Boxes of a satellite's Earth-fixed place, from boxes of the numbers of its orbit: the user algorithm of IS-GPS-200 (table
 //! 20-IV) from the true anomaly on.
 //!
@@ -6,10 +5,10 @@
 //! pair of the eccentric anomaly. Its three boxes hold the place of every solution of the user algorithm whose
 //! numbers lie in the boxes (`holds`). Each is at most 2^-18 m wide (`narrow`), and every place in them is from
 //! 19,000 km to 38,000 km from the Earth's centre (`away`). It takes no memory and is never refused.
-//! ---- rotation_box
-//! Boxes of the cosine and the sine of an angle that know that they hold a pair near the circle of radius 1. So the boxes of
-//! a sum of angles have ends of at most a little over 1 again. How near that pair is stands in the type, in 2^-16, and is at
-//! most 32 of them: a sum counts those of both its angles and one more.
+//!
+//! The boxes of a sum of angles have ends of at most a little over 1 again, since a box of a cosine and a sine knows how near
+//! the circle of radius 1 it holds a pair: that stands in its type, in 2^-16, and is at most 32 of them. A sum counts those
+//! of both its angles and one more.
 //!
 //! A `Rotation` is a box of a cosine and one of a sine that hold a pair near the circle of radius 1, and its type
 //! says how near and how wide. `rotation_of` and `wide_rotation_of` hold every pair of every angle in a box, `turn`
@@ -25,24 +24,21 @@ mod orbit;
 mod plane;
 mod rotations;
 
-pub use ellipse::{
-    ANOMALY_WIDTH, ECCENTRICITY, OnEllipse, RADIUS, RADIUS_WIDTH, TRUE_WIDTH, on_ellipse,
-};
-pub use orbit::{ANGLE, AXIS, EPOCH_TIME, Orbit, RADIUS_CHANGE, SMALL, TINY};
-pub use crate::{ANOMALY_WIDTH, ECCENTRICITY};
-pub use rotations::{SIZE, Rotation, rotation_of, wide_rotation_of, eccentric_pair};
-
 ghost use Rattle.std.specs.Prelude.{◌≡◌, ◌^◌, pos, ◌≤ℤ◌, [], ◌∷◌, All};
 ghost use Rattle.iv_core.specs.declared.Iv.{Iv};
 ghost use Rattle.iv_core.specs.Intervals.{width_of};
 ghost use Rattle.orbit_model.specs.Places.{IsBetweenDistances};
 ghost use Rattle.orbit_place.specs.Held.{ForSolutions, HoldsPlace};
 
-
 use angles::{inclination_of, node_of};
 use directions::direction_of;
+pub use ellipse::{
+    ANOMALY_WIDTH, ECCENTRICITY, OnEllipse, RADIUS, RADIUS_WIDTH, TRUE_WIDTH, on_ellipse,
+};
 use iv_core::Iv;
+pub use orbit::{ANGLE, AXIS, EPOCH_TIME, Orbit, RADIUS_CHANGE, SMALL, TINY};
 use plane::in_plane;
+pub use rotations::{Rotation, SIZE, eccentric_pair, rotation_of, wide_rotation_of};
 use sized_box::SizedBox;
 
 // A coordinate.

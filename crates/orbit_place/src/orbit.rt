@@ -1,7 +1,8 @@
 //! The numbers of an orbit, and how large they are.
 ghost use Rattle.std.specs.Prelude.{◌*◌, ◌^◌, ◌<◌, pos, ◌≤ℤ◌};
 
-use crate::{ANOMALY_WIDTH, ECCENTRICITY, Rotation};
+use crate::crate::{ANOMALY_WIDTH, ECCENTRICITY};
+use crate::rotations::Rotation;
 use sized_box::SizedBox;
 
 /// 36,000 km at 2^-36 m: the greatest semi-major axis.

@@ -7,8 +7,9 @@ ghost use Rattle.orbit_model.specs.Solution.{harmonic, turned, IsPairOf5};
 ghost use Rattle.orbit_place.specs.Rotations.{HoldsBoth};
 ghost use Rattle.orbit_place.specs.Held.{ForSolutions};
 
-use crate::{ANGLE, AXIS, Orbit, RADIUS_CHANGE, SMALL};
-use crate::{RADIUS, RADIUS_WIDTH, Rotation, TRUE_WIDTH, on_ellipse, rotation_of};
+use crate::ellipse::{RADIUS, RADIUS_WIDTH, TRUE_WIDTH, on_ellipse};
+use crate::orbit::{ANGLE, AXIS, Orbit, RADIUS_CHANGE, SMALL};
+use crate::rotations::{Rotation, rotation_of};
 use sized_box::SizedBox;
 
 const PERIGEE_WIDTH: u64 = 544;

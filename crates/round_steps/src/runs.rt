@@ -10,10 +10,10 @@ ghost use Rattle.round_steps.specs.Shifts.{AreSameArcs, AreShiftsBelow};
 ghost use Rattle.round_steps.specs.Runs.{Rules, StayTheSame, IsSessionAt, SettlesAt, IsCoarseEnd, IsEnd, FitsEnd, IsBestEnd, round_at, most_rounds, coarse_sessions, sessions_of};
 
 use crate::{Step, grown, round_step};
+use cert_check::decide_settled;
 use cert_data::{RoundCounts, Stage, Tail};
 use integer_form::Place;
 use obs_rows::{Arc, COARSE_SCALE, Session, fine_signals};
-use cert_check::decide_settled;
 use std::alloc::{AllocError, Global};
 
 /// What gives a run its sessions, and counts them.

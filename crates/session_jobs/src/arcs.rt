@@ -4,13 +4,12 @@ ghost use Rattle.epoch_pair.specs.Beginnings.{IsPosition, AreSignals, AreSparse,
 ghost use Rattle.screening.specs.Screening.{ArePairsOf};
 ghost use Rattle.session_jobs.specs.ArcJobs.{AreArcsOf, AnswersArcs};
 
-
 use eph_store::NavFile;
+use epoch_pair::{Begun, SessionFault, begin};
 use job_answers::{JobOutput, Status};
 use obs_store::ObsFile;
 use run_options::Options;
 use screening::screen_in;
-use epoch_pair::{Begun, SessionFault, begin};
 use session_files::SessionCommand;
 use slip_arcs::{Arcs, cut};
 use std::alloc::{AllocError, Global};

@@ -4,8 +4,6 @@ ghost use Rattle.sim_session.specs.Texts.{tracking_of, IsBaseText, IsRoverText, 
 ghost use Rattle.sim_jobs.specs.Reads.{ReadsAsBase, ReadsAsRover, ReadsAsRecords};
 ghost use Rattle.sim_jobs.specs.SameWords.{DifferInSignals};
 
-
-
 /// The texts of a session are files by the readers' own definitions, with the values that they were made of. There is
 /// nothing to run: the contract is the law, and its premises are clauses of `make`.
 pub fn reading_law()

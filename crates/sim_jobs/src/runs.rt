@@ -9,6 +9,7 @@ ghost use Rattle.obs_rows.specs.Ranges.{IsSystem};
 ghost use Rattle.session_jobs.specs.FixJobs.{status_of};
 ghost use Rattle.sim_jobs.specs.SimRunJobs.{AreOptionsOn, truth_in, run_text, SimRunEnd, SimRunEnds};
 
+use crate::matches::is_matched;
 use crate::report::run_text;
 use cert_data::Answer;
 use job_answers::{JobOutput, JobStop, Status};
@@ -18,7 +19,6 @@ use rinex_head::System;
 use run_options::Options;
 use session::{SessionFault, process};
 use session_files::{SessionFiles, read_session, refused_pair};
-use crate::is_matched;
 use sim_session::{Made, make};
 use std::alloc::{AllocError, Global};
 

@@ -1,55 +1,43 @@
-//! ---- sim_session
 //! Simulated sessions: from a seed the observation files of a base and of a rover, and the navigation file of the satellites that both
 //! see, with what a processor should find.
 //!
-//! `make` answers the three texts of a seed and the
-//! truth that they were made of (`base`, `rover`, `nav`, `truth`, `offset`), exactly but for the codes and phases of
-//! the two receivers, which are a choice within 2 mm and 2 thousandths of a cycle of the exact value: the draws of
+//! `make` answers the three texts of a seed and the truth that they were made of (`base`, `rover`, `nav`, `truth`,
+//! `offset`), exactly but for the codes and phases of the two receivers, which are a choice within 2 mm and 2 thousandths of a cycle of the exact value: the draws of
 //! the seed (`draw_all`), the satellites' records, each number with the 13 digits that its columns hold, and the
 //! lines of both kinds of file to the byte (`write_header`, `write_epoch`, `write_navigation`). Each code that
 //! `observe` gives is within 2 mm of what is measured at it in every solution of the satellite's place and clock, by
 //! the constants of its system, and of its seen place, and each phase within 2 thousandths of a cycle (`IsObserved`);
 //! every number has room in its columns.
-//! ---- sim_draws
-//! The draws of a simulated session: from a seed the rover's place, both receivers' clock terms, and the whole cycles of each
-//! satellite's phases.
 //!
-//! `draw_all` gives exactly what `specs/Values.antt` defines of the seed. A draw is the upper 31 bits of a state, and the
+//! *Draws.* `draw_all` gives exactly what `specs/Values.antt` defines of the seed. A draw is the upper 31 bits of a state, and the
 //! states follow each other by a linear congruence modulo 2^64 (`specs/Sequence.antt`). The draws have one order: the
 //! rover's offset, the two clock terms, each satellite's cycles on L1 and L2 at the base and at the rover, and after those
 //! of all satellites the cycles on L5, which are 0 where L5 isn't used. A coordinate of the offset is at most 1 km, a clock
 //! term at most 100 m, a number of cycles at most 1,000,000 in size. The one error is out of memory. No clause says that
 //! the draws are spread as chance would spread them.
-//! ---- sim_texts
-//! The text of a simulated session's observation files, in RINEX 3.04.
 //!
-//! `write_header` appends exactly the header for what is tracked (`header_text`), `write_epoch` exactly the lines of an
+//! *Observation files*, in RINEX 3.04. `write_header` appends exactly the header for what is tracked (`header_text`), `write_epoch` exactly the lines of an
 //! epoch (`epoch_text`); a header and its epochs are a file's text (`observation_text`). A header has at most 480 bytes, an
 //! epoch at most 36 and 98 for each satellite (`size`). Who calls owes amounts that have room in their 14 columns, from 0 to
 //! below 10^10 mm or cycles (`AreInColumns`), at most 99 satellites, and a second of one day. The one error is out of
 //! memory; after it a part of the text may have been appended. That the readers read such a text as what it was made of
-//! is proved in crate sim_text_laws.
-//! ---- sim_signals
-//! What a receiver of a simulated session observes of a satellite: codes and phases that agree with every solution of the
-//! satellite's place and clock.
+//! is a law of sim_jobs (`reading_law`).
 //!
-//! `observe` gives one code for all bands and a phase on each. The code comes in six steps from 25,000 km, each within 2 mm
+//! *Signals* that agree with every solution of the satellite's place and clock. `observe` gives one code for all bands and a phase on each. The code comes in six steps from 25,000 km, each within 2 mm
 //! of what is measured in every solution with the code before it (`IsReachedIn`); each phase is within 2 thousandths of a
 //! cycle of what is measured in every solution with that code, and the whole cycles that are asked for (`IsPhase`). What
 //! is measured is the range less c times what the satellite's clock is ahead, and the receiver's clock term: it has
 //! neither noise nor atmosphere. Each number has room in its columns (`columns`), and no call fails. Who calls owes a tag
 //! within 7201 s of the record's time and cycles of at most 1,000,000; a `Receiver` is on the Earth, and its clock term
 //! at most 100 m, by its type. No clause says which of the numbers within these bounds comes. That there is a solution is
-//! a law of orbit_laws.
-//! ---- sim_records
-//! The satellites of a simulated session: their records, and the navigation file that gives them.
+//! a law of orbit_exists.
 //!
-//! `satellites` gives exactly the records of the first satellites of a system, at most 15 (`AreSatellites`): each value
+//! *Records.* `satellites` gives exactly the records of the first satellites of a system, at most 15 (`AreSatellites`): each value
 //! equals the rational number that its definition states, with the time 2024-01-01 00:00:00, and is written with 13 digits
 //! (`IsNormal`). `write_navigation` appends exactly the file of any records (`navigation_text`), which has 155 bytes and 648
 //! for each record. A number is written as what it is where it is normal and its exponent has two digits, as in these
 //! records; of others no clause says what their text stands for. The one error is out of memory; after it a part of the
-//! text may have been appended. That the reader reads the file as its records is proved in crate sim_text_laws.
+//! text may have been appended. That the reader reads the file as its records is a law of sim_jobs.
 #![tactic(auto)]
 
 mod columns;
@@ -66,14 +54,6 @@ mod records;
 mod signals;
 mod texts;
 
-pub use drawn::{Cycles, Drawn, draw_all};
-pub use navigation::write_navigation;
-pub use passes::observe;
-pub use receiver::Receiver;
-pub use records::satellites;
-pub use signals::{Signals, Tracking};
-pub use texts::{write_epoch, write_header};
-
 ghost use Rattle.std.specs.Prelude.{◌≡◌, ◌^◌, ◌<◌, ◌≤◌, vec_len, IfOk};
 ghost use Rattle.obs_rows.specs.BandSets.{IsBandsNumber};
 ghost use Rattle.obs_rows.specs.declared.band_sets.TheConstants.{BANDS_L1_L5};
@@ -81,15 +61,16 @@ ghost use Rattle.obs_rows.specs.Ranges.{IsSystem};
 ghost use Rattle.sim_session.specs.Values.{offset_of, truth_of, first_of};
 ghost use Rattle.sim_session.specs.Texts.{has_l5, tracking_of, IsBaseText, IsRoverText, IsNavigationText};
 
-
+pub use drawn::{Cycles, Drawn, draw_all};
+pub use navigation::write_navigation;
 use obs_rows::BANDS_L1_L2;
 use observations::observation_file;
 use receivers::{base_receiver, rover_receiver};
-use crate::{Drawn, draw_all};
-use crate::{satellites, write_navigation};
-use crate::Tracking;
+pub use records::satellites;
+pub use signals::{Signals, Tracking};
 use std::alloc::{AllocError, Global};
 use sv_orbit::world_of;
+pub use texts::{write_epoch, write_header};
 
 /// A simulated session: the texts of both observation files and of the navigation file; for each satellite what the rover's whole
 /// cycles are more than the base's, on L1, L2 and L5; and what the rover lies off the base, in mm.

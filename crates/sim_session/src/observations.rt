@@ -5,11 +5,13 @@ ghost use Rattle.sim_session.specs.Values.{AreSmall};
 ghost use Rattle.sim_session.specs.Observations.{step_of, AreObserved, IsObservationText};
 ghost use Rattle.sim_session.specs.Limits.{IsOnTime};
 
+use crate::passes::observe;
+use crate::receiver::Receiver;
+use crate::signals::{Signals, Tracking};
+use crate::texts::{write_epoch, write_header};
 use eph_store::Eph;
 use gps_time::Tick;
 use orbit_clock::World;
-use crate::{Receiver, observe};
-use crate::{Signals, Tracking, write_epoch, write_header};
 use std::alloc::{AllocError, Global};
 
 /// 2024-01-01 00:00:00.

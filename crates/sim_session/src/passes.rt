@@ -5,14 +5,14 @@ ghost use Rattle.orbit_clock.specs.Records.{constants_of};
 ghost use Rattle.sim_session.specs.ObservationText.{AreInColumns};
 ghost use Rattle.sim_session.specs.Observed.{ForSolutions, IsDistance, IsCodeAfter, IsReachedIn, IsObserved};
 
-use crate::Receiver;
 use crate::distances::{Distance, code_of, distance_of, phase_of};
+use crate::receiver::Receiver;
+use crate::signals::Signals;
 use eph_store::Eph;
 use gps_time::Tick;
 use obs_rows::{UNIT_FREQUENCY, WAVELENGTHS};
 use orbit_clock::World;
 use signal_travel::seen_from;
-use crate::Signals;
 use sv_orbit::sv_with;
 
 /// 25,000 km in mm.

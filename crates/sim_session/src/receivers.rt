@@ -2,7 +2,7 @@
 ghost use Rattle.std.specs.Prelude.{◌≡◌, ◌≤◌, pos, ◌+ℤ◌, ◌*ℤ◌, [], ◌∷◌, unsigned_abs};
 ghost use Rattle.sim_session.specs.Texts.{base_point};
 
-use crate::Receiver;
+use crate::receiver::Receiver;
 
 /// 6,378,137 m in units of 0.1 mm.
 const EQUATOR: i64 = 63_781_370_000;

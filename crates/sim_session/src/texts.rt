@@ -4,7 +4,7 @@ ghost use Rattle.sim_session.specs.ObservationText.{version_line, types_line, he
 ghost use Rattle.sim_session.specs.Tracked.{amounts_of};
 
 use crate::columns::push_fixed;
-use crate::{Signals, Tracking};
+use crate::signals::{Signals, Tracking};
 use decimal_text::push_digits;
 use std::alloc::{AllocError, Global};
 

@@ -9,7 +9,7 @@
 //! the constants of GPS. No call takes memory, and none is refused.
 //!
 //! `world_of` gives the constants of a satellite system by its letter, and `worlds_law` says what these are in the units
-//! of their documents. That the equations of a record have a near solution is a law of orbit_laws.
+//! of their documents. That the equations of a record have a near solution is a law of orbit_exists.
 #![tactic(auto)]
 
 mod place;

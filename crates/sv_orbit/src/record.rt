@@ -15,8 +15,7 @@ use decimal_box::decimal_box;
 use eph_store::Eph;
 use gps_time::Tick;
 use orbit_clock::{AXIS, ClockRecord, Timing, World, axis, timing_at};
-use orbit_place::{ANGLE, Orbit, RADIUS_CHANGE, SMALL, TINY, place_of};
-use orbit_place::eccentric_pair;
+use orbit_place::{ANGLE, Orbit, RADIUS_CHANGE, SMALL, TINY, eccentric_pair, place_of};
 use sized_box::SizedBox;
 
 /// A record with the constants of its system, and boxes of all that its satellite's place and clock are made from: what does not

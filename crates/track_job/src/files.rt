@@ -7,10 +7,10 @@ ghost use Rattle.epoch_pair.specs.Beginnings.{IsPosition};
 ghost use Rattle.track_job.specs.TrackOutcomes.{AreScreenedArcs};
 
 use eph_store::NavFile;
+use epoch_pair::{Begun, Options};
 use obs_rows::ArcList;
 use obs_store::ObsFile;
 use screening::{Screened, screen_in};
-use epoch_pair::{Begun, Options};
 use slip_arcs::cut;
 use std::alloc::{AllocError, Global};
 use sv_orbit::world_of;

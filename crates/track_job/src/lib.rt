@@ -1,4 +1,3 @@
-//! ---- track_job
 //! The commands of a moving rover: `track`, one baseline for each pair of epochs with the certificate of their common
 //! integers, and `check-track`, which decides the rows of such a certificate again.
 //!
@@ -14,11 +13,10 @@
 //! `TrackCheck` answers the text of a certificate of a track with the verdict on it (`CheckTrackEnd`): with `certified` the rows
 //! are fixed, the tail says the same numbers, and its first integers with its moves are strictly best, and best by the ratio,
 //! whoever wrote it; each other answer has its cause, and no other verdict's condition holds, but where a search gave up.
-//! ---- track_report
-//! What is printed of a track: on out its certificate, or the one line that says why there is none; on err how much of the
-//! files went into it, which pairs it lost, the place of each tracked pair, and the verdict.
 //!
-//! `write_track_outcome` appends exactly these two texts (`out`, `err`), and tells that the arrays of a printed certificate have
+//! What is printed of a track: on out its certificate, or the one line that says why there is none; on err how much of the
+//! files went into it, which pairs it lost, the place of each tracked pair, and the verdict. `write_track_outcome` appends
+//! exactly these two texts (`out`, `err`), and tells that the arrays of a printed certificate have
 //! their lengths, so that its text is no other's (`whole`). `is_track_fixed` says exactly whether a track is a fix.
 #![tactic(auto)]
 
@@ -32,8 +30,6 @@ mod places;
 mod texts;
 mod tracks;
 
-pub use answers::{TrackAnswer, TrackOutcome};
 pub use checks::TrackCheck;
 pub use laws::lost_words_law;
-pub use texts::{is_track_fixed, write_track_outcome};
 pub use tracks::MovingRover;

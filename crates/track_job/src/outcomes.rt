@@ -9,17 +9,17 @@ ghost use Rattle.epoch_pair.specs.Beginnings.{IsSessionFault};
 ghost use Rattle.track_rows.specs.Tracks.{IsTrackOf};
 ghost use Rattle.track_job.specs.TrackOutcomes.{IsTrackable, IsTrackAnswer, IsTrackOutcome};
 
+use crate::answers::{TrackAnswer, TrackOutcome};
 use crate::files::{ScreenedArcs, screened_arcs};
 use eph_store::NavFile;
+use epoch_pair::{Begun, Options, SessionFault, begin};
 use obs_rows::Arc;
 use obs_store::ObsFile;
 use round_steps::{are_few, are_many, free_count};
 use session::have_delta;
-use epoch_pair::{Begun, Options, SessionFault, begin};
 use std::alloc::{AllocError, Global};
 use track_data::{Items, Lost, TrackCert, Tracked};
 use track_form::decide_track;
-use crate::{TrackAnswer, TrackOutcome};
 use track_rows::track_at;
 
 /// An answer, with the pairs that are lost.

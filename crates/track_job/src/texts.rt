@@ -3,9 +3,9 @@ ghost use Rattle.std.specs.Prelude.{◌≡◌, ◌++◌, OnOk, All, length};
 ghost use Rattle.cert_data.specs.Tails.{IsMove};
 ghost use Rattle.track_job.specs.TrackTexts.{track_answer_text, IsWholeTrackAnswer, tracked_text, decided_text, track_verdict_text, track_outcome_text, is_track_fixed};
 
+use crate::answers::{TrackAnswer, TrackOutcome};
 use crate::lost::push_lost_lines;
 use crate::places::push_places;
-use crate::{TrackAnswer, TrackOutcome};
 use outcome_report::{push_counts, push_decline, push_delta, push_verdict_line};
 use std::alloc::{AllocError, Global};
 use track_data::{Track, TrackCert, TrackTail};

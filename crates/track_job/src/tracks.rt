@@ -3,15 +3,16 @@ ghost use Rattle.std.specs.Prelude.{◌≡◌};
 ghost use Rattle.job_answers.specs.Statuses.{IsVerdictStatus};
 ghost use Rattle.track_job.specs.TrackJobs.{track_status_of, AnswersTrack};
 
+use crate::answers::TrackAnswer;
 use crate::outcomes::track_outcome;
+use crate::texts::{is_track_fixed, write_track_outcome};
 use eph_store::NavFile;
+use epoch_pair::SessionFault;
 use job_answers::{JobOutput, Status};
 use obs_store::ObsFile;
 use run_options::Options;
-use epoch_pair::SessionFault;
 use session_files::SessionCommand;
 use std::alloc::Global;
-use crate::{TrackAnswer, is_track_fixed, write_track_outcome};
 
 // Done for a fix, else declined.
 fn track_status_of(answer: &TrackAnswer) -> Status

@@ -12,7 +12,7 @@ ghost use Rattle.round_steps.specs.Shifts.{AreSameArcs};
 ghost use Rattle.round_steps.specs.Runs.{IsSessionOf, round_at};
 ghost use Rattle.track_rows.specs.PairRules.{rows_setting, rules_of_pair, setting_of, AreReady};
 
-use crate::TrackFiles;
+use crate::files::TrackFiles;
 use obs_rows::{Arc, ArcList, PairRows, Session, SessionBuilder};
 use row_build::{RowFault, RowSource, pair_rows_with};
 use std::alloc::Global;

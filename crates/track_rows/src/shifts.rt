@@ -10,7 +10,7 @@ ghost use Rattle.round_steps.specs.Shifts.{AreSameArcs, AreShiftsBelow};
 ghost use Rattle.track_rows.specs.PairRules.{setting_of, AreReady};
 ghost use Rattle.track_rows.specs.Trials.{IsTriedArc, AreTried, KeepsOthers, flagged};
 
-use crate::TrackFiles;
+use crate::files::TrackFiles;
 use obs_rows::Arc;
 use row_build::{RowSource, shift_with};
 use std::alloc::{AllocError, Global};

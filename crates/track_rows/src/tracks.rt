@@ -7,12 +7,12 @@ ghost use Rattle.slip_arcs.specs.Linked.{IsCutOf};
 ghost use Rattle.round_steps.specs.Shifts.{AreSameArcs};
 ghost use Rattle.track_rows.specs.Tracks.{unshifted, IsTrackOf};
 
+use crate::files::TrackFiles;
 use crate::walks::walked;
 use obs_rows::{Arc, ArcList, PHASES, PairList, Signals};
 use row_build::{Screened, base_halves};
 use std::alloc::{AllocError, Global};
 use track_data::{Items, Track, Tracked};
-use crate::TrackFiles;
 
 /// The arc with no cycles taken off its phases.
 fn unshifted(arc: &Arc) -> Arc

@@ -8,8 +8,7 @@ ghost use Rattle.round_steps.specs.Shifts.{AreSameArcs};
 ghost use Rattle.track_rows.specs.PairRules.{setting_of, AreReady};
 ghost use Rattle.track_rows.specs.Trials.{IsSettledAt, IsTrialOf, Fits, cause_of, flagged};
 
-use crate::TrackFiles;
-use crate::files::PairRounds;
+use crate::files::{PairRounds, TrackFiles};
 use crate::rows::rows_of;
 use crate::shifts::tried_arcs;
 use cert_data::Tail;

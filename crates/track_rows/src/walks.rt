@@ -6,10 +6,11 @@ ghost use Rattle.track_rows.specs.PairRules.{TrackSetting, setting_of, AreUnshif
 ghost use Rattle.track_rows.specs.Trials.{IsTrialOf, Fits, flagged};
 ghost use Rattle.track_rows.specs.Walks.{AreMarked, IsWalk};
 
+use crate::files::TrackFiles;
+use crate::trials::{Trial, try_pair};
 use obs_rows::{Arc, PairRows};
 use std::alloc::{AllocError, Global};
 use track_data::{Lost, LostCause};
-use crate::{TrackFiles, Trial, try_pair};
 
 /// The track of the pairs so far, and those of them that it hasn't got.
 #[derive(Debug, Drop)]

@@ -1,7 +1,7 @@
 use Rattle.std.proofs.Common.{arith}
 use Rattle.orbit_place.proofs.Angles.{near_circle_5}
 use Rattle.orbit_place.proofs.Turns.{both_along}
-use Rattle.orbit_place.proofs.eccentric_pair.Goals as goal
+use Rattle.orbit_place.proofs.rotations.eccentric_pair.Goals as goal
 
 pub new-requires : goal.new-requires
 new-requires c =

@@ -1,7 +1,7 @@
 use Rattle.std.proofs.Common.{arith, refl}
 use Rattle.orbit_place.proofs.Angles.{near_circle_5, narrow_5, within_16}
 use Rattle.orbit_place.proofs.Turns.{both_along}
-use Rattle.orbit_place.proofs.rotation_of.Goals as goal
+use Rattle.orbit_place.proofs.rotations.rotation_of.Goals as goal
 
 pub new-requires : goal.new-requires
 new-requires g c =

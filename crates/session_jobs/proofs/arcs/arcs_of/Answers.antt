@@ -6,7 +6,7 @@ use Rattle.obs_rows.specs.declared.used.UsedPair.{UsedPair}
 use Rattle.obs_rows.specs.BandSets.{bands_of}
 use Rattle.slip_arcs.specs.Runs.{AreKept}
 use Rattle.screening.specs.Screening.{setting_of, AreUsedPairs}
-use Rattle.session_jobs.proofs.arcs_of.Goals as goal
+use Rattle.session_jobs.proofs.arcs.arcs_of.Goals as goal
 
 pub returns : goal.returns
 returns c =

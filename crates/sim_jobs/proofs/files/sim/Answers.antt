@@ -1,7 +1,7 @@
 use Rattle.std.proofs.Common.{ℕ, List, ap}
 use Rattle.job_answers.specs.declared.status.Status.TheVariants.{Done}
 use Rattle.job_answers.specs.Endings.{ending}
-use Rattle.sim_jobs.proofs.sim.Goals as goal
+use Rattle.sim_jobs.proofs.files.sim.Goals as goal
 
 pub returns : goal.returns
 returns c = let session = c.in_ok-made.ensures in record {

@@ -1,5 +1,5 @@
 use Rattle.sim_jobs.proofs.Readings.{base_reads, rover_reads, navigation_reads}
-use Rattle.sim_jobs.proofs.reading_law.Goals as goal
+use Rattle.sim_jobs.proofs.readings.reading_law.Goals as goal
 
 pub returns-clause-base : goal.returns-clause-base
 returns-clause-base c = base_reads

@@ -1,5 +1,5 @@
 use Rattle.sim_jobs.proofs.SameWords.{one_navigation, base_differs, rover_differs}
-use Rattle.sim_jobs.proofs.same_words_law.Goals as goal
+use Rattle.sim_jobs.proofs.readings.same_words_law.Goals as goal
 
 pub returns-clause-nav : goal.returns-clause-nav
 returns-clause-nav c = one_navigation

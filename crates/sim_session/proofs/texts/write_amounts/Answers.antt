@@ -2,7 +2,7 @@ use Rattle.std.proofs.Common.{◌≡◌, List, [], ◌∷◌, ◌++◌, ℕ, ℤ
 use Rattle.sim_session.specs.Columns.{fixed_in}
 use Rattle.sim_session.specs.ObservationText.{further_fields, fields_text}
 use Rattle.sim_session.proofs.Amounts.{plain}
-use Rattle.sim_session.proofs.observations.write_amounts.Goals as goal
+use Rattle.sim_session.proofs.texts.write_amounts.Goals as goal
 
 -- the code and then the others
 written : {E : Type 0} (r : Result (Unit {0}) E) (old mid new : List ℕ) (a code : ℤ) (given further : List ℤ) → a ≡ code → given ≡ further → mid ≡ old ++ fixed_in 14 a 3 →

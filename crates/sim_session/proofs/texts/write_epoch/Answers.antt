@@ -1,7 +1,7 @@
 use Rattle.std.proofs.Common.{length, ap, arith, length-append}
 use Rattle.sim_session.specs.ObservationText.{epoch_line, satellite_lines}
 use Rattle.sim_session.proofs.TextLengths.{length-epoch_line, length-satellite_lines}
-use Rattle.sim_session.proofs.observations.write_epoch.Goals as goal
+use Rattle.sim_session.proofs.texts.write_epoch.Goals as goal
 
 pub returns-clause-size : goal.returns-clause-size
 returns-clause-size c =

@@ -1,7 +1,7 @@
 use Rattle.std.proofs.Common.{◌≡◌, ◌*◌, ◌%◌, ◌<◌, ◌^◌, ℕ, pos, ◌*ℤ◌, w64, to_z, of_z, arith, append_assoc}
 use Rattle.std.proofs.lemmas.Int.{ints}
 use Rattle.sim_session.specs.ObservationText.{epoch_line}
-use Rattle.sim_session.proofs.observations.write_epoch_line.Goals as goal
+use Rattle.sim_session.proofs.texts.write_epoch_line.Goals as goal
 
 second : (s : ℕ) → to_z w64 (of_z w64 (to_z w64 (s % 60) *ℤ pos 10000000)) ≡ pos (s % 60 * 10000000)
 second s = omega (arith, ints)

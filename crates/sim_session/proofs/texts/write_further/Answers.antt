@@ -3,7 +3,7 @@ use Rattle.std.proofs.Math.Seq.{drop-cons}
 use Rattle.sim_session.specs.Columns.{fixed_in}
 use Rattle.sim_session.specs.ObservationText.{further_fields}
 use Rattle.sim_session.proofs.Amounts.{plain}
-use Rattle.sim_session.proofs.observations.write_further.Goals as goal
+use Rattle.sim_session.proofs.texts.write_further.Goals as goal
 
 one_more : (out between after : List ℕ) (amounts : List ℤ) (k : ℕ) (a : ℤ) → k < length amounts → between ≡ out ++ codes "  " → after ≡ between ++ fixed_in 14 a 3 → a ≡ get_or amounts k (pos 0) →
     after ++ further_fields (drop (k + 1) amounts) ≡ out ++ further_fields (drop k amounts)

@@ -1,7 +1,7 @@
 use Rattle.std.proofs.Common.{List, ℕ, length, ap, arith, length-append, append_assoc}
 use Rattle.sim_session.specs.ObservationText.{header_text}
 use Rattle.sim_session.proofs.TextLengths.{length-header_text}
-use Rattle.sim_session.proofs.observations.write_header.Goals as goal
+use Rattle.sim_session.proofs.texts.write_header.Goals as goal
 
 pub returns-clause-written : goal.returns-clause-written
 unfolding header_text

@@ -1,6 +1,6 @@
 use Rattle.std.proofs.Common.{append_assoc}
 use Rattle.sim_session.specs.ObservationText.{satellite_line}
-use Rattle.sim_session.proofs.observations.write_satellite.Goals as goal
+use Rattle.sim_session.proofs.texts.write_satellite.Goals as goal
 
 pub returns : goal.returns
 unfolding satellite_line

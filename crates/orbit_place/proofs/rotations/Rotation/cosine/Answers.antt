@@ -1,6 +1,6 @@
 use Rattle.std.proofs.Common.{arith}
 use Rattle.orbit_place.proofs.Reaches.{both_within}
-use Rattle.orbit_place.proofs.Rotation.cosine.Goals as goal
+use Rattle.orbit_place.proofs.rotations.Rotation.cosine.Goals as goal
 
 pub new-requires : goal.new-requires
 new-requires g c =

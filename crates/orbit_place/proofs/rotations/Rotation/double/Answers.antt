@@ -2,7 +2,7 @@ use Rattle.std.proofs.Common.{arith}
 use Rattle.trig_box.specs.AnglePairs.{Pair, double}
 use Rattle.orbit_place.specs.Rotations.{HoldsBoth}
 use Rattle.orbit_place.proofs.Turns.{double_held, both_along, has_double}
-use Rattle.orbit_place.proofs.Rotation.double.Goals as goal
+use Rattle.orbit_place.proofs.rotations.Rotation.double.Goals as goal
 
 pub new-requires : goal.new-requires
 new-requires g c =

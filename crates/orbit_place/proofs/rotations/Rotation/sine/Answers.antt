@@ -1,6 +1,6 @@
 use Rattle.std.proofs.Common.{arith}
 use Rattle.orbit_place.proofs.Reaches.{both_within}
-use Rattle.orbit_place.proofs.Rotation.sine.Goals as goal
+use Rattle.orbit_place.proofs.rotations.Rotation.sine.Goals as goal
 
 pub new-requires : goal.new-requires
 new-requires g c =

@@ -3,7 +3,7 @@ use Rattle.trig_box.specs.AnglePairs.{Pair}
 use Rattle.orbit_model.specs.Solution.{turned}
 use Rattle.orbit_place.specs.Rotations.{HoldsBoth}
 use Rattle.orbit_place.proofs.Turns.{turned_held, both_along, has_turned}
-use Rattle.orbit_place.proofs.Rotation.turn.Goals as goal
+use Rattle.orbit_place.proofs.rotations.Rotation.turn.Goals as goal
 
 pub new-requires : goal.new-requires
 new-requires g c =

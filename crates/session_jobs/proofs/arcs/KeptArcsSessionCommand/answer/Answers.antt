@@ -1,5 +1,5 @@
 use Rattle.session_jobs.proofs.ArcSays.{screened_pairs}
-use Rattle.session_jobs.proofs.KeptArcsSessionCommand.answer.Goals as goal
+use Rattle.session_jobs.proofs.arcs.KeptArcsSessionCommand.answer.Goals as goal
 
 pub arcs_of-requires-clause-pairs : goal.arcs_of-requires-clause-pairs
 arcs_of-requires-clause-pairs c =

@@ -2,7 +2,7 @@ use Rattle.std.proofs.Common.{◌≡◌, ℕ, List, ◌++◌, ap, ◌∙◌}
 use Rattle.outcome_report.specs.OutcomeText.{answer_text, outcome_text}
 use Rattle.job_answers.specs.Endings.{ending}
 use Rattle.session_jobs.proofs.FixSays.{fixed_for}
-use Rattle.session_jobs.proofs.FixSessionCommand.answer.Goals as goal
+use Rattle.session_jobs.proofs.fixes.FixSessionCommand.answer.Goals as goal
 
 pub returns-clause-answered : goal.returns-clause-answered
 returns-clause-answered c =
