@@ -1,7 +1,7 @@
 //! The numbers of an orbit, and how large they are.
 ghost use Rattle.std.specs.Prelude.{◌*◌, ◌^◌, ◌<◌, pos, ◌≤ℤ◌};
 
-use crate::crate::{ANOMALY_WIDTH, ECCENTRICITY};
+use crate::ellipse::{ANOMALY_WIDTH, ECCENTRICITY};
 use crate::rotations::Rotation;
 use sized_box::SizedBox;
 

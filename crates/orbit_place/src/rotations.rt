@@ -6,6 +6,7 @@ ghost use Rattle.kepler_box.specs.Kepler.{SolvesKepler};
 ghost use Rattle.orbit_model.specs.Solution.{turned, IsPairOf5, IsPairOf7};
 ghost use Rattle.orbit_place.specs.Rotations.{HasPairNearCircle, HoldsBoth};
 
+use crate::ellipse::ANOMALY_WIDTH;
 use iv_core::Iv;
 use kepler_box::anomaly_box;
 use sized_box::SizedBox;

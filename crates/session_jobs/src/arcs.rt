@@ -4,6 +4,7 @@ ghost use Rattle.epoch_pair.specs.Beginnings.{IsPosition, AreSignals, AreSparse,
 ghost use Rattle.screening.specs.Screening.{ArePairsOf};
 ghost use Rattle.session_jobs.specs.ArcJobs.{AreArcsOf, AnswersArcs};
 
+use crate::report::write_arcs;
 use eph_store::NavFile;
 use epoch_pair::{Begun, SessionFault, begin};
 use job_answers::{JobOutput, Status};
