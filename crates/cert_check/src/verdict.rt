@@ -8,7 +8,7 @@ ghost use Rattle.cert_check.specs.Verdicts.{IsVerdictOf, IsSameVerdict};
 ghost use Rattle.cert_check.specs.Visits.{RestsWithin};
 
 use crate::decided::decide_rows;
-use crate::tails::says;
+use crate::tails::says_numbers;
 use cert_data::{Cause, Cert, Tail, Verdict};
 
 /// What is said of rows that are decided so, where a text has this tail.
@@ -22,7 +22,7 @@ fn said_of(decided: &Tail, tail: &Tail) -> Verdict
             best,
             top,
         } => {
-            if says(tail, *h, moved, best, *top) {
+            if says_numbers(tail, *h, moved, best, *top) {
                 return Verdict::Certified;
             }
             Verdict::Not(Cause::Tail)

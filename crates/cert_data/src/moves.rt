@@ -4,4 +4,4 @@ use obs_rows::{MOVE_EXPONENT, UNIT_FREQUENCY};
 
 /// A number of a move is 2^-5 ι, and ι is the speed of light over the unit's frequency; in 0.1 mm it is the speed of light
 /// over this.
-pub const PARTS: i128 = (UNIT_FREQUENCY / 10_000 * (1 << MOVE_EXPONENT)) as i128;
+pub const MOVE_DIVISOR: i128 = (UNIT_FREQUENCY / 10_000 * (1 << MOVE_EXPONENT)) as i128;

@@ -25,7 +25,7 @@ use whole_math::nearest;
 const MICROMETRES: i128 = (10 * LIGHT_SPEED) as i128;
 
 /// .. is this number of units of a row.
-const UNITS: i128 = (UNIT_FREQUENCY / 100_000 * (1 << ROW_EXPONENT)) as i128;
+const ROW_UNITS: i128 = (UNIT_FREQUENCY / 100_000 * (1 << ROW_EXPONENT)) as i128;
 
 // A length in the unit of the rows, times a number, over a count, in micrometres.
 fn micrometres(times: i128, count: usize) -> i128
@@ -34,7 +34,7 @@ fn micrometres(times: i128, count: usize) -> i128
     requires few { count ≤ 15 }
     ensures { result ≡ micrometres times count }
 {
-    nearest(times * MICROMETRES, count as i128 * UNITS)
+    nearest(times * MICROMETRES, count as i128 * ROW_UNITS)
 }
 
 fn plus(sum: i128, more: i64) -> i128

@@ -4,11 +4,11 @@ use Rattle.quadratic_form.specs.Forms.{Column}
 use Rattle.quadratic_form.specs.Elimination.{Refusal, weak, wide_factor, wide_entry}
 use Rattle.quadratic_form.specs.Places.{list_from, form_from}
 use Rattle.form_tables.specs.Tables.{entry}
-use Rattle.elimination.specs.declared.step.Stop.{Stop}
-use Rattle.elimination.specs.declared.step.Stop.TheVariants.{Weak, WideFactor, WideEntry}
+use Rattle.elimination.specs.declared.step.StepFault.{StepFault}
+use Rattle.elimination.specs.declared.step.StepFault.TheVariants.{Weak, WideFactor, WideEntry}
 
 -- in column j, whose own entry is a
-abbrev pub refusal_of : ℕ → ℤ → Stop → Refusal
+abbrev pub refusal_of : ℕ → ℤ → StepFault → Refusal
 refusal_of j a Weak = weak j a
 refusal_of j a WideFactor = wide_factor
 refusal_of j a WideEntry = wide_entry

@@ -4,7 +4,7 @@
 //! that does, for the same reason; it leaves all other factors as they were. `finish` takes the steps of the integer
 //! columns from the form that those of the baseline left, entry by entry (`IsFinishOf`).
 //!
-//! The steps stop in the first column whose pivot is below 2^20 (`Stop::Weak`), that has a factor of 2^52 or more in
+//! The steps stop in the first column whose pivot is below 2^20 (`StepFault::Weak`), that has a factor of 2^52 or more in
 //! size (`WideFactor`), or whose step gives such an entry (`WideEntry`); `Stopped::fault` and `finish` report it as a
 //! `LowerFault`. What steps that stop leave in their tables no clause says. `form_table`, `front_factors` and
 //! `first_kept` hand on what the steps of the baseline's columns left. No memory is taken.
@@ -18,6 +18,6 @@ mod tables;
 
 pub use entries::is_small;
 pub use finished::finish;
-pub use step::Stop;
+pub use step::StepFault;
 pub use steps::{Stopped, take_steps};
 pub use tables::{first_kept, form_table, front_factors};

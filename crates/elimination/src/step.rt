@@ -14,7 +14,7 @@ use form_tables::{FactorTable, MOST_COLUMNS, MOST_FACTORS, NormalTable};
 
 /// Why a step stops.
 #[derive(Clone, Copy, Debug, PartialEq, Eq)]
-pub enum Stop {
+pub enum StepFault {
     /// The pivot is below 2^20.
     Weak,
     /// A factor is 2^52 or more in size.
@@ -146,7 +146,7 @@ pub(crate) fn step(
     factors: &mut FactorTable,
     j: usize,
     columns: usize,
-) -> Result<i128, Stop>
+) -> Result<i128, StepFault>
     requires column { j < columns }
     requires factor_in { j < MOST_FACTORS }
     requires columns_in { columns ≤ MOST_COLUMNS }
@@ -159,14 +159,14 @@ pub(crate) fn step(
 {
     let a = table.at(j, j);
     if a < LEAST_PIVOT {
-        return Err(Stop::Weak);
+        return Err(StepFault::Weak);
     }
     let pivot = pivot_share(a);
     if !write_factors(table, factors, j, columns, a, &pivot) {
-        return Err(Stop::WideFactor);
+        return Err(StepFault::WideFactor);
     }
     if !update(table, j, columns, a, &pivot) {
-        return Err(Stop::WideEntry);
+        return Err(StepFault::WideEntry);
     }
     Ok(kept_of(a))
 }

@@ -7,7 +7,7 @@ ghost use Rattle.elimination.specs.Stops.{refusal_of};
 ghost use Rattle.integer_form.specs.Factors.{stored};
 ghost use Rattle.integer_form.specs.Told.{told};
 
-use crate::step::{Stop, step};
+use crate::step::{StepFault, step};
 use form_tables::{FactorTable, MOST_COLUMNS, MOST_FACTORS, NormalTable};
 use integer_form::{LowerFault, Place};
 
@@ -16,7 +16,7 @@ use integer_form::{LowerFault, Place};
 pub struct Stopped {
     pub column: usize,
     pub pivot: i128,
-    pub stop: Stop,
+    pub stop: StepFault,
 }
 
 impl Stopped {
@@ -27,14 +27,14 @@ impl Stopped {
         ensures { result ≡ told (refusal_of self.column self.pivot self.stop) }
     {
         match self.stop {
-            Stop::Weak => LowerFault::Weak {
+            StepFault::Weak => LowerFault::Weak {
                 column: self.column as u32,
                 pivot: self.pivot as i64,
             },
-            Stop::WideFactor => LowerFault::Overwidth {
+            StepFault::WideFactor => LowerFault::Overwidth {
                 place: Place::Factor,
             },
-            Stop::WideEntry => LowerFault::Overwidth {
+            StepFault::WideEntry => LowerFault::Overwidth {
                 place: Place::Entry,
             },
         }

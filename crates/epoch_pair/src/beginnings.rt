@@ -16,7 +16,7 @@ use std::alloc::Global;
 
 /// What a run begins with.
 #[derive(Debug, Drop)]
-pub struct Begun {
+pub struct SessionStart {
     /// The base's position in 0.1 mm.
     pub position: [i64; 3],
     pub signals: Signals,
@@ -68,7 +68,7 @@ pub fn begin(
     base: &ObsFile,
     rover: &ObsFile,
     options: &Options,
-) -> Result<Begun, SessionFault>
+) -> Result<SessionStart, SessionFault>
     ensures refused { IfErr result (IsSessionFault base.now rover.now options.now) }
     ensures position { IfOk result (λ b. IsPosition base.now b.position) }
     ensures signals { IfOk result (λ b. AreSignals (bands_of options.now.bands) base.now rover.now b.signals) }
@@ -96,7 +96,7 @@ pub fn begin(
         options.step,
         options.count,
     ) {
-        Ok(taken) => Ok(Begun {
+        Ok(taken) => Ok(SessionStart {
             position,
             signals,
             all: count_of(base, pairs.as_slice()),

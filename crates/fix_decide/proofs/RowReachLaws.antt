@@ -12,7 +12,7 @@ use Rattle.obs_rows.specs.Signals.{cycle}
 use Rattle.obs_rows.specs.Integers.{integer_place, integer}
 use Rattle.obs_rows.specs.Data.{number_at}
 use Rattle.obs_rows.specs.Best.{move_exponent}
-use Rattle.fix_decide.specs.declared.reaches.Reach.{Reach}
+use Rattle.fix_decide.specs.declared.reaches.ResidualBox.{ResidualBox}
 use Rattle.fix_decide.specs.declared.reaches.RowReach.{RowReach}
 use Rattle.fix_decide.specs.RowReaches.{row_reach, reach_at, AreSeen}
 use Rattle.fix_decide.specs.UpperSums.{scalar_product, centre, rad, reach_of}
@@ -40,7 +40,7 @@ reach_is : (arcs : List Arc) (ss : List ℕ) (z m : List ℤ) (s : ℕ) (r : Row
     reach_at z s r a place ≡ reach_of arcs ss z m s r
 reach_is arcs ss z m s r a place e f = ap₂ (λ (b : RowReach) (p : Option ℕ). reach_at z s r b p) e f ∙ ap (λ x. reach x (rad m r)) (centre_is arcs ss z m s r)
   where
-    reach : ℤ → ℤ → Reach
+    reach : ℤ → ℤ → ResidualBox
     reach x y = record { centre = x; rad = y }
 
 -- row number k, seen at its place and with what the move gives of it

@@ -2,7 +2,7 @@
 use Rattle.std.proofs.Common.{ℕ, ◌^◌, ◌<◌, List, length, map, ℤ, pos, ◌≤ℤ◌, ◌<ℤ◌, Result, Ok, Err, OnErr, get_or, arith, sym, ap, ◌∙◌, subst, All, Any}
 use Rattle.std.proofs.lemmas.List.{length-map, get_or-map, get_or_default}
 use Rattle.whole_math.proofs.Order.{lins}
-use Rattle.fix_decide.specs.declared.reaches.Reach.{Reach}
+use Rattle.fix_decide.specs.declared.reaches.ResidualBox.{ResidualBox}
 use Rattle.fix_decide.specs.Reaches.{extent, IsNarrow}
 
 -- on an error and everywhere
@@ -11,7 +11,7 @@ on_err (Ok x) p = tt
 on_err (Err e) p = p
 
 -- where all are narrow none is wide
-pub narrow_not_wide : {R : Type 0} (f : R → Reach) (rows : List R) → All IsNarrow (map f rows) → Any (λ r. pos (2 ^ 33) ≤ℤ extent (f r)) rows → ⊥
+pub narrow_not_wide : {R : Type 0} (f : R → ResidualBox) (rows : List R) → All IsNarrow (map f rows) → Any (λ r. pos (2 ^ 33) ≤ℤ extent (f r)) rows → ⊥
 narrow_not_wide f rows h (k, x, inside, is, wide) =
     let l : k < length (map f rows) = subst (λ (n : ℕ). k < n) (sym (length-map rows f)) inside in
     let n : IsNarrow (f x) = subst IsNarrow (get_or-map f rows k x (f x) inside ∙ ap f is) (h k (f x) l) in

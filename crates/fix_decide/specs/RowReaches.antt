@@ -8,7 +8,7 @@ use Rattle.obs_rows.specs.Integers.{entry_at}
 use Rattle.obs_rows.specs.Data.{number_at}
 use Rattle.obs_rows.specs.Best.{move_exponent}
 use Rattle.normal_sum.specs.Places.{ArePlaces}
-use Rattle.fix_decide.specs.declared.reaches.Reach.{Reach}
+use Rattle.fix_decide.specs.declared.reaches.ResidualBox.{ResidualBox}
 use Rattle.fix_decide.specs.declared.reaches.RowReach.{RowReach}
 use Rattle.fix_decide.specs.UpperSums.{scalar_product, rad}
 
@@ -17,7 +17,7 @@ abbrev pub row_reach : List ℤ → Row → RowReach
 row_reach m r = record { advance = ceil_div (scalar_product r.u m) (2 ^ move_exponent); rad = rad m r }
 
 -- the reach of a row as signal s sees it, whose integer has this place in z
-abbrev pub reach_at : List ℤ → ℕ → Row → RowReach → Option ℕ → Reach
+abbrev pub reach_at : List ℤ → ℕ → Row → RowReach → Option ℕ → ResidualBox
 reach_at z s r a place = record { centre = (number_at r.y s -ℤ a.advance) -ℤ (cycle s *ℤ entry_at z place); rad = a.rad }
 
 -- small enough for the arithmetic

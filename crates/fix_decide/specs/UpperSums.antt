@@ -12,7 +12,7 @@ use Rattle.obs_rows.specs.Integers.{integer}
 use Rattle.obs_rows.specs.Data.{number_at}
 use Rattle.obs_rows.specs.SumOfSquares.{share}
 use Rattle.obs_rows.specs.Best.{move_exponent}
-use Rattle.fix_decide.specs.declared.reaches.Reach.{Reach}
+use Rattle.fix_decide.specs.declared.reaches.ResidualBox.{ResidualBox}
 use Rattle.fix_decide.specs.Reaches.{gaps}
 
 -- of two lists of three numbers
@@ -27,7 +27,7 @@ centre arcs ss z m s r = floor_div ((number_at r.y s *ℤ pos (2 ^ move_exponent
 abbrev pub rad : List ℤ → Row → ℤ
 rad m r = (r.ry +ℤ ceil_div (scalar_product r.ru (map size m)) (2 ^ move_exponent)) +ℤ pos 1
 
-abbrev pub reach_of : List Arc → List ℕ → List ℤ → List ℤ → ℕ → Row → Reach
+abbrev pub reach_of : List Arc → List ℕ → List ℤ → List ℤ → ℕ → Row → ResidualBox
 reach_of arcs ss z m s r = record { centre = centre arcs ss z m s r; rad = rad m r }
 
 -- (360360 / n) · w times the squares of the gaps of each two of the n rows of a pair

@@ -29,7 +29,7 @@ pub struct Decision {
 }
 
 /// The sum of squares is divided by 64 in the bound of the form; the ratio is in thousandths.
-const PARTS: i128 = 64;
+const BOUND_FACTOR: i128 = 64;
 
 /// 64 · ratio · top
 fn times_ratio(ratio: u32, top: i128) -> i128
@@ -38,7 +38,7 @@ fn times_ratio(ratio: u32, top: i128) -> i128
     requires top_to { top ≤ℤ pos (2 ^ 62) }
     ensures { result ≡ pos 64 *ℤ (pos ratio *ℤ top) }
 {
-    PARTS * (ratio as i128 * top)
+    BOUND_FACTOR * (ratio as i128 * top)
 }
 
 /// Whether 1000 · p2 > 64 · ratio · top.

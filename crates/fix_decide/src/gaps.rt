@@ -2,11 +2,11 @@
 ghost use Rattle.std.specs.Prelude.{◌≡◌, ◌+◌, ◌*◌, ◌^◌, ◌≤◌, length, All, pos, ◌*ℤ◌, ◌≤ℤ◌};
 ghost use Rattle.fix_decide.specs.Reaches.{IsNarrow, gap, gaps_from, gaps};
 
-use crate::reaches::{Reach, size};
+use crate::reaches::{ResidualBox, size};
 use normal_sum::MOST_ROWS;
 
 /// How far two residuals may lie apart.
-fn gap(p: Reach, q: Reach) -> i64
+fn gap(p: ResidualBox, q: ResidualBox) -> i64
     requires p { IsNarrow p }
     requires q { IsNarrow q }
     ensures value { result ≡ gap p q }
@@ -30,7 +30,7 @@ fn square(gap: i64) -> i128
 }
 
 /// The sum of the squares of the gaps of one and each of the others.
-fn gaps_from(p: Reach, others: &[Reach]) -> i128
+fn gaps_from(p: ResidualBox, others: &[ResidualBox]) -> i128
     requires p { IsNarrow p }
     requires others { All IsNarrow others.now }
     requires few { length others.now ≤ MOST_ROWS }
@@ -46,7 +46,7 @@ fn gaps_from(p: Reach, others: &[Reach]) -> i128
 }
 
 /// The sum of the squares of the gaps of each two.
-pub(crate) fn gaps(reaches: &[Reach]) -> i128
+pub(crate) fn gaps(reaches: &[ResidualBox]) -> i128
     requires narrow { All IsNarrow reaches.now }
     requires few { length reaches.now ≤ MOST_ROWS }
     ensures value { result ≡ gaps reaches.now }

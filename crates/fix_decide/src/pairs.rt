@@ -14,7 +14,7 @@ ghost use Rattle.fix_decide.specs.Bounds.{StaysAtMost};
 ghost use Rattle.fix_decide.specs.Widths.{IsWideFor, IsWide};
 
 use crate::gaps::gaps;
-use crate::reaches::{Reach, RowReach, reach_at, row_reach};
+use crate::reaches::{ResidualBox, RowReach, reach_at, row_reach};
 use arrayvec::ArrayVec;
 use integer_form::{Overwidth, Place};
 use normal_sum::{MOST_ROWS, first_places, places_of, share};
@@ -39,7 +39,7 @@ fn row_reaches(moved: &[i64; 3], rows: &[Row]) -> ArrayVec<RowReach, MOST_ROWS>
 /// `moves` has what the move gives of each row, and `places` where the integer of each stands in z. The room for the
 /// reaches is the caller's, since to hand them back would copy them for each signal.
 fn put_reaches(
-    reaches: &mut ArrayVec<Reach, MOST_ROWS>,
+    reaches: &mut ArrayVec<ResidualBox, MOST_ROWS>,
     rows: &[Row],
     moves: &[RowReach],
     places: &[Option<usize>; MOST_ROWS],

@@ -26,7 +26,7 @@ const WIDE: i64 = 1 << 33;
 
 /// A residual lies within `rad` of `centre`, in the unit of the rows.
 #[derive(Clone, Copy, Debug, Default)]
-pub(crate) struct Reach {
+pub(crate) struct ResidualBox {
     pub(crate) centre: i64,
     pub(crate) rad: i64,
 }
@@ -183,7 +183,7 @@ pub(crate) fn reach_at(
     z: &[i64],
     place: Option<usize>,
     signal: usize,
-) -> Result<Reach, Overwidth>
+) -> Result<ResidualBox, Overwidth>
     requires moved { IsModest moved }
     requires within { IfSome place (λ i. i < length z.now) }
     requires signal { signal < SIGNALS }
@@ -197,7 +197,7 @@ pub(crate) fn reach_at(
     if size(centre) + moved.rad >= WIDE {
         return Err(Overwidth { place: Place::Sum });
     }
-    Ok(Reach {
+    Ok(ResidualBox {
         centre,
         rad: moved.rad,
     })

@@ -9,7 +9,7 @@ use Rattle.int_search.proofs.VisitLaws.{wide_more, wide_image_more}
 use Rattle.int_search.specs.Vectors.{Holds, suffix}
 use Rattle.int_search.specs.Orders.{IsRankLess}
 use Rattle.int_search.specs.Walk.{IsFresh, BeginsWith, IsTooWide}
-use Rattle.int_search.specs.declared.walk.Walk.{Walk}
+use Rattle.int_search.specs.declared.walk.SearchState.{SearchState}
 use Rattle.int_search.proofs.OfferLaws.{less_of}
 use Rattle.int_search.proofs.PointLaws.{counts_end, neighbour_differs, rounded_length, neighbour_length}
 
@@ -20,7 +20,7 @@ pub record IsPoint (f : SearchForm) (im : List ℤ → List ℤ) (v y : List ℤ
   pub value_is : p ≡ value f.p v
   pub within : value f.p v ≤ℤ top f
 
-pub begins : (f : SearchForm) (im : List ℤ → List ℤ) (v u y x : List ℤ) (p q : ℤ) (w : Walk) → IsPoint f im v y p → IsPoint f im u x q →
+pub begins : (f : SearchForm) (im : List ℤ → List ℤ) (v u y x : List ℤ) (p q : ℤ) (w : SearchState) → IsPoint f im v y p → IsPoint f im u x q →
     IsRankLess p (suffix y 0 f.size) q (suffix x 0 f.size) → top f <ℤ pos (2 ^ 62) →
     BeginsWith f (record { first = y; second = x; p1 = p; p2 = q }) w → IsFresh f im w
 begins f im v u y x p q w a b l t g = g.begun im v u a.size b.size (less_of f im v u (suffix y 0 f.size) (suffix x 0 f.size) p q a.value_is b.value_is a.held.is b.held.is l) b.within t

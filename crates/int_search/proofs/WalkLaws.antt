@@ -21,8 +21,8 @@ use Rattle.int_search.specs.Steps.{IsFresh, Chooses, Moves, IsTermWithin}
 use Rattle.int_search.specs.Best.{HoldsBest, TakesOffer, KeepsBest}
 use Rattle.int_search.specs.Walk.{here, IsWalk, IsReach, BeginsWith, Offers, Visits, HasFound}
 use Rattle.int_search.specs.declared.best.Best.{Best}
-use Rattle.int_search.specs.declared.walk.Walk.{Walk}
-use Rattle.int_search.specs.declared.walk.Reach.{Reach}
+use Rattle.int_search.specs.declared.walk.SearchState.{SearchState}
+use Rattle.int_search.specs.declared.walk.NextEntry.{NextEntry}
 use Rattle.integer_form.specs.declared.form.Form.{Form}
 use Rattle.int_search.specs.SearchedForm.{search_form}
 use Rattle.int_search.proofs.FormNumbers.{searchable, weight_is}
@@ -30,10 +30,10 @@ use Rattle.int_search.proofs.SuffixArrays.{suffix-set, suffix-above, suffix-tail
 use Rattle.int_search.proofs.LevelMoves.{level_fresh, fresh_free, moved_takes, moved_level, chosen_nearest, chosen_offset, chosen_free, low_chosen}
 
 -- ---- the state at its latest level
-pub focus : (f : SearchForm) (im : List ℤ → List ℤ) (w : Walk) (a : Level) (h : IsWalk f im w) → IsLatest w.stack a → IsSearch f im (a ∷ drop 1 w.stack) (here f w) h.one h.two w.visits
+pub focus : (f : SearchForm) (im : List ℤ → List ℤ) (w : SearchState) (a : Level) (h : IsWalk f im w) → IsLatest w.stack a → IsSearch f im (a ∷ drop 1 w.stack) (here f w) h.one h.two w.visits
 focus f im w a h t = subst (λ (fs : List Level). IsSearch f im fs (here f w) h.one h.two w.visits) t.split h.search
 
-pub latest_level : (f : SearchForm) (im : List ℤ → List ℤ) (w : Walk) (a : Level) → IsWalk f im w → IsLatest w.stack a → IsLevel f a (here f w)
+pub latest_level : (f : SearchForm) (im : List ℤ → List ℤ) (w : SearchState) (a : Level) → IsWalk f im w → IsLatest w.stack a → IsLevel f a (here f w)
 latest_level f im w a h t = (focus f im w a h t).levels.0
 
 pub drop_length : {A : Type 0} (l : List A) → 0 < length l → length (drop 1 l) + 1 ≡ length l
@@ -44,12 +44,12 @@ drop_length (x ∷ l) h = add_one_of (length l)
     add_one_of n = omega arith
 
 -- ---- what is kept of the pivot of the latest level's integer
-pub record IsWeightHere (f : SearchForm) (w : Walk) (d : ℤ) : Type 0 where
+pub record IsWeightHere (f : SearchForm) (w : SearchState) (d : ℤ) : Type 0 where
   pub is : d ≡ weight f (here f w)
   pub from : pos 1 ≤ℤ d
   pub to : d ≤ℤ pos (2 ^ 52)
 
-pub weight_here : (form : Form) (im : List ℤ → List ℤ) (w : Walk) (a : Level) (l : ℕ) → 4 < form.columns → IsWalk (search_form form) im w → IsLatest w.stack a → 0 < length w.stack →
+pub weight_here : (form : Form) (im : List ℤ → List ℤ) (w : SearchState) (a : Level) (l : ℕ) → 4 < form.columns → IsWalk (search_form form) im w → IsLatest w.stack a → 0 < length w.stack →
     l ≡ length w.stack →
     IsWeightHere (search_form form) w (get_or form.d (3 + w.size - l) (pos 0))
 weight_here form im w a l k h t n e =
@@ -66,7 +66,7 @@ weight_here form im w a l k h t n e =
     record { is = d; from = rw d (weight_from f (here f w) (searchable form k) s.shorter); to = rw d (weight_to f (here f w) (searchable form k) s.shorter) }
 
 -- ---- a level is left: what is past the room is past the second
-pub walk_pop : (f : SearchForm) (im : List ℤ → List ℤ) (w : Walk) (a : Level) (x c d left : ℤ) (up : Bool) → IsSearchable f → f.size ≤ MOST_INTEGERS → IsLatest w.stack a →
+pub walk_pop : (f : SearchForm) (im : List ℤ → List ℤ) (w : SearchState) (a : Level) (x c d left : ℤ) (up : Bool) → IsSearchable f → f.size ≤ MOST_INTEGERS → IsLatest w.stack a →
     0 < length w.stack → Chooses a x c up →
     d ≡ weight f (here f w) → left ≡ (pos (2 ^ 60) *ℤ w.best.p2) -ℤ a.low → left <ℤ (d *ℤ (c *ℤ c)) → IsWalk f im w → IsWalk f im (record w { stack = drop 1 w.stack })
 walk_pop f im w a x c d left up k mo t n ch e l far h =
@@ -95,7 +95,7 @@ walk_pop f im w a x c d left up k mo t n ch e l far h =
     step p v l m q r a b c d = omega (arith, polys)
 
 -- ---- the suffix that is visited
-pub walk_reach : (f : SearchForm) (im : List ℤ → List ℤ) (w : Walk) (r : Reach) (d t left : ℤ) → IsSearchable f → IsWalk f im w → IsLatest w.stack r.level → 0 < length w.stack →
+pub walk_reach : (f : SearchForm) (im : List ℤ → List ℤ) (w : SearchState) (r : NextEntry) (d t left : ℤ) → IsSearchable f → IsWalk f im w → IsLatest w.stack r.level → 0 < length w.stack →
     Chooses r.level r.choice.entry r.choice.offset r.choice.is_up →
     d ≡ weight f (here f w) → left ≡ (pos (2 ^ 60) *ℤ w.best.p2) -ℤ r.level.low → IsTermWithin left d r.choice.offset t → r.low ≡ r.level.low +ℤ t → IsReach f w r
 walk_reach f im w r d t left k h l n ch e g i j =
@@ -114,14 +114,14 @@ walk_reach f im w r d t left k h l n ch e g i j =
     step : (a b t l p : ℤ) → a ≡ b +ℤ t → t ≤ℤ l → l ≡ (pos (2 ^ 60) *ℤ p) -ℤ b → a ≤ℤ (pos (2 ^ 60) *ℤ p)
     step a b t l p e g h = omega (arith, polys)
 
-pub reach_within : (f : SearchForm) (im : List ℤ → List ℤ) (w : Walk) (r : Reach) (h : IsWalk f im w) → IsReach f w r → low f (r.choice.entry ∷ here f w) ≤ℤ (pos (2 ^ 60) *ℤ value f.p h.two)
+pub reach_within : (f : SearchForm) (im : List ℤ → List ℤ) (w : SearchState) (r : NextEntry) (h : IsWalk f im w) → IsReach f w r → low f (r.choice.entry ∷ here f w) ≤ℤ (pos (2 ^ 60) *ℤ value f.p h.two)
 reach_within f im w r h v = step r.low (low f (r.choice.entry ∷ here f w)) w.best.p2 (value f.p h.two) v.low_is v.within h.best.p2
   where
     step : (a b p q : ℤ) → a ≡ b → a ≤ℤ (pos (2 ^ 60) *ℤ p) → p ≡ q → b ≤ℤ (pos (2 ^ 60) *ℤ q)
     step a b p q e l g = subst (λ (t : ℤ). b ≤ℤ (pos (2 ^ 60) *ℤ t)) g (subst (λ (t : ℤ). t ≤ℤ (pos (2 ^ 60) *ℤ p)) e l)
 
 -- the entry at its place
-set_here : (f : SearchForm) (im : List ℤ → List ℤ) (w : Walk) (x : ℤ) → f.size ≤ MOST_INTEGERS → IsWalk f im w → 0 < length w.stack →
+set_here : (f : SearchForm) (im : List ℤ → List ℤ) (w : SearchState) (x : ℤ) → f.size ≤ MOST_INTEGERS → IsWalk f im w → 0 < length w.stack →
     suffix (set w.z (f.size - length w.stack) x) (f.size - length w.stack) f.size ≡ x ∷ here f w
 set_here f im w x m h n =
     let p = h.depth in
@@ -130,7 +130,7 @@ set_here f im w x m h n =
     suffix-set w.z (f.size - length w.stack) f.size x (omega arith) (omega arith) ∙ ap (λ j. x ∷ suffix w.z j f.size) i
 
 -- a visit above the first integer
-pub walk_inner : (f : SearchForm) (im : List ℤ → List ℤ) (w : Walk) (r : Reach) (b c : Level) (z : List ℤ) (st : List Level) (e : ℤ) → IsSearchable f → f.size ≤ MOST_INTEGERS →
+pub walk_inner : (f : SearchForm) (im : List ℤ → List ℤ) (w : SearchState) (r : NextEntry) (b c : Level) (z : List ℤ) (st : List Level) (e : ℤ) → IsSearchable f → f.size ≤ MOST_INTEGERS →
     IsWalk f im w → IsReach f w r → unsigned_abs r.choice.entry < 2 ^ 30 →
     Moves r.level r.choice.is_up b → 0 < f.size - length w.stack → z ≡ set w.z (f.size - length w.stack) r.choice.entry → st ≡ c ∷ (b ∷ drop 1 w.stack) → IsSmall z →
     e ≡ rest f (suffix z (f.size - length w.stack) f.size) → IsFresh e r.low c → IsWalk f im (record w { z = z; stack = st; visits = w.visits + 1 })
@@ -170,7 +170,7 @@ walk_inner f im w r b c z st e k mo h v sm mv n ez es small ee fr =
     bound_top l v t a b = omega (arith, polys)
 
 -- a visit at the first integer, where the vector is offered
-pub walk_leaf : (f : SearchForm) (im : List ℤ → List ℤ) (w new : Walk) (r : Reach) (b : Level) (z : List ℤ) (st : List Level) → IsSearchable f → f.size ≤ MOST_INTEGERS → IsWalk f im w →
+pub walk_leaf : (f : SearchForm) (im : List ℤ → List ℤ) (w new : SearchState) (r : NextEntry) (b : Level) (z : List ℤ) (st : List Level) → IsSearchable f → f.size ≤ MOST_INTEGERS → IsWalk f im w →
     IsReach f w r → unsigned_abs r.choice.entry < 2 ^ 30 →
     Moves r.level r.choice.is_up b → f.size - length w.stack ≡ 0 → z ≡ set w.z 0 r.choice.entry → st ≡ b ∷ drop 1 w.stack → IsSmall z →
     Offers f im (record w { z = z; stack = st; visits = w.visits + 1 }) new → IsWalk f im new
@@ -211,7 +211,7 @@ walk_leaf f im w new r b z st k mo h v sm mv n ez es small o =
     }
 
 -- the image of the visited vector is too wide
-pub walk_wide_image : (f : SearchForm) (im : List ℤ → List ℤ) (w : Walk) (r : Reach) (z : List ℤ) → f.size ≤ MOST_INTEGERS → IsWalk f im w → IsReach f w r → f.size - length w.stack ≡ 0 →
+pub walk_wide_image : (f : SearchForm) (im : List ℤ → List ℤ) (w : SearchState) (r : NextEntry) (z : List ℤ) → f.size ≤ MOST_INTEGERS → IsWalk f im w → IsReach f w r → f.size - length w.stack ≡ 0 →
     z ≡ set w.z 0 r.choice.entry →
     HasLarge (im (suffix z 0 f.size)) → IsWideIn f im (w.visits + 1)
 walk_wide_image f im w r z mo h v n ez large =
@@ -226,7 +226,7 @@ walk_wide_image f im w r z mo h v n ez large =
     (chosen_offset f r.level (here f w) x r.choice.offset r.choice.is_up v.level v.chosen) (omega arith) (omega arith) (reach_within f im w r h v) (subst (λ (q : List ℤ). HasLarge (im q)) sh large)
 
 -- ---- sizes
-pub low_size : (f : SearchForm) (im : List ℤ → List ℤ) (w : Walk) (a : Level) → IsSearchable f → IsWalk f im w → IsLatest w.stack a → unsigned_abs a.low ≤ 2 ^ 122
+pub low_size : (f : SearchForm) (im : List ℤ → List ℤ) (w : SearchState) (a : Level) → IsSearchable f → IsWalk f im w → IsLatest w.stack a → unsigned_abs a.low ≤ 2 ^ 122
 low_size f im w a k h t =
     let s = latest_level f im w a h t in
     let sh = s.shorter in
@@ -235,7 +235,7 @@ low_size f im w a k h t =
     last : (a l g t : ℤ) → a ≡ l → l ≤ℤ (pos (2 ^ 60) *ℤ t) → (pos (2 ^ 60) *ℤ g) ≤ℤ l → unsigned_abs g < 2 ^ 52 → t <ℤ pos (2 ^ 62) → unsigned_abs a ≤ 2 ^ 122
     last a l g t e u v s p = omega (arith, polys)
 
-pub p2_size : (f : SearchForm) (im : List ℤ → List ℤ) (w : Walk) → IsSearchable f → IsWalk f im w → unsigned_abs w.best.p2 ≤ 2 ^ 62
+pub p2_size : (f : SearchForm) (im : List ℤ → List ℤ) (w : SearchState) → IsSearchable f → IsWalk f im w → unsigned_abs w.best.p2 ≤ 2 ^ 62
 p2_size f im w k h = last w.best.p2 (value f.p h.two) (top f) h.best.p2 (value_from f h.two k h.search.two_size) h.search.bound h.top
   where
     last : (p v t : ℤ) → p ≡ v → neg_ℤ (pos (2 ^ 52)) ≤ℤ v → v ≤ℤ t → t <ℤ pos (2 ^ 62) → unsigned_abs p ≤ 2 ^ 62
@@ -246,16 +246,16 @@ chosen_sizes f a s x c true h k = let p = h.up_size in let q = h.up_offset_size 
 chosen_sizes f a s x c false h k = let p = h.down_size in let q = h.down_offset_size in (omega (arith, ints), omega (arith, ints))
 
 -- ---- the ends of a turn
-pub walk_over : (f : SearchForm) (im : List ℤ → List ℤ) (w : Walk) (r : Reach) → IsWalk f im w → IsReach f w r → IsOver f w.visits
+pub walk_over : (f : SearchForm) (im : List ℤ → List ℤ) (w : SearchState) (r : NextEntry) → IsWalk f im w → IsReach f w r → IsOver f w.visits
 walk_over f im w r h v = search_over f im r.level (drop 1 w.stack) r.choice.entry (here f w) h.one h.two w.visits (focus f im w r.level h v.latest)
     (chosen_free r.level r.choice.entry r.choice.offset r.choice.is_up v.chosen) (reach_within f im w r h v)
 
-pub walk_wide : (f : SearchForm) (im : List ℤ → List ℤ) (w : Walk) (r : Reach) (n : ℕ) → IsWalk f im w → IsReach f w r → w.visits < n → 2 ^ 30 ≤ unsigned_abs r.choice.entry → IsWide f n
+pub walk_wide : (f : SearchForm) (im : List ℤ → List ℤ) (w : SearchState) (r : NextEntry) (n : ℕ) → IsWalk f im w → IsReach f w r → w.visits < n → 2 ^ 30 ≤ unsigned_abs r.choice.entry → IsWide f n
 walk_wide f im w r n h v before s = search_wide f im r.level (drop 1 w.stack) r.choice.entry r.choice.offset (here f w) h.one h.two w.visits n (focus f im w r.level h v.latest)
     (chosen_nearest r.level r.choice.entry r.choice.offset r.choice.is_up v.chosen)
     (chosen_offset f r.level (here f w) r.choice.entry r.choice.offset r.choice.is_up v.level v.chosen) before (reach_within f im w r h v) s
 
-pub walk_end : (f : SearchForm) (im : List ℤ → List ℤ) (w : Walk) (budget : ℕ) → IsWalk f im w → length w.stack ≡ 0 → w.visits ≤ budget → HasFound f im budget w
+pub walk_end : (f : SearchForm) (im : List ℤ → List ℤ) (w : SearchState) (budget : ℕ) → IsWalk f im w → length w.stack ≡ 0 → w.visits ≤ budget → HasFound f im budget w
 walk_end f im w budget h n v = record {
   size = h.size;
   one = h.one;
@@ -308,7 +308,7 @@ walk_begins f b a size z st e g k es zr zs ss ee ge fr = record { begun = λ im 
         }
 
 -- ---- an offer
-pub offers_best : (f : SearchForm) (im : List ℤ → List ℤ) (w : Walk) (p : ℤ) (y : List ℤ) (b : Best) → IsOneToOne f.size im → length (suffix w.z 0 f.size) ≡ f.size →
+pub offers_best : (f : SearchForm) (im : List ℤ → List ℤ) (w : SearchState) (p : ℤ) (y : List ℤ) (b : Best) → IsOneToOne f.size im → length (suffix w.z 0 f.size) ≡ f.size →
     p ≡ value f.p (suffix w.z 0 f.size) →
     KeepsBest f.size p y w.best b → Holds f.size y (im (suffix w.z 0 f.size)) → Offers f im w (record w { best = b })
 offers_best f im w p y b o l e k h = record {
@@ -320,7 +320,7 @@ offers_best f im w p y b o l e k h = record {
 }
 
 -- a visit at the first integer, by what the offer answers
-pub leaf_visit : (f : SearchForm) (im : List ℤ → List ℤ) (w new : Walk) (r : Reach) (b : Level) (z : List ℤ) (st : List Level) (o : Bool) → IsSearchable f → f.size ≤ MOST_INTEGERS →
+pub leaf_visit : (f : SearchForm) (im : List ℤ → List ℤ) (w new : SearchState) (r : NextEntry) (b : Level) (z : List ℤ) (st : List Level) (o : Bool) → IsSearchable f → f.size ≤ MOST_INTEGERS →
     IsWalk f im w → IsReach f w r → unsigned_abs r.choice.entry < 2 ^ 30 →
     Moves r.level r.choice.is_up b → f.size - length w.stack ≡ 0 → z ≡ set w.z 0 r.choice.entry → st ≡ b ∷ drop 1 w.stack → IsSmall z →
     MatchBool o (Offers f im (record w { z = z; stack = st; visits = w.visits + 1 }) new) (HasLarge (im (suffix z 0 f.size))) →
@@ -332,5 +332,5 @@ leaf_visit f im w new r b z st true k mo h v sm mv n ez es small o = record {
 }
 leaf_visit f im w new r b z st false k mo h v sm mv n ez es small o = walk_wide_image f im w r z mo h v n ez o
 
-pub reach_entry : (f : SearchForm) (w : Walk) (r : Reach) → IsReach f w r → unsigned_abs r.choice.entry ≤ 2 ^ 61
+pub reach_entry : (f : SearchForm) (w : SearchState) (r : NextEntry) → IsReach f w r → unsigned_abs r.choice.entry ≤ 2 ^ 61
 reach_entry f w r v = (chosen_sizes f r.level (here f w) r.choice.entry r.choice.offset r.choice.is_up v.level v.chosen).0

@@ -16,8 +16,8 @@ use Rattle.int_search.specs.Images.{image_of, IsMap}
 use Rattle.int_search.specs.Steps.{Chooses}
 use Rattle.int_search.specs.Best.{HoldsBest, TakesOffer}
 use Rattle.int_search.specs.declared.best.Best.{Best}
-use Rattle.int_search.specs.declared.walk.Walk.{Walk}
-use Rattle.int_search.specs.declared.walk.Reach.{Reach}
+use Rattle.int_search.specs.declared.walk.SearchState.{SearchState}
+use Rattle.int_search.specs.declared.walk.NextEntry.{NextEntry}
 use Rattle.int_search.specs.declared.walk.Turn.{Turn}
 use Rattle.int_search.specs.declared.walk.Turn.TheVariants.{Going, Done, Spent, Wide}
 
@@ -32,10 +32,10 @@ pub record CanSearch (f : Form) (map : List (List ℤ)) : Type 0 where
   pub one_to_one : IsOneToOne (integers_of f) (search_image f map)
 
 -- the entries after the integer of the latest level
-abbrev pub here : SearchForm → Walk → List ℤ
+abbrev pub here : SearchForm → SearchState → List ℤ
 here f w = suffix w.z (f.size + 1 - length w.stack) f.size
 
-pub record IsWalk (f : SearchForm) (image : List ℤ → List ℤ) (w : Walk) : Type 0 where
+pub record IsWalk (f : SearchForm) (image : List ℤ → List ℤ) (w : SearchState) : Type 0 where
   pub size : w.size ≡ f.size
   pub depth : length w.stack ≤ f.size
   pub room : length w.z ≡ MOST_INTEGERS
@@ -47,16 +47,16 @@ pub record IsWalk (f : SearchForm) (image : List ℤ → List ℤ) (w : Walk) : 
   pub search : IsSearch f image w.stack (here f w) one two w.visits
 
 -- the state of a search that begins
-abbrev pub IsFresh : SearchForm → (List ℤ → List ℤ) → Walk → Type 0
+abbrev pub IsFresh : SearchForm → (List ℤ → List ℤ) → SearchState → Type 0
 IsFresh f image w = IsWalk f image w × (w.visits ≡ 0)
 
 -- w is the search with these two best at its first level, whatever vectors they stand for
-pub record BeginsWith (f : SearchForm) (b : Best) (w : Walk) : Type 0 where
+pub record BeginsWith (f : SearchForm) (b : Best) (w : SearchState) : Type 0 where
   pub begun : (image : List ℤ → List ℤ) (one two : List ℤ) → length one ≡ f.size → length two ≡ f.size → IsLess f image one two →
       value f.p two ≤ℤ top f → top f <ℤ pos (2 ^ 62) → HoldsBest f image b one two → IsFresh f image w
 
 -- r is the next entry of the latest level, and within the second best
-pub record IsReach (f : SearchForm) (w : Walk) (r : Reach) : Type 0 where
+pub record IsReach (f : SearchForm) (w : SearchState) (r : NextEntry) : Type 0 where
   pub some : 0 < length w.stack
   pub latest : IsLatest w.stack r.level
   pub level : IsLevel f r.level (here f w)
@@ -66,16 +66,16 @@ pub record IsReach (f : SearchForm) (w : Walk) (r : Reach) : Type 0 where
   pub offset_small : unsigned_abs r.choice.offset ≤ 2 ^ 62
 
 -- the search without its latest level, whatever the coordinates of the answer are
-pub record IsPassed (f : SearchForm) (w : Walk) : Type 0 where
+pub record IsPassed (f : SearchForm) (w : SearchState) : Type 0 where
   pub popped : (image : List ℤ → List ℤ) → IsWalk f image w → IsWalk f image (record w { stack = drop 1 w.stack })
 
 -- a search in some coordinates of the answer
-pub record IsPlainWalk (f : SearchForm) (w : Walk) : Type 0 where
+pub record IsPlainWalk (f : SearchForm) (w : SearchState) : Type 0 where
   pub image : List ℤ → List ℤ
   pub walk : IsWalk f image w
 
 -- what an offer of the vector z leaves
-pub record Offers (f : SearchForm) (image : List ℤ → List ℤ) (old new : Walk) : Type 0 where
+pub record Offers (f : SearchForm) (image : List ℤ → List ℤ) (old new : SearchState) : Type 0 where
   pub size : new.size ≡ old.size
   pub z : new.z ≡ old.z
   pub stack : new.stack ≡ old.stack
@@ -84,7 +84,7 @@ pub record Offers (f : SearchForm) (image : List ℤ → List ℤ) (old new : Wa
       HoldsBest f image old.best one two → TakesOffer f image new.best one two (suffix old.z 0 f.size)
 
 -- what a visit leaves
-pub record Visits (f : SearchForm) (image : List ℤ → List ℤ) (old new : Walk) : Type 0 where
+pub record Visits (f : SearchForm) (image : List ℤ → List ℤ) (old new : SearchState) : Type 0 where
   pub walk : IsWalk f image new
   pub visits : new.visits ≡ old.visits + 1
   pub depth : length new.stack ≤ length old.stack + 1
@@ -94,11 +94,11 @@ abbrev pub IsTooWide : SearchForm → (List ℤ → List ℤ) → ℕ → Type 0
 IsTooWide f image n = IsWide f n ⊎ IsWideIn f image n
 
 -- what is left to do, at most
-abbrev pub left_of : ℕ → Walk → ℕ
+abbrev pub left_of : ℕ → SearchState → ℕ
 left_of budget w = (budget - w.visits) * (w.size + 2) + length w.stack
 
 -- w has the two least vectors, and no more suffixes than the budget are within the second
-pub record HasFound (f : SearchForm) (image : List ℤ → List ℤ) (budget : ℕ) (w : Walk) : Type 0 where
+pub record HasFound (f : SearchForm) (image : List ℤ → List ℤ) (budget : ℕ) (w : SearchState) : Type 0 where
   pub size : w.size ≡ f.size
   pub one : List ℤ
   pub two : List ℤ
@@ -107,7 +107,7 @@ pub record HasFound (f : SearchForm) (image : List ℤ → List ℤ) (budget : �
   pub visits : AreAtMost f w.best.p2 budget
 
 -- what a turn gives, from one state to the next
-abbrev pub Gives : SearchForm → (List ℤ → List ℤ) → ℕ → Walk → Walk → Turn → Type 0
+abbrev pub Gives : SearchForm → (List ℤ → List ℤ) → ℕ → SearchState → SearchState → Turn → Type 0
 Gives f image budget old new Going = IsWalk f image new × (new.visits ≤ budget) × (left_of budget new < left_of budget old)
 Gives f image budget old new Done = HasFound f image budget new
 Gives f image budget old new Spent = IsOver f budget

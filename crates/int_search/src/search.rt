@@ -7,7 +7,7 @@ ghost use Rattle.int_search.specs.declared.answer.SearchFault.TheVariants as Sea
 
 use crate::answer::{SearchFault, TwoBest};
 use crate::images::identity;
-use crate::walk::{Turn, Walk};
+use crate::walk::{SearchState, Turn};
 use form_tables::MapTable;
 use integer_form::Form;
 
@@ -16,7 +16,7 @@ pub(crate) fn search(form: &Form, map: &MapTable, budget: u64) -> Result<TwoBest
     requires { CanSearch form.now map.now }
     ensures { MatchResult result (IsAnswer (search_form form.now) (search_image form.now map.now) budget) (IsFault (search_form form.now) (search_image form.now map.now) budget) }
 {
-    let Some(mut walk) = Walk::start(form, map) else {
+    let Some(mut walk) = SearchState::start(form, map) else {
         return Err(SearchFault::Overwidth);
     };
     loop {

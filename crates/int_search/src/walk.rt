@@ -23,7 +23,7 @@ use std::cmp::Ordering;
 
 /// The state of a search.
 #[derive(Drop)]
-pub(crate) struct Walk {
+pub(crate) struct SearchState {
     /// The number of integers.
     pub(crate) size: usize,
     /// The vector whose last entries the levels fix.
@@ -43,16 +43,16 @@ pub(crate) enum Turn {
 
 /// The next entry of the latest level, where its suffix is within the second best.
 #[derive(Clone, Copy)]
-pub(crate) struct Reach {
+pub(crate) struct NextEntry {
     pub(crate) level: Level,
     pub(crate) choice: Choice,
     /// The lower sum of the suffix.
     pub(crate) low: i128,
 }
 
-impl Walk {
+impl SearchState {
     /// The search at its first level, where no entry is taken.
-    fn begin(form: &Form, z: [i64; MOST_INTEGERS], best: Best) -> Walk
+    fn begin(form: &Form, z: [i64; MOST_INTEGERS], best: Best) -> SearchState
         requires some { 4 < form.now.columns }
         requires small { IsSmall z }
         ensures { BeginsWith (search_form form.now) best result }
@@ -60,7 +60,7 @@ impl Walk {
         let size = form.columns - BASELINE_COLUMNS - 1;
         let mut stack = Stack::new();
         stack.push(fresh(later_part(form, size - 1, &z), first_low(form.g)));
-        Walk {
+        SearchState {
             size,
             z,
             stack,
@@ -70,7 +70,7 @@ impl Walk {
     }
 
     /// The search over a form, with the rounded point and its neighbour as its two best; None where one is too wide.
-    pub(crate) fn start(form: &Form, map: &MapTable) -> Option<Walk>
+    pub(crate) fn start(form: &Form, map: &MapTable) -> Option<SearchState>
         requires { CanSearch form.now map.now }
         ensures { MatchOption result (IsTooWide (search_form form.now) (search_image form.now map.now) 0) (IsFresh (search_form form.now) (search_image form.now map.now)) }
     {
@@ -92,7 +92,7 @@ impl Walk {
                     p1: p,
                     p2: q,
                 };
-                Some(Walk::begin(form, z, best))
+                Some(SearchState::begin(form, z, best))
             }
             Ordering::Equal => unreachable!(),
             Ordering::Greater => {
@@ -102,7 +102,7 @@ impl Walk {
                     p1: q,
                     p2: p,
                 };
-                Some(Walk::begin(form, z, best))
+                Some(SearchState::begin(form, z, best))
             }
         }
     }
@@ -126,7 +126,7 @@ impl Walk {
     }
 
     /// The next entry of the latest level, where its suffix is within the second best.
-    fn reach(&self, form: &Form) -> Option<Reach>
+    fn reach(&self, form: &Form) -> Option<NextEntry>
         requires some { 4 < form.now.columns }
         requires walk { IsPlainWalk (search_form form.now) self.now }
         requires level { 0 < length self.now.stack }
@@ -136,7 +136,7 @@ impl Walk {
         let choice = nearest(&level);
         let d = form.d[BASELINE_COLUMNS + self.size - self.stack.len()];
         let term = term_within(room(self.best.p2, level.low), d, choice.offset)?;
-        Some(Reach {
+        Some(NextEntry {
             level,
             choice,
             low: low_with(level.low, term),
@@ -144,7 +144,7 @@ impl Walk {
     }
 
     /// Visits the suffix with that entry; false where it is a full vector whose image is too wide.
-    fn visit(&mut self, form: &Form, map: &MapTable, reach: &Reach) -> bool
+    fn visit(&mut self, form: &Form, map: &MapTable, reach: &NextEntry) -> bool
         requires can { CanSearch form.now map.now }
         requires walk { IsWalk (search_form form.now) (search_image form.now map.now) self.old }
         requires reach { IsReach (search_form form.now) self.old reach.now }

@@ -85,9 +85,9 @@ pub fn time_since<const TICKS: u64, const SIZE: u64>(
 }
 
 // 10^4 · 2^41, which makes a clock positive
-const RAISED: i64 = 21_990_232_555_520_000;
+const CLOCK_OFFSET: i64 = 21_990_232_555_520_000;
 
-const RAISED_BY: i64 = 1 << 41;
+const OFFSET_SHARE: i64 = 1 << 41;
 
 // ⌊clock / 10^4⌋. The divisor is known when the program is built, which then multiplies in place of dividing.
 fn share_below(clock: i64) -> i64
@@ -95,7 +95,7 @@ fn share_below(clock: i64) -> i64
     ensures low { (result *ℤ pos 10000) ≤ℤ clock }
     ensures high { clock <ℤ ((result *ℤ pos 10000) +ℤ pos 10000) }
 {
-    ((clock + RAISED) as u64 / 10_000) as i64 - RAISED_BY
+    ((clock + CLOCK_OFFSET) as u64 / 10_000) as i64 - OFFSET_SHARE
 }
 
 // ⌈clock / 10^4⌉

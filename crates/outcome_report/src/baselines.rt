@@ -3,7 +3,7 @@ ghost use Rattle.std.specs.Prelude.{◌≡◌, ◌^◌, ◌<◌, ◌≤◌, ◌-
 ghost use Rattle.obs_rows.specs.Ranges.{IsPoint, IsBelow, IsWithin};
 ghost use Rattle.outcome_report.specs.Baselines.{in_tenths, from_base, baseline_of, metres_behind_blanks, place_line};
 
-use cert_data::PARTS;
+use cert_data::MOVE_DIVISOR;
 use decimal_text::write_fixed;
 use obs_rows::LIGHT_SPEED;
 use std::alloc::{AllocError, Global};
@@ -15,7 +15,7 @@ fn in_tenths(number: i64) -> i64
     ensures value { result ≡ in_tenths number }
     ensures size { unsigned_abs result < 2 ^ 44 }
 {
-    nearest(number as i128 * LIGHT_SPEED as i128, PARTS) as i64
+    nearest(number as i128 * LIGHT_SPEED as i128, MOVE_DIVISOR) as i64
 }
 
 fn apart(point: i64, base: i64) -> i64

@@ -6,7 +6,7 @@ use Rattle.obs_rows.specs.declared.sessions.Session.{Session}
 use Rattle.cert_data.specs.declared.outcomes.RoundCounts.{RoundCounts}
 use Rattle.cert_data.specs.declared.outcomes.Stage.{Stage}
 use Rattle.cert_data.specs.declared.tails.Tail.{Tail}
-use Rattle.round_steps.specs.declared.runs.End.{End}
+use Rattle.round_steps.specs.declared.runs.RunEnd.{RunEnd}
 use Rattle.round_steps.specs.Runs.{Round, Rules, StayTheSame, round_of, coarse, IsSessionAt, LeadsTo, IsRunTo, Reaches, EndsAt, DecidesAt, EndsEarly, EndsFull, SettlesAt, IsEnd}
 
 pub stays : (rules : Rules) → StayTheSame rules rules
@@ -120,6 +120,6 @@ ends_full old new same ratio budget made s tail (fine, inr decided) = (
   }),
 )
 
-pub ends : (old new : Rules) → StayTheSame old new → (ratio budget : ℕ) (end : End) → IsEnd old ratio budget end → IsEnd new ratio budget end
-ends old new same ratio budget (End.Early made stage tail) h = ends_early old new same made stage tail h
-ends old new same ratio budget (End.Full made s tail) h = ends_full old new same ratio budget made s tail h
+pub ends : (old new : Rules) → StayTheSame old new → (ratio budget : ℕ) (end : RunEnd) → IsEnd old ratio budget end → IsEnd new ratio budget end
+ends old new same ratio budget (RunEnd.Early made stage tail) h = ends_early old new same made stage tail h
+ends old new same ratio budget (RunEnd.Full made s tail) h = ends_full old new same ratio budget made s tail h

@@ -13,7 +13,7 @@ use Rattle.cert_data.specs.declared.tails.Tail.{Tail}
 use Rattle.cert_data.specs.declared.outcomes.RoundCounts.{RoundCounts}
 use Rattle.cert_data.specs.declared.outcomes.Stage.{Stage}
 use Rattle.cert_data.specs.declared.outcomes.Stage.TheVariants.{Coarse, Fine}
-use Rattle.round_steps.specs.declared.runs.End.{End}
+use Rattle.round_steps.specs.declared.runs.RunEnd.{RunEnd}
 use Rattle.round_steps.specs.declared.runs.CoarseEnd.{CoarseEnd}
 use Rattle.round_steps.specs.Shifts.{AreGrown}
 use Rattle.obs_rows.specs.ReceiverPoints.{IsReceiverPoint}
@@ -172,19 +172,19 @@ abbrev pub EndsFull : Rules → ℕ → ℕ → RoundCounts → Session → Tail
 EndsFull rules ratio budget made s tail = (s.scale ≡ 0) × (EndsAt rules made s tail ⊎ DecidesAt rules ratio budget made s tail)
 
 -- the end of a run, with how many rounds it had
-abbrev pub IsEnd : Rules → ℕ → ℕ → End → Type 0
-IsEnd rules ratio budget (End.Early made stage tail) = EndsEarly rules made stage tail
-IsEnd rules ratio budget (End.Full made s tail) = EndsFull rules ratio budget made s tail
+abbrev pub IsEnd : Rules → ℕ → ℕ → RunEnd → Type 0
+IsEnd rules ratio budget (RunEnd.Early made stage tail) = EndsEarly rules made stage tail
+IsEnd rules ratio budget (RunEnd.Full made s tail) = EndsFull rules ratio budget made s tail
 
 -- the tail is one of a certificate of this budget
-abbrev pub FitsEnd : ℕ → End → Type 0
-FitsEnd budget (End.Early made stage tail) = Unit {0}
-FitsEnd budget (End.Full made s tail) = IsTailOf (fine_signals s.signals) s.arcs budget tail
+abbrev pub FitsEnd : ℕ → RunEnd → Type 0
+FitsEnd budget (RunEnd.Early made stage tail) = Unit {0}
+FitsEnd budget (RunEnd.Full made s tail) = IsTailOf (fine_signals s.signals) s.arcs budget tail
 
 -- where the integers are fixed, they are with their move strictly best
-abbrev pub IsBestEnd : End → Type 0
-IsBestEnd (End.Early made stage tail) = Unit {0}
-IsBestEnd (End.Full made s tail) = IsBestWhereFixed s tail
+abbrev pub IsBestEnd : RunEnd → Type 0
+IsBestEnd (RunEnd.Early made stage tail) = Unit {0}
+IsBestEnd (RunEnd.Full made s tail) = IsBestWhereFixed s tail
 
 -- `made` coarse rounds, and no fine one
 abbrev pub coarse_alone : ℕ → RoundCounts
@@ -213,6 +213,6 @@ coarse_sessions (CoarseEnd.Settled made point) = made
 coarse_sessions (CoarseEnd.Declined made tail) = made
 
 -- how many sessions a run made that ends so, one for each of its rounds
-abbrev pub sessions_of : End → ℕ
-sessions_of (End.Early made stage tail) = made.coarse + made.fine
-sessions_of (End.Full made s tail) = made.coarse + made.fine
+abbrev pub sessions_of : RunEnd → ℕ
+sessions_of (RunEnd.Early made stage tail) = made.coarse + made.fine
+sessions_of (RunEnd.Full made s tail) = made.coarse + made.fine

@@ -7,7 +7,7 @@ ghost use Rattle.integer_form.specs.FloatPoint.{item};
 ghost use Rattle.cert_data.specs.Moves.{parts};
 ghost use Rattle.round_steps.specs.Points.{moved_coordinate, moved_point};
 
-use cert_data::PARTS;
+use cert_data::MOVE_DIVISOR;
 use form_tables::MOST_FACTORS;
 use obs_rows::{COARSE_SCALE, LIGHT_SPEED};
 use whole_math::nearest;
@@ -42,7 +42,7 @@ fn in_point_units(scale: u32, number: i64) -> i64
     ensures value { result ≡ nearest_div (number *ℤ pos (2 ^ scale * unsigned_abs LIGHT_SPEED)) parts }
     ensures size { unsigned_abs result < 2 ^ 58 }
 {
-    nearest(scaled(scale, number), PARTS) as i64
+    nearest(scaled(scale, number), MOVE_DIVISOR) as i64
 }
 
 /// A coordinate in 0.1 mm, moved by a number of a baseline.

@@ -59,7 +59,7 @@ pub trait Rounds {
 
 /// How a run ends, and after how many rounds.
 #[derive(Debug, Drop)]
-pub enum End {
+pub enum RunEnd {
     /// At a centre of y, or in a coarse round.
     Early {
         made: RoundCounts,
@@ -135,7 +135,7 @@ fn fine_rounds<R: Rounds>(
     first: &[i64; 3],
     ratio: u32,
     budget: u64,
-) -> Result<End, AllocError>
+) -> Result<RunEnd, AllocError>
     requires ready { R.ready rounds.old }
     requires made { R.made rounds.old ≡ coarse }
     requires first { SettlesAt (R.rules rounds.old) coarse first.now }
@@ -154,7 +154,7 @@ fn fine_rounds<R: Rounds>(
     'rounds: loop {
         let made = RoundCounts { coarse, fine };
         let Some(session) = rounds.session(alloc, arcs.as_slice(), &point, 0)? else {
-            return Ok(End::Early {
+            return Ok(RunEnd::Early {
                 made,
                 stage: Stage::Fine,
                 tail: AT_Y,
@@ -163,7 +163,7 @@ fn fine_rounds<R: Rounds>(
         match round_step(&session, fine == FINE_ROUNDS) {
             Ok(Step::Settled { form }) => {
                 let tail = decide_settled(&session, &form, ratio, budget);
-                return Ok(End::Full {
+                return Ok(RunEnd::Full {
                     made,
                     session,
                     tail,
@@ -185,7 +185,7 @@ fn fine_rounds<R: Rounds>(
                 fine += 1;
             }
             Err(tail) => {
-                return Ok(End::Full {
+                return Ok(RunEnd::Full {
                     made,
                     session,
                     tail,
@@ -203,7 +203,7 @@ pub fn run<R: Rounds>(
     base: &[i64; 3],
     ratio: u32,
     budget: u64,
-) -> Result<End, AllocError>
+) -> Result<RunEnd, AllocError>
     requires ready { R.ready rounds.old }
     requires fresh { R.made rounds.old ≡ 0 }
     requires base { base.now ≡ (R.rules rounds.old).base }
@@ -224,7 +224,7 @@ pub fn run<R: Rounds>(
         CoarseEnd::Settled { made, point } => {
             fine_rounds(alloc, rounds, made, &point, ratio, budget)
         }
-        CoarseEnd::Declined { made, tail } => Ok(End::Early {
+        CoarseEnd::Declined { made, tail } => Ok(RunEnd::Early {
             made: RoundCounts {
                 coarse: made,
                 fine: 0,

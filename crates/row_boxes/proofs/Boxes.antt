@@ -14,8 +14,8 @@ use Rattle.iv_core.proofs.SumLaws.{sub_holds}
 use Rattle.obs_rows.specs.Ranges.{IsScale}
 use Rattle.obs_rows.specs.Signals.{wavelength, is_phase}
 use Rattle.obs_rows.specs.declared.units.TheConstants.{LIGHT_SPEED, ROW_EXPONENT}
-use Rattle.row_boxes.specs.declared.pseudoranges.TheConstants.{UNITS, PARTS}
-use Rattle.row_boxes.specs.declared.prefits.TheConstants.{UNITS as MM_UNITS}
+use Rattle.row_boxes.specs.declared.pseudoranges.TheConstants.{METRE_UNITS, HALF_LIGHT_SPEED}
+use Rattle.row_boxes.specs.declared.prefits.TheConstants.{MILLIMETRE_UNITS}
 use Rattle.row_boxes.specs.Terms.{prefit_width, y_width, metre, light_speed, pseudorange, observed, row_unit, in_row_unit, iota_exponent}
 use Rattle.row_boxes.specs.YBoxes.{most_radius, MeetsOne}
 use Rattle.row_boxes.proofs.Scaling.{scaled_box}
@@ -70,23 +70,23 @@ finer lo hi r h = (
     high l d x h = step' (l *ℤ d) x ((l *ℤ pos (2 ^ 24)) *ℤ d) h (same l d)
 
 pub pseudorange_holds : (rl rh tl th f g : ℤ) (r t : Rational) →
-    IsFloor (((rl *ℤ pos (2 ^ 24)) -ℤ (th *ℤ LIGHT_SPEED)) *ℤ pos UNITS) (PARTS * 2 ^ 39) f →
-    IsCeil (((rh *ℤ pos (2 ^ 24)) -ℤ (tl *ℤ LIGHT_SPEED)) *ℤ pos UNITS) (PARTS * 2 ^ 39) g →
+    IsFloor (((rl *ℤ pos (2 ^ 24)) -ℤ (th *ℤ LIGHT_SPEED)) *ℤ pos METRE_UNITS) (HALF_LIGHT_SPEED * 2 ^ 39) f →
+    IsCeil (((rh *ℤ pos (2 ^ 24)) -ℤ (tl *ℤ LIGHT_SPEED)) *ℤ pos METRE_UNITS) (HALF_LIGHT_SPEED * 2 ^ 39) g →
     InBox 36 rl rh r → InBox 60 tl th t → InBox iota_exponent f g (pseudorange r t)
 pseudorange_holds rl rh tl th f g r t k l h i =
-    scaled_box 60 15 ((rl *ℤ pos (2 ^ 24)) -ℤ (th *ℤ LIGHT_SPEED)) ((rh *ℤ pos (2 ^ 24)) -ℤ (tl *ℤ LIGHT_SPEED)) (pos UNITS) f g (PARTS * 2 ^ 39) metre (sub_r r (mul_r light_speed t))
-    (lit< tt) (pos_nn UNITS) refl k l (sub_holds 60 (rl *ℤ pos (2 ^ 24)) (rh *ℤ pos (2 ^ 24)) (tl *ℤ LIGHT_SPEED) (th *ℤ LIGHT_SPEED) r (mul_r light_speed t) (finer rl rh r h) (of_light tl th t i))
+    scaled_box 60 15 ((rl *ℤ pos (2 ^ 24)) -ℤ (th *ℤ LIGHT_SPEED)) ((rh *ℤ pos (2 ^ 24)) -ℤ (tl *ℤ LIGHT_SPEED)) (pos METRE_UNITS) f g (HALF_LIGHT_SPEED * 2 ^ 39) metre (sub_r r (mul_r light_speed t))
+    (lit< tt) (pos_nn METRE_UNITS) refl k l (sub_holds 60 (rl *ℤ pos (2 ^ 24)) (rh *ℤ pos (2 ^ 24)) (tl *ℤ LIGHT_SPEED) (th *ℤ LIGHT_SPEED) r (mul_r light_speed t) (finer rl rh r h) (of_light tl th t i))
 
 -- ---- observed
 whole_in : (a : ℤ) → InBox 0 a a (of_whole a)
 whole_in a = (le_refl_ℤ (a *ℤ pos 1), le_refl_ℤ (a *ℤ pos 1))
 
-pub observed_code : (s : ℕ) (a f g : ℤ) → IsTrue (not (is_phase s)) → IsFloor (a *ℤ MM_UNITS) PARTS f → IsCeil (a *ℤ MM_UNITS) PARTS g → InBox iota_exponent f g (observed s a)
+pub observed_code : (s : ℕ) (a f g : ℤ) → IsTrue (not (is_phase s)) → IsFloor (a *ℤ MILLIMETRE_UNITS) HALF_LIGHT_SPEED f → IsCeil (a *ℤ MILLIMETRE_UNITS) HALF_LIGHT_SPEED g → InBox iota_exponent f g (observed s a)
 observed_code s a f g c k l = by_kind (is_phase s) c
   where
     by_kind : (b : Bool) → IsTrue (not b) → InBox iota_exponent f g (mul_r (cond b (divided (of_whole (wavelength s)) 1000 (lit< tt)) (divided metre 1000 (lit< tt))) (of_whole a))
     by_kind true h = absurd (false≢true h)
-    by_kind false h = scaled_box 0 15 a a MM_UNITS f g PARTS (divided metre 1000 (lit< tt)) (of_whole a) (lit< tt) (pos_nn 35620120166400) refl k l (whole_in a)
+    by_kind false h = scaled_box 0 15 a a MILLIMETRE_UNITS f g HALF_LIGHT_SPEED (divided metre 1000 (lit< tt)) (of_whole a) (lit< tt) (pos_nn 35620120166400) refl k l (whole_in a)
 
 -- ---- observed less computed
 pub prefit_holds : (hl hh bl bh rl rh : ℤ) (o b r : Rational) → InBox iota_exponent hl hh o → InBox iota_exponent bl bh b

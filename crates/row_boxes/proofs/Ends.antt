@@ -7,7 +7,7 @@ use Rattle.std.specs.Prelude.{◌==◌}
 use Rattle.whole_math.specs.Rounding.{IsFloor, IsCeil}
 use Rattle.obs_rows.specs.Ranges.{IsScale}
 use Rattle.obs_rows.specs.declared.units.TheConstants.{LIGHT_SPEED}
-use Rattle.row_boxes.specs.declared.pseudoranges.TheConstants.{UNITS, PARTS}
+use Rattle.row_boxes.specs.declared.pseudoranges.TheConstants.{METRE_UNITS, HALF_LIGHT_SPEED}
 use Rattle.row_boxes.specs.Terms.{pseudorange_width, prefit_width}
 use Rattle.whole_math.proofs.Words.{as_w64}
 
@@ -31,18 +31,18 @@ scale_cases s h = ⊎_elim (λ (e : (s == 0) ≡ true). inl (eqb-true s 0 e)) (�
     to_true b h = h
 
 -- ---- pseudoranges
-pub pseudorange_ordered : (f g v w : ℤ) → v ≤ℤ w → IsFloor (v *ℤ pos UNITS) (PARTS * 2 ^ 39) f → IsCeil (w *ℤ pos UNITS) (PARTS * 2 ^ 39) g → f ≤ℤ g
+pub pseudorange_ordered : (f g v w : ℤ) → v ≤ℤ w → IsFloor (v *ℤ pos METRE_UNITS) (HALF_LIGHT_SPEED * 2 ^ 39) f → IsCeil (w *ℤ pos METRE_UNITS) (HALF_LIGHT_SPEED * 2 ^ 39) g → f ≤ℤ g
 pseudorange_ordered f g v w h k l = step h k.0 l.0
   where
-    step : v ≤ℤ w → (f *ℤ pos (PARTS * 2 ^ 39)) ≤ℤ (v *ℤ pos UNITS) → (w *ℤ pos UNITS) ≤ℤ (g *ℤ pos (PARTS * 2 ^ 39)) → f ≤ℤ g
+    step : v ≤ℤ w → (f *ℤ pos (HALF_LIGHT_SPEED * 2 ^ 39)) ≤ℤ (v *ℤ pos METRE_UNITS) → (w *ℤ pos METRE_UNITS) ≤ℤ (g *ℤ pos (HALF_LIGHT_SPEED * 2 ^ 39)) → f ≤ℤ g
     step h k l = omega (arith, ints)
 
-pub pseudorange_narrow : (f g v w : ℤ) → (w -ℤ v) ≤ℤ (pos (2 ^ 43) +ℤ (pos (2 ^ 10) *ℤ LIGHT_SPEED)) → IsFloor (v *ℤ pos UNITS) (PARTS * 2 ^ 39) f → IsCeil (w *ℤ pos UNITS) (PARTS * 2 ^ 39) g →
+pub pseudorange_narrow : (f g v w : ℤ) → (w -ℤ v) ≤ℤ (pos (2 ^ 43) +ℤ (pos (2 ^ 10) *ℤ LIGHT_SPEED)) → IsFloor (v *ℤ pos METRE_UNITS) (HALF_LIGHT_SPEED * 2 ^ 39) f → IsCeil (w *ℤ pos METRE_UNITS) (HALF_LIGHT_SPEED * 2 ^ 39) g →
     (g -ℤ f) ≤ℤ pseudorange_width
 pseudorange_narrow f g v w h k l = step h k.1 l.1
   where
-    step : (w -ℤ v) ≤ℤ (pos (2 ^ 43) +ℤ (pos (2 ^ 10) *ℤ LIGHT_SPEED)) → (v *ℤ pos UNITS) <ℤ (f *ℤ pos (PARTS * 2 ^ 39) +ℤ pos (PARTS * 2 ^ 39)) →
-        (g *ℤ pos (PARTS * 2 ^ 39)) <ℤ (w *ℤ pos UNITS +ℤ pos (PARTS * 2 ^ 39)) → (g -ℤ f) ≤ℤ pseudorange_width
+    step : (w -ℤ v) ≤ℤ (pos (2 ^ 43) +ℤ (pos (2 ^ 10) *ℤ LIGHT_SPEED)) → (v *ℤ pos METRE_UNITS) <ℤ (f *ℤ pos (HALF_LIGHT_SPEED * 2 ^ 39) +ℤ pos (HALF_LIGHT_SPEED * 2 ^ 39)) →
+        (g *ℤ pos (HALF_LIGHT_SPEED * 2 ^ 39)) <ℤ (w *ℤ pos METRE_UNITS +ℤ pos (HALF_LIGHT_SPEED * 2 ^ 39)) → (g -ℤ f) ≤ℤ pseudorange_width
     step h k l = omega (arith, ints)
 
 -- ---- prefits

@@ -4,12 +4,12 @@ ghost use Rattle.whole_math.specs.Rounding.{IsFloor};
 ghost use Rattle.rational.specs.Rational.{Rational, InBox, sub_r};
 ghost use Rattle.obs_rows.specs.declared.units.TheConstants.{SIGNALS};
 ghost use Rattle.obs_rows.specs.Signals.{wavelength, is_phase};
-ghost use Rattle.row_boxes.specs.declared.pseudoranges.TheConstants.{PARTS};
-ghost use Rattle.row_boxes.specs.declared.prefits.TheConstants.{UNITS, L1_CYCLE, L2_CYCLE, L5_CYCLE};
+ghost use Rattle.row_boxes.specs.declared.pseudoranges.TheConstants.{HALF_LIGHT_SPEED};
+ghost use Rattle.row_boxes.specs.declared.prefits.TheConstants.{MILLIMETRE_UNITS, L1_CYCLE, L2_CYCLE, L5_CYCLE};
 ghost use Rattle.row_boxes.specs.Terms.{prefit_width, observed, iota_exponent};
 
 use crate::Pseudorange;
-use crate::pseudoranges::{PARTS, over_parts};
+use crate::pseudoranges::{HALF_LIGHT_SPEED, over_half_light_speed};
 use crate::y_boxes::IOTA_EXPONENT;
 use obs_rows::{UNIT_FREQUENCY, WAVELENGTHS};
 
@@ -33,13 +33,13 @@ pub const L2_CYCLE: i128 = (WAVELENGTHS[1] as i128) << IOTA_EXPONENT;
 /// That on L5.
 pub const L5_CYCLE: i128 = (WAVELENGTHS[4] as i128) << IOTA_EXPONENT;
 
-/// One millimetre is `UNITS` / `PARTS` units of 2^-15 ι.
-pub const UNITS: i128 = (UNIT_FREQUENCY as i128 / 2000) << IOTA_EXPONENT;
+/// One millimetre is `MILLIMETRE_UNITS` / `HALF_LIGHT_SPEED` units of 2^-15 ι.
+pub const MILLIMETRE_UNITS: i128 = (UNIT_FREQUENCY as i128 / 2000) << IOTA_EXPONENT;
 
-// 2^40 cycles in thousandths, and PARTS · 2^21 mm, which make an amount positive
-const RAISED: i64 = 1000 << 40;
+// 2^40 cycles in thousandths, and HALF_LIGHT_SPEED · 2^21 mm, which make an amount positive
+const AMOUNT_OFFSET: i64 = 1000 << 40;
 
-const RAISED_CODE: i64 = (PARTS as i64) << 21;
+const CODE_OFFSET: i64 = (HALF_LIGHT_SPEED as i64) << 21;
 
 // A box of one number, in 2^-15 ι.
 #[derive(Clone, Copy)]
@@ -56,7 +56,7 @@ fn l1_below(amount: i64) -> i128
     requires { unsigned_abs amount < 2 ^ 48 }
     ensures { IsFloor (amount *ℤ L1_CYCLE) 1000 result }
 {
-    let raised = (amount + RAISED) as u64;
+    let raised = (amount + AMOUNT_OFFSET) as u64;
     (raised / 1000) as i128 * L1_CYCLE + (raised % 1000 * L1_CYCLE as u64 / 1000) as i128
         - (L1_CYCLE << 40)
 }
@@ -66,7 +66,7 @@ fn l2_below(amount: i64) -> i128
     requires { unsigned_abs amount < 2 ^ 48 }
     ensures { IsFloor (amount *ℤ L2_CYCLE) 1000 result }
 {
-    let raised = (amount + RAISED) as u64;
+    let raised = (amount + AMOUNT_OFFSET) as u64;
     (raised / 1000) as i128 * L2_CYCLE + (raised % 1000 * L2_CYCLE as u64 / 1000) as i128
         - (L2_CYCLE << 40)
 }
@@ -76,19 +76,21 @@ fn l5_below(amount: i64) -> i128
     requires { unsigned_abs amount < 2 ^ 48 }
     ensures { IsFloor (amount *ℤ L5_CYCLE) 1000 result }
 {
-    let raised = (amount + RAISED) as u64;
+    let raised = (amount + AMOUNT_OFFSET) as u64;
     (raised / 1000) as i128 * L5_CYCLE + (raised % 1000 * L5_CYCLE as u64 / 1000) as i128
         - (L5_CYCLE << 40)
 }
 
-// ⌊amount · UNITS / PARTS⌋
+// ⌊amount · MILLIMETRE_UNITS / HALF_LIGHT_SPEED⌋
 fn code_below(amount: i64) -> i128
     requires { unsigned_abs amount < 2 ^ 48 }
-    ensures { IsFloor (amount *ℤ UNITS) PARTS result }
+    ensures { IsFloor (amount *ℤ MILLIMETRE_UNITS) HALF_LIGHT_SPEED result }
 {
-    let raised = (amount + RAISED_CODE) as u64;
-    let rest = over_parts((raised % PARTS) as u128 * UNITS as u128);
-    (raised / PARTS) as i128 * UNITS + rest as i128 - (UNITS << 21)
+    let raised = (amount + CODE_OFFSET) as u64;
+    let rest = over_half_light_speed(
+        (raised % HALF_LIGHT_SPEED) as u128 * MILLIMETRE_UNITS as u128,
+    );
+    (raised / HALF_LIGHT_SPEED) as i128 * MILLIMETRE_UNITS + rest as i128 - (MILLIMETRE_UNITS << 21)
 }
 
 // The least box of a number, from what it is at least and what its opposite is at least

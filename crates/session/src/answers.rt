@@ -7,14 +7,14 @@ ghost use Rattle.round_steps.specs.Shifts.{AreShiftsBelow};
 ghost use Rattle.session.specs.Answers.{GoesOn, IsAnswer, IsBestAnswer};
 
 use cert_data::{Answer, Cert, RoundCounts};
-use obs_rows::Arc;
-use round_steps::{End, Rounds, are_few, are_many, free_count, run};
 use epoch_pair::Options;
+use obs_rows::Arc;
+use round_steps::{Rounds, RunEnd, are_few, are_many, free_count, run};
 use std::alloc::{AllocError, Global};
 
 /// An answer, with the rounds that were made for it.
 #[derive(Debug, Drop)]
-pub struct Answered {
+pub struct RunAnswer {
     pub rounds: RoundCounts,
     pub answer: Answer,
 }
@@ -30,7 +30,7 @@ pub fn answer<R: Rounds>(
     taken: u32,
     base: &[i64; 3],
     options: &Options,
-) -> Result<Answered, AllocError>
+) -> Result<RunAnswer, AllocError>
     requires ready { GoesOn (R.rules rounds.old) taken → R.ready rounds.old }
     requires fresh { R.made rounds.old ≡ 0 }
     requires base { base.now ≡ (R.rules rounds.old).base }
@@ -44,13 +44,13 @@ pub fn answer<R: Rounds>(
     ensures strictly_best { IfOk result (λ a. IsBestAnswer a.answer) }
 {
     if are_few(taken, kept) {
-        return Ok(Answered {
+        return Ok(RunAnswer {
             rounds: NO_ROUNDS,
             answer: Answer::Few { pairs: taken },
         });
     }
     if are_many(kept) {
-        return Ok(Answered {
+        return Ok(RunAnswer {
             rounds: NO_ROUNDS,
             answer: Answer::Arcs {
                 free: free_count(kept),
@@ -58,15 +58,15 @@ pub fn answer<R: Rounds>(
         });
     }
     match run(alloc, rounds, kept, base, options.ratio, options.budget)? {
-        End::Early { made, stage, tail } => Ok(Answered {
+        RunEnd::Early { made, stage, tail } => Ok(RunAnswer {
             rounds: made,
             answer: Answer::Early { stage, tail },
         }),
-        End::Full {
+        RunEnd::Full {
             made,
             session,
             tail,
-        } => Ok(Answered {
+        } => Ok(RunAnswer {
             rounds: made,
             answer: Answer::Full(Cert {
                 ratio: options.ratio,

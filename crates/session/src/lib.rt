@@ -18,9 +18,9 @@ mod file_rounds;
 mod outcomes;
 mod runs;
 
-pub use answers::{Answered, answer};
+pub use answers::{RunAnswer, answer};
 pub use cert_data::{Answer, Cert, Outcome, RoundCounts, Stage, Tail};
+pub use epoch_pair::{Options, PairWhat, SessionFault, SessionStart, begin};
 pub use file_rounds::{FileRounds, FileRun};
 pub use outcomes::{have_delta, outcome};
 pub use runs::{process, screened};
-pub use epoch_pair::{Begun, Options, PairWhat, SessionFault, begin};

@@ -8,10 +8,10 @@ ghost use Rattle.session.specs.Answers.{GoesOn, HasDelta, IsAnswer, IsBestAnswer
 
 use crate::answer;
 use cert_data::Outcome;
+use epoch_pair::{Options, SessionStart};
 use obs_rows::Arc;
 use obs_store::ObsFile;
 use round_steps::Rounds;
-use epoch_pair::{Begun, Options};
 use std::alloc::{AllocError, Global};
 
 fn has_delta(file: &ObsFile) -> bool
@@ -31,7 +31,7 @@ pub fn have_delta(base: &ObsFile, rover: &ObsFile) -> bool
 pub fn outcome<R: Rounds>(
     alloc: Global,
     rounds: &mut R,
-    begun: &Begun,
+    begun: &SessionStart,
     kept: &[Arc],
     delta: bool,
     options: &Options,

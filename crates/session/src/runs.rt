@@ -11,9 +11,9 @@ ghost use Rattle.session.specs.Outcomes.{AreScreened, IsOutcome};
 use crate::{FileRounds, FileRun, have_delta, outcome};
 use cert_data::Outcome;
 use eph_store::NavFile;
+use epoch_pair::{Options, SessionFault, SessionStart, begin};
 use obs_store::ObsFile;
 use row_build::{base_halves, screen_in};
-use epoch_pair::{Begun, Options, SessionFault, begin};
 use slip_arcs::cut;
 use std::alloc::{AllocError, Global};
 use sv_orbit::world_of;
@@ -25,7 +25,7 @@ pub fn screened(
     base: &ObsFile,
     rover: &ObsFile,
     nav: &NavFile,
-    begun: &Begun,
+    begun: &SessionStart,
     options: &Options,
 ) -> Result<FileRounds, AllocError>
     requires position { IsPosition base.now begun.now.position }

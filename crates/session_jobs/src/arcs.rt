@@ -6,7 +6,7 @@ ghost use Rattle.session_jobs.specs.ArcJobs.{AreArcsOf, AnswersArcs};
 
 use crate::report::write_arcs;
 use eph_store::NavFile;
-use epoch_pair::{Begun, SessionFault, begin};
+use epoch_pair::{SessionFault, SessionStart, begin};
 use job_answers::{JobOutput, Status};
 use obs_store::ObsFile;
 use run_options::Options;
@@ -19,7 +19,7 @@ use sv_orbit::world_of;
 // The arcs of the pairs that are taken.
 fn arcs_of(
     alloc: Global,
-    begun: &Begun,
+    begun: &SessionStart,
     base: &ObsFile,
     rover: &ObsFile,
     nav: &NavFile,

@@ -11,7 +11,7 @@ use crate::places::{Point, VectorBox};
 use iv_core::Iv;
 
 // 625 · 2^27, which makes a coordinate positive
-const RAISED: i64 = 83_886_080_000;
+const COORDINATE_OFFSET: i64 = 83_886_080_000;
 
 // ⌊raised · 2^32 / 625⌋, in two digits at 2^32. The divisor is known when the program is built, which then multiplies in place of
 // dividing 128 bits.
@@ -29,7 +29,7 @@ pub fn units_of(coordinate: i64) -> i64
     ensures low { (result *ℤ pos 10000) ≤ℤ (coordinate *ℤ pos (2 ^ 36)) }
     ensures high { (coordinate *ℤ pos (2 ^ 36)) <ℤ ((result *ℤ pos 10000) +ℤ pos 10000) }
 {
-    raised_units((coordinate + RAISED) as u64) as i64 - (1 << 59)
+    raised_units((coordinate + COORDINATE_OFFSET) as u64) as i64 - (1 << 59)
 }
 
 // A coordinate in units of 0.1 mm

@@ -14,10 +14,10 @@ ghost use Rattle.track_sum.specs.Decided.{IsTrackForm};
 ghost use Rattle.track_form.specs.Decided.{IsTrackDecision, IsTrackBestWhereFixed, IsSameDecision, track_tail_of};
 
 use crate::uppers::track_upper;
+use cert_check::values_from;
 use fix_decide::is_separated;
 use int_search::{SearchFault, TwoBest, two_best};
 use integer_form::{Form, LowerFault, Place};
-use cert_check::values_from;
 use std::alloc::{AllocError, Global};
 use track_data::{Items, Track, TrackTail};
 use track_sum::{PairFactors, form_of_track, moves_at};

@@ -7,7 +7,7 @@ ghost use Rattle.cert_check.specs.Verdicts.{IsSameVerdict};
 ghost use Rattle.track_form.specs.Verdicts.{IsSaidOf, IsTrackVerdict, IsTrackBestIn, IsTrackBestByRatioIn};
 
 use crate::decided::decide_track;
-use crate::tails::says;
+use crate::tails::says_numbers;
 use cert_data::{Cause, Verdict};
 use std::alloc::{AllocError, Global};
 use track_data::{TrackCert, TrackTail};
@@ -23,7 +23,7 @@ fn said_of(decided: &TrackTail, tail: &TrackTail) -> Verdict
             best,
             top,
         } => {
-            if says(tail, *h, moves.as_slice(), best, *top) {
+            if says_numbers(tail, *h, moves.as_slice(), best, *top) {
                 return Verdict::Certified;
             }
             Verdict::Not(Cause::Tail)

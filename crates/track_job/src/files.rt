@@ -7,7 +7,7 @@ ghost use Rattle.epoch_pair.specs.Beginnings.{IsPosition};
 ghost use Rattle.track_job.specs.TrackOutcomes.{AreScreenedArcs};
 
 use eph_store::NavFile;
-use epoch_pair::{Begun, Options};
+use epoch_pair::{Options, SessionStart};
 use obs_rows::ArcList;
 use obs_store::ObsFile;
 use screening::{Screened, screen_in};
@@ -28,7 +28,7 @@ pub(crate) fn screened_arcs(
     base: &ObsFile,
     rover: &ObsFile,
     nav: &NavFile,
-    begun: &Begun,
+    begun: &SessionStart,
     options: &Options,
 ) -> Result<ScreenedArcs, AllocError>
     requires position { IsPosition base.now begun.now.position }

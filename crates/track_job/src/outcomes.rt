@@ -12,7 +12,7 @@ ghost use Rattle.track_job.specs.TrackOutcomes.{IsTrackable, IsTrackAnswer, IsTr
 use crate::answers::{TrackAnswer, TrackOutcome};
 use crate::files::{ScreenedArcs, screened_arcs};
 use eph_store::NavFile;
-use epoch_pair::{Begun, Options, SessionFault, begin};
+use epoch_pair::{Options, SessionFault, SessionStart, begin};
 use obs_rows::Arc;
 use obs_store::ObsFile;
 use round_steps::{are_few, are_many, free_count};
@@ -69,7 +69,7 @@ fn decided(
 fn answer(
     alloc: Global,
     files: &ScreenedArcs,
-    begun: &Begun,
+    begun: &SessionStart,
     taken: u32,
     options: &Options,
 ) -> Result<TrackAnswered, AllocError>

@@ -10,7 +10,7 @@ use Rattle.obs_rows.specs.Unused.{HasUsedRows, HasUsedShifts}
 use Rattle.row_build.specs.HeldArcs.{IsHeld}
 use Rattle.track_data.specs.declared.lost.Lost.{Lost}
 use Rattle.track_rows.specs.PairRules.{TrackSetting}
-use Rattle.track_rows.specs.declared.walks.Walk.{Walk}
+use Rattle.track_rows.specs.declared.walks.TrackSoFar.{TrackSoFar}
 use Rattle.track_rows.specs.Tracks.{HasRow, IsTrack}
 
 -- a flag for each arc, which says whether it has a row in a tracked pair
@@ -38,5 +38,5 @@ pub record IsWalked (t : TrackSetting) (count : ℕ) (arcs : List Arc) (begun : 
   pub fit : AreFit t arcs points tracked
   pub few : length tracked ≤ count
 
-abbrev pub IsWalk : TrackSetting → ℕ → Walk → Type 0
+abbrev pub IsWalk : TrackSetting → ℕ → TrackSoFar → Type 0
 IsWalk t count w = IsWalked t count w.arcs.items w.begun.items w.points.items w.pairs.items w.lost.items

@@ -14,7 +14,7 @@ use track_data::{Lost, LostCause};
 
 /// The track of the pairs so far, and those of them that it hasn't got.
 #[derive(Debug, Drop)]
-pub(crate) struct Walk {
+pub(crate) struct TrackSoFar {
     /// The arcs with the shifts that they have taken.
     pub arcs: Vec<Arc>,
     /// Which arcs have a row in a tracked pair.
@@ -44,14 +44,14 @@ fn marked(alloc: Global, begun: &[bool], arcs: &[Arc], pair: u32) -> Result<Vec<
     Ok(flags)
 }
 
-impl Walk {
+impl TrackSoFar {
     /// Before the first pair, over arcs without shifts.
-    fn begin(alloc: Global, kept: &[Arc]) -> Result<Walk, AllocError>
+    fn begin(alloc: Global, kept: &[Arc]) -> Result<TrackSoFar, AllocError>
         requires arcs { AreArcs kept.now }
         requires unshifted { AreUnshifted kept.now }
         ensures { IfOk result (λ w. (t : TrackSetting) → t.kept ≡ kept.now → IsWalk t 0 w) }
     {
-        Ok(Walk {
+        Ok(TrackSoFar {
             arcs: Vec::from_slice(alloc, kept)?,
             begun: vec![in alloc; false; kept.len()]?,
             points: Vec::new(alloc),
@@ -107,11 +107,11 @@ impl Walk {
 }
 
 /// The track of all pairs.
-pub(crate) fn walked(alloc: Global, files: &TrackFiles<'_>) -> Result<Walk, AllocError>
+pub(crate) fn walked(alloc: Global, files: &TrackFiles<'_>) -> Result<TrackSoFar, AllocError>
     requires { AreReady files.now }
     ensures { IfOk result (IsWalk (setting_of files.now) (length files.now.screened.now.used)) }
 {
-    let mut walk = Walk::begin(alloc, files.kept)?;
+    let mut walk = TrackSoFar::begin(alloc, files.kept)?;
     for pair in 0..files.screened.used.len() {
         walk.step(alloc, files, pair as u32)?;
     }

@@ -2,7 +2,7 @@ use Rattle.std.proofs.Common.{◌≡◌, ◌+◌, ◌^◌, ◌<◌, ◌∷◌, L
 use Rattle.std.proofs.lemmas.List.{drop_more}
 use Rattle.std.proofs.lemmas.Int.{ints}
 use Rattle.std.specs.Int.{w64, w128}
-use Rattle.fix_decide.specs.declared.reaches.Reach.{Reach}
+use Rattle.fix_decide.specs.declared.reaches.ResidualBox.{ResidualBox}
 use Rattle.fix_decide.specs.Reaches.{gap, gaps_from}
 use Rattle.fix_decide.proofs.Words.{small_w64}
 use Rattle.fix_decide.proofs.GapSums.{next, Step, step, times_below}
@@ -13,9 +13,9 @@ weaker x h = omega (arith, ints)
 
 pub loop-q-preserved : goal.loop-q-preserved
 loop-q-preserved c =
-    let none : Reach = record { centre = pos 0; rad = pos 0 } in
-    let q : Reach = get_or c.args.others.now c.loop-q.q-index none in
-    let later : List Reach = drop (c.loop-q.q-index + 1) c.args.others.now in
+    let none : ResidualBox = record { centre = pos 0; rad = pos 0 } in
+    let q : ResidualBox = get_or c.args.others.now c.loop-q.q-index none in
+    let later : List ResidualBox = drop (c.loop-q.q-index + 1) c.args.others.now in
     let inside : c.loop-q.q-index < length c.args.others.now = search rules in
     let e : drop c.loop-q.q-index c.args.others.now ≡ q ∷ later = drop_more c.args.others.now c.loop-q.q-index none inside in
     let s : ℤ = to_z w128 c.loop-q.sum-bits in
@@ -26,7 +26,7 @@ loop-q-preserved c =
     (times_below (c.loop-q.q-index + 1) (length c.args.others.now) (2 ^ 68) (omega arith) c.requires.few (omega arith)) in
     record {
       value = next s _ c.square-sum.result (gap c.args.p q *ℤ gap c.args.p q) (gaps_from c.args.p later) (gaps_from c.args.p c.args.others.now)
-          (ap (λ (l : List Reach). s +ℤ gaps_from c.args.p l) (sym e) ∙ c.loop-q.invariant.value) v t.is;
+          (ap (λ (l : List ResidualBox). s +ℤ gaps_from c.args.p l) (sym e) ∙ c.loop-q.invariant.value) v t.is;
       from = t.from;
       to = t.to;
     }

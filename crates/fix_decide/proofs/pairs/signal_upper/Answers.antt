@@ -1,7 +1,7 @@
 use Rattle.std.proofs.Common.{◌≡◌, ℕ, ◌*◌, ◌^◌, ◌≤◌, List, length, map, ℤ, pos, ◌*ℤ◌, ◌≤ℤ◌, All, sym, ap, ap₂, ◌∙◌, subst}
 use Rattle.obs_rows.specs.declared.rows.Row.{Row}
 use Rattle.obs_rows.specs.SumOfSquares.{share}
-use Rattle.fix_decide.specs.declared.reaches.Reach.{Reach}
+use Rattle.fix_decide.specs.declared.reaches.ResidualBox.{ResidualBox}
 use Rattle.fix_decide.specs.Reaches.{IsNarrow, gaps}
 use Rattle.fix_decide.specs.RowReaches.{AreSeen}
 use Rattle.fix_decide.specs.UpperSums.{reach_of}
@@ -11,7 +11,7 @@ use Rattle.fix_decide.proofs.Products.{Weighted, weighted, fits_product, product
 use Rattle.fix_decide.proofs.pairs.signal_upper.Goals as goal
 
 -- the share k of the rows told and the gaps g of their reaches
-weighted_rows : (all rows : List Row) (reaches : List Reach) (k g : ℤ) → all ≡ rows → length reaches ≡ length all → 1 ≤ length rows →
+weighted_rows : (all rows : List Row) (reaches : List ResidualBox) (k g : ℤ) → all ≡ rows → length reaches ≡ length all → 1 ≤ length rows →
     length rows ≤ 15 → pos 0 ≤ℤ k → (k *ℤ pos (length all)) ≤ℤ pos (2 ^ 32) →
     pos 0 ≤ℤ g → g ≤ℤ pos (length reaches * 2 ^ 72) → Weighted k g
 weighted_rows all rows reaches k g told same some few from to g_from g_to = weighted k g (length all)
@@ -33,7 +33,7 @@ overflow_mul-result c = fits_product c.share.result c.gaps.result
 
 pub returns-clause-value : goal.returns-clause-value
 returns-clause-value c = λ arcs ss m seen.
-    let f : Row → Reach = reach_of arcs ss c.args.z.now m c.args.signal in
+    let f : Row → ResidualBox = reach_of arcs ss c.args.z.now m c.args.signal in
     let told : AreSeen arcs ss m c.args.signal c.as_slice-rows.result.now c.args.places.now c.args.moves.now =
     subst (λ (l : List Row). AreSeen arcs ss m c.args.signal l c.args.places.now c.args.moves.now) (sym c.as_slice-rows.ensures) seen in
     let same : c.as_slice.result.now ≡ map f c.as_slice-rows.result.now = c.as_slice.ensures.value ∙ c.in_ok-put_reaches.ensures.value arcs ss m told in
@@ -62,7 +62,7 @@ returns-clause-to c =
 
 pub returns-clause-narrow : goal.returns-clause-narrow
 returns-clause-narrow c = λ arcs ss m seen.
-    let f : Row → Reach = reach_of arcs ss c.args.z.now m c.args.signal in
+    let f : Row → ResidualBox = reach_of arcs ss c.args.z.now m c.args.signal in
     let told : AreSeen arcs ss m c.args.signal c.as_slice-rows.result.now c.args.places.now c.args.moves.now =
     subst (λ (l : List Row). AreSeen arcs ss m c.args.signal l c.args.places.now c.args.moves.now) (sym c.as_slice-rows.ensures) seen in
     narrow_not_wide f c.args.pair.now.rows (subst (All IsNarrow) (c.in_ok-put_reaches.ensures.value arcs ss m told ∙ ap (map f) c.as_slice-rows.ensures) c.in_ok-put_reaches.ensures.narrow)

@@ -1,5 +1,5 @@
 use Rattle.std.proofs.Common.{IfOk, Result, Ok, Err, subst}
-use Rattle.round_steps.specs.declared.runs.End.{End}
+use Rattle.round_steps.specs.declared.runs.RunEnd.{RunEnd}
 use Rattle.round_steps.specs.Runs.{Rules, SettlesAt, IsCoarseEnd, IsEnd}
 use Rattle.round_steps.proofs.SameRules.{stayed, settles, ends}
 use Rattle.round_steps.proofs.runs.run.Goals as goal

@@ -4,8 +4,8 @@ use Rattle.std.proofs.lemmas.Bool.{false≢true}
 use Rattle.whole_math.specs.Rounding.{IsFloor, IsCeil}
 use Rattle.rational.specs.Rational.{InBox}
 use Rattle.obs_rows.specs.Signals.{wavelength, is_phase}
-use Rattle.row_boxes.specs.declared.pseudoranges.TheConstants.{PARTS}
-use Rattle.row_boxes.specs.declared.prefits.TheConstants.{UNITS}
+use Rattle.row_boxes.specs.declared.pseudoranges.TheConstants.{HALF_LIGHT_SPEED}
+use Rattle.row_boxes.specs.declared.prefits.TheConstants.{MILLIMETRE_UNITS}
 use Rattle.row_boxes.specs.Terms.{observed, iota_exponent}
 use Rattle.row_boxes.proofs.Boxes.{observed_code}
 use Rattle.row_boxes.proofs.prefits.observed_box.Goals as goal
@@ -57,8 +57,8 @@ returns-in_default-clause-holds c =
     let f = c.code_below.ensures in
     let g = c.code_below-in_default.ensures in
     let b = c.between-in_default in
-    let low : IsFloor (c.args.amount *ℤ UNITS) PARTS b.result.lo = (omega (arith, ints, s, f.0, f.1, b.ensures.low), omega (arith, ints, s, f.0, f.1, b.ensures.low)) in
-    let high : IsCeil (c.args.amount *ℤ UNITS) PARTS b.result.hi = (omega (arith, ints, s, g.0, g.1, b.ensures.high), omega (arith, ints, s, g.0, g.1, b.ensures.high)) in
+    let low : IsFloor (c.args.amount *ℤ MILLIMETRE_UNITS) HALF_LIGHT_SPEED b.result.lo = (omega (arith, ints, s, f.0, f.1, b.ensures.low), omega (arith, ints, s, f.0, f.1, b.ensures.low)) in
+    let high : IsCeil (c.args.amount *ℤ MILLIMETRE_UNITS) HALF_LIGHT_SPEED b.result.hi = (omega (arith, ints, s, g.0, g.1, b.ensures.high), omega (arith, ints, s, g.0, g.1, b.ensures.high)) in
     observed_code c.args.signal c.args.amount b.result.lo b.result.hi (code c.args.signal c.requires.signal (omega arith) (omega arith) (omega arith)) low high
 
 pub returns-in_default-clause-phase : goal.returns-in_default-clause-phase

@@ -4,7 +4,7 @@ use Rattle.std.proofs.lemmas.Int.{ints, to_z-of_z}
 use Rattle.whole_math.specs.Rounding.{IsFloor, IsCeil}
 use Rattle.rational.specs.Rational.{InBox}
 use Rattle.obs_rows.specs.declared.units.TheConstants.{LIGHT_SPEED}
-use Rattle.row_boxes.specs.declared.pseudoranges.TheConstants.{UNITS, PARTS}
+use Rattle.row_boxes.specs.declared.pseudoranges.TheConstants.{METRE_UNITS, HALF_LIGHT_SPEED}
 use Rattle.row_boxes.specs.Terms.{pseudorange, iota_exponent}
 use Rattle.row_boxes.proofs.Ends.{plain64, through, pseudorange_ordered, pseudorange_narrow}
 use Rattle.row_boxes.proofs.Boxes.{pseudorange_holds}
@@ -33,12 +33,12 @@ high_metres c =
     let t = c.args.clock.now in
     c.less_clock-2.ensures.value ∙ ap₂ metres (plain64 r.hi (through _ r.lo r.hi r.low r.ordered) r.high) (plain64 t.lo t.low (through t.lo t.hi (pos (2 ^ 62)) t.ordered t.high))
 
-is_floor : (c : goal.After-above) → IsFloor (metres c.args.range.now.lo c.args.clock.now.hi *ℤ pos UNITS) (PARTS * 2 ^ 39) c.below.result
-is_floor c = subst (λ (v : ℤ). IsFloor (v *ℤ pos UNITS) (PARTS * 2 ^ 39) c.below.result)
+is_floor : (c : goal.After-above) → IsFloor (metres c.args.range.now.lo c.args.clock.now.hi *ℤ pos METRE_UNITS) (HALF_LIGHT_SPEED * 2 ^ 39) c.below.result
+is_floor c = subst (λ (v : ℤ). IsFloor (v *ℤ pos METRE_UNITS) (HALF_LIGHT_SPEED * 2 ^ 39) c.below.result)
     (to_z-of_z w128 c.less_clock.result (record { sfits = c.less_clock.type_inv }) ∙ low_metres c) c.below.ensures.rounded
 
-is_ceil : (c : goal.After-above) → IsCeil (metres c.args.range.now.hi c.args.clock.now.lo *ℤ pos UNITS) (PARTS * 2 ^ 39) c.above.result
-is_ceil c = subst (λ (v : ℤ). IsCeil (v *ℤ pos UNITS) (PARTS * 2 ^ 39) c.above.result)
+is_ceil : (c : goal.After-above) → IsCeil (metres c.args.range.now.hi c.args.clock.now.lo *ℤ pos METRE_UNITS) (HALF_LIGHT_SPEED * 2 ^ 39) c.above.result
+is_ceil c = subst (λ (v : ℤ). IsCeil (v *ℤ pos METRE_UNITS) (HALF_LIGHT_SPEED * 2 ^ 39) c.above.result)
     (to_z-of_z w128 c.less_clock-2.result (record { sfits = c.less_clock-2.type_inv }) ∙ high_metres c) c.above.ensures.rounded
 
 rising : (rl rh tl th : ℤ) → rl ≤ℤ rh → tl ≤ℤ th → metres rl th ≤ℤ metres rh tl

@@ -5,11 +5,11 @@ use Rattle.int_search.specs.Suffixes.{SearchForm}
 use Rattle.int_search.specs.declared.stack.Level.{Level}
 use Rattle.int_search.specs.SearchedForm.{search_form}
 use Rattle.int_search.specs.Steps.{IsTermWithin}
-use Rattle.int_search.specs.declared.walk.Walk.{Walk}
+use Rattle.int_search.specs.declared.walk.SearchState.{SearchState}
 use Rattle.int_search.specs.declared.steps.Choice.{Choice}
 use Rattle.int_search.proofs.FormNumbers.{searchable}
 use Rattle.int_search.proofs.WalkLaws.{low_size, p2_size, weight_here, walk_pop, walk_reach, chosen_sizes, latest_level}
-use Rattle.int_search.proofs.walk.Walk.reach.Goals as goal
+use Rattle.int_search.proofs.walk.SearchState.reach.Goals as goal
 
 pub room-requires-clause-p_size : goal.room-requires-clause-p_size
 room-requires-clause-p_size c =
@@ -40,7 +40,7 @@ term_within-requires-clause-d_to c =
 pub returns-in_err-term : goal.returns-in_err-term
 returns-in_err-term c =
     let f : SearchForm = search_form c.args.form.now in
-    let w : Walk = c.args.self.now in
+    let w : SearchState = c.args.self.now in
     let a : Level = c.top-level.result in
     let ch : Choice = c.nearest-choice.result in
     let k = searchable c.args.form.now c.requires.some in
@@ -73,7 +73,7 @@ low_with-requires-clause-low_size c =
 pub returns : goal.returns
 returns c =
     let f : SearchForm = search_form c.args.form.now in
-    let w : Walk = c.args.self.now in
+    let w : SearchState = c.args.self.now in
     let a : Level = c.top-level.result in
     let ch : Choice = c.nearest-choice.result in
     let k = searchable c.args.form.now c.requires.some in

@@ -2,7 +2,7 @@ use Rattle.std.proofs.Common.{◌+◌, List, refl, sym, subst}
 use Rattle.track_data.specs.declared.lost.Lost.{Lost}
 use Rattle.track_rows.specs.Walks.{IsWalked}
 use Rattle.track_rows.proofs.Steps.{lost_step}
-use Rattle.track_rows.proofs.walks.Walk.lose.Goals as goal
+use Rattle.track_rows.proofs.walks.TrackSoFar.lose.Goals as goal
 
 pub returns : goal.returns
 returns c = λ t walked is.

@@ -8,15 +8,15 @@ use Rattle.int_search.specs.Images.{image_of}
 use Rattle.int_search.specs.Best.{KeepsBest}
 use Rattle.int_search.specs.SearchedForm.{search_form}
 use Rattle.int_search.specs.Walk.{search_image}
-use Rattle.int_search.specs.declared.walk.Walk.{Walk}
+use Rattle.int_search.specs.declared.walk.SearchState.{SearchState}
 use Rattle.int_search.proofs.SuffixArrays.{suffix-length}
 use Rattle.int_search.proofs.WalkLaws.{offers_best}
-use Rattle.int_search.proofs.walk.Walk.offer.Goals as goal
+use Rattle.int_search.proofs.walk.SearchState.offer.Goals as goal
 
 pub returns : goal.returns
 returns c =
     let f : SearchForm = search_form c.args.form.now in
-    let w : Walk = c.args.self.now in
+    let w : SearchState = c.args.self.now in
     let m : List (List ℤ) = c.args.map.now in
     let z : length w.z ≡ MOST_INTEGERS = search rules in
     let mo = c.args.form.now.columns_to in

@@ -13,8 +13,8 @@ use Rattle.int_search.specs.Walk.{search_image, BeginsWith}
 use Rattle.int_search.proofs.FormNumbers.{searchable}
 use Rattle.int_search.proofs.PointLaws.{top_first, top_second, top_small, top_wide, within_top, rounded_length, neighbour_length}
 use Rattle.int_search.proofs.StartLaws.{IsPoint, begins, wide_point, points_differ}
-use Rattle.int_search.proofs.walk.Walk.start.Goals as goal
-use Rattle.int_search.proofs.walk.Walk.start.Goals.{then-p-via-then-p, then-p-via-else-p+then-q}
+use Rattle.int_search.proofs.walk.SearchState.start.Goals as goal
+use Rattle.int_search.proofs.walk.SearchState.start.Goals.{then-p-via-then-p, then-p-via-else-p+then-q}
 
 -- the numbers of the code for the sizes of the form
 same_size : (form : Form) → form.columns - 3 - 1 ≡ form.columns - 4

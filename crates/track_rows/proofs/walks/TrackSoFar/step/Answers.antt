@@ -5,7 +5,7 @@ use Rattle.round_steps.proofs.ShiftLaws.{length_same}
 use Rattle.track_rows.specs.declared.trials.Trial.{Trial}
 use Rattle.track_rows.specs.PairRules.{setting_of}
 use Rattle.track_rows.specs.Trials.{IsTrialOf, Fits, flagged}
-use Rattle.track_rows.proofs.walks.Walk.step.Goals as goal
+use Rattle.track_rows.proofs.walks.TrackSoFar.step.Goals as goal
 
 pub track-requires : goal.track-requires
 track-requires c =

@@ -6,12 +6,12 @@ use Rattle.int_search.specs.Suffixes.{SearchForm, rest}
 use Rattle.int_search.specs.Vectors.{suffix}
 use Rattle.int_search.specs.SearchedForm.{search_form}
 use Rattle.int_search.specs.Walk.{search_image}
-use Rattle.int_search.specs.declared.walk.Walk.{Walk}
-use Rattle.int_search.specs.declared.walk.Reach.{Reach}
+use Rattle.int_search.specs.declared.walk.SearchState.{SearchState}
+use Rattle.int_search.specs.declared.walk.NextEntry.{NextEntry}
 use Rattle.int_search.proofs.FormNumbers.{searchable}
 use Rattle.int_search.proofs.PointLaws.{small_set}
 use Rattle.int_search.proofs.WalkLaws.{walk_inner, leaf_visit, drop_length}
-use Rattle.int_search.proofs.walk.Walk.visit.Goals as goal
+use Rattle.int_search.proofs.walk.SearchState.visit.Goals as goal
 
 entry_is : (x : ℤ) → unsigned_abs x < 2 ^ 30 → to_z w64 (of_z w64 x) ≡ x
 entry_is x small = as_w64 x (omega (arith, small))
@@ -25,8 +25,8 @@ later_part-requires-clause-small c = small_set c.args.self.now.z _ _ c.requires.
 pub returns-then-i-eq0 : goal.returns-then-i-eq0
 returns-then-i-eq0 c =
     let f : SearchForm = search_form c.args.form.now in
-    let w : Walk = c.args.self.now in
-    let r : Reach = c.args.reach.now in
+    let w : SearchState = c.args.self.now in
+    let r : NextEntry = c.args.reach.now in
     let mo = c.args.form.now.columns_to in
     let s = c.requires.walk.size in
     let l = c.len.ensures in
@@ -43,8 +43,8 @@ returns-then-i-eq0 c =
 pub returns : goal.returns
 returns c =
     let f : SearchForm = search_form c.args.form.now in
-    let w : Walk = c.args.self.now in
-    let r : Reach = c.args.reach.now in
+    let w : SearchState = c.args.self.now in
+    let r : NextEntry = c.args.reach.now in
     let mo = c.args.form.now.columns_to in
     let h = c.requires.walk in
     let s = h.size in

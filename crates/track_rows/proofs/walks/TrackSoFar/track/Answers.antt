@@ -3,7 +3,7 @@ use Rattle.obs_rows.specs.declared.arcs.Arc.{Arc}
 use Rattle.obs_rows.specs.declared.pair_rows.PairRows.{PairRows}
 use Rattle.track_rows.specs.Walks.{AreMarked, IsWalked}
 use Rattle.track_rows.proofs.Steps.{tracked_step}
-use Rattle.track_rows.proofs.walks.Walk.track.Goals as goal
+use Rattle.track_rows.proofs.walks.TrackSoFar.track.Goals as goal
 
 pub returns : goal.returns
 returns c = λ t walked is fits.

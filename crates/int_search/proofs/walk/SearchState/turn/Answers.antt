@@ -6,9 +6,9 @@ use Rattle.int_search.specs.declared.stack.Level.{Level}
 use Rattle.int_search.proofs.VisitLaws.{wide_image_more}
 use Rattle.int_search.specs.SearchedForm.{search_form}
 use Rattle.int_search.specs.Walk.{search_image, IsWalk, Visits}
-use Rattle.int_search.specs.declared.walk.Walk.{Walk}
+use Rattle.int_search.specs.declared.walk.SearchState.{SearchState}
 use Rattle.int_search.proofs.WalkLaws.{walk_end, walk_over, walk_wide, left_less, drop_length, reach_entry}
-use Rattle.int_search.proofs.walk.Walk.turn.Goals as goal
+use Rattle.int_search.proofs.walk.SearchState.turn.Goals as goal
 
 some_of : (n m : ℕ) → n ≡ m → (n ≡ 0 → ⊥) → 0 < m
 some_of n m e h = omega arith
@@ -39,8 +39,8 @@ visit-requires-clause-small c =
 pub returns-then-visit : goal.returns-then-visit
 returns-then-visit c =
     let f : SearchForm = search_form c.args.form.now in
-    let w : Walk = c.args.self.now in
-    let new : Walk = c.visit.new.self in
+    let w : SearchState = c.args.self.now in
+    let new : SearchState = c.visit.new.self in
     let v : Visits f (search_image c.args.form.now c.args.map.now) w new = c.if-visit.ensures in
     let n = c.requires.visits in
     let ne = c.if-self-budget.false in
@@ -52,7 +52,7 @@ returns-then-visit c =
 
 pub returns-in_default : goal.returns-in_default
 returns-in_default c =
-    let w : Walk = c.args.self.now in
+    let w : SearchState = c.args.self.now in
     let f : SearchForm = search_form c.args.form.now in
     let im : List ℤ → List ℤ = search_image c.args.form.now c.args.map.now in
     let n : 0 < length w.stack = some_of c.len.result (length w.stack) c.len.ensures c.if-len-eq0.false in

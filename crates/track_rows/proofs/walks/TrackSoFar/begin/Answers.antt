@@ -1,5 +1,5 @@
 use Rattle.track_rows.proofs.Steps.{begun_walk}
-use Rattle.track_rows.proofs.walks.Walk.begin.Goals as goal
+use Rattle.track_rows.proofs.walks.TrackSoFar.begin.Goals as goal
 
 pub returns : goal.returns
 returns c = λ t kept.
