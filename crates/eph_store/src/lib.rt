@@ -18,6 +18,7 @@ mod records;
 
 pub use chosen::nearest;
 pub use ephemeris::Eph;
+pub use fields::TWO_HOURS;
 pub use profile::Unfit;
 pub use record::Raw;
 pub use records::NavFile;
