@@ -10,14 +10,12 @@ use crate::receiver::Receiver;
 use crate::signals::{Signals, Tracking};
 use crate::texts::{write_epoch, write_header};
 use eph_store::Eph;
-use gps_time::Tick;
+use gps_time::{TICKS_IN_SECOND, Tick};
 use orbit_clock::World;
 use std::alloc::{AllocError, Global};
 
 /// 2024-01-01 00:00:00.
 const START: u64 = 13_881_024_000_000_000;
-
-const TICKS_IN_SECOND: u64 = 10_000_000;
 
 fn step_of(epochs: u32) -> u32
     requires { epochs ≤ 3600 }
