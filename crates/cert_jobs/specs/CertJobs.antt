@@ -6,6 +6,7 @@ use Rattle.cert_data.specs.declared.verdicts.Verdict.{Verdict}
 use Rattle.cert_data.specs.declared.verdicts.Verdict.TheVariants.{Certified, Not}
 use Rattle.cert_spelling.specs.Spelling.{spelling}
 use Rattle.grammar_lines.specs.Beginnings.{NoneBegins}
+use Rattle.cert_text.specs.BeforePairs.{BeginsBefore}
 use Rattle.cert_text.specs.Rules.{reading_of}
 use Rattle.cert_spelling.specs.Lengths.{IsWhole, IsCertificate}
 use Rattle.cert_check.specs.Decided.{IsBestIn, IsBestByRatioIn}
@@ -18,9 +19,11 @@ use Rattle.job_answers.specs.declared.status.Status.TheVariants.{Done, Declined}
 use Rattle.job_answers.specs.Endings.{Ending, ending}
 use Rattle.job_answers.specs.TextJobs.{TextJob}
 
--- the first place at which the rules fail: no certificate begins with the text's lines up to that one
+-- the first place at which the rules fail: no certificate begins with the text's lines up to that one, and up to the line
+-- `pairs` one begins with the lines before it
 pub record IsCertRefused (text : List ℕ) (at : At) : Type 0 where
   pub stuck : NoneBegins IsCertificate text at.line
+  pub first : BeginsBefore IsCertificate text at.line
   pub gives_is : reading_of text ≡ Err at
 
 -- the text spells a certificate, which has this answer

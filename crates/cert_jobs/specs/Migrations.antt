@@ -8,6 +8,7 @@ use Rattle.cert_lines.specs.declared.version.Version.TheVariants.{One}
 use Rattle.cert_spelling.specs.Spelling.{spelling}
 use Rattle.cert_spelling.specs.Lengths.{IsWhole}
 use Rattle.grammar_lines.specs.Beginnings.{NoneBegins}
+use Rattle.cert_text.specs.BeforePairs.{BeginsBefore}
 use Rattle.cert_text.specs.Rules.{reading_as}
 use Rattle.cert_migrate.specs.declared.old_certs.OldCert.{OldCert}
 use Rattle.cert_migrate.specs.OldSpelling.{old_spelling, IsWholeOld, IsOldCertificate}
@@ -33,9 +34,11 @@ pub record MigrateEnd (old : OldCert) (end : Ending) : Type 0 where
   pub migrated : IsMigrated old cert
   pub end_is : end ≡ ending (status_of cert.tail) (spelling cert) []
 
--- the first place at which the rules of version 1 fail: none begins with the text's lines up to that one
+-- the first place at which the rules of version 1 fail: none begins with the text's lines up to that one, and up to the line
+-- `pairs` one begins with the lines before it
 pub record IsOldRefused (text : List ℕ) (at : At) : Type 0 where
   pub stuck : NoneBegins IsOldCertificate text at.line
+  pub first : BeginsBefore IsOldCertificate text at.line
   pub gives_is : reading_as One text ≡ Err at
 
 -- the text spells a certificate of version 1, which has this answer

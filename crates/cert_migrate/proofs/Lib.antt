@@ -12,3 +12,4 @@ pub mod OldSpelled
 pub mod OldSame
 pub mod MovedSessions
 pub mod ReadLaws
+pub mod OldTexts

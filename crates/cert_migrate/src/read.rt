@@ -3,6 +3,7 @@ ghost use Rattle.std.specs.Prelude.{◌≡◌, ◌≤◌, length, IfOk};
 ghost use Rattle.rinex_head.specs.Walk.{Gives, OnRefusal, IfRefused};
 ghost use Rattle.cert_lines.specs.declared.version.Version.TheVariants.{One};
 ghost use Rattle.grammar_lines.specs.Beginnings.{NoneBegins};
+ghost use Rattle.cert_text.specs.BeforePairs.{BeginsBefore};
 ghost use Rattle.cert_text.specs.Rules.{reading_as};
 ghost use Rattle.cert_migrate.specs.declared.old_certs.OldCert.{OldCert};
 ghost use Rattle.cert_migrate.specs.OldSpelling.{old_spelling, IsWholeOld, IsOldCertificate};
@@ -21,6 +22,7 @@ pub fn read_old(alloc: Global, text: &[u8]) -> Result<OldCert, TextFault>
     ensures only { IfOk result (λ c. (d : OldCert) → IsWholeOld d → text.now ≡ old_spelling d → d ≡ c) }
     ensures refused { OnRefusal result (IsOldCertificate text.now → ⊥) }
     ensures stuck { IfRefused result (λ at. NoneBegins IsOldCertificate text.now at.line) }
+    ensures first { IfRefused result (λ at. BeginsBefore IsOldCertificate text.now at.line) }
     ensures exact { Gives (reading_as One text.now) (λ c. tt) result }
 {
     let cert = read_as(alloc, Version::One, text)?;

@@ -7,3 +7,6 @@ pub mod Accepted
 pub mod SameStructs
 pub mod SameSpelling
 pub mod Versions
+pub mod ReadBack
+pub mod Completed
+pub mod Begun

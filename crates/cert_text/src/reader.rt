@@ -6,6 +6,7 @@ ghost use Rattle.cert_spelling.specs.Spelling.{lines_of_cert, spelling_as, spell
 ghost use Rattle.cert_spelling.specs.Lengths.{IsWhole, IsCertificate};
 ghost use Rattle.cert_spelling.specs.Editions.{IsOfVersion, IsCertificateAs};
 ghost use Rattle.grammar_lines.specs.Beginnings.{NoneBegins};
+ghost use Rattle.cert_text.specs.BeforePairs.{BeginsBefore};
 ghost use Rattle.cert_text.specs.Rules.{cert_rules, reading_as, reading_of, Form, End};
 
 use crate::arcs::read_arcs;
@@ -67,6 +68,7 @@ pub fn read_as(alloc: Global, version: Version, text: &[u8]) -> Result<Cert, Tex
     ensures only { IfOk result (λ c. (d : Cert) → IsWhole d → IsOfVersion version d → text.now ≡ spelling_as version d → d ≡ c) }
     ensures refused { OnRefusal result (IsCertificateAs version text.now → ⊥) }
     ensures stuck { IfRefused result (λ at. NoneBegins (IsCertificateAs version) text.now at.line) }
+    ensures first { IfRefused result (λ at. BeginsBefore (IsCertificateAs version) text.now at.line) }
     ensures exact { Gives (reading_as version text.now) (λ c. tt) result }
 {
     read_lines(alloc, version, TextLines::new(text))
@@ -80,6 +82,7 @@ pub fn read_cert(alloc: Global, text: &[u8]) -> Result<Cert, TextFault>
     ensures only { IfOk result (λ c. (d : Cert) → IsWhole d → text.now ≡ spelling d → d ≡ c) }
     ensures refused { OnRefusal result (IsCertificate text.now → ⊥) }
     ensures stuck { IfRefused result (λ at. NoneBegins IsCertificate text.now at.line) }
+    ensures first { IfRefused result (λ at. BeginsBefore IsCertificate text.now at.line) }
     ensures exact { Gives (reading_of text.now) (λ c. tt) result }
 {
     read_as(alloc, Version::Two, text)

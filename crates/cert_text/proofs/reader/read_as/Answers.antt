@@ -13,6 +13,7 @@ use Rattle.cert_lines.specs.declared.version.Version.{Version}
 use Rattle.cert_text.proofs.Accepted.{refused_text, stuck_text}
 use Rattle.cert_spelling.specs.Lengths.{IsWhole}
 use Rattle.cert_spelling.specs.Editions.{IsOfVersion}
+use Rattle.cert_text.proofs.Begun.{first_text}
 use Rattle.cert_text.proofs.SameSpelling.{spelling_same}
 use Rattle.cert_text.proofs.FeedLaws.{cert_feed}
 use Rattle.cert_text.proofs.reader.read_as.Goals as goal
@@ -41,6 +42,12 @@ returns-clause-stuck c =
     let text = c.args.text.now in
     let whole = sym (ap (λ (r : Reading). rest_gives cert_rules r (Form c.args.version)) c.new.ensures) in
     stuck_text c.args.version text (λ x. tt) c.read_lines.result (gives_same _ _ (λ x. tt) c.read_lines.result whole c.read_lines.ensures.reads)
+
+pub returns-clause-first : goal.returns-clause-first
+returns-clause-first c =
+    let text = c.args.text.now in
+    let whole = sym (ap (λ (r : Reading). rest_gives cert_rules r (Form c.args.version)) c.new.ensures) in
+    first_text c.args.version text (λ x. tt) c.read_lines.result (gives_same _ _ (λ x. tt) c.read_lines.result whole c.read_lines.ensures.reads)
 
 -- what is read is the only certificate with this spelling
 alone : (version : Version) (text : List ℕ) (r : Result Cert TextFault) → IfOk r (λ c. text ≡ spelling_as version c) → IfOk r IsWhole → IfOk r (IsOfVersion version)

@@ -8,6 +8,8 @@ use Rattle.cert_spelling.specs.Spelling.{spelling_as, spelling}
 use Rattle.cert_spelling.specs.Lengths.{IsWhole, IsCertificate}
 use Rattle.cert_spelling.specs.Editions.{IsOfVersion, IsCertificateAs}
 use Rattle.grammar_lines.specs.Beginnings.{NoneBegins}
+use Rattle.cert_text.specs.BeforePairs.{BeginsBefore}
+use Rattle.cert_text.proofs.Begun.{begins_as}
 use Rattle.cert_text.proofs.Versions.{of_two}
 use Rattle.cert_text.proofs.reader.read_cert.Goals as goal
 
@@ -30,6 +32,14 @@ none_begins text (Ok c) none = tt
 none_begins text (Err (Refused at)) none = λ other is same. none other (as_two other is) same
 none_begins text (Err NoMemory) none = tt
 
+of_any : (text : List ℕ) → IsCertificateAs Two text → IsCertificate text
+of_any text is = record { cert = is.cert; whole = is.whole; spelled = is.spelled }
+
+one_begins : (text : List ℕ) (r : Result Cert TextFault) → IfRefused r (λ at. BeginsBefore (IsCertificateAs Two) text at.line) → IfRefused r (λ at. BeginsBefore IsCertificate text at.line)
+one_begins text (Ok c) one = tt
+one_begins text (Err (Refused at)) one = begins_as (IsCertificateAs Two) IsCertificate of_any text at.line one
+one_begins text (Err NoMemory) one = tt
+
 pub returns-clause-only : goal.returns-clause-only
 returns-clause-only c = alone c.args.text.now c.read_as.result c.read_as.ensures.only
 
@@ -38,3 +48,6 @@ returns-clause-refused c = no_other c.args.text.now c.read_as.result c.read_as.e
 
 pub returns-clause-stuck : goal.returns-clause-stuck
 returns-clause-stuck c = none_begins c.args.text.now c.read_as.result c.read_as.ensures.stuck
+
+pub returns-clause-first : goal.returns-clause-first
+returns-clause-first c = one_begins c.args.text.now c.read_as.result c.read_as.ensures.first
