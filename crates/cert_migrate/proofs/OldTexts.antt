@@ -1,12 +1,11 @@
 -- A text that spells a certificate in the form of version 1 spells one in the types of that version.
-use Rattle.std.proofs.Common.{◌≡◌, ℕ, ◌<◌, ◌≤◌, ◌^◌, ℤ, pos, unsigned_abs, List, [], ◌∷◌, length, map, take, All, arith, refl, sym, ◌∙◌, subst}
+use Rattle.std.proofs.Common.{ℕ, ◌<◌, ◌≤◌, ◌^◌, ℤ, pos, unsigned_abs, List, [], ◌∷◌, map, take, All, arith, refl, sym, ◌∙◌, subst}
 use Rattle.std.specs.List.{AllZip}
 use Rattle.std.proofs.lemmas.List.{length-map}
 use Rattle.std.proofs.lemmas.List.Elements.{All-head, All-tail, All-from_recursion}
 use Rattle.std.proofs.lemmas.Slice.Zip.{AllZip-long}
 use Rattle.obs_rows.specs.declared.rows.Row.{Row}
 use Rattle.obs_rows.specs.declared.pair_rows.PairRows.{PairRows}
-use Rattle.obs_rows.specs.declared.sessions.Session.{Session}
 use Rattle.obs_rows.specs.Ranges.{IsWithin}
 use Rattle.int_search.specs.declared.answer.TwoBest.{TwoBest}
 use Rattle.cert_data.specs.declared.tails.Tail.{Tail}
@@ -110,8 +109,7 @@ old_session : (c : Cert) → IsOfVersion One c → (o : OldSession) × IsSession
 old_session c v =
     let s = c.session in
     let pairs = old_pairs s.pairs v.groups in
-    let zip = pairs_zip s.pairs v.groups in
-    (
+    let zip = pairs_zip s.pairs v.groups in (
       record {
         scale = 0;
         base = s.base;
@@ -132,8 +130,7 @@ old_session c v =
 old_of : (c : Cert) → IsOfVersion One c → (o : OldCert) × IsCarrierOf c o
 old_of c v =
     let session = old_session c v in
-    let tail = old_end c.tail (few_entries c (v.bands refl)) in
-    (
+    let tail = old_end c.tail (few_entries c (v.bands refl)) in (
       record {
         ratio = c.ratio;
         budget = c.budget;
