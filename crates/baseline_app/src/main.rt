@@ -43,8 +43,11 @@
 //! A command has a variant of `Job` with its words (crate command_words), and in a crate of commands a struct with one
 //! method: a `TextCommand` on one file, as `Orbit` of file_jobs, or a `SessionCommand` on the three of a session, as `Fix` of
 //! session_jobs, with what it answers in specs/. Here it has cases of `JobEnds`, `IsReadable` and `SaysOfJob` (specs/Jobs.antt), of
-//! the three lemmas over them (proofs/Completes.antt, proofs/Says.antt), and an arm in `do_job` with its answer. What is said
-//! of statuses, sinks, files, faults and completeness (specs/Runs.antt) stays as it is.
+//! the three lemmas over them (proofs/Completes.antt, proofs/Says.antt), of the older forms (specs/Former.antt,
+//! proofs/FormerEnds.antt), and an arm in `do_job` with its answer. What is said of statuses, sinks, files, faults and
+//! completeness (specs/Runs.antt) stays as it is. In command_words: `src/jobs.rt`, `src/program.rt`, specs/Split.antt,
+//! specs/Words.antt, and proofs/OneJob.antt, which tells each two jobs apart. Its usage line stands in job_answers
+//! (`src/stop.rt`, specs/Texts.antt), its words and texts in docs/FORMATS.md, docs/GUIDE.md and README.
 #![tactic(auto)]
 
 #[cfg(test)]

@@ -6,7 +6,7 @@ pub mod Distances
 pub mod Circle
 pub mod Reaches
 pub mod Turns
-pub mod Angles
+pub mod AnglePairs
 pub mod Roots
 pub mod RootCertificates
 pub mod Ellipses

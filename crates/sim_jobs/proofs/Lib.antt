@@ -6,7 +6,7 @@ pub mod SimSays
 pub mod Links
 pub mod Truths
 pub mod Words
-pub mod Readings
+pub mod TextReadings
 pub mod Printed
 pub mod Digits
 pub mod Fixed

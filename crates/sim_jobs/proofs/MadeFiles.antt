@@ -21,7 +21,7 @@ use Rattle.sim_session.specs.Observations.{step_of}
 use Rattle.sim_session.specs.Texts.{has_l5, tracking_of, IsBaseText, IsRoverText, IsNavigationText}
 use Rattle.sim_jobs.specs.NavRecords.{raws_of}
 use Rattle.sim_jobs.specs.ObsFiles.{epochs_of, file_of}
-use Rattle.sim_jobs.proofs.Readings.{base_reads, rover_reads, navigation_reads}
+use Rattle.sim_jobs.proofs.TextReadings.{base_reads, rover_reads, navigation_reads}
 use Rattle.run_options.specs.declared.options.Options.{Options}
 use Rattle.run_options.specs.Defaults.{Numbers}
 use Rattle.obs_rows.specs.declared.band_sets.TheConstants.{BANDS_L1_L5}

@@ -1,5 +1,5 @@
 use Rattle.std.proofs.Common.{arith}
-use Rattle.orbit_place.proofs.Angles.{near_circle_5}
+use Rattle.orbit_place.proofs.AnglePairs.{near_circle_5}
 use Rattle.orbit_place.proofs.Turns.{both_along}
 use Rattle.orbit_place.proofs.rotations.eccentric_pair.Goals as goal
 

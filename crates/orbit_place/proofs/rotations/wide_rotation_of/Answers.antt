@@ -1,5 +1,5 @@
 use Rattle.std.proofs.Common.{arith, refl}
-use Rattle.orbit_place.proofs.Angles.{near_circle_7, narrow_7}
+use Rattle.orbit_place.proofs.AnglePairs.{near_circle_7, narrow_7}
 use Rattle.orbit_place.proofs.Turns.{both_along}
 use Rattle.orbit_place.proofs.rotations.wide_rotation_of.Goals as goal
 

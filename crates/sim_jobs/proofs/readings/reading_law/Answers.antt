@@ -1,4 +1,4 @@
-use Rattle.sim_jobs.proofs.Readings.{base_reads, rover_reads, navigation_reads}
+use Rattle.sim_jobs.proofs.TextReadings.{base_reads, rover_reads, navigation_reads}
 use Rattle.sim_jobs.proofs.readings.reading_law.Goals as goal
 
 pub returns-clause-base : goal.returns-clause-base
