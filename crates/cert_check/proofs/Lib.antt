@@ -1,3 +1,4 @@
+pub mod SameNumbers
 pub mod SameForms
 pub mod OneVerdict
 pub mod Visits

@@ -26,6 +26,7 @@ use Rattle.cert_data.specs.declared.tails.Tail.{Tail}
 use Rattle.cert_data.specs.declared.tails.Tail.TheVariants.{Fixed, Unseparated, Weak, Overwidth, Unsettled, Spent}
 use Rattle.cert_check.specs.SameTails.{AreSameBest, AreSameNumbers, Says}
 use Rattle.cert_check.specs.Settled.{AreFound}
+use Rattle.cert_check.proofs.SameNumbers.{same_numbers_on}
 
 -- ---- one form
 
@@ -98,12 +99,6 @@ one_found s budget d e =
       best_is = best;
       top_is = a.top_is ∙ (λ t. top (form.h t) s.arcs (fine_signals s.signals) s.pairs (best.first_is t) (moved t)) ∙ sym b.top_is;
     }
-
-pub same_numbers_on : {M : Type 0} (h k j : ℕ) (m n o : M) (b c d : TwoBest) (t u v : ℤ) → AreSameNumbers h k m n b c t u → AreSameNumbers k j n o c d u v → AreSameNumbers h j m o b d t v
-same_numbers_on h k j m n o b c d t u v a e = record { h_is = a.h_is ∙ e.h_is; moved_is = a.moved_is ∙ e.moved_is; best_is = both a.best_is e.best_is; top_is = a.top_is ∙ e.top_is }
-  where
-    both : AreSameBest b c → AreSameBest c d → AreSameBest b d
-    both x y = record { first_is = x.first_is ∙ y.first_is; second_is = x.second_is ∙ y.second_is; p1_is = x.p1_is ∙ y.p1_is; p2_is = x.p2_is ∙ y.p2_is }
 
 -- so a tail that says the numbers of one says those of the other
 pub says_too : (t : Tail) (h k : ℕ) (m n : List ℤ) (b c : TwoBest) (x y : ℤ) → AreSameNumbers h k m n b c x y → Says t (Fixed h m b x) → Says t (Fixed k n c y)

@@ -22,12 +22,12 @@ use Rattle.cert_check.specs.Settled.{IsRefused}
 use Rattle.cert_check.specs.Verdicts.{IsVerdictOf, IsGivenUp}
 use Rattle.cert_check.proofs.OneVerdict.{Ends, given_up, refused, wide_move, wide_sum, decided, verdict_of, rows_end}
 
-record IsSearchedWithin (s : Session) (budget : ℕ) : Type 0 where
-  form : Form
-  of_rows : IsFormOf s form
-  best : TwoBest
-  best_is : IsTwoBest form best
-  visits : KeepsBudget form budget best
+pub record IsSearchedWithin (s : Session) (budget : ℕ) : Type 0 where
+  pub form : Form
+  pub of_rows : IsFormOf s form
+  pub best : TwoBest
+  pub best_is : IsTwoBest form best
+  pub visits : KeepsBudget form budget best
 
 -- so they are where the verdict rests on them
 abbrev pub RestsWithin : Session → ℕ → Verdict → Type 0
