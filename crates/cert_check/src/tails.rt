@@ -28,13 +28,7 @@ pub fn are_same_best(best: &TwoBest, other: &TwoBest) -> bool
 }
 
 /// Whether the tail says that the rows are fixed, with these numbers.
-pub(crate) fn says_numbers(
-    tail: &Tail,
-    h: u32,
-    moved: &[i64; 3],
-    best: &TwoBest,
-    top: i128,
-) -> bool
+pub(crate) fn says_numbers(tail: &Tail, h: u32, moved: &[i64; 3], best: &TwoBest, top: i128) -> bool
     ensures { IsTrue result ↔ Says tail.now (Fixed h moved.now best.now top) }
 {
     match tail {

@@ -1,5 +1,5 @@
 //! Steps of the elimination, by hand.
-use elimination::{Stop, take_steps};
+use elimination::{StepFault, take_steps};
 use form_tables::{FactorTable, MOST_FACTORS, NormalTable};
 
 // Two columns whose own entries are 2^30, and 2^29 between them.
@@ -27,7 +27,7 @@ fn stops_at_a_weak_pivot(rt: HostRuntime) {
     let stopped = take_steps(&mut table, &mut factors, &mut kept, 0, 1, 2).err();
     assert_eq!(rt;
         stopped.map(|e| (e.column, e.pivot, e.stop)),
-        Some((0, -6, Stop::Weak))
+        Some((0, -6, StepFault::Weak))
     );
     let mut least = NormalTable::zeros();
     least.set(0, 0, 1 << 20);

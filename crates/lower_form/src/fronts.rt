@@ -15,7 +15,7 @@ ghost use Rattle.lower_form.specs.Fronts.{front_of, BoundsAllData};
 ghost use Rattle.lower_form.specs.Forms.{IsFrontOf};
 
 use crate::rounding::{exponent, round};
-use elimination::{Stop, Stopped, first_kept, form_table, front_factors, take_steps};
+use elimination::{StepFault, Stopped, first_kept, form_table, front_factors, take_steps};
 use form_tables::{BASELINE_COLUMNS, FactorTable, MOST_COLUMNS, MOST_FACTORS, NormalTable};
 use integer_form::{FrontForm, LowerFault};
 use normal_sum::Normal;
@@ -42,7 +42,7 @@ pub(crate) fn take_front(
         return Err(Stopped {
             column: 0,
             pivot: 0,
-            stop: Stop::WideEntry,
+            stop: StepFault::WideEntry,
         });
     }
     take_steps(table, factors, kept, 0, BASELINE_COLUMNS, normal.columns)
