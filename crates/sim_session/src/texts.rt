@@ -17,7 +17,7 @@ fn write_version(out: &mut Vec<u8>, tracking: Tracking) -> Result<(), AllocError
     Ok(())
 }
 
-#[tactic(auto, unfolding(crate::specs::Observations::types_line))]
+#[tactic(auto, unfolding(crate::specs::ObservationText::types_line))]
 fn write_types(out: &mut Vec<u8>, tracking: Tracking) -> Result<(), AllocError>
     ensures { OnOk result (out.new.items ≡ out.old.items ++ types_line tracking) }
 {
