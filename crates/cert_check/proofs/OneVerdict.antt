@@ -25,7 +25,8 @@ use Rattle.cert_check.specs.RowDecisions.{IsRowDecision}
 use Rattle.cert_check.specs.Verdicts.{IsSaidOf, IsVerdictOf, IsGivenUp, IsSameVerdict}
 use Rattle.lower_form.proofs.Exponents.{has_exponent}
 use Rattle.lower_form.proofs.OneForm.{one_elimination, one_exponent}
-use Rattle.cert_check.proofs.SameForms.{Found, fix_of, same_form, same_best, same_move, one_found, says_too}
+use Rattle.cert_check.proofs.SameNumbers.{same_numbers_on}
+use Rattle.cert_check.proofs.SameForms.{Found, fix_of, same_form, same_best, same_move, one_found}
 
 -- a refusal of the elimination as a verdict
 abbrev pub verdict_of : LowerFault → Verdict
@@ -121,8 +122,14 @@ as_far s ratio budget d e far =
     let same = one_found s budget d e in
     subst (λ (x : ℤ). IsSeparated (pos ratio) e.top x) same.best_is.p2_is (subst (λ (x : ℤ). IsSeparated (pos ratio) x d.best.p2) same.top_is far)
 
+-- so a tail that says the numbers of one says those of the other
 said_too : (s : Session) (budget : ℕ) (t : Tail) (d e : Found s budget) → Says t (fix_of s budget d) → Says t (fix_of s budget e)
-said_too s budget t d e said = says_too t d.h e.h d.moved e.moved d.best e.best d.top e.top (one_found s budget d e) said
+said_too s budget (Fixed h m best top) d e said = same_numbers_on h d.h e.h m d.moved e.moved best d.best e.best top d.top e.top said (one_found s budget d e)
+said_too s budget (Unseparated h m best top) d e said = absurd said
+said_too s budget (Weak column pivot) d e said = absurd said
+said_too s budget (Overwidth place) d e said = absurd said
+said_too s budget (Unsettled entry) d e said = absurd said
+said_too s budget (Spent spent) d e said = absurd said
 
 -- ---- one verdict
 same_final : (s : Session) (ratio budget : ℕ) (t : Tail) (d e : Found s budget) (v w : Verdict) → Final s ratio budget t d v → Final s ratio budget t e w → v ≡ w

@@ -23,10 +23,9 @@ use Rattle.int_search.specs.Answers.{IsTwoBest}
 use Rattle.fix_decide.specs.UpperSums.{top}
 use Rattle.fix_decide.specs.Decisions.{IsFormOf, first_of, second_of, move_of}
 use Rattle.cert_data.specs.declared.tails.Tail.{Tail}
-use Rattle.cert_data.specs.declared.tails.Tail.TheVariants.{Fixed, Unseparated, Weak, Overwidth, Unsettled, Spent}
-use Rattle.cert_check.specs.SameTails.{AreSameBest, AreSameNumbers, Says}
+use Rattle.cert_data.specs.declared.tails.Tail.TheVariants.{Fixed}
+use Rattle.cert_check.specs.SameTails.{AreSameBest, AreSameNumbers}
 use Rattle.cert_check.specs.Settled.{AreFound}
-use Rattle.cert_check.proofs.SameNumbers.{same_numbers_on}
 
 -- ---- one form
 
@@ -99,12 +98,3 @@ one_found s budget d e =
       best_is = best;
       top_is = a.top_is ∙ (λ t. top (form.h t) s.arcs (fine_signals s.signals) s.pairs (best.first_is t) (moved t)) ∙ sym b.top_is;
     }
-
--- so a tail that says the numbers of one says those of the other
-pub says_too : (t : Tail) (h k : ℕ) (m n : List ℤ) (b c : TwoBest) (x y : ℤ) → AreSameNumbers h k m n b c x y → Says t (Fixed h m b x) → Says t (Fixed k n c y)
-says_too (Fixed j o d v) h k m n b c x y same said = same_numbers_on j h k o m n d b c v x y said same
-says_too (Unseparated j o d v) h k m n b c x y same said = absurd said
-says_too (Weak column pivot) h k m n b c x y same said = absurd said
-says_too (Overwidth place) h k m n b c x y same said = absurd said
-says_too (Unsettled entry) h k m n b c x y same said = absurd said
-says_too (Spent budget) h k m n b c x y same said = absurd said
