@@ -1,5 +1,5 @@
 -- The same numbers of fixes, in a row and turned round.
-use Rattle.std.proofs.Common.{◌≡◌, ℕ, ℤ, refl, sym, ◌∙◌}
+use Rattle.std.proofs.Common.{ℕ, ℤ, refl, sym, ◌∙◌}
 use Rattle.int_search.specs.declared.answer.TwoBest.{TwoBest}
 use Rattle.cert_check.specs.SameTails.{AreSameBest, AreSameNumbers}
 

@@ -6,7 +6,7 @@ use Rattle.normal_sum.specs.Values.{form_of}
 use Rattle.integer_form.specs.declared.faults.LowerFault.{LowerFault}
 use Rattle.integer_form.specs.declared.faults.LowerFault.TheVariants as fault
 use Rattle.integer_form.specs.declared.faults.Place.{Place}
-use Rattle.integer_form.specs.declared.faults.Place.TheVariants.{Y, Factor, Entry, Float, Point, Search, Sum}
+use Rattle.integer_form.specs.declared.faults.Place.TheVariants.{Factor, Entry, Float, Search, Sum}
 use Rattle.integer_form.specs.declared.form.Form.{Form}
 use Rattle.integer_form.specs.Told.{told}
 use Rattle.int_search.specs.declared.answer.TwoBest.{TwoBest}

@@ -1,5 +1,5 @@
 -- What the rows of a track are decided to say.
-use Rattle.std.specs.Prelude.{◌≡◌, ◌⊎◌, ℕ, List, ℤ, pos}
+use Rattle.std.specs.Prelude.{◌≡◌, ◌⊎◌, ℕ, List, pos}
 use Rattle.obs_rows.specs.declared.arcs.Arc.{Arc}
 use Rattle.obs_rows.specs.declared.pair_rows.PairRows.{PairRows}
 use Rattle.integer_form.specs.declared.front_form.FrontForm.{FrontForm}
@@ -8,7 +8,6 @@ use Rattle.integer_form.specs.declared.faults.LowerFault.{LowerFault}
 use Rattle.integer_form.specs.declared.faults.LowerFault.TheVariants as fault
 use Rattle.integer_form.specs.declared.faults.Place.{Place}
 use Rattle.integer_form.specs.declared.faults.Place.TheVariants.{Float, Search, Sum}
-use Rattle.int_search.specs.declared.answer.TwoBest.{TwoBest}
 use Rattle.fix_decide.specs.Decisions.{IsSeparated, first_of}
 use Rattle.cert_check.specs.Settled.{IsSpent, IsTooWide}
 use Rattle.cert_check.specs.SameTails.{AreSameNumbers}

@@ -1,5 +1,4 @@
 use Rattle.std.proofs.Common.{subst}
-use Rattle.cert_data.specs.declared.verdicts.Verdict.TheVariants.{Certified}
 use Rattle.cert_check.specs.Verdicts.{IsSaidOf, IsVerdictOf}
 use Rattle.cert_check.proofs.Checked.{best_said, certified_by_ratio}
 use Rattle.cert_check.proofs.OneVerdict.{one_verdict}
