@@ -7,9 +7,7 @@ use Rattle.cert_data.specs.declared.verdicts.Verdict.{Verdict}
 use Rattle.cert_data.specs.declared.verdicts.Verdict.TheVariants.{Certified, Not}
 use Rattle.cert_spelling.specs.Spelling.{spelling}
 use Rattle.cert_spelling.specs.Lengths.{IsWhole}
-use Rattle.cert_check.specs.Decided.{IsBestIn, IsBestByRatioIn}
-use Rattle.cert_check.specs.Visits.{RestsWithin}
-use Rattle.cert_check.specs.Verdicts.{IsVerdictOf, IsSameVerdict}
+use Rattle.cert_check.specs.Verdicts.{IsVerdictOf, IsBestIn, IsBestByRatioIn, IsSameVerdict}
 use Rattle.cert_report.specs.VerdictText.{verdict_text}
 use Rattle.cert_report.specs.Residuals.{has_vectors, residuals_text}
 use Rattle.run_options.specs.declared.options.Options.{Options}
@@ -123,10 +121,10 @@ orbit_said told name system sat tag status out s = elim (s.answer.found) [
 
 -- ---- commands on a certificate
 check_verdict : (told : List ℕ → Option (List ℕ)) (name text : List ℕ) (c : Cert) (v : Verdict) (out : SinkChange) → IsTextOf told name text → IsWhole c → text ≡ spelling c
-    → IsVerdictOf c.session c.ratio c.budget c.tail v → ((w : Verdict) → IsVerdictOf c.session c.ratio c.budget c.tail w → IsSameVerdict w v) → RestsWithin c.session c.budget v
+    → IsVerdictOf c.session c.ratio c.budget c.tail v → ((w : Verdict) → IsVerdictOf c.session c.ratio c.budget c.tail w → IsSameVerdict w v)
     → (v ≡ Certified → IsBestIn c.session c.tail) → (v ≡ Certified → IsBestByRatioIn c.ratio c.session c.tail) → Appends out.old out.new (verdict_text v)
     → SaysOfCheck told name (status_of v) out
-check_verdict told name text c Certified out is whole spelled verdict only visits best by_ratio written = record {
+check_verdict told name text c Certified out is whole spelled verdict only best by_ratio written = record {
   text = text;
   is = is;
   cert = c;
@@ -134,12 +132,11 @@ check_verdict told name text c Certified out is whole spelled verdict only visit
   spelled = spelled;
   certified = verdict;
   only = only;
-  visits = visits;
   best = best refl;
   by_ratio = by_ratio refl;
   printed = written;
 }
-check_verdict told name text c (Not cause) out is whole spelled verdict only visits best by_ratio written = record {
+check_verdict told name text c (Not cause) out is whole spelled verdict only best by_ratio written = record {
   text = text;
   is = is;
   cert = c;
@@ -148,7 +145,6 @@ check_verdict told name text c (Not cause) out is whole spelled verdict only vis
   cause = cause;
   not_certified = verdict;
   only = only;
-  visits = visits;
   printed = written;
 }
 
@@ -157,7 +153,7 @@ check_said told name status out s =
     let a = s.answer in
     let e = a.answer in
     said_at (λ (st : Status). SaysOfCheck told name st out) s.end _ status e.end_is s.status_is
-    (check_verdict told name s.text a.cert e.verdict out s.is a.whole a.spelled e.is e.only e.visits e.best e.by_ratio (gained s.end _ out e.end_is s.printed))
+    (check_verdict told name s.text a.cert e.verdict out s.is a.whole a.spelled e.is e.only e.best e.by_ratio (gained s.end _ out e.end_is s.printed))
 
 left_shown : (told : List ℕ → Option (List ℕ)) (name text : List ℕ) (c : Cert) (shown : Bool) (out : SinkChange) → IsTextOf told name text → IsWhole c → text ≡ spelling c
     → has_vectors c.tail ≡ shown → Appends out.old out.new (residuals_text c) → SaysOfResiduals told name (shown_status shown) out

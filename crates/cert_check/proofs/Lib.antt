@@ -1,6 +1,7 @@
+pub mod SameNumbers
 pub mod SameForms
 pub mod OneVerdict
+pub mod Visits
 pub mod Checked
-pub mod SaidLaws
 pub mod DecidedLaws
 pub mod WeakLaws

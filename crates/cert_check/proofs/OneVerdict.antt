@@ -1,64 +1,83 @@
--- The rows of a session and a tail have one verdict, but where a search gave up.
+-- The rows of a session and the tail of a text have one verdict, but where a search gave up.
 use Rattle.std.proofs.Common.{◌≡◌, inl, inr, ℕ, ℤ, pos, List, refl, sym, ap, ◌∙◌, subst}
-use Rattle.quadratic_form.specs.Elimination.{Refusal, weak, wide_factor, wide_entry}
 use Rattle.obs_rows.specs.Signals.{fine_signals, counted}
 use Rattle.obs_rows.specs.declared.sessions.Session.{Session}
 use Rattle.normal_sum.specs.Values.{form_of}
 use Rattle.integer_form.specs.declared.faults.LowerFault.{LowerFault}
 use Rattle.integer_form.specs.declared.faults.LowerFault.TheVariants as fault
 use Rattle.integer_form.specs.declared.faults.Place.{Place}
-use Rattle.integer_form.specs.declared.faults.Place.TheVariants.{Y, Factor as FactorPlace, Entry, Float, Point, Search, Sum}
+use Rattle.integer_form.specs.declared.faults.Place.TheVariants.{Float, Sum}
 use Rattle.integer_form.specs.declared.form.Form.{Form}
 use Rattle.integer_form.specs.FloatPoint.{HasWide}
 use Rattle.integer_form.specs.Told.{told}
 use Rattle.int_search.specs.declared.answer.TwoBest.{TwoBest}
+use Rattle.int_search.specs.Answers.{IsTwoBest}
 use Rattle.fix_decide.specs.Widths.{AreWide}
 use Rattle.fix_decide.specs.Decisions.{IsFormOf, IsSeparated, first_of, move_of}
 use Rattle.cert_data.specs.declared.tails.Tail.{Tail}
+use Rattle.cert_data.specs.declared.tails.Tail.TheVariants.{Fixed, Unseparated, Weak, Overwidth, Unsettled, Spent}
 use Rattle.cert_data.specs.declared.verdicts.Verdict.{Verdict}
 use Rattle.cert_data.specs.declared.verdicts.Verdict.TheVariants.{Certified, Not}
 use Rattle.cert_data.specs.declared.verdicts.Cause.TheVariants as cause
-use Rattle.cert_check.specs.Decided.{Numbers, IsDecided, AreSame, Says}
-use Rattle.cert_check.specs.Settled.{IsRefused}
-use Rattle.cert_check.specs.Verdicts.{HasBest, IsMoveWide, IsSumWide, IsWideAt, IsVerdictOf, IsGivenUp, IsSameVerdict, verdict_of}
-use Rattle.cert_check.specs.Visits.{RestsWithin}
+use Rattle.cert_check.specs.SameTails.{Says}
+use Rattle.cert_check.specs.Settled.{IsRefused, IsBaselineWide, IsSumWide, IsDecision, tail_of}
+use Rattle.cert_check.specs.RowDecisions.{IsRowDecision}
+use Rattle.cert_check.specs.Verdicts.{IsSaidOf, IsVerdictOf, IsGivenUp, IsSameVerdict}
 use Rattle.lower_form.proofs.Exponents.{has_exponent}
 use Rattle.lower_form.proofs.OneForm.{one_elimination, one_exponent}
-use Rattle.cert_check.proofs.SameForms.{same_form, same_best, same_move, one_decision, says_too}
+use Rattle.cert_check.proofs.SameNumbers.{same_numbers_on}
+use Rattle.cert_check.proofs.SameForms.{Found, fix_of, same_form, same_best, same_move, one_found}
 
--- the verdict of a decision
-data Final (ratio : ℕ) (t : Tail) (d : Numbers) (v : Verdict) : Type 0 where
-  certified : IsSeparated (pos ratio) d.top d.best.p2 → Says t d → v ≡ Certified → Final ratio t d v
-  unlike : IsSeparated (pos ratio) d.top d.best.p2 → (Says t d → ⊥) → v ≡ Not cause.Tail → Final ratio t d v
-  near : (IsSeparated (pos ratio) d.top d.best.p2 → ⊥) → v ≡ Not cause.Unseparated → Final ratio t d v
+-- a refusal of the elimination as a verdict
+abbrev pub verdict_of : LowerFault → Verdict
+verdict_of (fault.Weak column pivot) = Not (cause.Weak column pivot)
+verdict_of (fault.Overwidth place) = Not (cause.Overwidth place)
 
--- where the decision ends
-data Ends (s : Session) (ratio : ℕ) (t : Tail) (v : Verdict) : Type 0 where
-  given_up : IsGivenUp v → Ends s ratio t v
-  refused : (why : LowerFault) → IsRefused s why → v ≡ verdict_of why → Ends s ratio t v
-  wide_move : IsMoveWide s → v ≡ Not (cause.Overwidth Float) → Ends s ratio t v
-  wide_sum : IsSumWide s → v ≡ Not (cause.Overwidth Sum) → Ends s ratio t v
-  decided : (d : Numbers) → IsDecided s d → Final ratio t d v → Ends s ratio t v
+-- ---- where the decision ends
+-- the verdict on two least vectors
+pub data Final (s : Session) (ratio budget : ℕ) (t : Tail) (d : Found s budget) (v : Verdict) : Type 0 where
+  certified : IsSeparated (pos ratio) d.top d.best.p2 → Says t (fix_of s budget d) → v ≡ Certified → Final s ratio budget t d v
+  unlike : IsSeparated (pos ratio) d.top d.best.p2 → (Says t (fix_of s budget d) → ⊥) → v ≡ Not cause.Tail → Final s ratio budget t d v
+  near : (IsSeparated (pos ratio) d.top d.best.p2 → ⊥) → v ≡ Not cause.Unseparated → Final s ratio budget t d v
 
-ends : (s : Session) (ratio budget : ℕ) (t : Tail) (v : Verdict) → IsVerdictOf s ratio budget t v → Ends s ratio t v
-ends s ratio budget t Certified is = decided is.0 is.1.0.decided (certified is.1.0.separated is.1.1 refl)
-ends s ratio budget t (Not (cause.Weak column pivot)) is = refused (fault.Weak column pivot) is refl
-ends s ratio budget t (Not (cause.Overwidth Y)) is = refused (fault.Overwidth Y) is refl
-ends s ratio budget t (Not (cause.Overwidth FactorPlace)) is = refused (fault.Overwidth FactorPlace) is refl
-ends s ratio budget t (Not (cause.Overwidth Entry)) is = refused (fault.Overwidth Entry) is refl
-ends s ratio budget t (Not (cause.Overwidth Float)) is = wide_move is refl
-ends s ratio budget t (Not (cause.Overwidth Point)) is = refused (fault.Overwidth Point) is refl
-ends s ratio budget t (Not (cause.Overwidth Search)) is = given_up tt
-ends s ratio budget t (Not (cause.Overwidth Sum)) is = wide_sum is refl
-ends s ratio budget t (Not cause.Spent) is = given_up tt
-ends s ratio budget t (Not cause.Unseparated) is = decided is.0 is.1.decided (near is.1.near refl)
-ends s ratio budget t (Not cause.Tail) is = decided is.0 is.1.0.decided (unlike is.1.0.separated is.1.1 refl)
+pub data Ends (s : Session) (ratio budget : ℕ) (t : Tail) (v : Verdict) : Type 0 where
+  given_up : IsGivenUp v → Ends s ratio budget t v
+  refused : (why : LowerFault) → IsRefused s why → v ≡ verdict_of why → Ends s ratio budget t v
+  wide_move : (f : Form) → IsFormOf s f → IsBaselineWide f budget → v ≡ Not (cause.Overwidth Float) → Ends s ratio budget t v
+  wide_sum : (f : Form) → IsFormOf s f → IsSumWide s f budget → v ≡ Not (cause.Overwidth Sum) → Ends s ratio budget t v
+  decided : (d : Found s budget) → Final s ratio budget t d v → Ends s ratio budget t v
 
-other_place : (place : Place) (r : Refusal) → fault.Overwidth place ≡ told r → (place ≡ FactorPlace → ⊥) → (place ≡ Entry → ⊥) → ⊥
-other_place place (weak j a) e f g = absurd cc
-other_place place wide_factor e f g = f cc
-other_place place wide_entry e f g = g cc
+refusal_said : (why : LowerFault) (t : Tail) (v : Verdict) → IsSaidOf (tail_of why) t v → v ≡ verdict_of why
+refusal_said (fault.Weak column pivot) t v said = said
+refusal_said (fault.Overwidth place) t v said = said
 
+fix_said : (s : Session) (ratio budget : ℕ) (t : Tail) (d : Found s budget) (v : Verdict) → IsSeparated (pos ratio) d.top d.best.p2 → IsSaidOf (fix_of s budget d) t v → Final s ratio budget t d v
+fix_said s ratio budget t d Certified far said = certified far said refl
+fix_said s ratio budget t d (Not (cause.Weak column pivot)) far said = absurd said
+fix_said s ratio budget t d (Not (cause.Overwidth place)) far said = absurd said
+fix_said s ratio budget t d (Not cause.Spent) far said = absurd said
+fix_said s ratio budget t d (Not cause.Unseparated) far said = absurd said
+fix_said s ratio budget t d (Not cause.Tail) far said = unlike far said refl
+
+form_ends : (s : Session) (f : Form) (ratio budget : ℕ) (d t : Tail) (v : Verdict) → IsFormOf s f → IsDecision s f ratio budget d → IsSaidOf d t v → Ends s ratio budget t v
+form_ends s f ratio budget (Fixed h m best top) t v of_rows is said =
+    let d : Found s budget = record { form = f; of_rows = of_rows; h = h; moved = m; best = best; top = top; found = is.0 } in
+    decided d (fix_said s ratio budget t d v is.1 said)
+form_ends s f ratio budget (Unseparated h m best top) t v of_rows is said =
+    decided (record { form = f; of_rows = of_rows; h = h; moved = m; best = best; top = top; found = is.0 }) (near is.1 said)
+form_ends s f ratio budget (Weak column pivot) t v of_rows is said = absurd is
+form_ends s f ratio budget (Overwidth place) t v of_rows (inl is) said =
+    given_up (subst IsGivenUp (sym said) (subst (λ (p : Place). IsGivenUp (Not (cause.Overwidth p))) (sym is.0) tt))
+form_ends s f ratio budget (Overwidth place) t v of_rows (inr (inl is)) said = wide_move f of_rows is.1 (said ∙ ap (λ (p : Place). Not (cause.Overwidth p)) is.0)
+form_ends s f ratio budget (Overwidth place) t v of_rows (inr (inr is)) said = wide_sum f of_rows is.1 (said ∙ ap (λ (p : Place). Not (cause.Overwidth p)) is.0)
+form_ends s f ratio budget (Unsettled entry) t v of_rows is said = absurd is
+form_ends s f ratio budget (Spent spent) t v of_rows is said = given_up (subst IsGivenUp (sym said) tt)
+
+pub rows_end : (s : Session) (ratio budget : ℕ) (d t : Tail) (v : Verdict) → IsRowDecision s ratio budget d → IsSaidOf d t v → Ends s ratio budget t v
+rows_end s ratio budget d t v (inl by) said = refused by.fault by.refused (refusal_said by.fault t v (subst (λ (x : Tail). IsSaidOf x t v) by.tail_is said))
+rows_end s ratio budget d t v (inr by) said = form_ends s by.form ratio budget d t v by.of_rows by.decision said
+
+-- ---- what can't be together
 -- one refusal
 same_refusal : (s : Session) (why too : LowerFault) → IsRefused s why → IsRefused s too → why ≡ too
 same_refusal s why too a b =
@@ -70,39 +89,6 @@ same_refusal s why too a b =
     let same : one.0 ≡ two.0 = cc (one.1.0, two.1.0, whole) in
     one.1.1 ∙ ap told same ∙ sym two.1.1
 
--- the elimination is refused for two places alone
-refused_place : (s : Session) (place : Place) → IsRefused s (fault.Overwidth place) → (place ≡ FactorPlace → ⊥) → (place ≡ Entry → ⊥) → ⊥
-refused_place s place a f g = let some = has_exponent (form_of a.normal) in let one = a.told some.0 some.1 in other_place place one.0 one.1.1 f g
-
--- no form is refused for another place
-wide_refused : (s : Session) (budget : ℕ) (place : Place) → IsRefused s (fault.Overwidth place) → IsWideAt s budget place
-wide_refused s budget Y a = a
-wide_refused s budget FactorPlace a = a
-wide_refused s budget Entry a = a
-wide_refused s budget Float a = absurd (refused_place s Float a (λ e. absurd cc) (λ e. absurd cc))
-wide_refused s budget Point a = a
-wide_refused s budget Search a = absurd (refused_place s Search a (λ e. absurd cc) (λ e. absurd cc))
-wide_refused s budget Sum a = absurd (refused_place s Sum a (λ e. absurd cc) (λ e. absurd cc))
-
--- and where it is, no search was
-rests_refused : (s : Session) (budget : ℕ) (place : Place) → IsRefused s (fault.Overwidth place) → RestsWithin s budget (Not (cause.Overwidth place))
-rests_refused s budget Y a = tt
-rests_refused s budget FactorPlace a = tt
-rests_refused s budget Entry a = tt
-rests_refused s budget Float a = absurd (refused_place s Float a (λ e. absurd cc) (λ e. absurd cc))
-rests_refused s budget Point a = tt
-rests_refused s budget Search a = tt
-rests_refused s budget Sum a = absurd (refused_place s Sum a (λ e. absurd cc) (λ e. absurd cc))
-
--- the verdict of a refusal is one of the rows
-pub fault_verdict : (s : Session) (ratio budget : ℕ) (t : Tail) (why : LowerFault) → IsRefused s why → IsVerdictOf s ratio budget t (verdict_of why)
-fault_verdict s ratio budget t (fault.Weak column pivot) refused_so = refused_so
-fault_verdict s ratio budget t (fault.Overwidth place) refused_so = wide_refused s budget place refused_so
-
-pub fault_rests : (s : Session) (budget : ℕ) (why : LowerFault) → IsRefused s why → RestsWithin s budget (verdict_of why)
-fault_rests s budget (fault.Weak column pivot) refused_so = tt
-fault_rests s budget (fault.Overwidth place) refused_so = rests_refused s budget place refused_so
-
 -- a form that is refused is none
 no_form : (s : Session) (why : LowerFault) (f : Form) → IsRefused s why → IsFormOf s f → ⊥
 no_form s why f a b =
@@ -112,65 +98,73 @@ no_form s why f a b =
     absurd (cc (is.1.0, whole, b.lowered.taken))
 
 -- a move that is too large isn't another time narrow
-no_move : (s : Session) (f : Form) (b : TwoBest) → IsMoveWide s → HasBest s f b → (HasWide (move_of f (first_of b)) → ⊥) → ⊥
-no_move s f b a has narrow =
-    let form = same_form s a.form f a.has.of_rows has.of_rows in
-    let best = same_best a.form f a.best b form a.has.best_is has.best_is in
-    narrow (subst HasWide (same_move a.form f (first_of a.best) (first_of b) form best.first_is) a.wide)
+no_move : (s : Session) (f g : Form) (budget : ℕ) (b : TwoBest) → IsFormOf s f → IsBaselineWide f budget → IsFormOf s g → IsTwoBest g b → (HasWide (move_of g (first_of b)) → ⊥) → ⊥
+no_move s f g budget b of_f a of_g two narrow =
+    let form = same_form s f g of_f of_g in
+    let best = same_best f g a.best b form a.best_is two in
+    narrow (subst HasWide (same_move f g (first_of a.best) (first_of b) form best.first_is) a.wide)
 
 -- nor are the residuals
-no_sum : (s : Session) (d : Numbers) → IsSumWide s → IsDecided s d → ⊥
-no_sum s d a is =
-    let form = same_form s a.form is.form a.has.of_rows is.of_rows in
-    let best = same_best a.form is.form a.best d.best form a.has.best_is is.best_is in
-    let moved = same_move a.form is.form (first_of a.best) (first_of d.best) form best.first_is ∙ sym is.moved_is in
-    is.low (subst (λ (m : List _). AreWide s.arcs (fine_signals s.signals) s.pairs (first_of d.best) m) moved
-    (subst (λ (z : List _). AreWide s.arcs (fine_signals s.signals) s.pairs z (move_of a.form (first_of a.best))) best.first_is a.wide))
+no_sum : (s : Session) (f : Form) (budget : ℕ) (d : Found s budget) → IsFormOf s f → IsSumWide s f budget → ⊥
+no_sum s f budget d of_f a =
+    let form = same_form s f d.form of_f d.of_rows in
+    let best = same_best f d.form a.best d.best form a.best_is d.found.best_is in
+    let moved = same_move f d.form (first_of a.best) (first_of d.best) form best.first_is ∙ sym d.found.moved_is in
+    d.found.bounded (subst (λ (m : List ℤ). AreWide s.arcs (fine_signals s.signals) s.pairs (first_of d.best) m) moved
+    (subst (λ (z : List ℤ). AreWide s.arcs (fine_signals s.signals) s.pairs z (move_of f (first_of a.best))) best.first_is a.wide))
 
-not_wide : (s : Session) (d : Numbers) → (is : IsDecided s d) → HasWide (move_of is.form (first_of d.best)) → ⊥
-not_wide s d is wide = is.narrow (subst HasWide (sym is.moved_is) wide)
-
-best_of : (s : Session) (d : Numbers) → (is : IsDecided s d) → HasBest s is.form d.best
-best_of s d is = record { of_rows = is.of_rows; best_is = is.best_is }
+not_wide : (s : Session) (budget : ℕ) (d : Found s budget) → HasWide (move_of d.form (first_of d.best)) → ⊥
+not_wide s budget d wide = d.found.narrow (subst HasWide (sym d.found.moved_is) wide)
 
 -- the same numbers are as far apart
-moved_far : (ratio : ℕ) (d e : Numbers) → AreSame d.h d.moved d.best d.top e → IsSeparated (pos ratio) d.top d.best.p2 → IsSeparated (pos ratio) e.top e.best.p2
-moved_far ratio d e same far = subst (λ (x : ℤ). IsSeparated (pos ratio) e.top x) same.best_is.p2_is (subst (λ (x : ℤ). IsSeparated (pos ratio) x d.best.p2) same.top_is far)
+as_far : (s : Session) (ratio budget : ℕ) (d e : Found s budget) → IsSeparated (pos ratio) d.top d.best.p2 → IsSeparated (pos ratio) e.top e.best.p2
+as_far s ratio budget d e far =
+    let same = one_found s budget d e in
+    subst (λ (x : ℤ). IsSeparated (pos ratio) e.top x) same.best_is.p2_is (subst (λ (x : ℤ). IsSeparated (pos ratio) x d.best.p2) same.top_is far)
 
--- one end of a decision
-same_final : (ratio : ℕ) (t : Tail) (d e : Numbers) (v w : Verdict) → AreSame d.h d.moved d.best d.top e → AreSame e.h e.moved e.best e.top d → Final ratio t d v → Final ratio t e w → v ≡ w
-same_final ratio t d e v w same back (certified far said is) (certified far_too said_too is_too) = is ∙ sym is_too
-same_final ratio t d e v w same back (certified far said is) (unlike far_too other is_too) = absurd (other (says_too t d e same said))
-same_final ratio t d e v w same back (certified far said is) (near close is_too) = absurd (close (moved_far ratio d e same far))
-same_final ratio t d e v w same back (unlike far other is) (certified far_too said is_too) = absurd (other (says_too t e d back said))
-same_final ratio t d e v w same back (unlike far other is) (unlike far_too other_too is_too) = is ∙ sym is_too
-same_final ratio t d e v w same back (unlike far other is) (near close is_too) = absurd (close (moved_far ratio d e same far))
-same_final ratio t d e v w same back (near close is) (certified far said is_too) = absurd (close (moved_far ratio e d back far))
-same_final ratio t d e v w same back (near close is) (unlike far other is_too) = absurd (close (moved_far ratio e d back far))
-same_final ratio t d e v w same back (near close is) (near close_too is_too) = is ∙ sym is_too
+-- so a tail that says the numbers of one says those of the other
+said_too : (s : Session) (budget : ℕ) (t : Tail) (d e : Found s budget) → Says t (fix_of s budget d) → Says t (fix_of s budget e)
+said_too s budget (Fixed h m best top) d e said = same_numbers_on h d.h e.h m d.moved e.moved best d.best e.best top d.top e.top said (one_found s budget d e)
+said_too s budget (Unseparated h m best top) d e said = absurd said
+said_too s budget (Weak column pivot) d e said = absurd said
+said_too s budget (Overwidth place) d e said = absurd said
+said_too s budget (Unsettled entry) d e said = absurd said
+said_too s budget (Spent spent) d e said = absurd said
 
-pair_up : (s : Session) (ratio : ℕ) (t : Tail) (v w : Verdict) → Ends s ratio t v → Ends s ratio t w → IsSameVerdict v w
-pair_up s ratio t v w (given_up a) b = inr (inl a)
-pair_up s ratio t v w (refused why a is) (given_up b) = inr (inr b)
-pair_up s ratio t v w (refused why a is) (refused too b is_too) = inl (is ∙ ap verdict_of (same_refusal s why too a b) ∙ sym is_too)
-pair_up s ratio t v w (refused why a is) (wide_move b is_too) = absurd (no_form s why b.form a b.has.of_rows)
-pair_up s ratio t v w (refused why a is) (wide_sum b is_too) = absurd (no_form s why b.form a b.has.of_rows)
-pair_up s ratio t v w (refused why a is) (decided d b final) = absurd (no_form s why b.form a b.of_rows)
-pair_up s ratio t v w (wide_move a is) (given_up b) = inr (inr b)
-pair_up s ratio t v w (wide_move a is) (refused why b is_too) = absurd (no_form s why a.form b a.has.of_rows)
-pair_up s ratio t v w (wide_move a is) (wide_move b is_too) = inl (is ∙ sym is_too)
-pair_up s ratio t v w (wide_move a is) (wide_sum b is_too) = absurd (no_move s b.form b.best a b.has b.narrow)
-pair_up s ratio t v w (wide_move a is) (decided d b final) = absurd (no_move s b.form d.best a (best_of s d b) (not_wide s d b))
-pair_up s ratio t v w (wide_sum a is) (given_up b) = inr (inr b)
-pair_up s ratio t v w (wide_sum a is) (refused why b is_too) = absurd (no_form s why a.form b a.has.of_rows)
-pair_up s ratio t v w (wide_sum a is) (wide_move b is_too) = absurd (no_move s a.form a.best b a.has a.narrow)
-pair_up s ratio t v w (wide_sum a is) (wide_sum b is_too) = inl (is ∙ sym is_too)
-pair_up s ratio t v w (wide_sum a is) (decided d b final) = absurd (no_sum s d a b)
-pair_up s ratio t v w (decided d a final) (given_up b) = inr (inr b)
-pair_up s ratio t v w (decided d a final) (refused why b is_too) = absurd (no_form s why a.form b a.of_rows)
-pair_up s ratio t v w (decided d a final) (wide_move b is_too) = absurd (no_move s a.form d.best b (best_of s d a) (not_wide s d a))
-pair_up s ratio t v w (decided d a final) (wide_sum b is_too) = absurd (no_sum s d b a)
-pair_up s ratio t v w (decided d a final) (decided e b final_too) = inl (same_final ratio t d e v w (one_decision s d e a b) (one_decision s e d b a) final final_too)
+-- ---- one verdict
+same_final : (s : Session) (ratio budget : ℕ) (t : Tail) (d e : Found s budget) (v w : Verdict) → Final s ratio budget t d v → Final s ratio budget t e w → v ≡ w
+same_final s ratio budget t d e v w (certified far said is) (certified far_too too is_too) = is ∙ sym is_too
+same_final s ratio budget t d e v w (certified far said is) (unlike far_too other is_too) = absurd (other (said_too s budget t d e said))
+same_final s ratio budget t d e v w (certified far said is) (near close is_too) = absurd (close (as_far s ratio budget d e far))
+same_final s ratio budget t d e v w (unlike far other is) (certified far_too said is_too) = absurd (other (said_too s budget t e d said))
+same_final s ratio budget t d e v w (unlike far other is) (unlike far_too other_too is_too) = is ∙ sym is_too
+same_final s ratio budget t d e v w (unlike far other is) (near close is_too) = absurd (close (as_far s ratio budget d e far))
+same_final s ratio budget t d e v w (near close is) (certified far said is_too) = absurd (close (as_far s ratio budget e d far))
+same_final s ratio budget t d e v w (near close is) (unlike far other is_too) = absurd (close (as_far s ratio budget e d far))
+same_final s ratio budget t d e v w (near close is) (near close_too is_too) = is ∙ sym is_too
+
+pair_up : (s : Session) (ratio budget : ℕ) (t : Tail) (v w : Verdict) → Ends s ratio budget t v → Ends s ratio budget t w → IsSameVerdict v w
+pair_up s ratio budget t v w (given_up a) b = inr (inl a)
+pair_up s ratio budget t v w (refused why a is) (given_up b) = inr (inr b)
+pair_up s ratio budget t v w (refused why a is) (refused too b is_too) = inl (is ∙ ap verdict_of (same_refusal s why too a b) ∙ sym is_too)
+pair_up s ratio budget t v w (refused why a is) (wide_move g of_g b is_too) = absurd (no_form s why g a of_g)
+pair_up s ratio budget t v w (refused why a is) (wide_sum g of_g b is_too) = absurd (no_form s why g a of_g)
+pair_up s ratio budget t v w (refused why a is) (decided e final) = absurd (no_form s why e.form a e.of_rows)
+pair_up s ratio budget t v w (wide_move f of_f a is) (given_up b) = inr (inr b)
+pair_up s ratio budget t v w (wide_move f of_f a is) (refused why b is_too) = absurd (no_form s why f b of_f)
+pair_up s ratio budget t v w (wide_move f of_f a is) (wide_move g of_g b is_too) = inl (is ∙ sym is_too)
+pair_up s ratio budget t v w (wide_move f of_f a is) (wide_sum g of_g b is_too) = absurd (no_move s f g budget b.best of_f a of_g b.best_is b.narrow)
+pair_up s ratio budget t v w (wide_move f of_f a is) (decided e final) = absurd (no_move s f e.form budget e.best of_f a e.of_rows e.found.best_is (not_wide s budget e))
+pair_up s ratio budget t v w (wide_sum f of_f a is) (given_up b) = inr (inr b)
+pair_up s ratio budget t v w (wide_sum f of_f a is) (refused why b is_too) = absurd (no_form s why f b of_f)
+pair_up s ratio budget t v w (wide_sum f of_f a is) (wide_move g of_g b is_too) = absurd (no_move s g f budget a.best of_g b of_f a.best_is a.narrow)
+pair_up s ratio budget t v w (wide_sum f of_f a is) (wide_sum g of_g b is_too) = inl (is ∙ sym is_too)
+pair_up s ratio budget t v w (wide_sum f of_f a is) (decided e final) = absurd (no_sum s f budget e of_f a)
+pair_up s ratio budget t v w (decided d final) (given_up b) = inr (inr b)
+pair_up s ratio budget t v w (decided d final) (refused why b is_too) = absurd (no_form s why d.form b d.of_rows)
+pair_up s ratio budget t v w (decided d final) (wide_move g of_g b is_too) = absurd (no_move s g d.form budget d.best of_g b d.of_rows d.found.best_is (not_wide s budget d))
+pair_up s ratio budget t v w (decided d final) (wide_sum g of_g b is_too) = absurd (no_sum s g budget d of_g b)
+pair_up s ratio budget t v w (decided d final) (decided e final_too) = inl (same_final s ratio budget t d e v w final final_too)
 
 pub one_verdict : (s : Session) (ratio budget : ℕ) (t : Tail) (v w : Verdict) → IsVerdictOf s ratio budget t v → IsVerdictOf s ratio budget t w → IsSameVerdict v w
-one_verdict s ratio budget t v w a b = pair_up s ratio t v w (ends s ratio budget t v a) (ends s ratio budget t w b)
+one_verdict s ratio budget t v w a b = pair_up s ratio budget t v w (rows_end s ratio budget a.decided t v a.decision a.said) (rows_end s ratio budget b.decided t w b.decision b.said)

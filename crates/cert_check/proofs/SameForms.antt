@@ -1,4 +1,4 @@
--- The rows of a session have one form, and one decision.
+-- The rows of a session have one form, with one pair of least vectors and its numbers.
 use Rattle.std.proofs.Common.{◌≡◌, ◌-◌, ◌^◌, ℕ, ℤ, pos, List, take, Ok, sym, ap, ◌∙◌, subst}
 use Rattle.whole_math.specs.Vectors.{scaled}
 use Rattle.quadratic_form.specs.Forms.{Column}
@@ -23,8 +23,9 @@ use Rattle.int_search.specs.Answers.{IsTwoBest}
 use Rattle.fix_decide.specs.UpperSums.{top}
 use Rattle.fix_decide.specs.Decisions.{IsFormOf, first_of, second_of, move_of}
 use Rattle.cert_data.specs.declared.tails.Tail.{Tail}
-use Rattle.cert_data.specs.declared.tails.Tail.TheVariants.{Fixed, Unseparated, Weak, Overwidth, Unsettled, Spent}
-use Rattle.cert_check.specs.Decided.{Numbers, IsDecided, AreSameBest, AreSame, Says}
+use Rattle.cert_data.specs.declared.tails.Tail.TheVariants.{Fixed}
+use Rattle.cert_check.specs.SameTails.{AreSameBest, AreSameNumbers}
+use Rattle.cert_check.specs.Settled.{AreFound}
 
 -- ---- one form
 
@@ -50,7 +51,7 @@ same_form s f g a b =
       form = ap (λ (p : List Factor × List Column). p.1) pair;
     }
 
--- ---- one decision
+-- ---- one pair of least vectors
 
 pub same_best : (f g : Form) (b c : TwoBest) → SameForm f g → IsTwoBest f b → IsTwoBest g c → AreSameBest b c
 same_best f g b c same x y =
@@ -70,31 +71,30 @@ same_best f g b c same x y =
 pub same_move : (f g : Form) (z w : List ℤ) → SameForm f g → z ≡ w → move_of f z ≡ move_of g w
 same_move f g z w same e = λ t. take 3 (solved (same.baseline t) (scaled (pos (2 ^ 16)) (e t)))
 
-pub one_decision : (s : Session) (d e : Numbers) → IsDecided s d → IsDecided s e → AreSame d.h d.moved d.best d.top e
-one_decision s d e a b =
-    let form = same_form s a.form b.form a.of_rows b.of_rows in
-    let best = same_best a.form b.form d.best e.best form a.best_is b.best_is in
-    let moved : d.moved ≡ e.moved = a.moved_is ∙ same_move a.form b.form (first_of d.best) (first_of e.best) form best.first_is ∙ sym b.moved_is in
+-- the numbers of the rows
+pub record Found (s : Session) (budget : ℕ) : Type 0 where
+  pub form : Form
+  pub of_rows : IsFormOf s form
+  pub h : ℕ
+  pub moved : List ℤ
+  pub best : TwoBest
+  pub top : ℤ
+  pub found : AreFound s form budget h moved best top
+
+-- as a fix
+abbrev pub fix_of : (s : Session) (budget : ℕ) → Found s budget → Tail
+fix_of s budget d = Fixed d.h d.moved d.best d.top
+
+pub one_found : (s : Session) (budget : ℕ) (d e : Found s budget) → AreSameNumbers d.h e.h d.moved e.moved d.best e.best d.top e.top
+one_found s budget d e =
+    let a = d.found in
+    let b = e.found in
+    let form = same_form s d.form e.form d.of_rows e.of_rows in
+    let best = same_best d.form e.form d.best e.best form a.best_is b.best_is in
+    let moved : d.moved ≡ e.moved = a.moved_is ∙ same_move d.form e.form (first_of d.best) (first_of e.best) form best.first_is ∙ sym b.moved_is in
     record {
       h_is = a.h_is ∙ form.h ∙ sym b.h_is;
       moved_is = moved;
       best_is = best;
       top_is = a.top_is ∙ (λ t. top (form.h t) s.arcs (fine_signals s.signals) s.pairs (best.first_is t) (moved t)) ∙ sym b.top_is;
     }
-
--- so a tail that says the numbers of one says those of the other
-pub says_too : (t : Tail) (d e : Numbers) → AreSame d.h d.moved d.best d.top e → Says t d → Says t e
-says_too (Fixed h moved best u) d e same said = record {
-  h_is = said.h_is ∙ same.h_is;
-  moved_is = said.moved_is ∙ same.moved_is;
-  best_is = both said.best_is same.best_is;
-  top_is = said.top_is ∙ same.top_is;
-}
-  where
-    both : AreSameBest best d.best → AreSameBest d.best e.best → AreSameBest best e.best
-    both a b = record { first_is = a.first_is ∙ b.first_is; second_is = a.second_is ∙ b.second_is; p1_is = a.p1_is ∙ b.p1_is; p2_is = a.p2_is ∙ b.p2_is }
-says_too (Unseparated h moved best u) d e same said = said
-says_too (Weak column pivot) d e same said = said
-says_too (Overwidth place) d e same said = said
-says_too (Unsettled entry) d e same said = said
-says_too (Spent budget) d e same said = said

@@ -1,6 +1,4 @@
-pub mod Decided
-pub mod Said
+pub mod SameTails
 pub mod Verdicts
-pub mod Visits
 pub mod Settled
 pub mod RowDecisions

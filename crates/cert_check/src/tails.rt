@@ -1,6 +1,7 @@
 //! What a tail says.
 ghost use Rattle.std.specs.Prelude.{◌≡◌, ◌↔◌, IsTrue};
-ghost use Rattle.cert_check.specs.Decided.{AreSameBest, Says, numbers};
+ghost use Rattle.cert_data.specs.declared.tails.Tail.TheVariants.{Fixed};
+ghost use Rattle.cert_check.specs.SameTails.{AreSameBest, Says};
 
 use cert_data::{Tail, TwoBest};
 
@@ -28,7 +29,7 @@ pub fn are_same_best(best: &TwoBest, other: &TwoBest) -> bool
 
 /// Whether the tail says that the rows are fixed, with these numbers.
 pub(crate) fn says_numbers(tail: &Tail, h: u32, moved: &[i64; 3], best: &TwoBest, top: i128) -> bool
-    ensures { IsTrue result ↔ Says tail.now (numbers h moved.now best.now top) }
+    ensures { IsTrue result ↔ Says tail.now (Fixed h moved.now best.now top) }
 {
     match tail {
         Tail::Fixed {

@@ -2,10 +2,7 @@
 ghost use Rattle.std.specs.Prelude.{◌≡◌};
 ghost use Rattle.cert_data.specs.declared.verdicts.Verdict.{Verdict};
 ghost use Rattle.cert_data.specs.declared.verdicts.Verdict.TheVariants.{Certified};
-ghost use Rattle.cert_check.specs.Decided.{IsBestIn, IsBestByRatioIn};
-ghost use Rattle.cert_check.specs.Said.{IsSaidOf};
-ghost use Rattle.cert_check.specs.Verdicts.{IsVerdictOf, IsSameVerdict};
-ghost use Rattle.cert_check.specs.Visits.{RestsWithin};
+ghost use Rattle.cert_check.specs.Verdicts.{IsSaidOf, IsVerdictOf, IsBestIn, IsBestByRatioIn, IsSameVerdict};
 
 use crate::decided::decide_rows;
 use crate::tails::says_numbers;
@@ -44,7 +41,6 @@ fn said_of(decided: &Tail, tail: &Tail) -> Verdict
 /// certificate's ratio. Nothing of the tail is read before the rows are decided.
 pub fn check(cert: &Cert) -> Verdict
     ensures verdict { IsVerdictOf cert.now.session cert.now.ratio cert.now.budget cert.now.tail result }
-    ensures visits { RestsWithin cert.now.session cert.now.budget result }
     ensures strictly_best { result ≡ Certified → IsBestIn cert.now.session cert.now.tail }
     ensures by_ratio { result ≡ Certified → IsBestByRatioIn cert.now.ratio cert.now.session cert.now.tail }
     ensures only { (v : Verdict) → IsVerdictOf cert.now.session cert.now.ratio cert.now.budget cert.now.tail v → IsSameVerdict v result }

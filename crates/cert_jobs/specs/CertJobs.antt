@@ -9,9 +9,7 @@ use Rattle.grammar_lines.specs.Beginnings.{NoneBegins}
 use Rattle.cert_text.specs.BeforePairs.{BeginsBefore}
 use Rattle.cert_text.specs.Rules.{reading_of}
 use Rattle.cert_spelling.specs.Lengths.{IsWhole, IsCertificate}
-use Rattle.cert_check.specs.Decided.{IsBestIn, IsBestByRatioIn}
-use Rattle.cert_check.specs.Visits.{RestsWithin}
-use Rattle.cert_check.specs.Verdicts.{IsVerdictOf, IsSameVerdict}
+use Rattle.cert_check.specs.Verdicts.{IsVerdictOf, IsBestIn, IsBestByRatioIn, IsSameVerdict}
 use Rattle.cert_report.specs.VerdictText.{verdict_text}
 use Rattle.cert_report.specs.Residuals.{has_vectors, residuals_text}
 use Rattle.job_answers.specs.declared.status.Status.{Status}
@@ -40,15 +38,14 @@ abbrev pub status_of : Verdict → Status
 status_of Certified = Done
 status_of (Not cause) = Declined
 
--- The rows are decided again, and the tail is compared with what they say. No other verdict holds of them, but where a
--- search gave up. A search that the verdict rests on kept the certificate's budget. Where it is `Certified`, each other
--- integer vector, with any baseline, has a greater sum of squares for all data in the boxes of the rows, and one that is
--- greater by the certificate's ratio, whoever wrote it.
+-- The rows are decided again, within the certificate's budget, and the tail is compared with what they say. No other
+-- verdict holds of them, but where a search gave up. Where it is `Certified`, each other integer vector, with any baseline,
+-- has a greater sum of squares for all data in the boxes of the rows, and one that is greater by the certificate's ratio,
+-- whoever wrote it.
 pub record CheckEnd (cert : Cert) (end : Ending) : Type 0 where
   pub verdict : Verdict
   pub is : IsVerdictOf cert.session cert.ratio cert.budget cert.tail verdict
   pub only : (v : Verdict) → IsVerdictOf cert.session cert.ratio cert.budget cert.tail v → IsSameVerdict v verdict
-  pub visits : RestsWithin cert.session cert.budget verdict
   pub best : verdict ≡ Certified → IsBestIn cert.session cert.tail
   pub by_ratio : verdict ≡ Certified → IsBestByRatioIn cert.ratio cert.session cert.tail
   pub end_is : end ≡ ending (status_of verdict) (verdict_text verdict) []

@@ -11,7 +11,7 @@ use Rattle.eph_store.specs.File.{Records}
 use Rattle.obs_store.specs.declared.file.ObsFile.{ObsFile}
 use Rattle.run_options.specs.declared.options.Options.{Options}
 use Rattle.cert_check.specs.Settled.{IsBestWhereFixed}
-use Rattle.cert_check.specs.Decided.{IsBestByRatioIn}
+use Rattle.cert_check.specs.Verdicts.{IsBestByRatioIn}
 use Rattle.cert_check.proofs.Checked.{certified_by_ratio}
 use Rattle.session.specs.Answers.{IsBestAnswer}
 use Rattle.session.specs.Outcomes.{IsOutcome}

@@ -20,7 +20,8 @@ use Rattle.int_search.specs.declared.answer.TwoBest.{TwoBest}
 use Rattle.int_search.specs.Answers.{IsTwoBest}
 use Rattle.fix_decide.specs.Widths.{IsWide}
 use Rattle.fix_decide.specs.Decisions.{IsSeparated, first_of}
-use Rattle.cert_check.specs.Decided.{AreSameBest}
+use Rattle.cert_check.specs.SameTails.{AreSameBest, AreSameNumbers}
+use Rattle.cert_check.proofs.SameNumbers.{same_numbers}
 use Rattle.cert_check.proofs.SameForms as sessions
 use Rattle.track_data.specs.declared.tails.TrackTail.{TrackTail}
 use Rattle.track_data.specs.declared.tails.TrackTail.TheVariants.{Fixed, Unseparated, Weak, Overwidth, Spent}
@@ -29,7 +30,7 @@ use Rattle.track_sum.specs.PairFronts.{IsRefusedPair, HasFront, move_at}
 use Rattle.track_sum.specs.Decided.{IsTrackForm, IsFinishRefused, AreFound, IsMoveWide, IsSumWide, pair_uppers}
 use Rattle.track_sum.proofs.OneFront.{no_front}
 use Rattle.track_sum.proofs.OneForm.{SameForm, one_form, same_moves, no_fronts, no_form, one_first, one_finish}
-use Rattle.track_form.specs.Decided.{IsFormRefused, track_tail_of, IsTrackWideAt, IsTrackDecision, AreSameNumbers, IsSameTail, HasGivenUp, IsSameDecision}
+use Rattle.track_form.specs.Decided.{IsFormRefused, track_tail_of, IsTrackWideAt, IsTrackDecision, IsSameTail, HasGivenUp, IsSameDecision}
 use Rattle.track_form.proofs.Lists.{not_mapped, any_mapped, not_all_and_any}
 
 -- ---- refusals
@@ -166,7 +167,7 @@ one_found arcs ss pairs budget h k moves others best other top over a b =
     one_moves arcs ss pairs h k best other moves others (moves_found arcs ss pairs budget h moves best top a) (moves_found arcs ss pairs budget k others other over b) in
     record {
       h_is = same.h_is;
-      moves_are = same.moves_are;
+      moved_is = same.moves_are;
       best_is = same.best_is;
       top_is = a.top_is ∙ (λ t. track_top (same.h_is t) (pair_uppers arcs ss (same.best_is.first_is t) pairs (same.moves_are t))) ∙ sym b.top_is;
     }
@@ -202,12 +203,9 @@ as_far ratio h k moves others best other top over same far =
     subst (λ (x : ℤ). IsSeparated (pos ratio) over x) same.best_is.p2_is (subst (λ (x : ℤ). IsSeparated (pos ratio) x best.p2) same.top_is far)
 
 -- ---- tails that are the same
-same_best_self : (b : TwoBest) → AreSameBest b b
-same_best_self b = record { first_is = refl; second_is = refl; p1_is = refl; p2_is = refl }
-
 same_self : (t : TrackTail) → IsSameTail t t
-same_self (Fixed h moves best top) = record { h_is = refl; moves_are = refl; best_is = same_best_self best; top_is = refl }
-same_self (Unseparated h moves best top) = record { h_is = refl; moves_are = refl; best_is = same_best_self best; top_is = refl }
+same_self (Fixed h moves best top) = same_numbers h moves best top
+same_self (Unseparated h moves best top) = same_numbers h moves best top
 same_self (Weak column pivot) = (refl, refl)
 same_self (Overwidth place) = refl
 same_self (Spent budget) = refl

@@ -9,27 +9,15 @@ use Rattle.cert_data.specs.declared.verdicts.Verdict.{Verdict}
 use Rattle.cert_data.specs.declared.verdicts.Verdict.TheVariants.{Certified, Not}
 use Rattle.cert_data.specs.declared.verdicts.Cause.TheVariants as cause
 use Rattle.cert_check.specs.Verdicts.{IsGivenUp, IsSameVerdict}
-use Rattle.cert_check.specs.Decided.{AreSameBest}
+use Rattle.cert_check.specs.SameTails.{AreSameNumbers}
+use Rattle.cert_check.proofs.SameNumbers.{same_numbers_on, same_numbers_back}
 use Rattle.track_data.specs.declared.tails.TrackTail.{TrackTail}
 use Rattle.track_data.specs.declared.tails.TrackTail.TheVariants.{Fixed, Unseparated, Weak, Overwidth, Spent}
 use Rattle.track_sum.specs.Decided.{IsStrictlyBest, IsBestByRatio}
 use Rattle.track_sum.proofs.StrictlyBest.{track_best_by_ratio}
-use Rattle.track_form.specs.Decided.{AreSameNumbers, IsSameTail, HasGivenUp, IsTrackDecision, IsTrackBestWhereFixed}
+use Rattle.track_form.specs.Decided.{IsSameTail, HasGivenUp, IsTrackDecision, IsTrackBestWhereFixed}
 use Rattle.track_form.specs.Verdicts.{IsSaidOf, IsTrackVerdict, IsTrackBestIn, IsTrackBestByRatioIn}
 use Rattle.track_form.proofs.OneDecision.{one_decision}
-
--- ---- the same numbers
-same_numbers_on : (h k j : ℕ) (ms ns os : List (List ℤ)) (b c d : TwoBest) (t u v : ℤ) → AreSameNumbers h k ms ns b c t u → AreSameNumbers k j ns os c d u v → AreSameNumbers h j ms os b d t v
-same_numbers_on h k j ms ns os b c d t u v a e = record { h_is = a.h_is ∙ e.h_is; moves_are = a.moves_are ∙ e.moves_are; best_is = both a.best_is e.best_is; top_is = a.top_is ∙ e.top_is }
-  where
-    both : AreSameBest b c → AreSameBest c d → AreSameBest b d
-    both x y = record { first_is = x.first_is ∙ y.first_is; second_is = x.second_is ∙ y.second_is; p1_is = x.p1_is ∙ y.p1_is; p2_is = x.p2_is ∙ y.p2_is }
-
-same_numbers_back : (h k : ℕ) (ms ns : List (List ℤ)) (b c : TwoBest) (t u : ℤ) → AreSameNumbers h k ms ns b c t u → AreSameNumbers k h ns ms c b u t
-same_numbers_back h k ms ns b c t u a = record { h_is = sym a.h_is; moves_are = sym a.moves_are; best_is = back a.best_is; top_is = sym a.top_is }
-  where
-    back : AreSameBest b c → AreSameBest c b
-    back x = record { first_is = sym x.first_is; second_is = sym x.second_is; p1_is = sym x.p1_is; p2_is = sym x.p2_is }
 
 -- a text that says the numbers of one says those of the other
 says_too : (t : TrackTail) (h k : ℕ) (ms ns : List (List ℤ)) (b c : TwoBest) (x y : ℤ) → AreSameNumbers h k ms ns b c x y → IsSameTail t (Fixed h ms b x) → IsSameTail t (Fixed k ns c y)
@@ -88,7 +76,7 @@ one_verdict arcs ss pairs ratio budget t v w a b = by_decision (one_decision arc
 -- what is strictly best is so in a text that says it
 pub best_said : (arcs : List Arc) (ss : List ℕ) (pairs : List PairRows) (d t : TrackTail) → IsTrackBestWhereFixed arcs ss pairs d → IsSaidOf d t Certified → IsTrackBestIn arcs ss pairs t
 best_said arcs ss pairs (Fixed h ms b x) (Fixed k ns c y) best said =
-    subst (λ (z : List ℤ). IsStrictlyBest arcs ss pairs z ns) (sym said.best_is.first_is) (subst (λ (moves : List (List ℤ)). IsStrictlyBest arcs ss pairs (first_of b) moves) (sym said.moves_are) best)
+    subst (λ (z : List ℤ). IsStrictlyBest arcs ss pairs z ns) (sym said.best_is.first_is) (subst (λ (moves : List (List ℤ)). IsStrictlyBest arcs ss pairs (first_of b) moves) (sym said.moved_is) best)
 best_said arcs ss pairs (Fixed h ms b x) (Unseparated k ns c y) best said = absurd said
 best_said arcs ss pairs (Fixed h ms b x) (Weak column pivot) best said = absurd said
 best_said arcs ss pairs (Fixed h ms b x) (Overwidth place) best said = absurd said
@@ -105,7 +93,7 @@ certified_by_ratio arcs ss pairs ratio budget t is = by_ratio is.decided t is.de
   where
     by_ratio : (d u : TrackTail) → IsTrackDecision arcs ss pairs ratio budget d → IsSaidOf d u Certified → IsTrackBestByRatioIn ratio arcs ss pairs u
     by_ratio (Fixed h ms b x) (Fixed k ns c y) decision said = subst (λ (z : List ℤ). IsBestByRatio ratio arcs ss pairs z ns) (sym said.best_is.first_is)
-        (subst (λ (moves : List (List ℤ)). IsBestByRatio ratio arcs ss pairs (first_of b) moves) (sym said.moves_are) (track_best_by_ratio arcs ss pairs ratio budget h ms b x decision.0 decision.1))
+        (subst (λ (moves : List (List ℤ)). IsBestByRatio ratio arcs ss pairs (first_of b) moves) (sym said.moved_is) (track_best_by_ratio arcs ss pairs ratio budget h ms b x decision.0 decision.1))
     by_ratio (Fixed h ms b x) (Unseparated k ns c y) decision said = absurd said
     by_ratio (Fixed h ms b x) (Weak column pivot) decision said = absurd said
     by_ratio (Fixed h ms b x) (Overwidth place) decision said = absurd said

@@ -1,5 +1,5 @@
 -- What the rows of a track are decided to say.
-use Rattle.std.specs.Prelude.{◌≡◌, ◌⊎◌, ℕ, List, ℤ, pos}
+use Rattle.std.specs.Prelude.{◌≡◌, ◌⊎◌, ℕ, List, pos}
 use Rattle.obs_rows.specs.declared.arcs.Arc.{Arc}
 use Rattle.obs_rows.specs.declared.pair_rows.PairRows.{PairRows}
 use Rattle.integer_form.specs.declared.front_form.FrontForm.{FrontForm}
@@ -8,10 +8,9 @@ use Rattle.integer_form.specs.declared.faults.LowerFault.{LowerFault}
 use Rattle.integer_form.specs.declared.faults.LowerFault.TheVariants as fault
 use Rattle.integer_form.specs.declared.faults.Place.{Place}
 use Rattle.integer_form.specs.declared.faults.Place.TheVariants.{Float, Search, Sum}
-use Rattle.int_search.specs.declared.answer.TwoBest.{TwoBest}
 use Rattle.fix_decide.specs.Decisions.{IsSeparated, first_of}
 use Rattle.cert_check.specs.Settled.{IsSpent, IsTooWide}
-use Rattle.cert_check.specs.Decided.{AreSameBest}
+use Rattle.cert_check.specs.SameTails.{AreSameNumbers}
 use Rattle.track_data.specs.declared.tails.TrackTail.{TrackTail}
 use Rattle.track_data.specs.declared.tails.TrackTail.TheVariants.{Fixed, Unseparated, Weak, Overwidth, Spent}
 use Rattle.track_sum.specs.PairFronts.{IsFirstRefused}
@@ -54,13 +53,6 @@ IsTrackBestWhereFixed arcs ss pairs (Fixed h moves best top) = IsStrictlyBest ar
 IsTrackBestWhereFixed arcs ss pairs _ = Unit {0}
 
 -- ---- one decision
--- the same numbers; of the arrays of integers the entries for the integers count
-pub record AreSameNumbers (h k : ℕ) (moves others : List (List ℤ)) (best other : TwoBest) (top over : ℤ) : Type 0 where
-  pub h_is : h ≡ k
-  pub moves_are : moves ≡ others
-  pub best_is : AreSameBest best other
-  pub top_is : top ≡ over
-
 abbrev pub IsSameTail : TrackTail → TrackTail → Type 0
 IsSameTail (Fixed h moves best top) (Fixed k others other over) = AreSameNumbers h k moves others best other top over
 IsSameTail (Unseparated h moves best top) (Unseparated k others other over) = AreSameNumbers h k moves others best other top over

@@ -14,7 +14,13 @@ fn are_same(moves: &[[i64; 3]], others: &[[i64; 3]]) -> bool
 }
 
 /// Whether the tail says that the rows are fixed, with these numbers.
-pub(crate) fn says_numbers(tail: &TrackTail, h: u32, moves: &[[i64; 3]], best: &TwoBest, top: i128) -> bool
+pub(crate) fn says_numbers(
+    tail: &TrackTail,
+    h: u32,
+    moves: &[[i64; 3]],
+    best: &TwoBest,
+    top: i128,
+) -> bool
     ensures { IsTrue result ↔ IsSameTail tail.now (Fixed h moves.now best.now top) }
 {
     match tail {

@@ -1,5 +1,5 @@
 -- What a run decides as fixed, the rows say again: a check certifies it, or its search gives up.
-use Rattle.std.proofs.Common.{◌≡◌, ◌⊎◌, inl, inr, ℕ, ℤ, List, refl, sym, subst}
+use Rattle.std.proofs.Common.{◌≡◌, ◌⊎◌, inl, inr, ℕ, ℤ, List, sym, subst}
 use Rattle.obs_rows.specs.declared.arcs.Arc.{Arc}
 use Rattle.obs_rows.specs.declared.pair_rows.PairRows.{PairRows}
 use Rattle.integer_form.specs.declared.faults.Place.{Place}
@@ -9,21 +9,11 @@ use Rattle.cert_data.specs.declared.verdicts.Verdict.{Verdict}
 use Rattle.cert_data.specs.declared.verdicts.Verdict.TheVariants.{Certified, Not}
 use Rattle.cert_data.specs.declared.verdicts.Cause.TheVariants as cause
 use Rattle.cert_check.specs.Verdicts.{IsGivenUp}
+use Rattle.cert_check.proofs.SameNumbers.{same_numbers, same_numbers_back}
 use Rattle.track_data.specs.declared.tails.TrackTail.{TrackTail}
 use Rattle.track_data.specs.declared.tails.TrackTail.TheVariants.{Fixed, Unseparated, Weak, Overwidth, Spent}
-use Rattle.track_form.specs.Decided.{IsTrackDecision, AreSameNumbers, HasGivenUp, IsSameDecision}
+use Rattle.track_form.specs.Decided.{IsTrackDecision, HasGivenUp, IsSameDecision}
 use Rattle.track_form.specs.Verdicts.{IsSaidOf, IsTrackVerdict}
-
-same_numbers : (h : ℕ) (moves : List (List ℤ)) (best : TwoBest) (top : ℤ) → AreSameNumbers h h moves moves best best top top
-same_numbers h moves best top = record { h_is = refl; moves_are = refl; best_is = record { first_is = refl; second_is = refl; p1_is = refl; p2_is = refl }; top_is = refl }
-
-turned : (h k : ℕ) (moves others : List (List ℤ)) (best other : TwoBest) (top over : ℤ) → AreSameNumbers h k moves others best other top over → AreSameNumbers k h others moves other best over top
-turned h k moves others best other top over same = record {
-  h_is = sym same.h_is;
-  moves_are = sym same.moves_are;
-  best_is = record { first_is = sym same.best_is.first_is; second_is = sym same.best_is.second_is; p1_is = sym same.best_is.p1_is; p2_is = sym same.best_is.p2_is };
-  top_is = sym same.top_is;
-}
 
 module _ (arcs : List Arc) (ss : List ℕ) (pairs : List PairRows) (ratio budget : ℕ) (h : ℕ) (moves : List (List ℤ)) (best : TwoBest) (top : ℤ) where
   pub certified_again : IsTrackDecision arcs ss pairs ratio budget (Fixed h moves best top) → IsTrackVerdict arcs ss pairs ratio budget (Fixed h moves best top) Certified
@@ -42,7 +32,7 @@ module _ (arcs : List Arc) (ss : List ℕ) (pairs : List PairRows) (ratio budget
   said_again : (d : TrackTail) (v : Verdict) → IsSameDecision d (Fixed h moves best top) → IsSaidOf d (Fixed h moves best top) v → (v ≡ Certified) ⊎ IsGivenUp v
   said_again d v (inr (inr of_text)) said = absurd of_text
   said_again (Fixed k others other over) Certified (inl same) said = inl refl
-  said_again (Fixed k others other over) (Not cause.Tail) (inl same) said = absurd (said (turned k h others moves other best over top same))
+  said_again (Fixed k others other over) (Not cause.Tail) (inl same) said = absurd (said (same_numbers_back k h others moves other best over top same))
   said_again (Fixed k others other over) (Not (cause.Weak column pivot)) (inl same) said = absurd said
   said_again (Fixed k others other over) (Not (cause.Overwidth place)) (inl same) said = absurd said
   said_again (Fixed k others other over) (Not cause.Spent) (inl same) said = absurd said

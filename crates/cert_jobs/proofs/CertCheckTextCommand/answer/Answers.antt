@@ -18,7 +18,6 @@ returns-clause-answered c =
           verdict = verdict;
           is = is.verdict;
           only = is.only;
-          visits = is.visits;
           best = is.strictly_best;
           by_ratio = is.by_ratio;
           end_is = λ i. ending (c.status_of.ensures.value i) (out i) (c.new.ensures.items i);

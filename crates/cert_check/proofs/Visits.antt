@@ -1,0 +1,79 @@
+-- A verdict that rests on the two least vectors of the rows' form has them within the budget.
+use Rattle.std.proofs.Common.{◌≡◌, ℕ, sym, subst}
+use Rattle.quadratic_form.specs.Elimination.{Refusal, weak, wide_factor, wide_entry}
+use Rattle.obs_rows.specs.declared.sessions.Session.{Session}
+use Rattle.normal_sum.specs.Values.{form_of}
+use Rattle.integer_form.specs.declared.faults.LowerFault.{LowerFault}
+use Rattle.integer_form.specs.declared.faults.LowerFault.TheVariants as fault
+use Rattle.integer_form.specs.declared.faults.Place.{Place}
+use Rattle.integer_form.specs.declared.faults.Place.TheVariants.{Factor, Entry, Float, Search, Sum}
+use Rattle.integer_form.specs.declared.form.Form.{Form}
+use Rattle.integer_form.specs.Told.{told}
+use Rattle.int_search.specs.declared.answer.TwoBest.{TwoBest}
+use Rattle.int_search.specs.Answers.{IsTwoBest}
+use Rattle.int_search.specs.ReducedCounts.{KeepsBudget}
+use Rattle.fix_decide.specs.Decisions.{IsFormOf}
+use Rattle.lower_form.proofs.Exponents.{has_exponent}
+use Rattle.cert_data.specs.declared.tails.Tail.{Tail}
+use Rattle.cert_data.specs.declared.verdicts.Verdict.{Verdict}
+use Rattle.cert_data.specs.declared.verdicts.Verdict.TheVariants.{Certified, Not}
+use Rattle.cert_data.specs.declared.verdicts.Cause.TheVariants as cause
+use Rattle.cert_check.specs.Settled.{IsRefused}
+use Rattle.cert_check.specs.Verdicts.{IsVerdictOf, IsGivenUp}
+use Rattle.cert_check.proofs.OneVerdict.{Ends, given_up, refused, wide_move, wide_sum, decided, verdict_of, rows_end}
+
+pub record IsSearchedWithin (s : Session) (budget : ℕ) : Type 0 where
+  pub form : Form
+  pub of_rows : IsFormOf s form
+  pub best : TwoBest
+  pub best_is : IsTwoBest form best
+  pub visits : KeepsBudget form budget best
+
+-- so they are where the verdict rests on them
+abbrev pub RestsWithin : Session → ℕ → Verdict → Type 0
+RestsWithin s budget Certified = IsSearchedWithin s budget
+RestsWithin s budget (Not (cause.Overwidth Float)) = IsSearchedWithin s budget
+RestsWithin s budget (Not (cause.Overwidth Sum)) = IsSearchedWithin s budget
+RestsWithin s budget (Not cause.Unseparated) = IsSearchedWithin s budget
+RestsWithin s budget (Not cause.Tail) = IsSearchedWithin s budget
+RestsWithin s budget _ = Unit {0}
+
+rests : (s : Session) (budget : ℕ) (v : Verdict) → IsSearchedWithin s budget → RestsWithin s budget v
+rests s budget Certified h = h
+rests s budget (Not (cause.Weak column pivot)) h = tt
+rests s budget (Not (cause.Overwidth Float)) h = h
+rests s budget (Not (cause.Overwidth Sum)) h = h
+rests s budget (Not (cause.Overwidth _)) h = tt
+rests s budget (Not cause.Spent) h = tt
+rests s budget (Not cause.Unseparated) h = h
+rests s budget (Not cause.Tail) h = h
+
+gave_up : (s : Session) (budget : ℕ) (v : Verdict) → IsGivenUp v → RestsWithin s budget v
+gave_up s budget (Not cause.Spent) a = tt
+gave_up s budget (Not (cause.Overwidth Search)) a = tt
+gave_up s budget _ a = absurd a
+
+-- no elimination is refused for the baseline or the upper sum
+other_place : (place : Place) (r : Refusal) → fault.Overwidth place ≡ told r → (place ≡ Factor → ⊥) → (place ≡ Entry → ⊥) → ⊥
+other_place place (weak j a) e f g = absurd cc
+other_place place wide_factor e f g = f cc
+other_place place wide_entry e f g = g cc
+
+refused_place : (s : Session) (place : Place) → IsRefused s (fault.Overwidth place) → (place ≡ Factor → ⊥) → (place ≡ Entry → ⊥) → ⊥
+refused_place s place a f g = let some = has_exponent (form_of a.normal) in let one = a.told some.0 some.1 in other_place place one.0 one.1.1 f g
+
+refusal_rests : (s : Session) (budget : ℕ) (why : LowerFault) → IsRefused s why → RestsWithin s budget (verdict_of why)
+refusal_rests s budget (fault.Weak column pivot) a = tt
+refusal_rests s budget (fault.Overwidth Float) a = absurd (refused_place s Float a (λ e. absurd cc) (λ e. absurd cc))
+refusal_rests s budget (fault.Overwidth Sum) a = absurd (refused_place s Sum a (λ e. absurd cc) (λ e. absurd cc))
+refusal_rests s budget (fault.Overwidth _) a = tt
+
+end_rests : (s : Session) (ratio budget : ℕ) (t : Tail) (v : Verdict) → Ends s ratio budget t v → RestsWithin s budget v
+end_rests s ratio budget t v (given_up a) = gave_up s budget v a
+end_rests s ratio budget t v (refused why a is) = subst (RestsWithin s budget) (sym is) (refusal_rests s budget why a)
+end_rests s ratio budget t v (wide_move f of_rows a is) = rests s budget v (record { form = f; of_rows = of_rows; best = a.best; best_is = a.best_is; visits = a.visits })
+end_rests s ratio budget t v (wide_sum f of_rows a is) = rests s budget v (record { form = f; of_rows = of_rows; best = a.best; best_is = a.best_is; visits = a.visits })
+end_rests s ratio budget t v (decided d final) = rests s budget v (record { form = d.form; of_rows = d.of_rows; best = d.best; best_is = d.found.best_is; visits = d.found.visits })
+
+pub rests_within : (s : Session) (ratio budget : ℕ) (t : Tail) (v : Verdict) → IsVerdictOf s ratio budget t v → RestsWithin s budget v
+rests_within s ratio budget t v is = end_rests s ratio budget t v (rows_end s ratio budget is.decided t v is.decision is.said)
