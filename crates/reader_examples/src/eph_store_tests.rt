@@ -7,6 +7,21 @@ use std::test::Fail;
 
 const ZERO: Dec = Dec { mant: 0, exp: 0 };
 
+const WEEK: Dec = Dec {
+    mant: 2_295,
+    exp: 0,
+};
+
+const HALF_WEEK: Dec = Dec {
+    mant: 22_955,
+    exp: -1,
+};
+
+const MOST_ROOT: Dec = Dec {
+    mant: 6_000_000_000_000,
+    exp: -9,
+};
+
 // Week 2295, second 86,400: 2024-01-01 00:00 is its tick 13,881,024,000,000,000.
 fn record(sat: u8) -> Raw {
     Raw {
@@ -33,10 +48,7 @@ fn record(sat: u8) -> Raw {
         peri: ZERO,
         node_rate: ZERO,
         incl_rate: ZERO,
-        week: Dec {
-            mant: 2_295,
-            exp: 0,
-        },
+        week: WEEK,
         toe_s: Dec { mant: 864, exp: 2 },
         health: ZERO,
     }
@@ -61,28 +73,53 @@ fn takes_usable_records(rt: HostRuntime) {
     assert_eq!(rt; found, Ok(want));
 }
 
+// The root of the axis, the rate of the clock's drift, the week and the health of a record, and what is said of it.
+const FIELDS: [(Dec, Dec, Dec, Dec, Option<Unfit>); 5] = [
+    (
+        Dec {
+            mant: 6_000_000_000_001,
+            exp: -9,
+        },
+        ZERO,
+        WEEK,
+        ZERO,
+        Some(Unfit::Range { field: 4 }),
+    ),
+    (MOST_ROOT, ZERO, WEEK, ZERO, None),
+    (
+        MOST_ROOT,
+        Dec { mant: 1, exp: -11 },
+        WEEK,
+        ZERO,
+        Some(Unfit::Range { field: 21 }),
+    ),
+    (
+        MOST_ROOT,
+        Dec { mant: 1, exp: -11 },
+        HALF_WEEK,
+        ZERO,
+        Some(Unfit::Range { field: 1 }),
+    ),
+    (
+        MOST_ROOT,
+        Dec { mant: 1, exp: -11 },
+        HALF_WEEK,
+        Dec { mant: 1, exp: 0 },
+        Some(Unfit::Unhealthy),
+    ),
+];
+
 #[test]
 fn tells_what_is_out(rt: HostRuntime) {
-    let mut raw = record(5);
-    raw.root_a = Dec {
-        mant: 6_000_000_000_001,
-        exp: -9,
-    };
-    assert_eq!(rt; unfit(&raw), Some(Unfit::Range { field: 4 }));
-    raw.root_a = Dec {
-        mant: 6_000_000_000_000,
-        exp: -9,
-    };
-    assert_eq!(rt; unfit(&raw), None);
-    raw.af2 = Dec { mant: 1, exp: -11 };
-    assert_eq!(rt; unfit(&raw), Some(Unfit::Range { field: 21 }));
-    raw.week = Dec {
-        mant: 22_955,
-        exp: -1,
-    };
-    assert_eq!(rt; unfit(&raw), Some(Unfit::Range { field: 1 }));
-    raw.health = Dec { mant: 1, exp: 0 };
-    assert_eq!(rt; unfit(&raw), Some(Unfit::Unhealthy));
+    for row in FIELDS.iter() {
+        let (root_a, af2, week, health, want) = *row;
+        let mut raw = record(5);
+        raw.root_a = root_a;
+        raw.af2 = af2;
+        raw.week = week;
+        raw.health = health;
+        assert_eq!(rt; unfit(&raw), want);
+    }
 }
 
 const ENDS: [(Dec, Option<Unfit>); 8] = [
@@ -187,7 +224,9 @@ const LATE_IN_THE_WEEK: [(i64, i64); 1] = [(2_295, 601_200)];
 
 // The records' times, the satellite, the tag, and the time of the record that is chosen. Half-way between two records' times
 // the last one is. Second 0 of week 2296 is 3,600 s after second 601,200 of week 2295.
-const CHOICES: [(&[(i64, i64)], u8, u64, Option<u64>); 9] = [
+type Choice = (&'static [(i64, i64)], u8, u64, Option<u64>);
+
+const CHOICES: [Choice; 9] = [
     (&ONE, 5, TOE + TWO_HOURS, Some(TOE)),
     (&ONE, 5, TOE + TWO_HOURS + 1, None),
     (&ONE, 5, TOE - TWO_HOURS, Some(TOE)),
@@ -204,13 +243,20 @@ const CHOICES: [(&[(i64, i64)], u8, u64, Option<u64>); 9] = [
     ),
 ];
 
+// How many records are fit, and the time of the one that is chosen.
+fn chosen(alloc: Global, row: &Choice) -> Result<(usize, Option<u64>), AllocError> {
+    let (times, sat, tag, _) = *row;
+    let file = file_of(alloc, times)?;
+    let found = file.choose(sat, Tick(tag)).map(|eph| eph.toe.0);
+    Ok((file.fit().len(), found))
+}
+
 #[test]
 fn chooses_the_nearest(rt: HostRuntime) -> Result<(), Fail> {
     for row in CHOICES.iter() {
-        let (times, sat, tag, want) = *row;
-        let file = file_of(rt.alloc(), times)?;
-        assert_eq!(rt; file.fit().len(), times.len());
-        assert_eq!(rt; toe_of(file.choose(sat, Tick(tag))), want, "at {tag}");
+        let (times, _, tag, want) = *row;
+        let found = chosen(rt.alloc(), row)?;
+        assert_eq!(rt; found, (times.len(), want), "at {tag}");
     }
     Ok(())
 }
@@ -221,11 +267,6 @@ fn leaves_out_what_is_unfit(rt: HostRuntime) -> Result<(), Fail> {
     let mut ill = record(5);
     ill.health = Dec { mant: 63, exp: 0 };
     file.push(ill)?;
-    assert_eq!(rt; file.all().len(), 2);
-    assert_eq!(rt; file.fit().len(), 1);
+    assert_eq!(rt; (file.all().len(), file.fit().len()), (2, 1));
     Ok(())
-}
-
-fn toe_of(found: Option<&Eph>) -> Option<u64> {
-    found.map(|eph| eph.toe.0)
 }

@@ -1,4 +1,4 @@
-//! What the readers of files take and refuse, a module for each crate below. There is nothing here but tests.
+//! What the readers of every kind of file take and refuse, a module for each crate below. There is nothing here but tests.
 #![tactic(auto)]
 
 #[cfg(test)]
@@ -12,6 +12,12 @@ mod obs_source_tests;
 #[cfg(test)]
 mod obs_store_tests;
 #[cfg(test)]
+mod rinex2_accepted_tests;
+#[cfg(test)]
+mod rinex2_refused_tests;
+#[cfg(test)]
+mod rinex2_sample;
+#[cfg(test)]
 mod rinex_head_tests;
 #[cfg(test)]
 mod rinex_nav_tests;
@@ -21,5 +27,7 @@ mod rinex_obs_feed_tests;
 mod rinex_obs_tests;
 #[cfg(test)]
 mod slow_files;
+#[cfg(test)]
+mod texts;
 #[cfg(test)]
 mod zero_rows_tests;

@@ -110,45 +110,52 @@ fn takes_a_file_in_pieces(rt: HostRuntime) -> Result<(), Fail> {
         bytes: Vec::new(alloc),
         pieces: 0,
     };
-    assert_eq!(rt; load_into(&mut files, "a", &mut kept), Ok(()));
-    assert_eq!(rt; kept.pieces, 2);
-    assert_eq!(rt; kept.bytes.as_slice(), text.as_slice());
+    let answer = load_into(&mut files, "a", &mut kept);
+    assert_eq!(rt; (answer, kept.pieces), (Ok(()), 2));
+    assert!(rt; kept.bytes == text);
     Ok(())
+}
+
+// What is answered where that call fails.
+fn answer_at(alloc: Global, call: u64) -> Result<Result<(), LoadFault>, AllocError> {
+    let mut files = long_file(alloc, vec![in alloc; call]?)?;
+    let mut counted = Counted {
+        taken: 0,
+        limit: MAX_FILE,
+    };
+    Ok(load_into(&mut files, "a", &mut counted))
 }
 
 #[test]
 fn tells_read_faults(rt: HostRuntime) -> Result<(), Fail> {
-    let alloc = rt.alloc();
     // the file is opened, read twice, and read to its end: four calls
-    for call in 0..5 {
-        let mut files = long_file(alloc, vec![in alloc; call]?)?;
-        let mut counted = Counted {
-            taken: 0,
-            limit: MAX_FILE,
-        };
-        let want = if call < 4 {
-            Err(LoadFault::ReadFault)
-        } else {
-            Ok(())
-        };
-        assert_eq!(rt; load_into(&mut files, "a", &mut counted), want);
+    for call in 0..4 {
+        let found = answer_at(rt.alloc(), call)?;
+        assert_eq!(rt; found, Err(LoadFault::ReadFault), "at {call}");
     }
+    assert_eq!(rt; answer_at(rt.alloc(), 4)?, Ok(()));
     Ok(())
 }
 
+// The bytes of the file and those that the taker has room for; then what is answered and how many bytes it has taken.
+const LIMITS: [(usize, usize, Result<(), LoadFault>, usize); 3] = [
+    (MAX_FILE, MAX_FILE, Ok(()), MAX_FILE),
+    (MAX_FILE + 1, MAX_FILE, Err(LoadFault::BigFile), MAX_FILE),
+    (
+        MAX_PIECE + 1,
+        MAX_PIECE,
+        Err(LoadFault::NoMemory),
+        MAX_PIECE,
+    ),
+];
+
 #[test]
-fn limits_the_file_and_the_memory(rt: HostRuntime) -> Result<(), Fail> {
-    // bytes of the file, bytes that the taker has room for, and what is answered
-    let rows = [
-        (MAX_FILE, MAX_FILE, Ok(())),
-        (MAX_FILE + 1, MAX_FILE, Err(LoadFault::BigFile)),
-        (MAX_PIECE + 1, MAX_PIECE, Err(LoadFault::NoMemory)),
-    ];
-    for (long, limit, want) in rows {
+fn limits_the_file_and_the_memory(rt: HostRuntime) {
+    for row in LIMITS.iter() {
+        let (long, limit, want, taken) = *row;
         let mut files = LongFile::new(long);
         let mut counted = Counted { taken: 0, limit };
-        assert_eq!(rt; load_into(&mut files, "a", &mut counted), want);
-        assert_eq!(rt; counted.taken, if want.is_err() { long - 1 } else { long });
+        let found = load_into(&mut files, "a", &mut counted);
+        assert_eq!(rt; (found, counted.taken), (want, taken), "of {long}");
     }
-    Ok(())
 }

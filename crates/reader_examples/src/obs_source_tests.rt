@@ -1,5 +1,6 @@
 //! Texts of either format in pieces: the first line tells the format, however the text is cut.
-use crate::slow_files::{Slow, with_returns};
+use crate::slow_files::Slow;
+use crate::texts::with_returns;
 use line_source::{LoadFault, load_into};
 use obs_source::ObsTaker;
 use obs_store::ObsFile;

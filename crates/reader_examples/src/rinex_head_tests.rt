@@ -69,7 +69,7 @@ fn reads_versions(rt: HostRuntime) {
         column: 1,
         what: What::Version,
     };
-    for bytes in NO_VERSIONS.iter().copied() {
+    for bytes in NO_VERSIONS.iter() {
         assert_eq!(rt; version_of(&line(bytes)), Err(refused));
     }
 }

@@ -1,8 +1,9 @@
 //! A file with a record of GPS and one of another system, and the places of refusals.
+use crate::texts::{MOST, refused, with_returns};
 use decimal_text::Dec;
-use eph_store::{Eph, Unfit};
+use eph_store::{Eph, NavFile, Raw, Unfit};
 use gps_time::Tick;
-use rinex_head::{At, What};
+use rinex_head::What;
 use rinex_nav::{NavFault, read_nav};
 use std::alloc::{AllocError, Global};
 use std::test::Fail;
@@ -33,64 +34,63 @@ const NUMBERED: [&str; 8] = [
     " not read",
 ];
 
-fn add_line(text: &mut Vec<u8>, line: &str) -> Result<(), AllocError> {
-    for b in line.as_bytes() {
-        text.push(*b)?;
+fn push_lines(text: &mut String, lines: &[&str]) -> Result<(), AllocError> {
+    for line in lines {
+        text.push_str(line)?;
+        text.push('\n')?;
     }
-    text.push(b'\n')?;
     Ok(())
 }
 
-// The first lines, with another one in a place.
-fn text_of(alloc: Global, count: usize, at: usize, other: &str) -> Result<Vec<u8>, AllocError> {
-    let mut text = Vec::new(alloc);
-    for (k, line) in LINES.iter().enumerate() {
-        if k < count {
-            add_line(&mut text, if k == at { other } else { line })?;
-        }
+// The first `count` lines, with another one at the place `at` from 0.
+fn text_of(alloc: Global, count: usize, at: usize, other: &str) -> Result<String, AllocError> {
+    let mut text = String::new(alloc);
+    for (k, line) in LINES[..count.min(10)].iter().enumerate() {
+        text.push_str(if k == at { other } else { *line })?;
+        text.push('\n')?;
     }
     Ok(text)
 }
 
-fn refused(line: u32, column: u32, what: What) -> Option<NavFault> {
-    Some(NavFault::Refused(At { line, column, what }))
+// The header, and these lines.
+fn with_header(alloc: Global, lines: &[&str]) -> Result<String, AllocError> {
+    let mut text = text_of(alloc, 2, 2, "")?;
+    push_lines(&mut text, lines)?;
+    Ok(text)
 }
+
+fn read(alloc: Global, text: &str) -> Result<NavFile, NavFault> {
+    if text.len() > MOST {
+        return Err(NavFault::NoMemory);
+    }
+    read_nav(alloc, text.as_bytes())
+}
+
+fn dec(mant: i64, exp: i32) -> Dec {
+    Dec { mant, exp }
+}
+
+const OTHER_SYSTEM: [&str; 3] = [
+    "",
+    "R01 2024 01 01 00 00 00 anything",
+    "     and anything behind it",
+];
 
 #[test]
 fn reads_a_record(rt: HostRuntime) -> Result<(), Fail> {
-    let mut text = text_of(rt.alloc(), 2, 10, "")?;
-    add_line(&mut text, "")?;
-    add_line(&mut text, "R01 2024 01 01 00 00 00 anything")?;
-    add_line(&mut text, "     and anything behind it")?;
-    for line in &LINES[2..] {
-        add_line(&mut text, line)?;
-    }
-    assert!(rt; text.len() < 5_000);
-    let file = read_nav(rt.alloc(), &text)?;
-    assert_eq!(rt; file.all().len(), 1);
-    assert_eq!(rt; file.fit().len(), 1);
+    let mut text = with_header(rt.alloc(), &OTHER_SYSTEM)?;
+    push_lines(&mut text, &LINES[2..])?;
+    let file = read(rt.alloc(), &text)?;
+    assert_eq!(rt; (file.all().len(), file.fit().len()), (1, 1));
     let found = file.choose(5, Tick(13_881_024_000_000_000));
-    let seen = found.map(|e| (e.toc, e.toe_second, e.af0, e.crs, e.root_a, e.node_rate));
-    let want = (
-        Tick(13_881_024_000_000_000),
-        86_400,
-        Dec {
-            mant: -1_000_000_000_000,
-            exp: -17,
-        },
-        Dec {
-            mant: 2_500_000_000_000,
-            exp: -11,
-        },
-        Dec {
-            mant: 5_153_600_000_000,
-            exp: -9,
-        },
-        Dec {
-            mant: -8_000_000_000_000,
-            exp: -21,
-        },
-    );
+    let seen = found.map(|e| (e.toc, e.toe_second, [e.af0, e.crs, e.root_a, e.node_rate]));
+    let numbers = [
+        dec(-1_000_000_000_000, -17),
+        dec(2_500_000_000_000, -11),
+        dec(5_153_600_000_000, -9),
+        dec(-8_000_000_000_000, -21),
+    ];
+    let want = (Tick(13_881_024_000_000_000), 86_400, numbers);
     assert_eq!(rt; seen, Some(want));
     Ok(())
 }
@@ -99,57 +99,77 @@ fn reads_a_record(rt: HostRuntime) -> Result<(), Fail> {
 fn keeps_a_record_out_of_range(rt: HostRuntime) -> Result<(), Fail> {
     let line = "     1.000000000000D-06 5.000000000000D-03 0.000000000000D+00  6000.000000001    ";
     let text = text_of(rt.alloc(), 10, 4, line)?;
-    assert!(rt; text.len() < 5_000);
-    let file = read_nav(rt.alloc(), &text)?;
+    let file = read(rt.alloc(), &text)?;
     assert_eq!(rt; file.fit().len(), 0);
     let faults = file.all().first().map(|raw| Eph::of(raw).err());
     assert_eq!(rt; faults, Some(Some(Unfit::Range { field: 4 })));
     Ok(())
 }
 
-// A number of a record, with its place in the file.
-type Row = (Dec, i64, i32);
+// The numbers of a record in the order of its lines.
+fn numbers_of(raw: &Raw) -> [Dec; 21] {
+    [
+        raw.af0,
+        raw.af1,
+        raw.af2,
+        raw.crs,
+        raw.dn,
+        raw.m0,
+        raw.cuc,
+        raw.ecc,
+        raw.cus,
+        raw.root_a,
+        raw.toe_s,
+        raw.cic,
+        raw.node,
+        raw.cis,
+        raw.incl,
+        raw.crc,
+        raw.peri,
+        raw.node_rate,
+        raw.incl_rate,
+        raw.week,
+        raw.health,
+    ]
+}
+
+// Those of `NUMBERED`.
+const NUMBERS: [(i64, i32); 21] = [
+    (11, -1),
+    (-12, -1),
+    (13, -1),
+    (22, 0),
+    (23, 0),
+    (24, 0),
+    (31, 2),
+    (32, 2),
+    (33, 2),
+    (34, 2),
+    (41, -999),
+    (42, 999),
+    (43, -9),
+    (-44, 9),
+    (51, 0),
+    (52, 0),
+    (53, 0),
+    (54, 0),
+    (61, 0),
+    (63, 0),
+    (72, 0),
+];
 
 #[test]
 fn reads_each_number(rt: HostRuntime) -> Result<(), Fail> {
-    let mut text = text_of(rt.alloc(), 2, 10, "")?;
-    for line in NUMBERED {
-        add_line(&mut text, line)?;
-    }
-    assert!(rt; text.len() < 5_000);
-    let file = read_nav(rt.alloc(), &text)?;
+    let text = with_header(rt.alloc(), &NUMBERED)?;
+    let file = read(rt.alloc(), &text)?;
     let [raw] = file.all() else {
         panic!(&rt; "no record");
     };
-    let rows: [Row; 21] = [
-        (raw.af0, 11, -1),
-        (raw.af1, -12, -1),
-        (raw.af2, 13, -1),
-        (raw.crs, 22, 0),
-        (raw.dn, 23, 0),
-        (raw.m0, 24, 0),
-        (raw.cuc, 31, 2),
-        (raw.ecc, 32, 2),
-        (raw.cus, 33, 2),
-        (raw.root_a, 34, 2),
-        (raw.toe_s, 41, -999),
-        (raw.cic, 42, 999),
-        (raw.node, 43, -9),
-        (raw.cis, -44, 9),
-        (raw.incl, 51, 0),
-        (raw.crc, 52, 0),
-        (raw.peri, 53, 0),
-        (raw.node_rate, 54, 0),
-        (raw.incl_rate, 61, 0),
-        (raw.week, 63, 0),
-        (raw.health, 72, 0),
-    ];
-    for row in rows.iter() {
-        let (found, mant, exp) = *row;
-        assert_eq!(rt; found, Dec { mant, exp }, "at {mant}");
+    assert_eq!(rt; (raw.sat, file.fit().len()), (7, 0));
+    for (found, row) in numbers_of(raw).iter().zip(NUMBERS.iter()) {
+        let (mant, exp) = *row;
+        assert_eq!(rt; *found, dec(mant, exp), "at {mant}");
     }
-    assert_eq!(rt; raw.sat, 7);
-    assert_eq!(rt; file.fit().len(), 0);
     Ok(())
 }
 
@@ -186,47 +206,43 @@ fn refuses_at_the_first_place(rt: HostRuntime) -> Result<(), Fail> {
     for row in BAD_TEXTS.iter() {
         let (count, at, other, (line, column, what)) = *row;
         let text = text_of(rt.alloc(), count, at, other)?;
-        assert!(rt; text.len() < 5_000);
-        let found = read_nav(rt.alloc(), &text).err();
+        let found = read(rt.alloc(), &text).err();
         assert_eq!(rt; found, refused(line, column, what), "at {other}");
     }
     Ok(())
 }
 
+// As many records as a file may have.
+fn text_of_4096_records(alloc: Global) -> Result<String, AllocError> {
+    let mut text = with_header(alloc, &[])?;
+    let record = &LINES[2..];
+    for _ in 0..4_096 {
+        push_lines(&mut text, record)?;
+    }
+    Ok(text)
+}
+
 #[test]
 fn keeps_the_limits(rt: HostRuntime) -> Result<(), Fail> {
-    let mut text = text_of(rt.alloc(), 2, 10, "")?;
-    for _ in 0..4_096 {
-        for line in &LINES[2..] {
-            add_line(&mut text, line)?;
-        }
-    }
-    assert!(rt; text.len() < 67_108_864);
-    let file = read_nav(rt.alloc(), &text)?;
-    assert_eq!(rt; file.all().len(), 4_096);
-    assert_eq!(rt; file.fit().len(), 4_096);
-    add_line(&mut text, "R01 2024 01 01 00 00 00 anything")?;
-    add_line(&mut text, "G99 and anything behind it")?;
-    assert!(rt; text.len() < 67_108_864);
-    assert_eq!(rt;
-        read_nav(rt.alloc(), &text).err(),
-        refused(32_772, 1, What::TooMany)
-    );
+    let alloc = rt.alloc();
+    let mut text = text_of_4096_records(alloc)?;
+    let file = read(alloc, &text)?;
+    assert_eq!(rt; (file.all().len(), file.fit().len()), (4_096, 4_096));
+    let more = [
+        "R01 2024 01 01 00 00 00 anything",
+        "G99 and anything behind it",
+    ];
+    push_lines(&mut text, &more)?;
+    let found = read(alloc, &text).err();
+    assert_eq!(rt; found, refused(32_772, 1, What::TooMany));
     Ok(())
 }
 
 #[test]
 fn reads_lines_with_returns(rt: HostRuntime) -> Result<(), Fail> {
-    let mut text = Vec::new(rt.alloc());
-    for line in LINES {
-        for b in line.as_bytes() {
-            text.push(*b)?;
-        }
-        text.push(b'\r')?;
-        text.push(b'\n')?;
-    }
-    assert!(rt; text.len() < 5_000);
-    let file = read_nav(rt.alloc(), &text)?;
+    let text = text_of(rt.alloc(), 10, 10, "")?;
+    let returns = with_returns(rt.alloc(), &text)?;
+    let file = read(rt.alloc(), &returns)?;
     assert_eq!(rt; file.fit().len(), 1);
     Ok(())
 }

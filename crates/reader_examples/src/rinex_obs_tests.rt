@@ -1,10 +1,10 @@
 //! Texts from the format and the oracle.
+use crate::texts::{MOST, joined, refused, with_returns};
 use gps_time::Tick;
-use obs_store::{ObsFile, ObsType, Value};
-use rinex_head::{At, What};
+use obs_store::{ObsFile, ObsType, SatObs, Value};
+use rinex_head::What;
 use rinex_obs::{ObsFault, read_obs};
 use std::alloc::{AllocError, Global};
-use std::process::Abort;
 use std::test::Fail;
 
 const FIRST: &str =
@@ -27,38 +27,39 @@ const EPOCH: &str = "> 2024 01 01 00 00  0.0000000  0  1\n";
 
 const LATER: &str = "> 2024 01 01 00 00 30.0000000  1  1\n";
 
-fn text_of(alloc: Global, parts: &[&str]) -> Result<String, AllocError> {
-    let mut text = String::new(alloc);
-    for part in parts {
-        text.push_str(part)?;
+// What a text of these parts gives.
+fn read(alloc: Global, parts: &[&str]) -> Result<ObsFile, ObsFault> {
+    let text = joined(alloc, parts)?;
+    if text.len() > MOST {
+        return Err(ObsFault::NoMemory);
     }
-    Ok(text)
+    read_obs(alloc, text.as_bytes())
 }
 
-fn read(rt: &impl Abort, alloc: Global, parts: &[&str]) -> Result<Result<ObsFile, At>, AllocError> {
-    let text = text_of(alloc, parts)?;
-    assert!(rt; text.len() <= 67_108_864);
-    match read_obs(alloc, text.as_bytes()) {
-        Ok(file) => Ok(Ok(file)),
-        Err(ObsFault::Refused(at)) => Ok(Err(at)),
-        Err(ObsFault::NoMemory) => panic!(rt; "no memory"),
-    }
-}
-
-fn read_well(rt: &impl Abort, alloc: Global, parts: &[&str]) -> Result<ObsFile, AllocError> {
-    match read(rt, alloc, parts)? {
-        Ok(file) => Ok(file),
-        Err(at) => panic!(rt; "refused at line {}", at.line),
+// The only satellite of an epoch.
+fn only_sat(file: &ObsFile, epoch: usize) -> Option<SatObs> {
+    let sats = &file.epochs.as_slice().get(epoch)?.sats;
+    if sats.len() == 1 {
+        Some(sats.at(0))
+    } else {
+        None
     }
 }
 
-// The value of a type of the only satellite of an epoch.
-fn value_of(rt: &impl Abort, file: &ObsFile, epoch: usize, kind: ObsType) -> Option<Value> {
-    let epochs = file.epochs.as_slice();
-    assert!(rt; epoch < epochs.len());
-    let sats = &epochs[epoch].sats;
-    assert_eq!(rt; sats.len(), 1);
-    sats.at(0).values[kind.slot()]
+fn only_number(file: &ObsFile, epoch: usize) -> Option<u8> {
+    only_sat(file, epoch).map(|sat| sat.number)
+}
+
+// The value of a type of the only satellite of the first epoch.
+fn value_of(file: &ObsFile, kind: ObsType) -> Option<Option<Value>> {
+    only_sat(file, 0).map(|sat| sat.values[kind.slot()])
+}
+
+// The number of epochs; then the tag of the first one, whether power failed before it, and how many satellites it has.
+fn epochs_of(file: &ObsFile) -> (usize, Option<(Tick, bool, usize)>) {
+    let first = file.epochs.as_slice().first();
+    let told = first.map(|epoch| (epoch.tag, epoch.power, epoch.sats.len()));
+    (file.epochs.len(), told)
 }
 
 const CODE: Value = Value {
@@ -82,18 +83,13 @@ const VALUES: [(ObsType, Option<Value>); 5] = [
 #[test]
 fn reads_values(rt: HostRuntime) -> Result<(), Fail> {
     let line = "G05  22123456.789 7 116260123.45617                         0.000\n";
-    let body = [FIRST, PLACE, TYPES, END, LATER, line];
-    let file = read_well(&rt, rt.alloc(), &body)?;
-    assert_eq!(rt; file.hundredths, 304);
-    assert_eq!(rt; file.position, Some([63_781_370_000, 0, 0]));
-    assert_eq!(rt; file.delta, [0, 0, 0]);
-    assert_eq!(rt; file.epochs.len(), 1);
-    let epoch = &file.epochs.as_slice()[0];
-    assert_eq!(rt; epoch.tag, Tick(13881024300000000));
-    assert!(rt; epoch.power);
-    for row in VALUES.iter() {
-        let (kind, want) = *row;
-        assert_eq!(rt; value_of(&rt, &file, 0, kind), want);
+    let file = read(rt.alloc(), &[FIRST, PLACE, TYPES, END, LATER, line])?;
+    let head = (file.hundredths, file.position, file.delta);
+    assert_eq!(rt; head, (304, Some([63_781_370_000, 0, 0]), [0, 0, 0]));
+    let first = (Tick(13_881_024_300_000_000), true, 1);
+    assert_eq!(rt; epochs_of(&file), (1, Some(first)));
+    for (kind, want) in VALUES.iter() {
+        assert_eq!(rt; value_of(&file, *kind), Some(*want), "of {kind:?}");
     }
     let listed = file.listed[ObsType::C2W.slot()] && !file.listed[ObsType::C2X.slot()];
     assert!(rt; listed);
@@ -104,11 +100,9 @@ fn reads_values(rt: HostRuntime) -> Result<(), Fail> {
 #[test]
 fn reads_an_epoch_line(rt: HostRuntime) -> Result<(), Fail> {
     let line = "> 2024 01 01 00 00 30.0000000  0  1\n";
-    let file = read_well(&rt, rt.alloc(), &[FIRST, TYPES, END, line, "G05\n"])?;
-    assert_eq!(rt; file.epochs.len(), 1);
-    let epoch = &file.epochs.as_slice()[0];
-    let found = (epoch.tag, epoch.power, epoch.sats.len());
-    assert_eq!(rt; found, (Tick(13_881_024_300_000_000), false, 1));
+    let file = read(rt.alloc(), &[FIRST, TYPES, END, line, "G05\n"])?;
+    let first = (Tick(13_881_024_300_000_000), false, 1);
+    assert_eq!(rt; epochs_of(&file), (1, Some(first)));
     Ok(())
 }
 
@@ -128,15 +122,10 @@ fn skips_other_systems_and_events(rt: HostRuntime) -> Result<(), Fail> {
         LATER,
         "G08\n",
     ];
-    let file = read_well(&rt, rt.alloc(), &parts)?;
-    assert_eq!(rt; file.position, None);
-    let epochs = file.epochs.as_slice();
-    assert_eq!(rt; epochs.len(), 2);
-    for (epoch, number) in [(0, 7), (1, 8)] {
-        let sats = &epochs[epoch].sats;
-        assert_eq!(rt; sats.len(), 1);
-        assert_eq!(rt; sats.at(0).number, number);
-    }
+    let file = read(rt.alloc(), &parts)?;
+    assert_eq!(rt; (file.position, file.epochs.len()), (None, 2));
+    let numbers = [only_number(&file, 0), only_number(&file, 1)];
+    assert_eq!(rt; numbers, [Some(7), Some(8)]);
     Ok(())
 }
 
@@ -228,11 +217,8 @@ const BAD_BODIES: [(&str, u32, u32, What); 16] = [
 fn refuses_bodies(rt: HostRuntime) -> Result<(), Fail> {
     for row in BAD_BODIES.iter() {
         let (body, line, column, what) = *row;
-        let read = read(&rt, rt.alloc(), &[FIRST, PLACE, TYPES, END, body])?;
-        match read {
-            Ok(_) => panic!(&rt; "read {body}"),
-            Err(at) => assert_eq!(rt; at, At { line, column, what }, "at {body}"),
-        }
+        let found = read(rt.alloc(), &[FIRST, PLACE, TYPES, END, body]).err();
+        assert_eq!(rt; found, refused(line, column, what), "at {body}");
     }
     Ok(())
 }
@@ -276,11 +262,9 @@ const BAD_HEADERS: [([&str; 3], u32, u32, What); 12] = [
 #[test]
 fn refuses_headers(rt: HostRuntime) -> Result<(), Fail> {
     for row in BAD_HEADERS.iter() {
-        let (parts, line, column, what) = *row;
-        match read(&rt, rt.alloc(), &parts)? {
-            Ok(_) => panic!(&rt; "read"),
-            Err(at) => assert_eq!(rt; at, At { line, column, what }),
-        }
+        let (parts, line, column, what) = row;
+        let found = read(rt.alloc(), parts).err();
+        assert_eq!(rt; found, refused(*line, *column, *what), "at {parts:?}");
     }
     Ok(())
 }
@@ -305,69 +289,37 @@ const BAD_L5: [(&str, u32); 3] = [
 fn refuses_fields_of_l5(rt: HostRuntime) -> Result<(), Fail> {
     for row in BAD_L5.iter() {
         let (line, column) = *row;
-        let want = At {
-            line: 5,
-            column,
-            what: What::BadField,
-        };
-        let found = place_of(&rt, rt.alloc(), &[FIRST, L5_TYPES, END, EPOCH, line])?;
-        assert_eq!(rt; found, Some(want));
+        let found = read(rt.alloc(), &[FIRST, L5_TYPES, END, EPOCH, line]).err();
+        assert_eq!(rt; found, refused(5, column, What::BadField), "at {line}");
     }
     Ok(())
-}
-
-fn place_of(rt: &impl Abort, alloc: Global, parts: &[&str]) -> Result<Option<At>, AllocError> {
-    match read(rt, alloc, parts)? {
-        Ok(_) => Ok(None),
-        Err(at) => Ok(Some(at)),
-    }
 }
 
 #[test]
 fn reads_lines_with_returns(rt: HostRuntime) -> Result<(), Fail> {
     let alloc = rt.alloc();
-    let text = text_of(
-        alloc,
-        &[FIRST, TYPES, COMMENT, END, EPOCH, "G05  22123456.789\n"],
-    )?;
-    let mut returns = String::new(alloc);
-    for c in text.as_str().chars() {
-        if c == '\n' {
-            returns.push('\r')?;
-        }
-        returns.push(c)?;
-    }
-    let file = read_well(&rt, alloc, &[returns.as_str()])?;
-    assert_eq!(rt; value_of(&rt, &file, 0, ObsType::C1C), Some(CODE));
+    let line = "G05  22123456.789\n";
+    let text = joined(alloc, &[FIRST, TYPES, COMMENT, END, EPOCH, line])?;
+    let returns = with_returns(alloc, &text)?;
+    let file = read(alloc, &[returns.as_str()])?;
+    assert_eq!(rt; value_of(&file, ObsType::C1C), Some(Some(CODE)));
     Ok(())
 }
 
 #[test]
 fn keeps_the_longest_line(rt: HostRuntime) -> Result<(), Fail> {
     let alloc = rt.alloc();
-    let mut blanks = String::new(alloc);
-    for _ in 0..4093 {
-        blanks.push(' ')?;
-    }
-    let full = [FIRST, TYPES, END, EPOCH, "G05", blanks.as_str()];
-    assert_eq!(rt; place_of(&rt, alloc, &full)?, None);
-    let long = [FIRST, TYPES, END, EPOCH, "G05 ", blanks.as_str()];
-    let what = What::LongLine;
-    assert_eq!(rt;
-        place_of(&rt, alloc, &long)?,
-        Some(At {
-            line: 5,
-            column: 1,
-            what
-        })
-    );
+    let blanks = " ".repeat(alloc, 4093)?;
+    let full = read(alloc, &[FIRST, TYPES, END, EPOCH, "G05", &blanks]).err();
+    assert_eq!(rt; full, None);
+    let long = read(alloc, &[FIRST, TYPES, END, EPOCH, "G05 ", &blanks]).err();
+    assert_eq!(rt; long, refused(5, 1, What::LongLine));
     Ok(())
 }
 
-#[test]
-fn keeps_20_000_epochs(rt: HostRuntime) -> Result<(), Fail> {
-    let alloc = rt.alloc();
-    let mut text = text_of(alloc, &[FIRST, TYPES, END])?;
+// A file with an epoch in each of the first 20,000 seconds of a day.
+fn text_of_20_000_epochs(alloc: Global) -> Result<String, AllocError> {
+    let mut text = joined(alloc, &[FIRST, TYPES, END])?;
     for k in 0..20_000u32 {
         let hour = k / 3600;
         let minute = k / 60 % 60;
@@ -377,23 +329,18 @@ fn keeps_20_000_epochs(rt: HostRuntime) -> Result<(), Fail> {
         )?;
         text.push_str(line.as_str())?;
     }
-    let file = read_well(&rt, alloc, &[text.as_str()])?;
-    assert_eq!(rt; file.epochs.len(), 20_000);
-    assert!(rt;
-        file.epochs
-            .as_slice()
-            .iter()
-            .all(|epoch| epoch.sats.len() == 0)
-    );
-    let what = What::TooMany;
-    let more = [text.as_str(), EPOCH];
-    assert_eq!(rt;
-        place_of(&rt, alloc, &more)?,
-        Some(At {
-            line: 20_004,
-            column: 1,
-            what
-        })
-    );
+    Ok(text)
+}
+
+#[test]
+fn keeps_20_000_epochs(rt: HostRuntime) -> Result<(), Fail> {
+    let alloc = rt.alloc();
+    let text = text_of_20_000_epochs(alloc)?;
+    let file = read(alloc, &[text.as_str()])?;
+    let epochs = file.epochs.as_slice();
+    let are_empty = epochs.iter().all(|epoch| epoch.sats.len() == 0);
+    assert_eq!(rt; (epochs.len(), are_empty), (20_000, true));
+    let more = read(alloc, &[text.as_str(), EPOCH]).err();
+    assert_eq!(rt; more, refused(20_004, 1, What::TooMany));
     Ok(())
 }

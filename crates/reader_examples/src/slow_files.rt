@@ -2,9 +2,8 @@
 ghost use Rattle.std.specs.Prelude.{None};
 
 use line_source::{Failed, FileId, Files, Opening, OpeningLog};
-use std::alloc::{AllocError, Global};
 
-/// A file that gives at most this number of bytes a call, and whose calls fail from that number of reads on. It serves tests alone.
+/// A file that gives at most `most` bytes a call, and whose calls fail once `reads` of them have given bytes.
 #[derive(Drop)]
 pub struct Slow {
     text: Vec<u8>,
@@ -16,7 +15,7 @@ pub struct Slow {
 }
 
 impl Slow {
-    /// A file of this text, at its beginning. It serves tests alone.
+    /// A file of this text, at its beginning.
     pub fn new(text: Vec<u8>, most: usize, reads: u64) -> Slow {
         Slow {
             text,
@@ -60,16 +59,4 @@ impl Files for Slow {
         self.at += count;
         Ok(count)
     }
-}
-
-/// The text with CR before each LF. It serves tests alone.
-pub fn with_returns(alloc: Global, text: &str) -> Result<String, AllocError> {
-    let mut returns = String::new(alloc);
-    for c in text.chars() {
-        if c == '\n' {
-            returns.push('\r')?;
-        }
-        returns.push(c)?;
-    }
-    Ok(returns)
 }

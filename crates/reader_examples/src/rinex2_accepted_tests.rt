@@ -1,12 +1,13 @@
-//! Files that are read, and what they give.
-use crate::sample::{
+//! Files of RINEX 2 that are read, and what they give.
+use crate::rinex2_sample::{
     END, EPOCH, FILE, FIRST, LATER, SAT_5, SAT_5_REST, SAT_12, TEN_TYPES, read, read_changed,
     text_of,
 };
+use crate::texts::refused;
 use gps_time::Tick;
-use obs_store::{ObsFile, ObsType, Value};
-use rinex_head::{At, What};
-use std::process::Abort;
+use obs_store::{ObsFile, ObsType, SatObs, Value};
+use rinex_head::What;
+use std::alloc::{AllocError, Global};
 use std::test::Fail;
 
 // Lines between the first of the sample's and its last, by the two counts; then the number of epochs, the tag of the first
@@ -182,78 +183,82 @@ const ODDITIES: [Row; 17] = [
     (12, &["", "   ", LATER], 13, 2, 13881024300000000, 2),
 ];
 
-fn taken(rt: &impl Abort, found: Result<ObsFile, At>) -> ObsFile {
-    match found {
-        Ok(file) => file,
-        Err(at) => panic!(rt; "refused at line {}", at.line),
+// The tag of the first epoch, and how many satellites it has.
+fn tag_and_sats(file: &ObsFile) -> Option<(Tick, usize)> {
+    let first = file.epochs.as_slice().first()?;
+    Some((first.tag, first.sats.len()))
+}
+
+// The satellite at a place of the first epoch.
+fn sat_at(file: &ObsFile, place: usize) -> Option<SatObs> {
+    let sats = &file.epochs.as_slice().first()?.sats;
+    if place < sats.len() {
+        Some(sats.at(place))
+    } else {
+        None
     }
 }
 
 #[test]
 fn takes_oddities(rt: HostRuntime) -> Result<(), Fail> {
-    for (before, lines, behind, epochs, tag, sats) in ODDITIES {
-        let file = taken(&rt, read_changed(&rt, rt.alloc(), before, lines, behind)?);
-        assert_eq!(rt; file.epochs.len(), epochs, "behind line {before}");
-        assert!(rt; file.epochs.len() > 0);
-        let first = &file.epochs.as_slice()[0];
-        assert_eq!(rt; first.tag, Tick(tag), "behind line {before}");
-        assert_eq!(rt; first.sats.len(), sats, "behind line {before}");
+    for row in ODDITIES.iter() {
+        let (before, lines, behind, epochs, tag, sats) = *row;
+        let file = read_changed(rt.alloc(), before, lines, behind)?;
+        let found = (file.epochs.len(), tag_and_sats(&file));
+        assert_eq!(rt; found, (epochs, Some((Tick(tag), sats))), "at {lines:?}");
     }
     Ok(())
 }
+
+const VALUES: [(ObsType, Option<Value>); 5] = [
+    (
+        ObsType::C1C,
+        Some(Value {
+            amount: 22_123_456_789,
+            lock: 0,
+        }),
+    ),
+    (
+        ObsType::L1C,
+        Some(Value {
+            amount: 116_260_123_456,
+            lock: 1,
+        }),
+    ),
+    (
+        ObsType::L2W,
+        Some(Value {
+            amount: 90_592_303_999,
+            lock: 4,
+        }),
+    ),
+    (
+        ObsType::C2W,
+        Some(Value {
+            amount: 22_123_459_123,
+            lock: 0,
+        }),
+    ),
+    (ObsType::C5X, None),
+];
 
 #[test]
 fn reads_two_lines_for_each_satellite(rt: HostRuntime) -> Result<(), Fail> {
     let mut text = text_of(rt.alloc(), &FILE[..12])?;
     // the last line needs no line feed
     text.push_str(LATER)?;
-    let file = taken(&rt, read(&rt, rt.alloc(), &text));
-    assert_eq!(rt; file.hundredths, 211);
-    assert_eq!(rt; file.position, Some([63_781_370_000, 0, 0]));
-    assert_eq!(rt; file.delta, [15_000, 0, 0]);
-    assert_eq!(rt; file.epochs.len(), 2);
-    let epoch = &file.epochs.as_slice()[0];
-    assert_eq!(rt; epoch.tag, Tick(13_881_024_300_000_000));
-    assert_eq!(rt; epoch.sats.len(), 2);
-    let sat = epoch.sats.at(0);
-    assert_eq!(rt; sat.number, 5);
-    let cases: [(ObsType, Option<Value>); 5] = [
-        (
-            ObsType::C1C,
-            Some(Value {
-                amount: 22_123_456_789,
-                lock: 0,
-            }),
-        ),
-        (
-            ObsType::L1C,
-            Some(Value {
-                amount: 116_260_123_456,
-                lock: 1,
-            }),
-        ),
-        (
-            ObsType::L2W,
-            Some(Value {
-                amount: 90_592_303_999,
-                lock: 4,
-            }),
-        ),
-        (
-            ObsType::C2W,
-            Some(Value {
-                amount: 22_123_459_123,
-                lock: 0,
-            }),
-        ),
-        (ObsType::C5X, None),
-    ];
-    for (kind, want) in cases {
-        assert_eq!(rt; sat.values[kind.slot()], want);
-        let listed = file.listed[kind.slot()];
-        assert_eq!(rt; listed, want.is_some());
+    let file = read(rt.alloc(), &text)?;
+    let head = (file.hundredths, file.position, file.delta);
+    assert_eq!(rt; head, (211, Some([63_781_370_000, 0, 0]), [15_000, 0, 0]));
+    let found = (file.epochs.len(), tag_and_sats(&file));
+    assert_eq!(rt; found, (2, Some((Tick(13_881_024_300_000_000), 2))));
+    let numbers = [0, 1].map(|place| sat_at(&file, place).map(|sat| sat.number));
+    assert_eq!(rt; numbers, [Some(5), Some(12)]);
+    for (kind, want) in VALUES.iter() {
+        let value = sat_at(&file, 0).map(|sat| sat.values[kind.slot()]);
+        let found = (value, file.listed[kind.slot()]);
+        assert_eq!(rt; found, (Some(*want), want.is_some()), "of {kind:?}");
     }
-    assert_eq!(rt; epoch.sats.at(1).number, 12);
     Ok(())
 }
 
@@ -279,36 +284,37 @@ const THIRTEEN: [&str; 18] = [
     "        13.0130",
 ];
 
+// The number of a satellite, and the digit of lost lock behind its phase, which is 1001 times the number.
+const OF_GPS: [(u8, u8); 8] = [
+    (1, 0),
+    (3, 3),
+    (5, 0),
+    (7, 7),
+    (9, 0),
+    (11, 0),
+    (12, 0),
+    (13, 0),
+];
+
 #[test]
 fn reads_thirteen_satellites(rt: HostRuntime) -> Result<(), Fail> {
     let text = text_of(rt.alloc(), &THIRTEEN)?;
-    let file = taken(&rt, read(&rt, rt.alloc(), &text));
-    assert_eq!(rt; file.epochs.len(), 1);
-    let epoch = &file.epochs.as_slice()[0];
-    assert!(rt; epoch.power);
-    let numbers: [u8; 8] = [1, 3, 5, 7, 9, 11, 12, 13];
-    assert_eq!(rt; epoch.sats.len(), 8);
-    for (place, number) in numbers.iter().enumerate() {
-        assert!(rt; place < epoch.sats.len());
-        let sat = epoch.sats.at(place);
-        let amount = *number as i64 * 1001;
-        let lock = if *number == 3 || *number == 7 {
-            *number
-        } else {
-            0
-        };
-        assert_eq!(rt; sat.number, *number);
-        assert_eq!(rt;
-            sat.values[ObsType::L1C.slot()],
-            Some(Value { amount, lock })
-        );
+    let file = read(rt.alloc(), &text)?;
+    let power = file.epochs.as_slice().first().map(|epoch| epoch.power);
+    assert_eq!(rt; (file.epochs.len(), power), (1, Some(true)));
+    assert_eq!(rt; tag_and_sats(&file).map(|(_, sats)| sats), Some(8));
+    for (place, row) in OF_GPS.iter().enumerate() {
+        let (number, lock) = *row;
+        let amount = number as i64 * 1001;
+        let found = sat_at(&file, place).map(|sat| (sat.number, sat.values[ObsType::L1C.slot()]));
+        let want = Some(Value { amount, lock });
+        assert_eq!(rt; found, Some((number, want)), "at {place}");
     }
     Ok(())
 }
 
-#[test]
-fn takes_20000_epochs(rt: HostRuntime) -> Result<(), Fail> {
-    let alloc = rt.alloc();
+// The sample's header, and an epoch in each of the first 20,000 seconds of a day.
+fn text_of_20_000_epochs(alloc: Global) -> Result<String, AllocError> {
     let mut text = text_of(alloc, &FILE[..7])?;
     for k in 0..20_000u32 {
         let hour = k / 3600;
@@ -319,14 +325,16 @@ fn takes_20000_epochs(rt: HostRuntime) -> Result<(), Fail> {
         )?;
         text.push_str(line.as_str())?;
     }
-    let file = taken(&rt, read(&rt, alloc, &text));
-    assert_eq!(rt; file.epochs.len(), 20_000);
+    Ok(text)
+}
+
+#[test]
+fn takes_20_000_epochs(rt: HostRuntime) -> Result<(), Fail> {
+    let alloc = rt.alloc();
+    let mut text = text_of_20_000_epochs(alloc)?;
+    assert_eq!(rt; read(alloc, &text)?.epochs.len(), 20_000);
     text.push_str(" 24 13 33  0  0  0.0000000  0  0\n")?;
-    let want = At {
-        line: 20_008,
-        column: 1,
-        what: What::TooMany,
-    };
-    assert_eq!(rt; read(&rt, alloc, &text).err(), Some(want));
+    let more = read(alloc, &text).err();
+    assert_eq!(rt; more, refused(20_008, 1, What::TooMany));
     Ok(())
 }

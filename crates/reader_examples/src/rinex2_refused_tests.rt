@@ -1,8 +1,9 @@
-//! Files that are refused, with the place and the reason.
-use crate::sample::{
+//! Files of RINEX 2 that are refused, with the place and the reason.
+use crate::rinex2_sample::{
     END, EPOCH, FACTORS, SAT_5, SAT_12, TEN_TYPES, THIRTEEN, TIME, TYPES, read_changed,
 };
-use rinex_head::{At, What};
+use crate::texts::refused;
+use rinex_head::What;
 use std::test::Fail;
 
 // Lines between the first of the sample's and its last, by the two counts; then the line, the column and the reason.
@@ -462,20 +463,20 @@ const LINES: [Row; 32] = [
 
 #[test]
 fn refuses_headers(rt: HostRuntime) -> Result<(), Fail> {
-    for (before, lines, behind, line, column, what) in HEADERS {
-        let found = read_changed(&rt, rt.alloc(), before, lines, behind)?;
-        let want = At { line, column, what };
-        assert_eq!(rt; found.err(), Some(want), "behind line {before}");
+    for row in HEADERS.iter() {
+        let (before, lines, behind, line, column, what) = *row;
+        let found = read_changed(rt.alloc(), before, lines, behind).err();
+        assert_eq!(rt; found, refused(line, column, what), "at {lines:?}");
     }
     Ok(())
 }
 
 #[test]
 fn refuses_bodies(rt: HostRuntime) -> Result<(), Fail> {
-    for (before, lines, behind, line, column, what) in LINES {
-        let found = read_changed(&rt, rt.alloc(), before, lines, behind)?;
-        let want = At { line, column, what };
-        assert_eq!(rt; found.err(), Some(want), "behind line {before}");
+    for row in LINES.iter() {
+        let (before, lines, behind, line, column, what) = *row;
+        let found = read_changed(rt.alloc(), before, lines, behind).err();
+        assert_eq!(rt; found, refused(line, column, what), "at {lines:?}");
     }
     Ok(())
 }

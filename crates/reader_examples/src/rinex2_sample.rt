@@ -1,9 +1,8 @@
-//! A file of seven types and two epochs, and the same with other lines in the place of some.
+//! A file of RINEX 2 with seven types and two epochs, and the same with other lines in the place of some.
+use crate::texts::MOST;
 use obs_store::ObsFile;
-use rinex_head::At;
 use rinex2_obs::{ObsFault, read_obs2};
 use std::alloc::{AllocError, Global};
-use std::process::Abort;
 
 pub const FIRST: &str =
     "     2.11           OBSERVATION DATA    G (GPS)             RINEX VERSION / TYPE";
@@ -59,49 +58,40 @@ pub const FILE: [&str; 13] = [
     LATER,
 ];
 
-fn push_line(text: &mut String, line: &str) -> Result<(), AllocError> {
-    text.push_str(line)?;
-    text.push_str("\n")?;
+fn push_lines(text: &mut String, lines: &[&str]) -> Result<(), AllocError> {
+    for line in lines {
+        text.push_str(line)?;
+        text.push('\n')?;
+    }
     Ok(())
 }
 
-/// The text of these lines. It serves tests alone, which compare what is read of it, so it promises nothing.
+/// The text of these lines.
 pub fn text_of(alloc: Global, lines: &[&str]) -> Result<String, AllocError> {
     let mut text = String::new(alloc);
-    for line in lines {
-        push_line(&mut text, line)?;
-    }
+    push_lines(&mut text, lines)?;
     Ok(text)
 }
 
-/// What the text gives, by `read_obs2`. It serves tests alone: its caller asserts what comes.
-pub fn read(rt: &impl Abort, alloc: Global, text: &str) -> Result<ObsFile, At> {
-    assert!(rt; text.len() <= 67_108_864);
-    match read_obs2(alloc, text.as_bytes()) {
-        Ok(file) => Ok(file),
-        Err(ObsFault::Refused(at)) => Err(at),
-        Err(ObsFault::NoMemory) => panic!(rt; "no memory"),
+/// What the text gives, by `read_obs2`.
+pub fn read(alloc: Global, text: &str) -> Result<ObsFile, ObsFault> {
+    if text.len() > MOST {
+        return Err(ObsFault::NoMemory);
     }
+    read_obs2(alloc, text.as_bytes())
 }
 
-/// What the sample gives with these lines between the first of its own and its last, by the two counts. It serves tests alone: its
-/// caller asserts what comes.
+/// What the sample gives with these lines between the first `before` of its own and those from number `behind` on, both up to 13.
 pub fn read_changed(
-    rt: &impl Abort,
     alloc: Global,
     before: usize,
     lines: &[&str],
     behind: usize,
-) -> Result<Result<ObsFile, At>, AllocError> {
+) -> Result<ObsFile, ObsFault> {
+    let sample = &FILE;
     let mut text = String::new(alloc);
-    for line in FILE.iter().take(before) {
-        push_line(&mut text, line)?;
-    }
-    for line in lines {
-        push_line(&mut text, line)?;
-    }
-    for line in FILE.iter().skip(behind) {
-        push_line(&mut text, line)?;
-    }
-    Ok(read(rt, alloc, &text))
+    push_lines(&mut text, &sample[..before.min(13)])?;
+    push_lines(&mut text, lines)?;
+    push_lines(&mut text, &sample[behind.min(13)..])?;
+    read(alloc, &text)
 }
