@@ -1,11 +1,12 @@
 //! Eccentric anomalies as mpmath gives them.
 use iv_core::Iv;
 use kepler_box::{Anomaly, anomaly_box, anomaly_by_steps};
-use std::test::Fail;
 
 // A mean anomaly in units of 2^-56 and an eccentricity in units of 2^-60; then the solution as mpmath gives it, rounded
 // down: the angle in units of 2^-56, its cosine and its sine in units of 2^-60.
-const SOLUTIONS: [(i64, i64, i64, i64, i64); 27] = [
+type Solution = (i64, i64, i64, i64, i64);
+
+static SOLUTIONS: [Solution; 27] = [
     (0, 0, 0, 1152921504606846976, 0),
     (0, 36028797018963968, 0, 1152921504606846976, 0),
     (1, 36028797018963968, 1, 1152921504606846975, 16),
@@ -178,37 +179,65 @@ fn is_around<const K: u32>(b: &Iv<K>, value: i64) -> bool {
     b.lo() <= value && value < b.hi()
 }
 
-#[test]
-fn solutions(rt: HostRuntime) -> Result<(), Fail> {
-    for (m, e, angle, cos, sin) in SOLUTIONS {
-        assert!(rt; -(12 << 56) <= m && m <= 12 << 56);
-        assert!(rt; 0 <= e && e <= 1 << 55);
-        let found = anomaly_box(&Iv::point(m)?, &Iv::point(e)?);
-        assert!(rt; is_around(&found.angle, angle), "the angle at {m} and {e}");
-        assert!(rt; is_around(&found.cos, cos), "the cosine at {m} and {e}");
-        assert!(rt; is_around(&found.sin, sin), "the sine at {m} and {e}");
+// What of a solution isn't held.
+fn held_fault(found: &Anomaly, angle: i64, cos: i64, sin: i64) -> Option<&'static str> {
+    if !is_around(&found.angle, angle) {
+        Some("the angle")
+    } else if !is_around(&found.cos, cos) {
+        Some("the cosine")
+    } else if !is_around(&found.sin, sin) {
+        Some("the sine")
+    } else {
+        None
     }
-    Ok(())
+}
+
+// What of a row isn't held.
+fn box_fault(row: &Solution) -> Option<&'static str> {
+    let (m, e, angle, cos, sin) = *row;
+    if m < -(12 << 56) || m > 12 << 56 || e < 0 || e > 1 << 55 {
+        return Some("out of range");
+    }
+    let found = anomaly_box(&Iv::from_ends(m, m), &Iv::from_ends(e, e));
+    held_fault(&found, angle, cos, sin)
 }
 
 #[test]
-fn at_perigee(rt: HostRuntime) -> Result<(), Fail> {
-    for e in [0, 1 << 55] {
-        assert!(rt; 0 <= e && e <= 1 << 55);
-        let found = anomaly_box(&Iv::point(0)?, &Iv::point(e)?);
-        assert!(rt; is_around(&found.angle, 0));
-        assert!(rt; is_around(&found.cos, 1 << 60));
-        assert!(rt; is_around(&found.sin, 0));
-        assert!(rt; found.angle.width() <= 1 << 6);
-        assert!(rt; found.cos.width() <= 1 << 11);
-        assert!(rt; found.sin.width() <= 1 << 11);
+fn solutions(rt: HostRuntime) {
+    for row in SOLUTIONS.iter() {
+        assert_eq!(rt; box_fault(row), None, "at {} and {}", row.0, row.1);
     }
-    Ok(())
+}
+
+// What of the solution at perigee isn't held, or wider than it may be.
+fn perigee_fault(e: i64) -> Option<&'static str> {
+    if e < 0 || e > 1 << 55 {
+        return Some("out of range");
+    }
+    let found = anomaly_box(&Iv::from_ends(0, 0), &Iv::from_ends(e, e));
+    if found.angle.width() > 1 << 6 || found.cos.width() > 1 << 11 || found.sin.width() > 1 << 11 {
+        return Some("width");
+    }
+    held_fault(&found, 0, 1 << 60, 0)
+}
+
+#[test]
+fn at_perigee(rt: HostRuntime) {
+    for e in [0, 1 << 55] {
+        assert_eq!(rt; perigee_fault(e), None, "at {e}");
+    }
 }
 
 // The solutions at the corners of boxes that are as wide as they may be.
+static CORNERS: [(i64, i64, i64); 4] = [
+    (863450334112961750, 962101242349952028, -635286703192814155),
+    (863450334112961750, 962101242349952028, -635286703192814156),
+    (863450334112961767, 962101242349952172, -635286703192813936),
+    (863450334112961767, 962101242349952173, -635286703192813935),
+];
+
 #[test]
-fn widest(rt: HostRuntime) -> Result<(), Fail> {
+fn widest(rt: HostRuntime) {
     let m = Iv {
         lo: (12 << 56) - 16,
         hi: 12 << 56,
@@ -218,44 +247,29 @@ fn widest(rt: HostRuntime) -> Result<(), Fail> {
         hi: 1 << 55,
     };
     let found = anomaly_box(&m, &e);
-    for (angle, cos, sin) in [
-        (863450334112961750, 962101242349952028, -635286703192814155),
-        (863450334112961750, 962101242349952028, -635286703192814156),
-        (863450334112961767, 962101242349952172, -635286703192813936),
-        (863450334112961767, 962101242349952173, -635286703192813935),
-    ] {
-        assert!(rt; is_around(&found.angle, angle));
-        assert!(rt; is_around(&found.cos, cos));
-        assert!(rt; is_around(&found.sin, sin));
+    for (at, row) in CORNERS.iter().enumerate() {
+        let (angle, cos, sin) = *row;
+        assert_eq!(rt; held_fault(&found, angle, cos, sin), None, "corner {at}");
     }
-    Ok(())
 }
 
-// What of a solution isn't held, or wider than it may be: 34 units of 2^-56 and 1600 of 2^-60
-fn fault_of(found: &Anomaly, angle: i64, cos: i64, sin: i64) -> Option<&'static str> {
-    if !is_around(&found.angle, angle) {
-        return Some("angle");
+// What of a row isn't held by the steps alone, or wider than it may be: 34 units of 2^-56 and 1600 of 2^-60
+fn steps_fault(row: &Solution) -> Option<&'static str> {
+    let (m, e, angle, cos, sin) = *row;
+    if m < -(12 << 56) || m > 12 << 56 || e < 0 || e > 1 << 55 {
+        return Some("out of range");
     }
-    if !is_around(&found.cos, cos) {
-        return Some("cosine");
-    }
-    if !is_around(&found.sin, sin) {
-        return Some("sine");
-    }
+    let found = anomaly_by_steps(&Iv::from_ends(m, m), &Iv::from_ends(e, e));
     if found.angle.width() > 34 || found.cos.width() > 1600 || found.sin.width() > 1600 {
         return Some("width");
     }
-    None
+    held_fault(&found, angle, cos, sin)
 }
 
-// The steps alone, which `anomaly_box` takes only where a rough start does not serve.
+// The steps, which `anomaly_box` takes only where a rough start does not serve.
 #[test]
-fn by_steps(rt: HostRuntime) -> Result<(), Fail> {
-    for (m, e, angle, cos, sin) in SOLUTIONS {
-        assert!(rt; -(12 << 56) <= m && m <= 12 << 56);
-        assert!(rt; 0 <= e && e <= 1 << 55);
-        let found = anomaly_by_steps(&Iv::point(m)?, &Iv::point(e)?);
-        assert_eq!(rt; fault_of(&found, angle, cos, sin), None, "at {m} and {e}");
+fn by_steps(rt: HostRuntime) {
+    for row in SOLUTIONS.iter() {
+        assert_eq!(rt; steps_fault(row), None, "at {} and {}", row.0, row.1);
     }
-    Ok(())
 }

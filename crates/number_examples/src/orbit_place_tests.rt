@@ -8,7 +8,6 @@ use sized_box::SizedBox;
 use std::process::Abort;
 
 // The numbers of an orbit, each in the unit of its box, M in units of 2^-56, and the place in units of 2^-36 m, rounded down.
-#[derive(Clone, Copy)]
 struct Case {
     eccentricity: i64,
     mean: i64,
@@ -29,7 +28,7 @@ struct Case {
     place: [i64; 3],
 }
 
-const CASES: [Case; 10] = [
+static CASES: [Case; 10] = [
     Case {
         eccentricity: 0,
         mean: 0,
@@ -294,12 +293,16 @@ fn orbit_of(rt: &impl Abort, case: &Case) -> Orbit {
     }
 }
 
+// Whether the boxes of a case hold its place.
+fn is_placed(rt: &impl Abort, case: &Case) -> bool {
+    let found = place_of(&orbit_of(rt, case));
+    let mut held = found.iter().zip(case.place.iter());
+    held.all(|(coordinate, value)| coordinate.lo() <= *value && *value < coordinate.hi())
+}
+
 #[test]
 fn places(rt: HostRuntime) {
-    for case in CASES {
-        let found = place_of(&orbit_of(&rt, &case));
-        for (coordinate, value) in found.iter().zip(case.place) {
-            assert!(&rt; coordinate.lo() <= value && value < coordinate.hi());
-        }
+    for (at, case) in CASES.iter().enumerate() {
+        assert_eq!(rt; is_placed(&rt, case), true, "case {at}");
     }
 }

@@ -6,7 +6,9 @@ use sized_box::SizedBox;
 const LIMIT: u64 = 1 << 60;
 
 // Two angles in units of 2^-56; the cosine and the sine of their sum, and of twice the first, in units of 2^-60, rounded down.
-const SUMS: [(i64, i64, (i64, i64), (i64, i64)); 10] = [
+type Sums = (i64, i64, (i64, i64), (i64, i64));
+
+static SUMS: [Sums; 10] = [
     (0, 0, (1152921504606846976, 0), (1152921504606846976, 0)),
     (1, -1, (1152921504606846976, 0), (1152921504606846975, 31)),
     (
@@ -61,7 +63,9 @@ const SUMS: [(i64, i64, (i64, i64), (i64, i64)); 10] = [
 
 // An eccentricity in units of 2^-60 and a mean anomaly in units of 2^-56; the radius over the semi-major axis, and the cosine and
 // the sine of the true anomaly, in units of 2^-60, rounded down.
-const ELLIPSES: [(i64, i64, i64, (i64, i64)); 9] = [
+type Ellipse = (i64, i64, i64, (i64, i64));
+
+static ELLIPSES: [Ellipse; 9] = [
     (0, 0, 1152921504606846976, (1152921504606846976, 0)),
     (
         36028797018963968,
@@ -117,31 +121,57 @@ fn is_around(b: &Iv<60>, value: i64) -> bool {
     b.lo() <= value && value <= b.hi()
 }
 
+// What of a row isn't held.
+fn sum_fault(row: &Sums) -> Option<&'static str> {
+    let (first, second, sum, twice) = *row;
+    if first < -(1 << 60) || first > 1 << 60 || second < -(1 << 60) || second > 1 << 60 {
+        return Some("out of range");
+    }
+    let angle: SizedBox<56, LIMIT, 0> = SizedBox::new(Iv::from_ends(first, first));
+    let other: SizedBox<56, LIMIT, 0> = SizedBox::new(Iv::from_ends(second, second));
+    let turn: Rotation<1, 512> = rotation_of(&angle);
+    let further: Rotation<4, 4096> = wide_rotation_of(&other);
+    let found: Rotation<6, 9300> = turn.turn::<4, 4096, 4650, 6, 9300>(&further);
+    if !(is_around(&found.cos, sum.0) && is_around(&found.sin, sum.1)) {
+        return Some("the sum");
+    }
+    let double: Rotation<3, 2100> = turn.double::<1050, 3, 2100>();
+    if is_around(&double.cos, twice.0) && is_around(&double.sin, twice.1) {
+        None
+    } else {
+        Some("the double")
+    }
+}
+
 #[test]
 fn sums_and_doubles(rt: HostRuntime) {
-    for (first, second, sum, twice) in SUMS {
-        assert!(&rt; -(1 << 60) <= first && first <= 1 << 60);
-        assert!(&rt; -(1 << 60) <= second && second <= 1 << 60);
-        let angle: SizedBox<56, LIMIT, 0> = SizedBox::new(Iv::from_ends(first, first));
-        let other: SizedBox<56, LIMIT, 0> = SizedBox::new(Iv::from_ends(second, second));
-        let turn: Rotation<1, 512> = rotation_of(&angle);
-        let further: Rotation<4, 4096> = wide_rotation_of(&other);
-        let found: Rotation<6, 9300> = turn.turn::<4, 4096, 4650, 6, 9300>(&further);
-        assert!(&rt; is_around(&found.cos, sum.0) && is_around(&found.sin, sum.1));
-        let double: Rotation<3, 2100> = turn.double::<1050, 3, 2100>();
-        assert!(&rt; is_around(&double.cos, twice.0) && is_around(&double.sin, twice.1));
+    for row in SUMS.iter() {
+        assert_eq!(rt; sum_fault(row), None, "of {} and {}", row.0, row.1);
+    }
+}
+
+// What of a row isn't held.
+fn ellipse_fault(row: &Ellipse) -> Option<&'static str> {
+    let (e, mean, radius, pair) = *row;
+    if e < 0 || e > 1 << 55 || mean < -(12 << 56) || mean > 12 << 56 {
+        return Some("out of range");
+    }
+    let anomaly = eccentric_pair(&Iv::from_ends(mean, mean), &Iv::from_ends(e, e));
+    let found = on_ellipse(&SizedBox::new(Iv::from_ends(e, e)), &anomaly);
+    if !is_around(&found.radius.held, radius) {
+        return Some("the radius");
+    }
+    let turn = found.true_anomaly;
+    if is_around(&turn.cos, pair.0) && is_around(&turn.sin, pair.1) {
+        None
+    } else {
+        Some("the true anomaly")
     }
 }
 
 #[test]
 fn true_anomalies(rt: HostRuntime) {
-    for (e, mean, radius, pair) in ELLIPSES {
-        assert!(&rt; 0 <= e && e <= 1 << 55);
-        assert!(&rt; -(12 << 56) <= mean && mean <= 12 << 56);
-        let anomaly = eccentric_pair(&Iv::from_ends(mean, mean), &Iv::from_ends(e, e));
-        let found = on_ellipse(&SizedBox::new(Iv::from_ends(e, e)), &anomaly);
-        assert!(&rt; is_around(&found.radius.held, radius));
-        let turn = found.true_anomaly;
-        assert!(&rt; is_around(&turn.cos, pair.0) && is_around(&turn.sin, pair.1));
+    for row in ELLIPSES.iter() {
+        assert_eq!(rt; ellipse_fault(row), None, "at {} and {}", row.0, row.1);
     }
 }

@@ -1,10 +1,9 @@
 //! Cosines and sines as mpmath gives them.
 use iv_core::Iv;
-use std::test::Fail;
-use trig_box::pair_box;
+use trig_box::{PairBox, pair_box};
 
 // Angles in units of 2^-56, with 2^60 times their cosine and their sine, rounded down, as mpmath gives them.
-const SMALL: [(i64, i64, i64); 19] = [
+static SMALL: [(i64, i64, i64); 19] = [
     (0, 1152921504606846976, 0),
     (1, 1152921504606846975, 15),
     (-1, 1152921504606846975, -16),
@@ -42,7 +41,7 @@ const SMALL: [(i64, i64, i64); 19] = [
     ),
 ];
 
-const LARGE: [(i64, i64, i64); 14] = [
+static LARGE: [(i64, i64, i64); 14] = [
     (0, 1152921504606846976, 0),
     (-1, 1152921504606846975, -16),
     (113187804032455044, 6, 1152921504606846975),
@@ -88,41 +87,61 @@ fn is_around(b: &Iv<60>, value: i64) -> bool {
     b.lo() <= value && value < b.hi()
 }
 
-#[test]
-fn five_halvings(rt: HostRuntime) -> Result<(), Fail> {
-    for (angle, cos, sin) in SMALL {
-        assert!(rt; -(1 << 60) <= angle && angle <= 1 << 60);
-        let pair = pair_box(&Iv::point(angle)?, 5);
-        assert!(rt; is_around(&pair.cos, cos), "the cosine of {angle}");
-        assert!(rt; is_around(&pair.sin, sin), "the sine of {angle}");
+// Which number of a pair isn't held.
+fn fault_of(pair: &PairBox, cos: i64, sin: i64) -> Option<&'static str> {
+    if !is_around(&pair.cos, cos) {
+        Some("the cosine")
+    } else if !is_around(&pair.sin, sin) {
+        Some("the sine")
+    } else {
+        None
     }
-    Ok(())
+}
+
+fn fault_by_five(row: &(i64, i64, i64)) -> Option<&'static str> {
+    let (angle, cos, sin) = *row;
+    if angle < -(1 << 60) || angle > 1 << 60 {
+        return Some("out of range");
+    }
+    fault_of(&pair_box(&Iv::from_ends(angle, angle), 5), cos, sin)
 }
 
 #[test]
-fn seven_halvings(rt: HostRuntime) -> Result<(), Fail> {
-    for (angle, cos, sin) in LARGE {
-        let pair = pair_box(&Iv::point(angle)?, 7);
-        assert!(rt; is_around(&pair.cos, cos), "the cosine of {angle}");
-        assert!(rt; is_around(&pair.sin, sin), "the sine of {angle}");
+fn five_halvings(rt: HostRuntime) {
+    for row in SMALL.iter() {
+        assert_eq!(rt; fault_by_five(row), None, "of {}", row.0);
     }
-    Ok(())
 }
 
-// The values at both ends of a box of angles that is 2^-40 wide.
+fn fault_by_seven(row: &(i64, i64, i64)) -> Option<&'static str> {
+    let (angle, cos, sin) = *row;
+    let Ok(point) = Iv::point(angle) else {
+        return Some("out of range");
+    };
+    fault_of(&pair_box(&point, 7), cos, sin)
+}
+
 #[test]
-fn widest(rt: HostRuntime) -> Result<(), Fail> {
+fn seven_halvings(rt: HostRuntime) {
+    for row in LARGE.iter() {
+        assert_eq!(rt; fault_by_seven(row), None, "of {}", row.0);
+    }
+}
+
+// The cosine and the sine at both ends of a box of angles that is 2^-40 wide.
+static ENDS: [(i64, i64); 2] = [
+    (622926147424485662, 970149993887442040),
+    (622926147423603315, 970149993888008588),
+];
+
+#[test]
+fn widest(rt: HostRuntime) {
     let angles = Iv {
         lo: 72057594037895168,
         hi: 72057594037960704,
     };
     let pair = pair_box(&angles, 5);
-    for (cos, sin) in [
-        (622926147424485662, 970149993887442040),
-        (622926147423603315, 970149993888008588),
-    ] {
-        assert!(rt; is_around(&pair.cos, cos));
-        assert!(rt; is_around(&pair.sin, sin));
+    for row in ENDS.iter() {
+        assert_eq!(rt; fault_of(&pair, row.0, row.1), None);
     }
-    Ok(())
 }

@@ -37,20 +37,18 @@ fn file_of(alloc: Global, tags: &[u64]) -> Result<ObsFile, AllocError> {
     })
 }
 
+const fn of(base: u32, rover: u32) -> PairOf {
+    PairOf { base, rover }
+}
+
 #[test]
 fn pairs_by_tags(rt: HostRuntime) -> Result<(), Fail> {
     let base = file_of(rt.alloc(), &[100, 200, 300, 400])?;
     let rover = file_of(rt.alloc(), &[99, 205, 290, 420])?;
-    let Ok(pairs) = pair(rt.alloc(), &base, &rover, 10) else {
-        assert!(rt; false);
-        return Ok(());
-    };
-    assert_eq!(rt; pairs.len(), 3);
-    assert_eq!(rt; pairs[1], PairOf { base: 1, rover: 1 });
-    assert_eq!(rt; pairs[2], PairOf { base: 2, rover: 2 });
+    let pairs = pair(rt.alloc(), &base, &rover, 10)?;
+    assert_eq!(rt; pairs.as_slice(), [of(0, 0), of(1, 1), of(2, 2)].as_slice());
     let taken = take(rt.alloc(), &pairs, 1, 1, 5)?;
-    assert_eq!(rt; taken.len(), 2);
-    assert_eq!(rt; taken[0], pairs[1]);
+    assert_eq!(rt; taken.as_slice(), [of(1, 1), of(2, 2)].as_slice());
     Ok(())
 }
 
@@ -59,13 +57,8 @@ fn pairs_by_tags(rt: HostRuntime) -> Result<(), Fail> {
 fn pairs_equal_tags(rt: HostRuntime) -> Result<(), Fail> {
     let base = file_of(rt.alloc(), &[1, 2, 4])?;
     let rover = file_of(rt.alloc(), &[2, 3, 4])?;
-    let Ok(pairs) = pair(rt.alloc(), &base, &rover, 0) else {
-        assert!(rt; false);
-        return Ok(());
-    };
-    assert_eq!(rt; pairs.len(), 2);
-    assert_eq!(rt; pairs[0], PairOf { base: 1, rover: 0 });
-    assert_eq!(rt; pairs[1], PairOf { base: 2, rover: 2 });
+    let pairs = pair(rt.alloc(), &base, &rover, 0)?;
+    assert_eq!(rt; pairs.as_slice(), [of(1, 0), of(2, 2)].as_slice());
     Ok(())
 }
 
@@ -75,21 +68,9 @@ fn refuses_dense_files(rt: HostRuntime) -> Result<(), Fail> {
     let wide = file_of(rt.alloc(), &[100, 121])?;
     let dense = file_of(rt.alloc(), &[50, 100, 120])?;
     let at_rover = pair(rt.alloc(), &wide, &dense, 10).err();
-    assert_eq!(rt;
-        at_rover,
-        Some(PairFault::Dense {
-            rover: true,
-            epoch: 2
-        })
-    );
     let at_base = pair(rt.alloc(), &dense, &dense, 10).err();
-    assert_eq!(rt;
-        at_base,
-        Some(PairFault::Dense {
-            rover: false,
-            epoch: 2
-        })
-    );
+    let found = |rover: bool| Some(PairFault::Dense { rover, epoch: 2 });
+    assert_eq!(rt; (at_rover, at_base), (found(true), found(false)));
     Ok(())
 }
 
@@ -98,18 +79,9 @@ fn refuses_dense_files(rt: HostRuntime) -> Result<(), Fail> {
 fn pairs_the_largest_files(rt: HostRuntime) -> Result<(), Fail> {
     let base = steady(rt.alloc(), 0)?;
     let rover = steady(rt.alloc(), 7)?;
-    let Ok(pairs) = pair(rt.alloc(), &base, &rover, 100_000) else {
-        assert!(rt; false);
-        return Ok(());
-    };
-    assert_eq!(rt; pairs.len(), 20_000);
-    assert_eq!(rt;
-        pairs[19_999],
-        PairOf {
-            base: 19_999,
-            rover: 19_999
-        }
-    );
+    let pairs = pair(rt.alloc(), &base, &rover, 100_000)?;
+    let last = pairs.as_slice().last().copied();
+    assert_eq!(rt; (pairs.len(), last), (20_000, Some(of(19_999, 19_999))));
     Ok(())
 }
 
@@ -136,47 +108,68 @@ fn listing(alloc: Global, names: &[&str]) -> Result<ObsFile, AllocError> {
     Ok(file)
 }
 
+static NAMES: [&str; 14] = [
+    "C1C", "L1C", "C1W", "L1W", "C2L", "L2L", "C2X", "L2X", "C2W", "C5I", "L5I", "C5X", "L5X",
+    "C5Q",
+];
+
+// Bands, and their letters.
+static LETTERS: [(u16, (u8, u8, u8)); 3] = [
+    (12, (b'W', b'X', 0)),
+    (15, (b'W', 0, b'X')),
+    (125, (b'W', b'X', b'X')),
+];
+
+fn letters_of(base: &ObsFile, rover: &ObsFile, bands: u16) -> Option<(u8, u8, u8)> {
+    if !is_bands_number(bands) {
+        return None;
+    }
+    signals(base, rover, bands).map(|s| (s.l1, s.l2, s.l5))
+}
+
 // L1 C is listed first but without a phase at the rover, and L2 X comes before L2 L and L5 X before L5 I whatever the order
 // of listing. A band that isn't used has no letter.
 #[test]
 fn takes_the_first_common_letters(rt: HostRuntime) -> Result<(), Fail> {
-    let names = [
-        "C1C", "L1C", "C1W", "L1W", "C2L", "L2L", "C2X", "L2X", "C2W", "C5I", "L5I", "C5X", "L5X",
-        "C5Q",
-    ];
-    let base = listing(rt.alloc(), &names)?;
-    let rover = listing(rt.alloc(), &names[2..])?;
-    for (bands, letters) in [
-        (12u16, (b'W', b'X', 0)),
-        (15, (b'W', 0, b'X')),
-        (125, (b'W', b'X', b'X')),
-    ] {
-        if is_bands_number(bands) {
-            let found = signals(&base, &rover, bands).map(|s| (s.l1, s.l2, s.l5));
-            assert_eq!(rt; found, Some(letters), "bands {bands}");
-        }
+    let base = listing(rt.alloc(), &NAMES)?;
+    let rover = listing(rt.alloc(), &NAMES[2..])?;
+    for row in LETTERS.iter() {
+        assert_eq!(rt;
+            letters_of(&base, &rover, row.0),
+            Some(row.1),
+            "bands {}",
+            row.0
+        );
     }
     Ok(())
 }
 
+// Types, of which L5 has at least one, and the letter on L5.
+static ON_L5: [(&[&str], Option<u8>); 7] = [
+    (
+        &["C1C", "L1C", "C5I", "L5I", "C5X", "L5X", "C5Q", "L5Q"],
+        Some(b'Q'),
+    ),
+    (
+        &["C1C", "L1C", "C5I", "L5I", "C5X", "L5X", "C5Q"],
+        Some(b'X'),
+    ),
+    (&["C1C", "L1C", "C5I", "L5I", "C5X", "L5X"], Some(b'X')),
+    (&["C1C", "L1C", "C5I", "L5I", "C5X"], Some(b'I')),
+    (&["C1C", "L1C", "C5I", "L5I"], Some(b'I')),
+    (&["C1C", "L1C", "C5I"], None),
+    (&["C1C", "L1C"], None),
+];
+
 // On L5 the letters are tried in the order Q, X, I, and each band that is used needs one.
 #[test]
 fn each_band_needs_a_letter(rt: HostRuntime) -> Result<(), Fail> {
-    let on_l5 = ["C1C", "L1C", "C5I", "L5I", "C5X", "L5X", "C5Q", "L5Q"];
-    for (listed, letter) in [
-        (8usize, Some(b'Q')),
-        (7, Some(b'X')),
-        (6, Some(b'X')),
-        (5, Some(b'I')),
-        (4, Some(b'I')),
-        (3, None),
-        (2, None),
-    ] {
-        let file = listing(rt.alloc(), &on_l5[..listed])?;
-        let found = signals(&file, &file, BANDS_L1_L5).map(|s| s.l5);
-        assert_eq!(rt; found, letter, "{listed} types");
-        assert!(rt; signals(&file, &file, BANDS_L1_L2).is_none());
-        assert!(rt; signals(&file, &file, BANDS_L1_L2_L5).is_none());
+    for row in ON_L5.iter() {
+        let file = listing(rt.alloc(), row.0)?;
+        let on_l5 = signals(&file, &file, BANDS_L1_L5).map(|s| s.l5);
+        let on_l2 = signals(&file, &file, BANDS_L1_L2).is_some();
+        let on_all = signals(&file, &file, BANDS_L1_L2_L5).is_some();
+        assert_eq!(rt; (on_l5, on_l2, on_all), (row.1, false, false));
     }
     Ok(())
 }

@@ -1,14 +1,16 @@
 //! A session of two pairs, the ends of the ranges, the places of integers, and tables.
-ghost use Rattle.std.specs.Prelude.{◌<◌};
+ghost use Rattle.std.specs.Prelude.{◌<◌, ◌≤◌};
+ghost use Rattle.obs_rows.specs.Arcs.{free_count};
 
 use form_tables::{FactorTable, FormTable, FrontTable, MapTable, NormalTable};
 use gps_time::Tick;
 use obs_rows::{
-    Arc, ArcList, COARSE_SIGNALS, PairBuilder, Row, SIGNALS_12, SIGNALS_15, SIGNALS_125, Session,
-    SessionBuilder, Signals, are_arcs, fine_signals, has_its_arcs, has_used_rows, has_used_shifts,
-    integer_count, integer_place, is_point,
+    Arc, ArcList, COARSE_SIGNALS, PairBuilder, PairRows, Row, SIGNALS_12, SIGNALS_15, SIGNALS_125,
+    Session, SessionBuilder, Signals, are_arcs, fine_signals, has_its_arcs, has_used_rows,
+    has_used_shifts, integer_count, integer_place, is_point,
 };
 use std::alloc::{AllocError, Global};
+use std::test::Fail;
 
 fn arc(sat: u8, datum: bool) -> Arc {
     Arc {
@@ -71,97 +73,141 @@ fn push_pair(alloc: Global, session: &mut SessionBuilder, number: u32) -> Result
     Ok(true)
 }
 
-#[test]
-fn copies_a_session(rt: HostRuntime) -> Result<(), AllocError> {
-    let made = small_session(rt.alloc())?;
-    let Some(session) = made else {
-        assert!(rt; false, "the session is in range");
-        return Ok(());
+// What of the small session isn't so.
+fn session_fault(session: &Session) -> Option<&'static str> {
+    let point = [63_781_370_000, 0, 0];
+    let signals = Signals {
+        l1: b'C',
+        l2: b'W',
+        l5: 0,
     };
+    if (session.scale, session.base, session.point) != (0, point, point) {
+        Some("the head")
+    } else if session.signals != signals {
+        Some("the signals")
+    } else if session.arcs.as_slice() != [arc(3, true), arc(5, false)].as_slice() {
+        Some("the arcs")
+    } else if (session.pairs.len(), session.free()) != (2, 1) {
+        Some("the counts")
+    } else {
+        None
+    }
+}
+
+// Whether this is the pair of that number.
+fn is_pair(pair: &PairRows, number: usize) -> bool {
+    let second = Row::new(1, [0, 0, 5, 6, 0, 0], 3, [1, 2, 3], [4, 5, 6]);
+    let head = (pair.number as usize, pair.tag, pair.group);
+    head == (number, Tick(13_881_024_000_000_000), -7)
+        && pair.rows.len() == 2
+        && pair.rows.as_slice().get(1).copied() == second
+}
+
+#[test]
+fn copies_a_session(rt: HostRuntime) -> Result<(), Fail> {
+    let session = small_session(rt.alloc())?.ok_or("the session is in range")?;
     let copied = session.copy(rt.alloc())?;
-    assert_eq!(rt; copied.scale, 0);
-    assert_eq!(rt; copied.base, [63_781_370_000, 0, 0]);
-    assert_eq!(rt; copied.point, [63_781_370_000, 0, 0]);
-    assert_eq!(rt;
-        copied.signals,
-        Signals {
-            l1: b'C',
-            l2: b'W',
-            l5: 0,
-        }
-    );
-    assert_eq!(rt;
-        copied.arcs.as_slice(),
-        [arc(3, true), arc(5, false)].as_slice()
-    );
-    assert_eq!(rt; copied.pairs.len(), 2);
-    assert_eq!(rt; copied.free(), 1);
+    assert_eq!(rt; session_fault(&copied), None);
     for (number, pair) in copied.pairs.as_slice().iter().enumerate() {
-        assert_eq!(rt; pair.number as usize, number);
-        assert_eq!(rt; pair.tag, Tick(13_881_024_000_000_000));
-        assert_eq!(rt; pair.group, -7);
-        assert_eq!(rt; pair.rows.len(), 2);
-        assert_eq!(rt;
-            Row::new(1, [0, 0, 5, 6, 0, 0], 3, [1, 2, 3], [4, 5, 6]),
-            pair.rows.as_slice().get(1).copied()
-        );
+        assert_eq!(rt; is_pair(pair, number), true, "pair {number}");
     }
     Ok(())
 }
 
-#[test]
-fn refuses_numbers_out_of_range(rt: HostRuntime) {
-    let most = 1i64 << 34;
-    let in_range = Row::new(
-        0,
-        [most, -most, 0, 0, 0, 0],
+const MOST: i64 = 1 << 34;
+
+// Observations, their radius, the direction, its radii, and whether they are in range.
+static NUMBERS: [([i64; 6], i64, [i64; 3], [i64; 3], bool); 5] = [
+    (
+        [MOST, -MOST, 0, 0, 0, 0],
         1 << 20,
         [1 << 24, 0, 0],
-        [0, 0, 0],
-    );
-    assert!(rt; in_range.is_some());
-    assert!(rt; Row::new(0, [0, 0, most + 1, 0, 0, 0], 0, [0, 0, 0], [0, 0, 0]).is_none());
-    assert!(rt; Row::new(0, [0; 6], -1, [0, 0, 0], [0, 0, 0]).is_none());
-    assert!(rt; Row::new(0, [0; 6], 0, [0, 0, -16_777_217], [0, 0, 0]).is_none());
-    assert!(rt; Row::new(0, [0; 6], 0, [0, 0, 0], [0, 0, 1_048_577]).is_none());
+        [0; 3],
+        true,
+    ),
+    ([0, 0, MOST + 1, 0, 0, 0], 0, [0; 3], [0; 3], false),
+    ([0; 6], -1, [0; 3], [0; 3], false),
+    ([0; 6], 0, [0, 0, -16_777_217], [0; 3], false),
+    ([0; 6], 0, [0; 3], [0, 0, 1_048_577], false),
+];
+
+#[test]
+fn refuses_numbers_out_of_range(rt: HostRuntime) {
+    for row in NUMBERS.iter() {
+        let (y, ry, u, ru, is_in) = *row;
+        assert_eq!(rt; Row::new(0, y, ry, u, ru).is_some(), is_in);
+    }
+}
+
+#[test]
+fn refuses_arcs_out_of_range(rt: HostRuntime) {
     let last_after_first = Arc {
         last: 0,
         first: 1,
         ..arc(3, false)
     };
-    for wrong in [arc(0, false), arc(37, false), last_after_first] {
+    for wrong in [
+        arc(0, false),
+        arc(37, false),
+        last_after_first,
+        arc(5, true),
+    ] {
         assert!(rt; !are_arcs(&[arc(3, true), wrong]));
     }
-    assert!(rt; !are_arcs(&[arc(3, true), arc(5, true)]));
     assert!(rt; !are_arcs(&[arc(3, false)]));
+}
+
+// An integer's place in a session of L1 and L2, of L1 and L5, and of all three bands.
+type Places = (Option<usize>, Option<usize>, Option<usize>);
+
+// An arc, a signal, and the places.
+static PLACES: [(usize, usize, Places); 9] = [
+    (0, 0, (Some(0), Some(0), Some(0))),
+    (0, 1, (Some(1), None, Some(1))),
+    (0, 4, (None, Some(1), Some(2))),
+    (1, 0, (None, None, None)),
+    (2, 0, (Some(2), Some(2), Some(3))),
+    (2, 1, (Some(3), None, Some(4))),
+    (2, 2, (None, None, None)),
+    (2, 4, (None, Some(3), Some(5))),
+    (2, 5, (None, None, None)),
+];
+
+fn places_of(arcs: &[Arc; 3], arc: usize, signal: usize) -> Places
+    requires few { free_count arcs.now ≤ 200 }
+    requires arc_in { arc < 3 }
+{
+    (
+        integer_place(arcs, &SIGNALS_12, arc, signal),
+        integer_place(arcs, &SIGNALS_15, arc, signal),
+        integer_place(arcs, &SIGNALS_125, arc, signal),
+    )
 }
 
 #[test]
 fn places_integers(rt: HostRuntime) {
     let arcs = [arc(3, false), arc(5, true), arc(9, false)];
-    assert_eq!(rt; integer_count(&arcs, &SIGNALS_12), 4);
-    assert_eq!(rt; integer_count(&arcs, &COARSE_SIGNALS), 0);
-    assert_eq!(rt; integer_count(&arcs, &SIGNALS_15), 4);
-    assert_eq!(rt; integer_count(&arcs, &SIGNALS_125), 6);
-    // of each arc and signal in a session of L1 and L2, of L1 and L5, and of all three bands
-    let places = [
-        (0, 0, Some(0), Some(0), Some(0)),
-        (0, 1, Some(1), None, Some(1)),
-        (0, 4, None, Some(1), Some(2)),
-        (1, 0, None, None, None),
-        (2, 0, Some(2), Some(2), Some(3)),
-        (2, 1, Some(3), None, Some(4)),
-        (2, 2, None, None, None),
-        (2, 4, None, Some(3), Some(5)),
-        (2, 5, None, None, None),
-    ];
-    for (arc, signal, of_12, of_15, of_125) in places {
-        if arc < 3 {
-            assert_eq!(rt; integer_place(&arcs, &SIGNALS_12, arc, signal), of_12);
-            assert_eq!(rt; integer_place(&arcs, &SIGNALS_15, arc, signal), of_15);
-            assert_eq!(rt; integer_place(&arcs, &SIGNALS_125, arc, signal), of_125);
-        }
+    for row in PLACES.iter() {
+        let (arc, signal, want) = *row;
+        let found = if arc < 3 {
+            Some(places_of(&arcs, arc, signal))
+        } else {
+            None
+        };
+        assert_eq!(rt; found, Some(want));
     }
+}
+
+#[test]
+fn counts_integers(rt: HostRuntime) {
+    let arcs = [arc(3, false), arc(5, true), arc(9, false)];
+    let found = [
+        integer_count(&arcs, &SIGNALS_12),
+        integer_count(&arcs, &COARSE_SIGNALS),
+        integer_count(&arcs, &SIGNALS_15),
+        integer_count(&arcs, &SIGNALS_125),
+    ];
+    assert_eq!(rt; found, [4, 0, 4, 6]);
 }
 
 #[test]

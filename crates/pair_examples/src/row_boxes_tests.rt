@@ -2,7 +2,9 @@
 ghost use Rattle.std.specs.Prelude.{◌^◌, ◌≤◌, unsigned_abs};
 
 use iv_core::Iv;
-use row_boxes::{Pseudorange, first_group, first_shift, observations_of, pseudorange_of};
+use row_boxes::{
+    Observations, Pseudorange, first_group, first_shift, observations_of, pseudorange_of,
+};
 
 // What the two receivers show of one satellite: thousandths of a cycle, and millimetres.
 const AMOUNTS: [i64; 6] = [
@@ -37,62 +39,48 @@ fn rover() -> Pseudorange {
 #[test]
 fn group_and_shifts(rt: HostRuntime) {
     let (base, rover) = (base(), rover());
-    assert_eq!(rt; first_group(AMOUNTS[2], &base, &rover), GROUP);
-    assert_eq!(rt; first_shift(0, AMOUNTS[0], GROUP, &base, &rover), SHIFT[0]);
-    assert_eq!(rt; first_shift(1, AMOUNTS[1], GROUP, &base, &rover), SHIFT[1]);
-    assert_eq!(rt; first_shift(4, AMOUNTS[4], GROUP, &base, &rover), SHIFT[2]);
+    let shifts = [
+        first_shift(0, AMOUNTS[0], GROUP, &base, &rover),
+        first_shift(1, AMOUNTS[1], GROUP, &base, &rover),
+        first_shift(4, AMOUNTS[4], GROUP, &base, &rover),
+    ];
+    assert_eq!(rt;
+        (first_group(AMOUNTS[2], &base, &rover), shifts),
+        (GROUP, SHIFT)
+    );
 }
 
-// Whether the centres are these, to the radius that boxes have.
-fn are_near(found: &[i64; 6], want: [i64; 6], radius: u64) -> bool {
-    found
-        .iter()
-        .zip(want)
-        .all(|(got, want)| got.abs_diff(want) <= radius)
+// Whether the observations' centres are these, to the radius that boxes have.
+fn are_near(found: &Observations, want: [i64; 6], radius: u64) -> bool {
+    found.ry.unsigned_abs() <= radius
+        && found
+            .y
+            .iter()
+            .zip(want)
+            .all(|(got, want)| got.abs_diff(want) <= radius)
 }
 
 #[test]
 fn all_signals(rt: HostRuntime) {
-    let found = observations_of(
-        &[0, 1, 2, 3, 4, 5],
-        &AMOUNTS,
-        GROUP,
-        &SHIFT,
-        &base(),
-        &rover(),
-        0,
-    );
-    let Some(found) = found else {
-        assert!(rt; false);
-        return;
-    };
+    let signals = [0, 1, 2, 3, 4, 5];
+    let found = observations_of(&signals, &AMOUNTS, GROUP, &SHIFT, &base(), &rover(), 0);
     let want: [i64; 6] = [
         -3_509_286, 4_530_236, -1_165, 33_920_783, -7_173_961, 22_811_494,
     ];
-    assert!(rt; are_near(&found.y, want, 470));
-    assert!(rt; found.ry <= 470);
+    assert!(rt; found.is_some_and(|found| are_near(&found, want, 470)));
 }
 
 #[test]
 fn without_l2(rt: HostRuntime) {
     let found = observations_of(&[0, 2, 4, 5], &AMOUNTS, GROUP, &SHIFT, &base(), &rover(), 0);
-    let Some(found) = found else {
-        assert!(rt; false);
-        return;
-    };
     let want: [i64; 6] = [-3_509_286, 0, -1_165, 0, -7_173_961, 22_811_494];
-    assert!(rt; are_near(&found.y, want, 470));
-    let y = found.y;
-    assert!(rt; y[1] == 0 && y[3] == 0);
+    assert!(rt;
+        found.is_some_and(|found| are_near(&found, want, 470) && (found.y[1], found.y[3]) == (0, 0))
+    );
 }
 
 #[test]
 fn coarse_observations(rt: HostRuntime) {
     let found = observations_of(&[2], &AMOUNTS, GROUP - 10, &SHIFT, &base(), &rover(), 14);
-    let Some(found) = found else {
-        assert!(rt; false);
-        return;
-    };
-    assert!(rt; are_near(&found.y, [0, 0, 5, 0, 0, 0], 1));
-    assert!(rt; found.ry <= 1);
+    assert!(rt; found.is_some_and(|found| are_near(&found, [0, 0, 5, 0, 0, 0], 1)));
 }

@@ -6,7 +6,7 @@ use decimal_text::Dec;
 use eph_store::{NavFile, Raw};
 use epoch_pair::{PairOf, pair, take};
 use gps_time::Tick;
-use obs_rows::{Arc, BANDS_L1_L2, Signals};
+use obs_rows::{BANDS_L1_L2, Signals};
 use obs_store::{Epoch, Epochs, ObsFile, ObsType, SLOTS, SatObs, Satellites, Value};
 use screening::{Screened, screen};
 use slip_arcs::cut;
@@ -174,44 +174,62 @@ fn screened(
     screen(alloc, base, rover, nav, signals, &pairs, 200)
 }
 
-fn is_arc(arc: &Arc, sat: u8, first: u32, last: u32) -> bool {
-    (arc.sat, arc.first, arc.last) == (sat, first, last)
+// Each how many pairs one is taken, the least pairs of an arc, and the kept arcs: the satellite, the first and the last pair.
+type Cut = (u32, u32, &'static [(u8, u32, u32)]);
+
+// Whether these arcs are kept of two satellites.
+fn has_arcs(alloc: Global, base: &ObsFile, rover: &ObsFile, want: &Cut) -> Result<bool, AllocError>
+    requires { HasPosition base.now.position }
+{
+    let (step, least, arcs) = *want;
+    if step == 0 {
+        return Ok(false);
+    }
+    let nav = records(alloc, 2)?;
+    let found = screened(alloc, base, rover, &nav, step)?;
+    let kept = cut(alloc, found.used.as_slice(), BANDS_L1_L2, 12, least)?.kept;
+    let mut pairs = kept.as_slice().iter().zip(arcs);
+    Ok(kept.len() == arcs.len() && pairs.all(|(arc, want)| (arc.sat, arc.first, arc.last) == *want))
 }
 
 // Lock is lost in epoch 6, which with each fourth pair isn't taken.
+static LOCK_LOST: [Cut; 2] = [
+    (1, 5, &[(1, 0, 5), (2, 0, 19), (1, 6, 19)]),
+    (4, 2, &[(1, 0, 1), (2, 0, 4), (1, 2, 4)]),
+];
+
 #[test]
 fn lost_lock_cuts_one_satellite(rt: HostRuntime) -> Result<(), Fail> {
     let base = series(rt.alloc(), 6, 20)?;
     let rover = series(rt.alloc(), 20, 20)?;
-    let nav = records(rt.alloc(), 2)?;
-    let all = screened(rt.alloc(), &base, &rover, &nav, 1)?;
-    let arcs = cut(rt.alloc(), all.used.as_slice(), BANDS_L1_L2, 12, 5)?;
-    assert_eq!(rt; arcs.kept.len(), 3);
-    assert!(rt; is_arc(&arcs.kept.as_slice()[0], 1, 0, 5));
-    assert!(rt; is_arc(&arcs.kept.as_slice()[1], 2, 0, 19));
-    assert!(rt; is_arc(&arcs.kept.as_slice()[2], 1, 6, 19));
-    let some = screened(rt.alloc(), &base, &rover, &nav, 4)?;
-    let arcs = cut(rt.alloc(), some.used.as_slice(), BANDS_L1_L2, 12, 2)?;
-    assert_eq!(rt; arcs.kept.len(), 3);
-    assert!(rt; is_arc(&arcs.kept.as_slice()[0], 1, 0, 1));
-    assert!(rt; is_arc(&arcs.kept.as_slice()[1], 2, 0, 4));
-    assert!(rt; is_arc(&arcs.kept.as_slice()[2], 1, 2, 4));
+    for row in LOCK_LOST.iter() {
+        assert_eq!(rt;
+            has_arcs(rt.alloc(), &base, &rover, row)?,
+            true,
+            "step {}",
+            row.0
+        );
+    }
     Ok(())
 }
 
 // Power failed at the rover before epoch 6, which with each fourth pair isn't taken.
+static POWER_FAILED: [Cut; 2] = [
+    (1, 5, &[(1, 0, 5), (2, 0, 5), (1, 6, 19), (2, 6, 19)]),
+    (4, 2, &[(1, 0, 1), (2, 0, 1), (1, 2, 4), (2, 2, 4)]),
+];
+
 #[test]
 fn power_failure_cuts_every_satellite(rt: HostRuntime) -> Result<(), Fail> {
     let base = series(rt.alloc(), 20, 20)?;
     let rover = series(rt.alloc(), 20, 6)?;
-    let nav = records(rt.alloc(), 2)?;
-    for (step, least, last, first, end) in [(1, 5, 5, 6, 19), (4, 2, 1, 2, 4)] {
-        let found = screened(rt.alloc(), &base, &rover, &nav, step)?;
-        let arcs = cut(rt.alloc(), found.used.as_slice(), BANDS_L1_L2, 12, least)?;
-        let kept = arcs.kept.as_slice();
-        assert_eq!(rt; kept.len(), 4);
-        assert!(rt; is_arc(&kept[0], 1, 0, last) && is_arc(&kept[1], 2, 0, last));
-        assert!(rt; is_arc(&kept[2], 1, first, end) && is_arc(&kept[3], 2, first, end));
+    for row in POWER_FAILED.iter() {
+        assert_eq!(rt;
+            has_arcs(rt.alloc(), &base, &rover, row)?,
+            true,
+            "step {}",
+            row.0
+        );
     }
     Ok(())
 }
@@ -225,52 +243,65 @@ fn used_with(alloc: Global, nav: &NavFile, odd: SatObs) -> Result<(usize, usize)
     Ok((at_base.boxes.len(), at_rover.boxes.len()))
 }
 
+// A phase, its lock, the codes, and how many satellites are used.
+static RANGES: [(i64, u8, i64, usize); 12] = [
+    (100_000_000_000_000, 0, CODE, 1),
+    (100_000_000_000_001, 0, CODE, 0),
+    (-100_000_000_000_000, 0, CODE, 1),
+    (-100_000_000_000_001, 0, CODE, 0),
+    (0, 1, CODE, 1),
+    (0, 2, CODE, 0),
+    (0, 3, CODE, 0),
+    (0, 4, CODE, 1),
+    (0, 0, 10_000_000_000, 1),
+    (0, 0, 9_999_999_999, 0),
+    (0, 0, 100_000_000_000, 1),
+    (0, 0, 100_000_000_001, 0),
+];
+
 #[test]
 fn ends_of_the_ranges(rt: HostRuntime) -> Result<(), Fail> {
     let nav = records(rt.alloc(), 1)?;
-    for (phase, lock, code, used) in [
-        (100_000_000_000_000, 0, CODE, 1),
-        (100_000_000_000_001, 0, CODE, 0),
-        (-100_000_000_000_000, 0, CODE, 1),
-        (-100_000_000_000_001, 0, CODE, 0),
-        (0, 1, CODE, 1),
-        (0, 2, CODE, 0),
-        (0, 3, CODE, 0),
-        (0, 4, CODE, 1),
-        (0, 0, 10_000_000_000, 1),
-        (0, 0, 9_999_999_999, 0),
-        (0, 0, 100_000_000_000, 1),
-        (0, 0, 100_000_000_001, 0),
-    ] {
+    for row in RANGES.iter() {
+        let (phase, lock, code, used) = *row;
         let found = used_with(rt.alloc(), &nav, observed(1, phase, lock, code))?;
-        assert_eq!(rt;
-            found,
-            (used, used),
-            "phase {phase}, lock {lock}, code {code}"
-        );
+        assert_eq!(rt; found, (used, used), "{row:?}");
     }
     Ok(())
 }
 
-// Of sixteen satellites the last isn't used, and of two on both sides of the Earth the one behind it isn't.
-#[test]
-fn fifteen_above_the_mask(rt: HostRuntime) -> Result<(), Fail> {
-    let mut all: Vec<SatObs> = Vec::new(rt.alloc());
+// An epoch of sixteen satellites.
+fn sixteen(alloc: Global) -> Result<ObsFile, AllocError>
+    ensures { IfOk result (λ file. HasPosition file.position) }
+{
+    let mut all: Vec<SatObs> = Vec::new(alloc);
     for number in 1..17u8 {
         all.push(observed(number, 0, 0, CODE))?;
     }
-    let mut epochs = Epochs::new(rt.alloc());
-    add(rt.alloc(), &mut epochs, 0, false, &all)?;
-    let file = receiver(epochs);
+    let mut epochs = Epochs::new(alloc);
+    add(alloc, &mut epochs, 0, false, &all)?;
+    Ok(receiver(epochs))
+}
+
+// Of sixteen satellites the last isn't used.
+#[test]
+fn fifteen_above_the_mask(rt: HostRuntime) -> Result<(), Fail> {
+    let file = sixteen(rt.alloc())?;
     let high = screened(rt.alloc(), &file, &file, &records(rt.alloc(), 16)?, 1)?;
-    assert_eq!(rt; high.boxes.len(), 15);
-    assert_eq!(rt; high.boxes.as_slice()[14].sat, 15);
+    let last = high.boxes.as_slice().last().map(|b| b.sat);
+    assert_eq!(rt; (high.boxes.len(), last), (15, Some(15)));
+    Ok(())
+}
+
+// Of two satellites on both sides of the Earth the one behind it isn't used.
+#[test]
+fn none_behind_the_earth(rt: HostRuntime) -> Result<(), Fail> {
+    let file = sixteen(rt.alloc())?;
     let mut nav = NavFile::new(rt.alloc());
     nav.push(record(1, 314))?;
     nav.push(record(2, 0))?;
-    let one = screened(rt.alloc(), &file, &file, &nav, 1)?;
-    assert_eq!(rt; one.boxes.len(), 1);
-    assert_eq!(rt; one.boxes.as_slice()[0].sat, 2);
-    assert_eq!(rt; one.boxes.as_slice()[0].observed, [0, 0, 0, 0, 0, 0]);
+    let found = screened(rt.alloc(), &file, &file, &nav, 1)?;
+    let last = found.boxes.as_slice().last().map(|b| (b.sat, b.observed));
+    assert_eq!(rt; (found.boxes.len(), last), (1, Some((2, [0; 6]))));
     Ok(())
 }

@@ -2,8 +2,8 @@
 ghost use Rattle.std.specs.Prelude.{◌≡◌, ◌+◌, ◌<◌, ◌^◌, unsigned_abs, vec_len, All, IfOk, OnOk};
 ghost use Rattle.obs_rows.specs.UsedSats.{IsInRange};
 
-use obs_rows::{Arc, BANDS_L1_L2, are_within, is_bands_number};
-use slip_arcs::{UsedPair, UsedSat, cut};
+use obs_rows::{BANDS_L1_L2, are_within, is_bands_number};
+use slip_arcs::{Arcs, UsedPair, UsedSat, cut};
 use std::alloc::{AllocError, Global};
 use std::test::Fail;
 
@@ -49,8 +49,13 @@ fn add(used: &mut Vec<UsedPair>, pair: UsedPair) -> Result<(), AllocError>
     Ok(())
 }
 
-fn is_arc(arc: &Arc, sat: u8, first: u32, last: u32, datum: bool) -> bool {
-    (arc.sat, arc.first, arc.last, arc.datum) == (sat, first, last, datum)
+// A satellite, its first and last pair, and whether it is a datum.
+type Kept = (u8, u32, u32, bool);
+
+fn are_arcs(arcs: &Arcs, want: &[Kept]) -> bool {
+    let mut pairs = arcs.kept.as_slice().iter().zip(want);
+    arcs.kept.len() == want.len()
+        && pairs.all(|(arc, want)| (arc.sat, arc.first, arc.last, arc.datum) == *want)
 }
 
 // Rises of 1000 and 1000 thousandths of a cycle are 17 κ apart, rises of 9000 and 7000 are 1 κ apart.
@@ -61,15 +66,11 @@ fn cuts_at_a_jump(rt: HostRuntime) -> Result<(), Fail> {
     add(&mut used, alone(rt.alloc(), 7, [1000, 1000, 0])?)?;
     add(&mut used, alone(rt.alloc(), 7, [10000, 8000, 0])?)?;
     let arcs = cut(rt.alloc(), &used, BANDS_L1_L2, 12, 2)?;
-    assert_eq!(rt; arcs.kept.len(), 1);
-    assert!(rt; is_arc(&arcs.kept.as_slice()[0], 7, 1, 2, true));
-    assert_eq!(rt; arcs.short, 1);
+    assert!(rt; are_arcs(&arcs, &[(7, 1, 2, true)]) && arcs.short == 1);
     let none = cut(rt.alloc(), &used, BANDS_L1_L2, 12, 3)?;
-    assert_eq!(rt; none.kept.len(), 0);
-    assert_eq!(rt; none.short, 2);
+    assert!(rt; are_arcs(&none, &[]) && none.short == 2);
     let whole = cut(rt.alloc(), &used, BANDS_L1_L2, 17, 3)?;
-    assert_eq!(rt; whole.kept.len(), 1);
-    assert!(rt; is_arc(&whole.kept.as_slice()[0], 7, 0, 2, true));
+    assert!(rt; are_arcs(&whole, &[(7, 0, 2, true)]));
     Ok(())
 }
 
@@ -83,10 +84,8 @@ fn links_arcs_that_join_late(rt: HostRuntime) -> Result<(), Fail> {
     add(&mut used, both(rt.alloc())?)?;
     add(&mut used, alone(rt.alloc(), 3, [0, 0, 0])?)?;
     let arcs = cut(rt.alloc(), &used, BANDS_L1_L2, 12, 2)?;
-    assert_eq!(rt; arcs.kept.len(), 3);
-    assert!(rt; is_arc(&arcs.kept.as_slice()[0], 3, 0, 1, true));
-    assert!(rt; is_arc(&arcs.kept.as_slice()[1], 7, 1, 3, false));
-    assert!(rt; is_arc(&arcs.kept.as_slice()[2], 3, 3, 4, false));
+    let want = [(3, 0, 1, true), (7, 1, 3, false), (3, 3, 4, false)];
+    assert!(rt; are_arcs(&arcs, &want));
     Ok(())
 }
 
@@ -100,39 +99,44 @@ fn cuts_where_power_failed(rt: HostRuntime) -> Result<(), Fail> {
     last.power = true;
     add(&mut used, last)?;
     let arcs = cut(rt.alloc(), &used, BANDS_L1_L2, 12, 1)?;
-    assert_eq!(rt; arcs.kept.len(), 2);
-    assert!(rt; is_arc(&arcs.kept.as_slice()[0], 7, 0, 1, true));
-    assert!(rt; is_arc(&arcs.kept.as_slice()[1], 7, 2, 2, true));
+    assert!(rt; are_arcs(&arcs, &[(7, 0, 1, true), (7, 2, 2, true)]));
     Ok(())
 }
 
-// In thousandths of a cycle, how far the phases rise, and whether the arc is cut with a jump of 12 κ, which is 276,000: rises
+// In thousandths of a cycle, how far the phases rise, and how many arcs there are with a jump of 12 κ, which is 276,000: rises
 // of 4000 and 3000 on L1 and L5 are 24,000 apart, of 4000 and 5000 on L1 and L2 3,335,000. A band that isn't used may jump,
 // and L5 isn't held against L2: 155 on L2 is 274,505, and -149 on L5 is -275,352. 200 on L1 is the whole jump, and the least
 // above it are 276,023 against L2 and 276,012 against L5.
+static RISES: [(u16, [i64; 3], usize); 11] = [
+    (15, [4000, 0, 3000], 1),
+    (12, [4000, 5000, 0], 2),
+    (15, [4000, 5000, 3000], 1),
+    (12, [9000, 7000, 5000], 1),
+    (125, [4000, 5000, 3000], 2),
+    (125, [0, 155, -149], 1),
+    (125, [0, 155, -150], 2),
+    (125, [0, 156, -149], 2),
+    (125, [200, 0, 0], 1),
+    (12, [209, 7, 0], 2),
+    (15, [275, 0, 56], 2),
+];
+
+// The arcs over such a rise, where the call is allowed.
+fn arcs_over(alloc: Global, bands: u16, rise: [i64; 3]) -> Result<Option<usize>, AllocError> {
+    if !is_bands_number(bands) || !are_within(&rise, 1_000_000) {
+        return Ok(None);
+    }
+    let mut used: Vec<UsedPair> = Vec::new(alloc);
+    add(&mut used, alone(alloc, 7, [0, 0, 0])?)?;
+    add(&mut used, alone(alloc, 7, rise)?)?;
+    Ok(Some(cut(alloc, &used, bands, 12, 1)?.kept.len()))
+}
+
 #[test]
 fn holds_each_band_against_l1(rt: HostRuntime) -> Result<(), Fail> {
-    for (bands, rise, arcs) in [
-        (15u16, [4000i64, 0, 3000], 1usize),
-        (12, [4000, 5000, 0], 2),
-        (15, [4000, 5000, 3000], 1),
-        (12, [9000, 7000, 5000], 1),
-        (125, [4000, 5000, 3000], 2),
-        (125, [0, 155, -149], 1),
-        (125, [0, 155, -150], 2),
-        (125, [0, 156, -149], 2),
-        (125, [200, 0, 0], 1),
-        (12, [209, 7, 0], 2),
-        (15, [275, 0, 56], 2),
-    ] {
-        if !is_bands_number(bands) || !are_within(&rise, 1_000_000) {
-            continue;
-        }
-        let mut used: Vec<UsedPair> = Vec::new(rt.alloc());
-        add(&mut used, alone(rt.alloc(), 7, [0, 0, 0])?)?;
-        add(&mut used, alone(rt.alloc(), 7, rise)?)?;
-        let found = cut(rt.alloc(), &used, bands, 12, 1)?;
-        assert_eq!(rt; found.kept.len(), arcs, "bands {bands}, rise {rise:?}");
+    for row in RISES.iter() {
+        let (bands, rise, arcs) = *row;
+        assert_eq!(rt; arcs_over(rt.alloc(), bands, rise)?, Some(arcs), "{row:?}");
     }
     Ok(())
 }
