@@ -3,7 +3,7 @@ ghost use Rattle.std.specs.Prelude.{◌≡◌, ◌^◌, ◌<◌, ◌≤◌, pos,
 ghost use Rattle.whole_math.specs.Rounding.{nearest_div, ceil_div};
 ghost use Rattle.form_tables.specs.declared.sizes.TheConstants.{MOST_COLUMNS};
 
-use whole_math::{ceil, nearest};
+use whole_math::{ceil, ceil_shift, nearest};
 
 /// Every factor and every entry after a rounding is below this in size.
 const LIMIT: i128 = 1 << 52;
@@ -128,6 +128,26 @@ fn nearest_by(n: i128, a: i128, guess: i128) -> i128
     }
 }
 
+/// n / a upward: the guess or the number after it where one of them is that, and else by a division.
+fn ceil_by(n: i128, a: i128, guess: i128) -> i128
+    requires n_size { unsigned_abs n ≤ 2 ^ 104 }
+    requires a_size { unsigned_abs a ≤ 2 ^ 52 }
+    requires positive { pos 0 <ℤ a }
+    requires guess_size { unsigned_abs guess ≤ 2 ^ 52 }
+    ensures value { result ≡ ceil_div n (unsigned_abs a) }
+    ensures size { unsigned_abs result ≤ 2 ^ 104 }
+{
+    let twice = twice_less(n, product(guess, a));
+    let most = 2 * a;
+    if -most < twice && twice <= 0 {
+        guess
+    } else if twice > 0 && twice <= most {
+        guess + 1
+    } else {
+        ceil(n, a)
+    }
+}
+
 /// 2 · (n - m)
 fn twice_less(n: i128, m: i128) -> i128
     requires n_size { unsigned_abs n ≤ 2 ^ 104 }
@@ -170,11 +190,11 @@ fn factor_loss(count: i128, a: i128) -> i128
     ensures value { result ≡ ceil_div (count *ℤ a) (2 ^ 42) }
     ensures size { unsigned_abs result ≤ 2 ^ 104 }
 {
-    ceil(product(count, a), 1 << 42)
+    ceil_shift(product(count, a), 42)
 }
 
-/// An own entry, less p² / a upward, the number of later columns and the loss of their factors.
-pub(crate) fn own_after(entry: i128, p: i128, a: i128, count: i128) -> i128
+/// An own entry, less p² / a upward, the number of later columns and the loss of their factors, with the share of p in a.
+pub(crate) fn own_after(entry: i128, p: i128, a: i128, count: i128, share: &Share) -> i128
     requires entry_size { unsigned_abs entry ≤ 2 ^ 52 }
     requires p_size { unsigned_abs p ≤ 2 ^ 52 }
     requires a_size { unsigned_abs a ≤ 2 ^ 52 }
@@ -184,7 +204,8 @@ pub(crate) fn own_after(entry: i128, p: i128, a: i128, count: i128) -> i128
     ensures value { result ≡ ((entry -ℤ ceil_div (p *ℤ p) (unsigned_abs a)) -ℤ count) -ℤ ceil_div (count *ℤ a) (2 ^ 42) }
     ensures size { unsigned_abs result ≤ 2 ^ 107 }
 {
-    less_three(entry, ceil(product(p, p), a), count, factor_loss(count, a))
+    let loss = ceil_by(product(p, p), a, guess_of(share, p));
+    less_three(entry, loss, count, factor_loss(count, a))
 }
 
 /// What is kept of a pivot.
@@ -193,5 +214,5 @@ pub(crate) fn kept_of(a: i128) -> i128
     ensures value { result ≡ a -ℤ ceil_div a (2 ^ 20) }
     ensures size { unsigned_abs result ≤ 2 ^ 53 }
 {
-    a - ceil(a, 1 << 20)
+    a - ceil_shift(a, 20)
 }

@@ -110,12 +110,14 @@ fn update_row(
     ensures others { (i c : ℕ) → i ≢ r → entry table.new i c ≡ entry table.old i c }
 {
     let later = (columns - j - 1) as i128;
-    let own = own_after(table.at(r, r), table.at(j, r), a, later);
+    let old = table.at(r, r);
+    let above = table.at(j, r);
+    let share = share_by(above, pivot);
+    let own = own_after(old, above, a, later, &share);
     if !is_small(own) {
         return false;
     }
     table.set(r, r, own);
-    let share = share_by(table.at(j, r), pivot);
     update_others(table, j, r, columns, a, &share)
 }
 

@@ -10,9 +10,8 @@ ghost use Rattle.integer_form.specs.declared.faults.Place.TheVariants.{Float};
 ghost use Rattle.integer_form.specs.FloatPoint.{next_number, solved, float_point, baseline_at, HasWide, HasWideBefore};
 
 use crate::products::times;
-use crate::tables::factor_table;
 use crate::{Form, FrontForm, Overwidth, Place};
-use form_tables::{BASELINE_COLUMNS, FactorTable, MOST_COLUMNS, MOST_FACTORS, MOST_INTEGERS};
+use form_tables::{BASELINE_COLUMNS, MOST_COLUMNS, MOST_FACTORS, MOST_INTEGERS, Table};
 use whole_math::nearest;
 
 /// The number of the constant: 1 in units of 2^-16.
@@ -32,7 +31,13 @@ fn is_narrow(number: i128) -> bool
 }
 
 /// The sum of the factors of column j with the columns after it, each times its number.
-fn factor_sum(l: &FactorTable, numbers: &[i64; MOST_FACTORS], j: usize, columns: usize) -> i128
+fn factor_sum<const WIDTH: usize>(
+    l: &Table<MOST_COLUMNS, WIDTH>,
+    numbers: &[i64; MOST_FACTORS],
+    j: usize,
+    columns: usize,
+) -> i128
+    requires factor { j < WIDTH }
     requires column { suc j < columns }
     requires columns_in { columns ≤ MOST_COLUMNS }
     requires factors { EntriesBelow (2 ^ 52) l.now }
@@ -49,7 +54,13 @@ fn factor_sum(l: &FactorTable, numbers: &[i64; MOST_FACTORS], j: usize, columns:
 }
 
 /// The number of column j, from those of the columns after it.
-fn number_of(l: &FactorTable, numbers: &[i64; MOST_FACTORS], j: usize, columns: usize) -> i128
+fn number_of<const WIDTH: usize>(
+    l: &Table<MOST_COLUMNS, WIDTH>,
+    numbers: &[i64; MOST_FACTORS],
+    j: usize,
+    columns: usize,
+) -> i128
+    requires factor { j < WIDTH }
     requires column { suc j < columns }
     requires columns_in { columns ≤ MOST_COLUMNS }
     requires factors { EntriesBelow (2 ^ 52) l.now }
@@ -61,12 +72,13 @@ fn number_of(l: &FactorTable, numbers: &[i64; MOST_FACTORS], j: usize, columns: 
 }
 
 /// Writes the numbers of the first `count` columns, each from those of the columns after it.
-fn solve(
-    l: &FactorTable,
+fn solve<const WIDTH: usize>(
+    l: &Table<MOST_COLUMNS, WIDTH>,
     numbers: &mut [i64; MOST_FACTORS],
     count: usize,
     columns: usize,
 ) -> Result<(), Overwidth>
+    requires factors_of { count ≤ WIDTH }
     requires count_in { count < columns }
     requires columns_in { columns ≤ MOST_COLUMNS }
     requires factors { EntriesBelow (2 ^ 52) l.now }
@@ -105,11 +117,12 @@ fn integer_numbers(z: &[i64]) -> [i64; MOST_FACTORS]
 }
 
 /// The baseline at the integers z, by the factors of its columns.
-fn baseline_from(
-    l: &FactorTable,
+fn baseline_from<const WIDTH: usize>(
+    l: &Table<MOST_COLUMNS, WIDTH>,
     columns: usize,
     z: &[i64],
 ) -> Result<[i64; BASELINE_COLUMNS], Overwidth>
+    requires factors_of { BASELINE_COLUMNS ≤ WIDTH }
     requires columns_from { 4 ≤ columns }
     requires columns_in { columns ≤ MOST_COLUMNS }
     requires factors { EntriesBelow (2 ^ 52) l.now }
@@ -160,6 +173,6 @@ impl FrontForm {
         ensures refused { IsErr result ↔ HasWide (baseline_at self.now.d self.now.l self.now.columns z.now) }
         ensures place { IfErr result (λ e. e.place ≡ Float) }
     {
-        baseline_from(&factor_table(&self.l), self.columns, z)
+        baseline_from(&self.l, self.columns, z)
     }
 }

@@ -22,4 +22,4 @@ pub use faults::{LowerFault, Overwidth, Place};
 pub use form::Form;
 pub use front_form::FrontForm;
 pub use laws::lower_sum_law;
-pub use tables::{factor_table, is_form_table, put_factors};
+pub use tables::{is_form_table, put_factors};

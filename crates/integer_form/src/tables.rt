@@ -32,16 +32,6 @@ pub fn put_factors(front: &FrontTable, factors: &mut FactorTable)
     }
 }
 
-/// A table with these factors of the baseline's columns.
-pub fn factor_table(front: &FrontTable) -> FactorTable
-    ensures same { (r c : ℕ) → r < MOST_COLUMNS → c < BASELINE_COLUMNS → entry result r c ≡ entry front.now r c }
-    ensures outside { IsZeroOutside MOST_COLUMNS BASELINE_COLUMNS result }
-{
-    let mut factors = FactorTable::zeros();
-    put_factors(front, &mut factors);
-    factors
-}
-
 /// Whether row r of a table is that of a form of n columns: below 2^52 in size, the same across the diagonal, and 0
 /// outside the columns.
 fn is_form_row(p: &FormTable, r: usize, n: usize) -> bool

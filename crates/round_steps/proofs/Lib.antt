@@ -3,3 +3,4 @@ pub mod ShiftLaws
 pub mod RunLaws
 pub mod UsedShifts
 pub mod SameRules
+pub mod FrontNumbers

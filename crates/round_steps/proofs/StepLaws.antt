@@ -1,16 +1,18 @@
 -- What a session's float point says.
-use Rattle.std.proofs.Common.{◌≡◌, ℕ, ◌^◌, ◌<◌, ◌≤◌, Bool, List, ℤ, unsigned_abs, to_z, of_z, arith, sym, subst}
+use Rattle.std.proofs.Common.{◌≡◌, ℕ, ◌^◌, ◌<◌, ◌≤◌, Bool, List, ℤ, unsigned_abs, to_z, of_z, arith, sym, subst, inl}
 use Rattle.std.specs.Int.{w64}
 use Rattle.obs_rows.specs.declared.sessions.Session.{Session}
 use Rattle.integer_form.specs.declared.form.Form.{Form}
+use Rattle.integer_form.specs.declared.faults.LowerFault.{LowerFault}
+use Rattle.integer_form.specs.declared.faults.LowerFault.TheVariants as Fault
 use Rattle.integer_form.specs.FloatPoint.{item, float_point, HasWide}
 use Rattle.obs_rows.specs.Ranges.{IsBelow}
 use Rattle.cert_data.specs.Tails.{IsTailOf}
 use Rattle.cert_data.specs.declared.tails.Tail.{Tail}
 use Rattle.cert_data.specs.declared.tails.Tail.TheVariants.{Fixed, Unseparated, Weak, Overwidth, Unsettled, Spent}
-use Rattle.round_steps.specs.Limits.{IsFirstOver}
-use Rattle.cert_check.specs.Settled.{IsBestWhereFixed}
-use Rattle.round_steps.specs.Steps.{IsRoundDeclined, IsUnsettled}
+use Rattle.round_steps.specs.Limits.{limit, IsSettled, IsFirstOver}
+use Rattle.cert_check.specs.Settled.{IsBestWhereFixed, IsRefused, tail_of}
+use Rattle.round_steps.specs.Steps.{IsFloatOf, IsSettledForm, IsRoundDeclined, IsUnsettled}
 use Rattle.cert_check.proofs.WeakLaws.{weak_fits}
 use Rattle.whole_math.proofs.Words.{as_w64}
 
@@ -28,6 +30,22 @@ narrow_numbers f x same narrow j = subst (IsBelow (2 ^ 46)) (sym (same j)) (less
 -- the first number over its limit fits its word
 pub entry_word : (scale : ℕ) (x : List ℤ) (e : ℤ) → IsFirstOver scale x e → ((j : ℕ) → unsigned_abs (item x j) < 2 ^ 46) → to_z w64 (of_z w64 e) ≡ e
 entry_word scale x e first narrow = word e (subst (λ (a : ℤ). unsigned_abs a < 2 ^ 46) (sym first.entry_is) (narrow first.column))
+
+-- numbers of a float point that are settled say that the form is
+pub settled_form : (s : Session) (x : List ℤ) → IsFloatOf s x → IsSettled s.scale x → (form : Form) × IsSettledForm s form
+settled_form s x float settled = (
+  float.form,
+  record {
+    of_rows = float.of_rows;
+    narrow = float.narrow;
+    settled = λ j. subst (λ (e : ℤ). unsigned_abs e ≤ limit s.scale j) (float.numbers j) (settled j);
+  },
+)
+
+-- an elimination that is refused ends the round
+pub refused_elimination : (last : Bool) (s : Session) (f : LowerFault) (t : Tail) → t ≡ tail_of f → IsRefused s f → IsRoundDeclined last s t
+refused_elimination last s (Fault.Weak column pivot) t e h = subst (IsRoundDeclined last s) (sym e) h
+refused_elimination last s (Fault.Overwidth place) t e h = subst (IsRoundDeclined last s) (sym e) (inl h)
 
 -- ---- the ranges of tails
 pub declined_fits : (last : Bool) (s : Session) (t : Tail) → IsRoundDeclined last s t → (ss : List ℕ) (budget : ℕ) → IsTailOf ss s.arcs budget t

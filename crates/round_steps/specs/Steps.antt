@@ -1,5 +1,5 @@
 -- What one round makes of its session.
-use Rattle.std.specs.Prelude.{◌≡◌, ℕ, ◌⊎◌, Bool, true, false, List, ℤ}
+use Rattle.std.specs.Prelude.{◌≡◌, ℕ, ◌⊎◌, Bool, true, false, Option, Some, None, List, ℤ}
 use Rattle.obs_rows.specs.declared.sessions.Session.{Session}
 use Rattle.integer_form.specs.declared.form.Form.{Form}
 use Rattle.integer_form.specs.declared.faults.Place.{Place}
@@ -51,6 +51,11 @@ pub record IsOutOfReach (s : Session) : Type 0 where
 abbrev pub IsStep : Bool → Session → Step → Type 0
 IsStep last s (Settled form) = IsSettledForm s form
 IsStep last s (Moved point numbers) = (last ≡ false) × IsMoved s numbers point
+
+-- the same of a coarse round: the point where it moves to, and none where it is settled
+abbrev pub IsCoarseStep : Bool → Session → Option (List ℤ) → Type 0
+IsCoarseStep last s None = (form : Form) × IsSettledForm s form
+IsCoarseStep last s (Some point) = (last ≡ false) × ((numbers : List ℤ) × IsMoved s numbers point)
 
 -- a number of the float point is 2^46 or more in size
 pub record IsFloatWide (s : Session) : Type 0 where

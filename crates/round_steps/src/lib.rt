@@ -12,6 +12,7 @@
 //! `Rounds` brings.
 #![tactic(auto)]
 
+mod coarse;
 mod constants;
 mod counts;
 mod limits;

@@ -9,6 +9,7 @@ ghost use Rattle.obs_rows.specs.ReceiverPoints.{IsReceiverPoint};
 ghost use Rattle.round_steps.specs.Shifts.{AreSameArcs, AreShiftsBelow};
 ghost use Rattle.round_steps.specs.Runs.{Rules, StayTheSame, IsSessionAt, SettlesAt, IsCoarseEnd, IsEnd, FitsEnd, IsBestEnd, round_at, most_rounds, coarse_sessions, sessions_of};
 
+use crate::coarse::coarse_step;
 use crate::{Step, grown, round_step};
 use cert_check::decide_settled;
 use cert_data::{RoundCounts, Stage, Tail};
@@ -116,9 +117,9 @@ pub fn coarse_rounds<R: Rounds>(
         let Some(session) = rounds.session(alloc, arcs, &point, COARSE_SCALE)? else {
             return Ok(CoarseEnd::Declined { made, tail: AT_Y });
         };
-        match round_step(&session, made == COARSE_ROUNDS) {
-            Ok(Step::Settled { .. }) => return Ok(CoarseEnd::Settled { made, point }),
-            Ok(Step::Moved { point: moved, .. }) => {
+        match coarse_step(&session, made == COARSE_ROUNDS) {
+            Ok(None) => return Ok(CoarseEnd::Settled { made, point }),
+            Ok(Some(moved)) => {
                 point = moved;
                 made += 1;
             }

@@ -58,8 +58,8 @@ fn solve(session: &Session) -> Result<Solved, Tail>
 
 /// What a round makes of its session, or the tail with which it ends the run.
 ///
-/// `last` says that no further round at its scale is allowed, so that one that isn't settled ends the run. `run` and
-/// `coarse_rounds` call it, and no other crate does.
+/// `last` says that no further round at its scale is allowed, so that one that isn't settled ends the run. `run` calls it for
+/// its fine rounds, and no other crate does.
 pub fn round_step(session: &Session, last: bool) -> Result<Step, Tail>
     ensures step { IfOk result (IsStep last session.now) }
     ensures declined { IfErr result (IsRoundDeclined last session.now) }

@@ -20,12 +20,12 @@ returns-clause-value c =
     let f : ℤ = c.own_after-own.result in
     let ea : to_z w128 (of_z w128 c.args.a) ≡ c.args.a = to_z-of_z w128 c.args.a c.ranges.a in
     let wf : to_z w128 (of_z w128 f) ≡ f = as_w128 f (omega (arith, c.own_after-own.ensures.size)) in
-    let x : to_z w128 (of_z w128 c.at.result) ≡ entry c.args.table.now r r = read c.at.result (entry c.args.table.now r r) c.at.ensures.value (c.requires.entries r (omega arith) c.requires.row_in) in
-    let p : to_z w128 (of_z w128 c.at-2.result) ≡ entry c.args.table.now j r =
-    read c.at-2.result (entry c.args.table.now j r) c.at-2.ensures.value (c.requires.pivots r c.requires.row c.requires.row_in) in
+    let x : to_z w128 (of_z w128 c.at-old.result) ≡ entry c.args.table.now r r = read c.at-old.result (entry c.args.table.now r r) c.at-old.ensures.value (c.requires.entries r (omega arith) c.requires.row_in) in
+    let p : to_z w128 (of_z w128 c.at-above.result) ≡ entry c.args.table.now j r =
+    read c.at-above.result (entry c.args.table.now j r) c.at-above.ensures.value (c.requires.pivots r c.requires.row c.requires.row_in) in
     let pa : a ≡ pos (unsigned_abs a) = positive_is a (subst (λ (z : ℤ). pos 0 <ℤ z) (sym ea) c.requires.positive) in
     let raw : f ≡ own_entry c.args.table.now j (unsigned_abs a) (pos m) r =
-    own_is (to_z w128 (of_z w128 c.at.result)) (to_z w128 (of_z w128 c.at-2.result)) (to_z w128 m) a c.args.table.now j r m f x p
+    own_is (to_z w128 (of_z w128 c.at-old.result)) (to_z w128 (of_z w128 c.at-above.result)) (to_z w128 m) a c.args.table.now j r m f x p
     (count_word m (omega (arith, c.requires.columns_in))) pa c.own_after-own.ensures.value in
     let is : f ≡ own_entry c.args.table.now j (unsigned_abs c.args.a) (pos m) r = raw ∙ ap (λ z. own_entry c.args.table.now j (unsigned_abs z) (pos m) r) ea in
     let apart : j ≢ r = omega (arith, c.requires.row) in
@@ -47,12 +47,12 @@ returns-clause-small c =
     let f : ℤ = c.own_after-own.result in
     let ea : to_z w128 (of_z w128 c.args.a) ≡ c.args.a = to_z-of_z w128 c.args.a c.ranges.a in
     let wf : to_z w128 (of_z w128 f) ≡ f = as_w128 f (omega (arith, c.own_after-own.ensures.size)) in
-    let x : to_z w128 (of_z w128 c.at.result) ≡ entry c.args.table.now r r = read c.at.result (entry c.args.table.now r r) c.at.ensures.value (c.requires.entries r (omega arith) c.requires.row_in) in
-    let p : to_z w128 (of_z w128 c.at-2.result) ≡ entry c.args.table.now j r =
-    read c.at-2.result (entry c.args.table.now j r) c.at-2.ensures.value (c.requires.pivots r c.requires.row c.requires.row_in) in
+    let x : to_z w128 (of_z w128 c.at-old.result) ≡ entry c.args.table.now r r = read c.at-old.result (entry c.args.table.now r r) c.at-old.ensures.value (c.requires.entries r (omega arith) c.requires.row_in) in
+    let p : to_z w128 (of_z w128 c.at-above.result) ≡ entry c.args.table.now j r =
+    read c.at-above.result (entry c.args.table.now j r) c.at-above.ensures.value (c.requires.pivots r c.requires.row c.requires.row_in) in
     let pa : a ≡ pos (unsigned_abs a) = positive_is a (subst (λ (z : ℤ). pos 0 <ℤ z) (sym ea) c.requires.positive) in
     let raw : f ≡ own_entry c.args.table.now j (unsigned_abs a) (pos m) r =
-    own_is (to_z w128 (of_z w128 c.at.result)) (to_z w128 (of_z w128 c.at-2.result)) (to_z w128 m) a c.args.table.now j r m f x p
+    own_is (to_z w128 (of_z w128 c.at-old.result)) (to_z w128 (of_z w128 c.at-above.result)) (to_z w128 m) a c.args.table.now j r m f x p
     (count_word m (omega (arith, c.requires.columns_in))) pa c.own_after-own.ensures.value in
     let is : f ≡ own_entry c.args.table.now j (unsigned_abs c.args.a) (pos m) r = raw ∙ ap (λ z. own_entry c.args.table.now j (unsigned_abs z) (pos m) r) ea in
     let apart : j ≢ r = omega (arith, c.requires.row) in
@@ -75,12 +75,12 @@ returns-clause-refused c =
     let f : ℤ = c.own_after-own.result in
     let ea : to_z w128 (of_z w128 c.args.a) ≡ c.args.a = to_z-of_z w128 c.args.a c.ranges.a in
     let wf : to_z w128 (of_z w128 f) ≡ f = as_w128 f (omega (arith, c.own_after-own.ensures.size)) in
-    let x : to_z w128 (of_z w128 c.at.result) ≡ entry c.args.table.now r r = read c.at.result (entry c.args.table.now r r) c.at.ensures.value (c.requires.entries r (omega arith) c.requires.row_in) in
-    let p : to_z w128 (of_z w128 c.at-2.result) ≡ entry c.args.table.now j r =
-    read c.at-2.result (entry c.args.table.now j r) c.at-2.ensures.value (c.requires.pivots r c.requires.row c.requires.row_in) in
+    let x : to_z w128 (of_z w128 c.at-old.result) ≡ entry c.args.table.now r r = read c.at-old.result (entry c.args.table.now r r) c.at-old.ensures.value (c.requires.entries r (omega arith) c.requires.row_in) in
+    let p : to_z w128 (of_z w128 c.at-above.result) ≡ entry c.args.table.now j r =
+    read c.at-above.result (entry c.args.table.now j r) c.at-above.ensures.value (c.requires.pivots r c.requires.row c.requires.row_in) in
     let pa : a ≡ pos (unsigned_abs a) = positive_is a (subst (λ (z : ℤ). pos 0 <ℤ z) (sym ea) c.requires.positive) in
     let raw : f ≡ own_entry c.args.table.now j (unsigned_abs a) (pos m) r =
-    own_is (to_z w128 (of_z w128 c.at.result)) (to_z w128 (of_z w128 c.at-2.result)) (to_z w128 m) a c.args.table.now j r m f x p
+    own_is (to_z w128 (of_z w128 c.at-old.result)) (to_z w128 (of_z w128 c.at-above.result)) (to_z w128 m) a c.args.table.now j r m f x p
     (count_word m (omega (arith, c.requires.columns_in))) pa c.own_after-own.ensures.value in
     let is : f ≡ own_entry c.args.table.now j (unsigned_abs c.args.a) (pos m) r = raw ∙ ap (λ z. own_entry c.args.table.now j (unsigned_abs z) (pos m) r) ea in
     let apart : j ≢ r = omega (arith, c.requires.row) in
@@ -101,12 +101,12 @@ returns-then-not-is_small-clause-refused c =
     let f : ℤ = c.own_after-own.result in
     let ea : to_z w128 (of_z w128 c.args.a) ≡ c.args.a = to_z-of_z w128 c.args.a c.ranges.a in
     let wf : to_z w128 (of_z w128 f) ≡ f = as_w128 f (omega (arith, c.own_after-own.ensures.size)) in
-    let x : to_z w128 (of_z w128 c.at.result) ≡ entry c.args.table.now r r = read c.at.result (entry c.args.table.now r r) c.at.ensures.value (c.requires.entries r (omega arith) c.requires.row_in) in
-    let p : to_z w128 (of_z w128 c.at-2.result) ≡ entry c.args.table.now j r =
-    read c.at-2.result (entry c.args.table.now j r) c.at-2.ensures.value (c.requires.pivots r c.requires.row c.requires.row_in) in
+    let x : to_z w128 (of_z w128 c.at-old.result) ≡ entry c.args.table.now r r = read c.at-old.result (entry c.args.table.now r r) c.at-old.ensures.value (c.requires.entries r (omega arith) c.requires.row_in) in
+    let p : to_z w128 (of_z w128 c.at-above.result) ≡ entry c.args.table.now j r =
+    read c.at-above.result (entry c.args.table.now j r) c.at-above.ensures.value (c.requires.pivots r c.requires.row c.requires.row_in) in
     let pa : a ≡ pos (unsigned_abs a) = positive_is a (subst (λ (z : ℤ). pos 0 <ℤ z) (sym ea) c.requires.positive) in
     let raw : f ≡ own_entry c.args.table.now j (unsigned_abs a) (pos m) r =
-    own_is (to_z w128 (of_z w128 c.at.result)) (to_z w128 (of_z w128 c.at-2.result)) (to_z w128 m) a c.args.table.now j r m f x p
+    own_is (to_z w128 (of_z w128 c.at-old.result)) (to_z w128 (of_z w128 c.at-above.result)) (to_z w128 m) a c.args.table.now j r m f x p
     (count_word m (omega (arith, c.requires.columns_in))) pa c.own_after-own.ensures.value in
     let is : f ≡ own_entry c.args.table.now j (unsigned_abs c.args.a) (pos m) r = raw ∙ ap (λ z. own_entry c.args.table.now j (unsigned_abs z) (pos m) r) ea in
     let s : is_small f ≡ false = ap (λ z. is_small z) (sym wf) ∙ sym c.is_small.ensures ∙ c.if-not-is_small.true in

@@ -28,12 +28,12 @@ inside : (columns i : ℕ) → 4 ≤ columns → i < 3 → i < columns - 1
 inside columns i h g = omega arith
 
 pub returns-clause-ok : goal.returns-clause-ok
-returns-clause-ok c = λ d. three c.solve.new.numbers (λ i h. c.in_ok-solve.ensures.narrow i (inside c.args.columns i c.requires.columns_from h))
+returns-clause-ok g c = λ d. three c.solve.new.numbers (λ i h. c.in_ok-solve.ensures.narrow i (inside c.args.columns i c.requires.columns_from h))
     ∙ baseline_is d c.args.l.now c.args.columns c.solve.new.numbers c.integer_numbers-numbers.result c.args.z.now c.requires.columns_from c.requires.count
     c.integer_numbers-numbers.ensures.list (c.in_ok-solve.ensures.solved d)
 
 pub returns-clause-refused : goal.returns-clause-refused
-returns-clause-refused c = λ d.
+returns-clause-refused g c = λ d.
     let e : (item c.solve.new.numbers 0 ∷ (item c.solve.new.numbers 1 ∷ (item c.solve.new.numbers 2 ∷ []))) ≡ baseline_at d c.args.l.now c.args.columns c.args.z.now =
     baseline_is d c.args.l.now c.args.columns c.solve.new.numbers c.integer_numbers-numbers.result c.args.z.now c.requires.columns_from c.requires.count
     c.integer_numbers-numbers.ensures.list (c.in_ok-solve.ensures.solved d) in (
@@ -43,7 +43,7 @@ returns-clause-refused c = λ d.
     )
 
 pub returns-in_err-solve-clause-refused : goal.returns-in_err-solve-clause-refused
-returns-in_err-solve-clause-refused c =
+returns-in_err-solve-clause-refused g c =
     let fault = err_from_is_err_and c.from_residual.result c.from_residual.ensures.1 in
     λ d. (
       λ h. baseline_wide d c.args.l.now c.args.columns c.integer_numbers-numbers.result c.args.z.now c.requires.count c.requires.columns_from c.integer_numbers-numbers.ensures.list

@@ -16,7 +16,7 @@ sum_is o t k h p q = let s : unsigned_abs (o +ℤ t) ≤ unsigned_abs o + unsign
     (ap (λ a. to_z w128 (of_z w128 (o +ℤ a))) (as_w128 t (omega arith)) ∙ as_w128 (o +ℤ t) (omega arith), omega arith)
 
 pub loop-i-preserved : goal.loop-i-preserved
-loop-i-preserved c =
+loop-i-preserved g c =
     let k : ℕ = c.loop-i.i in
     let j : ℕ = c.args.j in
     let a : ℕ → ℤ = λ i. entry c.args.l.now i c.args.j in
@@ -41,7 +41,7 @@ loop-i-preserved c =
     }
 
 pub returns-clause-value : goal.returns-clause-value
-returns-clause-value c =
+returns-clause-value g c =
     let j : ℕ = c.args.j in
     let n : ℕ = c.args.columns - 1 - suc c.args.j in
     let a : ℕ → ℤ = λ i. entry c.args.l.now i c.args.j in

@@ -17,7 +17,7 @@ moved : (d : List ℤ) (l : List (List ℤ)) (n b j k : ℕ) (x s : List ℤ) �
 moved d l n b j k x s e h = subst (λ (m : ℕ). list_from (item x) m (n - 1 - m) ≡ solved (stored d l n m k) s) e h
 
 pub returns-then-not-is_narrow-clause-wide : goal.returns-then-not-is_narrow-clause-wide
-returns-then-not-is_narrow-clause-wide c = λ d.
+returns-then-not-is_narrow-clause-wide g c = λ d.
     let j : ℕ = c.args.count - 1 - c.loop-k.k in
     let s : List ℤ = list_from (item c.args.numbers.now) c.args.count (c.args.columns - 1 - c.args.count) in
     let start : c.args.count - c.loop-k.k ≡ suc j = omega (arith, c.loop-k-test.true) in
@@ -33,7 +33,7 @@ returns-then-not-is_narrow-clause-wide c = λ d.
     size x h = grind (arith, nat_tests)
 
 pub loop-k-preserved : goal.loop-k-preserved
-loop-k-preserved c =
+loop-k-preserved g c =
     let k : ℕ = c.loop-k.k in
     let j : ℕ = c.args.count - 1 - c.loop-k.k in
     let x : List ℤ = c.loop-k.numbers in
@@ -69,7 +69,7 @@ loop-k-preserved c =
     order j i h = grind arith
 
 pub returns-clause-solved : goal.returns-clause-solved
-returns-clause-solved c = λ d.
+returns-clause-solved g c = λ d.
     let ended : c.loop-k.k ≤ c.args.count = search rules in
     let all : c.loop-k.k ≡ c.args.count = omega (arith, c.loop-k-test.false) in
     let none : c.args.count - c.loop-k.k ≡ 0 = omega arith in

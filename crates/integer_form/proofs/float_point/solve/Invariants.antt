@@ -7,7 +7,7 @@ use Rattle.integer_form.specs.FloatPoint.{solved}
 use Rattle.integer_form.proofs.float_point.solve.Given as goal
 
 abbrev pub invariant-loop-k : goal.invariant-loop-k
-invariant-loop-k l = record {
+invariant-loop-k g l = record {
   full : length l.numbers ≡ MOST_FACTORS;
   solved : (d : List ℤ) → list_from (item l.numbers) (l.count - l.k) (l.columns - 1 - (l.count - l.k)) ≡ solved (stored d l.l l.columns (l.count - l.k) l.k)
       (list_from (item l.initial.numbers) l.count (l.columns - 1 - l.count));

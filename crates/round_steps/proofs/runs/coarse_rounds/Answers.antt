@@ -1,23 +1,24 @@
-use Rattle.std.proofs.Common.{◌≡◌, ◌<◌, ◌≤◌, ◌+◌, ◌-◌, false, nat_eq, ℕ, arith, subst}
+use Rattle.std.proofs.Common.{◌≡◌, ◌<◌, ◌≤◌, ◌+◌, ◌-◌, false, nat_eq, ℕ, List, ℤ, arith, subst}
+use Rattle.integer_form.specs.declared.form.Form.{Form}
 use Rattle.obs_rows.specs.declared.units.TheConstants.{COARSE_SCALE}
-use Rattle.round_steps.specs.Steps.{IsStep, IsSettledForm, IsMoved}
+use Rattle.round_steps.specs.Steps.{IsCoarseStep, IsSettledForm, IsMoved}
 use Rattle.round_steps.specs.Runs.{Rules, IsSessionOf, coarse, most_rounds}
 use Rattle.round_steps.proofs.RunLaws.{session_at, one_more, coarse_settles, coarse_declines, coarse_moves}
 use Rattle.round_steps.proofs.SameRules.{stays, stays_on, same_session}
 use Rattle.round_steps.proofs.runs.coarse_rounds.Goals as goal
 
-pub returns-in-Ok-Settled-clause-end : goal.returns-in-Ok-Settled-clause-end
-returns-in-Ok-Settled-clause-end g c =
+pub returns-in-Ok-None-clause-end : goal.returns-in-Ok-None-clause-end
+returns-in-Ok-None-clause-end g c =
     let rules : Rules = g.R.Rounds.rules c.args.rounds.now in
     let s = c.in-Some.session in
     let k : IsSessionOf rules (coarse c.rounds.point c.args.arcs.now) s = session_at rules (coarse c.rounds.point c.args.arcs.now) c.in_ok-session.field-0 s c.in-Some.is (same_session rules (g.R.Rounds.rules c.rounds.rounds) c.rounds.invariant.rules (coarse c.rounds.point c.args.arcs.now) c.in_ok-session.field-0 c.in_ok-session.ensures.session) in
-    let t : IsSettledForm s c.in-Ok-Settled.field-0-0 = subst (IsStep (nat_eq c.rounds.made (most_rounds COARSE_SCALE)) s) c.in-Ok-Settled.field-0-is c.in-Ok-Settled.ensures.step in
-    coarse_settles rules c.rounds.point c.args.arcs.now c.rounds.made s c.in-Ok-Settled.field-0-0 c.rounds.invariant.so_far k t
+    let t : (form : Form) × IsSettledForm s form = subst (IsCoarseStep (nat_eq c.rounds.made (most_rounds COARSE_SCALE)) s) c.in-Ok-None.field-0-is c.in-Ok-None.ensures.step in
+    coarse_settles rules c.rounds.point c.args.arcs.now c.rounds.made s t.0 c.rounds.invariant.so_far k t.1
 
 pub rounds-smaller : goal.rounds-smaller
 rounds-smaller g c =
-    let m : (nat_eq c.rounds.made (most_rounds COARSE_SCALE) ≡ false) × IsMoved c.in-Some.session c.in-Ok-Moved.field-0-1 c.in-Ok-Moved.moved =
-    subst (IsStep (nat_eq c.rounds.made (most_rounds COARSE_SCALE)) c.in-Some.session) c.in-Ok-Moved.field-0-is c.in-Ok-Moved.ensures.step in
+    let m : (nat_eq c.rounds.made (most_rounds COARSE_SCALE) ≡ false) × ((numbers : List ℤ) × IsMoved c.in-Some.session numbers c.in-Ok-Some.moved) =
+    subst (IsCoarseStep (nat_eq c.rounds.made (most_rounds COARSE_SCALE)) c.in-Some.session) c.in-Ok-Some.field-0-is c.in-Ok-Some.ensures.step in
     less c.rounds.made (one_more c.rounds.made (most_rounds COARSE_SCALE) c.rounds.invariant.so_far.few m.0)
   where
     less : (n : ℕ) → n + 1 ≤ most_rounds COARSE_SCALE → most_rounds COARSE_SCALE - (n + 1) < most_rounds COARSE_SCALE - n
@@ -28,13 +29,13 @@ rounds-preserved g c =
     let rules : Rules = g.R.Rounds.rules c.args.rounds.now in
     let s = c.in-Some.session in
     let k : IsSessionOf rules (coarse c.rounds.point c.args.arcs.now) s = session_at rules (coarse c.rounds.point c.args.arcs.now) c.in_ok-session.field-0 s c.in-Some.is (same_session rules (g.R.Rounds.rules c.rounds.rounds) c.rounds.invariant.rules (coarse c.rounds.point c.args.arcs.now) c.in_ok-session.field-0 c.in_ok-session.ensures.session) in
-    let m : (nat_eq c.rounds.made (most_rounds COARSE_SCALE) ≡ false) × IsMoved s c.in-Ok-Moved.field-0-1 c.in-Ok-Moved.moved =
-    subst (IsStep (nat_eq c.rounds.made (most_rounds COARSE_SCALE)) s) c.in-Ok-Moved.field-0-is c.in-Ok-Moved.ensures.step in
+    let m : (nat_eq c.rounds.made (most_rounds COARSE_SCALE) ≡ false) × ((numbers : List ℤ) × IsMoved s numbers c.in-Ok-Some.moved) =
+    subst (IsCoarseStep (nat_eq c.rounds.made (most_rounds COARSE_SCALE)) s) c.in-Ok-Some.field-0-is c.in-Ok-Some.ensures.step in
     let ended = c.in_ok-session.ensures in
     let given = c.rounds.invariant.sessions in
     let one = ended.made in
     record {
-      so_far = coarse_moves rules c.rounds.point c.args.arcs.now c.rounds.made s c.in-Ok-Moved.field-0-1 c.in-Ok-Moved.moved c.rounds.invariant.so_far k m.0 m.1;
+      so_far = coarse_moves rules c.rounds.point c.args.arcs.now c.rounds.made s m.1.0 c.in-Ok-Some.moved c.rounds.invariant.so_far k m.0 m.1.1;
       rules = stays_on rules (g.R.Rounds.rules c.rounds.rounds) (g.R.Rounds.rules c.session.new.self) c.rounds.invariant.rules ended.rules;
       ready = ended.ready;
       sessions = omega arith;

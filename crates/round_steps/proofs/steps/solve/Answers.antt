@@ -1,20 +1,10 @@
-use Rattle.std.proofs.Common.{◌≡◌, Bool, refl, sym, subst, inl, inr}
-use Rattle.obs_rows.specs.declared.sessions.Session.{Session}
-use Rattle.integer_form.specs.declared.faults.LowerFault.{LowerFault}
-use Rattle.integer_form.specs.declared.faults.LowerFault.TheVariants.{Weak, Overwidth}
-use Rattle.cert_data.specs.declared.tails.Tail.{Tail}
-use Rattle.cert_check.specs.Settled.{IsRefused, tail_of}
-use Rattle.round_steps.specs.Steps.{IsRoundDeclined}
-use Rattle.round_steps.proofs.StepLaws.{narrow_numbers}
+use Rattle.std.proofs.Common.{refl, inl, inr}
+use Rattle.round_steps.proofs.StepLaws.{narrow_numbers, refused_elimination}
 use Rattle.std.proofs.lemmas.Bool.{false≢true}
 use Rattle.round_steps.proofs.steps.solve.Goals as goal
 
-refused : (last : Bool) (s : Session) (f : LowerFault) (t : Tail) → t ≡ tail_of f → IsRefused s f → IsRoundDeclined last s t
-refused last s (Weak column pivot) t e h = subst (IsRoundDeclined last s) (sym e) h
-refused last s (Overwidth place) t e h = subst (IsRoundDeclined last s) (sym e) (inl h)
-
 pub returns-in-Err-clause-refused : goal.returns-in-Err-clause-refused
-returns-in-Err-clause-refused c = λ last. refused last c.args.session.now c.in-Err.fault c.tail_of.result c.tail_of.ensures
+returns-in-Err-clause-refused c = λ last. refused_elimination last c.args.session.now c.in-Err.fault c.tail_of.result c.tail_of.ensures
     (record { normal = c.sum-normal.result; of_rows = c.sum-normal.ensures.normal; told = c.in-Err.ensures.refused })
 
 pub returns-in-Err-float_of-clause-refused : goal.returns-in-Err-float_of-clause-refused

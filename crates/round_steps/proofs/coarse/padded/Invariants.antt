@@ -1,0 +1,10 @@
+use Rattle.std.proofs.Common.{◌≡◌, ℕ, ◌<◌, ◌≤◌, length, pos, slice_index_or}
+use Rattle.form_tables.specs.declared.sizes.TheConstants.{MOST_FACTORS}
+use Rattle.round_steps.proofs.coarse.padded.Given as goal
+
+abbrev pub invariant-loop-i : goal.invariant-loop-i
+invariant-loop-i l = record {
+  full : length l.numbers ≡ MOST_FACTORS;
+  same : (k : ℕ) → k < l.i → slice_index_or l.numbers k (pos 0) ≡ slice_index_or l.baseline k (pos 0);
+  outside : (k : ℕ) → 3 ≤ k → slice_index_or l.numbers k (pos 0) ≡ pos 0;
+}

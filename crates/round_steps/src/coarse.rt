@@ -1,0 +1,94 @@
+//! What a coarse round makes of its session. It counts no integers, so the front of its normal matrix says its float point: the
+//! rest of an elimination, with its tables of all columns, has nothing to do.
+ghost use Rattle.std.specs.Prelude.{◌≡◌, ℕ, ◌^◌, ◌<◌, Bool, unsigned_abs, IfOk, IfErr};
+ghost use Rattle.normal_sum.specs.Normals.{IsNormalOf};
+ghost use Rattle.obs_rows.specs.Signals.{counted};
+ghost use Rattle.integer_form.specs.FloatPoint.{item};
+ghost use Rattle.round_steps.specs.Steps.{IsFloatOf, IsCoarseStep, IsRoundDeclined};
+
+use crate::limits::first_over;
+use crate::points::moved_point;
+use cert_data::Tail;
+use form_tables::{BASELINE_COLUMNS, MOST_FACTORS};
+use integer_form::Place;
+use lower_form::{front, lower};
+use normal_sum::{Normal, sum};
+use obs_rows::{Session, is_receiver_point};
+use cert_check::tail_of;
+
+/// The numbers of the baseline, and 0 for all other columns.
+fn padded(baseline: &[i64; BASELINE_COLUMNS]) -> [i64; MOST_FACTORS]
+    ensures { (j : ℕ) → item result j ≡ item baseline.now j }
+{
+    let mut numbers = [0; MOST_FACTORS];
+    for i in 0..BASELINE_COLUMNS {
+        numbers[i] = baseline[i];
+    }
+    numbers
+}
+
+/// The numbers of the float point where no integers are counted, by the front.
+fn numbers_by_front(session: &Session, normal: &Normal) -> Result<[i64; MOST_FACTORS], Tail>
+    requires of_rows { IsNormalOf session.now.arcs (counted session.now.signals session.now.scale) session.now.pairs normal.now }
+    requires no_integers { normal.now.columns ≡ 4 }
+    ensures float { IfOk result (λ x. IsFloatOf session.now x) }
+    ensures refused { IfErr result (λ t. (last : Bool) → IsRoundDeclined last session.now t) }
+{
+    match front(normal) {
+        Ok(ref first) => match first.baseline_of(&[]) {
+            Ok(numbers) => Ok(padded(&numbers)),
+            Err(fault) => Err(Tail::Overwidth { place: fault.place }),
+        },
+        Err(fault) => Err(tail_of(fault)),
+    }
+}
+
+/// The numbers of the float point, by the whole form.
+fn numbers_by_form(session: &Session, normal: &Normal) -> Result<[i64; MOST_FACTORS], Tail>
+    requires of_rows { IsNormalOf session.now.arcs (counted session.now.signals session.now.scale) session.now.pairs normal.now }
+    ensures float { IfOk result (λ x. IsFloatOf session.now x) }
+    ensures refused { IfErr result (λ t. (last : Bool) → IsRoundDeclined last session.now t) }
+{
+    match lower(normal) {
+        Ok(ref form) => match form.float_of() {
+            Ok(numbers) => Ok(numbers),
+            Err(fault) => Err(Tail::Overwidth { place: fault.place }),
+        },
+        Err(fault) => Err(tail_of(fault)),
+    }
+}
+
+/// The numbers of the float point of a session.
+fn numbers_of(session: &Session) -> Result<[i64; MOST_FACTORS], Tail>
+    ensures float { IfOk result (λ x. IsFloatOf session.now x) }
+    ensures refused { IfErr result (λ t. (last : Bool) → IsRoundDeclined last session.now t) }
+{
+    let normal = sum(session);
+    if normal.columns == BASELINE_COLUMNS + 1 {
+        numbers_by_front(session, &normal)
+    } else {
+        numbers_by_form(session, &normal)
+    }
+}
+
+/// What a coarse round makes of its session, or the tail with which it ends the run: the point where it moves to, or `None`
+/// where it is settled. It is what `round_step` makes of it, without the form.
+pub(crate) fn coarse_step(session: &Session, last: bool) -> Result<Option<[i64; 3]>, Tail>
+    ensures step { IfOk result (IsCoarseStep last session.now) }
+    ensures declined { IfErr result (IsRoundDeclined last session.now) }
+{
+    let numbers = numbers_of(session)?;
+    let Some(entry) = first_over(session.scale, &numbers) else {
+        return Ok(None);
+    };
+    if last {
+        return Err(Tail::Unsettled { entry });
+    }
+    let point = moved_point(session.scale, &session.point, &numbers);
+    if !is_receiver_point(&point) {
+        return Err(Tail::Overwidth {
+            place: Place::Point,
+        });
+    }
+    Ok(Some(point))
+}
