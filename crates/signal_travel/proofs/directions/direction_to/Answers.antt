@@ -2,14 +2,11 @@ use Rattle.std.proofs.Common.{◌^◌, ℤ, pos, ◌+ℤ◌, ◌≤ℤ◌, neg_�
 use Rattle.std.proofs.lemmas.Int.{ints}
 use Rattle.orbit_model.specs.SeenPlaces.{Place, difference, square, point_of}
 use Rattle.orbit_model.proofs.Changes.{range_change}
-use Rattle.signal_travel.proofs.MeanDirections.{seen_square, seen_between, far_enough, near_enough, move_x, move_y, move_z}
+use Rattle.signal_travel.proofs.MeanDirections.{seen_square, seen_between, far_enough, near_enough, move_x, move_y, move_z, wider}
 use Rattle.signal_travel.proofs.directions.direction_to.Goals as goal
 
 pub length_of-range-requires-clause-between : goal.length_of-range-requires-clause-between
 length_of-range-requires-clause-between c = seen_between c.args.seen.now.place c.vector_from-vector.result c.args.point.now c.args.seen.now.away c.vector_from-vector.ensures.holds
-
-wider : (l x : ℤ) → neg_ℤ ((l +ℤ pos 80) +ℤ pos 524289) ≤ℤ x → neg_ℤ (l +ℤ pos (2 ^ 20)) ≤ℤ x
-wider l x h = omega (arith, ints)
 
 pub coordinate_spread-requires-clause-low : goal.coordinate_spread-requires-clause-low
 coordinate_spread-requires-clause-low c = wider c.length_of-range.result.lo c.vector_from-vector.result.x.lo
