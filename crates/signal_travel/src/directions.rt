@@ -10,9 +10,10 @@ ghost use Rattle.signal_travel.specs.Directions.{IsInSpread};
 
 use crate::passes::Sight;
 use crate::places::Point;
+use crate::quotients::{high_over, low_over};
 use crate::sent::SeenPlace;
 use crate::spread::Spread;
-use crate::vectors::{length_of, vector_from};
+use crate::vectors::{length_by, vector_from};
 use iv_core::Iv;
 use obs_rows::DIRECTION_EXPONENT;
 
@@ -58,7 +59,9 @@ fn quotient_of(change: &Iv<35>, sum: &Iv<35>) -> Iv<DIRECTION_EXPONENT>
     ensures size { IsWithin (2 ^ DIRECTION_EXPONENT + 28) result }
     ensures width { width_of result ≤ℤ pos 57 }
 {
-    change.div_to::<35, DIRECTION_EXPONENT>(sum).unwrap()
+    let lo = low_over(change.lo, sum);
+    let hi = high_over(change.hi, sum);
+    Iv::from_ends(lo as i64, hi as i64)
 }
 
 // The middle of the box, rounded down
@@ -129,7 +132,7 @@ pub fn direction_to(seen: &SeenPlace, point: &Point) -> Direction
         IsInSpread result.x direction.x × IsInSpread result.y direction.y × IsInSpread result.z direction.z }
 {
     let vector = vector_from(point, &seen.place);
-    let range = length_of(&vector);
+    let range = length_by(&vector, 0);
     Direction {
         x: coordinate_spread(&vector.x, &range),
         y: coordinate_spread(&vector.y, &range),

@@ -27,6 +27,7 @@ mod directions;
 mod mask;
 mod passes;
 mod places;
+mod quotients;
 mod sent;
 mod spread;
 mod turns;

@@ -10,7 +10,7 @@ ghost use Rattle.signal_travel.specs.VectorBoxes.{HoldsVector, IsVectorWithin, A
 use crate::places::{Point, VectorBox};
 use crate::sent::SentBox;
 use crate::turns::{turn_in, turned_box};
-use crate::vectors::{length_of, vector_from};
+use crate::vectors::{length_by, vector_from};
 use iv_core::Iv;
 use obs_rows::LIGHT_SPEED;
 
@@ -61,6 +61,13 @@ fn time_over(range: &Iv<36>) -> Iv<60>
     Iv::from_ends(low as i64, high as i64)
 }
 
+// About how far light goes in the times of the box, in 2^-34 m. Nothing is claimed of it.
+fn range_guess(travel: &Iv<60>) -> u64
+    requires { IsTravel travel.now }
+{
+    ((travel.lo + travel.hi) as u128 * SPEED as u128 >> 27) as u64
+}
+
 /// Where a receiver sees what was sent from a place, after which time, and the vector from the receiver to it.
 #[derive(Clone, Copy)]
 pub struct Sight {
@@ -102,7 +109,7 @@ pub fn sight_after(sent: &SentBox, point: &Point, travel: &Iv<60>) -> Sight
     let turn = turn_in(travel);
     let place = turned_box(&turn, sent);
     let vector = vector_from(point, &place);
-    let range = length_of(&vector);
+    let range = length_by(&vector, range_guess(travel));
     let travel = time_over(&range);
     Sight {
         place,
