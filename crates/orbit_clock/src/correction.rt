@@ -135,7 +135,7 @@ fn offset_of(
     requires sent { Holds sent.now.held (part (sub_r (sent_at tag.0 code) (seconds made.now.eph.toe.0))) }
     ensures { Holds result.held (part (sub_r (sent_at tag.0 code) (seconds made.now.eph.toc.0))) }
 {
-    if made.eph.toc == made.eph.toe {
+    if made.eph.toc.0 == made.eph.toe.0 {
         sent.loose()
     } else {
         time_since::<144_010_000_000, OFFSET>(made.eph.toc, tag, code)
