@@ -74,6 +74,20 @@ fn narrowed(x: i128) -> i64
 // A range in metres, where the roots begin
 const USUAL_RANGE: i64 = 23_000_000;
 
+// The number, or the nearest from 1 to 2^62
+fn limited(x: i64) -> i64
+    ensures low { pos 1 ≤ℤ result }
+    ensures high { result ≤ℤ pos (2 ^ 62) }
+{
+    if x < 1 {
+        1
+    } else if x > 1 << 62 {
+        1 << 62
+    } else {
+        x
+    }
+}
+
 // About the root of a square in 2^-9 m², in metres, from one less near, by Heron's rule
 fn nearer_root(square: i64, root: i64) -> i64
     requires low { pos 0 ≤ℤ square }
@@ -83,7 +97,7 @@ fn nearer_root(square: i64, root: i64) -> i64
     ensures low { pos 1 ≤ℤ result }
     ensures high { result ≤ℤ pos (2 ^ 62) }
 {
-    ((root + (square / root >> 9)) >> 1).max(1)
+    limited((root + (square / root >> 9)) >> 1)
 }
 
 // About the root of a square in 2^-9 m², in 2^-34 m
@@ -97,7 +111,7 @@ fn rough_root(square: i64) -> u64
     // What is left over twice the root
     let left = square.wrapping_sub(root.wrapping_mul(root) << 9);
     let more = (left << 20) / root << 4;
-    (root << 34).wrapping_add(more) as u64
+    narrowed(product(root, 1 << 34).wrapping_add(more as i128)) as u64
 }
 
 // The root of a square in 2^-9 m², in 2^-26 m

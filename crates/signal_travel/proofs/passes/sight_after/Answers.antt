@@ -7,7 +7,7 @@ use Rattle.signal_travel.proofs.Sights.{HasTurned, held_along, turned_in, betwee
 use Rattle.signal_travel.proofs.Times.{pair_width, pair_enough, place_enough, any_width}
 use Rattle.signal_travel.proofs.passes.sight_after.Goals as goal
 
-reference : (c : goal.After-vector-1) → HasTurned c.turned_box-place.result
+reference : (c : goal.After-range_guess) → HasTurned c.turned_box-place.result
 reference c =
     let t = c.args.travel.now in
     turned_in c.args.sent.now.place c.turned_box-place.result t.lo t.hi c.args.sent.now.away c.requires.0 t.ordered c.requires.1
@@ -19,7 +19,7 @@ length_by-range-requires-clause-between c = between c.turned_box-place.result c.
 width_nn : (l h : ℤ) → l ≤ℤ h → pos 0 ≤ℤ (h -ℤ l)
 width_nn l h o = omega (arith, ints)
 
-wide : (c : goal.After-vector-1) (w : ℤ) → ((c.args.travel.now.hi -ℤ c.args.travel.now.lo) +ℤ pos (904 * 264813)) ≤ℤ (pos 904 *ℤ w) → IsVectorAtMostWide w c.turned_box-place.result
+wide : (c : goal.After-range_guess) (w : ℤ) → ((c.args.travel.now.hi -ℤ c.args.travel.now.lo) +ℤ pos (904 * 264813)) ≤ℤ (pos 904 *ℤ w) → IsVectorAtMostWide w c.turned_box-place.result
 wide c w h =
     let t = c.args.travel.now in
     let d : ℤ = t.hi -ℤ t.lo in
@@ -51,7 +51,7 @@ pub returns-clause-time : goal.returns-clause-time
 returns-clause-time c = λ p seen t h k s. c.time_over-travel.ensures.holds t (returns-clause-range c p seen t h k s)
 
 pub returns-clause-width : goal.returns-clause-width
-returns-clause-width c = λ w h. wide c.before.before.before w h
+returns-clause-width c = λ w h. wide c.before.before.before.before w h
 
 more : (r w : ℤ) → (pos 4 *ℤ r) ≤ℤ ((pos 7 *ℤ (w +ℤ pos 1)) +ℤ pos 800) → (pos 4 *ℤ r) ≤ℤ ((pos 7 *ℤ w) +ℤ pos 807)
 more r w h = omega (arith, ints)
@@ -59,7 +59,7 @@ more r w h = omega (arith, ints)
 pub returns-clause-range_width : goal.returns-clause-range_width
 returns-clause-range_width c = λ w h.
     let r = c.length_by-range in
-    more (r.result.hi -ℤ r.result.lo) w (r.ensures.width (w +ℤ pos 1) (c.vector_from-vector.ensures.width w (wide c.before.before.before w h)))
+    more (r.result.hi -ℤ r.result.lo) w (r.ensures.width (w +ℤ pos 1) (c.vector_from-vector.ensures.width w (wide c.before.before.before.before w h)))
 
 pub returns-clause-away : goal.returns-clause-away
-returns-clause-away c = λ n. all_away c.turned_box-place.result (reference c.before.before.before) n
+returns-clause-away c = λ n. all_away c.turned_box-place.result (reference c.before.before.before.before) n

@@ -14,14 +14,16 @@ returns-then-x-lt0 c =
     let x : to_z w64 (of_z w64 c.args.x) ≡ c.args.x = to_z-of_z w64 c.args.x c.ranges.x in
     let d : to_z w64 (of_z w64 y.lo) ≡ y.lo = grind (arith, to_z-of_z) in
     let l : c.args.x <ℤ pos 0 = grind (arith, ints, to_z-of_z) in
-    c.floor_over.ensures ∙ ap₂ (λ (a b : ℤ). floor_div (a *ℤ pos (2 ^ DIRECTION_EXPONENT)) (unsigned_abs b)) x d
+    r ∙ c.floor_over.ensures.value ∙ ap₂ (λ (a b : ℤ). floor_div (a *ℤ pos (2 ^ DIRECTION_EXPONENT)) (unsigned_abs b)) x d
     ∙ low_below c.args.x y.lo y.hi (2 ^ DIRECTION_EXPONENT) (pow_pos DIRECTION_EXPONENT) (positive_sum y.lo c.requires) y.ordered l
 
 pub returns-else-x-lt0 : goal.returns-else-x-lt0
 returns-else-x-lt0 c =
     let y = c.args.sum.now in
+    let q = c.floor_over-else-x-lt0 in
+    let r : to_z w128 (of_z w128 q.result) ≡ q.result = to_z-of_z w128 q.result (record { sfits = q.type_inv }) in
     let x : to_z w64 (of_z w64 c.args.x) ≡ c.args.x = to_z-of_z w64 c.args.x c.ranges.x in
     let d : to_z w64 (of_z w64 y.hi) ≡ y.hi = grind (arith, to_z-of_z) in
     let l : pos 0 ≤ℤ c.args.x = grind (arith, ints, to_z-of_z) in
-    c.floor_over-else-x-lt0.ensures ∙ ap₂ (λ (a b : ℤ). floor_div (a *ℤ pos (2 ^ DIRECTION_EXPONENT)) (unsigned_abs b)) x d
+    r ∙ q.ensures.value ∙ ap₂ (λ (a b : ℤ). floor_div (a *ℤ pos (2 ^ DIRECTION_EXPONENT)) (unsigned_abs b)) x d
     ∙ low_not_below c.args.x y.lo y.hi (2 ^ DIRECTION_EXPONENT) (positive_sum y.lo c.requires) y.ordered l

@@ -4,18 +4,18 @@ use Rattle.iv_core.specs.Intervals.{low_product, high_product}
 use Rattle.sized_box.proofs.Bounds.{reached, same_within, product_within}
 use Rattle.signal_travel.proofs.turns.sin_part.Goals as goal
 
-within : (c : goal.At-product_of) → (neg_ℤ (pos 164926744166400) ≤ℤ low_product 36 c.args.sin.now c.args.x.now) × (high_product 36 c.args.sin.now c.args.x.now ≤ℤ pos 164926744166400)
+within : (c : goal.Start) → (neg_ℤ (pos 164926744166400) ≤ℤ low_product 36 c.args.sin.now c.args.x.now) × (high_product 36 c.args.sin.now c.args.x.now ≤ℤ pos 164926744166400)
 within c =
     let x = c.args.sin.now in
     let y = c.args.x.now in
     product_within x.lo x.hi y.lo y.hi 70368744177664 2611340115968000000 164926744166400 (2 ^ 60) (lit< tt) x.ordered y.ordered
     c.requires.sin_size.0 c.requires.sin_size.1 c.requires.size.0 c.requires.size.1 (lit≤ tt)
 
-pub product_of-requires-clause-low : goal.product_of-requires-clause-low
-product_of-requires-clause-low c = let w = within c in (reached _ _ 164926744166400 (lit≤ tt) w.0 w.1).0
-
-pub product_of-requires-clause-high : goal.product_of-requires-clause-high
-product_of-requires-clause-high c = let w = within c in (reached _ _ 164926744166400 (lit≤ tt) w.0 w.1).1
+pub product_of-requires : goal.product_of-requires
+product_of-requires c =
+    let w = within c in
+    let r = reached _ _ 164926744166400 (lit≤ tt) w.0 w.1 in
+    (omega arith, (omega arith, (omega arith, (omega arith, (omega arith, r)))))
 
 pub returns-clause-size : goal.returns-clause-size
 returns-clause-size c =

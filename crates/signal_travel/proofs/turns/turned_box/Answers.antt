@@ -13,33 +13,19 @@ taken : (a b c d : ℤ) → neg_ℤ (pos 2611505042712166400) ≤ℤ a → b ≤
     (neg_ℤ (pos 2618212063641600000) ≤ℤ (a -ℤ d)) × ((b -ℤ c) ≤ℤ pos 2618212063641600000)
 taken a b c d h k i j = (omega (arith, ints), omega (arith, ints))
 
-pub sum_of-requires-clause-low : goal.sum_of-requires-clause-low
-sum_of-requires-clause-low c =
+pub sum_of-requires : goal.sum_of-requires
+sum_of-requires c =
     let x = c.cos_part in
     let y = c.sin_part in
     let w = added x.result.lo x.result.hi y.result.lo y.result.hi x.ensures.size.0 x.ensures.size.1 y.ensures.size.0 y.ensures.size.1 in
-    (reached _ _ 2618212063641600000 (lit≤ tt) w.0 w.1).0
+    (omega arith, reached _ _ 2618212063641600000 (lit≤ tt) w.0 w.1)
 
-pub sum_of-requires-clause-high : goal.sum_of-requires-clause-high
-sum_of-requires-clause-high c =
-    let x = c.cos_part in
-    let y = c.sin_part in
-    let w = added x.result.lo x.result.hi y.result.lo y.result.hi x.ensures.size.0 x.ensures.size.1 y.ensures.size.0 y.ensures.size.1 in
-    (reached _ _ 2618212063641600000 (lit≤ tt) w.0 w.1).1
-
-pub difference_of-requires-clause-low : goal.difference_of-requires-clause-low
-difference_of-requires-clause-low c =
+pub difference_of-requires : goal.difference_of-requires
+difference_of-requires c =
     let x = c.cos_part-2 in
     let y = c.sin_part-2 in
     let w = taken x.result.lo x.result.hi y.result.lo y.result.hi x.ensures.size.0 x.ensures.size.1 y.ensures.size.0 y.ensures.size.1 in
-    (reached _ _ 2618212063641600000 (lit≤ tt) w.0 w.1).0
-
-pub difference_of-requires-clause-high : goal.difference_of-requires-clause-high
-difference_of-requires-clause-high c =
-    let x = c.cos_part-2 in
-    let y = c.sin_part-2 in
-    let w = taken x.result.lo x.result.hi y.result.lo y.result.hi x.ensures.size.0 x.ensures.size.1 y.ensures.size.0 y.ensures.size.1 in
-    (reached _ _ 2618212063641600000 (lit≤ tt) w.0 w.1).1
+    (omega arith, reached _ _ 2618212063641600000 (lit≤ tt) w.0 w.1)
 
 pub returns-clause-holds : goal.returns-clause-holds
 returns-clause-holds c = λ p pair h k. (

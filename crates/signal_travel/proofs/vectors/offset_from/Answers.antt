@@ -12,15 +12,10 @@ low a d h k = omega (arith, ints)
 high : (b c : ℤ) → b ≤ℤ pos 2618212063641600000 → neg_ℤ (pos 481036405871476736) ≤ℤ c → (b -ℤ c) ≤ℤ pos 3106120348467200000
 high b c h k = omega (arith, ints)
 
-pub difference_of-requires-clause-low : goal.difference_of-requires-clause-low
-difference_of-requires-clause-low c = (reached _ _ 3106120348467200000 (lit≤ tt)
+pub difference_of-requires : goal.difference_of-requires
+difference_of-requires c = (omega arith, reached _ _ 3106120348467200000 (lit≤ tt)
     (low c.args.x.now.lo c.coordinate_box.result.hi c.requires.x_size.0 c.coordinate_box.ensures.size.1)
-    (high c.args.x.now.hi c.coordinate_box.result.lo c.requires.x_size.1 c.coordinate_box.ensures.size.0)).0
-
-pub difference_of-requires-clause-high : goal.difference_of-requires-clause-high
-difference_of-requires-clause-high c = (reached _ _ 3106120348467200000 (lit≤ tt)
-    (low c.args.x.now.lo c.coordinate_box.result.hi c.requires.x_size.0 c.coordinate_box.ensures.size.1)
-    (high c.args.x.now.hi c.coordinate_box.result.lo c.requires.x_size.1 c.coordinate_box.ensures.size.0)).1
+    (high c.args.x.now.hi c.coordinate_box.result.lo c.requires.x_size.1 c.coordinate_box.ensures.size.0))
 
 pub returns-clause-size : goal.returns-clause-size
 returns-clause-size c =
