@@ -1,5 +1,5 @@
 -- The sum of two ranges, a move less twice a vector, and their quotient, in whole numbers; and the vector to a seen place.
-use Rattle.std.proofs.Common.{◌≡◌, ℕ, ◌<◌, ◌^◌, ◌*◌, [], ◌∷◌, ℤ, pos, ◌+ℤ◌, ◌*ℤ◌, neg_ℤ, ◌≤ℤ◌, ◌<ℤ◌, unsigned_abs, arith, lit≤, ap, refl}
+use Rattle.std.proofs.Common.{◌≡◌, ℕ, ◌<◌, ◌^◌, [], ◌∷◌, ℤ, pos, ◌+ℤ◌, ◌*ℤ◌, neg_ℤ, ◌≤ℤ◌, ◌<ℤ◌, unsigned_abs, arith, lit≤, ap, refl}
 use Rattle.std.proofs.lemmas.Int.{ints}
 use Rattle.whole_math.specs.Rounding.{floor_div, ceil_div}
 use Rattle.whole_math.proofs.Ring.{◌⊗◌, ng}
@@ -86,7 +86,3 @@ move_z m h = coordinates m.z m.y m.x 16 (≤ʳ_trans (add_r (add_r (mul_r m.z m.
 -- what an end of a coordinate is at most, in plain powers
 pub wider : (l x : ℤ) → neg_ℤ ((l +ℤ pos 80) +ℤ pos 524289) ≤ℤ x → neg_ℤ (l +ℤ pos (2 ^ 20)) ≤ℤ x
 wider l x h = omega (arith, ints)
-
--- the sum of two ranges is above 0
-pub positive_sum : (c : ℤ) → pos (9999991 * 2 ^ 36) ≤ℤ c → pos 0 <ℤ c
-positive_sum c h = omega (arith, ints)

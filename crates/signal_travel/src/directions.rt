@@ -10,7 +10,6 @@ ghost use Rattle.signal_travel.specs.Directions.{IsInSpread};
 
 use crate::passes::Sight;
 use crate::places::Point;
-use crate::quotients::{high_over, low_over};
 use crate::sent::SeenPlace;
 use crate::spread::Spread;
 use crate::vectors::{length_by, vector_from};
@@ -48,17 +47,6 @@ fn move_less_twice(x: &Iv<36>) -> Iv<35>
     Iv::from_ends(-x.hi - LONGEST_MOVE, LONGEST_MOVE - x.lo)
 }
 
-// The box with these ends
-fn box_of(lo: i128, hi: i128) -> Iv<DIRECTION_EXPONENT>
-    requires ordered { lo ≤ℤ hi }
-    requires low { neg_ℤ (pos (2 ^ 25)) ≤ℤ lo }
-    requires high { hi ≤ℤ pos (2 ^ 25) }
-    ensures lo { result.lo ≡ lo }
-    ensures hi { result.hi ≡ hi }
-{
-    Iv::from_ends(lo as i64, hi as i64)
-}
-
 // The quotient, which is at most 28 units past 1 in size and at most 57 wide.
 fn quotient_of(change: &Iv<35>, sum: &Iv<35>) -> Iv<DIRECTION_EXPONENT>
     requires least { pos (9999991 * 2 ^ 36) ≤ℤ sum.now.lo }
@@ -70,9 +58,7 @@ fn quotient_of(change: &Iv<35>, sum: &Iv<35>) -> Iv<DIRECTION_EXPONENT>
     ensures size { IsWithin (2 ^ DIRECTION_EXPONENT + 28) result }
     ensures width { width_of result ≤ℤ pos 57 }
 {
-    let least = low_over(change.lo, sum);
-    let most = high_over(change.hi, sum);
-    box_of(least, most)
+    change.div_to::<35, DIRECTION_EXPONENT>(sum).unwrap()
 }
 
 // The middle of the box, rounded down

@@ -27,7 +27,6 @@ mod directions;
 mod mask;
 mod passes;
 mod places;
-mod quotients;
 mod sent;
 mod spread;
 mod turns;
