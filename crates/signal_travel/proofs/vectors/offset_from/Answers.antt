@@ -13,9 +13,12 @@ high : (b c : ℤ) → b ≤ℤ pos 2618212063641600000 → neg_ℤ (pos 4810364
 high b c h k = omega (arith, ints)
 
 pub difference_of-requires : goal.difference_of-requires
-difference_of-requires c = (omega arith, reached _ _ 3106120348467200000 (lit≤ tt)
-    (low c.args.x.now.lo c.coordinate_box.result.hi c.requires.x_size.0 c.coordinate_box.ensures.size.1)
-    (high c.args.x.now.hi c.coordinate_box.result.lo c.requires.x_size.1 c.coordinate_box.ensures.size.0))
+difference_of-requires c = (
+  omega arith,
+  reached _ _ 3106120348467200000 (lit≤ tt)
+      (low c.args.x.now.lo c.coordinate_box.result.hi c.requires.x_size.0 c.coordinate_box.ensures.size.1)
+      (high c.args.x.now.hi c.coordinate_box.result.lo c.requires.x_size.1 c.coordinate_box.ensures.size.0),
+)
 
 pub returns-clause-size : goal.returns-clause-size
 returns-clause-size c =
