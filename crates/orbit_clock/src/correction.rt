@@ -27,6 +27,9 @@ pub const AGING: u64 = ONE / 10_000 + 1;
 
 const OFFSET: u64 = ONE / 10_000 * 14_402;
 
+// The time from toe to sending by the satellite's own clock, at 2^-60 of 10^4 s
+pub const SENT: u64 = ONE / 10_000 * 7_202;
+
 /// 1/64 s: the greatest clock.
 pub const CLOCK: u64 = 1 << 54;
 
@@ -119,19 +122,40 @@ pub fn share_of<const WIDTH: u64, const TO: u64>(
     SizedBox::new(Iv::from_ends(low, high))
 }
 
+// The time from toc to sending, which is that from toe where the two are one
+fn offset_of(
+    made: &ClockRecord,
+    tag: Tick,
+    code: i64,
+    sent: &SizedBox<60, SENT, 1>,
+) -> SizedBox<60, OFFSET, 1>
+    requires near { abs_diff tag.0 made.now.eph.toe.0 ≤ 72010000000 }
+    requires code_low { pos 0 ≤ℤ code }
+    requires code_high { code ≤ℤ pos (10 ^ 11) }
+    requires sent { Holds sent.now.held (part (sub_r (sent_at tag.0 code) (seconds made.now.eph.toe.0))) }
+    ensures { Holds result.held (part (sub_r (sent_at tag.0 code) (seconds made.now.eph.toc.0))) }
+{
+    if made.eph.toc.0 == made.eph.toe.0 {
+        sent.loose()
+    } else {
+        time_since::<144_010_000_000, OFFSET>(made.eph.toc, tag, code)
+    }
+}
+
 impl Terms {
-    /// The terms of a record, with the time of sending that a tag and a code say.
-    pub fn of(made: &ClockRecord, tag: Tick, code: i64) -> Terms
+    /// The terms of a record, with the time of sending that a tag and a code say, and the time to it from the reference epoch.
+    pub fn of(made: &ClockRecord, tag: Tick, code: i64, sent: &SizedBox<60, SENT, 1>) -> Terms
         requires near { abs_diff tag.0 made.now.eph.toe.0 ≤ 72010000000 }
         requires code_low { pos 0 ≤ℤ code }
         requires code_high { code ≤ℤ pos (10 ^ 11) }
+        requires sent { Holds sent.now.held (part (sub_r (sent_at tag.0 code) (seconds made.now.eph.toe.0))) }
         ensures { (share : Rational) → IsAtMostInSize (two_to_minus 44) share → HoldsTerms result (with_share (elements_of made.now.eph) share) (sent_at tag.0 code) }
     {
         Terms {
             bias: made.bias,
             drift: made.drift,
             aging: made.aging,
-            offset: time_since::<144_010_000_000, OFFSET>(made.eph.toc, tag, code),
+            offset: offset_of(made, tag, code, sent),
         }
     }
 }

@@ -10,16 +10,13 @@ ghost use Rattle.orbit_clock.specs.Records.{elements_of, constants_of};
 ghost use Rattle.orbit_clock.specs.Terms.{part};
 ghost use Rattle.orbit_clock.specs.Timings.{HoldsTiming};
 
-use crate::correction::{CLOCK, EFFECT, SHARE, Terms, pass, share_of, time_since};
+use crate::correction::{CLOCK, EFFECT, SENT, SHARE, Terms, pass, share_of, time_since};
 use crate::record::ClockRecord;
 use crate::shape::ECCENTRICITY;
 use gps_time::Tick;
 use iv_core::Iv;
 use kepler_box::anomaly_box;
 use sized_box::SizedBox;
-
-// The time from toe to sending by the satellite's own clock, and by GPS time, at 2^-60 of 10^4 s
-const SENT: u64 = (1 << 60) / 10_000 * 7_202;
 
 /// The greatest time since the reference epoch, at 2^-60 of 10^4 s.
 pub const EPOCH_TIME: u64 = (1 << 60) / 10_000 * 7_203;
@@ -159,7 +156,7 @@ pub fn timing_at(made: &ClockRecord, tag: Tick, code: i64) -> Timing
     ensures { (q : Quantities) → IsNearSolution (constants_of made.now.world) (elements_of made.now.eph) (sent_at tag.0 code) q → HoldsTiming result q }
 {
     let sent = time_since::<72_010_000_000, SENT>(made.eph.toe, tag, code);
-    let terms = Terms::of(made, tag, code);
+    let terms = Terms::of(made, tag, code, &sent);
     let first: SizedBox<60, CLOCK, FIRST_WIDTH> = pass::<
         36_028_797_018_963_968,
         3_602_879_701_898,

@@ -5,7 +5,7 @@ ghost use Rattle.obs_rows.specs.Ranges.{IsScale, IsBelow};
 ghost use Rattle.obs_rows.specs.Unused.{IsZeroOff};
 ghost use Rattle.row_boxes.specs.YBoxes.{HoldsYs, HasFarSignal, most_radius};
 ghost use Rattle.obs_rows.specs.ReceiverPoints.{IsReceiverPoint};
-ghost use Rattle.signal_travel.specs.Boxes.{HoldsPlace};
+ghost use Rattle.signal_travel.specs.Directions.{HoldsDirection};
 ghost use Rattle.orbit_model.specs.SeenPlaces.{Place, IsDisplacement, IsMeanDirection};
 ghost use Rattle.row_boxes.specs.Sightings.{Sighting, IsSighting, HasSighting, place_at};
 ghost use Rattle.row_build.specs.Halves.{IsBaseHalf};
@@ -14,12 +14,12 @@ ghost use Rattle.row_build.specs.Rows.{HoldsU, IsInU, seen_by};
 use crate::entries::Entry;
 use obs_rows::{PHASES, Row};
 use row_boxes::{Observations, observations_of, sight_of};
-use signal_travel::{SeenBox, mean_direction};
+use signal_travel::Spread;
 
-// The observations of an entry, with what the rover may see of the satellite
+// The observations of an entry, with the direction in which the rover may see the satellite
 #[derive(Clone, Copy)]
 struct Geometry {
-    seen: SeenBox,
+    direction: [Spread; 3],
     held: Observations,
 }
 
@@ -39,7 +39,8 @@ fn geometry_of(
     ensures y { IfSome result (λ g. (base : List ℤ) → IsBaseHalf entry.now.sv base entry.now.half → HoldsYs (seen_by entry.now.sv base point.now) ss.now scale entry.now.sv.observed group shift.now g.held.y g.held.ry) }
     ensures radius { IfSome result (λ g. g.held.ry ≤ℤ most_radius scale) }
     ensures others { IfSome result (λ g. IsZeroOff ss.now g.held.y) }
-    ensures seen { IfSome result (λ g. (s : Sighting) → IsSighting entry.now.sv.rover point.now s → HoldsPlace g.seen.place s.seen) }
+    ensures direction { IfSome result (λ g. (s : Sighting) (move direction : Place) → IsSighting entry.now.sv.rover point.now s → IsDisplacement move →
+        IsMeanDirection s.seen (place_at point.now) move direction → HoldsDirection g.direction direction) }
     ensures exists { HasSighting entry.now.sv.rover point.now }
     ensures far { result ≡ None → (base : List ℤ) → IsBaseHalf entry.now.sv base entry.now.half → HasFarSignal (seen_by entry.now.sv base point.now) ss.now scale entry.now.sv.observed group shift.now }
 {
@@ -56,22 +57,21 @@ fn geometry_of(
         scale,
     )?;
     Some(Geometry {
-        seen: rover.seen,
+        direction: rover.direction,
         held,
     })
 }
 
 // With the direction to the satellite
-fn row_over(arc: u16, geometry: &Geometry, point: &[i64; 3]) -> Row
-    requires { IsReceiverPoint point.now }
+fn row_over(arc: u16, geometry: &Geometry) -> Row
     ensures arc { result.arc ≡ arc }
     ensures y { result.y ≡ geometry.now.held.y }
     ensures ry { result.ry ≡ geometry.now.held.ry }
-    ensures u { (s : Sighting) (move direction : Place) → HoldsPlace geometry.now.seen.place s.seen → IsDisplacement move →
-        IsMeanDirection s.seen (place_at point.now) move direction → IsInU 0 result.u result.ru direction.x × IsInU 1 result.u result.ru direction.y × IsInU 2 result.u result.ru direction.z }
+    ensures u { (direction : Place) → HoldsDirection geometry.now.direction direction →
+        IsInU 0 result.u result.ru direction.x × IsInU 1 result.u result.ru direction.y × IsInU 2 result.u result.ru direction.z }
     ensures narrow { All (λ n. n ≤ℤ pos 32) result.ru }
 {
-    let [x, y, z] = mean_direction(&geometry.seen, point);
+    let [x, y, z] = geometry.direction;
     Row {
         arc,
         y: geometry.held.y,
@@ -106,5 +106,5 @@ pub fn row_of(
     ensures far { result ≡ None → (base : List ℤ) → IsBaseHalf entry.now.sv base entry.now.half → HasFarSignal (seen_by entry.now.sv base point.now) ss.now scale entry.now.sv.observed group shift.now }
 {
     let geometry = geometry_of(ss, shift, entry, group, point, scale)?;
-    Some(row_over(arc, &geometry, point))
+    Some(row_over(arc, &geometry))
 }

@@ -1,14 +1,11 @@
 //! A satellite that both receivers of a pair observe, with its boxes.
-ghost use Rattle.std.specs.Prelude.{◌≡◌, ◌≤◌, ◌<◌, IsTrue, false, MatchOption, unsigned_abs};
+ghost use Rattle.std.specs.Prelude.{◌≡◌, ◌≤◌, ◌<◌, MatchOption, unsigned_abs};
 ghost use Rattle.std.specs.Int.{abs_diff};
-ghost use Rattle.orbit_model.specs.SeenPlaces.{Place, HasSeenPlace, IsAboveMask, IsBelowMask};
 ghost use Rattle.obs_rows.specs.declared.units.TheConstants.{SIGNALS};
-ghost use Rattle.sv_orbit.specs.Solutions.{HoldsSolution};
-ghost use Rattle.signal_travel.specs.Boxes.{HoldsPlace};
 ghost use Rattle.screening.specs.Amounts.{AreAmounts, difference, differences};
 ghost use Rattle.screening.specs.Entries.{IsSatNumber};
 ghost use Rattle.screening.specs.Observed.{AreAmountsBelow, size_of};
-ghost use Rattle.screening.specs.Sightings.{SeesNear, point_at, setting_with};
+ghost use Rattle.screening.specs.Sightings.{setting_with};
 ghost use Rattle.screening.specs.Screening.{IsEntryAt, IsLeftOut};
 
 use crate::SvPair;
@@ -18,19 +15,10 @@ use crate::rules::Rules;
 use obs_rows::SIGNALS;
 use obs_store::Epoch;
 use signal_travel::{above, seen_from};
-use sv_orbit::{SvBox, sv_from};
+use sv_orbit::sv_from;
 
 /// The signal by which a receiver's clock is known.
 const L1_CODE: usize = 2;
-
-// Whether the base sees the satellite high enough. The mask needs the base's boxes alone.
-fn is_high(rules: &Rules, sv: &SvBox) -> bool
-    ensures kept { IsTrue result → SeesNear (HoldsSolution sv.now) (point_at rules.now.point) (λ p. IsAboveMask rules.now.mask p (point_at rules.now.point)) }
-    ensures left_out { result ≡ false → SeesNear (HoldsSolution sv.now) (point_at rules.now.point) (λ p. IsBelowMask rules.now.mask p (point_at rules.now.point)) }
-    ensures seen { (sent : Place) → HoldsPlace sv.now.place sent → HasSeenPlace sent (point_at rules.now.point) }
-{
-    above(&seen_from(sv, &rules.point), &rules.point, rules.mask)
-}
 
 fn difference(base: &[i64; SIGNALS], rover: &[i64; SIGNALS], signal: usize) -> i64
     requires base { AreAmounts base.now }
@@ -73,14 +61,18 @@ pub fn entry_of(
     let at_base = amounts_at(&rules.types, base, number)?;
     let at_rover = amounts_at(&rules.types, rover, number)?;
     let record = chosen(table, number, base.tag)?;
+    // The mask needs the base's boxes alone.
     let from_base = sv_from(record, base.tag, at_base[L1_CODE]);
-    if !is_high(rules, &from_base) {
+    let seen = seen_from(&from_base, &rules.point);
+    if !above(&seen, &rules.point, rules.mask) {
         return None;
     }
     Some(SvPair {
         pair,
         sat: number,
         base: from_base,
+        base_point: rules.point,
+        base_range: seen.range,
         rover: sv_from(record, rover.tag, at_rover[L1_CODE]),
         observed: differences(&at_base, &at_rover),
         tag: base.tag,

@@ -1,5 +1,5 @@
 -- The sum of two ranges, a move less twice a vector, and their quotient, in whole numbers; and the vector to a seen place.
-use Rattle.std.proofs.Common.{◌≡◌, ℕ, ◌<◌, [], ◌∷◌, ℤ, pos, ◌*ℤ◌, neg_ℤ, ◌≤ℤ◌, ◌<ℤ◌, unsigned_abs, arith, lit≤, ap, refl}
+use Rattle.std.proofs.Common.{◌≡◌, ℕ, ◌<◌, ◌^◌, [], ◌∷◌, ℤ, pos, ◌+ℤ◌, ◌*ℤ◌, neg_ℤ, ◌≤ℤ◌, ◌<ℤ◌, unsigned_abs, arith, lit≤, ap, refl}
 use Rattle.std.proofs.lemmas.Int.{ints}
 use Rattle.whole_math.specs.Rounding.{floor_div, ceil_div}
 use Rattle.whole_math.proofs.Ring.{◌⊗◌, ng}
@@ -82,3 +82,7 @@ move_y m h = coordinates m.y m.x m.z 16 (≤ʳ_trans (add_r (add_r (mul_r m.y m.
 
 pub move_z : (m : Place) → IsDisplacement m → IsAtMostInSize (of_whole (pos 16)) m.z
 move_z m h = coordinates m.z m.y m.x 16 (≤ʳ_trans (add_r (add_r (mul_r m.z m.z) (mul_r m.y m.y)) (mul_r m.x m.x)) (square m) (of_whole (pos 256)) (turned_about m.x m.y m.z) h)
+
+-- what an end of a coordinate is at most, in plain powers
+pub wider : (l x : ℤ) → neg_ℤ ((l +ℤ pos 80) +ℤ pos 524289) ≤ℤ x → neg_ℤ (l +ℤ pos (2 ^ 20)) ≤ℤ x
+wider l x h = omega (arith, ints)

@@ -16,6 +16,7 @@ use Rattle.orbit_model.specs.Places.{IsBetweenDistances}
 use Rattle.orbit_model.specs.SeenPlaces.{Place, difference, square, turned_back, point_of, AreSamePlace, IsSentPlace, IsReceiverPlace}
 use Rattle.orbit_model.proofs.Apart.{IsBetween, turned_square, loosely, vector_square}
 use Rattle.orbit_model.proofs.DistanceCertificates.{place_far, place_near}
+use Rattle.obs_rows.specs.ReceiverPoints.{IsReceiverPoint}
 use Rattle.signal_travel.specs.declared.places.VectorBox.{VectorBox}
 use Rattle.signal_travel.specs.declared.places.Point.{Point}
 use Rattle.signal_travel.specs.VectorBoxes.{HoldsVector, IsVectorAtMostWide, HasVectorBetween}
@@ -42,14 +43,17 @@ unfolding lowest
 lowest_sent b away = away (of_scale 36 b.x.lo) (of_scale 36 b.y.lo) (of_scale 36 b.z.lo) (low_held b.x) (low_held b.y) (low_held b.z)
 
 -- a point is a receiver's place
-pub point_place : (p : Point) → IsReceiverPlace (point_of p.x p.y p.z)
-point_place p = go (p.x *ℤ p.x) (p.y *ℤ p.y) (p.z *ℤ p.z) p.receiver
+pub receiver_place : (x y z : ℤ) → IsReceiverPoint (x ∷ y ∷ z ∷ []) → IsReceiverPlace (point_of x y z)
+receiver_place x y z receiver = go (x *ℤ x) (y *ℤ y) (z *ℤ z) receiver
   where
     -- squared_norm of the list of the coordinates, in units of 0.1 mm, and in metres
     go : (a b c : ℤ) → (pos (60000000000 * 60000000000) ≤ℤ (a +ℤ (b +ℤ (c +ℤ pos 0)))) × ((a +ℤ (b +ℤ (c +ℤ pos 0))) ≤ℤ pos (70000000000 * 70000000000)) →
         ((pos 36000000000000 *ℤ pos 1000000000000000000000000) ≤ℤ (((((a *ℤ pos 100000000) +ℤ (b *ℤ pos 100000000)) *ℤ pos 100000000) +ℤ (c *ℤ pos 10000000000000000)) *ℤ pos 1))
         × ((((((a *ℤ pos 100000000) +ℤ (b *ℤ pos 100000000)) *ℤ pos 100000000) +ℤ (c *ℤ pos 10000000000000000)) *ℤ pos 1) ≤ℤ (pos 49000000000000 *ℤ pos 1000000000000000000000000))
     go a b c receiver = (omega (arith, ints, receiver.0), omega (arith, ints, receiver.1))
+
+pub point_place : (p : Point) → IsReceiverPlace (point_of p.x p.y p.z)
+point_place p = receiver_place p.x p.y p.z p.receiver
 
 -- a travel time of the box has a pair of the Earth's turn
 pub record IsSomeTurn (t : Rational) : Type 0 where

@@ -71,12 +71,56 @@ fn narrowed(x: i128) -> i64
     if x < 0 || x > 1 << 62 { 0 } else { x as i64 }
 }
 
+// A range in metres, where the roots begin
+const USUAL_RANGE: i64 = 23_000_000;
+
+// The number, or the nearest from 1 to 2^62
+fn limited(x: i64) -> i64
+    ensures low { pos 1 ≤ℤ result }
+    ensures high { result ≤ℤ pos (2 ^ 62) }
+{
+    if x < 1 {
+        1
+    } else if x > 1 << 62 {
+        1 << 62
+    } else {
+        x
+    }
+}
+
+// About the root of a square in 2^-9 m², in metres, from one less near, by Heron's rule
+fn nearer_root(square: i64, root: i64) -> i64
+    requires low { pos 0 ≤ℤ square }
+    requires high { square ≤ℤ pos (2 ^ 62) }
+    requires root_low { pos 1 ≤ℤ root }
+    requires root_high { root ≤ℤ pos (2 ^ 62) }
+    ensures low { pos 1 ≤ℤ result }
+    ensures high { result ≤ℤ pos (2 ^ 62) }
+{
+    limited((root + (square / root >> 9)) >> 1)
+}
+
+// About the root of a square in 2^-9 m², in 2^-34 m
+fn rough_root(square: i64) -> u64
+    requires low { pos 0 ≤ℤ square }
+    requires high { square ≤ℤ pos (2 ^ 62) }
+{
+    let first = nearer_root(square, USUAL_RANGE);
+    let second = nearer_root(square, first);
+    let root = nearer_root(square, second);
+    // What is left over twice the root
+    let left = square.wrapping_sub(root.wrapping_mul(root) << 9);
+    let more = (left << 20) / root << 4;
+    narrowed(product(root, 1 << 34).wrapping_add(more as i128)) as u64
+}
+
 // The root of a square in 2^-9 m², in 2^-26 m
 fn root_of(square: i64) -> i64
     requires low { pos 0 ≤ℤ square }
     requires high { square ≤ℤ pos (2 ^ 62) }
 {
-    Iv::<9>::from_ends(square, square).root_to::<34>().lo >> 8
+    let held: Iv<9> = Iv::from_ends(square, square);
+    held.root_by::<34>(rough_root(square)).lo >> 8
 }
 
 // The range in 2^-26 m with the Earth's turn in it to the second order: with a = ω (y p − x q) / c and b = ω (x p + y q) / c it is

@@ -2,15 +2,17 @@
 ghost use Rattle.std.specs.Prelude.{◌≡◌, ◌+◌, ◌*◌, ◌^◌, ◌≤◌, ℤ, pos, ◌+ℤ◌, ◌-ℤ◌, neg_ℤ, ◌≤ℤ◌, unsigned_abs};
 ghost use Rattle.rational.specs.Rational.{Rational, ◌≈◌, ◌≤ʳ◌, of_whole, add_r, sub_r, mul_r, IsAtMostInSize};
 ghost use Rattle.iv_core.specs.Intervals.{Holds, width_of, IsWithin};
-ghost use Rattle.orbit_model.specs.SeenPlaces.{Place, point_of, IsDisplacement, IsMeanDirection};
+ghost use Rattle.orbit_model.specs.Places.{IsBetweenDistances};
+ghost use Rattle.orbit_model.specs.SeenPlaces.{Place, difference, point_of, IsDisplacement, IsMeanDirection};
 ghost use Rattle.obs_rows.specs.declared.units.TheConstants.{DIRECTION_EXPONENT};
-ghost use Rattle.signal_travel.specs.VectorBoxes.{HoldsVector};
+ghost use Rattle.signal_travel.specs.VectorBoxes.{HoldsVector, IsVectorAtMostWide};
 ghost use Rattle.signal_travel.specs.Directions.{IsInSpread};
 
+use crate::passes::Sight;
 use crate::places::Point;
 use crate::sent::SeenPlace;
 use crate::spread::Spread;
-use crate::vectors::{length_of, vector_from};
+use crate::vectors::{length_by, vector_from};
 use iv_core::Iv;
 use obs_rows::DIRECTION_EXPONENT;
 
@@ -127,10 +129,28 @@ pub fn direction_to(seen: &SeenPlace, point: &Point) -> Direction
         IsInSpread result.x direction.x × IsInSpread result.y direction.y × IsInSpread result.z direction.z }
 {
     let vector = vector_from(point, &seen.place);
-    let range = length_of(&vector);
+    let range = length_by(&vector, 0);
     Direction {
         x: coordinate_spread(&vector.x, &range),
         y: coordinate_spread(&vector.y, &range),
         z: coordinate_spread(&vector.z, &range),
+    }
+}
+
+/// The mean directions from the point of a sight to its places, by the vector and the range that it has.
+pub fn direction_of(sight: &Sight, point: &Point) -> Direction
+    requires vector { (p : Place) → HoldsVector sight.now.place p → HoldsVector sight.now.vector (difference p (point_of point.now.x point.now.y point.now.z)) }
+    requires narrow { IsVectorAtMostWide (pos (2 ^ 19)) sight.now.place }
+    requires range_narrow { width_of sight.now.range ≤ℤ pos (2 ^ 19) }
+    requires far { pos (10000000 * 2 ^ 36) ≤ℤ sight.now.range.lo }
+    requires away { IsBetweenDistances 18900000 38100000 sight.now.place.x sight.now.place.y sight.now.place.z }
+    ensures { (place move direction : Place) → HoldsVector sight.now.place place → IsDisplacement move →
+        IsMeanDirection place (point_of point.now.x point.now.y point.now.z) move direction →
+        IsInSpread result.x direction.x × IsInSpread result.y direction.y × IsInSpread result.z direction.z }
+{
+    Direction {
+        x: coordinate_spread(&sight.vector.x, &sight.range),
+        y: coordinate_spread(&sight.vector.y, &sight.range),
+        z: coordinate_spread(&sight.vector.z, &sight.range),
     }
 }

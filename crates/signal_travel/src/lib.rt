@@ -5,7 +5,8 @@
 //! widths, at most 2^-17 m for each coordinate and the range and 2^-45 s for the time, a range of at least 10,000 km,
 //! and the distance from the Earth's centre; the call takes no memory and is never refused. `above` says whether a
 //! satellite is above the elevation mask, exactly, at a place within 2^-17 m of every place in its box (`kept`,
-//! `left_out`; a mask of 1000 included). `mean_direction` holds the mean direction from a point, which may be another
+//! `left_out`; a mask of 1000 included). `aim_from` gives the range with the mean direction, both at one point, and makes
+//! their vector once (`range`, `direction`). `mean_direction` holds the mean direction from a point, which may be another
 //! one than the box was made with, for every place of the box and every displacement of at most 16 m; its type
 //! `Spread` keeps each centre at most 1 in size and each radius at most 32 units of 2^-24. `is_receiver_point` tests
 //! exactly what these calls ask of a point.
@@ -33,7 +34,7 @@ mod vectors;
 mod wide;
 
 use aims::travel_guess;
-use directions::direction_to;
+use directions::{direction_of, direction_to};
 use iv_core::Iv;
 use mask::{is_above, offset_of};
 pub use obs_rows::is_receiver_point;
@@ -92,6 +93,36 @@ pub fn seen_by_guess(sv: &SvBox, point: &[i64; 3], guess: i64) -> SeenBox
         place: [sight.place.x, sight.place.y, sight.place.z],
         range: sight.range,
         travel: sight.travel,
+    }
+}
+
+/// How far a satellite is from a receiver, and the mean direction to it.
+///
+/// The range is in metres at 2^-36, at most 2^-17 m wide.
+#[derive(Clone, Copy, Debug)]
+pub struct Aim {
+    pub range: Iv<36>,
+    pub direction: [Spread; 3],
+    pub ghost range_narrow: { width_of range ≤ℤ pos (2 ^ 19) },
+}
+
+/// The range of `seen_from` and the direction of `mean_direction` at one point, in units of 0.1 mm. It takes no memory and is never
+/// refused.
+pub fn aim_from(sv: &SvBox, point: &[i64; 3]) -> Aim
+    requires { IsReceiverPoint point.now }
+    ensures range { (a b c : ℤ) (sent seen : Place) (travel : Rational) → point.now ≡ a ∷ b ∷ c ∷ [] →
+        HoldsPlace sv.now.place sent → IsSeenPlace sent (point_of a b c) travel seen → Holds result.range (range_of travel) }
+    ensures direction { (a b c : ℤ) (sent seen move direction : Place) (travel : Rational) → point.now ≡ a ∷ b ∷ c ∷ [] →
+        HoldsPlace sv.now.place sent → IsSeenPlace sent (point_of a b c) travel seen →
+        IsDisplacement move → IsMeanDirection seen (point_of a b c) move direction → HoldsDirection result.direction direction }
+{
+    let sent = sent_box(sv);
+    let receiver = point_at(point);
+    let sight = sight_of(&sent, &receiver, travel_guess(&sent, &receiver));
+    let direction = direction_of(&sight, &receiver);
+    Aim {
+        range: sight.range,
+        direction: [direction.x, direction.y, direction.z],
     }
 }
 

@@ -1,16 +1,16 @@
 //! The travel time, from a box of it to a narrower one.
 ghost use Rattle.std.specs.Prelude.{◌≡◌, ◌+◌, ◌*◌, ◌^◌, ◌<◌, ◌≤◌, ℤ, pos, ◌+ℤ◌, ◌-ℤ◌, ◌*ℤ◌, ◌≤ℤ◌, true};
-ghost use Rattle.rational.specs.Rational.{Rational};
+ghost use Rattle.rational.specs.Rational.{Rational, IsNearRoot};
 ghost use Rattle.iv_core.specs.Intervals.{Holds, width_of};
 ghost use Rattle.orbit_model.specs.Places.{IsBetweenDistances};
-ghost use Rattle.orbit_model.specs.SeenPlaces.{Place, point_of, IsSeenPlace, range_of};
+ghost use Rattle.orbit_model.specs.SeenPlaces.{Place, difference, square, point_of, IsSeenPlace, range_of};
 ghost use Rattle.signal_travel.specs.SeenAfter.{IsSeenAfter};
-ghost use Rattle.signal_travel.specs.VectorBoxes.{HoldsVector, IsVectorAtMostWide, IsTravel};
+ghost use Rattle.signal_travel.specs.VectorBoxes.{HoldsVector, IsVectorWithin, AreEndsWithin, IsVectorAtMostWide, IsTravel};
 
 use crate::places::{Point, VectorBox};
 use crate::sent::SentBox;
 use crate::turns::{turn_in, turned_box};
-use crate::vectors::{length_of, vector_from};
+use crate::vectors::{length_by, vector_from};
 use iv_core::Iv;
 use obs_rows::LIGHT_SPEED;
 
@@ -61,12 +61,25 @@ fn time_over(range: &Iv<36>) -> Iv<60>
     Iv::from_ends(low as i64, high as i64)
 }
 
-/// Where a receiver sees what was sent from a place, after which time.
+// About how far light goes in the times of the box, in 2^-34 m. Nothing is claimed of it.
+fn range_guess(travel: &Iv<60>) -> u64
+    requires { IsTravel travel.now }
+{
+    ((travel.lo + travel.hi) as u128 * SPEED as u128 >> 27) as u64
+}
+
+/// Where a receiver sees what was sent from a place, after which time, and the vector from the receiver to it.
 #[derive(Clone, Copy)]
 pub struct Sight {
     pub place: VectorBox,
+    pub vector: VectorBox,
     pub range: Iv<36>,
     pub travel: Iv<60>,
+    pub ghost size: { IsVectorWithin (45200000 * 2 ^ 36) vector },
+    pub ghost width: { (w : ℤ) → IsVectorAtMostWide w place → IsVectorAtMostWide (w +ℤ pos 1) vector },
+    pub ghost lengths: { (p : Place) (r : Rational) → HoldsVector vector p → IsNearRoot r (square p) → Holds range r },
+    pub ghost near: { range.hi ≤ℤ pos (45200000 * 2 ^ 36) },
+    pub ghost reach: { (w : ℤ) → IsVectorAtMostWide w vector → AreEndsWithin ((range.lo +ℤ pos 80) +ℤ w) vector },
 }
 
 /// The sights at the point after the travel times of the box.
@@ -78,6 +91,7 @@ pub fn sight_after(sent: &SentBox, point: &Point, travel: &Iv<60>) -> Sight
         IsSeenPlace p (point_of point.now.x point.now.y point.now.z) t seen → Holds result.range (range_of t) }
     ensures time { (p seen : Place) (t : Rational) → HoldsVector sent.now.place p → Holds travel.now t →
         IsSeenPlace p (point_of point.now.x point.now.y point.now.z) t seen → Holds result.travel t }
+    ensures vector { (p : Place) → HoldsVector result.place p → HoldsVector result.vector (difference p (point_of point.now.x point.now.y point.now.z)) }
     // Light takes a time of `travel` after a turn in any time of the box, not only in its own.
     ensures light { (p seen : Place) (u t : Rational) → HoldsVector sent.now.place p → Holds travel.now u →
         IsSeenAfter p (point_of point.now.x point.now.y point.now.z) u t seen → Holds result.travel t }
@@ -95,10 +109,11 @@ pub fn sight_after(sent: &SentBox, point: &Point, travel: &Iv<60>) -> Sight
     let turn = turn_in(travel);
     let place = turned_box(&turn, sent);
     let vector = vector_from(point, &place);
-    let range = length_of(&vector);
+    let range = length_by(&vector, range_guess(travel));
     let travel = time_over(&range);
     Sight {
         place,
+        vector,
         range,
         travel,
     }
@@ -168,6 +183,7 @@ pub fn sight_of(sent: &SentBox, point: &Point, guess: i64) -> Sight
         IsSeenPlace p (point_of point.now.x point.now.y point.now.z) t seen → Holds result.range (range_of t) }
     ensures time { (p seen : Place) (t : Rational) → HoldsVector sent.now.place p →
         IsSeenPlace p (point_of point.now.x point.now.y point.now.z) t seen → Holds result.travel t }
+    ensures vector { (p : Place) → HoldsVector result.place p → HoldsVector result.vector (difference p (point_of point.now.x point.now.y point.now.z)) }
     ensures narrow { IsVectorAtMostWide (pos (2 ^ 19)) result.place }
     ensures range_narrow { width_of result.range ≤ℤ pos (2 ^ 19) }
     ensures time_narrow { width_of result.travel ≤ℤ pos (2 ^ 15) }

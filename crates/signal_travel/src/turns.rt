@@ -121,7 +121,7 @@ fn cos_part(cos: &Iv<60>, x: &Iv<36>) -> Iv<36>
     ensures size { IsWithin (38002400 * 2 ^ 36) result }
     ensures width { (pos (2 ^ 24) *ℤ width_of result) ≤ℤ ((pos 38000000 *ℤ width_of cos.now) +ℤ pos (262162 * 2 ^ 24)) }
 {
-    cos.mul_to::<36, 36>(x).unwrap()
+    cos.product_of::<36, 36>(x)
 }
 
 // S · x
@@ -133,7 +133,7 @@ fn sin_part(sin: &Iv<60>, x: &Iv<36>) -> Iv<36>
     ensures size { IsWithin (2400 * 2 ^ 36) result }
     ensures width { (pos (2 ^ 24) *ℤ width_of result) ≤ℤ ((pos 38000000 *ℤ width_of sin.now) +ℤ pos (18 * 2 ^ 24)) }
 {
-    sin.mul_to::<36, 36>(x).unwrap()
+    sin.product_of::<36, 36>(x)
 }
 
 /// The places that the Earth turns away from the sent ones: (C x + S y, C y − S x, z).
@@ -146,12 +146,8 @@ pub fn turned_box(turn: &PairBox, sent: &SentBox) -> VectorBox
 {
     let VectorBox { x, y, z } = sent.place;
     VectorBox {
-        x: cos_part(&turn.cos, &x)
-            .add(&sin_part(&turn.sin, &y))
-            .unwrap(),
-        y: cos_part(&turn.cos, &y)
-            .sub(&sin_part(&turn.sin, &x))
-            .unwrap(),
+        x: cos_part(&turn.cos, &x).sum_of(&sin_part(&turn.sin, &y)),
+        y: cos_part(&turn.cos, &y).difference_of(&sin_part(&turn.sin, &x)),
         z,
     }
 }

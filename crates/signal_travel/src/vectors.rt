@@ -50,7 +50,7 @@ fn offset_from(x: &Iv<36>, coordinate: i64) -> Iv<36>
     ensures size { IsWithin (45200000 * 2 ^ 36) result }
     ensures width { width_of result ≤ℤ (width_of x.now +ℤ pos 1) }
 {
-    x.sub(&coordinate_box(coordinate)).unwrap()
+    x.difference_of(&coordinate_box(coordinate))
 }
 
 /// The place less the point.
@@ -79,7 +79,7 @@ fn square_of(x: &Iv<36>) -> Iv<9>
     ensures low { pos 0 ≤ℤ result.lo }
     ensures high { result.hi ≤ℤ pos (45200000 * 45200000 * 2 ^ 9) }
 {
-    x.square_to::<9>().unwrap()
+    x.square_of::<9>()
 }
 
 // x² + y² + z²
@@ -93,7 +93,7 @@ fn squared_length(v: &VectorBox) -> Iv<9>
     let x = square_of(&v.x);
     let y = square_of(&v.y);
     let z = square_of(&v.z);
-    x.add(&y).unwrap().add(&z).unwrap()
+    x.sum_of(&y).sum_of(&z)
 }
 
 // From units of 2^-34 to units of 2^-36
@@ -106,8 +106,9 @@ fn in_quarters(root: &Iv<34>) -> Iv<36>
     Iv::from_ends(4 * root.lo, 4 * root.hi)
 }
 
-/// The length of the vector, at least 10,000 km.
-pub fn length_of(v: &VectorBox) -> Iv<36>
+/// The length of the vector, at least 10,000 km, from what is thought to be near it in 2^-34 m: nothing that is said of the length rests
+/// on it.
+pub fn length_by(v: &VectorBox, guess: u64) -> Iv<36>
     requires size { IsVectorWithin (45200000 * 2 ^ 36) v.now }
     requires narrow { IsVectorAtMostWide (pos (2 ^ 48)) v.now }
     requires between { HasVectorBetween 141000000000000 2040000000000000 v.now }
@@ -121,5 +122,5 @@ pub fn length_of(v: &VectorBox) -> Iv<36>
     // No end of a coordinate is longer than the vector's least length, but for its width and rounding.
     ensures reach { (w : ℤ) → IsVectorAtMostWide w v.now → AreEndsWithin ((result.lo +ℤ pos 80) +ℤ w) v.now }
 {
-    in_quarters(&squared_length(v).root_to::<34>())
+    in_quarters(&squared_length(v).root_by::<34>(guess))
 }

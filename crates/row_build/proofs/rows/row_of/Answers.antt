@@ -15,7 +15,7 @@ returns-clause-y c = λ base known.
     c.in_ok-geometry.geometry.held.ry) (to_z-of_z w64 c.args.group c.ranges.group) (c.in_ok-geometry.ensures.y base known)))
 
 pub returns-clause-u : goal.returns-clause-u
-returns-clause-u c = λ s move direction h d m. c.row_over.ensures.u s move direction (c.in_ok-geometry.ensures.seen s h) d m
+returns-clause-u c = λ s move direction h d m. c.row_over.ensures.u direction (c.in_ok-geometry.ensures.direction s move direction h d m)
 
 pub returns-in_err-geometry-clause-far : goal.returns-in_err-geometry-clause-far
 returns-in_err-geometry-clause-far c = λ _ base known.

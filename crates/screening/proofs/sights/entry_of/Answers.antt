@@ -1,16 +1,25 @@
-use Rattle.std.proofs.Common.{◌≡◌, refl, sym, ◌∙◌}
-use Rattle.screening.specs.Sightings.{Setting, Sighting, IsSighting, WasSent, setting_with, code_of}
+use Rattle.std.proofs.Common.{◌≡◌, List, [], ◌∷◌, ℤ, pos, length, get_or, arith, refl, sym, ◌∙◌}
+use Rattle.iv_core.specs.declared.Iv.{Iv}
+use Rattle.orbit_model.specs.SeenPlaces.{Place, point_of, HasSeenPlace, IsAboveMask, IsBelowMask}
+use Rattle.signal_travel.specs.Boxes.{HoldsPlace}
+use Rattle.screening.specs.Sightings.{Setting, Sighting, IsSighting, WasSent, setting_with, point_at, code_of}
 use Rattle.screening.proofs.ChosenOnce.{none_chosen}
-use Rattle.screening.proofs.SightLaws.{match_none, match_some, if_some, code_range, from_record, sees_sent, was_sent, base_near, rover_near, left_out_as}
+use Rattle.screening.proofs.SightLaws.{match_none, match_some, if_some, code_range, from_record, sees_sent, was_sent, base_near, rover_near, left_out_as, sees_near, three_are}
 use Rattle.screening.proofs.sights.entry_of.Goals as goal
+
+-- each place of a box is seen, as it is from the three coordinates of the point
+seen_there : (boxes : List (Iv 36)) (p : List ℤ) → length p ≡ 3 → ((a b c : ℤ) (sent : Place) → p ≡ a ∷ b ∷ c ∷ [] → HoldsPlace boxes sent → HasSeenPlace sent (point_of a b c)) →
+    (sent : Place) → HoldsPlace boxes sent → HasSeenPlace sent (point_at p)
+seen_there boxes p l all sent h = all (get_or p 0 (pos 0)) (get_or p 1 (pos 0)) (get_or p 2 (pos 0)) sent (three_are p l) h
 
 pub returns-in_err-record : goal.returns-in_err-record
 returns-in_err-record c =
     rw c.from_residual-in_err-record.ensures
     (λ g is. absurd (none_chosen c.args.table.now.fit.now c.args.number c.args.base.now.tag.0 g.eph (match_none c.chosen.result _ _ c.in_err-record.was c.chosen.ensures.chosen) is.chosen))
 
-pub returns-then-not-is_high : goal.returns-then-not-is_high
-returns-then-not-is_high c =
+pub returns-then-not-above : goal.returns-then-not-above
+returns-then-not-above c =
+    let l : length c.args.rules.now.point ≡ 3 = omega arith in
     let s : Setting = setting_with c.args.rules.now c.args.table.now in
     let g : Sighting = record { base = c.in_ok-at_base.at_base; rover = c.in_ok-at_rover.at_rover; eph = c.in_ok-record.record.now.clock.eph } in
     let seen : IsSighting s c.args.base.now c.args.rover.now c.args.number g = record {
@@ -25,10 +34,12 @@ returns-then-not-is_high c =
     let holds = from_record _ clock.world g.eph clock.eph _ (code_of g.base) _ range same refl c.sv_from-from_base.ensures in
     left_out_as s c.args.base.now c.args.rover.now c.args.number g seen
     (sees_sent s g.eph c.args.base.now.tag.0 (code_of g.base) c.sv_from-from_base.result _ (was_sent s c.args.table.now.world g.eph c.args.base.now.tag.0 (code_of g.base) refl (base_near c.args.base.now.tag.0 g.eph.toe.0 seen.chosen.candidate.near) range)
-    holds c.is_high.ensures.seen (c.is_high.ensures.left_out c.if-not-is_high.true))
+    holds (seen_there c.sv_from-from_base.result.place c.args.rules.now.point l c.seen_from-seen.ensures.exists) (sees_near c.sv_from-from_base.result c.seen_from-seen.result.place c.args.rules.now.point (λ h p. IsBelowMask c.args.rules.now.mask h p) l
+    c.seen_from-seen.ensures.place (c.above.ensures.left_out c.if-not-above.true)))
 
 pub returns : goal.returns
 returns c =
+    let l : length c.args.rules.now.point ≡ 3 = omega arith in
     let s : Setting = setting_with c.args.rules.now c.args.table.now in
     let g : Sighting = record { base = c.in_ok-at_base.at_base; rover = c.in_ok-at_rover.at_rover; eph = c.in_ok-record.record.now.clock.eph } in
     let seen : IsSighting s c.args.base.now c.args.rover.now c.args.number g = record {
@@ -50,7 +61,8 @@ returns c =
       entry = record {
         sighting = g;
         seen = seen;
-        kept = sees_sent s g.eph c.args.base.now.tag.0 (code_of g.base) c.sv_from-from_base.result _ sent holds c.is_high.ensures.seen (c.is_high.ensures.kept c.if-not-is_high.false);
+        kept = sees_sent s g.eph c.args.base.now.tag.0 (code_of g.base) c.sv_from-from_base.result _ sent holds (seen_there c.sv_from-from_base.result.place c.args.rules.now.point l c.seen_from-seen.ensures.exists) (sees_near c.sv_from-from_base.result c.seen_from-seen.result.place c.args.rules.now.point
+            (λ h p. IsAboveMask c.args.rules.now.mask h p) l c.seen_from-seen.ensures.place (c.above.ensures.kept c.if-not-above.false));
         tag = refl;
         observed = c.differences.ensures.value;
         base_holds = holds;

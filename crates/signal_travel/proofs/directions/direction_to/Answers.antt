@@ -2,33 +2,30 @@ use Rattle.std.proofs.Common.{◌^◌, ℤ, pos, ◌+ℤ◌, ◌≤ℤ◌, neg_�
 use Rattle.std.proofs.lemmas.Int.{ints}
 use Rattle.orbit_model.specs.SeenPlaces.{Place, difference, square, point_of}
 use Rattle.orbit_model.proofs.Changes.{range_change}
-use Rattle.signal_travel.proofs.MeanDirections.{seen_square, seen_between, far_enough, near_enough, move_x, move_y, move_z}
+use Rattle.signal_travel.proofs.MeanDirections.{seen_square, seen_between, far_enough, near_enough, move_x, move_y, move_z, wider}
 use Rattle.signal_travel.proofs.directions.direction_to.Goals as goal
 
-pub length_of-range-requires-clause-between : goal.length_of-range-requires-clause-between
-length_of-range-requires-clause-between c = seen_between c.args.seen.now.place c.vector_from-vector.result c.args.point.now c.args.seen.now.away c.vector_from-vector.ensures.holds
-
-wider : (l x : ℤ) → neg_ℤ ((l +ℤ pos 80) +ℤ pos 524289) ≤ℤ x → neg_ℤ (l +ℤ pos (2 ^ 20)) ≤ℤ x
-wider l x h = omega (arith, ints)
+pub length_by-range-requires-clause-between : goal.length_by-range-requires-clause-between
+length_by-range-requires-clause-between c = seen_between c.args.seen.now.place c.vector_from-vector.result c.args.point.now c.args.seen.now.away c.vector_from-vector.ensures.holds
 
 pub coordinate_spread-requires-clause-low : goal.coordinate_spread-requires-clause-low
-coordinate_spread-requires-clause-low c = wider c.length_of-range.result.lo c.vector_from-vector.result.x.lo
-    (c.length_of-range.ensures.reach (pos 524289) (c.vector_from-vector.ensures.width (pos (2 ^ 19)) c.args.seen.now.narrow)).0.0
+coordinate_spread-requires-clause-low c = wider c.length_by-range.result.lo c.vector_from-vector.result.x.lo
+    (c.length_by-range.ensures.reach (pos 524289) (c.vector_from-vector.ensures.width (pos (2 ^ 19)) c.args.seen.now.narrow)).0.0
 
 pub coordinate_spread-requires-2-clause-low : goal.coordinate_spread-requires-2-clause-low
-coordinate_spread-requires-2-clause-low c = wider c.length_of-range.result.lo c.vector_from-vector.result.y.lo
-    (c.length_of-range.ensures.reach (pos 524289) (c.vector_from-vector.ensures.width (pos (2 ^ 19)) c.args.seen.now.narrow)).1.0
+coordinate_spread-requires-2-clause-low c = wider c.length_by-range.result.lo c.vector_from-vector.result.y.lo
+    (c.length_by-range.ensures.reach (pos 524289) (c.vector_from-vector.ensures.width (pos (2 ^ 19)) c.args.seen.now.narrow)).1.0
 
 pub coordinate_spread-requires-3-clause-low : goal.coordinate_spread-requires-3-clause-low
-coordinate_spread-requires-3-clause-low c = wider c.length_of-range.result.lo c.vector_from-vector.result.z.lo
-    (c.length_of-range.ensures.reach (pos 524289) (c.vector_from-vector.ensures.width (pos (2 ^ 19)) c.args.seen.now.narrow)).2.0
+coordinate_spread-requires-3-clause-low c = wider c.length_by-range.result.lo c.vector_from-vector.result.z.lo
+    (c.length_by-range.ensures.reach (pos 524289) (c.vector_from-vector.ensures.width (pos (2 ^ 19)) c.args.seen.now.narrow)).2.0
 
 pub returns : goal.returns
 returns c = λ place move direction h m d.
     let p : Place = point_of c.args.point.now.x c.args.point.now.y c.args.point.now.z in
     let x : Place = difference place p in
     let v = c.vector_from-vector.ensures.holds place h in
-    let r = c.length_of-range.ensures.holds x d.before v d.before_is in
+    let r = c.length_by-range.ensures.holds x d.before v d.before_is in
     let s = seen_square c.args.seen.now.place c.args.point.now place c.args.seen.now.away h in
     let k = range_change x move d.before d.after (far_enough (square x) s) (near_enough (square x) s) m d.before_is d.after_is in (
       c.coordinate_spread.ensures x.x move.x d.before d.after direction.x v.0 r (move_x move m) k.0 k.1 d.x_is,

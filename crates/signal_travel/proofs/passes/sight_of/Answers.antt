@@ -21,6 +21,14 @@ most g x e h = omega (arith, ints)
 started : (g x : ℤ) → x ≡ g → pos 4096 ≤ℤ g → pos 0 ≤ℤ x
 started g x e h = omega (arith, ints)
 
+ended : (g x : ℤ) → x ≡ g → (g +ℤ pos 4096) ≤ℤ pos 192153584101141163 → x ≤ℤ pos 192153584101141163
+ended g x e h = omega (arith, ints)
+
+pub is_settled-requires-clause-high : goal.is_settled-requires-clause-high
+is_settled-requires-clause-high c =
+    let g = c.time_near-time in
+    ended g.result (to_z w64 (of_z w64 g.result)) (to_z-of_z w64 g.result (record { sfits = g.type_inv })) g.ensures.high
+
 pub is_settled-requires-clause-low : goal.is_settled-requires-clause-low
 is_settled-requires-clause-low c =
     let g = c.time_near-time in

@@ -1,25 +1,26 @@
-use Rattle.std.proofs.Common.{◌*◌, ◌^◌, ℤ, pos, ◌+ℤ◌, ◌-ℤ◌, ◌*ℤ◌, ◌≤ℤ◌, ◌<ℤ◌, arith, lit<, lit≤}
+use Rattle.std.proofs.Common.{◌*◌, ◌^◌, ℤ, pos, ◌+ℤ◌, ◌-ℤ◌, ◌*ℤ◌, ◌≤ℤ◌, ◌<ℤ◌, neg_ℤ, arith, lit<, lit≤}
 use Rattle.std.proofs.lemmas.Int.{ints}
-use Rattle.std.proofs.lemmas.Result.{IfOk-at_ok}
-use Rattle.sized_box.proofs.Bounds.{ok_of, in_reach, same_within, product_within}
+use Rattle.iv_core.specs.Intervals.{low_product, high_product}
+use Rattle.sized_box.proofs.Bounds.{reached, same_within, product_within}
 use Rattle.signal_travel.proofs.turns.cos_part.Goals as goal
 
-pub unwrap-requires : goal.unwrap-requires
-unwrap-requires c =
+within : (c : goal.Start) → (neg_ℤ (pos 2611505042712166400) ≤ℤ low_product 36 c.args.cos.now c.args.x.now) × (high_product 36 c.args.cos.now c.args.x.now ≤ℤ pos 2611505042712166400)
+within c =
     let x = c.args.cos.now in
     let y = c.args.x.now in
-    let w = product_within x.lo x.hi y.lo y.hi 1152991873351024640 2611340115968000000 2611505042712166400 (2 ^ 60) (lit< tt) x.ordered y.ordered
-    c.requires.cos_size.0 c.requires.cos_size.1 c.requires.size.0 c.requires.size.1 (lit≤ tt) in
-    ok_of c.mul_to.result (λ h. in_reach _ _ 2611505042712166400 (lit≤ tt) w.0 w.1 (c.mul_to.ensures.refused.0 h))
+    product_within x.lo x.hi y.lo y.hi 1152991873351024640 2611340115968000000 2611505042712166400 (2 ^ 60) (lit< tt) x.ordered y.ordered
+    c.requires.cos_size.0 c.requires.cos_size.1 c.requires.size.0 c.requires.size.1 (lit≤ tt)
+
+pub product_of-requires : goal.product_of-requires
+product_of-requires c =
+    let w = within c in
+    let r = reached _ _ 2611505042712166400 (lit≤ tt) w.0 w.1 in
+    (omega arith, (omega arith, (omega arith, (omega arith, (omega arith, r)))))
 
 pub returns-clause-size : goal.returns-clause-size
 returns-clause-size c =
-    let x = c.args.cos.now in
-    let y = c.args.x.now in
-    let w = product_within x.lo x.hi y.lo y.hi 1152991873351024640 2611340115968000000 2611505042712166400 (2 ^ 60) (lit< tt) x.ordered y.ordered
-    c.requires.cos_size.0 c.requires.cos_size.1 c.requires.size.0 c.requires.size.1 (lit≤ tt) in
-    let e = IfOk-at_ok _ c.unwrap.ensures c.mul_to.ensures.ends in
-    same_within c.unwrap.result.lo c.unwrap.result.hi _ _ 2611505042712166400 e.0 e.1 w.0 w.1
+    let w = within c.before in
+    same_within c.product_of.result.lo c.product_of.result.hi _ _ 2611505042712166400 c.product_of.ensures.lo c.product_of.ensures.hi w.0 w.1
 
 narrow : (w u v : ℤ) → (pos (2 ^ 60) *ℤ w) <ℤ (((pos 1152991873351024640 *ℤ u) +ℤ (pos 2611340115968000000 *ℤ v)) +ℤ (pos 2 *ℤ pos (2 ^ 60)))
     → u ≤ℤ pos (2 ^ 18) → (pos (2 ^ 24) *ℤ w) ≤ℤ ((pos 38000000 *ℤ v) +ℤ pos (262162 * 2 ^ 24))
@@ -29,5 +30,5 @@ pub returns-clause-width : goal.returns-clause-width
 returns-clause-width c =
     let x = c.args.cos.now in
     let y = c.args.x.now in
-    narrow (c.unwrap.result.hi -ℤ c.unwrap.result.lo) (y.hi -ℤ y.lo) (x.hi -ℤ x.lo)
-    (IfOk-at_ok _ c.unwrap.ensures c.mul_to.ensures.width 1152991873351024640 2611340115968000000 c.requires.cos_size c.requires.size) c.requires.narrow
+    narrow (c.product_of.result.hi -ℤ c.product_of.result.lo) (y.hi -ℤ y.lo) (x.hi -ℤ x.lo)
+    (c.product_of.ensures.width 1152991873351024640 2611340115968000000 c.requires.cos_size c.requires.size) c.requires.narrow

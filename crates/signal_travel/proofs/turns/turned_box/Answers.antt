@@ -1,9 +1,8 @@
 use Rattle.std.proofs.Common.{◌≡◌, ◌*◌, ◌^◌, ℤ, pos, ◌+ℤ◌, ◌-ℤ◌, ◌*ℤ◌, ◌≤ℤ◌, neg_ℤ, arith, lit≤}
 use Rattle.std.proofs.lemmas.Int.{ints}
-use Rattle.std.proofs.lemmas.Result.{IfOk-at_ok}
 use Rattle.rational.specs.Rational.{mul_r}
 use Rattle.iv_core.specs.declared.Iv.{Iv}
-use Rattle.sized_box.proofs.Bounds.{ok_of, in_reach}
+use Rattle.sized_box.proofs.Bounds.{reached}
 use Rattle.signal_travel.proofs.turns.turned_box.Goals as goal
 
 added : (a b c d : ℤ) → neg_ℤ (pos 2611505042712166400) ≤ℤ a → b ≤ℤ pos 2611505042712166400 → neg_ℤ (pos 164926744166400) ≤ℤ c → d ≤ℤ pos 164926744166400 →
@@ -14,24 +13,24 @@ taken : (a b c d : ℤ) → neg_ℤ (pos 2611505042712166400) ≤ℤ a → b ≤
     (neg_ℤ (pos 2618212063641600000) ≤ℤ (a -ℤ d)) × ((b -ℤ c) ≤ℤ pos 2618212063641600000)
 taken a b c d h k i j = (omega (arith, ints), omega (arith, ints))
 
-pub unwrap-requires : goal.unwrap-requires
-unwrap-requires c =
+pub sum_of-requires : goal.sum_of-requires
+sum_of-requires c =
     let x = c.cos_part in
     let y = c.sin_part in
     let w = added x.result.lo x.result.hi y.result.lo y.result.hi x.ensures.size.0 x.ensures.size.1 y.ensures.size.0 y.ensures.size.1 in
-    ok_of c.add.result (λ h. in_reach _ _ 2618212063641600000 (lit≤ tt) w.0 w.1 (c.add.ensures.refused.0 h))
+    (omega arith, reached _ _ 2618212063641600000 (lit≤ tt) w.0 w.1)
 
-pub unwrap-requires-2 : goal.unwrap-requires-2
-unwrap-requires-2 c =
+pub difference_of-requires : goal.difference_of-requires
+difference_of-requires c =
     let x = c.cos_part-2 in
     let y = c.sin_part-2 in
     let w = taken x.result.lo x.result.hi y.result.lo y.result.hi x.ensures.size.0 x.ensures.size.1 y.ensures.size.0 y.ensures.size.1 in
-    ok_of c.sub.result (λ h. in_reach _ _ 2618212063641600000 (lit≤ tt) w.0 w.1 (c.sub.ensures.refused.0 h))
+    (omega arith, reached _ _ 2618212063641600000 (lit≤ tt) w.0 w.1)
 
 pub returns-clause-holds : goal.returns-clause-holds
 returns-clause-holds c = λ p pair h k. (
-  IfOk-at_ok _ c.unwrap.ensures c.add.ensures.holds (mul_r pair.cos p.x) (mul_r pair.sin p.y) (c.cos_part.ensures.holds pair.cos p.x k.0 h.0) (c.sin_part.ensures.holds pair.sin p.y k.1 h.1),
-  IfOk-at_ok _ c.unwrap-2.ensures c.sub.ensures.holds (mul_r pair.cos p.y) (mul_r pair.sin p.x) (c.cos_part-2.ensures.holds pair.cos p.y k.0 h.1) (c.sin_part-2.ensures.holds pair.sin p.x k.1 h.0),
+  c.sum_of.ensures.holds (mul_r pair.cos p.x) (mul_r pair.sin p.y) (c.cos_part.ensures.holds pair.cos p.x k.0 h.0) (c.sin_part.ensures.holds pair.sin p.y k.1 h.1),
+  c.difference_of.ensures.holds (mul_r pair.cos p.y) (mul_r pair.sin p.x) (c.cos_part-2.ensures.holds pair.cos p.y k.0 h.1) (c.sin_part-2.ensures.holds pair.sin p.x k.1 h.0),
   h.2,
 )
 
@@ -46,10 +45,10 @@ returns-clause-size c =
     let x' = c.cos_part-2 in
     let y' = c.sin_part-2 in
     let w' = taken x'.result.lo x'.result.hi y'.result.lo y'.result.hi x'.ensures.size.0 x'.ensures.size.1 y'.ensures.size.0 y'.ensures.size.1 in
-    let e = IfOk-at_ok _ c.unwrap.ensures c.add.ensures.ends in
-    let e' = IfOk-at_ok _ c.unwrap-2.ensures c.sub.ensures.ends in
+    let e = c.sum_of.ensures in
+    let e' = c.difference_of.ensures in
     let z = c.args.sent.now in
-    ((rw e.0 w.0, rw e.1 w.1), (rw e'.0 w'.0, rw e'.1 w'.1), loose z.place.z.lo z.place.z.hi z.within.2.0 z.within.2.1)
+    ((rw e.lo w.0, rw e.hi w.1), (rw e'.lo w'.0, rw e'.hi w'.1), loose z.place.z.lo z.place.z.hi z.within.2.0 z.within.2.1)
 
 wide : (p q s c d w v : ℤ) → (pos (2 ^ 24) *ℤ p) ≤ℤ ((pos 38000000 *ℤ c) +ℤ pos (262162 * 2 ^ 24)) → (pos (2 ^ 24) *ℤ q) ≤ℤ ((pos 38000000 *ℤ d) +ℤ pos (18 * 2 ^ 24)) → s ≡ p +ℤ q → c ≤ℤ w → d ≤ℤ w →
     ((pos 76000000 *ℤ w) +ℤ pos (262180 * 2 ^ 24)) ≤ℤ (pos (2 ^ 24) *ℤ v) → s ≤ℤ v
@@ -62,10 +61,10 @@ pub returns-clause-width : goal.returns-clause-width
 returns-clause-width c = λ w v h k.
     let turn = c.args.turn.now in
     let z = c.args.sent.now in (
-      wide (size c.cos_part.result) (size c.sin_part.result) (size c.unwrap.result) (turn.cos.hi -ℤ turn.cos.lo) (turn.sin.hi -ℤ turn.sin.lo) w v
-          c.cos_part.ensures.width c.sin_part.ensures.width (IfOk-at_ok _ c.unwrap.ensures c.add.ensures.width) h.0 h.1 k,
-      wide (size c.cos_part-2.result) (size c.sin_part-2.result) (size c.unwrap-2.result) (turn.cos.hi -ℤ turn.cos.lo) (turn.sin.hi -ℤ turn.sin.lo) w
-          v c.cos_part-2.ensures.width c.sin_part-2.ensures.width (IfOk-at_ok _ c.unwrap-2.ensures c.sub.ensures.width) h.0 h.1 k,
+      wide (size c.cos_part.result) (size c.sin_part.result) (size c.sum_of.result) (turn.cos.hi -ℤ turn.cos.lo) (turn.sin.hi -ℤ turn.sin.lo) w v
+          c.cos_part.ensures.width c.sin_part.ensures.width c.sum_of.ensures.width h.0 h.1 k,
+      wide (size c.cos_part-2.result) (size c.sin_part-2.result) (size c.difference_of.result) (turn.cos.hi -ℤ turn.cos.lo) (turn.sin.hi -ℤ turn.sin.lo) w
+          v c.cos_part-2.ensures.width c.sin_part-2.ensures.width c.difference_of.ensures.width h.0 h.1 k,
       same_wide (z.place.z.hi -ℤ z.place.z.lo) turn.cos.lo turn.cos.hi w v z.narrow.2 turn.cos.ordered h.0 k,
     )
   where

@@ -2,8 +2,7 @@ use Rattle.std.proofs.Common.{ℤ, pos, ◌-ℤ◌, ◌≤ℤ◌, neg_ℤ, arith
 use Rattle.std.proofs.lemmas.Int.{ints, to_z-of_z}
 use Rattle.std.specs.Int.{w64}
 use Rattle.iv_core.specs.Intervals.{Holds}
-use Rattle.std.proofs.lemmas.Result.{IfOk-at_ok}
-use Rattle.sized_box.proofs.Bounds.{ok_of, in_reach}
+use Rattle.sized_box.proofs.Bounds.{reached}
 use Rattle.signal_travel.specs.VectorBoxes.{coordinate_of}
 use Rattle.signal_travel.proofs.vectors.offset_from.Goals as goal
 
@@ -13,18 +12,21 @@ low a d h k = omega (arith, ints)
 high : (b c : ℤ) → b ≤ℤ pos 2618212063641600000 → neg_ℤ (pos 481036405871476736) ≤ℤ c → (b -ℤ c) ≤ℤ pos 3106120348467200000
 high b c h k = omega (arith, ints)
 
-pub unwrap-requires : goal.unwrap-requires
-unwrap-requires c = ok_of c.sub.result (λ h. in_reach _ _ 3106120348467200000 (lit≤ tt)
-    (low c.args.x.now.lo c.coordinate_box.result.hi c.requires.x_size.0 c.coordinate_box.ensures.size.1)
-    (high c.args.x.now.hi c.coordinate_box.result.lo c.requires.x_size.1 c.coordinate_box.ensures.size.0) (c.sub.ensures.refused.0 h))
+pub difference_of-requires : goal.difference_of-requires
+difference_of-requires c = (
+  omega arith,
+  reached _ _ 3106120348467200000 (lit≤ tt)
+      (low c.args.x.now.lo c.coordinate_box.result.hi c.requires.x_size.0 c.coordinate_box.ensures.size.1)
+      (high c.args.x.now.hi c.coordinate_box.result.lo c.requires.x_size.1 c.coordinate_box.ensures.size.0),
+)
 
 pub returns-clause-size : goal.returns-clause-size
 returns-clause-size c =
-    let e = IfOk-at_ok _ c.unwrap.ensures c.sub.ensures.ends in (
-      rw e.0 (low c.args.x.now.lo c.coordinate_box.result.hi c.requires.x_size.0 c.coordinate_box.ensures.size.1),
-      rw e.1 (high c.args.x.now.hi c.coordinate_box.result.lo c.requires.x_size.1 c.coordinate_box.ensures.size.0),
+    let e = c.difference_of.ensures in (
+      rw e.lo (low c.args.x.now.lo c.coordinate_box.result.hi c.requires.x_size.0 c.coordinate_box.ensures.size.1),
+      rw e.hi (high c.args.x.now.hi c.coordinate_box.result.lo c.requires.x_size.1 c.coordinate_box.ensures.size.0),
     )
 
 pub returns-clause-holds : goal.returns-clause-holds
-returns-clause-holds c = λ q h. IfOk-at_ok _ c.unwrap.ensures c.sub.ensures.holds q (coordinate_of c.args.coordinate) h
+returns-clause-holds c = λ q h. c.difference_of.ensures.holds q (coordinate_of c.args.coordinate) h
     (subst (λ (z : ℤ). Holds c.coordinate_box.result (coordinate_of z)) (to_z-of_z w64 c.args.coordinate c.ranges.coordinate) c.coordinate_box.ensures.holds)

@@ -1,6 +1,5 @@
 use Rattle.std.proofs.Common.{◌^◌, ◌≡◌, ℤ, pos, ◌+ℤ◌, ◌-ℤ◌, ◌*ℤ◌, ◌≤ℤ◌, ◌<ℤ◌, arith, lit<}
 use Rattle.std.proofs.lemmas.Int.{ints}
-use Rattle.std.proofs.lemmas.Result.{IfOk-at_ok}
 use Rattle.rational.specs.Rational.{add_r, mul_r}
 use Rattle.whole_math.specs.Rounding.{floor_div, ceil_div}
 use Rattle.whole_math.proofs.Rounding.{lt_floor, ceil_lt}
@@ -8,8 +7,8 @@ use Rattle.iv_core.specs.Boxes.{near_end, far_end}
 use Rattle.signal_travel.proofs.vectors.squared_length.Goals as goal
 
 pub returns-clause-holds : goal.returns-clause-holds
-returns-clause-holds c = λ p h. IfOk-at_ok _ c.unwrap-2.ensures c.add-2.ensures.holds (add_r (mul_r p.x p.x) (mul_r p.y p.y)) (mul_r p.z p.z)
-    (IfOk-at_ok _ c.unwrap.ensures c.add.ensures.holds (mul_r p.x p.x) (mul_r p.y p.y) (c.square_of-x.ensures.holds p.x h.0) (c.square_of-y.ensures.holds p.y h.1))
+returns-clause-holds c = λ p h. c.sum_of-2.ensures.holds (add_r (mul_r p.x p.x) (mul_r p.y p.y)) (mul_r p.z p.z)
+    (c.sum_of.ensures.holds (mul_r p.x p.x) (mul_r p.y p.y) (c.square_of-x.ensures.holds p.x h.0) (c.square_of-y.ensures.holds p.y h.1))
     (c.square_of-z.ensures.holds p.z h.2)
 
 below : (a b c x y z f g h s t : ℤ) → x ≡ f → y ≡ g → z ≡ h → a <ℤ ((f *ℤ pos 9223372036854775808) +ℤ pos 9223372036854775808) →
@@ -28,9 +27,9 @@ returns-clause-near c =
     let x : ℤ = near_end v.x.lo v.x.hi *ℤ near_end v.x.lo v.x.hi in
     let y : ℤ = near_end v.y.lo v.y.hi *ℤ near_end v.y.lo v.y.hi in
     let z : ℤ = near_end v.z.lo v.z.hi *ℤ near_end v.z.lo v.z.hi in
-    below x y z c.square_of-x.result.lo c.square_of-y.result.lo c.square_of-z.result.lo (floor_div x (2 ^ 63)) (floor_div y (2 ^ 63)) (floor_div z (2 ^ 63)) c.unwrap.result.lo c.unwrap-2.result.lo
+    below x y z c.square_of-x.result.lo c.square_of-y.result.lo c.square_of-z.result.lo (floor_div x (2 ^ 63)) (floor_div y (2 ^ 63)) (floor_div z (2 ^ 63)) c.sum_of.result.lo c.sum_of-2.result.lo
     c.square_of-x.ensures.lo c.square_of-y.ensures.lo c.square_of-z.ensures.lo (lt_floor x (2 ^ 63) (lit< tt)) (lt_floor y (2 ^ 63) (lit< tt)) (lt_floor z (2 ^ 63) (lit< tt))
-    (IfOk-at_ok _ c.unwrap.ensures c.add.ensures.ends).0 (IfOk-at_ok _ c.unwrap-2.ensures c.add-2.ensures.ends).0
+    c.sum_of.ensures.lo c.sum_of-2.ensures.lo
 
 pub returns-clause-far : goal.returns-clause-far
 returns-clause-far c =
@@ -38,6 +37,6 @@ returns-clause-far c =
     let x : ℤ = far_end v.x.lo v.x.hi *ℤ far_end v.x.lo v.x.hi in
     let y : ℤ = far_end v.y.lo v.y.hi *ℤ far_end v.y.lo v.y.hi in
     let z : ℤ = far_end v.z.lo v.z.hi *ℤ far_end v.z.lo v.z.hi in
-    above x y z c.square_of-x.result.hi c.square_of-y.result.hi c.square_of-z.result.hi (ceil_div x (2 ^ 63)) (ceil_div y (2 ^ 63)) (ceil_div z (2 ^ 63)) c.unwrap.result.hi c.unwrap-2.result.hi
+    above x y z c.square_of-x.result.hi c.square_of-y.result.hi c.square_of-z.result.hi (ceil_div x (2 ^ 63)) (ceil_div y (2 ^ 63)) (ceil_div z (2 ^ 63)) c.sum_of.result.hi c.sum_of-2.result.hi
     c.square_of-x.ensures.hi c.square_of-y.ensures.hi c.square_of-z.ensures.hi (ceil_lt x (2 ^ 63) (lit< tt)) (ceil_lt y (2 ^ 63) (lit< tt)) (ceil_lt z (2 ^ 63) (lit< tt))
-    (IfOk-at_ok _ c.unwrap.ensures c.add.ensures.ends).1 (IfOk-at_ok _ c.unwrap-2.ensures c.add-2.ensures.ends).1
+    c.sum_of.ensures.hi c.sum_of-2.ensures.hi

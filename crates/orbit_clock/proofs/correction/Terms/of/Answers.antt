@@ -13,5 +13,5 @@ returns c = λ share small. record {
   bias = c.args.made.now.bias_in share small;
   drift = c.args.made.now.drift_in;
   aging = c.args.made.now.aging_in;
-  offset = subst (λ (k : ℤ). Holds c.time_since.result.held (part (sub_r (sent_at c.args.tag.0 k) (seconds c.args.made.now.eph.toc.0)))) (to_z-of_z w64 c.args.code c.ranges.code) c.time_since.ensures;
+  offset = subst (λ (k : ℤ). Holds c.offset_of.result.held (part (sub_r (sent_at c.args.tag.0 k) (seconds c.args.made.now.eph.toc.0)))) (to_z-of_z w64 c.args.code c.ranges.code) c.offset_of.ensures;
 }

@@ -4,9 +4,9 @@ use Rattle.rational.specs.Rational.{InBox}
 use Rattle.orbit_model.specs.SeenPlaces.{square}
 use Rattle.signal_travel.specs.VectorBoxes.{AreEndsWithin}
 use Rattle.signal_travel.proofs.Lengths.{AreRoots, box_most, box_least, root_least, root_most, length_width, length_reach, in_quarters}
-use Rattle.signal_travel.proofs.vectors.length_of.Goals as goal
+use Rattle.signal_travel.proofs.vectors.length_by.Goals as goal
 
-roots : (c : goal.After-in_quarters-arg-1) → AreRoots c.args.v.now c.squared_length.result.lo c.squared_length.result.hi c.root_to.result.lo c.root_to.result.hi
+roots : (c : goal.After-in_quarters-arg-1) → AreRoots c.args.v.now c.squared_length.result.lo c.squared_length.result.hi c.root_by.result.lo c.root_by.result.hi
 roots c =
     let b = c.requires.between in
     let s = c.squared_length.ensures.holds b.vector b.held in
@@ -17,25 +17,25 @@ roots c =
       far = c.squared_length.ensures.far;
       at_most = box_most c.squared_length.result.lo c.squared_length.result.hi 2040000000000000 (square b.vector) s b.near;
       at_least = box_least c.squared_length.result.lo c.squared_length.result.hi 141000000000000 (square b.vector) s b.far;
-      not_negative = c.root_to.ensures.not_negative;
-      ordered = c.root_to.result.ordered;
-      low_root = c.root_to.ensures.near_low;
-      high_root = c.root_to.ensures.near_high;
+      not_negative = c.root_by.ensures.not_negative;
+      ordered = c.root_by.result.ordered;
+      low_root = c.root_by.ensures.near_low;
+      high_root = c.root_by.ensures.near_high;
     }
 
 pub in_quarters-requires-clause-low : goal.in_quarters-requires-clause-low
-in_quarters-requires-clause-low c = c.root_to.ensures.not_negative
+in_quarters-requires-clause-low c = c.root_by.ensures.not_negative
 
 small : (h : ℤ) → h ≤ℤ pos 776180000000000000 → h ≤ℤ pos (2 ^ 60)
 small h k = omega (arith, ints)
 
 pub in_quarters-requires-clause-high : goal.in_quarters-requires-clause-high
-in_quarters-requires-clause-high c = small c.root_to.result.hi (root_most _ _ _ _ _ (roots c))
+in_quarters-requires-clause-high c = small c.root_by.result.hi (root_most _ _ _ _ _ (roots c))
 
 pub returns-clause-holds : goal.returns-clause-holds
 returns-clause-holds c = λ p r h n.
     let e = c.in_quarters.ensures in
-    subst₂ (λ (l u : ℤ). InBox 36 l u r) (sym e.lo) (sym e.hi) (in_quarters c.root_to.result.lo c.root_to.result.hi r (c.root_to.ensures.holds (square p) r (c.squared_length.ensures.holds p h) n))
+    subst₂ (λ (l u : ℤ). InBox 36 l u r) (sym e.lo) (sym e.hi) (in_quarters c.root_by.result.lo c.root_by.result.hi r (c.root_by.ensures.holds (square p) r (c.squared_length.ensures.holds p h) n))
 
 far : (l z : ℤ) → z ≡ pos 4 *ℤ l → pos 171798691840000000 ≤ℤ l → pos (10000000 * 2 ^ 36) ≤ℤ z
 far l z e h = omega (arith, ints)
@@ -44,10 +44,10 @@ near : (h z : ℤ) → z ≡ pos 4 *ℤ h → h ≤ℤ pos 776180000000000000 �
 near h z e k = omega (arith, ints)
 
 pub returns-clause-far : goal.returns-clause-far
-returns-clause-far c = far c.root_to.result.lo c.in_quarters.result.lo c.in_quarters.ensures.lo (root_least _ _ _ _ _ (roots c.before))
+returns-clause-far c = far c.root_by.result.lo c.in_quarters.result.lo c.in_quarters.ensures.lo (root_least _ _ _ _ _ (roots c.before))
 
 pub returns-clause-near : goal.returns-clause-near
-returns-clause-near c = near c.root_to.result.hi c.in_quarters.result.hi c.in_quarters.ensures.hi (root_most _ _ _ _ _ (roots c.before))
+returns-clause-near c = near c.root_by.result.hi c.in_quarters.result.hi c.in_quarters.ensures.hi (root_most _ _ _ _ _ (roots c.before))
 
 pub returns-clause-width : goal.returns-clause-width
 returns-clause-width c = λ w n.
