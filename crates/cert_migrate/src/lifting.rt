@@ -5,9 +5,9 @@ ghost use Rattle.cert_check.specs.RowDecisions.{IsRowDecision};
 
 use crate::lifted_rows::lifted_pairs;
 use crate::{OldArc, OldCert, OldSession};
+use cert_check::decide_rows;
 use cert_data::Cert;
 use obs_rows::{Arc, ArcList, PairList, Session, Signals};
-use cert_check::decide_rows;
 use std::alloc::{AllocError, Global};
 
 fn lifted_arc(arc: &OldArc) -> Arc

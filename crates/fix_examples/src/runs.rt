@@ -2,11 +2,11 @@
 use cert_jobs::CertCheck;
 use cert_text::{Cert, Tail, TwoBest, read_cert};
 use decimal_text::read_fixed;
-use session_jobs::Fix;
 use job_answers::{JobOutput, JobStop, Status, answer_file};
 use line_source::{MemFiles, Named};
 use run_options::Options;
 use session_files::answer_session;
+use session_jobs::Fix;
 use std::alloc::{AllocError, Global};
 use std::process::Abort;
 use std::test::Fail;

@@ -2,8 +2,7 @@
 ghost use Rattle.std.specs.Prelude.{◌*◌, ◌^◌, ◌≤◌, pos, ◌≤ℤ◌};
 
 use iv_core::Iv;
-use orbit_place::{AXIS, Orbit, place_of};
-use orbit_place::eccentric_pair;
+use orbit_place::{AXIS, Orbit, eccentric_pair, place_of};
 use sized_box::SizedBox;
 use std::process::Abort;
 

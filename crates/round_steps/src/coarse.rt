@@ -8,13 +8,13 @@ ghost use Rattle.round_steps.specs.Steps.{IsFloatOf, IsCoarseStep, IsRoundDeclin
 
 use crate::limits::first_over;
 use crate::points::moved_point;
+use cert_check::tail_of;
 use cert_data::Tail;
 use form_tables::{BASELINE_COLUMNS, MOST_FACTORS};
 use integer_form::Place;
 use lower_form::{front, lower};
 use normal_sum::{Normal, sum};
 use obs_rows::{Session, is_receiver_point};
-use cert_check::tail_of;
 
 /// The numbers of the baseline, and 0 for all other columns.
 fn padded(baseline: &[i64; BASELINE_COLUMNS]) -> [i64; MOST_FACTORS]

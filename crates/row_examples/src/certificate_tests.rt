@@ -8,13 +8,12 @@ ghost use Rattle.slip_arcs.specs.Linked.{IsCutOf};
 
 use crate::files::{Files, files_of, with_shifts};
 use crate::tests::are_used;
-use cert_check::check;
+use cert_check::{check, decide_settled, form_of_rows};
 use cert_data::{Cause, Cert, Tail, Verdict};
 use cert_text::{read_cert, write_cert};
 use obs_rows::{Session, are_arcs};
 use row_build::rows_at;
 use run_options::Options;
-use cert_check::{decide_settled, form_of_rows};
 use signal_travel::is_receiver_point;
 use std::alloc::Global;
 use std::process::Abort;

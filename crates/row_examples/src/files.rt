@@ -7,6 +7,7 @@ ghost use Rattle.obs_rows.specs.ReceiverPoints.{IsReceiverPoint};
 ghost use Rattle.slip_arcs.specs.Linked.{IsCutOf};
 
 use eph_store::NavFile;
+use epoch_pair::begin;
 use gal_nav::read_gal_nav;
 use gal_obs::read_gal_obs;
 use obs_rows::{Arc, are_arcs, is_system};
@@ -16,7 +17,6 @@ use rinex_obs::read_obs;
 use round_steps::Rounds;
 use run_options::Options;
 use session::{FileRounds, FileRun, screened};
-use epoch_pair::begin;
 use signal_travel::is_receiver_point;
 use sim_session::{Made, make};
 use std::alloc::{AllocError, Global};

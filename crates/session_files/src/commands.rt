@@ -8,12 +8,12 @@ ghost use Rattle.session_files.specs.SessionJobs.{SessionAnswers, AreAnswered, E
 
 use crate::{SessionFiles, read_session, refused_pair};
 use eph_store::NavFile;
+use epoch_pair::SessionFault;
 use job_answers::{JobOutput, JobStop};
 use line_source::Files;
 use obs_store::ObsFile;
 use rinex_head::System;
 use run_options::Options;
-use epoch_pair::SessionFault;
 use std::alloc::Global;
 
 /// A command on the three files of a session, by what it answers of them.

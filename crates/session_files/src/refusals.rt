@@ -7,8 +7,8 @@ ghost use Rattle.job_answers.specs.Answers.{ending_of};
 ghost use Rattle.job_answers.specs.Endings.{ending};
 ghost use Rattle.session_files.specs.Refusals.{pair_line};
 
-use job_answers::{JobOutput, Status};
 use epoch_pair::PairWhat;
+use job_answers::{JobOutput, Status};
 use std::alloc::{AllocError, Global};
 
 // The line about two files that are refused.

@@ -1,6 +1,6 @@
 //! Lists of arcs.
-use session_jobs::write_arcs;
 use obs_rows::{Arc, ArcList};
+use session_jobs::write_arcs;
 use slip_arcs::Arcs;
 use std::test::Fail;
 
