@@ -8,6 +8,7 @@ use Rattle.cert_data.specs.declared.verdicts.Verdict.TheVariants.{Certified, Not
 use Rattle.cert_spelling.specs.Spelling.{spelling}
 use Rattle.cert_spelling.specs.Lengths.{IsWhole}
 use Rattle.cert_check.specs.Verdicts.{IsVerdictOf, IsBestIn, IsBestByRatioIn, IsSameVerdict}
+use Rattle.cert_check.proofs.Visits.{rests_within}
 use Rattle.cert_report.specs.VerdictText.{verdict_text}
 use Rattle.cert_report.specs.Residuals.{has_vectors, residuals_text}
 use Rattle.run_options.specs.declared.options.Options.{Options}
@@ -132,6 +133,7 @@ check_verdict told name text c Certified out is whole spelled verdict only best 
   spelled = spelled;
   certified = verdict;
   only = only;
+  visits = rests_within c.session c.ratio c.budget c.tail Certified verdict;
   best = best refl;
   by_ratio = by_ratio refl;
   printed = written;
@@ -145,6 +147,7 @@ check_verdict told name text c (Not cause) out is whole spelled verdict only bes
   cause = cause;
   not_certified = verdict;
   only = only;
+  visits = rests_within c.session c.ratio c.budget c.tail (Not cause) verdict;
   printed = written;
 }
 

@@ -41,6 +41,7 @@ use Rattle.cert_spelling.specs.Spelling.{spelling}
 use Rattle.cert_spelling.specs.Lengths.{IsWhole, IsCertificate}
 use Rattle.cert_text.specs.Rules.{reading_of, reading_as}
 use Rattle.cert_check.specs.Verdicts.{IsVerdictOf, IsBestIn, IsBestByRatioIn, IsSameVerdict, IsGivenUp}
+use Rattle.cert_check.specs.Visits.{RestsWithin}
 use Rattle.cert_report.specs.VerdictText.{verdict_text}
 use Rattle.cert_report.specs.Residuals.{has_vectors, residuals_text}
 use Rattle.cert_migrate.specs.declared.old_certs.OldCert.{OldCert}
@@ -172,6 +173,7 @@ pub record SaysCertified (told : List ℕ → Option (List ℕ)) (name : List �
   pub spelled : text ≡ spelling cert
   pub certified : IsVerdictOf cert.session cert.ratio cert.budget cert.tail Certified
   pub only : (v : Verdict) → IsVerdictOf cert.session cert.ratio cert.budget cert.tail v → IsSameVerdict v Certified
+  pub visits : RestsWithin cert.session cert.budget Certified
   pub best : IsBestIn cert.session cert.tail
   pub by_ratio : IsBestByRatioIn cert.ratio cert.session cert.tail
   pub printed : Appends out.old out.new (codes "certified\n")
@@ -185,6 +187,7 @@ pub record SaysNotCertified (told : List ℕ → Option (List ℕ)) (name : List
   pub cause : Cause
   pub not_certified : IsVerdictOf cert.session cert.ratio cert.budget cert.tail (Not cause)
   pub only : (v : Verdict) → IsVerdictOf cert.session cert.ratio cert.budget cert.tail v → IsSameVerdict v (Not cause)
+  pub visits : RestsWithin cert.session cert.budget (Not cause)
   pub printed : Appends out.old out.new (verdict_text (Not cause))
 
 abbrev pub SaysOfCheck : (List ℕ → Option (List ℕ)) → List ℕ → Status → SinkChange → Type 0

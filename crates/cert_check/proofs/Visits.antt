@@ -7,12 +7,7 @@ use Rattle.integer_form.specs.declared.faults.LowerFault.{LowerFault}
 use Rattle.integer_form.specs.declared.faults.LowerFault.TheVariants as fault
 use Rattle.integer_form.specs.declared.faults.Place.{Place}
 use Rattle.integer_form.specs.declared.faults.Place.TheVariants.{Factor, Entry, Float, Search, Sum}
-use Rattle.integer_form.specs.declared.form.Form.{Form}
 use Rattle.integer_form.specs.Told.{told}
-use Rattle.int_search.specs.declared.answer.TwoBest.{TwoBest}
-use Rattle.int_search.specs.Answers.{IsTwoBest}
-use Rattle.int_search.specs.ReducedCounts.{KeepsBudget}
-use Rattle.fix_decide.specs.Decisions.{IsFormOf}
 use Rattle.lower_form.proofs.Exponents.{has_exponent}
 use Rattle.cert_data.specs.declared.tails.Tail.{Tail}
 use Rattle.cert_data.specs.declared.verdicts.Verdict.{Verdict}
@@ -20,23 +15,8 @@ use Rattle.cert_data.specs.declared.verdicts.Verdict.TheVariants.{Certified, Not
 use Rattle.cert_data.specs.declared.verdicts.Cause.TheVariants as cause
 use Rattle.cert_check.specs.Settled.{IsRefused}
 use Rattle.cert_check.specs.Verdicts.{IsVerdictOf, IsGivenUp}
+use Rattle.cert_check.specs.Visits.{IsSearchedWithin, RestsWithin}
 use Rattle.cert_check.proofs.OneVerdict.{Ends, given_up, refused, wide_move, wide_sum, decided, verdict_of, rows_end}
-
-pub record IsSearchedWithin (s : Session) (budget : ℕ) : Type 0 where
-  pub form : Form
-  pub of_rows : IsFormOf s form
-  pub best : TwoBest
-  pub best_is : IsTwoBest form best
-  pub visits : KeepsBudget form budget best
-
--- so they are where the verdict rests on them
-abbrev pub RestsWithin : Session → ℕ → Verdict → Type 0
-RestsWithin s budget Certified = IsSearchedWithin s budget
-RestsWithin s budget (Not (cause.Overwidth Float)) = IsSearchedWithin s budget
-RestsWithin s budget (Not (cause.Overwidth Sum)) = IsSearchedWithin s budget
-RestsWithin s budget (Not cause.Unseparated) = IsSearchedWithin s budget
-RestsWithin s budget (Not cause.Tail) = IsSearchedWithin s budget
-RestsWithin s budget _ = Unit {0}
 
 rests : (s : Session) (budget : ℕ) (v : Verdict) → IsSearchedWithin s budget → RestsWithin s budget v
 rests s budget Certified h = h

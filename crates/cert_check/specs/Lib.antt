@@ -2,3 +2,4 @@ pub mod SameTails
 pub mod Verdicts
 pub mod Settled
 pub mod RowDecisions
+pub mod Visits
