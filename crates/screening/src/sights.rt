@@ -71,8 +71,6 @@ pub fn entry_of(
         pair,
         sat: number,
         base: from_base,
-        base_point: rules.point,
-        base_range: seen.range,
         rover: sv_from(record, rover.tag, at_rover[L1_CODE]),
         observed: differences(&at_base, &at_rover),
         tag: base.tag,
