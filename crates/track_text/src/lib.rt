@@ -1,8 +1,9 @@
 //! Certificates of tracks as text: read by rules, a line at a time, and written.
 //!
 //! `read_track` answers the certificate whose spelling the text is (`ok`), the only one with that spelling (`only`), or
-//! refuses a text that is the spelling of none (`refused`), at the first line and check that fails (`exact`). Running out
-//! of memory is an answer of its own. So what `write_track` wrote is read again, and no other text gives it. Two
+//! refuses a text that is the spelling of none (`refused`), at the first line and check that fails (`exact`); none
+//! begins with the lines up to that one (`stuck`), and up to the line `pairs` one begins with the lines before it (`first`).
+//! Running out of memory is an answer of its own. So what `write_track` wrote is read again, and no other text gives it. Two
 //! certificates with one spelling are the same (`one_track_spelling_law`).
 #![tactic(auto)]
 

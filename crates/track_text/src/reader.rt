@@ -5,6 +5,7 @@ ghost use Rattle.track_data.specs.declared.certs.TrackCert.{TrackCert};
 ghost use Rattle.track_spelling.specs.Spelling.{lines_of_track, track_spelling};
 ghost use Rattle.track_spelling.specs.Lengths.{IsWholeTrackCert, IsTrackCertificate};
 ghost use Rattle.grammar_lines.specs.Beginnings.{NoneBegins};
+ghost use Rattle.cert_text.specs.BeforePairs.{BeginsBefore};
 ghost use Rattle.track_text.specs.Rules.{track_rules, track_reading, Form, End};
 
 use crate::arcs::read_arcs;
@@ -68,6 +69,7 @@ pub fn read_track(alloc: Global, text: &[u8]) -> Result<TrackCert, TextFault>
     ensures only { IfOk result (λ c. (d : TrackCert) → IsWholeTrackCert d → text.now ≡ track_spelling d → d ≡ c) }
     ensures refused { OnRefusal result (IsTrackCertificate text.now → ⊥) }
     ensures stuck { IfRefused result (λ at. NoneBegins IsTrackCertificate text.now at.line) }
+    ensures first { IfRefused result (λ at. BeginsBefore IsTrackCertificate text.now at.line) }
     ensures exact { Gives (track_reading text.now) (λ c. tt) result }
 {
     read_lines(alloc, TextLines::new(text))

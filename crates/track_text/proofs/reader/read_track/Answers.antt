@@ -12,6 +12,7 @@ use Rattle.track_spelling.specs.Lengths.{IsWholeTrackCert}
 use Rattle.track_text.specs.Rules.{track_rules, Form}
 use Rattle.track_text.proofs.Feeds.{track_feed}
 use Rattle.track_text.proofs.Accepted.{refused_text, stuck_text}
+use Rattle.track_text.proofs.Begun.{first_text}
 use Rattle.track_text.proofs.SameTrack.{spelling_same}
 use Rattle.track_text.proofs.reader.read_track.Goals as goal
 
@@ -35,6 +36,11 @@ pub returns-clause-stuck : goal.returns-clause-stuck
 returns-clause-stuck c =
     let whole = sym (ap (λ (r : Reading). rest_gives track_rules r Form) c.new.ensures) in
     stuck_text c.args.text.now (λ x. tt) c.read_lines.result (gives_same _ _ (λ x. tt) c.read_lines.result whole c.read_lines.ensures.reads)
+
+pub returns-clause-first : goal.returns-clause-first
+returns-clause-first c =
+    let whole = sym (ap (λ (r : Reading). rest_gives track_rules r Form) c.new.ensures) in
+    first_text c.args.text.now (λ x. tt) c.read_lines.result (gives_same _ _ (λ x. tt) c.read_lines.result whole c.read_lines.ensures.reads)
 
 -- what is read is the only certificate with this spelling
 alone : (text : List ℕ) (r : Result TrackCert TextFault) → IfOk r (λ c. text ≡ track_spelling c) → IfOk r IsWholeTrackCert
