@@ -14,6 +14,7 @@ use Rattle.track_spelling.specs.Spelling.{track_spelling}
 use Rattle.track_spelling.specs.Lengths.{IsWholeTrackCert, IsTrackCertificate}
 use Rattle.track_form.specs.Verdicts.{IsTrackVerdict, IsTrackBestIn, IsTrackBestByRatioIn}
 use Rattle.grammar_lines.specs.Beginnings.{NoneBegins}
+use Rattle.cert_text.specs.BeforePairs.{BeginsBefore}
 use Rattle.track_text.specs.Rules.{track_reading}
 
 -- the rows of a track and its tail have this verdict
@@ -28,9 +29,11 @@ IsBestFor cert = IsTrackBestIn cert.track.arcs (fine_signals cert.track.signals)
 abbrev pub IsBestByItsRatio : TrackCert → Type 0
 IsBestByItsRatio cert = IsTrackBestByRatioIn cert.ratio cert.track.arcs (fine_signals cert.track.signals) cert.track.pairs cert.tail
 
--- the first place at which the rules fail: no certificate of a track begins with the text's lines up to that one
+-- the first place at which the rules fail: no certificate of a track begins with the text's lines up to that one, and up to
+-- the line `pairs` one begins with the lines before it
 pub record IsTrackRefused (text : List ℕ) (at : At) : Type 0 where
   pub stuck : NoneBegins IsTrackCertificate text at.line
+  pub first : BeginsBefore IsTrackCertificate text at.line
   pub gives_is : track_reading text ≡ Err at
 
 -- The rows are decided again, and the tail is compared with what they say. No other verdict holds of them, but where a search
