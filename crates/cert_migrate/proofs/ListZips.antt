@@ -57,7 +57,7 @@ all_at P [] k d n h = n
 all_at P (x ∷ xs) zero d n h = All-head P x xs h
 all_at P (x ∷ xs) (suc k) d n h = all_at P xs k d n (All-tail P x xs h)
 
--- two lists that are told by one, place by place
+-- two lists that a third one determines, place by place, are the same
 pub zip_same : {A B : Type 0} (R : A → B → Type 0) → ((x : A) (y z : B) → R x y → R x z → y ≡ z) → (xs : List A) (ys zs : List B) → AllZip R xs ys → AllZip R xs zs → ys ≡ zs
 zip_same R f [] [] [] h g = refl
 zip_same R f [] [] (z ∷ zs) h g = absurd g

@@ -1,5 +1,5 @@
 -- A text of version 1 is read into a certificate of the present types, whose numbers are then moved: each part of the old
--- certificate is told by that part of the carrier.
+-- certificate follows from that part of the carrier.
 use Rattle.std.specs.Prelude.{◌≡◌, ◌≤◌, [], ◌∷◌, take, map}
 use Rattle.std.specs.List.{AllZip}
 use Rattle.obs_rows.specs.declared.arcs.Arc.{Arc}

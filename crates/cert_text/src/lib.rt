@@ -6,7 +6,7 @@
 //! begins with the lines before it (`first`). `NoMemory` says nothing of the text. So what `write_cert` wrote is read
 //! again, and no other text gives it. Two certificates with one spelling are the same (`one_spelling_law`). `read_as`
 //! says the same of a text in the form of either version, and of the certificates that this form can say. That some
-//! certificate begins with the lines before a refused one behind the line `pairs` is said by no clause: a number of pairs
+//! certificate begins with the lines before a refused one after the line `pairs` is said by no clause: a number of pairs
 //! or of rows that was announced may be one that the text can't meet any more.
 #![tactic(auto)]
 

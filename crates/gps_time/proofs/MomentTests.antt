@@ -1,4 +1,4 @@
--- The test of a moment tells what a moment is.
+-- The test of a moment holds exactly for moments.
 use Rattle.std.proofs.Common.{◌≡◌, ◌≤◌, ◌≤ℤ◌, ℕ, ℤ, pos, negsuc, Bool, T, true, false, ◌&&◌, nat_le, refl, arith}
 use Rattle.std.specs.Int.Signed.{le_z}
 use Rattle.std.proofs.lemmas.Bool.Decides.{nat_tests}

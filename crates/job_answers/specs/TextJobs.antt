@@ -45,7 +45,7 @@ pub record IsTextRefused (job : TextJob) (name text : List ℕ) (end : Ending) :
 abbrev pub EndsOnText : TextJob → List ℕ → List ℕ → Ending → Type 0
 EndsOnText job name text end = IsAnswered job text end ⊎ IsTextRefused job name text end
 
--- what it ends with by what is told of its file
+-- what it ends with, by what is reported of its file
 abbrev pub TextEnds : TextJob → (List ℕ → Option (List ℕ)) → List ℕ → Ending → Type 0
 TextEnds job told name end = EndsByFile told name (EndsOnText job name) end
 

@@ -12,7 +12,7 @@ use Rattle.job_answers.specs.Answers.{IfEnded}
 use Rattle.job_answers.specs.Texts.{read_fault_line}
 use Rattle.job_answers.specs.Endings.{Ending, IsRefusedFile}
 
--- What is told of files before a job: the bytes under each name, the names that can't fail, the count of faults and what
+-- What is reported of files before a job: the bytes under each name, the names that can't fail, the count of faults and what
 -- was opened; and after it: what was opened and is left of it, and the count.
 pub record FileWork : Type 1 where
   pub told : List ℕ → Option (List ℕ)

@@ -1,4 +1,4 @@
--- What a call leaves of what is told of a file or a writer of the system.
+-- What a call leaves of what is reported of a file or a writer of the system.
 use Rattle.std.proofs.Common.{◌≡◌, ◌≢◌, ℕ, zero, suc, List, ◌++◌, take, refl, ap, ◌∙◌, append-nil}
 use Rattle.std.specs.Prelude.{None, Some}
 use Rattle.std.specs.declared.option.Option.{Option}
@@ -9,7 +9,7 @@ pub stays : (told : Option (List ℕ)) → Keeps told told
 stays None = tt
 stays (Some xs) = refl
 
--- nothing is told of another id
+-- nothing is reported of another id
 pub no_others : (k : ℕ) (old new : Option (List ℕ)) → k ≢ 0 → of_first k new ≡ of_first k old
 no_others zero old new other = absurd (other refl)
 no_others (suc k) old new other = refl

@@ -1,4 +1,4 @@
--- What is told of the one open file, whose id is 0.
+-- What is reported of the one open file, whose id is 0.
 use Rattle.std.specs.Prelude.{ℕ, zero, suc, List, None}
 use Rattle.std.specs.declared.option.Option.{Option}
 

@@ -1,4 +1,4 @@
--- For which texts a taker stands that tells the format by the first line.
+-- For which texts a taker stands that knows the format by the first line.
 use Rattle.std.specs.Prelude.{◌≡◌, ℕ, List, ◌∷◌, ◌++◌, length, Result, IfOk}
 use Rattle.std.proofs.Props.{props}
 use Rattle.line_source.specs.Lines.{lines_of}

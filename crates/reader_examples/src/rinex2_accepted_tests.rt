@@ -284,7 +284,7 @@ const THIRTEEN: [&str; 18] = [
     "        13.0130",
 ];
 
-// The number of a satellite, and the digit of lost lock behind its phase, which is 1001 times the number.
+// The number of a satellite, and the digit of lost lock after its phase, which is 1001 times the number.
 const OF_GPS: [(u8, u8); 8] = [
     (1, 0),
     (3, 3),

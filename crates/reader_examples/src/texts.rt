@@ -5,7 +5,7 @@ use std::alloc::{AllocError, Global};
 /// The most bytes of a text that a reader takes.
 pub const MOST: usize = 67_108_864;
 
-/// These parts, one behind the other.
+/// These parts, one after the other.
 pub fn joined(alloc: Global, parts: &[&str]) -> Result<String, AllocError> {
     let mut text = String::new(alloc);
     for part in parts {

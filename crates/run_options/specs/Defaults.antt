@@ -5,7 +5,7 @@ use Rattle.obs_rows.specs.declared.band_sets.TheConstants.{BANDS_L1_L2, BANDS_L1
 use Rattle.run_options.specs.declared.options.TheConstants.{GALILEO}
 use Rattle.run_options.specs.declared.options.Options.{Options}
 
--- the bands of a run that isn't told which: L1 and L5 of Galileo, L1 and L2 of GPS
+-- the bands of a run whose words name none: L1 and L5 of Galileo, L1 and L2 of GPS
 abbrev pub default_bands : ℕ → ℕ
 default_bands system = if system == GALILEO then BANDS_L1_L5 else BANDS_L1_L2
 

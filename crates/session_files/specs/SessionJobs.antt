@@ -28,7 +28,7 @@ pub record AreAnswered (answers : SessionAnswers) (o : Options) (b r : ObsFile) 
 abbrev pub EndsOnFiles : SessionAnswers → Options → ObsFile → ObsFile → Records → Ending → Type 0
 EndsOnFiles answers o b r n end = AreAnswered answers o b r n end ⊎ IsPairRefused b r o end
 
--- what it ends with by what is told of its files
+-- what it ends with, by what is reported of its files
 abbrev pub SessionEnds : SessionAnswers → (List ℕ → Option (List ℕ)) → List ℕ → List ℕ → List ℕ → Options → Ending → Type 0
 SessionEnds answers told base rover nav o end = EndsBySession (system_of o.system) told base rover nav (EndsOnFiles answers o) end
 

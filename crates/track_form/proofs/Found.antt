@@ -51,7 +51,7 @@ found_by arcs ss pairs budget moves best top fs f is two kept moves_are narrow b
   top_is = top_is;
 }
 
--- a decision told as a tail
+-- a decision written as a tail
 pub told_decision : (arcs : List Arc) (ss : List ℕ) (pairs : List PairRows) (ratio budget h : ℕ) (moves : List (List ℤ)) (best : TwoBest) (top : ℤ) (fixed : Bool) →
     AreFound arcs ss pairs budget h moves best top →
     (IsTrue fixed → IsSeparated (pos ratio) top best.p2) → (IsSeparated (pos ratio) top best.p2 → IsTrue fixed) →
@@ -59,7 +59,7 @@ pub told_decision : (arcs : List Arc) (ss : List ℕ) (pairs : List PairRows) (r
 told_decision arcs ss pairs ratio budget h moves best top true found there back = (found, there refl)
 told_decision arcs ss pairs ratio budget h moves best top false found there back = (found, λ far. false≢true (back far))
 
--- where it is told as fixed, its integers are strictly best
+-- where that says fixed, its integers are strictly best
 pub told_best : (arcs : List Arc) (ss : List ℕ) (pairs : List PairRows) (ratio budget h : ℕ) (moves : List (List ℤ)) (best : TwoBest) (top : ℤ) (fixed : Bool) →
     AreFound arcs ss pairs budget h moves best top →
     1000 ≤ ratio → pos 0 ≤ℤ top → (IsTrue fixed → IsSeparated (pos ratio) top best.p2) → IsTrackBestWhereFixed arcs ss pairs (track_tail_of_vectors fixed h moves best top)

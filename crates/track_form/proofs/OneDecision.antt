@@ -34,7 +34,7 @@ use Rattle.track_form.specs.Decided.{IsFormRefused, track_tail_of, IsTrackWideAt
 use Rattle.track_form.proofs.Lists.{not_mapped, any_mapped, not_all_and_any}
 
 -- ---- refusals
--- a refusal is told by one of two places
+-- a refusal names one of two places
 two_places : (place : Place) (r : Refusal) → fault.Overwidth place ≡ told r → (place ≡ FactorPlace) ⊎ (place ≡ Entry)
 two_places place (weak j a) e = absurd cc
 two_places place wide_factor e = inl cc

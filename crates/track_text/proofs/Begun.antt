@@ -270,7 +270,7 @@ arc_step f left arcs front line a some held is =
           ∙ (λ i. head_of h ++ count_line (codes "arcs") (count i) ∷ own i);
     }
 
--- what stands behind the word is read
+-- what stands after the word is read
 pairs_begins : (n : ℕ) (line : List ℕ) → line ≡ count_line (codes "pairs") n → begins (codes "pairs") line ≡ true
 pairs_begins n line is = ap (λ (l : List ℕ). begins (codes "pairs") l) is
 
