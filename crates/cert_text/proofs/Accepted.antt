@@ -13,6 +13,7 @@ use Rattle.cert_lines.specs.declared.version.Version.{Version}
 use Rattle.cert_lines.specs.declared.version.Version.TheVariants.{One, Two}
 use Rattle.cert_lines.specs.Versions.{form_line, group_limit, groups}
 use Rattle.obs_rows.specs.Signals.{fine_signals}
+use Rattle.obs_rows.specs.declared.limits.TheConstants.{MOST_PAIRS}
 use Rattle.cert_data.specs.declared.certs.Cert.{Cert}
 use Rattle.cert_spelling.specs.Spelling.{system_lines, head_lines, all_pair_lines, counted_pairs, tail_lines, lines_of_cert, spelling_as}
 use Rattle.rinex_head.specs.Places.{and_then}
@@ -111,7 +112,7 @@ cert_accepted version c whole of_version =
     let c2 : AreAccepted cert_rules (PairCount f s.arcs) after_arcs =
     step cert_rules (PairCount f s.arcs) (before_pairs f s.arcs (length s.pairs) 0) (count_line (codes "pairs") (length s.pairs)) pair_lines_rest
     (line_length (codes "pairs") (pos (length s.pairs) ∷ []) (lit≤ tt) (lit≤ tt) (omega (arith, s.pairs_in.few), tt))
-    (ap (λ (r : Result ℕ Flaw). and_then r (λ n. Ok (before_pairs f s.arcs n 0))) (count_spells (codes "pairs") 1 3600 (length s.pairs) s.some_pairs s.pairs_in.few (omega arith))) c1 in
+    (ap (λ (r : Result ℕ Flaw). and_then r (λ n. Ok (before_pairs f s.arcs n 0))) (count_spells (codes "pairs") 1 MOST_PAIRS (length s.pairs) s.some_pairs s.pairs_in.few (omega arith))) c1 in
     let c4 = counted_arcs_accepted cert_rules version s.signals.l2 s.signals.l5 (ArcCount f) (before_arcs f) s.arcs after_arcs (record { admits = λ line. refl; ends = refl }) (arcs_taken f) s.arcs_in
     of_version.sats s.shifts_used whole.session.arcs c2 in
     let signals = signals_line version s.signals.l1 s.signals.l2 s.signals.l5 in

@@ -4,6 +4,7 @@ use Rattle.std.proofs.lemmas.List.{append-nil, take_at}
 use Rattle.std.proofs.lemmas.List.Elements.{All-head, All-tail}
 use Rattle.obs_rows.specs.declared.arcs.Arc.{Arc}
 use Rattle.obs_rows.specs.Arcs.{free_count}
+use Rattle.obs_rows.specs.declared.limits.TheConstants.{MOST_PAIRS}
 use Rattle.rinex_head.specs.declared.place.Flaw.{Flaw}
 use Rattle.rinex_head.specs.declared.place.At.{At}
 use Rattle.rinex_head.specs.declared.place.What.TheVariants.{LongLine}
@@ -378,8 +379,8 @@ next_held (NextArc f left arcs) next front line held other e =
     by_line f.version (front ++ line ∷ []) (arc_in f.version f.ss (free_count arcs) left line) (λ (a : Arc). before_arcs f (left - 1) (arcs ++ a ∷ [])) next e (λ a is.
     arcs_next f (left - 1) (arcs ++ a ∷ []) (front ++ line ∷ []) (arc_step f left arcs front line a held.0 held.1 is))
 next_held (PairCount f arcs) next front line held other e =
-    by_line f.version (front ++ line ∷ []) (count_in (codes "pairs") 1 3600 line) (λ n. before_pairs f arcs n 0) next e (λ n is.
-    let read = count_was (codes "pairs") 1 3600 line n (omega arith) is in
+    by_line f.version (front ++ line ∷ []) (count_in (codes "pairs") 1 MOST_PAIRS line) (λ n. before_pairs f arcs n 0) next e (λ n is.
+    let read = count_was (codes "pairs") 1 MOST_PAIRS line n (omega arith) is in
     absurd (cc (pairs_begins n line read.line_is, other)))
 next_held (NextPair f arcs left least) next front line held other e = absurd held
 next_held (NextRow f arcs pairs number left least) next front line held other e = absurd held

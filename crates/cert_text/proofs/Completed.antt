@@ -16,6 +16,7 @@ use Rattle.obs_rows.specs.Arcs.{IsOfPair, AreArcs, free_count}
 use Rattle.obs_rows.specs.Pairs.{HasItsArcs}
 use Rattle.obs_rows.specs.Unused.{IsZeroOff, HasUsedRows}
 use Rattle.obs_rows.specs.Signals.{fine_signals}
+use Rattle.obs_rows.specs.declared.limits.TheConstants.{MOST_PAIRS}
 use Rattle.cert_lines.specs.declared.version.Version.{Version}
 use Rattle.cert_lines.specs.declared.version.Version.TheVariants.{One, Two}
 use Rattle.cert_lines.specs.Versions.{most_sat, group_limit}
@@ -175,7 +176,7 @@ plain_row = record {
   ru_in = All-replicate IsRadius 3 (pos 0) (omega (arith, ints), omega (arith, ints));
 }
 
-abbrev plain_pair : (number : ℕ) → number < 3600 → PairRows
+abbrev plain_pair : (number : ℕ) → number < MOST_PAIRS → PairRows
 plain_pair number few = record {
   number = number;
   tag = record { 0 = 0 };
@@ -193,7 +194,7 @@ abbrev first_number : List Arc → ℕ
 first_number [] = 0
 first_number (a ∷ arcs) = a.first
 
-pub number_few : (version : Version) (ss : List ℕ) (arcs : List Arc) → All (IsArcOf version ss) arcs → first_number arcs < 3600
+pub number_few : (version : Version) (ss : List ℕ) (arcs : List Arc) → All (IsArcOf version ss) arcs → first_number arcs < MOST_PAIRS
 number_few version ss [] each = omega arith
 number_few version ss (a ∷ arcs) each =
     let is = (All-head (IsArcOf version ss) a arcs each).in_range in

@@ -3,6 +3,7 @@ use Rattle.std.proofs.Common.{◌≡◌, ◌+◌, ◌-◌, ◌≤◌, ℕ, zero,
 use Rattle.obs_rows.specs.declared.arcs.Arc.{Arc}
 use Rattle.obs_rows.specs.Arcs.{free_count}
 use Rattle.obs_rows.specs.Integers.{integer_count}
+use Rattle.obs_rows.specs.declared.limits.TheConstants.{MOST_PAIRS}
 use Rattle.rinex_head.specs.Places.{and_then}
 use Rattle.cert_lines.specs.Forms.{count_in, vector_in, Letters as LettersOf, signals_in, signals_of, arc_in, pair_in, row_in}
 use Rattle.cert_lines.specs.TailForms.{begins, values_in, last_in}
@@ -64,7 +65,7 @@ rows_taken f arcs pairs number = record { takes = λ left least some. row_taken 
 
 -- ---- where the number of pairs is expected
 
-pub pair_count_taken : (f : Frame) (arcs : List Arc) → TakesLine cert_rules (PairCount f arcs) (count_in (codes "pairs") 1 3600) (λ n. before_pairs f arcs n 0)
+pub pair_count_taken : (f : Frame) (arcs : List Arc) → TakesLine cert_rules (PairCount f arcs) (count_in (codes "pairs") 1 MOST_PAIRS) (λ n. before_pairs f arcs n 0)
 pair_count_taken f arcs = record { admits = λ line. refl; ends = refl }
 
 -- ---- where a line of a tail after its first is expected

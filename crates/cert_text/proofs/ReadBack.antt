@@ -15,6 +15,7 @@ use Rattle.obs_rows.specs.Ranges.{IsWithin, IsBelow, IsPoint, IsSystem}
 use Rattle.obs_rows.specs.Arcs.{IsArcInRange}
 use Rattle.obs_rows.specs.Unused.{IsZeroOff, HasUsedShifts}
 use Rattle.obs_rows.specs.Signals.{used_signals, phase_bands}
+use Rattle.obs_rows.specs.declared.limits.TheConstants.{LAST_PAIR}
 use Rattle.rinex_head.specs.declared.place.Flaw.{Flaw}
 use Rattle.rinex_head.specs.declared.place.What.TheVariants.{BadLine}
 use Rattle.rinex_head.specs.Places.{flawed}
@@ -348,16 +349,16 @@ numbers_were : (version : Version) (ss : List ℕ) (datum : Bool) (ns : List Num
 numbers_were version ss datum ns a e =
     let bands = phase_bands ss in
     let one = took_both (natural_within 1 (most_sat version) (number_at ns 0)) _ a e in
-    let two = took_both (natural_within 0 3599 (number_at ns 1)) _ a one.2 in
-    let three = took_both (natural_within two.0 3599 (number_at ns 2)) _ a two.2 in
+    let two = took_both (natural_within 0 LAST_PAIR (number_at ns 1)) _ a one.2 in
+    let three = took_both (natural_within two.0 LAST_PAIR (number_at ns 2)) _ a two.2 in
     let own = take (length bands) (drop 3 ns) in
     let four = took_both (put_within PHASES SHIFTS bands own) _ a three.2 in
     let sat = natural_passed 1 (most_sat version) one.0 (number_at ns 0) one.1 in
-    let last = natural_passed two.0 3599 three.0 (number_at ns 2) three.1 in
+    let last = natural_passed two.0 LAST_PAIR three.0 (number_at ns 2) three.1 in
     let sat_from : 1 ≤ one.0 = sat.from in
     let sat_to : one.0 ≤ most_sat version = sat.to in
     let order : two.0 ≤ three.0 = last.from in
-    let last_to : three.0 ≤ 3599 = last.to in
+    let last_to : three.0 ≤ LAST_PAIR = last.to in
     let put = took_both (all_within SHIFTS own) (λ (vs : List ℤ). Ok (spread PHASES bands vs)) four.0 four.1 in
     let spread_is : spread PHASES bands put.0 ≡ four.0 = cc (put.2) in
     let below : All (IsBelow (2 ^ 40)) put.0 = all_in (IsBelow (2 ^ 40)) SHIFTS (λ z. is_below (2 ^ 40) 1_099_511_627_775 z (omega arith)) put.0 (passed_in SHIFTS own put.0 put.1) in

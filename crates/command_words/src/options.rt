@@ -5,6 +5,7 @@ ghost use Rattle.command_words.specs.Settings.{AreOptions, ArePairOptions};
 
 use crate::choices::signal_choice_of;
 use crate::settings::{Given, Limits, Setting, is_left_out, number_for};
+use obs_rows::MOST_PAIRS;
 use run_options::{
     DEFAULT_ARC, DEFAULT_BUDGET, DEFAULT_COUNT, DEFAULT_FIRST, DEFAULT_GAP, DEFAULT_JUMP,
     DEFAULT_MASK, DEFAULT_RATIO, DEFAULT_STEP, Options,
@@ -42,7 +43,7 @@ const JUMP: Limits = Limits {
 
 const ARC: Limits = Limits {
     least: 2,
-    most: 3_600,
+    most: MOST_PAIRS as u64,
     plain: DEFAULT_ARC as u64,
 };
 
@@ -60,7 +61,7 @@ const FIRST: Limits = Limits {
 
 const COUNT: Limits = Limits {
     least: 1,
-    most: 3_600,
+    most: MOST_PAIRS as u64,
     plain: DEFAULT_COUNT as u64,
 };
 

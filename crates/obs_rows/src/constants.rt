@@ -1,9 +1,10 @@
 //! What the constants are. Definitions cite them by their names, so a slip in one would change a body and its meaning
 //! together, and no other contract would see it.
-ghost use Rattle.std.specs.Prelude.{◌≡◌, [], ◌∷◌, pos, ◌*◌, ◌*ℤ◌, codes};
+ghost use Rattle.std.specs.Prelude.{◌≡◌, [], ◌∷◌, pos, ◌*◌, ◌*ℤ◌, ◌+◌, codes};
 ghost use Rattle.form_tables.specs.declared.sizes.TheConstants.{MOST_INTEGERS};
 ghost use Rattle.obs_rows.specs.Signals.{wavelength};
 ghost use Rattle.obs_rows.specs.declared.bands.TheConstants.{L1_LETTERS, L2_LETTERS, L5_LETTERS};
+ghost use Rattle.obs_rows.specs.declared.limits.TheConstants.{MOST_PAIRS, LAST_PAIR};
 ghost use Rattle.obs_rows.specs.declared.units.TheConstants.{SIGNALS, PHASES, BANDS, WAVELENGTHS, WEIGHTS};
 ghost use Rattle.obs_rows.specs.declared.units.TheConstants.{SIGNALS_12, SIGNALS_15, SIGNALS_125, BANDS_12, BANDS_15, BANDS_125, COARSE_SIGNALS, COARSE_SCALE};
 ghost use Rattle.obs_rows.specs.declared.units.TheConstants.{UNIT_FREQUENCY, LIGHT_SPEED, ROW_EXPONENT, DIRECTION_EXPONENT, MOVE_EXPONENT, MOST_FREE_ARCS};
@@ -50,4 +51,11 @@ pub fn sizes_law()
     ensures free_arcs { MOST_FREE_ARCS ≡ 20 }
     // one for each free arc and phase
     ensures integers { MOST_INTEGERS ≡ PHASES * MOST_FREE_ARCS }
+{}
+
+/// The greatest numbers that a session, a run and a certificate may have.
+pub fn limits_law()
+    ensures pairs { MOST_PAIRS ≡ 3600 }
+    // the first has the number 0
+    ensures last_pair { MOST_PAIRS ≡ LAST_PAIR + 1 }
 {}

@@ -14,6 +14,7 @@ use Rattle.epoch_pair.specs.declared.pairs.PairOf.{PairOf}
 use Rattle.epoch_pair.specs.Pairs.{IsNearPair, Follows}
 use Rattle.obs_rows.specs.declared.used.UsedSat.{UsedSat}
 use Rattle.obs_rows.specs.declared.used.UsedPair.{UsedPair}
+use Rattle.obs_rows.specs.declared.limits.TheConstants.{MOST_PAIRS}
 use Rattle.screening.specs.declared.sv_pair.SvPair.{SvPair}
 use Rattle.screening.specs.Amounts.{types_of, differences, phase_differences}
 use Rattle.screening.specs.Marks.{Passed, passed, power_failed, lost_lock}
@@ -40,7 +41,7 @@ setting_of base nav signals mask world = record {
 
 -- the pairs that may be screened: at most 3,600 of epochs that rise in both files, with tags at most half a second apart
 pub record ArePairsOf (base rover : List Epoch) (pairs : List PairOf) : Type 0 where
-  pub few : length pairs ≤ 3600
+  pub few : length pairs ≤ MOST_PAIRS
   pub near : All (IsNearPair 5_000_000 (tags_of base) (tags_of rover)) pairs
   pub rises : AllPairs Follows pairs
 

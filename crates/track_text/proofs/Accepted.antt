@@ -10,6 +10,7 @@ use Rattle.obs_rows.specs.declared.pair_rows.PairRows.{PairRows}
 use Rattle.obs_rows.specs.Pairs.{HasItsArcs}
 use Rattle.obs_rows.specs.Ranges.{IsPoint}
 use Rattle.obs_rows.specs.Signals.{fine_signals}
+use Rattle.obs_rows.specs.declared.limits.TheConstants.{MOST_PAIRS}
 use Rattle.int_search.specs.declared.answer.TwoBest.{TwoBest}
 use Rattle.rinex_head.specs.declared.place.Flaw.{Flaw}
 use Rattle.rinex_head.specs.declared.place.TextFault.{TextFault}
@@ -185,9 +186,9 @@ track_accepted c whole =
     let c1 = pairs_accepted f t.arcs 0 t.pairs t.points [] ends few_signals t.arcs_in.few t.point_each t.pairs_in.rows_have_arcs whole.track.pairs t.points_in whole.track.points
     (rises (λ (p : PairRows). p.number) 0 t.pairs t.pairs_in.rising (λ d some. omega arith)) tail in
     let few_pairs : n < 2 ^ 126 = omega (arith, t.pairs_in.few) in
-    let c2 = line_accepted track_rules (PairCount f t.arcs) (count_in (codes "pairs") 1 3600) (λ (k : ℕ). before_pairs f t.arcs k 0 []) n (count_line (codes "pairs") n)
+    let c2 = line_accepted track_rules (PairCount f t.arcs) (count_in (codes "pairs") 1 MOST_PAIRS) (λ (k : ℕ). before_pairs f t.arcs k 0 []) n (count_line (codes "pairs") n)
     (all_placed_pairs ss t.pairs t.points ++ ends) (pair_count_taken f t.arcs) (line_length (codes "pairs") (pos n ∷ []) (lit≤ tt) (lit≤ tt) (few_pairs, tt))
-    (count_spells (codes "pairs") 1 3600 n c.some_pairs t.pairs_in.few (omega arith)) c1 in
+    (count_spells (codes "pairs") 1 MOST_PAIRS n c.some_pairs t.pairs_in.few (omega arith)) c1 in
     let c3 = counted_arcs_accepted track_rules Two t.signals.l2 t.signals.l5 (ArcCount f) (before_arcs f) t.arcs after_arcs (arc_count_taken f) (arcs_taken f) t.arcs_in
     (λ k d inside. (t.arcs_in.ranges k d inside).sat_to) t.shifts_used whole.track.arcs c2 in
     let signals = signals_line Two t.signals.l1 t.signals.l2 t.signals.l5 in

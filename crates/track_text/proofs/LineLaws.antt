@@ -3,6 +3,7 @@ use Rattle.std.proofs.Common.{◌≡◌, ◌+◌, ◌-◌, ◌≤◌, ℕ, zero,
 use Rattle.obs_rows.specs.declared.arcs.Arc.{Arc}
 use Rattle.obs_rows.specs.Arcs.{free_count}
 use Rattle.obs_rows.specs.Integers.{integer_count}
+use Rattle.obs_rows.specs.declared.limits.TheConstants.{MOST_PAIRS}
 use Rattle.rinex_head.specs.Places.{and_then}
 use Rattle.cert_lines.specs.Forms.{count_in, vector_in, system_in, Letters as LettersOf, signals_in, signals_of, arc_in, pair_in, row_in}
 use Rattle.cert_lines.specs.TailForms.{begins, values_in, last_in}
@@ -52,7 +53,7 @@ arc_taken f (suc left) arcs some = record { admits = λ line. refl; ends = refl 
 pub arcs_taken : (f : Frame) → ArcsAreTaken track_rules Two f.ss (before_arcs f)
 arcs_taken f = record { takes = λ left arcs some. arc_taken f left arcs some }
 
-pub pair_count_taken : (f : Frame) (arcs : List Arc) → TakesLine track_rules (PairCount f arcs) (count_in (codes "pairs") 1 3600) (λ n. before_pairs f arcs n 0 [])
+pub pair_count_taken : (f : Frame) (arcs : List Arc) → TakesLine track_rules (PairCount f arcs) (count_in (codes "pairs") 1 MOST_PAIRS) (λ n. before_pairs f arcs n 0 [])
 pair_count_taken f arcs = record { admits = λ line. refl; ends = refl }
 
 pub pair_taken : (f : Frame) (arcs : List Arc) (left least : ℕ) (numbers : List ℕ) → 1 ≤ left

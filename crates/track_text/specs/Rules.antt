@@ -4,6 +4,7 @@ use Rattle.obs_rows.specs.declared.arcs.Arc.{Arc}
 use Rattle.obs_rows.specs.declared.pair_rows.PairRows.{PairRows}
 use Rattle.obs_rows.specs.Arcs.{free_count}
 use Rattle.obs_rows.specs.Integers.{integer_count}
+use Rattle.obs_rows.specs.declared.limits.TheConstants.{MOST_PAIRS}
 use Rattle.rinex_head.specs.declared.place.At.{At}
 use Rattle.rinex_head.specs.declared.place.Flaw.{Flaw}
 use Rattle.rinex_head.specs.declared.place.What.TheVariants.{BadLine}
@@ -88,7 +89,7 @@ admit (Base budget) line = and_then (vector_in (codes "base") 3 COORDINATES line
 admit (Letters budget) line = and_then (signals_in Two line) (λ s. Ok (ArcCount (frame budget (signals_of s))))
 admit (ArcCount f) line = and_then (count_in (codes "arcs") 2 200 line) (λ n. Ok (before_arcs f n []))
 admit (NextArc f left arcs) line = and_then (arc_in Two f.ss (free_count arcs) left line) (λ a. Ok (before_arcs f (left - 1) (arcs ++ a ∷ [])))
-admit (PairCount f arcs) line = and_then (count_in (codes "pairs") 1 3600 line) (λ n. Ok (before_pairs f arcs n 0 []))
+admit (PairCount f arcs) line = and_then (count_in (codes "pairs") 1 MOST_PAIRS line) (λ n. Ok (before_pairs f arcs n 0 []))
 admit (NextPair f arcs left least numbers) line = and_then (pair_in Two least line) (λ p. Ok (PairPoint f arcs (left - 1) p.number p.count numbers))
 admit (PairPoint f arcs pairs number count numbers) line =
     and_then (vector_in (codes "at") 3 COORDINATES line) (λ p. Ok (before_rows f arcs pairs number count 0 numbers))
