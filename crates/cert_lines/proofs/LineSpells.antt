@@ -31,7 +31,7 @@ use Rattle.cert_lines.specs.Versions.{most_sat, group_limit, groups}
 use Rattle.cert_lines.proofs.Spreading.{bands_good}
 use Rattle.obs_rows.specs.declared.units.TheConstants.{SIGNALS, PHASES}
 use Rattle.obs_rows.specs.Unused.{HasUsedShifts}
-use Rattle.obs_rows.specs.declared.limits.TheConstants.{MOST_PAIRS, LAST_PAIR}
+use Rattle.obs_rows.specs.declared.limits.TheConstants.{MOST_PAIRS, LAST_PAIR, MOST_COORDINATE}
 use Rattle.rinex_head.specs.declared.place.Flaw.{Flaw}
 use Rattle.cert_lines.specs.Lengths.{IsWholeArc, IsWholeRow}
 use Rattle.cert_lines.proofs.Sizes.{below_small, row_small, shifts_small, select_in, point_small}
@@ -327,7 +327,7 @@ arc_spells version l2 l5 free left a is sat_to used whole stands =
 -- ---- points, vectors and moves
 
 pub point_spells : (word : List ℕ) (p : List ℤ) → length p ≡ 3 → IsPoint p → vector_in word 3 COORDINATES (vector_line word p) ≡ Ok p
-point_spells word p three is = vector_spells word 3 COORDINATES p three (point_small p is) (are_in (IsWithin 70_000_000_000) COORDINATES p (λ z h. within_is 70_000_000_000 z h) is)
+point_spells word p three is = vector_spells word 3 COORDINATES p three (point_small p is) (are_in (IsWithin MOST_COORDINATE) COORDINATES p (λ z h. within_is MOST_COORDINATE z h) is)
 
 pub point_length : (word : List ℕ) (p : List ℤ) → length word ≤ 100 → length p ≡ 3 → IsPoint p → length (vector_line word p) ≤ 4096
 point_length word p short three is = line_length word p short (omega (arith, three)) (point_small p is)

@@ -15,7 +15,7 @@ use Rattle.obs_rows.specs.Ranges.{IsWithin, IsBelow, IsPoint, IsSystem}
 use Rattle.obs_rows.specs.Arcs.{IsArcInRange}
 use Rattle.obs_rows.specs.Unused.{IsZeroOff, HasUsedShifts}
 use Rattle.obs_rows.specs.Signals.{used_signals, phase_bands}
-use Rattle.obs_rows.specs.declared.limits.TheConstants.{LAST_PAIR}
+use Rattle.obs_rows.specs.declared.limits.TheConstants.{LAST_PAIR, MOST_COORDINATE}
 use Rattle.rinex_head.specs.declared.place.Flaw.{Flaw}
 use Rattle.rinex_head.specs.declared.place.What.TheVariants.{BadLine}
 use Rattle.rinex_head.specs.Places.{flawed}
@@ -113,10 +113,10 @@ point_was word line p e =
     let ns : List Number = both.0 in
     let are : p ≡ values ns = all_passed COORDINATES ns p both.2 in
     let inside : AreIn COORDINATES p = passed_in COORDINATES ns p both.2 in
-    let small : AreSmall p = in_small 70_000_000_000 COORDINATES p (lit< tt) (record { low = omega (arith, ints); high = omega (arith, ints) }) inside in
+    let small : AreSmall p = in_small MOST_COORDINATE COORDINATES p (lit< tt) (record { low = omega (arith, ints); high = omega (arith, ints) }) inside in
     record {
       line_is = line_read word 3 line ns both.1 (subst AreSmall are small) ∙ ap (λ (zs : List ℤ). word ++ behind_blanks zs) (sym are);
-      point = all_in (IsWithin 70_000_000_000) COORDINATES (is_within 70_000_000_000) p inside;
+      point = all_in (IsWithin MOST_COORDINATE) COORDINATES (is_within MOST_COORDINATE) p inside;
       three = ap length are ∙ values_count ns ∙ numbers_count word 3 line ns both.1;
     }
 

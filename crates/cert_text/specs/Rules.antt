@@ -3,7 +3,7 @@ use Rattle.std.specs.Prelude.{ℕ, zero, suc, ◌+◌, ◌-◌, if◌then◌else
 use Rattle.obs_rows.specs.declared.arcs.Arc.{Arc}
 use Rattle.obs_rows.specs.Arcs.{free_count}
 use Rattle.obs_rows.specs.Integers.{integer_count}
-use Rattle.obs_rows.specs.declared.limits.TheConstants.{MOST_PAIRS}
+use Rattle.obs_rows.specs.declared.limits.TheConstants.{MOST_PAIRS, MOST_RATIO, MOST_BUDGET}
 use Rattle.rinex_head.specs.declared.place.At.{At}
 use Rattle.rinex_head.specs.declared.place.Flaw.{Flaw}
 use Rattle.rinex_head.specs.declared.place.What.TheVariants.{BadLine}
@@ -79,8 +79,8 @@ admit_tail f integers line =
 
 abbrev pub admit : Expected → List ℕ → Result Expected Flaw
 admit (Form v) line = and_then (word_in (form_line v) line) (λ u. Ok (Ratio v))
-admit (Ratio v) line = and_then (count_in (codes "ratio") 1000 100_000 line) (λ n. Ok (Budget v))
-admit (Budget v) line = and_then (count_in (codes "budget") 1 100_000_000 line) (λ n. Ok (behind_budget v n))
+admit (Ratio v) line = and_then (count_in (codes "ratio") 1000 MOST_RATIO line) (λ n. Ok (Budget v))
+admit (Budget v) line = and_then (count_in (codes "budget") 1 MOST_BUDGET line) (λ n. Ok (behind_budget v n))
 admit (SystemLine budget) line = and_then (system_in line) (λ s. Ok (Base Two budget))
 admit (Base v budget) line = and_then (vector_in (codes "base") 3 COORDINATES line) (λ p. Ok (Point v budget))
 admit (Point v budget) line = and_then (vector_in (codes "point") 3 COORDINATES line) (λ p. Ok (Letters v budget))

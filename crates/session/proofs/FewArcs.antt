@@ -8,7 +8,7 @@ use Rattle.std.proofs.lemmas.Option.{slice_get-get_or}
 use Rattle.obs_rows.specs.declared.arcs.Arc.{Arc}
 use Rattle.obs_rows.specs.declared.used.UsedPair.{UsedPair}
 use Rattle.obs_rows.specs.UsedSats.{IsInRange}
-use Rattle.obs_rows.specs.declared.limits.TheConstants.{MOST_PAIRS}
+use Rattle.obs_rows.specs.declared.limits.TheConstants.{MOST_PAIRS, MOST_KEPT_ARCS}
 use Rattle.slip_arcs.specs.Linked.{IsCutOf}
 use Rattle.slip_arcs.proofs.Kept.{kept_each}
 use Rattle.screening.specs.Entries.{AreNumbered}
@@ -83,7 +83,7 @@ few_begin used kept (suc n) c r o h =
     let more : count_by (begins_before (suc n)) kept ≤ count_by (begins_before n) kept + length (arcs_at kept n) = more_begin kept n 0 o in
     omega arith
 
-pub kept_few : (used : List UsedPair) (kept : List Arc) → IsCutOf used kept → All IsInRange used → All AreNumbered used → length used ≤ MOST_PAIRS → length kept ≤ 54000
+pub kept_few : (used : List UsedPair) (kept : List Arc) → IsCutOf used kept → All IsInRange used → All AreNumbered used → length used ≤ MOST_PAIRS → length kept ≤ MOST_KEPT_ARCS
 kept_few used kept c r numbered few =
     let ordered : All IsOrdered kept = λ k d i. (kept_each c.bands c.jump c.least used kept c.short k (get_or kept k d) c.kept (slice_get-get_or kept k d i)).0.run.order in
     let inside : All (λ a. a.first < length used) kept = λ k d i. first_inside used kept k (get_or kept k d) c numbered (slice_get-get_or kept k d i) in
