@@ -31,7 +31,7 @@ use Rattle.cert_lines.specs.Versions.{most_sat, group_limit, groups}
 use Rattle.cert_lines.proofs.Spreading.{bands_good}
 use Rattle.obs_rows.specs.declared.units.TheConstants.{SIGNALS, PHASES}
 use Rattle.obs_rows.specs.Unused.{HasUsedShifts}
-use Rattle.obs_rows.specs.declared.limits.TheConstants.{MOST_PAIRS, LAST_PAIR, MOST_COORDINATE}
+use Rattle.obs_rows.specs.declared.limits.TheConstants.{MOST_PAIRS, LAST_PAIR, MOST_COORDINATE, MOST_SATELLITES}
 use Rattle.rinex_head.specs.declared.place.Flaw.{Flaw}
 use Rattle.cert_lines.specs.Lengths.{IsWholeArc, IsWholeRow}
 use Rattle.cert_lines.proofs.Sizes.{below_small, row_small, shifts_small, select_in, point_small}
@@ -109,11 +109,11 @@ range_at range n z is inside = within_holds range.low range.high n (rw is inside
 -- ---- a pair's line
 
 pair_numbers : (version : Version) (least number tag count : ℕ) (group : ℤ) (ns : List Number) → HaveValues ns (pos number ∷ pos tag ∷ group ∷ pos count ∷ []) → least ≤ number
-    → number ≤ LAST_PAIR → tag ≤ 9_223_372_036_854_775_807 → IsIn (groups version) group → 1 ≤ count → count ≤ 15
+    → number ≤ LAST_PAIR → tag ≤ 9_223_372_036_854_775_807 → IsIn (groups version) group → 1 ≤ count → count ≤ MOST_SATELLITES
     → and_then (natural_within least LAST_PAIR (number_at ns 0)) (λ number.
     and_then (natural_within 0 9_223_372_036_854_775_807 (number_at ns 1)) (λ tag.
     and_then (within_range (groups version) (number_at ns 2)) (λ group.
-    and_then (natural_within 1 15 (number_at ns 3)) (λ count. Ok (pair_head number tag group count))))) ≡ Ok (pair_head number tag group count)
+    and_then (natural_within 1 MOST_SATELLITES (number_at ns 3)) (λ count. Ok (pair_head number tag group count))))) ≡ Ok (pair_head number tag group count)
 pair_numbers version least number tag count group [] have from to tag_to inside count_from count_to = absurd have
 pair_numbers version least number tag count group (a ∷ []) have from to tag_to inside count_from count_to = absurd have.1
 pair_numbers version least number tag count group (a ∷ b ∷ []) have from to tag_to inside count_from count_to = absurd have.1.1
@@ -124,7 +124,7 @@ pair_numbers version least number tag count group (a ∷ b ∷ c ∷ d ∷ []) h
       natural_at 0 9_223_372_036_854_775_807 tag b have.1.0 (omega arith) tag_to,
       range_at
           (groups version) c group have.1.1.0 inside,
-      natural_at 1 15 count d have.1.1.1.0 count_from count_to,
+      natural_at 1 MOST_SATELLITES count d have.1.1.1.0 count_from count_to,
     ) refl
 pair_numbers version least number tag count group (a ∷ b ∷ c ∷ d ∷ e ∷ ns) have from to tag_to inside count_from count_to = absurd have.1.1.1.1
 
@@ -137,7 +137,7 @@ group_small One z h = below_small (2 ^ 50) z (omega arith) h
 group_small Two z h = below_small (2 ^ 55) z (omega arith) h
 
 pub pair_spells : (version : Version) (least number tag count : ℕ) (group : ℤ) → least ≤ number → number < MOST_PAIRS → tag < 2 ^ 63 → unsigned_abs group < group_limit version → 1 ≤ count
-    → count ≤ 15 → pair_in version least (pair_line number tag group count) ≡ Ok (pair_head number tag group count)
+    → count ≤ MOST_SATELLITES → pair_in version least (pair_line number tag group count) ≡ Ok (pair_head number tag group count)
 pair_spells version least number tag count group from to tag_to group_in count_from count_to =
     let zs : List ℤ = pos number ∷ pos tag ∷ group ∷ pos count ∷ [] in
     let small : AreSmall zs = (omega (arith, to), (omega (arith, tag_to), (group_small version group group_in, (omega (arith, count_to), tt)))) in

@@ -5,6 +5,7 @@ ghost use Rattle.obs_rows.specs.Pairs.{HasItsArcs, ArePairs};
 ghost use Rattle.obs_rows.specs.Ranges.{IsPoint};
 ghost use Rattle.obs_rows.specs.Signals.{fine_signals};
 ghost use Rattle.obs_rows.specs.Unused.{HasUsedRows};
+ghost use Rattle.obs_rows.specs.declared.limits.TheConstants.{MOST_SATELLITES};
 ghost use Rattle.rinex_head.specs.Walk.{Reads, ReadsFree};
 ghost use Rattle.cert_lines.specs.Lengths.{IsWholePair};
 ghost use Rattle.cert_lines.specs.Lines.{pair_line, vector_line};
@@ -50,7 +51,7 @@ fn next_placed_head(lines: &mut TextLines<'_>, least: u32, left: u32) -> Result<
     ensures number { IfOk result (λ p. (least ≤ p.head.number) × (p.head.number < MOST_PAIRS)) }
     ensures tag { IfOk result (λ p. p.head.tag.0 < 2 ^ 63) }
     ensures group { IfOk result (λ p. unsigned_abs p.head.group < 2 ^ 55) }
-    ensures count { IfOk result (λ p. (1 ≤ p.head.count) × (p.head.count ≤ 15)) }
+    ensures count { IfOk result (λ p. (1 ≤ p.head.count) × (p.head.count ≤ MOST_SATELLITES)) }
     ensures point { IfOk result (λ p. IsPoint p.point) }
     ensures whole { IfOk result (λ p. length p.point ≡ 3) }
 {
