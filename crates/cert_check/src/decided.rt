@@ -1,6 +1,7 @@
 //! What a session's rows are decided to say.
 ghost use Rattle.std.specs.Prelude.{◌≡◌, ◌^◌, ◌≤◌, List, ℤ, length, pos, neg_ℤ, ◌≤ℤ◌, IfOk, IfErr};
 ghost use Rattle.obs_rows.specs.Signals.{fine_signals};
+ghost use Rattle.obs_rows.specs.declared.limits.TheConstants.{MOST_RATIO};
 ghost use Rattle.integer_form.specs.Forms.{integers_of, value_of};
 ghost use Rattle.cert_data.specs.Tails.{IsTailOf};
 ghost use Rattle.fix_decide.specs.Decisions.{IsFormOf};
@@ -43,7 +44,7 @@ pub fn decide_settled(session: &Session, form: &Form, ratio: u32, budget: u64) -
     requires fine { session.now.scale ≡ 0 }
     requires form { IsFormOf session.now form.now }
     requires ratio_from { 1000 ≤ ratio }
-    requires ratio_to { ratio ≤ 100_000 }
+    requires ratio_to { ratio ≤ MOST_RATIO }
     ensures decision { IsDecision session.now form.now ratio budget result }
     ensures strictly_best { IsBestWhereFixed session.now result }
     ensures fits { IsTailOf (fine_signals session.now.signals) session.now.arcs budget result }
@@ -78,7 +79,7 @@ pub fn decide_settled(session: &Session, form: &Form, ratio: u32, budget: u64) -
 pub fn decide_rows(session: &Session, ratio: u32, budget: u64) -> Tail
     requires fine { session.now.scale ≡ 0 }
     requires ratio_from { 1000 ≤ ratio }
-    requires ratio_to { ratio ≤ 100_000 }
+    requires ratio_to { ratio ≤ MOST_RATIO }
     ensures decision { IsRowDecision session.now ratio budget result }
     ensures strictly_best { IsBestWhereFixed session.now result }
     ensures fits { IsTailOf (fine_signals session.now.signals) session.now.arcs budget result }

@@ -11,6 +11,7 @@ use Rattle.cert_words.proofs.NumberLaws.{AreSmall, values, took_more, took_text,
 use Rattle.cert_words.proofs.RangeLaws.{took_both, natural_passed, AreIn, in_small}
 use Rattle.obs_rows.specs.declared.units.TheConstants.{PHASES}
 use Rattle.obs_rows.specs.Signals.{used_signals, phase_bands}
+use Rattle.obs_rows.specs.declared.limits.TheConstants.{LAST_PAIR}
 use Rattle.cert_lines.specs.declared.version.Version.{Version}
 use Rattle.cert_lines.specs.declared.version.Version.TheVariants.{One, Two}
 use Rattle.cert_lines.specs.Versions.{most_sat}
@@ -104,13 +105,13 @@ took_numbers : (version : Version) (bands : List ℕ) (datum : Bool) (ns : List 
     → arc_numbers version bands datum ns ≡ Ok a → TookNumbers bands datum ns a
 took_numbers version bands datum ns a good five e =
     let one = took_both (natural_within 1 (most_sat version) (number_at ns 0)) _ a e in
-    let two = took_both (natural_within 0 3599 (number_at ns 1)) _ a one.2 in
-    let three = took_both (natural_within two.0 3599 (number_at ns 2)) _ a two.2 in
+    let two = took_both (natural_within 0 LAST_PAIR (number_at ns 1)) _ a one.2 in
+    let three = took_both (natural_within two.0 LAST_PAIR (number_at ns 2)) _ a two.2 in
     let own = take (length bands) (drop 3 ns) in
     let four = took_both (put_within PHASES SHIFTS bands own) _ a three.2 in
     let sat = natural_passed 1 (most_sat version) one.0 (number_at ns 0) one.1 in
-    let first = natural_passed 0 3599 two.0 (number_at ns 1) two.1 in
-    let last = natural_passed two.0 3599 three.0 (number_at ns 2) three.1 in
+    let first = natural_passed 0 LAST_PAIR two.0 (number_at ns 1) two.1 in
+    let last = natural_passed two.0 LAST_PAIR three.0 (number_at ns 2) three.1 in
     let many : length own ≡ length bands = length-take-le (length bands) (drop 3 ns) (omega (arith, length-drop 3 ns, five)) in
     let placed = were_placed PHASES SHIFTS bands own four.0 good many four.1 in
     let arc : arc_of datum one.0 two.0 three.0 four.0 ≡ a = cc (four.2) in

@@ -31,6 +31,7 @@ use Rattle.cert_lines.specs.Versions.{most_sat, group_limit, groups}
 use Rattle.cert_lines.proofs.Spreading.{bands_good}
 use Rattle.obs_rows.specs.declared.units.TheConstants.{SIGNALS, PHASES}
 use Rattle.obs_rows.specs.Unused.{HasUsedShifts}
+use Rattle.obs_rows.specs.declared.limits.TheConstants.{MOST_PAIRS, LAST_PAIR, MOST_COORDINATE, MOST_SATELLITES}
 use Rattle.rinex_head.specs.declared.place.Flaw.{Flaw}
 use Rattle.cert_lines.specs.Lengths.{IsWholeArc, IsWholeRow}
 use Rattle.cert_lines.proofs.Sizes.{below_small, row_small, shifts_small, select_in, point_small}
@@ -108,22 +109,22 @@ range_at range n z is inside = within_holds range.low range.high n (rw is inside
 -- ---- a pair's line
 
 pair_numbers : (version : Version) (least number tag count : ℕ) (group : ℤ) (ns : List Number) → HaveValues ns (pos number ∷ pos tag ∷ group ∷ pos count ∷ []) → least ≤ number
-    → number ≤ 3599 → tag ≤ 9_223_372_036_854_775_807 → IsIn (groups version) group → 1 ≤ count → count ≤ 15
-    → and_then (natural_within least 3599 (number_at ns 0)) (λ number.
+    → number ≤ LAST_PAIR → tag ≤ 9_223_372_036_854_775_807 → IsIn (groups version) group → 1 ≤ count → count ≤ MOST_SATELLITES
+    → and_then (natural_within least LAST_PAIR (number_at ns 0)) (λ number.
     and_then (natural_within 0 9_223_372_036_854_775_807 (number_at ns 1)) (λ tag.
     and_then (within_range (groups version) (number_at ns 2)) (λ group.
-    and_then (natural_within 1 15 (number_at ns 3)) (λ count. Ok (pair_head number tag group count))))) ≡ Ok (pair_head number tag group count)
+    and_then (natural_within 1 MOST_SATELLITES (number_at ns 3)) (λ count. Ok (pair_head number tag group count))))) ≡ Ok (pair_head number tag group count)
 pair_numbers version least number tag count group [] have from to tag_to inside count_from count_to = absurd have
 pair_numbers version least number tag count group (a ∷ []) have from to tag_to inside count_from count_to = absurd have.1
 pair_numbers version least number tag count group (a ∷ b ∷ []) have from to tag_to inside count_from count_to = absurd have.1.1
 pair_numbers version least number tag count group (a ∷ b ∷ c ∷ []) have from to tag_to inside count_from count_to = absurd have.1.1.1
 pair_numbers version least number tag count group (a ∷ b ∷ c ∷ d ∷ []) have from to tag_to inside count_from count_to =
     rw (
-      natural_at least 3599 number a have.0 from to,
+      natural_at least LAST_PAIR number a have.0 from to,
       natural_at 0 9_223_372_036_854_775_807 tag b have.1.0 (omega arith) tag_to,
       range_at
           (groups version) c group have.1.1.0 inside,
-      natural_at 1 15 count d have.1.1.1.0 count_from count_to,
+      natural_at 1 MOST_SATELLITES count d have.1.1.1.0 count_from count_to,
     ) refl
 pair_numbers version least number tag count group (a ∷ b ∷ c ∷ d ∷ e ∷ ns) have from to tag_to inside count_from count_to = absurd have.1.1.1.1
 
@@ -135,8 +136,8 @@ group_small : (version : Version) (z : ℤ) → unsigned_abs z < group_limit ver
 group_small One z h = below_small (2 ^ 50) z (omega arith) h
 group_small Two z h = below_small (2 ^ 55) z (omega arith) h
 
-pub pair_spells : (version : Version) (least number tag count : ℕ) (group : ℤ) → least ≤ number → number < 3600 → tag < 2 ^ 63 → unsigned_abs group < group_limit version → 1 ≤ count
-    → count ≤ 15 → pair_in version least (pair_line number tag group count) ≡ Ok (pair_head number tag group count)
+pub pair_spells : (version : Version) (least number tag count : ℕ) (group : ℤ) → least ≤ number → number < MOST_PAIRS → tag < 2 ^ 63 → unsigned_abs group < group_limit version → 1 ≤ count
+    → count ≤ MOST_SATELLITES → pair_in version least (pair_line number tag group count) ≡ Ok (pair_head number tag group count)
 pair_spells version least number tag count group from to tag_to group_in count_from count_to =
     let zs : List ℤ = pos number ∷ pos tag ∷ group ∷ pos count ∷ [] in
     let small : AreSmall zs = (omega (arith, to), (omega (arith, tag_to), (group_small version group group_in, (omega (arith, count_to), tt)))) in
@@ -290,7 +291,7 @@ sat_from version sat n is from to = natural_at 1 (most_sat version) sat n is fro
 
 arc_read : (version : Version) (bands : List ℕ) (datum : Bool) (sat first last : ℕ) (shift : List ℤ) (ns : List Number) → HaveValues ns (pos sat ∷ pos first ∷ pos last ∷ select bands shift)
     → spread PHASES bands (select bands shift) ≡ shift → 1 ≤ sat → sat ≤ most_sat version
-    → first ≤ last → last < 3600 → AreIn SHIFTS (select bands shift) → arc_numbers version bands datum ns ≡ Ok (arc_of datum sat first last shift)
+    → first ≤ last → last < MOST_PAIRS → AreIn SHIFTS (select bands shift) → arc_numbers version bands datum ns ≡ Ok (arc_of datum sat first last shift)
 arc_read version bands datum sat first last shift [] have whole from to order below inside = absurd have
 arc_read version bands datum sat first last shift (a ∷ []) have whole from to order below inside = absurd have.1
 arc_read version bands datum sat first last shift (a ∷ b ∷ []) have whole from to order below inside = absurd have.1.1
@@ -302,8 +303,8 @@ arc_read version bands datum sat first last shift (a ∷ b ∷ c ∷ ns) have wh
     let shifts : put_within PHASES SHIFTS bands (take (length bands) ns) ≡ Ok shift = ap (λ (v : Result (List ℤ) Flaw). and_then v (λ vs. Ok (spread PHASES bands vs))) values ∙ ap Ok whole in
     rw (
       sat_from version sat a have.0 from to,
-      natural_at 0 3599 first b have.1.0 (omega arith) (omega (arith, order, below)),
-      natural_at first 3599 last c have.1.1.0 order
+      natural_at 0 LAST_PAIR first b have.1.0 (omega arith) (omega (arith, order, below)),
+      natural_at first LAST_PAIR last c have.1.1.0 order
           (omega (arith, below)),
       shifts,
     ) refl
@@ -326,7 +327,7 @@ arc_spells version l2 l5 free left a is sat_to used whole stands =
 -- ---- points, vectors and moves
 
 pub point_spells : (word : List ℕ) (p : List ℤ) → length p ≡ 3 → IsPoint p → vector_in word 3 COORDINATES (vector_line word p) ≡ Ok p
-point_spells word p three is = vector_spells word 3 COORDINATES p three (point_small p is) (are_in (IsWithin 70_000_000_000) COORDINATES p (λ z h. within_is 70_000_000_000 z h) is)
+point_spells word p three is = vector_spells word 3 COORDINATES p three (point_small p is) (are_in (IsWithin MOST_COORDINATE) COORDINATES p (λ z h. within_is MOST_COORDINATE z h) is)
 
 pub point_length : (word : List ℕ) (p : List ℤ) → length word ≤ 100 → length p ≡ 3 → IsPoint p → length (vector_line word p) ≤ 4096
 point_length word p short three is = line_length word p short (omega (arith, three)) (point_small p is)

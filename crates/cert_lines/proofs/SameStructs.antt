@@ -12,6 +12,7 @@ use Rattle.obs_rows.specs.Ranges.{IsWithin, IsRadius, IsSystem, IsPoint, IsScale
 use Rattle.obs_rows.specs.Unused.{HasUsedShifts, HasUsedRows}
 use Rattle.obs_rows.specs.Arcs.{AreArcs}
 use Rattle.obs_rows.specs.Pairs.{ArePairs}
+use Rattle.obs_rows.specs.declared.limits.TheConstants.{MOST_PAIRS, MOST_SATELLITES}
 
 pub within_prop : (m : ℕ) (zs : List ℤ) → IsProp (All (IsWithin m) zs)
 within_prop m zs = Prim.hlevel props
@@ -85,10 +86,10 @@ pair_same p q number tag group rows = λ i. record {
   tag = record { 0 = tag i };
   group = group i;
   rows = rows i;
-  number_in = is_prop→PathP (λ j. number j < 3600) (λ j. lt_prop (number j) 3600) p.number_in q.number_in i;
+  number_in = is_prop→PathP (λ j. number j < MOST_PAIRS) (λ j. lt_prop (number j) MOST_PAIRS) p.number_in q.number_in i;
   tag_in = is_prop→PathP (λ j. tag j < 2 ^ 63) (λ j. lt_prop (tag j) (2 ^ 63)) p.tag_in q.tag_in i;
   group_in = is_prop→PathP (λ j. unsigned_abs (group j) < 2 ^ 55) (λ j. lt_prop (unsigned_abs (group j)) (2 ^ 55)) p.group_in q.group_in i;
   some_rows = is_prop→PathP (λ j. 1 ≤ length (rows j)) (λ j. le_prop 1 (length (rows j))) p.some_rows q.some_rows i;
-  few_rows = is_prop→PathP (λ j. length (rows j) ≤ 15) (λ j. le_prop (length (rows j)) 15) p.few_rows q.few_rows i;
+  few_rows = is_prop→PathP (λ j. length (rows j) ≤ MOST_SATELLITES) (λ j. le_prop (length (rows j)) MOST_SATELLITES) p.few_rows q.few_rows i;
   arcs_rise = is_prop→PathP (λ j. AllPairs (λ r s. r.arc < s.arc) (rows j)) (λ j. rise_prop (rows j)) p.arcs_rise q.arcs_rise i;
 }

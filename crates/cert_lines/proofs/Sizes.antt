@@ -8,6 +8,7 @@ use Rattle.obs_rows.specs.declared.rows.Row.{Row}
 use Rattle.obs_rows.specs.declared.pair_rows.PairRows.{PairRows}
 use Rattle.obs_rows.specs.Ranges.{IsWithin, IsBelow, IsRadius, IsPoint}
 use Rattle.obs_rows.specs.Arcs.{IsArcInRange, IsOfPair}
+use Rattle.obs_rows.specs.declared.limits.TheConstants.{MOST_COORDINATE}
 use Rattle.cert_words.proofs.NumberLaws.{AreSmall}
 use Rattle.cert_lines.specs.Lines.{row_numbers}
 use Rattle.cert_lines.proofs.Values.{size_is, small_append}
@@ -71,7 +72,7 @@ row_small ss arcs number r few is =
     (arc, small_append (select ss r.y) (r.ry ∷ (r.u ++ r.ru)) y (radius_small r.ry r.ry_in, small_append r.u r.ru u ru))
 
 pub point_small : (p : List ℤ) → IsPoint p → AreSmall p
-point_small p is = each_small (IsWithin 70_000_000_000) p (λ z h. within_small 70_000_000_000 z (omega arith) h) is
+point_small p is = each_small (IsWithin MOST_COORDINATE) p (λ z h. within_small MOST_COORDINATE z (omega arith) h) is
 
 pub moves_small : (m : List ℤ) → All (IsBelow (2 ^ 46)) m → AreSmall m
 moves_small m all = each_small (IsBelow (2 ^ 46)) m (λ z b. below_small (2 ^ 46) z (omega arith) b) all

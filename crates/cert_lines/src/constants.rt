@@ -3,11 +3,12 @@
 ghost use Rattle.std.specs.Prelude.{◌≡◌, ◌-◌, ◌^◌, pos};
 ghost use Rattle.cert_lines.specs.Limits.{up_to, from_0_to};
 ghost use Rattle.cert_lines.specs.declared.ranges.TheConstants.{COORDINATES, SHIFTS, GROUPS, OLD_GROUPS, OBSERVATIONS, DIRECTIONS, RADII, ENTRIES, MOVES, PIVOTS, VALUE_LIMIT};
+ghost use Rattle.obs_rows.specs.declared.limits.TheConstants.{MOST_COORDINATE};
 
 /// The range of each number of a line.
 pub fn ranges_law()
     // 7,000 km in 0.1 mm
-    ensures coordinates { COORDINATES ≡ up_to 70_000_000_000 }
+    ensures coordinates { COORDINATES ≡ up_to MOST_COORDINATE }
     ensures shifts { SHIFTS ≡ up_to (2 ^ 40 - 1) }
     ensures groups { GROUPS ≡ up_to (2 ^ 55 - 1) }
     ensures old_groups { OLD_GROUPS ≡ up_to (2 ^ 50 - 1) }

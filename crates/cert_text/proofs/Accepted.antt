@@ -13,6 +13,7 @@ use Rattle.cert_lines.specs.declared.version.Version.{Version}
 use Rattle.cert_lines.specs.declared.version.Version.TheVariants.{One, Two}
 use Rattle.cert_lines.specs.Versions.{form_line, group_limit, groups}
 use Rattle.obs_rows.specs.Signals.{fine_signals}
+use Rattle.obs_rows.specs.declared.limits.TheConstants.{MOST_PAIRS, MOST_RATIO, MOST_BUDGET}
 use Rattle.cert_data.specs.declared.certs.Cert.{Cert}
 use Rattle.cert_spelling.specs.Spelling.{system_lines, head_lines, all_pair_lines, counted_pairs, tail_lines, lines_of_cert, spelling_as}
 use Rattle.rinex_head.specs.Places.{and_then}
@@ -111,7 +112,7 @@ cert_accepted version c whole of_version =
     let c2 : AreAccepted cert_rules (PairCount f s.arcs) after_arcs =
     step cert_rules (PairCount f s.arcs) (before_pairs f s.arcs (length s.pairs) 0) (count_line (codes "pairs") (length s.pairs)) pair_lines_rest
     (line_length (codes "pairs") (pos (length s.pairs) ∷ []) (lit≤ tt) (lit≤ tt) (omega (arith, s.pairs_in.few), tt))
-    (ap (λ (r : Result ℕ Flaw). and_then r (λ n. Ok (before_pairs f s.arcs n 0))) (count_spells (codes "pairs") 1 3600 (length s.pairs) s.some_pairs s.pairs_in.few (omega arith))) c1 in
+    (ap (λ (r : Result ℕ Flaw). and_then r (λ n. Ok (before_pairs f s.arcs n 0))) (count_spells (codes "pairs") 1 MOST_PAIRS (length s.pairs) s.some_pairs s.pairs_in.few (omega arith))) c1 in
     let c4 = counted_arcs_accepted cert_rules version s.signals.l2 s.signals.l5 (ArcCount f) (before_arcs f) s.arcs after_arcs (record { admits = λ line. refl; ends = refl }) (arcs_taken f) s.arcs_in
     of_version.sats s.shifts_used whole.session.arcs c2 in
     let signals = signals_line version s.signals.l1 s.signals.l2 s.signals.l5 in
@@ -125,10 +126,10 @@ cert_accepted version c whole of_version =
     let system = system_accepted version budget s.system _ s.system_is c7 in
     let c8 = step cert_rules (Budget version) (behind_budget version budget) (count_line (codes "budget") budget) _
     (line_length (codes "budget") (pos budget ∷ []) (lit≤ tt) (lit≤ tt) (omega (arith, c.budget_to), tt))
-    (ap (λ (r : Result ℕ Flaw). and_then r (λ n. Ok (behind_budget version n))) (count_spells (codes "budget") 1 100_000_000 budget c.budget_from c.budget_to (omega arith))) system in
+    (ap (λ (r : Result ℕ Flaw). and_then r (λ n. Ok (behind_budget version n))) (count_spells (codes "budget") 1 MOST_BUDGET budget c.budget_from c.budget_to (omega arith))) system in
     let c9 = step cert_rules (Ratio version) (Budget version) (count_line (codes "ratio") c.ratio) _ (line_length (codes "ratio") (pos c.ratio ∷ []) (lit≤ tt) (lit≤ tt)
     (omega (arith, c.ratio_to), tt))
-    (ap (λ (r : Result ℕ Flaw). and_then r (λ n. Ok (Budget version))) (count_spells (codes "ratio") 1000 100_000 c.ratio c.ratio_from c.ratio_to (omega arith))) c8 in
+    (ap (λ (r : Result ℕ Flaw). and_then r (λ n. Ok (Budget version))) (count_spells (codes "ratio") 1000 MOST_RATIO c.ratio c.ratio_from c.ratio_to (omega arith))) c8 in
     let all = step cert_rules (Form version) (Ratio version) (form_line version) _ (form_length version) (form_read version) c9 in
     subst (AreAccepted cert_rules (Form version)) (sym (regrouped version c)) all
 

@@ -4,6 +4,7 @@ use Rattle.std.proofs.lemmas.List.{append-nil, take_at}
 use Rattle.std.proofs.lemmas.List.Elements.{All-head, All-tail}
 use Rattle.obs_rows.specs.declared.arcs.Arc.{Arc}
 use Rattle.obs_rows.specs.Arcs.{free_count}
+use Rattle.obs_rows.specs.declared.limits.TheConstants.{MOST_PAIRS, MOST_RATIO, MOST_BUDGET}
 use Rattle.rinex_head.specs.declared.place.Flaw.{Flaw}
 use Rattle.rinex_head.specs.declared.place.At.{At}
 use Rattle.rinex_head.specs.declared.place.What.TheVariants.{LongLine}
@@ -310,12 +311,12 @@ next_held : (s next : Expected) (front : List (List ℕ)) (line : List ℕ) → 
 next_held (Form v) next front line are other e =
     by_line v (front ++ line ∷ []) (word_in (form_line v) line) (λ u. Ratio v) next e (λ u is. (refl, pushed front [] line (form_line v) are (word_was (form_line v) line u is)))
 next_held (Ratio v) next front line are other e =
-    by_line v (front ++ line ∷ []) (count_in (codes "ratio") 1000 100_000 line) (λ n. Budget v) next e (λ n is.
-    let read = count_was (codes "ratio") 1000 100_000 line n (omega arith) is in
+    by_line v (front ++ line ∷ []) (count_in (codes "ratio") 1000 MOST_RATIO line) (λ n. Budget v) next e (λ n is.
+    let read = count_was (codes "ratio") 1000 MOST_RATIO line n (omega arith) is in
     (refl, record { head = with_ratio (any_head v) (record { value = n; is = (read.from, read.to) }); are = pushed front (form_line v ∷ []) line (count_line (codes "ratio") n) are read.line_is }))
 next_held (Budget v) next front line held other e =
-    by_line v (front ++ line ∷ []) (count_in (codes "budget") 1 100_000_000 line) (behind_budget v) next e (λ n is.
-    let read = count_was (codes "budget") 1 100_000_000 line n (omega arith) is in
+    by_line v (front ++ line ∷ []) (count_in (codes "budget") 1 MOST_BUDGET line) (behind_budget v) next e (λ n is.
+    let read = count_was (codes "budget") 1 MOST_BUDGET line n (omega arith) is in
     let h = held.head in
     behind_three v n (front ++ line ∷ []) (record {
       head = with_budget h (record { value = n; is = (read.from, read.to) });
@@ -378,8 +379,8 @@ next_held (NextArc f left arcs) next front line held other e =
     by_line f.version (front ++ line ∷ []) (arc_in f.version f.ss (free_count arcs) left line) (λ (a : Arc). before_arcs f (left - 1) (arcs ++ a ∷ [])) next e (λ a is.
     arcs_next f (left - 1) (arcs ++ a ∷ []) (front ++ line ∷ []) (arc_step f left arcs front line a held.0 held.1 is))
 next_held (PairCount f arcs) next front line held other e =
-    by_line f.version (front ++ line ∷ []) (count_in (codes "pairs") 1 3600 line) (λ n. before_pairs f arcs n 0) next e (λ n is.
-    let read = count_was (codes "pairs") 1 3600 line n (omega arith) is in
+    by_line f.version (front ++ line ∷ []) (count_in (codes "pairs") 1 MOST_PAIRS line) (λ n. before_pairs f arcs n 0) next e (λ n is.
+    let read = count_was (codes "pairs") 1 MOST_PAIRS line n (omega arith) is in
     absurd (cc (pairs_begins n line read.line_is, other)))
 next_held (NextPair f arcs left least) next front line held other e = absurd held
 next_held (NextRow f arcs pairs number left least) next front line held other e = absurd held

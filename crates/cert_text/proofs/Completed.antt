@@ -16,6 +16,7 @@ use Rattle.obs_rows.specs.Arcs.{IsOfPair, AreArcs, free_count}
 use Rattle.obs_rows.specs.Pairs.{HasItsArcs}
 use Rattle.obs_rows.specs.Unused.{IsZeroOff, HasUsedRows}
 use Rattle.obs_rows.specs.Signals.{fine_signals}
+use Rattle.obs_rows.specs.declared.limits.TheConstants.{MOST_PAIRS, MOST_RATIO, MOST_BUDGET, MOST_COORDINATE}
 use Rattle.cert_lines.specs.declared.version.Version.{Version}
 use Rattle.cert_lines.specs.declared.version.Version.TheVariants.{One, Two}
 use Rattle.cert_lines.specs.Versions.{most_sat, group_limit}
@@ -37,10 +38,10 @@ pub record Fit {A : Type 0} (P : A → Type 0) : Type 0 where
   pub is : P value
 
 abbrev pub IsRatio : ℕ → Type 0
-IsRatio n = (1000 ≤ n) × (n ≤ 100_000)
+IsRatio n = (1000 ≤ n) × (n ≤ MOST_RATIO)
 
 abbrev pub IsBudget : ℕ → Type 0
-IsBudget n = (1 ≤ n) × (n ≤ 100_000_000)
+IsBudget n = (1 ≤ n) × (n ≤ MOST_BUDGET)
 
 abbrev pub IsSystemOf : Version → ℕ → Type 0
 IsSystemOf version s = IsSystem s × (version ≡ One → s ≡ 71)
@@ -63,7 +64,7 @@ abbrev pub signals_of_head : {version : Version} → Head version → List ℕ
 signals_of_head h = fine_signals h.signals.value
 
 abbrev origin : Fit IsWholePoint
-origin = record { value = replicate 3 (pos 0); is = (All-replicate (IsWithin 70_000_000_000) 3 (pos 0) (omega arith), refl) }
+origin = record { value = replicate 3 (pos 0); is = (All-replicate (IsWithin MOST_COORDINATE) 3 (pos 0) (omega arith), refl) }
 
 abbrev two_bands : Signals
 two_bands = record { l1 = 67; l2 = 87; l5 = 0; on_l1 = refl; on_l2 = refl; on_l5 = refl; two_bands = refl }
@@ -175,7 +176,7 @@ plain_row = record {
   ru_in = All-replicate IsRadius 3 (pos 0) (omega (arith, ints), omega (arith, ints));
 }
 
-abbrev plain_pair : (number : ℕ) → number < 3600 → PairRows
+abbrev plain_pair : (number : ℕ) → number < MOST_PAIRS → PairRows
 plain_pair number few = record {
   number = number;
   tag = record { 0 = 0 };
@@ -193,7 +194,7 @@ abbrev first_number : List Arc → ℕ
 first_number [] = 0
 first_number (a ∷ arcs) = a.first
 
-pub number_few : (version : Version) (ss : List ℕ) (arcs : List Arc) → All (IsArcOf version ss) arcs → first_number arcs < 3600
+pub number_few : (version : Version) (ss : List ℕ) (arcs : List Arc) → All (IsArcOf version ss) arcs → first_number arcs < MOST_PAIRS
 number_few version ss [] each = omega arith
 number_few version ss (a ∷ arcs) each =
     let is = (All-head (IsArcOf version ss) a arcs each).in_range in

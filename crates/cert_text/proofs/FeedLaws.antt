@@ -13,6 +13,7 @@ use Rattle.cert_lines.specs.declared.version.Version.{Version}
 use Rattle.cert_lines.specs.declared.version.Version.TheVariants.{One, Two}
 use Rattle.cert_lines.specs.Versions.{form_line}
 use Rattle.obs_rows.specs.Signals.{fine_signals}
+use Rattle.obs_rows.specs.declared.limits.TheConstants.{MOST_RATIO, MOST_BUDGET}
 use Rattle.cert_data.specs.declared.certs.Cert.{Cert}
 use Rattle.cert_data.specs.declared.tails.Tail.{Tail}
 use Rattle.cert_data.specs.declared.tails.Tail.TheVariants.{Fixed, Unseparated, Weak, Overwidth, Unsettled, Spent}
@@ -37,7 +38,7 @@ pairs_feed ss arcs (p ∷ pairs) few all =
     lines-append (pair_lines ss p) (all_pair_lines ss pairs) (pair_line_feed p, rows_feed ss arcs p.number p.rows few (All-head (HasItsArcs arcs) p pairs all))
     (pairs_feed ss arcs pairs few (All-tail (HasItsArcs arcs) p pairs all))
 
-session_feed : (version : Version) (ratio budget : ℕ) (s : Session) → ratio ≤ 100_000 → budget ≤ 100_000_000 → (version ≡ One → s.signals.l5 ≡ 0) → AreLines (session_lines version ratio budget s)
+session_feed : (version : Version) (ratio budget : ℕ) (s : Session) → ratio ≤ MOST_RATIO → budget ≤ MOST_BUDGET → (version ≡ One → s.signals.l5 ≡ 0) → AreLines (session_lines version ratio budget s)
 session_feed version ratio budget s few_ratio few_budget old =
     let ss = fine_signals s.signals in
     let pairs : AreLines (counted_pairs ss s.pairs) =
@@ -62,7 +63,7 @@ vectors_feed ss arcs h moved best top are =
     let move = worded (codes "move") moved refl (moves_small moved are.moved_in) in
     (first, (second, (move, (values_feed h best.p1 best.p2 top v.h_to v.p1_in v.p2_in v.top_in, tt))))
 
-tail_feed : (ss : List ℕ) (arcs : List Arc) (budget : ℕ) (t : Tail) → budget ≤ 100_000_000 → IsTailOf ss arcs budget t → AreLines (tail_lines t)
+tail_feed : (ss : List ℕ) (arcs : List Arc) (budget : ℕ) (t : Tail) → budget ≤ MOST_BUDGET → IsTailOf ss arcs budget t → AreLines (tail_lines t)
 tail_feed ss arcs budget (Fixed h moved best top) few fits = lines-append (vectors_lines h moved best top) (last_line true ∷ []) (vectors_feed ss arcs h moved best top fits) (refl, tt)
 tail_feed ss arcs budget (Unseparated h moved best top) few fits = lines-append (vectors_lines h moved best top) (last_line false ∷ []) (vectors_feed ss arcs h moved best top fits) (refl, tt)
 tail_feed ss arcs budget (Weak column pivot) few fits =

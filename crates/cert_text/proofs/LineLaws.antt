@@ -3,6 +3,7 @@ use Rattle.std.proofs.Common.{◌≡◌, ◌+◌, ◌-◌, ◌≤◌, ℕ, zero,
 use Rattle.obs_rows.specs.declared.arcs.Arc.{Arc}
 use Rattle.obs_rows.specs.Arcs.{free_count}
 use Rattle.obs_rows.specs.Integers.{integer_count}
+use Rattle.obs_rows.specs.declared.limits.TheConstants.{MOST_PAIRS, MOST_RATIO, MOST_BUDGET}
 use Rattle.rinex_head.specs.Places.{and_then}
 use Rattle.cert_lines.specs.Forms.{count_in, vector_in, Letters as LettersOf, signals_in, signals_of, arc_in, pair_in, row_in}
 use Rattle.cert_lines.specs.TailForms.{begins, values_in, last_in}
@@ -19,10 +20,10 @@ use Rattle.cert_text.specs.Rules.{Expected, Frame, frame, behind_budget, Form, R
 pub form_taken : (version : Version) (word : List ℕ) → word ≡ form_line version → TakesLine cert_rules (Form version) (word_in word) (λ u. Ratio version)
 form_taken version word is = record { admits = λ line. ap (λ (w : List ℕ). and_then (word_in w line) (λ u. Ok (Ratio version))) (sym is); ends = refl }
 
-pub ratio_taken : (version : Version) → TakesLine cert_rules (Ratio version) (count_in (codes "ratio") 1000 100_000) (λ n. Budget version)
+pub ratio_taken : (version : Version) → TakesLine cert_rules (Ratio version) (count_in (codes "ratio") 1000 MOST_RATIO) (λ n. Budget version)
 ratio_taken version = record { admits = λ line. refl; ends = refl }
 
-pub budget_taken : (version : Version) → TakesLine cert_rules (Budget version) (count_in (codes "budget") 1 100_000_000) (behind_budget version)
+pub budget_taken : (version : Version) → TakesLine cert_rules (Budget version) (count_in (codes "budget") 1 MOST_BUDGET) (behind_budget version)
 budget_taken version = record { admits = λ line. refl; ends = refl }
 
 pub base_taken : (version : Version) (budget : ℕ) → TakesLine cert_rules (Base version budget) (vector_in (codes "base") 3 COORDINATES) (λ p. Point version budget)
@@ -64,7 +65,7 @@ rows_taken f arcs pairs number = record { takes = λ left least some. row_taken 
 
 -- ---- where the number of pairs is expected
 
-pub pair_count_taken : (f : Frame) (arcs : List Arc) → TakesLine cert_rules (PairCount f arcs) (count_in (codes "pairs") 1 3600) (λ n. before_pairs f arcs n 0)
+pub pair_count_taken : (f : Frame) (arcs : List Arc) → TakesLine cert_rules (PairCount f arcs) (count_in (codes "pairs") 1 MOST_PAIRS) (λ n. before_pairs f arcs n 0)
 pair_count_taken f arcs = record { admits = λ line. refl; ends = refl }
 
 -- ---- where a line of a tail after its first is expected

@@ -15,6 +15,7 @@ use Rattle.obs_rows.specs.Ranges.{IsWithin, IsBelow, IsPoint, IsSystem}
 use Rattle.obs_rows.specs.Arcs.{IsArcInRange}
 use Rattle.obs_rows.specs.Unused.{IsZeroOff, HasUsedShifts}
 use Rattle.obs_rows.specs.Signals.{used_signals, phase_bands}
+use Rattle.obs_rows.specs.declared.limits.TheConstants.{LAST_PAIR, MOST_COORDINATE}
 use Rattle.rinex_head.specs.declared.place.Flaw.{Flaw}
 use Rattle.rinex_head.specs.declared.place.What.TheVariants.{BadLine}
 use Rattle.rinex_head.specs.Places.{flawed}
@@ -112,10 +113,10 @@ point_was word line p e =
     let ns : List Number = both.0 in
     let are : p ≡ values ns = all_passed COORDINATES ns p both.2 in
     let inside : AreIn COORDINATES p = passed_in COORDINATES ns p both.2 in
-    let small : AreSmall p = in_small 70_000_000_000 COORDINATES p (lit< tt) (record { low = omega (arith, ints); high = omega (arith, ints) }) inside in
+    let small : AreSmall p = in_small MOST_COORDINATE COORDINATES p (lit< tt) (record { low = omega (arith, ints); high = omega (arith, ints) }) inside in
     record {
       line_is = line_read word 3 line ns both.1 (subst AreSmall are small) ∙ ap (λ (zs : List ℤ). word ++ behind_blanks zs) (sym are);
-      point = all_in (IsWithin 70_000_000_000) COORDINATES (is_within 70_000_000_000) p inside;
+      point = all_in (IsWithin MOST_COORDINATE) COORDINATES (is_within MOST_COORDINATE) p inside;
       three = ap length are ∙ values_count ns ∙ numbers_count word 3 line ns both.1;
     }
 
@@ -348,16 +349,16 @@ numbers_were : (version : Version) (ss : List ℕ) (datum : Bool) (ns : List Num
 numbers_were version ss datum ns a e =
     let bands = phase_bands ss in
     let one = took_both (natural_within 1 (most_sat version) (number_at ns 0)) _ a e in
-    let two = took_both (natural_within 0 3599 (number_at ns 1)) _ a one.2 in
-    let three = took_both (natural_within two.0 3599 (number_at ns 2)) _ a two.2 in
+    let two = took_both (natural_within 0 LAST_PAIR (number_at ns 1)) _ a one.2 in
+    let three = took_both (natural_within two.0 LAST_PAIR (number_at ns 2)) _ a two.2 in
     let own = take (length bands) (drop 3 ns) in
     let four = took_both (put_within PHASES SHIFTS bands own) _ a three.2 in
     let sat = natural_passed 1 (most_sat version) one.0 (number_at ns 0) one.1 in
-    let last = natural_passed two.0 3599 three.0 (number_at ns 2) three.1 in
+    let last = natural_passed two.0 LAST_PAIR three.0 (number_at ns 2) three.1 in
     let sat_from : 1 ≤ one.0 = sat.from in
     let sat_to : one.0 ≤ most_sat version = sat.to in
     let order : two.0 ≤ three.0 = last.from in
-    let last_to : three.0 ≤ 3599 = last.to in
+    let last_to : three.0 ≤ LAST_PAIR = last.to in
     let put = took_both (all_within SHIFTS own) (λ (vs : List ℤ). Ok (spread PHASES bands vs)) four.0 four.1 in
     let spread_is : spread PHASES bands put.0 ≡ four.0 = cc (put.2) in
     let below : All (IsBelow (2 ^ 40)) put.0 = all_in (IsBelow (2 ^ 40)) SHIFTS (λ z. is_below (2 ^ 40) 1_099_511_627_775 z (omega arith)) put.0 (passed_in SHIFTS own put.0 put.1) in

@@ -15,6 +15,7 @@ use Rattle.cert_data.specs.declared.tails.Tail.TheVariants.{Fixed, Unseparated, 
 use Rattle.cert_data.specs.Tails.{AreVectors, IsTailOf}
 use Rattle.cert_spelling.specs.Spelling.{system_lines, all_pair_lines, counted_pairs, vectors_lines, tail_lines, lines_of_cert, unsettled_line, spent_line, spelling_as}
 use Rattle.obs_rows.specs.Unused.{HasUsedShifts, HasUsedRows}
+use Rattle.obs_rows.specs.declared.limits.TheConstants.{MOST_BUDGET}
 use Rattle.cert_lines.specs.TailForms.{last_in}
 use Rattle.cert_text.specs.TailForms.{declined_in}
 use Rattle.cert_spelling.specs.Lengths.{AreWholeVectors, IsWholeTail, IsWhole}
@@ -69,7 +70,7 @@ data Shape (ss : List ℕ) (arcs : List Arc) (budget : ℕ) (t : Tail) : Type 0 
       → AreVectors ss arcs h moved best top → AreWholeVectors moved best → Shape ss arcs budget t
   single : (line : List ℕ) → tail_lines t ≡ line ∷ [] → declined_in Two budget line ≡ Ok t → Shape ss arcs budget t
 
-shape : (ss : List ℕ) (arcs : List Arc) (budget : ℕ) (t : Tail) → budget ≤ 100_000_000 → IsTailOf ss arcs budget t → IsWholeTail t → Shape ss arcs budget t
+shape : (ss : List ℕ) (arcs : List Arc) (budget : ℕ) (t : Tail) → budget ≤ MOST_BUDGET → IsTailOf ss arcs budget t → IsWholeTail t → Shape ss arcs budget t
 shape ss arcs budget (Fixed h moved best top) few fits whole = vectors true h moved best top refl refl fits whole
 shape ss arcs budget (Unseparated h moved best top) few fits whole = vectors false h moved best top refl refl fits whole
 shape ss arcs budget (Weak column pivot) few fits whole = single (weak_line (codes "declined weak fine") column pivot) refl (weak_read Two budget column pivot fits (omega (arith, fits.column_to)))

@@ -10,6 +10,7 @@ use Rattle.cert_data.specs.Tails.{IsTailOf, IsTailOf-prop}
 use Rattle.obs_rows.specs.Unused.{HasUsedShifts, HasUsedRows}
 use Rattle.obs_rows.specs.Arcs.{AreArcs}
 use Rattle.obs_rows.specs.Pairs.{ArePairs}
+use Rattle.obs_rows.specs.declared.limits.TheConstants.{MOST_RATIO, MOST_BUDGET}
 use Rattle.cert_lines.proofs.SameStructs.{le_prop, system_prop, rows_prop, shifts_prop, scale_prop, point_prop, arcs_prop, pairs_prop}
 
 fine_prop : (n : ℕ) → IsProp (n ≡ 0)
@@ -42,9 +43,9 @@ certs_same c d ratio budget session tail = λ i. record {
   session = session i;
   tail = tail i;
   ratio_from = is_prop→PathP (λ j. 1000 ≤ ratio j) (λ j. le_prop 1000 (ratio j)) c.ratio_from d.ratio_from i;
-  ratio_to = is_prop→PathP (λ j. ratio j ≤ 100_000) (λ j. le_prop (ratio j) 100_000) c.ratio_to d.ratio_to i;
+  ratio_to = is_prop→PathP (λ j. ratio j ≤ MOST_RATIO) (λ j. le_prop (ratio j) MOST_RATIO) c.ratio_to d.ratio_to i;
   budget_from = is_prop→PathP (λ j. 1 ≤ budget j) (λ j. le_prop 1 (budget j)) c.budget_from d.budget_from i;
-  budget_to = is_prop→PathP (λ j. budget j ≤ 100_000_000) (λ j. le_prop (budget j) 100_000_000) c.budget_to d.budget_to i;
+  budget_to = is_prop→PathP (λ j. budget j ≤ MOST_BUDGET) (λ j. le_prop (budget j) MOST_BUDGET) c.budget_to d.budget_to i;
   fine = is_prop→PathP (λ j. (session j).scale ≡ 0) (λ j. fine_prop (session j).scale) c.fine d.fine i;
   tail_fits =
       is_prop→PathP (λ j. IsTailOf (fine_signals (session j).signals) (session j).arcs (budget j) (tail j))

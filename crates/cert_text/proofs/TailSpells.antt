@@ -3,6 +3,7 @@ use Rattle.std.proofs.Common.{◌≡◌, ◌^◌, ◌≤◌, ℕ, ℤ, pos, Bool
 use Rattle.std.proofs.lemmas.List.{length-take-le}
 use Rattle.obs_rows.specs.declared.arcs.Arc.{Arc}
 use Rattle.obs_rows.specs.Ranges.{IsBelow}
+use Rattle.obs_rows.specs.declared.limits.TheConstants.{MOST_BUDGET}
 use Rattle.integer_form.specs.declared.faults.Place.{Place}
 use Rattle.integer_form.specs.declared.faults.Place.TheVariants.{Y, Factor, Entry, Float, Point, Search, Sum}
 use Rattle.int_search.specs.declared.answer.TwoBest.{TwoBest}
@@ -87,7 +88,7 @@ unsettled_read version budget entry fits =
     let read = vector_spells (codes "declined unsettled fine") 1 MOVES (entry ∷ []) refl (unsettled_small entry fits) inside in
     ap (λ (r : Result (List ℤ) Flaw). and_then r (λ zs. Ok (Unsettled (get_or zs 0 (pos 0))))) read
 
-pub spent_read : (version : Version) (budget spent : ℕ) → budget ≤ 100_000_000 → spent ≡ budget → declined_in version budget (spent_line spent) ≡ Ok (Spent spent)
+pub spent_read : (version : Version) (budget spent : ℕ) → budget ≤ MOST_BUDGET → spent ≡ budget → declined_in version budget (spent_line spent) ≡ Ok (Spent spent)
 spent_read version budget spent few is =
     ap (λ (r : Result ℕ Flaw). and_then r (λ b. Ok (Spent b))) (count_spells (codes "declined spent") budget budget spent (omega (arith, is)) (omega (arith, is)) (omega arith))
 
@@ -104,7 +105,7 @@ place_read version budget Point = refl
 place_read version budget Search = refl
 place_read version budget Sum = refl
 
-pub tail_accepted : (f : Frame) (arcs : List Arc) (t : CertTail) → f.budget ≤ 100_000_000 → IsTailOf f.ss arcs f.budget t → IsColumnOf f.version t → IsWholeTail t
+pub tail_accepted : (f : Frame) (arcs : List Arc) (t : CertTail) → f.budget ≤ MOST_BUDGET → IsTailOf f.ss arcs f.budget t → IsColumnOf f.version t → IsWholeTail t
     → AreAccepted cert_rules (Tail f arcs) (tail_lines t)
 tail_accepted f arcs (Fixed h moved best top) few fits column_to whole = vectors_accepted f arcs h moved best top true fits whole
 tail_accepted f arcs (Unseparated h moved best top) few fits column_to whole = vectors_accepted f arcs h moved best top false fits whole

@@ -3,6 +3,7 @@ use Rattle.std.specs.Prelude.{ℕ, zero, suc, ◌+◌, ◌-◌, if◌then◌else
 use Rattle.obs_rows.specs.declared.arcs.Arc.{Arc}
 use Rattle.obs_rows.specs.Arcs.{free_count}
 use Rattle.obs_rows.specs.Integers.{integer_count}
+use Rattle.obs_rows.specs.declared.limits.TheConstants.{MOST_PAIRS, MOST_RATIO, MOST_BUDGET}
 use Rattle.rinex_head.specs.declared.place.At.{At}
 use Rattle.rinex_head.specs.declared.place.Flaw.{Flaw}
 use Rattle.rinex_head.specs.declared.place.What.TheVariants.{BadLine}
@@ -78,15 +79,15 @@ admit_tail f integers line =
 
 abbrev pub admit : Expected → List ℕ → Result Expected Flaw
 admit (Form v) line = and_then (word_in (form_line v) line) (λ u. Ok (Ratio v))
-admit (Ratio v) line = and_then (count_in (codes "ratio") 1000 100_000 line) (λ n. Ok (Budget v))
-admit (Budget v) line = and_then (count_in (codes "budget") 1 100_000_000 line) (λ n. Ok (behind_budget v n))
+admit (Ratio v) line = and_then (count_in (codes "ratio") 1000 MOST_RATIO line) (λ n. Ok (Budget v))
+admit (Budget v) line = and_then (count_in (codes "budget") 1 MOST_BUDGET line) (λ n. Ok (behind_budget v n))
 admit (SystemLine budget) line = and_then (system_in line) (λ s. Ok (Base Two budget))
 admit (Base v budget) line = and_then (vector_in (codes "base") 3 COORDINATES line) (λ p. Ok (Point v budget))
 admit (Point v budget) line = and_then (vector_in (codes "point") 3 COORDINATES line) (λ p. Ok (Letters v budget))
 admit (Letters v budget) line = and_then (signals_in v line) (λ s. Ok (ArcCount (frame v budget (signals_of s))))
 admit (ArcCount f) line = and_then (count_in (codes "arcs") 2 200 line) (λ n. Ok (before_arcs f n []))
 admit (NextArc f left arcs) line = and_then (arc_in f.version f.ss (free_count arcs) left line) (λ a. Ok (before_arcs f (left - 1) (arcs ++ a ∷ [])))
-admit (PairCount f arcs) line = and_then (count_in (codes "pairs") 1 3600 line) (λ n. Ok (before_pairs f arcs n 0))
+admit (PairCount f arcs) line = and_then (count_in (codes "pairs") 1 MOST_PAIRS line) (λ n. Ok (before_pairs f arcs n 0))
 admit (NextPair f arcs left least) line = and_then (pair_in f.version least line) (λ p. Ok (before_rows f arcs (left - 1) p.number p.count 0))
 admit (NextRow f arcs pairs number left least) line = and_then (row_in f.ss arcs number least line) (λ k. Ok (before_rows f arcs pairs number (left - 1) (k + 1)))
 admit (Tail f arcs) line = admit_tail f (integer_count arcs f.ss) line

@@ -11,7 +11,7 @@ use crate::grammar::CertText;
 use cert_lines::{COORDINATES, Version};
 use cert_words::TextLines;
 use grammar_lines::{next_count, next_letters, next_system, next_triple, next_word};
-use obs_rows::Signals;
+use obs_rows::{MOST_BUDGET, MOST_RATIO, Signals};
 use rinex_head::At;
 
 /// What the head says.
@@ -42,8 +42,8 @@ fn read_system(lines: &mut TextLines<'_>, version: Version) -> Result<u8, At>
 pub(crate) fn read_head(lines: &mut TextLines<'_>, version: Version) -> Result<Head, At>
     ensures reads { ReadsFree cert_rules lines.old lines.new (Form version) (λ h. ArcCount (frame version h.budget (fine_signals h.signals))) result }
     ensures took { IfOk result (λ h. lines.old.left ≡ head_lines version h.ratio h.budget h.system h.base h.point h.signals ++ lines.new.left) }
-    ensures ratio { IfOk result (λ h. (1000 ≤ h.ratio) × (h.ratio ≤ 100_000)) }
-    ensures budget { IfOk result (λ h. (1 ≤ h.budget) × (h.budget ≤ 100_000_000)) }
+    ensures ratio { IfOk result (λ h. (1000 ≤ h.ratio) × (h.ratio ≤ MOST_RATIO)) }
+    ensures budget { IfOk result (λ h. (1 ≤ h.budget) × (h.budget ≤ MOST_BUDGET)) }
     ensures system { IfOk result (λ h. IsSystem h.system) }
     ensures base { IfOk result (λ h. IsPoint h.base) }
     ensures point { IfOk result (λ h. IsPoint h.point) }
@@ -52,8 +52,8 @@ pub(crate) fn read_head(lines: &mut TextLines<'_>, version: Version) -> Result<H
     ensures whole { IfOk result (λ h. (length h.base ≡ 3) × (length h.point ≡ 3)) }
 {
     next_word::<CertText>(lines, version.form_line())?;
-    let ratio = next_count::<CertText>(lines, b"ratio", 1000, 100_000)?;
-    let budget = next_count::<CertText>(lines, b"budget", 1, 100_000_000)?;
+    let ratio = next_count::<CertText>(lines, b"ratio", 1000, MOST_RATIO as u64)?;
+    let budget = next_count::<CertText>(lines, b"budget", 1, MOST_BUDGET)?;
     let system = read_system(lines, version)?;
     let base = next_triple::<CertText>(lines, b"base", &COORDINATES)?;
     let point = next_triple::<CertText>(lines, b"point", &COORDINATES)?;

@@ -14,7 +14,7 @@ use crate::grammar::CertText;
 use cert_lines::Version;
 use cert_words::TextLines;
 use grammar_lines::{next_count, next_pair_head, read_rows};
-use obs_rows::{Arc, PairRows, Session, SessionBuilder, Signals};
+use obs_rows::{Arc, MOST_PAIRS, PairRows, Session, SessionBuilder, Signals};
 use rinex_head::TextFault;
 use std::alloc::Global;
 
@@ -52,7 +52,7 @@ fn read_all_pairs(
     count: u32,
 ) -> Result<SessionBuilder, TextFault>
     requires none { session.pairs ≡ [] }
-    requires few { count ≤ 3600 }
+    requires few { count ≤ MOST_PAIRS }
     ensures reads { (budget : ℕ) → Reads cert_rules lines.old lines.new (before_pairs (frame version budget (fine_signals session.signals)) session.arcs count 0) (λ s. Tail (frame version budget (fine_signals session.signals)) session.arcs) result }
     ensures took { IfOk result (λ s. lines.old.left ≡ all_pair_lines (fine_signals session.signals) s.pairs ++ lines.new.left) }
     ensures count { IfOk result (λ s. length s.pairs ≡ count) }
@@ -104,7 +104,7 @@ pub(crate) fn read_pairs(
     ensures signals { IfOk result (λ s. s.signals ≡ session.signals) }
     ensures arcs { IfOk result (λ s. s.arcs ≡ session.arcs) }
 {
-    let count = next_count::<CertText>(lines, b"pairs", 1, 3600)?;
+    let count = next_count::<CertText>(lines, b"pairs", 1, MOST_PAIRS as u64)?;
     let whole = read_all_pairs(alloc, lines, version, session, count as u32)?;
     Ok(whole.finish())
 }

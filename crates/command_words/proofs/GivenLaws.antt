@@ -10,6 +10,7 @@ use Rattle.command_words.specs.declared.settings.Given.{Given}
 use Rattle.command_words.specs.declared.jobs.Job.{Job}
 use Rattle.command_words.specs.declared.jobs.Job.TheVariants as job
 use Rattle.obs_rows.specs.Ranges.{IsSystem}
+use Rattle.obs_rows.specs.declared.limits.TheConstants.{MOST_PAIRS, MOST_RATIO, MOST_BUDGET}
 use Rattle.run_options.specs.declared.defaults.TheConstants.{DEFAULT_SYSTEM, DEFAULT_RATIO, DEFAULT_BUDGET, DEFAULT_MASK, DEFAULT_GAP, DEFAULT_JUMP, DEFAULT_ARC, DEFAULT_STEP, DEFAULT_FIRST, DEFAULT_COUNT}
 use Rattle.run_options.specs.Defaults.{default_bands}
 use Rattle.command_words.specs.Settings.{name_of, place_of, is_same, numbers_for, AreBandsOf, IsChosenBy, IsSetBy, IsSignalChoice, IsValue, AreOptions}
@@ -44,15 +45,15 @@ module _ (g h : List Given) (same : (s : Setting) → numbers_for s g ≡ number
 
   same_options : (o : Options) → AreOptions g o → AreOptions h o
   same_options o is = record {
-    ratio = subst (λ (vs : List ℕ). IsSetBy vs 1000 100000 DEFAULT_RATIO o.ratio) (same Ratio) is.ratio;
-    budget = subst (λ (vs : List ℕ). IsSetBy vs 1 100000000 DEFAULT_BUDGET o.budget) (same Budget) is.budget;
+    ratio = subst (λ (vs : List ℕ). IsSetBy vs 1000 MOST_RATIO DEFAULT_RATIO o.ratio) (same Ratio) is.ratio;
+    budget = subst (λ (vs : List ℕ). IsSetBy vs 1 MOST_BUDGET DEFAULT_BUDGET o.budget) (same Budget) is.budget;
     mask = subst (λ (vs : List ℕ). IsSetBy vs 0 900 DEFAULT_MASK o.mask) (same Mask) is.mask;
     gap = subst (λ (vs : List ℕ). IsSetBy vs 0 5000000 DEFAULT_GAP o.gap) (same Gap) is.gap;
     jump = subst (λ (vs : List ℕ). IsSetBy vs 1 1000 DEFAULT_JUMP o.jump) (same Jump) is.jump;
-    arc = subst (λ (vs : List ℕ). IsSetBy vs 2 3600 DEFAULT_ARC o.arc) (same Arc) is.arc;
+    arc = subst (λ (vs : List ℕ). IsSetBy vs 2 MOST_PAIRS DEFAULT_ARC o.arc) (same Arc) is.arc;
     step = subst (λ (vs : List ℕ). IsSetBy vs 1 1000 DEFAULT_STEP o.step) (same Step) is.step;
     first = subst (λ (vs : List ℕ). IsSetBy vs 0 19999 DEFAULT_FIRST o.first) (same First) is.first;
-    count = subst (λ (vs : List ℕ). IsSetBy vs 1 3600 DEFAULT_COUNT o.count) (same Count) is.count;
+    count = subst (λ (vs : List ℕ). IsSetBy vs 1 MOST_PAIRS DEFAULT_COUNT o.count) (same Count) is.count;
     choice = same_choice o.system o.bands is.choice;
   }
 

@@ -18,6 +18,7 @@ use Rattle.run_options.proofs.OneOptions.{one_options}
 use Rattle.command_words.specs.declared.settings.Setting.{Setting}
 use Rattle.command_words.specs.declared.settings.Setting.TheVariants.{Ratio, Budget, Mask, Gap, Jump, Arc, Step, First, Count, Bands, System}
 use Rattle.obs_rows.specs.Ranges.{IsSystem}
+use Rattle.obs_rows.specs.declared.limits.TheConstants.{MOST_PAIRS, MOST_RATIO, MOST_BUDGET}
 use Rattle.run_options.specs.declared.defaults.TheConstants.{DEFAULT_SYSTEM, DEFAULT_RATIO, DEFAULT_BUDGET, DEFAULT_MASK, DEFAULT_GAP, DEFAULT_JUMP, DEFAULT_ARC, DEFAULT_STEP, DEFAULT_FIRST, DEFAULT_COUNT}
 use Rattle.run_options.specs.Defaults.{default_bands}
 use Rattle.command_words.specs.Settings.{numbers_for, AreBandsOf, IsChosenBy, IsSet, IsSignalChoice, AreOptions}
@@ -87,15 +88,15 @@ one_setting given s least most plain m n first second = one_choice (numbers_for 
 
 one_of_options : (given : List Given) (o p : Options) → AreOptions given o → AreOptions given p → o ≡ p
 one_of_options given o p first second =
-    let ratio : o.ratio ≡ p.ratio = one_setting given Ratio 1000 100000 DEFAULT_RATIO o.ratio p.ratio first.ratio second.ratio in
-    let budget : o.budget ≡ p.budget = one_setting given Budget 1 100000000 DEFAULT_BUDGET o.budget p.budget first.budget second.budget in
+    let ratio : o.ratio ≡ p.ratio = one_setting given Ratio 1000 MOST_RATIO DEFAULT_RATIO o.ratio p.ratio first.ratio second.ratio in
+    let budget : o.budget ≡ p.budget = one_setting given Budget 1 MOST_BUDGET DEFAULT_BUDGET o.budget p.budget first.budget second.budget in
     let mask : o.mask ≡ p.mask = one_setting given Mask 0 900 DEFAULT_MASK o.mask p.mask first.mask second.mask in
     let gap : o.gap ≡ p.gap = one_setting given Gap 0 5000000 DEFAULT_GAP o.gap p.gap first.gap second.gap in
     let jump : o.jump ≡ p.jump = one_setting given Jump 1 1000 DEFAULT_JUMP o.jump p.jump first.jump second.jump in
-    let arc : o.arc ≡ p.arc = one_setting given Arc 2 3600 DEFAULT_ARC o.arc p.arc first.arc second.arc in
+    let arc : o.arc ≡ p.arc = one_setting given Arc 2 MOST_PAIRS DEFAULT_ARC o.arc p.arc first.arc second.arc in
     let step : o.step ≡ p.step = one_setting given Step 1 1000 DEFAULT_STEP o.step p.step first.step second.step in
     let first_pair : o.first ≡ p.first = one_setting given First 0 19999 DEFAULT_FIRST o.first p.first first.first second.first in
-    let count : o.count ≡ p.count = one_setting given Count 1 3600 DEFAULT_COUNT o.count p.count first.count second.count in
+    let count : o.count ≡ p.count = one_setting given Count 1 MOST_PAIRS DEFAULT_COUNT o.count p.count first.count second.count in
     let signals = one_signals given o.system p.system o.bands p.bands first.choice second.choice in
     let same : numbers_of o ≡ numbers_of p = cc (ratio, budget, mask, gap, jump, arc, step, first_pair, count, signals.0, signals.1) in
     one_options o p same

@@ -8,6 +8,7 @@ use Rattle.run_options.specs.declared.options.Options.{Options}
 use Rattle.obs_rows.specs.declared.band_sets.TheConstants.{BANDS_L1_L5}
 use Rattle.obs_rows.specs.BandSets.{IsBandsNumber}
 use Rattle.obs_rows.specs.Ranges.{IsSystem}
+use Rattle.obs_rows.specs.declared.limits.TheConstants.{MOST_PAIRS, MOST_RATIO, MOST_BUDGET}
 use Rattle.command_words.specs.declared.settings.Setting.{Setting}
 use Rattle.command_words.specs.declared.settings.Setting.TheVariants.{Ratio, Budget, Mask, Gap, Jump, Arc, Step, First, Count, Bands, System}
 use Rattle.command_words.specs.declared.settings.Given.{Given}
@@ -79,15 +80,15 @@ pub record IsSignalChoice (given : List Given) (system bands : ℕ) : Type 0 whe
 
 -- the options with their ranges and defaults
 pub record AreOptions (given : List Given) (o : Options) : Type 0 where
-  pub ratio : IsSet given Ratio 1000 100000 DEFAULT_RATIO o.ratio
-  pub budget : IsSet given Budget 1 100000000 DEFAULT_BUDGET o.budget
+  pub ratio : IsSet given Ratio 1000 MOST_RATIO DEFAULT_RATIO o.ratio
+  pub budget : IsSet given Budget 1 MOST_BUDGET DEFAULT_BUDGET o.budget
   pub mask : IsSet given Mask 0 900 DEFAULT_MASK o.mask
   pub gap : IsSet given Gap 0 5000000 DEFAULT_GAP o.gap
   pub jump : IsSet given Jump 1 1000 DEFAULT_JUMP o.jump
-  pub arc : IsSet given Arc 2 3600 DEFAULT_ARC o.arc
+  pub arc : IsSet given Arc 2 MOST_PAIRS DEFAULT_ARC o.arc
   pub step : IsSet given Step 1 1000 DEFAULT_STEP o.step
   pub first : IsSet given First 0 19999 DEFAULT_FIRST o.first
-  pub count : IsSet given Count 1 3600 DEFAULT_COUNT o.count
+  pub count : IsSet given Count 1 MOST_PAIRS DEFAULT_COUNT o.count
   pub choice : IsSignalChoice given o.system o.bands
 
 -- of a command that searches nothing: no ratio and no budget is given

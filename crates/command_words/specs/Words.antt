@@ -1,6 +1,7 @@
 -- Which words are a job.
 use Rattle.std.specs.Prelude.{◌≡◌, ◌≤◌, ℕ, List, [], ◌∷◌, map, codes, string_bytes, String}
 use Rattle.obs_rows.specs.Ranges.{IsSystem}
+use Rattle.obs_rows.specs.declared.limits.TheConstants.{MOST_PAIRS}
 use Rattle.std.specs.declared.alloc.Global.{Global}
 use Rattle.command_words.specs.declared.settings.Given.{Given}
 use Rattle.command_words.specs.declared.sims.File.{File}
@@ -48,7 +49,7 @@ sim_with part seed epochs sats bands system = record { part = part; seed = seed;
 pub record IsSim (part_word seed_word epochs_word sats_word : List ℕ) (s : Sim) : Type 0 where
   pub part : part_word ≡ name_of_part s.part
   pub seed : IsNumberIn 0 4294967295 seed_word s.seed
-  pub epochs : IsNumberIn 1 3600 epochs_word s.epochs
+  pub epochs : IsNumberIn 1 MOST_PAIRS epochs_word s.epochs
   pub sats : IsNumberIn 4 15 sats_word s.sats
 
 -- `sim`, these four words, and no options but the bands and the system
@@ -114,7 +115,7 @@ file_words (job.Sim part seed epochs sats bands system) = []
 
 -- the ranges of a simulated session
 pub record IsSimInRange (epochs sats bands system : ℕ) : Type 0 where
-  pub epochs_to : epochs ≤ 3600
+  pub epochs_to : epochs ≤ MOST_PAIRS
   pub sats_to : sats ≤ 15
   pub of_system : IsSystem system
   pub on_bands : AreBandsOf system bands

@@ -5,6 +5,7 @@ ghost use Rattle.command_words.specs.Settings.{AreOptions, ArePairOptions};
 
 use crate::choices::signal_choice_of;
 use crate::settings::{Given, Limits, Setting, is_left_out, number_for};
+use obs_rows::{MOST_BUDGET, MOST_PAIRS, MOST_RATIO};
 use run_options::{
     DEFAULT_ARC, DEFAULT_BUDGET, DEFAULT_COUNT, DEFAULT_FIRST, DEFAULT_GAP, DEFAULT_JUMP,
     DEFAULT_MASK, DEFAULT_RATIO, DEFAULT_STEP, Options,
@@ -12,13 +13,13 @@ use run_options::{
 
 const RATIO: Limits = Limits {
     least: 1_000,
-    most: 100_000,
+    most: MOST_RATIO as u64,
     plain: DEFAULT_RATIO as u64,
 };
 
 const BUDGET: Limits = Limits {
     least: 1,
-    most: 100_000_000,
+    most: MOST_BUDGET,
     plain: DEFAULT_BUDGET,
 };
 
@@ -42,7 +43,7 @@ const JUMP: Limits = Limits {
 
 const ARC: Limits = Limits {
     least: 2,
-    most: 3_600,
+    most: MOST_PAIRS as u64,
     plain: DEFAULT_ARC as u64,
 };
 
@@ -60,7 +61,7 @@ const FIRST: Limits = Limits {
 
 const COUNT: Limits = Limits {
     least: 1,
-    most: 3_600,
+    most: MOST_PAIRS as u64,
     plain: DEFAULT_COUNT as u64,
 };
 

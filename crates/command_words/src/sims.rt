@@ -8,6 +8,7 @@ ghost use Rattle.command_words.specs.Words.{name_of_part, IsSim};
 use crate::choices::SignalChoice;
 use crate::numbers::number_of;
 use crate::word::Word;
+use obs_rows::MOST_PAIRS;
 
 /// A file of a simulated session: of the base, of the rover, or of the satellites.
 #[derive(Clone, Copy, Debug, PartialEq, Eq)]
@@ -78,7 +79,7 @@ pub fn sim_of(
 {
     let part = part_of(part.as_bytes())?;
     let seed = number_in(seed, 0, u32::MAX)?;
-    let epochs = number_in(epochs, 1, 3600)?;
+    let epochs = number_in(epochs, 1, MOST_PAIRS)?;
     let sats = number_in(sats, 4, 15)?;
     Some(Sim {
         part,

@@ -3,6 +3,7 @@ ghost use Rattle.std.specs.Prelude.{◌≡◌, ◌<◌, ◌≤◌, All, AllPairs
 ghost use Rattle.obs_store.specs.Epochs.{tags_of};
 ghost use Rattle.epoch_pair.specs.Pairs.{Follows, IsNearPair};
 ghost use Rattle.obs_rows.specs.BandSets.{bands_of};
+ghost use Rattle.obs_rows.specs.declared.limits.TheConstants.{MOST_PAIRS};
 ghost use Rattle.epoch_pair.specs.Beginnings.{IsPosition, LacksPosition, AreSignals, AreSparse, IsSessionFault, pairs_of, AreTaken, fault_of};
 
 use crate::faults::{PairWhat, SessionFault};
@@ -75,7 +76,7 @@ pub fn begin(
     ensures sparse { IfOk result (λ b. AreSparse options.now.gap base.now rover.now) }
     ensures all { IfOk result (λ b. b.all ≡ length (pairs_of base.now rover.now options.now)) }
     ensures taken { IfOk result (λ b. AreTaken base.now rover.now options.now b.taken.items) }
-    ensures few { IfOk result (λ b. length b.taken.items ≤ 3600) }
+    ensures few { IfOk result (λ b. length b.taken.items ≤ MOST_PAIRS) }
     ensures rises { IfOk result (λ b. AllPairs Follows b.taken.items) }
     ensures near { IfOk result (λ b. All (IsNearPair options.now.gap (tags_of base.now.epochs) (tags_of rover.now.epochs)) b.taken.items) }
 {

@@ -4,6 +4,7 @@ ghost use Rattle.integer_form.specs.declared.faults.Place.TheVariants.{Float, Su
 ghost use Rattle.integer_form.specs.FloatPoint.{HasWide};
 ghost use Rattle.obs_rows.specs.Signals.{fine_signals};
 ghost use Rattle.obs_rows.specs.Best.{IsStrictlyBest};
+ghost use Rattle.obs_rows.specs.declared.limits.TheConstants.{MOST_RATIO};
 ghost use Rattle.fix_decide.specs.UpperSums.{top};
 ghost use Rattle.fix_decide.specs.Widths.{AreWide};
 ghost use Rattle.int_search.specs.Answers.{IsTwoBest};
@@ -33,7 +34,7 @@ const BOUND_FACTOR: i128 = 64;
 
 /// 64 · ratio · top
 fn times_ratio(ratio: u32, top: i128) -> i128
-    requires ratio_to { ratio ≤ 100_000 }
+    requires ratio_to { ratio ≤ MOST_RATIO }
     requires top_from { pos 0 ≤ℤ top }
     requires top_to { top ≤ℤ pos (2 ^ 62) }
     ensures { result ≡ pos 64 *ℤ (pos ratio *ℤ top) }
@@ -44,7 +45,7 @@ fn times_ratio(ratio: u32, top: i128) -> i128
 /// Whether 1000 · p2 > 64 · ratio · top.
 pub fn is_separated(ratio: u32, top: i128, p2: i128) -> bool
     requires ratio_from { 1000 ≤ ratio }
-    requires ratio_to { ratio ≤ 100_000 }
+    requires ratio_to { ratio ≤ MOST_RATIO }
     requires top_from { pos 0 ≤ℤ top }
     requires p2_to { p2 ≤ℤ pos (2 ^ 62) }
     ensures { IsTrue result ↔ IsSeparated (pos ratio) top p2 }
@@ -72,7 +73,7 @@ pub fn decide(
     requires form { IsFormOf session.now form.now }
     requires best { IsTwoBest form.now best.now }
     requires ratio_from { 1000 ≤ ratio }
-    requires ratio_to { ratio ≤ 100_000 }
+    requires ratio_to { ratio ≤ MOST_RATIO }
 
     ensures best { IfOk result (λ d. d.best ≡ best.now) }
     ensures moved { IfOk result (λ d. d.moved ≡ move_of form.now (first_of best.now)) }

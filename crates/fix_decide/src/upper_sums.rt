@@ -6,6 +6,7 @@ ghost use Rattle.obs_rows.specs.Ranges.{IsBelow};
 ghost use Rattle.obs_rows.specs.Pairs.{HasItsArcs};
 ghost use Rattle.obs_rows.specs.Integers.{integer_count};
 ghost use Rattle.obs_rows.specs.Signals.{fine_signals, AreCounted};
+ghost use Rattle.obs_rows.specs.declared.limits.TheConstants.{MOST_PAIRS};
 ghost use Rattle.fix_decide.specs.UpperSums.{upper_sum as upper_sum_of, top};
 ghost use Rattle.fix_decide.specs.Bounds.{StaysAtMost};
 ghost use Rattle.fix_decide.specs.Widths.{AreWide};
@@ -24,7 +25,7 @@ fn sum_of_pairs(
     moved: &[i64; 3],
 ) -> Result<i128, Overwidth>
     requires arcs { All (HasItsArcs arcs.now) pairs.now }
-    requires few { length pairs.now ≤ 3600 }
+    requires few { length pairs.now ≤ MOST_PAIRS }
     requires free { free_count arcs.now ≤ MOST_FREE_ARCS }
     requires counted { AreCounted signals.now }
     requires entries { length z.now ≡ integer_count arcs.now signals.now }

@@ -2,6 +2,7 @@
 //! has read that line, or the text is refused there; and the line is the spelling of what it answers.
 ghost use Rattle.std.specs.Prelude.{◌≡◌, ◌≤◌, ◌<◌, ◌^◌, unsigned_abs, ◌∷◌, ℕ, ℤ, List, Bool, All, IfOk, OnOk};
 ghost use Rattle.obs_rows.specs.Ranges.{IsBelow, IsSystem};
+ghost use Rattle.obs_rows.specs.declared.limits.TheConstants.{MOST_PAIRS, MOST_SATELLITES};
 ghost use Rattle.rinex_head.specs.Walk.{ReadsFree};
 ghost use Rattle.cert_words.specs.Numbers.{IsIn};
 ghost use Rattle.cert_lines.specs.Lines.{count_line, vector_line, system_line, signals_line, pair_line, values_line, last_line};
@@ -103,11 +104,11 @@ pub fn next_pair_head<G: Grammar>(
 ) -> Result<PairHead, At>
     ensures reads { (s : G.State) (next : PairHead → G.State) → TakesLine G.rules s (pair_in version least) next → ReadsFree G.rules lines.old lines.new s next result }
     ensures took { IfOk result (λ p. lines.old.left ≡ pair_line p.number p.tag.0 p.group p.count ∷ lines.new.left) }
-    ensures number { IfOk result (λ p. (least ≤ p.number) × (p.number < 3600)) }
+    ensures number { IfOk result (λ p. (least ≤ p.number) × (p.number < MOST_PAIRS)) }
     ensures tag { IfOk result (λ p. p.tag.0 < 2 ^ 63) }
     ensures group { IfOk result (λ p. unsigned_abs p.group < 2 ^ 55) }
     ensures of_version { IfOk result (λ p. unsigned_abs p.group < group_limit version) }
-    ensures count { IfOk result (λ p. (1 ≤ p.count) × (p.count ≤ 15)) }
+    ensures count { IfOk result (λ p. (1 ≤ p.count) × (p.count ≤ MOST_SATELLITES)) }
 {
     let line = next_line(lines)?;
     match pair_in(version, least, line.bytes) {

@@ -4,6 +4,7 @@ ghost use Rattle.obs_rows.specs.Arcs.{IsOfPair};
 ghost use Rattle.obs_rows.specs.Pairs.{HasItsArcs};
 ghost use Rattle.obs_rows.specs.Signals.{fine_signals};
 ghost use Rattle.obs_rows.specs.Unused.{IsZeroOff, HasUsedRows};
+ghost use Rattle.obs_rows.specs.declared.limits.TheConstants.{MOST_PAIRS, MOST_SATELLITES};
 ghost use Rattle.rinex_head.specs.Walk.{Reads, ReadsFree};
 ghost use Rattle.cert_lines.specs.Lines.{row_line, row_lines};
 ghost use Rattle.cert_lines.specs.Forms.{row_in};
@@ -52,11 +53,11 @@ pub fn read_rows<G: Grammar>(
 ) -> Result<PairRows, TextFault>
     requires some { 1 ≤ length arcs.now }
     requires few { length arcs.now ≤ 200 }
-    requires number { head.number < 3600 }
+    requires number { head.number < MOST_PAIRS }
     requires tag { head.tag.0 < 2 ^ 63 }
     requires group { unsigned_abs head.group < 2 ^ 55 }
     requires count_from { 1 ≤ head.count }
-    requires count_to { head.count ≤ 15 }
+    requires count_to { head.count ≤ MOST_SATELLITES }
     ensures reads { (before : ℕ → ℕ → G.State) (after : G.State) → RowsAreTaken G.rules (fine_signals signals) arcs.now head.number before after → Reads G.rules lines.old lines.new (before head.count 0) (λ p. after) result }
     ensures took { IfOk result (λ p. lines.old.left ≡ row_lines (fine_signals signals) p.rows ++ lines.new.left) }
     ensures number { IfOk result (λ p. p.number ≡ head.number) }

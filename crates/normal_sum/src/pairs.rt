@@ -8,6 +8,7 @@ ghost use Rattle.obs_rows.specs.Arcs.{free_count};
 ghost use Rattle.form_tables.specs.Tables.{entry};
 ghost use Rattle.obs_rows.specs.Signals.{AreCounted, weight};
 ghost use Rattle.obs_rows.specs.Integers.{integer_count};
+ghost use Rattle.obs_rows.specs.declared.limits.TheConstants.{LAST_PAIR};
 ghost use Rattle.normal_sum.specs.Pairs.{HaveArcs, pair_groups};
 ghost use Rattle.normal_sum.specs.RadiusSums.{radii_of, IsAtMost};
 
@@ -31,7 +32,7 @@ pub(crate) fn add_pair(
     requires counted { AreCounted signals.now }
     requires integers { integers ≡ integer_count arcs.now signals.now }
     requires few { integers ≤ MOST_INTEGERS }
-    requires entry_size { (i j : ℕ) → i ≤ j → j < MOST_COLUMNS → unsigned_abs (entry table.old i j) ≤ 3599 * 2 ^ 108 }
+    requires entry_size { (i j : ℕ) → i ≤ j → j < MOST_COLUMNS → unsigned_abs (entry table.old i j) ≤ LAST_PAIR * 2 ^ 108 }
     ensures added { (i j : ℕ) → i ≤ j → j < MOST_COLUMNS → entry table.new i j ≡ entry table.old i j +ℤ matrix_entry (pair_groups arcs.now signals.now pair.now) i j }
     ensures size { (i j : ℕ) → i ≤ j → j < MOST_COLUMNS → unsigned_abs (entry table.new i j) ≤ unsigned_abs (entry table.old i j) + 2 ^ 108 }
 {

@@ -8,10 +8,10 @@ ghost use Rattle.normal_sum.specs.Pairs.{HaveArcs};
 ghost use Rattle.normal_sum.specs.Places.{first_place, place_from};
 
 use form_tables::MOST_INTEGERS;
-use obs_rows::{Arc, MOST_FREE_ARCS, PHASES, Row, free_arcs, phase_count};
+use obs_rows::{Arc, MOST_FREE_ARCS, MOST_SATELLITES, PHASES, Row, free_arcs, phase_count};
 
 /// The most rows of a pair.
-pub const MOST_ROWS: usize = 15;
+pub const MOST_ROWS: usize = MOST_SATELLITES;
 
 /// The free arcs before an arc, where those before another one were counted. The arcs of a pair's rows rise, so few are left
 /// to count.

@@ -8,6 +8,7 @@ ghost use Rattle.obs_rows.specs.Signals.{weight};
 ghost use Rattle.obs_rows.specs.Integers.{integer_count, integer_place};
 ghost use Rattle.obs_rows.specs.SumOfSquares.{share};
 ghost use Rattle.obs_rows.specs.SignalGroups.{signal_row, signal_group};
+ghost use Rattle.obs_rows.specs.declared.limits.TheConstants.{MOST_PAIRS};
 ghost use Rattle.normal_sum.specs.Columns.{AreColumnsOf};
 ghost use Rattle.normal_sum.specs.Places.{ArePlaces};
 
@@ -152,7 +153,7 @@ fn add_rows(
     requires signal { signal < SIGNALS }
     requires places { (k : ℕ) → IfSome (slice_index_or places.now k None) (λ i. i < integers) }
     requires few { integers ≤ MOST_INTEGERS }
-    requires entry_size { (i j : ℕ) → i ≤ j → BASELINE_COLUMNS ≤ j → j < MOST_COLUMNS → unsigned_abs (entry table.old i j) ≤ 3600 * 2 ^ 108 }
+    requires entry_size { (i j : ℕ) → i ≤ j → BASELINE_COLUMNS ≤ j → j < MOST_COLUMNS → unsigned_abs (entry table.old i j) ≤ MOST_PAIRS * 2 ^ 108 }
     ensures products { (arcs : List Arc) (ss : List ℕ) → ArePlaces arcs ss signal rows.now places.now → integers ≡ integer_count arcs ss →
         (i j : ℕ) → i ≤ j → BASELINE_COLUMNS ≤ j → j < MOST_COLUMNS → entry table.new i j ≡ entry table.old i j +ℤ ((pos 360360 *ℤ weight signal) *ℤ product_sum (map (signal_row arcs ss signal) rows.now) i j) }
     ensures sums { (arcs : List Arc) (ss : List ℕ) → ArePlaces arcs ss signal rows.now places.now → integers ≡ integer_count arcs ss →
@@ -189,7 +190,7 @@ pub(crate) fn add_signal(
     requires signal { signal < SIGNALS }
     requires places { (k : ℕ) → IfSome (slice_index_or places.now k None) (λ i. i < integers) }
     requires few { integers ≤ MOST_INTEGERS }
-    requires entry_size { (i j : ℕ) → i ≤ j → BASELINE_COLUMNS ≤ j → j < MOST_COLUMNS → unsigned_abs (entry table.old i j) ≤ 3600 * 2 ^ 108 }
+    requires entry_size { (i j : ℕ) → i ≤ j → BASELINE_COLUMNS ≤ j → j < MOST_COLUMNS → unsigned_abs (entry table.old i j) ≤ MOST_PAIRS * 2 ^ 108 }
     ensures added { (arcs : List Arc) (ss : List ℕ) → ArePlaces arcs ss signal pair.now.rows places.now → integers ≡ integer_count arcs ss →
         (i j : ℕ) → i ≤ j → BASELINE_COLUMNS ≤ j → j < MOST_COLUMNS → entry table.new i j ≡ entry table.old i j +ℤ group_entry (signal_group arcs ss pair.now signal) i j }
     ensures size { (i j : ℕ) → i ≤ j → BASELINE_COLUMNS ≤ j → j < MOST_COLUMNS → unsigned_abs (entry table.new i j) ≤ unsigned_abs (entry table.old i j) + 2 ^ 105 }

@@ -3,6 +3,7 @@ ghost use Rattle.std.specs.Prelude.{◌∷◌, [], ◌≤◌, length, All};
 ghost use Rattle.obs_rows.specs.Arcs.{free_count};
 ghost use Rattle.obs_rows.specs.Pairs.{HasItsArcs};
 ghost use Rattle.obs_rows.specs.Signals.{AreCounted, counted};
+ghost use Rattle.obs_rows.specs.declared.limits.TheConstants.{MOST_PAIRS};
 ghost use Rattle.normal_sum.specs.Normals.{IsNormalOf};
 ghost use Rattle.normal_sum.specs.Values.{IsSumAtCentres, StaysBelow};
 
@@ -19,7 +20,7 @@ fn sum_pairs(arcs: &[Arc], signals: &[usize], pairs: &[PairRows]) -> Normal
     requires arcs { All (HasItsArcs arcs.now) pairs.now }
     requires counted { AreCounted signals.now }
     requires free { free_count arcs.now ≤ MOST_FREE_ARCS }
-    requires few { length pairs.now ≤ 3600 }
+    requires few { length pairs.now ≤ MOST_PAIRS }
     ensures { IsNormalOf arcs.now signals.now pairs.now result }
 {
     let integers = integer_count(arcs, signals);

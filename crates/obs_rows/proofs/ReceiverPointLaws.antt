@@ -8,6 +8,7 @@ use Rattle.whole_math.proofs.Order.{square_nn, lins}
 use Rattle.whole_math.proofs.Words.{as_w64}
 use Rattle.obs_rows.specs.Ranges.{IsPoint}
 use Rattle.obs_rows.specs.ReceiverPoints.{IsReceiverPoint}
+use Rattle.obs_rows.specs.declared.limits.TheConstants.{MOST_COORDINATE, MOST_DISTANCE}
 
 -- a number whose square is at most that of m is at most m in size
 square_root : (m n : ℕ) → n * n ≤ m * m → n ≤ m
@@ -39,7 +40,7 @@ square_in (x ∷ s) (suc k) d h = more (get_or s k d *ℤ get_or s k d) (squared
 
 -- no coordinate of a receiver's point is farther from 0 than the point from the Earth's centre
 pub receiver_is_point : (p : List ℤ) → IsReceiverPoint p → IsPoint p
-receiver_is_point p h k d inside = size_of_square (get_or p k d) 70000000000 (trans (get_or p k d *ℤ get_or p k d) (squared_norm p) (pos (70000000000 * 70000000000)) (square_in p k d inside) h.1)
+receiver_is_point p h k d inside = size_of_square (get_or p k d) MOST_COORDINATE (trans (get_or p k d *ℤ get_or p k d) (squared_norm p) (pos (MOST_DISTANCE * MOST_DISTANCE)) (square_in p k d inside) h.1)
   where
     trans : (a b c : ℤ) → a ≤ℤ b → b ≤ℤ c → a ≤ℤ c
     trans a b c h g = omega (arith, lins)
@@ -49,7 +50,7 @@ pub three_words : (a b c : ℤ) → pos 0 ≤ℤ a → a ≤ℤ pos (2 ^ 80) →
     to_z w128 (of_z w128 (to_z w128 (of_z w128 a) +ℤ to_z w128 (of_z w128 (to_z w128 (of_z w128 b) +ℤ to_z w128 (of_z w128 c))))) ≡ a +ℤ (b +ℤ (c +ℤ pos 0))
 three_words a b c h₁ h₂ h₃ h₄ h₅ h₆ = omega (arith, ints)
 
-pub plain : (x : ℤ) → unsigned_abs x ≤ 70000000000 → to_z w64 (of_z w64 x) ≡ x
+pub plain : (x : ℤ) → unsigned_abs x ≤ MOST_COORDINATE → to_z w64 (of_z w64 x) ≡ x
 plain x small = as_w64 x (omega (arith, small))
 
 -- the norm by its three coordinates

@@ -1,9 +1,10 @@
 //! What the constants are. Definitions cite them by their names, so a slip in one would change a body and its meaning
 //! together, and no other contract would see it.
-ghost use Rattle.std.specs.Prelude.{◌≡◌, [], ◌∷◌, pos, ◌*◌, ◌*ℤ◌, codes};
+ghost use Rattle.std.specs.Prelude.{◌≡◌, [], ◌∷◌, pos, ◌*◌, ◌*ℤ◌, ◌+◌, codes};
 ghost use Rattle.form_tables.specs.declared.sizes.TheConstants.{MOST_INTEGERS};
 ghost use Rattle.obs_rows.specs.Signals.{wavelength};
 ghost use Rattle.obs_rows.specs.declared.bands.TheConstants.{L1_LETTERS, L2_LETTERS, L5_LETTERS};
+ghost use Rattle.obs_rows.specs.declared.limits.TheConstants.{MOST_PAIRS, LAST_PAIR, MOST_SATELLITES, MOST_KEPT_ARCS, MOST_RATIO, MOST_BUDGET, MOST_COORDINATE, LEAST_DISTANCE, MOST_DISTANCE};
 ghost use Rattle.obs_rows.specs.declared.units.TheConstants.{SIGNALS, PHASES, BANDS, WAVELENGTHS, WEIGHTS};
 ghost use Rattle.obs_rows.specs.declared.units.TheConstants.{SIGNALS_12, SIGNALS_15, SIGNALS_125, BANDS_12, BANDS_15, BANDS_125, COARSE_SIGNALS, COARSE_SCALE};
 ghost use Rattle.obs_rows.specs.declared.units.TheConstants.{UNIT_FREQUENCY, LIGHT_SPEED, ROW_EXPONENT, DIRECTION_EXPONENT, MOVE_EXPONENT, MOST_FREE_ARCS};
@@ -50,4 +51,22 @@ pub fn sizes_law()
     ensures free_arcs { MOST_FREE_ARCS ≡ 20 }
     // one for each free arc and phase
     ensures integers { MOST_INTEGERS ≡ PHASES * MOST_FREE_ARCS }
+{}
+
+/// The greatest numbers that a session, a run and a certificate may have.
+pub fn limits_law()
+    ensures pairs { MOST_PAIRS ≡ 3600 }
+    // the first has the number 0
+    ensures last_pair { MOST_PAIRS ≡ LAST_PAIR + 1 }
+    ensures satellites { MOST_SATELLITES ≡ 15 }
+    // one for each satellite of each pair
+    ensures kept_arcs { MOST_KEPT_ARCS ≡ MOST_SATELLITES * MOST_PAIRS }
+    // 100, in thousandths
+    ensures ratio { MOST_RATIO ≡ 100_000 }
+    ensures budget { MOST_BUDGET ≡ 100_000_000 }
+    // 7,000 km in 0.1 mm
+    ensures coordinate { MOST_COORDINATE ≡ 70_000_000_000 }
+    // 6,000 km and 7,000 km
+    ensures nearest { LEAST_DISTANCE ≡ 60_000_000_000 }
+    ensures farthest { MOST_DISTANCE ≡ 70_000_000_000 }
 {}

@@ -22,6 +22,7 @@ mod bands;
 mod constants;
 mod items;
 mod laws;
+mod limits;
 mod pair_builder;
 mod pair_rows;
 mod places;
@@ -40,13 +41,17 @@ pub use band_sets::{
     phase_of,
 };
 pub use bands::{L1_LETTERS, L2_LETTERS, L5_LETTERS, Signals};
-pub use constants::{letters_law, signals_law, sizes_law};
+pub use constants::{letters_law, limits_law, signals_law, sizes_law};
 pub use form_tables::{
     FactorTable, FormTable, FrontTable, MOST_COLUMNS, MOST_FACTORS, MOST_FORM_COLUMNS,
     MOST_INTEGERS, MapTable, NormalTable,
 };
 pub use items::Items;
 pub use laws::{best_law, bound_law, centres_law, groups_law};
+pub use limits::{
+    LAST_PAIR, LEAST_DISTANCE, MOST_BUDGET, MOST_COORDINATE, MOST_DISTANCE, MOST_KEPT_ARCS,
+    MOST_PAIRS, MOST_RATIO, MOST_SATELLITES,
+};
 pub use pair_builder::PairBuilder;
 pub use pair_rows::{PairList, PairRows};
 pub use places::{

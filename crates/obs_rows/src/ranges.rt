@@ -3,7 +3,7 @@ ghost use Rattle.std.specs.Prelude.{◌↔◌, All, IsTrue};
 ghost use Rattle.obs_rows.specs.Ranges.{IsWithin, IsRadius, IsSystem, IsPoint};
 ghost use Rattle.obs_rows.specs.Arcs.{IsArcInRange, AreArcs};
 
-use crate::{Arc, MOST_FREE_ARCS, free_arcs};
+use crate::{Arc, MOST_COORDINATE, MOST_FREE_ARCS, MOST_PAIRS, free_arcs};
 
 /// Whether each number is at most so great in size.
 pub fn are_within(numbers: &[i64], most: u64) -> bool
@@ -37,7 +37,7 @@ pub fn is_system(system: u8) -> bool
 pub fn is_point(point: &[i64; 3]) -> bool
     ensures { IsTrue result ↔ IsPoint point.now }
 {
-    are_within(point, 70_000_000_000)
+    are_within(point, MOST_COORDINATE)
 }
 
 /// Whether an arc's numbers are in range. The call serves tests alone.
@@ -45,7 +45,7 @@ pub fn is_arc_in_range(arc: &Arc) -> bool
     ensures { IsTrue result ↔ IsArcInRange arc.now }
 {
     let shifts = arc.shift.iter().all(|n| n.unsigned_abs() < 1 << 40);
-    1 <= arc.sat && arc.sat <= 36 && arc.first <= arc.last && arc.last < 3600 && shifts
+    1 <= arc.sat && arc.sat <= 36 && arc.first <= arc.last && arc.last < MOST_PAIRS && shifts
 }
 
 /// Whether these are the arcs of a session: 2 to 200, of which 1 to 20 are free, with their numbers in range. The

@@ -1,19 +1,20 @@
 //! Where a receiver may be.
-ghost use Rattle.std.specs.Prelude.{◌≡◌, ◌↔◌, ◌^◌, ◌≤◌, pos, ◌*ℤ◌, ◌≤ℤ◌, unsigned_abs, IsTrue};
+ghost use Rattle.std.specs.Prelude.{◌≡◌, ◌↔◌, ◌*◌, ◌^◌, ◌≤◌, pos, ◌*ℤ◌, ◌≤ℤ◌, unsigned_abs, IsTrue};
 ghost use Rattle.whole_math.specs.Vectors.{squared_norm};
 ghost use Rattle.obs_rows.specs.Ranges.{IsPoint};
 ghost use Rattle.obs_rows.specs.ReceiverPoints.{IsReceiverPoint};
+ghost use Rattle.obs_rows.specs.declared.limits.TheConstants.{MOST_COORDINATE};
 
-use crate::is_point;
+use crate::{LEAST_DISTANCE, MOST_DISTANCE, is_point};
 
-/// A receiver is at most 7,000 km from the Earth's centre, in units of 0.1 mm.
-const FARTHEST_SQUARED: i128 = 4_900_000_000_000_000_000_000;
+// The square of a receiver's greatest distance from the Earth's centre.
+const FARTHEST_SQUARED: i128 = MOST_DISTANCE as i128 * MOST_DISTANCE as i128;
 
-/// It is at least 6,000 km from there.
-const NEAREST_SQUARED: i128 = 3_600_000_000_000_000_000_000;
+// That of the least.
+const NEAREST_SQUARED: i128 = LEAST_DISTANCE as i128 * LEAST_DISTANCE as i128;
 
 fn square(n: i64) -> i128
-    requires { unsigned_abs n ≤ 70_000_000_000 }
+    requires { unsigned_abs n ≤ MOST_COORDINATE }
     ensures value { result ≡ n *ℤ n }
     ensures from { pos 0 ≤ℤ result }
     ensures to { result ≤ℤ pos (2 ^ 80) }
@@ -30,7 +31,7 @@ fn squared(point: &[i64; 3]) -> i128
 }
 
 fn is_at_distance(squared: i128) -> bool
-    ensures { IsTrue result ↔ ((pos 3_600_000_000_000_000_000_000 ≤ℤ squared) × (squared ≤ℤ pos 4_900_000_000_000_000_000_000)) }
+    ensures { IsTrue result ↔ ((pos (LEAST_DISTANCE * LEAST_DISTANCE) ≤ℤ squared) × (squared ≤ℤ pos (MOST_DISTANCE * MOST_DISTANCE))) }
 {
     NEAREST_SQUARED <= squared && squared <= FARTHEST_SQUARED
 }

@@ -23,7 +23,7 @@ pub const SIGNALS_12: [usize; 4] = [0, 1, 2, 3];
 pub const SIGNALS_15: [usize; 4] = [0, 2, 4, 5];
 
 /// Those of all three bands.
-pub const SIGNALS_125: [usize; 6] = [0, 1, 2, 3, 4, 5];
+pub const SIGNALS_125: [usize; SIGNALS] = [0, 1, 2, 3, 4, 5];
 
 /// The bands of the phases among those of L1 and L2: the places of their shifts.
 pub const BANDS_12: [usize; 2] = [0, 1];

@@ -4,6 +4,7 @@ use Rattle.std.specs.Int.{w64}
 use Rattle.std.proofs.lemmas.Int.{ints}
 use Rattle.whole_math.proofs.Words.{as_w64}
 use Rattle.obs_rows.specs.Ranges.{IsBelow, IsWithin}
+use Rattle.obs_rows.specs.declared.limits.TheConstants.{MOST_COORDINATE}
 use Rattle.outcome_report.specs.Baselines.{in_tenths, from_base}
 
 -- a text that was written after another
@@ -15,7 +16,7 @@ pub sum_in_words : (a b : ℤ) → unsigned_abs a ≤ 140_000_000_000 → unsign
 sum_in_words a b small less = rw (as_w64 a (omega (arith, small)), as_w64 b (omega (arith, less))) (as_w64 (a +ℤ b) (omega (arith, ints, small, less)))
 
 -- how far a coordinate lies from the base's, of numbers in words
-pub from_base_in_words : (p b m a t : ℤ) → IsWithin 70_000_000_000 p → IsWithin 70_000_000_000 b → IsBelow (2 ^ 46) m
+pub from_base_in_words : (p b m a t : ℤ) → IsWithin MOST_COORDINATE p → IsWithin MOST_COORDINATE b → IsBelow (2 ^ 46) m
     → a ≡ to_z w64 (of_z w64 p) -ℤ to_z w64 (of_z w64 b) → t ≡ in_tenths (to_z w64 (of_z w64 m))
     → unsigned_abs a ≤ 140_000_000_000 → unsigned_abs t < 2 ^ 44 → to_z w64 (of_z w64 (to_z w64 (of_z w64 a) +ℤ to_z w64 (of_z w64 t))) ≡ from_base p b m
 from_base_in_words p b m a t p_in b_in m_in ea et small less =

@@ -1,6 +1,7 @@
 //! The baseline of a fix.
 ghost use Rattle.std.specs.Prelude.{◌≡◌, ◌^◌, ◌<◌, ◌≤◌, ◌-ℤ◌, ◌++◌, unsigned_abs, All, OnOk};
 ghost use Rattle.obs_rows.specs.Ranges.{IsPoint, IsBelow, IsWithin};
+ghost use Rattle.obs_rows.specs.declared.limits.TheConstants.{MOST_COORDINATE};
 ghost use Rattle.outcome_report.specs.Baselines.{in_tenths, from_base, baseline_of, metres_behind_blanks, place_line};
 
 use cert_data::MOVE_DIVISOR;
@@ -19,8 +20,8 @@ fn in_tenths(number: i64) -> i64
 }
 
 fn apart(point: i64, base: i64) -> i64
-    requires point { IsWithin 70_000_000_000 point }
-    requires base { IsWithin 70_000_000_000 base }
+    requires point { IsWithin MOST_COORDINATE point }
+    requires base { IsWithin MOST_COORDINATE base }
     ensures value { result ≡ point -ℤ base }
     ensures size { unsigned_abs result ≤ 140_000_000_000 }
 {
@@ -29,8 +30,8 @@ fn apart(point: i64, base: i64) -> i64
 
 // How far a coordinate of the moved point lies from the base's.
 fn from_base(point: i64, base: i64, number: i64) -> i64
-    requires point { IsWithin 70_000_000_000 point }
-    requires base { IsWithin 70_000_000_000 base }
+    requires point { IsWithin MOST_COORDINATE point }
+    requires base { IsWithin MOST_COORDINATE base }
     requires number { IsBelow (2 ^ 46) number }
     ensures { result ≡ from_base point base number }
 {

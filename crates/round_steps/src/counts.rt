@@ -1,6 +1,7 @@
 //! Whether there are arcs enough, and few enough.
 ghost use Rattle.std.specs.Prelude.{◌≡◌, ◌≤◌, ◌↔◌, IsTrue, length};
 ghost use Rattle.obs_rows.specs.Arcs.{free_count};
+ghost use Rattle.obs_rows.specs.declared.limits.TheConstants.{MOST_KEPT_ARCS};
 ghost use Rattle.round_steps.specs.Counts.{held, AreFew, AreMany};
 
 use obs_rows::{Arc, MOST_FREE_ARCS, free_arcs};
@@ -34,7 +35,7 @@ pub fn are_few(pairs: u32, arcs: &[Arc]) -> bool
 
 /// How many of the arcs are free.
 pub fn free_count(arcs: &[Arc]) -> u32
-    requires { length arcs.now ≤ 54_000 }
+    requires { length arcs.now ≤ MOST_KEPT_ARCS }
     ensures { result ≡ free_count arcs.now }
 {
     free_arcs(arcs) as u32

@@ -3,6 +3,7 @@ ghost use Rattle.std.specs.Prelude.{◌≡◌, ℕ, ◌*◌, ◌^◌, ◌<◌, �
 ghost use Rattle.whole_math.specs.Rounding.{nearest_div};
 ghost use Rattle.obs_rows.specs.Ranges.{IsScale, IsPoint, IsBelow, IsWithin};
 ghost use Rattle.obs_rows.specs.declared.units.TheConstants.{LIGHT_SPEED, COARSE_SCALE};
+ghost use Rattle.obs_rows.specs.declared.limits.TheConstants.{MOST_COORDINATE};
 ghost use Rattle.integer_form.specs.FloatPoint.{item};
 ghost use Rattle.cert_data.specs.Moves.{parts};
 ghost use Rattle.round_steps.specs.Points.{moved_coordinate, moved_point};
@@ -48,7 +49,7 @@ fn in_point_units(scale: u32, number: i64) -> i64
 /// A coordinate in 0.1 mm, moved by a number of a baseline.
 fn moved_coordinate(scale: u32, coordinate: i64, number: i64) -> i64
     requires scale { IsScale scale }
-    requires coordinate { IsWithin 70_000_000_000 coordinate }
+    requires coordinate { IsWithin MOST_COORDINATE coordinate }
     requires number { IsBelow (2 ^ 46) number }
     ensures value { result ≡ moved_coordinate scale coordinate number }
     ensures size { unsigned_abs result < 2 ^ 60 }

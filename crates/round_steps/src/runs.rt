@@ -6,6 +6,7 @@ ghost use Rattle.obs_rows.specs.Signals.{fine_signals};
 ghost use Rattle.obs_rows.specs.Unused.{HasUsedShifts};
 ghost use Rattle.obs_rows.specs.declared.units.TheConstants.{COARSE_SCALE, MOST_FREE_ARCS};
 ghost use Rattle.obs_rows.specs.ReceiverPoints.{IsReceiverPoint};
+ghost use Rattle.obs_rows.specs.declared.limits.TheConstants.{MOST_RATIO};
 ghost use Rattle.round_steps.specs.Shifts.{AreSameArcs, AreShiftsBelow};
 ghost use Rattle.round_steps.specs.Runs.{Rules, StayTheSame, IsSessionAt, SettlesAt, IsCoarseEnd, IsEnd, FitsEnd, IsBestEnd, round_at, most_rounds, coarse_sessions, sessions_of};
 
@@ -143,7 +144,7 @@ fn fine_rounds<R: Rounds>(
     requires few { length (R.rules rounds.old).arcs ≤ 200 }
     requires free { free_count (R.rules rounds.old).arcs ≤ MOST_FREE_ARCS }
     requires ratio_from { 1000 ≤ ratio }
-    requires ratio_to { ratio ≤ 100_000 }
+    requires ratio_to { ratio ≤ MOST_RATIO }
     ensures end { IfOk result (IsEnd (R.rules rounds.old) ratio budget) }
     ensures made { IfOk result (λ end. R.made rounds.new ≡ sessions_of end) }
     ensures fits { IfOk result (FitsEnd budget) }
@@ -215,7 +216,7 @@ pub fn run<R: Rounds>(
     requires few { length arcs.now ≤ 200 }
     requires free { free_count arcs.now ≤ MOST_FREE_ARCS }
     requires ratio_from { 1000 ≤ ratio }
-    requires ratio_to { ratio ≤ 100_000 }
+    requires ratio_to { ratio ≤ MOST_RATIO }
     ensures end { IfOk result (IsEnd (R.rules rounds.old) ratio budget) }
     ensures made { IfOk result (λ end. R.made rounds.new ≡ sessions_of end) }
     ensures fits { IfOk result (FitsEnd budget) }

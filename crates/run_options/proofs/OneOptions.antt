@@ -4,13 +4,14 @@ use Rattle.std.proofs.Math.Bridge.{le_prop}
 use Rattle.std.proofs.Math.Bool.{Bool-set}
 use Rattle.obs_rows.specs.BandSets.{IsBandsNumber}
 use Rattle.obs_rows.specs.Ranges.{IsSystem}
+use Rattle.obs_rows.specs.declared.limits.TheConstants.{MOST_PAIRS, MOST_RATIO, MOST_BUDGET}
 use Rattle.run_options.specs.declared.options.Options.{Options}
 use Rattle.run_options.specs.Defaults.{Numbers, numbers_of}
 
 abbrev AreInRange : Numbers → Type 0
 AreInRange n = (IsBandsNumber n.bands) × ((IsSystem n.system) × ((1000 ≤ n.ratio)
-    × ((n.ratio ≤ 100_000) × ((1 ≤ n.budget) × ((n.budget ≤ 100_000_000) × ((n.mask ≤ 900) × ((n.gap ≤ 5_000_000) × ((1 ≤ n.jump) × ((n.jump ≤ 1000)
-    × ((2 ≤ n.arc) × ((n.arc ≤ 3600) × ((1 ≤ n.step) × ((n.step ≤ 1000) × ((n.first ≤ 19_999) × ((1 ≤ n.count) × (n.count ≤ 3600))))))))))))))))
+    × ((n.ratio ≤ MOST_RATIO) × ((1 ≤ n.budget) × ((n.budget ≤ MOST_BUDGET) × ((n.mask ≤ 900) × ((n.gap ≤ 5_000_000) × ((1 ≤ n.jump) × ((n.jump ≤ 1000)
+    × ((2 ≤ n.arc) × ((n.arc ≤ MOST_PAIRS) × ((1 ≤ n.step) × ((n.step ≤ 1000) × ((n.first ≤ 19_999) × ((1 ≤ n.count) × (n.count ≤ MOST_PAIRS))))))))))))))))
 
 abbrev made : (n : Numbers) → AreInRange n → Options
 made n r =

@@ -1,6 +1,7 @@
 //! What the constants are: a definition that cites one by name means these numbers.
 ghost use Rattle.std.specs.Prelude.{◌≡◌};
 ghost use Rattle.obs_rows.specs.declared.band_sets.TheConstants.{BANDS_L1_L2, BANDS_L1_L5};
+ghost use Rattle.obs_rows.specs.declared.limits.TheConstants.{MOST_PAIRS};
 ghost use Rattle.run_options.specs.Defaults.{default_bands};
 ghost use Rattle.run_options.specs.declared.options.TheConstants.{GPS, GALILEO};
 ghost use Rattle.run_options.specs.declared.defaults.TheConstants.{DEFAULT_SYSTEM, DEFAULT_RATIO, DEFAULT_BUDGET, DEFAULT_MASK, DEFAULT_GAP, DEFAULT_JUMP, DEFAULT_ARC, DEFAULT_STEP, DEFAULT_FIRST, DEFAULT_COUNT};
@@ -21,5 +22,5 @@ pub fn defaults_law()
     ensures arc { DEFAULT_ARC ≡ 5 }
     ensures step { DEFAULT_STEP ≡ 1 }
     ensures first { DEFAULT_FIRST ≡ 0 }
-    ensures count { DEFAULT_COUNT ≡ 3600 }
+    ensures count { DEFAULT_COUNT ≡ MOST_PAIRS }
 {}

@@ -3,7 +3,7 @@ ghost use Rattle.std.specs.Prelude.{◌≡◌};
 ghost use Rattle.run_options.specs.Defaults.{default_bands};
 
 use crate::{GALILEO, GPS};
-use obs_rows::{BANDS_L1_L2, BANDS_L1_L5};
+use obs_rows::{BANDS_L1_L2, BANDS_L1_L5, MOST_PAIRS};
 
 /// The satellite system, by its letter.
 pub const DEFAULT_SYSTEM: u8 = GPS;
@@ -44,4 +44,4 @@ pub const DEFAULT_STEP: u32 = 1;
 pub const DEFAULT_FIRST: u32 = 0;
 
 /// and at most this many.
-pub const DEFAULT_COUNT: u32 = 3_600;
+pub const DEFAULT_COUNT: u32 = MOST_PAIRS;

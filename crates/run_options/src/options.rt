@@ -2,6 +2,7 @@
 ghost use Rattle.std.specs.Prelude.{◌≤◌};
 ghost use Rattle.obs_rows.specs.BandSets.{IsBandsNumber};
 ghost use Rattle.obs_rows.specs.Ranges.{IsSystem};
+ghost use Rattle.obs_rows.specs.declared.limits.TheConstants.{MOST_PAIRS, MOST_RATIO, MOST_BUDGET};
 
 /// The letter of GPS.
 pub const GPS: u8 = b'G';
@@ -37,18 +38,18 @@ pub struct Options {
     pub ghost on_bands: { IsBandsNumber bands },
     pub ghost of_system: { IsSystem system },
     pub ghost ratio_from: { 1000 ≤ ratio },
-    pub ghost ratio_to: { ratio ≤ 100_000 },
+    pub ghost ratio_to: { ratio ≤ MOST_RATIO },
     pub ghost budget_from: { 1 ≤ budget },
-    pub ghost budget_to: { budget ≤ 100_000_000 },
+    pub ghost budget_to: { budget ≤ MOST_BUDGET },
     pub ghost mask_to: { mask ≤ 900 },
     pub ghost gap_to: { gap ≤ 5_000_000 },
     pub ghost jump_from: { 1 ≤ jump },
     pub ghost jump_to: { jump ≤ 1000 },
     pub ghost arc_from: { 2 ≤ arc },
-    pub ghost arc_to: { arc ≤ 3600 },
+    pub ghost arc_to: { arc ≤ MOST_PAIRS },
     pub ghost step_from: { 1 ≤ step },
     pub ghost step_to: { step ≤ 1000 },
     pub ghost first_to: { first ≤ 19_999 },
     pub ghost count_from: { 1 ≤ count },
-    pub ghost count_to: { count ≤ 3600 },
+    pub ghost count_to: { count ≤ MOST_PAIRS },
 }

@@ -8,6 +8,7 @@ use Rattle.std.proofs.lemmas.List.Quantifiers.{all_pairs_push}
 use Rattle.obs_store.specs.declared.series.Epoch.{Epoch}
 use Rattle.obs_rows.specs.UsedSats.{IsSmall}
 use Rattle.obs_rows.specs.declared.used.UsedSat.{UsedSat}
+use Rattle.obs_rows.specs.declared.limits.TheConstants.{MOST_SATELLITES}
 use Rattle.screening.specs.declared.sv_pair.SvPair.{SvPair}
 use Rattle.screening.specs.Observed.{phases_of}
 use Rattle.screening.specs.Marks.{Passed, lost_lock}
@@ -16,7 +17,7 @@ use Rattle.screening.specs.Screening.{IsUsedSat, AreUsedSats, IsEntry, IsEntryAt
 use Rattle.screening.specs.Gathering.{IsPassedOver, IsAdded, AreGathered}
 
 pub added_of : (s : Setting) (base rover : Epoch) (epochs : Passed) (pair sat : ℕ) (sats sats' : List UsedSat) (boxes boxes' : List SvPair) (u : UsedSat) (b : SvPair) (lost : Bool) →
-    IsEntryAt s base rover pair sat b → length sats < 15 → u.sat ≡ b.sat → u.phase ≡ phases_of b.observed → u.lost ≡ lost → lost ≡ lost_lock s.types sat epochs → IsSmall u →
+    IsEntryAt s base rover pair sat b → length sats < MOST_SATELLITES → u.sat ≡ b.sat → u.phase ≡ phases_of b.observed → u.lost ≡ lost → lost ≡ lost_lock s.types sat epochs → IsSmall u →
     sats' ≡ sats ++ u ∷ [] → boxes' ≡ boxes ++ b ∷ [] → IsAdded s base rover epochs pair sat sats sats' boxes boxes'
 added_of s base rover epochs pair sat sats sats' boxes boxes' u b lost at room named phase mark is small more grow =
     let e : IsEntry s base rover b = at.entry in
@@ -64,7 +65,7 @@ below_or_at (suc a) zero h = absurd (omega (arith, h))
 below_or_at (suc a) (suc n) h = ⊎_elim (λ (l : a < n). inl (omega (arith, l))) (λ (e : a ≡ n). inr (ap suc e)) (below_or_at a n (omega (arith, h)))
 
 passed_over : (s : Setting) (base rover : Epoch) (epochs : Passed) (pair n : ℕ) (before : List SvPair) (sats : List UsedSat) (boxes : List SvPair) →
-    (15 ≤ length sats) ⊎ IsLeftOut s base rover n → AreGathered s base rover epochs pair n before sats boxes → AreGathered s base rover epochs pair (n + 1) before sats boxes
+    (MOST_SATELLITES ≤ length sats) ⊎ IsLeftOut s base rover n → AreGathered s base rover epochs pair n before sats boxes → AreGathered s base rover epochs pair (n + 1) before sats boxes
 passed_over s base rover epochs pair n before sats boxes reason g = record {
   few = g.few;
   rising = g.rising;
@@ -79,10 +80,10 @@ passed_over s base rover epochs pair n before sats boxes reason g = record {
   of_pair = g.of_pair;
 }
   where
-    at_n : (sat : ℕ) (seen : Sighting) → sat ≡ n → IsSighting s base rover sat seen → (15 ≤ length sats) ⊎ IsLeftOut s base rover n → MayBeLeftOut s base.tag.0 seen ⊎ AreEnoughBelow sat sats
+    at_n : (sat : ℕ) (seen : Sighting) → sat ≡ n → IsSighting s base rover sat seen → (MOST_SATELLITES ≤ length sats) ⊎ IsLeftOut s base rover n → MayBeLeftOut s base.tag.0 seen ⊎ AreEnoughBelow sat sats
     at_n sat seen here is (inl full) =
         let few = g.few in
-        let whole : length sats ≡ 15 = omega (arith, full, few) in
+        let whole : length sats ≡ MOST_SATELLITES = omega (arith, full, few) in
         inr (whole, λ k d inside. let h = g.below k d inside in omega (arith, h, here))
     at_n sat seen here is (inr out) = inl (out seen (subst (λ (m : ℕ). IsSighting s base rover m seen) here is))
 
@@ -95,7 +96,7 @@ right_false true b h = absurd (true≢false h)
 right_false false b h = h
 
 added_one : (s : Setting) (base rover : Epoch) (epochs : Passed) (pair n : ℕ) (before : List SvPair) (sats : List UsedSat) (boxes : List SvPair) (u : UsedSat) (b : SvPair)
-    → length sats < 15 → u.sat ≡ n →
+    → length sats < MOST_SATELLITES → u.sat ≡ n →
     IsUsedSat s base rover epochs u → IsSmall u → IsEntryAt s base rover pair n b → AreGathered s base rover epochs pair n before sats boxes → AreGathered s base rover epochs pair
     (n + 1) before (sats ++ u ∷ []) (boxes ++ b ∷ [])
 added_one s base rover epochs pair n before sats boxes u b room named used small at g = record {

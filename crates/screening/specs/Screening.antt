@@ -14,6 +14,7 @@ use Rattle.epoch_pair.specs.declared.pairs.PairOf.{PairOf}
 use Rattle.epoch_pair.specs.Pairs.{IsNearPair, Follows}
 use Rattle.obs_rows.specs.declared.used.UsedSat.{UsedSat}
 use Rattle.obs_rows.specs.declared.used.UsedPair.{UsedPair}
+use Rattle.obs_rows.specs.declared.limits.TheConstants.{MOST_PAIRS, MOST_SATELLITES}
 use Rattle.screening.specs.declared.sv_pair.SvPair.{SvPair}
 use Rattle.screening.specs.Amounts.{types_of, differences, phase_differences}
 use Rattle.screening.specs.Marks.{Passed, passed, power_failed, lost_lock}
@@ -40,7 +41,7 @@ setting_of base nav signals mask world = record {
 
 -- the pairs that may be screened: at most 3,600 of epochs that rise in both files, with tags at most half a second apart
 pub record ArePairsOf (base rover : List Epoch) (pairs : List PairOf) : Type 0 where
-  pub few : length pairs ≤ 3600
+  pub few : length pairs ≤ MOST_PAIRS
   pub near : All (IsNearPair 5_000_000 (tags_of base) (tags_of rover)) pairs
   pub rises : AllPairs Follows pairs
 
@@ -57,12 +58,12 @@ is_among sat sats = list_any (λ u. u.sat == sat) sats
 
 -- fifteen satellites of lower numbers are used
 abbrev pub AreEnoughBelow : ℕ → List UsedSat → Type 0
-AreEnoughBelow sat sats = (length sats ≡ 15) × All (λ u. u.sat < sat) sats
+AreEnoughBelow sat sats = (length sats ≡ MOST_SATELLITES) × All (λ u. u.sat < sat) sats
 
 -- the used satellites of a pair, in rising number: of those that it sees and that the mask keeps the fifteen of lowest numbers.
 -- One that it sees is missing only where the mask may leave it out, or after fifteen others
 pub record AreUsedSats (setting : Setting) (base rover : Epoch) (epochs : Passed) (sats : List UsedSat) : Type 0 where
-  pub few : length sats ≤ 15
+  pub few : length sats ≤ MOST_SATELLITES
   pub rising : AllPairs (λ u v. u.sat < v.sat) sats
   pub each : All (IsUsedSat setting base rover epochs) sats
   pub others : (sat : ℕ) (g : Sighting) → IsSighting setting base rover sat g → is_among sat sats ≡ false → MayBeLeftOut setting base.tag.0 g ⊎ AreEnoughBelow sat sats

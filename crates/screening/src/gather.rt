@@ -14,11 +14,9 @@ use crate::records::RecordTable;
 use crate::rules::Rules;
 use crate::sights::entry_of;
 use crate::{SvPair, SvPairList, UsedPair, UsedSat};
+use obs_rows::MOST_SATELLITES;
 use obs_store::Epoch;
 use std::alloc::{AllocError, Global};
-
-/// How many satellites a pair uses at most.
-const MOST_SATS: usize = 15;
 
 /// A pair's two epochs, and the epochs of both files up to it.
 #[derive(Clone, Copy)]
@@ -72,7 +70,7 @@ fn add_sat(
         ⊎ IsAdded (setting_with rules.now table.now) at.now.base.now at.now.rover.now (record { base = at.now.base_passed.now; rover = at.now.rover_passed.now })
         at.now.number number sats.old.items sats.new.items boxes.old boxes.new) }
 {
-    if sats.len() >= MOST_SATS {
+    if sats.len() >= MOST_SATELLITES {
         return Ok(());
     }
     let Some(entry) = entry_of(rules, table, at.base, at.rover, at.number, number) else {

@@ -8,6 +8,7 @@ use Rattle.std.proofs.lemmas.Option.{slice_get-get_or}
 use Rattle.obs_rows.specs.declared.arcs.Arc.{Arc}
 use Rattle.obs_rows.specs.declared.used.UsedPair.{UsedPair}
 use Rattle.obs_rows.specs.UsedSats.{IsInRange}
+use Rattle.obs_rows.specs.declared.limits.TheConstants.{MOST_PAIRS, MOST_KEPT_ARCS, MOST_SATELLITES}
 use Rattle.slip_arcs.specs.Linked.{IsCutOf}
 use Rattle.slip_arcs.proofs.Kept.{kept_each}
 use Rattle.screening.specs.Entries.{AreNumbered}
@@ -74,18 +75,18 @@ all_begin (a ∷ arcs) n h =
     one : (f n : ℕ) → f < n → one_if (nat_lt f n) ≡ 1
     one f n h = grind (arith, nat_tests)
 
-few_begin : (used : List UsedPair) (kept : List Arc) (n : ℕ) → IsCutOf used kept → All IsInRange used → All IsOrdered kept → n ≤ length used → count_by (begins_before n) kept ≤ 15 * n
+few_begin : (used : List UsedPair) (kept : List Arc) (n : ℕ) → IsCutOf used kept → All IsInRange used → All IsOrdered kept → n ≤ length used → count_by (begins_before n) kept ≤ MOST_SATELLITES * n
 few_begin used kept zero c r o h = let e : count_by (begins_before 0) kept ≡ 0 = none_begin kept in omega arith
 few_begin used kept (suc n) c r o h =
-    let before : count_by (begins_before n) kept ≤ 15 * n = few_begin used kept n c r o (omega arith) in
-    let held : length (arcs_at kept n) ≤ 15 = held_few used kept n c r (omega arith) in
+    let before : count_by (begins_before n) kept ≤ MOST_SATELLITES * n = few_begin used kept n c r o (omega arith) in
+    let held : length (arcs_at kept n) ≤ MOST_SATELLITES = held_few used kept n c r (omega arith) in
     let more : count_by (begins_before (suc n)) kept ≤ count_by (begins_before n) kept + length (arcs_at kept n) = more_begin kept n 0 o in
     omega arith
 
-pub kept_few : (used : List UsedPair) (kept : List Arc) → IsCutOf used kept → All IsInRange used → All AreNumbered used → length used ≤ 3600 → length kept ≤ 54000
+pub kept_few : (used : List UsedPair) (kept : List Arc) → IsCutOf used kept → All IsInRange used → All AreNumbered used → length used ≤ MOST_PAIRS → length kept ≤ MOST_KEPT_ARCS
 kept_few used kept c r numbered few =
     let ordered : All IsOrdered kept = λ k d i. (kept_each c.bands c.jump c.least used kept c.short k (get_or kept k d) c.kept (slice_get-get_or kept k d i)).0.run.order in
     let inside : All (λ a. a.first < length used) kept = λ k d i. first_inside used kept k (get_or kept k d) c numbered (slice_get-get_or kept k d i) in
     let all : count_by (begins_before (length used)) kept ≡ length kept = all_begin kept (length used) inside in
-    let begun : count_by (begins_before (length used)) kept ≤ 15 * length used = few_begin used kept (length used) c r ordered (omega arith) in
+    let begun : count_by (begins_before (length used)) kept ≤ MOST_SATELLITES * length used = few_begin used kept (length used) c r ordered (omega arith) in
     omega arith

@@ -13,6 +13,7 @@ use Rattle.obs_rows.specs.Unused.{IsZeroOff, HasUsedShifts}
 use Rattle.obs_rows.specs.Arcs.{free_count, IsArcInRange, AreArcs}
 use Rattle.obs_rows.specs.declared.used.UsedSat.{UsedSat}
 use Rattle.obs_rows.specs.declared.used.UsedPair.{UsedPair}
+use Rattle.obs_rows.specs.declared.limits.TheConstants.{MOST_PAIRS}
 use Rattle.slip_arcs.specs.Used.{entry_in, is_used}
 use Rattle.slip_arcs.specs.Runs.{IsArc, run_of}
 use Rattle.slip_arcs.specs.Linked.{AreNeighbours, IsCutOf}
@@ -49,14 +50,14 @@ used_well (p ∷ ps) sat (suc i) h e =
     let l : i < length ps = w.inside in
     record { number = w.number; inside = omega arith }
 
-arc_in_range : (used : List UsedPair) (kept : List Arc) → IsCutOf used kept → length used ≤ 3600 → All AreNumbered used → (k : ℕ) (a : Arc)
+arc_in_range : (used : List UsedPair) (kept : List Arc) → IsCutOf used kept → length used ≤ MOST_PAIRS → All AreNumbered used → (k : ℕ) (a : Arc)
     → slice_get kept k ≡ Some a → All (IsBelow (2 ^ 40)) a.shift → IsArcInRange a
 arc_in_range used kept c few numbered k a is shifts =
     let r : IsArc c.bands c.jump used (run_of a) = (kept_each c.bands c.jump c.least used kept c.short k a c.kept is).0 in
     let w : IsUsedWell used a.sat a.last = used_well used a.sat a.last numbered (r.run.used_in a.last r.run.order (omega arith)) in
     record { sat_from = w.number.0; sat_to = w.number.1; order = r.run.order; last_in = below a.last (length used) w.inside few; shifts_in = shifts }
   where
-    below : (n m : ℕ) → n < m → m ≤ 3600 → n < 3600
+    below : (n m : ℕ) → n < m → m ≤ MOST_PAIRS → n < MOST_PAIRS
     below n m h g = omega arith
 
 -- ---- a pair with four arcs
@@ -141,7 +142,7 @@ neighbours arcs number t =
     record { one = t.second.arc; other = t.first.arc; one_is = t.second.arc_is; other_is = t.first.arc_is; share = (number, p.0, p.1, q.0, q.1) }
 
 -- ---- the arcs of a session
-pub able : (used : List UsedPair) (kept : List Arc) (taken : ℕ) → IsCutOf used kept → length used ≤ 3600 → All AreNumbered used
+pub able : (used : List UsedPair) (kept : List Arc) (taken : ℕ) → IsCutOf used kept → length used ≤ MOST_PAIRS → All AreNumbered used
     → AreShiftsBelow (2 ^ 40) kept → (AreFew taken kept → ⊥) → (AreMany kept → ⊥) → AreArcs kept
 able used kept taken c few numbered shifts not_few not_many =
     let p : (number : ℕ) × (4 ≤ held kept number) = some_pair taken kept not_few in
@@ -172,7 +173,7 @@ in_range_along a b e r s =
       sat_from = subst (λ (n : ℕ). 1 ≤ n) sat r.sat_from;
       sat_to = subst (λ (n : ℕ). n ≤ 36) sat r.sat_to;
       order = subst (λ (n : ℕ). n ≤ b.last) first (subst (λ (n : ℕ). a.first ≤ n) last r.order);
-      last_in = subst (λ (n : ℕ). n < 3600) last r.last_in;
+      last_in = subst (λ (n : ℕ). n < MOST_PAIRS) last r.last_in;
       shifts_in = s;
     }
 

@@ -9,6 +9,7 @@ use Rattle.epoch_pair.specs.declared.pairs.PairOf.{PairOf}
 use Rattle.slip_arcs.specs.Runs.{AreKept}
 use Rattle.slip_arcs.specs.Linked.{HaveDatums}
 use Rattle.obs_rows.specs.BandSets.{bands_of}
+use Rattle.obs_rows.specs.declared.limits.TheConstants.{MOST_KEPT_ARCS}
 use Rattle.sv_orbit.specs.Worlds.{world_of}
 use Rattle.screening.specs.Screening.{setting_of, AreUsedPairs, IsSvPair}
 use Rattle.cert_data.specs.declared.outcomes.Outcome.{Outcome}
@@ -52,6 +53,6 @@ pub record IsOutcome (base rover : ObsFile) (nav : Records) (o : Options) (out :
   pub taken_is : out.taken ≡ length taken
   pub all_is : out.all ≡ length (pairs_of base rover o)
   pub kept_is : out.kept ≡ length rounds.kept
-  pub kept_few : out.kept ≤ 54000
+  pub kept_few : out.kept ≤ MOST_KEPT_ARCS
   pub delta_is : IsTrue out.delta ↔ (HasDelta base ⊎ HasDelta rover)
   pub answer_is : IsAnswer (rules_of rounds.screened.boxes (length rounds.screened.used) rounds.kept rounds.position rounds.signals rounds.system) out.taken o out.rounds out.answer

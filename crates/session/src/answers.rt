@@ -3,6 +3,7 @@ ghost use Rattle.std.specs.Prelude.{◌≡◌, ◌+◌, ◌≤◌, ◌^◌, leng
 ghost use Rattle.obs_rows.specs.Signals.{fine_signals};
 ghost use Rattle.obs_rows.specs.Unused.{HasUsedShifts};
 ghost use Rattle.obs_rows.specs.ReceiverPoints.{IsReceiverPoint};
+ghost use Rattle.obs_rows.specs.declared.limits.TheConstants.{MOST_KEPT_ARCS};
 ghost use Rattle.round_steps.specs.Shifts.{AreShiftsBelow};
 ghost use Rattle.session.specs.Answers.{GoesOn, IsAnswer, IsBestAnswer};
 
@@ -38,7 +39,7 @@ pub fn answer<R: Rounds>(
     requires point { IsReceiverPoint base.now }
     requires shifts { AreShiftsBelow (2 ^ 40) kept.now }
     requires used { All (HasUsedShifts (fine_signals (R.rules rounds.old).signals)) kept.now }
-    requires few { length kept.now ≤ 54_000 }
+    requires few { length kept.now ≤ MOST_KEPT_ARCS }
     ensures answer { IfOk result (λ a. IsAnswer (R.rules rounds.old) taken options.now a.rounds a.answer) }
     ensures made { IfOk result (λ a. R.made rounds.new ≡ a.rounds.coarse + a.rounds.fine) }
     ensures strictly_best { IfOk result (λ a. IsBestAnswer a.answer) }

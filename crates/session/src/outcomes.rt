@@ -3,6 +3,7 @@ ghost use Rattle.std.specs.Prelude.{◌≡◌, ◌+◌, ◌≤◌, ◌^◌, ◌�
 ghost use Rattle.obs_rows.specs.Signals.{fine_signals};
 ghost use Rattle.obs_rows.specs.Unused.{HasUsedShifts};
 ghost use Rattle.obs_rows.specs.ReceiverPoints.{IsReceiverPoint};
+ghost use Rattle.obs_rows.specs.declared.limits.TheConstants.{MOST_PAIRS, MOST_KEPT_ARCS};
 ghost use Rattle.round_steps.specs.Shifts.{AreShiftsBelow};
 ghost use Rattle.session.specs.Answers.{GoesOn, HasDelta, IsAnswer, IsBestAnswer};
 
@@ -43,8 +44,8 @@ pub fn outcome<R: Rounds>(
     requires point { IsReceiverPoint begun.now.position }
     requires shifts { AreShiftsBelow (2 ^ 40) kept.now }
     requires used { All (HasUsedShifts (fine_signals (R.rules rounds.old).signals)) kept.now }
-    requires few { length begun.now.taken.items ≤ 3600 }
-    requires few_arcs { length kept.now ≤ 54_000 }
+    requires few { length begun.now.taken.items ≤ MOST_PAIRS }
+    requires few_arcs { length kept.now ≤ MOST_KEPT_ARCS }
     ensures taken { IfOk result (λ o. o.taken ≡ length begun.now.taken.items) }
     ensures all { IfOk result (λ o. o.all ≡ begun.now.all) }
     ensures kept { IfOk result (λ o. o.kept ≡ length kept.now) }

@@ -7,6 +7,7 @@ ghost use Rattle.row_build.specs.Halves.{AreBaseHalves};
 ghost use Rattle.epoch_pair.specs.Beginnings.{IsPosition, IsSessionFault};
 ghost use Rattle.session.specs.Answers.{AreAllowed, IsBestAnswer};
 ghost use Rattle.session.specs.Outcomes.{AreScreened, IsOutcome};
+ghost use Rattle.obs_rows.specs.declared.limits.TheConstants.{MOST_PAIRS};
 
 use crate::{FileRounds, FileRun, have_delta, outcome};
 use cert_data::Outcome;
@@ -29,7 +30,7 @@ pub fn screened(
     options: &Options,
 ) -> Result<FileRounds, AllocError>
     requires position { IsPosition base.now begun.now.position }
-    requires few { length begun.now.taken.items ≤ 3600 }
+    requires few { length begun.now.taken.items ≤ MOST_PAIRS }
     requires rises { AllPairs Follows begun.now.taken.items }
     requires near { All (IsNearPair options.now.gap (tags_of base.now.epochs) (tags_of rover.now.epochs)) begun.now.taken.items }
     ensures screened { IfOk result (AreScreened base.now rover.now nav.now options.now begun.now.position begun.now.signals begun.now.taken.items) }

@@ -5,8 +5,9 @@ use Rattle.obs_store.specs.Epochs.{tags_of}
 use Rattle.epoch_pair.specs.declared.pairs.PairOf.{PairOf}
 use Rattle.epoch_pair.specs.Pairs.{Follows, IsNearPair}
 use Rattle.screening.specs.Screening.{ArePairsOf}
+use Rattle.obs_rows.specs.declared.limits.TheConstants.{MOST_PAIRS}
 
-pub screened_pairs : (base rover : List Epoch) (gap : ℕ) (taken : List PairOf) → gap ≤ 5000000 → length taken ≤ 3600 → AllPairs Follows taken
+pub screened_pairs : (base rover : List Epoch) (gap : ℕ) (taken : List PairOf) → gap ≤ 5000000 → length taken ≤ MOST_PAIRS → AllPairs Follows taken
     → All (IsNearPair gap (tags_of base) (tags_of rover)) taken → ArePairsOf base rover taken
 screened_pairs base rover gap taken small few rises near = record {
   few = few;

@@ -6,6 +6,7 @@ use mir.Val.{SFits}
 use Rattle.whole_math.proofs.Words.{as_w64}
 use Rattle.obs_rows.specs.ReceiverPoints.{IsReceiverPoint}
 use Rattle.obs_rows.proofs.ReceiverPointLaws.{receiver_is_point}
+use Rattle.obs_rows.specs.declared.limits.TheConstants.{MOST_COORDINATE}
 use Rattle.rational.specs.Rational.{Rational, AreWithin, two_to_minus, of_scale}
 use Rattle.iv_core.specs.declared.Iv.{Iv}
 use Rattle.iv_core.specs.Intervals.{Holds, width_of}
@@ -15,13 +16,13 @@ use Rattle.signal_travel.specs.Grid.{grid, offset, dot3, IsAboveWhole}
 use Rattle.signal_travel.proofs.GridPlaces.{grid_place, grid_near, sides, is_above, decided_place}
 
 -- ---- a coordinate of a point
-pub coordinate : (s : List ℤ) (i : ℕ) → i < length s → IsReceiverPoint s → unsigned_abs (get_or s i (pos 0)) ≤ 70000000000
+pub coordinate : (s : List ℤ) (i : ℕ) → i < length s → IsReceiverPoint s → unsigned_abs (get_or s i (pos 0)) ≤ MOST_COORDINATE
 coordinate s i inside point = receiver_is_point s point i (pos 0) inside
 
-pub plain_coordinate : (z : ℤ) → unsigned_abs z ≤ 70000000000 → to_z w64 (of_z w64 z) ≡ z
+pub plain_coordinate : (z : ℤ) → unsigned_abs z ≤ MOST_COORDINATE → to_z w64 (of_z w64 z) ≡ z
 plain_coordinate z small = as_w64 z (omega (arith, small))
 
-pub cast_size : (z : ℤ) (n : ℕ) → 70000000000 ≤ n → unsigned_abs z ≤ 70000000000 → unsigned_abs (to_z w64 (of_z w64 z)) ≤ n
+pub cast_size : (z : ℤ) (n : ℕ) → MOST_COORDINATE ≤ n → unsigned_abs z ≤ MOST_COORDINATE → unsigned_abs (to_z w64 (of_z w64 z)) ≤ n
 cast_size z n room small = subst (λ (y : ℤ). unsigned_abs y ≤ n) (sym (plain_coordinate z small)) (omega (arith, room, small))
 
 -- ---- the place on the grid is near every place of the boxes

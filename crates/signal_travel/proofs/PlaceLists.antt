@@ -2,6 +2,7 @@
 use Rattle.std.proofs.Common.{◌≡◌, ℕ, ◌<◌, ◌≤◌, lit<, List, [], ◌∷◌, length, get_or, ℤ, pos, unsigned_abs, arith, refl, sym, to_z, of_z}
 use Rattle.std.specs.Int.{w64}
 use Rattle.obs_rows.specs.ReceiverPoints.{IsReceiverPoint}
+use Rattle.obs_rows.specs.declared.limits.TheConstants.{MOST_COORDINATE}
 use Rattle.signal_travel.specs.declared.places.Point.{Point}
 use Rattle.signal_travel.proofs.AboveLaws.{coordinate, plain_coordinate}
 
@@ -22,9 +23,9 @@ read_point s three point = rw (read 0 (omega (arith, three)), read 1 (omega (ari
 
 -- the sizes of a point's coordinates
 pub record AreCoordinates (x y z : ℤ) : Type 0 where
-  pub x_size : unsigned_abs x ≤ 70000000000
-  pub y_size : unsigned_abs y ≤ 70000000000
-  pub z_size : unsigned_abs z ≤ 70000000000
+  pub x_size : unsigned_abs x ≤ MOST_COORDINATE
+  pub y_size : unsigned_abs y ≤ MOST_COORDINATE
+  pub z_size : unsigned_abs z ≤ MOST_COORDINATE
 
 pub coordinates : (p : Point) → AreCoordinates p.x p.y p.z
 coordinates p = let s : List ℤ = p.x ∷ p.y ∷ p.z ∷ [] in record {

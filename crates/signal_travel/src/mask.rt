@@ -1,6 +1,7 @@
 //! The mask's rule, decided exactly at a place on a grid of 2^-17 m.
 ghost use Rattle.std.specs.Prelude.{◌≡◌, ◌+◌, ◌*◌, ◌^◌, ◌<◌, ◌≤◌, ◌↔◌, ℤ, pos, ◌+ℤ◌, ◌*ℤ◌, ◌≤ℤ◌, unsigned_abs, IsTrue};
 ghost use Rattle.signal_travel.specs.Grid.{grid, offset, dot3, IsAboveWhole};
+ghost use Rattle.obs_rows.specs.declared.limits.TheConstants.{MOST_COORDINATE};
 
 use crate::wide::is_at_least;
 
@@ -15,7 +16,7 @@ fn grid_of(lo: i64) -> i64
 // How far the place on the grid just above `lo` lies from a coordinate in units of 0.1 mm
 pub fn offset_of(lo: i64, coordinate: i64) -> i64
     requires lo_size { unsigned_abs lo ≤ 2 ^ 62 }
-    requires size { unsigned_abs coordinate ≤ 70000000000 }
+    requires size { unsigned_abs coordinate ≤ MOST_COORDINATE }
     ensures value { result ≡ offset lo coordinate }
     ensures size { unsigned_abs result ≤ 6100000000000000 }
 {

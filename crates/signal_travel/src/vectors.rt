@@ -6,6 +6,7 @@ ghost use Rattle.iv_core.specs.Boxes.{near_end, far_end};
 ghost use Rattle.iv_core.specs.Intervals.{Holds, width_of, IsWithin};
 ghost use Rattle.orbit_model.specs.SeenPlaces.{Place, square};
 ghost use Rattle.signal_travel.specs.VectorBoxes.{coordinate_of, HoldsVector, IsVectorWithin, AreEndsWithin, IsVectorAtMostWide, HasVectorBetween, near_square, far_square};
+ghost use Rattle.obs_rows.specs.declared.limits.TheConstants.{MOST_COORDINATE};
 
 use crate::places::{Point, VectorBox};
 use iv_core::Iv;
@@ -25,7 +26,7 @@ fn raised_units(raised: u64) -> u64
 
 // ⌊coordinate · 2^36 / 10^4⌋, which is ⌊coordinate · 2^32 / 625⌋
 pub fn units_of(coordinate: i64) -> i64
-    requires { unsigned_abs coordinate ≤ 70000000000 }
+    requires { unsigned_abs coordinate ≤ MOST_COORDINATE }
     ensures low { (result *ℤ pos 10000) ≤ℤ (coordinate *ℤ pos (2 ^ 36)) }
     ensures high { (coordinate *ℤ pos (2 ^ 36)) <ℤ ((result *ℤ pos 10000) +ℤ pos 10000) }
 {
@@ -34,7 +35,7 @@ pub fn units_of(coordinate: i64) -> i64
 
 // A coordinate in units of 0.1 mm
 fn coordinate_box(coordinate: i64) -> Iv<36>
-    requires { unsigned_abs coordinate ≤ 70000000000 }
+    requires { unsigned_abs coordinate ≤ MOST_COORDINATE }
     ensures holds { Holds result (coordinate_of coordinate) }
     ensures size { IsWithin (7000001 * 2 ^ 36) result }
     ensures width { width_of result ≤ℤ pos 1 }
@@ -45,7 +46,7 @@ fn coordinate_box(coordinate: i64) -> Iv<36>
 // x less a coordinate in units of 0.1 mm
 fn offset_from(x: &Iv<36>, coordinate: i64) -> Iv<36>
     requires x_size { IsWithin (38100000 * 2 ^ 36) x.now }
-    requires size { unsigned_abs coordinate ≤ 70000000000 }
+    requires size { unsigned_abs coordinate ≤ MOST_COORDINATE }
     ensures holds { (q : Rational) → Holds x.now q → Holds result (sub_r q (coordinate_of coordinate)) }
     ensures size { IsWithin (45200000 * 2 ^ 36) result }
     ensures width { width_of result ≤ℤ (width_of x.now +ℤ pos 1) }

@@ -30,6 +30,7 @@ use Rattle.obs_rows.proofs.BandSetLaws.{each_number}
 use Rattle.obs_rows.specs.Ranges.{IsSystem}
 use Rattle.obs_rows.specs.declared.units.TheConstants.{BANDS_12, BANDS_15, BANDS_125}
 use Rattle.obs_rows.specs.declared.bands.Signals.{Signals}
+use Rattle.obs_rows.specs.declared.limits.TheConstants.{MOST_PAIRS}
 use Rattle.epoch_pair.specs.Signals.{letter_on, letter_of, is_among, IsLetterFor}
 use Rattle.epoch_pair.specs.Beginnings.{HasPosition, HaveSignals, AreSparse}
 use Rattle.job_answers.specs.Endings.{IsTextOf}
@@ -181,7 +182,7 @@ gap_on : (bands system : ℕ) (o : Options) → AreOptionsOn bands system o → 
 gap_on bands system o on = ap (λ (n : Numbers). n.gap) on.numbers ∙ on.are_defaults.gap
 
 -- the three texts, where none has too many bytes
-pub made_admitted : (seed epochs sats bands system : ℕ) (told : List ℕ → Option (List ℕ)) (base rover nav : List ℕ) (o : Options) → epochs ≤ 3600 → sats ≤ 15 → IsBandsNumber bands → IsSystem system
+pub made_admitted : (seed epochs sats bands system : ℕ) (told : List ℕ → Option (List ℕ)) (base rover nav : List ℕ) (o : Options) → epochs ≤ MOST_PAIRS → sats ≤ 15 → IsBandsNumber bands → IsSystem system
     → (system ≡ 69 → bands ≡ BANDS_L1_L5) → AreOptionsOn bands system o → told (codes "base") ≡ Some base → told (codes "rover") ≡ Some rover → told (codes "nav") ≡ Some nav
     → IsBaseText seed epochs sats bands system base → IsRoverText seed epochs sats bands system rover → IsNavigationText sats system nav → length base < 2 ^ 23
     → length rover < 2 ^ 23 → length nav < 2 ^ 23

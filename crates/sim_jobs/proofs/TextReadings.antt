@@ -8,6 +8,7 @@ use Rattle.rinex_head.specs.Systems.{system_of}
 use Rattle.rinex_head.specs.declared.system.System.{System}
 use Rattle.rinex_head.specs.declared.system.System.TheVariants.{Gps, Galileo}
 use Rattle.obs_rows.specs.Ranges.{IsSystem}
+use Rattle.obs_rows.specs.declared.limits.TheConstants.{MOST_PAIRS}
 use Rattle.rinex_obs.specs.ObsForm.{IsObsFile}
 use Rattle.rinex_nav.specs.NavForm.{IsNavFile}
 use Rattle.sv_orbit.specs.Worlds.{world_of}
@@ -32,7 +33,7 @@ step_some epochs = by (nat_le epochs 240)
     by true = omega arith
     by false = omega arith
 
-two_hours : (epochs : ℕ) → epochs ≤ 3600 → step_of epochs * epochs ≤ 86400
+two_hours : (epochs : ℕ) → epochs ≤ MOST_PAIRS → step_of epochs * epochs ≤ 86400
 two_hours epochs few = by (nat_le epochs 240) refl
   where
     by : (t : Bool) → nat_le epochs 240 ≡ t → (if t then 30 else 2) * epochs ≤ 86400
@@ -50,7 +51,7 @@ tracked bands system = by (has_l5 bands) (system == 69)
     by false false = refl
 
 -- ---- the three texts
-observed_reads : (epochs bands system : ℕ) (point : List ℤ) (clock : ℤ) (records : List Eph) (cycles : List (List ℤ)) (text : List ℕ) → epochs ≤ 3600 → length records ≤ 15 →
+observed_reads : (epochs bands system : ℕ) (point : List ℤ) (clock : ℤ) (records : List Eph) (cycles : List (List ℤ)) (text : List ℕ) → epochs ≤ MOST_PAIRS → length records ≤ 15 →
     IsObservationText epochs (tracking_of bands system) (world_of system) point clock records cycles text → ReadsAsObserved epochs bands system point clock records cycles text
 observed_reads epochs bands system point clock records cycles text few small is =
     let t : Tracking = tracking_of bands system in
@@ -66,7 +67,7 @@ observed_reads epochs bands system point clock records cycles text few small is 
       reads = subst (λ (s : System). IsObsFile s (lines_of text) (file_of t (step_of epochs) is.values)) (tracked bands system) reads;
     }
 
-pub base_reads : (seed epochs sats bands system : ℕ) (text : List ℕ) → epochs ≤ 3600 → sats ≤ 15 → IsBaseText seed epochs sats bands system text → ReadsAsBase seed epochs sats bands system text
+pub base_reads : (seed epochs sats bands system : ℕ) (text : List ℕ) → epochs ≤ MOST_PAIRS → sats ≤ 15 → IsBaseText seed epochs sats bands system text → ReadsAsBase seed epochs sats bands system text
 base_reads seed epochs sats bands system text few small is = record {
   records = is.records;
   count = is.count;
@@ -74,7 +75,7 @@ base_reads seed epochs sats bands system text few small is = record {
   has = observed_reads epochs bands system base_point (base_clock_of seed) is.records (first_of (base_cycles seed sats (has_l5 bands)) sats) text few (omega (arith, is.count)) is.has;
 }
 
-pub rover_reads : (seed epochs sats bands system : ℕ) (text : List ℕ) → epochs ≤ 3600 → sats ≤ 15 → IsRoverText seed epochs sats bands system text → ReadsAsRover seed epochs sats bands system text
+pub rover_reads : (seed epochs sats bands system : ℕ) (text : List ℕ) → epochs ≤ MOST_PAIRS → sats ≤ 15 → IsRoverText seed epochs sats bands system text → ReadsAsRover seed epochs sats bands system text
 rover_reads seed epochs sats bands system text few small is = record {
   records = is.records;
   count = is.count;

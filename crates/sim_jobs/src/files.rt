@@ -2,6 +2,7 @@ ghost use Rattle.std.specs.Prelude.{◌≡◌, ◌≤◌, IfOk};
 ghost use Rattle.obs_rows.specs.BandSets.{IsBandsNumber};
 ghost use Rattle.obs_rows.specs.declared.band_sets.TheConstants.{BANDS_L1_L5};
 ghost use Rattle.obs_rows.specs.Ranges.{IsSystem};
+ghost use Rattle.obs_rows.specs.declared.limits.TheConstants.{MOST_PAIRS};
 ghost use Rattle.job_answers.specs.Answers.{ending_of};
 ghost use Rattle.sim_jobs.specs.Sims.{IsFileOf, SimEnds};
 
@@ -32,7 +33,7 @@ pub fn sim(
     bands: u16,
     system: u8,
 ) -> Result<JobOutput, AllocError>
-    requires epochs { epochs ≤ 3600 }
+    requires epochs { epochs ≤ MOST_PAIRS }
     requires sats { sats ≤ 15 }
     requires bands { IsBandsNumber bands }
     requires system { IsSystem system }

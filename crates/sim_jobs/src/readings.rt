@@ -1,5 +1,6 @@
 ghost use Rattle.std.specs.Prelude.{ℕ, ◌≡◌, ◌≤◌, List};
 ghost use Rattle.obs_rows.specs.Ranges.{IsSystem};
+ghost use Rattle.obs_rows.specs.declared.limits.TheConstants.{MOST_PAIRS};
 ghost use Rattle.sim_session.specs.Texts.{tracking_of, IsBaseText, IsRoverText, IsNavigationText};
 ghost use Rattle.sim_jobs.specs.Reads.{ReadsAsBase, ReadsAsRover, ReadsAsRecords};
 ghost use Rattle.sim_jobs.specs.SameWords.{DifferInSignals};
@@ -7,9 +8,9 @@ ghost use Rattle.sim_jobs.specs.SameWords.{DifferInSignals};
 /// The texts of a session are files by the readers' own definitions, with the values that they were made of. There is
 /// nothing to run: the contract is the law, and its premises are clauses of `make`.
 pub fn reading_law()
-    ensures base { (seed epochs sats bands system : ℕ) (text : List ℕ) → epochs ≤ 3600 → sats ≤ 15
+    ensures base { (seed epochs sats bands system : ℕ) (text : List ℕ) → epochs ≤ MOST_PAIRS → sats ≤ 15
         → IsBaseText seed epochs sats bands system text → ReadsAsBase seed epochs sats bands system text }
-    ensures rover { (seed epochs sats bands system : ℕ) (text : List ℕ) → epochs ≤ 3600 → sats ≤ 15
+    ensures rover { (seed epochs sats bands system : ℕ) (text : List ℕ) → epochs ≤ MOST_PAIRS → sats ≤ 15
         → IsRoverText seed epochs sats bands system text → ReadsAsRover seed epochs sats bands system text }
     ensures nav { (sats system : ℕ) (text : List ℕ) → sats ≤ 15 → IsSystem system → IsNavigationText sats system text → ReadsAsRecords sats system text }
 {}

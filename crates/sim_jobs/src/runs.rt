@@ -6,6 +6,7 @@ ghost use Rattle.job_answers.specs.Endings.{ending};
 ghost use Rattle.obs_rows.specs.declared.band_sets.TheConstants.{BANDS_L1_L5};
 ghost use Rattle.obs_rows.specs.BandSets.{IsBandsNumber};
 ghost use Rattle.obs_rows.specs.Ranges.{IsSystem};
+ghost use Rattle.obs_rows.specs.declared.limits.TheConstants.{MOST_PAIRS};
 ghost use Rattle.session_jobs.specs.FixJobs.{status_of};
 ghost use Rattle.sim_jobs.specs.SimRunJobs.{AreOptionsOn, truth_in, run_text, SimRunEnd, SimRunEnds};
 
@@ -135,7 +136,7 @@ pub fn sim_run(
     bands: u16,
     system: u8,
 ) -> Result<JobOutput, JobStop>
-    requires epochs { epochs ≤ 3600 }
+    requires epochs { epochs ≤ MOST_PAIRS }
     requires sats { sats ≤ 15 }
     requires bands { IsBandsNumber bands }
     requires system { IsSystem system }

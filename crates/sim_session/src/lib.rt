@@ -58,6 +58,7 @@ ghost use Rattle.std.specs.Prelude.{◌≡◌, ◌^◌, ◌<◌, ◌≤◌, vec_
 ghost use Rattle.obs_rows.specs.BandSets.{IsBandsNumber};
 ghost use Rattle.obs_rows.specs.declared.band_sets.TheConstants.{BANDS_L1_L5};
 ghost use Rattle.obs_rows.specs.Ranges.{IsSystem};
+ghost use Rattle.obs_rows.specs.declared.limits.TheConstants.{MOST_PAIRS};
 ghost use Rattle.sim_session.specs.Values.{offset_of, truth_of, first_of};
 ghost use Rattle.sim_session.specs.Texts.{has_l5, tracking_of, IsBaseText, IsRoverText, IsNavigationText};
 
@@ -111,7 +112,7 @@ pub fn make(
     bands: u16,
     system: u8,
 ) -> Result<Made, AllocError>
-    requires epochs { epochs ≤ 3600 }
+    requires epochs { epochs ≤ MOST_PAIRS }
     requires sats { sats ≤ 15 }
     requires bands { IsBandsNumber bands }
     requires system { IsSystem system }

@@ -4,6 +4,7 @@ ghost use Rattle.orbit_clock.specs.Records.{constants_of};
 ghost use Rattle.sim_session.specs.Values.{AreSmall};
 ghost use Rattle.sim_session.specs.Observations.{step_of, AreObserved, IsObservationText};
 ghost use Rattle.sim_session.specs.Limits.{IsOnTime};
+ghost use Rattle.obs_rows.specs.declared.limits.TheConstants.{MOST_PAIRS};
 
 use crate::passes::observe;
 use crate::receiver::Receiver;
@@ -18,7 +19,7 @@ use std::alloc::{AllocError, Global};
 const START: u64 = 13_881_024_000_000_000;
 
 fn step_of(epochs: u32) -> u32
-    requires { epochs ≤ 3600 }
+    requires { epochs ≤ MOST_PAIRS }
     ensures value { result ≡ step_of epochs }
 {
     if epochs <= 240 { 30 } else { 2 }
@@ -56,7 +57,7 @@ pub fn observation_file(
     receiver: &Receiver,
     cycles: &[[i64; 3]],
 ) -> Result<Vec<u8>, AllocError>
-    requires epochs { epochs ≤ 3600 }
+    requires epochs { epochs ≤ MOST_PAIRS }
     requires few { length records.now ≤ 15 }
     requires records { All IsOnTime records.now }
     requires as_many { length cycles.now ≡ length records.now }

@@ -2,6 +2,7 @@
 ghost use Rattle.std.specs.Prelude.{◌≡◌, ◌≤◌, length, IfOk, All};
 ghost use Rattle.obs_rows.specs.BandSets.{IsBandsNumber, bands_of};
 ghost use Rattle.obs_rows.specs.UsedSats.{IsInRange};
+ghost use Rattle.obs_rows.specs.declared.limits.TheConstants.{MOST_PAIRS};
 ghost use Rattle.slip_arcs.specs.Runs.{AreKept, no_shift};
 ghost use Rattle.slip_arcs.specs.Linked.{HaveDatums};
 
@@ -29,7 +30,7 @@ pub fn cut(
     least: u32,
 ) -> Result<Arcs, AllocError>
     requires bands { IsBandsNumber bands }
-    requires few { length used.now ≤ 3600 }
+    requires few { length used.now ≤ MOST_PAIRS }
     requires ranges { All IsInRange used.now }
     ensures kept { IfOk result (λ arcs. AreKept (bands_of bands) jump least used.now arcs.kept arcs.short) }
     ensures datums { IfOk result (λ arcs. HaveDatums arcs.kept) }

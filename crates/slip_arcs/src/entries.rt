@@ -3,6 +3,7 @@ ghost use Rattle.std.specs.Prelude.{◌≡◌, ◌<◌, ◌≤◌, length, All, 
 ghost use Rattle.std.specs.Option.{option_copied};
 ghost use Rattle.obs_rows.specs.BandSets.{IsBandsNumber, bands_of};
 ghost use Rattle.obs_rows.specs.UsedSats.{IsInRange, IsSmall};
+ghost use Rattle.obs_rows.specs.declared.limits.TheConstants.{MOST_PAIRS};
 ghost use Rattle.slip_arcs.specs.Used.{is_cut, entry_in, entry, goes_on};
 
 use crate::phase::does_jump;
@@ -42,7 +43,7 @@ fn entry_of(used: &[UsedPair], at: usize, sat: u8) -> Option<UsedSat>
 
 /// Whether a satellite is used in a pair and in the next, without a cut between them.
 pub fn does_go_on(used: &[UsedPair], at: usize, sat: u8, bands: u16, jump: u32) -> bool
-    requires few { length used.now ≤ 3600 }
+    requires few { length used.now ≤ MOST_PAIRS }
     requires ranges { All IsInRange used.now }
     requires inside { at < length used.now }
     requires bands { IsBandsNumber bands }
@@ -62,7 +63,7 @@ pub fn does_go_on(used: &[UsedPair], at: usize, sat: u8, bands: u16, jump: u32) 
 
 /// The last pair to which a satellite goes on from this pair.
 pub fn last_of(used: &[UsedPair], first: usize, sat: u8, bands: u16, jump: u32) -> usize
-    requires few { length used.now ≤ 3600 }
+    requires few { length used.now ≤ MOST_PAIRS }
     requires ranges { All IsInRange used.now }
     requires inside { first < length used.now }
     requires bands { IsBandsNumber bands }

@@ -1,6 +1,7 @@
 //! Certificates of tracks.
 ghost use Rattle.std.specs.Prelude.{◌≤◌, length};
 ghost use Rattle.obs_rows.specs.Signals.{fine_signals};
+ghost use Rattle.obs_rows.specs.declared.limits.TheConstants.{MOST_RATIO, MOST_BUDGET};
 ghost use Rattle.track_data.specs.TrackTails.{IsTrackTailOf, IsTrackTailOf-prop};
 
 use crate::{Track, TrackTail};
@@ -15,9 +16,9 @@ pub struct TrackCert {
     pub track: Track,
     pub tail: TrackTail,
     pub ghost ratio_from: { 1000 ≤ ratio },
-    pub ghost ratio_to: { ratio ≤ 100_000 },
+    pub ghost ratio_to: { ratio ≤ MOST_RATIO },
     pub ghost budget_from: { 1 ≤ budget },
-    pub ghost budget_to: { budget ≤ 100_000_000 },
+    pub ghost budget_to: { budget ≤ MOST_BUDGET },
     pub ghost some_pairs: { 1 ≤ length track.pairs },
     pub ghost tail_fits: { IsTrackTailOf (fine_signals track.signals) track.arcs track.pairs budget tail } by { IsTrackTailOf-prop (fine_signals track.signals) track.arcs track.pairs budget tail },
 }

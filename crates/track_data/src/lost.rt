@@ -1,5 +1,6 @@
 //! Which pairs of a run are tracked, and which are lost.
 ghost use Rattle.std.specs.Prelude.{◌<◌};
+ghost use Rattle.obs_rows.specs.declared.limits.TheConstants.{MOST_PAIRS};
 
 use crate::{Items, Track};
 
@@ -9,7 +10,7 @@ pub struct Lost {
     /// The number of the pair among those that were taken.
     pub pair: u32,
     pub cause: LostCause,
-    pub ghost pair_in: { pair < 3600 },
+    pub ghost pair_in: { pair < MOST_PAIRS },
 }
 
 /// Why a pair isn't tracked: the first cause that holds, in this order.

@@ -1,6 +1,7 @@
 //! What the rows of a track are decided to say.
 ghost use Rattle.std.specs.Prelude.{◌≡◌, ◌≤◌, ℕ, List, length, map, All, IfOk};
 ghost use Rattle.obs_rows.specs.Signals.{fine_signals};
+ghost use Rattle.obs_rows.specs.declared.limits.TheConstants.{MOST_RATIO, MOST_BUDGET};
 ghost use Rattle.integer_form.specs.declared.front_form.FrontForm.{FrontForm};
 ghost use Rattle.integer_form.specs.FloatPoint.{HasWide};
 ghost use Rattle.int_search.specs.Answers.{IsTwoBest};
@@ -44,7 +45,7 @@ fn decide_moved(
     requires best { IsTwoBest form.now best.now }
     requires narrow { All (λ m. HasWide m → ⊥) moves.items }
     requires ratio_from { 1000 ≤ ratio }
-    requires ratio_to { ratio ≤ 100_000 }
+    requires ratio_to { ratio ≤ MOST_RATIO }
     ensures decision { (budget : ℕ) → KeepsBudget form.now budget best.now → IsTrackDecision track.now.arcs (fine_signals track.now.signals) track.now.pairs ratio budget result }
     ensures strictly_best { (budget : ℕ) → KeepsBudget form.now budget best.now → IsTrackBestWhereFixed track.now.arcs (fine_signals track.now.signals) track.now.pairs result }
     ensures fits { (budget : ℕ) → IsTrackTailOf (fine_signals track.now.signals) track.now.arcs track.now.pairs budget result }
@@ -73,7 +74,7 @@ fn decide_best(
     requires factors { AreFactors track.now.arcs (fine_signals track.now.signals) track.now.pairs factors.now }
     requires best { IsTwoBest form.now best.now }
     requires ratio_from { 1000 ≤ ratio }
-    requires ratio_to { ratio ≤ 100_000 }
+    requires ratio_to { ratio ≤ MOST_RATIO }
     ensures decision { IfOk result (λ t. (budget : ℕ) → KeepsBudget form.now budget best.now → IsTrackDecision track.now.arcs (fine_signals track.now.signals) track.now.pairs ratio budget t) }
     ensures strictly_best { IfOk result (λ t. (budget : ℕ) → KeepsBudget form.now budget best.now → IsTrackBestWhereFixed track.now.arcs (fine_signals track.now.signals) track.now.pairs t) }
     ensures fits { IfOk result (λ t. (budget : ℕ) → IsTrackTailOf (fine_signals track.now.signals) track.now.arcs track.now.pairs budget t) }
@@ -100,9 +101,9 @@ pub fn decide_track(
 ) -> Result<TrackTail, AllocError>
     requires some_pairs { 1 ≤ length track.now.pairs }
     requires ratio_from { 1000 ≤ ratio }
-    requires ratio_to { ratio ≤ 100_000 }
+    requires ratio_to { ratio ≤ MOST_RATIO }
     requires budget_from { 1 ≤ budget }
-    requires budget_to { budget ≤ 100_000_000 }
+    requires budget_to { budget ≤ MOST_BUDGET }
     ensures decision { IfOk result (IsTrackDecision track.now.arcs (fine_signals track.now.signals) track.now.pairs ratio budget) }
     ensures only { IfOk result (λ t. (u : TrackTail) → IsTrackDecision track.now.arcs (fine_signals track.now.signals) track.now.pairs ratio budget u → IsSameDecision u t) }
     ensures strictly_best { IfOk result (IsTrackBestWhereFixed track.now.arcs (fine_signals track.now.signals) track.now.pairs) }

@@ -8,6 +8,7 @@ ghost use Rattle.obs_rows.specs.Ranges.{IsBelow};
 ghost use Rattle.obs_rows.specs.Pairs.{HasItsArcs};
 ghost use Rattle.obs_rows.specs.Integers.{integer_count};
 ghost use Rattle.obs_rows.specs.Signals.{fine_signals};
+ghost use Rattle.obs_rows.specs.declared.limits.TheConstants.{MOST_PAIRS};
 ghost use Rattle.fix_decide.specs.Widths.{IsWide};
 ghost use Rattle.track_sum.specs.Fronts.{track_top};
 ghost use Rattle.track_sum.specs.Decided.{pair_uppers};
@@ -28,7 +29,7 @@ fn sum_of_uppers(
     moves: &[[i64; 3]],
 ) -> Result<i128, Overwidth>
     requires arcs { All (HasItsArcs arcs.now) pairs.now }
-    requires few { length pairs.now ≤ 3600 }
+    requires few { length pairs.now ≤ MOST_PAIRS }
     requires free { free_count arcs.now ≤ MOST_FREE_ARCS }
     requires move_each { length moves.now ≡ length pairs.now }
     requires entries { length z.now ≡ integer_count arcs.now (fine_signals signals) }

@@ -5,6 +5,7 @@ ghost use Rattle.epoch_pair.specs.Pairs.{Follows, IsNearPair};
 ghost use Rattle.slip_arcs.specs.Linked.{IsCutOf};
 ghost use Rattle.epoch_pair.specs.Beginnings.{IsPosition};
 ghost use Rattle.track_job.specs.TrackOutcomes.{AreScreenedArcs};
+ghost use Rattle.obs_rows.specs.declared.limits.TheConstants.{MOST_PAIRS};
 
 use eph_store::NavFile;
 use epoch_pair::{Options, SessionStart};
@@ -32,7 +33,7 @@ pub(crate) fn screened_arcs(
     options: &Options,
 ) -> Result<ScreenedArcs, AllocError>
     requires position { IsPosition base.now begun.now.position }
-    requires few { length begun.now.taken.items ≤ 3600 }
+    requires few { length begun.now.taken.items ≤ MOST_PAIRS }
     requires rises { AllPairs Follows begun.now.taken.items }
     requires near { All (IsNearPair options.now.gap (tags_of base.now.epochs) (tags_of rover.now.epochs)) begun.now.taken.items }
     ensures screened { IfOk result (λ f. AreScreenedArcs base.now rover.now nav.now options.now begun.now.signals begun.now.taken.items f.screened f.kept) }

@@ -7,6 +7,7 @@ use Rattle.obs_rows.specs.Arcs.{AreArcs}
 use Rattle.obs_rows.specs.Pairs.{ArePairs}
 use Rattle.slip_arcs.specs.Linked.{IsCutOf}
 use Rattle.obs_rows.specs.declared.used.UsedPair.{UsedPair}
+use Rattle.obs_rows.specs.declared.limits.TheConstants.{MOST_PAIRS}
 use Rattle.round_steps.specs.Shifts.{AreSameArcs}
 use Rattle.session.proofs.CutLaws.{cut_along}
 use Rattle.session.proofs.RangeLaws.{arcs_along, no_shifts}
@@ -32,14 +33,14 @@ kept_arcs arcs kept e are = subst AreArcs (sym e) (arcs_along arcs (map unshifte
 
 -- ---- the pairs of a track
 pub walked_pairs : (t : TrackSetting) (count : ℕ) (arcs : List Arc) (begun : List Bool) (points : List (List ℤ)) (tracked : List PairRows) (lost : List Lost) →
-    IsWalked t count arcs begun points tracked lost → count ≤ 3600 → ArePairs arcs tracked
+    IsWalked t count arcs begun points tracked lost → count ≤ MOST_PAIRS → ArePairs arcs tracked
 walked_pairs t count arcs begun points tracked lost w most = record {
   few = below (length tracked) w.few;
   rising = w.is_track.tracked_rise;
   rows_have_arcs = λ k d i. has_kept arcs t.kept (get_or tracked k d) (sym w.is_track.same) (w.fit.rows_have_arcs k d i);
 }
   where
-    below : (n : ℕ) → n ≤ count → n ≤ 3600
+    below : (n : ℕ) → n ≤ count → n ≤ MOST_PAIRS
     below n h = omega (arith, h, most)
 
 -- its arcs are those that were handed in

@@ -1,6 +1,7 @@
 //! The walk over the pairs, one after another.
 ghost use Rattle.std.specs.Prelude.{◌≡◌, ◌+◌, ◌<◌, ◌||◌, length, IfOk, OnOk};
 ghost use Rattle.obs_rows.specs.Arcs.{AreArcs};
+ghost use Rattle.obs_rows.specs.declared.limits.TheConstants.{MOST_PAIRS};
 ghost use Rattle.row_build.specs.HeldArcs.{holds_pair};
 ghost use Rattle.track_rows.specs.PairRules.{TrackSetting, setting_of, AreUnshifted, AreReady};
 ghost use Rattle.track_rows.specs.Trials.{IsTrialOf, Fits, flagged};
@@ -62,7 +63,7 @@ impl TrackSoFar {
 
     /// One more pair, which is lost.
     fn lose(&mut self, pair: u32, cause: LostCause) -> Result<(), AllocError>
-        requires { pair < 3600 }
+        requires { pair < MOST_PAIRS }
         ensures { OnOk result ((t : TrackSetting) → IsWalk t pair self.old →
             IsTrialOf t self.old.arcs.items (flagged self.old.begun.items) pair (Trial.Lost cause) → IsWalk t (pair + 1) self.new) }
     {

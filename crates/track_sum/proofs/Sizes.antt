@@ -9,6 +9,7 @@ use Rattle.whole_math.specs.Vectors.{sum}
 use Rattle.whole_math.proofs.Order.{lins}
 use Rattle.whole_math.proofs.Rounding.{nearest_close, floor_close, floor_near}
 use Rattle.track_sum.specs.Fronts.{Front, part, own_entry, other_entry, track_entry, AreExponents, IsSmallFront}
+use Rattle.obs_rows.specs.declared.limits.TheConstants.{MOST_PAIRS}
 
 -- ---- one rounded entry
 -- q m is within m of x
@@ -113,20 +114,20 @@ sum_half e h all r at fs is some few enough over small =
         turn l = omega arith
 
 -- ---- each entry
-pub entry_small : (n e h : ℕ) (fs : List Front) → 1 ≤ length fs → length fs ≤ 3600 → n ≤ 61 → AreExponents fs e h → All IsSmallFront fs → (i j : ℕ) → unsigned_abs (track_entry n h fs i j) < 2 ^ 52
+pub entry_small : (n e h : ℕ) (fs : List Front) → 1 ≤ length fs → length fs ≤ MOST_PAIRS → n ≤ 61 → AreExponents fs e h → All IsSmallFront fs → (i j : ℕ) → unsigned_abs (track_entry n h fs i j) < 2 ^ 52
 entry_small n e h fs some few columns exponents small i j = by_place (nat_eq i j)
   where
     own : unsigned_abs (own_entry n h fs i) < 2 ^ 52
     own = less (sum (map (λ (f : Front). floor_div (f.at i i) (part h f)) fs)) (length fs)
         (sum_half e h (length fs) floor_div (λ f. f.at i i) fs floor_rounded some (omega arith) exponents.enough exponents.over (λ k d l. small k d l i i)) few
       where
-        taken : (l : ℕ) → l ≤ 3600 → l * n ≤ 3600 * 61
+        taken : (l : ℕ) → l ≤ MOST_PAIRS → l * n ≤ MOST_PAIRS * 61
         taken l h = let p : l * n ≤ l * 61 = mul-le-mul_left l columns in omega (arith, p, h)
 
-        less : (s : ℤ) (l : ℕ) → unsigned_abs s ≤ 2 ^ 51 + l → l ≤ 3600 → unsigned_abs (s -ℤ (pos l *ℤ pos n)) < 2 ^ 52
+        less : (s : ℤ) (l : ℕ) → unsigned_abs s ≤ 2 ^ 51 + l → l ≤ MOST_PAIRS → unsigned_abs (s -ℤ (pos l *ℤ pos n)) < 2 ^ 52
         less s l h g = go s (l * n) l h g (taken l g)
           where
-            go : (s : ℤ) (t l : ℕ) → unsigned_abs s ≤ 2 ^ 51 + l → l ≤ 3600 → t ≤ 3600 * 61 → unsigned_abs (s -ℤ pos t) < 2 ^ 52
+            go : (s : ℤ) (t l : ℕ) → unsigned_abs s ≤ 2 ^ 51 + l → l ≤ MOST_PAIRS → t ≤ MOST_PAIRS * 61 → unsigned_abs (s -ℤ pos t) < 2 ^ 52
             go s t l h g k = omega (arith, ints)
 
     other : unsigned_abs (other_entry h fs i j) < 2 ^ 52
@@ -138,7 +139,7 @@ entry_small n e h fs some few columns exponents small i j = by_place (nat_eq i j
 
 -- ---- the exponent
 -- of at most 3600 pairs, none over 77, it is at most 90
-pub exponent_few : (e h : ℕ) (fs : List Front) → length fs ≤ 3600 → All (λ f. f.h ≤ 77) fs → AreExponents fs e h → h ≤ 90
+pub exponent_few : (e h : ℕ) (fs : List Front) → length fs ≤ MOST_PAIRS → All (λ f. f.h ≤ 77) fs → AreExponents fs e h → h ≤ 90
 exponent_few e h fs few each exponents = by_pair exponents.attained
   where
     thirteen : 2 * length fs ≤ 2 ^ 13

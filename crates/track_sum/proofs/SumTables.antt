@@ -5,6 +5,7 @@ use Rattle.quadratic_form.specs.Places.{form_from}
 use Rattle.obs_rows.specs.declared.arcs.Arc.{Arc}
 use Rattle.obs_rows.specs.declared.pair_rows.PairRows.{PairRows}
 use Rattle.obs_rows.specs.Integers.{integer_count}
+use Rattle.obs_rows.specs.declared.limits.TheConstants.{MOST_PAIRS}
 use Rattle.form_tables.specs.declared.sizes.TheConstants.{BASELINE_COLUMNS, MOST_COLUMNS}
 use Rattle.form_tables.specs.Tables.{entry, zero_rows}
 use Rattle.integer_form.specs.declared.front_form.FrontForm.{FrontForm}
@@ -36,7 +37,7 @@ pub record IsSummed (arcs : List Arc) (ss : List ℕ) (pairs : List PairRows) (e
   pub small : SmallForm (form_from (entry t) 3 (1 + integer_count arcs ss))
 
 pub summed : (arcs : List Arc) (ss : List ℕ) (pairs : List PairRows) (kept : List PairFactors) (greatest e : ℕ) (t : List (List ℤ)) →
-    AreFactors arcs ss pairs kept → IsGreatest arcs ss pairs greatest → 1 ≤ length pairs → length pairs ≤ 3600 →
+    AreFactors arcs ss pairs kept → IsGreatest arcs ss pairs greatest → 1 ≤ length pairs → length pairs ≤ MOST_PAIRS →
     integer_count arcs ss ≤ 60 →
     2 * length pairs ≤ 2 ^ e → ((k : ℕ) → 2 * length pairs ≤ 2 ^ k → e ≤ k) → HoldsSums arcs ss pairs (greatest + e) t → IsSummed arcs ss pairs e (greatest + e) t
 summed arcs ss pairs kept greatest e t factors is some few integers enough least sums = record {
@@ -44,7 +45,7 @@ summed arcs ss pairs kept greatest e t factors is some few integers enough least
   of_pairs = are;
   exponents = exponents;
   form = form;
-  small = subst SmallForm (sym form) (small_track n e h (map brief fs) (subst (λ (k : ℕ). 1 ≤ k) (sym long) some) (subst (λ (k : ℕ). k ≤ 3600) (sym long) few) (omega (arith, integers)) exponents
+  small = subst SmallForm (sym form) (small_track n e h (map brief fs) (subst (λ (k : ℕ). 1 ≤ k) (sym long) some) (subst (λ (k : ℕ). k ≤ MOST_PAIRS) (sym long) few) (omega (arith, integers)) exponents
       (small_fronts fs));
 }
   where

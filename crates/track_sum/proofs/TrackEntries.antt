@@ -13,6 +13,7 @@ use Rattle.elimination.proofs.FinishLaws.{small_form}
 use Rattle.track_sum.specs.Fronts.{Front, own_entry, other_entry, track_entry, track_form, AreExponents, IsSmallFront}
 use Rattle.track_sum.specs.Parts.{part_at}
 use Rattle.track_sum.proofs.Sizes.{entry_small}
+use Rattle.obs_rows.specs.declared.limits.TheConstants.{MOST_PAIRS}
 
 -- ---- equal forms have equal entries
 order : (j c : ℕ) → j ≤ c → (j ≡ c) ⊎ (suc j ≤ c)
@@ -61,5 +62,5 @@ summed_form n h fs t same = form_moved (entry t) (track_entry n h fs) 3 0 n (λ 
     nothing : (r : ℕ) → 0 + r ≡ r
     nothing r = omega arith
 
-pub small_track : (n e h : ℕ) (fs : List Front) → 1 ≤ length fs → length fs ≤ 3600 → n ≤ 61 → AreExponents fs e h → All IsSmallFront fs → SmallForm (track_form n h fs)
+pub small_track : (n e h : ℕ) (fs : List Front) → 1 ≤ length fs → length fs ≤ MOST_PAIRS → n ≤ 61 → AreExponents fs e h → All IsSmallFront fs → SmallForm (track_form n h fs)
 small_track n e h fs some few columns exponents small = small_form (track_entry n h fs) 0 n (entry_small n e h fs some few columns exponents small)

@@ -9,6 +9,7 @@ ghost use Rattle.quadratic_form.specs.TwoLeast.{TwoLeast};
 ghost use Rattle.fix_decide.specs.Decisions.{IsSeparated};
 ghost use Rattle.obs_rows.specs.declared.arcs.Arc.{Arc};
 ghost use Rattle.obs_rows.specs.declared.pair_rows.PairRows.{PairRows};
+ghost use Rattle.obs_rows.specs.declared.limits.TheConstants.{MOST_PAIRS};
 ghost use Rattle.track_sum.specs.Fronts.{Front, track_entry, track_form, track_top, AreExponents, IsSmallFront, BoundsPair, IsAtMost};
 ghost use Rattle.track_sum.specs.Decided.{IsStrictlyBest, IsBestByRatio};
 
@@ -21,8 +22,8 @@ pub fn track_bound_law()
 
 /// Each entry of the track's form is below 2^52 in size, and its exponent is at most 90.
 pub fn track_size_law()
-    ensures entries { (n e h : ℕ) (fs : List Front) → 1 ≤ length fs → length fs ≤ 3600 → n ≤ 61 → AreExponents fs e h → All IsSmallFront fs → (i j : ℕ) → unsigned_abs (track_entry n h fs i j) < 2 ^ 52 }
-    ensures exponent { (e h : ℕ) (fs : List Front) → length fs ≤ 3600 → All (λ f. f.h ≤ 77) fs → AreExponents fs e h → h ≤ 90 }
+    ensures entries { (n e h : ℕ) (fs : List Front) → 1 ≤ length fs → length fs ≤ MOST_PAIRS → n ≤ 61 → AreExponents fs e h → All IsSmallFront fs → (i j : ℕ) → unsigned_abs (track_entry n h fs i j) < 2 ^ 52 }
+    ensures exponent { (e h : ℕ) (fs : List Front) → length fs ≤ MOST_PAIRS → All (λ f. f.h ≤ 77) fs → AreExponents fs e h → h ≤ 90 }
 {}
 
 /// The sum of the pairs' sums is at most 2^h times the track's upper sum.

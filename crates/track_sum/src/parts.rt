@@ -4,6 +4,7 @@ ghost use Rattle.whole_math.specs.Rounding.{floor_div, nearest_div};
 ghost use Rattle.form_tables.specs.Tables.{entry};
 ghost use Rattle.form_tables.specs.declared.sizes.TheConstants.{MOST_FORM_COLUMNS};
 ghost use Rattle.track_sum.specs.Parts.{part_at};
+ghost use Rattle.obs_rows.specs.declared.limits.TheConstants.{MOST_PAIRS};
 
 use form_tables::{BASELINE_COLUMNS, MOST_FORM_COLUMNS};
 use integer_form::FrontForm;
@@ -12,7 +13,7 @@ use whole_math::floor_shift;
 
 /// The least e with 2^e at least twice this number.
 pub(crate) fn least_power(count: usize) -> u32
-    requires few { count ≤ 3600 }
+    requires few { count ≤ MOST_PAIRS }
     ensures enough { 2 * count ≤ 2 ^ result }
     ensures least { (k : ℕ) → 2 * count ≤ 2 ^ k → result ≤ k }
     ensures few { result ≤ 13 }

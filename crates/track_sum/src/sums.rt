@@ -6,6 +6,7 @@ ghost use Rattle.obs_rows.specs.Arcs.{free_count};
 ghost use Rattle.obs_rows.specs.Pairs.{HasItsArcs};
 ghost use Rattle.obs_rows.specs.Signals.{fine_signals};
 ghost use Rattle.obs_rows.specs.Integers.{integer_count};
+ghost use Rattle.obs_rows.specs.declared.limits.TheConstants.{MOST_PAIRS};
 ghost use Rattle.form_tables.specs.Tables.{entry, zero_rows};
 ghost use Rattle.form_tables.specs.declared.sizes.TheConstants.{MOST_COLUMNS};
 ghost use Rattle.integer_form.specs.declared.front_form.FrontForm.{FrontForm};
@@ -28,7 +29,7 @@ use std::alloc::{AllocError, Global};
 
 /// sum + part
 fn plus(sum: i128, part: i128) -> i128
-    requires sum_size { unsigned_abs sum ≤ 3600 * 2 ^ 64 }
+    requires sum_size { unsigned_abs sum ≤ MOST_PAIRS * 2 ^ 64 }
     requires part_size { unsigned_abs part ≤ 2 ^ 64 }
     ensures value { result ≡ sum +ℤ part }
     ensures size { unsigned_abs result ≤ unsigned_abs sum + 2 ^ 64 }
@@ -41,7 +42,7 @@ fn add_entry(table: &mut NormalTable, front: &FrontForm, shift: u32, r: usize, c
     requires few { shift ≤ 90 }
     requires row_in { r < front.now.columns - 3 }
     requires column_in { c < front.now.columns - 3 }
-    requires size { unsigned_abs (entry table.old (3 + r) (3 + c)) ≤ 3600 * 2 ^ 64 }
+    requires size { unsigned_abs (entry table.old (3 + r) (3 + c)) ≤ MOST_PAIRS * 2 ^ 64 }
     ensures there { entry table.new (3 + r) (3 + c) ≡ entry table.old (3 + r) (3 + c) +ℤ part_at (front.now.columns - 3) (2 ^ shift) (entry front.now.p) r c }
     ensures size { unsigned_abs (entry table.new (3 + r) (3 + c)) ≤ unsigned_abs (entry table.old (3 + r) (3 + c)) + 2 ^ 64 }
     ensures others { (i j : ℕ) → (i ≢ 3 + r) ⊎ (j ≢ 3 + c) → entry table.new i j ≡ entry table.old i j }
@@ -55,7 +56,7 @@ fn add_entry(table: &mut NormalTable, front: &FrontForm, shift: u32, r: usize, c
 fn add_row(table: &mut NormalTable, front: &FrontForm, shift: u32, r: usize)
     requires few { shift ≤ 90 }
     requires row_in { r < front.now.columns - 3 }
-    requires sizes { (c : ℕ) → r ≤ c → c < front.now.columns - 3 → unsigned_abs (entry table.old (3 + r) (3 + c)) ≤ 3600 * 2 ^ 64 }
+    requires sizes { (c : ℕ) → r ≤ c → c < front.now.columns - 3 → unsigned_abs (entry table.old (3 + r) (3 + c)) ≤ MOST_PAIRS * 2 ^ 64 }
     ensures row { (c : ℕ) → r ≤ c → c < front.now.columns - 3 → entry table.new (3 + r) (3 + c) ≡ entry table.old (3 + r) (3 + c) +ℤ part_at (front.now.columns - 3) (2 ^ shift) (entry front.now.p) r c }
     ensures sizes { (c : ℕ) → r ≤ c → c < front.now.columns - 3 → unsigned_abs (entry table.new (3 + r) (3 + c)) ≤ unsigned_abs (entry table.old (3 + r) (3 + c)) + 2 ^ 64 }
     ensures others { (i c : ℕ) → i ≢ 3 + r → entry table.new i c ≡ entry table.old i c }
@@ -69,7 +70,7 @@ fn add_row(table: &mut NormalTable, front: &FrontForm, shift: u32, r: usize)
 /// Adds what a front adds, on the diagonal and after it.
 fn add_front(table: &mut NormalTable, front: &FrontForm, shift: u32)
     requires few { shift ≤ 90 }
-    requires sizes { (r c : ℕ) → r ≤ c → c < front.now.columns - 3 → unsigned_abs (entry table.old (3 + r) (3 + c)) ≤ 3600 * 2 ^ 64 }
+    requires sizes { (r c : ℕ) → r ≤ c → c < front.now.columns - 3 → unsigned_abs (entry table.old (3 + r) (3 + c)) ≤ MOST_PAIRS * 2 ^ 64 }
     ensures sums { (r c : ℕ) → r ≤ c → c < front.now.columns - 3 → entry table.new (3 + r) (3 + c) ≡ entry table.old (3 + r) (3 + c) +ℤ part_at (front.now.columns - 3) (2 ^ shift) (entry front.now.p) r c }
     ensures sizes { (r c : ℕ) → r ≤ c → c < front.now.columns - 3 → unsigned_abs (entry table.new (3 + r) (3 + c)) ≤ unsigned_abs (entry table.old (3 + r) (3 + c)) + 2 ^ 64 }
 {
@@ -91,7 +92,7 @@ fn add_fronts(
 ) -> Result<Result<Vec<PairFactors>, LowerFault>, AllocError>
     requires arcs { All (HasItsArcs arcs.now) pairs.now }
     requires free { free_count arcs.now ≤ MOST_FREE_ARCS }
-    requires few { length pairs.now ≤ 3600 }
+    requires few { length pairs.now ≤ MOST_PAIRS }
     requires h_in { h ≤ 90 }
     requires above { (k : ℕ) → k < length pairs.now → (d : PairRows) (f : FrontForm) → IsFrontOfPair arcs.now (fine_signals signals) (get_or pairs.now k d) f → f.h ≤ h }
     requires zeros { table.old ≡ zero_rows MOST_COLUMNS MOST_COLUMNS }
@@ -137,7 +138,7 @@ pub fn sum_of_fronts(
     requires arcs { All (HasItsArcs arcs.now) pairs.now }
     requires free { free_count arcs.now ≤ MOST_FREE_ARCS }
     requires some { 1 ≤ length pairs.now }
-    requires few { length pairs.now ≤ 3600 }
+    requires few { length pairs.now ≤ MOST_PAIRS }
     ensures sum { IfOk result (λ r. IfOk r (λ f. (fs : List FrontForm) × IsSumOfFronts arcs.now (fine_signals signals) pairs.now fs f.sum)) }
     ensures factors { IfOk result (λ r. IfOk r (λ f. AreFactors arcs.now (fine_signals signals) pairs.now f.factors.items)) }
     ensures few { IfOk result (λ r. IfOk r (λ f. f.sum.h ≤ 90)) }
@@ -185,7 +186,7 @@ pub fn form_of_track(
     requires arcs { All (HasItsArcs arcs.now) pairs.now }
     requires free { free_count arcs.now ≤ MOST_FREE_ARCS }
     requires some { 1 ≤ length pairs.now }
-    requires few { length pairs.now ≤ 3600 }
+    requires few { length pairs.now ≤ MOST_PAIRS }
     ensures form { IfOk result (λ r. IfOk r (λ f. (fs : List FrontForm) × IsTrackForm arcs.now (fine_signals signals) pairs.now fs f.form)) }
     ensures factors { IfOk result (λ r. IfOk r (λ f. AreFactors arcs.now (fine_signals signals) pairs.now f.factors.items)) }
     ensures few { IfOk result (λ r. IfOk r (λ f. f.form.h ≤ 90)) }

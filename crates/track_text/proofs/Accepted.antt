@@ -10,6 +10,7 @@ use Rattle.obs_rows.specs.declared.pair_rows.PairRows.{PairRows}
 use Rattle.obs_rows.specs.Pairs.{HasItsArcs}
 use Rattle.obs_rows.specs.Ranges.{IsPoint}
 use Rattle.obs_rows.specs.Signals.{fine_signals}
+use Rattle.obs_rows.specs.declared.limits.TheConstants.{MOST_PAIRS, MOST_RATIO, MOST_BUDGET}
 use Rattle.int_search.specs.declared.answer.TwoBest.{TwoBest}
 use Rattle.rinex_head.specs.declared.place.Flaw.{Flaw}
 use Rattle.rinex_head.specs.declared.place.TextFault.{TextFault}
@@ -146,7 +147,7 @@ declined_accepted f arcs numbers line t short other read =
     step track_rules (Tail f arcs numbers) End line [] short (admits_declined f arcs numbers line other ∙ ap (λ (r : Result TrackTail Flaw). and_then r (λ t. Ok End)) read)
     (end_accepted track_rules End refl)
 
-tail_accepted : (f : Frame) (arcs : List Arc) (pairs : List PairRows) (t : TrackTail) → f.budget ≤ 100_000_000 → IsTrackTailOf f.ss arcs pairs f.budget t → IsWholeTrackTail t
+tail_accepted : (f : Frame) (arcs : List Arc) (pairs : List PairRows) (t : TrackTail) → f.budget ≤ MOST_BUDGET → IsTrackTailOf f.ss arcs pairs f.budget t → IsWholeTrackTail t
     → AreAccepted track_rules (Tail f arcs (numbers_of pairs)) (track_tail_lines pairs t)
 tail_accepted f arcs pairs (Fixed h moves best top) few fits whole = vectors_accepted f arcs pairs h moves best top true fits whole
 tail_accepted f arcs pairs (Unseparated h moves best top) few fits whole = vectors_accepted f arcs pairs h moves best top false fits whole
@@ -185,9 +186,9 @@ track_accepted c whole =
     let c1 = pairs_accepted f t.arcs 0 t.pairs t.points [] ends few_signals t.arcs_in.few t.point_each t.pairs_in.rows_have_arcs whole.track.pairs t.points_in whole.track.points
     (rises (λ (p : PairRows). p.number) 0 t.pairs t.pairs_in.rising (λ d some. omega arith)) tail in
     let few_pairs : n < 2 ^ 126 = omega (arith, t.pairs_in.few) in
-    let c2 = line_accepted track_rules (PairCount f t.arcs) (count_in (codes "pairs") 1 3600) (λ (k : ℕ). before_pairs f t.arcs k 0 []) n (count_line (codes "pairs") n)
+    let c2 = line_accepted track_rules (PairCount f t.arcs) (count_in (codes "pairs") 1 MOST_PAIRS) (λ (k : ℕ). before_pairs f t.arcs k 0 []) n (count_line (codes "pairs") n)
     (all_placed_pairs ss t.pairs t.points ++ ends) (pair_count_taken f t.arcs) (line_length (codes "pairs") (pos n ∷ []) (lit≤ tt) (lit≤ tt) (few_pairs, tt))
-    (count_spells (codes "pairs") 1 3600 n c.some_pairs t.pairs_in.few (omega arith)) c1 in
+    (count_spells (codes "pairs") 1 MOST_PAIRS n c.some_pairs t.pairs_in.few (omega arith)) c1 in
     let c3 = counted_arcs_accepted track_rules Two t.signals.l2 t.signals.l5 (ArcCount f) (before_arcs f) t.arcs after_arcs (arc_count_taken f) (arcs_taken f) t.arcs_in
     (λ k d inside. (t.arcs_in.ranges k d inside).sat_to) t.shifts_used whole.track.arcs c2 in
     let signals = signals_line Two t.signals.l1 t.signals.l2 t.signals.l5 in
@@ -198,11 +199,11 @@ track_accepted c whole =
     let c6 = line_accepted track_rules (SystemLine budget) system_in (λ (s : ℕ). Base budget) t.system (system_line t.system) _ (system_taken budget) (lit≤ tt)
     (system_spells t.system t.system_is) c5 in
     let few_visits : budget < 2 ^ 126 = omega (arith, c.budget_to) in
-    let c7 = line_accepted track_rules Budget (count_in (codes "budget") 1 100_000_000) (λ (k : ℕ). SystemLine k) budget (count_line (codes "budget") budget) _ budget_taken
-    (line_length (codes "budget") (pos budget ∷ []) (lit≤ tt) (lit≤ tt) (few_visits, tt)) (count_spells (codes "budget") 1 100_000_000 budget c.budget_from c.budget_to (omega arith)) c6 in
+    let c7 = line_accepted track_rules Budget (count_in (codes "budget") 1 MOST_BUDGET) (λ (k : ℕ). SystemLine k) budget (count_line (codes "budget") budget) _ budget_taken
+    (line_length (codes "budget") (pos budget ∷ []) (lit≤ tt) (lit≤ tt) (few_visits, tt)) (count_spells (codes "budget") 1 MOST_BUDGET budget c.budget_from c.budget_to (omega arith)) c6 in
     let small_ratio : c.ratio < 2 ^ 126 = omega (arith, c.ratio_to) in
-    let c8 = line_accepted track_rules Ratio (count_in (codes "ratio") 1000 100_000) (λ (k : ℕ). Budget) c.ratio (count_line (codes "ratio") c.ratio) _ ratio_taken
-    (line_length (codes "ratio") (pos c.ratio ∷ []) (lit≤ tt) (lit≤ tt) (small_ratio, tt)) (count_spells (codes "ratio") 1000 100_000 c.ratio c.ratio_from c.ratio_to (omega arith)) c7 in
+    let c8 = line_accepted track_rules Ratio (count_in (codes "ratio") 1000 MOST_RATIO) (λ (k : ℕ). Budget) c.ratio (count_line (codes "ratio") c.ratio) _ ratio_taken
+    (line_length (codes "ratio") (pos c.ratio ∷ []) (lit≤ tt) (lit≤ tt) (small_ratio, tt)) (count_spells (codes "ratio") 1000 MOST_RATIO c.ratio c.ratio_from c.ratio_to (omega arith)) c7 in
     let all = step track_rules Form Ratio track_form _ (lit≤ tt) refl c8 in
     subst (AreAccepted track_rules Form) (sym (regrouped c)) all
 

@@ -5,6 +5,7 @@ use Rattle.integer_form.specs.declared.faults.Place.TheVariants.{Y}
 use Rattle.obs_rows.specs.declared.arcs.Arc.{Arc}
 use Rattle.obs_rows.specs.Ranges.{IsPoint}
 use Rattle.obs_rows.specs.Arcs.{free_count}
+use Rattle.obs_rows.specs.declared.limits.TheConstants.{MOST_PAIRS, MOST_RATIO, MOST_BUDGET}
 use Rattle.rinex_head.specs.declared.place.Flaw.{Flaw}
 use Rattle.rinex_head.specs.declared.place.At.{At}
 use Rattle.rinex_head.specs.declared.place.TextFault.{TextFault}
@@ -281,15 +282,15 @@ next_held : (s next : Expected) (front : List (List ℕ)) (line : List ℕ) → 
 next_held Form next front line are other e =
     by_line (front ++ line ∷ []) (word_in track_form line) (λ u. Ratio) next e (λ u is. pushed front [] line track_form are (word_was track_form line u is))
 next_held Ratio next front line are other e =
-    by_line (front ++ line ∷ []) (count_in (codes "ratio") 1000 100_000 line) (λ n. Budget) next e (λ n is.
-    let read = count_was (codes "ratio") 1000 100_000 line n (omega arith) is in
+    by_line (front ++ line ∷ []) (count_in (codes "ratio") 1000 MOST_RATIO line) (λ n. Budget) next e (λ n is.
+    let read = count_was (codes "ratio") 1000 MOST_RATIO line n (omega arith) is in
     record {
       head = with_ratio (any_head Two) (record { value = n; is = (read.from, read.to) });
       are = pushed front (track_form ∷ []) line (count_line (codes "ratio") n) are read.line_is;
     })
 next_held Budget next front line held other e =
-    by_line (front ++ line ∷ []) (count_in (codes "budget") 1 100_000_000 line) (λ n. SystemLine n) next e (λ n is.
-    let read = count_was (codes "budget") 1 100_000_000 line n (omega arith) is in
+    by_line (front ++ line ∷ []) (count_in (codes "budget") 1 MOST_BUDGET line) (λ n. SystemLine n) next e (λ n is.
+    let read = count_was (codes "budget") 1 MOST_BUDGET line n (omega arith) is in
     let h = held.head in
     record {
       head = with_budget h (record { value = n; is = (read.from, read.to) });
@@ -335,8 +336,8 @@ next_held (NextArc f left arcs) next front line held other e =
     by_line (front ++ line ∷ []) (arc_in Two f.ss (free_count arcs) left line) (λ (a : Arc). before_arcs f (left - 1) (arcs ++ a ∷ [])) next e (λ a is.
     arcs_next f (left - 1) (arcs ++ a ∷ []) (front ++ line ∷ []) (arc_step f left arcs front line a held.0 held.1 is))
 next_held (PairCount f arcs) next front line held other e =
-    by_line (front ++ line ∷ []) (count_in (codes "pairs") 1 3600 line) (λ n. before_pairs f arcs n 0 []) next e (λ n is.
-    let read = count_was (codes "pairs") 1 3600 line n (omega arith) is in
+    by_line (front ++ line ∷ []) (count_in (codes "pairs") 1 MOST_PAIRS line) (λ n. before_pairs f arcs n 0 []) next e (λ n is.
+    let read = count_was (codes "pairs") 1 MOST_PAIRS line n (omega arith) is in
     absurd (cc (pairs_begins n line read.line_is, other)))
 next_held (NextPair f arcs left least numbers) next front line held other e = absurd held
 next_held (PairPoint f arcs pairs number count numbers) next front line held other e = absurd held

@@ -6,6 +6,7 @@ use Rattle.obs_rows.specs.declared.pair_rows.PairRows.{PairRows}
 use Rattle.obs_rows.specs.Pairs.{HasItsArcs}
 use Rattle.obs_rows.specs.Ranges.{IsPoint}
 use Rattle.obs_rows.specs.Signals.{fine_signals}
+use Rattle.obs_rows.specs.declared.limits.TheConstants.{MOST_RATIO, MOST_BUDGET}
 use Rattle.int_search.specs.declared.answer.TwoBest.{TwoBest}
 use Rattle.cert_words.proofs.NumberLaws.{AreSmall}
 use Rattle.cert_words.proofs.TextLaws.{AreLines, lines-append}
@@ -37,7 +38,7 @@ pairs_feed ss arcs (p ∷ pairs) (x ∷ points) few has are =
     lines-append (placed_pair_lines ss p x) (all_placed_pairs ss pairs points) block
     (pairs_feed ss arcs pairs points few (All-tail (HasItsArcs arcs) p pairs has) (All-tail IsPoint x points are))
 
-head_feed : (ratio budget : ℕ) (t : Track) → ratio ≤ 100_000 → budget ≤ 100_000_000 → AreLines (track_head_lines ratio budget t.system t.base t.signals)
+head_feed : (ratio budget : ℕ) (t : Track) → ratio ≤ MOST_RATIO → budget ≤ MOST_BUDGET → AreLines (track_head_lines ratio budget t.system t.base t.signals)
 head_feed ratio budget t few_ratio few_budget =
     let signals = signals_feed Two t.signals (λ e. absurd (not_one e)) in
     let base = point_feed (codes "base") t.base refl t.base_in in
@@ -60,7 +61,7 @@ vectors_feed ss arcs pairs h moves best top are =
     let values = values_feed h best.p1 best.p2 top v.h_to v.p1_in v.p2_in v.top_in in
     (first, (second, lines-append (move_lines pairs moves) (values_line h best.p1 best.p2 top ∷ []) (moves_feed pairs moves are.moves_in) (values, tt)))
 
-tail_feed : (ss : List ℕ) (arcs : List Arc) (pairs : List PairRows) (budget : ℕ) (t : TrackTail) → budget ≤ 100_000_000 → IsTrackTailOf ss arcs pairs budget t → AreLines (track_tail_lines pairs t)
+tail_feed : (ss : List ℕ) (arcs : List Arc) (pairs : List PairRows) (budget : ℕ) (t : TrackTail) → budget ≤ MOST_BUDGET → IsTrackTailOf ss arcs pairs budget t → AreLines (track_tail_lines pairs t)
 tail_feed ss arcs pairs budget (Fixed h moves best top) few fits =
     lines-append (track_vectors_lines pairs h moves best top) (last_line true ∷ []) (vectors_feed ss arcs pairs h moves best top fits) (refl, tt)
 tail_feed ss arcs pairs budget (Unseparated h moves best top) few fits =

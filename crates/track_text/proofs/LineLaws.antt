@@ -3,6 +3,7 @@ use Rattle.std.proofs.Common.{◌≡◌, ◌+◌, ◌-◌, ◌≤◌, ℕ, zero,
 use Rattle.obs_rows.specs.declared.arcs.Arc.{Arc}
 use Rattle.obs_rows.specs.Arcs.{free_count}
 use Rattle.obs_rows.specs.Integers.{integer_count}
+use Rattle.obs_rows.specs.declared.limits.TheConstants.{MOST_PAIRS, MOST_RATIO, MOST_BUDGET}
 use Rattle.rinex_head.specs.Places.{and_then}
 use Rattle.cert_lines.specs.Forms.{count_in, vector_in, system_in, Letters as LettersOf, signals_in, signals_of, arc_in, pair_in, row_in}
 use Rattle.cert_lines.specs.TailForms.{begins, values_in, last_in}
@@ -20,10 +21,10 @@ use Rattle.track_text.specs.Rules.{track_rules, admit, before_arcs, before_pairs
 pub form_taken : TakesLine track_rules Form (word_in track_form) (λ u. Ratio)
 form_taken = record { admits = λ line. refl; ends = refl }
 
-pub ratio_taken : TakesLine track_rules Ratio (count_in (codes "ratio") 1000 100_000) (λ n. Budget)
+pub ratio_taken : TakesLine track_rules Ratio (count_in (codes "ratio") 1000 MOST_RATIO) (λ n. Budget)
 ratio_taken = record { admits = λ line. refl; ends = refl }
 
-pub budget_taken : TakesLine track_rules Budget (count_in (codes "budget") 1 100_000_000) (λ n. SystemLine n)
+pub budget_taken : TakesLine track_rules Budget (count_in (codes "budget") 1 MOST_BUDGET) (λ n. SystemLine n)
 budget_taken = record { admits = λ line. refl; ends = refl }
 
 pub system_taken : (budget : ℕ) → TakesLine track_rules (SystemLine budget) system_in (λ s. Base budget)
@@ -52,7 +53,7 @@ arc_taken f (suc left) arcs some = record { admits = λ line. refl; ends = refl 
 pub arcs_taken : (f : Frame) → ArcsAreTaken track_rules Two f.ss (before_arcs f)
 arcs_taken f = record { takes = λ left arcs some. arc_taken f left arcs some }
 
-pub pair_count_taken : (f : Frame) (arcs : List Arc) → TakesLine track_rules (PairCount f arcs) (count_in (codes "pairs") 1 3600) (λ n. before_pairs f arcs n 0 [])
+pub pair_count_taken : (f : Frame) (arcs : List Arc) → TakesLine track_rules (PairCount f arcs) (count_in (codes "pairs") 1 MOST_PAIRS) (λ n. before_pairs f arcs n 0 [])
 pair_count_taken f arcs = record { admits = λ line. refl; ends = refl }
 
 pub pair_taken : (f : Frame) (arcs : List Arc) (left least : ℕ) (numbers : List ℕ) → 1 ≤ left

@@ -7,6 +7,7 @@ use Rattle.obs_rows.specs.Pairs.{ArePairs}
 use Rattle.obs_rows.specs.Ranges.{IsSystem, IsPoint}
 use Rattle.obs_rows.specs.Signals.{fine_signals}
 use Rattle.obs_rows.specs.Unused.{HasUsedRows, HasUsedShifts}
+use Rattle.obs_rows.specs.declared.limits.TheConstants.{MOST_RATIO, MOST_BUDGET}
 use Rattle.cert_lines.proofs.SameStructs.{le_prop, system_prop, point_prop, arcs_prop, pairs_prop, rows_prop, shifts_prop}
 use Rattle.track_data.specs.TrackTails.{IsTrackTailOf, IsTrackTailOf-prop}
 use Rattle.track_data.specs.declared.tracks.Track.{Track}
@@ -43,9 +44,9 @@ certs_same c d ratio budget track tail = λ i. record {
   track = track i;
   tail = tail i;
   ratio_from = is_prop→PathP (λ j. 1000 ≤ ratio j) (λ j. le_prop 1000 (ratio j)) c.ratio_from d.ratio_from i;
-  ratio_to = is_prop→PathP (λ j. ratio j ≤ 100_000) (λ j. le_prop (ratio j) 100_000) c.ratio_to d.ratio_to i;
+  ratio_to = is_prop→PathP (λ j. ratio j ≤ MOST_RATIO) (λ j. le_prop (ratio j) MOST_RATIO) c.ratio_to d.ratio_to i;
   budget_from = is_prop→PathP (λ j. 1 ≤ budget j) (λ j. le_prop 1 (budget j)) c.budget_from d.budget_from i;
-  budget_to = is_prop→PathP (λ j. budget j ≤ 100_000_000) (λ j. le_prop (budget j) 100_000_000) c.budget_to d.budget_to i;
+  budget_to = is_prop→PathP (λ j. budget j ≤ MOST_BUDGET) (λ j. le_prop (budget j) MOST_BUDGET) c.budget_to d.budget_to i;
   some_pairs = is_prop→PathP (λ j. 1 ≤ length (track j).pairs) (λ j. le_prop 1 (length (track j).pairs)) c.some_pairs d.some_pairs i;
   tail_fits =
       is_prop→PathP (λ j. IsTrackTailOf (fine_signals (track j).signals) (track j).arcs (track j).pairs (budget j) (tail j))

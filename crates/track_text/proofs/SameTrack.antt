@@ -7,6 +7,7 @@ use Rattle.obs_rows.specs.Pairs.{HasItsArcs}
 use Rattle.obs_rows.specs.Ranges.{IsPoint}
 use Rattle.obs_rows.specs.Signals.{used_signals, fine_signals}
 use Rattle.obs_rows.specs.Unused.{HasUsedRows, HasUsedShifts}
+use Rattle.obs_rows.specs.declared.limits.TheConstants.{MOST_BUDGET}
 use Rattle.int_search.specs.declared.answer.TwoBest.{TwoBest}
 use Rattle.cert_words.specs.TextLines.{ended_lines}
 use Rattle.cert_words.proofs.TextLaws.{lines_of_text}
@@ -137,7 +138,7 @@ data Shape (ss : List ℕ) (arcs : List Arc) (pairs : List PairRows) (budget : �
       → AreTrackVectors ss arcs pairs h moves best top → AreWholeTrackVectors moves best → Shape ss arcs pairs budget t
   single : (line : List ℕ) → track_tail_lines pairs t ≡ line ∷ [] → declined_in budget line ≡ Ok t → Shape ss arcs pairs budget t
 
-shape : (ss : List ℕ) (arcs : List Arc) (pairs : List PairRows) (budget : ℕ) (t : TrackTail) → budget ≤ 100_000_000 → IsTrackTailOf ss arcs pairs budget t → IsWholeTrackTail t
+shape : (ss : List ℕ) (arcs : List Arc) (pairs : List PairRows) (budget : ℕ) (t : TrackTail) → budget ≤ MOST_BUDGET → IsTrackTailOf ss arcs pairs budget t → IsWholeTrackTail t
     → Shape ss arcs pairs budget t
 shape ss arcs pairs budget (Fixed h moves best top) few fits whole = vectors true h moves best top refl refl fits whole
 shape ss arcs pairs budget (Unseparated h moves best top) few fits whole = vectors false h moves best top refl refl fits whole

@@ -2,6 +2,7 @@
 use Rattle.std.proofs.Common.{◌≡◌, ◌+◌, ◌≤◌, ℕ, ℤ, pos, List, [], ◌∷◌, length, take, drop, codes, Result, Ok, refl, sym, ap, ◌∙◌, subst, arith}
 use Rattle.std.proofs.lemmas.List.{append-nil}
 use Rattle.obs_rows.specs.declared.pair_rows.PairRows.{PairRows}
+use Rattle.obs_rows.specs.declared.limits.TheConstants.{MOST_BUDGET}
 use Rattle.integer_form.specs.declared.faults.Place.{Place}
 use Rattle.integer_form.specs.declared.faults.Place.TheVariants.{Y, Factor, Entry, Float, Point, Search, Sum}
 use Rattle.rinex_head.specs.declared.place.Flaw.{Flaw}
@@ -46,7 +47,7 @@ weak_read budget column pivot fits =
     let read = weak_spells (codes "declined weak") (last_column Two) column pivot (omega (arith, fits.column_to)) fits.pivot_in to in
     ap (λ (r : Result WeakPivot Flaw). and_then r (λ w. Ok (Weak w.column w.pivot))) read
 
-pub spent_read : (budget spent : ℕ) → budget ≤ 100_000_000 → spent ≡ budget → declined_in budget (spent_line spent) ≡ Ok (Spent spent)
+pub spent_read : (budget spent : ℕ) → budget ≤ MOST_BUDGET → spent ≡ budget → declined_in budget (spent_line spent) ≡ Ok (Spent spent)
 spent_read budget spent few is =
     let read = count_spells (codes "declined spent") budget budget spent (omega (arith, is)) (omega (arith, is)) (omega arith) in
     ap (λ (r : Result ℕ Flaw). and_then r (λ b. Ok (Spent b))) read

@@ -4,6 +4,7 @@ use Rattle.obs_rows.specs.declared.arcs.Arc.{Arc}
 use Rattle.obs_rows.specs.declared.pair_rows.PairRows.{PairRows}
 use Rattle.obs_rows.specs.Arcs.{free_count}
 use Rattle.obs_rows.specs.Integers.{integer_count}
+use Rattle.obs_rows.specs.declared.limits.TheConstants.{MOST_PAIRS, MOST_RATIO, MOST_BUDGET}
 use Rattle.rinex_head.specs.declared.place.At.{At}
 use Rattle.rinex_head.specs.declared.place.Flaw.{Flaw}
 use Rattle.rinex_head.specs.declared.place.What.TheVariants.{BadLine}
@@ -81,14 +82,14 @@ admit_tail f integers numbers line =
 
 abbrev pub admit : Expected → List ℕ → Result Expected Flaw
 admit Form line = and_then (word_in track_form line) (λ u. Ok Ratio)
-admit Ratio line = and_then (count_in (codes "ratio") 1000 100_000 line) (λ n. Ok Budget)
-admit Budget line = and_then (count_in (codes "budget") 1 100_000_000 line) (λ n. Ok (SystemLine n))
+admit Ratio line = and_then (count_in (codes "ratio") 1000 MOST_RATIO line) (λ n. Ok Budget)
+admit Budget line = and_then (count_in (codes "budget") 1 MOST_BUDGET line) (λ n. Ok (SystemLine n))
 admit (SystemLine budget) line = and_then (system_in line) (λ s. Ok (Base budget))
 admit (Base budget) line = and_then (vector_in (codes "base") 3 COORDINATES line) (λ p. Ok (Letters budget))
 admit (Letters budget) line = and_then (signals_in Two line) (λ s. Ok (ArcCount (frame budget (signals_of s))))
 admit (ArcCount f) line = and_then (count_in (codes "arcs") 2 200 line) (λ n. Ok (before_arcs f n []))
 admit (NextArc f left arcs) line = and_then (arc_in Two f.ss (free_count arcs) left line) (λ a. Ok (before_arcs f (left - 1) (arcs ++ a ∷ [])))
-admit (PairCount f arcs) line = and_then (count_in (codes "pairs") 1 3600 line) (λ n. Ok (before_pairs f arcs n 0 []))
+admit (PairCount f arcs) line = and_then (count_in (codes "pairs") 1 MOST_PAIRS line) (λ n. Ok (before_pairs f arcs n 0 []))
 admit (NextPair f arcs left least numbers) line = and_then (pair_in Two least line) (λ p. Ok (PairPoint f arcs (left - 1) p.number p.count numbers))
 admit (PairPoint f arcs pairs number count numbers) line =
     and_then (vector_in (codes "at") 3 COORDINATES line) (λ p. Ok (before_rows f arcs pairs number count 0 numbers))

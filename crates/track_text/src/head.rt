@@ -10,7 +10,7 @@ use crate::grammar::TrackText;
 use cert_lines::{COORDINATES, Version};
 use cert_words::TextLines;
 use grammar_lines::{next_count, next_letters, next_system, next_triple, next_word};
-use obs_rows::Signals;
+use obs_rows::{MOST_BUDGET, MOST_RATIO, Signals};
 use rinex_head::At;
 
 /// What the head says.
@@ -27,15 +27,15 @@ pub(crate) struct Head {
 pub(crate) fn read_head(lines: &mut TextLines<'_>) -> Result<Head, At>
     ensures reads { ReadsFree track_rules lines.old lines.new Form (λ h. ArcCount (frame h.budget (fine_signals h.signals))) result }
     ensures took { IfOk result (λ h. lines.old.left ≡ track_head_lines h.ratio h.budget h.system h.base h.signals ++ lines.new.left) }
-    ensures ratio { IfOk result (λ h. (1000 ≤ h.ratio) × (h.ratio ≤ 100_000)) }
-    ensures budget { IfOk result (λ h. (1 ≤ h.budget) × (h.budget ≤ 100_000_000)) }
+    ensures ratio { IfOk result (λ h. (1000 ≤ h.ratio) × (h.ratio ≤ MOST_RATIO)) }
+    ensures budget { IfOk result (λ h. (1 ≤ h.budget) × (h.budget ≤ MOST_BUDGET)) }
     ensures system { IfOk result (λ h. IsSystem h.system) }
     ensures base { IfOk result (λ h. IsPoint h.base) }
     ensures whole { IfOk result (λ h. length h.base ≡ 3) }
 {
     next_word::<TrackText>(lines, b"baseline-track 1")?;
-    let ratio = next_count::<TrackText>(lines, b"ratio", 1000, 100_000)?;
-    let budget = next_count::<TrackText>(lines, b"budget", 1, 100_000_000)?;
+    let ratio = next_count::<TrackText>(lines, b"ratio", 1000, MOST_RATIO as u64)?;
+    let budget = next_count::<TrackText>(lines, b"budget", 1, MOST_BUDGET)?;
     let system = next_system::<TrackText>(lines)?;
     let base = next_triple::<TrackText>(lines, b"base", &COORDINATES)?;
     let signals = next_letters::<TrackText>(lines, Version::Two)?;

@@ -5,6 +5,7 @@ ghost use Rattle.obs_rows.specs.Pairs.{HasItsArcs, ArePairs};
 ghost use Rattle.obs_rows.specs.Ranges.{IsPoint};
 ghost use Rattle.obs_rows.specs.Signals.{fine_signals};
 ghost use Rattle.obs_rows.specs.Unused.{HasUsedRows};
+ghost use Rattle.obs_rows.specs.declared.limits.TheConstants.{MOST_SATELLITES};
 ghost use Rattle.rinex_head.specs.Walk.{Reads, ReadsFree};
 ghost use Rattle.cert_lines.specs.Lengths.{IsWholePair};
 ghost use Rattle.cert_lines.specs.Lines.{pair_line, vector_line};
@@ -16,7 +17,7 @@ use crate::grammar::TrackText;
 use cert_lines::{COORDINATES, PairHead, Version};
 use cert_words::TextLines;
 use grammar_lines::{next_count, next_pair_head, next_triple, read_rows};
-use obs_rows::{Arc, PairList, PairRows, Signals};
+use obs_rows::{Arc, MOST_PAIRS, PairList, PairRows, Signals};
 use rinex_head::{At, TextFault};
 use std::alloc::Global;
 use track_data::Items;
@@ -47,10 +48,10 @@ fn next_placed_head(lines: &mut TextLines<'_>, least: u32, left: u32) -> Result<
     requires { 1 ≤ left }
     ensures reads { (budget : ℕ) (ss : List ℕ) (arcs : List Arc) (numbers : List ℕ) → ReadsFree track_rules lines.old lines.new (before_pairs (frame budget ss) arcs left least numbers) (λ p. before_rows (frame budget ss) arcs (left - 1) p.head.number p.head.count 0 numbers) result }
     ensures took { IfOk result (λ p. lines.old.left ≡ pair_line p.head.number p.head.tag.0 p.head.group p.head.count ∷ vector_line (codes "at") p.point ∷ lines.new.left) }
-    ensures number { IfOk result (λ p. (least ≤ p.head.number) × (p.head.number < 3600)) }
+    ensures number { IfOk result (λ p. (least ≤ p.head.number) × (p.head.number < MOST_PAIRS)) }
     ensures tag { IfOk result (λ p. p.head.tag.0 < 2 ^ 63) }
     ensures group { IfOk result (λ p. unsigned_abs p.head.group < 2 ^ 55) }
-    ensures count { IfOk result (λ p. (1 ≤ p.head.count) × (p.head.count ≤ 15)) }
+    ensures count { IfOk result (λ p. (1 ≤ p.head.count) × (p.head.count ≤ MOST_SATELLITES)) }
     ensures point { IfOk result (λ p. IsPoint p.point) }
     ensures whole { IfOk result (λ p. length p.point ≡ 3) }
 {
@@ -105,7 +106,7 @@ pub(crate) fn read_pairs(
     ensures whole { IfOk result (λ p. All IsWholePair p.pairs) }
     ensures triples { IfOk result (λ p. AreTriples p.points) }
 {
-    let count = next_count::<TrackText>(lines, b"pairs", 1, 3600)?;
+    let count = next_count::<TrackText>(lines, b"pairs", 1, MOST_PAIRS as u64)?;
     let mut pairs: Vec<PairRows> = Vec::new(alloc);
     let mut points: Vec<[i64; 3]> = Vec::new(alloc);
     let mut least = 0;

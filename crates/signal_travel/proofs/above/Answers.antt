@@ -6,15 +6,16 @@ use Rattle.iv_core.specs.declared.Iv.{Iv}
 use Rattle.signal_travel.specs.Grid.{offset, IsAboveWhole}
 use Rattle.signal_travel.proofs.AboveLaws.{coordinate, plain_coordinate, cast_size, near_places, plain_answer, lo_fits, has_above, has_below}
 use Rattle.signal_travel.proofs.above.Goals as goal
+use Rattle.obs_rows.specs.declared.limits.TheConstants.{MOST_COORDINATE}
 
 pub offset_of-requires-clause-size : goal.offset_of-requires-clause-size
-offset_of-requires-clause-size c = cast_size (get_or c.args.point.now 0 (pos 0)) 70000000000 (lit≤ tt) (coordinate c.args.point.now 0 (omega arith) c.requires.point)
+offset_of-requires-clause-size c = cast_size (get_or c.args.point.now 0 (pos 0)) MOST_COORDINATE (lit≤ tt) (coordinate c.args.point.now 0 (omega arith) c.requires.point)
 
 pub offset_of-requires-2-clause-size : goal.offset_of-requires-2-clause-size
-offset_of-requires-2-clause-size c = cast_size (get_or c.args.point.now 1 (pos 0)) 70000000000 (lit≤ tt) (coordinate c.args.point.now 1 (omega arith) c.requires.point)
+offset_of-requires-2-clause-size c = cast_size (get_or c.args.point.now 1 (pos 0)) MOST_COORDINATE (lit≤ tt) (coordinate c.args.point.now 1 (omega arith) c.requires.point)
 
 pub offset_of-requires-3-clause-size : goal.offset_of-requires-3-clause-size
-offset_of-requires-3-clause-size c = cast_size (get_or c.args.point.now 2 (pos 0)) 70000000000 (lit≤ tt) (coordinate c.args.point.now 2 (omega arith) c.requires.point)
+offset_of-requires-3-clause-size c = cast_size (get_or c.args.point.now 2 (pos 0)) MOST_COORDINATE (lit≤ tt) (coordinate c.args.point.now 2 (omega arith) c.requires.point)
 
 pub is_above-requires-clause-p_size : goal.is_above-requires-clause-p_size
 is_above-requires-clause-p_size c = cast_size (get_or c.args.point.now 0 (pos 0)) 6100000000000000 (lit≤ tt) (coordinate c.args.point.now 0 (omega arith) c.requires.point)

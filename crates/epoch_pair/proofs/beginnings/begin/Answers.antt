@@ -3,6 +3,7 @@ use Rattle.obs_store.specs.Epochs.{tags_of}
 use Rattle.epoch_pair.specs.declared.pairs.PairOf.{PairOf}
 use Rattle.epoch_pair.specs.Pairs.{Follows, IsTaken, IsNearPair}
 use Rattle.obs_rows.specs.BandSets.{bands_of}
+use Rattle.obs_rows.specs.declared.limits.TheConstants.{MOST_PAIRS}
 use Rattle.epoch_pair.specs.Beginnings.{HaveSignals}
 use Rattle.epoch_pair.proofs.Uses.{taken_all, taken_pairs}
 use Rattle.epoch_pair.proofs.BeginLaws.{refused_pair}
@@ -40,7 +41,7 @@ returns-in-Ok-take-clause-few c =
     subst (λ (l : List PairOf). IsTaken l o.first o.step o.count c.in-Ok-take.taken.items) c.as_slice.ensures.value c.in-Ok-take.ensures in
     below (length c.in-Ok-take.taken.items) o.count t.few o.count_to
   where
-    below : (n m : ℕ) → n ≤ m → m ≤ 3600 → n ≤ 3600
+    below : (n m : ℕ) → n ≤ m → m ≤ MOST_PAIRS → n ≤ MOST_PAIRS
     below n m h g = omega arith
 
 pub count_of-requires-clause-rises : goal.count_of-requires-clause-rises

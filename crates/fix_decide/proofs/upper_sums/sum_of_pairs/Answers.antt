@@ -4,12 +4,13 @@ use Rattle.std.proofs.lemmas.List.{drop_more, get_or_default}
 use Rattle.std.specs.Int.{w128}
 use Rattle.whole_math.specs.Vectors.{sum}
 use Rattle.obs_rows.specs.declared.pair_rows.PairRows.{PairRows}
+use Rattle.obs_rows.specs.declared.limits.TheConstants.{MOST_PAIRS}
 use Rattle.fix_decide.specs.UpperSums.{pair_upper}
 use Rattle.fix_decide.specs.Widths.{IsWide}
 use Rattle.fix_decide.proofs.GapSums.{next, Step, step}
 use Rattle.fix_decide.proofs.upper_sums.sum_of_pairs.Goals as goal
 
-few : (k n : ℕ) → k < n → n ≤ 3600 → (k + 1) * 2 ^ 107 ≤ 2 ^ 125
+few : (k n : ℕ) → k < n → n ≤ MOST_PAIRS → (k + 1) * 2 ^ 107 ≤ 2 ^ 125
 few k n h g = omega arith
 
 pub returns-in_err-sum-clause-refused : goal.returns-in_err-sum-clause-refused

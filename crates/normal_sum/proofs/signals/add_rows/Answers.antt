@@ -11,6 +11,7 @@ use Rattle.obs_rows.specs.declared.rows.Row.{Row}
 use Rattle.obs_rows.specs.Signals.{weight}
 use Rattle.obs_rows.specs.Integers.{integer_place}
 use Rattle.obs_rows.specs.SignalGroups.{signal_row}
+use Rattle.obs_rows.specs.declared.limits.TheConstants.{MOST_PAIRS}
 use Rattle.normal_sum.specs.declared.places.TheConstants.{MOST_ROWS}
 use Rattle.normal_sum.proofs.RowSums.{next_product, next_sum}
 use Rattle.normal_sum.proofs.signals.add_rows.Goals as goal
@@ -39,7 +40,7 @@ loop-k-init c = record {
   sum_size = λ j h. size_zero _ (zero_item MOST_COLUMNS j);
 }
 
-entry_fits : (a b k : ℕ) → a ≤ b + (k * 2 ^ 100) → b ≤ 3600 * 2 ^ 108 → k ≤ MOST_ROWS → a ≤ 2 ^ 120
+entry_fits : (a b k : ℕ) → a ≤ b + (k * 2 ^ 100) → b ≤ MOST_PAIRS * 2 ^ 108 → k ≤ MOST_ROWS → a ≤ 2 ^ 120
 entry_fits a b k h g l = omega arith
 
 total_fits : (a k : ℕ) → a ≤ k * 2 ^ 34 → k ≤ MOST_ROWS → a ≤ 2 ^ 40

@@ -17,6 +17,7 @@ use Rattle.obs_rows.specs.Integers.{integer_count}
 use Rattle.obs_rows.specs.SignalGroups.{signal_groups}
 use Rattle.form_tables.proofs.TableLaws.{zero_entry}
 use Rattle.obs_rows.proofs.GroupShapes.{groups_of}
+use Rattle.obs_rows.specs.declared.limits.TheConstants.{MOST_PAIRS}
 use Rattle.normal_sum.specs.Matrices.{IsRadiusSum, IsMirrored, radius_list}
 use Rattle.normal_sum.specs.Pairs.{pair_groups}
 use Rattle.normal_sum.specs.RadiusSums.{radii_of}
@@ -41,10 +42,10 @@ larger a b i h g = omega arith
 one_more : (i : ℕ) → (i * 2 ^ 79) + 2 ^ 79 ≤ (i + 1) * 2 ^ 79
 one_more i = omega arith
 
-in_range : (a i n : ℕ) → a ≤ i * 2 ^ 108 → i ≤ n → n ≤ 3600 → a < 2 ^ 120
+in_range : (a i n : ℕ) → a ≤ i * 2 ^ 108 → i ≤ n → n ≤ MOST_PAIRS → a < 2 ^ 120
 in_range a i n h g k = omega arith
 
-radii_range : (i n : ℕ) → i ≤ n → n ≤ 3600 → i * 2 ^ 79 < 2 ^ 100
+radii_range : (i n : ℕ) → i ≤ n → n ≤ MOST_PAIRS → i * 2 ^ 79 < 2 ^ 100
 radii_range i n h k = omega arith
 
 pub loop-pair-init : goal.loop-pair-init

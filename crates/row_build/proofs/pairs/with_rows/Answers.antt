@@ -4,6 +4,7 @@ use Rattle.std.specs.Int.{w64}
 use Rattle.std.proofs.lemmas.Option.{slice_get-get_or}
 use Rattle.obs_rows.specs.declared.rows.Row.{Row}
 use Rattle.obs_rows.specs.Rows.{AreBelow}
+use Rattle.obs_rows.specs.declared.limits.TheConstants.{MOST_SATELLITES}
 use Rattle.row_build.specs.HeldArcs.{IsHeld}
 use Rattle.row_build.specs.Rows.{setting_from, IsRow}
 use Rattle.row_build.specs.Far.{IsGroup, HasFarRow}
@@ -25,7 +26,7 @@ row_at-requires-clause-number c =
 
 pub push-requires-clause-room : goal.push-requires-clause-room
 push-requires-clause-room c =
-    let l : length c.args.held.now ≤ 15 = subst (λ (xs : List ℕ). length xs ≤ 15) (sym c.requires.held)
+    let l : length c.args.held.now ≤ MOST_SATELLITES = subst (λ (xs : List ℕ). length xs ≤ MOST_SATELLITES) (sym c.requires.held)
     (held_few c.args.from.now.screened.now.used c.args.from.now.arcs.now c.args.rows.number c.requires.cut c.args.from.now.screened.now.ranges c.requires.pair) in
     few_so_far c.args.held.now c.loop-place.rows.rows c.loop-place.place c.loop-place.invariant.3.arcs c.loop-place-test.true l
 

@@ -5,6 +5,7 @@ use Rattle.obs_rows.specs.Ranges.{IsSystem}
 use Rattle.obs_rows.specs.Signals.{fine_signals}
 use Rattle.obs_rows.specs.Unused.{HasUsedShifts}
 use Rattle.obs_rows.specs.ReceiverPoints.{IsReceiverPoint}
+use Rattle.obs_rows.specs.declared.limits.TheConstants.{MOST_KEPT_ARCS}
 use Rattle.round_steps.specs.Shifts.{AreShiftsBelow}
 use Rattle.slip_arcs.specs.Linked.{IsCutOf}
 use Rattle.session.specs.declared.file_rounds.FileRounds.{FileRounds}
@@ -28,11 +29,11 @@ outcome-requires-clause-ready c = λ on.
       (s.halves, subst IsSystem (sym s.screened.system_is) c.args.options.now.of_system),
     )
 
-few_kept : (f : FileRounds) → IsCutOf f.screened.used f.kept → length f.kept ≤ 54000
+few_kept : (f : FileRounds) → IsCutOf f.screened.used f.kept → length f.kept ≤ MOST_KEPT_ARCS
 few_kept f cut = kept_few f.screened.used f.kept cut f.screened.ranges f.screened.numbered f.screened.few
 
 pub outcome-requires-clause-few_arcs : goal.outcome-requires-clause-few_arcs
-outcome-requires-clause-few_arcs c = subst (λ (l : List Arc). length l ≤ 54000) (sym c.as_slice-kept.ensures) (few_kept c.in_ok-rounds.rounds c.in_ok-rounds.ensures.cut)
+outcome-requires-clause-few_arcs c = subst (λ (l : List Arc). length l ≤ MOST_KEPT_ARCS) (sym c.as_slice-kept.ensures) (few_kept c.in_ok-rounds.rounds c.in_ok-rounds.ensures.cut)
 
 pub outcome-requires-clause-shifts : goal.outcome-requires-clause-shifts
 outcome-requires-clause-shifts c = subst (AreShiftsBelow (2 ^ 40)) (sym c.as_slice-kept.ensures) (no_shifts c.in_ok-rounds.rounds.kept c.in_ok-rounds.ensures.screened.shifts)
@@ -58,7 +59,7 @@ returns-clause-outcome c = record {
   taken_is = c.in_ok-out.ensures.taken;
   all_is = c.in_ok-out.ensures.all ∙ c.in_ok-begun.ensures.all;
   kept_is = c.in_ok-out.ensures.kept ∙ ap (λ (l : List Arc). length l) c.as_slice-kept.ensures;
-  kept_few = subst (λ (n : ℕ). n ≤ 54000) (sym (c.in_ok-out.ensures.kept ∙ ap (λ (l : List Arc). length l) c.as_slice-kept.ensures)) (few_kept c.in_ok-rounds.rounds c.in_ok-rounds.ensures.cut);
+  kept_few = subst (λ (n : ℕ). n ≤ MOST_KEPT_ARCS) (sym (c.in_ok-out.ensures.kept ∙ ap (λ (l : List Arc). length l) c.as_slice-kept.ensures)) (few_kept c.in_ok-rounds.rounds c.in_ok-rounds.ensures.cut);
   delta_is = subst (λ (b : Bool). (IsTrue b → HasDelta c.args.base.now ⊎ HasDelta c.args.rover.now)
       × (HasDelta c.args.base.now ⊎ HasDelta c.args.rover.now → IsTrue b)) (sym c.in_ok-out.ensures.delta) c.have_delta-delta.ensures;
   answer_is = c.in_ok-out.ensures.answer;

@@ -3,8 +3,9 @@ use Rattle.std.proofs.lemmas.Int.{ints, to_z-of_z}
 use Rattle.std.specs.Int.{w64}
 use Rattle.signal_travel.specs.Grid.{offset}
 use Rattle.signal_travel.proofs.mask.offset_of.Goals as goal
+use Rattle.obs_rows.specs.declared.limits.TheConstants.{MOST_COORDINATE}
 
-plain : (g p : ℤ) → unsigned_abs g ≤ 8796093022209 → unsigned_abs p ≤ 70000000000 →
+plain : (g p : ℤ) → unsigned_abs g ≤ 8796093022209 → unsigned_abs p ≤ MOST_COORDINATE →
     to_z w64 (of_z w64 (to_z w64 (of_z w64 (pos 625 *ℤ to_z w64 (of_z w64 g))) -ℤ to_z w64 (of_z w64 (pos 8192 *ℤ to_z w64 (of_z w64 p))))) ≡ (pos 625 *ℤ g) -ℤ (pos 8192 *ℤ p)
 plain g p h k = omega (arith, ints)
 

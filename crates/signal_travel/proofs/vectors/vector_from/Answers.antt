@@ -8,18 +8,19 @@ use Rattle.signal_travel.specs.VectorBoxes.{coordinate_of}
 use Rattle.signal_travel.proofs.AboveLaws.{plain_coordinate, cast_size}
 use Rattle.signal_travel.proofs.PlaceLists.{coordinates}
 use Rattle.signal_travel.proofs.vectors.vector_from.Goals as goal
+use Rattle.obs_rows.specs.declared.limits.TheConstants.{MOST_COORDINATE}
 
-plain : (b : Iv 36) (q : Rational) (n : ℤ) → unsigned_abs n ≤ 70000000000 → Holds b (sub_r q (coordinate_of (to_z w64 (of_z w64 n)))) → Holds b (sub_r q (coordinate_of n))
+plain : (b : Iv 36) (q : Rational) (n : ℤ) → unsigned_abs n ≤ MOST_COORDINATE → Holds b (sub_r q (coordinate_of (to_z w64 (of_z w64 n)))) → Holds b (sub_r q (coordinate_of n))
 plain b q n small held = subst (λ (z : ℤ). Holds b (sub_r q (coordinate_of z))) (plain_coordinate n small) held
 
 pub offset_from-requires-clause-size : goal.offset_from-requires-clause-size
-offset_from-requires-clause-size c = cast_size c.args.point.now.x 70000000000 (lit≤ tt) (coordinates c.args.point.now).x_size
+offset_from-requires-clause-size c = cast_size c.args.point.now.x MOST_COORDINATE (lit≤ tt) (coordinates c.args.point.now).x_size
 
 pub offset_from-requires-2-clause-size : goal.offset_from-requires-2-clause-size
-offset_from-requires-2-clause-size c = cast_size c.args.point.now.y 70000000000 (lit≤ tt) (coordinates c.args.point.now).y_size
+offset_from-requires-2-clause-size c = cast_size c.args.point.now.y MOST_COORDINATE (lit≤ tt) (coordinates c.args.point.now).y_size
 
 pub offset_from-requires-3-clause-size : goal.offset_from-requires-3-clause-size
-offset_from-requires-3-clause-size c = cast_size c.args.point.now.z 70000000000 (lit≤ tt) (coordinates c.args.point.now).z_size
+offset_from-requires-3-clause-size c = cast_size c.args.point.now.z MOST_COORDINATE (lit≤ tt) (coordinates c.args.point.now).z_size
 
 pub returns-clause-holds : goal.returns-clause-holds
 returns-clause-holds c = λ p held.

@@ -2,6 +2,7 @@ use Rattle.std.proofs.Common.{◌≡◌, ℕ, ◌+◌, ◌-◌, ◌<◌, ◌≤�
 use Rattle.std.specs.Prelude.{slice_get}
 use Rattle.obs_rows.specs.declared.arcs.Arc.{Arc}
 use Rattle.obs_rows.specs.BandSets.{bands_of}
+use Rattle.obs_rows.specs.declared.limits.TheConstants.{MOST_SATELLITES}
 use Rattle.slip_arcs.specs.Used.{sats_at, goes_on}
 use Rattle.slip_arcs.specs.Runs.{AreKept, no_shift}
 use Rattle.slip_arcs.specs.Linked.{HaveDatums}
@@ -41,7 +42,7 @@ sats-preserved c =
 pub pairs-preserved : goal.pairs-preserved
 pairs-preserved c =
     let whole : length (sats_at c.args.used.now c.pairs.at) ≡ c.sats.k = omega (arith, length_at c.args.used.now c.pairs.at c.index-used-at.result c.pairs-test.true, c.len-k-end.ensures) in
-    let few : length (sats_at c.args.used.now c.pairs.at) ≤ 15 = few_at _ _ c.requires.ranges c.pairs-test.true in
+    let few : length (sats_at c.args.used.now c.pairs.at) ≤ MOST_SATELLITES = few_at _ _ c.requires.ranges c.pairs-test.true in
     record {
       done = done_next (bands_of c.args.bands) c.args.jump c.args.least c.args.used.now c.pairs.at c.sats.k _ _ whole (omega arith) c.sats.invariant.done;
       marked = marked_next _ _ _ c.sats.invariant.marked;

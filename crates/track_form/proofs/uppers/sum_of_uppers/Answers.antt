@@ -6,6 +6,7 @@ use Rattle.whole_math.specs.Vectors.{sum}
 use Rattle.whole_math.proofs.Order.{lins}
 use Rattle.obs_rows.specs.declared.pair_rows.PairRows.{PairRows}
 use Rattle.obs_rows.specs.Signals.{fine_signals}
+use Rattle.obs_rows.specs.declared.limits.TheConstants.{MOST_PAIRS}
 use Rattle.fix_decide.specs.UpperSums.{pair_upper}
 use Rattle.fix_decide.specs.Widths.{IsWide}
 use Rattle.fix_decide.proofs.GapSums.{next, Step, step}
@@ -14,7 +15,7 @@ use Rattle.track_sum.specs.Decided.{pair_uppers}
 use Rattle.track_form.proofs.Lists.{all_zip_from}
 use Rattle.track_form.proofs.uppers.sum_of_uppers.Goals as goal
 
-few : (k n : ℕ) → k < n → n ≤ 3600 → (k + 1) * 2 ^ 107 ≤ 2 ^ 125
+few : (k n : ℕ) → k < n → n ≤ MOST_PAIRS → (k + 1) * 2 ^ 107 ≤ 2 ^ 125
 few k n h g = omega arith
 
 same_place : (k n m : ℕ) → k < n → m ≡ n → k < m

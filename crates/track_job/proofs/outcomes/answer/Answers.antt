@@ -2,6 +2,7 @@ use Rattle.std.proofs.Common.{◌≤◌, List, length, refl, sym, ap, ◌∙◌,
 use Rattle.std.proofs.lemmas.Bool.{false≢true}
 use Rattle.obs_rows.specs.declared.arcs.Arc.{Arc}
 use Rattle.obs_rows.specs.Arcs.{AreArcs, free_count}
+use Rattle.obs_rows.specs.declared.limits.TheConstants.{MOST_KEPT_ARCS}
 use Rattle.round_steps.specs.Counts.{AreFew, AreMany}
 use Rattle.session.proofs.FewArcs.{kept_few}
 use Rattle.track_rows.specs.Tracks.{IsTrackOf}
@@ -12,7 +13,7 @@ use Rattle.track_job.proofs.outcomes.answer.Goals as goal
 pub free_count-requires : goal.free_count-requires
 free_count-requires c =
     let f = c.args.files.now in
-    subst (λ (l : List Arc). length l ≤ 54000) (sym c.as_slice-kept.ensures) (kept_few f.screened.used f.kept c.requires.cut f.screened.ranges f.screened.numbered f.screened.few)
+    subst (λ (l : List Arc). length l ≤ MOST_KEPT_ARCS) (sym c.as_slice-kept.ensures) (kept_few f.screened.used f.kept c.requires.cut f.screened.ranges f.screened.numbered f.screened.few)
 
 pub track_at-requires-clause-arcs : goal.track_at-requires-clause-arcs
 track_at-requires-clause-arcs c =

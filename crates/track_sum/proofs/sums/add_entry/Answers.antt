@@ -3,12 +3,13 @@ use Rattle.std.specs.Int.{w128}
 use Rattle.form_tables.specs.Tables.{entry}
 use Rattle.whole_math.proofs.Words.{as_w128}
 use Rattle.track_sum.proofs.sums.add_entry.Goals as goal
+use Rattle.obs_rows.specs.declared.limits.TheConstants.{MOST_PAIRS}
 
 -- the sum that is read, as a word
-read : (x y : ℤ) → x ≡ y → unsigned_abs y ≤ 3600 * 2 ^ 64 → to_z w128 (of_z w128 x) ≡ y
-read x y e h = as_w128 x (wider (unsigned_abs x) (subst (λ (z : ℤ). unsigned_abs z ≤ 3600 * 2 ^ 64) (sym e) h)) ∙ e
+read : (x y : ℤ) → x ≡ y → unsigned_abs y ≤ MOST_PAIRS * 2 ^ 64 → to_z w128 (of_z w128 x) ≡ y
+read x y e h = as_w128 x (wider (unsigned_abs x) (subst (λ (z : ℤ). unsigned_abs z ≤ MOST_PAIRS * 2 ^ 64) (sym e) h)) ∙ e
   where
-    wider : (a : ℕ) → a ≤ 3600 * 2 ^ 64 → a ≤ 2 ^ 126
+    wider : (a : ℕ) → a ≤ MOST_PAIRS * 2 ^ 64 → a ≤ 2 ^ 126
     wider a h = omega arith
 
 -- and the part
@@ -16,16 +17,16 @@ part_word : (x : ℤ) → unsigned_abs x ≤ 2 ^ 64 → to_z w128 (of_z w128 x) 
 part_word x h = as_w128 x (omega arith)
 
 -- and the new sum
-sum_word : (x y : ℤ) → unsigned_abs x ≤ unsigned_abs y + 2 ^ 64 → unsigned_abs y ≤ 3600 * 2 ^ 64 → to_z w128 (of_z w128 x) ≡ x
+sum_word : (x y : ℤ) → unsigned_abs x ≤ unsigned_abs y + 2 ^ 64 → unsigned_abs y ≤ MOST_PAIRS * 2 ^ 64 → to_z w128 (of_z w128 x) ≡ x
 sum_word x y h g = as_w128 x (wider (unsigned_abs x) (unsigned_abs y) h g)
   where
-    wider : (a b : ℕ) → a ≤ b + 2 ^ 64 → b ≤ 3600 * 2 ^ 64 → a ≤ 2 ^ 126
+    wider : (a b : ℕ) → a ≤ b + 2 ^ 64 → b ≤ MOST_PAIRS * 2 ^ 64 → a ≤ 2 ^ 126
     wider a b h g = omega arith
 
 pub plus-sum-requires-clause-sum_size : goal.plus-sum-requires-clause-sum_size
 plus-sum-requires-clause-sum_size c =
     let old : ℤ = entry c.args.table.now (3 + c.args.r) (3 + c.args.c) in
-    subst (λ (z : ℤ). unsigned_abs z ≤ 3600 * 2 ^ 64) (sym (read c.at-old.result old c.at-old.ensures.value c.requires.size)) c.requires.size
+    subst (λ (z : ℤ). unsigned_abs z ≤ MOST_PAIRS * 2 ^ 64) (sym (read c.at-old.result old c.at-old.ensures.value c.requires.size)) c.requires.size
 
 pub plus-sum-requires-clause-part_size : goal.plus-sum-requires-clause-part_size
 plus-sum-requires-clause-part_size c = subst (λ (z : ℤ). unsigned_abs z ≤ 2 ^ 64) (sym (part_word c.part.result c.part.ensures.size)) c.part.ensures.size

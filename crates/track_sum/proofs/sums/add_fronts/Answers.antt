@@ -8,6 +8,7 @@ use Rattle.obs_rows.specs.declared.arcs.Arc.{Arc}
 use Rattle.obs_rows.specs.declared.pair_rows.PairRows.{PairRows}
 use Rattle.obs_rows.specs.Signals.{fine_signals}
 use Rattle.obs_rows.specs.Integers.{integer_count}
+use Rattle.obs_rows.specs.declared.limits.TheConstants.{MOST_PAIRS}
 use Rattle.form_tables.specs.declared.sizes.TheConstants.{MOST_COLUMNS}
 use Rattle.form_tables.specs.Tables.{entry}
 use Rattle.form_tables.proofs.TableLaws.{zero_entry}
@@ -53,7 +54,7 @@ factors_more arcs ss pairs kept more k p m are inside at is pushed =
 larger : (a b i : ℕ) → a ≤ b + 2 ^ 64 → b ≤ i * 2 ^ 64 → a ≤ (i + 1) * 2 ^ 64
 larger a b i h g = omega arith
 
-few : (a i n : ℕ) → a ≤ i * 2 ^ 64 → i < n → n ≤ 3600 → a ≤ 3600 * 2 ^ 64
+few : (a i n : ℕ) → a ≤ i * 2 ^ 64 → i < n → n ≤ MOST_PAIRS → a ≤ MOST_PAIRS * 2 ^ 64
 few a i n h g k = omega arith
 
 zero_first : (a b : ℤ) → a ≡ pos 0 → a +ℤ b ≡ b

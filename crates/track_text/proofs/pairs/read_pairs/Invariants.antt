@@ -3,6 +3,7 @@ use Rattle.obs_rows.specs.Pairs.{HasItsArcs}
 use Rattle.obs_rows.specs.Ranges.{IsPoint}
 use Rattle.obs_rows.specs.Signals.{fine_signals}
 use Rattle.obs_rows.specs.Unused.{HasUsedRows}
+use Rattle.obs_rows.specs.declared.limits.TheConstants.{MOST_PAIRS}
 use Rattle.rinex_head.specs.Walk.{rest_gives}
 use Rattle.cert_lines.specs.Lengths.{IsWholePair}
 use Rattle.cert_lines.specs.Lines.{count_line}
@@ -17,7 +18,7 @@ invariant-pairs l = record {
       ≡ rest_gives track_rules l.lines (before_pairs (frame budget (fine_signals l.signals)) l.arcs l.left l.least (numbers_of l.pairs.items));
   took : l.fn.lines.left ≡ count_line (codes "pairs") (length l.pairs.items + l.left) ∷ (all_placed_pairs (fine_signals l.signals) l.pairs.items l.points.items ++ l.lines.left);
   some : 1 ≤ length l.pairs.items + l.left;
-  few : length l.pairs.items + l.left ≤ 3600;
+  few : length l.pairs.items + l.left ≤ MOST_PAIRS;
   each : length l.points.items ≡ length l.pairs.items;
   below : All (λ p. p.number < l.least) l.pairs.items;
   rising : AllPairs (λ p q. p.number < q.number) l.pairs.items;
