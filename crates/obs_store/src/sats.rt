@@ -4,7 +4,7 @@ ghost use Rattle.obs_store.specs.Satellites.{AreSatellites, has_satellite};
 ghost use Rattle.obs_store.specs.Seen.{numbers_of};
 
 use crate::stored::{StoredSat, StoredValue, find_sat, has_number, sat_at, store_values};
-use crate::{SLOTS, SatObs};
+use crate::{SLOTS, SatObs, Value};
 use std::alloc::{AllocError, Global};
 use std::marker::Model;
 
@@ -89,13 +89,25 @@ impl Satellites {
         ensures added { OnOk result (self.new ≡ self.old ++ sat ∷ []) }
         ensures unchanged { OnErr result (self.new ≡ self.old) }
     {
+        self.add(sat.number, &sat.values)
+    }
+
+    /// The same of a satellite of this number with these values, which aren't copied as a whole.
+    pub fn add(
+        &mut self,
+        number: u8,
+        values: &[Option<Value>; SLOTS],
+    ) -> Result<(), AllocError>
+        requires from_first { 1 ≤ number }
+        requires to_last { number ≤ 36 }
+        requires once { has_satellite number self.old ≡ false }
+        ensures added { OnOk result (self.new ≡ self.old ++ record { number = number; values = values.now } ∷ []) }
+        ensures unchanged { OnErr result (self.new ≡ self.old) }
+    {
         self.sats.reserve(1)?;
         self.values.reserve(SLOTS)?;
-        let count = store_values(&mut self.values, &sat.values);
-        self.sats.push_reserved(StoredSat {
-            number: sat.number,
-            count,
-        });
+        let count = store_values(&mut self.values, values);
+        self.sats.push_reserved(StoredSat { number, count });
         Ok(())
     }
 

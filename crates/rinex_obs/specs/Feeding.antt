@@ -22,8 +22,8 @@ line_gives s line = if nat_lt 4096 (length line) then flawed 1 LongLine else adm
 abbrev pub gives_with : System → ℕ → List ℕ → Expected → List ℕ → Result ObsFile At
 gives_with system n line s more = walk (obs_rules system) (lines_from more line) n s
 
--- a line of that number gives what is expected next, or is refused by this
-abbrev pub Takes : Result Expected Flaw → ℕ → Expected → Result (Unit {0}) TextFault → Type 0
+-- a line of that number gives what stands next, or is refused by this
+abbrev pub Takes : {S : Type 0} → Result S Flaw → ℕ → S → Result (Unit {0}) TextFault → Type 0
 Takes given number next (Ok u) = given ≡ Ok next
 Takes given number next (Err (Refused at)) = at_line number given ≡ Err at
 Takes given number next (Err NoMemory) = Unit {0}

@@ -16,6 +16,7 @@ use Rattle.rinex_obs.specs.FirstLine.{first_line_of}
 use Rattle.rinex_obs.specs.HeaderLines.{header_line_of}
 use Rattle.obs_fields.specs.Types.{first_types_of, further_types_of, kept_from, listed_of}
 use Rattle.obs_fields.specs.declared.layout.Layout.TheVariants.{Rinex3}
+use Rattle.obs_fields.specs.declared.types.KeptType.{KeptType}
 use Rattle.obs_fields.specs.Labels.{event_line_of}
 use Rattle.rinex_obs.specs.EpochLines.{epoch_line_of}
 use Rattle.rinex_obs.specs.SatLines.{satellite_line_of}
@@ -109,6 +110,10 @@ after_epoch h epochs (line.Epoch tag power n) = more_sats h epochs tag power [] 
 abbrev pub with_satellite : List SatObs → Option SatObs → List SatObs
 with_satellite sats None = sats
 with_satellite sats (Some s) = sats ++ s ∷ []
+
+-- the satellites of an epoch after one more line
+abbrev pub sats_with : System → List KeptType → List SatObs → List ℕ → Result (List SatObs) Flaw
+sats_with system kept sats bytes = and_then (satellite_line_of system kept sats bytes) (λ s. Ok (with_satellite sats s))
 
 abbrev pub admit : Expected → List ℕ → Result Expected Flaw
 admit (First system) bytes = and_then (first_line_of system bytes) (λ hundredths. Ok (Head (bare_header system hundredths)))

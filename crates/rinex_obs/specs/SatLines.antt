@@ -16,6 +16,11 @@ use Rattle.obs_fields.specs.SatFields.{satellite_at, values_in}
 abbrev pub satellite_of : ℕ → List (Option Value) → SatObs
 satellite_of number values = record { number = number; values = values }
 
+-- the satellite that was found, if any, with these values
+abbrev pub found_with : Option ℕ → List (Option Value) → Option SatObs
+found_with None values = None
+found_with (Some number) values = Some (satellite_of number values)
+
 abbrev pub with_values : List KeptType → List SatObs → List ℕ → Option ℕ → Result (Option SatObs) Flaw
 with_values kept sats line None = Ok None
 with_values kept sats line (Some number) =

@@ -1,10 +1,10 @@
 //! A body of which more may follow.
-ghost use Rattle.std.specs.Prelude.{◌≡◌, ◌-◌, ◌<◌, ◌≤◌, [], length, IfSome, OnOk, Ok, Err, false};
+ghost use Rattle.std.specs.Prelude.{◌≡◌, ◌-◌, ◌<◌, [], length, IfSome, OnOk};
 ghost use Rattle.obs_store.specs.Epochs.{last_tag_of};
-ghost use Rattle.obs_store.specs.Satellites.{has_satellite};
 ghost use Rattle.obs_fields.specs.Types.{kept_from};
 ghost use Rattle.rinex_obs.specs.Parts.{FitsBehind, FitsBehind-prop};
-ghost use Rattle.rinex_obs.specs.ObsRules.{Body, Sats, Skip, more_sats, more_lines, with_satellite, admit, finish};
+ghost use Rattle.rinex_obs.specs.ObsRules.{Body, Sats, Skip, more_sats, more_lines, sats_with, admit, finish};
+ghost use Rattle.rinex_obs.specs.Feeding.{Takes};
 
 use crate::epoch_lines::{EpochLine, epoch_line};
 use crate::header::{Header, flaw};
@@ -12,8 +12,8 @@ use crate::sat_lines::satellite_line;
 use gps_time::Tick;
 use line_source::Line;
 use obs_fields::{KeptType, Layout, event_line, listed_types};
-use obs_store::{Epoch, Epochs, ObsFile, SatObs, Satellites};
-use rinex_head::{Flaw, TextFault, What};
+use obs_store::{Epoch, Epochs, ObsFile, SLOTS, Satellites};
+use rinex_head::{Flaw, System, TextFault, What};
 use std::alloc::{AllocError, Global};
 use std::mem;
 
@@ -27,21 +27,31 @@ pub struct OpenEpoch {
 }
 
 impl OpenEpoch {
-    // A line has this satellite, or none of the system.
-    fn add(&mut self, found: Option<SatObs>) -> Result<(), AllocError>
+    // Reads the line of a satellite, which is added where it is of the system. Its values are stored from where they were read.
+    fn take_line(
+        &mut self,
+        system: System,
+        kept: &[KeptType],
+        line: &Line<'_>,
+    ) -> Result<(), TextFault>
         requires due { 0 < self.old.left }
-        requires from_one { IfSome found (λ s. 1 ≤ s.number) }
-        requires to_last { IfSome found (λ s. s.number ≤ 36) }
-        requires once { IfSome found (λ s. has_satellite s.number self.old.sats ≡ false) }
-        ensures sats { OnOk result (self.new.sats ≡ with_satellite self.old.sats found) }
-        ensures left { OnOk result (self.new.left ≡ self.old.left - 1) }
-        ensures tag { OnOk result (self.new.tag ≡ self.old.tag) }
-        ensures power { OnOk result (self.new.power ≡ self.old.power) }
+        ensures sats { Takes (sats_with system kept.now self.old.sats line.now.bytes.now) line.now.number self.new.sats result }
+        ensures left { self.new.left ≡ self.old.left - 1 }
+        ensures tag { self.new.tag ≡ self.old.tag }
+        ensures power { self.new.power ≡ self.old.power }
     {
         self.left -= 1;
-        match found {
-            Some(sat) => self.sats.push(sat),
-            None => Ok(()),
+        let mut values = [None; SLOTS];
+        let found = match satellite_line(system, line.bytes, kept, &self.sats, &mut values) {
+            Ok(found) => found,
+            Err(flaw) => return Err(TextFault::Refused(flaw.at(line.number))),
+        };
+        let Some(number) = found else {
+            return Ok(());
+        };
+        match self.sats.add(number, &values) {
+            Ok(()) => Ok(()),
+            Err(AllocError) => Err(TextFault::NoMemory),
         }
     }
 }
@@ -69,7 +79,6 @@ pub struct OpenBody {
 
 impl OpenBody {
     ghost use Rattle.rinex_obs.specs.Opened.{expected_in_body};
-    ghost use Rattle.rinex_obs.specs.Feeding.{Takes};
 
     /// The body after its header, whose kept types are these.
     pub fn new(alloc: Global, header: Header, kept: Vec<KeptType>) -> OpenBody
@@ -85,7 +94,22 @@ impl OpenBody {
     }
 
     /// Reads the next line.
+    #[tactic(auto, using(crate::proofs::Admits::sats_due, crate::proofs::Admits::sats_taken))]
     pub fn take_line(&mut self, alloc: Global, line: &Line<'_>) -> Result<(), TextFault>
+        ensures { Takes (admit (expected_in_body self.old) line.now.bytes.now) line.now.number (expected_in_body self.new) result }
+    {
+        // An epoch of which more lines are due stays in its place.
+        match &mut self.part {
+            Part::Epoch(epoch) if epoch.left > 1 => {
+                epoch.take_line(self.header.system, &self.kept, line)
+            }
+            _ => self.take_any_line(alloc, line),
+        }
+    }
+
+    // The same, after which the part may be whole.
+    #[inline(never)]
+    fn take_any_line(&mut self, alloc: Global, line: &Line<'_>) -> Result<(), TextFault>
         ensures { Takes (admit (expected_in_body self.old) line.now.bytes.now) line.now.number (expected_in_body self.new) result }
     {
         match mem::replace(&mut self.part, Part::Between) {
@@ -123,7 +147,7 @@ impl OpenBody {
         }
     }
 
-    #[inline(never)]
+    #[tactic(auto, using(crate::proofs::Admits::sats_taken))]
     fn take_satellite(&mut self, line: &Line<'_>, mut epoch: OpenEpoch) -> Result<(), TextFault>
         requires between { self.old.part ≡ Part.Between }
         requires due { 0 < epoch.left }
@@ -131,14 +155,7 @@ impl OpenBody {
         requires later { IfSome (last_tag_of self.old.epochs) (λ last. last.0 < epoch.tag.0) }
         ensures { Takes (admit (Sats self.old.header self.old.epochs epoch.tag epoch.power epoch.sats epoch.left) line.now.bytes.now) line.now.number (expected_in_body self.new) result }
     {
-        let found = match satellite_line(self.header.system, line.bytes, &self.kept, &epoch.sats) {
-            Ok(found) => found,
-            Err(flaw) => return Err(TextFault::Refused(flaw.at(line.number))),
-        };
-        match epoch.add(found) {
-            Ok(()) => {}
-            Err(AllocError) => return Err(TextFault::NoMemory),
-        }
+        epoch.take_line(self.header.system, &self.kept, line)?;
         match self.expect_epoch(epoch) {
             Ok(()) => Ok(()),
             Err(AllocError) => Err(TextFault::NoMemory),

@@ -1,15 +1,16 @@
 -- One satellite more, whose values are stored after the others.
 use Rattle.std.proofs.Common.{◌≡◌, ◌∙◌, ◌++◌, [], ◌∷◌, false, ap, subst, List}
 use Rattle.obs_store.specs.declared.stored.StoredSat.{StoredSat}
+use Rattle.obs_store.specs.declared.values.SatObs.{SatObs}
 use Rattle.obs_store.specs.declared.stored.StoredValue.{StoredValue}
 use Rattle.obs_store.specs.Satellites.{has_satellite}
 use Rattle.obs_store.specs.Stored.{AreStoredBehind}
 use Rattle.obs_store.proofs.StoredLaws.{stored_push, are_stored_push}
-use Rattle.obs_store.proofs.sats.Satellites.push.Goals as goal
+use Rattle.obs_store.proofs.sats.Satellites.add.Goals as goal
 
 pub invariant_of-self-2 : goal.invariant_of-self-2
 invariant_of-self-2 c =
-    let s = c.args.sat in
+    let s : SatObs = record { number = c.args.number; values = c.args.values.now } in
     let sats = c.self.inside.sats.items in
     let values = c.self.inside.values.items in
     let count = c.store_values-count.result in
@@ -23,7 +24,7 @@ invariant_of-self-2 c =
 
 pub returns-clause-added : goal.returns-clause-added
 returns-clause-added c =
-    let s = c.args.sat in
+    let s : SatObs = record { number = c.args.number; values = c.args.values.now } in
     let sats = c.self.inside.sats.items in
     let values = c.self.inside.values.items in
     let count = c.store_values-count.result in
