@@ -9,10 +9,10 @@ use Rattle.decorrelate.proofs.Words.{small_w64, multiple_w64}
 use Rattle.decorrelate.proofs.MovedRows.{taken_more}
 use Rattle.decorrelate.proofs.columns.multiples.Goals as goal
 
-as_sum : (x y : ℤ) (c : ℕ) → c < MOST_FORM_COLUMNS → unsigned_abs x ≤ c * 2 ^ 63 → unsigned_abs y ≤ 2 ^ 63 → to_z w128 (of_z w128 (x +ℤ y)) ≡ x +ℤ y
+as_sum : (x y : ℤ) (c : ℕ) → c < MOST_FORM_COLUMNS → unsigned_abs x ≤ c * 2 ^ 104 → unsigned_abs y ≤ 2 ^ 104 → to_z w128 (of_z w128 (x +ℤ y)) ≡ x +ℤ y
 as_sum x y c h g k = omega (arith, ints)
 
-sum_size : (x y : ℤ) (c : ℕ) → unsigned_abs x ≤ c * 2 ^ 63 → unsigned_abs y ≤ 2 ^ 63 → unsigned_abs (x +ℤ y) ≤ (c + 1) * 2 ^ 63
+sum_size : (x y : ℤ) (c : ℕ) → unsigned_abs x ≤ c * 2 ^ 104 → unsigned_abs y ≤ 2 ^ 104 → unsigned_abs (x +ℤ y) ≤ (c + 1) * 2 ^ 104
 sum_size x y c g k = omega (arith, ints)
 
 pub loop-c-preserved : goal.loop-c-preserved
@@ -21,13 +21,13 @@ loop-c-preserved c =
     let s : ℤ = to_z w128 c.loop-c.sum-bits in
     let ek : to_z w64 (of_z w64 (item c.args.ks.now i)) ≡ item c.args.ks.now i = multiple_w64 (item c.args.ks.now i) (c.requires.ks_size i (omega arith)) in
     let em : to_z w64 (of_z w64 (entry c.args.map.now c.args.row i)) ≡ entry c.args.map.now c.args.row i = small_w64 (entry c.args.map.now c.args.row i) (c.requires.small i) in
-    let wp : to_z w128 (of_z w128 c.product-sum.result) ≡ c.product-sum.result = as_w128 c.product-sum.result (omega (arith, c.product-sum.ensures.size)) in
-    let ws : to_z w128 (of_z w128 (s +ℤ to_z w128 (of_z w128 c.product-sum.result))) ≡ s +ℤ c.product-sum.result =
-    ap (λ z. to_z w128 (of_z w128 (s +ℤ z))) wp ∙ as_sum s c.product-sum.result i (omega (arith, c.requires.place)) c.loop-c.invariant.size c.product-sum.ensures.size in
-    let v : c.product-sum.result ≡ item c.args.ks.now i *ℤ entry c.args.map.now c.args.row i = rw (c.at.ensures.value, ek, em) at c.product-sum.ensures.value in
+    let wp : to_z w128 (of_z w128 c.times-sum.result) ≡ c.times-sum.result = as_w128 c.times-sum.result (omega (arith, c.times-sum.ensures.size)) in
+    let ws : to_z w128 (of_z w128 (s +ℤ to_z w128 (of_z w128 c.times-sum.result))) ≡ s +ℤ c.times-sum.result =
+    ap (λ z. to_z w128 (of_z w128 (s +ℤ z))) wp ∙ as_sum s c.times-sum.result i (omega (arith, c.requires.place)) c.loop-c.invariant.size c.times-sum.ensures.size in
+    let v : c.times-sum.result ≡ item c.args.ks.now i *ℤ entry c.args.map.now c.args.row i = rw (c.at.ensures.value, ek, em) at c.times-sum.ensures.value in
     record {
       value = ws ∙ ap₂ (λ x y. x +ℤ y) c.loop-c.invariant.value v
           ∙ sym (taken_more (pos 0) (item c.args.ks.now) (entry c.args.map.now c.args.row) 0 i
           ∙ ap (λ b. taken (pos 0) (item c.args.ks.now) (entry c.args.map.now c.args.row) 0 i +ℤ (item c.args.ks.now b *ℤ entry c.args.map.now c.args.row b)) (omega arith));
-      size = subst (λ (z : ℤ). unsigned_abs z ≤ (i + 1) * 2 ^ 63) (sym ws) (sum_size s c.product-sum.result i c.loop-c.invariant.size c.product-sum.ensures.size);
+      size = subst (λ (z : ℤ). unsigned_abs z ≤ (i + 1) * 2 ^ 104) (sym ws) (sum_size s c.times-sum.result i c.loop-c.invariant.size c.times-sum.ensures.size);
     }

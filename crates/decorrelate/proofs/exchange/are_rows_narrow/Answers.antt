@@ -1,4 +1,4 @@
-use Rattle.std.proofs.Common.{ℕ, ◌+◌, ◌<◌, ℤ, to_z, of_z, w64, refl, below_more}
+use Rattle.std.proofs.Common.{ℕ, ◌+◌, ◌<◌, ℤ, to_z, of_z, w64, below_more}
 use Rattle.form_tables.specs.Tables.{entry}
 use Rattle.decorrelate.specs.Turning.{AreColumnsSmall}
 use Rattle.decorrelate.proofs.exchange.are_rows_narrow.Goals as goal
@@ -10,5 +10,5 @@ loop-i-preserved c =
     let q : ℤ = to_z w64 (of_z w64 c.args.q) in
     record {
       narrow = below_more (λ (k : ℕ). j + 1 < k → AreColumnsSmall r q j (entry c.args.l.now k)) c.loop-i.i c.loop-i.invariant.narrow
-          (λ after. c.if-not-is_row_narrow.ensures.narrow refl);
+          (λ after. c.in-Some.ensures.small);
     }
