@@ -155,6 +155,22 @@ fn bounds_quotients(rt: HostRuntime) -> Result<(), Fail> {
     Ok(())
 }
 
+// From inverses of other numbers each quotient is divided out, to the same ends.
+#[test]
+fn bounds_quotients_by_poor_inverses(rt: HostRuntime) -> Result<(), Fail> {
+    let poor = between((1_000_003, 1_000_033))?.inverses();
+    for row in QUOTIENTS.iter() {
+        let (a, b, want) = *row;
+        let found = between(a)?.div_by::<0, 2>(&between(b)?, &poor);
+        assert_eq!(rt;
+            found.map(|found| (found.lo, found.hi)),
+            want,
+            "{a:?} over {b:?}"
+        );
+    }
+    Ok(())
+}
+
 // The scale of the root, the ends of a box and those of its root. A guess that is far off would not end in the time of a test.
 static ROOTS: [(u32, Ends, Ends); 13] = [
     (4, (2, 2), (22, 23)),

@@ -13,7 +13,7 @@ use crate::places::Point;
 use crate::sent::SeenPlace;
 use crate::spread::Spread;
 use crate::vectors::{length_by, vector_from};
-use iv_core::Iv;
+use iv_core::{Inverses, Iv};
 use obs_rows::DIRECTION_EXPONENT;
 
 // A move is at most 16 m long, and changes the range by at most 33/2 m: both in metres at 2^-35
@@ -48,7 +48,7 @@ fn move_less_twice(x: &Iv<36>) -> Iv<35>
 }
 
 // The quotient, which is at most 28 units past 1 in size and at most 57 wide.
-fn quotient_of(change: &Iv<35>, sum: &Iv<35>) -> Iv<DIRECTION_EXPONENT>
+fn quotient_of(change: &Iv<35>, sum: &Iv<35>, inverses: &Inverses) -> Iv<DIRECTION_EXPONENT>
     requires least { pos (9999991 * 2 ^ 36) ≤ℤ sum.now.lo }
     requires low { neg_ℤ (sum.now.lo +ℤ pos (66 * 2 ^ 34)) ≤ℤ change.now.lo }
     requires high { change.now.hi ≤ℤ (sum.now.lo +ℤ pos (66 * 2 ^ 34)) }
@@ -58,7 +58,9 @@ fn quotient_of(change: &Iv<35>, sum: &Iv<35>) -> Iv<DIRECTION_EXPONENT>
     ensures size { IsWithin (2 ^ DIRECTION_EXPONENT + 28) result }
     ensures width { width_of result ≤ℤ pos 57 }
 {
-    change.div_to::<35, DIRECTION_EXPONENT>(sum).unwrap()
+    change
+        .div_by::<35, DIRECTION_EXPONENT>(sum, inverses)
+        .unwrap()
 }
 
 // The middle of the box, rounded down
@@ -97,8 +99,8 @@ fn spread_of(x: &Iv<DIRECTION_EXPONENT>) -> Spread
     }
 }
 
-// One coordinate, from that of the vector and the vector's length
-fn coordinate_spread(x: &Iv<36>, range: &Iv<36>) -> Spread
+// One coordinate, from that of the vector and the vector's length. The inverses are those of the sum of the ranges.
+fn coordinate_spread(x: &Iv<36>, range: &Iv<36>, inverses: &Inverses) -> Spread
     requires size { IsWithin (45200000 * 2 ^ 36) x.now }
     requires far { pos (10000000 * 2 ^ 36) ≤ℤ range.now.lo }
     requires near { range.now.hi ≤ℤ pos (45200000 * 2 ^ 36) }
@@ -111,7 +113,7 @@ fn coordinate_spread(x: &Iv<36>, range: &Iv<36>) -> Spread
         sub_r (mul_r (of_whole (pos 2)) r) (of_whole (pos 33)) ≤ʳ mul_r (of_whole (pos 2)) s →
         mul_r u (add_r r s) ≈ sub_r m (mul_r (of_whole (pos 2)) q) → IsInSpread result u }
 {
-    spread_of(&quotient_of(&move_less_twice(x), &sum_of_ranges(range)))
+    spread_of(&quotient_of(&move_less_twice(x), &sum_of_ranges(range), inverses))
 }
 
 /// The spreads of a direction's coordinates.
@@ -130,10 +132,11 @@ pub fn direction_to(seen: &SeenPlace, point: &Point) -> Direction
 {
     let vector = vector_from(point, &seen.place);
     let range = length_by(&vector, 0);
+    let inverses = sum_of_ranges(&range).inverses();
     Direction {
-        x: coordinate_spread(&vector.x, &range),
-        y: coordinate_spread(&vector.y, &range),
-        z: coordinate_spread(&vector.z, &range),
+        x: coordinate_spread(&vector.x, &range, &inverses),
+        y: coordinate_spread(&vector.y, &range, &inverses),
+        z: coordinate_spread(&vector.z, &range, &inverses),
     }
 }
 
@@ -148,9 +151,10 @@ pub fn direction_of(sight: &Sight, point: &Point) -> Direction
         IsMeanDirection place (point_of point.now.x point.now.y point.now.z) move direction →
         IsInSpread result.x direction.x × IsInSpread result.y direction.y × IsInSpread result.z direction.z }
 {
+    let inverses = sum_of_ranges(&sight.range).inverses();
     Direction {
-        x: coordinate_spread(&sight.vector.x, &sight.range),
-        y: coordinate_spread(&sight.vector.y, &sight.range),
-        z: coordinate_spread(&sight.vector.z, &sight.range),
+        x: coordinate_spread(&sight.vector.x, &sight.range, &inverses),
+        y: coordinate_spread(&sight.vector.y, &sight.range, &inverses),
+        z: coordinate_spread(&sight.vector.z, &sight.range, &inverses),
     }
 }

@@ -17,7 +17,7 @@ ratio : (a b c : ℤ) → pos (9999991 * 2 ^ 36) ≤ℤ c → neg_ℤ (c +ℤ po
     (neg_ℤ (pos (2 ^ DIRECTION_EXPONENT + 28) *ℤ c) ≤ℤ (a *ℤ pos (2 ^ DIRECTION_EXPONENT))) × ((b *ℤ pos (2 ^ DIRECTION_EXPONENT)) ≤ℤ (pos (2 ^ DIRECTION_EXPONENT + 28) *ℤ c))
 ratio a b c h l u = (omega (arith, ints), omega (arith, ints))
 
-ends : (c : goal.After-div_to) →
+ends : (c : goal.After-div_by) →
     let x = c.args.change.now in
     let y = c.args.sum.now in
     (neg_ℤ (pos (2 ^ DIRECTION_EXPONENT + 28)) ≤ℤ least_ratio x.lo x.hi y.lo y.hi (2 ^ DIRECTION_EXPONENT))
@@ -32,13 +32,13 @@ pub unwrap-requires : goal.unwrap-requires
 unwrap-requires c =
     let y = c.args.sum.now in
     let w = ends c in
-    ok_of_quotient c.div_to.result (λ h. apart y.lo y.hi c.requires.least y.ordered (c.div_to.ensures.zero_inside.0 h))
-    (λ h. in_reach _ _ (2 ^ DIRECTION_EXPONENT + 28) (lit≤ tt) w.0 w.1 ((c.div_to.ensures.overwidth.0 h).1))
+    ok_of_quotient c.div_by.result (λ h. apart y.lo y.hi c.requires.least y.ordered (c.div_by.ensures.zero_inside.0 h))
+    (λ h. in_reach _ _ (2 ^ DIRECTION_EXPONENT + 28) (lit≤ tt) w.0 w.1 ((c.div_by.ensures.overwidth.0 h).1))
 
 pub returns-clause-size : goal.returns-clause-size
 returns-clause-size c =
     let w = ends c.before in
-    let d = IfOk-at_ok _ c.unwrap.ensures c.div_to.ensures.ends in
+    let d = IfOk-at_ok _ c.unwrap.ensures c.div_by.ensures.ends in
     (rw d.0 w.0, rw d.1 w.1)
 
 narrow : (w x y : ℤ) → x ≤ℤ pos (2 ^ 40 + 2 ^ 20) → y ≤ℤ pos (33 * 2 ^ 35 + 2 ^ 20)
@@ -51,5 +51,5 @@ returns-clause-width c =
     let y = c.args.sum.now in
     let z = c.unwrap.result in
     narrow (z.hi -ℤ z.lo) (x.hi -ℤ x.lo) (y.hi -ℤ y.lo) c.requires.change_width c.requires.sum_width
-    (IfOk-at_ok _ c.unwrap.ensures c.div_to.ensures.width (9999991 * 2 ^ 36) (2 ^ DIRECTION_EXPONENT + 28) (lit< tt) c.requires.least
+    (IfOk-at_ok _ c.unwrap.ensures c.div_by.ensures.width (9999991 * 2 ^ 36) (2 ^ DIRECTION_EXPONENT + 28) (lit< tt) c.requires.least
     (ratio x.lo x.hi y.lo c.requires.least c.requires.low c.requires.high))
