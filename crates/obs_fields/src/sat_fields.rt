@@ -26,7 +26,8 @@ fn is_letter_byte(b: u8) -> bool
     (b >= b'A' && b <= b'Z') || (b >= b'a' && b <= b'z')
 }
 
-fn digit(b: u8) -> Option<u8>
+// A digit of a number; a blank counts as 0.
+pub(crate) fn digit(b: u8) -> Option<u8>
     ensures value { result ≡ digit_of b }
     ensures small { IfSome result (λ d. d ≤ 9) }
 {
@@ -136,6 +137,8 @@ fn lock_digit(b: u8, at: u32) -> Result<u8, Flaw>
 }
 
 /// The value in the 14 columns from this one on, and the digit after it.
+// Where it is called it is stored: an answer in memory would be read again right after its parts were written.
+#[inline(always)]
 #[tactic(auto, unfolding(crate::specs::SatFields::value_in))]
 pub fn value(line: &[u8], first: u32) -> Result<Option<Value>, Flaw>
     requires from_one { 1 ≤ first }

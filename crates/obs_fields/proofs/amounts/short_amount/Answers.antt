@@ -4,7 +4,7 @@ use Rattle.std.proofs.lemmas.List.{length-drop}
 use Rattle.std.proofs.lemmas.Int.{to_z-of_z}
 use Rattle.decimal_text.specs.declared.fixed.NumberFault.{NumberFault}
 use Rattle.obs_fields.proofs.AmountLaws.{around_point, usual_is, tail_is}
-use Rattle.obs_fields.proofs.amounts.usual_amount.Goals as goal
+use Rattle.obs_fields.proofs.amounts.short_amount.Goals as goal
 
 pub returns : goal.returns
 returns c =
