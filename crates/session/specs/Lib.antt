@@ -1,3 +1,4 @@
 pub mod Answers
 pub mod FileRules
+pub mod ScreenedArcs
 pub mod Outcomes

@@ -1,35 +1,30 @@
 -- The outcome of two observation files and a navigation file.
-use Rattle.std.specs.Prelude.{◌≡◌, ◌≤◌, ◌⊎◌, ◌↔◌, ℕ, IsTrue, List, [], ◌∷◌, length, map, All, ℤ, pos}
+use Rattle.std.specs.Prelude.{◌≡◌, ◌≤◌, ◌⊎◌, ◌↔◌, ℕ, IsTrue, List, length, map, ℤ}
 use Rattle.obs_rows.specs.declared.bands.Signals.{Signals}
 use Rattle.obs_rows.specs.declared.sessions.Session.{Session}
 use Rattle.row_build.specs.Stands.{StandsForFiles}
 use Rattle.obs_store.specs.declared.file.ObsFile.{ObsFile}
 use Rattle.eph_store.specs.File.{Records}
 use Rattle.epoch_pair.specs.declared.pairs.PairOf.{PairOf}
-use Rattle.slip_arcs.specs.Runs.{AreKept}
-use Rattle.slip_arcs.specs.Linked.{HaveDatums}
 use Rattle.obs_rows.specs.BandSets.{bands_of}
 use Rattle.obs_rows.specs.declared.limits.TheConstants.{MOST_KEPT_ARCS}
 use Rattle.sv_orbit.specs.Worlds.{world_of}
-use Rattle.screening.specs.Screening.{setting_of, AreUsedPairs, IsSvPair}
+use Rattle.screening.specs.Screening.{setting_of}
 use Rattle.cert_data.specs.declared.outcomes.Outcome.{Outcome}
 use Rattle.run_options.specs.declared.options.Options.{Options}
 use Rattle.session.specs.declared.file_rounds.FileRounds.{FileRounds}
 use Rattle.epoch_pair.specs.Beginnings.{IsPosition, AreSignals, AreSparse, AreTaken, pairs_of}
 use Rattle.session.specs.Answers.{HasDelta, IsAnswer}
 use Rattle.session.specs.FileRules.{HasRowsOf, rules_of}
+use Rattle.session.specs.ScreenedArcs.{AreScreenedArcs}
 
--- the used satellites of the taken pairs with their boxes, and the arcs that are kept of them
+-- the files' rounds begin with what was screened of them, of the base's position and the signals
 pub record AreScreened (base rover : ObsFile) (nav : Records) (o : Options) (position : List ℤ) (signals : Signals) (taken : List PairOf) (f : FileRounds) : Type 0 where
   pub position_is : f.position ≡ position
   pub signals_are : f.signals ≡ signals
   pub system_is : f.system ≡ o.system
-  pub used_are : AreUsedPairs (setting_of base nav signals o.mask (world_of o.system)) base.epochs rover.epochs taken f.screened.used
-  pub boxes_are : All (IsSvPair (setting_of base nav signals o.mask (world_of o.system)) base.epochs rover.epochs taken) f.screened.boxes
   pub short : ℕ
-  pub kept_are : AreKept (bands_of o.bands) o.jump o.arc f.screened.used f.kept short
-  pub datums : HaveDatums f.kept
-  pub shifts : All (λ a. a.shift ≡ pos 0 ∷ pos 0 ∷ pos 0 ∷ []) f.kept
+  pub arcs_are : AreScreenedArcs base rover nav o signals taken f.screened f.kept short
 
 -- the session stands for the files at its point, with its shifts and at its scale
 abbrev pub StandsAsItIs : ObsFile → ObsFile → Records → Options → List ℤ → Signals → List PairOf → Session → Type 0

@@ -8,17 +8,20 @@
 //! 200, else the end of a run of rounds over the kept arcs (`outcome`, with the definition `IsOutcome`). Each session
 //! that a round of that run may have stands for the files (`IsOutcome.stands`), and a certificate has the session of
 //! the last fine round, the ratio and the budget of the options (`IsEndCert`). Where an answer says fixed, the
-//! integers with their move are strictly best for all data (`strictly_best`). `screened` gives what such a run begins
-//! with: the used satellites of the taken pairs and exactly the arcs that are kept of them (`screened`, `cut`).
+//! integers with their move are strictly best for all data (`strictly_best`). `screened_arcs` gives the
+//! used satellites of the taken pairs and exactly the arcs that are kept of them (`screened`, `cut`), with which such a run
+//! begins.
 //! Running out of memory is the only failure without a stated cause.
 #![tactic(auto)]
 
 mod answers;
+mod arcs;
 mod file_rounds;
 mod outcomes;
 mod runs;
 
 pub use answers::{RunAnswer, answer};
+pub use arcs::{ScreenedArcs, screened_arcs};
 pub use cert_data::{Answer, Cert, Outcome, RoundCounts, Stage, Tail};
 pub use epoch_pair::{Options, PairWhat, SessionFault, SessionStart, begin};
 pub use file_rounds::{FileRounds, FileRun};

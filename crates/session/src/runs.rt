@@ -9,15 +9,13 @@ ghost use Rattle.session.specs.Answers.{AreAllowed, IsBestAnswer};
 ghost use Rattle.session.specs.Outcomes.{AreScreened, IsOutcome};
 ghost use Rattle.obs_rows.specs.declared.limits.TheConstants.{MOST_PAIRS};
 
-use crate::{FileRounds, FileRun, have_delta, outcome};
+use crate::{FileRounds, FileRun, have_delta, outcome, screened_arcs};
 use cert_data::Outcome;
 use eph_store::NavFile;
 use epoch_pair::{Options, SessionFault, SessionStart, begin};
 use obs_store::ObsFile;
-use row_build::{base_halves, screen_in};
-use slip_arcs::cut;
+use row_build::base_halves;
 use std::alloc::{AllocError, Global};
-use sv_orbit::world_of;
 
 /// The used satellites of the taken pairs, and the arcs that are kept of them. `process` begins with it; that it is public serves
 /// tests alone.
@@ -37,24 +35,11 @@ pub fn screened(
     ensures cut { IfOk result (λ f. IsCutOf f.screened.used f.kept) }
     ensures halves { IfOk result (λ f. AreBaseHalves f.screened.boxes f.position f.halves.items) }
 {
-    let taken = begun.taken.as_slice();
-    let world = world_of(options.system);
-    let screened = screen_in(
-        alloc,
-        base,
-        rover,
-        nav,
-        begun.signals,
-        taken,
-        options.mask,
-        &world,
-    )?;
-    let halves = base_halves(alloc, &screened, &begun.position)?;
-    let used = screened.used.as_slice();
-    let arcs = cut(alloc, used, options.bands, options.jump, options.arc)?;
+    let cut = screened_arcs(alloc, base, rover, nav, begun, options)?;
+    let halves = base_halves(alloc, &cut.screened, &begun.position)?;
     Ok(FileRounds {
-        screened,
-        kept: arcs.kept,
+        screened: cut.screened,
+        kept: cut.arcs.kept,
         position: begun.position,
         signals: begun.signals,
         system: options.system,

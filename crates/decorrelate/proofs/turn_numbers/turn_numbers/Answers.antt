@@ -2,7 +2,7 @@ use Rattle.std.proofs.Common.{◌≡◌, ◌^◌, ◌<◌, ◌≤◌, true, ℤ,
 use Rattle.std.specs.Int.{w128}
 use Rattle.whole_math.proofs.Words.{as_w128}
 use Rattle.decorrelate.specs.States.{IsWeight}
-use Rattle.decorrelate.specs.Turning.{left_of, is_gain, new_first, new_second, new_between}
+use Rattle.decorrelate.specs.Turning.{left_of, is_gain, new_first, new_between}
 use Rattle.decorrelate.proofs.Words.{narrow_w64}
 use Rattle.decorrelate.proofs.WeightLaws.{weight_word, rest_word}
 use Rattle.decorrelate.proofs.TurnNumbers.{word, first_between}

@@ -23,7 +23,7 @@ outcome-requires-clause-ready c = λ on.
     let s = c.in_ok-rounds.ensures in (
       s.cut,
       (
-        able f.screened.used f.kept (length c.in_ok-begun.begun.taken.items) s.cut f.screened.few f.screened.numbered (no_shifts f.kept s.screened.shifts) on.not_few on.not_many,
+        able f.screened.used f.kept (length c.in_ok-begun.begun.taken.items) s.cut f.screened.few f.screened.numbered (no_shifts f.kept s.screened.arcs_are.shifts) on.not_few on.not_many,
         subst IsReceiverPoint (sym s.screened.position_is) c.in_ok-begun.ensures.position.in_reach,
       ),
       (s.halves, subst IsSystem (sym s.screened.system_is) c.args.options.now.of_system),
@@ -36,12 +36,12 @@ pub outcome-requires-clause-few_arcs : goal.outcome-requires-clause-few_arcs
 outcome-requires-clause-few_arcs c = subst (λ (l : List Arc). length l ≤ MOST_KEPT_ARCS) (sym c.as_slice-kept.ensures) (few_kept c.in_ok-rounds.rounds c.in_ok-rounds.ensures.cut)
 
 pub outcome-requires-clause-shifts : goal.outcome-requires-clause-shifts
-outcome-requires-clause-shifts c = subst (AreShiftsBelow (2 ^ 40)) (sym c.as_slice-kept.ensures) (no_shifts c.in_ok-rounds.rounds.kept c.in_ok-rounds.ensures.screened.shifts)
+outcome-requires-clause-shifts c = subst (AreShiftsBelow (2 ^ 40)) (sym c.as_slice-kept.ensures) (no_shifts c.in_ok-rounds.rounds.kept c.in_ok-rounds.ensures.screened.arcs_are.shifts)
 
 pub outcome-requires-clause-used : goal.outcome-requires-clause-used
 outcome-requires-clause-used c =
     let f = c.in_ok-rounds.rounds in
-    subst (All (HasUsedShifts (fine_signals f.signals))) (sym c.as_slice-kept.ensures) (none_unused (fine_signals f.signals) f.kept c.in_ok-rounds.ensures.screened.shifts)
+    subst (All (HasUsedShifts (fine_signals f.signals))) (sym c.as_slice-kept.ensures) (none_unused (fine_signals f.signals) f.kept c.in_ok-rounds.ensures.screened.arcs_are.shifts)
 
 pub returns-clause-outcome : goal.returns-clause-outcome
 returns-clause-outcome c = record {

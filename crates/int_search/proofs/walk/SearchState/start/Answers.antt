@@ -1,4 +1,4 @@
-use Rattle.std.proofs.Common.{◌≡◌, ◌-◌, ◌^◌, ℕ, List, [], length, ℤ, pos, ◌<ℤ◌, arith, inl, inr, ap, sym, ◌∙◌, subst, to_z, of_z}
+use Rattle.std.proofs.Common.{◌≡◌, ◌-◌, ◌^◌, ◌<◌, ℕ, List, [], length, ℤ, pos, ◌<ℤ◌, arith, inl, inr, ap, sym, ◌∙◌, subst, to_z, of_z}
 use Rattle.std.specs.Int.{w128}
 use Rattle.std.proofs.lemmas.Int.{ints}
 use Rattle.quadratic_form.specs.Rows.{value}
@@ -34,6 +34,27 @@ rank_less : (form : Form) (p q a b : ℤ) (y x : List ℤ) → a ≡ p → b ≡
 rank_less form p q a b y x e g h = subst (λ (n : ℕ). IsRankLess p (suffix y 0 n) q (suffix x 0 n)) (same_size form)
     (subst (λ (t : ℤ). IsRankLess p (suffix y 0 (form.columns - 3 - 1)) t (suffix x 0 (form.columns - 3 - 1))) g
     (subst (λ (t : ℤ). IsRankLess t (suffix y 0 (form.columns - 3 - 1)) b (suffix x 0 (form.columns - 3 - 1))) e h))
+
+-- the rounded point with its image and its value
+first_point : (form : Form) (map : List (List ℤ)) (z y : List ℤ) (p : ℤ) → suffix z 0 (search_form form).size ≡ rounded (search_form form) (search_form form).size
+    → Holds (form.columns - 3 - 1) y (image_of map (form.columns - 3 - 1) (suffix z 0 (form.columns - 3 - 1))) → p ≡ value (search_form form).p (suffix z 0 (search_form form).size)
+    → IsPoint (search_form form) (search_image form map) (suffix z 0 (search_form form).size) y p
+first_point form map z y p is held value_is =
+    let f : SearchForm = search_form form in
+    record { size = ap length is ∙ rounded_length f f.size; held = image_held form map z y held; value_is = value_is; within = within_top f (rounded f f.size) _ is (top_first f) }
+
+-- and its neighbour
+second_point : (form : Form) (map : List (List ℤ)) (w v : List ℤ) (q : ℤ) → 0 < (search_form form).size → suffix w 0 (search_form form).size ≡ neighbour (search_form form)
+    → Holds (form.columns - 3 - 1) v (image_of map (form.columns - 3 - 1) (suffix w 0 (form.columns - 3 - 1))) → q ≡ value (search_form form).p (suffix w 0 (search_form form).size)
+    → IsPoint (search_form form) (search_image form map) (suffix w 0 (search_form form).size) v q
+second_point form map w v q some is held value_is =
+    let f : SearchForm = search_form form in
+    record { size = ap length is ∙ neighbour_length f some; held = image_held form map w v held; value_is = value_is; within = within_top f (neighbour f) _ is (top_second f) }
+
+both_small : (f : SearchForm) (z w : List ℤ) (p q : ℤ) → z ≡ rounded f f.size → w ≡ neighbour f → p ≡ value f.p z → q ≡ value f.p w → p <ℤ pos (2 ^ 62) → q <ℤ pos (2 ^ 62)
+    → top f <ℤ pos (2 ^ 62)
+both_small f z w p q first second p_is q_is p_small q_small =
+    top_small f p q (p_is ∙ ap (λ v. value f.p v) first) (q_is ∙ ap (λ v. value f.p v) second) p_small q_small
 
 pub returns-then-p : goal.returns-then-p
 returns-then-p c =
@@ -83,21 +104,11 @@ returns-in-Less c =
     let p : to_z w128 (of_z w128 c.value_at-p.result) ≡ c.value_at-p.result = omega (arith, ints) in
     let q : to_z w128 (of_z w128 c.value_at-q.result) ≡ c.value_at-q.result = omega (arith, ints) in
     let a : IsPoint f im (suffix c.in_ok-z.z 0 f.size) c.in_ok-y.y c.value_at-p.result =
-    record {
-      size = ap length c.in_ok-z.ensures.is ∙ rounded_length f f.size;
-      held = image_held form c.args.map.now c.in_ok-z.z c.in_ok-y.y c.in_ok-y.ensures;
-      value_is = c.value_at-p.ensures;
-      within = within_top f (rounded f f.size) _ c.in_ok-z.ensures.is (top_first f);
-    } in
+    first_point form c.args.map.now c.in_ok-z.z c.in_ok-y.y c.value_at-p.result c.in_ok-z.ensures.is c.in_ok-y.ensures c.value_at-p.ensures in
     let b : IsPoint f im (suffix c.in_ok-w.w 0 f.size) c.in_ok-v.v c.value_at-q.result =
-    record {
-      size = ap length c.in_ok-w.ensures.is ∙ neighbour_length f k.some;
-      held = image_held form c.args.map.now c.in_ok-w.w c.in_ok-v.v c.in_ok-v.ensures;
-      value_is = c.value_at-q.ensures;
-      within = within_top f (neighbour f) _ c.in_ok-w.ensures.is (top_second f);
-    } in
-    let small : top f <ℤ pos (2 ^ 62) = top_small f c.value_at-p.result c.value_at-q.result (c.value_at-p.ensures ∙ ap (λ v. value f.p v) c.in_ok-z.ensures.is)
-    (c.value_at-q.ensures ∙ ap (λ v. value f.p v) c.in_ok-w.ensures.is) (omega (arith, ints)) (omega (arith, ints)) in
+    second_point form c.args.map.now c.in_ok-w.w c.in_ok-v.v c.value_at-q.result k.some c.in_ok-w.ensures.is c.in_ok-v.ensures c.value_at-q.ensures in
+    let small : top f <ℤ pos (2 ^ 62) = both_small f _ _ c.value_at-p.result c.value_at-q.result c.in_ok-z.ensures.is c.in_ok-w.ensures.is c.value_at-p.ensures c.value_at-q.ensures (omega (arith, ints))
+    (omega (arith, ints)) in
     let g : BeginsWith f (record { first = c.in_ok-y.y; second = c.in_ok-v.v; p1 = c.value_at-p.result; p2 = c.value_at-q.result }) c.begin.result = rw (p, q) at c.begin.ensures in
     begins f im (suffix c.in_ok-z.z 0 f.size) (suffix c.in_ok-w.w 0 f.size) c.in_ok-y.y c.in_ok-v.v c.value_at-p.result c.value_at-q.result c.begin.result a b
     (rank_less form _ _ _ _ c.in_ok-y.y c.in_ok-v.v p q c.in-Less.ensures) small g
@@ -113,21 +124,11 @@ returns-in-Greater c =
     let p : to_z w128 (of_z w128 c.value_at-p.result) ≡ c.value_at-p.result = omega (arith, ints) in
     let q : to_z w128 (of_z w128 c.value_at-q.result) ≡ c.value_at-q.result = omega (arith, ints) in
     let a : IsPoint f im (suffix c.in_ok-z.z 0 f.size) c.in_ok-y.y c.value_at-p.result =
-    record {
-      size = ap length c.in_ok-z.ensures.is ∙ rounded_length f f.size;
-      held = image_held form c.args.map.now c.in_ok-z.z c.in_ok-y.y c.in_ok-y.ensures;
-      value_is = c.value_at-p.ensures;
-      within = within_top f (rounded f f.size) _ c.in_ok-z.ensures.is (top_first f);
-    } in
+    first_point form c.args.map.now c.in_ok-z.z c.in_ok-y.y c.value_at-p.result c.in_ok-z.ensures.is c.in_ok-y.ensures c.value_at-p.ensures in
     let b : IsPoint f im (suffix c.in_ok-w.w 0 f.size) c.in_ok-v.v c.value_at-q.result =
-    record {
-      size = ap length c.in_ok-w.ensures.is ∙ neighbour_length f k.some;
-      held = image_held form c.args.map.now c.in_ok-w.w c.in_ok-v.v c.in_ok-v.ensures;
-      value_is = c.value_at-q.ensures;
-      within = within_top f (neighbour f) _ c.in_ok-w.ensures.is (top_second f);
-    } in
-    let small : top f <ℤ pos (2 ^ 62) = top_small f c.value_at-p.result c.value_at-q.result (c.value_at-p.ensures ∙ ap (λ v. value f.p v) c.in_ok-z.ensures.is)
-    (c.value_at-q.ensures ∙ ap (λ v. value f.p v) c.in_ok-w.ensures.is) (omega (arith, ints)) (omega (arith, ints)) in
+    second_point form c.args.map.now c.in_ok-w.w c.in_ok-v.v c.value_at-q.result k.some c.in_ok-w.ensures.is c.in_ok-v.ensures c.value_at-q.ensures in
+    let small : top f <ℤ pos (2 ^ 62) = both_small f _ _ c.value_at-p.result c.value_at-q.result c.in_ok-z.ensures.is c.in_ok-w.ensures.is c.value_at-p.ensures c.value_at-q.ensures (omega (arith, ints))
+    (omega (arith, ints)) in
     let g : BeginsWith f (record { first = c.in_ok-v.v; second = c.in_ok-y.y; p1 = c.value_at-q.result; p2 = c.value_at-p.result }) c.begin-in-Greater.result =
     rw (p, q) at c.begin-in-Greater.ensures in
     begins f im (suffix c.in_ok-w.w 0 f.size) (suffix c.in_ok-z.z 0 f.size) c.in_ok-v.v c.in_ok-y.y c.value_at-q.result c.value_at-p.result c.begin-in-Greater.result b a
