@@ -31,6 +31,7 @@ pub fn leading_numbers<const N: usize>(text: &[u8], count: usize) -> Option<([i6
 }
 
 /// The number after a blank at the head of a text, and the text after it.
+#[inline(always)]
 pub fn leading_number(text: &[u8]) -> Option<(i64, &[u8])>
     ensures small { IfSome result (λ r. size_of r.0 < 2 ^ 63) }
     ensures spelled { IfSome result (λ r. text.now ≡ 32 ∷ (signed_decimal r.0 ++ r.1.now)) }
@@ -42,6 +43,9 @@ pub fn leading_number(text: &[u8]) -> Option<(i64, &[u8])>
 }
 
 // The number at the head of a text, with its sign, and the text after it.
+//
+// It and its neighbours stand in their callers' code: a call with its answer costs as much as four digits.
+#[inline(always)]
 pub(crate) fn leading_whole(text: &[u8]) -> Option<(i64, &[u8])>
     ensures spelled { IfSome result (λ r. text.now ≡ signed_decimal r.0 ++ r.1.now) }
     ensures small { IfSome result (λ r. size_of r.0 < 2 ^ 63) }
@@ -62,6 +66,7 @@ pub(crate) fn leading_whole(text: &[u8]) -> Option<(i64, &[u8])>
 }
 
 // The same of one without a sign.
+#[inline(always)]
 fn leading_natural(text: &[u8]) -> Option<(u64, &[u8])>
     ensures spelled { IfSome result (λ r. text.now ≡ decimal r.0 ++ r.1.now) }
     ensures small { IfSome result (λ r. r.0 < 2 ^ 63) }

@@ -14,17 +14,17 @@ use Rattle.form_tables.specs.declared.sizes.TheConstants.{MOST_COLUMNS, MOST_FOR
 use Rattle.form_tables.proofs.TableLaws.{zero_item}
 use Rattle.normal_sum.specs.Places.{put_at}
 
-abbrev item : List ℤ → ℕ → ℤ
+abbrev pub item : List ℤ → ℕ → ℤ
 item s j = slice_index_or s j (pos 0)
 
 -- ---- zeros
 
-item_zeros : (n k : ℕ) → item (zeros n) k ≡ pos 0
+pub item_zeros : (n k : ℕ) → item (zeros n) k ≡ pos 0
 item_zeros zero k = refl
 item_zeros (suc n) zero = refl
 item_zeros (suc n) (suc k) = item_zeros n k
 
-length_zeros : (n : ℕ) → length (zeros n) ≡ n
+pub length_zeros : (n : ℕ) → length (zeros n) ≡ n
 length_zeros zero = refl
 length_zeros (suc n) = ap (λ k. suc k) (length_zeros n)
 

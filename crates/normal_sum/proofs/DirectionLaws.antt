@@ -18,20 +18,20 @@ use Rattle.obs_rows.specs.SignalGroups.{signal_row, signal_group}
 use Rattle.form_tables.specs.declared.sizes.TheConstants.{BASELINE_COLUMNS}
 use Rattle.normal_sum.specs.Directions.{direction_sum, direction_products, direction_spread}
 
-abbrev turned : ℤ → ℤ
+abbrev pub turned : ℤ → ℤ
 turned x = pos 0 -ℤ x
 
 neg_is : (x : ℤ) → neg_ℤ x ≡ turned x
 neg_is x = omega (arith, ints)
 
 -- a row's coefficient in a column of the baseline
-axis : (arcs : List Arc) (ss : List ℕ) (s : ℕ) (r : Row) (i : ℕ) → i < BASELINE_COLUMNS → coefficient (signal_row arcs ss s r) i ≡ turned (number_at r.u i)
+pub axis : (arcs : List Arc) (ss : List ℕ) (s : ℕ) (r : Row) (i : ℕ) → i < BASELINE_COLUMNS → coefficient (signal_row arcs ss s r) i ≡ turned (number_at r.u i)
 axis arcs ss s r zero h = neg_is (number_at r.u 0)
 axis arcs ss s r (suc zero) h = neg_is (number_at r.u 1)
 axis arcs ss s r (suc (suc zero)) h = neg_is (number_at r.u 2)
 axis arcs ss s r (suc (suc (suc i))) h = absurd (omega arith)
 
-sum_is : (arcs : List Arc) (ss : List ℕ) (s : ℕ) (rows : List Row) (i : ℕ) → i < BASELINE_COLUMNS → coefficient_sum (map (signal_row arcs ss s) rows) i ≡ turned (direction_sum rows i)
+pub sum_is : (arcs : List Arc) (ss : List ℕ) (s : ℕ) (rows : List Row) (i : ℕ) → i < BASELINE_COLUMNS → coefficient_sum (map (signal_row arcs ss s) rows) i ≡ turned (direction_sum rows i)
 sum_is arcs ss s [] i h = refl
 sum_is arcs ss s (r ∷ rs) i h = ap (λ z. z +ℤ coefficient_sum (map (signal_row arcs ss s) rs) i) (axis arcs ss s r i h) ∙ ap (λ z. turned (number_at r.u i) +ℤ z) (sum_is arcs ss s rs i h)
     ∙ together (number_at r.u i) (direction_sum rs i)

@@ -1,9 +1,11 @@
 pub mod ColumnLaws
+pub mod RowLaws
 pub mod PlaceLaws
 pub mod Words
 pub mod CoefficientPlaces
 pub mod RowSums
 pub mod DirectionLaws
+pub mod ObservationLaws
 pub mod RadiusLaws
 pub mod WeightLaws
 pub mod NormalLaws

@@ -13,7 +13,7 @@ use Rattle.obs_rows.specs.Arcs.{is_free, free_before, free_count}
 use Rattle.obs_rows.specs.Signals.{phases, AreCounted}
 use Rattle.obs_rows.specs.Integers.{integer_count, integer_place, is_some_free}
 use Rattle.obs_rows.proofs.IntegerPlaces.{place_below, free_before_le}
-use Rattle.normal_sum.specs.Places.{first_place, place_from, ArePlaces}
+use Rattle.normal_sum.specs.Places.{first_place, place_from, ArePlacesFrom, SeesNone}
 
 product_within : (n m : ℕ) → n ≤ PHASES → m ≤ MOST_FREE_ARCS → n * m ≤ MOST_INTEGERS
 product_within zero m h g = omega arith
@@ -61,22 +61,26 @@ place_within arcs ss k s = go (integer_place arcs ss k s) refl
     go (Some i) e = place_below arcs ss k s i e
 
 -- from the places of the first integers of the rows' arcs
-pub are_places : (arcs : List Arc) (ss : List ℕ) (s : ℕ) (rows : List Row) (firsts places : List (Option ℕ)) (phase : Option ℕ) → phase ≡ position (λ t. t == s) (phases ss) →
-    ((k : ℕ) (d : Row) → k < length rows → slice_index_or firsts k None ≡ first_place arcs (length (phases ss)) (slice_index_or rows k d).arc) →
-    ((k : ℕ) → slice_index_or places k None ≡ place_from (slice_index_or firsts k None) phase) → ArePlaces arcs ss s rows places
-are_places arcs ss s rows firsts places phase e f g k d h =
-    g k ∙ ap₂ (λ (p q : Option ℕ). place_from p q) (f k d h) e ∙ place_is arcs ss (slice_index_or rows k d).arc s
+pub are_places : (arcs : List Arc) (ss : List ℕ) (s : ℕ) (rows : List Row) (firsts : List (Option ℕ)) (phase : Option ℕ) → phase ≡ position (λ t. t == s) (phases ss) →
+    ((k : ℕ) (d : Row) → k < length rows → slice_index_or firsts k None ≡ first_place arcs (length (phases ss)) (slice_index_or rows k d).arc) → ArePlacesFrom arcs ss s rows firsts phase
+are_places arcs ss s rows firsts phase e f k d h = ap₂ (λ (p q : Option ℕ). place_from p q) (f k d h) e ∙ place_is arcs ss (slice_index_or rows k d).arc s
+
+no_phase : (first : Option ℕ) → place_from first None ≡ None
+no_phase (Some i) = refl
+no_phase None = refl
+
+pub sees_none : (arcs : List Arc) (ss : List ℕ) (s : ℕ) (rows : List Row) (firsts : List (Option ℕ)) (phase : Option ℕ) → phase ≡ None → ArePlacesFrom arcs ss s rows firsts phase → SeesNone arcs ss s rows
+sees_none arcs ss s rows firsts phase e are k d h = sym (are k d h) ∙ ap (λ (p : Option ℕ). place_from (slice_index_or firsts k None) p) e ∙ no_phase (slice_index_or firsts k None)
 
 nothing_from : (phase : Option ℕ) → place_from None phase ≡ None
 nothing_from phase = refl
 
-pub are_within : (arcs : List Arc) (ss : List ℕ) (s : ℕ) (rows : List Row) (firsts places : List (Option ℕ)) (phase : Option ℕ) → ArePlaces arcs ss s rows places →
-    ((k : ℕ) → length rows ≤ k → slice_index_or firsts k None ≡ None) → ((k : ℕ) → slice_index_or places k None ≡ place_from (slice_index_or firsts k None) phase) →
-    (k : ℕ) → IfSome (slice_index_or places k None) (λ i. i < integer_count arcs ss)
-are_within arcs ss s rows firsts places phase are none g k = ⊎_elim
+pub are_within : (arcs : List Arc) (ss : List ℕ) (s : ℕ) (rows : List Row) (firsts : List (Option ℕ)) (phase : Option ℕ) → ArePlacesFrom arcs ss s rows firsts phase →
+    ((k : ℕ) → length rows ≤ k → slice_index_or firsts k None ≡ None) → (k : ℕ) → IfSome (place_from (slice_index_or firsts k None) phase) (λ i. i < integer_count arcs ss)
+are_within arcs ss s rows firsts phase are none k = ⊎_elim
     (λ (h : k < length rows). subst (λ (p : Option ℕ). IfSome p (λ i. i < integer_count arcs ss)) (sym (are k (a_row rows h) h))
     (place_within arcs ss (slice_index_or rows k (a_row rows h)).arc s))
-    (λ (h : length rows ≤ k). subst (λ (p : Option ℕ). IfSome p (λ i. i < integer_count arcs ss)) (sym (g k ∙ ap (λ (p : Option ℕ). place_from p phase) (none k h))) tt)
+    (λ (h : length rows ≤ k). subst (λ (p : Option ℕ). IfSome p (λ i. i < integer_count arcs ss)) (sym (ap (λ (p : Option ℕ). place_from p phase) (none k h))) tt)
     (side k (length rows))
   where
     side : (i n : ℕ) → (i < n) ⊎ (n ≤ i)

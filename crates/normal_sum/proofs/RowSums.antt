@@ -66,3 +66,30 @@ turned_size q w r x f e h g k =
 
     product : (q w r : ℕ) → q * r ≤ 360360 → w ≤ 10000 → (q * w) * r ≤ 2 ^ 32
     product q w r g k = grind arith
+
+-- ---- a spread of n rows at a share that is turned
+pub spread_fits : (x n : ℕ) → n ≤ 15 → x ≤ (n * n) * 2 ^ 69 → x ≤ 2 ^ 77
+spread_fits x n h g = grind arith
+
+shares_of : (a n : ℕ) → a * n ≤ 2 ^ 32 → n ≤ 15 → ((n * n) * 2 ^ 69) * a ≤ 2 ^ 105
+shares_of a n h g = grind arith
+
+-- x with a spread's product more
+pub spread_size : (t x y w : ℤ) (n : ℕ) → n ≤ 15 → t ≡ x +ℤ (y *ℤ w) → unsigned_abs y ≤ (n * n) * 2 ^ 69 → unsigned_abs w * n ≤ 2 ^ 32 → unsigned_abs t ≤ unsigned_abs x + 2 ^ 105
+spread_size t x y w n few e spread share =
+    let product : unsigned_abs (y *ℤ w) ≤ ((n * n) * 2 ^ 69) * unsigned_abs w = abs_mul_le y w ((n * n) * 2 ^ 69) (unsigned_abs w) spread (omega arith) in
+    let small : ((n * n) * 2 ^ 69) * unsigned_abs w ≤ 2 ^ 105 = shares_of (unsigned_abs w) n share few in
+    subst (λ (z : ℤ). unsigned_abs z ≤ unsigned_abs x + 2 ^ 105) (sym e)
+    (last (unsigned_abs (x +ℤ (y *ℤ w))) (unsigned_abs x) (unsigned_abs (y *ℤ w)) (((n * n) * 2 ^ 69) * unsigned_abs w) (size_add x (y *ℤ w)) product small)
+  where
+    last : (a b c d : ℕ) → a ≤ b + c → c ≤ d → d ≤ 2 ^ 105 → a ≤ b + 2 ^ 105
+    last a b c d h g k = omega arith
+
+pub turned_product : (x y w f : ℤ) → pos 0 ≡ w +ℤ f → x +ℤ (y *ℤ w) ≡ x -ℤ (f *ℤ y)
+turned_product x y w f e = same_by (x ∷ y ∷ w ∷ f ∷ []) (λ x y w f. (x ⊕ y ⊗ w, (x ⊖ f ⊗ y) ⊕ (w ⊕ f) ⊗ y)) refl ∙ ap (λ z. (x -ℤ (f *ℤ y)) +ℤ (z *ℤ y)) (sym e)
+    ∙ same_by (x ∷ y ∷ f ∷ []) (λ x y f. ((x ⊖ f ⊗ y) ⊕ nat 0 ⊗ y, x ⊖ f ⊗ y)) refl
+
+pub twice_turned : (x y w f z : ℤ) → pos 0 ≡ w +ℤ f → pos 0 ≡ y +ℤ z → x +ℤ (y *ℤ w) ≡ x +ℤ (f *ℤ z)
+twice_turned x y w f z e g = turned_product x y w f e
+    ∙ same_by (x ∷ y ∷ f ∷ z ∷ []) (λ x y f z. (x ⊖ f ⊗ y, (x ⊕ f ⊗ z) ⊖ f ⊗ (y ⊕ z))) refl ∙ ap (λ v. (x +ℤ (f *ℤ z)) -ℤ (f *ℤ v)) (sym g)
+    ∙ same_by (x ∷ f ∷ z ∷ []) (λ x f z. ((x ⊕ f ⊗ z) ⊖ f ⊗ nat 0, x ⊕ f ⊗ z)) refl

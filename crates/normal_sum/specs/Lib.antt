@@ -1,6 +1,7 @@
 pub mod Places
 pub mod Columns
 pub mod Directions
+pub mod Observations
 pub mod Pairs
 pub mod RadiusSums
 pub mod Matrices

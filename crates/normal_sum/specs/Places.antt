@@ -19,6 +19,14 @@ place_from None phase = None
 abbrev pub ArePlaces : List Arc → List ℕ → ℕ → List Row → List (Option ℕ) → Type 0
 ArePlaces arcs ss s rows places = (k : ℕ) (d : Row) → k < length rows → slice_index_or places k None ≡ integer_place arcs ss (slice_index_or rows k d).arc s
 
+-- the same from the place of the first integer of each row's arc, and that of the signal among the phases
+abbrev pub ArePlacesFrom : List Arc → List ℕ → ℕ → List Row → List (Option ℕ) → Option ℕ → Type 0
+ArePlacesFrom arcs ss s rows firsts phase = (k : ℕ) (d : Row) → k < length rows → place_from (slice_index_or firsts k None) phase ≡ integer_place arcs ss (slice_index_or rows k d).arc s
+
+-- no row has an integer as signal s sees it
+abbrev pub SeesNone : List Arc → List ℕ → ℕ → List Row → Type 0
+SeesNone arcs ss s rows = (k : ℕ) (d : Row) → k < length rows → integer_place arcs ss (slice_index_or rows k d).arc s ≡ None
+
 -- the value at the column of integer i, after the three columns of the baseline
 abbrev pub put_at : List ℤ → Option ℕ → ℤ → List ℤ
 put_at values (Some i) value = set values (3 + i) value

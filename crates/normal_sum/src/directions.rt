@@ -1,6 +1,6 @@
 //! What the rows of a pair add to the entries of the baseline's columns. A row has the same directions for each signal, so
 //! one pass adds them for all.
-ghost use Rattle.std.specs.Prelude.{◌≡◌, ◌≢◌, ℕ, ◌+◌, ◌^◌, ◌<◌, ◌≤◌, ◌+ℤ◌, ◌-ℤ◌, ◌*ℤ◌, pos, length, unsigned_abs, slice_index_or};
+ghost use Rattle.std.specs.Prelude.{◌≡◌, ◌≢◌, ℕ, ◌+◌, ◌*◌, ◌^◌, ◌<◌, ◌≤◌, ◌+ℤ◌, ◌-ℤ◌, ◌*ℤ◌, pos, length, unsigned_abs, slice_index_or};
 ghost use Rattle.form_tables.specs.declared.sizes.TheConstants.{BASELINE_COLUMNS};
 ghost use Rattle.form_tables.specs.Tables.{entry};
 ghost use Rattle.obs_rows.specs.Data.{number_at};
@@ -12,11 +12,12 @@ use form_tables::{BASELINE_COLUMNS, NormalTable};
 use obs_rows::Row;
 
 /// The sum of the directions of the rows along one axis.
-fn direction_sum(rows: &[Row], axis: usize) -> i64
+pub(crate) fn direction_sum(rows: &[Row], axis: usize) -> i64
     requires few_rows { length rows.now ≤ MOST_ROWS }
     requires axis { axis < BASELINE_COLUMNS }
     ensures value { result ≡ direction_sum rows.now axis }
     ensures size { unsigned_abs result ≤ 2 ^ 28 }
+    ensures short { unsigned_abs result ≤ length rows.now * 2 ^ 24 }
 {
     let mut sum = 0;
     for row in rows {

@@ -15,6 +15,7 @@ mod columns;
 mod directions;
 mod mirror;
 mod normal;
+mod observations;
 mod pairs;
 mod places;
 mod products;

@@ -13,7 +13,7 @@ ghost use Rattle.normal_sum.specs.Pairs.{HaveArcs, pair_groups};
 ghost use Rattle.normal_sum.specs.RadiusSums.{radii_of, IsAtMost};
 
 use crate::directions::add_directions;
-use crate::places::{MOST_ROWS, first_places, places_of};
+use crate::places::{MOST_ROWS, first_places};
 use crate::radii::{RadiusSums, add_radii_of};
 use crate::signals::{add_signal, share};
 use form_tables::{MOST_COLUMNS, MOST_INTEGERS, NormalTable};
@@ -38,8 +38,8 @@ pub(crate) fn add_pair(
 {
     let firsts = first_places(arcs, signals, pair.rows.as_slice());
     for signal in signals {
-        let places = places_of(&firsts, phase_place(signals, *signal));
-        add_signal(table, pair, *signal, &places, integers);
+        let phase = phase_place(signals, *signal);
+        add_signal(table, pair, *signal, &firsts, phase, integers);
     }
     let rows = pair.rows.as_slice();
     add_directions(table, rows, total_share(rows.len(), signals));

@@ -20,7 +20,7 @@ pub(crate) fn times(weight: i64, value: i64) -> i128
 /// sum + factor · value
 fn plus_times(sum: i128, factor: i128, value: i64) -> i128
     requires sum_size { unsigned_abs sum ≤ 2 ^ 120 }
-    requires factor_size { unsigned_abs factor ≤ 2 ^ 75 }
+    requires factor_size { unsigned_abs factor ≤ 2 ^ 77 }
     requires value_size { unsigned_abs value ≤ 2 ^ 38 }
     ensures { result ≡ sum +ℤ (factor *ℤ value) }
 {
@@ -56,10 +56,16 @@ fn plus_short(sum: i128, factor: i64, value: i64) -> i128
 
 /// Adds factor · value to one entry.
 #[inline(always)]
-fn add_to_entry(table: &mut NormalTable, row: usize, column: usize, factor: i128, value: i64)
+pub(crate) fn add_to_entry(
+    table: &mut NormalTable,
+    row: usize,
+    column: usize,
+    factor: i128,
+    value: i64,
+)
     requires row_in { row < MOST_COLUMNS }
     requires column_in { column < MOST_COLUMNS }
-    requires factor_size { unsigned_abs factor ≤ 2 ^ 75 }
+    requires factor_size { unsigned_abs factor ≤ 2 ^ 77 }
     requires value_size { unsigned_abs value ≤ 2 ^ 38 }
     requires entry_size { unsigned_abs (entry table.old row column) ≤ 2 ^ 120 }
     ensures there { entry table.new row column ≡ entry table.old row column +ℤ (factor *ℤ value) }
@@ -80,7 +86,7 @@ fn add_to_row(
 )
     requires row_in { row < MOST_COLUMNS }
     requires columns { AreColumnsFrom row values.now columns.now }
-    requires factor_size { unsigned_abs factor ≤ 2 ^ 75 }
+    requires factor_size { unsigned_abs factor ≤ 2 ^ 77 }
     requires value_size { (j : ℕ) → j < MOST_COLUMNS → unsigned_abs (slice_index_or values.now j (pos 0)) ≤ 2 ^ 38 }
     requires entry_size { (j : ℕ) → row ≤ j → BASELINE_COLUMNS ≤ j → j < MOST_COLUMNS → unsigned_abs (entry table.old row j) ≤ 2 ^ 120 }
     ensures added { (j : ℕ) → row ≤ j → BASELINE_COLUMNS ≤ j → j < MOST_COLUMNS → entry table.new row j ≡ entry table.old row j +ℤ (factor *ℤ slice_index_or values.now j (pos 0)) }

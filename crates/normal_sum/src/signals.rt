@@ -10,14 +10,15 @@ ghost use Rattle.obs_rows.specs.SumOfSquares.{share};
 ghost use Rattle.obs_rows.specs.SignalGroups.{signal_row, signal_group};
 ghost use Rattle.obs_rows.specs.declared.limits.TheConstants.{MOST_PAIRS};
 ghost use Rattle.normal_sum.specs.Columns.{AreColumnsOf};
-ghost use Rattle.normal_sum.specs.Places.{ArePlaces};
+ghost use Rattle.normal_sum.specs.Places.{place_from, ArePlaces, ArePlacesFrom, SeesNone};
 
 use crate::coefficients::{clear_coefficients, put_coefficients};
 use crate::columns::{add_values, used_columns};
-use crate::places::MOST_ROWS;
+use crate::observations::add_observations;
+use crate::places::{MOST_ROWS, places_of};
 use crate::products::add_product;
 use form_tables::{BASELINE_COLUMNS, MOST_COLUMNS, MOST_INTEGERS, NormalTable};
-use obs_rows::{PairRows, Row, SIGNALS, WEIGHTS};
+use obs_rows::{PHASES, PairRows, Row, SIGNALS, WEIGHTS};
 
 /// 360360 times a weight is whole over each number of rows from 1 to 15.
 const COMMON_MULTIPLE: i64 = 360_360;
@@ -36,7 +37,7 @@ pub fn share(rows: usize, signal: usize) -> i64
 }
 
 /// The same, turned.
-fn turned_share(rows: usize, signal: usize) -> i64
+pub(crate) fn turned_share(rows: usize, signal: usize) -> i64
     requires some { 1 ≤ rows }
     requires few { rows ≤ MOST_ROWS }
     requires signal { signal < SIGNALS }
@@ -179,8 +180,8 @@ fn add_rows(
     total
 }
 
-/// Adds the entries of a pair's rows as one signal sees them, after the columns of the baseline.
-pub(crate) fn add_signal(
+/// Adds the entries of a pair's rows as a phase sees them, after the columns of the baseline.
+fn add_phase(
     table: &mut NormalTable,
     pair: &PairRows,
     signal: usize,
@@ -201,4 +202,47 @@ pub(crate) fn add_signal(
     let columns = used_columns(&total, integers);
     let share = turned_share(rows.len(), signal);
     add_product(table, &total, columns.as_slice(), share);
+}
+
+/// Adds the entries of a pair's rows as a code sees them, after the columns of the baseline. It sees no integer.
+fn add_code(table: &mut NormalTable, pair: &PairRows, signal: usize, integers: usize)
+    requires signal { signal < SIGNALS }
+    requires few { integers ≤ MOST_INTEGERS }
+    requires entry_size { (i j : ℕ) → i ≤ j → BASELINE_COLUMNS ≤ j → j < MOST_COLUMNS → unsigned_abs (entry table.old i j) ≤ 3600 * 2 ^ 108 }
+    ensures added { (arcs : List Arc) (ss : List ℕ) → SeesNone arcs ss signal pair.now.rows → integers ≡ integer_count arcs ss →
+        (i j : ℕ) → i ≤ j → BASELINE_COLUMNS ≤ j → j < MOST_COLUMNS → entry table.new i j ≡ entry table.old i j +ℤ group_entry (signal_group arcs ss pair.now signal) i j }
+    ensures size { (i j : ℕ) → i ≤ j → BASELINE_COLUMNS ≤ j → j < MOST_COLUMNS → unsigned_abs (entry table.new i j) ≤ unsigned_abs (entry table.old i j) + 2 ^ 105 }
+    ensures baseline { (i j : ℕ) → j < BASELINE_COLUMNS → entry table.new i j ≡ entry table.old i j }
+{
+    add_observations(table, pair.rows.as_slice(), signal, integers);
+}
+
+/// Adds the entries of a pair's rows as one signal sees them, after the columns of the baseline: the arcs of the rows have
+/// their first integers at `firsts`, and the signal has its place among the phases, if it is one.
+pub(crate) fn add_signal(
+    table: &mut NormalTable,
+    pair: &PairRows,
+    signal: usize,
+    firsts: &[Option<usize>; MOST_ROWS],
+    phase: Option<usize>,
+    integers: usize,
+)
+    requires signal { signal < SIGNALS }
+    requires first { (k : ℕ) → IfSome (slice_index_or firsts.now k None) (λ i. i ≤ MOST_INTEGERS) }
+    requires phase { IfSome phase (λ i. i < PHASES) }
+    requires places { (k : ℕ) → IfSome (place_from (slice_index_or firsts.now k None) phase) (λ i. i < integers) }
+    requires few { integers ≤ MOST_INTEGERS }
+    requires entry_size { (i j : ℕ) → i ≤ j → BASELINE_COLUMNS ≤ j → j < MOST_COLUMNS → unsigned_abs (entry table.old i j) ≤ 3600 * 2 ^ 108 }
+    ensures added { (arcs : List Arc) (ss : List ℕ) → ArePlacesFrom arcs ss signal pair.now.rows firsts.now phase → integers ≡ integer_count arcs ss →
+        (i j : ℕ) → i ≤ j → BASELINE_COLUMNS ≤ j → j < MOST_COLUMNS → entry table.new i j ≡ entry table.old i j +ℤ group_entry (signal_group arcs ss pair.now signal) i j }
+    ensures size { (i j : ℕ) → i ≤ j → BASELINE_COLUMNS ≤ j → j < MOST_COLUMNS → unsigned_abs (entry table.new i j) ≤ unsigned_abs (entry table.old i j) + 2 ^ 105 }
+    ensures baseline { (i j : ℕ) → j < BASELINE_COLUMNS → entry table.new i j ≡ entry table.old i j }
+{
+    match phase {
+        None => add_code(table, pair, signal, integers),
+        Some(_) => {
+            let places = places_of(firsts, phase);
+            add_phase(table, pair, signal, &places, integers);
+        }
+    }
 }

@@ -12,7 +12,7 @@ use Rattle.obs_rows.specs.declared.rows.Row.{Row}
 use Rattle.obs_rows.specs.declared.units.TheConstants.{PHASES}
 use Rattle.obs_rows.specs.Signals.{weight}
 use Rattle.obs_rows.specs.SignalGroups.{signal_group}
-use Rattle.normal_sum.specs.Places.{ArePlaces}
+use Rattle.normal_sum.specs.Places.{place_from, ArePlacesFrom}
 use Rattle.normal_sum.specs.Directions.{direction_spread}
 use Rattle.normal_sum.proofs.Words.{small_w64}
 use Rattle.normal_sum.proofs.RowSums.{next_sum}
@@ -23,9 +23,9 @@ use Rattle.normal_sum.proofs.pairs.add_pair.Goals as goal
 larger : (a b d i : ℕ) → a ≤ b + 2 ^ 105 → b ≤ d + (i * 2 ^ 105) → a ≤ d + ((i + 1) * 2 ^ 105)
 larger a b d i h g = omega arith
 
-pub places_of-places-requires-clause-phase : goal.places_of-places-requires-clause-phase
-places_of-places-requires-clause-phase c =
-    subst (λ (p : Option ℕ). IfSome p (λ i. i < PHASES)) (sym c.phase_place.ensures) (phase_within c.args.signals.now (get_or c.args.signals.now c.loop-signal.signal-index 0) c.requires.counted)
+pub add_signal-requires-clause-phase : goal.add_signal-requires-clause-phase
+add_signal-requires-clause-phase c =
+    subst (λ (p : Option ℕ). IfSome p (λ i. i < PHASES)) (sym c.phase_place-phase.ensures) (phase_within c.args.signals.now (get_or c.args.signals.now c.loop-signal.signal-index 0) c.requires.counted)
 
 pub add_signal-requires-clause-places : goal.add_signal-requires-clause-places
 add_signal-requires-clause-places c =
@@ -33,10 +33,10 @@ add_signal-requires-clause-places c =
     let ss : List ℕ = c.args.signals.now in
     let s : ℕ = get_or ss c.loop-signal.signal-index 0 in
     let rows : List Row = c.as_slice.result.now in
-    let are : ArePlaces c.args.arcs.now c.args.signals.now (get_or c.args.signals.now c.loop-signal.signal-index 0) c.as_slice.result.now c.places_of-places.result =
-    are_places arcs ss s rows c.first_places-firsts.result c.places_of-places.result c.phase_place.result c.phase_place.ensures c.first_places-firsts.ensures.value c.places_of-places.ensures in
-    subst (λ (n : ℕ). (k : ℕ) → IfSome (slice_index_or c.places_of-places.result k None) (λ i. i < n)) (sym c.requires.integers)
-    (are_within arcs ss s rows c.first_places-firsts.result c.places_of-places.result c.phase_place.result are c.first_places-firsts.ensures.none c.places_of-places.ensures)
+    let are : ArePlacesFrom c.args.arcs.now c.args.signals.now (get_or c.args.signals.now c.loop-signal.signal-index 0) c.as_slice.result.now c.first_places-firsts.result c.phase_place-phase.result =
+    are_places arcs ss s rows c.first_places-firsts.result c.phase_place-phase.result c.phase_place-phase.ensures c.first_places-firsts.ensures.value in
+    subst (λ (n : ℕ). (k : ℕ) → IfSome (place_from (slice_index_or c.first_places-firsts.result k None) c.phase_place-phase.result) (λ i. i < n)) (sym c.requires.integers)
+    (are_within arcs ss s rows c.first_places-firsts.result c.phase_place-phase.result are c.first_places-firsts.ensures.none)
 
 pub loop-signal-preserved : goal.loop-signal-preserved
 loop-signal-preserved c =
@@ -47,10 +47,9 @@ loop-signal-preserved c =
     let f : ℕ → SignalGroup = signal_group arcs signals c.args.pair.now in
     let inside : c.loop-signal.signal-index < length c.args.signals.now = search rules in
     let e : drop k signals ≡ s ∷ drop (k + 1) signals = drop_more signals k 0 inside in
-    let are : ArePlaces c.args.arcs.now c.args.signals.now (get_or c.args.signals.now c.loop-signal.signal-index 0) c.args.pair.now.rows c.places_of-places.result =
-    subst (λ (rows : List Row). ArePlaces arcs signals s rows c.places_of-places.result) c.as_slice.ensures
-    (are_places arcs signals s c.as_slice.result.now c.first_places-firsts.result c.places_of-places.result c.phase_place.result c.phase_place.ensures c.first_places-firsts.ensures.value
-    c.places_of-places.ensures) in
+    let are : ArePlacesFrom c.args.arcs.now c.args.signals.now (get_or c.args.signals.now c.loop-signal.signal-index 0) c.args.pair.now.rows c.first_places-firsts.result c.phase_place-phase.result =
+    subst (λ (rows : List Row). ArePlacesFrom arcs signals s rows c.first_places-firsts.result c.phase_place-phase.result) c.as_slice.ensures
+    (are_places arcs signals s c.as_slice.result.now c.first_places-firsts.result c.phase_place-phase.result c.phase_place-phase.ensures c.first_places-firsts.ensures.value) in
     record {
       sums = λ i j hi b hj. next_sum (entry c.loop-signal.table i j) (entry c.add_signal.new.table i j) (group_entry (f s) i j) (matrix_entry (map f (drop (k + 1) signals)) i j) _
           (ap (λ (l : List ℕ). entry c.loop-signal.table i j +ℤ matrix_entry (map f l) i j) (sym e) ∙ c.loop-signal.invariant.sums i j hi b hj)

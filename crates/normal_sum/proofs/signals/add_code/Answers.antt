@@ -1,0 +1,25 @@
+use Rattle.std.proofs.Common.{inl, ◌+◌, ◌*◌, ◌^◌, ◌≤◌, unsigned_abs, arith}
+use Rattle.form_tables.specs.declared.sizes.TheConstants.{BASELINE_COLUMNS}
+use Rattle.form_tables.specs.Tables.{entry}
+use Rattle.normal_sum.proofs.ObservationLaws.{code_entries}
+use Rattle.normal_sum.proofs.signals.add_code.Goals as goal
+
+pub add_observations-requires-clause-axis_size : goal.add_observations-requires-clause-axis_size
+add_observations-requires-clause-axis_size c = λ i h.
+    let size : unsigned_abs (entry c.args.table.now i (BASELINE_COLUMNS + c.args.integers)) ≤ 3600 * 2 ^ 108 =
+    c.requires.entry_size i (BASELINE_COLUMNS + c.args.integers) (omega arith) (omega arith) (omega (arith, c.requires.few)) in
+    omega (arith, size)
+
+pub add_observations-requires-clause-square_size : goal.add_observations-requires-clause-square_size
+add_observations-requires-clause-square_size c =
+    let size : unsigned_abs (entry c.args.table.now (BASELINE_COLUMNS + c.args.integers) (BASELINE_COLUMNS + c.args.integers)) ≤ 3600 * 2 ^ 108 =
+    c.requires.entry_size (BASELINE_COLUMNS + c.args.integers) (BASELINE_COLUMNS + c.args.integers) (omega arith) (omega arith) (omega (arith, c.requires.few)) in
+    omega (arith, size)
+
+pub returns-clause-added : goal.returns-clause-added
+returns-clause-added c = λ arcs ss none n i j h b g.
+    code_entries arcs ss c.args.pair.now c.args.signal c.args.integers c.args.table.now c.add_observations.new.table c.as_slice.result.now c.as_slice.ensures none n c.add_observations.ensures.axes
+    c.add_observations.ensures.square c.add_observations.ensures.others i j b
+
+pub returns-clause-baseline : goal.returns-clause-baseline
+returns-clause-baseline c = λ i j h. c.add_observations.ensures.others i j (inl (λ e. omega (arith, e, h)))
