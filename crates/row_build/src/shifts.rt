@@ -38,7 +38,7 @@ pub fn first_entry(from: &RowSource<'_>, pair: u32) -> Entry
 {
     let arcs = from.arcs;
     let first = first_held(arcs, pair).unwrap();
-    entry_of(from, pair, arcs[first].sat)
+    entry_of(from, pair, arcs[first].sat, 0)
 }
 
 /// The group of a pair, from the entry of its first row's satellite.
@@ -108,7 +108,7 @@ fn first_shifts(from: &RowSource<'_>, sat: u8, pair: u32) -> [i64; PHASES]
     ensures size { All (IsBelow (2 ^ 39)) result }
 {
     let first = first_entry(from, pair);
-    let entry = entry_of(from, pair, sat);
+    let entry = entry_of(from, pair, sat, first.place);
     let group = group_of(&first);
     shifts_of(fine_signals(from.signals), &entry, group)
 }
