@@ -10,9 +10,10 @@ ghost use Rattle.obs_rows.specs.Unused.{IsZeroOff};
 ghost use Rattle.slip_arcs.specs.Used.{is_used};
 ghost use Rattle.slip_arcs.specs.Linked.{IsCutOf};
 ghost use Rattle.row_boxes.specs.Sightings.{Sighting, y_of};
-ghost use Rattle.row_boxes.specs.YBoxes.{AreSightings, HasSightings, HoldsPseudoranges, IsWithinHalf, IsAllowedGroup};
+ghost use Rattle.row_boxes.specs.YBoxes.{AreSightings, IsWithinHalf, IsAllowedGroup};
 ghost use Rattle.row_build.specs.HeldArcs.{holds_pair, arcs_at};
-ghost use Rattle.row_build.specs.Halves.{IsBaseHalf, AreBaseHalves};
+ghost use Rattle.row_build.specs.Halves.{AreBaseHalves};
+ghost use Rattle.row_build.specs.Sights.{IsSeen};
 ghost use Rattle.row_build.specs.Rows.{setting, setting_from, seen_by};
 ghost use Rattle.row_build.specs.Far.{IsFirstEntry};
 ghost use Rattle.row_build.specs.Shifts.{counts, AreFirstShifts};
@@ -21,7 +22,7 @@ use crate::RowSource;
 use crate::arcs::{first_held, holds};
 use crate::entries::{Entry, entry_of};
 use obs_rows::{Arc, PHASES, Signals, fine_signals};
-use row_boxes::{Pseudorange, first_group, first_shift, sight_of};
+use row_boxes::{first_group, first_shift};
 use screening::Screened;
 
 /// The entry of the satellite of a pair's first row.
@@ -31,26 +32,24 @@ pub fn first_entry(from: &RowSource<'_>, pair: u32) -> Entry
     requires held { arcs_at from.now.arcs.now pair ≢ [] }
     requires halves { AreBaseHalves from.now.screened.now.boxes from.now.base.now from.now.halves.now }
     requires base { IsReceiverPoint from.now.base.now }
+    requires point { IsReceiverPoint from.now.point.now }
     ensures entry { IsFirstEntry from.now.screened.now.boxes from.now.arcs.now pair result.sv }
-    ensures half { IsBaseHalf result.sv from.now.base.now result.half }
+    ensures seen { IsSeen result from.now.base.now from.now.point.now }
 {
     let arcs = from.arcs;
     let first = first_held(arcs, pair).unwrap();
-    entry_of(from, pair, arcs[first].sat)
+    entry_of(from, pair, arcs[first].sat, 0)
 }
 
 /// The group of a pair, from the entry of its first row's satellite.
-pub fn group_of(entry: &Entry, point: &[i64; 3]) -> i64
-    requires { IsReceiverPoint point.now }
-    ensures near { (base : List ℤ) → IsBaseHalf entry.now.sv base entry.now.half → (b r : Sighting) → AreSightings (seen_by entry.now.sv base point.now) b r →
+pub fn group_of(entry: &Entry) -> i64
+    ensures near { (base point : List ℤ) → IsSeen entry.now base point → (b r : Sighting) → AreSightings (seen_by entry.now.sv base point) b r →
         IsWithinHalf (pos 1) (y_of 2 (number_at entry.now.sv.observed 2) result (pos 0) b r) }
-    ensures allowed { (base : List ℤ) → IsBaseHalf entry.now.sv base entry.now.half → (scale : ℕ) → IsScale scale →
-        IsAllowedGroup (seen_by entry.now.sv base point.now) scale (number_at entry.now.sv.observed 2) result }
-    ensures exists { (base : List ℤ) → IsBaseHalf entry.now.sv base entry.now.half → HasSightings (seen_by entry.now.sv base point.now) }
+    ensures allowed { (base point : List ℤ) → IsSeen entry.now base point → (scale : ℕ) → IsScale scale →
+        IsAllowedGroup (seen_by entry.now.sv base point) scale (number_at entry.now.sv.observed 2) result }
     ensures size { unsigned_abs result ≤ 2 ^ 43 }
 {
-    let seen = sight_of(&entry.sv.rover, point);
-    first_group(entry.sv.observed[2], &entry.half, &seen.pseudorange)
+    first_group(entry.sv.observed[2], &entry.half, &entry.rover.pseudorange)
 }
 
 // Whether the signal is one of these
@@ -61,11 +60,11 @@ fn does_count(ss: &[usize], signal: usize) -> bool
 }
 
 // The shift with which, under this group, the observation of a phase is least, and 0 if the phase doesn't count
-fn shift_of(ss: &[usize], signal: usize, entry: &Entry, group: i64, rover: &Pseudorange) -> i64
+fn shift_of(ss: &[usize], signal: usize, entry: &Entry, group: i64) -> i64
     requires signal { signal < SIGNALS }
     requires phase { IsTrue (is_phase signal) }
     requires group { unsigned_abs group ≤ 2 ^ 43 }
-    ensures near { IsTrue (counts ss.now signal) → (base point : List ℤ) → IsBaseHalf entry.now.sv base entry.now.half → HoldsPseudoranges entry.now.sv.rover point rover.now →
+    ensures near { IsTrue (counts ss.now signal) → (base point : List ℤ) → IsSeen entry.now base point →
         (b r : Sighting) → AreSightings (seen_by entry.now.sv base point) b r → IsWithinHalf (wavelength signal) (y_of signal (number_at entry.now.sv.observed signal) group result b r) }
     ensures unused { counts ss.now signal ≡ false → result ≡ pos 0 }
     ensures size { unsigned_abs result < 2 ^ 39 }
@@ -73,23 +72,26 @@ fn shift_of(ss: &[usize], signal: usize, entry: &Entry, group: i64, rover: &Pseu
     if !does_count(ss, signal) {
         return 0;
     }
-    first_shift(signal, entry.sv.observed[signal], group, &entry.half, rover)
+    first_shift(
+        signal,
+        entry.sv.observed[signal],
+        group,
+        &entry.half,
+        &entry.rover.pseudorange,
+    )
 }
 
 // The shifts with which, under this group, the observations of the phases that count are least
-fn shifts_of(ss: &[usize], entry: &Entry, group: i64, point: &[i64; 3]) -> [i64; PHASES]
+fn shifts_of(ss: &[usize], entry: &Entry, group: i64) -> [i64; PHASES]
     requires group { unsigned_abs group ≤ 2 ^ 43 }
-    requires point { IsReceiverPoint point.now }
-    ensures near { (base : List ℤ) → IsBaseHalf entry.now.sv base entry.now.half → (s : ℕ) → s < SIGNALS → IsTrue (is_phase s) → IsTrue (counts ss.now s) → (b r : Sighting) → AreSightings (seen_by entry.now.sv base point.now) b r →
+    ensures near { (base point : List ℤ) → IsSeen entry.now base point → (s : ℕ) → s < SIGNALS → IsTrue (is_phase s) → IsTrue (counts ss.now s) → (b r : Sighting) → AreSightings (seen_by entry.now.sv base point) b r →
         IsWithinHalf (wavelength s) (y_of s (number_at entry.now.sv.observed s) group (number_at result (band s)) b r) }
-    ensures exists { (base : List ℤ) → IsBaseHalf entry.now.sv base entry.now.half → HasSightings (seen_by entry.now.sv base point.now) }
     ensures unused { IsZeroOff (phase_bands ss.now) result }
     ensures size { All (IsBelow (2 ^ 39)) result }
 {
-    let rover = sight_of(&entry.sv.rover, point).pseudorange;
-    let l1 = shift_of(ss, 0, entry, group, &rover);
-    let l2 = shift_of(ss, 1, entry, group, &rover);
-    let l5 = shift_of(ss, 4, entry, group, &rover);
+    let l1 = shift_of(ss, 0, entry, group);
+    let l2 = shift_of(ss, 1, entry, group);
+    let l5 = shift_of(ss, 4, entry, group);
     [l1, l2, l5]
 }
 
@@ -106,9 +108,9 @@ fn first_shifts(from: &RowSource<'_>, sat: u8, pair: u32) -> [i64; PHASES]
     ensures size { All (IsBelow (2 ^ 39)) result }
 {
     let first = first_entry(from, pair);
-    let entry = entry_of(from, pair, sat);
-    let group = group_of(&first, from.point);
-    shifts_of(fine_signals(from.signals), &entry, group, from.point)
+    let entry = entry_of(from, pair, sat, first.place);
+    let group = group_of(&first);
+    shifts_of(fine_signals(from.signals), &entry, group)
 }
 
 /// The shifts of `shift_at`, with the base's halves that are kept.

@@ -16,6 +16,7 @@ use Rattle.obs_rows.specs.declared.used.UsedSat.{UsedSat}
 use Rattle.obs_rows.specs.declared.used.UsedPair.{UsedPair}
 use Rattle.obs_rows.specs.declared.limits.TheConstants.{MOST_PAIRS, MOST_SATELLITES}
 use Rattle.screening.specs.declared.sv_pair.SvPair.{SvPair}
+use Rattle.screening.specs.BaseRanges.{HoldsRange}
 use Rattle.screening.specs.Amounts.{types_of, differences, phase_differences}
 use Rattle.screening.specs.Marks.{Passed, passed, power_failed, lost_lock}
 use Rattle.screening.specs.Sightings.{Setting, Sighting, IsSighting, MayBeKept, MayBeLeftOut, Sent, WasSent, point_at, code_of}
@@ -90,7 +91,8 @@ pub record AreUsedPairs (setting : Setting) (base rover : List Epoch) (pairs : L
   pub count : length used ≡ length pairs
   pub each : (k : ℕ) (p : PairOf) (u : UsedPair) → slice_get pairs k ≡ Some p → slice_get used k ≡ Some u → IsUsedPair setting base rover (pair_before pairs k) p u
 
--- the entry of a satellite that two epochs see: its boxes hold every solution at each receiver's own tag and L1 code, and there is one
+-- the entry of a satellite that two epochs see: its boxes hold every solution at each receiver's own tag and L1 code, and there is one,
+-- and its range is that from the base
 pub record IsEntry (setting : Setting) (base rover : Epoch) (b : SvPair) : Type 0 where
   pub sighting : Sighting
   pub seen : IsSighting setting base rover b.sat sighting
@@ -101,6 +103,7 @@ pub record IsEntry (setting : Setting) (base rover : Epoch) (b : SvPair) : Type 
   pub rover_holds : (q : Quantities) → Sent setting sighting.eph rover.tag.0 (code_of sighting.rover) q → HoldsSolution b.rover q
   pub base_sent : WasSent setting sighting.eph base.tag.0 (code_of sighting.base)
   pub rover_sent : WasSent setting sighting.eph rover.tag.0 (code_of sighting.rover)
+  pub range : HoldsRange setting.point b
 
 -- an entry of the pair that it names
 pub record IsSvPair (setting : Setting) (base rover : List Epoch) (pairs : List PairOf) (b : SvPair) : Type 0 where

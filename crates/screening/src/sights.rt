@@ -61,7 +61,7 @@ pub fn entry_of(
     let at_base = amounts_at(&rules.types, base, number)?;
     let at_rover = amounts_at(&rules.types, rover, number)?;
     let record = chosen(table, number, base.tag)?;
-    // The mask needs the base's boxes alone.
+    // The mask needs the base's boxes alone. The range of its sight is kept for the rows.
     let from_base = sv_from(record, base.tag, at_base[L1_CODE]);
     let seen = seen_from(&from_base, &rules.point);
     if !above(&seen, &rules.point, rules.mask) {
@@ -71,6 +71,7 @@ pub fn entry_of(
         pair,
         sat: number,
         base: from_base,
+        base_range: seen.range,
         rover: sv_from(record, rover.tag, at_rover[L1_CODE]),
         observed: differences(&at_base, &at_rover),
         tag: base.tag,

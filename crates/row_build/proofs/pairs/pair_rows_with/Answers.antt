@@ -13,6 +13,7 @@ use Rattle.row_build.specs.HeldArcs.{arcs_at}
 use Rattle.row_build.specs.Rows.{setting_from, seen_by, IsRow}
 use Rattle.row_build.specs.Far.{IsGroup, HasFarRow}
 use Rattle.row_build.proofs.FirstRow.{first_meets}
+use Rattle.row_build.proofs.SightLaws.{both_see}
 use Rattle.row_build.proofs.pairs.pair_rows_with.Goals as goal
 
 row_in : (P : Row → Type 0) (rows : List Row) (r : Row) → All P rows → slice_get rows 0 ≡ Some r → P r
@@ -45,10 +46,10 @@ returns-clause-rows c =
       group = λ r e.
           first_meets c.args.from.now.screened.now.used t c.args.pair p.group r f c.args.from.now.screened.now.matched c.args.from.now.screened.now.ranges c.first_entry-first.ensures.entry
           (ap (λ (xs : List ℕ). slice_get xs 0) (sym arcs) ∙ slice_get-map (λ (q : Row). q.arc) p.rows 0 ∙ ap (λ (o : Option Row). option_map (λ (q : Row). q.arc) o) e)
-          (row_in (IsRow t c.args.pair p.group) p.rows r rows e) (c.group_of-group.ensures.exists c.args.from.now.base.now c.first_entry-first.ensures.half)
+          (row_in (IsRow t c.args.pair p.group) p.rows r rows e) (both_see c.first_entry-first.result c.args.from.now.base.now c.args.from.now.point.now c.first_entry-first.ensures.seen)
           (subst (λ (k : ℤ). (b q : Sighting) → AreSightings (seen_by f c.args.from.now.base.now c.args.from.now.point.now) b q
           → IsWithinHalf (pos 1) (y_of 2 (number_at f.observed 2) k (pos 0) b q)) (sym group)
-          (c.group_of-group.ensures.near c.args.from.now.base.now c.first_entry-first.ensures.half));
+          (c.group_of-group.ensures.near c.args.from.now.base.now c.args.from.now.point.now c.first_entry-first.ensures.seen));
     }
 
 pub returns-in_err-rows-clause-overwidth : goal.returns-in_err-rows-clause-overwidth
@@ -61,7 +62,7 @@ returns-in_err-rows-clause-overwidth c = λ e.
       entry = c.first_entry-first.result.sv;
       entry_is = c.first_entry-first.ensures.entry;
       allowed =
-          c.group_of-group.ensures.allowed c.args.from.now.base.now c.first_entry-first.ensures.half c.args.scale c.requires.scale;
+          c.group_of-group.ensures.allowed c.args.from.now.base.now c.args.from.now.point.now c.first_entry-first.ensures.seen c.args.scale c.requires.scale;
     } in
     subst (λ (n : ℕ). HasFarRow t n) c.new-rows.ensures.number
     (c.in_err-rows.ensures.far (cc (answered.1, answered.2, e)) (subst₂ (λ (n : ℕ) (k : ℤ). IsGroup t n k) (sym c.new-rows.ensures.number) (sym (c.new-rows.ensures.group ∙ plain)) allowed))

@@ -1,4 +1,4 @@
-use Rattle.std.proofs.Common.{◌≡◌, ℕ, [], true, false, Some, List, ℤ, get_or, to_z, of_z, refl, sym, subst}
+use Rattle.std.proofs.Common.{◌≡◌, ℕ, [], false, Some, List, ℤ, get_or, to_z, of_z, refl, sym, subst}
 use Rattle.std.specs.Prelude.{slice_get}
 use Rattle.std.proofs.lemmas.Int.{to_z-of_z}
 use Rattle.std.specs.Int.{w64}
@@ -6,18 +6,13 @@ use Rattle.std.proofs.lemmas.Option.{get_or_from_slice_get, slice_get_within}
 use Rattle.obs_rows.specs.declared.arcs.Arc.{Arc}
 use Rattle.obs_rows.specs.Signals.{counted}
 use Rattle.obs_rows.specs.Unused.{IsZeroOff}
-use Rattle.slip_arcs.specs.Used.{is_used}
 use Rattle.row_boxes.specs.YBoxes.{HoldsYs, HasFarSignal}
-use Rattle.row_build.specs.Entries.{IsEntry}
 use Rattle.row_build.specs.Rows.{seen_by}
-use Rattle.row_build.proofs.ArcLaws.{held_sat}
+use Rattle.row_build.proofs.SightLaws.{both_see}
 use Rattle.row_build.proofs.pairs.row_at.Goals as goal
 
-pub entry_of-entry-requires-clause-used : goal.entry_of-entry-requires-clause-used
-entry_of-entry-requires-clause-used c =
-    let h = c.requires.number in
-    subst (λ (a : Arc). is_used c.args.from.now.screened.now.used a.sat c.args.pair ≡ true) (sym (get_or_from_slice_get c.args.from.now.arcs.now c.args.number h.arc _ h.is))
-    (held_sat c.args.from.now.screened.now.used c.args.from.now.arcs.now c.args.number c.args.pair h.arc c.requires.cut h.is h.held)
+pub bounds-from-number : goal.bounds-from-number
+bounds-from-number c = let h = c.requires.number in slice_get_within c.args.from.now.arcs.now c.args.number h.arc h.is
 
 pub row_of-requires-clause-shift : goal.row_of-requires-clause-shift
 row_of-requires-clause-shift c =
@@ -28,31 +23,31 @@ pub returns-in-Some-clause-row : goal.returns-in-Some-clause-row
 returns-in-Some-clause-row c =
     let h = c.requires.number in
     let r = c.in-Some.row in
-    let v = c.entry_of-entry.result.sv in
+    let v = c.args.entry.now.sv in
     let e = get_or_from_slice_get c.args.from.now.arcs.now c.args.number h.arc _ h.is in
     record {
       arc = h.arc;
       arc_is = subst (λ (k : ℕ). slice_get c.args.from.now.arcs.now k ≡ Some h.arc) (sym c.in-Some.ensures.arc) h.is;
       entry = v;
-      entry_is = subst (λ (a : Arc). IsEntry c.args.from.now.screened.now.boxes c.args.pair a.sat v) e c.entry_of-entry.ensures.entry;
+      entry_is = c.requires.entry h.arc h.is;
       y = subst (λ (a : Arc). HoldsYs (seen_by v c.args.from.now.base.now c.args.from.now.point.now) (counted c.args.from.now.signals c.args.scale)
           c.args.scale v.observed c.args.group a.shift r.y r.ry) e
           (subst (λ (g : ℤ). HoldsYs (seen_by v c.args.from.now.base.now c.args.from.now.point.now) (counted c.args.from.now.signals c.args.scale) c.args.scale v.observed g
           (get_or c.args.from.now.arcs.now c.args.number (record { sat = 0; first = 0; last = 0; datum = false; shift = [] })).shift r.y r.ry) (to_z-of_z w64 c.args.group c.ranges.group)
           (subst (λ (ss : List ℕ). HoldsYs (seen_by v c.args.from.now.base.now c.args.from.now.point.now) ss c.args.scale v.observed (to_z w64 (of_z w64 c.args.group))
           (get_or c.args.from.now.arcs.now c.args.number (record { sat = 0; first = 0; last = 0; datum = false; shift = [] })).shift r.y r.ry) c.counted_signals-signals.ensures.value
-          (c.in-Some.ensures.y c.args.from.now.base.now c.entry_of-entry.ensures.half)));
-      seen = record { base = c.entry_of-entry.ensures.half.exists; rover = c.row_of.ensures.exists };
+          (c.in-Some.ensures.y c.args.from.now.base.now c.args.from.now.point.now c.requires.seen)));
+      seen = both_see c.args.entry.now c.args.from.now.base.now c.args.from.now.point.now c.requires.seen;
       radius = c.in-Some.ensures.radius;
       others = subst (λ (ss : List ℕ). IsZeroOff ss r.y) c.counted_signals-signals.ensures.value c.in-Some.ensures.others;
-      u = c.in-Some.ensures.u;
+      u = c.in-Some.ensures.u c.args.from.now.base.now c.args.from.now.point.now c.requires.seen;
       narrow = c.in-Some.ensures.narrow;
     }
 
 pub returns-in-None-clause-far : goal.returns-in-None-clause-far
 returns-in-None-clause-far c = λ g.
     let h = c.requires.number in
-    let v = c.entry_of-entry.result.sv in
+    let v = c.args.entry.now.sv in
     let e = get_or_from_slice_get c.args.from.now.arcs.now c.args.number h.arc _ h.is in
     record {
       group = c.args.group;
@@ -62,12 +57,12 @@ returns-in-None-clause-far c = λ g.
       arc_is = h.is;
       held = h.held;
       entry = v;
-      entry_is = subst (λ (a : Arc). IsEntry c.args.from.now.screened.now.boxes c.args.pair a.sat v) e c.entry_of-entry.ensures.entry;
+      entry_is = c.requires.entry h.arc h.is;
       far = subst (λ (a : Arc). HasFarSignal (seen_by v c.args.from.now.base.now c.args.from.now.point.now)
           (counted c.args.from.now.signals c.args.scale) c.args.scale v.observed c.args.group a.shift) e
           (subst (λ (i : ℤ). HasFarSignal (seen_by v c.args.from.now.base.now c.args.from.now.point.now) (counted c.args.from.now.signals c.args.scale) c.args.scale v.observed i
           (get_or c.args.from.now.arcs.now c.args.number (record { sat = 0; first = 0; last = 0; datum = false; shift = [] })).shift) (to_z-of_z w64 c.args.group c.ranges.group)
           (subst (λ (ss : List ℕ). HasFarSignal (seen_by v c.args.from.now.base.now c.args.from.now.point.now) ss c.args.scale v.observed (to_z w64 (of_z w64 c.args.group))
           (get_or c.args.from.now.arcs.now c.args.number (record { sat = 0; first = 0; last = 0; datum = false; shift = [] })).shift) c.counted_signals-signals.ensures.value
-          (c.in-None.ensures.far refl c.args.from.now.base.now c.entry_of-entry.ensures.half)));
+          (c.in-None.ensures.far refl c.args.from.now.base.now c.args.from.now.point.now c.requires.seen)));
     }

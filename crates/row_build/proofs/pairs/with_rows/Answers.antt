@@ -4,11 +4,18 @@ use Rattle.std.specs.Int.{w64}
 use Rattle.std.proofs.lemmas.Option.{slice_get-get_or}
 use Rattle.obs_rows.specs.declared.rows.Row.{Row}
 use Rattle.obs_rows.specs.Rows.{AreBelow}
+<<<<<<< HEAD
 use Rattle.obs_rows.specs.declared.limits.TheConstants.{MOST_SATELLITES}
 use Rattle.row_build.specs.HeldArcs.{IsHeld}
+=======
+use Rattle.obs_rows.specs.declared.arcs.Arc.{Arc}
+use Rattle.screening.specs.declared.sv_pair.SvPair.{SvPair}
+use Rattle.row_build.specs.Entries.{IsEntry}
+use Rattle.row_build.specs.HeldArcs.{arcs_at, IsHeld}
+>>>>>>> d06d9339d94845db238442dab4821d495c3ba811
 use Rattle.row_build.specs.Rows.{setting_from, IsRow}
-use Rattle.row_build.specs.Far.{IsGroup, HasFarRow}
-use Rattle.row_build.proofs.ArcLaws.{held_number}
+use Rattle.row_build.specs.Far.{IsFirstEntry, IsGroup, HasFarRow}
+use Rattle.row_build.proofs.ArcLaws.{held_read}
 use Rattle.row_build.proofs.FewRows.{held_few}
 use Rattle.row_build.proofs.RowLists.{AreFirstRows, few_so_far, in_order, one_row_more}
 use Rattle.row_build.proofs.pairs.with_rows.Goals as goal
@@ -17,12 +24,32 @@ use Rattle.whole_math.proofs.Words.{as_w64}
 read_group : (z : ℤ) → unsigned_abs z < 2 ^ 55 → to_z w64 (of_z w64 z) ≡ z
 read_group z small = as_w64 z (omega (arith, small))
 
+-- an entry of an arc that holds the pair is of the pair
+of_pair : (boxes : List SvPair) (arcs : List Arc) (held : List ℕ) (place n k : ℕ) (v : SvPair) → held ≡ arcs_at arcs n → place < length held →
+    ((m : ℕ) (a : Arc) → slice_get held place ≡ Some m → slice_get arcs m ≡ Some a → IsEntry boxes k a.sat v) → k ≡ n → v.pair ≡ n
+of_pair boxes arcs held place n k v e h all same =
+    let a = held_read arcs n place held e h in
+    (all (get_or held place 0) a.arc (slice_get-get_or held place 0 h) a.is).of_pair ∙ same
+
+pub held_entry-entry-requires-clause-held : goal.held_entry-entry-requires-clause-held
+held_entry-entry-requires-clause-held c = c.requires.held ∙ ap (λ (n : ℕ). arcs_at c.args.from.now.arcs.now n) (sym c.loop-place.invariant.0)
+
+pub held_entry-entry-requires-clause-first : goal.held_entry-entry-requires-clause-first
+held_entry-entry-requires-clause-first c =
+    subst (λ (n : ℕ). IsFirstEntry c.args.from.now.screened.now.boxes c.args.from.now.arcs.now n c.args.first.now.sv) (sym c.loop-place.invariant.0) c.requires.first
+
 pub row_at-requires-clause-number : goal.row_at-requires-clause-number
 row_at-requires-clause-number c =
+    let p = of_pair c.args.from.now.screened.now.boxes c.args.from.now.arcs.now c.args.held.now c.loop-place.place c.args.rows.number c.loop-place.rows.number c.held_entry-entry.result.sv
+    c.requires.held c.loop-place-test.true c.held_entry-entry.ensures.entry c.loop-place.invariant.0 in
+    subst (λ (n : ℕ). IsHeld c.args.from.now.arcs.now n (get_or c.args.held.now c.loop-place.place 0)) (sym p)
+    (held_read c.args.from.now.arcs.now c.args.rows.number c.loop-place.place c.args.held.now c.requires.held c.loop-place-test.true)
+
+pub row_at-requires-clause-entry : goal.row_at-requires-clause-entry
+row_at-requires-clause-entry c = λ a is.
     let m : ℕ = get_or c.args.held.now c.loop-place.place 0 in
-    let at : slice_get c.args.held.now c.loop-place.place ≡ Some m = slice_get-get_or c.args.held.now c.loop-place.place 0 c.loop-place-test.true in
-    subst (λ (n : ℕ). IsHeld c.args.from.now.arcs.now n m) (sym c.loop-place.invariant.0)
-    (held_number c.args.from.now.arcs.now c.args.rows.number c.loop-place.place m (ap (λ (xs : List ℕ). slice_get xs c.loop-place.place) (sym c.requires.held) ∙ at))
+    let e = c.held_entry-entry.ensures.entry m a (slice_get-get_or c.args.held.now c.loop-place.place 0 c.loop-place-test.true) is in
+    subst (λ (n : ℕ). IsEntry c.args.from.now.screened.now.boxes n a.sat c.held_entry-entry.result.sv) (sym e.of_pair) e
 
 pub push-requires-clause-room : goal.push-requires-clause-room
 push-requires-clause-room c =
@@ -41,8 +68,10 @@ pub returns-in_err-row-clause-far : goal.returns-in_err-row-clause-far
 returns-in_err-row-clause-far c = λ _ g.
     let t = setting_from c.args.from.now c.args.scale in
     let i = c.loop-place.invariant in
-    subst (λ (n : ℕ). HasFarRow t n) i.0
-    (c.in_err-row.ensures.far (subst₂ (λ (n : ℕ) (k : ℤ). IsGroup t n k) (sym i.0) (sym (read_group c.loop-place.rows.group c.loop-place.rows.group_in ∙ i.2)) g))
+    let p = of_pair c.args.from.now.screened.now.boxes c.args.from.now.arcs.now c.args.held.now c.loop-place.place c.args.rows.number c.loop-place.rows.number c.held_entry-entry.result.sv
+    c.requires.held c.loop-place-test.true c.held_entry-entry.ensures.entry i.0 in
+    subst (λ (n : ℕ). HasFarRow t n) p
+    (c.in_err-row.ensures.far (subst₂ (λ (n : ℕ) (k : ℤ). IsGroup t n k) (sym p) (sym (read_group c.loop-place.rows.group c.loop-place.rows.group_in ∙ i.2)) g))
 
 pub loop-place-preserved : goal.loop-place-preserved
 loop-place-preserved c =
@@ -50,7 +79,9 @@ loop-place-preserved c =
     let i = c.loop-place.invariant in
     let m : ℕ = get_or c.args.held.now c.loop-place.place 0 in
     let at : slice_get c.args.held.now c.loop-place.place ≡ Some m = slice_get-get_or c.args.held.now c.loop-place.place 0 c.loop-place-test.true in
-    let row : IsRow t c.args.rows.number c.args.rows.group c.in_ok-row.row = subst₂ (λ (n : ℕ) (k : ℤ). IsRow t n k c.in_ok-row.row) i.0
+    let p = of_pair c.args.from.now.screened.now.boxes c.args.from.now.arcs.now c.args.held.now c.loop-place.place c.args.rows.number c.loop-place.rows.number c.held_entry-entry.result.sv
+    c.requires.held c.loop-place-test.true c.held_entry-entry.ensures.entry i.0 in
+    let row : IsRow t c.args.rows.number c.args.rows.group c.in_ok-row.row = subst₂ (λ (n : ℕ) (k : ℤ). IsRow t n k c.in_ok-row.row) p
     (read_group c.loop-place.rows.group c.loop-place.rows.group_in ∙ i.2) c.in_ok-row.ensures.row in (
       c.push.ensures.number ∙ i.0,
       c.push.ensures.tag ∙ i.1,

@@ -9,6 +9,7 @@ use Rattle.row_boxes.specs.YBoxes.{IsWithinHalf}
 use Rattle.row_boxes.proofs.Ys.{long_cycle}
 use Rattle.row_boxes.proofs.Groups.{row_close, shift_within}
 use Rattle.row_build.specs.Rows.{seen_by}
+use Rattle.row_build.proofs.SightLaws.{both_see}
 use Rattle.row_build.specs.Shifts.{counts}
 use Rattle.row_build.proofs.shifts.first_shifts.Goals as goal
 
@@ -20,17 +21,17 @@ returns-clause-near c =
     record {
       first = f;
       first_is = c.first_entry-first.ensures.entry;
-      first_seen = c.group_of-group.ensures.exists c.args.from.now.base.now c.first_entry-first.ensures.half;
+      first_seen = both_see c.first_entry-first.result c.args.from.now.base.now c.args.from.now.point.now c.first_entry-first.ensures.seen;
       entry = n;
       entry_is = c.entry_of-entry.ensures.entry;
-      seen = c.shifts_of.ensures.exists c.args.from.now.base.now c.entry_of-entry.ensures.half;
+      seen = both_see c.entry_of-entry.result c.args.from.now.base.now c.args.from.now.point.now c.entry_of-entry.ensures.seen;
       within = λ group a s h phase among b r q.
           shift_within s (number_at n.observed s) g group (number_at c.shifts_of.result (band s)) b r (long_cycle s h phase)
           (row_close (seen_by f c.args.from.now.base.now c.args.from.now.point.now) (number_at f.observed 2) g group a
-          (c.group_of-group.ensures.exists c.args.from.now.base.now c.first_entry-first.ensures.half)
-          (c.group_of-group.ensures.near c.args.from.now.base.now c.first_entry-first.ensures.half))
+          (both_see c.first_entry-first.result c.args.from.now.base.now c.args.from.now.point.now c.first_entry-first.ensures.seen)
+          (c.group_of-group.ensures.near c.args.from.now.base.now c.args.from.now.point.now c.first_entry-first.ensures.seen))
           (subst (λ (m : ℤ). IsWithinHalf (wavelength s) (y_of s (number_at n.observed s) m (number_at c.shifts_of.result (band s)) b r))
-          (to_z-of_z w64 g (record { sfits = c.group_of-group.type_inv })) (c.shifts_of.ensures.near c.args.from.now.base.now c.entry_of-entry.ensures.half s h phase
+          (to_z-of_z w64 g (record { sfits = c.group_of-group.type_inv })) (c.shifts_of.ensures.near c.args.from.now.base.now c.args.from.now.point.now c.entry_of-entry.ensures.seen s h phase
           (subst (λ (ss : List ℕ). IsTrue (counts ss s)) (sym c.fine_signals.ensures.value) among) b r q));
       unused = subst (λ (ss : List ℕ). IsZeroOff (phase_bands ss) c.shifts_of.result) c.fine_signals.ensures.value c.shifts_of.ensures.unused;
     }

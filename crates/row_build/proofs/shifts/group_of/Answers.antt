@@ -1,12 +1,12 @@
-use Rattle.std.proofs.Common.{◌≡◌, ℕ, ◌^◌, ◌<◌, List, ℤ, pos, unsigned_abs, lit<, arith, to_z, of_z, sym, subst}
+use Rattle.std.proofs.Common.{◌≡◌, ℕ, ◌^◌, ◌<◌, ℤ, pos, unsigned_abs, lit<, arith, to_z, of_z, sym, subst}
 use Rattle.std.proofs.lemmas.Int.{to_z-of_z}
 use Rattle.std.specs.Int.{w64}
 use Rattle.obs_rows.specs.Data.{number_at}
 use Rattle.row_boxes.specs.Sightings.{y_of}
-use Rattle.row_boxes.specs.YBoxes.{IsWithinHalf, IsAllowedGroup, HoldsBoth}
+use Rattle.row_boxes.specs.YBoxes.{IsWithinHalf, IsAllowedGroup}
 use Rattle.row_boxes.proofs.Ends.{read_small}
-use Rattle.row_build.specs.Halves.{IsBaseHalf}
 use Rattle.row_build.specs.Rows.{seen_by}
+use Rattle.row_build.proofs.SightLaws.{held_by_both}
 use Rattle.row_build.proofs.shifts.group_of.Goals as goal
 
 wide : (n : ℕ) → n < 2 ^ 37 → n < 2 ^ 48
@@ -18,10 +18,6 @@ read c = read_small (number_at c.args.entry.now.sv.observed 2) (wide (unsigned_a
 answer : (c : goal.After-first_group) → to_z w64 (of_z w64 c.first_group.result) ≡ c.first_group.result
 answer c = to_z-of_z w64 c.first_group.result (record { sfits = c.first_group.type_inv })
 
-both : (c : goal.After-first_group) (base : List ℤ) → IsBaseHalf c.args.entry.now.sv base c.args.entry.now.half →
-    HoldsBoth (seen_by c.args.entry.now.sv base c.args.point.now) c.args.entry.now.half c.sight_of-seen.result.pseudorange
-both c base known = record { base_held = known.holds; rover_held = c.sight_of-seen.ensures.pseudorange }
-
 pub first_group-requires : goal.first_group-requires
 first_group-requires c =
     let n : ℤ = number_at c.args.entry.now.sv.observed 2 in
@@ -29,16 +25,13 @@ first_group-requires c =
     subst (λ (z : ℤ). unsigned_abs z < 2 ^ 37) (sym (read_small n (wide (unsigned_abs n) below))) below
 
 pub returns-clause-near : goal.returns-clause-near
-returns-clause-near c = λ base known b r a.
+returns-clause-near c = λ base point known b r a.
     subst (λ (g : ℤ). IsWithinHalf (pos 1) (y_of 2 (number_at c.args.entry.now.sv.observed 2) g (pos 0) b r)) (sym (answer c))
     (subst (λ (n : ℤ). IsWithinHalf (pos 1) (y_of 2 n c.first_group.result (pos 0) b r)) (read c)
-    (c.first_group.ensures.near (seen_by c.args.entry.now.sv base c.args.point.now) (both c base known) b r a))
+    (c.first_group.ensures.near (seen_by c.args.entry.now.sv base point) (held_by_both c.args.entry.now base point known) b r a))
 
 pub returns-clause-allowed : goal.returns-clause-allowed
-returns-clause-allowed c = λ base known scale t.
-    subst (λ (g : ℤ). IsAllowedGroup (seen_by c.args.entry.now.sv base c.args.point.now) scale (number_at c.args.entry.now.sv.observed 2) g) (sym (answer c))
-    (subst (λ (n : ℤ). IsAllowedGroup (seen_by c.args.entry.now.sv base c.args.point.now) scale n c.first_group.result) (read c)
-    (c.first_group.ensures.allowed scale (seen_by c.args.entry.now.sv base c.args.point.now) t (both c base known)))
-
-pub returns-clause-exists : goal.returns-clause-exists
-returns-clause-exists c = λ base known. record { base = known.exists; rover = c.sight_of-seen.ensures.exists }
+returns-clause-allowed c = λ base point known scale t.
+    subst (λ (g : ℤ). IsAllowedGroup (seen_by c.args.entry.now.sv base point) scale (number_at c.args.entry.now.sv.observed 2) g) (sym (answer c))
+    (subst (λ (n : ℤ). IsAllowedGroup (seen_by c.args.entry.now.sv base point) scale n c.first_group.result) (read c)
+    (c.first_group.ensures.allowed scale (seen_by c.args.entry.now.sv base point) t (held_by_both c.args.entry.now base point known)))

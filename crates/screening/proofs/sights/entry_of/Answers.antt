@@ -70,5 +70,6 @@ returns c =
         base_sent = sent;
         rover_sent = was_sent s c.args.table.now.world g.eph c.args.rover.now.tag.0 (code_of g.rover) refl
             (rover_near c.args.base.now.tag.0 c.args.rover.now.tag.0 g.eph.toe.0 seen.chosen.candidate.near c.requires.near) range_too;
+        range = λ place at travel h is. c.seen_from-seen.ensures.range _ _ _ place at travel (three_are c.args.rules.now.point l) h is;
       };
     }

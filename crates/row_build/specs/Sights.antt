@@ -1,0 +1,22 @@
+-- What the rover sees of an entry's satellite, and what both receivers do.
+use Rattle.std.specs.Prelude.{List, ℤ}
+use Rattle.orbit_model.specs.SeenPlaces.{Place, IsDisplacement, IsMeanDirection}
+use Rattle.signal_travel.specs.Directions.{HoldsDirection}
+use Rattle.screening.specs.declared.sv_pair.SvPair.{SvPair}
+use Rattle.row_boxes.specs.declared.sights.Sight.{Sight}
+use Rattle.row_boxes.specs.Sightings.{Sighting, IsSighting, HasSighting, place_at}
+use Rattle.row_boxes.specs.YBoxes.{HoldsPseudoranges}
+use Rattle.row_build.specs.Halves.{IsBaseHalf}
+use Rattle.row_build.specs.declared.entries.Entry.{Entry}
+
+-- the pseudorange and each mean direction of every way in which the rover at the point may have seen the entry's satellite; there is such a way
+pub record IsRoverSight (v : SvPair) (point : List ℤ) (sight : Sight) : Type 0 where
+  pub pseudorange : HoldsPseudoranges v.rover point sight.pseudorange
+  pub direction : (s : Sighting) (move direction : Place) → IsSighting v.rover point s → IsDisplacement move → IsMeanDirection s.seen (place_at point) move direction →
+      HoldsDirection sight.direction direction
+  pub exists : HasSighting v.rover point
+
+-- what the base sees there, and the rover at the point
+pub record IsSeen (e : Entry) (base point : List ℤ) : Type 0 where
+  pub half : IsBaseHalf e.sv base e.half
+  pub rover : IsRoverSight e.sv point e.rover

@@ -1,0 +1,10 @@
+-- How far the base is from where it sees a satellite.
+use Rattle.rational.specs.Rational.{Rational}
+use Rattle.iv_core.specs.Intervals.{Holds}
+use Rattle.orbit_model.specs.SeenPlaces.{Place, IsSeenPlace, range_of}
+use Rattle.signal_travel.specs.Boxes.{HoldsPlace}
+use Rattle.screening.specs.declared.sv_pair.SvPair.{SvPair}
+
+-- the box of the range holds that of every place in the base's box, as it is seen from the point
+abbrev pub HoldsRange : Place → SvPair → Type 0
+HoldsRange point v = (sent seen : Place) (travel : Rational) → HoldsPlace v.base.place sent → IsSeenPlace sent point travel seen → Holds v.base_range (range_of travel)
