@@ -8,3 +8,4 @@ pub mod RadiusLaws
 pub mod WeightLaws
 pub mod NormalLaws
 pub mod NormalValues
+pub mod NormalInvariants
