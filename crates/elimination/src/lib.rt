@@ -6,8 +6,8 @@
 //!
 //! The steps stop in the first column whose pivot is below 2^20 (`StepFault::Weak`), that has a factor of 2^52 or more in
 //! size (`WideFactor`), or whose step gives such an entry (`WideEntry`); `Stopped::fault` and `finish` report it as a
-//! `LowerFault`. What steps that stop leave in their tables no clause says. `form_table`, `front_factors` and
-//! `first_kept` hand on what the steps of the baseline's columns left. No memory is taken.
+//! `LowerFault`. What steps that stop leave in their tables no clause says. `form_table`, `fill_form_table`,
+//! `front_factors` and `first_kept` hand on what the steps of the baseline's columns left. No memory is taken.
 #![tactic(auto)]
 
 mod entries;
@@ -20,4 +20,4 @@ pub use entries::is_small;
 pub use finished::finish;
 pub use step::StepFault;
 pub use steps::{Stopped, take_steps};
-pub use tables::{first_kept, form_table, front_factors};
+pub use tables::{fill_form_table, first_kept, form_table, front_factors};

@@ -42,6 +42,23 @@ fn copy_row(table: &NormalTable, p: &mut FormTable, r: usize, n: usize)
     }
 }
 
+/// Writes the form of the n columns after the baseline's, both halves, into a table that is 0 outside of it. Of the table
+/// that is read, the entries on the diagonal and after it are.
+pub fn fill_form_table(table: &NormalTable, p: &mut FormTable, n: usize)
+    requires columns_in { n ≤ MOST_FORM_COLUMNS }
+    requires small { SmallForm (form_from (entry table.now) 3 n) }
+    requires symmetric { IsSymmetric p.old }
+    requires outside { IsZeroOutside n n p.old }
+    ensures form { form_of_table p.new n ≡ form_from (entry table.now) 3 n }
+    ensures entries { EntriesBelow (2 ^ 52) p.new }
+    ensures symmetric { IsSymmetric p.new }
+    ensures outside { IsZeroOutside n n p.new }
+{
+    for r in 0..n {
+        copy_row(table, p, r, n);
+    }
+}
+
 /// The form of the n columns after the baseline's, both halves. Of the table the entries on the diagonal and after it
 /// are read.
 pub fn form_table(table: &NormalTable, n: usize) -> FormTable
@@ -53,9 +70,7 @@ pub fn form_table(table: &NormalTable, n: usize) -> FormTable
     ensures outside { IsZeroOutside n n result }
 {
     let mut p = FormTable::zeros();
-    for r in 0..n {
-        copy_row(table, &mut p, r, n);
-    }
+    fill_form_table(table, &mut p, n);
     p
 }
 

@@ -10,3 +10,4 @@ pub mod RadiusLaws
 pub mod WeightLaws
 pub mod NormalLaws
 pub mod NormalValues
+pub mod NormalInvariants

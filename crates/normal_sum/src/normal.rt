@@ -1,11 +1,11 @@
 //! The normal matrix of rows.
-ghost use Rattle.std.specs.Prelude.{◌^◌, ◌≤◌, All};
-ghost use Rattle.form_tables.specs.Tables.{IsZeroOutside};
+ghost use Rattle.std.specs.Prelude.{◌≡◌, ℕ, ◌^◌, ◌≤◌, pos, All};
+ghost use Rattle.form_tables.specs.Tables.{entry, IsZeroOutside};
 ghost use Rattle.form_tables.specs.declared.sizes.TheConstants.{MOST_COLUMNS};
 ghost use Rattle.form_tables.specs.Matrices.{IsSymmetric, EntriesBelow};
 ghost use Rattle.normal_sum.specs.Matrices.{IsRadiusSum};
 
-use form_tables::NormalTable;
+use form_tables::{BASELINE_COLUMNS, NormalTable};
 
 /// The weighted sum of squares at the centres of the rows as a matrix, and what the radii of the rows may take from it.
 ///
@@ -26,4 +26,17 @@ pub struct Normal {
     pub ghost entries_in: { EntriesBelow (2 ^ 120) c },
     pub ghost nothing_outside: { IsZeroOutside columns columns c },
     pub ghost radii_in: { All IsRadiusSum r },
+}
+
+impl Normal {
+    /// The matrix of no rows: 0, in the columns of the baseline and of the constant. Another may be written over it.
+    pub fn empty() -> Normal
+        ensures { (i j : ℕ) → entry result.c i j ≡ pos 0 }
+    {
+        Normal {
+            columns: BASELINE_COLUMNS + 1,
+            c: NormalTable::zeros(),
+            r: [0, 0, 0, 0],
+        }
+    }
 }

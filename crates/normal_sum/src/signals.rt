@@ -208,7 +208,7 @@ fn add_phase(
 fn add_code(table: &mut NormalTable, pair: &PairRows, signal: usize, integers: usize)
     requires signal { signal < SIGNALS }
     requires few { integers ≤ MOST_INTEGERS }
-    requires entry_size { (i j : ℕ) → i ≤ j → BASELINE_COLUMNS ≤ j → j < MOST_COLUMNS → unsigned_abs (entry table.old i j) ≤ 3600 * 2 ^ 108 }
+    requires entry_size { (i j : ℕ) → i ≤ j → BASELINE_COLUMNS ≤ j → j < MOST_COLUMNS → unsigned_abs (entry table.old i j) ≤ MOST_PAIRS * 2 ^ 108 }
     ensures added { (arcs : List Arc) (ss : List ℕ) → SeesNone arcs ss signal pair.now.rows → integers ≡ integer_count arcs ss →
         (i j : ℕ) → i ≤ j → BASELINE_COLUMNS ≤ j → j < MOST_COLUMNS → entry table.new i j ≡ entry table.old i j +ℤ group_entry (signal_group arcs ss pair.now signal) i j }
     ensures size { (i j : ℕ) → i ≤ j → BASELINE_COLUMNS ≤ j → j < MOST_COLUMNS → unsigned_abs (entry table.new i j) ≤ unsigned_abs (entry table.old i j) + 2 ^ 105 }
@@ -232,7 +232,7 @@ pub(crate) fn add_signal(
     requires phase { IfSome phase (λ i. i < PHASES) }
     requires places { (k : ℕ) → IfSome (place_from (slice_index_or firsts.now k None) phase) (λ i. i < integers) }
     requires few { integers ≤ MOST_INTEGERS }
-    requires entry_size { (i j : ℕ) → i ≤ j → BASELINE_COLUMNS ≤ j → j < MOST_COLUMNS → unsigned_abs (entry table.old i j) ≤ 3600 * 2 ^ 108 }
+    requires entry_size { (i j : ℕ) → i ≤ j → BASELINE_COLUMNS ≤ j → j < MOST_COLUMNS → unsigned_abs (entry table.old i j) ≤ MOST_PAIRS * 2 ^ 108 }
     ensures added { (arcs : List Arc) (ss : List ℕ) → ArePlacesFrom arcs ss signal pair.now.rows firsts.now phase → integers ≡ integer_count arcs ss →
         (i j : ℕ) → i ≤ j → BASELINE_COLUMNS ≤ j → j < MOST_COLUMNS → entry table.new i j ≡ entry table.old i j +ℤ group_entry (signal_group arcs ss pair.now signal) i j }
     ensures size { (i j : ℕ) → i ≤ j → BASELINE_COLUMNS ≤ j → j < MOST_COLUMNS → unsigned_abs (entry table.new i j) ≤ unsigned_abs (entry table.old i j) + 2 ^ 105 }

@@ -1,9 +1,16 @@
 //! The normal matrix of one pair's rows and of a session.
-ghost use Rattle.std.specs.Prelude.{◌∷◌, [], ◌≤◌, length, All};
+ghost use Rattle.std.specs.Prelude.{◌≡◌, ◌≢◌, ◌∷◌, [], ℕ, ◌^◌, ◌<◌, ◌≤◌, pos, length, All};
+ghost use Rattle.quadratic_form.specs.Rows.{radii};
+ghost use Rattle.quadratic_form.specs.MatrixEntries.{matrix_entry};
+ghost use Rattle.form_tables.specs.Tables.{entry, IsZeroOutside};
+ghost use Rattle.form_tables.specs.Matrices.{EntriesBelow};
+ghost use Rattle.obs_rows.specs.declared.limits.TheConstants.{MOST_PAIRS};
 ghost use Rattle.obs_rows.specs.Arcs.{free_count};
 ghost use Rattle.obs_rows.specs.Pairs.{HasItsArcs};
 ghost use Rattle.obs_rows.specs.Signals.{AreCounted, counted};
-ghost use Rattle.obs_rows.specs.declared.limits.TheConstants.{MOST_PAIRS};
+ghost use Rattle.obs_rows.specs.Integers.{integer_count};
+ghost use Rattle.obs_rows.specs.SignalGroups.{signal_groups};
+ghost use Rattle.normal_sum.specs.Matrices.{IsRadiusSum, radius_list};
 ghost use Rattle.normal_sum.specs.Normals.{IsNormalOf};
 ghost use Rattle.normal_sum.specs.Values.{IsSumAtCentres, StaysBelow};
 
@@ -11,9 +18,44 @@ use crate::Normal;
 use crate::mirror::mirror;
 use crate::pairs::{add_pair, add_pair_radii};
 use crate::radii::RadiusSums;
-use form_tables::{BASELINE_COLUMNS, NormalTable};
+use form_tables::{BASELINE_COLUMNS, MOST_COLUMNS, NormalTable};
 use obs_rows::{Arc, MOST_FREE_ARCS, PairRows, Session, Signals, counted_signals, integer_count};
 use std::slice;
+
+/// Writes the sums over all these pairs into a table of zeros, and gives those of the squares of their radii.
+fn fill_table(
+    table: &mut NormalTable,
+    arcs: &[Arc],
+    signals: &[usize],
+    integers: usize,
+    pairs: &[PairRows],
+) -> [i128; 4]
+    requires arcs { All (HasItsArcs arcs.now) pairs.now }
+    requires counted { AreCounted signals.now }
+    requires free { free_count arcs.now ≤ MOST_FREE_ARCS }
+    requires few { length pairs.now ≤ MOST_PAIRS }
+    requires integers { integers ≡ integer_count arcs.now signals.now }
+    requires zeros { (i j : ℕ) → entry table.old i j ≡ pos 0 }
+    ensures entries { (i j : ℕ) → entry table.new i j ≡ matrix_entry (signal_groups arcs.now signals.now pairs.now) i j }
+    ensures entries_in { EntriesBelow (2 ^ 120) table.new }
+    ensures radii { result ≡ radius_list (radii (signal_groups arcs.now signals.now pairs.now)) }
+    ensures radii_in { All IsRadiusSum result }
+{
+    let mut radii = RadiusSums {
+        u1: 0,
+        u2: 0,
+        u3: 0,
+        y: 0,
+    };
+    for pair in pairs {
+        add_pair(table, arcs, signals, integers, pair);
+        radii = add_pair_radii(radii, signals, pair);
+    }
+    mirror(table);
+    // Every table has the shape that a read of it tells.
+    let _first = table.at(0, 0);
+    [radii.u1, radii.u2, radii.u3, radii.y]
+}
 
 /// The sums over all these pairs.
 fn sum_pairs(arcs: &[Arc], signals: &[usize], pairs: &[PairRows]) -> Normal
@@ -25,25 +67,56 @@ fn sum_pairs(arcs: &[Arc], signals: &[usize], pairs: &[PairRows]) -> Normal
 {
     let integers = integer_count(arcs, signals);
     let mut table = NormalTable::zeros();
-    let mut radii = RadiusSums {
-        u1: 0,
-        u2: 0,
-        u3: 0,
-        y: 0,
-    };
-    for pair in pairs {
-        add_pair(&mut table, arcs, signals, integers, pair);
-        radii = add_pair_radii(radii, signals, pair);
-    }
-    mirror(&mut table);
-    // Every table has the shape that a read of it tells.
-    let _first = table.at(0, 0);
-    let r = [radii.u1, radii.u2, radii.u3, radii.y];
+    let r = fill_table(&mut table, arcs, signals, integers, pairs);
     Normal {
         columns: BASELINE_COLUMNS + integers + 1,
         c: table,
         r,
     }
+}
+
+/// Writes 0 into the first columns of a row.
+fn clear_row(table: &mut NormalTable, row: usize, columns: usize)
+    requires row_in { row < MOST_COLUMNS }
+    requires columns_in { columns ≤ MOST_COLUMNS }
+    ensures cleared { (j : ℕ) → j < columns → entry table.new row j ≡ pos 0 }
+    ensures later { (j : ℕ) → columns ≤ j → entry table.new row j ≡ entry table.old row j }
+    ensures others { (i j : ℕ) → i ≢ row → entry table.new i j ≡ entry table.old i j }
+{
+    for column in 0..columns {
+        table.set(row, column, 0);
+    }
+}
+
+/// Makes a table of zeros of one that is 0 outside these columns: to clear them costs less than to clear it whole.
+fn clear(table: &mut NormalTable, columns: usize)
+    requires columns_in { columns ≤ MOST_COLUMNS }
+    requires outside { IsZeroOutside columns columns table.old }
+    ensures { (i j : ℕ) → entry table.new i j ≡ pos 0 }
+{
+    for row in 0..columns {
+        clear_row(table, row, columns);
+    }
+}
+
+/// Writes the normal matrix of one pair's rows over another. It is that of `sum_pair`, and no other table is made or copied.
+pub fn refill_pair(normal: &mut Normal, arcs: &[Arc], signals: Signals, scale: u32, pair: &PairRows)
+    requires arcs { HasItsArcs arcs.now pair.now }
+    requires free { free_count arcs.now ≤ MOST_FREE_ARCS }
+    ensures { IsNormalOf arcs.now (counted signals scale) (pair.now ∷ []) normal.new }
+{
+    let counted = counted_signals(signals, scale);
+    let integers = integer_count(arcs, counted);
+    clear(&mut normal.c, normal.columns);
+    let r = fill_table(
+        &mut normal.c,
+        arcs,
+        counted,
+        integers,
+        slice::from_ref(pair),
+    );
+    normal.r = r;
+    normal.columns = BASELINE_COLUMNS + integers + 1;
 }
 
 /// The normal matrix of one pair's rows.

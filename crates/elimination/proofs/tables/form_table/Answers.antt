@@ -1,28 +1,14 @@
-use Rattle.std.proofs.Common.{◌≡◌, ℕ, ◌+◌, ◌<◌, List, ℤ, unsigned_abs, arith, pos, sym, subst, ◌^◌, ap, ap₂, ◌∙◌}
+use Rattle.std.proofs.Common.{◌≡◌, ℕ, List, ℤ, pos, sym, ap, ◌∙◌}
 use Rattle.form_tables.specs.declared.sizes.TheConstants.{MOST_FORM_COLUMNS}
-use Rattle.form_tables.specs.Tables.{entry}
+use Rattle.form_tables.specs.Tables.{entry, zero_rows}
 use Rattle.form_tables.proofs.TableLaws.{zero_entry}
-use Rattle.elimination.proofs.TableLaws.{form_moved, small_of_form, small_table}
 use Rattle.elimination.proofs.tables.form_table.Goals as goal
 
-pub loop-r-init : goal.loop-r-init
-loop-r-init c =
-    let z : (i j : ℕ) → entry c.zeros-p.result i j ≡ pos 0 = λ i j. ap (λ (t : List (List ℤ)). entry t i j) c.zeros-p.ensures.zeros ∙ zero_entry MOST_FORM_COLUMNS MOST_FORM_COLUMNS i j in
-    record { done = λ i k h. absurd (omega arith); symmetric = λ i j. z i j ∙ sym (z j i); outside = λ i j h. z i j }
+nothing : (t : List (List ℤ)) → t ≡ zero_rows MOST_FORM_COLUMNS MOST_FORM_COLUMNS → (i j : ℕ) → entry t i j ≡ pos 0
+nothing t e i j = ap (λ (t : List (List ℤ)). entry t i j) e ∙ zero_entry MOST_FORM_COLUMNS MOST_FORM_COLUMNS i j
 
-pub copy_row-requires-clause-entries : goal.copy_row-requires-clause-entries
-copy_row-requires-clause-entries c = λ k l h. small_of_form (entry c.args.table.now) 3 c.args.n c.requires.small (3 + c.loop-r.r) (3 + k) (omega arith) (omega arith) (omega arith)
+pub fill_form_table-requires-clause-symmetric : goal.fill_form_table-requires-clause-symmetric
+fill_form_table-requires-clause-symmetric c = λ i j. nothing c.zeros-p.result c.zeros-p.ensures.zeros i j ∙ sym (nothing c.zeros-p.result c.zeros-p.ensures.zeros j i)
 
-pub returns-clause-form : goal.returns-clause-form
-returns-clause-form c = form_moved (entry c.loop-r.p) (entry c.args.table.now) 0 3 c.args.n (λ r k l h. same r k ∙ c.loop-r.invariant.done r k (omega (arith, c.loop-r-test.false)) l h)
-  where
-    nothing : (r : ℕ) → 0 + r ≡ r
-    nothing r = omega arith
-
-    same : (r k : ℕ) → entry c.loop-r.p (0 + r) (0 + k) ≡ entry c.loop-r.p r k
-    same r k = ap₂ (λ p q. entry c.loop-r.p p q) (nothing r) (nothing k)
-
-pub returns-clause-entries : goal.returns-clause-entries
-returns-clause-entries c = small_table c.loop-r.p c.args.n c.loop-r.invariant.symmetric c.loop-r.invariant.outside
-    (λ r k l h. subst (λ (z : ℤ). unsigned_abs z < 2 ^ 52) (sym (c.loop-r.invariant.done r k (omega (arith, c.loop-r-test.false)) l h))
-    (small_of_form (entry c.args.table.now) 3 c.args.n c.requires.small (3 + r) (3 + k) (omega arith) (omega arith) (omega arith)))
+pub fill_form_table-requires-clause-outside : goal.fill_form_table-requires-clause-outside
+fill_form_table-requires-clause-outside c = λ i j h. nothing c.zeros-p.result c.zeros-p.ensures.zeros i j

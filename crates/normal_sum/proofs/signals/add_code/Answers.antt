@@ -2,17 +2,18 @@ use Rattle.std.proofs.Common.{inl, ◌+◌, ◌*◌, ◌^◌, ◌≤◌, unsigne
 use Rattle.form_tables.specs.declared.sizes.TheConstants.{BASELINE_COLUMNS}
 use Rattle.form_tables.specs.Tables.{entry}
 use Rattle.normal_sum.proofs.ObservationLaws.{code_entries}
+use Rattle.obs_rows.specs.declared.limits.TheConstants.{MOST_PAIRS}
 use Rattle.normal_sum.proofs.signals.add_code.Goals as goal
 
 pub add_observations-requires-clause-axis_size : goal.add_observations-requires-clause-axis_size
 add_observations-requires-clause-axis_size c = λ i h.
-    let size : unsigned_abs (entry c.args.table.now i (BASELINE_COLUMNS + c.args.integers)) ≤ 3600 * 2 ^ 108 =
+    let size : unsigned_abs (entry c.args.table.now i (BASELINE_COLUMNS + c.args.integers)) ≤ MOST_PAIRS * 2 ^ 108 =
     c.requires.entry_size i (BASELINE_COLUMNS + c.args.integers) (omega arith) (omega arith) (omega (arith, c.requires.few)) in
     omega (arith, size)
 
 pub add_observations-requires-clause-square_size : goal.add_observations-requires-clause-square_size
 add_observations-requires-clause-square_size c =
-    let size : unsigned_abs (entry c.args.table.now (BASELINE_COLUMNS + c.args.integers) (BASELINE_COLUMNS + c.args.integers)) ≤ 3600 * 2 ^ 108 =
+    let size : unsigned_abs (entry c.args.table.now (BASELINE_COLUMNS + c.args.integers) (BASELINE_COLUMNS + c.args.integers)) ≤ MOST_PAIRS * 2 ^ 108 =
     c.requires.entry_size (BASELINE_COLUMNS + c.args.integers) (BASELINE_COLUMNS + c.args.integers) (omega arith) (omega arith) (omega (arith, c.requires.few)) in
     omega (arith, size)
 

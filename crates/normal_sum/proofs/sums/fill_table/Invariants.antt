@@ -5,7 +5,7 @@ use Rattle.form_tables.specs.declared.sizes.TheConstants.{MOST_COLUMNS}
 use Rattle.form_tables.specs.Tables.{entry}
 use Rattle.obs_rows.specs.SignalGroups.{signal_groups}
 use Rattle.normal_sum.specs.RadiusSums.{radii_of, IsAtMost}
-use Rattle.normal_sum.proofs.sums.sum_pairs.Given as goal
+use Rattle.normal_sum.proofs.sums.fill_table.Given as goal
 
 abbrev pub invariant-loop-pair : goal.invariant-loop-pair
 invariant-loop-pair l = record {

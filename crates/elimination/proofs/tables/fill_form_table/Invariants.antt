@@ -1,7 +1,7 @@
 use Rattle.std.proofs.Common.{◌≡◌, ℕ, ◌+◌, ◌<◌, ◌≤◌}
 use Rattle.form_tables.specs.Tables.{entry, IsZeroOutside}
 use Rattle.form_tables.specs.Matrices.{IsSymmetric}
-use Rattle.elimination.proofs.tables.form_table.Given as goal
+use Rattle.elimination.proofs.tables.fill_form_table.Given as goal
 
 abbrev pub invariant-loop-r : goal.invariant-loop-r
 invariant-loop-r l = record {

@@ -1,0 +1,38 @@
+-- What the type of a normal matrix keeps, of a table that has the entries of rows.
+use Rattle.std.proofs.Common.{◌≡◌, ℕ, ◌+◌, ◌^◌, ◌≤◌, List, ℤ, arith, ap, ◌∙◌}
+use Rattle.quadratic_form.specs.Rows.{SignalGroup, columns}
+use Rattle.quadratic_form.specs.MatrixEntries.{matrix_entry}
+use Rattle.obs_rows.specs.declared.arcs.Arc.{Arc}
+use Rattle.obs_rows.specs.declared.pair_rows.PairRows.{PairRows}
+use Rattle.obs_rows.specs.declared.units.TheConstants.{MOST_FREE_ARCS}
+use Rattle.obs_rows.specs.Arcs.{free_count}
+use Rattle.obs_rows.specs.Signals.{AreCounted}
+use Rattle.obs_rows.specs.Integers.{integer_count}
+use Rattle.obs_rows.specs.SignalGroups.{signal_groups}
+use Rattle.obs_rows.proofs.GroupShapes.{groups_of}
+use Rattle.form_tables.specs.declared.sizes.TheConstants.{MOST_COLUMNS}
+use Rattle.form_tables.specs.Tables.{entry, IsZeroOutside}
+use Rattle.form_tables.specs.Matrices.{IsSymmetric}
+use Rattle.normal_sum.proofs.PlaceLaws.{count_within}
+use Rattle.normal_sum.proofs.NormalLaws.{symmetric_is, outside_is, four_and}
+
+pub record Shaped (columns : ℕ) (t : List (List ℤ)) : Type 0 where
+  pub from : 4 ≤ columns
+  pub to : columns ≤ MOST_COLUMNS
+  pub symmetric : IsSymmetric t
+  pub outside : IsZeroOutside columns columns t
+
+columns_are : (m n : ℕ) → m ≡ n → (3 + m) + 1 ≡ columns n
+columns_are m n e = omega (arith, four_and n)
+
+pub columns_of_sum : (m n : ℕ) → m ≡ n → (3 + m) + 1 ≡ 4 + n
+columns_of_sum m n e = omega (arith, e)
+
+pub shaped : (arcs : List Arc) (ss : List ℕ) (pairs : List PairRows) (integers : ℕ) (t : List (List ℤ)) → AreCounted ss → free_count arcs ≤ MOST_FREE_ARCS → integers ≡ integer_count arcs ss →
+    ((i j : ℕ) → entry t i j ≡ matrix_entry (signal_groups arcs ss pairs) i j) → Shaped ((3 + integers) + 1) t
+shaped arcs ss pairs integers t counted free e entries = record {
+  from = omega arith;
+  to = omega (arith, e, count_within arcs ss counted free);
+  symmetric = symmetric_is (signal_groups arcs ss pairs) t entries;
+  outside = outside_is (integer_count arcs ss) ((3 + integers) + 1) (signal_groups arcs ss pairs) t (columns_are integers (integer_count arcs ss) e) (groups_of arcs ss pairs) entries;
+}

@@ -1,0 +1,10 @@
+use Rattle.std.proofs.Common.{◌≡◌, ◌≢◌, ℕ, ◌<◌, ◌≤◌, pos}
+use Rattle.form_tables.specs.Tables.{entry}
+use Rattle.normal_sum.proofs.sums.clear_row.Given as goal
+
+abbrev pub invariant-loop-column : goal.invariant-loop-column
+invariant-loop-column l = record {
+  cleared : (j : ℕ) → j < l.column → entry l.table l.row j ≡ pos 0;
+  later : (j : ℕ) → l.column ≤ j → entry l.table l.row j ≡ entry l.initial.table l.row j;
+  others : (i j : ℕ) → i ≢ l.row → entry l.table i j ≡ entry l.initial.table i j;
+}
