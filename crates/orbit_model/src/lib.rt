@@ -5,6 +5,8 @@
 //! The laws of a seen place stand in `travel`.
 #![tactic(auto)]
 
+mod rotation;
 mod travel;
 
+pub use rotation::EARTH_ROTATION;
 pub use travel::{range_change, seen_place_exists, seen_places};

@@ -10,6 +10,7 @@ use crate::orbit::{ANGLE, EPOCH_TIME, Orbit, SMALL, TINY};
 use crate::plane::{ANGLE_CHANGE, ANGLE_CHANGE_WIDTH, TWICE_WIDTH, angle_change};
 use crate::rotations::{Rotation, rotation_of, wide_rotation_of};
 use iv_core::Iv;
+use orbit_model::EARTH_ROTATION;
 use sized_box::SizedBox;
 
 // What the inclination turns by since the reference epoch.
@@ -60,7 +61,7 @@ fn inclined(
 fn earth_rate() -> SizedBox<60, EARTH_RATE, 1>
     ensures { Holds result.held (times 10000 earth_rate) }
 {
-    SizedBox::new(Iv::ratio(72_921_151_467, 100_000_000_000).unwrap())
+    SizedBox::new(Iv::ratio(EARTH_ROTATION as i128, 100_000_000_000).unwrap())
 }
 
 // What the Earth turns by in that many seconds of a week, in radians
@@ -68,7 +69,7 @@ fn earth_turn(second: u32) -> SizedBox<56, EARTH_TURN, 1>
     requires { second < 604800 }
     ensures { Holds result.held (mul_r earth_rate (of_whole (pos second))) }
 {
-    let angle = 72_921_151_467 * second as i128;
+    let angle = EARTH_ROTATION as i128 * second as i128;
     SizedBox::new(Iv::ratio(angle, 1_000_000_000_000_000).unwrap())
 }
 

@@ -12,10 +12,8 @@ ghost use Rattle.signal_travel.specs.VectorBoxes.{HoldsVector, IsVectorWithin, I
 use crate::places::VectorBox;
 use crate::sent::SentBox;
 use iv_core::Iv;
+use orbit_model::EARTH_ROTATION;
 use trig_box::{PairBox, pair_box};
-
-// The Earth's rate of turn in 10^-15 rad/s (IS-GPS-200, table 20-IV)
-const EARTH_RATE: u128 = 72_921_151_467;
 
 // The middle of the box, rounded down
 fn middle_of(travel: &Iv<60>) -> i64
@@ -58,7 +56,7 @@ fn angle_in(time: i64) -> i64
     ensures low { pos 0 ≤ℤ result }
     ensures high { result ≤ℤ pos 875753788197 }
 {
-    over_scale(EARTH_RATE * time as u128) as i64
+    over_scale(EARTH_ROTATION as u128 * time as u128) as i64
 }
 
 // Boxes of every pair of the angle, in units of 2^-56 rad
