@@ -1,4 +1,4 @@
-use Rattle.std.proofs.Common.{◌≡◌, ℤ, pos, ◌+ℤ◌, ◌-ℤ◌, ◌*ℤ◌, ◌≤ℤ◌, ◌<ℤ◌, neg_ℤ, arith, to_z, of_z, ap, ap₂, ◌∙◌}
+use Rattle.std.proofs.Common.{◌≡◌, ℤ, pos, ◌+ℤ◌, ◌-ℤ◌, ◌*ℤ◌, ◌≤ℤ◌, ◌<ℤ◌, neg_ℤ, arith, to_z, of_z, ap₂, ◌∙◌}
 use Rattle.std.proofs.lemmas.Int.{ints, to_z-of_z}
 use Rattle.std.specs.Int.{w64, w128}
 use Rattle.iv_core.proofs.QuotientLaws.{stepped}
@@ -6,6 +6,9 @@ use Rattle.iv_core.proofs.quotients.floor_near.Goals as goal
 
 pub step_of-requires-clause-low : goal.step_of-requires-clause-low
 step_of-requires-clause-low c = grind (arith, ints, to_z-of_z)
+
+pub overflow_add-result : goal.overflow_add-result
+overflow_add-result c = omega (arith, ints, c.step_of.ensures.size)
 
 pub returns-clause-value : goal.returns-clause-value
 returns-clause-value c =
