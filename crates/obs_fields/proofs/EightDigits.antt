@@ -1,12 +1,12 @@
 -- Eight digits that are read at once, as the bytes of one word.
-use Rattle.std.proofs.Common.{◌≡◌, ◌+◌, ◌-◌, ◌*◌, ◌/◌, ◌%◌, ◌^◌, ◌<◌, ◌≤◌, ◌==◌, ◌⊎◌, inl, inr, ℕ, zero, suc, Bool, true, false, List, [], ◌∷◌, ◌++◌, length, take, drop, get_or, Option, Some, None, Ok, bit_and, refl, sym, ap, ◌∙◌, subst, arith}
+use Rattle.std.proofs.Common.{◌≡◌, ◌+◌, ◌-◌, ◌*◌, ◌/◌, ◌%◌, ◌^◌, ◌<◌, ◌≤◌, ◌==◌, ◌⊎◌, inl, inr, ℕ, Bool, true, false, List, [], ◌∷◌, ◌++◌, length, take, drop, get_or, Some, None, Ok, bit_and, refl, sym, ap, ◌∙◌, subst, arith}
 use Rattle.std.proofs.lemmas.Bool.Decides.{nat_tests}
 use Rattle.std.proofs.lemmas.Nat.{and_block, and_le_l, shr_high, mod_low}
 use Rattle.std.proofs.lemmas.Nat.Bits.{and_high_mask}
 use Rattle.decimal_text.specs.Whole.{is_digit, are_digits, digit_sum, number_from}
-use Rattle.decimal_text.specs.Fixed.{are_blank, signed, fixed_of}
+use Rattle.decimal_text.specs.Fixed.{signed, fixed_of}
 use Rattle.decimal_text.proofs.Numbers.{number_from-sum, digits_are}
-use Rattle.obs_fields.specs.Amounts.{StandsBehindBlanks, AreDigitsOf}
+use Rattle.obs_fields.specs.Amounts.{AreDigitsOf}
 use Rattle.obs_fields.specs.SatFields.{digit_of}
 use Rattle.obs_fields.proofs.AmountLaws.{usual_is}
 

@@ -93,11 +93,7 @@ impl Satellites {
     }
 
     /// The same of a satellite of this number with these values, which aren't copied as a whole.
-    pub fn add(
-        &mut self,
-        number: u8,
-        values: &[Option<Value>; SLOTS],
-    ) -> Result<(), AllocError>
+    pub fn add(&mut self, number: u8, values: &[Option<Value>; SLOTS]) -> Result<(), AllocError>
         requires from_first { 1 ≤ number }
         requires to_last { number ≤ 36 }
         requires once { has_satellite number self.old ≡ false }
