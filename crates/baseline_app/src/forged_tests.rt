@@ -1,26 +1,49 @@
 //! Certificates that were tampered with or made up. Their verdicts are those of an independent model on the same texts.
 use crate::fix_tests::run_fix;
-use crate::memory_runs::wrong_on;
+use crate::tests::{Fails, Ran, expect_run, run_on};
 use job_answers::Status;
 use sim_session::make;
 use std::alloc::{AllocError, Global};
+use std::process::Abort;
 use std::test::Fail;
 
-const CHECK: [&str; 2] = ["check", "F"];
+// A run of `check` on this text.
+fn check(alloc: Global, text: &str) -> Result<Ran, AllocError> {
+    run_on(
+        alloc,
+        &["check", "F"],
+        text.as_bytes(),
+        1000,
+        Fails::none(alloc),
+    )
+}
 
-const CERTIFIED: &str = "certified\n";
+fn refused_at(rt: &impl Abort, alloc: Global, text: &str, place: &str) -> Result<(), AllocError> {
+    let line = format!(in alloc; "refused: F {place}\n")?;
+    expect_run(rt, &check(alloc, text)?, Status::Refused, "", &line);
+    Ok(())
+}
+
+fn not_certified(
+    rt: &impl Abort,
+    alloc: Global,
+    text: &str,
+    cause: &str,
+) -> Result<(), AllocError> {
+    let line = format!(in alloc; "not certified {cause}\n")?;
+    expect_run(rt, &check(alloc, text)?, Status::Declined, &line, "");
+    Ok(())
+}
 
 // The certificate of a session of 60 pairs with eight satellites. The line of pair k has number 18 + 9k, the five last
 // lines have numbers 558 to 562.
-fn certificate(alloc: Global) -> Result<String, Fail> {
+fn certificate(rt: &impl Abort, alloc: Global) -> Result<String, Fail> {
     let made = make(alloc, 1, 60, 8, 12, b'G')?;
     let ran = run_fix(alloc, &made.base, &made, "--", 8_000_000)?;
+    assert_eq!(rt; ran.status, Status::Done);
     let text = String::from_str(alloc, str::from_utf8(ran.out.bytes())?)?;
-    if ran.status == Status::Done && text.lines().count() == 562 {
-        Ok(text)
-    } else {
-        Err("no certificate".into())
-    }
+    assert_eq!(rt; text.lines().count(), 562);
+    Ok(text)
 }
 
 // The text with other lines in the place of those with these numbers.
@@ -41,204 +64,99 @@ fn line_of(text: &str, number: usize) -> &str {
     text.lines().nth(number.saturating_sub(1)).unwrap_or("")
 }
 
-// The number of a line, another line in its place, and the end of the check.
-type Edit = (usize, &'static str, Status, &'static str, &'static str);
-
-// The number of the first edit that isn't answered so, and what isn't so.
-fn wrong_edit(
-    alloc: Global,
-    text: &str,
-    edits: &[Edit],
-) -> Result<Option<(usize, &'static str)>, AllocError> {
-    for (at, edit) in edits.iter().enumerate() {
-        let (number, line, status, out, err) = *edit;
-        let other = with_lines(alloc, text, &[(number, line)])?;
-        let wrong = wrong_on(alloc, &CHECK, other.as_bytes(), status, out, err)?;
-        if let Some(what) = wrong {
-            return Ok(Some((at, what)));
-        }
-    }
-    Ok(None)
-}
-
-const NOT_TAIL: &str = "not certified tail\n";
-
-const LINES: [Edit; 4] = [
-    // sums that agree with nothing, and another verdict
-    (561, "values 0 0 0 0", Status::Declined, NOT_TAIL, ""),
-    (562, "declined unseparated", Status::Declined, NOT_TAIL, ""),
-    // the claim of another ratio and budget is that of the rows
-    (3, "budget 1", Status::Declined, "not certified spent\n", ""),
-    (2, "ratio 100000", Status::Done, CERTIFIED, ""),
-];
-
 #[test]
 fn tampered_lines(rt: HostRuntime) -> Result<(), Fail> {
     let alloc = rt.alloc();
-    let text = certificate(alloc)?;
-    let whole = wrong_on(alloc, &CHECK, text.as_bytes(), Status::Done, CERTIFIED, "")?;
-    assert_eq!(rt; whole, None);
-    assert_eq!(rt; wrong_edit(alloc, &text, &LINES)?, None);
-    Ok(())
-}
-
-// The text with its two best vectors in each other's place.
-fn with_vectors_swapped(alloc: Global, text: &str) -> Result<String, AllocError> {
-    let second = format!(in alloc; "z1{}", line_of(text, 559).trim_start_matches("z2"))?;
-    let first = format!(in alloc; "z2{}", line_of(text, 558).trim_start_matches("z1"))?;
-    with_lines(alloc, text, &[(558, &second), (559, &first)])
-}
-
-#[test]
-fn swapped_vectors(rt: HostRuntime) -> Result<(), Fail> {
-    let alloc = rt.alloc();
-    let swapped = with_vectors_swapped(alloc, &certificate(alloc)?)?;
-    let wrong = wrong_on(
-        alloc,
-        &CHECK,
-        swapped.as_bytes(),
-        Status::Declined,
-        NOT_TAIL,
-        "",
-    )?;
-    assert_eq!(rt; wrong, None);
-    Ok(())
-}
-
-// The text with a greater second sum.
-fn with_greater_sum(alloc: Global, text: &str) -> Result<String, Fail> {
-    let mut words = line_of(text, 561).split(' ').skip(1);
-    let (Some(h), Some(best), Some(next), Some(top)) = (
+    let text = certificate(&rt, alloc)?;
+    expect_run(&rt, &check(alloc, &text)?, Status::Done, "certified\n", "");
+    let rows = [
+        // sums that agree with nothing, and another verdict
+        (561, "values 0 0 0 0", "tail"),
+        (562, "declined unseparated", "tail"),
+        // the claim of another ratio and budget is that of the rows
+        (3, "budget 1", "spent"),
+    ];
+    for (number, line, cause) in rows {
+        let other = with_lines(alloc, &text, &[(number, line)])?;
+        not_certified(&rt, alloc, &other, cause)?;
+    }
+    let other = with_lines(alloc, &text, &[(2, "ratio 100000")])?;
+    expect_run(&rt, &check(alloc, &other)?, Status::Done, "certified\n", "");
+    let second = format!(in alloc; "z1{}", line_of(&text, 559).trim_start_matches("z2"))?;
+    let first = format!(in alloc; "z2{}", line_of(&text, 558).trim_start_matches("z1"))?;
+    let swapped = with_lines(alloc, &text, &[(558, &second), (559, &first)])?;
+    not_certified(&rt, alloc, &swapped, "tail")?;
+    let mut words = line_of(&text, 561).split(' ');
+    let (Some(_), Some(h), Some(best), Some(next), Some(top)) = (
+        words.next(),
         words.next(),
         words.next(),
         words.next(),
         words.next(),
     ) else {
-        return Err("no values".into());
+        panic!(&rt; "no values");
     };
     let greater = next.parse::<i64>()?.saturating_add(1);
     let values = format!(in alloc; "values {h} {best} {greater} {top}")?;
-    Ok(with_lines(alloc, text, &[(561, &values)])?)
-}
-
-#[test]
-fn a_greater_second_sum(rt: HostRuntime) -> Result<(), Fail> {
-    let alloc = rt.alloc();
-    let greater = with_greater_sum(alloc, &certificate(alloc)?)?;
-    let wrong = wrong_on(
-        alloc,
-        &CHECK,
-        greater.as_bytes(),
-        Status::Declined,
-        NOT_TAIL,
-        "",
-    )?;
-    assert_eq!(rt; wrong, None);
+    let greater = with_lines(alloc, &text, &[(561, &values)])?;
+    not_certified(&rt, alloc, &greater, "tail")?;
     Ok(())
 }
-
-const SHAPES: [Edit; 13] = [
-    (
-        19,
-        "row 0 17179869185 0 0 0 0 0 0 0 0 0 0",
-        Status::Refused,
-        "",
-        "refused: F line 19 column 7: number out of range\n",
-    ),
-    (
-        19,
-        "row 0 0 0 0 0 1048577 0 0 0 0 0 0",
-        Status::Refused,
-        "",
-        "refused: F line 19 column 15: number out of range\n",
-    ),
-    (
-        19,
-        "row 0 0 0 0 0 0 0 0 0 0 0 1048577",
-        Status::Refused,
-        "",
-        "refused: F line 19 column 27: number out of range\n",
-    ),
-    // a free arc called a datum, and the other way round: the vectors have another length then
-    (
-        10,
-        "arc 2 0 59 datum 0 0",
-        Status::Refused,
-        "",
-        "refused: F line 558 column 1: bad line\n",
-    ),
-    (
-        9,
-        "arc 1 0 59 free 0 0",
-        Status::Refused,
-        "",
-        "refused: F line 558 column 1: bad line\n",
-    ),
-    // pairs and rows out of order
-    (
-        27,
-        "pair 2 13881024300000000 0 8",
-        Status::Refused,
-        "",
-        "refused: F line 36 column 6: number out of range\n",
-    ),
-    (
-        19,
-        "row 1 0 0 0 0 0 0 0 0 0 0 0",
-        Status::Refused,
-        "",
-        "refused: F line 20 column 5: number out of range\n",
-    ),
-    (
-        18,
-        "pair 0 13881024000000000 0 9",
-        Status::Refused,
-        "",
-        "refused: F line 27 column 1: bad line\n",
-    ),
-    (
-        18,
-        "pair 0 13881024000000000 0 16",
-        Status::Refused,
-        "",
-        "refused: F line 18 column 28: number out of range\n",
-    ),
-    (
-        562,
-        "fixed\n",
-        Status::Refused,
-        "",
-        "refused: F line 563 column 1: bad line\n",
-    ),
-    // the form with the coarser unit
-    (
-        1,
-        "baseline-cert 1",
-        Status::Refused,
-        "",
-        "refused: F line 1 column 1: bad line\n",
-    ),
-    (
-        7,
-        "signals C W",
-        Status::Refused,
-        "",
-        "refused: F line 7 column 1: bad line\n",
-    ),
-    (
-        4,
-        "system R",
-        Status::Refused,
-        "",
-        "refused: F line 4 column 1: bad line\n",
-    ),
-];
 
 #[test]
 fn tampered_shapes(rt: HostRuntime) -> Result<(), Fail> {
     let alloc = rt.alloc();
-    let text = certificate(alloc)?;
-    assert_eq!(rt; wrong_edit(alloc, &text, &SHAPES)?, None);
+    let text = certificate(&rt, alloc)?;
+    let rows = [
+        (
+            19,
+            "row 0 17179869185 0 0 0 0 0 0 0 0 0 0",
+            "line 19 column 7: number out of range",
+        ),
+        (
+            19,
+            "row 0 0 0 0 0 1048577 0 0 0 0 0 0",
+            "line 19 column 15: number out of range",
+        ),
+        (
+            19,
+            "row 0 0 0 0 0 0 0 0 0 0 0 1048577",
+            "line 19 column 27: number out of range",
+        ),
+        // a free arc called a datum, and the other way round: the vectors have another length then
+        (10, "arc 2 0 59 datum 0 0", "line 558 column 1: bad line"),
+        (9, "arc 1 0 59 free 0 0", "line 558 column 1: bad line"),
+        // pairs and rows out of order
+        (
+            27,
+            "pair 2 13881024300000000 0 8",
+            "line 36 column 6: number out of range",
+        ),
+        (
+            19,
+            "row 1 0 0 0 0 0 0 0 0 0 0 0",
+            "line 20 column 5: number out of range",
+        ),
+        (
+            18,
+            "pair 0 13881024000000000 0 9",
+            "line 27 column 1: bad line",
+        ),
+        (
+            18,
+            "pair 0 13881024000000000 0 16",
+            "line 18 column 28: number out of range",
+        ),
+        (562, "fixed\n", "line 563 column 1: bad line"),
+        // the form with the coarser unit
+        (1, "baseline-cert 1", "line 1 column 1: bad line"),
+        (7, "signals C W", "line 7 column 1: bad line"),
+        (4, "system R", "line 4 column 1: bad line"),
+    ];
+    for (number, line, place) in rows {
+        let other = with_lines(alloc, &text, &[(number, line)])?;
+        refused_at(&rt, alloc, &other, place)?;
+    }
     Ok(())
 }
 
@@ -253,8 +171,10 @@ fn push_widened(out: &mut String, line: &str) -> Result<(), AllocError> {
     Ok(())
 }
 
-// The text with the widest radii in each row.
-fn widened(alloc: Global, text: &str) -> Result<String, AllocError> {
+#[test]
+fn widest_radii(rt: HostRuntime) -> Result<(), Fail> {
+    let alloc = rt.alloc();
+    let text = certificate(&rt, alloc)?;
     let mut wide = String::new(alloc);
     for line in text.lines() {
         if line.starts_with("row ") {
@@ -264,16 +184,7 @@ fn widened(alloc: Global, text: &str) -> Result<String, AllocError> {
         }
         wide.push('\n')?;
     }
-    Ok(wide)
-}
-
-#[test]
-fn widest_radii(rt: HostRuntime) -> Result<(), Fail> {
-    let alloc = rt.alloc();
-    let wide = widened(alloc, &certificate(alloc)?)?;
-    let not = "not certified unseparated\n";
-    let wrong = wrong_on(alloc, &CHECK, wide.as_bytes(), Status::Declined, not, "")?;
-    assert_eq!(rt; wrong, None);
+    not_certified(&rt, alloc, &wide, "unseparated")?;
     Ok(())
 }
 
@@ -304,23 +215,13 @@ signals 12 C W\narcs 15\n",
 }
 
 #[test]
-fn checks_the_most_rows(rt: HostRuntime) -> Result<(), AllocError> {
+fn checks_the_most_rows(rt: HostRuntime) -> Result<(), Fail> {
     let alloc = rt.alloc();
     let mut text = most_rows(alloc)?;
     text.push_str("declined weak fine 0 -32\n")?;
-    let not = "not certified weak 0 -32\n";
-    let wrong = wrong_on(alloc, &CHECK, text.as_bytes(), Status::Declined, not, "")?;
-    assert_eq!(rt; wrong, None);
-    Ok(())
-}
-
-#[test]
-fn refuses_a_row_more_than_there_may_be(rt: HostRuntime) -> Result<(), AllocError> {
-    let alloc = rt.alloc();
-    let text = most_rows(alloc)?;
+    not_certified(&rt, alloc, &text, "weak 0 -32")?;
+    // a row more than there may be
     let more = text.replace(alloc, "pairs 3600\n", "pairs 3601\n")?;
-    let refused = "refused: F line 24 column 7: number out of range\n";
-    let wrong = wrong_on(alloc, &CHECK, more.as_bytes(), Status::Refused, "", refused)?;
-    assert_eq!(rt; wrong, None);
+    refused_at(&rt, alloc, &more, "line 24 column 7: number out of range")?;
     Ok(())
 }

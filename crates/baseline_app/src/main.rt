@@ -62,11 +62,7 @@ mod laws;
 #[cfg(test)]
 mod malformed_tests;
 #[cfg(test)]
-mod memory_runs;
-#[cfg(test)]
 mod migrate_tests;
-#[cfg(test)]
-mod orbit_tests;
 #[cfg(test)]
 mod session_texts;
 #[cfg(test)]

@@ -1,12 +1,13 @@
 //! Texts that nothing admits, at the place of the first flaw. The texts are written by hand from the forms.
 ghost use Rattle.std.specs.Prelude.{None};
 
-use crate::memory_runs::{Row, run_plainly, wrong_end, wrong_on, wrong_row};
-use crate::orbit_tests::NAV;
-use crate::session_texts::run_on_session;
+use crate::session_texts::{run_on_session, wrong_end};
+use crate::tests::{Fails, NAV, Ran, expect_run, run_on, run_plainly};
 use job_answers::Status;
 use line_source::{Failed, FileId, Files, Opening, OpeningLog};
 use std::alloc::{AllocError, Global};
+use std::process::Abort;
+use std::test::Fail;
 
 const HEADER: &str =
     "     3.04           OBSERVATION DATA    G                   RINEX VERSION / TYPE\n\
@@ -14,61 +15,60 @@ const HEADER: &str =
 G    4 C1C L1C C2W L2W                                      SYS / # / OBS TYPES\n\
 \x20                                                           END OF HEADER\n";
 
-const OBSERVATIONS: [Row; 7] = [
-    (
-        "list",
-        "> 2024 01 01 00 00  0.0000000  7  0\n",
-        Status::Refused,
-        "",
-        "refused: F line 5 column 32: bad epoch flag\n",
-    ),
-    (
-        "list",
-        "> 2024 01 01 00 00  0.0000000  0  1\nG00\n",
-        Status::Refused,
-        "",
-        "refused: F line 6 column 1: bad satellite name\n",
-    ),
-    (
-        "list",
-        "> 2024 01 01 00 00  0.0000000  0  1\nG33\n",
-        Status::Refused,
-        "",
-        "refused: F line 6 column 1: bad satellite name\n",
-    ),
-    (
-        "list",
-        "> 2024 01 01 00 00  0.0000000  0  2\nG05\nG05\n",
-        Status::Refused,
-        "",
-        "refused: F line 7 column 1: satellite twice in epoch\n",
-    ),
-    (
-        "list",
-        "> 2024 01 01 00 00  0.0000000  0  1\nG05  1234567.8901\n",
-        Status::Refused,
-        "",
-        "refused: F line 6 column 4: bad field\n",
-    ),
-    (
-        "list",
-        "> 2024 01 01 00 00  0.0000000  0  1\nG05   1234567.8908\n",
-        Status::Refused,
-        "",
-        "refused: F line 6 column 18: bad field\n",
-    ),
-    (
-        "list",
-        "> 2024 01 01 00 00 60.0000000  0  0\n",
-        Status::Refused,
-        "",
-        "refused: F line 5 column 3: bad date\n",
-    ),
-];
+// A run of `list` on this text.
+fn list(alloc: Global, text: &str) -> Result<Ran, AllocError> {
+    run_on(
+        alloc,
+        &["list", "F"],
+        text.as_bytes(),
+        1000,
+        Fails::none(alloc),
+    )
+}
+
+fn refused_at(rt: &impl Abort, alloc: Global, ran: &Ran, place: &str) -> Result<(), AllocError> {
+    let line = format!(in alloc; "refused: F {place}\n")?;
+    expect_run(rt, ran, Status::Refused, "", &line);
+    Ok(())
+}
 
 #[test]
-fn refuses_observations(rt: HostRuntime) -> Result<(), AllocError> {
-    assert_eq!(rt; wrong_row(rt.alloc(), HEADER, &OBSERVATIONS)?, None);
+fn refuses_observations(rt: HostRuntime) -> Result<(), Fail> {
+    let alloc = rt.alloc();
+    let rows = [
+        (
+            "> 2024 01 01 00 00  0.0000000  7  0\n",
+            "line 5 column 32: bad epoch flag",
+        ),
+        (
+            "> 2024 01 01 00 00  0.0000000  0  1\nG00\n",
+            "line 6 column 1: bad satellite name",
+        ),
+        (
+            "> 2024 01 01 00 00  0.0000000  0  1\nG33\n",
+            "line 6 column 1: bad satellite name",
+        ),
+        (
+            "> 2024 01 01 00 00  0.0000000  0  2\nG05\nG05\n",
+            "line 7 column 1: satellite twice in epoch",
+        ),
+        (
+            "> 2024 01 01 00 00  0.0000000  0  1\nG05  1234567.8901\n",
+            "line 6 column 4: bad field",
+        ),
+        (
+            "> 2024 01 01 00 00  0.0000000  0  1\nG05   1234567.8908\n",
+            "line 6 column 18: bad field",
+        ),
+        (
+            "> 2024 01 01 00 00 60.0000000  0  0\n",
+            "line 5 column 3: bad date",
+        ),
+    ];
+    for (body, place) in rows {
+        let text = format!(in alloc; "{HEADER}{body}")?;
+        refused_at(&rt, alloc, &list(alloc, &text)?, place)?;
+    }
     Ok(())
 }
 
@@ -87,52 +87,27 @@ fn empty_epochs(alloc: Global, count: u32) -> Result<String, AllocError> {
     Ok(text)
 }
 
-// What isn't so of a list that is refused, of a text of this number of epochs and what stands after them.
-fn wrong_list(
-    alloc: Global,
-    count: u32,
-    tail: &str,
-    told: &str,
-) -> Result<Option<&'static str>, AllocError> {
-    let mut text = empty_epochs(alloc, count)?;
-    text.push_str(tail)?;
-    wrong_on(
-        alloc,
-        &["list", "F"],
-        text.as_bytes(),
-        Status::Refused,
-        "",
-        told,
-    )
+#[test]
+fn refuses_too_many_epochs(rt: HostRuntime) -> Result<(), Fail> {
+    let alloc = rt.alloc();
+    let ran = list(alloc, &empty_epochs(alloc, 20_001)?)?;
+    let place = "line 20005 column 1: too many epochs or records";
+    refused_at(&rt, alloc, &ran, place)?;
+    Ok(())
 }
 
-// Too many epochs. After 26 epochs without satellites the antenna moved at line 31, and after 33 the last of 40 lines leaves
-// out a satellite.
-static AFTER_EPOCHS: [(u32, &str, &str); 3] = [
-    (
-        20_001,
-        "",
-        "refused: F line 20005 column 1: too many epochs or records\n",
-    ),
-    (
-        26,
-        "> 2024 01 01 00 00 59.0000000  2  0\n",
-        "refused: F line 31 column 32: antenna moved\n",
-    ),
-    (
-        33,
-        "> 2024 01 01 00 00 59.0000000  0  3\nG01\nG02\n",
-        "refused: F line 41 column 1: file ends early\n",
-    ),
-];
-
+// After 26 epochs without satellites the antenna moved at line 31, and after 33 the last of 40 lines leaves out a satellite.
 #[test]
-fn refuses_in_the_midst_and_at_the_end(rt: HostRuntime) -> Result<(), AllocError> {
-    for row in AFTER_EPOCHS.iter() {
-        let (count, tail, told) = *row;
-        let wrong = wrong_list(rt.alloc(), count, tail, told)?;
-        assert_eq!(rt; wrong, None, "after {count}");
-    }
+fn refuses_in_the_midst_and_at_the_end(rt: HostRuntime) -> Result<(), Fail> {
+    let alloc = rt.alloc();
+    let mut moved = empty_epochs(alloc, 26)?;
+    moved.push_str("> 2024 01 01 00 00 59.0000000  2  0\n")?;
+    let place = "line 31 column 32: antenna moved";
+    refused_at(&rt, alloc, &list(alloc, &moved)?, place)?;
+    let mut cut = empty_epochs(alloc, 33)?;
+    cut.push_str("> 2024 01 01 00 00 59.0000000  0  3\nG01\nG02\n")?;
+    let place = "line 41 column 1: file ends early";
+    refused_at(&rt, alloc, &list(alloc, &cut)?, place)?;
     Ok(())
 }
 
@@ -147,27 +122,17 @@ static DENSE: [(&str, &str, &str); 3] = [
     (NEAR, NEAR, "refused: base epochs too dense at 1\n"),
 ];
 
-// What isn't so of a session whose epochs are too dense.
-fn wrong_dense(
-    alloc: Global,
-    at_base: &str,
-    at_rover: &str,
-    told: &str,
-) -> Result<Option<&'static str>, AllocError> {
-    let base = format!(in alloc; "{HEADER}{at_base}")?;
-    let rover = format!(in alloc; "{HEADER}{at_rover}")?;
-    let words = ["fix", "B", "R", "N"];
-    let (base, rover, nav) = (base.as_bytes(), rover.as_bytes(), NAV.as_bytes());
-    let ran = run_on_session(alloc, &words, base, rover, nav)?;
-    Ok(wrong_end(&ran, Status::Refused, "", told))
-}
-
 #[test]
-fn refuses_dense_epochs(rt: HostRuntime) -> Result<(), AllocError> {
+fn refuses_dense_epochs(rt: HostRuntime) -> Result<(), Fail> {
+    let alloc = rt.alloc();
     for row in DENSE.iter() {
         let (at_base, at_rover, told) = *row;
-        let wrong = wrong_dense(rt.alloc(), at_base, at_rover, told)?;
-        assert_eq!(rt; wrong, None, "{row:?}");
+        let base = format!(in alloc; "{HEADER}{at_base}")?;
+        let rover = format!(in alloc; "{HEADER}{at_rover}")?;
+        let words = ["fix", "B", "R", "N"];
+        let (base, rover, nav) = (base.as_bytes(), rover.as_bytes(), NAV.as_bytes());
+        let ran = run_on_session(alloc, &words, base, rover, nav)?;
+        assert_eq!(rt; wrong_end(&ran, Status::Refused, "", told), None);
     }
     Ok(())
 }
@@ -215,77 +180,58 @@ impl Files for LongFile {
     }
 }
 
-const TOO_LARGE: &str = "refused: F: file too large\n";
-
-// The length in bytes, and what is told of it. By `list` one is read in pieces, and by `check` it is loaded.
-static LENGTHS: [(usize, &str, &str); 3] = [
-    (
-        67_108_864,
-        "list",
-        "refused: F line 1 column 1: version not 2.10 to 2.11 or 3.00 to 3.05\n",
-    ),
-    (67_108_865, "list", TOO_LARGE),
-    (67_108_865, "check", TOO_LARGE),
-];
-
-// What isn't so of a run on a file of this length.
-fn wrong_length(
-    alloc: Global,
-    length: usize,
-    command: &str,
-    told: &str,
-) -> Result<Option<&'static str>, AllocError> {
-    let mut file = LongFile::new(length);
-    let ran = run_plainly(alloc, &[command, "F"], &mut file)?;
-    Ok(wrong_end(&ran, Status::Refused, "", told))
-}
-
 #[test]
-fn largest_file(rt: HostRuntime) -> Result<(), AllocError> {
-    for row in LENGTHS.iter() {
-        let (length, command, told) = *row;
-        let wrong = wrong_length(rt.alloc(), length, command, told)?;
-        assert_eq!(rt; wrong, None, "{command} of {length}");
+fn largest_file(rt: HostRuntime) -> Result<(), Fail> {
+    let alloc = rt.alloc();
+    let mut most = LongFile::new(67_108_864);
+    let ran = run_plainly(alloc, &["list", "F"], &mut most)?;
+    let place = "line 1 column 1: version not 2.10 to 2.11 or 3.00 to 3.05";
+    refused_at(&rt, alloc, &ran, place)?;
+    // one is read in pieces, and the other is loaded
+    for command in ["list", "check"] {
+        let mut more = LongFile::new(67_108_865);
+        let ran = run_plainly(alloc, &[command, "F"], &mut more)?;
+        let told = "refused: F: file too large\n";
+        expect_run(&rt, &ran, Status::Refused, "", told);
     }
     Ok(())
 }
 
-// At the time of the record.
-const ORBIT: [&str; 4] = ["orbit", "F", "G07", "13880160000000000"];
+// A run of `orbit` at the time of the record.
+fn orbit(alloc: Global, text: &str) -> Result<Ran, AllocError> {
+    run_on(
+        alloc,
+        &["orbit", "F", "G07", "13880160000000000"],
+        text.as_bytes(),
+        1000,
+        Fails::none(alloc),
+    )
+}
 
 #[test]
-fn refuses_a_short_record(rt: HostRuntime) -> Result<(), AllocError> {
+fn refuses_records(rt: HostRuntime) -> Result<(), Fail> {
     let alloc = rt.alloc();
     let mut short = String::new(alloc);
     for line in NAV.lines().take(7) {
         short.push_str(line)?;
         short.push('\n')?;
     }
-    let told = "refused: F line 8 column 1: file ends early\n";
-    let wrong = wrong_on(alloc, &ORBIT, short.as_bytes(), Status::Refused, "", told)?;
-    assert_eq!(rt; wrong, None);
-    Ok(())
-}
-
-// In the place of the root of the axis, which ends in column 80 of the record's third line, and the run's end.
-static ROOTS: [(&str, Status, &str, &str); 2] = [
-    (
-        "          1.0D+1000\n",
-        Status::Refused,
-        "",
-        "refused: F line 5 column 62: bad field\n",
-    ),
-    ("     6000.000000001\n", Status::Declined, "no record\n", ""),
-];
-
-#[test]
-fn refuses_roots(rt: HostRuntime) -> Result<(), AllocError> {
-    let alloc = rt.alloc();
-    for row in ROOTS.iter() {
-        let (root, status, out, err) = *row;
-        let text = NAV.replace(alloc, "               5000\n", root)?;
-        let wrong = wrong_on(alloc, &ORBIT, text.as_bytes(), status, out, err)?;
-        assert_eq!(rt; wrong, None, "{root}");
-    }
+    refused_at(
+        &rt,
+        alloc,
+        &orbit(alloc, &short)?,
+        "line 8 column 1: file ends early",
+    )?;
+    // in the place of the root of the axis, which ends in column 80 of the record's third line
+    let four_digits = NAV.replace(alloc, "               5000\n", "          1.0D+1000\n")?;
+    refused_at(
+        &rt,
+        alloc,
+        &orbit(alloc, &four_digits)?,
+        "line 5 column 62: bad field",
+    )?;
+    let out_of_range = NAV.replace(alloc, "               5000\n", "     6000.000000001\n")?;
+    let ran = orbit(alloc, &out_of_range)?;
+    expect_run(&rt, &ran, Status::Declined, "no record\n", "");
     Ok(())
 }

@@ -1,7 +1,7 @@
 //! Runs of `migrate`, as an independent model has them.
-use crate::memory_runs::{Row, wrong_row};
+use crate::tests::{Fails, expect_run, run_on};
 use job_answers::Status;
-use std::alloc::AllocError;
+use std::test::Fail;
 
 // A certificate of the first version, but for its tail.
 pub(crate) const OLD: &str =
@@ -15,48 +15,53 @@ const NEW: &str =
 signals 12 C W\narcs 2\narc 3 0 0 datum 0 0\narc 5 0 0 free 0 0\npairs 1\npair 0 13881024000000000 0 2\n\
 row 0 0 0 0 0 1 0 0 0 0 0 0\nrow 1 0 0 0 0 1 0 0 0 0 0 0\ndeclined weak fine 0 -6\n";
 
-const OF_OLD: [Row; 2] = [
-    (
-        "migrate",
-        "declined spent 1000\n",
-        Status::Declined,
-        NEW,
-        "",
-    ),
-    (
-        "migrate",
-        "",
-        Status::Refused,
-        "",
-        "refused: F line 14 column 1: bad line\n",
-    ),
-];
-
 #[test]
-fn migrates_a_certificate(rt: HostRuntime) -> Result<(), AllocError> {
-    assert_eq!(rt; wrong_row(rt.alloc(), OLD, &OF_OLD)?, None);
-    Ok(())
-}
-
-const OF_NEW: [Row; 2] = [
-    (
-        "migrate",
-        "",
-        Status::Refused,
-        "",
-        "refused: F line 1 column 1: bad line\n",
-    ),
-    (
-        "check",
-        "",
-        Status::Declined,
-        "not certified weak 0 -6\n",
-        "",
-    ),
-];
-
-#[test]
-fn does_not_migrate_the_new_version(rt: HostRuntime) -> Result<(), AllocError> {
-    assert_eq!(rt; wrong_row(rt.alloc(), NEW, &OF_NEW)?, None);
+fn migrates_a_certificate(rt: HostRuntime) -> Result<(), Fail> {
+    let alloc = rt.alloc();
+    let rows = [
+        (
+            "migrate",
+            OLD,
+            "declined spent 1000\n",
+            Status::Declined,
+            NEW,
+            "",
+        ),
+        (
+            "migrate",
+            NEW,
+            "",
+            Status::Refused,
+            "",
+            "refused: F line 1 column 1: bad line\n",
+        ),
+        (
+            "migrate",
+            OLD,
+            "",
+            Status::Refused,
+            "",
+            "refused: F line 14 column 1: bad line\n",
+        ),
+        (
+            "check",
+            NEW,
+            "",
+            Status::Declined,
+            "not certified weak 0 -6\n",
+            "",
+        ),
+    ];
+    for (command, head, tail, status, out, err) in rows {
+        let text = format!(in alloc; "{head}{tail}")?;
+        let ran = run_on(
+            alloc,
+            &[command, "F"],
+            text.as_bytes(),
+            1000,
+            Fails::none(alloc),
+        )?;
+        expect_run(&rt, &ran, status, out, err);
+    }
     Ok(())
 }

@@ -1,9 +1,9 @@
 //! Simulated sessions with a change of one text, and runs on the three texts.
-use crate::memory_runs::{Ran, three_files, words_of};
+use crate::tests::{Ran, named, words_of};
 use crate::top::run;
 use decimal_text::{read_fixed, write_fixed};
 use job_answers::Status;
-use line_source::MemSink;
+use line_source::{MemFiles, MemSink};
 use std::alloc::{AllocError, Global};
 use std::test::Fail;
 
@@ -112,7 +112,12 @@ pub(crate) fn run_on_session(
     rover: &[u8],
     nav: &[u8],
 ) -> Result<Ran, AllocError> {
-    let mut files = three_files(alloc, base, rover, nav, Vec::new(alloc))?;
+    let list = vec![in alloc;
+        named(alloc, "B", base)?,
+        named(alloc, "R", rover)?,
+        named(alloc, "N", nav)?,
+    ]?;
+    let mut files = MemFiles::new(list, Vec::new(alloc));
     let words = words_of(alloc, words)?;
     let mut out = MemSink::new(alloc, 8_000_000, 4096, Vec::new(alloc))?;
     let mut err = MemSink::new(alloc, 8_000_000, 4096, Vec::new(alloc))?;
@@ -120,11 +125,13 @@ pub(crate) fn run_on_session(
     Ok(Ran { status, out, err })
 }
 
-/// What of the end of a run that goes well isn't so: the status, or how err begins.
-pub(crate) fn wrong_start(ran: &Ran, status: Status, told: &str) -> Option<&'static str> {
+/// What of a run's end isn't as given here.
+pub(crate) fn wrong_end(ran: &Ran, status: Status, out: &str, err: &str) -> Option<&'static str> {
     if ran.status != status {
         Some("the status")
-    } else if !ran.err.bytes().starts_with(told.as_bytes()) {
+    } else if ran.out.bytes() != out.as_bytes() {
+        Some("out")
+    } else if ran.err.bytes() != err.as_bytes() {
         Some("err")
     } else {
         None

@@ -1,54 +1,40 @@
 //! Small certificates: spellings that are refused, texts of the first version, and one that is lifted to a fix. What a lifted one
 //! says comes from an independent model.
-use crate::memory_runs::{Fails, Row, run_on, wrong_end, wrong_on, wrong_row};
 use crate::migrate_tests::OLD;
-use crate::tests::CERT;
+use crate::session_texts::wrong_end;
+use crate::tests::{CERT, Fails, run_on};
 use job_answers::Status;
-use std::alloc::{AllocError, Global};
+use std::test::Fail;
 
 const SIGNED: &str = "ratio +2000\n";
 
 const PADDED: &str = "ratio 02000\n";
 
-// What isn't so of a text of the present version, with another line in the place of that of its ratio.
-fn wrong_ratio(alloc: Global, line: &str) -> Result<Option<&'static str>, AllocError> {
-    let head = CERT.replace(alloc, "ratio 2000\n", line)?;
-    let text = format!(in alloc; "{head}declined weak fine 0 -6\n")?;
-    let told = "refused: F line 2 column 1: bad line\n";
-    let words = ["check", "F"];
-    wrong_on(alloc, &words, text.as_bytes(), Status::Refused, "", told)
-}
-
+// Of the present version, with another line in the place of that of its ratio.
 #[test]
-fn a_number_has_one_spelling(rt: HostRuntime) -> Result<(), AllocError> {
+fn a_number_has_one_spelling(rt: HostRuntime) -> Result<(), Fail> {
+    let alloc = rt.alloc();
     for line in [SIGNED, PADDED].iter() {
-        assert_eq!(rt; wrong_ratio(rt.alloc(), *line)?, None, "{line}");
+        let head = CERT.replace(alloc, "ratio 2000\n", *line)?;
+        let text = format!(in alloc; "{head}declined weak fine 0 -6\n")?;
+        let words = ["check", "F"];
+        let ran = run_on(alloc, &words, text.as_bytes(), 1000, Fails::none(alloc))?;
+        let told = "refused: F line 2 column 1: bad line\n";
+        assert_eq!(rt; wrong_end(&ran, Status::Refused, "", told), None);
     }
     Ok(())
 }
 
-const FIRST_VERSION: &str = "refused: F line 1 column 1: bad line\n";
-
-const OF_OLD: [Row; 2] = [
-    (
-        "check",
-        "declined weak fine 0 -6\n",
-        Status::Refused,
-        "",
-        FIRST_VERSION,
-    ),
-    (
-        "residuals",
-        "declined weak fine 0 -6\n",
-        Status::Refused,
-        "",
-        FIRST_VERSION,
-    ),
-];
-
 #[test]
-fn the_first_version_is_refused(rt: HostRuntime) -> Result<(), AllocError> {
-    assert_eq!(rt; wrong_row(rt.alloc(), OLD, &OF_OLD)?, None);
+fn the_first_version_is_refused(rt: HostRuntime) -> Result<(), Fail> {
+    let alloc = rt.alloc();
+    let text = format!(in alloc; "{OLD}declined weak fine 0 -6\n")?;
+    for command in ["check", "residuals"].iter() {
+        let words = [*command, "F"];
+        let ran = run_on(alloc, &words, text.as_bytes(), 1000, Fails::none(alloc))?;
+        let told = "refused: F line 1 column 1: bad line\n";
+        assert_eq!(rt; wrong_end(&ran, Status::Refused, "", told), None);
+    }
     Ok(())
 }
 
@@ -68,20 +54,13 @@ row 2 0 0 0 0 1 -7531517 9737827 11398506 0 0 0\nrow 3 0 0 0 0 1 -8712054 840638
 z1 0 0 0 0 0 0\nz2 -5 -4 0 0 0 0\nmove 0 0 0\nvalues 38 -2256533 1110095371861 173\nfixed\n";
 
 #[test]
-fn lifts_to_a_fix(rt: HostRuntime) -> Result<(), AllocError> {
+fn lifts_to_a_fix(rt: HostRuntime) -> Result<(), Fail> {
     let alloc = rt.alloc();
     let words = ["migrate", "F"];
     let ran = run_on(alloc, &words, OLD_FIX.as_bytes(), 8000, Fails::none(alloc))?;
     assert_eq!(rt; wrong_end(&ran, Status::Done, NEW_FIX, ""), None);
-    Ok(())
-}
-
-#[test]
-fn certifies_what_was_lifted(rt: HostRuntime) -> Result<(), AllocError> {
-    let alloc = rt.alloc();
     let words = ["check", "F"];
-    let text = NEW_FIX.as_bytes();
-    let wrong = wrong_on(alloc, &words, text, Status::Done, "certified\n", "")?;
-    assert_eq!(rt; wrong, None);
+    let ran = run_on(alloc, &words, NEW_FIX.as_bytes(), 1000, Fails::none(alloc))?;
+    assert_eq!(rt; wrong_end(&ran, Status::Done, "certified\n", ""), None);
     Ok(())
 }

@@ -1,296 +1,324 @@
-//! Runs on one file or on the three of a session. Expected texts are worked out by hand from the form and the sums.
-use crate::memory_runs::{
-    Fails, Row, USAGE, files_of, run_on, run_plainly, three_files, wrong_end, wrong_on, wrong_row,
-};
+//! Runs over files and sinks in memory. Expected texts are worked out by hand from the form and the sums.
+ghost use Rattle.std.specs.Prelude.{◌<◌};
+
+use crate::top::run;
 use job_answers::Status;
-use line_source::load;
-use sim_session::{Made, make};
+use line_source::{Files, MemFiles, MemSink, Named, load};
+use sim_session::make;
 use std::alloc::{AllocError, Global};
+use std::process::Abort;
+use std::test::Fail;
 
-const DECIDED: [Row; 7] = [
-    (
-        "zero",
-        "zero 1\nz 1\ndiff 61\ndiff 59\ndiff 63\n",
-        Status::Done,
-        "optimal 1 sum 11\n",
-        "",
-    ),
-    (
-        "zero",
-        "zero 1\r\nz 1\r\ndiff 61\r\ndiff 59\r\ndiff 63",
-        Status::Done,
-        "optimal 1 sum 11\n",
-        "",
-    ),
-    (
-        "zero",
-        "zero 1\nz 0\ndiff 30\ndiff 30\n",
-        Status::Declined,
-        "beaten 0 sum 1800 by 1 sum 1800\n",
-        "",
-    ),
-    (
-        "zero",
-        "zero 1\nz 1\ndiff 30\ndiff 30\n",
-        Status::Declined,
-        "beaten 1 sum 1800 by 0 sum 1800\n",
-        "",
-    ),
-    (
-        "zero",
-        "zero 1\nz 2\ndiff 61\n",
-        Status::Declined,
-        "beaten 2 sum 3481 by 1 sum 1\n",
-        "",
-    ),
-    (
-        "zero",
-        "zero 1\nz -10000000\ndiff 1000000000\n",
-        Status::Declined,
-        "beaten -10000000 sum 2560000000000000000 by 16666667 sum 400\n",
-        "",
-    ),
-    (
-        "zero",
-        "zero 1\nz -2\ndiff -121\ndiff -119\n",
-        Status::Done,
-        "optimal -2 sum 2\n",
-        "",
-    ),
-];
+const USAGE: &str =
+    "usage: baseline fix|check|residuals|zero|list|orbit|arcs|sim|migrate|track|check-track WORDS\n";
 
-#[test]
-fn decides(rt: HostRuntime) -> Result<(), AllocError> {
-    assert_eq!(rt; wrong_row(rt.alloc(), "", &DECIDED)?, None);
-    Ok(())
+#[derive(Drop)]
+pub(crate) struct Ran {
+    pub(crate) status: Status,
+    pub(crate) out: MemSink,
+    pub(crate) err: MemSink,
 }
 
-// Texts, and where each is refused.
-const REFUSED: [(&str, &str); 10] = [
-    ("", "line 1 column 1: bad line"),
-    ("zero 2\nz 0\ndiff 1\n", "line 1 column 1: bad line"),
-    ("zero 1\n", "line 2 column 1: bad line"),
-    ("zero 1\nz -0\ndiff 1\n", "line 2 column 1: bad line"),
-    (
-        "zero 1\nz 10000001\ndiff 05\n",
-        "line 2 column 3: number out of range",
-    ),
-    ("zero 1\nz 2\ndiff 05\n", "line 3 column 1: bad line"),
-    (
-        "zero 1\nz 2\ndiff 1000000001\n",
-        "line 3 column 6: number out of range",
-    ),
-    (
-        "zero 1\nz 2\ndiff -99999999999999999999999999999999999999999\n",
-        "line 3 column 6: number out of range",
-    ),
-    ("zero 1\nz 0\n", "line 3 column 1: bad line"),
-    ("zero 1\nz 0\ndiff 1\n\n", "line 4 column 1: bad line"),
-];
+// The calls that are to fail: of the files, of out, of err.
+#[derive(Drop)]
+pub(crate) struct Fails {
+    pub(crate) files: Vec<u64>,
+    pub(crate) out: Vec<u64>,
+    pub(crate) err: Vec<u64>,
+}
 
-// What isn't so of a text that is refused at this place.
-fn wrong_place(alloc: Global, text: &str, place: &str) -> Result<Option<&'static str>, AllocError> {
-    let line = format!(in alloc; "refused: F {place}\n")?;
-    let words = ["zero", "F"];
-    wrong_on(alloc, &words, text.as_bytes(), Status::Refused, "", &line)
+impl Fails {
+    pub(crate) fn none(alloc: Global) -> Fails {
+        Fails {
+            files: Vec::new(alloc),
+            out: Vec::new(alloc),
+            err: Vec::new(alloc),
+        }
+    }
+}
+
+pub(crate) fn words_of(alloc: Global, words: &[&str]) -> Result<Vec<String>, AllocError> {
+    let mut list = Vec::new(alloc);
+    for word in words {
+        list.push(String::from_str(alloc, *word)?)?;
+    }
+    Ok(list)
+}
+
+// A file of this name.
+pub(crate) fn named(alloc: Global, name: &str, text: &[u8]) -> Result<Named, AllocError> {
+    Ok(Named {
+        name: String::from_str(alloc, name)?,
+        bytes: text.to_vec(alloc)?,
+        at: 0,
+    })
+}
+
+// One file.
+fn files_of(
+    alloc: Global,
+    name: &str,
+    text: &[u8],
+    fails: Vec<u64>,
+) -> Result<MemFiles, AllocError> {
+    let list = vec![in alloc; named(alloc, name, text)?]?;
+    Ok(MemFiles::new(list, fails))
+}
+
+// The run of each test, with `room` bytes for out, by sinks that take at most `most` bytes a call.
+pub(crate) fn run_over<F: Files>(
+    alloc: Global,
+    words: &[&str],
+    files: &mut F,
+    room: usize,
+    most: usize,
+    out_fails: Vec<u64>,
+    err_fails: Vec<u64>,
+) -> Result<Ran, AllocError>
+    requires { 0 < most }
+{
+    let words = words_of(alloc, words)?;
+    let mut out = MemSink::new(alloc, room, most, out_fails)?;
+    let mut err = MemSink::new(alloc, 1000, most, err_fails)?;
+    let status = run(alloc, &words, files, &mut out, &mut err);
+    Ok(Ran { status, out, err })
+}
+
+// A run whose sinks don't fail.
+pub(crate) fn run_plainly<F: Files>(
+    alloc: Global,
+    words: &[&str],
+    files: &mut F,
+) -> Result<Ran, AllocError> {
+    run_over(
+        alloc,
+        words,
+        files,
+        1000,
+        7,
+        Vec::new(alloc),
+        Vec::new(alloc),
+    )
+}
+
+// A run on the file F, by sinks that take 7 bytes a call.
+pub(crate) fn run_on(
+    alloc: Global,
+    words: &[&str],
+    text: &[u8],
+    room: usize,
+    fails: Fails,
+) -> Result<Ran, AllocError> {
+    let mut files = files_of(alloc, "F", text, fails.files)?;
+    run_over(alloc, words, &mut files, room, 7, fails.out, fails.err)
+}
+
+pub(crate) fn expect_run(rt: &impl Abort, ran: &Ran, status: Status, out: &str, err: &str) {
+    assert_eq!(rt; ran.out.bytes(), out.as_bytes(), "at {out}{err}");
+    assert_eq!(rt; ran.err.bytes(), err.as_bytes(), "at {out}{err}");
+    assert_eq!(rt; ran.status, status, "at {out}{err}");
 }
 
 #[test]
-fn refuses_at_the_place(rt: HostRuntime) -> Result<(), AllocError> {
-    for row in REFUSED.iter() {
-        let (text, place) = *row;
-        assert_eq!(rt; wrong_place(rt.alloc(), text, place)?, None, "at {text}");
+fn decides(rt: HostRuntime) -> Result<(), Fail> {
+    let alloc = rt.alloc();
+    let rows = [
+        (
+            "zero 1\nz 1\ndiff 61\ndiff 59\ndiff 63\n",
+            Status::Done,
+            "optimal 1 sum 11\n",
+        ),
+        (
+            "zero 1\r\nz 1\r\ndiff 61\r\ndiff 59\r\ndiff 63",
+            Status::Done,
+            "optimal 1 sum 11\n",
+        ),
+        (
+            "zero 1\nz 0\ndiff 30\ndiff 30\n",
+            Status::Declined,
+            "beaten 0 sum 1800 by 1 sum 1800\n",
+        ),
+        (
+            "zero 1\nz 1\ndiff 30\ndiff 30\n",
+            Status::Declined,
+            "beaten 1 sum 1800 by 0 sum 1800\n",
+        ),
+        (
+            "zero 1\nz 2\ndiff 61\n",
+            Status::Declined,
+            "beaten 2 sum 3481 by 1 sum 1\n",
+        ),
+        (
+            "zero 1\nz -10000000\ndiff 1000000000\n",
+            Status::Declined,
+            "beaten -10000000 sum 2560000000000000000 by 16666667 sum 400\n",
+        ),
+        (
+            "zero 1\nz -2\ndiff -121\ndiff -119\n",
+            Status::Done,
+            "optimal -2 sum 2\n",
+        ),
+    ];
+    for (text, status, out) in rows {
+        let ran = run_on(
+            alloc,
+            &["zero", "F"],
+            text.as_bytes(),
+            1000,
+            Fails::none(alloc),
+        )?;
+        expect_run(&rt, &ran, status, out, "");
     }
     Ok(())
 }
 
-// A text of 1,000 differences, and what stands after them.
-fn long_text(alloc: Global, tail: &str) -> Result<String, AllocError> {
+#[test]
+fn refuses_at_the_place(rt: HostRuntime) -> Result<(), Fail> {
+    let alloc = rt.alloc();
+    let rows = [
+        ("", "line 1 column 1: bad line"),
+        ("zero 2\nz 0\ndiff 1\n", "line 1 column 1: bad line"),
+        ("zero 1\n", "line 2 column 1: bad line"),
+        ("zero 1\nz -0\ndiff 1\n", "line 2 column 1: bad line"),
+        (
+            "zero 1\nz 10000001\ndiff 05\n",
+            "line 2 column 3: number out of range",
+        ),
+        ("zero 1\nz 2\ndiff 05\n", "line 3 column 1: bad line"),
+        (
+            "zero 1\nz 2\ndiff 1000000001\n",
+            "line 3 column 6: number out of range",
+        ),
+        (
+            "zero 1\nz 2\ndiff -99999999999999999999999999999999999999999\n",
+            "line 3 column 6: number out of range",
+        ),
+        ("zero 1\nz 0\n", "line 3 column 1: bad line"),
+        ("zero 1\nz 0\ndiff 1\n\n", "line 4 column 1: bad line"),
+    ];
+    for (text, place) in rows {
+        let ran = run_on(
+            alloc,
+            &["zero", "F"],
+            text.as_bytes(),
+            1000,
+            Fails::none(alloc),
+        )?;
+        let line = format!(in alloc; "refused: F {place}\n")?;
+        expect_run(&rt, &ran, Status::Refused, "", &line);
+    }
+    Ok(())
+}
+
+#[test]
+fn counts_differences_and_columns(rt: HostRuntime) -> Result<(), Fail> {
+    let alloc = rt.alloc();
     let mut text = String::from_str(alloc, "zero 1\nz 1\n")?;
     for _ in 0..1000 {
         text.push_str("diff -1000000000\n")?;
     }
-    text.push_str(tail)?;
-    Ok(text)
-}
-
-// What stands after the differences, and the run's end.
-const LONG: [(&str, Status, &str, &str); 2] = [
-    (
-        "",
-        Status::Declined,
-        "beaten 1 sum 1000000120000003600000 by -16666667 sum 400000\n",
-        "",
-    ),
-    (
-        "diff 1\n",
-        Status::Refused,
-        "",
-        "refused: F line 1003 column 1: bad line\n",
-    ),
-];
-
-#[test]
-fn counts_differences(rt: HostRuntime) -> Result<(), AllocError> {
-    let alloc = rt.alloc();
-    for row in LONG.iter() {
-        let (tail, status, out, err) = *row;
-        let text = long_text(alloc, tail)?;
-        let wrong = wrong_on(alloc, &["zero", "F"], text.as_bytes(), status, out, err)?;
-        assert_eq!(rt; wrong, None, "with {tail}");
-    }
-    Ok(())
-}
-
-#[test]
-fn counts_columns(rt: HostRuntime) -> Result<(), AllocError> {
-    let alloc = rt.alloc();
+    let ran = run_on(
+        alloc,
+        &["zero", "F"],
+        text.as_bytes(),
+        1000,
+        Fails::none(alloc),
+    )?;
+    let beaten = "beaten 1 sum 1000000120000003600000 by -16666667 sum 400000\n";
+    expect_run(&rt, &ran, Status::Declined, beaten, "");
+    text.push_str("diff 1\n")?;
+    let ran = run_on(
+        alloc,
+        &["zero", "F"],
+        text.as_bytes(),
+        1000,
+        Fails::none(alloc),
+    )?;
+    let refused = "refused: F line 1003 column 1: bad line\n";
+    expect_run(&rt, &ran, Status::Refused, "", refused);
     let long = vec![in alloc; b'x'; 4097]?;
+    let ran = run_on(alloc, &["zero", "F"], &long, 1000, Fails::none(alloc))?;
     let refused = "refused: F line 1 column 1: line too long\n";
-    let wrong = wrong_on(alloc, &["zero", "F"], &long, Status::Refused, "", refused)?;
-    assert_eq!(rt; wrong, None);
+    expect_run(&rt, &ran, Status::Refused, "", refused);
     Ok(())
-}
-
-static NO_JOBS: [&[&str]; 14] = [
-    &["zero", "F", "F"],
-    &["zero"],
-    &[],
-    &["zero", "-x"],
-    &["zero", "--"],
-    &["--", "zero", "F"],
-    &["Zero", "F"],
-    &["fix", "a", "b"],
-    &["orbit", "F", "G33", "1"],
-    &["orbit", "F", "g01", "1"],
-    &["orbit", "F", "G00", "1"],
-    &["orbit", "F", "G01", ""],
-    &["orbit", "F", "G01", "+5"],
-    &["orbit", "F", "G01", "1000000000000000000"],
-];
-
-// What isn't so of words that are no job.
-fn wrong_usage(alloc: Global, words: &[&str]) -> Result<Option<&'static str>, AllocError> {
-    let mut files = files_of(alloc, "F", b"", vec![in alloc; 0]?)?;
-    let ran = run_plainly(alloc, words, &mut files)?;
-    // the first call on the files is the one that fails, and it is still to come
-    if load(alloc, &mut files, "F").is_err() {
-        Ok(wrong_end(&ran, Status::Usage, "", USAGE))
-    } else {
-        Ok(Some("the files"))
-    }
 }
 
 #[test]
-fn wrong_words_open_no_file(rt: HostRuntime) -> Result<(), AllocError> {
-    for words in NO_JOBS.iter() {
-        assert_eq!(rt; wrong_usage(rt.alloc(), *words)?, None, "{words:?}");
+fn wrong_words_open_no_file(rt: HostRuntime) -> Result<(), Fail> {
+    let alloc = rt.alloc();
+    let rows = [
+        ["zero", "F", "F"].as_slice(),
+        &["zero"],
+        &[],
+        &["zero", "-x"],
+        &["zero", "--"],
+        &["--", "zero", "F"],
+        &["Zero", "F"],
+        &["fix", "a", "b"],
+        &["orbit", "F", "G33", "1"],
+        &["orbit", "F", "g01", "1"],
+        &["orbit", "F", "G00", "1"],
+        &["orbit", "F", "G01", ""],
+        &["orbit", "F", "G01", "+5"],
+        &["orbit", "F", "G01", "1000000000000000000"],
+    ];
+    for row in rows {
+        let mut files = files_of(alloc, "F", b"", vec![in alloc; 0]?)?;
+        let ran = run_plainly(alloc, row, &mut files)?;
+        expect_run(&rt, &ran, Status::Usage, "", USAGE);
+        // the first call on the files is the one that fails, and it is still to come
+        assert!(rt; load(alloc, &mut files, "F").is_err());
     }
     Ok(())
-}
-
-// What isn't so of a file of this name that is refused.
-fn wrong_name(alloc: Global, name: &str) -> Result<Option<&'static str>, AllocError> {
-    let mut files = files_of(alloc, name, b"zero 1\nz 2\ndiff 05\n", Vec::new(alloc))?;
-    let ran = run_plainly(alloc, &["zero", name], &mut files)?;
-    let line = format!(in alloc; "refused: {name} line 3 column 1: bad line\n")?;
-    Ok(wrong_end(&ran, Status::Refused, "", &line))
 }
 
 #[test]
-fn any_name_is_told(rt: HostRuntime) -> Result<(), AllocError> {
-    for name in ["-", "", "a file"].iter() {
-        assert_eq!(rt; wrong_name(rt.alloc(), *name)?, None, "{name}");
+fn any_name_is_told(rt: HostRuntime) -> Result<(), Fail> {
+    let alloc = rt.alloc();
+    for name in ["-", "", "a file"] {
+        let mut files = files_of(alloc, name, b"zero 1\nz 2\ndiff 05\n", Vec::new(alloc))?;
+        let ran = run_plainly(alloc, &["zero", name], &mut files)?;
+        let line = format!(in alloc; "refused: {name} line 3 column 1: bad line\n")?;
+        expect_run(&rt, &ran, Status::Refused, "", &line);
     }
     Ok(())
 }
 
-const ROWS: &str = "zero 1\nz 1\ndiff 61\ndiff 59\ndiff 63\n";
-
-// What isn't so where this call on the file fails.
-fn wrong_fault(alloc: Global, call: u64) -> Result<Option<&'static str>, AllocError> {
-    let fails = Fails::at(alloc, Some(call), None, None)?;
-    let ran = run_on(alloc, &["zero", "F"], ROWS.as_bytes(), 1000, fails)?;
-    if call < 3 {
-        Ok(wrong_end(&ran, Status::ReadFault, "", "read fault: F\n"))
-    } else {
-        Ok(wrong_end(&ran, Status::Done, "optimal 1 sum 11\n", ""))
-    }
-}
+const ROWS: &[u8] = b"zero 1\nz 1\ndiff 61\ndiff 59\ndiff 63\n";
 
 // The file is opened, read, and read to its end.
 #[test]
-fn each_call_on_the_files_fails(rt: HostRuntime) -> Result<(), AllocError> {
+fn each_call_on_the_files_fails(rt: HostRuntime) -> Result<(), Fail> {
+    let alloc = rt.alloc();
     for call in 0..4 {
-        assert_eq!(rt; wrong_fault(rt.alloc(), call)?, None, "call {call}");
+        let mut fails = Fails::none(alloc);
+        fails.files.push(call)?;
+        let ran = run_on(alloc, &["zero", "F"], ROWS, 1000, fails)?;
+        if call < 3 {
+            expect_run(&rt, &ran, Status::ReadFault, "", "read fault: F\n");
+        } else {
+            expect_run(&rt, &ran, Status::Done, "optimal 1 sum 11\n", "");
+        }
     }
     Ok(())
 }
 
-// The call on out and that on err that fails, where one does, the room of out, the text, and the run's end.
-type OnSinks = (
-    Option<u64>,
-    Option<u64>,
-    usize,
-    &'static str,
-    Status,
-    &'static str,
-    &'static str,
-);
-
-const ON_SINKS: [OnSinks; 5] = [
-    (
-        Some(0),
-        None,
-        1000,
-        ROWS,
-        Status::WriteFault,
-        "",
-        "write fault\n",
-    ),
-    (
-        Some(1),
-        None,
-        1000,
-        ROWS,
-        Status::WriteFault,
-        "optimal",
-        "write fault\n",
-    ),
-    (
-        Some(2),
-        None,
-        1000,
-        ROWS,
-        Status::WriteFault,
-        "optimal 1 sum ",
-        "write fault\n",
-    ),
-    (
-        None,
-        None,
-        10,
-        ROWS,
-        Status::WriteFault,
-        "optimal 1 ",
-        "write fault\n",
-    ),
-    (None, Some(1), 1000, "", Status::Refused, "", "refused"),
-];
-
-// What isn't so of such sinks.
-fn wrong_sinks(alloc: Global, row: &OnSinks) -> Result<Option<&'static str>, AllocError> {
-    let (on_out, on_err, room, text, status, out, err) = *row;
-    let fails = Fails::at(alloc, None, on_out, on_err)?;
-    let ran = run_on(alloc, &["zero", "F"], text.as_bytes(), room, fails)?;
-    Ok(wrong_end(&ran, status, out, err))
-}
-
 #[test]
-fn each_call_on_a_sink_fails(rt: HostRuntime) -> Result<(), AllocError> {
-    for row in ON_SINKS.iter() {
-        assert_eq!(rt; wrong_sinks(rt.alloc(), row)?, None, "{row:?}");
+fn each_call_on_a_sink_fails(rt: HostRuntime) -> Result<(), Fail> {
+    let alloc = rt.alloc();
+    let prefixes = ["", "optimal", "optimal 1 sum "];
+    for (call, prefix) in prefixes.iter().enumerate() {
+        let mut fails = Fails::none(alloc);
+        fails.out.push(call as u64)?;
+        let ran = run_on(alloc, &["zero", "F"], ROWS, 1000, fails)?;
+        expect_run(&rt, &ran, Status::WriteFault, *prefix, "write fault\n");
     }
+    let ran = run_on(alloc, &["zero", "F"], ROWS, 10, Fails::none(alloc))?;
+    expect_run(&rt, &ran, Status::WriteFault, "optimal 1 ", "write fault\n");
+    let mut fails = Fails::none(alloc);
+    fails.err.push(1)?;
+    let ran = run_on(alloc, &["zero", "F"], b"", 1000, fails)?;
+    expect_run(&rt, &ran, Status::Refused, "", "refused");
     Ok(())
 }
 
@@ -316,58 +344,156 @@ const OBS_2: &str =
 \x20 21000000.000\n\
 \n";
 
-const VERSION_REFUSED: &str =
-    "refused: F line 1 column 1: version not 2.10 to 2.11 or 3.00 to 3.05\n";
-
-const LISTED: [Row; 4] = [
-    (
-        "list",
-        OBS,
-        Status::Done,
-        "version 3.04\nepochs 2\nfirst 13881024000000000\nlast 13881024300000000\nG05 2\nG12 1\n",
-        "",
-    ),
-    (
-        "list",
-        OBS_2,
-        Status::Done,
-        "version 2.11\nepochs 1\nfirst 13881024300000000\nlast 13881024300000000\nG05 1\nG12 1\n",
-        "",
-    ),
-    ("list", "", Status::Refused, "", VERSION_REFUSED),
-    ("list", "\n\n", Status::Refused, "", VERSION_REFUSED),
-];
-
 #[test]
-fn lists(rt: HostRuntime) -> Result<(), AllocError> {
-    assert_eq!(rt; wrong_row(rt.alloc(), "", &LISTED)?, None);
-    Ok(())
-}
-
-#[test]
-fn refuses_half_cycles(rt: HostRuntime) -> Result<(), AllocError> {
+fn lists(rt: HostRuntime) -> Result<(), Fail> {
     let alloc = rt.alloc();
-    let text = OBS_2.replace(alloc, "     1     1   ", "     1     2   ")?;
+    let listed =
+        "version 3.04\nepochs 2\nfirst 13881024000000000\nlast 13881024300000000\nG05 2\nG12 1\n";
+    let none = "refused: F line 1 column 1: version not 2.10 to 2.11 or 3.00 to 3.05\n";
+    let listed_2 =
+        "version 2.11\nepochs 1\nfirst 13881024300000000\nlast 13881024300000000\nG05 1\nG12 1\n";
     let half = "refused: F line 3 column 7: wavelength factor not 1\n";
-    let words = ["list", "F"];
-    let wrong = wrong_on(alloc, &words, text.as_bytes(), Status::Refused, "", half)?;
-    assert_eq!(rt; wrong, None);
+    let half_cycle = OBS_2.replace(alloc, "     1     1   ", "     1     2   ")?;
+    let rows = [
+        (OBS, Status::Done, listed, ""),
+        (OBS_2, Status::Done, listed_2, ""),
+        (half_cycle.as_str(), Status::Refused, "", half),
+        ("", Status::Refused, "", none),
+        ("\n\n", Status::Refused, "", none),
+    ];
+    for (text, status, out, err) in rows {
+        let ran = run_on(
+            alloc,
+            &["list", "F"],
+            text.as_bytes(),
+            1000,
+            Fails::none(alloc),
+        )?;
+        expect_run(&rt, &ran, status, out, err);
+    }
     Ok(())
 }
 
-const MADE_LISTED: &str =
-    "version 3.04\nepochs 60\nfirst 13881024000000000\nlast 13881041700000000\n\
-G01 60\nG02 60\nG03 60\nG04 60\nG05 60\nG06 60\nG07 60\nG08 60\n";
+// A satellite on a circle of 25,000 km, over the equator, on the meridian of Greenwich at the start of week 2295.
+pub(crate) const NAV: &str =
+    "     3.04           N: GNSS NAV DATA    G: GPS              RINEX VERSION / TYPE\n\
+\x20                                                           END OF HEADER\n\
+G07 2023 12 31 00 00 00                  0                  0                  0\n\
+\x20                     0                  0                  0                  0\n\
+\x20                     0                  0                  0               5000\n\
+\x20                     0                  0                  0                  0\n\
+\x20                     0                  0                  0                  0\n\
+\x20                     0                  0               2295                  0\n\
+\x20                     0                  0                  0                  0\n\
+\x20                     0\n";
+
+const TOE: u64 = 13_880_160_000_000_000;
+
+// The two numbers of a line with that name.
+fn ends_in(line: &str, name: &str) -> Option<(i64, i64)> {
+    let mut words = line.split(' ');
+    if words.next()? != name {
+        return None;
+    }
+    let low = words.next()?.parse::<i64>().ok()?;
+    let high = words.next()?.parse::<i64>().ok()?;
+    Some((low, high))
+}
+
+// The satellite is where its record has it at that time.
+fn is_placed(rt: &impl Abort, alloc: Global, sat: &str, nav: &str) -> Result<(), Fail> {
+    let tick = format!(in alloc; "{TOE}")?;
+    let words = ["orbit", "F", sat, tick.as_str()];
+    let ran = run_on(alloc, &words, nav.as_bytes(), 1000, Fails::none(alloc))?;
+    assert_eq!(rt; ran.status, Status::Done);
+    let text = str::from_utf8(ran.out.bytes())?;
+    let rows = [("x", 25_000_000_000_000), ("y", 0), ("z", 0), ("clock", 0)];
+    let mut lines = text.lines();
+    for (name, want) in rows {
+        let ends = lines.next().and_then(|line| ends_in(line, name));
+        let Some((low, high)) = ends else {
+            panic!(rt; "no line of {name}");
+        };
+        assert!(rt; low <= want && want <= high, "at {name}");
+        assert!(rt; high.abs_diff(low) <= 5, "at {name}");
+    }
+    assert!(rt; lines.next().is_none());
+    Ok(())
+}
 
 #[test]
-fn lists_a_made_up_session(rt: HostRuntime) -> Result<(), AllocError> {
+fn places_a_satellite(rt: HostRuntime) -> Result<(), Fail> {
+    let alloc = rt.alloc();
+    is_placed(&rt, alloc, "G07", NAV)?;
+    let of_galileo = NAV.replace(alloc, "G: GPS", "E: GAL")?;
+    let galileo = of_galileo.replace(alloc, "G07", "E05")?;
+    is_placed(&rt, alloc, "E05", &galileo)
+}
+
+#[test]
+fn finds_no_record(rt: HostRuntime) -> Result<(), Fail> {
+    let alloc = rt.alloc();
+    let rows = [
+        ("G07", "13880232000000000", Status::Done),
+        ("G07", "13880232000000001", Status::Declined),
+        ("G07", "13880087999999999", Status::Declined),
+        ("G08", "13880160000000000", Status::Declined),
+    ];
+    for (sat, tick, status) in rows {
+        let words = ["orbit", "F", sat, tick];
+        let ran = run_on(alloc, &words, NAV.as_bytes(), 1000, Fails::none(alloc))?;
+        assert_eq!(rt; ran.status, status, "at {sat} {tick}");
+        if status == Status::Declined {
+            expect_run(&rt, &ran, status, "no record\n", "");
+        }
+    }
+    let words = ["orbit", "F", "G07", "0"];
+    let ran = run_on(alloc, &words, b"", 1000, Fails::none(alloc))?;
+    let refused = "refused: F line 1 column 1: version not 3.00 to 3.05\n";
+    expect_run(&rt, &ran, Status::Refused, "", refused);
+    Ok(())
+}
+
+#[test]
+fn lists_a_made_up_session(rt: HostRuntime) -> Result<(), Fail> {
     let alloc = rt.alloc();
     let words = ["sim", "base", "1", "60", "8"];
     let made = run_on(alloc, &words, b"", 8_000_000, Fails::none(alloc))?;
     assert_eq!(rt; made.status, Status::Done);
-    let text = made.out.bytes();
-    let wrong = wrong_on(alloc, &["list", "F"], text, Status::Done, MADE_LISTED, "")?;
-    assert_eq!(rt; wrong, None);
+    let ran = run_on(
+        alloc,
+        &["list", "F"],
+        made.out.bytes(),
+        1000,
+        Fails::none(alloc),
+    )?;
+    let listed = "version 3.04\nepochs 60\nfirst 13881024000000000\nlast 13881041700000000\n\
+G01 60\nG02 60\nG03 60\nG04 60\nG05 60\nG06 60\nG07 60\nG08 60\n";
+    expect_run(&rt, &ran, Status::Done, listed, "");
+    Ok(())
+}
+
+// The integers of seed 1 are those that it was made with; two pairs are too few to tell.
+#[test]
+fn finds_what_was_made(rt: HostRuntime) -> Result<(), Fail> {
+    let rows = [
+        (
+            "60",
+            Status::Done,
+            "sim seed 1 epochs 60 sats 8\nverdict fixed\nintegers 14\nmatch yes\n",
+        ),
+        (
+            "2",
+            Status::Declined,
+            "sim seed 1 epochs 2 sats 8\nverdict declined\nintegers 0\nmatch no\n",
+        ),
+    ];
+    for (epochs, status, text) in rows {
+        let alloc = rt.alloc();
+        let words = ["sim", "run", "1", epochs, "8"];
+        let ran = run_on(alloc, &words, b"", 1000, Fails::none(alloc))?;
+        expect_run(&rt, &ran, status, text, "");
+    }
     Ok(())
 }
 
@@ -376,144 +502,97 @@ pub(crate) const CERT: &str =
 signals 12 C W\narcs 2\narc 3 0 0 datum 0 0\narc 5 0 0 free 0 0\npairs 1\npair 0 13881024000000000 0 2\n\
 row 0 0 0 0 0 0 0 0 0 0 0 0\nrow 1 0 0 0 0 0 0 0 0 0 0 0\n";
 
-const WEAK: &str = "declined weak fine 0 -6\n";
-
-const FIXED: &str = "z1 0 0\nz2 0 1\nmove 0 0 0\nvalues 35 0 0 0\nfixed\n";
-
-const NOT_CERTIFIED: &str = "not certified weak 0 -6\n";
-
-const NO_TAIL: &str = "refused: F line 15 column 1: bad line\n";
-
-const ON_CERT: [Row; 6] = [
-    ("check", WEAK, Status::Declined, NOT_CERTIFIED, ""),
-    ("check", FIXED, Status::Declined, NOT_CERTIFIED, ""),
-    ("residuals", WEAK, Status::Declined, "nothing to show\n", ""),
-    (
-        "residuals",
-        FIXED,
-        Status::Done,
-        "0 0 0 0 0 0\n0 1 0 0 0 0\n",
-        "",
-    ),
-    ("check", "fixed\n", Status::Refused, "", NO_TAIL),
-    ("residuals", "", Status::Refused, "", NO_TAIL),
-];
-
 #[test]
-fn checks_and_shows_a_certificate(rt: HostRuntime) -> Result<(), AllocError> {
-    assert_eq!(rt; wrong_row(rt.alloc(), CERT, &ON_CERT)?, None);
+fn checks_and_shows_a_certificate(rt: HostRuntime) -> Result<(), Fail> {
+    let alloc = rt.alloc();
+    let weak = "declined weak fine 0 -6\n";
+    let fixed = "z1 0 0\nz2 0 1\nmove 0 0 0\nvalues 35 0 0 0\nfixed\n";
+    let not = "not certified weak 0 -6\n";
+    let left = "0 0 0 0 0 0\n0 1 0 0 0 0\n";
+    let rows = [
+        ("check", weak, Status::Declined, not, ""),
+        ("check", fixed, Status::Declined, not, ""),
+        ("residuals", weak, Status::Declined, "nothing to show\n", ""),
+        ("residuals", fixed, Status::Done, left, ""),
+        (
+            "check",
+            "fixed\n",
+            Status::Refused,
+            "",
+            "refused: F line 15 column 1: bad line\n",
+        ),
+        (
+            "residuals",
+            "",
+            Status::Refused,
+            "",
+            "refused: F line 15 column 1: bad line\n",
+        ),
+    ];
+    for (command, tail, status, out, err) in rows {
+        let text = format!(in alloc; "{CERT}{tail}")?;
+        let ran = run_on(
+            alloc,
+            &[command, "F"],
+            text.as_bytes(),
+            1000,
+            Fails::none(alloc),
+        )?;
+        expect_run(&rt, &ran, status, out, err);
+    }
     Ok(())
 }
 
-// A file of a made-up session, or another text in its place.
-#[derive(Clone, Copy, Debug)]
-enum Source {
-    Base,
-    Rover,
-    Nav,
-    // a file that tells no position and has one type
-    Listed,
-    Empty,
-}
-
-fn bytes_of(made: &Made, source: Source) -> &[u8] {
-    match source {
-        Source::Base => made.base.as_slice(),
-        Source::Rover => made.rover.as_slice(),
-        Source::Nav => made.nav.as_slice(),
-        Source::Listed => OBS.as_bytes(),
-        Source::Empty => b"",
-    }
-}
-
-// A run of `arcs`: its three files, an option, and its end.
-type ArcsRow = (
-    [Source; 3],
-    &'static str,
-    Status,
-    &'static str,
-    &'static str,
-);
-
-const WHOLE: &str = "arc G01 0 59 datum\narc G02 0 59 free\narc G03 0 59 free\narc G04 0 59 free\n\
-arc G05 0 59 free\narc G06 0 59 free\narc G07 0 59 free\narc G08 0 59 free\nshort 0\n";
-
-const OF_ARCS: [ArcsRow; 7] = [
-    (
-        [Source::Base, Source::Rover, Source::Nav],
-        "--gap=0",
-        Status::Done,
-        WHOLE,
-        "",
-    ),
-    (
-        [Source::Base, Source::Base, Source::Nav],
-        "--step=1",
-        Status::Done,
-        WHOLE,
-        "",
-    ),
-    (
-        [Source::Base, Source::Rover, Source::Nav],
-        "--count=4",
-        Status::Done,
-        "short 8\n",
-        "",
-    ),
-    (
-        [Source::Base, Source::Rover, Source::Nav],
-        "--ratio=2000",
-        Status::Usage,
-        "",
-        USAGE,
-    ),
-    (
-        [Source::Listed, Source::Rover, Source::Nav],
-        "--",
-        Status::Refused,
-        "",
-        "refused: no base position\n",
-    ),
-    (
-        [Source::Base, Source::Listed, Source::Nav],
-        "--",
-        Status::Refused,
-        "",
-        "refused: no common signals\n",
-    ),
-    (
-        [Source::Base, Source::Rover, Source::Empty],
-        "--",
-        Status::Refused,
-        "",
-        "refused: N line 1 column 1: version not 3.00 to 3.05\n",
-    ),
-];
-
-// What isn't so of such a run.
-fn wrong_arcs(
+// A run of `arcs` on three files.
+fn run_arcs(
     alloc: Global,
-    made: &Made,
-    row: &ArcsRow,
-) -> Result<Option<&'static str>, AllocError> {
-    let ([base, rover, nav], option, status, out, err) = *row;
-    let mut files = three_files(
-        alloc,
-        bytes_of(made, base),
-        bytes_of(made, rover),
-        bytes_of(made, nav),
-        Vec::new(alloc),
-    )?;
-    let ran = run_plainly(alloc, &["arcs", "B", option, "R", "N"], &mut files)?;
-    Ok(wrong_end(&ran, status, out, err))
+    base: &[u8],
+    rover: &[u8],
+    nav: &[u8],
+    option: &str,
+) -> Result<Ran, AllocError> {
+    let list = vec![in alloc;
+        named(alloc, "B", base)?,
+        named(alloc, "R", rover)?,
+        named(alloc, "N", nav)?,
+    ]?;
+    let mut files = MemFiles::new(list, Vec::new(alloc));
+    run_plainly(alloc, &["arcs", "B", option, "R", "N"], &mut files)
 }
 
 #[test]
-fn shows_arcs(rt: HostRuntime) -> Result<(), AllocError> {
+fn shows_arcs(rt: HostRuntime) -> Result<(), Fail> {
     let alloc = rt.alloc();
     let made = make(alloc, 1, 60, 8, 12, b'G')?;
-    for row in OF_ARCS.iter() {
-        assert_eq!(rt; wrong_arcs(alloc, &made, row)?, None, "with {}", row.1);
-    }
+    let whole = "arc G01 0 59 datum\narc G02 0 59 free\narc G03 0 59 free\narc G04 0 59 free\n\
+arc G05 0 59 free\narc G06 0 59 free\narc G07 0 59 free\narc G08 0 59 free\nshort 0\n";
+    let nav = made.nav.as_slice();
+    let ran = run_arcs(alloc, &made.base, &made.rover, nav, "--gap=0")?;
+    expect_run(&rt, &ran, Status::Done, whole, "");
+    let ran = run_arcs(alloc, &made.base, &made.base, nav, "--step=1")?;
+    expect_run(&rt, &ran, Status::Done, whole, "");
+    let ran = run_arcs(alloc, &made.base, &made.rover, nav, "--count=4")?;
+    expect_run(&rt, &ran, Status::Done, "short 8\n", "");
+    let ran = run_arcs(alloc, &made.base, &made.rover, nav, "--ratio=2000")?;
+    expect_run(&rt, &ran, Status::Usage, "", USAGE);
+    let ran = run_arcs(alloc, OBS.as_bytes(), &made.rover, nav, "--")?;
+    expect_run(
+        &rt,
+        &ran,
+        Status::Refused,
+        "",
+        "refused: no base position\n",
+    );
+    let ran = run_arcs(alloc, &made.base, OBS.as_bytes(), nav, "--")?;
+    expect_run(
+        &rt,
+        &ran,
+        Status::Refused,
+        "",
+        "refused: no common signals\n",
+    );
+    let ran = run_arcs(alloc, &made.base, &made.rover, b"", "--")?;
+    let refused = "refused: N line 1 column 1: version not 3.00 to 3.05\n";
+    expect_run(&rt, &ran, Status::Refused, "", refused);
     Ok(())
 }

@@ -1,11 +1,12 @@
 //! Runs of `track` on simulated sessions, and of `check-track` on what they write. Expected places are the generator's own
 //! offset.
-use crate::memory_runs::{Ran, wrong_on};
-use crate::session_texts::{Change, changed, run_on_session};
+use crate::session_texts::{Change, changed, run_on_session, wrong_end};
+use crate::tests::{Fails, Ran, run_on};
 use decimal_text::read_fixed;
 use job_answers::Status;
 use sim_session::make;
-use std::alloc::{AllocError, Global};
+use std::alloc::Global;
+use std::process::Abort;
 use std::test::Fail;
 
 // The offset that seed 1 draws, and 10 mm, in 0.1 mm.
@@ -53,31 +54,22 @@ fn wrong_track(ran: &Ran, pairs: usize, told: &str) -> Option<&'static str> {
     }
 }
 
-// What isn't so of a track that is checked and certified.
-fn wrong_check(alloc: Global, track: &Ran) -> Result<Option<&'static str>, AllocError> {
+fn is_certified(rt: &impl Abort, alloc: Global, track: &Ran) -> Result<(), Fail> {
     let words = ["check-track", "F"];
-    let text = track.out.bytes();
-    wrong_on(alloc, &words, text, Status::Done, "certified\n", "")
+    let ran = run_on(alloc, &words, track.out.bytes(), 1000, Fails::none(alloc))?;
+    assert_eq!(rt; wrong_end(&ran, Status::Done, "certified\n", ""), None);
+    Ok(())
 }
 
 #[test]
-fn tracks_each_pair(rt: HostRuntime) -> Result<(), AllocError> {
+fn tracks_each_pair(rt: HostRuntime) -> Result<(), Fail> {
     let alloc = rt.alloc();
     let made = make(alloc, 1, 60, 8, 12, b'G')?;
     let words = ["track", "B", "R", "N"];
     let ran = run_on_session(alloc, &words, &made.base, &made.rover, &made.nav)?;
     let told = "pairs 60 of 60\narcs 8\nplace 0 ";
     assert_eq!(rt; wrong_track(&ran, 60, told), None);
-    assert_eq!(rt; wrong_check(alloc, &ran)?, None);
-    Ok(())
-}
-
-// Whether a line of out says how many pairs there are.
-fn has_pairs_line(out: &[u8], line: &str) -> bool {
-    match str::from_utf8(out) {
-        Ok(text) => text.lines().any(|l| l == line),
-        Err(_) => false,
-    }
+    is_certified(&rt, alloc, &ran)
 }
 
 // Which pair is lost, and how many arcs there are then, comes from an independent model.
@@ -90,7 +82,7 @@ fn loses_a_pair_of_three_satellites(rt: HostRuntime) -> Result<(), Fail> {
     let ran = run_on_session(alloc, &words, &made.base, rover.as_bytes(), &made.nav)?;
     let told = "pairs 60 of 60\narcs 13\nlost 7 rows\nplace 0 ";
     assert_eq!(rt; wrong_track(&ran, 59, told), None);
-    let counted = has_pairs_line(ran.out.bytes(), "pairs 59");
-    assert_eq!(rt; (counted, wrong_check(alloc, &ran)?), (true, None));
-    Ok(())
+    let mut lines = str::from_utf8(ran.out.bytes())?.lines();
+    assert!(rt; lines.any(|line| line == "pairs 59"));
+    is_certified(&rt, alloc, &ran)
 }

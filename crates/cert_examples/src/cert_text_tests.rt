@@ -1,10 +1,12 @@
 //! Certificates that are written and read, and lines that are refused.
-use cert_text::{Cert, CertFault, Version, read_as, read_cert, write_cert};
+use cert_text::{CertFault, Version, read_as, read_cert, write_cert};
 use rinex_head::{At, What};
 use std::alloc::{AllocError, Global};
+use std::process::Abort;
+use std::test::Fail;
 
 // The head, the arcs and the pairs of a small certificate of two satellites in one pair.
-static SMALL: [&str; 14] = [
+const SMALL: [&str; 14] = [
     "baseline-cert 2",
     "ratio 2000",
     "budget 1000",
@@ -36,7 +38,7 @@ const FIXED: [&str; 5] = ["z1 0 0", "z2 0 1", "move 0 0 0", "values 35 0 0 0", "
 // A line in its place, and where the text is refused with it.
 type BadLine = (u32, &'static str, u32, What);
 
-static BAD_LINES: [BadLine; 61] = [
+const BAD_LINES: [BadLine; 61] = [
     (4, "system R", 1, What::BadLine),
     (4, "base 63781370000 0 0", 1, What::BadLine),
     (7, "signals 15 C W", 1, What::BadLine),
@@ -120,7 +122,7 @@ static BAD_LINES: [BadLine; 61] = [
     (15, "z1 0 1073741824", 6, What::BadRange),
 ];
 
-static BAD_VECTORS: [BadLine; 7] = [
+const BAD_VECTORS: [BadLine; 7] = [
     (16, "z2 0 -1073741824", 6, What::BadRange),
     (17, "move 0 0 70368744177664", 10, What::BadRange),
     (18, "values 128 0 0 0", 8, What::BadRange),
@@ -150,174 +152,130 @@ fn text_of(alloc: Global, front: &[&str], back: &[&str]) -> Result<String, Alloc
     Ok(text)
 }
 
-// Where what was read is refused; none where it isn't, or where memory is out.
-fn refused_at(read: Result<Cert, CertFault>) -> Option<At> {
-    match read {
+// Where a text is refused.
+fn refusal(rt: &impl Abort, alloc: Global, text: &str) -> Option<At> {
+    assert!(rt; text.len() <= 67_108_864);
+    match read_cert(alloc, text.as_bytes()) {
+        Ok(_) => None,
         Err(CertFault::Refused(at)) => Some(at),
-        _ => None,
+        Err(CertFault::NoMemory) => panic!(rt; "no memory"),
     }
 }
 
-// Where a text is refused, as one of the first version or of the present one.
-fn refusal(alloc: Global, is_old: bool, text: &str) -> Option<At> {
-    if text.len() > 67_108_864 {
-        return None;
-    }
-    if is_old {
-        refused_at(read_as(alloc, Version::One, text.as_bytes()))
-    } else {
-        refused_at(read_cert(alloc, text.as_bytes()))
-    }
-}
-
-// What isn't so of a text of these lines that is read and written again.
-fn wrong_again(
-    alloc: Global,
-    front: &[&str],
-    tail: &[&str],
-) -> Result<Option<&'static str>, AllocError> {
-    let text = text_of(alloc, front, tail)?;
-    if text.len() > 67_108_864 {
-        return Ok(Some("the length"));
-    }
-    let Ok(cert) = read_cert(alloc, text.as_bytes()) else {
-        return Ok(Some("the text is refused"));
-    };
+// The text, read and written again.
+fn again(rt: &impl Abort, alloc: Global, text: &str) -> Result<Vec<u8>, AllocError> {
+    assert!(rt; text.len() <= 67_108_864);
     let mut out = Vec::new(alloc);
-    write_cert(alloc, &mut out, &cert)?;
-    if out.as_slice() == text.as_bytes() {
-        Ok(None)
-    } else {
-        Ok(Some("another text"))
+    match read_cert(alloc, text.as_bytes()) {
+        Ok(cert) => write_cert(alloc, &mut out, &cert)?,
+        Err(_) => panic!(rt; "refused"),
     }
+    Ok(out)
 }
 
-static TAILS: [&[&str]; 7] = [
-    &WEAK,
-    &FIXED,
-    &NEAR,
-    &["declined overwidth fine y"],
-    &["declined overwidth fine search"],
-    &["declined unsettled fine -70368744177663"],
-    &["declined spent 1000"],
-];
+fn gives_back(rt: &impl Abort, alloc: Global, tail: &[&str]) -> Result<(), AllocError> {
+    let text = text_of(alloc, &SMALL, tail)?;
+    let out = again(rt, alloc, &text)?;
+    assert!(rt; out.as_slice() == text.as_bytes());
+    Ok(())
+}
 
 #[test]
-fn gives_texts_back(rt: HostRuntime) -> Result<(), AllocError> {
-    for tail in TAILS.iter() {
-        assert_eq!(rt; wrong_again(rt.alloc(), &SMALL, *tail)?, None, "{tail:?}");
-    }
+fn gives_texts_back(rt: HostRuntime) -> Result<(), Fail> {
+    let alloc = rt.alloc();
+    gives_back(&rt, alloc, &WEAK)?;
+    gives_back(&rt, alloc, &FIXED)?;
+    gives_back(&rt, alloc, &NEAR)?;
+    gives_back(&rt, alloc, &["declined overwidth fine y"])?;
+    gives_back(&rt, alloc, &["declined overwidth fine search"])?;
+    gives_back(&rt, alloc, &["declined unsettled fine -70368744177663"])?;
+    gives_back(&rt, alloc, &["declined spent 1000"])?;
     Ok(())
 }
 
-// Adds these lines, with another line in the place of that number.
-fn push_with(
-    text: &mut String,
-    lines: &[&str],
-    number: usize,
-    line: &str,
-) -> Result<(), AllocError> {
-    for (at, old) in lines.iter().enumerate() {
-        let now = if at.wrapping_add(1) == number {
-            line
-        } else {
-            *old
-        };
-        text.push_str(now)?;
-        text.push('\n')?;
-    }
-    Ok(())
-}
-
-// The number of the first bad line of which the text isn't refused there.
-fn wrong_line(
+// Where the text is refused with another line in the place of that number.
+fn place_of(
+    rt: &impl Abort,
     alloc: Global,
-    is_old: bool,
-    front: &[&str],
-    back: &[&str],
+    lines: &[&str],
+    number: u32,
+    line: &str,
+) -> Result<Option<At>, AllocError> {
+    let number = number as usize;
+    assert!(rt; 0 < number && number <= lines.len());
+    let mut text = text_of(alloc, &lines[..number - 1], &[line])?;
+    push_lines(&mut text, &lines[number..])?;
+    Ok(refusal(rt, alloc, &text))
+}
+
+fn check_places(
+    rt: &impl Abort,
+    alloc: Global,
+    lines: &[&str],
     bad: &[BadLine],
-) -> Result<Option<usize>, AllocError> {
-    for (at, row) in bad.iter().enumerate() {
-        let (number, line, column, what) = *row;
-        let mut text = String::new(alloc);
-        push_with(&mut text, front, number as usize, line)?;
-        let later = (number as usize).wrapping_sub(front.len());
-        push_with(&mut text, back, later, line)?;
+) -> Result<(), AllocError> {
+    for (number, line, column, what) in bad {
         let want = At {
-            line: number,
-            column,
-            what,
+            line: *number,
+            column: *column,
+            what: *what,
         };
-        if refusal(alloc, is_old, &text) != Some(want) {
-            return Ok(Some(at));
-        }
+        let found = place_of(rt, alloc, lines, *number, line)?;
+        assert_eq!(rt; found, Some(want), "line {number}: {line}");
     }
-    Ok(None)
-}
-
-#[test]
-fn refuses_lines(rt: HostRuntime) -> Result<(), AllocError> {
-    let wrong = wrong_line(rt.alloc(), false, &SMALL, &WEAK, &BAD_LINES)?;
-    assert_eq!(rt; wrong, None);
     Ok(())
 }
 
 #[test]
-fn refuses_vectors(rt: HostRuntime) -> Result<(), AllocError> {
-    let wrong = wrong_line(rt.alloc(), false, &SMALL, &FIXED, &BAD_VECTORS)?;
-    assert_eq!(rt; wrong, None);
+fn refuses_lines(rt: HostRuntime) -> Result<(), Fail> {
+    let weak = [
+        SMALL[0], SMALL[1], SMALL[2], SMALL[3], SMALL[4], SMALL[5], SMALL[6], SMALL[7], SMALL[8],
+        SMALL[9], SMALL[10], SMALL[11], SMALL[12], SMALL[13], WEAK[0],
+    ];
+    check_places(&rt, rt.alloc(), &weak, &BAD_LINES)?;
     Ok(())
 }
 
-// Whether the small certificate's lines stand first, what follows, and the line that is bad.
-static ENDS: [(bool, &str, u32); 4] = [
-    (true, "", 15),
-    (true, "declined weak fine 0 -6", 15),
-    (true, "declined weak fine 0 -6\n\n", 16),
-    (false, "", 1),
-];
-
-// Where a text with such an end is refused.
-fn end_refusal(alloc: Global, has_front: bool, end: &str) -> Result<Option<At>, AllocError> {
-    let mut text = String::new(alloc);
-    if has_front {
-        push_lines(&mut text, &SMALL)?;
-    }
-    text.push_str(end)?;
-    Ok(refusal(alloc, false, &text))
+#[test]
+fn refuses_vectors(rt: HostRuntime) -> Result<(), Fail> {
+    let fixed = [
+        SMALL[0], SMALL[1], SMALL[2], SMALL[3], SMALL[4], SMALL[5], SMALL[6], SMALL[7], SMALL[8],
+        SMALL[9], SMALL[10], SMALL[11], SMALL[12], SMALL[13], FIXED[0], FIXED[1], FIXED[2],
+        FIXED[3], FIXED[4],
+    ];
+    check_places(&rt, rt.alloc(), &fixed, &BAD_VECTORS)?;
+    Ok(())
 }
 
 #[test]
-fn refuses_ends(rt: HostRuntime) -> Result<(), AllocError> {
-    for row in ENDS.iter() {
-        let (has_front, end, line) = *row;
+fn refuses_ends(rt: HostRuntime) -> Result<(), Fail> {
+    let alloc = rt.alloc();
+    let whole = text_of(alloc, &SMALL, &WEAK)?;
+    let bare = text_of(alloc, &SMALL, &[])?;
+    let unended = format!(in alloc; "{bare}declined weak fine 0 -6")?;
+    let longer = format!(in alloc; "{whole}\n")?;
+    let long = "0".repeat(alloc, 4097)?;
+    let wide = format!(in alloc; "baseline-cert 2\n{long}\n")?;
+    let texts: [(&str, u32, What); 5] = [
+        (&bare, 15, What::BadLine),
+        (&unended, 15, What::BadLine),
+        (&longer, 16, What::BadLine),
+        ("", 1, What::BadLine),
+        (&wide, 2, What::LongLine),
+    ];
+    for (text, line, what) in texts {
         let want = At {
             line,
             column: 1,
-            what: What::BadLine,
+            what,
         };
-        let found = end_refusal(rt.alloc(), has_front, end)?;
-        assert_eq!(rt; found, Some(want), "{has_front}: {end}");
+        assert_eq!(rt; refusal(&rt, alloc, text), Some(want));
     }
-    Ok(())
-}
-
-#[test]
-fn refuses_a_long_line(rt: HostRuntime) -> Result<(), AllocError> {
-    let alloc = rt.alloc();
-    let long = "0".repeat(alloc, 4097)?;
-    let wide = format!(in alloc; "baseline-cert 2\n{long}\n")?;
-    let want = At {
-        line: 2,
-        column: 1,
-        what: What::LongLine,
-    };
-    assert_eq!(rt; refusal(alloc, false, &wide), Some(want));
     Ok(())
 }
 
 // A certificate of the bands L1 and L5 of Galileo.
-static OTHER_BANDS: [&str; 15] = [
+const OTHER_BANDS: [&str; 15] = [
     "baseline-cert 2",
     "ratio 2000",
     "budget 1000",
@@ -336,7 +294,7 @@ static OTHER_BANDS: [&str; 15] = [
 ];
 
 // A certificate of all three bands, whose arc has three integers.
-static ALL_BANDS: [&str; 19] = [
+const ALL_BANDS: [&str; 19] = [
     "baseline-cert 2",
     "ratio 2000",
     "budget 1000",
@@ -359,14 +317,19 @@ static ALL_BANDS: [&str; 19] = [
 ];
 
 #[test]
-fn gives_other_bands_back(rt: HostRuntime) -> Result<(), AllocError> {
-    assert_eq!(rt; wrong_again(rt.alloc(), &OTHER_BANDS, &[])?, None);
-    assert_eq!(rt; wrong_again(rt.alloc(), &ALL_BANDS, &[])?, None);
+fn gives_other_bands_back(rt: HostRuntime) -> Result<(), Fail> {
+    let alloc = rt.alloc();
+    let two = text_of(alloc, &OTHER_BANDS, &[])?;
+    let out = again(&rt, alloc, &two)?;
+    assert!(rt; out.as_slice() == two.as_bytes());
+    let three = text_of(alloc, &ALL_BANDS, &[])?;
+    let out = again(&rt, alloc, &three)?;
+    assert!(rt; out.as_slice() == three.as_bytes());
     Ok(())
 }
 
 // The same certificate in the form of the first version.
-static OLD: [&str; 14] = [
+const OLD: [&str; 14] = [
     "baseline-cert 1",
     "ratio 2000",
     "budget 1000",
@@ -383,55 +346,52 @@ static OLD: [&str; 14] = [
     "declined weak fine 0 -6",
 ];
 
-const FIRST_LINE: At = At {
-    line: 1,
-    column: 1,
-    what: What::BadLine,
-};
+// Where the text is refused as one of the first version.
+fn old_refusal(rt: &impl Abort, alloc: Global, text: &str) -> Option<At> {
+    assert!(rt; text.len() <= 67_108_864);
+    match read_as(alloc, Version::One, text.as_bytes()) {
+        Ok(_) => None,
+        Err(CertFault::Refused(at)) => Some(at),
+        Err(CertFault::NoMemory) => panic!(rt; "no memory"),
+    }
+}
 
 #[test]
-fn each_version_refuses_the_other(rt: HostRuntime) -> Result<(), AllocError> {
+fn reads_the_first_version(rt: HostRuntime) -> Result<(), Fail> {
     let alloc = rt.alloc();
     let old = text_of(alloc, &OLD, &[])?;
-    let new = text_of(alloc, &SMALL, &WEAK)?;
-    let found = (refusal(alloc, false, &old), refusal(alloc, true, &new));
-    assert_eq!(rt; found, (Some(FIRST_LINE), Some(FIRST_LINE)));
-    Ok(())
-}
-
-// What isn't so of the text of the first version that is read, and written as the present one.
-fn wrong_old(alloc: Global) -> Result<Option<&'static str>, AllocError> {
-    let old = text_of(alloc, &OLD, &[])?;
-    if old.len() > 67_108_864 {
-        return Ok(Some("the length"));
-    }
-    let Ok(cert) = read_as(alloc, Version::One, old.as_bytes()) else {
-        return Ok(Some("the text is refused"));
+    assert!(rt; old.len() <= 67_108_864);
+    let first_line = At {
+        line: 1,
+        column: 1,
+        what: What::BadLine,
     };
+    assert_eq!(rt; refusal(&rt, alloc, &old), Some(first_line));
     let mut out = Vec::new(alloc);
-    write_cert(alloc, &mut out, &cert)?;
-    if out.as_slice() == text_of(alloc, &SMALL, &WEAK)?.as_bytes() {
-        Ok(None)
-    } else {
-        Ok(Some("another text"))
+    match read_as(alloc, Version::One, old.as_bytes()) {
+        Ok(cert) => write_cert(alloc, &mut out, &cert)?,
+        Err(_) => panic!(rt; "refused"),
     }
-}
-
-#[test]
-fn reads_the_first_version(rt: HostRuntime) -> Result<(), AllocError> {
-    assert_eq!(rt; wrong_old(rt.alloc())?, None);
-    Ok(())
-}
-
-static BAD_OLD: [BadLine; 4] = [
-    (4, "system G", 1, What::BadLine),
-    (8, "arc 33 0 0 datum 0 0", 5, What::BadRange),
-    (11, "pair 0 0 1125899906842624 2", 10, What::BadRange),
-    (14, "declined weak fine 43 -6", 20, What::BadRange),
-];
-
-#[test]
-fn refuses_lines_of_the_first_version(rt: HostRuntime) -> Result<(), AllocError> {
-    assert_eq!(rt; wrong_line(rt.alloc(), true, &OLD, &[], &BAD_OLD)?, None);
+    let new = text_of(alloc, &SMALL, &WEAK)?;
+    assert!(rt; out.as_slice() == new.as_bytes());
+    assert_eq!(rt; old_refusal(&rt, alloc, &new), Some(first_line));
+    let bad: [BadLine; 4] = [
+        (4, "system G", 1, What::BadLine),
+        (8, "arc 33 0 0 datum 0 0", 5, What::BadRange),
+        (11, "pair 0 0 1125899906842624 2", 10, What::BadRange),
+        (14, "declined weak fine 43 -6", 20, What::BadRange),
+    ];
+    for (number, line, column, what) in bad {
+        let want = At {
+            line: number,
+            column,
+            what,
+        };
+        let number = number as usize;
+        assert!(rt; 0 < number && number <= OLD.len());
+        let mut text = text_of(alloc, &OLD[..number - 1], &[line])?;
+        push_lines(&mut text, &OLD[number..])?;
+        assert_eq!(rt; old_refusal(&rt, alloc, &text), Some(want));
+    }
     Ok(())
 }

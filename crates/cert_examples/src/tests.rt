@@ -6,6 +6,8 @@ use cert_report::{write_residuals, write_verdict};
 use cert_text::{Cert, read_cert};
 use outcome_report::{is_fixed, write_outcome};
 use std::alloc::{AllocError, Global};
+use std::process::Abort;
+use std::test::Fail;
 
 const VALUES: &str = "values 41 107551584 2298605384680 1709993";
 
@@ -31,213 +33,131 @@ fn text_of(
     Ok(text)
 }
 
-// What stands before the rest of a certificate.
-#[derive(Clone, Copy, Debug)]
-enum Front {
-    Session,
-    Small,
-}
-
-fn lines_of(front: Front) -> &'static [&'static str] {
-    match front {
-        Front::Session => &SESSION,
-        Front::Small => &SMALL,
-    }
-}
-
-// The certificate of these lines, where it is one.
+// The certificate of these lines.
 fn cert_of(
+    rt: &impl Abort,
     alloc: Global,
     budget: &str,
-    front: Front,
+    front: &[&str],
     back: &[&str],
-) -> Result<Option<Cert>, AllocError> {
-    let text = text_of(alloc, budget, lines_of(front), back)?;
-    if text.len() > 67_108_864 {
-        return Ok(None);
+) -> Result<Cert, AllocError> {
+    let text = text_of(alloc, budget, front, back)?;
+    assert!(rt; text.len() <= 67_108_864);
+    match read_cert(alloc, text.as_bytes()) {
+        Ok(cert) => Ok(cert),
+        Err(_) => panic!(rt; "refused"),
     }
-    Ok(read_cert(alloc, text.as_bytes()).ok())
 }
 
-// The budget, the lines, and what the check says.
-type Checked = (&'static str, Front, &'static [&'static str], &'static str);
-
-static CHECKED: [Checked; 7] = [
-    (
-        "budget 1000000",
-        Front::Session,
-        &[VALUES, "fixed"],
-        "certified\n",
-    ),
-    (
-        "budget 1000000",
-        Front::Session,
-        &[VALUES, "declined unseparated"],
-        "not certified tail\n",
-    ),
-    (
-        "budget 1000000",
-        Front::Session,
-        &["values 41 107551584 2298605384681 1709993", "fixed"],
-        "not certified tail\n",
-    ),
-    (
-        "budget 1",
-        Front::Session,
-        &[VALUES, "fixed"],
-        "not certified spent\n",
-    ),
-    (
-        "budget 1000",
-        Front::Small,
-        &NOTHING,
-        "not certified weak 0 -6\n",
-    ),
-    (
-        "budget 1000",
-        Front::Small,
-        &MADE_UP,
-        "not certified weak 0 -6\n",
-    ),
-    (
-        "budget 1000",
-        Front::Small,
-        &WIDEST,
-        "not certified overwidth entry\n",
-    ),
-];
-
-// What isn't so of the check of a certificate.
-fn wrong_check(alloc: Global, row: &Checked) -> Result<Option<&'static str>, AllocError> {
-    let (budget, front, back, want) = *row;
-    let Some(cert) = cert_of(alloc, budget, front, back)? else {
-        return Ok(Some("no certificate"));
-    };
+fn verdict_is(rt: &impl Abort, alloc: Global, cert: &Cert, want: &[u8]) -> Result<(), AllocError> {
     let mut out = Vec::new(alloc);
-    write_verdict(alloc, &mut out, &check(&cert))?;
-    if out.as_slice() == want.as_bytes() {
-        Ok(None)
-    } else {
-        Ok(Some("the verdict"))
-    }
-}
-
-#[test]
-fn checks_certificates(rt: HostRuntime) -> Result<(), AllocError> {
-    for row in CHECKED.iter() {
-        assert_eq!(rt; wrong_check(rt.alloc(), row)?, None, "{row:?}");
-    }
+    write_verdict(alloc, &mut out, &check(cert))?;
+    assert!(rt; out.as_slice() == want);
     Ok(())
 }
 
-// The lines, whether anything is shown, and what.
-type Shown = (
-    Front,
-    &'static [&'static str],
-    bool,
-    &'static [&'static str],
-);
+#[test]
+fn checks_sessions(rt: HostRuntime) -> Result<(), Fail> {
+    let alloc = rt.alloc();
+    let budget = "budget 1000000";
+    let fixed = cert_of(&rt, alloc, budget, &SESSION, &[VALUES, "fixed"])?;
+    verdict_is(&rt, alloc, &fixed, b"certified\n")?;
+    let near = cert_of(
+        &rt,
+        alloc,
+        budget,
+        &SESSION,
+        &[VALUES, "declined unseparated"],
+    )?;
+    verdict_is(&rt, alloc, &near, b"not certified tail\n")?;
+    let other = "values 41 107551584 2298605384681 1709993";
+    let greater = cert_of(&rt, alloc, budget, &SESSION, &[other, "fixed"])?;
+    verdict_is(&rt, alloc, &greater, b"not certified tail\n")?;
+    let short = cert_of(&rt, alloc, "budget 1", &SESSION, &[VALUES, "fixed"])?;
+    verdict_is(&rt, alloc, &short, b"not certified spent\n")?;
+    Ok(())
+}
 
-static SHOWN: [Shown; 2] = [
-    (
-        Front::Small,
-        &MADE_UP,
-        true,
-        &["0 0 0 0 0 0", "0 1 0 0 0 0"],
-    ),
-    (Front::Small, &NOTHING, false, &["nothing to show"]),
-];
+#[test]
+fn checks_declines(rt: HostRuntime) -> Result<(), Fail> {
+    let alloc = rt.alloc();
+    let budget = "budget 1000";
+    let nothing = cert_of(&rt, alloc, budget, &SMALL, &NOTHING)?;
+    verdict_is(&rt, alloc, &nothing, b"not certified weak 0 -6\n")?;
+    let made_up = cert_of(&rt, alloc, budget, &SMALL, &MADE_UP)?;
+    verdict_is(&rt, alloc, &made_up, b"not certified weak 0 -6\n")?;
+    let widest = cert_of(&rt, alloc, budget, &SMALL, &WIDEST)?;
+    verdict_is(&rt, alloc, &widest, b"not certified overwidth entry\n")?;
+    Ok(())
+}
 
-// What isn't so of what is shown of a certificate.
-fn wrong_residuals(
+fn residuals_are(
+    rt: &impl Abort,
     alloc: Global,
-    front: Front,
-    back: &[&str],
+    cert: &Cert,
     shown: bool,
     want: &[&str],
-) -> Result<Option<&'static str>, AllocError> {
-    let Some(cert) = cert_of(alloc, "budget 1000", front, back)? else {
-        return Ok(Some("no certificate"));
-    };
+) -> Result<(), AllocError> {
     let mut text = String::new(alloc);
     push_lines(&mut text, want)?;
     let mut out = Vec::new(alloc);
-    let found = write_residuals(alloc, &mut out, &cert)?;
-    Ok(if found != shown {
-        Some("whether any are shown")
-    } else if out.as_slice() != text.as_bytes() {
-        Some("the residuals")
-    } else {
-        None
-    })
-}
-
-#[test]
-fn shows_residuals(rt: HostRuntime) -> Result<(), AllocError> {
-    let alloc = rt.alloc();
-    let wrong = wrong_residuals(alloc, Front::Session, &[VALUES, "fixed"], true, &RESIDUALS)?;
-    assert_eq!(rt; wrong, None);
-    for row in SHOWN.iter() {
-        let (front, back, shown, want) = *row;
-        let wrong = wrong_residuals(alloc, front, back, shown, want)?;
-        assert_eq!(rt; wrong, None, "{want:?}");
-    }
+    let found = write_residuals(alloc, &mut out, cert)?;
+    assert!(rt; found == shown);
+    assert!(rt; out.as_slice() == text.as_bytes());
     Ok(())
 }
 
-// The lines, whether it is a fix, and what is told. The generator's offset of the first session's rover is
-// (-165680, 943607, -659500) mm.
-type Told = (Front, &'static [&'static str], bool, &'static str);
+#[test]
+fn shows_residuals(rt: HostRuntime) -> Result<(), Fail> {
+    let alloc = rt.alloc();
+    let fixed = cert_of(&rt, alloc, "budget 1000", &SESSION, &[VALUES, "fixed"])?;
+    residuals_are(&rt, alloc, &fixed, true, &RESIDUALS)?;
+    let made_up = cert_of(&rt, alloc, "budget 1000", &SMALL, &MADE_UP)?;
+    residuals_are(&rt, alloc, &made_up, true, &["0 0 0 0 0 0", "0 1 0 0 0 0"])?;
+    let nothing = cert_of(&rt, alloc, "budget 1000", &SMALL, &NOTHING)?;
+    residuals_are(&rt, alloc, &nothing, false, &["nothing to show"])?;
+    Ok(())
+}
 
-static TOLD: [Told; 2] = [
-    (
-        Front::Session,
-        &[VALUES, "fixed"],
-        true,
-        "pairs 6 of 11\narcs 5\nbaseline -165.6800 943.6070 -659.5000\nverdict fixed\n",
-    ),
-    (
-        Front::Small,
-        &NOTHING,
-        false,
-        "pairs 6 of 11\narcs 5\nverdict declined\n",
-    ),
-];
-
-// What isn't so of what is printed of a run that ends with a certificate: the text that it was read from, and these lines.
-fn wrong_outcome(alloc: Global, row: &Told) -> Result<Option<&'static str>, AllocError> {
-    let (front, back, fixed, want) = *row;
-    let budget = "budget 1000000";
-    let Some(cert) = cert_of(alloc, budget, front, back)? else {
-        return Ok(Some("no certificate"));
-    };
-    let text = text_of(alloc, budget, lines_of(front), back)?;
+// What is printed of a run that ends with this certificate: the text that it was read from, and these lines.
+fn outcome_is(
+    rt: &impl Abort,
+    alloc: Global,
+    cert: Cert,
+    fixed: bool,
+    text: &[u8],
+    want: &str,
+) -> Result<(), AllocError> {
+    let answer = Answer::Full(cert);
+    assert!(rt; is_fixed(&answer) == fixed);
     let outcome = Outcome {
         taken: 6,
         all: 11,
         kept: 5,
         delta: false,
         rounds: RoundCounts { coarse: 3, fine: 2 },
-        answer: Answer::Full(cert),
+        answer,
     };
     let mut out = Vec::new(alloc);
     let mut err = Vec::new(alloc);
     write_outcome(alloc, &mut out, &mut err, &outcome)?;
-    Ok(if is_fixed(&outcome.answer) != fixed {
-        Some("the verdict")
-    } else if out.as_slice() != text.as_bytes() {
-        Some("out")
-    } else if err.as_slice() != want.as_bytes() {
-        Some("err")
-    } else {
-        None
-    })
+    assert!(rt; out.as_slice() == text);
+    assert!(rt; err.as_slice() == want.as_bytes());
+    Ok(())
 }
 
+// The generator's offset of the first session's rover is (-165680, 943607, -659500) mm.
 #[test]
-fn tells_outcomes(rt: HostRuntime) -> Result<(), AllocError> {
-    for row in TOLD.iter() {
-        assert_eq!(rt; wrong_outcome(rt.alloc(), row)?, None, "{}", row.3);
-    }
+fn tells_outcomes(rt: HostRuntime) -> Result<(), Fail> {
+    let alloc = rt.alloc();
+    let budget = "budget 1000000";
+    let fixed = cert_of(&rt, alloc, budget, &SESSION, &[VALUES, "fixed"])?;
+    let text = text_of(alloc, budget, &SESSION, &[VALUES, "fixed"])?;
+    let told = "pairs 6 of 11\narcs 5\nbaseline -165.6800 943.6070 -659.5000\nverdict fixed\n";
+    outcome_is(&rt, alloc, fixed, true, text.as_bytes(), told)?;
+    let nothing = cert_of(&rt, alloc, budget, &SMALL, &NOTHING)?;
+    let text = text_of(alloc, budget, &SMALL, &NOTHING)?;
+    let told = "pairs 6 of 11\narcs 5\nverdict declined\n";
+    outcome_is(&rt, alloc, nothing, false, text.as_bytes(), told)?;
     Ok(())
 }

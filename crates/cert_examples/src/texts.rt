@@ -1,7 +1,7 @@
 //! Certificates, in parts, and what is printed of them.
 
 // Six epochs of five satellites, between the line of the budget and that of the values.
-pub(crate) static SESSION: [&str; 50] = [
+pub(crate) const SESSION: [&str; 50] = [
     "system G",
     "base 63781370000 0 0",
     "point 63779713226 9436069 -6594995",
@@ -55,7 +55,7 @@ pub(crate) static SESSION: [&str; 50] = [
 ];
 
 // How far each of its observations lies from the mean of its pair.
-pub(crate) static RESIDUALS: [&str; 30] = [
+pub(crate) const RESIDUALS: [&str; 30] = [
     "0 0 -101 101 520 520",
     "0 1 56 -122 -119 -119",
     "0 2 -6 3 -114 -114",
@@ -89,7 +89,7 @@ pub(crate) static RESIDUALS: [&str; 30] = [
 ];
 
 // Two satellites in one pair, before the rows.
-pub(crate) static SMALL: [&str; 9] = [
+pub(crate) const SMALL: [&str; 9] = [
     "system G",
     "base 63781370000 0 0",
     "point 63781370000 0 0",

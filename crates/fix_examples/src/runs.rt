@@ -8,6 +8,7 @@ use run_options::Options;
 use session_files::answer_session;
 use session_jobs::Fix;
 use std::alloc::{AllocError, Global};
+use std::process::Abort;
 use std::test::Fail;
 
 fn named(alloc: Global, name: &str, text: &[u8]) -> Result<Named, AllocError> {
@@ -55,18 +56,18 @@ pub(crate) fn fix_texts(
     fix_failing(alloc, base, rover, nav, options, Vec::new(alloc))
 }
 
-/// Whether a check of this text says that it is certified.
-pub(crate) fn is_certified(alloc: Global, text: &[u8]) -> Result<bool, AllocError> {
+/// Fails unless a check of this text says that it is certified.
+pub(crate) fn is_certified(rt: &impl Abort, alloc: Global, text: &[u8]) -> Result<(), AllocError> {
     let mut files = MemFiles::new(vec![in alloc; named(alloc, "C", text)?]?, Vec::new(alloc));
     let checked = answer_of(answer_file(alloc, &mut files, &CertCheck, "C"))?;
-    Ok(checked.status == Status::Done && checked.out.as_slice() == b"certified\n".as_slice())
+    assert_eq!(rt; checked.out.as_slice(), b"certified\n".as_slice());
+    assert_eq!(rt; checked.status, Status::Done);
+    Ok(())
 }
 
 /// The certificate of this text.
-pub(crate) fn cert_in(alloc: Global, text: &[u8]) -> Result<Cert, Fail> {
-    if text.len() > 67_108_864 {
-        return Err("the text is too long".into());
-    }
+pub(crate) fn cert_in(rt: &impl Abort, alloc: Global, text: &[u8]) -> Result<Cert, Fail> {
+    assert!(rt; text.len() <= 67_108_864);
     Ok(read_cert(alloc, text)?)
 }
 
@@ -103,16 +104,20 @@ fn true_wholes(truth: &[[i64; 3]], satellite: u8, other: u8) -> Option<[i128; 2]
     Some([*l1 as i128 - *d1 as i128, *l2 as i128 - *d2 as i128])
 }
 
-/// Whether these integers of one linked set are the truth, or its opposite where the receivers are swapped.
-pub(crate) fn are_true(cert: &Cert, integers: &[i64], truth: &[[i64; 3]], swapped: bool) -> bool {
+/// Fails unless these integers of one linked set are the truth, or its opposite where the receivers are swapped.
+pub(crate) fn are_true(
+    rt: &impl Abort,
+    cert: &Cert,
+    integers: &[i64],
+    truth: &[[i64; 3]],
+    swapped: bool,
+) {
     let arcs = cert.session.arcs.as_slice();
-    if arcs.len() < 2 {
-        return false;
-    }
+    assert!(rt; arcs.len() > 1);
     let datum = arcs[0];
     for (arc, pair) in arcs[1..].iter().zip(integers.chunks(2)) {
         let &[n1, n2] = pair else {
-            return false;
+            panic!(rt; "half a pair of integers");
         };
         let found = [
             whole(arc.shift[0], n1, datum.shift[0]),
@@ -123,9 +128,6 @@ pub(crate) fn are_true(cert: &Cert, integers: &[i64], truth: &[[i64; 3]], swappe
         } else {
             true_wholes(truth, arc.sat, datum.sat)
         };
-        if want != Some(found) {
-            return false;
-        }
+        assert_eq!(rt; want, Some(found), "at satellite {}", arc.sat);
     }
-    true
 }

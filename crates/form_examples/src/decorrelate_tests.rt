@@ -103,30 +103,25 @@ fn has_map(case: &Case) -> bool {
     case.map.len() == case.size * case.size
 }
 
-// The map of two integers whose factor is 3489660928, and its inverse, row by row; none where the factor is too large.
-fn turn() -> Option<[[i64; 4]; 2]> {
+#[test]
+fn one_turn(rt: HostRuntime) {
     let mut d = [1; MOST_FACTORS];
     d[3] = 1000;
     d[4] = 10;
     let mut l = no_factors();
-    if !set_factor(&mut l, 4, 3, 3489660928) {
-        return None;
-    }
+    assert!(rt; set_factor(&mut l, 4, 3, 3489660928));
     let change = reduce(2, &d, &l);
     let map = change.map;
+    assert_eq!(rt; (map.at(0, 0), map.at(0, 1)), (-3, 1));
+    assert_eq!(rt; (map.at(1, 0), map.at(1, 1)), (1, 0));
     let back = change.back;
-    Some([
-        [map.at(0, 0), map.at(0, 1), map.at(1, 0), map.at(1, 1)],
-        [back.at(0, 0), back.at(0, 1), back.at(1, 0), back.at(1, 1)],
-    ])
-}
-
-#[test]
-fn one_turn(rt: HostRuntime) {
-    assert_eq!(rt; turn(), Some([[-3, 1, 1, 0], [0, 1, 1, 3]]));
+    assert_eq!(rt; (back.at(0, 0), back.at(0, 1)), (0, 1));
+    assert_eq!(rt; (back.at(1, 0), back.at(1, 1)), (1, 3));
 }
 
 #[test]
 fn maps_of_drawn_forms(rt: HostRuntime) {
-    assert_eq!(rt; CASES.iter().position(|case| !has_map(case)), None);
+    for case in &CASES {
+        assert!(rt; has_map(case));
+    }
 }

@@ -12,13 +12,12 @@ fn eliminates_the_first_of_two_columns(rt: HostRuntime) {
     let mut factors = FactorTable::zeros();
     let mut kept = [0; MOST_FACTORS];
     assert!(rt; take_steps(&mut table, &mut factors, &mut kept, 0, 1, 2).is_ok());
-    assert_eq!(rt;
-        (kept[0], factors.at(1, 0), table.at(1, 1)),
-        (1073740800, 536870912, 805306366)
-    );
+    assert_eq!(rt; kept[0], 1073740800);
+    assert_eq!(rt; factors.at(1, 0), 536870912);
+    assert_eq!(rt; table.at(1, 1), 805306366);
 }
 
-// A pivot below 2^20 is weak.
+// A pivot below 2^20 is weak, and one at it is not.
 #[test]
 fn stops_at_a_weak_pivot(rt: HostRuntime) {
     let mut factors = FactorTable::zeros();
@@ -30,13 +29,6 @@ fn stops_at_a_weak_pivot(rt: HostRuntime) {
         stopped.map(|e| (e.column, e.pivot, e.stop)),
         Some((0, -6, StepFault::Weak))
     );
-}
-
-// A pivot at 2^20 isn't weak.
-#[test]
-fn takes_the_least_pivot(rt: HostRuntime) {
-    let mut factors = FactorTable::zeros();
-    let mut kept = [0; MOST_FACTORS];
     let mut least = NormalTable::zeros();
     least.set(0, 0, 1 << 20);
     assert!(rt; take_steps(&mut least, &mut factors, &mut kept, 0, 1, 2).is_ok());

@@ -168,35 +168,24 @@ static KNOWN: [Known; 7] = [
     },
 ];
 
-// What isn't so of the form and the upper sums of a session.
-fn wrong_upper(alloc: Global, known: &Known) -> Result<Option<&'static str>, AllocError> {
-    let Some(mut made) = drawn_session(alloc, known.case)? else {
-        return Ok(Some("the session"));
-    };
-    let Ok(form) = lower(&sum(&made.session)) else {
-        return Ok(Some("no form"));
-    };
-    if form.h != known.h {
-        return Ok(Some("the exponent"));
-    }
-    if upper_of(&made.session, &form, &made.z, &made.moved) != Some(Ok(known.upper)) {
-        return Ok(Some("the upper sum"));
-    }
-    match made.z.first_mut() {
-        Some(first) => *first = first.wrapping_add(1),
-        None => return Ok(Some("the integers")),
-    }
-    if upper_of(&made.session, &form, &made.z, &made.moved) != Some(Ok(known.other)) {
-        return Ok(Some("the other sum"));
-    }
-    Ok(None)
-}
-
 #[test]
 fn upper_sums_of_seven_sessions(rt: HostRuntime) -> Result<(), AllocError> {
-    for known in KNOWN.iter() {
-        let wrong = wrong_upper(rt.alloc(), known)?;
-        assert_eq!(rt; wrong, None, "seed {}", known.case.seed);
+    for known in &KNOWN {
+        let Some(mut made) = drawn_session(rt.alloc(), known.case)? else {
+            assert!(rt; false, "the session is in range");
+            return Ok(());
+        };
+        let Ok(form) = lower(&sum(&made.session)) else {
+            assert!(rt; false, "the session has a form");
+            return Ok(());
+        };
+        assert_eq!(rt; form.h, known.h);
+        let found = upper_of(&made.session, &form, &made.z, &made.moved);
+        assert_eq!(rt; found, Some(Ok(known.upper)));
+        assert!(rt; made.z.len() > 0);
+        made.z[0] = made.z[0].wrapping_add(1);
+        let found = upper_of(&made.session, &form, &made.z, &made.moved);
+        assert_eq!(rt; found, Some(Ok(known.other)));
     }
     Ok(())
 }
@@ -219,48 +208,25 @@ fn decision_of(session: &Session, ratio: u32) -> Option<Result<Decision, Overwid
     Some(decide(session, &form, &best, ratio))
 }
 
-// What isn't so of the decision of a session.
-fn wrong_decision(alloc: Global, known: &Known) -> Result<Option<&'static str>, AllocError> {
-    let Some(made) = drawn_session(alloc, known.case)? else {
-        return Ok(Some("the session"));
-    };
-    let Some(Ok(decision)) = decision_of(&made.session, 2000) else {
-        return Ok(Some("no decision"));
-    };
-    let first = decision.best.first;
-    Ok(if decision.fixed != known.fixed {
-        Some("the verdict")
-    } else if decision.moved != known.moved {
-        Some("the move")
-    } else if decision.top != known.top {
-        Some("the top")
-    } else if decision.best.size != made.z.len() {
-        Some("how many integers")
-    } else if !first.iter().zip(made.z.as_slice()).all(|(a, b)| a == b) {
-        Some("an integer")
-    } else {
-        None
-    })
-}
-
 // The least integers are those that each session was made with.
 #[test]
 fn decides_seven_sessions(rt: HostRuntime) -> Result<(), AllocError> {
-    for known in KNOWN.iter() {
-        let wrong = wrong_decision(rt.alloc(), known)?;
-        assert_eq!(rt; wrong, None, "seed {}", known.case.seed);
+    for known in &KNOWN {
+        let Some(made) = drawn_session(rt.alloc(), known.case)? else {
+            assert!(rt; false, "the session is in range");
+            return Ok(());
+        };
+        let Some(Ok(decision)) = decision_of(&made.session, 2000) else {
+            assert!(rt; false, "the session has a decision");
+            return Ok(());
+        };
+        assert_eq!(rt; decision.fixed, known.fixed);
+        assert_eq!(rt; decision.moved, known.moved);
+        assert_eq!(rt; decision.top, known.top);
+        assert_eq!(rt; decision.best.size, made.z.len());
+        assert!(rt; (0..made.z.len()).all(|k| k >= 60 || decision.best.first[k] == made.z[k]));
     }
     Ok(())
-}
-
-static RATIOS: [(u32, bool); 4] = [(1000, true), (1406, true), (1407, false), (100_000, false)];
-
-// Whether the session is fixed by this ratio, where it has a decision.
-fn is_fixed_by(session: &Session, ratio: u32) -> Option<bool> {
-    match decision_of(session, ratio) {
-        Some(Ok(decision)) => Some(decision.fixed),
-        _ => None,
-    }
 }
 
 // The values of the last session are 1.40663 apart.
@@ -270,9 +236,12 @@ fn a_ratio_decides(rt: HostRuntime) -> Result<(), AllocError> {
         assert!(rt; false, "the session is in range");
         return Ok(());
     };
-    for row in RATIOS.iter() {
-        let (ratio, fixed) = *row;
-        assert_eq!(rt; is_fixed_by(&made.session, ratio), Some(fixed), "{ratio}");
+    for (ratio, fixed) in [(1000, true), (1406, true), (1407, false), (100_000, false)] {
+        let Some(Ok(decision)) = decision_of(&made.session, ratio) else {
+            assert!(rt; false, "the session has a decision");
+            return Ok(());
+        };
+        assert_eq!(rt; decision.fixed, fixed);
     }
     Ok(())
 }
@@ -280,31 +249,8 @@ fn a_ratio_decides(rt: HostRuntime) -> Result<(), AllocError> {
 // 64 · 2000 · 23 is 2,944,000.
 #[test]
 fn a_tie_is_not_separated(rt: HostRuntime) {
-    let separated = (is_separated(2000, 23, 3000), is_separated(2000, 23, 2944));
-    assert_eq!(rt; separated, (true, false));
-}
-
-static CLOCKS: [(i64, bool); 2] = [(1 << 32, false), (1 << 33, true)];
-
-// What isn't so of a session whose rows share a clock.
-fn wrong_clock(
-    alloc: Global,
-    session: &Session,
-    by: i64,
-    refused: bool,
-) -> Result<Option<&'static str>, AllocError> {
-    let Some(later) = later_session(alloc, session, by)? else {
-        return Ok(Some("the session"));
-    };
-    let Some(answer) = decision_of(&later, 2000) else {
-        return Ok(Some("no two least vectors"));
-    };
-    let expected = if refused { Some(Place::Sum) } else { None };
-    if answer.err().map(|e| e.place) == expected {
-        Ok(None)
-    } else {
-        Ok(Some("the answer"))
-    }
+    assert_eq!(rt; is_separated(2000, 23, 3000), true);
+    assert_eq!(rt; is_separated(2000, 23, 2944), false);
 }
 
 // A clock that all rows share doesn't change the form. 2^33 units of it leave the upper sum no room.
@@ -314,10 +260,17 @@ fn a_great_clock_is_too_wide(rt: HostRuntime) -> Result<(), AllocError> {
         assert!(rt; false, "the session is in range");
         return Ok(());
     };
-    for row in CLOCKS.iter() {
-        let (by, refused) = *row;
-        let wrong = wrong_clock(rt.alloc(), &made.session, by, refused)?;
-        assert_eq!(rt; wrong, None, "by {by}");
+    for (by, refused) in [(1 << 32, false), (1 << 33, true)] {
+        let Some(later) = later_session(rt.alloc(), &made.session, by)? else {
+            assert!(rt; false, "the session is in range");
+            return Ok(());
+        };
+        let Some(answer) = decision_of(&later, 2000) else {
+            assert!(rt; false, "the session has two least vectors");
+            return Ok(());
+        };
+        let wide = answer.err().map(|e| e.place);
+        assert_eq!(rt; wide, if refused { Some(Place::Sum) } else { None });
     }
     Ok(())
 }
@@ -378,40 +331,7 @@ fn pair_of(
 
 const TOO_WIDE: Option<Result<i128, Overwidth>> = Some(Err(Overwidth { place: Place::Sum }));
 
-// Integers, a move, and what is found of the widest pair. First 56 · (2^34 - 2)² + 49 · 2², times 24024 · (3 · 10000 + 3 · 1).
-// Then a cycle toward 0 is well, and a cycle more is too far, as the greatest numbers are.
-type Sum = ([i64; 3], [i64; 3], Option<Result<i128, Overwidth>>);
-
-static WIDEST: [Sum; 7] = [
-    (
-        [0; 3],
-        [0; 3],
-        Some(Ok(11_913_455_123_984_556_853_194_966_562_080)),
-    ),
-    (
-        [0, -1, 0],
-        [0; 3],
-        Some(Ok(11_912_497_769_817_028_148_149_667_362_080)),
-    ),
-    (
-        [0, 0, -1],
-        [0; 3],
-        Some(Ok(11_912_456_177_840_598_478_112_736_802_080)),
-    ),
-    ([1, 0, 0], [0; 3], TOO_WIDE),
-    ([0, 0, 1], [0; 3], TOO_WIDE),
-    (
-        [(1 << 30) - 1, 1 - (1 << 30), 0],
-        [(1 << 46) - 1; 3],
-        TOO_WIDE,
-    ),
-    (
-        [1 - (1 << 30), 0, (1 << 30) - 1],
-        [1 - (1 << 46); 3],
-        TOO_WIDE,
-    ),
-];
-
+// 56 · (2^34 - 2)² + 49 · 2², times 24024 · (3 · 10000 + 3 · 1)
 #[test]
 fn widest_pair_has_a_sum(rt: HostRuntime) -> Result<(), AllocError> {
     let arcs = arcs_of(rt.alloc(), 15)?;
@@ -419,44 +339,50 @@ fn widest_pair_has_a_sum(rt: HostRuntime) -> Result<(), AllocError> {
         assert!(rt; false, "the rows are in range");
         return Ok(());
     };
-    for row in WIDEST.iter() {
-        let (z, moved, found) = row;
-        assert_eq!(rt; pair_of(&arcs, &pair, z, moved), *found, "at {z:?}");
-    }
+    let found = pair_of(&arcs, &pair, &[0; 3], &[0; 3]);
+    assert_eq!(rt; found, Some(Ok(11_913_455_123_984_556_853_194_966_562_080)));
+    // A cycle toward 0 is well, and a cycle more is too far, as the greatest numbers are.
+    let end = (1 << 30) - 1;
+    assert_eq!(rt;
+        pair_of(&arcs, &pair, &[0, -1, 0], &[0; 3]),
+        Some(Ok(11_912_497_769_817_028_148_149_667_362_080))
+    );
+    assert_eq!(rt;
+        pair_of(&arcs, &pair, &[0, 0, -1], &[0; 3]),
+        Some(Ok(11_912_456_177_840_598_478_112_736_802_080))
+    );
+    assert_eq!(rt; pair_of(&arcs, &pair, &[1, 0, 0], &[0; 3]), TOO_WIDE);
+    assert_eq!(rt; pair_of(&arcs, &pair, &[0, 0, 1], &[0; 3]), TOO_WIDE);
+    assert_eq!(rt;
+        pair_of(&arcs, &pair, &[end, -end, 0], &[(1 << 46) - 1; 3]),
+        TOO_WIDE
+    );
+    assert_eq!(rt;
+        pair_of(&arcs, &pair, &[-end, 0, end], &[1 - (1 << 46); 3]),
+        TOO_WIDE
+    );
     Ok(())
-}
-
-static ONE_ROWS: [(i64, i64, Option<Result<i128, Overwidth>>); 7] = [
-    ((1 << 33) - 2, 0, Some(Ok(0))),
-    ((1 << 33) - 1, 0, TOO_WIDE),
-    (2 - (1 << 33), 0, Some(Ok(0))),
-    (1 - (1 << 33), 0, TOO_WIDE),
-    ((1 << 33) - (1 << 20) - 2, 1 << 20, Some(Ok(0))),
-    ((1 << 33) - (1 << 20) - 1, 1 << 20, TOO_WIDE),
-    (1 << 34, 1 << 20, TOO_WIDE),
-];
-
-// The sum of a pair of one row, where it is in range.
-fn sum_of_row(
-    alloc: Global,
-    arcs: &[Arc],
-    y: i64,
-    ry: i64,
-) -> Result<Option<Result<i128, Overwidth>>, AllocError> {
-    let Some(pair) = one_row(alloc, y, ry)? else {
-        return Ok(None);
-    };
-    Ok(pair_of(arcs, &pair, &[0; 3], &[0; 3]))
 }
 
 // A pair of one row adds nothing, and is refused like any other.
 #[test]
 fn one_row_may_be_too_wide(rt: HostRuntime) -> Result<(), AllocError> {
     let arcs = arcs_of(rt.alloc(), 2)?;
-    for row in ONE_ROWS.iter() {
-        let (y, ry, expected) = row;
-        let found = sum_of_row(rt.alloc(), &arcs, *y, *ry)?;
-        assert_eq!(rt; found, *expected, "at {y}, {ry}");
+    let cases = [
+        ((1 << 33) - 2, 0, Some(Ok(0))),
+        ((1 << 33) - 1, 0, TOO_WIDE),
+        (2 - (1 << 33), 0, Some(Ok(0))),
+        (1 - (1 << 33), 0, TOO_WIDE),
+        ((1 << 33) - (1 << 20) - 2, 1 << 20, Some(Ok(0))),
+        ((1 << 33) - (1 << 20) - 1, 1 << 20, TOO_WIDE),
+        (1 << 34, 1 << 20, TOO_WIDE),
+    ];
+    for (y, ry, expected) in cases {
+        let Some(pair) = one_row(rt.alloc(), y, ry)? else {
+            assert!(rt; false, "the row is in range");
+            return Ok(());
+        };
+        assert_eq!(rt; pair_of(&arcs, &pair, &[0; 3], &[0; 3]), expected);
     }
     Ok(())
 }
@@ -479,42 +405,23 @@ fn greatest_unit(rt: HostRuntime) -> Result<(), AllocError> {
     Ok(())
 }
 
-// Bands, and the integer of each signal.
-static BY_BANDS: [(u16, [i64; SIGNALS]); 3] = [
-    (12, [5, 7, 0, 0, 0, 0]),
-    (15, [5, 0, 0, 0, 7, 0]),
-    (125, [5, 7, 0, 0, 9, 0]),
-];
-
-// What isn't so of the integers of two arcs, of which the second is free.
-fn wrong_integers(arcs: &[Arc], bands: u16, expected: &[i64; SIGNALS]) -> Option<&'static str> {
-    let z = [5, 7, 9];
-    let signals = fine_signals(signals_of(bands));
-    if arcs.len() != 2 || free_arcs(arcs) > 20 || integer_count(arcs, signals) > z.len() {
-        return Some("the arcs");
-    }
-    for signal in 0..SIGNALS {
-        if integer_of(arcs, signals, &z, 1, signal) != expected[signal] {
-            return Some("an integer of the free arc");
-        }
-        if integer_of(arcs, signals, &z, 0, signal) != 0 {
-            return Some("an integer of the datum");
-        }
-    }
-    None
-}
-
 // The integers of an arc stand in the order of the phases that count: on L1 and L5 that of L5 is the second.
 #[test]
 fn integers_by_bands(rt: HostRuntime) -> Result<(), AllocError> {
     let arcs = arcs_of(rt.alloc(), 2)?;
-    for row in BY_BANDS.iter() {
-        assert_eq!(rt;
-            wrong_integers(&arcs, row.0, &row.1),
-            None,
-            "bands {}",
-            row.0
-        );
+    assert!(rt; arcs.len() == 2 && free_arcs(&arcs) <= 20);
+    let z = [5, 7, 9];
+    for (bands, expected) in [
+        (12, [5, 7, 0, 0, 0, 0]),
+        (15, [5, 0, 0, 0, 7, 0]),
+        (125, [5, 7, 0, 0, 9, 0]),
+    ] {
+        let signals = fine_signals(signals_of(bands));
+        assert!(rt; integer_count(&arcs, signals) <= z.len());
+        for signal in 0..SIGNALS {
+            assert_eq!(rt; integer_of(&arcs, signals, &z, 1, signal), expected[signal]);
+            assert_eq!(rt; integer_of(&arcs, signals, &z, 0, signal), 0);
+        }
     }
     Ok(())
 }

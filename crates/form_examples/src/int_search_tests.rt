@@ -128,38 +128,34 @@ fn answers_decorrelated(case: &Case, greater: u64) -> bool {
     spent && plain && is_answer(case, &best)
 }
 
-// 10000, -9900 and 9802 times 2^30, with nothing in the constant's column.
-static TWO_INTEGERS: Case = Case {
-    integers: 2,
-    entries: &[10000 << 30, -(9900 << 30), 0, 9802 << 30, 0, 0],
-    first: &[0, 0],
-    second: &[-1, -1],
-    values: (0, 2_147_483_648),
-    visits: 1000,
-    reduced_count: 1000,
-};
-
 #[test]
 fn two_integers(rt: HostRuntime) -> Result<(), Fail> {
-    let form = case_form(&TWO_INTEGERS).ok_or("a form")?;
-    let best = two_best(&form, TWO_INTEGERS.visits)?;
-    assert!(rt; is_answer(&TWO_INTEGERS, &best));
+    let entries = [10000 << 30, -(9900 << 30), 0, 9802 << 30, 0, 0];
+    let form = form(2, &entries).ok_or("a form")?;
+    if form.columns != 6 {
+        return Err("two integers".into());
+    }
+    let best = two_best(&form, 1000)?;
+    let first = best.first;
+    let second = best.second;
+    assert_eq!(rt; (first[0], first[1]), (0, 0));
+    assert_eq!(rt; (second[0], second[1]), (-1, -1));
+    assert_eq!(rt; (best.p1, best.p2), (0, 2_147_483_648));
     Ok(())
-}
-
-// The first case that isn't answered so.
-fn first_wrong(cases: &[Case]) -> Option<usize> {
-    cases.iter().position(|case| !answers(case))
 }
 
 #[test]
 fn small_forms_with_ties(rt: HostRuntime) {
-    assert_eq!(rt; first_wrong(&SMALL), None);
+    for case in &SMALL {
+        assert!(rt; answers(case));
+    }
 }
 
 #[test]
 fn forms_of_sessions(rt: HostRuntime) {
-    assert_eq!(rt; first_wrong(&SESSIONS), None);
+    for case in &SESSIONS {
+        assert!(rt; answers(case));
+    }
 }
 
 #[test]

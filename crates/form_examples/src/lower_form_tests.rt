@@ -45,126 +45,129 @@ fn session_over<const N: usize>(
     Ok(finished(session))
 }
 
-static TWO_PAIRS: [[Numbers; 3]; 2] = [
+fn radii_of(ry: i64, ru: i64, rows: &[(u16, [i64; SIGNALS], [i64; 3]); 3]) -> [Numbers; 3] {
+    let [(a, ya, ua), (b, yb, ub), (c, yc, uc)] = *rows;
     [
-        (
-            0,
-            [586400, 766580, -1039743, 819513, 0, 0],
-            700,
-            [-3880093, -6271095, 170088],
-            [32; 3],
-        ),
-        (
-            1,
-            [282820, -920273, -954951, -941849, 0, 0],
-            700,
-            [-4431913, 8235434, 6693809],
-            [32; 3],
-        ),
-        (
-            2,
-            [721909, -926771, -118734, 788057, 0, 0],
-            700,
-            [7457312, 4349165, -1343694],
-            [32; 3],
-        ),
-    ],
-    [
-        (
-            0,
-            [-80252, -130942, 879140, 166856, 0, 0],
-            700,
-            [-3622341, -6288833, 270437],
-            [32; 3],
-        ),
-        (
-            1,
-            [-268829, 194575, -541527, 346848, 0, 0],
-            700,
-            [-4671524, 8409686, 6536522],
-            [32; 3],
-        ),
-        (
-            2,
-            [143274, 1045900, 601268, -903765, 0, 0],
-            700,
-            [7637779, 4286092, -1287734],
-            [32; 3],
-        ),
-    ],
-];
+        (a, ya, ry, ua, [ru; 3]),
+        (b, yb, ry, ub, [ru; 3]),
+        (c, yc, ry, uc, [ru; 3]),
+    ]
+}
 
-static THREE_PAIRS: [[Numbers; 3]; 3] = [
+fn two_pairs() -> [[Numbers; 3]; 2] {
     [
-        (
-            0,
-            [-620865, -2808, -993572, -139546, 411205, -96],
-            2047,
-            [182704, 3641847, -7415355],
-            [24; 3],
+        radii_of(
+            700,
+            32,
+            &[
+                (
+                    0,
+                    [586400, 766580, -1039743, 819513, 0, 0],
+                    [-3880093, -6271095, 170088],
+                ),
+                (
+                    1,
+                    [282820, -920273, -954951, -941849, 0, 0],
+                    [-4431913, 8235434, 6693809],
+                ),
+                (
+                    2,
+                    [721909, -926771, -118734, 788057, 0, 0],
+                    [7457312, 4349165, -1343694],
+                ),
+            ],
         ),
-        (
-            1,
-            [584842, -379148, -746873, -466544, -27183, 8281],
-            2047,
-            [7235095, -31788, -6648702],
-            [24; 3],
+        radii_of(
+            700,
+            32,
+            &[
+                (
+                    0,
+                    [-80252, -130942, 879140, 166856, 0, 0],
+                    [-3622341, -6288833, 270437],
+                ),
+                (
+                    1,
+                    [-268829, 194575, -541527, 346848, 0, 0],
+                    [-4671524, 8409686, 6536522],
+                ),
+                (
+                    2,
+                    [143274, 1045900, 601268, -903765, 0, 0],
+                    [7637779, 4286092, -1287734],
+                ),
+            ],
         ),
-        (
-            2,
-            [-1041132, -1026292, -170053, -144783, 314159, -26535],
-            2047,
-            [-3125551, -4590047, 4086706],
-            [24; 3],
-        ),
-    ],
+    ]
+}
+
+fn three_pairs() -> [[Numbers; 3]; 3] {
     [
-        (
-            0,
-            [266973, -214374, -189669, -286603, -57721, 56649],
+        radii_of(
             2047,
-            [94473, 3554274, -7374141],
-            [24; 3],
+            24,
+            &[
+                (
+                    0,
+                    [-620865, -2808, -993572, -139546, 411205, -96],
+                    [182704, 3641847, -7415355],
+                ),
+                (
+                    1,
+                    [584842, -379148, -746873, -466544, -27183, 8281],
+                    [7235095, -31788, -6648702],
+                ),
+                (
+                    2,
+                    [-1041132, -1026292, -170053, -144783, 314159, -26535],
+                    [-3125551, -4590047, 4086706],
+                ),
+            ],
         ),
-        (
-            1,
-            [-958104, 466364, 691668, -352506, 141421, -35623],
+        radii_of(
             2047,
-            [7179393, 107906, -6597544],
-            [24; 3],
+            24,
+            &[
+                (
+                    0,
+                    [266973, -214374, -189669, -286603, -57721, 56649],
+                    [94473, 3554274, -7374141],
+                ),
+                (
+                    1,
+                    [-958104, 466364, 691668, -352506, 141421, -35623],
+                    [7179393, 107906, -6597544],
+                ),
+                (
+                    2,
+                    [343322, 215415, -1034387, 368666, -173205, 80757],
+                    [-3234916, -4575565, 3892865],
+                ),
+            ],
         ),
-        (
-            2,
-            [343322, 215415, -1034387, 368666, -173205, 80757],
+        radii_of(
             2047,
-            [-3234916, -4575565, 3892865],
-            [24; 3],
+            24,
+            &[
+                (
+                    0,
+                    [235150, 967815, 275956, -273581, 69314, -71805],
+                    [-203126, 3767587, -7194419],
+                ),
+                (
+                    1,
+                    [-809497, 25928, -952671, 451491, -223606, 79775],
+                    [7719995, 434908, -6803640],
+                ),
+                (
+                    2,
+                    [487313, 530014, -1010499, 850698, 264575, -13110],
+                    [-2801973, -5076445, 4440762],
+                ),
+            ],
         ),
-    ],
-    [
-        (
-            0,
-            [235150, 967815, 275956, -273581, 69314, -71805],
-            2047,
-            [-203126, 3767587, -7194419],
-            [24; 3],
-        ),
-        (
-            1,
-            [-809497, 25928, -952671, 451491, -223606, 79775],
-            2047,
-            [7719995, 434908, -6803640],
-            [24; 3],
-        ),
-        (
-            2,
-            [487313, 530014, -1010499, 850698, 264575, -13110],
-            2047,
-            [-2801973, -5076445, 4440762],
-            [24; 3],
-        ),
-    ],
-];
+    ]
+}
 
 // The factors row by row, each those of a column with the columns before it.
 fn factors_agree(form: &Form, l: &[i64]) -> bool {
@@ -247,51 +250,24 @@ const FINE_L: [i64; 28] = [
 
 const FINE_POINT: [i64; 7] = [-47286, -41076, -68629, 87104, 65910, 77482, 58398];
 
-// The form of a session of such pairs, where both are in range.
-fn lowered(
-    alloc: Global,
-    scale: u32,
-    signals: Signals,
-    pairs: &[[Numbers; 3]],
-) -> Result<Option<Form>, AllocError>
-    requires { (scale ≡ 0) ⊎ (scale ≡ 14) }
-{
-    match session_of(alloc, scale, signals, pairs)? {
-        Some(session) => Ok(lower(&sum(&session)).ok()),
-        None => Ok(None),
-    }
-}
-
-// What isn't so of the form of a fine session.
-fn wrong_fine(form: &Form) -> Option<&'static str> {
-    if !agrees(form, 37, 3268862075364, &FINE_D, &FINE_L) {
-        return Some("the form");
-    }
-    if form.columns != 8 {
-        return Some("the columns");
-    }
-    let z: [i64; 4] = [-5, 2, 9, 16];
-    if form.value(&z) != 14616769852822992 {
-        return Some("the value");
-    }
-    if form.baseline_of(&z).ok() != Some([-584900, -300359, 748825]) {
-        return Some("the baseline");
-    }
-    if float_agrees(form, &FINE_POINT) {
-        None
-    } else {
-        Some("the float point")
-    }
-}
-
 // A fine session: the form, its value at some integers, its float point and the baseline there, from an independent model.
 #[test]
 fn lowers_a_fine_session(rt: HostRuntime) -> Result<(), AllocError> {
-    let Some(form) = lowered(rt.alloc(), 0, L1_AND_L2, &TWO_PAIRS)? else {
+    let Some(session) = session_of(rt.alloc(), 0, L1_AND_L2, &two_pairs())? else {
         assert!(rt; false, "the session is in range");
         return Ok(());
     };
-    assert_eq!(rt; wrong_fine(&form), None);
+    let Ok(form) = lower(&sum(&session)) else {
+        assert!(rt; false, "the form is in range");
+        return Ok(());
+    };
+    assert!(rt; agrees(&form, 37, 3268862075364, &FINE_D, &FINE_L));
+    let z: [i64; 4] = [-5, 2, 9, 16];
+    if form.columns == 8 {
+        assert_eq!(rt; form.value(&z), 14616769852822992);
+        assert_eq!(rt; form.baseline_of(&z).ok(), Some([-584900, -300359, 748825]));
+    }
+    assert!(rt; float_agrees(&form, &FINE_POINT));
     Ok(())
 }
 
@@ -306,37 +282,25 @@ const COARSE_L: [i64; 6] = [
 
 const COARSE_POINT: [i64; 3] = [62752, -48657, 112129];
 
-// What isn't so of the form of a coarse session.
-fn wrong_coarse(form: &Form) -> Option<&'static str> {
-    let d = [495811042869822, 593061295834361, 287560927609];
-    if !agrees(form, 23, 799130316951, &d, &COARSE_L) {
-        return Some("the form");
-    }
-    if form.columns != 4 {
-        return Some("the columns");
-    }
-    let z: [i64; 0] = [];
-    if form.value(&z) != 799130316951 {
-        return Some("the value");
-    }
-    if form.baseline_of(&z).ok() != Some([62752, -48657, 112129]) {
-        return Some("the baseline");
-    }
-    if float_agrees(form, &COARSE_POINT) {
-        None
-    } else {
-        Some("the float point")
-    }
-}
-
 // The same rows by the code on L1 alone: the form, its value at some integers, its float point and the baseline there, from an independent model.
 #[test]
 fn lowers_a_coarse_session(rt: HostRuntime) -> Result<(), AllocError> {
-    let Some(form) = lowered(rt.alloc(), 14, L1_AND_L2, &TWO_PAIRS)? else {
+    let Some(session) = session_of(rt.alloc(), 14, L1_AND_L2, &two_pairs())? else {
         assert!(rt; false, "the session is in range");
         return Ok(());
     };
-    assert_eq!(rt; wrong_coarse(&form), None);
+    let Ok(form) = lower(&sum(&session)) else {
+        assert!(rt; false, "the form is in range");
+        return Ok(());
+    };
+    let d = [495811042869822, 593061295834361, 287560927609];
+    assert!(rt; agrees(&form, 23, 799130316951, &d, &COARSE_L));
+    let z: [i64; 0] = [];
+    if form.columns == 4 {
+        assert_eq!(rt; form.value(&z), 799130316951);
+        assert_eq!(rt; form.baseline_of(&z).ok(), Some([62752, -48657, 112129]));
+    }
+    assert!(rt; float_agrees(&form, &COARSE_POINT));
     Ok(())
 }
 
@@ -402,95 +366,82 @@ const THREE_L: [i64; 45] = [
 
 const THREE_POINT: [i64; 9] = [-78327, -154569, -141017, 9296, 7886, 7709, 6666, 3779, 5085];
 
-// What isn't so of the form of a session of three bands.
-fn wrong_three(form: &Form) -> Option<&'static str> {
-    if !agrees(form, 38, 2388094234167, &THREE_D, &THREE_L) {
-        return Some("the form");
-    }
-    if form.columns != 10 {
-        return Some("the columns");
-    }
-    let z: [i64; 6] = [-5, 2, 9, 16, -23, 30];
-    if form.value(&z) != 507725031356452889 {
-        return Some("the value");
-    }
-    if form.baseline_of(&z).ok() != Some([-481573, -534893, -1095346]) {
-        return Some("the baseline");
-    }
-    if float_agrees(form, &THREE_POINT) {
-        None
-    } else {
-        Some("the float point")
-    }
-}
-
 // A fine session of three bands with wider radii: the form, its value at some integers, its float point and the baseline there, from an independent model.
 #[test]
 fn lowers_a_session_of_three_bands(rt: HostRuntime) -> Result<(), AllocError> {
-    let Some(form) = lowered(rt.alloc(), 0, THREE_BANDS, &THREE_PAIRS)? else {
+    let Some(session) = session_of(rt.alloc(), 0, THREE_BANDS, &three_pairs())? else {
         assert!(rt; false, "the session is in range");
         return Ok(());
     };
-    assert_eq!(rt; wrong_three(&form), None);
+    let Ok(form) = lower(&sum(&session)) else {
+        assert!(rt; false, "the form is in range");
+        return Ok(());
+    };
+    assert!(rt; agrees(&form, 38, 2388094234167, &THREE_D, &THREE_L));
+    let z: [i64; 6] = [-5, 2, 9, 16, -23, 30];
+    if form.columns == 10 {
+        assert_eq!(rt; form.value(&z), 507725031356452889);
+        assert_eq!(rt;
+            form.baseline_of(&z).ok(),
+            Some([-481573, -534893, -1095346])
+        );
+    }
+    assert!(rt; float_agrees(&form, &THREE_POINT));
     Ok(())
 }
 
-// Why a session has no form, by `lower` and by `front` alone, where the session is in range.
-fn faults(session: Option<Session>) -> Option<(Option<LowerFault>, Option<LowerFault>)> {
-    session.map(|s| (lower(&sum(&s)).err(), front(&sum(&s)).err()))
-}
-
-// Rows that are all 0.
-static WEAK: [[Numbers; 3]; 1] = [[
-    (0, [262_144, 0, 0, 0, 0, 0], 0, [0; 3], [0; 3]),
-    (1, [0; SIGNALS], 0, [0; 3], [0; 3]),
-    (2, [0; SIGNALS], 0, [0; 3], [0; 3]),
-]];
-
-// No pivot of the baseline's columns is left, and the first is less by the number of columns.
+// Rows that are all 0: no pivot of the baseline's columns is left, and the first is less by the number of columns.
 #[test]
 fn refuses_a_weak_session(rt: HostRuntime) -> Result<(), AllocError> {
-    let session = session_of(rt.alloc(), 0, L1_AND_L2, &WEAK)?;
+    let rows = [
+        (0, [262_144, 0, 0, 0, 0, 0], 0, [0; 3], [0; 3]),
+        (1, [0; SIGNALS], 0, [0; 3], [0; 3]),
+        (2, [0; SIGNALS], 0, [0; 3], [0; 3]),
+    ];
+    let Some(session) = session_of(rt.alloc(), 0, L1_AND_L2, &[rows])? else {
+        assert!(rt; false, "the session is in range");
+        return Ok(());
+    };
     let weak = LowerFault::Weak {
         column: 0,
         pivot: -8,
     };
-    assert_eq!(rt; faults(session), Some((Some(weak), Some(weak))));
+    assert_eq!(rt; lower(&sum(&session)).err(), Some(weak));
+    assert_eq!(rt; front(&sum(&session)).err(), Some(weak));
     Ok(())
 }
-
-static WEAKEST: [[Numbers; 2]; 1] = [[
-    (0, [0; SIGNALS], 0, [0; 3], [0; 3]),
-    (1, [0; SIGNALS], 0, [0; 3], [0; 3]),
-]];
 
 // Two arcs of which nothing is known, as a certificate may have them: of six columns the first pivot is -6.
 #[test]
 fn refuses_the_weakest_session(rt: HostRuntime) -> Result<(), AllocError> {
+    let nothing = |arc| (arc, [0; SIGNALS], 0, [0; 3], [0; 3]);
     let arcs = vec![in rt.alloc(); arc(3, true, 9), arc(5, false, 9)]?;
-    let session = session_over(rt.alloc(), 0, L1_AND_L2, arcs, &WEAKEST)?;
+    let pairs = [[nothing(0), nothing(1)]];
+    let Some(session) = session_over(rt.alloc(), 0, L1_AND_L2, arcs, &pairs)? else {
+        assert!(rt; false, "the session is in range");
+        return Ok(());
+    };
     let weak = LowerFault::Weak {
         column: 0,
         pivot: -6,
     };
-    assert_eq!(rt; session.map(|s| lower(&sum(&s)).err()), Some(Some(weak)));
+    assert_eq!(rt; lower(&sum(&session)).err(), Some(weak));
     Ok(())
 }
-
-static WIDE: [[Numbers; 3]; 1] = [[
-    (0, [0; SIGNALS], 1 << 20, [0; 3], [0; 3]),
-    (1, [0; SIGNALS], 1 << 20, [0; 3], [0; 3]),
-    (2, [0; SIGNALS], 1 << 20, [0; 3], [0; 3]),
-]];
 
 // The greatest radii, one pair: the entry of the constant is past 2^52 in size before the first pivot, which is weak, is seen.
 #[test]
 fn refuses_the_greatest_radii(rt: HostRuntime) -> Result<(), AllocError> {
-    let session = session_of(rt.alloc(), 0, L1_AND_L2, &WIDE)?;
+    let wide = |arc| (arc, [0; SIGNALS], 1 << 20, [0; 3], [0; 3]);
+    let pairs = [[wide(0), wide(1), wide(2)]];
+    let Some(session) = session_of(rt.alloc(), 0, L1_AND_L2, &pairs)? else {
+        assert!(rt; false, "the session is in range");
+        return Ok(());
+    };
     let entry = LowerFault::Overwidth {
         place: Place::Entry,
     };
-    assert_eq!(rt; session.map(|s| lower(&sum(&s)).err()), Some(Some(entry)));
+    assert_eq!(rt; lower(&sum(&session)).err(), Some(entry));
     Ok(())
 }
 
@@ -513,39 +464,29 @@ fn fault_of(columns: usize, entries: &[(usize, usize, i64)]) -> Option<LowerFaul
     form_of(columns, entries).and_then(|f| finish(&f).err())
 }
 
-// The columns and the entries of a form, and why it is refused.
-static FAULTS: [(usize, &[(usize, usize, i64)], Option<LowerFault>); 4] = [
-    (
-        5,
-        &[(0, 0, 1 << 20), (0, 1, 1 << 51)],
-        Some(LowerFault::Overwidth {
-            place: Place::Factor,
-        }),
-    ),
-    (
-        5,
-        &[(0, 0, 1 << 20), (0, 1, 1 << 41)],
-        Some(LowerFault::Overwidth {
-            place: Place::Entry,
-        }),
-    ),
-    (
-        5,
-        &[(0, 0, (1 << 20) - 1), (0, 1, 5)],
-        Some(LowerFault::Weak {
-            column: 3,
-            pivot: (1 << 20) - 1,
-        }),
-    ),
-    (4, &[(0, 0, -6)], None),
-];
-
 #[test]
 fn tells_why_a_form_is_refused(rt: HostRuntime) {
-    for row in FAULTS.iter() {
-        let (columns, entries, fault) = row;
-        assert_eq!(rt; fault_of(*columns, *entries), *fault, "{entries:?}");
-    }
+    let factor = [(0, 0, 1 << 20), (0, 1, 1 << 51)];
+    let entry = [(0, 0, 1 << 20), (0, 1, 1 << 41)];
+    let weak = [(0, 0, (1 << 20) - 1), (0, 1, 5)];
+    let least = LowerFault::Weak {
+        column: 3,
+        pivot: (1 << 20) - 1,
+    };
+    assert_eq!(rt;
+        fault_of(5, &factor),
+        Some(LowerFault::Overwidth {
+            place: Place::Factor
+        })
+    );
+    assert_eq!(rt;
+        fault_of(5, &entry),
+        Some(LowerFault::Overwidth {
+            place: Place::Entry
+        })
+    );
+    assert_eq!(rt; fault_of(5, &weak), Some(least));
+    assert_eq!(rt; fault_of(4, &[(0, 0, -6)]), None);
 }
 
 // Two integers whose factors are so large that the number of the first is 2^46 or more in size.

@@ -9,36 +9,23 @@ use normal_sum::{Normal, sum, sum_pair};
 use obs_rows::{SIGNALS, Session, Signals, fine_signals, has_its_arcs};
 use std::alloc::{AllocError, Global};
 
-static TWO_SATELLITES: [Numbers; 2] = [
-    (0, [262_144, 0, 0, 0, 0, 0], 0, [0; 3], [0; 3]),
-    (1, [0; 6], 0, [0; 3], [0; 3]),
-];
-
-// What isn't so of the sum of one pair of two satellites.
-fn wrong_pair_sum(alloc: Global) -> Result<Option<&'static str>, AllocError> {
-    let arcs = [arc(3, true, 1), arc(5, false, 1)];
-    let Some(pair) = pair_of(alloc, 0, &TWO_SATELLITES)? else {
-        return Ok(Some("the pair"));
-    };
-    if !has_its_arcs(&arcs, &pair) {
-        return Ok(Some("the arcs"));
-    }
-    let normal = sum_pair(&arcs, L1_AND_L2, 0, &pair);
-    Ok(if normal.columns != 6 {
-        Some("the columns")
-    } else if normal.c.at(5, 5) != 123_818_753_182_924_800_000 {
-        Some("the constant's own entry")
-    } else if normal.c.at(0, 0) != 0 {
-        Some("the first entry")
-    } else {
-        None
-    })
-}
-
 // Two satellites whose phases on L1 are 2^18 units apart: F = 180180 · 10000 · 2^36, the constant's own entry.
 #[test]
 fn sums_two_satellites(rt: HostRuntime) -> Result<(), AllocError> {
-    assert_eq!(rt; wrong_pair_sum(rt.alloc())?, None);
+    let arcs = [arc(3, true, 1), arc(5, false, 1)];
+    let rows = [
+        (0, [262_144, 0, 0, 0, 0, 0], 0, [0; 3], [0; 3]),
+        (1, [0; 6], 0, [0; 3], [0; 3]),
+    ];
+    let Some(pair) = pair_of(rt.alloc(), 0, &rows)? else {
+        assert!(rt; false, "the rows are in range");
+        return Ok(());
+    };
+    assert!(rt; has_its_arcs(&arcs, &pair));
+    let normal = sum_pair(&arcs, L1_AND_L2, 0, &pair);
+    assert_eq!(rt; normal.columns, 6);
+    assert_eq!(rt; normal.c.at(5, 5), 123_818_753_182_924_800_000);
+    assert_eq!(rt; normal.c.at(0, 0), 0);
     Ok(())
 }
 
@@ -52,59 +39,59 @@ fn used_of(row: &Numbers, signals: Signals) -> Numbers {
     (arc, used, ry, u, ru)
 }
 
-static FIRST: [Numbers; 3] = [
-    (
-        0,
-        [262_144, -77, 1_000_000, 5, -1_000_001, 7000],
-        1024,
-        [9_000_000, -8_000_000, 1000],
-        [32, 31, 30],
-    ),
-    (
-        1,
-        [-12_345_678, 98_765_432, -55, 44, 33, -2_222_222],
-        2048,
-        [-7_000_000, 3_000_000, 14_000_000],
-        [1, 2, 3],
-    ),
-    (
-        2,
-        [
-            17_179_869_184,
-            -17_179_869_184,
-            3,
-            -4,
-            17_179_869_184,
-            -17_179_869_184,
-        ],
-        1_048_576,
-        [16_777_216, -16_777_216, 5],
-        [1_048_576, 0, 7],
-    ),
-];
-
-static SECOND: [Numbers; 2] = [
-    (0, [1, 2, 3, 4, 5, 6], 5, [6, 7, 8], [9, 10, 11]),
-    (
-        2,
-        [-1, 20, -300, 4000, -50_000, 600_000],
-        50_000,
-        [600_000, -7_000_000, 8_000_000],
-        [0, 1, 2],
-    ),
-];
-
 // Two pairs of three and two satellites, with numbers at the ends of their ranges.
 fn session_at(alloc: Global, scale: u32, signals: Signals) -> Result<Option<Session>, AllocError>
     requires { (scale ≡ 0) ⊎ (scale ≡ 14) }
 {
     let arcs = vec![in alloc; arc(3, true, 1), arc(5, false, 1), arc(9, false, 1)]?;
     let first = [
-        used_of(&FIRST[0], signals),
-        used_of(&FIRST[1], signals),
-        used_of(&FIRST[2], signals),
+        (
+            0,
+            [262_144, -77, 1_000_000, 5, -1_000_001, 7000],
+            1024,
+            [9_000_000, -8_000_000, 1000],
+            [32, 31, 30],
+        ),
+        (
+            1,
+            [-12_345_678, 98_765_432, -55, 44, 33, -2_222_222],
+            2048,
+            [-7_000_000, 3_000_000, 14_000_000],
+            [1, 2, 3],
+        ),
+        (
+            2,
+            [
+                17_179_869_184,
+                -17_179_869_184,
+                3,
+                -4,
+                17_179_869_184,
+                -17_179_869_184,
+            ],
+            1_048_576,
+            [16_777_216, -16_777_216, 5],
+            [1_048_576, 0, 7],
+        ),
     ];
-    let second = [used_of(&SECOND[0], signals), used_of(&SECOND[1], signals)];
+    let second = [
+        (0, [1, 2, 3, 4, 5, 6], 5, [6, 7, 8], [9, 10, 11]),
+        (
+            2,
+            [-1, 20, -300, 4000, -50_000, 600_000],
+            50_000,
+            [600_000, -7_000_000, 8_000_000],
+            [0, 1, 2],
+        ),
+    ];
+    let [a, b, c] = first;
+    let [d, e] = second;
+    let first = [
+        used_of(&a, signals),
+        used_of(&b, signals),
+        used_of(&c, signals),
+    ];
+    let second = [used_of(&d, signals), used_of(&e, signals)];
     let Some(mut session) = session_with(alloc, scale, signals, arcs) else {
         return Ok(None);
     };
@@ -170,33 +157,7 @@ fn agrees(normal: &Normal, expected: &[(usize, usize, i128)]) -> bool {
     true
 }
 
-// What isn't so of the sum of such a session: its columns, its entries, the radii.
-fn wrong_sum(
-    alloc: Global,
-    scale: u32,
-    signals: Signals,
-    columns: usize,
-    entries: &[(usize, usize, i128)],
-    radii: &[i128; 4],
-) -> Result<Option<&'static str>, AllocError>
-    requires { (scale ≡ 0) ⊎ (scale ≡ 14) }
-{
-    let Some(session) = session_at(alloc, scale, signals)? else {
-        return Ok(Some("the session"));
-    };
-    let normal = sum(&session);
-    Ok(if normal.columns != columns {
-        Some("the columns")
-    } else if !agrees(&normal, entries) {
-        Some("an entry")
-    } else if normal.r != *radii {
-        Some("the radii")
-    } else {
-        None
-    })
-}
-
-static FINE_ENTRIES: [(usize, usize, i128); 32] = [
+const FINE_ENTRIES: [(usize, usize, i128); 32] = [
     (0, 0, 2_120_044_286_510_297_675_367_840),
     (0, 1, -1_731_845_633_100_914_030_459_760),
     (0, 2, -1_320_665_802_254_276_182_024_320),
@@ -234,18 +195,26 @@ static FINE_ENTRIES: [(usize, usize, i128); 32] = [
 // Of the bands L1 and L2.
 #[test]
 fn sums_a_fine_session(rt: HostRuntime) -> Result<(), AllocError> {
-    let radii = [
-        7_925_192_651_699_518_235_040,
-        7_683_643_487_520,
-        7_806_178_139_760,
-        7_943_250_235_971_140_410_320,
-    ];
-    let wrong = wrong_sum(rt.alloc(), 0, L1_AND_L2, 8, &FINE_ENTRIES, &radii)?;
-    assert_eq!(rt; wrong, None);
+    let Some(session) = session_at(rt.alloc(), 0, L1_AND_L2)? else {
+        assert!(rt; false, "the session is in range");
+        return Ok(());
+    };
+    let normal = sum(&session);
+    assert_eq!(rt; normal.columns, 8);
+    assert!(rt; agrees(&normal, &FINE_ENTRIES));
+    assert_eq!(rt;
+        normal.r,
+        [
+            7_925_192_651_699_518_235_040,
+            7_683_643_487_520,
+            7_806_178_139_760,
+            7_943_250_235_971_140_410_320
+        ]
+    );
     Ok(())
 }
 
-static L1_L5_ENTRIES: [(usize, usize, i128); 32] = [
+const L1_L5_ENTRIES: [(usize, usize, i128); 32] = [
     (0, 0, 2_120_044_286_510_297_675_367_840),
     (0, 1, -1_731_845_633_100_914_030_459_760),
     (0, 2, -1_320_665_802_254_276_182_024_320),
@@ -283,18 +252,26 @@ static L1_L5_ENTRIES: [(usize, usize, i128); 32] = [
 // The integer of an arc on L5 stands after that on L1.
 #[test]
 fn sums_a_session_of_l1_and_l5(rt: HostRuntime) -> Result<(), AllocError> {
-    let radii = [
-        7_925_192_651_699_518_235_040,
-        7_683_643_487_520,
-        7_806_178_139_760,
-        7_943_250_235_971_140_410_320,
-    ];
-    let wrong = wrong_sum(rt.alloc(), 0, L1_AND_L5, 8, &L1_L5_ENTRIES, &radii)?;
-    assert_eq!(rt; wrong, None);
+    let Some(session) = session_at(rt.alloc(), 0, L1_AND_L5)? else {
+        assert!(rt; false, "the session is in range");
+        return Ok(());
+    };
+    let normal = sum(&session);
+    assert_eq!(rt; normal.columns, 8);
+    assert!(rt; agrees(&normal, &L1_L5_ENTRIES));
+    assert_eq!(rt;
+        normal.r,
+        [
+            7_925_192_651_699_518_235_040,
+            7_683_643_487_520,
+            7_806_178_139_760,
+            7_943_250_235_971_140_410_320
+        ]
+    );
     Ok(())
 }
 
-static THREE_ENTRIES: [(usize, usize, i128); 43] = [
+const THREE_ENTRIES: [(usize, usize, i128); 43] = [
     (0, 0, 3_180_066_429_765_446_513_051_760),
     (0, 1, -2_597_768_449_651_371_045_689_640),
     (0, 2, -1_980_998_703_381_414_273_036_480),
@@ -343,18 +320,26 @@ static THREE_ENTRIES: [(usize, usize, i128); 43] = [
 // Three integers for each free arc: on L1, L2 and L5.
 #[test]
 fn sums_a_session_of_three_bands(rt: HostRuntime) -> Result<(), AllocError> {
-    let radii = [
-        11_887_788_977_549_277_352_560,
-        11_525_465_231_280,
-        11_709_267_209_640,
-        11_914_875_353_956_710_615_480,
-    ];
-    let wrong = wrong_sum(rt.alloc(), 0, THREE_BANDS, 10, &THREE_ENTRIES, &radii)?;
-    assert_eq!(rt; wrong, None);
+    let Some(session) = session_at(rt.alloc(), 0, THREE_BANDS)? else {
+        assert!(rt; false, "the session is in range");
+        return Ok(());
+    };
+    let normal = sum(&session);
+    assert_eq!(rt; normal.columns, 10);
+    assert!(rt; agrees(&normal, &THREE_ENTRIES));
+    assert_eq!(rt;
+        normal.r,
+        [
+            11_887_788_977_549_277_352_560,
+            11_525_465_231_280,
+            11_709_267_209_640,
+            11_914_875_353_956_710_615_480
+        ]
+    );
     Ok(())
 }
 
-static COARSE_ENTRIES: [(usize, usize, i128); 10] = [
+const COARSE_ENTRIES: [(usize, usize, i128); 10] = [
     (0, 0, 105_991_615_163_998_483_920),
     (0, 1, -86_583_623_292_716_429_880),
     (0, 2, -66_026_687_443_969_412_160),
@@ -370,14 +355,22 @@ static COARSE_ENTRIES: [(usize, usize, i128); 10] = [
 // Of the code on L1 alone.
 #[test]
 fn sums_a_coarse_session(rt: HostRuntime) -> Result<(), AllocError> {
-    let radii = [
-        396_220_010_583_917_520,
-        384_143_760,
-        390_269_880,
-        397_122_799_518_605_160,
-    ];
-    let wrong = wrong_sum(rt.alloc(), 14, L1_AND_L2, 4, &COARSE_ENTRIES, &radii)?;
-    assert_eq!(rt; wrong, None);
+    let Some(session) = session_at(rt.alloc(), 14, L1_AND_L2)? else {
+        assert!(rt; false, "the session is in range");
+        return Ok(());
+    };
+    let normal = sum(&session);
+    assert_eq!(rt; normal.columns, 4);
+    assert!(rt; agrees(&normal, &COARSE_ENTRIES));
+    assert_eq!(rt;
+        normal.r,
+        [
+            396_220_010_583_917_520,
+            384_143_760,
+            390_269_880,
+            397_122_799_518_605_160
+        ]
+    );
     Ok(())
 }
 
@@ -389,7 +382,7 @@ fn has_entries(normal: &Normal, expected: &[(usize, usize, i128)]) -> bool {
         && normal.c.at(e.1, e.0) == e.2)
 }
 
-static GREATEST_ENTRIES: [(usize, usize, i128); 13] = [
+const GREATEST_ENTRIES: [(usize, usize, i128); 13] = [
     (0, 0, 146_077_150_809_186_347_557_847_040_000),
     (0, 1, -146_077_150_809_186_347_557_847_040_000),
     (0, 2, 2_085_657_097_664_493_962_353_704_960),
@@ -405,26 +398,16 @@ static GREATEST_ENTRIES: [(usize, usize, i128); 13] = [
     (63, 63, 171_553_753_825_320_589_606_035_059_952_844_800),
 ];
 
-// What isn't so of the sum of the greatest session.
-fn wrong_greatest(alloc: Global) -> Result<Option<&'static str>, AllocError> {
-    let Some(session) = greatest_session(alloc)? else {
-        return Ok(Some("the session"));
-    };
-    let normal = sum(&session);
-    Ok(if normal.columns != 64 {
-        Some("the columns")
-    } else if !has_entries(&normal, &GREATEST_ENTRIES) {
-        Some("an entry")
-    } else if normal.r != [641_940_604_141_932_191_416_320_000; 4] {
-        Some("the radii")
-    } else {
-        None
-    })
-}
-
 // Some entries of the greatest session.
 #[test]
 fn sums_the_greatest_session(rt: HostRuntime) -> Result<(), AllocError> {
-    assert_eq!(rt; wrong_greatest(rt.alloc())?, None);
+    let Some(session) = greatest_session(rt.alloc())? else {
+        assert!(rt; false, "the session is in range");
+        return Ok(());
+    };
+    let normal = sum(&session);
+    assert_eq!(rt; normal.columns, 64);
+    assert!(rt; has_entries(&normal, &GREATEST_ENTRIES));
+    assert_eq!(rt; normal.r, [641_940_604_141_932_191_416_320_000; 4]);
     Ok(())
 }

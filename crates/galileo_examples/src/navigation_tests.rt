@@ -3,6 +3,7 @@ use decimal_text::Dec;
 use gal_nav::{NavFault, read_gal_nav};
 use rinex_head::{At, What};
 use std::alloc::{AllocError, Global};
+use std::test::Fail;
 
 const FIRST: &str =
     "     3.04           N: GNSS NAV DATA    M: Mixed            RINEX VERSION / TYPE\n";
@@ -29,94 +30,49 @@ fn text_of(alloc: Global, parts: &[&str]) -> Result<String, AllocError> {
     Ok(text)
 }
 
-const OTHER: &str = "G07 2016 04 06 20 00 00 anything\n     and anything behind it\n";
-
-// What isn't so of the file of the one record.
-fn wrong_record(alloc: Global) -> Result<Option<&'static str>, AllocError> {
-    let text = text_of(alloc, &[FIRST, END, OTHER, RECORD])?;
-    if text.len() >= 5_000 {
-        return Ok(Some("the length"));
-    }
-    let Ok(file) = read_gal_nav(alloc, text.as_bytes()) else {
-        return Ok(Some("the file is refused"));
-    };
-    let [raw] = file.all() else {
-        return Ok(Some("the records"));
-    };
-    let numbers = [raw.af0, raw.root_a, raw.toe_s, raw.week, raw.health];
-    Ok(if file.fit().len() != 1 {
-        Some("the usable records")
-    } else if raw.sat != 8 {
-        Some("the satellite")
-    } else if numbers != NUMBERS {
-        Some("a number")
-    } else {
-        None
-    })
-}
-
-// The clock, the root of the axis, the time, the week and the health.
-const NUMBERS: [Dec; 5] = [
-    Dec {
-        mant: 978_251_919_150,
-        exp: -15,
-    },
-    Dec {
-        mant: 544_062_406_921,
-        exp: -8,
-    },
-    Dec {
-        mant: 332_400_000_000,
-        exp: -6,
-    },
-    Dec {
-        mant: 189_100_000_000,
-        exp: -8,
-    },
-    Dec { mant: 0, exp: -12 },
-];
-
 #[test]
-fn reads_a_real_record(rt: HostRuntime) -> Result<(), AllocError> {
-    assert_eq!(rt; wrong_record(rt.alloc())?, None);
+fn reads_a_real_record(rt: HostRuntime) -> Result<(), Fail> {
+    let other = "G07 2016 04 06 20 00 00 anything\n     and anything behind it\n";
+    let text = text_of(rt.alloc(), &[FIRST, END, other, RECORD])?;
+    assert!(rt; text.len() < 5_000);
+    let file = read_gal_nav(rt.alloc(), text.as_bytes())?;
+    assert_eq!(rt; file.fit().len(), 1);
+    let [raw] = file.all() else {
+        panic!(&rt; "no record");
+    };
+    assert_eq!(rt; raw.sat, 8);
+    let rows: [(Dec, i64, i32); 5] = [
+        (raw.af0, 978_251_919_150, -15),
+        (raw.root_a, 544_062_406_921, -8),
+        (raw.toe_s, 332_400_000_000, -6),
+        (raw.week, 189_100_000_000, -8),
+        (raw.health, 0, -12),
+    ];
+    for (found, mant, exp) in rows {
+        assert_eq!(rt; found, Dec { mant, exp }, "at {mant}");
+    }
     Ok(())
 }
 
-const OF_GPS: &str =
-    "     3.04           N: GNSS NAV DATA    G                   RINEX VERSION / TYPE\n";
-
-const OLD: &str =
-    "     2.11           NAVIGATION DATA                         RINEX VERSION / TYPE\n";
-
-// The first line, the head of the record, whether the rest of it is there, and where the file is refused.
-type Row = (&'static str, &'static str, bool, Option<(u32, u32, What)>);
-
-static SATS: [Row; 6] = [
-    (FIRST, "E36", true, None),
-    (FIRST, "E37", true, Some((3, 1, What::BadSat))),
-    (FIRST, "G37", true, None),
-    (OF_GPS, "E36", true, Some((1, 41, What::Kind))),
-    (OLD, "E36", true, Some((1, 1, What::Version))),
-    (FIRST, "E36 2016", false, Some((3, 10, What::BadField))),
-];
-
-// Whether such a file is read, or refused there.
-fn is_read_so(alloc: Global, row: &Row) -> Result<bool, AllocError> {
-    let (first, head, is_whole, place) = *row;
-    let (_, behind) = RECORD.split_at(3);
-    let rest = if is_whole { behind } else { "" };
-    let text = text_of(alloc, &[first, END, head, rest])?;
-    if text.len() >= 5_000 {
-        return Ok(false);
-    }
-    let want = place.map(|(line, column, what)| NavFault::Refused(At { line, column, what }));
-    Ok(read_gal_nav(alloc, text.as_bytes()).err() == want)
-}
-
 #[test]
-fn takes_numbers_to_36(rt: HostRuntime) -> Result<(), AllocError> {
-    for row in SATS.iter() {
-        assert!(rt; is_read_so(rt.alloc(), row)?, "{row:?}");
+fn takes_numbers_to_36(rt: HostRuntime) -> Result<(), Fail> {
+    let of_gps =
+        "     3.04           N: GNSS NAV DATA    G                   RINEX VERSION / TYPE\n";
+    let old = "     2.11           NAVIGATION DATA                         RINEX VERSION / TYPE\n";
+    let (_, behind) = RECORD.split_at(3);
+    let cases: [([&str; 4], Option<(u32, u32, What)>); 6] = [
+        ([FIRST, END, "E36", behind], None),
+        ([FIRST, END, "E37", behind], Some((3, 1, What::BadSat))),
+        ([FIRST, END, "G37", behind], None),
+        ([of_gps, END, "E36", behind], Some((1, 41, What::Kind))),
+        ([old, END, "E36", behind], Some((1, 1, What::Version))),
+        ([FIRST, END, "E36 2016", ""], Some((3, 10, What::BadField))),
+    ];
+    for (parts, place) in cases {
+        let text = text_of(rt.alloc(), &parts)?;
+        assert!(rt; text.len() < 5_000);
+        let want = place.map(|(line, column, what)| NavFault::Refused(At { line, column, what }));
+        assert_eq!(rt; read_gal_nav(rt.alloc(), text.as_bytes()).err(), want);
     }
     Ok(())
 }

@@ -16,6 +16,7 @@ use row_build::rows_at;
 use run_options::Options;
 use signal_travel::is_receiver_point;
 use std::alloc::Global;
+use std::process::Abort;
 use std::test::Fail;
 
 // The base and the offset that seed 1 draws, (-165,680, 943,607, -659,500) mm, in 0.1 mm.
@@ -26,18 +27,20 @@ const RATIO: u32 = 2000;
 const BUDGET: u64 = 1_000_000;
 
 // The fine session at a point, with the shifts of each arc's first pair.
-fn session_at(alloc: Global, files: &Files, point: &[i64; 3]) -> Result<Session, Fail>
+fn session_at(
+    rt: &impl Abort,
+    alloc: Global,
+    files: &Files,
+    point: &[i64; 3],
+) -> Result<Session, Fail>
     requires cut { IsCutOf files.now.rounds.screened.used files.now.rounds.kept }
     requires halves { AreBaseHalves files.now.rounds.screened.boxes files.now.rounds.position files.now.rounds.halves.items }
     ensures { IfOk result (λ s. s.scale ≡ 0) }
 {
-    if !is_receiver_point(point) {
-        return Err("no receiver's point".into());
-    }
+    assert!(rt; is_receiver_point(point));
     let arcs = with_shifts(alloc, files, point)?;
-    if !are_arcs(&arcs) || !are_used(files.rounds.signals, &arcs) {
-        return Err("no arcs".into());
-    }
+    assert!(rt; are_arcs(&arcs));
+    assert!(rt; are_used(files.rounds.signals, &arcs));
     let session = rows_at(
         alloc,
         &files.rounds.screened,
@@ -62,20 +65,19 @@ fn decided(session: &Session) -> Option<Tail>
     Some(decide_settled(session, &form, RATIO, BUDGET))
 }
 
-fn verdict_on(alloc: Global, text: &[u8]) -> Result<Verdict, Fail> {
-    if text.len() > 67_108_864 {
-        return Err("the text is too long".into());
-    }
+fn verdict_on(rt: &impl Abort, alloc: Global, text: &[u8]) -> Result<Verdict, Fail> {
+    assert!(rt; text.len() <= 67_108_864);
     let cert = read_cert(alloc, text)?;
     Ok(check(&cert))
 }
 
-// The text of the certificate of the session at the rover's true place.
-fn text_at_the_true_place(alloc: Global) -> Result<Vec<u8>, Fail> {
-    let files = files_of(alloc, 1, 60, 8, &Options::defaults())?;
-    let session = session_at(alloc, &files, &TRUE_PLACE)?;
+#[test]
+fn certified_at_the_true_place(rt: HostRuntime) -> Result<(), Fail> {
+    let alloc = rt.alloc();
+    let files = files_of(&rt, alloc, 1, 60, 8, &Options::defaults())?;
+    let session = session_at(&rt, alloc, &files, &TRUE_PLACE)?;
     let Some(tail) = decided(&session) else {
-        return Err("the rows have no form".into());
+        panic!(&rt; "the rows have no form");
     };
     let cert = Cert {
         ratio: RATIO,
@@ -85,19 +87,12 @@ fn text_at_the_true_place(alloc: Global) -> Result<Vec<u8>, Fail> {
     };
     let mut text = Vec::new(alloc);
     write_cert(alloc, &mut text, &cert)?;
-    Ok(text)
-}
-
-#[test]
-fn certified_at_the_true_place(rt: HostRuntime) -> Result<(), Fail> {
-    let alloc = rt.alloc();
-    let text = text_at_the_true_place(alloc)?;
-    assert_eq!(rt; verdict_on(alloc, &text)?, Verdict::Certified);
+    assert_eq!(rt; verdict_on(&rt, alloc, &text)?, Verdict::Certified);
     let Some(before) = text.strip_suffix(b"fixed\n") else {
         panic!(&rt; "not fixed");
     };
     let mut other = before.to_vec(alloc)?;
     other.extend_from_slice(b"declined unseparated\n")?;
-    assert_eq!(rt; verdict_on(alloc, &other)?, Verdict::Not(Cause::Tail));
+    assert_eq!(rt; verdict_on(&rt, alloc, &other)?, Verdict::Not(Cause::Tail));
     Ok(())
 }

@@ -1,5 +1,5 @@
 //! Made-up files, screened, with their arcs.
-ghost use Rattle.std.specs.Prelude.{◌<◌, ◌≤◌, ◌×◌, length, IfOk, IfSome, IsTrue};
+ghost use Rattle.std.specs.Prelude.{◌<◌, ◌≤◌, length, IfOk, IfSome};
 ghost use Rattle.obs_rows.specs.Arcs.{AreArcs};
 ghost use Rattle.obs_rows.specs.Ranges.{IsSystem};
 ghost use Rattle.row_build.specs.Halves.{AreBaseHalves};
@@ -20,6 +20,7 @@ use session::{FileRounds, FileRun, screened};
 use signal_travel::is_receiver_point;
 use sim_session::{Made, make};
 use std::alloc::{AllocError, Global};
+use std::process::Abort;
 use std::test::Fail;
 
 /// What was screened of two files, with the arcs that are kept.
@@ -77,17 +78,10 @@ fn renumbered(alloc: Global, text: &[u8]) -> Result<Vec<u8>, AllocError> {
     Ok(out)
 }
 
-// Whether the three texts are short enough to be read.
-fn are_short(base: &[u8], rover: &[u8], nav: &[u8]) -> bool
-    ensures { IsTrue result → (length base.now ≤ 67108864) × (length rover.now ≤ 67108864) × (length nav.now ≤ 67108864) }
-{
-    base.len() <= 67_108_864 && rover.len() <= 67_108_864 && nav.len() <= 67_108_864
-}
-
-fn texts_of_gps(alloc: Global, made: &Made) -> Result<Texts, Fail> {
-    if !are_short(&made.base, &made.rover, &made.nav) {
-        return Err("a text is too long".into());
-    }
+fn texts_of_gps(rt: &impl Abort, alloc: Global, made: &Made) -> Result<Texts, Fail> {
+    assert!(rt; made.base.len() <= 67_108_864);
+    assert!(rt; made.rover.len() <= 67_108_864);
+    assert!(rt; made.nav.len() <= 67_108_864);
     Ok(Texts {
         base: read_obs(alloc, &made.base)?,
         rover: read_obs(alloc, &made.rover)?,
@@ -95,13 +89,13 @@ fn texts_of_gps(alloc: Global, made: &Made) -> Result<Texts, Fail> {
     })
 }
 
-fn texts_of_galileo(alloc: Global, made: &Made) -> Result<Texts, Fail> {
+fn texts_of_galileo(rt: &impl Abort, alloc: Global, made: &Made) -> Result<Texts, Fail> {
     let base = renumbered(alloc, &made.base)?;
     let rover = renumbered(alloc, &made.rover)?;
     let nav = renumbered(alloc, &made.nav)?;
-    if !are_short(&base, &rover, &nav) {
-        return Err("a text is too long".into());
-    }
+    assert!(rt; base.len() <= 67_108_864);
+    assert!(rt; rover.len() <= 67_108_864);
+    assert!(rt; nav.len() <= 67_108_864);
     Ok(Texts {
         base: read_gal_obs(alloc, &base)?,
         rover: read_gal_obs(alloc, &rover)?,
@@ -111,6 +105,7 @@ fn texts_of_galileo(alloc: Global, made: &Made) -> Result<Texts, Fail> {
 
 /// The files of a session of `epochs` epochs and `sats` satellites, which is made from a seed.
 pub fn files_of(
+    rt: &impl Abort,
     alloc: Global,
     seed: u32,
     epochs: u32,
@@ -122,13 +117,12 @@ pub fn files_of(
     ensures cut { IfOk result (λ f. IsCutOf f.rounds.screened.used f.rounds.kept) }
     ensures halves { IfOk result (λ f. AreBaseHalves f.rounds.screened.boxes f.rounds.position f.rounds.halves.items) }
 {
-    if options.system == b'E' && options.bands != 15 {
-        return Err("Galileo is simulated on E1 and E5a alone".into());
-    }
+    // Galileo is simulated on E1 and E5a alone.
+    assert!(rt; options.system != b'E' || options.bands == 15);
     let made = make(alloc, seed, epochs, sats, options.bands, options.system)?;
     let texts = match options.system {
-        b'E' => texts_of_galileo(alloc, &made)?,
-        _ => texts_of_gps(alloc, &made)?,
+        b'E' => texts_of_galileo(rt, alloc, &made)?,
+        _ => texts_of_gps(rt, alloc, &made)?,
     };
     let begun = begin(alloc, &texts.base, &texts.rover, options)?;
     let rounds = screened(
@@ -139,10 +133,7 @@ pub fn files_of(
         &begun,
         options,
     )?;
-    match checked(rounds) {
-        Some(files) => Ok(files),
-        None => Err("arcs, base or system out of range".into()),
-    }
+    Ok(checked(rounds).expect(rt, "arcs, base or system out of range"))
 }
 
 /// The kept arcs with the shifts of their first pairs.

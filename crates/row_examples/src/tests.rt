@@ -13,7 +13,8 @@ use obs_rows::{Arc, PairRows, Row, Session, Signals, are_arcs, has_used_shifts};
 use row_build::{pair_rows, rows_at, shift_at};
 use run_options::Options;
 use signal_travel::is_receiver_point;
-use std::alloc::{AllocError, Global};
+use std::alloc::Global;
+use std::process::Abort;
 use std::test::Fail;
 
 /// How many units of a fine row are one ι.
@@ -28,37 +29,37 @@ const FINE_RADIUS: i64 = 470;
 const COARSE_RADIUS: i64 = 1;
 
 // Seed 1, with the options that a run has by itself.
-fn plain(alloc: Global) -> Result<Files, Fail>
+fn plain(rt: &impl Abort, alloc: Global) -> Result<Files, Fail>
     ensures cut { IfOk result (λ f. IsCutOf f.rounds.screened.used f.rounds.kept) }
     ensures halves { IfOk result (λ f. AreBaseHalves f.rounds.screened.boxes f.rounds.position f.rounds.halves.items) }
 {
-    files_of(alloc, 1, 6, 4, &Options::defaults())
+    files_of(rt, alloc, 1, 6, 4, &Options::defaults())
 }
 
 // Seed 77, with a higher mask and shorter arcs.
-fn high(alloc: Global) -> Result<Files, Fail>
+fn high(rt: &impl Abort, alloc: Global) -> Result<Files, Fail>
     ensures cut { IfOk result (λ f. IsCutOf f.rounds.screened.used f.rounds.kept) }
     ensures halves { IfOk result (λ f. AreBaseHalves f.rounds.screened.boxes f.rounds.position f.rounds.halves.items) }
 {
     let mut options = Options::defaults();
     options.mask = 500;
     options.arc = 2;
-    files_of(alloc, 77, 3, 6, &options)
+    files_of(rt, alloc, 77, 3, 6, &options)
 }
 
 // Seed 8, with the phases and codes of all three bands.
-fn all_bands(alloc: Global) -> Result<Files, Fail>
+fn all_bands(rt: &impl Abort, alloc: Global) -> Result<Files, Fail>
     ensures cut { IfOk result (λ f. IsCutOf f.rounds.screened.used f.rounds.kept) }
     ensures halves { IfOk result (λ f. AreBaseHalves f.rounds.screened.boxes f.rounds.position f.rounds.halves.items) }
 {
     let mut options = Options::defaults();
     options.bands = 125;
     options.arc = 2;
-    files_of(alloc, 8, 3, 4, &options)
+    files_of(rt, alloc, 8, 3, 4, &options)
 }
 
 // Seed 21 of Galileo, with its last four satellites.
-fn galileo(alloc: Global) -> Result<Files, Fail>
+fn galileo(rt: &impl Abort, alloc: Global) -> Result<Files, Fail>
     ensures cut { IfOk result (λ f. IsCutOf f.rounds.screened.used f.rounds.kept) }
     ensures halves { IfOk result (λ f. AreBaseHalves f.rounds.screened.boxes f.rounds.position f.rounds.halves.items) }
 {
@@ -66,34 +67,26 @@ fn galileo(alloc: Global) -> Result<Files, Fail>
     options.bands = 15;
     options.system = b'E';
     options.arc = 2;
-    files_of(alloc, 21, 3, 4, &options)
+    files_of(rt, alloc, 21, 3, 4, &options)
 }
 
-// What isn't so of the base and the kept arcs.
-fn wrong_arcs(files: &Files, want: &Expected) -> Option<&'static str> {
+fn arcs_agree(rt: &impl Abort, files: &Files, want: &Expected) {
     let rounds = &files.rounds;
-    if rounds.position != want.base {
-        return Some("the base");
-    }
-    if rounds.screened.used.len() != want.taken || !hold_each_pair(files, want) {
-        return Some("the pairs");
+    assert_eq!(rt; rounds.position, want.base);
+    assert_eq!(rt; rounds.screened.used.len(), want.taken);
+    // Each arc holds every pair, so no run was too short to be kept.
+    for pair in rounds.screened.used.as_slice() {
+        assert_eq!(rt; pair.sats.len(), want.arcs.len());
     }
     let kept = rounds.kept.as_slice();
-    if kept.len() != want.arcs.len() {
-        return Some("how many arcs");
+    assert_eq!(rt; kept.len(), want.arcs.len());
+    for (arc, (sat, first, last, datum)) in kept.iter().zip(want.arcs) {
+        assert_eq!(rt;
+            (arc.sat, arc.first, arc.last, arc.datum),
+            (sat, first, last, datum)
+        );
+        assert_eq!(rt; arc.shift, [0; 3]);
     }
-    for (arc, row) in kept.iter().zip(want.arcs.iter()) {
-        if (arc.sat, arc.first, arc.last, arc.datum) != *row || arc.shift != [0; 3] {
-            return Some("an arc");
-        }
-    }
-    None
-}
-
-// Whether each arc holds every pair, so that no run was too short to be kept.
-fn hold_each_pair(files: &Files, want: &Expected) -> bool {
-    let used = files.rounds.screened.used.as_slice();
-    used.iter().all(|pair| pair.sats.len() == want.arcs.len())
 }
 
 // Whether the box around y holds the value, once what was taken off is back.
@@ -104,9 +97,9 @@ fn is_held(y: i64, ry: i64, taken_off: i128, exact: i64) -> bool
     apart.unsigned_abs() <= ry.unsigned_abs() as u128
 }
 
-fn is_direction(row: &Row, direction: &[i64; 3]) -> bool {
+fn is_direction(row: &Row, direction: [i64; 3]) -> bool {
     row.u.iter().zip(row.ru).zip(direction).all(|((u, ru), want)| ru <= 32
-        && u.abs_diff(*want) <= ru.unsigned_abs())
+        && u.abs_diff(want) <= ru.unsigned_abs())
 }
 
 // What the shifts take off a signal, in ι: the wavelength for each cycle of a phase.
@@ -139,27 +132,27 @@ fn is_signal_held(row: &Row, group: i64, shift: [i64; 3], exact: &[i64; 6], sign
     is_held(y, row.ry, taken_off(group, shift, signal), exact[signal])
 }
 
-fn is_fine_row(row: &Row, group: i64, shift: [i64; 3], want: &ExpectedRow) -> bool {
+fn is_fine_row(row: &Row, group: i64, shift: [i64; 3], want: ExpectedRow) -> bool {
     let (arc, exact, _coarse, direction) = want;
     for signal in 0..6 {
-        if !is_signal_held(row, group, shift, exact, signal) {
+        if !is_signal_held(row, group, shift, &exact, signal) {
             return false;
         }
     }
-    row.arc == *arc && row.ry <= FINE_RADIUS && is_direction(row, direction)
+    row.arc == arc && row.ry <= FINE_RADIUS && is_direction(row, direction)
 }
 
-fn is_coarse_row(row: &Row, group: i64, want: &ExpectedRow) -> bool {
+fn is_coarse_row(row: &Row, group: i64, want: ExpectedRow) -> bool {
     let (arc, _exact, coarse, direction) = want;
     let [l1, l2, code, c2, l5, c5] = row.y;
-    row.arc == *arc
+    row.arc == arc
         && row.ry <= COARSE_RADIUS
         && [l1, l2, c2, l5, c5] == [0; 5]
         && is_held(
             code.saturating_mul(COARSE),
             COARSE * row.ry,
             group as i128,
-            *coarse,
+            coarse,
         )
         && is_direction(row, direction)
 }
@@ -178,11 +171,10 @@ fn is_within_cycle(exact: i64, ry: i64, taken_off: i128, wavelength: i64) -> boo
 }
 
 // Each phase by its number, with its wavelength in ι and the place of its shift.
-static PHASES: [(usize, i64, usize); 3] = [(0, 1380, 0), (1, 1771, 1), (4, 1848, 2)];
+const PHASES: [(usize, i64, usize); 3] = [(0, 1380, 0), (1, 1771, 1), (4, 1848, 2)];
 
-fn are_shifts(shift: [i64; 3], ry: i64, group: i64, exact: &[i64; 6]) -> bool {
-    for row in PHASES.iter() {
-        let (signal, wavelength, band) = *row;
+fn are_shifts(shift: [i64; 3], ry: i64, group: i64, exact: [i64; 6]) -> bool {
+    for (signal, wavelength, band) in PHASES {
         if band >= 3 || signal >= 6 || shift[band].unsigned_abs() >= 549_755_813_888 {
             return false;
         }
@@ -198,87 +190,75 @@ fn are_shifts(shift: [i64; 3], ry: i64, group: i64, exact: &[i64; 6]) -> bool {
     true
 }
 
-// What isn't so of the rows of a fine pair.
-fn wrong_fine_pair(pair: &PairRows, arcs: &[Arc], want: &ExpectedPair) -> Option<&'static str> {
-    let (number, tag, rows) = want;
-    if (pair.number as usize, pair.tag.0) != (*number, *tag) || pair.rows.len() != rows.len() {
-        return Some("the fine pair");
-    }
+fn fine_pair_agrees(rt: &impl Abort, pair: &PairRows, arcs: &[Arc], want: &ExpectedPair) {
+    let (number, tag, rows) = *want;
+    assert_eq!(rt; (pair.number as usize, pair.tag.0), (number, tag));
+    assert_eq!(rt; pair.rows.len(), rows.len());
     let found = pair.rows.as_slice();
-    if !found
-        .first()
-        .is_some_and(|row| is_near(row.y[2], row.ry, 8192))
-    {
-        return Some("the group of a fine pair");
+    assert!(rt;
+        is_near(found[0].y[2], found[0].ry, 8192),
+        "the group of pair {number}"
+    );
+    for (row, want) in found.iter().zip(rows) {
+        let arc = row.arc as usize;
+        assert!(rt; arc < arcs.len());
+        assert!(rt;
+            is_fine_row(row, pair.group, arcs[arc].shift, want),
+            "row {arc} of pair {number}"
+        );
     }
-    for (row, want) in found.iter().zip(rows.iter()) {
-        let Some(arc) = arcs.get(row.arc as usize) else {
-            return Some("the arc of a fine row");
-        };
-        if !is_fine_row(row, pair.group, arc.shift, want) {
-            return Some("a fine row");
-        }
-    }
-    None
 }
 
-// Whether the code of a coarse row meets that from -1 to 1 ι.
-fn is_near_group(row: &Row) -> bool {
-    is_near(COARSE * row.y[2], COARSE * row.ry, 1)
-}
-
-// What isn't so of the rows of a coarse pair.
-fn wrong_coarse_pair(pair: &PairRows, want: &ExpectedPair) -> Option<&'static str> {
-    let (number, tag, rows) = want;
-    if (pair.number as usize, pair.tag.0) != (*number, *tag) || pair.rows.len() != rows.len() {
-        return Some("the coarse pair");
-    }
+fn coarse_pair_agrees(rt: &impl Abort, pair: &PairRows, want: &ExpectedPair) {
+    let (number, tag, rows) = *want;
+    assert_eq!(rt; (pair.number as usize, pair.tag.0), (number, tag));
+    assert_eq!(rt; pair.rows.len(), rows.len());
     let found = pair.rows.as_slice();
-    if !found.first().is_some_and(is_near_group) {
-        return Some("the group of a coarse pair");
+    let (code, radius) = (found[0].y[2], found[0].ry);
+    assert!(rt;
+        is_near(COARSE * code, COARSE * radius, 1),
+        "the group of pair {number}"
+    );
+    for (row, want) in found.iter().zip(rows) {
+        let arc = row.arc;
+        assert!(rt;
+            is_coarse_row(row, pair.group, want),
+            "row {arc} of pair {number}"
+        );
     }
-    for (row, want) in found.iter().zip(rows.iter()) {
-        if !is_coarse_row(row, pair.group, want) {
-            return Some("a coarse row");
-        }
-    }
-    None
 }
 
-// What isn't so of the shifts of every arc in that pair.
-fn wrong_shifts(
+// The shifts of every arc in that pair.
+fn shifts_agree(
+    rt: &impl Abort,
     files: &Files,
     pair: &PairRows,
     point: &[i64; 3],
     want: &ExpectedPair,
-) -> Option<&'static str>
+)
     requires cut { IsCutOf files.now.rounds.screened.used files.now.rounds.kept }
     requires point { IsReceiverPoint point.now }
 {
-    let (number, _tag, rows) = want;
+    let (number, _tag, rows) = *want;
+    assert!(rt; number < files.rounds.screened.used.len());
     let kept = files.rounds.kept.as_slice();
-    if *number >= files.rounds.screened.used.len() {
-        return Some("the number of a pair");
-    }
-    for (arc, exact, _coarse, _direction) in rows.iter() {
-        if *arc as usize >= kept.len() {
-            return Some("the number of an arc");
-        }
+    for (arc, exact, _coarse, _direction) in rows {
+        assert!(rt; (arc as usize) < kept.len());
         let found = shift_at(
             &files.rounds.screened,
             kept,
-            *arc,
-            *number as u32,
+            arc,
+            number as u32,
             &files.rounds.position,
             point,
             files.rounds.signals,
         );
-        match found {
-            Some(shift) if are_shifts(shift, FINE_RADIUS, pair.group, exact) => {}
-            _ => return Some("the shifts of an arc"),
-        }
+        let shift = found.expect(rt, "the arc doesn't hold the pair");
+        assert!(rt;
+            are_shifts(shift, FINE_RADIUS, pair.group, exact),
+            "arc {arc} in pair {number}"
+        );
     }
-    None
 }
 
 fn is_same_pair(one: &PairRows, other: &PairRows) -> bool {
@@ -286,15 +266,19 @@ fn is_same_pair(one: &PairRows, other: &PairRows) -> bool {
         && one.rows.as_slice() == other.rows.as_slice()
 }
 
-// Whether the session's pair is that of `pair_rows`.
-fn is_alone(alloc: Global, files: &Files, session: &Session, number: usize) -> Result<bool, Fail>
+// The session's pair is that of `pair_rows`.
+fn alone_agrees(
+    rt: &impl Abort,
+    alloc: Global,
+    files: &Files,
+    session: &Session,
+    number: usize,
+) -> Result<(), Fail>
     requires cut { IsCutOf files.now.rounds.screened.used session.now.arcs }
     requires base { IsReceiverPoint session.now.base }
     requires point { IsReceiverPoint session.now.point }
 {
-    if number >= session.pairs.len() || number >= files.rounds.screened.used.len() {
-        return Ok(false);
-    }
+    assert!(rt; number < session.pairs.len() && number < files.rounds.screened.used.len());
     let alone = pair_rows(
         alloc,
         &files.rounds.screened,
@@ -305,35 +289,24 @@ fn is_alone(alloc: Global, files: &Files, session: &Session, number: usize) -> R
         session.signals,
         session.scale,
     )?;
-    Ok(match alone {
-        Some(pair) => is_same_pair(&pair, &session.pairs.as_slice()[number]),
-        None => false,
-    })
+    let alone = alone.expect(rt, "no arc holds the pair");
+    assert!(rt; is_same_pair(&alone, &session.pairs.as_slice()[number]));
+    Ok(())
 }
 
-// Whether the pairs are the same.
-fn are_same_pairs(some: &[PairRows], others: &[PairRows]) -> bool {
-    some.len() == others.len()
-        && some
-            .iter()
-            .zip(others)
-            .all(|(one, other)| is_same_pair(one, other))
-}
-
-// What isn't so of the copy of a session.
-fn wrong_copy(alloc: Global, session: &Session) -> Result<Option<&'static str>, AllocError> {
+fn copy_agrees(rt: &impl Abort, alloc: Global, session: &Session) -> Result<(), Fail> {
     let copied = session.copy(alloc)?;
-    Ok(if (copied.scale, copied.system) != (session.scale, session.system) {
-        Some("the copied unit or system")
-    } else if (copied.base, copied.point) != (session.base, session.point) {
-        Some("the copied points")
-    } else if copied.arcs.as_slice() != session.arcs.as_slice() {
-        Some("the copied arcs")
-    } else if !are_same_pairs(copied.pairs.as_slice(), session.pairs.as_slice()) {
-        Some("the copied pairs")
-    } else {
-        None
-    })
+    assert_eq!(rt;
+        (copied.scale, copied.system),
+        (session.scale, session.system)
+    );
+    assert_eq!(rt; (copied.base, copied.point), (session.base, session.point));
+    assert!(rt; copied.arcs.as_slice() == session.arcs.as_slice());
+    assert_eq!(rt; copied.pairs.len(), session.pairs.len());
+    for (one, other) in copied.pairs.as_slice().iter().zip(session.pairs.as_slice()) {
+        assert!(rt; is_same_pair(one, other));
+    }
+    Ok(())
 }
 
 // Whether the shifts of bands that aren't used are 0.
@@ -343,23 +316,20 @@ pub(crate) fn are_used(signals: Signals, arcs: &[Arc]) -> bool
     arcs.iter().all(|a| has_used_shifts(signals, a))
 }
 
-// What isn't so of the rows of a fine session.
-fn wrong_fine_rows(
+fn fine_rows_agree(
+    rt: &impl Abort,
     alloc: Global,
     files: &Files,
     want: &Expected,
-) -> Result<Option<&'static str>, Fail>
+) -> Result<(), Fail>
     requires cut { IsCutOf files.now.rounds.screened.used files.now.rounds.kept }
     requires halves { AreBaseHalves files.now.rounds.screened.boxes files.now.rounds.position files.now.rounds.halves.items }
 {
     let point = want.point;
-    if !is_receiver_point(&point) {
-        return Ok(Some("the point"));
-    }
+    assert!(rt; is_receiver_point(&point));
     let arcs = with_shifts(alloc, files, &point)?;
-    if !are_arcs(&arcs) || !are_used(files.rounds.signals, &arcs) {
-        return Ok(Some("the arcs"));
-    }
+    assert!(rt; are_arcs(&arcs));
+    assert!(rt; are_used(files.rounds.signals, &arcs));
     let session = rows_at(
         alloc,
         &files.rounds.screened,
@@ -370,41 +340,31 @@ fn wrong_fine_rows(
         0,
         files.rounds.system,
     )?;
-    if session.system != files.rounds.system || session.pairs.len() != want.taken {
-        return Ok(Some("the fine session"));
+    assert_eq!(rt; session.system, files.rounds.system);
+    assert_eq!(rt; session.pairs.len(), want.taken);
+    for pair in &want.pairs {
+        let number = pair.0;
+        assert!(rt; number < session.pairs.len());
+        let found = &session.pairs.as_slice()[number];
+        fine_pair_agrees(rt, found, &arcs, pair);
+        shifts_agree(rt, files, found, &point, pair);
+        alone_agrees(rt, alloc, files, &session, number)?;
     }
-    for pair in want.pairs.iter() {
-        let Some(found) = session.pairs.as_slice().get(pair.0) else {
-            return Ok(Some("a fine pair"));
-        };
-        let wrong = wrong_fine_pair(found, &arcs, pair);
-        if wrong.is_some() {
-            return Ok(wrong);
-        }
-        let wrong = wrong_shifts(files, found, &point, pair);
-        if wrong.is_some() {
-            return Ok(wrong);
-        }
-        if !is_alone(alloc, files, &session, pair.0)? {
-            return Ok(Some("a fine pair alone"));
-        }
-    }
-    Ok(wrong_copy(alloc, &session)?)
+    copy_agrees(rt, alloc, &session)
 }
 
-// What isn't so of the rows of a coarse session.
-fn wrong_coarse_rows(
+fn coarse_rows_agree(
+    rt: &impl Abort,
     alloc: Global,
     files: &Files,
     want: &Expected,
-) -> Result<Option<&'static str>, Fail>
+) -> Result<(), Fail>
     requires cut { IsCutOf files.now.rounds.screened.used files.now.rounds.kept }
 {
     let point = want.point;
+    assert!(rt; is_receiver_point(&point));
     let arcs = files.rounds.kept.as_slice();
-    if !is_receiver_point(&point) || !are_used(files.rounds.signals, arcs) {
-        return Ok(Some("the point or the arcs"));
-    }
+    assert!(rt; are_used(files.rounds.signals, arcs));
     let session = rows_at(
         alloc,
         &files.rounds.screened,
@@ -415,64 +375,42 @@ fn wrong_coarse_rows(
         14,
         files.rounds.system,
     )?;
-    if session.system != files.rounds.system || session.pairs.len() != want.taken {
-        return Ok(Some("the coarse session"));
+    assert_eq!(rt; session.system, files.rounds.system);
+    assert_eq!(rt; session.pairs.len(), want.taken);
+    for pair in &want.pairs {
+        let number = pair.0;
+        assert!(rt; number < session.pairs.len());
+        coarse_pair_agrees(rt, &session.pairs.as_slice()[number], pair);
+        alone_agrees(rt, alloc, files, &session, number)?;
     }
-    for pair in want.pairs.iter() {
-        let Some(found) = session.pairs.as_slice().get(pair.0) else {
-            return Ok(Some("a coarse pair"));
-        };
-        let wrong = wrong_coarse_pair(found, pair);
-        if wrong.is_some() {
-            return Ok(wrong);
-        }
-        if !is_alone(alloc, files, &session, pair.0)? {
-            return Ok(Some("a coarse pair alone"));
-        }
-    }
-    Ok(wrong_copy(alloc, &session)?)
+    copy_agrees(rt, alloc, &session)
 }
 
-// What isn't so of the rows of these files.
-fn wrong_rows(alloc: Global, files: &Files, want: &Expected) -> Result<Option<&'static str>, Fail>
+fn rows_agree(rt: &impl Abort, alloc: Global, files: &Files, want: &Expected) -> Result<(), Fail>
     requires cut { IsCutOf files.now.rounds.screened.used files.now.rounds.kept }
     requires halves { AreBaseHalves files.now.rounds.screened.boxes files.now.rounds.position files.now.rounds.halves.items }
 {
-    let wrong = wrong_arcs(files, want);
-    if wrong.is_some() {
-        return Ok(wrong);
-    }
-    let wrong = wrong_fine_rows(alloc, files, want)?;
-    if wrong.is_some() {
-        return Ok(wrong);
-    }
-    wrong_coarse_rows(alloc, files, want)
+    arcs_agree(rt, files, want);
+    fine_rows_agree(rt, alloc, files, want)?;
+    coarse_rows_agree(rt, alloc, files, want)
 }
 
 #[test]
 fn rows_where_the_rover_stands(rt: HostRuntime) -> Result<(), Fail> {
-    let alloc = rt.alloc();
-    assert_eq!(rt; wrong_rows(alloc, &plain(alloc)?, &PLAIN)?, None);
-    Ok(())
+    rows_agree(&rt, rt.alloc(), &plain(&rt, rt.alloc())?, &PLAIN)
 }
 
 #[test]
 fn rows_beside_the_rover(rt: HostRuntime) -> Result<(), Fail> {
-    let alloc = rt.alloc();
-    assert_eq!(rt; wrong_rows(alloc, &high(alloc)?, &HIGH)?, None);
-    Ok(())
+    rows_agree(&rt, rt.alloc(), &high(&rt, rt.alloc())?, &HIGH)
 }
 
 #[test]
 fn rows_of_all_bands(rt: HostRuntime) -> Result<(), Fail> {
-    let alloc = rt.alloc();
-    assert_eq!(rt; wrong_rows(alloc, &all_bands(alloc)?, &ALL_BANDS)?, None);
-    Ok(())
+    rows_agree(&rt, rt.alloc(), &all_bands(&rt, rt.alloc())?, &ALL_BANDS)
 }
 
 #[test]
 fn rows_of_galileo(rt: HostRuntime) -> Result<(), Fail> {
-    let alloc = rt.alloc();
-    assert_eq!(rt; wrong_rows(alloc, &galileo(alloc)?, &GALILEO)?, None);
-    Ok(())
+    rows_agree(&rt, rt.alloc(), &galileo(&rt, rt.alloc())?, &GALILEO)
 }

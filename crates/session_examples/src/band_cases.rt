@@ -87,7 +87,7 @@ pub struct Gap {
     pub begins: u32,
 }
 
-pub static GAPS: [Gap; 7] = [
+pub const GAPS: [Gap; 7] = [
     Gap {
         what: "no phase on L5",
         edit: ("89371739.340", "       0.000"),

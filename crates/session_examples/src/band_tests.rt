@@ -2,75 +2,36 @@
 
 use crate::band_cases::{BANDS, BandCase, GAPS, Gap, L5_OF_FIVE, L5_OF_FOUR};
 use crate::cases::{End, Verdict};
-use crate::tests::{end_of, has_point, integers_agree, options_of, run};
-use obs_rows::{Arc, bands_of, is_bands_number, is_system};
+use crate::tests::{end_of, integers_agree, options_of, point_agrees, run};
+use obs_rows::{bands_of, is_bands_number, is_system};
 use run_options::{GPS, Options};
-use session::{Answer, Cert, Outcome, RoundCounts};
+use session::{Answer, RoundCounts};
 use sim_session::{Made, make};
 use std::alloc::Global;
+use std::process::Abort;
 use std::test::Fail;
 
-fn options_on(bands: u16, system: u8) -> Option<Options> {
-    if !is_bands_number(bands) || !is_system(system) {
-        return None;
-    }
-    let mut options = options_of(2, 1_000_000)?;
+fn options_on(rt: &impl Abort, bands: u16, system: u8) -> Options {
+    assert!(rt; is_bands_number(bands));
+    assert!(rt; is_system(system));
+    let mut options = options_of(rt, 2, 1_000_000);
     options.bands = bands;
     options.system = system;
-    Some(options)
+    options
 }
 
-fn made_of(alloc: Global, case: &BandCase) -> Result<Made, Fail> {
-    if !is_bands_number(case.bands) || !is_system(case.system) {
-        return Err("no bands or no system".into());
-    }
-    if case.system == b'E' && case.bands != 15 {
-        return Err("Galileo on other bands".into());
-    }
+fn made_of(rt: &impl Abort, alloc: Global, case: &BandCase) -> Result<Made, Fail> {
+    assert!(rt; is_bands_number(case.bands));
+    assert!(rt; is_system(case.system));
+    assert!(rt; case.system != b'E' || case.bands == 15);
     Ok(make(alloc, 1, 2, 4, case.bands, case.system)?)
 }
 
-// What isn't so of the outcome of a case.
-fn wrong_outcome(case: &BandCase, outcome: &Outcome) -> Option<&'static str> {
-    if (outcome.taken, outcome.kept) != (2, 4) {
-        return Some("the counts");
-    }
-    if outcome.rounds != (RoundCounts { coarse: 2, fine: 2 }) {
-        return Some("the rounds");
-    }
-    if end_of(&outcome.answer) != End::Full(Verdict::Fixed) {
-        return Some("the end");
-    }
-    if !has_point(&outcome.answer, Some(case.point)) {
-        return Some("the point");
-    }
-    match &outcome.answer {
-        Answer::Full(cert) => wrong_cert(case, cert),
-        _ => None,
-    }
-}
-
-// What isn't so of the certificate of a case.
-fn wrong_cert(case: &BandCase, cert: &Cert) -> Option<&'static str> {
-    if cert.session.system != case.system {
-        return Some("the system");
-    }
-    if !integers_agree(cert, bands_of(case.bands), &L5_OF_FOUR) {
-        return Some("an integer");
-    }
-    let arcs = cert.session.arcs.as_slice();
-    if arcs.iter().map(|arc| arc.sat).eq(case.sats) {
-        None
-    } else {
-        Some("the satellites")
-    }
-}
-
-// What isn't so of the run of a case.
-fn wrong_case(alloc: Global, case: &BandCase) -> Result<Option<&'static str>, Fail> {
-    let made = made_of(alloc, case)?;
-    let options = options_on(case.bands, case.system).ok_or("no options")?;
+fn case_agrees(rt: &impl Abort, alloc: Global, case: &BandCase) -> Result<(), Fail> {
+    let made = made_of(rt, alloc, case)?;
+    let options = options_on(rt, case.bands, case.system);
     let outcome = run(
+        rt,
         alloc,
         &made,
         case.observations,
@@ -78,66 +39,92 @@ fn wrong_case(alloc: Global, case: &BandCase) -> Result<Option<&'static str>, Fa
         case.nav,
         &options,
     )?;
-    Ok(wrong_outcome(case, &outcome))
+    assert_eq!(rt; (outcome.taken, outcome.kept), (2, 4), "{}", case.what);
+    assert_eq!(rt;
+        outcome.rounds,
+        RoundCounts { coarse: 2, fine: 2 },
+        "{}",
+        case.what
+    );
+    assert_eq!(rt;
+        end_of(&outcome.answer),
+        End::Full(Verdict::Fixed),
+        "{}",
+        case.what
+    );
+    point_agrees(rt, case.what, &outcome.answer, Some(case.point));
+    let Answer::Full(cert) = &outcome.answer else {
+        return Ok(());
+    };
+    assert_eq!(rt; cert.session.system, case.system);
+    integers_agree(rt, case.what, cert, bands_of(options.bands), &L5_OF_FOUR);
+    let arcs = cert.session.arcs.as_slice();
+    assert!(rt;
+        arcs.iter().map(|arc| arc.sat).eq(case.sats),
+        "{}",
+        case.what
+    );
+    Ok(())
 }
 
 #[test]
 fn fixes_on_other_bands_and_systems(rt: HostRuntime) -> Result<(), Fail> {
-    for case in BANDS.iter() {
-        assert_eq!(rt; wrong_case(rt.alloc(), case)?, None, "{}", case.what);
+    for case in &BANDS {
+        case_agrees(&rt, rt.alloc(), case)?;
     }
     Ok(())
 }
 
-// What isn't so of the arcs of G03: one of five pairs where the band isn't used, else two, of which the first ends before the
-// third pair.
-fn wrong_arcs(arcs: &[Arc], is_cut: bool, begins: u32) -> Option<&'static str> {
-    let mut own = arcs
-        .iter()
-        .filter(|arc| arc.sat == 3)
-        .map(|arc| (arc.first, arc.last));
-    if own.next() != Some(if is_cut { (0, 1) } else { (0, 4) }) {
-        return Some("the first arc");
-    }
-    if own.next() != (if is_cut { Some((begins, 4)) } else { None }) {
-        return Some("the second arc");
-    }
-    None
-}
-
-// What isn't so of a run on these bands with such a gap.
-fn wrong_gap(
+// The arcs of G03: one of five pairs where the band isn't used, else two, of which the first ends before the third pair.
+fn gap_agrees(
+    rt: &impl Abort,
     alloc: Global,
     made: &Made,
     bands: u16,
     gap: &Gap,
-) -> Result<Option<&'static str>, Fail> {
-    let options = options_on(bands, GPS).ok_or("no options")?;
+) -> Result<(), Fail> {
+    let options = options_on(rt, bands, GPS);
     let used = bands_of(options.bands);
-    let outcome = run(alloc, made, &[], &[gap.edit], &[], &options)?;
+    let outcome = run(rt, alloc, made, &[], &[gap.edit], &[], &options)?;
     let is_cut = used.contains(&gap.band);
-    if outcome.kept != (if is_cut { 6 } else { 5 }) {
-        return Ok(Some("the arcs"));
-    }
-    if end_of(&outcome.answer) != End::Full(Verdict::Fixed) {
-        return Ok(Some("the end"));
-    }
+    assert_eq!(rt;
+        outcome.kept,
+        if is_cut { 6 } else { 5 },
+        "{bands}: {}",
+        gap.what
+    );
+    assert_eq!(rt;
+        end_of(&outcome.answer),
+        End::Full(Verdict::Fixed),
+        "{bands}: {}",
+        gap.what
+    );
     let Answer::Full(cert) = &outcome.answer else {
-        return Ok(None);
+        return Ok(());
     };
-    if !integers_agree(cert, used, &L5_OF_FIVE) {
-        return Ok(Some("an integer"));
-    }
-    Ok(wrong_arcs(cert.session.arcs.as_slice(), is_cut, gap.begins))
+    integers_agree(rt, gap.what, cert, used, &L5_OF_FIVE);
+    let arcs = cert.session.arcs.as_slice();
+    let mut own = arcs
+        .iter()
+        .filter(|arc| arc.sat == 3)
+        .map(|arc| (arc.first, arc.last));
+    assert_eq!(rt;
+        own.next(),
+        Some(if is_cut { (0, 1) } else { (0, 4) }),
+        "{bands}: {}",
+        gap.what
+    );
+    let behind = if is_cut { Some((gap.begins, 4)) } else { None };
+    assert_eq!(rt; own.next(), behind, "{bands}: {}", gap.what);
+    Ok(())
 }
 
 #[test]
 fn only_the_bands_of_the_options_count(rt: HostRuntime) -> Result<(), Fail> {
     let made = make(rt.alloc(), 1, 5, 5, 125, GPS)?;
-    for bands in [12, 15, 125].iter() {
-        for gap in GAPS.iter() {
-            let wrong = wrong_gap(rt.alloc(), &made, *bands, gap)?;
-            assert_eq!(rt; wrong, None, "{bands}: {}", gap.what);
+    for bands in [12, 15, 125] {
+        for gap in &GAPS {
+            gap_agrees(&rt, rt.alloc(), &made, bands, gap)?;
         }
     }
     Ok(())

@@ -41,7 +41,7 @@ pub struct Case {
 }
 
 // By how many cycles the rover's phases on L1 and L2 are more than the base's, for each satellite of seed 1.
-pub static CYCLES: [[i64; 2]; 12] = [
+pub const CYCLES: [[i64; 2]; 12] = [
     [-352_426, -269_348],
     [383_694, -572_712],
     [-414_053, 597_662],
@@ -255,7 +255,7 @@ pub static SHORT: [Case; 12] = [
 ];
 
 // In four epochs of twelve satellites, loss of lock in the third on L1 of ten of the satellites.
-pub static CUTS: [Edit; 10] = [
+pub const CUTS: [Edit; 10] = [
     ("119664227.809 ", "119664227.8091"),
     ("120609412.288 ", "120609412.2881"),
     ("118475158.441 ", "118475158.4411"),

@@ -8,20 +8,18 @@ use obs_rows::{Arc, Signals, fine_signals, free_arcs};
 use round_steps::{are_few, are_many, grown, is_receiver_point};
 use std::alloc::{AllocError, Global};
 
-static POINTS: [([i64; 3], bool); 6] = [
-    ([60_000_000_000, 0, 0], true),
-    ([59_999_999_999, 0, 0], false),
-    ([0, -70_000_000_000, 0], true),
-    ([0, -70_000_000_000, 1], false),
-    ([36_000_000_000, 48_000_000_000, 0], true),
-    ([0, 0, i64::MIN], false),
-];
-
 #[test]
 fn receivers_are_near_the_ground(rt: HostRuntime) {
-    for row in POINTS.iter() {
-        let (point, expected) = row;
-        assert_eq!(rt; is_receiver_point(point), *expected, "{point:?}");
+    let cases = [
+        ([60_000_000_000, 0, 0], true),
+        ([59_999_999_999, 0, 0], false),
+        ([0, -70_000_000_000, 0], true),
+        ([0, -70_000_000_000, 1], false),
+        ([36_000_000_000, 48_000_000_000, 0], true),
+        ([0, 0, i64::MIN], false),
+    ];
+    for (point, expected) in cases {
+        assert_eq!(rt; is_receiver_point(&point), expected);
     }
 }
 
@@ -39,33 +37,21 @@ fn arcs_of(alloc: Global, count: u8, datums: u8, last: u32) -> Result<Vec<Arc>, 
     Ok(arcs)
 }
 
-// Pairs and arcs, and whether they are few.
-static FEW: [(u32, u8, bool); 3] = [(5, 3, true), (5, 4, false), (0, 4, true)];
-
 #[test]
-fn counts_few_arcs(rt: HostRuntime) -> Result<(), AllocError> {
-    for row in FEW.iter() {
-        let (pairs, count, expected) = *row;
-        let arcs = arcs_of(rt.alloc(), count, 1, 4)?;
-        assert_eq!(rt; are_few(pairs, &arcs), expected, "{count} in {pairs}");
-    }
-    Ok(())
-}
-
-// Arcs and datums among them, and whether they are many.
-static MANY: [(u8, u8, bool); 4] = [
-    (21, 1, false),
-    (22, 1, true),
-    (200, 180, false),
-    (201, 190, true),
-];
-
-#[test]
-fn counts_many_arcs(rt: HostRuntime) -> Result<(), AllocError> {
-    for row in MANY.iter() {
-        let (count, datums, expected) = *row;
+fn counts_arcs(rt: HostRuntime) -> Result<(), AllocError> {
+    let three = arcs_of(rt.alloc(), 3, 1, 4)?;
+    assert!(rt; are_few(5, &three));
+    let four = arcs_of(rt.alloc(), 4, 1, 4)?;
+    assert!(rt; !are_few(5, &four));
+    assert!(rt; are_few(0, &four));
+    for (count, datums, expected) in [
+        (21, 1, false),
+        (22, 1, true),
+        (200, 180, false),
+        (201, 190, true),
+    ] {
         let arcs = arcs_of(rt.alloc(), count, datums, 4)?;
-        assert_eq!(rt; are_many(&arcs), expected, "{count}");
+        assert_eq!(rt; are_many(&arcs), expected);
     }
     Ok(())
 }
@@ -112,9 +98,6 @@ fn grown_by(
     Ok(Some([after[0].shift, after[1].shift]))
 }
 
-// Bands, and the grown shift of the second arc.
-static GROWN: [(u16, [i64; 3]); 3] = [(12, [0, 1, 0]), (15, [0, 0, 1]), (125, [0, 1, -2])];
-
 // Three quarters of a cycle leave a shift as it is, a 2^-16 of a cycle more makes it grow by one, and two cycles and a half down
 // by two. Each phase grows at its band: on L1 and L5 the second integer is that of L5. The first arc is a datum.
 #[test]
@@ -124,10 +107,9 @@ fn shifts_grow_by_bands(rt: HostRuntime) -> Result<(), AllocError> {
     numbers[3] = 49_152;
     numbers[4] = 49_153;
     numbers[5] = -163_840;
-    for row in GROWN.iter() {
-        let (bands, shift) = *row;
+    for (bands, shift) in [(12, [0, 1, 0]), (15, [0, 0, 1]), (125, [0, 1, -2])] {
         let after = grown_by(rt.alloc(), &arcs, bands, &numbers)?;
-        assert_eq!(rt; after, Some([[0; 3], shift]), "bands {bands}");
+        assert_eq!(rt; after, Some([[0; 3], shift]));
     }
     Ok(())
 }

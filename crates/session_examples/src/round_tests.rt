@@ -1,16 +1,15 @@
 //! How many rounds whole runs make, against the independent model. Its counts stay the same where its boxes are moved by
 //! chance, as the verdicts of the cases do.
 
-use crate::cases::{CUTS, Case, SHORT};
+use crate::cases::{CUTS, SHORT};
 use crate::tests::{options_of, run};
 use run_options::GPS;
 use session::RoundCounts;
-use sim_session::{Made, make};
-use std::alloc::Global;
+use sim_session::make;
 use std::test::Fail;
 
 // No round is made without arcs enough, ten coarse ones where none of them settles, and six fine ones.
-static MADE: [(&str, u32, u32); 12] = [
+const MADE: [(&str, u32, u32); 12] = [
     ("as it is", 2, 2),
     ("arcs of three pairs", 0, 0),
     ("a budget of one", 2, 2),
@@ -25,20 +24,22 @@ static MADE: [(&str, u32, u32); 12] = [
     ("a slip of G04 of 59 m beside G03", 3, 6),
 ];
 
-// How many rounds the run of a case makes.
-fn rounds_of(alloc: Global, made: &Made, case: &Case) -> Result<RoundCounts, Fail> {
-    let options = options_of(case.arc, case.budget).ok_or("no options")?;
-    let outcome = run(alloc, made, case.base, case.rover, case.nav, &options)?;
-    Ok(outcome.rounds)
-}
-
 #[test]
 fn counts_the_rounds(rt: HostRuntime) -> Result<(), Fail> {
     let made = make(rt.alloc(), 1, 2, 4, 12, GPS)?;
-    for (case, row) in SHORT.iter().zip(MADE.iter()) {
-        let (what, coarse, fine) = *row;
-        let rounds = rounds_of(rt.alloc(), &made, case)?;
-        assert_eq!(rt; (case.what, rounds), (what, RoundCounts { coarse, fine }));
+    for (case, (what, coarse, fine)) in SHORT.iter().zip(MADE) {
+        assert_eq!(rt; case.what, what);
+        let options = options_of(&rt, case.arc, case.budget);
+        let outcome = run(
+            &rt,
+            rt.alloc(),
+            &made,
+            case.base,
+            case.rover,
+            case.nav,
+            &options,
+        )?;
+        assert_eq!(rt; outcome.rounds, RoundCounts { coarse, fine }, "{what}");
     }
     Ok(())
 }
@@ -46,8 +47,8 @@ fn counts_the_rounds(rt: HostRuntime) -> Result<(), Fail> {
 #[test]
 fn no_round_for_many_arcs(rt: HostRuntime) -> Result<(), Fail> {
     let made = make(rt.alloc(), 1, 4, 12, 12, GPS)?;
-    let options = options_of(2, 1_000_000).ok_or("no options")?;
-    let outcome = run(rt.alloc(), &made, &CUTS, &[], &[], &options)?;
+    let options = options_of(&rt, 2, 1_000_000);
+    let outcome = run(&rt, rt.alloc(), &made, &CUTS, &[], &[], &options)?;
     assert_eq!(rt; outcome.rounds, RoundCounts { coarse: 0, fine: 0 });
     Ok(())
 }

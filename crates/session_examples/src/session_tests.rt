@@ -5,6 +5,8 @@ use obs_rows::is_bands_number;
 use obs_store::{Epoch, Epochs, ObsFile, ObsType, SLOTS, Satellites};
 use session::{Answer, Options, PairWhat, SessionFault, begin, process};
 use std::alloc::{AllocError, Global};
+use std::process::Abort;
+use std::test::Fail;
 
 const ON_GROUND: Option<[i64; 3]> = Some([63_781_370_000, 0, 0]);
 
@@ -66,40 +68,25 @@ fn refusal(
     Ok(begin(alloc, &base, &rover, &Options::defaults()).err())
 }
 
-const NO_POSITION: SessionFault = SessionFault::Refused(PairWhat::NoBasePosition);
-
-const NO_SIGNAL: SessionFault = SessionFault::Refused(PairWhat::NoSignal);
-
-const TOO_DENSE: SessionFault = SessionFault::Refused(PairWhat::Dense {
-    rover: false,
-    epoch: 1,
-});
-
-const FAR: Option<[i64; 3]> = Some([63_781_370_000, 63_781_370_000, 0]);
-
-// The base's position, its types and its tags, and why it is refused.
-type Refused = (
-    Option<[i64; 3]>,
-    &'static [&'static str],
-    [u64; 2],
-    Option<SessionFault>,
-);
-
-static REFUSED: [Refused; 5] = [
-    (None, &ONE_BAND, [10, 200_010], Some(NO_POSITION)),
-    (FAR, &ALL, [10, 200_011], Some(NO_POSITION)),
-    (ON_GROUND, &ONE_BAND, [10, 200_010], Some(NO_SIGNAL)),
-    (ON_GROUND, &ALL, [10, 200_010], Some(TOO_DENSE)),
-    (ON_GROUND, &ALL, [10, 200_011], None),
-];
-
 #[test]
-fn refuses_in_order(rt: HostRuntime) -> Result<(), AllocError> {
-    for row in REFUSED.iter() {
-        let (position, types, tags, fault) = row;
-        let found = refusal(rt.alloc(), *position, *types, tags)?;
-        assert_eq!(rt; found, *fault, "{position:?}, {types:?}, {tags:?}");
-    }
+fn refuses_in_order(rt: HostRuntime) -> Result<(), Fail> {
+    let dense = [10, 200_010];
+    let sparse = [10, 200_011];
+    let no_position = Some(SessionFault::Refused(PairWhat::NoBasePosition));
+    let no_signal = Some(SessionFault::Refused(PairWhat::NoSignal));
+    let too_dense = Some(SessionFault::Refused(PairWhat::Dense {
+        rover: false,
+        epoch: 1,
+    }));
+    let far = Some([63_781_370_000, 63_781_370_000, 0]);
+    assert_eq!(rt; refusal(rt.alloc(), None, &ONE_BAND, &dense)?, no_position);
+    assert_eq!(rt; refusal(rt.alloc(), far, &ALL, &sparse)?, no_position);
+    assert_eq!(rt;
+        refusal(rt.alloc(), ON_GROUND, &ONE_BAND, &dense)?,
+        no_signal
+    );
+    assert_eq!(rt; refusal(rt.alloc(), ON_GROUND, &ALL, &dense)?, too_dense);
+    assert_eq!(rt; refusal(rt.alloc(), ON_GROUND, &ALL, &sparse)?, None);
     Ok(())
 }
 
@@ -109,122 +96,88 @@ const NO_L5_PHASE: [&str; 5] = ["C1C", "L1C", "C2W", "L2W", "C5Q"];
 
 const THREE_BANDS: [&str; 6] = ["C1C", "L1C", "C2W", "L2W", "C5X", "L5X"];
 
-// The letters with which a run on these bands begins, or why it doesn't, where both files list these types; none where they are
-// no bands.
+// The letters with which a run on these bands begins, where both files list these types.
 fn letters_on(
+    rt: &impl Abort,
     alloc: Global,
     bands: u16,
     types: &[&str],
-) -> Result<Option<Result<[u8; 3], SessionFault>>, AllocError> {
+) -> Result<Option<[u8; 3]>, Fail> {
     let tags = [0, 300_000_000];
     let base = file_of(alloc, ON_GROUND, types, &tags)?;
     let rover = file_of(alloc, None, types, &tags)?;
-    if !is_bands_number(bands) {
-        return Ok(None);
-    }
+    assert!(rt; is_bands_number(bands));
     let mut options = Options::defaults();
     options.bands = bands;
-    Ok(Some(match begin(alloc, &base, &rover, &options) {
-        Ok(begun) => Ok([begun.signals.l1, begun.signals.l2, begun.signals.l5]),
-        Err(fault) => Err(fault),
-    }))
+    match begin(alloc, &base, &rover, &options) {
+        Ok(begun) => Ok(Some([begun.signals.l1, begun.signals.l2, begun.signals.l5])),
+        Err(fault) => {
+            assert_eq!(rt; fault, SessionFault::Refused(PairWhat::NoSignal));
+            Ok(None)
+        }
+    }
 }
 
-// Bands and types, and the letters.
-type Letters = (u16, &'static [&'static str], Result<[u8; 3], SessionFault>);
-
-static LETTERS: [Letters; 12] = [
-    (12, &ALL, Ok([b'C', b'W', 0])),
-    (15, &ALL, Err(NO_SIGNAL)),
-    (125, &ALL, Err(NO_SIGNAL)),
-    (12, &L1_L5, Err(NO_SIGNAL)),
-    (15, &L1_L5, Ok([b'C', 0, b'Q'])),
-    (125, &L1_L5, Err(NO_SIGNAL)),
-    (12, &NO_L5_PHASE, Ok([b'C', b'W', 0])),
-    (15, &NO_L5_PHASE, Err(NO_SIGNAL)),
-    (125, &NO_L5_PHASE, Err(NO_SIGNAL)),
-    (12, &THREE_BANDS, Ok([b'C', b'W', 0])),
-    (15, &THREE_BANDS, Ok([b'C', 0, b'X'])),
-    (125, &THREE_BANDS, Ok([b'C', b'W', b'X'])),
-];
-
 #[test]
-fn each_band_of_the_options_needs_a_code(rt: HostRuntime) -> Result<(), AllocError> {
-    for row in LETTERS.iter() {
-        let (bands, types, letters) = row;
-        let found = letters_on(rt.alloc(), *bands, *types)?;
-        assert_eq!(rt; found, Some(*letters), "{bands}, {types:?}");
+fn each_band_of_the_options_needs_a_code(rt: HostRuntime) -> Result<(), Fail> {
+    let cases: [(&[&str], [Option<[u8; 3]>; 3]); 4] = [
+        (&ALL, [Some([b'C', b'W', 0]), None, None]),
+        (&L1_L5, [None, Some([b'C', 0, b'Q']), None]),
+        (&NO_L5_PHASE, [Some([b'C', b'W', 0]), None, None]),
+        (
+            &THREE_BANDS,
+            [
+                Some([b'C', b'W', 0]),
+                Some([b'C', 0, b'X']),
+                Some([b'C', b'W', b'X']),
+            ],
+        ),
+    ];
+    for (types, [on_12, on_15, on_125]) in cases {
+        assert_eq!(rt; letters_on(&rt, rt.alloc(), 12, types)?, on_12);
+        assert_eq!(rt; letters_on(&rt, rt.alloc(), 15, types)?, on_15);
+        assert_eq!(rt; letters_on(&rt, rt.alloc(), 125, types)?, on_125);
     }
     Ok(())
 }
 
-// What isn't so of five epochs of which each second one is taken from the second on.
-fn wrong_begun(alloc: Global) -> Result<Option<&'static str>, AllocError> {
+#[test]
+fn begins_with_the_taken_pairs(rt: HostRuntime) -> Result<(), Fail> {
     let tags = [0, 300_000_000, 600_000_000, 900_000_000, 1_200_000_000];
-    let base = file_of(alloc, ON_GROUND, &ALL, &tags)?;
-    let rover = file_of(alloc, None, &ALL, &tags)?;
+    let base = file_of(rt.alloc(), ON_GROUND, &ALL, &tags)?;
+    let rover = file_of(rt.alloc(), None, &ALL, &tags)?;
     let mut options = Options::defaults();
     options.first = 1;
     options.step = 2;
-    let Ok(begun) = begin(alloc, &base, &rover, &options) else {
-        return Ok(Some("it doesn't begin"));
+    let Ok(begun) = begin(rt.alloc(), &base, &rover, &options) else {
+        assert!(rt; false);
+        return Ok(());
     };
-    Ok(if begun.position != [63_781_370_000, 0, 0] {
-        Some("the position")
-    } else if (begun.signals.l1, begun.signals.l2) != (b'C', b'W') {
-        Some("the letters")
-    } else if begun.all != 5 {
-        Some("the pairs")
-    } else if begun.taken.len() != 2 {
-        Some("how many are taken")
-    } else if (begun.taken[0].base, begun.taken[1].rover) != (1, 3) {
-        Some("which are taken")
-    } else {
-        None
-    })
-}
-
-#[test]
-fn begins_with_the_taken_pairs(rt: HostRuntime) -> Result<(), AllocError> {
-    assert_eq!(rt; wrong_begun(rt.alloc())?, None);
+    assert_eq!(rt; begun.position, [63_781_370_000, 0, 0]);
+    assert_eq!(rt; (begun.signals.l1, begun.signals.l2), (b'C', b'W'));
+    assert_eq!(rt; begun.all, 5);
+    assert_eq!(rt; begun.taken.len(), 2);
+    assert_eq!(rt; (begun.taken[0].base, begun.taken[1].rover), (1, 3));
     Ok(())
-}
-
-const THREE_TAGS: [u64; 3] = [0, 300_000_000, 600_000_000];
-
-// What isn't so of a run without records.
-fn wrong_without_records(alloc: Global) -> Result<Option<&'static str>, AllocError> {
-    let base = file_of(alloc, ON_GROUND, &ALL, &THREE_TAGS)?;
-    let mut rover = file_of(alloc, None, &ALL, &THREE_TAGS)?;
-    rover.delta[0] = 1;
-    let nav = NavFile::new(alloc);
-    let Ok(outcome) = process(alloc, &base, &rover, &nav, &Options::defaults()) else {
-        return Ok(Some("no outcome"));
-    };
-    let counts = (outcome.taken, outcome.all, outcome.kept, outcome.delta);
-    Ok(if counts != (3, 3, 0, true) {
-        Some("the counts")
-    } else if matches!(&outcome.answer, Answer::Few { pairs: 3 }) {
-        None
-    } else {
-        Some("the answer")
-    })
 }
 
 // Without records no satellite is used.
 #[test]
-fn few_without_records(rt: HostRuntime) -> Result<(), AllocError> {
-    assert_eq!(rt; wrong_without_records(rt.alloc())?, None);
-    Ok(())
-}
-
-#[test]
-fn refuses_a_base_without_a_position(rt: HostRuntime) -> Result<(), AllocError> {
-    let alloc = rt.alloc();
-    let base = file_of(alloc, None, &ALL, &THREE_TAGS)?;
-    let rover = file_of(alloc, ON_GROUND, &ALL, &THREE_TAGS)?;
-    let nav = NavFile::new(alloc);
-    let refused = process(alloc, &base, &rover, &nav, &Options::defaults()).err();
-    assert_eq!(rt; refused, Some(NO_POSITION));
+fn few_without_records(rt: HostRuntime) -> Result<(), Fail> {
+    let tags = [0, 300_000_000, 600_000_000];
+    let base = file_of(rt.alloc(), ON_GROUND, &ALL, &tags)?;
+    let mut rover = file_of(rt.alloc(), None, &ALL, &tags)?;
+    rover.delta[0] = 1;
+    let nav = NavFile::new(rt.alloc());
+    let Ok(outcome) = process(rt.alloc(), &base, &rover, &nav, &Options::defaults()) else {
+        assert!(rt; false);
+        return Ok(());
+    };
+    assert_eq!(rt; (outcome.taken, outcome.all, outcome.kept), (3, 3, 0));
+    assert!(rt; outcome.delta);
+    assert!(rt; matches!(&outcome.answer, Answer::Few { pairs: 3 }));
+    let refused = process(rt.alloc(), &rover, &base, &nav, &Options::defaults()).err();
+    let expected = SessionFault::Refused(PairWhat::NoBasePosition);
+    assert_eq!(rt; refused, Some(expected));
     Ok(())
 }

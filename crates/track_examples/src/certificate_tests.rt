@@ -1,10 +1,12 @@
 //! Certificates of tracks that are written and read, and lines that are refused.
 use rinex_head::{At, What};
 use std::alloc::{AllocError, Global};
+use std::process::Abort;
+use std::test::Fail;
 use track_text::{CertFault, read_track, write_track};
 
 // The head, the arcs and the pairs of a small track of two satellites in two pairs.
-static FRONT: [&str; 17] = [
+const FRONT: [&str; 17] = [
     "baseline-track 1",
     "ratio 2000",
     "budget 1000",
@@ -24,7 +26,7 @@ static FRONT: [&str; 17] = [
     "row 1 0 0 0 0 0 0 0 0 0 0 0",
 ];
 
-static VECTORS: [&str; 6] = [
+const VECTORS: [&str; 6] = [
     "z1 -1 1073741823",
     "z2 7 7",
     "move 0 1 -2 3",
@@ -36,7 +38,7 @@ static VECTORS: [&str; 6] = [
 // A line in its place, and where the text is refused with it.
 type BadLine = (u32, &'static str, u32, What);
 
-static BAD_LINES: [BadLine; 24] = [
+const BAD_LINES: [BadLine; 24] = [
     (1, "baseline-cert 2", 1, What::BadLine),
     (1, "baseline-track 2", 1, What::BadLine),
     (4, "base 63781370000 0 0", 1, What::BadLine),
@@ -103,89 +105,69 @@ fn with_line(alloc: Global, number: u32, bad: &str) -> Result<String, AllocError
     Ok(text)
 }
 
-// Where a text is refused; none where it isn't, or where memory is out.
-fn refusal(alloc: Global, text: &str) -> Option<At> {
-    if text.len() > 67_108_864 {
-        return None;
-    }
+// Where a text is refused.
+fn refusal(rt: &impl Abort, alloc: Global, text: &str) -> Option<At> {
+    assert!(rt; text.len() <= 67_108_864);
     match read_track(alloc, text.as_bytes()) {
+        Ok(_) => None,
         Err(CertFault::Refused(at)) => Some(at),
-        _ => None,
+        Err(CertFault::NoMemory) => panic!(rt; "no memory"),
     }
 }
 
-static TAILS: [&[&str]; 4] = [
-    &["declined weak 62 -4503599627370495"],
-    &["declined overwidth y"],
-    &["declined overwidth search"],
-    &["declined spent 1000"],
-];
-
-// What isn't so of a text with this tail that is read and written again.
-fn wrong_again(alloc: Global, tail: &[&str]) -> Result<Option<&'static str>, AllocError> {
+fn gives_back(rt: &impl Abort, alloc: Global, tail: &[&str]) -> Result<(), AllocError> {
     let text = text_of(alloc, &FRONT, tail)?;
-    if text.len() > 67_108_864 {
-        return Ok(Some("the length"));
-    }
-    let Ok(cert) = read_track(alloc, text.as_bytes()) else {
-        return Ok(Some("the text is refused"));
-    };
+    assert!(rt; text.len() <= 67_108_864);
     let mut out = Vec::new(alloc);
-    write_track(alloc, &mut out, &cert)?;
-    if out.as_slice() == text.as_bytes() {
-        Ok(None)
-    } else {
-        Ok(Some("another text"))
+    match read_track(alloc, text.as_bytes()) {
+        Ok(cert) => write_track(alloc, &mut out, &cert)?,
+        Err(_) => panic!(rt; "refused"),
     }
-}
-
-#[test]
-fn gives_texts_back(rt: HostRuntime) -> Result<(), AllocError> {
-    assert_eq!(rt; wrong_again(rt.alloc(), &VECTORS)?, None);
-    for tail in TAILS.iter() {
-        assert_eq!(rt; wrong_again(rt.alloc(), *tail)?, None, "{tail:?}");
-    }
+    assert!(rt; out.as_slice() == text.as_bytes());
     Ok(())
 }
 
-// Where the text with a bad line is refused.
-fn line_refusal(alloc: Global, number: u32, bad: &str) -> Result<Option<At>, AllocError> {
-    let text = with_line(alloc, number, bad)?;
-    Ok(refusal(alloc, &text))
-}
-
 #[test]
-fn refuses_lines(rt: HostRuntime) -> Result<(), AllocError> {
-    for row in BAD_LINES.iter() {
-        let (line, bad, column, what) = *row;
-        let found = line_refusal(rt.alloc(), line, bad)?;
-        assert_eq!(rt; found, Some(At { line, column, what }), "{bad}");
-    }
+fn gives_texts_back(rt: HostRuntime) -> Result<(), Fail> {
+    let alloc = rt.alloc();
+    gives_back(&rt, alloc, &VECTORS)?;
+    gives_back(&rt, alloc, &["declined weak 62 -4503599627370495"])?;
+    gives_back(&rt, alloc, &["declined overwidth y"])?;
+    gives_back(&rt, alloc, &["declined overwidth search"])?;
+    gives_back(&rt, alloc, &["declined spent 1000"])?;
     Ok(())
 }
 
-// Where a text that lacks its last line is refused, and one with a line more.
-fn end_refusals(alloc: Global) -> Result<[Option<At>; 2], AllocError> {
-    let cut = text_of(alloc, &FRONT, &VECTORS[..5])?;
-    let mut long = text_of(alloc, &FRONT, &VECTORS)?;
-    push_lines(&mut long, &["fixed"])?;
-    Ok([refusal(alloc, &cut), refusal(alloc, &long)])
+#[test]
+fn refuses_lines(rt: HostRuntime) -> Result<(), Fail> {
+    let alloc = rt.alloc();
+    for (number, bad, column, what) in BAD_LINES {
+        let text = with_line(alloc, number, bad)?;
+        let want = Some(At {
+            line: number,
+            column,
+            what,
+        });
+        assert!(rt; refusal(&rt, alloc, &text) == want, "at {number}: {bad}");
+    }
+    Ok(())
 }
 
 // The line after the last is missing, or there is one more.
 #[test]
-fn ends_where_its_last_line_does(rt: HostRuntime) -> Result<(), AllocError> {
-    let (column, what) = (1, What::BadLine);
-    let cut = Some(At {
-        line: 23,
-        column,
-        what,
-    });
-    let long = Some(At {
-        line: 24,
-        column,
-        what,
-    });
-    assert_eq!(rt; end_refusals(rt.alloc())?, [cut, long]);
+fn ends_where_its_last_line_does(rt: HostRuntime) -> Result<(), Fail> {
+    let alloc = rt.alloc();
+    let bad = |line: u32| {
+        Some(At {
+            line,
+            column: 1,
+            what: What::BadLine,
+        })
+    };
+    let cut = text_of(alloc, &FRONT, &VECTORS[..5])?;
+    assert!(rt; refusal(&rt, alloc, &cut) == bad(23));
+    let mut long = text_of(alloc, &FRONT, &VECTORS)?;
+    push_lines(&mut long, &["fixed"])?;
+    assert!(rt; refusal(&rt, alloc, &long) == bad(24));
     Ok(())
 }

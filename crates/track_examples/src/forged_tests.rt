@@ -1,14 +1,14 @@
 //! Tracks that were tampered with, made up or can't be told apart. Their verdicts are those of an independent model.
-use crate::runs::{track_texts, wrong_check, wrong_decline};
+use crate::runs::{check_text, track_texts};
 use crate::texts::{ALL, L1C, with_more};
 use job_answers::Status;
 use run_options::Options;
 use sim_session::make;
-use std::alloc::{AllocError, Global};
+use std::alloc::Global;
 use std::test::Fail;
 
 // A number of each line of a track's tail: of both vectors, the exponent, both values and the upper sum.
-static FORGED: [(&str, usize); 6] = [
+const FORGED: [(&str, usize); 6] = [
     ("z1 ", 1),
     ("z2 ", 1),
     ("values ", 1),
@@ -33,13 +33,8 @@ fn push_greater(alloc: Global, out: &mut String, line: &str, place: usize) -> Re
     Ok(())
 }
 
-// What isn't so of the check of the text in which that number of the line that begins so is greater by one.
-fn wrong_forged(
-    alloc: Global,
-    text: &[u8],
-    begin: &str,
-    place: usize,
-) -> Result<Option<&'static str>, Fail> {
+// What a check says of the text in which that number of the line that begins so is greater by one.
+fn forged(alloc: Global, text: &[u8], begin: &str, place: usize) -> Result<Vec<u8>, Fail> {
     let mut out = String::new(alloc);
     for line in str::from_utf8(text)?.lines() {
         if line.starts_with(begin) {
@@ -49,8 +44,7 @@ fn wrong_forged(
         }
         out.push('\n')?;
     }
-    let tail = "not certified tail\n";
-    Ok(wrong_check(alloc, out.as_bytes(), Status::Declined, tail, "")?)
+    Ok(check_text(alloc, out.as_bytes())?.out)
 }
 
 #[test]
@@ -61,8 +55,8 @@ fn forged_numbers(rt: HostRuntime) -> Result<(), Fail> {
     assert_eq!(rt; answer.status, Status::Done);
     for row in FORGED.iter() {
         let (begin, place) = *row;
-        let wrong = wrong_forged(alloc, &answer.out, begin, place)?;
-        assert_eq!(rt; wrong, None, "{row:?}");
+        let said = forged(alloc, &answer.out, begin, place)?;
+        assert_eq!(rt; said.as_slice(), b"not certified tail\n".as_slice());
     }
     Ok(())
 }
@@ -74,12 +68,16 @@ fn half_a_cycle_is_unseparated(rt: HostRuntime) -> Result<(), Fail> {
     let made = make(alloc, 3, 10, 5, 12, b'G')?;
     let rover = with_more(alloc, &made.rover, ALL, "G03", L1C, 500)?;
     let answer = track_texts(alloc, &made, rover.as_bytes(), &Options::defaults())?;
-    let told = "pairs 10 of 10\narcs 5\nverdict declined\n";
-    let wrong = wrong_decline(&answer, ("", "\ndeclined unseparated\n"), (told, told));
-    assert_eq!(rt; (wrong, answer.err.len()), (None, told.len()));
-    let not = "not certified unseparated\n";
-    let wrong = wrong_check(alloc, &answer.out, Status::Declined, not, "")?;
-    assert_eq!(rt; wrong, None);
+    assert_eq!(rt; answer.status, Status::Declined);
+    assert!(rt; answer.out.ends_with(b"\ndeclined unseparated\n"));
+    let told = b"pairs 10 of 10\narcs 5\nverdict declined\n";
+    assert_eq!(rt; answer.err.as_slice(), told.as_slice());
+    let checked = check_text(alloc, &answer.out)?;
+    assert_eq!(rt; checked.status, Status::Declined);
+    assert_eq!(rt;
+        checked.out.as_slice(),
+        b"not certified unseparated\n".as_slice()
+    );
     Ok(())
 }
 
@@ -94,23 +92,22 @@ pair 1 13881024300000000 0 4\nat 63781370000 0 0\n\
 row 0 0 0 0 0 0 0 0 0 0 0 0\nrow 1 0 0 0 0 0 0 0 0 0 0 0\n\
 row 2 0 0 0 0 0 0 0 0 0 0 0\nrow 3 0 0 0 0 0 0 0 0 0 0 0\n";
 
-static TAILS: [&str; 2] = [
+const TAILS: [&str; 2] = [
     "declined spent 1000\n",
     "z1 0 0 0 0 0 0\nz2 -5 -4 0 0 0 0\nmove 0 0 0 0\nmove 1 0 0 0\nvalues 38 0 0 0\nfixed\n",
 ];
 
-// What isn't so of the check of that track with this tail.
-fn wrong_flat(alloc: Global, tail: &str) -> Result<Option<&'static str>, AllocError> {
-    let text = format!(in alloc; "{FLAT}{tail}")?;
-    let weak = "not certified weak 0 -10\n";
-    wrong_check(alloc, text.as_bytes(), Status::Declined, weak, "")
-}
-
 // A pair whose own rows are too weak decides, whatever the others are.
 #[test]
-fn a_weak_pair_is_refused(rt: HostRuntime) -> Result<(), AllocError> {
+fn a_weak_pair_is_refused(rt: HostRuntime) -> Result<(), Fail> {
+    let alloc = rt.alloc();
     for tail in TAILS.iter() {
-        assert_eq!(rt; wrong_flat(rt.alloc(), *tail)?, None, "{tail}");
+        let text = format!(in alloc; "{FLAT}{tail}")?;
+        let checked = check_text(alloc, text.as_bytes())?;
+        assert_eq!(rt;
+            checked.out.as_slice(),
+            b"not certified weak 0 -10\n".as_slice()
+        );
     }
     Ok(())
 }

@@ -6,6 +6,8 @@ use run_options::Options;
 use session_files::answer_session;
 use sim_session::Made;
 use std::alloc::{AllocError, Global};
+use std::process::Abort;
+use std::test::Fail;
 use track_job::{MovingRover, TrackCheck};
 
 /// The offset that seed 1 draws, in 0.1 mm.
@@ -49,33 +51,13 @@ pub(crate) fn check_text(alloc: Global, text: &[u8]) -> Result<JobOutput, AllocE
     answer_of(answer_file(alloc, &mut files, &TrackCheck, "C"))
 }
 
-// Whether a text on err begins so; none is to be empty.
-fn is_told(err: &[u8], told: &str) -> bool {
-    if told.is_empty() {
-        err.is_empty()
-    } else {
-        err.starts_with(told.as_bytes())
-    }
-}
-
-/// What isn't so of the check of this text: the status, out, or how err begins.
-pub(crate) fn wrong_check(
-    alloc: Global,
-    text: &[u8],
-    status: Status,
-    out: &str,
-    told: &str,
-) -> Result<Option<&'static str>, AllocError> {
+/// Fails unless a check of this text says that it is certified.
+pub(crate) fn is_certified(rt: &impl Abort, alloc: Global, text: &[u8]) -> Result<(), AllocError> {
     let checked = check_text(alloc, text)?;
-    Ok(if checked.status != status {
-        Some("the check's status")
-    } else if checked.out.as_slice() != out.as_bytes() {
-        Some("the check's out")
-    } else if !is_told(&checked.err, told) {
-        Some("the check's err")
-    } else {
-        None
-    })
+    assert_eq!(rt; checked.out.as_slice(), b"certified\n".as_slice());
+    assert_eq!(rt; checked.status, Status::Done);
+    assert!(rt; checked.err.is_empty());
+    Ok(())
 }
 
 // The three coordinates after the number in the line of a place, in 0.1 mm.
@@ -121,78 +103,20 @@ pub(crate) fn standing(count: usize, place: [i64; 3]) -> Walk {
     }
 }
 
-// Whether the places of this walk are printed, each within 10 mm.
-fn are_places(text: &str, walk: &Walk) -> bool {
+/// Fails unless the places of this walk are printed, each within 10 mm.
+pub(crate) fn are_places(rt: &impl Abort, err: &[u8], walk: &Walk) -> Result<(), Fail> {
     let mut seen = 0usize;
-    for line in text.lines().filter(|line| line.starts_with("place ")) {
-        let place = if seen < walk.turn {
-            walk.first
-        } else {
-            walk.second
-        };
-        if !is_near(place_in(line), place) {
-            return false;
+    for line in str::from_utf8(err)?.lines() {
+        if line.starts_with("place ") {
+            let place = if seen < walk.turn {
+                walk.first
+            } else {
+                walk.second
+            };
+            assert!(rt; is_near(place_in(line), place), "at {line}");
+            seen = seen.wrapping_add(1);
         }
-        seen = seen.wrapping_add(1);
     }
-    seen == walk.count
-}
-
-/// What isn't so of a text on err: how it begins, how it ends, or its places.
-pub(crate) fn wrong_places(
-    err: &[u8],
-    begins: &str,
-    ends: &str,
-    walk: &Walk,
-) -> Option<&'static str> {
-    let Ok(text) = str::from_utf8(err) else {
-        return Some("err");
-    };
-    if !text.starts_with(begins) {
-        Some("how err begins")
-    } else if !text.ends_with(ends) {
-        Some("how err ends")
-    } else if !are_places(text, walk) {
-        Some("the places")
-    } else {
-        None
-    }
-}
-
-/// What isn't so of a track that is fixed, with this beginning on err and these places, and certified.
-pub(crate) fn wrong_track(
-    alloc: Global,
-    answer: &JobOutput,
-    begins: &str,
-    walk: &Walk,
-) -> Result<Option<&'static str>, AllocError> {
-    if answer.status != Status::Done {
-        return Ok(Some("the status"));
-    }
-    let wrong = wrong_places(&answer.err, begins, "\nverdict fixed\n", walk);
-    if wrong.is_some() {
-        return Ok(wrong);
-    }
-    wrong_check(alloc, &answer.out, Status::Done, "certified\n", "")
-}
-
-/// What isn't so of a declined answer: how out begins and ends, and how err does.
-pub(crate) fn wrong_decline(
-    answer: &JobOutput,
-    out: (&str, &str),
-    err: (&str, &str),
-) -> Option<&'static str> {
-    if answer.status != Status::Declined {
-        Some("the status")
-    } else if !answer.out.starts_with(out.0.as_bytes()) {
-        Some("how out begins")
-    } else if !answer.out.ends_with(out.1.as_bytes()) {
-        Some("how out ends")
-    } else if !answer.err.starts_with(err.0.as_bytes()) {
-        Some("how err begins")
-    } else if !answer.err.ends_with(err.1.as_bytes()) {
-        Some("how err ends")
-    } else {
-        None
-    }
+    assert_eq!(rt; seen, walk.count);
+    Ok(())
 }
