@@ -15,6 +15,7 @@ const LAST_BEFORE_FOUR: u64 = 900_000_000_000_000;
 
 /// The numbers at the head of a text, by their count and each after one blank, with 0 after them in the array; and the text
 /// after them.
+#[inline(always)]
 pub fn leading_numbers<const N: usize>(text: &[u8], count: usize) -> Option<([i64; N], &[u8])>
     requires { count ≤ N }
     ensures count { IfSome result (λ r. length r.0 ≡ N) }
@@ -84,6 +85,7 @@ fn leading_natural(text: &[u8]) -> Option<(u64, &[u8])>
 }
 
 // The number that begins with this digit and goes on at the head of a text, and the text after it.
+#[inline(always)]
 fn further_digits(first: u64, text: &[u8]) -> Option<(u64, &[u8])>
     requires from { 0 < first }
     requires to { first < 10 }
@@ -107,6 +109,7 @@ fn further_digits(first: u64, text: &[u8]) -> Option<(u64, &[u8])>
 }
 
 // The same as long as four digits follow at a time.
+#[inline(always)]
 fn further_fours(first: u64, text: &[u8]) -> (u64, &[u8])
     requires from { 0 < first }
     requires to { first < 10 }

@@ -27,11 +27,14 @@ fn plus_times(sum: i128, factor: i128, value: i64) -> i128
     sum + factor * value as i128
 }
 
+/// The product of any weight and a value of this size fits 64 bits.
+const SHORT: i64 = 1 << 30;
+
 /// Whether weight · value fits 64 bits, whatever the weight.
 fn is_short(value: i64) -> bool
     ensures { IsTrue result → unsigned_abs value ≤ 2 ^ 30 }
 {
-    value.unsigned_abs() <= 1 << 30
+    -SHORT <= value && value <= SHORT
 }
 
 /// weight · value
