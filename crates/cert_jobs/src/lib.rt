@@ -8,8 +8,11 @@
 //! the head of its module.
 #![tactic(auto)]
 
-ghost use Rattle.std.specs.Prelude.{◌≡◌, ◌++◌};
+ghost use Rattle.std.specs.Prelude.{◌≡◌, [], ◌++◌, IfOk};
+ghost use Rattle.job_answers.specs.Answers.{ending_of};
+ghost use Rattle.job_answers.specs.Endings.{ending};
 ghost use Rattle.job_answers.specs.Statuses.{IsVerdictStatus};
+ghost use Rattle.cert_report.specs.VerdictText.{verdict_text};
 ghost use Rattle.cert_jobs.specs.CertJobs.{status_of, shown_status, check_job, residuals_job};
 
 mod migrations;
@@ -21,7 +24,7 @@ use cert_text::read_cert;
 use job_answers::{JobOutput, Status, TextCommand};
 pub use migrations::Migration;
 use rinex_head::TextFault;
-use std::alloc::Global;
+use std::alloc::{AllocError, Global};
 
 /// Done where the verdict is `Certified`, else declined.
 pub fn status_of(verdict: &Verdict) -> Status
@@ -45,6 +48,20 @@ fn shown_status(shown: bool) -> Status
     }
 }
 
+/// What a check that comes to this verdict answers.
+pub fn verdict_output(alloc: Global, verdict: &Verdict) -> Result<JobOutput, AllocError>
+    ensures ended { IfOk result (λ a. ending_of a ≡ ending (status_of verdict.now) (verdict_text verdict.now) []) }
+    ensures verdict { IfOk result (λ a. IsVerdictStatus a.status) }
+{
+    let mut out = Vec::new(alloc);
+    write_verdict(alloc, &mut out, verdict)?;
+    Ok(JobOutput {
+        status: status_of(verdict),
+        out,
+        err: Vec::new(alloc),
+    })
+}
+
 /// Whether the rows of the certificate say what its tail says of a fix.
 #[derive(Clone, Copy, Debug)]
 pub struct CertCheck;
@@ -55,13 +72,7 @@ impl TextCommand for CertCheck {
     fn answer(&self, alloc: Global, text: &[u8]) -> Result<JobOutput, TextFault> {
         let cert = read_cert(alloc, text)?;
         let verdict = check(&cert);
-        let mut out = Vec::new(alloc);
-        write_verdict(alloc, &mut out, &verdict)?;
-        Ok(JobOutput {
-            status: status_of(&verdict),
-            out,
-            err: Vec::new(alloc),
-        })
+        Ok(verdict_output(alloc, &verdict)?)
     }
 }
 

@@ -35,26 +35,25 @@ rank_less form p q a b y x e g h = subst (λ (n : ℕ). IsRankLess p (suffix y 0
     (subst (λ (t : ℤ). IsRankLess p (suffix y 0 (form.columns - 3 - 1)) t (suffix x 0 (form.columns - 3 - 1))) g
     (subst (λ (t : ℤ). IsRankLess t (suffix y 0 (form.columns - 3 - 1)) b (suffix x 0 (form.columns - 3 - 1))) e h))
 
--- the rounded point with its image and its value
-first_point : (form : Form) (map : List (List ℤ)) (z y : List ℤ) (p : ℤ) → suffix z 0 (search_form form).size ≡ rounded (search_form form) (search_form form).size
-    → Holds (form.columns - 3 - 1) y (image_of map (form.columns - 3 - 1) (suffix z 0 (form.columns - 3 - 1))) → p ≡ value (search_form form).p (suffix z 0 (search_form form).size)
-    → IsPoint (search_form form) (search_image form map) (suffix z 0 (search_form form).size) y p
-first_point form map z y p is held value_is =
-    let f : SearchForm = search_form form in
-    record { size = ap length is ∙ rounded_length f f.size; held = image_held form map z y held; value_is = value_is; within = within_top f (rounded f f.size) _ is (top_first f) }
+-- the rounded point z and its neighbour w, with their images y and v and their values p and q
+record ArePoints (form : Form) (map : List (List ℤ)) (z w y v : List ℤ) (p q : ℤ) : Type 0 where
+  first : IsPoint (search_form form) (search_image form map) (suffix z 0 (search_form form).size) y p
+  second : IsPoint (search_form form) (search_image form map) (suffix w 0 (search_form form).size) v q
+  small : top (search_form form) <ℤ pos (2 ^ 62)
 
--- and its neighbour
-second_point : (form : Form) (map : List (List ℤ)) (w v : List ℤ) (q : ℤ) → 0 < (search_form form).size → suffix w 0 (search_form form).size ≡ neighbour (search_form form)
-    → Holds (form.columns - 3 - 1) v (image_of map (form.columns - 3 - 1) (suffix w 0 (form.columns - 3 - 1))) → q ≡ value (search_form form).p (suffix w 0 (search_form form).size)
-    → IsPoint (search_form form) (search_image form map) (suffix w 0 (search_form form).size) v q
-second_point form map w v q some is held value_is =
+points : (form : Form) (map : List (List ℤ)) (z w y v : List ℤ) (p q : ℤ) → 0 < (search_form form).size
+    → suffix z 0 (search_form form).size ≡ rounded (search_form form) (search_form form).size → suffix w 0 (search_form form).size ≡ neighbour (search_form form)
+    → Holds (form.columns - 3 - 1) y (image_of map (form.columns - 3 - 1) (suffix z 0 (form.columns - 3 - 1)))
+    → Holds (form.columns - 3 - 1) v (image_of map (form.columns - 3 - 1) (suffix w 0 (form.columns - 3 - 1)))
+    → p ≡ value (search_form form).p (suffix z 0 (search_form form).size) → q ≡ value (search_form form).p (suffix w 0 (search_form form).size)
+    → p <ℤ pos (2 ^ 62) → q <ℤ pos (2 ^ 62) → ArePoints form map z w y v p q
+points form map z w y v p q some z_is w_is y_held v_held p_is q_is p_small q_small =
     let f : SearchForm = search_form form in
-    record { size = ap length is ∙ neighbour_length f some; held = image_held form map w v held; value_is = value_is; within = within_top f (neighbour f) _ is (top_second f) }
-
-both_small : (f : SearchForm) (z w : List ℤ) (p q : ℤ) → z ≡ rounded f f.size → w ≡ neighbour f → p ≡ value f.p z → q ≡ value f.p w → p <ℤ pos (2 ^ 62) → q <ℤ pos (2 ^ 62)
-    → top f <ℤ pos (2 ^ 62)
-both_small f z w p q first second p_is q_is p_small q_small =
-    top_small f p q (p_is ∙ ap (λ v. value f.p v) first) (q_is ∙ ap (λ v. value f.p v) second) p_small q_small
+    record {
+      first = record { size = ap length z_is ∙ rounded_length f f.size; held = image_held form map z y y_held; value_is = p_is; within = within_top f (rounded f f.size) _ z_is (top_first f) };
+      second = record { size = ap length w_is ∙ neighbour_length f some; held = image_held form map w v v_held; value_is = q_is; within = within_top f (neighbour f) _ w_is (top_second f) };
+      small = top_small f p q (p_is ∙ ap (λ u. value f.p u) z_is) (q_is ∙ ap (λ u. value f.p u) w_is) p_small q_small;
+    }
 
 pub returns-then-p : goal.returns-then-p
 returns-then-p c =
@@ -98,38 +97,30 @@ returns-in-Less c =
     let form : Form = c.args.form.now in
     let f : SearchForm = search_form form in
     let im : List ℤ → List ℤ = search_image form c.args.map.now in
-    let k = searchable form c.requires.some in
     let s = c.value_at-p.type_inv in
     let t = c.value_at-q.type_inv in
     let p : to_z w128 (of_z w128 c.value_at-p.result) ≡ c.value_at-p.result = omega (arith, ints) in
     let q : to_z w128 (of_z w128 c.value_at-q.result) ≡ c.value_at-q.result = omega (arith, ints) in
-    let a : IsPoint f im (suffix c.in_ok-z.z 0 f.size) c.in_ok-y.y c.value_at-p.result =
-    first_point form c.args.map.now c.in_ok-z.z c.in_ok-y.y c.value_at-p.result c.in_ok-z.ensures.is c.in_ok-y.ensures c.value_at-p.ensures in
-    let b : IsPoint f im (suffix c.in_ok-w.w 0 f.size) c.in_ok-v.v c.value_at-q.result =
-    second_point form c.args.map.now c.in_ok-w.w c.in_ok-v.v c.value_at-q.result k.some c.in_ok-w.ensures.is c.in_ok-v.ensures c.value_at-q.ensures in
-    let small : top f <ℤ pos (2 ^ 62) = both_small f _ _ c.value_at-p.result c.value_at-q.result c.in_ok-z.ensures.is c.in_ok-w.ensures.is c.value_at-p.ensures c.value_at-q.ensures (omega (arith, ints))
-    (omega (arith, ints)) in
+    let are : ArePoints form c.args.map.now c.in_ok-z.z c.in_ok-w.w c.in_ok-y.y c.in_ok-v.v c.value_at-p.result c.value_at-q.result =
+    points form c.args.map.now c.in_ok-z.z c.in_ok-w.w c.in_ok-y.y c.in_ok-v.v c.value_at-p.result c.value_at-q.result (searchable form c.requires.some).some c.in_ok-z.ensures.is c.in_ok-w.ensures.is
+    c.in_ok-y.ensures c.in_ok-v.ensures c.value_at-p.ensures c.value_at-q.ensures (omega (arith, ints)) (omega (arith, ints)) in
     let g : BeginsWith f (record { first = c.in_ok-y.y; second = c.in_ok-v.v; p1 = c.value_at-p.result; p2 = c.value_at-q.result }) c.begin.result = rw (p, q) at c.begin.ensures in
-    begins f im (suffix c.in_ok-z.z 0 f.size) (suffix c.in_ok-w.w 0 f.size) c.in_ok-y.y c.in_ok-v.v c.value_at-p.result c.value_at-q.result c.begin.result a b
-    (rank_less form _ _ _ _ c.in_ok-y.y c.in_ok-v.v p q c.in-Less.ensures) small g
+    begins f im (suffix c.in_ok-z.z 0 f.size) (suffix c.in_ok-w.w 0 f.size) c.in_ok-y.y c.in_ok-v.v c.value_at-p.result c.value_at-q.result c.begin.result are.first are.second
+    (rank_less form _ _ _ _ c.in_ok-y.y c.in_ok-v.v p q c.in-Less.ensures) are.small g
 
 pub returns-in-Greater : goal.returns-in-Greater
 returns-in-Greater c =
     let form : Form = c.args.form.now in
     let f : SearchForm = search_form form in
     let im : List ℤ → List ℤ = search_image form c.args.map.now in
-    let k = searchable form c.requires.some in
     let s = c.value_at-p.type_inv in
     let t = c.value_at-q.type_inv in
     let p : to_z w128 (of_z w128 c.value_at-p.result) ≡ c.value_at-p.result = omega (arith, ints) in
     let q : to_z w128 (of_z w128 c.value_at-q.result) ≡ c.value_at-q.result = omega (arith, ints) in
-    let a : IsPoint f im (suffix c.in_ok-z.z 0 f.size) c.in_ok-y.y c.value_at-p.result =
-    first_point form c.args.map.now c.in_ok-z.z c.in_ok-y.y c.value_at-p.result c.in_ok-z.ensures.is c.in_ok-y.ensures c.value_at-p.ensures in
-    let b : IsPoint f im (suffix c.in_ok-w.w 0 f.size) c.in_ok-v.v c.value_at-q.result =
-    second_point form c.args.map.now c.in_ok-w.w c.in_ok-v.v c.value_at-q.result k.some c.in_ok-w.ensures.is c.in_ok-v.ensures c.value_at-q.ensures in
-    let small : top f <ℤ pos (2 ^ 62) = both_small f _ _ c.value_at-p.result c.value_at-q.result c.in_ok-z.ensures.is c.in_ok-w.ensures.is c.value_at-p.ensures c.value_at-q.ensures (omega (arith, ints))
-    (omega (arith, ints)) in
+    let are : ArePoints form c.args.map.now c.in_ok-z.z c.in_ok-w.w c.in_ok-y.y c.in_ok-v.v c.value_at-p.result c.value_at-q.result =
+    points form c.args.map.now c.in_ok-z.z c.in_ok-w.w c.in_ok-y.y c.in_ok-v.v c.value_at-p.result c.value_at-q.result (searchable form c.requires.some).some c.in_ok-z.ensures.is c.in_ok-w.ensures.is
+    c.in_ok-y.ensures c.in_ok-v.ensures c.value_at-p.ensures c.value_at-q.ensures (omega (arith, ints)) (omega (arith, ints)) in
     let g : BeginsWith f (record { first = c.in_ok-v.v; second = c.in_ok-y.y; p1 = c.value_at-q.result; p2 = c.value_at-p.result }) c.begin-in-Greater.result =
     rw (p, q) at c.begin-in-Greater.ensures in
-    begins f im (suffix c.in_ok-w.w 0 f.size) (suffix c.in_ok-z.z 0 f.size) c.in_ok-v.v c.in_ok-y.y c.value_at-q.result c.value_at-p.result c.begin-in-Greater.result b a
-    (rank_less form _ _ _ _ c.in_ok-v.v c.in_ok-y.y q p c.in-Greater.ensures) small g
+    begins f im (suffix c.in_ok-w.w 0 f.size) (suffix c.in_ok-z.z 0 f.size) c.in_ok-v.v c.in_ok-y.y c.value_at-q.result c.value_at-p.result c.begin-in-Greater.result are.second are.first
+    (rank_less form _ _ _ _ c.in_ok-v.v c.in_ok-y.y q p c.in-Greater.ensures) are.small g
