@@ -6,3 +6,4 @@ pub mod StoredLaws
 pub mod TableLaws
 pub mod KeptLaws
 pub mod FinishLaws
+pub mod NewRows

@@ -1,5 +1,5 @@
 -- One step of the elimination, by its tests.
-use Rattle.std.proofs.Common.{◌≡◌, ℕ, suc, ◌^◌, Bool, true, false, int_lt, List, ℤ, pos, ◌<ℤ◌, Result, Ok, Err, unsigned_abs, arith, sym, ap, ap₂, ◌∙◌, refl}
+use Rattle.std.proofs.Common.{◌≡◌, ℕ, suc, ◌+◌, ◌<◌, ◌≤◌, ◌^◌, Bool, true, false, int_lt, List, ℤ, pos, ◌<ℤ◌, Result, Ok, Err, unsigned_abs, arith, sym, ap, ap₂, ◌∙◌, refl, subst}
 use Rattle.std.proofs.lemmas.Int.{ints}
 use Rattle.whole_math.specs.Vectors.{len}
 use Rattle.quadratic_form.specs.Forms.{Column}
@@ -7,9 +7,11 @@ use Rattle.quadratic_form.specs.Elimination.{factors, kept, next, Factor, Refusa
 use Rattle.quadratic_form.specs.Places.{list_from, form_from}
 use Rattle.quadratic_form.proofs.Places.{list_factors, form_next, len_list}
 use Rattle.form_tables.specs.Tables.{entry}
-use Rattle.elimination.specs.StepEntries.{factor_entry, new_entry}
+use Rattle.elimination.specs.StepEntries.{is_small, factor_entry, new_entry}
 use Rattle.elimination.specs.Stops.{form_after}
 use Rattle.elimination.proofs.NewEntries.{new_own, new_other}
+use Rattle.elimination.proofs.NewRows.{word, read}
+use Rattle.elimination.proofs.SmallEntries.{list_small}
 
 abbrev Answer : Type 0
 Answer = Result (Factor × List Column) Refusal
@@ -42,3 +44,19 @@ next_is t j a n = form_next a (pos n) (entry t j) (entry t) (new_entry t j a (po
 -- a pivot that is large enough is above 0
 pub above : (x : ℤ) → int_lt x (pos (2 ^ 20)) ≡ false → pos 0 <ℤ x
 above x h = omega (arith, ints)
+
+-- the pivot that is read, which isn't weak
+pub record Pivot (t : List (List ℤ)) (j : ℕ) (x : ℤ) : Type 0 where
+  pub as_read : word x ≡ entry t j j
+  pub strong : int_lt (entry t j j) (pos (2 ^ 20)) ≡ false
+
+pub pivot_is : (t : List (List ℤ)) (j : ℕ) (x : ℤ) → x ≡ entry t j j → unsigned_abs (entry t j j) ≤ 2 ^ 52 → int_lt (word x) (pos (2 ^ 20)) ≡ false → Pivot t j x
+pivot_is t j x is size strong = let e : word x ≡ entry t j j = read x (entry t j j) is size in
+    record { as_read = e; strong = subst (λ (z : ℤ). int_lt z (pos (2 ^ 20)) ≡ false) e strong }
+
+-- all its factors are small
+pub factors_small : (t : List (List ℤ)) (j n : ℕ) (x : ℤ) → word x ≡ entry t j j → ((c : ℕ) → j < c → c < suc j + n → is_small (factor_entry t j (unsigned_abs (word x)) c) ≡ true) →
+    all_small (factors (unsigned_abs (entry t j j)) (list_from (entry t j) (suc j) n)) ≡ true
+factors_small t j n x e small = subst (λ (l : List ℤ). all_small l ≡ true) (factors_are t j (unsigned_abs (entry t j j)) n)
+    (list_small (factor_entry t j (unsigned_abs (entry t j j))) (suc j) n
+    (λ c h g. subst (λ (z : ℤ). is_small (factor_entry t j (unsigned_abs z) c) ≡ true) e (small c (omega arith) g)))

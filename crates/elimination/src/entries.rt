@@ -18,6 +18,25 @@ pub fn is_small(number: i128) -> bool
     -LIMIT < number && number < LIMIT
 }
 
+/// A small number in 64 bits: a product of two such takes one multiplication, and of two of 128 bits three.
+fn narrow(x: i128) -> i64
+    requires { unsigned_abs x ≤ 2 ^ 52 }
+    ensures value { result ≡ x }
+    ensures size { unsigned_abs result ≤ 2 ^ 52 }
+{
+    x as i64
+}
+
+/// p · q
+fn short_product(p: i64, q: i64) -> i128
+    requires p_size { unsigned_abs p ≤ 2 ^ 52 }
+    requires q_size { unsigned_abs q ≤ 2 ^ 52 }
+    ensures value { result ≡ p *ℤ q }
+    ensures size { unsigned_abs result ≤ 2 ^ 104 }
+{
+    p as i128 * q as i128
+}
+
 /// p · q
 fn product(p: i128, q: i128) -> i128
     requires p_size { unsigned_abs p ≤ 2 ^ 52 }
@@ -25,7 +44,7 @@ fn product(p: i128, q: i128) -> i128
     ensures value { result ≡ p *ℤ q }
     ensures size { unsigned_abs result ≤ 2 ^ 104 }
 {
-    p * q
+    short_product(narrow(p), narrow(q))
 }
 
 /// entry - loss
@@ -52,13 +71,18 @@ fn less_three(entry: i128, square: i128, count: i128, loss: i128) -> i128
     fewer - loss
 }
 
-/// A whole number near p · 2^exponent / a, by which p · q / a is guessed for many q. Nothing is said of it: a guess is
-/// tested.
+/// About 2^30 / a in units of 2^-exponent, for a pivot a. Nothing is said of it: what is guessed by it is tested.
 #[derive(Clone, Copy, Debug)]
-pub(crate) struct Share {
+pub(crate) struct PivotShare {
     ratio: i64,
     exponent: u32,
     pub ghost exponent_to: { exponent < 128 },
+}
+
+/// About p / a in units of 2^-60, where it is below 4. Nothing else is said of it.
+#[derive(Clone, Copy, Debug)]
+pub(crate) struct Share {
+    ratio: i64,
 }
 
 /// A number, or the nearest that is at most 2^62 in size.
@@ -69,46 +93,50 @@ fn within_62(x: i128) -> i64
 }
 
 /// A number, or the nearest that is at most 2^52 in size.
-fn within_52(x: i128) -> i128
+fn within_52(x: i64) -> i64
     ensures { unsigned_abs result ≤ 2 ^ 52 }
 {
-    x.clamp(-LIMIT, LIMIT)
+    x.clamp(-(1 << 52), 1 << 52)
 }
 
 /// The share of 2^30 in the pivot a, to some 60 bits. It takes the one division of a step.
-pub(crate) fn pivot_share(a: i128) -> Share
+pub(crate) fn pivot_share(a: i128) -> PivotShare
     requires { pos 0 <ℤ a }
 {
     // 29 more than the bits of a
     let exponent = 157_u32.saturating_sub(a.leading_zeros()).min(90);
     let whole = 1_i128 << (FACTOR_EXPONENT + exponent);
-    Share {
+    PivotShare {
         ratio: within_62(whole / a),
         exponent,
     }
 }
 
 /// The share of p in a pivot, by that of 2^30.
-pub(crate) fn share_by(p: i128, pivot: &Share) -> Share {
-    let bits = 128_u32
-        .saturating_sub(p.unsigned_abs().leading_zeros())
-        .min(127);
+pub(crate) fn share_by(p: i128, pivot: &PivotShare) -> Share {
     let product = (pivot.ratio as i128).wrapping_mul(p);
+    let unit = pivot.exponent.saturating_sub(FACTOR_EXPONENT).min(127);
     Share {
-        ratio: within_62(product >> bits),
-        exponent: (pivot.exponent + FACTOR_EXPONENT)
-            .saturating_sub(bits)
-            .min(127),
+        ratio: within_62(product >> unit),
     }
 }
 
 /// About p · q / a to the nearest, by the share of p in a.
 fn guess_of(share: &Share, q: i128) -> i128
+    requires { unsigned_abs q ≤ 2 ^ 52 }
     ensures { unsigned_abs result ≤ 2 ^ 52 }
 {
-    let product = (share.ratio as i128).wrapping_mul(q);
-    let twice = within_62(product.wrapping_add(product) >> share.exponent);
-    within_52((twice as i128 + 1) >> 1)
+    let product = (share.ratio as i128).wrapping_mul(narrow(q) as i128);
+    within_52(within_62(product.wrapping_add(1 << 59) >> 60)) as i128
+}
+
+/// About p · 2^30 / a to the nearest, by the share of 2^30 in a.
+fn factor_guess(pivot: &PivotShare, p: i128) -> i128
+    ensures { unsigned_abs result ≤ 2 ^ 52 }
+{
+    let product = (pivot.ratio as i128).wrapping_mul(p);
+    let twice = within_62(product.wrapping_add(product) >> pivot.exponent);
+    within_52((twice + 1) >> 1) as i128
 }
 
 /// n / a to the nearest: the guess where it is that, and else by a division.
@@ -159,14 +187,14 @@ fn twice_less(n: i128, m: i128) -> i128
 
 /// p · 2^30 / a to the nearest: the factor of a column with the entry p in the column of the pivot a, with the share of
 /// 2^30 in a.
-pub(crate) fn factor_of(p: i128, a: i128, pivot: &Share) -> i128
+pub(crate) fn factor_of(p: i128, a: i128, pivot: &PivotShare) -> i128
     requires p_size { unsigned_abs p ≤ 2 ^ 52 }
     requires a_size { unsigned_abs a ≤ 2 ^ 52 }
     requires positive { pos 0 <ℤ a }
     ensures value { result ≡ nearest_div (p *ℤ pos (2 ^ 30)) (unsigned_abs a) }
     ensures size { unsigned_abs result ≤ 2 ^ 104 }
 {
-    nearest_by(product(p, 1 << FACTOR_EXPONENT), a, guess_of(pivot, p))
+    nearest_by(product(p, 1 << FACTOR_EXPONENT), a, factor_guess(pivot, p))
 }
 
 /// An entry off the diagonal, less p · q / a to the nearest, with the share of p in a.

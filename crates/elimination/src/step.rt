@@ -8,7 +8,7 @@ ghost use Rattle.elimination.specs.Stops.{refusal_of, column_at, form_after};
 ghost use Rattle.integer_form.specs.Factors.{factor_at};
 
 use crate::entries::{
-    Share, factor_of, is_small, kept_of, other_after, own_after, pivot_share, share_by,
+    PivotShare, Share, factor_of, is_small, kept_of, other_after, own_after, pivot_share, share_by,
 };
 use form_tables::{FactorTable, MOST_COLUMNS, MOST_FACTORS, NormalTable};
 
@@ -33,7 +33,7 @@ fn write_factors(
     j: usize,
     columns: usize,
     a: i128,
-    pivot: &Share,
+    pivot: &PivotShare,
 ) -> bool
     requires column { j < columns }
     requires factor_in { j < MOST_FACTORS }
@@ -95,7 +95,7 @@ fn update_row(
     r: usize,
     columns: usize,
     a: i128,
-    pivot: &Share,
+    pivot: &PivotShare,
 ) -> bool
     requires row { j < r }
     requires row_in { r < columns }
@@ -122,7 +122,7 @@ fn update_row(
 }
 
 /// Writes all entries after column j; false where one is too large.
-fn update(table: &mut NormalTable, j: usize, columns: usize, a: i128, pivot: &Share) -> bool
+fn update(table: &mut NormalTable, j: usize, columns: usize, a: i128, pivot: &PivotShare) -> bool
     requires column { j < columns }
     requires columns_in { columns ≤ MOST_COLUMNS }
     requires positive { pos 0 <ℤ a }

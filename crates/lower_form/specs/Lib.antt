@@ -1,3 +1,4 @@
 pub mod FirstRounding
 pub mod Fronts
 pub mod Forms
+pub mod Rooms

@@ -13,9 +13,12 @@ ghost use Rattle.integer_form.specs.Told.{IsToldAs};
 ghost use Rattle.integer_form.specs.Kept.{form_of_table};
 ghost use Rattle.lower_form.specs.Fronts.{front_of, BoundsAllData};
 ghost use Rattle.lower_form.specs.Forms.{IsFrontOf};
+ghost use Rattle.lower_form.specs.Rooms.{IsClean};
 
 use crate::rounding::{exponent, round};
-use elimination::{StepFault, Stopped, first_kept, form_table, front_factors, take_steps};
+use elimination::{
+    StepFault, Stopped, fill_form_table, first_kept, form_table, front_factors, take_steps,
+};
 use form_tables::{BASELINE_COLUMNS, FactorTable, MOST_COLUMNS, MOST_FACTORS, NormalTable};
 use integer_form::{FrontForm, LowerFault};
 use normal_sum::Normal;
@@ -96,4 +99,50 @@ pub fn front(normal: &Normal) -> Result<FrontForm, LowerFault>
         l,
         p,
     })
+}
+
+/// The tables of the steps, kept from one front to the next: to make them anew for each would cost as much as the steps.
+#[derive(Clone, Copy, Debug)]
+pub struct FrontRoom {
+    table: NormalTable,
+    factors: FactorTable,
+    kept: [i64; MOST_FACTORS],
+}
+
+impl FrontRoom {
+    /// Room in which no front was made.
+    pub fn empty() -> FrontRoom
+        ensures { (columns : ℕ) → IsClean columns result }
+    {
+        FrontRoom {
+            table: NormalTable::zeros(),
+            factors: FactorTable::zeros(),
+            kept: [0; MOST_FACTORS],
+        }
+    }
+}
+
+/// Writes the front of a normal matrix over another of as many columns, with the steps in this room. It is that of `front`,
+/// and is refused as that is.
+pub fn refill_front(
+    normal: &Normal,
+    room: &mut FrontRoom,
+    front: &mut FrontForm,
+) -> Result<(), LowerFault>
+    requires clean { IsClean normal.now.columns room.old }
+    requires columns { front.old.columns ≡ normal.now.columns }
+    ensures front { OnOk result (IsFrontOf normal.now front.new) }
+    ensures few { OnOk result (front.new.h ≤ 77) }
+    ensures refused { IfErr result (λ e. (h : ℕ) → IsExponent h (form_of normal.now) → IsToldAs e (front_of h normal.now)) }
+    ensures clean { IsClean normal.now.columns room.new }
+    ensures columns { front.new.columns ≡ normal.now.columns }
+{
+    let h = lower_front(normal, &mut room.table, &mut room.factors, &mut room.kept)?;
+    let d = first_kept(&room.kept);
+    let l = front_factors(&room.factors);
+    fill_form_table(&room.table, &mut front.p, normal.columns - BASELINE_COLUMNS);
+    front.h = h;
+    front.d = d;
+    front.l = l;
+    Ok(())
 }

@@ -12,3 +12,4 @@ pub mod SumTables
 mod Results
 pub mod StrictlyBest
 pub mod RatioLaws
+pub mod ZeroForms

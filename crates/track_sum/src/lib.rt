@@ -3,7 +3,7 @@
 //! `sum_of_fronts` is exactly that sum, and `form_of_track` its finish (`sum`, `form`); they are refused as the first pair
 //! that has no front, and the second besides as the finish of the sum is (`refused`). A front is as large as thirty pairs' rows,
 //! so of each only the factors of the baseline's columns are kept (`factors`), and the common power of two is taken from the
-//! pairs' matrices before. `moves_at` gives the baseline of each pair at given integers by these factors (`moves`), refused
+//! pairs' matrices before. The fronts are made in one room of tables (`PairRoom`). `moves_at` gives the baseline of each pair at given integers by these factors (`moves`), refused
 //! exactly where one of them is too wide (`narrow`, `wide`).
 //!
 //! `laws` names what the sum says: 64 times the pairs' sums of squares together are at least 2^h times the value of the
@@ -22,6 +22,6 @@ mod sums;
 mod tests;
 
 pub use factors::PairFactors;
-pub use fronts::pair_front;
+pub use fronts::{PairRoom, pair_front};
 pub use moves::moves_at;
 pub use sums::{SummedFronts, TrackForm, form_of_track, sum_of_fronts};

@@ -2,6 +2,8 @@
 ghost use Rattle.std.specs.Prelude.{◌≡◌, ◌↔◌, ℕ, ◌-◌, ◌^◌, ◌<◌, length, map, All, Any, IsErr, IfOk, IfErr, unsigned_abs};
 ghost use Rattle.integer_form.specs.declared.faults.Place.TheVariants.{Float};
 ghost use Rattle.integer_form.specs.FloatPoint.{item, HasWide};
+ghost use Rattle.form_tables.specs.Tables.{zero_rows};
+ghost use Rattle.form_tables.specs.declared.sizes.TheConstants.{MOST_FORM_COLUMNS};
 ghost use Rattle.track_sum.specs.Factors.{move_by};
 
 use crate::PairFactors;
@@ -10,30 +12,35 @@ use lower_form::{FrontForm, Overwidth};
 use std::alloc::{AllocError, Global};
 
 impl PairFactors {
-    /// A front with these factors, whose form is 0.
-    fn front(&self) -> FrontForm
-        ensures columns { result.columns ≡ self.now.columns }
-        ensures d { result.d ≡ self.now.d }
-        ensures l { result.l ≡ self.now.l }
+    /// Writes these factors into a front whose form is 0.
+    fn put_in(&self, front: &mut FrontForm)
+        requires { front.old.p ≡ zero_rows MOST_FORM_COLUMNS MOST_FORM_COLUMNS }
+        ensures columns { front.new.columns ≡ self.now.columns }
+        ensures d { front.new.d ≡ self.now.d }
+        ensures l { front.new.l ≡ self.now.l }
+        ensures p { front.new.p ≡ front.old.p }
     {
-        FrontForm {
-            columns: self.columns,
-            h: 0,
-            d: self.d,
-            l: self.l,
-            p: FormTable::zeros(),
-        }
+        front.columns = self.columns;
+        front.d = self.d;
+        front.l = self.l;
     }
 
-    /// The baseline of the pair at the integers z, as a move in 2^-5 ι.
-    fn move_at(&self, z: &[i64]) -> Result<[i64; BASELINE_COLUMNS], Overwidth>
+    /// The baseline of the pair at the integers z, as a move in 2^-5 ι. The front, whose form is 0, lends its room.
+    fn move_at(
+        &self,
+        front: &mut FrontForm,
+        z: &[i64],
+    ) -> Result<[i64; BASELINE_COLUMNS], Overwidth>
+        requires form { front.old.p ≡ zero_rows MOST_FORM_COLUMNS MOST_FORM_COLUMNS }
         requires count { length z.now ≡ self.now.columns - 4 }
         requires size { (i : ℕ) → i < length z.now → unsigned_abs (item z.now i) < 2 ^ 30 }
         ensures ok { IfOk result (λ m. m ≡ move_by z.now self.now) }
         ensures refused { IsErr result ↔ HasWide (move_by z.now self.now) }
         ensures place { IfErr result (λ e. e.place ≡ Float) }
+        ensures form { front.new.p ≡ front.old.p }
     {
-        self.front().baseline_of(z)
+        self.put_in(front);
+        front.baseline_of(z)
     }
 }
 
@@ -54,8 +61,9 @@ pub fn moves_at(
     ensures place { IfOk result (λ r. IfErr r (λ e. e.place ≡ Float)) }
 {
     let mut moves = Vec::with_capacity(alloc, pairs.len())?;
+    let mut front = FrontForm::of(BASELINE_COLUMNS + 1, 0, &FormTable::zeros());
     for pair in pairs {
-        match pair.move_at(z) {
+        match pair.move_at(&mut front, z) {
             Ok(moved) => moves.push(moved)?,
             Err(fault) => return Ok(Err(fault)),
         }

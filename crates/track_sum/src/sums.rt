@@ -19,7 +19,7 @@ ghost use Rattle.track_sum.specs.Factors.{AreFactors};
 ghost use Rattle.track_sum.specs.Decided.{IsSumOfFronts, IsTrackForm, IsFinishRefused};
 
 use crate::factors::PairFactors;
-use crate::fronts::{greatest_exponent, pair_front};
+use crate::fronts::{PairRoom, greatest_exponent};
 use crate::parts::{least_power, part};
 use elimination::form_table;
 use form_tables::{BASELINE_COLUMNS, NormalTable};
@@ -84,6 +84,7 @@ fn add_front(table: &mut NormalTable, front: &FrontForm, shift: u32)
 /// factors of their fronts. The inner error is told of the first pair that has no front.
 fn add_fronts(
     alloc: Global,
+    room: &mut PairRoom,
     table: &mut NormalTable,
     arcs: &[Arc],
     signals: Signals,
@@ -95,6 +96,7 @@ fn add_fronts(
     requires few { length pairs.now ≤ MOST_PAIRS }
     requires h_in { h ≤ 90 }
     requires above { (k : ℕ) → k < length pairs.now → (d : PairRows) (f : FrontForm) → IsFrontOfPair arcs.now (fine_signals signals) (get_or pairs.now k d) f → f.h ≤ h }
+    requires columns { room.old.front.columns ≡ 4 + integer_count arcs.now (fine_signals signals) }
     requires zeros { table.old ≡ zero_rows MOST_COLUMNS MOST_COLUMNS }
     ensures factors { IfOk result (λ r. IfOk r (λ kept. AreFactors arcs.now (fine_signals signals) pairs.now kept.items)) }
     ensures sums { IfOk result (λ r. IfOk r (λ kept. (fs : List FrontForm) → AreFronts arcs.now (fine_signals signals) pairs.now fs →
@@ -104,10 +106,11 @@ fn add_fronts(
 {
     let mut kept = Vec::with_capacity(alloc, pairs.len())?;
     for pair in pairs {
-        match pair_front(arcs, signals, pair) {
-            Ok(front) => {
-                add_front(table, &front, h - front.h);
-                kept.push(PairFactors::of(&front))?;
+        match room.fill(arcs, signals, pair) {
+            Ok(()) => {
+                let front = &room.front;
+                add_front(table, front, h - front.h);
+                kept.push(PairFactors::of(front))?;
             }
             Err(fault) => return Ok(Err(fault)),
         }
@@ -144,9 +147,10 @@ pub fn sum_of_fronts(
     ensures few { IfOk result (λ r. IfOk r (λ f. f.sum.h ≤ 90)) }
     ensures refused { IfOk result (λ r. IfErr r (IsFirstRefused arcs.now (fine_signals signals) pairs.now)) }
 {
-    let h = greatest_exponent(arcs, signals, pairs) + least_power(pairs.len());
+    let mut room = PairRoom::new(arcs, signals);
+    let h = greatest_exponent(&mut room, arcs, signals, pairs) + least_power(pairs.len());
     let mut table = NormalTable::zeros();
-    match add_fronts(alloc, &mut table, arcs, signals, pairs, h)? {
+    match add_fronts(alloc, &mut room, &mut table, arcs, signals, pairs, h)? {
         Ok(factors) => {
             let integers = integer_count(arcs, fine_signals(signals));
             let p = form_table(&table, integers + 1);

@@ -1,14 +1,17 @@
-use Rattle.std.proofs.Common.{◌≤◌, ◌^◌, ◌*ℤ◌, arith, unsigned_abs}
+use Rattle.std.proofs.Common.{◌≡◌, ◌≤◌, ◌^◌, ◌*ℤ◌, arith, unsigned_abs, to_z, of_z, ap₂, ◌∙◌}
 use Rattle.std.proofs.lemmas.Int.{to_z-of_z}
-use Rattle.std.specs.Int.{w128}
-use Rattle.whole_math.proofs.Order.{abs_mul_le}
-use Rattle.whole_math.proofs.Words.{as_w128}
+use Rattle.std.specs.Int.{w64, w128}
+use Rattle.whole_math.proofs.Words.{as_w64, as_w128}
 use Rattle.elimination.proofs.entries.product.Goals as goal
 
 pub returns-clause-value : goal.returns-clause-value
 returns-clause-value c =
-    let p : unsigned_abs (c.args.p *ℤ c.args.q) ≤ 2 ^ 104 = abs_mul_le c.args.p c.args.q (2 ^ 52) (2 ^ 52) c.requires.p_size c.requires.q_size in
-    rw (to_z-of_z w128 c.args.p c.ranges.p, to_z-of_z w128 c.args.q c.ranges.q, as_w128 (c.args.p *ℤ c.args.q) (omega arith))
-
-pub returns-clause-size : goal.returns-clause-size
-returns-clause-size c = rw (returns-clause-value c) (abs_mul_le c.args.p c.args.q (2 ^ 52) (2 ^ 52) c.requires.p_size c.requires.q_size)
+    let ep : to_z w128 (of_z w128 c.args.p) ≡ c.args.p = to_z-of_z w128 c.args.p c.ranges.p in
+    let eq : to_z w128 (of_z w128 c.args.q) ≡ c.args.q = to_z-of_z w128 c.args.q c.ranges.q in
+    let p : c.narrow.result ≡ c.args.p = rw ep at c.narrow.ensures.value in
+    let q : c.narrow-2.result ≡ c.args.q = rw eq at c.narrow-2.ensures.value in
+    let wp : to_z w64 (of_z w64 c.narrow.result) ≡ c.narrow.result = as_w64 c.narrow.result (omega (arith, c.narrow.ensures.size)) in
+    let wq : to_z w64 (of_z w64 c.narrow-2.result) ≡ c.narrow-2.result = as_w64 c.narrow-2.result (omega (arith, c.narrow-2.ensures.size)) in
+    let s : c.short_product.result ≡ c.narrow.result *ℤ c.narrow-2.result = rw (wp, wq) at c.short_product.ensures.value in
+    let ws : to_z w128 (of_z w128 c.short_product.result) ≡ c.short_product.result = as_w128 c.short_product.result (omega (arith, c.short_product.ensures.size)) in
+    ws ∙ s ∙ ap₂ (λ x y. x *ℤ y) p q

@@ -1,5 +1,4 @@
-use Rattle.std.proofs.Common.{◌≡◌, ℕ, suc, ◌+◌, ◌-◌, ◌≤◌, ◌^◌, true, false, int_lt, List, ℤ, pos, ◌-ℤ◌, Result, Ok, unsigned_abs, arith, to_z, of_z, refl, sym, ap, ◌∙◌, subst}
-use Rattle.std.specs.Int.{w128}
+use Rattle.std.proofs.Common.{◌≡◌, ℕ, suc, ◌+◌, ◌-◌, ◌≤◌, ◌^◌, true, false, List, ℤ, pos, ◌-ℤ◌, Result, Ok, unsigned_abs, arith, refl, sym, ap, ◌∙◌, subst}
 use Rattle.whole_math.specs.Rounding.{ceil_div}
 use Rattle.whole_math.specs.Vectors.{len}
 use Rattle.quadratic_form.specs.Forms.{Column}
@@ -11,8 +10,9 @@ use Rattle.elimination.specs.StepEntries.{is_small, factor_entry, new_entry}
 use Rattle.elimination.specs.Stops.{column_at, form_after}
 use Rattle.whole_math.proofs.Words.{as_w128}
 use Rattle.elimination.proofs.NewEntries.{positive_is}
-use Rattle.elimination.proofs.SmallEntries.{list_small, list_wide, form_all_small, form_wide, small_entry}
-use Rattle.elimination.proofs.StepLaws.{step_tests, factors_are, next_is, above}
+use Rattle.elimination.proofs.SmallEntries.{list_wide, form_all_small, form_wide, small_entry}
+use Rattle.elimination.proofs.NewRows.{word}
+use Rattle.elimination.proofs.StepLaws.{step_tests, factors_are, next_is, above, Pivot, pivot_is, factors_small}
 use Rattle.elimination.proofs.step.step.Goals as goal
 
 pub returns-then-not-write_factors-clause-refused : goal.returns-then-not-write_factors-clause-refused
@@ -20,60 +20,58 @@ returns-then-not-write_factors-clause-refused c =
     let j : ℕ = c.args.j in
     let n : ℕ = (c.args.columns - c.args.j) - 1 in
     let o : ℤ = entry c.args.table.now c.args.j c.args.j in
-    let size : unsigned_abs o ≤ 2 ^ 52 = c.requires.entries j j (omega arith) (omega arith) c.requires.column in
-    let ea : to_z w128 (of_z w128 c.at-a.result) ≡ o = as_w128 c.at-a.result (omega (arith, subst (λ (z : ℤ). unsigned_abs z ≤ 2 ^ 52) (sym c.at-a.ensures.value) size)) ∙ c.at-a.ensures.value in
+    let v : Pivot c.args.table.now j c.at-a.result =
+    pivot_is c.args.table.now j c.at-a.result c.at-a.ensures.value (c.requires.entries j j (omega arith) (omega arith) c.requires.column) c.if-a-lt-LEAST_PIVOT.false in
+    let ea : word c.at-a.result ≡ o = v.as_read in
     let a : ℕ = unsigned_abs o in
-    let lt : int_lt o (pos (2 ^ 20)) ≡ false = subst (λ (z : ℤ). int_lt z (pos (2 ^ 20)) ≡ false) ea c.if-a-lt-LEAST_PIVOT.false in
     let whole : suc j + n ≡ c.args.columns = omega (arith, c.requires.column) in
     let w = c.write_factors.ensures.refused c.if-not-write_factors.true in
     let wide : all_small (factors a (list_from (entry c.args.table.now j) (suc j) n)) ≡ false =
     subst (λ (l : List ℤ). all_small l ≡ false) (factors_are c.args.table.now j a n) (list_wide (factor_entry c.args.table.now j a) (suc j) n w.0 (omega (arith, w.1.0)) (omega (arith, w.1.1))
     (subst (λ (z : ℤ). is_small (factor_entry c.args.table.now j (unsigned_abs z) w.0) ≡ false) ea w.1.2)) in
     step_tests j (column_at c.args.table.now j n) (form_after c.args.table.now j n) false
-    (form_small (next a (len (list_from (entry c.args.table.now j) (suc j) n)) (list_from (entry c.args.table.now j) (suc j) n) (form_after c.args.table.now j n))) lt wide refl
+    (form_small (next a (len (list_from (entry c.args.table.now j) (suc j) n)) (list_from (entry c.args.table.now j) (suc j) n) (form_after c.args.table.now j n))) v.strong wide refl
 
 pub returns-then-not-update-clause-refused : goal.returns-then-not-update-clause-refused
 returns-then-not-update-clause-refused c =
     let j : ℕ = c.args.j in
     let n : ℕ = (c.args.columns - c.args.j) - 1 in
     let o : ℤ = entry c.args.table.now c.args.j c.args.j in
-    let size : unsigned_abs o ≤ 2 ^ 52 = c.requires.entries j j (omega arith) (omega arith) c.requires.column in
-    let ea : to_z w128 (of_z w128 c.at-a.result) ≡ o = as_w128 c.at-a.result (omega (arith, subst (λ (z : ℤ). unsigned_abs z ≤ 2 ^ 52) (sym c.at-a.ensures.value) size)) ∙ c.at-a.ensures.value in
+    let v : Pivot c.args.table.now j c.at-a.result =
+    pivot_is c.args.table.now j c.at-a.result c.at-a.ensures.value (c.requires.entries j j (omega arith) (omega arith) c.requires.column) c.if-a-lt-LEAST_PIVOT.false in
+    let ea : word c.at-a.result ≡ o = v.as_read in
     let a : ℕ = unsigned_abs o in
-    let lt : int_lt o (pos (2 ^ 20)) ≡ false = subst (λ (z : ℤ). int_lt z (pos (2 ^ 20)) ≡ false) ea c.if-a-lt-LEAST_PIVOT.false in
     let whole : suc j + n ≡ c.args.columns = omega (arith, c.requires.column) in
     let fits : all_small (factors a (list_from (entry c.args.table.now j) (suc j) n)) ≡ true =
-    subst (λ (l : List ℤ). all_small l ≡ true) (factors_are c.args.table.now j a n) (list_small (factor_entry c.args.table.now j a) (suc j) n
-    (λ k h g. subst (λ (z : ℤ). is_small (factor_entry c.args.table.now j (unsigned_abs z) k) ≡ true) ea (c.write_factors.ensures.small c.if-not-write_factors.false k (omega arith) (omega arith)))) in
+    factors_small c.args.table.now j n c.at-a.result ea (λ k h g. c.write_factors.ensures.small c.if-not-write_factors.false k h (omega arith)) in
     let w = c.update.ensures.refused c.if-not-update.true in
     let wide : form_small (next a (len (list_from (entry c.args.table.now j) (suc j) n)) (list_from (entry c.args.table.now j) (suc j) n) (form_after c.args.table.now j n)) ≡ false =
     subst (λ (l : List Column). form_small l ≡ false) (next_is c.args.table.now j a n)
     (form_wide (new_entry c.args.table.now j a (pos n)) (suc j) n w.0 w.1 (omega (arith, w.2.0)) w.2.1 (omega (arith, w.2.2))
     (subst (λ (z : ℤ). is_small (new_entry c.args.table.now j (unsigned_abs z) (pos n) w.0 w.1) ≡ false) ea w.2.3)) in
-    step_tests j (column_at c.args.table.now j n) (form_after c.args.table.now j n) true false lt fits wide
+    step_tests j (column_at c.args.table.now j n) (form_after c.args.table.now j n) true false v.strong fits wide
 
 pub returns-clause-taken : goal.returns-clause-taken
 returns-clause-taken c =
     let j : ℕ = c.args.j in
     let n : ℕ = (c.args.columns - c.args.j) - 1 in
     let o : ℤ = entry c.args.table.now c.args.j c.args.j in
-    let size : unsigned_abs o ≤ 2 ^ 52 = c.requires.entries j j (omega arith) (omega arith) c.requires.column in
-    let ea : to_z w128 (of_z w128 c.at-a.result) ≡ o = as_w128 c.at-a.result (omega (arith, subst (λ (z : ℤ). unsigned_abs z ≤ 2 ^ 52) (sym c.at-a.ensures.value) size)) ∙ c.at-a.ensures.value in
+    let v : Pivot c.args.table.now j c.at-a.result =
+    pivot_is c.args.table.now j c.at-a.result c.at-a.ensures.value (c.requires.entries j j (omega arith) (omega arith) c.requires.column) c.if-a-lt-LEAST_PIVOT.false in
+    let ea : word c.at-a.result ≡ o = v.as_read in
     let a : ℕ = unsigned_abs o in
-    let lt : int_lt o (pos (2 ^ 20)) ≡ false = subst (λ (z : ℤ). int_lt z (pos (2 ^ 20)) ≡ false) ea c.if-a-lt-LEAST_PIVOT.false in
     let whole : suc j + n ≡ c.args.columns = omega (arith, c.requires.column) in
     let fits : all_small (factors a (list_from (entry c.args.table.now j) (suc j) n)) ≡ true =
-    subst (λ (l : List ℤ). all_small l ≡ true) (factors_are c.args.table.now j a n) (list_small (factor_entry c.args.table.now j a) (suc j) n
-    (λ k h g. subst (λ (z : ℤ). is_small (factor_entry c.args.table.now j (unsigned_abs z) k) ≡ true) ea (c.write_factors.ensures.small c.if-not-write_factors.false k (omega arith) (omega arith)))) in
+    factors_small c.args.table.now j n c.at-a.result ea (λ k h g. c.write_factors.ensures.small c.if-not-write_factors.false k h (omega arith)) in
     let p : ℕ → ℤ = entry c.args.table.now j in
     let fine : form_small (next a (len (list_from p (suc j) n)) (list_from p (suc j) n) (form_after c.args.table.now j n)) ≡ true =
     subst (λ (l : List Column). form_small l ≡ true) (next_is c.args.table.now j a n)
     (form_all_small (new_entry c.args.table.now j a (pos n)) (suc j) n
     (λ r k h l g. subst (λ (z : ℤ). is_small (new_entry c.args.table.now j (unsigned_abs z) (pos n) r k) ≡ true) ea
     (c.update.ensures.small c.if-not-update.false r k (omega arith) l (omega arith)))) in
-    let po : o ≡ pos a = positive_is o (above o lt) in
-    let wk : to_z w128 (of_z w128 c.kept_of.result) ≡ c.kept_of.result = as_w128 c.kept_of.result (omega (arith, c.kept_of.ensures.size)) in
-    let d : kept a ≡ to_z w128 (of_z w128 c.kept_of.result) = sym (wk ∙ c.kept_of.ensures.value ∙ ap (λ z. z -ℤ ceil_div z (2 ^ 20)) (ea ∙ po)) in
+    let po : o ≡ pos a = positive_is o (above o v.strong) in
+    let wk : word c.kept_of.result ≡ c.kept_of.result = as_w128 c.kept_of.result (omega (arith, c.kept_of.ensures.size)) in
+    let d : kept a ≡ word c.kept_of.result = sym (wk ∙ c.kept_of.ensures.value ∙ ap (λ z. z -ℤ ceil_div z (2 ^ 20)) (ea ∙ po)) in
     let l : factors a (list_from p (suc j) n) ≡ list_from (λ i. entry c.write_factors.new.factors i j) (suc j) n =
     sym (list_same (λ i. entry c.write_factors.new.factors i j) (factor_entry c.args.table.now j a) (suc j) n
     (λ k h g. c.write_factors.ensures.value c.if-not-write_factors.false k (omega arith) (omega arith) ∙ ap (λ z. factor_entry c.args.table.now j (unsigned_abs z) k) ea)
@@ -82,7 +80,7 @@ returns-clause-taken c =
     sym (form_same (entry c.update.new.table) (new_entry c.args.table.now j a (pos n)) (suc j) n
     (λ r k h q g. c.update.ensures.value c.if-not-update.false r k (omega arith) q (omega arith) ∙ ap (λ z. new_entry c.args.table.now j (unsigned_abs z) (pos n) r k) ea)
     ∙ next_is c.args.table.now j a n) in
-    step_tests j (column_at c.args.table.now j n) (form_after c.args.table.now j n) true true lt fits fine
+    step_tests j (column_at c.args.table.now j n) (form_after c.args.table.now j n) true true v.strong fits fine
     ∙ answer (kept a) _ (factors a (list_from p (suc j) n)) _ (next a (len (list_from p (suc j) n)) (list_from p (suc j) n) (form_after c.args.table.now j n)) _ d l m
   where
     answer : (d e : ℤ) (s t : List ℤ) (a b : List Column) → d ≡ e → s ≡ t → a ≡ b → let x : Result (Factor × List Column) Refusal = Ok (record { d = d; l = s }, a) in
@@ -93,5 +91,5 @@ returns-clause-taken c =
 
 pub returns-clause-small : goal.returns-clause-small
 returns-clause-small c = λ r k h l g. subst (λ (z : ℤ). unsigned_abs z ≤ 2 ^ 52) (sym (c.update.ensures.value c.if-not-update.false r k h l g))
-    (small_entry (new_entry c.args.table.now c.args.j (unsigned_abs (to_z w128 (of_z w128 c.at-a.result))) (pos ((c.args.columns - c.args.j) - 1)) r k)
+    (small_entry (new_entry c.args.table.now c.args.j (unsigned_abs (word c.at-a.result)) (pos ((c.args.columns - c.args.j) - 1)) r k)
     (c.update.ensures.small c.if-not-update.false r k h l g))

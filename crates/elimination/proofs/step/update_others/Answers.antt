@@ -1,45 +1,33 @@
-use Rattle.std.proofs.Common.{◌≡◌, ◌≢◌, inl, inr, ℕ, ◌<◌, ◌≤◌, ◌^◌, ℤ, ◌-ℤ◌, ◌*ℤ◌, true, false, unsigned_abs, arith, to_z, of_z, sym, ap, ◌∙◌, subst, below_more}
+use Rattle.std.proofs.Common.{◌≡◌, ◌≢◌, inl, inr, ℕ, ◌<◌, List, ℤ, true, false, unsigned_abs, arith, sym, ap, ◌∙◌, subst, below_more}
 use Rattle.std.proofs.lemmas.Int.{to_z-of_z}
 use Rattle.std.specs.Int.{w128}
-use Rattle.whole_math.specs.Rounding.{nearest_div}
 use Rattle.form_tables.specs.Tables.{entry}
 use Rattle.elimination.specs.StepEntries.{is_small, other_entry}
-use Rattle.whole_math.proofs.Words.{as_w128}
+use Rattle.elimination.proofs.NewRows.{word, OtherEntry, other_one}
 use Rattle.elimination.proofs.step.update_others.Goals as goal
-
--- the entry that is read, as a word
-read : (x y : ℤ) → x ≡ y → unsigned_abs y ≤ 2 ^ 52 → to_z w128 (of_z w128 x) ≡ y
-read x y e h = as_w128 x (omega (arith, subst (λ (z : ℤ). unsigned_abs z ≤ 2 ^ 52) (sym e) h)) ∙ e
 
 pub loop-c-preserved : goal.loop-c-preserved
 loop-c-preserved c =
     let k : ℕ = c.loop-c.c in
     let j : ℕ = c.args.j in
     let r : ℕ = c.args.r in
-    let t = c.args.table.now in
+    let t : List (List ℤ) = c.args.table.now in
     let f : ℤ = c.other_after-other.result in
-    let n : ℕ = unsigned_abs (to_z w128 (of_z w128 c.args.a)) in
-    let wf : to_z w128 (of_z w128 f) ≡ f = as_w128 f (omega (arith, c.other_after-other.ensures.size)) in
+    let n : ℕ = unsigned_abs (word c.args.a) in
     let apart : j ≢ r = omega (arith, c.requires.row) in
-    let x : to_z w128 (of_z w128 c.at.result) ≡ entry c.args.table.now r k =
-    read c.at.result (entry c.args.table.now r k) (c.at.ensures.value ∙ c.loop-c.invariant.rest k (omega arith)) (c.requires.entries k c.loop-c.invariant.from c.loop-c-test.true) in
-    let p : to_z w128 (of_z w128 c.at-in-loop-c.result) ≡ entry c.args.table.now j r =
-    read c.at-in-loop-c.result (entry c.args.table.now j r) (c.at-in-loop-c.ensures.value ∙ c.loop-c.invariant.others j r apart) (c.requires.pivots r c.requires.row c.requires.row_in) in
-    let q : to_z w128 (of_z w128 c.at-in-loop-c-2.result) ≡ entry c.args.table.now j k =
-    read c.at-in-loop-c-2.result (entry c.args.table.now j k) (c.at-in-loop-c-2.ensures.value ∙ c.loop-c.invariant.others j k apart)
-    (c.requires.pivots k (omega (arith, c.requires.row, c.loop-c.invariant.from)) c.loop-c-test.true) in
-    let is : f ≡ other_entry c.args.table.now j n r k = c.other_after-other.ensures.value
-    ∙ ap (λ z. z -ℤ nearest_div (to_z w128 (of_z w128 c.at-in-loop-c.result) *ℤ to_z w128 (of_z w128 c.at-in-loop-c-2.result)) n) x
-    ∙ ap (λ z. entry c.args.table.now r k -ℤ nearest_div (z *ℤ to_z w128 (of_z w128 c.at-in-loop-c-2.result)) n) p
-    ∙ ap (λ z. entry c.args.table.now r k -ℤ nearest_div (entry c.args.table.now j r *ℤ z) n) q in
-    let s : is_small f ≡ true = ap (λ z. is_small z) (sym wf) ∙ sym c.is_small.ensures ∙ c.if-not-is_small.false in
-    let there : entry c.set.new.self r k ≡ other_entry c.args.table.now j n r k = c.set.ensures.there ∙ wf ∙ is in
+    let w : OtherEntry t j r k c.args.a f = other_one t j r k c.args.a c.at.result c.at-in-loop-c.result c.at-in-loop-c-2.result f
+    (c.at.ensures.value ∙ c.loop-c.invariant.rest k (omega arith)) (c.requires.entries k c.loop-c.invariant.from c.loop-c-test.true)
+    (c.at-in-loop-c.ensures.value ∙ c.loop-c.invariant.others j r apart) (c.requires.pivots r c.requires.row c.requires.row_in)
+    (c.at-in-loop-c-2.ensures.value ∙ c.loop-c.invariant.others j k apart) (c.requires.pivots k (omega (arith, c.requires.row, c.loop-c.invariant.from)) c.loop-c-test.true)
+    c.other_after-other.ensures.size c.other_after-other.ensures.value in
+    let s : is_small f ≡ true = ap (λ z. is_small z) (sym w.as_word) ∙ sym c.is_small.ensures ∙ c.if-not-is_small.false in
+    let there : entry c.set.new.self r k ≡ other_entry c.args.table.now j n r k = c.set.ensures.there ∙ w.as_word ∙ w.is in
     record {
       from = omega (arith, c.loop-c.invariant.from);
       value = λ m h g. below_more (λ (m : ℕ). r < m → entry c.set.new.self r m ≡ other_entry c.args.table.now j n r m) k
           (λ m g h. c.set.ensures.others r m (inr (omega arith)) ∙ c.loop-c.invariant.value m h g) (λ h. there) m g h;
       small = λ m h g. below_more (λ (m : ℕ). r < m → is_small (other_entry c.args.table.now j n r m) ≡ true) k (λ m g h. c.loop-c.invariant.small m h g)
-          (λ h. subst (λ (z : ℤ). is_small z ≡ true) is s) m g h;
+          (λ h. subst (λ (z : ℤ). is_small z ≡ true) w.is s) m g h;
       rest = λ m h. c.set.ensures.others r m (inr (omega arith)) ∙ c.loop-c.invariant.rest m (omega arith);
       before = λ m h. c.set.ensures.others r m (inr (omega (arith, c.loop-c.invariant.from))) ∙ c.loop-c.invariant.before m h;
       others = λ i m d. c.set.ensures.others i m (inl d) ∙ c.loop-c.invariant.others i m d;
@@ -50,29 +38,23 @@ returns-then-not-is_small-clause-refused c =
     let k : ℕ = c.loop-c.c in
     let j : ℕ = c.args.j in
     let r : ℕ = c.args.r in
+    let t : List (List ℤ) = c.args.table.now in
     let f : ℤ = c.other_after-other.result in
-    let n : ℕ = unsigned_abs (to_z w128 (of_z w128 c.args.a)) in
-    let ea : to_z w128 (of_z w128 c.args.a) ≡ c.args.a = to_z-of_z w128 c.args.a c.ranges.a in
-    let wf : to_z w128 (of_z w128 f) ≡ f = as_w128 f (omega (arith, c.other_after-other.ensures.size)) in
+    let n : ℕ = unsigned_abs (word c.args.a) in
     let apart : j ≢ r = omega (arith, c.requires.row) in
-    let x : to_z w128 (of_z w128 c.at.result) ≡ entry c.args.table.now r k =
-    read c.at.result (entry c.args.table.now r k) (c.at.ensures.value ∙ c.loop-c.invariant.rest k (omega arith)) (c.requires.entries k c.loop-c.invariant.from c.loop-c-test.true) in
-    let p : to_z w128 (of_z w128 c.at-in-loop-c.result) ≡ entry c.args.table.now j r =
-    read c.at-in-loop-c.result (entry c.args.table.now j r) (c.at-in-loop-c.ensures.value ∙ c.loop-c.invariant.others j r apart) (c.requires.pivots r c.requires.row c.requires.row_in) in
-    let q : to_z w128 (of_z w128 c.at-in-loop-c-2.result) ≡ entry c.args.table.now j k =
-    read c.at-in-loop-c-2.result (entry c.args.table.now j k) (c.at-in-loop-c-2.ensures.value ∙ c.loop-c.invariant.others j k apart)
-    (c.requires.pivots k (omega (arith, c.requires.row, c.loop-c.invariant.from)) c.loop-c-test.true) in
-    let is : f ≡ other_entry c.args.table.now j n r k = c.other_after-other.ensures.value
-    ∙ ap (λ z. z -ℤ nearest_div (to_z w128 (of_z w128 c.at-in-loop-c.result) *ℤ to_z w128 (of_z w128 c.at-in-loop-c-2.result)) n) x
-    ∙ ap (λ z. entry c.args.table.now r k -ℤ nearest_div (z *ℤ to_z w128 (of_z w128 c.at-in-loop-c-2.result)) n) p
-    ∙ ap (λ z. entry c.args.table.now r k -ℤ nearest_div (entry c.args.table.now j r *ℤ z) n) q in
-    let s : is_small f ≡ false = ap (λ z. is_small z) (sym wf) ∙ sym c.is_small.ensures ∙ c.if-not-is_small.true in
+    let w : OtherEntry t j r k c.args.a f = other_one t j r k c.args.a c.at.result c.at-in-loop-c.result c.at-in-loop-c-2.result f
+    (c.at.ensures.value ∙ c.loop-c.invariant.rest k (omega arith)) (c.requires.entries k c.loop-c.invariant.from c.loop-c-test.true)
+    (c.at-in-loop-c.ensures.value ∙ c.loop-c.invariant.others j r apart) (c.requires.pivots r c.requires.row c.requires.row_in)
+    (c.at-in-loop-c-2.ensures.value ∙ c.loop-c.invariant.others j k apart) (c.requires.pivots k (omega (arith, c.requires.row, c.loop-c.invariant.from)) c.loop-c-test.true)
+    c.other_after-other.ensures.size c.other_after-other.ensures.value in
+    let ea : word c.args.a ≡ c.args.a = to_z-of_z w128 c.args.a c.ranges.a in
+    let s : is_small f ≡ false = ap (λ z. is_small z) (sym w.as_word) ∙ sym c.is_small.ensures ∙ c.if-not-is_small.true in
     λ e. (
       k,
       (
         c.loop-c.invariant.from,
         c.loop-c-test.true,
         subst (λ (m : ℕ). is_small (other_entry c.args.table.now j m r k) ≡ false) (ap (λ z. unsigned_abs z) ea)
-            (subst (λ (z : ℤ). is_small z ≡ false) is s),
+            (subst (λ (z : ℤ). is_small z ≡ false) w.is s),
       ),
     )

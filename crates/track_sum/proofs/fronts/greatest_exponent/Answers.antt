@@ -22,10 +22,10 @@ loop-pair-preserved c =
     let k : ℕ = c.loop-pair.pair-index in
     let x : PairRows = c.pair-item.result in
     let inside : k < length pairs = search rules in
-    let h : ℕ = c.pair_exponent-h.result in
+    let h : ℕ = c.exponent-h.result in
     let at : (d : PairRows) → get_or pairs k d ≡ x = λ d. get_or_default pairs k d x inside ∙ sym c.pair-item.is in
     let h_is : (d : PairRows) (g : FrontForm) → IsFrontOfPair arcs ss (get_or pairs k d) g → g.h ≡ h =
-    λ d g i. c.pair_exponent-h.ensures.exponent g (subst (λ (p : PairRows). IsFrontOfPair arcs ss p g) (at d) i) in
+    λ d g i. c.exponent-h.ensures.exponent g (subst (λ (p : PairRows). IsFrontOfPair arcs ss p g) (at d) i) in
     let new : ℕ = c.if-h-greatest.greatest in
     let grown : Grown c.loop-pair.greatest h new = elim c.if-h-greatest.branch [
       | then-h-greatest w ↦ record { old_in = omega (arith, w.if-h-greatest, w.greatest-is); h_in = omega (arith, w.greatest-is); one = inl w.greatest-is }
@@ -42,7 +42,8 @@ loop-pair-preserved c =
           (either k))
           grown.one;
       none = λ e. absurd (omega (arith, e));
-      few = ⊎_elim (λ (e : new ≡ h). same new h 77 e c.pair_exponent-h.ensures.few) (λ (e : new ≡ c.loop-pair.greatest). same new c.loop-pair.greatest 77 e c.loop-pair.invariant.few) grown.one;
+      columns = c.exponent-h.ensures.columns ∙ c.loop-pair.invariant.columns;
+      few = ⊎_elim (λ (e : new ≡ h). same new h 77 e c.exponent-h.ensures.few) (λ (e : new ≡ c.loop-pair.greatest). same new c.loop-pair.greatest 77 e c.loop-pair.invariant.few) grown.one;
     }
   where
     within : (a b c : ℕ) → a ≤ b → b ≤ c → a ≤ c
@@ -65,3 +66,16 @@ loop-pair-preserved c =
 
 pub returns-clause-above : goal.returns-clause-above
 returns-clause-above c = λ k l d f i. c.loop-pair.invariant.above k (omega (arith, c.loop-pair-test.false, l)) d f i
+
+pub returns-clause-attained : goal.returns-clause-attained
+returns-clause-attained c = λ l.
+    let k : ℕ = c.loop-pair.pair-index in
+    let upper : k ≤ length c.args.pairs.now = search rules in
+    let a = c.loop-pair.invariant.attained (some k (length c.args.pairs.now) l c.loop-pair-test.false) in
+    (a.0, (within a.0 k (length c.args.pairs.now) a.1.0 upper, a.1.1))
+  where
+    some : (k n : ℕ) → 1 ≤ n → n ≤ k → 1 ≤ k
+    some k n h g = omega (arith, h, g)
+
+    within : (a k n : ℕ) → a < k → k ≤ n → a < n
+    within a k n h g = omega (arith, h, g)

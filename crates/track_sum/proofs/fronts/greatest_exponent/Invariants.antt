@@ -11,4 +11,5 @@ invariant-loop-pair l = record {
   attained : 1 ≤ l.pair-index → (k : ℕ) × ((k < l.pair-index) × ((d : PairRows) (f : FrontForm) → IsFrontOfPair l.arcs (fine_signals l.signals) (get_or l.pairs k d) f → f.h ≡ l.greatest));
   none : l.pair-index ≡ 0 → l.greatest ≡ 0;
   few : l.greatest ≤ 77;
+  columns : l.room.front.columns ≡ l.initial.room.front.columns;
 }

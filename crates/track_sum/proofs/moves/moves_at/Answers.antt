@@ -5,7 +5,17 @@ use Rattle.std.proofs.lemmas.List.Elements.{All-push}
 use Rattle.integer_form.specs.FloatPoint.{HasWide}
 use Rattle.track_sum.specs.declared.factors.PairFactors.{PairFactors}
 use Rattle.track_sum.specs.Factors.{move_by}
+use Rattle.track_sum.proofs.ZeroForms.{zero_symmetric, zero_small, zero_outside}
 use Rattle.track_sum.proofs.moves.moves_at.Goals as goal
+
+pub of-front-requires-clause-symmetric : goal.of-front-requires-clause-symmetric
+of-front-requires-clause-symmetric c = zero_symmetric c.zeros.result c.zeros.ensures.zeros
+
+pub of-front-requires-clause-entries_in : goal.of-front-requires-clause-entries_in
+of-front-requires-clause-entries_in c = zero_small c.zeros.result c.zeros.ensures.zeros
+
+pub of-front-requires-clause-nothing_outside : goal.of-front-requires-clause-nothing_outside
+of-front-requires-clause-nothing_outside c = zero_outside c.zeros.result _ c.zeros.ensures.zeros
 
 -- one move more
 move_more : (z : List ℤ) (pairs : List PairFactors) (moves more : List (List ℤ)) (k : ℕ) (p : PairFactors) (m : List ℤ) → moves ≡ map (move_by z) (take k pairs) → k < length pairs →
@@ -24,6 +34,7 @@ loop-pair-preserved c =
     record {
       moves = move_more z c.args.pairs.now c.loop-pair.moves.items c.push.new.self.items k p m c.loop-pair.invariant.moves c.loop-pair-test.true
           (sym c.pair-item.is) c.in-Ok.ensures.ok c.in_ok-push-in-Ok.ensures.items;
+      form = c.move_at.ensures.form ∙ c.loop-pair.invariant.form;
       narrow = subst (λ (ms : List (List ℤ)). All (λ m. HasWide m → ⊥) ms) (sym c.in_ok-push-in-Ok.ensures.items)
           (All-push (λ m. HasWide m → ⊥) c.loop-pair.moves.items m c.loop-pair.invariant.narrow narrow);
     }

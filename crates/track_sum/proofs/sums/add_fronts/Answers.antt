@@ -73,20 +73,21 @@ loop-pair-init c =
     record {
       sums = λ fs are r k l b. zero_first _ _ (z (3 + r) (3 + k));
       factors = subst (λ (ks : List PairFactors). AreFactors c.args.arcs.now (fine_signals c.args.signals) [] ks) (sym none) tt;
+      columns = c.requires.columns;
       fronts = λ j l d. absurd (omega (arith, l));
       sizes = λ r k l b. size_zero _ (z (3 + r) (3 + k));
     }
 
 pub overflow_sub-h : goal.overflow_sub-h
 overflow_sub-h c =
-    c.requires.above c.loop-pair.pair-index c.loop-pair-test.true c.pair-item.result c.in-Ok.front
-    (subst (λ (p : PairRows). IsFrontOfPair c.args.arcs.now (fine_signals c.args.signals) p c.in-Ok.front) c.pair-item.is c.in-Ok.ensures.front)
+    c.requires.above c.loop-pair.pair-index c.loop-pair-test.true c.pair-item.result c.fill.new.self.front
+    (subst (λ (p : PairRows). IsFrontOfPair c.args.arcs.now (fine_signals c.args.signals) p c.fill.new.self.front) c.pair-item.is c.in-Ok.ensures.front)
 
 pub add_front-requires-clause-sizes : goal.add_front-requires-clause-sizes
 add_front-requires-clause-sizes c =
     let arcs : List Arc = c.args.arcs.now in
     let ss : List ℕ = fine_signals c.args.signals in
-    let f : FrontForm = c.in-Ok.front in
+    let f : FrontForm = c.fill.new.self.front in
     let columns : f.columns ≡ 4 + integer_count arcs ss = columns_of_front arcs ss c.pair-item.result f c.in-Ok.ensures.front in
     λ r q l b. few (unsigned_abs (entry c.loop-pair.table (3 + r) (3 + q))) c.loop-pair.pair-index (length c.args.pairs.now)
     (c.loop-pair.invariant.sizes r q l (within q (integer_count arcs ss) f.columns b columns)) c.loop-pair-test.true c.requires.few
@@ -101,7 +102,7 @@ loop-pair-preserved c =
     let ss : List ℕ = fine_signals c.args.signals in
     let k : ℕ = c.loop-pair.pair-index in
     let p : PairRows = c.pair-item.result in
-    let f : FrontForm = c.in-Ok.front in
+    let f : FrontForm = c.fill.new.self.front in
     let is : IsFrontOfPair arcs ss p f = c.in-Ok.ensures.front in
     let inside : k < length pairs = search rules in
     let within : (b i : ℕ) → b < 1 + i → f.columns ≡ 4 + i → b < f.columns - 3 = λ b i l e. omega arith in
@@ -111,6 +112,7 @@ loop-pair-preserved c =
           (c.loop-pair.invariant.sums fs are r q l b) (c.add_front.ensures.sums r q l (within q (integer_count arcs ss) b columns));
       factors = factors_more arcs ss pairs c.loop-pair.kept.items c.push.new.self.items k p c.of.result c.loop-pair.invariant.factors inside (sym c.pair-item.is)
           (record { front = f; is = is; columns = c.of.ensures.columns; d = c.of.ensures.d; l = c.of.ensures.l }) c.in_ok-push-in-Ok.ensures.items;
+      columns = c.in-Ok.ensures.columns ∙ c.loop-pair.invariant.columns;
       fronts = below_more (λ j. (d : PairRows) → HasFront arcs ss (get_or pairs j d)) k c.loop-pair.invariant.fronts
           (λ d. (f, subst (λ (x : PairRows). IsFrontOfPair arcs ss x f) (c.pair-item.is ∙ sym (get_or_default pairs k d p inside)) is));
       sizes = λ r q l b. larger _ _ k (c.add_front.ensures.sizes r q l (within q (integer_count arcs ss) b columns)) (c.loop-pair.invariant.sizes r q l b);

@@ -16,6 +16,7 @@ invariant-loop-pair l = record {
       entry l.table (3 + r) (3 + c) +ℤ track_entry (1 + integer_count l.arcs (fine_signals l.signals)) l.h (map brief (drop l.pair-index fs)) r c
       ≡ track_entry (1 + integer_count l.arcs (fine_signals l.signals)) l.h (map brief fs) r c;
   factors : AreFactors l.arcs (fine_signals l.signals) (take l.pair-index l.pairs) l.kept.items;
+  columns : l.room.front.columns ≡ 4 + integer_count l.arcs (fine_signals l.signals);
   fronts : (k : ℕ) → k < l.pair-index → (d : PairRows) → HasFront l.arcs (fine_signals l.signals) (get_or l.pairs k d);
   sizes : (r c : ℕ) → r ≤ c → c < 1 + integer_count l.arcs (fine_signals l.signals) → unsigned_abs (entry l.table (3 + r) (3 + c)) ≤ l.pair-index * 2 ^ 64;
 }

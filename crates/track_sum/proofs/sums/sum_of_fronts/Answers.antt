@@ -1,14 +1,18 @@
-use Rattle.std.proofs.Common.{◌≡◌, ℕ, ◌+◌, ◌≤◌, List, arith, sym, ap, ◌∙◌, subst}
+use Rattle.std.proofs.Common.{◌≡◌, ℕ, ◌+◌, ◌*◌, ◌^◌, ◌≤◌, List, length, ℤ, arith, sym, ap, ◌∙◌, subst}
 use Rattle.std.proofs.lemmas.Result.{IfOk-at_ok}
 use Rattle.quadratic_form.specs.LowerSums.{SmallForm}
 use Rattle.quadratic_form.specs.Places.{form_from}
 use Rattle.obs_rows.specs.declared.arcs.Arc.{Arc}
+use Rattle.obs_rows.specs.declared.pair_rows.PairRows.{PairRows}
+use Rattle.obs_rows.specs.declared.units.TheConstants.{MOST_FREE_ARCS}
+use Rattle.obs_rows.specs.Arcs.{free_count}
 use Rattle.obs_rows.specs.Signals.{AreCounted, fine_signals}
 use Rattle.obs_rows.specs.Integers.{integer_count}
 use Rattle.form_tables.specs.Tables.{entry}
 use Rattle.normal_sum.proofs.PlaceLaws.{count_within}
+use Rattle.track_sum.specs.declared.factors.PairFactors.{PairFactors}
 use Rattle.track_sum.specs.Factors.{AreFactors}
-use Rattle.track_sum.proofs.SumTables.{IsSummed, HoldsSums, summed, sum_is}
+use Rattle.track_sum.proofs.SumTables.{IsGreatest, IsSummed, HoldsSums, summed, sum_is}
 use Rattle.track_sum.proofs.sums.sum_of_fronts.Goals as goal
 
 -- one column for each integer, and the constant
@@ -24,19 +28,23 @@ add_fronts-requires-clause-above c = λ k l d f i. later f.h c.greatest_exponent
     later : (a b e : ℕ) → a ≤ b → a ≤ b + e
     later a b e h = omega arith
 
+-- the table of all pairs, from what the calls say
+all_summed : (arcs : List Arc) (given ss : List ℕ) (pairs : List PairRows) (kept : List PairFactors) (greatest e : ℕ) (t : List (List ℤ)) → given ≡ ss → AreCounted given →
+    free_count arcs ≤ MOST_FREE_ARCS → AreFactors arcs ss pairs kept → IsGreatest arcs ss pairs greatest → 1 ≤ length pairs → length pairs ≤ 3600 → 2 * length pairs ≤ 2 ^ e →
+    ((k : ℕ) → 2 * length pairs ≤ 2 ^ k → e ≤ k) → HoldsSums arcs ss pairs (greatest + e) t → IsSummed arcs ss pairs e (greatest + e) t
+all_summed arcs given ss pairs kept greatest e t same counted free factors is some few enough least sums =
+    summed arcs ss pairs kept greatest e t factors is some few (count_within arcs ss (subst AreCounted same counted) free) enough least sums
+
 pub form_table-p-requires-clause-small : goal.form_table-p-requires-clause-small
 form_table-p-requires-clause-small c =
     let arcs : List Arc = c.args.arcs.now in
     let ss : List ℕ = fine_signals c.args.signals in
-    let counted : AreCounted (fine_signals c.args.signals) = subst AreCounted c.fine_signals.ensures.value c.fine_signals.ensures.are in
-    let few : integer_count c.args.arcs.now (fine_signals c.args.signals) ≤ 60 = count_within arcs ss counted c.requires.free in
     let h : ℕ = c.greatest_exponent.result + c.least_power.result in
     let factors : AreFactors arcs ss c.args.pairs.now c.in-Ok.factors.items = IfOk-at_ok (λ k. AreFactors arcs ss c.args.pairs.now k.items) c.in-Ok.is c.in_ok-factors.ensures.factors in
     let sums : HoldsSums arcs ss c.args.pairs.now h c.add_fronts.new.table = IfOk-at_ok (λ k. HoldsSums arcs ss c.args.pairs.now h c.add_fronts.new.table) c.in-Ok.is c.in_ok-factors.ensures.sums in
-    let s : IsSummed c.args.arcs.now (fine_signals c.args.signals) c.args.pairs.now c.least_power.result (c.greatest_exponent.result + c.least_power.result) c.add_fronts.new.table =
-    summed arcs ss c.args.pairs.now c.in-Ok.factors.items c.greatest_exponent.result c.least_power.result c.add_fronts.new.table factors
-    (record { above = c.greatest_exponent.ensures.above; attained = c.greatest_exponent.ensures.attained c.requires.some })
-    c.requires.some c.requires.few few c.least_power.ensures.enough c.least_power.ensures.least sums in
+    let s = all_summed arcs c.fine_signals.result.now ss c.args.pairs.now c.in-Ok.factors.items c.greatest_exponent.result c.least_power.result c.add_fronts.new.table c.fine_signals.ensures.value
+    c.fine_signals.ensures.are c.requires.free factors (record { above = c.greatest_exponent.ensures.above; attained = c.greatest_exponent.ensures.attained c.requires.some }) c.requires.some
+    c.requires.few c.least_power.ensures.enough c.least_power.ensures.least sums in
     subst (λ (n : ℕ). SmallForm (form_from (entry c.add_fronts.new.table) 3 n))
     (sym (order_is arcs ss c.fine_signals.result.now c.integer_count-integers.result c.fine_signals.ensures.value c.integer_count-integers.ensures)) s.small
 
@@ -44,15 +52,12 @@ pub returns-in-Ok-clause-sum : goal.returns-in-Ok-clause-sum
 returns-in-Ok-clause-sum c =
     let arcs : List Arc = c.args.arcs.now in
     let ss : List ℕ = fine_signals c.args.signals in
-    let counted : AreCounted (fine_signals c.args.signals) = subst AreCounted c.fine_signals.ensures.value c.fine_signals.ensures.are in
-    let few : integer_count c.args.arcs.now (fine_signals c.args.signals) ≤ 60 = count_within arcs ss counted c.requires.free in
     let h : ℕ = c.greatest_exponent.result + c.least_power.result in
     let factors : AreFactors arcs ss c.args.pairs.now c.in-Ok.factors.items = IfOk-at_ok (λ k. AreFactors arcs ss c.args.pairs.now k.items) c.in-Ok.is c.in_ok-factors.ensures.factors in
     let sums : HoldsSums arcs ss c.args.pairs.now h c.add_fronts.new.table = IfOk-at_ok (λ k. HoldsSums arcs ss c.args.pairs.now h c.add_fronts.new.table) c.in-Ok.is c.in_ok-factors.ensures.sums in
-    let s : IsSummed c.args.arcs.now (fine_signals c.args.signals) c.args.pairs.now c.least_power.result (c.greatest_exponent.result + c.least_power.result) c.add_fronts.new.table =
-    summed arcs ss c.args.pairs.now c.in-Ok.factors.items c.greatest_exponent.result c.least_power.result c.add_fronts.new.table factors
-    (record { above = c.greatest_exponent.ensures.above; attained = c.greatest_exponent.ensures.attained c.requires.some })
-    c.requires.some c.requires.few few c.least_power.ensures.enough c.least_power.ensures.least sums in
+    let s = all_summed arcs c.fine_signals.result.now ss c.args.pairs.now c.in-Ok.factors.items c.greatest_exponent.result c.least_power.result c.add_fronts.new.table c.fine_signals.ensures.value
+    c.fine_signals.ensures.are c.requires.free factors (record { above = c.greatest_exponent.ensures.above; attained = c.greatest_exponent.ensures.attained c.requires.some }) c.requires.some
+    c.requires.few c.least_power.ensures.enough c.least_power.ensures.least sums in
     sum_is arcs ss c.args.pairs.now c.least_power.result (c.greatest_exponent.result + c.least_power.result)
     (c.integer_count-integers.result + 1) c.add_fronts.new.table c.form_table-p.result c.of-sum.result s
     (order_is arcs ss c.fine_signals.result.now c.integer_count-integers.result c.fine_signals.ensures.value c.integer_count-integers.ensures) c.form_table-p.ensures.form
