@@ -1,6 +1,7 @@
 //! What was screened of two files, with the arcs that are kept of it.
 ghost use Rattle.std.specs.Prelude.{◌≤◌, All, AllPairs, length, IfOk};
 ghost use Rattle.obs_store.specs.Epochs.{tags_of};
+ghost use Rattle.obs_rows.specs.declared.limits.TheConstants.{MOST_PAIRS};
 ghost use Rattle.epoch_pair.specs.Pairs.{Follows, IsNearPair};
 ghost use Rattle.slip_arcs.specs.Linked.{IsCutOf};
 ghost use Rattle.epoch_pair.specs.Beginnings.{IsPosition};
@@ -31,7 +32,7 @@ pub fn screened_arcs(
     options: &Options,
 ) -> Result<ScreenedArcs, AllocError>
     requires position { IsPosition base.now begun.now.position }
-    requires few { length begun.now.taken.items ≤ 3600 }
+    requires few { length begun.now.taken.items ≤ MOST_PAIRS }
     requires rises { AllPairs Follows begun.now.taken.items }
     requires near { All (IsNearPair options.now.gap (tags_of base.now.epochs) (tags_of rover.now.epochs)) begun.now.taken.items }
     ensures screened { IfOk result (λ f. AreScreenedArcs base.now rover.now nav.now options.now begun.now.signals begun.now.taken.items f.screened f.arcs.kept f.arcs.short) }

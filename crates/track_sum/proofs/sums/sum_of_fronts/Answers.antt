@@ -13,6 +13,7 @@ use Rattle.normal_sum.proofs.PlaceLaws.{count_within}
 use Rattle.track_sum.specs.declared.factors.PairFactors.{PairFactors}
 use Rattle.track_sum.specs.Factors.{AreFactors}
 use Rattle.track_sum.proofs.SumTables.{IsGreatest, IsSummed, HoldsSums, summed, sum_is}
+use Rattle.obs_rows.specs.declared.limits.TheConstants.{MOST_PAIRS}
 use Rattle.track_sum.proofs.sums.sum_of_fronts.Goals as goal
 
 -- one column for each integer, and the constant
@@ -30,7 +31,7 @@ add_fronts-requires-clause-above c = λ k l d f i. later f.h c.greatest_exponent
 
 -- the table of all pairs, from what the calls say
 all_summed : (arcs : List Arc) (given ss : List ℕ) (pairs : List PairRows) (kept : List PairFactors) (greatest e : ℕ) (t : List (List ℤ)) → given ≡ ss → AreCounted given →
-    free_count arcs ≤ MOST_FREE_ARCS → AreFactors arcs ss pairs kept → IsGreatest arcs ss pairs greatest → 1 ≤ length pairs → length pairs ≤ 3600 → 2 * length pairs ≤ 2 ^ e →
+    free_count arcs ≤ MOST_FREE_ARCS → AreFactors arcs ss pairs kept → IsGreatest arcs ss pairs greatest → 1 ≤ length pairs → length pairs ≤ MOST_PAIRS → 2 * length pairs ≤ 2 ^ e →
     ((k : ℕ) → 2 * length pairs ≤ 2 ^ k → e ≤ k) → HoldsSums arcs ss pairs (greatest + e) t → IsSummed arcs ss pairs e (greatest + e) t
 all_summed arcs given ss pairs kept greatest e t same counted free factors is some few enough least sums =
     summed arcs ss pairs kept greatest e t factors is some few (count_within arcs ss (subst AreCounted same counted) free) enough least sums
