@@ -1,4 +1,3 @@
 pub mod Runs
 pub mod Certified
 pub mod FixSays
-pub mod ArcSays

@@ -1,25 +1,33 @@
-ghost use Rattle.std.specs.Prelude.{◌≡◌};
-ghost use Rattle.job_answers.specs.Statuses.{IsVerdictStatus};
-ghost use Rattle.session_jobs.specs.FixJobs.{status_of, AnswersFix};
+ghost use Rattle.std.specs.Prelude.{◌≡◌, ◌++◌};
+ghost use Rattle.outcome_report.specs.OutcomeText.{answer_text, outcome_text, IsWholeAnswer, is_fixed};
+ghost use Rattle.session_jobs.specs.FixJobs.{AnswersFix};
 
+use crate::outcomes::{SessionOutcome, output_of};
+use cert_data::Outcome;
 use eph_store::NavFile;
-use job_answers::{JobOutput, Status};
+use job_answers::JobOutput;
 use obs_store::ObsFile;
 use outcome_report::{is_fixed, write_outcome};
 use run_options::Options;
 use session::{SessionFault, process};
 use session_files::SessionCommand;
-use std::alloc::Global;
+use std::alloc::{AllocError, Global};
 
-// Done for a fix, else declined.
-fn status_of(answer: &session::Answer) -> Status
-    ensures value { result ≡ status_of answer.now }
-    ensures verdict { IsVerdictStatus result }
-{
-    if is_fixed(answer) {
-        Status::Done
-    } else {
-        Status::Declined
+impl SessionOutcome for Outcome {
+    ghost fixed = { λ o. is_fixed o.answer };
+
+    ghost out_text = { λ o. answer_text o.answer };
+
+    ghost err_text = { λ o. outcome_text o };
+
+    ghost is_whole = { λ o. IsWholeAnswer o.answer };
+
+    fn is_fixed(&self) -> bool {
+        is_fixed(&self.answer)
+    }
+
+    fn write(&self, alloc: Global, out: &mut Vec<u8>, err: &mut Vec<u8>) -> Result<(), AllocError> {
+        write_outcome(alloc, out, err, self)
     }
 }
 
@@ -39,13 +47,6 @@ impl SessionCommand for Fix {
         options: &Options,
     ) -> Result<JobOutput, SessionFault> {
         let outcome = process(alloc, base, rover, nav, options)?;
-        let mut out = Vec::new(alloc);
-        let mut err = Vec::new(alloc);
-        write_outcome(alloc, &mut out, &mut err, &outcome)?;
-        Ok(JobOutput {
-            status: status_of(&outcome.answer),
-            out,
-            err,
-        })
+        Ok(output_of(alloc, &outcome)?)
     }
 }

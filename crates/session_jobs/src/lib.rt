@@ -7,6 +7,9 @@
 //! (`by_ratio`), that its session stands for the files, and that a check of it answers `Certified` or its search gives up
 //! (`IsFixedFor`). The printed certificate is the only one with its text (`whole`, with `one_spelling_law` of cert_text).
 //!
+//! An outcome that is a fix or none is a `SessionOutcome`; `output_of` answers it with its two texts, done for a fix and else
+//! declined.
+//!
 //! `KeptArcs` is the command `arcs`. The kept arcs are exactly those of the used satellites of the taken pairs, with their datums and the number of
 //! shorter ones. The two files are refused exactly where the base has no position, a band has no common code or epochs
 //! are too dense.
@@ -14,8 +17,10 @@
 
 mod arcs;
 mod fixes;
+mod outcomes;
 mod report;
 
 pub use arcs::KeptArcs;
 pub use fixes::Fix;
+pub use outcomes::{SessionOutcome, fix_status, output_of};
 pub use report::write_arcs;

@@ -1,6 +1,5 @@
 //! A simulated session from its texts to its answer.
 ghost use Rattle.std.specs.Prelude.{◌≡◌, ◌≢◌, ◌≤◌, ℕ, List, [], Some, IfOk, codes, string_bytes};
-ghost use Rattle.job_answers.specs.Statuses.{IsVerdictStatus};
 ghost use Rattle.job_answers.specs.Answers.{ending_of, IfEnded};
 ghost use Rattle.job_answers.specs.Endings.{ending};
 ghost use Rattle.obs_rows.specs.declared.band_sets.TheConstants.{BANDS_L1_L5};
@@ -20,6 +19,7 @@ use rinex_head::System;
 use run_options::Options;
 use session::{SessionFault, process};
 use session_files::{SessionFiles, read_session, refused_pair};
+use session_jobs::fix_status;
 use sim_session::{Made, make};
 use std::alloc::{AllocError, Global};
 
@@ -76,18 +76,6 @@ fn files_of(
     Ok(SureFiles::new(list))
 }
 
-// Done for a fix, else declined.
-fn status_of(answer: &Answer) -> Status
-    ensures value { result ≡ status_of answer.now }
-    ensures verdict { IsVerdictStatus result }
-{
-    if is_fixed(answer) {
-        Status::Done
-    } else {
-        Status::Declined
-    }
-}
-
 // The four lines of an answer.
 fn answer_match(
     alloc: Global,
@@ -99,7 +87,7 @@ fn answer_match(
 {
     let out = run_text(alloc, asked.seed, asked.epochs, asked.sats, answer, matched)?;
     Ok(JobOutput {
-        status: status_of(answer),
+        status: fix_status(is_fixed(answer)),
         out,
         err: Vec::new(alloc),
     })

@@ -48,6 +48,6 @@ track_stands_for base rover nav o outcome cert is full =
       taken = is.taken;
       taken_are = is.taken_are;
       stands = track_stands (setting_of base nav is.signals o.mask (world_of o.system)) base.epochs rover.epochs is.taken (bands_of o.bands) o.jump
-          o.arc arcs.short is.screened is.kept is.position is.signals o.system
+          o.arc is.short is.screened is.kept is.position is.signals o.system
           (tracked_with cert.track outcome.lost) arcs.used_are arcs.boxes_are arcs.kept_are arcs.datums decided.1.0;
     }

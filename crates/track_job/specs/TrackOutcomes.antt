@@ -1,5 +1,5 @@
 -- The outcome of the files of a base and a moving rover.
-use Rattle.std.specs.Prelude.{◌≡◌, ◌⊎◌, ◌↔◌, ℕ, IsTrue, List, [], ◌∷◌, length, All, ℤ, pos}
+use Rattle.std.specs.Prelude.{◌≡◌, ◌⊎◌, ◌↔◌, ℕ, IsTrue, List, [], length, All, ℤ}
 use Rattle.obs_rows.specs.declared.arcs.Arc.{Arc}
 use Rattle.obs_rows.specs.declared.bands.Signals.{Signals}
 use Rattle.obs_rows.specs.Arcs.{free_count}
@@ -7,16 +7,13 @@ use Rattle.obs_rows.specs.Signals.{fine_signals}
 use Rattle.obs_store.specs.declared.file.ObsFile.{ObsFile}
 use Rattle.eph_store.specs.File.{Records}
 use Rattle.epoch_pair.specs.declared.pairs.PairOf.{PairOf}
-use Rattle.slip_arcs.specs.Runs.{AreKept}
-use Rattle.slip_arcs.specs.Linked.{HaveDatums}
 use Rattle.obs_rows.specs.BandSets.{bands_of}
-use Rattle.sv_orbit.specs.Worlds.{world_of}
 use Rattle.screening.specs.declared.screened.Screened.{Screened}
-use Rattle.screening.specs.Screening.{setting_of, AreUsedPairs, IsSvPair}
 use Rattle.round_steps.specs.Counts.{AreFew, AreMany}
 use Rattle.run_options.specs.declared.options.Options.{Options}
 use Rattle.epoch_pair.specs.Beginnings.{IsPosition, AreSignals, AreSparse, AreTaken, pairs_of}
 use Rattle.session.specs.Answers.{HasDelta}
+use Rattle.session.specs.ScreenedArcs.{AreScreenedArcs}
 use Rattle.track_data.specs.declared.tracks.Track.{Track}
 use Rattle.track_data.specs.declared.tails.TrackTail.{TrackTail}
 use Rattle.track_data.specs.declared.certs.TrackCert.{TrackCert}
@@ -28,15 +25,6 @@ use Rattle.track_job.specs.declared.answers.TrackOutcome.{TrackOutcome}
 use Rattle.track_job.specs.declared.answers.TrackAnswer.{TrackAnswer}
 use Rattle.track_job.specs.declared.answers.TrackAnswer.TheVariants.{Few, Arcs, Lost as NoneTracked, Full}
 use Rattle.track_rows.specs.Tracks.{IsTrackOf}
-
--- the used satellites of the taken pairs with their boxes, and the arcs that are kept of them
-pub record AreScreenedArcs (base rover : ObsFile) (nav : Records) (o : Options) (signals : Signals) (taken : List PairOf) (screened : Screened) (kept : List Arc) : Type 0 where
-  pub used_are : AreUsedPairs (setting_of base nav signals o.mask (world_of o.system)) base.epochs rover.epochs taken screened.used
-  pub boxes_are : All (IsSvPair (setting_of base nav signals o.mask (world_of o.system)) base.epochs rover.epochs taken) screened.boxes
-  pub short : ℕ
-  pub kept_are : AreKept (bands_of o.bands) o.jump o.arc screened.used kept short
-  pub datums : HaveDatums kept
-  pub shifts : All (λ a. a.shift ≡ pos 0 ∷ pos 0 ∷ pos 0 ∷ []) kept
 
 -- a pair has four satellites in kept arcs, and the arcs aren't too many
 pub record IsTrackable (kept : List Arc) (taken : ℕ) : Type 0 where
@@ -82,7 +70,8 @@ pub record IsTrackOutcome (base rover : ObsFile) (nav : Records) (o : Options) (
   pub taken_are : AreTaken base rover o taken
   pub screened : Screened
   pub kept : List Arc
-  pub arcs_are : AreScreenedArcs base rover nav o signals taken screened kept
+  pub short : ℕ
+  pub arcs_are : AreScreenedArcs base rover nav o signals taken screened kept short
   pub taken_is : out.taken ≡ length taken
   pub all_is : out.all ≡ length (pairs_of base rover o)
   pub kept_is : out.kept ≡ length kept

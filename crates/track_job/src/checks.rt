@@ -2,8 +2,7 @@
 ghost use Rattle.std.specs.Prelude.{◌≡◌, ◌++◌};
 ghost use Rattle.track_job.specs.CheckJobs.{check_track_job};
 
-use cert_jobs::status_of;
-use cert_report::write_verdict;
+use cert_jobs::verdict_output;
 use job_answers::{JobOutput, TextCommand};
 use rinex_head::TextFault;
 use std::alloc::Global;
@@ -20,12 +19,6 @@ impl TextCommand for TrackCheck {
     fn answer(&self, alloc: Global, text: &[u8]) -> Result<JobOutput, TextFault> {
         let cert = read_track(alloc, text)?;
         let verdict = check_track(alloc, &cert)?;
-        let mut out = Vec::new(alloc);
-        write_verdict(alloc, &mut out, &verdict)?;
-        Ok(JobOutput {
-            status: status_of(&verdict),
-            out,
-            err: Vec::new(alloc),
-        })
+        Ok(verdict_output(alloc, &verdict)?)
     }
 }

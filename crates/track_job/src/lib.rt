@@ -15,14 +15,13 @@
 //! whoever wrote it; each other answer has its cause, and no other verdict's condition holds, but where a search gave up.
 //!
 //! What is printed of a track: on out its certificate, or the one line that says why there is none; on err how much of the
-//! files went into it, which pairs it lost, the place of each tracked pair, and the verdict. `write_track_outcome` appends
-//! exactly these two texts (`out`, `err`), and tells that the arrays of a printed certificate have
-//! their lengths, so that its text is no other's (`whole`). `is_track_fixed` says exactly whether a track is a fix.
+//! files went into it, which pairs it lost, the place of each tracked pair, and the verdict. A `TrackOutcome` is a `SessionOutcome`:
+//! `write` appends exactly these two texts (`out`, `err`), and says that the arrays of a printed certificate have their lengths,
+//! so that its text is no other's (`whole`); `is_fixed` says exactly whether a track is a fix.
 #![tactic(auto)]
 
 mod answers;
 mod checks;
-mod files;
 mod laws;
 mod lost;
 mod outcomes;

@@ -10,13 +10,12 @@ ghost use Rattle.track_rows.specs.Tracks.{IsTrackOf};
 ghost use Rattle.track_job.specs.TrackOutcomes.{IsTrackable, IsTrackAnswer, IsTrackOutcome};
 
 use crate::answers::{TrackAnswer, TrackOutcome};
-use crate::files::{ScreenedArcs, screened_arcs};
 use eph_store::NavFile;
 use epoch_pair::{Options, SessionFault, SessionStart, begin};
 use obs_rows::Arc;
 use obs_store::ObsFile;
 use round_steps::{are_few, are_many, free_count};
-use session::have_delta;
+use session::{ScreenedArcs, have_delta, screened_arcs};
 use std::alloc::{AllocError, Global};
 use track_data::{Items, Lost, TrackCert, Tracked};
 use track_form::decide_track;
@@ -73,12 +72,12 @@ fn answer(
     taken: u32,
     options: &Options,
 ) -> Result<TrackAnswered, AllocError>
-    requires cut { IsCutOf files.now.screened.used files.now.kept }
-    requires shifts { All (λ a. a.shift ≡ pos 0 ∷ pos 0 ∷ pos 0 ∷ []) files.now.kept }
+    requires cut { IsCutOf files.now.screened.used files.now.arcs.kept }
+    requires shifts { All (λ a. a.shift ≡ pos 0 ∷ pos 0 ∷ pos 0 ∷ []) files.now.arcs.kept }
     requires point { IsReceiverPoint begun.now.position }
-    ensures { IfOk result (λ a. IsTrackAnswer files.now.screened files.now.kept begun.now.position begun.now.signals options.now taken a.lost a.answer) }
+    ensures { IfOk result (λ a. IsTrackAnswer files.now.screened files.now.arcs.kept begun.now.position begun.now.signals options.now taken a.lost a.answer) }
 {
-    let kept = files.kept.as_slice();
+    let kept = files.arcs.kept.as_slice();
     if are_few(taken, kept) {
         return Ok(TrackAnswered {
             lost: none_lost(alloc),
@@ -124,7 +123,7 @@ pub(crate) fn track_outcome(
     Ok(TrackOutcome {
         taken,
         all: begun.all,
-        kept: files.kept.len() as u32,
+        kept: files.arcs.kept.len() as u32,
         delta,
         lost: answered.lost,
         answer: answered.answer,

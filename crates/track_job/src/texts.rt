@@ -7,6 +7,7 @@ use crate::answers::{TrackAnswer, TrackOutcome};
 use crate::lost::push_lost_lines;
 use crate::places::push_places;
 use outcome_report::{push_counts, push_decline, push_delta, push_verdict_line};
+use session_jobs::SessionOutcome;
 use std::alloc::{AllocError, Global};
 use track_data::{Track, TrackCert, TrackTail};
 use track_spelling::write_track;
@@ -72,32 +73,29 @@ fn push_verdict(alloc: Global, text: &mut Vec<u8>, answer: &TrackAnswer) -> Resu
     }
 }
 
-/// Appends what is printed of the end of a run: to `out` the certificate of the track, or the line that says why there is
-/// none; to `err` the numbers of pairs and arcs, the pairs that are lost, the place of each tracked pair of a fix, and the
-/// verdict. After an `Err` a part of the texts may have been appended.
-pub fn write_track_outcome(
-    alloc: Global,
-    out: &mut Vec<u8>,
-    err: &mut Vec<u8>,
-    outcome: &TrackOutcome,
-) -> Result<(), AllocError>
-    ensures out { OnOk result (out.new.items ≡ out.old.items ++ track_answer_text outcome.now.answer) }
-    ensures err { OnOk result (err.new.items ≡ err.old.items ++ track_outcome_text outcome.now) }
-    ensures whole { OnOk result (IsWholeTrackAnswer outcome.now.answer) }
-{
-    write_answer(alloc, out, &outcome.answer)?;
-    push_counts(alloc, err, outcome.taken, outcome.all, outcome.kept)?;
-    push_lost_lines(alloc, err, outcome.lost.as_slice())?;
-    push_delta(err, outcome.delta)?;
-    push_verdict(alloc, err, &outcome.answer)
-}
+impl SessionOutcome for TrackOutcome {
+    ghost fixed = { λ o. is_track_fixed o.answer };
 
-/// Whether the track is a fix.
-pub fn is_track_fixed(answer: &TrackAnswer) -> bool
-    ensures { result ≡ is_track_fixed answer.now }
-{
-    match answer {
-        TrackAnswer::Full(cert) => matches!(cert.tail, TrackTail::Fixed { .. }),
-        _ => false,
+    ghost out_text = { λ o. track_answer_text o.answer };
+
+    ghost err_text = { λ o. track_outcome_text o };
+
+    ghost is_whole = { λ o. IsWholeTrackAnswer o.answer };
+
+    fn is_fixed(&self) -> bool {
+        match &self.answer {
+            TrackAnswer::Full(cert) => matches!(cert.tail, TrackTail::Fixed { .. }),
+            _ => false,
+        }
+    }
+
+    // Out has the certificate of the track, or the line that says why there is none; err the numbers of pairs and arcs, the
+    // pairs that are lost, the place of each tracked pair of a fix, and the verdict.
+    fn write(&self, alloc: Global, out: &mut Vec<u8>, err: &mut Vec<u8>) -> Result<(), AllocError> {
+        write_answer(alloc, out, &self.answer)?;
+        push_counts(alloc, err, self.taken, self.all, self.kept)?;
+        push_lost_lines(alloc, err, self.lost.as_slice())?;
+        push_delta(err, self.delta)?;
+        push_verdict(alloc, err, &self.answer)
     }
 }

@@ -6,7 +6,7 @@ use Rattle.track_job.proofs.outcomes.track_outcome.Goals as goal
 pub overflow_cast-result : goal.overflow_cast-result
 overflow_cast-result c =
     let f = c.in_ok-files.files in
-    let few = kept_few f.screened.used f.kept c.in_ok-files.ensures.cut f.screened.ranges f.screened.numbered f.screened.few in
+    let few = kept_few f.screened.used f.arcs.kept c.in_ok-files.ensures.cut f.screened.ranges f.screened.numbered f.screened.few in
     omega (arith, few, c.len.ensures)
 
 pub returns-clause-outcome : goal.returns-clause-outcome
@@ -21,7 +21,8 @@ returns-clause-outcome c =
       taken = c.in_ok-begun.begun.taken.items;
       taken_are = c.in_ok-begun.ensures.taken;
       screened = f.screened;
-      kept = f.kept;
+      kept = f.arcs.kept;
+      short = f.arcs.short;
       arcs_are = c.in_ok-files.ensures.screened;
       taken_is = c.len-taken.ensures ∙ c.in_ok-begun.begun.taken.ok.0;
       all_is = c.in_ok-begun.ensures.all;

@@ -1,7 +1,35 @@
-use Rattle.session_jobs.proofs.ArcSays.{screened_pairs}
+use Rattle.std.proofs.Common.{◌≡◌, ℕ, List, ◌++◌, ap, ◌∙◌}
+use Rattle.job_answers.specs.Endings.{ending}
+use Rattle.job_answers.specs.declared.status.Status.TheVariants.{Done}
+use Rattle.session_jobs.specs.ArcLines.{arcs_text}
 use Rattle.session_jobs.proofs.arcs.KeptArcsSessionCommand.answer.Goals as goal
 
-pub arcs_of-requires-clause-pairs : goal.arcs_of-requires-clause-pairs
-arcs_of-requires-clause-pairs c =
-    let o = c.args.options.now in
-    screened_pairs c.args.base.now.epochs c.args.rover.now.epochs o.gap c.in_ok-begun.begun.taken.items o.gap_to c.in_ok-begun.ensures.few c.in_ok-begun.ensures.rises c.in_ok-begun.ensures.near
+pub returns-clause-answered : goal.returns-clause-answered
+returns-clause-answered c =
+    let begun = c.in_ok-begun.begun in
+    let is = c.in_ok-begun.ensures in
+    let cut = c.in_ok-cut.cut in
+    let are = c.in_ok-cut.ensures.screened in
+    let text = arcs_text c.args.options.now.system cut.arcs.kept cut.arcs.short in
+    let out : c.write_arcs.new.out.items ≡ text = c.in_ok-write_arcs.ensures ∙ ap (λ (before : List ℕ). before ++ text) c.new-out.ensures.items in
+    record {
+      verdict = tt;
+      answer = record {
+        kept = cut.arcs.kept;
+        short = cut.arcs.short;
+        are = record {
+          position = begun.position;
+          position_is = is.position;
+          signals = begun.signals;
+          signals_are = is.signals;
+          sparse = is.sparse;
+          taken = begun.taken.items;
+          taken_are = is.taken;
+          used = cut.screened.used;
+          used_are = are.used_are;
+          kept_are = are.kept_are;
+          datums = are.datums;
+        };
+        end_is = λ i. ending Done (out i) (c.new.ensures.items i);
+      };
+    }

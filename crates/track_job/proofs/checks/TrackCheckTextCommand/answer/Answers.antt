@@ -1,26 +1,23 @@
-use Rattle.std.proofs.Common.{◌≡◌, ℕ, List, ◌++◌, Ok, ap, ◌∙◌}
-use Rattle.cert_report.specs.VerdictText.{verdict_text}
-use Rattle.job_answers.specs.Endings.{ending}
+use Rattle.std.proofs.Common.{Ok, ap}
 use Rattle.track_job.proofs.checks.TrackCheckTextCommand.answer.Goals as goal
 
 pub returns-clause-answered : goal.returns-clause-answered
 returns-clause-answered c =
-    let verdict = c.in_ok-verdict.verdict in
     let is = c.in_ok-verdict.ensures in
-    let out : c.write_verdict.new.out.items ≡ verdict_text verdict = c.in_ok-write_verdict.ensures ∙ ap (λ (text : List ℕ). text ++ verdict_text verdict) c.new-out.ensures.items in
+    let said = c.in_ok-verdict_output.ensures in
     record {
-      verdict = c.status_of.ensures.verdict;
+      verdict = said.verdict;
       answer = record {
         cert = c.in_ok-cert.cert;
         whole = c.in_ok-cert.ensures.whole;
         spelled = c.in_ok-cert.ensures.ok;
         answer = record {
-          verdict = verdict;
+          verdict = c.in_ok-verdict.verdict;
           is = is.verdict;
           only = is.only;
           best = λ e. is.strictly_best (ap Ok e);
           by_ratio = λ e. is.by_ratio (ap Ok e);
-          end_is = λ i. ending (c.status_of.ensures.value i) (out i) (c.new.ensures.items i);
+          end_is = said.ended;
         };
       };
     }
