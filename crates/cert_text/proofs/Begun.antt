@@ -111,11 +111,11 @@ head_of {version} h = head_lines version h.ratio.value h.budget.value h.system.v
 abbrev arcs_front : {version : Version} → Head version → ℕ → List Arc → List (List ℕ)
 arcs_front h left arcs = head_of h ++ count_line (codes "arcs") (length arcs + left) ∷ arc_lines (signals_of_head h) arcs
 
-arc_lines-append : (ss : List ℕ) (xs ys : List Arc) → arc_lines ss (xs ++ ys) ≡ arc_lines ss xs ++ arc_lines ss ys
+pub arc_lines-append : (ss : List ℕ) (xs ys : List Arc) → arc_lines ss (xs ++ ys) ≡ arc_lines ss xs ++ arc_lines ss ys
 arc_lines-append ss [] ys = refl
 arc_lines-append ss (x ∷ xs) ys = ap (λ (l : List (List ℕ)). arc_line ss x ∷ l) (arc_lines-append ss xs ys)
 
-regroup : {X : Type 0} (a b c d f : List X) → (a ++ ((b ++ c) ++ d)) ++ f ≡ (a ++ b) ++ (c ++ (d ++ f))
+pub regroup : {X : Type 0} (a b c d f : List X) → (a ++ ((b ++ c) ++ d)) ++ f ≡ (a ++ b) ++ (c ++ (d ++ f))
 regroup {X} a b c d f =
     append_assoc a ((b ++ c) ++ d) f ∙ ap (λ (l : List X). a ++ l) (append_assoc (b ++ c) d f ∙ append_assoc b c (d ++ f)) ∙ sym (append_assoc a b (c ++ (d ++ f)))
 
@@ -270,7 +270,7 @@ abbrev with_signals : {version : Version} → Head version → Fit (AreSignalsOf
 with_signals h x = record { ratio = h.ratio; budget = h.budget; system = h.system; base = h.base; point = h.point; signals = x }
 
 -- the lines before it and the line
-pushed : (front front' : List (List ℕ)) (line line' : List ℕ) → front ≡ front' → line ≡ line' → front ++ line ∷ [] ≡ front' ++ line' ∷ []
+pub pushed : (front front' : List (List ℕ)) (line line' : List ℕ) → front ≡ front' → line ≡ line' → front ++ line ∷ [] ≡ front' ++ line' ∷ []
 pushed front front' line line' e l = λ i. e i ++ l i ∷ []
 
 behind_three : (v : Version) (budget : ℕ) (front : List (List ℕ)) → HeldHead v front (λ h. three_lines h) → HeldOf v (behind_budget v budget) front
@@ -301,7 +301,7 @@ arc_step f left arcs front line a some held is =
     }
 
 -- what stands after the word is read
-pairs_begins : (n : ℕ) (line : List ℕ) → line ≡ count_line (codes "pairs") n → begins (codes "pairs") line ≡ true
+pub pairs_begins : (n : ℕ) (line : List ℕ) → line ≡ count_line (codes "pairs") n → begins (codes "pairs") line ≡ true
 pairs_begins n line is = ap (λ (l : List ℕ). begins (codes "pairs") l) is
 
 abbrev IsOtherLine : List ℕ → Type 0

@@ -1,5 +1,5 @@
 -- Up to the line `pairs` the lines that the rules admit are the first of the certificate of some track.
-use Rattle.std.proofs.Common.{◌≡◌, ◌+◌, ◌-◌, ◌≤◌, ℕ, ℤ, zero, suc, true, false, List, [], ◌∷◌, ◌++◌, length, take, codes, All, Result, Ok, Err, refl, sym, ap, ◌∙◌, subst, arith, length-append, append_assoc}
+use Rattle.std.proofs.Common.{◌≡◌, ◌+◌, ◌-◌, ◌≤◌, ℕ, ℤ, zero, suc, false, List, [], ◌∷◌, ◌++◌, length, take, codes, All, Result, Ok, Err, refl, sym, ap, ◌∙◌, subst, arith, length-append, append_assoc}
 use Rattle.std.proofs.lemmas.List.{append-nil, take_at}
 use Rattle.integer_form.specs.declared.faults.Place.TheVariants.{Y}
 use Rattle.obs_rows.specs.declared.arcs.Arc.{Arc}
@@ -27,7 +27,7 @@ use Rattle.cert_data.specs.declared.certs.Cert.{Cert}
 use Rattle.cert_text.specs.BeforePairs.{lines_before, SomeBegins, BeginsBefore}
 use Rattle.cert_text.proofs.ReadBack.{word_was, count_was, point_was, system_was, signals_were, arc_was}
 use Rattle.cert_text.proofs.Completed.{Fit, IsRatio, IsBudget, IsSystemOf, IsWholePoint, AreSignalsOf, Head, signals_of_head, any_head, AreBegun, none_begun, one_more, filled, All-one, cert_of, cert_whole}
-use Rattle.cert_text.proofs.Begun.{admitted_lines}
+use Rattle.cert_text.proofs.Begun.{admitted_lines, arc_lines-append, regroup, pushed, pairs_begins}
 use Rattle.track_data.specs.declared.tracks.Track.{Track}
 use Rattle.track_data.specs.declared.certs.TrackCert.{TrackCert}
 use Rattle.track_data.specs.declared.tails.TrackTail.TheVariants.{Overwidth}
@@ -131,13 +131,6 @@ head_of h = track_form ∷ ratio_of h ∷ budget_of h ∷ system_of h ∷ base_o
 -- with those of its arcs up to one
 abbrev arcs_front : TrackHead → ℕ → List Arc → List (List ℕ)
 arcs_front h left arcs = head_of h ++ count_line (codes "arcs") (length arcs + left) ∷ arc_lines (signals_of_head h) arcs
-
-arc_lines-append : (ss : List ℕ) (xs ys : List Arc) → arc_lines ss (xs ++ ys) ≡ arc_lines ss xs ++ arc_lines ss ys
-arc_lines-append ss [] ys = refl
-arc_lines-append ss (x ∷ xs) ys = ap (λ (l : List (List ℕ)). arc_line ss x ∷ l) (arc_lines-append ss xs ys)
-
-regroup : {X : Type 0} (a b c d f : List X) → (a ++ ((b ++ c) ++ d)) ++ f ≡ (a ++ b) ++ (c ++ (d ++ f))
-regroup a b c d f = simp append_assoc
 
 arcs_begun : (h : TrackHead) (left : ℕ) (arcs : List Arc) → AreBegun Two (signals_of_head h) left arcs → IsBegunBy (arcs_front h left arcs)
 arcs_begun h left arcs begun =
@@ -244,10 +237,6 @@ with_base h x = record { ratio = h.ratio; budget = h.budget; system = h.system; 
 abbrev with_signals : TrackHead → Fit (AreSignalsOf Two) → TrackHead
 with_signals h x = record { ratio = h.ratio; budget = h.budget; system = h.system; base = h.base; point = h.point; signals = x }
 
--- the lines before it and the line
-pushed : (front front' : List (List ℕ)) (line line' : List ℕ) → front ≡ front' → line ≡ line' → front ++ line ∷ [] ≡ front' ++ line' ∷ []
-pushed front front' line line' e l = λ i. e i ++ l i ∷ []
-
 arcs_next : (f : Frame) (left : ℕ) (arcs : List Arc) (front : List (List ℕ)) → HeldArcs f left arcs front → Held (before_arcs f left arcs) front
 arcs_next f zero arcs front held = held
 arcs_next f (suc left) arcs front held = (omega arith, held)
@@ -270,10 +259,6 @@ arc_step f left arcs front line a some held is =
           ∙ append_assoc (head_of h) (count_line (codes "arcs") (length arcs + left) ∷ arc_lines ss arcs) (arc_line ss a ∷ [])
           ∙ (λ i. head_of h ++ count_line (codes "arcs") (count i) ∷ own i);
     }
-
--- what stands after the word is read
-pairs_begins : (n : ℕ) (line : List ℕ) → line ≡ count_line (codes "pairs") n → begins (codes "pairs") line ≡ true
-pairs_begins n line is = ap (λ (l : List ℕ). begins (codes "pairs") l) is
 
 abbrev IsOtherLine : List ℕ → Type 0
 IsOtherLine line = begins (codes "pairs") line ≡ false
