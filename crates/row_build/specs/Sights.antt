@@ -1,5 +1,5 @@
 -- What the rover sees of an entry's satellite, and what both receivers do.
-use Rattle.std.specs.Prelude.{List, ℤ}
+use Rattle.std.specs.Prelude.{◌≡◌, ℕ, Some, List, slice_get, ℤ}
 use Rattle.orbit_model.specs.SeenPlaces.{Place, IsDisplacement, IsMeanDirection}
 use Rattle.signal_travel.specs.Directions.{HoldsDirection}
 use Rattle.screening.specs.declared.sv_pair.SvPair.{SvPair}
@@ -15,6 +15,10 @@ pub record IsRoverSight (v : SvPair) (point : List ℤ) (sight : Sight) : Type 0
   pub direction : (s : Sighting) (move direction : Place) → IsSighting v.rover point s → IsDisplacement move → IsMeanDirection s.seen (place_at point) move direction →
       HoldsDirection sight.direction direction
   pub exists : HasSighting v.rover point
+
+-- each is that of the entry in its place; there may be fewer than entries
+abbrev pub AreRoverSights : List SvPair → List ℤ → List Sight → Type 0
+AreRoverSights boxes point sights = (place : ℕ) (v : SvPair) (sight : Sight) → slice_get boxes place ≡ Some v → slice_get sights place ≡ Some sight → IsRoverSight v point sight
 
 -- what the base sees there, and the rover at the point
 pub record IsSeen (e : Entry) (base point : List ℤ) : Type 0 where

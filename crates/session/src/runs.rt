@@ -13,7 +13,7 @@ use cert_data::Outcome;
 use eph_store::NavFile;
 use epoch_pair::{Options, SessionFault, SessionStart, begin};
 use obs_store::ObsFile;
-use row_build::{base_halves, screen_in};
+use row_build::{KeptSights, base_halves, screen_in};
 use slip_arcs::cut;
 use std::alloc::{AllocError, Global};
 use sv_orbit::world_of;
@@ -84,6 +84,7 @@ pub fn process(
     let mut run = FileRun {
         files: &rounds,
         made: 0,
+        kept: KeptSights::none(alloc),
     };
     let out = outcome(alloc, &mut run, &begun, kept, delta, options)?;
     Ok(out)
