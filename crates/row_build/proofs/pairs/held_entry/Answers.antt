@@ -7,8 +7,8 @@ use Rattle.row_build.specs.Entries.{IsEntry}
 use Rattle.row_build.proofs.ArcLaws.{held_sat, held_read}
 use Rattle.row_build.proofs.pairs.held_entry.Goals as goal
 
-pub bounds-arcs-number : goal.bounds-arcs-number
-bounds-arcs-number c =
+pub bounds-from-number : goal.bounds-from-number
+bounds-from-number c =
     let h = held_read c.args.from.now.arcs.now c.args.pair c.args.place c.args.held.now c.requires.held c.requires.inside in
     slice_get_within c.args.from.now.arcs.now (get_or c.args.held.now c.args.place 0) h.arc h.is
 

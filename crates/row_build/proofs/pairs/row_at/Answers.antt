@@ -1,4 +1,4 @@
-use Rattle.std.proofs.Common.{◌≡◌, ℕ, [], true, false, Some, List, ℤ, get_or, to_z, of_z, refl, sym, subst}
+use Rattle.std.proofs.Common.{◌≡◌, ℕ, [], false, Some, List, ℤ, get_or, to_z, of_z, refl, sym, subst}
 use Rattle.std.specs.Prelude.{slice_get}
 use Rattle.std.proofs.lemmas.Int.{to_z-of_z}
 use Rattle.std.specs.Int.{w64}
@@ -10,6 +10,9 @@ use Rattle.row_boxes.specs.YBoxes.{HoldsYs, HasFarSignal}
 use Rattle.row_build.specs.Rows.{seen_by}
 use Rattle.row_build.proofs.SightLaws.{both_see}
 use Rattle.row_build.proofs.pairs.row_at.Goals as goal
+
+pub bounds-from-number : goal.bounds-from-number
+bounds-from-number c = let h = c.requires.number in slice_get_within c.args.from.now.arcs.now c.args.number h.arc h.is
 
 pub row_of-requires-clause-shift : goal.row_of-requires-clause-shift
 row_of-requires-clause-shift c =
