@@ -74,4 +74,4 @@ pub returns-in-None-clause-size : goal.returns-in-None-clause-size
 returns-in-None-clause-size c = three_below (pos 0) (pos 0) (pos 0) (2 ^ 39) (omega arith) (omega arith) (omega arith)
 
 pub invariant_of-from : goal.invariant_of-from
-invariant_of-from c = no_sights c.args.files.now.screened.boxes c.args.point.now
+invariant_of-from c = record { sights_hold = no_sights c.args.files.now.screened.boxes c.args.point.now }

@@ -25,4 +25,4 @@ returns-in_err-rows-clause-far c = λ e.
     c.in_err-rows.ensures.overwidth (cc (answered.1, answered.2, e))
 
 pub invariant_of-from : goal.invariant_of-from
-invariant_of-from c = no_sights c.args.files.now.screened.now.boxes c.args.point.now
+invariant_of-from c = record { sights_hold = no_sights c.args.files.now.screened.now.boxes c.args.point.now }

@@ -49,4 +49,4 @@ returns-in-Some-clause-used c =
     (c.in-Some.ensures.near (get_or kept c.args.k e) (slice_get-get_or kept c.args.k e inside)).unused
 
 pub invariant_of-from : goal.invariant_of-from
-invariant_of-from c = no_sights c.args.files.now.screened.now.boxes c.args.point.now
+invariant_of-from c = record { sights_hold = no_sights c.args.files.now.screened.now.boxes c.args.point.now }

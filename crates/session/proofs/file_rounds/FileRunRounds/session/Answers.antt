@@ -21,5 +21,7 @@ rows_with-requires-clause-halves c =
 pub invariant_of-from : goal.invariant_of-from
 invariant_of-from c =
     let f = c.args.self.now.files.now in
-    subst (λ (sights : List Sight). AreRoverSights f.screened.boxes c.args.point.now sights) (sym c.as_slice-2.ensures.value)
-    (subst (λ (p : List ℤ). AreRoverSights f.screened.boxes p c.turn_to.new.self.sights.items) c.in_ok-turn_to.ensures.there c.turn_to.ensures.kept)
+    record {
+      sights_hold = subst (λ (sights : List Sight). AreRoverSights f.screened.boxes c.args.point.now sights) (sym c.as_slice-2.ensures.value)
+          (subst (λ (p : List ℤ). AreRoverSights f.screened.boxes p c.turn_to.new.self.sights.items) c.in_ok-turn_to.ensures.there c.turn_to.ensures.kept);
+    }
