@@ -9,4 +9,4 @@ pub held_by_both : (e : Entry) (base point : List ℤ) → IsSeen e base point �
 held_by_both e base point s = record { base_held = s.half.holds; rover_held = s.rover.pseudorange }
 
 pub both_see : (e : Entry) (base point : List ℤ) → IsSeen e base point → HasSightings (seen_by e.sv base point)
-both_see e base point s = record { base = s.half.exists; rover = s.rover.exists }
+both_see e base point s = record { base = s.half.exists; rover = s.exists }

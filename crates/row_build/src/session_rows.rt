@@ -104,6 +104,7 @@ pub fn rows_at(
         arcs,
         base,
         point,
+        sights: &[],
         signals,
     };
     rows_with(alloc, &from, scale, system)

@@ -165,6 +165,7 @@ pub fn shift_at(
         arcs,
         base,
         point,
+        sights: &[],
         signals,
     };
     shift_with(&from, arc, pair)

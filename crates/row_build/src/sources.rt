@@ -1,6 +1,8 @@
 //! What rows are made from.
+ghost use Rattle.row_build.specs.Sights.{AreRoverSights};
+
 use obs_rows::{Arc, Signals};
-use row_boxes::Pseudorange;
+use row_boxes::{Pseudorange, Sight};
 use screening::Screened;
 
 /// What the rows of a point are made from.
@@ -17,6 +19,10 @@ pub struct RowSource<'a> {
     pub base: &'a [i64; 3],
     /// The rover's point, in units of 0.1 mm.
     pub point: &'a [i64; 3],
+    /// What is kept of what the rover sees from the point, each in the place of its entry: `KeptSights` keeps it for the rounds that
+    /// have one point. What is not kept is made, so the rows are the same with none.
+    pub sights: &'a [Sight],
     /// The signals that `screened` was made of.
     pub signals: Signals,
+    pub ghost sights_hold: { AreRoverSights screened.now.boxes point.now sights.now },
 }

@@ -15,6 +15,7 @@ use obs_store::ObsFile;
 use rinex_nav::read_nav;
 use rinex_obs::read_obs;
 use round_steps::Rounds;
+use row_build::KeptSights;
 use run_options::Options;
 use session::{FileRounds, FileRun, screened};
 use signal_travel::is_receiver_point;
@@ -146,6 +147,7 @@ pub fn with_shifts(alloc: Global, files: &Files, point: &[i64; 3]) -> Result<Vec
     let run = FileRun {
         files: &files.rounds,
         made: 0,
+        kept: KeptSights::none(alloc),
     };
     run.first_shifts(alloc, point)
 }

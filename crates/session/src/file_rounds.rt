@@ -7,6 +7,7 @@ ghost use Rattle.obs_rows.specs.Unused.{HasUsedShifts};
 ghost use Rattle.obs_rows.specs.ReceiverPoints.{IsReceiverPoint};
 ghost use Rattle.slip_arcs.specs.Linked.{IsCutOf};
 ghost use Rattle.row_build.specs.Halves.{AreBaseHalves};
+ghost use Rattle.row_build.specs.Sights.{AreRoverSights};
 ghost use Rattle.row_build.specs.Rows.{setting};
 ghost use Rattle.row_build.specs.Shifts.{AreFirstShifts};
 ghost use Rattle.round_steps.specs.Shifts.{without_shifts};
@@ -14,7 +15,7 @@ ghost use Rattle.session.specs.FileRules.{rules_of};
 
 use obs_rows::{Arc, ArcList, PHASES, Session, Signals};
 use round_steps::Rounds;
-use row_build::{Pseudorange, RowFault, RowSource, Screened, rows_with, shift_with};
+use row_build::{KeptSights, Pseudorange, RowFault, RowSource, Screened, rows_with, shift_with};
 use std::alloc::{AllocError, Global};
 
 /// What was screened of two files, with the arcs that were kept.
@@ -37,12 +38,14 @@ pub struct FileRun<'a> {
     pub files: &'a FileRounds,
     /// How many sessions were made.
     pub made: u32,
+    /// What the rover sees from the point of the last of them: the last coarse round and the first fine one have one point.
+    pub kept: KeptSights,
 }
 
 impl<'a> Rounds for FileRun<'a> {
     ghost rules = { λ r. rules_of r.files.now.screened.boxes (length r.files.now.screened.used) r.files.now.kept r.files.now.position r.files.now.signals r.files.now.system };
 
-    ghost ready = { λ r. IsCutOf r.files.now.screened.used r.files.now.kept × (AreArcs r.files.now.kept × IsReceiverPoint r.files.now.position) × (AreBaseHalves r.files.now.screened.boxes r.files.now.position r.files.now.halves.items × IsSystem r.files.now.system) };
+    ghost ready = { λ r. IsCutOf r.files.now.screened.used r.files.now.kept × (AreArcs r.files.now.kept × IsReceiverPoint r.files.now.position) × (AreBaseHalves r.files.now.screened.boxes r.files.now.position r.files.now.halves.items × IsSystem r.files.now.system) × AreRoverSights r.files.now.screened.boxes r.kept.point r.kept.sights.items };
 
     ghost made = { λ r. r.made };
 
@@ -55,12 +58,14 @@ impl<'a> Rounds for FileRun<'a> {
     ) -> Result<Option<Session>, AllocError> {
         self.made += 1;
         let files = self.files;
+        self.kept.turn_to(alloc, &files.screened, point)?;
         let from = RowSource {
             screened: &files.screened,
             halves: files.halves.as_slice(),
             arcs,
             base: &files.position,
             point,
+            sights: self.kept.sights.as_slice(),
             signals: files.signals,
         };
         match rows_with(alloc, &from, scale, files.system) {
@@ -100,6 +105,7 @@ fn first_arc(files: &FileRounds, k: usize, point: &[i64; 3]) -> Arc
         arcs: kept,
         base: &files.position,
         point,
+        sights: &[],
         signals: files.signals,
     };
     // The arc holds its first pair.

@@ -14,7 +14,7 @@ use cert_data::Outcome;
 use eph_store::NavFile;
 use epoch_pair::{Options, SessionFault, SessionStart, begin};
 use obs_store::ObsFile;
-use row_build::base_halves;
+use row_build::{KeptSights, base_halves};
 use std::alloc::{AllocError, Global};
 
 /// The used satellites of the taken pairs, and the arcs that are kept of them. `process` begins with it; that it is public serves
@@ -70,6 +70,7 @@ pub fn process(
     let mut run = FileRun {
         files: &rounds,
         made: 0,
+        kept: KeptSights::none(alloc),
     };
     let out = outcome(alloc, &mut run, &begun, kept, delta, options)?;
     Ok(out)

@@ -42,6 +42,7 @@ pub fn rows_of(
         arcs,
         base: &files.position,
         point,
+        sights: &[],
         signals: files.signals,
     };
     let rows = pair_rows_with(alloc, &from, pair, scale)?;

@@ -47,6 +47,7 @@ fn tried_arc(
         arcs: files.kept,
         base: &files.position,
         point,
+        sights: &[],
         signals: files.signals,
     };
     match shift_with(&from, k as u16, pair) {

@@ -8,6 +8,7 @@ use Rattle.row_build.specs.Halves.{AreBaseHalves}
 use Rattle.row_build.specs.Rows.{setting}
 use Rattle.row_build.specs.HeldArcs.{holds_pair}
 use Rattle.row_build.specs.Shifts.{AreFirstShifts}
+use Rattle.row_build.proofs.HalfLaws.{no_sights}
 use Rattle.round_steps.specs.Shifts.{without_shifts}
 use Rattle.round_steps.proofs.ShiftLaws.{three_below}
 use Rattle.session.proofs.RangeLaws.{first_inside, holds_first, zeros_off}
@@ -71,3 +72,6 @@ returns-in-None-clause-used c = zeros_off _
 
 pub returns-in-None-clause-size : goal.returns-in-None-clause-size
 returns-in-None-clause-size c = three_below (pos 0) (pos 0) (pos 0) (2 ^ 39) (omega arith) (omega arith) (omega arith)
+
+pub invariant_of-from : goal.invariant_of-from
+invariant_of-from c = record { sights_hold = no_sights c.args.files.now.screened.boxes c.args.point.now }

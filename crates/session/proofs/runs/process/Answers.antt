@@ -27,6 +27,7 @@ outcome-requires-clause-ready c = λ on.
         subst IsReceiverPoint (sym s.screened.position_is) c.in_ok-begun.ensures.position.in_reach,
       ),
       (s.halves, subst IsSystem (sym s.screened.system_is) c.args.options.now.of_system),
+      c.none.ensures f.screened.boxes,
     )
 
 few_kept : (f : FileRounds) → IsCutOf f.screened.used f.kept → length f.kept ≤ MOST_KEPT_ARCS

@@ -5,6 +5,7 @@ use Rattle.session.proofs.CutLaws.{cut_along}
 use Rattle.track_rows.specs.PairRules.{rows_setting, setting_of}
 use Rattle.track_rows.proofs.KeptArcs.{some_held}
 use Rattle.track_rows.proofs.PairSessions.{is_there}
+use Rattle.row_build.proofs.HalfLaws.{no_sights}
 use Rattle.track_rows.proofs.rows.rows_of.Goals as goal
 
 pub pair_rows_with-requires-clause-cut : goal.pair_rows_with-requires-clause-cut
@@ -22,3 +23,6 @@ pub returns-in_err-rows-clause-far : goal.returns-in_err-rows-clause-far
 returns-in_err-rows-clause-far c = λ e.
     let answered = err_from_is_err_and c.from_residual.result c.from_residual.ensures.1 in
     c.in_err-rows.ensures.overwidth (cc (answered.1, answered.2, e))
+
+pub invariant_of-from : goal.invariant_of-from
+invariant_of-from c = record { sights_hold = no_sights c.args.files.now.screened.now.boxes c.args.point.now }

@@ -5,6 +5,7 @@ use Rattle.obs_rows.specs.declared.arcs.Arc.{Arc}
 use Rattle.track_rows.specs.PairRules.{TrackSetting, setting_of}
 use Rattle.track_rows.specs.Trials.{IsTriedArc, flagged}
 use Rattle.track_rows.proofs.TriedArcs.{begun_arc, other_arc, taken_arc, below_more}
+use Rattle.row_build.proofs.HalfLaws.{no_sights}
 use Rattle.track_rows.proofs.shifts.tried_arc.Goals as goal
 
 pub returns-then-begun-k-clause-tried : goal.returns-then-begun-k-clause-tried
@@ -46,3 +47,6 @@ returns-in-Some-clause-used c =
     let kept : List Arc = c.args.files.now.kept.now in
     let inside : c.args.k < length kept = omega arith in
     (c.in-Some.ensures.near (get_or kept c.args.k e) (slice_get-get_or kept c.args.k e inside)).unused
+
+pub invariant_of-from : goal.invariant_of-from
+invariant_of-from c = record { sights_hold = no_sights c.args.files.now.screened.now.boxes c.args.point.now }

@@ -1,5 +1,7 @@
-use Rattle.std.proofs.Common.{List, sym, subst}
+use Rattle.std.proofs.Common.{List, ℤ, sym, subst}
 use Rattle.row_boxes.specs.declared.pseudoranges.Pseudorange.{Pseudorange}
+use Rattle.row_boxes.specs.declared.sights.Sight.{Sight}
+use Rattle.row_build.specs.Sights.{AreRoverSights}
 use Rattle.row_build.specs.Halves.{AreBaseHalves}
 use Rattle.session.proofs.CutLaws.{cut_along}
 use Rattle.session.proofs.RangeLaws.{arcs_along}
@@ -15,3 +17,11 @@ pub rows_with-requires-clause-halves : goal.rows_with-requires-clause-halves
 rows_with-requires-clause-halves c =
     let f = c.args.self.now.files.now in
     subst (λ (halves : List Pseudorange). AreBaseHalves f.screened.boxes f.position halves) (sym c.as_slice.ensures.value) c.requires.ready.2.0
+
+pub invariant_of-from : goal.invariant_of-from
+invariant_of-from c =
+    let f = c.args.self.now.files.now in
+    record {
+      sights_hold = subst (λ (sights : List Sight). AreRoverSights f.screened.boxes c.args.point.now sights) (sym c.as_slice-2.ensures.value)
+          (subst (λ (p : List ℤ). AreRoverSights f.screened.boxes p c.turn_to.new.self.sights.items) c.in_ok-turn_to.ensures.there c.turn_to.ensures.kept);
+    }
