@@ -1,7 +1,8 @@
 //! What becomes of a pair that is tried.
-ghost use Rattle.std.specs.Prelude.{◌≡◌, ◌<◌, ◌≤◌, All, length, IfOk};
+ghost use Rattle.std.specs.Prelude.{◌≡◌, ◌+◌, ◌<◌, ◌≤◌, All, length, IfOk};
 ghost use Rattle.obs_rows.specs.Arcs.{AreArcs};
 ghost use Rattle.obs_rows.specs.Signals.{fine_signals};
+ghost use Rattle.obs_rows.specs.Integers.{integer_count};
 ghost use Rattle.obs_rows.specs.Unused.{HasUsedShifts};
 ghost use Rattle.round_steps.specs.Counts.{held};
 ghost use Rattle.round_steps.specs.Shifts.{AreSameArcs};
@@ -18,7 +19,7 @@ use round_steps::{CoarseEnd, LEAST_SATELLITES, coarse_rounds, held};
 use row_build::RowFault;
 use std::alloc::{AllocError, Global};
 use track_data::LostCause;
-use track_sum::pair_front;
+use track_sum::PairRoom;
 
 /// What became of a pair that was tried.
 #[derive(Debug, Drop)]
@@ -52,6 +53,7 @@ fn cause_of(tail: &Tail) -> LostCause
 /// Tries a pair at the point where its coarse rounds settle.
 fn try_at(
     alloc: Global,
+    room: &mut PairRoom,
     files: &TrackFiles<'_>,
     arcs: &[Arc],
     begun: &[bool],
@@ -59,6 +61,7 @@ fn try_at(
     point: &[i64; 3],
 ) -> Result<Trial, AllocError>
     requires ready { AreReady files.now }
+    requires room { room.old.front.columns ≡ 4 + integer_count files.now.kept.now (fine_signals files.now.signals) }
     requires arcs { AreArcs arcs.now }
     requires same { AreSameArcs files.now.kept.now arcs.now }
     requires used { All (HasUsedShifts (fine_signals files.now.signals)) arcs.now }
@@ -68,6 +71,7 @@ fn try_at(
     requires settled { IsSettledAt (setting_of files.now) pair point.now }
     ensures trial { IfOk result (IsTrialOf (setting_of files.now) arcs.now (flagged begun.now) pair) }
     ensures fits { IfOk result (Fits files.now.signals) }
+    ensures room { room.new.front.columns ≡ room.old.front.columns }
 {
     let tried = tried_arcs(alloc, files, arcs, begun, pair, point)?;
     let rows = match rows_of(alloc, files, tried.as_slice(), pair, point, 0) {
@@ -75,8 +79,8 @@ fn try_at(
         Err(RowFault::Overwidth) => return Ok(Trial::Lost(LostCause::Y)),
         Err(RowFault::NoMemory) => return Err(AllocError),
     };
-    match pair_front(files.kept, files.signals, &rows) {
-        Ok(_) => Ok(Trial::Tracked {
+    match room.fill(files.kept, files.signals, &rows) {
+        Ok(()) => Ok(Trial::Tracked {
             point: *point,
             rows,
             arcs: tried,
@@ -88,15 +92,17 @@ fn try_at(
 
 /// Tries the pair of this number among those that were taken. The arcs are the kept ones with their shifts so far; flags
 /// say which of them have a row in a tracked pair before. They keep their shifts, and other arcs of the pair take ones of
-/// this pair. It is refused only where memory runs out.
+/// this pair. Its front is made in the room that is lent. It is refused only where memory runs out.
 pub fn try_pair(
     alloc: Global,
+    room: &mut PairRoom,
     files: &TrackFiles<'_>,
     arcs: &[Arc],
     begun: &[bool],
     pair: u32,
 ) -> Result<Trial, AllocError>
     requires ready { AreReady files.now }
+    requires room { room.old.front.columns ≡ 4 + integer_count files.now.kept.now (fine_signals files.now.signals) }
     requires arcs { AreArcs arcs.now }
     requires same { AreSameArcs files.now.kept.now arcs.now }
     requires used { All (HasUsedShifts (fine_signals files.now.signals)) arcs.now }
@@ -104,6 +110,7 @@ pub fn try_pair(
     requires pair { pair < length files.now.screened.now.used }
     ensures trial { IfOk result (IsTrialOf (setting_of files.now) arcs.now (flagged begun.now) pair) }
     ensures fits { IfOk result (Fits files.now.signals) }
+    ensures room { room.new.front.columns ≡ room.old.front.columns }
 {
     if held(files.kept, pair) < LEAST_SATELLITES {
         return Ok(Trial::Lost(LostCause::Rows));
@@ -114,7 +121,9 @@ pub fn try_pair(
         made: 0,
     };
     match coarse_rounds(alloc, &mut rounds, files.kept, &files.position)? {
-        CoarseEnd::Settled { point, .. } => try_at(alloc, files, arcs, begun, pair, &point),
+        CoarseEnd::Settled { point, .. } => {
+            try_at(alloc, room, files, arcs, begun, pair, &point)
+        },
         CoarseEnd::Declined { tail, .. } => Ok(Trial::Lost(cause_of(&tail))),
     }
 }

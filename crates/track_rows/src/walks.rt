@@ -2,6 +2,8 @@
 ghost use Rattle.std.specs.Prelude.{◌≡◌, ◌+◌, ◌<◌, ◌||◌, length, IfOk, OnOk};
 ghost use Rattle.obs_rows.specs.Arcs.{AreArcs};
 ghost use Rattle.obs_rows.specs.declared.limits.TheConstants.{MOST_PAIRS};
+ghost use Rattle.obs_rows.specs.Signals.{fine_signals};
+ghost use Rattle.obs_rows.specs.Integers.{integer_count};
 ghost use Rattle.row_build.specs.HeldArcs.{holds_pair};
 ghost use Rattle.track_rows.specs.PairRules.{TrackSetting, setting_of, AreUnshifted, AreReady};
 ghost use Rattle.track_rows.specs.Trials.{IsTrialOf, Fits, flagged};
@@ -12,6 +14,7 @@ use crate::trials::{Trial, try_pair};
 use obs_rows::{Arc, PairRows};
 use std::alloc::{AllocError, Global};
 use track_data::{Lost, LostCause};
+use track_sum::PairRoom;
 
 /// The track of the pairs so far, and those of them that it hasn't got.
 #[derive(Debug, Drop)]
@@ -93,14 +96,22 @@ impl TrackSoFar {
     }
 
     /// One more pair, which is tried.
-    fn step(&mut self, alloc: Global, files: &TrackFiles<'_>, pair: u32) -> Result<(), AllocError>
+    fn step(
+        &mut self,
+        alloc: Global,
+        room: &mut PairRoom,
+        files: &TrackFiles<'_>,
+        pair: u32,
+    ) -> Result<(), AllocError>
         requires ready { AreReady files.now }
+        requires room { room.old.front.columns ≡ 4 + integer_count files.now.kept.now (fine_signals files.now.signals) }
         requires pair { pair < length files.now.screened.now.used }
         requires walked { IsWalk (setting_of files.now) pair self.old }
-        ensures { OnOk result (IsWalk (setting_of files.now) (pair + 1) self.new) }
+        ensures walk { OnOk result (IsWalk (setting_of files.now) (pair + 1) self.new) }
+        ensures room { room.new.front.columns ≡ room.old.front.columns }
     {
         let arcs = self.arcs.as_slice();
-        match try_pair(alloc, files, arcs, self.begun.as_slice(), pair)? {
+        match try_pair(alloc, room, files, arcs, self.begun.as_slice(), pair)? {
             Trial::Lost(cause) => self.lose(pair, cause),
             Trial::Tracked { point, rows, arcs } => self.track(alloc, pair, point, rows, arcs),
         }
@@ -113,8 +124,9 @@ pub(crate) fn walked(alloc: Global, files: &TrackFiles<'_>) -> Result<TrackSoFar
     ensures { IfOk result (IsWalk (setting_of files.now) (length files.now.screened.now.used)) }
 {
     let mut walk = TrackSoFar::begin(alloc, files.kept)?;
+    let mut room = PairRoom::new(files.kept, files.signals);
     for pair in 0..files.screened.used.len() {
-        walk.step(alloc, files, pair as u32)?;
+        walk.step(alloc, &mut room, files, pair as u32)?;
     }
     Ok(walk)
 }

@@ -11,8 +11,8 @@ use Rattle.track_rows.proofs.KeptArcs.{has_kept}
 use Rattle.track_rows.proofs.Outcomes.{is_tried, lost_far, lost_weak, lost_wide, tracked_by, fits_track, rows_there}
 use Rattle.track_rows.proofs.trials.try_at.Goals as goal
 
-pub pair_front-requires-clause-arcs : goal.pair_front-requires-clause-arcs
-pair_front-requires-clause-arcs c =
+pub fill-requires-clause-arcs : goal.fill-requires-clause-arcs
+fill-requires-clause-arcs c =
     let t : TrackSetting = setting_of c.args.files.now in
     let point = c.args.point.now in
     let v : List Arc = c.in_ok-tried.tried.items in
@@ -30,8 +30,8 @@ returns-in-Err-Overwidth-clause-trial c =
     lost_far t arcs begun c.args.pair point v trial
     (subst (λ (l : List Arc). HasFarRow (rows_setting t l point 0) c.args.pair) c.as_slice.ensures.value (c.in-Err-Overwidth.ensures.far (ap Err c.in-Err-Overwidth.field-0-is)))
 
-pub returns-in-Ok-pair_front-clause-trial : goal.returns-in-Ok-pair_front-clause-trial
-returns-in-Ok-pair_front-clause-trial c =
+pub returns-in-Ok-fill-clause-trial : goal.returns-in-Ok-fill-clause-trial
+returns-in-Ok-fill-clause-trial c =
     let t : TrackSetting = setting_of c.args.files.now in
     let arcs : List Arc = c.args.arcs.now in
     let begun = flagged c.args.begun.now in
@@ -39,10 +39,10 @@ returns-in-Ok-pair_front-clause-trial c =
     let v : List Arc = c.in_ok-tried.tried.items in
     let trial : IsTried t arcs begun c.args.pair point v = is_tried t arcs begun c.args.pair point v c.requires.enough c.requires.settled c.in_ok-tried.ensures.tried in
     let are : ArePairRows (rows_setting t v point 0) c.args.pair c.in-Ok.rows = rows_there t c.args.pair point c.as_slice.result.now v c.in-Ok.rows c.as_slice.ensures.value c.in-Ok.ensures.rows in
-    (tracked_by t arcs begun c.args.pair point v c.in-Ok.rows c.in-Ok-pair_front.field-0 trial are c.in-Ok-pair_front.ensures.front, c.in_ok-tried.ensures.others)
+    (tracked_by t arcs begun c.args.pair point v c.in-Ok.rows c.fill.new.self.front trial are c.in-Ok-fill.ensures.front, c.in_ok-tried.ensures.others)
 
-pub returns-in-Ok-pair_front-clause-fits : goal.returns-in-Ok-pair_front-clause-fits
-returns-in-Ok-pair_front-clause-fits c =
+pub returns-in-Ok-fill-clause-fits : goal.returns-in-Ok-fill-clause-fits
+returns-in-Ok-fill-clause-fits c =
     let t : TrackSetting = setting_of c.args.files.now in
     let point = c.args.point.now in
     let v : List Arc = c.in_ok-tried.tried.items in
@@ -68,7 +68,7 @@ returns-clause-trial c =
     let begun = flagged c.args.begun.now in
     let point = c.args.point.now in
     let v : List Arc = c.in_ok-tried.tried.items in
-    let x = c.in-Err-Overwidth-pair_front in
+    let x = c.in-Err-Overwidth-fill in
     let trial : IsTried t arcs begun c.args.pair point v = is_tried t arcs begun c.args.pair point v c.requires.enough c.requires.settled c.in_ok-tried.ensures.tried in
     let are : ArePairRows (rows_setting t v point 0) c.args.pair c.in-Ok.rows = rows_there t c.args.pair point c.as_slice.result.now v c.in-Ok.rows c.as_slice.ensures.value c.in-Ok.ensures.rows in
     lost_wide t arcs begun c.args.pair point v c.in-Ok.rows x.field-0-0 trial are (subst (IsRefusedPair t.kept (fine_signals t.signals) c.in-Ok.rows) x.field-0-is x.ensures.refused)

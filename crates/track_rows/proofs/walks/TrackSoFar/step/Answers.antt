@@ -13,8 +13,8 @@ track-requires c =
     let trial = subst (λ (x : Trial). IsTrialOf t c.as_slice-arcs.result.now (flagged c.as_slice.result.now) c.args.pair x) c.in-Tracked.is c.in_ok-cause.ensures.trial in
     c.requires.walked.flags.count ∙ sym (length_same c.args.files.now.kept.now c.in-Tracked.arcs.items trial.0.is_tried.are_tried.same)
 
-pub returns-in-Lost : goal.returns-in-Lost
-returns-in-Lost c =
+pub returns-in-Lost-clause-walk : goal.returns-in-Lost-clause-walk
+returns-in-Lost-clause-walk c =
     let t = setting_of c.args.files.now in
     let w = c.args.self.now in
     let trial = subst (λ (x : Trial). IsTrialOf t c.as_slice-arcs.result.now (flagged c.as_slice.result.now) c.args.pair x) c.in-Lost.is c.in_ok-cause.ensures.trial in
@@ -22,8 +22,8 @@ returns-in-Lost c =
     let by_flags = subst (λ (xs : List Bool). IsTrialOf t w.arcs.items (flagged xs) c.args.pair (Trial.Lost c.in-Lost.cause)) c.as_slice.ensures.value by_arcs in
     on_ok_weaker c.lose.result (λ more. more t c.requires.walked by_flags) c.lose.ensures
 
-pub returns-in-Tracked : goal.returns-in-Tracked
-returns-in-Tracked c =
+pub returns-in-Tracked-clause-walk : goal.returns-in-Tracked-clause-walk
+returns-in-Tracked-clause-walk c =
     let t = setting_of c.args.files.now in
     let w = c.args.self.now in
     let x : Trial = Trial.Tracked c.in-Tracked.point c.in-Tracked.rows c.in-Tracked.arcs in
