@@ -10,7 +10,8 @@ use Rattle.obs_rows.specs.declared.rows.Row.{Row}
 use Rattle.obs_rows.specs.declared.pair_rows.PairRows.{PairRows}
 use Rattle.obs_rows.specs.declared.units.TheConstants.{PHASES}
 use Rattle.obs_rows.specs.Signals.{phases}
-use Rattle.normal_sum.specs.Places.{ArePlaces, first_place, place_from}
+use Rattle.obs_rows.specs.Integers.{integer_count}
+use Rattle.normal_sum.specs.Places.{ArePlacesFrom, first_place, place_from}
 use Rattle.normal_sum.proofs.PlaceLaws.{are_places, are_within, phase_within}
 use Rattle.fix_decide.specs.declared.reaches.RowReach.{RowReach}
 use Rattle.fix_decide.specs.RowReaches.{row_reach, AreSeen}
@@ -32,7 +33,7 @@ seen : (arcs : List Arc) (ss : List ℕ) (m : List ℤ) (s : ℕ) (told rows : L
     ((k : ℕ) → slice_index_or places k None ≡ place_from (slice_index_or firsts k None) phase) →
     moves ≡ map (row_reach m) told → given ≡ moves → AreSeen arcs ss m s rows places given
 seen arcs ss m s told rows firsts places phase moves given e f g h i j = subst (λ (l : List Row). AreSeen arcs ss m s l places given) e
-    (record { are_places = are_places arcs ss s told firsts places phase f g h; are_moves = j ∙ i })
+    (record { are_places = λ k d inside. h k ∙ are_places arcs ss s told firsts phase f g k d inside; are_moves = j ∙ i })
 
 pub places_of-places-requires-clause-phase : goal.places_of-places-requires-clause-phase
 places_of-places-requires-clause-phase c =
@@ -47,11 +48,11 @@ signal_upper-requires-clause-places c =
     let ss : List ℕ = c.args.signals.now in
     let s : ℕ = get_or ss c.loop-signal.signal-index 0 in
     let rows : List Row = c.as_slice-rows.result.now in
-    let are : ArePlaces c.args.arcs.now c.args.signals.now s c.as_slice-rows.result.now c.places_of-places.result =
-    are_places c.args.arcs.now ss s rows c.first_places-firsts.result c.places_of-places.result c.phase_place.result c.phase_place.ensures
-    c.first_places-firsts.ensures.value c.places_of-places.ensures in
+    let are : ArePlacesFrom c.args.arcs.now ss s rows c.first_places-firsts.result c.phase_place.result =
+    are_places c.args.arcs.now ss s rows c.first_places-firsts.result c.phase_place.result c.phase_place.ensures c.first_places-firsts.ensures.value in
     subst (λ (n : ℕ). (k : ℕ) → IfSome (slice_index_or c.places_of-places.result k None) (λ i. i < n)) (sym c.requires.entries)
-    (are_within c.args.arcs.now ss s rows c.first_places-firsts.result c.places_of-places.result c.phase_place.result are c.first_places-firsts.ensures.none c.places_of-places.ensures)
+    (λ k. subst (λ (p : Option ℕ). IfSome p (λ i. i < integer_count c.args.arcs.now ss)) (sym (c.places_of-places.ensures k))
+    (are_within c.args.arcs.now ss s rows c.first_places-firsts.result c.phase_place.result are c.first_places-firsts.ensures.none k))
 
 pub returns-in_err-sum-clause-refused : goal.returns-in_err-sum-clause-refused
 returns-in_err-sum-clause-refused c =

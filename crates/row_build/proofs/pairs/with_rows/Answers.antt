@@ -4,15 +4,11 @@ use Rattle.std.specs.Int.{w64}
 use Rattle.std.proofs.lemmas.Option.{slice_get-get_or}
 use Rattle.obs_rows.specs.declared.rows.Row.{Row}
 use Rattle.obs_rows.specs.Rows.{AreBelow}
-<<<<<<< HEAD
 use Rattle.obs_rows.specs.declared.limits.TheConstants.{MOST_SATELLITES}
-use Rattle.row_build.specs.HeldArcs.{IsHeld}
-=======
 use Rattle.obs_rows.specs.declared.arcs.Arc.{Arc}
 use Rattle.screening.specs.declared.sv_pair.SvPair.{SvPair}
 use Rattle.row_build.specs.Entries.{IsEntry}
 use Rattle.row_build.specs.HeldArcs.{arcs_at, IsHeld}
->>>>>>> d06d9339d94845db238442dab4821d495c3ba811
 use Rattle.row_build.specs.Rows.{setting_from, IsRow}
 use Rattle.row_build.specs.Far.{IsFirstEntry, IsGroup, HasFarRow}
 use Rattle.row_build.proofs.ArcLaws.{held_read}
