@@ -27,7 +27,7 @@ fn old_best(best: &TwoBest) -> OldBest
     }
 }
 
-/// The same ending, with the same numbers.
+/// The tail of version 1 with the same ending and the same numbers.
 pub(crate) fn old_tail(tail: &Tail) -> OldTail
     requires { HasFewEntries tail.now }
     ensures { IsEndOf tail.now result }

@@ -66,7 +66,7 @@ pub(crate) fn leading_whole(text: &[u8]) -> Option<(i64, &[u8])>
     }
 }
 
-// The same of one without a sign.
+// The number without a sign at the head of a text, and what follows it.
 #[inline(always)]
 fn leading_natural(text: &[u8]) -> Option<(u64, &[u8])>
     ensures spelled { IfSome result (λ r. text.now ≡ decimal r.0 ++ r.1.now) }
@@ -108,7 +108,7 @@ fn further_digits(first: u64, text: &[u8]) -> Option<(u64, &[u8])>
     Some((number, rest))
 }
 
-// The same as long as four digits follow at a time.
+// A number and its text after all whole groups of four digits are read.
 #[inline(always)]
 fn further_fours(first: u64, text: &[u8]) -> (u64, &[u8])
     requires from { 0 < first }

@@ -63,7 +63,7 @@ pub fn signal_choice_of(given: &[Given]) -> Option<SignalChoice>
     Some(SignalChoice { system, bands })
 }
 
-/// Those of a simulated session, for which nothing else is given.
+/// The bands and the system of a simulated session; None where another option is given.
 pub fn sim_choice_of(given: &[Given]) -> Option<SignalChoice>
     ensures { MatchOption result ((system bands : ℕ) → IsSimChoice given.now system bands → ⊥) (λ c. IsSimChoice given.now c.system c.bands) }
 {

@@ -189,7 +189,7 @@ fn orbit_job(
     }
 }
 
-// The same, with the satellite that is named.
+// The job `orbit` of a satellite that was read.
 fn orbit_at(
     alloc: Global,
     nav: &Word,
@@ -226,7 +226,7 @@ fn sim_job(plain: &[Word], given: &[Given]) -> Result<Job, WordFault>
     }
 }
 
-// The same, of four words.
+// The job `sim` of its part, seed, epochs and satellites.
 fn sim_by_words(
     part: &Word,
     seed: &Word,

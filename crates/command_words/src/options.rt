@@ -94,7 +94,7 @@ pub fn options_of(given: &[Given]) -> Option<Options>
     })
 }
 
-/// The same where nothing is searched: no ratio and no budget is given.
+/// The options of a command that searches nothing: None where a ratio or a budget is given.
 pub fn pair_options_of(given: &[Given]) -> Option<Options>
     ensures { MatchOption result ((o : Options) → ArePairOptions given.now o → ⊥) (λ o. ArePairOptions given.now o) }
 {

@@ -17,7 +17,7 @@ pub struct Level {
     pub down: i64,
     /// 2^30 times the distance of `up` from the centre that the later entries give.
     pub up_offset: i128,
-    /// The same of `down`.
+    /// 2^30 times the distance of `down` from that centre.
     pub down_offset: i128,
     /// The lower sum of the later entries.
     pub low: i128,

@@ -36,7 +36,7 @@ pub fn share(rows: usize, signal: usize) -> i64
     COMMON_MULTIPLE / rows as i64 * WEIGHTS[signal]
 }
 
-/// The same, turned.
+/// The share with its sign turned.
 pub(crate) fn turned_share(rows: usize, signal: usize) -> i64
     requires some { 1 ≤ rows }
     requires few { rows ≤ MOST_ROWS }

@@ -11,10 +11,10 @@ use crate::{BANDS_12, BANDS_15, BANDS_125, PHASES};
 /// The number of the bands L1 and L2.
 pub const BANDS_L1_L2: u16 = 12;
 
-/// That of L1 and L5.
+/// The number of the set L1 and L5.
 pub const BANDS_L1_L5: u16 = 15;
 
-/// That of all three bands.
+/// The number of the set of all three bands.
 pub const BANDS_L1_L2_L5: u16 = 125;
 
 /// The digit of each band in the name of an observation type (RINEX 3, table of observation codes).

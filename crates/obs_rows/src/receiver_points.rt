@@ -10,7 +10,7 @@ use crate::{LEAST_DISTANCE, MOST_DISTANCE, is_point};
 // The square of a receiver's greatest distance from the Earth's centre.
 const FARTHEST_SQUARED: i128 = MOST_DISTANCE as i128 * MOST_DISTANCE as i128;
 
-// That of the least.
+// The square of the least distance.
 const NEAREST_SQUARED: i128 = LEAST_DISTANCE as i128 * LEAST_DISTANCE as i128;
 
 fn square(n: i64) -> i128

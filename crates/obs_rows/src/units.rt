@@ -19,19 +19,19 @@ pub const WEIGHTS: [i64; SIGNALS] = [10_000, 10_000, 1, 1, 10_000, 1];
 /// The signals of the bands L1 and L2. At scale 0 all signals of a session's bands count.
 pub const SIGNALS_12: [usize; 4] = [0, 1, 2, 3];
 
-/// Those of L1 and L5.
+/// The signals on L1 and L5.
 pub const SIGNALS_15: [usize; 4] = [0, 2, 4, 5];
 
-/// Those of all three bands.
+/// The signals on all three bands.
 pub const SIGNALS_125: [usize; SIGNALS] = [0, 1, 2, 3, 4, 5];
 
 /// The bands of the phases among those of L1 and L2: the places of their shifts.
 pub const BANDS_12: [usize; 2] = [0, 1];
 
-/// Those of L1 and L5.
+/// The bands of the phases on L1 and L5.
 pub const BANDS_15: [usize; 2] = [0, 2];
 
-/// Those of all three bands.
+/// The bands of the phases on all three bands.
 pub const BANDS_125: [usize; 3] = [0, 1, 2];
 
 /// The code on L1, which alone counts at the coarse scale.

@@ -92,7 +92,7 @@ impl Satellites {
         self.add(sat.number, &sat.values)
     }
 
-    /// The same of a satellite of this number with these values, which aren't copied as a whole.
+    /// Adds the satellite of this number with these values, which aren't copied as a whole.
     pub fn add(&mut self, number: u8, values: &[Option<Value>; SLOTS]) -> Result<(), AllocError>
         requires from_first { 1 ≤ number }
         requires to_last { number ≤ 36 }

@@ -44,7 +44,7 @@ pub fn bound_law()
         (((d *ℤ e) *ℤ (d *ℤ e)) *ℤ (pos (2 ^ h) *ℤ value p.1 z)) ≤ℤ (pos 64 *ℤ whole_sum_of_squares d e z b gs ts) }
 {}
 
-/// The same for all rational data and all rational baselines.
+/// The bound for all rational data and all rational baselines.
 pub fn rational_bound_law()
     ensures { (h : ℕ) (z : List ℤ) (b : Baseline) (gs : List SignalGroup) (qs : List (List RowData)) (p : List Factor × List Column) →
         GroupsOf (len z) gs → FitsAll gs qs → steps 0 3 (first_rounding h (length z) gs) ≡ Ok p →

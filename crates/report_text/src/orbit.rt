@@ -31,7 +31,7 @@ fn low_end(end: i64, unit: i64, scale: u32) -> i128
     floor_shift(product(end, unit), scale)
 }
 
-// The same, rounded up.
+// The end of a box at 2^-scale in units of 1/unit, rounded up.
 fn high_end(end: i64, unit: i64, scale: u32) -> i128
     requires end_size { unsigned_abs end ≤ 2 ^ 62 }
     requires unit_size { unsigned_abs unit ≤ 2 ^ 62 }

@@ -71,7 +71,7 @@ pub fn wide_number(field: &[u8], first: u32) -> Result<Option<u32>, Flaw>
     Ok(Some(number_of(digits)))
 }
 
-/// The same of at most four columns.
+/// The whole number in at most four columns, or none where they are blank.
 pub fn whole_number(field: &[u8], first: u32) -> Result<Option<u16>, Flaw>
     requires { length field.now ≤ 4 }
     ensures value { result ≡ whole_of first field.now }
@@ -84,7 +84,7 @@ pub fn whole_number(field: &[u8], first: u32) -> Result<Option<u16>, Flaw>
     }
 }
 
-/// The same, where the number must be there.
+/// The whole number in at most four columns that must have one.
 pub fn filled_number(field: &[u8], first: u32) -> Result<u16, Flaw>
     requires { length field.now ≤ 4 }
     ensures value { result ≡ filled_of first field.now }
@@ -97,7 +97,7 @@ pub fn filled_number(field: &[u8], first: u32) -> Result<u16, Flaw>
     }
 }
 
-/// The same in the two columns from this one on.
+/// The number in the two columns from this one on, which must have one.
 pub fn two_digits(line: &[u8], first: u32) -> Result<u8, Flaw>
     requires from_one { 1 ≤ first }
     requires near { first ≤ 100 }

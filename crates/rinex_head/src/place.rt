@@ -12,7 +12,7 @@ use thiserror::Error;
 pub enum What {
     /// The first line is missing, has another label or another version.
     Version,
-    /// The same of an observation file, where those of RINEX 2 are read too.
+    /// The version of an observation file, where those of RINEX 2 are read too.
     ObsVersion,
     /// Column 21 or 41 of the first line.
     Kind,

@@ -107,7 +107,7 @@ impl OpenBody {
         }
     }
 
-    // The same, after which the part may be whole.
+    // Reads a line after which the part may be whole.
     #[inline(never)]
     fn take_any_line(&mut self, alloc: Global, line: &Line<'_>) -> Result<(), TextFault>
         ensures { Takes (admit (expected_in_body self.old) line.now.bytes.now) line.now.number (expected_in_body self.new) result }

@@ -33,7 +33,7 @@ impl OpenFile {
         }
     }
 
-    // The same. It stands apart, since its large locals are cleared at each call.
+    // Reads a line in any state. It stands apart, since its large locals are cleared at each call.
     #[inline(never)]
     fn take_any_line(&mut self, alloc: Global, line: &Line<'_>) -> Result<(), TextFault>
         ensures { Takes (admit (expected_in self.old) line.now.bytes.now) line.now.number (expected_in self.new) result }

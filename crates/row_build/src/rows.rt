@@ -13,7 +13,7 @@ use obs_rows::{PHASES, Row};
 use row_boxes::{Observations, observations_of};
 use signal_travel::Spread;
 
-// With the direction to the satellite
+// A row of what was observed, with the direction to the satellite
 fn row_over(arc: u16, held: &Observations, direction: &[Spread; 3]) -> Row
     ensures arc { result.arc ≡ arc }
     ensures y { result.y ≡ held.now.y }

@@ -19,7 +19,7 @@ pub use defaults::{
 pub use options::{GALILEO, GPS, Options};
 
 impl Options {
-    /// Those of a run that is asked for nothing in particular.
+    /// The options of a run whose words name none.
     pub const fn defaults() -> Options
         ensures { AreDefaults result }
     {

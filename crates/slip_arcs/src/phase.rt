@@ -24,7 +24,7 @@ fn change_on(before: &UsedSat, now: &UsedSat, band: usize) -> i64
     now.phase[band] - before.phase[band]
 }
 
-// The same as a length, in thousandths of ι.
+// The growth as a length, in thousandths of ι.
 fn growth_on(before: &UsedSat, now: &UsedSat, band: usize) -> i64
     requires before { IsSmall before.now }
     requires now { IsSmall now.now }

@@ -124,7 +124,7 @@ pub fn sv_from(made: &SvRecord, tag: Tick, code: i64) -> SvBox
     }
 }
 
-/// The same from the record itself, with the constants of that system.
+/// The boxes from the record itself, with the constants of that system.
 pub fn sv_with(eph: &Eph, tag: Tick, code: i64, world: &World) -> SvBox
     requires near { abs_diff tag.0 eph.now.toe.0 ≤ 72010000000 }
     requires code_low { pos 0 ≤ℤ code }

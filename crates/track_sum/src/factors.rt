@@ -23,7 +23,7 @@ pub struct PairFactors {
 }
 
 impl PairFactors {
-    /// Those of this front.
+    /// The factors of this front.
     pub(crate) fn of(front: &FrontForm) -> PairFactors
         ensures columns { result.columns ≡ front.now.columns }
         ensures d { result.d ≡ front.now.d }
