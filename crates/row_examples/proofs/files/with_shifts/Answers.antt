@@ -6,3 +6,8 @@ pub returns : goal.returns
 returns c =
     let f = c.args.files.now.rounds in
     IfOk-weaker c.first_shifts.result _ _ (λ arcs same. cut_along f.screened.used f.kept arcs.items same c.requires.cut) c.first_shifts.ensures.arcs
+
+pub first_shifts-requires-clause-ready : goal.first_shifts-requires-clause-ready
+first_shifts-requires-clause-ready c =
+    let f = c.args.files.now in
+    (c.requires.cut, (f.arcs_in, f.base_in), (c.requires.halves, f.system_in), c.none.ensures f.rounds.screened.boxes)
