@@ -1,18 +1,21 @@
 -- What the type of a normal matrix keeps, of a table that has the entries of rows.
-use Rattle.std.proofs.Common.{◌≡◌, ℕ, ◌+◌, ◌^◌, ◌≤◌, List, ℤ, arith, ap, ◌∙◌}
+use Rattle.std.proofs.Common.{◌≡◌, ℕ, ◌+◌, ◌^◌, ◌≤◌, List, [], ◌∷◌, ℤ, arith, ap, ◌∙◌, subst}
 use Rattle.quadratic_form.specs.Rows.{SignalGroup, columns}
 use Rattle.quadratic_form.specs.MatrixEntries.{matrix_entry}
 use Rattle.obs_rows.specs.declared.arcs.Arc.{Arc}
 use Rattle.obs_rows.specs.declared.pair_rows.PairRows.{PairRows}
 use Rattle.obs_rows.specs.declared.units.TheConstants.{MOST_FREE_ARCS}
 use Rattle.obs_rows.specs.Arcs.{free_count}
-use Rattle.obs_rows.specs.Signals.{AreCounted}
+use Rattle.obs_rows.specs.declared.sessions.Session.{Session}
+use Rattle.obs_rows.specs.Signals.{AreCounted, counted}
 use Rattle.obs_rows.specs.Integers.{integer_count}
 use Rattle.obs_rows.specs.SignalGroups.{signal_groups}
 use Rattle.obs_rows.proofs.GroupShapes.{groups_of}
 use Rattle.form_tables.specs.declared.sizes.TheConstants.{MOST_COLUMNS}
 use Rattle.form_tables.specs.Tables.{entry, IsZeroOutside}
 use Rattle.form_tables.specs.Matrices.{IsSymmetric}
+use Rattle.normal_sum.specs.declared.normal.Normal.{Normal}
+use Rattle.normal_sum.specs.Normals.{IsNormalOf}
 use Rattle.normal_sum.proofs.PlaceLaws.{count_within}
 use Rattle.normal_sum.proofs.NormalLaws.{symmetric_is, outside_is, four_and}
 
@@ -36,3 +39,13 @@ shaped arcs ss pairs integers t counted free e entries = record {
   symmetric = symmetric_is (signal_groups arcs ss pairs) t entries;
   outside = outside_is (integer_count arcs ss) ((3 + integers) + 1) (signal_groups arcs ss pairs) t (columns_are integers (integer_count arcs ss) e) (groups_of arcs ss pairs) entries;
 }
+
+-- of a pair's rows, where the pairs are that one
+pub of_pair : (arcs : List Arc) (ss now : List ℕ) (p : PairRows) (pairs : List PairRows) (n : Normal) → now ≡ ss → pairs ≡ p ∷ [] → IsNormalOf arcs now pairs n → IsNormalOf arcs ss (p ∷ []) n
+of_pair arcs ss now p pairs n e f h = subst (λ (l : List PairRows). IsNormalOf arcs ss l n) f (subst (λ (l : List ℕ). IsNormalOf arcs l pairs n) e h)
+
+-- of a session, where arcs, signals and pairs are its own
+pub of_session : (s : Session) (arcs : List Arc) (ss : List ℕ) (pairs : List PairRows) (n : Normal) → arcs ≡ s.arcs → ss ≡ counted s.signals s.scale → pairs ≡ s.pairs → IsNormalOf arcs ss pairs n →
+    IsNormalOf s.arcs (counted s.signals s.scale) s.pairs n
+of_session s arcs ss pairs n e f g h = subst (λ (l : List PairRows). IsNormalOf s.arcs (counted s.signals s.scale) l n) g
+    (subst (λ (l : List ℕ). IsNormalOf s.arcs l pairs n) f (subst (λ (l : List Arc). IsNormalOf l ss pairs n) e h))

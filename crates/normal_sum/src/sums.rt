@@ -99,24 +99,45 @@ fn clear(table: &mut NormalTable, columns: usize)
     }
 }
 
-/// Writes the normal matrix of one pair's rows over another. It is that of `sum_pair`, and no other table is made or copied.
+/// Writes the sums over all these pairs over another matrix, so that no table is made or copied.
+fn refill(normal: &mut Normal, arcs: &[Arc], signals: &[usize], pairs: &[PairRows])
+    requires arcs { All (HasItsArcs arcs.now) pairs.now }
+    requires counted { AreCounted signals.now }
+    requires free { free_count arcs.now ≤ MOST_FREE_ARCS }
+    requires few { length pairs.now ≤ MOST_PAIRS }
+    ensures { IsNormalOf arcs.now signals.now pairs.now normal.new }
+{
+    let integers = integer_count(arcs, signals);
+    clear(&mut normal.c, normal.columns);
+    let r = fill_table(&mut normal.c, arcs, signals, integers, pairs);
+    normal.r = r;
+    normal.columns = BASELINE_COLUMNS + integers + 1;
+}
+
+/// Writes the normal matrix of one pair's rows over another. It is that of `sum_pair`.
 pub fn refill_pair(normal: &mut Normal, arcs: &[Arc], signals: Signals, scale: u32, pair: &PairRows)
     requires arcs { HasItsArcs arcs.now pair.now }
     requires free { free_count arcs.now ≤ MOST_FREE_ARCS }
     ensures { IsNormalOf arcs.now (counted signals scale) (pair.now ∷ []) normal.new }
 {
-    let counted = counted_signals(signals, scale);
-    let integers = integer_count(arcs, counted);
-    clear(&mut normal.c, normal.columns);
-    let r = fill_table(
-        &mut normal.c,
+    refill(
+        normal,
         arcs,
-        counted,
-        integers,
+        counted_signals(signals, scale),
         slice::from_ref(pair),
     );
-    normal.r = r;
-    normal.columns = BASELINE_COLUMNS + integers + 1;
+}
+
+/// Writes the normal matrix of a session over another. It is that of `sum`.
+pub fn refill_sum(normal: &mut Normal, session: &Session)
+    ensures { IsNormalOf session.now.arcs (counted session.now.signals session.now.scale) session.now.pairs normal.new }
+{
+    refill(
+        normal,
+        session.arcs.as_slice(),
+        counted_signals(session.signals, session.scale),
+        session.pairs.as_slice(),
+    );
 }
 
 /// The normal matrix of one pair's rows.

@@ -13,7 +13,7 @@ use cert_data::Tail;
 use form_tables::{BASELINE_COLUMNS, MOST_FACTORS};
 use integer_form::Place;
 use lower_form::{front, lower};
-use normal_sum::{Normal, sum};
+use normal_sum::{Normal, refill_sum};
 use obs_rows::{Session, is_receiver_point};
 
 /// The numbers of the baseline, and 0 for all other columns.
@@ -58,26 +58,31 @@ fn numbers_by_form(session: &Session, normal: &Normal) -> Result<[i64; MOST_FACT
     }
 }
 
-/// The numbers of the float point of a session.
-fn numbers_of(session: &Session) -> Result<[i64; MOST_FACTORS], Tail>
+/// The numbers of the float point of a session, whose normal matrix is written over another.
+fn numbers_of(session: &Session, normal: &mut Normal) -> Result<[i64; MOST_FACTORS], Tail>
     ensures float { IfOk result (λ x. IsFloatOf session.now x) }
     ensures refused { IfErr result (λ t. (last : Bool) → IsRoundDeclined last session.now t) }
 {
-    let normal = sum(session);
+    refill_sum(normal, session);
     if normal.columns == BASELINE_COLUMNS + 1 {
-        numbers_by_front(session, &normal)
+        numbers_by_front(session, normal)
     } else {
-        numbers_by_form(session, &normal)
+        numbers_by_form(session, normal)
     }
 }
 
 /// What a coarse round makes of its session, or the tail with which it ends the run: the point where it moves to, or `None`
-/// where it is settled. It is what `round_step` makes of it, without the form.
-pub(crate) fn coarse_step(session: &Session, last: bool) -> Result<Option<[i64; 3]>, Tail>
+/// where it is settled. It is what `round_step` makes of it, without the form. The normal matrix is written over that of an
+/// earlier round.
+pub(crate) fn coarse_step(
+    session: &Session,
+    normal: &mut Normal,
+    last: bool,
+) -> Result<Option<[i64; 3]>, Tail>
     ensures step { IfOk result (IsCoarseStep last session.now) }
     ensures declined { IfErr result (IsRoundDeclined last session.now) }
 {
-    let numbers = numbers_of(session)?;
+    let numbers = numbers_of(session, normal)?;
     let Some(entry) = first_over(session.scale, &numbers) else {
         return Ok(None);
     };

@@ -15,6 +15,7 @@ use crate::{Step, grown, round_step};
 use cert_check::decide_settled;
 use cert_data::{RoundCounts, Stage, Tail};
 use integer_form::Place;
+use normal_sum::Normal;
 use obs_rows::{Arc, COARSE_SCALE, Session, fine_signals};
 use std::alloc::{AllocError, Global};
 
@@ -114,11 +115,12 @@ pub fn coarse_rounds<R: Rounds>(
 {
     let mut point = *base;
     let mut made = 1;
+    let mut normal = Normal::empty();
     'rounds: loop {
         let Some(session) = rounds.session(alloc, arcs, &point, COARSE_SCALE)? else {
             return Ok(CoarseEnd::Declined { made, tail: AT_Y });
         };
-        match coarse_step(&session, made == COARSE_ROUNDS) {
+        match coarse_step(&session, &mut normal, made == COARSE_ROUNDS) {
             Ok(None) => return Ok(CoarseEnd::Settled { made, point }),
             Ok(Some(moved)) => {
                 point = moved;

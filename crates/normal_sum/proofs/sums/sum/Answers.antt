@@ -1,17 +1,7 @@
-use Rattle.std.proofs.Common.{◌≡◌, ℕ, List, subst}
-use Rattle.obs_rows.specs.declared.arcs.Arc.{Arc}
-use Rattle.obs_rows.specs.declared.pair_rows.PairRows.{PairRows}
-use Rattle.obs_rows.specs.declared.sessions.Session.{Session}
 use Rattle.obs_rows.specs.Signals.{counted}
-use Rattle.normal_sum.specs.declared.normal.Normal.{Normal}
-use Rattle.normal_sum.specs.Normals.{IsNormalOf}
+use Rattle.normal_sum.proofs.NormalInvariants.{of_session}
 use Rattle.normal_sum.proofs.NormalValues.{is_sum_at_centres, stays_below}
 use Rattle.normal_sum.proofs.sums.sum.Goals as goal
-
-of_session : (s : Session) (arcs : List Arc) (ss : List ℕ) (pairs : List PairRows) (n : Normal) → arcs ≡ s.arcs → ss ≡ counted s.signals s.scale → pairs ≡ s.pairs → IsNormalOf arcs ss pairs n →
-    IsNormalOf s.arcs (counted s.signals s.scale) s.pairs n
-of_session s arcs ss pairs n e f g h = subst (λ (l : List PairRows). IsNormalOf s.arcs (counted s.signals s.scale) l n) g
-    (subst (λ (l : List ℕ). IsNormalOf s.arcs l pairs n) f (subst (λ (l : List Arc). IsNormalOf l ss pairs n) e h))
 
 pub returns-clause-normal : goal.returns-clause-normal
 returns-clause-normal c =

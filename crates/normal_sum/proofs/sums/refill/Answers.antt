@@ -1,0 +1,25 @@
+use Rattle.std.proofs.Common.{◌+◌, ℕ}
+use Rattle.obs_rows.specs.Integers.{integer_count}
+use Rattle.normal_sum.proofs.NormalInvariants.{Shaped, shaped, columns_of_sum}
+use Rattle.normal_sum.proofs.sums.refill.Goals as goal
+
+pub invariant_of-normal : goal.invariant_of-normal
+invariant_of-normal c =
+    let s : Shaped ((3 + c.integer_count-integers.result) + 1) c.fill_table-r.new.table =
+    shaped c.args.arcs.now c.args.signals.now c.args.pairs.now c.integer_count-integers.result c.fill_table-r.new.table c.requires.counted c.requires.free c.integer_count-integers.ensures
+    c.fill_table-r.ensures.entries in
+    record {
+      columns_from = s.from;
+      columns_to = s.to;
+      symmetric = s.symmetric;
+      entries_in = c.fill_table-r.ensures.entries_in;
+      nothing_outside = s.outside;
+      radii_in = c.fill_table-r.ensures.radii_in;
+    }
+
+pub returns : goal.returns
+returns c = record {
+  columns = columns_of_sum c.integer_count-integers.result (integer_count c.args.arcs.now c.args.signals.now) c.integer_count-integers.ensures;
+  entries = c.fill_table-r.ensures.entries;
+  radii = c.fill_table-r.ensures.radii;
+}
