@@ -96,7 +96,7 @@ row_spelled ss line ns s yn un rn x v arc y ry u ru good read many same ax vx sx
     line_read (codes "row") (behind_y ss + 7) line ns (sym read) (subst AreSmall (sym whole) fits) ∙ ap (λ (zs : List ℤ). codes "row" ++ behind_blanks zs) whole
 
 -- a word at the head of a line
-behind_word : (word line : List ℕ) → bytes_eq (take (length word) line) word ≡ true → line ≡ word ++ drop (length word) line
+pub behind_word : (word line : List ℕ) → bytes_eq (take (length word) line) word ≡ true → line ≡ word ++ drop (length word) line
 behind_word word line test =
     let front : take (length word) line ≡ word = (bytes_eq-Decides (take (length word) line) word).0 test in
     sym (take-append-drop (length word) line) ∙ (λ i. front i ++ drop (length word) line)

@@ -24,6 +24,7 @@ use Rattle.cert_lines.specs.Forms.{count_in, vector_in, system_in, Letters as Le
 use Rattle.cert_lines.specs.TailForms.{begins}
 use Rattle.grammar_lines.specs.LineParts.{word_in}
 use Rattle.grammar_lines.proofs.ArcSteps.{arcs_took}
+use Rattle.grammar_lines.proofs.FirstLines.{at_number}
 use Rattle.cert_data.specs.declared.certs.Cert.{Cert}
 use Rattle.cert_spelling.specs.Spelling.{system_lines, head_lines, counted_pairs, tail_lines, lines_of_cert, spelling_as}
 use Rattle.cert_spelling.specs.Lengths.{IsWhole}
@@ -44,10 +45,6 @@ pub record Admitted {S F : Type 0} (rules : Rules S F) (Held : S → List (List 
   pub numbered : at.line ≡ n + length taken + 1
   pub last : S
   pub held : (front : List (List ℕ)) → Held s front → All Fine taken → Held last (front ++ taken)
-
-at_number : {A : Type 0} (n : ℕ) (r : Result A Flaw) (at : At) → at_line n r ≡ Err at → at.line ≡ n
-at_number n (Ok x) at e = absurd cc
-at_number n (Err flaw) at e = let same : place n flaw.column flaw.what ≡ at = cc in ap (λ (a : At). a.line) (sym same)
 
 admitted_short : {S F : Type 0} (rules : Rules S F) (s next : S) (line : List ℕ) → admitted rules s line ≡ Ok next → rules.admit s line ≡ Ok next
 admitted_short rules s next line is = by_length (nat_lt 4096 (length line)) is

@@ -1,9 +1,10 @@
 -- A certificate for each head and each beginning of a list of arcs: one pair with one row, all of 0, and a tail of one line.
-use Rattle.std.proofs.Common.{◌≡◌, ◌+◌, ◌-◌, ◌^◌, ◌<◌, ◌≤◌, ◌⊎◌, inl, inr, ℕ, ℤ, zero, suc, pos, nat_lt, ◌||◌, Bool, true, false, List, [], ◌∷◌, ◌++◌, length, get_or, replicate, All, refl, sym, ap, subst, arith, lit≤, length-append, append_assoc, unsigned_abs}
+use Rattle.std.proofs.Common.{◌≡◌, ◌+◌, ◌-◌, ◌^◌, ◌<◌, ◌≤◌, ◌⊎◌, inl, inr, ℕ, ℤ, zero, suc, pos, nat_lt, ◌||◌, Bool, true, false, List, [], ◌∷◌, ◌++◌, length, replicate, All, refl, sym, ap, subst, arith, lit≤, length-append, append_assoc, unsigned_abs}
 use Rattle.std.proofs.lemmas.Int.{ints}
 use Rattle.std.proofs.lemmas.Bool.Decides.{nat_tests}
 use Rattle.std.proofs.lemmas.List.{append-nil}
 use Rattle.std.proofs.lemmas.List.Elements.{All-nil, All-cons, All-head, All-push, All-replicate}
+use Rattle.form_tables.proofs.TableLaws.{zero_item}
 use Rattle.integer_form.specs.declared.faults.Place.TheVariants.{Y}
 use Rattle.obs_rows.specs.declared.arcs.Arc.{Arc}
 use Rattle.obs_rows.specs.declared.rows.Row.{Row}
@@ -114,11 +115,6 @@ one_more version ss left arcs a more begun is may =
     by_free (inl h) = inl h
     by_free (inr h) = inr (omega (arith, h, free_push arcs a))
 
-pub zeros_at : (n k : ℕ) → get_or (replicate n (pos 0)) k (pos 0) ≡ pos 0
-zeros_at zero k = refl
-zeros_at (suc n) zero = refl
-zeros_at (suc n) (suc k) = zeros_at n k
-
 abbrev plain_arc : Bool → Arc
 plain_arc datum = arc_of datum 1 0 0 (replicate PHASES (pos 0))
 
@@ -126,7 +122,7 @@ plain_is : (version : Version) (ss : List ℕ) (datum : Bool) → IsArcOf versio
 plain_is version ss datum = record {
   in_range = record { sat_from = lit≤ tt; sat_to = lit≤ tt; order = lit≤ tt; last_in = omega arith; shifts_in = All-replicate (IsBelow (2 ^ 40)) PHASES (pos 0) (omega arith) };
   sat = by_version version;
-  used = λ k off. zeros_at PHASES k;
+  used = λ k off. zero_item PHASES k;
   whole = refl;
 }
   where
@@ -261,7 +257,7 @@ session_of {version} h arcs begun = record {
   };
   rows_used =
       All-one (HasUsedRows (signals_of_head h)) (plain_pair (first_number arcs) (number_few version (signals_of_head h) arcs begun.each))
-      (All-one (λ (r : Row). IsZeroOff (signals_of_head h) r.y) plain_row (λ k off. zeros_at SIGNALS k));
+      (All-one (λ (r : Row). IsZeroOff (signals_of_head h) r.y) plain_row (λ k off. zero_item SIGNALS k));
   shifts_used = λ k d inside. (begun.each k d inside).used;
 }
 

@@ -2,7 +2,7 @@
 use Rattle.std.proofs.Common.{◌≡◌, ◌+◌, ◌^◌, ◌<◌, ◌≤◌, ◌==◌, ◌||◌, ◌&&◌, ℕ, ℤ, pos, negsuc, neg_ℤ, Bool, true, false, if◌then◌else◌, IsTrue, List, [], ◌∷◌, ◌++◌, length, map, take, drop, codes, All, Result, Ok, Err, Option, Some, None, refl, sym, ap, ◌∙◌, subst, arith, lit<, length-append}
 use Rattle.std.proofs.lemmas.Int.{ints}
 use Rattle.std.proofs.lemmas.Bool.Decides.{nat_tests}
-use Rattle.std.proofs.lemmas.List.{length-map, take-append-drop}
+use Rattle.std.proofs.lemmas.List.{length-map}
 use Rattle.std.proofs.lemmas.List.Elements.{All-nil, All-cons}
 use Rattle.std.proofs.lemmas.Slice.Eq.{bytes_eq-Decides}
 use Rattle.std.specs.Str.{bytes_eq}
@@ -35,7 +35,7 @@ use Rattle.cert_lines.specs.Lengths.{IsWholeArc}
 use Rattle.cert_lines.specs.Lines.{count_line, vector_line, system_line, letters_text, signals_line, arc_line}
 use Rattle.cert_lines.specs.Forms.{count_in, vector_in, system_letter, system_in, two_of, three_of, two_letters, three_letters, Letters as LettersOf, letters, or_else, on_12, on_15, on_125, signals_in, kind_by, kind_in, with_shifts, words_of_arc, arc_words, may_stand, arc_of, arc_numbers, arc_in}
 use Rattle.cert_lines.proofs.Values.{one_value}
-use Rattle.cert_lines.proofs.Spelled.{some_l2, some_l5, spelled_15, spelled_125}
+use Rattle.cert_lines.proofs.Spelled.{behind_word, some_l2, some_l5, spelled_15, spelled_125}
 use Rattle.cert_lines.proofs.Spreading.{bands_good, spread_all, spread_off, spread_length}
 use Rattle.cert_lines.proofs.ArcLaws.{arc_read}
 use Rattle.cert_lines.proofs.LetterLaws.{not_one, letters_of_signals}
@@ -49,11 +49,6 @@ word_was word line u e = by_test (bytes_eq line word) refl e
     by_test : (t : Bool) → bytes_eq line word ≡ t → if◌then◌else◌ {A = Result (Unit {0}) Flaw} t (Ok tt) (flawed 1 BadLine) ≡ Ok u → line ≡ word
     by_test true is given = (bytes_eq-Decides line word).0 is
     by_test false is given = absurd cc
-
-word_first : (word line : List ℕ) → bytes_eq (take (length word) line) word ≡ true → line ≡ word ++ drop (length word) line
-word_first word line test =
-    let front : take (length word) line ≡ word = (bytes_eq-Decides (take (length word) line) word).0 test in
-    sym (take-append-drop (length word) line) ∙ (λ i. front i ++ drop (length word) line)
 
 -- ---- numbers
 
@@ -141,7 +136,7 @@ system_was line s e = by_word (bytes_eq (take 6 line) (codes "system")) refl e
     letter (x ∷ a ∷ b ∷ l) given = absurd cc
 
     by_word : (t : Bool) → bytes_eq (take 6 line) (codes "system") ≡ t → if◌then◌else◌ {A = Result ℕ Flaw} t (system_letter (drop 6 line)) (flawed 1 BadLine) ≡ Ok s → (line ≡ system_line s) × IsSystem s
-    by_word true is given = let rest = letter (drop 6 line) given in (word_first (codes "system") line is ∙ ap (λ (l : List ℕ). codes "system" ++ l) rest.0, rest.1)
+    by_word true is given = let rest = letter (drop 6 line) given in (behind_word (codes "system") line is ∙ ap (λ (l : List ℕ). codes "system" ++ l) rest.0, rest.1)
     by_word false is given = absurd cc
 
 -- ---- the letters
@@ -213,7 +208,7 @@ two_behind word others line p e = by_word (bytes_eq (take (length word) line) wo
   where
     by_word : (t : Bool) → bytes_eq (take (length word) line) word ≡ t → if◌then◌else◌ {A = Result (ℕ × ℕ) Flaw} t (two_of others (drop (length word) line)) (flawed 1 BadLine) ≡ Ok p
         → (l : List ℕ) × (line ≡ word ++ l) × TwoRead others l p
-    by_word true is given = (drop (length word) line, word_first word line is, two_was others (drop (length word) line) p given)
+    by_word true is given = (drop (length word) line, behind_word word line is, two_was others (drop (length word) line) p given)
     by_word false is given = absurd cc
 
 three_behind : (word line : List ℕ) (p : ℕ × ℕ × ℕ) → three_letters word line ≡ Ok p → (l : List ℕ) × (line ≡ word ++ l) × ThreeRead l p
@@ -221,7 +216,7 @@ three_behind word line p e = by_word (bytes_eq (take (length word) line) word) r
   where
     by_word : (t : Bool) → bytes_eq (take (length word) line) word ≡ t → if◌then◌else◌ {A = Result (ℕ × ℕ × ℕ) Flaw} t (three_of (drop (length word) line)) (flawed 1 BadLine) ≡ Ok p
         → (l : List ℕ) × (line ≡ word ++ l) × ThreeRead l p
-    by_word true is given = (drop (length word) line, word_first word line is, three_was (drop (length word) line) p given)
+    by_word true is given = (drop (length word) line, behind_word word line is, three_was (drop (length word) line) p given)
     by_word false is given = absurd cc
 
 -- ---- the signals

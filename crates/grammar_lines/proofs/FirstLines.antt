@@ -6,7 +6,7 @@ use Rattle.rinex_head.specs.Places.{and_then, place, at_line}
 use Rattle.rinex_head.specs.Walk.{Rules, admitted, walk}
 use Rattle.rinex_head.proofs.Walks.{walk-takes, walk-took}
 
-at_number : {A : Type 0} (n : ℕ) (r : Result A Flaw) (at : At) → at_line n r ≡ Err at → at.line ≡ n
+pub at_number : {A : Type 0} (n : ℕ) (r : Result A Flaw) (at : At) → at_line n r ≡ Err at → at.line ≡ n
 at_number n (Ok x) at e = absurd cc
 at_number n (Err flaw) at e = let same : place n flaw.column flaw.what ≡ at = cc in ap (λ (a : At). a.line) (sym same)
 

@@ -1,5 +1,5 @@
 -- Widths and sizes of the boxes' ends, and numbers as the code reads them.
-use Rattle.std.proofs.Common.{◌≡◌, ℕ, ◌+◌, ◌*◌, ◌^◌, ◌<◌, ◌≤◌, ◌⊎◌, ℤ, pos, ◌+ℤ◌, ◌-ℤ◌, ◌*ℤ◌, neg_ℤ, ◌≤ℤ◌, ◌<ℤ◌, unsigned_abs, Bool, true, IsTrue, inl, inr, ⊎_elim, arith, to_z, of_z}
+use Rattle.std.proofs.Common.{◌≡◌, ℕ, ◌+◌, ◌*◌, ◌^◌, ◌<◌, ◌≤◌, ◌⊎◌, ℤ, pos, ◌+ℤ◌, ◌-ℤ◌, ◌*ℤ◌, ◌≤ℤ◌, ◌<ℤ◌, unsigned_abs, Bool, true, IsTrue, inl, inr, ⊎_elim, arith, to_z, of_z}
 use Rattle.std.specs.Int.{w64, w128}
 use Rattle.std.proofs.lemmas.Int.{ints}
 use Rattle.std.proofs.lemmas.Bool.{or_cases, eqb-true}
@@ -12,9 +12,6 @@ use Rattle.row_boxes.specs.Terms.{pseudorange_width, prefit_width}
 use Rattle.whole_math.proofs.Words.{as_w64}
 
 -- ---- as the code reads them
-pub plain64 : (x : ℤ) → neg_ℤ (pos (2 ^ 62)) ≤ℤ x → x ≤ℤ pos (2 ^ 62) → to_z w64 (of_z w64 x) ≡ x
-plain64 x h k = omega (arith, ints)
-
 pub plain_size : (x : ℤ) (m : ℕ) → m ≤ 2 ^ 100 → unsigned_abs x ≤ m → to_z w128 (of_z w128 x) ≡ x
 plain_size x m h k = omega (arith, ints)
 

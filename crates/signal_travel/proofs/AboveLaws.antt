@@ -3,9 +3,8 @@ use Rattle.std.proofs.Common.{◌≡◌, ℕ, ◌^◌, ◌<◌, ◌≤◌, ◌�
 use Rattle.std.proofs.lemmas.Int.{ints, to_z-of_z}
 use Rattle.std.specs.Int.{w64}
 use mir.Val.{SFits}
-use Rattle.whole_math.proofs.Words.{as_w64}
 use Rattle.obs_rows.specs.ReceiverPoints.{IsReceiverPoint}
-use Rattle.obs_rows.proofs.ReceiverPointLaws.{receiver_is_point}
+use Rattle.obs_rows.proofs.ReceiverPointLaws.{receiver_is_point, plain}
 use Rattle.obs_rows.specs.declared.limits.TheConstants.{MOST_COORDINATE}
 use Rattle.rational.specs.Rational.{Rational, AreWithin, two_to_minus, of_scale}
 use Rattle.iv_core.specs.declared.Iv.{Iv}
@@ -19,11 +18,8 @@ use Rattle.signal_travel.proofs.GridPlaces.{grid_place, grid_near, sides, is_abo
 pub coordinate : (s : List ℤ) (i : ℕ) → i < length s → IsReceiverPoint s → unsigned_abs (get_or s i (pos 0)) ≤ MOST_COORDINATE
 coordinate s i inside point = receiver_is_point s point i (pos 0) inside
 
-pub plain_coordinate : (z : ℤ) → unsigned_abs z ≤ MOST_COORDINATE → to_z w64 (of_z w64 z) ≡ z
-plain_coordinate z small = as_w64 z (omega (arith, small))
-
 pub cast_size : (z : ℤ) (n : ℕ) → MOST_COORDINATE ≤ n → unsigned_abs z ≤ MOST_COORDINATE → unsigned_abs (to_z w64 (of_z w64 z)) ≤ n
-cast_size z n room small = subst (λ (y : ℤ). unsigned_abs y ≤ n) (sym (plain_coordinate z small)) (omega (arith, room, small))
+cast_size z n room small = subst (λ (y : ℤ). unsigned_abs y ≤ n) (sym (plain z small)) (omega (arith, room, small))
 
 -- ---- the place on the grid is near every place of the boxes
 pub near_places : (boxes : List (Iv 36)) (x y z : Iv 36) → x ≡ get_or boxes 0 x → y ≡ get_or boxes 1 y → z ≡ get_or boxes 2 z → All (λ b. width_of b ≤ℤ pos (2 ^ 19)) boxes →

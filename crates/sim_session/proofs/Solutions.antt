@@ -1,5 +1,5 @@
 -- What holds of every solution, said of the numbers that the code hands on.
-use Rattle.std.proofs.Common.{◌≡◌, ℕ, List, [], ◌∷◌, ℤ, pos, ◌*ℤ◌, ◌≤ℤ◌, ◌≤◌, ◌^◌, unsigned_abs, arith, w64, to_z, of_z}
+use Rattle.std.proofs.Common.{◌≡◌, ℕ, List, [], ◌∷◌, ℤ, pos, ◌*ℤ◌, ◌≤ℤ◌, ◌^◌, arith, w64, to_z, of_z}
 use Rattle.std.proofs.lemmas.Int.{ints}
 use Rattle.whole_math.proofs.Words.{as_w64}
 use Rattle.rational.specs.Rational.{Rational, of_whole, add_r, AreWithin}
@@ -31,9 +31,6 @@ pub phase_is : (frequency : ℕ) (world : Constants) (eph : Eph) (tag : ℕ) (co
     IsPhase frequency world eph tag point own given passed told
 phase_is frequency world eph tag code given point units clock own cycles passed phase told e f g h all near =
     rw (← e, ← f, ← g, h) (λ q a b c seen travel at s v. near (distance travel q.clock) (all q a b c seen travel at s v))
-
-pub small_cast : (z : ℤ) → unsigned_abs z ≤ 100000 → to_z w64 (of_z w64 z) ≡ z
-small_cast z small = as_w64 z (omega (arith, small))
 
 pub code_cast : (z : ℤ) → pos 0 ≤ℤ z → z ≤ℤ pos (10 ^ 11) → to_z w64 (of_z w64 z) ≡ z
 code_cast z low high = as_w64 z (omega (arith, ints, low, high))

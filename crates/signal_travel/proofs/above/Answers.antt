@@ -4,7 +4,8 @@ use Rattle.std.proofs.lemmas.Bool.{false≢true}
 use Rattle.std.specs.Int.{w64}
 use Rattle.iv_core.specs.declared.Iv.{Iv}
 use Rattle.signal_travel.specs.Grid.{offset, IsAboveWhole}
-use Rattle.signal_travel.proofs.AboveLaws.{coordinate, plain_coordinate, cast_size, near_places, plain_answer, lo_fits, has_above, has_below}
+use Rattle.obs_rows.proofs.ReceiverPointLaws.{plain}
+use Rattle.signal_travel.proofs.AboveLaws.{coordinate, cast_size, near_places, plain_answer, lo_fits, has_above, has_below}
 use Rattle.signal_travel.proofs.above.Goals as goal
 use Rattle.obs_rows.specs.declared.limits.TheConstants.{MOST_COORDINATE}
 
@@ -36,11 +37,11 @@ answer c p q r e =
     let y : Iv 36 = c.index-seen-1.result in
     let z : Iv 36 = c.index-seen-2.result in
     let ep : to_z w64 (of_z w64 (get_or c.args.point.now 0 (pos 0))) ≡ p =
-    plain_coordinate (get_or c.args.point.now 0 (pos 0)) (coordinate c.args.point.now 0 (omega arith) c.requires.point) ∙ ap (λ (s : List ℤ). get_or s 0 (pos 0)) e in
+    plain (get_or c.args.point.now 0 (pos 0)) (coordinate c.args.point.now 0 (omega arith) c.requires.point) ∙ ap (λ (s : List ℤ). get_or s 0 (pos 0)) e in
     let eq : to_z w64 (of_z w64 (get_or c.args.point.now 1 (pos 0))) ≡ q =
-    plain_coordinate (get_or c.args.point.now 1 (pos 0)) (coordinate c.args.point.now 1 (omega arith) c.requires.point) ∙ ap (λ (s : List ℤ). get_or s 1 (pos 0)) e in
+    plain (get_or c.args.point.now 1 (pos 0)) (coordinate c.args.point.now 1 (omega arith) c.requires.point) ∙ ap (λ (s : List ℤ). get_or s 1 (pos 0)) e in
     let er : to_z w64 (of_z w64 (get_or c.args.point.now 2 (pos 0))) ≡ r =
-    plain_coordinate (get_or c.args.point.now 2 (pos 0)) (coordinate c.args.point.now 2 (omega arith) c.requires.point) ∙ ap (λ (s : List ℤ). get_or s 2 (pos 0)) e in
+    plain (get_or c.args.point.now 2 (pos 0)) (coordinate c.args.point.now 2 (omega arith) c.requires.point) ∙ ap (λ (s : List ℤ). get_or s 2 (pos 0)) e in
     let ex : to_z w64 (of_z w64 (get_or c.args.seen.now.place 0 x).lo) ≡ x.lo = ap (λ (b : Iv 36). to_z w64 (of_z w64 b.lo)) (sym c.index-seen-0.is) ∙ lo_fits x in
     let ey : to_z w64 (of_z w64 (get_or c.args.seen.now.place 1 y).lo) ≡ y.lo = ap (λ (b : Iv 36). to_z w64 (of_z w64 b.lo)) (sym c.index-seen-1.is) ∙ lo_fits y in
     let ez : to_z w64 (of_z w64 (get_or c.args.seen.now.place 2 z).lo) ≡ z.lo = ap (λ (b : Iv 36). to_z w64 (of_z w64 b.lo)) (sym c.index-seen-2.is) ∙ lo_fits z in

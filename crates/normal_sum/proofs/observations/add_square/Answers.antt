@@ -1,4 +1,4 @@
-use Rattle.std.proofs.Common.{◌≡◌, ℕ, ◌+◌, ◌^◌, ◌≤◌, ◌+ℤ◌, ◌*ℤ◌, pos, length, unsigned_abs, ℤ, arith, sym, ap, ◌∙◌, subst, to_z, of_z}
+use Rattle.std.proofs.Common.{ℕ, ◌+◌, ◌^◌, ◌≤◌, ◌+ℤ◌, ◌*ℤ◌, pos, length, unsigned_abs, ℤ, arith, sym, ap, ◌∙◌, subst, to_z, of_z}
 use Rattle.std.specs.Int.{w64, w128}
 use Rattle.whole_math.proofs.Words.{as_w64, as_w128}
 use Rattle.form_tables.specs.declared.sizes.TheConstants.{BASELINE_COLUMNS}
@@ -9,9 +9,6 @@ use Rattle.normal_sum.proofs.RowSums.{spread_fits, spread_size, twice_turned}
 use Rattle.normal_sum.proofs.WeightLaws.{share_size, share_within}
 use Rattle.normal_sum.proofs.observations.add_square.Goals as goal
 
-share_word : (x : ℤ) → unsigned_abs x ≤ 2 ^ 32 → to_z w64 (of_z w64 x) ≡ x
-share_word x size = as_w64 x (omega arith)
-
 pub add_to_entry-requires-clause-factor_size : goal.add_to_entry-requires-clause-factor_size
 add_to_entry-requires-clause-factor_size c =
     let small : unsigned_abs c.turned_spread-spread.result ≤ 2 ^ 77 = spread_fits (unsigned_abs c.turned_spread-spread.result) (length c.args.rows.now) c.requires.few_rows c.turned_spread-spread.ensures.size in
@@ -20,7 +17,7 @@ add_to_entry-requires-clause-factor_size c =
 pub add_to_entry-requires-clause-value_size : goal.add_to_entry-requires-clause-value_size
 add_to_entry-requires-clause-value_size c =
     let small : unsigned_abs c.turned_share-share.result ≤ 2 ^ 32 = share_within (length c.args.rows.now) c.args.signal c.turned_share-share.result c.requires.some c.turned_share-share.ensures in
-    subst (λ (z : ℤ). unsigned_abs z ≤ 2 ^ 38) (sym (share_word c.turned_share-share.result small)) (omega (arith, small))
+    subst (λ (z : ℤ). unsigned_abs z ≤ 2 ^ 38) (sym (as_w64 c.turned_share-share.result (omega (arith, small)))) (omega (arith, small))
 
 pub returns-clause-there : goal.returns-clause-there
 returns-clause-there c =
@@ -30,7 +27,7 @@ returns-clause-there c =
     let share_small : unsigned_abs c.turned_share-share.result ≤ 2 ^ 32 = share_within n c.args.signal c.turned_share-share.result c.requires.some c.turned_share-share.ensures in
     c.add_to_entry.ensures.there
     ∙ ap (λ z. x +ℤ (z *ℤ to_z w64 (of_z w64 c.turned_share-share.result))) (as_w128 c.turned_spread-spread.result (omega (arith, spread_small)))
-    ∙ ap (λ z. x +ℤ (c.turned_spread-spread.result *ℤ z)) (share_word c.turned_share-share.result share_small)
+    ∙ ap (λ z. x +ℤ (c.turned_spread-spread.result *ℤ z)) (as_w64 c.turned_share-share.result (omega (arith, share_small)))
     ∙ twice_turned x c.turned_spread-spread.result c.turned_share-share.result (share n c.args.signal) (observation_spread c.args.rows.now c.args.signal) c.turned_share-share.ensures
     c.turned_spread-spread.ensures.value
 
@@ -43,5 +40,5 @@ returns-clause-size c =
     spread_size _ x c.turned_spread-spread.result c.turned_share-share.result n c.requires.few_rows
     (c.add_to_entry.ensures.there
     ∙ ap (λ z. x +ℤ (z *ℤ to_z w64 (of_z w64 c.turned_share-share.result))) (as_w128 c.turned_spread-spread.result (omega (arith, spread_small)))
-    ∙ ap (λ z. x +ℤ (c.turned_spread-spread.result *ℤ z)) (share_word c.turned_share-share.result share_small))
+    ∙ ap (λ z. x +ℤ (c.turned_spread-spread.result *ℤ z)) (as_w64 c.turned_share-share.result (omega (arith, share_small))))
     c.turned_spread-spread.ensures.size (share_size n c.args.signal c.turned_share-share.result c.turned_share-share.ensures)

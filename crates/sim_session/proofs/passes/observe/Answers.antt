@@ -3,7 +3,8 @@ use Rattle.std.proofs.lemmas.Int.{to_z-of_z}
 use Rattle.orbit_clock.specs.Records.{constants_of}
 use Rattle.sim_session.specs.Observed.{carrier, IsReachedIn}
 use Rattle.sim_session.proofs.SignalSmalls.{small_at, cycles_cast, still_small}
-use Rattle.sim_session.proofs.Solutions.{phase_is, small_cast, code_cast}
+use Rattle.sim_session.proofs.Smalls.{clock_cast}
+use Rattle.sim_session.proofs.Solutions.{phase_is, code_cast}
 use Rattle.sim_session.proofs.passes.observe.Goals as goal
 
 pub phase_of-requires-clause-cycles : goal.phase_of-requires-clause-cycles
@@ -23,7 +24,7 @@ returns-clause-observed c =
     let code = c.code_at-code.result in
     let units = c.distance_at-distance.result.units in
     let clock = to_z w64 (of_z w64 receiver.clock) in
-    let own = small_cast receiver.clock receiver.clock_in in
+    let own = clock_cast receiver.clock receiver.clock_in in
     let is = c.distance_at-distance.ensures in
     record {
       code = subst (λ (z : ℤ). IsReachedIn 6 world c.args.eph.now c.args.tag.0 receiver.point receiver.clock z)
