@@ -20,7 +20,7 @@ use Rattle.track_job.specs.declared.answers.TrackAnswer.{TrackAnswer}
 use Rattle.track_job.specs.TrackTexts.{track_answer_text, IsWholeTrackAnswer, is_track_fixed}
 use Rattle.job_answers.specs.declared.status.Status.{Status}
 use Rattle.job_answers.specs.declared.status.Status.TheVariants.{Done, Declined, Usage, Refused, ReadFault, WriteFault, NoMemory}
-use Rattle.job_answers.specs.Statuses.{IsVerdictStatus}
+use Rattle.job_answers.specs.Statuses.{IsVerdictStatus, verdict_status}
 use Rattle.job_answers.specs.Endings.{Ending, IsTextOf}
 use Rattle.job_answers.specs.Delivered.{SinkChange}
 use Rattle.job_answers.specs.TextJobs.{SaysOfText}
@@ -28,7 +28,7 @@ use Rattle.session_files.specs.SessionJobs.{SaysOfSession}
 use Rattle.file_jobs.specs.Zero.{zero_job}
 use Rattle.file_jobs.specs.Listing.{list_job}
 use Rattle.file_jobs.specs.Orbits.{orbit_job}
-use Rattle.cert_jobs.specs.CertJobs.{status_of, shown_status, check_job, residuals_job}
+use Rattle.cert_jobs.specs.CertJobs.{status_of, check_job, residuals_job}
 use Rattle.cert_jobs.specs.Migrations.{migrate_job}
 use Rattle.session_jobs.specs.ArcJobs.{AnswersArcs}
 use Rattle.session_jobs.specs.FixJobs.{AnswersFix, IsFixedFor}
@@ -159,7 +159,7 @@ check_said told name status out s =
     (check_verdict told name s.text a.cert e.verdict out s.is a.whole a.spelled e.is e.only e.best e.by_ratio (gained s.end _ out e.end_is s.printed))
 
 left_shown : (told : List ℕ → Option (List ℕ)) (name text : List ℕ) (c : Cert) (shown : Bool) (out : SinkChange) → IsTextOf told name text → IsWhole c → text ≡ spelling c
-    → has_vectors c.tail ≡ shown → Appends out.old out.new (residuals_text c) → SaysOfResiduals told name (shown_status shown) out
+    → has_vectors c.tail ≡ shown → Appends out.old out.new (residuals_text c) → SaysOfResiduals told name (verdict_status shown) out
 left_shown told name text c true out is whole spelled vectors written = record { text = text; is = is; cert = c; whole = whole; spelled = spelled; vectors = vectors; printed = written }
 left_shown told name text c false out is whole spelled vectors written = record { text = text; is = is; cert = c; whole = whole; spelled = spelled; vectors = vectors; printed = written }
 

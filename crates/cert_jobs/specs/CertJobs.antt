@@ -1,5 +1,5 @@
 -- What the commands on a certificate answer: `check` and `residuals`.
-use Rattle.std.specs.Prelude.{◌≡◌, ℕ, Bool, true, false, List, [], Err}
+use Rattle.std.specs.Prelude.{◌≡◌, ℕ, List, [], Err}
 use Rattle.rinex_head.specs.declared.place.At.{At}
 use Rattle.cert_data.specs.declared.certs.Cert.{Cert}
 use Rattle.cert_data.specs.declared.verdicts.Verdict.{Verdict}
@@ -14,6 +14,7 @@ use Rattle.cert_report.specs.VerdictText.{verdict_text}
 use Rattle.cert_report.specs.Residuals.{has_vectors, residuals_text}
 use Rattle.job_answers.specs.declared.status.Status.{Status}
 use Rattle.job_answers.specs.declared.status.Status.TheVariants.{Done, Declined}
+use Rattle.job_answers.specs.Statuses.{verdict_status}
 use Rattle.job_answers.specs.Endings.{Ending, ending}
 use Rattle.job_answers.specs.TextJobs.{TextJob}
 
@@ -50,13 +51,9 @@ pub record CheckEnd (cert : Cert) (end : Ending) : Type 0 where
   pub by_ratio : verdict ≡ Certified → IsBestByRatioIn cert.ratio cert.session cert.tail
   pub end_is : end ≡ ending (status_of verdict) (verdict_text verdict) []
 
-abbrev pub shown_status : Bool → Status
-shown_status true = Done
-shown_status false = Declined
-
 -- the residuals at the tail's first integers, where it has any
 abbrev pub ResidualsEnd : Cert → Ending → Type 0
-ResidualsEnd cert end = end ≡ ending (shown_status (has_vectors cert.tail)) (residuals_text cert) []
+ResidualsEnd cert end = end ≡ ending (verdict_status (has_vectors cert.tail)) (residuals_text cert) []
 
 abbrev pub check_job : TextJob
 check_job = cert_job CheckEnd

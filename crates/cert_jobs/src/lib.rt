@@ -13,7 +13,7 @@ ghost use Rattle.job_answers.specs.Answers.{ending_of};
 ghost use Rattle.job_answers.specs.Endings.{ending};
 ghost use Rattle.job_answers.specs.Statuses.{IsVerdictStatus};
 ghost use Rattle.cert_report.specs.VerdictText.{verdict_text};
-ghost use Rattle.cert_jobs.specs.CertJobs.{status_of, shown_status, check_job, residuals_job};
+ghost use Rattle.cert_jobs.specs.CertJobs.{status_of, check_job, residuals_job};
 
 mod migrations;
 
@@ -21,7 +21,7 @@ use cert_check::check;
 use cert_data::Verdict;
 use cert_report::{write_residuals, write_verdict};
 use cert_text::read_cert;
-use job_answers::{JobOutput, Status, TextCommand};
+use job_answers::{JobOutput, Status, TextCommand, verdict_status};
 pub use migrations::Migration;
 use rinex_head::TextFault;
 use std::alloc::{AllocError, Global};
@@ -34,17 +34,6 @@ pub fn status_of(verdict: &Verdict) -> Status
     match verdict {
         Verdict::Certified => Status::Done,
         Verdict::Not(_) => Status::Declined,
-    }
-}
-
-fn shown_status(shown: bool) -> Status
-    ensures value { result ≡ shown_status shown }
-    ensures verdict { IsVerdictStatus result }
-{
-    if shown {
-        Status::Done
-    } else {
-        Status::Declined
     }
 }
 
@@ -88,7 +77,7 @@ impl TextCommand for Residuals {
         let mut out = Vec::new(alloc);
         let shown = write_residuals(alloc, &mut out, &cert)?;
         Ok(JobOutput {
-            status: shown_status(shown),
+            status: verdict_status(shown),
             out,
             err: Vec::new(alloc),
         })

@@ -1,5 +1,5 @@
 -- The exit statuses of the process.
-use Rattle.std.specs.Prelude.{ℕ}
+use Rattle.std.specs.Prelude.{ℕ, Bool, if◌then◌else◌}
 use Rattle.job_answers.specs.declared.status.Status.{Status}
 use Rattle.job_answers.specs.declared.status.Status.TheVariants.{Done, Declined, Usage, Refused, ReadFault, WriteFault, NoMemory}
 
@@ -17,6 +17,10 @@ abbrev pub IsVerdictStatus : Status → Type 0
 IsVerdictStatus Done = Unit {0}
 IsVerdictStatus Declined = Unit {0}
 IsVerdictStatus _ = ⊥
+
+-- the status of an answer, by whether what was asked for holds
+abbrev pub verdict_status : Bool → Status
+verdict_status holds = if holds then Done else Declined
 
 -- The statuses of jobs. A usage error, a fault of a sink and running out of memory come of no job.
 abbrev pub IsJobStatus : Status → Type 0

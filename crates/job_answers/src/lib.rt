@@ -18,6 +18,6 @@ mod text_command;
 
 pub use delivery::deliver;
 pub use output::JobOutput;
-pub use status::Status;
+pub use status::{Status, verdict_status};
 pub use stop::{JobStop, load_file, read_fault, refused, too_large, usage};
 pub use text_command::{TextCommand, answer_file};

@@ -1,6 +1,6 @@
 //! What the program ends with.
 ghost use Rattle.std.specs.Prelude.{◌≡◌};
-ghost use Rattle.job_answers.specs.Statuses.{number_of};
+ghost use Rattle.job_answers.specs.Statuses.{number_of, IsVerdictStatus, verdict_status};
 
 /// How a run ends.
 #[derive(Clone, Copy, Debug, PartialEq, Eq)]
@@ -32,5 +32,17 @@ impl Status {
             Status::WriteFault => 5,
             Status::NoMemory => 6,
         }
+    }
+}
+
+/// The status of a job with an answer: done where what was asked for holds, else declined.
+pub fn verdict_status(holds: bool) -> Status
+    ensures value { result ≡ verdict_status holds }
+    ensures verdict { IsVerdictStatus result }
+{
+    if holds {
+        Status::Done
+    } else {
+        Status::Declined
     }
 }

@@ -1,5 +1,5 @@
 -- What the command `fix` answers of its files.
-use Rattle.std.specs.Prelude.{◌≡◌, ◌⊎◌, ℕ, Bool, true, if◌then◌else◌, List, map, ℤ}
+use Rattle.std.specs.Prelude.{◌≡◌, ◌⊎◌, ℕ, true, List, map, ℤ}
 use Rattle.obs_store.specs.declared.file.ObsFile.{ObsFile}
 use Rattle.eph_store.specs.File.{Records}
 use Rattle.obs_rows.specs.declared.arcs.Arc.{Arc}
@@ -26,7 +26,7 @@ use Rattle.epoch_pair.specs.Beginnings.{IsPosition, AreSignals, AreTaken}
 use Rattle.session.specs.Outcomes.{IsOutcome}
 use Rattle.outcome_report.specs.OutcomeText.{answer_text, IsWholeAnswer, outcome_text, is_fixed}
 use Rattle.job_answers.specs.declared.status.Status.{Status}
-use Rattle.job_answers.specs.declared.status.Status.TheVariants.{Done, Declined}
+use Rattle.job_answers.specs.Statuses.{verdict_status}
 use Rattle.job_answers.specs.Endings.{Ending, ending}
 
 -- A certificate says `fixed`: for all rational observations and directions in the boxes of its session, its first integers
@@ -66,11 +66,8 @@ pub record IsFixedFor (b r : ObsFile) (n : Records) (o : Options) (answer : Answ
   pub stands : StandsForIts b r n o cert
 
 -- done for a fix, else declined
-abbrev pub fix_status : Bool → Status
-fix_status fixed = if fixed then Done else Declined
-
 abbrev pub status_of : Answer → Status
-status_of a = fix_status (is_fixed a)
+status_of a = verdict_status (is_fixed a)
 
 -- The outcome of the files, in its two texts. A certificate that is printed is the only one with its text.
 pub record AnswersFix (o : Options) (b r : ObsFile) (n : Records) (end : Ending) : Type 0 where

@@ -22,5 +22,5 @@ mod report;
 
 pub use arcs::KeptArcs;
 pub use fixes::Fix;
-pub use outcomes::{SessionOutcome, fix_status, output_of};
+pub use outcomes::{SessionOutcome, output_of};
 pub use report::write_arcs;

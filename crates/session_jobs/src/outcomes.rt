@@ -2,10 +2,9 @@
 ghost use Rattle.std.specs.Prelude.{◌≡◌, ◌++◌, ℕ, Bool, List, IfOk, OnOk};
 ghost use Rattle.job_answers.specs.Answers.{ending_of};
 ghost use Rattle.job_answers.specs.Endings.{ending};
-ghost use Rattle.job_answers.specs.Statuses.{IsVerdictStatus};
-ghost use Rattle.session_jobs.specs.FixJobs.{fix_status};
+ghost use Rattle.job_answers.specs.Statuses.{IsVerdictStatus, verdict_status};
 
-use job_answers::{JobOutput, Status};
+use job_answers::{JobOutput, verdict_status};
 use std::alloc::{AllocError, Global};
 
 /// What a run over the files of a session ends with: a fix or none, with a text for out and one for err.
@@ -30,21 +29,9 @@ pub trait SessionOutcome {
         ensures whole { OnOk result (is_whole self.now) };
 }
 
-/// Done for a fix, else declined.
-pub fn fix_status(fixed: bool) -> Status
-    ensures value { result ≡ fix_status fixed }
-    ensures verdict { IsVerdictStatus result }
-{
-    if fixed {
-        Status::Done
-    } else {
-        Status::Declined
-    }
-}
-
-/// The two texts of an outcome, with its status.
+/// The two texts of an outcome, with its status: done for a fix, else declined.
 pub fn output_of<O: SessionOutcome>(alloc: Global, outcome: &O) -> Result<JobOutput, AllocError>
-    ensures ended { IfOk result (λ a. ending_of a ≡ ending (fix_status (O.fixed outcome.now)) (O.out_text outcome.now) (O.err_text outcome.now)) }
+    ensures ended { IfOk result (λ a. ending_of a ≡ ending (verdict_status (O.fixed outcome.now)) (O.out_text outcome.now) (O.err_text outcome.now)) }
     ensures verdict { IfOk result (λ a. IsVerdictStatus a.status) }
     ensures whole { OnOk result (O.is_whole outcome.now) }
 {
@@ -52,7 +39,7 @@ pub fn output_of<O: SessionOutcome>(alloc: Global, outcome: &O) -> Result<JobOut
     let mut err = Vec::new(alloc);
     outcome.write(alloc, &mut out, &mut err)?;
     Ok(JobOutput {
-        status: fix_status(outcome.is_fixed()),
+        status: verdict_status(outcome.is_fixed()),
         out,
         err,
     })

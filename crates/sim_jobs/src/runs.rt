@@ -12,14 +12,13 @@ ghost use Rattle.sim_jobs.specs.SimRunJobs.{AreOptionsOn, truth_in, run_text, Si
 use crate::matches::is_matched;
 use crate::report::run_text;
 use cert_data::Answer;
-use job_answers::{JobOutput, JobStop, Status};
+use job_answers::{JobOutput, JobStop, Status, verdict_status};
 use line_source::{Files, Named, SureFiles};
 use outcome_report::is_fixed;
 use rinex_head::System;
 use run_options::Options;
 use session::{SessionFault, process};
 use session_files::{SessionFiles, read_session, refused_pair};
-use session_jobs::fix_status;
 use sim_session::{Made, make};
 use std::alloc::{AllocError, Global};
 
@@ -87,7 +86,7 @@ fn answer_match(
 {
     let out = run_text(alloc, asked.seed, asked.epochs, asked.sats, answer, matched)?;
     Ok(JobOutput {
-        status: fix_status(is_fixed(answer)),
+        status: verdict_status(is_fixed(answer)),
         out,
         err: Vec::new(alloc),
     })

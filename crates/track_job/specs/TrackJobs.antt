@@ -16,8 +16,8 @@ use Rattle.run_options.specs.declared.options.Options.{Options}
 use Rattle.obs_rows.specs.BandSets.{bands_of}
 use Rattle.epoch_pair.specs.Beginnings.{IsPosition, AreSignals, AreTaken}
 use Rattle.job_answers.specs.declared.status.Status.{Status}
+use Rattle.job_answers.specs.Statuses.{verdict_status}
 use Rattle.job_answers.specs.Endings.{Ending, ending}
-use Rattle.session_jobs.specs.FixJobs.{fix_status}
 use Rattle.track_data.specs.declared.certs.TrackCert.{TrackCert}
 use Rattle.track_data.specs.declared.tails.TrackTail.TheVariants.{Fixed}
 use Rattle.track_sum.specs.Decided.{IsStrictlyBest, IsBestByRatio}
@@ -66,7 +66,7 @@ pub record IsTrackFixedFor (b r : ObsFile) (n : Records) (o : Options) (answer :
 
 -- done for a fix, else declined
 abbrev pub track_status_of : TrackAnswer → Status
-track_status_of a = fix_status (is_track_fixed a)
+track_status_of a = verdict_status (is_track_fixed a)
 
 -- The outcome of the files, in its two texts. A certificate that is printed stands for the files, whatever it says, and is the only
 -- one with its text.
