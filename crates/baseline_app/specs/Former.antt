@@ -1,4 +1,4 @@
--- What `run` said before its clauses on commands were one, in the words of then: a law (`former_law`) has each of them follow from
+-- What `run` said before its clauses on commands were one, as records of then over the definitions of now: a law (`former_law`) has each of them follow from
 -- those of now. The clauses `untouched`, `read`, `write` and `usage` stand as they stood.
 use Rattle.std.specs.Prelude.{◌≡◌, ◌≢◌, ◌⊎◌, ℕ, ℤ, ◌≤ℤ◌, ◌≤◌, Bool, true, false, List, [], length, All, codes, Result, Err, Some}
 use Rattle.std.specs.declared.option.Option.{Option}
