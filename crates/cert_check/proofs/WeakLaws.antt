@@ -1,5 +1,6 @@
 -- The ranges of a weak pivot.
 use Rattle.std.proofs.Common.{◌≡◌, ℕ, zero, suc, ◌+◌, ◌-◌, ◌^◌, ◌<◌, ◌≤◌, Bool, true, false, ◌&&◌, nat_lt, int_lt, List, [], ◌∷◌, ℤ, pos, Result, Ok, Err, unsigned_abs, arith, refl, sym, ap, ◌∙◌, subst}
+use Rattle.std.proofs.lemmas.Bool.{and_parts}
 use Rattle.std.proofs.lemmas.Bool.Decides.{nat_tests}
 use Rattle.whole_math.specs.Vectors.{len}
 use Rattle.quadratic_form.specs.Forms.{Column}
@@ -22,12 +23,8 @@ pub record IsPivot (j k i : ℕ) (p : ℤ) : Type 0 where
   pub column : i < j + k
   pub size : unsigned_abs p < 2 ^ 52
 
-first_true : (a b : Bool) → (a && b) ≡ true → a ≡ true
-first_true true b e = refl
-first_true false b e = e
-
 small_own : (c : Column) (m : List Column) → form_small (c ∷ m) ≡ true → unsigned_abs c.own < 2 ^ 52
-small_own c m e = less (unsigned_abs c.own) (first_true (nat_lt (unsigned_abs c.own) (2 ^ 52)) (all_small c.others && form_small m) e)
+small_own c m e = less (unsigned_abs c.own) (and_parts (nat_lt (unsigned_abs c.own) (2 ^ 52)) (all_small c.others && form_small m) e).0
   where
     less : (n : ℕ) → nat_lt n (2 ^ 52) ≡ true → n < 2 ^ 52
     less n e = grind (arith, nat_tests)

@@ -1,14 +1,15 @@
 -- The line of an arc: what is read was written so, and what is written is read.
-use Rattle.std.proofs.Common.{◌≡◌, ◌+◌, ◌≤◌, ◌<◌, ◌^◌, ℕ, ℤ, suc, pos, Bool, true, false, List, [], ◌∷◌, ◌++◌, length, map, take, drop, codes, Result, Ok, Err, IfOk, Option, None, Some, refl, sym, ap, ◌∙◌, subst, lit<, arith}
+use Rattle.std.proofs.Common.{◌≡◌, ◌+◌, ◌≤◌, ◌<◌, ◌^◌, ℕ, ℤ, pos, Bool, true, false, List, [], ◌∷◌, ◌++◌, length, map, take, drop, codes, Result, Ok, Err, IfOk, Option, None, Some, refl, sym, ap, ◌∙◌, subst, lit<, arith, length-append}
 use Rattle.std.proofs.lemmas.Int.{ints}
-use Rattle.std.proofs.lemmas.List.{append-nil, take_all, length-drop, length-take-le}
+use Rattle.std.proofs.lemmas.List.{append-nil, take_all, length-drop, length-take-le, length-map}
 use Rattle.obs_rows.specs.declared.arcs.Arc.{Arc}
 use Rattle.rinex_head.specs.declared.place.Flaw.{Flaw}
+use Rattle.rinex_head.proofs.TakenLines.{and_then_took}
 use Rattle.cert_words.specs.declared.numbers.Number.{Number}
 use Rattle.cert_words.specs.Spelling.{behind_blanks}
 use Rattle.cert_words.specs.Numbers.{capped, Part, part, some_then, behind_text, more_numbers, at_end, number_at, natural_within}
-use Rattle.cert_words.proofs.NumberLaws.{AreSmall, values, took_more, took_text, took_end, some_took, were_small}
-use Rattle.cert_words.proofs.RangeLaws.{took_both, natural_passed, AreIn, in_small}
+use Rattle.cert_words.proofs.NumberLaws.{AreSmall, values, took_more, took_text, took_end, some_took, were_small, values-length}
+use Rattle.cert_words.proofs.RangeLaws.{natural_passed, AreIn, in_small, NaturalPassed}
 use Rattle.obs_rows.specs.declared.units.TheConstants.{PHASES}
 use Rattle.obs_rows.specs.Signals.{used_signals, phase_bands}
 use Rattle.obs_rows.specs.declared.limits.TheConstants.{LAST_PAIR}
@@ -30,6 +31,7 @@ record TookWords (n : ℕ) (line : List ℕ) (w : ArcWords) : Type 0 where
   pub front : List ℤ
   pub back : List ℤ
   pub three : length front ≡ 3
+  pub count : length back ≡ n
   pub are : values w.numbers ≡ map capped front ++ map capped back
   pub line_is : AreSmall front → AreSmall back → line ≡ codes "arc" ++ (behind_blanks front ++ (kind_text w.datum ++ behind_blanks back))
 
@@ -57,7 +59,7 @@ took_words n line w e = by_kind (some_then first (λ p. kind_in p)) refl e
     by_kind : (o : Option (Bool × Part)) → some_then first (λ p. kind_in p) ≡ o → with_shifts n o ≡ Ok w → TookWords n line w
     by_kind None is given = absurd cc
     by_kind (Some k) is given =
-        let ends = took_both (at_end (more_numbers n k.1)) (λ (ns : List Number). Ok (words_of_arc k.0 ns)) w given in
+        let ends = and_then_took (at_end (more_numbers n k.1)) (λ (ns : List Number). Ok (words_of_arc k.0 ns)) w given in
         let end = took_end (more_numbers n k.1) ends.0 ends.1 in
         let kinds = some_took first (λ p. kind_in p) k is in
         let front = some_took (behind_text (codes "arc") (part [] 1 line)) (λ p. more_numbers 3 p) kinds.0 kinds.1 in
@@ -72,11 +74,47 @@ took_words n line w e = by_kind (some_then first (λ p. kind_in p)) refl e
           front = three.numbers;
           back = two.numbers;
           three = three.count;
+          count = two.count;
           are = ap values (sym end.3) ∙ two.are ∙ ap (λ (zs : List ℤ). zs ++ map capped two.numbers) before;
           line_is = λ small others.
               let back : k.1.left ≡ behind_blanks two.numbers = two.left others ∙ ap (λ (l : List ℕ). behind_blanks two.numbers ++ l) end.2 ∙ append-nil (behind_blanks two.numbers) in
               text.0 ∙ ap (λ (l : List ℕ). codes "arc" ++ l) (three.left small ∙ ap (λ (l : List ℕ). behind_blanks three.numbers ++ l) (kind.0 ∙ ap (λ (l : List ℕ). kind_text k.0 ++ l) back));
         })
+
+-- three numbers stand before those of its shifts
+pub words_count : (n : ℕ) (line : List ℕ) (w : ArcWords) → arc_words n line ≡ Ok w → length w.numbers ≡ 3 + n
+words_count n line w e =
+    let took = took_words n line w e in
+    let whole = values-length w.numbers in
+    let sizes = ap length took.are ∙ length-append (map capped took.front) (map capped took.back) in
+    let front = length-map took.front capped in
+    let back = length-map took.back capped in
+    let three = took.three in
+    let count = took.count in
+    omega (arith, whole, sizes, front, back, three, count)
+
+-- the steps in which an arc is made of its numbers
+pub record ArcParts (version : Version) (bands : List ℕ) (datum : Bool) (ns : List Number) (a : Arc) : Type 0 where
+  pub kind : a.datum ≡ datum
+  pub sat : NaturalPassed 1 (most_sat version) (number_at ns 0) a.sat
+  pub first : NaturalPassed 0 LAST_PAIR (number_at ns 1) a.first
+  pub last : NaturalPassed a.first LAST_PAIR (number_at ns 2) a.last
+  pub shift : put_within PHASES SHIFTS bands (take (length bands) (drop 3 ns)) ≡ Ok a.shift
+
+pub arc_parts : (version : Version) (bands : List ℕ) (datum : Bool) (ns : List Number) (a : Arc) → arc_numbers version bands datum ns ≡ Ok a → ArcParts version bands datum ns a
+arc_parts version bands datum ns a e =
+    let one = and_then_took (natural_within 1 (most_sat version) (number_at ns 0)) _ a e in
+    let two = and_then_took (natural_within 0 LAST_PAIR (number_at ns 1)) _ a one.2 in
+    let three = and_then_took (natural_within two.0 LAST_PAIR (number_at ns 2)) _ a two.2 in
+    let four = and_then_took (put_within PHASES SHIFTS bands (take (length bands) (drop 3 ns))) _ a three.2 in
+    let arc : arc_of datum one.0 two.0 three.0 four.0 ≡ a = cc (four.2) in
+    subst (ArcParts version bands datum ns) arc (record {
+      kind = refl;
+      sat = natural_passed 1 (most_sat version) one.0 (number_at ns 0) one.1;
+      first = natural_passed 0 LAST_PAIR two.0 (number_at ns 1) two.1;
+      last = natural_passed two.0 LAST_PAIR three.0 (number_at ns 2) three.1;
+      shift = four.1;
+    })
 
 -- the arc's numbers in their order
 record TookNumbers (bands : List ℕ) (datum : Bool) (ns : List Number) (a : Arc) : Type 0 where
@@ -104,21 +142,14 @@ sat_small Two n h = omega arith
 took_numbers : (version : Version) (bands : List ℕ) (datum : Bool) (ns : List Number) (a : Arc) → AreGood PHASES bands → length ns ≡ 3 + length bands
     → arc_numbers version bands datum ns ≡ Ok a → TookNumbers bands datum ns a
 took_numbers version bands datum ns a good five e =
-    let one = took_both (natural_within 1 (most_sat version) (number_at ns 0)) _ a e in
-    let two = took_both (natural_within 0 LAST_PAIR (number_at ns 1)) _ a one.2 in
-    let three = took_both (natural_within two.0 LAST_PAIR (number_at ns 2)) _ a two.2 in
+    let p = arc_parts version bands datum ns a e in
     let own = take (length bands) (drop 3 ns) in
-    let four = took_both (put_within PHASES SHIFTS bands own) _ a three.2 in
-    let sat = natural_passed 1 (most_sat version) one.0 (number_at ns 0) one.1 in
-    let first = natural_passed 0 LAST_PAIR two.0 (number_at ns 1) two.1 in
-    let last = natural_passed two.0 LAST_PAIR three.0 (number_at ns 2) three.1 in
     let many : length own ≡ length bands = length-take-le (length bands) (drop 3 ns) (omega (arith, length-drop 3 ns, five)) in
-    let placed = were_placed PHASES SHIFTS bands own four.0 good many four.1 in
-    let arc : arc_of datum one.0 two.0 three.0 four.0 ≡ a = cc (four.2) in
-    let shifts = select bands four.0 in
-    let are : values ns ≡ pos one.0 ∷ pos two.0 ∷ pos three.0 ∷ shifts = three_values ns (length bands) (pos one.0) (pos two.0) (pos three.0) shifts five sat.value first.value last.value placed.are in
-    let small : AreSmall (pos one.0 ∷ pos two.0 ∷ pos three.0 ∷ shifts) = (sat_small version one.0 sat.to, (omega (arith, first.to), (omega (arith, last.to), shifts_small shifts placed.inside))) in
-    subst (TookNumbers bands datum ns) arc (record { kind = refl; are = are; small = subst AreSmall (sym are) small })
+    let placed = were_placed PHASES SHIFTS bands own a.shift good many p.shift in
+    let shifts = select bands a.shift in
+    let are : values ns ≡ pos a.sat ∷ pos a.first ∷ pos a.last ∷ shifts = three_values ns (length bands) (pos a.sat) (pos a.first) (pos a.last) shifts five p.sat.value p.first.value p.last.value placed.are in
+    let small : AreSmall (pos a.sat ∷ pos a.first ∷ pos a.last ∷ shifts) = (sat_small version a.sat p.sat.to, (omega (arith, p.first.to), (omega (arith, p.last.to), shifts_small shifts placed.inside))) in
+    record { kind = p.kind; are = are; small = subst AreSmall (sym are) small }
 
 -- lists that are equal, part by part
 same_parts : (xs ys us vs : List ℤ) → length xs ≡ length us → xs ++ ys ≡ us ++ vs → (xs ≡ us) × (ys ≡ vs)
@@ -135,10 +166,6 @@ small_parts : (xs ys : List ℤ) → AreSmall (xs ++ ys) → AreSmall xs × AreS
 small_parts [] ys h = (tt, h)
 small_parts (x ∷ xs) ys h = let others = small_parts xs ys h.1 in ((h.0, others.0), others.1)
 
-length-map_capped : (zs : List ℤ) → length (map capped zs) ≡ length zs
-length-map_capped [] = refl
-length-map_capped (z ∷ zs) = ap suc (length-map_capped zs)
-
 pub arc_read : (version : Version) (bands : List ℕ) (line : List ℕ) (w : ArcWords) (a : Arc) → AreGood PHASES bands → arc_words (length bands) line ≡ Ok w
     → length w.numbers ≡ 3 + length bands → arc_numbers version bands w.datum w.numbers ≡ Ok a
     → line ≡ codes "arc" ++ (behind_blanks (pos a.sat ∷ pos a.first ∷ pos a.last ∷ []) ++ (kind_text a.datum ++ behind_blanks (select bands a.shift)))
@@ -149,7 +176,7 @@ arc_read version bands line w a good words five numbers =
     let small = small_parts (map capped line_of.front) (map capped line_of.back) (subst AreSmall line_of.are arc.small) in
     let front = were_small line_of.front small.0 in
     let back = were_small line_of.back small.1 in
-    let three : length (pos a.sat ∷ pos a.first ∷ pos a.last ∷ []) ≡ length (map capped line_of.front) = sym (length-map_capped line_of.front ∙ line_of.three) in
+    let three : length (pos a.sat ∷ pos a.first ∷ pos a.last ∷ []) ≡ length (map capped line_of.front) = sym (length-map line_of.front capped ∙ line_of.three) in
     let parts = same_parts (pos a.sat ∷ pos a.first ∷ pos a.last ∷ []) shifts (map capped line_of.front) (map capped line_of.back) three (sym arc.are ∙ line_of.are) in
     let fronts : line_of.front ≡ pos a.sat ∷ pos a.first ∷ pos a.last ∷ [] = sym front.same ∙ sym parts.0 in
     let backs : line_of.back ≡ shifts = sym back.same ∙ sym parts.1 in

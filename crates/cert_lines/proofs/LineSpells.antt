@@ -100,9 +100,6 @@ pub placed_values : (column : ℕ) (zs : List ℤ) → AreSmall zs → HaveValue
 placed_values column [] small = tt
 placed_values column (z ∷ zs) small = (capped_small z small.0, placed_values (column + 1 + length (signed_decimal z)) zs small.1)
 
-pub natural_at : (low high k : ℕ) (n : Number) → n.value ≡ pos k → low ≤ k → k ≤ high → natural_within low high n ≡ Ok k
-natural_at low high k n is from to = natural_holds low high k n is from to
-
 pub range_at : (range : Range) (n : Number) (z : ℤ) → n.value ≡ z → IsIn range z → within_range range n ≡ Ok z
 range_at range n z is inside = within_holds range.low range.high n (rw is inside) ∙ ap Ok is
 
@@ -120,11 +117,11 @@ pair_numbers version least number tag count group (a ∷ b ∷ []) have from to 
 pair_numbers version least number tag count group (a ∷ b ∷ c ∷ []) have from to tag_to inside count_from count_to = absurd have.1.1.1
 pair_numbers version least number tag count group (a ∷ b ∷ c ∷ d ∷ []) have from to tag_to inside count_from count_to =
     rw (
-      natural_at least LAST_PAIR number a have.0 from to,
-      natural_at 0 9_223_372_036_854_775_807 tag b have.1.0 (omega arith) tag_to,
+      natural_holds least LAST_PAIR number a have.0 from to,
+      natural_holds 0 9_223_372_036_854_775_807 tag b have.1.0 (omega arith) tag_to,
       range_at
           (groups version) c group have.1.1.0 inside,
-      natural_at 1 MOST_SATELLITES count d have.1.1.1.0 count_from count_to,
+      natural_holds 1 MOST_SATELLITES count d have.1.1.1.0 count_from count_to,
     ) refl
 pair_numbers version least number tag count group (a ∷ b ∷ c ∷ d ∷ e ∷ ns) have from to tag_to inside count_from count_to = absurd have.1.1.1.1
 
@@ -287,7 +284,7 @@ words_written n datum three shifts is_three is_two small small_too =
     word_end false = refl
 
 sat_from : (version : Version) (sat : ℕ) (n : Number) → n.value ≡ pos sat → 1 ≤ sat → sat ≤ most_sat version → natural_within 1 (most_sat version) n ≡ Ok sat
-sat_from version sat n is from to = natural_at 1 (most_sat version) sat n is from to
+sat_from version sat n is from to = natural_holds 1 (most_sat version) sat n is from to
 
 arc_read : (version : Version) (bands : List ℕ) (datum : Bool) (sat first last : ℕ) (shift : List ℤ) (ns : List Number) → HaveValues ns (pos sat ∷ pos first ∷ pos last ∷ select bands shift)
     → spread PHASES bands (select bands shift) ≡ shift → 1 ≤ sat → sat ≤ most_sat version
@@ -303,8 +300,8 @@ arc_read version bands datum sat first last shift (a ∷ b ∷ c ∷ ns) have wh
     let shifts : put_within PHASES SHIFTS bands (take (length bands) ns) ≡ Ok shift = ap (λ (v : Result (List ℤ) Flaw). and_then v (λ vs. Ok (spread PHASES bands vs))) values ∙ ap Ok whole in
     rw (
       sat_from version sat a have.0 from to,
-      natural_at 0 LAST_PAIR first b have.1.0 (omega arith) (omega (arith, order, below)),
-      natural_at first LAST_PAIR last c have.1.1.0 order
+      natural_holds 0 LAST_PAIR first b have.1.0 (omega arith) (omega (arith, order, below)),
+      natural_holds first LAST_PAIR last c have.1.1.0 order
           (omega (arith, below)),
       shifts,
     ) refl

@@ -1,26 +1,27 @@
 -- Where the numbers of a line were read, the line is their spelling.
-use Rattle.std.proofs.Common.{◌≡◌, ◌+◌, ◌^◌, ◌<◌, ◌==◌, ℕ, ℤ, suc, pos, Bool, List, [], ◌∷◌, ◌++◌, length, length-take, take, drop, get_or, codes, All, IsTrue, Ok, true, false, lit<, refl, sym, ap, ◌∙◌, subst, arith}
+use Rattle.std.proofs.Common.{◌≡◌, ◌+◌, ◌^◌, ◌<◌, ◌==◌, ℕ, ℤ, pos, Bool, List, [], ◌∷◌, ◌++◌, length, length-take, take, drop, get_or, codes, All, IsTrue, Ok, true, false, lit<, refl, sym, ap, ◌∙◌, subst, arith}
 use Rattle.std.proofs.lemmas.List.{take-append-drop, take_all}
 use Rattle.std.specs.Fmt.{signed_decimal}
-use Rattle.obs_rows.specs.declared.rows.Row.{Row}
 use Rattle.std.proofs.lemmas.Slice.Eq.{bytes_eq-Decides}
 use Rattle.std.specs.Str.{bytes_eq}
-use Rattle.decimal_text.specs.Whole.{size_of}
 use Rattle.std.proofs.lemmas.Int.{ints}
 use Rattle.std.proofs.lemmas.Bool.Decides.{nat_tests}
+use Rattle.obs_rows.specs.declared.rows.Row.{Row}
+use Rattle.decimal_text.specs.Whole.{size_of}
 use Rattle.obs_rows.specs.declared.units.TheConstants.{SIGNALS}
 use Rattle.obs_rows.specs.declared.bands.TheConstants.{L2_LETTERS, L5_LETTERS}
 use Rattle.obs_rows.specs.declared.arcs.Arc.{Arc}
 use Rattle.obs_rows.specs.Letters.{is_letter}
 use Rattle.cert_words.specs.declared.ranges.Range.{Range}
+use Rattle.rinex_head.proofs.TakenLines.{and_then_took}
 use Rattle.cert_lines.specs.declared.version.Version.TheVariants.{Two}
 use Rattle.cert_lines.specs.Places.{select, spread, put_within, AreGood}
 use Rattle.cert_lines.specs.Forms.{behind_y, arc_at, row_in}
 use Rattle.cert_words.specs.declared.numbers.Number.{Number}
 use Rattle.cert_words.specs.Spelling.{behind_blanks}
 use Rattle.cert_words.specs.Numbers.{numbers_behind, number_at, all_within, within_range}
-use Rattle.cert_words.proofs.NumberLaws.{AreSmall, values, line_read}
-use Rattle.cert_words.proofs.RangeLaws.{took_both, all_passed, passed_in, AreIn, in_small}
+use Rattle.cert_words.proofs.NumberLaws.{AreSmall, values, line_read, values-length}
+use Rattle.cert_words.proofs.RangeLaws.{all_passed, passed_in, AreIn, in_small}
 use Rattle.cert_lines.specs.declared.ranges.TheConstants.{OBSERVATIONS, DIRECTIONS, RADII}
 use Rattle.cert_lines.specs.Lines.{letters_text, signals_line, pair_line, row_line}
 use Rattle.cert_lines.proofs.Appends.{row_taken}
@@ -58,17 +59,13 @@ pub record WerePlaced (n : ℕ) (range : Range) (places : List ℕ) (ns : List N
 pub were_placed : (n : ℕ) (range : Range) (places : List ℕ) (ns : List Number) (zs : List ℤ) → AreGood n places → length ns ≡ length places → put_within n range places ns ≡ Ok zs
     → WerePlaced n range places ns zs
 were_placed n range places ns zs good many e =
-    let both = took_both (all_within range ns) (λ (vs : List ℤ). Ok (spread n places vs)) zs e in
+    let both = and_then_took (all_within range ns) (λ (vs : List ℤ). Ok (spread n places vs)) zs e in
     let vs : List ℤ = both.0 in
     let are : vs ≡ values ns = all_passed range ns vs both.1 in
     let put : spread n places vs ≡ zs = cc (both.2) in
-    let count : length vs ≡ length places = ap length are ∙ values_length ns ∙ many in
+    let count : length vs ≡ length places = ap length are ∙ values-length ns ∙ many in
     let back : select places zs ≡ vs = ap (λ (l : List ℤ). select places l) (sym put) ∙ good.back vs count in
     record { are = sym are ∙ sym back; inside = subst (AreIn range) (sym back) (passed_in range ns vs both.1) }
-  where
-    values_length : (ns : List Number) → length (values ns) ≡ length ns
-    values_length [] = refl
-    values_length (n ∷ ns) = ap suc (values_length ns)
 
 observations_small : (zs : List ℤ) → AreIn OBSERVATIONS zs → AreSmall zs
 observations_small zs inside = in_small 17_179_869_184 OBSERVATIONS zs (lit< tt) (record { low = omega (arith, ints); high = omega (arith, ints) }) inside

@@ -6,10 +6,10 @@ use Rattle.cert_words.specs.Numbers.{IsIn, number_at, natural_within, within_ran
 use Rattle.rinex_head.specs.Places.{and_then}
 use Rattle.cert_words.specs.declared.numbers.Number.{Number}
 use Rattle.cert_words.proofs.NumberLaws.{placed, line_written}
-use Rattle.cert_words.proofs.RangeLaws.{within_holds}
+use Rattle.cert_words.proofs.RangeLaws.{within_holds, natural_holds}
 use Rattle.cert_lines.specs.declared.ranges.TheConstants.{PIVOTS, VALUE_LIMIT}
 use Rattle.cert_lines.specs.TailForms.{weak_pivot, weak_in, form_values, value_within, values_in, last_in}
-use Rattle.cert_lines.proofs.LineSpells.{HaveValues, placed_values, natural_at, range_at, below_is}
+use Rattle.cert_lines.proofs.LineSpells.{HaveValues, placed_values, range_at, below_is}
 use Rattle.cert_lines.proofs.Sizes.{values_small, weak_small}
 
 value_at : (n : Number) (z : ℤ) → n.value ≡ z → IsBelow (2 ^ 126) z → value_within n ≡ Ok z
@@ -27,7 +27,7 @@ value_numbers h p1 p2 top (a ∷ []) have to b1 b2 b3 = absurd have.1
 value_numbers h p1 p2 top (a ∷ b ∷ []) have to b1 b2 b3 = absurd have.1.1
 value_numbers h p1 p2 top (a ∷ b ∷ c ∷ []) have to b1 b2 b3 = absurd have.1.1.1
 value_numbers h p1 p2 top (a ∷ b ∷ c ∷ d ∷ []) have to b1 b2 b3 =
-    rw (natural_at 0 127 h a have.0 (omega arith) to, value_at b p1 have.1.0 b1, value_at c p2 have.1.1.0 b2, value_at d top have.1.1.1.0 b3) refl
+    rw (natural_holds 0 127 h a have.0 (omega arith) to, value_at b p1 have.1.0 b1, value_at c p2 have.1.1.0 b2, value_at d top have.1.1.1.0 b3) refl
 value_numbers h p1 p2 top (a ∷ b ∷ c ∷ d ∷ e ∷ ns) have to b1 b2 b3 = absurd have.1.1.1.1
 
 pub values_spell : (h : ℕ) (p1 p2 top : ℤ) → h ≤ 127 → IsBelow (2 ^ 126) p1 → IsBelow (2 ^ 126) p2 → IsBelow (2 ^ 126) top → values_in (values_line h p1 p2 top) ≡ Ok (form_values h p1 p2 top)
@@ -40,7 +40,7 @@ weak_numbers : (last column : ℕ) (pivot : ℤ) (ns : List Number) → HaveValu
     → and_then (natural_within 0 last (number_at ns 0)) (λ column. and_then (within_range PIVOTS (number_at ns 1)) (λ pivot. Ok (weak_pivot column pivot))) ≡ Ok (weak_pivot column pivot)
 weak_numbers last column pivot [] have to inside = absurd have
 weak_numbers last column pivot (a ∷ []) have to inside = absurd have.1
-weak_numbers last column pivot (a ∷ b ∷ []) have to inside = rw (natural_at 0 last column a have.0 (omega arith) to, range_at PIVOTS b pivot have.1.0 inside) refl
+weak_numbers last column pivot (a ∷ b ∷ []) have to inside = rw (natural_holds 0 last column a have.0 (omega arith) to, range_at PIVOTS b pivot have.1.0 inside) refl
 weak_numbers last column pivot (a ∷ b ∷ c ∷ ns) have to inside = absurd have.1.1
 
 pub weak_spells : (words : List ℕ) (last column : ℕ) (pivot : ℤ) → column < 2 ^ 126 → IsBelow (2 ^ 52) pivot → column ≤ last

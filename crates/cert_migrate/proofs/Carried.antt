@@ -14,6 +14,7 @@ use Rattle.obs_rows.specs.declared.bands.TheConstants.{L2_LETTERS}
 use Rattle.obs_rows.specs.Letters.{is_letter}
 use Rattle.obs_rows.specs.Ranges.{IsWithin}
 use Rattle.form_tables.specs.declared.sizes.TheConstants.{MOST_INTEGERS}
+use Rattle.form_tables.proofs.TableLaws.{zero_item}
 use Rattle.int_search.specs.declared.answer.TwoBest.{TwoBest}
 use Rattle.int_search.specs.Vectors.{IsSmall}
 use Rattle.cert_data.specs.declared.tails.Tail.{Tail}
@@ -158,13 +159,8 @@ session_carried s arcs pairs = record {
 }
 
 -- ---- the tail
-none_at : (n i : ℕ) → get_or (replicate n (pos 0)) i (pos 0) ≡ pos 0
-none_at zero i = refl
-none_at (suc n) zero = refl
-none_at (suc n) (suc i) = none_at n i
-
 pub padded_at : (xs : List ℤ) (n i : ℕ) → get_or (xs ++ replicate n (pos 0)) i (pos 0) ≡ at xs i
-padded_at [] n i = none_at n i
+padded_at [] n i = zero_item n i
 padded_at (x ∷ xs) n zero = refl
 padded_at (x ∷ xs) n (suc i) = padded_at xs n i
 

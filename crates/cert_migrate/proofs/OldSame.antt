@@ -1,7 +1,7 @@
 -- A certificate of the present types carries one of version 1 at most.
+use Rattle.std.proofs.Common.{◌≡◌, ◌^◌, ◌<◌, ◌≤◌, ℤ, List, length, All, IsTrue, unsigned_abs, sym, ◌∙◌}
 use mathlib.Core.HLevel.{is_prop→PathP}
 use Rattle.std.proofs.Props.{props}
-use Rattle.std.proofs.Common.{◌≡◌, ◌^◌, ◌<◌, ◌≤◌, ℕ, ℤ, Bool, List, length, All, IsTrue, unsigned_abs, sym, ◌∙◌}
 use Rattle.std.specs.List.{AllPairs}
 use Rattle.obs_rows.specs.declared.rows.Row.{Row}
 use Rattle.obs_rows.specs.declared.pair_rows.PairRows.{PairRows}
@@ -12,6 +12,9 @@ use Rattle.int_search.specs.Vectors.{IsZeroFrom}
 use Rattle.cert_data.specs.declared.tails.Tail.{Tail}
 use Rattle.cert_data.specs.declared.tails.Tail.TheVariants as now
 use Rattle.cert_data.specs.declared.certs.Cert.{Cert}
+use Rattle.cert_lines.proofs.SameStructs.{within_prop, le_prop, lt_prop, true_prop}
+use Rattle.cert_spelling.proofs.SameVectors.{zero_prop}
+use Rattle.cert_text.proofs.SameStructs.{fine_prop}
 use Rattle.cert_migrate.specs.declared.old_arcs.OldArc.{OldArc}
 use Rattle.cert_migrate.specs.declared.old_rows.OldRow.{OldRow}
 use Rattle.cert_migrate.specs.declared.old_pairs.OldPair.{OldPair}
@@ -28,23 +31,11 @@ use Rattle.cert_migrate.specs.OldTails.{IsOldTailOf, IsOldTailOf-prop}
 use Rattle.cert_migrate.specs.Carriers.{IsRowOf, IsPairOf, IsSessionOf, IsBestOf, IsEndOf, IsCarrierOf}
 use Rattle.cert_migrate.proofs.ListZips.{zip_same}
 
-within_prop : (m : ℕ) (zs : List ℤ) → IsProp (All (IsWithin m) zs)
-within_prop m zs = Prim.hlevel props
-
 radius_prop : (z : ℤ) → IsProp (IsOldRadius z)
 radius_prop z = Prim.hlevel props
 
 radii_prop : (zs : List ℤ) → IsProp (All IsOldRadius zs)
 radii_prop zs = Prim.hlevel props
-
-le_prop : (m n : ℕ) → IsProp (m ≤ n)
-le_prop m n = Prim.hlevel props
-
-lt_prop : (m n : ℕ) → IsProp (m < n)
-lt_prop m n = Prim.hlevel props
-
-true_prop : (t : Bool) → IsProp (IsTrue t)
-true_prop t = Prim.hlevel props
 
 rise_prop : (rows : List OldRow) → IsProp (AllPairs (λ r s. r.arc < s.arc) rows)
 rise_prop rows = Prim.hlevel props
@@ -57,12 +48,6 @@ arcs_prop arcs = Prim.hlevel props
 
 pairs_prop : (arcs : List OldArc) (pairs : List OldPair) → IsProp (AreOldPairs arcs pairs)
 pairs_prop arcs pairs = Prim.hlevel props
-
-zero_prop : (n : ℕ) (z : List ℤ) → IsProp (IsZeroFrom n z)
-zero_prop n z = Prim.hlevel props
-
-fine_prop : (n : ℕ) → IsProp (n ≡ 0)
-fine_prop n = Prim.hlevel props
 
 row_same : (r s : OldRow) → r.arc ≡ s.arc → r.y ≡ s.y → r.ry ≡ s.ry → r.u ≡ s.u → r.ru ≡ s.ru → r ≡ s
 row_same r s arc y ry u ru = λ i. record {

@@ -1,6 +1,6 @@
 -- Two vectors with their values are the same where their lines are.
-use mathlib.Core.HLevel.{is_prop→PathP}
 use Rattle.std.proofs.Common.{◌≡◌, ◌<◌, ◌≤◌, ℕ, ℤ, pos, List, [], ◌∷◌, length, take, get_or, codes, refl, ap, subst, arith, sym, ◌∙◌, ◌⊎◌, inl, inr}
+use mathlib.Core.HLevel.{is_prop→PathP}
 use Rattle.std.proofs.lemmas.List.{length-take-le, get_or-take, ext_get_or}
 use Rattle.std.proofs.Props.{props}
 use Rattle.obs_rows.specs.declared.arcs.Arc.{Arc}
@@ -13,7 +13,7 @@ use Rattle.cert_lines.proofs.SameStructs.{le_prop}
 use Rattle.cert_lines.proofs.SameLines.{cons_same, numbers_same}
 use Rattle.cert_data.specs.Tails.{AreValues}
 
-zero_prop : (n : ℕ) (z : List ℤ) → IsProp (IsZeroFrom n z)
+pub zero_prop : (n : ℕ) (z : List ℤ) → IsProp (IsZeroFrom n z)
 zero_prop n z = Prim.hlevel props
 
 pub best_same : (a b : TwoBest) → a.first ≡ b.first → a.second ≡ b.second → a.p1 ≡ b.p1 → a.p2 ≡ b.p2 → a.size ≡ b.size → a ≡ b

@@ -1,5 +1,5 @@
 -- Up to the line `pairs` the lines that the rules admit are the first of some certificate.
-use Rattle.std.proofs.Common.{◌≡◌, ◌+◌, ◌-◌, ◌≤◌, nat_lt, if◌then◌else◌, ℕ, zero, suc, Bool, true, false, List, [], ◌∷◌, ◌++◌, length, take, codes, All, Result, Ok, Err, refl, sym, ap, ◌∙◌, subst, arith, length-append, append_assoc}
+use Rattle.std.proofs.Common.{◌≡◌, ◌+◌, ◌-◌, ◌≤◌, ℕ, zero, suc, true, false, List, [], ◌∷◌, ◌++◌, length, take, codes, All, Result, Ok, Err, refl, sym, ap, ◌∙◌, subst, arith, length-append, append_assoc}
 use Rattle.std.proofs.lemmas.List.{append-nil, take_at}
 use Rattle.std.proofs.lemmas.List.Elements.{All-head, All-tail}
 use Rattle.obs_rows.specs.declared.arcs.Arc.{Arc}
@@ -7,14 +7,14 @@ use Rattle.obs_rows.specs.Arcs.{free_count}
 use Rattle.obs_rows.specs.declared.limits.TheConstants.{MOST_PAIRS, MOST_RATIO, MOST_BUDGET}
 use Rattle.rinex_head.specs.declared.place.Flaw.{Flaw}
 use Rattle.rinex_head.specs.declared.place.At.{At}
-use Rattle.rinex_head.specs.declared.place.What.TheVariants.{LongLine}
 use Rattle.rinex_head.specs.declared.place.TextFault.{TextFault}
 use Rattle.rinex_head.specs.declared.place.TextFault.TheVariants.{Refused, NoMemory}
-use Rattle.rinex_head.specs.Places.{and_then, flawed, place, at_line}
+use Rattle.rinex_head.specs.Places.{and_then, place, at_line}
 use Rattle.rinex_head.specs.Walk.{Rules, admitted, walk, Gives, IfRefused}
+use Rattle.rinex_head.proofs.Stops.{at_line-number, admitted_short}
+use Rattle.rinex_head.proofs.TakenLines.{then_holds}
 use Rattle.cert_words.specs.TextLines.{ended_lines}
 use Rattle.cert_words.proofs.TextLaws.{lines_of_text}
-use Rattle.cert_words.proofs.RangeLaws.{took_both}
 use Rattle.cert_lines.specs.declared.ranges.TheConstants.{COORDINATES}
 use Rattle.cert_lines.specs.declared.version.Version.{Version}
 use Rattle.cert_lines.specs.declared.version.Version.TheVariants.{One, Two}
@@ -24,7 +24,6 @@ use Rattle.cert_lines.specs.Forms.{count_in, vector_in, system_in, Letters as Le
 use Rattle.cert_lines.specs.TailForms.{begins}
 use Rattle.grammar_lines.specs.LineParts.{word_in}
 use Rattle.grammar_lines.proofs.ArcSteps.{arcs_took}
-use Rattle.grammar_lines.proofs.FirstLines.{at_number}
 use Rattle.cert_data.specs.declared.certs.Cert.{Cert}
 use Rattle.cert_spelling.specs.Spelling.{system_lines, head_lines, counted_pairs, tail_lines, lines_of_cert, spelling_as}
 use Rattle.cert_spelling.specs.Lengths.{IsWhole}
@@ -46,19 +45,12 @@ pub record Admitted {S F : Type 0} (rules : Rules S F) (Held : S → List (List 
   pub last : S
   pub held : (front : List (List ℕ)) → Held s front → All Fine taken → Held last (front ++ taken)
 
-admitted_short : {S F : Type 0} (rules : Rules S F) (s next : S) (line : List ℕ) → admitted rules s line ≡ Ok next → rules.admit s line ≡ Ok next
-admitted_short rules s next line is = by_length (nat_lt 4096 (length line)) is
-  where
-    by_length : (t : Bool) → (if t then flawed 1 LongLine else rules.admit s line) ≡ Ok next → rules.admit s line ≡ Ok next
-    by_length true gives = absurd cc
-    by_length false gives = gives
-
 pub admitted_lines : {S F : Type 0} (rules : Rules S F) (Held : S → List (List ℕ) → Type 0) (Fine : List ℕ → Type 0)
     → ((s next : S) (front : List (List ℕ)) (line : List ℕ) → Held s front → Fine line → rules.admit s line ≡ Ok next → Held next (front ++ line ∷ []))
     → (s : S) (n : ℕ) (lines : List (List ℕ)) (at : At) → walk rules lines n s ≡ Err at → Admitted rules Held Fine s n lines at
 unfolding walk
 admitted_lines rules Held Fine keeps s n [] at e =
-    let number = at_number (n + 1) (rules.finish s) at e in
+    let number = at_line-number (n + 1) (rules.finish s) at e in
     record { taken = []; rest = []; split = refl; numbered = omega (arith, number); last = s; held = λ front holds fine. subst (Held s) (sym (append-nil front)) holds }
 admitted_lines {S} {F} rules Held Fine keeps s n (line ∷ lines) at e = by_first (λ next. admitted_lines rules Held Fine keeps next (n + 1) lines at) (admitted rules s line) refl e
   where
@@ -243,27 +235,24 @@ held_begins End front held = absurd held
 -- by what the line gives
 by_line : {X : Type 0} (version : Version) (front : List (List ℕ)) (form : Result X Flaw) (behind : X → Expected) (next : Expected) → and_then form (λ x. Ok (behind x)) ≡ Ok next
     → ((x : X) → form ≡ Ok x → HeldOf version (behind x) front) → HeldOf version next front
-by_line {X} version front form behind next e each =
-    let both = took_both form (λ (x : X). Ok (behind x)) next e in
-    let same : behind both.0 ≡ next = cc (both.2) in
-    subst (λ (s : Expected). HeldOf version s front) same (each both.0 both.1)
+by_line version front form behind next e each = then_holds (λ (s : Expected). HeldOf version s front) form behind next each e
 
-abbrev with_ratio : {version : Version} → Head version → Fit IsRatio → Head version
+abbrev pub with_ratio : {version : Version} → Head version → Fit IsRatio → Head version
 with_ratio h x = record { ratio = x; budget = h.budget; system = h.system; base = h.base; point = h.point; signals = h.signals }
 
-abbrev with_budget : {version : Version} → Head version → Fit IsBudget → Head version
+abbrev pub with_budget : {version : Version} → Head version → Fit IsBudget → Head version
 with_budget h x = record { ratio = h.ratio; budget = x; system = h.system; base = h.base; point = h.point; signals = h.signals }
 
-abbrev with_system : {version : Version} → Head version → Fit (IsSystemOf version) → Head version
+abbrev pub with_system : {version : Version} → Head version → Fit (IsSystemOf version) → Head version
 with_system h x = record { ratio = h.ratio; budget = h.budget; system = x; base = h.base; point = h.point; signals = h.signals }
 
-abbrev with_base : {version : Version} → Head version → Fit IsWholePoint → Head version
+abbrev pub with_base : {version : Version} → Head version → Fit IsWholePoint → Head version
 with_base h x = record { ratio = h.ratio; budget = h.budget; system = h.system; base = x; point = h.point; signals = h.signals }
 
 abbrev with_point : {version : Version} → Head version → Fit IsWholePoint → Head version
 with_point h x = record { ratio = h.ratio; budget = h.budget; system = h.system; base = h.base; point = x; signals = h.signals }
 
-abbrev with_signals : {version : Version} → Head version → Fit (AreSignalsOf version) → Head version
+abbrev pub with_signals : {version : Version} → Head version → Fit (AreSignalsOf version) → Head version
 with_signals h x = record { ratio = h.ratio; budget = h.budget; system = h.system; base = h.base; point = h.point; signals = x }
 
 -- the lines before it and the line
@@ -301,7 +290,7 @@ arc_step f left arcs front line a some held is =
 pub pairs_begins : (n : ℕ) (line : List ℕ) → line ≡ count_line (codes "pairs") n → begins (codes "pairs") line ≡ true
 pairs_begins n line is = ap (λ (l : List ℕ). begins (codes "pairs") l) is
 
-abbrev IsOtherLine : List ℕ → Type 0
+abbrev pub IsOtherLine : List ℕ → Type 0
 IsOtherLine line = begins (codes "pairs") line ≡ false
 
 next_held : (s next : Expected) (front : List (List ℕ)) (line : List ℕ) → Held s front → IsOtherLine line → admit s line ≡ Ok next → HeldOf (version_of s) next (front ++ line ∷ [])

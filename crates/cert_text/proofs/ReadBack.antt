@@ -1,5 +1,5 @@
 -- A line of the head or of an arc that is read is the spelling of what it gives, whose numbers are in their ranges.
-use Rattle.std.proofs.Common.{◌≡◌, ◌+◌, ◌^◌, ◌<◌, ◌≤◌, ◌==◌, ◌||◌, ◌&&◌, ℕ, ℤ, pos, negsuc, neg_ℤ, Bool, true, false, if◌then◌else◌, IsTrue, List, [], ◌∷◌, ◌++◌, length, map, take, drop, codes, All, Result, Ok, Err, Option, Some, None, refl, sym, ap, ◌∙◌, subst, arith, lit<, length-append}
+use Rattle.std.proofs.Common.{◌≡◌, ◌+◌, ◌^◌, ◌<◌, ◌≤◌, ◌==◌, ◌||◌, ◌&&◌, ℕ, ℤ, pos, negsuc, neg_ℤ, Bool, true, false, if◌then◌else◌, IsTrue, List, [], ◌∷◌, ◌++◌, length, map, take, drop, codes, All, Result, Ok, Err, refl, sym, ap, ◌∙◌, subst, arith, lit<}
 use Rattle.std.proofs.lemmas.Int.{ints}
 use Rattle.std.proofs.lemmas.Bool.Decides.{nat_tests}
 use Rattle.std.proofs.lemmas.List.{length-map}
@@ -19,25 +19,26 @@ use Rattle.obs_rows.specs.declared.limits.TheConstants.{LAST_PAIR, MOST_COORDINA
 use Rattle.rinex_head.specs.declared.place.Flaw.{Flaw}
 use Rattle.rinex_head.specs.declared.place.What.TheVariants.{BadLine}
 use Rattle.rinex_head.specs.Places.{flawed}
+use Rattle.rinex_head.proofs.TakenLines.{and_then_took}
 use Rattle.cert_words.specs.declared.numbers.Number.{Number}
 use Rattle.cert_words.specs.declared.ranges.Range.{Range}
 use Rattle.cert_words.specs.Spelling.{behind_blanks}
-use Rattle.cert_words.specs.Numbers.{capped, Part, part, some_then, behind_text, more_numbers, at_end, numbers_behind, number_at, natural_within, all_within, IsIn, IsBetween}
-use Rattle.cert_words.proofs.NumberLaws.{AreSmall, values, took_end, some_took, took_text, took_more, line_read}
-use Rattle.cert_words.proofs.RangeLaws.{AreIn, took_both, natural_passed, all_passed, passed_in, in_small}
+use Rattle.cert_words.specs.Numbers.{capped, part, some_then, behind_text, more_numbers, numbers_behind, number_at, natural_within, all_within, IsIn, IsBetween}
+use Rattle.cert_words.proofs.NumberLaws.{AreSmall, values, took_end, some_took, took_text, took_more, line_read, values-length}
+use Rattle.cert_words.proofs.RangeLaws.{AreIn, natural_passed, all_passed, passed_in, in_small}
 use Rattle.cert_lines.specs.declared.arcs.ArcWords.{ArcWords}
 use Rattle.cert_lines.specs.declared.ranges.TheConstants.{COORDINATES, SHIFTS}
 use Rattle.cert_lines.specs.declared.version.Version.{Version}
 use Rattle.cert_lines.specs.declared.version.Version.TheVariants.{One, Two}
 use Rattle.cert_lines.specs.Versions.{most_sat}
-use Rattle.cert_lines.specs.Places.{spread, put_within}
+use Rattle.cert_lines.specs.Places.{spread}
 use Rattle.cert_lines.specs.Lengths.{IsWholeArc}
 use Rattle.cert_lines.specs.Lines.{count_line, vector_line, system_line, letters_text, signals_line, arc_line}
-use Rattle.cert_lines.specs.Forms.{count_in, vector_in, system_letter, system_in, two_of, three_of, two_letters, three_letters, Letters as LettersOf, letters, or_else, on_12, on_15, on_125, signals_in, kind_by, kind_in, with_shifts, words_of_arc, arc_words, may_stand, arc_of, arc_numbers, arc_in}
+use Rattle.cert_lines.specs.Forms.{count_in, vector_in, system_letter, system_in, two_of, three_of, two_letters, three_letters, Letters as LettersOf, letters, or_else, on_12, on_15, on_125, signals_in, arc_words, may_stand, arc_numbers, arc_in}
 use Rattle.cert_lines.proofs.Values.{one_value}
 use Rattle.cert_lines.proofs.Spelled.{behind_word, some_l2, some_l5, spelled_15, spelled_125}
 use Rattle.cert_lines.proofs.Spreading.{bands_good, spread_all, spread_off, spread_length}
-use Rattle.cert_lines.proofs.ArcLaws.{arc_read}
+use Rattle.cert_lines.proofs.ArcLaws.{arc_read, words_count, arc_parts}
 use Rattle.cert_lines.proofs.LetterLaws.{not_one, letters_of_signals}
 use Rattle.grammar_lines.specs.LineParts.{word_in}
 
@@ -52,9 +53,6 @@ word_was word line u e = by_test (bytes_eq line word) refl e
 
 -- ---- numbers
 
-values_count : (ns : List Number) → length (values ns) ≡ length ns
-values_count ns = length-map ns (λ (n : Number). n.value)
-
 numbers_count : (word : List ℕ) (n : ℕ) (line : List ℕ) (ns : List Number) → numbers_behind word n line ≡ Ok ns → length ns ≡ n
 numbers_count word n line ns e =
     let end = took_end (some_then (behind_text word (part [] 1 line)) (λ p. more_numbers n p)) ns e in
@@ -63,7 +61,7 @@ numbers_count word n line ns e =
     let took = took_more n both.0 end.0 both.2 in
     let none : values both.0.numbers ≡ [] = ap values text.1 in
     let are : values ns ≡ map capped took.numbers = ap values (sym end.3) ∙ took.are ∙ ap (λ (zs : List ℤ). zs ++ map capped took.numbers) none in
-    sym (values_count ns) ∙ ap length are ∙ length-map took.numbers capped ∙ took.count
+    sym (values-length ns) ∙ ap length are ∙ length-map took.numbers capped ∙ took.count
 
 pub record CountRead (word : List ℕ) (low high : ℕ) (line : List ℕ) (n : ℕ) : Type 0 where
   pub line_is : line ≡ count_line word n
@@ -72,7 +70,7 @@ pub record CountRead (word : List ℕ) (low high : ℕ) (line : List ℕ) (n : �
 
 pub count_was : (word : List ℕ) (low high : ℕ) (line : List ℕ) (n : ℕ) → high < 2 ^ 64 → count_in word low high line ≡ Ok n → CountRead word low high line n
 count_was word low high line n few e =
-    let both = took_both (numbers_behind word 1 line) (λ (ns : List Number). natural_within low high (number_at ns 0)) n e in
+    let both = and_then_took (numbers_behind word 1 line) (λ (ns : List Number). natural_within low high (number_at ns 0)) n e in
     let ns : List Number = both.0 in
     let passed = natural_passed low high n (number_at ns 0) both.2 in
     let to : n ≤ high = passed.to in
@@ -104,7 +102,7 @@ pub record PointRead (word line : List ℕ) (p : List ℤ) : Type 0 where
 
 pub point_was : (word line : List ℕ) (p : List ℤ) → vector_in word 3 COORDINATES line ≡ Ok p → PointRead word line p
 point_was word line p e =
-    let both = took_both (numbers_behind word 3 line) (λ (ns : List Number). all_within COORDINATES ns) p e in
+    let both = and_then_took (numbers_behind word 3 line) (λ (ns : List Number). all_within COORDINATES ns) p e in
     let ns : List Number = both.0 in
     let are : p ≡ values ns = all_passed COORDINATES ns p both.2 in
     let inside : AreIn COORDINATES p = passed_in COORDINATES ns p both.2 in
@@ -112,7 +110,7 @@ point_was word line p e =
     record {
       line_is = line_read word 3 line ns both.1 (subst AreSmall are small) ∙ ap (λ (zs : List ℤ). word ++ behind_blanks zs) (sym are);
       point = all_in (IsWithin MOST_COORDINATE) COORDINATES (is_within MOST_COORDINATE) p inside;
-      three = ap length are ∙ values_count ns ∙ numbers_count word 3 line ns both.1;
+      three = ap length are ∙ values-length ns ∙ numbers_count word 3 line ns both.1;
     }
 
 -- ---- the system
@@ -240,7 +238,7 @@ signals_125 a b c one two three =
 -- on L1 and L2, by the word of the version
 was_12 : (version : Version) (word line : List ℕ) (l : LettersOf) → ((a b : ℕ) → signals_line version a b 0 ≡ word ++ letters_text (a ∷ b ∷ [])) → on_12 word line ≡ Ok l → SignalsRead version line l
 was_12 version word line l spelled e =
-    let both = took_both (two_letters word L2_LETTERS line) (λ (p : ℕ × ℕ). Ok (letters p.0 p.1 0)) l e in
+    let both = and_then_took (two_letters word L2_LETTERS line) (λ (p : ℕ × ℕ). Ok (letters p.0 p.1 0)) l e in
     let read = two_behind word L2_LETTERS line both.0 both.1 in
     record {
       signals = signals_12 both.0.0 both.0.1 read.2.first read.2.second;
@@ -251,7 +249,7 @@ was_12 version word line l spelled e =
 
 was_15 : (line : List ℕ) (l : LettersOf) → on_15 line ≡ Ok l → SignalsRead Two line l
 was_15 line l e =
-    let both = took_both (two_letters (codes "signals 15") L5_LETTERS line) (λ (p : ℕ × ℕ). Ok (letters p.0 0 p.1)) l e in
+    let both = and_then_took (two_letters (codes "signals 15") L5_LETTERS line) (λ (p : ℕ × ℕ). Ok (letters p.0 0 p.1)) l e in
     let read = two_behind (codes "signals 15") L5_LETTERS line both.0 both.1 in
     record {
       signals = signals_15 both.0.0 both.0.1 read.2.first read.2.second;
@@ -262,7 +260,7 @@ was_15 line l e =
 
 was_125 : (line : List ℕ) (l : LettersOf) → on_125 line ≡ Ok l → SignalsRead Two line l
 was_125 line l e =
-    let both = took_both (three_letters (codes "signals 125") line) (λ (p : ℕ × ℕ × ℕ). Ok (letters p.0 p.1 p.2)) l e in
+    let both = and_then_took (three_letters (codes "signals 125") line) (λ (p : ℕ × ℕ × ℕ). Ok (letters p.0 p.1 p.2)) l e in
     let read = three_behind (codes "signals 125") line both.0 both.1 in
     record {
       signals = signals_125 both.0.0 both.0.1 both.0.2 read.2.first read.2.second read.2.third;
@@ -285,50 +283,6 @@ signals_were Two line l e = by_12 (on_12 (codes "signals 12") line) refl e
 
 -- ---- an arc
 
-kind_numbers : (p : Part) (k : Bool × Part) → kind_in p ≡ Some k → k.1.numbers ≡ p.numbers
-kind_numbers p k e = by_kind (behind_text (codes " datum") p) refl (behind_text (codes " free") p) refl e
-  where
-    by_kind : (a : Option Part) → behind_text (codes " datum") p ≡ a → (b : Option Part) → behind_text (codes " free") p ≡ b → kind_by a b ≡ Some k → k.1.numbers ≡ p.numbers
-    by_kind (Some q) is b other given =
-        let same : (true, q) ≡ k = cc (given) in
-        ap (λ (x : Bool × Part). x.1.numbers) (sym same) ∙ (took_text (codes " datum") p q is).1
-    by_kind None is (Some q) other given =
-        let same : (false, q) ≡ k = cc (given) in
-        ap (λ (x : Bool × Part). x.1.numbers) (sym same) ∙ (took_text (codes " free") p q other).1
-    by_kind None is None other given = absurd cc
-
-more_count : (n : ℕ) (p q : Part) → more_numbers n p ≡ Some q → length q.numbers ≡ length p.numbers + n
-more_count n p q e =
-    let took = took_more n p q e in
-    let sizes = ap length took.are in
-    let whole = values_count q.numbers in
-    let before = values_count p.numbers in
-    let new : length (map capped took.numbers) ≡ n = length-map took.numbers capped ∙ took.count in
-    let both = length-append (values p.numbers) (map capped took.numbers) in
-    omega (arith, sizes, whole, before, new, both)
-
-words_count : (n : ℕ) (line : List ℕ) (w : ArcWords) → arc_words n line ≡ Ok w → length w.numbers ≡ 3 + n
-words_count n line w e = by_kind (some_then first (λ p. kind_in p)) refl e
-  where
-    first : Option Part
-    first = some_then (behind_text (codes "arc") (part [] 1 line)) (λ p. more_numbers 3 p)
-
-    by_kind : (o : Option (Bool × Part)) → some_then first (λ p. kind_in p) ≡ o → with_shifts n o ≡ Ok w → length w.numbers ≡ 3 + n
-    by_kind None is given = absurd cc
-    by_kind (Some k) is given =
-        let ends = took_both (at_end (more_numbers n k.1)) (λ (ns : List Number). Ok (words_of_arc k.0 ns)) w given in
-        let end = took_end (more_numbers n k.1) ends.0 ends.1 in
-        let kinds = some_took first (λ p. kind_in p) k is in
-        let front = some_took (behind_text (codes "arc") (part [] 1 line)) (λ p. more_numbers 3 p) kinds.0 kinds.1 in
-        let none = ap length (took_text (codes "arc") (part [] 1 line) front.0 front.1).1 in
-        let three = more_count 3 front.0 kinds.0 front.2 in
-        let kind = ap length (kind_numbers kinds.0 k kinds.2) in
-        let others = more_count n k.1 end.0 end.1 in
-        let words : words_of_arc k.0 ends.0 ≡ w = cc (ends.2) in
-        let all = ap (λ (x : ArcWords). length x.numbers) words in
-        let same = ap length end.3 in
-        omega (arith, none, three, kind, others, all, same)
-
 -- an arc of the version that has shifts of these signals alone
 pub record IsArcOf (version : Version) (ss : List ℕ) (a : Arc) : Type 0 where
   pub in_range : IsArcInRange a
@@ -343,26 +297,17 @@ sat_most Two = omega arith
 numbers_were : (version : Version) (ss : List ℕ) (datum : Bool) (ns : List Number) (a : Arc) → arc_numbers version (phase_bands ss) datum ns ≡ Ok a → (a.datum ≡ datum) × IsArcOf version ss a
 numbers_were version ss datum ns a e =
     let bands = phase_bands ss in
-    let one = took_both (natural_within 1 (most_sat version) (number_at ns 0)) _ a e in
-    let two = took_both (natural_within 0 LAST_PAIR (number_at ns 1)) _ a one.2 in
-    let three = took_both (natural_within two.0 LAST_PAIR (number_at ns 2)) _ a two.2 in
+    let p = arc_parts version bands datum ns a e in
     let own = take (length bands) (drop 3 ns) in
-    let four = took_both (put_within PHASES SHIFTS bands own) _ a three.2 in
-    let sat = natural_passed 1 (most_sat version) one.0 (number_at ns 0) one.1 in
-    let last = natural_passed two.0 LAST_PAIR three.0 (number_at ns 2) three.1 in
-    let sat_from : 1 ≤ one.0 = sat.from in
-    let sat_to : one.0 ≤ most_sat version = sat.to in
-    let order : two.0 ≤ three.0 = last.from in
-    let last_to : three.0 ≤ LAST_PAIR = last.to in
-    let put = took_both (all_within SHIFTS own) (λ (vs : List ℤ). Ok (spread PHASES bands vs)) four.0 four.1 in
-    let spread_is : spread PHASES bands put.0 ≡ four.0 = cc (put.2) in
+    let sat_to : a.sat ≤ most_sat version = p.sat.to in
+    let last_to : a.last ≤ LAST_PAIR = p.last.to in
+    let put = and_then_took (all_within SHIFTS own) (λ (vs : List ℤ). Ok (spread PHASES bands vs)) a.shift p.shift in
+    let spread_is : spread PHASES bands put.0 ≡ a.shift = cc (put.2) in
     let below : All (IsBelow (2 ^ 40)) put.0 = all_in (IsBelow (2 ^ 40)) SHIFTS (λ z. is_below (2 ^ 40) 1_099_511_627_775 z (omega arith)) put.0 (passed_in SHIFTS own put.0 put.1) in
-    let shifts : All (IsBelow (2 ^ 40)) four.0 = subst (All (IsBelow (2 ^ 40))) spread_is (spread_all (IsBelow (2 ^ 40)) PHASES bands put.0 (omega arith) below) in
-    let arc : arc_of datum one.0 two.0 three.0 four.0 ≡ a = cc (four.2) in
-    subst (λ (x : Arc). (x.datum ≡ datum) × IsArcOf version ss x) arc (
-      refl,
+    let shifts : All (IsBelow (2 ^ 40)) a.shift = subst (All (IsBelow (2 ^ 40))) spread_is (spread_all (IsBelow (2 ^ 40)) PHASES bands put.0 (omega arith) below) in (
+      p.kind,
       record {
-        in_range = record { sat_from = sat_from; sat_to = omega (arith, sat_most version, sat_to); order = order; last_in = omega arith; shifts_in = shifts };
+        in_range = record { sat_from = p.sat.from; sat_to = omega (arith, sat_most version, sat_to); order = p.last.from; last_in = omega (arith, last_to); shifts_in = shifts };
         sat = sat_to;
         used = subst (IsZeroOff bands) spread_is (spread_off PHASES bands put.0);
         whole = sym (ap length spread_is) ∙ spread_length PHASES bands put.0;
@@ -376,7 +321,7 @@ pub record ArcRead (version : Version) (ss : List ℕ) (free left : ℕ) (line :
 
 pub arc_was : (version : Version) (l2 l5 free left : ℕ) (line : List ℕ) (a : Arc) → arc_in version (used_signals l2 l5) free left line ≡ Ok a → ArcRead version (used_signals l2 l5) free left line a
 arc_was version l2 l5 free left line a e =
-    let words = took_both (arc_words (length bands) line) (λ (w : ArcWords). if may_stand free left w.datum then arc_numbers version bands w.datum w.numbers else flawed 1 BadLine) a e in
+    let words = and_then_took (arc_words (length bands) line) (λ (w : ArcWords). if may_stand free left w.datum then arc_numbers version bands w.datum w.numbers else flawed 1 BadLine) a e in
     by_test words.0 words.1 (may_stand free left words.0.datum) refl words.2
   where
     bands : List ℕ

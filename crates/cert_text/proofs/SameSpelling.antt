@@ -1,5 +1,5 @@
 -- No two certificates have one spelling.
-use Rattle.std.proofs.Common.{◌≡◌, ◌≤◌, ℕ, ℤ, Bool, true, false, List, [], ◌∷◌, ◌++◌, length, codes, All, refl, ap, subst, arith, Ok, sym, ◌∙◌, if◌then◌else◌, append_assoc}
+use Rattle.std.proofs.Common.{◌≡◌, ◌≤◌, ℕ, ℤ, Bool, true, false, List, [], ◌∷◌, ◌++◌, length, codes, All, refl, ap, subst, arith, Ok, sym, ◌∙◌, append_assoc}
 use Rattle.std.proofs.lemmas.List.Elements.{All-head, All-tail}
 use Rattle.obs_rows.specs.declared.arcs.Arc.{Arc}
 use Rattle.obs_rows.specs.declared.pair_rows.PairRows.{PairRows}
@@ -12,7 +12,7 @@ use Rattle.obs_rows.specs.Signals.{fine_signals, used_signals}
 use Rattle.cert_data.specs.declared.certs.Cert.{Cert}
 use Rattle.cert_data.specs.declared.tails.Tail.{Tail}
 use Rattle.cert_data.specs.declared.tails.Tail.TheVariants.{Fixed, Unseparated, Weak, Overwidth, Unsettled, Spent}
-use Rattle.cert_data.specs.Tails.{AreVectors, IsTailOf}
+use Rattle.cert_data.specs.Tails.{AreVectors, IsTailOf, tail_of_vectors}
 use Rattle.cert_spelling.specs.Spelling.{system_lines, all_pair_lines, counted_pairs, vectors_lines, tail_lines, lines_of_cert, unsettled_line, spent_line, spelling_as}
 use Rattle.obs_rows.specs.Unused.{HasUsedShifts, HasUsedRows}
 use Rattle.obs_rows.specs.declared.limits.TheConstants.{MOST_BUDGET}
@@ -61,12 +61,9 @@ pairs_same l2 l5 arcs arcs' (p ∷ pairs) (q ∷ pairs') rest rest' few few' h h
 
 -- ---- tails
 
-abbrev tail_by : Bool → ℕ → List ℤ → TwoBest → ℤ → Tail
-tail_by fixed h moved best top = if fixed then Fixed h moved best top else Unseparated h moved best top
-
 -- a tail of five lines, or of one
 data Shape (ss : List ℕ) (arcs : List Arc) (budget : ℕ) (t : Tail) : Type 0 where
-  vectors : (fixed : Bool) (h : ℕ) (moved : List ℤ) (best : TwoBest) (top : ℤ) → t ≡ tail_by fixed h moved best top → tail_lines t ≡ vectors_lines h moved best top ++ last_line fixed ∷ []
+  vectors : (fixed : Bool) (h : ℕ) (moved : List ℤ) (best : TwoBest) (top : ℤ) → t ≡ tail_of_vectors fixed h moved best top → tail_lines t ≡ vectors_lines h moved best top ++ last_line fixed ∷ []
       → AreVectors ss arcs h moved best top → AreWholeVectors moved best → Shape ss arcs budget t
   single : (line : List ℕ) → tail_lines t ≡ line ∷ [] → declined_in Two budget line ≡ Ok t → Shape ss arcs budget t
 
@@ -96,7 +93,7 @@ tails_same ss arcs budget t u (vectors f h m b x is lines are whole) (vectors f'
     let parts = vectors_same ss arcs h h' m m' b b' x x' (last_line f) (last_line f') are are' whole whole' (sym lines ∙ e ∙ lines') in
     let kinds : Ok f ≡ Ok f' = sym (last_read f) ∙ ap last_in parts.4 ∙ last_read f' in
     let kind : f ≡ f' = cc in
-    is ∙ (λ i. tail_by (kind i) (parts.0 i) (parts.1 i) (parts.2 i) (parts.3 i)) ∙ sym is'
+    is ∙ (λ i. tail_of_vectors (kind i) (parts.0 i) (parts.1 i) (parts.2 i) (parts.3 i)) ∙ sym is'
 tails_same ss arcs budget t u (vectors f h m b x is lines are whole) (single line one read) e = absurd (apart (cons_same _ _ _ _ (sym lines ∙ e ∙ one)).1)
   where
     apart : {y : List ℕ} {ys : List (List ℕ)} → y ∷ ys ≡ [] → ⊥

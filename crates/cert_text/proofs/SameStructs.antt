@@ -1,6 +1,6 @@
 -- Two sessions and two certificates with the same ordinary fields are the same.
-use mathlib.Core.HLevel.{is_prop→PathP}
 use Rattle.std.proofs.Common.{◌≡◌, ◌≤◌, ℕ, length, All}
+use mathlib.Core.HLevel.{is_prop→PathP}
 use Rattle.std.proofs.Props.{props}
 use Rattle.obs_rows.specs.declared.sessions.Session.{Session}
 use Rattle.obs_rows.specs.Ranges.{IsSystem, IsPoint, IsScale}
@@ -13,7 +13,7 @@ use Rattle.obs_rows.specs.Pairs.{ArePairs}
 use Rattle.obs_rows.specs.declared.limits.TheConstants.{MOST_RATIO, MOST_BUDGET}
 use Rattle.cert_lines.proofs.SameStructs.{le_prop, system_prop, rows_prop, shifts_prop, scale_prop, point_prop, arcs_prop, pairs_prop}
 
-fine_prop : (n : ℕ) → IsProp (n ≡ 0)
+pub fine_prop : (n : ℕ) → IsProp (n ≡ 0)
 fine_prop n = Prim.hlevel props
 
 pub session_same : (s t : Session) → s.scale ≡ t.scale → s.system ≡ t.system → s.base ≡ t.base → s.point ≡ t.point → s.signals ≡ t.signals → s.arcs ≡ t.arcs → s.pairs ≡ t.pairs → s ≡ t

@@ -15,7 +15,7 @@ pub rules_built : (options : List Text) → filled_from 1 (rules_with options) �
 rules_built [] = refl
 rules_built (o ∷ options) = ap (λ (rules : List Rule). built_option o ∷ rules) (rules_built options)
 
-is_it : (o name : Text) → bytes_eq o name ≡ true → o ≡ name
+pub is_it : (o name : Text) → bytes_eq o name ≡ true → o ≡ name
 is_it o name same = (bytes_eq-Decides o name).0 same
 
 known : (options : List Text) (name : Text) → is_among name options ≡ true → arg_by_long (built_rules options) name ≡ Some (built_option name)

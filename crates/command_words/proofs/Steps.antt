@@ -53,7 +53,7 @@ pub fails_at : (s : Shape) (w : Walk) (word : Text) (words : List Text) (rows : 
 unfolding walk_fault
 fails_at s w word words rows fails ends = fails (first_is (turn_fault s [] w word) _ ends.passes)
 
-never : {X : Type 0} (b : Bool) (x y : X) → (if b && false then x else y) ≡ y
+pub never : {X : Type 0} (b : Bool) (x y : X) → (if b && false then x else y) ≡ y
 never true x y = refl
 never false x y = refl
 

@@ -1,16 +1,16 @@
 -- What clap makes of the first word and of those after it.
-use Rattle.std.proofs.Common.{◌≡◌, ◌==◌, ◌&&◌, ◌||◌, Bool, true, false, List, [], ◌∷◌, ◌++◌, map, append_assoc, append-nil, Option, Some, None, is_some, if◌then◌else◌, refl, sym, ap, ap₂, ◌∙◌, subst}
+use Rattle.std.proofs.Common.{◌≡◌, ◌==◌, ◌||◌, Bool, true, false, List, [], ◌∷◌, ◌++◌, map, append_assoc, append-nil, Option, Some, None, is_some, refl, sym, ap, ap₂, ◌∙◌, subst}
 use Rattle.std.specs.Prelude.{fold, find, codes}
 use Rattle.std.specs.Str.{bytes_eq}
-use Rattle.std.proofs.lemmas.Slice.Eq.{bytes_eq-Decides}
 use Rattle.clap.specs.Lexer.{long_of, short_of}
 use Rattle.clap.specs.Walk.{Row, Rule, Held, Names, Text, idle, Walk, answers_to, nothing_held, rows_after, walk_from, walk, walked, settled_rows, with_default}
 use Rattle.clap.specs.Simple.{App, Shape, built, built_leaf, entered, inherited, label_of, names_of, subcommand_of}
 use Rattle.clap.specs.Kinds.{Kinds, or_else}
 use Rattle.clap.specs.Faults.{built_fault, entered_fault, fault_of, level_fault, settle_fault, turn_fault, walk_fault, defaults_fault}
 use Rattle.clap.proofs.FaultLemmas.{stopped_fault}
-use Rattle.command_words.specs.Commands.{built_rules, IsCommand, at, Ends, built_shape, command_shape, top_shape, built_top, built_app, app_with, start, is_short, has_short, command_named}
-use Rattle.command_words.proofs.Leaf.{rules_built}
+use Rattle.command_words.specs.Commands.{built_rules, IsCommand, at, Ends, built_shape, command_shape, built_top, built_app, app_with, start, is_short, has_short, command_named}
+use Rattle.command_words.proofs.Leaf.{rules_built, is_it}
+use Rattle.command_words.proofs.Steps.{never}
 
 -- ---- after the command's name
 
@@ -47,9 +47,6 @@ leaf_ends s words h =
     }
 
 -- ---- the table of commands
-
-is_it : (a b : Text) → bytes_eq a b ≡ true → a ≡ b
-is_it a b same = (bytes_eq-Decides a b).0 same
 
 -- the command with that name, among the built ones and among the names
 pub record IsNamed (table : List (Text × List Text)) (name : Text) (options : List Text) : Type 0 where
@@ -98,14 +95,10 @@ unnamed (c ∷ table) name h = go (bytes_eq c.0 name) refl (λ e. unnamed table 
 
 -- ---- the program as clap builds it
 
--- what its commands take from it
-abbrev above : Shape
-above = record top_shape { is_built = true }
-
-each_built : (c : Text × List Text) → built_leaf (inherited above (command_shape c.0 c.1)) ≡ built_shape c
+each_built : (c : Text × List Text) → built_leaf (inherited built_top (command_shape c.0 c.1)) ≡ built_shape c
 each_built c = ap (λ (rules : List Rule). let s : Shape = record (built_shape c) { rules = rules } in s) (rules_built c.1)
 
-all_built : (table : List (Text × List Text)) → map built_leaf (map (inherited above) (map (λ (c : Text × List Text). command_shape c.0 c.1) table)) ≡ map built_shape table
+all_built : (table : List (Text × List Text)) → map built_leaf (map (inherited built_top) (map (λ (c : Text × List Text). command_shape c.0 c.1) table)) ≡ map built_shape table
 all_built [] = refl
 all_built (c ∷ table) = ap₂ (λ (s : Shape) (ss : List Shape). s ∷ ss) (each_built c) (all_built table)
 
@@ -113,10 +106,6 @@ pub app_built : (table : List (Text × List Text)) → built (app_with table) �
 app_built table = ap (λ (subs : List Shape). let a : App = record { top = built_top; subs = subs } in a) (all_built table)
 
 -- ---- the first word
-
-never : {X : Type 0} (b : Bool) (x y : X) → (if b && false then x else y) ≡ y
-never true x y = refl
-never false x y = refl
 
 or_nil : (a : Kinds) → or_else a [] ≡ a
 or_nil [] = refl

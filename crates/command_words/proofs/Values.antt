@@ -4,9 +4,7 @@ use Rattle.std.specs.Str.{bytes_eq}
 use Rattle.std.proofs.lemmas.Slice.Eq.{bytes_eq-Decides}
 use Rattle.clap.specs.Walk.{Row, Text}
 use Rattle.command_words.specs.Commands.{put, values_in}
-
-is_it : (a b : Text) → bytes_eq a b ≡ true → a ≡ b
-is_it a b same = (bytes_eq-Decides a b).0 same
+use Rattle.command_words.proofs.Leaf.{is_it}
 
 pub put_same : (id v : Text) (rows : List Row) → values_in id (put id v rows) ≡ values_in id rows ++ v ∷ []
 put_same id v [] = rw ((bytes_eq-Decides id id).1 refl) refl

@@ -5,7 +5,7 @@ ghost use Rattle.command_words.specs.Numbers.{IsNumber, IsLetter, IsSatellite};
 ghost use Rattle.command_words.specs.Settings.{IsValue};
 
 use crate::settings::Setting;
-use decimal_text::is_digit_byte;
+use decimal_text::{all_digits, is_digit_byte};
 use obs_rows::is_system;
 use rinex_head::System;
 
@@ -14,19 +14,6 @@ use rinex_head::System;
 pub struct Satellite {
     pub system: u8,
     pub number: u8,
-}
-
-fn all_digits(word: &[u8]) -> bool
-    ensures { result ≡ are_digits word.now }
-{
-    let mut rest = word;
-    while let [b, after @ ..] = rest {
-        if !is_digit_byte(*b) {
-            return false;
-        }
-        rest = after;
-    }
-    true
 }
 
 // What 1 to 18 digits stand for.

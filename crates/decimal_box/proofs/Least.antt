@@ -1,7 +1,7 @@
 -- The box of m / 10^p is that of m / 10^38 where p is larger, since both lie between two neighbours.
 use Rattle.std.proofs.Common.{◌≡◌, ℕ, zero, suc, inl, inr, FitsSigned, ◌-◌, ◌*◌, ◌^◌, ◌<◌, ◌≤◌, [], ◌∷◌, ℤ, pos, negsuc, ◌*ℤ◌, neg_ℤ, ◌≤ℤ◌, ◌<ℤ◌, unsigned_abs, subst, subst₂, arith, refl, sym, ap, ◌∙◌, lit<, pow_pos, min, to_z, of_z}
 use Rattle.std.proofs.lemmas.Int.{ints, by_lt_z}
-use Rattle.std.proofs.Math.Nat.{pow-le-pow_right, one-le-pow, min-le_right, min-eq_left, min-eq_right}
+use Rattle.std.proofs.Math.Nat.{pow-le-pow_right, min-le_right, min-eq_left, min-eq_right}
 use Rattle.std.specs.Int.{w64, w128}
 use Rattle.whole_math.specs.Rounding.{floor_div, ceil_div}
 use Rattle.whole_math.proofs.Ring.{◌⊕◌, ◌⊖◌, ◌⊗◌, ng}
@@ -25,9 +25,6 @@ power_high exponent most n h e =
     let r : 10 ^ n ≤ 10 ^ most = pow-le-pow_right (lit< tt) below in
     let s : 10 ^ most ≤ 10 ^ 38 = pow-le-pow_right (lit< tt) h in
     (r, omega (arith, r, s))
-
-pub power_low : (n : ℕ) → 0 < 10 ^ n
-power_low n = let r : 1 ≤ 10 ^ n = one-le-pow n 10 (lit< tt) in omega (arith, r)
 
 pub own_word : (z : ℤ) (p : ℕ) → z ≡ pos p → p ≤ 10 ^ 38 → to_z w128 (of_z w128 z) ≡ pos p
 own_word z p is h = omega (arith, ints, is, h)

@@ -1,5 +1,6 @@
 -- What a text is read as with an exponent, and nothing else.
 use Rattle.std.proofs.Common.{◌≡◌, ℕ, ℤ, pos, ◌+◌, ◌<◌, ◌≤◌, ◌-ℤ◌, Bool, true, false, nat_le, min, Ok, Err, Result, IfOk, List, [], ◌∷◌, ◌++◌, length, refl, sym, ap, subst, ◌∙◌, inl, inr, None, Some, Option, arith}
+use Rattle.std.proofs.lemmas.Bool.{and_parts}
 use Rattle.std.proofs.lemmas.Bool.Decides.{nat_tests}
 use Rattle.decimal_text.specs.declared.exponent.Dec.{Dec}
 use Rattle.decimal_text.specs.declared.fixed.NumberFault.{NumberFault}
@@ -12,7 +13,7 @@ use Rattle.decimal_text.specs.Shapes.{FailsFirst}
 use Rattle.decimal_text.specs.Exp.{is_mark, before_mark, behind_mark, ends_blank, power_of, dec_from, dec_of}
 use Rattle.decimal_text.specs.ExpForm.{IsExp, IsMarked, HasPower, IsReadAsDec}
 use Rattle.decimal_text.proofs.Numbers.{digits_are}
-use Rattle.decimal_text.proofs.FixedWalks.{walk-fixed, capped_from-is, capped_from, first_and, blank_is}
+use Rattle.decimal_text.proofs.FixedWalks.{walk-fixed, capped_from-is, capped_from, blank_is}
 use Rattle.decimal_text.proofs.FixedTakes.{took_start, TookStart}
 use Rattle.decimal_text.proofs.FixedPlaces.{fails_first}
 use Rattle.decimal_text.proofs.FixedReads.{not_blank_text, size_of_signed}
@@ -59,7 +60,7 @@ given_form text e = by (nat_le 1_000_000_000_000_000_000 (digit_sum (e.whole ++ 
 blank_unmarked : (text : List ℕ) → are_blank text ≡ true → behind_mark text ≡ None
 blank_unmarked [] blank = refl
 blank_unmarked (b ∷ bs) blank =
-    let t = first_and (is_blank b) (are_blank bs) blank in
+    let t = and_parts (is_blank b) (are_blank bs) blank in
     let at_32 : b ≡ 32 = blank_is b t.0 in
     rw at_32 (blank_unmarked bs t.1)
 

@@ -1,5 +1,6 @@
 -- Exponents: what is worked out of a text, and where it stops being one.
-use Rattle.std.proofs.Common.{◌≡◌, ◌≢◌, ℕ, ℤ, ◌+◌, ◌-◌, ◌*◌, ◌≤◌, Bool, true, false, ◌==◌, ◌&&◌, List, [], ◌∷◌, ◌++◌, length, refl, sym, ap, subst, length-append, ◌∙◌, inl, inr, arith, Ok, Err, Result}
+use Rattle.std.proofs.Common.{◌≡◌, ◌≢◌, ℕ, ℤ, ◌+◌, ◌-◌, ◌*◌, ◌≤◌, Bool, true, false, ◌==◌, List, [], ◌∷◌, ◌++◌, length, refl, sym, ap, subst, length-append, ◌∙◌, inl, inr, arith, Ok, Err, Result}
+use Rattle.std.proofs.lemmas.Bool.{and_parts, and_from}
 use Rattle.std.proofs.lemmas.Bool.Decides.{nat_tests}
 use Rattle.decimal_text.specs.Whole.{is_digit, are_digits, number_from, digit_sum}
 use Rattle.decimal_text.specs.Fixed.{is_blank, are_blank, signed}
@@ -7,11 +8,8 @@ use Rattle.decimal_text.specs.Shapes.{FailsFirst}
 use Rattle.decimal_text.specs.Exp.{only_blanks, power_digits, signed_power, power_of}
 use Rattle.decimal_text.specs.ExpForm.{IsPower, IsSignedPower}
 use Rattle.decimal_text.proofs.Numbers.{digits_are}
-use Rattle.decimal_text.proofs.FixedWalks.{first_and, blank_is}
+use Rattle.decimal_text.proofs.FixedWalks.{blank_is}
 use Rattle.decimal_text.proofs.ShapesLaws.{fails_behind, fails_alike}
-
-both : (a b : Bool) → a ≡ true → b ≡ true → (a && b) ≡ true
-both a b p q = rw (p, q) refl
 
 -- ---- blanks
 
@@ -20,7 +18,7 @@ AreBlank text = are_blank text ≡ true
 
 blanks_pass : (text : List ℕ) (at n : ℕ) → are_blank text ≡ true → only_blanks text at n ≡ Ok n
 blanks_pass [] at n blank = refl
-blanks_pass (b ∷ bs) at n blank = let t = first_and (is_blank b) (are_blank bs) blank in rw (t.0) (blanks_pass bs (at + 1) n t.1)
+blanks_pass (b ∷ bs) at n blank = let t = and_parts (is_blank b) (are_blank bs) blank in rw (t.0) (blanks_pass bs (at + 1) n t.1)
 
 record BlanksTook (text : List ℕ) (n m : ℕ) : Type 0 where
   blank : are_blank text ≡ true
@@ -34,7 +32,7 @@ blanks_took (b ∷ bs) at n m is = by (is_blank b) refl (λ e. blanks_took bs (a
     by true blank later =
         let step : only_blanks (b ∷ bs) at n ≡ only_blanks bs (at + 1) n = rw blank refl in
         let t = later (sym step ∙ is) in
-        record { blank = both (is_blank b) (are_blank bs) blank t.blank; same = t.same }
+        record { blank = and_from (is_blank b) (are_blank bs) blank t.blank; same = t.same }
     by false blank later = let step : only_blanks (b ∷ bs) at n ≡ Err at = rw blank refl in absurd (cc (step, is))
 
 -- ---- digits after k others
@@ -54,12 +52,12 @@ digits_pass : (power after : List ℕ) (at n k : ℕ) → are_digits power ≡ t
 digits_pass [] [] at n k digits blank some few = let more : (k == 0) ≡ false = grind (arith, nat_tests) in rw more refl
 digits_pass [] (b ∷ bs) at n k digits blank some few =
     let more : (k == 0) ≡ false = grind (arith, nat_tests) in
-    let t = first_and (is_blank b) (are_blank bs) blank in
+    let t = and_parts (is_blank b) (are_blank bs) blank in
     let is : b ≡ 32 = blank_is b t.0 in
     let no_digit : is_digit b ≡ false = rw is refl in
     rw (no_digit, more) (blanks_pass (b ∷ bs) at n blank)
 digits_pass (d ∷ ds) after at n k digits blank some few =
-    let t = first_and (is_digit d) (are_digits ds) digits in
+    let t = and_parts (is_digit d) (are_digits ds) digits in
     let room : (k == 3) ≡ false = grind (arith, nat_tests) in
     rw (t.0, room) (digits_pass ds after (at + 1) (10 * n + (d - 48)) (k + 1) t.1 blank (omega arith) (omega arith))
 
@@ -94,7 +92,7 @@ digits_took (b ∷ bs) at n k m most is = by_digit (is_digit b) refl (λ less e.
           power = b ∷ t.power;
           after = t.after;
           text_is = ap (λ l. b ∷ l) t.text_is;
-          digits = both (is_digit b) (are_digits t.power) digit t.digits;
+          digits = and_from (is_digit b) (are_digits t.power) digit t.digits;
           some = omega (arith, t.some);
           few = omega (arith, t.few);
           blank = t.blank;
@@ -132,7 +130,7 @@ blanks_fail (b ∷ bs) at n i is = by (is_blank b) refl (λ e. blanks_fail bs (a
           p = 1 + t.p;
           at_is = omega (arith, t.at_is);
           fails = fails_behind AreBlank AreBlank (b ∷ [])
-              (λ u h. both (is_blank b) (are_blank u) blank h) (λ u h. (first_and (is_blank b) (are_blank u) h).1) bs t.p t.fails;
+              (λ u h. and_from (is_blank b) (are_blank u) blank h) (λ u h. (and_parts (is_blank b) (are_blank u) h).1) bs t.p t.fails;
         }
     by false blank later =
         let step : only_blanks (b ∷ bs) at n ≡ Err at = rw blank refl in
@@ -146,7 +144,7 @@ blanks_fail (b ∷ bs) at n i is = by (is_blank b) refl (λ e. blanks_fail bs (a
             text_is = refl;
             at_is = refl;
             begun = record { further = []; whole = refl };
-            stuck = λ begun. cc (blank, (first_and (is_blank b) (are_blank begun.further) begun.whole).0);
+            stuck = λ begun. cc (blank, (and_parts (is_blank b) (are_blank begun.further) begun.whole).0);
           };
         }
 
@@ -156,13 +154,13 @@ first_digit k b t h digit less = by h.power h.after h.text_is h.digits h.some h.
   where
     by : (power after : List ℕ) → b ∷ t ≡ power ++ after → are_digits power ≡ true → 1 ≤ k + length power → k + length power ≤ 3 → are_blank after ≡ true → IsRestOfPower (k + 1) t
     by [] after is digits some few blank =
-        let first : is_blank b ≡ true = (first_and (is_blank b) (are_blank t) (ap are_blank is ∙ blank)).0 in
+        let first : is_blank b ≡ true = (and_parts (is_blank b) (are_blank t) (ap are_blank is ∙ blank)).0 in
         let at_32 : b ≡ 32 = blank_is b first in
         let none : is_digit b ≡ false = rw at_32 refl in
         absurd (cc (none, digit))
     by (c ∷ cs) after is digits some few blank =
         let tail : t ≡ cs ++ after = cc in
-        record { power = cs; after = after; text_is = tail; digits = (first_and (is_digit c) (are_digits cs) digits).1; some = omega arith; few = omega arith; blank = blank }
+        record { power = cs; after = after; text_is = tail; digits = (and_parts (is_digit c) (are_digits cs) digits).1; some = omega arith; few = omega arith; blank = blank }
 
 only_blank : (k b : ℕ) (t : List ℕ) (h : IsRestOfPower k (b ∷ t)) → is_digit b ≡ false → are_blank (b ∷ t) ≡ true
 only_blank k b t h digit = by h.power h.after h.text_is h.digits h.blank
@@ -171,7 +169,7 @@ only_blank k b t h digit = by h.power h.after h.text_is h.digits h.blank
     by [] after is digits blank = ap are_blank is ∙ blank
     by (c ∷ cs) after is digits blank =
         let same : b ≡ c = cc in
-        let first : is_digit c ≡ true = (first_and (is_digit c) (are_digits cs) digits).0 in
+        let first : is_digit c ≡ true = (and_parts (is_digit c) (are_digits cs) digits).0 in
         absurd (cc (same, first, digit))
 
 -- no digit has room after three, and no digit is no exponent
@@ -180,7 +178,7 @@ no_room b t h digit = by h.power h.after h.text_is h.few h.blank
   where
     by : (power after : List ℕ) → b ∷ t ≡ power ++ after → 3 + length power ≤ 3 → are_blank after ≡ true → ⊥
     by [] after is few blank =
-        let at_32 : b ≡ 32 = blank_is b (first_and (is_blank b) (are_blank t) (ap are_blank is ∙ blank)).0 in
+        let at_32 : b ≡ 32 = blank_is b (and_parts (is_blank b) (are_blank t) (ap are_blank is ∙ blank)).0 in
         let none : is_digit b ≡ false = rw at_32 refl in
         cc (none, digit)
     by (c ∷ cs) after is few blank = omega arith
@@ -192,7 +190,7 @@ no_first b t h digit = by h.power h.after h.text_is h.digits h.some
     by [] after is digits some = omega arith
     by (c ∷ cs) after is digits some =
         let same : b ≡ c = cc in
-        let first : is_digit c ≡ true = (first_and (is_digit c) (are_digits cs) digits).0 in
+        let first : is_digit c ≡ true = (and_parts (is_digit c) (are_digits cs) digits).0 in
         cc (same, first, digit)
 
 one_digit : (k : ℕ) → k + 1 ≤ 3 → IsRestOfPower k (48 ∷ [])
@@ -206,7 +204,7 @@ with_digit k b u h digit = record {
   power = b ∷ h.power;
   after = h.after;
   text_is = ap (λ l. b ∷ l) h.text_is;
-  digits = both (is_digit b) (are_digits h.power) digit h.digits;
+  digits = and_from (is_digit b) (are_digits h.power) digit h.digits;
   some = omega arith;
   few = omega (arith, h.few);
   blank = h.blank;
@@ -314,7 +312,7 @@ power_first : (b : ℕ) (t power : List ℕ) → IsPower (b ∷ t) power → is_
 power_first b t [] h = let some = h.some in absurd (omega arith)
 power_first b t (c ∷ cs) h =
     let same : b ≡ c = cc (h.text_is) in
-    rw same ((first_and (is_digit c) (are_digits cs) h.digits).0)
+    rw same ((and_parts (is_digit c) (are_digits cs) h.digits).0)
 
 no_plus : (t power : List ℕ) → IsPower (43 ∷ t) power → ⊥
 no_plus t power h = let first = power_first 43 t power h in cc first

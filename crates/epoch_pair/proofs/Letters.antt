@@ -1,7 +1,7 @@
 -- A letter that is found in a list is one of its letters, and what is found on each band fits together.
 use Rattle.std.proofs.Common.{◌≡◌, ◌<◌, ℕ, zero, suc, Bool, true, false, not, ◌&&◌, ◌||◌, List, [], ◌∷◌, Some, IsTrue, arith, refl, ap, sym, ◌∙◌, ⊎_elim, subst}
 use Rattle.std.specs.Prelude.{find, ◌==◌}
-use Rattle.std.proofs.lemmas.Bool.{not-true, cond-true, cond-false, cases_Bool, eq-eqb, eqb-true, false≢true}
+use Rattle.std.proofs.lemmas.Bool.{not-true, cond-true, cond-false, cases_Bool, eq-eqb, eqb-true, false≢true, or_left, or_right}
 use Rattle.std.proofs.lemmas.Option.{none-some, same_Some}
 use Rattle.obs_rows.specs.Letters.{is_letter}
 use Rattle.obs_rows.specs.declared.units.TheConstants.{PHASES, BANDS_12, BANDS_15, BANDS_125}
@@ -12,13 +12,6 @@ use Rattle.obs_rows.specs.declared.band_sets.TheConstants.{BANDS_L1_L2, BANDS_L1
 use Rattle.obs_rows.specs.BandSets.{IsBandsNumber, bands_of, digit_of}
 use Rattle.obs_rows.proofs.BandSetLaws.{each_number}
 use Rattle.epoch_pair.specs.Signals.{is_common, letters_on, letter_on, is_among, IsLetterFor, AreLettersOf}
-
-or_left : (a b : Bool) → a ≡ true → a || b ≡ true
-or_left a b h = ap (λ x. x || b) h
-
-pub or_right : (a b : Bool) → b ≡ true → a || b ≡ true
-or_right true b h = refl
-or_right false b h = h
 
 pub is_letter_found : (p : ℕ → Bool) (letters : List ℕ) (letter : ℕ) → find p letters ≡ Some letter → IsTrue (is_letter letters letter)
 is_letter_found p [] letter is = absurd (none-some letter is)

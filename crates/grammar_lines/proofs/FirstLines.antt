@@ -5,15 +5,12 @@ use Rattle.rinex_head.specs.declared.place.At.{At}
 use Rattle.rinex_head.specs.Places.{and_then, place, at_line}
 use Rattle.rinex_head.specs.Walk.{Rules, admitted, walk}
 use Rattle.rinex_head.proofs.Walks.{walk-takes, walk-took}
-
-pub at_number : {A : Type 0} (n : ℕ) (r : Result A Flaw) (at : At) → at_line n r ≡ Err at → at.line ≡ n
-at_number n (Ok x) at e = absurd cc
-at_number n (Err flaw) at e = let same : place n flaw.column flaw.what ≡ at = cc in ap (λ (a : At). a.line) (sym same)
+use Rattle.rinex_head.proofs.Stops.{at_line-number}
 
 -- the place is after the lines that were read before
 behind_read : {S F : Type 0} (rules : Rules S F) (lines : List (List ℕ)) (n : ℕ) (s : S) (at : At) → walk rules lines n s ≡ Err at → n < at.line
 unfolding walk
-behind_read rules [] n s at e = let number = at_number (n + 1) (rules.finish s) at e in omega (arith, number)
+behind_read rules [] n s at e = let number = at_line-number (n + 1) (rules.finish s) at e in omega (arith, number)
 behind_read {S} {F} rules (line ∷ lines) n s at e = by_first (λ next. behind_read rules lines (n + 1) next at) (admitted rules s line) e
   where
     by_first : ((next : S) → walk rules lines (n + 1) next ≡ Err at → n + 1 < at.line) → (r : Result S Flaw)

@@ -3,8 +3,8 @@ use Rattle.std.proofs.Common.{◌≡◌, ℕ, zero, suc, ◌+◌, ◌-◌, ◌<�
 use Rattle.std.proofs.lemmas.Int.{ints}
 use Rattle.whole_math.specs.Vectors.{dot}
 use Rattle.quadratic_form.specs.Elimination.{Factor}
-use Rattle.quadratic_form.specs.Places.{list_from, form_from}
-use Rattle.quadratic_form.specs.LowerSums.{lower_sum, Small, SmallList, SmallForm}
+use Rattle.quadratic_form.specs.Places.{list_from}
+use Rattle.quadratic_form.specs.LowerSums.{lower_sum, Small}
 use Rattle.quadratic_form.proofs.Ranges.{steps_range}
 use Rattle.form_tables.specs.Tables.{entry}
 use Rattle.integer_form.specs.declared.form.Form.{Form}
@@ -12,6 +12,7 @@ use Rattle.integer_form.specs.Factors.{factor_at, stored}
 use Rattle.integer_form.specs.Kept.{constant_form}
 use Rattle.integer_form.specs.Forms.{integers_of, columns_of, value_of, factors_of}
 use Rattle.integer_form.proofs.FormLaws.{lower_sums_below}
+use Rattle.elimination.proofs.FinishLaws.{small_form}
 use Rattle.int_search.specs.Suffixes.{IsSearchable, low, rest, weight, no_factor}
 use Rattle.int_search.specs.Vectors.{suffix}
 use Rattle.int_search.specs.SearchedForm.{search_form}
@@ -35,17 +36,6 @@ get_stored d l columns j (suc n) (suc i) other h = get_stored d l columns (suc j
     at = omega arith
 
 -- ---- what the entries of p leave is small
-small_of : (x : ℤ) → unsigned_abs x < 2 ^ 52 → Small x
-small_of x h = (omega (arith, ints), omega (arith, ints))
-
-small_list : (f : ℕ → ℤ) (j k : ℕ) → ((c : ℕ) → unsigned_abs (f c) < 2 ^ 52) → SmallList (list_from f j k)
-small_list f j zero h = tt
-small_list f j (suc k) h = (small_of (f j) (h j), small_list f (suc j) k h)
-
-small_form : (e : ℕ → ℕ → ℤ) (j k : ℕ) → ((r c : ℕ) → unsigned_abs (e r c) < 2 ^ 52) → SmallForm (form_from e j k)
-small_form e j zero h = tt
-small_form e j (suc k) h = (small_of (e j j) (h j j), small_list (e j) (suc j) k (h j), small_form e (suc j) k h)
-
 g_small : (f : Form) → unsigned_abs f.g < 2 ^ 52
 g_small f = within f.g (steps_range 3 (integers_of f) (columns_of f) (factors_of f, constant_form f.g) f.eliminated (small_form (entry f.p) 0 (f.columns - 3) f.entries_in)).1.0
   where

@@ -23,7 +23,7 @@ pub product_step : (r z : List ℤ) (k n : ℕ) → k < n → n ≤ length z →
     dot (drop k r) (suffix z k n) ≡ (get_or r k (pos 0) *ℤ get_or z k (pos 0)) +ℤ dot (drop (k + 1) r) (suffix z (k + 1) n)
 product_step r z k n h g m = ap₂ (λ u v. dot u v) (drop_at r k (omega arith)) (suffix-cons z k n h g)
 
-dot_nil : (r : List ℤ) → dot r [] ≡ pos 0
+pub dot_nil : (r : List ℤ) → dot r [] ≡ pos 0
 dot_nil [] = refl
 dot_nil (x ∷ r) = refl
 

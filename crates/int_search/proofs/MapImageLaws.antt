@@ -1,5 +1,5 @@
 -- Images under a map in a table, and the value of the form at them.
-use Rattle.std.proofs.Common.{ℕ, zero, suc, ◌≡◌, ◌+◌, ◌<◌, ◌≤◌, List, [], ◌∷◌, length, take, get_or, ℤ, pos, ◌+ℤ◌, ◌*ℤ◌, arith, sym, ap, ap₂, ◌∙◌, refl}
+use Rattle.std.proofs.Common.{ℕ, zero, suc, ◌≡◌, ◌+◌, ◌<◌, ◌≤◌, List, [], ◌∷◌, length, take, get_or, ℤ, pos, ◌+ℤ◌, ◌*ℤ◌, arith, sym, ap, ap₂, ◌∙◌, refl, add-zero}
 use Rattle.whole_math.proofs.Inequalities.{same_by, nat}
 use Rattle.whole_math.proofs.Ring.{◌⊕◌, ◌⊗◌}
 use Rattle.whole_math.specs.Vectors.{dot}
@@ -14,24 +14,18 @@ use Rattle.int_search.specs.Sums.{total}
 use Rattle.int_search.specs.Transformed.{transformed_form}
 use Rattle.int_search.proofs.TotalLaws.{dot_total}
 use Rattle.int_search.proofs.TransformedLaws.{transformed_value}
-
-dot_none : (r : List ℤ) → dot r [] ≡ pos 0
-dot_none [] = refl
-dot_none (x ∷ r) = refl
+use Rattle.int_search.proofs.ImageLaws.{dot_nil}
 
 next : (b j : ℕ) → b + suc j ≡ suc b + j
 next b j = omega arith
 
-plain : (b : ℕ) → b + 0 ≡ b
-plain b = omega arith
-
 dot_row : (r v : List ℤ) (f : ℕ → ℤ) (b n : ℕ) → length v ≡ n → ((j : ℕ) → get_or r j (pos 0) ≡ f (b + j)) → dot r v ≡ dot (list_from f b n) v
-dot_row r [] f b zero e h = dot_none r
+dot_row r [] f b zero e h = dot_nil r
 dot_row r [] f b (suc n) e h = absurd (omega arith)
 dot_row r (y ∷ v) f b zero e h = absurd (omega arith)
-dot_row [] (y ∷ v) f b (suc n) e h = sym (ap₂ (λ p q. (p *ℤ y) +ℤ q) (sym (h 0 ∙ ap f (plain b))) (sym (dot_row [] v f (suc b) n (omega arith) (λ j. h (suc j) ∙ ap f (next b j))))
+dot_row [] (y ∷ v) f b (suc n) e h = sym (ap₂ (λ p q. (p *ℤ y) +ℤ q) (sym (h 0 ∙ ap f (add-zero b))) (sym (dot_row [] v f (suc b) n (omega arith) (λ j. h (suc j) ∙ ap f (next b j))))
     ∙ same_by (y ∷ []) (λ y. (nat 0 ⊗ y ⊕ nat 0, nat 0)) refl)
-dot_row (x ∷ r) (y ∷ v) f b (suc n) e h = ap₂ (λ p q. (p *ℤ y) +ℤ q) (h 0 ∙ ap f (plain b)) (dot_row r v f (suc b) n (omega arith) (λ j. h (suc j) ∙ ap f (next b j)))
+dot_row (x ∷ r) (y ∷ v) f b (suc n) e h = ap₂ (λ p q. (p *ℤ y) +ℤ q) (h 0 ∙ ap f (add-zero b)) (dot_row r v f (suc b) n (omega arith) (λ j. h (suc j) ∙ ap f (next b j)))
 
 image_rows : (rows : List (List ℤ)) (e : ℕ → ℕ → ℤ) (a k n : ℕ) (v : List ℤ) → k ≤ length rows → length v ≡ n → ((i j : ℕ) → get_or (get_or rows i []) j (pos 0) ≡ e (a + i) j) →
     apply (take k rows) v ≡ apply (rows_from e n a k) v
@@ -41,7 +35,7 @@ image_rows rows e a zero n v h g s = ap (λ t. apply t v) (none rows)
     none [] = refl
     none (r ∷ rows) = refl
 image_rows [] e a (suc k) n v h g s = absurd (omega arith)
-image_rows (r ∷ rows) e a (suc k) n v h g s = ap₂ (λ x t. x ∷ t) (dot_row r v (e a) 0 n g (λ j. s 0 j ∙ ap₂ (λ i k. e i k) (plain a) (none j)))
+image_rows (r ∷ rows) e a (suc k) n v h g s = ap₂ (λ x t. x ∷ t) (dot_row r v (e a) 0 n g (λ j. s 0 j ∙ ap₂ (λ i k. e i k) (add-zero a) (none j)))
     (image_rows rows e (suc a) k n v (omega arith) g (λ i j. s (suc i) j ∙ ap (λ i. e i j) (next a i)))
   where
     none : (j : ℕ) → j ≡ 0 + j
@@ -60,7 +54,7 @@ block_length e n a (suc k) z = ap suc (block_length e n (suc a) k z)
 
 image_item : (e : ℕ → ℕ → ℤ) (n a k b : ℕ) (z : List ℤ) → b < k → get_or (apply (rows_from e n a k) z) b (pos 0) ≡ dot (list_from (e (a + b)) 0 n) z
 image_item e n a zero b z h = absurd (omega arith)
-image_item e n a (suc k) zero z h = ap (λ i. dot (list_from (e i) 0 n) z) (sym (plain a))
+image_item e n a (suc k) zero z h = ap (λ i. dot (list_from (e i) 0 n) z) (sym (add-zero a))
 image_item e n a (suc k) (suc b) z h = image_item e n (suc a) k b z (omega arith) ∙ ap (λ i. dot (list_from (e i) 0 n) z) (sym (next a b))
 
 pub reduced_value : (n : ℕ) (map p : List (List ℤ)) (z : List ℤ) → IsSymmetric p → length z ≡ n → value (transformed_form n map p) z ≡ value (form_from (entry p) 0 (n + 1)) (apply (block n map) z)

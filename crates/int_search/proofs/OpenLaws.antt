@@ -1,10 +1,10 @@
 -- What a turn opens and closes.
 use Rattle.std.proofs.Common.{◌≡◌, ◌≢◌, ◌⊎◌, inl, inr, ℕ, ◌+◌, List, [], ◌∷◌, ◌++◌, length, ℤ, pos, ◌*ℤ◌, ◌<ℤ◌, arith, refl, ap, sym, subst, ◌∙◌, ◌≤◌, ◌≤ℤ◌, length-append, append_assoc, ◌^◌, All}
 use Rattle.std.specs.List.{Contains}
-use Rattle.whole_math.proofs.Order.{polys}
 use Rattle.std.proofs.lemmas.Int.{ints}
 use Rattle.std.proofs.lemmas.List.Elements.{All-cons}
 use Rattle.std.proofs.lemmas.List.Kept.{AllPairs-cons}
+use Rattle.whole_math.proofs.Order.{polys}
 use Rattle.quadratic_form.specs.Rows.{value}
 use Rattle.int_search.specs.Suffixes.{SearchForm, IsSearchable, low}
 use Rattle.int_search.specs.PlainCount.{Counts, IsOver}

@@ -34,7 +34,7 @@ own_less form map v w o a b h = subst (λ (x : List ℤ). (value (columns_of for
     (subst (λ (x : List ℤ). (value (columns_of form) v <ℤ value (columns_of form) w) ⊎ ((value (columns_of form) v ≡ value (columns_of form) w) × Before (search_image form map v) x))
     (own_image form map w o b) h)
 
-length_of : (v : List ℤ) (n : ℕ) → len v ≡ pos n → length v ≡ n
+pub length_of : (v : List ℤ) (n : ℕ) → len v ≡ pos n → length v ≡ n
 length_of v n e = pos_same (length v) n (sym (len_is v) ∙ e)
   where
     pos_same : (a b : ℕ) → pos a ≡ pos b → a ≡ b

@@ -36,6 +36,7 @@ use Rattle.int_search.specs.declared.answer.SearchFault.{SearchFault}
 use Rattle.int_search.specs.declared.answer.SearchFault.TheVariants.{Spent, Overwidth}
 use Rattle.int_search.proofs.SuffixArrays.{suffix-all}
 use Rattle.int_search.proofs.ImageLaws.{image_length}
+use Rattle.int_search.proofs.PlainLaws.{length_of}
 
 -- ---- what the search needs of the map
 pub reduced_can : (f : Form) (map back : List (List ℤ)) → 4 < f.columns → IsMap map → Undoes (integers_of f) back map → CanSearch f map
@@ -54,12 +55,6 @@ reduced_can f map back h m u =
     }
 
 -- ---- the two least
-length_of : (v : List ℤ) (n : ℕ) → len v ≡ pos n → length v ≡ n
-length_of v n e = pos_same (length v) n (sym (len_is v) ∙ e)
-  where
-    pos_same : (a b : ℕ) → pos a ≡ pos b → a ≡ b
-    pos_same a b e = cc
-
 -- f is the form itself, r the form in the coordinates of u
 pub record IsDecorrelated (f r : Form) (u : Unimodular) : Type 0 where
   pub some : 4 < f.columns

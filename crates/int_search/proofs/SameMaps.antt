@@ -1,5 +1,6 @@
 -- Two maps with the same entries inside give the same form and the same images.
-use Rattle.std.proofs.Common.{ℕ, zero, suc, nat_lt, nat_eq, true, false, ◌≡◌, ◌⊎◌, ⊎_elim, ◌+◌, ◌<◌, ◌≤◌, ◌^◌, List, ◌∷◌, ℤ, pos, ◌*ℤ◌, unsigned_abs, arith, sym, ap, ap₂, ◌∙◌, refl, subst}
+use Rattle.std.proofs.Common.{ℕ, zero, suc, nat_eq, true, false, ◌≡◌, ⊎_elim, ◌+◌, ◌<◌, ◌≤◌, ◌^◌, List, ◌∷◌, ℤ, pos, ◌*ℤ◌, unsigned_abs, arith, sym, ap, ap₂, ◌∙◌, refl, subst}
+use Rattle.std.proofs.lemmas.Bool.{cases_lt, lt-ltb, le-ltb}
 use Rattle.quadratic_form.proofs.Places.{list_same, form_same}
 use Rattle.form_tables.specs.Tables.{entry}
 use Rattle.decorrelate.specs.Inverses.{rows_from, block}
@@ -7,20 +8,11 @@ use Rattle.int_search.specs.Transformed.{with_constant, half_entry, transformed_
 use Rattle.int_search.proofs.TotalLaws.{total_same}
 use Rattle.int_search.proofs.TransformedLaws.{inside}
 
-side : (i n : ℕ) → (i < n) ⊎ (n ≤ i)
-side i n = grind arith
-
-below : (i n : ℕ) → i < n → nat_lt i n ≡ true
-below i n h = grind arith
-
-at_least : (i n : ℕ) → n ≤ i → nat_lt i n ≡ false
-at_least i n h = grind arith
-
 beside : (n : ℕ) (m : ℕ → ℕ → ℤ) (i j : ℕ) → i < n → n ≤ j → with_constant n m i j ≡ pos 0
-beside n m i j h g = rw (below i n h, at_least j n g, with_constant) refl
+beside n m i j h g = rw (lt-ltb i n h, le-ltb j n g, with_constant) refl
 
 under : (n : ℕ) (m : ℕ → ℕ → ℤ) (i j : ℕ) → n ≤ i → with_constant n m i j ≡ (elim (nat_eq i j) as (λ b. ℤ) [ true ↦ pos 1 | false ↦ pos 0 ])
-under n m i j h = rw (at_least i n h, with_constant) refl
+under n m i j h = rw (le-ltb i n h, with_constant) refl
 
 -- the entries inside are the same
 abbrev pub AreSameInside : ℕ → (ℕ → ℕ → ℤ) → (ℕ → ℕ → ℤ) → Type 0
@@ -28,8 +20,8 @@ AreSameInside n m k = (i c : ℕ) → i < n → c < n → m i c ≡ k i c
 
 constants_same : (n : ℕ) (m k : ℕ → ℕ → ℤ) → AreSameInside n m k → (i j : ℕ) → with_constant n m i j ≡ with_constant n k i j
 constants_same n m k e i j = ⊎_elim
-    (λ (h : i < n). ⊎_elim (λ (g : j < n). inside n m i j h g ∙ e i j h g ∙ sym (inside n k i j h g)) (λ (g : n ≤ j). beside n m i j h g ∙ sym (beside n k i j h g)) (side j n))
-    (λ (h : n ≤ i). under n m i j h ∙ sym (under n k i j h)) (side i n)
+    (λ (h : i < n). ⊎_elim (λ (g : j < n). inside n m i j h g ∙ e i j h g ∙ sym (inside n k i j h g)) (λ (g : n ≤ j). beside n m i j h g ∙ sym (beside n k i j h g)) (cases_lt j n))
+    (λ (h : n ≤ i). under n m i j h ∙ sym (under n k i j h)) (cases_lt i n)
 
 halves_same : (n : ℕ) (m k p : ℕ → ℕ → ℤ) → AreSameInside n m k → (a j : ℕ) → half_entry n m p a j ≡ half_entry n k p a j
 halves_same n m k p e a j = total_same (λ b. with_constant n m b j *ℤ p a b) (λ b. with_constant n k b j *ℤ p a b) 0 (n + 1) (λ b h g. ap (λ z. z *ℤ p a b) (constants_same n m k e b j))

@@ -1,8 +1,8 @@
 -- The search's state over its turns.
 use Rattle.std.proofs.Common.{◌≡◌, ◌⊎◌, inl, inr, ℕ, ◌+◌, ◌<◌, ◌≤◌, ◌^◌, List, [], ◌∷◌, length, ℤ, pos, ◌+ℤ◌, ◌*ℤ◌, ◌<ℤ◌, ◌≤ℤ◌, arith, refl, ap, unsigned_abs}
-use Rattle.std.proofs.lemmas.Int.{ints}
 use Rattle.std.proofs.lemmas.List.Elements.{All-nil}
 use Rattle.whole_math.proofs.Order.{polys}
+use Rattle.whole_math.proofs.Inequalities.{le_refl_ℤ, le_trans_ℤ}
 use Rattle.quadratic_form.specs.Rows.{value}
 use Rattle.int_search.specs.Suffixes.{SearchForm, IsSearchable, low, offset, weight}
 use Rattle.int_search.specs.PlainCount.{AreAtMost, Counts, IsOver, HasLarge, top}
@@ -53,9 +53,6 @@ search_pop f im a r s one two n c h k m far = record {
     go v g (inl o) = inl o
     go v g (inr o) = pop_settles f im a r s one two v h g past o
 
-le_same : (a : ℤ) → a ≤ℤ a
-le_same a = omega (arith, ints)
-
 pub search_inner : (f : SearchForm) (im : List ℤ → List ℤ) (a b c : Level) (r : List Level) (x : ℤ) (s one two : List ℤ) (n : ℕ) → IsSearch f im (a ∷ r) s one two n → Takes a x b →
     IsLevel f b s → IsLevel f c (x ∷ s) → ((y : ℤ) → IsFree c y) →
     low f (x ∷ s) ≤ℤ (pos (2 ^ 60) *ℤ value f.p two) → IsSearch f im (c ∷ b ∷ r) (x ∷ s) one two (n + 1)
@@ -68,7 +65,7 @@ search_inner f im a b c r x s one two n k t fb fc all l = record {
   covered = record { each = λ v g. go v g (k.covered.each v g) };
   visited = visited_more f (value f.p two) (value f.p two) (a ∷ r) (c ∷ b ∷ r) s (x ∷ s) n (x ∷ s) (open_head a r x s t.was_free) (counts_from f x s two k.levels.0.shorter l k.bound)
       (inner_closed f a b c r x s k.levels.1 t) (λ v. inner_before a b c r x s v t)
-      (le_same (value f.p two)) (λ v m. inner_after a b c r x s v t all) k.visited;
+      (le_refl_ℤ (value f.p two)) (λ v m. inner_after a b c r x s v t all) k.visited;
 }
   where
     longer : (v : List ℤ) → length v ≡ f.size → (v ≡ x ∷ s) ⊎ IsOpen (c ∷ b ∷ r) (x ∷ s) v → IsOpen (c ∷ b ∷ r) (x ∷ s) v
@@ -79,9 +76,6 @@ search_inner f im a b c r x s one two n k t fb fc all l = record {
     go v g (inl o) = inl o
     go v g (inr o) = inr (longer v g (inner_after a b c r x s v t all o))
 
-le_chain : (a b c : ℤ) → a ≤ℤ b → b ≤ℤ c → a ≤ℤ c
-le_chain a b c h k = omega (arith, ints)
-
 pub offer_first : (f : SearchForm) (im : List ℤ → List ℤ) (one two z : List ℤ) → length one ≡ f.size → length z ≡ f.size → IsLess f im one two → IsLess f im z one → IsOffered f im one two z z one
 offer_first f im one two z a b o h = record { one_size = b; two_size = a; ordered = h; bound = less_le f im one two o; kept = λ v. settled_first f im one two z v o; offered = inl refl }
 
@@ -90,7 +84,7 @@ offer_second f im one two z a b o h = record { one_size = a; two_size = b; order
 
 pub offer_none : (f : SearchForm) (im : List ℤ → List ℤ) (one two z : List ℤ) → length one ≡ f.size → length two ≡ f.size → IsLess f im one two → IsSettled f im one two z →
     IsOffered f im one two z one two
-offer_none f im one two z a b o h = record { one_size = a; two_size = b; ordered = o; bound = le_same (value f.p two); kept = λ v k. k; offered = h }
+offer_none f im one two z a b o h = record { one_size = a; two_size = b; ordered = o; bound = le_refl_ℤ (value f.p two); kept = λ v k. k; offered = h }
 
 pub search_leaf : (f : SearchForm) (im : List ℤ → List ℤ) (a b : Level) (r : List Level) (x : ℤ) (s one two new_one new_two : List ℤ) (n : ℕ) → IsSearch f im (a ∷ r) s one two n →
     Takes a x b → IsLevel f b s → length s + 1 ≡ f.size →
@@ -99,7 +93,7 @@ search_leaf f im a b r x s one two new_one new_two n k t fb e l o = record {
   one_size = o.one_size;
   two_size = o.two_size;
   ordered = o.ordered;
-  bound = le_chain (value f.p new_two) (value f.p two) (top f) o.bound k.bound;
+  bound = le_trans_ℤ o.bound k.bound;
   levels = (fb, k.levels.1);
   covered = record { each = λ v g. go v g (k.covered.each v g) };
   visited = visited_more f (value f.p two) (value f.p new_two) (a ∷ r) (b ∷ r) s s n (x ∷ s) (open_head a r x s t.was_free) (counts_from f x s two k.levels.0.shorter l k.bound)

@@ -3,6 +3,7 @@ use Rattle.std.proofs.Common.{◌≡◌, ◌⊎◌, inl, inr, ℕ, zero, suc, �
 use Rattle.std.proofs.Common.{◌∙◌, subst, unsigned_abs}
 use Rattle.whole_math.proofs.Absolute.{neg_square}
 use Rattle.whole_math.proofs.Order.{lins, polys, mul_nn, square_nn, mul_le_left, mul_le_right}
+use Rattle.whole_math.proofs.Inequalities.{one_nn}
 use Rattle.quadratic_form.specs.Elimination.{Factor}
 use Rattle.quadratic_form.specs.Rows.{value}
 use Rattle.quadratic_form.specs.LowerSums.{lower_sum}
@@ -54,16 +55,13 @@ weight_to f s h k = let e = h.each in h.weights_to (f.size - 1 - length s) no_fa
 le_more : (a b d : ℤ) → a ≤ℤ b → pos 0 ≤ℤ d → a ≤ℤ (b +ℤ d)
 le_more a b d h k = omega (arith, lins)
 
-nn_from : (w : ℤ) → pos 1 ≤ℤ w → pos 0 ≤ℤ w
-nn_from w h = omega (arith, lins)
-
 pub low_grows : (f : SearchForm) → IsSearchable f → (t s : List ℤ) → length (t ++ s) ≤ f.size → low f s ≤ℤ low f (t ++ s)
 low_grows f h [] s k = omega (arith, lins)
 low_grows f h (x ∷ t) s k =
     rw (low-cons f x (t ++ s) h.each (omega arith))
     (le_more (low f s) (low f (t ++ s)) (weight f (t ++ s) *ℤ (offset f x (t ++ s) *ℤ offset f x (t ++ s)))
     (low_grows f h t s (omega arith))
-    (mul_nn (weight f (t ++ s)) (offset f x (t ++ s) *ℤ offset f x (t ++ s)) (nn_from (weight f (t ++ s)) (weight_from f (t ++ s) h (omega arith))) (square_nn (offset f x (t ++ s)))))
+    (mul_nn (weight f (t ++ s)) (offset f x (t ++ s) *ℤ offset f x (t ++ s)) (one_nn (weight_from f (t ++ s) h (omega arith))) (square_nn (offset f x (t ++ s)))))
 
 -- no lower sum is below that of the empty suffix
 pub low_from : (f : SearchForm) (s : List ℤ) → IsSearchable f → length s ≤ f.size → (pos (2 ^ 60) *ℤ f.g) ≤ℤ low f s
@@ -88,7 +86,7 @@ square_from c x (inr (inr (inl h))) = let p : (neg_ℤ c *ℤ neg_ℤ c) ≤ℤ 
 square_from c x (inr (inr (inr h))) = let p : (neg_ℤ c *ℤ neg_ℤ c) ≤ℤ (neg_ℤ x *ℤ neg_ℤ x) = square_up (neg_ℤ c) (neg_ℤ x) (omega (arith, lins)) (omega (arith, lins)) in
     omega (arith, lins, neg_square c, neg_square x)
 
-offset_mono : (f : SearchForm) (x y : ℤ) (s : List ℤ) → x ≤ℤ y → offset f x s ≤ℤ offset f y s
+pub offset_mono : (f : SearchForm) (x y : ℤ) (s : List ℤ) → x ≤ℤ y → offset f x s ≤ℤ offset f y s
 offset_mono f x y s h = rw (offset-is f x s, offset-is f y s) (step x y (rest f s) h)
   where
     step : (x y e : ℤ) → x ≤ℤ y → ((pos (2 ^ 30) *ℤ x) +ℤ e) ≤ℤ ((pos (2 ^ 30) *ℤ y) +ℤ e)
@@ -102,7 +100,7 @@ pub record IsNearest (a : Level) (c : ℤ) : Type 0 where
 pub far_all : (f : SearchForm) (a : Level) (s : List ℤ) (c limit : ℤ) → IsSearchable f → IsLevel f a s → IsNearest a c →
     limit <ℤ (low f s +ℤ (weight f s *ℤ (c *ℤ c))) → (y : ℤ) → IsFree a y → limit <ℤ low f (y ∷ s)
 far_all f a s c limit h k n l y free =
-    let w : pos 0 ≤ℤ weight f s = nn_from (weight f s) (weight_from f s h k.shorter) in
+    let w : pos 0 ≤ℤ weight f s = one_nn (weight_from f s h k.shorter) in
     let q : (c *ℤ c) ≤ℤ (offset f y s *ℤ offset f y s) = square_from c (offset f y s) (sides n.nearest free) in
     let p : (weight f s *ℤ (c *ℤ c)) ≤ℤ (weight f s *ℤ (offset f y s *ℤ offset f y s)) = mul_le_left (weight f s) (c *ℤ c) (offset f y s *ℤ offset f y s) w q in
     rw (low-cons f y s h.each k.shorter) (omega (arith, lins))

@@ -1,6 +1,7 @@
 -- The form in the coordinates of a map has at each vector the value that the form has at its image.
-use Rattle.std.proofs.Common.{ℕ, zero, suc, nat_lt, nat_eq, true, false, ◌≡◌, ◌⊎◌, inl, inr, ⊎_elim, ◌+◌, ◌<◌, ◌≤◌, List, [], ◌∷◌, ◌++◌, length, get_or, ℤ, pos, ◌+ℤ◌, ◌*ℤ◌, arith, sym}
+use Rattle.std.proofs.Common.{ℕ, zero, suc, nat_lt, nat_eq, false, ◌≡◌, ◌⊎◌, inl, inr, ⊎_elim, ◌+◌, ◌<◌, ◌≤◌, List, [], ◌∷◌, ◌++◌, length, get_or, ℤ, pos, ◌+ℤ◌, ◌*ℤ◌, arith, sym}
 use Rattle.std.proofs.Common.{ap, ap₂, ◌∙◌, refl, length-append}
+use Rattle.std.proofs.lemmas.Bool.{lt-ltb, eq-eqb}
 use Rattle.whole_math.proofs.Inequalities.{same_by, nat}
 use Rattle.whole_math.proofs.Ring.{◌⊕◌, ◌⊗◌}
 use Rattle.whole_math.proofs.IntLaws.{mul_comm_ℤ}
@@ -69,29 +70,23 @@ one_last n z e = ap (λ c. get_or (z ++ (pos 1 ∷ [])) c (pos 0)) (sym e) ∙ g
     go [] = refl
     go (x ∷ z) = go z
 
-less : (i n : ℕ) → i < n → nat_lt i n ≡ true
-less i n h = grind arith
-
 not_less : (n : ℕ) → nat_lt n n ≡ false
 not_less n = grind arith
-
-equal : (n : ℕ) → nat_eq n n ≡ true
-equal n = grind arith
 
 unequal : (n j : ℕ) → j < n → nat_eq n j ≡ false
 unequal n j h = grind arith
 
 pub inside : (n : ℕ) (m : ℕ → ℕ → ℤ) (i j : ℕ) → i < n → j < n → with_constant n m i j ≡ m i j
-inside n m i j h g = rw (less i n h, less j n g, with_constant) refl
+inside n m i j h g = rw (lt-ltb i n h, lt-ltb j n g, with_constant) refl
 
 pub beside : (n : ℕ) (m : ℕ → ℕ → ℤ) (i : ℕ) → i < n → with_constant n m i n ≡ pos 0
-beside n m i h = rw (less i n h, not_less n, with_constant) refl
+beside n m i h = rw (lt-ltb i n h, not_less n, with_constant) refl
 
 pub below : (n : ℕ) (m : ℕ → ℕ → ℤ) (j : ℕ) → j < n → with_constant n m n j ≡ pos 0
 below n m j h = rw (not_less n, unequal n j h, with_constant) refl
 
 pub corner : (n : ℕ) (m : ℕ → ℕ → ℤ) → with_constant n m n n ≡ pos 1
-corner n m = rw (not_less n, equal n, with_constant) refl
+corner n m = rw (not_less n, eq-eqb n n refl, with_constant) refl
 
 image_before : (n : ℕ) (m : ℕ → ℕ → ℤ) (z : List ℤ) (b : ℕ) → length z ≡ n → b < n → image n m (with_one z) b ≡ total (λ j. m b j *ℤ get_or z j (pos 0)) 0 n
 image_before n m z b e h = total_last (λ j. with_constant n m b j *ℤ with_one z j) 0 n

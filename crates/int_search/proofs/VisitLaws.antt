@@ -12,7 +12,7 @@ use Rattle.int_search.specs.Order.{IsLess}
 use Rattle.int_search.specs.Levels.{tail_of, IsFree, IsOpenAt, IsOpen, IsLevel, AreUnder, AreLevels}
 use Rattle.int_search.specs.Search.{IsMet, IsSearch}
 use Rattle.int_search.specs.declared.stack.Level.{Level}
-use Rattle.int_search.proofs.SuffixLaws.{offset-is, IsNearest}
+use Rattle.int_search.proofs.SuffixLaws.{offset-is, IsNearest, offset_mono}
 use Rattle.int_search.proofs.OpenLaws.{same_heads, between_not_free, along_free}
 use Rattle.int_search.proofs.OrderLaws.{less_le, less_apart}
 use Rattle.int_search.proofs.Counting.{within_most}
@@ -25,16 +25,10 @@ offsets f x y s h = subst (λ (v : ℤ). (offset f x s +ℤ pos (2 ^ 30)) ≤ℤ
     step : (x y e : ℤ) → x <ℤ y → (((pos (2 ^ 30) *ℤ x) +ℤ e) +ℤ pos (2 ^ 30)) ≤ℤ ((pos (2 ^ 30) *ℤ y) +ℤ e)
     step x y e h = omega (arith, polys)
 
-rising : (f : SearchForm) (x y : ℤ) (s : List ℤ) → x ≤ℤ y → offset f x s ≤ℤ offset f y s
-rising f x y s h = subst (λ (v : ℤ). offset f x s ≤ℤ v) (sym (offset-is f y s)) (subst (λ (u : ℤ). u ≤ℤ ((pos (2 ^ 30) *ℤ y) +ℤ rest f s)) (sym (offset-is f x s)) (step x y (rest f s) h))
-  where
-    step : (x y e : ℤ) → x ≤ℤ y → ((pos (2 ^ 30) *ℤ x) +ℤ e) ≤ℤ ((pos (2 ^ 30) *ℤ y) +ℤ e)
-    step x y e h = omega (arith, polys)
-
 -- an entry that isn't taken is at an end of the level or past it
 past_end : (f : SearchForm) (a : Level) (s : List ℤ) (y : ℤ) → IsLevel f a s → IsFree a y → (a.up_offset ≤ℤ offset f y s) ⊎ (offset f y s ≤ℤ a.down_offset)
-past_end f a s y k (inl d) = inr (subst (λ (u : ℤ). offset f y s ≤ℤ u) (sym k.down_offset_is) (rising f y a.down s d))
-past_end f a s y k (inr u) = inl (subst (λ (v : ℤ). v ≤ℤ offset f y s) (sym k.up_offset_is) (rising f a.up y s u))
+past_end f a s y k (inl d) = inr (subst (λ (u : ℤ). offset f y s ≤ℤ u) (sym k.down_offset_is) (offset_mono f y a.down s d))
+past_end f a s y k (inr u) = inl (subst (λ (v : ℤ). v ≤ℤ offset f y s) (sym k.up_offset_is) (offset_mono f a.up y s u))
 
 taken_nearer : (f : SearchForm) (a : Level) (s : List ℤ) (x y : ℤ) → IsLevel f a s → a.down <ℤ x → x <ℤ a.up → IsFree a y → unsigned_abs (offset f x s) ≤ unsigned_abs (offset f y s)
 taken_nearer f a s x y k h g free =

@@ -1,15 +1,8 @@
 -- A number that fits a word is the word's value.
 use Rattle.std.proofs.Common.{◌≡◌, ℕ, ◌+◌, ◌*◌, ◌^◌, ◌<◌, ◌≤◌, ℤ, ◌+ℤ◌, unsigned_abs, arith, to_z, of_z}
 use Rattle.std.proofs.lemmas.Int.{ints}
-use Rattle.std.specs.Int.{w64, w128}
-use Rattle.whole_math.proofs.Words.{as_w64}
+use Rattle.std.specs.Int.{w128}
 use Rattle.form_tables.specs.declared.sizes.TheConstants.{MOST_FORM_COLUMNS}
-
-pub map_word : (x : ℤ) → unsigned_abs x ≤ 2 ^ 30 → to_z w64 (of_z w64 x) ≡ x
-map_word x small = as_w64 x (omega (arith, small))
-
-pub form_word : (x : ℤ) → unsigned_abs x < 2 ^ 52 → to_z w64 (of_z w64 x) ≡ x
-form_word x narrow = as_w64 x (omega (arith, narrow))
 
 pub sum_word : (x y : ℤ) (c : ℕ) → c < MOST_FORM_COLUMNS → unsigned_abs x ≤ c * 2 ^ 82 → unsigned_abs y ≤ 2 ^ 82 → to_z w128 (of_z w128 (x +ℤ y)) ≡ x +ℤ y
 sum_word x y c inside first second = omega (arith, ints)

@@ -7,8 +7,8 @@ ghost use Rattle.integer_form.specs.Forms.{integers_of};
 ghost use Rattle.int_search.specs.Transformed.{whole_entry, AreWholesSmall, AreWholes, IsTransformedSmall, IsTransformed};
 
 use crate::halves::{map_entry, write_halves};
-use crate::products::{half_product, is_narrow};
-use decorrelate::Unimodular;
+use crate::products::half_product;
+use decorrelate::{Unimodular, is_narrow};
 use form_tables::{FormTable, MapTable, NormalTable};
 use integer_form::{Form, FrontForm};
 

@@ -1,8 +1,5 @@
 //! Products in the ranges of a form and of a map.
-ghost use Rattle.std.specs.Prelude.{◌≡◌, ◌^◌, ◌<◌, ◌≤◌, ◌*ℤ◌, unsigned_abs, true, false};
-
-/// The entries of a form are below this in size.
-const FORM_LIMIT: i128 = 1 << 52;
+ghost use Rattle.std.specs.Prelude.{◌≡◌, ◌^◌, ◌≤◌, ◌*ℤ◌, unsigned_abs};
 
 /// m · p
 pub(crate) fn entry_product(m: i64, p: i64) -> i128
@@ -22,12 +19,4 @@ pub(crate) fn half_product(q: i128, m: i64) -> i128
     ensures size { unsigned_abs result ≤ 2 ^ 118 }
 {
     q * m as i128
-}
-
-/// Whether an entry of a form is below 2^52 in size.
-pub(crate) fn is_narrow(x: i128) -> bool
-    ensures narrow { result ≡ true → unsigned_abs x < 2 ^ 52 }
-    ensures wide { result ≡ false → 2 ^ 52 ≤ unsigned_abs x }
-{
-    x < FORM_LIMIT && x > -FORM_LIMIT
 }

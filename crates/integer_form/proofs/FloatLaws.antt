@@ -1,5 +1,5 @@
 -- The numbers of the columns, by places.
-use Rattle.std.proofs.Common.{◌≡◌, ◌⊎◌, ⊎_elim, ℕ, zero, suc, ◌+◌, ◌-◌, ◌^◌, ◌<◌, ◌≤◌, List, [], ◌∷◌, ◌++◌, length, take, ℤ, pos, ◌+ℤ◌, ◌*ℤ◌, unsigned_abs, arith, sym, ap, ap₂, ◌∙◌, refl, subst}
+use Rattle.std.proofs.Common.{◌≡◌, ◌⊎◌, ⊎_elim, ℕ, zero, suc, ◌+◌, ◌-◌, ◌^◌, ◌<◌, ◌≤◌, List, [], ◌∷◌, ◌++◌, length, take, ℤ, pos, ◌+ℤ◌, ◌*ℤ◌, unsigned_abs, arith, sym, ap, ap₂, ◌∙◌, refl, subst, add-zero, zero-add, suc-add}
 use Rattle.whole_math.specs.Vectors.{dot, scaled}
 use Rattle.whole_math.proofs.Vectors.{dot_last}
 use Rattle.quadratic_form.specs.Places.{list_from}
@@ -7,24 +7,12 @@ use Rattle.quadratic_form.proofs.Places.{list_same, len_list}
 use Rattle.form_tables.specs.Tables.{entry, item}
 use Rattle.integer_form.specs.Factors.{stored}
 use Rattle.integer_form.specs.FloatPoint.{next_number, solved, baseline_at, HasWide, HasWideBefore}
-use Rattle.integer_form.proofs.PlaceLaws.{list_last, list_whole}
-
-nothing : (j : ℕ) → j + 0 ≡ j
-nothing j = omega arith
-
-none : (j : ℕ) → 0 + j ≡ j
-none j = omega arith
-
-later : (j k : ℕ) → suc j + k ≡ j + suc k
-later j k = omega arith
-
-more : (m k : ℕ) → suc m + k ≡ suc (m + k)
-more m k = omega arith
+use Rattle.integer_form.proofs.PlaceLaws.{list_last, list_whole, later}
 
 -- ---- lists
 pub list_item : (f : ℕ → ℤ) (j k i : ℕ) → i < k → item (list_from f j k) i ≡ f (j + i)
 list_item f j zero i h = absurd (omega arith)
-list_item f j (suc k) zero h = ap f (sym (nothing j))
+list_item f j (suc k) zero h = ap f (sym (add-zero j))
 list_item f j (suc k) (suc i) h = list_item f (suc j) k i (omega arith) ∙ ap f (later j i)
 
 pub list_past : (f : ℕ → ℤ) (j k i : ℕ) → k ≤ i → item (list_from f j k) i ≡ pos 0
@@ -62,8 +50,8 @@ solved_more d l n j k x y s v h e f g o =
 
 -- ---- the numbers of the columns before
 climb : (d : List ℤ) (l : List (List ℤ)) (n m j k i : ℕ) (s : List ℤ) → item (solved (stored d l n j (m + k)) s) (m + i) ≡ item (solved (stored d l n (j + m) k) s) i
-climb d l n zero j k i s = ap₂ (λ (a b : ℕ). item (solved (stored d l n j a) s) b) (none k) (none i) ∙ ap (λ (a : ℕ). item (solved (stored d l n a k) s) i) (sym (nothing j))
-climb d l n (suc m) j k i s = ap₂ (λ (a b : ℕ). item (solved (stored d l n j a) s) b) (more m k) (more m i) ∙ climb d l n m (suc j) k i s
+climb d l n zero j k i s = ap₂ (λ (a b : ℕ). item (solved (stored d l n j a) s) b) (zero-add k) (zero-add i) ∙ ap (λ (a : ℕ). item (solved (stored d l n a k) s) i) (sym (add-zero j))
+climb d l n (suc m) j k i s = ap₂ (λ (a b : ℕ). item (solved (stored d l n j a) s) b) (suc-add m k) (suc-add m i) ∙ climb d l n m (suc j) k i s
     ∙ ap (λ (a : ℕ). item (solved (stored d l n a k) s) i) (later j m)
 
 -- a wide number of column j
@@ -78,7 +66,7 @@ wide_column d l n j k count x s v c e f w = (j, (omega arith, subst (λ (z : ℤ
     head = ap (λ (z : List ℤ). next_number (list_from (λ i. entry l i j) (suc j) (n - j - 1)) z) (sym e) ∙ sym f
 
     is : item (solved (stored d l n 0 count) s) j ≡ v
-    is = ap₂ (λ (a b : ℕ). item (solved (stored d l n 0 a) s) b) (sym c) (sym (nothing j)) ∙ climb d l n j 0 (suc k) 0 s ∙ ap (λ (a : ℕ). item (solved (stored d l n a (suc k)) s) 0) (none j) ∙ head
+    is = ap₂ (λ (a b : ℕ). item (solved (stored d l n 0 a) s) b) (sym c) (sym (add-zero j)) ∙ climb d l n j 0 (suc k) 0 s ∙ ap (λ (a : ℕ). item (solved (stored d l n a (suc k)) s) 0) (zero-add j) ∙ head
 
 -- ---- the baseline's three numbers
 item_of_three : (a b c : ℤ) (s : List ℤ) (i : ℕ) → i < 3 → item (take 3 (a ∷ (b ∷ (c ∷ s)))) i ≡ item (a ∷ (b ∷ (c ∷ s))) i
@@ -120,7 +108,7 @@ narrow_three a b c x y z (suc (suc (suc i))) = omega arith
 
 -- ---- all numbers of a form, which stand in the list x
 pub float_item : (n : ℕ) (x s : List ℤ) → list_from (item x) 0 n ≡ s → ((i : ℕ) → n ≤ i → item x i ≡ pos 0) → (j : ℕ) → item x j ≡ item s j
-float_item n x s e h j = ⊎_elim (λ (l : j < n). sym (ap (λ (i : ℕ). item x i) (none j)) ∙ sym (list_item (item x) 0 n j l) ∙ ap (λ (t : List ℤ). item t j) e)
+float_item n x s e h j = ⊎_elim (λ (l : j < n). sym (ap (λ (i : ℕ). item x i) (zero-add j)) ∙ sym (list_item (item x) 0 n j l) ∙ ap (λ (t : List ℤ). item t j) e)
     (λ (l : n ≤ j). h j l ∙ sym (list_past (item x) 0 n j l) ∙ ap (λ (t : List ℤ). item t j) e) (either j n)
   where
     either : (j n : ℕ) → (j < n) ⊎ (n ≤ j)

@@ -1,24 +1,21 @@
 -- Lists and sums of products by places.
-use Rattle.std.proofs.Common.{◌≡◌, ℕ, zero, suc, ◌+◌, ◌<◌, List, [], ◌∷◌, ◌++◌, length, ℤ, pos, ◌+ℤ◌, ◌*ℤ◌, arith, sym, ap, ap₂, ◌∙◌, refl}
+use Rattle.std.proofs.Common.{◌≡◌, ℕ, zero, suc, ◌+◌, ◌<◌, List, [], ◌∷◌, ◌++◌, length, ℤ, pos, ◌+ℤ◌, ◌*ℤ◌, arith, sym, ap, ap₂, ◌∙◌, refl, add-zero}
 use Rattle.whole_math.proofs.Ring.{◌⊕◌, ◌⊗◌}
 use Rattle.whole_math.proofs.Inequalities.{same_by, nat}
 use Rattle.whole_math.specs.Vectors.{dot}
 use Rattle.quadratic_form.specs.Places.{list_from}
 use Rattle.form_tables.specs.Tables.{item}
 
-nothing : (j : ℕ) → j + 0 ≡ j
-nothing j = omega arith
-
-later : (j k : ℕ) → suc j + k ≡ j + suc k
+pub later : (j k : ℕ) → suc j + k ≡ j + suc k
 later j k = omega arith
 
 -- one more at the end
 pub list_last : (f : ℕ → ℤ) (j k : ℕ) → list_from f j (suc k) ≡ list_from f j k ++ (f (j + k) ∷ [])
-list_last f j zero = ap (λ (m : ℕ). f m ∷ []) (sym (nothing j))
+list_last f j zero = ap (λ (m : ℕ). f m ∷ []) (sym (add-zero j))
 list_last f j (suc k) = ap (λ s. f j ∷ s) (list_last f (suc j) k ∙ ap (λ (m : ℕ). list_from f (suc j) k ++ (f m ∷ [])) (later j k))
 
 pub dot_more : (a b : ℕ → ℤ) (j k : ℕ) → dot (list_from a j (suc k)) (list_from b j (suc k)) ≡ dot (list_from a j k) (list_from b j k) +ℤ a (j + k) *ℤ b (j + k)
-dot_more a b j zero = one (a j) (b j) ∙ ap (λ (m : ℕ). pos 0 +ℤ a m *ℤ b m) (sym (nothing j))
+dot_more a b j zero = one (a j) (b j) ∙ ap (λ (m : ℕ). pos 0 +ℤ a m *ℤ b m) (sym (add-zero j))
   where
     one : (x y : ℤ) → x *ℤ y +ℤ pos 0 ≡ pos 0 +ℤ x *ℤ y
     one x y = same_by (x ∷ y ∷ []) (λ x y. (x ⊗ y ⊕ nat 0, nat 0 ⊕ x ⊗ y)) refl
@@ -31,4 +28,4 @@ dot_more a b j (suc k) = ap (λ z. a j *ℤ b j +ℤ z) (dot_more a b (suc j) k 
 -- a list, and one entry after it
 pub list_whole : (f : ℕ → ℤ) (z : List ℤ) (j : ℕ) → ((i : ℕ) → i < length z → f (j + i) ≡ item z i) → list_from f j (length z) ≡ z
 list_whole f [] j h = refl
-list_whole f (x ∷ z) j h = ap₂ (λ (y : ℤ) (s : List ℤ). y ∷ s) (ap f (sym (nothing j)) ∙ h 0 (omega arith)) (list_whole f z (suc j) (λ i l. ap f (later j i) ∙ h (suc i) (omega arith)))
+list_whole f (x ∷ z) j h = ap₂ (λ (y : ℤ) (s : List ℤ). y ∷ s) (ap f (sym (add-zero j)) ∙ h 0 (omega arith)) (list_whole f z (suc j) (λ i l. ap f (later j i) ∙ h (suc i) (omega arith)))

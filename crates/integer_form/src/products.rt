@@ -1,6 +1,8 @@
 //! Sums of products in the form's ranges.
 ghost use Rattle.std.specs.Prelude.{◌≡◌, ◌^◌, ◌≤◌, pos, ◌+ℤ◌, ◌*ℤ◌, unsigned_abs};
 
+use form_tables::{square, weighed};
+
 /// a · b
 pub(crate) fn times(a: i64, b: i64) -> i128
     requires a_size { unsigned_abs a ≤ 2 ^ 52 }
@@ -9,25 +11,6 @@ pub(crate) fn times(a: i64, b: i64) -> i128
     ensures size { unsigned_abs result ≤ 2 ^ 98 }
 {
     a as i128 * b as i128
-}
-
-/// x²
-fn square(x: i64) -> i128
-    requires { unsigned_abs x ≤ 2 ^ 30 }
-    ensures value { result ≡ x *ℤ x }
-    ensures size { unsigned_abs result ≤ 2 ^ 60 }
-{
-    x as i128 * x as i128
-}
-
-/// own · square
-fn own_part(own: i64, square: i128) -> i128
-    requires own_size { unsigned_abs own ≤ 2 ^ 52 }
-    requires square_size { unsigned_abs square ≤ 2 ^ 60 }
-    ensures value { result ≡ own *ℤ square }
-    ensures size { unsigned_abs result ≤ 2 ^ 112 }
-{
-    own as i128 * square
 }
 
 /// x · later
@@ -48,5 +31,5 @@ pub(crate) fn column_value(own: i64, x: i64, later: i128) -> i128
     ensures value { result ≡ (own *ℤ (x *ℤ x)) +ℤ (pos 2 *ℤ (x *ℤ later)) }
     ensures size { unsigned_abs result ≤ 2 ^ 120 }
 {
-    own_part(own, square(x)) + 2 * later_part(x, later)
+    weighed(own, square(x)) + 2 * later_part(x, later)
 }

@@ -1,15 +1,15 @@
 -- Every solution of the equation lies near the point at which the steps have ended.
 use Rattle.std.proofs.Common.{◌≡◌, ◌*◌, ◌^◌, ◌≤◌, [], ◌∷◌, ℤ, pos, ◌+ℤ◌, ◌-ℤ◌, ◌*ℤ◌, neg_ℤ, ◌≤ℤ◌, ◌<ℤ◌, arith, sym, subst, refl, lit≤, lit<, pow_pos, unsigned_abs}
 use Rattle.std.proofs.lemmas.Int.{ints, by_lt_z}
+use Rattle.std.proofs.Math.Nat.{mul-pos}
 use Rattle.whole_math.proofs.Ring.{ring, va, ko, ◌⊖◌, ◌⊗◌}
-use Rattle.whole_math.proofs.Order.{lins, mul_le_right}
+use Rattle.whole_math.proofs.Order.{lins, mul_le_right, le_pos, lt_pos}
 use Rattle.whole_math.proofs.Certificates.{cert, weak, nm}
+use Rattle.whole_math.proofs.Inequalities.{le_refl_ℤ, le_eq}
 use Rattle.rational.specs.Rational.{Rational, InBox, add_r, sub_r, mul_r, ◌≤ʳ◌, AreWithin, times, two_to_minus, IsNearBox, of_scale}
 use Rattle.trig_box.specs.AnglePairs.{IsAnglePair, InRange}
-use Rattle.trig_box.proofs.Base.{le_pos, lt_pos}
-use Rattle.std.proofs.Math.Nat.{mul-pos}
 use Rattle.trig_box.proofs.PairLaws.{canonical_exists, canonical_is_pair, sharp_law}
-use Rattle.trig_box.proofs.PointLawCertificates.{bound_nn}
+use Rattle.trig_box.proofs.PointLaws.{near_nn}
 use Rattle.kepler_box.specs.Kepler.{SolvesKepler}
 use Rattle.kepler_box.proofs.SolutionCertificates.{upper, lower, upper_easy, lower_easy, own_near, back_near, back_turned, plain_high, plain_low, high_near, high_back, low_near, low_back, own_two, looser, e_bound, e_sign}
 
@@ -24,14 +24,8 @@ pub record IsSeen (x r lo hi : ℤ) (d mean other e angle c s t : Rational) : Ty
   pub below : ((pos 16 *ℤ (x -ℤ lo)) +ℤ pos 1) ≤ℤ (pos 15 *ℤ r)
   pub radius : pos 0 ≤ℤ r
 
-pub d_nn : (d x y : Rational) → AreWithin d x y → pos 0 ≤ℤ d.num
-d_nn d x y h = bound_nn d.num (pos d.den) x.num (pos x.den) y.num (pos y.den) h.0 h.1 (lt_pos 0 (2 * (x.den * y.den)) (mul-pos (lit< tt) (mul-pos x.positive y.positive)))
-
 positive_of : (x : Rational) → pos 0 <ℤ pos x.den
 positive_of x = lt_pos 0 x.den x.positive
-
-le_of : {a b : ℤ} → a ≡ b → a ≤ℤ b
-le_of {a} {b} e = omega (arith, lins)
 
 apart_nn : (a b : ℤ) → b ≤ℤ a → pos 0 ≤ℤ (a -ℤ b)
 apart_nn a b h = omega (arith, lins)
@@ -39,7 +33,7 @@ apart_nn a b h = omega (arith, lins)
 pub above_is : (x r lo hi : ℤ) (d mean other e angle c s c' t : Rational) → IsSeen x r lo hi d mean other e angle c s t → IsAnglePair 5 (of_scale 56 x) c' t →
     (pos 15 *ℤ (((angle.num *ℤ pos (2 ^ 56)) -ℤ ((x +ℤ r) *ℤ pos angle.den)) *ℤ pos d.den)) ≤ℤ (pos 16 *ℤ (d.num *ℤ (pos angle.den *ℤ pos (2 ^ 56))))
 above_is x r lo hi d mean other e angle c s c' t g k = by_lt_z (angle.num *ℤ pos (2 ^ 56)) (x *ℤ pos angle.den)
-    (λ l. upper_easy angle.num (pos angle.den) d.num (pos d.den) x r (weak _ _ l) g.radius (d_nn d mean other g.near) (weak _ _ (positive_of angle)) (weak _ _ (positive_of d)))
+    (λ l. upper_easy angle.num (pos angle.den) d.num (pos d.den) x r (weak _ _ l) g.radius (near_nn d mean other g.near) (weak _ _ (positive_of angle)) (weak _ _ (positive_of d)))
     (λ l.
     let z : ℤ = (angle.num *ℤ pos (2 ^ 56)) -ℤ (x *ℤ pos angle.den) in
     let z0 : pos 0 ≤ℤ z = apart_nn (angle.num *ℤ pos (2 ^ 56)) (x *ℤ pos angle.den) l in
@@ -52,13 +46,13 @@ above_is x r lo hi d mean other e angle c s c' t g k = by_lt_z (angle.num *ℤ p
     ) in
     let law = sharp_law 5 far angle (of_scale 56 x) c s c' t (lit≤ tt) g.is_anomaly.is_pair k n in
     upper angle.num (pos angle.den) s.num (pos s.den) mean.num (pos mean.den) other.num (pos other.den) e.num (pos e.den) t.num (pos t.den) d.num (pos d.den) x r hi
-    g.held.1 (le_of (sym g.is_anomaly.equation)) g.near.0 law.1.0 g.e_high g.e_low g.above z0 (positive_of angle) (positive_of s) (positive_of mean)
+    g.held.1 (le_eq (sym g.is_anomaly.equation)) g.near.0 law.1.0 g.e_high g.e_low g.above z0 (positive_of angle) (positive_of s) (positive_of mean)
     (positive_of other) (positive_of e) (positive_of t) (positive_of d))
 
 pub below_is : (x r lo hi : ℤ) (d mean other e angle c s c' t : Rational) → IsSeen x r lo hi d mean other e angle c s t → IsAnglePair 5 (of_scale 56 x) c' t →
     (pos 15 *ℤ ((((x -ℤ r) *ℤ pos angle.den) -ℤ (angle.num *ℤ pos (2 ^ 56))) *ℤ pos d.den)) ≤ℤ (pos 16 *ℤ (d.num *ℤ (pos angle.den *ℤ pos (2 ^ 56))))
 below_is x r lo hi d mean other e angle c s c' t g k = by_lt_z (x *ℤ pos angle.den) (angle.num *ℤ pos (2 ^ 56))
-    (λ l. lower_easy angle.num (pos angle.den) d.num (pos d.den) x r (weak _ _ l) g.radius (d_nn d mean other g.near) (weak _ _ (positive_of angle)) (weak _ _ (positive_of d)))
+    (λ l. lower_easy angle.num (pos angle.den) d.num (pos d.den) x r (weak _ _ l) g.radius (near_nn d mean other g.near) (weak _ _ (positive_of angle)) (weak _ _ (positive_of d)))
     (λ l.
     let z : ℤ = (x *ℤ pos angle.den) -ℤ (angle.num *ℤ pos (2 ^ 56)) in
     let z0 : pos 0 ≤ℤ z = apart_nn (x *ℤ pos angle.den) (angle.num *ℤ pos (2 ^ 56)) l in
@@ -69,11 +63,11 @@ below_is x r lo hi d mean other e angle c s c' t g k = by_lt_z (x *ℤ pos angle
     ) in
     let law = sharp_law 5 far angle (of_scale 56 x) c s c' t (lit≤ tt) g.is_anomaly.is_pair k n in
     lower angle.num (pos angle.den) s.num (pos s.den) mean.num (pos mean.den) other.num (pos other.den) e.num (pos e.den) t.num (pos t.den) d.num (pos d.den) x r lo
-    g.held.0 (le_of g.is_anomaly.equation) g.near.1 law.1.1 g.e_high g.e_low g.below z0 (positive_of angle) (positive_of s) (positive_of mean)
+    g.held.0 (le_eq g.is_anomaly.equation) g.near.1 law.1.1 g.e_high g.e_low g.below z0 (positive_of angle) (positive_of s) (positive_of mean)
     (positive_of other) (positive_of e) (positive_of t) (positive_of d))
   where
     turned : (z a b : ℤ) → (z *ℤ (a *ℤ b)) ≤ℤ (z *ℤ (b *ℤ a))
-    turned z a b = le_of (ring (z ∷ a ∷ b ∷ []) (va 0 ⊗ (va 1 ⊗ va 2)) (va 0 ⊗ (va 2 ⊗ va 1)) refl)
+    turned z a b = le_eq (ring (z ∷ a ∷ b ∷ []) (va 0 ⊗ (va 1 ⊗ va 2)) (va 0 ⊗ (va 2 ⊗ va 1)) refl)
 
 pub zero_near : (n w : ℤ) → (((n *ℤ w) -ℤ (n *ℤ w)) *ℤ (pos 1)) ≤ℤ ((pos 0) *ℤ (w *ℤ w))
 zero_near n w =
@@ -114,9 +108,6 @@ on x r h = omega (arith, lins)
 
 across : (x r : ℤ) → pos 0 ≤ℤ r → (x -ℤ r) ≤ℤ (x +ℤ r)
 across x r h = omega (arith, lins)
-
-same : (x : ℤ) → x ≤ℤ x
-same x = omega (arith, lins)
 
 pub record IsClose (x r : ℤ) (d angle : Rational) : Type 0 where
   pub above : (pos 15 *ℤ (((angle.num *ℤ pos (2 ^ 56)) -ℤ ((x +ℤ r) *ℤ pos angle.den)) *ℤ pos d.den)) ≤ℤ (pos 16 *ℤ (d.num *ℤ (pos angle.den *ℤ pos (2 ^ 56))))
@@ -172,18 +163,18 @@ clamp x r al ah d angle q i r0 d0 e f h k =
     (λ l. (
       of_scale 56 (x +ℤ r),
       record {
-        held = boxed x r al ah (of_scale 56 (x +ℤ r)) e f (mul_le_right (pos (2 ^ 56)) (x -ℤ r) (x +ℤ r) p0 (across x r r0)) (same ((x +ℤ r) *ℤ pos (2 ^ 56)));
+        held = boxed x r al ah (of_scale 56 (x +ℤ r)) e f (mul_le_right (pos (2 ^ 56)) (x -ℤ r) (x +ℤ r) p0 (across x r r0)) (le_refl_ℤ ((x +ℤ r) *ℤ pos (2 ^ 56)));
         near = (high_near n m d.num (pos d.den) x r q.above d0 m0, high_back n m d.num (pos d.den) x r (weak _ _ l) d0 m0 w0);
-        in_range = between_range x r al ah (x +ℤ r) e f h k (across x r r0) (same (x +ℤ r));
+        in_range = between_range x r al ah (x +ℤ r) e f h k (across x r r0) (le_refl_ℤ (x +ℤ r));
       },
     ))
     (λ u. by_lt_z (n *ℤ pos (2 ^ 56)) ((x -ℤ r) *ℤ m)
     (λ l. (
       of_scale 56 (x -ℤ r),
       record {
-        held = boxed x r al ah (of_scale 56 (x -ℤ r)) e f (same ((x -ℤ r) *ℤ pos (2 ^ 56))) (mul_le_right (pos (2 ^ 56)) (x -ℤ r) (x +ℤ r) p0 (across x r r0));
+        held = boxed x r al ah (of_scale 56 (x -ℤ r)) e f (le_refl_ℤ ((x -ℤ r) *ℤ pos (2 ^ 56))) (mul_le_right (pos (2 ^ 56)) (x -ℤ r) (x +ℤ r) p0 (across x r r0));
         near = (low_back n m d.num (pos d.den) x r (weak _ _ l) d0 m0 w0, low_near n m d.num (pos d.den) x r q.below d0 m0);
-        in_range = between_range x r al ah (x -ℤ r) e f h k (same (x -ℤ r)) (across x r r0);
+        in_range = between_range x r al ah (x -ℤ r) e f h k (le_refl_ℤ (x -ℤ r)) (across x r r0);
       },
     ))
     (λ l. (
@@ -200,7 +191,7 @@ pub found_near : (ml mh el eh x r a b fl fh al ah cl ch sl sh : ℤ) (d mean e a
     × IsNearBox 60 cl ch (add_r (times 4 d) (two_to_minus 60)) c × IsNearBox 60 sl sh (add_r (times 4 d) (two_to_minus 60)) s
 found_near ml mh el eh x r a b fl fh al ah cl ch sl sh d mean e angle c s f h k g =
     let q = contraction ml mh el eh x r a b fl fh al ah cl ch sl sh d mean h.inside e angle c s f h.held h.near k g in
-    let d0 = d_nn d mean h.inside h.near in
+    let d0 = near_nn d mean h.inside h.near in
     let z = clamp x r al ah d angle q g.is_pair.in_range f.radius d0 f.low_is f.high_is f.low_end f.high_end in
     let star = canonical_exists 5 z.0 z.1.in_range in
     let u : Rational = star.0 in

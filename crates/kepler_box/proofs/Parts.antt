@@ -1,17 +1,16 @@
 -- What the functions of the code need.
 use Rattle.std.proofs.Common.{◌≡◌, ◌*◌, ◌^◌, ◌≤◌, ℤ, pos, ◌+ℤ◌, ◌-ℤ◌, ◌*ℤ◌, neg_ℤ, ◌≤ℤ◌, ◌<ℤ◌, inl, inr, arith, sym, subst, refl, lit<, unsigned_abs}
+use Rattle.std.proofs.Common.{Result, Ok, Err, IsOk, IsErr, to_z, of_z}
 use Rattle.std.proofs.lemmas.Int.{ints}
-use Rattle.whole_math.proofs.Order.{lins, mul_le_right, abs_mul_le}
+use Rattle.std.specs.Int.{w64}
+use Rattle.whole_math.proofs.Order.{lins, mul_le_right, abs_mul_le, lt_pos}
 use Rattle.whole_math.proofs.Certificates.{weak}
 use Rattle.whole_math.specs.Rounding.{floor_div, ceil_div}
 use Rattle.whole_math.proofs.Rounding.{floor_le, lt_floor, floor_greatest, ceil_least}
 use Rattle.rational.specs.Rational.{Rational, InBox, of_scale}
 use Rattle.trig_box.specs.AnglePairs.{IsAnglePair, InRange}
-use Rattle.trig_box.proofs.Base.{lt_pos}
 use Rattle.trig_box.proofs.PairLaws.{canonical_is_pair}
 use Rattle.kepler_box.specs.Steps.{IsStep, AreNear}
-use Rattle.std.proofs.Common.{Result, Ok, Err, IsOk, IsErr, to_z, of_z}
-use Rattle.std.specs.Int.{w64}
 use Rattle.iv_core.specs.Boxes.{least_corner, most_corner, Past}
 use Rattle.whole_math.proofs.Extremes.{least_case, most_case}
 use Rattle.kepler_box.proofs.Steps.{in_range}

@@ -5,7 +5,7 @@ use Rattle.std.proofs.Common.{[], ◌∷◌, ℤ, pos, ◌+ℤ◌, ◌-ℤ◌, �
 use Rattle.std.proofs.lemmas.Int.{ints}
 use Rattle.whole_math.proofs.Ring.{va, ko, ◌⊕◌, ◌⊖◌, ◌⊗◌}
 use Rattle.whole_math.proofs.Certificates.{cert, cancel, mul_positive, weak, ◌≼◌, hy, nm, sq, ◌⊞◌, ◌⊠◌}
-use Rattle.trig_box.proofs.Base.{lt_pos}
+use Rattle.whole_math.proofs.Order.{lt_pos}
 
 pub upper : (en ed sn sd mn md nn nd pn pd tn td dn dd x r h : ℤ)
     → (((nn *ℤ (pd *ℤ td)) +ℤ ((pn *ℤ tn) *ℤ nd)) *ℤ (pos 72057594037927936)) ≤ℤ (h *ℤ (nd *ℤ (pd *ℤ td)))

@@ -1,17 +1,16 @@
 -- Each step is about a sixteenth of the one before it.
 use Rattle.std.proofs.Common.{◌≡◌, ℕ, ◌+◌, ◌*◌, ◌^◌, ◌≤◌, ℤ, pos, ◌+ℤ◌, ◌-ℤ◌, ◌*ℤ◌, neg_ℤ, ◌≤ℤ◌, ◌<ℤ◌, ◌⊎◌, inl, inr, arith, sym, ap, subst, ◌∙◌, refl, lit≤, lit<, unsigned_abs}
+use Rattle.std.proofs.Common.{add-one}
 use Rattle.std.proofs.lemmas.Int.{ints, by_lt_z}
-use Rattle.whole_math.proofs.Order.{lins, abs_mul_le}
+use Rattle.std.proofs.Math.Nat.{pow-suc}
+use Rattle.whole_math.proofs.Order.{lins, abs_mul_le, le_pos, lt_pos}
 use Rattle.whole_math.proofs.Certificates.{weak}
 use Rattle.whole_math.specs.Rounding.{floor_div}
 use Rattle.whole_math.proofs.Rounding.{floor_le, lt_floor}
 use Rattle.rational.specs.Rational.{Rational, AreWithin, of_scale}
 use Rattle.trig_box.specs.AnglePairs.{InRange}
-use Rattle.trig_box.proofs.Base.{le_pos, lt_pos}
 use Rattle.trig_box.proofs.PairLaws.{canonical_exists, canonical_law}
 use Rattle.kepler_box.specs.Steps.{IsStep, AreNear, Settled}
-use Rattle.std.proofs.Math.Nat.{pow-suc}
-use Rattle.std.proofs.Common.{add-one}
 use Rattle.kepler_box.proofs.StepCertificates.{sine_gap, step_gap, angles_near, round}
 
 -- the range of the code's angles

@@ -10,6 +10,7 @@ use Rattle.obs_rows.specs.Signals.{cycle}
 use Rattle.obs_rows.specs.Integers.{integer_count, integer_place}
 use Rattle.obs_rows.specs.Data.{number_at}
 use Rattle.obs_rows.specs.SignalGroups.{only_at, signal_row}
+use Rattle.obs_rows.proofs.IntegerPlaces.{length_zeros}
 use Rattle.form_tables.specs.declared.sizes.TheConstants.{MOST_COLUMNS, MOST_FORM_COLUMNS, MOST_INTEGERS}
 use Rattle.form_tables.proofs.TableLaws.{zero_item}
 use Rattle.normal_sum.specs.Places.{put_at}
@@ -23,10 +24,6 @@ pub item_zeros : (n k : ℕ) → item (zeros n) k ≡ pos 0
 item_zeros zero k = refl
 item_zeros (suc n) zero = refl
 item_zeros (suc n) (suc k) = item_zeros n k
-
-pub length_zeros : (n : ℕ) → length (zeros n) ≡ n
-length_zeros zero = refl
-length_zeros (suc n) = ap (λ k. suc k) (length_zeros n)
 
 -- ---- a write
 item_set_zero : (t : List ℤ) (i k : ℕ) (v : ℤ) → k ≢ i → item t k ≡ pos 0 → item (set t i v) k ≡ pos 0

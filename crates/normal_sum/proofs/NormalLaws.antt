@@ -1,5 +1,6 @@
 -- A table whose entries are those of the rows, inside and outside its columns.
-use Rattle.std.proofs.Common.{◌≡◌, ◌⊎◌, ⊎_elim, ℕ, zero, suc, drop, ◌+◌, ◌^◌, ◌<◌, ◌≤◌, List, [], ◌∷◌, ◌++◌, length, ℤ, pos, ◌+ℤ◌, ◌≤ℤ◌, ◌<ℤ◌, unsigned_abs, slice_index_or, to_z, of_z, arith, sym, ap, ◌∙◌, refl, subst}
+use Rattle.std.proofs.Common.{◌≡◌, ⊎_elim, ℕ, zero, suc, drop, ◌+◌, ◌^◌, ◌<◌, ◌≤◌, List, [], ◌∷◌, ◌++◌, length, ℤ, pos, ◌+ℤ◌, ◌≤ℤ◌, ◌<ℤ◌, unsigned_abs, slice_index_or, to_z, of_z, arith, sym, ap, ◌∙◌, refl, subst}
+use Rattle.std.proofs.lemmas.Bool.{cases_lt}
 use Rattle.std.proofs.lemmas.List.{get_or_past}
 use Rattle.std.specs.Int.{w128}
 use Rattle.whole_math.proofs.Order.{lins}
@@ -15,9 +16,6 @@ use Rattle.normal_sum.specs.Matrices.{IsRadiusSum, IsMirrored}
 use Rattle.normal_sum.proofs.Words.{small_w128}
 use Rattle.normal_sum.proofs.RadiusLaws.{radii_assoc, radii_same}
 
-side : (i n : ℕ) → (i < n) ⊎ (n ≤ i)
-side i n = grind arith
-
 entry_past_row : (t : List (List ℤ)) (i j : ℕ) → HasShape MOST_COLUMNS MOST_COLUMNS t → MOST_COLUMNS ≤ i → entry t i j ≡ pos 0
 entry_past_row t i j s h = ap (λ (r : List ℤ). slice_index_or r j (pos 0)) (get_or_past t i [] (omega (arith, s.rows)))
 
@@ -31,19 +29,19 @@ pub entries_everywhere : (n : ℕ) (gs : List SignalGroup) (t : List (List ℤ))
     ((i j : ℕ) → i < MOST_COLUMNS → j < MOST_COLUMNS → entry t i j ≡ matrix_entry gs i j) → (i j : ℕ) → entry t i j ≡ matrix_entry gs i j
 entries_everywhere n gs t s c h e i j = ⊎_elim
     (λ (hi : i < MOST_COLUMNS). ⊎_elim (λ (hj : j < MOST_COLUMNS). e i j hi hj) (λ (gj : MOST_COLUMNS ≤ j). entry_past_column t i j s hi gj ∙ sym (matrix_past n gs i j h (omega arith)))
-    (side j MOST_COLUMNS))
+    (cases_lt j MOST_COLUMNS))
     (λ (gi : MOST_COLUMNS ≤ i). entry_past_row t i j s gi ∙ sym (matrix_past_row n gs i j h (omega arith)))
-    (side i MOST_COLUMNS)
+    (cases_lt i MOST_COLUMNS)
 
 -- from the entries on and above the diagonal
 pub mirrored_entries : (t u : List (List ℤ)) (gs : List SignalGroup) → IsMirrored t u → ((i j : ℕ) → i ≤ j → j < MOST_COLUMNS → entry t i j ≡ matrix_entry gs i j) →
     (i j : ℕ) → i < MOST_COLUMNS → j < MOST_COLUMNS → entry u i j ≡ matrix_entry gs i j
-mirrored_entries t u gs m e i j hi hj = ⊎_elim (λ (h : j < i). m.below j i h hi ∙ e j i (omega arith) hi ∙ matrix_turned gs j i) (λ (h : i ≤ j). m.above i j h ∙ e i j h hj) (side j i)
+mirrored_entries t u gs m e i j hi hj = ⊎_elim (λ (h : j < i). m.below j i h hi ∙ e j i (omega arith) hi ∙ matrix_turned gs j i) (λ (h : i ≤ j). m.above i j h ∙ e i j h hj) (cases_lt j i)
 
 pub mirrored_sizes : (n : ℕ) (t u : List (List ℤ)) → IsMirrored t u → ((i j : ℕ) → i ≤ j → j < MOST_COLUMNS → unsigned_abs (entry t i j) < n) →
     (i j : ℕ) → i < MOST_COLUMNS → j < MOST_COLUMNS → unsigned_abs (entry u i j) < n
 mirrored_sizes n t u m e i j hi hj = ⊎_elim (λ (h : j < i). subst (λ (z : ℤ). unsigned_abs z < n) (sym (m.below j i h hi)) (e j i (omega arith) hi))
-    (λ (h : i ≤ j). subst (λ (z : ℤ). unsigned_abs z < n) (sym (m.above i j h)) (e i j h hj)) (side j i)
+    (λ (h : i ≤ j). subst (λ (z : ℤ). unsigned_abs z < n) (sym (m.above i j h)) (e i j h hj)) (cases_lt j i)
 
 pub symmetric_is : (gs : List SignalGroup) (t : List (List ℤ)) → ((i j : ℕ) → entry t i j ≡ matrix_entry gs i j) → IsSymmetric t
 symmetric_is gs t e = λ i j. e i j ∙ matrix_turned gs i j ∙ sym (e j i)
@@ -54,9 +52,9 @@ outside_is n m gs t c h e = λ i j w. e i j ∙ ⊎_elim (λ (g : m ≤ i). matr
 
 pub below_is : (m : ℕ) (t : List (List ℤ)) → HasShape MOST_COLUMNS MOST_COLUMNS t → 0 < m → ((i j : ℕ) → i < MOST_COLUMNS → j < MOST_COLUMNS → unsigned_abs (entry t i j) < m) → EntriesBelow m t
 below_is m t s h e = λ i j. ⊎_elim
-    (λ (hi : i < MOST_COLUMNS). ⊎_elim (λ (hj : j < MOST_COLUMNS). e i j hi hj) (λ (gj : MOST_COLUMNS ≤ j). nothing (entry t i j) (entry_past_column t i j s hi gj)) (side j MOST_COLUMNS))
+    (λ (hi : i < MOST_COLUMNS). ⊎_elim (λ (hj : j < MOST_COLUMNS). e i j hi hj) (λ (gj : MOST_COLUMNS ≤ j). nothing (entry t i j) (entry_past_column t i j s hi gj)) (cases_lt j MOST_COLUMNS))
     (λ (gi : MOST_COLUMNS ≤ i). nothing (entry t i j) (entry_past_row t i j s gi))
-    (side i MOST_COLUMNS)
+    (cases_lt i MOST_COLUMNS)
   where
     nothing : (x : ℤ) → x ≡ pos 0 → unsigned_abs x < m
     nothing x e = subst (λ (z : ℤ). unsigned_abs z < m) (sym e) h
@@ -64,7 +62,10 @@ below_is m t s h e = λ i j. ⊎_elim
 no_left : (x : ℤ) → pos 0 +ℤ x ≡ x
 no_left x = omega (arith, lins)
 
-no_right : (x : ℤ) → x +ℤ pos 0 ≡ x
+pub zero_first : (a b : ℤ) → a ≡ pos 0 → a +ℤ b ≡ b
+zero_first a b e = omega (arith, lins)
+
+pub no_right : (x : ℤ) → x +ℤ pos 0 ≡ x
 no_right x = omega (arith, lins)
 
 pub radii_start : (r : Radii) → add_radii no_radii r ≡ r

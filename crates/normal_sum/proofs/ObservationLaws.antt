@@ -1,5 +1,5 @@
 -- The entries of the constant's column, by the sums of the observations; and what a code adds elsewhere.
-use Rattle.std.proofs.Common.{◌≡◌, ◌≢◌, ◌⊎◌, inl, inr, ⊎_elim, ℕ, zero, suc, ◌+◌, ◌/◌, ◌<◌, ◌≤◌, List, [], ◌∷◌, ◌++◌, Option, Some, None, ℤ, pos, neg_ℤ, ◌+ℤ◌, ◌-ℤ◌, ◌*ℤ◌, length, map, slice_index_or, length-append, length-set, arith, sym, ap, ap₂, ◌∙◌, refl, subst}
+use Rattle.std.proofs.Common.{◌≡◌, ◌≢◌, ◌⊎◌, inl, inr, ⊎_elim, ℕ, zero, suc, ◌+◌, ◌/◌, ◌<◌, ◌≤◌, List, [], ◌∷◌, ◌++◌, Option, Some, None, ℤ, pos, neg_ℤ, ◌+ℤ◌, ◌-ℤ◌, ◌*ℤ◌, length, map, length-append, length-set, arith, sym, ap, ap₂, ◌∙◌, refl, subst}
 use Rattle.std.proofs.lemmas.List.{length-map, get_or_append_left, get_or_push, get_or_past}
 use Rattle.std.proofs.lemmas.Bool.{cases_eq}
 use Rattle.whole_math.specs.Vectors.{zeros}
@@ -16,13 +16,14 @@ use Rattle.obs_rows.specs.Signals.{weight, cycle}
 use Rattle.obs_rows.specs.Integers.{integer_count, integer_place}
 use Rattle.obs_rows.specs.SumOfSquares.{share}
 use Rattle.obs_rows.specs.SignalGroups.{only_at, signal_row, signal_group}
+use Rattle.obs_rows.proofs.IntegerPlaces.{length_zeros}
 use Rattle.form_tables.specs.declared.sizes.TheConstants.{BASELINE_COLUMNS}
 use Rattle.form_tables.specs.Tables.{entry}
 use Rattle.normal_sum.specs.Directions.{direction_sum}
 use Rattle.normal_sum.specs.Places.{SeesNone}
 use Rattle.normal_sum.specs.Observations.{observation_sum, observation_products, observation_squares, axis_spread, observation_spread}
 use Rattle.normal_sum.proofs.RowSums.{times_nothing}
-use Rattle.normal_sum.proofs.CoefficientPlaces.{item, item_zeros, length_zeros}
+use Rattle.normal_sum.proofs.CoefficientPlaces.{item, item_zeros}
 use Rattle.normal_sum.proofs.DirectionLaws.{turned, axis, sum_is}
 
 -- ---- a row's coefficient of the constant

@@ -6,6 +6,7 @@ use Rattle.whole_math.specs.Vectors.{squared_norm}
 use Rattle.whole_math.proofs.Absolute.{abs_square}
 use Rattle.whole_math.proofs.Order.{square_nn, lins}
 use Rattle.whole_math.proofs.Words.{as_w64}
+use Rattle.whole_math.proofs.Vectors.{squared_norm_nonneg}
 use Rattle.obs_rows.specs.Ranges.{IsPoint}
 use Rattle.obs_rows.specs.ReceiverPoints.{IsReceiverPoint}
 use Rattle.obs_rows.specs.declared.limits.TheConstants.{MOST_COORDINATE, MOST_DISTANCE}
@@ -20,16 +21,9 @@ size_of_square x m h = square_root m (unsigned_abs x) (same (unsigned_abs x * un
     same : (a b : ℕ) (y : ℤ) → pos a ≡ y → y ≤ℤ pos b → a ≤ b
     same a b y e g = omega (arith, lins)
 
-pub norm_nn : (s : List ℤ) → pos 0 ≤ℤ squared_norm s
-norm_nn [] = omega (arith, lins)
-norm_nn (x ∷ s) = both (x *ℤ x) (squared_norm s) (square_nn x) (norm_nn s)
-  where
-    both : (a b : ℤ) → pos 0 ≤ℤ a → pos 0 ≤ℤ b → pos 0 ≤ℤ (a +ℤ b)
-    both a b h g = omega (arith, lins)
-
 square_in : (s : List ℤ) (k : ℕ) (d : ℤ) → k < length s → (get_or s k d *ℤ get_or s k d) ≤ℤ squared_norm s
 square_in [] k d h = absurd (omega arith)
-square_in (x ∷ s) zero d h = more (x *ℤ x) (squared_norm s) (norm_nn s)
+square_in (x ∷ s) zero d h = more (x *ℤ x) (squared_norm s) (squared_norm_nonneg s)
   where
     more : (a b : ℤ) → pos 0 ≤ℤ b → a ≤ℤ (a +ℤ b)
     more a b h = omega (arith, lins)

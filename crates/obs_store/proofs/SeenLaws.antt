@@ -1,7 +1,7 @@
 -- What one more satellite adds to the counts.
 use Rattle.std.proofs.Common.{◌≡◌, ℕ, ◌+◌, ◌<◌, ◌≤◌, Bool, true, false, true≢false, not, ◌||◌, cond, nat_eq, List, [], ◌∷◌, ◌++◌, length, All, map, filter, set, replicate, refl, sym, ap, subst, ◌∙◌, arith, append_assoc, add-one, length-take, take, get_or, slice_index, zero, suc, inl, inr}
 use Rattle.std.specs.List.{list_any, IsDistinct, AllByRecursion}
-use Rattle.std.proofs.lemmas.Bool.{eqb-true, eq-eqb}
+use Rattle.std.proofs.lemmas.Bool.{eqb-true, eq-eqb, or_parts}
 use Rattle.std.proofs.lemmas.Bool.Decides.{eqb_tells}
 use Rattle.std.proofs.lemmas.Grind.{flat_map-append}
 use Rattle.std.proofs.lemmas.List.{append-nil, map-append, get_or-take, get_or_default, get_or-set_other, get_or-replicate, length-replicate, length-set}
@@ -11,10 +11,10 @@ use Rattle.std.proofs.lemmas.List.Folds.{list_any-append, list_any_none}
 use Rattle.std.proofs.lemmas.List.Sums.{sum_by-append, sum_by-cons, count_by-le-length}
 use Rattle.std.proofs.lemmas.Map.Keys.{IsDistinct-head, IsDistinct-tail, IsDistinct-cons, apart_from_distinct}
 use Rattle.std.proofs.lemmas.Map.Views.{any-filter_same}
+use Rattle.std.proofs.Math.Seq.{take-suc}
 use Rattle.indexmap.specs.IndexMap.{insert_entry}
 use Rattle.obs_store.specs.declared.values.SatObs.{SatObs}
 use Rattle.obs_store.specs.declared.series.Epoch.{Epoch}
-use Rattle.std.proofs.Math.Seq.{take-suc}
 use Rattle.obs_store.specs.Satellites.{has_satellite, AreSatellites}
 use Rattle.obs_store.specs.Counts.{with_number, numbered, IsCountOf}
 use Rattle.obs_store.specs.Seen.{first_seen, numbers_of, all_numbers, epochs_with, seen_in}
@@ -27,10 +27,6 @@ put n (x ∷ xs) = cond (nat_eq n x) (x ∷ xs) (x ∷ put n xs)
 or_false : (b : Bool) → (b || false) ≡ b
 or_false true = refl
 or_false false = refl
-
-pub neither : (a b : Bool) → (a || b) ≡ false → (a ≡ false) × (b ≡ false)
-neither true b h = absurd (true≢false h)
-neither false b h = (refl, h)
 
 others : ℕ → List ℕ → List ℕ
 others x xs = filter (λ m. not (nat_eq x m)) xs
@@ -107,8 +103,8 @@ absent : (n : ℕ) (es : List Epoch) → list_any (nat_eq n) (all_numbers es) �
 absent n [] none = refl
 absent n (x ∷ xs) none =
     let split : (list_any (nat_eq n) (numbers_of x.sats) || list_any (nat_eq n) (all_numbers xs)) ≡ false = sym (list_any-append (nat_eq n) (numbers_of x.sats) (all_numbers xs)) ∙ none in
-    let first : has_satellite n x.sats ≡ false = sym (has_satellite-numbers n x.sats) ∙ (neither _ _ split).0 in
-    sum_by-cons (λ (f : Epoch). cond (has_satellite n f.sats) 1 0) x xs ∙ rw first (omega (arith, absent n xs (neither _ _ split).1))
+    let first : has_satellite n x.sats ≡ false = sym (has_satellite-numbers n x.sats) ∙ (or_parts _ _ split).0 in
+    sum_by-cons (λ (f : Epoch). cond (has_satellite n f.sats) 1 0) x xs ∙ rw first (omega (arith, absent n xs (or_parts _ _ split).1))
 
 pub count_few : (n : ℕ) (es : List Epoch) → epochs_with n es ≤ length es
 count_few n es = count_by-le-length (λ (e : Epoch). has_satellite n e.sats) es
@@ -161,7 +157,7 @@ put_there n (x ∷ xs) some =
 put_new : (n : ℕ) (xs : List ℕ) → list_any (nat_eq n) xs ≡ false → put n xs ≡ xs ++ n ∷ []
 put_new n [] none = refl
 put_new n (x ∷ xs) none =
-    let split = neither (nat_eq n x) (list_any (nat_eq n) xs) none in
+    let split = or_parts (nat_eq n x) (list_any (nat_eq n) xs) none in
     rw split.0 (ap (λ l. x ∷ l) (put_new n xs split.1))
 
 -- some epoch has a number that was seen
@@ -279,7 +275,7 @@ fresh_number order k distinct inside =
 insert_new : (counts : List ℕ) (n v : ℕ) (ns : List ℕ) → list_any (nat_eq n) ns ≡ false → insert_entry nat_eq (numbered counts ns) n v ≡ numbered counts ns ++ (n, v) ∷ []
 insert_new counts n v [] none = refl
 insert_new counts n v (x ∷ xs) none =
-    let split = neither (nat_eq n x) (list_any (nat_eq n) xs) none in
+    let split = or_parts (nat_eq n x) (list_any (nat_eq n) xs) none in
     rw split.0 (ap (λ l. (x, get_or counts x 0) ∷ l) (insert_new counts n v xs split.1))
 
 pub one_entry : (counts order : List ℕ) (k : ℕ) (held new : List (ℕ × ℕ)) → IsDistinct nat_eq order → k < length order → held ≡ numbered counts (take k order)

@@ -3,7 +3,7 @@ use Rattle.std.proofs.Common.{◌≡◌, ◌≢◌, ℕ, ℤ, FitsSigned, true�
 use Rattle.std.specs.List.{list_any}
 use Rattle.std.specs.Int.{w64, cast_signed, cast_unsigned, to_le_bytes}
 use Rattle.std.proofs.Math.Facts.{Fits-lt-pow, Fits-of_z}
-use Rattle.std.proofs.lemmas.Bool.{eq-eqb}
+use Rattle.std.proofs.lemmas.Bool.{eq-eqb, or_parts}
 use Rattle.std.proofs.lemmas.Int.{to_z-of_z}
 use Rattle.std.proofs.lemmas.Nat.{from_le_bytes-to_le_bytes_8}
 use Rattle.std.proofs.lemmas.List.Elements.{All-push}
@@ -20,7 +20,6 @@ use Rattle.obs_store.specs.Kinds.{slot_of, slot_count, kept_types}
 use Rattle.obs_store.specs.Satellites.{has_satellite, IsNumber, AreSatellites}
 use Rattle.obs_store.specs.Seen.{numbers_of}
 use Rattle.obs_store.specs.Missing.{missing_values}
-use Rattle.obs_store.proofs.SeenLaws.{neither}
 use Rattle.obs_store.specs.Stored.{amount_in, value_in, values_with, first_satellite, satellites_in, count_of, AreStored, AreStoredBehind}
 
 -- values that are set one after another
@@ -66,8 +65,8 @@ satellites_in-push (t ∷ sats) values added s all more =
 -- no number of these is that one
 none_of : (n : ℕ) (sats : List SatObs) → has_satellite n sats ≡ false → (k : ℕ) (d : SatObs) → k < length sats → (get_or sats k d).number ≡ n → ⊥
 none_of n [] none k d inside same = absurd (omega arith)
-none_of n (s ∷ sats) none zero d inside same = absurd (true≢false (sym (eq-eqb n s.number (sym same)) ∙ (neither _ _ none).0))
-none_of n (s ∷ sats) none (suc k) d inside same = none_of n sats (neither _ _ none).1 k d (omega arith) same
+none_of n (s ∷ sats) none zero d inside same = absurd (true≢false (sym (eq-eqb n s.number (sym same)) ∙ (or_parts _ _ none).0))
+none_of n (s ∷ sats) none (suc k) d inside same = none_of n sats (or_parts _ _ none).1 k d (omega arith) same
 
 pub satellites_push : (sats : List SatObs) (s : SatObs) → AreSatellites sats → 1 ≤ s.number → s.number ≤ 36 → has_satellite s.number sats ≡ false → AreSatellites (sats ++ s ∷ [])
 satellites_push sats s are from to fresh = record {

@@ -1,7 +1,7 @@
 -- What the boxes of decimal numbers hold, and the sizes of these numbers.
-use Rattle.std.proofs.Common.{◌≡◌, ℕ, ◌*◌, ◌^◌, List, [], ◌∷◌, ℤ, pos, ◌-ℤ◌, ◌*ℤ◌, neg_ℤ, ◌≤ℤ◌, arith, refl, lit≤}
+use Rattle.std.proofs.Common.{◌≡◌, ℕ, ◌*◌, ◌^◌, List, [], ◌∷◌, ℤ, pos, ◌-ℤ◌, ◌*ℤ◌, neg_ℤ, ◌≤ℤ◌, arith, refl, lit≤, suc, negsuc, ap, ◌∙◌, sym}
 use Rattle.std.proofs.lemmas.Int.{ints}
-use Rattle.whole_math.proofs.IntLaws.{neg_mul_ℤ}
+use Rattle.whole_math.proofs.IntLaws.{neg_mul_ℤ, zero_mul_ℤ}
 use Rattle.whole_math.proofs.Ring.{Ex, va, ko, ◌⊕◌, ◌⊖◌, ◌⊗◌, ng}
 use Rattle.whole_math.proofs.Order.{lins, le_pos, mul_nn}
 use Rattle.whole_math.proofs.Inequalities.{same_by, nat, pos_nn}
@@ -13,11 +13,18 @@ use Rattle.rational.proofs.Orders.{order_r, equal_r, ◌≐◌}
 use Rattle.rational.proofs.Ends.{low_end}
 use Rattle.iv_core.specs.declared.Iv.{Iv}
 use Rattle.iv_core.specs.Intervals.{Holds, width_of}
-use Rattle.eph_store.specs.Decimals.{decimal, value_of, IsFromTo, IsWithin}
+use Rattle.eph_store.specs.Decimals.{decimal, value_of, IsFromTo, IsWithin, with_exponent}
 use Rattle.orbit_model.specs.Elements.{Elements, sent_at}
 use Rattle.orbit_clock.specs.Records.{seconds}
 use Rattle.orbit_clock.specs.Terms.{part, correction}
 use Rattle.decimal_box.specs.Least.{IsLeastBox}
+
+pub zero_value : (d : Dec) → d.mant ≡ pos 0 → value_of d ≈ of_whole (pos 0)
+zero_value d e = go d.mant d.exp e
+  where
+    go : (m x : ℤ) → m ≡ pos 0 → with_exponent m x ≈ of_whole (pos 0)
+    go m (pos n) e = ap (λ (z : ℤ). (z *ℤ pos (10 ^ n)) *ℤ pos 1) e ∙ ap (λ (z : ℤ). z *ℤ pos 1) (zero_mul_ℤ (pos (10 ^ n)))
+    go m (negsuc n) e = ap (λ (z : ℤ). z *ℤ pos 1) e ∙ sym (zero_mul_ℤ (pos (10 ^ suc n)))
 
 -- 10^0 q is q
 pub own_value : (q : Rational) → q ≈ times (10 ^ 0) q

@@ -13,10 +13,6 @@ coordinate_square x y z b h0 =
     cert_r (x ∷ y ∷ z ∷ b ∷ []) ((((((va 0) ⊗ (va 0)) ⊕ ((va 1) ⊗ (va 1))) ⊕ ((va 2) ⊗ (va 2))) ≼ ((va 3) ⊗ (va 3))) ∷ []) ((va 0) ⊗ (va 0))
     ((va 3) ⊗ (va 3)) (((hy 0) ⊞ (sq (va 1))) ⊞ (sq (va 2))) refl (h0, tt)
 
-pub neg_square : (x b : Rational) → (mul_r x x) ≤ʳ (mul_r b b) → (mul_r (neg_r (x)) (neg_r (x))) ≤ʳ (mul_r b b)
-neg_square x b h0 =
-    cert_r (x ∷ b ∷ []) ((((va 0) ⊗ (va 0)) ≼ ((va 1) ⊗ (va 1))) ∷ []) ((ng (va 0)) ⊗ (ng (va 0))) ((va 1) ⊗ (va 1)) (hy 0) refl (h0, tt)
-
 -- x moves by at most 4·38,000,000 d where both parts of the pair move by at most 2d
 pub first_move : (c s e t x y d : Rational) → (sub_r c e) ≤ʳ (mul_r (of_whole (pos 2)) d) → (sub_r e c) ≤ʳ (mul_r (of_whole (pos 2)) d)
     → (sub_r s t) ≤ʳ (mul_r (of_whole (pos 2)) d) → (sub_r t s) ≤ʳ (mul_r (of_whole (pos 2)) d) → x ≤ʳ (of_whole (pos 38000000))

@@ -15,7 +15,8 @@ use Rattle.orbit_model.specs.Elements.{earth_rate}
 use Rattle.orbit_model.specs.SeenPlaces.{Place, difference, square, turned_back, HasSeenPlace, IsSentPlace, IsReceiverPlace, range_of}
 use Rattle.orbit_model.proofs.NearRoots.{near_root, travel_root}
 use Rattle.orbit_model.proofs.Apart.{IsBetween, turned_square, loosely, vector_square}
-use Rattle.orbit_model.proofs.BisectionCertificates.{coordinate_square, neg_square, first_move, first_back, second_move, second_back, first_size, first_neg, second_size, second_neg, square_move, ends_high, ends_low, light_square, at_last, sum_move, zero_early, middle_low, middle_high, most_below, upper_half, lower_half, slower, slower_back, range_nn}
+use Rattle.orbit_model.proofs.BisectionCertificates.{coordinate_square, first_move, first_back, second_move, second_back, first_size, first_neg, second_size, second_neg, square_move, ends_high, ends_low, light_square, at_last, sum_move, zero_early, middle_low, middle_high, most_below, upper_half, lower_half, slower, slower_back, range_nn}
+use Rattle.orbit_model.proofs.ChangeCertificates.{neg_square}
 
 pub turned_round : (x y z : Rational) → (add_r (add_r (mul_r y y) (mul_r x x)) (mul_r z z)) ≤ʳ (add_r (add_r (mul_r x x) (mul_r y y)) (mul_r z z))
 turned_round x y z =
@@ -80,7 +81,7 @@ at_most_two q h = (≤ʳ_trans q (add_r (of_whole (pos 1)) (two_to_minus 16)) (o
     two : add_r (of_whole (pos 1)) (two_to_minus 16) ≤ʳ of_whole (pos 2)
     two = le_pos 65537 131072 (lit≤ tt)
 
-rate_low : of_whole (pos 0) ≤ʳ earth_rate
+pub rate_low : of_whole (pos 0) ≤ʳ earth_rate
 rate_low = le_pos 0 72921151467 (lit≤ tt)
 
 rate_high : earth_rate ≤ʳ of_whole (pos 1)

@@ -23,7 +23,7 @@ near_high r q h = high r.num (pos r.den) q.num (pos q.den) (pos_nn q.den)
 pub near_low : (r q : Rational) → IsNearRoot r q → mul_r (of_whole (pos 1152921504606846976)) (sub_r q (mul_r r r)) ≤ʳ q
 near_low r q h = low r.num (pos r.den) q.num (pos q.den) (pos_nn q.den) (abs_times_le (((r.num *ℤ r.num) *ℤ pos q.den) -ℤ (q.num *ℤ pos (r.den * r.den))) (q.num *ℤ pos (r.den * r.den)) (2 ^ 60) h.1).1
 
-times_abs : (z m : ℤ) (s : ℕ) → (z *ℤ pos s) ≤ℤ m → (neg_ℤ z *ℤ pos s) ≤ℤ m → (pos (unsigned_abs z) *ℤ pos s) ≤ℤ m
+pub times_abs : (z m : ℤ) (s : ℕ) → (z *ℤ pos s) ≤ℤ m → (neg_ℤ z *ℤ pos s) ≤ℤ m → (pos (unsigned_abs z) *ℤ pos s) ≤ℤ m
 times_abs (pos n) m s h k = h
 times_abs (negsuc n) m s h k = k
 

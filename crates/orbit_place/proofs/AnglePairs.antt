@@ -8,6 +8,7 @@ use Rattle.iv_core.specs.declared.Iv.{Iv}
 use Rattle.iv_core.specs.Intervals.{Holds, IsWithin}
 use Rattle.trig_box.specs.AnglePairs.{InRange, IsAnglePair}
 use Rattle.trig_box.proofs.PairLaws.{canonical_exists, canonical_is_pair, norm_law_5, norm_law_7}
+use Rattle.kepler_box.proofs.Steps.{in_range}
 use Rattle.orbit_place.proofs.Circle.{near_looser}
 use Rattle.orbit_place.specs.Rotations.{HasPairNearCircle}
 
@@ -15,16 +16,13 @@ use Rattle.orbit_place.specs.Rotations.{HasPairNearCircle}
 low_end_in : (b : Iv 56) → Holds b (of_scale 56 b.lo)
 low_end_in b = end_in 56 b.lo b.hi b.lo (omega (arith, ints)) b.ordered
 
-in_range_5 : (a : ℤ) → neg_ℤ (pos (2 ^ 60)) ≤ℤ a → a ≤ℤ pos (2 ^ 60) → InRange 5 (of_scale 56 a)
-in_range_5 a h k = omega (arith, ints)
-
 in_range_7 : (a : ℤ) → neg_ℤ (pos (2 ^ 62)) ≤ℤ a → a ≤ℤ pos (2 ^ 62) → InRange 7 (of_scale 56 a)
 in_range_7 a h k = omega (arith, ints)
 
 pub near_circle_5 : (b : Iv 56) (cos sin : Iv 60) → IsWithin (2 ^ 60) b → ((x c s : Rational) → Holds b x → IsAnglePair 5 x c s → Holds cos c × Holds sin s) → HasPairNearCircle 1 cos sin
 near_circle_5 b cos sin r h =
     let x : Rational = of_scale 56 b.lo in
-    let e = canonical_exists 5 x (in_range_5 b.lo r.0 (below b.lo b.hi b.ordered r.1)) in
+    let e = canonical_exists 5 x (in_range b.lo r.0 (below b.lo b.hi b.ordered r.1)) in
     let p = canonical_is_pair 5 x e.0 e.1 e.2 in
     record { pair = record { cos = e.0; sin = e.1 }; held = h x e.0 e.1 (low_end_in b) p; near = norm_law_5 x e.0 e.1 p }
   where

@@ -6,12 +6,13 @@ ghost use Rattle.obs_fields.specs.EpochFields.{count_in};
 ghost use Rattle.rinex2_obs.specs.EpochTag.{IfEpoch, IsNoEpoch};
 ghost use Rattle.rinex2_obs.specs.EpochLines.{year_of, tag_in, event_in, slips_in, epoch_in, by_flag, epoch_line_of};
 
-use crate::header::flaw;
 use crate::sat_names::{NameList, first_names};
 use gps_time::Tick;
 use obs_fields::{Layout, comes_later, count, moment};
 use obs_store::Epochs;
-use rinex_head::{Flaw, What, bad_field, byte_in, field, fixed_number, is_blank_line, two_digits};
+use rinex_head::{
+    Flaw, What, bad_field, byte_in, field, fixed_number, flaw, is_blank_line, two_digits,
+};
 
 /// What stands where an epoch's line is expected.
 #[derive(Drop)]

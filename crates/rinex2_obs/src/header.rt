@@ -10,7 +10,7 @@ ghost use Rattle.rinex2_obs.specs.Obs2Rules.{HeaderSoFar, First, Head, Body, bar
 use crate::header_lines::header_line;
 use line_source::{Line, Lines};
 use obs_fields::{HeaderLine, Layout, TypeList, TypeNames, first_types, further_types};
-use rinex_head::{At, FIRST_LABEL, Flaw, What, byte_in, field, fixed, head_line, next_line};
+use rinex_head::{At, FIRST_LABEL, Flaw, What, byte_in, field, fixed, flaw, head_line, next_line};
 
 /// What a header says.
 #[derive(Drop)]
@@ -32,13 +32,6 @@ impl Header {
     {
         (self.types.as_slice().len().saturating_sub(1) / 5) as u8 + 1
     }
-}
-
-/// What is wrong, from that column on.
-pub fn flaw(column: u32, what: What) -> Flaw
-    ensures { result ≡ record { column = column; what = what } }
-{
-    Flaw { column, what }
 }
 
 fn version(line: &[u8]) -> Result<u16, Flaw>

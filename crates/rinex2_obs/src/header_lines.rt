@@ -2,10 +2,9 @@
 ghost use Rattle.std.specs.Prelude.{◌≡◌, ◌≤◌};
 ghost use Rattle.rinex2_obs.specs.HeaderLines.{factor_in, factors_in, header_line_of};
 
-use crate::header::flaw;
 use line_source::Line;
 use obs_fields::{HeaderLine, Label, Layout, delta, label_of_line, position};
-use rinex_head::{Flaw, System, What, field, wide_number};
+use rinex_head::{Flaw, System, What, field, flaw, wide_number};
 
 // A wavelength factor of one band, which must be 1, or 0 or blank where the band isn't observed.
 fn factor(line: &[u8], first: u32) -> Result<(), Flaw>

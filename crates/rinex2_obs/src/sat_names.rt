@@ -3,10 +3,9 @@ ghost use Rattle.std.specs.Prelude.{◌≡◌, ◌+◌, ◌≤◌, length, IfOk,
 ghost use Rattle.rinex2_obs.specs.SatNumbers.{FitsBehind};
 ghost use Rattle.rinex2_obs.specs.SatNames.{name_in, names_from, with_line, first_names_of, further_mark_of, further_names_of};
 
-use crate::header::flaw;
 use crate::sat_numbers::SatNames;
 use obs_fields::satellite;
-use rinex_head::{Flaw, System, What, bad_field, field, is_blank_line};
+use rinex_head::{Flaw, System, What, bad_field, field, flaw, is_blank_line};
 
 // how many names a line has room for
 const NAMES_IN_LINE: u16 = 12;

@@ -33,7 +33,7 @@ pub record Stops {S F : Type 0} (rules : Rules S F) (Holds : S → Type 0) (s : 
   pub reach : (more : List (List ℕ)) → walk rules (front ++ more) n s ≡ walk rules more (n + length front) last
   pub fails : FailsHere rules last (n + length front) rest at
 
-at_line-number : {A : Type 0} (n : ℕ) (r : Result A Flaw) (at : At) → at_line n r ≡ Err at → at.line ≡ n
+pub at_line-number : {A : Type 0} (n : ℕ) (r : Result A Flaw) (at : At) → at_line n r ≡ Err at → at.line ≡ n
 at_line-number n (Ok x) at e = absurd cc
 at_line-number n (Err flaw) at e = let same : place n flaw.column flaw.what ≡ at = cc in ap (λ (a : At). a.line) (sym same)
 
@@ -41,7 +41,7 @@ FailsHere-number : {S F : Type 0} (rules : Rules S F) (s : S) (n : ℕ) (rest : 
 FailsHere-number rules s n [] at e = at_line-number (n + 1) (rules.finish s) at e
 FailsHere-number rules s n (line ∷ lines) at e = at_line-number (n + 1) (admitted rules s line) at e
 
-admitted_short : {S F : Type 0} (rules : Rules S F) (s next : S) (line : List ℕ) → admitted rules s line ≡ Ok next → rules.admit s line ≡ Ok next
+pub admitted_short : {S F : Type 0} (rules : Rules S F) (s next : S) (line : List ℕ) → admitted rules s line ≡ Ok next → rules.admit s line ≡ Ok next
 admitted_short rules s next line is = by_length (nat_lt 4096 (length line)) is
   where
     by_length : (t : Bool) → (if t then flawed 1 LongLine else rules.admit s line) ≡ Ok next → rules.admit s line ≡ Ok next

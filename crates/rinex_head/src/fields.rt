@@ -8,7 +8,7 @@ ghost use Rattle.rinex_head.specs.Fields.{without_blanks, whole_of, filled_of, r
 
 use crate::columns::field;
 use crate::place::{Flaw, What};
-use decimal_text::{Dec, read_exp, read_fixed};
+use decimal_text::{Dec, all_digits, read_exp, read_fixed};
 
 fn skip_blanks(text: &[u8]) -> &[u8]
     ensures value { result.now ≡ without_blanks text.now }
@@ -22,19 +22,6 @@ fn skip_blanks(text: &[u8]) -> &[u8]
         rest = after;
     }
     rest
-}
-
-fn all_digits(text: &[u8]) -> bool
-    ensures { result ≡ are_digits text.now }
-{
-    let mut rest = text;
-    while let [b, after @ ..] = rest {
-        if *b < b'0' || *b > b'9' {
-            return false;
-        }
-        rest = after;
-    }
-    true
 }
 
 fn number_of(digits: &[u8]) -> u32
@@ -142,6 +129,13 @@ pub fn is_blank_line(line: &[u8]) -> bool
         rest = after;
     }
     true
+}
+
+/// What is wrong, from that column on.
+pub fn flaw(column: u32, what: What) -> Flaw
+    ensures { result ≡ record { column = column; what = what } }
+{
+    Flaw { column, what }
 }
 
 /// The field that begins at this column can't be read.

@@ -3,7 +3,8 @@ ghost use Rattle.std.specs.Prelude.{◌≡◌, MatchOption, MatchResult};
 ghost use Rattle.line_source.specs.Lines.{GivesLine, IsAtEnd};
 ghost use Rattle.rinex_head.specs.Walk.{HasNoLine, IsLongLine};
 
-use crate::place::{At, Flaw, What};
+use crate::fields::flaw;
+use crate::place::{At, What};
 use line_source::{Line, Lines};
 
 /// The next line, which must be there. Where there is none, the text is refused at column 1 of the line after the
@@ -15,8 +16,8 @@ pub fn next_line<'a>(lines: &mut Lines<'a>, missing: What) -> Result<Line<'a>, A
 {
     match lines.next() {
         Some(Ok(line)) => Ok(line),
-        Some(Err(long)) => Err(first_column(What::LongLine).at(long.number)),
-        None => Err(first_column(missing).at(lines.next_number())),
+        Some(Err(long)) => Err(flaw(1, What::LongLine).at(long.number)),
+        None => Err(flaw(1, missing).at(lines.next_number())),
     }
 }
 
@@ -29,13 +30,7 @@ pub fn line_or_end<'a>(lines: &mut Lines<'a>) -> Result<Option<Line<'a>>, At>
 {
     match lines.next() {
         Some(Ok(line)) => Ok(Some(line)),
-        Some(Err(long)) => Err(first_column(What::LongLine).at(long.number)),
+        Some(Err(long)) => Err(flaw(1, What::LongLine).at(long.number)),
         None => Ok(None),
     }
-}
-
-fn first_column(what: What) -> Flaw
-    ensures { result ≡ record { column = 1; what = what } }
-{
-    Flaw { column: 1, what }
 }

@@ -5,8 +5,8 @@ ghost use Rattle.rinex_nav.specs.RecordLines.{number_in, satellite_in, moment_of
 use decimal_text::Dec;
 use gps_time::{Tick, tick_of};
 use rinex_head::{
-    Flaw, System, What, bad_field, byte_in, exponent_number, field, filled_number, is_blank_line,
-    two_digits, whole_number,
+    Flaw, System, What, bad_field, byte_in, exponent_number, field, filled_number, flaw,
+    is_blank_line, two_digits, whole_number,
 };
 
 /// How many records a file may have.
@@ -40,12 +40,6 @@ pub enum BodyLine {
     Other,
     /// The first line of a record of the system.
     Record(Start),
-}
-
-fn flaw(column: u32, what: What) -> Flaw
-    ensures { result ≡ record { column = column; what = what } }
-{
-    Flaw { column, what }
 }
 
 // The number with an exponent in the 19 columns from this one on.

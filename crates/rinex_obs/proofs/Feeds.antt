@@ -1,5 +1,6 @@
 -- The lines of a text that is taken in pieces.
 use Rattle.std.proofs.Common.{◌≡◌, ◌<◌, ◌≤◌, ◌+◌, ◌-◌, ◌==◌, nat_lt, ℕ, zero, suc, Bool, true, false, List, [], ◌∷◌, ◌++◌, length, take, drop, slice_index, Result, Ok, Err, OnOk, IfErr, refl, sym, ap, subst, ◌∙◌, arith, append_assoc, length-append, length-take}
+use Rattle.std.proofs.lemmas.Bool.{false_from_ne_true}
 use Rattle.std.proofs.lemmas.Bool.Decides.{nat_tests}
 use Rattle.std.proofs.lemmas.List.{append-nil}
 use Rattle.std.specs.Str.Lines.{strip_carriage_return}
@@ -30,15 +31,11 @@ goes_byte b rest line other = rw other refl
 ends_byte : (b : ℕ) (rest line : List ℕ) → (b == 10) ≡ true → lines_from (b ∷ rest) line ≡ strip_carriage_return line ∷ lines_from rest []
 ends_byte b rest line feed = rw feed refl
 
-unless_true : (t : Bool) → (t ≡ true → ⊥) → t ≡ false
-unless_true true never = absurd (never refl)
-unless_true false never = refl
-
 -- bytes without a line feed belong to the line
 pub goes_on : (bytes : List ℕ) → Nowhere (Passes (is_byte 10) bytes) 0 (length bytes) → GoesOn bytes
 goes_on [] none line more = ap (λ l. lines_from more l) (sym (append-nil line))
 goes_on (b ∷ bs) none line more =
-    goes_byte b (bs ++ more) line (unless_true (b == 10) (none 0 (omega arith) (omega arith)))
+    goes_byte b (bs ++ more) line (false_from_ne_true (b == 10) (none 0 (omega arith) (omega arith)))
     ∙ goes_on bs (λ k from inside. none (suc k) (omega arith) (omega arith)) (line ++ b ∷ []) more
     ∙ ap (λ l. lines_from more l) (append_assoc line (b ∷ []) bs)
 
@@ -47,7 +44,7 @@ pub ends_at : (bytes : List ℕ) (k : ℕ) → k < length bytes → Nowhere (Pas
 ends_at [] k inside none is line more = absurd (omega arith)
 ends_at (b ∷ bs) zero inside none is line more = ends_byte b (bs ++ more) line is ∙ ap (λ l. strip_carriage_return l ∷ lines_from (bs ++ more) []) (sym (append-nil line))
 ends_at (b ∷ bs) (suc k) inside none is line more =
-    goes_byte b (bs ++ more) line (unless_true (b == 10) (none 0 (omega arith) (omega arith)))
+    goes_byte b (bs ++ more) line (false_from_ne_true (b == 10) (none 0 (omega arith) (omega arith)))
     ∙ ends_at bs k (omega arith) (λ j from lt. none (suc j) (omega arith) (omega arith)) is (line ++ b ∷ []) more
     ∙ ap (λ l. strip_carriage_return l ∷ lines_from (drop (suc k) bs ++ more) []) (append_assoc line (b ∷ []) (take k bs))
 

@@ -4,12 +4,12 @@ ghost use Rattle.obs_store.specs.Epochs.{last_tag_of};
 ghost use Rattle.rinex_obs.specs.EpochTag.{IfEpoch, IsNoEpoch};
 ghost use Rattle.rinex_obs.specs.EpochLines.{tag_in, event_in, epoch_in, by_flag, epoch_line_of};
 
-use crate::header::flaw;
 use gps_time::Tick;
 use obs_fields::{Layout, comes_later, count, moment};
 use obs_store::Epochs;
 use rinex_head::{
-    Flaw, What, bad_field, byte_in, field, filled_number, fixed_number, is_blank_line, two_digits,
+    Flaw, What, bad_field, byte_in, field, filled_number, fixed_number, flaw, is_blank_line,
+    two_digits,
 };
 
 /// What stands where an epoch's line is expected.

@@ -9,12 +9,11 @@ ghost use Rattle.rinex_obs.specs.Opened.{expected_in};
 ghost use Rattle.rinex_obs.specs.Feeding.{line_gives, gives_with, Takes, TakesAll, IsAnswerTo};
 ghost use Rattle.rinex_obs.specs.Fed.{LinesWithin, LinesWithin-prop, gives_behind, StandsFor, HasNoMemory};
 
-use crate::header::flaw;
 use crate::open_file::OpenFile;
 use crate::started::{Overlong, StartedLine, split_line};
 use line_source::{Line, MAX_LINE, Taker, without_return};
 use obs_store::ObsFile;
-use rinex_head::{At, System, TextFault, What};
+use rinex_head::{At, System, TextFault, What, flaw};
 use std::alloc::{AllocError, Global};
 
 /// A text of which more may follow: the number of the lines that were read, and the one that has begun.

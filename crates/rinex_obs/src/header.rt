@@ -5,7 +5,7 @@ ghost use Rattle.rinex_obs.specs.FirstLine.{of_kind, first_line_of};
 
 use line_source::Line;
 use obs_fields::TypeNames;
-use rinex_head::{At, Flaw, System, Version, What, version_of};
+use rinex_head::{At, Flaw, System, Version, What, flaw, version_of};
 
 /// What a header says.
 #[derive(Drop)]
@@ -20,13 +20,6 @@ pub struct Header {
     pub delta: [i64; 3],
     /// The types of the system in the order of their values.
     pub types: TypeNames,
-}
-
-/// What is wrong, from that column on.
-pub fn flaw(column: u32, what: What) -> Flaw
-    ensures { result ≡ record { column = column; what = what } }
-{
-    Flaw { column, what }
 }
 
 fn kind_of(system: System, version: Version) -> Result<u16, Flaw>

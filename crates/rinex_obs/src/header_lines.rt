@@ -2,10 +2,9 @@
 ghost use Rattle.std.specs.Prelude.{◌≡◌};
 ghost use Rattle.rinex_obs.specs.HeaderLines.{header_line_of};
 
-use crate::header::flaw;
 use line_source::Line;
 use obs_fields::{HeaderLine, Label, Layout, delta, label_of_line, position};
-use rinex_head::{Flaw, System, What, byte_in, field};
+use rinex_head::{Flaw, System, What, byte_in, field, flaw};
 
 /// What a line of the header says.
 #[tactic(auto, unfolding(crate::specs::HeaderLines::header_line_of))]

@@ -4,13 +4,13 @@ ghost use Rattle.rinex_obs.specs.ObsRules.{Body, admit, finish};
 ghost use Rattle.rinex_obs.specs.Opened.{expected_in, expected_in_body};
 ghost use Rattle.rinex_obs.specs.Feeding.{Takes};
 
-use crate::header::{Header, first_line, flaw};
+use crate::header::{Header, first_line};
 use crate::open_body::OpenBody;
 use crate::open_header::OpenHeader;
 use line_source::Line;
 use obs_fields::kept_types;
 use obs_store::ObsFile;
-use rinex_head::{Flaw, System, TextFault, What};
+use rinex_head::{Flaw, System, TextFault, What, flaw};
 use std::alloc::{AllocError, Global};
 
 /// What the lines of a file have given so far.

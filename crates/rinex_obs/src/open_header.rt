@@ -3,11 +3,11 @@ ghost use Rattle.std.specs.Prelude.{◌≡◌, ◌+◌, ◌<◌, ◌≤◌, leng
 ghost use Rattle.std.proofs.Props.{props};
 ghost use Rattle.rinex_obs.specs.ObsRules.{Head, More, Body, bare_header, more_types, begun_list, ended_header, admit};
 
-use crate::header::{Header, flaw};
+use crate::header::Header;
 use crate::header_lines::header_line;
 use line_source::Line;
 use obs_fields::{HeaderLine, Layout, TypeList, TypeNames, first_types, further_types};
-use rinex_head::{Flaw, System, What};
+use rinex_head::{Flaw, System, What, flaw};
 
 /// What the lines of a header have said so far.
 #[derive(Drop)]

@@ -4,10 +4,9 @@ ghost use Rattle.obs_store.specs.Missing.{missing_values};
 ghost use Rattle.obs_store.specs.Satellites.{has_satellite};
 ghost use Rattle.rinex_obs.specs.SatLines.{satellite_line_of, found_with};
 
-use crate::header::flaw;
 use obs_fields::{KeptType, Layout, satellite, set_values};
 use obs_store::{SLOTS, Satellites, Value};
-use rinex_head::{Flaw, System, What};
+use rinex_head::{Flaw, System, What, flaw};
 
 /// The number of the satellite of the system in a line after these ones of its epoch, or nothing at one of another system.
 /// Its values are set in the place of missing ones.

@@ -18,9 +18,6 @@ plain_size x m h k = omega (arith, ints)
 pub read_small : (x : ℤ) → unsigned_abs x < 2 ^ 48 → to_z w64 (of_z w64 x) ≡ x
 read_small x small = as_w64 x (omega (arith, small))
 
-pub through : (x y z : ℤ) → x ≤ℤ y → y ≤ℤ z → x ≤ℤ z
-through x y z h k = omega (arith, ints)
-
 pub scale_cases : (s : ℕ) → IsScale s → (s ≡ 0) ⊎ (s ≡ 14)
 scale_cases s h = ⊎_elim (λ (e : (s == 0) ≡ true). inl (eqb-true s 0 e)) (λ (e : (s == 14) ≡ true). inr (eqb-true s 14 e)) (or_cases (s == 0) (s == 14) (to_true _ h))
   where

@@ -3,7 +3,7 @@ use Rattle.std.proofs.Common.{◌≡◌, ℕ, zero, suc, ◌+◌, ◌<◌, ◌�
 use Rattle.std.specs.Prelude.{slice_get, is_some, find, ◌==◌, ◌&&◌, nat_le, pos}
 use Rattle.std.proofs.lemmas.Option.{slice_get-get_or, slice_get_within, get_or_from_slice_get}
 use Rattle.std.proofs.lemmas.Bool.Decides.{nat_tests}
-use Rattle.std.proofs.lemmas.Bool.{false≢true}
+use Rattle.std.proofs.lemmas.Bool.{false≢true, and_from, le-leb}
 use Rattle.std.proofs.lemmas.List.Sums.{sum_by-cons}
 use Rattle.obs_rows.specs.declared.arcs.Arc.{Arc}
 use Rattle.obs_rows.specs.Ranges.{IsBelow}
@@ -84,7 +84,7 @@ record Holder (arcs : List Arc) (number : ℕ) : Type 0 where
   arc_is : slice_get arcs place ≡ Some arc
   holds_it : holds number arc ≡ true
 
-with_first : (x : Arc) (xs : List Arc) (number : ℕ) → held (x ∷ xs) number ≡ cond (holds number x) 1 0 + held xs number
+pub with_first : (x : Arc) (xs : List Arc) (number : ℕ) → held (x ∷ xs) number ≡ cond (holds number x) 1 0 + held xs number
 with_first x xs number = sum_by-cons (λ (a : Arc). cond (holds number a) 1 0) x xs
 
 abbrev later_holder : (x : Arc) (xs : List Arc) (number : ℕ) → Holder xs number → Holder (x ∷ xs) number
@@ -202,19 +202,12 @@ first_inside used kept k a c numbered is =
 low : (f : ℕ) → nat_le f f ≡ true
 low f = grind (arith, nat_tests)
 
-high : (f l : ℕ) → f ≤ l → nat_le f l ≡ true
-high f l h = grind (arith, nat_tests)
-
-both : (a b : Bool) → a ≡ true → b ≡ true → (a && b) ≡ true
-both true b p q = q
-both false b p q = absurd (false≢true p)
-
 -- an arc holds its first pair
 pub holds_first : (kept : List Arc) (k : ℕ) (a : Arc) → AreArcs kept → slice_get kept k ≡ Some a → holds_pair a a.first ≡ true
 holds_first kept k a h is = ends a.first a.last (subst IsArcInRange (get_or_from_slice_get kept k a a is) (h.ranges k a (slice_get_within kept k a is))).order
   where
     ends : (f l : ℕ) → f ≤ l → (nat_le f f && nat_le f l) ≡ true
-    ends f l h = both (nat_le f f) (nat_le f l) (low f) (high f l h)
+    ends f l h = and_from (nat_le f f) (nat_le f l) (low f) (le-leb f l h)
 
 -- ---- arcs with no shifts
 pub no_shifts : (kept : List Arc) → All (λ a. a.shift ≡ pos 0 ∷ pos 0 ∷ pos 0 ∷ []) kept → AreShiftsBelow (2 ^ 40) kept

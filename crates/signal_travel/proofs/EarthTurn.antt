@@ -1,5 +1,5 @@
 -- The Earth's turn in a box of times: its angles, its pairs, and the places that it turns.
-use Rattle.std.proofs.Common.{◌≡◌, ℕ, zero, suc, ◌+◌, ◌*◌, ◌^◌, ◌≤◌, [], ◌∷◌, ℤ, pos, ◌+ℤ◌, ◌-ℤ◌, ◌*ℤ◌, neg_ℤ, ◌≤ℤ◌, unsigned_abs, arith, sym, ap, subst, ◌∙◌, refl, lit<, lit≤, to_z, of_z}
+use Rattle.std.proofs.Common.{◌≡◌, ◌+◌, ◌*◌, ◌^◌, ◌≤◌, [], ◌∷◌, ℤ, pos, ◌+ℤ◌, ◌-ℤ◌, ◌*ℤ◌, neg_ℤ, ◌≤ℤ◌, unsigned_abs, arith, sym, subst, refl, lit<, lit≤, to_z, of_z}
 use Rattle.std.proofs.lemmas.Int.{ints}
 use Rattle.std.specs.Int.{w64}
 use Rattle.whole_math.proofs.Ring.{va, ko, ◌⊕◌, ◌⊖◌, ◌⊗◌, ng}
@@ -13,6 +13,7 @@ use Rattle.rational.proofs.Laws.{≤ʳ_trans, ≤ʳ_from_same}
 use Rattle.trig_box.specs.AnglePairs.{Pair, doubled, taylor_pair, part, IsAnglePair, IsCanonicalPair}
 use Rattle.trig_box.proofs.PairLaws.{canonical_exists, canonical_is_pair, canonical_law, sharp_law, size_law_5}
 use Rattle.orbit_model.specs.Elements.{earth_rate}
+use Rattle.orbit_exists.proofs.Iterates.{no_sine}
 use Rattle.signal_travel.proofs.EarthTurnCertificates.{angle_up, angle_down, pad_low, pad_high, zero_right, zero_left}
 
 -- ---- a pair of a time of the box lies within the pad of the canonical pair of the middle
@@ -132,15 +133,6 @@ cos_ends a cl ch sl sh k =
       high_end cl ch (pos 512) (pos 1152939096792891392) q k.cos_narrow b (≤ʳ_trans q u (of_scale 60 (pos 1152939096792891392)) n.0 one_most),
     )
 
--- the sine of the canonical pair of 0 is 0
-zero_sine : (k : ℕ) (p : Pair) → p.sin.num ≡ pos 0 → (doubled k p).sin.num ≡ pos 0
-unfolding doubled
-zero_sine zero p h = h
-zero_sine (suc k) p h = ap (λ (z : ℤ). pos 2 *ℤ (z *ℤ (doubled k p).cos.num)) (zero_sine k p h) ∙ none (doubled k p).cos.num
-  where
-    none : (z : ℤ) → pos 2 *ℤ (pos 0 *ℤ z) ≡ pos 0
-    none z = omega (arith, ints)
-
 first_sine : (taylor_pair (part 5 (of_scale 56 (pos 0)))).sin.num ≡ pos 0
 first_sine = omega (arith, ints)
 
@@ -161,7 +153,7 @@ zero_canonical = record { in_range = lit≤ tt; cos_is = refl; sin_is = refl }
 
 zero_is : zero_pair.sin.num ≡ pos 0
 unfolding zero_pair
-zero_is = zero_sine 5 (taylor_pair (part 5 (of_scale 56 (pos 0)))) first_sine
+zero_is = no_sine 5 (taylor_pair (part 5 (of_scale 56 (pos 0)))) first_sine
 
 pub sin_ends : (a cl ch sl sh : ℤ) → ArePairs a cl ch sl sh → (neg_ℤ (pos 28024121222816) ≤ℤ sl) × (sh ≤ℤ pos 28024121222816)
 sin_ends a cl ch sl sh k =

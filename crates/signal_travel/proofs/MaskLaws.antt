@@ -1,6 +1,6 @@
 -- The mask's rule as the code decides it, over whole numbers.
+use Rattle.std.proofs.Common.{false, ◌≡◌, ℕ, ◌*◌, ◌≤◌, ◌↔◌, ℤ, pos, ◌*ℤ◌, ◌≤ℤ◌, arith, ap, ap₂, refl}
 use lib.Signed.{lt_z}
-use Rattle.std.proofs.Common.{false, ◌≡◌, ℕ, ◌*◌, ◌≤◌, ◌↔◌, ℤ, pos, ◌*ℤ◌, ◌≤ℤ◌, unsigned_abs, arith, ap, ap₂, refl}
 use Rattle.std.proofs.lemmas.Int.{ints}
 use Rattle.whole_math.proofs.Order.{lins}
 use Rattle.signal_travel.specs.Grid.{dot3}
@@ -22,9 +22,6 @@ decided T mask m h s d q p e d0 eh em es =
 
 pub same_dot : (a b c p q r a' b' c' p' q' r' : ℤ) → a' ≡ a → b' ≡ b → c' ≡ c → p' ≡ p → q' ≡ q → r' ≡ r → dot3 a' b' c' p' q' r' ≡ dot3 a b c p q r
 same_dot a b c p q r a' b' c' p' q' r' e f g h i j = rw (e, f, g, h, i, j) refl
-
-pub size_of : (z : ℤ) → pos 0 ≤ℤ z → pos (unsigned_abs z) ≡ z
-size_of z h = omega (arith, ints)
 
 pub not_below : (z : ℤ) → lt_z z (pos 0) ≡ false → pos 0 ≤ℤ z
 not_below z h = omega (arith, lins, h)

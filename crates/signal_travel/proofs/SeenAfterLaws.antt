@@ -17,7 +17,7 @@ use Rattle.orbit_model.proofs.Orders.{root_r}
 use Rattle.orbit_model.proofs.NearRoots.{range_root, near_high, near_low, root_nn}
 use Rattle.orbit_model.proofs.Apart.{IsBetween, turned_square, loosely, vector_square}
 use Rattle.orbit_model.proofs.Seen.{square_same, difference_same}
-use Rattle.orbit_model.proofs.Exists.{AreApart, AreTurns, moves_slowly, both_within}
+use Rattle.orbit_model.proofs.Exists.{AreApart, AreTurns, moves_slowly, both_within, rate_low}
 use Rattle.orbit_exists.proofs.Roots.{near_root_exists}
 use Rattle.signal_travel.specs.declared.places.Point.{Point}
 use Rattle.signal_travel.specs.declared.sent.SentBox.{SentBox}
@@ -27,9 +27,6 @@ use Rattle.signal_travel.proofs.Sights.{some_turn, point_place}
 use Rattle.signal_travel.proofs.SeenAfterCertificates.{rate_times, rate_enough, range_least, times_square, sum_least, times_apart, less_least, less_back, both_least, not_late, not_early}
 
 -- ---- the turns of two times
-rate_least : of_whole (pos 0) ≤ʳ earth_rate
-rate_least = le_pos 0 72921151467 (lit≤ tt)
-
 -- half of what the parts of the pairs of two times within d are apart at most
 half_move : Rational → Rational
 half_move d = add_r (mul_r earth_rate d) (two_to_minus 68)
@@ -47,7 +44,7 @@ unfolding half_move
 near_turns d a b p q w hp hq =
     let e : Rational = mul_r earth_rate d in
     let law = sharp_law 5 e (mul_r earth_rate a) (mul_r earth_rate b) p.cos p.sin q.cos q.sin (lit≤ tt) hp hq
-    (rate_times earth_rate d a b rate_least w.0, rate_times earth_rate d b a rate_least w.1) in
+    (rate_times earth_rate d a b rate_low w.0, rate_times earth_rate d b a rate_low w.1) in
     let cos = both_within (add_r e (two_to_minus 68)) p.cos q.cos (loosely_within e p.cos q.cos law.0) in
     let sin = both_within (add_r e (two_to_minus 68)) p.sin q.sin (loosely_within e p.sin q.sin law.1) in
     record { cos_up = cos.0; cos_down = cos.1; sin_up = sin.0; sin_down = sin.1 }

@@ -20,9 +20,6 @@ near_equator x y z a b c d e f = (
 pub earth_along : (a b c x y z : ℤ) → a ≡ x → b ≡ y → c ≡ z → IsReceiverPoint (x ∷ y ∷ z ∷ []) → IsReceiverPoint (a ∷ b ∷ c ∷ [])
 earth_along a b c x y z e f g h = rw (e, f, g) h
 
-pub same_three : (a b c x y z : ℤ) → a ≡ x → b ≡ y → c ≡ z → a ∷ b ∷ c ∷ [] ≡ x ∷ y ∷ z ∷ []
-same_three a b c x y z e f g = rw (e, f, g) refl
-
 -- the coordinates as the code makes them
 pub first_is : (x : ℤ) → unsigned_abs x ≤ 1000000 → to_z w64 (of_z w64 (pos 63781370000 +ℤ to_z w64 (of_z w64 (pos 10 *ℤ to_z w64 (of_z w64 x))))) ≡ pos 63781370000 +ℤ (pos 10 *ℤ x)
 first_is x h = omega (arith, ints)

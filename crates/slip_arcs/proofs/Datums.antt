@@ -1,23 +1,20 @@
 -- The datums of the arcs that are kept so far, and that these are the first of their linked sets.
-use Rattle.std.proofs.Common.{◌≡◌, ℕ, ◌+◌, ◌<◌, ◌≤◌, ◌⊎◌, ◌↔◌, max, true, false, Some, List, [], ◌∷◌, ◌++◌, length, All, IsTrue, arith, refl, sym, ◌∙◌, ap, subst, inr, ⊎_elim}
+use Rattle.std.proofs.Common.{◌≡◌, ℕ, ◌+◌, ◌<◌, ◌≤◌, ◌⊎◌, ◌↔◌, max, true, false, Some, List, [], ◌∷◌, ◌++◌, length, All, IsTrue, arith, refl, sym, subst, inr, ⊎_elim}
 use Rattle.std.specs.Prelude.{slice_get, nat_le}
-use Rattle.std.proofs.lemmas.Bool.{cases_lt, cases_eq, cases_Bool, le-leb, leb-true}
+use Rattle.std.proofs.lemmas.Bool.{cases_lt, cases_Bool, le-leb, leb-true}
 use Rattle.std.proofs.lemmas.List.Elements.{All-push}
-use Rattle.std.proofs.lemmas.Option.{same_Some, slice_get_within}
+use Rattle.std.proofs.lemmas.Option.{slice_get_within}
 use Rattle.whole_math.proofs.Lists.{push_get, push_before, last_push}
 use Rattle.obs_rows.specs.declared.arcs.Arc.{Arc}
 use Rattle.slip_arcs.specs.Runs.{Run, is_long, no_shift, IsAdded}
-use Rattle.slip_arcs.specs.Linked.{AreNeighbours, IsChain, HaveDatums}
-
--- all earlier arcs end before arc k
-abbrev pub IsFresh : List Arc → ℕ → Arc → Type 0
-IsFresh arcs k a = (m : ℕ) (b : Arc) → m < k → slice_get arcs m ≡ Some b → b.last < a.first
+use Rattle.slip_arcs.specs.Linked.{HaveDatums}
+use Rattle.slip_arcs.proofs.Chains.{AreRising, IsFresh, share_first, chain_stays}
 
 -- the arcs begin by pair at and end before reach, in order, and just those that are fresh are datums
 pub record Marked (at : ℕ) (arcs : List Arc) (reach : ℕ) : Type 0 where
   pub shifts : All (λ a. a.shift ≡ no_shift) arcs
   pub order : (k : ℕ) (a : Arc) → slice_get arcs k ≡ Some a → (a.first ≤ a.last) × (a.first ≤ at) × (a.last < reach)
-  pub rising : (m k : ℕ) (b a : Arc) → m < k → slice_get arcs m ≡ Some b → slice_get arcs k ≡ Some a → b.first ≤ a.first
+  pub rising : AreRising arcs
   pub datums : (k : ℕ) (a : Arc) → slice_get arcs k ≡ Some a → IsTrue a.datum ↔ IsFresh arcs k a
   pub reached : (reach ≡ 0) ⊎ ((m : ℕ) × (b : Arc) × (slice_get arcs m ≡ Some b) × (reach ≡ b.last + 1))
 
@@ -112,39 +109,17 @@ marked_add least at arcs arcs' short short' reach reach' sat last order added ma
     subst (λ (n : ℕ). Marked at arcs' n) (sym new.2) (subst (λ (l : List Arc). Marked at l reach) (sym new.0) marked))
     (cases_Bool (is_long least r))
 
--- from a fresh arc no chain leads to an earlier one
-chain_stays : (at : ℕ) (arcs : List Arc) (reach k : ℕ) (a : Arc) → Marked at arcs reach → slice_get arcs k ≡ Some a → IsFresh arcs k a → (path : List ℕ) (j n : ℕ) → k ≤ j
-    → IsChain arcs j path n → k ≤ n
-chain_stays at arcs reach k a marked is fresh [] j n from chain = let e = chain in omega arith
-chain_stays at arcs reach k a marked is fresh (m ∷ ms) j n from chain =
-    let near = chain.0 in
-    let share = near.share in
-    let low : a.first ≤ near.one.first =
-    ⊎_elim (λ (same : k ≡ j). let one : Some a ≡ Some near.one = sym is ∙ ap (λ (i : ℕ). slice_get arcs i) same ∙ near.one_is in subst (λ (b : Arc). a.first ≤ b.first)
-    (same_Some a near.one one) (omega arith)) (λ (other : k ≡ j → ⊥). marked.rising k j a near.one (omega arith) is near.one_is) (cases_eq k j) in
-    let next : k ≤ m =
-    ⊎_elim (λ (less : m < k). let l : near.other.last < a.first = fresh m near.other less near.other_is in let p = share.1 in let q = share.4 in absurd (omega arith))
-    (λ (more : k ≤ m). more) (cases_lt m k) in
-    chain_stays at arcs reach k a marked is fresh ms m n next chain.1
-
 -- of all that are linked to it a datum is the first, and only a datum is
 pub have_datums : (at : ℕ) (arcs : List Arc) (reach : ℕ) → Marked at arcs reach → HaveDatums arcs
 have_datums at arcs reach marked k a is =
     let d = marked.datums k a is in (
-      λ on n linked. chain_stays at arcs reach k a marked is (d.0 on) linked.0 k n (omega arith) linked.1,
+      λ on n linked. chain_stays arcs k a marked.rising is (d.0 on) linked.0 k n (omega arith) linked.1,
       λ first.
           d.1
           (λ m b before found.
           ⊎_elim (λ (less : b.last < a.first). less)
           (λ (more : a.first ≤ b.last).
-          let near : AreNeighbours arcs k m =
-          record {
-            one = a;
-            other = b;
-            one_is = is;
-            other_is = found;
-            share = (a.first, omega arith, (marked.order k a is).0, marked.rising m k b a before found is, more);
-          } in
+          let near = share_first arcs k m a b marked.rising (marked.order k a is).0 is found before more in
           let behind : k ≤ m = first m (m ∷ [], (near, refl)) in
           absurd (omega arith))
           (cases_lt b.last a.first)),

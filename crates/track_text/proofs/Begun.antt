@@ -1,5 +1,5 @@
 -- Up to the line `pairs` the lines that the rules admit are the first of the certificate of some track.
-use Rattle.std.proofs.Common.{◌≡◌, ◌+◌, ◌-◌, ◌≤◌, ℕ, ℤ, zero, suc, false, List, [], ◌∷◌, ◌++◌, length, take, codes, All, Result, Ok, Err, refl, sym, ap, ◌∙◌, subst, arith, length-append, append_assoc}
+use Rattle.std.proofs.Common.{◌≡◌, ◌+◌, ◌-◌, ◌≤◌, ℕ, ℤ, zero, suc, List, [], ◌∷◌, ◌++◌, length, take, codes, All, Result, Ok, Err, refl, sym, ap, ◌∙◌, subst, arith, length-append, append_assoc}
 use Rattle.std.proofs.lemmas.List.{append-nil, take_at}
 use Rattle.integer_form.specs.declared.faults.Place.TheVariants.{Y}
 use Rattle.obs_rows.specs.declared.arcs.Arc.{Arc}
@@ -12,22 +12,21 @@ use Rattle.rinex_head.specs.declared.place.TextFault.{TextFault}
 use Rattle.rinex_head.specs.declared.place.TextFault.TheVariants.{Refused, NoMemory}
 use Rattle.rinex_head.specs.Places.{and_then}
 use Rattle.rinex_head.specs.Walk.{Gives, IfRefused}
+use Rattle.rinex_head.proofs.TakenLines.{then_holds}
 use Rattle.cert_words.specs.TextLines.{ended_lines}
 use Rattle.cert_words.proofs.TextLaws.{lines_of_text}
-use Rattle.cert_words.proofs.RangeLaws.{took_both}
 use Rattle.cert_lines.specs.declared.ranges.TheConstants.{COORDINATES}
 use Rattle.cert_lines.specs.declared.version.Version.TheVariants.{Two}
 use Rattle.cert_lines.specs.Lines.{count_line, vector_line, system_line, signals_line, arc_line, arc_lines, counted_arcs}
 use Rattle.cert_lines.specs.Forms.{count_in, vector_in, system_in, Letters as LettersOf, signals_in, signals_of, arc_in}
-use Rattle.cert_lines.specs.TailForms.{begins}
 use Rattle.cert_lines.proofs.LetterLaws.{not_one}
 use Rattle.grammar_lines.specs.LineParts.{word_in}
 use Rattle.grammar_lines.proofs.ArcSteps.{arcs_took}
 use Rattle.cert_data.specs.declared.certs.Cert.{Cert}
 use Rattle.cert_text.specs.BeforePairs.{lines_before, SomeBegins, BeginsBefore}
 use Rattle.cert_text.proofs.ReadBack.{word_was, count_was, point_was, system_was, signals_were, arc_was}
-use Rattle.cert_text.proofs.Completed.{Fit, IsRatio, IsBudget, IsSystemOf, IsWholePoint, AreSignalsOf, Head, signals_of_head, any_head, AreBegun, none_begun, one_more, filled, All-one, cert_of, cert_whole}
-use Rattle.cert_text.proofs.Begun.{admitted_lines, arc_lines-append, regroup, pushed, pairs_begins}
+use Rattle.cert_text.proofs.Completed.{Head, signals_of_head, any_head, AreBegun, none_begun, one_more, filled, All-one, cert_of, cert_whole}
+use Rattle.cert_text.proofs.Begun.{admitted_lines, arc_lines-append, regroup, pushed, pairs_begins, with_ratio, with_budget, with_system, with_base, with_signals, IsOtherLine}
 use Rattle.track_data.specs.declared.tracks.Track.{Track}
 use Rattle.track_data.specs.declared.certs.TrackCert.{TrackCert}
 use Rattle.track_data.specs.declared.tails.TrackTail.TheVariants.{Overwidth}
@@ -217,25 +216,7 @@ held_begins End front held = absurd held
 -- by what the line gives
 by_line : {X : Type 0} (front : List (List ℕ)) (form : Result X Flaw) (behind : X → Expected) (next : Expected) → and_then form (λ x. Ok (behind x)) ≡ Ok next
     → ((x : X) → form ≡ Ok x → Held (behind x) front) → Held next front
-by_line {X} front form behind next e each =
-    let both = took_both form (λ (x : X). Ok (behind x)) next e in
-    let same : behind both.0 ≡ next = cc (both.2) in
-    subst (λ (s : Expected). Held s front) same (each both.0 both.1)
-
-abbrev with_ratio : TrackHead → Fit IsRatio → TrackHead
-with_ratio h x = record { ratio = x; budget = h.budget; system = h.system; base = h.base; point = h.point; signals = h.signals }
-
-abbrev with_budget : TrackHead → Fit IsBudget → TrackHead
-with_budget h x = record { ratio = h.ratio; budget = x; system = h.system; base = h.base; point = h.point; signals = h.signals }
-
-abbrev with_system : TrackHead → Fit (IsSystemOf Two) → TrackHead
-with_system h x = record { ratio = h.ratio; budget = h.budget; system = x; base = h.base; point = h.point; signals = h.signals }
-
-abbrev with_base : TrackHead → Fit IsWholePoint → TrackHead
-with_base h x = record { ratio = h.ratio; budget = h.budget; system = h.system; base = x; point = h.point; signals = h.signals }
-
-abbrev with_signals : TrackHead → Fit (AreSignalsOf Two) → TrackHead
-with_signals h x = record { ratio = h.ratio; budget = h.budget; system = h.system; base = h.base; point = h.point; signals = x }
+by_line front form behind next e each = then_holds (λ (s : Expected). Held s front) form behind next each e
 
 arcs_next : (f : Frame) (left : ℕ) (arcs : List Arc) (front : List (List ℕ)) → HeldArcs f left arcs front → Held (before_arcs f left arcs) front
 arcs_next f zero arcs front held = held
@@ -259,9 +240,6 @@ arc_step f left arcs front line a some held is =
           ∙ append_assoc (head_of h) (count_line (codes "arcs") (length arcs + left) ∷ arc_lines ss arcs) (arc_line ss a ∷ [])
           ∙ (λ i. head_of h ++ count_line (codes "arcs") (count i) ∷ own i);
     }
-
-abbrev IsOtherLine : List ℕ → Type 0
-IsOtherLine line = begins (codes "pairs") line ≡ false
 
 next_held : (s next : Expected) (front : List (List ℕ)) (line : List ℕ) → Held s front → IsOtherLine line → admit s line ≡ Ok next → Held next (front ++ line ∷ [])
 next_held Form next front line are other e =

@@ -10,12 +10,13 @@ use Rattle.rinex_head.specs.Places.{and_then}
 use Rattle.cert_words.specs.declared.numbers.Number.{Number}
 use Rattle.cert_words.specs.Numbers.{numbers_behind, number_at, natural_within, all_within}
 use Rattle.cert_words.proofs.NumberLaws.{AreSmall, placed, line_written}
+use Rattle.cert_words.proofs.RangeLaws.{natural_holds}
 use Rattle.cert_lines.specs.declared.ranges.TheConstants.{MOVES}
 use Rattle.cert_lines.specs.declared.version.Version.TheVariants.{Two}
 use Rattle.cert_lines.specs.Versions.{last_column}
 use Rattle.cert_lines.specs.Lines.{weak_line, named_line}
 use Rattle.cert_lines.specs.declared.tails.WeakPivot.{WeakPivot}
-use Rattle.cert_lines.proofs.LineSpells.{HaveValues, placed_values, natural_at, split_values, values_at, moves_in, count_spells}
+use Rattle.cert_lines.proofs.LineSpells.{HaveValues, placed_values, split_values, values_at, moves_in, count_spells}
 use Rattle.cert_lines.proofs.TailSpells.{weak_spells}
 use Rattle.cert_data.specs.Tails.{IsMove, IsWeak}
 use Rattle.cert_data.specs.Places.{name_of_place}
@@ -35,7 +36,7 @@ move_spells p m three is =
     let written : numbers_behind (codes "move") 4 (move_line number m) ≡ Ok ns =
     subst (λ (k : ℕ). numbers_behind (codes "move") k (move_line number m) ≡ Ok ns) four (line_written (codes "move") zs small) in
     let have : HaveValues ns zs = placed_values (1 + 4) zs small in
-    let first : natural_within number number (number_at ns 0) ≡ Ok number = natural_at number number number (number_at ns 0) have.0 (omega arith) (omega arith) in
+    let first : natural_within number number (number_at ns 0) ≡ Ok number = natural_holds number number number (number_at ns 0) have.0 (omega arith) (omega arith) in
     let all = split_values (drop 1 ns) m [] (subst (λ (l : List ℤ). HaveValues (drop 1 ns) l) (sym (append-nil m)) have.1) in
     let others : all_within MOVES (take 3 (drop 1 ns)) ≡ Ok m = values_at MOVES (take 3 (drop 1 ns)) m (subst (λ (k : ℕ). HaveValues (take k (drop 1 ns)) m) three all.0) (moves_in m is) in
     ap (λ (a : Result (List Number) Flaw). and_then a (λ l. and_then (natural_within number number (number_at l 0)) (λ k. all_within MOVES (take 3 (drop 1 l))))) written

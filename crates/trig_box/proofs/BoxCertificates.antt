@@ -2,11 +2,11 @@
 -- The terms are made: tools/inequality_certificate.py writes a lemma from its claim and the products of its hypotheses,
 -- h0, h1, .. in the order in which they stand. Who changes a claim writes its term anew there; the check proves what is written.
 use Rattle.std.proofs.Common.{[], ◌∷◌, ℤ, pos, ◌+ℤ◌, ◌-ℤ◌, ◌*ℤ◌, ◌≤ℤ◌, ◌<ℤ◌, arith, refl}
+use Rattle.std.proofs.Common.{lit<}
 use Rattle.std.proofs.lemmas.Int.{ints}
 use Rattle.whole_math.proofs.Ring.{va, ko, ◌⊕◌, ◌⊖◌, ◌⊗◌}
 use Rattle.whole_math.proofs.Certificates.{cert, cancel, mul_positive, weak, ◌≼◌, hy, nm, ◌⊞◌, ◌⊠◌}
-use Rattle.std.proofs.Common.{lit<}
-use Rattle.trig_box.proofs.Base.{lt_pos}
+use Rattle.whole_math.proofs.Order.{lt_pos}
 
 pub star_high : (n m d x c e : ℤ) → ((pos 4611686018427387904 *ℤ x) -ℤ (c *ℤ d)) ≤ℤ (e *ℤ d) → (n *ℤ d) ≤ℤ (x *ℤ m) → (pos 0) ≤ℤ m → (pos 0) <ℤ d → (pos 4611686018427387904 *ℤ n) ≤ℤ ((c +ℤ e) *ℤ m)
 star_high n m d x c e h0 h1 h2 h3 =

@@ -2,12 +2,12 @@
 -- The terms are made: tools/inequality_certificate.py writes a lemma from its claim and the products of its hypotheses,
 -- h0, h1, .. in the order in which they stand. Who changes a claim writes its term anew there; the check proves what is written.
 use Rattle.std.proofs.Common.{[], ◌∷◌, ℤ, pos, ◌+ℤ◌, ◌-ℤ◌, ◌*ℤ◌, ◌≤ℤ◌, ◌<ℤ◌, arith, refl}
+use Rattle.std.proofs.Common.{lit<}
 use Rattle.std.proofs.lemmas.Int.{ints}
 use Rattle.whole_math.proofs.Ring.{va, ko, ◌⊕◌, ◌⊖◌, ◌⊗◌}
 use Rattle.whole_math.proofs.Certificates.{cert, cancel, mul_positive, weak, ◌≼◌, hy, nm, sq, ◌⊞◌, ◌⊠◌}
 use Rattle.whole_math.proofs.Inequalities.{le_by, nat, both_nn, prod_nn, less_nn, pos_nn}
-use Rattle.std.proofs.Common.{lit<}
-use Rattle.trig_box.proofs.Base.{lt_pos}
+use Rattle.whole_math.proofs.Order.{lt_pos}
 
 -- a sum's coefficient less z times the rest, where the rest is near a nest: p d g over the nest n / w of 2^62, and k over 2^62 / p
 pub sum_round_high : (z g q k p d a b n w : ℤ) → (q *ℤ pos 4611686018427387904) ≤ℤ (z *ℤ g) → (z *ℤ b) ≤ℤ (pos 4611686018427387904 *ℤ a) → (((p *ℤ d) *ℤ g) *ℤ w -ℤ pos 4611686018427387904 *ℤ n) ≤ℤ ((pos 2 *ℤ (p *ℤ d)) *ℤ w)

@@ -2,10 +2,10 @@
 -- The terms are made: tools/inequality_certificate.py writes a lemma from its claim and the products of its hypotheses,
 -- h0, h1, .. in the order in which they stand. Who changes a claim writes its term anew there; the check proves what is written.
 use Rattle.std.proofs.Common.{[], ◌∷◌, ℤ, pos, ◌+ℤ◌, ◌-ℤ◌, ◌*ℤ◌, ◌≤ℤ◌, ◌<ℤ◌, refl}
+use Rattle.std.proofs.Common.{lit<}
 use Rattle.whole_math.proofs.Ring.{va, ko, ◌⊕◌, ◌⊖◌, ◌⊗◌}
 use Rattle.whole_math.proofs.Certificates.{cert, cancel, mul_positive, weak, ◌≼◌, hy, nm, sq, ◌⊞◌, ◌⊠◌}
-use Rattle.std.proofs.Common.{lit<}
-use Rattle.trig_box.proofs.Base.{lt_pos}
+use Rattle.whole_math.proofs.Order.{lt_pos}
 
 pub first_high : (n x e f o : ℤ) → ((((((n *ℤ n) *ℤ (f *ℤ f)) +ℤ ((x *ℤ x) *ℤ (e *ℤ e))) *ℤ pos 1) -ℤ (pos 1 *ℤ ((e *ℤ e) *ℤ (f *ℤ f)))) *ℤ o)
     ≤ℤ (pos 1 *ℤ (((e *ℤ e) *ℤ (f *ℤ f)) *ℤ pos 1)) → (pos 0) ≤ℤ o → (pos 0) <ℤ (f *ℤ f)

@@ -1,7 +1,8 @@
 -- 10^38 fits, and powers of ten rise from 1.
 use Rattle.std.proofs.Common.{◌^◌, ℕ, pos, arith, ap, ◌∙◌}
 use Rattle.std.proofs.lemmas.Int.{ints}
-use Rattle.decimal_box.proofs.Least.{power_high, power_low, own_word}
+use Rattle.eph_store.specs.Decimals.{ten_to_pos}
+use Rattle.decimal_box.proofs.Least.{power_high, own_word}
 use Rattle.decimal_box.proofs.cut_power.Goals as goal
 
 pub pow-requires : goal.pow-requires
@@ -18,7 +19,7 @@ pub returns-clause-positive : goal.returns-clause-positive
 returns-clause-positive c =
     let h = power_high c.args.exponent c.args.most c.min.result c.requires c.min.ensures in
     let own = own_word c.pow.result (10 ^ c.min.result) c.pow.ensures h.1 in
-    let low = power_low c.min.result in
+    let low = ten_to_pos c.min.result in
     omega (arith, ints, own, low)
 
 pub returns-clause-bound : goal.returns-clause-bound

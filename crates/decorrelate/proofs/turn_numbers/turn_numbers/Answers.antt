@@ -3,8 +3,8 @@ use Rattle.std.specs.Int.{w128}
 use Rattle.whole_math.proofs.Words.{as_w128}
 use Rattle.decorrelate.specs.States.{IsWeight}
 use Rattle.decorrelate.specs.Turning.{left_of, is_gain, new_first, new_between}
-use Rattle.decorrelate.proofs.Words.{narrow_w64}
-use Rattle.decorrelate.proofs.WeightLaws.{weight_word, rest_word}
+use Rattle.decorrelate.proofs.Words.{narrow_w64, rest_w64}
+use Rattle.decorrelate.proofs.WeightLaws.{weight_word}
 use Rattle.decorrelate.proofs.TurnNumbers.{word, first_between}
 use Rattle.decorrelate.proofs.turn_numbers.turn_numbers.Goals as goal
 
@@ -25,7 +25,7 @@ returns c =
     let between = c.in_ok-between.between in
     let a_word = weight_word a c.requires.a in
     let b_word = weight_word b c.requires.b in
-    let left_word = rest_word rest c.left_of-rest.ensures.size in
+    let left_word = rest_w64 rest c.left_of-rest.ensures.size in
     let r_word : word rest ≡ r = left_word ∙ c.left_of-rest.ensures.value ∙ ap left_of (narrow_w64 c.args.factor c.requires.factor) in
     let gains : is_gain a b r ≡ true = rw (a_word, b_word, r_word) at (sym c.gains.ensures ∙ c.if-not-gains.false) in
     let weight : IsWeight first = first_between a b first c.requires.a c.requires.b c.first_weight-first.ensures.from c.first_weight-first.ensures.to in

@@ -1,23 +1,21 @@
-use Rattle.std.proofs.Common.{◌≡◌, ℕ, ◌+◌, ◌*◌, ◌^◌, ◌<◌, ◌≤◌, ℤ, ◌+ℤ◌, ◌*ℤ◌, unsigned_abs, arith, to_z, of_z, ap, ap₂, sym, ◌∙◌, subst}
+use Rattle.std.proofs.Common.{◌≡◌, ℕ, ◌+◌, ◌*◌, ◌^◌, ◌<◌, ◌≤◌, ℤ, ◌+ℤ◌, ◌*ℤ◌, unsigned_abs, arith, to_z, of_z, ap, ap₂, sym, ◌∙◌, subst, zero-add}
 use Rattle.std.specs.Int.{w64, w128}
+use Rattle.decorrelate.proofs.Words.{rest_w64}
 use Rattle.form_tables.specs.declared.sizes.TheConstants.{MOST_FORM_COLUMNS}
 use Rattle.form_tables.specs.Tables.{entry}
 use Rattle.int_search.specs.Sums.{total}
 use Rattle.int_search.specs.Transformed.{with_constant}
 use Rattle.int_search.proofs.TotalLaws.{total_last}
 use Rattle.whole_math.proofs.Words.{as_w128}
-use Rattle.int_search.proofs.Words.{map_word, wide_sum_word, wide_sum_size}
+use Rattle.int_search.proofs.Words.{wide_sum_word, wide_sum_size}
 use Rattle.int_search.proofs.coordinates.whole.Goals as goal
-
-none : (i : ℕ) → 0 + i ≡ i
-none i = omega arith
 
 pub loop-a-preserved : goal.loop-a-preserved
 loop-a-preserved c =
     let a : ℕ = c.loop-a.a in
     let s : ℤ = to_z w128 c.loop-a.sum-bits in
     let f : ℕ → ℤ = λ a. entry c.args.halves.now a c.args.j *ℤ with_constant c.args.n (entry c.args.map.now) a c.args.i in
-    let em : to_z w64 (of_z w64 c.map_entry.result) ≡ with_constant c.args.n (entry c.args.map.now) a c.args.i = map_word c.map_entry.result c.map_entry.ensures.size ∙ c.map_entry.ensures.value in
+    let em : to_z w64 (of_z w64 c.map_entry.result) ≡ with_constant c.args.n (entry c.args.map.now) a c.args.i = rest_w64 c.map_entry.result c.map_entry.ensures.size ∙ c.map_entry.ensures.value in
     let hs : unsigned_abs (entry c.args.halves.now a c.args.j) ≤ 2 ^ 88 = c.requires.halves a c.loop-a-test.true in
     let eh : to_z w128 (of_z w128 c.at.result) ≡ entry c.args.halves.now a c.args.j = ap (λ z. to_z w128 (of_z w128 z)) c.at.ensures.value
     ∙ as_w128 (entry c.args.halves.now a c.args.j) (omega (arith, hs)) in
@@ -27,6 +25,6 @@ loop-a-preserved c =
     let ws : to_z w128 (of_z w128 (s +ℤ to_z w128 (of_z w128 c.half_product-sum.result))) ≡ s +ℤ c.half_product-sum.result = ap (λ z. to_z w128 (of_z w128 (s +ℤ z))) w
     ∙ wide_sum_word s c.half_product-sum.result a n c.loop-a.invariant.size c.half_product-sum.ensures.size in
     record {
-      value = ws ∙ ap₂ (λ x y. x +ℤ y) c.loop-a.invariant.value v ∙ sym (total_last f 0 a ∙ ap (λ (i : ℕ). total f 0 a +ℤ f i) (none a));
+      value = ws ∙ ap₂ (λ x y. x +ℤ y) c.loop-a.invariant.value v ∙ sym (total_last f 0 a ∙ ap (λ (i : ℕ). total f 0 a +ℤ f i) (zero-add a));
       size = subst (λ (z : ℤ). unsigned_abs z ≤ (a + 1) * 2 ^ 118) (sym ws) (wide_sum_size s c.half_product-sum.result a c.loop-a.invariant.size c.half_product-sum.ensures.size);
     }

@@ -1,10 +1,10 @@
 use Rattle.std.proofs.Common.{◌≡◌, inl, inr, ⊎_elim, ℕ, ◌+◌, ◌^◌, ◌<◌, ◌≤◌, ℤ, unsigned_abs, arith, refl, sym, ap, ◌∙◌, subst, to_z, of_z, below_more}
 use Rattle.std.proofs.lemmas.Bool.{cases_eq}
 use Rattle.std.specs.Int.{w64, w128}
+use Rattle.decorrelate.proofs.Words.{narrow_w64}
 use Rattle.form_tables.specs.Tables.{entry}
 use Rattle.int_search.specs.Transformed.{whole_entry}
 use Rattle.whole_math.proofs.Words.{as_w128}
-use Rattle.int_search.proofs.Words.{form_word}
 use Rattle.int_search.proofs.coordinates.write_row.Goals as goal
 
 pub loop-j-preserved : goal.loop-j-preserved
@@ -14,7 +14,7 @@ loop-j-preserved c =
     let w : ℕ → ℤ = λ k. whole_entry c.args.n (entry c.args.map.now) (entry c.args.halves.now) c.args.i k in
     let e : to_z w128 (of_z w128 c.whole-value.result) ≡ c.whole-value.result = as_w128 c.whole-value.result (omega (arith, c.whole-value.ensures.size)) in
     let s : unsigned_abs c.whole-value.result < 2 ^ 52 = rw e at (c.if-not-is_narrow.ensures.narrow refl) in
-    let here : entry c.set.new.self i j ≡ c.whole-value.result = c.set.ensures.there ∙ ap (λ z. to_z w64 (of_z w64 z)) e ∙ form_word c.whole-value.result s in
+    let here : entry c.set.new.self i j ≡ c.whole-value.result = c.set.ensures.there ∙ ap (λ z. to_z w64 (of_z w64 z)) e ∙ narrow_w64 c.whole-value.result s in
     record {
       row = below_more (λ (k : ℕ). entry c.set.new.self i k ≡ w k) j (λ k h. c.set.ensures.others i k (inr (omega arith)) ∙ c.loop-j.invariant.row k h) (here ∙ c.whole-value.ensures.value);
       others = λ k d n. c.set.ensures.others k d (inl n) ∙ c.loop-j.invariant.others k d n;

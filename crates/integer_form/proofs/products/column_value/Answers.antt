@@ -19,22 +19,22 @@ sum_is a b h g =
 
 pub overflow_add-result : goal.overflow_add-result
 overflow_add-result c =
-    let s : unsigned_abs (c.own_part.result +ℤ pos 2 *ℤ c.later_part.result) ≤ 2 ^ 120 = whole c.own_part.result c.later_part.result c.own_part.ensures.size c.later_part.ensures.size in
-    rw (sum_is c.own_part.result c.later_part.result c.own_part.ensures.size c.later_part.ensures.size) (omega (arith, ints))
+    let s : unsigned_abs (c.weighed.result +ℤ pos 2 *ℤ c.later_part.result) ≤ 2 ^ 120 = whole c.weighed.result c.later_part.result c.weighed.ensures.size c.later_part.ensures.size in
+    rw (sum_is c.weighed.result c.later_part.result c.weighed.ensures.size c.later_part.ensures.size) (omega (arith, ints))
 
 pub returns-clause-value : goal.returns-clause-value
 returns-clause-value c =
-    let s : unsigned_abs (c.own_part.result +ℤ pos 2 *ℤ c.later_part.result) ≤ 2 ^ 120 = whole c.own_part.result c.later_part.result c.own_part.ensures.size c.later_part.ensures.size in
+    let s : unsigned_abs (c.weighed.result +ℤ pos 2 *ℤ c.later_part.result) ≤ 2 ^ 120 = whole c.weighed.result c.later_part.result c.weighed.ensures.size c.later_part.ensures.size in
     let o : to_z w64 (of_z w64 c.args.own) ≡ c.args.own = to_z-of_z w64 c.args.own c.ranges.own in
     let x : to_z w64 (of_z w64 c.args.x) ≡ c.args.x = to_z-of_z w64 c.args.x c.ranges.x in
     let l : to_z w128 (of_z w128 c.args.later) ≡ c.args.later = to_z-of_z w128 c.args.later c.ranges.later in
     let q : to_z w128 (of_z w128 c.square.result) ≡ c.args.x *ℤ c.args.x = as_w128 c.square.result (omega (arith, c.square.ensures.size)) ∙ c.square.ensures.value ∙ ap (λ z. z *ℤ z) x in
-    rw (sum_is c.own_part.result c.later_part.result c.own_part.ensures.size c.later_part.ensures.size)
-    (as_w128 (c.own_part.result +ℤ pos 2 *ℤ c.later_part.result) (omega arith)
-    ∙ ap₂ (λ a b. a +ℤ pos 2 *ℤ b) (c.own_part.ensures.value ∙ ap₂ (λ a b. a *ℤ b) o q) (c.later_part.ensures.value ∙ ap₂ (λ a b. a *ℤ b) x l))
+    rw (sum_is c.weighed.result c.later_part.result c.weighed.ensures.size c.later_part.ensures.size)
+    (as_w128 (c.weighed.result +ℤ pos 2 *ℤ c.later_part.result) (omega arith)
+    ∙ ap₂ (λ a b. a +ℤ pos 2 *ℤ b) (c.weighed.ensures.value ∙ ap₂ (λ a b. a *ℤ b) o q) (c.later_part.ensures.value ∙ ap₂ (λ a b. a *ℤ b) x l))
 
 pub returns-clause-size : goal.returns-clause-size
 returns-clause-size c =
-    let s : unsigned_abs (c.own_part.result +ℤ pos 2 *ℤ c.later_part.result) ≤ 2 ^ 120 = whole c.own_part.result c.later_part.result c.own_part.ensures.size c.later_part.ensures.size in
-    rw (sum_is c.own_part.result c.later_part.result c.own_part.ensures.size c.later_part.ensures.size)
-    (rw (as_w128 (c.own_part.result +ℤ pos 2 *ℤ c.later_part.result) (omega arith)) s)
+    let s : unsigned_abs (c.weighed.result +ℤ pos 2 *ℤ c.later_part.result) ≤ 2 ^ 120 = whole c.weighed.result c.later_part.result c.weighed.ensures.size c.later_part.ensures.size in
+    rw (sum_is c.weighed.result c.later_part.result c.weighed.ensures.size c.later_part.ensures.size)
+    (rw (as_w128 (c.weighed.result +ℤ pos 2 *ℤ c.later_part.result) (omega arith)) s)

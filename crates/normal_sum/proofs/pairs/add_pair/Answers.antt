@@ -1,4 +1,5 @@
-use Rattle.std.proofs.Common.{◌≡◌, ◌⊎◌, ⊎_elim, ℕ, ◌+◌, ◌*◌, ◌/◌, ◌^◌, ◌<◌, ◌≤◌, [], ◌∷◌, List, ℤ, pos, ◌+ℤ◌, ◌*ℤ◌, to_z, of_z, length, map, drop, get_or, slice_index_or, Option, None, IfSome, arith, sym, ap, ◌∙◌, subst, rules}
+use Rattle.std.proofs.Common.{◌≡◌, ⊎_elim, ℕ, ◌+◌, ◌*◌, ◌/◌, ◌^◌, ◌<◌, ◌≤◌, [], ◌∷◌, List, ℤ, pos, ◌+ℤ◌, ◌*ℤ◌, to_z, of_z, length, map, drop, get_or, slice_index_or, Option, None, IfSome, arith, sym, ap, ◌∙◌, subst, rules}
+use Rattle.std.proofs.lemmas.Bool.{cases_lt}
 use Rattle.std.proofs.lemmas.List.{drop_more, drop_all}
 use Rattle.std.specs.Int.{w64}
 use Rattle.whole_math.specs.Vectors.{sum}
@@ -61,9 +62,6 @@ loop-signal-preserved c =
 no_more : (x a : ℤ) → x +ℤ pos 0 ≡ a → x ≡ a
 no_more x a whole = omega (arith, lins)
 
-side : (i n : ℕ) → (i < n) ⊎ (n ≤ i)
-side i n = grind arith
-
 pub returns-clause-added : goal.returns-clause-added
 returns-clause-added c =
     let arcs : List Arc = c.args.arcs.now in
@@ -81,4 +79,4 @@ returns-clause-added c =
     (λ (b : BASELINE_COLUMNS ≤ j). c.add_directions.ensures.behind i j b
     ∙ no_more _ _ (ap (λ (l : List ℕ). entry c.loop-signal.table i j +ℤ matrix_entry (map (signal_group arcs signals c.args.pair.now) l) i j) (sym past)
     ∙ c.loop-signal.invariant.sums i j h b g))
-    (side j BASELINE_COLUMNS)
+    (cases_lt j BASELINE_COLUMNS)

@@ -1,7 +1,6 @@
 use Rattle.std.proofs.Common.{◌≡◌, ℕ, ◌+◌, ◌*◌, ◌^◌, ◌<◌, ◌≤◌, ◌+ℤ◌, ◌*ℤ◌, ◌∷◌, List, pos, length, map, drop, unsigned_abs, slice_index_or, None, ℤ, arith, sym, ap, ◌∙◌, refl, rules}
 use Rattle.std.proofs.lemmas.List.{drop_more}
 use Rattle.std.proofs.lemmas.Int.{ints}
-use Rattle.whole_math.proofs.Order.{lins}
 use Rattle.quadratic_form.specs.Rows.{SignalRow}
 use Rattle.quadratic_form.specs.MatrixEntries.{coefficient, coefficient_sum, product_sum}
 use Rattle.form_tables.specs.declared.sizes.TheConstants.{MOST_COLUMNS}
@@ -14,10 +13,8 @@ use Rattle.obs_rows.specs.SignalGroups.{signal_row}
 use Rattle.obs_rows.specs.declared.limits.TheConstants.{MOST_PAIRS}
 use Rattle.normal_sum.specs.declared.places.TheConstants.{MOST_ROWS}
 use Rattle.normal_sum.proofs.RowSums.{next_product, next_sum}
+use Rattle.normal_sum.proofs.NormalLaws.{zero_first}
 use Rattle.normal_sum.proofs.signals.add_rows.Goals as goal
-
-zero_first : (a b : ℤ) → a ≡ pos 0 → a +ℤ b ≡ b
-zero_first a b e = omega (arith, lins)
 
 larger : (a b d i : ℕ) → a ≤ b + 2 ^ 100 → b ≤ d + (i * 2 ^ 100) → a ≤ d + ((i + 1) * 2 ^ 100)
 larger a b d i h g = omega arith

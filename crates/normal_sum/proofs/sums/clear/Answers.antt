@@ -1,9 +1,7 @@
-use Rattle.std.proofs.Common.{◌≡◌, ◌⊎◌, inl, inr, ⊎_elim, ℕ, ◌<◌, ◌≤◌, pos, arith, ◌∙◌, below_more}
+use Rattle.std.proofs.Common.{◌≡◌, inl, inr, ⊎_elim, ℕ, ◌<◌, ◌≤◌, pos, arith, ◌∙◌, below_more}
+use Rattle.std.proofs.lemmas.Bool.{cases_lt}
 use Rattle.form_tables.specs.Tables.{entry}
 use Rattle.normal_sum.proofs.sums.clear.Goals as goal
-
-side : (i n : ℕ) → (i < n) ⊎ (n ≤ i)
-side i n = grind arith
 
 pub loop-row-preserved : goal.loop-row-preserved
 loop-row-preserved c =
@@ -13,11 +11,11 @@ loop-row-preserved c =
           (λ i h. c.clear_row.ensures.others i j (omega arith) ∙ c.loop-row.invariant.cleared i j h)
           (⊎_elim (λ (a : j < c.args.columns). c.clear_row.ensures.cleared j a)
           (λ (a : c.args.columns ≤ j). c.clear_row.ensures.later j a ∙ c.loop-row.invariant.rest r j (omega arith) ∙ c.requires.outside r j (inr a))
-          (side j c.args.columns)) i h;
+          (cases_lt j c.args.columns)) i h;
       rest = λ i j h. c.clear_row.ensures.others i j (omega arith) ∙ c.loop-row.invariant.rest i j (omega arith);
     }
 
 pub returns : goal.returns
 returns c = λ i j. ⊎_elim (λ (a : i < c.loop-row.row). c.loop-row.invariant.cleared i j a)
     (λ (a : c.loop-row.row ≤ i). c.loop-row.invariant.rest i j a ∙ c.requires.outside i j (inl (omega (arith, c.loop-row-test.false))))
-    (side i c.loop-row.row)
+    (cases_lt i c.loop-row.row)

@@ -2,7 +2,7 @@ use Rattle.std.proofs.Common.{◌≡◌, ℕ, ◌+◌, ◌*◌, ◌^◌, ◌<◌
 use Rattle.std.proofs.lemmas.List.{drop_more}
 use Rattle.std.proofs.lemmas.Int.{ints}
 use Rattle.whole_math.proofs.Order.{lins}
-use Rattle.quadratic_form.specs.Rows.{SignalGroup, columns, Radii, add_radii, radii}
+use Rattle.quadratic_form.specs.Rows.{SignalGroup, Radii, add_radii, radii}
 use Rattle.quadratic_form.specs.MatrixEntries.{matrix_entry}
 use Rattle.quadratic_form.proofs.MatrixEntries.{matrix_append}
 use Rattle.obs_rows.specs.declared.arcs.Arc.{Arc}
@@ -11,11 +11,10 @@ use Rattle.obs_rows.specs.declared.units.TheConstants.{MOST_FREE_ARCS}
 use Rattle.obs_rows.specs.Arcs.{free_count}
 use Rattle.obs_rows.specs.Signals.{AreCounted}
 use Rattle.obs_rows.specs.Pairs.{HasItsArcs}
-use Rattle.form_tables.specs.declared.sizes.TheConstants.{MOST_COLUMNS, MOST_INTEGERS}
+use Rattle.form_tables.specs.declared.sizes.TheConstants.{MOST_COLUMNS}
 use Rattle.form_tables.specs.Tables.{entry, HasShape}
 use Rattle.obs_rows.specs.Integers.{integer_count}
 use Rattle.obs_rows.specs.SignalGroups.{signal_groups}
-use Rattle.form_tables.proofs.TableLaws.{zero_entry}
 use Rattle.obs_rows.proofs.GroupShapes.{groups_of}
 use Rattle.normal_sum.specs.Matrices.{IsRadiusSum, IsMirrored, radius_list}
 use Rattle.normal_sum.specs.Pairs.{pair_groups}
@@ -23,12 +22,9 @@ use Rattle.normal_sum.specs.RadiusSums.{radii_of}
 use Rattle.normal_sum.proofs.PlaceLaws.{count_within}
 use Rattle.normal_sum.proofs.RowSums.{next_sum}
 use Rattle.normal_sum.proofs.RadiusLaws.{radii_assoc, at_most_wider}
-use Rattle.normal_sum.proofs.NormalLaws.{entries_everywhere, mirrored_entries, mirrored_sizes, symmetric_is, outside_is, below_is, radii_start, radii_end, radii_append, drop_end, radii_within, words_are, four_and}
+use Rattle.normal_sum.proofs.NormalLaws.{entries_everywhere, mirrored_entries, mirrored_sizes, below_is, radii_start, radii_end, radii_append, drop_end, radii_within, words_are, four_and, zero_first}
 use Rattle.obs_rows.specs.declared.limits.TheConstants.{MOST_PAIRS}
 use Rattle.normal_sum.proofs.sums.fill_table.Goals as goal
-
-zero_first : (a b : ℤ) → a ≡ pos 0 → a +ℤ b ≡ b
-zero_first a b e = omega (arith, lins)
 
 zero_last : (a b : ℤ) → a +ℤ pos 0 ≡ b → a ≡ b
 zero_last a b e = omega (arith, lins)

@@ -3,6 +3,7 @@ use Rattle.std.proofs.lemmas.Int.{ints, to_z-of_z}
 use Rattle.std.specs.Int.{w64}
 use Rattle.iv_core.specs.declared.Iv.{Iv}
 use Rattle.iv_core.specs.Intervals.{Holds}
+use Rattle.whole_math.proofs.Inequalities.{le_trans_ℤ}
 use Rattle.orbit_clock.specs.Terms.{part}
 use Rattle.orbit_clock.proofs.Shares.{share_holds}
 use Rattle.orbit_clock.proofs.correction.share_of.Goals as goal
@@ -13,16 +14,13 @@ below a l f h k m e = omega (arith, ints)
 above : (b u f : ℤ) → neg_ℤ (pos (2 ^ 62)) ≤ℤ b → b ≤ℤ pos (2 ^ 62) → to_z w64 (of_z w64 b) ≤ℤ (u *ℤ pos 10000) → f ≡ u → b ≤ℤ (f *ℤ pos 10000)
 above b u f h k m e = omega (arith, ints)
 
-through : (a b c : ℤ) → a ≤ℤ b → b ≤ℤ c → a ≤ℤ c
-through a b c h k = omega (arith, ints)
-
 pub returns : goal.returns
 returns g c = λ x h.
     let a : Iv 60 = c.args.clock.now.held in
     let low = c.share_below-low in
     let high = c.share_above-high in
-    let k = below a.lo low.result c.from_ends.result.lo a.low (through a.lo a.hi (pos (2 ^ 62)) a.ordered a.high) low.ensures.low
+    let k = below a.lo low.result c.from_ends.result.lo a.low (le_trans_ℤ a.ordered a.high) low.ensures.low
     (c.from_ends.ensures.lo ∙ to_z-of_z w64 low.result (record { sfits = low.type_inv })) in
-    let m = above a.hi high.result c.from_ends.result.hi (through (neg_ℤ (pos (2 ^ 62))) a.lo a.hi a.low a.ordered) a.high high.ensures.low
+    let m = above a.hi high.result c.from_ends.result.hi (le_trans_ℤ a.low a.ordered) a.high high.ensures.low
     (c.from_ends.ensures.hi ∙ to_z-of_z w64 high.result (record { sfits = high.type_inv })) in
     subst (λ (b : Iv 60). Holds b (part x)) (sym c.new.ensures) (share_holds a.lo a.hi c.from_ends.result.lo c.from_ends.result.hi x h k m)

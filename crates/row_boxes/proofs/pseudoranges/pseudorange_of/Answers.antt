@@ -2,12 +2,13 @@ use Rattle.std.proofs.Common.{◌≡◌, ◌+ℤ◌, ◌*◌, ◌^◌, ℤ, pos,
 use Rattle.std.specs.Int.{w128}
 use Rattle.std.proofs.lemmas.Int.{ints, to_z-of_z}
 use Rattle.whole_math.specs.Rounding.{IsFloor, IsCeil}
+use Rattle.whole_math.proofs.Inequalities.{le_trans_ℤ}
 use Rattle.rational.specs.Rational.{InBox}
 use Rattle.obs_rows.specs.declared.units.TheConstants.{LIGHT_SPEED}
 use Rattle.iv_core.proofs.Sizes.{end_cast}
 use Rattle.row_boxes.specs.declared.pseudoranges.TheConstants.{METRE_UNITS, HALF_LIGHT_SPEED}
 use Rattle.row_boxes.specs.Terms.{pseudorange, iota_exponent}
-use Rattle.row_boxes.proofs.Ends.{through, pseudorange_ordered, pseudorange_narrow}
+use Rattle.row_boxes.proofs.Ends.{pseudorange_ordered, pseudorange_narrow}
 use Rattle.row_boxes.proofs.Boxes.{pseudorange_holds}
 use Rattle.row_boxes.proofs.pseudoranges.pseudorange_of.Goals as goal
 
@@ -26,13 +27,13 @@ low_metres : (c : goal.After-above) → c.less_clock.result ≡ metres c.args.ra
 low_metres c =
     let r = c.args.range.now in
     let t = c.args.clock.now in
-    c.less_clock.ensures.value ∙ ap₂ metres (end_cast r.lo r.low (through r.lo r.hi (pos (2 ^ 62)) r.ordered r.high)) (end_cast t.hi (through _ t.lo t.hi t.low t.ordered) t.high)
+    c.less_clock.ensures.value ∙ ap₂ metres (end_cast r.lo r.low (le_trans_ℤ r.ordered r.high)) (end_cast t.hi (le_trans_ℤ t.low t.ordered) t.high)
 
 high_metres : (c : goal.After-above) → c.less_clock-2.result ≡ metres c.args.range.now.hi c.args.clock.now.lo
 high_metres c =
     let r = c.args.range.now in
     let t = c.args.clock.now in
-    c.less_clock-2.ensures.value ∙ ap₂ metres (end_cast r.hi (through _ r.lo r.hi r.low r.ordered) r.high) (end_cast t.lo t.low (through t.lo t.hi (pos (2 ^ 62)) t.ordered t.high))
+    c.less_clock-2.ensures.value ∙ ap₂ metres (end_cast r.hi (le_trans_ℤ r.low r.ordered) r.high) (end_cast t.lo t.low (le_trans_ℤ t.ordered t.high))
 
 is_floor : (c : goal.After-above) → IsFloor (metres c.args.range.now.lo c.args.clock.now.hi *ℤ pos METRE_UNITS) (HALF_LIGHT_SPEED * 2 ^ 39) c.below.result
 is_floor c = subst (λ (v : ℤ). IsFloor (v *ℤ pos METRE_UNITS) (HALF_LIGHT_SPEED * 2 ^ 39) c.below.result)

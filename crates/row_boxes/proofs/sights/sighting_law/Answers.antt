@@ -10,11 +10,9 @@ use Rattle.obs_rows.specs.ReceiverPoints.{IsReceiverPoint}
 use Rattle.signal_travel.specs.Boxes.{HoldsPlace}
 use Rattle.signal_travel.proofs.PlaceLists.{three_is}
 use Rattle.signal_travel.proofs.Sights.{receiver_place}
+use Rattle.signal_travel.proofs.PlaceBoxes.{low_held}
 use Rattle.row_boxes.specs.Sightings.{place_at}
 use Rattle.row_boxes.proofs.sights.sighting_law.Goals as goal
-
-lower36 : (b : Iv 36) → Holds b (of_scale 36 b.lo)
-lower36 b = end_in 36 b.lo b.hi b.lo (le_refl_ℤ b.lo) b.ordered
 
 lower60 : (b : Iv 60) → Holds b (of_scale 60 b.lo)
 lower60 b = end_in 60 b.lo b.hi b.lo (le_refl_ℤ b.lo) b.ordered
@@ -24,7 +22,7 @@ abbrev corner_of : Iv 36 → Iv 36 → Iv 36 → Place
 corner_of a b c = record { x = of_scale 36 a.lo; y = of_scale 36 b.lo; z = of_scale 36 c.lo }
 
 corner_in : (s : List (Iv 36)) (a b c : Iv 36) → s ≡ a ∷ b ∷ c ∷ [] → HoldsPlace s (corner_of a b c)
-corner_in s a b c e = subst (λ (t : List (Iv 36)). HoldsPlace t (corner_of a b c)) (sym e) (lower36 a, (lower36 b, (lower36 c, tt)))
+corner_in s a b c e = subst (λ (t : List (Iv 36)). HoldsPlace t (corner_of a b c)) (sym e) (low_held a, (low_held b, (low_held c, tt)))
 
 -- what is held by name
 named : (s : List (Iv 36)) (a b c : Iv 36) (p : Place) → s ≡ a ∷ b ∷ c ∷ [] → HoldsPlace s p → Holds a p.x × Holds b p.y × Holds c p.z

@@ -1,8 +1,9 @@
 use Rattle.std.proofs.Common.{◌≡◌, ℤ, pos, ◌*ℤ◌, ◌≤ℤ◌, ◌*◌, IsTrue, to_z, of_z, ap, sym, subst, ◌∙◌}
 use Rattle.std.proofs.lemmas.Int.{to_z-of_z}
 use Rattle.std.specs.Int.{w64, w128}
+use Rattle.whole_math.proofs.Absolute.{pos_abs}
 use Rattle.signal_travel.specs.Grid.{dot3}
-use Rattle.signal_travel.proofs.MaskLaws.{decided, same_dot, size_of, not_below}
+use Rattle.signal_travel.proofs.MaskLaws.{decided, same_dot, not_below}
 use Rattle.signal_travel.proofs.mask.is_above.Goals as goal
 
 pub returns : goal.returns
@@ -31,4 +32,4 @@ returns c =
     (subst (λ (z : ℤ). pos 0 ≤ℤ z) plain (not_below _ c.if-rise-lt0.false))
     (c.height-height.ensures.value ∙ ap (λ (z : ℤ). pos 1000 *ℤ z) plain)
     (c.mask_side.ensures.value ∙ ap (λ (z : ℤ). pos (c.args.mask * c.args.mask) *ℤ z) squared)
-    (size_of _ (subst (λ (z : ℤ). pos 0 ≤ℤ z) (sym own) c.square_of-2.ensures.low) ∙ pointed)
+    (pos_abs _ (subst (λ (z : ℤ). pos 0 ≤ℤ z) (sym own) c.square_of-2.ensures.low) ∙ pointed)

@@ -2,6 +2,7 @@ use Rattle.std.proofs.Common.{◌-◌, ◌*◌, ◌^◌, ℤ, pos, ◌+ℤ◌, �
 use Rattle.std.proofs.lemmas.Int.{ints}
 use Rattle.orbit_model.specs.SeenPlaces.{Place, square, difference, point_of, turned_back, range_of}
 use Rattle.orbit_model.proofs.NearRoots.{range_root}
+use Rattle.whole_math.proofs.Order.{diff_nn}
 use Rattle.signal_travel.specs.VectorBoxes.{IsVectorAtMostWide}
 use Rattle.signal_travel.proofs.Sights.{HasTurned, held_along, turned_in, between, all_away}
 use Rattle.signal_travel.proofs.Times.{pair_width, pair_enough, place_enough, any_width}
@@ -16,14 +17,11 @@ reference c =
 pub length_by-range-requires-clause-between : goal.length_by-range-requires-clause-between
 length_by-range-requires-clause-between c = between c.turned_box-place.result c.vector_from-vector.result c.args.point.now (reference c) c.vector_from-vector.ensures.holds
 
-width_nn : (l h : ℤ) → l ≤ℤ h → pos 0 ≤ℤ (h -ℤ l)
-width_nn l h o = omega (arith, ints)
-
 wide : (c : goal.After-range_guess) (w : ℤ) → ((c.args.travel.now.hi -ℤ c.args.travel.now.lo) +ℤ pos (904 * 264813)) ≤ℤ (pos 904 *ℤ w) → IsVectorAtMostWide w c.turned_box-place.result
 wide c w h =
     let t = c.args.travel.now in
     let d : ℤ = t.hi -ℤ t.lo in
-    c.turned_box-place.ensures.width (pair_width d) w (c.turn_in-turn.ensures.width (pair_width d) (pair_enough d)) (place_enough d w (width_nn t.lo t.hi t.ordered) h)
+    c.turned_box-place.ensures.width (pair_width d) w (c.turn_in-turn.ensures.width (pair_width d) (pair_enough d)) (place_enough d w (diff_nn t.lo t.hi t.ordered) h)
 
 pub length_by-range-requires-clause-narrow : goal.length_by-range-requires-clause-narrow
 length_by-range-requires-clause-narrow c = c.vector_from-vector.ensures.width (pos (2 ^ 48 - 1))

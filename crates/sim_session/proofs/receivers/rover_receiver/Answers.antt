@@ -1,5 +1,6 @@
-use Rattle.sim_session.proofs.Points.{earth_along, same_three, first_is, further_is, rover_point}
 use Rattle.std.proofs.Common.{pos, ◌+ℤ◌, ◌*ℤ◌}
+use Rattle.sim_session.proofs.Points.{earth_along, first_is, further_is, rover_point}
+use Rattle.sim_session.proofs.Steps.{same_three}
 use Rattle.sim_session.proofs.receivers.rover_receiver.Goals as goal
 
 pub invariant_of-result-clause-on_earth : goal.invariant_of-result-clause-on_earth

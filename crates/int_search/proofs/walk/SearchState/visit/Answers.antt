@@ -1,7 +1,7 @@
-use Rattle.std.proofs.Common.{◌≡◌, ◌<◌, ◌+◌, ◌-◌, ◌^◌, List, ◌∷◌, length, set, drop, ℤ, arith, refl, ap, ap₂, sym, ◌∙◌, unsigned_abs, to_z, of_z, w64}
+use Rattle.std.proofs.Common.{◌≡◌, ◌<◌, ◌+◌, ◌-◌, List, ◌∷◌, length, set, drop, ℤ, arith, refl, ap, ap₂, sym, ◌∙◌, to_z, of_z, w64}
 use Rattle.std.specs.Int.{w128}
 use Rattle.std.proofs.lemmas.Int.{ints, to_z-of_z}
-use Rattle.whole_math.proofs.Words.{as_w64}
+use Rattle.decorrelate.proofs.Words.{small_w64}
 use Rattle.int_search.specs.Suffixes.{SearchForm, rest}
 use Rattle.int_search.specs.Vectors.{suffix}
 use Rattle.int_search.specs.SearchedForm.{search_form}
@@ -13,14 +13,11 @@ use Rattle.int_search.proofs.PointLaws.{small_set}
 use Rattle.int_search.proofs.WalkLaws.{walk_inner, leaf_visit, drop_length}
 use Rattle.int_search.proofs.walk.SearchState.visit.Goals as goal
 
-entry_is : (x : ℤ) → unsigned_abs x < 2 ^ 30 → to_z w64 (of_z w64 x) ≡ x
-entry_is x small = as_w64 x (omega (arith, small))
-
 pub offer-requires-clause-small : goal.offer-requires-clause-small
-offer-requires-clause-small c = small_set c.args.self.now.z _ _ c.requires.walk.small (rw (entry_is c.args.reach.now.choice.entry c.requires.small) c.requires.small)
+offer-requires-clause-small c = small_set c.args.self.now.z _ _ c.requires.walk.small (rw (small_w64 c.args.reach.now.choice.entry c.requires.small) c.requires.small)
 
 pub later_part-requires-clause-small : goal.later_part-requires-clause-small
-later_part-requires-clause-small c = small_set c.args.self.now.z _ _ c.requires.walk.small (rw (entry_is c.args.reach.now.choice.entry c.requires.small) c.requires.small)
+later_part-requires-clause-small c = small_set c.args.self.now.z _ _ c.requires.walk.small (rw (small_w64 c.args.reach.now.choice.entry c.requires.small) c.requires.small)
 
 pub returns-then-i-eq0 : goal.returns-then-i-eq0
 returns-then-i-eq0 c =
@@ -30,7 +27,7 @@ returns-then-i-eq0 c =
     let mo = c.args.form.now.columns_to in
     let s = c.requires.walk.size in
     let l = c.len.ensures in
-    let x = entry_is r.choice.entry c.requires.small in
+    let x = small_w64 r.choice.entry c.requires.small in
     let i : w.size - c.len.result ≡ 0 = omega arith in
     let n : f.size - length w.stack ≡ 0 = omega arith in
     let rx : r.choice.entry ≡ to_z w64 (of_z w64 r.choice.entry) = sym x in
@@ -51,7 +48,7 @@ returns c =
     let l = c.len.ensures in
     let some = c.requires.reach.some in
     let dep = h.depth in
-    let x = entry_is r.choice.entry c.requires.small in
+    let x = small_w64 r.choice.entry c.requires.small in
     let i : w.size - c.len.result ≡ f.size - length w.stack = omega arith in
     let above : 0 < f.size - length w.stack = omega arith in
     let z : List ℤ = set w.z (w.size - c.len.result) (to_z w64 (of_z w64 r.choice.entry)) in

@@ -1,0 +1,21 @@
+//! Products of numbers of these sizes.
+ghost use Rattle.std.specs.Prelude.{◌≡◌, ◌^◌, ◌≤◌, ◌*ℤ◌, unsigned_abs};
+
+/// x²
+pub fn square(x: i64) -> i128
+    requires { unsigned_abs x ≤ 2 ^ 30 }
+    ensures value { result ≡ x *ℤ x }
+    ensures size { unsigned_abs result ≤ 2 ^ 60 }
+{
+    x as i128 * x as i128
+}
+
+/// a · s
+pub fn weighed(a: i64, s: i128) -> i128
+    requires a_size { unsigned_abs a ≤ 2 ^ 52 }
+    requires s_size { unsigned_abs s ≤ 2 ^ 60 }
+    ensures value { result ≡ a *ℤ s }
+    ensures size { unsigned_abs result ≤ 2 ^ 112 }
+{
+    a as i128 * s
+}
